@@ -1,0 +1,80 @@
+//! Texts, places and bases, which all trees share.
+ghost use Rattle.std.specs.Prelude.{◌≡◌, IfOk};
+
+use crate::memory::NoMemory;
+use std::alloc::Global;
+use std::marker::Model;
+
+/// A place in a text: both numbers count from 1, and columns count bytes.
+#[derive(Clone, Copy, Debug, PartialEq, Eq)]
+pub struct Place {
+    pub line: u32,
+    pub column: u32,
+}
+
+/// The bytes of a name or of another word of a text. Contracts see the list of them.
+#[derive(Drop)]
+pub struct Text {
+    pub bytes: Vec<u8>,
+}
+
+impl Model for Text {
+    ghost use Rattle.std.specs.Prelude.{ℕ, List};
+
+    ghost Value = { List ℕ };
+
+    ghost view = { λ t. t.bytes.items };
+}
+
+impl Text {
+    /// The bytes of `s`.
+    pub fn from_str(alloc: Global, s: &str) -> Result<Text, NoMemory>
+        ensures { IfOk result (λ t. t ≡ s.now) }
+    {
+        Ok(Text {
+            bytes: Vec::from_slice(alloc, s.as_bytes())?,
+        })
+    }
+
+    /// An equal text.
+    pub fn try_copy(&self, alloc: Global) -> Result<Text, NoMemory>
+        ensures { IfOk result (λ t. t ≡ self.now) }
+    {
+        Ok(Text {
+            bytes: Vec::from_slice(alloc, &self.bytes)?,
+        })
+    }
+}
+
+/// The bytes of a line of input. Contracts see the list of them.
+#[derive(Drop)]
+pub struct Bytes {
+    pub bytes: Vec<u8>,
+}
+
+impl Model for Bytes {
+    ghost use Rattle.std.specs.Prelude.{ℕ, List};
+
+    ghost Value = { List ℕ };
+
+    ghost view = { λ b. b.bytes.items };
+}
+
+/// The base of a value.
+#[derive(Clone, Copy, Debug, PartialEq, Eq)]
+pub enum Base {
+    Int,
+    Bool,
+    Set,
+}
+
+/// How two values compare.
+#[derive(Clone, Copy, Debug, PartialEq, Eq)]
+pub enum Order {
+    Eq,
+    Ne,
+    Lt,
+    Le,
+    Gt,
+    Ge,
+}

@@ -1,0 +1,10 @@
+//! The trees of sources, relations and targets, and the definitions of what they mean.
+#![tactic(auto)]
+
+pub mod base;
+pub mod code;
+pub mod expr;
+pub mod memory;
+pub mod raw;
+pub mod rel;
+pub mod target;
