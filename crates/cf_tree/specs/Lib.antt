@@ -1,5 +1,12 @@
+pub mod CodeTree
+pub mod CodeView
+pub mod ExprTree
+pub mod ExprView
 pub mod Numbers
+pub mod RawTree
+pub mod RawView
 pub mod Relation
+pub mod RelSize
 pub mod RelTree
 pub mod RelView
 pub mod Sets
