@@ -1,3 +1,5 @@
+pub mod SolvingLemmas
 mod SourceExamples
 mod TargetExamples
+pub mod TupleLemmas
 mod TypingExamples

@@ -13,6 +13,7 @@ pub mod RelView
 pub mod Relation
 pub mod SameCode
 pub mod Sets
+pub mod Solving
 pub mod Spelled
 pub mod Typing
 pub mod Values
