@@ -1,5 +1,6 @@
 pub mod CodeTree
 pub mod CodeView
+pub mod DefView
 pub mod ExprTree
 pub mod ExprView
 pub mod Numbers

@@ -3,6 +3,7 @@
 
 pub mod base;
 pub mod code;
+pub mod copy;
 pub mod expr;
 pub mod memory;
 pub mod raw;
