@@ -5,6 +5,7 @@ pub mod base;
 pub mod code;
 pub mod copy;
 pub mod expr;
+pub mod measure;
 pub mod memory;
 pub mod raw;
 pub mod rel;

@@ -1,8 +1,8 @@
 //! Copies of source expressions as they are read.
 ghost use Rattle.std.specs.Prelude.{◌≡◌, IfOk, map};
 ghost use Rattle.cf_tree.specs.RawView.{raw_tree, raw_node_tree, raw_arm_tree};
-ghost use Rattle.cf_tree.specs.declared.base.Place.{Place};
 
+use crate::base::Place;
 use crate::copy::words::{copy_params, copy_parts, copy_texts};
 use crate::memory::NoMemory;
 use crate::raw::{Raw, RawArm, RawNode};
@@ -14,7 +14,7 @@ impl Raw {
     pub fn try_copy(&self, alloc: Global) -> Result<Raw, NoMemory>
         ensures { IfOk result (λ new. raw_tree new ≡ raw_tree self.now) }
     {
-        Ok(Raw { place: self.place, node: self.node.try_copy(alloc)? })
+        self.node.copy_at(alloc, self.place)
     }
 
     #[cycle(copy_raw)]
@@ -27,29 +27,29 @@ impl Raw {
 
 impl RawNode {
     #[cycle(copy_raw)]
-    fn try_copy(&self, alloc: Global) -> Result<RawNode, NoMemory>
-        ensures { IfOk result (λ new. (p : Place) → raw_node_tree new p ≡ raw_node_tree self.now p) }
+    fn copy_at(&self, alloc: Global, place: Place) -> Result<Raw, NoMemory>
+        ensures { IfOk result (λ new. raw_tree new ≡ raw_node_tree self.now place) }
     {
         match self {
-            RawNode::Lit(x) => Ok(RawNode::Lit(*x)),
-            RawNode::Truth(x) => Ok(RawNode::Truth(*x)),
-            RawNode::Name(name) => Ok(RawNode::Name(name.try_copy(alloc)?)),
-            RawNode::SetOf(parts) => Ok(RawNode::SetOf(copy_raws(alloc, parts)?)),
-            RawNode::Group(a) => Ok(RawNode::Group(a.boxed(alloc)?)),
-            RawNode::Tuple(parts) => Ok(RawNode::Tuple(copy_raws(alloc, parts)?)),
-            RawNode::Neg(a) => Ok(RawNode::Neg(a.boxed(alloc)?)),
-            RawNode::Not(a) => Ok(RawNode::Not(a.boxed(alloc)?)),
-            RawNode::Abs(a) => Ok(RawNode::Abs(a.boxed(alloc)?)),
-            RawNode::Binary { op, left, right } => Ok(RawNode::Binary { op: *op, left: left.boxed(alloc)?, right: right.boxed(alloc)? }),
-            RawNode::Divides { k, of } => Ok(RawNode::Divides { k: *k, of: of.boxed(alloc)? }),
-            RawNode::Div { of, k } => Ok(RawNode::Div { of: of.boxed(alloc)?, k: *k }),
-            RawNode::Mod { of, k } => Ok(RawNode::Mod { of: of.boxed(alloc)?, k: *k }),
-            RawNode::Card(a) => Ok(RawNode::Card(a.boxed(alloc)?)),
-            RawNode::Call { name, args } => Ok(RawNode::Call { name: name.try_copy(alloc)?, args: copy_raws(alloc, args)? }),
-            RawNode::If { test, yes, no } => Ok(RawNode::If { test: test.boxed(alloc)?, yes: yes.boxed(alloc)?, no: no.boxed(alloc)? }),
-            RawNode::Let { names, places, value, body } => Ok(RawNode::Let { names: copy_texts(alloc, names)?, places: Vec::from_slice(alloc, places)?, value: value.boxed(alloc)?, body: body.boxed(alloc)? }),
-            RawNode::Choose { outputs, rel } => Ok(RawNode::Choose { outputs: copy_params(alloc, outputs)?, rel: rel.boxed(alloc)? }),
-            RawNode::Match { of, arms } => Ok(RawNode::Match { of: of.boxed(alloc)?, arms: copy_arms(alloc, arms)? }),
+            RawNode::Lit(x) => Ok(raw_at(place, RawNode::Lit(*x))),
+            RawNode::Truth(x) => Ok(raw_at(place, RawNode::Truth(*x))),
+            RawNode::Name(name) => Ok(raw_at(place, RawNode::Name(name.try_copy(alloc)?))),
+            RawNode::SetOf(parts) => Ok(raw_at(place, RawNode::SetOf(copy_raws(alloc, parts)?))),
+            RawNode::Group(a) => Ok(raw_at(place, RawNode::Group(a.boxed(alloc)?))),
+            RawNode::Tuple(parts) => Ok(raw_at(place, RawNode::Tuple(copy_raws(alloc, parts)?))),
+            RawNode::Neg(a) => Ok(raw_at(place, RawNode::Neg(a.boxed(alloc)?))),
+            RawNode::Not(a) => Ok(raw_at(place, RawNode::Not(a.boxed(alloc)?))),
+            RawNode::Abs(a) => Ok(raw_at(place, RawNode::Abs(a.boxed(alloc)?))),
+            RawNode::Binary { op, left, right } => Ok(raw_at(place, RawNode::Binary { op: *op, left: left.boxed(alloc)?, right: right.boxed(alloc)? })),
+            RawNode::Divides { k, of } => Ok(raw_at(place, RawNode::Divides { k: *k, of: of.boxed(alloc)? })),
+            RawNode::Div { of, k } => Ok(raw_at(place, RawNode::Div { of: of.boxed(alloc)?, k: *k })),
+            RawNode::Mod { of, k } => Ok(raw_at(place, RawNode::Mod { of: of.boxed(alloc)?, k: *k })),
+            RawNode::Card(a) => Ok(raw_at(place, RawNode::Card(a.boxed(alloc)?))),
+            RawNode::Call { name, args } => Ok(raw_at(place, RawNode::Call { name: name.try_copy(alloc)?, args: copy_raws(alloc, args)? })),
+            RawNode::If { test, yes, no } => Ok(raw_at(place, RawNode::If { test: test.boxed(alloc)?, yes: yes.boxed(alloc)?, no: no.boxed(alloc)? })),
+            RawNode::Let { names, places, value, body } => Ok(raw_at(place, RawNode::Let { names: copy_texts(alloc, names)?, places: Vec::from_slice(alloc, places)?, value: value.boxed(alloc)?, body: body.boxed(alloc)? })),
+            RawNode::Choose { outputs, rel } => Ok(raw_at(place, RawNode::Choose { outputs: copy_params(alloc, outputs)?, rel: rel.boxed(alloc)? })),
+            RawNode::Match { of, arms } => Ok(raw_at(place, RawNode::Match { of: of.boxed(alloc)?, arms: copy_arms(alloc, arms)? })),
         }
     }
 }
@@ -84,4 +84,10 @@ fn copy_arms(alloc: Global, arms: &[RawArm]) -> Result<Vec<RawArm>, NoMemory>
         all.push(arm.try_copy(alloc)?)?;
     }
     Ok(all)
+}
+
+fn raw_at(place: Place, node: RawNode) -> Raw
+    ensures { raw_tree result ≡ raw_node_tree node place }
+{
+    Raw { place, node }
 }
