@@ -22,12 +22,25 @@ impl Code {
             Code::Sub(a, b) => Ok(Code::Sub(a.boxed(alloc)?, b.boxed(alloc)?)),
             Code::Mul(a, b) => Ok(Code::Mul(a.boxed(alloc)?, b.boxed(alloc)?)),
             Code::Neg(a) => Ok(Code::Neg(a.boxed(alloc)?)),
-            Code::Div { of, k } => Ok(Code::Div { of: of.boxed(alloc)?, k: *k }),
-            Code::Mod { of, k } => Ok(Code::Mod { of: of.boxed(alloc)?, k: *k }),
+            Code::Div { of, k } => Ok(Code::Div {
+                of: of.boxed(alloc)?,
+                k: *k,
+            }),
+            Code::Mod { of, k } => Ok(Code::Mod {
+                of: of.boxed(alloc)?,
+                k: *k,
+            }),
             Code::Min(parts) => Ok(Code::Min(copy_codes(alloc, parts)?)),
             Code::Max(parts) => Ok(Code::Max(copy_codes(alloc, parts)?)),
-            Code::Compare { order, left, right } => Ok(Code::Compare { order: *order, left: left.boxed(alloc)?, right: right.boxed(alloc)? }),
-            Code::Divides { k, of } => Ok(Code::Divides { k: *k, of: of.boxed(alloc)? }),
+            Code::Compare { order, left, right } => Ok(Code::Compare {
+                order: *order,
+                left: left.boxed(alloc)?,
+                right: right.boxed(alloc)?,
+            }),
+            Code::Divides { k, of } => Ok(Code::Divides {
+                k: *k,
+                of: of.boxed(alloc)?,
+            }),
             Code::And(a, b) => Ok(Code::And(a.boxed(alloc)?, b.boxed(alloc)?)),
             Code::Or(a, b) => Ok(Code::Or(a.boxed(alloc)?, b.boxed(alloc)?)),
             Code::Not(a) => Ok(Code::Not(a.boxed(alloc)?)),
@@ -36,11 +49,35 @@ impl Code {
             Code::Diff(a, b) => Ok(Code::Diff(a.boxed(alloc)?, b.boxed(alloc)?)),
             Code::Subset(a, b) => Ok(Code::Subset(a.boxed(alloc)?, b.boxed(alloc)?)),
             Code::Card(a) => Ok(Code::Card(a.boxed(alloc)?)),
-            Code::Slice { set, from, n } => Ok(Code::Slice { set: set.boxed(alloc)?, from: from.boxed(alloc)?, n: n.boxed(alloc)? }),
-            Code::Fresh { avoid, n } => Ok(Code::Fresh { avoid: avoid.boxed(alloc)?, n: n.boxed(alloc)? }),
-            Code::If { test, yes, no } => Ok(Code::If { test: test.boxed(alloc)?, yes: yes.boxed(alloc)?, no: no.boxed(alloc)? }),
-            Code::Let { first, count, value, body } => Ok(Code::Let { first: *first, count: *count, value: value.boxed(alloc)?, body: body.boxed(alloc)? }),
-            Code::Solve { number, arms } => Ok(Code::Solve { number: *number, arms: copy_arms(alloc, arms)? }),
+            Code::Slice { set, from, n } => Ok(Code::Slice {
+                set: set.boxed(alloc)?,
+                from: from.boxed(alloc)?,
+                n: n.boxed(alloc)?,
+            }),
+            Code::Fresh { avoid, n } => Ok(Code::Fresh {
+                avoid: avoid.boxed(alloc)?,
+                n: n.boxed(alloc)?,
+            }),
+            Code::If { test, yes, no } => Ok(Code::If {
+                test: test.boxed(alloc)?,
+                yes: yes.boxed(alloc)?,
+                no: no.boxed(alloc)?,
+            }),
+            Code::Let {
+                first,
+                count,
+                value,
+                body,
+            } => Ok(Code::Let {
+                first: *first,
+                count: *count,
+                value: value.boxed(alloc)?,
+                body: body.boxed(alloc)?,
+            }),
+            Code::Solve { number, arms } => Ok(Code::Solve {
+                number: *number,
+                arms: copy_arms(alloc, arms)?,
+            }),
         }
     }
 
@@ -71,7 +108,11 @@ impl Arm {
     pub fn try_copy(&self, alloc: Global) -> Result<Arm, NoMemory>
         ensures { IfOk result (λ new. arm_tree new ≡ arm_tree self.now) }
     {
-        Ok(Arm { bounds: Vec::from_slice(alloc, &self.bounds)?, items: copy_items(alloc, &self.items)?, gives: copy_codes(alloc, &self.gives)? })
+        Ok(Arm {
+            bounds: Vec::from_slice(alloc, &self.bounds)?,
+            items: copy_items(alloc, &self.items)?,
+            gives: copy_codes(alloc, &self.gives)?,
+        })
     }
 }
 

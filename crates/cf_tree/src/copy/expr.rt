@@ -22,16 +22,60 @@ impl Expr {
             Expr::Neg(a) => Ok(Expr::Neg(a.boxed(alloc)?)),
             Expr::Not(a) => Ok(Expr::Not(a.boxed(alloc)?)),
             Expr::Abs(a) => Ok(Expr::Abs(a.boxed(alloc)?)),
-            Expr::Binary { op, left, right } => Ok(Expr::Binary { op: *op, left: left.boxed(alloc)?, right: right.boxed(alloc)? }),
-            Expr::Divides { k, of } => Ok(Expr::Divides { k: *k, of: of.boxed(alloc)? }),
-            Expr::Div { of, k } => Ok(Expr::Div { of: of.boxed(alloc)?, k: *k }),
-            Expr::Mod { of, k } => Ok(Expr::Mod { of: of.boxed(alloc)?, k: *k }),
+            Expr::Binary { op, left, right } => Ok(Expr::Binary {
+                op: *op,
+                left: left.boxed(alloc)?,
+                right: right.boxed(alloc)?,
+            }),
+            Expr::Divides { k, of } => Ok(Expr::Divides {
+                k: *k,
+                of: of.boxed(alloc)?,
+            }),
+            Expr::Div { of, k } => Ok(Expr::Div {
+                of: of.boxed(alloc)?,
+                k: *k,
+            }),
+            Expr::Mod { of, k } => Ok(Expr::Mod {
+                of: of.boxed(alloc)?,
+                k: *k,
+            }),
             Expr::Card(a) => Ok(Expr::Card(a.boxed(alloc)?)),
-            Expr::If { test, yes, no } => Ok(Expr::If { test: test.boxed(alloc)?, yes: yes.boxed(alloc)?, no: no.boxed(alloc)? }),
-            Expr::Call { def, args } => Ok(Expr::Call { def: *def, args: copy_exprs(alloc, args)? }),
-            Expr::Let { count, value, body } => Ok(Expr::Let { count: *count, value: value.boxed(alloc)?, body: body.boxed(alloc)? }),
-            Expr::Choose { number, scope, outputs, rel } => Ok(Expr::Choose { number: *number, scope: copy_params(alloc, scope)?, outputs: Vec::from_slice(alloc, outputs)?, rel: rel.try_copy(alloc)? }),
-            Expr::Match { number, scope, of, arms } => Ok(Expr::Match { number: *number, scope: copy_params(alloc, scope)?, of: of.boxed(alloc)?, arms: copy_arms(alloc, arms)? }),
+            Expr::If { test, yes, no } => Ok(Expr::If {
+                test: test.boxed(alloc)?,
+                yes: yes.boxed(alloc)?,
+                no: no.boxed(alloc)?,
+            }),
+            Expr::Call { def, args } => Ok(Expr::Call {
+                def: *def,
+                args: copy_exprs(alloc, args)?,
+            }),
+            Expr::Let { count, value, body } => Ok(Expr::Let {
+                count: *count,
+                value: value.boxed(alloc)?,
+                body: body.boxed(alloc)?,
+            }),
+            Expr::Choose {
+                number,
+                scope,
+                outputs,
+                rel,
+            } => Ok(Expr::Choose {
+                number: *number,
+                scope: copy_params(alloc, scope)?,
+                outputs: Vec::from_slice(alloc, outputs)?,
+                rel: rel.try_copy(alloc)?,
+            }),
+            Expr::Match {
+                number,
+                scope,
+                of,
+                arms,
+            } => Ok(Expr::Match {
+                number: *number,
+                scope: copy_params(alloc, scope)?,
+                of: of.boxed(alloc)?,
+                arms: copy_arms(alloc, arms)?,
+            }),
         }
     }
 
@@ -49,7 +93,12 @@ impl MatchArm {
     pub fn try_copy(&self, alloc: Global) -> Result<MatchArm, NoMemory>
         ensures { IfOk result (λ new. match_arm_tree new ≡ match_arm_tree self.now) }
     {
-        Ok(MatchArm { number: self.number, factors: Vec::from_slice(alloc, &self.factors)?, constant: self.constant, body: self.body.try_copy(alloc)? })
+        Ok(MatchArm {
+            number: self.number,
+            factors: Vec::from_slice(alloc, &self.factors)?,
+            constant: self.constant,
+            body: self.body.try_copy(alloc)?,
+        })
     }
 }
 

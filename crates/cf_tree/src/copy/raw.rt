@@ -40,16 +40,79 @@ impl RawNode {
             RawNode::Neg(a) => Ok(raw_at(place, RawNode::Neg(a.boxed(alloc)?))),
             RawNode::Not(a) => Ok(raw_at(place, RawNode::Not(a.boxed(alloc)?))),
             RawNode::Abs(a) => Ok(raw_at(place, RawNode::Abs(a.boxed(alloc)?))),
-            RawNode::Binary { op, left, right } => Ok(raw_at(place, RawNode::Binary { op: *op, left: left.boxed(alloc)?, right: right.boxed(alloc)? })),
-            RawNode::Divides { k, of } => Ok(raw_at(place, RawNode::Divides { k: *k, of: of.boxed(alloc)? })),
-            RawNode::Div { of, k } => Ok(raw_at(place, RawNode::Div { of: of.boxed(alloc)?, k: *k })),
-            RawNode::Mod { of, k } => Ok(raw_at(place, RawNode::Mod { of: of.boxed(alloc)?, k: *k })),
+            RawNode::Binary { op, left, right } => Ok(raw_at(
+                place,
+                RawNode::Binary {
+                    op: *op,
+                    left: left.boxed(alloc)?,
+                    right: right.boxed(alloc)?,
+                },
+            )),
+            RawNode::Divides { k, of } => Ok(raw_at(
+                place,
+                RawNode::Divides {
+                    k: *k,
+                    of: of.boxed(alloc)?,
+                },
+            )),
+            RawNode::Div { of, k } => Ok(raw_at(
+                place,
+                RawNode::Div {
+                    of: of.boxed(alloc)?,
+                    k: *k,
+                },
+            )),
+            RawNode::Mod { of, k } => Ok(raw_at(
+                place,
+                RawNode::Mod {
+                    of: of.boxed(alloc)?,
+                    k: *k,
+                },
+            )),
             RawNode::Card(a) => Ok(raw_at(place, RawNode::Card(a.boxed(alloc)?))),
-            RawNode::Call { name, args } => Ok(raw_at(place, RawNode::Call { name: name.try_copy(alloc)?, args: copy_raws(alloc, args)? })),
-            RawNode::If { test, yes, no } => Ok(raw_at(place, RawNode::If { test: test.boxed(alloc)?, yes: yes.boxed(alloc)?, no: no.boxed(alloc)? })),
-            RawNode::Let { names, places, value, body } => Ok(raw_at(place, RawNode::Let { names: copy_texts(alloc, names)?, places: Vec::from_slice(alloc, places)?, value: value.boxed(alloc)?, body: body.boxed(alloc)? })),
-            RawNode::Choose { outputs, rel } => Ok(raw_at(place, RawNode::Choose { outputs: copy_params(alloc, outputs)?, rel: rel.boxed(alloc)? })),
-            RawNode::Match { of, arms } => Ok(raw_at(place, RawNode::Match { of: of.boxed(alloc)?, arms: copy_arms(alloc, arms)? })),
+            RawNode::Call { name, args } => Ok(raw_at(
+                place,
+                RawNode::Call {
+                    name: name.try_copy(alloc)?,
+                    args: copy_raws(alloc, args)?,
+                },
+            )),
+            RawNode::If { test, yes, no } => Ok(raw_at(
+                place,
+                RawNode::If {
+                    test: test.boxed(alloc)?,
+                    yes: yes.boxed(alloc)?,
+                    no: no.boxed(alloc)?,
+                },
+            )),
+            RawNode::Let {
+                names,
+                places,
+                value,
+                body,
+            } => Ok(raw_at(
+                place,
+                RawNode::Let {
+                    names: copy_texts(alloc, names)?,
+                    places: Vec::from_slice(alloc, places)?,
+                    value: value.boxed(alloc)?,
+                    body: body.boxed(alloc)?,
+                },
+            )),
+            RawNode::Choose { outputs, rel } => Ok(raw_at(
+                place,
+                RawNode::Choose {
+                    outputs: copy_params(alloc, outputs)?,
+                    rel: rel.boxed(alloc)?,
+                },
+            )),
+            RawNode::Match { of, arms } => Ok(raw_at(
+                place,
+                RawNode::Match {
+                    of: of.boxed(alloc)?,
+                    arms: copy_arms(alloc, arms)?,
+                },
+            )),
         }
     }
 }
@@ -60,7 +123,11 @@ impl RawArm {
     pub fn try_copy(&self, alloc: Global) -> Result<RawArm, NoMemory>
         ensures { IfOk result (λ new. raw_arm_tree new ≡ raw_arm_tree self.now) }
     {
-        Ok(RawArm { parts: copy_parts(alloc, &self.parts)?, constant: self.constant, body: self.body.try_copy(alloc)? })
+        Ok(RawArm {
+            parts: copy_parts(alloc, &self.parts)?,
+            constant: self.constant,
+            body: self.body.try_copy(alloc)?,
+        })
     }
 }
 

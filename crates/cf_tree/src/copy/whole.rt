@@ -15,7 +15,13 @@ impl RawDef {
     pub fn try_copy(&self, alloc: Global) -> Result<RawDef, NoMemory>
         ensures { IfOk result (λ new. raw_def_tree new ≡ raw_def_tree self.now) }
     {
-        Ok(RawDef { place: self.place, name: self.name.try_copy(alloc)?, params: copy_params(alloc, &self.params)?, results: Vec::from_slice(alloc, &self.results)?, body: self.body.try_copy(alloc)? })
+        Ok(RawDef {
+            place: self.place,
+            name: self.name.try_copy(alloc)?,
+            params: copy_params(alloc, &self.params)?,
+            results: Vec::from_slice(alloc, &self.results)?,
+            body: self.body.try_copy(alloc)?,
+        })
     }
 }
 
@@ -24,7 +30,9 @@ impl Program {
     pub fn try_copy(&self, alloc: Global) -> Result<Program, NoMemory>
         ensures { IfOk result (λ new. program_tree new ≡ program_tree self.now) }
     {
-        Ok(Program { defs: copy_defs(alloc, &self.defs)? })
+        Ok(Program {
+            defs: copy_defs(alloc, &self.defs)?,
+        })
     }
 }
 
@@ -33,7 +41,12 @@ impl Def {
     pub fn try_copy(&self, alloc: Global) -> Result<Def, NoMemory>
         ensures { IfOk result (λ new. def_tree new ≡ def_tree self.now) }
     {
-        Ok(Def { name: self.name.try_copy(alloc)?, params: copy_params(alloc, &self.params)?, results: Vec::from_slice(alloc, &self.results)?, body: self.body.try_copy(alloc)? })
+        Ok(Def {
+            name: self.name.try_copy(alloc)?,
+            params: copy_params(alloc, &self.params)?,
+            results: Vec::from_slice(alloc, &self.results)?,
+            body: self.body.try_copy(alloc)?,
+        })
     }
 }
 
@@ -42,7 +55,11 @@ impl RawTarget {
     pub fn try_copy(&self, alloc: Global) -> Result<RawTarget, NoMemory>
         ensures { IfOk result (λ new. target_tree new ≡ target_tree self.now) }
     {
-        Ok(RawTarget { params: Vec::from_slice(alloc, &self.params)?, results: Vec::from_slice(alloc, &self.results)?, code: self.code.try_copy(alloc)? })
+        Ok(RawTarget {
+            params: Vec::from_slice(alloc, &self.params)?,
+            results: Vec::from_slice(alloc, &self.results)?,
+            code: self.code.try_copy(alloc)?,
+        })
     }
 }
 
@@ -51,7 +68,9 @@ impl Pre {
     pub fn try_copy(&self, alloc: Global) -> Result<Pre, NoMemory>
         ensures { IfOk result (λ new. pre_tree new ≡ pre_tree self.now) }
     {
-        Ok(Pre { arms: copy_arms(alloc, &self.arms)? })
+        Ok(Pre {
+            arms: copy_arms(alloc, &self.arms)?,
+        })
     }
 }
 

@@ -11,7 +11,11 @@ impl Param {
     pub fn try_copy(&self, alloc: Global) -> Result<Param, NoMemory>
         ensures { IfOk result (λ new. new ≡ self.now) }
     {
-        Ok(Param { place: self.place, name: self.name.try_copy(alloc)?, base: self.base })
+        Ok(Param {
+            place: self.place,
+            name: self.name.try_copy(alloc)?,
+            base: self.base,
+        })
     }
 }
 
@@ -20,7 +24,11 @@ impl Part {
     pub fn try_copy(&self, alloc: Global) -> Result<Part, NoMemory>
         ensures { IfOk result (λ new. new ≡ self.now) }
     {
-        Ok(Part { place: self.place, factor: self.factor, name: self.name.try_copy(alloc)? })
+        Ok(Part {
+            place: self.place,
+            factor: self.factor,
+            name: self.name.try_copy(alloc)?,
+        })
     }
 }
 

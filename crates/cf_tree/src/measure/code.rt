@@ -26,7 +26,10 @@ impl Code {
             Code::Mod { of, .. } => of.size().saturating_add(1),
             Code::Min(parts) => codes_size(parts).saturating_add(1),
             Code::Max(parts) => codes_size(parts).saturating_add(1),
-            Code::Compare { left, right, .. } => left.size().saturating_add(right.size()).saturating_add(1),
+            Code::Compare { left, right, .. } => left
+                .size()
+                .saturating_add(right.size())
+                .saturating_add(1),
             Code::Divides { of, .. } => of.size().saturating_add(1),
             Code::And(a, b) => a.size().saturating_add(b.size()).saturating_add(1),
             Code::Or(a, b) => a.size().saturating_add(b.size()).saturating_add(1),
@@ -36,10 +39,21 @@ impl Code {
             Code::Diff(a, b) => a.size().saturating_add(b.size()).saturating_add(1),
             Code::Subset(a, b) => a.size().saturating_add(b.size()).saturating_add(1),
             Code::Card(a) => a.size().saturating_add(1),
-            Code::Slice { set, from, n } => set.size().saturating_add(from.size()).saturating_add(n.size()).saturating_add(1),
+            Code::Slice { set, from, n } => set
+                .size()
+                .saturating_add(from.size())
+                .saturating_add(n.size())
+                .saturating_add(1),
             Code::Fresh { avoid, n } => avoid.size().saturating_add(n.size()).saturating_add(1),
-            Code::If { test, yes, no } => test.size().saturating_add(yes.size()).saturating_add(no.size()).saturating_add(1),
-            Code::Let { value, body, .. } => value.size().saturating_add(body.size()).saturating_add(1),
+            Code::If { test, yes, no } => test
+                .size()
+                .saturating_add(yes.size())
+                .saturating_add(no.size())
+                .saturating_add(1),
+            Code::Let { value, body, .. } => value
+                .size()
+                .saturating_add(body.size())
+                .saturating_add(1),
             Code::Solve { arms, .. } => arms_size(arms).saturating_add(1),
         }
     }
@@ -73,9 +87,17 @@ impl Code {
             Code::Diff(a, b) => a.depth().max(b.depth()).saturating_add(1),
             Code::Subset(a, b) => a.depth().max(b.depth()).saturating_add(1),
             Code::Card(a) => a.depth().saturating_add(1),
-            Code::Slice { set, from, n } => set.depth().max(from.depth()).max(n.depth()).saturating_add(1),
+            Code::Slice { set, from, n } => set
+                .depth()
+                .max(from.depth())
+                .max(n.depth())
+                .saturating_add(1),
             Code::Fresh { avoid, n } => avoid.depth().max(n.depth()).saturating_add(1),
-            Code::If { test, yes, no } => test.depth().max(yes.depth()).max(no.depth()).saturating_add(1),
+            Code::If { test, yes, no } => test
+                .depth()
+                .max(yes.depth())
+                .max(no.depth())
+                .saturating_add(1),
             Code::Let { value, body, .. } => value.depth().max(body.depth()).saturating_add(1),
             Code::Solve { arms, .. } => arms_depth(arms).saturating_add(1),
         }

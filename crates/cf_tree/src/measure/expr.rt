@@ -21,16 +21,29 @@ impl Expr {
             Expr::Neg(a) => a.size().saturating_add(1),
             Expr::Not(a) => a.size().saturating_add(1),
             Expr::Abs(a) => a.size().saturating_add(1),
-            Expr::Binary { left, right, .. } => left.size().saturating_add(right.size()).saturating_add(1),
+            Expr::Binary { left, right, .. } => left
+                .size()
+                .saturating_add(right.size())
+                .saturating_add(1),
             Expr::Divides { of, .. } => of.size().saturating_add(1),
             Expr::Div { of, .. } => of.size().saturating_add(1),
             Expr::Mod { of, .. } => of.size().saturating_add(1),
             Expr::Card(a) => a.size().saturating_add(1),
-            Expr::If { test, yes, no } => test.size().saturating_add(yes.size()).saturating_add(no.size()).saturating_add(1),
+            Expr::If { test, yes, no } => test
+                .size()
+                .saturating_add(yes.size())
+                .saturating_add(no.size())
+                .saturating_add(1),
             Expr::Call { args, .. } => exprs_size(args).saturating_add(1),
-            Expr::Let { value, body, .. } => value.size().saturating_add(body.size()).saturating_add(1),
+            Expr::Let { value, body, .. } => value
+                .size()
+                .saturating_add(body.size())
+                .saturating_add(1),
             Expr::Choose { rel, .. } => rel.size().saturating_add(1),
-            Expr::Match { of, arms, .. } => of.size().saturating_add(arms_size(arms)).saturating_add(1),
+            Expr::Match { of, arms, .. } => of
+                .size()
+                .saturating_add(arms_size(arms))
+                .saturating_add(1),
         }
     }
 
@@ -53,7 +66,11 @@ impl Expr {
             Expr::Div { of, .. } => of.depth().saturating_add(1),
             Expr::Mod { of, .. } => of.depth().saturating_add(1),
             Expr::Card(a) => a.depth().saturating_add(1),
-            Expr::If { test, yes, no } => test.depth().max(yes.depth()).max(no.depth()).saturating_add(1),
+            Expr::If { test, yes, no } => test
+                .depth()
+                .max(yes.depth())
+                .max(no.depth())
+                .saturating_add(1),
             Expr::Call { args, .. } => exprs_depth(args).saturating_add(1),
             Expr::Let { value, body, .. } => value.depth().max(body.depth()).saturating_add(1),
             Expr::Choose { rel, .. } => rel.depth().saturating_add(1),

@@ -22,16 +22,29 @@ impl Raw {
             RawNode::Neg(a) => a.size().saturating_add(1),
             RawNode::Not(a) => a.size().saturating_add(1),
             RawNode::Abs(a) => a.size().saturating_add(1),
-            RawNode::Binary { left, right, .. } => left.size().saturating_add(right.size()).saturating_add(1),
+            RawNode::Binary { left, right, .. } => left
+                .size()
+                .saturating_add(right.size())
+                .saturating_add(1),
             RawNode::Divides { of, .. } => of.size().saturating_add(1),
             RawNode::Div { of, .. } => of.size().saturating_add(1),
             RawNode::Mod { of, .. } => of.size().saturating_add(1),
             RawNode::Card(a) => a.size().saturating_add(1),
             RawNode::Call { args, .. } => raws_size(args).saturating_add(1),
-            RawNode::If { test, yes, no } => test.size().saturating_add(yes.size()).saturating_add(no.size()).saturating_add(1),
-            RawNode::Let { value, body, .. } => value.size().saturating_add(body.size()).saturating_add(1),
+            RawNode::If { test, yes, no } => test
+                .size()
+                .saturating_add(yes.size())
+                .saturating_add(no.size())
+                .saturating_add(1),
+            RawNode::Let { value, body, .. } => value
+                .size()
+                .saturating_add(body.size())
+                .saturating_add(1),
             RawNode::Choose { rel, .. } => rel.size().saturating_add(1),
-            RawNode::Match { of, arms, .. } => of.size().saturating_add(arms_size(arms)).saturating_add(1),
+            RawNode::Match { of, arms, .. } => of
+                .size()
+                .saturating_add(arms_size(arms))
+                .saturating_add(1),
         }
     }
 
@@ -50,13 +63,20 @@ impl Raw {
             RawNode::Neg(a) => a.depth().saturating_add(1),
             RawNode::Not(a) => a.depth().saturating_add(1),
             RawNode::Abs(a) => a.depth().saturating_add(1),
-            RawNode::Binary { left, right, .. } => left.depth().max(right.depth()).saturating_add(1),
+            RawNode::Binary { left, right, .. } => left
+                .depth()
+                .max(right.depth())
+                .saturating_add(1),
             RawNode::Divides { of, .. } => of.depth().saturating_add(1),
             RawNode::Div { of, .. } => of.depth().saturating_add(1),
             RawNode::Mod { of, .. } => of.depth().saturating_add(1),
             RawNode::Card(a) => a.depth().saturating_add(1),
             RawNode::Call { args, .. } => raws_depth(args).saturating_add(1),
-            RawNode::If { test, yes, no } => test.depth().max(yes.depth()).max(no.depth()).saturating_add(1),
+            RawNode::If { test, yes, no } => test
+                .depth()
+                .max(yes.depth())
+                .max(no.depth())
+                .saturating_add(1),
             RawNode::Let { value, body, .. } => value.depth().max(body.depth()).saturating_add(1),
             RawNode::Choose { rel, .. } => rel.depth().saturating_add(1),
             RawNode::Match { of, arms, .. } => of.depth().max(arms_depth(arms)).saturating_add(1),

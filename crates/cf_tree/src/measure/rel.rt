@@ -79,7 +79,10 @@ impl Rel {
         match self {
             Rel::True => 1,
             Rel::False => 1,
-            Rel::Compare { left, right, .. } => left.size().saturating_add(right.size()).saturating_add(1),
+            Rel::Compare { left, right, .. } => left
+                .size()
+                .saturating_add(right.size())
+                .saturating_add(1),
             Rel::SameSet(a, b) => a.size().saturating_add(b.size()).saturating_add(1),
             Rel::OtherSet(a, b) => a.size().saturating_add(b.size()).saturating_add(1),
             Rel::Subset(a, b) => a.size().saturating_add(b.size()).saturating_add(1),
