@@ -1,4 +1,4 @@
-use Rattle.std.proofs.Common.{◌≡◌, ◌+◌, ◌<◌, ◌^◌, max, drop}
+use Rattle.std.proofs.Common.{◌≡◌, ◌<◌, ◌^◌, max, drop}
 use Rattle.cf_tree.specs.RelSize.{capped}
 use Rattle.cf_tree.specs.CodeTree.{arms_depth, codes_depth, items_depth}
 use Rattle.cf_tree.specs.CodeView.{arm_trees, code_trees, item_trees}

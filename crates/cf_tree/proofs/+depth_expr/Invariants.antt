@@ -1,4 +1,4 @@
-use Rattle.std.proofs.Common.{◌≡◌, ◌+◌, ◌<◌, ◌^◌, max, drop}
+use Rattle.std.proofs.Common.{◌≡◌, ◌<◌, ◌^◌, max, drop}
 use Rattle.cf_tree.specs.RelSize.{capped}
 use Rattle.cf_tree.specs.ExprTree.{exprs_depth, match_arms_depth}
 use Rattle.cf_tree.specs.ExprView.{expr_trees, match_arm_trees}

@@ -1,4 +1,4 @@
-use Rattle.std.proofs.Common.{◌≡◌, ◌+◌, ◌<◌, ◌^◌, max, drop}
+use Rattle.std.proofs.Common.{◌≡◌, ◌+◌, ◌<◌, ◌^◌, drop}
 use Rattle.cf_tree.specs.RelSize.{capped}
 use Rattle.cf_tree.specs.CodeTree.{arms_size, codes_size, items_size}
 use Rattle.cf_tree.specs.CodeView.{arm_trees, code_trees, item_trees}

@@ -1,4 +1,4 @@
-use Rattle.std.proofs.Common.{◌≡◌, ◌+◌, ◌<◌, ◌^◌, max, drop}
+use Rattle.std.proofs.Common.{◌≡◌, ◌+◌, ◌<◌, ◌^◌, drop}
 use Rattle.cf_tree.specs.RelSize.{capped}
 use Rattle.cf_tree.specs.ExprTree.{exprs_size, match_arms_size}
 use Rattle.cf_tree.specs.ExprView.{expr_trees, match_arm_trees}

@@ -1,4 +1,4 @@
-use Rattle.std.proofs.Common.{◌≡◌, ◌+◌, ◌<◌, ◌^◌, max, drop}
+use Rattle.std.proofs.Common.{◌≡◌, ◌+◌, ◌<◌, ◌^◌, drop}
 use Rattle.cf_tree.specs.RelSize.{capped}
 use Rattle.cf_tree.specs.RawTree.{raw_arms_size, raws_size}
 use Rattle.cf_tree.specs.RawView.{raw_arm_trees, raw_trees}

@@ -1,4 +1,4 @@
-use Rattle.std.proofs.Common.{◌≡◌, ◌+◌, ◌<◌, ◌^◌, max, drop, map}
+use Rattle.std.proofs.Common.{◌≡◌, ◌<◌, ◌^◌, max, drop, map}
 use Rattle.cf_tree.specs.RelSize.{capped}
 use Rattle.cf_tree.specs.DefView.{program_depth, raw_def_tree}
 use Rattle.cf_tree.proofs.measure.whole.defs_depth.Given as goal
