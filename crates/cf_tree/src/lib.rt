@@ -4,6 +4,8 @@
 pub mod base;
 pub mod code;
 pub mod copy;
+#[cfg(test)]
+mod copy_tests;
 pub mod expr;
 pub mod measure;
 pub mod memory;
