@@ -54,7 +54,8 @@ fn arm(alloc: Global) -> Result<Arm, NoMemory> {
     arm.items.push(Item::Let(Code::Var(0)))?;
     arm.items.push(Item::Need(Code::Truth(true)))?;
     let one = Box::new(alloc, Code::Lit(1))?;
-    arm.gives.push(Code::Sub(Box::new(alloc, Code::Var(0))?, one))?;
+    arm.gives
+        .push(Code::Sub(Box::new(alloc, Code::Var(0))?, one))?;
     Ok(arm)
 }
 

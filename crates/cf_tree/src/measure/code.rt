@@ -13,32 +13,28 @@ impl Code {
         ensures { result ≡ capped (code_size (code_tree self.now)) }
     {
         match self {
-            Code::Lit(_) => 1,
-            Code::Truth(_) => 1,
-            Code::Var(_) => 1,
-            Code::SetOf(parts) => codes_size(parts).saturating_add(1),
-            Code::Tuple(parts) => codes_size(parts).saturating_add(1),
-            Code::Sum(parts) => codes_size(parts).saturating_add(1),
-            Code::Sub(a, b) => a.size().saturating_add(b.size()).saturating_add(1),
-            Code::Mul(a, b) => a.size().saturating_add(b.size()).saturating_add(1),
-            Code::Neg(a) => a.size().saturating_add(1),
-            Code::Div { of, .. } => of.size().saturating_add(1),
-            Code::Mod { of, .. } => of.size().saturating_add(1),
-            Code::Min(parts) => codes_size(parts).saturating_add(1),
-            Code::Max(parts) => codes_size(parts).saturating_add(1),
+            Code::Lit(_) | Code::Truth(_) | Code::Var(_) => 1,
+            Code::SetOf(parts)
+            | Code::Tuple(parts)
+            | Code::Sum(parts)
+            | Code::Min(parts)
+            | Code::Max(parts)
+            | Code::Union(parts)
+            | Code::Inter(parts) => codes_size(parts).saturating_add(1),
+            Code::Sub(a, b)
+            | Code::Mul(a, b)
+            | Code::And(a, b)
+            | Code::Or(a, b)
+            | Code::Diff(a, b)
+            | Code::Subset(a, b) => a.size().saturating_add(b.size()).saturating_add(1),
+            Code::Neg(a) | Code::Not(a) | Code::Card(a) => a.size().saturating_add(1),
+            Code::Div { of, .. } | Code::Mod { of, .. } | Code::Divides { of, .. } => of
+                .size()
+                .saturating_add(1),
             Code::Compare { left, right, .. } => left
                 .size()
                 .saturating_add(right.size())
                 .saturating_add(1),
-            Code::Divides { of, .. } => of.size().saturating_add(1),
-            Code::And(a, b) => a.size().saturating_add(b.size()).saturating_add(1),
-            Code::Or(a, b) => a.size().saturating_add(b.size()).saturating_add(1),
-            Code::Not(a) => a.size().saturating_add(1),
-            Code::Union(parts) => codes_size(parts).saturating_add(1),
-            Code::Inter(parts) => codes_size(parts).saturating_add(1),
-            Code::Diff(a, b) => a.size().saturating_add(b.size()).saturating_add(1),
-            Code::Subset(a, b) => a.size().saturating_add(b.size()).saturating_add(1),
-            Code::Card(a) => a.size().saturating_add(1),
             Code::Slice { set, from, n } => set
                 .size()
                 .saturating_add(from.size())
@@ -64,29 +60,25 @@ impl Code {
         ensures { result ≡ capped (code_depth (code_tree self.now)) }
     {
         match self {
-            Code::Lit(_) => 1,
-            Code::Truth(_) => 1,
-            Code::Var(_) => 1,
-            Code::SetOf(parts) => codes_depth(parts).saturating_add(1),
-            Code::Tuple(parts) => codes_depth(parts).saturating_add(1),
-            Code::Sum(parts) => codes_depth(parts).saturating_add(1),
-            Code::Sub(a, b) => a.depth().max(b.depth()).saturating_add(1),
-            Code::Mul(a, b) => a.depth().max(b.depth()).saturating_add(1),
-            Code::Neg(a) => a.depth().saturating_add(1),
-            Code::Div { of, .. } => of.depth().saturating_add(1),
-            Code::Mod { of, .. } => of.depth().saturating_add(1),
-            Code::Min(parts) => codes_depth(parts).saturating_add(1),
-            Code::Max(parts) => codes_depth(parts).saturating_add(1),
+            Code::Lit(_) | Code::Truth(_) | Code::Var(_) => 1,
+            Code::SetOf(parts)
+            | Code::Tuple(parts)
+            | Code::Sum(parts)
+            | Code::Min(parts)
+            | Code::Max(parts)
+            | Code::Union(parts)
+            | Code::Inter(parts) => codes_depth(parts).saturating_add(1),
+            Code::Sub(a, b)
+            | Code::Mul(a, b)
+            | Code::And(a, b)
+            | Code::Or(a, b)
+            | Code::Diff(a, b)
+            | Code::Subset(a, b) => a.depth().max(b.depth()).saturating_add(1),
+            Code::Neg(a) | Code::Not(a) | Code::Card(a) => a.depth().saturating_add(1),
+            Code::Div { of, .. } | Code::Mod { of, .. } | Code::Divides { of, .. } => of
+                .depth()
+                .saturating_add(1),
             Code::Compare { left, right, .. } => left.depth().max(right.depth()).saturating_add(1),
-            Code::Divides { of, .. } => of.depth().saturating_add(1),
-            Code::And(a, b) => a.depth().max(b.depth()).saturating_add(1),
-            Code::Or(a, b) => a.depth().max(b.depth()).saturating_add(1),
-            Code::Not(a) => a.depth().saturating_add(1),
-            Code::Union(parts) => codes_depth(parts).saturating_add(1),
-            Code::Inter(parts) => codes_depth(parts).saturating_add(1),
-            Code::Diff(a, b) => a.depth().max(b.depth()).saturating_add(1),
-            Code::Subset(a, b) => a.depth().max(b.depth()).saturating_add(1),
-            Code::Card(a) => a.depth().saturating_add(1),
             Code::Slice { set, from, n } => set
                 .depth()
                 .max(from.depth())
@@ -105,7 +97,7 @@ impl Code {
 }
 
 impl Item {
-    /// How many nodes it has, but never more than the greatest number of 64 bits.
+    /// How many nodes its code has, but never more than the greatest number of 64 bits.
     #[cycle(size_code)]
     pub fn size(&self) -> u64
         ensures { result ≡ capped (item_size (item_tree self.now)) }
@@ -116,7 +108,7 @@ impl Item {
         }
     }
 
-    /// How deep it is: 1 for a leaf. Never more than the greatest number of 64 bits.
+    /// The depth of its code, but never more than the greatest number of 64 bits.
     #[cycle(depth_code)]
     pub fn depth(&self) -> u64
         ensures { result ≡ capped (item_depth (item_tree self.now)) }
@@ -129,7 +121,7 @@ impl Item {
 }
 
 impl Arm {
-    /// How many nodes it has, but never more than the greatest number of 64 bits.
+    /// How many nodes its items and what it gives have, but never more than the greatest number of 64 bits.
     #[cycle(size_code)]
     pub fn size(&self) -> u64
         ensures { result ≡ capped (arm_size (arm_tree self.now)) }
@@ -137,7 +129,8 @@ impl Arm {
         items_size(&self.items).saturating_add(codes_size(&self.gives))
     }
 
-    /// How deep it is: 1 for a leaf. Never more than the greatest number of 64 bits.
+    /// The depth of its deepest part, 0 where it has none, but never more than the greatest number of
+    /// 64 bits.
     #[cycle(depth_code)]
     pub fn depth(&self) -> u64
         ensures { result ≡ capped (arm_depth (arm_tree self.now)) }

@@ -13,22 +13,18 @@ impl Expr {
         ensures { result ≡ capped (expr_size (expr_tree self.now)) }
     {
         match self {
-            Expr::Lit(_) => 1,
-            Expr::Truth(_) => 1,
-            Expr::Var(_) => 1,
-            Expr::SetOf(parts) => exprs_size(parts).saturating_add(1),
-            Expr::Tuple(parts) => exprs_size(parts).saturating_add(1),
-            Expr::Neg(a) => a.size().saturating_add(1),
-            Expr::Not(a) => a.size().saturating_add(1),
-            Expr::Abs(a) => a.size().saturating_add(1),
+            Expr::Lit(_) | Expr::Truth(_) | Expr::Var(_) => 1,
+            Expr::SetOf(parts) | Expr::Tuple(parts) => exprs_size(parts).saturating_add(1),
+            Expr::Neg(a) | Expr::Not(a) | Expr::Abs(a) | Expr::Card(a) => a
+                .size()
+                .saturating_add(1),
             Expr::Binary { left, right, .. } => left
                 .size()
                 .saturating_add(right.size())
                 .saturating_add(1),
-            Expr::Divides { of, .. } => of.size().saturating_add(1),
-            Expr::Div { of, .. } => of.size().saturating_add(1),
-            Expr::Mod { of, .. } => of.size().saturating_add(1),
-            Expr::Card(a) => a.size().saturating_add(1),
+            Expr::Divides { of, .. } | Expr::Div { of, .. } | Expr::Mod { of, .. } => of
+                .size()
+                .saturating_add(1),
             Expr::If { test, yes, no } => test
                 .size()
                 .saturating_add(yes.size())
@@ -53,19 +49,15 @@ impl Expr {
         ensures { result ≡ capped (expr_depth (expr_tree self.now)) }
     {
         match self {
-            Expr::Lit(_) => 1,
-            Expr::Truth(_) => 1,
-            Expr::Var(_) => 1,
-            Expr::SetOf(parts) => exprs_depth(parts).saturating_add(1),
-            Expr::Tuple(parts) => exprs_depth(parts).saturating_add(1),
-            Expr::Neg(a) => a.depth().saturating_add(1),
-            Expr::Not(a) => a.depth().saturating_add(1),
-            Expr::Abs(a) => a.depth().saturating_add(1),
+            Expr::Lit(_) | Expr::Truth(_) | Expr::Var(_) => 1,
+            Expr::SetOf(parts) | Expr::Tuple(parts) => exprs_depth(parts).saturating_add(1),
+            Expr::Neg(a) | Expr::Not(a) | Expr::Abs(a) | Expr::Card(a) => a
+                .depth()
+                .saturating_add(1),
             Expr::Binary { left, right, .. } => left.depth().max(right.depth()).saturating_add(1),
-            Expr::Divides { of, .. } => of.depth().saturating_add(1),
-            Expr::Div { of, .. } => of.depth().saturating_add(1),
-            Expr::Mod { of, .. } => of.depth().saturating_add(1),
-            Expr::Card(a) => a.depth().saturating_add(1),
+            Expr::Divides { of, .. } | Expr::Div { of, .. } | Expr::Mod { of, .. } => of
+                .depth()
+                .saturating_add(1),
             Expr::If { test, yes, no } => test
                 .depth()
                 .max(yes.depth())

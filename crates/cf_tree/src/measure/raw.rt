@@ -13,23 +13,20 @@ impl Raw {
         ensures { result ≡ capped (raw_size (raw_tree self.now)) }
     {
         match &self.node {
-            RawNode::Lit(_) => 1,
-            RawNode::Truth(_) => 1,
-            RawNode::Name(_) => 1,
-            RawNode::SetOf(parts) => raws_size(parts).saturating_add(1),
-            RawNode::Group(a) => a.size().saturating_add(1),
-            RawNode::Tuple(parts) => raws_size(parts).saturating_add(1),
-            RawNode::Neg(a) => a.size().saturating_add(1),
-            RawNode::Not(a) => a.size().saturating_add(1),
-            RawNode::Abs(a) => a.size().saturating_add(1),
+            RawNode::Lit(_) | RawNode::Truth(_) | RawNode::Name(_) => 1,
+            RawNode::SetOf(parts) | RawNode::Tuple(parts) => raws_size(parts).saturating_add(1),
+            RawNode::Group(a)
+            | RawNode::Neg(a)
+            | RawNode::Not(a)
+            | RawNode::Abs(a)
+            | RawNode::Card(a) => a.size().saturating_add(1),
             RawNode::Binary { left, right, .. } => left
                 .size()
                 .saturating_add(right.size())
                 .saturating_add(1),
-            RawNode::Divides { of, .. } => of.size().saturating_add(1),
-            RawNode::Div { of, .. } => of.size().saturating_add(1),
-            RawNode::Mod { of, .. } => of.size().saturating_add(1),
-            RawNode::Card(a) => a.size().saturating_add(1),
+            RawNode::Divides { of, .. } | RawNode::Div { of, .. } | RawNode::Mod { of, .. } => of
+                .size()
+                .saturating_add(1),
             RawNode::Call { args, .. } => raws_size(args).saturating_add(1),
             RawNode::If { test, yes, no } => test
                 .size()
@@ -54,23 +51,20 @@ impl Raw {
         ensures { result ≡ capped (raw_depth (raw_tree self.now)) }
     {
         match &self.node {
-            RawNode::Lit(_) => 1,
-            RawNode::Truth(_) => 1,
-            RawNode::Name(_) => 1,
-            RawNode::SetOf(parts) => raws_depth(parts).saturating_add(1),
-            RawNode::Group(a) => a.depth().saturating_add(1),
-            RawNode::Tuple(parts) => raws_depth(parts).saturating_add(1),
-            RawNode::Neg(a) => a.depth().saturating_add(1),
-            RawNode::Not(a) => a.depth().saturating_add(1),
-            RawNode::Abs(a) => a.depth().saturating_add(1),
+            RawNode::Lit(_) | RawNode::Truth(_) | RawNode::Name(_) => 1,
+            RawNode::SetOf(parts) | RawNode::Tuple(parts) => raws_depth(parts).saturating_add(1),
+            RawNode::Group(a)
+            | RawNode::Neg(a)
+            | RawNode::Not(a)
+            | RawNode::Abs(a)
+            | RawNode::Card(a) => a.depth().saturating_add(1),
             RawNode::Binary { left, right, .. } => left
                 .depth()
                 .max(right.depth())
                 .saturating_add(1),
-            RawNode::Divides { of, .. } => of.depth().saturating_add(1),
-            RawNode::Div { of, .. } => of.depth().saturating_add(1),
-            RawNode::Mod { of, .. } => of.depth().saturating_add(1),
-            RawNode::Card(a) => a.depth().saturating_add(1),
+            RawNode::Divides { of, .. } | RawNode::Div { of, .. } | RawNode::Mod { of, .. } => of
+                .depth()
+                .saturating_add(1),
             RawNode::Call { args, .. } => raws_depth(args).saturating_add(1),
             RawNode::If { test, yes, no } => test
                 .depth()

@@ -11,11 +11,11 @@ impl SetTerm {
         ensures { result ≡ capped (set_size (set_tree self.now)) }
     {
         match self {
-            SetTerm::Empty => 1,
-            SetTerm::Var(_) => 1,
-            SetTerm::Union(a, b) => a.size().saturating_add(b.size()).saturating_add(1),
-            SetTerm::Inter(a, b) => a.size().saturating_add(b.size()).saturating_add(1),
-            SetTerm::Diff(a, b) => a.size().saturating_add(b.size()).saturating_add(1),
+            SetTerm::Empty | SetTerm::Var(_) => 1,
+            SetTerm::Union(a, b) | SetTerm::Inter(a, b) | SetTerm::Diff(a, b) => a
+                .size()
+                .saturating_add(b.size())
+                .saturating_add(1),
         }
     }
 
@@ -24,11 +24,11 @@ impl SetTerm {
         ensures { result ≡ capped (set_depth (set_tree self.now)) }
     {
         match self {
-            SetTerm::Empty => 1,
-            SetTerm::Var(_) => 1,
-            SetTerm::Union(a, b) => a.depth().max(b.depth()).saturating_add(1),
-            SetTerm::Inter(a, b) => a.depth().max(b.depth()).saturating_add(1),
-            SetTerm::Diff(a, b) => a.depth().max(b.depth()).saturating_add(1),
+            SetTerm::Empty | SetTerm::Var(_) => 1,
+            SetTerm::Union(a, b) | SetTerm::Inter(a, b) | SetTerm::Diff(a, b) => a
+                .depth()
+                .max(b.depth())
+                .saturating_add(1),
         }
     }
 }
@@ -39,16 +39,14 @@ impl Term {
         ensures { result ≡ capped (term_size (term_tree self.now)) }
     {
         match self {
-            Term::Lit(_) => 1,
-            Term::Var(_) => 1,
+            Term::Lit(_) | Term::Var(_) => 1,
             Term::Card(a) => a.size().saturating_add(1),
-            Term::Neg(a) => a.size().saturating_add(1),
-            Term::Add(a, b) => a.size().saturating_add(b.size()).saturating_add(1),
-            Term::Sub(a, b) => a.size().saturating_add(b.size()).saturating_add(1),
-            Term::Mul(a, b) => a.size().saturating_add(b.size()).saturating_add(1),
-            Term::Div(a, _) => a.size().saturating_add(1),
-            Term::Mod(a, _) => a.size().saturating_add(1),
-            Term::Abs(a) => a.size().saturating_add(1),
+            Term::Neg(a) | Term::Abs(a) => a.size().saturating_add(1),
+            Term::Add(a, b) | Term::Sub(a, b) | Term::Mul(a, b) => a
+                .size()
+                .saturating_add(b.size())
+                .saturating_add(1),
+            Term::Div(a, _) | Term::Mod(a, _) => a.size().saturating_add(1),
         }
     }
 
@@ -57,16 +55,14 @@ impl Term {
         ensures { result ≡ capped (term_depth (term_tree self.now)) }
     {
         match self {
-            Term::Lit(_) => 1,
-            Term::Var(_) => 1,
+            Term::Lit(_) | Term::Var(_) => 1,
             Term::Card(a) => a.depth().saturating_add(1),
-            Term::Neg(a) => a.depth().saturating_add(1),
-            Term::Add(a, b) => a.depth().max(b.depth()).saturating_add(1),
-            Term::Sub(a, b) => a.depth().max(b.depth()).saturating_add(1),
-            Term::Mul(a, b) => a.depth().max(b.depth()).saturating_add(1),
-            Term::Div(a, _) => a.depth().saturating_add(1),
-            Term::Mod(a, _) => a.depth().saturating_add(1),
-            Term::Abs(a) => a.depth().saturating_add(1),
+            Term::Neg(a) | Term::Abs(a) => a.depth().saturating_add(1),
+            Term::Add(a, b) | Term::Sub(a, b) | Term::Mul(a, b) => a
+                .depth()
+                .max(b.depth())
+                .saturating_add(1),
+            Term::Div(a, _) | Term::Mod(a, _) => a.depth().saturating_add(1),
         }
     }
 }
@@ -77,18 +73,17 @@ impl Rel {
         ensures { result ≡ capped (rel_size (rel_tree self.now)) }
     {
         match self {
-            Rel::True => 1,
-            Rel::False => 1,
+            Rel::True | Rel::False => 1,
             Rel::Compare { left, right, .. } => left
                 .size()
                 .saturating_add(right.size())
                 .saturating_add(1),
-            Rel::SameSet(a, b) => a.size().saturating_add(b.size()).saturating_add(1),
-            Rel::OtherSet(a, b) => a.size().saturating_add(b.size()).saturating_add(1),
-            Rel::Subset(a, b) => a.size().saturating_add(b.size()).saturating_add(1),
+            Rel::SameSet(a, b) | Rel::OtherSet(a, b) | Rel::Subset(a, b) => a
+                .size()
+                .saturating_add(b.size())
+                .saturating_add(1),
             Rel::Divides { of, .. } => of.size().saturating_add(1),
-            Rel::And(a, b) => a.size().saturating_add(b.size()).saturating_add(1),
-            Rel::Or(a, b) => a.size().saturating_add(b.size()).saturating_add(1),
+            Rel::And(a, b) | Rel::Or(a, b) => a.size().saturating_add(b.size()).saturating_add(1),
             Rel::Not(a) => a.size().saturating_add(1),
         }
     }
@@ -98,15 +93,14 @@ impl Rel {
         ensures { result ≡ capped (rel_depth (rel_tree self.now)) }
     {
         match self {
-            Rel::True => 1,
-            Rel::False => 1,
+            Rel::True | Rel::False => 1,
             Rel::Compare { left, right, .. } => left.depth().max(right.depth()).saturating_add(1),
-            Rel::SameSet(a, b) => a.depth().max(b.depth()).saturating_add(1),
-            Rel::OtherSet(a, b) => a.depth().max(b.depth()).saturating_add(1),
-            Rel::Subset(a, b) => a.depth().max(b.depth()).saturating_add(1),
+            Rel::SameSet(a, b) | Rel::OtherSet(a, b) | Rel::Subset(a, b) => a
+                .depth()
+                .max(b.depth())
+                .saturating_add(1),
             Rel::Divides { of, .. } => of.depth().saturating_add(1),
-            Rel::And(a, b) => a.depth().max(b.depth()).saturating_add(1),
-            Rel::Or(a, b) => a.depth().max(b.depth()).saturating_add(1),
+            Rel::And(a, b) | Rel::Or(a, b) => a.depth().max(b.depth()).saturating_add(1),
             Rel::Not(a) => a.depth().saturating_add(1),
         }
     }

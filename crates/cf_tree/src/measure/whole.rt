@@ -12,14 +12,14 @@ use crate::raw::{Program, RawDef};
 use crate::target::{Pre, RawTarget};
 
 impl RawDef {
-    /// How many nodes it has, but never more than the greatest number of 64 bits.
+    /// How many nodes its body has, but never more than the greatest number of 64 bits.
     pub fn size(&self) -> u64
         ensures { result ≡ capped (raw_size (raw_def_tree self.now).body) }
     {
         self.body.size()
     }
 
-    /// How deep it is: 1 for a leaf. Never more than the greatest number of 64 bits.
+    /// The depth of its body, but never more than the greatest number of 64 bits.
     pub fn depth(&self) -> u64
         ensures { result ≡ capped (raw_depth (raw_def_tree self.now).body) }
     {
@@ -28,14 +28,15 @@ impl RawDef {
 }
 
 impl Program {
-    /// How many nodes it has, but never more than the greatest number of 64 bits.
+    /// How many nodes the bodies of its functions have, but never more than the greatest number of 64 bits.
     pub fn size(&self) -> u64
         ensures { result ≡ capped (program_size (program_tree self.now)) }
     {
         defs_size(&self.defs)
     }
 
-    /// How deep it is: 1 for a leaf. Never more than the greatest number of 64 bits.
+    /// The depth of its deepest function, 0 where it has none, but never more than the greatest number
+    /// of 64 bits.
     pub fn depth(&self) -> u64
         ensures { result ≡ capped (program_depth (program_tree self.now)) }
     {
@@ -44,14 +45,14 @@ impl Program {
 }
 
 impl Def {
-    /// How many nodes it has, but never more than the greatest number of 64 bits.
+    /// How many nodes its body has, but never more than the greatest number of 64 bits.
     pub fn size(&self) -> u64
         ensures { result ≡ capped (expr_size (def_tree self.now).body) }
     {
         self.body.size()
     }
 
-    /// How deep it is: 1 for a leaf. Never more than the greatest number of 64 bits.
+    /// The depth of its body, but never more than the greatest number of 64 bits.
     pub fn depth(&self) -> u64
         ensures { result ≡ capped (expr_depth (def_tree self.now).body) }
     {
@@ -60,14 +61,14 @@ impl Def {
 }
 
 impl RawTarget {
-    /// How many nodes it has, but never more than the greatest number of 64 bits.
+    /// How many nodes its code has, but never more than the greatest number of 64 bits.
     pub fn size(&self) -> u64
         ensures { result ≡ capped (code_size (target_tree self.now).code) }
     {
         self.code.size()
     }
 
-    /// How deep it is: 1 for a leaf. Never more than the greatest number of 64 bits.
+    /// The depth of its code, but never more than the greatest number of 64 bits.
     pub fn depth(&self) -> u64
         ensures { result ≡ capped (code_depth (target_tree self.now).code) }
     {
@@ -76,14 +77,15 @@ impl RawTarget {
 }
 
 impl Pre {
-    /// How many nodes it has, but never more than the greatest number of 64 bits.
+    /// How many nodes its arms have, but never more than the greatest number of 64 bits.
     pub fn size(&self) -> u64
         ensures { result ≡ capped (arms_size (pre_tree self.now)) }
     {
         arms_size(&self.arms)
     }
 
-    /// How deep it is: 1 for a leaf. Never more than the greatest number of 64 bits.
+    /// The depth of its deepest arm, 0 where it has none, but never more than the greatest number of
+    /// 64 bits.
     pub fn depth(&self) -> u64
         ensures { result ≡ capped (arms_depth (pre_tree self.now)) }
     {
