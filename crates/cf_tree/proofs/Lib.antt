@@ -1,0 +1,3 @@
+mod SourceExamples
+mod TargetExamples
+mod TypingExamples

@@ -1,0 +1,103 @@
+-- Which outcomes a source expression allows.
+use Rattle.std.specs.Prelude.{ℕ, ℤ, pos, ◌+ℤ◌, ◌-ℤ◌, ◌*ℤ◌, neg_ℤ, ◌≡◌, ◌⊎◌, true, false, ◌==◌, not, List, [], ◌∷◌, ◌++◌, length, map, reverse, MatchBool}
+use Rattle.cf_tree.specs.declared.raw.BinOp.{BinOp}
+use Rattle.cf_tree.specs.declared.raw.BinOp.TheVariants.{Add, Sub, Mul, And, Or, Union, Inter, Diff, Subset, Compare}
+use Rattle.cf_tree.specs.ExprTree.{ExprTree, expr_lit, expr_truth, expr_var, expr_set_of, expr_tuple, expr_neg, expr_not, expr_abs, expr_binary, expr_divides, expr_div, expr_mod, expr_card, expr_if, expr_call, expr_let, expr_choose, expr_match, ExprTrees, no_exprs, expr_more, match_arm, MatchArmTrees, no_match_arms, match_arm_more}
+use Rattle.cf_tree.specs.Numbers.{quotient, remainder, is_multiple, absolute}
+use Rattle.cf_tree.specs.Relation.{Sol}
+use Rattle.cf_tree.specs.Sets.{set_of, set_union, set_inter, set_diff, is_subset}
+use Rattle.cf_tree.specs.Values.{Value, number, truth, elements, Outcome, values, no_solution, number_of, truth_of, elements_of, value_at, first_of, compared}
+
+-- goes on from one allowed list of values, or ends with an allowed want of a solution
+pub data AllowedThen (first : Outcome → Type 0) (go : List Value → Outcome → Type 0) (o : Outcome) : Type 0 where
+  goes_on : (vs : List Value) → first (values vs) → go vs o → AllowedThen first go o
+  ends_at : (n : ℕ) → first (no_solution n) → o ≡ no_solution n → AllowedThen first go o
+
+abbrev pub Gives : Value → Outcome → Type 0
+Gives v o = o ≡ values (v ∷ [])
+
+-- an outcome of choose number n: a solution, or none exactly where there is none
+abbrev pub Chosen : ℕ → (List Value → Type 0) → Outcome → Type 0
+Chosen n solves (values xs) = solves xs
+Chosen n solves (no_solution m) = (m ≡ n) × ((xs : List Value) → solves xs → ⊥)
+
+-- the value of a pattern where its variables are these numbers
+abbrev pub pattern_value : List ℤ → ℤ → List ℤ → ℤ
+pattern_value [] k is = k
+pattern_value (f ∷ factors) k [] = k
+pattern_value (f ∷ factors) k (i ∷ is) = f *ℤ i +ℤ pattern_value factors k is
+
+-- one number for each variable of a pattern, with which it is v
+abbrev pub Fits : List ℤ → ℤ → ℤ → List ℤ → Type 0
+Fits factors k v is = (length is ≡ length factors) × (v ≡ pattern_value factors k is)
+
+-- the value of an operation with two sides, other than && and ||
+abbrev pub operation : BinOp → Value → Value → Value
+operation Add v w = number (number_of v +ℤ number_of w)
+operation Sub v w = number (number_of v -ℤ number_of w)
+operation Mul v w = number (number_of v *ℤ number_of w)
+operation And v w = w
+operation Or v w = w
+operation Union v w = elements (set_union (elements_of v) (elements_of w))
+operation Inter v w = elements (set_inter (elements_of v) (elements_of w))
+operation Diff v w = elements (set_diff (elements_of v) (elements_of w))
+operation Subset v w = truth (is_subset (elements_of v) (elements_of w))
+operation (Compare order) v w = truth (compared order v w)
+
+-- goes on where the left side does not decide: `right` says what the right side allows
+abbrev pub AllowedRight : BinOp → Value → (Outcome → Type 0) → Outcome → Type 0
+AllowedRight And v right o = MatchBool (truth_of v) (right o) (Gives (truth false) o)
+AllowedRight Or v right o = MatchBool (truth_of v) (Gives (truth true) o) (right o)
+AllowedRight op v right o = AllowedThen right (λ ys. Gives (operation op v (first_of ys))) o
+
+abbrev mutual
+  -- what an expression allows in an environment, where `calls` says what a call of a function allows
+  pub AllowedIn : (ℕ → List Value → Outcome → Type 0) → ExprTree → List Value → Outcome → Type 0
+  AllowedIn calls (expr_lit k) env o = Gives (number k) o
+  AllowedIn calls (expr_truth t) env o = Gives (truth t) o
+  AllowedIn calls (expr_var x) env o = Gives (value_at env x) o
+  AllowedIn calls (expr_set_of es) env o = AllowedThen (AllowedAll calls es env) (λ xs. Gives (elements (set_of (map number_of xs)))) o
+  AllowedIn calls (expr_tuple es) env o = AllowedAll calls es env o
+  AllowedIn calls (expr_neg a) env o = AllowedThen (AllowedIn calls a env) (λ xs. Gives (number (neg_ℤ (number_of (first_of xs))))) o
+  AllowedIn calls (expr_not a) env o = AllowedThen (AllowedIn calls a env) (λ xs. Gives (truth (not (truth_of (first_of xs))))) o
+  AllowedIn calls (expr_abs a) env o = AllowedThen (AllowedIn calls a env) (λ xs. Gives (number (absolute (number_of (first_of xs))))) o
+  AllowedIn calls (expr_binary op a b) env o =
+      AllowedThen (AllowedIn calls a env) (λ xs. AllowedRight op (first_of xs) (AllowedIn calls b env)) o
+  AllowedIn calls (expr_divides k a) env o = AllowedThen (AllowedIn calls a env) (λ xs. Gives (truth (is_multiple k (number_of (first_of xs))))) o
+  AllowedIn calls (expr_div a k) env o = AllowedThen (AllowedIn calls a env) (λ xs. Gives (number (quotient (number_of (first_of xs)) k))) o
+  AllowedIn calls (expr_mod a k) env o = AllowedThen (AllowedIn calls a env) (λ xs. Gives (number (remainder (number_of (first_of xs)) k))) o
+  AllowedIn calls (expr_card a) env o = AllowedThen (AllowedIn calls a env) (λ xs. Gives (number (pos (length (elements_of (first_of xs)))))) o
+  AllowedIn calls (expr_if t a b) env o =
+      AllowedThen (AllowedIn calls t env) (λ xs p. MatchBool (truth_of (first_of xs)) (AllowedIn calls a env p) (AllowedIn calls b env p)) o
+  AllowedIn calls (expr_call f es) env o = AllowedThen (AllowedAll calls es env) (calls f) o
+  AllowedIn calls (expr_let n a b) env o = AllowedThen (AllowedIn calls a env) (λ xs. AllowedIn calls b (env ++ xs)) o
+  AllowedIn calls (expr_choose n scope outputs rel) env o = Chosen n (Sol outputs rel env) o
+  AllowedIn calls (expr_match n scope a arms) env o =
+      AllowedThen (AllowedIn calls a env) (λ xs. AllowedArm calls n arms (number_of (first_of xs)) (env ++ xs)) o
+
+  -- the values of all, from left to right
+  pub AllowedAll : (ℕ → List Value → Outcome → Type 0) → ExprTrees → List Value → Outcome → Type 0
+  AllowedAll calls no_exprs env o = o ≡ values []
+  AllowedAll calls (expr_more e es) env o =
+      AllowedThen (AllowedIn calls e env) (λ xs. AllowedThen (AllowedAll calls es env) (λ ys p. p ≡ values (xs ++ ys))) o
+
+  -- the first arm whose pattern can be v, with any numbers that make it v
+  pub AllowedArm : (ℕ → List Value → Outcome → Type 0) → ℕ → MatchArmTrees → ℤ → List Value → Outcome → Type 0
+  AllowedArm calls n no_match_arms v env o = o ≡ no_solution n
+  AllowedArm calls n (match_arm_more (match_arm m factors k body) arms) v env o =
+      ((is : List ℤ) × Fits factors k v is × AllowedIn calls body (env ++ map number is) o)
+      ⊎ (((is : List ℤ) → Fits factors k v is → ⊥) × AllowedArm calls n arms v env o)
+
+-- what a call of function number f allows, where the functions stand last first: each calls only those after it in the list
+abbrev pub AllowedCall : List ExprTree → ℕ → List Value → Outcome → Type 0
+AllowedCall [] f xs o = ⊥
+AllowedCall (body ∷ earlier) f xs o =
+    MatchBool (f == length earlier) (AllowedIn (AllowedCall earlier) body xs o) (AllowedCall earlier f xs o)
+
+-- what an expression allows whose calls are of these functions, which stand in the order of the source
+abbrev pub Allowed : List ExprTree → ExprTree → List Value → Outcome → Type 0
+Allowed bodies = AllowedIn (AllowedCall (reverse bodies))
+
+-- what a program allows whose main function has that number
+abbrev pub ProgramAllows : List ExprTree → ℕ → List Value → Outcome → Type 0
+ProgramAllows bodies main = AllowedCall (reverse bodies) main
