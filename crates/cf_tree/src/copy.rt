@@ -1,7 +1,7 @@
 //! Equal copies of trees.
-pub mod code;
-pub mod expr;
-pub mod raw;
-pub mod rel;
-pub mod whole;
+mod code;
+mod expr;
+mod raw;
+mod rel;
+mod whole;
 pub mod words;

@@ -7,7 +7,7 @@ pub mod copy;
 #[cfg(test)]
 mod copy_tests;
 pub mod expr;
-pub mod measure;
+mod measure;
 pub mod memory;
 pub mod raw;
 pub mod rel;

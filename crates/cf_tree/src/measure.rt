@@ -1,6 +1,6 @@
 //! Sizes and depths of trees.
-pub mod code;
-pub mod expr;
-pub mod raw;
-pub mod rel;
-pub mod whole;
+mod code;
+mod expr;
+mod raw;
+mod rel;
+mod whole;
