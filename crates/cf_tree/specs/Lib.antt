@@ -1,6 +1,7 @@
 pub mod Allowed
 pub mod CodeTree
 pub mod CodeView
+pub mod DefView
 pub mod ExprTree
 pub mod ExprView
 pub mod Meaning

@@ -3,7 +3,11 @@
 
 pub mod base;
 pub mod code;
+pub mod copy;
+#[cfg(test)]
+mod copy_tests;
 pub mod expr;
+mod measure;
 pub mod memory;
 pub mod raw;
 pub mod rel;

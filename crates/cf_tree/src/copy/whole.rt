@@ -1,0 +1,85 @@
+//! Copies of functions, programs, targets and preconditions.
+ghost use Rattle.std.specs.Prelude.{◌≡◌, IfOk, map};
+ghost use Rattle.cf_tree.specs.DefView.{raw_def_tree, program_tree, def_tree, target_tree, pre_tree};
+
+use crate::copy::code::copy_arms;
+use crate::copy::words::copy_params;
+use crate::expr::Def;
+use crate::memory::NoMemory;
+use crate::raw::{Program, RawDef};
+use crate::target::{Pre, RawTarget};
+use std::alloc::Global;
+
+impl RawDef {
+    /// An equal function.
+    pub fn try_copy(&self, alloc: Global) -> Result<RawDef, NoMemory>
+        ensures { IfOk result (λ new. raw_def_tree new ≡ raw_def_tree self.now) }
+    {
+        Ok(RawDef {
+            place: self.place,
+            name: self.name.try_copy(alloc)?,
+            params: copy_params(alloc, &self.params)?,
+            results: Vec::from_slice(alloc, &self.results)?,
+            body: self.body.try_copy(alloc)?,
+        })
+    }
+}
+
+impl Program {
+    /// An equal program.
+    pub fn try_copy(&self, alloc: Global) -> Result<Program, NoMemory>
+        ensures { IfOk result (λ new. program_tree new ≡ program_tree self.now) }
+    {
+        Ok(Program {
+            defs: copy_defs(alloc, &self.defs)?,
+        })
+    }
+}
+
+impl Def {
+    /// An equal function.
+    pub fn try_copy(&self, alloc: Global) -> Result<Def, NoMemory>
+        ensures { IfOk result (λ new. def_tree new ≡ def_tree self.now) }
+    {
+        Ok(Def {
+            name: self.name.try_copy(alloc)?,
+            params: copy_params(alloc, &self.params)?,
+            results: Vec::from_slice(alloc, &self.results)?,
+            body: self.body.try_copy(alloc)?,
+        })
+    }
+}
+
+impl RawTarget {
+    /// An equal target.
+    pub fn try_copy(&self, alloc: Global) -> Result<RawTarget, NoMemory>
+        ensures { IfOk result (λ new. target_tree new ≡ target_tree self.now) }
+    {
+        Ok(RawTarget {
+            params: Vec::from_slice(alloc, &self.params)?,
+            results: Vec::from_slice(alloc, &self.results)?,
+            code: self.code.try_copy(alloc)?,
+        })
+    }
+}
+
+impl Pre {
+    /// An equal precondition.
+    pub fn try_copy(&self, alloc: Global) -> Result<Pre, NoMemory>
+        ensures { IfOk result (λ new. pre_tree new ≡ pre_tree self.now) }
+    {
+        Ok(Pre {
+            arms: copy_arms(alloc, &self.arms)?,
+        })
+    }
+}
+
+fn copy_defs(alloc: Global, defs: &[RawDef]) -> Result<Vec<RawDef>, NoMemory>
+    ensures { IfOk result (λ new. map raw_def_tree new.items ≡ map raw_def_tree defs.now) }
+{
+    let mut all = Vec::new(alloc);
+    for def in defs {
+        all.push(def.try_copy(alloc)?)?;
+    }
+    Ok(all)
+}

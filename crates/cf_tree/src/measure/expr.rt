@@ -1,0 +1,134 @@
+//! Sizes and depths of source expressions with levels.
+ghost use Rattle.std.specs.Prelude.{◌≡◌};
+ghost use Rattle.cf_tree.specs.RelSize.{capped};
+ghost use Rattle.cf_tree.specs.ExprTree.{expr_size, exprs_size, match_arm_size, match_arms_size, expr_depth, exprs_depth, match_arm_depth, match_arms_depth};
+ghost use Rattle.cf_tree.specs.ExprView.{expr_tree, match_arm_tree, expr_trees, match_arm_trees};
+
+use crate::expr::{Expr, MatchArm};
+
+impl Expr {
+    /// How many nodes it has, but never more than the greatest number of 64 bits.
+    #[cycle(size_expr)]
+    pub fn size(&self) -> u64
+        ensures { result ≡ capped (expr_size (expr_tree self.now)) }
+    {
+        match self {
+            Expr::Lit(_) | Expr::Truth(_) | Expr::Var(_) => 1,
+            Expr::SetOf(parts) | Expr::Tuple(parts) => exprs_size(parts).saturating_add(1),
+            Expr::Neg(a) | Expr::Not(a) | Expr::Abs(a) | Expr::Card(a) => a
+                .size()
+                .saturating_add(1),
+            Expr::Binary { left, right, .. } => left
+                .size()
+                .saturating_add(right.size())
+                .saturating_add(1),
+            Expr::Divides { of, .. } | Expr::Div { of, .. } | Expr::Mod { of, .. } => of
+                .size()
+                .saturating_add(1),
+            Expr::If { test, yes, no } => test
+                .size()
+                .saturating_add(yes.size())
+                .saturating_add(no.size())
+                .saturating_add(1),
+            Expr::Call { args, .. } => exprs_size(args).saturating_add(1),
+            Expr::Let { value, body, .. } => value
+                .size()
+                .saturating_add(body.size())
+                .saturating_add(1),
+            Expr::Choose { rel, .. } => rel.size().saturating_add(1),
+            Expr::Match { of, arms, .. } => of
+                .size()
+                .saturating_add(arms_size(arms))
+                .saturating_add(1),
+        }
+    }
+
+    /// How deep it is: 1 for a leaf. Never more than the greatest number of 64 bits.
+    #[cycle(depth_expr)]
+    pub fn depth(&self) -> u64
+        ensures { result ≡ capped (expr_depth (expr_tree self.now)) }
+    {
+        match self {
+            Expr::Lit(_) | Expr::Truth(_) | Expr::Var(_) => 1,
+            Expr::SetOf(parts) | Expr::Tuple(parts) => exprs_depth(parts).saturating_add(1),
+            Expr::Neg(a) | Expr::Not(a) | Expr::Abs(a) | Expr::Card(a) => a
+                .depth()
+                .saturating_add(1),
+            Expr::Binary { left, right, .. } => left.depth().max(right.depth()).saturating_add(1),
+            Expr::Divides { of, .. } | Expr::Div { of, .. } | Expr::Mod { of, .. } => of
+                .depth()
+                .saturating_add(1),
+            Expr::If { test, yes, no } => test
+                .depth()
+                .max(yes.depth())
+                .max(no.depth())
+                .saturating_add(1),
+            Expr::Call { args, .. } => exprs_depth(args).saturating_add(1),
+            Expr::Let { value, body, .. } => value.depth().max(body.depth()).saturating_add(1),
+            Expr::Choose { rel, .. } => rel.depth().saturating_add(1),
+            Expr::Match { of, arms, .. } => of.depth().max(arms_depth(arms)).saturating_add(1),
+        }
+    }
+}
+
+impl MatchArm {
+    /// How many nodes it has, but never more than the greatest number of 64 bits.
+    #[cycle(size_expr)]
+    pub fn size(&self) -> u64
+        ensures { result ≡ capped (match_arm_size (match_arm_tree self.now)) }
+    {
+        self.body.size().saturating_add(1)
+    }
+
+    /// How deep it is: 1 for a leaf. Never more than the greatest number of 64 bits.
+    #[cycle(depth_expr)]
+    pub fn depth(&self) -> u64
+        ensures { result ≡ capped (match_arm_depth (match_arm_tree self.now)) }
+    {
+        self.body.depth().max(1)
+    }
+}
+
+#[cycle(size_expr)]
+fn exprs_size(exprs: &[Expr]) -> u64
+    ensures { result ≡ capped (exprs_size (expr_trees exprs.now)) }
+{
+    let mut total: u64 = 0;
+    for expr in exprs {
+        total = total.saturating_add(expr.size());
+    }
+    total
+}
+
+#[cycle(size_expr)]
+fn arms_size(arms: &[MatchArm]) -> u64
+    ensures { result ≡ capped (match_arms_size (match_arm_trees arms.now)) }
+{
+    let mut total: u64 = 0;
+    for arm in arms {
+        total = total.saturating_add(arm.size());
+    }
+    total
+}
+
+#[cycle(depth_expr)]
+fn exprs_depth(exprs: &[Expr]) -> u64
+    ensures { result ≡ capped (exprs_depth (expr_trees exprs.now)) }
+{
+    let mut deepest: u64 = 0;
+    for expr in exprs {
+        deepest = deepest.max(expr.depth());
+    }
+    deepest
+}
+
+#[cycle(depth_expr)]
+fn arms_depth(arms: &[MatchArm]) -> u64
+    ensures { result ≡ capped (match_arms_depth (match_arm_trees arms.now)) }
+{
+    let mut deepest: u64 = 0;
+    for arm in arms {
+        deepest = deepest.max(arm.depth());
+    }
+    deepest
+}
