@@ -1,3 +1,6 @@
+pub mod RisingLemmas
+pub mod SetLemmas
+pub mod SliceLemmas
 pub mod SolvingLemmas
 mod SourceExamples
 mod TargetExamples

@@ -4,7 +4,7 @@ use crate::expr::{Def, Expr, MatchArm};
 use crate::memory::NoMemory;
 use crate::raw::{BinOp, Param, Part, Program, Raw, RawArm, RawDef, RawNode};
 use crate::rel::{Rel, SetTerm, Term};
-use crate::target::{Pre, RawTarget};
+use crate::target::{Pre, RawTarget, Target};
 use std::alloc::Global;
 use std::test::Fail;
 
@@ -203,5 +203,21 @@ fn functions_are_copied(rt: HostRuntime) -> Result<(), Fail> {
         assert_eq!(rt; tree.size(), 13);
         assert_eq!(rt; tree.depth(), 8);
     }
+    Ok(())
+}
+
+#[test]
+fn a_target_has_the_parts_that_it_was_made_of(rt: HostRuntime) -> Result<(), Fail> {
+    let alloc = rt.alloc();
+    let mut results = Vec::new(alloc);
+    results.push(Base::Int)?;
+    let target = Target::new(RawTarget {
+        params: Vec::new(alloc),
+        results,
+        code: Code::Lit(3),
+    });
+    assert_eq!(rt; target.body().size(), 1);
+    assert_eq!(rt; target.params().len(), 0);
+    assert_eq!(rt; target.results().len(), 1);
     Ok(())
 }
