@@ -1,0 +1,6 @@
+pub mod DigitLemmas
+pub mod ScanLemmas
+pub mod RunLemmas
+pub mod GrammarLemmas
+pub mod StepLemmas
+pub mod LexesLemmas

@@ -1,6 +1,16 @@
 //! The tokens of a text.
 #![tactic(auto)]
 
+mod bytes;
+pub mod digits;
+mod fault;
+mod front;
+mod lexer;
 mod token;
 
+pub use fault::LexFault;
+pub use lexer::tokens;
 pub use token::{Token, TokenKind, TokenList};
+
+#[cfg(test)]
+mod tests;

@@ -1,0 +1,47 @@
+//! The piece at the front of a text.
+ghost use Rattle.std.specs.Prelude.{◌≡◌, ◌+◌, ◌^◌, ◌<◌, ◌≤◌, length};
+ghost use Rattle.cf_lex.specs.Front.{front_of, sign_of, IsWithin};
+
+use crate::bytes::{comment_len, letter, long_sign, short_sign, white, word_len};
+use crate::digits::{digit, digits_len};
+
+/// What stands at the front of a text, with its number of bytes: white space or a comment, a token, or nothing.
+pub(crate) enum Piece {
+    Skip(usize),
+    Literal(usize),
+    Word(usize),
+    Sign(usize),
+    Bad,
+}
+
+pub(crate) fn front(first: u8, rest: &[u8]) -> Piece
+    requires { length rest.now < 2 ^ 32 }
+    ensures found { result ≡ front_of first rest.now }
+    ensures size { IsWithin (length rest.now + 1) result }
+{
+    if white(first) {
+        Piece::Skip(1)
+    } else if first == b'#' {
+        Piece::Skip(1 + comment_len(rest))
+    } else if digit(first) {
+        Piece::Literal(1 + digits_len(rest))
+    } else if letter(first) {
+        Piece::Word(1 + word_len(rest))
+    } else {
+        sign_front(first, rest)
+    }
+}
+
+fn sign_front(first: u8, rest: &[u8]) -> Piece
+    ensures found { result ≡ sign_of first rest.now }
+    ensures size { IsWithin (length rest.now + 1) result }
+{
+    match rest {
+        [second, ..] if long_sign(first, *second) => Piece::Sign(2),
+        _ => if short_sign(first) {
+            Piece::Sign(1)
+        } else {
+            Piece::Bad
+        },
+    }
+}
