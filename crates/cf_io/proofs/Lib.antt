@@ -1,0 +1,6 @@
+pub mod FeedLemmas
+pub mod FrontLemmas
+pub mod LimitLemmas
+pub mod LineLemmas
+pub mod Owed
+pub mod ShelfLemmas

@@ -1,0 +1,10 @@
+pub mod Bytes
+pub mod Causes
+pub mod Cut
+pub mod Faults
+pub mod Limits
+pub mod Lines
+pub mod Memory
+pub mod Segments
+pub mod Sure
+pub mod Texts

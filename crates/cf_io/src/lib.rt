@@ -1,0 +1,31 @@
+//! What lies outside the program: a shelf of named texts, a source and a sink of bytes, and the lines of an input.
+#![tactic(auto)]
+
+mod cutter;
+mod edge;
+mod fails;
+mod faults;
+mod front;
+mod line;
+mod mem_shelf;
+mod mem_sink;
+mod mem_source;
+mod read;
+mod segments;
+mod sure;
+#[cfg(test)]
+mod tests;
+mod traits;
+mod write;
+
+pub use cutter::Cutter;
+pub use edge::{FileShelf, ReadSource, WriteSink};
+pub use faults::{Failed, FetchFault, ReadFault};
+pub use line::{Fed, Line};
+pub use mem_shelf::MemShelf;
+pub use mem_sink::MemSink;
+pub use mem_source::MemSource;
+pub use read::read_text;
+pub use sure::{SureShelf, SureSink, SureSource};
+pub use traits::{Shelf, Sink, Source};
+pub use write::write_all;

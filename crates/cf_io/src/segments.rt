@@ -1,0 +1,99 @@
+//! The lines within one piece.
+ghost use Rattle.std.specs.Prelude.{◌≡◌, ℕ, ◌+◌, ◌^◌, ◌<◌, ◌≤◌, List, [], ◌++◌, length, take, map, IfOk, OnOk, IfSome, MatchOption, drop};
+ghost use Rattle.std.specs.List.{prefix_len};
+ghost use Rattle.cf_io.specs.Segments.{is_in_line, ended_from, rest_from};
+ghost use Rattle.cf_io.specs.Cut.{line_of, Keeps};
+
+use crate::line::Line;
+use cf_tree::base::Bytes;
+use cf_tree::memory::NoMemory;
+use std::alloc::Global;
+
+/// How many bytes stand before the first line feed.
+pub(crate) fn line_len(text: &[u8]) -> usize
+    ensures count { result ≡ prefix_len is_in_line text.now }
+    ensures size { result ≤ length text.now }
+{
+    let mut n = 0;
+    'line: while n < text.len() && text[n] != b'\n' {
+        n += 1;
+    }
+    n
+}
+
+// A line that goes on from one of `size` bytes, whose first bytes are `head`.
+fn line_text(
+    alloc: Global,
+    head: &[u8],
+    size: u64,
+    segment: &[u8],
+    limit: usize,
+) -> Result<Line, NoMemory>
+    requires { size + length segment.now < 2 ^ 64 }
+    ensures { IfOk result (λ l. (w : List ℕ) → Keeps limit head.now size w → l ≡ line_of limit (w ++ segment.now)) }
+{
+    if size + segment.len() as u64 <= limit as u64 {
+        let mut bytes = head.to_vec(alloc)?;
+        bytes.extend_from_slice(segment)?;
+        Ok(Line::Text(Bytes { bytes }))
+    } else {
+        Ok(Line::TooLong)
+    }
+}
+
+// Adds the lines that end within the piece.
+fn whole_lines(
+    alloc: Global,
+    piece: &[u8],
+    limit: usize,
+    out: &mut Vec<Line>,
+) -> Result<(), NoMemory>
+    requires { length piece.now < 2 ^ 64 }
+    ensures { OnOk result (out.new.items ≡ out.old.items ++ map (line_of limit) (ended_from [] piece.now)) }
+{
+    let mut rest = piece;
+    'lines: loop {
+        let n = line_len(rest);
+        if rest.len() <= n {
+            return Ok(());
+        }
+        out.push(line_text(alloc, &[], 0, &rest[..n], limit)?)?;
+        rest = &rest[n + 1..];
+    }
+}
+
+/// The lines that end within the piece, where the first goes on from a line of `size` bytes.
+pub(crate) fn ended_lines(
+    alloc: Global,
+    head: &[u8],
+    size: u64,
+    piece: &[u8],
+    limit: usize,
+) -> Result<Vec<Line>, NoMemory>
+    requires { size + length piece.now < 2 ^ 64 }
+    ensures { IfOk result (λ v. (w : List ℕ) → Keeps limit head.now size w → v.items ≡ map (line_of limit) (ended_from w piece.now)) }
+{
+    let mut out = Vec::new(alloc);
+    let n = line_len(piece);
+    if piece.len() <= n {
+        return Ok(out);
+    }
+    out.push(line_text(alloc, head, size, &piece[..n], limit)?)?;
+    whole_lines(alloc, &piece[n + 1..], limit, &mut out)?;
+    Ok(out)
+}
+
+/// Where the last line of the piece begins, if a line ends in it.
+pub(crate) fn last_start(piece: &[u8]) -> Option<usize>
+    ensures size { IfSome result (λ at. at ≤ length piece.now) }
+    ensures rest { MatchOption result ((w : List ℕ) → rest_from w piece.now ≡ w ++ piece.now) (λ at. (w : List ℕ) → rest_from w piece.now ≡ drop at piece.now) }
+{
+    let mut at = piece.len();
+    'back: while at > 0 {
+        if piece[at - 1] == b'\n' {
+            return Some(at);
+        }
+        at -= 1;
+    }
+    None
+}
