@@ -32,19 +32,24 @@ lt_is x y e = grind (arith, ints)
 pub lt_not : (x y : ℤ) → int_lt x y ≡ false → y ≤ℤ x
 lt_not x y e = grind (arith, ints)
 
-or_swap : (a b c : Bool) → (a || (b || c)) ≡ (b || (a || c))
+-- laws of `or`
+pub or_swap : (a b c : Bool) → (a || (b || c)) ≡ (b || (a || c))
 or_swap true true c = refl
 or_swap true false c = refl
 or_swap false true c = refl
 or_swap false false c = refl
 
-or_twice : (a b : Bool) → (a || b) ≡ (a || (a || b))
+pub or_twice : (a b : Bool) → (a || b) ≡ (a || (a || b))
 or_twice true b = refl
 or_twice false b = refl
 
-or_assoc : (a b c : Bool) → ((a || b) || c) ≡ (a || (b || c))
+pub or_assoc : (a b c : Bool) → ((a || b) || c) ≡ (a || (b || c))
 or_assoc true b c = refl
 or_assoc false b c = refl
+
+pub or_none : (b : Bool) → (b || false) ≡ b
+or_none true = refl
+or_none false = refl
 
 -- membership in a list with one more element
 pub has-put : (x : ℤ) (ys : List ℤ) (z : ℤ) → has (set_put x ys) z ≡ (int_eq x z || has ys z)
@@ -81,10 +86,6 @@ has-inter xs ys z = has-filter (has ys) xs z
 
 pub has-diff : (xs ys : List ℤ) (z : ℤ) → has (set_diff xs ys) z ≡ (has xs z && not (has ys z))
 has-diff xs ys z = has-filter (λ x. not (has ys x)) xs z
-
-or_none : (b : Bool) → (b || false) ≡ b
-or_none true = refl
-or_none false = refl
 
 pub has-set_of : (xs : List ℤ) (z : ℤ) → has (set_of xs) z ≡ has xs z
 has-set_of xs z = has-union xs [] z ∙ or_none (has xs z)

@@ -9,7 +9,7 @@ use Rattle.std.proofs.lemmas.List.Sums.{length-filter, count_by-le-length}
 use Rattle.std.proofs.lemmas.List.{length-take-le, take-append-drop}
 use Rattle.std.proofs.lemmas.List.FromFn.{length-map-range_with_len}
 use Rattle.cf_tree.specs.Sets.{has, AreAbove, IsRising, set_fresh, set_diff}
-use Rattle.cf_tree.proofs.SetLemmas.{on_bool, eq_is, eq_other, eq_differs, has-filter, has-diff, has-same, has-other, has-append}
+use Rattle.cf_tree.proofs.SetLemmas.{on_bool, or_none, or_assoc, eq_is, eq_other, eq_differs, has-filter, has-diff, has-same, has-other, has-append}
 use Rattle.cf_tree.proofs.RisingLemmas.{above_not, member_above, above_take, above_drop, rising_ext, rising_filter, rising_take}
 
 slice_bools : (b c d e : Bool) → (b ≡ true → c ≡ false) → c ≡ (d && not e) → c ≡ ((b || d) && not (b || e))
@@ -19,14 +19,6 @@ slice_bools false c d e h k = k
 and_true : (b : Bool) → b ≡ (b && true)
 and_true true = refl
 and_true false = refl
-
-refl_or : (b : Bool) → (b || false) ≡ b
-refl_or true = refl
-refl_or false = refl
-
-or_assoc : (a b c : Bool) → (a || (b || c)) ≡ ((a || b) || c)
-or_assoc true b c = refl
-or_assoc false b c = refl
 
 pub take_none : (n : ℕ) → ◌≡◌ {A = List ℤ} (take n []) []
 take_none zero = refl
@@ -142,8 +134,8 @@ fresh_least xs n y z low out l h =
 -- what stands before a place, with the element there
 pub has-take_more : (xs : List ℤ) (j : ℕ) (d z : ℤ) → j < length xs → has (take (suc j) xs) z ≡ (has (take j xs) z || int_eq (get_or xs j d) z)
 has-take_more [] j d z l = absurd (omega arith)
-has-take_more (x ∷ xs) zero d z l = refl_or (int_eq x z)
-has-take_more (x ∷ xs) (suc j) d z l = rw (has-take_more xs j d z (omega arith)) (or_assoc (int_eq x z) (has (take j xs) z) (int_eq (get_or xs j d) z))
+has-take_more (x ∷ xs) zero d z l = or_none (int_eq x z)
+has-take_more (x ∷ xs) (suc j) d z l = rw (has-take_more xs j d z (omega arith)) (sym (or_assoc (int_eq x z) (has (take j xs) z) (int_eq (get_or xs j d) z)))
 
 pub has-take_drop : (j : ℕ) (xs : List ℤ) (z : ℤ) → has xs z ≡ (has (take j xs) z || has (drop j xs) z)
 has-take_drop j xs z = ap (λ l. has l z) (sym (take-append-drop j xs)) ∙ has-append (take j xs) (drop j xs) z
