@@ -96,6 +96,7 @@ impl Set {
     pub fn fresh(alloc: Global, avoid: &Set, n: i128) -> Result<Set, NoMemory>
         ensures value { IfOk result (λ s. s ≡ set_fresh avoid.now (count_of n)) }
         ensures law { IfOk result (AreFresh avoid.now (count_of n)) }
+        ensures within { IfOk result AreWithin }
     {
         Ok(Set {
             items: lists::fresh(alloc, &avoid.items, n)?,

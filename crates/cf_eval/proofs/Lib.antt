@@ -1,0 +1,11 @@
+pub mod NumberLemmas
+pub mod ReadLemmas
+pub mod ItemLemmas
+pub mod SpellLemmas
+pub mod ReturnLemmas
+pub mod JoinLemmas
+pub mod Binding
+pub mod Ends
+pub mod Reaching
+pub mod SetLists
+pub mod Tries

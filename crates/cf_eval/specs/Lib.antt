@@ -1,0 +1,10 @@
+pub mod Reading
+pub mod Replies
+pub mod Seen
+pub mod Spelling
+pub mod Texts
+pub mod Told
+pub mod Answers
+pub mod Choice
+pub mod Reached
+pub mod Tells

@@ -1,0 +1,167 @@
+// What a code gives while it is run, and why a run stops.
+ghost use Rattle.std.specs.Prelude.{◌≡◌, ◌++◌, IfErr, IfOk, IfSome, OnOk, All};
+ghost use Rattle.cf_num.specs.Limit.{IsWithin, within};
+ghost use Rattle.cf_tree.specs.Values.{first_of, number};
+ghost use Rattle.cf_eval.specs.Reached.{met as met_reached, met_value};
+ghost use Rattle.cf_eval.specs.Seen.{plain, plains, IsFit};
+ghost use Rattle.cf_eval.specs.Tells.{Tells, IsGivenFit, given_items, seen_or_zero};
+
+use crate::value::Value;
+use cf_set::Set;
+use cf_tree::memory::NoMemory;
+use std::alloc::{AllocError, AllocFailed, Global};
+
+// Why a run stops with no values: no memory, a number past the limit, or no solution at a choose.
+#[derive(Clone, Copy, Debug, PartialEq, Eq)]
+pub enum Stop {
+    Memory,
+    Past,
+    Unsolved(u32),
+}
+
+impl From<NoMemory> for Stop {
+    ghost use Rattle.std.specs.Prelude.{◌≡◌};
+    ghost use Rattle.cf_eval.specs.declared.given.Stop.TheVariants.{Memory};
+
+    ghost from_gives = { λ _ e. e ≡ Memory };
+
+    fn from(_e: NoMemory) -> Stop {
+        Stop::Memory
+    }
+}
+
+impl From<AllocError> for Stop {
+    ghost use Rattle.std.specs.Prelude.{◌≡◌};
+    ghost use Rattle.cf_eval.specs.declared.given.Stop.TheVariants.{Memory};
+
+    ghost from_gives = { λ _ e. e ≡ Memory };
+
+    fn from(_e: AllocError) -> Stop {
+        Stop::Memory
+    }
+}
+
+impl<T: Drop> From<AllocFailed<T>> for Stop {
+    ghost use Rattle.std.specs.Prelude.{◌≡◌};
+    ghost use Rattle.cf_eval.specs.declared.given.Stop.TheVariants.{Memory};
+
+    ghost from_gives = { λ _ e. e ≡ Memory };
+
+    fn from(_e: AllocFailed<T>) -> Stop {
+        Stop::Memory
+    }
+}
+
+// The values that a code gives. Most codes give one, which takes no vector.
+#[derive(Drop)]
+pub enum Given {
+    One(Value),
+    Several(Vec<Value>),
+}
+
+pub fn number(z: i128) -> Given
+    ensures { result ≡ Given.One (Value.Int z) }
+{
+    Given::One(Value::Int(z))
+}
+
+pub fn truth(b: bool) -> Given
+    ensures { result ≡ Given.One (Value.Truth b) }
+{
+    Given::One(Value::Truth(b))
+}
+
+pub fn set(s: Set) -> Given
+    ensures { result ≡ Given.One (Value.Elements s) }
+{
+    Given::One(Value::Elements(s))
+}
+
+// The number, or none where it passes the limit.
+pub fn limited(z: i128) -> Option<i128>
+    ensures value { result ≡ within z }
+    ensures fits { IfSome result IsWithin }
+{
+    if z == i128::MIN { None } else { Some(z) }
+}
+
+// A number that is met.
+pub fn met(z: Option<i128>) -> Result<Given, Stop>
+    requires { IfSome z IsWithin }
+    ensures told { Tells result (met_reached z) }
+    ensures fit { IfOk result IsGivenFit }
+{
+    match z {
+        None => Err(Stop::Past),
+        Some(n) => Ok(number(n)),
+    }
+}
+
+// The value of a variable, met where it is a number.
+pub fn met_copy(alloc: Global, v: Option<&Value>) -> Result<Given, Stop>
+    ensures told { Tells result (met_value (seen_or_zero v.entry)) }
+    ensures fit { IfOk result IsGivenFit }
+{
+    match v {
+        None => Ok(number(0)),
+        Some(Value::Int(n)) => met(limited(*n)),
+        Some(Value::Truth(b)) => Ok(truth(*b)),
+        Some(Value::Elements(s)) => Ok(set(s.try_copy(alloc)?)),
+    }
+}
+
+impl Given {
+    // The first value, and 0 where there is none.
+    pub fn first(self) -> Value
+        requires { IsGivenFit self }
+        ensures told { plain result ≡ first_of (plains (given_items self)) }
+        ensures fit { IsFit result }
+    {
+        match self {
+            Given::One(v) => v,
+            Given::Several(values) => first_value(values),
+        }
+    }
+
+    // The values as a vector.
+    pub fn into_values(self, alloc: Global) -> Result<Vec<Value>, NoMemory>
+        ensures { IfOk result (λ vs. vs.items ≡ given_items self) }
+    {
+        match self {
+            Given::One(v) => {
+                let mut values = Vec::new(alloc);
+                values.push(v)?;
+                Ok(values)
+            }
+            Given::Several(values) => Ok(values),
+        }
+    }
+
+    // Appends the values.
+    pub fn append_to(self, env: &mut Vec<Value>) -> Result<(), Stop>
+        ensures ok { OnOk result (env.new.items ≡ env.old.items ++ given_items self) }
+        ensures err { IfErr result (λ e. e ≡ Stop.Memory) }
+    {
+        match self {
+            Given::One(v) => {
+                env.push(v)?;
+                Ok(())
+            }
+            Given::Several(values) => {
+                let mut values = values;
+                env.append(&mut values)?;
+                Ok(())
+            }
+        }
+    }
+}
+
+fn first_value(values: Vec<Value>) -> Value
+    requires { All IsFit values.items }
+    ensures told { plain result ≡ first_of (plains values.items) }
+    ensures fit { IsFit result }
+{
+    let mut values = values;
+    values.truncate(1);
+    values.pop().unwrap_or(Value::Int(0))
+}

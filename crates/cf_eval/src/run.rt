@@ -1,0 +1,355 @@
+//! Runs target code.
+ghost use Rattle.std.specs.Prelude.{◌≡◌, [], None, IfOk, OnOk, All, pos};
+ghost use Rattle.cf_num.specs.Limit.{IsWithin};
+ghost use Rattle.cf_tree.specs.CodeView.{code_tree, item_tree, arm_tree, code_trees, item_trees, arm_trees};
+ghost use Rattle.cf_eval.specs.Answers.{Answers};
+ghost use Rattle.cf_eval.specs.Choice.{better_of, join_of};
+ghost use Rattle.cf_eval.specs.Reached.{reached, as_first, as_number, as_truth, as_set, all_reached, set_reached, sum_reached, best_reached, join_reached, items_reached, item_reached, try_reached, arm_reached, arms_reached};
+ghost use Rattle.cf_eval.specs.Seen.{plains, IsFit};
+ghost use Rattle.cf_eval.specs.Tells.{Tells, TellsAll, TellsFirst, TellsNumber, TellsTruth, TellsSet, TellsFound, TellsItems, Extends, IsGivenFit, IsFoundFit};
+
+use crate::given::{Given, Stop, limited, met, met_copy, number, set, truth};
+use crate::operate::{
+    Join, Side, better, compare, divide, empty, fresh, join_more, push_element, remain,
+};
+use crate::search::{count_of, push_tuple};
+use crate::value::{Outcome, Value};
+use cf_set::Set;
+use cf_tree::base::Order;
+use cf_tree::code::{Arm, Code, Item};
+use cf_tree::memory::NoMemory;
+use cf_tree::target::Target;
+use std::alloc::Global;
+
+/// The target's meaning on these values, or `Overflow` exactly where a number met on the way
+/// passes 2^127 - 1.
+pub fn run(alloc: Global, target: &Target, values: &[Value]) -> Result<Outcome, NoMemory>
+    ensures { IfOk result (Answers (code_tree target.now.code) (plains values.now)) }
+{
+    run_code(alloc, target.body(), values)
+}
+
+// The same of a code, whose variables have these values.
+pub(crate) fn run_code(alloc: Global, code: &Code, values: &[Value]) -> Result<Outcome, NoMemory>
+    ensures { IfOk result (Answers (code_tree code.now) (plains values.now)) }
+{
+    let mut env = copy_values(alloc, values)?;
+    match eval(alloc, code, &mut env) {
+        Ok(given) => Ok(Outcome::Values(given.into_values(alloc)?)),
+        Err(Stop::Memory) => Err(NoMemory),
+        Err(Stop::Past) => Ok(Outcome::Overflow),
+        Err(Stop::Unsolved(n)) => Ok(Outcome::NoSolution(n)),
+    }
+}
+
+fn copy_values(alloc: Global, values: &[Value]) -> Result<Vec<Value>, NoMemory>
+    ensures { IfOk result (λ copies. copies.items ≡ values.now) }
+{
+    let mut copies = Vec::new(alloc);
+    for v in values {
+        copies.push(v.try_copy(alloc)?)?;
+    }
+    Ok(copies)
+}
+
+// What the code gives where its variables have these values. The values stand as before after Ok.
+#[cycle(eval)]
+fn eval(alloc: Global, code: &Code, env: &mut Vec<Value>) -> Result<Given, Stop>
+    ensures told { Tells result (reached (code_tree code.now) (plains env.old.items)) }
+    ensures fit { IfOk result IsGivenFit }
+    ensures kept { OnOk result (env.new.items ≡ env.old.items) }
+{
+    match code {
+        Code::Lit(k) => met(limited(*k)),
+        Code::Truth(t) => Ok(truth(*t)),
+        Code::Var(x) => met_copy(alloc, env.get(*x as usize)),
+        Code::SetOf(parts) => eval_set_of(alloc, parts, env),
+        Code::Tuple(parts) => Ok(Given::Several(eval_all(alloc, parts, env)?)),
+        Code::Sum(parts) => eval_sum(alloc, parts, env),
+        Code::Sub(a, b) => {
+            let x = eval_number(alloc, a, env)?;
+            let y = eval_number(alloc, b, env)?;
+            met(cf_num::sub(x, y))
+        }
+        Code::Mul(a, b) => {
+            let x = eval_number(alloc, a, env)?;
+            let y = eval_number(alloc, b, env)?;
+            met(cf_num::mul(x, y))
+        }
+        Code::Neg(a) => Ok(number(cf_num::neg(eval_number(alloc, a, env)?))),
+        Code::Div { of, k } => Ok(number(divide(eval_number(alloc, of, env)?, *k))),
+        Code::Mod { of, k } => Ok(number(remain(eval_number(alloc, of, env)?, *k))),
+        Code::Min(parts) => eval_best(alloc, Side::Least, parts, env),
+        Code::Max(parts) => eval_best(alloc, Side::Greatest, parts, env),
+        Code::Compare { order, left, right } => {
+            let v = eval_first(alloc, left, env)?;
+            let w = eval_first(alloc, right, env)?;
+            Ok(truth(compare(*order, &v, &w)))
+        }
+        Code::Divides { k, of } => Ok(truth(remain(eval_number(alloc, of, env)?, *k) == 0)),
+        Code::And(a, b) => {
+            if eval_truth(alloc, a, env)? {
+                eval(alloc, b, env)
+            } else {
+                Ok(truth(false))
+            }
+        }
+        Code::Or(a, b) => {
+            if eval_truth(alloc, a, env)? {
+                Ok(truth(true))
+            } else {
+                eval(alloc, b, env)
+            }
+        }
+        Code::Not(a) => Ok(truth(!eval_truth(alloc, a, env)?)),
+        Code::Union(parts) => eval_join(alloc, Join::Union, parts, env),
+        Code::Inter(parts) => eval_join(alloc, Join::Inter, parts, env),
+        Code::Diff(a, b) => {
+            let s = eval_set(alloc, a, env)?;
+            let t = eval_set(alloc, b, env)?;
+            Ok(set(s.diff(alloc, &t)?))
+        }
+        Code::Subset(a, b) => {
+            let s = eval_set(alloc, a, env)?;
+            let t = eval_set(alloc, b, env)?;
+            Ok(truth(s.subset(&t)))
+        }
+        Code::Card(a) => Ok(number(i128::from(eval_set(alloc, a, env)?.card()))),
+        Code::Slice { set: of, from, n } => {
+            let s = eval_set(alloc, of, env)?;
+            let start = eval_number(alloc, from, env)?;
+            let size = eval_number(alloc, n, env)?;
+            Ok(set(s.slice(alloc, start, size)?))
+        }
+        Code::Fresh { avoid, n } => {
+            let s = eval_set(alloc, avoid, env)?;
+            let size = eval_number(alloc, n, env)?;
+            fresh(alloc, &s, size)
+        }
+        Code::If { test, yes, no } => {
+            if eval_truth(alloc, test, env)? {
+                eval(alloc, yes, env)
+            } else {
+                eval(alloc, no, env)
+            }
+        }
+        Code::Let { value, body, .. } => {
+            let size = env.len();
+            let bound = eval(alloc, value, env)?;
+            bound.append_to(env)?;
+            let given = eval(alloc, body, env)?;
+            env.truncate(size);
+            Ok(given)
+        }
+        Code::Solve { number, arms } => match eval_arms(alloc, arms, env)? {
+            None => Err(Stop::Unsolved(*number)),
+            Some(values) => Ok(Given::Several(values)),
+        },
+    }
+}
+
+#[cycle(eval)]
+fn eval_first(alloc: Global, code: &Code, env: &mut Vec<Value>) -> Result<Value, Stop>
+    ensures told { TellsFirst result (as_first (reached (code_tree code.now) (plains env.old.items))) }
+    ensures fit { IfOk result IsFit }
+    ensures kept { OnOk result (env.new.items ≡ env.old.items) }
+{
+    Ok(eval(alloc, code, env)?.first())
+}
+
+#[cycle(eval)]
+fn eval_number(alloc: Global, code: &Code, env: &mut Vec<Value>) -> Result<i128, Stop>
+    ensures told { TellsNumber result (as_number (reached (code_tree code.now) (plains env.old.items))) }
+    ensures fit { IfOk result IsWithin }
+    ensures kept { OnOk result (env.new.items ≡ env.old.items) }
+{
+    match eval_first(alloc, code, env)? {
+        Value::Int(z) => Ok(z),
+        Value::Truth(_) => Ok(0),
+        Value::Elements(_) => Ok(0),
+    }
+}
+
+#[cycle(eval)]
+fn eval_truth(alloc: Global, code: &Code, env: &mut Vec<Value>) -> Result<bool, Stop>
+    ensures told { TellsTruth result (as_truth (reached (code_tree code.now) (plains env.old.items))) }
+    ensures kept { OnOk result (env.new.items ≡ env.old.items) }
+{
+    match eval_first(alloc, code, env)? {
+        Value::Truth(b) => Ok(b),
+        Value::Int(_) => Ok(false),
+        Value::Elements(_) => Ok(false),
+    }
+}
+
+#[cycle(eval)]
+fn eval_set(alloc: Global, code: &Code, env: &mut Vec<Value>) -> Result<Set, Stop>
+    ensures told { TellsSet result (as_set (reached (code_tree code.now) (plains env.old.items))) }
+    ensures kept { OnOk result (env.new.items ≡ env.old.items) }
+{
+    match eval_first(alloc, code, env)? {
+        Value::Elements(s) => Ok(s),
+        Value::Int(_) => Ok(empty(alloc)?),
+        Value::Truth(_) => Ok(empty(alloc)?),
+    }
+}
+
+#[cycle(eval)]
+fn eval_all(alloc: Global, parts: &[Code], env: &mut Vec<Value>) -> Result<Vec<Value>, Stop>
+    ensures told { TellsAll result (all_reached (code_trees parts.now) (plains env.old.items) []) }
+    ensures fit { IfOk result (λ vs. All IsFit vs.items) }
+    ensures kept { OnOk result (env.new.items ≡ env.old.items) }
+{
+    let mut all = Vec::new(alloc);
+    for i in 0..parts.len() {
+        let more = eval(alloc, &parts[i], env)?;
+        more.append_to(&mut all)?;
+    }
+    Ok(all)
+}
+
+#[cycle(eval)]
+fn eval_set_of(alloc: Global, parts: &[Code], env: &mut Vec<Value>) -> Result<Given, Stop>
+    ensures told { Tells result (set_reached (code_trees parts.now) (plains env.old.items) []) }
+    ensures fit { IfOk result IsGivenFit }
+    ensures kept { OnOk result (env.new.items ≡ env.old.items) }
+{
+    let mut items = Vec::new(alloc);
+    for i in 0..parts.len() {
+        let x = eval_number(alloc, &parts[i], env)?;
+        push_element(x, &mut items)?;
+    }
+    Ok(set(Set::from_list(alloc, &items)?))
+}
+
+#[cycle(eval)]
+fn eval_sum(alloc: Global, parts: &[Code], env: &mut Vec<Value>) -> Result<Given, Stop>
+    ensures told { Tells result (sum_reached (code_trees parts.now) (plains env.old.items) (pos 0)) }
+    ensures fit { IfOk result IsGivenFit }
+    ensures kept { OnOk result (env.new.items ≡ env.old.items) }
+{
+    let mut total: i128 = 0;
+    for i in 0..parts.len() {
+        let x = eval_number(alloc, &parts[i], env)?;
+        match cf_num::add(total, x) {
+            Some(z) => total = z,
+            None => return Err(Stop::Past),
+        }
+    }
+    Ok(number(total))
+}
+
+#[cycle(eval)]
+fn eval_best(alloc: Global, side: Side, parts: &[Code], env: &mut Vec<Value>) -> Result<Given, Stop>
+    ensures told { Tells result (best_reached (better_of side) (code_trees parts.now) (plains env.old.items) None) }
+    ensures fit { IfOk result IsGivenFit }
+    ensures kept { OnOk result (env.new.items ≡ env.old.items) }
+{
+    let mut best: Option<i128> = None;
+    for i in 0..parts.len() {
+        let x = eval_number(alloc, &parts[i], env)?;
+        best = Some(better(side, best, x));
+    }
+    Ok(number(best.unwrap_or(0)))
+}
+
+#[cycle(eval)]
+fn eval_join(alloc: Global, how: Join, parts: &[Code], env: &mut Vec<Value>) -> Result<Given, Stop>
+    ensures told { Tells result (join_reached (join_of how) (code_trees parts.now) (plains env.old.items) None) }
+    ensures fit { IfOk result IsGivenFit }
+    ensures kept { OnOk result (env.new.items ≡ env.old.items) }
+{
+    let mut joined: Option<Set> = None;
+    for i in 0..parts.len() {
+        let more = eval_set(alloc, &parts[i], env)?;
+        joined = Some(join_more(alloc, how, joined, more)?);
+    }
+    match joined {
+        None => Ok(set(empty(alloc)?)),
+        Some(s) => Ok(set(s)),
+    }
+}
+
+// What the first arm gives whose needs hold at some tuple.
+#[cycle(eval)]
+fn eval_arms(alloc: Global, arms: &[Arm], env: &mut Vec<Value>) -> Result<Option<Vec<Value>>, Stop>
+    ensures told { TellsFound result (arms_reached (arm_trees arms.now) (plains env.old.items)) }
+    ensures fit { IfOk result IsFoundFit }
+    ensures kept { OnOk result (env.new.items ≡ env.old.items) }
+{
+    for i in 0..arms.len() {
+        let found = eval_arm(alloc, &arms[i], env)?;
+        if found.is_some() {
+            return Ok(found);
+        }
+    }
+    Ok(None)
+}
+
+// What the arm gives at the first tuple at which its needs hold. A count that stands still at its
+// end is that of no target; after so many tuples this answers want of memory.
+#[cycle(eval)]
+fn eval_arm(alloc: Global, arm: &Arm, env: &mut Vec<Value>) -> Result<Option<Vec<Value>>, Stop>
+    ensures told { TellsFound result (arm_reached (arm_tree arm.now) (plains env.old.items)) }
+    ensures fit { IfOk result IsFoundFit }
+    ensures kept { OnOk result (env.new.items ≡ env.old.items) }
+{
+    let size = env.len();
+    let count = count_of(&arm.bounds);
+    for index in 0..count {
+        push_tuple(&arm.bounds, index, env)?;
+        let found = try_arm(alloc, arm, env)?;
+        env.truncate(size);
+        if found.is_some() {
+            return Ok(found);
+        }
+    }
+    if count == u64::MAX {
+        return Err(Stop::Memory);
+    }
+    Ok(None)
+}
+
+// What the arm gives at the search values that stand last, if its needs hold there. It leaves its
+// lets behind.
+#[cycle(eval)]
+fn try_arm(alloc: Global, arm: &Arm, env: &mut Vec<Value>) -> Result<Option<Vec<Value>>, Stop>
+    ensures told { TellsFound result (try_reached (arm_tree arm.now) (plains env.old.items)) }
+    ensures fit { IfOk result IsFoundFit }
+    ensures kept { OnOk result (Extends env.old.items env.new.items) }
+{
+    if !run_items(alloc, &arm.items, env)? {
+        return Ok(None);
+    }
+    let all = eval_all(alloc, &arm.gives, env)?;
+    Ok(Some(all))
+}
+
+// Whether all needs hold, up to the first that fails.
+#[cycle(eval)]
+fn run_items(alloc: Global, items: &[Item], env: &mut Vec<Value>) -> Result<bool, Stop>
+    ensures told { TellsItems result (plains env.new.items) (items_reached (item_trees items.now) (plains env.old.items)) }
+    ensures kept { OnOk result (Extends env.old.items env.new.items) }
+{
+    for i in 0..items.len() {
+        if !run_item(alloc, &items[i], env)? {
+            return Ok(false);
+        }
+    }
+    Ok(true)
+}
+
+#[cycle(eval)]
+fn run_item(alloc: Global, item: &Item, env: &mut Vec<Value>) -> Result<bool, Stop>
+    ensures told { TellsItems result (plains env.new.items) (item_reached (item_tree item.now) (plains env.old.items)) }
+    ensures kept { OnOk result (Extends env.old.items env.new.items) }
+{
+    match item {
+        Item::Let(code) => {
+            let more = eval(alloc, code, env)?;
+            more.append_to(env)?;
+            Ok(true)
+        }
+        Item::Need(code) => eval_truth(alloc, code, env),
+    }
+}

@@ -1,0 +1,47 @@
+// Search values: the tuples below the bounds of an arm.
+ghost use Rattle.std.specs.Prelude.{◌≡◌, ◌++◌, ◌∷◌, [], ◌<◌, ◌-◌, ◌^◌, IfErr, OnOk, pos};
+ghost use Rattle.cf_tree.specs.Meaning.{count_below, tuple_at};
+ghost use Rattle.cf_eval.specs.Seen.{plains};
+ghost use Rattle.cf_eval.specs.Tells.{BindsAll, Extends, capped};
+
+use crate::given::Stop;
+use crate::value::Value;
+
+// How many tuples lie below the bounds. The arms of a target have at most 1,048,576, so it never
+// stands still there.
+pub fn count_of(bounds: &[u32]) -> u64
+    ensures { result ≡ capped (count_below bounds.now) }
+{
+    match bounds.split_first() {
+        None => 1,
+        Some((bound, others)) => u64::from(*bound).saturating_mul(count_of(others)),
+    }
+}
+
+// Binds the tuple of that number, in lexicographic order. A stride that is too great to be kept
+// passes the index, as the one that is kept does.
+pub fn push_tuple(bounds: &[u32], index: u64, env: &mut Vec<Value>) -> Result<(), Stop>
+    requires index_in { index < count_below bounds.now }
+    requires index_low { index < 2 ^ 64 - 1 }
+    ensures ok { OnOk result (Extends env.old.items env.new.items) }
+    ensures bound { OnOk result (BindsAll (tuple_at bounds.now index) (plains env.old.items) (plains env.new.items)) }
+    ensures err { IfErr result (λ e. e ≡ Stop.Memory) }
+{
+    match bounds.split_first() {
+        None => Ok(()),
+        Some((_, others)) => {
+            let stride = count_of(others);
+            push_number(index / stride, env)?;
+            push_tuple(others, index % stride, env)?;
+            Ok(())
+        }
+    }
+}
+
+fn push_number(k: u64, env: &mut Vec<Value>) -> Result<(), Stop>
+    ensures ok { OnOk result (env.new.items ≡ env.old.items ++ (Value.Int (pos k) ∷ [])) }
+    ensures err { IfErr result (λ e. e ≡ Stop.Memory) }
+{
+    env.push(Value::Int(i128::from(k)))?;
+    Ok(())
+}
