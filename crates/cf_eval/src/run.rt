@@ -29,8 +29,8 @@ pub fn run(alloc: Global, target: &Target, values: &[Value]) -> Result<Outcome, 
     run_code(alloc, target.body(), values)
 }
 
-// The same of a code, whose variables have these values.
-pub(crate) fn run_code(alloc: Global, code: &Code, values: &[Value]) -> Result<Outcome, NoMemory>
+/// The same of code that stands in no target, where its variables have these values by level.
+pub fn run_code(alloc: Global, code: &Code, values: &[Value]) -> Result<Outcome, NoMemory>
     ensures { IfOk result (Answers (code_tree code.now) (plains values.now)) }
 {
     let mut env = copy_values(alloc, values)?;
