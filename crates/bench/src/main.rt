@@ -1,0 +1,63 @@
+//! What `bench/run` times: the reader of tokens, and the interpreter. Without a word it names what it times.
+#![tactic(auto)]
+
+mod codes;
+
+use anyhow::{Result, anyhow};
+use cf_eval::run::run_code;
+use cf_eval::value::{Outcome, Value};
+use cf_lex::tokens;
+use cf_tree::code::Code;
+use cf_tree::memory::NoMemory;
+use std::alloc::Global;
+use std::env;
+use std::io::Read;
+
+// How many bytes of a text are read at most.
+const LIMIT: u64 = 1073741824;
+
+fn main(rt: HostRuntime) -> Result<()> {
+    let alloc = rt.alloc();
+    let mut words = env::args(&rt)?;
+    let word = words.nth(1);
+    let count = match word.as_deref() {
+        Some("tokens") => count_tokens(&rt)?,
+        Some("seconds") => runs(alloc, codes::seconds(alloc), 200000)?,
+        Some("search") => runs(alloc, codes::search(alloc), 1000)?,
+        _ => {
+            println!(rt; "tokens < FILE, seconds, search")?;
+            return Ok(());
+        }
+    };
+    println!(rt; "{count}")?;
+    Ok(())
+}
+
+// The number of tokens of the standard input.
+fn count_tokens(rt: &HostRuntime) -> Result<usize> {
+    let mut text = Vec::new(rt.alloc());
+    rt.stdin().take(LIMIT).read_to_end(&mut text)?;
+    if text.len() >= 4294967295 {
+        return Err(anyhow!("the text is too long"));
+    }
+    match tokens(rt.alloc(), &text) {
+        Ok(list) => Ok(list.list.len()),
+        Err(_) => Err(anyhow!("no tokens")),
+    }
+}
+
+// How many of so many runs give values, on the numbers from 0 on.
+fn runs(alloc: Global, code: std::result::Result<Code, NoMemory>, times: u32) -> Result<usize> {
+    let Ok(code) = code else {
+        return Err(anyhow!("no memory"));
+    };
+    let mut given: usize = 0;
+    for i in 0..times {
+        let mut values = Vec::new(alloc);
+        values.push(Value::Int(i128::from(i % 86400)))?;
+        if let Ok(Outcome::Values(_)) = run_code(alloc, &code, &values) {
+            given = given.saturating_add(1);
+        }
+    }
+    Ok(given)
+}
