@@ -1,4 +1,4 @@
-//! What `bench/run` times: the reader of tokens, and the interpreter. Without a word it names what it times.
+//! What `bench/run` times: the readers of tokens and of programs, and the interpreter. Without a word it names what it times.
 #![tactic(auto)]
 
 mod codes;
@@ -6,7 +6,8 @@ mod codes;
 use anyhow::{Result, anyhow};
 use cf_eval::run::run_code;
 use cf_eval::value::{Outcome, Value};
-use cf_lex::tokens;
+use cf_lex::{TokenList, tokens};
+use cf_parse::program;
 use cf_tree::code::Code;
 use cf_tree::memory::NoMemory;
 use std::alloc::Global;
@@ -21,11 +22,12 @@ fn main(rt: HostRuntime) -> Result<()> {
     let mut words = env::args(&rt)?;
     let word = words.nth(1);
     let count = match word.as_deref() {
-        Some("tokens") => count_tokens(&rt)?,
+        Some("tokens") => source_tokens(&rt)?.list.len(),
+        Some("program") => count_functions(&rt)?,
         Some("seconds") => runs(alloc, codes::seconds(alloc), 200000)?,
         Some("search") => runs(alloc, codes::search(alloc), 1000)?,
         _ => {
-            println!(rt; "tokens < FILE, seconds, search")?;
+            println!(rt; "tokens < FILE, program < FILE, seconds, search")?;
             return Ok(());
         }
     };
@@ -33,16 +35,25 @@ fn main(rt: HostRuntime) -> Result<()> {
     Ok(())
 }
 
-// The number of tokens of the standard input.
-fn count_tokens(rt: &HostRuntime) -> Result<usize> {
+// The tokens of the standard input.
+fn source_tokens(rt: &HostRuntime) -> Result<TokenList> {
     let mut text = Vec::new(rt.alloc());
     rt.stdin().take(LIMIT).read_to_end(&mut text)?;
     if text.len() >= 4294967295 {
         return Err(anyhow!("the text is too long"));
     }
     match tokens(rt.alloc(), &text) {
-        Ok(list) => Ok(list.list.len()),
+        Ok(list) => Ok(list),
         Err(_) => Err(anyhow!("no tokens")),
+    }
+}
+
+// The number of functions of the program on the standard input.
+fn count_functions(rt: &HostRuntime) -> Result<usize> {
+    let list = source_tokens(rt)?;
+    match program(rt.alloc(), &list) {
+        Ok(program) => Ok(program.defs.len()),
+        Err(_) => Err(anyhow!("no program")),
     }
 }
 

@@ -1,0 +1,15 @@
+use Rattle.std.proofs.Common.{rules, arith}
+use Rattle.std.proofs.lemmas.Result.{err_from_is_err_and}
+use Rattle.cf_parse.specs.Readers.{must, others_of}
+use Rattle.cf_parse.specs.Reading.{snoc, a_base}
+use Rattle.cf_parse.proofs.Steps.{more_fails, more_next}
+use Rattle.cf_parse.proofs.lists.more_results.Goals as goal
+
+pub returns-in_err-x-in-Some : goal.returns-in_err-x-in-Some
+unfolding others_of
+returns-in_err-x-in-Some c =
+    let p = err_from_is_err_and c.from_residual.result c.from_residual.ensures.1 in
+    rw (p.1, p.2, ← c.loop.invariant) (more_fails snoc (must a_base) _ _ _ _ _ _ _ _ c.in-Some.ensures c.in_err-x-in-Some.ensures (omega arith))
+
+pub loop-preserved : goal.loop-preserved
+loop-preserved c = more_next snoc (must a_base) _ _ _ _ _ _ _ _ _ _ _ _ c.in-Some.ensures c.in_ok-x-in-Some.ensures (omega arith) (search rules) c.loop.invariant

@@ -1,0 +1,37 @@
+use Rattle.std.proofs.Common.{refl, arith}
+use Rattle.std.proofs.lemmas.Result.{err_from_is_err_and}
+use Rattle.cf_parse.specs.declared.level.Level.TheVariants.{Whole}
+use Rattle.cf_parse.specs.Readers.{others_of}
+use Rattle.cf_parse.specs.Reading.{snoc, arm_of, read}
+use Rattle.cf_parse.proofs.Steps.{more_fails, more_next, ok_same}
+use Rattle.cf_parse.proofs.reading.+reading.Goals as goal
+
+pub more-returns-in_err-e-in-Some-clause-value : goal.more-returns-in_err-e-in-Some-clause-value
+unfolding others_of
+more-returns-in_err-e-in-Some-clause-value t c =
+    let p = err_from_is_err_and c.from_residual.result c.from_residual.ensures.1 in
+    rw (p.1, p.2, ← c.loop.invariant.1) (more_fails snoc (read c.args.n Whole) _ _ _ _ _ _ _ _ c.in-Some.ensures c.in_err-e-in-Some.ensures.value (omega arith))
+
+pub more-loop-preserved : goal.more-loop-preserved
+more-loop-preserved t c =
+    let deep = c.in_ok-done-in-Some.ensures.deep in
+    let e_deep = c.in_ok-e-in-Some.ensures.deep in
+    let before = c.loop.invariant.0 in (
+      omega (arith, deep, e_deep, before),
+      more_next snoc (read c.args.n Whole) _ _ _ _ _ _ _ _ _ _ _ _ c.in-Some.ensures c.in_ok-e-in-Some.ensures.value (omega arith) (ok_same _ _ _ refl c.in_ok-done-in-Some.ensures.value) c.loop.invariant.1,
+    )
+
+pub more_arms-returns-in_err-x-in-Some-clause-value : goal.more_arms-returns-in_err-x-in-Some-clause-value
+unfolding others_of
+more_arms-returns-in_err-x-in-Some-clause-value t c =
+    let p = err_from_is_err_and c.from_residual.result c.from_residual.ensures.1 in
+    rw (p.1, p.2, ← c.loop.invariant.1) (more_fails snoc (arm_of (read c.args.n)) _ _ _ _ _ _ _ _ c.in-Some.ensures c.in_err-x-in-Some.ensures.value (omega arith))
+
+pub more_arms-loop-preserved : goal.more_arms-loop-preserved
+more_arms-loop-preserved t c =
+    let deep = c.in_ok-done-in-Some.ensures.deep in
+    let e_deep = c.in_ok-x-in-Some.ensures.deep in
+    let before = c.loop.invariant.0 in (
+      omega (arith, deep, e_deep, before),
+      more_next snoc (arm_of (read c.args.n)) _ _ _ _ _ _ _ _ _ _ _ _ c.in-Some.ensures c.in_ok-x-in-Some.ensures.value (omega arith) (ok_same _ _ _ refl c.in_ok-done-in-Some.ensures.value) c.loop.invariant.1,
+    )

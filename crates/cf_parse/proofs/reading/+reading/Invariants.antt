@@ -1,0 +1,97 @@
+use Rattle.std.proofs.Common.{◌≡◌, ◌≤◌, ◌+◌, ◌*◌, ◌-◌, length, map}
+use Rattle.std.specs.Prelude.{codes}
+use Rattle.cf_lex.specs.declared.token.TokenKind.TheVariants.{Sign}
+use Rattle.cf_tree.specs.RawView.{raw_tree, raw_arm_tree}
+use Rattle.cf_parse.specs.declared.level.Level.TheVariants.{Whole}
+use Rattle.cf_parse.specs.Readers.{more_of}
+use Rattle.cf_parse.specs.Reading.{snoc, read, chain_of, arm_of}
+use Rattle.cf_parse.proofs.reading.+reading.Given as goal
+
+abbrev pub decreases-part : goal.decreases-part
+decreases-part l = 32 * l.n
+
+abbrev pub decreases-whole : goal.decreases-whole
+decreases-whole l = 32 * l.n + 31
+
+abbrev pub decreases-ors : goal.decreases-ors
+decreases-ors l = 32 * l.n + 30
+
+abbrev pub decreases-ands : goal.decreases-ands
+decreases-ands l = 32 * l.n + 29
+
+abbrev pub decreases-cmps : goal.decreases-cmps
+decreases-cmps l = 32 * l.n + 28
+
+abbrev pub decreases-sums : goal.decreases-sums
+decreases-sums l = 32 * l.n + 26
+
+abbrev pub decreases-muls : goal.decreases-muls
+decreases-muls l = 32 * l.n + 25
+
+abbrev pub decreases-unary : goal.decreases-unary
+decreases-unary l = 32 * l.n + 24
+
+abbrev pub decreases-atom : goal.decreases-atom
+decreases-atom l = 32 * l.n + 23
+
+abbrev pub decreases-word : goal.decreases-word
+decreases-word l = 32 * l.n + 22
+
+abbrev pub decreases-name_or_call : goal.decreases-name_or_call
+decreases-name_or_call l = 32 * l.n + 21
+
+abbrev pub decreases-items : goal.decreases-items
+decreases-items l = 32 * l.n + 20
+
+abbrev pub decreases-list : goal.decreases-list
+decreases-list l = 32 * l.n + 19
+
+abbrev pub decreases-match_with : goal.decreases-match_with
+decreases-match_with l = 32 * l.n + 5
+
+abbrev pub decreases-arm : goal.decreases-arm
+decreases-arm l = 32 * l.n + 1
+
+abbrev pub decreases-more_arms : goal.decreases-more_arms
+decreases-more_arms l = 32 * l.n + 2
+
+abbrev pub decreases-inside : goal.decreases-inside
+decreases-inside l = 32 * l.n + 1
+
+abbrev pub decreases-divided : goal.decreases-divided
+decreases-divided l = 32 * l.n + 1
+
+abbrev pub decreases-let_in : goal.decreases-let_in
+decreases-let_in l = 32 * l.n + 1
+
+abbrev pub decreases-if_else : goal.decreases-if_else
+decreases-if_else l = 32 * l.n + 1
+
+abbrev pub decreases-choose : goal.decreases-choose
+decreases-choose l = 32 * l.n + 1
+
+abbrev pub decreases-compared : goal.decreases-compared
+decreases-compared l = 32 * l.n + 1
+
+abbrev pub decreases-chain : goal.decreases-chain
+decreases-chain l = 32 * l.n + 1
+
+abbrev pub decreases-more : goal.decreases-more
+decreases-more l = 32 * l.n + 1
+
+abbrev pub invariant-chain-loop : goal.invariant-chain-loop
+invariant-chain-loop l =
+    (l.left.depth ≤ l.n + 1)
+    × (chain_of (read l.n) l.level l.n (l.n - l.counter) (raw_tree l.left.raw) l.rest ≡ chain_of (read l.n) l.level l.n l.n (raw_tree l.fn.first.raw) l.fn.tokens)
+
+abbrev pub invariant-more-loop : goal.invariant-more-loop
+invariant-more-loop l =
+    (l.done.depth ≤ l.n)
+    × (more_of snoc (read l.n Whole) (Sign (codes ",")) (Sign l.close) (length l.fn.tokens - l.counter) (map raw_tree l.done.trees.items) l.rest
+    ≡ more_of snoc (read l.n Whole) (Sign (codes ",")) (Sign l.close) (length l.fn.tokens) (map raw_tree l.fn.first.trees.items) l.fn.tokens)
+
+abbrev pub invariant-more_arms-loop : goal.invariant-more_arms-loop
+invariant-more_arms-loop l =
+    (l.done.depth ≤ l.n)
+    × (more_of snoc (arm_of (read l.n)) (Sign (codes ";")) (Sign (codes "}")) (length l.fn.tokens - l.counter) (map raw_arm_tree l.done.arms.items) l.rest
+    ≡ more_of snoc (arm_of (read l.n)) (Sign (codes ";")) (Sign (codes "}")) (length l.fn.tokens) (map raw_arm_tree l.fn.first.arms.items) l.fn.tokens)

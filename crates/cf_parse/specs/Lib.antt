@@ -1,0 +1,6 @@
+pub mod Tokens
+pub mod Readers
+pub mod Spelling
+pub mod Reading
+pub mod Gives
+pub mod Programs

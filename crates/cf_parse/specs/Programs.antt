@@ -1,0 +1,95 @@
+-- Programs, and what the reader of a program answers.
+use Rattle.std.specs.Prelude.{◌≡◌, ◌≤◌, ◌⊎◌, ℕ, zero, suc, ◌-◌, List, [], ◌∷◌, ◌++◌, length, drop, Result, Ok, Err, codes}
+use Rattle.cf_lex.specs.declared.token.Token.{Token}
+use Rattle.cf_lex.specs.declared.token.TokenKind.TheVariants.{Word, Sign}
+use Rattle.cf_tree.specs.declared.base.Place.{Place}
+use Rattle.cf_tree.specs.declared.raw.Param.{Param}
+use Rattle.cf_tree.specs.declared.raw.Program.{Program}
+use Rattle.cf_tree.specs.RawTree.{raw_depth}
+use Rattle.cf_tree.specs.DefView.{RawDefTree, program_tree}
+use Rattle.cf_parse.specs.declared.level.Level.TheVariants.{Whole}
+use Rattle.cf_parse.specs.declared.fault.ParseFault.{ParseFault}
+use Rattle.cf_parse.specs.declared.fault.ParseFault.TheVariants.{Syntax, NoMemory}
+use Rattle.cf_parse.specs.Tokens.{First, Next, FirstName, Several, OneOrTuple}
+use Rattle.cf_parse.specs.Spelling.{SpellsParam, SpellsBase, Spells}
+use Rattle.cf_parse.specs.Readers.{Reader, is, a_name, pure, must, ◌>>=◌, at_end}
+use Rattle.cf_parse.specs.Reading.{snoc, params_of, results_of, read}
+
+-- [ param { "," param } ] ")"
+abbrev pub SpellsParams : List Param → List Token → List Token → Type 0
+SpellsParams [] ts rest = Next (Sign (codes ")")) ts rest
+SpellsParams (x ∷ xs) ts rest = Several SpellsParam (Sign (codes ",")) (Sign (codes ")")) (x ∷ xs) ts rest
+
+-- def = "def" name "(" [ param { "," param } ] ")" ":" results "=" expr, with a body of at most this depth
+abbrev pub SpellsDef : ℕ → RawDefTree → List Token → List Token → Type 0
+SpellsDef limit d ts rest =
+    (a b c e f g h : List Token) × First d.place (Word (codes "def")) ts a × ((q : Place) × FirstName q d.name a b) × Next (Sign (codes "(")) b c
+    × SpellsParams d.params c e × Next (Sign (codes ":")) e f × OneOrTuple SpellsBase d.results f g × Next (Sign (codes "=")) g h
+    × Spells d.body h rest × (raw_depth d.body ≤ limit)
+
+-- { def }, up to the end
+abbrev pub SpellsDefs : ℕ → List RawDefTree → List Token → Type 0
+SpellsDefs limit [] ts = ts ≡ []
+SpellsDefs limit (d ∷ ds) ts = (a : List Token) × SpellsDef limit d ts a × SpellsDefs limit ds a
+
+-- program = def { def }
+abbrev pub SpellsProgram : ℕ → List RawDefTree → List Token → Type 0
+SpellsProgram limit [] ts = ⊥
+SpellsProgram limit (d ∷ ds) ts = SpellsDefs limit (d ∷ ds) ts
+
+-- the tokens spell the program, and the depth of each body is within the limit
+abbrev pub IsProgram : List RawDefTree → List Token → Type 0
+IsProgram ds ts = SpellsProgram 200 ds ts
+
+-- behind the word def
+unfoldable pub def_from : ℕ → Place → Reader RawDefTree
+def_from limit p = do
+  x ← must a_name
+  _ ← must (is (Sign (codes "(")))
+  params ← params_of
+  _ ← must (is (Sign (codes ":")))
+  results ← results_of
+  _ ← must (is (Sign (codes "=")))
+  e ← read limit Whole
+  pure (record { place = p; name = x.1; params = params; results = results; body = e })
+
+unfoldable pub def_of : ℕ → Reader RawDefTree
+def_of limit = must (is (Word (codes "def"))) >>= λ p. def_from limit p
+
+-- the functions from here on, behind those read before
+unfoldable pub defs_of : ℕ → ℕ → List RawDefTree → Reader (List RawDefTree)
+defs_of limit zero done = at_end done (λ ts. Err 0)
+defs_of limit (suc fuel) done = at_end done (def_of limit >>= λ d. defs_of limit fuel (snoc done d))
+
+unfoldable pub all_defs : ℕ → List RawDefTree → Reader (List RawDefTree)
+all_defs limit done ts = defs_of limit (length ts) done ts
+
+-- the whole of the tokens
+unfoldable pub program_of : ℕ → Reader (List RawDefTree)
+program_of limit = def_of limit >>= λ d. all_defs limit (d ∷ [])
+
+-- the answer is this program, or memory ran out
+abbrev pub Reads : List RawDefTree → Result Program ParseFault → Type 0
+Reads ds (Ok x) = program_tree x ≡ ds
+Reads ds (Err NoMemory) = Unit {0}
+Reads ds (Err (Syntax p)) = ⊥
+
+-- no program begins with these tokens and this one behind them
+abbrev pub IsDead : List Token → Token → Type 0
+IsDead front t = (other : List Token) (ds : List RawDefTree) → IsProgram ds (front ++ t ∷ other) → ⊥
+
+-- the place of a token up to and with which no program begins, or the end
+abbrev pub IsFaultPlace : List Token → Place → Place → Type 0
+IsFaultPlace ts end p = (p ≡ end) ⊎ ((front : List Token) × (t : Token) × (more : List Token) × (ts ≡ front ++ t ∷ more) × (p ≡ t.place) × IsDead front t)
+
+abbrev pub IsFault : List Token → Place → ParseFault → Type 0
+IsFault ts end NoMemory = Unit {0}
+IsFault ts end (Syntax p) = IsFaultPlace ts end p
+
+abbrev pub first_place : List Token → Place → Place
+first_place [] end = end
+first_place (t ∷ ts) end = t.place
+
+-- the place where so many tokens are left
+unfoldable pub place_of : List Token → Place → ℕ → Place
+place_of ts end left = first_place (drop (length ts - left) ts) end

@@ -1,0 +1,20 @@
+//! Levels of the grammar.
+
+/// How tightly a form binds, from the loosest to the tightest.
+#[derive(Clone, Copy, Debug, PartialEq, Eq)]
+pub enum Level {
+    /// Any expression.
+    Whole,
+    /// Joined by `||`.
+    Ors,
+    /// Joined by `&&`.
+    Ands,
+    /// At most one comparison, or `divides`.
+    Cmps,
+    /// Joined by `+`, `-`, `union` or `diff`.
+    Sums,
+    /// Joined by `*` or `inter`.
+    Muls,
+    /// Behind signs, or by itself.
+    Unary,
+}

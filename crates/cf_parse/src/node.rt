@@ -1,0 +1,411 @@
+//! Makes trees of their parts.
+ghost use Rattle.std.specs.Prelude.{◌≡◌, ◌≤◌, ◌<◌, ◌+◌, ◌^◌, ◌∷◌, ◌++◌, [], IfOk, Ok, map, max};
+ghost use Rattle.cf_tree.specs.RawTree.{raw_lit, raw_truth, raw_name, raw_set_of, raw_neg, raw_not, raw_abs, raw_binary, raw_divides, raw_div, raw_mod, raw_card, raw_call, raw_if, raw_let, raw_choose, raw_match, raw_arm, raws_of, raw_arms_of};
+ghost use Rattle.cf_tree.specs.RawView.{raw_tree, raw_arm_tree};
+ghost use Rattle.cf_parse.specs.Gives.{Gives};
+ghost use Rattle.cf_parse.specs.Reading.{grouped as grouped_of};
+
+use crate::lists::Names;
+use crate::part::{Measured, MeasuredArm, MeasuredArms, MeasuredList};
+use crate::pattern::Pattern;
+use crate::stop::Stop;
+use cf_tree::base::{Place, Text};
+use cf_tree::raw::{BinOp, Param, Raw, RawArm, RawNode};
+use std::alloc::Global;
+
+pub fn literal(place: Place, k: i128) -> Measured
+    ensures value { raw_tree result.raw ≡ raw_lit place k }
+    ensures deep { result.depth ≡ 1 }
+{
+    Measured {
+        raw: Raw {
+            place,
+            node: RawNode::Lit(k),
+        },
+        depth: 1,
+    }
+}
+
+pub fn truth(place: Place, t: bool) -> Measured
+    ensures value { raw_tree result.raw ≡ raw_truth place t }
+    ensures deep { result.depth ≡ 1 }
+{
+    Measured {
+        raw: Raw {
+            place,
+            node: RawNode::Truth(t),
+        },
+        depth: 1,
+    }
+}
+
+pub fn name(place: Place, x: Text) -> Measured
+    ensures value { raw_tree result.raw ≡ raw_name place x }
+    ensures deep { result.depth ≡ 1 }
+{
+    Measured {
+        raw: Raw {
+            place,
+            node: RawNode::Name(x),
+        },
+        depth: 1,
+    }
+}
+
+pub fn set_of(place: Place, list: MeasuredList) -> Measured
+    requires { list.depth < 2 ^ 31 }
+    ensures value { raw_tree result.raw ≡ raw_set_of place (raws_of (map raw_tree list.trees.items)) }
+    ensures deep { result.depth ≡ 1 + list.depth }
+{
+    Measured {
+        raw: Raw {
+            place,
+            node: RawNode::SetOf(list.trees),
+        },
+        depth: 1 + list.depth,
+    }
+}
+
+pub fn call(place: Place, x: Text, list: MeasuredList) -> Measured
+    requires { list.depth < 2 ^ 31 }
+    ensures value { raw_tree result.raw ≡ raw_call place x (raws_of (map raw_tree list.trees.items)) }
+    ensures deep { result.depth ≡ 1 + list.depth }
+{
+    Measured {
+        raw: Raw {
+            place,
+            node: RawNode::Call {
+                name: x,
+                args: list.trees,
+            },
+        },
+        depth: 1 + list.depth,
+    }
+}
+
+pub fn neg(alloc: Global, place: Place, e: Measured) -> Result<Measured, Stop>
+    requires { e.depth < 2 ^ 31 }
+    ensures value { Gives (λ x. raw_tree x.raw) result (Ok (raw_neg place (raw_tree e.raw))) }
+    ensures deep { IfOk result (λ x. x.depth ≡ 1 + e.depth) }
+{
+    let depth = 1 + e.depth;
+    let e = Box::new(alloc, e.raw)?;
+    Ok(Measured {
+        raw: Raw {
+            place,
+            node: RawNode::Neg(e),
+        },
+        depth,
+    })
+}
+
+pub fn not(alloc: Global, place: Place, e: Measured) -> Result<Measured, Stop>
+    requires { e.depth < 2 ^ 31 }
+    ensures value { Gives (λ x. raw_tree x.raw) result (Ok (raw_not place (raw_tree e.raw))) }
+    ensures deep { IfOk result (λ x. x.depth ≡ 1 + e.depth) }
+{
+    let depth = 1 + e.depth;
+    let e = Box::new(alloc, e.raw)?;
+    Ok(Measured {
+        raw: Raw {
+            place,
+            node: RawNode::Not(e),
+        },
+        depth,
+    })
+}
+
+pub fn abs(alloc: Global, place: Place, e: Measured) -> Result<Measured, Stop>
+    requires { e.depth < 2 ^ 31 }
+    ensures value { Gives (λ x. raw_tree x.raw) result (Ok (raw_abs place (raw_tree e.raw))) }
+    ensures deep { IfOk result (λ x. x.depth ≡ 1 + e.depth) }
+{
+    let depth = 1 + e.depth;
+    let e = Box::new(alloc, e.raw)?;
+    Ok(Measured {
+        raw: Raw {
+            place,
+            node: RawNode::Abs(e),
+        },
+        depth,
+    })
+}
+
+pub fn card(alloc: Global, place: Place, e: Measured) -> Result<Measured, Stop>
+    requires { e.depth < 2 ^ 31 }
+    ensures value { Gives (λ x. raw_tree x.raw) result (Ok (raw_card place (raw_tree e.raw))) }
+    ensures deep { IfOk result (λ x. x.depth ≡ 1 + e.depth) }
+{
+    let depth = 1 + e.depth;
+    let e = Box::new(alloc, e.raw)?;
+    Ok(Measured {
+        raw: Raw {
+            place,
+            node: RawNode::Card(e),
+        },
+        depth,
+    })
+}
+
+pub fn divides(alloc: Global, place: Place, k: i128, e: Measured) -> Result<Measured, Stop>
+    requires { e.depth < 2 ^ 31 }
+    ensures value { Gives (λ x. raw_tree x.raw) result (Ok (raw_divides place k (raw_tree e.raw))) }
+    ensures deep { IfOk result (λ x. x.depth ≡ 1 + e.depth) }
+{
+    let depth = 1 + e.depth;
+    let e = Box::new(alloc, e.raw)?;
+    Ok(Measured {
+        raw: Raw {
+            place,
+            node: RawNode::Divides { k, of: e },
+        },
+        depth,
+    })
+}
+
+pub fn div(alloc: Global, place: Place, e: Measured, k: i128) -> Result<Measured, Stop>
+    requires { e.depth < 2 ^ 31 }
+    ensures value { Gives (λ x. raw_tree x.raw) result (Ok (raw_div place (raw_tree e.raw) k)) }
+    ensures deep { IfOk result (λ x. x.depth ≡ 1 + e.depth) }
+{
+    let depth = 1 + e.depth;
+    let e = Box::new(alloc, e.raw)?;
+    Ok(Measured {
+        raw: Raw {
+            place,
+            node: RawNode::Div { of: e, k },
+        },
+        depth,
+    })
+}
+
+pub fn modulo(alloc: Global, place: Place, e: Measured, k: i128) -> Result<Measured, Stop>
+    requires { e.depth < 2 ^ 31 }
+    ensures value { Gives (λ x. raw_tree x.raw) result (Ok (raw_mod place (raw_tree e.raw) k)) }
+    ensures deep { IfOk result (λ x. x.depth ≡ 1 + e.depth) }
+{
+    let depth = 1 + e.depth;
+    let e = Box::new(alloc, e.raw)?;
+    Ok(Measured {
+        raw: Raw {
+            place,
+            node: RawNode::Mod { of: e, k },
+        },
+        depth,
+    })
+}
+
+pub fn choose(
+    alloc: Global,
+    place: Place,
+    outputs: Vec<Param>,
+    e: Measured,
+) -> Result<Measured, Stop>
+    requires { e.depth < 2 ^ 31 }
+    ensures value { Gives (λ x. raw_tree x.raw) result (Ok (raw_choose place outputs.items (raw_tree e.raw))) }
+    ensures deep { IfOk result (λ x. x.depth ≡ 1 + e.depth) }
+{
+    let depth = 1 + e.depth;
+    let e = Box::new(alloc, e.raw)?;
+    Ok(Measured {
+        raw: Raw {
+            place,
+            node: RawNode::Choose { outputs, rel: e },
+        },
+        depth,
+    })
+}
+
+pub fn binary(
+    alloc: Global,
+    place: Place,
+    op: BinOp,
+    left: Measured,
+    right: Measured,
+) -> Result<Measured, Stop>
+    requires left_in { left.depth < 2 ^ 31 }
+    requires right_in { right.depth < 2 ^ 31 }
+    ensures value { Gives (λ x. raw_tree x.raw) result (Ok (raw_binary place op (raw_tree left.raw) (raw_tree right.raw))) }
+    ensures deep { IfOk result (λ x. x.depth ≡ 1 + max left.depth right.depth) }
+{
+    let depth = 1 + left.depth.max(right.depth);
+    let left = Box::new(alloc, left.raw)?;
+    let right = Box::new(alloc, right.raw)?;
+    Ok(Measured {
+        raw: Raw {
+            place,
+            node: RawNode::Binary { op, left, right },
+        },
+        depth,
+    })
+}
+
+pub fn if_else(
+    alloc: Global,
+    place: Place,
+    test: Measured,
+    yes: Measured,
+    no: Measured,
+) -> Result<Measured, Stop>
+    requires test_in { test.depth < 2 ^ 31 }
+    requires yes_in { yes.depth < 2 ^ 31 }
+    requires no_in { no.depth < 2 ^ 31 }
+    ensures value { Gives (λ x. raw_tree x.raw) result (Ok (raw_if place (raw_tree test.raw) (raw_tree yes.raw) (raw_tree no.raw))) }
+    ensures deep { IfOk result (λ x. x.depth ≡ 1 + max test.depth (max yes.depth no.depth)) }
+{
+    let depth = 1 + test.depth.max(yes.depth.max(no.depth));
+    let test = Box::new(alloc, test.raw)?;
+    let yes = Box::new(alloc, yes.raw)?;
+    let no = Box::new(alloc, no.raw)?;
+    Ok(Measured {
+        raw: Raw {
+            place,
+            node: RawNode::If { test, yes, no },
+        },
+        depth,
+    })
+}
+
+pub fn let_in(
+    alloc: Global,
+    place: Place,
+    names: Names,
+    value: Measured,
+    body: Measured,
+) -> Result<Measured, Stop>
+    requires value_in { value.depth < 2 ^ 31 }
+    requires body_in { body.depth < 2 ^ 31 }
+    ensures value { Gives (λ x. raw_tree x.raw) result (Ok (raw_let place names.names.items names.places.items (raw_tree value.raw) (raw_tree body.raw))) }
+    ensures deep { IfOk result (λ x. x.depth ≡ 1 + max value.depth body.depth) }
+{
+    let depth = 1 + value.depth.max(body.depth);
+    let value = Box::new(alloc, value.raw)?;
+    let body = Box::new(alloc, body.raw)?;
+    Ok(Measured {
+        raw: Raw {
+            place,
+            node: RawNode::Let {
+                names: names.names,
+                places: names.places,
+                value,
+                body,
+            },
+        },
+        depth,
+    })
+}
+
+pub fn match_with(
+    alloc: Global,
+    place: Place,
+    of: Measured,
+    arms: MeasuredArms,
+) -> Result<Measured, Stop>
+    requires of_in { of.depth < 2 ^ 31 }
+    requires arms_in { arms.depth < 2 ^ 31 }
+    ensures value { Gives (λ x. raw_tree x.raw) result (Ok (raw_match place (raw_tree of.raw) (raw_arms_of (map raw_arm_tree arms.arms.items)))) }
+    ensures deep { IfOk result (λ x. x.depth ≡ 1 + max of.depth arms.depth) }
+{
+    let depth = 1 + of.depth.max(arms.depth);
+    let of = Box::new(alloc, of.raw)?;
+    Ok(Measured {
+        raw: Raw {
+            place,
+            node: RawNode::Match {
+                of,
+                arms: arms.arms,
+            },
+        },
+        depth,
+    })
+}
+
+/// One tree in parentheses, or two or more.
+pub fn grouped(alloc: Global, place: Place, list: MeasuredList) -> Result<Measured, Stop>
+    requires { list.depth < 2 ^ 31 }
+    ensures value { Gives (λ x. raw_tree x.raw) result (Ok (grouped_of place (map raw_tree list.trees.items))) }
+    ensures deep { IfOk result (λ x. x.depth ≡ 1 + list.depth) }
+{
+    let depth = 1 + list.depth;
+    let mut trees = list.trees;
+    if trees.len() == 1 {
+        if let Some(e) = trees.pop() {
+            let e = Box::new(alloc, e)?;
+            return Ok(Measured {
+                raw: Raw {
+                    place,
+                    node: RawNode::Group(e),
+                },
+                depth,
+            });
+        }
+    }
+    Ok(Measured {
+        raw: Raw {
+            place,
+            node: RawNode::Tuple(trees),
+        },
+        depth,
+    })
+}
+
+/// No trees.
+pub fn none(alloc: Global) -> MeasuredList
+    ensures value { map raw_tree result.trees.items ≡ [] }
+    ensures deep { result.depth ≡ 0 }
+{
+    MeasuredList {
+        trees: Vec::new(alloc),
+        depth: 0,
+    }
+}
+
+/// One more tree at the end.
+#[tactic(auto, using(crate::proofs::Depths::depths_more))]
+pub fn with(list: MeasuredList, e: Measured) -> Result<MeasuredList, Stop>
+    ensures value { Gives (λ x. map raw_tree x.trees.items) result (Ok (map raw_tree list.trees.items ++ raw_tree e.raw ∷ [])) }
+    ensures deep { IfOk result (λ x. x.depth ≡ max list.depth e.depth) }
+{
+    let depth = list.depth.max(e.depth);
+    let mut trees = list.trees;
+    trees.push(e.raw)?;
+    Ok(MeasuredList { trees, depth })
+}
+
+pub fn arm(pattern: Pattern, body: Measured) -> MeasuredArm
+    ensures value { raw_arm_tree result.arm ≡ raw_arm pattern.parts.items pattern.constant (raw_tree body.raw) }
+    ensures deep { result.depth ≡ max 1 body.depth }
+{
+    let depth = body.depth.max(1);
+    MeasuredArm {
+        arm: RawArm {
+            parts: pattern.parts,
+            constant: pattern.constant,
+            body: body.raw,
+        },
+        depth,
+    }
+}
+
+/// No arms.
+pub fn no_arms(alloc: Global) -> MeasuredArms
+    ensures value { map raw_arm_tree result.arms.items ≡ [] }
+    ensures deep { result.depth ≡ 0 }
+{
+    MeasuredArms {
+        arms: Vec::new(alloc),
+        depth: 0,
+    }
+}
+
+/// One more arm at the end.
+#[tactic(auto, using(crate::proofs::Depths::arm_depths_more))]
+pub fn with_arm(list: MeasuredArms, arm: MeasuredArm) -> Result<MeasuredArms, Stop>
+    ensures value { Gives (λ x. map raw_arm_tree x.arms.items) result (Ok (map raw_arm_tree list.arms.items ++ raw_arm_tree arm.arm ∷ [])) }
+    ensures deep { IfOk result (λ x. x.depth ≡ max list.depth arm.depth) }
+{
+    let depth = list.depth.max(arm.depth);
+    let mut arms = list.arms;
+    arms.push(arm.arm)?;
+    Ok(MeasuredArms { arms, depth })
+}

@@ -1,0 +1,38 @@
+//! Trees with their depths.
+ghost use Rattle.std.specs.Prelude.{◌≡◌, map};
+ghost use Rattle.cf_tree.specs.RawTree.{raw_depth, raws_depth, raw_arm_depth, raw_arms_depth};
+ghost use Rattle.cf_tree.specs.RawView.{raw_tree, raw_trees, raw_arm_tree, raw_arm_trees};
+
+use cf_tree::raw::{Raw, RawArm};
+
+/// A tree and its depth.
+#[derive(Drop)]
+pub struct Measured {
+    pub raw: Raw,
+    pub depth: u32,
+    ghost measured: { depth ≡ raw_depth (raw_tree raw) },
+}
+
+/// Trees and the depth of the deepest, or 0.
+#[derive(Drop)]
+pub struct MeasuredList {
+    pub trees: Vec<Raw>,
+    pub depth: u32,
+    ghost measured: { depth ≡ raws_depth (raw_trees trees.items) },
+}
+
+/// An arm and its depth.
+#[derive(Drop)]
+pub struct MeasuredArm {
+    pub arm: RawArm,
+    pub depth: u32,
+    ghost measured: { depth ≡ raw_arm_depth (raw_arm_tree arm) },
+}
+
+/// Arms and the depth of the deepest, or 0.
+#[derive(Drop)]
+pub struct MeasuredArms {
+    pub arms: Vec<RawArm>,
+    pub depth: u32,
+    ghost measured: { depth ≡ raw_arms_depth (raw_arm_trees arms.items) },
+}
