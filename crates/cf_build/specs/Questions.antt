@@ -1,0 +1,58 @@
+-- The chooses of a program, and the first that is refused.
+use Rattle.std.specs.Prelude.{ℕ, ◌<◌, ◌≡◌, List, [], ◌∷◌, ◌++◌, Option, Some, None, Contains}
+use Rattle.cf_tree.specs.declared.base.Base.{Base}
+use Rattle.cf_tree.specs.DefView.{DefTree}
+use Rattle.cf_tree.specs.ExprTree.{ExprTree, expr_lit, expr_truth, expr_var, expr_set_of, expr_tuple, expr_neg, expr_not, expr_abs, expr_binary, expr_divides, expr_div, expr_mod, expr_card, expr_if, expr_call, expr_let, expr_choose, expr_match, ExprTrees, no_exprs, expr_more, match_arm, MatchArmTrees, no_match_arms, match_arm_more}
+use Rattle.cf_tree.specs.RelTree.{RelTree}
+use Rattle.cf_type.specs.Names.{bases_of}
+use Rattle.cf_linear.specs.declared.refusal.Refusal.{Refusal}
+use Rattle.cf_linear.specs.Chooses.{limit}
+
+-- a choose: its number, the bases of its scope and of its outputs, and its relation
+pub record Question : Type 0 where
+  pub number : ℕ
+  pub scope : List Base
+  pub outputs : List Base
+  pub relation : RelTree
+
+abbrev pub limit_of : Question → Option Refusal
+limit_of q = limit q.scope q.outputs q.relation
+
+-- the chooses in an expression, in the order of the text
+abbrev mutual
+  pub questions : ExprTree → List Question
+  questions (expr_lit k) = []
+  questions (expr_truth t) = []
+  questions (expr_var x) = []
+  questions (expr_set_of es) = questions_all es
+  questions (expr_tuple es) = questions_all es
+  questions (expr_neg a) = questions a
+  questions (expr_not a) = questions a
+  questions (expr_abs a) = questions a
+  questions (expr_binary op a b) = questions a ++ questions b
+  questions (expr_divides k a) = questions a
+  questions (expr_div a k) = questions a
+  questions (expr_mod a k) = questions a
+  questions (expr_card a) = questions a
+  questions (expr_if t a b) = questions t ++ questions a ++ questions b
+  questions (expr_call f es) = questions_all es
+  questions (expr_let n a b) = questions a ++ questions b
+  questions (expr_choose n params outputs rel) = record { number = n; scope = bases_of params; outputs = outputs; relation = rel } ∷ []
+  questions (expr_match n params a arms) = questions a ++ questions_arms arms
+
+  pub questions_all : ExprTrees → List Question
+  questions_all no_exprs = []
+  questions_all (expr_more e es) = questions e ++ questions_all es
+
+  pub questions_arms : MatchArmTrees → List Question
+  questions_arms no_match_arms = []
+  questions_arms (match_arm_more (match_arm m factors k body) arms) = questions body ++ questions_arms arms
+
+abbrev pub all_questions : List DefTree → List Question
+all_questions [] = []
+all_questions (d ∷ ds) = questions d.body ++ all_questions ds
+
+-- choose number n is refused so, and none with a smaller number is refused
+pub record IsFirstRefused (qs : List Question) (n : ℕ) (r : Refusal) : Type 0 where
+  pub refused : (q : Question) × Contains qs q × (q.number ≡ n) × (limit_of q ≡ Some r)
+  pub first : (q : Question) → Contains qs q → q.number < n → limit_of q ≡ None

@@ -1,0 +1,44 @@
+//! Why a program is not built.
+use cf_linear::refusal::Refusal;
+use cf_tree::memory::NoMemory;
+use std::alloc::{AllocError, AllocFailed};
+
+/// The first choose that is refused, with its refusal, or want of memory.
+#[derive(Clone, Copy, Debug, PartialEq, Eq)]
+pub enum BuildFault {
+    Choose { number: u32, refusal: Refusal },
+    NoMemory,
+}
+
+impl From<NoMemory> for BuildFault {
+    ghost use Rattle.std.specs.Prelude.{◌≡◌};
+    ghost use Rattle.cf_build.specs.declared.fault.BuildFault.TheVariants.{NoMemory};
+
+    ghost from_gives = { λ _ e. e ≡ NoMemory };
+
+    fn from(_e: NoMemory) -> BuildFault {
+        BuildFault::NoMemory
+    }
+}
+
+impl From<AllocError> for BuildFault {
+    ghost use Rattle.std.specs.Prelude.{◌≡◌};
+    ghost use Rattle.cf_build.specs.declared.fault.BuildFault.TheVariants.{NoMemory};
+
+    ghost from_gives = { λ _ e. e ≡ NoMemory };
+
+    fn from(_e: AllocError) -> BuildFault {
+        BuildFault::NoMemory
+    }
+}
+
+impl<T: Drop> From<AllocFailed<T>> for BuildFault {
+    ghost use Rattle.std.specs.Prelude.{◌≡◌};
+    ghost use Rattle.cf_build.specs.declared.fault.BuildFault.TheVariants.{NoMemory};
+
+    ghost from_gives = { λ _ e. e ≡ NoMemory };
+
+    fn from(_e: AllocFailed<T>) -> BuildFault {
+        BuildFault::NoMemory
+    }
+}

@@ -1,0 +1,40 @@
+-- What a solved choose keeps, and what solving one answers.
+use Rattle.std.specs.Prelude.{ℕ, ◌≤◌, ◌≡◌, List, length, Option, Some, Result, Ok, Err}
+use Rattle.cf_tree.specs.declared.base.Base.{Base}
+use Rattle.cf_tree.specs.declared.base.Base.TheVariants.{Int, Bool, Set}
+use Rattle.cf_tree.specs.CodeTree.{arms_depth}
+use Rattle.cf_tree.specs.CodeView.{arm_trees}
+use Rattle.cf_tree.specs.RelTree.{RelTree}
+use Rattle.cf_tree.specs.RelView.{rel_tree}
+use Rattle.cf_tree.specs.Solving.{Solves}
+use Rattle.cf_tree.specs.Spelled.{AreArmsSpelled}
+use Rattle.cf_tree.specs.Typing.{ArmsHave}
+use Rattle.cf_linear.specs.Chooses.{limit}
+use Rattle.cf_choose.specs.declared.fault.ChooseFault.{ChooseFault}
+use Rattle.cf_choose.specs.declared.fault.ChooseFault.TheVariants.{Refused, NoMemory}
+use Rattle.cf_choose.specs.declared.solved.SolvedParts.{SolvedParts}
+
+-- an output is a number or a set
+abbrev pub IsOutput : Base → Type 0
+IsOutput Int = Unit {0}
+IsOutput Bool = ⊥
+IsOutput Set = Unit {0}
+
+-- the arms solve the relation, are well typed, are not deep, and have a spelling where they give something
+pub record IsSolved (s : SolvedParts) : Type 0 where
+  pub solves : Solves s.scope.items s.outputs.items (rel_tree s.rel) (arm_trees s.arms.items)
+  pub typed : ArmsHave (arm_trees s.arms.items) s.scope.items s.outputs.items
+  pub shallow : arms_depth (arm_trees s.arms.items) ≤ 16
+  pub spelled : 1 ≤ length s.outputs.items → AreArmsSpelled (arm_trees s.arms.items)
+
+-- a solved choose of this relation over this scope and these outputs
+pub record IsOf (scope outputs : List Base) (rel : RelTree) (s : SolvedParts) : Type 0 where
+  pub same_scope : s.scope.items ≡ scope
+  pub same_outputs : s.outputs.items ≡ outputs
+  pub same_relation : rel_tree s.rel ≡ rel
+
+-- the relation is solved, or its first limit refuses it, or memory ran out
+abbrev pub Tells : List Base → List Base → RelTree → Result SolvedParts ChooseFault → Type 0
+Tells scope outputs rel (Ok s) = IsOf scope outputs rel s
+Tells scope outputs rel (Err (Refused r)) = limit scope outputs rel ≡ Some r
+Tells scope outputs rel (Err NoMemory) = Unit {0}

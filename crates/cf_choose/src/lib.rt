@@ -1,0 +1,6 @@
+//! One choose: its relation is solved for its outputs.
+#![tactic(auto)]
+
+pub mod fault;
+pub mod solve;
+pub mod solved;

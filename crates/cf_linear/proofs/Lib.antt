@@ -1,0 +1,11 @@
+pub mod BoolLemmas
+pub mod Canonical
+pub mod CombLemmas
+pub mod Examples
+pub mod Joining
+pub mod MapLemmas
+pub mod MergingLemmas
+pub mod RowLemmas
+pub mod RowTests
+pub mod StageLemmas
+pub mod WrittenLemmas

@@ -1,0 +1,12 @@
+pub mod Rows
+pub mod Merging
+pub mod Matrices
+pub mod Steps
+pub mod Stages
+pub mod Layout
+pub mod Written
+pub mod Cases
+pub mod Arm
+pub mod Chooses
+pub mod Views
+pub mod Relations

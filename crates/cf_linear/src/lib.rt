@@ -1,0 +1,9 @@
+//! Rows of coefficients, and the definitions of the elimination on them.
+#![tactic(auto)]
+
+pub mod refusal;
+pub mod row;
+pub mod system;
+#[cfg(test)]
+mod tests;
+pub mod written;

@@ -1,0 +1,9 @@
+mod BaseLaws
+mod Kept
+mod NameLemmas
+mod ProgramLaws
+mod ReadingLemmas
+mod ReadsLaws
+mod Rising
+mod SizeLemmas
+mod WalkLaws

@@ -1,0 +1,31 @@
+-- What the walk's values of the program stand for.
+use Rattle.std.specs.Prelude.{ℕ, Bool, map}
+use Rattle.cf_tree.specs.DefView.{RawDefTree}
+use Rattle.cf_tree.specs.ExprView.{expr_tree, match_arm_tree}
+use Rattle.cf_tree.specs.RelView.{rel_tree, term_tree, set_tree}
+use Rattle.cf_type.specs.declared.form.Reading.{Reading as DeclaredReading}
+use Rattle.cf_type.specs.declared.form.Reading.TheVariants.{Relation, Term, Set, Bent}
+use Rattle.cf_type.specs.declared.form.Form.{Form as DeclaredForm}
+use Rattle.cf_type.specs.declared.form.Forms.{Forms as DeclaredForms}
+use Rattle.cf_type.specs.declared.form.Arms.{Arms as DeclaredArms}
+use Rattle.cf_type.specs.Names.{Callee, bases_of}
+use Rattle.cf_type.specs.Reading.{Reading, relation, term, set, bent}
+use Rattle.cf_type.specs.Walk.{Form, Forms, Arms}
+
+abbrev pub reading_of : DeclaredReading → Reading
+reading_of (Relation r) = relation (rel_tree r)
+reading_of (Term t) = term (term_tree t)
+reading_of (Set s) = set (set_tree s)
+reading_of (Bent p) = bent p
+
+abbrev pub form_of : DeclaredForm → Form
+form_of f = record { bases = f.bases.items; tree = expr_tree f.tree; reading = reading_of f.reading; next = f.next }
+
+abbrev pub forms_of : DeclaredForms → Forms
+forms_of f = record { bases = map (λ b. b.items) f.bases.items; trees = map expr_tree f.trees.items; bend = f.bend; next = f.next }
+
+abbrev pub arms_of : DeclaredArms → Arms
+arms_of f = record { bases = map (λ b. b.items) f.bases.items; trees = map match_arm_tree f.trees.items; bend = f.bend; next = f.next }
+
+abbrev pub callee_seen : ℕ → RawDefTree → Bool → Callee
+callee_seen i d is_earlier = record { number = i; params = bases_of d.params; results = d.results; is_earlier = is_earlier }

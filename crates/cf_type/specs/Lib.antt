@@ -1,0 +1,11 @@
+pub mod Checked
+pub mod FormView
+pub mod Gives
+pub mod Lowered
+pub mod Names
+pub mod Reading
+pub mod Size
+pub mod Source
+pub mod Typed
+pub mod TypedProgram
+pub mod Walk

@@ -1,0 +1,178 @@
+//! Tests on the bases of expressions.
+ghost use Rattle.std.specs.Prelude.{◌≡◌, ◌++◌, IfOk, map, length};
+ghost use Rattle.cf_type.specs.Names.{bases_of};
+ghost use Rattle.cf_type.specs.Walk.{one as one_of, is_one as is_one_of, all_are as all_are_of, all_are_single as all_are_single_of, are_asked as are_asked_of, all_have as all_have_of, all_same as all_same_of, joined as joined_of, first_of, side_of as side_base, sides_fit as sides_fit_of, result_of as result_base, is_output as is_output_of};
+
+use crate::names::{same_base, same_bases};
+use cf_tree::base::{Base, Order};
+use cf_tree::memory::NoMemory;
+use cf_tree::raw::{BinOp, Param};
+use std::alloc::Global;
+
+/// The one base.
+pub fn one(alloc: Global, base: Base) -> Result<Vec<Base>, NoMemory>
+    ensures { IfOk result (λ bs. bs.items ≡ one_of base) }
+{
+    let mut bases = Vec::new(alloc);
+    bases.push(base)?;
+    Ok(bases)
+}
+
+/// Whether an expression has this one base.
+pub fn is_one(base: Base, bases: &[Base]) -> bool
+    ensures { result ≡ is_one_of base bases.now }
+{
+    same_bases(bases, &[base])
+}
+
+/// Whether each of several expressions has this one base.
+pub fn all_are(base: Base, lists: &[Vec<Base>]) -> bool
+    ensures { result ≡ all_are_of base (map (λ bs. bs.items) lists.now) }
+{
+    for bases in lists {
+        if !is_one(base, bases) {
+            return false;
+        }
+    }
+    true
+}
+
+/// Whether each has one base.
+pub fn all_are_single(lists: &[Vec<Base>]) -> bool
+    ensures { result ≡ all_are_single_of (map (λ bs. bs.items) lists.now) }
+{
+    for bases in lists {
+        if bases.len() != 1 {
+            return false;
+        }
+    }
+    true
+}
+
+/// Whether each has the one base that is asked of it.
+pub fn are_asked(lists: &[Vec<Base>], params: &[Param]) -> bool
+    ensures { result ≡ are_asked_of (map (λ bs. bs.items) lists.now) (bases_of params.now) }
+{
+    let mut rest = lists;
+    let mut asked = params;
+    while let Some((bases, more)) = rest.split_first() {
+        match asked.split_first() {
+            None => return false,
+            Some((param, others)) => {
+                if !is_one(param.base, bases) {
+                    return false;
+                }
+                rest = more;
+                asked = others;
+            }
+        }
+    }
+    asked.is_empty()
+}
+
+/// Whether each has these bases.
+fn all_have(bases: &[Base], lists: &[Vec<Base>]) -> bool
+    ensures { result ≡ all_have_of bases.now (map (λ bs. bs.items) lists.now) }
+{
+    for other in lists {
+        if !same_bases(other, bases) {
+            return false;
+        }
+    }
+    true
+}
+
+/// Whether all have the same bases.
+pub fn all_same(lists: &[Vec<Base>]) -> bool
+    ensures { result ≡ all_same_of (map (λ bs. bs.items) lists.now) }
+{
+    match lists.split_first() {
+        None => true,
+        Some((bases, more)) => all_have(bases, more),
+    }
+}
+
+/// The bases of all, in a row.
+pub fn joined(alloc: Global, lists: &[Vec<Base>]) -> Result<Vec<Base>, NoMemory>
+    ensures { IfOk result (λ bs. bs.items ≡ joined_of (map (λ bs. bs.items) lists.now)) }
+{
+    let mut all = Vec::new(alloc);
+    for bases in lists {
+        all.extend_from_slice(bases)?;
+    }
+    Ok(all)
+}
+
+/// The bases of the first.
+pub fn first(alloc: Global, lists: &[Vec<Base>]) -> Result<Vec<Base>, NoMemory>
+    ensures { IfOk result (λ bs. bs.items ≡ first_of (map (λ bs. bs.items) lists.now)) }
+{
+    match lists.split_first() {
+        None => Ok(Vec::new(alloc)),
+        Some((bases, _)) => Ok(Vec::from_slice(alloc, bases)?),
+    }
+}
+
+/// The one base that an operation asks of both sides.
+fn side(op: BinOp) -> Option<Base>
+    ensures { result ≡ side_base op }
+{
+    match op {
+        BinOp::Add => Some(Base::Int),
+        BinOp::Sub => Some(Base::Int),
+        BinOp::Mul => Some(Base::Int),
+        BinOp::And => Some(Base::Bool),
+        BinOp::Or => Some(Base::Bool),
+        BinOp::Union => Some(Base::Set),
+        BinOp::Inter => Some(Base::Set),
+        BinOp::Diff => Some(Base::Set),
+        BinOp::Subset => Some(Base::Set),
+        BinOp::Compare(order) => match order {
+            Order::Eq => None,
+            Order::Ne => None,
+            Order::Lt => Some(Base::Int),
+            Order::Le => Some(Base::Int),
+            Order::Gt => Some(Base::Int),
+            Order::Ge => Some(Base::Int),
+        },
+    }
+}
+
+/// Whether the sides of an operation have the bases that it asks.
+pub fn sides_fit(op: BinOp, left: &[Base], right: &[Base]) -> bool
+    ensures { result ≡ sides_fit_of (side_base op) left.now right.now }
+{
+    match side(op) {
+        Some(base) => is_one(base, left) && is_one(base, right),
+        None => left.len() == 1 && same_bases(left, right),
+    }
+}
+
+/// The base of an operation.
+pub fn result_of(op: BinOp) -> Base
+    ensures { result ≡ result_base op }
+{
+    match op {
+        BinOp::Add => Base::Int,
+        BinOp::Sub => Base::Int,
+        BinOp::Mul => Base::Int,
+        BinOp::And => Base::Bool,
+        BinOp::Or => Base::Bool,
+        BinOp::Union => Base::Set,
+        BinOp::Inter => Base::Set,
+        BinOp::Diff => Base::Set,
+        BinOp::Subset => Base::Bool,
+        BinOp::Compare(_) => Base::Bool,
+    }
+}
+
+/// Whether an output may have this base.
+pub fn is_output(base: Base) -> bool
+    ensures { result ≡ is_output_of base }
+{
+    match base {
+        Base::Int => true,
+        Base::Bool => false,
+        Base::Set => true,
+    }
+}

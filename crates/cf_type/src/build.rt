@@ -1,0 +1,611 @@
+//! The forms of expressions, made of their parts.
+ghost use Rattle.std.specs.Prelude.{◌≡◌, ◌+◌, map, Some, IfOk};
+ghost use Rattle.cf_tree.specs.ExprView.{expr_tree};
+ghost use Rattle.cf_tree.specs.RelView.{rel_tree};
+ghost use Rattle.cf_tree.specs.DefView.{raw_def_tree};
+ghost use Rattle.cf_tree.specs.ExprTree.{expr_lit, expr_truth, expr_neg, expr_not, expr_abs, expr_div, expr_mod, expr_divides, expr_card};
+ghost use Rattle.cf_tree.specs.RelTree.{term_lit, term_neg, term_abs, term_div, term_mod, term_card, rel_not, rel_divides};
+ghost use Rattle.cf_tree.specs.declared.base.Base.TheVariants.{Int as int, Bool as truth_base, Set as set_base};
+ghost use Rattle.cf_type.specs.FormView.{form_of, forms_of, arms_of, reading_of, callee_seen};
+ghost use Rattle.cf_type.specs.Gives.{Gives};
+ghost use Rattle.cf_type.specs.Names.{callee_from, bases_of};
+ghost use Rattle.cf_type.specs.Reading.{relation as a_relation, term as a_term, on_relation, on_term, on_set, truth_reading};
+ghost use Rattle.cf_type.specs.Walk.{form as form_is, one as one_base, no_forms as no_forms_of, with_form as with_form_of, no_arms as no_arms_of, with_arm as with_arm_of, variable_form, unary_form, binary_form, set_reading as set_reading_of, set_form, tuple_form, call_form, if_form, let_form, choose_form, match_form, linear as linear_of, arm_number, after_arm};
+
+use crate::fault::TypeFault;
+use crate::form::{Arms, Form, Forms, Reading};
+use crate::names::{Variable, find_callee, same_bases};
+use crate::{bases, reading};
+use cf_tree::base::{Base, Place, Text};
+use cf_tree::expr::{Expr, MatchArm};
+use cf_tree::memory::NoMemory;
+use cf_tree::raw::{BinOp, Param, Part, RawDef};
+use cf_tree::rel::{Rel, SetTerm, Term};
+use std::alloc::Global;
+
+pub fn literal(alloc: Global, k: i128, next: u32) -> Result<Form, TypeFault>
+    ensures { Gives form_of result (form_is (one_base int) (expr_lit k) (a_term (term_lit k)) next) }
+{
+    Ok(Form {
+        bases: bases::one(alloc, Base::Int)?,
+        tree: Expr::Lit(k),
+        reading: Reading::Term(Term::Lit(k)),
+        next,
+    })
+}
+
+pub fn truth(alloc: Global, t: bool, next: u32) -> Result<Form, TypeFault>
+    ensures { Gives form_of result (form_is (one_base truth_base) (expr_truth t) (truth_reading t) next) }
+{
+    Ok(Form {
+        bases: bases::one(alloc, Base::Bool)?,
+        tree: Expr::Truth(t),
+        reading: reading::of_truth(t),
+        next,
+    })
+}
+
+pub fn variable(
+    alloc: Global,
+    place: Place,
+    next: u32,
+    found: Option<Variable>,
+) -> Result<Form, TypeFault>
+    ensures { Gives form_of result (variable_form place next found) }
+{
+    match found {
+        None => Err(TypeFault::UnknownName(place)),
+        Some(v) => Ok(Form {
+            bases: bases::one(alloc, v.base)?,
+            tree: Expr::Var(v.level),
+            reading: reading::of_variable(place, v),
+            next,
+        }),
+    }
+}
+
+fn set_reading(place: Place, bend: Option<Place>, trees: &[Expr]) -> Reading
+    ensures { reading_of result ≡ set_reading_of place bend (map expr_tree trees.now) }
+{
+    match trees.split_first() {
+        None => Reading::Set(SetTerm::Empty),
+        Some(_) => reading::bent_at(bend, place),
+    }
+}
+
+pub fn set(alloc: Global, place: Place, parts: Forms) -> Result<Form, TypeFault>
+    ensures { Gives form_of result (set_form place (forms_of parts)) }
+{
+    let Forms {
+        bases,
+        trees,
+        bend,
+        next,
+    } = parts;
+    if !bases::all_are(Base::Int, &bases) {
+        return Err(TypeFault::Mismatch(place));
+    }
+    let reading = set_reading(place, bend, &trees);
+    Ok(Form {
+        bases: bases::one(alloc, Base::Set)?,
+        tree: Expr::SetOf(trees),
+        reading,
+        next,
+    })
+}
+
+pub fn tuple(alloc: Global, place: Place, parts: Forms) -> Result<Form, TypeFault>
+    ensures { Gives form_of result (tuple_form place (forms_of parts)) }
+{
+    let Forms {
+        bases,
+        trees,
+        bend,
+        next,
+    } = parts;
+    if !bases::all_are_single(&bases) {
+        return Err(TypeFault::Mismatch(place));
+    }
+    Ok(Form {
+        bases: bases::joined(alloc, &bases)?,
+        tree: Expr::Tuple(trees),
+        reading: reading::bent_at(bend, place),
+        next,
+    })
+}
+
+pub fn neg(alloc: Global, place: Place, part: Form) -> Result<Form, TypeFault>
+    ensures { Gives form_of result (unary_form place int int expr_neg (on_term (λ t. a_term (term_neg t))) (form_of part)) }
+{
+    let Form {
+        bases,
+        tree,
+        reading,
+        next,
+    } = part;
+    if !bases::is_one(Base::Int, &bases) {
+        return Err(TypeFault::Mismatch(place));
+    }
+    Ok(Form {
+        bases: bases::one(alloc, Base::Int)?,
+        tree: Expr::Neg(Box::new(alloc, tree)?),
+        reading: reading::of_neg(alloc, place, reading)?,
+        next,
+    })
+}
+
+pub fn not(alloc: Global, place: Place, part: Form) -> Result<Form, TypeFault>
+    ensures { Gives form_of result (unary_form place truth_base truth_base expr_not (on_relation (λ r. a_relation (rel_not r))) (form_of part)) }
+{
+    let Form {
+        bases,
+        tree,
+        reading,
+        next,
+    } = part;
+    if !bases::is_one(Base::Bool, &bases) {
+        return Err(TypeFault::Mismatch(place));
+    }
+    Ok(Form {
+        bases: bases::one(alloc, Base::Bool)?,
+        tree: Expr::Not(Box::new(alloc, tree)?),
+        reading: reading::of_not(alloc, place, reading)?,
+        next,
+    })
+}
+
+pub fn abs(alloc: Global, place: Place, part: Form) -> Result<Form, TypeFault>
+    ensures { Gives form_of result (unary_form place int int expr_abs (on_term (λ t. a_term (term_abs t))) (form_of part)) }
+{
+    let Form {
+        bases,
+        tree,
+        reading,
+        next,
+    } = part;
+    if !bases::is_one(Base::Int, &bases) {
+        return Err(TypeFault::Mismatch(place));
+    }
+    Ok(Form {
+        bases: bases::one(alloc, Base::Int)?,
+        tree: Expr::Abs(Box::new(alloc, tree)?),
+        reading: reading::of_abs(alloc, place, reading)?,
+        next,
+    })
+}
+
+pub fn divides(alloc: Global, place: Place, k: i128, part: Form) -> Result<Form, TypeFault>
+    ensures { Gives form_of result (unary_form place int truth_base (expr_divides k) (on_term (λ t. a_relation (rel_divides k t))) (form_of part)) }
+{
+    let Form {
+        bases,
+        tree,
+        reading,
+        next,
+    } = part;
+    if !bases::is_one(Base::Int, &bases) {
+        return Err(TypeFault::Mismatch(place));
+    }
+    Ok(Form {
+        bases: bases::one(alloc, Base::Bool)?,
+        tree: Expr::Divides {
+            k,
+            of: Box::new(alloc, tree)?,
+        },
+        reading: reading::of_divides(alloc, place, k, reading)?,
+        next,
+    })
+}
+
+pub fn div(alloc: Global, place: Place, part: Form, k: i128) -> Result<Form, TypeFault>
+    ensures { Gives form_of result (unary_form place int int (λ e. expr_div e k) (on_term (λ t. a_term (term_div t k))) (form_of part)) }
+{
+    let Form {
+        bases,
+        tree,
+        reading,
+        next,
+    } = part;
+    if !bases::is_one(Base::Int, &bases) {
+        return Err(TypeFault::Mismatch(place));
+    }
+    Ok(Form {
+        bases: bases::one(alloc, Base::Int)?,
+        tree: Expr::Div {
+            of: Box::new(alloc, tree)?,
+            k,
+        },
+        reading: reading::of_div(alloc, place, reading, k)?,
+        next,
+    })
+}
+
+pub fn modulo(alloc: Global, place: Place, part: Form, k: i128) -> Result<Form, TypeFault>
+    ensures { Gives form_of result (unary_form place int int (λ e. expr_mod e k) (on_term (λ t. a_term (term_mod t k))) (form_of part)) }
+{
+    let Form {
+        bases,
+        tree,
+        reading,
+        next,
+    } = part;
+    if !bases::is_one(Base::Int, &bases) {
+        return Err(TypeFault::Mismatch(place));
+    }
+    Ok(Form {
+        bases: bases::one(alloc, Base::Int)?,
+        tree: Expr::Mod {
+            of: Box::new(alloc, tree)?,
+            k,
+        },
+        reading: reading::of_mod(alloc, place, reading, k)?,
+        next,
+    })
+}
+
+pub fn card(alloc: Global, place: Place, part: Form) -> Result<Form, TypeFault>
+    ensures { Gives form_of result (unary_form place set_base int expr_card (on_set (λ s. a_term (term_card s))) (form_of part)) }
+{
+    let Form {
+        bases,
+        tree,
+        reading,
+        next,
+    } = part;
+    if !bases::is_one(Base::Set, &bases) {
+        return Err(TypeFault::Mismatch(place));
+    }
+    Ok(Form {
+        bases: bases::one(alloc, Base::Int)?,
+        tree: Expr::Card(Box::new(alloc, tree)?),
+        reading: reading::of_card(alloc, place, reading)?,
+        next,
+    })
+}
+
+pub fn binary(
+    alloc: Global,
+    place: Place,
+    op: BinOp,
+    left: Form,
+    right: Form,
+) -> Result<Form, TypeFault>
+    ensures { Gives form_of result (binary_form place op (form_of left) (form_of right)) }
+{
+    if !bases::sides_fit(op, &left.bases, &right.bases) {
+        return Err(TypeFault::Mismatch(place));
+    }
+    let Form {
+        bases: _,
+        tree: left_tree,
+        reading: left_reading,
+        next: _,
+    } = left;
+    let Form {
+        bases: _,
+        tree: right_tree,
+        reading: right_reading,
+        next,
+    } = right;
+    Ok(Form {
+        bases: bases::one(alloc, bases::result_of(op))?,
+        tree: Expr::Binary {
+            op,
+            left: Box::new(alloc, left_tree)?,
+            right: Box::new(alloc, right_tree)?,
+        },
+        reading: reading::of_binary(alloc, op, place, left_reading, right_reading)?,
+        next,
+    })
+}
+
+pub fn call(
+    alloc: Global,
+    place: Place,
+    defs: &[RawDef],
+    caller: u32,
+    name: &Text,
+    args: Forms,
+) -> Result<Form, TypeFault>
+    ensures { Gives form_of result (call_form place (callee_from caller 0 (map raw_def_tree defs.now) name.now) (forms_of args)) }
+{
+    match find_callee(defs, caller, name)? {
+        None => Err(TypeFault::UnknownName(place)),
+        Some((number, def, is_earlier)) => call_of(alloc, place, number, def, is_earlier, args),
+    }
+}
+
+fn call_of(
+    alloc: Global,
+    place: Place,
+    number: u32,
+    def: &RawDef,
+    is_earlier: bool,
+    args: Forms,
+) -> Result<Form, TypeFault>
+    ensures { Gives form_of result (call_form place (Some (callee_seen number (raw_def_tree def.now) is_earlier)) (forms_of args)) }
+{
+    let Forms {
+        bases,
+        trees,
+        bend,
+        next,
+    } = args;
+    if bases.len() != def.params.len() {
+        return Err(TypeFault::WrongCount(place));
+    }
+    if !bases::are_asked(&bases, &def.params) {
+        return Err(TypeFault::Mismatch(place));
+    }
+    if !is_earlier {
+        return Err(TypeFault::CallsLater(place));
+    }
+    Ok(Form {
+        bases: Vec::from_slice(alloc, &def.results)?,
+        tree: Expr::Call {
+            def: number,
+            args: trees,
+        },
+        reading: reading::bent_at(bend, place),
+        next,
+    })
+}
+
+pub fn choice(
+    alloc: Global,
+    place: Place,
+    test: Form,
+    yes: Form,
+    no: Form,
+) -> Result<Form, TypeFault>
+    ensures { Gives form_of result (if_form place (form_of test) (form_of yes) (form_of no)) }
+{
+    if !bases::is_one(Base::Bool, &test.bases) || !same_bases(&yes.bases, &no.bases) {
+        return Err(TypeFault::Mismatch(place));
+    }
+    let in_yes = reading::first_bend(reading::bend(&yes.reading), reading::bend(&no.reading));
+    let bend = reading::first_bend(reading::bend(&test.reading), in_yes);
+    Ok(Form {
+        bases: yes.bases,
+        tree: Expr::If {
+            test: Box::new(alloc, test.tree)?,
+            yes: Box::new(alloc, yes.tree)?,
+            no: Box::new(alloc, no.tree)?,
+        },
+        reading: reading::bent_at(bend, place),
+        next: no.next,
+    })
+}
+
+/// A number of names or functions.
+pub fn counted(n: usize) -> Result<u32, NoMemory>
+    ensures { IfOk result (λ m. m ≡ n) }
+{
+    match u32::try_from(n) {
+        Ok(m) => Ok(m),
+        Err(_) => Err(NoMemory),
+    }
+}
+
+/// The next number.
+pub fn following(n: u32) -> Result<u32, NoMemory>
+    ensures { IfOk result (λ m. m ≡ n + 1) }
+{
+    match n.checked_add(1) {
+        Some(m) => Ok(m),
+        None => Err(NoMemory),
+    }
+}
+
+pub fn binding(
+    alloc: Global,
+    place: Place,
+    count: usize,
+    value: Form,
+    body: Form,
+) -> Result<Form, TypeFault>
+    ensures { Gives form_of result (let_form place count (form_of value) (form_of body)) }
+{
+    let bend = reading::first_bend(reading::bend(&value.reading), reading::bend(&body.reading));
+    Ok(Form {
+        bases: body.bases,
+        tree: Expr::Let {
+            count: counted(count)?,
+            value: Box::new(alloc, value.tree)?,
+            body: Box::new(alloc, body.tree)?,
+        },
+        reading: reading::bent_at(bend, place),
+        next: body.next,
+    })
+}
+
+/// The relation that was read, where it is linear.
+fn linear(place: Place, reading: Reading) -> Result<Rel, TypeFault>
+    ensures { Gives rel_tree result (linear_of place (reading_of reading)) }
+{
+    match reading {
+        Reading::Relation(rel) => Ok(rel),
+        Reading::Term(_) => Err(TypeFault::NotLinear(place)),
+        Reading::Set(_) => Err(TypeFault::NotLinear(place)),
+        Reading::Bent(first) => Err(TypeFault::NotLinear(first)),
+    }
+}
+
+/// The bases of outputs.
+fn output_bases(alloc: Global, outputs: &[Param]) -> Result<Vec<Base>, NoMemory>
+    ensures { IfOk result (λ bs. bs.items ≡ bases_of outputs.now) }
+{
+    let mut all = Vec::new(alloc);
+    for output in outputs {
+        all.push(output.base)?;
+    }
+    Ok(all)
+}
+
+pub fn choose(
+    alloc: Global,
+    place: Place,
+    number: u32,
+    scope: Vec<Param>,
+    outputs: &[Param],
+    rel: Form,
+) -> Result<Form, TypeFault>
+    ensures { Gives form_of result (choose_form place number scope.items outputs.now (form_of rel)) }
+{
+    let Form {
+        bases,
+        tree: _,
+        reading,
+        next,
+    } = rel;
+    if !bases::is_one(Base::Bool, &bases) {
+        return Err(TypeFault::Mismatch(place));
+    }
+    let rel = linear(place, reading)?;
+    Ok(Form {
+        bases: output_bases(alloc, outputs)?,
+        tree: Expr::Choose {
+            number,
+            scope,
+            outputs: output_bases(alloc, outputs)?,
+            rel,
+        },
+        reading: Reading::Bent(place),
+        next,
+    })
+}
+
+pub fn no_forms(alloc: Global, next: u32) -> Forms
+    ensures { forms_of result ≡ no_forms_of next }
+{
+    Forms {
+        bases: Vec::new(alloc),
+        trees: Vec::new(alloc),
+        bend: None,
+        next,
+    }
+}
+
+pub fn with_form(before: Forms, form: Form) -> Result<Forms, NoMemory>
+    ensures { IfOk result (λ fs. forms_of fs ≡ with_form_of (forms_of before) (form_of form)) }
+{
+    let Forms {
+        mut bases,
+        mut trees,
+        bend,
+        next: _,
+    } = before;
+    let bend = reading::first_bend(bend, reading::bend(&form.reading));
+    bases.push(form.bases)?;
+    trees.push(form.tree)?;
+    Ok(Forms {
+        bases,
+        trees,
+        bend,
+        next: form.next,
+    })
+}
+
+pub fn no_arms(alloc: Global, next: u32) -> Arms
+    ensures { arms_of result ≡ no_arms_of next }
+{
+    Arms {
+        bases: Vec::new(alloc),
+        trees: Vec::new(alloc),
+        bend: None,
+        next,
+    }
+}
+
+/// The number of an arm: the next one where it has variables, and else 0.
+fn number_of(next: u32, parts: &[Part]) -> u32
+    ensures { result ≡ arm_number next parts.now }
+{
+    if parts.is_empty() { 0 } else { next }
+}
+
+/// The number after that of an arm.
+pub fn after_arm_number(next: u32, parts: &[Part]) -> Result<u32, NoMemory>
+    ensures { IfOk result (λ n. n ≡ after_arm next parts.now) }
+{
+    if parts.is_empty() {
+        Ok(next)
+    } else {
+        following(next)
+    }
+}
+
+/// The factors of a pattern.
+fn factors_of(alloc: Global, parts: &[Part]) -> Result<Vec<i128>, NoMemory>
+    ensures { IfOk result (λ fs. fs.items ≡ map (λ x. x.factor) parts.now) }
+{
+    let mut all = Vec::new(alloc);
+    for part in parts {
+        all.push(part.factor)?;
+    }
+    Ok(all)
+}
+
+pub fn with_arm(
+    alloc: Global,
+    before: Arms,
+    parts: &[Part],
+    constant: i128,
+    body: Form,
+) -> Result<Arms, NoMemory>
+    ensures { IfOk result (λ arms. arms_of arms ≡ with_arm_of (arms_of before) parts.now constant (form_of body)) }
+{
+    let Arms {
+        mut bases,
+        mut trees,
+        bend,
+        next,
+    } = before;
+    let bend = reading::first_bend(bend, reading::bend(&body.reading));
+    bases.push(body.bases)?;
+    trees.push(MatchArm {
+        number: number_of(next, parts),
+        factors: factors_of(alloc, parts)?,
+        constant,
+        body: body.tree,
+    })?;
+    Ok(Arms {
+        bases,
+        trees,
+        bend,
+        next: body.next,
+    })
+}
+
+pub fn matching(
+    alloc: Global,
+    place: Place,
+    number: u32,
+    scope: Vec<Param>,
+    value: Form,
+    arms: Arms,
+) -> Result<Form, TypeFault>
+    ensures { Gives form_of result (match_form place number scope.items (form_of value) (arms_of arms)) }
+{
+    let Arms {
+        bases,
+        trees,
+        bend,
+        next,
+    } = arms;
+    if !bases::is_one(Base::Int, &value.bases) || !bases::all_same(&bases) {
+        return Err(TypeFault::Mismatch(place));
+    }
+    let first = reading::first_bend(reading::bend(&value.reading), bend);
+    Ok(Form {
+        bases: bases::first(alloc, &bases)?,
+        tree: Expr::Match {
+            number,
+            scope,
+            of: Box::new(alloc, value.tree)?,
+            arms: trees,
+        },
+        reading: reading::bent_at(first, place),
+        next,
+    })
+}

@@ -1,0 +1,41 @@
+//! What the walk learns of an expression.
+use cf_tree::base::{Base, Place};
+use cf_tree::expr::{Expr, MatchArm};
+use cf_tree::rel::{Rel, SetTerm, Term};
+
+/// An expression as a part of a relation, or the place of its first form that is not linear.
+#[derive(Drop)]
+pub enum Reading {
+    Relation(Rel),
+    Term(Term),
+    Set(SetTerm),
+    Bent(Place),
+}
+
+/// An expression: the bases of its parts, its tree with levels, its reading, and the next number
+/// of a choose.
+#[derive(Drop)]
+pub struct Form {
+    pub bases: Vec<Base>,
+    pub tree: Expr,
+    pub reading: Reading,
+    pub next: u32,
+}
+
+/// Expressions in a row.
+#[derive(Drop)]
+pub struct Forms {
+    pub bases: Vec<Vec<Base>>,
+    pub trees: Vec<Expr>,
+    pub bend: Option<Place>,
+    pub next: u32,
+}
+
+/// The arms of a match.
+#[derive(Drop)]
+pub struct Arms {
+    pub bases: Vec<Vec<Base>>,
+    pub trees: Vec<MatchArm>,
+    pub bend: Option<Place>,
+    pub next: u32,
+}

@@ -1,0 +1,12 @@
+//! The rules on names, types, linearity and size, and programs that break none of them.
+#![tactic(auto)]
+
+mod bases;
+mod build;
+pub mod check;
+pub mod fault;
+mod form;
+mod names;
+mod reading;
+mod scope;
+pub mod typed;

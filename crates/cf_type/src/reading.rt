@@ -1,0 +1,367 @@
+//! Expressions as parts of relations.
+ghost use Rattle.std.specs.Prelude.{◌≡◌, IfOk};
+ghost use Rattle.cf_tree.specs.Relation.{is_fixed as is_fixed_of};
+ghost use Rattle.cf_tree.specs.RelView.{rel_tree, term_tree, set_tree};
+ghost use Rattle.cf_tree.specs.RelTree.{rel_compare, rel_divides, rel_not, rel_and, rel_or, rel_subset, term_neg, term_abs, term_div, term_mod, term_card, term_add, term_sub, union_of, inter_of, diff_of};
+ghost use Rattle.cf_type.specs.FormView.{reading_of};
+ghost use Rattle.cf_type.specs.Reading.{relation as a_relation, term as a_term, set as a_set, bend as bend_of, first_bend as first_bend_of, bent_at as bent_at_of, on_relation, on_term, on_set, truth_reading, variable_reading, product_reading, sets_reading, compare_reading, binary_reading};
+
+use crate::form::Reading;
+use crate::names::Variable;
+use cf_tree::base::{Base, Order, Place};
+use cf_tree::memory::NoMemory;
+use cf_tree::raw::BinOp;
+use cf_tree::rel::{Rel, SetTerm, Term};
+use std::alloc::Global;
+
+/// Where the first form stands that is not linear.
+pub fn bend(reading: &Reading) -> Option<Place>
+    ensures { result ≡ bend_of (reading_of reading.now) }
+{
+    match reading {
+        Reading::Relation(_) => None,
+        Reading::Term(_) => None,
+        Reading::Set(_) => None,
+        Reading::Bent(place) => Some(*place),
+    }
+}
+
+/// The first of two places, if any.
+pub fn first_bend(first: Option<Place>, second: Option<Place>) -> Option<Place>
+    ensures { result ≡ first_bend_of first second }
+{
+    match first {
+        Some(place) => Some(place),
+        None => second,
+    }
+}
+
+/// The reading of a form that is no linear form, whose parts bend there first.
+pub fn bent_at(first: Option<Place>, place: Place) -> Reading
+    ensures { reading_of result ≡ bent_at_of first place }
+{
+    match first {
+        Some(earlier) => Reading::Bent(earlier),
+        None => Reading::Bent(place),
+    }
+}
+
+pub fn of_truth(truth: bool) -> Reading
+    ensures { reading_of result ≡ truth_reading truth }
+{
+    if truth {
+        Reading::Relation(Rel::True)
+    } else {
+        Reading::Relation(Rel::False)
+    }
+}
+
+pub fn of_variable(place: Place, variable: Variable) -> Reading
+    ensures { reading_of result ≡ variable_reading place variable.base variable.level }
+{
+    match variable.base {
+        Base::Int => Reading::Term(Term::Var(variable.level)),
+        Base::Bool => Reading::Bent(place),
+        Base::Set => Reading::Set(SetTerm::Var(variable.level)),
+    }
+}
+
+pub fn of_not(alloc: Global, place: Place, part: Reading) -> Result<Reading, NoMemory>
+    ensures { IfOk result (λ r. reading_of r ≡ on_relation (λ a. a_relation (rel_not a)) place (reading_of part)) }
+{
+    match part {
+        Reading::Relation(a) => Ok(Reading::Relation(Rel::Not(Box::new(alloc, a)?))),
+        Reading::Term(_) => Ok(Reading::Bent(place)),
+        Reading::Set(_) => Ok(Reading::Bent(place)),
+        Reading::Bent(first) => Ok(Reading::Bent(first)),
+    }
+}
+
+pub fn of_neg(alloc: Global, place: Place, part: Reading) -> Result<Reading, NoMemory>
+    ensures { IfOk result (λ r. reading_of r ≡ on_term (λ t. a_term (term_neg t)) place (reading_of part)) }
+{
+    match part {
+        Reading::Relation(_) => Ok(Reading::Bent(place)),
+        Reading::Term(t) => Ok(Reading::Term(Term::Neg(Box::new(alloc, t)?))),
+        Reading::Set(_) => Ok(Reading::Bent(place)),
+        Reading::Bent(first) => Ok(Reading::Bent(first)),
+    }
+}
+
+pub fn of_abs(alloc: Global, place: Place, part: Reading) -> Result<Reading, NoMemory>
+    ensures { IfOk result (λ r. reading_of r ≡ on_term (λ t. a_term (term_abs t)) place (reading_of part)) }
+{
+    match part {
+        Reading::Relation(_) => Ok(Reading::Bent(place)),
+        Reading::Term(t) => Ok(Reading::Term(Term::Abs(Box::new(alloc, t)?))),
+        Reading::Set(_) => Ok(Reading::Bent(place)),
+        Reading::Bent(first) => Ok(Reading::Bent(first)),
+    }
+}
+
+pub fn of_div(alloc: Global, place: Place, part: Reading, k: i128) -> Result<Reading, NoMemory>
+    ensures { IfOk result (λ r. reading_of r ≡ on_term (λ t. a_term (term_div t k)) place (reading_of part)) }
+{
+    match part {
+        Reading::Relation(_) => Ok(Reading::Bent(place)),
+        Reading::Term(t) => Ok(Reading::Term(Term::Div(Box::new(alloc, t)?, k))),
+        Reading::Set(_) => Ok(Reading::Bent(place)),
+        Reading::Bent(first) => Ok(Reading::Bent(first)),
+    }
+}
+
+pub fn of_mod(alloc: Global, place: Place, part: Reading, k: i128) -> Result<Reading, NoMemory>
+    ensures { IfOk result (λ r. reading_of r ≡ on_term (λ t. a_term (term_mod t k)) place (reading_of part)) }
+{
+    match part {
+        Reading::Relation(_) => Ok(Reading::Bent(place)),
+        Reading::Term(t) => Ok(Reading::Term(Term::Mod(Box::new(alloc, t)?, k))),
+        Reading::Set(_) => Ok(Reading::Bent(place)),
+        Reading::Bent(first) => Ok(Reading::Bent(first)),
+    }
+}
+
+pub fn of_divides(alloc: Global, place: Place, k: i128, part: Reading) -> Result<Reading, NoMemory>
+    ensures { IfOk result (λ r. reading_of r ≡ on_term (λ t. a_relation (rel_divides k t)) place (reading_of part)) }
+{
+    match part {
+        Reading::Relation(_) => Ok(Reading::Bent(place)),
+        Reading::Term(t) => Ok(Reading::Relation(Rel::Divides {
+            k,
+            of: Box::new(alloc, t)?,
+        })),
+        Reading::Set(_) => Ok(Reading::Bent(place)),
+        Reading::Bent(first) => Ok(Reading::Bent(first)),
+    }
+}
+
+pub fn of_card(alloc: Global, place: Place, part: Reading) -> Result<Reading, NoMemory>
+    ensures { IfOk result (λ r. reading_of r ≡ on_set (λ s. a_term (term_card s)) place (reading_of part)) }
+{
+    match part {
+        Reading::Relation(_) => Ok(Reading::Bent(place)),
+        Reading::Term(_) => Ok(Reading::Bent(place)),
+        Reading::Set(s) => Ok(Reading::Term(Term::Card(Box::new(alloc, s)?))),
+        Reading::Bent(first) => Ok(Reading::Bent(first)),
+    }
+}
+
+/// Whether a number form holds no variable, no card, no div and no mod.
+fn is_fixed(term: &Term) -> bool
+    ensures { result ≡ is_fixed_of (term_tree term.now) }
+{
+    match term {
+        Term::Lit(_) => true,
+        Term::Var(_) => false,
+        Term::Card(_) => false,
+        Term::Neg(a) => is_fixed(a),
+        Term::Add(a, b) => is_fixed(a) && is_fixed(b),
+        Term::Sub(a, b) => is_fixed(a) && is_fixed(b),
+        Term::Mul(a, b) => is_fixed(a) && is_fixed(b),
+        Term::Div(_, _) => false,
+        Term::Mod(_, _) => false,
+        Term::Abs(a) => is_fixed(a),
+    }
+}
+
+/// The operation of two number forms.
+fn of_terms(alloc: Global, op: BinOp, place: Place, a: Term, b: Term) -> Result<Reading, NoMemory>
+    ensures { IfOk result (λ r. reading_of r ≡ binary_reading op place (a_term (term_tree a)) (a_term (term_tree b))) }
+{
+    match op {
+        BinOp::Add => Ok(Reading::Term(Term::Add(Box::new(alloc, a)?, Box::new(alloc, b)?))),
+        BinOp::Sub => Ok(Reading::Term(Term::Sub(Box::new(alloc, a)?, Box::new(alloc, b)?))),
+        BinOp::Mul => {
+            if is_fixed(&a) || is_fixed(&b) {
+                Ok(Reading::Term(Term::Mul(Box::new(alloc, a)?, Box::new(alloc, b)?)))
+            } else {
+                Ok(Reading::Bent(place))
+            }
+        }
+        BinOp::Compare(order) => Ok(Reading::Relation(Rel::Compare {
+            order,
+            left: Box::new(alloc, a)?,
+            right: Box::new(alloc, b)?,
+        })),
+        BinOp::And => Ok(Reading::Bent(place)),
+        BinOp::Or => Ok(Reading::Bent(place)),
+        BinOp::Union => Ok(Reading::Bent(place)),
+        BinOp::Inter => Ok(Reading::Bent(place)),
+        BinOp::Diff => Ok(Reading::Bent(place)),
+        BinOp::Subset => Ok(Reading::Bent(place)),
+    }
+}
+
+/// The operation of two relations.
+fn of_relations(alloc: Global, op: BinOp, place: Place, a: Rel, b: Rel) -> Result<Reading, NoMemory>
+    ensures { IfOk result (λ r. reading_of r ≡ binary_reading op place (a_relation (rel_tree a)) (a_relation (rel_tree b))) }
+{
+    match op {
+        BinOp::And => Ok(Reading::Relation(Rel::And(Box::new(alloc, a)?, Box::new(alloc, b)?))),
+        BinOp::Or => Ok(Reading::Relation(Rel::Or(Box::new(alloc, a)?, Box::new(alloc, b)?))),
+        BinOp::Add => Ok(Reading::Bent(place)),
+        BinOp::Sub => Ok(Reading::Bent(place)),
+        BinOp::Mul => Ok(Reading::Bent(place)),
+        BinOp::Compare(_) => Ok(Reading::Bent(place)),
+        BinOp::Union => Ok(Reading::Bent(place)),
+        BinOp::Inter => Ok(Reading::Bent(place)),
+        BinOp::Diff => Ok(Reading::Bent(place)),
+        BinOp::Subset => Ok(Reading::Bent(place)),
+    }
+}
+
+/// The comparison of two set forms.
+fn of_compared_sets(
+    alloc: Global,
+    order: Order,
+    place: Place,
+    a: SetTerm,
+    b: SetTerm,
+) -> Result<Reading, NoMemory>
+    ensures { IfOk result (λ r. reading_of r ≡ sets_reading order place (set_tree a) (set_tree b)) }
+{
+    match order {
+        Order::Eq => Ok(Reading::Relation(Rel::SameSet(Box::new(alloc, a)?, Box::new(alloc, b)?))),
+        Order::Ne => Ok(Reading::Relation(Rel::OtherSet(Box::new(alloc, a)?, Box::new(alloc, b)?))),
+        Order::Lt => Ok(Reading::Bent(place)),
+        Order::Le => Ok(Reading::Bent(place)),
+        Order::Gt => Ok(Reading::Bent(place)),
+        Order::Ge => Ok(Reading::Bent(place)),
+    }
+}
+
+/// The operation of two set forms.
+fn of_sets(
+    alloc: Global,
+    op: BinOp,
+    place: Place,
+    a: SetTerm,
+    b: SetTerm,
+) -> Result<Reading, NoMemory>
+    ensures { IfOk result (λ r. reading_of r ≡ binary_reading op place (a_set (set_tree a)) (a_set (set_tree b))) }
+{
+    match op {
+        BinOp::Union => Ok(Reading::Set(SetTerm::Union(Box::new(alloc, a)?, Box::new(alloc, b)?))),
+        BinOp::Inter => Ok(Reading::Set(SetTerm::Inter(Box::new(alloc, a)?, Box::new(alloc, b)?))),
+        BinOp::Diff => Ok(Reading::Set(SetTerm::Diff(Box::new(alloc, a)?, Box::new(alloc, b)?))),
+        BinOp::Subset => Ok(Reading::Relation(Rel::Subset(
+            Box::new(alloc, a)?,
+            Box::new(alloc, b)?,
+        ))),
+        BinOp::Compare(order) => of_compared_sets(alloc, order, place, a, b),
+        BinOp::Add => Ok(Reading::Bent(place)),
+        BinOp::Sub => Ok(Reading::Bent(place)),
+        BinOp::Mul => Ok(Reading::Bent(place)),
+        BinOp::And => Ok(Reading::Bent(place)),
+        BinOp::Or => Ok(Reading::Bent(place)),
+    }
+}
+
+/// An operation whose left side is a relation.
+#[tactic(auto, using(crate::proofs::ReadingLemmas::relation_and_term, crate::proofs::ReadingLemmas::relation_and_set))]
+fn on_left_relation(
+    alloc: Global,
+    op: BinOp,
+    place: Place,
+    a: Rel,
+    right: Reading,
+) -> Result<Reading, NoMemory>
+    ensures { IfOk result (λ r. reading_of r ≡ binary_reading op place (a_relation (rel_tree a)) (reading_of right)) }
+{
+    match right {
+        Reading::Relation(b) => of_relations(alloc, op, place, a, b),
+        Reading::Term(_) => Ok(Reading::Bent(place)),
+        Reading::Set(_) => Ok(Reading::Bent(place)),
+        Reading::Bent(first) => match op {
+            BinOp::Add => Ok(Reading::Bent(place)),
+            BinOp::Sub => Ok(Reading::Bent(place)),
+            BinOp::Mul => Ok(Reading::Bent(place)),
+            BinOp::And => Ok(Reading::Bent(first)),
+            BinOp::Or => Ok(Reading::Bent(first)),
+            BinOp::Union => Ok(Reading::Bent(place)),
+            BinOp::Inter => Ok(Reading::Bent(place)),
+            BinOp::Diff => Ok(Reading::Bent(place)),
+            BinOp::Subset => Ok(Reading::Bent(place)),
+            BinOp::Compare(_) => Ok(Reading::Bent(first)),
+        },
+    }
+}
+
+/// An operation whose left side is a number form.
+#[tactic(auto, using(crate::proofs::ReadingLemmas::term_and_relation, crate::proofs::ReadingLemmas::term_and_set))]
+fn on_left_term(
+    alloc: Global,
+    op: BinOp,
+    place: Place,
+    a: Term,
+    right: Reading,
+) -> Result<Reading, NoMemory>
+    ensures { IfOk result (λ r. reading_of r ≡ binary_reading op place (a_term (term_tree a)) (reading_of right)) }
+{
+    match right {
+        Reading::Relation(_) => Ok(Reading::Bent(place)),
+        Reading::Term(b) => of_terms(alloc, op, place, a, b),
+        Reading::Set(_) => Ok(Reading::Bent(place)),
+        Reading::Bent(first) => match op {
+            BinOp::Add => Ok(Reading::Bent(first)),
+            BinOp::Sub => Ok(Reading::Bent(first)),
+            BinOp::Mul => Ok(Reading::Bent(first)),
+            BinOp::And => Ok(Reading::Bent(place)),
+            BinOp::Or => Ok(Reading::Bent(place)),
+            BinOp::Union => Ok(Reading::Bent(place)),
+            BinOp::Inter => Ok(Reading::Bent(place)),
+            BinOp::Diff => Ok(Reading::Bent(place)),
+            BinOp::Subset => Ok(Reading::Bent(place)),
+            BinOp::Compare(_) => Ok(Reading::Bent(first)),
+        },
+    }
+}
+
+/// An operation whose left side is a set form.
+#[tactic(auto, using(crate::proofs::ReadingLemmas::set_and_relation, crate::proofs::ReadingLemmas::set_and_term))]
+fn on_left_set(
+    alloc: Global,
+    op: BinOp,
+    place: Place,
+    a: SetTerm,
+    right: Reading,
+) -> Result<Reading, NoMemory>
+    ensures { IfOk result (λ r. reading_of r ≡ binary_reading op place (a_set (set_tree a)) (reading_of right)) }
+{
+    match right {
+        Reading::Relation(_) => Ok(Reading::Bent(place)),
+        Reading::Term(_) => Ok(Reading::Bent(place)),
+        Reading::Set(b) => of_sets(alloc, op, place, a, b),
+        Reading::Bent(first) => match op {
+            BinOp::Add => Ok(Reading::Bent(place)),
+            BinOp::Sub => Ok(Reading::Bent(place)),
+            BinOp::Mul => Ok(Reading::Bent(place)),
+            BinOp::And => Ok(Reading::Bent(place)),
+            BinOp::Or => Ok(Reading::Bent(place)),
+            BinOp::Union => Ok(Reading::Bent(first)),
+            BinOp::Inter => Ok(Reading::Bent(first)),
+            BinOp::Diff => Ok(Reading::Bent(first)),
+            BinOp::Subset => Ok(Reading::Bent(first)),
+            BinOp::Compare(_) => Ok(Reading::Bent(first)),
+        },
+    }
+}
+
+/// An operation with two sides.
+#[tactic(auto, using(crate::proofs::ReadingLemmas::bent_left))]
+pub fn of_binary(
+    alloc: Global,
+    op: BinOp,
+    place: Place,
+    left: Reading,
+    right: Reading,
+) -> Result<Reading, NoMemory>
+    ensures { IfOk result (λ r. reading_of r ≡ binary_reading op place (reading_of left) (reading_of right)) }
+{
+    match left {
+        Reading::Relation(a) => on_left_relation(alloc, op, place, a, right),
+        Reading::Term(a) => on_left_term(alloc, op, place, a, right),
+        Reading::Set(a) => on_left_set(alloc, op, place, a, right),
+        Reading::Bent(first) => Ok(Reading::Bent(first)),
+    }
+}
