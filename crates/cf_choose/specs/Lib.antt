@@ -1,1 +1,5 @@
+pub mod Drafts
+pub mod Forms
+pub mod Made
 pub mod Solved
+pub mod Taken

@@ -1,10 +1,10 @@
 //! Solving a relation for its outputs.
-ghost use Rattle.std.specs.Prelude.{◌≡◌, ◌++◌, All};
+ghost use Rattle.std.specs.Prelude.{◌++◌, All};
 ghost use Rattle.cf_tree.specs.RelView.{rel_tree};
 ghost use Rattle.cf_tree.specs.Relation.{IsTyped, IsLinear};
 ghost use Rattle.cf_choose.specs.Solved.{IsOutput, Tells};
 
-use crate::fault::ChooseFault;
+use crate::fault::{ChooseFault, not_built};
 use crate::solved::Solved;
 use cf_tree::base::Base;
 use cf_tree::rel::Rel;
@@ -23,12 +23,5 @@ pub fn solve(
     requires outputs { All IsOutput outputs.now }
     ensures { Tells scope.now outputs.now (rel_tree rel.now) result }
 {
-    not_built()
-}
-
-// Want of memory, for a form that is not built yet.
-fn not_built() -> Result<Solved, ChooseFault>
-    ensures { result ≡ Err ChooseFault.NoMemory }
-{
-    Err(ChooseFault::NoMemory)
+    Err(ChooseFault::from(not_built()))
 }

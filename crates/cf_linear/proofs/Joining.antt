@@ -68,14 +68,14 @@ passes_somewhere a r b s c h =
     or_true true = refl
     or_true false = refl
 
-passes_nowhere : (a : ℤ) (r : Row) (b : ℤ) (s : Row) → ((c : ℕ) → passes_at a r b s c ≡ false) → comb_passes a r b s ≡ false
+pub passes_nowhere : (a : ℤ) (r : Row) (b : ℤ) (s : Row) → ((c : ℕ) → passes_at a r b s c ≡ false) → comb_passes a r b s ≡ false
 passes_nowhere a r b s h = rw (none_at (passes_at a r b s) h r, none_at (passes_at a r b s) h s) refl
 
-AreBelow-raise : (m n : ℕ) (r : Row) → m ≤ n → AreBelow m r → AreBelow n r
+pub AreBelow-raise : (m n : ℕ) (r : Row) → m ≤ n → AreBelow m r → AreBelow n r
 AreBelow-raise m n [] h p = tt
 AreBelow-raise m n ((c, k) ∷ r) h p = (let l = p.0 in omega arith, AreBelow-raise m n r h p.1)
 
-AreBelow-append : (n : ℕ) (r s : Row) → AreBelow n r → AreBelow n s → AreBelow n (r ++ s)
+pub AreBelow-append : (n : ℕ) (r s : Row) → AreBelow n r → AreBelow n s → AreBelow n (r ++ s)
 AreBelow-append n [] s p q = q
 AreBelow-append n ((c, k) ∷ r) s p q = (p.0, AreBelow-append n r s p.1 q)
 

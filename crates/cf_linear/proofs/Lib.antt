@@ -1,11 +1,14 @@
 pub mod BoolLemmas
 pub mod Canonical
+pub mod ColumnLemmas
 pub mod CombLemmas
 pub mod Examples
 pub mod Joining
 pub mod MapLemmas
 pub mod MergingLemmas
+pub mod PassingLemmas
 pub mod RowLemmas
 pub mod RowTests
 pub mod StageLemmas
 pub mod WrittenLemmas
+pub mod WritingLemmas

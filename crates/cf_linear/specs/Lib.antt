@@ -5,6 +5,7 @@ pub mod Steps
 pub mod Stages
 pub mod Layout
 pub mod Written
+pub mod Parts
 pub mod Cases
 pub mod Arm
 pub mod Chooses

@@ -1,6 +1,7 @@
 //! Rows of coefficients, and the definitions of the elimination on them.
 #![tactic(auto)]
 
+pub mod columns;
 pub mod refusal;
 pub mod row;
 pub mod system;

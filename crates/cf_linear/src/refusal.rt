@@ -1,5 +1,8 @@
 //! Refusals of a `choose`.
+ghost use Rattle.std.specs.Prelude.{◌≡◌};
+
 use cf_tree::memory::NoMemory;
+use std::alloc::{AllocError, AllocFailed};
 
 /// Which counted limit a `choose` passes.
 #[derive(Clone, Copy, Debug, PartialEq, Eq)]
@@ -34,7 +37,31 @@ pub enum RowFault {
 }
 
 impl From<NoMemory> for RowFault {
+    ghost use Rattle.cf_linear.specs.declared.refusal.RowFault.{RowFault};
+
+    ghost from_gives = { λ _ e. e ≡ RowFault.NoMemory };
+
     fn from(_e: NoMemory) -> RowFault {
+        RowFault::NoMemory
+    }
+}
+
+impl From<AllocError> for RowFault {
+    ghost use Rattle.cf_linear.specs.declared.refusal.RowFault.{RowFault};
+
+    ghost from_gives = { λ _ e. e ≡ RowFault.NoMemory };
+
+    fn from(_e: AllocError) -> RowFault {
+        RowFault::NoMemory
+    }
+}
+
+impl<T: Drop> From<AllocFailed<T>> for RowFault {
+    ghost use Rattle.cf_linear.specs.declared.refusal.RowFault.{RowFault};
+
+    ghost from_gives = { λ _ e. e ≡ RowFault.NoMemory };
+
+    fn from(_e: AllocFailed<T>) -> RowFault {
         RowFault::NoMemory
     }
 }

@@ -1,8 +1,9 @@
 //! Rows.
-ghost use Rattle.std.specs.Prelude.{◌≡◌, ◌≤◌, ◌<◌, ◌⊎◌, ◌↔◌, ◌++◌, ℕ, ℤ, pos, ◌+ℤ◌, ◌*ℤ◌, List, [], ◌∷◌, length, drop, get_or, slice_index_or, All, true, false, Result, Ok, Err, IfOk, OnOk, IfSome};
+ghost use Rattle.std.specs.Prelude.{◌≡◌, ◌≤◌, ◌<◌, ◌⊎◌, ◌↔◌, ◌++◌, ℕ, ℤ, pos, negsuc, ◌+ℤ◌, ◌*ℤ◌, List, [], ◌∷◌, length, drop, get_or, slice_index_or, All, true, false, Result, Ok, Err, IfOk, OnOk, IfSome};
 ghost use Rattle.cf_num.specs.Limit.{IsWithin};
 ghost use Rattle.cf_linear.specs.Rows.{entry, put, comb, comb_passes, sum_passes, Rises, IsRow, AreBelow, next_sum, value_from, same_row};
 ghost use Rattle.cf_linear.specs.Merging.{two_products, IsLeast, IsTaken};
+ghost use Rattle.cf_linear.specs.Parts.{GivesRow, OnlySums};
 
 use crate::refusal::RowFault;
 use cf_num::{add, mul};
@@ -77,6 +78,7 @@ impl Row {
         ensures value { IfOk result (λ r. r ≡ comb a self.now b other.now) }
         ensures fits { IfOk result (λ r. comb_passes a self.now b other.now ≡ false) }
         ensures past { result ≡ Err RowFault.Past → comb_passes a self.now b other.now ≡ true }
+        ensures rows { IsRow self.now × IsRow other.now }
     {
         let (left, right) = (self.len(), other.len());
         let mut out = Row::empty(alloc);
@@ -94,6 +96,39 @@ impl Row {
             j = next_j;
         }
         Ok(out)
+    }
+
+    /// The same where of two products and their sum only the sum can pass the limit. Past exactly where
+    /// an entry of the answer passes.
+    pub(crate) fn sum(&self, alloc: Global, a: i128, other: &Row, b: i128) -> Result<Row, RowFault>
+        requires a_in { IsWithin a }
+        requires b_in { IsWithin b }
+        requires only { IsRow self.now → IsRow other.now → OnlySums a self.now b other.now }
+        ensures gives { GivesRow (comb a self.now b other.now) result }
+        ensures rows { IsRow self.now }
+    {
+        self.combine(alloc, a, other, b)
+    }
+
+    /// `k` times the row. Past exactly where an entry of the answer passes.
+    pub(crate) fn times(&self, alloc: Global, k: i128) -> Result<Row, RowFault>
+        requires k_in { IsWithin k }
+        ensures gives { GivesRow (comb k self.now (pos 0) []) result }
+        ensures rows { IsRow self.now }
+    {
+        let none = Row::empty(alloc);
+        self.sum(alloc, k, &none, 0)
+    }
+
+    /// The row with the other signs.
+    pub(crate) fn negated(&self, alloc: Global) -> Result<Row, NoMemory>
+        ensures { IfOk result (λ r. r ≡ comb (negsuc 0) self.now (pos 0) []) }
+    {
+        match self.times(alloc, -1) {
+            Ok(row) => Ok(row),
+            Err(RowFault::NoMemory) => Err(NoMemory),
+            Err(RowFault::Past) => unreachable!(),
+        }
     }
 
     /// The value where column `i` has `values[i]`. None exactly where a product, or a partial sum in
@@ -171,8 +206,8 @@ impl Row {
         }
     }
 
-    // Adds the entry at the end, if it is not 0.
-    fn append(&mut self, column: u32, k: i128) -> Result<(), NoMemory>
+    /// Adds the entry at the end, if it is not 0.
+    pub(crate) fn append(&mut self, column: u32, k: i128) -> Result<(), NoMemory>
         requires after { AreBelow column self.old }
         requires k_in { IsWithin k }
         ensures { OnOk result (self.new ≡ self.old ++ put column k []) }

@@ -1,15 +1,19 @@
 //! Written number forms.
-ghost use Rattle.std.specs.Prelude.{◌≡◌, ◌+◌, ◌≤◌, ◌<◌, ◌^◌, pos, length, map, true, false, Err, IfOk};
+ghost use Rattle.std.specs.Prelude.{◌≡◌, ◌+◌, ◌≤◌, ◌<◌, ◌^◌, pos, negsuc, length, map, drop, true, false, Err, IfOk};
+ghost use Rattle.cf_num.specs.Limit.{IsWithin};
 ghost use Rattle.cf_tree.specs.RelView.{term_tree};
-ghost use Rattle.cf_tree.specs.Relation.{IsLinearTerm};
-ghost use Rattle.cf_linear.specs.Rows.{Values, value};
+ghost use Rattle.cf_tree.specs.Relation.{IsLinearTerm, is_fixed, IsDivisor};
+ghost use Rattle.cf_linear.specs.Rows.{Values, value, comb};
 ghost use Rattle.cf_linear.specs.Layout.{set_count, first_free};
-ghost use Rattle.cf_linear.specs.Written.{write, val_at, GuardsHold, IsPlaced, abs_count, quotient_count};
+ghost use Rattle.cf_linear.specs.Written.{first_sign, other_signs, plus, above_quotient, below_quotient, product_by, write, val_at, GuardsHold, IsPlaced, abs_count, quotient_count};
+ghost use Rattle.cf_linear.specs.Parts.{Gives, GivesRow, GivesQuotient, GivesSigned, Tested};
 ghost use Rattle.cf_linear.specs.Views.{plain_levels, guard_of};
 
+use crate::columns::number_column;
 use crate::refusal::RowFault;
 use crate::row::Row;
 use crate::system::Layout;
+use cf_num::neg;
 use cf_tree::rel::Term;
 use std::alloc::Global;
 
@@ -53,12 +57,171 @@ pub fn row_of(
     ensures fits { IfOk result (λ w. (write (plain_levels layout.now) (term_tree term.now) signs.now next).passes ≡ false) }
     ensures past { result ≡ Err RowFault.Past → (write (plain_levels layout.now) (term_tree term.now) signs.now next).passes ≡ true }
 {
-    not_built()
+    let mut guards = Vec::new(alloc);
+    let part = part_of(alloc, term, layout, signs, 0, next, &mut guards)?;
+    Ok(Written {
+        row: part.row,
+        guards,
+        next: part.next,
+    })
+}
+
+// What is written of a form: its row, the next free column, and how many signs are used.
+#[derive(Drop)]
+struct Part {
+    row: Row,
+    next: u32,
+    used: usize,
+}
+
+// Writes a form of which `used` signs were used before it, and adds the guards of its parts.
+fn part_of(
+    alloc: Global,
+    term: &Term,
+    layout: &Layout,
+    signs: &[bool],
+    used: usize,
+    next: u32,
+    guards: &mut Vec<Guard>,
+) -> Result<Part, RowFault>
+    requires placed { IsPlaced (plain_levels layout.now) (term_tree term.now) }
+    requires sets { set_count (plain_levels layout.now) ≤ 6 }
+    requires above { first_free (plain_levels layout.now) ≤ next }
+    requires room { next + quotient_count (term_tree term.now) < 2 ^ 32 }
+    ensures { Gives (write (plain_levels layout.now) (term_tree term.now) (drop used signs.now) next) signs.now (map guard_of guards.old.items) (map guard_of guards.new.items) result }
+{
+    match term {
+        Term::Lit(n) => {
+            let row = Row::unit(alloc, 0, *n)?;
+            Ok(Part { row, next, used })
+        }
+        Term::Var(x) => {
+            let row = Row::unit(alloc, number_column(layout, *x), 1)?;
+            Ok(Part { row, next, used })
+        }
+        _ => not_built(),
+    }
 }
 
 // What is not built yet.
-fn not_built() -> Result<Written, RowFault>
+fn not_built() -> Result<Part, RowFault>
     ensures { result ≡ Err RowFault.NoMemory }
 {
     Err(RowFault::NoMemory)
+}
+
+// The sum of two rows.
+fn added(alloc: Global, left: &Row, right: &Row) -> Result<Row, RowFault>
+    ensures { GivesRow (comb (pos 1) left.now (pos 1) right.now) result }
+{
+    left.sum(alloc, 1, right, 1)
+}
+
+// The difference of two rows.
+fn subtracted(alloc: Global, left: &Row, right: &Row) -> Result<Row, RowFault>
+    ensures { GivesRow (comb (pos 1) left.now (negsuc 0) right.now) result }
+{
+    left.sum(alloc, 1, right, -1)
+}
+
+// The product of two rows, of which the left one is of the constant alone, or else the right one.
+fn multiplied(alloc: Global, is_left_fixed: bool, left: &Row, right: &Row) -> Result<Row, RowFault>
+    ensures { GivesRow (product_by is_left_fixed left.now right.now) result }
+{
+    if is_left_fixed {
+        right.times(alloc, left.entry(0))
+    } else {
+        left.times(alloc, right.entry(0))
+    }
+}
+
+// Adds the guard of the quotient of the row by `k`, and gives the row of the remainder.
+fn add_quotient(
+    alloc: Global,
+    guards: &mut Vec<Guard>,
+    column: u32,
+    of: Row,
+    k: &i128,
+) -> Result<Row, RowFault>
+    requires column { 1 ≤ column }
+    requires divisor { IsDivisor k.now }
+    ensures { GivesQuotient column of k.now (map guard_of guards.old.items) (map guard_of guards.new.items) result }
+{
+    let above = above_quotient(alloc, column, &of, k)?;
+    test_below(alloc, column, &of, k)?;
+    guards.push(Guard::Quotient { column, of, k: *k })?;
+    Ok(above)
+}
+
+// What is left of the row where the column holds its quotient by `k`.
+fn above_quotient(alloc: Global, column: u32, of: &Row, k: &i128) -> Result<Row, RowFault>
+    requires { IsDivisor k.now }
+    ensures { GivesRow (above_quotient column of.now k.now) result }
+{
+    let quotient = Row::unit(alloc, column, 1)?;
+    of.sum(alloc, 1, &quotient, neg(*k))
+}
+
+// Past exactly where an entry passes the limit of the row that is at least 0 where the column is at
+// least the quotient.
+fn test_below(alloc: Global, column: u32, of: &Row, k: &i128) -> Result<(), RowFault>
+    requires column { 1 ≤ column }
+    requires divisor { IsDivisor k.now }
+    ensures { Tested (below_quotient column of.now k.now) result }
+{
+    let quotient = Row::unit(alloc, column, 1)?;
+    match of.sum(alloc, -1, &quotient, *k) {
+        Ok(turned) => test_with(alloc, &turned, *k - 1),
+        Err(fault) => Err(fault),
+    }
+}
+
+// Past exactly where an entry of the row with `n` more at the constant passes the limit.
+fn test_with(alloc: Global, row: &Row, n: i128) -> Result<(), RowFault>
+    requires n_in { IsWithin n }
+    ensures { Tested (plus row.now n) result }
+{
+    let constant = Row::unit(alloc, 0, n)?;
+    added(alloc, row, &constant)?;
+    Ok(())
+}
+
+// Adds the guard of the sign, true being minus, and gives the row with the sign.
+fn add_sign(alloc: Global, guards: &mut Vec<Guard>, minus: bool, row: Row) -> Result<Row, RowFault>
+    ensures { GivesSigned minus row (map guard_of guards.old.items) (map guard_of guards.new.items) result }
+{
+    if minus {
+        let negated = row.negated(alloc)?;
+        let one_less = Row::unit(alloc, 0, -1)?;
+        let guard = added(alloc, &negated, &one_less)?;
+        guards.push(Guard::Sign(guard))?;
+        Ok(negated)
+    } else {
+        let guard = row.try_copy(alloc)?;
+        guards.push(Guard::Sign(guard))?;
+        Ok(row)
+    }
+}
+
+// The next sign, and how many are used with it.
+fn take_sign(signs: &[bool], used: usize) -> (bool, usize)
+    ensures sign { result.0 ≡ first_sign (drop used signs.now) }
+    ensures rest { drop result.1 signs.now ≡ other_signs (drop used signs.now) }
+{
+    match signs.get(used) {
+        Some(minus) => (*minus, used + 1),
+        None => (false, used),
+    }
+}
+
+// Whether a form holds no variable, no `card`, no `div` and no `mod`.
+fn is_fixed(term: &Term) -> bool
+    ensures { result ≡ is_fixed (term_tree term.now) }
+{
+    match term {
+        Term::Lit(_) => true,
+        Term::Var(_) | Term::Card(_) | Term::Div(_, _) | Term::Mod(_, _) => false,
+        Term::Neg(a) | Term::Abs(a) => is_fixed(a),
+        Term::Add(a, b) | Term::Sub(a, b) | Term::Mul(a, b) => is_fixed(a) && is_fixed(b),
+    }
 }

@@ -1,0 +1,53 @@
+-- What the private calls of `row_of` answer.
+use Rattle.std.specs.Prelude.{◌≡◌, ℕ, ℤ, ◌+ℤ◌, ◌*ℤ◌, Bool, true, false, List, [], ◌∷◌, ◌++◌, ◌||◌, drop, Result, Ok, Err}
+use Rattle.cf_linear.specs.declared.refusal.RowFault.{RowFault}
+use Rattle.cf_linear.specs.declared.refusal.RowFault.TheVariants.{Past, NoMemory}
+use Rattle.cf_linear.specs.declared.written.Part.{Part}
+use Rattle.cf_linear.specs.Rows.{Row, entry, passes, sum_passes, row_passes}
+use Rattle.cf_linear.specs.Written.{GuardTree, quotient_guard, above_quotient, below_quotient, WrittenTree, signed_by}
+
+-- a fault that is Past only where b
+abbrev pub Fails : Bool → RowFault → Type 0
+Fails b Past = b ≡ true
+Fails b NoMemory = Unit {0}
+
+-- the row r, or Past where an entry of it passes the limit
+abbrev pub GivesRow : Row → Result Row RowFault → Type 0
+GivesRow r (Ok x) = (x ≡ r) × (row_passes r ≡ false)
+GivesRow r (Err e) = Fails (row_passes r) e
+
+-- whether an entry of the row r passes the limit
+abbrev pub Tested : Row → Result (Unit {0}) RowFault → Type 0
+Tested r (Ok u) = row_passes r ≡ false
+Tested r (Err e) = Fails (row_passes r) e
+
+-- of two products and their sum only the sum can pass the limit
+abbrev pub OnlySums : ℤ → Row → ℤ → Row → Type 0
+OnlySums a r b s = (c : ℕ) → sum_passes a (entry r c) b (entry s c) ≡ true → passes (a *ℤ entry r c +ℤ b *ℤ entry s c) ≡ true
+
+-- the row, the next free column and the number of used signs of the written part w, which added its guards
+pub record IsPart (w : WrittenTree) (signs : List Bool) (before after : List GuardTree) (row : Row) (next used : ℕ) : Type 0 where
+  pub row_is : row ≡ w.row
+  pub guards_are : after ≡ before ++ w.guards
+  pub next_is : next ≡ w.next
+  pub left : drop used signs ≡ w.signs
+  pub fits : w.passes ≡ false
+
+abbrev pub Gives : WrittenTree → List Bool → List GuardTree → List GuardTree → Result Part RowFault → Type 0
+Gives w signs before after (Ok p) = IsPart w signs before after p.row p.next p.used
+Gives w signs before after (Err e) = Fails w.passes e
+
+-- the row of the remainder, after the guard of the quotient in column c was added
+abbrev pub GivesQuotient : ℕ → Row → ℤ → List GuardTree → List GuardTree → Result Row RowFault → Type 0
+GivesQuotient c r k before after (Ok x) =
+    (x ≡ above_quotient c r k) × ((row_passes (above_quotient c r k) || row_passes (below_quotient c r k)) ≡ false) × (after ≡ before ++ (quotient_guard c r k ∷ []))
+GivesQuotient c r k before after (Err e) = Fails (row_passes (above_quotient c r k) || row_passes (below_quotient c r k)) e
+
+-- a row alone
+abbrev pub bare : Row → WrittenTree
+bare r = record { row = r; guards = []; next = 0; signs = []; passes = false }
+
+-- the row with its sign, true being minus, after the guard of the sign was added
+abbrev pub GivesSigned : Bool → Row → List GuardTree → List GuardTree → Result Row RowFault → Type 0
+GivesSigned b r before after (Ok x) = (x ≡ (signed_by b (bare r)).row) × ((signed_by b (bare r)).passes ≡ false) × (after ≡ before ++ (signed_by b (bare r)).guards)
+GivesSigned b r before after (Err e) = Fails (signed_by b (bare r)).passes e
