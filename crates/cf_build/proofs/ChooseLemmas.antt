@@ -17,6 +17,7 @@ use Rattle.cf_tree.specs.Values.{Value, HaveBases}
 use Rattle.cf_tree.proofs.SolvingLemmas.{solve_chosen}
 use Rattle.cf_linear.specs.declared.refusal.Refusal.{Refusal}
 use Rattle.cf_linear.specs.Chooses.{limit}
+use Rattle.cf_type.specs.Lowered.{lowered}
 use Rattle.cf_type.specs.Names.{bases_of}
 use Rattle.cf_type.specs.TypedProgram.{HasBases as HasExprBases, Takes, IsTypedProgram, numbers}
 use Rattle.cf_build.specs.Built.{IsChooseTarget, IsBuilt, SourceAllows, Tells, TellsChoose}
@@ -61,29 +62,35 @@ module _ (d : DefTree) (main n : ℕ) (params : List Param) (outputs : List Base
   allowed_by arms solves has env h =
       rw (main_is, same) (solve_chosen n (bases_of params) outputs rel arms solves has env h)
 
-  built : (t : RawTarget) → IsChooseTarget n (bases_of params) outputs rel t → IsBuilt (d ∷ []) main t
-  built t c =
+  abbrev question : Question
+  question = record { number = n; scope = bases_of params; outputs = outputs; relation = rel }
+
+  solved : limit (bases_of params) outputs rel ≡ None → (q : Question) → Contains (all_questions (d ∷ [])) q → limit_of q ≡ None
+  solved e =
+      subst (λ b. (q : Question) → Contains (questions (lowered b) ++ []) q → limit_of q ≡ None) (sym same)
+      (λ q c. subst (λ x. limit_of x ≡ None) (contains_one question q c) e)
+
+  built : (t : RawTarget) → IsChooseTarget n (bases_of params) outputs rel t → limit (bases_of params) outputs rel ≡ None → IsBuilt (d ∷ []) main t
+  built t c e =
       record {
         like_main = (d, rw main_is refl, c.params ∙ body_typed.0, c.results ∙ sym body_typed.5);
         spelled = rw (c.code) (omega (arith, c.shallow), ((positive, fits), c.spelled body_typed.1), rw c.results body_typed.1);
+        solved = solved e;
         allowed = λ env h. rw c.code (allowed_by c.arms c.solves c.typed env (rw (← c.params) h));
       }
-
-  abbrev question : Question
-  question = record { number = n; scope = bases_of params; outputs = outputs; relation = rel }
 
   no_smaller : (q : Question) → question ≡ q → q.number < n → ⊥
   no_smaller q e l = let f = ap (λ x. x.number) e in omega (arith, f, l)
 
   refused : (r : Refusal) → limit (bases_of params) outputs rel ≡ Some r → IsFirstRefused (all_questions (d ∷ [])) n r
   refused r e =
-      subst (λ b. IsFirstRefused (questions b ++ []) n r) (sym same)
+      subst (λ b. IsFirstRefused (questions (lowered b) ++ []) n r) (sym same)
       (record {
         refused = (question, (0, omega arith, refl), refl, e);
         first = λ q c l. absurd (no_smaller q (contains_one question q c) l);
       })
 
   pub tells : (r : Result RawTarget BuildFault) → TellsChoose n (bases_of params) outputs rel r → Tells (d ∷ []) main r
-  tells (Ok t) c = built t c
+  tells (Ok t) c = built t c.0 c.1
   tells (Err (Choose m r)) c = rw c.0 (refused r c.1)
   tells (Err NoMemory) c = tt

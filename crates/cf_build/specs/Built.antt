@@ -1,5 +1,5 @@
 -- What a built target keeps.
-use Rattle.std.specs.Prelude.{ℕ, ◌≤◌, ◌≡◌, List, length, map, slice_get, Some, Result, Ok, Err}
+use Rattle.std.specs.Prelude.{ℕ, ◌≤◌, ◌≡◌, List, length, map, slice_get, Some, None, Contains, Result, Ok, Err}
 use Rattle.cf_tree.specs.declared.target.RawTarget.{RawTarget}
 use Rattle.cf_tree.specs.Allowed.{ProgramAllows}
 use Rattle.cf_tree.specs.declared.base.Base.{Base}
@@ -16,16 +16,18 @@ use Rattle.cf_linear.specs.Chooses.{limit}
 use Rattle.cf_type.specs.Names.{bases_of}
 use Rattle.cf_build.specs.declared.fault.BuildFault.{BuildFault}
 use Rattle.cf_build.specs.declared.fault.BuildFault.TheVariants.{Choose, NoMemory}
-use Rattle.cf_build.specs.Questions.{all_questions, IsFirstRefused}
+use Rattle.cf_build.specs.Questions.{Question, limit_of, all_questions, IsFirstRefused}
 
 -- what the functions of a program allow a call of function number f to do
 abbrev pub SourceAllows : List DefTree → ℕ → List Value → Outcome → Type 0
 SourceAllows defs f = ProgramAllows (map (λ d. d.body) defs) f
 
--- the target has main's parameters and results, a spelling, and in each environment an outcome that the source allows
+-- no choose of the program is refused, and the target has main's parameters and results, a spelling, and in each environment an outcome that
+-- the source allows
 pub record IsBuilt (defs : List DefTree) (main : ℕ) (t : RawTarget) : Type 0 where
   pub like_main : (d : DefTree) × (slice_get defs main ≡ Some d) × (t.params.items ≡ bases_of d.params) × (t.results.items ≡ d.results)
   pub spelled : HasSpelling t
+  pub solved : (q : Question) → Contains (all_questions defs) q → limit_of q ≡ None
   pub allowed : (env : List Value) → HaveBases t.params.items env → SourceAllows defs main env (means (code_tree t.code) env)
 
 -- the target of choose number n alone: its code is a solve whose arms solve the relation
@@ -39,9 +41,9 @@ pub record IsChooseTarget (n : ℕ) (scope outputs : List Base) (rel : RelTree) 
   pub shallow : arms_depth arms ≤ 16
   pub spelled : 1 ≤ length outputs → AreArmsSpelled arms
 
--- the target of a choose alone, or its refusal, or want of memory
+-- the target of a choose alone, which passes no limit, or its refusal, or want of memory
 abbrev pub TellsChoose : ℕ → List Base → List Base → RelTree → Result RawTarget BuildFault → Type 0
-TellsChoose n scope outputs rel (Ok t) = IsChooseTarget n scope outputs rel t
+TellsChoose n scope outputs rel (Ok t) = IsChooseTarget n scope outputs rel t × (limit scope outputs rel ≡ None)
 TellsChoose n scope outputs rel (Err (Choose m r)) = (m ≡ n) × (limit scope outputs rel ≡ Some r)
 TellsChoose n scope outputs rel (Err NoMemory) = Unit {0}
 

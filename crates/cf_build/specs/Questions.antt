@@ -4,6 +4,7 @@ use Rattle.cf_tree.specs.declared.base.Base.{Base}
 use Rattle.cf_tree.specs.DefView.{DefTree}
 use Rattle.cf_tree.specs.ExprTree.{ExprTree, expr_lit, expr_truth, expr_var, expr_set_of, expr_tuple, expr_neg, expr_not, expr_abs, expr_binary, expr_divides, expr_div, expr_mod, expr_card, expr_if, expr_call, expr_let, expr_choose, expr_match, ExprTrees, no_exprs, expr_more, match_arm, MatchArmTrees, no_match_arms, match_arm_more}
 use Rattle.cf_tree.specs.RelTree.{RelTree}
+use Rattle.cf_type.specs.Lowered.{lowered}
 use Rattle.cf_type.specs.Names.{bases_of}
 use Rattle.cf_linear.specs.declared.refusal.Refusal.{Refusal}
 use Rattle.cf_linear.specs.Chooses.{limit}
@@ -48,9 +49,10 @@ abbrev mutual
   questions_arms no_match_arms = []
   questions_arms (match_arm_more (match_arm m factors k body) arms) = questions body ++ questions_arms arms
 
+-- those of all functions, with matches as the chooses that they stand for
 abbrev pub all_questions : List DefTree → List Question
 all_questions [] = []
-all_questions (d ∷ ds) = questions d.body ++ all_questions ds
+all_questions (d ∷ ds) = questions (lowered d.body) ++ all_questions ds
 
 -- choose number n is refused so, and none with a smaller number is refused
 pub record IsFirstRefused (qs : List Question) (n : ℕ) (r : Refusal) : Type 0 where

@@ -7,7 +7,6 @@ ghost use Rattle.cf_tree.specs.RelView.{rel_tree};
 ghost use Rattle.cf_choose.specs.Solved.{IsOutput};
 ghost use Rattle.cf_type.specs.Names.{bases_of};
 ghost use Rattle.cf_build.specs.Built.{Tells, TellsChoose, IsChooseTarget};
-ghost use Rattle.cf_build.specs.Matchless.{AreMatchless};
 
 use crate::fault::BuildFault;
 use cf_choose::fault::ChooseFault;
@@ -22,11 +21,10 @@ use cf_tree::target::{RawTarget, Target};
 use cf_type::typed::Typed;
 use std::alloc::Global;
 
-/// The target of a program without matches: main's body, with its calls unfolded and each choose
-/// replaced by its solved code; or the first choose that is refused. Every choose of every function
+/// The target of a program: main's body, with its calls unfolded, its matches as chooses, and each
+/// choose replaced by its solved code; or the first choose that is refused. Every choose of every function
 /// is solved, called or not.
 pub fn build(alloc: Global, typed: &Typed) -> Result<Target, BuildFault>
-    requires { AreMatchless (map def_tree typed.now.defs.items) }
     ensures { Tells (map def_tree typed.now.defs.items) typed.now.main result }
 {
     let Some(def) = only(typed.defs()) else {

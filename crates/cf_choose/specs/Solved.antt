@@ -1,5 +1,5 @@
 -- What a solved choose keeps, and what solving one answers.
-use Rattle.std.specs.Prelude.{ℕ, ◌≤◌, ◌≡◌, List, length, Option, Some, Result, Ok, Err}
+use Rattle.std.specs.Prelude.{ℕ, ◌≤◌, ◌≡◌, List, length, Option, Some, None, Result, Ok, Err}
 use Rattle.cf_tree.specs.declared.base.Base.{Base}
 use Rattle.cf_tree.specs.declared.base.Base.TheVariants.{Int, Bool, Set}
 use Rattle.cf_tree.specs.CodeTree.{arms_depth}
@@ -27,11 +27,12 @@ pub record IsSolved (s : SolvedParts) : Type 0 where
   pub shallow : arms_depth (arm_trees s.arms.items) ≤ 16
   pub spelled : 1 ≤ length s.outputs.items → AreArmsSpelled (arm_trees s.arms.items)
 
--- a solved choose of this relation over this scope and these outputs
+-- a solved choose of this relation over this scope and these outputs, which passes no limit
 pub record IsOf (scope outputs : List Base) (rel : RelTree) (s : SolvedParts) : Type 0 where
   pub same_scope : s.scope.items ≡ scope
   pub same_outputs : s.outputs.items ≡ outputs
   pub same_relation : rel_tree s.rel ≡ rel
+  pub within : limit scope outputs rel ≡ None
 
 -- the relation is solved, or its first limit refuses it, or memory ran out
 abbrev pub Tells : List Base → List Base → RelTree → Result SolvedParts ChooseFault → Type 0
