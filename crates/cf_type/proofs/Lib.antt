@@ -1,9 +1,14 @@
 mod BaseLaws
+mod CheckLemmas
+mod CountedLaws
+mod DivisorLaws
 mod Kept
 mod NameLemmas
+mod NumberLemmas
 mod ProgramLaws
 mod ReadingLemmas
 mod ReadsLaws
 mod Rising
 mod SizeLemmas
 mod WalkLaws
+mod WalkSteps

@@ -1,8 +1,10 @@
 pub mod Checked
+pub mod Counted
 pub mod FormView
 pub mod Gives
 pub mod Lowered
 pub mod Names
+pub mod Numbers
 pub mod Reading
 pub mod Size
 pub mod Source

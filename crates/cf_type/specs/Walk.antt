@@ -11,7 +11,7 @@ use Rattle.cf_tree.specs.declared.raw.BinOp.TheVariants.{Add, Sub, Mul, And, Or,
 use Rattle.cf_tree.specs.declared.raw.Param.{Param}
 use Rattle.cf_tree.specs.declared.raw.Part.{Part}
 use Rattle.cf_tree.specs.ExprTree.{ExprTree, expr_lit, expr_truth, expr_var, expr_set_of, expr_tuple, expr_neg, expr_not, expr_abs, expr_binary, expr_divides, expr_div, expr_mod, expr_card, expr_if, expr_call, expr_let, expr_choose, expr_match, exprs_of, MatchArmTree, match_arm, match_arms_of}
-use Rattle.cf_tree.specs.RawTree.{RawTree, raw_lit, raw_truth, raw_name, raw_set_of, raw_group, raw_tuple, raw_neg, raw_not, raw_abs, raw_binary, raw_divides, raw_div, raw_mod, raw_card, raw_call, raw_if, raw_let, raw_choose, raw_match, RawTrees, no_raws, raw_more, raw_arm, RawArmTrees, no_raw_arms, raw_arm_more}
+use Rattle.cf_tree.specs.RawTree.{RawTree, raw_lit, raw_truth, raw_name, raw_set_of, raw_group, raw_tuple, raw_neg, raw_not, raw_abs, raw_binary, raw_divides, raw_div, raw_mod, raw_card, raw_call, raw_if, raw_let, raw_choose, raw_match, RawTrees, no_raws, raw_more, RawArmTree, raw_arm, RawArmTrees, no_raw_arms, raw_arm_more}
 use Rattle.cf_tree.specs.RelTree.{term_lit, term_card, term_neg, term_div, term_mod, term_abs, empty_set, RelTree, rel_divides, rel_not}
 use Rattle.cf_type.specs.declared.fault.TypeFault.{TypeFault}
 use Rattle.cf_type.specs.declared.fault.TypeFault.TheVariants.{UnknownName, DuplicateName, WrongCount, Mismatch, CallsLater, NotLinear}
@@ -301,3 +301,13 @@ abbrev mutual
       where_none_repeated (repeated [] (map (λ x. x.name) parts) (map (λ x. x.place) parts)) (
       walk calls (scope ++ variables_of parts) (after_arm before.next parts) body >>= λ f.
       walk_arms calls scope (with_arm before parts k f) arms)
+
+-- the body of one arm
+abbrev pub walk_arm : (List ℕ → Option Callee) → List Param → ℕ → RawArmTree → Result Form TypeFault
+walk_arm calls scope n (raw_arm parts k body) =
+    where_none_repeated (repeated [] (map (λ x. x.name) parts) (map (λ x. x.place) parts)) (
+    walk calls (scope ++ variables_of parts) (after_arm n parts) body)
+
+-- the arms before, and this one with the form of its body
+abbrev pub with_walked : Arms → RawArmTree → Form → Arms
+with_walked arms (raw_arm parts k body) f = with_arm arms parts k f

@@ -12,9 +12,10 @@ ghost use Rattle.cf_type.specs.Names.{callee_from, bases_of};
 ghost use Rattle.cf_type.specs.Reading.{relation as a_relation, term as a_term, on_relation, on_term, on_set, truth_reading};
 ghost use Rattle.cf_type.specs.Walk.{form as form_is, one as one_base, no_forms as no_forms_of, with_form as with_form_of, no_arms as no_arms_of, with_arm as with_arm_of, variable_form, unary_form, binary_form, set_reading as set_reading_of, set_form, tuple_form, call_form, if_form, let_form, choose_form, match_form, linear as linear_of, arm_number, after_arm};
 
+use crate::callees::Callees;
 use crate::fault::TypeFault;
 use crate::form::{Arms, Form, Forms, Reading};
-use crate::names::{Variable, find_callee, same_bases};
+use crate::names::{Variable, same_bases};
 use crate::{bases, reading};
 use cf_tree::base::{Base, Place, Text};
 use cf_tree::expr::{Expr, MatchArm};
@@ -302,14 +303,14 @@ pub fn binary(
 pub fn call(
     alloc: Global,
     place: Place,
-    defs: &[RawDef],
+    callees: &Callees,
     caller: u32,
     name: &Text,
     args: Forms,
 ) -> Result<Form, TypeFault>
-    ensures { Gives form_of result (call_form place (callee_from caller 0 (map raw_def_tree defs.now) name.now) (forms_of args)) }
+    ensures { Gives form_of result (call_form place (callee_from caller 0 (map raw_def_tree callees.now) name.now) (forms_of args)) }
 {
-    match find_callee(defs, caller, name)? {
+    match callees.find(caller, name) {
         None => Err(TypeFault::UnknownName(place)),
         Some((number, def, is_earlier)) => call_of(alloc, place, number, def, is_earlier, args),
     }

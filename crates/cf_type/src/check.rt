@@ -1,28 +1,158 @@
 //! The rules over a program.
-ghost use Rattle.std.specs.Prelude.{◌≡◌};
-ghost use Rattle.cf_tree.specs.DefView.{program_tree};
-ghost use Rattle.cf_type.specs.Checked.{checked};
+ghost use Rattle.std.specs.Prelude.{◌≡◌, ℕ, [], length, map, take, codes, Ok, IfOk};
+ghost use Rattle.std.specs.Str.{bytes_eq};
+ghost use Rattle.cf_tree.specs.DefView.{program_tree, raw_def_tree, def_tree, DefTree};
+ghost use Rattle.cf_tree.specs.RawTree.{place_of};
+ghost use Rattle.cf_tree.specs.RawView.{raw_tree};
+ghost use Rattle.cf_type.specs.Checked.{checked, walk_def as walk_def_of, walk_defs as walk_defs_of, main_from, def_form};
+ghost use Rattle.cf_type.specs.declared.fault.TypeFault.TheVariants.{Mismatch};
+ghost use Rattle.cf_type.specs.FormView.{form_of};
 ghost use Rattle.cf_type.specs.Gives.{Gives};
+ghost use Rattle.cf_type.specs.Names.{callee_from, same_bases as same_bases_of};
 ghost use Rattle.cf_type.specs.Source.{IsSpelledProgram};
 ghost use Rattle.cf_type.specs.Typed.{typed_tree};
+ghost use Rattle.cf_type.specs.Walk.{where_kept, walk as walk_of};
 
+use crate::callees::Callees;
 use crate::fault::TypeFault;
-use crate::typed::Typed;
-use cf_tree::raw::Program;
+use crate::form::Form;
+use crate::names::{repeated_param, same_bases};
+use crate::scope::{Scope, copied_params};
+use crate::size;
+use crate::typed::{Typed, TypedDefs};
+use crate::walk::walk;
+use cf_tree::base::Text;
+use cf_tree::expr::Def;
+use cf_tree::memory::NoMemory;
+use cf_tree::raw::{Program, RawDef};
 use std::alloc::Global;
 
 /// The program with its names turned into levels and its chooses numbered, or the first rule that
 /// it breaks in the order of its text.
+#[tactic(auto, using(crate::proofs::CheckLemmas::fails_is, crate::proofs::WalkSteps::fails_then))]
 pub fn check(alloc: Global, program: &Program) -> Result<Typed, TypeFault>
     requires { IsSpelledProgram (program_tree program.now) }
     ensures { Gives typed_tree result (checked (program_tree program.now)) }
 {
-    not_built()
+    let defs = walk_defs(alloc, &program.defs)?;
+    let main = match find_main(&program.defs)? {
+        None => return Err(TypeFault::NoMain),
+        Some(main) => main,
+    };
+    if let Some(fault) = size::weight_fault(alloc, &defs)? {
+        return Err(fault);
+    }
+    if let Some(fault) = size::depth_fault(alloc, &defs)? {
+        return Err(fault);
+    }
+    Ok(Typed::new(TypedDefs { defs, main }))
 }
 
-// Want of memory, for a form that is not built yet.
-fn not_built() -> Result<Typed, TypeFault>
-    ensures { result ≡ Err TypeFault.NoMemory }
+/// The body of a function behind these.
+fn walk_body(
+    alloc: Global,
+    callees: &Callees,
+    before: &[RawDef],
+    def: &RawDef,
+    next: u32,
+) -> Result<Form, TypeFault>
+    ensures { Gives form_of result (walk_of (callee_from (length before.now) 0 (map raw_def_tree callees.now)) def.now.params.items next (raw_tree def.now.body)) }
 {
-    Err(TypeFault::NoMemory)
+    match u32::try_from(before.len()) {
+        Err(_) => Err(TypeFault::NoMemory),
+        Ok(caller) => {
+            let mut scope = Scope::new(alloc);
+            scope.enter(alloc, &def.params)?;
+            walk(alloc, callees, caller, &mut scope, next, &def.body)
+        }
+    }
+}
+
+/// The function with its body.
+fn with_body(alloc: Global, def: &RawDef, body: Form) -> Result<Def, NoMemory>
+    ensures { IfOk result (λ d. def_tree d ≡ def_form (raw_def_tree def.now) (form_of body)) }
+{
+    let name = def.name.try_copy(alloc)?;
+    let params = copied_params(alloc, &def.params)?;
+    let results = Vec::from_slice(alloc, &def.results)?;
+    let Form {
+        bases: _,
+        tree,
+        reading: _,
+        next: _,
+    } = body;
+    Ok(Def {
+        name,
+        params,
+        results,
+        body: tree,
+    })
+}
+
+/// The function with its body and the next number of a choose, where the body gives its results.
+fn closed(alloc: Global, def: &RawDef, body: Form) -> Result<(Def, u32), TypeFault>
+    ensures { Gives {Y = DefTree × ℕ} (λ r. (def_tree r.0, r.1)) result (where_kept (same_bases_of (form_of body).bases def.now.results.items) (Mismatch (place_of (raw_tree def.now.body))) (Ok (def_form (raw_def_tree def.now) (form_of body), (form_of body).next))) }
+{
+    if !same_bases(&body.bases, &def.results) {
+        return Err(TypeFault::Mismatch(def.body.place));
+    }
+    let next = body.next;
+    Ok((with_body(alloc, def, body)?, next))
+}
+
+/// A function behind these, and the next number of a choose after it.
+fn walk_def(
+    alloc: Global,
+    callees: &Callees,
+    before: &[RawDef],
+    def: &RawDef,
+    next: u32,
+) -> Result<(Def, u32), TypeFault>
+    requires { before.now ≡ take (length before.now) callees.now }
+    ensures { Gives {Y = DefTree × ℕ} (λ r. (def_tree r.0, r.1)) result (walk_def_of (map raw_def_tree callees.now) (map raw_def_tree before.now) next (raw_def_tree def.now)) }
+{
+    if callees.is_named_before(before.len(), &def.name) {
+        return Err(TypeFault::DuplicateName(def.place));
+    }
+    if let Some(place) = repeated_param(&def.params) {
+        return Err(TypeFault::DuplicateName(place));
+    }
+    closed(alloc, def, walk_body(alloc, callees, before, def, next)?)
+}
+
+/// The functions in the order of the text.
+fn walk_defs(alloc: Global, defs: &[RawDef]) -> Result<Vec<Def>, TypeFault>
+    ensures { Gives (λ ds. map def_tree ds.items) result (walk_defs_of (map raw_def_tree defs.now) [] [] 1 (map raw_def_tree defs.now)) }
+{
+    let callees = Callees::new(alloc, defs)?;
+    let mut done = Vec::new(alloc);
+    let mut next = 1;
+    for i in 0..defs.len() {
+        let (def, after) = walk_def(alloc, &callees, &defs[..i], &defs[i], next)?;
+        done.push(def)?;
+        next = after;
+    }
+    Ok(done)
+}
+
+/// Whether a name is `main`.
+fn is_main(name: &Text) -> bool
+    ensures { result ≡ bytes_eq name.now (codes "main") }
+{
+    name.bytes.as_slice() == b"main".as_slice()
+}
+
+/// The number of the first function that is named `main`.
+fn find_main(defs: &[RawDef]) -> Result<Option<u32>, NoMemory>
+    ensures { IfOk result (λ o. o ≡ main_from 0 (map raw_def_tree defs.now)) }
+{
+    for i in 0..defs.len() {
+        if is_main(&defs[i].name) {
+            return match u32::try_from(i) {
+                Ok(main) => Ok(Some(main)),
+                Err(_) => Err(NoMemory),
+            };
+        }
+    }
+    Ok(None)
 }

@@ -3,10 +3,15 @@
 
 mod bases;
 mod build;
+mod callees;
 pub mod check;
 pub mod fault;
 mod form;
 mod names;
 mod reading;
 mod scope;
+mod size;
+#[cfg(test)]
+mod size_tests;
 pub mod typed;
+mod walk;

@@ -1,17 +1,13 @@
 //! Names, and the variables and functions that they stand for.
-ghost use Rattle.std.specs.Prelude.{◌≡◌, [], map, IfOk};
+ghost use Rattle.std.specs.Prelude.{◌≡◌, [], map};
 ghost use Rattle.std.specs.Str.{bytes_eq};
-ghost use Rattle.cf_tree.specs.DefView.{raw_def_tree};
-ghost use Rattle.cf_type.specs.Gives.{Shows};
-ghost use Rattle.cf_type.specs.FormView.{callee_seen};
 ghost use Rattle.cf_type.specs.Walk.{output_fault as output_fault_of};
-ghost use Rattle.cf_type.specs.Names.{same_base as same_base_of, same_bases as same_bases_of, is_among as is_among_of, repeated as repeated_of, names_of, callee_from};
+ghost use Rattle.cf_type.specs.Names.{same_base as same_base_of, same_bases as same_bases_of, is_among as is_among_of, repeated as repeated_of, names_of};
 
 use crate::bases::is_output;
 use crate::fault::TypeFault;
 use cf_tree::base::{Base, Place, Text};
-use cf_tree::memory::NoMemory;
-use cf_tree::raw::{Param, Part, RawDef};
+use cf_tree::raw::{Param, Part};
 
 /// A variable: its level and its base.
 #[derive(Clone, Copy, Debug, PartialEq, Eq)]
@@ -158,24 +154,4 @@ pub fn output_fault(outputs: &[Param]) -> Option<TypeFault>
         }
     }
     None
-}
-
-/// The first function of a name: its number, itself, and whether it stands before the caller.
-pub fn find_callee<'a>(
-    defs: &'a [RawDef],
-    caller: u32,
-    name: &Text,
-) -> Result<Option<(u32, &'a RawDef, bool)>, NoMemory>
-    ensures { IfOk result (λ o. Shows (λ c. callee_seen c.0 (raw_def_tree c.1.now) c.2) o (callee_from caller 0 (map raw_def_tree defs.now) name.now)) }
-{
-    for i in 0..defs.len() {
-        let def = &defs[i];
-        if same_text(&def.name, name) {
-            return match u32::try_from(i) {
-                Ok(number) => Ok(Some((number, def, number < caller))),
-                Err(_) => Err(NoMemory),
-            };
-        }
-    }
-    Ok(None)
 }

@@ -1,0 +1,32 @@
+use Rattle.std.proofs.Common.{◌≡◌, ◌+◌, ◌∷◌, map, drop, sym, ap, ◌∙◌, subst, arith}
+use Rattle.std.proofs.lemmas.List.{drop_more}
+use Rattle.cf_tree.specs.DefView.{raw_def_tree}
+use Rattle.cf_type.specs.FormView.{form_of}
+use Rattle.cf_type.specs.Gives.{Gives}
+use Rattle.cf_type.specs.Names.{callee_from}
+use Rattle.cf_type.proofs.WalkSteps.{arm_body, arms_fail, arms_next}
+use Rattle.cf_type.proofs.walk.+walk.Goals as goal
+
+pub walk_arms-returns-in-Err-clause-gives : goal.walk_arms-returns-in-Err-clause-gives
+walk_arms-returns-in-Err-clause-gives t c =
+    let l = c.loop-arm in
+    let xs = c.args.arms.now in
+    let x = c.arm-item.result in
+    let here : drop l.arm-index xs ≡ x ∷ drop (l.arm-index + 1) xs = drop_more xs l.arm-index x (omega arith) ∙ ap (λ y. y ∷ drop (l.arm-index + 1) xs) (sym c.arm-item.is) in
+    arms_fail _ _ _ _ xs l.arm-index x c.in-Err.fault _ _ c.without.ensures l.invariant.0 here c.in-Err.ensures.gives l.invariant.1
+
+pub walk_arms-loop-arm-preserved : goal.walk_arms-loop-arm-preserved
+walk_arms-loop-arm-preserved t c =
+    let l = c.loop-arm in
+    let xs = c.args.arms.now in
+    let x = c.arm-item.result in
+    let here : drop l.arm-index xs ≡ x ∷ drop (l.arm-index + 1) xs = drop_more xs l.arm-index x (omega arith) ∙ ap (λ y. y ∷ drop (l.arm-index + 1) xs) (sym c.arm-item.is) in
+    let kept : c.walk_arm.new.scope ≡ l.scope = c.in-Ok.ensures.kept in (
+      kept ∙ l.invariant.0,
+      arms_next _ _ _ _ _ xs l.arm-index x _ _ l.invariant.0 here c.in-Ok.ensures.gives c.in_ok-done-in-Ok.ensures l.invariant.1,
+    )
+
+pub walk_arm-returns-clause-gives : goal.walk_arm-returns-clause-gives
+walk_arm-returns-clause-gives t c =
+    let calls = callee_from c.args.caller 0 (map raw_def_tree c.args.callees.now) in
+    subst (λ r. Gives form_of c.walk_body.result r) (sym (arm_body calls c.args.scope.now c.args.next c.args.arm.now c.deref.result.now c.deref.ensures.value)) c.walk_body.ensures.gives

@@ -1,0 +1,95 @@
+//! The functions of a program, by name.
+ghost use Rattle.std.specs.Prelude.{◌≡◌, map, take, IfOk, OnOk};
+ghost use Rattle.cf_tree.specs.DefView.{raw_def_tree};
+ghost use Rattle.cf_type.specs.FormView.{callee_seen};
+ghost use Rattle.cf_type.specs.Gives.{Shows};
+ghost use Rattle.cf_type.specs.Names.{callee_from, is_among};
+ghost use Rattle.cf_type.specs.Numbers.{shown, with_name};
+
+use crate::build::counted;
+use cf_tree::base::Text;
+use cf_tree::memory::NoMemory;
+use cf_tree::raw::RawDef;
+use indexmap::IndexMap;
+use std::alloc::Global;
+use std::marker::Model;
+
+/// The functions of a program, with a table of the number of each name. Contracts see the list of
+/// the functions.
+#[derive(Drop)]
+pub struct Callees<'a> {
+    defs: &'a [RawDef],
+    numbers: IndexMap<Vec<u8>, u32>,
+}
+
+impl<'a> Model for Callees<'a> {
+    ghost use Rattle.std.specs.Prelude.{◌≡◌, List};
+    ghost use Rattle.cf_tree.specs.declared.raw.RawDef.{RawDef};
+
+    ghost Value = { List RawDef };
+
+    ghost use Rattle.cf_tree.specs.contracts.raw.Raw as coded_raw;
+    ghost use Rattle.std.specs.Coded.{codes};
+
+    ghost coded = { Prim.hlevel (codes, coded_raw.the_row.coded) };
+
+    ghost use Rattle.cf_type.specs.Numbers.{shown, numbers_of};
+
+    ghost view = { λ c. c.defs.now };
+
+    ghost invariant = { λ c. shown c.numbers.entries ≡ numbers_of c.defs.now };
+}
+
+/// Gives a new name its number.
+fn add(
+    alloc: Global,
+    numbers: &mut IndexMap<Vec<u8>, u32>,
+    name: &Text,
+    number: usize,
+) -> Result<(), NoMemory>
+    ensures { OnOk result (shown numbers.new.entries ≡ with_name (shown numbers.old.entries) name.now number) }
+{
+    let bytes = name.bytes.as_slice();
+    if numbers.contains_key(bytes) {
+        return Ok(());
+    }
+    let number = counted(number)?;
+    numbers.insert(Vec::from_slice(alloc, bytes)?, number)?;
+    Ok(())
+}
+
+impl<'a> Callees<'a> {
+    /// These functions.
+    pub fn new(alloc: Global, defs: &'a [RawDef]) -> Result<Callees<'a>, NoMemory>
+        ensures { IfOk result (λ c. c ≡ defs.now) }
+    {
+        let mut numbers = IndexMap::new(alloc);
+        for i in 0..defs.len() {
+            add(alloc, &mut numbers, &defs[i].name, i)?;
+        }
+        Ok(Callees { defs, numbers })
+    }
+
+    /// The first function of a name: its number, itself, and whether it stands before the caller.
+    pub fn find(&self, caller: u32, name: &Text) -> Option<(u32, &RawDef, bool)>
+        ensures { Shows (λ c. callee_seen c.0 (raw_def_tree c.1.now) c.2) result (callee_from caller 0 (map raw_def_tree self.now) name.now) }
+    {
+        match self.numbers.get(name.bytes.as_slice()) {
+            None => None,
+            Some(found) => {
+                let number = *found;
+                let def = &self.defs[number as usize];
+                Some((number, def, number < caller))
+            }
+        }
+    }
+    /// Whether one of the first functions, as many as `count`, has this name.
+    pub fn is_named_before(&self, count: usize, name: &Text) -> bool
+        ensures { result ≡ is_among (map (λ e. e.name) (map raw_def_tree (take count self.now))) name.now }
+    {
+        match self.numbers.get(name.bytes.as_slice()) {
+            None => false,
+            Some(found) => (*found as usize) < count,
+        }
+    }
+}
