@@ -3,12 +3,17 @@ pub mod Canonical
 pub mod ColumnLemmas
 pub mod CombLemmas
 pub mod Examples
+pub mod FormedLemmas
 pub mod Joining
+pub mod KindLemmas
 pub mod MapLemmas
 pub mod MergingLemmas
 pub mod PassingLemmas
 pub mod RowLemmas
 pub mod RowTests
+pub mod SolvedLemmas
 pub mod StageLemmas
+pub mod SubstituteLemmas
+pub mod ValueLemmas
 pub mod WrittenLemmas
 pub mod WritingLemmas

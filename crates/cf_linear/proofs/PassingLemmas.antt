@@ -110,10 +110,10 @@ only_column a r b d u h p c = only_sum a (entry r c) b (entry (put d (pos 1) [])
 plus_none : (z : ℤ) → pos 1 *ℤ z +ℤ pos 1 *ℤ (pos 0 +ℤ pos 0) ≡ z
 plus_none z = omega (arith, ints)
 
-entry_plus : (h : Row) (n : ℤ) (x : ℕ) → entry (plus h n) (suc x) ≡ entry h (suc x)
+pub entry_plus : (h : Row) (n : ℤ) (x : ℕ) → entry (plus h n) (suc x) ≡ entry h (suc x)
 entry_plus h n x = entry-comb (suc x) (pos 1) h (pos 1) (constant_row n) ∙ rw (entry-put (suc x) 0 n [], ne_eqb 0 (suc x) (λ e. omega arith)) (plus_none (entry h (suc x)))
 
-Rises-plus : (h : Row) (n : ℤ) → Rises 0 h → Rises 0 (plus h n)
+pub Rises-plus : (h : Row) (n : ℤ) → Rises 0 h → Rises 0 (plus h n)
 Rises-plus h n p = Rises-comb 0 (pos 1) h (pos 1) (constant_row n) p (Rises-put 0 0 n [] (omega arith) tt)
 
 turned : (z k : ℤ) → IsWithin z → IsWithin (negsuc 0 *ℤ z +ℤ k *ℤ (pos 0 +ℤ pos 0))
@@ -125,7 +125,7 @@ Rises-column c = Rises-put 0 c (pos 1) [] (omega arith) tt
 half_at_0 : (c : ℕ) (r : Row) (k : ℤ) → 1 ≤ c → IsRow r → passes (entry (comb (negsuc 0) r k (put c (pos 1) [])) 0) ≡ false
 half_at_0 c r k h p = rw (entry-comb 0 (negsuc 0) r k (put c (pos 1) []), ne_eqb c 0 (λ n. omega arith)) (within_not (negsuc 0 *ℤ entry r 0 +ℤ k *ℤ (pos 0 +ℤ pos 0)) (turned (entry r 0) k (entry-within r 0 0 p.0 p.1)))
 
-not_above : (h : Row) (n : ℤ) → Rises 0 h → passes (entry h 0) ≡ false → row_passes (plus h n) ≡ false → row_passes h ≡ false
+pub not_above : (h : Row) (n : ℤ) → Rises 0 h → passes (entry h 0) ≡ false → row_passes (plus h n) ≡ false → row_passes h ≡ false
 not_above h n p z t = row_not h 0 p at
   where
     at : (x : ℕ) → passes (entry h x) ≡ false

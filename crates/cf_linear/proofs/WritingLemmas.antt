@@ -1,12 +1,15 @@
 -- What a written form is made of.
-use Rattle.std.proofs.Common.{◌≡◌, ℕ, ◌+◌, ◌^◌, ◌<◌, ◌≤◌, length, ℤ, pos, List, [], ◌∷◌, ◌++◌, Bool, true, false, ◌||◌, drop, refl, sym, ◌∙◌, ap, arith, append_assoc}
+use Rattle.std.proofs.Common.{◌≡◌, ℕ, ◌+◌, ◌^◌, ◌<◌, ◌≤◌, length, ℤ, pos, negsuc, Result, Ok, Err, List, [], ◌∷◌, ◌++◌, Bool, true, false, ◌||◌, drop, refl, sym, ◌∙◌, ap, arith, append_assoc}
 use Rattle.std.proofs.lemmas.List.{append-nil}
 use Rattle.std.proofs.lemmas.Nat.{pow_pos}
 use Rattle.cf_tree.specs.RelTree.{TermTree, term_lit, term_var, term_card, term_neg, term_add, term_sub, term_mul, term_div, term_mod, term_abs}
-use Rattle.cf_linear.specs.Rows.{Row, row_passes}
+use Rattle.cf_linear.specs.declared.refusal.RowFault.{RowFault}
+use Rattle.cf_linear.specs.declared.refusal.RowFault.TheVariants.{Past, NoMemory}
+use Rattle.cf_linear.specs.declared.written.Part.{Part}
+use Rattle.cf_linear.specs.Rows.{Row, comb, row_passes}
 use Rattle.cf_linear.specs.Layout.{Levels, first_free, set_count}
 use Rattle.cf_linear.specs.Written.{GuardTree, quotient_guard, above_quotient, below_quotient, WrittenTree, alone, from_two, with_quotient, first_sign, signed_by, write, quotient_count}
-use Rattle.cf_linear.specs.Parts.{IsPart}
+use Rattle.cf_linear.specs.Parts.{IsPart, Gives, GivesPart, GivesDivided}
 
 signed-next : (b : Bool) (w : WrittenTree) → (signed_by b w).next ≡ w.next
 signed-next true w = refl
@@ -33,26 +36,35 @@ next_positive l t ss q n h e = omega (arith, write-next l t ss q, pow_pos (lengt
 pub next_room : (l : Levels) (t : TermTree) (ss : List Bool) (q n k : ℕ) → q + (quotient_count t + k) < 2 ^ 32 → n ≡ (write l t ss q).next → n + k < 2 ^ 32
 next_room l t ss q n k h e = omega (arith, write-next l t ss q)
 
-pub leaf_ok : (r x : Row) (ss : List Bool) (b : List GuardTree) (next used : ℕ) → x ≡ r → row_passes r ≡ false → IsPart (alone r (drop used ss) next) ss b b x next used
-leaf_ok r x ss b next used e h = record { row_is = e; guards_are = sym (append-nil b); next_is = refl; left = refl; fits = h }
+-- ---- forms made of written parts
+pub leaf_gives : (r : Row) (ss : List Bool) (b : List GuardTree) (next used : ℕ) (y : Result Part RowFault) → GivesPart r next used y → Gives (alone r (drop used ss) next) ss b b y
+leaf_gives r ss b next used (Ok p) g = record { row_is = g.0; guards_are = sym (append-nil b); next_is = g.1; left = rw g.2 refl; fits = g.3 }
+leaf_gives r ss b next used (Err Past) g = g
+leaf_gives r ss b next used (Err NoMemory) g = tt
 
-pub two_ok : (f : Row → Row → Row) (w u : WrittenTree) (ss : List Bool) (b0 b1 b2 : List GuardTree) (x1 x2 y : Row) (n1 n2 u1 u2 : ℕ) →
-    IsPart w ss b0 b1 x1 n1 u1 → IsPart u ss b1 b2 x2 n2 u2 → y ≡ f x1 x2 → row_passes (f x1 x2) ≡ false → IsPart (from_two w u (f w.row u.row)) ss b0 b2 y n2 u2
-two_ok f w u ss b0 b1 b2 x1 x2 y n1 n2 u1 u2 p q e h = record {
-  row_is = rw (← p.row_is, ← q.row_is) e;
-  guards_are = q.guards_are ∙ rw (p.guards_are, append_assoc);
-  next_is = q.next_is;
-  left = q.left;
-  fits = rw (p.fits, q.fits, ← p.row_is, ← q.row_is) h;
-}
+module _ (w : WrittenTree) (ss : List Bool) (b0 b1 : List GuardTree) (x : Row) (n u : ℕ) (q : IsPart w ss b0 b1 x n u) where
+  pub two_gives : (f : Row → Row → Row) (v : List Bool → ℕ → WrittenTree) (b2 : List GuardTree) (x2 : Row) (n2 u2 : ℕ) (y : Result Part RowFault) →
+      IsPart (v (drop u ss) n) ss b1 b2 x2 n2 u2 → GivesPart (f x x2) n2 u2 y → Gives (from_two w (v w.signs w.next) (f w.row (v w.signs w.next).row)) ss b0 b2 y
+  two_gives f v b2 x2 n2 u2 y p g = both (v w.signs w.next) (rw (q.left, q.next_is) at p) y g
+    where
+      both : (t : WrittenTree) → IsPart t ss b1 b2 x2 n2 u2 → (y : Result Part RowFault) → GivesPart (f x x2) n2 u2 y → Gives (from_two w t (f w.row t.row)) ss b0 b2 y
+      both t p (Ok z) g = record {
+        row_is = g.0 ∙ rw (← q.row_is, ← p.row_is) refl;
+        guards_are = p.guards_are ∙ rw (q.guards_are, append_assoc) refl;
+        next_is = g.1 ∙ p.next_is;
+        left = rw g.2 p.left;
+        fits = rw (q.fits, p.fits, ← q.row_is, ← p.row_is) g.3;
+      }
+      both t p (Err Past) g = rw (q.fits, p.fits, ← q.row_is, ← p.row_is) g
+      both t p (Err NoMemory) g = tt
 
-pub quotient_ok : (f : ℕ → Row → Row) (w : WrittenTree) (k : ℤ) (ss : List Bool) (b0 b1 b2 : List GuardTree) (x y : Row) (n u : ℕ) →
-    IsPart w ss b0 b1 x n u → (row_passes (above_quotient n x k) || row_passes (below_quotient n x k)) ≡ false → b2 ≡ b1 ++ (quotient_guard n x k ∷ []) → y ≡ f n x →
-    IsPart (with_quotient w k (f w.next w.row)) ss b0 b2 y (n + 1) u
-quotient_ok f w k ss b0 b1 b2 x y n u p h g e = record {
-  row_is = rw (← p.row_is, ← p.next_is) e;
-  guards_are = g ∙ rw (p.guards_are, append_assoc, ← p.row_is, ← p.next_is);
-  next_is = ap (λ m. m + 1) p.next_is;
-  left = p.left;
-  fits = rw (p.fits, ← p.row_is, ← p.next_is) h;
-}
+  pub divided_gives : (f : ℕ → Row → Row) (k : ℤ) (b2 : List GuardTree) (y : Result Part RowFault) → GivesDivided (f n x) n x k u b1 b2 y → Gives (with_quotient w k (f w.next w.row)) ss b0 b2 y
+  divided_gives f k b2 (Ok p) g = record {
+    row_is = g.0 ∙ rw (← q.row_is, ← q.next_is) refl;
+    guards_are = g.4 ∙ rw (q.guards_are, append_assoc, ← q.row_is, ← q.next_is) refl;
+    next_is = g.1 ∙ ap (λ m. m + 1) q.next_is;
+    left = rw g.2 q.left;
+    fits = rw (q.fits, ← q.row_is, ← q.next_is) g.3;
+  }
+  divided_gives f k b2 (Err Past) g = rw (q.fits, ← q.row_is, ← q.next_is) g
+  divided_gives f k b2 (Err NoMemory) g = tt

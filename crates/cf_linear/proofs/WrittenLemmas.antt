@@ -63,10 +63,10 @@ constant-fixed l (term_div a k) ss q e = cc
 constant-fixed l (term_mod a k) ss q e = cc
 constant-fixed l (term_abs a) ss q e = let w = write l a ss q in constant-signed (first_sign w.signs) w (constant-fixed l a ss q e)
 
-value-times : (v : Values) (k : ℤ) (r : Row) → value v (comb k r (pos 0) []) ≡ k *ℤ value v r
+pub value-times : (v : Values) (k : ℤ) (r : Row) → value v (comb k r (pos 0) []) ≡ k *ℤ value v r
 value-times v k r = value-comb v k r (pos 0) [] ∙ omega (arith, ints)
 
-value-plus : (v : Values) (r : Row) (n : ℤ) → v 0 ≡ pos 1 → value v (plus r n) ≡ value v r +ℤ n
+pub value-plus : (v : Values) (r : Row) (n : ℤ) → v 0 ≡ pos 1 → value v (plus r n) ≡ value v r +ℤ n
 value-plus v r n one = value-comb v (pos 1) r (pos 1) (constant_row n) ∙ rw (value-put v 0 n [], one) (omega (arith, ints))
 
 minus_absolute : (z : ℤ) → pos 0 ≤ℤ (negsuc 0 *ℤ z +ℤ negsuc 0) → negsuc 0 *ℤ z ≡ absolute z

@@ -11,3 +11,6 @@ pub mod Arm
 pub mod Chooses
 pub mod Views
 pub mod Relations
+pub mod Keep
+pub mod Solved
+pub mod Tests

@@ -1,10 +1,10 @@
 -- What the private calls of `row_of` answer.
-use Rattle.std.specs.Prelude.{◌≡◌, ℕ, ℤ, ◌+ℤ◌, ◌*ℤ◌, Bool, true, false, List, [], ◌∷◌, ◌++◌, ◌||◌, drop, Result, Ok, Err}
+use Rattle.std.specs.Prelude.{◌≡◌, ℕ, ◌+◌, ℤ, ◌+ℤ◌, ◌*ℤ◌, Bool, true, false, List, [], ◌∷◌, ◌++◌, ◌||◌, drop, Result, Ok, Err}
 use Rattle.cf_linear.specs.declared.refusal.RowFault.{RowFault}
 use Rattle.cf_linear.specs.declared.refusal.RowFault.TheVariants.{Past, NoMemory}
 use Rattle.cf_linear.specs.declared.written.Part.{Part}
 use Rattle.cf_linear.specs.Rows.{Row, entry, passes, sum_passes, row_passes}
-use Rattle.cf_linear.specs.Written.{GuardTree, quotient_guard, above_quotient, below_quotient, WrittenTree, signed_by}
+use Rattle.cf_linear.specs.Written.{GuardTree, quotient_guard, above_quotient, below_quotient, WrittenTree, first_sign, other_signs, signed_by}
 
 -- a fault that is Past only where b
 abbrev pub Fails : Bool → RowFault → Type 0
@@ -37,6 +37,17 @@ abbrev pub Gives : WrittenTree → List Bool → List GuardTree → List GuardTr
 Gives w signs before after (Ok p) = IsPart w signs before after p.row p.next p.used
 Gives w signs before after (Err e) = Fails w.passes e
 
+-- a part of the row, which goes on at this column and after so many signs, or Past where an entry of the row passes the limit
+abbrev pub GivesPart : Row → ℕ → ℕ → Result Part RowFault → Type 0
+GivesPart r next used (Ok p) = (p.row ≡ r) × (p.next ≡ next) × (p.used ≡ used) × (row_passes r ≡ false)
+GivesPart r next used (Err e) = Fails (row_passes r) e
+
+-- a part of the row f c r, after the guard of the quotient of r in column c was added
+abbrev pub GivesDivided : Row → ℕ → Row → ℤ → ℕ → List GuardTree → List GuardTree → Result Part RowFault → Type 0
+GivesDivided y c r k used before after (Ok p) =
+    (p.row ≡ y) × (p.next ≡ c + 1) × (p.used ≡ used) × ((row_passes (above_quotient c r k) || row_passes (below_quotient c r k)) ≡ false) × (after ≡ before ++ (quotient_guard c r k ∷ []))
+GivesDivided y c r k used before after (Err e) = Fails (row_passes (above_quotient c r k) || row_passes (below_quotient c r k)) e
+
 -- the row of the remainder, after the guard of the quotient in column c was added
 abbrev pub GivesQuotient : ℕ → Row → ℤ → List GuardTree → List GuardTree → Result Row RowFault → Type 0
 GivesQuotient c r k before after (Ok x) =
@@ -51,3 +62,9 @@ bare r = record { row = r; guards = []; next = 0; signs = []; passes = false }
 abbrev pub GivesSigned : Bool → Row → List GuardTree → List GuardTree → Result Row RowFault → Type 0
 GivesSigned b r before after (Ok x) = (x ≡ (signed_by b (bare r)).row) × ((signed_by b (bare r)).passes ≡ false) × (after ≡ before ++ (signed_by b (bare r)).guards)
 GivesSigned b r before after (Err e) = Fails (signed_by b (bare r)).passes e
+
+-- the same of a part, with the first of the signs that are left
+abbrev pub GivesAbsolute : List Bool → List Bool → Row → ℕ → List GuardTree → List GuardTree → Result Part RowFault → Type 0
+GivesAbsolute rest signs r next before after (Ok p) =
+    (p.row ≡ (signed_by (first_sign rest) (bare r)).row) × (p.next ≡ next) × (drop p.used signs ≡ other_signs rest) × ((signed_by (first_sign rest) (bare r)).passes ≡ false) × (after ≡ before ++ (signed_by (first_sign rest) (bare r)).guards)
+GivesAbsolute rest signs r next before after (Err e) = Fails (signed_by (first_sign rest) (bare r)).passes e

@@ -41,8 +41,18 @@ pub fn region_row(alloc: Global, layout: &Layout, set: &SetTerm) -> Result<Row, 
     Ok(out)
 }
 
-// How many known columns there are.
-fn known_count(layout: &Layout) -> u32
+/// The column after those of the layout.
+pub fn first_free(layout: &Layout) -> u32
+    requires sets { set_count (plain_levels layout.now) ≤ 6 }
+    requires room { first_free (plain_levels layout.now) < 2 ^ 32 }
+    ensures { result ≡ first_free (plain_levels layout.now) }
+{
+    let regions = (1u32 << (layout.inputs.len() + layout.out_sets.len())) - 1;
+    known_count(layout) + layout.out_numbers.len() as u32 + regions
+}
+
+/// How many known columns there are.
+pub fn known_count(layout: &Layout) -> u32
     requires sets { set_count (plain_levels layout.now) ≤ 6 }
     requires room { first_free (plain_levels layout.now) < 2 ^ 32 }
     ensures { result ≡ known_count (plain_levels layout.now) }

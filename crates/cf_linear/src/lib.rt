@@ -2,8 +2,10 @@
 #![tactic(auto)]
 
 pub mod columns;
+mod copy;
 pub mod refusal;
 pub mod row;
+pub mod substitute;
 pub mod system;
 #[cfg(test)]
 mod tests;

@@ -55,6 +55,7 @@ impl Row {
     pub fn entry(&self, column: u32) -> i128
         ensures value { result ≡ entry self.now column }
         ensures fits { IsWithin result }
+        ensures is_row { IsRow self.now }
     {
         match self.entries.get(&column) {
             Some(k) => *k,
@@ -121,7 +122,7 @@ impl Row {
     }
 
     /// The row with the other signs.
-    pub(crate) fn negated(&self, alloc: Global) -> Result<Row, NoMemory>
+    pub fn negated(&self, alloc: Global) -> Result<Row, NoMemory>
         ensures { IfOk result (λ r. r ≡ comb (negsuc 0) self.now (pos 0) []) }
     {
         match self.times(alloc, -1) {
@@ -185,16 +186,16 @@ impl Row {
         true
     }
 
-    // How many entries the row has.
-    fn len(&self) -> usize
+    /// How many entries the row has.
+    pub fn len(&self) -> usize
         ensures len { result ≡ length self.now }
         ensures is_row { IsRow self.now }
     {
         self.entries.len()
     }
 
-    // The entry at a place of the list.
-    fn at(&self, i: usize) -> (u32, i128)
+    /// The column and the entry at a place, in rising order of columns.
+    pub fn at(&self, i: usize) -> (u32, i128)
         requires { i < length self.now }
         ensures value { result ≡ get_or self.now i (0, pos 0) }
         ensures fits { IsWithin result.1 }
@@ -206,8 +207,8 @@ impl Row {
         }
     }
 
-    /// Adds the entry at the end, if it is not 0.
-    pub(crate) fn append(&mut self, column: u32, k: i128) -> Result<(), NoMemory>
+    /// Adds the entry at the end, if it is not 0: the column is above those of the row.
+    pub fn append(&mut self, column: u32, k: i128) -> Result<(), NoMemory>
         requires after { AreBelow column self.old }
         requires k_in { IsWithin k }
         ensures { OnOk result (self.new ≡ self.old ++ put column k []) }

@@ -1,20 +1,20 @@
 //! Written number forms.
-ghost use Rattle.std.specs.Prelude.{◌≡◌, ◌+◌, ◌≤◌, ◌<◌, ◌^◌, pos, negsuc, length, map, drop, true, false, Err, IfOk};
+ghost use Rattle.std.specs.Prelude.{◌≡◌, [], ◌+◌, ◌≤◌, ◌<◌, ◌^◌, pos, negsuc, length, map, drop, true, false, Err, IfOk};
 ghost use Rattle.cf_num.specs.Limit.{IsWithin};
-ghost use Rattle.cf_tree.specs.RelView.{term_tree};
+ghost use Rattle.cf_tree.specs.RelView.{set_tree, term_tree};
 ghost use Rattle.cf_tree.specs.Relation.{IsLinearTerm, is_fixed, IsDivisor};
-ghost use Rattle.cf_linear.specs.Rows.{Values, value, comb};
-ghost use Rattle.cf_linear.specs.Layout.{set_count, first_free};
+ghost use Rattle.cf_linear.specs.Rows.{Values, value, put, comb};
+ghost use Rattle.cf_linear.specs.Layout.{set_count, first_free, covers, region_row};
 ghost use Rattle.cf_linear.specs.Written.{first_sign, other_signs, plus, above_quotient, below_quotient, product_by, write, val_at, GuardsHold, IsPlaced, abs_count, quotient_count};
-ghost use Rattle.cf_linear.specs.Parts.{Gives, GivesRow, GivesQuotient, GivesSigned, Tested};
+ghost use Rattle.cf_linear.specs.Parts.{Gives, GivesRow, GivesPart, GivesDivided, GivesAbsolute, GivesQuotient, GivesSigned, Tested};
 ghost use Rattle.cf_linear.specs.Views.{plain_levels, guard_of};
 
-use crate::columns::number_column;
+use crate::columns::{number_column, region_row};
 use crate::refusal::RowFault;
 use crate::row::Row;
 use crate::system::Layout;
 use cf_num::neg;
-use cf_tree::rel::Term;
+use cf_tree::rel::{SetTerm, Term};
 use std::alloc::Global;
 
 /// A row that is to be at least 0, or a column that is to hold the quotient of a row by `k`, rounded
@@ -88,7 +88,8 @@ fn part_of(
     requires sets { set_count (plain_levels layout.now) ≤ 6 }
     requires above { first_free (plain_levels layout.now) ≤ next }
     requires room { next + quotient_count (term_tree term.now) < 2 ^ 32 }
-    ensures { Gives (write (plain_levels layout.now) (term_tree term.now) (drop used signs.now) next) signs.now (map guard_of guards.old.items) (map guard_of guards.new.items) result }
+    ensures gives { Gives (write (plain_levels layout.now) (term_tree term.now) (drop used signs.now) next) signs.now (map guard_of guards.old.items) (map guard_of guards.new.items) result }
+    ensures next { IfOk result (λ p. p.next ≡ next + quotient_count (term_tree term.now)) }
 {
     match term {
         Term::Lit(n) => {
@@ -99,15 +100,166 @@ fn part_of(
             let row = Row::unit(alloc, number_column(layout, *x), 1)?;
             Ok(Part { row, next, used })
         }
-        _ => not_built(),
+        Term::Card(set) => count_of(alloc, layout, set, next, used),
+        Term::Neg(a) => {
+            let part = part_of(alloc, a, layout, signs, used, next, guards)?;
+            negated_of(alloc, &part)
+        }
+        Term::Add(a, b) => {
+            let left = part_of(alloc, a, layout, signs, used, next, guards)?;
+            let right = part_of(alloc, b, layout, signs, left.used, left.next, guards)?;
+            sum_of(alloc, &left, &right)
+        }
+        Term::Sub(a, b) => {
+            let left = part_of(alloc, a, layout, signs, used, next, guards)?;
+            let right = part_of(alloc, b, layout, signs, left.used, left.next, guards)?;
+            difference_of(alloc, &left, &right)
+        }
+        Term::Mul(a, b) => {
+            let left = part_of(alloc, a, layout, signs, used, next, guards)?;
+            let right = part_of(alloc, b, layout, signs, left.used, left.next, guards)?;
+            product_of(alloc, is_fixed(a), &left, &right)
+        }
+        Term::Div(a, k) => {
+            let part = part_of(alloc, a, layout, signs, used, next, guards)?;
+            quotient_of(alloc, guards, part, k)
+        }
+        Term::Mod(a, k) => {
+            let part = part_of(alloc, a, layout, signs, used, next, guards)?;
+            remainder_of(alloc, guards, part, k)
+        }
+        Term::Abs(a) => {
+            let part = part_of(alloc, a, layout, signs, used, next, guards)?;
+            absolute_of(alloc, guards, signs, part)
+        }
     }
 }
 
-// What is not built yet.
-fn not_built() -> Result<Part, RowFault>
-    ensures { result ≡ Err RowFault.NoMemory }
+// The sum of the counts of the regions in the set form.
+fn count_of(
+    alloc: Global,
+    layout: &Layout,
+    set: &SetTerm,
+    next: u32,
+    used: usize,
+) -> Result<Part, RowFault>
+    requires sets { set_count (plain_levels layout.now) ≤ 6 }
+    requires room { first_free (plain_levels layout.now) < 2 ^ 32 }
+    ensures { GivesPart (region_row (plain_levels layout.now) (covers (plain_levels layout.now) (set_tree set.now))) next used result }
 {
-    Err(RowFault::NoMemory)
+    let row = region_row(alloc, layout, set)?;
+    Ok(Part { row, next, used })
+}
+
+// The part with the other signs.
+fn negated_of(alloc: Global, part: &Part) -> Result<Part, RowFault>
+    ensures { GivesPart (comb (negsuc 0) part.now.row (pos 0) []) part.now.next part.now.used result }
+{
+    let row = part.row.times(alloc, -1)?;
+    Ok(Part {
+        row,
+        next: part.next,
+        used: part.used,
+    })
+}
+
+// The sum of two parts, the second written after the first.
+fn sum_of(alloc: Global, left: &Part, right: &Part) -> Result<Part, RowFault>
+    ensures { GivesPart (comb (pos 1) left.now.row (pos 1) right.now.row) right.now.next right.now.used result }
+{
+    let row = added(alloc, &left.row, &right.row)?;
+    Ok(Part {
+        row,
+        next: right.next,
+        used: right.used,
+    })
+}
+
+// The difference of two parts, the second written after the first.
+fn difference_of(alloc: Global, left: &Part, right: &Part) -> Result<Part, RowFault>
+    ensures { GivesPart (comb (pos 1) left.now.row (negsuc 0) right.now.row) right.now.next right.now.used result }
+{
+    let row = subtracted(alloc, &left.row, &right.row)?;
+    Ok(Part {
+        row,
+        next: right.next,
+        used: right.used,
+    })
+}
+
+// The product of two parts, the second written after the first.
+fn product_of(
+    alloc: Global,
+    is_left_fixed: bool,
+    left: &Part,
+    right: &Part,
+) -> Result<Part, RowFault>
+    ensures { GivesPart (product_by is_left_fixed left.now.row right.now.row) right.now.next right.now.used result }
+{
+    let row = multiplied(alloc, is_left_fixed, &left.row, &right.row)?;
+    Ok(Part {
+        row,
+        next: right.next,
+        used: right.used,
+    })
+}
+
+// The quotient of the part by `k`, in a column of its own.
+fn quotient_of(
+    alloc: Global,
+    guards: &mut Vec<Guard>,
+    part: Part,
+    k: &i128,
+) -> Result<Part, RowFault>
+    requires column { 1 ≤ part.next }
+    requires room { part.next + 1 < 2 ^ 32 }
+    requires divisor { IsDivisor k.now }
+    ensures { GivesDivided (put part.next (pos 1) []) part.next part.row k.now part.used (map guard_of guards.old.items) (map guard_of guards.new.items) result }
+{
+    let (column, used) = (part.next, part.used);
+    add_quotient(alloc, guards, column, part.row, k)?;
+    let row = Row::unit(alloc, column, 1)?;
+    Ok(Part {
+        row,
+        next: column + 1,
+        used,
+    })
+}
+
+// The remainder of the part by `k`, the quotient in a column of its own.
+fn remainder_of(
+    alloc: Global,
+    guards: &mut Vec<Guard>,
+    part: Part,
+    k: &i128,
+) -> Result<Part, RowFault>
+    requires column { 1 ≤ part.next }
+    requires room { part.next + 1 < 2 ^ 32 }
+    requires divisor { IsDivisor k.now }
+    ensures { GivesDivided (above_quotient part.next part.row k.now) part.next part.row k.now part.used (map guard_of guards.old.items) (map guard_of guards.new.items) result }
+{
+    let (column, used) = (part.next, part.used);
+    let row = add_quotient(alloc, guards, column, part.row, k)?;
+    Ok(Part {
+        row,
+        next: column + 1,
+        used,
+    })
+}
+
+// The part with the next sign.
+fn absolute_of(
+    alloc: Global,
+    guards: &mut Vec<Guard>,
+    signs: &[bool],
+    part: Part,
+) -> Result<Part, RowFault>
+    ensures { GivesAbsolute (drop part.used signs.now) signs.now part.row part.next (map guard_of guards.old.items) (map guard_of guards.new.items) result }
+{
+    let next = part.next;
+    let (minus, used) = take_sign(signs, part.used);
+    let row = add_sign(alloc, guards, minus, part.row)?;
+    Ok(Part { row, next, used })
 }
 
 // The sum of two rows.
