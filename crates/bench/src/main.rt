@@ -2,6 +2,7 @@
 #![tactic(auto)]
 
 mod codes;
+mod rows;
 
 use anyhow::{Result, anyhow};
 use cf_eval::run::run_code;
@@ -26,8 +27,9 @@ fn main(rt: HostRuntime) -> Result<()> {
         Some("program") => count_functions(&rt)?,
         Some("seconds") => runs(alloc, codes::seconds(alloc), 200000)?,
         Some("search") => runs(alloc, codes::search(alloc), 1000)?,
+        Some("rows") => combinations(alloc, 2000)?,
         _ => {
-            println!(rt; "tokens < FILE, program < FILE, seconds, search")?;
+            println!(rt; "tokens < FILE, program < FILE, seconds, search, rows")?;
             return Ok(());
         }
     };
@@ -71,4 +73,12 @@ fn runs(alloc: Global, code: std::result::Result<Code, NoMemory>, times: u32) ->
         }
     }
     Ok(given)
+}
+
+// How many of so many combinations of two rows of 1,000 columns are within the limit.
+fn combinations(alloc: Global, times: u32) -> Result<usize> {
+    match rows::combined(alloc, times) {
+        Ok(within) => Ok(within),
+        Err(_) => Err(anyhow!("no rows")),
+    }
 }
