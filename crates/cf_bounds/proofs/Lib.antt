@@ -1,0 +1,16 @@
+pub mod Arithmetic
+pub mod BoundLemmas
+pub mod CleanLaws
+pub mod CleanLemmas
+pub mod DropLaws
+pub mod DropLemmas
+pub mod ExactLaws
+pub mod FormedAgain
+pub mod FourColumns
+pub mod ListLemmas
+pub mod OwesLemmas
+pub mod PartLemmas
+pub mod PickLaws
+pub mod SearchFormed
+pub mod SearchLaws
+pub mod SearchLemmas

@@ -1,0 +1,133 @@
+-- The loops over lists of rows.
+use Rattle.std.proofs.Common.{◌≡◌, ◌≢◌, ℕ, suc, ◌<◌, ℤ, pos, ◌+ℤ◌, ◌*ℤ◌, List, [], ◌∷◌, ◌++◌, Bool, true, false, cond, ◌||◌, ◌==◌, refl, sym, ◌∙◌, ap, arith, append_assoc, not, zero, ◌≤◌, ◌+◌, get_or, length, drop, drop-cons, add-one, subst}
+use Rattle.std.specs.Prelude.{filter, unsigned_abs, nat_lt}
+use Rattle.std.specs.List.{list_any}
+use Rattle.std.proofs.lemmas.Int.{ints}
+use Rattle.std.proofs.lemmas.Bool.{cond_both, lt-ltb}
+use Rattle.std.proofs.lemmas.List.{append-nil}
+use Rattle.std.proofs.Math.ListN.{drop_of_length-le}
+use Rattle.std.proofs.lemmas.List.Elements.{filter-append}
+use Rattle.cf_linear.specs.Rows.{Row, AreBelow, IsRow, Rises, same_row, is_zero, put, add_at, comb}
+use Rattle.cf_linear.specs.Matrices.{EachRow}
+use Rattle.cf_linear.specs.Steps.{distinct_after, one_at}
+use Rattle.cf_linear.specs.Keep.{Over}
+use Rattle.cf_linear.proofs.BoolLemmas.{on_bool}
+use Rattle.cf_linear.proofs.CombLemmas.{put-append}
+use Rattle.cf_linear.proofs.Joining.{AreBelow-raise}
+use Rattle.cf_linear.proofs.MapLemmas.{put_nonzero}
+use Rattle.cf_bounds.specs.Sides.{divided_by}
+use Rattle.cf_bounds.proofs.PartLemmas.{AreBelow-divided, Rises-divided}
+
+pub filter_push : (p : Row → Bool) (rows : List Row) (r : Row) → filter p (rows ++ (r ∷ [])) ≡ filter p rows ++ cond (p r) (r ∷ []) []
+filter_push p rows r = filter-append p rows (r ∷ [])
+
+-- ---- distinct rows: what was kept may stand in any order
+any-append : (p : Row → Bool) (xs ys : List Row) → list_any p (xs ++ ys) ≡ (list_any p xs || list_any p ys)
+any-append p [] ys = refl
+any-append p (x ∷ xs) ys = on_bool (p x) (λ e. rw e refl) (λ e. rw e (any-append p xs ys))
+
+distinct_same : (s t rows : List Row) → ((r : Row) → list_any (same_row r) s ≡ list_any (same_row r) t) → distinct_after s rows ≡ distinct_after t rows
+distinct_same s t [] h = refl
+distinct_same s t (r ∷ rows) h =
+    rw (h r, distinct_same s t rows h, distinct_same (r ∷ s) (r ∷ t) rows (λ q. ap (λ b. same_row q r || b) (h q))) refl
+
+-- what was kept, and what is new of the rows that are left
+pub distinct_with : List Row → List Row → List Row
+distinct_with kept rows = kept ++ distinct_after kept rows
+
+pub distinct_start : (rows : List Row) → distinct_with [] rows ≡ distinct_after [] rows
+unfolding distinct_with
+distinct_start rows = refl
+
+pub distinct_end : (kept : List Row) → distinct_with kept [] ≡ kept
+unfolding distinct_with
+distinct_end kept = append-nil kept
+
+last_first : (kept : List Row) (r : Row) (rows : List Row) → distinct_after (r ∷ kept) rows ≡ distinct_after (kept ++ (r ∷ [])) rows
+last_first kept r rows = distinct_same (r ∷ kept) (kept ++ (r ∷ [])) rows (λ q. swap q (same_row q r) (list_any (same_row q) kept) ∙ sym (any-append (same_row q) kept (r ∷ [])))
+  where
+    swap : (q : Row) (a b : Bool) → (a || b) ≡ (b || (a || false))
+    swap q true true = refl
+    swap q true false = refl
+    swap q false true = refl
+    swap q false false = refl
+
+pub distinct_next : (kept rows : List Row) (r : Row) → distinct_with kept (r ∷ rows) ≡ distinct_with (kept ++ cond (not (list_any (same_row r) kept)) (r ∷ []) []) rows
+unfolding distinct_with
+distinct_next kept rows r = on_bool (list_any (same_row r) kept)
+    (λ e. rw (e, append-nil kept) refl)
+    (λ e. rw (e, last_first kept r rows) (sym (append_assoc kept (r ∷ []) (distinct_after (kept ++ (r ∷ [])) rows))))
+
+next_row : (rows : List Row) (i : ℕ) (r : Row) → i < length rows → r ≡ get_or rows i r → drop i rows ≡ r ∷ drop (i + 1) rows
+next_row rows i r h e = rw (add-one, drop-cons rows i r) (ap (λ y. y ∷ drop (suc i) rows) (sym e))
+
+pub distinct_step : (rows kept next target : List Row) (i : ℕ) (r : Row) (b : Bool) → i < length rows → r ≡ get_or rows i r → next ≡ kept ++ cond b (r ∷ []) [] →
+    b ≡ not (list_any (same_row r) kept) → distinct_with kept (drop i rows) ≡ target → distinct_with next (drop (i + 1) rows) ≡ target
+distinct_step rows kept next target i r b h e n f inv =
+    ap (λ s. distinct_with s (drop (i + 1) rows)) (n ∙ ap (λ c. kept ++ cond c (r ∷ []) []) f) ∙ sym (distinct_next kept (drop (i + 1) rows) r) ∙
+    ap (distinct_with kept) (sym (next_row rows i r h e)) ∙ inv
+
+pub distinct_done : (rows kept target : List Row) (i : ℕ) → length rows ≤ i → distinct_with kept (drop i rows) ≡ target → kept ≡ target
+distinct_done rows kept target i h inv = sym (distinct_end kept) ∙ ap (distinct_with kept) (sym (drop_of_length-le rows h)) ∙ inv
+
+-- each row is below a later column too
+pub each_below : (n k i : ℕ) (rows : List Row) (r : Row) → EachRow (AreBelow n) rows → i < length rows → r ≡ get_or rows i r → n ≤ k → AreBelow k r
+each_below n k i [] r h l e m = absurd (omega arith)
+each_below n k zero (q ∷ rows) r h l e m = subst (AreBelow k) (sym e) (AreBelow-raise n k q m h.0)
+each_below n k (suc i) (q ∷ rows) r h l e m = each_below n k i rows r h.1 (omega arith) e m
+
+-- ---- a new last column
+pub are_below : (n : ℕ) (r : Row) → Over (λ c. c < n) r → AreBelow n r
+are_below n [] h = tt
+are_below n ((c, k) ∷ r) h = (h.0, are_below n r h.1)
+
+pub all_below : (n : ℕ) (rows : List Row) → EachRow (Over (λ c. c < n)) rows → EachRow (AreBelow n) rows
+all_below n [] h = tt
+all_below n (r ∷ rows) h = (are_below n r h.0, all_below n rows h.1)
+
+put_before : (c : ℕ) (k : ℤ) (r s : Row) → put c k (r ++ s) ≡ put c k r ++ s
+put_before c k r s = cond_both (is_zero k) r ((c, k) ∷ r) (λ y. put c k (r ++ s) ≡ y ++ s) (λ e. rw e refl) (λ e. rw e refl)
+
+put_some : (c : ℕ) (k : ℤ) (r : Row) → k ≢ pos 0 → put c k r ≡ (c, k) ∷ r
+put_some c k r h = put-append c k r ∙ rw (put_nonzero c k h) refl
+
+-- an entry goes into the part below n
+add_before : (n c : ℕ) (k : ℤ) (r s : Row) → c < n → Rises n s → add_at c k (r ++ s) ≡ add_at c k r ++ s
+add_before n c k [] [] h p = sym (append-nil (put c k []))
+add_before n c k [] ((d, m) ∷ s) h p = let l = p.0 in rw (lt-ltb c d (omega arith)) (put-append c k ((d, m) ∷ s))
+add_before n c k ((d, m) ∷ r) s h p =
+    on_bool (nat_lt c d)
+    (λ e. rw e (put_before c k ((d, m) ∷ r) s))
+    (λ e. on_bool (c == d) (λ f. rw (e, f) (put_before c (k +ℤ m) r s)) (λ f. rw (e, f) (ap (λ y. (d, m) ∷ y) (add_before n c k r s h p))))
+
+comb_second : (n : ℕ) (a : ℤ) (s : Row) → Rises n s → comb a [] (pos 1) s ≡ s
+comb_second n a [] p = refl
+comb_second n a ((d, m) ∷ s) p =
+    let i : pos 1 *ℤ m ≡ m = omega (arith, ints) in
+    rw (i, comb_second (suc d) a s p.2) (put_some d m s p.1)
+
+-- a row from n on follows a times a row below n
+pub comb_before : (n : ℕ) (a : ℤ) (r s : Row) → AreBelow n r → Rises n s → comb a r (pos 1) s ≡ comb a r (pos 0) [] ++ s
+comb_before n a [] s h p = comb_second n a s p
+comb_before n a ((c, k) ∷ r) s h p = rw (comb_before n a r s h.1 p) (add_before n c (a *ℤ k) (comb a r (pos 0) []) s h.0 p)
+
+pub comb_first : (n : ℕ) (r : Row) → Rises n r → comb (pos 1) r (pos 0) [] ≡ r
+comb_first n [] p = refl
+comb_first n ((c, k) ∷ r) p =
+    let i : pos 1 *ℤ k ≡ k = omega (arith, ints) in
+    rw (i, comb_first (suc c) r p.2) (add_least c k r p.2 ∙ put_some c k r p.1)
+  where
+    add_least : (c : ℕ) (k : ℤ) (r : Row) → Rises (suc c) r → add_at c k r ≡ put c k r
+    add_least c k [] p = refl
+    add_least c k ((d, m) ∷ r) p = let l = p.0 in rw (lt-ltb c d (omega arith)) refl
+
+pub floored_is : (n : ℕ) (g : ℤ) (r : Row) → AreBelow n r → IsRow r → comb (pos 1) (divided_by g r) (pos 1) (one_at n) ≡ divided_by g r ++ put n (pos 1) []
+floored_is n g r h p =
+    comb_before n (pos 1) (divided_by g r) (one_at n) (AreBelow-divided n (unsigned_abs g) r h) (omega arith, one_some, tt) ∙
+    ap (λ y. y ++ one_at n) (comb_first 0 (divided_by g r) (Rises-divided 0 (unsigned_abs g) r p.0))
+  where
+    one_some : pos 1 ≢ pos 0
+    one_some e = absurd (let i = ap unsigned_abs e in omega (arith, i))
+
+pub divided_low : (n : ℕ) (g : ℤ) (r : Row) → AreBelow n r → AreBelow n (divided_by g r)
+divided_low n g r h = AreBelow-divided n (unsigned_abs g) r h

@@ -1,0 +1,28 @@
+-- What `drop_output` and its private calls answer.
+use Rattle.std.specs.Prelude.{ℕ, ℤ, ◌==◌, not, filter, Bool, List, [], ◌∷◌}
+use Rattle.std.specs.List.{list_any}
+use Rattle.cf_bounds.specs.declared.dropping.Dropped.{Dropped}
+use Rattle.cf_linear.specs.declared.system.Divided.{Divided}
+use Rattle.cf_linear.specs.Rows.{Row}
+use Rattle.cf_linear.specs.Matrices.{Matrix, Way, Answer}
+use Rattle.cf_linear.specs.Steps.{pair_passes}
+use Rattle.cf_linear.specs.Views.{matrix_of, back_of}
+
+abbrev pub dropped_answer : Dropped → Answer
+dropped_answer d = record { matrix = matrix_of d.system; moves = []; back = back_of d.back ∷ []; bounds = [] }
+
+abbrev pub bound_pair : Divided → Row × ℤ
+bound_pair b = (b.row, b.k)
+
+-- whether a pair passes the limit
+unfoldable pub pairs_pass : ℕ → List Row → List Row → Bool
+pairs_pass x low high = list_any (λ l. list_any (pair_passes x l) high) low
+
+-- the matrix with these inequalities, without x, which is computed so
+abbrev pub with_rows : Matrix → ℕ → List Row → Way → Answer
+with_rows m x rows way = record {
+  matrix = record { known = m.known; unknown = filter (λ w. not (w == x)) m.unknown; next = m.next; equations = m.equations; inequalities = rows; needs = m.needs };
+  moves = [];
+  back = (x, way) ∷ [];
+  bounds = [];
+}

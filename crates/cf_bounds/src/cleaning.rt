@@ -1,0 +1,312 @@
+//! Clean: rows without unknowns become needs, the inequalities are tightened, and equal ones are dropped.
+ghost use Rattle.std.specs.Prelude.{◌≡◌, ◌≤◌, ◌++◌, pos, ◌<ℤ◌, Option, Some, None, map, filter, not, [], IfOk, OnOk};
+ghost use Rattle.std.specs.List.{list_any};
+ghost use Rattle.cf_num.specs.Limit.{IsWithin};
+ghost use Rattle.cf_linear.specs.Rows.{AreBelow, same_row, comb};
+ghost use Rattle.cf_linear.specs.Matrices.{EachRow, need_zero, need_nonneg, floor_of};
+ghost use Rattle.cf_linear.specs.Steps.{has_unknown, unknown_part, common, tighten_row, next_tightened, tighten_all, distinct_after, one_at, clean};
+ghost use Rattle.cf_linear.specs.Keep.{Formed};
+ghost use Rattle.cf_linear.specs.Solved.{Owes};
+ghost use Rattle.cf_linear.specs.Views.{matrix_of, move_of};
+ghost use Rattle.cf_bounds.specs.Sides.{divided_by};
+ghost use Rattle.cf_bounds.specs.Made.{cleaned, tight_of, tightened_of};
+ghost use Rattle.cf_bounds.specs.Cleaning.{needs_of, tightened, joined, with_let};
+
+use crate::parts::{
+    add_copy, common, divided, divides_known, has_unknown, joined_columns, known_part, unknown_part,
+};
+use cf_linear::row::Row;
+use cf_linear::system::{Step, System};
+use cf_tree::memory::NoMemory;
+use std::alloc::Global;
+
+/// A cleaned system, with the needs and lets that were made of it, in order.
+#[derive(Drop)]
+pub struct Cleaned {
+    pub system: System,
+    pub steps: Vec<Step>,
+}
+
+// A row after the tightening, with the let of its new column where it got one.
+#[derive(Drop)]
+pub(crate) struct Tight {
+    pub(crate) step: Option<Step>,
+    pub(crate) row: Row,
+}
+
+// The rows that were tightened so far, with the new columns and their lets.
+#[derive(Drop)]
+pub(crate) struct Tightening {
+    pub(crate) next: u32,
+    pub(crate) made: Vec<u32>,
+    pub(crate) steps: Vec<Step>,
+    pub(crate) rows: Vec<Row>,
+}
+
+/// Rows without unknowns become needs, equations first. The other inequalities are divided by the
+/// greatest common divisor of their unknowns' coefficients, where the known part is rounded down or
+/// gives way to a new column, and of equal ones the first stays.
+pub fn clean(alloc: Global, system: System) -> Result<Cleaned, NoMemory>
+    requires { Formed (matrix_of system) }
+    ensures next { IfOk result (λ c. cleaned c ≡ clean (matrix_of system)) }
+    ensures owes { IfOk result (λ c. Owes (matrix_of system) (cleaned c)) }
+    ensures formed { IfOk result (λ c. Formed (matrix_of c.system)) }
+{
+    cleaned_system(alloc, system)
+}
+
+#[tactic(auto, using(crate::proofs::CleanLaws::clean_is))]
+fn cleaned_system(alloc: Global, system: System) -> Result<Cleaned, NoMemory>
+    requires { EachRow (AreBelow (matrix_of system).next) (matrix_of system).inequalities }
+    ensures { IfOk result (λ c. cleaned c ≡ clean (matrix_of system)) }
+{
+    let needs = needs_of(alloc, &system)?;
+    let tight = tightened(alloc, &system)?;
+    let equations = with_unknowns(alloc, &system.unknown, &system.equations)?;
+    joined(alloc, system, equations, tight, needs)
+}
+
+// The new system, and the needs and then the lets.
+fn joined(
+    alloc: Global,
+    system: System,
+    equations: Vec<Row>,
+    tight: Tightening,
+    needs: Vec<Step>,
+) -> Result<Cleaned, NoMemory>
+    ensures { IfOk result (λ c. cleaned c ≡ joined (matrix_of system) equations.items (tightened_of tight) (map move_of needs.items)) }
+{
+    let Some(count) = system.needs.checked_add(needs.len() as u64) else {
+        return Err(NoMemory);
+    };
+    let inequalities = distinct(alloc, &tight.rows)?;
+    let known = joined_columns(system.known, &tight.made)?;
+    let steps = both_steps(needs, tight.steps)?;
+    let next = tight.next;
+    let unknown = system.unknown;
+    Ok(Cleaned {
+        system: System {
+            known,
+            unknown,
+            next,
+            equations,
+            inequalities,
+            needs: count,
+        },
+        steps,
+    })
+}
+
+fn both_steps(first: Vec<Step>, second: Vec<Step>) -> Result<Vec<Step>, NoMemory>
+    ensures { IfOk result (λ all. all.items ≡ first.items ++ second.items) }
+{
+    let mut all = first;
+    let mut more = second;
+    all.append(&mut more)?;
+    Ok(all)
+}
+
+// The needs of the equations without unknowns, and then of the inequalities.
+#[tactic(auto, using(crate::proofs::CleanLaws::steps_append))]
+fn needs_of(alloc: Global, system: &System) -> Result<Vec<Step>, NoMemory>
+    ensures { IfOk result (λ s. map move_of s.items ≡ needs_of (matrix_of system.now)) }
+{
+    let equations = bare_rows(alloc, &system.unknown, &system.equations)?;
+    let inequalities = bare_rows(alloc, &system.unknown, &system.inequalities)?;
+    let zeros = zero_needs(alloc, &equations)?;
+    let nonnegs = nonneg_needs(alloc, &inequalities)?;
+    let steps = both_steps(zeros, nonnegs)?;
+    Ok(steps)
+}
+
+fn zero_needs(alloc: Global, rows: &[Row]) -> Result<Vec<Step>, NoMemory>
+    ensures { IfOk result (λ s. map move_of s.items ≡ map need_zero rows.now) }
+{
+    let mut out = Vec::new(alloc);
+    for row in rows {
+        out.push(Step::NeedZero(row.try_copy(alloc)?))?;
+    }
+    Ok(out)
+}
+
+fn nonneg_needs(alloc: Global, rows: &[Row]) -> Result<Vec<Step>, NoMemory>
+    ensures { IfOk result (λ s. map move_of s.items ≡ map need_nonneg rows.now) }
+{
+    let mut out = Vec::new(alloc);
+    for row in rows {
+        out.push(Step::NeedNonneg(row.try_copy(alloc)?))?;
+    }
+    Ok(out)
+}
+
+// The rows that hold an unknown.
+#[tactic(auto, using(crate::proofs::ListLemmas::filter_push))]
+fn with_unknowns(alloc: Global, unknown: &[u32], rows: &[Row]) -> Result<Vec<Row>, NoMemory>
+    ensures { IfOk result (λ s. s.items ≡ filter (has_unknown unknown.now) rows.now) }
+{
+    let mut out = Vec::new(alloc);
+    for row in rows {
+        add_copy(alloc, &mut out, row, has_unknown(unknown, row))?;
+    }
+    Ok(out)
+}
+
+// The rows that hold none.
+#[tactic(auto, using(crate::proofs::ListLemmas::filter_push))]
+fn bare_rows(alloc: Global, unknown: &[u32], rows: &[Row]) -> Result<Vec<Row>, NoMemory>
+    ensures { IfOk result (λ s. s.items ≡ filter (λ r. not (has_unknown unknown.now r)) rows.now) }
+{
+    let mut out = Vec::new(alloc);
+    for row in rows {
+        add_copy(alloc, &mut out, row, !has_unknown(unknown, row))?;
+    }
+    Ok(out)
+}
+
+// The rows without those that are equal to an earlier one.
+#[tactic(auto, using(crate::proofs::ListLemmas::distinct_start))]
+fn distinct(alloc: Global, rows: &[Row]) -> Result<Vec<Row>, NoMemory>
+    ensures { IfOk result (λ s. s.items ≡ distinct_after [] rows.now) }
+{
+    let mut out: Vec<Row> = Vec::new(alloc);
+    for row in rows {
+        let is_new = !has_row(row, &out);
+        add_copy(alloc, &mut out, row, is_new)?;
+    }
+    Ok(out)
+}
+
+// Whether the row is one of the rows.
+fn has_row(row: &Row, rows: &[Row]) -> bool
+    ensures { result ≡ list_any (same_row row.now) rows.now }
+{
+    rows.iter().any(|r| row.same(r))
+}
+
+// The inequalities that hold an unknown, tightened.
+fn tightened(alloc: Global, system: &System) -> Result<Tightening, NoMemory>
+    requires { EachRow (AreBelow (matrix_of system.now).next) (matrix_of system.now).inequalities }
+    ensures { IfOk result (λ t. tightened_of t ≡ tightened (matrix_of system.now)) }
+{
+    let held = with_unknowns(alloc, &system.unknown, &system.inequalities)?;
+    tighten_all(alloc, &system.unknown, system.next, &held)
+}
+
+fn tighten_all(
+    alloc: Global,
+    unknown: &[u32],
+    next: u32,
+    rows: &[Row],
+) -> Result<Tightening, NoMemory>
+    requires { EachRow (AreBelow next) rows.now }
+    ensures { IfOk result (λ t. tightened_of t ≡ tighten_all unknown.now next rows.now) }
+{
+    let mut all = Tightening {
+        next,
+        made: Vec::new(alloc),
+        steps: Vec::new(alloc),
+        rows: Vec::new(alloc),
+    };
+    for row in rows {
+        let tight = tighten_row(alloc, unknown, all.next, row)?;
+        all.add(tight)?;
+    }
+    Ok(all)
+}
+
+// The row, tightened by the greatest common divisor of its unknowns' coefficients.
+fn tighten_row(alloc: Global, unknown: &[u32], next: u32, row: &Row) -> Result<Tight, NoMemory>
+    requires { AreBelow next row.now }
+    ensures { IfOk result (λ t. tight_of t ≡ tighten_row unknown.now next row.now) }
+{
+    let unknowns = unknown_part(alloc, unknown, row)?;
+    tighten_by(alloc, unknown, next, row, &unknowns, common(&unknowns))
+}
+
+// The same with the unknowns of the row, and their divisor.
+#[tactic(auto, using(crate::proofs::CleanLaws::unchanged_row, crate::proofs::CleanLaws::rounded_row, crate::proofs::CleanLaws::floored_row, crate::proofs::PartLemmas::part_below))]
+fn tighten_by(
+    alloc: Global,
+    unknown: &[u32],
+    next: u32,
+    row: &Row,
+    unknowns: &Row,
+    g: i128,
+) -> Result<Tight, NoMemory>
+    requires parts { unknowns.now ≡ unknown_part unknown.now row.now }
+    requires divisor { g ≡ pos (common unknowns.now) }
+    requires below { AreBelow next row.now }
+    requires g_in { IsWithin g }
+    ensures { IfOk result (λ t. tight_of t ≡ tighten_row unknown.now next row.now) }
+{
+    if g <= 1 {
+        return unchanged(alloc, row);
+    }
+    let known = known_part(alloc, unknown, row)?;
+    if divides_known(&known, g) {
+        return rounded(alloc, row, g);
+    }
+    floored(alloc, unknowns, known, g, next)
+}
+
+fn unchanged(alloc: Global, row: &Row) -> Result<Tight, NoMemory>
+    ensures { IfOk result (λ t. tight_of t ≡ (None, row.now)) }
+{
+    let row = row.try_copy(alloc)?;
+    Ok(Tight { step: None, row })
+}
+
+// The row, divided and rounded down.
+fn rounded(alloc: Global, row: &Row, g: i128) -> Result<Tight, NoMemory>
+    requires g_in { IsWithin g }
+    requires positive { pos 0 <ℤ g }
+    ensures { IfOk result (λ t. tight_of t ≡ (None, divided_by g row.now)) }
+{
+    let row = divided(alloc, row, g)?;
+    Ok(Tight { step: None, row })
+}
+
+// The unknowns, divided, and the new column, which holds the known part divided and rounded down.
+#[tactic(auto, using(crate::proofs::ListLemmas::floored_is, crate::proofs::ListLemmas::divided_low))]
+fn floored(alloc: Global, unknowns: &Row, known: Row, g: i128, next: u32) -> Result<Tight, NoMemory>
+    requires below { AreBelow next unknowns.now }
+    requires g_in { IsWithin g }
+    requires positive { pos 0 <ℤ g }
+    ensures { IfOk result (λ t. tight_of t ≡ (Some (floor_of next known g), comb (pos 1) (divided_by g unknowns.now) (pos 1) (one_at next))) }
+{
+    let mut row = divided(alloc, unknowns, g)?;
+    row.append(next, 1)?;
+    Ok(Tight {
+        step: Some(Step::Let(next, known, g)),
+        row,
+    })
+}
+
+impl Tightening {
+    // Adds a row, and the new column that it got.
+    fn add(&mut self, tight: Tight) -> Result<(), NoMemory>
+        ensures value { OnOk result (tightened_of self.new ≡ next_tightened (tightened_of self.old) (tight_of tight)) }
+        ensures grown { OnOk result (self.old.next ≤ self.new.next) }
+    {
+        let Tight { step, row } = tight;
+        if let Some(step) = step {
+            self.add_let(step)?;
+        }
+        self.rows.push(row)?;
+        Ok(())
+    }
+
+    // Adds the let of the next column.
+    fn add_let(&mut self, step: Step) -> Result<(), NoMemory>
+        ensures value { OnOk result (tightened_of self.new ≡ with_let (tightened_of self.old) (move_of step)) }
+        ensures grown { OnOk result (self.old.next ≤ self.new.next) }
+    {
+        let Some(next) = self.next.checked_add(1) else {
+            return Err(NoMemory);
+        };
+        self.made.push(self.next)?;
+        self.steps.push(step)?;
+        self.next = next;
+        Ok(())
+    }
+}

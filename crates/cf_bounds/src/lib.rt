@@ -1,0 +1,15 @@
+//! Bounds of unknowns: a system is cleaned, an unknown is picked, its side is searched, and it is dropped.
+#![tactic(auto)]
+
+mod cleaning;
+mod dropping;
+mod parts;
+mod searching;
+mod selection;
+#[cfg(test)]
+mod tests;
+
+pub use crate::cleaning::{Cleaned, clean};
+pub use crate::dropping::{Dropped, drop_output};
+pub use crate::searching::{Searched, remainder_step};
+pub use crate::selection::{Pick, select};

@@ -1,0 +1,151 @@
+//! Parts of rows: what holds unknowns, common divisors and quotients.
+ghost use Rattle.std.specs.Prelude.{◌≡◌, ◌<◌, ◌++◌, ◌∷◌, [], pos, ◌<ℤ◌, length, get_or, if◌then◌else◌, IfOk, OnOk};
+ghost use Rattle.cf_num.specs.Limit.{IsWithin};
+ghost use Rattle.cf_linear.specs.Rows.{AreBelow, IsRow};
+ghost use Rattle.cf_linear.specs.Steps.{has_column, has_unknown, unknown_part, known_part, common};
+ghost use Rattle.cf_bounds.specs.Sides.{divides_known, divided_by};
+
+use cf_linear::row::Row;
+use cf_num::{fdiv, gcd, modulo};
+use cf_tree::memory::NoMemory;
+use std::alloc::Global;
+
+/// Whether the column is one of the unknowns.
+pub(crate) fn has_column(unknown: &[u32], column: u32) -> bool
+    ensures { result ≡ has_column unknown.now column }
+{
+    unknown.iter().any(|u| *u == column)
+}
+
+/// Whether the row holds an unknown.
+#[tactic(auto, using(crate::proofs::PartLemmas::unknown_next, crate::proofs::PartLemmas::unknown_end))]
+pub(crate) fn has_unknown(unknown: &[u32], row: &Row) -> bool
+    ensures { result ≡ has_unknown unknown.now row.now }
+{
+    for i in 0..row.len() {
+        if has_column(unknown, row.at(i).0) {
+            return true;
+        }
+    }
+    false
+}
+
+/// The unknowns of the row with their entries.
+#[tactic(auto, using(crate::proofs::PartLemmas::unknown_more, crate::proofs::PartLemmas::unknown_below))]
+pub(crate) fn unknown_part(alloc: Global, unknown: &[u32], row: &Row) -> Result<Row, NoMemory>
+    ensures { IfOk result (λ r. r ≡ unknown_part unknown.now row.now) }
+{
+    let mut out = Row::empty(alloc);
+    for i in 0..row.len() {
+        let wanted = has_column(unknown, row.at(i).0);
+        add_entry(&mut out, row, i, wanted)?;
+    }
+    Ok(out)
+}
+
+/// The other columns of the row with their entries.
+#[tactic(auto, using(crate::proofs::PartLemmas::known_more, crate::proofs::PartLemmas::known_below))]
+pub(crate) fn known_part(alloc: Global, unknown: &[u32], row: &Row) -> Result<Row, NoMemory>
+    ensures { IfOk result (λ r. r ≡ known_part unknown.now row.now) }
+{
+    let mut out = Row::empty(alloc);
+    for i in 0..row.len() {
+        let wanted = !has_column(unknown, row.at(i).0);
+        add_entry(&mut out, row, i, wanted)?;
+    }
+    Ok(out)
+}
+
+/// The greatest common divisor of the entries.
+#[tactic(auto, using(crate::proofs::PartLemmas::common_next, crate::proofs::PartLemmas::common_end))]
+pub(crate) fn common(row: &Row) -> i128
+    ensures value { result ≡ pos (common row.now) }
+    ensures fits { IsWithin result }
+{
+    let mut g = 0;
+    let mut i = row.len();
+    while i > 0 {
+        i -= 1;
+        g = gcd(row.at(i).1, g);
+    }
+    g
+}
+
+/// Whether `g` divides each entry but the constant.
+#[tactic(auto, using(crate::proofs::PartLemmas::divides_next, crate::proofs::PartLemmas::divides_end))]
+pub(crate) fn divides_known(row: &Row, g: i128) -> bool
+    requires g_in { IsWithin g }
+    requires positive { pos 0 <ℤ g }
+    ensures { result ≡ divides_known g row.now }
+{
+    for i in 0..row.len() {
+        let (column, k) = row.at(i);
+        if column != 0 && modulo(k, g) != 0 {
+            return false;
+        }
+    }
+    true
+}
+
+/// Each entry divided by `g` and rounded down.
+#[tactic(auto, using(crate::proofs::PartLemmas::divided_more, crate::proofs::PartLemmas::divided_below))]
+pub(crate) fn divided(alloc: Global, row: &Row, g: i128) -> Result<Row, NoMemory>
+    requires g_in { IsWithin g }
+    requires positive { pos 0 <ℤ g }
+    ensures value { IfOk result (λ r. r ≡ divided_by g row.now) }
+    ensures rows { IsRow row.now }
+{
+    let mut out = Row::empty(alloc);
+    for i in 0..row.len() {
+        let (column, k) = row.at(i);
+        out.append(column, fdiv(k, g))?;
+    }
+    Ok(out)
+}
+
+/// The first columns and then the second.
+pub(crate) fn joined_columns(first: Vec<u32>, second: &[u32]) -> Result<Vec<u32>, NoMemory>
+    ensures { IfOk result (λ all. all.items ≡ first.items ++ second.now) }
+{
+    let mut all = first;
+    all.extend_from_slice(second)?;
+    Ok(all)
+}
+
+/// The first rows and then the second.
+pub(crate) fn joined_rows(first: Vec<Row>, second: Vec<Row>) -> Result<Vec<Row>, NoMemory>
+    ensures { IfOk result (λ all. all.items ≡ first.items ++ second.items) }
+{
+    let mut all = first;
+    let mut more = second;
+    all.append(&mut more)?;
+    Ok(all)
+}
+
+/// Adds a copy of the row to the end, if it is wanted.
+pub(crate) fn add_copy(
+    alloc: Global,
+    out: &mut Vec<Row>,
+    row: &Row,
+    wanted: bool,
+) -> Result<(), NoMemory>
+    ensures { OnOk result (out.new.items ≡ out.old.items ++ (if wanted then row.now ∷ [] else [])) }
+{
+    if wanted {
+        out.push(row.try_copy(alloc)?)?;
+    }
+    Ok(())
+}
+
+// Adds the entry at the place to the end, if it is wanted.
+fn add_entry(out: &mut Row, row: &Row, i: usize, wanted: bool) -> Result<(), NoMemory>
+    requires place { i < length row.now }
+    requires after { AreBelow (get_or row.now i (0, pos 0)).0 out.old }
+    ensures { OnOk result (out.new ≡ out.old ++ (if wanted then get_or row.now i (0, pos 0) ∷ [] else [])) }
+{
+    if wanted {
+        let (column, k) = row.at(i);
+        out.append(column, k)?;
+    }
+    Ok(())
+}

@@ -1,0 +1,251 @@
+//! The search over the remainders of a side's bounds.
+ghost use Rattle.std.specs.Prelude.{◌≡◌, ◌<◌, ◌≤◌, ◌+◌, ◌^◌, pos, negsuc, neg_ℤ, unsigned_abs, if◌then◌else◌, true, IfOk, OnOk};
+ghost use Rattle.cf_num.specs.Limit.{IsWithin};
+ghost use Rattle.cf_linear.specs.Rows.{AreBelow};
+ghost use Rattle.cf_linear.specs.Matrices.{EachRow};
+ghost use Rattle.cf_linear.specs.Steps.{searches, search_equation, search_bound, found_row, found_all, searched_as, searched};
+ghost use Rattle.cf_linear.specs.Keep.{In, Formed};
+ghost use Rattle.cf_linear.specs.Solved.{Owes};
+ghost use Rattle.cf_linear.specs.Views.{matrix_of};
+ghost use Rattle.cf_bounds.specs.Exact.{IsFree, AreExact};
+ghost use Rattle.cf_bounds.specs.Searching.{searched_answer, found_of, found_from, found_with, equation_start, is_searched};
+
+use crate::parts::{add_copy, joined_columns, joined_rows};
+use crate::selection::{Pick, is_side};
+use cf_linear::row::Row;
+use cf_linear::system::{Search, System};
+use cf_num::neg;
+use cf_tree::memory::NoMemory;
+use std::alloc::Global;
+
+/// The system with the search columns and the new unknowns, and the search columns with their bounds.
+#[derive(Drop)]
+pub struct Searched {
+    pub system: System,
+    pub bounds: Vec<Search>,
+}
+
+// What the search has so far.
+#[derive(Drop)]
+pub(crate) struct Finding {
+    pub(crate) next: u32,
+    pub(crate) columns: Vec<u32>,
+    pub(crate) unknowns: Vec<u32>,
+    pub(crate) equations: Vec<Row>,
+    pub(crate) rows: Vec<Row>,
+    pub(crate) bounds: Vec<Search>,
+}
+
+/// Each bound of the picked unknown on the picked side with a coefficient above 1 becomes an equation
+/// with a search column, which goes from 0 up to the coefficient, not with it, and a new unknown, which
+/// takes the bound's place. After it each pair of bounds has a coefficient 1 or -1.
+pub fn remainder_step(alloc: Global, system: System, pick: &Pick) -> Result<Searched, NoMemory>
+    requires formed { Formed (matrix_of system) }
+    requires unknown { In pick.now.unknown (matrix_of system).unknown }
+    ensures next { IfOk result (λ s. searched_answer s ≡ searched (matrix_of system) pick.now.unknown pick.now.lower) }
+    ensures owes { IfOk result (λ s. Owes (matrix_of system) (searched_answer s)) }
+    ensures formed { IfOk result (λ s. Formed (matrix_of s.system)) }
+    ensures exact { IfOk result (λ s. AreExact pick.now.unknown (matrix_of s.system).inequalities) }
+    ensures free { IfOk result (λ s. IsFree pick.now.unknown (matrix_of system).equations → IsFree pick.now.unknown (matrix_of s.system).equations) }
+{
+    searched_system(alloc, system, pick.unknown, pick.lower)
+}
+
+#[tactic(auto, using(crate::proofs::SearchLaws::searched_is))]
+fn searched_system(
+    alloc: Global,
+    system: System,
+    unknown: u32,
+    lower: bool,
+) -> Result<Searched, NoMemory>
+    requires rows { EachRow (AreBelow (matrix_of system).next) (matrix_of system).inequalities }
+    requires column { unknown < (matrix_of system).next }
+    ensures { IfOk result (λ s. searched_answer s ≡ searched (matrix_of system) unknown lower) }
+{
+    let found = find_all(alloc, &system.inequalities, system.next, unknown, lower)?;
+    with_found(system, found)
+}
+
+// The system with what the search found.
+fn with_found(system: System, found: Finding) -> Result<Searched, NoMemory>
+    ensures { IfOk result (λ s. searched_answer s ≡ searched_as (matrix_of system) (found_of found)) }
+{
+    let known = joined_columns(system.known, &found.columns)?;
+    let unknown = joined_columns(system.unknown, &found.unknowns)?;
+    let equations = joined_rows(system.equations, found.equations)?;
+    Ok(Searched {
+        system: System {
+            known,
+            unknown,
+            next: found.next,
+            equations,
+            inequalities: found.rows,
+            needs: system.needs,
+        },
+        bounds: found.bounds,
+    })
+}
+
+// The search over the rows.
+fn find_all(
+    alloc: Global,
+    rows: &[Row],
+    next: u32,
+    unknown: u32,
+    lower: bool,
+) -> Result<Finding, NoMemory>
+    requires rows { EachRow (AreBelow next) rows.now }
+    requires column { unknown < next }
+    ensures { IfOk result (λ f. found_of f ≡ found_all unknown lower (found_from next) rows.now) }
+{
+    let mut found = Finding {
+        next,
+        columns: Vec::new(alloc),
+        unknowns: Vec::new(alloc),
+        equations: Vec::new(alloc),
+        rows: Vec::new(alloc),
+        bounds: Vec::new(alloc),
+    };
+    for row in rows {
+        found.add(alloc, unknown, lower, row)?;
+    }
+    Ok(found)
+}
+
+// Whether the coefficient is one above 1 of a bound on the side.
+fn searches(lower: bool, k: i128) -> bool
+    ensures { result ≡ is_searched lower k }
+{
+    k.unsigned_abs() > 1 && is_side(lower, k)
+}
+
+// The size of the coefficient; a search with one of more than 32 bits is past its limit, and gets no memory.
+fn size(k: i128) -> Result<u32, NoMemory>
+    ensures { IfOk result (λ n. n ≡ unsigned_abs k) }
+{
+    let size = k.unsigned_abs();
+    if size > u32::MAX as u128 {
+        Err(NoMemory)
+    } else {
+        Ok(size as u32)
+    }
+}
+
+// `-l + k - p * n` for a lower bound `p * x + l >= 0`, and `m - k - q * n` for an upper bound `-q * x + m >= 0`,
+// k being the column and n the next one.
+#[tactic(auto, using(crate::proofs::SearchLaws::start_below))]
+fn search_equation(
+    alloc: Global,
+    unknown: u32,
+    lower: bool,
+    column: u32,
+    row: &Row,
+) -> Result<Row, NoMemory>
+    requires below { AreBelow column row.now }
+    requires room { column + 1 < 2 ^ 32 }
+    requires wanted { searches unknown lower row.now ≡ true }
+    ensures { IfOk result (λ r. r ≡ search_equation unknown lower column row.now) }
+{
+    let k = row.entry(unknown);
+    let mut out = equation_start(alloc, unknown, lower, row)?;
+    out.append(column, side_sign(lower))?;
+    out.append(column + 1, turned(lower, k))?;
+    Ok(out)
+}
+
+fn side_sign(lower: bool) -> i128
+    ensures value { result ≡ (if lower then pos 1 else negsuc 0) }
+    ensures fits { IsWithin result }
+{
+    if lower { 1 } else { -1 }
+}
+
+// The coefficient, with the other sign for a lower bound.
+fn turned(lower: bool, k: i128) -> i128
+    requires { IsWithin k }
+    ensures value { result ≡ (if lower then neg_ℤ k else k) }
+    ensures fits { IsWithin result }
+{
+    if lower { neg(k) } else { k }
+}
+
+// The rest of the bound, with the other signs for a lower one.
+#[tactic(auto, using(crate::proofs::ListLemmas::comb_first))]
+fn equation_start(alloc: Global, unknown: u32, lower: bool, row: &Row) -> Result<Row, NoMemory>
+    ensures { IfOk result (λ r. r ≡ equation_start unknown lower row.now) }
+{
+    let rest = row.without(alloc, unknown)?;
+    if lower { rest.negated(alloc) } else { Ok(rest) }
+}
+
+// `x - n` for a lower bound, and `-x + n` for an upper one.
+fn search_bound(alloc: Global, unknown: u32, lower: bool, column: u32) -> Result<Row, NoMemory>
+    requires after { unknown < column }
+    requires room { column + 1 < 2 ^ 32 }
+    ensures { IfOk result (λ r. r ≡ search_bound unknown lower column) }
+{
+    if lower {
+        Row::two_at(alloc, 1, unknown, -1, column + 1)
+    } else {
+        Row::two_at(alloc, -1, unknown, 1, column + 1)
+    }
+}
+
+impl Finding {
+    // Adds a row, or what takes its place.
+    fn add(&mut self, alloc: Global, unknown: u32, lower: bool, row: &Row) -> Result<(), NoMemory>
+        requires below { AreBelow self.old.next row.now }
+        requires column { unknown < self.old.next }
+        ensures value { OnOk result (found_of self.new ≡ found_row unknown lower (found_of self.old) row.now) }
+        ensures grown { OnOk result (self.old.next ≤ self.new.next) }
+    {
+        if searches(lower, row.entry(unknown)) {
+            self.add_search(alloc, unknown, lower, row)
+        } else {
+            self.rows.push(row.try_copy(alloc)?)?;
+            Ok(())
+        }
+    }
+
+    // Adds the search column, the new unknown, and the rows in the place of the bound.
+    #[tactic(auto, using(crate::proofs::SearchLaws::found_from_parts))]
+    fn add_search(
+        &mut self,
+        alloc: Global,
+        unknown: u32,
+        lower: bool,
+        row: &Row,
+    ) -> Result<(), NoMemory>
+        requires below { AreBelow self.old.next row.now }
+        requires column { unknown < self.old.next }
+        requires wanted { searches unknown lower row.now ≡ true }
+        ensures value { OnOk result (found_of self.new ≡ found_row unknown lower (found_of self.old) row.now) }
+        ensures grown { OnOk result (self.old.next ≤ self.new.next) }
+    {
+        let column = self.next;
+        let Some(next) = column.checked_add(2) else {
+            return Err(NoMemory);
+        };
+        let bound = size(row.entry(unknown))?;
+        let equation = search_equation(alloc, unknown, lower, column, row)?;
+        let rest = search_bound(alloc, unknown, lower, column)?;
+        self.extend(next, equation, rest, bound)?;
+        Ok(())
+    }
+
+    // Adds the next column and unknown with these.
+    fn extend(&mut self, next: u32, equation: Row, rest: Row, bound: u32) -> Result<(), NoMemory>
+        requires { next ≡ self.old.next + 2 }
+        ensures value { OnOk result (found_of self.new ≡ found_with (found_of self.old) equation rest bound) }
+        ensures grown { OnOk result (self.old.next ≤ self.new.next) }
+    {
+        let column = self.next;
+        self.equations.push(equation)?;
+        self.rows.push(rest)?;
+        self.columns.push(column)?;
+        self.unknowns.push(column + 1)?;
+        self.bounds.push(Search { column, bound })?;
+        self.next = next;
+        Ok(())
+    }
+}

@@ -1,0 +1,17 @@
+pub mod Quantifiers
+pub mod Deciding
+pub mod PlainLaws
+pub mod CaseLaws
+pub mod BelowLaws
+pub mod GuardLaws
+pub mod WriteLaws
+pub mod AtomLaws
+pub mod MatrixLaws
+pub mod AgreeLaws
+pub mod CountLaws
+pub mod SignLaws
+pub mod PickLaws
+pub mod FormedLaws
+pub mod PlacedLaws
+pub mod LessLaws
+pub mod DraftLaws

@@ -1,0 +1,5 @@
+pub mod Counts
+pub mod Drafts
+pub mod Holding
+pub mod Picking
+pub mod Tests

@@ -1,0 +1,10 @@
+pub mod BoundLaws
+pub mod CaseLaws
+pub mod EndLaws
+pub mod ReturnLaws
+pub mod RunLaws
+pub mod SearchLaws
+pub mod StageLaws
+pub mod StepReturns
+pub mod TupleLaws
+pub mod TurnLaws

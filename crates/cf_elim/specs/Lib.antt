@@ -1,0 +1,6 @@
+pub mod Bounds
+pub mod Cases
+pub mod Eliminated
+pub mod Ends
+pub mod Returning
+pub mod Turns

@@ -1,0 +1,183 @@
+//! A Bound step between counted systems.
+ghost use Rattle.std.specs.Prelude.{◌≡◌, ◌≤◌, ◌<◌, [], pos, int_lt, length, IfOk, IfSome};
+ghost use Rattle.cf_linear.specs.Keep.{In, Formed};
+ghost use Rattle.cf_linear.specs.Rows.{is_zero};
+ghost use Rattle.cf_linear.specs.Stages.{unknown_stage, limits};
+ghost use Rattle.cf_linear.specs.Steps.{dropped, is_positive, lowers, uppers, free_of};
+ghost use Rattle.cf_linear.specs.Views.{matrix_of};
+ghost use Rattle.cf_bounds.specs.Exact.{IsFree, AreExact};
+ghost use Rattle.cf_bounds.specs.Picking.{choice_of};
+ghost use Rattle.cf_elim.specs.Turns.{TurnIs, IsReady, is_cleaned, CountsAre};
+ghost use Rattle.cf_elim.specs.Bounds.{IsSearched, DropIs, GoesDropped, SearchedIs};
+
+use crate::counts::{Counts, others, sum, within};
+use crate::fault::ElimFault;
+use crate::made::Made;
+use crate::turn::{Current, Turn};
+use cf_bounds::{Dropped, Pick, Searched, drop_output, remainder_step, select};
+use cf_linear::refusal::{LimitKind, Refusal, RowFault};
+use cf_linear::row::Row;
+use cf_linear::system::{Search, System};
+use cf_tree::memory::NoMemory;
+use std::alloc::Global;
+
+pub(crate) fn bound_turn(alloc: Global, system: System, tuples: u64) -> Result<Turn, ElimFault>
+    requires ready { IsReady (matrix_of system) }
+    requires none { system.equations.items ≡ [] }
+    requires some { 0 < length system.unknown.items }
+    ensures { TurnIs (is_cleaned (matrix_of system) tuples) (unknown_stage limits (is_cleaned (matrix_of system) tuples) system.unknown.items) result }
+{
+    if system.inequalities.len() > u32::MAX as usize {
+        return Err(ElimFault::NoMemory);
+    }
+    let pick = select(&system);
+    let tuples = tuples.saturating_mul(pick.product);
+    if tuples > 1048576 {
+        return Err(ElimFault::Refused(Refusal::Limit {
+            kind: LimitKind::Search,
+            number: tuples,
+        }));
+    }
+    match searched_by(alloc, system, &pick) {
+        Ok(searched) => searched_turn(alloc, searched, pick.unknown, tuples),
+        Err(_) => Err(ElimFault::NoMemory),
+    }
+}
+
+// The drop of x after its search.
+fn searched_turn(alloc: Global, searched: Searched, x: u32, tuples: u64) -> Result<Turn, ElimFault>
+    requires formed { Formed (matrix_of searched.system) }
+    requires unknown { In x searched.system.unknown.items }
+    requires free { IsFree x searched.system.equations.items }
+    requires exact { AreExact x searched.system.inequalities.items }
+    ensures { SearchedIs searched x tuples result }
+{
+    let Searched { system, bounds } = searched;
+    match dropped_within(alloc, system, x) {
+        Ok(dropped) => goes(alloc, bounds, dropped, tuples),
+        Err(fault) => Err(fault),
+    }
+}
+
+// On to what the drop leaves.
+fn goes(
+    alloc: Global,
+    bounds: Vec<Search>,
+    dropped: Dropped,
+    tuples: u64,
+) -> Result<Turn, ElimFault>
+    ensures { GoesDropped bounds.items dropped tuples result }
+{
+    let mut back = Vec::new(alloc);
+    match back.push(dropped.back) {
+        Ok(()) => Ok(Turn::Goes(
+            Current {
+                system: dropped.system,
+                tuples,
+                is_clean: false,
+            },
+            Made {
+                bounds,
+                steps: Vec::new(alloc),
+                back,
+            },
+        )),
+        Err(_) => Err(ElimFault::NoMemory),
+    }
+}
+
+// The search, where the picked product is above 1.
+fn searched_by(alloc: Global, system: System, pick: &Pick) -> Result<Searched, NoMemory>
+    requires ready { IsReady (matrix_of system) }
+    requires none { system.equations.items ≡ [] }
+    requires unknown { In pick.now.unknown system.unknown.items }
+    requires exact { pick.now.product ≤ 1 → AreExact pick.now.unknown system.inequalities.items }
+    ensures { IfOk result (λ s. IsSearched (matrix_of system) (choice_of pick.now) s) }
+{
+    if pick.product <= 1 {
+        return Ok(Searched {
+            system,
+            bounds: Vec::new(alloc),
+        });
+    }
+    remainder_step(alloc, system, pick)
+}
+
+// The unknown x is dropped, once the counts that this leaves are within the limits.
+fn dropped_within(alloc: Global, system: System, x: u32) -> Result<Dropped, ElimFault>
+    requires formed { Formed (matrix_of system) }
+    requires unknown { In x system.unknown.items }
+    requires free { IsFree x system.equations.items }
+    requires exact { AreExact x system.inequalities.items }
+    ensures { DropIs (matrix_of system) x result }
+{
+    let counts = match counts_after(&system, x) {
+        Some(counts) => counts,
+        None => return Err(ElimFault::NoMemory),
+    };
+    match within(counts.rows, counts.columns) {
+        Ok(()) => {}
+        Err(fault) => return Err(fault),
+    }
+    match drop_output(alloc, system, x) {
+        Ok(dropped) => Ok(dropped),
+        Err(RowFault::Past) => Err(ElimFault::Refused(Refusal::Past)),
+        Err(RowFault::NoMemory) => Err(ElimFault::NoMemory),
+    }
+}
+
+// The rows and columns that the drop of x leaves: each lower bound with each upper one makes a row.
+fn counts_after(system: &System, x: u32) -> Option<Counts>
+    ensures { IfSome result (λ c. CountsAre (dropped (matrix_of system.now) x).matrix c.rows c.columns) }
+{
+    let low = low_count(&system.inequalities, x) as u64;
+    let high = high_count(&system.inequalities, x) as u64;
+    let free = free_count(&system.inequalities, x) as u64;
+    let pairs = low.checked_mul(high)?;
+    let kept = sum(system.equations.len(), 0, system.needs)?.checked_add(free)?;
+    let rows = kept.checked_add(pairs)?;
+    let columns = sum(system.known.len(), others(&system.unknown, x), 0)?;
+    Some(Counts { rows, columns })
+}
+
+// How many lower bounds the unknown has.
+#[tactic(auto, using(crate::proofs::BoundLaws::count_low))]
+fn low_count(rows: &[Row], x: u32) -> usize
+    ensures { result ≡ length (lowers x rows.now) }
+{
+    rows.iter().filter(|r| is_low(r.entry(x))).count()
+}
+
+// How many upper bounds the unknown has.
+#[tactic(auto, using(crate::proofs::BoundLaws::count_high))]
+fn high_count(rows: &[Row], x: u32) -> usize
+    ensures { result ≡ length (uppers x rows.now) }
+{
+    rows.iter().filter(|r| is_high(r.entry(x))).count()
+}
+
+// How many rows do not have the unknown.
+#[tactic(auto, using(crate::proofs::BoundLaws::count_free))]
+fn free_count(rows: &[Row], x: u32) -> usize
+    ensures { result ≡ length (free_of x rows.now) }
+{
+    rows.iter().filter(|r| is_none(r.entry(x))).count()
+}
+
+fn is_low(k: i128) -> bool
+    ensures { result ≡ is_positive k }
+{
+    k > 0
+}
+
+fn is_high(k: i128) -> bool
+    ensures { result ≡ int_lt k (pos 0) }
+{
+    k < 0
+}
+
+fn is_none(k: i128) -> bool
+    ensures { result ≡ is_zero k }
+{
+    k == 0
+}

@@ -1,0 +1,4 @@
+pub mod Ending
+pub mod Equations
+pub mod Merging
+pub mod Unknowns

@@ -1,0 +1,184 @@
+//! Merge: two unknowns give way to two new ones.
+ghost use Rattle.std.specs.Prelude.{◌≡◌, ◌≢◌, ◌<◌, ◌+◌, ◌^◌, ◌++◌, length, pos, true, false, List, [], ◌∷◌, map, Err, IfOk};
+ghost use Rattle.std.specs.List.{list_any};
+ghost use Rattle.cf_num.specs.Limit.{IsWithin};
+ghost use Rattle.cf_linear.specs.Rows.{entry};
+ghost use Rattle.cf_linear.specs.Matrices.{row_way};
+ghost use Rattle.cf_linear.specs.Steps.{subst_all, replaced, mix, mix_passes, factors_of, merge, merge_passes};
+ghost use Rattle.cf_linear.specs.Views.{matrix_of, back_of};
+ghost use Rattle.cf_equation.specs.Equations.{reduced, first_of};
+ghost use Rattle.cf_equation.specs.Merging.{plain_factors, mix_row_passes, WithinFactors, IsMixed};
+
+use crate::replace::{Left, subst_rows};
+use crate::step::Reduced;
+use cf_linear::refusal::RowFault;
+use cf_linear::row::Row;
+use cf_linear::system::{Back, How, System};
+use cf_num::{bezout, fdiv, neg};
+use cf_tree::memory::NoMemory;
+use std::alloc::Global;
+
+// `x = s * u + m * v` and `y = t * u + n * v`, for the new unknowns u and v.
+#[derive(Clone, Copy)]
+pub(crate) struct MergeFactors {
+    s: i128,
+    m: i128,
+    t: i128,
+    n: i128,
+}
+
+// The factors for two unknowns with coefficients a and b.
+fn factors(a: i128, b: i128) -> MergeFactors
+    requires a_in { IsWithin a }
+    requires b_in { IsWithin b }
+    requires a_some { a ≢ pos 0 }
+    requires b_some { b ≢ pos 0 }
+    ensures value { plain_factors result ≡ factors_of a b }
+    ensures fits { WithinFactors result }
+{
+    let parts = bezout(a, b);
+    MergeFactors {
+        s: parts.s,
+        m: neg(fdiv(b, parts.g)),
+        t: parts.t,
+        n: fdiv(a, parts.g),
+    }
+}
+
+// Two new unknowns, of which the first equation holds the first alone, take the places of x and y.
+pub(crate) fn merge(alloc: Global, system: System, x: u32, y: u32) -> Result<Reduced, RowFault>
+    requires some { 0 < length system.equations.items }
+    requires first { entry (first_of (matrix_of system)) x ≢ pos 0 }
+    requires second { entry (first_of (matrix_of system)) y ≢ pos 0 }
+    ensures value { IfOk result (λ r. reduced r ≡ merge (matrix_of system) (first_of (matrix_of system)) x y) }
+    ensures fits { IfOk result (λ r. merge_passes (matrix_of system) (first_of (matrix_of system)) x y ≡ false) }
+    ensures past { result ≡ Err RowFault.Past → merge_passes (matrix_of system) (first_of (matrix_of system)) x y ≡ true }
+{
+    let a = first_entry(&system, x);
+    let b = first_entry(&system, y);
+    merge_by(alloc, system, x, y, factors(a, b))
+}
+
+// The entry of the first equation at the column.
+fn first_entry(system: &System, x: u32) -> i128
+    requires { 0 < length system.now.equations.items }
+    ensures value { result ≡ entry (first_of (matrix_of system.now)) x }
+    ensures fits { IsWithin result }
+{
+    system.equations[0].entry(x)
+}
+
+// The system with two new unknowns in the places of x and y.
+fn merge_by(
+    alloc: Global,
+    system: System,
+    x: u32,
+    y: u32,
+    f: MergeFactors,
+) -> Result<Reduced, RowFault>
+    requires within { WithinFactors f }
+    ensures value { IfOk result (λ r. reduced r ≡ mix (matrix_of system) x y f.s f.m f.t f.n) }
+    ensures fits { IfOk result (λ r. mix_passes (matrix_of system) x y f.s f.m f.t f.n ≡ false) }
+    ensures past { result ≡ Err RowFault.Past → mix_passes (matrix_of system) x y f.s f.m f.t f.n ≡ true }
+{
+    let u = system.next;
+    let next = match u.checked_add(2) {
+        Some(next) => next,
+        None => return Err(RowFault::NoMemory),
+    };
+    let first = Row::two_at(alloc, f.s, u, f.m, u + 1)?;
+    let second = Row::two_at(alloc, f.t, u, f.n, u + 1)?;
+    match mixed_left(alloc, &system, x, &first, y, &second) {
+        Ok(left) => Ok(Reduced {
+            system: System {
+                known: system.known,
+                unknown: left.unknown,
+                next,
+                equations: left.equations,
+                inequalities: left.inequalities,
+                needs: system.needs,
+            },
+            steps: Vec::new(alloc),
+            back: two_rows(alloc, x, first, y, second)?,
+        }),
+        Err(fault) => Err(fault),
+    }
+}
+
+// What is left of the system with `second` in the place of y and then `first` in the place of x.
+#[tactic(auto, using(crate::proofs::AnyLemmas::either_false, crate::proofs::AnyLemmas::left_true, crate::proofs::AnyLemmas::right_true))]
+fn mixed_left(
+    alloc: Global,
+    system: &System,
+    x: u32,
+    first: &Row,
+    y: u32,
+    second: &Row,
+) -> Result<Left, RowFault>
+    requires { system.now.next + 1 < 2 ^ 32 }
+    ensures value { IfOk result (λ l. IsMixed (matrix_of system.now) x first.now y second.now l) }
+    ensures fits { IfOk result (λ l. list_any (mix_row_passes x first.now y second.now) (system.now.equations.items ++ system.now.inequalities.items) ≡ false) }
+    ensures past { result ≡ Err RowFault.Past → list_any (mix_row_passes x first.now y second.now) (system.now.equations.items ++ system.now.inequalities.items) ≡ true }
+{
+    let equations = match mixed(alloc, &system.equations, x, first, y, second) {
+        Ok(rows) => rows,
+        Err(fault) => return Err(fault),
+    };
+    let inequalities = match mixed(alloc, &system.inequalities, x, first, y, second) {
+        Ok(rows) => rows,
+        Err(fault) => return Err(fault),
+    };
+    let half = replaced(alloc, &system.unknown, y, system.next + 1)?;
+    Ok(Left {
+        unknown: replaced(alloc, &half, x, system.next)?,
+        equations,
+        inequalities,
+    })
+}
+
+// The rows, each with `second` in the place of y and then `first` in the place of x.
+#[tactic(auto, using(crate::proofs::AnyLemmas::mixed_fits, crate::proofs::AnyLemmas::mixed_past_first, crate::proofs::AnyLemmas::mixed_past_second))]
+fn mixed(
+    alloc: Global,
+    rows: &[Row],
+    x: u32,
+    first: &Row,
+    y: u32,
+    second: &Row,
+) -> Result<Vec<Row>, RowFault>
+    ensures value { IfOk result (λ v. v.items ≡ subst_all x first.now (subst_all y second.now rows.now)) }
+    ensures fits { IfOk result (λ v. list_any (mix_row_passes x first.now y second.now) rows.now ≡ false) }
+    ensures past { result ≡ Err RowFault.Past → list_any (mix_row_passes x first.now y second.now) rows.now ≡ true }
+{
+    match subst_rows(alloc, rows, y, second) {
+        Ok(half) => subst_rows(alloc, &half, x, first),
+        Err(fault) => Err(fault),
+    }
+}
+
+// The columns with u in the place of x.
+fn replaced(alloc: Global, columns: &[u32], x: u32, u: u32) -> Result<Vec<u32>, NoMemory>
+    ensures { IfOk result (λ v. v.items ≡ replaced x u columns.now) }
+{
+    let mut out = Vec::new(alloc);
+    for c in columns {
+        out.push(if *c == x { u } else { *c })?;
+    }
+    Ok(out)
+}
+
+// x and then y, each computed by its row.
+fn two_rows(alloc: Global, x: u32, first: Row, y: u32, second: Row) -> Result<Vec<Back>, NoMemory>
+    ensures { IfOk result (λ v. map back_of v.items ≡ ((x, row_way first) ∷ (y, row_way second) ∷ [])) }
+{
+    let mut back = Vec::new(alloc);
+    back.push(Back {
+        unknown: x,
+        how: How::Row(first),
+    })?;
+    back.push(Back {
+        unknown: y,
+        how: How::Row(second),
+    })?;
+    Ok(back)
+}
