@@ -1,5 +1,6 @@
-pub mod Drafts
-pub mod Forms
-pub mod Made
+pub mod CaseArms
+pub mod CaseLaws
+pub mod Eliminations
+pub mod Makings
 pub mod Solved
-pub mod Taken
+pub mod Systems

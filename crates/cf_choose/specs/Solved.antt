@@ -1,8 +1,8 @@
 -- What a solved choose keeps, and what solving one answers.
-use Rattle.std.specs.Prelude.{ℕ, ◌≤◌, ◌≡◌, List, length, Option, Some, None, Result, Ok, Err}
+use Rattle.std.specs.Prelude.{◌≤◌, ◌≡◌, List, length, Some, None, Result, Ok, Err}
 use Rattle.cf_tree.specs.declared.base.Base.{Base}
 use Rattle.cf_tree.specs.declared.base.Base.TheVariants.{Int, Bool, Set}
-use Rattle.cf_tree.specs.CodeTree.{arms_depth}
+use Rattle.cf_tree.specs.CodeTree.{ArmTrees, arms_depth}
 use Rattle.cf_tree.specs.CodeView.{arm_trees}
 use Rattle.cf_tree.specs.RelTree.{RelTree}
 use Rattle.cf_tree.specs.RelView.{rel_tree}
@@ -26,6 +26,13 @@ pub record IsSolved (s : SolvedParts) : Type 0 where
   pub typed : ArmsHave (arm_trees s.arms.items) s.scope.items s.outputs.items
   pub shallow : arms_depth (arm_trees s.arms.items) ≤ 16
   pub spelled : 1 ≤ length s.outputs.items → AreArmsSpelled (arm_trees s.arms.items)
+
+-- the same of a relation over these bases and of arms, apart from any choose
+pub record AreSolved (scope outputs : List Base) (rel : RelTree) (arms : ArmTrees) : Type 0 where
+  pub solves : Solves scope outputs rel arms
+  pub typed : ArmsHave arms scope outputs
+  pub shallow : arms_depth arms ≤ 16
+  pub spelled : 1 ≤ length outputs → AreArmsSpelled arms
 
 -- a solved choose of this relation over this scope and these outputs, which passes no limit
 pub record IsOf (scope outputs : List Base) (rel : RelTree) (s : SolvedParts) : Type 0 where

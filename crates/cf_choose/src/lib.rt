@@ -1,9 +1,13 @@
 //! One choose: its relation is solved for its outputs.
 #![tactic(auto)]
 
-mod bounds;
+mod arm;
+mod cases;
+mod codes;
 pub mod fault;
-mod form;
-mod rows;
+mod levels;
+mod making;
+mod names;
 pub mod solve;
 pub mod solved;
+mod systems;

@@ -1,0 +1,230 @@
+//! The codes of rows, of bounds and of ways.
+ghost use Rattle.std.specs.Prelude.{◌≡◌, ◌<◌, pos, map, length, get_or, IfOk};
+ghost use Rattle.cf_num.specs.Limit.{IsWithin};
+ghost use Rattle.cf_tree.specs.CodeTree.{code_lit, code_div, code_compare, code_divides};
+ghost use Rattle.cf_tree.specs.CodeView.{code_tree};
+ghost use Rattle.cf_linear.specs.Arm.{sum_of, entry_code, row_code, lower_code, upper_code, greatest_code, least_code, way_code, turned};
+ghost use Rattle.cf_linear.specs.Rows.{IsRow};
+ghost use Rattle.cf_linear.specs.Views.{way_of_how};
+ghost use Rattle.cf_choose.specs.Makings.{pair_of, Fits, PairsFit, WayFits};
+
+use crate::names::Names;
+use cf_linear::row::Row;
+use cf_linear::system::{Divided, How};
+use cf_tree::base::Order;
+use cf_tree::code::Code;
+use cf_tree::memory::NoMemory;
+use std::alloc::Global;
+
+// The code of an entry.
+fn entry_code(alloc: Global, names: &Names, column: u32, k: i128) -> Result<Code, NoMemory>
+    ensures { IfOk result (λ c. code_tree c ≡ entry_code names.now (column, k)) }
+{
+    if column == 0 {
+        return Ok(Code::Lit(k));
+    }
+    let level = names.level_of(column);
+    if k == 1 {
+        return Ok(Code::Var(level));
+    }
+    let factor = Box::new(alloc, Code::Lit(k))?;
+    let variable = Box::new(alloc, Code::Var(level))?;
+    Ok(Code::Mul(factor, variable))
+}
+
+// One code alone, or the sum of several.
+fn sum_of(codes: Vec<Code>) -> Code
+    ensures { code_tree result ≡ sum_of (map code_tree codes.items) }
+{
+    let mut codes = codes;
+    if codes.len() > 1 {
+        return Code::Sum(codes);
+    }
+    match codes.pop() {
+        Some(code) => code,
+        None => Code::Lit(0),
+    }
+}
+
+// One code alone, or the greatest of several.
+fn greatest_of(codes: Vec<Code>) -> Code
+    ensures { code_tree result ≡ greatest_code (map code_tree codes.items) }
+{
+    let mut codes = codes;
+    if codes.len() > 1 {
+        return Code::Max(codes);
+    }
+    match codes.pop() {
+        Some(code) => code,
+        None => Code::Lit(0),
+    }
+}
+
+// One code alone, or the least of several.
+fn least_of(codes: Vec<Code>) -> Code
+    ensures { code_tree result ≡ least_code (map code_tree codes.items) }
+{
+    let mut codes = codes;
+    if codes.len() > 1 {
+        return Code::Min(codes);
+    }
+    match codes.pop() {
+        Some(code) => code,
+        None => Code::Lit(0),
+    }
+}
+
+// The sum of the entries.
+pub(crate) fn row_code(alloc: Global, names: &Names, row: &Row) -> Result<Code, NoMemory>
+    ensures code { IfOk result (λ c. code_tree c ≡ row_code names.now row.now) }
+    ensures is_row { IsRow row.now }
+{
+    let n = size(row);
+    let mut parts = Vec::new(alloc);
+    for i in 0..n {
+        let (column, k) = entry_at(row, i);
+        parts.push(entry_code(alloc, names, column, k)?)?;
+    }
+    Ok(sum_of(parts))
+}
+
+// The row divided by the number and rounded down.
+pub(crate) fn quotient_code(
+    alloc: Global,
+    names: &Names,
+    row: &Row,
+    k: i128,
+) -> Result<Code, NoMemory>
+    ensures code { IfOk result (λ c. code_tree c ≡ code_div (row_code names.now row.now) k) }
+    ensures is_row { IsRow row.now }
+{
+    let of = row_code(alloc, names, row)?;
+    Ok(Code::Div {
+        of: Box::new(alloc, of)?,
+        k,
+    })
+}
+
+// Whether the row is at least 0, or 0.
+pub(crate) fn need_code(
+    alloc: Global,
+    names: &Names,
+    order: Order,
+    row: &Row,
+) -> Result<Code, NoMemory>
+    ensures code { IfOk result (λ c. code_tree c ≡ code_compare order (row_code names.now row.now) (code_lit (pos 0))) }
+    ensures is_row { IsRow row.now }
+{
+    let value = row_code(alloc, names, row)?;
+    Ok(Code::Compare {
+        order,
+        left: Box::new(alloc, value)?,
+        right: Box::new(alloc, Code::Lit(0))?,
+    })
+}
+
+// Whether the number divides the row.
+pub(crate) fn divides_code(
+    alloc: Global,
+    names: &Names,
+    k: i128,
+    row: &Row,
+) -> Result<Code, NoMemory>
+    ensures code { IfOk result (λ c. code_tree c ≡ code_divides k (row_code names.now row.now)) }
+    ensures is_row { IsRow row.now }
+{
+    let of = row_code(alloc, names, row)?;
+    Ok(Code::Divides {
+        k,
+        of: Box::new(alloc, of)?,
+    })
+}
+
+// The row with its signs turned.
+fn turned(alloc: Global, row: &Row) -> Result<Row, NoMemory>
+    ensures { IfOk result (λ r. r ≡ turned row.now) }
+{
+    match row.combine(alloc, -1, &Row::empty(alloc), 0) {
+        Ok(row) => Ok(row),
+        Err(_) => Err(NoMemory),
+    }
+}
+
+// The least number that meets a lower bound.
+fn lower_code(alloc: Global, names: &Names, bound: &Divided) -> Result<Code, NoMemory>
+    ensures code { IfOk result (λ c. code_tree c ≡ lower_code names.now (pair_of bound.now)) }
+    ensures fits { Fits bound.now.row bound.now.k }
+{
+    let _size = size(&bound.row);
+    if bound.k == 1 {
+        let turned = turned(alloc, &bound.row)?;
+        return row_code(alloc, names, &turned);
+    }
+    let quotient = quotient_code(alloc, names, &bound.row, bound.k)?;
+    Ok(Code::Neg(Box::new(alloc, quotient)?))
+}
+
+// The greatest number that meets an upper bound.
+fn upper_code(alloc: Global, names: &Names, bound: &Divided) -> Result<Code, NoMemory>
+    ensures code { IfOk result (λ c. code_tree c ≡ upper_code names.now (pair_of bound.now)) }
+    ensures fits { Fits bound.now.row bound.now.k }
+{
+    if bound.k == 1 {
+        return row_code(alloc, names, &bound.row);
+    }
+    quotient_code(alloc, names, &bound.row, bound.k)
+}
+
+fn lower_codes(alloc: Global, names: &Names, bounds: &[Divided]) -> Result<Vec<Code>, NoMemory>
+    ensures codes { IfOk result (λ cs. map code_tree cs.items ≡ map (lower_code names.now) (map pair_of bounds.now)) }
+    ensures fit { IfOk result (λ _. PairsFit (map pair_of bounds.now)) }
+{
+    let mut parts = Vec::new(alloc);
+    for bound in bounds {
+        parts.push(lower_code(alloc, names, bound)?)?;
+    }
+    Ok(parts)
+}
+
+fn upper_codes(alloc: Global, names: &Names, bounds: &[Divided]) -> Result<Vec<Code>, NoMemory>
+    ensures codes { IfOk result (λ cs. map code_tree cs.items ≡ map (upper_code names.now) (map pair_of bounds.now)) }
+    ensures fit { IfOk result (λ _. PairsFit (map pair_of bounds.now)) }
+{
+    let mut parts = Vec::new(alloc);
+    for bound in bounds {
+        parts.push(upper_code(alloc, names, bound)?)?;
+    }
+    Ok(parts)
+}
+
+// How an unknown is computed.
+pub(crate) fn way_code(alloc: Global, names: &Names, how: &How) -> Result<Code, NoMemory>
+    ensures code { IfOk result (λ c. code_tree c ≡ way_code names.now (way_of_how how.now)) }
+    ensures fits { IfOk result (λ _. WayFits (way_of_how how.now)) }
+{
+    match how {
+        How::Row(row) => row_code(alloc, names, row),
+        How::Greatest(bounds) => Ok(greatest_of(lower_codes(alloc, names, bounds)?)),
+        How::Least(bounds) => Ok(least_of(upper_codes(alloc, names, bounds)?)),
+    }
+}
+
+// How many entries the row has.
+fn size(row: &Row) -> usize
+    ensures value { result ≡ length row.now }
+    ensures is_row { IsRow row.now }
+{
+    row.entries().len()
+}
+
+// The entry at a place of the list.
+fn entry_at(row: &Row, i: usize) -> (u32, i128)
+    requires { i < length row.now }
+    ensures value { result ≡ get_or row.now i (0, pos 0) }
+    ensures fits { IsWithin result.1 }
+{
+    match row.entries().get_index(i) {
+        Some((column, k)) => (*column, *k),
+        None => unreachable!(),
+    }
+}

@@ -1,0 +1,148 @@
+//! The levels of the variables of a choose.
+ghost use Rattle.std.specs.Prelude.{◌≡◌, ◌+◌, ◌<◌, ◌^◌, ◌++◌, ◌∷◌, [], length, filter, IfOk, OnOk, if◌then◌else◌};
+ghost use Rattle.cf_tree.specs.RelView.{set_tree, term_tree, rel_tree};
+ghost use Rattle.cf_linear.specs.Layout.{set_holds, term_holds, rel_holds, is_number, is_set, levels_with, levels_of};
+ghost use Rattle.cf_linear.specs.Views.{plain_levels};
+
+use cf_linear::system::Layout;
+use cf_tree::base::Base;
+use cf_tree::memory::NoMemory;
+use cf_tree::rel::{Rel, SetTerm, Term};
+use std::alloc::Global;
+
+// Whether the set form holds the variable.
+fn set_holds(x: u32, set: &SetTerm) -> bool
+    ensures { result ≡ set_holds x (set_tree set.now) }
+{
+    match set {
+        SetTerm::Empty => false,
+        SetTerm::Var(y) => x == *y,
+        SetTerm::Union(a, b) | SetTerm::Inter(a, b) | SetTerm::Diff(a, b) => {
+            set_holds(x, a) || set_holds(x, b)
+        }
+    }
+}
+
+// Whether the number form holds the variable.
+fn term_holds(x: u32, term: &Term) -> bool
+    ensures { result ≡ term_holds x (term_tree term.now) }
+{
+    match term {
+        Term::Lit(_) => false,
+        Term::Var(y) => x == *y,
+        Term::Card(set) => set_holds(x, set),
+        Term::Neg(a) | Term::Abs(a) => term_holds(x, a),
+        Term::Add(a, b) | Term::Sub(a, b) | Term::Mul(a, b) => term_holds(x, a) || term_holds(x, b),
+        Term::Div(a, _) | Term::Mod(a, _) => term_holds(x, a),
+    }
+}
+
+// Whether the relation holds the variable.
+fn rel_holds(x: u32, rel: &Rel) -> bool
+    ensures { result ≡ rel_holds x (rel_tree rel.now) }
+{
+    match rel {
+        Rel::True | Rel::False => false,
+        Rel::Compare {
+            order: _,
+            left,
+            right,
+        } => term_holds(x, left) || term_holds(x, right),
+        Rel::SameSet(a, b) | Rel::OtherSet(a, b) | Rel::Subset(a, b) => {
+            set_holds(x, a) || set_holds(x, b)
+        }
+        Rel::Divides { k: _, of } => term_holds(x, of),
+        Rel::And(a, b) | Rel::Or(a, b) => rel_holds(x, a) || rel_holds(x, b),
+        Rel::Not(a) => rel_holds(x, a),
+    }
+}
+
+// Adds the level, where it is wanted.
+fn push_if(levels: &mut Vec<u32>, is_wanted: bool, x: u32) -> Result<(), NoMemory>
+    ensures { OnOk result (levels.new.items ≡ levels.old.items ++ (if is_wanted then x ∷ [] else [])) }
+{
+    if is_wanted {
+        levels.push(x)?;
+    }
+    Ok(())
+}
+
+// The levels of the numbers among the bases, the first base having level `first`.
+fn numbers(alloc: Global, bases: &[Base], first: u32) -> Result<Vec<u32>, NoMemory>
+    requires { first + length bases.now < 2 ^ 32 }
+    ensures { IfOk result (λ v. v.items ≡ levels_with is_number first bases.now) }
+{
+    let mut levels = Vec::new(alloc);
+    for i in 0..bases.len() {
+        push_if(&mut levels, is_number(bases[i]), first + i as u32)?;
+    }
+    Ok(levels)
+}
+
+// The levels of the sets among the bases, the first base having level `first`.
+fn sets(alloc: Global, bases: &[Base], first: u32) -> Result<Vec<u32>, NoMemory>
+    requires { first + length bases.now < 2 ^ 32 }
+    ensures { IfOk result (λ v. v.items ≡ levels_with is_set first bases.now) }
+{
+    let mut levels = Vec::new(alloc);
+    for i in 0..bases.len() {
+        push_if(&mut levels, is_set(bases[i]), first + i as u32)?;
+    }
+    Ok(levels)
+}
+
+fn is_number(base: Base) -> bool
+    ensures { result ≡ is_number base }
+{
+    match base {
+        Base::Int => true,
+        Base::Bool | Base::Set => false,
+    }
+}
+
+fn is_set(base: Base) -> bool
+    ensures { result ≡ is_set base }
+{
+    match base {
+        Base::Set => true,
+        Base::Int | Base::Bool => false,
+    }
+}
+
+// Those of the levels that occur in the relation.
+fn held(alloc: Global, levels: &[u32], rel: &Rel) -> Result<Vec<u32>, NoMemory>
+    ensures { IfOk result (λ v. v.items ≡ filter (λ x. rel_holds x (rel_tree rel.now)) levels.now) }
+{
+    let mut out = Vec::new(alloc);
+    for x in levels {
+        push_if(&mut out, rel_holds(*x, rel), *x)?;
+    }
+    Ok(out)
+}
+
+// The levels of a choose: of the parameters those that occur in the relation, and of the outputs
+// all.
+pub(crate) fn layout(
+    alloc: Global,
+    scope: &[Base],
+    outputs: &[Base],
+    rel: &Rel,
+) -> Result<Layout, NoMemory>
+    requires { length scope.now + length outputs.now < 2 ^ 32 }
+    ensures { IfOk result (λ l. plain_levels l ≡ levels_of scope.now outputs.now (rel_tree rel.now)) }
+{
+    let first = scope.len() as u32;
+    let all_numbers = numbers(alloc, scope, 0)?;
+    let all_sets = sets(alloc, scope, 0)?;
+    let numbers_held = held(alloc, &all_numbers, rel)?;
+    let sets_held = held(alloc, &all_sets, rel)?;
+    let out_numbers = numbers(alloc, outputs, first)?;
+    let out_sets = sets(alloc, outputs, first)?;
+    Ok(Layout {
+        scope: first,
+        numbers: numbers_held,
+        inputs: sets_held,
+        out_numbers,
+        out_sets,
+    })
+}
