@@ -1,1 +1,14 @@
-pub mod ChooseLemmas
+pub mod Building
+pub mod ChooseLists
+pub mod CodeLists
+pub mod CodeSpelling
+pub mod CodeTyping
+pub mod LoopSteps
+pub mod Meanings
+pub mod Programs
+pub mod ShiftLists
+pub mod ShiftedMeaning
+pub mod ShiftedSpelling
+pub mod ShiftedTyping
+pub mod SolveLists
+pub mod Values

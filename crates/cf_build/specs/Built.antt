@@ -1,18 +1,12 @@
 -- What a built target keeps.
-use Rattle.std.specs.Prelude.{ℕ, ◌≤◌, ◌≡◌, List, length, map, slice_get, Some, None, Contains, Result, Ok, Err}
+use Rattle.std.specs.Prelude.{ℕ, ◌≡◌, List, map, slice_get, Some, None, Contains, Result, Ok, Err}
 use Rattle.cf_tree.specs.declared.target.RawTarget.{RawTarget}
 use Rattle.cf_tree.specs.Allowed.{ProgramAllows}
-use Rattle.cf_tree.specs.declared.base.Base.{Base}
-use Rattle.cf_tree.specs.CodeTree.{ArmTrees, code_solve, arms_depth}
 use Rattle.cf_tree.specs.CodeView.{code_tree}
 use Rattle.cf_tree.specs.DefView.{DefTree}
 use Rattle.cf_tree.specs.Meaning.{means}
-use Rattle.cf_tree.specs.RelTree.{RelTree}
-use Rattle.cf_tree.specs.Solving.{Solves}
-use Rattle.cf_tree.specs.Spelled.{HasSpelling, AreArmsSpelled}
-use Rattle.cf_tree.specs.Typing.{ArmsHave}
+use Rattle.cf_tree.specs.Spelled.{HasSpelling}
 use Rattle.cf_tree.specs.Values.{Value, Outcome, HaveBases}
-use Rattle.cf_linear.specs.Chooses.{limit}
 use Rattle.cf_type.specs.Names.{bases_of}
 use Rattle.cf_build.specs.declared.fault.BuildFault.{BuildFault}
 use Rattle.cf_build.specs.declared.fault.BuildFault.TheVariants.{Choose, NoMemory}
@@ -29,23 +23,6 @@ pub record IsBuilt (defs : List DefTree) (main : ℕ) (t : RawTarget) : Type 0 w
   pub spelled : HasSpelling t
   pub solved : (q : Question) → Contains (all_questions defs) q → limit_of q ≡ None
   pub allowed : (env : List Value) → HaveBases t.params.items env → SourceAllows defs main env (means (code_tree t.code) env)
-
--- the target of choose number n alone: its code is a solve whose arms solve the relation
-pub record IsChooseTarget (n : ℕ) (scope outputs : List Base) (rel : RelTree) (t : RawTarget) : Type 0 where
-  pub params : t.params.items ≡ scope
-  pub results : t.results.items ≡ outputs
-  pub arms : ArmTrees
-  pub code : code_tree t.code ≡ code_solve n arms
-  pub solves : Solves scope outputs rel arms
-  pub typed : ArmsHave arms scope outputs
-  pub shallow : arms_depth arms ≤ 16
-  pub spelled : 1 ≤ length outputs → AreArmsSpelled arms
-
--- the target of a choose alone, which passes no limit, or its refusal, or want of memory
-abbrev pub TellsChoose : ℕ → List Base → List Base → RelTree → Result RawTarget BuildFault → Type 0
-TellsChoose n scope outputs rel (Ok t) = IsChooseTarget n scope outputs rel t × (limit scope outputs rel ≡ None)
-TellsChoose n scope outputs rel (Err (Choose m r)) = (m ≡ n) × (limit scope outputs rel ≡ Some r)
-TellsChoose n scope outputs rel (Err NoMemory) = Unit {0}
 
 -- the target of a program, or its first choose that is refused, or want of memory
 abbrev pub Tells : List DefTree → ℕ → Result RawTarget BuildFault → Type 0

@@ -1,2 +1,5 @@
 pub mod Built
+pub mod Codes
 pub mod Questions
+pub mod Shifted
+pub mod Solves

@@ -1,22 +1,22 @@
 //! Building a target.
-ghost use Rattle.std.specs.Prelude.{◌≡◌, ◌++◌, ◌∷◌, [], IfOk, IfSome, map, All};
+ghost use Rattle.std.specs.Prelude.{◌≡◌, [], IfOk, map, length, All};
+ghost use Rattle.cf_tree.specs.CodeView.{code_tree};
 ghost use Rattle.cf_tree.specs.DefView.{def_tree};
-ghost use Rattle.cf_tree.specs.ExprTree.{expr_choose};
-ghost use Rattle.cf_tree.specs.Relation.{IsTyped, IsLinear};
-ghost use Rattle.cf_tree.specs.RelView.{rel_tree};
-ghost use Rattle.cf_choose.specs.Solved.{IsOutput};
+ghost use Rattle.cf_tree.specs.ExprView.{expr_tree};
+ghost use Rattle.cf_tree.specs.Typing.{IsTypedCode};
 ghost use Rattle.cf_type.specs.Names.{bases_of};
-ghost use Rattle.cf_build.specs.Built.{Tells, TellsChoose, IsChooseTarget};
+ghost use Rattle.cf_build.specs.Built.{Tells, IsBuilt};
+ghost use Rattle.cf_build.specs.Codes.{called, choose_code, code_of, codes_behind, solved_in};
+ghost use Rattle.cf_build.specs.Shifted.{HasLevels};
+ghost use Rattle.cf_build.specs.Solves.{questions_of, AreSolved, HasNoMatch};
 
+use crate::chooses::{bases, collect};
+use crate::codes::code;
 use crate::fault::BuildFault;
-use cf_choose::fault::ChooseFault;
-use cf_choose::solve::solve;
-use cf_choose::solved::Solved;
-use cf_tree::base::Base;
-use cf_tree::expr::{Def, Expr};
+use crate::solves::{ChooseCode, solve_all};
+use cf_tree::code::Code;
+use cf_tree::expr::Def;
 use cf_tree::memory::NoMemory;
-use cf_tree::raw::Param;
-use cf_tree::rel::Rel;
 use cf_tree::target::{RawTarget, Target};
 use cf_type::typed::Typed;
 use std::alloc::Global;
@@ -27,114 +27,63 @@ use std::alloc::Global;
 pub fn build(alloc: Global, typed: &Typed) -> Result<Target, BuildFault>
     ensures { Tells (map def_tree typed.now.defs.items) typed.now.main result }
 {
-    let Some(def) = only(typed.defs()) else {
-        return not_built();
+    let chooses = collect(alloc, typed.defs())?;
+    match solve_all(alloc, &chooses) {
+        Ok(solves) => Ok(main_target(alloc, typed, &solves)?),
+        Err(fault) => Err(fault),
+    }
+}
+
+// The target, where the codes of all chooses are known.
+fn main_target(alloc: Global, typed: &Typed, solves: &[ChooseCode]) -> Result<Target, NoMemory>
+    requires no_match { All (λ d. HasNoMatch (expr_tree d.body)) typed.now.defs.items }
+    requires solved { AreSolved (questions_of (map def_tree typed.now.defs.items)) (map choose_code solves.now) }
+    ensures { IfOk result (IsBuilt (map def_tree typed.now.defs.items) typed.now.main) }
+{
+    let mut codes = def_codes(alloc, typed.defs(), solves)?;
+    let main = typed.main() as usize;
+    let code = codes.swap_remove(main);
+    target(alloc, &typed.defs()[main], code)
+}
+
+// The codes of functions, each behind its parameters.
+fn def_codes(alloc: Global, defs: &[Def], solves: &[ChooseCode]) -> Result<Vec<Code>, NoMemory>
+    ensures codes { IfOk result (λ codes. map code_tree codes.items ≡ codes_behind (solved_in (map choose_code solves.now)) [] (map def_tree defs.now)) }
+    ensures levels { IfOk result (λ codes. All (λ c. HasLevels (code_tree c)) codes.items) }
+{
+    let mut codes = Vec::new(alloc);
+    for def in defs {
+        codes.push(def_code(alloc, def, &codes, solves)?)?;
+    }
+    Ok(codes)
+}
+
+// The code of a function behind its parameters.
+fn def_code(
+    alloc: Global,
+    def: &Def,
+    codes: &[Code],
+    solves: &[ChooseCode],
+) -> Result<Code, NoMemory>
+    ensures code { IfOk result (λ c. code_tree c ≡ code_of (called (map code_tree codes.now)) (solved_in (map choose_code solves.now)) (length def.now.params.items) (expr_tree def.now.body)) }
+    ensures levels { IfOk result (λ c. HasLevels (code_tree c)) }
+{
+    let Ok(arity) = u32::try_from(def.params.len()) else {
+        return Err(NoMemory);
     };
-    match choose_of(def) {
-        Some(choose) => build_choose(
-            alloc,
-            choose.number,
-            choose.scope,
-            choose.outputs,
-            choose.rel,
-        ),
-        None => not_built(),
-    }
+    code(alloc, &def.body, arity, codes, solves)
 }
 
-// The only function of a program that has one.
-fn only(defs: &[Def]) -> Option<&Def>
-    ensures { IfSome result (λ d. defs.now ≡ d.now ∷ []) }
+// The target with this code, and a function's parameters and results.
+fn target(alloc: Global, def: &Def, code: Code) -> Result<Target, NoMemory>
+    requires { IsTypedCode (code_tree code) (bases_of def.now.params.items) def.now.results.items }
+    ensures { IfOk result (λ t. (t.params.items ≡ bases_of def.now.params.items) × (t.results.items ≡ def.now.results.items) × (code_tree t.code ≡ code_tree code)) }
 {
-    match defs {
-        [def] => Some(def),
-        _ => None,
-    }
-}
-
-// A choose and its parts.
-#[derive(Drop)]
-struct Choose<'a> {
-    number: u32,
-    scope: &'a [Param],
-    outputs: &'a [Base],
-    rel: &'a Rel,
-}
-
-// The choose that a body is, if it is one.
-fn choose_of(def: &Def) -> Option<Choose>
-    ensures { IfSome result (λ c. (def_tree def.now).body ≡ expr_choose c.number c.scope.now c.outputs.now (rel_tree c.rel.now)) }
-{
-    match &def.body {
-        Expr::Choose {
-            number,
-            scope,
-            outputs,
-            rel,
-        } => Some(Choose {
-            number: *number,
-            scope,
-            outputs,
-            rel,
-        }),
-        _ => None,
-    }
-}
-
-// The target of a choose alone, whose scope is the parameters.
-fn build_choose(
-    alloc: Global,
-    number: u32,
-    scope: &[Param],
-    outputs: &[Base],
-    rel: &Rel,
-) -> Result<Target, BuildFault>
-    requires typed { IsTyped (bases_of scope.now ++ outputs.now) (rel_tree rel.now) }
-    requires linear { IsLinear (rel_tree rel.now) }
-    requires outputs { All IsOutput outputs.now }
-    ensures { TellsChoose number (bases_of scope.now) outputs.now (rel_tree rel.now) result }
-{
-    let params = bases(alloc, scope)?;
-    match solve(alloc, &params, outputs, rel) {
-        Ok(solved) => Ok(target_of(alloc, number, params, &solved)?),
-        Err(ChooseFault::Refused(refusal)) => Err(BuildFault::Choose { number, refusal }),
-        Err(ChooseFault::NoMemory) => Err(BuildFault::NoMemory),
-    }
-}
-
-// The target whose code is that of a solved choose.
-fn target_of(
-    alloc: Global,
-    number: u32,
-    params: Vec<Base>,
-    solved: &Solved,
-) -> Result<Target, NoMemory>
-    requires { params.items ≡ solved.now.scope.items }
-    ensures { IfOk result (IsChooseTarget number solved.now.scope.items solved.now.outputs.items (rel_tree solved.now.rel)) }
-{
-    let code = solved.code(alloc, number)?;
-    let results = Vec::from_slice(alloc, solved.outputs())?;
+    let params = bases(alloc, &def.params)?;
+    let results = Vec::from_slice(alloc, &def.results)?;
     Ok(Target::new(RawTarget {
         params,
         results,
         code,
     }))
-}
-
-// The bases of parameters.
-fn bases(alloc: Global, params: &[Param]) -> Result<Vec<Base>, NoMemory>
-    ensures { IfOk result (λ bases. bases.items ≡ bases_of params.now) }
-{
-    let mut bases = Vec::new(alloc);
-    for param in params {
-        bases.push(param.base)?;
-    }
-    Ok(bases)
-}
-
-// Want of memory, for a form that is not built yet.
-fn not_built() -> Result<Target, BuildFault>
-    ensures { result ≡ Err BuildFault.NoMemory }
-{
-    Err(BuildFault::NoMemory)
 }

@@ -1,14 +1,19 @@
-use Rattle.std.proofs.Common.{rules, ◌≡◌, ◌<◌, ◌^◌, ◌∷◌, [], map, sym, ◌∙◌, subst}
+use Rattle.std.proofs.Common.{◌≡◌, map, All, sym, subst}
 use Rattle.cf_tree.specs.DefView.{def_tree}
-use Rattle.cf_tree.specs.RelView.{rel_tree}
-use Rattle.cf_type.specs.TypedProgram.{IsTypedProgram}
-use Rattle.cf_build.proofs.ChooseLemmas.{tells}
+use Rattle.cf_tree.specs.ExprView.{expr_tree}
+use Rattle.cf_build.specs.Solves.{HasNoMatch, IsAsked, TellsFault, question_of, questions_of}
+use Rattle.cf_build.proofs.Building.{all_asked, tells_fault}
 use Rattle.cf_build.proofs.build.build.Goals as goal
 
-pub returns-in-Some-choose_of : goal.returns-in-Some-choose_of
-returns-in-Some-choose_of c =
-    let x = c.in-Some-choose_of.choose in
-    let one : c.args.typed.now.defs.items ≡ c.in-Some.def.now ∷ [] = sym c.defs.ensures.value ∙ c.in-Some.ensures in
-    let typed = subst (λ ds. IsTypedProgram (map def_tree ds) c.args.typed.now.main) one c.defs.ensures.typed in
-    let fits : x.number < 2 ^ 32 = search rules in
-    rw one (tells (def_tree c.in-Some.def.now) c.args.typed.now.main x.number x.scope.now x.outputs.now (rel_tree x.rel.now) c.in-Some-choose_of.ensures typed fits c.build_choose.result c.build_choose.ensures)
+pub solve_all-requires : goal.solve_all-requires
+solve_all-requires c =
+    let plain = subst (λ ds. All (λ d. HasNoMatch (expr_tree d.body)) ds) c.defs.ensures.value c.in_ok-chooses.ensures.no_match in
+    let found = subst (λ ds. map question_of c.in_ok-chooses.chooses.items ≡ questions_of (map def_tree ds)) c.defs.ensures.value c.in_ok-chooses.ensures.questions in
+    subst (λ xs. All (λ x. IsAsked (question_of x)) xs) (sym c.deref.ensures.value) (all_asked c.args.typed.now.defs.items c.args.typed.now.main c.defs.ensures.typed plain c.in_ok-chooses.chooses.items found)
+
+pub returns : goal.returns
+returns c =
+    let plain = subst (λ ds. All (λ d. HasNoMatch (expr_tree d.body)) ds) c.defs.ensures.value c.in_ok-chooses.ensures.no_match in
+    let found = subst (λ ds. map question_of c.in_ok-chooses.chooses.items ≡ questions_of (map def_tree ds)) c.defs.ensures.value c.in_ok-chooses.ensures.questions in
+    tells_fault c.args.typed.now.defs.items c.args.typed.now.main c.defs.ensures.typed plain c.in_ok-chooses.chooses.items found c.in-Err.fault
+    (subst (λ xs. TellsFault (map question_of xs) c.in-Err.fault) c.deref.ensures.value c.in-Err.ensures.refused)

@@ -1,6 +1,6 @@
 use Rattle.std.proofs.Common.{◌≡◌, take}
 use Rattle.cf_type.specs.Names.{bases_of}
-use Rattle.cf_build.proofs.build.bases.Given as goal
+use Rattle.cf_build.proofs.chooses.bases.Given as goal
 
 abbrev pub invariant-loop-param : goal.invariant-loop-param
 invariant-loop-param l = l.bases.items ≡ bases_of (take l.param-index l.params)

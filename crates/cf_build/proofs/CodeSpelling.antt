@@ -1,0 +1,168 @@
+-- The depth and the spelling of the code of an expression.
+use Rattle.std.proofs.Common.{ℕ, ◌+◌, ◌*◌, ◌≤◌, max, List, [], ◌∷◌, ◌++◌, Contains, refl, arith}
+use Rattle.std.proofs.lemmas.List.Elements.{Contains-append_left, Contains-append_right}
+use Rattle.cf_tree.specs.declared.base.Base.{Base}
+use Rattle.cf_tree.specs.declared.base.Base.TheVariants.{Int}
+use Rattle.cf_tree.specs.declared.raw.BinOp.{BinOp}
+use Rattle.cf_tree.specs.declared.raw.BinOp.TheVariants.{Add, Sub, Mul, And, Or, Union, Inter, Diff, Subset, Compare}
+use Rattle.cf_tree.specs.CodeTree.{CodeTree, CodeTrees, no_codes, code_more, code_depth, codes_depth}
+use Rattle.cf_tree.specs.ExprTree.{ExprTree, expr_lit, expr_truth, expr_var, expr_set_of, expr_tuple, expr_neg, expr_not, expr_abs, expr_binary, expr_divides, expr_div, expr_mod, expr_card, expr_if, expr_call, expr_let, expr_choose, expr_match, ExprTrees, no_exprs, expr_more}
+use Rattle.cf_tree.specs.Spelled.{IsSpelled, AreSpelled}
+use Rattle.cf_type.specs.Names.{bases_of}
+use Rattle.cf_type.specs.Size.{depth_in, depth_all}
+use Rattle.cf_type.specs.TypedProgram.{HasBases, AllHave, PartsHave}
+use Rattle.cf_type.specs.Walk.{side_of}
+use Rattle.cf_build.specs.Codes.{binary_code, call_code, code_of, codes_of_all}
+use Rattle.cf_build.specs.Questions.{Question, questions, questions_all}
+use Rattle.cf_build.specs.Shifted.{shifted, HasLevels, HaveLevels}
+use Rattle.cf_build.specs.Solves.{HasNoMatch, HaveNoMatch, IsSolveOf}
+use Rattle.cf_build.proofs.CodeTyping.{parts_count}
+use Rattle.cf_build.proofs.Meanings.{sides_have}
+use Rattle.cf_build.proofs.ShiftedSpelling.{depth_same, spelled_shifted}
+
+binary_depth : (op : BinOp) (a b : CodeTree) → code_depth (binary_code op a b) ≤ 1 + max (code_depth a) (code_depth b)
+binary_depth Add a b = omega arith
+binary_depth Sub a b = omega arith
+binary_depth Mul a b = omega arith
+binary_depth And a b = omega arith
+binary_depth Or a b = omega arith
+binary_depth Union a b = omega arith
+binary_depth Inter a b = omega arith
+binary_depth Diff a b = omega arith
+binary_depth Subset a b = omega arith
+binary_depth (Compare o) a b = omega arith
+
+call_depth : (n : ℕ) (cs : CodeTrees) (body : CodeTree) → code_depth (call_code n cs body) ≤ 2 + max (codes_depth cs) (code_depth body)
+call_depth n no_codes body = omega arith
+call_depth n (code_more c no_codes) body = omega arith
+call_depth n (code_more c (code_more d cs)) body = omega arith
+
+solve_depth : (q : Question) (c : CodeTree) → IsSolveOf q c → code_depth c ≤ 17
+solve_depth q c s = rw (s.code) (omega (arith, s.shallow))
+
+-- the code of an expression is at most twice as deep as the expression with its calls unfolded, and 16 more
+module _ (calls solves : ℕ → CodeTree) (depths : ℕ → ℕ) (calls_shallow : (f : ℕ) → code_depth (calls f) ≤ 2 * depths f + 16) where
+  abbrev AreSolves : List Question → Type 0
+  AreSolves qs = (q : Question) → Contains qs q → IsSolveOf q (solves q.number)
+
+  mutual
+    pub depth_within : (e : ExprTree) → HasNoMatch e → AreSolves (questions e) → (n : ℕ) → code_depth (code_of calls solves n e) ≤ 2 * depth_in depths e + 16
+    depth_within (expr_lit k) p s n = omega arith
+    depth_within (expr_truth t) p s n = omega arith
+    depth_within (expr_var x) p s n = omega arith
+    depth_within (expr_set_of es) p s n = omega (arith, depths_within es p s n)
+    depth_within (expr_tuple es) p s n = omega (arith, depths_within es p s n)
+    depth_within (expr_neg a) p s n = omega (arith, depth_within a p s n)
+    depth_within (expr_not a) p s n = omega (arith, depth_within a p s n)
+    depth_within (expr_abs a) p s n = omega (arith, depth_within a p s n)
+    depth_within (expr_binary op a b) p s n =
+        omega (
+          arith,
+          binary_depth op (code_of calls solves n a) (code_of calls solves n b),
+          depth_within a p.0 (λ q m. s q (Contains-append_left (questions a) (questions b) q m)) n,
+          depth_within b p.1 (λ q m. s q (Contains-append_right (questions a) (questions b) q m)) n,
+        )
+    depth_within (expr_divides k a) p s n = omega (arith, depth_within a p s n)
+    depth_within (expr_div a k) p s n = omega (arith, depth_within a p s n)
+    depth_within (expr_mod a k) p s n = omega (arith, depth_within a p s n)
+    depth_within (expr_card a) p s n = omega (arith, depth_within a p s n)
+    depth_within (expr_if t a b) p s n =
+        omega (
+          arith,
+          depth_within t p.0 (λ q m. s q (Contains-append_left (questions t ++ questions a) (questions b) q (Contains-append_left (questions t) (questions a) q m))) n,
+          depth_within a p.1 (λ q m. s q (Contains-append_left (questions t ++ questions a) (questions b) q (Contains-append_right (questions t) (questions a) q m))) n,
+          depth_within b p.2 (λ q m. s q (Contains-append_right (questions t ++ questions a) (questions b) q m)) n,
+        )
+    depth_within (expr_call f es) p s n =
+        omega (arith, call_depth n (codes_of_all calls solves n es) (shifted n (calls f)), depths_within es p s n, depth_same n (calls f), calls_shallow f)
+    depth_within (expr_let k a b) p s n =
+        omega (
+          arith,
+          depth_within a p.0 (λ q m. s q (Contains-append_left (questions a) (questions b) q m)) n,
+          depth_within b p.1 (λ q m. s q (Contains-append_right (questions a) (questions b) q m)) (n + k),
+        )
+    depth_within (expr_choose k params outputs rel) p s n =
+        let q : Question = record { number = k; scope = bases_of params; outputs = outputs; relation = rel } in
+        omega (arith, depth_same 0 (solves k), solve_depth q (solves k) (s q (0, omega arith, refl)))
+    depth_within (expr_match k params a arms) p s n = absurd p
+
+    depths_within : (es : ExprTrees) → HaveNoMatch es → AreSolves (questions_all es) → (n : ℕ) → codes_depth (codes_of_all calls solves n es) ≤ 2 * depth_all depths es + 16
+    depths_within no_exprs p s n = omega arith
+    depths_within (expr_more a es) p s n =
+        omega (
+          arith,
+          depth_within a p.0 (λ q m. s q (Contains-append_left (questions a) (questions_all es) q m)) n,
+          depths_within es p.1 (λ q m. s q (Contains-append_right (questions a) (questions_all es) q m)) n,
+        )
+
+binary_spelled : (op : BinOp) (a b : CodeTree) → HasLevels (binary_code op a b) → (HasLevels a → IsSpelled a) → (HasLevels b → IsSpelled b) → IsSpelled (binary_code op a b)
+binary_spelled Add a b l f g = (omega arith, (f l.0, (g l.1.0, tt)))
+binary_spelled Sub a b l f g = (f l.0, g l.1)
+binary_spelled Mul a b l f g = (f l.0, g l.1)
+binary_spelled And a b l f g = (f l.0, g l.1)
+binary_spelled Or a b l f g = (f l.0, g l.1)
+binary_spelled Union a b l f g = (omega arith, (f l.0, (g l.1.0, tt)))
+binary_spelled Inter a b l f g = (omega arith, (f l.0, (g l.1.0, tt)))
+binary_spelled Diff a b l f g = (f l.0, g l.1)
+binary_spelled Subset a b l f g = (f l.0, g l.1)
+binary_spelled (Compare o) a b l f g = (f l.0, g l.1)
+
+call_spelled : (n : ℕ) (cs : CodeTrees) (body : CodeTree) → HasLevels (call_code n cs body) → (HaveLevels cs → AreSpelled cs) → (HasLevels body → IsSpelled body) → IsSpelled (call_code n cs body)
+call_spelled n no_codes body l f g = g l
+call_spelled n (code_more c no_codes) body l f g = (omega arith, l.0, (f (l.1, tt)).0, g l.2)
+call_spelled n (code_more c (code_more d cs)) body l f g = (omega arith, l.0, (omega arith, f l.1), g l.2)
+
+module _ (calls solves : ℕ → CodeTree) (takes : ℕ → List Base → List Base → Type 0) (calls_spelled : (f : ℕ) (ps rs : List Base) → takes f ps rs → IsSpelled (calls f)) where
+  abbrev AreSolves_ : List Question → Type 0
+  AreSolves_ qs = (q : Question) → Contains qs q → IsSolveOf q (solves q.number)
+
+  mutual
+    pub spelled : (e : ExprTree) → HasNoMatch e → AreSolves_ (questions e) → (scope bs : List Base) → HasBases takes e scope bs → (n : ℕ) → HasLevels (code_of calls solves n e) → IsSpelled (code_of calls solves n e)
+    spelled (expr_lit k) p s scope bs h n l = h.0
+    spelled (expr_truth t) p s scope bs h n l = tt
+    spelled (expr_var x) p s scope bs h n l = l
+    spelled (expr_set_of es) p s scope bs h n l = all_spelled es p s scope Int h.0 n l
+    spelled (expr_tuple es) p s scope bs h n l = (omega (arith, parts_count calls solves takes es scope bs n h.1, h.0), parts_spelled es p s scope bs h.1 n l)
+    spelled (expr_neg a) p s scope bs h n l = spelled a p s scope _ h.0 n l
+    spelled (expr_not a) p s scope bs h n l = spelled a p s scope _ h.0 n l
+    spelled (expr_abs a) p s scope bs h n l = (omega arith, l.0, spelled a p s scope _ h.0 n l.1, (omega arith, l.2))
+    spelled (expr_binary op a b) p s scope bs h n l =
+        let t = sides_have (side_of op) (λ c. HasBases takes a scope (c ∷ [])) (λ c. HasBases takes b scope (c ∷ [])) h.0 in
+        binary_spelled op (code_of calls solves n a) (code_of calls solves n b) l
+        (spelled a p.0 (λ q m. s q (Contains-append_left (questions a) (questions b) q m)) scope (t.0 ∷ []) t.1 n)
+        (spelled b p.1 (λ q m. s q (Contains-append_right (questions a) (questions b) q m)) scope (t.0 ∷ []) t.2 n)
+    spelled (expr_divides k a) p s scope bs h n l = (h.0, spelled a p s scope _ h.1 n l)
+    spelled (expr_div a k) p s scope bs h n l = (h.0, spelled a p s scope _ h.1 n l)
+    spelled (expr_mod a k) p s scope bs h n l = (h.0, spelled a p s scope _ h.1 n l)
+    spelled (expr_card a) p s scope bs h n l = spelled a p s scope _ h.0 n l
+    spelled (expr_if t a b) p s scope bs h n l = (
+      spelled t p.0 (λ q m. s q (Contains-append_left (questions t ++ questions a) (questions b) q (Contains-append_left (questions t) (questions a) q m))) scope _ h.0 n l.0,
+      spelled a p.1 (λ q m. s q (Contains-append_left (questions t ++ questions a) (questions b) q (Contains-append_right (questions t) (questions a) q m))) scope _ h.1 n l.1,
+      spelled b p.2 (λ q m. s q (Contains-append_right (questions t ++ questions a) (questions b) q m)) scope _ h.2 n l.2,
+    )
+    spelled (expr_call f es) p s scope bs h n l =
+        call_spelled n (codes_of_all calls solves n es) (shifted n (calls f)) l (parts_spelled es p s scope h.0 h.2 n) (spelled_shifted n (calls f) (calls_spelled f h.0 bs h.1))
+    spelled (expr_let k a b) p s scope bs h n l = (
+      h.3,
+      l.0,
+      spelled a p.0 (λ q m. s q (Contains-append_left (questions a) (questions b) q m)) scope h.0 h.1 n l.1,
+      spelled b p.1 (λ q m. s q (Contains-append_right (questions a) (questions b) q m)) (scope ++ h.0) bs h.4 (n + k) l.2,
+    )
+    spelled (expr_choose k params outputs rel) p s scope bs h n l =
+        let solve = s (record { number = k; scope = bases_of params; outputs = outputs; relation = rel }) (0, omega arith, refl) in
+        spelled_shifted 0 (solves k) solve.spelled l
+    spelled (expr_match k params a arms) p s scope bs h n l = absurd p
+
+    all_spelled : (es : ExprTrees) → HaveNoMatch es → AreSolves_ (questions_all es) → (scope : List Base) (b : Base) → AllHave takes es scope b → (n : ℕ) → HaveLevels (codes_of_all calls solves n es) → AreSpelled (codes_of_all calls solves n es)
+    all_spelled no_exprs p s scope b h n l = tt
+    all_spelled (expr_more a es) p s scope b h n l = (
+      spelled a p.0 (λ q m. s q (Contains-append_left (questions a) (questions_all es) q m)) scope _ h.0 n l.0,
+      all_spelled es p.1 (λ q m. s q (Contains-append_right (questions a) (questions_all es) q m)) scope b h.1 n l.1,
+    )
+
+    parts_spelled : (es : ExprTrees) → HaveNoMatch es → AreSolves_ (questions_all es) → (scope bs : List Base) → PartsHave takes es scope bs → (n : ℕ) → HaveLevels (codes_of_all calls solves n es) → AreSpelled (codes_of_all calls solves n es)
+    parts_spelled no_exprs p s scope bs h n l = tt
+    parts_spelled (expr_more a es) p s scope bs h n l = (
+      spelled a p.0 (λ q m. s q (Contains-append_left (questions a) (questions_all es) q m)) scope _ h.3 n l.0,
+      parts_spelled es p.1 (λ q m. s q (Contains-append_right (questions a) (questions_all es) q m)) scope h.1 h.4 n l.1,
+    )

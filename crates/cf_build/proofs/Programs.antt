@@ -1,0 +1,273 @@
+-- The codes of the functions of a program.
+use Rattle.std.proofs.Common.{◌≡◌, ℕ, zero, suc, ◌+◌, ◌*◌, ◌≤◌, ◌<◌, ◌==◌, Bool, true, false, Option, Some, List, [], ◌∷◌, ◌++◌, length, map, reverse, slice_get, slice_index, All, MatchBool, Contains, ◌⊎◌, inl, inr, refl, sym, ap, ◌∙◌, subst, arith, length-append}
+use Rattle.std.proofs.lemmas.Bool.{eqb-true, eq-eqb, cases_order}
+use Rattle.std.proofs.lemmas.Bool.Decides.{nat_tests}
+use Rattle.std.proofs.lemmas.List.{append_assoc, append-nil, reverse-append, map-append, length-map}
+use Rattle.std.proofs.lemmas.List.Elements.{All-head, All-tail, All-pop, Contains-append_left, Contains-append_right}
+use Rattle.cf_tree.specs.declared.base.Base.{Base}
+use Rattle.cf_tree.specs.Allowed.{AllowedIn, AllowedCall}
+use Rattle.cf_tree.specs.CodeTree.{CodeTree, code_tuple, no_codes, code_depth}
+use Rattle.cf_tree.specs.DefView.{DefTree}
+use Rattle.cf_tree.specs.ExprTree.{ExprTree, ExprTrees, expr_lit, expr_truth, expr_var, expr_set_of, expr_tuple, expr_neg, expr_not, expr_abs, expr_binary, expr_divides, expr_div, expr_mod, expr_card, expr_if, expr_call, expr_let, expr_choose, expr_match, no_exprs, expr_more}
+use Rattle.cf_tree.specs.Meaning.{means}
+use Rattle.cf_tree.specs.Spelled.{IsSpelled}
+use Rattle.cf_tree.specs.Typing.{Meets, HasBases as CodeHas}
+use Rattle.cf_tree.specs.Values.{Value, Outcome, HaveBases}
+use Rattle.cf_type.specs.Lowered.{lowered, all_lowered}
+use Rattle.cf_type.specs.Names.{bases_of}
+use Rattle.cf_type.specs.Size.{depth_in, measured, depths}
+use Rattle.cf_type.specs.TypedProgram.{Takes, IsTypedDef, AreTypedDefs}
+use Rattle.cf_build.specs.Codes.{code_of, called, codes_behind}
+use Rattle.cf_build.specs.Questions.{Question, questions, all_questions}
+use Rattle.cf_build.specs.Shifted.{HasLevels}
+use Rattle.cf_build.specs.Solves.{HasNoMatch, HaveNoMatch, IsSolveOf}
+use Rattle.cf_build.proofs.CodeSpelling.{depth_within, spelled}
+use Rattle.cf_build.proofs.CodeTyping.{typed}
+use Rattle.cf_build.proofs.Meanings.{fine}
+use Rattle.cf_build.proofs.Values.{Keeps}
+
+-- ---- matches
+mutual
+  pub lowered_same : (e : ExprTree) → HasNoMatch e → lowered e ≡ e
+  lowered_same (expr_lit k) p = refl
+  lowered_same (expr_truth t) p = refl
+  lowered_same (expr_var x) p = refl
+  lowered_same (expr_set_of es) p = ap expr_set_of (all_lowered_same es p)
+  lowered_same (expr_tuple es) p = ap expr_tuple (all_lowered_same es p)
+  lowered_same (expr_neg a) p = ap expr_neg (lowered_same a p)
+  lowered_same (expr_not a) p = ap expr_not (lowered_same a p)
+  lowered_same (expr_abs a) p = ap expr_abs (lowered_same a p)
+  lowered_same (expr_binary op a b) p = rw (lowered_same a p.0, lowered_same b p.1) refl
+  lowered_same (expr_divides k a) p = ap (λ c. expr_divides k c) (lowered_same a p)
+  lowered_same (expr_div a k) p = ap (λ c. expr_div c k) (lowered_same a p)
+  lowered_same (expr_mod a k) p = ap (λ c. expr_mod c k) (lowered_same a p)
+  lowered_same (expr_card a) p = ap expr_card (lowered_same a p)
+  lowered_same (expr_if t a b) p = rw (lowered_same t p.0, lowered_same a p.1, lowered_same b p.2) refl
+  lowered_same (expr_call f es) p = ap (λ cs. expr_call f cs) (all_lowered_same es p)
+  lowered_same (expr_let n a b) p = rw (lowered_same a p.0, lowered_same b p.1) refl
+  lowered_same (expr_choose n params outputs rel) p = refl
+  lowered_same (expr_match n params a arms) p = absurd p
+
+  all_lowered_same : (es : ExprTrees) → HaveNoMatch es → all_lowered es ≡ es
+  all_lowered_same no_exprs p = refl
+  all_lowered_same (expr_more e es) p = rw (lowered_same e p.0, all_lowered_same es p.1) refl
+
+-- ---- lists that grow
+pub pick_then : (X Y : Type 0) (b : Bool) → b ≡ true → X → MatchBool b X Y
+pick_then X Y true e x = x
+pick_then X Y false e x = cc
+
+pub pick_else : (X Y : Type 0) (b : Bool) → b ≡ false → Y → MatchBool b X Y
+pick_else X Y true e y = cc
+pick_else X Y false e y = y
+
+apart : (m n : ℕ) → m < n → (m == n) ≡ false
+apart m n h = grind (arith, nat_tests)
+
+called_old : (known : List CodeTree) (c : CodeTree) (f : ℕ) → f < length known → called (known ++ c ∷ []) f ≡ called known f
+called_old [] c f h = absurd (omega (arith, h))
+called_old (k ∷ known) c zero h = refl
+called_old (k ∷ known) c (suc f) h = called_old known c f (omega (arith, h))
+
+called_new : (known : List CodeTree) (c : CodeTree) (f : ℕ) → f ≡ length known → called (known ++ c ∷ []) f ≡ c
+called_new [] c zero e = refl
+called_new [] c (suc f) e = absurd (omega (arith, e))
+called_new (k ∷ known) c zero e = absurd (omega (arith, e))
+called_new (k ∷ known) c (suc f) e = called_new known c f (omega (arith, e))
+
+called_past : (known : List CodeTree) (f : ℕ) → length known ≤ f → called known f ≡ code_tuple no_codes
+called_past [] f h = refl
+called_past (k ∷ known) zero h = absurd (omega (arith, h))
+called_past (k ∷ known) (suc f) h = called_past known f (omega (arith, h))
+
+index_old : (ns : List ℕ) (n f : ℕ) → f < length ns → slice_index (ns ++ n ∷ []) f ≡ slice_index ns f
+index_old [] n f h = absurd (omega (arith, h))
+index_old (m ∷ ns) n zero h = refl
+index_old (m ∷ ns) n (suc f) h = index_old ns n f (omega (arith, h))
+
+index_new : (ns : List ℕ) (n f : ℕ) → f ≡ length ns → slice_index (ns ++ n ∷ []) f ≡ n
+index_new [] n zero e = refl
+index_new [] n (suc f) e = absurd (omega (arith, e))
+index_new (m ∷ ns) n zero e = absurd (omega (arith, e))
+index_new (m ∷ ns) n (suc f) e = index_new ns n f (omega (arith, e))
+
+-- ---- functions
+takes_small : (earlier : List DefTree) (f : ℕ) (ps rs : List Base) → Takes earlier f ps rs → f < length earlier
+takes_small [] f ps rs h = absurd h
+takes_small (d ∷ earlier) f ps rs h = by (f == length earlier) refl (takes_small earlier f ps rs) h
+  where
+    by : (b : Bool) → (f == length earlier) ≡ b → (Takes earlier f ps rs → f < length earlier) → MatchBool b ((ps ≡ bases_of d.params) × (rs ≡ d.results)) (Takes earlier f ps rs) → f < length (d ∷ earlier)
+    by true e small t = let same : f ≡ length earlier = eqb-true f (length earlier) e in omega arith
+    by false e small t = let less : f < length earlier = small t in omega arith
+
+-- the function that was added, or one before it
+pub data IsTaken (d : DefTree) (earlier : List DefTree) (f : ℕ) (ps rs : List Base) : Type 0 where
+  new : f ≡ length earlier → ps ≡ bases_of d.params → rs ≡ d.results → IsTaken d earlier f ps rs
+  old : f < length earlier → Takes earlier f ps rs → IsTaken d earlier f ps rs
+
+taken : (d : DefTree) (earlier : List DefTree) (f : ℕ) (ps rs : List Base) → Takes (d ∷ earlier) f ps rs → IsTaken d earlier f ps rs
+taken d earlier f ps rs h = by (f == length earlier) refl h
+  where
+    by : (b : Bool) → (f == length earlier) ≡ b → MatchBool b ((ps ≡ bases_of d.params) × (rs ≡ d.results)) (Takes earlier f ps rs) → IsTaken d earlier f ps rs
+    by true e t = new (eqb-true f (length earlier) e) t.0 t.1
+    by false e t = old (takes_small earlier f ps rs t) t
+
+abbrev pub bodies : List DefTree → List ExprTree
+bodies defs = map (λ d. d.body) defs
+
+allows_new : (d : DefTree) (earlier : List DefTree) (f : ℕ) (xs : List Value) (o : Outcome) → f ≡ length earlier → AllowedIn (AllowedCall (bodies earlier)) d.body xs o → AllowedCall (bodies (d ∷ earlier)) f xs o
+allows_new d earlier f xs o e a = pick_then _ _ (f == length (bodies earlier)) (eq-eqb f (length (bodies earlier)) (omega (arith, e, length-map earlier (λ d. d.body)))) a
+
+allows_old : (d : DefTree) (earlier : List DefTree) (f : ℕ) (xs : List Value) (o : Outcome) → f < length earlier → AllowedCall (bodies earlier) f xs o → AllowedCall (bodies (d ∷ earlier)) f xs o
+allows_old d earlier f xs o l a = pick_else _ _ (f == length (bodies earlier)) (apart f (length (bodies earlier)) (omega (arith, l, length-map earlier (λ d. d.body)))) a
+
+get_last : (xs : List DefTree) (y : DefTree) (i : ℕ) (z : DefTree) → slice_get (xs ++ y ∷ []) i ≡ Some z → ((i ≡ length xs) × (y ≡ z)) ⊎ ((i < length xs) × (slice_get xs i ≡ Some z))
+get_last [] y zero z e = inl (refl, cc)
+get_last [] y (suc i) z e = absurd (cc)
+get_last (x ∷ xs) y zero z e = inr (omega arith, e)
+get_last (x ∷ xs) y (suc i) z e = elim (get_last xs y i z e) [ inl p ↦ inl (omega (arith, p.0), p.1) | inr p ↦ inr (omega (arith, p.0), p.1) ]
+
+takes_here : (d : DefTree) (earlier : List DefTree) (f : ℕ) → f ≡ length earlier → Takes (d ∷ earlier) f (bases_of d.params) d.results
+takes_here d earlier f e = pick_then _ _ (f == length earlier) (eq-eqb f (length earlier) e) (refl, refl)
+
+takes_before : (d : DefTree) (earlier : List DefTree) (f : ℕ) (ps rs : List Base) → f < length earlier → Takes earlier f ps rs → Takes (d ∷ earlier) f ps rs
+takes_before d earlier f ps rs l t = pick_else _ _ (f == length earlier) (apart f (length earlier) l) t
+
+-- what is known of the functions that are done, which `earlier` holds last first, of their codes, and of their depths
+pub record Knows (done earlier : List DefTree) (known : List CodeTree) (deep : List ℕ) : Type 0 where
+  pub codes : length known ≡ length earlier
+  pub depths : length deep ≡ length earlier
+  pub defs : length done ≡ length earlier
+  pub several : (f : ℕ) (ps rs : List Base) → Takes earlier f ps rs → 1 ≤ length rs
+  pub typed : (f : ℕ) (ps rs : List Base) → Takes earlier f ps rs → (asked : Option (List Base)) → Meets asked rs → CodeHas (called known f) ps asked rs
+  pub spelled : (f : ℕ) (ps rs : List Base) → Takes earlier f ps rs → IsSpelled (called known f)
+  pub fine : (f : ℕ) (ps rs : List Base) → Takes earlier f ps rs → (xs : List Value) → HaveBases ps xs → AllowedCall (bodies earlier) f xs (means (called known f) xs) × Keeps rs (means (called known f) xs)
+  pub shallow : (f : ℕ) → code_depth (called known f) ≤ 2 * slice_index deep f + 16
+  pub takes : (f : ℕ) (d : DefTree) → slice_get done f ≡ Some d → Takes earlier f (bases_of d.params) d.results
+
+-- nothing is known of no function
+knows_none : Knows [] [] [] []
+knows_none = record {
+  codes = refl;
+  depths = refl;
+  defs = refl;
+  several = λ f ps rs t. absurd t;
+  typed = λ f ps rs t. absurd t;
+  spelled = λ f ps rs t. absurd t;
+  fine = λ f ps rs t. absurd t;
+  shallow = λ f. omega arith;
+  takes = λ f d e. cc;
+}
+
+module _ (solves : ℕ → CodeTree) (done earlier : List DefTree) (known : List CodeTree) (deep : List ℕ) (k : Knows done earlier known deep) (d : DefTree) where
+  abbrev code : CodeTree
+  code = code_of (called known) solves (length d.params) d.body
+
+  abbrev depth : ℕ
+  depth = depth_in (λ f. slice_index deep f) d.body
+
+  module _ (h : IsTypedDef earlier d) (p : HasNoMatch d.body) (s : (q : Question) → Contains (questions d.body) q → IsSolveOf q (solves q.number)) (l : HasLevels code) where
+    arity : length d.params ≡ length (bases_of d.params)
+    arity = sym (length-map d.params (λ x. x.base))
+
+    typed_next : (f : ℕ) (ps rs : List Base) → IsTaken d earlier f ps rs → (asked : Option (List Base)) → Meets asked rs → CodeHas (called (known ++ code ∷ []) f) ps asked rs
+    typed_next f ps rs (new e a b) asked m =
+        rw (called_new known code f (e ∙ sym k.codes), a, b)
+        (typed (called known) solves (Takes earlier) k.typed d.body p s (bases_of d.params) d.results h.1 asked (rw b at m) (length d.params) arity)
+    typed_next f ps rs (old less t) asked m = rw (called_old known code f (rw k.codes less)) (k.typed f ps rs t asked m)
+
+    spelled_next : (f : ℕ) (ps rs : List Base) → IsTaken d earlier f ps rs → IsSpelled (called (known ++ code ∷ []) f)
+    spelled_next f ps rs (new e a b) =
+        rw (called_new known code f (e ∙ sym k.codes))
+        (spelled (called known) solves (Takes earlier) k.spelled d.body p s (bases_of d.params) d.results h.1 (length d.params) l)
+    spelled_next f ps rs (old less t) = rw (called_old known code f (rw k.codes less)) (k.spelled f ps rs t)
+
+    fine_next : (f : ℕ) (ps rs : List Base) → IsTaken d earlier f ps rs → (xs : List Value) → HaveBases ps xs →
+        AllowedCall (bodies (d ∷ earlier)) f xs (means (called (known ++ code ∷ []) f) xs) × Keeps rs (means (called (known ++ code ∷ []) f) xs)
+    fine_next f ps rs (new e a b) xs x =
+        let r = fine (called known) solves (Takes earlier) (AllowedCall (bodies earlier)) k.fine d.body p s (bases_of d.params) d.results h.1 xs (rw a at x) (length d.params) arity in
+        rw (called_new known code f (e ∙ sym k.codes), b) (allows_new d earlier f xs (means code xs) e r.0, r.1)
+    fine_next f ps rs (old less t) xs x =
+        let r = k.fine f ps rs t xs x in
+        rw (called_old known code f (rw k.codes less)) (allows_old d earlier f xs (means (called known f) xs) less r.0, r.1)
+
+    shallow_next : (f : ℕ) → code_depth (called (known ++ code ∷ []) f) ≤ 2 * slice_index (deep ++ depth ∷ []) f + 16
+    shallow_next f =
+        elim (cases_order (length known) f) as (λ _. code_depth (called (known ++ code ∷ []) f) ≤ 2 * slice_index (deep ++ depth ∷ []) f + 16) [
+          | inl same ↦
+              rw (called_new known code f (sym same), index_new deep depth f (sym same ∙ k.codes ∙ sym k.depths))
+              (depth_within (called known) solves (λ f. slice_index deep f) k.shallow d.body p s (length d.params))
+          | inr s ↦
+              elim s as (λ _. code_depth (called (known ++ code ∷ []) f) ≤ 2 * slice_index (deep ++ depth ∷ []) f + 16) [
+                | inl more ↦ rw (called_past (known ++ code ∷ []) f (omega (arith, length-append known (code ∷ []), more))) (omega arith)
+                | inr less ↦ rw (called_old known code f less, index_old deep depth f (omega (arith, less, k.codes, k.depths))) (k.shallow f)
+              ]
+        ]
+
+    takes_next : (f : ℕ) (e : DefTree) → slice_get (done ++ d ∷ []) f ≡ Some e → Takes (d ∷ earlier) f (bases_of e.params) e.results
+    takes_next f e g =
+        elim (get_last done d f e g) as (λ _. Takes (d ∷ earlier) f (bases_of e.params) e.results) [
+          | inl p ↦ rw (← p.1) (takes_here d earlier f (p.0 ∙ k.defs))
+          | inr p ↦ takes_before d earlier f (bases_of e.params) e.results (omega (arith, p.0, k.defs)) (k.takes f e p.1)
+        ]
+
+    several_next : (f : ℕ) (ps rs : List Base) → IsTaken d earlier f ps rs → 1 ≤ length rs
+    several_next f ps rs (new e a b) = rw b h.0
+    several_next f ps rs (old less t) = k.several f ps rs t
+
+    pub knows_next : Knows (done ++ d ∷ []) (d ∷ earlier) (known ++ code ∷ []) (deep ++ depth ∷ [])
+    knows_next = record {
+      codes = omega (arith, k.codes, length-append known (code ∷ []));
+      depths = omega (arith, k.depths, length-append deep (depth ∷ []));
+      defs = omega (arith, k.defs, length-append done (d ∷ []));
+      several = λ f ps rs t. several_next f ps rs (taken d earlier f ps rs t);
+      typed = λ f ps rs t. typed_next f ps rs (taken d earlier f ps rs t);
+      spelled = λ f ps rs t. spelled_next f ps rs (taken d earlier f ps rs t);
+      fine = λ f ps rs t. fine_next f ps rs (taken d earlier f ps rs t);
+      shallow = shallow_next;
+      takes = takes_next;
+    }
+
+-- ---- all functions
+typed_tail : (ds earlier : List DefTree) → AreTypedDefs (ds ++ earlier) → AreTypedDefs earlier
+typed_tail [] earlier h = h
+typed_tail (d ∷ ds) earlier h = typed_tail ds earlier h.1
+
+behind_keeps : (P : CodeTree → Type 0) (solves : ℕ → CodeTree) (ds : List DefTree) (known : List CodeTree) → All P (codes_behind solves known ds) → All P known
+behind_keeps P solves [] known h = h
+behind_keeps P solves (d ∷ ds) known h =
+    let c = code_of (called known) solves (length d.params) d.body in
+    (All-pop P (known ++ c ∷ []) known (Some c) refl (behind_keeps P solves ds (known ++ c ∷ []) h)).0
+
+behind_first : (P : CodeTree → Type 0) (solves : ℕ → CodeTree) (d : DefTree) (ds : List DefTree) (known : List CodeTree) → All P (codes_behind solves known (d ∷ ds)) →
+    P (code_of (called known) solves (length d.params) d.body)
+behind_first P solves d ds known h =
+    let c = code_of (called known) solves (length d.params) d.body in
+    (All-pop P (known ++ c ∷ []) known (Some c) refl (behind_keeps P solves ds (known ++ c ∷ []) h)).1
+
+pub all_known : (solves : ℕ → CodeTree) (ds done earlier : List DefTree) (known : List CodeTree) (deep : List ℕ) → Knows done earlier known deep → AreTypedDefs (reverse ds ++ earlier) → All (λ d. HasNoMatch d.body) ds →
+    ((q : Question) → Contains (all_questions ds) q → IsSolveOf q (solves q.number)) → All HasLevels (codes_behind solves known ds) →
+    Knows (done ++ ds) (reverse ds ++ earlier) (codes_behind solves known ds) (deep ++ measured depth_in deep ds)
+all_known solves [] done earlier known deep k t p s l = rw (append-nil done, append-nil deep) k
+all_known solves (d ∷ ds) done earlier known deep k t p s l =
+    let q = All-head (λ d. HasNoMatch d.body) d ds p in
+    let c = code_of (called known) solves (length d.params) d.body in
+    let n = depth_in (λ f. slice_index deep f) d.body in
+    let turned : reverse (d ∷ ds) ++ earlier ≡ reverse ds ++ d ∷ earlier = rw (reverse-append (d ∷ []) ds) (append_assoc (reverse ds) (d ∷ []) earlier) in
+    let rest : AreTypedDefs (reverse ds ++ d ∷ earlier) = rw turned at t in
+    let next = knows_next solves done earlier known deep k d (typed_tail (reverse ds) (d ∷ earlier) rest).0 q (λ x m. s x (Contains-append_left (questions (lowered d.body)) (all_questions ds) x (rw (lowered_same d.body q) m))) (behind_first HasLevels solves d ds known l) in
+    let all = all_known solves ds (done ++ d ∷ []) (d ∷ earlier) (known ++ c ∷ []) (deep ++ n ∷ []) next rest (All-tail (λ d. HasNoMatch d.body) d ds p) (λ x m. s x (Contains-append_right (questions (lowered d.body)) (all_questions ds) x m)) l in
+    let depths_are : deep ++ measured depth_in deep (d ∷ ds) ≡ (deep ++ n ∷ []) ++ measured depth_in (deep ++ n ∷ []) ds = rw (lowered_same d.body q) (sym (append_assoc deep (n ∷ []) (measured depth_in (deep ++ n ∷ []) ds))) in
+    rw (← append_assoc done (d ∷ []) ds, turned, depths_are) all
+
+pub map_reverse : (ds : List DefTree) → bodies (reverse ds) ≡ reverse (bodies ds)
+map_reverse [] = refl
+map_reverse (d ∷ ds) =
+    rw (reverse-append (d ∷ []) ds, reverse-append (d.body ∷ []) (bodies ds), map-append (λ d. d.body) (reverse ds) (d ∷ []), map_reverse ds) refl
+
+-- what is known of a whole program
+pub program_known : (solves : ℕ → CodeTree) (defs : List DefTree) → AreTypedDefs (reverse defs) → All (λ d. HasNoMatch d.body) defs → ((q : Question) → Contains (all_questions defs) q → IsSolveOf q (solves q.number)) →
+    All HasLevels (codes_behind solves [] defs) → Knows defs (reverse defs) (codes_behind solves [] defs) (depths defs)
+program_known solves defs t p s l =
+    subst (λ earlier. Knows defs earlier (codes_behind solves [] defs) (depths defs)) (append-nil (reverse defs))
+    (all_known solves defs [] [] [] [] knows_none (rw (append-nil (reverse defs)) t) p s l)

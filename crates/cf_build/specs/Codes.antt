@@ -1,0 +1,88 @@
+-- The code of a source expression.
+use Rattle.std.specs.Prelude.{ℕ, ◌+◌, List, [], ◌∷◌, ◌++◌, length, slice_get, Option, Some, None, ◌==◌, if◌then◌else◌}
+use Rattle.cf_tree.specs.declared.raw.BinOp.{BinOp}
+use Rattle.cf_tree.specs.declared.raw.BinOp.TheVariants.{Add, Sub, Mul, And, Or, Union, Inter, Diff, Subset, Compare}
+use Rattle.cf_tree.specs.CodeTree.{CodeTree, code_lit, code_truth, code_var, code_set_of, code_tuple, code_sum, code_sub, code_mul, code_neg, code_div, code_mod, code_max, code_compare, code_divides, code_and, code_or, code_not, code_union, code_inter, code_diff, code_subset, code_card, code_if, code_let, CodeTrees, no_codes, code_more, count}
+use Rattle.cf_tree.specs.DefView.{DefTree}
+use Rattle.cf_tree.specs.ExprTree.{ExprTree, expr_lit, expr_truth, expr_var, expr_set_of, expr_tuple, expr_neg, expr_not, expr_abs, expr_binary, expr_divides, expr_div, expr_mod, expr_card, expr_if, expr_call, expr_let, expr_choose, expr_match, ExprTrees, no_exprs, expr_more}
+use Rattle.cf_tree.specs.CodeView.{code_tree}
+use Rattle.cf_build.specs.declared.solves.ChooseCode.{ChooseCode}
+use Rattle.cf_build.specs.Shifted.{shifted}
+
+abbrev pub two : CodeTree → CodeTree → CodeTrees
+two a b = code_more a (code_more b no_codes)
+
+abbrev pub binary_code : BinOp → CodeTree → CodeTree → CodeTree
+binary_code Add a b = code_sum (two a b)
+binary_code Sub a b = code_sub a b
+binary_code Mul a b = code_mul a b
+binary_code And a b = code_and a b
+binary_code Or a b = code_or a b
+binary_code Union a b = code_union (two a b)
+binary_code Inter a b = code_inter (two a b)
+binary_code Diff a b = code_diff a b
+binary_code Subset a b = code_subset a b
+binary_code (Compare order) a b = code_compare order a b
+
+-- the greater of a number, which takes level n, and its negative
+abbrev pub absolute_code : ℕ → CodeTree → CodeTree
+absolute_code n a = code_let n 1 a (code_max (two (code_var n) (code_neg (code_var n))))
+
+-- one code, or several as a tuple
+abbrev pub joined_code : CodeTrees → CodeTree
+joined_code no_codes = code_tuple no_codes
+joined_code (code_more c no_codes) = c
+joined_code (code_more c (code_more d cs)) = code_tuple (code_more c (code_more d cs))
+
+-- a called body, whose arguments take the levels from n on
+abbrev pub call_code : ℕ → CodeTrees → CodeTree → CodeTree
+call_code n no_codes body = body
+call_code n (code_more c cs) body = code_let n (count (code_more c cs)) (joined_code (code_more c cs)) body
+
+abbrev mutual
+  -- the code of an expression behind n variables, where `calls` holds the codes of the functions before, and `solves` those of the chooses
+  pub code_of : (ℕ → CodeTree) → (ℕ → CodeTree) → ℕ → ExprTree → CodeTree
+  code_of calls solves n (expr_lit k) = code_lit k
+  code_of calls solves n (expr_truth t) = code_truth t
+  code_of calls solves n (expr_var x) = code_var x
+  code_of calls solves n (expr_set_of es) = code_set_of (codes_of_all calls solves n es)
+  code_of calls solves n (expr_tuple es) = code_tuple (codes_of_all calls solves n es)
+  code_of calls solves n (expr_neg a) = code_neg (code_of calls solves n a)
+  code_of calls solves n (expr_not a) = code_not (code_of calls solves n a)
+  code_of calls solves n (expr_abs a) = absolute_code n (code_of calls solves n a)
+  code_of calls solves n (expr_binary op a b) = binary_code op (code_of calls solves n a) (code_of calls solves n b)
+  code_of calls solves n (expr_divides k a) = code_divides k (code_of calls solves n a)
+  code_of calls solves n (expr_div a k) = code_div (code_of calls solves n a) k
+  code_of calls solves n (expr_mod a k) = code_mod (code_of calls solves n a) k
+  code_of calls solves n (expr_card a) = code_card (code_of calls solves n a)
+  code_of calls solves n (expr_if t a b) = code_if (code_of calls solves n t) (code_of calls solves n a) (code_of calls solves n b)
+  code_of calls solves n (expr_call f es) = call_code n (codes_of_all calls solves n es) (shifted n (calls f))
+  code_of calls solves n (expr_let m a b) = code_let n m (code_of calls solves n a) (code_of calls solves (n + m) b)
+  code_of calls solves n (expr_choose m scope outputs rel) = shifted 0 (solves m)
+  code_of calls solves n (expr_match m scope a arms) = code_tuple no_codes
+
+  pub codes_of_all : (ℕ → CodeTree) → (ℕ → CodeTree) → ℕ → ExprTrees → CodeTrees
+  codes_of_all calls solves n no_exprs = no_codes
+  codes_of_all calls solves n (expr_more e es) = code_more (code_of calls solves n e) (codes_of_all calls solves n es)
+
+-- the code, or where there is none, that of no values
+abbrev pub or_nothing : Option CodeTree → CodeTree
+or_nothing None = code_tuple no_codes
+or_nothing (Some c) = c
+
+-- the code of function number f
+abbrev pub called : List CodeTree → ℕ → CodeTree
+called codes f = or_nothing (slice_get codes f)
+
+abbrev pub choose_code : ChooseCode → ℕ × CodeTree
+choose_code c = (c.number, code_tree c.code)
+
+-- the code of a choose number
+abbrev pub solved_in : List (ℕ × CodeTree) → ℕ → CodeTree
+solved_in [] m = code_tuple no_codes
+solved_in (s ∷ ss) m = if s.0 == m then s.1 else solved_in ss m
+
+-- the codes of functions in the order of the text, where `known` holds those of the functions before
+abbrev pub codes_behind : (ℕ → CodeTree) → List CodeTree → List DefTree → List CodeTree
+codes_behind solves known [] = known
+codes_behind solves known (d ∷ ds) = codes_behind solves (known ++ code_of (called known) solves (length d.params) d.body ∷ []) ds

@@ -1,0 +1,105 @@
+-- Chooses that may be solved, and what their codes keep.
+use Rattle.std.specs.Prelude.{ℕ, ◌≤◌, ◌<◌, ◌≡◌, List, [], ◌∷◌, ◌++◌, length, Some, None, Result, Ok, Err, All}
+use Rattle.cf_tree.specs.CodeTree.{CodeTree, ArmTrees, no_arms, arm_more, code_solve, arms_depth}
+use Rattle.cf_tree.specs.ExprTree.{ExprTree, expr_lit, expr_truth, expr_var, expr_set_of, expr_tuple, expr_neg, expr_not, expr_abs, expr_binary, expr_divides, expr_div, expr_mod, expr_card, expr_if, expr_call, expr_let, expr_choose, expr_match, ExprTrees, no_exprs, expr_more}
+use Rattle.cf_tree.specs.Relation.{IsTyped, IsLinear}
+use Rattle.cf_tree.specs.Solving.{Solves}
+use Rattle.cf_tree.specs.Spelled.{IsSpelled}
+use Rattle.cf_tree.specs.Typing.{ArmsHave}
+use Rattle.cf_choose.specs.Solved.{IsOutput}
+use Rattle.cf_tree.specs.CodeView.{code_tree}
+use Rattle.cf_tree.specs.DefView.{DefTree}
+use Rattle.cf_tree.specs.RelView.{rel_tree}
+use Rattle.cf_tree.specs.declared.code.Code.{Code}
+use Rattle.cf_linear.specs.declared.refusal.Refusal.{Refusal}
+use Rattle.cf_choose.specs.declared.fault.ChooseFault.{ChooseFault}
+use Rattle.cf_choose.specs.declared.fault.ChooseFault.TheVariants.{Refused, NoMemory}
+use Rattle.cf_build.specs.declared.chooses.Choose.{Choose as ChooseParts}
+use Rattle.cf_build.specs.declared.fault.BuildFault.{BuildFault}
+use Rattle.cf_build.specs.declared.fault.BuildFault.TheVariants as faults
+use Rattle.cf_build.specs.Questions.{Question, questions, limit_of, IsFirstRefused}
+
+-- at least one arm
+abbrev pub HasArms : ArmTrees → Type 0
+HasArms no_arms = ⊥
+HasArms (arm_more a arms) = Unit {0}
+
+-- a choose of a typed program
+pub record IsAsked (q : Question) : Type 0 where
+  pub positive : 1 ≤ q.number
+  pub several : 1 ≤ length q.outputs
+  pub outputs : All IsOutput q.outputs
+  pub typed : IsTyped (q.scope ++ q.outputs) q.relation
+  pub linear : IsLinear q.relation
+
+-- a solve whose arms solve the choose
+pub record IsSolveOf (q : Question) (c : CodeTree) : Type 0 where
+  pub arms : ArmTrees
+  pub code : c ≡ code_solve q.number arms
+  pub some : HasArms arms
+  pub solves : Solves q.scope q.outputs q.relation arms
+  pub typed : ArmsHave arms q.scope q.outputs
+  pub shallow : arms_depth arms ≤ 16
+  pub spelled : IsSpelled c
+
+-- the codes of chooses in order, none of which is refused
+abbrev pub AreSolved : List Question → List (ℕ × CodeTree) → Type 0
+AreSolved [] [] = Unit {0}
+AreSolved [] (s ∷ ss) = ⊥
+AreSolved (q ∷ qs) [] = ⊥
+AreSolved (q ∷ qs) (s ∷ ss) = (s.0 ≡ q.number) × IsSolveOf q s.1 × (limit_of q ≡ None) × AreSolved qs ss
+
+-- no match stands in an expression
+abbrev mutual
+  pub HasNoMatch : ExprTree → Type 0
+  HasNoMatch (expr_lit k) = Unit {0}
+  HasNoMatch (expr_truth t) = Unit {0}
+  HasNoMatch (expr_var x) = Unit {0}
+  HasNoMatch (expr_set_of es) = HaveNoMatch es
+  HasNoMatch (expr_tuple es) = HaveNoMatch es
+  HasNoMatch (expr_neg a) = HasNoMatch a
+  HasNoMatch (expr_not a) = HasNoMatch a
+  HasNoMatch (expr_abs a) = HasNoMatch a
+  HasNoMatch (expr_binary op a b) = HasNoMatch a × HasNoMatch b
+  HasNoMatch (expr_divides k a) = HasNoMatch a
+  HasNoMatch (expr_div a k) = HasNoMatch a
+  HasNoMatch (expr_mod a k) = HasNoMatch a
+  HasNoMatch (expr_card a) = HasNoMatch a
+  HasNoMatch (expr_if t a b) = HasNoMatch t × HasNoMatch a × HasNoMatch b
+  HasNoMatch (expr_call f es) = HaveNoMatch es
+  HasNoMatch (expr_let n a b) = HasNoMatch a × HasNoMatch b
+  HasNoMatch (expr_choose n scope outputs rel) = Unit {0}
+  HasNoMatch (expr_match n scope a arms) = ⊥
+
+  pub HaveNoMatch : ExprTrees → Type 0
+  HaveNoMatch no_exprs = Unit {0}
+  HaveNoMatch (expr_more e es) = HasNoMatch e × HaveNoMatch es
+
+abbrev pub question_of : ChooseParts → Question
+question_of c = record { number = c.number; scope = c.scope.items; outputs = c.outputs.items; relation = rel_tree c.rel }
+
+-- the chooses of all functions, without regard to matches
+abbrev pub questions_of : List DefTree → List Question
+questions_of [] = []
+questions_of (d ∷ ds) = questions d.body ++ questions_of ds
+
+-- a solve with at least one arm
+abbrev pub HasArmsIn : CodeTree → Type 0
+HasArmsIn (code_solve n arms) = HasArms arms
+HasArmsIn c = ⊥
+
+-- a choose is solved, or its first limit refuses it, or memory ran out
+abbrev pub TellsOne : Question → Result Code ChooseFault → Type 0
+TellsOne q (Ok c) = IsSolveOf q (code_tree c) × (limit_of q ≡ None)
+TellsOne q (Err (Refused r)) = limit_of q ≡ Some r
+TellsOne q (Err NoMemory) = Unit {0}
+
+-- the first of the chooses that is refused, or memory ran out
+abbrev pub TellsFault : List Question → BuildFault → Type 0
+TellsFault qs (faults.Choose n r) = IsFirstRefused qs n r
+TellsFault qs faults.NoMemory = Unit {0}
+
+-- the first of a refused choose and of another one
+pub data IsNext (q : Question) (n : ℕ) (r : Refusal) : ℕ → Refusal → Type 0 where
+  stays : (q.number < n → limit_of q ≡ None) → IsNext q n r n r
+  earlier : {s : Refusal} → q.number < n → limit_of q ≡ Some s → IsNext q n r q.number s

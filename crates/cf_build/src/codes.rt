@@ -1,0 +1,231 @@
+//! The code of source expressions.
+#![tactic(auto, using(crate::proofs::CodeLists::code_lists))]
+
+ghost use Rattle.std.specs.Prelude.{◌≡◌, ◌+◌, ◌<◌, ◌^◌, ◌∷◌, [], IfOk, map, length};
+ghost use Rattle.cf_tree.specs.CodeTree.{code_max, code_neg, code_var};
+ghost use Rattle.cf_tree.specs.CodeView.{code_tree, code_trees};
+ghost use Rattle.cf_tree.specs.ExprView.{expr_tree, expr_trees};
+ghost use Rattle.cf_build.specs.Codes.{two, binary_code, joined_code, call_code, code_of, codes_of_all, called, choose_code, solved_in};
+ghost use Rattle.cf_build.specs.Shifted.{shifted, HasLevels, HaveLevels};
+
+use crate::not_built;
+use crate::shift::{level, shift};
+use crate::solves::ChooseCode;
+use cf_tree::code::Code;
+use cf_tree::expr::Expr;
+use cf_tree::memory::NoMemory;
+use cf_tree::raw::BinOp;
+use std::alloc::Global;
+
+// The code of an expression behind n variables, where the codes of the functions before and of all
+// chooses are known.
+#[cycle(code)]
+pub(crate) fn code(
+    alloc: Global,
+    expr: &Expr,
+    n: u32,
+    codes: &[Code],
+    solves: &[ChooseCode],
+) -> Result<Code, NoMemory>
+    ensures code { IfOk result (λ c. code_tree c ≡ code_of (called (map code_tree codes.now)) (solved_in (map choose_code solves.now)) n (expr_tree expr.now)) }
+    ensures levels { IfOk result (λ c. HasLevels (code_tree c)) }
+{
+    match expr {
+        Expr::Lit(k) => Ok(Code::Lit(*k)),
+        Expr::Truth(t) => Ok(Code::Truth(*t)),
+        Expr::Var(x) => Ok(Code::Var(*x)),
+        Expr::SetOf(parts) => Ok(Code::SetOf(all(alloc, parts, n, codes, solves)?)),
+        Expr::Tuple(parts) => Ok(Code::Tuple(all(alloc, parts, n, codes, solves)?)),
+        Expr::Neg(a) => Ok(Code::Neg(boxed(alloc, a, n, codes, solves)?)),
+        Expr::Not(a) => Ok(Code::Not(boxed(alloc, a, n, codes, solves)?)),
+        Expr::Abs(a) => Ok(Code::Let {
+            first: n,
+            count: 1,
+            value: boxed(alloc, a, n, codes, solves)?,
+            body: greater(alloc, n)?,
+        }),
+        Expr::Binary { op, left, right } => binary(
+            alloc,
+            *op,
+            boxed(alloc, left, n, codes, solves)?,
+            boxed(alloc, right, n, codes, solves)?,
+        ),
+        Expr::Divides { k, of } => Ok(Code::Divides {
+            k: *k,
+            of: boxed(alloc, of, n, codes, solves)?,
+        }),
+        Expr::Div { of, k } => Ok(Code::Div {
+            of: boxed(alloc, of, n, codes, solves)?,
+            k: *k,
+        }),
+        Expr::Mod { of, k } => Ok(Code::Mod {
+            of: boxed(alloc, of, n, codes, solves)?,
+            k: *k,
+        }),
+        Expr::Card(a) => Ok(Code::Card(boxed(alloc, a, n, codes, solves)?)),
+        Expr::If { test, yes, no } => Ok(Code::If {
+            test: boxed(alloc, test, n, codes, solves)?,
+            yes: boxed(alloc, yes, n, codes, solves)?,
+            no: boxed(alloc, no, n, codes, solves)?,
+        }),
+        Expr::Call { def, args } => call(
+            alloc,
+            n,
+            all(alloc, args, n, codes, solves)?,
+            callee(alloc, codes, *def, n)?,
+        ),
+        Expr::Let { count, value, body } => Ok(Code::Let {
+            first: n,
+            count: *count,
+            value: boxed(alloc, value, n, codes, solves)?,
+            body: boxed(alloc, body, level(n, *count)?, codes, solves)?,
+        }),
+        Expr::Choose { number, .. } => solve_code(alloc, solves, *number),
+        Expr::Match { .. } => Err(not_built()),
+    }
+}
+
+#[cycle(code)]
+fn boxed(
+    alloc: Global,
+    expr: &Expr,
+    n: u32,
+    codes: &[Code],
+    solves: &[ChooseCode],
+) -> Result<Box<Code>, NoMemory>
+    ensures code { IfOk result (λ c. code_tree c.value ≡ code_of (called (map code_tree codes.now)) (solved_in (map choose_code solves.now)) n (expr_tree expr.now)) }
+    ensures levels { IfOk result (λ c. HasLevels (code_tree c.value)) }
+{
+    Ok(Box::new(alloc, code(alloc, expr, n, codes, solves)?)?)
+}
+
+#[cycle(code)]
+fn all(
+    alloc: Global,
+    exprs: &[Expr],
+    n: u32,
+    codes: &[Code],
+    solves: &[ChooseCode],
+) -> Result<Vec<Code>, NoMemory>
+    ensures code { IfOk result (λ cs. code_trees cs.items ≡ codes_of_all (called (map code_tree codes.now)) (solved_in (map choose_code solves.now)) n (expr_trees exprs.now)) }
+    ensures levels { IfOk result (λ cs. HaveLevels (code_trees cs.items)) }
+{
+    let mut all = Vec::new(alloc);
+    for expr in exprs {
+        all.push(code(alloc, expr, n, codes, solves)?)?;
+    }
+    Ok(all)
+}
+
+// The greater of the number of level n and its negative.
+fn greater(alloc: Global, n: u32) -> Result<Box<Code>, NoMemory>
+    ensures code { IfOk result (λ c. code_tree c.value ≡ code_max (two (code_var n) (code_neg (code_var n)))) }
+    ensures levels { IfOk result (λ c. HasLevels (code_tree c.value)) }
+{
+    let negative = Code::Neg(Box::new(alloc, Code::Var(n))?);
+    let parts = pair(alloc, Code::Var(n), negative)?;
+    Ok(Box::new(alloc, Code::Max(parts))?)
+}
+
+fn pair(alloc: Global, a: Code, b: Code) -> Result<Vec<Code>, NoMemory>
+    ensures { IfOk result (λ cs. cs.items ≡ a ∷ b ∷ []) }
+{
+    let mut parts = Vec::with_capacity(alloc, 2)?;
+    parts.push(a)?;
+    parts.push(b)?;
+    Ok(parts)
+}
+
+// The code of an operation with two sides.
+fn binary(alloc: Global, op: BinOp, a: Box<Code>, b: Box<Code>) -> Result<Code, NoMemory>
+    requires left { HasLevels (code_tree a.value) }
+    requires right { HasLevels (code_tree b.value) }
+    ensures code { IfOk result (λ c. code_tree c ≡ binary_code op (code_tree a.value) (code_tree b.value)) }
+    ensures levels { IfOk result (λ c. HasLevels (code_tree c)) }
+{
+    match op {
+        BinOp::Add => Ok(Code::Sum(pair(alloc, Box::into_inner(a), Box::into_inner(b))?)),
+        BinOp::Sub => Ok(Code::Sub(a, b)),
+        BinOp::Mul => Ok(Code::Mul(a, b)),
+        BinOp::And => Ok(Code::And(a, b)),
+        BinOp::Or => Ok(Code::Or(a, b)),
+        BinOp::Union => Ok(Code::Union(pair(alloc, Box::into_inner(a), Box::into_inner(b))?)),
+        BinOp::Inter => Ok(Code::Inter(pair(alloc, Box::into_inner(a), Box::into_inner(b))?)),
+        BinOp::Diff => Ok(Code::Diff(a, b)),
+        BinOp::Subset => Ok(Code::Subset(a, b)),
+        BinOp::Compare(order) => Ok(Code::Compare {
+            order,
+            left: a,
+            right: b,
+        }),
+    }
+}
+
+// The body of function number `def` behind n variables.
+fn callee(alloc: Global, codes: &[Code], def: u32, n: u32) -> Result<Code, NoMemory>
+    ensures code { IfOk result (λ c. code_tree c ≡ shifted n (called (map code_tree codes.now) def)) }
+    ensures levels { IfOk result (λ c. HasLevels (code_tree c)) }
+{
+    match codes.get(def as usize) {
+        Some(body) => shift(alloc, body, n),
+        None => Ok(Code::Tuple(Vec::new(alloc))),
+    }
+}
+
+// A called body, whose arguments take the levels from n on.
+fn call(alloc: Global, n: u32, args: Vec<Code>, body: Code) -> Result<Code, NoMemory>
+    requires args { HaveLevels (code_trees args.items) }
+    requires body { HasLevels (code_tree body) }
+    ensures code { IfOk result (λ c. code_tree c ≡ call_code n (code_trees args.items) (code_tree body)) }
+    ensures levels { IfOk result (λ c. HasLevels (code_tree c)) }
+{
+    if args.is_empty() {
+        return Ok(body);
+    }
+    let count = count_of(&args, n)?;
+    Ok(Code::Let {
+        first: n,
+        count,
+        value: Box::new(alloc, joined(args))?,
+        body: Box::new(alloc, body)?,
+    })
+}
+
+// How many arguments there are, which take the levels from n on.
+fn count_of(args: &[Code], n: u32) -> Result<u32, NoMemory>
+    ensures { IfOk result (λ count. (count ≡ length args.now) × (n + count < 2 ^ 32)) }
+{
+    let Ok(count) = u32::try_from(args.len()) else {
+        return Err(NoMemory);
+    };
+    level(n, count)?;
+    Ok(count)
+}
+
+// One code alone, or several as a tuple.
+fn joined(mut codes: Vec<Code>) -> Code
+    requires { HaveLevels (code_trees codes.items) }
+    ensures code { code_tree result ≡ joined_code (code_trees codes.items) }
+    ensures levels { HasLevels (code_tree result) }
+{
+    if codes.len() != 1 {
+        return Code::Tuple(codes);
+    }
+    match codes.pop() {
+        Some(code) => code,
+        None => Code::Tuple(codes),
+    }
+}
+
+// The code of choose number `number`.
+fn solve_code(alloc: Global, solves: &[ChooseCode], number: u32) -> Result<Code, NoMemory>
+    ensures code { IfOk result (λ c. code_tree c ≡ shifted 0 (solved_in (map choose_code solves.now) number)) }
+    ensures levels { IfOk result (λ c. HasLevels (code_tree c)) }
+{
+    for solve in solves {
+        if solve.number == number {
+            return shift(alloc, &solve.code, 0);
+        }
+    }
+    Ok(Code::Tuple(Vec::new(alloc)))
+}
