@@ -1,0 +1,71 @@
+//! Lists of bases and bounds.
+ghost use Rattle.std.specs.Prelude.{◌≡◌, ◌++◌, map, OnOk, decimal};
+ghost use Rattle.cf_emit.specs.Printed.{base_text, listed, more_texts, results_text};
+
+use crate::word::{put_base, put_count};
+use cf_tree::base::Base;
+use cf_tree::memory::NoMemory;
+
+// Bases, a comma and a space before each.
+fn put_more_bases(out: &mut Vec<u8>, bases: &[Base]) -> Result<(), NoMemory>
+    ensures { OnOk result (out.new.items ≡ out.old.items ++ more_texts (map base_text bases.now)) }
+{
+    for base in bases {
+        out.extend_from_slice(b", ")?;
+        put_base(out, *base)?;
+    }
+    Ok(())
+}
+
+// Bases with a comma and a space between each two.
+pub(crate) fn put_bases(out: &mut Vec<u8>, bases: &[Base]) -> Result<(), NoMemory>
+    ensures { OnOk result (out.new.items ≡ out.old.items ++ listed (map base_text bases.now)) }
+{
+    match bases.split_first() {
+        None => Ok(()),
+        Some((base, more)) => {
+            put_base(out, *base)?;
+            put_more_bases(out, more)
+        }
+    }
+}
+
+// The bases of results: one alone, and several as a tuple.
+pub(crate) fn put_results(out: &mut Vec<u8>, results: &[Base]) -> Result<(), NoMemory>
+    ensures { OnOk result (out.new.items ≡ out.old.items ++ results_text results.now) }
+{
+    match results {
+        [] => out.extend_from_slice(b"()")?,
+        [base] => put_base(out, *base)?,
+        _ => {
+            out.push(b'(')?;
+            put_bases(out, results)?;
+            out.push(b')')?;
+        }
+    }
+    Ok(())
+}
+
+// Bounds, a comma and a space before each.
+fn put_more_bounds(out: &mut Vec<u8>, bounds: &[u32]) -> Result<(), NoMemory>
+    ensures { OnOk result (out.new.items ≡ out.old.items ++ more_texts (map decimal bounds.now)) }
+{
+    for bound in bounds {
+        out.extend_from_slice(b", ")?;
+        put_count(out, u64::from(*bound))?;
+    }
+    Ok(())
+}
+
+// Bounds with a comma and a space between each two.
+pub(crate) fn put_bounds(out: &mut Vec<u8>, bounds: &[u32]) -> Result<(), NoMemory>
+    ensures { OnOk result (out.new.items ≡ out.old.items ++ listed (map decimal bounds.now)) }
+{
+    match bounds.split_first() {
+        None => Ok(()),
+        Some((bound, more)) => {
+            put_count(out, u64::from(*bound))?;
+            put_more_bounds(out, more)
+        }
+    }
+}
