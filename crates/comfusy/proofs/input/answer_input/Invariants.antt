@@ -1,0 +1,16 @@
+use Rattle.std.proofs.Common.{◌≡◌, ◌-◌, ◌+◌, ◌≤◌}
+use Rattle.cf_io.specs.Limits.{input_limit}
+use Rattle.comfusy.specs.Steps.{IsReadTo}
+use Rattle.comfusy.proofs.input.answer_input.Given as goal
+
+abbrev pub invariant-pieces : goal.invariant-pieces
+invariant-pieces g l = record {
+  within : l.total ≤ l.limit + 1;
+  fed : l.cutter.total ≡ l.total;
+  read : IsReadTo l.target (g.I.Source.left l.fn.input) (g.I.Source.left l.input) l.cutter (g.O.Sink.held l.fn.out) (g.O.Sink.held l.out) l.total;
+  inputs : g.I.Source.faults l.fn.input ≤ g.I.Source.faults l.input;
+  outs : g.O.Sink.faults l.fn.out ≤ g.O.Sink.faults l.out;
+}
+
+abbrev pub decreases-pieces : goal.decreases-pieces
+decreases-pieces g l = l.limit + 1 - l.total

@@ -1,0 +1,11 @@
+pub mod Answers
+pub mod Limits
+pub mod Replied
+pub mod Rules
+pub mod Runs
+pub mod Sources
+pub mod Statuses
+pub mod Steps
+pub mod Texts
+pub mod Top
+pub mod Words
