@@ -5,11 +5,10 @@ use Rattle.std.proofs.lemmas.Bool.{cases_lt}
 use Rattle.std.proofs.lemmas.Nat.{pow-add}
 use Rattle.cf_tree.specs.declared.base.Order.{Order}
 use Rattle.cf_tree.specs.declared.base.Order.TheVariants.{Eq, Ne, Lt, Le, Gt, Ge}
-use Rattle.cf_tree.specs.RelSize.{capped}
 use Rattle.cf_tree.specs.RelTree.{SetTree, TermTree, RelTree, rel_true, rel_false, rel_compare, rel_same_set, rel_other_set, rel_subset, rel_divides, rel_and, rel_or, rel_not}
 use Rattle.cf_linear.specs.Written.{abs_count}
 use Rattle.cf_linear.specs.Cases.{atom_compare, atom_ways, opposite, plain, case_count}
-use Rattle.cf_cases.specs.Counts.{order_as, order_ways, both_or_either}
+use Rattle.cf_cases.specs.Counts.{wide, order_as, order_ways, both_or_either}
 
 above : (m x y : ℕ) → m ≤ x → 1 ≤ y → m ≤ x * y
 above m x zero h k = absurd (omega arith)
@@ -43,19 +42,19 @@ capped_mul m a b h = elim (cases_lt m a) [
 pub capped_add : (m a b : ℕ) → min (min a m + min b m) m ≡ min (a + b) m
 capped_add m a b = omega arith
 
-pub product_capped : (a b x y z : ℕ) → x ≡ capped a → y ≡ capped b → z ≡ capped (x * y) → z ≡ capped (a * b)
-product_capped a b x y z e f g = g ∙ rw (e, f) (capped_mul (2 ^ 64 - 1) a b (omega arith))
+pub product_capped : (a b x y z : ℕ) → x ≡ wide a → y ≡ wide b → z ≡ wide (x * y) → z ≡ wide (a * b)
+product_capped a b x y z e f g = g ∙ rw (e, f) (capped_mul (2 ^ 128 - 1) a b (omega arith))
 
-pub sum_capped : (a b x y z : ℕ) → x ≡ capped a → y ≡ capped b → z ≡ capped (x + y) → z ≡ capped (a + b)
-sum_capped a b x y z e f g = g ∙ rw (e, f) (capped_add (2 ^ 64 - 1) a b)
+pub sum_capped : (a b x y z : ℕ) → x ≡ wide a → y ≡ wide b → z ≡ wide (x + y) → z ≡ wide (a + b)
+sum_capped a b x y z e f g = g ∙ rw (e, f) (capped_add (2 ^ 128 - 1) a b)
 
 -- ---- parts of a relation
-pub and_count : (b : Bool) (p q : RelTree) (x y z : ℕ) → x ≡ capped (case_count (plain b p)) → y ≡ capped (case_count (plain b q)) → z ≡ capped (both_or_either b x y) → z ≡ capped (case_count (plain b (rel_and p q)))
+pub and_count : (b : Bool) (p q : RelTree) (x y z : ℕ) → x ≡ wide (case_count (plain b p)) → y ≡ wide (case_count (plain b q)) → z ≡ wide (both_or_either b x y) → z ≡ wide (case_count (plain b (rel_and p q)))
 unfolding case_count
 and_count true p q x y z e f g = product_capped (case_count (plain true p)) (case_count (plain true q)) x y z e f g
 and_count false p q x y z e f g = sum_capped (case_count (plain false p)) (case_count (plain false q)) x y z e f g
 
-pub or_count : (b : Bool) (p q : RelTree) (x y z : ℕ) → x ≡ capped (case_count (plain b p)) → y ≡ capped (case_count (plain b q)) → z ≡ capped (both_or_either (not b) x y) → z ≡ capped (case_count (plain b (rel_or p q)))
+pub or_count : (b : Bool) (p q : RelTree) (x y z : ℕ) → x ≡ wide (case_count (plain b p)) → y ≡ wide (case_count (plain b q)) → z ≡ wide (both_or_either (not b) x y) → z ≡ wide (case_count (plain b (rel_or p q)))
 unfolding case_count
 or_count true p q x y z e f g = sum_capped (case_count (plain true p)) (case_count (plain true q)) x y z e f g
 or_count false p q x y z e f g = product_capped (case_count (plain false p)) (case_count (plain false q)) x y z e f g
@@ -82,7 +81,7 @@ unfolding case_count
 compare_is true o a b = ap (λ n. n * 2 ^ (abs_count a + abs_count b)) (compare_ways o a b)
 compare_is false o a b = ap (λ n. n * 2 ^ (abs_count a + abs_count b)) (compare_ways (opposite o) a b)
 
-few_ways : (o : Order) → order_ways o ≡ capped (order_ways o)
+few_ways : (o : Order) → order_ways o ≡ wide (order_ways o)
 few_ways Eq = refl
 few_ways Ne = refl
 few_ways Lt = refl
@@ -90,38 +89,38 @@ few_ways Le = refl
 few_ways Gt = refl
 few_ways Ge = refl
 
-pub compare_count : (d : Bool) (o : Order) (a b : TermTree) (n x y z r : ℕ) → n ≡ order_ways (order_as d o) → x ≡ capped (2 ^ abs_count a) → y ≡ capped (2 ^ abs_count b) → z ≡ capped (x * y) → r ≡ capped (n * z) →
-    r ≡ capped (case_count (plain d (rel_compare o a b)))
+pub compare_count : (d : Bool) (o : Order) (a b : TermTree) (n x y z r : ℕ) → n ≡ order_ways (order_as d o) → x ≡ wide (2 ^ abs_count a) → y ≡ wide (2 ^ abs_count b) → z ≡ wide (x * y) → r ≡ wide (n * z) →
+    r ≡ wide (case_count (plain d (rel_compare o a b)))
 compare_count d o a b n x y z r h e f g i =
-    let p : z ≡ capped (2 ^ abs_count a * 2 ^ abs_count b) = product_capped (2 ^ abs_count a) (2 ^ abs_count b) x y z e f g in
-    let q : z ≡ capped (2 ^ (abs_count a + abs_count b)) = p ∙ ap capped (sym (pow-add 2 (abs_count a) (abs_count b))) in
-    product_capped (order_ways (order_as d o)) (2 ^ (abs_count a + abs_count b)) n z r (h ∙ few_ways (order_as d o)) q i ∙ ap capped (compare_is d o a b)
+    let p : z ≡ wide (2 ^ abs_count a * 2 ^ abs_count b) = product_capped (2 ^ abs_count a) (2 ^ abs_count b) x y z e f g in
+    let q : z ≡ wide (2 ^ (abs_count a + abs_count b)) = p ∙ ap wide (sym (pow-add 2 (abs_count a) (abs_count b))) in
+    product_capped (order_ways (order_as d o)) (2 ^ (abs_count a + abs_count b)) n z r (h ∙ few_ways (order_as d o)) q i ∙ ap wide (compare_is d o a b)
 
 -- ---- parts without choices
-pub true_count : (b : Bool) → 1 ≡ capped (case_count (plain b rel_true))
+pub true_count : (b : Bool) → 1 ≡ wide (case_count (plain b rel_true))
 unfolding case_count
 true_count true = refl
 true_count false = refl
 
-pub false_count : (b : Bool) → 1 ≡ capped (case_count (plain b rel_false))
+pub false_count : (b : Bool) → 1 ≡ wide (case_count (plain b rel_false))
 unfolding case_count
 false_count true = refl
 false_count false = refl
 
-pub same_count : (b : Bool) (s t : SetTree) → 1 ≡ capped (case_count (plain b (rel_same_set s t)))
+pub same_count : (b : Bool) (s t : SetTree) → 1 ≡ wide (case_count (plain b (rel_same_set s t)))
 unfolding case_count
 same_count true s t = refl
 same_count false s t = refl
 
-pub other_count : (b : Bool) (s t : SetTree) → 1 ≡ capped (case_count (plain b (rel_other_set s t)))
+pub other_count : (b : Bool) (s t : SetTree) → 1 ≡ wide (case_count (plain b (rel_other_set s t)))
 unfolding case_count
 other_count true s t = refl
 other_count false s t = refl
 
-pub subset_count : (b : Bool) (s t : SetTree) → 1 ≡ capped (case_count (plain b (rel_subset s t)))
+pub subset_count : (b : Bool) (s t : SetTree) → 1 ≡ wide (case_count (plain b (rel_subset s t)))
 unfolding case_count
 subset_count true s t = refl
 subset_count false s t = refl
 
-pub two_choices : (a b x y z : ℕ) → x ≡ capped (2 ^ a) → y ≡ capped (2 ^ b) → z ≡ capped (x * y) → z ≡ capped (2 ^ (a + b))
-two_choices a b x y z e f g = product_capped (2 ^ a) (2 ^ b) x y z e f g ∙ ap capped (sym (pow-add 2 a b))
+pub two_choices : (a b x y z : ℕ) → x ≡ wide (2 ^ a) → y ≡ wide (2 ^ b) → z ≡ wide (x * y) → z ≡ wide (2 ^ (a + b))
+two_choices a b x y z e f g = product_capped (2 ^ a) (2 ^ b) x y z e f g ∙ ap wide (sym (pow-add 2 a b))

@@ -1,5 +1,5 @@
 -- The rows of a case, written one atom after the other.
-use Rattle.std.proofs.Common.{◌≡◌, ◌≢◌, ℕ, zero, suc, ◌+◌, ◌-◌, ◌*◌, ◌/◌, ◌%◌, ◌^◌, ◌<◌, ◌≤◌, Bool, true, false, ◌||◌, List, [], ◌∷◌, ◌++◌, length, map, get_or, Result, Ok, Err, refl, sym, ◌∙◌, ap, arith, append_assoc}
+use Rattle.std.proofs.Common.{◌≡◌, ◌≢◌, ℤ, pos, negsuc, Option, ℕ, zero, suc, ◌+◌, ◌-◌, ◌*◌, ◌/◌, ◌%◌, ◌^◌, ◌<◌, ◌≤◌, Bool, true, false, ◌||◌, List, [], ◌∷◌, ◌++◌, length, map, get_or, Result, Ok, Err, refl, sym, subst, ◌∙◌, ap, arith, append_assoc}
 use Rattle.std.specs.Prelude.{min, nat_lt}
 use Rattle.std.specs.List.{fold, list_any, range_with_len}
 use Rattle.std.proofs.lemmas.List.{append-nil}
@@ -8,21 +8,27 @@ use Rattle.std.proofs.lemmas.Nat.{pow_pos}
 use Rattle.cf_tree.specs.declared.base.Order.{Order}
 use Rattle.cf_tree.specs.declared.base.Order.TheVariants.{Eq, Ne, Lt, Le, Gt, Ge}
 use Rattle.cf_tree.specs.RelSize.{capped}
+use Rattle.cf_tree.specs.Relation.{is_fixed, IsDivisor}
 use Rattle.cf_tree.specs.RelTree.{RelTree, rel_true, rel_false, rel_compare, rel_same_set, rel_other_set, rel_subset, rel_divides, rel_and, rel_or, rel_not, TermTree, term_lit, term_var, term_card, term_neg, term_add, term_sub, term_mul, term_div, term_mod, term_abs}
 use Rattle.cf_linear.specs.declared.refusal.RowFault.{RowFault}
 use Rattle.cf_linear.specs.declared.refusal.RowFault.TheVariants.{Past, NoMemory}
-use Rattle.cf_linear.specs.Rows.{Row, row_passes}
+use Rattle.cf_linear.specs.Rows.{Row, put, comb, row_passes}
 use Rattle.cf_linear.specs.Parts.{Fails}
 use Rattle.cf_linear.specs.Matrices.{Matrix}
-use Rattle.cf_linear.specs.Layout.{Levels}
-use Rattle.cf_linear.specs.Written.{WrittenTree, first_sign, other_signs, signed_by, write, abs_count, quotient_count, guard_rows}
-use Rattle.cf_linear.specs.Cases.{atom_compare, plain_atom, plain, Signed, cases_of, case_count, no_rows, case_rows, matrix_of_case, AtomRows, compare_zero, compare_nonneg, guards_of, write_atom, rows_then, less}
-use Rattle.cf_linear.proofs.WritingLemmas.{write-next}
-use Rattle.cf_cases.specs.declared.case.Draft.{Draft}
-use Rattle.cf_cases.specs.Picking.{case_by}
-use Rattle.cf_cases.specs.Drafts.{rows_of, with_case, with_comparison, written_as, Drafts, first_matrix, HasOneCase, only_case}
+use Rattle.cf_linear.specs.Layout.{Levels, first_free}
+use Rattle.cf_linear.specs.Written.{product_by, GuardTree, sign_guard, quotient_guard, WrittenTree, constant_row, plus, above_quotient, below_quotient, first_sign, signed_by, write, IsPlaced, abs_count, guard_rows}
+use Rattle.cf_linear.specs.Cases.{atom_compare, Plain, plain_atom, plain, Signed, cases_of, case_count, no_rows, case_rows, matrix_of_case, AtomRows, compare_zero, compare_nonneg, guards_of, write_atom, rows_then, less}
+use Rattle.cf_linear.proofs.WritingLemmas.{next_positive, next_above}
+use Rattle.cf_cases.specs.declared.draft.Draft.{Draft}
+use Rattle.cf_cases.specs.Counts.{order_ways}
+use Rattle.cf_cases.specs.Holding.{EachOf}
+use Rattle.cf_cases.specs.Picking.{signs_at, case_by, way_at, joined, part_by}
+use Rattle.cf_cases.specs.Drafts.{rows_of, with_case, rows_more, with_rows, with_guards, IsFine, with_comparison, divided, false_rows, apart, region_rows, column_rows, NotPast, written_as, Drafts, first_matrix, HasOneCase, only_case}
 use Rattle.cf_cases.proofs.LessLaws.{fails_more}
 use Rattle.cf_cases.proofs.PickLaws.{case-by}
+use Rattle.cf_cases.proofs.PartLaws.{compare_by}
+use Rattle.cf_cases.proofs.Quantifiers.{each-append}
+use Rattle.cf_cases.proofs.SignLaws.{length-left, more, write-more}
 
 or_first : (a b : Bool) → a ≡ true → (a || b) ≡ true
 or_first a b e = rw e refl
@@ -32,37 +38,41 @@ or_second true b e = refl
 or_second false b e = e
 
 -- ---- a comparison
-signs_none : (b : Bool) (w : WrittenTree) → w.signs ≡ [] → (signed_by b w).signs ≡ []
-signs_none true w e = ap other_signs e
-signs_none false w e = ap other_signs e
+no_signs : (ss : List Bool) → length ss ≡ 0 → ss ≡ []
+no_signs [] e = refl
+no_signs (b ∷ ss) e = absurd (omega arith)
 
--- where there are no signs, none are left
-pub no_signs_left : (l : Levels) (t : TermTree) (q : ℕ) → (write l t [] q).signs ≡ []
-no_signs_left l (term_lit n) q = refl
-no_signs_left l (term_var x) q = refl
-no_signs_left l (term_card s) q = refl
-no_signs_left l (term_neg a) q = no_signs_left l a q
-no_signs_left l (term_add a b) q = let w = write l a [] q in rw (no_signs_left l a q) (no_signs_left l b w.next)
-no_signs_left l (term_sub a b) q = let w = write l a [] q in rw (no_signs_left l a q) (no_signs_left l b w.next)
-no_signs_left l (term_mul a b) q = let w = write l a [] q in rw (no_signs_left l a q) (no_signs_left l b w.next)
-no_signs_left l (term_div a k) q = no_signs_left l a q
-no_signs_left l (term_mod a k) q = no_signs_left l a q
-no_signs_left l (term_abs a) q = let w = write l a [] q in signs_none (first_sign w.signs) w (no_signs_left l a q)
+none_left : (l : Levels) (t : TermTree) (ss : List Bool) (q : ℕ) → length ss ≡ abs_count t → (write l t ss q).signs ≡ []
+none_left l t ss q e = no_signs (write l t ss q).signs (let h = length-left l t ss q (omega arith) in omega arith)
+
+-- the written form with signs for one more form
+with_more : (l : Levels) (t : TermTree) (xs ys : List Bool) (q : ℕ) → length xs ≡ abs_count t → write l t (xs ++ ys) q ≡ more (record { row = (write l t xs q).row; guards = (write l t xs q).guards; next = (write l t xs q).next; signs = []; passes = (write l t xs q).passes }) ys
+with_more l t xs ys q e = write-more l t xs ys q (omega arith) ∙ rw (none_left l t xs q e) refl
 
 -- the rows of a comparison after the written form of its left side
-pub comparison_is : (l : Levels) (a : AtomRows) (o : Order) (s t : TermTree) → a.passes ≡ false → (write l s [] a.next).passes ≡ false →
-    with_comparison a o (write l s [] a.next).row (write l s [] a.next).guards (write l t [] (write l s [] a.next).next) ≡ rows_then l a (atom_compare o s t, [])
+pub comparison_is : (l : Levels) (a : AtomRows) (o : Order) (s t : TermTree) (xs ys : List Bool) → length xs ≡ abs_count s → a.passes ≡ false → (write l s xs a.next).passes ≡ false →
+    with_comparison a o (write l s xs a.next).row (write l s xs a.next).guards (write l t ys (write l s xs a.next).next) ≡ rows_then l a (atom_compare o s t, xs ++ ys)
 unfolding write_atom
-comparison_is l a o s t e h = rw (no_signs_left l s a.next, e, h) refl
+comparison_is l a o s t xs ys n e h = rw (with_more l s xs ys a.next n, e, h) refl
 
-pub left_past : (l : Levels) (a : AtomRows) (o : Order) (s t : TermTree) (e : RowFault) → Fails (write l s [] a.next).passes e → Fails (rows_then l a (atom_compare o s t, [])).passes e
+pub left_past : (l : Levels) (a : AtomRows) (o : Order) (s t : TermTree) (xs ys : List Bool) (e : RowFault) → length xs ≡ abs_count s → Fails (write l s xs a.next).passes e → Fails (rows_then l a (atom_compare o s t, xs ++ ys)).passes e
 unfolding write_atom
-left_past l a o s t e f =
-    let w = write l s [] a.next in
+left_past l a o s t xs ys e n f =
+    let w = write l s (xs ++ ys) a.next in
     let u = write l t w.signs w.next in
-    fails_more e w.passes (a.passes || (w.passes || u.passes || list_any row_passes (compare_zero o w.row u.row ++ compare_nonneg o w.row u.row)))
+    let p : w.passes ≡ (write l s xs a.next).passes = ap (λ (v : WrittenTree). v.passes) (with_more l s xs ys a.next n) in
+    fails_more e (write l s xs a.next).passes (a.passes || (w.passes || u.passes || list_any row_passes (compare_zero o w.row u.row ++ compare_nonneg o w.row u.row)))
     (λ h. or_second a.passes (w.passes || u.passes || list_any row_passes (compare_zero o w.row u.row ++ compare_nonneg o w.row u.row))
-    (or_first (w.passes || u.passes) (list_any row_passes (compare_zero o w.row u.row ++ compare_nonneg o w.row u.row)) (or_first w.passes u.passes h))) f
+    (or_first (w.passes || u.passes) (list_any row_passes (compare_zero o w.row u.row ++ compare_nonneg o w.row u.row)) (or_first w.passes u.passes (p ∙ h)))) f
+
+-- the rows of a case of a comparison
+pub compare_case : (l : Levels) (a : AtomRows) (o : Order) (s t : TermTree) (i : ℕ) (w : Order) (ss : List Bool) → w ≡ way_at o i → ss ≡ signs_at (abs_count s + abs_count t) (i / order_ways o) →
+    rows_then l a (atom_compare w s t, ss) ≡ with_case l a (case_by (plain_atom (atom_compare o s t)) i)
+compare_case l a o s t i w ss e f = rw (compare_by o s t i, e, f) refl
+
+pub compare_gives : (l : Levels) (a : AtomRows) (o : Order) (s t : TermTree) (i : ℕ) (w : Order) (ss : List Bool) (n : ℕ) (d : Draft) (y : Result (Unit {0}) RowFault) → w ≡ way_at o i → n ≡ order_ways o → ss ≡ signs_at (abs_count s + abs_count t) (i / n) →
+    Drafts (rows_then l a (atom_compare w s t, ss)) d y → Drafts (with_case l a (case_by (plain_atom (atom_compare o s t)) i)) d y
+compare_gives l a o s t i w ss n d y e g f h = subst (λ (x : AtomRows). Drafts x d y) (compare_case l a o s t i w ss e (f ∙ ap (λ m. signs_at (abs_count s + abs_count t) (i / m)) g)) h
 
 pub right_is : (a : AtomRows) (o : Order) (r : Row) (w u : WrittenTree) → u.passes ≡ false → with_comparison a o r w.guards (written_as u.row u.guards u.next) ≡ with_comparison a o r w.guards u
 right_is a o r w u e = rw e refl
@@ -84,6 +94,62 @@ pub second_part : (l : Levels) (c d : List Signed) (old mid new : Draft) (y : Re
 second_part l c d old mid new (Ok u) e h = h ∙ ap (λ a. with_case l a d) e ∙ sym (with_both l (rows_of old) c d)
 second_part l c d old mid new (Err Past) e h = rw (with_both l (rows_of old) c d, ← e) h
 second_part l c d old mid new (Err NoMemory) e h = tt
+
+-- the draft after both parts
+module _ (l : Levels) (b : Bool) (p q : Plain) (i : ℕ) (f s : Option ℕ) (whole : case_by (joined b p q) i ≡ part_by p f ++ part_by q s) (old : Draft) where
+  pub parts_give : (mid new : Draft) (y : Result (Unit {0}) RowFault) → rows_of mid ≡ with_case l (rows_of old) (part_by p f) → Drafts (with_case l (rows_of mid) (part_by q s)) new y → Drafts (with_case l (rows_of old) (case_by (joined b p q) i)) new y
+  parts_give mid new y e h = rw whole (second_part l (part_by p f) (part_by q s) old mid new y e h)
+
+  pub parts_fail : (e : RowFault) → Fails (with_case l (rows_of old) (part_by p f)).passes e → Fails (with_case l (rows_of old) (case_by (joined b p q) i)).passes e
+  parts_fail e h = rw whole (first_part_fails l (rows_of old) (part_by p f) (part_by q s) e h)
+
+-- ---- guards
+both_false : (a b : Bool) → (a || b) ≡ false → (a ≡ false) × (b ≡ false)
+both_false true b e = cc
+both_false false b e = (refl, e)
+
+fine_quotient : (w : WrittenTree) (k : ℤ) → 1 ≤ w.next → IsDivisor k → (w.passes ≡ false → EachOf IsFine w.guards) → (w.passes || row_passes (above_quotient w.next w.row k) || row_passes (below_quotient w.next w.row k)) ≡ false →
+    EachOf IsFine (w.guards ++ (quotient_guard w.next w.row k ∷ []))
+fine_quotient w k c d g h =
+    let p = both_false (w.passes || row_passes (above_quotient w.next w.row k)) (row_passes (below_quotient w.next w.row k)) h in
+    let q = both_false w.passes (row_passes (above_quotient w.next w.row k)) p.0 in
+    each-append IsFine w.guards (quotient_guard w.next w.row k ∷ []) (g q.0) ((c, d, q.1, p.1), tt)
+
+fine_sign : (b : Bool) (w : WrittenTree) → (w.passes ≡ false → EachOf IsFine w.guards) → (signed_by b w).passes ≡ false → EachOf IsFine (signed_by b w).guards
+fine_sign true w g h =
+    each-append IsFine w.guards (sign_guard (plus (comb (negsuc 0) w.row (pos 0) []) (negsuc 0)) ∷ []) (g (both_false w.passes (row_passes (plus (comb (negsuc 0) w.row (pos 0) []) (negsuc 0))) h).0) (tt, tt)
+fine_sign false w g h = each-append IsFine w.guards (sign_guard w.row ∷ []) (g h) (tt, tt)
+
+fine_two : (w u : WrittenTree) (r : Row) → (w.passes ≡ false → EachOf IsFine w.guards) → (u.passes ≡ false → EachOf IsFine u.guards) → (w.passes || u.passes || row_passes r) ≡ false → EachOf IsFine (w.guards ++ u.guards)
+fine_two w u r f g h =
+    let p = both_false w.passes u.passes (both_false (w.passes || u.passes) (row_passes r) h).0 in
+    each-append IsFine w.guards u.guards (f p.0) (g p.1)
+
+-- no guard row of a written form that fits passes the limit
+pub guards_fine : (l : Levels) (t : TermTree) (ss : List Bool) (q : ℕ) → IsPlaced l t → first_free l ≤ q → (write l t ss q).passes ≡ false → EachOf IsFine (write l t ss q).guards
+guards_fine l (term_lit n) ss q p h e = tt
+guards_fine l (term_var x) ss q p h e = tt
+guards_fine l (term_card s) ss q p h e = tt
+guards_fine l (term_neg a) ss q p h e = let w = write l a ss q in guards_fine l a ss q p h (both_false w.passes (row_passes (comb (negsuc 0) w.row (pos 0) [])) e).0
+guards_fine l (term_add a b) ss q p h e =
+    let w = write l a ss q in
+    let u = write l b w.signs w.next in
+    fine_two w u (comb (pos 1) w.row (pos 1) u.row) (guards_fine l a ss q p.0 h) (guards_fine l b w.signs w.next p.1 (next_above l a ss q w.next h refl)) e
+guards_fine l (term_sub a b) ss q p h e =
+    let w = write l a ss q in
+    let u = write l b w.signs w.next in
+    fine_two w u (comb (pos 1) w.row (negsuc 0) u.row) (guards_fine l a ss q p.0 h) (guards_fine l b w.signs w.next p.1 (next_above l a ss q w.next h refl)) e
+guards_fine l (term_mul a b) ss q p h e =
+    let w = write l a ss q in
+    let u = write l b w.signs w.next in
+    fine_two w u (product_by (is_fixed a) w.row u.row) (guards_fine l a ss q p.0 h) (guards_fine l b w.signs w.next p.1 (next_above l a ss q w.next h refl)) e
+guards_fine l (term_div a k) ss q p h e =
+    let w = write l a ss q in
+    fine_quotient w k (next_positive l a ss q w.next h refl) p.1 (guards_fine l a ss q p.0 h) e
+guards_fine l (term_mod a k) ss q p h e =
+    let w = write l a ss q in
+    fine_quotient w k (next_positive l a ss q w.next h refl) p.1 (guards_fine l a ss q p.0 h) e
+guards_fine l (term_abs a) ss q p h e = let w = write l a ss q in fine_sign (first_sign w.signs) w (guards_fine l a ss q p h) e
 
 -- ---- columns
 pub range_more : (a n : ℕ) → range_with_len a (n + 1) ≡ range_with_len a n ++ ((a + n) ∷ [])
@@ -183,22 +249,20 @@ fails_from Past b h = h refl
 fails_from NoMemory b h = tt
 
 -- ---- the first matrix
-pub matrix_is : (l : Levels) (r : RelTree) (i : ℕ) (start done : AtomRows) (m : Matrix) → start ≡ no_rows l → done ≡ with_case l start (only_case r) → m ≡ first_matrix l done →
-    case_count (plain true r) ≡ 1 → i < case_count (plain true r) → m ≡ matrix_of_case l (get_or (cases_of (plain true r)) i [])
+pub matrix_is : (l : Levels) (p : Plain) (i : ℕ) (start done : AtomRows) (m : Matrix) → start ≡ no_rows l → done ≡ with_case l start (case_by p i) → m ≡ first_matrix l done → i < case_count p →
+    m ≡ matrix_of_case l (get_or (cases_of p) i [])
 unfolding matrix_of_case
-matrix_is l r i start done m s d e n h = e ∙ ap (first_matrix l) (d ∙ ap (λ a. with_case l a (only_case r)) s ∙ ap (with_case l (no_rows l)) (sym (case_is r i n h)))
+matrix_is l p i start done m s d e h = e ∙ ap (first_matrix l) (d ∙ ap (λ a. with_case l a (case_by p i)) s ∙ ap (with_case l (no_rows l)) (sym (case-by p i h)))
 
-pub fits_is : (l : Levels) (r : RelTree) (i : ℕ) (start done : AtomRows) → start ≡ no_rows l → done ≡ with_case l start (only_case r) → done.passes ≡ false →
-    case_count (plain true r) ≡ 1 → i < case_count (plain true r) → (case_rows l (get_or (cases_of (plain true r)) i [])).passes ≡ false
-fits_is l r i start done s d f n h =
-    let e = d ∙ ap (λ a. with_case l a (only_case r)) s ∙ ap (with_case l (no_rows l)) (sym (case_is r i n h)) in
+pub fits_is : (l : Levels) (p : Plain) (i : ℕ) (start done : AtomRows) → start ≡ no_rows l → done ≡ with_case l start (case_by p i) → done.passes ≡ false → i < case_count p → (case_rows l (get_or (cases_of p) i [])).passes ≡ false
+fits_is l p i start done s d f h =
+    let e = d ∙ ap (λ a. with_case l a (case_by p i)) s ∙ ap (with_case l (no_rows l)) (sym (case-by p i h)) in
     sym (ap (λ (a : AtomRows). a.passes) e) ∙ f
 
-pub past_is : (l : Levels) (r : RelTree) (i : ℕ) (start : AtomRows) (e : RowFault) → start ≡ no_rows l → Fails (with_case l start (only_case r)).passes e → case_count (plain true r) ≡ 1 → i < case_count (plain true r) →
-    e ≡ Past → (case_rows l (get_or (cases_of (plain true r)) i [])).passes ≡ true
-past_is l r i start Past s f n h p =
-    sym (ap (λ (a : AtomRows). a.passes) (ap (λ a. with_case l a (only_case r)) s ∙ ap (with_case l (no_rows l)) (sym (case_is r i n h)))) ∙ f
-past_is l r i start NoMemory s f n h p = cc
+pub past_is : (l : Levels) (p : Plain) (i : ℕ) (start : AtomRows) (e : RowFault) → start ≡ no_rows l → Fails (with_case l start (case_by p i)).passes e → i < case_count p → e ≡ Past →
+    (case_rows l (get_or (cases_of p) i [])).passes ≡ true
+past_is l p i start Past s f h q = sym (ap (λ (a : AtomRows). a.passes) (ap (λ a. with_case l a (case_by p i)) s ∙ ap (with_case l (no_rows l)) (sym (case-by p i h)))) ∙ f
+past_is l p i start NoMemory s f h q = cc
 
 pub fault_is : {T : Type 0} (e : RowFault) → ◌≡◌ {A = Result T RowFault} (Err e) (Err Past) → e ≡ Past
 fault_is e h = cc

@@ -11,6 +11,8 @@ pub mod AgreeLaws
 pub mod CountLaws
 pub mod SignLaws
 pub mod PickLaws
+pub mod PartLaws
+pub mod AddLaws
 pub mod FormedLaws
 pub mod PlacedLaws
 pub mod LessLaws

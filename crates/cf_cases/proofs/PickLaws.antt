@@ -98,7 +98,7 @@ length-atom_cases a =
     flat_length (ways_with a) (length (atom_ways a)) (sign_choices (atom_signs a)) (way_lengths a (sign_choices (atom_signs a)))
     ∙ rw (length-choices (atom_signs a)) (omega arith)
 
-below_div : (i n m : ℕ) → 1 ≤ n → i < n * m → i / n < m
+pub below_div : (i n m : ℕ) → 1 ≤ n → i < n * m → i / n < m
 below_div i zero m h k = absurd (omega arith)
 below_div i (suc n) m h k = (div-lt_iff_lt-mul {k = suc n} {x = i} {y = m} (omega arith)).1 (omega arith)
 

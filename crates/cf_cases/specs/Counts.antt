@@ -1,8 +1,12 @@
 -- How the numbers of cases of parts come together.
-use Rattle.std.specs.Prelude.{ℕ, ◌+◌, ◌*◌, Bool, true, false}
+use Rattle.std.specs.Prelude.{ℕ, ◌+◌, ◌-◌, ◌*◌, ◌^◌, min, Bool, true, false}
 use Rattle.cf_tree.specs.declared.base.Order.{Order}
 use Rattle.cf_tree.specs.declared.base.Order.TheVariants.{Eq, Ne, Lt, Le, Gt, Ge}
 use Rattle.cf_linear.specs.Cases.{opposite}
+
+-- at most 2 ^ 128 - 1
+abbrev pub wide : ℕ → ℕ
+wide n = min n (2 ^ 128 - 1)
 
 -- the order, where `holds` is true, or the opposite one
 abbrev pub order_as : Bool → Order → Order

@@ -1,17 +1,18 @@
 -- The rows of a case that are written so far.
-use Rattle.std.specs.Prelude.{◌≡◌, ◌≢◌, ℕ, ◌+◌, ◌-◌, pos, true, false, ◌||◌, List, [], ◌∷◌, ◌++◌, map, length, Result, Ok, Err}
+use Rattle.std.specs.Prelude.{◌≡◌, ◌≢◌, ℕ, ◌+◌, ◌-◌, ◌≤◌, ℤ, pos, negsuc, Bool, true, false, ◌||◌, List, [], ◌∷◌, ◌++◌, map, length, Result, Ok, Err}
 use Rattle.std.specs.List.{fold, list_any, range_with_len, flat_map}
 use Rattle.cf_tree.specs.declared.base.Order.{Order}
 use Rattle.cf_tree.specs.declared.base.Order.TheVariants.{Ne}
-use Rattle.cf_tree.specs.RelTree.{RelTree, rel_true, rel_false, rel_compare, rel_same_set, rel_other_set, rel_subset, rel_divides, rel_and, rel_or, rel_not}
+use Rattle.cf_tree.specs.Relation.{IsDivisor}
+use Rattle.cf_tree.specs.RelTree.{SetTree, union_of, diff_of, RelTree, rel_true, rel_false, rel_compare, rel_same_set, rel_other_set, rel_subset, rel_divides, rel_and, rel_or, rel_not}
 use Rattle.cf_linear.specs.declared.refusal.RowFault.{RowFault}
 use Rattle.cf_linear.specs.Rows.{Row, put, row_passes}
 use Rattle.cf_linear.specs.Parts.{Fails}
 use Rattle.cf_linear.specs.Matrices.{Matrix}
 use Rattle.cf_linear.specs.Layout.{Levels, masks, set_count, known_count, region_column}
-use Rattle.cf_linear.specs.Written.{WrittenTree, GuardTree, guard_rows, abs_count, quotient_count}
-use Rattle.cf_linear.specs.Cases.{atom_compare, AtomRows, Signed, plain, case_count, rows_then, compare_zero, compare_nonneg, guards_of, input_row}
-use Rattle.cf_cases.specs.declared.case.Draft.{Draft}
+use Rattle.cf_linear.specs.Written.{constant_row, WrittenTree, GuardTree, sign_guard, quotient_guard, plus, above_quotient, below_quotient, guard_rows, abs_count, quotient_count}
+use Rattle.cf_linear.specs.Cases.{atom_compare, AtomRows, Signed, plain, case_count, atom_rows, rows_then, compare_zero, compare_nonneg, guards_of, in_first, in_one, none_rows, some_row, input_row}
+use Rattle.cf_cases.specs.declared.draft.Draft.{Draft}
 use Rattle.cf_cases.specs.Picking.{case_by}
 
 abbrev pub rows_of : Draft → AtomRows
@@ -20,6 +21,23 @@ rows_of d = record { equations = d.equations.items; inequalities = d.inequalitie
 -- the rows with those of more atoms
 abbrev pub with_case : Levels → AtomRows → List Signed → AtomRows
 with_case l a c = fold (rows_then l) a c
+
+-- the rows a and then the rows b
+abbrev pub rows_more : AtomRows → AtomRows → AtomRows
+rows_more a b = record { equations = a.equations ++ b.equations; inequalities = a.inequalities ++ b.inequalities; next = b.next; passes = a.passes || b.passes }
+
+-- the rows with these equations and inequalities
+abbrev pub with_rows : AtomRows → List Row → List Row → AtomRows
+with_rows a es is = record { equations = a.equations ++ es; inequalities = a.inequalities ++ is; next = a.next; passes = a.passes || list_any row_passes (es ++ is) }
+
+-- the rows with those of guards of which no row passes the limit
+abbrev pub with_guards : AtomRows → List GuardTree → AtomRows
+with_guards a gs = record { equations = a.equations; inequalities = a.inequalities ++ flat_map guard_rows gs; next = a.next; passes = a.passes }
+
+-- no row of the guard passes the limit
+abbrev pub IsFine : GuardTree → Type 0
+IsFine (sign_guard r) = Unit {0}
+IsFine (quotient_guard c r k) = (1 ≤ c) × IsDivisor k × (row_passes (above_quotient c r k) ≡ false) × (row_passes (below_quotient c r k) ≡ false)
 
 -- a written form of which no row passes the limit
 abbrev pub written_as : Row → List GuardTree → ℕ → WrittenTree
@@ -34,21 +52,65 @@ with_comparison a o r gs u = record {
   passes = u.passes || list_any row_passes (compare_zero o r u.row ++ compare_nonneg o r u.row);
 }
 
+-- the rows of the atom that k divides the written form w, where `holds` is true, or that it does not
+abbrev pub divided : Bool → ℤ → WrittenTree → AtomRows
+divided true k w = atom_rows (guards_of w) (above_quotient w.next w.row k ∷ []) [] (w.next + 1) w.passes
+divided false k w = atom_rows (guards_of w) [] (plus (above_quotient w.next w.row k) (negsuc 0) ∷ below_quotient w.next w.row k ∷ []) (w.next + 1) w.passes
+
+-- the rows of true, or of false
+abbrev pub false_rows : Bool → List Row
+false_rows true = []
+false_rows false = constant_row (negsuc 0) ∷ []
+
+-- the regions in exactly one of two set forms, where `either` is true, or those in the first and not in the second
+abbrev pub apart : Bool → Levels → SetTree → SetTree → ℕ → Bool
+apart true l a b = in_one l a b
+apart false l a b = in_first l a b
+
+-- the set form of what lies in these regions
+abbrev pub apart_form : Bool → SetTree → SetTree → SetTree
+apart_form true a b = union_of (diff_of a b) (diff_of b a)
+apart_form false a b = diff_of a b
+
+-- the entry 1 at the column, if it is wanted
+abbrev pub entries_if : Bool → ℕ → Row
+entries_if true c = (c, pos 1) ∷ []
+entries_if false c = []
+
+-- each region that passes is empty, where `empty` is true, or some of them is not
+abbrev pub region_rows : Bool → AtomRows → Levels → (ℕ → Bool) → AtomRows
+region_rows true a l p = with_rows a (none_rows l p) []
+region_rows false a l p = with_rows a [] (some_row l p ∷ [])
+
+-- of each column of the row, the row of the column alone
+abbrev pub column_rows : Row → List Row
+column_rows r = map (λ e. put e.0 (pos 1) []) r
+
+-- any answer but Past
+abbrev pub NotPast : Result Row RowFault → Type 0
+NotPast (Ok r) = Unit {0}
+NotPast (Err e) = Fails false e
+
 -- the draft holds the rows, or Past where one of them passes the limit
 abbrev pub Drafts : AtomRows → Draft → Result (Unit {0}) RowFault → Type 0
 Drafts a d (Ok u) = rows_of d ≡ a
 Drafts a d (Err e) = Fails a.passes e
 
--- the first matrix of these rows
-abbrev pub first_matrix : Levels → AtomRows → Matrix
-first_matrix l a = record {
+-- the matrix of these rows before any step
+abbrev pub matrix_with : Levels → ℕ → List Row → List Row → Matrix
+matrix_with l next es is = record {
   known = range_with_len 0 (known_count l);
-  unknown = range_with_len (known_count l) (a.next - known_count l);
-  next = a.next;
-  equations = a.equations ++ map (input_row l) (masks (length l.inputs));
-  inequalities = a.inequalities ++ map (λ m. put (region_column l m) (pos 1) []) (masks (set_count l));
+  unknown = range_with_len (known_count l) (next - known_count l);
+  next = next;
+  equations = es;
+  inequalities = is;
   needs = 0;
 }
+
+-- the first matrix of these rows
+abbrev pub first_matrix : Levels → AtomRows → Matrix
+first_matrix l a =
+    matrix_with l a.next (a.equations ++ map (input_row l) (masks (length l.inputs))) (a.inequalities ++ map (λ m. put (region_column l m) (pos 1) []) (masks (set_count l)))
 
 -- ---- relations of one case
 -- a conjunction whose parts have one case

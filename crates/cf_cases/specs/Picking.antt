@@ -1,5 +1,7 @@
 -- Which case has an index.
-use Rattle.std.specs.Prelude.{ℕ, zero, suc, ◌-◌, ◌^◌, ◌/◌, ◌%◌, nat_lt, Bool, true, false, List, [], ◌∷◌, ◌++◌, length, get_or, if◌then◌else◌}
+use Rattle.std.specs.Prelude.{ℕ, zero, suc, ◌-◌, ◌^◌, ◌<◌, ◌/◌, ◌%◌, ◌==◌, nat_lt, Bool, true, false, List, [], ◌∷◌, ◌++◌, length, get_or, Option, Some, None, if◌then◌else◌}
+use Rattle.cf_tree.specs.declared.base.Order.{Order}
+use Rattle.cf_tree.specs.declared.base.Order.TheVariants.{Eq, Ne, Lt, Le, Gt, Ge}
 use Rattle.cf_linear.specs.Cases.{Atom, Plain, plain_atom, plain_and, plain_or, Signed, atom_signs, atom_ways, case_count}
 
 -- the choice with this index of the choices of n signs
@@ -16,3 +18,33 @@ unfoldable pub case_by : Plain → ℕ → List Signed
 case_by (plain_atom a) i = atom_at a i ∷ []
 case_by (plain_and p q) i = case_by p (i / case_count q) ++ case_by q (i % case_count q)
 case_by (plain_or p q) i = (if nat_lt i (case_count p) then case_by p i else case_by q (i - case_count p))
+
+-- ---- parts
+-- the order that stands for this one in the case with this index
+abbrev pub way_at : Order → ℕ → Order
+way_at Ne i = (if i % 2 == 0 then Lt else Gt)
+way_at Eq i = Eq
+way_at Lt i = Lt
+way_at Le i = Le
+way_at Gt i = Gt
+way_at Ge i = Ge
+
+-- both parts, or either
+abbrev pub joined : Bool → Plain → Plain → Plain
+joined true p q = plain_and p q
+joined false p q = plain_or p q
+
+-- the indices of the cases of a left part with m and of a right part with n cases that make up the case with this index of both, or of either
+abbrev pub parts_at : Bool → ℕ → ℕ → ℕ → Option ℕ × Option ℕ
+parts_at true m n i = (Some (i / n), Some (i % n))
+parts_at false m n i = (if nat_lt i m then (Some i, None) else (None, Some (i - m)))
+
+-- the atoms of the case with this index, if any
+abbrev pub part_by : Plain → Option ℕ → List Signed
+part_by p None = []
+part_by p (Some i) = case_by p i
+
+-- an index of a case
+abbrev pub IsIndex : Plain → Option ℕ → Type 0
+IsIndex p None = Unit {0}
+IsIndex p (Some i) = (i < case_count p) × (i < 2 ^ 64)

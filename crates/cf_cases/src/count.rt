@@ -1,10 +1,10 @@
 //! How many cases a relation has.
-ghost use Rattle.std.specs.Prelude.{◌≡◌, ◌+◌, ◌*◌, ◌^◌, length, true};
+ghost use Rattle.std.specs.Prelude.{◌≡◌, ◌≤◌, ◌+◌, ◌*◌, ◌^◌, true};
 ghost use Rattle.cf_tree.specs.RelSize.{capped};
 ghost use Rattle.cf_tree.specs.RelView.{term_tree, rel_tree};
 ghost use Rattle.cf_linear.specs.Written.{abs_count};
 ghost use Rattle.cf_linear.specs.Cases.{plain, case_count};
-ghost use Rattle.cf_cases.specs.Counts.{order_as, order_ways, both_or_either};
+ghost use Rattle.cf_cases.specs.Counts.{wide, order_as, order_ways, both_or_either};
 
 use cf_tree::base::Order;
 use cf_tree::rel::{Rel, Term};
@@ -13,12 +13,17 @@ use cf_tree::rel::{Rel, Term};
 pub fn count(rel: &Rel) -> u64
     ensures { result ≡ capped (case_count (plain true (rel_tree rel.now))) }
 {
-    count_as(rel, true)
+    let n = count_as(rel, true);
+    if n < u64::MAX as u128 {
+        n as u64
+    } else {
+        u64::MAX
+    }
 }
 
-// The same of the relation, where `holds`, or of its negation.
-pub(crate) fn count_as(rel: &Rel, holds: bool) -> u64
-    ensures { result ≡ capped (case_count (plain holds (rel_tree rel.now))) }
+// The same of the relation, where `holds`, or of its negation, or `2^128 - 1` where there are more.
+pub(crate) fn count_as(rel: &Rel, holds: bool) -> u128
+    ensures { result ≡ wide (case_count (plain holds (rel_tree rel.now))) }
 {
     match rel {
         Rel::True => 1,
@@ -39,8 +44,8 @@ pub(crate) fn count_as(rel: &Rel, holds: bool) -> u64
 }
 
 // The product, where `both`, or the sum.
-fn both_or_either(both: bool, a: u64, b: u64) -> u64
-    ensures { result ≡ capped (both_or_either both a b) }
+fn both_or_either(both: bool, a: u128, b: u128) -> u128
+    ensures { result ≡ wide (both_or_either both a b) }
 {
     if both {
         a.saturating_mul(b)
@@ -50,8 +55,8 @@ fn both_or_either(both: bool, a: u64, b: u64) -> u64
 }
 
 // The number of choices of signs for the forms `abs`.
-pub(crate) fn choices(term: &Term) -> u64
-    ensures { result ≡ capped (2 ^ abs_count (term_tree term.now)) }
+fn choices(term: &Term) -> u128
+    ensures { result ≡ wide (2 ^ abs_count (term_tree term.now)) }
 {
     match term {
         Term::Lit(_) | Term::Var(_) | Term::Card(_) => 1,
@@ -81,8 +86,9 @@ pub(crate) fn order_as(order: Order, holds: bool) -> Order
 }
 
 // How many orders stand for an order.
-fn order_ways(order: Order) -> u64
-    ensures { result ≡ order_ways order }
+pub(crate) fn order_ways(order: Order) -> u128
+    ensures ways { result ≡ order_ways order }
+    ensures some { 1 ≤ result }
 {
     match order {
         Order::Ne => 2,

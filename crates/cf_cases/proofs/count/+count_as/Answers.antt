@@ -1,7 +1,6 @@
 use Rattle.std.proofs.Common.{ap, ◌∙◌}
-use Rattle.cf_tree.specs.RelSize.{capped}
 use Rattle.cf_tree.specs.RelView.{term_tree, rel_tree}
-use Rattle.cf_cases.specs.Counts.{order_ways}
+use Rattle.cf_cases.specs.Counts.{wide, order_ways}
 use Rattle.cf_cases.proofs.CountLaws.{true_count, false_count, same_count, other_count, subset_count, compare_count, divides_count, and_count, or_count}
 use Rattle.cf_cases.proofs.count.+count_as.Goals as goal
 
@@ -23,12 +22,12 @@ returns-in-Subset t c = rw c.in-Subset.is (subset_count c.args.holds _ _)
 pub returns-in-Compare : goal.returns-in-Compare
 returns-in-Compare t c =
     rw c.in-Compare.is (compare_count c.args.holds c.in-Compare.order (term_tree c.in-Compare.left.value) (term_tree c.in-Compare.right.value) _ _ _ _ _
-    (c.order_ways-ways.ensures ∙ ap order_ways c.order_as.ensures) (rw c.deref.ensures at c.choices.ensures) (rw c.deref-in-Compare.ensures at c.choices-in-Compare.ensures) c.saturating_mul-signs.ensures c.saturating_mul.ensures)
+    (c.order_ways-ways.ensures.ways ∙ ap order_ways c.order_as.ensures) (rw c.deref.ensures at c.choices.ensures) (rw c.deref-in-Compare.ensures at c.choices-in-Compare.ensures) c.saturating_mul-signs.ensures c.saturating_mul.ensures)
 
 pub returns-in-Divides : goal.returns-in-Divides
 returns-in-Divides t c =
     let e = rw c.deref-in-Divides.ensures at c.choices-in-Divides.ensures in
-    rw c.in-Divides.is (e ∙ ap capped (divides_count c.args.holds c.in-Divides.k (term_tree c.in-Divides.of.value)))
+    rw c.in-Divides.is (e ∙ ap wide (divides_count c.args.holds c.in-Divides.k (term_tree c.in-Divides.of.value)))
 
 pub returns-in-And : goal.returns-in-And
 returns-in-And t c =

@@ -1,6 +1,6 @@
 use Rattle.std.proofs.Common.{pos, negsuc}
 use Rattle.cf_linear.proofs.PassingLemmas.{gives_row, only_units, one, minus_one}
-use Rattle.cf_cases.proofs.case.less.Goals as goal
+use Rattle.cf_cases.proofs.draft.less.Goals as goal
 
 pub returns-clause-gives : goal.returns-clause-gives
 returns-clause-gives c =

@@ -6,7 +6,7 @@ use Rattle.cf_linear.specs.Written.{plus}
 use Rattle.cf_linear.specs.Cases.{less}
 use Rattle.cf_linear.proofs.PassingLemmas.{true_not_false}
 use Rattle.cf_cases.proofs.LessLaws.{lower_not, less-plus, less_past, fails_more}
-use Rattle.cf_cases.proofs.case.less_one.Goals as goal
+use Rattle.cf_cases.proofs.draft.less_one.Goals as goal
 
 pub returns-in-Ok : goal.returns-in-Ok
 returns-in-Ok c = rw (c.in-Ok.ensures.0, less-plus c.args.left.now c.args.right.now c.entry.ensures.is_row.0 c.less.ensures.rows.1.0) at c.less.ensures.gives
