@@ -16,10 +16,11 @@ use Rattle.cf_choose.specs.CaseArms.{IsFlat, IsArmOf}
 use Rattle.cf_cases.specs.Holding.{EachOf}
 use Rattle.cf_choose.specs.CaseLaws.{AreCases}
 use Rattle.cf_choose.specs.Eliminations.{IsCaseDone, made, later_refusal, count_refusal}
-use Rattle.cf_choose.specs.Solved.{AreSolved}
+use Rattle.cf_choose.specs.Solved.{ArmsSolve}
 use Rattle.cf_choose.proofs.ArmLemmas.{solved_arm}
 use Rattle.cf_choose.proofs.FlatLevels.{IsFirst, first_matrix, outputs_count}
 use Rattle.cf_choose.proofs.JoinLemmas.{arms_solve, arms_typed, arms_shallow, arms_spelled}
+use Rattle.cf_choose.proofs.SomeCases.{has_arms}
 
 done_arm : (scope outputs : List Base) (l : Levels) (m : Matrix) → IsFlat scope outputs l → IsFirst l m → IsCaseDone l m → IsArmOf scope outputs l m (arm_of_case limits l m)
 done_arm scope outputs l m flat f d =
@@ -37,11 +38,12 @@ each_arm scope outputs l rel flat d = each_done scope outputs l flat (cases_of (
 
 -- the arms of all cases solve the relation
 pub all_solved : (scope outputs : List Base) (l : Levels) (rel : RelTree) (trees : List ArmTree) → IsFlat scope outputs l → AreCases scope outputs rel l → EachOf (IsCaseDone l) (matrices l rel) →
-    trees ≡ map (arm_of_case limits l) (matrices l rel) → AreSolved scope outputs rel (arms_of trees)
+    trees ≡ map (arm_of_case limits l) (matrices l rel) → ArmsSolve scope outputs rel (arms_of trees)
 all_solved scope outputs l rel trees flat cases d e =
     let each = each_arm scope outputs l rel flat d in
     let count = outputs_count scope outputs l flat in
     rw e (record {
+      some = has_arms l rel (arm_of_case limits l);
       solves = arms_solve scope outputs rel l count (arm_of_case limits l) cases each;
       typed = arms_typed scope outputs rel l count (arm_of_case limits l) (matrices l rel) each;
       shallow = arms_shallow scope outputs rel l count (arm_of_case limits l) (matrices l rel) each;

@@ -1,6 +1,7 @@
 pub mod ArmLemmas
 pub mod CaseLemmas
 pub mod ColumnNames
+pub mod Examples
 pub mod DoneLemmas
 pub mod FlatArms
 pub mod FlatLevels
@@ -8,11 +9,13 @@ pub mod ItemLemmas
 pub mod JoinLemmas
 pub mod LevelLemmas
 pub mod MakingLemmas
+pub mod MovedRows
 pub mod NameLemmas
 pub mod OnWay
 pub mod RelationCases
 pub mod RowCodes
 pub mod SameLemmas
+pub mod SomeCases
 pub mod StepLemmas
 pub mod SystemLaws
 pub mod TupleLaws

@@ -19,7 +19,7 @@ use Rattle.cf_choose.specs.declared.fault.ChooseFault.{ChooseFault}
 use Rattle.cf_choose.specs.declared.fault.ChooseFault.TheVariants.{Refused, NoMemory}
 use Rattle.cf_cases.specs.Holding.{EachOf}
 use Rattle.cf_choose.specs.Eliminations.{IsReady, IsCaseDone, CaseIs, CasesAre, CountIs, ArmsAre, count_refusal, IsNumbers}
-use Rattle.cf_choose.specs.Solved.{AreSolved, IsOutput, Tells}
+use Rattle.cf_choose.specs.Solved.{ArmsSolve, IsOutput, Tells}
 use Rattle.cf_choose.proofs.CaseLemmas.{all_solved, no_limit, refused_by_count, refused_here, refused_after, refused_later}
 use Rattle.cf_choose.proofs.DoneLemmas.{rest_of, rest_more, flat_layout}
 use Rattle.cf_choose.proofs.RelationCases.{are_cases}
@@ -64,7 +64,7 @@ cases_refused l all before left x arms (Refused r) e h w = way_refused l all bef
 cases_refused l all before left x arms NoMemory e h w = tt
 
 module _ (scope outputs : List Base) (rel : RelTree) (lay : Layout) (same : plain_levels lay ≡ levels_of scope outputs rel) (outs : All IsOutput outputs) (counts : count_refusal (plain_levels lay) rel ≡ None) where
-  pub solve_ok : IsTyped (scope ++ outputs) rel → IsLinear rel → IsNumbers lay → (v : Vec Arm Global) → ArmsAre (plain_levels lay) rel (Ok v) → AreSolved scope outputs rel (arm_trees v.items)
+  pub solve_ok : IsTyped (scope ++ outputs) rel → IsLinear rel → IsNumbers lay → (v : Vec Arm Global) → ArmsAre (plain_levels lay) rel (Ok v) → ArmsSolve scope outputs rel (arm_trees v.items)
   solve_ok typed linear numbers v a =
       let flat = flat_layout lay scope outputs rel same outs numbers in
       all_solved scope outputs (plain_levels lay) rel (map arm_tree v.items) flat (are_cases scope outputs rel (plain_levels lay) flat typed linear same) a.1 a.2

@@ -1,10 +1,11 @@
--- The systems of a relation that is one case without quotients.
-use Rattle.std.proofs.Common.{◌≡◌, ◌≢◌, ℕ, zero, suc, ◌+◌, ◌-◌, ◌<◌, ◌≤◌, ◌^◌, Bool, true, false, ◌||◌, List, [], ◌∷◌, length, map, get_or, Result, Ok, Err, Vec, ⊎_elim, subst, refl, sym, ◌∙◌, ap, arith}
-use Rattle.std.specs.List.{fold, list_any, range_with_len}
-use Rattle.std.proofs.lemmas.List.Folds.{list_any-append}
+-- The systems of the cases of a relation.
+use Rattle.std.proofs.Common.{◌≡◌, inl, ℕ, zero, suc, ◌+◌, ◌-◌, ◌*◌, ◌<◌, ◌≤◌, ◌^◌, Bool, true, false, ◌||◌, List, [], ◌∷◌, ◌++◌, length, map, take, get_or, Result, Ok, Err, Vec, ⊎_elim, subst, refl, sym, ◌∙◌, ap, arith}
+use Rattle.std.specs.List.{fold, flat_map, list_any, range_with_len}
 use Rattle.std.specs.Global.{Global}
-use Rattle.cf_tree.specs.declared.base.Order.{Order}
-use Rattle.cf_tree.specs.declared.base.Order.TheVariants.{Eq, Ne, Lt, Le, Gt, Ge}
+use Rattle.std.proofs.lemmas.Bool.{or_from}
+use Rattle.std.proofs.lemmas.List.{map-append, take_all, take_more}
+use Rattle.std.proofs.lemmas.List.Folds.{list_any-append, list_any_more, list_any_at}
+use Rattle.cf_tree.specs.RelSize.{capped, term_size, rel_size}
 use Rattle.cf_tree.specs.RelTree.{RelTree, rel_true, rel_false, rel_compare, rel_same_set, rel_other_set, rel_subset, rel_divides, rel_and, rel_or, rel_not, TermTree, term_lit, term_var, term_card, term_neg, term_add, term_sub, term_mul, term_div, term_mod, term_abs}
 use Rattle.cf_linear.specs.declared.refusal.RowFault.{RowFault}
 use Rattle.cf_linear.specs.declared.refusal.RowFault.TheVariants.{Past, NoMemory}
@@ -12,134 +13,100 @@ use Rattle.cf_linear.specs.declared.system.System.{System}
 use Rattle.cf_linear.specs.Keep.{In, Formed}
 use Rattle.cf_linear.specs.Matrices.{Matrix}
 use Rattle.cf_linear.specs.Layout.{Levels, first_free, known_count}
-use Rattle.cf_linear.specs.Written.{WrittenTree, write, first_sign, signed_by, abs_count, quotient_count}
+use Rattle.cf_linear.specs.Written.{quotient_count}
 use Rattle.cf_linear.specs.Views.{matrix_of}
-use Rattle.cf_linear.specs.Cases.{atom_compare, Signed, plain, atom_cases, cases_of, case_count, AtomRows, write_atom, no_rows, rows_then, case_rows, matrix_of_case, matrices, written_passes}
+use Rattle.cf_linear.specs.Cases.{Signed, Plain, plain, plain_atom, plain_and, plain_or, atom_cases, cases_of, case_count, AtomRows, write_atom, no_rows, rows_then, case_rows, matrix_of_case, matrices, written_passes}
+use Rattle.cf_linear.proofs.BoolLemmas.{on_bool}
 use Rattle.cf_equation.specs.Equations.{Differ}
-use Rattle.cf_cases.specs.Holding.{EachOf, IsPlacedRel}
-use Rattle.cf_cases.specs.Drafts.{HasOneCase, only_case, rel_quotients}
+use Rattle.cf_cases.specs.Holding.{EachOf, CaseFits, IsPlacedRel}
+use Rattle.cf_cases.specs.Drafts.{rel_quotients}
 use Rattle.cf_cases.proofs.AgreeLaws.{matrices-formed}
-use Rattle.cf_cases.proofs.DraftLaws.{one_case, case_is}
+use Rattle.cf_cases.proofs.MatrixLaws.{atom-next, cases-fit}
 use Rattle.cf_cases.proofs.PickLaws.{length-cases}
-use Rattle.cf_cases.proofs.Quantifiers.{each-append}
 use Rattle.cf_choose.specs.Eliminations.{SystemsAre}
-use Rattle.cf_choose.specs.Systems.{AreComparisons}
+use Rattle.cf_choose.proofs.MovedRows.{passes-same}
+use Rattle.cf_choose.proofs.SomeCases.{HasItem, some_case}
 
--- ---- forms without quotients
--- the written form with this next column
-abbrev moved : ℕ → WrittenTree → WrittenTree
-moved q w = record { row = w.row; guards = w.guards; next = q; signs = w.signs; passes = w.passes }
-
-signed_moved : (b : Bool) (q : ℕ) (w : WrittenTree) → signed_by b (moved q w) ≡ moved q (signed_by b w)
-signed_moved true q w = refl
-signed_moved false q w = refl
-
-no_sum : (a b : ℕ) → a + b ≡ 0 → (a ≡ 0) × (b ≡ 0)
-no_sum a b h = (omega arith, omega arith)
-
--- where no quotient is made, the next column alone depends on the first one
-write_moved : (l : Levels) (t : TermTree) (ss : List Bool) (p q : ℕ) → quotient_count t ≡ 0 → write l t ss q ≡ moved q (write l t ss p)
-write_moved l (term_lit n) ss p q h = refl
-write_moved l (term_var x) ss p q h = refl
-write_moved l (term_card s) ss p q h = refl
-write_moved l (term_neg a) ss p q h = rw (write_moved l a ss p q h) refl
-write_moved l (term_add a b) ss p q h =
-    let n = no_sum (quotient_count a) (quotient_count b) h in
-    let w = write l a ss p in rw (write_moved l a ss p q n.0, write_moved l b w.signs w.next q n.1) refl
-write_moved l (term_sub a b) ss p q h =
-    let n = no_sum (quotient_count a) (quotient_count b) h in
-    let w = write l a ss p in rw (write_moved l a ss p q n.0, write_moved l b w.signs w.next q n.1) refl
-write_moved l (term_mul a b) ss p q h =
-    let n = no_sum (quotient_count a) (quotient_count b) h in
-    let w = write l a ss p in rw (write_moved l a ss p q n.0, write_moved l b w.signs w.next q n.1) refl
-write_moved l (term_div a k) ss p q h = absurd (omega arith)
-write_moved l (term_mod a k) ss p q h = absurd (omega arith)
-write_moved l (term_abs a) ss p q h =
-    let w = write l a ss p in rw (write_moved l a ss p q h) (signed_moved (first_sign w.signs) q w)
-
--- whether a row of the atom passes the limit does not depend on the first column
-abbrev IsStill : Levels → Signed → Type 0
-IsStill l s = (p q : ℕ) → (write_atom l s q).passes ≡ (write_atom l s p).passes
-
-compare_still : (l : Levels) (o : Order) (a b : TermTree) (ss : List Bool) → quotient_count a ≡ 0 → quotient_count b ≡ 0 → IsStill l (atom_compare o a b, ss)
-unfolding write_atom
-compare_still l o a b ss h k p q =
-    let w = write l a ss p in rw (write_moved l a ss p q h, write_moved l b w.signs w.next q k) refl
-
-each_still : (l : Levels) (r : RelTree) → AreComparisons r → EachOf (IsStill l) (only_case r)
-each_still l rel_true h = elim h [ ]
-each_still l rel_false h = elim h [ ]
-each_still l (rel_compare o a b) h = (compare_still l o a b [] h.0 h.1, tt)
-each_still l (rel_same_set a b) h = elim h [ ]
-each_still l (rel_other_set a b) h = elim h [ ]
-each_still l (rel_subset a b) h = elim h [ ]
-each_still l (rel_divides k t) h = elim h [ ]
-each_still l (rel_and p q) h = each-append (IsStill l) (only_case p) (only_case q) (each_still l p h.0) (each_still l q h.1)
-each_still l (rel_or p q) h = elim h [ ]
-each_still l (rel_not p) h = elim h [ ]
-
--- ---- rows that pass the limit
-or_more : (a b c : Bool) → ((a || b) || c) ≡ (a || (b || c))
-or_more true b c = refl
-or_more false b c = refl
-
+-- ---- rows of a case that pass the limit
 -- whether a row of the atom passes the limit from the first free column on
 abbrev passes_alone : Levels → Signed → Bool
 passes_alone l s = (write_atom l s (first_free l)).passes
 
-fold_passes : (l : Levels) (c : List Signed) (a : AtomRows) → EachOf (IsStill l) c → (fold (rows_then l) a c).passes ≡ (a.passes || list_any (passes_alone l) c)
-fold_passes l [] a h = or_none a.passes
+abbrev passes_in : Levels → List Signed → Bool
+passes_in l c = list_any (passes_alone l) c
+
+or_more : (a b c : Bool) → ((a || b) || c) ≡ (a || (b || c))
+or_more true b c = refl
+or_more false b c = refl
+
+or_none : (b : Bool) → b ≡ (b || false)
+or_none true = refl
+or_none false = refl
+
+fold_passes : (l : Levels) (c : List Signed) (a : AtomRows) → CaseFits l c → first_free l ≤ a.next → (fold (rows_then l) a c).passes ≡ (a.passes || passes_in l c)
+fold_passes l [] a f h = or_none a.passes
+fold_passes l (s ∷ c) a f h =
+    fold_passes l c (rows_then l a s) f.1 (omega (arith, atom-next l s a.next))
+    ∙ ap (λ b. (a.passes || b) || passes_in l c) (passes-same l s a.next f.0 h)
+    ∙ or_more a.passes (passes_alone l s) (passes_in l c)
+
+-- whether a row of the case passes the limit
+abbrev case_passes : Levels → List Signed → Bool
+case_passes l c = (case_rows l c).passes
+
+any_case : (l : Levels) (cs : List (List Signed)) → EachOf (CaseFits l) cs → list_any (case_passes l) cs ≡ list_any (passes_in l) cs
+any_case l [] f = refl
+any_case l (c ∷ cs) f = rw (fold_passes l c (no_rows l) f.0 (omega arith), any_case l cs f.1) refl
+
+-- ---- rows of all cases
+any_alone : (l : Levels) (ss : List Signed) → list_any (passes_alone l) ss ≡ list_any (passes_in l) (map (λ s. s ∷ []) ss)
+any_alone l [] = refl
+any_alone l (s ∷ ss) = rw (← any_alone l ss, ← or_none (passes_alone l s)) refl
+
+-- one side of a disjunction that is the same for each item
+any_left : (b : Bool) (p : List Signed → Bool) (xs : List (List Signed)) → HasItem xs → list_any (λ x. b || p x) xs ≡ (b || list_any p xs)
+any_left true p [] h = absurd h
+any_left true p (x ∷ xs) h = refl
+any_left false p xs h = refl
+
+any_right : (b : Bool) (p : List Signed → Bool) (xs : List (List Signed)) → HasItem xs → list_any (λ x. p x || b) xs ≡ (list_any p xs || b)
+any_right b p [] h = absurd h
+any_right b p (x ∷ []) h = swap (p x) b
   where
-    or_none : (b : Bool) → b ≡ (b || false)
-    or_none true = refl
-    or_none false = refl
-fold_passes l (s ∷ c) a h =
-    fold_passes l c (rows_then l a s) h.1
-    ∙ ap (λ b. (a.passes || b) || list_any (passes_alone l) c) (h.0 (first_free l) a.next)
-    ∙ or_more a.passes (passes_alone l s) (list_any (passes_alone l) c)
+    swap : (c d : Bool) → ((c || d) || false) ≡ ((c || false) || d)
+    swap true d = refl
+    swap false true = refl
+    swap false false = refl
+any_right b p (x ∷ y ∷ xs) h = ap (λ c. (p x || b) || c) (any_right b p (y ∷ xs) (inl tt)) ∙ join (p x) b (list_any p (y ∷ xs))
+  where
+    join : (c d e : Bool) → ((c || d) || (e || d)) ≡ ((c || e) || d)
+    join true d e = refl
+    join false true true = refl
+    join false true false = refl
+    join false false true = refl
+    join false false false = refl
 
-compare_alone : (o : Order) (a b : TermTree) → o ≢ Ne → abs_count a ≡ 0 → abs_count b ≡ 0 → atom_cases (atom_compare o a b) ≡ (atom_compare o a b, []) ∷ []
-compare_alone Eq a b n e f = rw (e, f) refl
-compare_alone Ne a b n e f = absurd (n refl)
-compare_alone Lt a b n e f = rw (e, f) refl
-compare_alone Le a b n e f = rw (e, f) refl
-compare_alone Gt a b n e f = rw (e, f) refl
-compare_alone Ge a b n e f = rw (e, f) refl
+any_joined : (l : Levels) (c : List Signed) (ds : List (List Signed)) → list_any (passes_in l) (map (λ d. c ++ d) ds) ≡ list_any (λ d. passes_in l c || passes_in l d) ds
+any_joined l c [] = refl
+any_joined l c (d ∷ ds) = rw (list_any-append (passes_alone l) c d, any_joined l c ds) refl
 
-written_any : (l : Levels) (r : RelTree) → AreComparisons r → HasOneCase r → written_passes l (plain true r) ≡ list_any (passes_alone l) (only_case r)
-unfolding written_passes
-written_any l rel_true h o = elim h [ ]
-written_any l rel_false h o = elim h [ ]
-written_any l (rel_compare c a b) h o = ap (list_any (passes_alone l)) (compare_alone c a b o.0 o.1 o.2)
-written_any l (rel_same_set a b) h o = elim h [ ]
-written_any l (rel_other_set a b) h o = elim h [ ]
-written_any l (rel_subset a b) h o = elim h [ ]
-written_any l (rel_divides k t) h o = elim h [ ]
-written_any l (rel_and p q) h o =
-    rw (written_any l p h.0 o.0, written_any l q h.1 o.1) (sym (list_any-append (passes_alone l) (only_case p) (only_case q)))
-written_any l (rel_or p q) h o = elim h [ ]
-written_any l (rel_not p) h o = elim h [ ]
+any_both : (l : Levels) (cs ds : List (List Signed)) → HasItem ds → list_any (passes_in l) (flat_map (λ c. map (λ d. c ++ d) ds) cs) ≡ list_any (λ c. passes_in l c || list_any (passes_in l) ds) cs
+any_both l [] ds h = refl
+any_both l (c ∷ cs) ds h =
+    list_any-append (passes_in l) (map (λ d. c ++ d) ds) (flat_map (λ c. map (λ d. c ++ d) ds) cs)
+    ∙ rw (any_joined l c ds, any_left (passes_in l c) (passes_in l) ds h, any_both l cs ds h) refl
 
--- the case with the index 0
-abbrev pub first_case : RelTree → List Signed
-first_case r = get_or (cases_of (plain true r)) 0 []
+written_any : (l : Levels) (p : Plain) → written_passes l p ≡ list_any (passes_in l) (cases_of p)
+unfolding written_passes cases_of
+written_any l (plain_atom a) = any_alone l (atom_cases a)
+written_any l (plain_or p q) = rw (written_any l p, written_any l q) (sym (list_any-append (passes_in l) (cases_of p) (cases_of q)))
+written_any l (plain_and p q) =
+    rw (written_any l p, written_any l q)
+    (sym (any_both l (cases_of p) (cases_of q) (some_case q) ∙ any_right (list_any (passes_in l) (cases_of q)) (passes_in l) (cases_of p) (some_case p)))
 
--- a written row of the relation passes the limit exactly where one of its case does
-pub written_case : (l : Levels) (r : RelTree) → AreComparisons r → case_count (plain true r) ≡ 1 → written_passes l (plain true r) ≡ (case_rows l (first_case r)).passes
-written_case l r h e =
-    written_any l r h (one_case r e)
-    ∙ sym (fold_passes l (only_case r) (no_rows l) (each_still l r h))
-    ∙ ap (λ c. (case_rows l c).passes) (sym (case_is r 0 e (omega arith)))
-
--- ---- the one matrix
-alone_is : {A : Type 0} (xs : List A) (d : A) → length xs ≡ 1 → xs ≡ get_or xs 0 d ∷ []
-alone_is [] d e = absurd (omega arith)
-alone_is (x ∷ []) d e = refl
-alone_is (x ∷ y ∷ xs) d e = absurd (omega arith)
-
-pub one_matrix : (l : Levels) (r : RelTree) → case_count (plain true r) ≡ 1 → matrix_of_case l (first_case r) ∷ [] ≡ matrices l r
-unfolding matrices
-one_matrix l r e = sym (ap (map (matrix_of_case l)) (alone_is (cases_of (plain true r)) [] (length-cases (plain true r) ∙ e)))
+-- a written row of the relation passes the limit exactly where one of some case does
+written_cases : (l : Levels) (r : RelTree) → IsPlacedRel l r → written_passes l (plain true r) ≡ list_any (case_passes l) (cases_of (plain true r))
+written_cases l r p = written_any l (plain true r) ∙ sym (any_case l (cases_of (plain true r)) (cases-fit l true r p))
 
 -- ---- columns
 range_above : (a n c : ℕ) → In c (range_with_len a n) → a ≤ c
@@ -166,36 +133,86 @@ all_differ : (l : Levels) (cs : List (List Signed)) → EachOf (λ (m : Matrix).
 all_differ l [] = tt
 all_differ l (c ∷ cs) = (case_differs l c, all_differ l cs)
 
-pub matrices_begun : (l : Levels) (r : RelTree) → IsPlacedRel l r → EachOf IsBegun (matrices l r)
+matrices_begun : (l : Levels) (r : RelTree) → IsPlacedRel l r → EachOf IsBegun (matrices l r)
 unfolding matrices
 matrices_begun l r p = both_each Formed (λ (m : Matrix). Differ m.unknown) (matrices l r) (matrices-formed r l p) (all_differ l (cases_of (plain true r)))
 
 -- ---- quotients
-pub no_quotients : (r : RelTree) → AreComparisons r → rel_quotients r ≡ 0
-no_quotients rel_true h = elim h [ ]
-no_quotients rel_false h = elim h [ ]
-no_quotients (rel_compare o a b) h = omega (arith, h.0, h.1)
-no_quotients (rel_same_set a b) h = elim h [ ]
-no_quotients (rel_other_set a b) h = elim h [ ]
-no_quotients (rel_subset a b) h = elim h [ ]
-no_quotients (rel_divides k t) h = elim h [ ]
-no_quotients (rel_and p q) h = omega (arith, no_quotients p h.0, no_quotients q h.1)
-no_quotients (rel_or p q) h = elim h [ ]
-no_quotients (rel_not p) h = elim h [ ]
+quotients-le : (t : TermTree) → quotient_count t ≤ term_size t
+quotients-le (term_lit n) = omega arith
+quotients-le (term_var x) = omega arith
+quotients-le (term_card s) = omega arith
+quotients-le (term_neg a) = omega (arith, quotients-le a)
+quotients-le (term_add a b) = omega (arith, quotients-le a, quotients-le b)
+quotients-le (term_sub a b) = omega (arith, quotients-le a, quotients-le b)
+quotients-le (term_mul a b) = omega (arith, quotients-le a, quotients-le b)
+quotients-le (term_div a k) = omega (arith, quotients-le a)
+quotients-le (term_mod a k) = omega (arith, quotients-le a)
+quotients-le (term_abs a) = omega (arith, quotients-le a)
 
-pub columns_fit : (l : Levels) (r : RelTree) → AreComparisons r → first_free l < 2 ^ 32 → first_free l + rel_quotients r < 2 ^ 32
-columns_fit l r h f = rw (no_quotients r h) (omega arith)
+rel_quotients-le : (r : RelTree) → rel_quotients r ≤ rel_size r
+rel_quotients-le rel_true = omega arith
+rel_quotients-le rel_false = omega arith
+rel_quotients-le (rel_compare o a b) = omega (arith, quotients-le a, quotients-le b)
+rel_quotients-le (rel_same_set a b) = omega arith
+rel_quotients-le (rel_other_set a b) = omega arith
+rel_quotients-le (rel_subset a b) = omega arith
+rel_quotients-le (rel_divides k t) = omega (arith, quotients-le t)
+rel_quotients-le (rel_and p q) = omega (arith, rel_quotients-le p, rel_quotients-le q)
+rel_quotients-le (rel_or p q) = omega (arith, rel_quotients-le p, rel_quotients-le q)
+rel_quotients-le (rel_not p) = omega (arith, rel_quotients-le p)
+
+free_without_sets : (l : Levels) → l.inputs ≡ [] → l.out_sets ≡ [] → first_free l ≡ length l.numbers + length l.out_numbers + 1
+free_without_sets l e f = rw (e, f) (omega arith)
+
+-- the columns of few variables and of a small relation without sets
+pub columns_fit : (l : Levels) (r : RelTree) (n : ℕ) → l.inputs ≡ [] → l.out_sets ≡ [] → n ≡ capped (rel_size r) → (length l.numbers < 2 ^ 30) × (length l.out_numbers < 2 ^ 30) × (n < 2 ^ 30) → first_free l + rel_quotients r < 2 ^ 32
+columns_fit l r n e f s h = rw (free_without_sets l e f) (fit (length l.numbers) (length l.out_numbers) (rel_size r) (rel_quotients r) n s h (rel_quotients-le r))
+  where
+    fit : (a b s q n : ℕ) → n ≡ capped s → (a < 2 ^ 30) × (b < 2 ^ 30) × (n < 2 ^ 30) → q ≤ s → a + b + 1 + q < 2 ^ 32
+    fit a b s q n e h i = let x = h.0 in let y = h.1 in let z = h.2 in omega arith
 
 -- ---- the systems
-pub systems_are : (l : Levels) (r : RelTree) (system : System) (v : Vec System Global) → AreComparisons r → case_count (plain true r) ≡ 1 → v.items ≡ system ∷ [] →
-    matrix_of system ≡ matrix_of_case l (first_case r) → (case_rows l (first_case r)).passes ≡ false → SystemsAre l r (Ok v)
-systems_are l r system v h n e m f = (written_case l r h n ∙ f, ap (map matrix_of) e ∙ ap (λ x. x ∷ []) m ∙ one_matrix l r n)
+-- the systems of the cases before case i, of which no row passes the limit
+pub record IsTaken (l : Levels) (r : RelTree) (i : ℕ) (systems : List System) : Type 0 where
+  pub within : list_any (case_passes l) (take i (cases_of (plain true r))) ≡ false
+  pub are : map matrix_of systems ≡ map (matrix_of_case l) (take i (cases_of (plain true r)))
 
-pub systems_begun : (l : Levels) (r : RelTree) (system : System) (v : Vec System Global) → IsPlacedRel l r → case_count (plain true r) ≡ 1 → v.items ≡ system ∷ [] →
-    matrix_of system ≡ matrix_of_case l (first_case r) → EachOf IsBegun (map matrix_of v.items)
-systems_begun l r system v p n e m = subst (EachOf IsBegun) (sym (ap (map matrix_of) e ∙ ap (λ x. x ∷ []) m ∙ one_matrix l r n)) (matrices_begun l r p)
+pub none_taken : (l : Levels) (r : RelTree) (systems : List System) → systems ≡ [] → IsTaken l r 0 systems
+none_taken l r systems e = record { within = refl; are = rw e refl }
 
-pub fault_is : (l : Levels) (r : RelTree) (e : RowFault) → AreComparisons r → case_count (plain true r) ≡ 1 →
-    (◌≡◌ {A = Result System RowFault} (Err e) (Err Past) → (case_rows l (first_case r)).passes ≡ true) → SystemsAre l r (Err e)
-fault_is l r Past h n f = written_case l r h n ∙ f refl
-fault_is l r NoMemory h n f = tt
+pub one_more : (l : Levels) (r : RelTree) (i : ℕ) (systems more : List System) (x : System) → i < case_count (plain true r) → more ≡ systems ++ (x ∷ []) → matrix_of x ≡ matrix_of_case l (get_or (cases_of (plain true r)) i []) →
+    case_passes l (get_or (cases_of (plain true r)) i []) ≡ false → IsTaken l r i systems → IsTaken l r (i + 1) more
+one_more l r i systems more x h e m f t =
+    let cs = cases_of (plain true r) in
+    let k : i < length cs = omega (arith, length-cases (plain true r)) in
+    record {
+      within = list_any_more (case_passes l) cs i [] k ∙ or_from (list_any (case_passes l) (take i cs)) (case_passes l (get_or cs i [])) t.within f;
+      are =
+          ap (map matrix_of) e ∙ map-append matrix_of systems (x ∷ []) ∙ rw (t.are, m) refl ∙ sym (map-append (matrix_of_case l) (take i cs) (get_or cs i [] ∷ []))
+          ∙ ap (map (matrix_of_case l)) (sym (take_more cs i [] k));
+    }
+
+pub index_below : (n m i : ℕ) → n ≡ capped m → i < n → i < m
+index_below n m i e h = omega arith
+
+pub index_past : (n m i : ℕ) → n ≡ capped m → m ≤ 1024 → n ≤ i → m ≤ i
+index_past n m i e f h = omega arith
+
+module _ (l : Levels) (r : RelTree) (placed : IsPlacedRel l r) where
+  all_taken : (i : ℕ) (systems : List System) → case_count (plain true r) ≤ i → IsTaken l r i systems → (written_passes l (plain true r) ≡ false) × (map matrix_of systems ≡ matrices l r)
+  unfolding matrices
+  all_taken i systems h t =
+      let cs = cases_of (plain true r) in
+      let e : take i cs ≡ cs = take_all i cs (omega (arith, length-cases (plain true r))) in
+      (written_cases l r placed ∙ ap (list_any (case_passes l)) (sym e) ∙ t.within, t.are ∙ ap (map (matrix_of_case l)) e)
+
+  pub systems_are : (i : ℕ) (v : Vec System Global) → case_count (plain true r) ≤ i → IsTaken l r i v.items → SystemsAre l r (Ok v)
+  systems_are i v h t = all_taken i v.items h t
+
+  pub systems_begun : (i : ℕ) (v : Vec System Global) → case_count (plain true r) ≤ i → IsTaken l r i v.items → EachOf IsBegun (map matrix_of v.items)
+  systems_begun i v h t = subst (EachOf IsBegun) (sym (all_taken i v.items h t).1) (matrices_begun l r placed)
+
+  pub fault_is : (i : ℕ) (e : RowFault) → i < case_count (plain true r) → (◌≡◌ {A = Result System RowFault} (Err e) (Err Past) → case_passes l (get_or (cases_of (plain true r)) i []) ≡ true) → SystemsAre l r (Err e)
+  fault_is i Past h f = written_cases l r placed ∙ list_any_at (case_passes l) (cases_of (plain true r)) i [] (omega (arith, length-cases (plain true r))) (f refl)
+  fault_is i NoMemory h f = tt

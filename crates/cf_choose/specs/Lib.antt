@@ -3,4 +3,3 @@ pub mod CaseLaws
 pub mod Eliminations
 pub mod Makings
 pub mod Solved
-pub mod Systems

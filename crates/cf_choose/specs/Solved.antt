@@ -2,7 +2,7 @@
 use Rattle.std.specs.Prelude.{◌≤◌, ◌≡◌, List, length, Some, None, Result, Ok, Err}
 use Rattle.cf_tree.specs.declared.base.Base.{Base}
 use Rattle.cf_tree.specs.declared.base.Base.TheVariants.{Int, Bool, Set}
-use Rattle.cf_tree.specs.CodeTree.{ArmTrees, arms_depth}
+use Rattle.cf_tree.specs.CodeTree.{ArmTrees, no_arms, arm_more, arms_depth}
 use Rattle.cf_tree.specs.CodeView.{arm_trees}
 use Rattle.cf_tree.specs.RelTree.{RelTree}
 use Rattle.cf_tree.specs.RelView.{rel_tree}
@@ -20,19 +20,21 @@ IsOutput Int = Unit {0}
 IsOutput Bool = ⊥
 IsOutput Set = Unit {0}
 
--- the arms solve the relation, are well typed, are not deep, and have a spelling where they give something
-pub record IsSolved (s : SolvedParts) : Type 0 where
-  pub solves : Solves s.scope.items s.outputs.items (rel_tree s.rel) (arm_trees s.arms.items)
-  pub typed : ArmsHave (arm_trees s.arms.items) s.scope.items s.outputs.items
-  pub shallow : arms_depth (arm_trees s.arms.items) ≤ 16
-  pub spelled : 1 ≤ length s.outputs.items → AreArmsSpelled (arm_trees s.arms.items)
+-- at least one arm
+abbrev pub HasArms : ArmTrees → Type 0
+HasArms no_arms = ⊥
+HasArms (arm_more a arms) = Unit {0}
 
--- the same of a relation over these bases and of arms, apart from any choose
-pub record AreSolved (scope outputs : List Base) (rel : RelTree) (arms : ArmTrees) : Type 0 where
+-- there is an arm, and the arms solve the relation over these bases, are well typed, are not deep, and have a spelling where they give something
+pub record ArmsSolve (scope outputs : List Base) (rel : RelTree) (arms : ArmTrees) : Type 0 where
+  pub some : HasArms arms
   pub solves : Solves scope outputs rel arms
   pub typed : ArmsHave arms scope outputs
   pub shallow : arms_depth arms ≤ 16
   pub spelled : 1 ≤ length outputs → AreArmsSpelled arms
+
+abbrev pub IsSolved : SolvedParts → Type 0
+IsSolved s = ArmsSolve s.scope.items s.outputs.items (rel_tree s.rel) (arm_trees s.arms.items)
 
 -- a solved choose of this relation over this scope and these outputs, which passes no limit
 pub record IsOf (scope outputs : List Base) (rel : RelTree) (s : SolvedParts) : Type 0 where

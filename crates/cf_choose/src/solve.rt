@@ -5,7 +5,7 @@ ghost use Rattle.cf_tree.specs.RelView.{rel_tree};
 ghost use Rattle.cf_tree.specs.Relation.{IsTyped, IsLinear};
 ghost use Rattle.cf_linear.specs.Views.{plain_levels};
 ghost use Rattle.cf_choose.specs.Eliminations.{count_refusal, CountIs, IsNumbers};
-ghost use Rattle.cf_choose.specs.Solved.{IsOutput, AreSolved, Tells};
+ghost use Rattle.cf_choose.specs.Solved.{IsOutput, ArmsSolve, Tells};
 
 use crate::cases::arms;
 use crate::fault::{ChooseFault, not_built};
@@ -92,7 +92,7 @@ fn solved(
     rel: &Rel,
     arms: Vec<Arm>,
 ) -> Result<Solved, NoMemory>
-    requires { AreSolved scope.now outputs.now (rel_tree rel.now) (arm_trees arms.items) }
+    requires { ArmsSolve scope.now outputs.now (rel_tree rel.now) (arm_trees arms.items) }
     ensures scope { IfOk result (λ s. s.scope.items ≡ scope.now) }
     ensures outputs { IfOk result (λ s. s.outputs.items ≡ outputs.now) }
     ensures relation { IfOk result (λ s. rel_tree s.rel ≡ rel_tree rel.now) }
