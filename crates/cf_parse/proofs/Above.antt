@@ -4,9 +4,9 @@ use Rattle.cf_lex.specs.declared.token.Token.{Token}
 use Rattle.cf_tree.specs.declared.base.Place.{Place}
 use Rattle.cf_tree.specs.declared.raw.BinOp.{BinOp}
 use Rattle.cf_tree.specs.RawTree.{RawTree, raw_binary, raw_depth}
+use Rattle.cf_reader.specs.Readers.{at, bind, pure, first}
 use Rattle.cf_parse.specs.declared.level.Level.{Level}
 use Rattle.cf_parse.specs.Spelling.{under}
-use Rattle.cf_parse.specs.Readers.{at, bind, pure, first}
 use Rattle.cf_parse.specs.Reading.{read, step, Parts, next_op, chain_of}
 
 pub read_above : (n : ℕ) (level : Level) (ts : List Token) → 0 < n → read n level ts ≡ step (read (n - 1)) (n - 1) level ts

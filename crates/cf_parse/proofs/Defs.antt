@@ -2,11 +2,10 @@
 use Rattle.std.proofs.Common.{◌≡◌, ◌==◌, Bool, false, ℕ, suc, zero, ◌<◌, List, [], ◌∷◌, ◌++◌, map, length, Ok, Err, refl, sym, ap, ◌∙◌, arith}
 use Rattle.cf_lex.specs.declared.token.Token.{Token}
 use Rattle.cf_tree.specs.declared.raw.RawDef.{RawDef}
-use Rattle.cf_parse.specs.declared.stop.Stop.{Stop}
-use Rattle.cf_parse.specs.declared.stop.Stop.TheVariants as stops
-use Rattle.cf_parse.specs.Gives.{Fails}
-use Rattle.cf_parse.specs.Readers.{Got, bind, at_end}
-use Rattle.cf_parse.specs.Reading.{snoc}
+use Rattle.cf_reader.specs.declared.stop.Stop.{Stop}
+use Rattle.cf_reader.specs.declared.stop.Stop.TheVariants as stops
+use Rattle.cf_reader.specs.Gives.{Fails}
+use Rattle.cf_reader.specs.Readers.{Got, bind, at_end, snoc}
 use Rattle.cf_parse.specs.Programs.{def_of, defs_of}
 use Rattle.cf_tree.specs.DefView.{RawDefTree, raw_def_tree}
 

@@ -14,45 +14,20 @@ use Rattle.cf_tree.specs.declared.raw.BinOp.{BinOp}
 use Rattle.cf_tree.specs.declared.raw.BinOp.TheVariants.{Add, Sub, Mul, And, Or, Union, Inter, Diff, Subset, Compare}
 use Rattle.cf_tree.specs.declared.raw.Part.{Part}
 use Rattle.cf_tree.specs.RawTree.{RawTree, raw_lit, raw_truth, raw_name, raw_set_of, raw_group, raw_tuple, raw_neg, raw_not, raw_abs, raw_binary, raw_divides, raw_div, raw_mod, raw_card, raw_call, raw_if, raw_let, raw_choose, raw_match, RawArmTree, raw_arm, raws_of, raw_arms_of, raw_depth, raws_depth, raw_arm_depth, raw_arms_depth}
+use Rattle.cf_reader.specs.Readers.{Reader, is, a_name, must, bind, first, several_of, snoc}
+use Rattle.cf_reader.specs.Tokens.{First, Next, FirstName, FirstLiteral, Others, Several}
+use Rattle.cf_reader.proofs.KindLaws.{took_base, took_truth}
+use Rattle.cf_reader.proofs.Yields.{Yields, faults, Took, pure_yields, widen, bind_yields, must_yields, first_yields, deep_yields, added, all_added, if_some, if_else_some, same_token, took_is, took_next, took_name, in_order, took_literal, several_yields, same_text, one_or_tuple_yields}
+use Rattle.cf_reader.specs.Operations.{op_kind, op_of}
+use Rattle.cf_reader.proofs.OperationLaws.{op_on}
 use Rattle.cf_parse.specs.declared.level.Level.{Level}
 use Rattle.cf_parse.specs.declared.level.Level.TheVariants.{Whole, Ors, Ands, Cmps, Sums, Muls, Unary}
 use Rattle.cf_parse.specs.declared.pattern.Term.{Term}
 use Rattle.cf_parse.specs.declared.pattern.Term.TheVariants.{Part as a_part, Constant as the_constant}
-use Rattle.cf_parse.specs.Tokens.{First, Next, FirstName, FirstLiteral, Others, Several, OneOrTuple}
-use Rattle.cf_parse.specs.Spelling.{rank, under, op_level, left_level, op_kind, Fits, base_kind, truth_kind, SpellsParam, SpellsBase, SpellsName, SpellsNames, plus_or_minus, SpellsPart, SpellsConstant, SpellsSigned, SpellsPattern, Spells, SpellsItems, SpellsOthers, SpellsArm, SpellsArms}
-use Rattle.cf_parse.specs.Readers.{Reader, is, a_name, must, bind, first, several_of}
-use Rattle.cf_parse.specs.Reading.{snoc, a_base, a_truth, a_sign, op_of, op_at, next_op, lone_literal, factor_of, divides_by, param_of, named, one_or_tuple, names_of, results_of, term_of, Pattern, by_term, terms_of, all_terms, pattern_of, Parts, chain_of, list_of, items_of, grouped, inside_of, divided_of, named_of, word_of, atom_of, unary_of, muls_of, sums_of, compared_of, cmps_of, ands_of, ors_of, let_of, if_of, choose_of, arm_of, match_of, whole_of, step, read}
-use Rattle.cf_parse.proofs.Yields.{Yields, faults, Took, pure_yields, widen, bind_yields, must_yields, first_yields, deep_yields, added, all_added, if_some, if_else_some, same_token, took_is, took_next, took_name, in_order, took_literal, others_yields, several_yields}
-
-same_text : (x y : List ℕ) → bytes_eq x y ≡ true → x ≡ y
-same_text x y h = (bytes_eq-Decides x y).0 h
+use Rattle.cf_parse.specs.Spelling.{rank, under, op_level, left_level, Fits, SpellsParam, SpellsName, SpellsNames, plus_or_minus, SpellsPart, SpellsConstant, SpellsSigned, SpellsPattern, Spells, SpellsItems, SpellsOthers, SpellsArm, SpellsArms}
+use Rattle.cf_parse.specs.Reading.{a_sign, op_at, next_op, lone_literal, factor_of, divides_by, param_of, named, names_of, term_of, Pattern, by_term, terms_of, all_terms, pattern_of, Parts, chain_of, list_of, items_of, grouped, inside_of, divided_of, named_of, word_of, atom_of, unary_of, muls_of, sums_of, compared_of, cmps_of, ands_of, ors_of, let_of, if_of, choose_of, arm_of, match_of, whole_of, step, read}
 
 -- the tests of the grammar's words and signs
-
-base_on : (q : Place) (k : TokenKind) (b : Base) → a_base (record { place = q; kind = k }) ≡ Some b → k ≡ base_kind b
-base_on q (Word x) b e = elim (if_else_some (bytes_eq x (codes "int")) _ b _ e) [
-  | inl h ↦ ap Word (same_text x _ h.0) ∙ ap base_kind h.1
-  | inr h ↦ elim (if_else_some (bytes_eq x (codes "bool")) _ b _ h.1) [
-    | inl i ↦ ap Word (same_text x _ i.0) ∙ ap base_kind i.1
-    | inr i ↦ let j = if_some (bytes_eq x (codes "set")) _ b i.1 in ap Word (same_text x _ j.0) ∙ ap base_kind j.1
-  ]
-]
-base_on q (Sign x) b e = cc
-base_on q (Literal n) b e = cc
-
-pub took_base : (ts us : List Token) (b : Base) → Took a_base ts b us → SpellsBase b ts us
-took_base ts us b (t, e, f) = (t.place, same_token t t.place (base_kind b) ts us e refl (base_on t.place t.kind b f))
-
-truth_on : (q : Place) (k : TokenKind) (x : Place × Bool) → a_truth (record { place = q; kind = k }) ≡ Some x → (q ≡ x.0) × (k ≡ truth_kind x.1)
-truth_on q (Word y) x e = elim (if_else_some (bytes_eq y (codes "true")) _ x _ e) [
-  | inl h ↦ (ap (λ z. z.0) h.1, ap Word (same_text y _ h.0) ∙ ap (λ z. truth_kind z.1) h.1)
-  | inr h ↦ let j = if_some (bytes_eq y (codes "false")) _ x h.1 in (ap (λ z. z.0) j.1, ap Word (same_text y _ j.0) ∙ ap (λ z. truth_kind z.1) j.1)
-]
-truth_on q (Sign y) x e = cc
-truth_on q (Literal n) x e = cc
-
-pub took_truth : (ts us : List Token) (x : Place × Bool) → Took a_truth ts x us → First x.0 (truth_kind x.1) ts us
-took_truth ts us x (t, e, f) = let h = truth_on t.place t.kind x f in same_token t x.0 (truth_kind x.1) ts us e h.0 h.1
 
 sign_on : (q : Place) (k : TokenKind) (x : Bool) → a_sign (record { place = q; kind = k }) ≡ Some x → k ≡ plus_or_minus x
 sign_on q (Sign y) x e = elim (if_else_some (bytes_eq y (codes "+")) _ x _ e) [
@@ -64,27 +39,6 @@ sign_on q (Literal n) x e = cc
 
 pub took_sign : (ts us : List Token) (x : Bool) → Took a_sign ts x us → Next (plus_or_minus x) ts us
 took_sign ts us x (t, e, f) = (t.place, same_token t t.place (plus_or_minus x) ts us e refl (sign_on t.place t.kind x f))
-
--- one more alternative of a list of words or signs
-alternative : (k : List ℕ → TokenKind) (y word : List ℕ) (here op : BinOp) (o : Option BinOp) → k word ≡ op_kind here → cond (bytes_eq y word) (Some here) o ≡ Some op →
-    (o ≡ Some op → k y ≡ op_kind op) → k y ≡ op_kind op
-alternative k y word here op o s e g = elim (if_else_some (bytes_eq y word) here op o e) [
-  | inl h ↦ ap k (same_text y word h.0) ∙ s ∙ ap op_kind h.1
-  | inr h ↦ g h.1
-]
-
-no_more : (k : List ℕ → TokenKind) (y : List ℕ) (op : BinOp) → None ≡ Some op → k y ≡ op_kind op
-no_more k y op e = cc
-
-op_on : (k : TokenKind) (op : BinOp) → op_of k ≡ Some op → k ≡ op_kind op
-unfolding op_of
-op_on (Word y) op e =
-    alternative Word y _ Union op _ refl e (λ e. alternative Word y _ Diff op _ refl e (λ e. alternative Word y _ Inter op _ refl e (λ e. alternative Word y _ Subset op _ refl e (no_more Word y op))))
-op_on (Sign y) op e =
-    alternative Sign y _ Or op _ refl e (λ e. alternative Sign y _ And op _ refl e (λ e. alternative Sign y _ Add op _ refl e (λ e. alternative Sign y _ Sub op _ refl e (λ e.
-    alternative Sign y _ Mul op _ refl e (λ e. alternative Sign y _ (Compare Eq) op _ refl e (λ e. alternative Sign y _ (Compare Ne) op _ refl e (λ e. alternative Sign y _ (Compare Lt) op _ refl e (λ e.
-    alternative Sign y _ (Compare Le) op _ refl e (λ e. alternative Sign y _ (Compare Gt) op _ refl e (λ e. alternative Sign y _ (Compare Ge) op _ refl e (no_more Sign y op)))))))))))
-op_on (Literal n) op e = cc
 
 rank_level : ℕ → Level
 rank_level zero = Whole
@@ -185,21 +139,6 @@ param_yields ts =
     bind_yields _ _ ts (must_yields _ ts) (λ x a n. bind_yields _ _ a (must_yields _ a) (λ p b c. bind_yields _ _ b (must_yields _ b) (λ base us d.
     pure_yields _ us (a, b, took_name ts a x n, took_next _ a b p c, took_base b us base d))))
 
-tuple_found : {A : Type 0} (Item : A → List Token → List Token → Type 0) (ts a b c d us : List Token) (x y : A) (new : List A) → Next (Sign (codes "(")) ts a → Item x a b → Next (Sign (codes ",")) b c → Item y c d →
-    Others Item (Sign (codes ",")) (Sign (codes ")")) new d us → OneOrTuple Item (x ∷ y ∷ new) ts us
-tuple_found Item ts a b c d us x y new o i n j more = (a, o, (b, i, (c, d, n, j, more)))
-
-pub one_or_tuple_yields : {A B : Type 0} (add : B → A → B) (item : Reader A) (Item : A → List Token → List Token → Type 0) (none : B) →
-    ((ts : List Token) → Yields (λ x us. Item x ts us) (item ts)) → (ts : List Token) →
-    Yields (λ y us. (new : List A) × (y ≡ added add none new) × OneOrTuple Item new ts us) (one_or_tuple add item none ts)
-unfolding one_or_tuple
-one_or_tuple_yields add item Item none h ts =
-    first_yields _ _ _ ts
-    (λ p a o. bind_yields _ _ a (h a) (λ x b i. bind_yields _ _ b (must_yields _ b) (λ q c n. bind_yields _ _ c (h c) (λ y d j.
-    widen (λ z us w. (x ∷ y ∷ w.0, w.1, tuple_found Item ts a b c d us x y w.0 (took_next _ ts a p o) i (took_next _ b c q n) j w.2))
-    (others_yields add item Item (Sign (codes ",")) (Sign (codes ")")) h (add (add none x) y) d)))))
-    (bind_yields _ _ ts (h ts) (λ x us i. pure_yields _ us (x ∷ [], refl, i)))
-
 added_names : (xs : List (List ℕ)) (qs : List Place) (new : List (Place × List ℕ)) → added named (xs, qs) new ≡ (xs ++ map (λ x. x.1) new, qs ++ map (λ x. x.0) new)
 added_names xs qs [] = ap (λ (ys : List (List ℕ)). (ys, qs)) (sym (append-nil xs)) ∙ ap (λ (ys : List Place). (xs ++ [], ys)) (sym (append-nil qs))
 added_names xs qs (x ∷ new) =
@@ -217,12 +156,6 @@ pub names_yields : (ts : List Token) → Yields (λ y us. SpellsNames y.0 y.1 ts
 unfolding names_of
 names_yields ts =
     widen (λ y us w. let e = w.1 ∙ all_names w.0 in (w.0, ap (λ z. z.0) e, ap (λ z. z.1) e, w.2)) (one_or_tuple_yields named (must a_name) SpellsName ([], []) name_yields ts)
-
-pub results_yields : (ts : List Token) → Yields (λ y us. OneOrTuple SpellsBase y ts us) (results_of ts)
-unfolding results_of
-results_yields ts =
-    widen (λ y us w. subst (λ z. OneOrTuple SpellsBase z ts us) (sym (w.1 ∙ all_added w.0)) w.2)
-    (one_or_tuple_yields snoc (must a_base) SpellsBase [] (λ ts. widen (λ b us w. took_base ts us b w) (must_yields a_base ts)) ts)
 
 pub params_yields : (ts : List Token) → Yields (λ y us. Several SpellsParam (Sign (codes ",")) (Sign (codes ")")) y ts us) (several_of snoc param_of (Sign (codes ",")) (Sign (codes ")")) [] ts)
 params_yields ts =

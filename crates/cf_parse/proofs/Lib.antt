@@ -1,11 +1,7 @@
-pub mod Reserved
 pub mod Depths
 pub mod Steps
 pub mod Terms
-pub mod Near
 pub mod Above
-pub mod Yields
-pub mod Exact
 pub mod Found
 pub mod LocalReading
 pub mod Only

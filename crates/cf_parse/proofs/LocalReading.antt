@@ -6,13 +6,13 @@ use Rattle.cf_lex.specs.declared.token.TokenKind.{TokenKind}
 use Rattle.cf_tree.specs.declared.base.Place.{Place}
 use Rattle.cf_tree.specs.declared.raw.Part.{Part}
 use Rattle.cf_tree.specs.RawTree.{RawTree}
+use Rattle.cf_reader.specs.Readers.{Reader}
+use Rattle.cf_reader.proofs.Near.{Local, pure_local, fault_local, end_local, any_local, bind_local, first_local, deep_local, must_local, several_local, one_or_tuple_local}
 use Rattle.cf_parse.specs.declared.level.Level.{Level}
 use Rattle.cf_parse.specs.declared.level.Level.TheVariants.{Whole, Ors, Ands, Cmps, Sums, Muls, Unary}
 use Rattle.cf_parse.specs.declared.pattern.Term.{Term}
 use Rattle.cf_parse.specs.declared.pattern.Term.TheVariants.{Part as a_part, Constant as the_constant}
-use Rattle.cf_parse.specs.Readers.{Reader}
-use Rattle.cf_parse.specs.Reading.{snoc, param_of, params_of, named, one_or_tuple, names_of, results_of, term_of, Pattern, by_term, terms_of, all_terms, pattern_of, Parts, chain_of, list_of, items_of, inside_of, divided_of, named_of, word_of, atom_of, unary_of, muls_of, sums_of, compared_of, cmps_of, ands_of, ors_of, let_of, if_of, choose_of, arm_of, match_of, whole_of, step, read}
-use Rattle.cf_parse.proofs.Near.{Local, pure_local, fault_local, end_local, any_local, bind_local, first_local, deep_local, must_local, others_local, several_local}
+use Rattle.cf_parse.specs.Reading.{param_of, params_of, named, names_of, term_of, Pattern, by_term, terms_of, all_terms, pattern_of, Parts, chain_of, list_of, items_of, inside_of, divided_of, named_of, word_of, atom_of, unary_of, muls_of, sums_of, compared_of, cmps_of, ands_of, ors_of, let_of, if_of, choose_of, arm_of, match_of, whole_of, step, read}
 
 pub param_local : {more other : List Token} → Local more other param_of param_of
 unfolding param_of
@@ -22,18 +22,9 @@ pub params_local : {more other : List Token} → Local more other params_of para
 unfolding params_of
 params_local = first_local _ (λ p. pure_local _) (several_local _ _ _ _ param_local)
 
-pub one_or_tuple_local : {A B : Type 0} {more other : List Token} (add : B → A → B) {item item' : Reader A} (none : B) → Local more other item item' → Local more other (one_or_tuple add item none) (one_or_tuple add item' none)
-unfolding one_or_tuple
-one_or_tuple_local add none h =
-    first_local _ (λ p. bind_local h (λ x. bind_local (must_local _) (λ q. bind_local h (λ y. others_local add _ _ _ h)))) (bind_local h (λ x. pure_local _))
-
 pub names_local : {more other : List Token} → Local more other names_of names_of
 unfolding names_of
 names_local = one_or_tuple_local named _ (must_local _)
-
-pub results_local : {more other : List Token} → Local more other results_of results_of
-unfolding results_of
-results_local = one_or_tuple_local snoc _ (must_local _)
 
 pub term_local : {more other : List Token} (minus : Bool) → Local more other (term_of minus) (term_of minus)
 unfolding term_of

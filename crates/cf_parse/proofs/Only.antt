@@ -17,19 +17,23 @@ use Rattle.cf_tree.specs.declared.raw.BinOp.TheVariants.{Add, Sub, Mul, And, Or,
 use Rattle.cf_tree.specs.declared.raw.Param.{Param}
 use Rattle.cf_tree.specs.declared.raw.Part.{Part}
 use Rattle.cf_tree.specs.RawTree.{RawTree, raw_lit, raw_truth, raw_name, raw_set_of, raw_group, raw_tuple, raw_neg, raw_not, raw_abs, raw_binary, raw_divides, raw_div, raw_mod, raw_card, raw_call, raw_if, raw_let, raw_choose, raw_match, RawTrees, no_raws, raw_more, RawArmTree, raw_arm, RawArmTrees, no_raw_arms, raw_arm_more, raws_of, raw_arms_of, raw_depth, raws_depth, raw_arm_depth, raw_arms_depth}
+use Rattle.cf_reader.specs.Readers.{Got, Reader, same_kind, before, is, a_name, at, pure, must, bind, first, several_of, snoc}
+use Rattle.cf_reader.specs.Tokens.{First, Next, FirstName, FirstLiteral, Others, Several}
+use Rattle.cf_reader.specs.Kinds.{truth_kind}
+use Rattle.cf_reader.proofs.Exact.{bind_is, pure_is, must_is, first_is, first_not, deep_is, deep_not, at_is, at_not, next_is, name_differs, name_not, name_is, le_yes, literal_is, first_longer, Ends, Items, several_are, must_within, one_or_tuple_is}
+use Rattle.cf_reader.proofs.Near.{Within}
+use Rattle.cf_reader.proofs.KindLaws.{base_is, no_literal, sign_literal, truth_is, truth_not, truth_sign, truth_literal, names_true, no_truth}
+use Rattle.cf_reader.proofs.Yields.{all_added}
+use Rattle.cf_reader.specs.Operations.{op_kind, op_of}
+use Rattle.cf_reader.proofs.OperationLaws.{op_again}
 use Rattle.cf_parse.specs.declared.level.Level.{Level}
 use Rattle.cf_parse.specs.declared.level.Level.TheVariants.{Whole, Ors, Ands, Cmps, Sums, Muls, Unary}
 use Rattle.cf_parse.specs.declared.pattern.Term.TheVariants.{Part as a_part, Constant as the_constant}
-use Rattle.cf_parse.specs.Tokens.{First, Next, FirstName, FirstLiteral, Others, Several, OneOrTuple}
-use Rattle.cf_parse.specs.Spelling.{rank, under, op_level, left_level, op_kind, Fits, base_kind, truth_kind, SpellsParam, SpellsBase, SpellsName, SpellsNames, plus_or_minus, SpellsPart, SpellsConstant, SpellsSigned, SpellsPattern, Spells, SpellsItems, SpellsOthers, SpellsArm, SpellsArms}
-use Rattle.cf_parse.specs.Readers.{Got, Reader, Test, same_kind, before, is, a_name, a_literal, at, pure, must, bind, first, several_of}
-use Rattle.cf_parse.specs.Reading.{snoc, a_base, a_truth, a_sign, op_of, op_at, next_op, lone_literal, factor_of, divides_by, param_of, Names, named, one_or_tuple, names_of, results_of, term_of, terms_of, all_terms, pattern_of, Parts, chain_of, list_of, items_of, inside_of, divided_of, named_of, word_of, atom_of, unary_of, muls_of, sums_of, compared_of, cmps_of, ands_of, ors_of, let_of, if_of, choose_of, arm_of, match_of, whole_of, step, read}
+use Rattle.cf_parse.specs.Spelling.{rank, under, op_level, left_level, Fits, SpellsParam, SpellsName, SpellsNames, plus_or_minus, SpellsPart, SpellsConstant, SpellsSigned, SpellsPattern, Spells, SpellsItems, SpellsOthers, SpellsArm, SpellsArms}
+use Rattle.cf_parse.specs.Reading.{a_sign, op_at, next_op, lone_literal, factor_of, divides_by, param_of, Names, named, names_of, term_of, terms_of, all_terms, pattern_of, Parts, chain_of, list_of, items_of, inside_of, divided_of, named_of, word_of, atom_of, unary_of, muls_of, sums_of, compared_of, cmps_of, ands_of, ors_of, let_of, if_of, choose_of, arm_of, match_of, whole_of, step, read}
 use Rattle.cf_parse.proofs.Above.{chain_goes, chain_stops}
-use Rattle.cf_parse.proofs.Near.{Within, must_local}
 use Rattle.cf_parse.proofs.LocalReading.{LocalParts, param_local, arm_local, read_local}
-use Rattle.cf_parse.proofs.Yields.{added, all_added}
 use Rattle.cf_parse.proofs.Found.{same_rank, all_names, deep_one}
-use Rattle.cf_parse.proofs.Exact.{bind_is, pure_is, must_is, first_is, first_not, deep_is, deep_not, at_is, at_not, next_is, name_differs, name_not, name_is, le_yes, literal_is, first_longer, Ends, Items, others_are, several_are}
 
 -- nothing stands first that would go on with a tree of this level
 pub record Stops (level : Level) (ts : List Token) : Type 0 where
@@ -101,24 +105,6 @@ stops_at level k ts us c (p, w) = record {
   divides = λ h. at_not (Word (codes "divides")) k ts us p c.divides w;
   ops = λ inner n d h. not_next inner n d k ts us p c.op w;
 }
-
-op_again : (op : BinOp) → op_of (op_kind op) ≡ Some op
-unfolding op_of
-op_again Add = refl
-op_again Sub = refl
-op_again Mul = refl
-op_again And = refl
-op_again Or = refl
-op_again Union = refl
-op_again Inter = refl
-op_again Diff = refl
-op_again Subset = refl
-op_again (Compare Eq) = refl
-op_again (Compare Ne) = refl
-op_again (Compare Lt) = refl
-op_again (Compare Le) = refl
-op_again (Compare Gt) = refl
-op_again (Compare Ge) = refl
 
 op_no_call : (op : BinOp) → same_kind (op_kind op) (Sign (codes "(")) ≡ false
 op_no_call Add = refl
@@ -203,35 +189,16 @@ op_is n d op p ts us h w =
 
 -- parameters, names, bases
 
-base_is : (b : Base) (ts us : List Token) → Next (base_kind b) ts us → at a_base ts ≡ Some (b, us)
-unfolding at
-base_is Int ts us n = ap (at a_base) n.1
-base_is BoolBase ts us n = ap (at a_base) n.1
-base_is Set ts us n = ap (at a_base) n.1
-
 pub param_is : (x : Param) (ts us : List Token) → SpellsParam x ts us → param_of ts ≡ Ok (x, us)
 unfolding param_of
 param_is x ts us (a, b, n, c, d) =
     bind_is _ _ ts (must_is _ ts a _ (name_is ts a x.place x.name n)) (bind_is _ _ a (next_is _ a b refl c) (bind_is _ _ b (must_is _ b us _ (base_is x.base b us d)) (pure_is _ x us refl)))
-
-must_within : {A : Type 0} (f : Test A) (ts : List Token) → Within (length ts) (must f ts)
-must_within f ts = (must_local {more = []} {other = []} f).within ts (length ts) (omega arith)
 
 param_items : Items param_of SpellsParam (Sign (codes ",")) (Sign (codes ")"))
 param_items = record { reads = λ x ts us w e. param_is x ts us w; within = λ ts. (param_local {more = []} {other = []}).within ts (length ts) (omega arith); separates = refl; closes = refl; differs = refl }
 
 pub params_are : (xs : List Param) (ts rest : List Token) → Several SpellsParam (Sign (codes ",")) (Sign (codes ")")) xs ts rest → several_of snoc param_of (Sign (codes ",")) (Sign (codes ")")) [] ts ≡ Ok (xs, rest)
 params_are xs ts rest w = several_are snoc param_of SpellsParam (Sign (codes ",")) (Sign (codes ")")) param_items xs [] ts rest w ∙ ap (λ (z : List Param). Ok (z, rest)) (all_added xs)
-
-one_or_tuple_is : {A B : Type 0} (add : B → A → B) (item : Reader A) (Item : A → List Token → List Token → Type 0) (none : B) → Items item Item (Sign (codes ",")) (Sign (codes ")")) →
-    ((x : A) (ts us : List Token) → Item x ts us → item ts ≡ Ok (x, us)) → ((x : A) (ts us : List Token) → Item x ts us → at (is (Sign (codes "("))) ts ≡ None) →
-    (xs : List A) (ts rest : List Token) → OneOrTuple Item xs ts rest → one_or_tuple add item none ts ≡ Ok (added add none xs, rest)
-unfolding one_or_tuple
-one_or_tuple_is add item Item none h g u [] ts rest w = absurd w
-one_or_tuple_is add item Item none h g u (x ∷ []) ts rest w = first_not _ _ _ ts (u x ts rest w) (bind_is _ _ ts (g x ts rest w) (pure_is _ _ rest refl))
-one_or_tuple_is add item Item none h g u (x ∷ y ∷ xs) ts rest (a, o, (b, i, (c, d, n, j, more))) =
-    first_is _ _ _ ts (at_is _ ts a o.0 refl o.1)
-    (bind_is _ _ a (g x a b i) (bind_is _ _ b (next_is _ b c refl n) (bind_is _ _ c (g y c d j) (others_are add item Item (Sign (codes ",")) (Sign (codes ")")) h xs (add (add none x) y) d rest more))))
 
 name_reads : (x : Place × List ℕ) (ts us : List Token) → SpellsName x ts us → must a_name ts ≡ Ok (x, us)
 name_reads x ts us w = must_is a_name ts us x (name_is ts us x.0 x.1 w)
@@ -245,21 +212,6 @@ names_are names places ts rest (xs, e, f, w) =
     one_or_tuple_is named (must a_name) SpellsName ([], []) name_items name_reads (λ x ts us n. at_not (Sign (codes "(")) (Word x.1) ts us x.0 refl n.0) xs ts rest w
     ∙ ap (λ (z : Names). Ok (z, rest)) (all_names xs) ∙ ap (λ (z : List (List ℕ)). Ok ((z, map (λ x. x.0) xs), rest)) (sym e) ∙ ap (λ (z : List Place). Ok ((names, z), rest)) (sym f)
 
-base_reads : (b : Base) (ts us : List Token) → SpellsBase b ts us → must a_base ts ≡ Ok (b, us)
-base_reads b ts us w = must_is a_base ts us b (base_is b ts us w)
-
-base_items : Items (must a_base) SpellsBase (Sign (codes ",")) (Sign (codes ")"))
-base_items = record { reads = λ x ts us w e. base_reads x ts us w; within = must_within a_base; separates = refl; closes = refl; differs = refl }
-
-base_unopened : (b : Base) (ts us : List Token) → SpellsBase b ts us → at (is (Sign (codes "("))) ts ≡ None
-base_unopened Int ts us w = at_not (Sign (codes "(")) (base_kind Int) ts us w.0 refl w.1
-base_unopened BoolBase ts us w = at_not (Sign (codes "(")) (base_kind BoolBase) ts us w.0 refl w.1
-base_unopened Set ts us w = at_not (Sign (codes "(")) (base_kind Set) ts us w.0 refl w.1
-
-pub results_are : (bs : List Base) (ts rest : List Token) → OneOrTuple SpellsBase bs ts rest → results_of ts ≡ Ok (bs, rest)
-unfolding results_of
-results_are bs ts rest w = one_or_tuple_is snoc (must a_base) SpellsBase [] base_items base_reads base_unopened bs ts rest w ∙ ap (λ (z : List Base). Ok (z, rest)) (all_added bs)
-
 -- patterns, before the word then
 
 sign_is : (minus : Bool) (ts us : List Token) → Next (plus_or_minus minus) ts us → at a_sign ts ≡ Some (minus, us)
@@ -270,10 +222,6 @@ sign_is false ts us n = ap (at a_sign) n.1
 no_sign : (k : TokenKind) (ts us : List Token) (p : Place) → a_sign (record { place = p; kind = k }) ≡ None → First p k ts us → at a_sign ts ≡ None
 unfolding at
 no_sign k ts us p e w = ap (at a_sign) w ∙ ap (λ o. before us o) e
-
-no_literal : (p : Place) (x : List ℕ) (ts us : List Token) → First p (Word x) ts us → at (a_literal (pos 0)) ts ≡ None
-unfolding at
-no_literal p x ts us w = ap (at (a_literal (pos 0))) w
 
 part_is : (minus : Bool) (x : Part) (ts us : List Token) → SpellsPart minus x ts us → term_of minus ts ≡ Ok (a_part x, us)
 unfolding term_of
@@ -527,12 +475,6 @@ items_are part n h sh close c (raw_more e es) ts rest d (a, s, o) =
 
 -- forms of the innermost level
 
-names_true : (x : List ℕ) → is_reserved x ≡ false → (p : Place) (ts us : List Token) → First p (Word x) ts us → at a_truth ts ≡ None
-unfolding at
-names_true x r p ts us w =
-    ap (at a_truth) w ∙ ap (λ b. before us (cond b (Some (p, true)) (cond (bytes_eq x (codes "false")) (Some (p, false)) None))) (name_differs x (codes "true") r refl)
-    ∙ ap (λ b. before us (cond b (Some (p, false)) None)) (name_differs x (codes "false") r refl)
-
 -- a name stands first
 name_first : (part : Parts) (n : ℕ) (p : Place) (x : List ℕ) (ts us : List Token) (y : Got RawTree) → FirstName p x ts us →
     first (is (Sign (codes "("))) (λ q. bind (items_of part (Sign (codes ")"))) (λ es. pure (raw_call p x (raws_of es)))) (pure (raw_name p x)) us ≡ y → unary_of part n ts ≡ y
@@ -556,23 +498,6 @@ unfolding divided_of OnlyReads
 divided_is part n h e k q ts a b c d us l o s m w r =
     bind_is _ _ ts (next_is _ ts a refl o) (bind_is _ _ a (h Whole e a b (omega arith) l s (stops_at Whole (Sign (codes ",")) b c comma_closes m)) (bind_is _ _ b (next_is _ b c refl m)
     (bind_is _ _ c (must_is _ c d _ (literal_is (pos 1) c d q k w)) (bind_is _ _ d (next_is _ d us refl r) (pure_is _ _ us refl)))))
-
-truth_is : (b : Bool) (p : Place) (ts us : List Token) → First p (truth_kind b) ts us → at a_truth ts ≡ Some ((p, b), us)
-unfolding at
-truth_is true p ts us w = ap (at a_truth) w
-truth_is false p ts us w = ap (at a_truth) w
-
-truth_not : (b : Bool) (k : TokenKind) → same_kind (Word (codes "true")) k ≡ false → same_kind (Word (codes "false")) k ≡ false → (p : Place) (ts us : List Token) → First p (truth_kind b) ts us → at (is k) ts ≡ None
-truth_not true k e f p ts us w = at_not k (truth_kind true) ts us p e w
-truth_not false k e f p ts us w = at_not k (truth_kind false) ts us p f w
-
-truth_sign : (b : Bool) (x : List ℕ) → same_kind (truth_kind b) (Sign x) ≡ false
-truth_sign true x = refl
-truth_sign false x = refl
-
-truth_literal : (b : Bool) (p : Place) (ts us : List Token) → First p (truth_kind b) ts us → at (a_literal (pos 0)) ts ≡ None
-truth_literal true p ts us w = no_literal p (codes "true") ts us w
-truth_literal false p ts us w = no_literal p (codes "false") ts us w
 
 op_outer : (op : BinOp) → rank (op_level op) ≤ 5
 op_outer Add = omega arith
@@ -610,14 +535,6 @@ word_first : (part : Parts) (n : ℕ) (x : List ℕ) (p : Place) (ts a : List To
 unfolding atom_of
 word_first part n x p ts a y w e = atom_first part n (Word x) p ts a y w refl refl
     (first_not _ _ _ ts (no_literal p x ts a w) (deep_not _ _ _ _ ts (at_not _ (Word x) ts a p refl w) (first_not _ _ _ ts (at_not _ (Word x) ts a p refl w) e)))
-
-no_truth : (x : List ℕ) (p : Place) (ts a : List Token) → a_truth (record { place = p; kind = Word x }) ≡ None → First p (Word x) ts a → at a_truth ts ≡ None
-unfolding at
-no_truth x p ts a e w = ap (at a_truth) w ∙ ap (λ o. before a o) e
-
-sign_literal : (x : List ℕ) (p : Place) (ts us : List Token) → First p (Sign x) ts us → at (a_literal (pos 0)) ts ≡ None
-unfolding at
-sign_literal x p ts us w = ap (at (a_literal (pos 0))) w
 
 unary_is : (part : Parts) (n : ℕ) → OnlyReads part n → Shrinks part → (t : RawTree) (ts rest : List Token) → Fits Unary t → raw_depth t ≤ suc n → Spells t ts rest → Stops Unary rest → unary_of part n ts ≡ Ok (t, rest)
 unfolding OnlyReads atom_of word_of items

@@ -6,18 +6,21 @@ use Rattle.cf_lex.specs.declared.token.TokenKind.TheVariants.{Word, Sign}
 use Rattle.cf_tree.specs.declared.base.Place.{Place}
 use Rattle.cf_tree.specs.declared.raw.Param.{Param}
 use Rattle.cf_tree.specs.DefView.{RawDefTree}
+use Rattle.cf_reader.specs.Readers.{at_end, snoc}
+use Rattle.cf_reader.specs.Faults.{IsFaultPlace, place_of}
+use Rattle.cf_reader.specs.Tokens.{Several}
+use Rattle.cf_reader.proofs.Exact.{bind_is, pure_is, must_is, first_is, first_not, at_is, at_not, next_is, name_is, first_longer, left_over}
+use Rattle.cf_reader.proofs.Faults.{same_value, found_on, ReadsAll, fault_law as read_fault}
+use Rattle.cf_reader.proofs.Near.{Local, pure_local, end_local, any_local, bind_local, must_local, at_end_local}
+use Rattle.cf_reader.proofs.KindLaws.{results_local, results_yields, results_are}
+use Rattle.cf_reader.proofs.Yields.{Yields, yields, faults, pure_yields, widen, bind_yields, must_yields, first_yields, took_is, took_next, took_name}
 use Rattle.cf_parse.specs.declared.level.Level.TheVariants.{Whole}
-use Rattle.cf_parse.specs.Tokens.{Several}
 use Rattle.cf_parse.specs.Spelling.{SpellsParam}
-use Rattle.cf_parse.specs.Readers.{Got, at_end}
-use Rattle.cf_parse.specs.Reading.{snoc, params_of}
-use Rattle.cf_parse.specs.Programs.{SpellsParams, SpellsDef, SpellsDefs, SpellsProgram, IsProgram, def_from, def_of, defs_of, all_defs, program_of, IsDead, IsFaultPlace, first_place, place_of}
-use Rattle.cf_parse.proofs.Near.{Within, ok_in, err_in, Near, here, later, Alike, both, past, refused, Local, pure_local, end_local, any_local, bind_local, must_local, at_end_local}
-use Rattle.cf_parse.proofs.LocalReading.{LocalParts, params_local, results_local, read_local}
-use Rattle.cf_parse.proofs.Yields.{Yields, yields, faults, pure_yields, widen, bind_yields, must_yields, first_yields, took_is, took_next, took_name}
-use Rattle.cf_parse.proofs.Found.{Finds, params_yields, results_yields, read_found}
-use Rattle.cf_parse.proofs.Exact.{bind_is, pure_is, must_is, first_is, first_not, at_is, at_not, next_is, name_is, first_longer, left_over}
-use Rattle.cf_parse.proofs.Only.{Stops, stops_end, stops_at, def_closes, OnlyReads, params_are, results_are, read_only}
+use Rattle.cf_parse.specs.Reading.{params_of}
+use Rattle.cf_parse.specs.Programs.{SpellsParams, SpellsDef, SpellsDefs, SpellsProgram, IsProgram, def_from, def_of, defs_of, all_defs, program_of, SomeProgram}
+use Rattle.cf_parse.proofs.LocalReading.{LocalParts, params_local, read_local}
+use Rattle.cf_parse.proofs.Found.{Finds, params_yields, read_found}
+use Rattle.cf_parse.proofs.Only.{Stops, stops_end, stops_at, def_closes, OnlyReads, params_are, read_only}
 
 -- what is read is spelled
 
@@ -55,17 +58,6 @@ program_yields : (limit : ℕ) (ts : List Token) → Yields (λ ds us. SpellsPro
 unfolding program_of all_defs
 program_yields limit ts =
     bind_yields _ _ ts (def_yields limit ts) (λ d a w. widen (λ ds us s. subst (λ z. SpellsProgram limit z ts) (sym s.1) (a, w, s.2)) (defs_yields limit (length a) (d ∷ []) a))
-
-abbrev value_in : Got (List RawDefTree) → List RawDefTree
-value_in (Ok a) = a.0
-value_in (Err e) = []
-
-same_value : (x y : List RawDefTree) (ts us : List Token) (r : Got (List RawDefTree)) → r ≡ Ok (x, ts) → r ≡ Ok (y, us) → x ≡ y
-same_value x y ts us r e f = sym (ap value_in e) ∙ ap value_in f
-
-found_on : (P : List RawDefTree → Type 0) (r : Got (List RawDefTree)) (ds : List RawDefTree) (us : List Token) → Yields (λ ds us. P ds) r → r ≡ Ok (ds, us) → P ds
-found_on P _ ds us (yields x ts p) e = subst P (ap value_in e) p
-found_on P _ ds us (faults d) e = cc
 
 pub found_law : (ts : List Token) (ds : List RawDefTree) (us : List Token) → program_of 200 ts ≡ Ok (ds, us) → IsProgram ds ts
 found_law ts ds us e = found_on (λ ds. IsProgram ds ts) (program_of 200 ts) ds us (program_yields 200 ts) e
@@ -150,30 +142,8 @@ program_local {more} {other} limit = bind_local (def_local limit) (λ d. record 
   near = λ ts us n. (defs_local {more = more} {other = other} limit (length ts) (length us) (d ∷ [])).near ts us n;
 })
 
-within_err : {A : Type 0} (m e : ℕ) (r : Got A) → Within m r → r ≡ Err e → e ≤ m
-within_err m e _ (ok_in x ts h) q = cc
-within_err m e _ (err_in d h) q = let same : d ≡ e = cc in omega (arith, h, same)
+all_read : ReadsAll SomeProgram (program_of 200)
+all_read ts (ds, w) = (ds, [], only_law ts ds w)
 
-refuse : (more other : List Token) (ds : List RawDefTree) (us : List Token) (r s : Got (List RawDefTree)) → Alike more other r s → r ≡ Err (suc (length more)) → s ≡ Ok (ds, us) → ⊥
-refuse more other ds us _ _ (both x vs ws n) p q = cc
-refuse more other ds us _ _ (past r s w) p q = absurd (omega (arith, within_err (length more) (suc (length more)) r w p))
-refuse more other ds us _ _ (refused r e) p q = cc
-
-near : (front : List Token) (t : Token) (more other : List Token) → Near more other (front ++ t ∷ more) (front ++ t ∷ other)
-near [] t more other = here t
-near (u ∷ front) t more other = later u (front ++ t ∷ more) (front ++ t ∷ other) (near front t more other)
-
-dead : (front : List Token) (t : Token) (more : List Token) → program_of 200 (front ++ t ∷ more) ≡ Err (suc (length more)) → IsDead front t
-dead front t more e other ds w =
-    refuse more other ds [] (program_of 200 (front ++ t ∷ more)) (program_of 200 (front ++ t ∷ other)) ((program_local {more = more} {other = other} 200).near (front ++ t ∷ more) (front ++ t ∷ other) (near front t more other)) e
-    (only_law (front ++ t ∷ other) ds w)
-
-fault_on : (ts : List Token) (end : Place) (e : ℕ) (front d : List Token) → ts ≡ front ++ d → length d ≡ e → program_of 200 ts ≡ Err e → IsFaultPlace ts end (first_place d end)
-fault_on ts end e front [] same l p = inl refl
-fault_on ts end e front (t ∷ more) same l p = inr (front, t, more, same, refl, dead front t more (ap (program_of 200) (sym same) ∙ p ∙ ap Err (sym l)))
-
-pub fault_law : (ts : List Token) (end : Place) (e : ℕ) → program_of 200 ts ≡ Err e → IsFaultPlace ts end (place_of ts end e)
-unfolding place_of
-fault_law ts end e p =
-    fault_on ts end e (take (length ts - e) ts) (drop (length ts - e) ts) (sym (take-append-drop (length ts - e) ts))
-    (let small : e ≤ length ts = within_err (length ts) e (program_of 200 ts) ((program_local {more = []} {other = []} 200).within ts (length ts) (omega arith)) p in omega (arith, length-drop (length ts - e) ts)) p
+pub fault_law : (ts : List Token) (end : Place) (e : ℕ) → program_of 200 ts ≡ Err e → IsFaultPlace SomeProgram ts end (place_of ts end e)
+fault_law ts end e p = read_fault SomeProgram (program_of 200) (λ more other. program_local 200) all_read ts end e p

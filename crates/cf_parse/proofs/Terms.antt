@@ -3,12 +3,12 @@ use Rattle.std.proofs.Common.{◌≡◌, ℕ, suc, zero, ℤ, ◌<◌, Bool, Lis
 use Rattle.std.specs.Prelude.{pos}
 use Rattle.cf_lex.specs.declared.token.Token.{Token}
 use Rattle.cf_tree.specs.declared.raw.Part.{Part}
+use Rattle.cf_reader.specs.Gives.{Fails}
+use Rattle.cf_reader.specs.Readers.{at, bind, pure, first, snoc}
 use Rattle.cf_parse.specs.declared.pattern.Term.TheVariants.{Part as a_part, Constant as the_constant}
-use Rattle.cf_parse.specs.declared.stop.Stop.{Stop}
-use Rattle.cf_parse.specs.declared.stop.Stop.TheVariants as stops
-use Rattle.cf_parse.specs.Gives.{Fails}
-use Rattle.cf_parse.specs.Readers.{at, bind, pure, first}
-use Rattle.cf_parse.specs.Reading.{snoc, a_sign, term_of, terms_of}
+use Rattle.cf_reader.specs.declared.stop.Stop.{Stop}
+use Rattle.cf_reader.specs.declared.stop.Stop.TheVariants as stops
+use Rattle.cf_parse.specs.Reading.{a_sign, term_of, terms_of}
 
 pub terms_end : (k : ℕ) (minus : Bool) (done : List Part) (ts : List Token) → k ≡ 0 → terms_of k minus done ts ≡ Err 0
 unfolding terms_of

@@ -7,13 +7,14 @@ use Rattle.cf_tree.specs.declared.raw.Param.{Param}
 use Rattle.cf_tree.specs.declared.raw.Program.{Program}
 use Rattle.cf_tree.specs.RawTree.{raw_depth}
 use Rattle.cf_tree.specs.DefView.{RawDefTree, program_tree}
+use Rattle.cf_reader.specs.Readers.{Reader, is, a_name, pure, must, ◌>>=◌, at_end, snoc}
+use Rattle.cf_reader.specs.Tokens.{First, Next, FirstName, Several, OneOrTuple}
+use Rattle.cf_reader.specs.Kinds.{SpellsBase, results_of}
 use Rattle.cf_parse.specs.declared.level.Level.TheVariants.{Whole}
-use Rattle.cf_parse.specs.declared.fault.ParseFault.{ParseFault}
-use Rattle.cf_parse.specs.declared.fault.ParseFault.TheVariants.{Syntax, NoMemory}
-use Rattle.cf_parse.specs.Tokens.{First, Next, FirstName, Several, OneOrTuple}
-use Rattle.cf_parse.specs.Spelling.{SpellsParam, SpellsBase, Spells}
-use Rattle.cf_parse.specs.Readers.{Reader, is, a_name, pure, must, ◌>>=◌, at_end}
-use Rattle.cf_parse.specs.Reading.{snoc, params_of, results_of, read}
+use Rattle.cf_reader.specs.declared.fault.ParseFault.{ParseFault}
+use Rattle.cf_reader.specs.declared.fault.ParseFault.TheVariants.{Syntax, NoMemory}
+use Rattle.cf_parse.specs.Spelling.{SpellsParam, Spells}
+use Rattle.cf_parse.specs.Reading.{params_of, read}
 
 -- [ param { "," param } ] ")"
 abbrev pub SpellsParams : List Param → List Token → List Token → Type 0
@@ -40,6 +41,10 @@ SpellsProgram limit (d ∷ ds) ts = SpellsDefs limit (d ∷ ds) ts
 -- the tokens spell the program, and the depth of each body is within the limit
 abbrev pub IsProgram : List RawDefTree → List Token → Type 0
 IsProgram ds ts = SpellsProgram 200 ds ts
+
+-- the tokens spell some program
+abbrev pub SomeProgram : List Token → Type 0
+SomeProgram ts = (ds : List RawDefTree) × IsProgram ds ts
 
 -- behind the word def
 unfoldable pub def_from : ℕ → Place → Reader RawDefTree
@@ -73,23 +78,3 @@ abbrev pub Reads : List RawDefTree → Result Program ParseFault → Type 0
 Reads ds (Ok x) = program_tree x ≡ ds
 Reads ds (Err NoMemory) = Unit {0}
 Reads ds (Err (Syntax p)) = ⊥
-
--- no program begins with these tokens and this one behind them
-abbrev pub IsDead : List Token → Token → Type 0
-IsDead front t = (other : List Token) (ds : List RawDefTree) → IsProgram ds (front ++ t ∷ other) → ⊥
-
--- the place of a token up to and with which no program begins, or the end
-abbrev pub IsFaultPlace : List Token → Place → Place → Type 0
-IsFaultPlace ts end p = (p ≡ end) ⊎ ((front : List Token) × (t : Token) × (more : List Token) × (ts ≡ front ++ t ∷ more) × (p ≡ t.place) × IsDead front t)
-
-abbrev pub IsFault : List Token → Place → ParseFault → Type 0
-IsFault ts end NoMemory = Unit {0}
-IsFault ts end (Syntax p) = IsFaultPlace ts end p
-
-abbrev pub first_place : List Token → Place → Place
-first_place [] end = end
-first_place (t ∷ ts) end = t.place
-
--- the place where so many tokens are left
-unfoldable pub place_of : List Token → Place → ℕ → Place
-place_of ts end left = first_place (drop (length ts - left) ts) end

@@ -12,30 +12,14 @@ use Rattle.cf_tree.specs.declared.raw.BinOp.TheVariants.{Add, Sub, Mul, And, Or,
 use Rattle.cf_tree.specs.declared.raw.Param.{Param}
 use Rattle.cf_tree.specs.declared.raw.Part.{Part}
 use Rattle.cf_tree.specs.RawTree.{RawTree, raw_lit, raw_truth, raw_name, raw_set_of, raw_group, raw_tuple, raw_neg, raw_not, raw_abs, raw_binary, raw_divides, raw_div, raw_mod, raw_card, raw_call, raw_if, raw_let, raw_choose, raw_match, RawArmTree, raw_arm, no_raws, raws_of, raw_arms_of, raw_depth}
+use Rattle.cf_reader.specs.Readers.{Reader, Test, is, a_name, a_literal, pure, must, ◌>>=◌, first, deep, several_of, snoc, one_or_tuple}
+use Rattle.cf_reader.specs.Kinds.{a_base, a_truth}
+use Rattle.cf_reader.specs.Operations.{op_of}
 use Rattle.cf_parse.specs.declared.level.Level.{Level}
 use Rattle.cf_parse.specs.declared.level.Level.TheVariants.{Whole, Ors, Ands, Cmps, Sums, Muls, Unary}
 use Rattle.cf_parse.specs.declared.pattern.Term.{Term}
 use Rattle.cf_parse.specs.declared.pattern.Term.TheVariants.{Part as a_part, Constant as the_constant}
 use Rattle.cf_parse.specs.Spelling.{rank, under, op_level, signed}
-use Rattle.cf_parse.specs.Readers.{Reader, Test, is, a_name, a_literal, pure, must, ◌>>=◌, first, deep, others_of, several_of}
-
--- one more at the end
-abbrev pub snoc : {A : Type 0} → List A → A → List A
-snoc xs x = xs ++ x ∷ []
-
-abbrev pub a_base : Test Base
-a_base t = elim t.kind [
-  | Word x ↦ if bytes_eq x (codes "int") then Some Int else if bytes_eq x (codes "bool") then Some BoolBase else if bytes_eq x (codes "set") then Some Set else None
-  | Literal n ↦ None
-  | Sign x ↦ None
-]
-
-abbrev pub a_truth : Test (Place × Bool)
-a_truth t = elim t.kind [
-  | Word x ↦ if bytes_eq x (codes "true") then Some (t.place, true) else if bytes_eq x (codes "false") then Some (t.place, false) else None
-  | Literal n ↦ None
-  | Sign x ↦ None
-]
 
 -- a plus or a minus: true for a minus
 abbrev pub a_sign : Test Bool
@@ -44,36 +28,6 @@ a_sign t = elim t.kind [
   | Literal n ↦ None
   | Word x ↦ None
 ]
-
-abbrev pub word_op : List ℕ → Option BinOp
-word_op x =
-    if bytes_eq x (codes "union") then Some Union else
-    if bytes_eq x (codes "diff") then Some Diff else
-    if bytes_eq x (codes "inter") then Some Inter else
-    if bytes_eq x (codes "subset") then Some Subset else None
-
-abbrev pub compare_op : List ℕ → Option BinOp
-compare_op x =
-    if bytes_eq x (codes "==") then Some (Compare Eq) else
-    if bytes_eq x (codes "!=") then Some (Compare Ne) else
-    if bytes_eq x (codes "<") then Some (Compare Lt) else
-    if bytes_eq x (codes "<=") then Some (Compare Le) else
-    if bytes_eq x (codes ">") then Some (Compare Gt) else
-    if bytes_eq x (codes ">=") then Some (Compare Ge) else None
-
-abbrev pub sign_op : List ℕ → Option BinOp
-sign_op x =
-    if bytes_eq x (codes "||") then Some Or else
-    if bytes_eq x (codes "&&") then Some And else
-    if bytes_eq x (codes "+") then Some Add else
-    if bytes_eq x (codes "-") then Some Sub else
-    if bytes_eq x (codes "*") then Some Mul else compare_op x
-
--- the operation of a word or sign
-unfoldable pub op_of : TokenKind → Option BinOp
-op_of (Word x) = word_op x
-op_of (Sign x) = sign_op x
-op_of (Literal n) = None
 
 abbrev pub op_at : Level → Place → Option BinOp → Option (Place × BinOp)
 op_at level p None = None
@@ -134,21 +88,8 @@ Names = List (List ℕ) × List Place
 abbrev pub named : Names → Place × List ℕ → Names
 named ns x = (snoc ns.0 x.1, snoc ns.1 x.0)
 
--- item | "(" item "," item { "," item } ")"
-unfoldable pub one_or_tuple : {A B : Type 0} → (B → A → B) → Reader A → B → Reader B
-one_or_tuple more item none =
-    first (is (Sign (codes "("))) (λ p. do
-      x ← item
-      _ ← must (is (Sign (codes ",")))
-      y ← item
-      others_of more item (Sign (codes ",")) (Sign (codes ")")) (more (more none x) y))
-    (item >>= λ x. pure (more none x))
-
 unfoldable pub names_of : Reader Names
 names_of = one_or_tuple named (must a_name) ([], [])
-
-unfoldable pub results_of : Reader (List Base)
-results_of = one_or_tuple snoc (must a_base) []
 
 -- part = [ literal "*" ] name, behind a plus or a minus; or the constant, which is the last term
 unfoldable pub term_of : Bool → Reader Term

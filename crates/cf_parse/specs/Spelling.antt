@@ -6,15 +6,16 @@ use Rattle.cf_lex.specs.declared.token.TokenKind.TheVariants.{Word, Sign}
 use Rattle.cf_tree.specs.declared.base.Place.{Place}
 use Rattle.cf_tree.specs.declared.base.Base.{Base}
 use Rattle.cf_tree.specs.declared.base.Base.TheVariants.{Int, Bool as BoolBase, Set}
-use Rattle.cf_tree.specs.declared.base.Order.TheVariants.{Eq, Ne, Lt, Le, Gt, Ge}
 use Rattle.cf_tree.specs.declared.raw.BinOp.{BinOp}
 use Rattle.cf_tree.specs.declared.raw.BinOp.TheVariants.{Add, Sub, Mul, And, Or, Union, Inter, Diff, Subset, Compare}
 use Rattle.cf_tree.specs.declared.raw.Param.{Param}
 use Rattle.cf_tree.specs.declared.raw.Part.{Part}
 use Rattle.cf_tree.specs.RawTree.{RawTree, raw_lit, raw_truth, raw_name, raw_set_of, raw_group, raw_tuple, raw_neg, raw_not, raw_abs, raw_binary, raw_divides, raw_div, raw_mod, raw_card, raw_call, raw_if, raw_let, raw_choose, raw_match, RawTrees, no_raws, raw_more, RawArmTree, raw_arm, RawArmTrees, no_raw_arms, raw_arm_more}
+use Rattle.cf_reader.specs.Tokens.{First, Next, FirstName, FirstLiteral, Several, OneOrTuple}
+use Rattle.cf_reader.specs.Kinds.{base_kind, truth_kind, order_kind}
+use Rattle.cf_reader.specs.Operations.{op_kind}
 use Rattle.cf_parse.specs.declared.level.Level.{Level}
 use Rattle.cf_parse.specs.declared.level.Level.TheVariants.{Whole, Ors, Ands, Cmps, Sums, Muls, Unary}
-use Rattle.cf_parse.specs.Tokens.{First, Next, FirstName, FirstLiteral, Several, OneOrTuple}
 
 -- how far inside a level is
 abbrev pub rank : Level → ℕ
@@ -59,24 +60,6 @@ left_level Sums = Sums
 left_level Muls = Muls
 left_level Unary = Unary
 
--- the word or sign of an operation
-abbrev pub op_kind : BinOp → TokenKind
-op_kind Or = Sign (codes "||")
-op_kind And = Sign (codes "&&")
-op_kind (Compare Eq) = Sign (codes "==")
-op_kind (Compare Ne) = Sign (codes "!=")
-op_kind (Compare Lt) = Sign (codes "<")
-op_kind (Compare Le) = Sign (codes "<=")
-op_kind (Compare Gt) = Sign (codes ">")
-op_kind (Compare Ge) = Sign (codes ">=")
-op_kind Subset = Word (codes "subset")
-op_kind Add = Sign (codes "+")
-op_kind Sub = Sign (codes "-")
-op_kind Union = Word (codes "union")
-op_kind Diff = Word (codes "diff")
-op_kind Mul = Sign (codes "*")
-op_kind Inter = Word (codes "inter")
-
 -- the level of a form: it stands where a form of this level, or of one further out, is asked
 abbrev pub level_of : RawTree → Level
 level_of (raw_lit p k) = Unary
@@ -102,21 +85,9 @@ level_of (raw_match p a arms) = Whole
 abbrev pub Fits : Level → RawTree → Type 0
 Fits level t = rank level ≤ rank (level_of t)
 
-abbrev pub base_kind : Base → TokenKind
-base_kind Int = Word (codes "int")
-base_kind BoolBase = Word (codes "bool")
-base_kind Set = Word (codes "set")
-
-abbrev pub truth_kind : Bool → TokenKind
-truth_kind true = Word (codes "true")
-truth_kind false = Word (codes "false")
-
 -- param = name ":" base
 abbrev pub SpellsParam : Param → List Token → List Token → Type 0
 SpellsParam x ts rest = (a b : List Token) × FirstName x.place x.name ts a × Next (Sign (codes ":")) a b × Next (base_kind x.base) b rest
-
-abbrev pub SpellsBase : Base → List Token → List Token → Type 0
-SpellsBase base ts rest = Next (base_kind base) ts rest
 
 -- a name and its place
 abbrev pub SpellsName : Place × List ℕ → List Token → List Token → Type 0

@@ -1,7 +1,6 @@
-//! Reads the tree that a list of tokens spells.
+//! Reads the program, or the target, that a list of tokens spells.
 #![tactic(auto)]
 
-mod fault;
 mod level;
 mod lists;
 mod node;
@@ -9,11 +8,10 @@ mod part;
 mod pattern;
 mod reading;
 mod source;
-mod stop;
-mod tokens;
 mod words;
 
-pub use fault::ParseFault;
+pub use cf_reader::fault::ParseFault;
+pub use cf_target::target;
 pub use source::program;
 
 #[cfg(test)]

@@ -1,15 +1,15 @@
-//! Parameters, names and bases.
+//! Parameters and names.
 ghost use Rattle.std.specs.Prelude.{◌≡◌, ◌∷◌, [], length, codes, Ok};
 ghost use Rattle.cf_lex.specs.declared.token.TokenKind.TheVariants.{Sign};
-ghost use Rattle.cf_parse.specs.Gives.{Gives};
-ghost use Rattle.cf_parse.specs.Readers.{must, a_name, others_of, several_of};
-ghost use Rattle.cf_parse.specs.Reading.{snoc, named, a_base, param_of, params_of, names_of, results_of};
+ghost use Rattle.cf_reader.specs.Gives.{Gives};
+ghost use Rattle.cf_reader.specs.Readers.{must, a_name, snoc, others_of, several_of};
+ghost use Rattle.cf_parse.specs.Reading.{named, param_of, params_of, names_of};
 
-use crate::stop::Stop;
-use crate::tokens::{after_sign, expect_name, expect_sign};
-use crate::words::expect_base;
 use cf_lex::Token;
-use cf_tree::base::{Base, Place, Text};
+use cf_reader::stop::Stop;
+use cf_reader::tokens::{after_sign, expect_name, expect_sign};
+use cf_reader::words::expect_base;
+use cf_tree::base::{Place, Text};
 use cf_tree::raw::Param;
 use std::alloc::Global;
 
@@ -21,7 +21,7 @@ pub struct Names {
 }
 
 /// A name and its base.
-#[tactic(auto, unfolding(crate::specs::Readers::pure, crate::specs::Readers::bind, crate::specs::Reading::param_of))]
+#[tactic(auto, unfolding(cf_reader::specs::Readers::pure, cf_reader::specs::Readers::bind, crate::specs::Reading::param_of))]
 fn param(alloc: Global, tokens: &[Token]) -> Result<(Param, &[Token]), Stop>
     ensures { Gives (λ x. (x.0, x.1.now)) result (param_of tokens.now) }
 {
@@ -32,7 +32,7 @@ fn param(alloc: Global, tokens: &[Token]) -> Result<(Param, &[Token]), Stop>
 }
 
 /// One parameter or more, up to the closing parenthesis.
-#[tactic(auto, unfolding(crate::specs::Readers::bind, crate::specs::Readers::several_of))]
+#[tactic(auto, unfolding(cf_reader::specs::Readers::bind, cf_reader::specs::Readers::several_of))]
 pub fn params(alloc: Global, tokens: &[Token]) -> Result<(Vec<Param>, &[Token]), Stop>
     ensures { Gives (λ x. (x.0.items, x.1.now)) result (several_of snoc param_of (Sign (codes ",")) (Sign (codes ")")) [] tokens.now) }
 {
@@ -42,7 +42,7 @@ pub fn params(alloc: Global, tokens: &[Token]) -> Result<(Vec<Param>, &[Token]),
     more_params(alloc, params, rest)
 }
 
-#[tactic(auto, using(crate::proofs::Steps::more_ends, crate::proofs::Steps::more_goes, crate::proofs::Steps::more_errs, crate::proofs::Steps::more_closes, crate::proofs::Steps::more_unclosed), unfolding(crate::specs::Readers::others_of))]
+#[tactic(auto, using(cf_reader::proofs::Steps::more_ends, cf_reader::proofs::Steps::more_goes, cf_reader::proofs::Steps::more_errs, cf_reader::proofs::Steps::more_closes, cf_reader::proofs::Steps::more_unclosed), unfolding(cf_reader::specs::Readers::others_of))]
 fn more_params(
     alloc: Global,
     first: Vec<Param>,
@@ -69,7 +69,7 @@ fn more_params(
 }
 
 /// Parameters, if any, up to the closing parenthesis.
-#[tactic(auto, unfolding(crate::specs::Readers::first, crate::specs::Readers::pure, crate::specs::Reading::params_of))]
+#[tactic(auto, unfolding(cf_reader::specs::Readers::first, cf_reader::specs::Readers::pure, crate::specs::Reading::params_of))]
 pub fn maybe_params(alloc: Global, tokens: &[Token]) -> Result<(Vec<Param>, &[Token]), Stop>
     ensures { Gives (λ x. (x.0.items, x.1.now)) result (params_of tokens.now) }
 {
@@ -102,7 +102,7 @@ fn with_name(names: Names, name: (Place, Text)) -> Result<Names, Stop>
 }
 
 /// A name, or two or more in parentheses.
-#[tactic(auto, using(crate::proofs::Steps::names_several), unfolding(crate::specs::Readers::first, crate::specs::Readers::bind, crate::specs::Readers::pure, crate::specs::Reading::one_or_tuple, crate::specs::Reading::names_of))]
+#[tactic(auto, using(crate::proofs::Steps::names_several), unfolding(cf_reader::specs::Readers::first, cf_reader::specs::Readers::bind, cf_reader::specs::Readers::pure, cf_reader::specs::Readers::one_or_tuple, crate::specs::Reading::names_of))]
 pub fn read_names(alloc: Global, tokens: &[Token]) -> Result<(Names, &[Token]), Stop>
     ensures { Gives (λ x. ((x.0.names.items, x.0.places.items), x.1.now)) result (names_of tokens.now) }
 {
@@ -121,7 +121,7 @@ pub fn read_names(alloc: Global, tokens: &[Token]) -> Result<(Names, &[Token]), 
     }
 }
 
-#[tactic(auto, using(crate::proofs::Steps::more_ends, crate::proofs::Steps::more_goes, crate::proofs::Steps::more_errs, crate::proofs::Steps::more_closes, crate::proofs::Steps::more_unclosed), unfolding(crate::specs::Readers::others_of))]
+#[tactic(auto, using(cf_reader::proofs::Steps::more_ends, cf_reader::proofs::Steps::more_goes, cf_reader::proofs::Steps::more_errs, cf_reader::proofs::Steps::more_closes, cf_reader::proofs::Steps::more_unclosed), unfolding(cf_reader::specs::Readers::others_of))]
 fn more_names(alloc: Global, first: Names, tokens: &[Token]) -> Result<(Names, &[Token]), Stop>
     ensures { Gives (λ x. ((x.0.names.items, x.0.places.items), x.1.now)) result (others_of named (must a_name) (Sign (codes ",")) (Sign (codes ")")) (first.names.items, first.places.items) tokens.now) }
 {
@@ -132,51 +132,6 @@ fn more_names(alloc: Global, first: Names, tokens: &[Token]) -> Result<(Names, &
             Some((_, behind)) => {
                 let (x, behind) = expect_name(alloc, behind)?;
                 done = with_name(done, x)?;
-                rest = behind;
-            }
-            None => {
-                let (_, behind) = expect_sign(")", rest)?;
-                return Ok((done, behind));
-            }
-        }
-    }
-    Err(Stop::At(0))
-}
-
-/// A base, or two or more in parentheses.
-#[tactic(auto, using(crate::proofs::Steps::results_several), unfolding(crate::specs::Readers::first, crate::specs::Readers::bind, crate::specs::Readers::pure, crate::specs::Reading::one_or_tuple, crate::specs::Reading::results_of))]
-pub fn results(alloc: Global, tokens: &[Token]) -> Result<(Vec<Base>, &[Token]), Stop>
-    ensures { Gives (λ x. (x.0.items, x.1.now)) result (results_of tokens.now) }
-{
-    let mut all = Vec::new(alloc);
-    match after_sign("(", tokens) {
-        Some((_, rest)) => {
-            let (x, rest) = expect_base(rest)?;
-            let (_, rest) = expect_sign(",", rest)?;
-            let (y, rest) = expect_base(rest)?;
-            all.push(x)?;
-            all.push(y)?;
-            more_results(all, rest)
-        }
-        None => {
-            let (x, rest) = expect_base(tokens)?;
-            all.push(x)?;
-            Ok((all, rest))
-        }
-    }
-}
-
-#[tactic(auto, using(crate::proofs::Steps::more_ends, crate::proofs::Steps::more_goes, crate::proofs::Steps::more_errs, crate::proofs::Steps::more_closes, crate::proofs::Steps::more_unclosed), unfolding(crate::specs::Readers::others_of))]
-fn more_results(first: Vec<Base>, tokens: &[Token]) -> Result<(Vec<Base>, &[Token]), Stop>
-    ensures { Gives (λ x. (x.0.items, x.1.now)) result (others_of snoc (must a_base) (Sign (codes ",")) (Sign (codes ")")) first.items tokens.now) }
-{
-    let mut done = first;
-    let mut rest = tokens;
-    for _ in 0..tokens.len() {
-        match after_sign(",", rest) {
-            Some((_, behind)) => {
-                let (x, behind) = expect_base(behind)?;
-                done.push(x)?;
                 rest = behind;
             }
             None => {

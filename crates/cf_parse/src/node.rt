@@ -2,13 +2,13 @@
 ghost use Rattle.std.specs.Prelude.{◌≡◌, ◌≤◌, ◌<◌, ◌+◌, ◌^◌, ◌∷◌, ◌++◌, [], IfOk, Ok, map, max};
 ghost use Rattle.cf_tree.specs.RawTree.{raw_lit, raw_truth, raw_name, raw_set_of, raw_neg, raw_not, raw_abs, raw_binary, raw_divides, raw_div, raw_mod, raw_card, raw_call, raw_if, raw_let, raw_choose, raw_match, raw_arm, raws_of, raw_arms_of};
 ghost use Rattle.cf_tree.specs.RawView.{raw_tree, raw_arm_tree};
-ghost use Rattle.cf_parse.specs.Gives.{Gives};
+ghost use Rattle.cf_reader.specs.Gives.{Gives};
 ghost use Rattle.cf_parse.specs.Reading.{grouped as grouped_of};
 
 use crate::lists::Names;
 use crate::part::{Measured, MeasuredArm, MeasuredArms, MeasuredList};
 use crate::pattern::Pattern;
-use crate::stop::Stop;
+use cf_reader::stop::Stop;
 use cf_tree::base::{Place, Text};
 use cf_tree::raw::{BinOp, Param, Raw, RawArm, RawNode};
 use std::alloc::Global;

@@ -1,13 +1,13 @@
 //! Linear patterns.
 ghost use Rattle.std.specs.Prelude.{◌≡◌, ◌≤ℤ◌, pos};
-ghost use Rattle.cf_parse.specs.Gives.{Gives};
+ghost use Rattle.cf_reader.specs.Gives.{Gives};
 ghost use Rattle.cf_parse.specs.Spelling.{signed as signed_of};
 ghost use Rattle.cf_parse.specs.Reading.{term_of, all_terms, pattern_of};
 
-use crate::stop::Stop;
-use crate::tokens::{after_sign, expect_name, literal_at_least};
 use crate::words::plus_or_minus;
 use cf_lex::Token;
+use cf_reader::stop::Stop;
+use cf_reader::tokens::{after_sign, expect_name, literal_at_least};
 use cf_tree::raw::Part;
 use std::alloc::Global;
 
@@ -34,7 +34,7 @@ fn signed(minus: bool, k: i128) -> i128
 }
 
 /// The next term, behind a minus or a plus.
-#[tactic(auto, unfolding(crate::specs::Readers::first, crate::specs::Readers::bind, crate::specs::Readers::pure, crate::specs::Reading::term_of))]
+#[tactic(auto, unfolding(cf_reader::specs::Readers::first, cf_reader::specs::Readers::bind, cf_reader::specs::Readers::pure, crate::specs::Reading::term_of))]
 fn next_term(alloc: Global, minus: bool, tokens: &[Token]) -> Result<(Term, &[Token]), Stop>
     ensures { Gives (λ x. (x.0, x.1.now)) result (term_of minus tokens.now) }
 {
@@ -93,7 +93,7 @@ fn terms(alloc: Global, first: bool, tokens: &[Token]) -> Result<(Pattern, &[Tok
 }
 
 /// A pattern.
-#[tactic(auto, unfolding(crate::specs::Readers::first, crate::specs::Reading::pattern_of))]
+#[tactic(auto, unfolding(cf_reader::specs::Readers::first, crate::specs::Reading::pattern_of))]
 pub fn read_pattern(alloc: Global, tokens: &[Token]) -> Result<(Pattern, &[Token]), Stop>
     ensures { Gives (λ x. ((x.0.parts.items, x.0.constant), x.1.now)) result (pattern_of tokens.now) }
 {

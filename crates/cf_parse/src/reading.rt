@@ -3,21 +3,22 @@ ghost use Rattle.std.specs.Prelude.{◌≡◌, ◌≤◌, ◌<◌, ◌+◌, ◌^
 ghost use Rattle.cf_lex.specs.declared.token.TokenKind.TheVariants.{Sign};
 ghost use Rattle.cf_parse.specs.declared.level.Level.TheVariants.{Whole};
 ghost use Rattle.cf_tree.specs.RawView.{raw_tree, raw_arm_tree};
-ghost use Rattle.cf_parse.specs.Gives.{Gives};
-ghost use Rattle.cf_parse.specs.Readers.{others_of, several_of};
-ghost use Rattle.cf_parse.specs.Reading.{snoc, chain_of, list_of, items_of, inside_of, divided_of, named_of, word_of, atom_of, unary_of, muls_of, sums_of, compared_of, cmps_of, ands_of, ors_of, let_of, if_of, choose_of, arm_of, match_of, whole_of, read as read_at};
+ghost use Rattle.cf_reader.specs.Gives.{Gives};
+ghost use Rattle.cf_reader.specs.Readers.{snoc, others_of, several_of};
+ghost use Rattle.cf_parse.specs.Reading.{chain_of, list_of, items_of, inside_of, divided_of, named_of, word_of, atom_of, unary_of, muls_of, sums_of, compared_of, cmps_of, ands_of, ors_of, let_of, if_of, choose_of, arm_of, match_of, whole_of, read as read_at};
 
 use crate::level::Level;
 use crate::lists::{params, read_names};
 use crate::node;
 use crate::part::{Measured, MeasuredArm, MeasuredArms, MeasuredList};
 use crate::pattern::read_pattern;
-use crate::stop::Stop;
-use crate::tokens::{
+use crate::words::{divides_by, next_op, under};
+use cf_lex::Token;
+use cf_reader::stop::Stop;
+use cf_reader::tokens::{
     after_sign, after_word, expect_literal, expect_name, expect_sign, expect_word, literal_at_least,
 };
-use crate::words::{divides_by, next_op, truth, under};
-use cf_lex::Token;
+use cf_reader::words::truth;
 use cf_tree::base::Place;
 use std::alloc::Global;
 
@@ -50,7 +51,7 @@ pub fn part(
 
 /// Any expression.
 #[cycle(reading)]
-#[tactic(auto, unfolding(crate::specs::Readers::deep, crate::specs::Reading::whole_of))]
+#[tactic(auto, unfolding(cf_reader::specs::Readers::deep, crate::specs::Reading::whole_of))]
 fn whole(alloc: Global, n: u32, tokens: &[Token]) -> Result<(Measured, &[Token]), Stop>
     requires { n < 2 ^ 30 }
     ensures value { Gives (λ x. (raw_tree x.0.raw, x.1.now)) result (whole_of (read_at n) n tokens.now) }
@@ -85,7 +86,7 @@ fn whole(alloc: Global, n: u32, tokens: &[Token]) -> Result<(Measured, &[Token])
 
 /// Behind the word `let`.
 #[cycle(reading)]
-#[tactic(auto, unfolding(crate::specs::Readers::bind, crate::specs::Readers::pure, crate::specs::Reading::let_of))]
+#[tactic(auto, unfolding(cf_reader::specs::Readers::bind, cf_reader::specs::Readers::pure, crate::specs::Reading::let_of))]
 fn let_in(
     alloc: Global,
     n: u32,
@@ -106,7 +107,7 @@ fn let_in(
 
 /// Behind the word `if`.
 #[cycle(reading)]
-#[tactic(auto, unfolding(crate::specs::Readers::bind, crate::specs::Readers::pure, crate::specs::Reading::if_of))]
+#[tactic(auto, unfolding(cf_reader::specs::Readers::bind, cf_reader::specs::Readers::pure, crate::specs::Reading::if_of))]
 fn if_else(
     alloc: Global,
     n: u32,
@@ -127,7 +128,7 @@ fn if_else(
 
 /// Behind the word `choose`.
 #[cycle(reading)]
-#[tactic(auto, unfolding(crate::specs::Readers::bind, crate::specs::Readers::pure, crate::specs::Reading::choose_of))]
+#[tactic(auto, unfolding(cf_reader::specs::Readers::bind, cf_reader::specs::Readers::pure, crate::specs::Reading::choose_of))]
 fn choose(
     alloc: Global,
     n: u32,
@@ -147,7 +148,7 @@ fn choose(
 
 /// Behind the word `match`.
 #[cycle(reading)]
-#[tactic(auto, unfolding(crate::specs::Readers::bind, crate::specs::Readers::pure, crate::specs::Readers::several_of, crate::specs::Reading::match_of))]
+#[tactic(auto, unfolding(cf_reader::specs::Readers::bind, cf_reader::specs::Readers::pure, cf_reader::specs::Readers::several_of, crate::specs::Reading::match_of))]
 fn match_with(
     alloc: Global,
     n: u32,
@@ -170,7 +171,7 @@ fn match_with(
 
 /// An arm of a `match`.
 #[cycle(reading)]
-#[tactic(auto, unfolding(crate::specs::Readers::bind, crate::specs::Readers::pure, crate::specs::Reading::arm_of))]
+#[tactic(auto, unfolding(cf_reader::specs::Readers::bind, cf_reader::specs::Readers::pure, crate::specs::Reading::arm_of))]
 fn arm(alloc: Global, n: u32, tokens: &[Token]) -> Result<(MeasuredArm, &[Token]), Stop>
     requires small { n < 2 ^ 30 }
     requires some { 1 ≤ n }
@@ -185,7 +186,7 @@ fn arm(alloc: Global, n: u32, tokens: &[Token]) -> Result<(MeasuredArm, &[Token]
 
 /// More arms, up to the closing brace.
 #[cycle(reading)]
-#[tactic(auto, using(crate::proofs::Steps::more_ends, crate::proofs::Steps::more_goes, crate::proofs::Steps::more_errs, crate::proofs::Steps::more_closes, crate::proofs::Steps::more_unclosed), unfolding(crate::specs::Readers::others_of))]
+#[tactic(auto, using(cf_reader::proofs::Steps::more_ends, cf_reader::proofs::Steps::more_goes, cf_reader::proofs::Steps::more_errs, cf_reader::proofs::Steps::more_closes, cf_reader::proofs::Steps::more_unclosed), unfolding(cf_reader::specs::Readers::others_of))]
 fn more_arms(
     alloc: Global,
     n: u32,
@@ -218,7 +219,7 @@ fn more_arms(
 
 /// Joined by `||`.
 #[cycle(reading)]
-#[tactic(auto, unfolding(crate::specs::Readers::bind, crate::specs::Reading::ors_of))]
+#[tactic(auto, unfolding(cf_reader::specs::Readers::bind, crate::specs::Reading::ors_of))]
 fn ors(alloc: Global, n: u32, tokens: &[Token]) -> Result<(Measured, &[Token]), Stop>
     requires { n < 2 ^ 30 }
     ensures value { Gives (λ x. (raw_tree x.0.raw, x.1.now)) result (ors_of (read_at n) n tokens.now) }
@@ -230,7 +231,7 @@ fn ors(alloc: Global, n: u32, tokens: &[Token]) -> Result<(Measured, &[Token]), 
 
 /// Joined by `&&`.
 #[cycle(reading)]
-#[tactic(auto, unfolding(crate::specs::Readers::bind, crate::specs::Reading::ands_of))]
+#[tactic(auto, unfolding(cf_reader::specs::Readers::bind, crate::specs::Reading::ands_of))]
 fn ands(alloc: Global, n: u32, tokens: &[Token]) -> Result<(Measured, &[Token]), Stop>
     requires { n < 2 ^ 30 }
     ensures value { Gives (λ x. (raw_tree x.0.raw, x.1.now)) result (ands_of (read_at n) n tokens.now) }
@@ -242,7 +243,7 @@ fn ands(alloc: Global, n: u32, tokens: &[Token]) -> Result<(Measured, &[Token]),
 
 /// At most one comparison, or `divides`.
 #[cycle(reading)]
-#[tactic(auto, unfolding(crate::specs::Readers::bind, crate::specs::Reading::cmps_of))]
+#[tactic(auto, unfolding(cf_reader::specs::Readers::bind, crate::specs::Reading::cmps_of))]
 fn cmps(alloc: Global, n: u32, tokens: &[Token]) -> Result<(Measured, &[Token]), Stop>
     requires { n < 2 ^ 30 }
     ensures value { Gives (λ x. (raw_tree x.0.raw, x.1.now)) result (cmps_of (read_at n) n tokens.now) }
@@ -254,7 +255,7 @@ fn cmps(alloc: Global, n: u32, tokens: &[Token]) -> Result<(Measured, &[Token]),
 
 /// The rest of a comparison or of `divides`, if there is any, behind the first part.
 #[cycle(reading)]
-#[tactic(auto, unfolding(crate::specs::Readers::first, crate::specs::Readers::bind, crate::specs::Readers::pure, crate::specs::Reading::compared_of))]
+#[tactic(auto, unfolding(cf_reader::specs::Readers::first, cf_reader::specs::Readers::bind, cf_reader::specs::Readers::pure, crate::specs::Reading::compared_of))]
 fn compared(
     alloc: Global,
     n: u32,
@@ -279,7 +280,7 @@ fn compared(
 
 /// Joined by `+`, `-`, `union` or `diff`.
 #[cycle(reading)]
-#[tactic(auto, unfolding(crate::specs::Readers::bind, crate::specs::Reading::sums_of))]
+#[tactic(auto, unfolding(cf_reader::specs::Readers::bind, crate::specs::Reading::sums_of))]
 fn sums(alloc: Global, n: u32, tokens: &[Token]) -> Result<(Measured, &[Token]), Stop>
     requires { n < 2 ^ 30 }
     ensures value { Gives (λ x. (raw_tree x.0.raw, x.1.now)) result (sums_of (read_at n) n tokens.now) }
@@ -291,7 +292,7 @@ fn sums(alloc: Global, n: u32, tokens: &[Token]) -> Result<(Measured, &[Token]),
 
 /// Joined by `*` or `inter`.
 #[cycle(reading)]
-#[tactic(auto, unfolding(crate::specs::Readers::bind, crate::specs::Reading::muls_of))]
+#[tactic(auto, unfolding(cf_reader::specs::Readers::bind, crate::specs::Reading::muls_of))]
 fn muls(alloc: Global, n: u32, tokens: &[Token]) -> Result<(Measured, &[Token]), Stop>
     requires { n < 2 ^ 30 }
     ensures value { Gives (λ x. (raw_tree x.0.raw, x.1.now)) result (muls_of (read_at n) n tokens.now) }
@@ -333,7 +334,7 @@ fn chain(
 
 /// Behind signs, or by itself.
 #[cycle(reading)]
-#[tactic(auto, unfolding(crate::specs::Readers::deep, crate::specs::Readers::bind, crate::specs::Readers::pure, crate::specs::Reading::unary_of))]
+#[tactic(auto, unfolding(cf_reader::specs::Readers::deep, cf_reader::specs::Readers::bind, cf_reader::specs::Readers::pure, crate::specs::Reading::unary_of))]
 fn unary(alloc: Global, n: u32, tokens: &[Token]) -> Result<(Measured, &[Token]), Stop>
     requires { n < 2 ^ 30 }
     ensures value { Gives (λ x. (raw_tree x.0.raw, x.1.now)) result (unary_of (read_at n) n tokens.now) }
@@ -358,7 +359,7 @@ fn unary(alloc: Global, n: u32, tokens: &[Token]) -> Result<(Measured, &[Token])
 
 /// By itself.
 #[cycle(reading)]
-#[tactic(auto, unfolding(crate::specs::Readers::first, crate::specs::Readers::deep, crate::specs::Readers::bind, crate::specs::Readers::pure, crate::specs::Reading::atom_of))]
+#[tactic(auto, unfolding(cf_reader::specs::Readers::first, cf_reader::specs::Readers::deep, cf_reader::specs::Readers::bind, cf_reader::specs::Readers::pure, crate::specs::Reading::atom_of))]
 fn atom(alloc: Global, n: u32, tokens: &[Token]) -> Result<(Measured, &[Token]), Stop>
     requires { n < 2 ^ 30 }
     ensures value { Gives (λ x. (raw_tree x.0.raw, x.1.now)) result (atom_of (read_at n) n tokens.now) }
@@ -383,7 +384,7 @@ fn atom(alloc: Global, n: u32, tokens: &[Token]) -> Result<(Measured, &[Token]),
 
 /// A form that begins with a word.
 #[cycle(reading)]
-#[tactic(auto, unfolding(crate::specs::Readers::first, crate::specs::Readers::deep, crate::specs::Readers::bind, crate::specs::Readers::pure, crate::specs::Reading::word_of))]
+#[tactic(auto, unfolding(cf_reader::specs::Readers::first, cf_reader::specs::Readers::deep, cf_reader::specs::Readers::bind, cf_reader::specs::Readers::pure, crate::specs::Reading::word_of))]
 fn word(alloc: Global, n: u32, tokens: &[Token]) -> Result<(Measured, &[Token]), Stop>
     requires { n < 2 ^ 30 }
     ensures value { Gives (λ x. (raw_tree x.0.raw, x.1.now)) result (word_of (read_at n) n tokens.now) }
@@ -425,7 +426,7 @@ fn word(alloc: Global, n: u32, tokens: &[Token]) -> Result<(Measured, &[Token]),
 
 /// A name, or a call.
 #[cycle(reading)]
-#[tactic(auto, unfolding(crate::specs::Readers::first, crate::specs::Readers::bind, crate::specs::Readers::pure, crate::specs::Reading::named_of))]
+#[tactic(auto, unfolding(cf_reader::specs::Readers::first, cf_reader::specs::Readers::bind, cf_reader::specs::Readers::pure, crate::specs::Reading::named_of))]
 fn name_or_call(alloc: Global, n: u32, tokens: &[Token]) -> Result<(Measured, &[Token]), Stop>
     requires { n < 2 ^ 30 }
     ensures value { Gives (λ x. (raw_tree x.0.raw, x.1.now)) result (named_of (read_at n) tokens.now) }
@@ -443,7 +444,7 @@ fn name_or_call(alloc: Global, n: u32, tokens: &[Token]) -> Result<(Measured, &[
 
 /// An expression in parentheses.
 #[cycle(reading)]
-#[tactic(auto, unfolding(crate::specs::Readers::bind, crate::specs::Readers::pure, crate::specs::Reading::inside_of))]
+#[tactic(auto, unfolding(cf_reader::specs::Readers::bind, cf_reader::specs::Readers::pure, crate::specs::Reading::inside_of))]
 fn inside(alloc: Global, n: u32, tokens: &[Token]) -> Result<(Measured, &[Token]), Stop>
     requires { n < 2 ^ 30 }
     ensures value { Gives (λ x. (raw_tree x.0.raw, x.1.now)) result (inside_of (read_at n) tokens.now) }
@@ -457,7 +458,7 @@ fn inside(alloc: Global, n: u32, tokens: &[Token]) -> Result<(Measured, &[Token]
 
 /// An expression and a literal of at least 1, in parentheses.
 #[cycle(reading)]
-#[tactic(auto, unfolding(crate::specs::Readers::bind, crate::specs::Readers::pure, crate::specs::Reading::divided_of))]
+#[tactic(auto, unfolding(cf_reader::specs::Readers::bind, cf_reader::specs::Readers::pure, crate::specs::Reading::divided_of))]
 fn divided(alloc: Global, n: u32, tokens: &[Token]) -> Result<((Measured, i128), &[Token]), Stop>
     requires { n < 2 ^ 30 }
     ensures value { Gives (λ x. ((raw_tree x.0.0.raw, x.0.1), x.1.now)) result (divided_of (read_at n) tokens.now) }
@@ -473,7 +474,7 @@ fn divided(alloc: Global, n: u32, tokens: &[Token]) -> Result<((Measured, i128),
 
 /// Expressions, if any, up to the closing sign.
 #[cycle(reading)]
-#[tactic(auto, unfolding(crate::specs::Readers::first, crate::specs::Readers::pure, crate::specs::Reading::items_of))]
+#[tactic(auto, unfolding(cf_reader::specs::Readers::first, cf_reader::specs::Readers::pure, crate::specs::Reading::items_of))]
 fn items<'a>(
     alloc: Global,
     n: u32,
@@ -492,7 +493,7 @@ fn items<'a>(
 
 /// One expression or more, up to the closing sign.
 #[cycle(reading)]
-#[tactic(auto, unfolding(crate::specs::Readers::bind, crate::specs::Readers::several_of, crate::specs::Reading::list_of))]
+#[tactic(auto, unfolding(cf_reader::specs::Readers::bind, cf_reader::specs::Readers::several_of, crate::specs::Reading::list_of))]
 fn list<'a>(
     alloc: Global,
     n: u32,
@@ -510,7 +511,7 @@ fn list<'a>(
 
 /// More expressions, up to the closing sign.
 #[cycle(reading)]
-#[tactic(auto, using(crate::proofs::Steps::more_ends, crate::proofs::Steps::more_goes, crate::proofs::Steps::more_errs, crate::proofs::Steps::more_closes, crate::proofs::Steps::more_unclosed), unfolding(crate::specs::Readers::others_of))]
+#[tactic(auto, using(cf_reader::proofs::Steps::more_ends, cf_reader::proofs::Steps::more_goes, cf_reader::proofs::Steps::more_errs, cf_reader::proofs::Steps::more_closes, cf_reader::proofs::Steps::more_unclosed), unfolding(cf_reader::specs::Readers::others_of))]
 fn more<'a>(
     alloc: Global,
     n: u32,

@@ -1,18 +1,20 @@
 //! Reads programs.
 ghost use Rattle.std.specs.Prelude.{◌≡◌, ◌<◌, ◌^◌, IfOk, IfErr, List, map};
 ghost use Rattle.cf_lex.specs.declared.token.Token.{Token};
-ghost use Rattle.cf_parse.specs.Gives.{Gives};
+ghost use Rattle.cf_reader.specs.Gives.{Gives};
 ghost use Rattle.cf_tree.specs.DefView.{RawDefTree, raw_def_tree, program_tree};
-ghost use Rattle.cf_parse.specs.Programs.{IsProgram, Reads, IsFault, place_of, def_of, all_defs, program_of};
+ghost use Rattle.cf_reader.specs.Faults.{IsFault};
+ghost use Rattle.cf_parse.specs.Programs.{IsProgram, SomeProgram, Reads, def_of, all_defs, program_of};
 
-use crate::fault::ParseFault;
 use crate::level::Level;
-use crate::lists::{maybe_params, results};
+use crate::lists::maybe_params;
 use crate::reading::part;
-use crate::stop::Stop;
-use crate::tokens::{expect_name, expect_sign, expect_word};
 use cf_lex::{Token, TokenList};
-use cf_tree::base::Place;
+use cf_reader::fault::ParseFault;
+use cf_reader::lists::results;
+use cf_reader::places::place_at;
+use cf_reader::stop::Stop;
+use cf_reader::tokens::{expect_name, expect_sign, expect_word};
 use cf_tree::raw::{Program, RawDef};
 use std::alloc::Global;
 
@@ -20,7 +22,7 @@ use std::alloc::Global;
 const DEPTH_LIMIT: u32 = 200;
 
 /// A function, with a body of depth at most `limit`.
-#[tactic(auto, unfolding(crate::specs::Readers::bind, crate::specs::Readers::pure, crate::specs::Programs::def_of, crate::specs::Programs::def_from))]
+#[tactic(auto, unfolding(cf_reader::specs::Readers::bind, cf_reader::specs::Readers::pure, crate::specs::Programs::def_of, crate::specs::Programs::def_from))]
 fn def(alloc: Global, limit: u32, tokens: &[Token]) -> Result<(RawDef, &[Token]), Stop>
     requires { limit < 2 ^ 30 }
     ensures { Gives (λ x. (raw_def_tree x.0, x.1.now)) result (def_of limit tokens.now) }
@@ -72,7 +74,7 @@ fn more_defs(
 }
 
 /// The functions of a program, whose bodies have depth at most `limit`.
-#[tactic(auto, unfolding(crate::specs::Readers::bind, crate::specs::Programs::program_of))]
+#[tactic(auto, unfolding(cf_reader::specs::Readers::bind, crate::specs::Programs::program_of))]
 fn defs(alloc: Global, limit: u32, tokens: &[Token]) -> Result<(Vec<RawDef>, &[Token]), Stop>
     requires { limit < 2 ^ 30 }
     ensures { Gives (λ x. (map raw_def_tree x.0.items, x.1.now)) result (program_of limit tokens.now) }
@@ -81,18 +83,6 @@ fn defs(alloc: Global, limit: u32, tokens: &[Token]) -> Result<(Vec<RawDef>, &[T
     let mut all = Vec::new(alloc);
     all.push(first)?;
     more_defs(alloc, limit, all, rest)
-}
-
-/// The place where so many tokens are left.
-#[tactic(auto, unfolding(crate::specs::Programs::place_of))]
-fn place_at(tokens: &TokenList, left: usize) -> Place
-    ensures { result ≡ place_of tokens.now.list.items tokens.now.end left }
-{
-    let from = tokens.list.len().saturating_sub(left);
-    match tokens.list[from..].first() {
-        Some(t) => t.place,
-        None => tokens.end,
-    }
 }
 
 /// The one program that spells the tokens.
@@ -105,7 +95,7 @@ pub fn program(alloc: Global, tokens: &TokenList) -> Result<Program, ParseFault>
     // At most one program is spelled by the tokens.
     ensures one { (ds es : List RawDefTree) → IsProgram ds tokens.now.list.items → IsProgram es tokens.now.list.items → ds ≡ es }
     // Syntax stands at a token up to and with which no program begins, or at the end.
-    ensures place { IfErr result (λ e. IsFault tokens.now.list.items tokens.now.end e) }
+    ensures place { IfErr result (λ e. IsFault SomeProgram tokens.now.list.items tokens.now.end e) }
 {
     match defs(alloc, DEPTH_LIMIT, tokens.list.as_slice()) {
         Ok((defs, _)) => Ok(Program { defs }),

@@ -1,60 +1,20 @@
 //! Words and signs of expressions that stand first.
 ghost use Rattle.std.specs.Prelude.{◌≡◌, ◌≤◌, IfSome};
 ghost use Rattle.cf_tree.specs.RawView.{raw_tree};
-ghost use Rattle.cf_parse.specs.Gives.{Gives, Shows};
-ghost use Rattle.cf_parse.specs.Readers.{at, must};
+ghost use Rattle.cf_reader.specs.Gives.{Shows};
+ghost use Rattle.cf_reader.specs.Readers.{at};
 ghost use Rattle.cf_parse.specs.Spelling.{under as under_of, op_level as op_level_of, rank as rank_of};
-ghost use Rattle.cf_parse.specs.Reading.{a_base, a_truth, a_sign, word_op as word_op_of, compare_op as compare_op_of, sign_op as sign_op_of, op_of, next_op as next_op_of, lone_literal as lone_literal_of, divides_by as divides_by_of};
+ghost use Rattle.cf_parse.specs.Reading.{a_sign, next_op as next_op_of, lone_literal as lone_literal_of, divides_by as divides_by_of};
 
 use crate::level::Level;
-use crate::stop::Stop;
-use crate::tokens::after_word;
 use cf_lex::{Token, TokenKind};
-use cf_tree::base::{Base, Order, Place};
+use cf_reader::operations::operation;
+use cf_reader::tokens::after_word;
+use cf_tree::base::Place;
 use cf_tree::raw::{BinOp, Raw, RawNode};
 
-/// A base that has to stand first, and the tokens after it.
-#[tactic(auto, unfolding(crate::specs::Readers::must, crate::specs::Readers::at))]
-pub fn expect_base(tokens: &[Token]) -> Result<(Base, &[Token]), Stop>
-    ensures { Gives (λ x. (x.0, x.1.now)) result (must a_base tokens.now) }
-{
-    let Some((t, rest)) = tokens.split_first() else {
-        return Err(Stop::At(0));
-    };
-    let TokenKind::Word(word) = &t.kind else {
-        return Err(Stop::At(tokens.len()));
-    };
-    if word.bytes.as_slice() == b"int".as_slice() {
-        Ok((Base::Int, rest))
-    } else if word.bytes.as_slice() == b"bool".as_slice() {
-        Ok((Base::Bool, rest))
-    } else if word.bytes.as_slice() == b"set".as_slice() {
-        Ok((Base::Set, rest))
-    } else {
-        Err(Stop::At(tokens.len()))
-    }
-}
-
-/// A truth value that stands first, with its place, and the tokens after it.
-#[tactic(auto, unfolding(crate::specs::Readers::at))]
-pub fn truth(tokens: &[Token]) -> Option<((Place, bool), &[Token])>
-    ensures { Shows (λ x. (x.0, x.1.now)) result (at a_truth tokens.now) }
-{
-    let (t, rest) = tokens.split_first()?;
-    let TokenKind::Word(word) = &t.kind else {
-        return None;
-    };
-    if word.bytes.as_slice() == b"true".as_slice() {
-        Some(((t.place, true), rest))
-    } else if word.bytes.as_slice() == b"false".as_slice() {
-        Some(((t.place, false), rest))
-    } else {
-        None
-    }
-}
-
 /// Whether a minus stands first, or a plus, and the tokens after it.
-#[tactic(auto, unfolding(crate::specs::Readers::at))]
+#[tactic(auto, unfolding(cf_reader::specs::Readers::at))]
 pub fn plus_or_minus(tokens: &[Token]) -> Option<(bool, &[Token])>
     ensures { Shows (λ x. (x.0, x.1.now)) result (at a_sign tokens.now) }
 {
@@ -117,75 +77,9 @@ fn op_level(op: BinOp) -> Level
     }
 }
 
-fn word_op(word: &[u8]) -> Option<BinOp>
-    ensures { result ≡ word_op_of word.now }
-{
-    if word == b"union".as_slice() {
-        Some(BinOp::Union)
-    } else if word == b"diff".as_slice() {
-        Some(BinOp::Diff)
-    } else if word == b"inter".as_slice() {
-        Some(BinOp::Inter)
-    } else if word == b"subset".as_slice() {
-        Some(BinOp::Subset)
-    } else {
-        None
-    }
-}
-
-fn compare_op(sign: &[u8]) -> Option<BinOp>
-    ensures { result ≡ compare_op_of sign.now }
-{
-    if sign == b"==".as_slice() {
-        Some(BinOp::Compare(Order::Eq))
-    } else if sign == b"!=".as_slice() {
-        Some(BinOp::Compare(Order::Ne))
-    } else if sign == b"<".as_slice() {
-        Some(BinOp::Compare(Order::Lt))
-    } else if sign == b"<=".as_slice() {
-        Some(BinOp::Compare(Order::Le))
-    } else if sign == b">".as_slice() {
-        Some(BinOp::Compare(Order::Gt))
-    } else if sign == b">=".as_slice() {
-        Some(BinOp::Compare(Order::Ge))
-    } else {
-        None
-    }
-}
-
-fn sign_op(sign: &[u8]) -> Option<BinOp>
-    ensures { result ≡ sign_op_of sign.now }
-{
-    if sign == b"||".as_slice() {
-        Some(BinOp::Or)
-    } else if sign == b"&&".as_slice() {
-        Some(BinOp::And)
-    } else if sign == b"+".as_slice() {
-        Some(BinOp::Add)
-    } else if sign == b"-".as_slice() {
-        Some(BinOp::Sub)
-    } else if sign == b"*".as_slice() {
-        Some(BinOp::Mul)
-    } else {
-        compare_op(sign)
-    }
-}
-
-/// The operation of a word or sign.
-#[tactic(auto, unfolding(crate::specs::Reading::op_of))]
-fn op(kind: &TokenKind) -> Option<BinOp>
-    ensures { result ≡ op_of kind.now }
-{
-    match kind {
-        TokenKind::Literal(_) => None,
-        TokenKind::Word(word) => word_op(&word.bytes),
-        TokenKind::Sign(sign) => sign_op(&sign.bytes),
-    }
-}
-
 /// The operation with which a tree of depth `d` goes on at a level, where its parts may have depth
 /// `n`, with its place, and the tokens after it.
-#[tactic(auto, unfolding(crate::specs::Readers::at, crate::specs::Reading::next_op))]
+#[tactic(auto, unfolding(cf_reader::specs::Readers::at, crate::specs::Reading::next_op))]
 pub fn next_op(level: Level, n: u32, d: u32, tokens: &[Token]) -> Option<((Place, BinOp), &[Token])>
     ensures value { Shows (λ x. (x.0, x.1.now)) result (at (next_op_of level n d) tokens.now) }
     ensures small { IfSome result (λ x. d ≤ n) }
@@ -194,7 +88,7 @@ pub fn next_op(level: Level, n: u32, d: u32, tokens: &[Token]) -> Option<((Place
     if d > n {
         return None;
     }
-    let op = op(&t.kind)?;
+    let op = operation(&t.kind)?;
     if rank(op_level(op)) == rank(level) {
         Some(((t.place, op), rest))
     } else {
@@ -214,7 +108,7 @@ fn lone_literal(raw: &Raw) -> Option<(Place, i128)>
 
 /// The literal of at least 1 that `left` is, with its place, if the word `divides` stands first, and
 /// the tokens after it; the parts may have depth `n`.
-#[tactic(auto, unfolding(crate::specs::Readers::at, crate::specs::Reading::divides_by))]
+#[tactic(auto, unfolding(cf_reader::specs::Readers::at, crate::specs::Reading::divides_by))]
 pub fn divides_by<'a>(
     n: u32,
     left: &Raw,

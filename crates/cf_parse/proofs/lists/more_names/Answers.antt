@@ -1,8 +1,8 @@
 use Rattle.std.proofs.Common.{rules, arith}
 use Rattle.std.proofs.lemmas.Result.{err_from_is_err_and}
-use Rattle.cf_parse.specs.Readers.{must, a_name, others_of}
+use Rattle.cf_reader.specs.Readers.{must, a_name, others_of}
+use Rattle.cf_reader.proofs.Steps.{more_fails, more_next}
 use Rattle.cf_parse.specs.Reading.{named}
-use Rattle.cf_parse.proofs.Steps.{more_fails, more_next}
 use Rattle.cf_parse.proofs.lists.more_names.Goals as goal
 
 pub returns-in_err-x-in-Some : goal.returns-in_err-x-in-Some

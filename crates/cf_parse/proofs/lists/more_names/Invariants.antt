@@ -1,7 +1,7 @@
 use Rattle.std.proofs.Common.{◌≡◌, ◌-◌, length}
 use Rattle.std.specs.Prelude.{codes}
 use Rattle.cf_lex.specs.declared.token.TokenKind.TheVariants.{Sign}
-use Rattle.cf_parse.specs.Readers.{more_of, must, a_name}
+use Rattle.cf_reader.specs.Readers.{more_of, must, a_name}
 use Rattle.cf_parse.specs.Reading.{named}
 use Rattle.cf_parse.proofs.lists.more_names.Given as goal
 

@@ -1,8 +1,8 @@
 use Rattle.std.proofs.Common.{rules, arith}
 use Rattle.std.proofs.lemmas.Result.{err_from_is_err_and}
-use Rattle.cf_parse.specs.Readers.{others_of}
-use Rattle.cf_parse.specs.Reading.{snoc, param_of}
-use Rattle.cf_parse.proofs.Steps.{more_fails, more_next}
+use Rattle.cf_reader.specs.Readers.{others_of, snoc}
+use Rattle.cf_reader.proofs.Steps.{more_fails, more_next}
+use Rattle.cf_parse.specs.Reading.{param_of}
 use Rattle.cf_parse.proofs.lists.more_params.Goals as goal
 
 pub returns-in_err-x-in-Some : goal.returns-in_err-x-in-Some

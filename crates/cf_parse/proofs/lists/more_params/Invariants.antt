@@ -1,8 +1,8 @@
 use Rattle.std.proofs.Common.{◌≡◌, ◌-◌, length}
 use Rattle.std.specs.Prelude.{codes}
 use Rattle.cf_lex.specs.declared.token.TokenKind.TheVariants.{Sign}
-use Rattle.cf_parse.specs.Readers.{more_of}
-use Rattle.cf_parse.specs.Reading.{snoc, param_of}
+use Rattle.cf_reader.specs.Readers.{more_of, snoc}
+use Rattle.cf_parse.specs.Reading.{param_of}
 use Rattle.cf_parse.proofs.lists.more_params.Given as goal
 
 abbrev pub invariant-loop : goal.invariant-loop

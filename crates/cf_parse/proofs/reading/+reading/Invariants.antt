@@ -2,9 +2,9 @@ use Rattle.std.proofs.Common.{◌≡◌, ◌≤◌, ◌+◌, ◌*◌, ◌-◌, l
 use Rattle.std.specs.Prelude.{codes}
 use Rattle.cf_lex.specs.declared.token.TokenKind.TheVariants.{Sign}
 use Rattle.cf_tree.specs.RawView.{raw_tree, raw_arm_tree}
+use Rattle.cf_reader.specs.Readers.{more_of, snoc}
 use Rattle.cf_parse.specs.declared.level.Level.TheVariants.{Whole}
-use Rattle.cf_parse.specs.Readers.{more_of}
-use Rattle.cf_parse.specs.Reading.{snoc, read, chain_of, arm_of}
+use Rattle.cf_parse.specs.Reading.{read, chain_of, arm_of}
 use Rattle.cf_parse.proofs.reading.+reading.Given as goal
 
 abbrev pub decreases-part : goal.decreases-part

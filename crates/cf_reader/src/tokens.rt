@@ -4,8 +4,8 @@ ghost use Rattle.std.specs.List.{list_any};
 ghost use Rattle.std.specs.Str.{bytes_eq};
 ghost use Rattle.cf_lex.specs.Words.{is_reserved as reserved, reserved_words};
 ghost use Rattle.cf_lex.specs.declared.token.TokenKind.TheVariants.{Word, Sign};
-ghost use Rattle.cf_parse.specs.Gives.{Gives, Shows};
-ghost use Rattle.cf_parse.specs.Readers.{same_kind, is, a_name, a_literal, at, must};
+ghost use Rattle.cf_reader.specs.Gives.{Gives, Shows};
+ghost use Rattle.cf_reader.specs.Readers.{same_kind, is, a_name, a_literal, at, must};
 
 use crate::stop::Stop;
 use cf_lex::{Token, TokenKind};

@@ -11,7 +11,7 @@ pub enum Stop {
 
 impl From<AllocError> for Stop {
     ghost use Rattle.std.specs.Prelude.{◌≡◌};
-    ghost use Rattle.cf_parse.specs.declared.stop.Stop.TheVariants.{Memory};
+    ghost use Rattle.cf_reader.specs.declared.stop.Stop.TheVariants.{Memory};
 
     ghost from_gives = { λ _ e. e ≡ Memory };
 
@@ -22,7 +22,7 @@ impl From<AllocError> for Stop {
 
 impl<T: Drop> From<AllocFailed<T>> for Stop {
     ghost use Rattle.std.specs.Prelude.{◌≡◌};
-    ghost use Rattle.cf_parse.specs.declared.stop.Stop.TheVariants.{Memory};
+    ghost use Rattle.cf_reader.specs.declared.stop.Stop.TheVariants.{Memory};
 
     ghost from_gives = { λ _ e. e ≡ Memory };
 
@@ -33,7 +33,7 @@ impl<T: Drop> From<AllocFailed<T>> for Stop {
 
 impl From<NoMemory> for Stop {
     ghost use Rattle.std.specs.Prelude.{◌≡◌};
-    ghost use Rattle.cf_parse.specs.declared.stop.Stop.TheVariants.{Memory};
+    ghost use Rattle.cf_reader.specs.declared.stop.Stop.TheVariants.{Memory};
 
     ghost from_gives = { λ _ e. e ≡ Memory };
 

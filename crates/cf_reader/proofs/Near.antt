@@ -2,7 +2,7 @@
 use Rattle.std.proofs.Common.{ℕ, suc, zero, ◌≤◌, List, [], ◌∷◌, length, Option, Some, None, Ok, Err, arith}
 use Rattle.cf_lex.specs.declared.token.Token.{Token}
 use Rattle.cf_lex.specs.declared.token.TokenKind.{TokenKind}
-use Rattle.cf_parse.specs.Readers.{Got, Reader, Test, is, before, at, pure, must, bind, first, deep, at_end, more_of, others_of, several_of}
+use Rattle.cf_reader.specs.Readers.{Got, Reader, Test, is, before, at, pure, refuse, must, bind, first, deep, at_end, more_of, others_of, several_of, one_or_tuple}
 
 -- at most so many tokens are left
 pub data Within {A : Type 0} (m : ℕ) : Got A → Type 0 where
@@ -31,6 +31,10 @@ pure_local x = record { within = λ ts m l. ok_in x ts l; near = λ ts us n. bot
 
 pub fault_local : {A : Type 0} {more other : List Token} → Local {A = A} more other (λ ts. Err (length ts)) (λ ts. Err (length ts))
 fault_local = record { within = λ ts m l. err_in (length ts) l; near = λ ts us n. refused (Err (length ts)) (length us) }
+
+pub refuse_local : {A : Type 0} {more other : List Token} → Local {A = A} more other refuse refuse
+unfolding refuse
+refuse_local = fault_local
 
 pub end_local : {A : Type 0} {more other : List Token} (s : Reader A) → Local more other (λ ts. Err 0) s
 end_local s = record { within = λ ts m l. err_in 0 (omega arith); near = λ ts us n. past (Err 0) (s us) (err_in 0 (omega arith)) }
@@ -190,3 +194,8 @@ pub several_local : {A B : Type 0} {more other : List Token} (snoc : B → A →
     Local more other (several_of snoc item separator close done) (several_of snoc item' separator close done)
 unfolding several_of
 several_local snoc separator close done h = bind_local h (λ x. others_local snoc separator close (snoc done x) h)
+
+pub one_or_tuple_local : {A B : Type 0} {more other : List Token} (add : B → A → B) {item item' : Reader A} (none : B) → Local more other item item' → Local more other (one_or_tuple add item none) (one_or_tuple add item' none)
+unfolding one_or_tuple
+one_or_tuple_local add none h =
+    first_local _ (λ p. bind_local h (λ x. bind_local (must_local _) (λ q. bind_local h (λ y. others_local add _ _ _ h)))) (bind_local h (λ x. pure_local _))

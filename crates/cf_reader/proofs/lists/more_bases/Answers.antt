@@ -1,9 +1,9 @@
 use Rattle.std.proofs.Common.{rules, arith}
 use Rattle.std.proofs.lemmas.Result.{err_from_is_err_and}
-use Rattle.cf_parse.specs.Readers.{must, others_of}
-use Rattle.cf_parse.specs.Reading.{snoc, a_base}
-use Rattle.cf_parse.proofs.Steps.{more_fails, more_next}
-use Rattle.cf_parse.proofs.lists.more_results.Goals as goal
+use Rattle.cf_reader.specs.Readers.{must, snoc, others_of}
+use Rattle.cf_reader.specs.Kinds.{a_base}
+use Rattle.cf_reader.proofs.Steps.{more_fails, more_next}
+use Rattle.cf_reader.proofs.lists.more_bases.Goals as goal
 
 pub returns-in_err-x-in-Some : goal.returns-in_err-x-in-Some
 unfolding others_of

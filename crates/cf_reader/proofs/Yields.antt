@@ -1,6 +1,7 @@
 -- What readers read: facts of what they give, put together as the readers are.
 use Rattle.std.proofs.Common.{◌≡◌, ◌⊎◌, inl, inr, ℕ, suc, zero, Bool, true, false, List, [], ◌∷◌, ◌++◌, length, Option, Some, None, Ok, Err, refl, sym, ap, subst, ◌∙◌, append_assoc, append-nil, cond, T}
-use Rattle.std.specs.Prelude.{ℤ, ◌≤ℤ◌, int_le}
+use Rattle.std.specs.Prelude.{ℤ, ◌≤ℤ◌, int_le, codes}
+use Rattle.std.specs.Str.{bytes_eq}
 use Rattle.std.specs.Int.Signed.{le_z_yes}
 use Rattle.std.proofs.lemmas.Slice.Eq.{bytes_eq-Decides}
 use Rattle.cf_lex.specs.Words.{is_reserved}
@@ -8,8 +9,8 @@ use Rattle.cf_lex.specs.declared.token.Token.{Token}
 use Rattle.cf_lex.specs.declared.token.TokenKind.{TokenKind}
 use Rattle.cf_lex.specs.declared.token.TokenKind.TheVariants.{Literal, Word, Sign}
 use Rattle.cf_tree.specs.declared.base.Place.{Place}
-use Rattle.cf_parse.specs.Tokens.{First, Next, FirstName, FirstLiteral, Others, Several}
-use Rattle.cf_parse.specs.Readers.{Got, Reader, Test, same_kind, before, is, a_name, a_literal, at, pure, must, bind, first, deep, more_of, others_of, several_of}
+use Rattle.cf_reader.specs.Tokens.{First, Next, FirstName, FirstLiteral, Others, Several, OneOrTuple}
+use Rattle.cf_reader.specs.Readers.{Got, Reader, Test, same_kind, before, is, a_name, a_literal, at, pure, refuse, must, bind, first, deep, more_of, others_of, several_of, one_or_tuple}
 
 -- the fact holds of what is read and of the tokens after it, if anything is read
 pub data Yields {A : Type 0} (P : A → List Token → Type 0) : Got A → Type 0 where
@@ -23,6 +24,10 @@ Took f ts x us = (t : Token) × (ts ≡ t ∷ us) × (f t ≡ Some x)
 pub pure_yields : {A : Type 0} {P : A → List Token → Type 0} (x : A) (ts : List Token) → P x ts → Yields P (pure x ts)
 unfolding pure
 pure_yields x ts p = yields x ts p
+
+pub refuse_yields : {A : Type 0} {P : A → List Token → Type 0} (ts : List Token) → Yields P (refuse ts)
+unfolding refuse
+refuse_yields ts = faults (length ts)
 
 pub widen : {A : Type 0} {P Q : A → List Token → Type 0} {r : Got A} → ((x : A) (ts : List Token) → P x ts → Q x ts) → Yields P r → Yields Q r
 widen g (yields x ts p) = yields x ts (g x ts p)
@@ -78,7 +83,7 @@ abbrev pub added : {A B : Type 0} → (B → A → B) → B → List A → B
 added add done [] = done
 added add done (x ∷ xs) = added add (add done x) xs
 
-added_snoc : {A : Type 0} (done new : List A) → added (λ xs x. xs ++ x ∷ []) done new ≡ done ++ new
+pub added_snoc : {A : Type 0} (done new : List A) → added (λ xs x. xs ++ x ∷ []) done new ≡ done ++ new
 added_snoc done [] = sym (append-nil done)
 added_snoc done (x ∷ xs) = added_snoc (done ++ x ∷ []) xs ∙ append_assoc done (x ∷ []) xs
 
@@ -170,3 +175,21 @@ pub several_yields : {A B : Type 0} (add : B → A → B) (item : Reader A) (Ite
 unfolding several_of
 several_yields add item Item separator close h done ts =
     bind_yields _ _ ts (h ts) (λ x a i. widen (λ y us w. (x ∷ w.0, w.1, (a, i, w.2))) (others_yields add item Item separator close h (add done x) a))
+
+pub same_text : (x y : List ℕ) → bytes_eq x y ≡ true → x ≡ y
+same_text x y h = (bytes_eq-Decides x y).0 h
+
+tuple_found : {A : Type 0} (Item : A → List Token → List Token → Type 0) (ts a b c d us : List Token) (x y : A) (new : List A) → Next (Sign (codes "(")) ts a → Item x a b → Next (Sign (codes ",")) b c → Item y c d →
+    Others Item (Sign (codes ",")) (Sign (codes ")")) new d us → OneOrTuple Item (x ∷ y ∷ new) ts us
+tuple_found Item ts a b c d us x y new o i n j more = (a, o, (b, i, (c, d, n, j, more)))
+
+pub one_or_tuple_yields : {A B : Type 0} (add : B → A → B) (item : Reader A) (Item : A → List Token → List Token → Type 0) (none : B) →
+    ((ts : List Token) → Yields (λ x us. Item x ts us) (item ts)) → (ts : List Token) →
+    Yields (λ y us. (new : List A) × (y ≡ added add none new) × OneOrTuple Item new ts us) (one_or_tuple add item none ts)
+unfolding one_or_tuple
+one_or_tuple_yields add item Item none h ts =
+    first_yields _ _ _ ts
+    (λ p a o. bind_yields _ _ a (h a) (λ x b i. bind_yields _ _ b (must_yields _ b) (λ q c n. bind_yields _ _ c (h c) (λ y d j.
+    widen (λ z us w. (x ∷ y ∷ w.0, w.1, tuple_found Item ts a b c d us x y w.0 (took_next _ ts a p o) i (took_next _ b c q n) j w.2))
+    (others_yields add item Item (Sign (codes ",")) (Sign (codes ")")) h (add (add none x) y) d)))))
+    (bind_yields _ _ ts (h ts) (λ x us i. pure_yields _ us (x ∷ [], refl, i)))

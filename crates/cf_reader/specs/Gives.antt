@@ -1,7 +1,7 @@
 -- What a reader of the program returns, seen by view, is what reading gives, unless memory ran out.
 use Rattle.std.specs.Prelude.{◌≡◌, ℕ, Option, Some, None, Result, Ok, Err}
-use Rattle.cf_parse.specs.declared.stop.Stop.{Stop}
-use Rattle.cf_parse.specs.declared.stop.Stop.TheVariants as stops
+use Rattle.cf_reader.specs.declared.stop.Stop.{Stop}
+use Rattle.cf_reader.specs.declared.stop.Stop.TheVariants as stops
 
 abbrev pub Fails : {Y : Type 0} → Stop → Result Y ℕ → Type 0
 Fails stops.Memory read = Unit {0}

@@ -1,5 +1,5 @@
 -- Readers of token lists, and the ways to put them together.
-use Rattle.std.specs.Prelude.{ℕ, zero, suc, ℤ, int_le, Bool, false, List, [], ◌∷◌, length, Option, Some, None, Result, Ok, Err, if◌then◌else◌}
+use Rattle.std.specs.Prelude.{ℕ, zero, suc, ℤ, int_le, Bool, false, List, [], ◌∷◌, ◌++◌, length, Option, Some, None, Result, Ok, Err, codes, if◌then◌else◌}
 use Rattle.std.specs.Str.{bytes_eq}
 use Rattle.cf_lex.specs.Words.{is_reserved}
 use Rattle.cf_lex.specs.declared.token.Token.{Token}
@@ -54,6 +54,10 @@ at f (t ∷ ts) = before ts (f t)
 unfoldable pub pure : {A : Type 0} → A → Reader A
 pure x ts = Ok (x, ts)
 
+-- no token may stand here
+unfoldable pub refuse : {A : Type 0} → Reader A
+refuse ts = Err (length ts)
+
 -- a token that has to pass the test
 unfoldable pub must : {A : Type 0} → Test A → Reader A
 must f ts = elim (at f ts) [ None ↦ Err (length ts) | Some a ↦ Ok a ]
@@ -90,3 +94,17 @@ others_of snoc item separator close done ts = more_of snoc item separator close 
 -- item { separator item } close
 unfoldable pub several_of : {A B : Type 0} → (B → A → B) → Reader A → TokenKind → TokenKind → B → Reader B
 several_of snoc item separator close done = item >>= λ x. others_of snoc item separator close (snoc done x)
+
+-- one more at the end
+abbrev pub snoc : {A : Type 0} → List A → A → List A
+snoc xs x = xs ++ x ∷ []
+
+-- item | "(" item "," item { "," item } ")"
+unfoldable pub one_or_tuple : {A B : Type 0} → (B → A → B) → Reader A → B → Reader B
+one_or_tuple more item none =
+    first (is (Sign (codes "("))) (λ p. do
+      x ← item
+      _ ← must (is (Sign (codes ",")))
+      y ← item
+      others_of more item (Sign (codes ",")) (Sign (codes ")")) (more (more none x) y))
+    (item >>= λ x. pure (more none x))

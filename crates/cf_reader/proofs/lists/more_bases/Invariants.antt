@@ -1,9 +1,9 @@
 use Rattle.std.proofs.Common.{◌≡◌, ◌-◌, length}
 use Rattle.std.specs.Prelude.{codes}
 use Rattle.cf_lex.specs.declared.token.TokenKind.TheVariants.{Sign}
-use Rattle.cf_parse.specs.Readers.{more_of, must}
-use Rattle.cf_parse.specs.Reading.{snoc, a_base}
-use Rattle.cf_parse.proofs.lists.more_results.Given as goal
+use Rattle.cf_reader.specs.Readers.{more_of, must, snoc}
+use Rattle.cf_reader.specs.Kinds.{a_base}
+use Rattle.cf_reader.proofs.lists.more_bases.Given as goal
 
 abbrev pub invariant-loop : goal.invariant-loop
 invariant-loop l =

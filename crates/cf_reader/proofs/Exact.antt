@@ -1,17 +1,17 @@
 -- What readers give on given tokens: equations, put together as the readers are.
 use Rattle.std.proofs.Common.{◌≡◌, ◌⊎◌, inl, inr, ℕ, suc, zero, ◌≤◌, Bool, true, false, List, [], ◌∷◌, length, Some, None, Ok, Err, refl, ap, subst, ◌∙◌, cond, T, arith}
-use Rattle.std.specs.Prelude.{ℤ, ◌≤ℤ◌, int_le}
+use Rattle.std.specs.Prelude.{ℤ, ◌≤ℤ◌, int_le, codes}
 use Rattle.std.specs.Str.{bytes_eq}
 use Rattle.std.proofs.lemmas.Slice.Eq.{bytes_eq-Decides}
 use Rattle.cf_lex.specs.Words.{is_reserved}
 use Rattle.cf_lex.specs.declared.token.Token.{Token}
 use Rattle.cf_lex.specs.declared.token.TokenKind.{TokenKind}
-use Rattle.cf_lex.specs.declared.token.TokenKind.TheVariants.{Word}
+use Rattle.cf_lex.specs.declared.token.TokenKind.TheVariants.{Word, Sign}
 use Rattle.cf_tree.specs.declared.base.Place.{Place}
-use Rattle.cf_parse.specs.Tokens.{First, Next, FirstName, FirstLiteral, Others, Several}
-use Rattle.cf_parse.specs.Readers.{Got, Reader, Test, same_kind, before, is, a_name, a_literal, at, pure, must, bind, first, deep, more_of, others_of, several_of}
-use Rattle.cf_parse.proofs.Near.{Within, ok_in, err_in}
-use Rattle.cf_parse.proofs.Yields.{added}
+use Rattle.cf_reader.specs.Tokens.{First, Next, FirstName, FirstLiteral, Others, Several, OneOrTuple}
+use Rattle.cf_reader.specs.Readers.{Got, Reader, Test, same_kind, before, is, a_name, a_literal, at, pure, must, bind, first, deep, more_of, others_of, several_of, one_or_tuple}
+use Rattle.cf_reader.proofs.Near.{Within, ok_in, err_in, must_local}
+use Rattle.cf_reader.proofs.Yields.{added}
 
 bound_is : {A B : Type 0} (f : A → Reader B) (r : Got A) (x : A) (us : List Token) (y : Got B) → r ≡ Ok (x, us) → f x us ≡ y → elim r [ Ok a ↦ f a.0 a.1 | Err e ↦ Err e ] ≡ y
 bound_is f r x us y e g = ap (λ r. elim r [ Ok a ↦ f a.0 a.1 | Err e ↦ Err e ]) e ∙ g
@@ -61,7 +61,7 @@ at_not k l ts us p e w = ap (at (is k)) w ∙ ap (λ b. before us (cond b (Some 
 pub next_is : (k : TokenKind) (ts us : List Token) → same_kind k k ≡ true → (n : Next k ts us) → must (is k) ts ≡ Ok (n.0, us)
 next_is k ts us e n = must_is (is k) ts us n.0 (at_is k ts us n.0 e n.1)
 
-false_from : (b : Bool) → (b ≡ true → ⊥) → b ≡ false
+pub false_from : (b : Bool) → (b ≡ true → ⊥) → b ≡ false
 false_from true h = absurd (h refl)
 false_from false h = refl
 
@@ -79,7 +79,7 @@ pub name_is : (ts us : List Token) (p : Place) (x : List ℕ) → FirstName p x 
 unfolding at
 name_is ts us p x n = ap (at a_name) n.0 ∙ ap (λ b. before us (cond b None (Some (p, x)))) n.1
 
-from_T : (b : Bool) → T b → b ≡ true
+pub from_T : (b : Bool) → T b → b ≡ true
 from_T true t = refl
 from_T false t = absurd t
 
@@ -141,3 +141,16 @@ unfolding several_of
 several_are add item Item separator close h [] done ts rest w = absurd w
 several_are add item Item separator close h (x ∷ xs) done ts rest (a, i, o) =
     bind_is _ _ ts (h.reads x ts a i (others_end Item separator close xs a rest o)) (others_are add item Item separator close h xs (add done x) a rest o)
+
+pub must_within : {A : Type 0} (f : Test A) (ts : List Token) → Within (length ts) (must f ts)
+must_within f ts = (must_local {more = []} {other = []} f).within ts (length ts) (omega arith)
+
+pub one_or_tuple_is : {A B : Type 0} (add : B → A → B) (item : Reader A) (Item : A → List Token → List Token → Type 0) (none : B) → Items item Item (Sign (codes ",")) (Sign (codes ")")) →
+    ((x : A) (ts us : List Token) → Item x ts us → item ts ≡ Ok (x, us)) → ((x : A) (ts us : List Token) → Item x ts us → at (is (Sign (codes "("))) ts ≡ None) →
+    (xs : List A) (ts rest : List Token) → OneOrTuple Item xs ts rest → one_or_tuple add item none ts ≡ Ok (added add none xs, rest)
+unfolding one_or_tuple
+one_or_tuple_is add item Item none h g u [] ts rest w = absurd w
+one_or_tuple_is add item Item none h g u (x ∷ []) ts rest w = first_not _ _ _ ts (u x ts rest w) (bind_is _ _ ts (g x ts rest w) (pure_is _ _ rest refl))
+one_or_tuple_is add item Item none h g u (x ∷ y ∷ xs) ts rest (a, o, (b, i, (c, d, n, j, more))) =
+    first_is _ _ _ ts (at_is _ ts a o.0 refl o.1)
+    (bind_is _ _ a (g x a b i) (bind_is _ _ b (next_is _ b c refl n) (bind_is _ _ c (g y c d j) (others_are add item Item (Sign (codes ",")) (Sign (codes ")")) h xs (add (add none x) y) d rest more))))

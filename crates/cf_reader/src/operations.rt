@@ -1,0 +1,73 @@
+//! The operations that both grammars write.
+ghost use Rattle.std.specs.Prelude.{◌≡◌};
+ghost use Rattle.cf_reader.specs.Operations.{word_op as word_op_of, compare_op as compare_op_of, sign_op as sign_op_of, op_of};
+
+use cf_lex::TokenKind;
+use cf_tree::base::Order;
+use cf_tree::raw::BinOp;
+
+fn word_op(word: &[u8]) -> Option<BinOp>
+    ensures { result ≡ word_op_of word.now }
+{
+    if word == b"union".as_slice() {
+        Some(BinOp::Union)
+    } else if word == b"diff".as_slice() {
+        Some(BinOp::Diff)
+    } else if word == b"inter".as_slice() {
+        Some(BinOp::Inter)
+    } else if word == b"subset".as_slice() {
+        Some(BinOp::Subset)
+    } else {
+        None
+    }
+}
+
+fn compare_op(sign: &[u8]) -> Option<BinOp>
+    ensures { result ≡ compare_op_of sign.now }
+{
+    if sign == b"==".as_slice() {
+        Some(BinOp::Compare(Order::Eq))
+    } else if sign == b"!=".as_slice() {
+        Some(BinOp::Compare(Order::Ne))
+    } else if sign == b"<".as_slice() {
+        Some(BinOp::Compare(Order::Lt))
+    } else if sign == b"<=".as_slice() {
+        Some(BinOp::Compare(Order::Le))
+    } else if sign == b">".as_slice() {
+        Some(BinOp::Compare(Order::Gt))
+    } else if sign == b">=".as_slice() {
+        Some(BinOp::Compare(Order::Ge))
+    } else {
+        None
+    }
+}
+
+fn sign_op(sign: &[u8]) -> Option<BinOp>
+    ensures { result ≡ sign_op_of sign.now }
+{
+    if sign == b"||".as_slice() {
+        Some(BinOp::Or)
+    } else if sign == b"&&".as_slice() {
+        Some(BinOp::And)
+    } else if sign == b"+".as_slice() {
+        Some(BinOp::Add)
+    } else if sign == b"-".as_slice() {
+        Some(BinOp::Sub)
+    } else if sign == b"*".as_slice() {
+        Some(BinOp::Mul)
+    } else {
+        compare_op(sign)
+    }
+}
+
+/// The operation of a word or sign, if it has one.
+#[tactic(auto, unfolding(crate::specs::Operations::op_of))]
+pub fn operation(kind: &TokenKind) -> Option<BinOp>
+    ensures { result ≡ op_of kind.now }
+{
+    match kind {
+        TokenKind::Literal(_) => None,
+        TokenKind::Word(word) => word_op(&word.bytes),
+        TokenKind::Sign(sign) => sign_op(&sign.bytes),
+    }
+}

@@ -1,0 +1,49 @@
+//! Bases and truth values that stand first.
+ghost use Rattle.std.specs.Prelude.{◌≡◌};
+ghost use Rattle.cf_reader.specs.Gives.{Gives, Shows};
+ghost use Rattle.cf_reader.specs.Readers.{at, must};
+ghost use Rattle.cf_reader.specs.Kinds.{a_base, a_truth};
+
+use crate::stop::Stop;
+use cf_lex::{Token, TokenKind};
+use cf_tree::base::{Base, Place};
+
+/// A base that has to stand first, and the tokens after it.
+#[tactic(auto, unfolding(crate::specs::Readers::must, crate::specs::Readers::at))]
+pub fn expect_base(tokens: &[Token]) -> Result<(Base, &[Token]), Stop>
+    ensures { Gives (λ x. (x.0, x.1.now)) result (must a_base tokens.now) }
+{
+    let Some((t, rest)) = tokens.split_first() else {
+        return Err(Stop::At(0));
+    };
+    let TokenKind::Word(word) = &t.kind else {
+        return Err(Stop::At(tokens.len()));
+    };
+    if word.bytes.as_slice() == b"int".as_slice() {
+        Ok((Base::Int, rest))
+    } else if word.bytes.as_slice() == b"bool".as_slice() {
+        Ok((Base::Bool, rest))
+    } else if word.bytes.as_slice() == b"set".as_slice() {
+        Ok((Base::Set, rest))
+    } else {
+        Err(Stop::At(tokens.len()))
+    }
+}
+
+/// A truth value that stands first, with its place, and the tokens after it.
+#[tactic(auto, unfolding(crate::specs::Readers::at))]
+pub fn truth(tokens: &[Token]) -> Option<((Place, bool), &[Token])>
+    ensures { Shows (λ x. (x.0, x.1.now)) result (at a_truth tokens.now) }
+{
+    let (t, rest) = tokens.split_first()?;
+    let TokenKind::Word(word) = &t.kind else {
+        return None;
+    };
+    if word.bytes.as_slice() == b"true".as_slice() {
+        Some(((t.place, true), rest))
+    } else if word.bytes.as_slice() == b"false".as_slice() {
+        Some(((t.place, false), rest))
+    } else {
+        None
+    }
+}
