@@ -1,0 +1,10 @@
+pub mod Above
+pub mod VariableSteps
+pub mod LevelLaws
+pub mod LocalReading
+pub mod FoundWords
+pub mod FoundCodes
+pub mod Targets
+pub mod OnlyCodes
+pub mod OnlyArms
+pub mod Only

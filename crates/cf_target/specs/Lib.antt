@@ -1,0 +1,4 @@
+pub mod Spelling
+pub mod Levels
+pub mod Reading
+pub mod Targets

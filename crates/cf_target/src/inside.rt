@@ -1,0 +1,59 @@
+//! What stands in parentheses.
+ghost use Rattle.std.specs.Prelude.{◌≡◌, ◌∷◌, [], map, Ok};
+ghost use Rattle.cf_tree.specs.CodeView.{code_tree};
+ghost use Rattle.cf_target.specs.Reading.{several as several_of, single as single_of, inside_tree, whole as whole_of, all_given};
+ghost use Rattle.cf_reader.specs.Gives.{Gives};
+
+use cf_reader::stop::Stop;
+use cf_tree::code::Code;
+use std::alloc::Global;
+
+/// Two codes or more with commas, or one code.
+#[derive(Drop)]
+pub enum Inside {
+    Several(Vec<Code>),
+    Single(Code),
+}
+
+/// Two codes or more.
+pub fn several(codes: Vec<Code>) -> Inside
+    ensures { inside_tree result ≡ several_of (map code_tree codes.items) }
+{
+    Inside::Several(codes)
+}
+
+/// One code.
+pub fn single(code: Code) -> Inside
+    ensures { inside_tree result ≡ single_of (code_tree code) }
+{
+    Inside::Single(code)
+}
+
+/// The code: a tuple, if there are several.
+pub fn whole(inside: Inside) -> Code
+    ensures { code_tree result ≡ whole_of (inside_tree inside) }
+{
+    match inside {
+        Inside::Several(codes) => Code::Tuple(codes),
+        Inside::Single(code) => code,
+    }
+}
+
+/// What an arm gives.
+pub fn given(alloc: Global, inside: Inside) -> Result<Vec<Code>, Stop>
+    ensures { Gives (λ x. map code_tree x.items) result (Ok (all_given (inside_tree inside))) }
+{
+    match inside {
+        Inside::Several(codes) => Ok(codes),
+        Inside::Single(code) => one(alloc, code),
+    }
+}
+
+/// A list of one code.
+pub fn one(alloc: Global, code: Code) -> Result<Vec<Code>, Stop>
+    ensures { Gives (λ x. map code_tree x.items) result (Ok (code_tree code ∷ [])) }
+{
+    let mut codes = Vec::new(alloc);
+    codes.push(code)?;
+    Ok(codes)
+}
