@@ -1,0 +1,6 @@
+mod BasesLaws
+mod Failures
+mod Lengths
+mod OnlyLaws
+mod PlainLaws
+mod Steps
