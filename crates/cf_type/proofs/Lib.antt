@@ -9,6 +9,7 @@ mod ProgramLaws
 mod ReadingLemmas
 mod ReadsLaws
 mod Rising
+mod ScopedLemmas
 mod SizeLemmas
 mod WalkLaws
 mod WalkSteps

@@ -6,6 +6,7 @@ pub mod Lowered
 pub mod Names
 pub mod Numbers
 pub mod Reading
+pub mod Scoped
 pub mod Size
 pub mod Source
 pub mod Typed

@@ -1,4 +1,4 @@
-//! The rules on names, types, linearity and size, and programs that break none of them.
+//! The rules on names, types, linearity and size, and programs that break none of them; the typing of targets.
 #![tactic(auto)]
 
 mod bases;
@@ -11,7 +11,8 @@ mod names;
 mod reading;
 mod scope;
 mod size;
-#[cfg(test)]
-mod size_tests;
 pub mod typed;
 mod walk;
+
+pub use cf_typing::check_target;
+pub use cf_typing::fault::TargetFault;

@@ -1,31 +1,45 @@
 //! The variables in scope.
-ghost use Rattle.std.specs.Prelude.{◌≡◌, ◌++◌, ◌∷◌, [], length, take, Some, None, if◌then◌else◌, OnOk, IfOk};
+ghost use Rattle.std.specs.Prelude.{◌≡◌, ◌-◌, ◌++◌, ◌∷◌, [], length, map, take, OnOk, IfOk};
+ghost use Rattle.std.specs.Map.{set_value};
 ghost use Rattle.std.specs.Str.{bytes_eq};
-ghost use Rattle.cf_type.specs.Names.{variable_of, or_outer};
+ghost use Rattle.cf_type.specs.Names.{variable_of};
 ghost use Rattle.cf_type.specs.Walk.{bound, matched, variables_of};
 
+use crate::build::counted;
 use crate::names::Variable;
 use cf_tree::base::{Base, Place, Text};
 use cf_tree::memory::NoMemory;
 use cf_tree::raw::{Param, Part};
+use indexmap::IndexMap;
 use std::alloc::Global;
 use std::marker::Model;
 
-/// The variables in scope, by level. Contracts see the list of them.
+/// A variable in scope, and the outer one of the same name that it hides.
+#[derive(Drop)]
+struct Binding {
+    param: Param,
+    hidden: Option<Variable>,
+}
+
+/// The variables in scope, by level, with a table of the innermost of each name. Contracts see the
+/// list of the variables.
 #[derive(Drop)]
 pub struct Scope {
-    params: Vec<Param>,
+    bindings: Vec<Binding>,
+    innermost: IndexMap<Vec<u8>, Option<Variable>>,
 }
 
 impl Model for Scope {
-    ghost use Rattle.std.specs.Prelude.{List, ◌<◌, ◌^◌, length};
+    ghost use Rattle.std.specs.Prelude.{List, map};
     ghost use Rattle.cf_tree.specs.declared.raw.Param.{Param};
 
     ghost Value = { List Param };
 
-    ghost view = { λ s. s.params.items };
+    ghost use Rattle.cf_type.specs.Scoped.{Tells};
 
-    ghost invariant = { λ s. length s.params.items < 2 ^ 32 };
+    ghost view = { λ s. map (λ b. b.param) s.bindings.items };
+
+    ghost invariant = { λ s. Tells s.innermost.entries (map (λ b. b.param) s.bindings.items) (map (λ b. b.hidden) s.bindings.items) };
 }
 
 /// An equal parameter.
@@ -50,17 +64,37 @@ pub fn copied_params(alloc: Global, params: &[Param]) -> Result<Vec<Param>, NoMe
     Ok(all)
 }
 
-/// The parameter, where its name is this one, and else the one found before.
-fn later(found: Option<Variable>, level: u32, param: &Param, name: &Text) -> Option<Variable>
-    ensures { result ≡ or_outer (if bytes_eq param.now.name name.now then Some (record { level = level; base = param.now.base }) else None) found }
+/// The variables of bindings, copied.
+fn params_of(alloc: Global, bindings: &[Binding]) -> Result<Vec<Param>, NoMemory>
+    ensures { IfOk result (λ new. new.items ≡ map (λ b. b.param) bindings.now) }
 {
-    if param.name.bytes.as_slice() == name.bytes.as_slice() {
-        Some(Variable {
-            level,
-            base: param.base,
-        })
-    } else {
-        found
+    let mut all = Vec::new(alloc);
+    for binding in bindings {
+        all.push(copied_param(alloc, &binding.param)?)?;
+    }
+    Ok(all)
+}
+
+/// The parameter as the variable of a level.
+fn variable_at(level: u32, param: &Param) -> Variable
+    ensures { result ≡ record { level = level; base = param.now.base } }
+{
+    Variable {
+        level,
+        base: param.base,
+    }
+}
+
+/// Gives a name that the table has the variable that was hidden.
+fn restore(
+    innermost: &mut IndexMap<Vec<u8>, Option<Variable>>,
+    name: &Text,
+    hidden: Option<Variable>,
+)
+    ensures { innermost.new.entries ≡ set_value (λ k. bytes_eq name.now k.items) innermost.old.entries hidden }
+{
+    if let Some(variable) = innermost.get_mut(name.bytes.as_slice()) {
+        *variable = hidden;
     }
 }
 
@@ -70,7 +104,8 @@ impl Scope {
         ensures { result ≡ [] }
     {
         Scope {
-            params: Vec::new(alloc),
+            bindings: Vec::new(alloc),
+            innermost: IndexMap::new(alloc),
         }
     }
 
@@ -78,36 +113,37 @@ impl Scope {
     pub fn len(&self) -> usize
         ensures { result ≡ length self.now }
     {
-        self.params.len()
+        self.bindings.len()
     }
 
     /// The innermost variable of a name.
-    #[tactic(auto, using(crate::proofs::NameLemmas::or_outer_assoc))]
     pub fn find(&self, name: &Text) -> Option<Variable>
         ensures { result ≡ variable_of self.now name.now }
     {
-        let mut found = None;
-        for i in 0..self.params.len() {
-            found = later(found, i as u32, &self.params[i], name);
+        match self.innermost.get(name.bytes.as_slice()) {
+            None => None,
+            Some(found) => *found,
         }
-        found
     }
 
     /// The variables, copied.
     pub fn copied(&self, alloc: Global) -> Result<Vec<Param>, NoMemory>
         ensures { IfOk result (λ new. new.items ≡ self.now) }
     {
-        copied_params(alloc, &self.params)
+        params_of(alloc, &self.bindings)
     }
 
     /// Binds one more variable.
-    fn push(&mut self, param: Param) -> Result<(), NoMemory>
+    fn push(&mut self, alloc: Global, param: Param) -> Result<(), NoMemory>
         ensures { OnOk result (self.new ≡ self.old ++ param ∷ []) }
     {
-        if self.params.len() >= u32::MAX as usize {
-            return Err(NoMemory);
-        }
-        self.params.push(param)?;
+        let hidden = self.find(&param.name);
+        let level = counted(self.len())?;
+        let variable = variable_at(level, &param);
+        let name = Vec::from_slice(alloc, param.name.bytes.as_slice())?;
+        self.bindings.reserve(1)?;
+        self.innermost.insert(name, Some(variable))?;
+        self.bindings.push(Binding { param, hidden })?;
         Ok(())
     }
 
@@ -116,7 +152,7 @@ impl Scope {
         ensures { OnOk result (self.new ≡ self.old ++ params.now) }
     {
         for param in params {
-            self.push(copied_param(alloc, param)?)?;
+            self.push(alloc, copied_param(alloc, param)?)?;
         }
         Ok(())
     }
@@ -126,11 +162,14 @@ impl Scope {
         ensures { OnOk result (self.new ≡ self.old ++ variables_of parts.now) }
     {
         for part in parts {
-            self.push(Param {
-                place: part.place,
-                name: part.name.try_copy(alloc)?,
-                base: Base::Int,
-            })?;
+            self.push(
+                alloc,
+                Param {
+                    place: part.place,
+                    name: part.name.try_copy(alloc)?,
+                    base: Base::Int,
+                },
+            )?;
         }
         Ok(())
     }
@@ -139,11 +178,14 @@ impl Scope {
     pub fn enter_matched(&mut self, alloc: Global, place: Place) -> Result<(), NoMemory>
         ensures { OnOk result (self.new ≡ self.old ++ matched place ∷ []) }
     {
-        self.push(Param {
-            place,
-            name: Text::from_str(alloc, "match")?,
-            base: Base::Int,
-        })
+        self.push(
+            alloc,
+            Param {
+                place,
+                name: Text::from_str(alloc, "match")?,
+                base: Base::Int,
+            },
+        )
     }
 
     /// Binds names to parts of these bases.
@@ -164,11 +206,14 @@ impl Scope {
                 Some((place, more)) => match later_bases.split_first() {
                     None => return Ok(()),
                     Some((base, rest)) => {
-                        self.push(Param {
-                            place: *place,
-                            name: name.try_copy(alloc)?,
-                            base: *base,
-                        })?;
+                        self.push(
+                            alloc,
+                            Param {
+                                place: *place,
+                                name: name.try_copy(alloc)?,
+                                base: *base,
+                            },
+                        )?;
                         later_places = more;
                         later_bases = rest;
                     }
@@ -178,10 +223,21 @@ impl Scope {
         Ok(())
     }
 
+    /// Leaves the innermost variable, and has the one that it hides again.
+    fn pop(&mut self)
+        ensures { self.new ≡ take (length self.old - 1) self.old }
+    {
+        if let Some(Binding { param, hidden }) = self.bindings.pop() {
+            restore(&mut self.innermost, &param.name, hidden);
+        }
+    }
+
     /// Leaves only the outermost variables, as many as `size`.
     pub fn leave(&mut self, size: usize)
         ensures { self.new ≡ take size self.old }
     {
-        self.params.truncate(size);
+        while size < self.len() {
+            self.pop();
+        }
     }
 }
