@@ -38,7 +38,7 @@ call_depth n (code_more c no_codes) body = omega arith
 call_depth n (code_more c (code_more d cs)) body = omega arith
 
 solve_depth : (q : Question) (c : CodeTree) → IsSolveOf q c → code_depth c ≤ 17
-solve_depth q c s = rw (s.code) (omega (arith, s.shallow))
+solve_depth q c s = rw (s.code) (omega (arith, s.solved.shallow))
 
 -- the code of an expression is at most twice as deep as the expression with its calls unfolded, and 16 more
 module _ (calls solves : ℕ → CodeTree) (depths : ℕ → ℕ) (calls_shallow : (f : ℕ) → code_depth (calls f) ≤ 2 * depths f + 16) where

@@ -11,6 +11,7 @@ use Rattle.cf_tree.specs.declared.raw.BinOp.TheVariants.{Add, Sub, Mul, And, Or,
 use Rattle.cf_tree.specs.CodeTree.{CodeTree, ArmTrees, no_arms, arm_more, CodeTrees, no_codes, code_more, count}
 use Rattle.cf_tree.specs.ExprTree.{ExprTree, expr_lit, expr_truth, expr_var, expr_set_of, expr_tuple, expr_neg, expr_not, expr_abs, expr_binary, expr_divides, expr_div, expr_mod, expr_card, expr_if, expr_call, expr_let, expr_choose, expr_match, ExprTrees, no_exprs, expr_more}
 use Rattle.cf_tree.specs.Typing.{Meets, ask, share, IsGiven, HasBases as CodeHas, AllHave as CodesHave, PartsHave as CodePartsHave}
+use Rattle.cf_choose.specs.Solved.{HasArms}
 use Rattle.cf_choose.proofs.MakingLemmas.{slice_get-end}
 use Rattle.cf_type.specs.Names.{bases_of}
 use Rattle.cf_type.specs.TypedProgram.{HasBases, AllHave, PartsHave, AreSides}
@@ -18,7 +19,7 @@ use Rattle.cf_type.specs.Walk.{side_of, result_of}
 use Rattle.cf_build.specs.Codes.{binary_code, joined_code, call_code, code_of, codes_of_all}
 use Rattle.cf_build.specs.Questions.{Question, questions, questions_all}
 use Rattle.cf_build.specs.Shifted.{shifted}
-use Rattle.cf_build.specs.Solves.{HasArms, HasNoMatch, HaveNoMatch, IsSolveOf}
+use Rattle.cf_build.specs.Solves.{HasNoMatch, HaveNoMatch, IsSolveOf}
 use Rattle.cf_build.proofs.ShiftedTyping.{shifted_has}
 
 given : (arms : ArmTrees) (asked : Option (List Base)) (bs : List Base) → HasArms arms → Meets asked bs → IsGiven arms asked bs
@@ -72,7 +73,7 @@ module _ (calls solves : ℕ → CodeTree) (takes : ℕ → List Base → List B
   solve_typed : (scope bs : List Base) (asked : Option (List Base)) (q : Question) → IsSolveOf q (solves q.number) → q.scope ≡ scope → bs ≡ q.outputs → Meets asked bs → CodeHas (shifted 0 (solves q.number)) scope asked bs
   solve_typed scope bs asked q s e f m =
       shifted_has [] scope (solves q.number) asked bs
-      (rw (s.code, ← e, f) (given s.arms asked q.outputs s.some (rw f at m), s.typed))
+      (rw (s.code, ← e, f) (given s.arms asked q.outputs s.solved.some (rw f at m), s.solved.typed))
 
   call_typed : (f : ℕ) (cs : CodeTrees) (scope ps rs : List Base) (asked : Option (List Base)) (n : ℕ) → n ≡ length scope → takes f ps rs → Meets asked rs → count cs ≡ length ps → CodePartsHave cs scope None ps →
       CodeHas (call_code n cs (shifted n (calls f))) scope asked rs

@@ -172,7 +172,7 @@ module _ (calls solves : ℕ → CodeTree) (takes : ℕ → List Base → List B
   choose_fine : (m : ℕ) (scope outputs : List Base) (rel : RelTree) (env : List Value) → HaveBases scope env →
       IsSolveOf (record { number = m; scope = scope; outputs = outputs; relation = rel }) (solves m) → Fine (Chosen m (Sol outputs rel env)) outputs (shifted 0 (solves m)) env
   choose_fine m scope outputs rel env h s =
-      let chosen : Chosen m (Sol outputs rel env) (means (solves m) env) = rw s.code (solve_chosen m scope outputs rel s.arms s.solves s.typed env h) in
+      let chosen : Chosen m (Sol outputs rel env) (means (solves m) env) = rw s.code (solve_chosen m scope outputs rel s.arms s.solved.solves s.solved.typed env h) in
       rw (shifted_means [] env (solves m)) (chosen, chosen_keeps m outputs rel env (means (solves m) env) chosen)
 
   call_means : (n : ℕ) (c : CodeTree) (env xs : List Value) → n ≡ length env → means (shifted n c) (env ++ xs) ≡ means c xs

@@ -1,19 +1,13 @@
 -- Chooses that are solved in order, and the first that is refused.
-use Rattle.std.proofs.Common.{◌≡◌, ℕ, ◌==◌, nat_eq, true, false, not, Some, None, List, [], ◌∷◌, ◌++◌, length, map, All, Contains, inl, inr, refl, ap, subst, arith}
+use Rattle.std.proofs.Common.{◌≡◌, ℕ, nat_eq, false, Some, None, List, [], ◌∷◌, ◌++◌, map, All, Contains, inl, inr, refl, ap, arith}
 use Rattle.std.proofs.lemmas.Bool.{eq-eqb}
 use Rattle.std.proofs.lemmas.List.Elements.{All-nil, All-cons, All-head, All-tail, All-contains, Contains-append_left, Contains-push, Contains-push_cases}
 use Rattle.std.specs.List.{IsDistinct, AllByRecursion}
 use Rattle.cf_tree.specs.CodeTree.{CodeTree}
-use Rattle.cf_tree.specs.CodeView.{arm_trees}
-use Rattle.cf_tree.specs.declared.code.Arm.{Arm}
 use Rattle.cf_linear.specs.declared.refusal.Refusal.{Refusal}
 use Rattle.cf_build.specs.Codes.{solved_in}
 use Rattle.cf_build.specs.Questions.{Question, limit_of, IsFirstRefused}
-use Rattle.cf_build.specs.Solves.{AreSolved, IsSolveOf, HasArms, IsNext, stays, earlier}
-
-pub some_arms : (arms : List Arm) (n : ℕ) → n ≡ length arms → not (n == 0) ≡ true → HasArms (arm_trees arms)
-some_arms [] n e h = let none : not (0 == 0) ≡ true = subst (λ k. not (k == 0) ≡ true) e h in absurd (cc)
-some_arms (a ∷ arms) n e h = tt
+use Rattle.cf_build.specs.Solves.{AreSolved, IsSolveOf, IsNext, stays, earlier}
 
 pub solved_push : (qs : List Question) (ss : List (ℕ × CodeTree)) (q : Question) (s : ℕ × CodeTree) → AreSolved qs ss → s.0 ≡ q.number → IsSolveOf q s.1 → limit_of q ≡ None → AreSolved (qs ++ q ∷ []) (ss ++ s ∷ [])
 solved_push [] [] q s h n c l = (n, c, l, tt)

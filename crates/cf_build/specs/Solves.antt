@@ -1,12 +1,10 @@
 -- Chooses that may be solved, and what their codes keep.
 use Rattle.std.specs.Prelude.{ℕ, ◌≤◌, ◌<◌, ◌≡◌, List, [], ◌∷◌, ◌++◌, length, Some, None, Result, Ok, Err, All}
-use Rattle.cf_tree.specs.CodeTree.{CodeTree, ArmTrees, no_arms, arm_more, code_solve, arms_depth}
+use Rattle.cf_tree.specs.CodeTree.{CodeTree, ArmTrees, code_solve}
 use Rattle.cf_tree.specs.ExprTree.{ExprTree, expr_lit, expr_truth, expr_var, expr_set_of, expr_tuple, expr_neg, expr_not, expr_abs, expr_binary, expr_divides, expr_div, expr_mod, expr_card, expr_if, expr_call, expr_let, expr_choose, expr_match, ExprTrees, no_exprs, expr_more}
 use Rattle.cf_tree.specs.Relation.{IsTyped, IsLinear}
-use Rattle.cf_tree.specs.Solving.{Solves}
 use Rattle.cf_tree.specs.Spelled.{IsSpelled}
-use Rattle.cf_tree.specs.Typing.{ArmsHave}
-use Rattle.cf_choose.specs.Solved.{IsOutput}
+use Rattle.cf_choose.specs.Solved.{IsOutput, ArmsSolve}
 use Rattle.cf_tree.specs.CodeView.{code_tree}
 use Rattle.cf_tree.specs.DefView.{DefTree}
 use Rattle.cf_tree.specs.RelView.{rel_tree}
@@ -18,11 +16,6 @@ use Rattle.cf_build.specs.declared.chooses.Choose.{Choose as ChooseParts}
 use Rattle.cf_build.specs.declared.fault.BuildFault.{BuildFault}
 use Rattle.cf_build.specs.declared.fault.BuildFault.TheVariants as faults
 use Rattle.cf_build.specs.Questions.{Question, questions, limit_of, IsFirstRefused}
-
--- at least one arm
-abbrev pub HasArms : ArmTrees → Type 0
-HasArms no_arms = ⊥
-HasArms (arm_more a arms) = Unit {0}
 
 -- a choose of a typed program
 pub record IsAsked (q : Question) : Type 0 where
@@ -36,10 +29,7 @@ pub record IsAsked (q : Question) : Type 0 where
 pub record IsSolveOf (q : Question) (c : CodeTree) : Type 0 where
   pub arms : ArmTrees
   pub code : c ≡ code_solve q.number arms
-  pub some : HasArms arms
-  pub solves : Solves q.scope q.outputs q.relation arms
-  pub typed : ArmsHave arms q.scope q.outputs
-  pub shallow : arms_depth arms ≤ 16
+  pub solved : ArmsSolve q.scope q.outputs q.relation arms
   pub spelled : IsSpelled c
 
 -- the codes of chooses in order, none of which is refused
@@ -82,11 +72,6 @@ question_of c = record { number = c.number; scope = c.scope.items; outputs = c.o
 abbrev pub questions_of : List DefTree → List Question
 questions_of [] = []
 questions_of (d ∷ ds) = questions d.body ++ questions_of ds
-
--- a solve with at least one arm
-abbrev pub HasArmsIn : CodeTree → Type 0
-HasArmsIn (code_solve n arms) = HasArms arms
-HasArmsIn c = ⊥
 
 -- a choose is solved, or its first limit refuses it, or memory ran out
 abbrev pub TellsOne : Question → Result Code ChooseFault → Type 0

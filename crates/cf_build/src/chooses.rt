@@ -45,14 +45,11 @@ fn collect_expr(alloc: Global, expr: &Expr, chooses: &mut Vec<Choose>) -> Result
     ensures no_match { OnOk result (HasNoMatch (expr_tree expr.now)) }
 {
     match expr {
-        Expr::Lit(_) => Ok(()),
-        Expr::Truth(_) => Ok(()),
-        Expr::Var(_) => Ok(()),
-        Expr::SetOf(parts) => collect_all(alloc, parts, chooses),
-        Expr::Tuple(parts) => collect_all(alloc, parts, chooses),
-        Expr::Neg(a) => collect_expr(alloc, a, chooses),
-        Expr::Not(a) => collect_expr(alloc, a, chooses),
-        Expr::Abs(a) => collect_expr(alloc, a, chooses),
+        Expr::Lit(_) | Expr::Truth(_) | Expr::Var(_) => Ok(()),
+        Expr::SetOf(parts) | Expr::Tuple(parts) => collect_all(alloc, parts, chooses),
+        Expr::Neg(a) | Expr::Not(a) | Expr::Abs(a) | Expr::Card(a) => collect_expr(
+            alloc, a, chooses,
+        ),
         Expr::Binary { left, right, .. } => {
             collect_expr(alloc, left, chooses)?;
             collect_expr(alloc, right, chooses)?;
@@ -61,7 +58,6 @@ fn collect_expr(alloc: Global, expr: &Expr, chooses: &mut Vec<Choose>) -> Result
         Expr::Divides { of, .. } => collect_expr(alloc, of, chooses),
         Expr::Div { of, .. } => collect_expr(alloc, of, chooses),
         Expr::Mod { of, .. } => collect_expr(alloc, of, chooses),
-        Expr::Card(a) => collect_expr(alloc, a, chooses),
         Expr::If { test, yes, no } => {
             collect_expr(alloc, test, chooses)?;
             collect_expr(alloc, yes, chooses)?;

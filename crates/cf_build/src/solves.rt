@@ -1,14 +1,13 @@
 //! Solving all chooses of a program.
-ghost use Rattle.std.specs.Prelude.{◌≡◌, ◌≤◌, IfOk, IfErr, map, length, take, true, All};
+ghost use Rattle.std.specs.Prelude.{◌≡◌, ◌≤◌, IfOk, IfErr, map, length, take, All};
 ghost use Rattle.cf_tree.specs.CodeView.{code_tree};
 ghost use Rattle.cf_tree.specs.RelView.{rel_tree};
 ghost use Rattle.cf_build.specs.Codes.{choose_code};
 ghost use Rattle.cf_build.specs.Questions.{IsFirstRefused};
-ghost use Rattle.cf_build.specs.Solves.{question_of, IsAsked, IsSolveOf, AreSolved, HasArmsIn, TellsOne, TellsFault, IsNext};
+ghost use Rattle.cf_build.specs.Solves.{question_of, IsAsked, IsSolveOf, AreSolved, TellsOne, TellsFault, IsNext};
 
 use crate::chooses::Choose;
 use crate::fault::BuildFault;
-use crate::not_built;
 use cf_choose::fault::ChooseFault;
 use cf_choose::solve::solve;
 use cf_choose::solved::Solved;
@@ -99,25 +98,11 @@ fn solve_one(alloc: Global, choose: &Choose) -> Result<Code, ChooseFault>
     }
 }
 
-// The code of a solved choose. A solve without arms is not built.
+// The code of a solved choose.
 fn solve_code(alloc: Global, number: u32, solved: &Solved) -> Result<Code, NoMemory>
     requires positive { 1 ≤ number }
     requires several { 1 ≤ length solved.now.outputs.items }
     ensures { IfOk result (λ c. IsSolveOf (record { number = number; scope = solved.now.scope.items; outputs = solved.now.outputs.items; relation = rel_tree solved.now.rel }) (code_tree c)) }
 {
-    let code = solved.code(alloc, number)?;
-    if has_arms(&code) {
-        Ok(code)
-    } else {
-        Err(not_built())
-    }
-}
-
-fn has_arms(code: &Code) -> bool
-    ensures { result ≡ true → HasArmsIn (code_tree code.now) }
-{
-    match code {
-        Code::Solve { arms, .. } => !arms.is_empty(),
-        _ => false,
-    }
+    solved.code(alloc, number)
 }
