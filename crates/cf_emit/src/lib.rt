@@ -4,4 +4,6 @@
 mod code;
 mod list;
 pub mod print;
+#[cfg(test)]
+mod tests;
 mod word;

@@ -1,5 +1,4 @@
 use Rattle.std.proofs.Common.{◌≡◌, ◌++◌, map, drop}
-use Rattle.std.specs.Prelude.{decimal}
 use Rattle.cf_emit.specs.Printed.{base_text, more_texts}
 use Rattle.cf_emit.proofs.list.put_more_bases.Given as goal
 

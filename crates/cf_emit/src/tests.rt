@@ -1,0 +1,46 @@
+//! The worked targets print as they are read, with and without the header.
+use crate::print::print;
+use cf_lex::tokens;
+use cf_target::target;
+use cf_tree::memory::NoMemory;
+use cf_typing::check_target;
+use std::alloc::Global;
+use std::test::*;
+
+const SECONDS: &str =
+    "comfusy 2\nmain (int): (int, int, int) = solve 1 {\narm [] {\nlet div(v0, 60);\nlet div((59 + (-1 * v0)), 60);\nneed (59 >= 0);\nneed ((v1 + v2) >= 0);\nlet div((59 + v2), 60);\nlet div(v1, 60);\nneed (v4 >= 0);\nneed ((v3 + v4) >= 0);\nlet (-1 * v4);\nlet max((-59 + (60 * v5)), (-1 * v1));\nlet v0;\nlet (-1 * v6);\nlet (v7 + (60 * v6));\nlet (-1 * v5);\nlet (v8 + (60 * v5));\ngive (v10, v11, v9)\n}\n}\n";
+
+const ROUNDING: &str =
+    "comfusy 2\nmain (int, int): int = solve 1 {\narm [] {\nlet div((-1 * v0), 2);\nlet div(v1, 2);\nneed ((v2 + v3) >= 0);\nlet (-1 * v2);\ngive v4\n}\n}\n";
+
+const REMAINDERS: &str =
+    "comfusy 2\nmain (int): (int, int) = solve 1 {\narm [3] {\nneed ((-1 * v1) >= 0);\nlet div(((-1 * v0) + (-1 * v1)), 3);\nlet div((1 + v0 + v1), 3);\nneed ((v2 + v3) >= 0);\nlet (-1 * v2);\nlet ((-1 * v0) + (-1 * v1));\nlet (v5 + (3 * v4));\nlet ((-2 * v5) + (-5 * v4));\nlet v7;\ngive (v8, v6)\n}\n}\n";
+
+// The printed form of the target that the text spells.
+fn printed(alloc: Global, text: &[u8]) -> Result<Vec<u8>, Fail> {
+    if text.len() >= 4294967295 {
+        return Err(NoMemory.into());
+    }
+    let Ok(list) = tokens(alloc, text) else {
+        return Err(NoMemory.into());
+    };
+    let Ok(raw) = target(alloc, &list) else {
+        return Err(NoMemory.into());
+    };
+    let Ok(checked) = check_target(alloc, raw) else {
+        return Err(NoMemory.into());
+    };
+    Ok(print(alloc, &checked)?)
+}
+
+#[test]
+fn worked_targets_print_as_they_are_read(rt: HostRuntime) -> Result<(), Fail> {
+    let alloc = rt.alloc();
+    for text in [SECONDS, ROUNDING, REMAINDERS] {
+        let whole = text.as_bytes();
+        assert_eq!(rt; printed(alloc, whole)?.as_slice(), whole);
+        let header = 10.min(whole.len());
+        assert_eq!(rt; printed(alloc, &whole[header..])?.as_slice(), whole);
+    }
+    Ok(())
+}
