@@ -1,6 +1,10 @@
+pub mod AnswerLemmas
+pub mod CauseLemmas
 pub mod PieceLemmas
 pub mod ReplyLemmas
 pub mod SourceLemmas
 pub mod SpelledLemmas
 pub mod StatusLemmas
 pub mod StepLemmas
+pub mod TargetLemmas
+pub mod VerdictLemmas

@@ -15,8 +15,9 @@ use Rattle.cf_tree.specs.declared.raw.Part.{Part}
 use Rattle.cf_tree.specs.DefView.{RawDefTree}
 use Rattle.cf_tree.specs.RawTree.{RawTree, raw_lit, raw_truth, raw_name, raw_set_of, raw_group, raw_tuple, raw_neg, raw_not, raw_abs, raw_binary, raw_divides, raw_div, raw_mod, raw_card, raw_call, raw_if, raw_let, raw_choose, raw_match, RawTrees, no_raws, raw_more, RawArmTree, raw_arm, RawArmTrees, no_raw_arms, raw_arm_more}
 use Rattle.cf_tree.specs.Relation.{IsDivisor}
-use Rattle.cf_parse.specs.Tokens.{First, Next, FirstName, FirstLiteral, Others, Several, OneOrTuple}
-use Rattle.cf_parse.specs.Spelling.{SpellsParam, SpellsBase, SpellsName, SpellsNames, signed, SpellsPart, SpellsConstant, SpellsTerms, SpellsSigned, SpellsPattern, Spells, SpellsItems, SpellsOthers, SpellsArm, SpellsArms}
+use Rattle.cf_reader.specs.Tokens.{First, Next, FirstName, FirstLiteral, Others, Several, OneOrTuple}
+use Rattle.cf_reader.specs.Kinds.{SpellsBase}
+use Rattle.cf_parse.specs.Spelling.{SpellsParam, SpellsName, SpellsNames, signed, SpellsPart, SpellsConstant, SpellsTerms, SpellsSigned, SpellsPattern, Spells, SpellsItems, SpellsOthers, SpellsArm, SpellsArms}
 use Rattle.cf_parse.specs.Programs.{SpellsParams, SpellsDef, SpellsDefs, SpellsProgram, IsProgram}
 use Rattle.cf_type.specs.Source.{AreSeveral, AreArms, IsSpelledRaw, AreSpelledRaws, AreSpelledArms, IsSpelledDef, IsSpelledProgram}
 

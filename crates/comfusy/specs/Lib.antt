@@ -6,6 +6,8 @@ pub mod Runs
 pub mod Sources
 pub mod Statuses
 pub mod Steps
+pub mod TargetTexts
 pub mod Texts
 pub mod Top
+pub mod Verdicts
 pub mod Words

@@ -42,6 +42,7 @@ fault_status (fault.NotLinear p) = NotLinear
 fault_status (fault.Weight n) = Limit
 fault_status (fault.Depth n) = Limit
 fault_status (fault.Choose n r) = refusal_status r
+fault_status fault.BadTarget = Types
 fault_status fault.Input = Input
 fault_status fault.Output = Output
 fault_status fault.InputTooLong = InputLong

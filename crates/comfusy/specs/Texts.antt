@@ -55,6 +55,7 @@ fault_line (fault.NotLinear p) = place_line p (codes "not linear")
 fault_line (fault.Weight n) = count_line (codes "Weight") n
 fault_line (fault.Depth n) = count_line (codes "Depth") n
 fault_line (fault.Choose n r) = choose_line n r
+fault_line fault.BadTarget = words_line (codes "target not well typed")
 fault_line fault.Input = words_line (codes "cannot read input")
 fault_line fault.Output = words_line (codes "cannot write output")
 fault_line fault.InputTooLong = words_line (codes "input too long")

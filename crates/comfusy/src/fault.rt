@@ -27,6 +27,8 @@ pub enum Fault {
     Weight(u64),
     Depth(u64),
     Choose { number: u32, refusal: Refusal },
+    /// The target that the file spells is not well typed.
+    BadTarget,
     /// The input was not read.
     Input,
     /// A reply was not written.

@@ -8,7 +8,9 @@ mod limits;
 mod reply;
 mod source;
 mod status;
+mod target;
 mod tell;
+mod text;
 mod top;
 mod words;
 

@@ -1,16 +1,17 @@
-//! From a source text to its target.
-ghost use Rattle.std.specs.Prelude.{◌≡◌, ◌≤◌, ◌<◌, ◌-◌, ◌^◌, List, ℕ, length};
+//! From the tokens of a source text to its target.
+ghost use Rattle.std.specs.Prelude.{◌-◌, ◌^◌, List, ℕ};
 ghost use Rattle.cf_lex.specs.Tokens.{AreWithin, at_end};
 ghost use Rattle.cf_tree.specs.DefView.{program_tree};
 ghost use Rattle.cf_type.specs.Source.{IsSpelledProgram};
 ghost use Rattle.cf_type.specs.Typed.{typed_tree};
-ghost use Rattle.comfusy.specs.Limits.{text_limit};
-ghost use Rattle.comfusy.specs.Sources.{HasTokens, IsSource, IsTypedSource, IsVerdict};
+ghost use Rattle.comfusy.specs.Sources.{HasTokens, IsSource, IsTypedSource};
+ghost use Rattle.comfusy.specs.Verdicts.{IsVerdict};
+ghost use Rattle.comfusy.specs.declared.words.CommandKind.TheVariants.{Run};
 
 use crate::fault::{Fault, rule_fault};
 use cf_build::build::build;
 use cf_build::fault::BuildFault;
-use cf_lex::{LexFault, TokenList, tokens};
+use cf_lex::TokenList;
 use cf_parse::{ParseFault, program};
 use cf_tree::raw::Program;
 use cf_tree::target::Target;
@@ -18,24 +19,11 @@ use cf_type::check::check;
 use cf_type::typed::Typed;
 use std::alloc::Global;
 
-/// The target of a source text, or why it has none.
-pub fn compile(alloc: Global, text: &[u8]) -> Result<Target, Fault>
-    requires short { length text.now ≤ text_limit }
-    requires place { length text.now < 2 ^ 32 - 1 }
-    ensures { IsVerdict text.now result }
-{
-    match tokens(alloc, text) {
-        Ok(list) => compile_tokens(alloc, &list),
-        Err(LexFault::BadByte(place)) => Err(Fault::BadByte(place)),
-        Err(LexFault::NumberPast(place)) => Err(Fault::NumberPast(place)),
-        Err(LexFault::NoMemory) => Err(Fault::NoMemory),
-    }
-}
-
+/// The target that the tokens of a source text are compiled to, or why they are refused.
 #[tactic(auto, using(crate::proofs::SpelledLemmas::spelled_program))]
-fn compile_tokens(alloc: Global, list: &TokenList) -> Result<Target, Fault>
+pub fn compile(alloc: Global, list: &TokenList) -> Result<Target, Fault>
     requires { AreWithin (2 ^ 127 - 1) list.now.list.items }
-    ensures { (text : List ℕ) → HasTokens text list.now.list.items list.now.end at_end → IsVerdict text result }
+    ensures { (text : List ℕ) → HasTokens text list.now.list.items list.now.end at_end → IsVerdict Run text result }
 {
     match program(alloc, list) {
         Ok(program) => compile_program(alloc, &program),
@@ -47,7 +35,7 @@ fn compile_tokens(alloc: Global, list: &TokenList) -> Result<Target, Fault>
 #[tactic(auto, using(crate::proofs::SourceLemmas::rule_refuses))]
 fn compile_program(alloc: Global, program: &Program) -> Result<Target, Fault>
     requires { IsSpelledProgram (program_tree program.now) }
-    ensures { (text : List ℕ) → IsSource text (program_tree program.now) → IsVerdict text result }
+    ensures { (text : List ℕ) → IsSource text (program_tree program.now) → IsVerdict Run text result }
 {
     match check(alloc, program) {
         Ok(typed) => compile_typed(alloc, &typed),
@@ -56,7 +44,7 @@ fn compile_program(alloc: Global, program: &Program) -> Result<Target, Fault>
 }
 
 fn compile_typed(alloc: Global, typed: &Typed) -> Result<Target, Fault>
-    ensures { (text : List ℕ) → IsTypedSource text (typed_tree typed.now) → IsVerdict text result }
+    ensures { (text : List ℕ) → IsTypedSource text (typed_tree typed.now) → IsVerdict Run text result }
 {
     match build(alloc, typed) {
         Ok(target) => Ok(target),

@@ -17,9 +17,9 @@ pub enum Status {
     Input,
     /// A reply was not written.
     Output,
-    /// The text spells no program.
+    /// The text spells no program, or no target.
     Text,
-    /// A rule on names or types is broken.
+    /// A rule on names or types is broken, or a target is not well typed.
     Types,
     NotLinear,
     /// A coefficient of a choose passes the limit of numbers.
@@ -82,6 +82,7 @@ fn fault_status(fault: &Fault) -> Status
         Fault::Weight(_) => Status::Limit,
         Fault::Depth(_) => Status::Limit,
         Fault::Choose { refusal, .. } => refusal_status(refusal),
+        Fault::BadTarget => Status::Types,
         Fault::Input => Status::Input,
         Fault::Output => Status::Output,
         Fault::InputTooLong => Status::InputLong,

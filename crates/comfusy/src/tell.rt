@@ -160,6 +160,7 @@ fn put_fault<E: Sink>(err: &mut E, fault: &Fault) -> Result<(), Failed>
         Fault::Weight(count) => put_count(err, b"Weight".as_slice(), *count),
         Fault::Depth(count) => put_count(err, b"Depth".as_slice(), *count),
         Fault::Choose { number, refusal } => put_choose(err, *number, refusal),
+        Fault::BadTarget => put_words(err, b"target not well typed".as_slice()),
         Fault::Input => put_words(err, b"cannot read input".as_slice()),
         Fault::Output => put_words(err, b"cannot write output".as_slice()),
         Fault::InputTooLong => put_words(err, b"input too long".as_slice()),

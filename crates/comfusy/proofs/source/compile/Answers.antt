@@ -1,5 +1,5 @@
 use Rattle.comfusy.proofs.SpelledLemmas.{spelled_program}
-use Rattle.comfusy.proofs.source.compile_tokens.Goals as goal
+use Rattle.comfusy.proofs.source.compile.Goals as goal
 
 pub compile_program-requires : goal.compile_program-requires
 compile_program-requires c = spelled_program _ c.args.list.now.list.items c.in-Ok.ensures.found c.requires
