@@ -1,16 +1,18 @@
-//! What `bench/run` times: the readers of tokens and of programs, and the interpreter. Without a word it names what it times.
+//! What `bench/run` times: the readers of tokens, of programs and of targets, the printer, and the interpreter. Without a word it names what it times.
 #![tactic(auto)]
 
 mod codes;
 mod rows;
 
 use anyhow::{Result, anyhow};
+use cf_emit::print::print;
 use cf_eval::run::run_code;
 use cf_eval::value::{Outcome, Value};
 use cf_lex::{TokenList, tokens};
-use cf_parse::program;
+use cf_parse::{program, target};
 use cf_tree::code::Code;
 use cf_tree::memory::NoMemory;
+use cf_type::check_target;
 use std::alloc::Global;
 use std::env;
 use std::io::Read;
@@ -25,11 +27,12 @@ fn main(rt: HostRuntime) -> Result<()> {
     let count = match word.as_deref() {
         Some("tokens") => source_tokens(&rt)?.list.len(),
         Some("program") => count_functions(&rt)?,
+        Some("target") => printed_bytes(&rt)?,
         Some("seconds") => runs(alloc, codes::seconds(alloc), 200000)?,
         Some("search") => runs(alloc, codes::search(alloc), 1000)?,
         Some("rows") => combinations(alloc, 2000)?,
         _ => {
-            println!(rt; "tokens < FILE, program < FILE, seconds, search, rows")?;
+            println!(rt; "tokens < FILE, program < FILE, target < FILE, seconds, search, rows")?;
             return Ok(());
         }
     };
@@ -56,6 +59,21 @@ fn count_functions(rt: &HostRuntime) -> Result<usize> {
     match program(rt.alloc(), &list) {
         Ok(program) => Ok(program.defs.len()),
         Err(_) => Err(anyhow!("no program")),
+    }
+}
+
+// How many bytes the printed form of the target on the standard input has.
+fn printed_bytes(rt: &HostRuntime) -> Result<usize> {
+    let list = source_tokens(rt)?;
+    let Ok(raw) = target(rt.alloc(), &list) else {
+        return Err(anyhow!("no target"));
+    };
+    let Ok(checked) = check_target(rt.alloc(), raw) else {
+        return Err(anyhow!("not well typed"));
+    };
+    match print(rt.alloc(), &checked) {
+        Ok(text) => Ok(text.len()),
+        Err(_) => Err(anyhow!("no memory")),
     }
 }
 
