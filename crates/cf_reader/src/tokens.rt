@@ -1,5 +1,5 @@
 //! Tokens that stand first.
-ghost use Rattle.std.specs.Prelude.{◌≡◌, ◌≤ℤ◌, IfSome, take, drop};
+ghost use Rattle.std.specs.Prelude.{◌≡◌, ◌≤ℤ◌, IfOk, IfSome, take, drop};
 ghost use Rattle.std.specs.List.{list_any};
 ghost use Rattle.std.specs.Str.{bytes_eq};
 ghost use Rattle.cf_lex.specs.Words.{is_reserved as reserved, reserved_words};
@@ -105,7 +105,8 @@ pub fn literal_at_least(least: i128, tokens: &[Token]) -> Option<((Place, i128),
 /// A literal of at least `least` that has to stand first, with its place, and the tokens after it.
 #[tactic(auto, unfolding(crate::specs::Readers::must))]
 pub fn expect_literal(least: i128, tokens: &[Token]) -> Result<((Place, i128), &[Token]), Stop>
-    ensures { Gives (λ x. (x.0, x.1.now)) result (must (a_literal least) tokens.now) }
+    ensures value { Gives (λ x. (x.0, x.1.now)) result (must (a_literal least) tokens.now) }
+    ensures least_in { IfOk result (λ x. least ≤ℤ x.0.1) }
 {
     match literal_at_least(least, tokens) {
         Some(found) => Ok(found),

@@ -1,5 +1,5 @@
 -- What one token tells is spelled by it.
-use Rattle.std.proofs.Common.{◌≡◌, ◌⊎◌, inl, inr, ℕ, zero, suc, ◌+◌, ◌-◌, ◌≤◌, ◌<◌, ◌^◌, Bool, true, false, List, [], ◌∷◌, ◌++◌, length, Option, Some, None, Ok, nat_le, refl, sym, ap, subst, ◌∙◌, cond, arith}
+use Rattle.std.proofs.Common.{◌≡◌, inl, inr, ℕ, suc, ◌+◌, ◌-◌, ◌≤◌, ◌<◌, ◌^◌, Bool, true, false, List, Option, Some, None, nat_le, refl, sym, ap, subst, ◌∙◌, cond, arith}
 use Rattle.std.specs.Prelude.{ℤ, pos, negsuc, ◌≤ℤ◌, int_le, nat_eq, ◌&&◌, codes}
 use Rattle.std.specs.Str.{bytes_eq}
 use Rattle.std.proofs.lemmas.Bool.{eqb-true, leb-true}
@@ -11,10 +11,9 @@ use Rattle.cf_tree.specs.declared.raw.BinOp.{BinOp}
 use Rattle.cf_tree.specs.CodeTree.{CodeTree, code_lit, code_truth, code_var, code_set_of, code_tuple, code_sum, code_sub, code_mul, code_neg, code_div, code_mod, code_min, code_max, code_compare, code_divides, code_and, code_or, code_not, code_union, code_inter, code_diff, code_subset, code_card, code_slice, code_fresh, code_if, code_let, code_solve}
 use Rattle.cf_tree.specs.Spelled.{IsNumeral}
 use Rattle.cf_reader.specs.Tokens.{Next}
-use Rattle.cf_reader.specs.Readers.{Test, is, a_literal, must}
+use Rattle.cf_reader.specs.Readers.{Test, is}
 use Rattle.cf_reader.specs.Operations.{op_kind, op_of}
-use Rattle.cf_reader.proofs.Yields.{Took, widen, must_yields, took_literal, if_some, if_else_some, same_token, same_text, in_order, took_next}
-use Rattle.cf_reader.proofs.Faults.{found_on}
+use Rattle.cf_reader.proofs.Yields.{Took, if_some, if_else_some, same_token, same_text, in_order, took_next}
 use Rattle.cf_reader.proofs.OperationLaws.{op_on}
 use Rattle.cf_target.specs.declared.form.Unary.{Unary}
 use Rattle.cf_target.specs.declared.form.Unary.TheVariants.{Neg, Not, Card}
@@ -25,7 +24,7 @@ use Rattle.cf_target.specs.declared.form.Extreme.TheVariants.{Min, Max}
 use Rattle.cf_target.specs.declared.form.Step.{Step}
 use Rattle.cf_target.specs.declared.form.Step.TheVariants.{Let, Need}
 use Rattle.cf_target.specs.Spelling.{level_name, SpellsVariable, SpellsNumeral}
-use Rattle.cf_target.specs.Levels.{last_level, level_of}
+use Rattle.cf_target.specs.Levels.{last_level}
 use Rattle.cf_target.specs.Reading.{a_unary, a_division, an_extreme, a_step, a_numeral, numeral_of, a_variable, if_before_last, an_early_variable, if_same, the_variable, comma_after, an_operation, lone_literal, divisor_of, divides_by}
 use Rattle.cf_target.proofs.LevelLaws.{name_found}
 
@@ -147,10 +146,6 @@ literal_kind_on q (Sign x) n e = cc
 
 pub took_numeral : (ts us : List Token) (n : ℕ) → Took a_numeral ts n us → SpellsNumeral n ts us
 took_numeral ts us n (t, e, f) = let h = literal_kind_on t.place t.kind n f in (h.1, (t.place, same_token t t.place (Literal (pos n)) ts us e refl h.0))
-
--- a literal that has to be at least so great is
-pub literal_at_least : (least : ℤ) (ts : List Token) (x : Place × ℤ) (us : List Token) → must (a_literal least) ts ≡ Ok (x, us) → least ≤ℤ x.1
-literal_at_least least ts x us e = found_on (λ x. least ≤ℤ x.1) (must (a_literal least) ts) x us (widen (λ x us w. (took_literal least ts us x w).1) (must_yields (a_literal least) ts)) e
 
 -- operations
 

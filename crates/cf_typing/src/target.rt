@@ -13,6 +13,7 @@ use std::alloc::Global;
 /// The target of this tree, or `BadTarget` exactly where the tree is not well typed.
 pub fn check_target(alloc: Global, raw: RawTarget) -> Result<Target, TargetFault>
     ensures same { IfOk result (λ t. t ≡ raw) }
+    ensures typed { IfOk result IsWellTyped }
     ensures bad { IsErrOf result TargetFault.BadTarget → ¬ IsWellTyped raw }
 {
     match check_raw(alloc, &raw) {

@@ -29,11 +29,7 @@ fn check_read(alloc: Global, raw: RawTarget) -> Result<Target, Fault>
     ensures { (text : List ℕ) → IsTargetText text (target_tree raw) → IsVerdict Exec text result }
 {
     match check_target(alloc, raw) {
-        Ok(target) => {
-            // Its body comes with the clause that it is well typed.
-            let _ = target.body();
-            Ok(target)
-        }
+        Ok(target) => Ok(target),
         Err(TargetFault::BadTarget) => Err(Fault::BadTarget),
         Err(TargetFault::NoMemory) => Err(Fault::NoMemory),
     }

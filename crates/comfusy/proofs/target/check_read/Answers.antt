@@ -4,7 +4,7 @@ use Rattle.comfusy.proofs.TargetLemmas.{typed_verdict}
 use Rattle.comfusy.proofs.target.check_read.Goals as goal
 
 pub returns-in-Ok : goal.returns-in-Ok
-returns-in-Ok c = λ text h. typed_verdict text c.args.raw _ c.in-Ok.ensures.same c.body.ensures.typed h
+returns-in-Ok c = λ text h. typed_verdict text c.args.raw _ c.in-Ok.ensures.same c.in-Ok.ensures.typed h
 
 pub returns-in-Err-BadTarget : goal.returns-in-Err-BadTarget
 returns-in-Err-BadTarget c = λ text h. (target_tree c.args.raw, h, c.in-Err-BadTarget.ensures.bad (ap Err c.in-Err-BadTarget.field-0-is))
