@@ -114,7 +114,7 @@ fn walk_def(
     if callees.is_named_before(before.len(), &def.name) {
         return Err(TypeFault::DuplicateName(def.place));
     }
-    if let Some(place) = repeated_param(&def.params) {
+    if let Some(place) = repeated_param(alloc, &def.params)? {
         return Err(TypeFault::DuplicateName(place));
     }
     closed(alloc, def, walk_body(alloc, callees, before, def, next)?)

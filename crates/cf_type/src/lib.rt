@@ -7,6 +7,7 @@ mod callees;
 pub mod check;
 pub mod fault;
 mod form;
+mod name_set;
 mod names;
 mod reading;
 mod scope;

@@ -1,13 +1,15 @@
 //! Names, and the variables and functions that they stand for.
-ghost use Rattle.std.specs.Prelude.{◌≡◌, [], map};
-ghost use Rattle.std.specs.Str.{bytes_eq};
+ghost use Rattle.std.specs.Prelude.{◌≡◌, [], map, IfOk};
 ghost use Rattle.cf_type.specs.Walk.{output_fault as output_fault_of};
-ghost use Rattle.cf_type.specs.Names.{same_base as same_base_of, same_bases as same_bases_of, is_among as is_among_of, repeated as repeated_of, names_of};
+ghost use Rattle.cf_type.specs.Names.{same_base as same_base_of, same_bases as same_bases_of, repeated as repeated_of, names_of};
 
 use crate::bases::is_output;
 use crate::fault::TypeFault;
+use crate::name_set::NameSet;
 use cf_tree::base::{Base, Place, Text};
+use cf_tree::memory::NoMemory;
 use cf_tree::raw::{Param, Part};
+use std::alloc::Global;
 
 /// A variable: its level and its base.
 #[derive(Clone, Copy, Debug, PartialEq, Eq)]
@@ -60,98 +62,64 @@ pub fn same_bases(a: &[Base], b: &[Base]) -> bool
     right.is_empty()
 }
 
-/// Whether two texts are the same.
-pub fn same_text(a: &Text, b: &Text) -> bool
-    ensures { result ≡ bytes_eq a.now b.now }
-{
-    a.bytes.as_slice() == b.bytes.as_slice()
-}
-
-/// Whether a name is one of these.
-pub fn is_among(names: &[Text], name: &Text) -> bool
-    ensures { result ≡ is_among_of names.now name.now }
-{
-    names.iter().any(|other| same_text(other, name))
-}
-
 /// The place of the first name that equals one before it.
-pub fn repeated(names: &[Text], places: &[Place]) -> Option<Place>
-    ensures { result ≡ repeated_of [] names.now places.now }
+pub fn repeated(alloc: Global, names: &[Text], places: &[Place]) -> Result<Option<Place>, NoMemory>
+    ensures { IfOk result (λ o. o ≡ repeated_of [] names.now places.now) }
 {
+    let mut before = NameSet::new(alloc);
     let mut rest = places;
-    for i in 0..names.len() {
+    for name in names {
         match rest.split_first() {
-            None => return None,
+            None => return Ok(None),
             Some((place, more)) => {
-                if is_among(&names[..i], &names[i]) {
-                    return Some(*place);
+                if before.add(name)? {
+                    return Ok(Some(*place));
                 }
                 rest = more;
             }
         }
     }
-    None
-}
-
-/// Whether a name is that of one of these.
-pub fn has_name(params: &[Param], name: &Text) -> bool
-    ensures { result ≡ is_among_of (names_of params.now) name.now }
-{
-    for param in params {
-        if same_text(&param.name, name) {
-            return true;
-        }
-    }
-    false
+    Ok(None)
 }
 
 /// The place of the first parameter whose name is that of one before it.
-pub fn repeated_param(params: &[Param]) -> Option<Place>
-    ensures { result ≡ repeated_of [] (names_of params.now) (map (λ p. p.place) params.now) }
+pub fn repeated_param(alloc: Global, params: &[Param]) -> Result<Option<Place>, NoMemory>
+    ensures { IfOk result (λ o. o ≡ repeated_of [] (names_of params.now) (map (λ p. p.place) params.now)) }
 {
-    for i in 0..params.len() {
-        if has_name(&params[..i], &params[i].name) {
-            return Some(params[i].place);
+    let mut before = NameSet::new(alloc);
+    for param in params {
+        if before.add(&param.name)? {
+            return Ok(Some(param.place));
         }
     }
-    None
-}
-
-/// Whether a name is that of a variable of a pattern.
-fn has_part(parts: &[Part], name: &Text) -> bool
-    ensures { result ≡ is_among_of (map (λ x. x.name) parts.now) name.now }
-{
-    for part in parts {
-        if same_text(&part.name, name) {
-            return true;
-        }
-    }
-    false
+    Ok(None)
 }
 
 /// The place of the first variable of a pattern whose name is that of one before it.
-pub fn repeated_part(parts: &[Part]) -> Option<Place>
-    ensures { result ≡ repeated_of [] (map (λ x. x.name) parts.now) (map (λ x. x.place) parts.now) }
+pub fn repeated_part(alloc: Global, parts: &[Part]) -> Result<Option<Place>, NoMemory>
+    ensures { IfOk result (λ o. o ≡ repeated_of [] (map (λ x. x.name) parts.now) (map (λ x. x.place) parts.now)) }
 {
-    for i in 0..parts.len() {
-        if has_part(&parts[..i], &parts[i].name) {
-            return Some(parts[i].place);
+    let mut before = NameSet::new(alloc);
+    for part in parts {
+        if before.add(&part.name)? {
+            return Ok(Some(part.place));
         }
     }
-    None
+    Ok(None)
 }
 
 /// What is wrong with the outputs of a choose.
-pub fn output_fault(outputs: &[Param]) -> Option<TypeFault>
-    ensures { result ≡ output_fault_of [] outputs.now }
+pub fn output_fault(alloc: Global, outputs: &[Param]) -> Result<Option<TypeFault>, NoMemory>
+    ensures { IfOk result (λ o. o ≡ output_fault_of [] outputs.now) }
 {
-    for i in 0..outputs.len() {
-        if has_name(&outputs[..i], &outputs[i].name) {
-            return Some(TypeFault::DuplicateName(outputs[i].place));
+    let mut before = NameSet::new(alloc);
+    for output in outputs {
+        if before.add(&output.name)? {
+            return Ok(Some(TypeFault::DuplicateName(output.place)));
         }
-        if !is_output(outputs[i].base) {
-            return Some(TypeFault::Mismatch(outputs[i].place));
+        if !is_output(output.base) {
+            return Ok(Some(TypeFault::Mismatch(output.place)));
         }
     }
-    None
+    Ok(None)
 }

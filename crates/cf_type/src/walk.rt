@@ -205,8 +205,10 @@ fn walk_let(
     ensures gives { Gives form_of result (where_none_repeated (repeated_of [] names.now places.now) (where_kept (length names.now == length value.bases.items) (WrongCount place) (chained (walk_of (callee_from caller 0 (map raw_def_tree callees.now)) (scope.old ++ bound names.now places.now value.bases.items) value.next (raw_tree body.now)) (let_form place (length names.now) (form_of value))))) }
     ensures kept { OnOk result (scope.new ≡ scope.old) }
 {
-    if let Some(later) = repeated(names, places) {
-        return Err(without(value, TypeFault::DuplicateName(later)));
+    match repeated(alloc, names, places) {
+        Ok(None) => (),
+        Ok(Some(later)) => return Err(without(value, TypeFault::DuplicateName(later))),
+        Err(_) => return Err(without(value, TypeFault::NoMemory)),
     }
     if names.len() != value.bases.len() {
         return Err(without(value, TypeFault::WrongCount(place)));
@@ -241,7 +243,7 @@ fn walk_choose(
     ensures gives { Gives form_of result (where_no_fault (output_fault_of [] outputs.now) (chained (walk_of (callee_from caller 0 (map raw_def_tree callees.now)) (scope.old ++ outputs.now) (number + 1) (raw_tree rel.now)) (choose_form place number scope.old outputs.now))) }
     ensures kept { OnOk result (scope.new ≡ scope.old) }
 {
-    if let Some(fault) = output_fault(outputs) {
+    if let Some(fault) = output_fault(alloc, outputs)? {
         return Err(fault);
     }
     let next = build::following(number)?;
@@ -387,7 +389,7 @@ fn walk_body(
     ensures gives { Gives form_of result (where_none_repeated (repeated_of [] (map (λ x. x.name) parts.now) (map (λ x. x.place) parts.now)) (walk_of (callee_from caller 0 (map raw_def_tree callees.now)) (scope.old ++ variables_of parts.now) (after_arm next parts.now) (raw_tree body.now))) }
     ensures kept { OnOk result (scope.new ≡ scope.old) }
 {
-    if let Some(later) = repeated_part(parts) {
+    if let Some(later) = repeated_part(alloc, parts)? {
         return Err(TypeFault::DuplicateName(later));
     }
     let size = scope.len();

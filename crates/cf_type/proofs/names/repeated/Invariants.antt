@@ -1,6 +1,6 @@
-use Rattle.std.proofs.Common.{◌≡◌, [], take, drop}
+use Rattle.std.proofs.Common.{◌≡◌, [], drop}
 use Rattle.cf_type.specs.Names.{repeated}
 use Rattle.cf_type.proofs.names.repeated.Given as goal
 
-abbrev pub invariant-loop-i : goal.invariant-loop-i
-invariant-loop-i l = repeated (take l.i l.names) (drop l.i l.names) l.rest ≡ repeated [] l.names l.fn.places
+abbrev pub invariant-loop-name : goal.invariant-loop-name
+invariant-loop-name l = repeated l.before (drop l.name-index l.names) l.rest ≡ repeated [] l.names l.fn.places

@@ -1,8 +1,8 @@
-use Rattle.std.proofs.Common.{◌≡◌, [], map, take, drop}
+use Rattle.std.proofs.Common.{◌≡◌, [], map, drop}
 use Rattle.cf_type.specs.Names.{repeated}
 use Rattle.cf_type.proofs.names.repeated_part.Given as goal
 
-abbrev pub invariant-loop-i : goal.invariant-loop-i
-invariant-loop-i l =
-    repeated (map (λ x. x.name) (take l.i l.parts)) (map (λ x. x.name) (drop l.i l.parts)) (map (λ x. x.place) (drop l.i l.parts))
+abbrev pub invariant-loop-part : goal.invariant-loop-part
+invariant-loop-part l =
+    repeated l.before (map (λ x. x.name) (drop l.part-index l.parts)) (map (λ x. x.place) (drop l.part-index l.parts))
     ≡ repeated [] (map (λ x. x.name) l.parts) (map (λ x. x.place) l.parts)
