@@ -1,21 +1,20 @@
 -- What is added to the rows of a draft.
-use Rattle.std.proofs.Common.{◌≡◌, neg_ℤ, ◌+ℤ◌, ◌-ℤ◌, ◌*ℤ◌, ◌^◌, ◌==◌, ℕ, zero, suc, ◌+◌, ◌-◌, ◌/◌, ◌<◌, ◌≤◌, length, take, get_or, filter, ℤ, pos, negsuc, Bool, true, false, not, ◌||◌, List, [], ◌∷◌, ◌++◌, map, Result, Ok, Err, refl, sym, ◌∙◌, ap, arith, append_assoc}
+use Rattle.std.proofs.Common.{◌≡◌, neg_ℤ, ◌+ℤ◌, ◌*ℤ◌, ℕ, zero, suc, ◌+◌, ◌-◌, ◌<◌, ◌≤◌, length, take, get_or, filter, ℤ, pos, negsuc, Bool, true, false, not, ◌||◌, List, [], ◌∷◌, ◌++◌, map, Result, Err, refl, sym, ◌∙◌, ap, arith, append_assoc}
 use Rattle.std.specs.Prelude.{IfOk}
 use Rattle.std.proofs.lemmas.Int.{ints}
 use Rattle.std.proofs.lemmas.Bool.{ne_eqb}
 use Rattle.std.specs.List.{list_any, flat_map, range_with_len}
 use Rattle.std.proofs.lemmas.List.{append-nil, map_more, map-append}
 use Rattle.std.proofs.lemmas.Grind.{flat_map-append}
-use Rattle.cf_tree.specs.declared.base.Order.{Order}
 use Rattle.cf_tree.specs.RelTree.{SetTree, TermTree, rel_true, rel_false, rel_same_set, rel_other_set, rel_subset, rel_divides}
 use Rattle.cf_linear.specs.declared.refusal.RowFault.{RowFault}
 use Rattle.cf_linear.specs.declared.refusal.RowFault.TheVariants.{Past, NoMemory}
-use Rattle.cf_linear.specs.Rows.{Row, entry, put, comb, passes, row_passes, comb_passes, IsRow, AreBelow}
-use Rattle.cf_linear.specs.Parts.{Fails, GivesRow}
+use Rattle.cf_linear.specs.Rows.{Row, entry, put, passes, row_passes, IsRow, AreBelow}
+use Rattle.cf_linear.specs.Parts.{Fails}
 use Rattle.cf_linear.specs.Layout.{Levels, masks, set_count, region_column, region_row, covers}
 use Rattle.cf_linear.specs.declared.written.Guard.{Guard}
 use Rattle.cf_linear.specs.Views.{guard_of}
-use Rattle.cf_linear.specs.Written.{GuardTree, guard_rows, WrittenTree, plus, above_quotient, below_quotient, write, abs_count}
+use Rattle.cf_linear.specs.Written.{guard_rows, WrittenTree, plus, above_quotient, below_quotient, write, abs_count}
 use Rattle.cf_linear.specs.Cases.{AtomRows, plain, none_rows, write_atom}
 use Rattle.cf_num.specs.Limit.{IsWithin}
 use Rattle.cf_tree.specs.declared.memory.NoMemory.{NoMemory as NoMemoryFault}
@@ -25,17 +24,13 @@ use Rattle.cf_linear.proofs.Joining.{AreBelow-raise}
 use Rattle.cf_linear.proofs.RowLemmas.{entry-comb}
 use Rattle.cf_linear.proofs.Canonical.{Rises-put}
 use Rattle.cf_linear.proofs.CombLemmas.{Rises-comb}
-use Rattle.cf_linear.proofs.PassingLemmas.{IsUnit, gives_row, only_column, half_past, not_above, true_not_false, within_not, entry-within}
+use Rattle.cf_linear.proofs.PassingLemmas.{not_above, true_not_false, within_not, entry-within}
 use Rattle.cf_cases.specs.declared.draft.Draft.{Draft}
 use Rattle.cf_cases.specs.Picking.{signs_at, case_by}
-use Rattle.cf_cases.specs.Drafts.{with_case, rows_more, with_rows, with_guards, with_comparison, divided, false_rows, apart, apart_form, entries_if, region_rows, column_rows, NotPast, written_as, Drafts}
+use Rattle.cf_cases.specs.Drafts.{with_case, rows_more, with_rows, with_guards, divided, false_rows, apart, apart_form, entries_if, region_rows, column_rows, written_as, Drafts}
 use Rattle.cf_cases.specs.Holding.{EachOf}
 use Rattle.cf_cases.proofs.DraftLaws.{range_more}
 use Rattle.cf_cases.proofs.PartLaws.{by_one}
-
--- the rows with another next column
-abbrev pub moved : AtomRows → ℕ → AtomRows
-moved a n = record { equations = a.equations; inequalities = a.inequalities; next = n; passes = a.passes }
 
 pub drafts_as : (a b : AtomRows) (d : Draft) (y : Result (Unit {0}) RowFault) → a ≡ b → Drafts a d y → Drafts b d y
 drafts_as a b d y e h = rw (← e) h
@@ -52,9 +47,6 @@ guard_next a b c gs i g h is e f =
     let m : map guard_of (take (i + 1) gs) ≡ map guard_of (take i gs) ++ (guard_of g ∷ []) = map_more guard_of gs i g h ∙ ap (λ x. map guard_of (take i gs) ++ (guard_of x ∷ [])) (sym is) in
     let k : flat_map guard_rows (map guard_of (take (i + 1) gs)) ≡ flat_map guard_rows (map guard_of (take i gs)) ++ flat_map guard_rows (guard_of g ∷ []) = ap (flat_map guard_rows) m ∙ flat_map-append guard_rows (map guard_of (take i gs)) (guard_of g ∷ []) in
     f ∙ rw e (rw k (simp append_assoc))
-
-pub columns_next : (a b c : List Row) (r : Row) (i : ℕ) → i < length r → b ≡ a ++ column_rows (take i r) → c ≡ b ++ (put (get_or r i (0, pos 0)).0 (pos 1) [] ∷ []) → c ≡ a ++ column_rows (take (i + 1) r)
-columns_next a b c r i h e f = f ∙ rw (e, map_more (λ (e : ℕ × ℤ). put e.0 (pos 1) []) r i (0, pos 0) h, append_assoc) refl
 
 pub masks_next : (f : ℕ → Row) (a b c : List Row) (m : ℕ) → 1 ≤ m → b ≡ a ++ map f (range_with_len 1 (m - 1)) → c ≡ b ++ (f m ∷ []) → c ≡ a ++ map f (range_with_len 1 (m + 1 - 1))
 masks_next f a b c m h e g =
@@ -92,14 +84,6 @@ region_turn f p out new whole m n true lt h e low same g = rw g (below_more out 
 region_turn f p out new whole m n false lt h e low same g = rw (g, append-nil out) (AreBelow-raise (f m) (f (m + 1)) out (omega arith) low, region_skip f p out whole m n h (sym e) same)
 
 -- ---- rows with a column
-pub column_gives : (a : ℤ) (r : Row) (b : ℤ) (q : Row) (c : ℕ) (y : Result Row RowFault) → IsUnit a → IsWithin b → q ≡ put c (pos 1) [] → IsRow r × IsRow q →
-    IfOk y (λ x. x ≡ comb a r b q) → IfOk y (λ x. comb_passes a r b q ≡ false) → (y ≡ Err Past → comb_passes a r b q ≡ true) → GivesRow (comb a r b (put c (pos 1) [])) y
-column_gives a r b q c y u w e p v f g = rw e at (gives_row a r b q y p.0 p.1 (rw e (only_column a r b c u w p.0)) v f g)
-
-pub below_fails : (e : RowFault) (c : ℕ) (r : Row) (k : ℤ) → 1 ≤ c → (◌≡◌ {A = Result Row RowFault} (Err e) (Err Past) → IsRow r) → Fails (row_passes (comb (negsuc 0) r k (put c (pos 1) []))) e → Fails (row_passes (below_quotient c r k)) e
-below_fails Past c r k h p f = half_past c r k (k -ℤ pos 1) h (p refl) f
-below_fails NoMemory c r k h p f = tt
-
 zero_at_0 : (z k : ℤ) → IsWithin z → IsWithin (pos 1 *ℤ z +ℤ k *ℤ (pos 0 +ℤ pos 0))
 zero_at_0 z k h = omega (arith, ints)
 
@@ -112,32 +96,6 @@ above_fails Past c r k h p f =
     on_bool (row_passes (plus (above_quotient c r k) (negsuc 0))) (λ t. t)
     (λ t. true_not_false f (not_above (above_quotient c r k) (negsuc 0) (Rises-comb 0 (pos 1) r (neg_ℤ k) (put c (pos 1) []) q.0 (Rises-put 0 c (pos 1) [] (omega arith) tt)) (above_at_0 c r k h q) t))
 above_fails NoMemory c r k h p f = tt
-
--- ---- guards and then rows
-compared : (a : AtomRows) (n : ℕ) (o : Order) (r s : Row) (gs hs : List GuardTree) →
-    with_comparison (with_guards (with_guards (moved a n) gs) hs) o r [] (written_as s [] n) ≡ with_comparison a o r gs (written_as s hs n)
-compared a n o r s gs hs = simp append_assoc
-
-pub compared_gives : (a one two : AtomRows) (n : ℕ) (o : Order) (r s : Row) (gs hs : List GuardTree) (d : Draft) (y : Result (Unit {0}) RowFault) → one ≡ with_guards (moved a n) gs → two ≡ with_guards one hs →
-    Drafts (with_comparison two o r [] (written_as s [] two.next)) d y → Drafts (with_comparison a o r gs (written_as s hs n)) d y
-compared_gives a one two n o r s gs hs d y e f h =
-    drafts_as (with_comparison (with_guards (with_guards (moved a n) gs) hs) o r [] (written_as s [] n)) (with_comparison a o r gs (written_as s hs n)) d y (compared a n o r s gs hs) (rw (f, e) at h)
-
-multiple : (a : AtomRows) (c : ℕ) (r : Row) (k : ℤ) (gs : List GuardTree) → with_rows (with_guards (moved a (c + 1)) gs) (above_quotient c r k ∷ []) [] ≡ rows_more a (divided true k (written_as r gs c))
-multiple a c r k gs = simp append_assoc
-
-pub multiple_gives : (a one : AtomRows) (c : ℕ) (r : Row) (k : ℤ) (gs : List GuardTree) (d : Draft) (y : Result (Unit {0}) RowFault) → one ≡ with_guards (moved a (c + 1)) gs →
-    Drafts (with_rows one (above_quotient c r k ∷ []) []) d y → Drafts (rows_more a (divided true k (written_as r gs c))) d y
-multiple_gives a one c r k gs d y e h = drafts_as (with_rows (with_guards (moved a (c + 1)) gs) (above_quotient c r k ∷ []) []) (rows_more a (divided true k (written_as r gs c))) d y (multiple a c r k gs) (rw e at h)
-
-between : (a : AtomRows) (c : ℕ) (r : Row) (k : ℤ) (gs : List GuardTree) →
-    with_rows (with_guards (moved a (c + 1)) gs) [] (plus (above_quotient c r k) (negsuc 0) ∷ below_quotient c r k ∷ []) ≡ rows_more a (divided false k (written_as r gs c))
-between a c r k gs = simp append_assoc
-
-pub between_gives : (a one : AtomRows) (c : ℕ) (r : Row) (k : ℤ) (gs : List GuardTree) (d : Draft) (y : Result (Unit {0}) RowFault) → one ≡ with_guards (moved a (c + 1)) gs →
-    Drafts (with_rows one [] (plus (above_quotient c r k) (negsuc 0) ∷ below_quotient c r k ∷ [])) d y → Drafts (rows_more a (divided false k (written_as r gs c))) d y
-between_gives a one c r k gs d y e h =
-    drafts_as (with_rows (with_guards (moved a (c + 1)) gs) [] (plus (above_quotient c r k) (negsuc 0) ∷ below_quotient c r k ∷ [])) (rows_more a (divided false k (written_as r gs c))) d y (between a c r k gs) (rw e at h)
 
 -- ---- the rows of a case of an atom
 divides_by : (l : Levels) (a : AtomRows) (b : Bool) (k : ℤ) (t : TermTree) (i : ℕ) → with_case l a (case_by (plain b (rel_divides k t)) i) ≡ rows_more a (divided b k (write l t (signs_at (abs_count t) i) a.next))
@@ -194,12 +152,3 @@ pub subset_case : (l : Levels) (a : AtomRows) (b : Bool) (s t : SetTree) (i : �
 unfolding case_by write_atom
 subset_case l a true s t i = rw (by_one i).1 refl
 subset_case l a false s t i = rw (by_one i).1 refl
-
--- ---- a row that fits
-pub not_past : (r : Row) (y : Result Row RowFault) → GivesRow r y → row_passes r ≡ false → NotPast y
-not_past r (Ok x) g e = tt
-not_past r (Err Past) g e = rw e at g
-not_past r (Err NoMemory) g e = tt
-
-pub row_is : (r x : Row) (y : Result Row RowFault) → GivesRow r y → y ≡ Ok x → x ≡ r
-row_is r x y g e = let h = rw e at g in h.0

@@ -1,33 +1,33 @@
 -- The rows of an atom hold for some quotients exactly where the atom holds with its signs.
-use Rattle.std.proofs.Common.{◌≡◌, ◌≢◌, ℕ, zero, suc, ◌+◌, ◌-◌, ◌^◌, ◌<◌, ◌≤◌, ◌==◌, ℤ, pos, negsuc, ◌+ℤ◌, ◌-ℤ◌, ◌*ℤ◌, List, [], ◌∷◌, ◌++◌, length, map, filter, Bool, true, false, refl, sym, ◌∙◌, ap, arith, length-append}
+use Rattle.std.proofs.Common.{◌≡◌, ◌≢◌, ℕ, zero, suc, ◌+◌, ◌-◌, ◌<◌, ◌≤◌, ℤ, pos, negsuc, ◌+ℤ◌, ◌-ℤ◌, ◌*ℤ◌, List, [], ◌∷◌, ◌++◌, length, Bool, refl, sym, ◌∙◌, ap, arith, length-append}
 use Rattle.std.specs.Prelude.{◌≤ℤ◌, ◌<ℤ◌}
 use Rattle.std.specs.Int.{int_div_euclid}
-use Rattle.std.specs.List.{range_with_len, flat_map}
 use Rattle.std.proofs.lemmas.Int.{ints}
-use Rattle.std.proofs.lemmas.Bool.{cond_both}
 use Rattle.std.proofs.lemmas.List.{append-nil}
 use Rattle.cf_num.proofs.DivisionLemmas.{int_div_euclid-bounds, int_div_euclid_once}
 use Rattle.cf_tree.specs.declared.base.Order.{Order}
 use Rattle.cf_tree.specs.declared.base.Order.TheVariants.{Eq, Ne, Lt, Le, Gt, Ge}
 use Rattle.cf_tree.specs.Numbers.{Compares}
-use Rattle.cf_tree.specs.RelTree.{SetTree, TermTree}
+use Rattle.cf_tree.specs.RelTree.{TermTree}
 use Rattle.cf_tree.specs.Relation.{IsLinearTerm}
-use Rattle.cf_linear.specs.Rows.{Row, Values, value, put, comb, AreBelow}
+use Rattle.cf_linear.specs.Rows.{Row, Values, value, AreBelow}
 use Rattle.cf_linear.specs.Keep.{Same, update}
 use Rattle.cf_linear.specs.Matrices.{EachRow}
 use Rattle.cf_linear.specs.Relations.{Divides}
-use Rattle.cf_linear.specs.Layout.{Levels, masks, set_count, first_free, region_column, region_row}
-use Rattle.cf_linear.specs.Written.{GuardTree, GuardsHold, guard_rows, above_quotient, below_quotient, constant_row, plus, WrittenTree, write, val_at, abs_count, IsPlaced}
-use Rattle.cf_linear.specs.Cases.{Atom, atom_true, atom_false, atom_compare, atom_divides, atom_not_divides, atom_same, atom_other, atom_subset, atom_not_subset, Signed, atom_signs, AtomRows, less, compare_zero, compare_nonneg, in_first, in_one, none_rows, some_row, guards_of, write_atom}
+use Rattle.cf_linear.specs.Layout.{Levels, first_free, region_row}
+use Rattle.cf_linear.specs.Written.{above_quotient, below_quotient, constant_row, plus, write, val_at, abs_count, IsPlaced}
+use Rattle.cf_linear.specs.Cases.{atom_true, atom_false, atom_compare, atom_divides, atom_not_divides, atom_same, atom_other, atom_subset, atom_not_subset, Signed, AtomRows, less, compare_zero, compare_nonneg, in_first, in_one, some_row, guards_of, write_atom}
 use Rattle.cf_linear.proofs.RowLemmas.{value-put, value-comb}
 use Rattle.cf_linear.proofs.WritingLemmas.{write-next}
 use Rattle.cf_linear.proofs.WrittenLemmas.{value-plus, write-value}
-use Rattle.cf_linear.proofs.Joining.{AreBelow-raise}
-use Rattle.cf_cases.specs.Holding.{EachOf, signs_of, AtomAt, SignedAt, SignedFits, AtomFits}
+use Rattle.cf_linear.proofs.KindLemmas.{EachRow-append, EachRow-split}
+use Rattle.cf_linear.proofs.ValueLemmas.{Same-trans, update-at}
+use Rattle.cf_cases.specs.Holding.{signs_of, SignedAt, SignedFits}
 use Rattle.cf_cases.proofs.CaseLaws.{length-signs_of}
-use Rattle.cf_cases.proofs.BelowLaws.{below-put, below-comb, below-plus, below-above_quotient, below-below_quotient, below-region_row, region-below, positive_free, value-same, GuardFits, write-fits}
-use Rattle.cf_cases.proofs.GuardLaws.{rows-append, rows-split, value-above, value-below, guards_from_rows, rows_from_guards, guards-same}
-use Rattle.cf_cases.proofs.WriteLaws.{signs_met, val_at-same, signs-same, Filled, same-then, same-less, updated, update-same, fill}
+use Rattle.cf_cases.proofs.BelowLaws.{positive_free, value-same, write-fits}
+use Rattle.cf_cases.proofs.GuardLaws.{value-above, value-below, guards_from_rows, rows_from_guards, guards-same, positive}
+use Rattle.cf_cases.proofs.WriteLaws.{signs_met, val_at-same, signs-same, Filled, same-less, update-same, fill}
+use Rattle.cf_cases.proofs.SignLaws.{no_signs}
 
 abbrev pub AreZero : Values → List Row → Type 0
 AreZero v rs = EachRow (λ r. value v r ≡ pos 0) rs
@@ -72,18 +72,12 @@ nothing_left : (ss xs rest : List Bool) → ss ≡ xs ++ rest → length ss ≡ 
 nothing_left ss xs [] e h = e ∙ append-nil xs
 nothing_left ss xs (b ∷ rest) e h = absurd (let k : length ss ≡ length xs + suc (length rest) = ap length e ∙ length-append xs (b ∷ rest) in omega arith)
 
-both_counts : (f : TermTree → ℤ) (a b : TermTree) → length (signs_of f a ++ signs_of f b) ≡ abs_count a + abs_count b
-both_counts f a b = length-append (signs_of f a) (signs_of f b) ∙ rw (length-signs_of f a, length-signs_of f b) refl
-
 -- ---- multiples
 strictly_between : (z x k : ℤ) → pos 0 ≤ℤ (z -ℤ x +ℤ negsuc 0) → pos 0 ≤ℤ (x +ℤ (k -ℤ pos 1) -ℤ z) → (x ≤ℤ z) × (z <ℤ (x +ℤ k)) × (x ≡ z → ⊥)
 strictly_between z x k h i = (omega (arith, ints), omega (arith, ints), λ e. omega (arith, ints))
 
 at_multiple : (z x k : ℤ) → pos 1 ≤ℤ k → z ≡ x → (x ≤ℤ z) × (z <ℤ (x +ℤ k))
 at_multiple z x k p e = (omega (arith, ints), omega (arith, ints))
-
-positive : (k : ℤ) → pos 1 ≤ℤ k → pos 0 <ℤ k
-positive k h = omega (arith, ints)
 
 not_multiple : (z k c : ℤ) → pos 1 ≤ℤ k → pos 0 ≤ℤ (z -ℤ k *ℤ c +ℤ negsuc 0) → pos 0 ≤ℤ (k *ℤ c +ℤ (k -ℤ pos 1) -ℤ z) → Divides k z → ⊥
 not_multiple z k c p h i d =
@@ -93,7 +87,7 @@ not_multiple z k c p h i d =
     let g = int_div_euclid_once z k d.0 (positive k p) m.0 m.1 in
     x.2 (ap (λ y. k *ℤ y) (sym f ∙ g) ∙ sym d.1)
 
-zero_gap : (z x : ℤ) → z -ℤ x ≡ pos 0 → z ≡ x
+pub zero_gap : (z x : ℤ) → z -ℤ x ≡ pos 0 → z ≡ x
 zero_gap z x h = omega (arith, ints)
 
 no_gap : (z x : ℤ) → z ≡ x → z -ℤ x ≡ pos 0
@@ -139,8 +133,8 @@ module _ (l : Levels) (v : Values) (one : v 0 ≡ pos 1) where
   from_compare o a b ss q p h z g =
       let w = write l a ss q in
       let u = write l b w.signs w.next in
-      let k = rows-split (λ r. pos 0 ≤ℤ value v r) (guards_of w ++ guards_of u) (compare_nonneg o w.row u.row) g in
-      let j = rows-split (λ r. pos 0 ≤ℤ value v r) (guards_of w) (guards_of u) k.0 in
+      let k = EachRow-split (λ r. pos 0 ≤ℤ value v r) (guards_of w ++ guards_of u) (compare_nonneg o w.row u.row) g in
+      let j = EachRow-split (λ r. pos 0 ≤ℤ value v r) (guards_of w) (guards_of u) k.0 in
       let r = read a ss q p.0.1 h (let n = p.1 in omega arith) j.0 in
       let n : length w.signs ≡ abs_count b = rest_long a ss q (abs_count b) r p.1 in
       let t = read b w.signs w.next p.0.2 (omega (arith, write-next l a ss q)) (omega arith) j.1 in
@@ -152,7 +146,7 @@ module _ (l : Levels) (v : Values) (one : v 0 ≡ pos 1) where
   unfolding write_atom
   from_divides k t ss q p h z g =
       let w = write l t ss q in
-      let j = rows-split (λ r. pos 0 ≤ℤ value v r) (guards_of w) [] g in
+      let j = EachRow-split (λ r. pos 0 ≤ℤ value v r) (guards_of w) [] g in
       let r = read t ss q (p.0.1, p.0.2) h (let n = p.1 in omega arith) j.0 in
       let e : value v w.row -ℤ k *ℤ v w.next ≡ pos 0 = sym (value-above v w.next w.row k) ∙ z.0 in
       ((v w.next, sym r.is_value ∙ zero_gap (value v w.row) (k *ℤ v w.next) e), whole_signs t ss q r p.1)
@@ -162,15 +156,11 @@ module _ (l : Levels) (v : Values) (one : v 0 ≡ pos 1) where
   unfolding write_atom
   from_not_divides k t ss q p h g =
       let w = write l t ss q in
-      let j = rows-split (λ r. pos 0 ≤ℤ value v r) (guards_of w) (plus (above_quotient w.next w.row k) (negsuc 0) ∷ below_quotient w.next w.row k ∷ []) g in
+      let j = EachRow-split (λ r. pos 0 ≤ℤ value v r) (guards_of w) (plus (above_quotient w.next w.row k) (negsuc 0) ∷ below_quotient w.next w.row k ∷ []) g in
       let r = read t ss q (p.0.1, p.0.2) h (let n = p.1 in omega arith) j.0 in
       let x : pos 0 ≤ℤ (val_at l v t -ℤ k *ℤ v w.next +ℤ negsuc 0) = rw (value-plus v (above_quotient w.next w.row k) (negsuc 0) one, value-above v w.next w.row k, r.is_value) at j.1.0 in
       let y : pos 0 ≤ℤ (k *ℤ v w.next +ℤ (k -ℤ pos 1) -ℤ val_at l v t) = rw (value-below v w.next w.row k one, r.is_value) at j.1.1.0 in
       (not_multiple (val_at l v t) k (v w.next) p.0.0.0 x y, whole_signs t ss q r p.1)
-
-  no_signs : (ss : List Bool) → length ss ≡ 0 → ss ≡ []
-  no_signs [] h = refl
-  no_signs (b ∷ ss) h = absurd (omega arith)
 
   from_some : (p : ℕ → Bool) → AreNonneg v (some_row l p ∷ []) → pos 1 ≤ℤ value v (region_row l p)
   from_some p g = less_one (value v (region_row l p)) (rw (value-plus v (region_row l p) (negsuc 0) one) at g.0)
@@ -211,11 +201,6 @@ module _ (l : Levels) (v : Values) (one : v 0 ≡ pos 1) where
   filled_value t ss rest q p h f =
       write-value l f.values (one_too q f.values h f.same) t ss q p.1 f.holds ∙ sym (val_at-same l v f.values (same-less (first_free l) q v f.values h f.same) t p.0)
 
-  filled_guards : (t : TermTree) (ss rest : List Bool) (q : ℕ) → IsPlaced l t → first_free l ≤ q → (f : Filled q v (write l t ss q) rest) → AreNonneg f.values (guards_of (write l t ss q))
-  filled_guards t ss rest q p h f =
-      let w = write l t ss q in
-      rows_from_guards f.values (one_too q f.values h f.same) w.next w.guards (write-fits l t ss q p h).guards f.holds
-
   -- the form with its quotients, and a quotient in the next column
   pub record Divided (t : TermTree) (ss : List Bool) (q : ℕ) (d : ℤ) : Type 0 where
     pub values : Values
@@ -232,12 +217,12 @@ module _ (l : Levels) (v : Values) (one : v 0 ≡ pos 1) where
       let s = update-same f.values w.next d in
       let k = write-fits l t ss q p.0 h in
       let i : q ≤ w.next = omega (arith, write-next l t ss q) in
-      let m = same-then q w.next v f.values u i f.same s in
+      let m = Same-trans q w.next v f.values u i f.same s in
       record {
         values = u;
         same = m;
         row_is = sym (value-same w.next f.values u w.row s k.row) ∙ filled_value t ss [] q p h f;
-        column_is = updated f.values w.next d;
+        column_is = update-at f.values w.next d;
         guards = rows_from_guards u (one_too q u h m) w.next w.guards k.guards (guards-same w.next f.values u s w.guards k.guards f.holds);
       }
 
@@ -251,7 +236,7 @@ module _ (l : Levels) (v : Values) (one : v 0 ≡ pos 1) where
       let c = one_too q f.values h f.same in
       let s = same-less (first_free l) q v f.values h f.same in
       let k = fill l b w.signs [] w.next f.values p.0.2.0 p.0.2.1 (omega arith) c (f.left ∙ signs-same l v f.values s b p.0.2.0 ∙ sym (append-nil (signs_of (val_at l f.values) b))) in
-      let m = same-then q w.next v f.values k.values i f.same k.same in
+      let m = Same-trans q w.next v f.values k.values i f.same k.same in
       let j = one_too q k.values h m in
       let n = write-fits l a ss q p.0.1.0 h in
       let n' = write-fits l b w.signs w.next p.0.2.0 (omega arith) in
@@ -262,8 +247,8 @@ module _ (l : Levels) (v : Values) (one : v 0 ≡ pos 1) where
         values = k.values;
         same = m;
         zero = zero_from_compares k.values j w.row u.row o z;
-        nonneg = rows-append (λ r. pos 0 ≤ℤ value k.values r) (guards_of w ++ guards_of u) (compare_nonneg o w.row u.row)
-            (rows-append (λ r. pos 0 ≤ℤ value k.values r) (guards_of w) (guards_of u)
+        nonneg = EachRow-append (λ r. pos 0 ≤ℤ value k.values r) (guards_of w ++ guards_of u) (compare_nonneg o w.row u.row)
+            (EachRow-append (λ r. pos 0 ≤ℤ value k.values r) (guards_of w) (guards_of u)
             (rows_from_guards k.values j w.next w.guards n.guards (guards-same w.next f.values k.values k.same w.guards n.guards f.holds))
             (rows_from_guards k.values j u.next u.guards n'.guards k.holds))
             (nonneg_from_compares k.values j w.row u.row o z);
@@ -279,7 +264,7 @@ module _ (l : Levels) (v : Values) (one : v 0 ≡ pos 1) where
         values = d.values;
         same = d.same;
         zero = (value-above d.values w.next w.row k ∙ no_gap (value d.values w.row) (k *ℤ d.values w.next) e, tt);
-        nonneg = rows-append (λ r. pos 0 ≤ℤ value d.values r) (guards_of w) [] d.guards tt;
+        nonneg = EachRow-append (λ r. pos 0 ≤ℤ value d.values r) (guards_of w) [] d.guards tt;
       }
 
   to_not_divides : (k : ℤ) (t : TermTree) (ss : List Bool) (q : ℕ) → SignedFits l (atom_not_divides k t, ss) → first_free l ≤ q → SignedAt l v (atom_not_divides k t, ss) → Met q v (write_atom l (atom_not_divides k t, ss) q)
@@ -296,7 +281,7 @@ module _ (l : Levels) (v : Values) (one : v 0 ≡ pos 1) where
         values = d.values;
         same = d.same;
         zero = tt;
-        nonneg = rows-append (λ r. pos 0 ≤ℤ value d.values r) (guards_of w) (plus (above_quotient w.next w.row k) (negsuc 0) ∷ below_quotient w.next w.row k ∷ []) d.guards (
+        nonneg = EachRow-append (λ r. pos 0 ≤ℤ value d.values r) (guards_of w) (plus (above_quotient w.next w.row k) (negsuc 0) ∷ below_quotient w.next w.row k ∷ []) d.guards (
           rw (value-plus d.values (above_quotient w.next w.row k) (negsuc 0) j, value-above d.values w.next w.row k, d.row_is, d.column_is) x,
           (rw (value-below d.values w.next w.row k j, d.row_is, d.column_is) y, tt),
         );

@@ -1,20 +1,19 @@
 -- Rows whose columns are below a column.
-use Rattle.std.proofs.Common.{◌≡◌, ℕ, zero, suc, ◌+◌, ◌-◌, ◌^◌, ◌<◌, ◌≤◌, ◌==◌, ℤ, pos, negsuc, neg_ℤ, ◌-ℤ◌, ◌+ℤ◌, ◌*ℤ◌, List, [], ◌∷◌, ◌++◌, Bool, true, false, ◌||◌, cond, length, map, filter, refl, sym, ◌∙◌, ap, arith}
+use Rattle.std.proofs.Common.{◌≡◌, ℕ, zero, suc, ◌+◌, ◌-◌, ◌^◌, ◌<◌, ◌≤◌, ◌==◌, ℤ, pos, negsuc, neg_ℤ, ◌-ℤ◌, ◌+ℤ◌, ◌*ℤ◌, List, [], ◌∷◌, Bool, true, false, ◌||◌, length, map, filter, refl, arith}
 use Rattle.std.specs.Prelude.{nat_lt, IsTrue, ◌≤ℤ◌}
 use Rattle.std.specs.List.{range_with_len}
 use Rattle.std.proofs.lemmas.Bool.{cond_both}
-use Rattle.std.proofs.lemmas.Int.{ints}
 use Rattle.std.proofs.lemmas.Nat.{pow_pos}
-use Rattle.cf_tree.specs.RelTree.{SetTree, TermTree, term_lit, term_var, term_card, term_neg, term_add, term_sub, term_mul, term_div, term_mod, term_abs}
+use Rattle.cf_tree.specs.RelTree.{TermTree, term_lit, term_var, term_card, term_neg, term_add, term_sub, term_mul, term_div, term_mod, term_abs}
 use Rattle.cf_tree.specs.Relation.{is_fixed}
 use Rattle.cf_linear.specs.Rows.{Row, Values, entry, value, is_zero, put, add_at, comb, AreBelow}
 use Rattle.cf_linear.specs.Keep.{Same}
-use Rattle.cf_linear.specs.Layout.{Levels, masks, set_count, has_level, place, covers, known_count, number_column, region_column, first_free, region_row}
-use Rattle.cf_linear.specs.Written.{GuardTree, sign_guard, quotient_guard, constant_row, plus, above_quotient, below_quotient, WrittenTree, alone, from_one, from_two, with_quotient, signed_by, with_sign, first_sign, product_by, write, quotient_count, IsPlaced}
+use Rattle.cf_linear.specs.Layout.{Levels, set_count, has_level, place, covers, number_column, region_column, first_free, region_row}
+use Rattle.cf_linear.specs.Written.{GuardTree, sign_guard, quotient_guard, constant_row, plus, above_quotient, below_quotient, WrittenTree, from_one, from_two, with_quotient, signed_by, first_sign, product_by, write, IsPlaced}
 use Rattle.cf_linear.proofs.BoolLemmas.{on_bool}
-use Rattle.cf_linear.proofs.ColumnLemmas.{has_not}
 use Rattle.cf_linear.proofs.Joining.{AreBelow-raise}
 use Rattle.cf_linear.proofs.WritingLemmas.{write-next}
+use Rattle.cf_linear.proofs.WrittenLemmas.{other_side}
 use Rattle.cf_cases.specs.Holding.{EachOf}
 use Rattle.cf_cases.proofs.Quantifiers.{each-append, each-imp}
 
@@ -56,11 +55,6 @@ below-ones n f p a (suc k) h =
     (λ e. (h a (omega arith) (omega arith), rest)) (λ e. rest)
 
 -- ---- columns of a layout
-or_true : (a b : Bool) → IsTrue (a || b) → a ≡ false → b ≡ true
-or_true true b t e = cc
-or_true false true t e = refl
-or_true false false t e = cc
-
 has_place : (x : ℕ) (xs : List ℕ) → has_level xs x ≡ true → place x xs < length xs
 has_place x [] h = absurd (cc)
 has_place x (y ∷ ys) h = on_bool (y == x) (λ e. rw e (omega arith)) (λ e. let k : has_level ys x ≡ true = rw e at h in let i = has_place x ys k in rw e (omega arith))
@@ -71,7 +65,7 @@ positive_free l = omega (arith, pow_pos (length l.inputs), pow_pos (set_count l)
 pub number-below : (l : Levels) (x : ℕ) → IsTrue (has_level l.numbers x || has_level l.out_numbers x) → number_column l x < first_free l
 number-below l x h = on_bool (has_level l.numbers x)
     (λ e. let p = has_place x l.numbers e in rw e (omega (arith, pow_pos (length l.inputs), pow_pos (set_count l))))
-    (λ e. let p = has_place x l.out_numbers (or_true (has_level l.numbers x) (has_level l.out_numbers x) h e) in rw e (omega (arith, pow_pos (length l.inputs), pow_pos (set_count l))))
+    (λ e. let p = has_place x l.out_numbers (other_side (has_level l.numbers x) (has_level l.out_numbers x) h e) in rw e (omega (arith, pow_pos (length l.inputs), pow_pos (set_count l))))
 
 pub region-below : (l : Levels) (m : ℕ) → 1 ≤ m → m < 1 + (2 ^ set_count l - 1) → region_column l m < first_free l
 region-below l m h k = omega (arith, pow_pos (length l.inputs), pow_pos (set_count l))

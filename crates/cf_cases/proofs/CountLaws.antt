@@ -1,11 +1,11 @@
 -- Numbers of cases that stop at the greatest count.
-use Rattle.std.proofs.Common.{inl, inr, ◌≡◌, ◌⊎◌, ℤ, ℕ, zero, suc, ◌+◌, ◌-◌, ◌*◌, ◌^◌, ◌<◌, ◌≤◌, Bool, true, false, not, List, [], ◌∷◌, length, refl, sym, ◌∙◌, ap, arith}
+use Rattle.std.proofs.Common.{inl, inr, ◌≡◌, ℤ, ℕ, zero, suc, ◌+◌, ◌-◌, ◌*◌, ◌^◌, ◌<◌, ◌≤◌, Bool, true, false, not, length, refl, sym, ◌∙◌, ap, arith}
 use Rattle.std.specs.Prelude.{min}
 use Rattle.std.proofs.lemmas.Bool.{cases_lt}
 use Rattle.std.proofs.lemmas.Nat.{pow-add}
 use Rattle.cf_tree.specs.declared.base.Order.{Order}
 use Rattle.cf_tree.specs.declared.base.Order.TheVariants.{Eq, Ne, Lt, Le, Gt, Ge}
-use Rattle.cf_tree.specs.RelTree.{SetTree, TermTree, RelTree, rel_true, rel_false, rel_compare, rel_same_set, rel_other_set, rel_subset, rel_divides, rel_and, rel_or, rel_not}
+use Rattle.cf_tree.specs.RelTree.{SetTree, TermTree, RelTree, rel_true, rel_false, rel_compare, rel_same_set, rel_other_set, rel_subset, rel_divides, rel_and, rel_or}
 use Rattle.cf_linear.specs.Written.{abs_count}
 use Rattle.cf_linear.specs.Cases.{atom_compare, atom_ways, opposite, plain, case_count}
 use Rattle.cf_cases.specs.Counts.{wide, order_as, order_ways, both_or_either}
@@ -58,10 +58,6 @@ pub or_count : (b : Bool) (p q : RelTree) (x y z : ℕ) → x ≡ wide (case_cou
 unfolding case_count
 or_count true p q x y z e f g = sum_capped (case_count (plain true p)) (case_count (plain true q)) x y z e f g
 or_count false p q x y z e f g = product_capped (case_count (plain false p)) (case_count (plain false q)) x y z e f g
-
-pub not_count : (b : Bool) (p : RelTree) → case_count (plain (not b) p) ≡ case_count (plain b (rel_not p))
-not_count true p = refl
-not_count false p = refl
 
 pub divides_count : (b : Bool) (k : ℤ) (t : TermTree) → 2 ^ abs_count t ≡ case_count (plain b (rel_divides k t))
 unfolding case_count

@@ -1,47 +1,31 @@
 -- The rows of a case, written one atom after the other.
-use Rattle.std.proofs.Common.{◌≡◌, ◌≢◌, ℤ, pos, negsuc, Option, ℕ, zero, suc, ◌+◌, ◌-◌, ◌*◌, ◌/◌, ◌%◌, ◌^◌, ◌<◌, ◌≤◌, Bool, true, false, ◌||◌, List, [], ◌∷◌, ◌++◌, length, map, get_or, Result, Ok, Err, refl, sym, subst, ◌∙◌, ap, arith, append_assoc}
-use Rattle.std.specs.Prelude.{min, nat_lt}
-use Rattle.std.specs.List.{fold, list_any, range_with_len}
-use Rattle.std.proofs.lemmas.List.{append-nil}
+use Rattle.std.proofs.Common.{◌≡◌, ℤ, pos, negsuc, Option, ℕ, zero, suc, ◌+◌, ◌-◌, ◌/◌, ◌<◌, ◌≤◌, Bool, true, false, ◌||◌, List, [], ◌∷◌, ◌++◌, length, get_or, Result, Ok, Err, refl, sym, subst, ◌∙◌, ap, arith}
+use Rattle.std.specs.List.{list_any, range_with_len}
 use Rattle.std.proofs.lemmas.List.Sums.{fold-append}
-use Rattle.std.proofs.lemmas.Nat.{pow_pos}
 use Rattle.cf_tree.specs.declared.base.Order.{Order}
-use Rattle.cf_tree.specs.declared.base.Order.TheVariants.{Eq, Ne, Lt, Le, Gt, Ge}
-use Rattle.cf_tree.specs.RelSize.{capped}
 use Rattle.cf_tree.specs.Relation.{is_fixed, IsDivisor}
-use Rattle.cf_tree.specs.RelTree.{RelTree, rel_true, rel_false, rel_compare, rel_same_set, rel_other_set, rel_subset, rel_divides, rel_and, rel_or, rel_not, TermTree, term_lit, term_var, term_card, term_neg, term_add, term_sub, term_mul, term_div, term_mod, term_abs}
+use Rattle.cf_tree.specs.RelTree.{TermTree, term_lit, term_var, term_card, term_neg, term_add, term_sub, term_mul, term_div, term_mod, term_abs}
 use Rattle.cf_linear.specs.declared.refusal.RowFault.{RowFault}
 use Rattle.cf_linear.specs.declared.refusal.RowFault.TheVariants.{Past, NoMemory}
-use Rattle.cf_linear.specs.Rows.{Row, put, comb, row_passes}
+use Rattle.cf_linear.specs.Rows.{Row, comb, row_passes}
 use Rattle.cf_linear.specs.Parts.{Fails}
 use Rattle.cf_linear.specs.Matrices.{Matrix}
 use Rattle.cf_linear.specs.Layout.{Levels, first_free}
-use Rattle.cf_linear.specs.Written.{product_by, GuardTree, sign_guard, quotient_guard, WrittenTree, constant_row, plus, above_quotient, below_quotient, first_sign, signed_by, write, IsPlaced, abs_count, guard_rows}
-use Rattle.cf_linear.specs.Cases.{atom_compare, Plain, plain_atom, plain, Signed, cases_of, case_count, no_rows, case_rows, matrix_of_case, AtomRows, compare_zero, compare_nonneg, guards_of, write_atom, rows_then, less}
+use Rattle.cf_linear.specs.Written.{product_by, sign_guard, quotient_guard, WrittenTree, plus, above_quotient, below_quotient, first_sign, signed_by, write, IsPlaced, abs_count}
+use Rattle.cf_linear.specs.Cases.{atom_compare, Plain, plain_atom, Signed, cases_of, case_count, no_rows, case_rows, matrix_of_case, AtomRows, compare_zero, compare_nonneg, write_atom, rows_then}
 use Rattle.cf_linear.proofs.WritingLemmas.{next_positive, next_above}
+use Rattle.cf_linear.proofs.PassingLemmas.{fails_where, or_left, or_right, or_false}
 use Rattle.cf_cases.specs.declared.draft.Draft.{Draft}
 use Rattle.cf_cases.specs.Counts.{order_ways}
 use Rattle.cf_cases.specs.Holding.{EachOf}
 use Rattle.cf_cases.specs.Picking.{signs_at, case_by, way_at, joined, part_by}
-use Rattle.cf_cases.specs.Drafts.{rows_of, with_case, rows_more, with_rows, with_guards, IsFine, with_comparison, divided, false_rows, apart, region_rows, column_rows, NotPast, written_as, Drafts, first_matrix, HasOneCase, only_case}
-use Rattle.cf_cases.proofs.LessLaws.{fails_more}
+use Rattle.cf_cases.specs.Drafts.{rows_of, with_case, IsFine, with_comparison, Drafts, first_matrix}
 use Rattle.cf_cases.proofs.PickLaws.{case-by}
 use Rattle.cf_cases.proofs.PartLaws.{compare_by}
 use Rattle.cf_cases.proofs.Quantifiers.{each-append}
-use Rattle.cf_cases.proofs.SignLaws.{length-left, more, write-more}
-
-or_first : (a b : Bool) → a ≡ true → (a || b) ≡ true
-or_first a b e = rw e refl
-
-or_second : (a b : Bool) → b ≡ true → (a || b) ≡ true
-or_second true b e = refl
-or_second false b e = e
+use Rattle.cf_cases.proofs.SignLaws.{length-left, more, write-more, no_signs}
 
 -- ---- a comparison
-no_signs : (ss : List Bool) → length ss ≡ 0 → ss ≡ []
-no_signs [] e = refl
-no_signs (b ∷ ss) e = absurd (omega arith)
-
 none_left : (l : Levels) (t : TermTree) (ss : List Bool) (q : ℕ) → length ss ≡ abs_count t → (write l t ss q).signs ≡ []
 none_left l t ss q e = no_signs (write l t ss q).signs (let h = length-left l t ss q (omega arith) in omega arith)
 
@@ -61,9 +45,9 @@ left_past l a o s t xs ys e n f =
     let w = write l s (xs ++ ys) a.next in
     let u = write l t w.signs w.next in
     let p : w.passes ≡ (write l s xs a.next).passes = ap (λ (v : WrittenTree). v.passes) (with_more l s xs ys a.next n) in
-    fails_more e (write l s xs a.next).passes (a.passes || (w.passes || u.passes || list_any row_passes (compare_zero o w.row u.row ++ compare_nonneg o w.row u.row)))
-    (λ h. or_second a.passes (w.passes || u.passes || list_any row_passes (compare_zero o w.row u.row ++ compare_nonneg o w.row u.row))
-    (or_first (w.passes || u.passes) (list_any row_passes (compare_zero o w.row u.row ++ compare_nonneg o w.row u.row)) (or_first w.passes u.passes (p ∙ h)))) f
+    fails_where e (write l s xs a.next).passes (a.passes || (w.passes || u.passes || list_any row_passes (compare_zero o w.row u.row ++ compare_nonneg o w.row u.row)))
+    (λ h. or_right a.passes (w.passes || u.passes || list_any row_passes (compare_zero o w.row u.row ++ compare_nonneg o w.row u.row))
+    (or_left (w.passes || u.passes) (list_any row_passes (compare_zero o w.row u.row ++ compare_nonneg o w.row u.row)) (or_left w.passes u.passes (p ∙ h)))) f
 
 -- the rows of a case of a comparison
 pub compare_case : (l : Levels) (a : AtomRows) (o : Order) (s t : TermTree) (i : ℕ) (w : Order) (ss : List Bool) → w ≡ way_at o i → ss ≡ signs_at (abs_count s + abs_count t) (i / order_ways o) →
@@ -74,20 +58,17 @@ pub compare_gives : (l : Levels) (a : AtomRows) (o : Order) (s t : TermTree) (i 
     Drafts (rows_then l a (atom_compare w s t, ss)) d y → Drafts (with_case l a (case_by (plain_atom (atom_compare o s t)) i)) d y
 compare_gives l a o s t i w ss n d y e g f h = subst (λ (x : AtomRows). Drafts x d y) (compare_case l a o s t i w ss e (f ∙ ap (λ m. signs_at (abs_count s + abs_count t) (i / m)) g)) h
 
-pub right_is : (a : AtomRows) (o : Order) (r : Row) (w u : WrittenTree) → u.passes ≡ false → with_comparison a o r w.guards (written_as u.row u.guards u.next) ≡ with_comparison a o r w.guards u
-right_is a o r w u e = rw e refl
-
 -- ---- parts of a relation
 pub with_both : (l : Levels) (a : AtomRows) (c d : List Signed) → with_case l a (c ++ d) ≡ with_case l (with_case l a c) d
 with_both l a c d = fold-append (rows_then l) a c d
 
 passes_on : (l : Levels) (c : List Signed) (a : AtomRows) → a.passes ≡ true → (with_case l a c).passes ≡ true
 passes_on l [] a e = e
-passes_on l (s ∷ c) a e = passes_on l c (rows_then l a s) (or_first a.passes (write_atom l s a.next).passes e)
+passes_on l (s ∷ c) a e = passes_on l c (rows_then l a s) (or_left a.passes (write_atom l s a.next).passes e)
 
 -- the fault of the first part is one of the whole
 pub first_part_fails : (l : Levels) (a : AtomRows) (c d : List Signed) (e : RowFault) → Fails (with_case l a c).passes e → Fails (with_case l a (c ++ d)).passes e
-first_part_fails l a c d e f = rw (with_both l a c d) (fails_more e (with_case l a c).passes (with_case l (with_case l a c) d).passes (passes_on l d (with_case l a c)) f)
+first_part_fails l a c d e f = rw (with_both l a c d) (fails_where e (with_case l a c).passes (with_case l (with_case l a c) d).passes (passes_on l d (with_case l a c)) f)
 
 -- the draft after the second part
 pub second_part : (l : Levels) (c d : List Signed) (old mid new : Draft) (y : Result (Unit {0}) RowFault) → rows_of mid ≡ with_case l (rows_of old) c → Drafts (with_case l (rows_of mid) d) new y → Drafts (with_case l (rows_of old) (c ++ d)) new y
@@ -104,25 +85,21 @@ module _ (l : Levels) (b : Bool) (p q : Plain) (i : ℕ) (f s : Option ℕ) (who
   parts_fail e h = rw whole (first_part_fails l (rows_of old) (part_by p f) (part_by q s) e h)
 
 -- ---- guards
-both_false : (a b : Bool) → (a || b) ≡ false → (a ≡ false) × (b ≡ false)
-both_false true b e = cc
-both_false false b e = (refl, e)
-
 fine_quotient : (w : WrittenTree) (k : ℤ) → 1 ≤ w.next → IsDivisor k → (w.passes ≡ false → EachOf IsFine w.guards) → (w.passes || row_passes (above_quotient w.next w.row k) || row_passes (below_quotient w.next w.row k)) ≡ false →
     EachOf IsFine (w.guards ++ (quotient_guard w.next w.row k ∷ []))
 fine_quotient w k c d g h =
-    let p = both_false (w.passes || row_passes (above_quotient w.next w.row k)) (row_passes (below_quotient w.next w.row k)) h in
-    let q = both_false w.passes (row_passes (above_quotient w.next w.row k)) p.0 in
+    let p = or_false (w.passes || row_passes (above_quotient w.next w.row k)) (row_passes (below_quotient w.next w.row k)) h in
+    let q = or_false w.passes (row_passes (above_quotient w.next w.row k)) p.0 in
     each-append IsFine w.guards (quotient_guard w.next w.row k ∷ []) (g q.0) ((c, d, q.1, p.1), tt)
 
 fine_sign : (b : Bool) (w : WrittenTree) → (w.passes ≡ false → EachOf IsFine w.guards) → (signed_by b w).passes ≡ false → EachOf IsFine (signed_by b w).guards
 fine_sign true w g h =
-    each-append IsFine w.guards (sign_guard (plus (comb (negsuc 0) w.row (pos 0) []) (negsuc 0)) ∷ []) (g (both_false w.passes (row_passes (plus (comb (negsuc 0) w.row (pos 0) []) (negsuc 0))) h).0) (tt, tt)
+    each-append IsFine w.guards (sign_guard (plus (comb (negsuc 0) w.row (pos 0) []) (negsuc 0)) ∷ []) (g (or_false w.passes (row_passes (plus (comb (negsuc 0) w.row (pos 0) []) (negsuc 0))) h).0) (tt, tt)
 fine_sign false w g h = each-append IsFine w.guards (sign_guard w.row ∷ []) (g h) (tt, tt)
 
 fine_two : (w u : WrittenTree) (r : Row) → (w.passes ≡ false → EachOf IsFine w.guards) → (u.passes ≡ false → EachOf IsFine u.guards) → (w.passes || u.passes || row_passes r) ≡ false → EachOf IsFine (w.guards ++ u.guards)
 fine_two w u r f g h =
-    let p = both_false w.passes u.passes (both_false (w.passes || u.passes) (row_passes r) h).0 in
+    let p = or_false w.passes u.passes (or_false (w.passes || u.passes) (row_passes r) h).0 in
     each-append IsFine w.guards u.guards (f p.0) (g p.1)
 
 -- no guard row of a written form that fits passes the limit
@@ -130,7 +107,7 @@ pub guards_fine : (l : Levels) (t : TermTree) (ss : List Bool) (q : ℕ) → IsP
 guards_fine l (term_lit n) ss q p h e = tt
 guards_fine l (term_var x) ss q p h e = tt
 guards_fine l (term_card s) ss q p h e = tt
-guards_fine l (term_neg a) ss q p h e = let w = write l a ss q in guards_fine l a ss q p h (both_false w.passes (row_passes (comb (negsuc 0) w.row (pos 0) [])) e).0
+guards_fine l (term_neg a) ss q p h e = let w = write l a ss q in guards_fine l a ss q p h (or_false w.passes (row_passes (comb (negsuc 0) w.row (pos 0) [])) e).0
 guards_fine l (term_add a b) ss q p h e =
     let w = write l a ss q in
     let u = write l b w.signs w.next in
@@ -166,83 +143,7 @@ range_next xs ys a c h e f =
     let r : range_with_len a (c - a + 1) ≡ range_with_len a (c - a) ++ (c ∷ []) = range_more a (c - a) ∙ ap (λ x. range_with_len a (c - a) ++ (x ∷ [])) g in
     f ∙ ap (λ zs. zs ++ (c ∷ [])) e ∙ sym r ∙ ap (range_with_len a) (sym m)
 
--- ---- one case
-both_one : (x y : ℕ) → x * y ≡ 1 → (x ≡ 1) × (y ≡ 1)
-both_one zero y e = absurd (omega arith)
-both_one (suc x) zero e = absurd (omega arith)
-both_one (suc zero) (suc y) e = (refl, omega arith)
-both_one (suc (suc x)) (suc y) e = absurd (omega arith)
-
-power_one : (n : ℕ) → 2 ^ n ≡ 1 → n ≡ 0
-power_one zero e = refl
-power_one (suc n) e = absurd (twice (2 ^ n) (pow_pos n) (pow_more n ∙ e))
-  where
-    twice : (x : ℕ) → 1 ≤ x → 2 * x ≡ 1 → ⊥
-    twice x h e = omega arith
-
-    pow_more : (n : ℕ) → 2 * 2 ^ n ≡ 2 ^ suc n
-    pow_more n = omega arith
-
-compare_one : (o : Order) (a b : TermTree) → case_count (plain_atom (atom_compare o a b)) ≡ 1 → HasOneCase (rel_compare o a b)
-unfolding case_count
-compare_one Eq a b e = let p = power_one (abs_count a + abs_count b) (both_one 1 (2 ^ (abs_count a + abs_count b)) e).1 in ((λ x. cc), omega arith, omega arith)
-compare_one Ne a b e = absurd (let p = (both_one 2 (2 ^ (abs_count a + abs_count b)) e).0 in omega arith)
-compare_one Lt a b e = let p = power_one (abs_count a + abs_count b) (both_one 1 (2 ^ (abs_count a + abs_count b)) e).1 in ((λ x. cc), omega arith, omega arith)
-compare_one Le a b e = let p = power_one (abs_count a + abs_count b) (both_one 1 (2 ^ (abs_count a + abs_count b)) e).1 in ((λ x. cc), omega arith, omega arith)
-compare_one Gt a b e = let p = power_one (abs_count a + abs_count b) (both_one 1 (2 ^ (abs_count a + abs_count b)) e).1 in ((λ x. cc), omega arith, omega arith)
-compare_one Ge a b e = let p = power_one (abs_count a + abs_count b) (both_one 1 (2 ^ (abs_count a + abs_count b)) e).1 in ((λ x. cc), omega arith, omega arith)
-
-and_one : (p q : RelTree) → case_count (plain true (rel_and p q)) ≡ 1 → (case_count (plain true p) ≡ 1) × (case_count (plain true q) ≡ 1)
-unfolding case_count
-and_one p q e = both_one (case_count (plain true p)) (case_count (plain true q)) e
-
-pub one_case : (r : RelTree) → case_count (plain true r) ≡ 1 → HasOneCase r
-one_case rel_true e = e
-one_case rel_false e = e
-one_case (rel_compare o a b) e = compare_one o a b e
-one_case (rel_same_set a b) e = e
-one_case (rel_other_set a b) e = e
-one_case (rel_subset a b) e = e
-one_case (rel_divides k t) e = e
-one_case (rel_and p q) e = let h = and_one p q e in (one_case p h.0, one_case q h.1)
-one_case (rel_or p q) e = e
-one_case (rel_not p) e = e
-
-compare_only : (o : Order) (a b : TermTree) → o ≢ Ne → abs_count a ≡ 0 → abs_count b ≡ 0 → case_by (plain_atom (atom_compare o a b)) 0 ≡ (atom_compare o a b, []) ∷ []
-unfolding case_by
-compare_only Eq a b n e f = rw (e, f) refl
-compare_only Ne a b n e f = absurd (n refl)
-compare_only Lt a b n e f = rw (e, f) refl
-compare_only Le a b n e f = rw (e, f) refl
-compare_only Gt a b n e f = rw (e, f) refl
-compare_only Ge a b n e f = rw (e, f) refl
-
-and_only : (p q : RelTree) → case_count (plain true q) ≡ 1 → case_by (plain true (rel_and p q)) 0 ≡ case_by (plain true p) 0 ++ case_by (plain true q) 0
-unfolding case_by
-and_only p q e = rw e refl
-
-pub only_is : (r : RelTree) → case_count (plain true r) ≡ 1 → only_case r ≡ case_by (plain true r) 0
-only_is rel_true e = refl
-only_is rel_false e = refl
-only_is (rel_compare o a b) e = let h = compare_one o a b e in sym (compare_only o a b h.0 h.1 h.2)
-only_is (rel_same_set a b) e = refl
-only_is (rel_other_set a b) e = refl
-only_is (rel_subset a b) e = refl
-only_is (rel_divides k t) e = refl
-only_is (rel_and p q) e = let h = and_one p q e in sym (and_only p q h.1 ∙ rw (← only_is p h.0, ← only_is q h.1) refl)
-only_is (rel_or p q) e = refl
-only_is (rel_not p) e = refl
-
--- the one case of a relation stands at its index
-pub case_is : (r : RelTree) (i : ℕ) → case_count (plain true r) ≡ 1 → i < case_count (plain true r) → get_or (cases_of (plain true r)) i [] ≡ only_case r
-case_is r i e h = case-by (plain true r) i h ∙ ap (λ n. case_by (plain true r) n) (zero_below i h) ∙ sym (only_is r e)
-  where
-    zero_below : (i : ℕ) → i < case_count (plain true r) → i ≡ 0
-    zero_below i h = omega arith
-
-pub capped_one : (n x : ℕ) → x ≡ capped n → x ≡ 1 → n ≡ 1
-capped_one n x e h = omega arith
-
+-- ---- faults
 -- what a fault says of a test that it names
 pub fails_from : {T : Type 0} (e : RowFault) (b : Bool) → (◌≡◌ {A = Result T RowFault} (Err e) (Err Past) → b ≡ true) → Fails b e
 fails_from Past b h = h refl

@@ -1,5 +1,5 @@
 -- The first matrix of a case is as each step of the elimination asks.
-use Rattle.std.proofs.Common.{inl, inr, ◌≡◌, ◌⊎◌, ℕ, zero, suc, ◌+◌, ◌-◌, ◌^◌, ◌%◌, ◌<◌, ◌≤◌, ◌==◌, ℤ, pos, negsuc, neg_ℤ, ◌-ℤ◌, List, [], ◌∷◌, ◌++◌, length, map, filter, Bool, true, false, refl, sym, ◌∙◌, ap, arith}
+use Rattle.std.proofs.Common.{inl, inr, ◌⊎◌, ℕ, zero, suc, ◌+◌, ◌-◌, ◌^◌, ◌%◌, ◌<◌, ◌≤◌, ◌==◌, ℤ, pos, negsuc, neg_ℤ, ◌-ℤ◌, List, [], ◌∷◌, ◌++◌, length, map, filter, Bool, true, false, arith}
 use Rattle.std.specs.List.{range_with_len, fold, flat_map}
 use Rattle.std.proofs.lemmas.Bool.{cond_both, cases_lt}
 use Rattle.std.proofs.lemmas.Nat.{pow_pos}
@@ -9,23 +9,21 @@ use Rattle.cf_tree.specs.RelTree.{TermTree, term_lit, term_var, term_card, term_
 use Rattle.cf_tree.specs.Relation.{is_fixed}
 use Rattle.cf_linear.specs.Rows.{Row, entry, put, comb, Rises, AreBelow}
 use Rattle.cf_linear.specs.Keep.{In, Over, IsColumn, Formed}
-use Rattle.cf_linear.specs.Matrices.{Matrix, EachRow}
+use Rattle.cf_linear.specs.Matrices.{EachRow}
 use Rattle.cf_linear.specs.Layout.{Levels, masks, set_count, covers, first_free, known_count, number_column, region_column, region_row, input_column}
-use Rattle.cf_linear.specs.Written.{GuardTree, guard_rows, sign_guard, quotient_guard, above_quotient, below_quotient, constant_row, plus, WrittenTree, first_sign, signed_by, product_by, write}
-use Rattle.cf_linear.specs.Cases.{atom_true, atom_false, atom_compare, atom_divides, atom_not_divides, atom_same, atom_other, atom_subset, atom_not_subset, Signed, AtomRows, less, compare_zero, compare_nonneg, in_first, in_one, none_rows, some_row, guards_of, write_atom, input_row, no_rows, rows_then, case_rows, matrix_of_case}
+use Rattle.cf_linear.specs.Written.{GuardTree, guard_rows, sign_guard, quotient_guard, above_quotient, below_quotient, plus, WrittenTree, first_sign, signed_by, product_by, write}
+use Rattle.cf_linear.specs.Cases.{atom_true, atom_false, atom_compare, atom_divides, atom_not_divides, atom_same, atom_other, atom_subset, atom_not_subset, Signed, AtomRows, less, compare_zero, compare_nonneg, in_first, in_one, guards_of, write_atom, input_row, no_rows, rows_then, case_rows, matrix_of_case}
 use Rattle.cf_linear.proofs.Canonical.{Rises-lower, Rises-put}
 use Rattle.cf_linear.proofs.CombLemmas.{Rises-comb}
+use Rattle.cf_linear.proofs.KindLemmas.{EachRow-append}
+use Rattle.cf_linear.proofs.PassingLemmas.{Rises-plus}
 use Rattle.cf_cases.specs.Holding.{EachOf, CaseFits}
 use Rattle.cf_cases.proofs.Quantifiers.{each-append}
-use Rattle.cf_cases.proofs.GuardLaws.{rows-append}
 use Rattle.cf_cases.proofs.MatrixLaws.{Low, atom-next, then-low, rows-raise, inputs-below, counts-below}
 
 -- ---- rising rows
 Rises-column : (c : ℕ) (k : ℤ) → Rises 0 (put c k [])
 Rises-column c k = Rises-put 0 c k [] (omega arith) tt
-
-Rises-plus : (r : Row) (n : ℤ) → Rises 0 r → Rises 0 (plus r n)
-Rises-plus r n p = Rises-comb 0 (pos 1) r (pos 1) (constant_row n) p (Rises-column 0 n)
 
 Rises-above : (c : ℕ) (r : Row) (k : ℤ) → Rises 0 r → Rises 0 (above_quotient c r k)
 Rises-above c r k p = Rises-comb 0 (pos 1) r (neg_ℤ k) (put c (pos 1) []) p (Rises-column c (pos 1))
@@ -139,17 +137,17 @@ atom-rises l (atom_compare o a b, ss) q =
     let f = write-rises l a ss q in
     let g = write-rises l b w.signs w.next in
     let c = compare_rises o w.row u.row f.row g.row in
-    record { zero = c.0; nonneg = rows-append (Rises 0) (guards_of w ++ guards_of u) (compare_nonneg o w.row u.row) (rows-append (Rises 0) (guards_of w) (guards_of u) (guards_rise w.guards f.guards) (guards_rise u.guards g.guards)) c.1 }
+    record { zero = c.0; nonneg = EachRow-append (Rises 0) (guards_of w ++ guards_of u) (compare_nonneg o w.row u.row) (EachRow-append (Rises 0) (guards_of w) (guards_of u) (guards_rise w.guards f.guards) (guards_rise u.guards g.guards)) c.1 }
 atom-rises l (atom_divides k t, ss) q =
     let w = write l t ss q in
     let f = write-rises l t ss q in
-    record { zero = (Rises-above w.next w.row k f.row, tt); nonneg = rows-append (Rises 0) (guards_of w) [] (guards_rise w.guards f.guards) tt }
+    record { zero = (Rises-above w.next w.row k f.row, tt); nonneg = EachRow-append (Rises 0) (guards_of w) [] (guards_rise w.guards f.guards) tt }
 atom-rises l (atom_not_divides k t, ss) q =
     let w = write l t ss q in
     let f = write-rises l t ss q in
     record {
       zero = tt;
-      nonneg = rows-append (Rises 0) (guards_of w) (plus (above_quotient w.next w.row k) (negsuc 0) ∷ below_quotient w.next w.row k ∷ []) (guards_rise w.guards f.guards)
+      nonneg = EachRow-append (Rises 0) (guards_of w) (plus (above_quotient w.next w.row k) (negsuc 0) ∷ below_quotient w.next w.row k ∷ []) (guards_rise w.guards f.guards)
           (Rises-plus (above_quotient w.next w.row k) (negsuc 0) (Rises-above w.next w.row k f.row), (Rises-below w.next w.row k f.row, tt));
     }
 atom-rises l (atom_same a b, ss) q = record { zero = columns_rise (region_column l) (filter (in_one l a b) (masks (set_count l))); nonneg = tt }
@@ -162,7 +160,7 @@ case_rise l [] a p = p
 case_rise l (s ∷ c) a p =
     let b = write_atom l s a.next in
     let q = atom-rises l s a.next in
-    case_rise l c (rows_then l a s) (record { zero = rows-append (Rises 0) a.equations b.equations p.zero q.zero; nonneg = rows-append (Rises 0) a.inequalities b.inequalities p.nonneg q.nonneg })
+    case_rise l c (rows_then l a s) (record { zero = EachRow-append (Rises 0) a.equations b.equations p.zero q.zero; nonneg = EachRow-append (Rises 0) a.inequalities b.inequalities p.nonneg q.nonneg })
 
 case_low : (l : Levels) (c : List Signed) (a : AtomRows) → CaseFits l c → first_free l ≤ a.next → Low a → Low (fold (rows_then l) a c)
 case_low l [] a f h p = p
@@ -173,13 +171,13 @@ case-next l [] a = omega arith
 case-next l (s ∷ c) a = omega (arith, atom-next l s a.next, case-next l c (rows_then l a s))
 
 -- ---- columns
-in_range : (a n c : ℕ) → a ≤ c → c < a + n → In c (range_with_len a n)
-in_range a zero c h k = absurd (omega arith)
-in_range a (suc n) c h k = elim (cases_lt a c) [ inl e ↦ inr (in_range (a + 1) n c (omega arith) (omega arith)) | inr e ↦ inl (omega arith) ]
+pub In-range : (a n c : ℕ) → a ≤ c → c < a + n → In c (range_with_len a n)
+In-range a zero c h k = absurd (omega arith)
+In-range a (suc n) c h k = elim (cases_lt a c) [ inl e ↦ inr (In-range (a + 1) n c (omega arith) (omega arith)) | inr e ↦ inl (omega arith) ]
 
-range_in : (a n c : ℕ) → In c (range_with_len a n) → (a ≤ c) × (c < a + n)
-range_in a zero c h = absurd h
-range_in a (suc n) c h = elim h [ inl e ↦ (omega arith, omega arith) | inr e ↦ (let r = range_in (a + 1) n c e in (omega arith, omega arith)) ]
+pub range-In : (a n c : ℕ) → In c (range_with_len a n) → (a ≤ c) × (c < a + n)
+range-In a zero c h = absurd h
+range-In a (suc n) c h = elim h [ inl e ↦ (omega arith, omega arith) | inr e ↦ (let r = range-In (a + 1) n c e in (omega arith, omega arith)) ]
 
 over_below : (Q : ℕ → Type 0) (n : ℕ) (f : (c : ℕ) → c < n → Q c) (r : Row) → AreBelow n r → Over Q r
 over_below Q n f [] p = tt
@@ -213,15 +211,15 @@ matrix-formed l c f =
     let input_low = rows-raise (first_free l) a.next input_rows i (inputs-below l 1 (2 ^ length l.inputs - 1) (omega arith) (omega arith)) in
     let count_low = rows-raise (first_free l) a.next count_rows i (counts-below l 1 (2 ^ set_count l - 1) (omega arith) (omega arith)) in
     record {
-      constant = in_range 0 k 0 (omega arith) (omega (arith, pow_pos (length l.inputs)));
-      below = λ d h. let r = range_in 0 k d h in omega arith;
-      unknown_below = λ d h. let r = range_in k (a.next - k) d h in omega arith;
-      apart = λ d h g. let r = range_in 0 k d h in let s = range_in k (a.next - k) d g in omega arith;
-      zero = rows_over (IsColumn (matrix_of_case l c)) a.next column (a.equations ++ input_rows) (rows-append (AreBelow a.next) a.equations input_rows low.zero input_low);
-      nonneg = rows_over (IsColumn (matrix_of_case l c)) a.next column (a.inequalities ++ count_rows) (rows-append (AreBelow a.next) a.inequalities count_rows low.nonneg count_low);
-      zero_rise = rows-append (Rises 0) a.equations input_rows rise.zero (inputs_rise l 1 (2 ^ length l.inputs - 1) (omega arith) (omega arith));
-      nonneg_rise = rows-append (Rises 0) a.inequalities count_rows rise.nonneg (columns_rise (region_column l) (masks (set_count l)));
+      constant = In-range 0 k 0 (omega arith) (omega (arith, pow_pos (length l.inputs)));
+      below = λ d h. let r = range-In 0 k d h in omega arith;
+      unknown_below = λ d h. let r = range-In k (a.next - k) d h in omega arith;
+      apart = λ d h g. let r = range-In 0 k d h in let s = range-In k (a.next - k) d g in omega arith;
+      zero = rows_over (IsColumn (matrix_of_case l c)) a.next column (a.equations ++ input_rows) (EachRow-append (AreBelow a.next) a.equations input_rows low.zero input_low);
+      nonneg = rows_over (IsColumn (matrix_of_case l c)) a.next column (a.inequalities ++ count_rows) (EachRow-append (AreBelow a.next) a.inequalities count_rows low.nonneg count_low);
+      zero_rise = EachRow-append (Rises 0) a.equations input_rows rise.zero (inputs_rise l 1 (2 ^ length l.inputs - 1) (omega arith) (omega arith));
+      nonneg_rise = EachRow-append (Rises 0) a.inequalities count_rows rise.nonneg (columns_rise (region_column l) (masks (set_count l)));
     }
   where
     column_of : (k n : ℕ) → k ≤ n → (d : ℕ) → d < n → In d (range_with_len 0 k) ⊎ In d (range_with_len k (n - k))
-    column_of k n h d p = elim (cases_lt d k) [ inl e ↦ inl (in_range 0 k d (omega arith) (omega arith)) | inr e ↦ inr (in_range k (n - k) d e (omega arith)) ]
+    column_of k n h d p = elim (cases_lt d k) [ inl e ↦ inl (In-range 0 k d (omega arith) (omega arith)) | inr e ↦ inr (In-range k (n - k) d e (omega arith)) ]

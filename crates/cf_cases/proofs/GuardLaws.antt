@@ -15,6 +15,7 @@ use Rattle.cf_linear.specs.Keep.{Same}
 use Rattle.cf_linear.specs.Written.{GuardTree, sign_guard, quotient_guard, GuardHolds, GuardsHold, above_quotient, below_quotient, guard_rows}
 use Rattle.cf_linear.proofs.RowLemmas.{value-put, value-comb}
 use Rattle.cf_linear.proofs.WrittenLemmas.{value-plus}
+use Rattle.cf_linear.proofs.KindLemmas.{EachRow-append, EachRow-split}
 use Rattle.cf_cases.specs.Holding.{EachOf}
 use Rattle.cf_cases.proofs.BelowLaws.{GuardFits, value-same}
 
@@ -22,14 +23,6 @@ pub quotient-is : (z k : ℤ) → pos 1 ≤ℤ k → quotient z k ≡ int_div_eu
 quotient-is z k p = cond_both (int_lt (pos 0) k) (int_div_euclid z k) (pos 0) (λ x. x ≡ int_div_euclid z k) (λ e. refl) (λ e. absurd (let l = lt_not (pos 0) k e in omega (arith, ints)))
 
 -- ---- rows
-pub rows-append : (P : Row → Type 0) (xs ys : List Row) → EachRow P xs → EachRow P ys → EachRow P (xs ++ ys)
-rows-append P [] ys p q = q
-rows-append P (x ∷ xs) ys p q = (p.0, rows-append P xs ys p.1 q)
-
-pub rows-split : (P : Row → Type 0) (xs ys : List Row) → EachRow P (xs ++ ys) → EachRow P xs × EachRow P ys
-rows-split P [] ys p = (tt, p)
-rows-split P (x ∷ xs) ys p = let q = rows-split P xs ys p.1 in ((p.0, q.0), q.1)
-
 pub value-column : (v : Values) (c : ℕ) → value v (put c (pos 1) []) ≡ v c
 value-column v c = value-put v c (pos 1) [] ∙ omega (arith, ints)
 
@@ -53,7 +46,7 @@ between z x k h i = (omega (arith, ints), omega (arith, ints))
 outside : (z x k : ℤ) → x ≤ℤ z → z <ℤ (x +ℤ k) → (pos 0 ≤ℤ (z -ℤ x)) × (pos 0 ≤ℤ (x +ℤ (k -ℤ pos 1) -ℤ z))
 outside z x k h i = (omega (arith, ints), omega (arith, ints))
 
-positive : (k : ℤ) → pos 1 ≤ℤ k → pos 0 <ℤ k
+pub positive : (k : ℤ) → pos 1 ≤ℤ k → pos 0 <ℤ k
 positive k h = omega (arith, ints)
 
 pub quotient_from_rows : (z k c : ℤ) → pos 1 ≤ℤ k → pos 0 ≤ℤ (z -ℤ k *ℤ c) → pos 0 ≤ℤ (k *ℤ c +ℤ (k -ℤ pos 1) -ℤ z) → c ≡ quotient z k
@@ -78,12 +71,12 @@ rows_from_guard v one n (quotient_guard c r k) f p =
 pub guards_from_rows : (v : Values) → v 0 ≡ pos 1 → (n : ℕ) (gs : List GuardTree) → EachOf (GuardFits n) gs → EachRow (λ r. pos 0 ≤ℤ value v r) (flat_map guard_rows gs) → GuardsHold v gs
 guards_from_rows v one n [] f p = tt
 guards_from_rows v one n (g ∷ gs) f p =
-    let q = rows-split (λ r. pos 0 ≤ℤ value v r) (guard_rows g) (flat_map guard_rows gs) p in
+    let q = EachRow-split (λ r. pos 0 ≤ℤ value v r) (guard_rows g) (flat_map guard_rows gs) p in
     (guard_from_rows v one n g f.0 q.0, guards_from_rows v one n gs f.1 q.1)
 
 pub rows_from_guards : (v : Values) → v 0 ≡ pos 1 → (n : ℕ) (gs : List GuardTree) → EachOf (GuardFits n) gs → GuardsHold v gs → EachRow (λ r. pos 0 ≤ℤ value v r) (flat_map guard_rows gs)
 rows_from_guards v one n [] f p = tt
-rows_from_guards v one n (g ∷ gs) f p = rows-append (λ r. pos 0 ≤ℤ value v r) (guard_rows g) (flat_map guard_rows gs) (rows_from_guard v one n g f.0 p.0) (rows_from_guards v one n gs f.1 p.1)
+rows_from_guards v one n (g ∷ gs) f p = EachRow-append (λ r. pos 0 ≤ℤ value v r) (guard_rows g) (flat_map guard_rows gs) (rows_from_guard v one n g f.0 p.0) (rows_from_guards v one n gs f.1 p.1)
 
 pub guards-join : (v : Values) (gs hs : List GuardTree) → GuardsHold v gs → GuardsHold v hs → GuardsHold v (gs ++ hs)
 guards-join v [] hs p q = q

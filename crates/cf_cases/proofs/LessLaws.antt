@@ -1,23 +1,16 @@
 -- A difference less 1, made so that nothing on the way passes the limit where no entry of it does.
-use Rattle.std.proofs.Common.{◌≡◌, ℕ, zero, suc, ◌-◌, ◌^◌, ◌≤◌, ℤ, pos, negsuc, ◌+ℤ◌, ◌-ℤ◌, ◌*ℤ◌, Bool, true, false, [], ◌∷◌, Result, Ok, Err, refl, sym, ◌∙◌, ap, arith}
-use Rattle.std.specs.Prelude.{◌≤ℤ◌, nat_le, unsigned_abs}
+use Rattle.std.proofs.Common.{◌≡◌, ℕ, zero, suc, ◌-◌, ◌≤◌, ℤ, pos, negsuc, ◌+ℤ◌, ◌*ℤ◌, true, false, sym, ◌∙◌, ap, arith}
+use Rattle.std.specs.Prelude.{◌≤ℤ◌}
 use Rattle.std.proofs.lemmas.Int.{ints}
-use Rattle.std.proofs.lemmas.Bool.{leb-true}
 use Rattle.cf_num.specs.Limit.{IsWithin}
-use Rattle.cf_linear.specs.declared.refusal.RowFault.{RowFault}
-use Rattle.cf_linear.specs.declared.refusal.RowFault.TheVariants.{Past, NoMemory}
-use Rattle.cf_linear.specs.Rows.{Row, entry, comb, Rises, IsRow, passes, row_passes}
-use Rattle.cf_linear.specs.Parts.{Fails, GivesRow}
+use Rattle.cf_linear.specs.Rows.{Row, entry, Rises, IsRow, passes, row_passes}
 use Rattle.cf_linear.specs.Written.{constant_row, plus}
 use Rattle.cf_linear.specs.Cases.{less}
 use Rattle.cf_linear.proofs.BoolLemmas.{on_bool}
 use Rattle.cf_linear.proofs.RowLemmas.{entry-comb}
 use Rattle.cf_linear.proofs.Canonical.{row_ext}
 use Rattle.cf_linear.proofs.CombLemmas.{Rises-comb}
-use Rattle.cf_linear.proofs.PassingLemmas.{true_not_false, within_not, entry-within, entry_not, row_not, entry_plus, Rises-plus, not_above}
-
-within_is : (z : ℤ) → passes z ≡ false → IsWithin z
-within_is z h = on_bool (nat_le (unsigned_abs z) (2 ^ 127 - 1)) (λ e. leb-true (unsigned_abs z) (2 ^ 127 - 1) e) (λ e. true_not_false {b = passes z} (rw e refl) h)
+use Rattle.cf_linear.proofs.PassingLemmas.{true_not_false, within_not, entry-within, entry_not, row_not, entry_plus, Rises-plus, not_above, within_is}
 
 sum_at : (z : ℤ) → pos 1 *ℤ z +ℤ pos 1 *ℤ (negsuc 0 +ℤ pos 0) ≡ z +ℤ negsuc 0
 sum_at z = omega (arith, ints)
@@ -70,7 +63,3 @@ less_past r s p q n h = on_bool (row_passes (plus (less r s) (negsuc 0))) (λ e.
         let w : IsWithin (entry (less r s) 0 +ℤ negsuc 0) = within_is (entry (less r s) 0 +ℤ negsuc 0) (rw (entry_0 (less r s)) at (entry_not (plus (less r s) (negsuc 0)) 0 0 (Rises-plus (less r s) (negsuc 0) rises) e)) in
         let i = entry-comb 0 (pos 1) r (negsuc 0) s in
         rw i (within_not (pos 1 *ℤ entry r 0 +ℤ negsuc 0 *ℤ entry s 0) (gap_within (entry r 0) (entry s 0) (entry-within r 0 0 p.0 p.1) (entry-within s 0 0 q.0 q.1) n (rw i at w)))
-
-pub fails_more : (e : RowFault) (b d : Bool) → (b ≡ true → d ≡ true) → Fails b e → Fails d e
-fails_more Past b d f h = f h
-fails_more NoMemory b d f h = tt

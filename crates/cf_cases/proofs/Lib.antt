@@ -17,3 +17,4 @@ pub mod FormedLaws
 pub mod PlacedLaws
 pub mod LessLaws
 pub mod DraftLaws
+pub mod MovedRows

@@ -1,28 +1,26 @@
 -- The first matrix of a case is satisfied for some quotients exactly where the atoms of the case hold with their signs, and the counts are counts.
-use Rattle.std.proofs.Common.{◌≡◌, ◌≢◌, ℕ, zero, suc, ◌+◌, ◌-◌, ◌^◌, ◌%◌, ◌<◌, ◌≤◌, ◌==◌, ℤ, pos, negsuc, List, [], ◌∷◌, ◌++◌, length, map, filter, Bool, true, false, refl, sym, ◌∙◌, ap, arith, append_assoc}
-use Rattle.std.specs.Prelude.{◌≤ℤ◌, ◌<ℤ◌}
+use Rattle.std.proofs.Common.{◌≡◌, ℕ, zero, suc, ◌+◌, ◌-◌, ◌^◌, ◌%◌, ◌<◌, ◌≤◌, ◌==◌, pos, negsuc, List, [], ◌∷◌, ◌++◌, length, map, filter, Bool, true, false, refl, sym, ◌∙◌, arith}
+use Rattle.std.specs.Prelude.{◌≤ℤ◌}
 use Rattle.std.specs.List.{range_with_len, fold, flat_map}
-use Rattle.std.proofs.lemmas.Int.{ints}
 use Rattle.std.proofs.lemmas.Bool.{cond_both}
 use Rattle.std.proofs.lemmas.Nat.{pow_pos}
 use Rattle.cf_tree.specs.declared.base.Order.{Order}
 use Rattle.cf_tree.specs.declared.base.Order.TheVariants.{Eq, Ne, Lt, Le, Gt, Ge}
-use Rattle.cf_tree.specs.Numbers.{Compares}
-use Rattle.cf_tree.specs.RelTree.{SetTree, TermTree, RelTree, rel_true, rel_false, rel_compare, rel_same_set, rel_other_set, rel_subset, rel_divides, rel_and, rel_or, rel_not}
-use Rattle.cf_linear.specs.Rows.{Row, Values, value, put, comb, AreBelow}
+use Rattle.cf_tree.specs.RelTree.{TermTree, RelTree, rel_true, rel_false, rel_compare, rel_same_set, rel_other_set, rel_subset, rel_divides, rel_and, rel_or, rel_not}
+use Rattle.cf_linear.specs.Rows.{Row, Values, value, put, AreBelow}
 use Rattle.cf_linear.specs.Keep.{Same}
-use Rattle.cf_linear.specs.Matrices.{Matrix, EachRow, Sat}
-use Rattle.cf_linear.specs.Relations.{Divides}
-use Rattle.cf_linear.specs.Layout.{Levels, masks, set_count, first_free, known_count, region_column, region_row, input_column}
-use Rattle.cf_linear.specs.Written.{GuardTree, guard_rows, sign_guard, quotient_guard, above_quotient, below_quotient, constant_row, plus, WrittenTree, write, val_at, IsPlaced}
-use Rattle.cf_linear.specs.Cases.{Atom, atom_true, atom_false, atom_compare, atom_divides, atom_not_divides, atom_same, atom_other, atom_subset, atom_not_subset, Plain, plain_atom, plain_and, plain_or, plain, opposite, Signed, atom_signs, atom_ways, atom_cases, sign_choices, cases_of, AtomRows, less, compare_zero, compare_nonneg, in_first, in_one, none_rows, some_row, guards_of, write_atom, input_row, no_rows, rows_then, case_rows, matrix_of_case}
+use Rattle.cf_linear.specs.Matrices.{EachRow, Sat}
+use Rattle.cf_linear.specs.Layout.{Levels, masks, set_count, first_free, region_column, region_row, input_column}
+use Rattle.cf_linear.specs.Written.{GuardTree, guard_rows, sign_guard, quotient_guard, above_quotient, below_quotient, plus, write, val_at}
+use Rattle.cf_linear.specs.Cases.{Atom, atom_true, atom_false, atom_compare, atom_divides, atom_not_divides, atom_same, atom_other, atom_subset, atom_not_subset, Plain, plain_atom, plain_and, plain_or, plain, opposite, Signed, atom_signs, atom_ways, atom_cases, sign_choices, cases_of, AtomRows, less, compare_zero, compare_nonneg, in_first, in_one, none_rows, guards_of, write_atom, input_row, no_rows, rows_then, case_rows, matrix_of_case}
 use Rattle.cf_linear.proofs.WritingLemmas.{write-next}
 use Rattle.cf_linear.proofs.Joining.{AreBelow-raise}
-use Rattle.cf_cases.specs.Holding.{EachOf, AtomAt, SignedAt, CaseAt, AtomFits, SignedFits, CaseFits, AreCounts, IsPlacedRel, signs_of, signs_in}
+use Rattle.cf_linear.proofs.KindLemmas.{EachRow-append, EachRow-split}
+use Rattle.cf_linear.proofs.ValueLemmas.{Same-trans}
+use Rattle.cf_cases.specs.Holding.{EachOf, AtomAt, CaseAt, AtomFits, SignedFits, CaseFits, AreCounts, IsPlacedRel, signs_in}
 use Rattle.cf_cases.proofs.Quantifiers.{each-append, each-imp, each-map, each-flat_map}
-use Rattle.cf_cases.proofs.BelowLaws.{below-put, below-comb, below-plus, below-above_quotient, below-below_quotient, below-region_row, region-below, positive_free, GuardFits, Fitting, write-fits}
-use Rattle.cf_cases.proofs.GuardLaws.{rows-append, rows-split}
-use Rattle.cf_cases.proofs.WriteLaws.{val_at-same, signs-same, same-then, same-less}
+use Rattle.cf_cases.proofs.BelowLaws.{below-put, below-comb, below-plus, below-above_quotient, below-below_quotient, below-region_row, region-below, positive_free, GuardFits, write-fits}
+use Rattle.cf_cases.proofs.WriteLaws.{val_at-same, signs-same, same-less}
 use Rattle.cf_cases.proofs.AtomLaws.{AreZero, AreNonneg, Met, rows-same, atom_from_rows, rows_from_atom}
 
 -- ---- atoms at values that agree on the layout
@@ -82,7 +80,7 @@ guard_low n m (quotient_guard c r k) h z f =
 
 guards_low : (n m : ℕ) (gs : List GuardTree) → n ≤ m → 0 < m → EachOf (GuardFits n) gs → EachRow (AreBelow m) (flat_map guard_rows gs)
 guards_low n m [] h z f = tt
-guards_low n m (g ∷ gs) h z f = rows-append (AreBelow m) (guard_rows g) (flat_map guard_rows gs) (guard_low n m g h z f.0) (guards_low n m gs h z f.1)
+guards_low n m (g ∷ gs) h z f = EachRow-append (AreBelow m) (guard_rows g) (flat_map guard_rows gs) (guard_low n m g h z f.0) (guards_low n m gs h z f.1)
 
 pub rows-raise : (n m : ℕ) (rs : List Row) → n ≤ m → EachRow (AreBelow n) rs → EachRow (AreBelow m) rs
 rows-raise n m [] h p = tt
@@ -114,8 +112,8 @@ atom-low l (atom_compare o a b, ss) q p h =
     let c = compare_low u.next o w.row u.row z (AreBelow-raise w.next u.next w.row i f.row) g.row in
     record {
       zero = c.0;
-      nonneg = rows-append (AreBelow u.next) (guards_of w ++ guards_of u) (compare_nonneg o w.row u.row)
-          (rows-append (AreBelow u.next) (guards_of w) (guards_of u) (guards_low w.next u.next w.guards i z f.guards) (guards_low u.next u.next u.guards (omega arith) z g.guards)) c.1;
+      nonneg = EachRow-append (AreBelow u.next) (guards_of w ++ guards_of u) (compare_nonneg o w.row u.row)
+          (EachRow-append (AreBelow u.next) (guards_of w) (guards_of u) (guards_low w.next u.next w.guards i z f.guards) (guards_low u.next u.next u.guards (omega arith) z g.guards)) c.1;
     }
 atom-low l (atom_divides k t, ss) q p h =
     let w = write l t ss q in
@@ -123,7 +121,7 @@ atom-low l (atom_divides k t, ss) q p h =
     let r = AreBelow-raise w.next (w.next + 1) w.row (omega arith) f.row in
     record {
       zero = (below-above_quotient (w.next + 1) w.next w.row k (omega arith) r, tt);
-      nonneg = rows-append (AreBelow (w.next + 1)) (guards_of w) [] (guards_low w.next (w.next + 1) w.guards (omega arith) (omega arith) f.guards) tt;
+      nonneg = EachRow-append (AreBelow (w.next + 1)) (guards_of w) [] (guards_low w.next (w.next + 1) w.guards (omega arith) (omega arith) f.guards) tt;
     }
 atom-low l (atom_not_divides k t, ss) q p h =
     let w = write l t ss q in
@@ -131,7 +129,7 @@ atom-low l (atom_not_divides k t, ss) q p h =
     let r = AreBelow-raise w.next (w.next + 1) w.row (omega arith) f.row in
     record {
       zero = tt;
-      nonneg = rows-append (AreBelow (w.next + 1)) (guards_of w) (plus (above_quotient w.next w.row k) (negsuc 0) ∷ below_quotient w.next w.row k ∷ [])
+      nonneg = EachRow-append (AreBelow (w.next + 1)) (guards_of w) (plus (above_quotient w.next w.row k) (negsuc 0) ∷ below_quotient w.next w.row k ∷ [])
           (guards_low w.next (w.next + 1) w.guards (omega arith) (omega arith) f.guards) (
             below-plus (w.next + 1) (above_quotient w.next w.row k) (negsuc 0) (omega arith) (below-above_quotient (w.next + 1) w.next w.row k (omega arith) r),
             (below-below_quotient (w.next + 1) w.next w.row k (omega arith) r, tt),
@@ -160,8 +158,8 @@ then-low l a s f h p =
     let i = atom-next l s a.next in
     let q = atom-low l s a.next f h in
     record {
-      zero = rows-append (AreBelow b.next) a.equations b.equations (rows-raise a.next b.next a.equations i p.zero) q.zero;
-      nonneg = rows-append (AreBelow b.next) a.inequalities b.inequalities (rows-raise a.next b.next a.inequalities i p.nonneg) q.nonneg;
+      zero = EachRow-append (AreBelow b.next) a.equations b.equations (rows-raise a.next b.next a.equations i p.zero) q.zero;
+      nonneg = EachRow-append (AreBelow b.next) a.inequalities b.inequalities (rows-raise a.next b.next a.inequalities i p.nonneg) q.nonneg;
     }
 
 -- ---- rows of a case
@@ -171,8 +169,8 @@ fold_from_rows l v one [] a h f z g = ((z, g), tt)
 fold_from_rows l v one (s ∷ c) a h f z g =
     let b = write_atom l s a.next in
     let r = fold_from_rows l v one c (rows_then l a s) (omega (arith, atom-next l s a.next)) f.1 z g in
-    let e = rows-split (λ r. value v r ≡ pos 0) a.equations b.equations r.0.0 in
-    let i = rows-split (λ r. pos 0 ≤ℤ value v r) a.inequalities b.inequalities r.0.1 in
+    let e = EachRow-split (λ r. value v r ≡ pos 0) a.equations b.equations r.0.0 in
+    let i = EachRow-split (λ r. pos 0 ≤ℤ value v r) a.inequalities b.inequalities r.0.1 in
     ((e.0, i.0), (atom_from_rows l v one s a.next f.0 h e.1 i.1, r.1))
 
 fold_met : (l : Levels) (c : List Signed) (a : AtomRows) (v : Values) → v 0 ≡ pos 1 → first_free l ≤ a.next → CaseFits l c → Low a → AreZero v a.equations → AreNonneg v a.inequalities → CaseAt l v c →
@@ -183,10 +181,10 @@ fold_met l (s ∷ c) a v one h f p z g at =
     let m = rows_from_atom l v one s a.next f.0 h at.0 in
     let i = atom-next l s a.next in
     let o : m.values 0 ≡ pos 1 = sym (m.same 0 (let k = positive_free l in omega arith)) ∙ one in
-    let z' = rows-append (λ r. value m.values r ≡ pos 0) a.equations b.equations (rows-same a.next (λ x. x ≡ pos 0) v m.values m.same a.equations p.zero z) m.zero in
-    let g' = rows-append (λ r. pos 0 ≤ℤ value m.values r) a.inequalities b.inequalities (rows-same a.next (λ x. pos 0 ≤ℤ x) v m.values m.same a.inequalities p.nonneg g) m.nonneg in
+    let z' = EachRow-append (λ r. value m.values r ≡ pos 0) a.equations b.equations (rows-same a.next (λ x. x ≡ pos 0) v m.values m.same a.equations p.zero z) m.zero in
+    let g' = EachRow-append (λ r. pos 0 ≤ℤ value m.values r) a.inequalities b.inequalities (rows-same a.next (λ x. pos 0 ≤ℤ x) v m.values m.same a.inequalities p.nonneg g) m.nonneg in
     let r = fold_met l c (rows_then l a s) m.values o (omega arith) f.1 (then-low l a s f.0 h p) z' g' (case-same l v m.values (same-less (first_free l) a.next v m.values h m.same) c f.1 at.1) in
-    record { values = r.values; same = same-then a.next b.next v m.values r.values i m.same r.same; zero = r.zero; nonneg = r.nonneg }
+    record { values = r.values; same = Same-trans a.next b.next v m.values r.values i m.same r.same; zero = r.zero; nonneg = r.nonneg }
 
 -- ---- counts
 input-below : (l : Levels) (m : ℕ) → 1 ≤ m → m < 1 + (2 ^ length l.inputs - 1) → input_column l m < first_free l
@@ -215,8 +213,8 @@ pub case_from_matrix : (l : Levels) (c : List Signed) (v : Values) → CaseFits 
 unfolding matrix_of_case
 case_from_matrix l c v f one s =
     let a = case_rows l c in
-    let z = rows-split (λ r. value v r ≡ pos 0) a.equations (map (input_row l) (masks (length l.inputs))) s.zero in
-    let g = rows-split (λ r. pos 0 ≤ℤ value v r) a.inequalities (map (λ m. put (region_column l m) (pos 1) []) (masks (set_count l))) s.nonneg in
+    let z = EachRow-split (λ r. value v r ≡ pos 0) a.equations (map (input_row l) (masks (length l.inputs))) s.zero in
+    let g = EachRow-split (λ r. pos 0 ≤ℤ value v r) a.inequalities (map (λ m. put (region_column l m) (pos 1) []) (masks (set_count l))) s.nonneg in
     ((fold_from_rows l v one c (no_rows l) (omega arith) f z.0 g.0).1, record { sums = z.1; nonneg = g.1 })
 
 -- where the atoms hold with the signs of the case, its first matrix is satisfied for some quotients
@@ -229,8 +227,8 @@ matrix_from_case l c v f one h n =
       m.values,
       m.same,
       record {
-        zero = rows-append (λ r. value m.values r ≡ pos 0) a.equations (map (input_row l) (masks (length l.inputs))) m.zero k.sums;
-        nonneg = rows-append (λ r. pos 0 ≤ℤ value m.values r) a.inequalities (map (λ m. put (region_column l m) (pos 1) []) (masks (set_count l))) m.nonneg k.nonneg;
+        zero = EachRow-append (λ r. value m.values r ≡ pos 0) a.equations (map (input_row l) (masks (length l.inputs))) m.zero k.sums;
+        nonneg = EachRow-append (λ r. pos 0 ≤ℤ value m.values r) a.inequalities (map (λ m. put (region_column l m) (pos 1) []) (masks (set_count l))) m.nonneg k.nonneg;
       },
     )
 

@@ -1,15 +1,15 @@
 -- Which cases of parts make up a case of a relation, and which order and signs those of an atom.
-use Rattle.std.proofs.Common.{◌≡◌, ◌⊎◌, inl, inr, ℕ, zero, suc, ◌+◌, ◌-◌, ◌*◌, ◌^◌, ◌/◌, ◌%◌, ◌<◌, ◌≤◌, ◌==◌, ℤ, Bool, true, false, not, List, [], ◌∷◌, ◌++◌, length, get_or, Option, Some, None, refl, sym, subst, ◌∙◌, ap, arith, append_assoc}
-use Rattle.std.specs.Prelude.{min, nat_lt, nat_le}
+use Rattle.std.proofs.Common.{◌≡◌, inl, inr, ℕ, zero, suc, ◌+◌, ◌-◌, ◌^◌, ◌/◌, ◌%◌, ◌<◌, ◌≤◌, ◌==◌, Bool, true, false, not, List, [], ◌∷◌, ◌++◌, Option, Some, None, refl, sym, ◌∙◌, ap, arith, append_assoc}
+use Rattle.std.specs.Prelude.{nat_lt}
 use Rattle.std.proofs.Math.Nat.{div-eq_of_lt, mod-eq_of_lt}
 use Rattle.std.proofs.lemmas.Bool.{cases_lt, cond_both, ltb-true, ltb-false, lt-ltb, le-ltb, eqb-true, eqb-false}
 use Rattle.std.proofs.lemmas.List.{append-nil}
 use Rattle.cf_tree.specs.declared.base.Order.{Order}
 use Rattle.cf_tree.specs.declared.base.Order.TheVariants.{Eq, Ne, Lt, Le, Gt, Ge}
-use Rattle.cf_tree.specs.RelTree.{SetTree, TermTree, RelTree, rel_true, rel_false, rel_compare, rel_same_set, rel_other_set, rel_subset, rel_divides, rel_and, rel_or, rel_not}
+use Rattle.cf_tree.specs.RelTree.{TermTree, RelTree, rel_and, rel_or}
 use Rattle.cf_linear.specs.Written.{abs_count}
-use Rattle.cf_linear.specs.Cases.{Atom, atom_true, atom_false, atom_compare, atom_divides, atom_not_divides, opposite, Plain, plain_atom, plain_and, plain_or, Signed, atom_ways, plain, case_count}
-use Rattle.cf_cases.specs.Counts.{wide, order_as, order_ways}
+use Rattle.cf_linear.specs.Cases.{atom_compare, Plain, plain_atom, plain_and, plain_or, plain, case_count}
+use Rattle.cf_cases.specs.Counts.{wide, order_ways}
 use Rattle.cf_cases.specs.Picking.{signs_at, case_by, way_at, joined, parts_at, part_by, IsIndex}
 use Rattle.cf_cases.proofs.PickLaws.{below_div, count_positive}
 
@@ -71,14 +71,6 @@ pub plain-or : (d : Bool) (p q : RelTree) → plain d (rel_or p q) ≡ joined (n
 plain-or true p q = refl
 plain-or false p q = refl
 
-pub plain-not : (d : Bool) (p : RelTree) → plain d (rel_not p) ≡ plain (not d) p
-plain-not true p = refl
-plain-not false p = refl
-
-pub plain-compare : (d : Bool) (o : Order) (a b : TermTree) → plain d (rel_compare o a b) ≡ plain_atom (atom_compare (order_as d o) a b)
-plain-compare true o a b = refl
-plain-compare false o a b = refl
-
 -- ---- atoms
 pub by_one : (i : ℕ) → (i / 1 ≡ i) × (i % 1 ≡ 0)
 by_one i = (omega arith, omega arith)
@@ -95,14 +87,6 @@ compare_by Ne a b i = cond_both (i % 2 == 0) Lt Gt (λ w. case_by (plain_atom (a
     (λ t. let n = eqb-false (i % 2) 0 t in let e : i % 2 ≡ 1 = omega arith in rw e refl)
 
 -- ---- signs
-pub first_plus : (n j h : ℕ) → h ≡ min (2 ^ n) (2 ^ 64) → j < h → signs_at (suc n) j ≡ false ∷ signs_at n j
-first_plus n j h e k = let t : nat_lt j (2 ^ n) ≡ true = lt-ltb j (2 ^ n) (omega arith) in rw t refl
-
-pub first_minus : (n j h : ℕ) → h ≡ min (2 ^ n) (2 ^ 64) → h ≤ j → j < 2 ^ 64 → signs_at (suc n) j ≡ true ∷ signs_at n (j - h)
-first_minus n j h e k i =
-    let f : h ≡ 2 ^ n = omega arith in
-    let t : nat_lt j (2 ^ n) ≡ false = le-ltb j (2 ^ n) (omega arith) in rw (t, f) refl
-
 pub next_sign : (xs zs whole : List Bool) (n j k : ℕ) (b : Bool) → 0 < n → xs ++ signs_at n j ≡ whole → signs_at (suc (n - 1)) j ≡ b ∷ signs_at (n - 1) k → zs ≡ xs ++ (b ∷ []) → zs ++ signs_at (n - 1) k ≡ whole
 next_sign xs zs whole n j k b h e f g =
     let m : n ≡ suc (n - 1) = omega arith in

@@ -1,5 +1,5 @@
 -- The case with an index is the one that stands there in the list of cases.
-use Rattle.std.proofs.Common.{◌≡◌, ◌⊎◌, ℕ, zero, suc, ◌+◌, ◌-◌, ◌*◌, ◌^◌, ◌/◌, ◌%◌, ◌<◌, ◌≤◌, Bool, true, false, List, [], ◌∷◌, ◌++◌, length, map, take, get_or, refl, sym, ◌∙◌, ap, arith, length-append}
+use Rattle.std.proofs.Common.{◌≡◌, ℕ, zero, suc, ◌+◌, ◌-◌, ◌*◌, ◌^◌, ◌/◌, ◌%◌, ◌<◌, ◌≤◌, Bool, true, false, List, [], ◌∷◌, ◌++◌, length, map, take, get_or, refl, sym, ◌∙◌, ap, arith, length-append}
 use Rattle.std.specs.Prelude.{nat_lt}
 use Rattle.std.specs.List.{flat_map}
 use Rattle.std.proofs.lemmas.Bool.{cond_both, ltb-true, ltb-false}
@@ -7,12 +7,10 @@ use Rattle.std.proofs.lemmas.List.{get_or_append_left, get_or-append_right, get_
 use Rattle.std.proofs.lemmas.List.Concat.{get_or-flat_map}
 use Rattle.std.proofs.lemmas.Nat.{div-add-mod', pow_pos}
 use Rattle.std.proofs.Math.Nat.{div-lt_iff_lt-mul}
-use Rattle.cf_tree.specs.declared.base.Order.{Order}
 use Rattle.cf_tree.specs.declared.base.Order.TheVariants.{Eq, Ne, Lt, Le, Gt, Ge}
 use Rattle.cf_linear.specs.Cases.{Atom, atom_true, atom_false, atom_compare, atom_divides, atom_not_divides, atom_same, atom_other, atom_subset, atom_not_subset, Plain, plain_atom, plain_and, plain_or, Signed, atom_signs, atom_ways, atom_cases, sign_choices, cases_of, case_count}
 use Rattle.cf_cases.specs.Holding.{EachOf}
 use Rattle.cf_cases.specs.Picking.{signs_at, atom_at, case_by}
-use Rattle.cf_cases.proofs.Quantifiers.{each-append, each-map}
 
 -- ---- pieces of one length
 flat_length : {A B : Type 0} (f : A → List B) (n : ℕ) (xs : List A) → EachOf (λ x. length (f x) ≡ n) xs → length (flat_map f xs) ≡ length xs * n
@@ -33,10 +31,6 @@ pub grid : {A B : Type 0} (f : A → List B) (n : ℕ) (xs : List A) (e : A) (d 
 grid f n xs e d a b p h k =
     let t : length (flat_map f (take a xs)) ≡ a * n = flat_length f n (take a xs) (each-take (λ x. length (f x) ≡ n) a xs p) ∙ ap (λ m. m * n) (length_taken a xs h) in
     ap (λ m. get_or (flat_map f xs) (m + b) d) (sym t) ∙ get_or-flat_map f xs a b e d h k
-
-each_same : {A : Type 0} (P : Type 0) (q : P) (xs : List A) → EachOf (λ x. P) xs
-each_same P q [] = tt
-each_same P q (x ∷ xs) = (q, each_same P q xs)
 
 -- ---- signs
 pub length-choices : (n : ℕ) → length (sign_choices n) ≡ 2 ^ n
@@ -115,20 +109,15 @@ pick_atom a i h =
     ∙ ap (λ (ss : List Bool). with_signs ss (get_or (atom_ways a) (i % n) a)) (signs-at (atom_signs a) (i / n) j)
 
 -- ---- relations
+pub product_some : (a b : ℕ) → 1 ≤ a → 1 ≤ b → 1 ≤ a * b
+product_some (suc a) (suc b) h k = omega arith
+product_some zero b h k = absurd (omega arith)
+product_some (suc a) zero h k = absurd (omega arith)
+
 pub count_positive : (p : Plain) → 1 ≤ case_count p
 unfolding case_count
-count_positive (plain_atom a) = product (length (atom_ways a)) (2 ^ atom_signs a) (ways_positive a) (pow_pos (atom_signs a))
-  where
-    product : (a b : ℕ) → 1 ≤ a → 1 ≤ b → 1 ≤ a * b
-    product (suc a) (suc b) h k = omega arith
-    product zero b h k = absurd (omega arith)
-    product (suc a) zero h k = absurd (omega arith)
-count_positive (plain_and p q) = product (case_count p) (case_count q) (count_positive p) (count_positive q)
-  where
-    product : (a b : ℕ) → 1 ≤ a → 1 ≤ b → 1 ≤ a * b
-    product (suc a) (suc b) h k = omega arith
-    product zero b h k = absurd (omega arith)
-    product (suc a) zero h k = absurd (omega arith)
+count_positive (plain_atom a) = product_some (length (atom_ways a)) (2 ^ atom_signs a) (ways_positive a) (pow_pos (atom_signs a))
+count_positive (plain_and p q) = product_some (case_count p) (case_count q) (count_positive p) (count_positive q)
 count_positive (plain_or p q) = let h = count_positive p in omega arith
 
 -- a relation has a case

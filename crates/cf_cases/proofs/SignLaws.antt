@@ -1,14 +1,18 @@
 -- A form is written with the first of the signs, and leaves the others.
-use Rattle.std.proofs.Common.{◌≡◌, ℕ, suc, ◌+◌, ◌<◌, ◌≤◌, pos, negsuc, List, [], ◌∷◌, ◌++◌, length, Bool, true, false, refl, sym, ◌∙◌, ap, arith, length-append}
+use Rattle.std.proofs.Common.{◌≡◌, ℕ, ◌+◌, ◌≤◌, pos, negsuc, List, [], ◌∷◌, ◌++◌, length, Bool, true, false, refl, ◌∙◌, ap, arith}
 use Rattle.cf_tree.specs.RelTree.{TermTree, term_lit, term_var, term_card, term_neg, term_add, term_sub, term_mul, term_div, term_mod, term_abs}
 use Rattle.cf_tree.specs.Relation.{is_fixed}
-use Rattle.cf_linear.specs.Rows.{Row, put, comb}
+use Rattle.cf_linear.specs.Rows.{put, comb}
 use Rattle.cf_linear.specs.Layout.{Levels}
 use Rattle.cf_linear.specs.Written.{WrittenTree, from_one, from_two, with_quotient, write_mod, first_sign, other_signs, signed_by, with_sign, product_by, write, abs_count}
 
-signed_rest : (b : Bool) (w : WrittenTree) → (signed_by b w).signs ≡ other_signs w.signs
+pub signed_rest : (b : Bool) (w : WrittenTree) → (signed_by b w).signs ≡ other_signs w.signs
 signed_rest true w = refl
 signed_rest false w = refl
+
+pub no_signs : (ss : List Bool) → length ss ≡ 0 → ss ≡ []
+no_signs [] e = refl
+no_signs (b ∷ ss) e = absurd (omega arith)
 
 one_less : (ss : List Bool) → 1 ≤ length ss → length (other_signs ss) + 1 ≡ length ss
 one_less [] h = absurd (omega arith)

@@ -1,28 +1,26 @@
 -- The guards of a written form hold for some quotients exactly where its signs are those of the values.
-use Rattle.std.proofs.Common.{◌≡◌, ℕ, suc, ◌+◌, ◌<◌, ◌≤◌, ◌==◌, ℤ, pos, negsuc, ◌+ℤ◌, ◌*ℤ◌, List, [], ◌∷◌, ◌++◌, length, Bool, true, false, ◌||◌, cond, refl, sym, ◌∙◌, ap, arith, append_assoc, length-append}
-use Rattle.std.specs.Prelude.{◌≤ℤ◌, ◌<ℤ◌, int_lt, IsTrue}
+use Rattle.std.proofs.Common.{◌≡◌, ℕ, ◌+◌, ◌≤◌, ◌==◌, ℤ, pos, negsuc, ◌+ℤ◌, ◌*ℤ◌, List, [], ◌∷◌, ◌++◌, length, Bool, true, false, refl, sym, ◌∙◌, ap, arith, append_assoc, length-append}
+use Rattle.std.specs.Prelude.{◌≤ℤ◌, int_lt}
 use Rattle.std.proofs.lemmas.Int.{ints}
-use Rattle.std.proofs.lemmas.Bool.{eq-eqb, ne_eqb}
+use Rattle.std.proofs.lemmas.Bool.{ne_eqb}
 use Rattle.cf_tree.specs.Numbers.{quotient, remainder, absolute}
-use Rattle.cf_tree.specs.RelTree.{SetTree, TermTree, term_lit, term_var, term_card, term_neg, term_add, term_sub, term_mul, term_div, term_mod, term_abs}
+use Rattle.cf_tree.specs.RelTree.{TermTree, term_lit, term_var, term_card, term_neg, term_add, term_sub, term_mul, term_div, term_mod, term_abs}
 use Rattle.cf_tree.specs.Relation.{IsLinearTerm}
 use Rattle.cf_tree.proofs.SetLemmas.{on_bool, lt_is, lt_not}
-use Rattle.cf_linear.specs.Rows.{Row, Values, value, put, comb}
+use Rattle.cf_linear.specs.Rows.{Values, value, comb}
 use Rattle.cf_linear.specs.Keep.{Same, update}
 use Rattle.cf_linear.specs.Layout.{Levels, covers, first_free, region_row}
-use Rattle.cf_linear.specs.Written.{GuardTree, sign_guard, quotient_guard, GuardHolds, GuardsHold, plus, WrittenTree, first_sign, other_signs, signed_by, with_sign, write, val_at, abs_count, IsPlaced}
+use Rattle.cf_linear.specs.Written.{sign_guard, quotient_guard, GuardsHold, plus, WrittenTree, first_sign, other_signs, signed_by, write, val_at, abs_count, IsPlaced}
 use Rattle.cf_linear.proofs.WritingLemmas.{write-next}
 use Rattle.cf_linear.proofs.WrittenLemmas.{GuardsHold-append, value-times, value-plus, write-value}
-use Rattle.cf_cases.specs.Holding.{EachOf, signs_of}
+use Rattle.cf_linear.proofs.ValueLemmas.{Same-trans, update-at}
+use Rattle.cf_cases.specs.Holding.{signs_of}
 use Rattle.cf_cases.proofs.CaseLaws.{length-signs_of}
-use Rattle.cf_cases.proofs.BelowLaws.{positive_free, number-below, below-region_row, value-same, GuardFits, Fitting, write-fits}
+use Rattle.cf_cases.proofs.BelowLaws.{positive_free, number-below, below-region_row, value-same, write-fits}
 use Rattle.cf_cases.proofs.GuardLaws.{guards-join, guards-same}
+use Rattle.cf_cases.proofs.SignLaws.{signed_rest}
 
 -- ---- signs
-signs_taken : (ss : List Bool) (n : ℕ) → length ss ≡ suc n → ss ≡ first_sign ss ∷ other_signs ss
-signs_taken [] n e = absurd (omega arith)
-signs_taken (b ∷ ss) n e = refl
-
 minus_sign : (z : ℤ) → pos 0 ≤ℤ (negsuc 0 *ℤ z +ℤ negsuc 0) → int_lt z (pos 0) ≡ true
 minus_sign z h = on_bool (int_lt z (pos 0)) (λ e. e) (λ e. let g = lt_not z (pos 0) e in absurd (omega (arith, ints)))
 
@@ -43,10 +41,6 @@ sign_met v one false w z g e =
 inner_guards : (v : Values) (b : Bool) (w : WrittenTree) → GuardsHold v (signed_by b w).guards → GuardsHold v w.guards
 inner_guards v true w g = (GuardsHold-append v w.guards (sign_guard (plus (comb (negsuc 0) w.row (pos 0) []) (negsuc 0)) ∷ []) g).0
 inner_guards v false w g = (GuardsHold-append v w.guards (sign_guard w.row ∷ []) g).0
-
-signed_left : (b : Bool) (w : WrittenTree) → (signed_by b w).signs ≡ other_signs w.signs
-signed_left true w = refl
-signed_left false w = refl
 
 lengths : (ss xs ys : List Bool) (n : ℕ) → ss ≡ xs ++ ys → length xs ≡ n → length ss ≡ n + length ys
 lengths ss xs ys n e h = ap length e ∙ length-append xs ys ∙ ap (λ k. k + length ys) h
@@ -96,7 +90,7 @@ module _ (l : Levels) (v : Values) (one : v 0 ≡ pos 1) where
       let s : b ≡ int_lt (val_at l v a) (pos 0) = sign_met v one b w (val_at l v a) g (λ k. write-value l v one a ss q p k) in
       let n : 1 ≤ length w.signs = left_over a 1 ss w.signs e h in
       let t = taken w.signs n in
-      e ∙ rw (signed_left b w, ← s, append_assoc) (ap (λ x. signs_of (val_at l v) a ++ x) t)
+      e ∙ rw (signed_rest b w, ← s, append_assoc) (ap (λ x. signs_of (val_at l v) a ++ x) t)
     where
       taken : (ss : List Bool) → 1 ≤ length ss → ss ≡ first_sign ss ∷ other_signs ss
       taken [] h = absurd (omega arith)
@@ -136,14 +130,8 @@ pub record Filled (n : ℕ) (v : Values) (w : WrittenTree) (rest : List Bool) : 
   pub holds : GuardsHold values w.guards
   pub left : w.signs ≡ rest
 
-pub same-then : (n m : ℕ) (u v w : Values) → n ≤ m → Same n u v → Same m v w → Same n u w
-same-then n m u v w h p q = λ c i. p c i ∙ q c (omega arith)
-
 pub same-less : (n m : ℕ) (v w : Values) → n ≤ m → Same m v w → Same n v w
 same-less n m v w h p = λ c i. p c (omega arith)
-
-pub updated : (v : Values) (c : ℕ) (z : ℤ) → update v c z c ≡ z
-updated v c z = rw (eq-eqb c c refl) refl
 
 pub update-same : (v : Values) (c : ℕ) (z : ℤ) → Same c v (update v c z)
 update-same v c z = λ d h. let n : d == c ≡ false = ne_eqb d c (λ e. omega arith) in rw n refl
@@ -165,7 +153,7 @@ module _ (l : Levels) where
       let g = second f.values w.signs w.next (omega arith) o (f.left ∙ ap (λ x. x ++ rest) (signs-same l v f.values s b p')) in
       let k = write-fits l a ss q p h in (
         g.values,
-        same-then q w.next v f.values g.values i f.same g.same,
+        Same-trans q w.next v f.values g.values i f.same g.same,
         guards-join g.values w.guards (write l b w.signs w.next).guards (guards-same w.next f.values g.values g.same w.guards k.guards f.holds) g.holds,
         g.left,
       )
@@ -180,8 +168,8 @@ module _ (l : Levels) where
       let z = quotient (value f.values w.row) k in
       let u = update f.values w.next z in
       let s = update-same f.values w.next z in
-      let e : u w.next ≡ quotient (value u w.row) k = updated f.values w.next z ∙ ap (λ x. quotient x k) (value-same w.next f.values u w.row s k'.row) in
-      (u, same-then q w.next v f.values u i f.same s, guards-join u w.guards (quotient_guard w.next w.row k ∷ []) (guards-same w.next f.values u s w.guards k'.guards f.holds) (e, tt))
+      let e : u w.next ≡ quotient (value u w.row) k = update-at f.values w.next z ∙ ap (λ x. quotient x k) (value-same w.next f.values u w.row s k'.row) in
+      (u, Same-trans q w.next v f.values u i f.same s, guards-join u w.guards (quotient_guard w.next w.row k ∷ []) (guards-same w.next f.values u s w.guards k'.guards f.holds) (e, tt))
 
   minus_row : (z : ℤ) → int_lt z (pos 0) ≡ true → pos 0 ≤ℤ (negsuc 0 *ℤ z +ℤ negsuc 0)
   minus_row z e = let h = lt_is z (pos 0) e in omega (arith, ints)
@@ -226,5 +214,5 @@ module _ (l : Levels) where
         values = f.values;
         same = f.same;
         holds = fill_sign f.values o (first_sign w.signs) w b f.holds;
-        left = signed_left (first_sign w.signs) w ∙ ap other_signs f.left;
+        left = signed_rest (first_sign w.signs) w ∙ ap other_signs f.left;
       }

@@ -1,8 +1,7 @@
 -- The rows of a case that are written so far.
-use Rattle.std.specs.Prelude.{◌≡◌, ◌≢◌, ℕ, ◌+◌, ◌-◌, ◌≤◌, ℤ, pos, negsuc, Bool, true, false, ◌||◌, List, [], ◌∷◌, ◌++◌, map, length, Result, Ok, Err}
+use Rattle.std.specs.Prelude.{◌≡◌, ℕ, ◌+◌, ◌-◌, ◌≤◌, ℤ, pos, negsuc, Bool, true, false, ◌||◌, List, [], ◌∷◌, ◌++◌, map, length, Result, Ok, Err}
 use Rattle.std.specs.List.{fold, list_any, range_with_len, flat_map}
 use Rattle.cf_tree.specs.declared.base.Order.{Order}
-use Rattle.cf_tree.specs.declared.base.Order.TheVariants.{Ne}
 use Rattle.cf_tree.specs.Relation.{IsDivisor}
 use Rattle.cf_tree.specs.RelTree.{SetTree, union_of, diff_of, RelTree, rel_true, rel_false, rel_compare, rel_same_set, rel_other_set, rel_subset, rel_divides, rel_and, rel_or, rel_not}
 use Rattle.cf_linear.specs.declared.refusal.RowFault.{RowFault}
@@ -10,10 +9,9 @@ use Rattle.cf_linear.specs.Rows.{Row, put, row_passes}
 use Rattle.cf_linear.specs.Parts.{Fails}
 use Rattle.cf_linear.specs.Matrices.{Matrix}
 use Rattle.cf_linear.specs.Layout.{Levels, masks, set_count, known_count, region_column}
-use Rattle.cf_linear.specs.Written.{constant_row, WrittenTree, GuardTree, sign_guard, quotient_guard, plus, above_quotient, below_quotient, guard_rows, abs_count, quotient_count}
-use Rattle.cf_linear.specs.Cases.{atom_compare, AtomRows, Signed, plain, case_count, atom_rows, rows_then, compare_zero, compare_nonneg, guards_of, in_first, in_one, none_rows, some_row, input_row}
+use Rattle.cf_linear.specs.Written.{constant_row, WrittenTree, GuardTree, sign_guard, quotient_guard, plus, above_quotient, below_quotient, guard_rows, quotient_count}
+use Rattle.cf_linear.specs.Cases.{AtomRows, Signed, atom_rows, rows_then, compare_zero, compare_nonneg, guards_of, in_first, in_one, none_rows, some_row, input_row}
 use Rattle.cf_cases.specs.declared.draft.Draft.{Draft}
-use Rattle.cf_cases.specs.Picking.{case_by}
 
 abbrev pub rows_of : Draft → AtomRows
 rows_of d = record { equations = d.equations.items; inequalities = d.inequalities.items; next = d.next; passes = false }
@@ -111,33 +109,6 @@ matrix_with l next es is = record {
 abbrev pub first_matrix : Levels → AtomRows → Matrix
 first_matrix l a =
     matrix_with l a.next (a.equations ++ map (input_row l) (masks (length l.inputs))) (a.inequalities ++ map (λ m. put (region_column l m) (pos 1) []) (masks (set_count l)))
-
--- ---- relations of one case
--- a conjunction whose parts have one case
-abbrev pub HasOneCase : RelTree → Type 0
-HasOneCase rel_true = case_count (plain true rel_true) ≡ 1
-HasOneCase rel_false = case_count (plain true rel_false) ≡ 1
-HasOneCase (rel_compare o a b) = (o ≢ Ne) × (abs_count a ≡ 0) × (abs_count b ≡ 0)
-HasOneCase (rel_same_set a b) = case_count (plain true (rel_same_set a b)) ≡ 1
-HasOneCase (rel_other_set a b) = case_count (plain true (rel_other_set a b)) ≡ 1
-HasOneCase (rel_subset a b) = case_count (plain true (rel_subset a b)) ≡ 1
-HasOneCase (rel_divides k t) = case_count (plain true (rel_divides k t)) ≡ 1
-HasOneCase (rel_and p q) = HasOneCase p × HasOneCase q
-HasOneCase (rel_or p q) = case_count (plain true (rel_or p q)) ≡ 1
-HasOneCase (rel_not p) = case_count (plain true (rel_not p)) ≡ 1
-
--- its case
-abbrev pub only_case : RelTree → List Signed
-only_case rel_true = case_by (plain true rel_true) 0
-only_case rel_false = case_by (plain true rel_false) 0
-only_case (rel_compare o a b) = (atom_compare o a b, []) ∷ []
-only_case (rel_same_set a b) = case_by (plain true (rel_same_set a b)) 0
-only_case (rel_other_set a b) = case_by (plain true (rel_other_set a b)) 0
-only_case (rel_subset a b) = case_by (plain true (rel_subset a b)) 0
-only_case (rel_divides k t) = case_by (plain true (rel_divides k t)) 0
-only_case (rel_and p q) = only_case p ++ only_case q
-only_case (rel_or p q) = case_by (plain true (rel_or p q)) 0
-only_case (rel_not p) = case_by (plain true (rel_not p)) 0
 
 -- how many quotients a relation has at most
 abbrev pub rel_quotients : RelTree → ℕ

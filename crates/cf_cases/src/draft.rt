@@ -1,8 +1,7 @@
 //! The rows of the atoms that are written so far.
-ghost use Rattle.std.specs.Prelude.{◌≡◌, ◌≤◌, ◌<◌, ◌+◌, ◌^◌, [], ◌∷◌, ◌++◌, map, pos, negsuc, IfOk, OnOk, Ok, Err};
+ghost use Rattle.std.specs.Prelude.{◌≡◌, ◌≤◌, ◌<◌, ◌+◌, ◌^◌, [], ◌∷◌, ◌++◌, map, negsuc, IfOk, OnOk, Ok, Err};
 ghost use Rattle.cf_tree.specs.Relation.{IsDivisor};
-ghost use Rattle.cf_num.specs.Limit.{IsWithin};
-ghost use Rattle.cf_linear.specs.Rows.{IsRow, put, comb};
+ghost use Rattle.cf_linear.specs.Rows.{IsRow};
 ghost use Rattle.cf_linear.specs.Parts.{GivesRow};
 ghost use Rattle.cf_linear.specs.Written.{constant_row, plus, above_quotient, below_quotient};
 ghost use Rattle.cf_linear.specs.Views.{guard_of};
@@ -12,8 +11,7 @@ ghost use Rattle.cf_cases.specs.Drafts.{rows_of, rows_more, with_rows, with_guar
 
 use cf_linear::refusal::RowFault;
 use cf_linear::row::Row;
-use cf_linear::written::{Guard, Written};
-use cf_num::neg;
+use cf_linear::written::{Guard, Written, above_quotient, below_quotient, plus};
 use cf_tree::base::Order;
 use cf_tree::memory::NoMemory;
 use std::alloc::Global;
@@ -204,17 +202,7 @@ fn add_guard(alloc: Global, guard: &Guard, draft: &mut Draft) -> Result<(), NoMe
     Ok(())
 }
 
-// What is left of the row where the column holds its quotient by `k`.
-fn above_quotient(alloc: Global, column: u32, of: &Row, k: &i128) -> Result<Row, RowFault>
-    requires { IsDivisor k.now }
-    ensures gives { GivesRow (above_quotient column of.now k.now) result }
-    ensures rows { result ≡ Err RowFault.Past → IsRow of.now }
-{
-    let quotient = Row::unit(alloc, column, 1)?;
-    of.combine(alloc, 1, &quotient, neg(*k))
-}
-
-// The same, less 1.
+// What is left of the row where the column holds its quotient by `k`, less 1.
 fn above_one(alloc: Global, column: u32, of: &Row, k: &i128) -> Result<Row, RowFault>
     requires divisor { IsDivisor k.now }
     requires column { 1 ≤ column }
@@ -224,28 +212,6 @@ fn above_one(alloc: Global, column: u32, of: &Row, k: &i128) -> Result<Row, RowF
         Ok(row) => minus_one(alloc, &row),
         Err(fault) => Err(fault),
     }
-}
-
-// The row that is at least 0 where the column is at least the quotient of the row by `k`.
-fn below_quotient(alloc: Global, column: u32, of: &Row, k: &i128) -> Result<Row, RowFault>
-    requires column { 1 ≤ column }
-    requires divisor { IsDivisor k.now }
-    ensures { GivesRow (below_quotient column of.now k.now) result }
-{
-    match multiple_less(alloc, column, of, k) {
-        Ok(turned) => plus(alloc, &turned, *k - 1),
-        Err(fault) => Err(fault),
-    }
-}
-
-// `k` times the column, less the row.
-fn multiple_less(alloc: Global, column: u32, of: &Row, k: &i128) -> Result<Row, RowFault>
-    requires { IsDivisor k.now }
-    ensures gives { GivesRow (comb (negsuc 0) of.now k.now (put column (pos 1) [])) result }
-    ensures rows { result ≡ Err RowFault.Past → IsRow of.now }
-{
-    let quotient = Row::unit(alloc, column, 1)?;
-    of.combine(alloc, -1, &quotient, *k)
 }
 
 // The row, of which no entry passes the limit.
@@ -291,13 +257,4 @@ fn minus_one(alloc: Global, row: &Row) -> Result<Row, RowFault>
     ensures { GivesRow (plus row.now (negsuc 0)) result }
 {
     plus(alloc, row, -1)
-}
-
-// The row with `n` more at the constant.
-fn plus(alloc: Global, row: &Row, n: i128) -> Result<Row, RowFault>
-    requires { IsWithin n }
-    ensures { GivesRow (plus row.now n) result }
-{
-    let constant = Row::unit(alloc, 0, n)?;
-    row.combine(alloc, 1, &constant, 1)
 }

@@ -24,12 +24,15 @@ use Rattle.cf_linear.specs.Rows.{Values}
 use Rattle.cf_linear.specs.Solved.{search_columns, let_columns, set_tuple, after, after_moves, SameKnown, Owes, SolvedCase, NeedsHold as MovesHold}
 use Rattle.cf_choose.specs.CaseArms.{parameter_names, given, output_levels, outputs_at, IsFlat, IsWritable, IsArmOf}
 use Rattle.cf_elim.specs.Returning.{ComesBack}
-use Rattle.cf_choose.proofs.FlatLevels.{outputs_count}
+use Rattle.cf_elim.proofs.SearchLaws.{IsSome, bounds_of}
+use Rattle.cf_choose.proofs.FlatLevels.{outputs_count, known_one}
 use Rattle.cf_choose.proofs.FlatArms.{give_of, levels_flat, arm_flat}
 use Rattle.cf_choose.proofs.RowCodes.{named, HasName, AreNumbers, number_named, number_at}
 use Rattle.cf_choose.proofs.ItemLemmas.{leads_none, have_weaker}
 use Rattle.cf_choose.proofs.MakingLemmas.{Agrees, IsMade, Continues, continues_then, moves_continue, ways_continue, Nothing, nothing, moves_named, ways_named}
-use Rattle.cf_choose.proofs.ColumnNames.{In-range, range-In, named-first, named-second, bounds_of, ints_of, wholes, search_numbers, search_have, AreEarlier, search_agrees, search_named, rising_from, in_bounds, below_bounds, parameter_numbers, named_parameter, place-within, column_is, column_named}
+use Rattle.cf_choose.proofs.ColumnNames.{named-first, named-second, ints_of, wholes, search_numbers, search_have, AreEarlier, search_agrees, search_named, rising_from, in_bounds, below_bounds, parameter_numbers, named_parameter, place-within, column_is, column_named}
+use Rattle.cf_cases.proofs.FormedLaws.{In-range, range-In}
+use Rattle.cf_cases.proofs.PickLaws.{product_some}
 
 -- ---- variables that are given
 all_vars : (l : Levels) (names : Names) (bases : List Base) (e : List Value) (w : Values) (xs : List ℕ) (done : List Value) → AreNumbers bases names → HaveBases bases e →
@@ -65,16 +68,9 @@ gives_vars l names (x ∷ []) h = tt
 gives_vars l names (x ∷ y ∷ xs) h = tt
 
 -- ---- bounds
-abbrev pub IsSome : ℕ → Type 0
-IsSome b = 1 ≤ b
-
 pub count_some : (bs : List ℕ) → All (λ b. 1 ≤ b) bs → 1 ≤ count_below bs
 count_some [] h = omega arith
 count_some (b ∷ bs) h = product_some b (count_below bs) (All-head IsSome b bs h) (count_some bs (All-tail IsSome b bs h))
-  where
-    product_some : (m n : ℕ) → 1 ≤ m → 1 ≤ n → 1 ≤ m * n
-    product_some m (suc n) h k = let s = mul-suc m n in omega arith
-    product_some m zero h k = absurd (omega arith)
 
 factor_left : (m n k : ℕ) → 1 ≤ n → m * n ≤ k → m ≤ k
 factor_left m (suc n) k h l = let s = mul-suc m n in omega arith
@@ -114,9 +110,6 @@ module _ (scope outputs : List Base) (l : Levels) (m : Matrix) (a : Answer) (fla
   abbrev end : Making
   end = fold back_item middle a.back
 
-  known_one : known_count l ≡ length l.numbers + 1
-  known_one = ap (λ xs. length l.numbers + 2 ^ length xs) flat.no_inputs
-
   next_some : 1 ≤ m.next
   next_some = let h = owes.below 0 owes.constant in omega arith
 
@@ -125,7 +118,7 @@ module _ (scope outputs : List Base) (l : Levels) (m : Matrix) (a : Answer) (fla
       let p = named_parameter l d l.numbers i in
       let e = p.2 ∙ column_is l p.0 p.1 in
       let w = place-within p.0 l.numbers p.1 in
-      owes.below d (rw known (In-range 0 (known_count l) d (omega arith) (omega (arith, known_one))))
+      owes.below d (rw known (In-range 0 (known_count l) d (omega arith) (omega (arith, known_one scope outputs l flat))))
 
   made_first : IsMade start first start
   made_first = record {
@@ -146,7 +139,7 @@ module _ (scope outputs : List Base) (l : Levels) (m : Matrix) (a : Answer) (fla
   begins_named c (inl i) = on_known (range-In 0 (known_count l) c (rw known at i))
     where
       on_known : (0 ≤ c) × (c < 0 + known_count l) → HasName first.names c
-      on_known r = at_column c (let h = r.1 in omega (arith, known_one))
+      on_known r = at_column c (let h = r.1 in omega (arith, known_one scope outputs l flat))
         where
           at_column : (c : ℕ) → c ≤ length l.numbers → HasName first.names c
           at_column zero h = inl refl

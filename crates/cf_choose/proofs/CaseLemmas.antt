@@ -1,7 +1,6 @@
 -- The cases of a choose that are all done, and its first refusal.
-use Rattle.std.proofs.Common.{◌≡◌, ◌≤◌, List, [], ◌∷◌, true, false, Some, None, map, refl, sym, ap, ◌∙◌}
+use Rattle.std.proofs.Common.{◌≡◌, List, [], ◌∷◌, true, false, Some, None, map, refl, sym, ap, ◌∙◌}
 use Rattle.std.specs.Prelude.{nat_lt}
-use Rattle.std.proofs.lemmas.Bool.{ltb-false}
 use Rattle.cf_tree.specs.declared.base.Base.{Base}
 use Rattle.cf_tree.specs.CodeTree.{ArmTree, arms_of}
 use Rattle.cf_tree.specs.RelTree.{RelTree}
@@ -89,13 +88,6 @@ refused_by_count scope outputs rel l r same e = limit_is scope outputs rel l sam
 
 pub refused_later : (scope outputs : List Base) (rel : RelTree) (l : Levels) → l ≡ levels_of scope outputs rel → count_refusal l rel ≡ None → limit scope outputs rel ≡ later_refusal l rel
 refused_later scope outputs rel l same e = limit_is scope outputs rel l same ∙ count_then l rel e
-
-pub few_cases : (l : Levels) (rel : RelTree) → count_refusal l rel ≡ None → case_count (plain true rel) ≤ 1024
-few_cases l rel e = on_bool (nat_lt choose_limits.sets (set_count l))
-    (λ t. let k = rw t at e in absurd (cc))
-    (λ t. on_bool (nat_lt choose_limits.cases (case_count (plain true rel)))
-    (λ u. let k = rw (t, u) at e in absurd (cc))
-    (λ u. ltb-false choose_limits.cases (case_count (plain true rel)) u))
 
 pub no_limit : (scope outputs : List Base) (rel : RelTree) (l : Levels) → l ≡ levels_of scope outputs rel → count_refusal l rel ≡ None → written_passes l (plain true rel) ≡ false →
     EachOf (IsCaseDone l) (matrices l rel) → limit scope outputs rel ≡ None

@@ -1,7 +1,6 @@
 -- Names of the parameters and of the search columns, and the values that they have.
-use Rattle.std.proofs.Common.{◌≡◌, ℕ, zero, suc, ◌+◌, ◌-◌, ◌<◌, ◌≤◌, ◌==◌, ℤ, pos, negsuc, List, [], ◌∷◌, ◌++◌, ◌⊎◌, inl, inr, length, get_or, map, refl, sym, ap, subst, arith, ◌∙◌, cond, append-nil, append_assoc, length-append}
+use Rattle.std.proofs.Common.{◌≡◌, ℕ, zero, suc, ◌+◌, ◌-◌, ◌<◌, ◌≤◌, ◌==◌, ℤ, pos, negsuc, List, [], ◌∷◌, ◌++◌, inl, inr, length, get_or, map, refl, sym, ap, subst, arith, ◌∙◌, cond, append-nil, append_assoc, length-append}
 use Rattle.std.specs.Prelude.{true}
-use Rattle.std.specs.List.{range_with_len}
 use Rattle.std.proofs.lemmas.Int.{ints}
 use Rattle.std.proofs.lemmas.Bool.{eqb-true, eqb-false}
 use Rattle.cf_tree.specs.declared.base.Base.{Base}
@@ -18,17 +17,9 @@ use Rattle.cf_linear.proofs.KindLemmas.{In-append, In-left, In-right}
 use Rattle.cf_choose.specs.CaseArms.{parameter_names, AreOnce, AreInts}
 use Rattle.cf_choose.proofs.RowCodes.{named, HasName, AreNumbers}
 use Rattle.cf_choose.proofs.MakingLemmas.{slice_get-end, have_more, numbers_more, length_have, Agrees, let_agrees}
+use Rattle.cf_elim.proofs.SearchLaws.{bounds_of}
 
 -- ---- lists of columns
-pub In-range : (a n c : ℕ) → a ≤ c → c < a + n → In c (range_with_len a n)
-In-range a zero c l h = absurd (omega arith)
-In-range a (suc n) c l h = on_bool (c == a) (λ t. inl (eqb-true c a t)) (λ t. let d = eqb-false c a t in inr (In-range (a + 1) n c (omega arith) (omega arith)))
-
-pub range-In : (a n c : ℕ) → In c (range_with_len a n) → (a ≤ c) × (c < a + n)
-range-In a zero c i = absurd i
-range-In a (suc n) c (inl s) = (omega arith, omega arith)
-range-In a (suc n) c (inr i) = let r = range-In (a + 1) n c i in let l = r.0 in let h = r.1 in (omega arith, omega arith)
-
 pub In-at : (xs : List ℕ) (i : ℕ) → i < length xs → In (get_or xs i 0) xs
 In-at [] i h = absurd (omega arith)
 In-at (x ∷ xs) zero h = inl refl
@@ -75,9 +66,6 @@ numbers-append bases [] ns h k = k
 numbers-append bases ((c, x) ∷ names) ns h k = (h.0, numbers-append bases names ns h.1 k)
 
 -- ---- searches
-abbrev pub bounds_of : List (ℕ × ℕ) → List ℕ
-bounds_of bounds = map (λ (c, p). p) bounds
-
 abbrev pub ints_of : List ℕ → List Base
 ints_of bounds = map (λ _. Int) bounds
 

@@ -1,24 +1,24 @@
 -- The levels of a choose of numbers alone, and the columns of the first matrices of its cases.
 use Rattle.std.proofs.Common.{◌≡◌, ℕ, zero, suc, ◌+◌, ◌-◌, ◌<◌, ◌≤◌, ◌^◌, ◌==◌, List, [], ◌∷◌, inl, inr, Bool, true, false, filter, map, length, get_or, Some, refl, sym, ap, subst, arith, ◌∙◌, All}
 use Rattle.std.specs.Prelude.{slice_get}
-use Rattle.std.specs.List.{range_with_len, fold}
+use Rattle.std.specs.List.{range_with_len}
 use Rattle.std.proofs.lemmas.Option.{slice_get_within}
 use Rattle.std.proofs.lemmas.Bool.{cond_both, eqb-true, eq-eqb, ne_eqb}
 use Rattle.std.proofs.lemmas.List.Elements.{All-head, All-tail}
 use Rattle.std.proofs.lemmas.List.FromFn.{length-range_with_len}
 use Rattle.cf_tree.specs.declared.base.Base.{Base}
 use Rattle.cf_tree.specs.declared.base.Base.TheVariants.{Int, Bool as IsTruth, Set}
-use Rattle.cf_tree.specs.RelTree.{TermTree, term_lit, term_var, term_card, term_neg, term_add, term_sub, term_mul, term_div, term_mod, term_abs, RelTree}
+use Rattle.cf_tree.specs.RelTree.{RelTree}
 use Rattle.cf_linear.specs.Keep.{In}
 use Rattle.cf_linear.specs.Layout.{Levels, place, has_level, is_number, is_set, levels_with, levels_of, rel_holds, number_column, known_count, first_free}
 use Rattle.cf_linear.specs.Matrices.{Matrix}
-use Rattle.cf_linear.specs.Written.{WrittenTree, write, signed_by, first_sign}
-use Rattle.cf_linear.specs.Cases.{Atom, atom_true, atom_false, atom_compare, atom_divides, atom_not_divides, atom_same, atom_other, atom_subset, atom_not_subset, Signed, AtomRows, write_atom, no_rows, rows_then, case_rows, matrix_of_case, plain, cases_of, matrices}
+use Rattle.cf_linear.specs.Cases.{Signed, no_rows, case_rows, matrix_of_case, plain, cases_of, matrices}
 use Rattle.cf_linear.proofs.BoolLemmas.{on_bool}
 use Rattle.cf_choose.specs.CaseArms.{output_levels, AreOnce, AreInts, IsFlat}
 use Rattle.cf_choose.specs.Solved.{IsOutput}
 use Rattle.cf_cases.specs.Holding.{EachOf}
-use Rattle.cf_choose.proofs.ColumnNames.{In-range, range-In, place-within}
+use Rattle.cf_cases.proofs.FormedLaws.{In-range, range-In, case-next}
+use Rattle.cf_choose.proofs.ColumnNames.{place-within}
 
 -- ---- levels that rise
 abbrev Up : ℕ → List ℕ → Type 0
@@ -105,39 +105,6 @@ same_count [] (y ∷ ys) e = absurd (omega arith)
 same_count (x ∷ xs) [] e = absurd (omega arith)
 same_count (x ∷ xs) (y ∷ ys) e = ap (λ bs. Int ∷ bs) (same_count xs ys (omega arith))
 
--- ---- columns of written rows
-signed_next : (b : Bool) (w : WrittenTree) → (signed_by b w).next ≡ w.next
-signed_next true w = refl
-signed_next false w = refl
-
-next_rises : (l : Levels) (t : TermTree) (ss : List Bool) (n : ℕ) → n ≤ (write l t ss n).next
-next_rises l (term_lit k) ss n = omega arith
-next_rises l (term_var x) ss n = omega arith
-next_rises l (term_card s) ss n = omega arith
-next_rises l (term_neg a) ss n = next_rises l a ss n
-next_rises l (term_add a b) ss n = let w = write l a ss n in let h = next_rises l a ss n in let k = next_rises l b w.signs w.next in omega arith
-next_rises l (term_sub a b) ss n = let w = write l a ss n in let h = next_rises l a ss n in let k = next_rises l b w.signs w.next in omega arith
-next_rises l (term_mul a b) ss n = let w = write l a ss n in let h = next_rises l a ss n in let k = next_rises l b w.signs w.next in omega arith
-next_rises l (term_div a k) ss n = let h = next_rises l a ss n in omega arith
-next_rises l (term_mod a k) ss n = let h = next_rises l a ss n in omega arith
-next_rises l (term_abs a) ss n = let h = next_rises l a ss n in let w = write l a ss n in let e = signed_next (first_sign w.signs) w in omega arith
-
-atom_rises : (l : Levels) (a : Atom) (ss : List Bool) (n : ℕ) → n ≤ (write_atom l (a, ss) n).next
-unfolding write_atom
-atom_rises l atom_true ss n = omega arith
-atom_rises l atom_false ss n = omega arith
-atom_rises l (atom_compare o a b) ss n = let w = write l a ss n in let h = next_rises l a ss n in let k = next_rises l b w.signs w.next in omega arith
-atom_rises l (atom_divides k t) ss n = let h = next_rises l t ss n in omega arith
-atom_rises l (atom_not_divides k t) ss n = let h = next_rises l t ss n in omega arith
-atom_rises l (atom_same a b) ss n = omega arith
-atom_rises l (atom_other a b) ss n = omega arith
-atom_rises l (atom_subset a b) ss n = omega arith
-atom_rises l (atom_not_subset a b) ss n = omega arith
-
-rows_rise : (l : Levels) (c : List Signed) (a : AtomRows) → a.next ≤ (fold (rows_then l) a c).next
-rows_rise l [] a = omega arith
-rows_rise l ((t, ss) ∷ c) a = let h = atom_rises l t ss a.next in let k = rows_rise l c (rows_then l a (t, ss)) in omega arith
-
 -- ---- the first matrix of a case
 -- the known columns are the constant and the parameters, and the outputs' columns are unknown
 pub record IsFirst (l : Levels) (m : Matrix) : Type 0 where
@@ -180,7 +147,7 @@ module _ (scope outputs : List Base) (l : Levels) (flat : IsFlat scope outputs l
   unfolding matrix_of_case
   first_matrix c =
       let n = (case_rows l c).next in
-      let rise : first_free l ≤ n = rows_rise l c (no_rows l) in
+      let rise : first_free l ≤ n = case-next l c (no_rows l) in
       record {
         known = refl;
         unknown = λ x i.

@@ -1,5 +1,5 @@
 -- Lists of lets and needs, one after another.
-use Rattle.std.proofs.Common.{◌≡◌, ◌≢◌, ◌↔◌, ℕ, ◌≤◌, ℤ, pos, ◌-ℤ◌, ◌*ℤ◌, List, [], ◌∷◌, ◌++◌, Some, refl, sym, ap, arith, ◌∙◌, cond}
+use Rattle.std.proofs.Common.{◌≡◌, ◌≢◌, ◌↔◌, ℕ, ◌≤◌, ℤ, pos, ◌*ℤ◌, List, [], ◌∷◌, ◌++◌, Some, refl, sym, ap, arith, ◌∙◌, cond}
 use Rattle.std.specs.Prelude.{◌≤ℤ◌, Option, None, int_lt, Bool, true, false, not}
 use Rattle.std.specs.Int.{int_div_euclid}
 use Rattle.std.specs.Ordering.{int_eq}
@@ -17,7 +17,9 @@ use Rattle.cf_tree.specs.Typing.{one, ask, HasBases, HasNoSolve, ItemsHave, Item
 use Rattle.cf_tree.specs.Values.{Value, number, truth, HaveBases}
 use Rattle.cf_tree.proofs.SetLemmas.{lt_is, lt_not, eq_is, eq_same}
 use Rattle.cf_linear.specs.Relations.{Divides}
-use Rattle.cf_choose.proofs.RowCodes.{Computes, quotient_is}
+use Rattle.cf_choose.proofs.RowCodes.{Computes}
+use Rattle.cf_cases.proofs.GuardLaws.{quotient-is}
+use Rattle.cf_cases.proofs.AtomLaws.{zero_gap}
 
 -- the items lead from one environment to another
 abbrev pub Leads : List ItemTree → List Value → List Value → Type 0
@@ -161,12 +163,9 @@ multiple_left g z q e h = rw (h, e) (omega (arith, ints))
 
 pub divides_need : (g z : ℤ) → pos 1 ≤ℤ g → (is_multiple g z ≡ true) ↔ Divides g z
 divides_need g z p = (
-  (λ h. let e : remainder z g ≡ pos 0 = eq_is (remainder z g) (pos 0) h in (quotient z g, rest_zero z (g *ℤ quotient z g) e)),
+  (λ h. let e : remainder z g ≡ pos 0 = eq_is (remainder z g) (pos 0) h in (quotient z g, zero_gap z (g *ℤ quotient z g) e)),
   (λ h.
       let n : g ≢ pos 0 = λ e. absurd (omega (arith, ints)) in
-      let q : quotient z g ≡ h.0 = quotient_is z g p ∙ ap (λ y. int_div_euclid y g) h.1 ∙ int_div_euclid-multiple g h.0 n in
+      let q : quotient z g ≡ h.0 = quotient-is z g p ∙ ap (λ y. int_div_euclid y g) h.1 ∙ int_div_euclid-multiple g h.0 n in
       eq_same (remainder z g) (pos 0) (multiple_left g z h.0 h.1 q)),
 )
-  where
-    rest_zero : (a b : ℤ) → a -ℤ b ≡ pos 0 → a ≡ b
-    rest_zero a b e = omega (arith, ints)

@@ -1,7 +1,6 @@
 pub mod ArmLemmas
 pub mod CaseLemmas
 pub mod ColumnNames
-pub mod Examples
 pub mod DoneLemmas
 pub mod FlatArms
 pub mod FlatLevels
@@ -9,7 +8,6 @@ pub mod ItemLemmas
 pub mod JoinLemmas
 pub mod LevelLemmas
 pub mod MakingLemmas
-pub mod MovedRows
 pub mod NameLemmas
 pub mod OnWay
 pub mod RelationCases
@@ -18,5 +16,4 @@ pub mod SameLemmas
 pub mod SomeCases
 pub mod StepLemmas
 pub mod SystemLaws
-pub mod TupleLaws
 pub mod TurnedRows

@@ -36,7 +36,7 @@ length_have (b ∷ bs) (v ∷ vs) h = ap suc (length_have bs vs h.1)
 pub value_at-end : (vs : List Value) (v : Value) (x : ℕ) → x ≡ length vs → value_at (vs ++ (v ∷ [])) x ≡ v
 value_at-end vs v x e = rw e (get_or-append_seam vs v [] (number (pos 0)))
 
-value_at-early : (vs ws : List Value) (x : ℕ) → x < length vs → value_at (vs ++ ws) x ≡ value_at vs x
+pub value_at-early : (vs ws : List Value) (x : ℕ) → x < length vs → value_at (vs ++ ws) x ≡ value_at vs x
 value_at-early vs ws x h = get_or-append vs ws (number (pos 0)) x h
 
 slice_get-more : (bs cs : List Base) (x : ℕ) (b : Base) → slice_get bs x ≡ Some b → slice_get (bs ++ cs) x ≡ Some b

@@ -2,14 +2,12 @@
 use Rattle.std.proofs.Common.{◌≡◌, ℕ, ◌==◌, [], ◌∷◌, Some, None, refl, sym, ap, ◌∙◌}
 use Rattle.std.specs.Prelude.{nat_eq}
 use Rattle.std.specs.Map.{lookup}
-use Rattle.std.proofs.lemmas.Bool.{eqb-true, eqb-false, eq-eqb, ne_eqb}
+use Rattle.std.proofs.lemmas.Bool.{eqb-true, eqb-false}
 use Rattle.indexmap.specs.IndexMap.{insert_entry}
 use Rattle.cf_linear.specs.Arm.{Names, level_of}
 use Rattle.cf_linear.proofs.BoolLemmas.{on_bool}
+use Rattle.cf_linear.proofs.MapLemmas.{eq_flip}
 use Rattle.cf_choose.specs.Makings.{IsNamed}
-
-eq_flip : (c d : ℕ) → nat_eq c d ≡ (d == c)
-eq_flip c d = on_bool (d == c) (λ e. rw (e, eqb-true d c e) (eq-eqb c c refl)) (λ e. rw e (ne_eqb c d (λ i. eqb-false d c e (sym i))))
 
 pub level_from_lookup : (names : Names) (c x : ℕ) → lookup (nat_eq c) names ≡ Some x → level_of names c ≡ x
 level_from_lookup [] c x e = cc

@@ -1,7 +1,7 @@
 -- The cases one after the other: which are left, and what those before them made.
-use Rattle.std.proofs.Common.{◌≡◌, List, [], ◌∷◌, ◌++◌, Some, None, Ok, Err, Vec, All, map, reverse, refl, sym, ap, subst, ◌∙◌, append-nil, append_assoc}
+use Rattle.std.proofs.Common.{◌≡◌, List, [], ◌∷◌, ◌++◌, Some, None, Ok, Err, Vec, All, map, ap, ◌∙◌, append_assoc}
 use Rattle.std.specs.Global.{Global}
-use Rattle.std.proofs.lemmas.List.{map-append, reverse-reverse}
+use Rattle.std.proofs.lemmas.List.{map-append}
 use Rattle.cf_tree.specs.declared.base.Base.{Base}
 use Rattle.cf_tree.specs.declared.code.Arm.{Arm}
 use Rattle.cf_tree.specs.CodeView.{arm_tree, arm_trees}
@@ -31,11 +31,6 @@ pub record IsOnWay (l : Levels) (all : List Matrix) (left : List System) (arms :
   pub ready : EachOf IsReady (rest_of left)
   pub trees : map arm_tree arms ++ map (arm_of_case limits l) (rest_of left) ≡ map (arm_of_case limits l) all
 
-pub way_start : (l : Levels) (systems left : List System) (arms : List Arm) → left ≡ reverse systems → arms ≡ [] → EachOf IsReady (map matrix_of systems) → IsOnWay l (map matrix_of systems) left arms
-way_start l systems left arms e f r =
-    let s : rest_of left ≡ map matrix_of systems = ap rest_of e ∙ ap (map matrix_of) (reverse-reverse systems) in
-    record { done = λ d. subst (EachOf (IsCaseDone l)) s d; refusal = rw s refl; ready = rw s r; trees = rw (f, s) refl }
-
 pub way_more : (l : Levels) (all : List Matrix) (before left : List System) (x : System) (arms more : List Arm) (a : Arm) → before ≡ left ++ (x ∷ []) → more ≡ arms ++ (a ∷ []) →
     IsCaseDone l (matrix_of x) → arm_tree a ≡ arm_of_case limits l (matrix_of x) → IsOnWay l all before arms → IsOnWay l all left more
 way_more l all before left x arms more a e f d t w =
@@ -51,9 +46,6 @@ way_more l all before left x arms more a e f d t w =
 
 pub way_ready : (l : Levels) (all : List Matrix) (before left : List System) (x : System) (arms : List Arm) → before ≡ left ++ (x ∷ []) → IsOnWay l all before arms → IsReady (matrix_of x)
 way_ready l all before left x arms e w = let r = rw (ap rest_of e ∙ rest_more left x) at w.ready in r.0
-
-pub way_end : (l : Levels) (all : List Matrix) (left : List System) (arms : List Arm) → left ≡ [] → IsOnWay l all left arms → EachOf (IsCaseDone l) all × (map arm_tree arms ≡ map (arm_of_case limits l) all)
-way_end l all left arms e w = let k = rw e at w in (k.done tt, sym (append-nil (map arm_tree arms)) ∙ k.trees)
 
 pub way_refused : (l : Levels) (all : List Matrix) (before left : List System) (x : System) (arms : List Arm) (r : Refusal) → before ≡ left ++ (x ∷ []) → (run limits (matrix_of x)).end ≡ refused r →
     IsOnWay l all before arms → first_refused limits all ≡ Some r

@@ -1,7 +1,6 @@
 -- A relation of numbers alone holds exactly where the first matrix of some case is satisfied.
 use Rattle.std.proofs.Common.{◌≡◌, ℕ, zero, suc, ◌+◌, ◌-◌, ◌<◌, ◌≤◌, ◌==◌, pos, List, [], ◌∷◌, ◌++◌, ◌⊎◌, inl, inr, false, IsTrue, ◌||◌, length, get_or, map, refl, sym, ap, subst, arith, ◌∙◌}
 use Rattle.std.specs.List.{range_with_len}
-use Rattle.std.proofs.Math.ListN.{get_or-append}
 use Rattle.std.proofs.lemmas.Bool.{eqb-true, eqb-false, ne_eqb}
 use Rattle.std.proofs.lemmas.List.{get_or-append-add}
 use Rattle.std.proofs.lemmas.List.FromFn.{get_or-map-range_with_len}
@@ -24,11 +23,12 @@ use Rattle.cf_cases.proofs.PlacedLaws.{placed-rel}
 use Rattle.cf_choose.specs.CaseArms.{seen, given, output_levels, outputs_at, IsFlat}
 use Rattle.cf_cases.specs.Holding.{EachOf, SomeOf}
 use Rattle.cf_cases.proofs.Quantifiers.{some-each}
+use Rattle.cf_cases.proofs.FormedLaws.{In-range, range-In}
 use Rattle.cf_choose.specs.CaseLaws.{SolvedAt, AreCases}
 use Rattle.cf_linear.proofs.KindLemmas.{In-append, In-left, In-right}
-use Rattle.cf_choose.proofs.ColumnNames.{In-at, In-range, range-In, place-within, column_is}
+use Rattle.cf_choose.proofs.ColumnNames.{In-at, place-within, column_is}
 use Rattle.cf_choose.proofs.FlatLevels.{IsFirst, each_first, free_is, known_one, levels_are, output_column, early_number, level-In}
-use Rattle.cf_choose.proofs.MakingLemmas.{length_have}
+use Rattle.cf_choose.proofs.MakingLemmas.{length_have, value_at-early}
 
 -- ---- lists
 place-at : (x : ℕ) (xs : List ℕ) → In x xs → get_or xs (place x xs) 0 ≡ x
@@ -59,9 +59,6 @@ list_at n (x ∷ xs) g d h =
 
 value_later : (env xs : List Value) (i : ℕ) → value_at (env ++ xs) (length env + i) ≡ value_at xs i
 value_later env xs i = get_or-append-add env xs i (number (pos 0))
-
-value_early : (env xs : List Value) (x : ℕ) → x < length env → value_at (env ++ xs) x ≡ value_at env x
-value_early env xs x h = get_or-append env xs (number (pos 0)) x h
 
 number_in : (n : ℕ) (xs : List Value) (i : ℕ) (bs : List Base) → HaveBases bs xs → bs ≡ map (λ _. Int) bs → i < length xs → value_at xs i ≡ number (number_of (value_at xs i))
 number_in n [] i bs h e l = absurd (omega arith)
@@ -125,7 +122,7 @@ module _ (scope outputs : List Base) (rel : RelTree) (l : Levels) (flat : IsFlat
     count_outs = length_have outputs xs outs
 
     parameter_value : (x : ℕ) → In x l.numbers → number_of (value_at (env ++ xs) x) ≡ given l env (number_column l x)
-    parameter_value x i = let h = early_number scope outputs l flat x i in ap number_of (value_early env xs x (rw count_env h)) ∙ sym (given_at env x i)
+    parameter_value x i = let h = early_number scope outputs l flat x i in ap number_of (value_at-early env xs x (rw count_env h)) ∙ sym (given_at env x i)
 
     output_value : (i : ℕ) → i < length xs → value_at (env ++ xs) (l.scope + i) ≡ value_at xs i
     output_value i h = let s : l.scope + i ≡ length env + i = ap (λ n. n + i) (flat.scope_is ∙ sym count_env) in rw s (value_later env xs i)

@@ -1,6 +1,6 @@
 -- What the codes of rows and of ways compute, over names of columns.
 use Rattle.std.proofs.Common.{◌≡◌, ℕ, zero, suc, ◌≤◌, ◌^◌, ◌==◌, ℤ, pos, negsuc, neg_ℤ, ◌+ℤ◌, ◌*ℤ◌, List, [], ◌∷◌, ◌⊎◌, inl, inr, length, map, Some, refl, sym, ap, arith, ◌∙◌, cond}
-use Rattle.std.specs.Prelude.{◌≤ℤ◌, slice_get, Option, None, int_lt, false}
+use Rattle.std.specs.Prelude.{slice_get, Option, None, false}
 use Rattle.std.specs.Int.{int_div_euclid, int_max, int_min}
 use Rattle.std.specs.List.{fold}
 use Rattle.std.specs.Ordering.{int_eq}
@@ -14,11 +14,10 @@ use Rattle.cf_tree.specs.declared.base.Base.TheVariants.{Int, Bool as Truth, Set
 use Rattle.cf_tree.specs.CodeTree.{CodeTree, code_lit, code_var, code_mul, code_neg, code_div, code_max, code_min, codes_of, codes_depth, code_depth}
 use Rattle.cf_tree.specs.Meaning.{got, path, sum_path, best_path, chosen, choose_with}
 use Rattle.cf_tree.specs.Relation.{IsDivisor}
-use Rattle.cf_tree.specs.Numbers.{quotient}
 use Rattle.cf_tree.specs.Spelled.{IsSpelled, AreSpelled}
 use Rattle.cf_tree.specs.Typing.{Meets, one, HasBases, AllHave, HasNoSolve, HaveNoSolve}
 use Rattle.cf_tree.specs.Values.{Value, number, value_at, number_of, HaveBases}
-use Rattle.cf_tree.proofs.SetLemmas.{eq_is, lt_not}
+use Rattle.cf_tree.proofs.SetLemmas.{eq_is}
 use Rattle.cf_linear.specs.Arm.{Names, level_of, entry_code, row_code, turned, lower_code, upper_code, way_code}
 use Rattle.cf_linear.specs.Keep.{In, Over, way_value}
 use Rattle.cf_linear.specs.Matrices.{Way, row_way, greatest, least}
@@ -28,6 +27,7 @@ use Rattle.cf_linear.proofs.RowLemmas.{value-comb}
 use Rattle.cf_choose.specs.CaseArms.{seen, PairsWritten, WayWritten}
 use Rattle.cf_elim.specs.Returning.{PairsOver, WayOver}
 use Rattle.cf_choose.proofs.TurnedRows.{turned-over, turned-within}
+use Rattle.cf_cases.proofs.GuardLaws.{quotient-is}
 
 -- ---- names
 abbrev pub named : Names → List ℕ
@@ -69,9 +69,6 @@ number_at (Int ∷ scope) (v ∷ e) zero h s = rw h.0.1 refl
 number_at (Truth ∷ scope) (v ∷ e) zero h s = absurd (cc)
 number_at (Set ∷ scope) (v ∷ e) zero h s = absurd (cc)
 number_at (b ∷ scope) (v ∷ e) (suc x) h s = number_at scope e x h.1 s
-
-pub quotient_is : (z g : ℤ) → pos 1 ≤ℤ g → quotient z g ≡ int_div_euclid z g
-quotient_is z g p = cond_both (int_lt (pos 0) g) (int_div_euclid z g) (pos 0) (λ x. x ≡ int_div_euclid z g) (λ _. refl) (λ t. absurd (let l = lt_not (pos 0) g t in omega (arith, ints)))
 
 -- ---- the best of several numbers
 abbrev best_of : (ℤ → ℤ → ℤ) → Option ℤ → List ℤ → ℤ
@@ -191,7 +188,7 @@ module _ (scope : List Base) (few : length scope ≤ 2 ^ 32) where
             spelled = (d, c.code.spelled);
             shallow = let s = c.code.shallow in omega arith;
           };
-          means = λ e h. rw (c.means e h) (ap (λ x. got (number x ∷ [])) (quotient_is (value (seen names e) r) g d.0));
+          means = λ e h. rw (c.means e h) (ap (λ x. got (number x ∷ [])) (quotient-is (value (seen names e) r) g d.0));
         }
 
     neg_div_computes : (r : Row) (g : ℤ) → Over (HasName names) r → AreWithin r → IsDivisor g →

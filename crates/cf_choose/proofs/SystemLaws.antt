@@ -1,5 +1,5 @@
 -- The systems of the cases of a relation.
-use Rattle.std.proofs.Common.{◌≡◌, inl, ℕ, zero, suc, ◌+◌, ◌-◌, ◌*◌, ◌<◌, ◌≤◌, ◌^◌, Bool, true, false, ◌||◌, List, [], ◌∷◌, ◌++◌, length, map, take, get_or, Result, Ok, Err, Vec, ⊎_elim, subst, refl, sym, ◌∙◌, ap, arith}
+use Rattle.std.proofs.Common.{◌≡◌, inl, ℕ, zero, suc, ◌+◌, ◌-◌, ◌<◌, ◌≤◌, ◌^◌, Bool, true, false, ◌||◌, List, [], ◌∷◌, ◌++◌, length, map, take, get_or, Result, Ok, Err, Vec, ⊎_elim, subst, refl, sym, ◌∙◌, ap, arith}
 use Rattle.std.specs.List.{fold, flat_map, list_any, range_with_len}
 use Rattle.std.specs.Global.{Global}
 use Rattle.std.proofs.lemmas.Bool.{or_from}
@@ -7,6 +7,7 @@ use Rattle.std.proofs.lemmas.List.{map-append, take_all, take_more}
 use Rattle.std.proofs.lemmas.List.Folds.{list_any-append, list_any_more, list_any_at}
 use Rattle.cf_tree.specs.RelSize.{capped, term_size, rel_size}
 use Rattle.cf_tree.specs.RelTree.{RelTree, rel_true, rel_false, rel_compare, rel_same_set, rel_other_set, rel_subset, rel_divides, rel_and, rel_or, rel_not, TermTree, term_lit, term_var, term_card, term_neg, term_add, term_sub, term_mul, term_div, term_mod, term_abs}
+use Rattle.cf_tree.proofs.SetLemmas.{or_assoc}
 use Rattle.cf_linear.specs.declared.refusal.RowFault.{RowFault}
 use Rattle.cf_linear.specs.declared.refusal.RowFault.TheVariants.{Past, NoMemory}
 use Rattle.cf_linear.specs.declared.system.System.{System}
@@ -16,7 +17,6 @@ use Rattle.cf_linear.specs.Layout.{Levels, first_free, known_count}
 use Rattle.cf_linear.specs.Written.{quotient_count}
 use Rattle.cf_linear.specs.Views.{matrix_of}
 use Rattle.cf_linear.specs.Cases.{Signed, Plain, plain, plain_atom, plain_and, plain_or, atom_cases, cases_of, case_count, AtomRows, write_atom, no_rows, rows_then, case_rows, matrix_of_case, matrices, written_passes}
-use Rattle.cf_linear.proofs.BoolLemmas.{on_bool}
 use Rattle.cf_equation.specs.Equations.{Differ}
 use Rattle.cf_cases.specs.Holding.{EachOf, CaseFits, IsPlacedRel}
 use Rattle.cf_cases.specs.Drafts.{rel_quotients}
@@ -24,7 +24,7 @@ use Rattle.cf_cases.proofs.AgreeLaws.{matrices-formed}
 use Rattle.cf_cases.proofs.MatrixLaws.{atom-next, cases-fit}
 use Rattle.cf_cases.proofs.PickLaws.{length-cases}
 use Rattle.cf_choose.specs.Eliminations.{SystemsAre}
-use Rattle.cf_choose.proofs.MovedRows.{passes-same}
+use Rattle.cf_cases.proofs.MovedRows.{passes-same}
 use Rattle.cf_choose.proofs.SomeCases.{HasItem, some_case}
 
 -- ---- rows of a case that pass the limit
@@ -35,10 +35,6 @@ passes_alone l s = (write_atom l s (first_free l)).passes
 abbrev passes_in : Levels → List Signed → Bool
 passes_in l c = list_any (passes_alone l) c
 
-or_more : (a b c : Bool) → ((a || b) || c) ≡ (a || (b || c))
-or_more true b c = refl
-or_more false b c = refl
-
 or_none : (b : Bool) → b ≡ (b || false)
 or_none true = refl
 or_none false = refl
@@ -48,7 +44,7 @@ fold_passes l [] a f h = or_none a.passes
 fold_passes l (s ∷ c) a f h =
     fold_passes l c (rows_then l a s) f.1 (omega (arith, atom-next l s a.next))
     ∙ ap (λ b. (a.passes || b) || passes_in l c) (passes-same l s a.next f.0 h)
-    ∙ or_more a.passes (passes_alone l s) (passes_in l c)
+    ∙ or_assoc a.passes (passes_alone l s) (passes_in l c)
 
 -- whether a row of the case passes the limit
 abbrev case_passes : Levels → List Signed → Bool
@@ -177,9 +173,6 @@ columns_fit l r n e f s h = rw (free_without_sets l e f) (fit (length l.numbers)
 pub record IsTaken (l : Levels) (r : RelTree) (i : ℕ) (systems : List System) : Type 0 where
   pub within : list_any (case_passes l) (take i (cases_of (plain true r))) ≡ false
   pub are : map matrix_of systems ≡ map (matrix_of_case l) (take i (cases_of (plain true r)))
-
-pub none_taken : (l : Levels) (r : RelTree) (systems : List System) → systems ≡ [] → IsTaken l r 0 systems
-none_taken l r systems e = record { within = refl; are = rw e refl }
 
 pub one_more : (l : Levels) (r : RelTree) (i : ℕ) (systems more : List System) (x : System) → i < case_count (plain true r) → more ≡ systems ++ (x ∷ []) → matrix_of x ≡ matrix_of_case l (get_or (cases_of (plain true r)) i []) →
     case_passes l (get_or (cases_of (plain true r)) i []) ≡ false → IsTaken l r i systems → IsTaken l r (i + 1) more

@@ -1,28 +1,22 @@
 -- A row with its signs turned.
-use Rattle.std.proofs.Common.{◌≡◌, ℕ, ℤ, pos, negsuc, [], ◌∷◌, arith}
-use Rattle.std.specs.Prelude.{true, false, unsigned_abs, nat_le, ◌-◌, ◌^◌}
-use Rattle.std.proofs.lemmas.Int.{ints}
-use Rattle.std.proofs.lemmas.Bool.{leb-true}
-use Rattle.cf_num.specs.Limit.{IsWithin}
+use Rattle.std.proofs.Common.{◌≡◌, ℕ, pos, negsuc, [], ◌∷◌}
+use Rattle.std.specs.Prelude.{true, false, ◌-◌}
 use Rattle.cf_linear.specs.Arm.{turned}
 use Rattle.cf_linear.specs.Keep.{Over}
 use Rattle.cf_linear.specs.Rows.{Row, passes, row_passes, AreWithin, IsRow}
 use Rattle.cf_linear.proofs.BoolLemmas.{on_bool}
 use Rattle.cf_linear.proofs.KindLemmas.{Over-comb}
-use Rattle.cf_linear.proofs.PassingLemmas.{negated_not}
+use Rattle.cf_linear.proofs.PassingLemmas.{negated_not, within_is}
 
 pub turned-over : (Q : ℕ → Type 0) (r : Row) → Over Q r → Over Q (turned r)
 turned-over Q r o = Over-comb Q (negsuc 0) r (pos 0) [] o tt
-
-fits : (k : ℤ) → passes k ≡ false → IsWithin k
-fits k e = on_bool (nat_le (unsigned_abs k) (2 ^ 127 - 1)) (λ t. omega (arith, ints, leb-true (unsigned_abs k) (2 ^ 127 - 1) t)) (λ t. let f : true ≡ false = rw t at e in cc)
 
 within_from_test : (r : Row) → row_passes r ≡ false → AreWithin r
 within_from_test [] e = tt
 within_from_test ((c, k) ∷ r) e =
     on_bool (passes k)
     (λ t. let f : true ≡ false = rw t at e in cc)
-    (λ t. let f : row_passes r ≡ false = rw t at e in (fits k t, within_from_test r f))
+    (λ t. let f : row_passes r ≡ false = rw t at e in (within_is k t, within_from_test r f))
 
 pub turned-within : (r : Row) → IsRow r → AreWithin (turned r)
 turned-within r p = within_from_test (turned r) (negated_not r p)

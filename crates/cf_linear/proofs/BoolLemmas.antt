@@ -35,11 +35,6 @@ two_products-some a k b m z e = on_bool (sum_passes a k b m)
     (λ t. let q : Some z ≡ None = rw t at e in cc)
     (λ t. let q : Some z ≡ Some (a *ℤ k +ℤ b *ℤ m) = rw t at e in (t, cc))
 
-pub two_products-none : (a k b m : ℤ) → None ≡ two_products a k b m → sum_passes a k b m ≡ true
-two_products-none a k b m e = on_bool (sum_passes a k b m)
-    (λ t. t)
-    (λ t. let q : None ≡ Some (a *ℤ k +ℤ b *ℤ m) = rw t at e in cc)
-
 pub zeros_fine : (a b : ℤ) → sum_passes a (pos 0) b (pos 0) ≡ false
 zeros_fine a b =
     let e : a *ℤ pos 0 ≡ pos 0 = omega (arith, ints) in

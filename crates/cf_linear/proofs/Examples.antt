@@ -2,9 +2,9 @@
 use Rattle.std.proofs.Common.{◌≡◌, pos, negsuc, refl, [], ◌∷◌, map, true, Some}
 use Rattle.cf_tree.specs.declared.base.Base.TheVariants.{Int, Set}
 use Rattle.cf_tree.specs.declared.base.Order.TheVariants.{Eq, Le, Ge}
-use Rattle.cf_tree.specs.RelTree.{empty_set, set_var, inter_of, term_lit, term_var, term_card, term_add, term_mul, term_div, term_mod, term_abs, RelTree, rel_compare, rel_same_set, rel_divides, rel_and}
+use Rattle.cf_tree.specs.RelTree.{empty_set, set_var, inter_of, term_lit, term_var, term_card, term_add, term_mul, term_div, term_mod, term_abs, RelTree, rel_true, rel_compare, rel_same_set, rel_divides, rel_and}
 use Rattle.cf_tree.specs.CodeTree.{code_lit, code_var, code_sum, code_mul, code_div, code_max, code_compare, code_union, code_card, code_slice, code_fresh, let_item, need_item, arm_of, codes_of, items_of}
-use Rattle.cf_linear.specs.declared.refusal.LimitKind.TheVariants.{Cases, Rows, Columns, Search}
+use Rattle.cf_linear.specs.declared.refusal.LimitKind.TheVariants.{Cases, Rows, Columns, Search, Sets}
 use Rattle.cf_linear.specs.declared.refusal.Refusal.TheVariants.{Past, Limit}
 use Rattle.cf_linear.specs.Matrices.{Matrix}
 use Rattle.cf_num.specs.Divisors.{gcd_by, factors_by}
@@ -14,7 +14,7 @@ use Rattle.cf_linear.specs.Stages.{run, run_for, limits, clean_stage, equation_s
 use Rattle.cf_linear.specs.Layout.{levels_of}
 use Rattle.cf_linear.specs.Cases.{cases_of, case_count, matrix_of_case, matrices, write_atom, written_passes}
 use Rattle.cf_linear.specs.Arm.{arm}
-use Rattle.cf_linear.specs.Chooses.{arms, choose_limits, first_refused, refusal_by, limit, growth_of_case, growth}
+use Rattle.cf_linear.specs.Chooses.{arms, made_of, choose_limits, first_refused, refusal_by, limit, last_factor, growth_of_case, growth}
 
 abbrev seconds : RelTree
 seconds = rel_and (rel_and (rel_and (rel_and (rel_and (rel_compare Eq (term_add (term_add (term_mul (term_var 1) (term_lit (pos 3600))) (term_mul (term_var 2) (term_lit (pos 60)))) (term_var 3)) (term_var 0)) (rel_compare Le (term_lit (pos 0)) (term_var 1))) (rel_compare Le (term_lit (pos 0)) (term_var 2))) (rel_compare Le (term_var 2) (term_lit (pos 59)))) (rel_compare Le (term_lit (pos 0)) (term_var 3))) (rel_compare Le (term_var 3) (term_lit (pos 59)))
@@ -47,6 +47,10 @@ seconds-growth = refl
 pub seconds-factors : map (λ m. map (λ a. a.factor) (run limits m).taken) (matrices (levels_of (Int ∷ []) (Int ∷ Int ∷ Int ∷ []) seconds) seconds) ≡ (1 ∷ 61 ∷ 61 ∷ 1 ∷ 60 ∷ 119 ∷ 60 ∷ 1 ∷ 1 ∷ []) ∷ []
 unfolding arms arm matrices cases_of matrix_of_case write_atom run run_for stage clean_stage equation_stage bound_stage unknown_stage row_stage clean mix factors_of merge merge_passes merge_factor last pick searched dropped searched_by bound bound_passes bound_factor gcd_by factors_by parts_of
 seconds-factors = refl
+
+pub seconds-last-factor : map (λ m. last_factor (levels_of (Int ∷ []) (Int ∷ Int ∷ Int ∷ []) seconds) (made_of m (run limits m))) (matrices (levels_of (Int ∷ []) (Int ∷ Int ∷ Int ∷ []) seconds) seconds) ≡ 59 ∷ []
+unfolding arms arm matrices cases_of matrix_of_case write_atom run run_for stage clean_stage equation_stage bound_stage unknown_stage row_stage clean mix factors_of merge merge_passes merge_factor last pick searched dropped searched_by bound bound_passes bound_factor gcd_by factors_by parts_of
+seconds-last-factor = refl
 
 abbrev rounding : RelTree
 rounding = rel_and (rel_compare Le (term_var 0) (term_mul (term_lit (pos 2)) (term_var 2))) (rel_compare Le (term_mul (term_lit (pos 2)) (term_var 2)) (term_var 1))
@@ -143,6 +147,10 @@ many_columns = rel_and (rel_and (rel_and (rel_divides (pos 2) (term_add (term_va
 pub many_columns-limit : refusal_by (record choose_limits { each = record { search = 4; rows = 5; columns = 6 } }) (levels_of (Int ∷ []) (Int ∷ []) many_columns) many_columns ≡ Some (Limit Columns 7)
 unfolding arms arm matrices cases_of matrix_of_case write_atom run run_for stage clean_stage equation_stage bound_stage unknown_stage row_stage clean mix factors_of merge merge_passes merge_factor last pick searched dropped searched_by bound bound_passes bound_factor gcd_by factors_by parts_of limit refusal_by case_count written_passes first_refused
 many_columns-limit = refl
+
+pub many_sets-limit : limit [] (Set ∷ Set ∷ Set ∷ Set ∷ Set ∷ Set ∷ Set ∷ []) rel_true ≡ Some (Limit Sets 7)
+unfolding limit refusal_by
+many_sets-limit = refl
 
 abbrev quotients : RelTree
 quotients = rel_and (rel_compare Eq (term_div (term_var 1) (pos 3)) (term_var 0)) (rel_compare Eq (term_mod (term_var 1) (pos 3)) (term_lit (pos 1)))

@@ -4,7 +4,7 @@ use Rattle.std.specs.Prelude.{option_and_then}
 use Rattle.std.specs.List.{list_any}
 use Rattle.std.proofs.lemmas.Bool.{eqb-true, ne_eqb, cases_order}
 use Rattle.std.proofs.Math.ListN.{drop_of_length-le}
-use Rattle.cf_linear.specs.Rows.{Row, Values, Rises, AreBelow, IsRow, entry, is_zero, put, comb, without, sum_passes, passes_at, comb_passes, next_sum, value_from}
+use Rattle.cf_linear.specs.Rows.{Row, Values, Rises, AreBelow, entry, is_zero, put, comb, without, sum_passes, passes_at, comb_passes, next_sum, value_from}
 use Rattle.cf_linear.specs.Merging.{IsLeast, IsTaken}
 use Rattle.cf_linear.proofs.BoolLemmas.{on_bool, zeros_fine, zero_plus}
 use Rattle.cf_linear.proofs.Canonical.{entry-low}
@@ -24,22 +24,12 @@ pub record Joining (a : ℤ) (r : Row) (b : ℤ) (s : Row) (i j : ℕ) (out : Ro
   pub fine : (x : ℕ) → x < n → passes_at a r b s x ≡ false
   pub same : out ++ comb a (drop i r) b (drop j s) ≡ comb a r b s
 
-pub joining_start : (a : ℤ) (r : Row) (b : ℤ) (s : Row) → IsRow r → IsRow s → Joining a r b s 0 0 []
-joining_start a r b s p q = record {
-  i_in = omega arith;
-  j_in = omega arith;
-  n = 0;
-  r_rises = p.0;
-  s_rises = q.0;
-  r_high = λ x h. refl;
-  s_high = λ x h. refl;
-  low = tt;
-  fine = λ x h. absurd (omega arith);
-  same = refl;
-}
-
 none_passes : (a k b m : ℤ) → k ≡ pos 0 → m ≡ pos 0 → sum_passes a k b m ≡ false
 none_passes a k b m e f = rw (e, f) (zeros_fine a b)
+
+or_true : (b : Bool) → (b || true) ≡ true
+or_true true = refl
+or_true false = refl
 
 -- a test of columns that one column passes is passed by an entry, or the row has none there
 any_at : (f : ℕ → Bool) (r : Row) (c : ℕ) → f c ≡ true → (list_any (λ (d, k). f d) r ≡ true) ⊎ (entry r c ≡ pos 0)
@@ -47,10 +37,6 @@ any_at f [] c h = inr refl
 any_at f ((d, k) ∷ r) c h = on_bool (d == c)
     (λ e. inl (rw (eqb-true d c e, h) refl))
     (λ e. ⊎_elim (λ p. inl (rw p (or_true (f d)))) (λ p. inr (rw e (zero_plus (entry r c) ∙ p))) (any_at f r c h))
-  where
-    or_true : (b : Bool) → (b || true) ≡ true
-    or_true true = refl
-    or_true false = refl
 
 none_at : (f : ℕ → Bool) → ((c : ℕ) → f c ≡ false) → (r : Row) → list_any (λ (d, k). f d) r ≡ false
 none_at f h [] = refl
@@ -63,10 +49,6 @@ passes_somewhere a r b s c h =
     ⊎_elim (λ p. rw p refl)
     (λ p. ⊎_elim (λ q. rw q (or_true (list_any (λ (d, k). passes_at a r b s d) r)))
     (λ q. let f : passes_at a r b s c ≡ false = none_passes a (entry r c) b (entry s c) p q in cc) w) v
-  where
-    or_true : (b : Bool) → (b || true) ≡ true
-    or_true true = refl
-    or_true false = refl
 
 pub passes_nowhere : (a : ℤ) (r : Row) (b : ℤ) (s : Row) → ((c : ℕ) → passes_at a r b s c ≡ false) → comb_passes a r b s ≡ false
 passes_nowhere a r b s h = rw (none_at (passes_at a r b s) h r, none_at (passes_at a r b s) h s) refl

@@ -26,7 +26,7 @@ within_from_get r i c k h e p =
     let q : (c, k) ≡ get_or r i (0, pos 0) = some_same (e ∙ slice_get-get_or r i (0, pos 0) h) in
     subst (λ (x : ℕ × ℤ). IsWithin x.1) (sym q) (AreWithin-at r i p h)
 
-eq_flip : (c d : ℕ) → nat_eq c d ≡ (d == c)
+pub eq_flip : (c d : ℕ) → nat_eq c d ≡ (d == c)
 eq_flip c d = on_bool (d == c) (λ e. rw (e, eqb-true d c e) (eq-eqb c c refl)) (λ e. rw e (ne_eqb c d (λ i. let n = eqb-false d c e in n (sym i))))
 
 pub entry_from_lookup : (r : Row) (n c : ℕ) (k : ℤ) → Rises n r → lookup (nat_eq c) r ≡ Some k → entry r c ≡ k
@@ -58,9 +58,6 @@ insert_last ((d, m) ∷ r) c k p =
 pub put_nonzero : (c : ℕ) (k : ℤ) → k ≢ pos 0 → put c k [] ≡ (c, k) ∷ []
 put_nonzero c (pos n) h = let z : n == 0 ≡ false = ne_eqb n 0 (λ e. h (ap pos e)) in rw z refl
 put_nonzero c (negsuc n) h = refl
-
-pub put_zero : (c : ℕ) (r : Row) → put c (pos 0) r ≡ r
-put_zero c r = refl
 
 Rises-append : (n : ℕ) (r : Row) (c : ℕ) (k : ℤ) → Rises n r → AreBelow c r → n ≤ c → k ≢ pos 0 → Rises n (r ++ (c, k) ∷ [])
 Rises-append n [] c k p q l h = (l, h, tt)

@@ -1,17 +1,17 @@
 -- Where an entry of a row passes the limit.
-use Rattle.std.proofs.Common.{◌≡◌, ◌≢◌, ◌⊎◌, ℕ, zero, suc, ◌+◌, ◌-◌, ◌^◌, ◌<◌, ◌≤◌, ℤ, pos, negsuc, neg_ℤ, ◌+ℤ◌, ◌*ℤ◌, ◌-ℤ◌, [], ◌∷◌, Bool, true, false, ◌||◌, ◌==◌, cond, Result, Ok, Err, refl, sym, ◌∙◌, ap, arith, ⊎_elim}
+use Rattle.std.proofs.Common.{◌≡◌, ℕ, zero, suc, ◌+◌, ◌-◌, ◌^◌, ◌≤◌, ℤ, pos, negsuc, neg_ℤ, ◌+ℤ◌, ◌*ℤ◌, ◌-ℤ◌, [], ◌∷◌, Bool, true, false, ◌||◌, ◌==◌, Result, Ok, Err, refl, sym, ◌∙◌, arith}
 use Rattle.std.specs.Prelude.{unsigned_abs, nat_le, ◌≤ℤ◌, IfOk}
 use Rattle.std.proofs.lemmas.Int.{ints}
-use Rattle.std.proofs.lemmas.Bool.{eqb-true, eqb-false, ne_eqb, le-leb}
+use Rattle.std.proofs.lemmas.Bool.{eqb-true, ne_eqb, le-leb, leb-true}
 use Rattle.cf_num.specs.Limit.{IsWithin}
 use Rattle.cf_linear.specs.declared.refusal.RowFault.{RowFault}
 use Rattle.cf_linear.specs.declared.refusal.RowFault.TheVariants.{Past, NoMemory}
 use Rattle.cf_linear.specs.Rows.{Row, entry, put, comb, Rises, AreWithin, IsRow, passes, sum_passes, passes_at, row_passes, comb_passes}
-use Rattle.cf_linear.specs.Written.{constant_row, plus, below_quotient}
+use Rattle.cf_linear.specs.Written.{constant_row, plus}
 use Rattle.cf_linear.specs.Parts.{Fails, GivesRow, OnlySums}
 use Rattle.cf_linear.proofs.BoolLemmas.{on_bool, zero_plus}
 use Rattle.cf_linear.proofs.RowLemmas.{entry-comb}
-use Rattle.cf_linear.proofs.Canonical.{entry-low, entry-head, Rises-lower, Rises-put}
+use Rattle.cf_linear.proofs.Canonical.{entry-low, entry-head, Rises-put}
 use Rattle.cf_linear.proofs.CombLemmas.{Rises-comb, entry-put}
 use Rattle.cf_linear.proofs.Joining.{passes_somewhere, passes_nowhere}
 
@@ -19,7 +19,7 @@ pub fails_where : (e : RowFault) (b d : Bool) → (b ≡ true → d ≡ true) �
 fails_where Past b d f h = f h
 fails_where NoMemory b d f h = tt
 
-or_false : (a b : Bool) → (a || b) ≡ false → (a ≡ false) × (b ≡ false)
+pub or_false : (a b : Bool) → (a || b) ≡ false → (a ≡ false) × (b ≡ false)
 or_false true b e = cc
 or_false false b e = (refl, e)
 
@@ -28,6 +28,9 @@ true_not_false h k = let n : true ≡ false = sym h ∙ k in cc
 
 pub within_not : (z : ℤ) → IsWithin z → passes z ≡ false
 within_not z h = let e : nat_le (unsigned_abs z) (2 ^ 127 - 1) ≡ true = le-leb (unsigned_abs z) (2 ^ 127 - 1) h in rw e refl
+
+pub within_is : (z : ℤ) → passes z ≡ false → IsWithin z
+within_is z h = on_bool (nat_le (unsigned_abs z) (2 ^ 127 - 1)) (λ e. leb-true (unsigned_abs z) (2 ^ 127 - 1) e) (λ e. true_not_false {b = passes z} (rw e refl) h)
 
 pub entry-within : (r : Row) (n c : ℕ) → Rises n r → AreWithin r → IsWithin (entry r c)
 entry-within [] n c p w = omega arith

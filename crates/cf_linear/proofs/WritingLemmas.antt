@@ -1,14 +1,14 @@
 -- What a written form is made of.
-use Rattle.std.proofs.Common.{◌≡◌, ℕ, ◌+◌, ◌^◌, ◌<◌, ◌≤◌, length, ℤ, pos, negsuc, Result, Ok, Err, List, [], ◌∷◌, ◌++◌, Bool, true, false, ◌||◌, drop, refl, sym, ◌∙◌, ap, arith, append_assoc}
+use Rattle.std.proofs.Common.{◌≡◌, ℕ, ◌+◌, ◌≤◌, length, ℤ, Result, Ok, Err, List, Bool, true, false, drop, refl, sym, ◌∙◌, ap, arith, append_assoc}
 use Rattle.std.proofs.lemmas.List.{append-nil}
 use Rattle.std.proofs.lemmas.Nat.{pow_pos}
 use Rattle.cf_tree.specs.RelTree.{TermTree, term_lit, term_var, term_card, term_neg, term_add, term_sub, term_mul, term_div, term_mod, term_abs}
 use Rattle.cf_linear.specs.declared.refusal.RowFault.{RowFault}
 use Rattle.cf_linear.specs.declared.refusal.RowFault.TheVariants.{Past, NoMemory}
 use Rattle.cf_linear.specs.declared.written.Part.{Part}
-use Rattle.cf_linear.specs.Rows.{Row, comb, row_passes}
+use Rattle.cf_linear.specs.Rows.{Row}
 use Rattle.cf_linear.specs.Layout.{Levels, first_free, set_count}
-use Rattle.cf_linear.specs.Written.{GuardTree, quotient_guard, above_quotient, below_quotient, WrittenTree, alone, from_two, with_quotient, first_sign, signed_by, write, quotient_count}
+use Rattle.cf_linear.specs.Written.{GuardTree, WrittenTree, alone, from_two, with_quotient, first_sign, signed_by, write, quotient_count}
 use Rattle.cf_linear.specs.Parts.{IsPart, Gives, GivesPart, GivesDivided}
 
 signed-next : (b : Bool) (w : WrittenTree) → (signed_by b w).next ≡ w.next
@@ -32,9 +32,6 @@ next_above l t ss q n h e = omega (arith, write-next l t ss q)
 
 pub next_positive : (l : Levels) (t : TermTree) (ss : List Bool) (q n : ℕ) → first_free l ≤ q → n ≡ (write l t ss q).next → 1 ≤ n
 next_positive l t ss q n h e = omega (arith, write-next l t ss q, pow_pos (length l.inputs), pow_pos (set_count l))
-
-pub next_room : (l : Levels) (t : TermTree) (ss : List Bool) (q n k : ℕ) → q + (quotient_count t + k) < 2 ^ 32 → n ≡ (write l t ss q).next → n + k < 2 ^ 32
-next_room l t ss q n k h e = omega (arith, write-next l t ss q)
 
 -- ---- forms made of written parts
 pub leaf_gives : (r : Row) (ss : List Bool) (b : List GuardTree) (next used : ℕ) (y : Result Part RowFault) → GivesPart r next used y → Gives (alone r (drop used ss) next) ss b b y

@@ -12,6 +12,7 @@ use Rattle.cf_linear.specs.Layout.{Levels, number_column}
 use Rattle.cf_linear.specs.Written.{val_at, GuardTree, sign_guard, quotient_guard, GuardsHold, constant_row, plus, write, WrittenTree, first_sign, signed_by, product_by}
 use Rattle.cf_linear.proofs.BoolLemmas.{on_bool}
 use Rattle.cf_linear.proofs.RowLemmas.{value-put, value-comb, entry-comb}
+use Rattle.cf_linear.proofs.ValueLemmas.{one_z}
 
 pub GuardsHold-append : (v : Values) (g h : List GuardTree) → GuardsHold v (g ++ h) → GuardsHold v g × GuardsHold v h
 GuardsHold-append v [] h p = (tt, p)
@@ -78,9 +79,6 @@ plus_absolute z h = omega (arith, ints)
 mul_one : (k : ℤ) → k *ℤ pos 1 ≡ k
 mul_one k = omega (arith, ints)
 
-one_times : (z : ℤ) → pos 1 *ℤ z +ℤ pos 0 ≡ z
-one_times z = omega (arith, ints)
-
 mod_is : (z k q : ℤ) → pos 1 *ℤ z +ℤ neg_ℤ k *ℤ q ≡ z -ℤ k *ℤ q
 mod_is z k q = simp ring (omega (arith, ints))
 
@@ -106,7 +104,7 @@ signed-value v one false w z e g =
     let m : pos 0 ≤ℤ z = rw x at h.1.0 in
     x ∙ plus_absolute z m
 
-other_side : (a b : Bool) → IsTrue (a || b) → a ≡ false → b ≡ true
+pub other_side : (a b : Bool) → IsTrue (a || b) → a ≡ false → b ≡ true
 other_side true b t e = cc
 other_side false true t e = refl
 other_side false false t e = cc
@@ -136,12 +134,12 @@ write-value l v one (term_mul a b) ss q p g =
 write-value l v one (term_div a k) ss q p g =
     let w = write l a ss q in
     let h = GuardsHold-append v w.guards (quotient_guard w.next w.row k ∷ []) g in
-    value-put v w.next (pos 1) [] ∙ one_times (v w.next) ∙ h.1.0 ∙ ap (λ z. quotient z k) (write-value l v one a ss q p h.0)
+    value-put v w.next (pos 1) [] ∙ one_z (v w.next) ∙ h.1.0 ∙ ap (λ z. quotient z k) (write-value l v one a ss q p h.0)
 write-value l v one (term_mod a k) ss q p g =
     let w = write l a ss q in
     let h = GuardsHold-append v w.guards (quotient_guard w.next w.row k ∷ []) g in
     let x = write-value l v one a ss q p h.0 in
-    let f : value v (put w.next (pos 1) []) ≡ quotient (val_at l v a) k = value-put v w.next (pos 1) [] ∙ one_times (v w.next) ∙ h.1.0 ∙ ap (λ z. quotient z k) x in
+    let f : value v (put w.next (pos 1) []) ≡ quotient (val_at l v a) k = value-put v w.next (pos 1) [] ∙ one_z (v w.next) ∙ h.1.0 ∙ ap (λ z. quotient z k) x in
     value-comb v (pos 1) w.row (neg_ℤ k) (put w.next (pos 1) []) ∙ ap (λ z. pos 1 *ℤ z +ℤ neg_ℤ k *ℤ value v (put w.next (pos 1) [])) x ∙ ap (λ y. pos 1 *ℤ val_at l v a +ℤ neg_ℤ k *ℤ y) f ∙ mod_is (val_at l v a) k (quotient (val_at l v a) k)
 write-value l v one (term_abs a) ss q p g =
     let w = write l a ss q in

@@ -3,7 +3,7 @@ use Rattle.std.specs.Prelude.{ℕ, ◌*◌, ◌-◌, ◌^◌, nat_lt, true, List
 use Rattle.std.specs.List.{fold}
 use Rattle.cf_tree.specs.declared.base.Base.{Base}
 use Rattle.cf_tree.specs.RelTree.{RelTree}
-use Rattle.cf_tree.specs.CodeTree.{CodeTree, code_solve, ArmTree, arms_of}
+use Rattle.cf_tree.specs.CodeTree.{ArmTree}
 use Rattle.cf_linear.specs.declared.refusal.LimitKind.TheVariants.{Sets, Cases}
 use Rattle.cf_linear.specs.declared.refusal.Refusal.{Refusal}
 use Rattle.cf_linear.specs.declared.refusal.Refusal.TheVariants.{Past, Limit}
@@ -26,10 +26,6 @@ arm_of_case lim l m = arm l (made_of m (run lim m))
 -- the arms of a choose, one for each case in order
 unfoldable pub arms : List Base → List Base → RelTree → List ArmTree
 arms scope outputs rel = let l = levels_of scope outputs rel in map (arm_of_case limits l) (matrices l rel)
-
--- the code of choose number n
-unfoldable pub choose_code : ℕ → List Base → List Base → RelTree → CodeTree
-choose_code n scope outputs rel = code_solve n (arms_of (arms scope outputs rel))
 
 -- ---- the first refusal
 pub record ChooseLimits : Type 0 where

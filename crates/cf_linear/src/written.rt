@@ -3,7 +3,7 @@ ghost use Rattle.std.specs.Prelude.{◌≡◌, [], ◌+◌, ◌≤◌, ◌<◌, 
 ghost use Rattle.cf_num.specs.Limit.{IsWithin};
 ghost use Rattle.cf_tree.specs.RelView.{set_tree, term_tree};
 ghost use Rattle.cf_tree.specs.Relation.{IsLinearTerm, is_fixed, IsDivisor};
-ghost use Rattle.cf_linear.specs.Rows.{Values, value, put, comb};
+ghost use Rattle.cf_linear.specs.Rows.{Values, IsRow, value, put, comb};
 ghost use Rattle.cf_linear.specs.Layout.{set_count, first_free, covers, region_row};
 ghost use Rattle.cf_linear.specs.Written.{first_sign, other_signs, plus, above_quotient, below_quotient, product_by, write, val_at, GuardsHold, IsPlaced, abs_count, quotient_count};
 ghost use Rattle.cf_linear.specs.Parts.{Gives, GivesRow, GivesPart, GivesDivided, GivesAbsolute, GivesQuotient, GivesSigned, Tested};
@@ -64,6 +64,40 @@ pub fn row_of(
         guards,
         next: part.next,
     })
+}
+
+/// What is left of the row where the column holds its quotient by `k`. Past exactly where an entry of
+/// the answer passes the limit.
+pub fn above_quotient(alloc: Global, column: u32, of: &Row, k: &i128) -> Result<Row, RowFault>
+    requires { IsDivisor k.now }
+    ensures gives { GivesRow (above_quotient column of.now k.now) result }
+    ensures rows { result ≡ Err RowFault.Past → IsRow of.now }
+{
+    let quotient = Row::unit(alloc, column, 1)?;
+    of.sum(alloc, 1, &quotient, neg(*k))
+}
+
+/// The row that is at least 0 where the column is at least the quotient of the row by `k`. Past exactly
+/// where an entry of the answer passes the limit.
+pub fn below_quotient(alloc: Global, column: u32, of: &Row, k: &i128) -> Result<Row, RowFault>
+    requires column { 1 ≤ column }
+    requires divisor { IsDivisor k.now }
+    ensures { GivesRow (below_quotient column of.now k.now) result }
+{
+    let quotient = Row::unit(alloc, column, 1)?;
+    match of.sum(alloc, -1, &quotient, *k) {
+        Ok(turned) => plus(alloc, &turned, *k - 1),
+        Err(fault) => Err(fault),
+    }
+}
+
+/// The row with `n` more at the constant. Past exactly where an entry of the answer passes the limit.
+pub fn plus(alloc: Global, row: &Row, n: i128) -> Result<Row, RowFault>
+    requires { IsWithin n }
+    ensures { GivesRow (plus row.now n) result }
+{
+    let constant = Row::unit(alloc, 0, n)?;
+    added(alloc, row, &constant)
 }
 
 // What is written of a form: its row, the next free column, and how many signs are used.
@@ -305,15 +339,6 @@ fn add_quotient(
     Ok(above)
 }
 
-// What is left of the row where the column holds its quotient by `k`.
-fn above_quotient(alloc: Global, column: u32, of: &Row, k: &i128) -> Result<Row, RowFault>
-    requires { IsDivisor k.now }
-    ensures { GivesRow (above_quotient column of.now k.now) result }
-{
-    let quotient = Row::unit(alloc, column, 1)?;
-    of.sum(alloc, 1, &quotient, neg(*k))
-}
-
 // Past exactly where an entry passes the limit of the row that is at least 0 where the column is at
 // least the quotient.
 fn test_below(alloc: Global, column: u32, of: &Row, k: &i128) -> Result<(), RowFault>
@@ -321,20 +346,7 @@ fn test_below(alloc: Global, column: u32, of: &Row, k: &i128) -> Result<(), RowF
     requires divisor { IsDivisor k.now }
     ensures { Tested (below_quotient column of.now k.now) result }
 {
-    let quotient = Row::unit(alloc, column, 1)?;
-    match of.sum(alloc, -1, &quotient, *k) {
-        Ok(turned) => test_with(alloc, &turned, *k - 1),
-        Err(fault) => Err(fault),
-    }
-}
-
-// Past exactly where an entry of the row with `n` more at the constant passes the limit.
-fn test_with(alloc: Global, row: &Row, n: i128) -> Result<(), RowFault>
-    requires n_in { IsWithin n }
-    ensures { Tested (plus row.now n) result }
-{
-    let constant = Row::unit(alloc, 0, n)?;
-    added(alloc, row, &constant)?;
+    below_quotient(alloc, column, of, k)?;
     Ok(())
 }
 

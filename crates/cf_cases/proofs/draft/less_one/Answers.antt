@@ -4,8 +4,8 @@ use Rattle.std.proofs.lemmas.Int.{ints}
 use Rattle.cf_linear.specs.Rows.{entry, row_passes}
 use Rattle.cf_linear.specs.Written.{plus}
 use Rattle.cf_linear.specs.Cases.{less}
-use Rattle.cf_linear.proofs.PassingLemmas.{true_not_false}
-use Rattle.cf_cases.proofs.LessLaws.{lower_not, less-plus, less_past, fails_more}
+use Rattle.cf_linear.proofs.PassingLemmas.{true_not_false, fails_where}
+use Rattle.cf_cases.proofs.LessLaws.{lower_not, less-plus, less_past}
 use Rattle.cf_cases.proofs.draft.less_one.Goals as goal
 
 pub returns-in-Ok : goal.returns-in-Ok
@@ -16,7 +16,7 @@ returns-in-Err c =
     let v = c.entry.ensures.value in
     let t = c.if-entry-gt0.true in
     let p : pos 1 ≤ℤ entry c.args.left.now 0 = omega (arith, ints) in
-    fails_more c.in-Err.fault (row_passes (plus c.args.left.now (negsuc 0))) (row_passes (plus (less c.args.left.now c.args.right.now) (negsuc 0)))
+    fails_where c.in-Err.fault (row_passes (plus c.args.left.now (negsuc 0))) (row_passes (plus (less c.args.left.now c.args.right.now) (negsuc 0)))
     (λ h. true_not_false h (lower_not c.args.left.now c.entry.ensures.is_row p)) c.in-Err.ensures
 
 pub returns-in-Err-less : goal.returns-in-Err-less
@@ -25,5 +25,5 @@ returns-in-Err-less c =
     let f = c.if-entry-gt0.false in
     let n : entry c.args.left.now 0 ≤ℤ pos 0 = omega (arith, ints) in
     let r = c.in-Err-less.ensures.rows in
-    fails_more c.in-Err-less.fault (row_passes (less c.args.left.now c.args.right.now)) (row_passes (plus (less c.args.left.now c.args.right.now) (negsuc 0)))
+    fails_where c.in-Err-less.fault (row_passes (less c.args.left.now c.args.right.now)) (row_passes (plus (less c.args.left.now c.args.right.now) (negsuc 0)))
     (λ h. less_past c.args.left.now c.args.right.now r.0 r.1 n h) c.in-Err-less.ensures.gives

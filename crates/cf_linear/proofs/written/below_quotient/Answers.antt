@@ -1,7 +1,7 @@
 use Rattle.std.proofs.Common.{pos, negsuc, ◌-ℤ◌}
 use Rattle.cf_linear.proofs.MapLemmas.{back}
 use Rattle.cf_linear.proofs.PassingLemmas.{only_column, minus_one, half_past, fails_where, less_within}
-use Rattle.cf_linear.proofs.written.test_below.Goals as goal
+use Rattle.cf_linear.proofs.written.below_quotient.Goals as goal
 
 pub sum-requires-clause-only : goal.sum-requires-clause-only
 sum-requires-clause-only c p q =
@@ -10,7 +10,7 @@ sum-requires-clause-only c p q =
 pub returns-in-Ok : goal.returns-in-Ok
 returns-in-Ok c =
     let e = rw (back c.args.k.now c.requires.divisor.1, c.in_ok-quotient.ensures) at c.in-Ok.ensures.gives.0 in
-    rw (back c.args.k.now c.requires.divisor.1, back (c.args.k.now -ℤ pos 1) (less_within c.args.k.now c.requires.divisor.0 c.requires.divisor.1), e) at c.test_with.ensures
+    rw (back c.args.k.now c.requires.divisor.1, back (c.args.k.now -ℤ pos 1) (less_within c.args.k.now c.requires.divisor.0 c.requires.divisor.1), e) at c.plus.ensures
 
 pub returns : goal.returns
 returns c =
