@@ -1,5 +1,5 @@
 -- A target that was built keeps what it promises.
-use Rattle.std.proofs.Common.{◌≡◌, ℕ, zero, suc, ◌+◌, ◌≤◌, ◌<◌, Some, None, List, [], ◌∷◌, ◌++◌, length, map, reverse, slice_get, slice_index, get_or, Err, All, refl, sym, ap, ◌∙◌, subst, arith, length-append}
+use Rattle.std.proofs.Common.{◌≡◌, ℕ, zero, suc, ◌+◌, ◌≤◌, ◌<◌, Some, None, List, [], ◌∷◌, ◌++◌, length, map, reverse, slice_get, slice_index, get_or, Err, All, Contains, refl, sym, ap, ◌∙◌, subst, arith, length-append}
 use Rattle.std.proofs.lemmas.List.{reverse-append, map-append, length-map}
 use Rattle.std.proofs.lemmas.Option.{slice_get_within, slice_get_read, slice_get-map}
 use Rattle.std.specs.Option.{option_map}
@@ -25,11 +25,11 @@ use Rattle.cf_type.specs.Walk.{side_of}
 use Rattle.cf_build.specs.declared.chooses.Choose.{Choose}
 use Rattle.cf_build.specs.declared.fault.BuildFault.{BuildFault}
 use Rattle.cf_build.specs.declared.fault.BuildFault.TheVariants as faults
-use Rattle.cf_build.specs.Built.{IsBuilt, Tells}
+use Rattle.cf_build.specs.Built.{IsBuilt, Tells, lowered_def}
 use Rattle.cf_build.specs.Codes.{called, code_of, codes_behind, solved_in}
 use Rattle.cf_build.specs.Questions.{Question, questions, questions_all, all_questions, limit_of, IsFirstRefused}
 use Rattle.cf_build.specs.Shifted.{HasLevels}
-use Rattle.cf_build.specs.Solves.{question_of, questions_of, HasNoMatch, HaveNoMatch, IsAsked, AreSolved, TellsFault}
+use Rattle.cf_build.specs.Solves.{question_of, questions_of, HasNoMatch, HaveNoMatch, IsAsked, AreSolved, IsSolveOf, TellsFault}
 use Rattle.cf_build.proofs.CodeLists.{called_is}
 use Rattle.cf_build.proofs.Meanings.{sides_have}
 use Rattle.cf_build.proofs.Programs.{Knows, program_known, lowered_same, map_reverse}
@@ -77,6 +77,11 @@ pub questions_same : (ds : List DefTree) → All (λ d. HasNoMatch d.body) ds �
 questions_same [] p = refl
 questions_same (d ∷ ds) p =
     rw (lowered_same d.body (All-head (λ d. HasNoMatch d.body) d ds p), questions_same ds (All-tail (λ d. HasNoMatch d.body) d ds p)) refl
+
+lowered_defs : (ds : List DefTree) → All (λ d. HasNoMatch d.body) ds → map lowered_def ds ≡ ds
+lowered_defs [] p = refl
+lowered_defs (d ∷ ds) p =
+    rw (lowered_same d.body (All-head (λ d. HasNoMatch d.body) d ds p), lowered_defs ds (All-tail (λ d. HasNoMatch d.body) d ds p)) refl
 
 -- ---- each choose may be solved
 abbrev MayBeSolved : Question → Type 0
@@ -180,12 +185,11 @@ module _ (ds : List Def) (main : ℕ) (t : IsTypedProgram (map def_tree ds) main
   first_refused cs n r e h = rw (questions_same (map def_tree ds) plain, ← e) h
 
   module _ (ss : List (ℕ × CodeTree)) (s : AreSolved (questions_of (map def_tree ds)) ss) (codes : List CodeTree) (same : codes ≡ codes_behind (solved_in ss) [] (map def_tree ds)) (l : All HasLevels codes) where
+    solve : (q : Question) → Contains (all_questions (map def_tree ds)) q → IsSolveOf q (solved_in ss q.number)
+    solve q c = solved_found (questions_of (map def_tree ds)) ss s (rw (program_numbers (map def_tree ds) plain) at t.distinct) q (rw (questions_same (map def_tree ds) plain) at c)
+
     known : Knows (map def_tree ds) (reverse (map def_tree ds)) codes (depths (map def_tree ds))
-    known =
-        rw same
-        (program_known (solved_in ss) (map def_tree ds) t.typed plain
-        (λ q c. solved_found (questions_of (map def_tree ds)) ss s (rw (program_numbers (map def_tree ds) plain) at t.distinct) q (rw (questions_same (map def_tree ds) plain) at c))
-        (rw same at l))
+    known = rw same (program_known (solved_in ss) (map def_tree ds) t.typed plain solve (rw same at l))
 
     pub main_typed : (d : DefTree) → slice_get (map def_tree ds) main ≡ Some d → IsTypedCode (called codes main) (bases_of d.params) d.results
     main_typed d e = known.typed main (bases_of d.params) d.results (known.takes main d e) (Some d.results) refl
@@ -201,6 +205,11 @@ module _ (ds : List Def) (main : ℕ) (t : IsTypedProgram (map def_tree ds) main
             known.several main (bases_of d.params) d.results takes,
           );
           solved = λ q m. All-contains (λ x. limit_of x ≡ None) (questions_of (map def_tree ds)) q (solved_limits (questions_of (map def_tree ds)) ss s) (rw (questions_same (map def_tree ds) plain) at m);
+          unfolded = record {
+            solves = solved_in ss;
+            solve = solve;
+            is = rw (lowered_defs (map def_tree ds) plain, ← same) c;
+          };
           allowed = λ env h. rw (c, ← map_reverse (map def_tree ds)) (known.fine main (bases_of d.params) d.results takes env (rw ps at h)).0;
         }
 
