@@ -6,7 +6,6 @@ pub mod DropLaws
 pub mod DropLemmas
 pub mod ExactLaws
 pub mod FormedAgain
-pub mod FourColumns
 pub mod ListLemmas
 pub mod OwesLemmas
 pub mod PartLemmas

@@ -6,8 +6,6 @@ mod dropping;
 mod parts;
 mod searching;
 mod selection;
-#[cfg(test)]
-mod tests;
 
 pub use crate::cleaning::{Cleaned, clean};
 pub use crate::dropping::{Dropped, drop_output};

@@ -207,7 +207,7 @@ module _ (ds : List Def) (main : ℕ) (t : IsTypedProgram (map def_tree ds) main
           solved = λ q m. All-contains (λ x. limit_of x ≡ None) (questions_of (map def_tree ds)) q (solved_limits (questions_of (map def_tree ds)) ss s) (rw (questions_same (map def_tree ds) plain) at m);
           unfolded = record {
             solves = solved_in ss;
-            solve = solve;
+            solve = λ q m. (solve q m).code;
             is = rw (lowered_defs (map def_tree ds) plain, ← same) c;
           };
           allowed = λ env h. rw (c, ← map_reverse (map def_tree ds)) (known.fine main (bases_of d.params) d.results takes env (rw ps at h)).0;

@@ -19,7 +19,7 @@ use Rattle.cf_type.specs.Walk.{side_of, result_of}
 use Rattle.cf_build.specs.Codes.{binary_code, joined_code, call_code, code_of, codes_of_all}
 use Rattle.cf_build.specs.Questions.{Question, questions, questions_all}
 use Rattle.cf_build.specs.Shifted.{shifted}
-use Rattle.cf_build.specs.Solves.{HasNoMatch, HaveNoMatch, IsSolveOf}
+use Rattle.cf_build.specs.Solves.{HasNoMatch, HaveNoMatch, IsSolveOf, question_arms}
 use Rattle.cf_build.proofs.ShiftedTyping.{shifted_has}
 
 given : (arms : ArmTrees) (asked : Option (List Base)) (bs : List Base) → HasArms arms → Meets asked bs → IsGiven arms asked bs
@@ -73,7 +73,7 @@ module _ (calls solves : ℕ → CodeTree) (takes : ℕ → List Base → List B
   solve_typed : (scope bs : List Base) (asked : Option (List Base)) (q : Question) → IsSolveOf q (solves q.number) → q.scope ≡ scope → bs ≡ q.outputs → Meets asked bs → CodeHas (shifted 0 (solves q.number)) scope asked bs
   solve_typed scope bs asked q s e f m =
       shifted_has [] scope (solves q.number) asked bs
-      (rw (s.code, ← e, f) (given s.arms asked q.outputs s.solved.some (rw f at m), s.solved.typed))
+      (rw (s.code, ← e, f) (given (question_arms q) asked q.outputs s.solved.some (rw f at m), s.solved.typed))
 
   call_typed : (f : ℕ) (cs : CodeTrees) (scope ps rs : List Base) (asked : Option (List Base)) (n : ℕ) → n ≡ length scope → takes f ps rs → Meets asked rs → count cs ≡ length ps → CodePartsHave cs scope None ps →
       CodeHas (call_code n cs (shifted n (calls f))) scope asked rs

@@ -8,7 +8,7 @@ use Rattle.cf_tree.specs.declared.raw.BinOp.{BinOp}
 use Rattle.cf_tree.specs.declared.raw.BinOp.TheVariants.{Add, Sub, Mul, And, Or, Union, Inter, Diff, Subset, Compare}
 use Rattle.cf_tree.specs.Allowed.{AllowedThen, goes_on, Gives, Chosen, operation, AllowedRight, AllowedIn, AllowedAll}
 use Rattle.cf_tree.specs.declared.base.Order.{Order}
-use Rattle.cf_tree.specs.CodeTree.{CodeTree, code_var, code_neg, code_max, CodeTrees, no_codes, code_more}
+use Rattle.cf_tree.specs.CodeTree.{CodeTree, code_var, code_neg, code_max, CodeTrees, no_codes, code_more, arms_of}
 use Rattle.cf_tree.specs.Numbers.{absolute}
 use Rattle.std.specs.Ordering.{int_eq}
 use Rattle.cf_tree.specs.ExprTree.{ExprTree, expr_lit, expr_truth, expr_var, expr_set_of, expr_tuple, expr_neg, expr_not, expr_abs, expr_binary, expr_divides, expr_div, expr_mod, expr_card, expr_if, expr_call, expr_let, expr_choose, expr_match, ExprTrees, no_exprs, expr_more}
@@ -24,6 +24,7 @@ use Rattle.cf_choose.proofs.MakingLemmas.{length_have, value_at-end}
 use Rattle.cf_type.specs.Names.{bases_of}
 use Rattle.cf_type.specs.TypedProgram.{HasBases, AllHave, PartsHave, AreSides}
 use Rattle.cf_type.specs.Walk.{side_of, result_of}
+use Rattle.cf_linear.specs.Chooses.{arms}
 use Rattle.cf_build.specs.Codes.{two, binary_code, joined_code, call_code, code_of, codes_of_all}
 use Rattle.cf_build.specs.Questions.{Question, questions, questions_all}
 use Rattle.cf_build.specs.Shifted.{shifted}
@@ -172,7 +173,7 @@ module _ (calls solves : ℕ → CodeTree) (takes : ℕ → List Base → List B
   choose_fine : (m : ℕ) (scope outputs : List Base) (rel : RelTree) (env : List Value) → HaveBases scope env →
       IsSolveOf (record { number = m; scope = scope; outputs = outputs; relation = rel }) (solves m) → Fine (Chosen m (Sol outputs rel env)) outputs (shifted 0 (solves m)) env
   choose_fine m scope outputs rel env h s =
-      let chosen : Chosen m (Sol outputs rel env) (means (solves m) env) = rw s.code (solve_chosen m scope outputs rel s.arms s.solved.solves s.solved.typed env h) in
+      let chosen : Chosen m (Sol outputs rel env) (means (solves m) env) = rw s.code (solve_chosen m scope outputs rel (arms_of (arms scope outputs rel)) s.solved.solves s.solved.typed env h) in
       rw (shifted_means [] env (solves m)) (chosen, chosen_keeps m outputs rel env (means (solves m) env) chosen)
 
   call_means : (n : ℕ) (c : CodeTree) (env xs : List Value) → n ≡ length env → means (shifted n c) (env ++ xs) ≡ means c xs

@@ -14,7 +14,7 @@ use Rattle.cf_build.specs.declared.fault.BuildFault.{BuildFault}
 use Rattle.cf_build.specs.declared.fault.BuildFault.TheVariants.{Choose, NoMemory}
 use Rattle.cf_build.specs.Codes.{called, codes_behind}
 use Rattle.cf_build.specs.Questions.{Question, limit_of, all_questions, IsFirstRefused}
-use Rattle.cf_build.specs.Solves.{IsSolveOf}
+use Rattle.cf_build.specs.Solves.{solve_of}
 
 -- what the functions of a program allow a call of function number f to do
 abbrev pub SourceAllows : List DefTree → ℕ → List Value → Outcome → Type 0
@@ -24,10 +24,10 @@ SourceAllows defs f = ProgramAllows (map (λ d. d.body) defs) f
 abbrev pub lowered_def : DefTree → DefTree
 lowered_def d = record { name = d.name; params = d.params; results = d.results; body = lowered d.body }
 
--- the code is main's body with its calls unfolded, and each choose replaced by a solve whose arms solve it
+-- the code is main's body with its calls unfolded, and each choose replaced by the solve with the arms of its cases
 pub record IsUnfolded (defs : List DefTree) (main : ℕ) (code : CodeTree) : Type 0 where
   pub solves : ℕ → CodeTree
-  pub solve : (q : Question) → Contains (all_questions defs) q → IsSolveOf q (solves q.number)
+  pub solve : (q : Question) → Contains (all_questions defs) q → solves q.number ≡ solve_of q
   pub is : code ≡ called (codes_behind solves [] (map lowered_def defs)) main
 
 -- no choose of the program is refused, and the target has main's parameters and results, a spelling, main's unfolded code, and in each environment

@@ -1,6 +1,6 @@
 -- Chooses that may be solved, and what their codes keep.
 use Rattle.std.specs.Prelude.{ℕ, ◌≤◌, ◌<◌, ◌≡◌, List, [], ◌∷◌, ◌++◌, length, Some, None, Result, Ok, Err, All}
-use Rattle.cf_tree.specs.CodeTree.{CodeTree, ArmTrees, code_solve}
+use Rattle.cf_tree.specs.CodeTree.{CodeTree, ArmTrees, code_solve, arms_of}
 use Rattle.cf_tree.specs.ExprTree.{ExprTree, expr_lit, expr_truth, expr_var, expr_set_of, expr_tuple, expr_neg, expr_not, expr_abs, expr_binary, expr_divides, expr_div, expr_mod, expr_card, expr_if, expr_call, expr_let, expr_choose, expr_match, ExprTrees, no_exprs, expr_more}
 use Rattle.cf_tree.specs.Relation.{IsTyped, IsLinear}
 use Rattle.cf_tree.specs.Spelled.{IsSpelled}
@@ -9,6 +9,7 @@ use Rattle.cf_tree.specs.CodeView.{code_tree}
 use Rattle.cf_tree.specs.DefView.{DefTree}
 use Rattle.cf_tree.specs.RelView.{rel_tree}
 use Rattle.cf_tree.specs.declared.code.Code.{Code}
+use Rattle.cf_linear.specs.Chooses.{arms}
 use Rattle.cf_linear.specs.declared.refusal.Refusal.{Refusal}
 use Rattle.cf_choose.specs.declared.fault.ChooseFault.{ChooseFault}
 use Rattle.cf_choose.specs.declared.fault.ChooseFault.TheVariants.{Refused, NoMemory}
@@ -25,11 +26,17 @@ pub record IsAsked (q : Question) : Type 0 where
   pub typed : IsTyped (q.scope ++ q.outputs) q.relation
   pub linear : IsLinear q.relation
 
--- a solve whose arms solve the choose
+-- the arms of a choose, one for each case of its relation
+abbrev pub question_arms : Question → ArmTrees
+question_arms q = arms_of (arms q.scope q.outputs q.relation)
+
+abbrev pub solve_of : Question → CodeTree
+solve_of q = code_solve q.number (question_arms q)
+
+-- the solve of the choose, whose arms solve it
 pub record IsSolveOf (q : Question) (c : CodeTree) : Type 0 where
-  pub arms : ArmTrees
-  pub code : c ≡ code_solve q.number arms
-  pub solved : ArmsSolve q.scope q.outputs q.relation arms
+  pub code : c ≡ solve_of q
+  pub solved : ArmsSolve q.scope q.outputs q.relation (question_arms q)
   pub spelled : IsSpelled c
 
 -- the codes of chooses in order, none of which is refused

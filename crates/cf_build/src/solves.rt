@@ -1,7 +1,8 @@
 //! Solving all chooses of a program.
 ghost use Rattle.std.specs.Prelude.{◌≡◌, ◌≤◌, IfOk, IfErr, map, length, take, All};
-ghost use Rattle.cf_tree.specs.CodeView.{code_tree};
+ghost use Rattle.cf_tree.specs.CodeView.{arm_tree, code_tree};
 ghost use Rattle.cf_tree.specs.RelView.{rel_tree};
+ghost use Rattle.cf_linear.specs.Chooses.{arms};
 ghost use Rattle.cf_build.specs.Codes.{choose_code};
 ghost use Rattle.cf_build.specs.Questions.{IsFirstRefused};
 ghost use Rattle.cf_build.specs.Solves.{question_of, IsAsked, IsSolveOf, AreSolved, TellsOne, TellsFault, IsNext};
@@ -102,6 +103,7 @@ fn solve_one(alloc: Global, choose: &Choose) -> Result<Code, ChooseFault>
 fn solve_code(alloc: Global, number: u32, solved: &Solved) -> Result<Code, NoMemory>
     requires positive { 1 ≤ number }
     requires several { 1 ≤ length solved.now.outputs.items }
+    requires arms { map arm_tree solved.now.arms.items ≡ arms solved.now.scope.items solved.now.outputs.items (rel_tree solved.now.rel) }
     ensures { IfOk result (λ c. IsSolveOf (record { number = number; scope = solved.now.scope.items; outputs = solved.now.outputs.items; relation = rel_tree solved.now.rel }) (code_tree c)) }
 {
     solved.code(alloc, number)

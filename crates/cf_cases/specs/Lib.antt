@@ -2,4 +2,3 @@ pub mod Counts
 pub mod Drafts
 pub mod Holding
 pub mod Picking
-pub mod Tests

@@ -7,5 +7,3 @@ pub mod count;
 mod draft;
 mod regions;
 mod signs;
-#[cfg(test)]
-mod tests;

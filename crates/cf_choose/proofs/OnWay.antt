@@ -1,5 +1,5 @@
 -- The cases one after the other: which are left, and what those before them made.
-use Rattle.std.proofs.Common.{◌≡◌, List, [], ◌∷◌, ◌++◌, Some, None, Ok, Err, Vec, All, map, ap, ◌∙◌, append_assoc}
+use Rattle.std.proofs.Common.{◌≡◌, List, [], ◌∷◌, ◌++◌, Some, None, Ok, Err, Vec, All, map, ap, subst, ◌∙◌, append_assoc}
 use Rattle.std.specs.Global.{Global}
 use Rattle.std.proofs.lemmas.List.{map-append}
 use Rattle.cf_tree.specs.declared.base.Base.{Base}
@@ -10,7 +10,8 @@ use Rattle.cf_tree.specs.Relation.{IsTyped, IsLinear}
 use Rattle.cf_linear.specs.declared.refusal.Refusal.{Refusal}
 use Rattle.cf_linear.specs.declared.system.Layout.{Layout}
 use Rattle.cf_linear.specs.declared.system.System.{System}
-use Rattle.cf_linear.specs.Chooses.{arm_of_case, first_refused, limit}
+use Rattle.cf_linear.specs.Chooses.{arm_of_case, arms, first_refused, limit}
+use Rattle.cf_linear.specs.Cases.{matrices}
 use Rattle.cf_linear.specs.Layout.{Levels, levels_of}
 use Rattle.cf_linear.specs.Matrices.{Matrix}
 use Rattle.cf_linear.specs.Stages.{refused, run, limits}
@@ -63,6 +64,10 @@ module _ (scope outputs : List Base) (rel : RelTree) (lay : Layout) (same : plai
 
   pub solve_within : (v : Vec Arm Global) → ArmsAre (plain_levels lay) rel (Ok v) → limit scope outputs rel ≡ None
   solve_within v a = no_limit scope outputs rel (plain_levels lay) same counts a.0 a.1
+
+  pub solve_arms : (v : Vec Arm Global) → ArmsAre (plain_levels lay) rel (Ok v) → map arm_tree v.items ≡ arms scope outputs rel
+  unfolding arms
+  solve_arms v a = subst (λ l. map arm_tree v.items ≡ map (arm_of_case limits l) (matrices l rel)) same a.2
 
   pub solve_refused : (r : Refusal) → ArmsAre (plain_levels lay) rel (Err (Refused r)) → limit scope outputs rel ≡ Some r
   solve_refused r a = refused_later scope outputs rel (plain_levels lay) same counts ∙ a

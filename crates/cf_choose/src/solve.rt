@@ -96,6 +96,7 @@ fn solved(
     ensures scope { IfOk result (λ s. s.scope.items ≡ scope.now) }
     ensures outputs { IfOk result (λ s. s.outputs.items ≡ outputs.now) }
     ensures relation { IfOk result (λ s. rel_tree s.rel ≡ rel_tree rel.now) }
+    ensures arms { IfOk result (λ s. s.arms.items ≡ arms.items) }
 {
     let scope = Vec::from_slice(alloc, scope)?;
     let outputs = Vec::from_slice(alloc, outputs)?;

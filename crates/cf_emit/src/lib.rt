@@ -4,6 +4,4 @@
 mod code;
 mod list;
 pub mod print;
-#[cfg(test)]
-mod tests;
 mod word;

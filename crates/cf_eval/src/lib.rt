@@ -5,14 +5,10 @@ mod braces;
 pub mod fault;
 mod given;
 pub mod line;
-#[cfg(test)]
-mod line_tests;
 mod number;
 mod operate;
 pub mod reply;
 pub mod run;
 mod runs;
 mod search;
-#[cfg(test)]
-mod tests;
 pub mod value;

@@ -13,8 +13,6 @@ mod mem_source;
 mod read;
 mod segments;
 mod sure;
-#[cfg(test)]
-mod tests;
 mod traits;
 mod write;
 

@@ -11,6 +11,3 @@ mod token;
 pub use fault::LexFault;
 pub use lexer::tokens;
 pub use token::{Token, TokenKind, TokenList};
-
-#[cfg(test)]
-mod tests;

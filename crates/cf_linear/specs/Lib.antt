@@ -13,4 +13,3 @@ pub mod Views
 pub mod Relations
 pub mod Keep
 pub mod Solved
-pub mod Tests

@@ -7,6 +7,4 @@ pub mod refusal;
 pub mod row;
 pub mod substitute;
 pub mod system;
-#[cfg(test)]
-mod tests;
 pub mod written;

@@ -13,6 +13,3 @@ mod words;
 pub use cf_reader::fault::ParseFault;
 pub use cf_target::target;
 pub use source::program;
-
-#[cfg(test)]
-mod tests;

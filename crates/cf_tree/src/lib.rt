@@ -4,8 +4,6 @@
 pub mod base;
 pub mod code;
 pub mod copy;
-#[cfg(test)]
-mod copy_tests;
 pub mod expr;
 mod measure;
 pub mod memory;

@@ -1,9 +1,10 @@
-use Rattle.std.proofs.Common.{subst, sym}
+use Rattle.std.proofs.Common.{subst, sym, ap, map, ◌∙◌}
+use Rattle.cf_tree.specs.CodeView.{arm_tree}
 use Rattle.cf_tree.specs.RelView.{rel_tree}
 use Rattle.cf_cases.specs.Holding.{IsPlacedRel}
 use Rattle.cf_cases.proofs.PlacedLaws.{placed-rel}
 use Rattle.cf_choose.proofs.DoneLemmas.{numbers_layout}
-use Rattle.cf_choose.proofs.OnWay.{solve_ok, solve_within, tells_refused, tells_count}
+use Rattle.cf_choose.proofs.OnWay.{solve_ok, solve_within, solve_arms, tells_refused, tells_count}
 use Rattle.cf_choose.proofs.solve.solve.Goals as goal
 
 pub returns-in-Err-counts : goal.returns-in-Err-counts
@@ -32,4 +33,7 @@ returns-in-Ok-solved c = record {
   same_outputs = c.in-Ok-solved.ensures.outputs;
   same_relation = c.in-Ok-solved.ensures.relation;
   within = solve_within c.args.scope.now c.args.outputs.now (rel_tree c.args.rel.now) c.in-Ok.layout c.in-Ok.ensures c.requires.outputs c.in_default.ensures c.in-Ok-arms.arms c.in-Ok-arms.ensures;
+  arms_are =
+      ap (map arm_tree) c.in-Ok-solved.ensures.arms ∙
+      solve_arms c.args.scope.now c.args.outputs.now (rel_tree c.args.rel.now) c.in-Ok.layout c.in-Ok.ensures c.requires.outputs c.in_default.ensures c.in-Ok-arms.arms c.in-Ok-arms.ensures;
 }

@@ -1,10 +1,10 @@
-use crate::base::{Base, Order, Place, Text};
-use crate::code::{Arm, Code, Item};
-use crate::expr::{Def, Expr, MatchArm};
-use crate::memory::NoMemory;
-use crate::raw::{BinOp, Param, Part, Program, Raw, RawArm, RawDef, RawNode};
-use crate::rel::{Rel, SetTerm, Term};
-use crate::target::{Pre, RawTarget, Target};
+use cf_tree::base::{Base, Order, Place, Text};
+use cf_tree::code::{Arm, Code, Item};
+use cf_tree::expr::{Def, Expr, MatchArm};
+use cf_tree::memory::NoMemory;
+use cf_tree::raw::{BinOp, Param, Part, Program, Raw, RawArm, RawDef, RawNode};
+use cf_tree::rel::{Rel, SetTerm, Term};
+use cf_tree::target::{Pre, RawTarget, Target};
 use std::alloc::Global;
 use std::test::Fail;
 

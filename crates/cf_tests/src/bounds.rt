@@ -4,7 +4,7 @@ ghost use Rattle.cf_linear.specs.Keep.{In, Formed};
 ghost use Rattle.cf_linear.specs.Views.{matrix_of};
 ghost use Rattle.cf_bounds.specs.Exact.{IsFree};
 
-use crate::{Pick, clean, drop_output, remainder_step, select};
+use cf_bounds::{Pick, clean, drop_output, remainder_step, select};
 use cf_linear::row::Row;
 use cf_linear::system::{How, Search, Step, System};
 use cf_tree::memory::NoMemory;

@@ -1,10 +1,10 @@
 ghost use Rattle.std.specs.Prelude.{◌≡◌, IfOk};
 ghost use Rattle.cf_tree.specs.RelView.{rel_tree};
 ghost use Rattle.cf_linear.specs.Views.{plain_levels};
-ghost use Rattle.cf_cases.specs.Tests.{test_levels, test_rel};
+ghost use Rattle.cf_tests.specs.Cases.{test_levels, test_rel};
 
-use crate::case::case_of;
-use crate::count::count;
+use cf_cases::case::case_of;
+use cf_cases::count::count;
 use cf_linear::system::Layout;
 use cf_tree::base::Order;
 use cf_tree::memory::NoMemory;

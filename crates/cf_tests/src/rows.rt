@@ -1,13 +1,13 @@
 ghost use Rattle.std.specs.Prelude.{◌≡◌, IfOk};
 ghost use Rattle.cf_tree.specs.RelView.{term_tree};
 ghost use Rattle.cf_linear.specs.Views.{plain_levels};
-ghost use Rattle.cf_linear.specs.Tests.{test_levels, test_form};
+ghost use Rattle.cf_tests.specs.Rows.{test_levels, test_form};
 
-use crate::columns::{number_column, region_row};
-use crate::refusal::RowFault;
-use crate::row::Row;
-use crate::system::{Back, Divided, How, IntRel, Layout, Step, System};
-use crate::written::{Guard, row_of};
+use cf_linear::columns::{number_column, region_row};
+use cf_linear::refusal::RowFault;
+use cf_linear::row::Row;
+use cf_linear::system::{Back, Divided, How, IntRel, Layout, Step, System};
+use cf_linear::written::{Guard, row_of};
 use cf_tree::memory::NoMemory;
 use cf_tree::rel::{SetTerm, Term};
 use std::alloc::Global;

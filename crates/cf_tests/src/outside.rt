@@ -1,7 +1,7 @@
 //! Objects in memory with failing calls, real files, and lines however they are cut.
 ghost use Rattle.std.specs.Prelude.{◌≡◌, ◌<◌, ◌*◌, IfOk};
 
-use crate::{
+use cf_io::{
     Cutter, Failed, Fed, FetchFault, FileShelf, Line, MemShelf, MemSink, MemSource, ReadFault,
     ReadSource, Shelf, Sink, Source, SureShelf, SureSink, SureSource, WriteSink, read_text,
     write_all,

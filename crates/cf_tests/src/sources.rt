@@ -1,8 +1,8 @@
 //! Sources with the programs that they spell, or the place at which none begins so.
 ghost use Rattle.std.specs.Prelude.{◌≡◌, ◌^◌, ◌<◌, length};
 
-use crate::{ParseFault, program};
 use cf_lex::tokens;
+use cf_parse::{ParseFault, program};
 use cf_tree::base::{Base, Order, Place, Text};
 use cf_tree::raw::{BinOp, Param, Program, Raw, RawArm, RawDef, RawNode};
 use std::alloc::Global;

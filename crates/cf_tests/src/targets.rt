@@ -1,8 +1,8 @@
 //! Worked targets and all their lines.
 ghost use Rattle.std.specs.Prelude.{◌≡◌, IfOk};
 
-use crate::run::{run, run_code};
-use crate::value::{Outcome, Value};
+use cf_eval::run::{run, run_code};
+use cf_eval::value::{Outcome, Value};
 use cf_set::Set;
 use cf_tree::base::{Base, Order};
 use cf_tree::code::{Arm, Code, Item};

@@ -1,6 +1,6 @@
 use Rattle.std.proofs.Common.{refl}
-use Rattle.cf_bounds.proofs.FourColumns.{formed_four}
-use Rattle.cf_bounds.proofs.tests.system.Goals as goal
+use Rattle.cf_tests.proofs.FourColumns.{formed_four}
+use Rattle.cf_tests.proofs.bounds.system.Goals as goal
 
 pub returns-clause-formed : goal.returns-clause-formed
 returns-clause-formed c =

@@ -1,6 +1,6 @@
 ghost use Rattle.std.specs.Prelude.{◌-◌, ◌^◌, ◌<◌, length};
 
-use crate::{LexFault, Token, TokenKind, tokens};
+use cf_lex::{LexFault, Token, TokenKind, tokens};
 use std::alloc::Global;
 use std::test::Fail;
 

@@ -1,5 +1,5 @@
 use Rattle.std.proofs.Common.{◌≡◌, ◌≤◌, ◌-◌, length}
-use Rattle.cf_io.proofs.tests.cut.Given as goal
+use Rattle.cf_tests.proofs.outside.cut.Given as goal
 
 abbrev pub invariant-pieces : goal.invariant-pieces
 invariant-pieces l = (l.at ≤ length l.bytes) × (l.cutter.total ≡ l.at)

@@ -1,7 +1,7 @@
-use crate::fault::LineFault;
-use crate::line::read_line;
-use crate::reply::reply;
-use crate::value::{Outcome, Value};
+use cf_eval::fault::LineFault;
+use cf_eval::line::read_line;
+use cf_eval::reply::reply;
+use cf_eval::value::{Outcome, Value};
 use cf_tree::base::Base;
 use std::alloc::Global;
 use std::test::Fail;

@@ -1,5 +1,5 @@
 //! The worked targets print as they are read, with and without the header.
-use crate::print::print;
+use cf_emit::print::print;
 use cf_lex::tokens;
 use cf_target::target;
 use cf_tree::memory::NoMemory;
