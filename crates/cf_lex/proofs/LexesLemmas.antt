@@ -26,7 +26,7 @@ kind_within limit w rest (kind.Literal z) h = (_, h.2, h.1)
 kind_within limit w rest (kind.Word t) h = tt
 kind_within limit w rest (kind.Sign t) h = tt
 
-lexes-within : {limit : ℕ} {p q : Place} {text left : List ℕ} {ts : List Token} → Lexes limit p text ts q left → AreWithin limit ts
+pub lexes-within : {limit : ℕ} {p q : Place} {text left : List ℕ} {ts : List Token} → Lexes limit p text ts q left → AreWithin limit ts
 lexes-within none = tt
 lexes-within (piece w None is h all_is s) = rw all_is (lexes-within s)
 lexes-within {limit = limit} (piece {rest = rest} w (Some k) is h all_is s) = rw all_is (kind_within limit w rest k h, lexes-within s)
