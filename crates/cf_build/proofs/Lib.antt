@@ -6,6 +6,7 @@ pub mod CodeTyping
 pub mod LoopSteps
 pub mod Meanings
 pub mod Programs
+pub mod QuestionLaws
 pub mod ShiftLists
 pub mod ShiftedMeaning
 pub mod ShiftedSpelling

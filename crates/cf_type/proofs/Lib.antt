@@ -2,10 +2,10 @@ mod BaseLaws
 mod CheckLemmas
 mod CountedLaws
 mod DivisorLaws
-mod Kept
+pub mod Kept
 mod NameLemmas
 mod NumberLemmas
-mod ProgramLaws
+pub mod ProgramLaws
 mod ReadingLemmas
 mod ReadsLaws
 mod Rising

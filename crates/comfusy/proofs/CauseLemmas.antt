@@ -46,18 +46,11 @@ trees_agree Is one text x y s t =
     one s.0 x y s.3 (subst (Is y) (sym same.0) t.3)
 
 -- the status of a fault, and of a fault of the text
-pub refusal_alike : (m : ℕ) (s : Refusal) → (fault_status (fault.Choose m s) ≡ Past) ⊎ (fault_status (fault.Choose m s) ≡ Limit)
-refusal_alike m refusal.Past = inl refl
-refusal_alike m (refusal.Limit k c) = inr refl
-
 pub own_status : (f : Fault) → IsStatusOf f (fault_status f)
-own_status (fault.Choose n r) = refusal_alike n r
 own_status fault.NoMemory = tt
 own_status f = refl
 
 text_status : (f : Fault) (status : Status) → IsText f → status ≡ Text → IsStatusOf f status
-text_status (fault.Choose n refusal.Past) status h e = cc
-text_status (fault.Choose n (refusal.Limit k c)) status h e = cc
 text_status fault.NoMemory status h e = tt
 text_status f status h e = e ∙ sym h
 

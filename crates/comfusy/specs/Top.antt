@@ -40,7 +40,6 @@ pub record Tells (command : Option (CommandKind × List ℕ)) (text : List ℕ �
 -- the status that a refused text gives; want of memory alone gives none
 abbrev pub IsStatusOf : Fault → Status → Type 0
 IsStatusOf fault.NoMemory status = Unit {0}
-IsStatusOf (fault.Choose n r) status = (status ≡ Past) ⊎ (status ≡ Limit)
 IsStatusOf f status = status ≡ fault_status f
 
 -- Where nothing outside failed and no memory was wanted: a text that is refused gives the status of its fault, and any other is done, unless the input
