@@ -130,3 +130,15 @@ abbrev pub target_text : RawTarget → List ℕ
 target_text t =
     codes "comfusy 2" ++ line_end ++ codes "main (" ++ listed (map base_text t.params.items) ++ codes "): " ++ results_text t.results.items ++ codes " = "
     ++ code_text (code_tree t.code) ++ line_end
+
+-- ---- preconditions: an arm gives nothing
+abbrev pub pre_arm_text : ArmTree → List ℕ
+pre_arm_text (arm_of bounds is gs) = codes "arm [" ++ listed (map decimal bounds) ++ codes "] {" ++ line_end ++ items_text is ++ codes "}" ++ line_end
+
+abbrev pub pre_arms_text : ArmTrees → List ℕ
+pre_arms_text no_arms = []
+pre_arms_text (arm_more a arms) = pre_arm_text a ++ pre_arms_text arms
+
+-- the precondition of choose number n, with the names of all variables in scope, by level
+abbrev pub pre_text : ℕ → List (List ℕ) → ArmTrees → List ℕ
+pre_text n names arms = codes "pre " ++ decimal n ++ codes " (" ++ listed names ++ codes ") {" ++ line_end ++ pre_arms_text arms ++ codes "}" ++ line_end

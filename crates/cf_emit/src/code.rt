@@ -173,7 +173,7 @@ fn put_item(out: &mut Vec<u8>, item: &Item) -> Result<(), NoMemory>
 }
 
 #[cycle(put_code)]
-fn put_items(out: &mut Vec<u8>, items: &[Item]) -> Result<(), NoMemory>
+pub(crate) fn put_items(out: &mut Vec<u8>, items: &[Item]) -> Result<(), NoMemory>
     ensures { OnOk result (out.new.items ≡ out.old.items ++ items_text (item_trees items.now)) }
 {
     for item in items {
@@ -218,7 +218,7 @@ fn put_arms(out: &mut Vec<u8>, arms: &[Arm]) -> Result<(), NoMemory>
 }
 
 // The first line of an arm.
-fn put_searches(out: &mut Vec<u8>, bounds: &[u32]) -> Result<(), NoMemory>
+pub(crate) fn put_searches(out: &mut Vec<u8>, bounds: &[u32]) -> Result<(), NoMemory>
     ensures { OnOk result (out.new.items ≡ out.old.items ++ (codes "arm [" ++ listed (map decimal bounds.now) ++ codes "] {" ++ line_end)) }
 {
     out.extend_from_slice(b"arm [")?;

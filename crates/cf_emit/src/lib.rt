@@ -1,7 +1,8 @@
-//! The printed forms of targets.
+//! The printed forms of targets and of preconditions.
 #![tactic(auto)]
 
 mod code;
 mod list;
 pub mod print;
+pub mod print_pre;
 mod word;

@@ -1,9 +1,9 @@
-//! Lists of bases and bounds.
+//! Lists of bases, bounds and names.
 ghost use Rattle.std.specs.Prelude.{◌≡◌, ◌++◌, map, OnOk, decimal};
 ghost use Rattle.cf_emit.specs.Printed.{base_text, listed, more_texts, results_text};
 
 use crate::word::{put_base, put_count};
-use cf_tree::base::Base;
+use cf_tree::base::{Base, Text};
 use cf_tree::memory::NoMemory;
 
 // Bases, a comma and a space before each.
@@ -66,6 +66,30 @@ pub(crate) fn put_bounds(out: &mut Vec<u8>, bounds: &[u32]) -> Result<(), NoMemo
         Some((bound, more)) => {
             put_count(out, u64::from(*bound))?;
             put_more_bounds(out, more)
+        }
+    }
+}
+
+// Names, a comma and a space before each.
+fn put_more_names(out: &mut Vec<u8>, names: &[Text]) -> Result<(), NoMemory>
+    ensures { OnOk result (out.new.items ≡ out.old.items ++ more_texts names.now) }
+{
+    for name in names {
+        out.extend_from_slice(b", ")?;
+        out.extend_from_slice(&name.bytes)?;
+    }
+    Ok(())
+}
+
+// Names with a comma and a space between each two.
+pub(crate) fn put_names(out: &mut Vec<u8>, names: &[Text]) -> Result<(), NoMemory>
+    ensures { OnOk result (out.new.items ≡ out.old.items ++ listed names.now) }
+{
+    match names.split_first() {
+        None => Ok(()),
+        Some((name, more)) => {
+            out.extend_from_slice(&name.bytes)?;
+            put_more_names(out, more)
         }
     }
 }
