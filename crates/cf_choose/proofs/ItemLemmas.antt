@@ -34,7 +34,7 @@ none_is_some e h = cc
 stop_is_some : (n : ℕ) (e : List Value) → none_at n ≡ got (Some e) → ⊥
 stop_is_some n e h = cc
 
-split_some : (g : Got (Option (List Value))) (go : List Value → Path (Option (List Value))) (e : List Value) →
+pub split_some : (g : Got (Option (List Value))) (go : List Value → Path (Option (List Value))) (e : List Value) →
     then_gives g (λ next. (if_some next go).gives) ≡ got (Some e) → (d : List Value) × (g ≡ got (Some d)) × ((go d).gives ≡ got (Some e))
 split_some (got None) go e h = absurd (none_is_some e h)
 split_some (got (Some d)) go e h = (d, refl, h)

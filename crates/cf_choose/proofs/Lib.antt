@@ -9,6 +9,7 @@ pub mod JoinLemmas
 pub mod LevelLemmas
 pub mod MakingLemmas
 pub mod NameLemmas
+pub mod NeedLaws
 pub mod OnWay
 pub mod RelationCases
 pub mod RowCodes

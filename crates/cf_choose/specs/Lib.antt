@@ -2,4 +2,5 @@ pub mod CaseArms
 pub mod CaseLaws
 pub mod Eliminations
 pub mod Makings
+pub mod Precondition
 pub mod Solved

@@ -8,6 +8,7 @@ pub mod fault;
 mod levels;
 mod making;
 mod names;
+mod needs;
 pub mod solve;
 pub mod solved;
 mod systems;

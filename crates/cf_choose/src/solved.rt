@@ -2,12 +2,17 @@
 ghost use Rattle.std.specs.Prelude.{◌≡◌, IfOk};
 ghost use Rattle.cf_tree.specs.CodeTree.{code_solve};
 ghost use Rattle.cf_tree.specs.CodeView.{code_tree, arm_trees};
+ghost use Rattle.cf_tree.specs.DefView.{pre_tree};
+ghost use Rattle.cf_tree.specs.RelView.{rel_tree};
+ghost use Rattle.cf_choose.specs.Precondition.{all_needs, IsPrecondition};
 ghost use Rattle.cf_choose.specs.Solved.{IsSolved};
 
+use crate::needs::precondition;
 use cf_tree::base::Base;
 use cf_tree::code::{Arm, Code};
 use cf_tree::memory::NoMemory;
 use cf_tree::rel::Rel;
+use cf_tree::target::Pre;
 use std::alloc::Global;
 use std::marker::Model;
 
@@ -66,6 +71,15 @@ impl Solved {
         ensures { result.now ≡ self.now.outputs.items }
     {
         &self.parts.outputs
+    }
+
+    /// The arms up to their last needs, which give nothing. The needs of some arm hold at some tuple
+    /// exactly where some outputs satisfy the relation.
+    pub fn pre(&self, alloc: Global) -> Result<Pre, NoMemory>
+        ensures arms { IfOk result (λ p. pre_tree p ≡ all_needs (arm_trees self.now.arms.items)) }
+        ensures holds { IfOk result (λ p. IsPrecondition self.now.scope.items self.now.outputs.items (rel_tree self.now.rel) (pre_tree p)) }
+    {
+        precondition(alloc, &self.parts)
     }
 
     /// The `solve` of that number with its arms.
