@@ -42,6 +42,7 @@ apart_of (n ∷ ns) ms d =
     first_apart : (n : ℕ) (ns ms : List ℕ) → AllByRecursion (λ m. nat_eq n m ≡ false) (ns ++ ms) → AllByRecursion (λ m. nat_eq n m ≡ false) ns
     first_apart n [] ms h = tt
     first_apart n (k ∷ ns) ms h = (h.0, first_apart n ns ms h.1)
+
     after : (n : ℕ) (ns ms : List ℕ) (m : ℕ) → AllByRecursion (λ k. nat_eq n k ≡ false) (ns ++ ms) → AreApart ns ms → Contains (n ∷ ns) m → Contains ms m → ⊥
     after n ns ms m h r (zero, lt, e) c = none_among n (ns ++ ms) h (Contains-append_right ns ms n (subst (Contains ms) (sym e) c))
     after n ns ms m h r (suc k, lt, e) c = r.apart m (k, omega (arith, lt), e) c
@@ -157,9 +158,9 @@ mutual
       let x = length scope - 1 in
       let whole : Question = record { number = n; scope = bases_of scope; outputs = Int ∷ []; relation = rel_false } in
       rw (fits_none x arms) (
-        numbered_both _ _ (n ∷ numbers a) (numbers_arms arms)
-        (numbered_turned (whole ∷ []) (questions (lowered a)) (n ∷ numbers a) (numbered_both (whole ∷ []) _ (n ∷ []) (numbers a) (numbered_one whole) (numbered a)))
-        (arms_numbered x scope arms)
+      numbered_both _ _ (n ∷ numbers a) (numbers_arms arms)
+      (numbered_turned (whole ∷ []) (questions (lowered a)) (n ∷ numbers a) (numbered_both (whole ∷ []) _ (n ∷ []) (numbers a) (numbered_one whole) (numbered a)))
+      (arms_numbered x scope arms)
       )
 
   all_numbered : (es : ExprTrees) → Numbered (questions_all (all_lowered es)) (numbers_all es)
