@@ -14,6 +14,8 @@ use Rattle.cf_type.specs.Gives.{Fails}
 use Rattle.cf_type.specs.TypedProgram.{all_numbers}
 use Rattle.cf_type.specs.declared.fault.TypeFault.{TypeFault}
 use Rattle.cf_type.specs.declared.fault.TypeFault.TheVariants as rule
+use Rattle.cf_type.proofs.Kept.{when_is}
+use Rattle.cf_type.proofs.ProgramLaws.{checked_typed}
 use Rattle.cf_build.specs.Questions.{all_questions, limit_of, IsFirstRefused}
 use Rattle.cf_build.proofs.QuestionLaws.{one_refusal}
 use Rattle.comfusy.specs.Rules.{rule_fault}
