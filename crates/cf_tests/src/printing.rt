@@ -4,9 +4,9 @@ use cf_emit::print_pre::print_pre;
 use cf_lex::tokens;
 use cf_target::target;
 use cf_tree::base::Text;
-use cf_tree::code::Code;
+use cf_tree::code::{Arm, Code, Item};
 use cf_tree::memory::NoMemory;
-use cf_tree::target::{Pre, RawTarget};
+use cf_tree::target::Pre;
 use cf_typing::check_target;
 use std::alloc::Global;
 use std::test::*;
@@ -20,14 +20,10 @@ const ROUNDING: &str =
 const REMAINDERS: &str =
     "comfusy 2\nmain (int): (int, int) = solve 1 {\narm [3] {\nneed ((-1 * v1) >= 0);\nlet div(((-1 * v0) + (-1 * v1)), 3);\nlet div((1 + v0 + v1), 3);\nneed ((v2 + v3) >= 0);\nlet (-1 * v2);\nlet ((-1 * v0) + (-1 * v1));\nlet (v5 + (3 * v4));\nlet ((-2 * v5) + (-5 * v4));\nlet v7;\ngive (v8, v6)\n}\n}\n";
 
-const ROUNDED: &str =
-    "main (int, int): int = solve 1 { arm [] { let div((-1 * v0), 2); let div(v1, 2); need ((v2 + v3) >= 0); give v2 } }";
+const NEEDS: &str = "pre 7 (a, bc) {\narm [2] {\nlet v0;\nneed true;\n}\n}\n";
 
-const ROUNDED_NEEDS: &str =
-    "pre 1 (a, bc) {\narm [] {\nlet div((-1 * v0), 2);\nlet div(v1, 2);\nneed ((v2 + v3) >= 0);\n}\n}\n";
-
-// The target that the text spells.
-fn read(alloc: Global, text: &[u8]) -> Result<RawTarget, Fail> {
+// The printed form of the target that the text spells.
+fn printed(alloc: Global, text: &[u8]) -> Result<Vec<u8>, Fail> {
     if text.len() >= 4294967295 {
         return Err(NoMemory.into());
     }
@@ -37,12 +33,7 @@ fn read(alloc: Global, text: &[u8]) -> Result<RawTarget, Fail> {
     let Ok(raw) = target(alloc, &list) else {
         return Err(NoMemory.into());
     };
-    Ok(raw)
-}
-
-// Its printed form.
-fn printed(alloc: Global, text: &[u8]) -> Result<Vec<u8>, Fail> {
-    let Ok(checked) = check_target(alloc, read(alloc, text)?) else {
+    let Ok(checked) = check_target(alloc, raw) else {
         return Err(NoMemory.into());
     };
     Ok(print(alloc, &checked)?)
@@ -60,19 +51,29 @@ fn worked_targets_print_as_they_are_read(rt: HostRuntime) -> Result<(), Fail> {
     Ok(())
 }
 
+// search v2 below 2: let v0; need true
+fn precondition(alloc: Global) -> Result<Pre, NoMemory> {
+    let mut arm = Arm {
+        bounds: Vec::new(alloc),
+        items: Vec::new(alloc),
+        gives: Vec::new(alloc),
+    };
+    arm.bounds.push(2)?;
+    arm.items.push(Item::Let(Code::Var(0)))?;
+    arm.items.push(Item::Need(Code::Truth(true)))?;
+    let mut arms = Vec::new(alloc);
+    arms.push(arm)?;
+    Ok(Pre { arms })
+}
+
 #[test]
 fn a_precondition_is_printed_with_its_names(rt: HostRuntime) -> Result<(), Fail> {
     let alloc = rt.alloc();
     let mut names = Vec::new(alloc);
     names.push(Text::from_str(alloc, "a")?)?;
     names.push(Text::from_str(alloc, "bc")?)?;
-    let raw = read(alloc, ROUNDED.as_bytes())?;
-    match raw.code {
-        Code::Solve { number, arms } => {
-            let text = print_pre(alloc, number, &names, &Pre { arms })?;
-            assert_eq!(rt; text.as_slice(), ROUNDED_NEEDS.as_bytes());
-        }
-        _ => return Err(NoMemory.into()),
-    }
+    let pre = precondition(alloc)?;
+    let text = print_pre(alloc, 7, &names, &pre)?;
+    assert_eq!(rt; text.as_slice(), NEEDS.as_bytes());
     Ok(())
 }
