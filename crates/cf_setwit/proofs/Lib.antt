@@ -1,0 +1,4 @@
+pub mod MaskLemmas
+pub mod NameLemmas
+pub mod PieceLemmas
+pub mod SameSets
