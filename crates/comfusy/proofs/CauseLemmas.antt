@@ -1,13 +1,11 @@
 -- A text is refused for faults of one status, whatever its tokens are to spell.
 --
 -- Is says which tokens spell a tree, and Bad for which faults a tree is refused.
-use Rattle.std.proofs.Common.{◌≡◌, inl, inr, ◌∙◌, sym, subst, refl, ℕ, ◌-◌, ◌^◌, ◌<◌, List, arith}
-use Rattle.std.specs.Prelude.{◌⊎◌, length}
+use Rattle.std.proofs.Common.{◌≡◌, ◌∙◌, sym, subst, refl, ℕ, ◌-◌, ◌^◌, ◌<◌, List, arith}
+use Rattle.std.specs.Prelude.{length}
 use Rattle.cf_lex.specs.declared.token.Token.{Token}
 use Rattle.cf_lex.specs.Tokens.{Ending, at_end}
 use Rattle.cf_lex.proofs.StepLemmas.{LexesTo-once}
-use Rattle.cf_linear.specs.declared.refusal.Refusal.{Refusal}
-use Rattle.cf_linear.specs.declared.refusal.Refusal.TheVariants as refusal
 use Rattle.cf_tree.specs.declared.base.Place.{Place}
 use Rattle.comfusy.specs.Limits.{text_limit}
 use Rattle.comfusy.specs.Sources.{HasTokens}
@@ -16,7 +14,7 @@ use Rattle.comfusy.specs.Top.{IsStatusOf}
 use Rattle.comfusy.specs.declared.fault.Fault.{Fault}
 use Rattle.comfusy.specs.declared.fault.Fault.TheVariants as fault
 use Rattle.comfusy.specs.declared.status.Status.{Status}
-use Rattle.comfusy.specs.declared.status.Status.TheVariants.{Text, Past, Limit}
+use Rattle.comfusy.specs.declared.status.Status.TheVariants.{Text}
 
 -- the text spells this tree
 abbrev pub Spelled : {Tree : Type 0} → (Tree → List Token → Type 0) → List ℕ → Tree → Type 0
