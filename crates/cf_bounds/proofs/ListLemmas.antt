@@ -1,12 +1,12 @@
 -- The loops over lists of rows.
-use Rattle.std.proofs.Common.{◌≡◌, ◌≢◌, ℕ, suc, ◌<◌, ℤ, pos, ◌+ℤ◌, ◌*ℤ◌, List, [], ◌∷◌, ◌++◌, Bool, true, false, cond, ◌||◌, ◌==◌, refl, sym, ◌∙◌, ap, arith, append_assoc, not, zero, ◌≤◌, ◌+◌, get_or, length, drop, drop-cons, add-one, subst}
+use Rattle.std.proofs.Common.{◌≡◌, ◌≢◌, ℕ, suc, ◌<◌, ℤ, pos, ◌+ℤ◌, ◌*ℤ◌, List, [], ◌∷◌, ◌++◌, Bool, true, false, cond, ◌||◌, ◌==◌, refl, sym, ◌∙◌, ap, arith, append_assoc, not, zero, ◌≤◌, ◌+◌, get_or, length, drop, take, drop-cons, add-one, subst}
 use Rattle.std.specs.Prelude.{filter, unsigned_abs, nat_lt}
 use Rattle.std.specs.List.{list_any}
 use Rattle.std.proofs.lemmas.Int.{ints}
 use Rattle.std.proofs.lemmas.Bool.{cond_both, lt-ltb}
 use Rattle.std.proofs.lemmas.List.{append-nil}
 use Rattle.std.proofs.Math.ListN.{drop_of_length-le}
-use Rattle.std.proofs.lemmas.List.Elements.{filter-append}
+use Rattle.std.proofs.lemmas.List.Elements.{filter_more}
 use Rattle.cf_linear.specs.Rows.{Row, AreBelow, IsRow, Rises, same_row, is_zero, put, add_at, comb}
 use Rattle.cf_linear.specs.Matrices.{EachRow}
 use Rattle.cf_linear.specs.Steps.{distinct_after, one_at}
@@ -18,8 +18,12 @@ use Rattle.cf_linear.proofs.MapLemmas.{put_nonzero}
 use Rattle.cf_bounds.specs.Sides.{divided_by}
 use Rattle.cf_bounds.proofs.PartLemmas.{AreBelow-divided, Rises-divided}
 
-pub filter_push : (p : Row → Bool) (rows : List Row) (r : Row) → filter p (rows ++ (r ∷ [])) ≡ filter p rows ++ cond (p r) (r ∷ []) []
-filter_push p rows r = filter-append p rows (r ∷ [])
+-- one row more
+pub filter_step : (p : Row → Bool) (rows out next : List Row) (i : ℕ) (r : Row) (b : Bool) → i < length rows → r ≡ get_or rows i r → next ≡ out ++ cond b (r ∷ []) [] →
+    b ≡ p r → out ≡ filter p (take i rows) → next ≡ filter p (take (i + 1) rows)
+filter_step p rows out next i r b h e n f inv =
+    n ∙ ap (λ s. s ++ cond b (r ∷ []) []) inv ∙ ap (λ c. filter p (take i rows) ++ cond c (r ∷ []) []) f ∙
+    ap (λ q. filter p (take i rows) ++ cond (p q) (q ∷ []) []) e ∙ sym (filter_more p rows i r h)
 
 -- ---- distinct rows: what was kept may stand in any order
 any-append : (p : Row → Bool) (xs ys : List Row) → list_any p (xs ++ ys) ≡ (list_any p xs || list_any p ys)

@@ -140,7 +140,6 @@ fn nonneg_needs(alloc: Global, rows: &[Row]) -> Result<Vec<Step>, NoMemory>
 }
 
 // The rows that hold an unknown.
-#[tactic(auto, using(crate::proofs::ListLemmas::filter_push))]
 fn with_unknowns(alloc: Global, unknown: &[u32], rows: &[Row]) -> Result<Vec<Row>, NoMemory>
     ensures { IfOk result (λ s. s.items ≡ filter (has_unknown unknown.now) rows.now) }
 {
@@ -152,7 +151,6 @@ fn with_unknowns(alloc: Global, unknown: &[u32], rows: &[Row]) -> Result<Vec<Row
 }
 
 // The rows that hold none.
-#[tactic(auto, using(crate::proofs::ListLemmas::filter_push))]
 fn bare_rows(alloc: Global, unknown: &[u32], rows: &[Row]) -> Result<Vec<Row>, NoMemory>
     ensures { IfOk result (λ s. s.items ≡ filter (λ r. not (has_unknown unknown.now r)) rows.now) }
 {
@@ -301,11 +299,11 @@ impl Tightening {
         ensures value { OnOk result (tightened_of self.new ≡ with_let (tightened_of self.old) (move_of step)) }
         ensures grown { OnOk result (self.old.next ≤ self.new.next) }
     {
+        self.steps.push(step)?;
         let Some(next) = self.next.checked_add(1) else {
             return Err(NoMemory);
         };
         self.made.push(self.next)?;
-        self.steps.push(step)?;
         self.next = next;
         Ok(())
     }

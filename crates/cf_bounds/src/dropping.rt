@@ -111,7 +111,6 @@ fn others(alloc: Global, unknowns: &[u32], unknown: u32) -> Result<Vec<u32>, NoM
 }
 
 // The bounds of the unknown on the side.
-#[tactic(auto, using(crate::proofs::ListLemmas::filter_push))]
 fn side(alloc: Global, rows: &[Row], unknown: u32, lower: bool) -> Result<Vec<Row>, NoMemory>
     ensures { IfOk result (λ s. s.items ≡ side lower unknown rows.now) }
 {
@@ -123,7 +122,6 @@ fn side(alloc: Global, rows: &[Row], unknown: u32, lower: bool) -> Result<Vec<Ro
 }
 
 // The rows that do not hold the unknown.
-#[tactic(auto, using(crate::proofs::ListLemmas::filter_push))]
 fn free_rows(alloc: Global, rows: &[Row], unknown: u32) -> Result<Vec<Row>, NoMemory>
     ensures { IfOk result (λ s. s.items ≡ free_of unknown rows.now) }
 {

@@ -24,6 +24,21 @@ binary_code Diff a b = code_diff a b
 binary_code Subset a b = code_subset a b
 binary_code (Compare order) a b = code_compare order a b
 
+-- a set of these codes, or a tuple
+abbrev pub over_list : ExprTree → CodeTrees → CodeTree
+over_list (expr_set_of es) cs = code_set_of cs
+over_list _ cs = code_tuple cs
+
+-- a form with one part, which has this code
+abbrev pub over_one : ExprTree → CodeTree → CodeTree
+over_one (expr_neg a) c = code_neg c
+over_one (expr_not a) c = code_not c
+over_one (expr_card a) c = code_card c
+over_one (expr_divides k a) c = code_divides k c
+over_one (expr_div a k) c = code_div c k
+over_one (expr_mod a k) c = code_mod c k
+over_one _ c = c
+
 -- the greater of a number, which takes level n, and its negative
 abbrev pub absolute_code : ℕ → CodeTree → CodeTree
 absolute_code n a = code_let n 1 a (code_max (two (code_var n) (code_neg (code_var n))))

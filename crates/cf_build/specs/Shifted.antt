@@ -103,3 +103,8 @@ abbrev mutual
   pub ArmsHaveLevels : ArmTrees → Type 0
   ArmsHaveLevels no_arms = Unit {0}
   ArmsHaveLevels (arm_more a arms) = ArmHasLevels a × ArmsHaveLevels arms
+
+-- a code that is no let
+abbrev pub IsNoLet : CodeTree → Type 0
+IsNoLet (code_let first n a b) = ⊥
+IsNoLet _ = Unit {0}

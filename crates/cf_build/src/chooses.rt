@@ -46,28 +46,34 @@ fn collect_expr(alloc: Global, expr: &Expr, chooses: &mut Vec<Choose>) -> Result
 {
     match expr {
         Expr::Lit(_) | Expr::Truth(_) | Expr::Var(_) => Ok(()),
-        Expr::SetOf(parts) | Expr::Tuple(parts) => collect_all(alloc, parts, chooses),
-        Expr::Neg(a) | Expr::Not(a) | Expr::Abs(a) | Expr::Card(a) => collect_expr(
-            alloc, a, chooses,
-        ),
-        Expr::Binary { left, right, .. } => {
-            collect_expr(alloc, left, chooses)?;
-            collect_expr(alloc, right, chooses)?;
+        Expr::SetOf(parts) | Expr::Tuple(parts) | Expr::Call { args: parts, .. } => {
+            collect_all(alloc, parts, chooses)
+        }
+        Expr::Neg(a)
+        | Expr::Not(a)
+        | Expr::Abs(a)
+        | Expr::Card(a)
+        | Expr::Divides { of: a, .. }
+        | Expr::Div { of: a, .. }
+        | Expr::Mod { of: a, .. } => collect_expr(alloc, a, chooses),
+        Expr::Binary {
+            left: a,
+            right: b,
+            ..
+        }
+        | Expr::Let {
+            value: a,
+            body: b,
+            ..
+        } => {
+            collect_expr(alloc, a, chooses)?;
+            collect_expr(alloc, b, chooses)?;
             Ok(())
         }
-        Expr::Divides { of, .. } => collect_expr(alloc, of, chooses),
-        Expr::Div { of, .. } => collect_expr(alloc, of, chooses),
-        Expr::Mod { of, .. } => collect_expr(alloc, of, chooses),
         Expr::If { test, yes, no } => {
             collect_expr(alloc, test, chooses)?;
             collect_expr(alloc, yes, chooses)?;
             collect_expr(alloc, no, chooses)?;
-            Ok(())
-        }
-        Expr::Call { args, .. } => collect_all(alloc, args, chooses),
-        Expr::Let { value, body, .. } => {
-            collect_expr(alloc, value, chooses)?;
-            collect_expr(alloc, body, chooses)?;
             Ok(())
         }
         Expr::Choose {

@@ -5,7 +5,7 @@ ghost use Rattle.std.specs.Prelude.{◌≡◌, ◌+◌, ◌<◌, ◌^◌, ◌∷
 ghost use Rattle.cf_tree.specs.CodeTree.{code_max, code_neg, code_var};
 ghost use Rattle.cf_tree.specs.CodeView.{code_tree, code_trees};
 ghost use Rattle.cf_tree.specs.ExprView.{expr_tree, expr_trees};
-ghost use Rattle.cf_build.specs.Codes.{two, binary_code, joined_code, call_code, code_of, codes_of_all, called, choose_code, solved_in};
+ghost use Rattle.cf_build.specs.Codes.{two, over_list, over_one, binary_code, joined_code, call_code, code_of, codes_of_all, called, choose_code, solved_in};
 ghost use Rattle.cf_build.specs.Shifted.{shifted, HasLevels, HaveLevels};
 
 use crate::not_built;
@@ -34,10 +34,19 @@ pub(crate) fn code(
         Expr::Lit(k) => Ok(Code::Lit(*k)),
         Expr::Truth(t) => Ok(Code::Truth(*t)),
         Expr::Var(x) => Ok(Code::Var(*x)),
-        Expr::SetOf(parts) => Ok(Code::SetOf(all(alloc, parts, n, codes, solves)?)),
-        Expr::Tuple(parts) => Ok(Code::Tuple(all(alloc, parts, n, codes, solves)?)),
-        Expr::Neg(a) => Ok(Code::Neg(boxed(alloc, a, n, codes, solves)?)),
-        Expr::Not(a) => Ok(Code::Not(boxed(alloc, a, n, codes, solves)?)),
+        Expr::SetOf(parts) | Expr::Tuple(parts) => {
+            let parts = all(alloc, parts, n, codes, solves)?;
+            Ok(over_list(expr, parts))
+        }
+        Expr::Neg(a)
+        | Expr::Not(a)
+        | Expr::Card(a)
+        | Expr::Divides { of: a, .. }
+        | Expr::Div { of: a, .. }
+        | Expr::Mod { of: a, .. } => {
+            let part = boxed(alloc, a, n, codes, solves)?;
+            Ok(over_one(expr, part))
+        }
         Expr::Abs(a) => Ok(Code::Let {
             first: n,
             count: 1,
@@ -50,19 +59,6 @@ pub(crate) fn code(
             boxed(alloc, left, n, codes, solves)?,
             boxed(alloc, right, n, codes, solves)?,
         ),
-        Expr::Divides { k, of } => Ok(Code::Divides {
-            k: *k,
-            of: boxed(alloc, of, n, codes, solves)?,
-        }),
-        Expr::Div { of, k } => Ok(Code::Div {
-            of: boxed(alloc, of, n, codes, solves)?,
-            k: *k,
-        }),
-        Expr::Mod { of, k } => Ok(Code::Mod {
-            of: boxed(alloc, of, n, codes, solves)?,
-            k: *k,
-        }),
-        Expr::Card(a) => Ok(Code::Card(boxed(alloc, a, n, codes, solves)?)),
         Expr::If { test, yes, no } => Ok(Code::If {
             test: boxed(alloc, test, n, codes, solves)?,
             yes: boxed(alloc, yes, n, codes, solves)?,
@@ -117,6 +113,35 @@ fn all(
     Ok(all)
 }
 
+// The code of a set of these codes, or of a tuple.
+fn over_list(expr: &Expr, parts: Vec<Code>) -> Code
+    requires { HaveLevels (code_trees parts.items) }
+    ensures code { code_tree result ≡ over_list (expr_tree expr.now) (code_trees parts.items) }
+    ensures levels { HasLevels (code_tree result) }
+{
+    match expr {
+        Expr::SetOf(_) => Code::SetOf(parts),
+        _ => Code::Tuple(parts),
+    }
+}
+
+// The code of a form with one part, which has this code.
+fn over_one(expr: &Expr, a: Box<Code>) -> Code
+    requires { HasLevels (code_tree a.value) }
+    ensures code { code_tree result ≡ over_one (expr_tree expr.now) (code_tree a.value) }
+    ensures levels { HasLevels (code_tree result) }
+{
+    match expr {
+        Expr::Neg(_) => Code::Neg(a),
+        Expr::Not(_) => Code::Not(a),
+        Expr::Card(_) => Code::Card(a),
+        Expr::Divides { k, .. } => Code::Divides { k: *k, of: a },
+        Expr::Div { k, .. } => Code::Div { of: a, k: *k },
+        Expr::Mod { k, .. } => Code::Mod { of: a, k: *k },
+        _ => Box::into_inner(a),
+    }
+}
+
 // The greater of the number of level n and its negative.
 fn greater(alloc: Global, n: u32) -> Result<Box<Code>, NoMemory>
     ensures code { IfOk result (λ c. code_tree c.value ≡ code_max (two (code_var n) (code_neg (code_var n)))) }
@@ -127,7 +152,7 @@ fn greater(alloc: Global, n: u32) -> Result<Box<Code>, NoMemory>
     Ok(Box::new(alloc, Code::Max(parts))?)
 }
 
-fn pair(alloc: Global, a: Code, b: Code) -> Result<Vec<Code>, NoMemory>
+fn pair<T: Drop>(alloc: Global, a: T, b: T) -> Result<Vec<T>, NoMemory>
     ensures { IfOk result (λ cs. cs.items ≡ a ∷ b ∷ []) }
 {
     let mut parts = Vec::with_capacity(alloc, 2)?;
@@ -182,12 +207,14 @@ fn call(alloc: Global, n: u32, args: Vec<Code>, body: Code) -> Result<Code, NoMe
     if args.is_empty() {
         return Ok(body);
     }
+    let body = Box::new(alloc, body)?;
     let count = count_of(&args, n)?;
+    let value = Box::new(alloc, joined(args))?;
     Ok(Code::Let {
         first: n,
         count,
-        value: Box::new(alloc, joined(args))?,
-        body: Box::new(alloc, body)?,
+        value,
+        body,
     })
 }
 

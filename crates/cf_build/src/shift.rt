@@ -1,7 +1,8 @@
 //! Code behind more variables.
 ghost use Rattle.std.specs.Prelude.{◌≡◌, ◌+◌, ◌<◌, ◌^◌, IfOk};
 ghost use Rattle.cf_tree.specs.CodeView.{code_tree, item_tree, arm_tree, code_trees, item_trees, arm_trees};
-ghost use Rattle.cf_build.specs.Shifted.{shifted, all_shifted, item_shifted, items_shifted, arm_shifted, arms_shifted, HasLevels, HaveLevels, ItemHasLevels, ItemsHaveLevels, ArmHasLevels, ArmsHaveLevels};
+ghost use Rattle.cf_tree.specs.SameParts.{IsCodeOverList, IsCodeOverOne, IsCodeOverTwo, IsCodeOverThree};
+ghost use Rattle.cf_build.specs.Shifted.{IsNoLet, shifted, all_shifted, item_shifted, items_shifted, arm_shifted, arms_shifted, HasLevels, HaveLevels, ItemHasLevels, ItemsHaveLevels, ArmHasLevels, ArmsHaveLevels};
 
 use cf_tree::code::{Arm, Code, Item};
 use cf_tree::memory::NoMemory;
@@ -27,68 +28,161 @@ pub(crate) fn shift(alloc: Global, code: &Code, by: u32) -> Result<Code, NoMemor
         Code::Lit(k) => Ok(Code::Lit(*k)),
         Code::Truth(t) => Ok(Code::Truth(*t)),
         Code::Var(x) => Ok(Code::Var(level(by, *x)?)),
-        Code::SetOf(parts) => Ok(Code::SetOf(shift_all(alloc, parts, by)?)),
-        Code::Tuple(parts) => Ok(Code::Tuple(shift_all(alloc, parts, by)?)),
-        Code::Sum(parts) => Ok(Code::Sum(shift_all(alloc, parts, by)?)),
-        Code::Sub(a, b) => Ok(Code::Sub(boxed(alloc, a, by)?, boxed(alloc, b, by)?)),
-        Code::Mul(a, b) => Ok(Code::Mul(boxed(alloc, a, by)?, boxed(alloc, b, by)?)),
-        Code::Neg(a) => Ok(Code::Neg(boxed(alloc, a, by)?)),
-        Code::Div { of, k } => Ok(Code::Div {
-            of: boxed(alloc, of, by)?,
-            k: *k,
-        }),
-        Code::Mod { of, k } => Ok(Code::Mod {
-            of: boxed(alloc, of, by)?,
-            k: *k,
-        }),
-        Code::Min(parts) => Ok(Code::Min(shift_all(alloc, parts, by)?)),
-        Code::Max(parts) => Ok(Code::Max(shift_all(alloc, parts, by)?)),
-        Code::Compare { order, left, right } => Ok(Code::Compare {
-            order: *order,
-            left: boxed(alloc, left, by)?,
-            right: boxed(alloc, right, by)?,
-        }),
-        Code::Divides { k, of } => Ok(Code::Divides {
-            k: *k,
-            of: boxed(alloc, of, by)?,
-        }),
-        Code::And(a, b) => Ok(Code::And(boxed(alloc, a, by)?, boxed(alloc, b, by)?)),
-        Code::Or(a, b) => Ok(Code::Or(boxed(alloc, a, by)?, boxed(alloc, b, by)?)),
-        Code::Not(a) => Ok(Code::Not(boxed(alloc, a, by)?)),
-        Code::Union(parts) => Ok(Code::Union(shift_all(alloc, parts, by)?)),
-        Code::Inter(parts) => Ok(Code::Inter(shift_all(alloc, parts, by)?)),
-        Code::Diff(a, b) => Ok(Code::Diff(boxed(alloc, a, by)?, boxed(alloc, b, by)?)),
-        Code::Subset(a, b) => Ok(Code::Subset(boxed(alloc, a, by)?, boxed(alloc, b, by)?)),
-        Code::Card(a) => Ok(Code::Card(boxed(alloc, a, by)?)),
-        Code::Slice { set, from, n } => Ok(Code::Slice {
-            set: boxed(alloc, set, by)?,
-            from: boxed(alloc, from, by)?,
-            n: boxed(alloc, n, by)?,
-        }),
-        Code::Fresh { avoid, n } => Ok(Code::Fresh {
-            avoid: boxed(alloc, avoid, by)?,
-            n: boxed(alloc, n, by)?,
-        }),
-        Code::If { test, yes, no } => Ok(Code::If {
-            test: boxed(alloc, test, by)?,
-            yes: boxed(alloc, yes, by)?,
-            no: boxed(alloc, no, by)?,
-        }),
+        Code::SetOf(parts)
+        | Code::Tuple(parts)
+        | Code::Sum(parts)
+        | Code::Min(parts)
+        | Code::Max(parts)
+        | Code::Union(parts)
+        | Code::Inter(parts) => {
+            let parts = shift_all(alloc, parts, by)?;
+            Ok(over_list(code, by, parts))
+        }
+        Code::Neg(a)
+        | Code::Not(a)
+        | Code::Card(a)
+        | Code::Div { of: a, .. }
+        | Code::Mod { of: a, .. }
+        | Code::Divides { of: a, .. } => {
+            let part = boxed(alloc, a, by)?;
+            Ok(over_one(code, by, part))
+        }
+        Code::Sub(a, b)
+        | Code::Mul(a, b)
+        | Code::And(a, b)
+        | Code::Or(a, b)
+        | Code::Diff(a, b)
+        | Code::Subset(a, b)
+        | Code::Compare {
+            left: a,
+            right: b,
+            ..
+        }
+        | Code::Fresh { avoid: a, n: b } => {
+            let first = boxed(alloc, a, by)?;
+            let second = boxed(alloc, b, by)?;
+            Ok(over_two(code, by, first, second))
+        }
+        Code::Slice {
+            set: a,
+            from: b,
+            n: c,
+        }
+        | Code::If {
+            test: a,
+            yes: b,
+            no: c,
+        } => {
+            let first = boxed(alloc, a, by)?;
+            let second = boxed(alloc, b, by)?;
+            let third = boxed(alloc, c, by)?;
+            Ok(over_three(code, by, first, second, third))
+        }
         Code::Let {
             first,
             count,
             value,
             body,
-        } => Ok(Code::Let {
-            first: first_level(by, *first, *count)?,
-            count: *count,
-            value: boxed(alloc, value, by)?,
-            body: boxed(alloc, body, by)?,
-        }),
+        } => {
+            let count = *count;
+            let first = first_level(by, *first, count)?;
+            let value = boxed(alloc, value, by)?;
+            let body = boxed(alloc, body, by)?;
+            Ok(Code::Let {
+                first,
+                count,
+                value,
+                body,
+            })
+        }
         Code::Solve { number, arms } => Ok(Code::Solve {
             number: *number,
             arms: shift_arms(alloc, arms, by)?,
         }),
+    }
+}
+
+// The form of the code behind `by` more variables, over a list of its parts behind them.
+fn over_list(code: &Code, by: u32, parts: Vec<Code>) -> Code
+    requires parts { IsCodeOverList (shifted by (code_tree code.now)) (code_trees parts.items) }
+    requires levels { HaveLevels (code_trees parts.items) }
+    ensures code { code_tree result ≡ shifted by (code_tree code.now) }
+    ensures levels { HasLevels (code_tree result) }
+{
+    match code {
+        Code::SetOf(_) => Code::SetOf(parts),
+        Code::Tuple(_) => Code::Tuple(parts),
+        Code::Sum(_) => Code::Sum(parts),
+        Code::Min(_) => Code::Min(parts),
+        Code::Max(_) => Code::Max(parts),
+        Code::Union(_) => Code::Union(parts),
+        Code::Inter(_) => Code::Inter(parts),
+        _ => unreachable!(),
+    }
+}
+
+// The same over one part.
+fn over_one(code: &Code, by: u32, a: Box<Code>) -> Code
+    requires part { IsCodeOverOne (shifted by (code_tree code.now)) (code_tree a.value) }
+    requires levels { HasLevels (code_tree a.value) }
+    ensures code { code_tree result ≡ shifted by (code_tree code.now) }
+    ensures levels { HasLevels (code_tree result) }
+{
+    match code {
+        Code::Neg(_) => Code::Neg(a),
+        Code::Not(_) => Code::Not(a),
+        Code::Card(_) => Code::Card(a),
+        Code::Div { k, .. } => Code::Div { of: a, k: *k },
+        Code::Mod { k, .. } => Code::Mod { of: a, k: *k },
+        Code::Divides { k, .. } => Code::Divides { k: *k, of: a },
+        _ => unreachable!(),
+    }
+}
+
+// The same over two parts.
+fn over_two(code: &Code, by: u32, a: Box<Code>, b: Box<Code>) -> Code
+    requires parts { IsCodeOverTwo (shifted by (code_tree code.now)) (code_tree a.value) (code_tree b.value) }
+    requires no_let { IsNoLet (code_tree code.now) }
+    requires levels { HasLevels (code_tree a.value) × HasLevels (code_tree b.value) }
+    ensures code { code_tree result ≡ shifted by (code_tree code.now) }
+    ensures levels { HasLevels (code_tree result) }
+{
+    match code {
+        Code::Sub(_, _) => Code::Sub(a, b),
+        Code::Mul(_, _) => Code::Mul(a, b),
+        Code::And(_, _) => Code::And(a, b),
+        Code::Or(_, _) => Code::Or(a, b),
+        Code::Diff(_, _) => Code::Diff(a, b),
+        Code::Subset(_, _) => Code::Subset(a, b),
+        Code::Compare { order, .. } => Code::Compare {
+            order: *order,
+            left: a,
+            right: b,
+        },
+        Code::Fresh { .. } => Code::Fresh { avoid: a, n: b },
+        _ => unreachable!(),
+    }
+}
+
+// The same over three parts.
+fn over_three(code: &Code, by: u32, a: Box<Code>, b: Box<Code>, c: Box<Code>) -> Code
+    requires parts { IsCodeOverThree (shifted by (code_tree code.now)) (code_tree a.value) (code_tree b.value) (code_tree c.value) }
+    requires levels { HasLevels (code_tree a.value) × HasLevels (code_tree b.value) × HasLevels (code_tree c.value) }
+    ensures code { code_tree result ≡ shifted by (code_tree code.now) }
+    ensures levels { HasLevels (code_tree result) }
+{
+    match code {
+        Code::Slice { .. } => Code::Slice {
+            set: a,
+            from: b,
+            n: c,
+        },
+        Code::If { .. } => Code::If {
+            test: a,
+            yes: b,
+            no: c,
+        },
+        _ => unreachable!(),
     }
 }
 

@@ -28,13 +28,13 @@ impl Building {
     fn let_named(&mut self, column: u32, code: Code) -> Result<(), NoMemory>
         ensures { OnOk result (SameMaking (making_of self.new) (let_named (making_of self.old) column (code_tree code))) }
     {
+        self.items.push(Item::Let(code))?;
         let level = self.level;
         let next = match level.checked_add(1) {
             Some(next) => next,
             None => return Err(NoMemory),
         };
         self.names.name(column, level)?;
-        self.items.push(Item::Let(code))?;
         self.level = next;
         Ok(())
     }

@@ -9,3 +9,4 @@ pub mod Ends
 pub mod Reaching
 pub mod SetLists
 pub mod Tries
+pub mod FormLemmas

@@ -8,3 +8,4 @@ pub mod Answers
 pub mod Choice
 pub mod Reached
 pub mod Tells
+pub mod Forms

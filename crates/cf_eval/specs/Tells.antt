@@ -58,6 +58,11 @@ TellsItems (Ok true) env r = r ≡ given (Some env)
 TellsItems (Ok false) env r = r ≡ given None
 TellsItems (Err e) env r = StopIs e r
 
+-- what is given, behind the old values
+abbrev pub TellsMore : {A : Type 0} → Result A Stop → List Value → List Value → Reached (List Value) → Type 0
+TellsMore (Ok u) old new r = (xs : List Value) × (r ≡ given xs) × (new ≡ old ++ xs)
+TellsMore (Err e) old new r = StopIs e r
+
 -- the same values, and perhaps more
 abbrev pub Extends : List RunValue → List RunValue → Type 0
 Extends old new = (more : List RunValue) × (new ≡ old ++ more)

@@ -1,6 +1,6 @@
 //! Why a line gives no values.
 use cf_tree::memory::NoMemory;
-use std::alloc::AllocFailed;
+use std::alloc::{AllocError, AllocFailed};
 
 /// Why a line gives no values.
 #[derive(Clone, Copy, Debug, PartialEq, Eq)]
@@ -17,6 +17,17 @@ impl From<NoMemory> for LineFault {
     ghost from_gives = { λ _ e. e ≡ variants.NoMemory };
 
     fn from(_e: NoMemory) -> LineFault {
+        LineFault::NoMemory
+    }
+}
+
+impl From<AllocError> for LineFault {
+    ghost use Rattle.std.specs.Prelude.{◌≡◌};
+    ghost use Rattle.cf_eval.specs.declared.fault.LineFault.TheVariants as variants;
+
+    ghost from_gives = { λ _ e. e ≡ variants.NoMemory };
+
+    fn from(_e: AllocError) -> LineFault {
         LineFault::NoMemory
     }
 }

@@ -1,10 +1,10 @@
 // What a code gives while it is run, and why a run stops.
-ghost use Rattle.std.specs.Prelude.{◌≡◌, ◌++◌, IfErr, IfOk, IfSome, OnOk, All};
+ghost use Rattle.std.specs.Prelude.{◌≡◌, ◌++◌, ◌∷◌, [], IfErr, IfOk, IfSome, OnOk, All};
 ghost use Rattle.cf_num.specs.Limit.{IsWithin, within};
 ghost use Rattle.cf_tree.specs.Values.{first_of, number};
-ghost use Rattle.cf_eval.specs.Reached.{met as met_reached, met_value};
+ghost use Rattle.cf_eval.specs.Reached.{met as met_reached, met_value, as_number};
 ghost use Rattle.cf_eval.specs.Seen.{plain, plains, IsFit};
-ghost use Rattle.cf_eval.specs.Tells.{Tells, IsGivenFit, given_items, seen_or_zero};
+ghost use Rattle.cf_eval.specs.Tells.{Tells, TellsMore, TellsNumber, IsGivenFit, given_items, seen_or_zero};
 
 use crate::value::Value;
 use cf_set::Set;
@@ -97,6 +97,41 @@ pub fn met(z: Option<i128>) -> Result<Given, Stop>
     }
 }
 
+// The same, as a number.
+pub fn met_number(z: Option<i128>) -> Result<i128, Stop>
+    requires { IfSome z IsWithin }
+    ensures told { TellsNumber result (as_number (met_reached z)) }
+    ensures fit { IfOk result IsWithin }
+{
+    match z {
+        None => Err(Stop::Past),
+        Some(n) => Ok(n),
+    }
+}
+
+// The number of a variable, met where it is one.
+pub fn met_number_of(v: Option<&Value>) -> Result<i128, Stop>
+    ensures told { TellsNumber result (as_number (met_value (seen_or_zero v.entry))) }
+    ensures fit { IfOk result IsWithin }
+{
+    match v {
+        None => Ok(0),
+        Some(Value::Int(n)) => met_number(limited(*n)),
+        Some(Value::Truth(_)) => Ok(0),
+        Some(Value::Elements(_)) => Ok(0),
+    }
+}
+
+// Appends a number that was met.
+pub fn push_met(z: i128, all: &mut Vec<Value>) -> Result<(), Stop>
+    requires { IsWithin z }
+    ensures ok { OnOk result (all.new.items ≡ all.old.items ++ (Value.Int z ∷ [])) }
+    ensures err { IfErr result (λ e. e ≡ Stop.Memory) }
+{
+    all.push(Value::Int(z))?;
+    Ok(())
+}
+
 // The value of a variable, met where it is a number.
 pub fn met_copy(alloc: Global, v: Option<&Value>) -> Result<Given, Stop>
     ensures told { Tells result (met_value (seen_or_zero v.entry)) }
@@ -108,6 +143,29 @@ pub fn met_copy(alloc: Global, v: Option<&Value>) -> Result<Given, Stop>
         Some(Value::Truth(b)) => Ok(truth(*b)),
         Some(Value::Elements(s)) => Ok(set(s.try_copy(alloc)?)),
     }
+}
+
+// Appends the value of a variable, met where it is a number.
+pub fn push_copy(alloc: Global, v: Option<&Value>, all: &mut Vec<Value>) -> Result<(), Stop>
+    ensures told { TellsMore result (plains all.old.items) (plains all.new.items) (met_value (seen_or_zero v.entry)) }
+    ensures fit { OnOk result (All IsFit all.old.items → All IsFit all.new.items) }
+{
+    match v {
+        Some(Value::Int(n)) => match limited(*n) {
+            Some(z) => push_met(z, all),
+            None => Err(Stop::Past),
+        },
+        _ => push_other(alloc, v, all),
+    }
+}
+
+#[inline(never)]
+fn push_other(alloc: Global, v: Option<&Value>, all: &mut Vec<Value>) -> Result<(), Stop>
+    ensures told { TellsMore result (plains all.old.items) (plains all.new.items) (met_value (seen_or_zero v.entry)) }
+    ensures fit { OnOk result (All IsFit all.old.items → All IsFit all.new.items) }
+{
+    let given = met_copy(alloc, v)?;
+    given.append_to(all)
 }
 
 impl Given {

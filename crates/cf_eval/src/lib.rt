@@ -4,6 +4,7 @@
 mod braces;
 pub mod fault;
 mod given;
+mod kind;
 pub mod line;
 mod number;
 mod operate;

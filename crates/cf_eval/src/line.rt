@@ -65,7 +65,7 @@ fn read_values(
     ensures values { Gives (λ v. plains v.items) result (values_from limit types.now text.now []) }
     ensures fits { IfOk result (λ v. All IsFit v.items) }
 {
-    let mut out = Vec::new(alloc);
+    let mut out = Vec::with_capacity(alloc, types.len())?;
     let mut rest = text;
     for i in 0..types.len() {
         let (v, more) = value(alloc, types[i], after_spaces(rest), limit)?;

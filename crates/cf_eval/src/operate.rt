@@ -1,16 +1,18 @@
 // The operations of target code on values.
-ghost use Rattle.std.specs.Prelude.{◌≡◌, [], IfErr, IfOk, IfSome, OnOk, not};
-ghost use Rattle.cf_num.specs.Limit.{IsWithin};
+ghost use Rattle.std.specs.Prelude.{◌≡◌, [], ◌*ℤ◌, Some, IfErr, IfOk, IfSome, OnOk, not};
+ghost use Rattle.cf_num.specs.Limit.{IsWithin, within};
 ghost use Rattle.cf_tree.specs.Numbers.{quotient, remainder, count_of};
 ghost use Rattle.cf_tree.specs.Sets.{AreWithin, set_fresh, set_of, set_put};
-ghost use Rattle.cf_tree.specs.Values.{number_of, truth_of, compared, same_value};
+ghost use Rattle.cf_tree.specs.Values.{number, number_of, truth_of, compared, same_value};
 ghost use Rattle.cf_tree.specs.Meaning.{choose_with, joined_with, joined};
-ghost use Rattle.cf_eval.specs.Reached.{met_set};
+ghost use Rattle.cf_eval.specs.Forms.{is_number_kind, is_numeric};
+ghost use Rattle.cf_eval.specs.Reached.{as_number, as_set, met as met_reached, met_set, met_value, then_reached};
 ghost use Rattle.cf_eval.specs.Seen.{plain};
-ghost use Rattle.cf_eval.specs.Tells.{Tells, IsGivenFit};
+ghost use Rattle.cf_eval.specs.Tells.{TellsNumber, TellsSet, seen_or_zero};
 ghost use Rattle.cf_eval.specs.Choice.{better_of, join_of};
 
-use crate::given::{Given, Stop, set};
+use crate::given::{Stop, limited, met_number, met_number_of};
+use crate::kind::Kind;
 use crate::value::Value;
 use cf_set::Set;
 use cf_tree::base::Order;
@@ -45,6 +47,55 @@ pub fn remain(x: i128, k: i128) -> i128
     ensures fits { IsWithin result }
 {
     if k > 0 { cf_num::modulo(x, k) } else { x }
+}
+
+// The product of two numbers of 64 bits, which no limit stops.
+fn narrow_product(x: i64, y: i64) -> i128
+    ensures value { within (x *ℤ y) ≡ Some result }
+    ensures fits { IsWithin result }
+{
+    i128::from(x) * i128::from(y)
+}
+
+// The product of numbers of which one at least has more than 64 bits.
+#[cold]
+#[inline(never)]
+fn wide_product(a: i128, b: i128) -> Result<i128, Stop>
+    requires a_in { IsWithin a }
+    requires b_in { IsWithin b }
+    ensures told { TellsNumber result (as_number (met_reached (within (a *ℤ b)))) }
+    ensures fit { IfOk result IsWithin }
+{
+    met_number(cf_num::mul(a, b))
+}
+
+// The product, met. Most numbers have 64 bits, and take one machine instruction.
+#[inline(always)]
+pub fn product(a: i128, b: i128) -> Result<i128, Stop>
+    requires a_in { IsWithin a }
+    requires b_in { IsWithin b }
+    ensures told { TellsNumber result (as_number (met_reached (within (a *ℤ b)))) }
+    ensures fit { IfOk result IsWithin }
+{
+    match i64::try_from(a) {
+        Ok(x) => match i64::try_from(b) {
+            Ok(y) => Ok(narrow_product(x, y)),
+            Err(_) => wide_product(a, b),
+        },
+        Err(_) => wide_product(a, b),
+    }
+}
+
+// A number times the value of a variable.
+#[inline(always)]
+pub fn scaled(k: i128, v: Option<&Value>) -> Result<i128, Stop>
+    ensures told { TellsNumber result (as_number (then_reached (as_number (met_reached (within k))) (λ x.
+        then_reached (as_number (met_value (seen_or_zero v.entry))) (λ y. met_reached (within (x *ℤ y)))))) }
+    ensures fit { IfOk result IsWithin }
+{
+    let x = met_number(limited(k))?;
+    let y = met_number_of(v)?;
+    product(x, y)
 }
 
 // The better of what was chosen so far and x.
@@ -93,11 +144,10 @@ pub fn empty(alloc: Global) -> Result<Set, NoMemory>
 }
 
 // The n least numbers from 0 upwards that are not in the set, each of them met.
-pub fn fresh(alloc: Global, avoid: &Set, n: i128) -> Result<Given, Stop>
-    ensures told { Tells result (met_set (set_fresh avoid.now (count_of n))) }
-    ensures fit { IfOk result IsGivenFit }
+pub fn fresh(alloc: Global, avoid: &Set, n: i128) -> Result<Set, Stop>
+    ensures told { TellsSet result (as_set (met_set (set_fresh avoid.now (count_of n)))) }
 {
-    Ok(set(Set::fresh(alloc, avoid, n)?))
+    Ok(Set::fresh(alloc, avoid, n)?)
 }
 
 fn number_in(v: &Value) -> i128
@@ -142,5 +192,43 @@ pub fn compare(order: Order, v: &Value, w: &Value) -> bool
         Order::Le => number_in(v) <= number_in(w),
         Order::Gt => number_in(v) > number_in(w),
         Order::Ge => number_in(v) >= number_in(w),
+    }
+}
+
+fn is_number(kind: Kind) -> bool
+    ensures { result ≡ is_number_kind kind }
+{
+    match kind {
+        Kind::Number => true,
+        Kind::Truth => false,
+        Kind::Elements => false,
+        Kind::Other => false,
+    }
+}
+
+// Whether a comparison is that of the numbers of its sides, where the left side is of that kind.
+pub fn numeric(order: Order, left: Kind) -> bool
+    ensures { result ≡ is_numeric order left }
+{
+    match order {
+        Order::Eq => is_number(left),
+        Order::Ne => is_number(left),
+        Order::Lt => true,
+        Order::Le => true,
+        Order::Gt => true,
+        Order::Ge => true,
+    }
+}
+
+pub fn compare_numbers(order: Order, x: i128, y: i128) -> bool
+    ensures { result ≡ compared order (number x) (number y) }
+{
+    match order {
+        Order::Eq => x == y,
+        Order::Ne => x != y,
+        Order::Lt => x < y,
+        Order::Le => x <= y,
+        Order::Gt => x > y,
+        Order::Ge => x >= y,
     }
 }

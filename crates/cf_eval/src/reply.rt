@@ -91,11 +91,14 @@ fn put_values(out: &mut Vec<u8>, values: &[Value]) -> Result<(), NoMemory>
     Ok(())
 }
 
+// Room for the text of a few numbers.
+const ROOM: usize = 32;
+
 /// The text of what a run came to, without a line feed.
 pub fn reply(alloc: Global, outcome: &Outcome) -> Result<Vec<u8>, NoMemory>
     ensures { IfOk result (λ bytes. bytes.items ≡ reply_text outcome.now) }
 {
-    let mut out = Vec::new(alloc);
+    let mut out = Vec::with_capacity(alloc, ROOM)?;
     match outcome {
         Outcome::Values(values) => put_values(&mut out, values)?,
         Outcome::NoSolution(number) => put_no_solution(&mut out, *number)?,

@@ -1,16 +1,22 @@
 //! Runs target code.
 ghost use Rattle.std.specs.Prelude.{◌≡◌, [], None, IfOk, OnOk, All, pos};
 ghost use Rattle.cf_num.specs.Limit.{IsWithin};
+ghost use Rattle.cf_tree.specs.Sets.{is_subset};
 ghost use Rattle.cf_tree.specs.CodeView.{code_tree, item_tree, arm_tree, code_trees, item_trees, arm_trees};
 ghost use Rattle.cf_eval.specs.Answers.{Answers};
 ghost use Rattle.cf_eval.specs.Choice.{better_of, join_of};
-ghost use Rattle.cf_eval.specs.Reached.{reached, as_first, as_number, as_truth, as_set, all_reached, set_reached, sum_reached, best_reached, join_reached, items_reached, item_reached, try_reached, arm_reached, arms_reached};
+ghost use Rattle.cf_eval.specs.Reached.{reached, seen, as_first, as_number, as_truth, as_set, all_reached, set_reached, sum_reached, best_reached, join_reached, items_reached, item_reached, try_reached, arm_reached, arms_reached};
 ghost use Rattle.cf_eval.specs.Seen.{plains, IsFit};
-ghost use Rattle.cf_eval.specs.Tells.{Tells, TellsAll, TellsFirst, TellsNumber, TellsTruth, TellsSet, TellsFound, TellsItems, Extends, IsGivenFit, IsFoundFit};
+ghost use Rattle.cf_eval.specs.Tells.{Tells, TellsAll, TellsFirst, TellsNumber, TellsTruth, TellsSet, TellsFound, TellsItems, TellsMore, Extends, IsGivenFit, IsFoundFit};
 
-use crate::given::{Given, Stop, limited, met, met_copy, number, set, truth};
+use crate::given::{
+    Given, Stop, limited, met_copy, met_number, met_number_of, number, push_copy, push_met, set,
+    truth,
+};
+use crate::kind::{Kind, kind_of};
 use crate::operate::{
-    Join, Side, better, compare, divide, empty, fresh, join_more, push_element, remain,
+    Join, Side, better, compare, compare_numbers, divide, empty, fresh, join_more, numeric,
+    product, push_element, remain, scaled,
 };
 use crate::search::{count_of, push_tuple};
 use crate::value::{Outcome, Value};
@@ -42,10 +48,13 @@ pub fn run_code(alloc: Global, code: &Code, values: &[Value]) -> Result<Outcome,
     }
 }
 
+// Room for the variables that most targets bind.
+const ROOM: usize = 16;
+
 fn copy_values(alloc: Global, values: &[Value]) -> Result<Vec<Value>, NoMemory>
     ensures { IfOk result (λ copies. copies.items ≡ values.now) }
 {
-    let mut copies = Vec::new(alloc);
+    let mut copies = Vec::with_capacity(alloc, values.len().saturating_add(ROOM))?;
     for v in values {
         copies.push(v.try_copy(alloc)?)?;
     }
@@ -54,39 +63,279 @@ fn copy_values(alloc: Global, values: &[Value]) -> Result<Vec<Value>, NoMemory>
 
 // What the code gives where its variables have these values. The values stand as before after Ok.
 #[cycle(eval)]
+#[tactic(auto, using(crate::proofs::FormLemmas::number_ok, crate::proofs::FormLemmas::truth_ok, crate::proofs::FormLemmas::set_ok, crate::proofs::FormLemmas::number_stop, crate::proofs::FormLemmas::truth_stop, crate::proofs::FormLemmas::set_stop))]
 fn eval(alloc: Global, code: &Code, env: &mut Vec<Value>) -> Result<Given, Stop>
     ensures told { Tells result (reached (code_tree code.now) (plains env.old.items)) }
     ensures fit { IfOk result IsGivenFit }
     ensures kept { OnOk result (env.new.items ≡ env.old.items) }
 {
+    match kind_of(code) {
+        Kind::Number => Ok(number(count(alloc, code, env)?)),
+        Kind::Truth => Ok(truth(test(alloc, code, env)?)),
+        Kind::Elements => Ok(set(collect(alloc, code, env)?)),
+        Kind::Other => choose(alloc, code, env),
+    }
+}
+
+#[cycle(eval)]
+fn eval_first(alloc: Global, code: &Code, env: &mut Vec<Value>) -> Result<Value, Stop>
+    ensures told { TellsFirst result (as_first (reached (code_tree code.now) (plains env.old.items))) }
+    ensures fit { IfOk result IsFit }
+    ensures kept { OnOk result (env.new.items ≡ env.old.items) }
+{
+    Ok(eval(alloc, code, env)?.first())
+}
+
+#[cycle(eval)]
+#[inline(always)]
+fn eval_number(alloc: Global, code: &Code, env: &mut Vec<Value>) -> Result<i128, Stop>
+    ensures told { TellsNumber result (as_number (reached (code_tree code.now) (plains env.old.items))) }
+    ensures fit { IfOk result IsWithin }
+    ensures kept { OnOk result (env.new.items ≡ env.old.items) }
+{
     match code {
-        Code::Lit(k) => met(limited(*k)),
-        Code::Truth(t) => Ok(truth(*t)),
-        Code::Var(x) => met_copy(alloc, env.get(*x as usize)),
-        Code::SetOf(parts) => eval_set_of(alloc, parts, env),
-        Code::Tuple(parts) => Ok(Given::Several(eval_all(alloc, parts, env)?)),
+        Code::Lit(k) => met_number(limited(*k)),
+        Code::Var(x) => met_number_of(env.get(*x as usize)),
+        Code::Mul(a, b) => match &**a {
+            Code::Lit(k) => match &**b {
+                Code::Var(x) => scaled(*k, env.get(*x as usize)),
+                _ => eval_count(alloc, code, env),
+            },
+            _ => eval_count(alloc, code, env),
+        },
+        _ => eval_count(alloc, code, env),
+    }
+}
+
+#[cycle(eval)]
+fn eval_count(alloc: Global, code: &Code, env: &mut Vec<Value>) -> Result<i128, Stop>
+    ensures told { TellsNumber result (as_number (reached (code_tree code.now) (plains env.old.items))) }
+    ensures fit { IfOk result IsWithin }
+    ensures kept { OnOk result (env.new.items ≡ env.old.items) }
+{
+    match kind_of(code) {
+        Kind::Number => count(alloc, code, env),
+        _ => other_number(alloc, code, env),
+    }
+}
+
+#[cycle(eval)]
+#[inline(never)]
+fn other_number(alloc: Global, code: &Code, env: &mut Vec<Value>) -> Result<i128, Stop>
+    ensures told { TellsNumber result (as_number (reached (code_tree code.now) (plains env.old.items))) }
+    ensures fit { IfOk result IsWithin }
+    ensures kept { OnOk result (env.new.items ≡ env.old.items) }
+{
+    match eval_first(alloc, code, env)? {
+        Value::Int(z) => Ok(z),
+        Value::Truth(_) => Ok(0),
+        Value::Elements(_) => Ok(0),
+    }
+}
+
+#[cycle(eval)]
+fn eval_truth(alloc: Global, code: &Code, env: &mut Vec<Value>) -> Result<bool, Stop>
+    ensures told { TellsTruth result (as_truth (reached (code_tree code.now) (plains env.old.items))) }
+    ensures kept { OnOk result (env.new.items ≡ env.old.items) }
+{
+    match kind_of(code) {
+        Kind::Truth => test(alloc, code, env),
+        _ => other_truth(alloc, code, env),
+    }
+}
+
+#[cycle(eval)]
+#[inline(never)]
+fn other_truth(alloc: Global, code: &Code, env: &mut Vec<Value>) -> Result<bool, Stop>
+    ensures told { TellsTruth result (as_truth (reached (code_tree code.now) (plains env.old.items))) }
+    ensures kept { OnOk result (env.new.items ≡ env.old.items) }
+{
+    match code {
+        Code::And(a, b) => {
+            if eval_truth(alloc, a, env)? {
+                eval_truth(alloc, b, env)
+            } else {
+                Ok(false)
+            }
+        }
+        Code::Or(a, b) => {
+            if eval_truth(alloc, a, env)? {
+                Ok(true)
+            } else {
+                eval_truth(alloc, b, env)
+            }
+        }
+        _ => first_truth(alloc, code, env),
+    }
+}
+
+#[cycle(eval)]
+#[inline(never)]
+fn first_truth(alloc: Global, code: &Code, env: &mut Vec<Value>) -> Result<bool, Stop>
+    ensures told { TellsTruth result (as_truth (reached (code_tree code.now) (plains env.old.items))) }
+    ensures kept { OnOk result (env.new.items ≡ env.old.items) }
+{
+    match eval_first(alloc, code, env)? {
+        Value::Truth(b) => Ok(b),
+        Value::Int(_) => Ok(false),
+        Value::Elements(_) => Ok(false),
+    }
+}
+
+#[cycle(eval)]
+fn eval_set(alloc: Global, code: &Code, env: &mut Vec<Value>) -> Result<Set, Stop>
+    ensures told { TellsSet result (as_set (reached (code_tree code.now) (plains env.old.items))) }
+    ensures kept { OnOk result (env.new.items ≡ env.old.items) }
+{
+    match kind_of(code) {
+        Kind::Elements => collect(alloc, code, env),
+        _ => other_set(alloc, code, env),
+    }
+}
+
+#[cycle(eval)]
+#[inline(never)]
+fn other_set(alloc: Global, code: &Code, env: &mut Vec<Value>) -> Result<Set, Stop>
+    ensures told { TellsSet result (as_set (reached (code_tree code.now) (plains env.old.items))) }
+    ensures kept { OnOk result (env.new.items ≡ env.old.items) }
+{
+    match eval_first(alloc, code, env)? {
+        Value::Elements(s) => Ok(s),
+        Value::Int(_) => Ok(empty(alloc)?),
+        Value::Truth(_) => Ok(empty(alloc)?),
+    }
+}
+
+// The number that a form of numbers gives. No other form is passed to it.
+#[cycle(eval)]
+#[inline(never)]
+fn count(alloc: Global, code: &Code, env: &mut Vec<Value>) -> Result<i128, Stop>
+    ensures told { TellsNumber result (as_number (reached (code_tree code.now) (plains env.old.items))) }
+    ensures fit { IfOk result IsWithin }
+    ensures kept { OnOk result (env.new.items ≡ env.old.items) }
+{
+    match code {
+        Code::Lit(k) => met_number(limited(*k)),
         Code::Sum(parts) => eval_sum(alloc, parts, env),
         Code::Sub(a, b) => {
             let x = eval_number(alloc, a, env)?;
             let y = eval_number(alloc, b, env)?;
-            met(cf_num::sub(x, y))
+            met_number(cf_num::sub(x, y))
         }
         Code::Mul(a, b) => {
             let x = eval_number(alloc, a, env)?;
             let y = eval_number(alloc, b, env)?;
-            met(cf_num::mul(x, y))
+            product(x, y)
         }
-        Code::Neg(a) => Ok(number(cf_num::neg(eval_number(alloc, a, env)?))),
-        Code::Div { of, k } => Ok(number(divide(eval_number(alloc, of, env)?, *k))),
-        Code::Mod { of, k } => Ok(number(remain(eval_number(alloc, of, env)?, *k))),
+        Code::Neg(a) => Ok(cf_num::neg(eval_number(alloc, a, env)?)),
+        Code::Div { of, k } => Ok(divide(eval_number(alloc, of, env)?, *k)),
+        Code::Mod { of, k } => Ok(remain(eval_number(alloc, of, env)?, *k)),
         Code::Min(parts) => eval_best(alloc, Side::Least, parts, env),
         Code::Max(parts) => eval_best(alloc, Side::Greatest, parts, env),
+        Code::Card(a) => Ok(i128::from(eval_set(alloc, a, env)?.card())),
+        _ => Err(Stop::Memory),
+    }
+}
+
+// The truth value that a form of truth values gives. No other form is passed to it.
+#[cycle(eval)]
+#[inline(never)]
+#[tactic(auto, using(crate::proofs::FormLemmas::compare_ok, crate::proofs::FormLemmas::compare_left, crate::proofs::FormLemmas::compare_right))]
+fn test(alloc: Global, code: &Code, env: &mut Vec<Value>) -> Result<bool, Stop>
+    ensures told { TellsTruth result (as_truth (reached (code_tree code.now) (plains env.old.items))) }
+    ensures kept { OnOk result (env.new.items ≡ env.old.items) }
+{
+    match code {
+        Code::Truth(t) => Ok(*t),
+        Code::Compare { order, left, right } => {
+            if numeric(*order, kind_of(left)) {
+                let x = eval_number(alloc, left, env)?;
+                let y = eval_number(alloc, right, env)?;
+                Ok(compare_numbers(*order, x, y))
+            } else {
+                compare_values(alloc, code, env)
+            }
+        }
+        Code::Divides { k, of } => Ok(remain(eval_number(alloc, of, env)?, *k) == 0),
+        Code::Not(a) => Ok(!eval_truth(alloc, a, env)?),
+        Code::Subset(a, b) => {
+            let s = eval_set(alloc, a, env)?;
+            is_subset_of(alloc, s, b, env)
+        }
+        _ => Err(Stop::Memory),
+    }
+}
+
+// How the values of a comparison stand to each other. No other form is passed to it.
+#[cycle(eval)]
+#[inline(never)]
+fn compare_values(alloc: Global, code: &Code, env: &mut Vec<Value>) -> Result<bool, Stop>
+    ensures told { TellsTruth result (as_truth (reached (code_tree code.now) (plains env.old.items))) }
+    ensures kept { OnOk result (env.new.items ≡ env.old.items) }
+{
+    match code {
         Code::Compare { order, left, right } => {
             let v = eval_first(alloc, left, env)?;
             let w = eval_first(alloc, right, env)?;
-            Ok(truth(compare(*order, &v, &w)))
+            Ok(compare(*order, &v, &w))
         }
-        Code::Divides { k, of } => Ok(truth(remain(eval_number(alloc, of, env)?, *k) == 0)),
+        _ => Err(Stop::Memory),
+    }
+}
+
+// Whether the set that the code gives has all the elements of this one.
+#[cycle(eval)]
+#[inline(never)]
+fn is_subset_of(alloc: Global, s: Set, code: &Code, env: &mut Vec<Value>) -> Result<bool, Stop>
+    ensures told { TellsTruth result (seen (is_subset s) (as_set (reached (code_tree code.now) (plains env.old.items)))) }
+    ensures kept { OnOk result (env.new.items ≡ env.old.items) }
+{
+    let t = eval_set(alloc, code, env)?;
+    Ok(s.subset(&t))
+}
+
+// The set that a form of sets gives. No other form is passed to it.
+#[cycle(eval)]
+#[inline(never)]
+fn collect(alloc: Global, code: &Code, env: &mut Vec<Value>) -> Result<Set, Stop>
+    ensures told { TellsSet result (as_set (reached (code_tree code.now) (plains env.old.items))) }
+    ensures kept { OnOk result (env.new.items ≡ env.old.items) }
+{
+    match code {
+        Code::SetOf(parts) => eval_set_of(alloc, parts, env),
+        Code::Union(parts) => eval_join(alloc, Join::Union, parts, env),
+        Code::Inter(parts) => eval_join(alloc, Join::Inter, parts, env),
+        Code::Diff(a, b) => {
+            let s = eval_set(alloc, a, env)?;
+            let t = eval_set(alloc, b, env)?;
+            Ok(s.diff(alloc, &t)?)
+        }
+        Code::Slice { set: of, from, n } => {
+            let s = eval_set(alloc, of, env)?;
+            let start = eval_number(alloc, from, env)?;
+            let size = eval_number(alloc, n, env)?;
+            Ok(s.slice(alloc, start, size)?)
+        }
+        Code::Fresh { avoid, n } => {
+            let s = eval_set(alloc, avoid, env)?;
+            let size = eval_number(alloc, n, env)?;
+            fresh(alloc, &s, size)
+        }
+        _ => Err(Stop::Memory),
+    }
+}
+
+// What the forms give whose parts or values decide what they give. No other form is passed to it.
+#[cycle(eval)]
+#[inline(never)]
+fn choose(alloc: Global, code: &Code, env: &mut Vec<Value>) -> Result<Given, Stop>
+    ensures told { Tells result (reached (code_tree code.now) (plains env.old.items)) }
+    ensures fit { IfOk result IsGivenFit }
+    ensures kept { OnOk result (env.new.items ≡ env.old.items) }
+{
+    match code {
+        Code::Var(x) => met_copy(alloc, env.get(*x as usize)),
+        Code::Tuple(parts) => Ok(Given::Several(eval_all(alloc, parts, env)?)),
         Code::And(a, b) => {
             if eval_truth(alloc, a, env)? {
                 eval(alloc, b, env)
@@ -100,31 +349,6 @@ fn eval(alloc: Global, code: &Code, env: &mut Vec<Value>) -> Result<Given, Stop>
             } else {
                 eval(alloc, b, env)
             }
-        }
-        Code::Not(a) => Ok(truth(!eval_truth(alloc, a, env)?)),
-        Code::Union(parts) => eval_join(alloc, Join::Union, parts, env),
-        Code::Inter(parts) => eval_join(alloc, Join::Inter, parts, env),
-        Code::Diff(a, b) => {
-            let s = eval_set(alloc, a, env)?;
-            let t = eval_set(alloc, b, env)?;
-            Ok(set(s.diff(alloc, &t)?))
-        }
-        Code::Subset(a, b) => {
-            let s = eval_set(alloc, a, env)?;
-            let t = eval_set(alloc, b, env)?;
-            Ok(truth(s.subset(&t)))
-        }
-        Code::Card(a) => Ok(number(i128::from(eval_set(alloc, a, env)?.card()))),
-        Code::Slice { set: of, from, n } => {
-            let s = eval_set(alloc, of, env)?;
-            let start = eval_number(alloc, from, env)?;
-            let size = eval_number(alloc, n, env)?;
-            Ok(set(s.slice(alloc, start, size)?))
-        }
-        Code::Fresh { avoid, n } => {
-            let s = eval_set(alloc, avoid, env)?;
-            let size = eval_number(alloc, n, env)?;
-            fresh(alloc, &s, size)
         }
         Code::If { test, yes, no } => {
             if eval_truth(alloc, test, env)? {
@@ -145,87 +369,96 @@ fn eval(alloc: Global, code: &Code, env: &mut Vec<Value>) -> Result<Given, Stop>
             None => Err(Stop::Unsolved(*number)),
             Some(values) => Ok(Given::Several(values)),
         },
+        _ => Err(Stop::Memory),
     }
 }
 
-#[cycle(eval)]
-fn eval_first(alloc: Global, code: &Code, env: &mut Vec<Value>) -> Result<Value, Stop>
-    ensures told { TellsFirst result (as_first (reached (code_tree code.now) (plains env.old.items))) }
-    ensures fit { IfOk result IsFit }
-    ensures kept { OnOk result (env.new.items ≡ env.old.items) }
-{
-    Ok(eval(alloc, code, env)?.first())
-}
-
-#[cycle(eval)]
-fn eval_number(alloc: Global, code: &Code, env: &mut Vec<Value>) -> Result<i128, Stop>
-    ensures told { TellsNumber result (as_number (reached (code_tree code.now) (plains env.old.items))) }
-    ensures fit { IfOk result IsWithin }
-    ensures kept { OnOk result (env.new.items ≡ env.old.items) }
-{
-    match eval_first(alloc, code, env)? {
-        Value::Int(z) => Ok(z),
-        Value::Truth(_) => Ok(0),
-        Value::Elements(_) => Ok(0),
-    }
-}
-
-#[cycle(eval)]
-fn eval_truth(alloc: Global, code: &Code, env: &mut Vec<Value>) -> Result<bool, Stop>
-    ensures told { TellsTruth result (as_truth (reached (code_tree code.now) (plains env.old.items))) }
-    ensures kept { OnOk result (env.new.items ≡ env.old.items) }
-{
-    match eval_first(alloc, code, env)? {
-        Value::Truth(b) => Ok(b),
-        Value::Int(_) => Ok(false),
-        Value::Elements(_) => Ok(false),
-    }
-}
-
-#[cycle(eval)]
-fn eval_set(alloc: Global, code: &Code, env: &mut Vec<Value>) -> Result<Set, Stop>
-    ensures told { TellsSet result (as_set (reached (code_tree code.now) (plains env.old.items))) }
-    ensures kept { OnOk result (env.new.items ≡ env.old.items) }
-{
-    match eval_first(alloc, code, env)? {
-        Value::Elements(s) => Ok(s),
-        Value::Int(_) => Ok(empty(alloc)?),
-        Value::Truth(_) => Ok(empty(alloc)?),
-    }
-}
-
+// The values of the parts, one after another.
 #[cycle(eval)]
 fn eval_all(alloc: Global, parts: &[Code], env: &mut Vec<Value>) -> Result<Vec<Value>, Stop>
     ensures told { TellsAll result (all_reached (code_trees parts.now) (plains env.old.items) []) }
     ensures fit { IfOk result (λ vs. All IsFit vs.items) }
     ensures kept { OnOk result (env.new.items ≡ env.old.items) }
 {
-    let mut all = Vec::new(alloc);
+    let mut all = Vec::with_capacity(alloc, parts.len())?;
     for i in 0..parts.len() {
-        let more = eval(alloc, &parts[i], env)?;
-        more.append_to(&mut all)?;
+        add_part(alloc, &parts[i], env, &mut all)?;
     }
     Ok(all)
 }
 
+// Appends what the code gives.
 #[cycle(eval)]
-fn eval_set_of(alloc: Global, parts: &[Code], env: &mut Vec<Value>) -> Result<Given, Stop>
-    ensures told { Tells result (set_reached (code_trees parts.now) (plains env.old.items) []) }
-    ensures fit { IfOk result IsGivenFit }
+#[tactic(auto, using(crate::proofs::FormLemmas::number_ok, crate::proofs::FormLemmas::number_stop))]
+fn add_part(
+    alloc: Global,
+    code: &Code,
+    env: &mut Vec<Value>,
+    all: &mut Vec<Value>,
+) -> Result<(), Stop>
+    ensures told { TellsMore result (plains all.old.items) (plains all.new.items) (reached (code_tree code.now) (plains env.old.items)) }
+    ensures fit { OnOk result (All IsFit all.old.items → All IsFit all.new.items) }
     ensures kept { OnOk result (env.new.items ≡ env.old.items) }
 {
-    let mut items = Vec::new(alloc);
+    match kind_of(code) {
+        Kind::Number => {
+            let z = eval_number(alloc, code, env)?;
+            push_met(z, all)
+        }
+        _ => add_other(alloc, code, env, all),
+    }
+}
+
+#[cycle(eval)]
+fn add_other(
+    alloc: Global,
+    code: &Code,
+    env: &mut Vec<Value>,
+    all: &mut Vec<Value>,
+) -> Result<(), Stop>
+    ensures told { TellsMore result (plains all.old.items) (plains all.new.items) (reached (code_tree code.now) (plains env.old.items)) }
+    ensures fit { OnOk result (All IsFit all.old.items → All IsFit all.new.items) }
+    ensures kept { OnOk result (env.new.items ≡ env.old.items) }
+{
+    match code {
+        Code::Var(x) => push_copy(alloc, env.get(*x as usize), all),
+        _ => add_given(alloc, code, env, all),
+    }
+}
+
+#[cycle(eval)]
+#[inline(never)]
+fn add_given(
+    alloc: Global,
+    code: &Code,
+    env: &mut Vec<Value>,
+    all: &mut Vec<Value>,
+) -> Result<(), Stop>
+    ensures told { TellsMore result (plains all.old.items) (plains all.new.items) (reached (code_tree code.now) (plains env.old.items)) }
+    ensures fit { OnOk result (All IsFit all.old.items → All IsFit all.new.items) }
+    ensures kept { OnOk result (env.new.items ≡ env.old.items) }
+{
+    let more = eval(alloc, code, env)?;
+    more.append_to(all)
+}
+
+#[cycle(eval)]
+fn eval_set_of(alloc: Global, parts: &[Code], env: &mut Vec<Value>) -> Result<Set, Stop>
+    ensures told { TellsSet result (as_set (set_reached (code_trees parts.now) (plains env.old.items) [])) }
+    ensures kept { OnOk result (env.new.items ≡ env.old.items) }
+{
+    let mut items = Vec::with_capacity(alloc, parts.len())?;
     for i in 0..parts.len() {
         let x = eval_number(alloc, &parts[i], env)?;
         push_element(x, &mut items)?;
     }
-    Ok(set(Set::from_list(alloc, &items)?))
+    Ok(Set::from_list(alloc, &items)?)
 }
 
 #[cycle(eval)]
-fn eval_sum(alloc: Global, parts: &[Code], env: &mut Vec<Value>) -> Result<Given, Stop>
-    ensures told { Tells result (sum_reached (code_trees parts.now) (plains env.old.items) (pos 0)) }
-    ensures fit { IfOk result IsGivenFit }
+fn eval_sum(alloc: Global, parts: &[Code], env: &mut Vec<Value>) -> Result<i128, Stop>
+    ensures told { TellsNumber result (as_number (sum_reached (code_trees parts.now) (plains env.old.items) (pos 0))) }
+    ensures fit { IfOk result IsWithin }
     ensures kept { OnOk result (env.new.items ≡ env.old.items) }
 {
     let mut total: i128 = 0;
@@ -236,13 +469,13 @@ fn eval_sum(alloc: Global, parts: &[Code], env: &mut Vec<Value>) -> Result<Given
             None => return Err(Stop::Past),
         }
     }
-    Ok(number(total))
+    Ok(total)
 }
 
 #[cycle(eval)]
-fn eval_best(alloc: Global, side: Side, parts: &[Code], env: &mut Vec<Value>) -> Result<Given, Stop>
-    ensures told { Tells result (best_reached (better_of side) (code_trees parts.now) (plains env.old.items) None) }
-    ensures fit { IfOk result IsGivenFit }
+fn eval_best(alloc: Global, side: Side, parts: &[Code], env: &mut Vec<Value>) -> Result<i128, Stop>
+    ensures told { TellsNumber result (as_number (best_reached (better_of side) (code_trees parts.now) (plains env.old.items) None)) }
+    ensures fit { IfOk result IsWithin }
     ensures kept { OnOk result (env.new.items ≡ env.old.items) }
 {
     let mut best: Option<i128> = None;
@@ -250,13 +483,12 @@ fn eval_best(alloc: Global, side: Side, parts: &[Code], env: &mut Vec<Value>) ->
         let x = eval_number(alloc, &parts[i], env)?;
         best = Some(better(side, best, x));
     }
-    Ok(number(best.unwrap_or(0)))
+    Ok(best.unwrap_or(0))
 }
 
 #[cycle(eval)]
-fn eval_join(alloc: Global, how: Join, parts: &[Code], env: &mut Vec<Value>) -> Result<Given, Stop>
-    ensures told { Tells result (join_reached (join_of how) (code_trees parts.now) (plains env.old.items) None) }
-    ensures fit { IfOk result IsGivenFit }
+fn eval_join(alloc: Global, how: Join, parts: &[Code], env: &mut Vec<Value>) -> Result<Set, Stop>
+    ensures told { TellsSet result (as_set (join_reached (join_of how) (code_trees parts.now) (plains env.old.items) None)) }
     ensures kept { OnOk result (env.new.items ≡ env.old.items) }
 {
     let mut joined: Option<Set> = None;
@@ -265,8 +497,8 @@ fn eval_join(alloc: Global, how: Join, parts: &[Code], env: &mut Vec<Value>) -> 
         joined = Some(join_more(alloc, how, joined, more)?);
     }
     match joined {
-        None => Ok(set(empty(alloc)?)),
-        Some(s) => Ok(set(s)),
+        None => Ok(empty(alloc)?),
+        Some(s) => Ok(s),
     }
 }
 
@@ -346,10 +578,50 @@ fn run_item(alloc: Global, item: &Item, env: &mut Vec<Value>) -> Result<bool, St
 {
     match item {
         Item::Let(code) => {
-            let more = eval(alloc, code, env)?;
-            more.append_to(env)?;
+            bind(alloc, code, env)?;
             Ok(true)
         }
         Item::Need(code) => eval_truth(alloc, code, env),
     }
+}
+
+// Binds what the code gives.
+#[cycle(eval)]
+#[tactic(auto, using(crate::proofs::FormLemmas::number_ok, crate::proofs::FormLemmas::number_stop))]
+fn bind(alloc: Global, code: &Code, env: &mut Vec<Value>) -> Result<(), Stop>
+    ensures told { TellsMore result (plains env.old.items) (plains env.new.items) (reached (code_tree code.now) (plains env.old.items)) }
+    ensures kept { OnOk result (Extends env.old.items env.new.items) }
+{
+    match kind_of(code) {
+        Kind::Number => {
+            let z = eval_number(alloc, code, env)?;
+            push_met(z, env)
+        }
+        _ => bind_other(alloc, code, env),
+    }
+}
+
+#[cycle(eval)]
+#[inline(never)]
+fn bind_other(alloc: Global, code: &Code, env: &mut Vec<Value>) -> Result<(), Stop>
+    ensures told { TellsMore result (plains env.old.items) (plains env.new.items) (reached (code_tree code.now) (plains env.old.items)) }
+    ensures kept { OnOk result (Extends env.old.items env.new.items) }
+{
+    match code {
+        Code::Var(x) => {
+            let more = met_copy(alloc, env.get(*x as usize))?;
+            more.append_to(env)
+        }
+        _ => bind_given(alloc, code, env),
+    }
+}
+
+#[cycle(eval)]
+#[inline(never)]
+fn bind_given(alloc: Global, code: &Code, env: &mut Vec<Value>) -> Result<(), Stop>
+    ensures told { TellsMore result (plains env.old.items) (plains env.new.items) (reached (code_tree code.now) (plains env.old.items)) }
+    ensures kept { OnOk result (Extends env.old.items env.new.items) }
+{
+    let more = eval(alloc, code, env)?;
+    more.append_to(env)
 }

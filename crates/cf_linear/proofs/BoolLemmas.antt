@@ -3,7 +3,7 @@ use Rattle.std.proofs.Common.{◌≡◌, ◌⊎◌, ◌-◌, ◌^◌, ℤ, pos, 
 use Rattle.std.specs.Prelude.{unsigned_abs, nat_le}
 use Rattle.std.proofs.lemmas.Int.{ints}
 use Rattle.cf_num.specs.Limit.{within}
-use Rattle.cf_linear.specs.Rows.{passes, sum_passes}
+use Rattle.cf_linear.specs.Rows.{passes, sum_passes, next_sum}
 use Rattle.cf_linear.specs.Merging.{two_products}
 
 pub on_bool : {P : Type 0} (b : Bool) → (b ≡ true → P) → (b ≡ false → P) → P
@@ -26,6 +26,18 @@ two_is a k b m x y z e f g =
     ⊎_elim (λ s. rw (p.1, q.1, s.1) (h ∙ s.0)) (λ s. rw (p.1, q.1, s.1) (h ∙ s.0)) (within_cases (a *ℤ k +ℤ b *ℤ m)))
     (λ q. let n : Some y ≡ None = f ∙ q.0 in cc) (within_cases (b *ℤ m)))
     (λ p. let n : Some x ≡ None = e ∙ p.0 in cc) (within_cases (a *ℤ k))
+  where
+    some_is : {u v : ℤ} → Some u ≡ Some v → u ≡ v
+    some_is h = cc
+
+-- a sum with a product that was found to be within the limit
+pub next_is : (t k x y : ℤ) (z : Option ℤ) → Some y ≡ within (k *ℤ x) → z ≡ within (t +ℤ y) → z ≡ next_sum t k x
+next_is t k x y z e f =
+    ⊎_elim (λ p.
+    let i : y ≡ k *ℤ x = some_is (e ∙ p.0) in
+    let h : z ≡ within (t +ℤ k *ℤ x) = rw i at f in
+    ⊎_elim (λ s. rw (p.1, s.1) (h ∙ s.0)) (λ s. rw (p.1, s.1) (h ∙ s.0)) (within_cases (t +ℤ k *ℤ x)))
+    (λ p. let n : Some y ≡ None = e ∙ p.0 in cc) (within_cases (k *ℤ x))
   where
     some_is : {u v : ℤ} → Some u ≡ Some v → u ≡ v
     some_is h = cc

@@ -54,6 +54,16 @@ GivesQuotient c r k before after (Ok x) =
     (x ≡ above_quotient c r k) × ((row_passes (above_quotient c r k) || row_passes (below_quotient c r k)) ≡ false) × (after ≡ before ++ (quotient_guard c r k ∷ []))
 GivesQuotient c r k before after (Err e) = Fails (row_passes (above_quotient c r k) || row_passes (below_quotient c r k)) e
 
+-- the guard g was added, or Past where b
+abbrev pub GivesGuard : Bool → GuardTree → List GuardTree → List GuardTree → Result (Unit {0}) RowFault → Type 0
+GivesGuard b g before after (Ok u) = (b ≡ false) × (after ≡ before ++ (g ∷ []))
+GivesGuard b g before after (Err e) = Fails b e
+
+-- the row r, after the guard g was added, or Past where b
+abbrev pub GivesBack : Row → Bool → GuardTree → List GuardTree → List GuardTree → Result Row RowFault → Type 0
+GivesBack r b g before after (Ok x) = (x ≡ r) × (b ≡ false) × (after ≡ before ++ (g ∷ []))
+GivesBack r b g before after (Err e) = Fails b e
+
 -- a row alone
 abbrev pub bare : Row → WrittenTree
 bare r = record { row = r; guards = []; next = 0; signs = []; passes = false }

@@ -3,10 +3,10 @@ ghost use Rattle.std.specs.Prelude.{◌≡◌, [], ◌+◌, ◌≤◌, ◌<◌, 
 ghost use Rattle.cf_num.specs.Limit.{IsWithin};
 ghost use Rattle.cf_tree.specs.RelView.{set_tree, term_tree};
 ghost use Rattle.cf_tree.specs.Relation.{IsLinearTerm, is_fixed, IsDivisor};
-ghost use Rattle.cf_linear.specs.Rows.{Values, IsRow, value, put, comb};
+ghost use Rattle.cf_linear.specs.Rows.{Values, IsRow, value, put, comb, row_passes};
 ghost use Rattle.cf_linear.specs.Layout.{set_count, first_free, covers, region_row};
-ghost use Rattle.cf_linear.specs.Written.{first_sign, other_signs, plus, above_quotient, below_quotient, product_by, write, val_at, GuardsHold, IsPlaced, abs_count, quotient_count};
-ghost use Rattle.cf_linear.specs.Parts.{Gives, GivesRow, GivesPart, GivesDivided, GivesAbsolute, GivesQuotient, GivesSigned, Tested};
+ghost use Rattle.cf_linear.specs.Written.{first_sign, other_signs, plus, above_quotient, below_quotient, product_by, write, val_at, GuardsHold, IsPlaced, abs_count, quotient_count, sign_guard};
+ghost use Rattle.cf_linear.specs.Parts.{Gives, GivesRow, GivesPart, GivesDivided, GivesAbsolute, GivesQuotient, GivesSigned, GivesGuard, GivesBack, Tested};
 ghost use Rattle.cf_linear.specs.Views.{plain_levels, guard_of};
 
 use crate::columns::{number_column, region_row};
@@ -126,33 +126,33 @@ fn part_of(
     ensures next { IfOk result (λ p. p.next ≡ next + quotient_count (term_tree term.now)) }
 {
     match term {
-        Term::Lit(n) => {
-            let row = Row::unit(alloc, 0, *n)?;
-            Ok(Part { row, next, used })
-        }
-        Term::Var(x) => {
-            let row = Row::unit(alloc, number_column(layout, *x), 1)?;
-            Ok(Part { row, next, used })
-        }
+        Term::Lit(n) => unit_of(alloc, 0, n, next, used),
+        Term::Var(x) => unit_of(alloc, number_column(layout, *x), &1, next, used),
         Term::Card(set) => count_of(alloc, layout, set, next, used),
         Term::Neg(a) => {
             let part = part_of(alloc, a, layout, signs, used, next, guards)?;
-            negated_of(alloc, &part)
+            negated_of(alloc, part)
         }
         Term::Add(a, b) => {
             let left = part_of(alloc, a, layout, signs, used, next, guards)?;
-            let right = part_of(alloc, b, layout, signs, left.used, left.next, guards)?;
-            sum_of(alloc, &left, &right)
+            match part_of(alloc, b, layout, signs, left.used, left.next, guards) {
+                Ok(right) => sum_of(alloc, left, right),
+                Err(fault) => Err(without(left, fault)),
+            }
         }
         Term::Sub(a, b) => {
             let left = part_of(alloc, a, layout, signs, used, next, guards)?;
-            let right = part_of(alloc, b, layout, signs, left.used, left.next, guards)?;
-            difference_of(alloc, &left, &right)
+            match part_of(alloc, b, layout, signs, left.used, left.next, guards) {
+                Ok(right) => difference_of(alloc, left, right),
+                Err(fault) => Err(without(left, fault)),
+            }
         }
         Term::Mul(a, b) => {
             let left = part_of(alloc, a, layout, signs, used, next, guards)?;
-            let right = part_of(alloc, b, layout, signs, left.used, left.next, guards)?;
-            product_of(alloc, is_fixed(a), &left, &right)
+            match part_of(alloc, b, layout, signs, left.used, left.next, guards) {
+                Ok(right) => product_of(alloc, is_fixed(a), left, right),
+                Err(fault) => Err(without(left, fault)),
+            }
         }
         Term::Div(a, k) => {
             let part = part_of(alloc, a, layout, signs, used, next, guards)?;
@@ -167,6 +167,22 @@ fn part_of(
             absolute_of(alloc, guards, signs, part)
         }
     }
+}
+
+// The fault, when the value has been dropped.
+fn without<T: Drop>(_value: T, fault: RowFault) -> RowFault
+    ensures { result ≡ fault }
+{
+    fault
+}
+
+// `n` times a column.
+fn unit_of(alloc: Global, column: u32, n: &i128, next: u32, used: usize) -> Result<Part, RowFault>
+    requires { IsWithin n.now }
+    ensures { GivesPart (put column n.now []) next used result }
+{
+    let row = Row::unit(alloc, column, *n)?;
+    Ok(Part { row, next, used })
 }
 
 // The sum of the counts of the regions in the set form.
@@ -186,56 +202,50 @@ fn count_of(
 }
 
 // The part with the other signs.
-fn negated_of(alloc: Global, part: &Part) -> Result<Part, RowFault>
-    ensures { GivesPart (comb (negsuc 0) part.now.row (pos 0) []) part.now.next part.now.used result }
+fn negated_of(alloc: Global, part: Part) -> Result<Part, RowFault>
+    ensures { GivesPart (comb (negsuc 0) part.row (pos 0) []) part.next part.used result }
 {
-    let row = part.row.times(alloc, -1)?;
-    Ok(Part {
-        row,
-        next: part.next,
-        used: part.used,
-    })
+    let (next, used) = (part.next, part.used);
+    let row = part.row.times(alloc, -1);
+    drop(part);
+    let row = row?;
+    Ok(Part { row, next, used })
 }
 
 // The sum of two parts, the second written after the first.
-fn sum_of(alloc: Global, left: &Part, right: &Part) -> Result<Part, RowFault>
-    ensures { GivesPart (comb (pos 1) left.now.row (pos 1) right.now.row) right.now.next right.now.used result }
+fn sum_of(alloc: Global, left: Part, right: Part) -> Result<Part, RowFault>
+    ensures { GivesPart (comb (pos 1) left.row (pos 1) right.row) right.next right.used result }
 {
-    let row = added(alloc, &left.row, &right.row)?;
-    Ok(Part {
-        row,
-        next: right.next,
-        used: right.used,
-    })
+    let (next, used) = (right.next, right.used);
+    let row = added(alloc, &left.row, &right.row);
+    drop(left);
+    drop(right);
+    let row = row?;
+    Ok(Part { row, next, used })
 }
 
 // The difference of two parts, the second written after the first.
-fn difference_of(alloc: Global, left: &Part, right: &Part) -> Result<Part, RowFault>
-    ensures { GivesPart (comb (pos 1) left.now.row (negsuc 0) right.now.row) right.now.next right.now.used result }
+fn difference_of(alloc: Global, left: Part, right: Part) -> Result<Part, RowFault>
+    ensures { GivesPart (comb (pos 1) left.row (negsuc 0) right.row) right.next right.used result }
 {
-    let row = subtracted(alloc, &left.row, &right.row)?;
-    Ok(Part {
-        row,
-        next: right.next,
-        used: right.used,
-    })
+    let (next, used) = (right.next, right.used);
+    let row = subtracted(alloc, &left.row, &right.row);
+    drop(left);
+    drop(right);
+    let row = row?;
+    Ok(Part { row, next, used })
 }
 
 // The product of two parts, the second written after the first.
-fn product_of(
-    alloc: Global,
-    is_left_fixed: bool,
-    left: &Part,
-    right: &Part,
-) -> Result<Part, RowFault>
-    ensures { GivesPart (product_by is_left_fixed left.now.row right.now.row) right.now.next right.now.used result }
+fn product_of(alloc: Global, is_left_fixed: bool, left: Part, right: Part) -> Result<Part, RowFault>
+    ensures { GivesPart (product_by is_left_fixed left.row right.row) right.next right.used result }
 {
-    let row = multiplied(alloc, is_left_fixed, &left.row, &right.row)?;
-    Ok(Part {
-        row,
-        next: right.next,
-        used: right.used,
-    })
+    let (next, used) = (right.next, right.used);
+    let row = multiplied(alloc, is_left_fixed, &left.row, &right.row);
+    drop(left);
+    drop(right);
+    let row = row?;
+    Ok(Part { row, next, used })
 }
 
 // The quotient of the part by `k`, in a column of its own.
@@ -355,16 +365,50 @@ fn add_sign(alloc: Global, guards: &mut Vec<Guard>, minus: bool, row: Row) -> Re
     ensures { GivesSigned minus row (map guard_of guards.old.items) (map guard_of guards.new.items) result }
 {
     if minus {
-        let negated = row.negated(alloc)?;
-        let one_less = Row::unit(alloc, 0, -1)?;
-        let guard = added(alloc, &negated, &one_less)?;
-        guards.push(Guard::Sign(guard))?;
-        Ok(negated)
+        let negated = row.negated(alloc);
+        drop(row);
+        add_minus(alloc, guards, negated?)
     } else {
-        let guard = row.try_copy(alloc)?;
-        guards.push(Guard::Sign(guard))?;
-        Ok(row)
+        add_plus(alloc, guards, row)
     }
+}
+
+// Adds the guard of a minus, and gives the row back, which has the sign.
+fn add_minus(alloc: Global, guards: &mut Vec<Guard>, row: Row) -> Result<Row, RowFault>
+    ensures { GivesBack row (row_passes (plus row (negsuc 0))) (sign_guard (plus row (negsuc 0))) (map guard_of guards.old.items) (map guard_of guards.new.items) result }
+{
+    match add_less(alloc, guards, &row) {
+        Ok(()) => Ok(row),
+        Err(fault) => Err(without(row, fault)),
+    }
+}
+
+// Adds the guard that the row is at least 1.
+fn add_less(alloc: Global, guards: &mut Vec<Guard>, row: &Row) -> Result<(), RowFault>
+    ensures { GivesGuard (row_passes (plus row.now (negsuc 0))) (sign_guard (plus row.now (negsuc 0))) (map guard_of guards.old.items) (map guard_of guards.new.items) result }
+{
+    let guard = plus(alloc, row, -1)?;
+    guards.push(Guard::Sign(guard))?;
+    Ok(())
+}
+
+// Adds the guard that the row is at least 0, and gives the row back.
+fn add_plus(alloc: Global, guards: &mut Vec<Guard>, row: Row) -> Result<Row, RowFault>
+    ensures { GivesBack row false (sign_guard row) (map guard_of guards.old.items) (map guard_of guards.new.items) result }
+{
+    match add_copy(alloc, guards, &row) {
+        Ok(()) => Ok(row),
+        Err(fault) => Err(without(row, fault)),
+    }
+}
+
+// Adds the guard that the row is at least 0.
+fn add_copy(alloc: Global, guards: &mut Vec<Guard>, row: &Row) -> Result<(), RowFault>
+    ensures { GivesGuard false (sign_guard row.now) (map guard_of guards.old.items) (map guard_of guards.new.items) result }
+{
+    let guard = row.try_copy(alloc)?;
+    guards.push(Guard::Sign(guard))?;
+    Ok(())
 }
 
 // The next sign, and how many are used with it.

@@ -6,7 +6,7 @@ ghost use Rattle.cf_reader.specs.Gives.{Gives};
 ghost use Rattle.cf_parse.specs.Reading.{grouped as grouped_of};
 
 use crate::lists::Names;
-use crate::part::{Measured, MeasuredArm, MeasuredArms, MeasuredList};
+use crate::part::{Boxed, Measured, MeasuredArm, MeasuredArms, MeasuredList};
 use crate::pattern::Pattern;
 use cf_reader::stop::Stop;
 use cf_tree::base::{Place, Text};
@@ -83,137 +83,132 @@ pub fn call(place: Place, x: Text, list: MeasuredList) -> Measured
     }
 }
 
-pub fn neg(alloc: Global, place: Place, e: Measured) -> Result<Measured, Stop>
+pub fn neg(place: Place, e: Boxed) -> Measured
     requires { e.depth < 2 ^ 31 }
-    ensures value { Gives (λ x. raw_tree x.raw) result (Ok (raw_neg place (raw_tree e.raw))) }
-    ensures deep { IfOk result (λ x. x.depth ≡ 1 + e.depth) }
+    ensures value { raw_tree result.raw ≡ raw_neg place (raw_tree e.raw.value) }
+    ensures deep { result.depth ≡ 1 + e.depth }
 {
     let depth = 1 + e.depth;
-    let e = Box::new(alloc, e.raw)?;
-    Ok(Measured {
+    let e = e.raw;
+    Measured {
         raw: Raw {
             place,
             node: RawNode::Neg(e),
         },
         depth,
-    })
+    }
 }
 
-pub fn not(alloc: Global, place: Place, e: Measured) -> Result<Measured, Stop>
+pub fn not(place: Place, e: Boxed) -> Measured
     requires { e.depth < 2 ^ 31 }
-    ensures value { Gives (λ x. raw_tree x.raw) result (Ok (raw_not place (raw_tree e.raw))) }
-    ensures deep { IfOk result (λ x. x.depth ≡ 1 + e.depth) }
+    ensures value { raw_tree result.raw ≡ raw_not place (raw_tree e.raw.value) }
+    ensures deep { result.depth ≡ 1 + e.depth }
 {
     let depth = 1 + e.depth;
-    let e = Box::new(alloc, e.raw)?;
-    Ok(Measured {
+    let e = e.raw;
+    Measured {
         raw: Raw {
             place,
             node: RawNode::Not(e),
         },
         depth,
-    })
+    }
 }
 
-pub fn abs(alloc: Global, place: Place, e: Measured) -> Result<Measured, Stop>
+pub fn abs(place: Place, e: Boxed) -> Measured
     requires { e.depth < 2 ^ 31 }
-    ensures value { Gives (λ x. raw_tree x.raw) result (Ok (raw_abs place (raw_tree e.raw))) }
-    ensures deep { IfOk result (λ x. x.depth ≡ 1 + e.depth) }
+    ensures value { raw_tree result.raw ≡ raw_abs place (raw_tree e.raw.value) }
+    ensures deep { result.depth ≡ 1 + e.depth }
 {
     let depth = 1 + e.depth;
-    let e = Box::new(alloc, e.raw)?;
-    Ok(Measured {
+    let e = e.raw;
+    Measured {
         raw: Raw {
             place,
             node: RawNode::Abs(e),
         },
         depth,
-    })
+    }
 }
 
-pub fn card(alloc: Global, place: Place, e: Measured) -> Result<Measured, Stop>
+pub fn card(place: Place, e: Boxed) -> Measured
     requires { e.depth < 2 ^ 31 }
-    ensures value { Gives (λ x. raw_tree x.raw) result (Ok (raw_card place (raw_tree e.raw))) }
-    ensures deep { IfOk result (λ x. x.depth ≡ 1 + e.depth) }
+    ensures value { raw_tree result.raw ≡ raw_card place (raw_tree e.raw.value) }
+    ensures deep { result.depth ≡ 1 + e.depth }
 {
     let depth = 1 + e.depth;
-    let e = Box::new(alloc, e.raw)?;
-    Ok(Measured {
+    let e = e.raw;
+    Measured {
         raw: Raw {
             place,
             node: RawNode::Card(e),
         },
         depth,
-    })
+    }
 }
 
-pub fn divides(alloc: Global, place: Place, k: i128, e: Measured) -> Result<Measured, Stop>
+pub fn divides(place: Place, k: i128, e: Boxed) -> Measured
     requires { e.depth < 2 ^ 31 }
-    ensures value { Gives (λ x. raw_tree x.raw) result (Ok (raw_divides place k (raw_tree e.raw))) }
-    ensures deep { IfOk result (λ x. x.depth ≡ 1 + e.depth) }
+    ensures value { raw_tree result.raw ≡ raw_divides place k (raw_tree e.raw.value) }
+    ensures deep { result.depth ≡ 1 + e.depth }
 {
     let depth = 1 + e.depth;
-    let e = Box::new(alloc, e.raw)?;
-    Ok(Measured {
+    let e = e.raw;
+    Measured {
         raw: Raw {
             place,
             node: RawNode::Divides { k, of: e },
         },
         depth,
-    })
+    }
 }
 
-pub fn div(alloc: Global, place: Place, e: Measured, k: i128) -> Result<Measured, Stop>
+pub fn div(place: Place, e: Boxed, k: i128) -> Measured
     requires { e.depth < 2 ^ 31 }
-    ensures value { Gives (λ x. raw_tree x.raw) result (Ok (raw_div place (raw_tree e.raw) k)) }
-    ensures deep { IfOk result (λ x. x.depth ≡ 1 + e.depth) }
+    ensures value { raw_tree result.raw ≡ raw_div place (raw_tree e.raw.value) k }
+    ensures deep { result.depth ≡ 1 + e.depth }
 {
     let depth = 1 + e.depth;
-    let e = Box::new(alloc, e.raw)?;
-    Ok(Measured {
+    let e = e.raw;
+    Measured {
         raw: Raw {
             place,
             node: RawNode::Div { of: e, k },
         },
         depth,
-    })
+    }
 }
 
-pub fn modulo(alloc: Global, place: Place, e: Measured, k: i128) -> Result<Measured, Stop>
+pub fn modulo(place: Place, e: Boxed, k: i128) -> Measured
     requires { e.depth < 2 ^ 31 }
-    ensures value { Gives (λ x. raw_tree x.raw) result (Ok (raw_mod place (raw_tree e.raw) k)) }
-    ensures deep { IfOk result (λ x. x.depth ≡ 1 + e.depth) }
+    ensures value { raw_tree result.raw ≡ raw_mod place (raw_tree e.raw.value) k }
+    ensures deep { result.depth ≡ 1 + e.depth }
 {
     let depth = 1 + e.depth;
-    let e = Box::new(alloc, e.raw)?;
-    Ok(Measured {
+    let e = e.raw;
+    Measured {
         raw: Raw {
             place,
             node: RawNode::Mod { of: e, k },
         },
         depth,
-    })
+    }
 }
 
-pub fn choose(
-    alloc: Global,
-    place: Place,
-    outputs: Vec<Param>,
-    e: Measured,
-) -> Result<Measured, Stop>
+pub fn choose(place: Place, outputs: Vec<Param>, e: Boxed) -> Measured
     requires { e.depth < 2 ^ 31 }
-    ensures value { Gives (λ x. raw_tree x.raw) result (Ok (raw_choose place outputs.items (raw_tree e.raw))) }
-    ensures deep { IfOk result (λ x. x.depth ≡ 1 + e.depth) }
+    ensures value { raw_tree result.raw ≡ raw_choose place outputs.items (raw_tree e.raw.value) }
+    ensures deep { result.depth ≡ 1 + e.depth }
 {
     let depth = 1 + e.depth;
-    let e = Box::new(alloc, e.raw)?;
-    Ok(Measured {
+    let e = e.raw;
+    Measured {
         raw: Raw {
             place,
             node: RawNode::Choose { outputs, rel: e },
         },
         depth,
-    })
+    }
 }
 
 pub fn binary(
@@ -221,16 +216,16 @@ pub fn binary(
     place: Place,
     op: BinOp,
     left: Measured,
-    right: Measured,
+    right: Boxed,
 ) -> Result<Measured, Stop>
     requires left_in { left.depth < 2 ^ 31 }
     requires right_in { right.depth < 2 ^ 31 }
-    ensures value { Gives (λ x. raw_tree x.raw) result (Ok (raw_binary place op (raw_tree left.raw) (raw_tree right.raw))) }
+    ensures value { Gives (λ x. raw_tree x.raw) result (Ok (raw_binary place op (raw_tree left.raw) (raw_tree right.raw.value))) }
     ensures deep { IfOk result (λ x. x.depth ≡ 1 + max left.depth right.depth) }
 {
     let depth = 1 + left.depth.max(right.depth);
     let left = Box::new(alloc, left.raw)?;
-    let right = Box::new(alloc, right.raw)?;
+    let right = right.raw;
     Ok(Measured {
         raw: Raw {
             place,
@@ -240,48 +235,36 @@ pub fn binary(
     })
 }
 
-pub fn if_else(
-    alloc: Global,
-    place: Place,
-    test: Measured,
-    yes: Measured,
-    no: Measured,
-) -> Result<Measured, Stop>
+pub fn if_else(place: Place, test: Boxed, yes: Boxed, no: Boxed) -> Measured
     requires test_in { test.depth < 2 ^ 31 }
     requires yes_in { yes.depth < 2 ^ 31 }
     requires no_in { no.depth < 2 ^ 31 }
-    ensures value { Gives (λ x. raw_tree x.raw) result (Ok (raw_if place (raw_tree test.raw) (raw_tree yes.raw) (raw_tree no.raw))) }
-    ensures deep { IfOk result (λ x. x.depth ≡ 1 + max test.depth (max yes.depth no.depth)) }
+    ensures value { raw_tree result.raw ≡ raw_if place (raw_tree test.raw.value) (raw_tree yes.raw.value) (raw_tree no.raw.value) }
+    ensures deep { result.depth ≡ 1 + max test.depth (max yes.depth no.depth) }
 {
     let depth = 1 + test.depth.max(yes.depth.max(no.depth));
-    let test = Box::new(alloc, test.raw)?;
-    let yes = Box::new(alloc, yes.raw)?;
-    let no = Box::new(alloc, no.raw)?;
-    Ok(Measured {
+    let test = test.raw;
+    let yes = yes.raw;
+    let no = no.raw;
+    Measured {
         raw: Raw {
             place,
             node: RawNode::If { test, yes, no },
         },
         depth,
-    })
+    }
 }
 
-pub fn let_in(
-    alloc: Global,
-    place: Place,
-    names: Names,
-    value: Measured,
-    body: Measured,
-) -> Result<Measured, Stop>
+pub fn let_in(place: Place, names: Names, value: Boxed, body: Boxed) -> Measured
     requires value_in { value.depth < 2 ^ 31 }
     requires body_in { body.depth < 2 ^ 31 }
-    ensures value { Gives (λ x. raw_tree x.raw) result (Ok (raw_let place names.names.items names.places.items (raw_tree value.raw) (raw_tree body.raw))) }
-    ensures deep { IfOk result (λ x. x.depth ≡ 1 + max value.depth body.depth) }
+    ensures value { raw_tree result.raw ≡ raw_let place names.names.items names.places.items (raw_tree value.raw.value) (raw_tree body.raw.value) }
+    ensures deep { result.depth ≡ 1 + max value.depth body.depth }
 {
     let depth = 1 + value.depth.max(body.depth);
-    let value = Box::new(alloc, value.raw)?;
-    let body = Box::new(alloc, body.raw)?;
-    Ok(Measured {
+    let value = value.raw;
+    let body = body.raw;
+    Measured {
         raw: Raw {
             place,
             node: RawNode::Let {
@@ -292,23 +275,18 @@ pub fn let_in(
             },
         },
         depth,
-    })
+    }
 }
 
-pub fn match_with(
-    alloc: Global,
-    place: Place,
-    of: Measured,
-    arms: MeasuredArms,
-) -> Result<Measured, Stop>
+pub fn match_with(place: Place, of: Boxed, arms: MeasuredArms) -> Measured
     requires of_in { of.depth < 2 ^ 31 }
     requires arms_in { arms.depth < 2 ^ 31 }
-    ensures value { Gives (λ x. raw_tree x.raw) result (Ok (raw_match place (raw_tree of.raw) (raw_arms_of (map raw_arm_tree arms.arms.items)))) }
-    ensures deep { IfOk result (λ x. x.depth ≡ 1 + max of.depth arms.depth) }
+    ensures value { raw_tree result.raw ≡ raw_match place (raw_tree of.raw.value) (raw_arms_of (map raw_arm_tree arms.arms.items)) }
+    ensures deep { result.depth ≡ 1 + max of.depth arms.depth }
 {
     let depth = 1 + of.depth.max(arms.depth);
-    let of = Box::new(alloc, of.raw)?;
-    Ok(Measured {
+    let of = of.raw;
+    Measured {
         raw: Raw {
             place,
             node: RawNode::Match {
@@ -317,7 +295,24 @@ pub fn match_with(
             },
         },
         depth,
-    })
+    }
+}
+
+/// The tree in a box.
+pub fn boxed(alloc: Global, e: Measured) -> Result<Boxed, Stop>
+    ensures value { Gives (λ x. raw_tree x.raw.value) result (Ok (raw_tree e.raw)) }
+    ensures deep { IfOk result (λ x. x.depth ≡ e.depth) }
+{
+    let depth = e.depth;
+    let raw = Box::new(alloc, e.raw)?;
+    Ok(Boxed { raw, depth })
+}
+
+/// What stops, once a value is given up.
+pub fn without<T: Drop>(_value: T, stop: Stop) -> Stop
+    ensures { result ≡ stop }
+{
+    stop
 }
 
 /// One tree in parentheses, or two or more.

@@ -13,6 +13,14 @@ pub struct Measured {
     ghost measured: { depth ≡ raw_depth (raw_tree raw) },
 }
 
+/// A tree in a box, and its depth.
+#[derive(Drop)]
+pub struct Boxed {
+    pub raw: Box<Raw>,
+    pub depth: u32,
+    ghost measured: { depth ≡ raw_depth (raw_tree raw.value) },
+}
+
 /// Trees and the depth of the deepest, or 0.
 #[derive(Drop)]
 pub struct MeasuredList {

@@ -10,7 +10,7 @@ ghost use Rattle.cf_parse.specs.Reading.{chain_of, list_of, items_of, inside_of,
 use crate::level::Level;
 use crate::lists::{params, read_names};
 use crate::node;
-use crate::part::{Measured, MeasuredArm, MeasuredArms, MeasuredList};
+use crate::part::{Boxed, Measured, MeasuredArm, MeasuredArms, MeasuredList};
 use crate::pattern::read_pattern;
 use crate::words::{divides_by, next_op, under};
 use cf_lex::Token;
@@ -47,6 +47,17 @@ pub fn part(
         Level::Muls => muls(alloc, n - 1, tokens),
         Level::Unary => unary(alloc, n - 1, tokens),
     }
+}
+
+/// A tree of depth at most `n`, at a level, in a box.
+#[cycle(reading)]
+fn boxed(alloc: Global, level: Level, n: u32, tokens: &[Token]) -> Result<(Boxed, &[Token]), Stop>
+    requires { n < 2 ^ 30 }
+    ensures value { Gives (λ x. (raw_tree x.0.raw.value, x.1.now)) result (read_at n level tokens.now) }
+    ensures deep { IfOk result (λ x. x.0.depth ≤ n) }
+{
+    let (e, rest) = part(alloc, level, n, tokens)?;
+    Ok((node::boxed(alloc, e)?, rest))
 }
 
 /// Any expression.
@@ -99,10 +110,10 @@ fn let_in(
 {
     let (names, rest) = read_names(alloc, tokens)?;
     let (_, rest) = expect_sign("=", rest)?;
-    let (value, rest) = part(alloc, Level::Whole, n, rest)?;
+    let (value, rest) = boxed(alloc, Level::Whole, n, rest)?;
     let (_, rest) = expect_word("in", rest)?;
-    let (body, rest) = part(alloc, Level::Whole, n, rest)?;
-    Ok((node::let_in(alloc, place, names, value, body)?, rest))
+    let (body, rest) = boxed(alloc, Level::Whole, n, rest)?;
+    Ok((node::let_in(place, names, value, body), rest))
 }
 
 /// Behind the word `if`.
@@ -118,12 +129,12 @@ fn if_else(
     ensures value { Gives (λ x. (raw_tree x.0.raw, x.1.now)) result (if_of (read_at n) place tokens.now) }
     ensures deep { IfOk result (λ x. x.0.depth ≤ n + 1) }
 {
-    let (test, rest) = part(alloc, Level::Whole, n, tokens)?;
+    let (test, rest) = boxed(alloc, Level::Whole, n, tokens)?;
     let (_, rest) = expect_word("then", rest)?;
-    let (yes, rest) = part(alloc, Level::Whole, n, rest)?;
+    let (yes, rest) = boxed(alloc, Level::Whole, n, rest)?;
     let (_, rest) = expect_word("else", rest)?;
-    let (no, rest) = part(alloc, Level::Whole, n, rest)?;
-    Ok((node::if_else(alloc, place, test, yes, no)?, rest))
+    let (no, rest) = boxed(alloc, Level::Whole, n, rest)?;
+    Ok((node::if_else(place, test, yes, no), rest))
 }
 
 /// Behind the word `choose`.
@@ -142,8 +153,8 @@ fn choose(
     let (_, rest) = expect_sign("(", tokens)?;
     let (outputs, rest) = params(alloc, rest)?;
     let (_, rest) = expect_word("where", rest)?;
-    let (rel, rest) = part(alloc, Level::Ors, n, rest)?;
-    Ok((node::choose(alloc, place, outputs, rel)?, rest))
+    let (rel, rest) = boxed(alloc, Level::Ors, n, rest)?;
+    Ok((node::choose(place, outputs, rel), rest))
 }
 
 /// Behind the word `match`.
@@ -160,13 +171,13 @@ fn match_with(
     ensures value { Gives (λ x. (raw_tree x.0.raw, x.1.now)) result (match_of (read_at n) place tokens.now) }
     ensures deep { IfOk result (λ x. x.0.depth ≤ n + 1) }
 {
-    let (of, rest) = part(alloc, Level::Whole, n, tokens)?;
+    let (of, rest) = boxed(alloc, Level::Whole, n, tokens)?;
     let (_, rest) = expect_word("with", rest)?;
     let (_, rest) = expect_sign("{", rest)?;
     let (first, rest) = arm(alloc, n, rest)?;
     let first = node::with_arm(node::no_arms(alloc), first)?;
     let (arms, rest) = more_arms(alloc, n, first, rest)?;
-    Ok((node::match_with(alloc, place, of, arms)?, rest))
+    Ok((node::match_with(place, of, arms), rest))
 }
 
 /// An arm of a `match`.
@@ -268,12 +279,15 @@ fn compared(
     ensures deep { IfOk result (λ x. x.0.depth ≤ n + 1) }
 {
     if let Some(((place, op), rest)) = next_op(Level::Cmps, n, left.depth, tokens) {
-        let (right, rest) = part(alloc, Level::Sums, n, rest)?;
-        return Ok((node::binary(alloc, place, op, left, right)?, rest));
+        return match boxed(alloc, Level::Sums, n, rest) {
+            Ok((right, rest)) => Ok((node::binary(alloc, place, op, left, right)?, rest)),
+            Err(stop) => Err(node::without(left, stop)),
+        };
     }
     if let Some(((place, k), rest)) = divides_by(n, &left.raw, tokens) {
-        let (of, rest) = part(alloc, Level::Sums, n, rest)?;
-        return Ok((node::divides(alloc, place, k, of)?, rest));
+        drop(left);
+        let (of, rest) = boxed(alloc, Level::Sums, n, rest)?;
+        return Ok((node::divides(place, k, of), rest));
     }
     Ok((left, tokens))
 }
@@ -323,9 +337,13 @@ fn chain(
         match next_op(level, n, left.depth, rest) {
             None => return Ok((left, rest)),
             Some(((place, op), behind)) => {
-                let (right, behind) = part(alloc, under(level), n, behind)?;
-                left = node::binary(alloc, place, op, left, right)?;
-                rest = behind;
+                match boxed(alloc, under(level), n, behind) {
+                    Ok((right, behind)) => {
+                        left = node::binary(alloc, place, op, left, right)?;
+                        rest = behind;
+                    }
+                    Err(stop) => return Err(node::without(left, stop)),
+                }
             }
         }
     }
@@ -344,15 +362,15 @@ fn unary(alloc: Global, n: u32, tokens: &[Token]) -> Result<(Measured, &[Token])
         if n == 0 {
             return Err(Stop::At(tokens.len()));
         }
-        let (e, rest) = part(alloc, Level::Unary, n, rest)?;
-        return Ok((node::neg(alloc, place, e)?, rest));
+        let (e, rest) = boxed(alloc, Level::Unary, n, rest)?;
+        return Ok((node::neg(place, e), rest));
     }
     if let Some((place, rest)) = after_sign("!", tokens) {
         if n == 0 {
             return Err(Stop::At(tokens.len()));
         }
-        let (e, rest) = part(alloc, Level::Unary, n, rest)?;
-        return Ok((node::not(alloc, place, e)?, rest));
+        let (e, rest) = boxed(alloc, Level::Unary, n, rest)?;
+        return Ok((node::not(place, e), rest));
     }
     atom(alloc, n, tokens)
 }
@@ -398,28 +416,28 @@ fn word(alloc: Global, n: u32, tokens: &[Token]) -> Result<(Measured, &[Token]),
             return Err(Stop::At(tokens.len()));
         }
         let (e, rest) = inside(alloc, n, rest)?;
-        return Ok((node::card(alloc, place, e)?, rest));
+        return Ok((node::card(place, e), rest));
     }
     if let Some((place, rest)) = after_word("abs", tokens) {
         if n == 0 {
             return Err(Stop::At(tokens.len()));
         }
         let (e, rest) = inside(alloc, n, rest)?;
-        return Ok((node::abs(alloc, place, e)?, rest));
+        return Ok((node::abs(place, e), rest));
     }
     if let Some((place, rest)) = after_word("div", tokens) {
         if n == 0 {
             return Err(Stop::At(tokens.len()));
         }
         let ((e, k), rest) = divided(alloc, n, rest)?;
-        return Ok((node::div(alloc, place, e, k)?, rest));
+        return Ok((node::div(place, e, k), rest));
     }
     if let Some((place, rest)) = after_word("mod", tokens) {
         if n == 0 {
             return Err(Stop::At(tokens.len()));
         }
         let ((e, k), rest) = divided(alloc, n, rest)?;
-        return Ok((node::modulo(alloc, place, e, k)?, rest));
+        return Ok((node::modulo(place, e, k), rest));
     }
     name_or_call(alloc, n, tokens)
 }
@@ -445,13 +463,13 @@ fn name_or_call(alloc: Global, n: u32, tokens: &[Token]) -> Result<(Measured, &[
 /// An expression in parentheses.
 #[cycle(reading)]
 #[tactic(auto, unfolding(cf_reader::specs::Readers::bind, cf_reader::specs::Readers::pure, crate::specs::Reading::inside_of))]
-fn inside(alloc: Global, n: u32, tokens: &[Token]) -> Result<(Measured, &[Token]), Stop>
+fn inside(alloc: Global, n: u32, tokens: &[Token]) -> Result<(Boxed, &[Token]), Stop>
     requires { n < 2 ^ 30 }
-    ensures value { Gives (λ x. (raw_tree x.0.raw, x.1.now)) result (inside_of (read_at n) tokens.now) }
+    ensures value { Gives (λ x. (raw_tree x.0.raw.value, x.1.now)) result (inside_of (read_at n) tokens.now) }
     ensures deep { IfOk result (λ x. x.0.depth ≤ n) }
 {
     let (_, rest) = expect_sign("(", tokens)?;
-    let (e, rest) = part(alloc, Level::Whole, n, rest)?;
+    let (e, rest) = boxed(alloc, Level::Whole, n, rest)?;
     let (_, rest) = expect_sign(")", rest)?;
     Ok((e, rest))
 }
@@ -459,13 +477,13 @@ fn inside(alloc: Global, n: u32, tokens: &[Token]) -> Result<(Measured, &[Token]
 /// An expression and a literal of at least 1, in parentheses.
 #[cycle(reading)]
 #[tactic(auto, unfolding(cf_reader::specs::Readers::bind, cf_reader::specs::Readers::pure, crate::specs::Reading::divided_of))]
-fn divided(alloc: Global, n: u32, tokens: &[Token]) -> Result<((Measured, i128), &[Token]), Stop>
+fn divided(alloc: Global, n: u32, tokens: &[Token]) -> Result<((Boxed, i128), &[Token]), Stop>
     requires { n < 2 ^ 30 }
-    ensures value { Gives (λ x. ((raw_tree x.0.0.raw, x.0.1), x.1.now)) result (divided_of (read_at n) tokens.now) }
+    ensures value { Gives (λ x. ((raw_tree x.0.0.raw.value, x.0.1), x.1.now)) result (divided_of (read_at n) tokens.now) }
     ensures deep { IfOk result (λ x. x.0.0.depth ≤ n) }
 {
     let (_, rest) = expect_sign("(", tokens)?;
-    let (e, rest) = part(alloc, Level::Whole, n, rest)?;
+    let (e, rest) = boxed(alloc, Level::Whole, n, rest)?;
     let (_, rest) = expect_sign(",", rest)?;
     let ((_, k), rest) = expect_literal(1, rest)?;
     let (_, rest) = expect_sign(")", rest)?;

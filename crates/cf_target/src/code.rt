@@ -91,11 +91,11 @@ fn form_of_parts(alloc: Global, n: u32, tokens: &[Token]) -> Result<(Code, &[Tok
 {
     if let Some((form, rest)) = after_unary(tokens) {
         let (code, rest) = in_parentheses(alloc, n, rest)?;
-        return Ok((node::unary(alloc, form, code)?, rest));
+        return Ok((node::unary(form, code), rest));
     }
     if let Some((form, rest)) = after_division(tokens) {
         let ((of, k), rest) = divided(alloc, n, rest)?;
-        return Ok((node::division(alloc, form, of, k)?, rest));
+        return Ok((node::division(form, of, k), rest));
     }
     if let Some((form, rest)) = after_extreme(tokens) {
         let (codes, rest) = listed(alloc, n, rest)?;
@@ -110,14 +110,23 @@ fn form_of_parts(alloc: Global, n: u32, tokens: &[Token]) -> Result<(Code, &[Tok
     Err(Stop::At(tokens.len()))
 }
 
+/// A code of depth at most `n`, in a box.
+#[cycle(code)]
+fn boxed(alloc: Global, n: u32, tokens: &[Token]) -> Result<(Box<Code>, &[Token]), Stop>
+    ensures { Gives (λ x. (code_tree x.0.value, x.1.now)) result (read n tokens.now) }
+{
+    let (c, rest) = code(alloc, n, tokens)?;
+    Ok((node::boxed(alloc, c)?, rest))
+}
+
 /// One code in parentheses.
 #[cycle(code)]
 #[tactic(auto, unfolding(cf_reader::specs::Readers::bind, cf_reader::specs::Readers::pure, crate::specs::Reading::one_of))]
-fn in_parentheses(alloc: Global, n: u32, tokens: &[Token]) -> Result<(Code, &[Token]), Stop>
-    ensures { Gives (λ x. (code_tree x.0, x.1.now)) result (one_of (read n) tokens.now) }
+fn in_parentheses(alloc: Global, n: u32, tokens: &[Token]) -> Result<(Box<Code>, &[Token]), Stop>
+    ensures { Gives (λ x. (code_tree x.0.value, x.1.now)) result (one_of (read n) tokens.now) }
 {
     let (_, rest) = expect_sign("(", tokens)?;
-    let (c, rest) = code(alloc, n, rest)?;
+    let (c, rest) = boxed(alloc, n, rest)?;
     let (_, rest) = expect_sign(")", rest)?;
     Ok((c, rest))
 }
@@ -125,11 +134,11 @@ fn in_parentheses(alloc: Global, n: u32, tokens: &[Token]) -> Result<(Code, &[To
 /// A code and a literal of at least 1, in parentheses.
 #[cycle(code)]
 #[tactic(auto, unfolding(cf_reader::specs::Readers::bind, cf_reader::specs::Readers::pure, crate::specs::Reading::divided_of))]
-fn divided(alloc: Global, n: u32, tokens: &[Token]) -> Result<((Code, i128), &[Token]), Stop>
-    ensures { Gives (λ x. ((code_tree x.0.0, x.0.1), x.1.now)) result (divided_of (read n) tokens.now) }
+fn divided(alloc: Global, n: u32, tokens: &[Token]) -> Result<((Box<Code>, i128), &[Token]), Stop>
+    ensures { Gives (λ x. ((code_tree x.0.0.value, x.0.1), x.1.now)) result (divided_of (read n) tokens.now) }
 {
     let (_, rest) = expect_sign("(", tokens)?;
-    let (c, rest) = code(alloc, n, rest)?;
+    let (c, rest) = boxed(alloc, n, rest)?;
     let (_, rest) = expect_sign(",", rest)?;
     let ((_, k), rest) = expect_literal(1, rest)?;
     let (_, rest) = expect_sign(")", rest)?;
@@ -153,13 +162,13 @@ fn slice(alloc: Global, n: u32, tokens: &[Token]) -> Result<(Code, &[Token]), St
     ensures { Gives (λ x. (code_tree x.0, x.1.now)) result (slice_of (read n) tokens.now) }
 {
     let (_, rest) = expect_sign("(", tokens)?;
-    let (set, rest) = code(alloc, n, rest)?;
+    let (set, rest) = boxed(alloc, n, rest)?;
     let (_, rest) = expect_sign(",", rest)?;
-    let (from, rest) = code(alloc, n, rest)?;
+    let (from, rest) = boxed(alloc, n, rest)?;
     let (_, rest) = expect_sign(",", rest)?;
-    let (count, rest) = code(alloc, n, rest)?;
+    let (count, rest) = boxed(alloc, n, rest)?;
     let (_, rest) = expect_sign(")", rest)?;
-    Ok((node::slice(alloc, set, from, count)?, rest))
+    Ok((node::slice(set, from, count), rest))
 }
 
 /// Behind the word `fresh`.
@@ -169,11 +178,11 @@ fn fresh(alloc: Global, n: u32, tokens: &[Token]) -> Result<(Code, &[Token]), St
     ensures { Gives (λ x. (code_tree x.0, x.1.now)) result (fresh_of (read n) tokens.now) }
 {
     let (_, rest) = expect_sign("(", tokens)?;
-    let (avoid, rest) = code(alloc, n, rest)?;
+    let (avoid, rest) = boxed(alloc, n, rest)?;
     let (_, rest) = expect_sign(",", rest)?;
-    let (count, rest) = code(alloc, n, rest)?;
+    let (count, rest) = boxed(alloc, n, rest)?;
     let (_, rest) = expect_sign(")", rest)?;
-    Ok((node::fresh(alloc, avoid, count)?, rest))
+    Ok((node::fresh(avoid, count), rest))
 }
 
 /// Elements, if any, up to the closing brace.
@@ -285,7 +294,7 @@ fn inside(alloc: Global, m: u32, n: u32, tokens: &[Token]) -> Result<(Inside, &[
         let (c, rest) = let_in(alloc, n, rest)?;
         return Ok((single(c), rest));
     }
-    let (first, rest) = code(alloc, m, tokens)?;
+    let (first, rest) = boxed(alloc, m, tokens)?;
     let may = may_operate(m, n, &first);
     behind(alloc, m, n, may, first, rest)
 }
@@ -298,15 +307,16 @@ fn behind(
     m: u32,
     n: u32,
     may: bool,
-    first: Code,
+    first: Box<Code>,
     tokens: &[Token],
 ) -> Result<(Inside, &[Token]), Stop>
     requires { n ≤ m }
-    ensures { Gives (λ x. (inside_tree x.0, x.1.now)) result (behind_of (read m) (read n) n may (code_tree first) tokens.now) }
+    ensures { Gives (λ x. (inside_tree x.0, x.1.now)) result (behind_of (read m) (read n) n may (code_tree first.value) tokens.now) }
 {
     if let Some((_, rest)) = after_sign(",", tokens) {
+        let codes = one(alloc, Box::into_inner(first))?;
         let (second, rest) = code(alloc, m, rest)?;
-        let (codes, rest) = more(alloc, m, ")", with_code(one(alloc, first)?, second)?, rest)?;
+        let (codes, rest) = more(alloc, m, ")", with_code(codes, second)?, rest)?;
         return Ok((several(codes), rest));
     }
     if let Some((op, rest)) = after_operator(may, tokens) {
@@ -314,9 +324,9 @@ fn behind(
         return Ok((single(c), rest));
     }
     if let Some((k, rest)) = divides_by(n, &first, tokens) {
-        let (of, rest) = code(alloc, n, rest)?;
+        let (of, rest) = boxed(alloc, n, rest)?;
         let (_, rest) = expect_sign(")", rest)?;
-        return Ok((single(node::divides(alloc, k, of)?), rest));
+        return Ok((single(node::divides(k, of)), rest));
     }
     Err(Stop::At(tokens.len()))
 }
@@ -328,20 +338,21 @@ fn operated(
     alloc: Global,
     n: u32,
     operation: Operation,
-    first: Code,
+    first: Box<Code>,
     tokens: &[Token],
 ) -> Result<(Code, &[Token]), Stop>
-    ensures { Gives (λ x. (code_tree x.0, x.1.now)) result (operated_of (read n) (code_tree first) operation tokens.now) }
+    ensures { Gives (λ x. (code_tree x.0, x.1.now)) result (operated_of (read n) (code_tree first.value) operation tokens.now) }
 {
     match operation {
         Operation::Two(form) => {
-            let (second, rest) = code(alloc, n, tokens)?;
+            let (second, rest) = boxed(alloc, n, tokens)?;
             let (_, rest) = expect_sign(")", rest)?;
-            Ok((node::two(alloc, form, first, second)?, rest))
+            Ok((node::two(form, first, second), rest))
         }
         Operation::Many(form) => {
+            let codes = one(alloc, Box::into_inner(first))?;
             let (second, rest) = code(alloc, n, tokens)?;
-            let codes = with_code(one(alloc, first)?, second)?;
+            let codes = with_code(codes, second)?;
             let (codes, rest) = more_parts(alloc, n, form, codes, rest)?;
             Ok((node::many(form, codes), rest))
         }
@@ -354,13 +365,13 @@ fn operated(
 fn if_else(alloc: Global, n: u32, tokens: &[Token]) -> Result<(Code, &[Token]), Stop>
     ensures { Gives (λ x. (code_tree x.0, x.1.now)) result (if_of (read n) tokens.now) }
 {
-    let (test, rest) = code(alloc, n, tokens)?;
+    let (test, rest) = boxed(alloc, n, tokens)?;
     let (_, rest) = expect_word("then", rest)?;
-    let (yes, rest) = code(alloc, n, rest)?;
+    let (yes, rest) = boxed(alloc, n, rest)?;
     let (_, rest) = expect_word("else", rest)?;
-    let (no, rest) = code(alloc, n, rest)?;
+    let (no, rest) = boxed(alloc, n, rest)?;
     let (_, rest) = expect_sign(")", rest)?;
-    Ok((node::if_else(alloc, test, yes, no)?, rest))
+    Ok((node::if_else(test, yes, no), rest))
 }
 
 /// Behind `(let`.
@@ -371,11 +382,11 @@ fn let_in(alloc: Global, n: u32, tokens: &[Token]) -> Result<(Code, &[Token]), S
 {
     let (bound, rest) = read_variables(tokens)?;
     let (_, rest) = expect_sign("=", rest)?;
-    let (value, rest) = code(alloc, n, rest)?;
+    let (value, rest) = boxed(alloc, n, rest)?;
     let (_, rest) = expect_word("in", rest)?;
-    let (body, rest) = code(alloc, n, rest)?;
+    let (body, rest) = boxed(alloc, n, rest)?;
     let (_, rest) = expect_sign(")", rest)?;
-    Ok((node::let_in(alloc, bound, value, body)?, rest))
+    Ok((node::let_in(bound, value, body), rest))
 }
 
 /// Behind the word `solve`.
@@ -475,8 +486,10 @@ fn item(alloc: Global, n: u32, form: Step, tokens: &[Token]) -> Result<(Item, &[
     ensures { Gives (λ x. (item_tree x.0, x.1.now)) result (item_of (read n) form tokens.now) }
 {
     let (c, rest) = code(alloc, n, tokens)?;
-    let (_, rest) = expect_sign(";", rest)?;
-    Ok((node::step(form, c), rest))
+    match expect_sign(";", rest) {
+        Ok((_, rest)) => Ok((node::step(form, c), rest)),
+        Err(stop) => Err(node::without(c, stop)),
+    }
 }
 
 /// Behind the word `give`.

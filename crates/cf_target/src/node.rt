@@ -51,24 +51,22 @@ pub fn arm(bounds: Vec<u32>, items: Vec<Item>, gives: Vec<Code>) -> Arm
     }
 }
 
-pub fn unary(alloc: Global, form: Unary, code: Code) -> Result<Code, Stop>
-    ensures { Gives code_tree result (Ok (unary_tree form (code_tree code))) }
+pub fn unary(form: Unary, code: Box<Code>) -> Code
+    ensures { code_tree result ≡ unary_tree form (code_tree code.value) }
 {
-    let code = Box::new(alloc, code)?;
     match form {
-        Unary::Neg => Ok(Code::Neg(code)),
-        Unary::Not => Ok(Code::Not(code)),
-        Unary::Card => Ok(Code::Card(code)),
+        Unary::Neg => Code::Neg(code),
+        Unary::Not => Code::Not(code),
+        Unary::Card => Code::Card(code),
     }
 }
 
-pub fn division(alloc: Global, form: Division, of: Code, k: i128) -> Result<Code, Stop>
-    ensures { Gives code_tree result (Ok (division_tree form (code_tree of) k)) }
+pub fn division(form: Division, of: Box<Code>, k: i128) -> Code
+    ensures { code_tree result ≡ division_tree form (code_tree of.value) k }
 {
-    let of = Box::new(alloc, of)?;
     match form {
-        Division::Div => Ok(Code::Div { of, k }),
-        Division::Mod => Ok(Code::Mod { of, k }),
+        Division::Div => Code::Div { of, k },
+        Division::Mod => Code::Mod { of, k },
     }
 }
 
@@ -91,12 +89,10 @@ pub fn many(form: Many, codes: Vec<Code>) -> Code
     }
 }
 
-pub fn two(alloc: Global, form: Two, left: Code, right: Code) -> Result<Code, Stop>
-    ensures { Gives code_tree result (Ok (two_tree form (code_tree left) (code_tree right))) }
+pub fn two(form: Two, left: Box<Code>, right: Box<Code>) -> Code
+    ensures { code_tree result ≡ two_tree form (code_tree left.value) (code_tree right.value) }
 {
-    let left = Box::new(alloc, left)?;
-    let right = Box::new(alloc, right)?;
-    Ok(match form {
+    match form {
         Two::Sub => Code::Sub(left, right),
         Two::Mul => Code::Mul(left, right),
         Two::And => Code::And(left, right),
@@ -104,7 +100,7 @@ pub fn two(alloc: Global, form: Two, left: Code, right: Code) -> Result<Code, St
         Two::Diff => Code::Diff(left, right),
         Two::Subset => Code::Subset(left, right),
         Two::Compare(order) => Code::Compare { order, left, right },
-    })
+    }
 }
 
 pub fn step(form: Step, code: Code) -> Item
@@ -116,48 +112,51 @@ pub fn step(form: Step, code: Code) -> Item
     }
 }
 
-pub fn slice(alloc: Global, set: Code, from: Code, n: Code) -> Result<Code, Stop>
-    ensures { Gives code_tree result (Ok (code_slice (code_tree set) (code_tree from) (code_tree n))) }
+pub fn slice(set: Box<Code>, from: Box<Code>, n: Box<Code>) -> Code
+    ensures { code_tree result ≡ code_slice (code_tree set.value) (code_tree from.value) (code_tree n.value) }
 {
-    let set = Box::new(alloc, set)?;
-    let from = Box::new(alloc, from)?;
-    let n = Box::new(alloc, n)?;
-    Ok(Code::Slice { set, from, n })
+    Code::Slice { set, from, n }
 }
 
-pub fn fresh(alloc: Global, avoid: Code, n: Code) -> Result<Code, Stop>
-    ensures { Gives code_tree result (Ok (code_fresh (code_tree avoid) (code_tree n))) }
+pub fn fresh(avoid: Box<Code>, n: Box<Code>) -> Code
+    ensures { code_tree result ≡ code_fresh (code_tree avoid.value) (code_tree n.value) }
 {
-    let avoid = Box::new(alloc, avoid)?;
-    let n = Box::new(alloc, n)?;
-    Ok(Code::Fresh { avoid, n })
+    Code::Fresh { avoid, n }
 }
 
-pub fn if_else(alloc: Global, test: Code, yes: Code, no: Code) -> Result<Code, Stop>
-    ensures { Gives code_tree result (Ok (code_if (code_tree test) (code_tree yes) (code_tree no))) }
+pub fn if_else(test: Box<Code>, yes: Box<Code>, no: Box<Code>) -> Code
+    ensures { code_tree result ≡ code_if (code_tree test.value) (code_tree yes.value) (code_tree no.value) }
 {
-    let test = Box::new(alloc, test)?;
-    let yes = Box::new(alloc, yes)?;
-    let no = Box::new(alloc, no)?;
-    Ok(Code::If { test, yes, no })
+    Code::If { test, yes, no }
 }
 
-pub fn let_in(alloc: Global, variables: Variables, value: Code, body: Code) -> Result<Code, Stop>
-    ensures { Gives code_tree result (Ok (code_let variables.first variables.count (code_tree value) (code_tree body))) }
+pub fn let_in(variables: Variables, value: Box<Code>, body: Box<Code>) -> Code
+    ensures { code_tree result ≡ code_let variables.first variables.count (code_tree value.value) (code_tree body.value) }
 {
-    let value = Box::new(alloc, value)?;
-    let body = Box::new(alloc, body)?;
-    Ok(Code::Let {
+    Code::Let {
         first: variables.first,
         count: variables.count,
         value,
         body,
-    })
+    }
 }
 
-pub fn divides(alloc: Global, k: i128, of: Code) -> Result<Code, Stop>
-    ensures { Gives code_tree result (Ok (code_divides k (code_tree of))) }
+pub fn divides(k: i128, of: Box<Code>) -> Code
+    ensures { code_tree result ≡ code_divides k (code_tree of.value) }
 {
-    let of = Box::new(alloc, of)?;
-    Ok(Code::Divides { k, of })
+    Code::Divides { k, of }
+}
+
+/// The code in a box.
+pub fn boxed(alloc: Global, code: Code) -> Result<Box<Code>, Stop>
+    ensures { Gives (λ x. code_tree x.value) result (Ok (code_tree code)) }
+{
+    Ok(Box::new(alloc, code)?)
+}
+
+/// What stops, once a value is given up.
+pub fn without<T: Drop>(_value: T, stop: Stop) -> Stop
+    ensures { result ≡ stop }
+{
+    stop
 }

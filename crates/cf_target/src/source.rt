@@ -7,6 +7,7 @@ ghost use Rattle.cf_target.specs.Spelling.{TargetTree, target_tree, IsTarget};
 ghost use Rattle.cf_target.specs.Targets.{SomeTarget, Reads, a_two, bases_of, body_of, target_of};
 
 use crate::code::code;
+use crate::node::without;
 use cf_lex::{Token, TokenKind, TokenList};
 use cf_reader::fault::ParseFault;
 use cf_reader::lists::{more_bases, results};
@@ -58,13 +59,6 @@ fn expect_two(tokens: &[Token]) -> Result<(Place, &[Token]), Stop>
     }
 }
 
-/// What is left of a target that is given up.
-fn given_up(_target: RawTarget, stop: Stop) -> Stop
-    ensures { result ≡ stop }
-{
-    stop
-}
-
 /// The target, where no tokens are left.
 #[tactic(auto, unfolding(cf_reader::specs::Readers::refuse, cf_reader::specs::Readers::at_end))]
 fn ended(target: RawTarget, rest: &[Token]) -> Result<(RawTarget, &[Token]), Stop>
@@ -72,7 +66,7 @@ fn ended(target: RawTarget, rest: &[Token]) -> Result<(RawTarget, &[Token]), Sto
 {
     match rest.split_first() {
         None => Ok((target, rest)),
-        Some(_) => Err(given_up(target, Stop::At(rest.len()))),
+        Some(_) => Err(without(target, Stop::At(rest.len()))),
     }
 }
 

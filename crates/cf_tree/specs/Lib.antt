@@ -13,6 +13,7 @@ pub mod RelTree
 pub mod RelView
 pub mod Relation
 pub mod SameCode
+pub mod SameParts
 pub mod Sets
 pub mod Solving
 pub mod Spelled

@@ -13,13 +13,13 @@ use Rattle.cf_type.specs.Reading.{Reading, relation, term, set, bent}
 use Rattle.cf_type.specs.Walk.{Form, Forms, Arms}
 
 abbrev pub reading_of : DeclaredReading → Reading
-reading_of (Relation r) = relation (rel_tree r)
-reading_of (Term t) = term (term_tree t)
-reading_of (Set s) = set (set_tree s)
+reading_of (Relation r) = relation (rel_tree r.value)
+reading_of (Term t) = term (term_tree t.value)
+reading_of (Set s) = set (set_tree s.value)
 reading_of (Bent p) = bent p
 
 abbrev pub form_of : DeclaredForm → Form
-form_of f = record { bases = f.bases.items; tree = expr_tree f.tree; reading = reading_of f.reading; next = f.next }
+form_of f = record { bases = f.bases.items; tree = expr_tree f.tree.value; reading = reading_of f.reading; next = f.next }
 
 abbrev pub forms_of : DeclaredForms → Forms
 forms_of f = record { bases = map (λ b. b.items) f.bases.items; trees = map expr_tree f.trees.items; bend = f.bend; next = f.next }

@@ -24,26 +24,37 @@ use cf_tree::raw::{BinOp, Param, Part, RawDef};
 use cf_tree::rel::{Rel, SetTerm, Term};
 use std::alloc::Global;
 
+/// The expression of this tree and reading, which has one base.
+fn made(
+    alloc: Global,
+    base: Base,
+    tree: Expr,
+    reading: Reading,
+    next: u32,
+) -> Result<Form, TypeFault>
+    ensures { Gives form_of result (form_is (one_base base) (expr_tree tree) (reading_of reading) next) }
+{
+    let tree = Box::new(alloc, tree)?;
+    Ok(Form {
+        bases: bases::one(alloc, base)?,
+        tree,
+        reading,
+        next,
+    })
+}
+
 pub fn literal(alloc: Global, k: i128, next: u32) -> Result<Form, TypeFault>
     ensures { Gives form_of result (form_is (one_base int) (expr_lit k) (a_term (term_lit k)) next) }
 {
-    Ok(Form {
-        bases: bases::one(alloc, Base::Int)?,
-        tree: Expr::Lit(k),
-        reading: Reading::Term(Term::Lit(k)),
-        next,
-    })
+    let reading = Reading::Term(Box::new(alloc, Term::Lit(k))?);
+    made(alloc, Base::Int, Expr::Lit(k), reading, next)
 }
 
 pub fn truth(alloc: Global, t: bool, next: u32) -> Result<Form, TypeFault>
     ensures { Gives form_of result (form_is (one_base truth_base) (expr_truth t) (truth_reading t) next) }
 {
-    Ok(Form {
-        bases: bases::one(alloc, Base::Bool)?,
-        tree: Expr::Truth(t),
-        reading: reading::of_truth(t),
-        next,
-    })
+    let reading = reading::of_truth(alloc, t)?;
+    made(alloc, Base::Bool, Expr::Truth(t), reading, next)
 }
 
 pub fn variable(
@@ -56,60 +67,64 @@ pub fn variable(
 {
     match found {
         None => Err(TypeFault::UnknownName(place)),
-        Some(v) => Ok(Form {
-            bases: bases::one(alloc, v.base)?,
-            tree: Expr::Var(v.level),
-            reading: reading::of_variable(place, v),
-            next,
-        }),
+        Some(v) => {
+            let reading = reading::of_variable(alloc, place, v)?;
+            made(alloc, v.base, Expr::Var(v.level), reading, next)
+        }
     }
 }
 
-fn set_reading(place: Place, bend: Option<Place>, trees: &[Expr]) -> Reading
-    ensures { reading_of result ≡ set_reading_of place bend (map expr_tree trees.now) }
+fn set_reading(
+    alloc: Global,
+    place: Place,
+    bend: Option<Place>,
+    trees: &[Expr],
+) -> Result<Reading, NoMemory>
+    ensures { IfOk result (λ r. reading_of r ≡ set_reading_of place bend (map expr_tree trees.now)) }
 {
     match trees.split_first() {
-        None => Reading::Set(SetTerm::Empty),
-        Some(_) => reading::bent_at(bend, place),
+        None => Ok(Reading::Set(Box::new(alloc, SetTerm::Empty)?)),
+        Some(_) => Ok(reading::bent_at(bend, place)),
     }
 }
 
 pub fn set(alloc: Global, place: Place, parts: Forms) -> Result<Form, TypeFault>
     ensures { Gives form_of result (set_form place (forms_of parts)) }
 {
+    if !bases::all_are(Base::Int, &parts.bases) {
+        drop(parts);
+        return Err(TypeFault::Mismatch(place));
+    }
     let Forms {
         bases,
         trees,
         bend,
         next,
     } = parts;
-    if !bases::all_are(Base::Int, &bases) {
-        return Err(TypeFault::Mismatch(place));
-    }
-    let reading = set_reading(place, bend, &trees);
-    Ok(Form {
-        bases: bases::one(alloc, Base::Set)?,
-        tree: Expr::SetOf(trees),
-        reading,
-        next,
-    })
+    drop(bases);
+    let reading = set_reading(alloc, place, bend, &trees)?;
+    made(alloc, Base::Set, Expr::SetOf(trees), reading, next)
 }
 
 pub fn tuple(alloc: Global, place: Place, parts: Forms) -> Result<Form, TypeFault>
     ensures { Gives form_of result (tuple_form place (forms_of parts)) }
 {
+    if !bases::all_are_single(&parts.bases) {
+        drop(parts);
+        return Err(TypeFault::Mismatch(place));
+    }
     let Forms {
         bases,
         trees,
         bend,
         next,
     } = parts;
-    if !bases::all_are_single(&bases) {
-        return Err(TypeFault::Mismatch(place));
-    }
+    let all = bases::joined(alloc, &bases);
+    drop(bases);
+    let tree = Box::new(alloc, Expr::Tuple(trees))?;
     Ok(Form {
-        bases: bases::joined(alloc, &bases)?,
-        tree: Expr::Tuple(trees),
+        bases: all?,
+        tree,
         reading: reading::bent_at(bend, place),
         next,
     })
@@ -118,150 +133,133 @@ pub fn tuple(alloc: Global, place: Place, parts: Forms) -> Result<Form, TypeFaul
 pub fn neg(alloc: Global, place: Place, part: Form) -> Result<Form, TypeFault>
     ensures { Gives form_of result (unary_form place int int expr_neg (on_term (λ t. a_term (term_neg t))) (form_of part)) }
 {
+    if !bases::is_one(Base::Int, &part.bases) {
+        drop(part);
+        return Err(TypeFault::Mismatch(place));
+    }
     let Form {
         bases,
         tree,
         reading,
         next,
     } = part;
-    if !bases::is_one(Base::Int, &bases) {
-        return Err(TypeFault::Mismatch(place));
-    }
-    Ok(Form {
-        bases: bases::one(alloc, Base::Int)?,
-        tree: Expr::Neg(Box::new(alloc, tree)?),
-        reading: reading::of_neg(alloc, place, reading)?,
-        next,
-    })
+    drop(bases);
+    let reading = reading::of_neg(alloc, place, reading)?;
+    made(alloc, Base::Int, Expr::Neg(tree), reading, next)
 }
 
 pub fn not(alloc: Global, place: Place, part: Form) -> Result<Form, TypeFault>
     ensures { Gives form_of result (unary_form place truth_base truth_base expr_not (on_relation (λ r. a_relation (rel_not r))) (form_of part)) }
 {
+    if !bases::is_one(Base::Bool, &part.bases) {
+        drop(part);
+        return Err(TypeFault::Mismatch(place));
+    }
     let Form {
         bases,
         tree,
         reading,
         next,
     } = part;
-    if !bases::is_one(Base::Bool, &bases) {
-        return Err(TypeFault::Mismatch(place));
-    }
-    Ok(Form {
-        bases: bases::one(alloc, Base::Bool)?,
-        tree: Expr::Not(Box::new(alloc, tree)?),
-        reading: reading::of_not(alloc, place, reading)?,
-        next,
-    })
+    drop(bases);
+    let reading = reading::of_not(alloc, place, reading)?;
+    made(alloc, Base::Bool, Expr::Not(tree), reading, next)
 }
 
 pub fn abs(alloc: Global, place: Place, part: Form) -> Result<Form, TypeFault>
     ensures { Gives form_of result (unary_form place int int expr_abs (on_term (λ t. a_term (term_abs t))) (form_of part)) }
 {
+    if !bases::is_one(Base::Int, &part.bases) {
+        drop(part);
+        return Err(TypeFault::Mismatch(place));
+    }
     let Form {
         bases,
         tree,
         reading,
         next,
     } = part;
-    if !bases::is_one(Base::Int, &bases) {
-        return Err(TypeFault::Mismatch(place));
-    }
-    Ok(Form {
-        bases: bases::one(alloc, Base::Int)?,
-        tree: Expr::Abs(Box::new(alloc, tree)?),
-        reading: reading::of_abs(alloc, place, reading)?,
-        next,
-    })
+    drop(bases);
+    let reading = reading::of_abs(alloc, place, reading)?;
+    made(alloc, Base::Int, Expr::Abs(tree), reading, next)
 }
 
 pub fn divides(alloc: Global, place: Place, k: i128, part: Form) -> Result<Form, TypeFault>
     ensures { Gives form_of result (unary_form place int truth_base (expr_divides k) (on_term (λ t. a_relation (rel_divides k t))) (form_of part)) }
 {
+    if !bases::is_one(Base::Int, &part.bases) {
+        drop(part);
+        return Err(TypeFault::Mismatch(place));
+    }
     let Form {
         bases,
         tree,
         reading,
         next,
     } = part;
-    if !bases::is_one(Base::Int, &bases) {
-        return Err(TypeFault::Mismatch(place));
-    }
-    Ok(Form {
-        bases: bases::one(alloc, Base::Bool)?,
-        tree: Expr::Divides {
-            k,
-            of: Box::new(alloc, tree)?,
-        },
-        reading: reading::of_divides(alloc, place, k, reading)?,
+    drop(bases);
+    let reading = reading::of_divides(alloc, place, k, reading)?;
+    made(
+        alloc,
+        Base::Bool,
+        Expr::Divides { k, of: tree },
+        reading,
         next,
-    })
+    )
 }
 
 pub fn div(alloc: Global, place: Place, part: Form, k: i128) -> Result<Form, TypeFault>
     ensures { Gives form_of result (unary_form place int int (λ e. expr_div e k) (on_term (λ t. a_term (term_div t k))) (form_of part)) }
 {
+    if !bases::is_one(Base::Int, &part.bases) {
+        drop(part);
+        return Err(TypeFault::Mismatch(place));
+    }
     let Form {
         bases,
         tree,
         reading,
         next,
     } = part;
-    if !bases::is_one(Base::Int, &bases) {
-        return Err(TypeFault::Mismatch(place));
-    }
-    Ok(Form {
-        bases: bases::one(alloc, Base::Int)?,
-        tree: Expr::Div {
-            of: Box::new(alloc, tree)?,
-            k,
-        },
-        reading: reading::of_div(alloc, place, reading, k)?,
-        next,
-    })
+    drop(bases);
+    let reading = reading::of_div(alloc, place, reading, k)?;
+    made(alloc, Base::Int, Expr::Div { of: tree, k }, reading, next)
 }
 
 pub fn modulo(alloc: Global, place: Place, part: Form, k: i128) -> Result<Form, TypeFault>
     ensures { Gives form_of result (unary_form place int int (λ e. expr_mod e k) (on_term (λ t. a_term (term_mod t k))) (form_of part)) }
 {
+    if !bases::is_one(Base::Int, &part.bases) {
+        drop(part);
+        return Err(TypeFault::Mismatch(place));
+    }
     let Form {
         bases,
         tree,
         reading,
         next,
     } = part;
-    if !bases::is_one(Base::Int, &bases) {
-        return Err(TypeFault::Mismatch(place));
-    }
-    Ok(Form {
-        bases: bases::one(alloc, Base::Int)?,
-        tree: Expr::Mod {
-            of: Box::new(alloc, tree)?,
-            k,
-        },
-        reading: reading::of_mod(alloc, place, reading, k)?,
-        next,
-    })
+    drop(bases);
+    let reading = reading::of_mod(alloc, place, reading, k)?;
+    made(alloc, Base::Int, Expr::Mod { of: tree, k }, reading, next)
 }
 
 pub fn card(alloc: Global, place: Place, part: Form) -> Result<Form, TypeFault>
     ensures { Gives form_of result (unary_form place set_base int expr_card (on_set (λ s. a_term (term_card s))) (form_of part)) }
 {
+    if !bases::is_one(Base::Set, &part.bases) {
+        drop(part);
+        return Err(TypeFault::Mismatch(place));
+    }
     let Form {
         bases,
         tree,
         reading,
         next,
     } = part;
-    if !bases::is_one(Base::Set, &bases) {
-        return Err(TypeFault::Mismatch(place));
-    }
-    Ok(Form {
-        bases: bases::one(alloc, Base::Int)?,
-        tree: Expr::Card(Box::new(alloc, tree)?),
-        reading: reading::of_card(alloc, place, reading)?,
-        next,
-    })
+    drop(bases);
+    let reading = reading::of_card(alloc, place, reading)?;
+    made(alloc, Base::Int, Expr::Card(tree), reading, next)
 }
 
 pub fn binary(
@@ -274,30 +272,31 @@ pub fn binary(
     ensures { Gives form_of result (binary_form place op (form_of left) (form_of right)) }
 {
     if !bases::sides_fit(op, &left.bases, &right.bases) {
+        drop(left);
+        drop(right);
         return Err(TypeFault::Mismatch(place));
     }
     let Form {
-        bases: _,
+        bases: left_bases,
         tree: left_tree,
         reading: left_reading,
         next: _,
     } = left;
     let Form {
-        bases: _,
+        bases: right_bases,
         tree: right_tree,
         reading: right_reading,
         next,
     } = right;
-    Ok(Form {
-        bases: bases::one(alloc, bases::result_of(op))?,
-        tree: Expr::Binary {
-            op,
-            left: Box::new(alloc, left_tree)?,
-            right: Box::new(alloc, right_tree)?,
-        },
-        reading: reading::of_binary(alloc, op, place, left_reading, right_reading)?,
-        next,
-    })
+    drop(left_bases);
+    drop(right_bases);
+    let reading = reading::of_binary(alloc, op, place, left_reading, right_reading)?;
+    let tree = Expr::Binary {
+        op,
+        left: left_tree,
+        right: right_tree,
+    };
+    made(alloc, bases::result_of(op), tree, reading, next)
 }
 
 pub fn call(
@@ -326,30 +325,53 @@ fn call_of(
 ) -> Result<Form, TypeFault>
     ensures { Gives form_of result (call_form place (Some (callee_seen number (raw_def_tree def.now) is_earlier)) (forms_of args)) }
 {
+    if args.bases.len() != def.params.len() {
+        drop(args);
+        return Err(TypeFault::WrongCount(place));
+    }
+    if !bases::are_asked(&args.bases, &def.params) {
+        drop(args);
+        return Err(TypeFault::Mismatch(place));
+    }
+    if !is_earlier {
+        drop(args);
+        return Err(TypeFault::CallsLater(place));
+    }
     let Forms {
         bases,
         trees,
         bend,
         next,
     } = args;
-    if bases.len() != def.params.len() {
-        return Err(TypeFault::WrongCount(place));
-    }
-    if !bases::are_asked(&bases, &def.params) {
-        return Err(TypeFault::Mismatch(place));
-    }
-    if !is_earlier {
-        return Err(TypeFault::CallsLater(place));
-    }
-    Ok(Form {
-        bases: Vec::from_slice(alloc, &def.results)?,
-        tree: Expr::Call {
+    drop(bases);
+    let tree = Box::new(
+        alloc,
+        Expr::Call {
             def: number,
             args: trees,
         },
+    )?;
+    Ok(Form {
+        bases: Vec::from_slice(alloc, &def.results)?,
+        tree,
         reading: reading::bent_at(bend, place),
         next,
     })
+}
+
+/// The tree alone.
+pub fn bare(form: Form) -> Box<Expr>
+    ensures { expr_tree result.value ≡ (form_of form).tree }
+{
+    let Form {
+        bases,
+        tree,
+        reading,
+        next: _,
+    } = form;
+    drop(bases);
+    drop(reading);
+    tree
 }
 
 pub fn choice(
@@ -362,19 +384,29 @@ pub fn choice(
     ensures { Gives form_of result (if_form place (form_of test) (form_of yes) (form_of no)) }
 {
     if !bases::is_one(Base::Bool, &test.bases) || !same_bases(&yes.bases, &no.bases) {
+        drop(test);
+        drop(yes);
+        drop(no);
         return Err(TypeFault::Mismatch(place));
     }
     let in_yes = reading::first_bend(reading::bend(&yes.reading), reading::bend(&no.reading));
     let bend = reading::first_bend(reading::bend(&test.reading), in_yes);
+    let next = no.next;
+    let test = bare(test);
+    let no = bare(no);
+    let Form {
+        bases,
+        tree: yes,
+        reading,
+        next: _,
+    } = yes;
+    drop(reading);
+    let tree = Box::new(alloc, Expr::If { test, yes, no })?;
     Ok(Form {
-        bases: yes.bases,
-        tree: Expr::If {
-            test: Box::new(alloc, test.tree)?,
-            yes: Box::new(alloc, yes.tree)?,
-            no: Box::new(alloc, no.tree)?,
-        },
+        bases,
+        tree,
         reading: reading::bent_at(bend, place),
-        next: no.next,
+        next,
     })
 }
 
@@ -407,22 +439,35 @@ pub fn binding(
 ) -> Result<Form, TypeFault>
     ensures { Gives form_of result (let_form place count (form_of value) (form_of body)) }
 {
+    let count = match counted(count) {
+        Ok(count) => count,
+        Err(fault) => {
+            drop(value);
+            drop(body);
+            return Err(TypeFault::from(fault));
+        }
+    };
     let bend = reading::first_bend(reading::bend(&value.reading), reading::bend(&body.reading));
+    let value = bare(value);
+    let Form {
+        bases,
+        tree: body,
+        reading,
+        next,
+    } = body;
+    drop(reading);
+    let tree = Box::new(alloc, Expr::Let { count, value, body })?;
     Ok(Form {
-        bases: body.bases,
-        tree: Expr::Let {
-            count: counted(count)?,
-            value: Box::new(alloc, value.tree)?,
-            body: Box::new(alloc, body.tree)?,
-        },
+        bases,
+        tree,
         reading: reading::bent_at(bend, place),
-        next: body.next,
+        next,
     })
 }
 
 /// The relation that was read, where it is linear.
-fn linear(place: Place, reading: Reading) -> Result<Rel, TypeFault>
-    ensures { Gives rel_tree result (linear_of place (reading_of reading)) }
+fn linear(place: Place, reading: Reading) -> Result<Box<Rel>, TypeFault>
+    ensures { Gives (λ r. rel_tree r.value) result (linear_of place (reading_of reading)) }
 {
     match reading {
         Reading::Relation(rel) => Ok(rel),
@@ -465,12 +510,15 @@ pub fn choose(
     let rel = linear(place, reading)?;
     Ok(Form {
         bases: output_bases(alloc, outputs)?,
-        tree: Expr::Choose {
-            number,
-            scope,
-            outputs: output_bases(alloc, outputs)?,
-            rel,
-        },
+        tree: Box::new(
+            alloc,
+            Expr::Choose {
+                number,
+                scope,
+                outputs: output_bases(alloc, outputs)?,
+                rel: Box::into_inner(rel),
+            },
+        )?,
         reading: Reading::Bent(place),
         next,
     })
@@ -498,7 +546,7 @@ pub fn with_form(before: Forms, form: Form) -> Result<Forms, NoMemory>
     } = before;
     let bend = reading::first_bend(bend, reading::bend(&form.reading));
     bases.push(form.bases)?;
-    trees.push(form.tree)?;
+    trees.push(Box::into_inner(form.tree))?;
     Ok(Forms {
         bases,
         trees,
@@ -568,7 +616,7 @@ pub fn with_arm(
         number: number_of(next, parts),
         factors: factors_of(alloc, parts)?,
         constant,
-        body: body.tree,
+        body: Box::into_inner(body.tree),
     })?;
     Ok(Arms {
         bases,
@@ -588,24 +636,31 @@ pub fn matching(
 ) -> Result<Form, TypeFault>
     ensures { Gives form_of result (match_form place number scope.items (form_of value) (arms_of arms)) }
 {
+    if !bases::is_one(Base::Int, &value.bases) || !bases::all_same(&arms.bases) {
+        drop(scope);
+        drop(value);
+        drop(arms);
+        return Err(TypeFault::Mismatch(place));
+    }
     let Arms {
         bases,
         trees,
         bend,
         next,
     } = arms;
-    if !bases::is_one(Base::Int, &value.bases) || !bases::all_same(&bases) {
-        return Err(TypeFault::Mismatch(place));
-    }
+    let all = bases::first(alloc, &bases);
+    drop(bases);
     let first = reading::first_bend(reading::bend(&value.reading), bend);
+    let tree = Expr::Match {
+        number,
+        scope,
+        of: bare(value),
+        arms: trees,
+    };
+    let tree = Box::new(alloc, tree)?;
     Ok(Form {
-        bases: bases::first(alloc, &bases)?,
-        tree: Expr::Match {
-            number,
-            scope,
-            of: Box::new(alloc, value.tree)?,
-            arms: trees,
-        },
+        bases: all?,
+        tree,
         reading: reading::bent_at(first, place),
         next,
     })

@@ -13,6 +13,7 @@ ghost use Rattle.cf_type.specs.Source.{IsSpelledProgram};
 ghost use Rattle.cf_type.specs.Typed.{typed_tree};
 ghost use Rattle.cf_type.specs.Walk.{where_kept, walk as walk_of};
 
+use crate::build::bare;
 use crate::callees::Callees;
 use crate::fault::TypeFault;
 use crate::form::Form;
@@ -72,20 +73,15 @@ fn walk_body(
 fn with_body(alloc: Global, def: &RawDef, body: Form) -> Result<Def, NoMemory>
     ensures { IfOk result (λ d. def_tree d ≡ def_form (raw_def_tree def.now) (form_of body)) }
 {
+    let tree = bare(body);
     let name = def.name.try_copy(alloc)?;
     let params = copied_params(alloc, &def.params)?;
     let results = Vec::from_slice(alloc, &def.results)?;
-    let Form {
-        bases: _,
-        tree,
-        reading: _,
-        next: _,
-    } = body;
     Ok(Def {
         name,
         params,
         results,
-        body: tree,
+        body: Box::into_inner(tree),
     })
 }
 
@@ -125,10 +121,20 @@ fn walk_defs(alloc: Global, defs: &[RawDef]) -> Result<Vec<Def>, TypeFault>
     ensures { Gives (λ ds. map def_tree ds.items) result (walk_defs_of (map raw_def_tree defs.now) [] [] 1 (map raw_def_tree defs.now)) }
 {
     let callees = Callees::new(alloc, defs)?;
+    let done = walk_each(alloc, &callees, defs);
+    drop(callees);
+    done
+}
+
+/// The functions in the order of the text, where these are all that can be called.
+fn walk_each(alloc: Global, callees: &Callees, defs: &[RawDef]) -> Result<Vec<Def>, TypeFault>
+    requires { callees.now ≡ defs.now }
+    ensures { Gives (λ ds. map def_tree ds.items) result (walk_defs_of (map raw_def_tree defs.now) [] [] 1 (map raw_def_tree defs.now)) }
+{
     let mut done = Vec::new(alloc);
     let mut next = 1;
     for i in 0..defs.len() {
-        let (def, after) = walk_def(alloc, &callees, &defs[..i], &defs[i], next)?;
+        let (def, after) = walk_def(alloc, callees, &defs[..i], &defs[i], next)?;
         done.push(def)?;
         next = after;
     }

@@ -6,9 +6,9 @@ use cf_tree::rel::{Rel, SetTerm, Term};
 /// An expression as a part of a relation, or the place of its first form that is not linear.
 #[derive(Drop)]
 pub enum Reading {
-    Relation(Rel),
-    Term(Term),
-    Set(SetTerm),
+    Relation(Box<Rel>),
+    Term(Box<Term>),
+    Set(Box<SetTerm>),
     Bent(Place),
 }
 
@@ -17,7 +17,7 @@ pub enum Reading {
 #[derive(Drop)]
 pub struct Form {
     pub bases: Vec<Base>,
-    pub tree: Expr,
+    pub tree: Box<Expr>,
     pub reading: Reading,
     pub next: u32,
 }

@@ -46,23 +46,20 @@ pub fn bent_at(first: Option<Place>, place: Place) -> Reading
     }
 }
 
-pub fn of_truth(truth: bool) -> Reading
-    ensures { reading_of result ≡ truth_reading truth }
+pub fn of_truth(alloc: Global, truth: bool) -> Result<Reading, NoMemory>
+    ensures { IfOk result (λ r. reading_of r ≡ truth_reading truth) }
 {
-    if truth {
-        Reading::Relation(Rel::True)
-    } else {
-        Reading::Relation(Rel::False)
-    }
+    let rel = if truth { Rel::True } else { Rel::False };
+    Ok(Reading::Relation(Box::new(alloc, rel)?))
 }
 
-pub fn of_variable(place: Place, variable: Variable) -> Reading
-    ensures { reading_of result ≡ variable_reading place variable.base variable.level }
+pub fn of_variable(alloc: Global, place: Place, variable: Variable) -> Result<Reading, NoMemory>
+    ensures { IfOk result (λ r. reading_of r ≡ variable_reading place variable.base variable.level) }
 {
     match variable.base {
-        Base::Int => Reading::Term(Term::Var(variable.level)),
-        Base::Bool => Reading::Bent(place),
-        Base::Set => Reading::Set(SetTerm::Var(variable.level)),
+        Base::Int => Ok(Reading::Term(Box::new(alloc, Term::Var(variable.level))?)),
+        Base::Bool => Ok(Reading::Bent(place)),
+        Base::Set => Ok(Reading::Set(Box::new(alloc, SetTerm::Var(variable.level))?)),
     }
 }
 
@@ -70,7 +67,7 @@ pub fn of_not(alloc: Global, place: Place, part: Reading) -> Result<Reading, NoM
     ensures { IfOk result (λ r. reading_of r ≡ on_relation (λ a. a_relation (rel_not a)) place (reading_of part)) }
 {
     match part {
-        Reading::Relation(a) => Ok(Reading::Relation(Rel::Not(Box::new(alloc, a)?))),
+        Reading::Relation(a) => Ok(Reading::Relation(Box::new(alloc, Rel::Not(a))?)),
         Reading::Term(_) => Ok(Reading::Bent(place)),
         Reading::Set(_) => Ok(Reading::Bent(place)),
         Reading::Bent(first) => Ok(Reading::Bent(first)),
@@ -82,7 +79,7 @@ pub fn of_neg(alloc: Global, place: Place, part: Reading) -> Result<Reading, NoM
 {
     match part {
         Reading::Relation(_) => Ok(Reading::Bent(place)),
-        Reading::Term(t) => Ok(Reading::Term(Term::Neg(Box::new(alloc, t)?))),
+        Reading::Term(t) => Ok(Reading::Term(Box::new(alloc, Term::Neg(t))?)),
         Reading::Set(_) => Ok(Reading::Bent(place)),
         Reading::Bent(first) => Ok(Reading::Bent(first)),
     }
@@ -93,7 +90,7 @@ pub fn of_abs(alloc: Global, place: Place, part: Reading) -> Result<Reading, NoM
 {
     match part {
         Reading::Relation(_) => Ok(Reading::Bent(place)),
-        Reading::Term(t) => Ok(Reading::Term(Term::Abs(Box::new(alloc, t)?))),
+        Reading::Term(t) => Ok(Reading::Term(Box::new(alloc, Term::Abs(t))?)),
         Reading::Set(_) => Ok(Reading::Bent(place)),
         Reading::Bent(first) => Ok(Reading::Bent(first)),
     }
@@ -104,7 +101,7 @@ pub fn of_div(alloc: Global, place: Place, part: Reading, k: i128) -> Result<Rea
 {
     match part {
         Reading::Relation(_) => Ok(Reading::Bent(place)),
-        Reading::Term(t) => Ok(Reading::Term(Term::Div(Box::new(alloc, t)?, k))),
+        Reading::Term(t) => Ok(Reading::Term(Box::new(alloc, Term::Div(t, k))?)),
         Reading::Set(_) => Ok(Reading::Bent(place)),
         Reading::Bent(first) => Ok(Reading::Bent(first)),
     }
@@ -115,7 +112,7 @@ pub fn of_mod(alloc: Global, place: Place, part: Reading, k: i128) -> Result<Rea
 {
     match part {
         Reading::Relation(_) => Ok(Reading::Bent(place)),
-        Reading::Term(t) => Ok(Reading::Term(Term::Mod(Box::new(alloc, t)?, k))),
+        Reading::Term(t) => Ok(Reading::Term(Box::new(alloc, Term::Mod(t, k))?)),
         Reading::Set(_) => Ok(Reading::Bent(place)),
         Reading::Bent(first) => Ok(Reading::Bent(first)),
     }
@@ -126,10 +123,7 @@ pub fn of_divides(alloc: Global, place: Place, k: i128, part: Reading) -> Result
 {
     match part {
         Reading::Relation(_) => Ok(Reading::Bent(place)),
-        Reading::Term(t) => Ok(Reading::Relation(Rel::Divides {
-            k,
-            of: Box::new(alloc, t)?,
-        })),
+        Reading::Term(t) => Ok(Reading::Relation(Box::new(alloc, Rel::Divides { k, of: t })?)),
         Reading::Set(_) => Ok(Reading::Bent(place)),
         Reading::Bent(first) => Ok(Reading::Bent(first)),
     }
@@ -141,7 +135,7 @@ pub fn of_card(alloc: Global, place: Place, part: Reading) -> Result<Reading, No
     match part {
         Reading::Relation(_) => Ok(Reading::Bent(place)),
         Reading::Term(_) => Ok(Reading::Bent(place)),
-        Reading::Set(s) => Ok(Reading::Term(Term::Card(Box::new(alloc, s)?))),
+        Reading::Set(s) => Ok(Reading::Term(Box::new(alloc, Term::Card(s))?)),
         Reading::Bent(first) => Ok(Reading::Bent(first)),
     }
 }
@@ -165,24 +159,33 @@ fn is_fixed(term: &Term) -> bool
 }
 
 /// The operation of two number forms.
-fn of_terms(alloc: Global, op: BinOp, place: Place, a: Term, b: Term) -> Result<Reading, NoMemory>
-    ensures { IfOk result (λ r. reading_of r ≡ binary_reading op place (a_term (term_tree a)) (a_term (term_tree b))) }
+fn of_terms(
+    alloc: Global,
+    op: BinOp,
+    place: Place,
+    a: Box<Term>,
+    b: Box<Term>,
+) -> Result<Reading, NoMemory>
+    ensures { IfOk result (λ r. reading_of r ≡ binary_reading op place (a_term (term_tree a.value)) (a_term (term_tree b.value))) }
 {
     match op {
-        BinOp::Add => Ok(Reading::Term(Term::Add(Box::new(alloc, a)?, Box::new(alloc, b)?))),
-        BinOp::Sub => Ok(Reading::Term(Term::Sub(Box::new(alloc, a)?, Box::new(alloc, b)?))),
+        BinOp::Add => Ok(Reading::Term(Box::new(alloc, Term::Add(a, b))?)),
+        BinOp::Sub => Ok(Reading::Term(Box::new(alloc, Term::Sub(a, b))?)),
         BinOp::Mul => {
             if is_fixed(&a) || is_fixed(&b) {
-                Ok(Reading::Term(Term::Mul(Box::new(alloc, a)?, Box::new(alloc, b)?)))
+                Ok(Reading::Term(Box::new(alloc, Term::Mul(a, b))?))
             } else {
                 Ok(Reading::Bent(place))
             }
         }
-        BinOp::Compare(order) => Ok(Reading::Relation(Rel::Compare {
-            order,
-            left: Box::new(alloc, a)?,
-            right: Box::new(alloc, b)?,
-        })),
+        BinOp::Compare(order) => Ok(Reading::Relation(Box::new(
+            alloc,
+            Rel::Compare {
+                order,
+                left: a,
+                right: b,
+            },
+        )?)),
         BinOp::And => Ok(Reading::Bent(place)),
         BinOp::Or => Ok(Reading::Bent(place)),
         BinOp::Union => Ok(Reading::Bent(place)),
@@ -193,12 +196,18 @@ fn of_terms(alloc: Global, op: BinOp, place: Place, a: Term, b: Term) -> Result<
 }
 
 /// The operation of two relations.
-fn of_relations(alloc: Global, op: BinOp, place: Place, a: Rel, b: Rel) -> Result<Reading, NoMemory>
-    ensures { IfOk result (λ r. reading_of r ≡ binary_reading op place (a_relation (rel_tree a)) (a_relation (rel_tree b))) }
+fn of_relations(
+    alloc: Global,
+    op: BinOp,
+    place: Place,
+    a: Box<Rel>,
+    b: Box<Rel>,
+) -> Result<Reading, NoMemory>
+    ensures { IfOk result (λ r. reading_of r ≡ binary_reading op place (a_relation (rel_tree a.value)) (a_relation (rel_tree b.value))) }
 {
     match op {
-        BinOp::And => Ok(Reading::Relation(Rel::And(Box::new(alloc, a)?, Box::new(alloc, b)?))),
-        BinOp::Or => Ok(Reading::Relation(Rel::Or(Box::new(alloc, a)?, Box::new(alloc, b)?))),
+        BinOp::And => Ok(Reading::Relation(Box::new(alloc, Rel::And(a, b))?)),
+        BinOp::Or => Ok(Reading::Relation(Box::new(alloc, Rel::Or(a, b))?)),
         BinOp::Add => Ok(Reading::Bent(place)),
         BinOp::Sub => Ok(Reading::Bent(place)),
         BinOp::Mul => Ok(Reading::Bent(place)),
@@ -215,14 +224,14 @@ fn of_compared_sets(
     alloc: Global,
     order: Order,
     place: Place,
-    a: SetTerm,
-    b: SetTerm,
+    a: Box<SetTerm>,
+    b: Box<SetTerm>,
 ) -> Result<Reading, NoMemory>
-    ensures { IfOk result (λ r. reading_of r ≡ sets_reading order place (set_tree a) (set_tree b)) }
+    ensures { IfOk result (λ r. reading_of r ≡ sets_reading order place (set_tree a.value) (set_tree b.value)) }
 {
     match order {
-        Order::Eq => Ok(Reading::Relation(Rel::SameSet(Box::new(alloc, a)?, Box::new(alloc, b)?))),
-        Order::Ne => Ok(Reading::Relation(Rel::OtherSet(Box::new(alloc, a)?, Box::new(alloc, b)?))),
+        Order::Eq => Ok(Reading::Relation(Box::new(alloc, Rel::SameSet(a, b))?)),
+        Order::Ne => Ok(Reading::Relation(Box::new(alloc, Rel::OtherSet(a, b))?)),
         Order::Lt => Ok(Reading::Bent(place)),
         Order::Le => Ok(Reading::Bent(place)),
         Order::Gt => Ok(Reading::Bent(place)),
@@ -235,19 +244,16 @@ fn of_sets(
     alloc: Global,
     op: BinOp,
     place: Place,
-    a: SetTerm,
-    b: SetTerm,
+    a: Box<SetTerm>,
+    b: Box<SetTerm>,
 ) -> Result<Reading, NoMemory>
-    ensures { IfOk result (λ r. reading_of r ≡ binary_reading op place (a_set (set_tree a)) (a_set (set_tree b))) }
+    ensures { IfOk result (λ r. reading_of r ≡ binary_reading op place (a_set (set_tree a.value)) (a_set (set_tree b.value))) }
 {
     match op {
-        BinOp::Union => Ok(Reading::Set(SetTerm::Union(Box::new(alloc, a)?, Box::new(alloc, b)?))),
-        BinOp::Inter => Ok(Reading::Set(SetTerm::Inter(Box::new(alloc, a)?, Box::new(alloc, b)?))),
-        BinOp::Diff => Ok(Reading::Set(SetTerm::Diff(Box::new(alloc, a)?, Box::new(alloc, b)?))),
-        BinOp::Subset => Ok(Reading::Relation(Rel::Subset(
-            Box::new(alloc, a)?,
-            Box::new(alloc, b)?,
-        ))),
+        BinOp::Union => Ok(Reading::Set(Box::new(alloc, SetTerm::Union(a, b))?)),
+        BinOp::Inter => Ok(Reading::Set(Box::new(alloc, SetTerm::Inter(a, b))?)),
+        BinOp::Diff => Ok(Reading::Set(Box::new(alloc, SetTerm::Diff(a, b))?)),
+        BinOp::Subset => Ok(Reading::Relation(Box::new(alloc, Rel::Subset(a, b))?)),
         BinOp::Compare(order) => of_compared_sets(alloc, order, place, a, b),
         BinOp::Add => Ok(Reading::Bent(place)),
         BinOp::Sub => Ok(Reading::Bent(place)),
@@ -263,10 +269,10 @@ fn on_left_relation(
     alloc: Global,
     op: BinOp,
     place: Place,
-    a: Rel,
+    a: Box<Rel>,
     right: Reading,
 ) -> Result<Reading, NoMemory>
-    ensures { IfOk result (λ r. reading_of r ≡ binary_reading op place (a_relation (rel_tree a)) (reading_of right)) }
+    ensures { IfOk result (λ r. reading_of r ≡ binary_reading op place (a_relation (rel_tree a.value)) (reading_of right)) }
 {
     match right {
         Reading::Relation(b) => of_relations(alloc, op, place, a, b),
@@ -293,10 +299,10 @@ fn on_left_term(
     alloc: Global,
     op: BinOp,
     place: Place,
-    a: Term,
+    a: Box<Term>,
     right: Reading,
 ) -> Result<Reading, NoMemory>
-    ensures { IfOk result (λ r. reading_of r ≡ binary_reading op place (a_term (term_tree a)) (reading_of right)) }
+    ensures { IfOk result (λ r. reading_of r ≡ binary_reading op place (a_term (term_tree a.value)) (reading_of right)) }
 {
     match right {
         Reading::Relation(_) => Ok(Reading::Bent(place)),
@@ -323,10 +329,10 @@ fn on_left_set(
     alloc: Global,
     op: BinOp,
     place: Place,
-    a: SetTerm,
+    a: Box<SetTerm>,
     right: Reading,
 ) -> Result<Reading, NoMemory>
-    ensures { IfOk result (λ r. reading_of r ≡ binary_reading op place (a_set (set_tree a)) (reading_of right)) }
+    ensures { IfOk result (λ r. reading_of r ≡ binary_reading op place (a_set (set_tree a.value)) (reading_of right)) }
 {
     match right {
         Reading::Relation(_) => Ok(Reading::Bent(place)),

@@ -1,6 +1,7 @@
 //! Copies of target code.
 ghost use Rattle.std.specs.Prelude.{◌≡◌, IfOk, map};
-ghost use Rattle.cf_tree.specs.CodeView.{code_tree, item_tree, arm_tree};
+ghost use Rattle.cf_tree.specs.CodeView.{code_tree, code_trees, item_tree, arm_tree};
+ghost use Rattle.cf_tree.specs.SameParts.{IsCodeOverList, IsCodeOverOne, IsCodeOverTwo, IsCodeOverThree};
 
 use crate::code::{Arm, Code, Item};
 use crate::memory::NoMemory;
@@ -16,68 +17,68 @@ impl Code {
             Code::Lit(x) => Ok(Code::Lit(*x)),
             Code::Truth(x) => Ok(Code::Truth(*x)),
             Code::Var(x) => Ok(Code::Var(*x)),
-            Code::SetOf(parts) => Ok(Code::SetOf(copy_codes(alloc, parts)?)),
-            Code::Tuple(parts) => Ok(Code::Tuple(copy_codes(alloc, parts)?)),
-            Code::Sum(parts) => Ok(Code::Sum(copy_codes(alloc, parts)?)),
-            Code::Sub(a, b) => Ok(Code::Sub(a.boxed(alloc)?, b.boxed(alloc)?)),
-            Code::Mul(a, b) => Ok(Code::Mul(a.boxed(alloc)?, b.boxed(alloc)?)),
-            Code::Neg(a) => Ok(Code::Neg(a.boxed(alloc)?)),
-            Code::Div { of, k } => Ok(Code::Div {
-                of: of.boxed(alloc)?,
-                k: *k,
-            }),
-            Code::Mod { of, k } => Ok(Code::Mod {
-                of: of.boxed(alloc)?,
-                k: *k,
-            }),
-            Code::Min(parts) => Ok(Code::Min(copy_codes(alloc, parts)?)),
-            Code::Max(parts) => Ok(Code::Max(copy_codes(alloc, parts)?)),
-            Code::Compare { order, left, right } => Ok(Code::Compare {
-                order: *order,
-                left: left.boxed(alloc)?,
-                right: right.boxed(alloc)?,
-            }),
-            Code::Divides { k, of } => Ok(Code::Divides {
-                k: *k,
-                of: of.boxed(alloc)?,
-            }),
-            Code::And(a, b) => Ok(Code::And(a.boxed(alloc)?, b.boxed(alloc)?)),
-            Code::Or(a, b) => Ok(Code::Or(a.boxed(alloc)?, b.boxed(alloc)?)),
-            Code::Not(a) => Ok(Code::Not(a.boxed(alloc)?)),
-            Code::Union(parts) => Ok(Code::Union(copy_codes(alloc, parts)?)),
-            Code::Inter(parts) => Ok(Code::Inter(copy_codes(alloc, parts)?)),
-            Code::Diff(a, b) => Ok(Code::Diff(a.boxed(alloc)?, b.boxed(alloc)?)),
-            Code::Subset(a, b) => Ok(Code::Subset(a.boxed(alloc)?, b.boxed(alloc)?)),
-            Code::Card(a) => Ok(Code::Card(a.boxed(alloc)?)),
-            Code::Slice { set, from, n } => Ok(Code::Slice {
-                set: set.boxed(alloc)?,
-                from: from.boxed(alloc)?,
-                n: n.boxed(alloc)?,
-            }),
-            Code::Fresh { avoid, n } => Ok(Code::Fresh {
-                avoid: avoid.boxed(alloc)?,
-                n: n.boxed(alloc)?,
-            }),
-            Code::If { test, yes, no } => Ok(Code::If {
-                test: test.boxed(alloc)?,
-                yes: yes.boxed(alloc)?,
-                no: no.boxed(alloc)?,
-            }),
-            Code::Let {
-                first,
-                count,
-                value,
-                body,
-            } => Ok(Code::Let {
-                first: *first,
-                count: *count,
-                value: value.boxed(alloc)?,
-                body: body.boxed(alloc)?,
-            }),
-            Code::Solve { number, arms } => Ok(Code::Solve {
-                number: *number,
-                arms: copy_arms(alloc, arms)?,
-            }),
+            Code::SetOf(parts)
+            | Code::Tuple(parts)
+            | Code::Sum(parts)
+            | Code::Min(parts)
+            | Code::Max(parts)
+            | Code::Union(parts)
+            | Code::Inter(parts) => {
+                let parts = copy_codes(alloc, parts)?;
+                Ok(self.over_list(parts))
+            }
+            Code::Neg(a)
+            | Code::Not(a)
+            | Code::Card(a)
+            | Code::Div { of: a, .. }
+            | Code::Mod { of: a, .. }
+            | Code::Divides { of: a, .. } => {
+                let part = a.boxed(alloc)?;
+                Ok(self.over_one(part))
+            }
+            Code::Sub(a, b)
+            | Code::Mul(a, b)
+            | Code::And(a, b)
+            | Code::Or(a, b)
+            | Code::Diff(a, b)
+            | Code::Subset(a, b)
+            | Code::Compare {
+                left: a,
+                right: b,
+                ..
+            }
+            | Code::Fresh { avoid: a, n: b }
+            | Code::Let {
+                value: a,
+                body: b,
+                ..
+            } => {
+                let first = a.boxed(alloc)?;
+                let second = b.boxed(alloc)?;
+                Ok(self.over_two(first, second))
+            }
+            Code::Slice {
+                set: a,
+                from: b,
+                n: c,
+            }
+            | Code::If {
+                test: a,
+                yes: b,
+                no: c,
+            } => {
+                let first = a.boxed(alloc)?;
+                let second = b.boxed(alloc)?;
+                let third = c.boxed(alloc)?;
+                Ok(self.over_three(first, second, third))
+            }
+            Code::Solve { number, arms } => {
+                let arms = copy_arms(alloc, arms)?;
+                Ok(Code::Solve {
+                    number: *number,
+                    arms,
+                })
+            }
         }
     }
 
@@ -86,6 +87,87 @@ impl Code {
         ensures { IfOk result (λ new. code_tree new.value ≡ code_tree self.now) }
     {
         Ok(Box::new(alloc, self.try_copy(alloc)?)?)
+    }
+
+    // The same form over a list of parts equal to its own.
+    fn over_list(&self, parts: Vec<Code>) -> Code
+        requires { IsCodeOverList (code_tree self.now) (code_trees parts.items) }
+        ensures { code_tree result ≡ code_tree self.now }
+    {
+        match self {
+            Code::SetOf(_) => Code::SetOf(parts),
+            Code::Tuple(_) => Code::Tuple(parts),
+            Code::Sum(_) => Code::Sum(parts),
+            Code::Min(_) => Code::Min(parts),
+            Code::Max(_) => Code::Max(parts),
+            Code::Union(_) => Code::Union(parts),
+            Code::Inter(_) => Code::Inter(parts),
+            _ => unreachable!(),
+        }
+    }
+
+    // The same form over a part equal to its own.
+    fn over_one(&self, a: Box<Code>) -> Code
+        requires { IsCodeOverOne (code_tree self.now) (code_tree a.value) }
+        ensures { code_tree result ≡ code_tree self.now }
+    {
+        match self {
+            Code::Neg(_) => Code::Neg(a),
+            Code::Not(_) => Code::Not(a),
+            Code::Card(_) => Code::Card(a),
+            Code::Div { k, .. } => Code::Div { of: a, k: *k },
+            Code::Mod { k, .. } => Code::Mod { of: a, k: *k },
+            Code::Divides { k, .. } => Code::Divides { k: *k, of: a },
+            _ => unreachable!(),
+        }
+    }
+
+    // The same form over two parts equal to its own.
+    fn over_two(&self, a: Box<Code>, b: Box<Code>) -> Code
+        requires { IsCodeOverTwo (code_tree self.now) (code_tree a.value) (code_tree b.value) }
+        ensures { code_tree result ≡ code_tree self.now }
+    {
+        match self {
+            Code::Sub(_, _) => Code::Sub(a, b),
+            Code::Mul(_, _) => Code::Mul(a, b),
+            Code::And(_, _) => Code::And(a, b),
+            Code::Or(_, _) => Code::Or(a, b),
+            Code::Diff(_, _) => Code::Diff(a, b),
+            Code::Subset(_, _) => Code::Subset(a, b),
+            Code::Compare { order, .. } => Code::Compare {
+                order: *order,
+                left: a,
+                right: b,
+            },
+            Code::Fresh { .. } => Code::Fresh { avoid: a, n: b },
+            Code::Let { first, count, .. } => Code::Let {
+                first: *first,
+                count: *count,
+                value: a,
+                body: b,
+            },
+            _ => unreachable!(),
+        }
+    }
+
+    // The same form over three parts equal to its own.
+    fn over_three(&self, a: Box<Code>, b: Box<Code>, c: Box<Code>) -> Code
+        requires { IsCodeOverThree (code_tree self.now) (code_tree a.value) (code_tree b.value) (code_tree c.value) }
+        ensures { code_tree result ≡ code_tree self.now }
+    {
+        match self {
+            Code::Slice { .. } => Code::Slice {
+                set: a,
+                from: b,
+                n: c,
+            },
+            Code::If { .. } => Code::If {
+                test: a,
+                yes: b,
+                no: c,
+            },
+            _ => unreachable!(),
+        }
     }
 }
 

@@ -1,10 +1,16 @@
 //! Copies of source expressions with levels.
 ghost use Rattle.std.specs.Prelude.{◌≡◌, IfOk, map};
-ghost use Rattle.cf_tree.specs.ExprView.{expr_tree, match_arm_tree};
+ghost use Rattle.cf_tree.specs.ExprTree.{expr_choose, expr_match};
+ghost use Rattle.cf_tree.specs.ExprView.{expr_tree, expr_trees, match_arm_tree, match_arm_trees};
+ghost use Rattle.cf_tree.specs.RelView.{rel_tree};
+ghost use Rattle.cf_tree.specs.SameParts.{IsExprOverList, IsExprOverOne, IsExprOverTwo};
 
+use crate::base::Base;
 use crate::copy::words::copy_params;
 use crate::expr::{Expr, MatchArm};
 use crate::memory::NoMemory;
+use crate::raw::Param;
+use crate::rel::Rel;
 use std::alloc::Global;
 
 impl Expr {
@@ -17,65 +23,56 @@ impl Expr {
             Expr::Lit(x) => Ok(Expr::Lit(*x)),
             Expr::Truth(x) => Ok(Expr::Truth(*x)),
             Expr::Var(x) => Ok(Expr::Var(*x)),
-            Expr::SetOf(parts) => Ok(Expr::SetOf(copy_exprs(alloc, parts)?)),
-            Expr::Tuple(parts) => Ok(Expr::Tuple(copy_exprs(alloc, parts)?)),
-            Expr::Neg(a) => Ok(Expr::Neg(a.boxed(alloc)?)),
-            Expr::Not(a) => Ok(Expr::Not(a.boxed(alloc)?)),
-            Expr::Abs(a) => Ok(Expr::Abs(a.boxed(alloc)?)),
-            Expr::Binary { op, left, right } => Ok(Expr::Binary {
-                op: *op,
-                left: left.boxed(alloc)?,
-                right: right.boxed(alloc)?,
-            }),
-            Expr::Divides { k, of } => Ok(Expr::Divides {
-                k: *k,
-                of: of.boxed(alloc)?,
-            }),
-            Expr::Div { of, k } => Ok(Expr::Div {
-                of: of.boxed(alloc)?,
-                k: *k,
-            }),
-            Expr::Mod { of, k } => Ok(Expr::Mod {
-                of: of.boxed(alloc)?,
-                k: *k,
-            }),
-            Expr::Card(a) => Ok(Expr::Card(a.boxed(alloc)?)),
-            Expr::If { test, yes, no } => Ok(Expr::If {
-                test: test.boxed(alloc)?,
-                yes: yes.boxed(alloc)?,
-                no: no.boxed(alloc)?,
-            }),
-            Expr::Call { def, args } => Ok(Expr::Call {
-                def: *def,
-                args: copy_exprs(alloc, args)?,
-            }),
-            Expr::Let { count, value, body } => Ok(Expr::Let {
-                count: *count,
-                value: value.boxed(alloc)?,
-                body: body.boxed(alloc)?,
-            }),
+            Expr::SetOf(parts) | Expr::Tuple(parts) | Expr::Call { args: parts, .. } => {
+                let parts = copy_exprs(alloc, parts)?;
+                Ok(self.over_list(parts))
+            }
+            Expr::Neg(a)
+            | Expr::Not(a)
+            | Expr::Abs(a)
+            | Expr::Card(a)
+            | Expr::Divides { of: a, .. }
+            | Expr::Div { of: a, .. }
+            | Expr::Mod { of: a, .. } => {
+                let part = a.boxed(alloc)?;
+                Ok(self.over_one(part))
+            }
+            Expr::Binary {
+                left: a,
+                right: b,
+                ..
+            }
+            | Expr::Let {
+                value: a,
+                body: b,
+                ..
+            } => {
+                let first = a.boxed(alloc)?;
+                let second = b.boxed(alloc)?;
+                Ok(self.over_two(first, second))
+            }
+            Expr::If { test, yes, no } => {
+                let test = test.boxed(alloc)?;
+                let yes = yes.boxed(alloc)?;
+                let no = no.boxed(alloc)?;
+                Ok(Expr::If { test, yes, no })
+            }
             Expr::Choose {
                 number,
                 scope,
                 outputs,
                 rel,
-            } => Ok(Expr::Choose {
-                number: *number,
-                scope: copy_params(alloc, scope)?,
-                outputs: Vec::from_slice(alloc, outputs)?,
-                rel: rel.try_copy(alloc)?,
-            }),
+            } => copied_choose(alloc, *number, scope, outputs, rel),
             Expr::Match {
                 number,
                 scope,
                 of,
                 arms,
-            } => Ok(Expr::Match {
-                number: *number,
-                scope: copy_params(alloc, scope)?,
-                of: of.boxed(alloc)?,
-                arms: copy_arms(alloc, arms)?,
-            }),
+            } => {
+                let of = of.boxed(alloc)?;
+                let arms = copy_arms(alloc, arms)?;
+                match_over(alloc, *number, scope, of, arms)
+            }
         }
     }
 
@@ -85,6 +82,99 @@ impl Expr {
     {
         Ok(Box::new(alloc, self.try_copy(alloc)?)?)
     }
+
+    // The same form over a list of parts equal to its own.
+    fn over_list(&self, parts: Vec<Expr>) -> Expr
+        requires { IsExprOverList (expr_tree self.now) (expr_trees parts.items) }
+        ensures { expr_tree result ≡ expr_tree self.now }
+    {
+        match self {
+            Expr::SetOf(_) => Expr::SetOf(parts),
+            Expr::Tuple(_) => Expr::Tuple(parts),
+            Expr::Call { def, .. } => Expr::Call {
+                def: *def,
+                args: parts,
+            },
+            _ => unreachable!(),
+        }
+    }
+
+    // The same form over a part equal to its own.
+    fn over_one(&self, a: Box<Expr>) -> Expr
+        requires { IsExprOverOne (expr_tree self.now) (expr_tree a.value) }
+        ensures { expr_tree result ≡ expr_tree self.now }
+    {
+        match self {
+            Expr::Neg(_) => Expr::Neg(a),
+            Expr::Not(_) => Expr::Not(a),
+            Expr::Abs(_) => Expr::Abs(a),
+            Expr::Card(_) => Expr::Card(a),
+            Expr::Divides { k, .. } => Expr::Divides { k: *k, of: a },
+            Expr::Div { k, .. } => Expr::Div { of: a, k: *k },
+            Expr::Mod { k, .. } => Expr::Mod { of: a, k: *k },
+            _ => unreachable!(),
+        }
+    }
+
+    // The same form over two parts equal to its own.
+    fn over_two(&self, a: Box<Expr>, b: Box<Expr>) -> Expr
+        requires { IsExprOverTwo (expr_tree self.now) (expr_tree a.value) (expr_tree b.value) }
+        ensures { expr_tree result ≡ expr_tree self.now }
+    {
+        match self {
+            Expr::Binary { op, .. } => Expr::Binary {
+                op: *op,
+                left: a,
+                right: b,
+            },
+            Expr::Let { count, .. } => Expr::Let {
+                count: *count,
+                value: a,
+                body: b,
+            },
+            _ => unreachable!(),
+        }
+    }
+}
+
+// A `choose` with equal parts.
+fn copied_choose(
+    alloc: Global,
+    number: u32,
+    scope: &[Param],
+    outputs: &[Base],
+    rel: &Rel,
+) -> Result<Expr, NoMemory>
+    ensures { IfOk result (λ new. expr_tree new ≡ expr_choose number scope.now outputs.now (rel_tree rel.now)) }
+{
+    let scope = copy_params(alloc, scope)?;
+    let outputs = Vec::from_slice(alloc, outputs)?;
+    let rel = rel.try_copy(alloc)?;
+    Ok(Expr::Choose {
+        number,
+        scope,
+        outputs,
+        rel,
+    })
+}
+
+// A `match` over these parts, in an equal scope.
+fn match_over(
+    alloc: Global,
+    number: u32,
+    scope: &[Param],
+    of: Box<Expr>,
+    arms: Vec<MatchArm>,
+) -> Result<Expr, NoMemory>
+    ensures { IfOk result (λ new. expr_tree new ≡ expr_match number scope.now (expr_tree of.value) (match_arm_trees arms.items)) }
+{
+    let scope = copy_params(alloc, scope)?;
+    Ok(Expr::Match {
+        number,
+        scope,
+        of,
+        arms,
+    })
 }
 
 impl MatchArm {

@@ -1,11 +1,13 @@
 //! Copies of source expressions as they are read.
 ghost use Rattle.std.specs.Prelude.{◌≡◌, IfOk, map};
-ghost use Rattle.cf_tree.specs.RawView.{raw_tree, raw_node_tree, raw_arm_tree};
+ghost use Rattle.cf_tree.specs.RawTree.{raw_name, raw_call, raw_let, raw_choose};
+ghost use Rattle.cf_tree.specs.RawView.{raw_tree, raw_trees, raw_node_tree, raw_arm_tree};
+ghost use Rattle.cf_tree.specs.SameParts.{IsRawOverList, IsRawOverOne};
 
-use crate::base::Place;
+use crate::base::{Place, Text};
 use crate::copy::words::{copy_params, copy_parts, copy_texts};
 use crate::memory::NoMemory;
-use crate::raw::{Raw, RawArm, RawNode};
+use crate::raw::{Param, Raw, RawArm, RawNode};
 use std::alloc::Global;
 
 impl Raw {
@@ -33,87 +35,89 @@ impl RawNode {
         match self {
             RawNode::Lit(x) => Ok(raw_at(place, RawNode::Lit(*x))),
             RawNode::Truth(x) => Ok(raw_at(place, RawNode::Truth(*x))),
-            RawNode::Name(name) => Ok(raw_at(place, RawNode::Name(name.try_copy(alloc)?))),
-            RawNode::SetOf(parts) => Ok(raw_at(place, RawNode::SetOf(copy_raws(alloc, parts)?))),
-            RawNode::Group(a) => Ok(raw_at(place, RawNode::Group(a.boxed(alloc)?))),
-            RawNode::Tuple(parts) => Ok(raw_at(place, RawNode::Tuple(copy_raws(alloc, parts)?))),
-            RawNode::Neg(a) => Ok(raw_at(place, RawNode::Neg(a.boxed(alloc)?))),
-            RawNode::Not(a) => Ok(raw_at(place, RawNode::Not(a.boxed(alloc)?))),
-            RawNode::Abs(a) => Ok(raw_at(place, RawNode::Abs(a.boxed(alloc)?))),
-            RawNode::Binary { op, left, right } => Ok(raw_at(
-                place,
-                RawNode::Binary {
-                    op: *op,
-                    left: left.boxed(alloc)?,
-                    right: right.boxed(alloc)?,
-                },
-            )),
-            RawNode::Divides { k, of } => Ok(raw_at(
-                place,
-                RawNode::Divides {
-                    k: *k,
-                    of: of.boxed(alloc)?,
-                },
-            )),
-            RawNode::Div { of, k } => Ok(raw_at(
-                place,
-                RawNode::Div {
-                    of: of.boxed(alloc)?,
-                    k: *k,
-                },
-            )),
-            RawNode::Mod { of, k } => Ok(raw_at(
-                place,
-                RawNode::Mod {
-                    of: of.boxed(alloc)?,
-                    k: *k,
-                },
-            )),
-            RawNode::Card(a) => Ok(raw_at(place, RawNode::Card(a.boxed(alloc)?))),
-            RawNode::Call { name, args } => Ok(raw_at(
-                place,
-                RawNode::Call {
-                    name: name.try_copy(alloc)?,
-                    args: copy_raws(alloc, args)?,
-                },
-            )),
-            RawNode::If { test, yes, no } => Ok(raw_at(
-                place,
-                RawNode::If {
-                    test: test.boxed(alloc)?,
-                    yes: yes.boxed(alloc)?,
-                    no: no.boxed(alloc)?,
-                },
-            )),
+            RawNode::Name(name) => name_at(alloc, place, name),
+            RawNode::SetOf(parts) | RawNode::Tuple(parts) => {
+                let parts = copy_raws(alloc, parts)?;
+                Ok(self.over_list(place, parts))
+            }
+            RawNode::Group(a)
+            | RawNode::Neg(a)
+            | RawNode::Not(a)
+            | RawNode::Abs(a)
+            | RawNode::Card(a)
+            | RawNode::Divides { of: a, .. }
+            | RawNode::Div { of: a, .. }
+            | RawNode::Mod { of: a, .. } => {
+                let part = a.boxed(alloc)?;
+                Ok(self.over_one(place, part))
+            }
+            RawNode::Binary { op, left, right } => {
+                let left = left.boxed(alloc)?;
+                let right = right.boxed(alloc)?;
+                let op = *op;
+                Ok(raw_at(place, RawNode::Binary { op, left, right }))
+            }
+            RawNode::Call { name, args } => {
+                let args = copy_raws(alloc, args)?;
+                call_at(alloc, place, name, args)
+            }
+            RawNode::If { test, yes, no } => {
+                let test = test.boxed(alloc)?;
+                let yes = yes.boxed(alloc)?;
+                let no = no.boxed(alloc)?;
+                Ok(raw_at(place, RawNode::If { test, yes, no }))
+            }
             RawNode::Let {
                 names,
                 places,
                 value,
                 body,
-            } => Ok(raw_at(
-                place,
-                RawNode::Let {
-                    names: copy_texts(alloc, names)?,
-                    places: Vec::from_slice(alloc, places)?,
-                    value: value.boxed(alloc)?,
-                    body: body.boxed(alloc)?,
-                },
-            )),
-            RawNode::Choose { outputs, rel } => Ok(raw_at(
-                place,
-                RawNode::Choose {
-                    outputs: copy_params(alloc, outputs)?,
-                    rel: rel.boxed(alloc)?,
-                },
-            )),
-            RawNode::Match { of, arms } => Ok(raw_at(
-                place,
-                RawNode::Match {
-                    of: of.boxed(alloc)?,
-                    arms: copy_arms(alloc, arms)?,
-                },
-            )),
+            } => {
+                let value = value.boxed(alloc)?;
+                let body = body.boxed(alloc)?;
+                let_at(alloc, place, names, places, value, body)
+            }
+            RawNode::Choose { outputs, rel } => {
+                let rel = rel.boxed(alloc)?;
+                choose_at(alloc, place, outputs, rel)
+            }
+            RawNode::Match { of, arms } => {
+                let of = of.boxed(alloc)?;
+                let arms = copy_arms(alloc, arms)?;
+                Ok(raw_at(place, RawNode::Match { of, arms }))
+            }
         }
+    }
+
+    // The same form over a list of parts equal to its own.
+    fn over_list(&self, place: Place, parts: Vec<Raw>) -> Raw
+        requires { IsRawOverList (raw_node_tree self.now place) (raw_trees parts.items) }
+        ensures { raw_tree result ≡ raw_node_tree self.now place }
+    {
+        match self {
+            RawNode::SetOf(_) => raw_at(place, RawNode::SetOf(parts)),
+            RawNode::Tuple(_) => raw_at(place, RawNode::Tuple(parts)),
+            _ => unreachable!(),
+        }
+    }
+
+    // The same form over a part equal to its own.
+    fn over_one(&self, place: Place, a: Box<Raw>) -> Raw
+        requires { IsRawOverOne (raw_node_tree self.now place) (raw_tree a.value) }
+        ensures { raw_tree result ≡ raw_node_tree self.now place }
+    {
+        let node = match self {
+            RawNode::Group(_) => RawNode::Group(a),
+            RawNode::Neg(_) => RawNode::Neg(a),
+            RawNode::Not(_) => RawNode::Not(a),
+            RawNode::Abs(_) => RawNode::Abs(a),
+            RawNode::Card(_) => RawNode::Card(a),
+            RawNode::Divides { k, .. } => RawNode::Divides { k: *k, of: a },
+            RawNode::Div { k, .. } => RawNode::Div { of: a, k: *k },
+            RawNode::Mod { k, .. } => RawNode::Mod { of: a, k: *k },
+            _ => unreachable!(),
+        };
+        Raw { place, node }
     }
 }
 
@@ -151,6 +155,54 @@ fn copy_arms(alloc: Global, arms: &[RawArm]) -> Result<Vec<RawArm>, NoMemory>
         all.push(arm.try_copy(alloc)?)?;
     }
     Ok(all)
+}
+
+// A name, copied.
+fn name_at(alloc: Global, place: Place, name: &Text) -> Result<Raw, NoMemory>
+    ensures { IfOk result (λ new. raw_tree new ≡ raw_name place name.now) }
+{
+    let name = name.try_copy(alloc)?;
+    Ok(raw_at(place, RawNode::Name(name)))
+}
+
+// A call with an equal name and these arguments.
+fn call_at(alloc: Global, place: Place, name: &Text, args: Vec<Raw>) -> Result<Raw, NoMemory>
+    ensures { IfOk result (λ new. raw_tree new ≡ raw_call place name.now (raw_trees args.items)) }
+{
+    let name = name.try_copy(alloc)?;
+    Ok(raw_at(place, RawNode::Call { name, args }))
+}
+
+// A `let` of equal names with these parts.
+fn let_at(
+    alloc: Global,
+    place: Place,
+    names: &[Text],
+    places: &[Place],
+    value: Box<Raw>,
+    body: Box<Raw>,
+) -> Result<Raw, NoMemory>
+    ensures { IfOk result (λ new. raw_tree new ≡ raw_let place names.now places.now (raw_tree value.value) (raw_tree body.value)) }
+{
+    let names = copy_texts(alloc, names)?;
+    let places = Vec::from_slice(alloc, places)?;
+    Ok(raw_at(
+        place,
+        RawNode::Let {
+            names,
+            places,
+            value,
+            body,
+        },
+    ))
+}
+
+// A `choose` of equal outputs with this relation.
+fn choose_at(alloc: Global, place: Place, outputs: &[Param], rel: Box<Raw>) -> Result<Raw, NoMemory>
+    ensures { IfOk result (λ new. raw_tree new ≡ raw_choose place outputs.now (raw_tree rel.value)) }
+{
+    let outputs = copy_params(alloc, outputs)?;
+    Ok(raw_at(place, RawNode::Choose { outputs, rel }))
 }
 
 fn raw_at(place: Place, node: RawNode) -> Raw

@@ -1,6 +1,7 @@
 //! Copies of relations and of their parts.
 ghost use Rattle.std.specs.Prelude.{◌≡◌, IfOk};
 ghost use Rattle.cf_tree.specs.RelView.{set_tree, term_tree, rel_tree};
+ghost use Rattle.cf_tree.specs.SameParts.{IsSetOverTwo, IsTermOverOne, IsTermOverTwo, IsRelOverSets, IsRelOverTwo};
 
 use crate::memory::NoMemory;
 use crate::rel::{Rel, SetTerm, Term};
@@ -8,95 +9,164 @@ use std::alloc::Global;
 
 impl SetTerm {
     /// An equal tree.
+    #[cycle(copy_set)]
     pub fn try_copy(&self, alloc: Global) -> Result<SetTerm, NoMemory>
         ensures { IfOk result (λ new. set_tree new ≡ set_tree self.now) }
     {
         match self {
             SetTerm::Empty => Ok(SetTerm::Empty),
             SetTerm::Var(x) => Ok(SetTerm::Var(*x)),
-            SetTerm::Union(a, b) => Ok(SetTerm::Union(
-                Box::new(alloc, a.try_copy(alloc)?)?,
-                Box::new(alloc, b.try_copy(alloc)?)?,
-            )),
-            SetTerm::Inter(a, b) => Ok(SetTerm::Inter(
-                Box::new(alloc, a.try_copy(alloc)?)?,
-                Box::new(alloc, b.try_copy(alloc)?)?,
-            )),
-            SetTerm::Diff(a, b) => Ok(SetTerm::Diff(
-                Box::new(alloc, a.try_copy(alloc)?)?,
-                Box::new(alloc, b.try_copy(alloc)?)?,
-            )),
+            SetTerm::Union(a, b) | SetTerm::Inter(a, b) | SetTerm::Diff(a, b) => {
+                let first = a.boxed(alloc)?;
+                let second = b.boxed(alloc)?;
+                Ok(self.over_two(first, second))
+            }
+        }
+    }
+
+    #[cycle(copy_set)]
+    pub(crate) fn boxed(&self, alloc: Global) -> Result<Box<SetTerm>, NoMemory>
+        ensures { IfOk result (λ new. set_tree new.value ≡ set_tree self.now) }
+    {
+        Ok(Box::new(alloc, self.try_copy(alloc)?)?)
+    }
+
+    // The same form over two parts equal to its own.
+    fn over_two(&self, a: Box<SetTerm>, b: Box<SetTerm>) -> SetTerm
+        requires { IsSetOverTwo (set_tree self.now) (set_tree a.value) (set_tree b.value) }
+        ensures { set_tree result ≡ set_tree self.now }
+    {
+        match self {
+            SetTerm::Union(_, _) => SetTerm::Union(a, b),
+            SetTerm::Inter(_, _) => SetTerm::Inter(a, b),
+            SetTerm::Diff(_, _) => SetTerm::Diff(a, b),
+            _ => unreachable!(),
         }
     }
 }
 
 impl Term {
     /// An equal tree.
+    #[cycle(copy_term)]
     pub fn try_copy(&self, alloc: Global) -> Result<Term, NoMemory>
         ensures { IfOk result (λ new. term_tree new ≡ term_tree self.now) }
     {
         match self {
             Term::Lit(x) => Ok(Term::Lit(*x)),
             Term::Var(x) => Ok(Term::Var(*x)),
-            Term::Card(a) => Ok(Term::Card(Box::new(alloc, a.try_copy(alloc)?)?)),
-            Term::Neg(a) => Ok(Term::Neg(Box::new(alloc, a.try_copy(alloc)?)?)),
-            Term::Add(a, b) => Ok(Term::Add(
-                Box::new(alloc, a.try_copy(alloc)?)?,
-                Box::new(alloc, b.try_copy(alloc)?)?,
-            )),
-            Term::Sub(a, b) => Ok(Term::Sub(
-                Box::new(alloc, a.try_copy(alloc)?)?,
-                Box::new(alloc, b.try_copy(alloc)?)?,
-            )),
-            Term::Mul(a, b) => Ok(Term::Mul(
-                Box::new(alloc, a.try_copy(alloc)?)?,
-                Box::new(alloc, b.try_copy(alloc)?)?,
-            )),
-            Term::Div(a, k) => Ok(Term::Div(Box::new(alloc, a.try_copy(alloc)?)?, *k)),
-            Term::Mod(a, k) => Ok(Term::Mod(Box::new(alloc, a.try_copy(alloc)?)?, *k)),
-            Term::Abs(a) => Ok(Term::Abs(Box::new(alloc, a.try_copy(alloc)?)?)),
+            Term::Card(a) => Ok(Term::Card(a.boxed(alloc)?)),
+            Term::Neg(a) | Term::Div(a, _) | Term::Mod(a, _) | Term::Abs(a) => {
+                let part = a.boxed(alloc)?;
+                Ok(self.over_one(part))
+            }
+            Term::Add(a, b) | Term::Sub(a, b) | Term::Mul(a, b) => {
+                let first = a.boxed(alloc)?;
+                let second = b.boxed(alloc)?;
+                Ok(self.over_two(first, second))
+            }
+        }
+    }
+
+    #[cycle(copy_term)]
+    pub(crate) fn boxed(&self, alloc: Global) -> Result<Box<Term>, NoMemory>
+        ensures { IfOk result (λ new. term_tree new.value ≡ term_tree self.now) }
+    {
+        Ok(Box::new(alloc, self.try_copy(alloc)?)?)
+    }
+
+    // The same form over a part equal to its own.
+    fn over_one(&self, a: Box<Term>) -> Term
+        requires { IsTermOverOne (term_tree self.now) (term_tree a.value) }
+        ensures { term_tree result ≡ term_tree self.now }
+    {
+        match self {
+            Term::Neg(_) => Term::Neg(a),
+            Term::Div(_, k) => Term::Div(a, *k),
+            Term::Mod(_, k) => Term::Mod(a, *k),
+            Term::Abs(_) => Term::Abs(a),
+            _ => unreachable!(),
+        }
+    }
+
+    // The same form over two parts equal to its own.
+    fn over_two(&self, a: Box<Term>, b: Box<Term>) -> Term
+        requires { IsTermOverTwo (term_tree self.now) (term_tree a.value) (term_tree b.value) }
+        ensures { term_tree result ≡ term_tree self.now }
+    {
+        match self {
+            Term::Add(_, _) => Term::Add(a, b),
+            Term::Sub(_, _) => Term::Sub(a, b),
+            Term::Mul(_, _) => Term::Mul(a, b),
+            _ => unreachable!(),
         }
     }
 }
 
 impl Rel {
     /// An equal tree.
+    #[cycle(copy_rel)]
     pub fn try_copy(&self, alloc: Global) -> Result<Rel, NoMemory>
         ensures { IfOk result (λ new. rel_tree new ≡ rel_tree self.now) }
     {
         match self {
             Rel::True => Ok(Rel::True),
             Rel::False => Ok(Rel::False),
-            Rel::Compare { order, left, right } => Ok(Rel::Compare {
-                order: *order,
-                left: Box::new(alloc, left.try_copy(alloc)?)?,
-                right: Box::new(alloc, right.try_copy(alloc)?)?,
-            }),
-            Rel::SameSet(a, b) => Ok(Rel::SameSet(
-                Box::new(alloc, a.try_copy(alloc)?)?,
-                Box::new(alloc, b.try_copy(alloc)?)?,
-            )),
-            Rel::OtherSet(a, b) => Ok(Rel::OtherSet(
-                Box::new(alloc, a.try_copy(alloc)?)?,
-                Box::new(alloc, b.try_copy(alloc)?)?,
-            )),
-            Rel::Subset(a, b) => Ok(Rel::Subset(
-                Box::new(alloc, a.try_copy(alloc)?)?,
-                Box::new(alloc, b.try_copy(alloc)?)?,
-            )),
-            Rel::Divides { k, of } => Ok(Rel::Divides {
-                k: *k,
-                of: Box::new(alloc, of.try_copy(alloc)?)?,
-            }),
-            Rel::And(a, b) => Ok(Rel::And(
-                Box::new(alloc, a.try_copy(alloc)?)?,
-                Box::new(alloc, b.try_copy(alloc)?)?,
-            )),
-            Rel::Or(a, b) => Ok(Rel::Or(
-                Box::new(alloc, a.try_copy(alloc)?)?,
-                Box::new(alloc, b.try_copy(alloc)?)?,
-            )),
-            Rel::Not(a) => Ok(Rel::Not(Box::new(alloc, a.try_copy(alloc)?)?)),
+            Rel::Compare { order, left, right } => {
+                let left = left.boxed(alloc)?;
+                let right = right.boxed(alloc)?;
+                let order = *order;
+                Ok(Rel::Compare { order, left, right })
+            }
+            Rel::SameSet(a, b) | Rel::OtherSet(a, b) | Rel::Subset(a, b) => {
+                let first = a.boxed(alloc)?;
+                let second = b.boxed(alloc)?;
+                Ok(self.over_sets(first, second))
+            }
+            Rel::Divides { k, of } => {
+                let of = of.boxed(alloc)?;
+                Ok(Rel::Divides { k: *k, of })
+            }
+            Rel::And(a, b) | Rel::Or(a, b) => {
+                let first = a.boxed(alloc)?;
+                let second = b.boxed(alloc)?;
+                Ok(self.over_two(first, second))
+            }
+            Rel::Not(a) => {
+                let part = a.boxed(alloc)?;
+                Ok(Rel::Not(part))
+            }
+        }
+    }
+
+    #[cycle(copy_rel)]
+    pub(crate) fn boxed(&self, alloc: Global) -> Result<Box<Rel>, NoMemory>
+        ensures { IfOk result (λ new. rel_tree new.value ≡ rel_tree self.now) }
+    {
+        Ok(Box::new(alloc, self.try_copy(alloc)?)?)
+    }
+
+    // The same relation of two set forms equal to its own.
+    fn over_sets(&self, a: Box<SetTerm>, b: Box<SetTerm>) -> Rel
+        requires { IsRelOverSets (rel_tree self.now) (set_tree a.value) (set_tree b.value) }
+        ensures { rel_tree result ≡ rel_tree self.now }
+    {
+        match self {
+            Rel::SameSet(_, _) => Rel::SameSet(a, b),
+            Rel::OtherSet(_, _) => Rel::OtherSet(a, b),
+            Rel::Subset(_, _) => Rel::Subset(a, b),
+            _ => unreachable!(),
+        }
+    }
+
+    // The same relation of two relations equal to its own.
+    fn over_two(&self, a: Box<Rel>, b: Box<Rel>) -> Rel
+        requires { IsRelOverTwo (rel_tree self.now) (rel_tree a.value) (rel_tree b.value) }
+        ensures { rel_tree result ≡ rel_tree self.now }
+    {
+        match self {
+            Rel::And(_, _) => Rel::And(a, b),
+            Rel::Or(_, _) => Rel::Or(a, b),
+            _ => unreachable!(),
         }
     }
 }

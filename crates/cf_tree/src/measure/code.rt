@@ -21,34 +21,42 @@ impl Code {
             | Code::Max(parts)
             | Code::Union(parts)
             | Code::Inter(parts) => codes_size(parts).saturating_add(1),
+            Code::Neg(a)
+            | Code::Not(a)
+            | Code::Card(a)
+            | Code::Div { of: a, .. }
+            | Code::Mod { of: a, .. }
+            | Code::Divides { of: a, .. } => a.size().saturating_add(1),
             Code::Sub(a, b)
             | Code::Mul(a, b)
             | Code::And(a, b)
             | Code::Or(a, b)
             | Code::Diff(a, b)
-            | Code::Subset(a, b) => a.size().saturating_add(b.size()).saturating_add(1),
-            Code::Neg(a) | Code::Not(a) | Code::Card(a) => a.size().saturating_add(1),
-            Code::Div { of, .. } | Code::Mod { of, .. } | Code::Divides { of, .. } => of
+            | Code::Subset(a, b)
+            | Code::Compare {
+                left: a,
+                right: b,
+                ..
+            }
+            | Code::Fresh { avoid: a, n: b }
+            | Code::Let {
+                value: a,
+                body: b,
+                ..
+            } => a.size().saturating_add(b.size()).saturating_add(1),
+            Code::Slice {
+                set: a,
+                from: b,
+                n: c,
+            }
+            | Code::If {
+                test: a,
+                yes: b,
+                no: c,
+            } => a
                 .size()
-                .saturating_add(1),
-            Code::Compare { left, right, .. } => left
-                .size()
-                .saturating_add(right.size())
-                .saturating_add(1),
-            Code::Slice { set, from, n } => set
-                .size()
-                .saturating_add(from.size())
-                .saturating_add(n.size())
-                .saturating_add(1),
-            Code::Fresh { avoid, n } => avoid.size().saturating_add(n.size()).saturating_add(1),
-            Code::If { test, yes, no } => test
-                .size()
-                .saturating_add(yes.size())
-                .saturating_add(no.size())
-                .saturating_add(1),
-            Code::Let { value, body, .. } => value
-                .size()
-                .saturating_add(body.size())
+                .saturating_add(b.size())
+                .saturating_add(c.size())
                 .saturating_add(1),
             Code::Solve { arms, .. } => arms_size(arms).saturating_add(1),
         }
@@ -68,29 +76,39 @@ impl Code {
             | Code::Max(parts)
             | Code::Union(parts)
             | Code::Inter(parts) => codes_depth(parts).saturating_add(1),
+            Code::Neg(a)
+            | Code::Not(a)
+            | Code::Card(a)
+            | Code::Div { of: a, .. }
+            | Code::Mod { of: a, .. }
+            | Code::Divides { of: a, .. } => a.depth().saturating_add(1),
             Code::Sub(a, b)
             | Code::Mul(a, b)
             | Code::And(a, b)
             | Code::Or(a, b)
             | Code::Diff(a, b)
-            | Code::Subset(a, b) => a.depth().max(b.depth()).saturating_add(1),
-            Code::Neg(a) | Code::Not(a) | Code::Card(a) => a.depth().saturating_add(1),
-            Code::Div { of, .. } | Code::Mod { of, .. } | Code::Divides { of, .. } => of
-                .depth()
-                .saturating_add(1),
-            Code::Compare { left, right, .. } => left.depth().max(right.depth()).saturating_add(1),
-            Code::Slice { set, from, n } => set
-                .depth()
-                .max(from.depth())
-                .max(n.depth())
-                .saturating_add(1),
-            Code::Fresh { avoid, n } => avoid.depth().max(n.depth()).saturating_add(1),
-            Code::If { test, yes, no } => test
-                .depth()
-                .max(yes.depth())
-                .max(no.depth())
-                .saturating_add(1),
-            Code::Let { value, body, .. } => value.depth().max(body.depth()).saturating_add(1),
+            | Code::Subset(a, b)
+            | Code::Compare {
+                left: a,
+                right: b,
+                ..
+            }
+            | Code::Fresh { avoid: a, n: b }
+            | Code::Let {
+                value: a,
+                body: b,
+                ..
+            } => a.depth().max(b.depth()).saturating_add(1),
+            Code::Slice {
+                set: a,
+                from: b,
+                n: c,
+            }
+            | Code::If {
+                test: a,
+                yes: b,
+                no: c,
+            } => a.depth().max(b.depth()).max(c.depth()).saturating_add(1),
             Code::Solve { arms, .. } => arms_depth(arms).saturating_add(1),
         }
     }

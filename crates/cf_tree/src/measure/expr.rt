@@ -14,26 +14,30 @@ impl Expr {
     {
         match self {
             Expr::Lit(_) | Expr::Truth(_) | Expr::Var(_) => 1,
-            Expr::SetOf(parts) | Expr::Tuple(parts) => exprs_size(parts).saturating_add(1),
-            Expr::Neg(a) | Expr::Not(a) | Expr::Abs(a) | Expr::Card(a) => a
-                .size()
-                .saturating_add(1),
-            Expr::Binary { left, right, .. } => left
-                .size()
-                .saturating_add(right.size())
-                .saturating_add(1),
-            Expr::Divides { of, .. } | Expr::Div { of, .. } | Expr::Mod { of, .. } => of
-                .size()
-                .saturating_add(1),
+            Expr::SetOf(parts) | Expr::Tuple(parts) | Expr::Call { args: parts, .. } => {
+                exprs_size(parts).saturating_add(1)
+            }
+            Expr::Neg(a)
+            | Expr::Not(a)
+            | Expr::Abs(a)
+            | Expr::Card(a)
+            | Expr::Divides { of: a, .. }
+            | Expr::Div { of: a, .. }
+            | Expr::Mod { of: a, .. } => a.size().saturating_add(1),
+            Expr::Binary {
+                left: a,
+                right: b,
+                ..
+            }
+            | Expr::Let {
+                value: a,
+                body: b,
+                ..
+            } => a.size().saturating_add(b.size()).saturating_add(1),
             Expr::If { test, yes, no } => test
                 .size()
                 .saturating_add(yes.size())
                 .saturating_add(no.size())
-                .saturating_add(1),
-            Expr::Call { args, .. } => exprs_size(args).saturating_add(1),
-            Expr::Let { value, body, .. } => value
-                .size()
-                .saturating_add(body.size())
                 .saturating_add(1),
             Expr::Choose { rel, .. } => rel.size().saturating_add(1),
             Expr::Match { of, arms, .. } => of
@@ -50,21 +54,31 @@ impl Expr {
     {
         match self {
             Expr::Lit(_) | Expr::Truth(_) | Expr::Var(_) => 1,
-            Expr::SetOf(parts) | Expr::Tuple(parts) => exprs_depth(parts).saturating_add(1),
-            Expr::Neg(a) | Expr::Not(a) | Expr::Abs(a) | Expr::Card(a) => a
-                .depth()
-                .saturating_add(1),
-            Expr::Binary { left, right, .. } => left.depth().max(right.depth()).saturating_add(1),
-            Expr::Divides { of, .. } | Expr::Div { of, .. } | Expr::Mod { of, .. } => of
-                .depth()
-                .saturating_add(1),
+            Expr::SetOf(parts) | Expr::Tuple(parts) | Expr::Call { args: parts, .. } => {
+                exprs_depth(parts).saturating_add(1)
+            }
+            Expr::Neg(a)
+            | Expr::Not(a)
+            | Expr::Abs(a)
+            | Expr::Card(a)
+            | Expr::Divides { of: a, .. }
+            | Expr::Div { of: a, .. }
+            | Expr::Mod { of: a, .. } => a.depth().saturating_add(1),
+            Expr::Binary {
+                left: a,
+                right: b,
+                ..
+            }
+            | Expr::Let {
+                value: a,
+                body: b,
+                ..
+            } => a.depth().max(b.depth()).saturating_add(1),
             Expr::If { test, yes, no } => test
                 .depth()
                 .max(yes.depth())
                 .max(no.depth())
                 .saturating_add(1),
-            Expr::Call { args, .. } => exprs_depth(args).saturating_add(1),
-            Expr::Let { value, body, .. } => value.depth().max(body.depth()).saturating_add(1),
             Expr::Choose { rel, .. } => rel.depth().saturating_add(1),
             Expr::Match { of, arms, .. } => of.depth().max(arms_depth(arms)).saturating_add(1),
         }

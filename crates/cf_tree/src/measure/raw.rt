@@ -14,30 +14,33 @@ impl Raw {
     {
         match &self.node {
             RawNode::Lit(_) | RawNode::Truth(_) | RawNode::Name(_) => 1,
-            RawNode::SetOf(parts) | RawNode::Tuple(parts) => raws_size(parts).saturating_add(1),
+            RawNode::SetOf(parts) | RawNode::Tuple(parts) | RawNode::Call { args: parts, .. } => {
+                raws_size(parts).saturating_add(1)
+            }
             RawNode::Group(a)
             | RawNode::Neg(a)
             | RawNode::Not(a)
             | RawNode::Abs(a)
-            | RawNode::Card(a) => a.size().saturating_add(1),
-            RawNode::Binary { left, right, .. } => left
-                .size()
-                .saturating_add(right.size())
-                .saturating_add(1),
-            RawNode::Divides { of, .. } | RawNode::Div { of, .. } | RawNode::Mod { of, .. } => of
-                .size()
-                .saturating_add(1),
-            RawNode::Call { args, .. } => raws_size(args).saturating_add(1),
+            | RawNode::Card(a)
+            | RawNode::Divides { of: a, .. }
+            | RawNode::Div { of: a, .. }
+            | RawNode::Mod { of: a, .. }
+            | RawNode::Choose { rel: a, .. } => a.size().saturating_add(1),
+            RawNode::Binary {
+                left: a,
+                right: b,
+                ..
+            }
+            | RawNode::Let {
+                value: a,
+                body: b,
+                ..
+            } => a.size().saturating_add(b.size()).saturating_add(1),
             RawNode::If { test, yes, no } => test
                 .size()
                 .saturating_add(yes.size())
                 .saturating_add(no.size())
                 .saturating_add(1),
-            RawNode::Let { value, body, .. } => value
-                .size()
-                .saturating_add(body.size())
-                .saturating_add(1),
-            RawNode::Choose { rel, .. } => rel.size().saturating_add(1),
             RawNode::Match { of, arms, .. } => of
                 .size()
                 .saturating_add(arms_size(arms))
@@ -52,27 +55,33 @@ impl Raw {
     {
         match &self.node {
             RawNode::Lit(_) | RawNode::Truth(_) | RawNode::Name(_) => 1,
-            RawNode::SetOf(parts) | RawNode::Tuple(parts) => raws_depth(parts).saturating_add(1),
+            RawNode::SetOf(parts) | RawNode::Tuple(parts) | RawNode::Call { args: parts, .. } => {
+                raws_depth(parts).saturating_add(1)
+            }
             RawNode::Group(a)
             | RawNode::Neg(a)
             | RawNode::Not(a)
             | RawNode::Abs(a)
-            | RawNode::Card(a) => a.depth().saturating_add(1),
-            RawNode::Binary { left, right, .. } => left
-                .depth()
-                .max(right.depth())
-                .saturating_add(1),
-            RawNode::Divides { of, .. } | RawNode::Div { of, .. } | RawNode::Mod { of, .. } => of
-                .depth()
-                .saturating_add(1),
-            RawNode::Call { args, .. } => raws_depth(args).saturating_add(1),
+            | RawNode::Card(a)
+            | RawNode::Divides { of: a, .. }
+            | RawNode::Div { of: a, .. }
+            | RawNode::Mod { of: a, .. }
+            | RawNode::Choose { rel: a, .. } => a.depth().saturating_add(1),
+            RawNode::Binary {
+                left: a,
+                right: b,
+                ..
+            }
+            | RawNode::Let {
+                value: a,
+                body: b,
+                ..
+            } => a.depth().max(b.depth()).saturating_add(1),
             RawNode::If { test, yes, no } => test
                 .depth()
                 .max(yes.depth())
                 .max(no.depth())
                 .saturating_add(1),
-            RawNode::Let { value, body, .. } => value.depth().max(body.depth()).saturating_add(1),
-            RawNode::Choose { rel, .. } => rel.depth().saturating_add(1),
             RawNode::Match { of, arms, .. } => of.depth().max(arms_depth(arms)).saturating_add(1),
         }
     }

@@ -10,6 +10,9 @@ use Rattle.cf_parse.proofs.reading.+reading.Given as goal
 abbrev pub decreases-part : goal.decreases-part
 decreases-part l = 32 * l.n
 
+abbrev pub decreases-boxed : goal.decreases-boxed
+decreases-boxed l = 32 * l.n + 1
+
 abbrev pub decreases-whole : goal.decreases-whole
 decreases-whole l = 32 * l.n + 31
 
@@ -56,25 +59,25 @@ abbrev pub decreases-more_arms : goal.decreases-more_arms
 decreases-more_arms l = 32 * l.n + 2
 
 abbrev pub decreases-inside : goal.decreases-inside
-decreases-inside l = 32 * l.n + 1
+decreases-inside l = 32 * l.n + 2
 
 abbrev pub decreases-divided : goal.decreases-divided
-decreases-divided l = 32 * l.n + 1
+decreases-divided l = 32 * l.n + 2
 
 abbrev pub decreases-let_in : goal.decreases-let_in
-decreases-let_in l = 32 * l.n + 1
+decreases-let_in l = 32 * l.n + 2
 
 abbrev pub decreases-if_else : goal.decreases-if_else
-decreases-if_else l = 32 * l.n + 1
+decreases-if_else l = 32 * l.n + 2
 
 abbrev pub decreases-choose : goal.decreases-choose
-decreases-choose l = 32 * l.n + 1
+decreases-choose l = 32 * l.n + 2
 
 abbrev pub decreases-compared : goal.decreases-compared
-decreases-compared l = 32 * l.n + 1
+decreases-compared l = 32 * l.n + 2
 
 abbrev pub decreases-chain : goal.decreases-chain
-decreases-chain l = 32 * l.n + 1
+decreases-chain l = 32 * l.n + 2
 
 abbrev pub decreases-more : goal.decreases-more
 decreases-more l = 32 * l.n + 1

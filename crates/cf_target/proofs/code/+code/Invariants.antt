@@ -9,6 +9,9 @@ use Rattle.cf_target.proofs.code.+code.Given as goal
 abbrev pub decreases-code : goal.decreases-code
 decreases-code l = 32 * l.n
 
+abbrev pub decreases-boxed : goal.decreases-boxed
+decreases-boxed l = 32 * l.n + 1
+
 abbrev pub decreases-form : goal.decreases-form
 decreases-form l = 32 * l.n + 31
 
@@ -40,7 +43,7 @@ abbrev pub decreases-behind : goal.decreases-behind
 decreases-behind l = 32 * l.m + 9
 
 abbrev pub decreases-operated : goal.decreases-operated
-decreases-operated l = 32 * l.n + 2
+decreases-operated l = 32 * l.n + 3
 
 abbrev pub decreases-elements : goal.decreases-elements
 decreases-elements l = 32 * l.n + 3
@@ -58,22 +61,22 @@ abbrev pub decreases-more_parts : goal.decreases-more_parts
 decreases-more_parts l = 32 * l.n + 1
 
 abbrev pub decreases-in_parentheses : goal.decreases-in_parentheses
-decreases-in_parentheses l = 32 * l.n + 1
+decreases-in_parentheses l = 32 * l.n + 2
 
 abbrev pub decreases-divided : goal.decreases-divided
-decreases-divided l = 32 * l.n + 1
+decreases-divided l = 32 * l.n + 2
 
 abbrev pub decreases-slice : goal.decreases-slice
-decreases-slice l = 32 * l.n + 1
+decreases-slice l = 32 * l.n + 2
 
 abbrev pub decreases-fresh : goal.decreases-fresh
-decreases-fresh l = 32 * l.n + 1
+decreases-fresh l = 32 * l.n + 2
 
 abbrev pub decreases-if_else : goal.decreases-if_else
-decreases-if_else l = 32 * l.n + 1
+decreases-if_else l = 32 * l.n + 2
 
 abbrev pub decreases-let_in : goal.decreases-let_in
-decreases-let_in l = 32 * l.n + 1
+decreases-let_in l = 32 * l.n + 2
 
 abbrev pub decreases-item : goal.decreases-item
 decreases-item l = 32 * l.n + 1

@@ -1,0 +1,123 @@
+-- Forms whose parts are given, in the order in which they stand.
+use Rattle.std.specs.Prelude.{◌≡◌}
+use Rattle.cf_tree.specs.RelTree.{SetTree, union_of, inter_of, diff_of, TermTree, term_neg, term_add, term_sub, term_mul, term_div, term_mod, term_abs, RelTree, rel_same_set, rel_other_set, rel_subset, rel_and, rel_or}
+use Rattle.cf_tree.specs.ExprTree.{ExprTree, expr_set_of, expr_tuple, expr_neg, expr_not, expr_abs, expr_divides, expr_div, expr_mod, expr_card, expr_call, expr_binary, expr_let, ExprTrees}
+use Rattle.cf_tree.specs.RawTree.{RawTree, raw_set_of, raw_tuple, raw_group, raw_neg, raw_not, raw_abs, raw_divides, raw_div, raw_mod, raw_card, RawTrees}
+use Rattle.cf_tree.specs.CodeTree.{CodeTree, code_set_of, code_tuple, code_sum, code_sub, code_mul, code_neg, code_div, code_mod, code_min, code_max, code_compare, code_divides, code_and, code_or, code_not, code_union, code_inter, code_diff, code_subset, code_card, code_slice, code_fresh, code_if, code_let, CodeTrees}
+
+-- a form over a list
+abbrev pub IsCodeOverList : CodeTree → CodeTrees → Type 0
+IsCodeOverList (code_set_of own) cs = cs ≡ own
+IsCodeOverList (code_tuple own) cs = cs ≡ own
+IsCodeOverList (code_sum own) cs = cs ≡ own
+IsCodeOverList (code_min own) cs = cs ≡ own
+IsCodeOverList (code_max own) cs = cs ≡ own
+IsCodeOverList (code_union own) cs = cs ≡ own
+IsCodeOverList (code_inter own) cs = cs ≡ own
+IsCodeOverList _ cs = ⊥
+
+-- a form with one part
+abbrev pub IsCodeOverOne : CodeTree → CodeTree → Type 0
+IsCodeOverOne (code_neg a) c = c ≡ a
+IsCodeOverOne (code_div a k) c = c ≡ a
+IsCodeOverOne (code_mod a k) c = c ≡ a
+IsCodeOverOne (code_divides k a) c = c ≡ a
+IsCodeOverOne (code_not a) c = c ≡ a
+IsCodeOverOne (code_card a) c = c ≡ a
+IsCodeOverOne _ c = ⊥
+
+-- a form with two parts
+abbrev pub IsCodeOverTwo : CodeTree → CodeTree → CodeTree → Type 0
+IsCodeOverTwo (code_sub a b) c d = (c ≡ a) × (d ≡ b)
+IsCodeOverTwo (code_mul a b) c d = (c ≡ a) × (d ≡ b)
+IsCodeOverTwo (code_compare o a b) c d = (c ≡ a) × (d ≡ b)
+IsCodeOverTwo (code_and a b) c d = (c ≡ a) × (d ≡ b)
+IsCodeOverTwo (code_or a b) c d = (c ≡ a) × (d ≡ b)
+IsCodeOverTwo (code_diff a b) c d = (c ≡ a) × (d ≡ b)
+IsCodeOverTwo (code_subset a b) c d = (c ≡ a) × (d ≡ b)
+IsCodeOverTwo (code_fresh a b) c d = (c ≡ a) × (d ≡ b)
+IsCodeOverTwo (code_let n n' a b) c d = (c ≡ a) × (d ≡ b)
+IsCodeOverTwo _ c d = ⊥
+
+-- a form with three parts
+abbrev pub IsCodeOverThree : CodeTree → CodeTree → CodeTree → CodeTree → Type 0
+IsCodeOverThree (code_slice a b c) d e f = (d ≡ a) × (e ≡ b) × (f ≡ c)
+IsCodeOverThree (code_if a b c) d e f = (d ≡ a) × (e ≡ b) × (f ≡ c)
+IsCodeOverThree _ d e f = ⊥
+
+-- an operation of two set forms
+abbrev pub IsSetOverTwo : SetTree → SetTree → SetTree → Type 0
+IsSetOverTwo (union_of a b) c d = (c ≡ a) × (d ≡ b)
+IsSetOverTwo (inter_of a b) c d = (c ≡ a) × (d ≡ b)
+IsSetOverTwo (diff_of a b) c d = (c ≡ a) × (d ≡ b)
+IsSetOverTwo _ c d = ⊥
+
+-- a number form with one part that is a number form
+abbrev pub IsTermOverOne : TermTree → TermTree → Type 0
+IsTermOverOne (term_neg a) c = c ≡ a
+IsTermOverOne (term_div a k) c = c ≡ a
+IsTermOverOne (term_mod a k) c = c ≡ a
+IsTermOverOne (term_abs a) c = c ≡ a
+IsTermOverOne _ c = ⊥
+
+-- a number form with two parts
+abbrev pub IsTermOverTwo : TermTree → TermTree → TermTree → Type 0
+IsTermOverTwo (term_add a b) c d = (c ≡ a) × (d ≡ b)
+IsTermOverTwo (term_sub a b) c d = (c ≡ a) × (d ≡ b)
+IsTermOverTwo (term_mul a b) c d = (c ≡ a) × (d ≡ b)
+IsTermOverTwo _ c d = ⊥
+
+-- a relation of two set forms
+abbrev pub IsRelOverSets : RelTree → SetTree → SetTree → Type 0
+IsRelOverSets (rel_same_set a b) c d = (c ≡ a) × (d ≡ b)
+IsRelOverSets (rel_other_set a b) c d = (c ≡ a) × (d ≡ b)
+IsRelOverSets (rel_subset a b) c d = (c ≡ a) × (d ≡ b)
+IsRelOverSets _ c d = ⊥
+
+-- a relation of two relations
+abbrev pub IsRelOverTwo : RelTree → RelTree → RelTree → Type 0
+IsRelOverTwo (rel_and a b) c d = (c ≡ a) × (d ≡ b)
+IsRelOverTwo (rel_or a b) c d = (c ≡ a) × (d ≡ b)
+IsRelOverTwo _ c d = ⊥
+
+-- an expression over a list
+abbrev pub IsExprOverList : ExprTree → ExprTrees → Type 0
+IsExprOverList (expr_set_of own) es = es ≡ own
+IsExprOverList (expr_tuple own) es = es ≡ own
+IsExprOverList (expr_call n own) es = es ≡ own
+IsExprOverList _ es = ⊥
+
+-- an expression with one part
+abbrev pub IsExprOverOne : ExprTree → ExprTree → Type 0
+IsExprOverOne (expr_neg a) e = e ≡ a
+IsExprOverOne (expr_not a) e = e ≡ a
+IsExprOverOne (expr_abs a) e = e ≡ a
+IsExprOverOne (expr_divides k a) e = e ≡ a
+IsExprOverOne (expr_div a k) e = e ≡ a
+IsExprOverOne (expr_mod a k) e = e ≡ a
+IsExprOverOne (expr_card a) e = e ≡ a
+IsExprOverOne _ e = ⊥
+
+-- an expression with two parts
+abbrev pub IsExprOverTwo : ExprTree → ExprTree → ExprTree → Type 0
+IsExprOverTwo (expr_binary op a b) d e = (d ≡ a) × (e ≡ b)
+IsExprOverTwo (expr_let n a b) d e = (d ≡ a) × (e ≡ b)
+IsExprOverTwo _ d e = ⊥
+
+-- an expression as it is read, over a list
+abbrev pub IsRawOverList : RawTree → RawTrees → Type 0
+IsRawOverList (raw_set_of p own) es = es ≡ own
+IsRawOverList (raw_tuple p own) es = es ≡ own
+IsRawOverList _ es = ⊥
+
+-- an expression as it is read, with one part
+abbrev pub IsRawOverOne : RawTree → RawTree → Type 0
+IsRawOverOne (raw_group p a) e = e ≡ a
+IsRawOverOne (raw_neg p a) e = e ≡ a
+IsRawOverOne (raw_not p a) e = e ≡ a
+IsRawOverOne (raw_abs p a) e = e ≡ a
+IsRawOverOne (raw_divides p k a) e = e ≡ a
+IsRawOverOne (raw_div p a k) e = e ≡ a
+IsRawOverOne (raw_mod p a k) e = e ≡ a
+IsRawOverOne (raw_card p a) e = e ≡ a
+IsRawOverOne _ e = ⊥
