@@ -1,8 +1,14 @@
+mod AllowedExamples
+pub mod BaseLemmas
+mod CodeTypingExamples
+mod MeaningExamples
+mod RelationExamples
 pub mod RisingLemmas
 pub mod SetLemmas
 pub mod SliceLemmas
 pub mod SolvingLemmas
 mod SourceExamples
+mod SpelledExamples
 mod TargetExamples
 pub mod TupleLemmas
 mod TypingExamples

@@ -1,4 +1,5 @@
 pub mod Allowed
+pub mod Bases
 pub mod CodeTree
 pub mod CodeView
 pub mod DefView

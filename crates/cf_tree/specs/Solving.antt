@@ -22,8 +22,8 @@ abbrev pub NeedsHold : ArmTree → List Value → List ℕ → List Value → Ty
 NeedsHold (arm_of bounds is gs) env ks e = IsBelow bounds ks × ((items_path is (with_tuple env ks)).gives ≡ got (Some e))
 
 -- what an arm gives in the environment that its lets lead to
-abbrev pub Gives : ArmTree → List Value → List Value → Type 0
-Gives (arm_of bounds is gs) e xs = (all_path gs e []).gives ≡ got xs
+abbrev pub ArmGives : ArmTree → List Value → List Value → Type 0
+ArmGives (arm_of bounds is gs) e xs = (all_path gs e []).gives ≡ got xs
 
 -- the needs of some arm hold at some tuple
 abbrev pub HoldSomewhere : ArmTrees → List Value → Type 0
@@ -34,7 +34,7 @@ HoldSomewhere (arm_more a arms) env = ((ks : List ℕ) × (e : List Value) × Ne
 abbrev pub EachGives : ArmTrees → (List Value → Type 0) → List Value → Type 0
 EachGives no_arms solves env = Unit {0}
 EachGives (arm_more a arms) solves env =
-    ((ks : List ℕ) (e : List Value) → NeedsHold a env ks e → (xs : List Value) × Gives a e xs × solves xs) × EachGives arms solves env
+    ((ks : List ℕ) (e : List Value) → NeedsHold a env ks e → (xs : List Value) × ArmGives a e xs × solves xs) × EachGives arms solves env
 
 pub record Solves (scope outputs : List Base) (rel : RelTree) (arms : ArmTrees) : Type 0 where
   pub holds : (env : List Value) → HaveBases scope env → HoldSomewhere arms env ↔ ((xs : List Value) × Sol outputs rel env xs)

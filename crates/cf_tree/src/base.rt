@@ -1,5 +1,6 @@
 //! Texts, places and bases, which all trees share.
 ghost use Rattle.std.specs.Prelude.{◌≡◌, IfOk};
+ghost use Rattle.cf_tree.specs.Bases.{same_base as same_base_of, same_bases as same_bases_of};
 
 use crate::memory::NoMemory;
 use std::alloc::Global;
@@ -66,6 +67,50 @@ pub enum Base {
     Int,
     Bool,
     Set,
+}
+
+/// Whether two bases are the same.
+pub fn same_base(a: Base, b: Base) -> bool
+    ensures { result ≡ same_base_of a b }
+{
+    match a {
+        Base::Int => match b {
+            Base::Int => true,
+            Base::Bool => false,
+            Base::Set => false,
+        },
+        Base::Bool => match b {
+            Base::Int => false,
+            Base::Bool => true,
+            Base::Set => false,
+        },
+        Base::Set => match b {
+            Base::Int => false,
+            Base::Bool => false,
+            Base::Set => true,
+        },
+    }
+}
+
+/// Whether two lists of bases are the same: as long, and with the same base at each place.
+pub fn same_bases(a: &[Base], b: &[Base]) -> bool
+    ensures { result ≡ same_bases_of a.now b.now }
+{
+    let mut left = a;
+    let mut right = b;
+    while let Some((x, more)) = left.split_first() {
+        match right.split_first() {
+            None => return false,
+            Some((y, rest)) => {
+                if !same_base(*x, *y) {
+                    return false;
+                }
+                left = more;
+                right = rest;
+            }
+        }
+    }
+    right.is_empty()
 }
 
 /// How two values compare.

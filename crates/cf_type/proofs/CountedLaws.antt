@@ -10,8 +10,8 @@ use Rattle.cf_tree.specs.ExprView.{match_arm_tree, match_arm_trees}
 use Rattle.cf_tree.specs.RelSize.{capped, term_size, term_depth}
 use Rattle.cf_tree.specs.RelTree.{TermTree, term_lit, term_var, term_add, term_mul}
 use Rattle.cf_type.specs.Counted.{are_zero, test_depth, tests_weight, any_weight, tests_depth, any_depth, picks_weight, picks_depth, last_level, variables_weight, variables_depth, weight_of, weight_of_all, weight_of_arms, depth_of, depth_of_all, depth_of_arms}
-use Rattle.cf_type.specs.Lowered.{divisor, test_by, test, added, with_variables, any_test, any_fits, lowered, all_lowered, picked}
-use Rattle.cf_type.specs.Size.{weight_in, weight_all, depth_in, depth_all}
+use Rattle.cf_program.specs.Lowered.{divisor, test_by, test, added, with_variables, any_test, any_fits, lowered, all_lowered, picked}
+use Rattle.cf_program.specs.Size.{weight_in, weight_all, depth_in, depth_all}
 use Rattle.cf_type.proofs.DivisorLaws.{not_zero, divisor_is}
 
 test_by_weight : (calls : ℕ → ℕ) (x d : ℕ) (k : ℤ) → weight_in calls (test_by x d k) ≡ cond (d == 0) 3 4

@@ -5,7 +5,7 @@ use Rattle.std.proofs.lemmas.Bool.Decides.{Decides-int_eq}
 use Rattle.std.specs.Ordering.{int_eq}
 use Rattle.cf_num.specs.Divisors.{gcd_by, gcd_of}
 use Rattle.cf_type.specs.Counted.{are_zero}
-use Rattle.cf_type.specs.Lowered.{divisor}
+use Rattle.cf_program.specs.Lowered.{divisor}
 
 gcd_by-positive : (n a b : ℕ) → b ≤ n → 1 ≤ a + b → 1 ≤ gcd_by n a b
 unfolding gcd_by

@@ -7,9 +7,9 @@ use Rattle.std.specs.Str.{bytes_eq}
 use Rattle.indexmap.specs.IndexSet.{insert_key}
 use Rattle.cf_tree.specs.declared.base.Place.{Place}
 use Rattle.cf_tree.specs.declared.base.Base.{Base}
-use Rattle.cf_type.specs.declared.names.Variable.{Variable}
-use Rattle.cf_type.specs.Names.{is_among, repeated, or_outer}
-use Rattle.cf_type.specs.Walk.{bound}
+use Rattle.cf_program.specs.declared.variable.Variable.{Variable}
+use Rattle.cf_program.specs.Names.{is_among, repeated, or_outer}
+use Rattle.cf_program.specs.Walk.{bound}
 
 pub repeated_none : (before xs : List (List ℕ)) (places : List Place) → length places ≡ 0 → repeated before xs places ≡ None
 repeated_none before [] places e = refl

@@ -7,7 +7,7 @@ use Rattle.std.specs.Cmp.Lexicographic.{bytes_decides}
 use Rattle.indexmap.specs.IndexMap.{insert_entry}
 use Rattle.cf_tree.specs.DefView.{raw_def_tree}
 use Rattle.cf_tree.specs.declared.raw.RawDef.{RawDef}
-use Rattle.cf_type.specs.Names.{callee, callee_from, is_among}
+use Rattle.cf_program.specs.Names.{callee, callee_from, is_among}
 use Rattle.cf_type.specs.Numbers.{number_of, with_name, with_names, names_of_defs, numbers_of, shown}
 
 -- the first number of a name, where the first of these names has number i

@@ -4,9 +4,9 @@ use Rattle.cf_tree.specs.declared.base.Place.{Place}
 use Rattle.cf_tree.specs.declared.raw.BinOp.{BinOp}
 use Rattle.cf_tree.specs.declared.raw.BinOp.TheVariants.{Add, Sub, Mul, And, Or, Union, Inter, Diff, Subset, Compare}
 use Rattle.cf_tree.specs.RelTree.{RelTree, SetTree, TermTree}
-use Rattle.cf_type.specs.Reading.{Reading, relation, term, set, bent, binary_reading}
+use Rattle.cf_program.specs.Reading.{Reading, relation, term, set, not_linear, binary_reading}
 
-pub relation_and_term : (op : BinOp) (p : Place) (r : RelTree) (t : TermTree) → binary_reading op p (relation r) (term t) ≡ bent p
+pub relation_and_term : (op : BinOp) (p : Place) (r : RelTree) (t : TermTree) → binary_reading op p (relation r) (term t) ≡ not_linear p
 relation_and_term Add p r t = refl
 relation_and_term Sub p r t = refl
 relation_and_term Mul p r t = refl
@@ -18,7 +18,7 @@ relation_and_term Diff p r t = refl
 relation_and_term Subset p r t = refl
 relation_and_term (Compare order) p r t = refl
 
-pub relation_and_set : (op : BinOp) (p : Place) (r : RelTree) (s : SetTree) → binary_reading op p (relation r) (set s) ≡ bent p
+pub relation_and_set : (op : BinOp) (p : Place) (r : RelTree) (s : SetTree) → binary_reading op p (relation r) (set s) ≡ not_linear p
 relation_and_set Add p r s = refl
 relation_and_set Sub p r s = refl
 relation_and_set Mul p r s = refl
@@ -30,7 +30,7 @@ relation_and_set Diff p r s = refl
 relation_and_set Subset p r s = refl
 relation_and_set (Compare order) p r s = refl
 
-pub term_and_relation : (op : BinOp) (p : Place) (t : TermTree) (r : RelTree) → binary_reading op p (term t) (relation r) ≡ bent p
+pub term_and_relation : (op : BinOp) (p : Place) (t : TermTree) (r : RelTree) → binary_reading op p (term t) (relation r) ≡ not_linear p
 term_and_relation Add p t r = refl
 term_and_relation Sub p t r = refl
 term_and_relation Mul p t r = refl
@@ -42,7 +42,7 @@ term_and_relation Diff p t r = refl
 term_and_relation Subset p t r = refl
 term_and_relation (Compare order) p t r = refl
 
-pub term_and_set : (op : BinOp) (p : Place) (t : TermTree) (s : SetTree) → binary_reading op p (term t) (set s) ≡ bent p
+pub term_and_set : (op : BinOp) (p : Place) (t : TermTree) (s : SetTree) → binary_reading op p (term t) (set s) ≡ not_linear p
 term_and_set Add p t s = refl
 term_and_set Sub p t s = refl
 term_and_set Mul p t s = refl
@@ -54,7 +54,7 @@ term_and_set Diff p t s = refl
 term_and_set Subset p t s = refl
 term_and_set (Compare order) p t s = refl
 
-pub set_and_relation : (op : BinOp) (p : Place) (s : SetTree) (r : RelTree) → binary_reading op p (set s) (relation r) ≡ bent p
+pub set_and_relation : (op : BinOp) (p : Place) (s : SetTree) (r : RelTree) → binary_reading op p (set s) (relation r) ≡ not_linear p
 set_and_relation Add p s r = refl
 set_and_relation Sub p s r = refl
 set_and_relation Mul p s r = refl
@@ -66,7 +66,7 @@ set_and_relation Diff p s r = refl
 set_and_relation Subset p s r = refl
 set_and_relation (Compare order) p s r = refl
 
-pub set_and_term : (op : BinOp) (p : Place) (s : SetTree) (t : TermTree) → binary_reading op p (set s) (term t) ≡ bent p
+pub set_and_term : (op : BinOp) (p : Place) (s : SetTree) (t : TermTree) → binary_reading op p (set s) (term t) ≡ not_linear p
 set_and_term Add p s t = refl
 set_and_term Sub p s t = refl
 set_and_term Mul p s t = refl
@@ -78,7 +78,7 @@ set_and_term Diff p s t = refl
 set_and_term Subset p s t = refl
 set_and_term (Compare order) p s t = refl
 
-pub bent_left : (op : BinOp) (p : Place) (q : Place) (right : Reading) → binary_reading op p (bent q) right ≡ bent q
+pub bent_left : (op : BinOp) (p : Place) (q : Place) (right : Reading) → binary_reading op p (not_linear q) right ≡ not_linear q
 bent_left Add p q right = refl
 bent_left Sub p q right = refl
 bent_left Mul p q right = refl

@@ -6,11 +6,11 @@ use Rattle.std.specs.Map.{lookup, set_value}
 use Rattle.std.specs.Str.{bytes_eq}
 use Rattle.indexmap.specs.IndexMap.{insert_entry}
 use Rattle.cf_tree.specs.declared.raw.Param.{Param}
-use Rattle.cf_type.specs.declared.names.Variable.{Variable}
+use Rattle.cf_program.specs.declared.variable.Variable.{Variable}
 use Rattle.cf_type.specs.declared.scope.Binding.{Binding}
 use Rattle.cf_type.proofs.NameLemmas.{or_outer_assoc}
-use Rattle.cf_type.specs.Names.{variable_from, variable_of, or_outer}
-use Rattle.cf_type.specs.Scoped.{held, hidden_by, Tells}
+use Rattle.cf_program.specs.Names.{variable_from, variable_of, or_outer}
+use Rattle.cf_type.specs.Scoped.{held, hidden_by, TableAnswer}
 
 abbrev Table : Type 0
 Table = List (Vec ℕ Global × Option Variable)
@@ -28,10 +28,10 @@ held_is (e ∷ es) x = by (bytes_eq x e.0.items) (held_is es x)
     by false h = h
 
 -- what the table gives is the innermost variable
-pub none_in_scope : (es : Table) (scope : List Param) (hidden : List (Option Variable)) (x : List ℕ) → None ≡ lookup (λ k. bytes_eq x k.items) es → Tells es scope hidden → None ≡ variable_of scope x
+pub none_in_scope : (es : Table) (scope : List Param) (hidden : List (Option Variable)) (x : List ℕ) → None ≡ lookup (λ k. bytes_eq x k.items) es → TableAnswer es scope hidden → None ≡ variable_of scope x
 none_in_scope es scope hidden x h t = ap within h ∙ sym (held_is es x) ∙ t.innermost x
 
-pub found_in_scope : (es : Table) (scope : List Param) (hidden : List (Option Variable)) (x : List ℕ) (o : Option Variable) → Some o ≡ lookup (λ k. bytes_eq x k.items) es → Tells es scope hidden → o ≡ variable_of scope x
+pub found_in_scope : (es : Table) (scope : List Param) (hidden : List (Option Variable)) (x : List ℕ) (o : Option Variable) → Some o ≡ lookup (λ k. bytes_eq x k.items) es → TableAnswer es scope hidden → o ≡ variable_of scope x
 found_in_scope es scope hidden x o h t = ap within h ∙ sym (held_is es x) ∙ t.innermost x
 
 -- a name's entry takes another variable
@@ -133,14 +133,14 @@ both_same (a ∷ xs) (b ∷ ys) x y n e =
     (ap (λ c. c ∷ xs) first ∙ ap (λ l. b ∷ l) rest.0, rest.1)
 
 table_pushed : (es after : Table) (k : Vec ℕ Global) (p : Param) (v : Variable) (scope : List Param) (hidden : List (Option Variable)) → k.items ≡ p.name → v ≡ record { level = length scope; base = p.base } → after ≡ insert_entry (λ a b. bytes_eq a.items b.items) es k (Some v) →
-    Tells es scope hidden → Tells after (scope ++ p ∷ []) (hidden ++ variable_of scope p.name ∷ [])
+    TableAnswer es scope hidden → TableAnswer after (scope ++ p ∷ []) (hidden ++ variable_of scope p.name ∷ [])
 table_pushed es after k p v scope hidden named same put t =
     record {
       innermost = λ x. ap (λ table. held table x) put ∙ put_held es k (Some v) x ∙ ap (λ n. cond (bytes_eq x n) (Some v) (held es x)) named ∙ ap (cond (bytes_eq x p.name) (Some v)) (t.innermost x) ∙ sym (more_of scope p x v same);
       outer = ap (λ os. os ++ variable_of scope p.name ∷ []) t.outer ∙ sym (hides_more [] scope p);
     }
 
-table_popped : (es after : Table) (p : Param) (h : Option Variable) (scope : List Param) (hidden : List (Option Variable)) → after ≡ set_value (λ k. bytes_eq p.name k.items) es h → Tells es (scope ++ p ∷ []) (hidden ++ h ∷ []) → Tells after scope hidden
+table_popped : (es after : Table) (p : Param) (h : Option Variable) (scope : List Param) (hidden : List (Option Variable)) → after ≡ set_value (λ k. bytes_eq p.name k.items) es h → TableAnswer es (scope ++ p ∷ []) (hidden ++ h ∷ []) → TableAnswer after scope hidden
 table_popped es after p h scope hidden put t =
     record {
       innermost = λ x. ap (λ table. held table x) put ∙ set_held es p.name v h x there ∙ ap (cond (bytes_eq x p.name) h) (t.innermost x ∙ more_of scope p x v refl) ∙ by x (bytes_eq x p.name) refl;
@@ -165,16 +165,16 @@ table_popped es after p h scope hidden put t =
 
 -- a variable more
 pub scope_pushed : (es after : Table) (k : Vec ℕ Global) (bs : List Binding) (b : Binding) (v : Variable) → k.items ≡ b.param.name → v ≡ record { level = length (map (λ c. c.param) bs); base = b.param.base } → b.hidden ≡ variable_of (map (λ c. c.param) bs) b.param.name → after ≡ insert_entry (λ a b. bytes_eq a.items b.items) es k (Some v) →
-    Tells es (map (λ c. c.param) bs) (map (λ c. c.hidden) bs) → Tells after (map (λ c. c.param) (bs ++ b ∷ [])) (map (λ c. c.hidden) (bs ++ b ∷ []))
+    TableAnswer es (map (λ c. c.param) bs) (map (λ c. c.hidden) bs) → TableAnswer after (map (λ c. c.param) (bs ++ b ∷ [])) (map (λ c. c.hidden) (bs ++ b ∷ []))
 scope_pushed es after k bs b v named same hides put t =
     let params = map-append (λ (c : Binding). c.param) bs (b ∷ []) in
     let hidden = map-append (λ (c : Binding). c.hidden) bs (b ∷ []) in
     rw (params, hidden, hides) (table_pushed es after k b.param v (map (λ c. c.param) bs) (map (λ c. c.hidden) bs) named same put t)
 
 -- a variable less
-pub scope_popped : (es after : Table) (old bs : List Binding) (b : Binding) → old ≡ bs ++ b ∷ [] → after ≡ set_value (λ k. bytes_eq b.param.name k.items) es b.hidden → Tells es (map (λ c. c.param) old) (map (λ c. c.hidden) old) →
-    Tells after (map (λ c. c.param) bs) (map (λ c. c.hidden) bs)
+pub scope_popped : (es after : Table) (old bs : List Binding) (b : Binding) → old ≡ bs ++ b ∷ [] → after ≡ set_value (λ k. bytes_eq b.param.name k.items) es b.hidden → TableAnswer es (map (λ c. c.param) old) (map (λ c. c.hidden) old) →
+    TableAnswer after (map (λ c. c.param) bs) (map (λ c. c.hidden) bs)
 scope_popped es after old bs b last put t =
     table_popped es after b.param b.hidden (map (λ c. c.param) bs) (map (λ c. c.hidden) bs) put
-    (subst (λ ps. Tells es ps (map (λ c. c.hidden) bs ++ b.hidden ∷ [])) (ap (map (λ c. c.param)) last ∙ map-append (λ (c : Binding). c.param) bs (b ∷ []))
-    (subst (λ os. Tells es (map (λ c. c.param) old) os) (ap (map (λ c. c.hidden)) last ∙ map-append (λ (c : Binding). c.hidden) bs (b ∷ [])) t))
+    (subst (λ ps. TableAnswer es ps (map (λ c. c.hidden) bs ++ b.hidden ∷ [])) (ap (map (λ c. c.param)) last ∙ map-append (λ (c : Binding). c.param) bs (b ∷ []))
+    (subst (λ os. TableAnswer es (map (λ c. c.param) old) os) (ap (map (λ c. c.hidden)) last ∙ map-append (λ (c : Binding). c.hidden) bs (b ∷ [])) t))

@@ -6,10 +6,10 @@ use Rattle.cf_tree.specs.DefView.{def_tree}
 use Rattle.cf_tree.specs.ExprTree.{ExprTree}
 use Rattle.cf_tree.specs.ExprView.{expr_tree}
 use Rattle.cf_tree.specs.RelSize.{capped}
-use Rattle.cf_type.specs.declared.fault.TypeFault.{TypeFault}
-use Rattle.cf_type.specs.Checked.{size_fault}
-use Rattle.cf_type.specs.Lowered.{lowered}
-use Rattle.cf_type.specs.Size.{measured}
+use Rattle.cf_program.specs.declared.fault.TypeFault.{TypeFault}
+use Rattle.cf_program.specs.Checked.{size_fault}
+use Rattle.cf_program.specs.Lowered.{lowered}
+use Rattle.cf_program.specs.Size.{measured}
 use Rattle.cf_type.proofs.CountedLaws.{item_dropped}
 
 -- a capped count below the cap is the count

@@ -4,28 +4,28 @@ use Rattle.cf_tree.specs.DefView.{RawDefTree}
 use Rattle.cf_tree.specs.ExprView.{expr_tree, match_arm_tree}
 use Rattle.cf_tree.specs.RelView.{rel_tree, term_tree, set_tree}
 use Rattle.cf_type.specs.declared.form.Reading.{Reading as DeclaredReading}
-use Rattle.cf_type.specs.declared.form.Reading.TheVariants.{Relation, Term, Set, Bent}
+use Rattle.cf_type.specs.declared.form.Reading.TheVariants.{Relation, Term, Set, NotLinear}
 use Rattle.cf_type.specs.declared.form.Form.{Form as DeclaredForm}
 use Rattle.cf_type.specs.declared.form.Forms.{Forms as DeclaredForms}
 use Rattle.cf_type.specs.declared.form.Arms.{Arms as DeclaredArms}
-use Rattle.cf_type.specs.Names.{Callee, bases_of}
-use Rattle.cf_type.specs.Reading.{Reading, relation, term, set, bent}
-use Rattle.cf_type.specs.Walk.{Form, Forms, Arms}
+use Rattle.cf_program.specs.Names.{Callee, bases_of}
+use Rattle.cf_program.specs.Reading.{Reading, relation, term, set, not_linear}
+use Rattle.cf_program.specs.Walk.{Form, Forms, Arms}
 
 abbrev pub reading_of : DeclaredReading → Reading
 reading_of (Relation r) = relation (rel_tree r.value)
 reading_of (Term t) = term (term_tree t.value)
 reading_of (Set s) = set (set_tree s.value)
-reading_of (Bent p) = bent p
+reading_of (NotLinear p) = not_linear p
 
 abbrev pub form_of : DeclaredForm → Form
 form_of f = record { bases = f.bases.items; tree = expr_tree f.tree.value; reading = reading_of f.reading; next = f.next }
 
 abbrev pub forms_of : DeclaredForms → Forms
-forms_of f = record { bases = map (λ b. b.items) f.bases.items; trees = map expr_tree f.trees.items; bend = f.bend; next = f.next }
+forms_of f = record { bases = map (λ b. b.items) f.bases.items; trees = map expr_tree f.trees.items; first_nonlinear = f.first_nonlinear; next = f.next }
 
 abbrev pub arms_of : DeclaredArms → Arms
-arms_of f = record { bases = map (λ b. b.items) f.bases.items; trees = map match_arm_tree f.trees.items; bend = f.bend; next = f.next }
+arms_of f = record { bases = map (λ b. b.items) f.bases.items; trees = map match_arm_tree f.trees.items; first_nonlinear = f.first_nonlinear; next = f.next }
 
 abbrev pub callee_seen : ℕ → RawDefTree → Bool → Callee
 callee_seen i d is_earlier = record { number = i; params = bases_of d.params; results = d.results; is_earlier = is_earlier }

@@ -1,14 +1,4 @@
-pub mod Checked
 pub mod Counted
 pub mod FormView
-pub mod Gives
-pub mod Lowered
-pub mod Names
 pub mod Numbers
-pub mod Reading
 pub mod Scoped
-pub mod Size
-pub mod Source
-pub mod Typed
-pub mod TypedProgram
-pub mod Walk

@@ -3,8 +3,8 @@ use Rattle.std.specs.Prelude.{◌≡◌, ℕ, cond, List, [], ◌∷◌, ◌++�
 use Rattle.std.specs.Str.{bytes_eq}
 use Rattle.std.specs.Global.{Global}
 use Rattle.cf_tree.specs.declared.raw.Param.{Param}
-use Rattle.cf_type.specs.declared.names.Variable.{Variable}
-use Rattle.cf_type.specs.Names.{variable_of}
+use Rattle.cf_program.specs.declared.variable.Variable.{Variable}
+use Rattle.cf_program.specs.Names.{variable_of}
 
 -- the variable that a table has for a name
 abbrev pub held : List (Vec ℕ Global × Option Variable) → List ℕ → Option Variable
@@ -17,6 +17,6 @@ hidden_by outer [] = []
 hidden_by outer (p ∷ ps) = variable_of outer p.name ∷ hidden_by (outer ++ p ∷ []) ps
 
 -- the table has the innermost variable of each name, and these variables are the hidden ones
-pub record Tells (table : List (Vec ℕ Global × Option Variable)) (scope : List Param) (hidden : List (Option Variable)) : Type 0 where
+pub record TableAnswer (table : List (Vec ℕ Global × Option Variable)) (scope : List Param) (hidden : List (Option Variable)) : Type 0 where
   pub innermost : (x : List ℕ) → held table x ≡ variable_of scope x
   pub outer : hidden ≡ hidden_by [] scope

@@ -1,10 +1,10 @@
 //! Tests on the bases of expressions.
 ghost use Rattle.std.specs.Prelude.{◌≡◌, ◌++◌, IfOk, map, length};
-ghost use Rattle.cf_type.specs.Names.{bases_of};
-ghost use Rattle.cf_type.specs.Walk.{one as one_of, is_one as is_one_of, all_are as all_are_of, all_are_single as all_are_single_of, are_asked as are_asked_of, all_have as all_have_of, all_same as all_same_of, joined as joined_of, first_of, side_of as side_base, sides_fit as sides_fit_of, result_of as result_base, is_output as is_output_of};
+ghost use Rattle.cf_program.specs.Names.{bases_of};
+ghost use Rattle.cf_program.specs.Walk.{is_one as is_one_of, all_are as all_are_of, all_are_single as all_are_single_of, are_asked as are_asked_of, all_have as all_have_of, all_same as all_same_of, joined as joined_of, first_of, side_of as side_base, sides_fit as sides_fit_of, result_of as result_base, is_output as is_output_of};
+ghost use Rattle.cf_tree.specs.Typing.{one as one_of};
 
-use crate::names::{same_base, same_bases};
-use cf_tree::base::{Base, Order};
+use cf_tree::base::{Base, Order, same_bases};
 use cf_tree::memory::NoMemory;
 use cf_tree::raw::{BinOp, Param};
 use std::alloc::Global;
@@ -70,7 +70,7 @@ pub fn are_asked(lists: &[Vec<Base>], params: &[Param]) -> bool
     asked.is_empty()
 }
 
-/// Whether each has these bases.
+// Whether each has these bases.
 fn all_have(bases: &[Base], lists: &[Vec<Base>]) -> bool
     ensures { result ≡ all_have_of bases.now (map (λ bs. bs.items) lists.now) }
 {
@@ -113,7 +113,7 @@ pub fn first(alloc: Global, lists: &[Vec<Base>]) -> Result<Vec<Base>, NoMemory>
     }
 }
 
-/// The one base that an operation asks of both sides.
+// The one base that an operation asks of both sides.
 fn side(op: BinOp) -> Option<Base>
     ensures { result ≡ side_base op }
 {

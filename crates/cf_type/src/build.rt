@@ -7,24 +7,25 @@ ghost use Rattle.cf_tree.specs.ExprTree.{expr_lit, expr_truth, expr_neg, expr_no
 ghost use Rattle.cf_tree.specs.RelTree.{term_lit, term_neg, term_abs, term_div, term_mod, term_card, rel_not, rel_divides};
 ghost use Rattle.cf_tree.specs.declared.base.Base.TheVariants.{Int as int, Bool as truth_base, Set as set_base};
 ghost use Rattle.cf_type.specs.FormView.{form_of, forms_of, arms_of, reading_of, callee_seen};
-ghost use Rattle.cf_type.specs.Gives.{Gives};
-ghost use Rattle.cf_type.specs.Names.{callee_from, bases_of};
-ghost use Rattle.cf_type.specs.Reading.{relation as a_relation, term as a_term, on_relation, on_term, on_set, truth_reading};
-ghost use Rattle.cf_type.specs.Walk.{form as form_is, one as one_base, no_forms as no_forms_of, with_form as with_form_of, no_arms as no_arms_of, with_arm as with_arm_of, variable_form, unary_form, binary_form, set_reading as set_reading_of, set_form, tuple_form, call_form, if_form, let_form, choose_form, match_form, linear as linear_of, arm_number, after_arm};
+ghost use Rattle.cf_program.specs.CheckAnswers.{CheckAnswer};
+ghost use Rattle.cf_program.specs.Names.{callee_from, bases_of};
+ghost use Rattle.cf_program.specs.Reading.{relation as a_relation, term as a_term, on_relation, on_term, on_set, truth_reading};
+ghost use Rattle.cf_program.specs.Walk.{form as form_is, no_forms as no_forms_of, with_form as with_form_of, no_arms as no_arms_of, with_arm as with_arm_of, variable_form, unary_form, binary_form, set_reading as set_reading_of, set_form, tuple_form, call_form, if_form, let_form, choose_form, match_form, linear as linear_of, arm_number, after_arm};
+ghost use Rattle.cf_tree.specs.Typing.{one as one_base};
 
-use crate::callees::Callees;
-use crate::fault::TypeFault;
+use crate::callees::Caller;
 use crate::form::{Arms, Form, Forms, Reading};
-use crate::names::{Variable, same_bases};
 use crate::{bases, reading};
-use cf_tree::base::{Base, Place, Text};
+use cf_program::fault::TypeFault;
+use cf_program::variable::Variable;
+use cf_tree::base::{Base, Place, Text, same_bases};
 use cf_tree::expr::{Expr, MatchArm};
 use cf_tree::memory::NoMemory;
 use cf_tree::raw::{BinOp, Param, Part, RawDef};
 use cf_tree::rel::{Rel, SetTerm, Term};
 use std::alloc::Global;
 
-/// The expression of this tree and reading, which has one base.
+// The expression of this tree and reading, which has one base.
 fn made(
     alloc: Global,
     base: Base,
@@ -32,7 +33,7 @@ fn made(
     reading: Reading,
     next: u32,
 ) -> Result<Form, TypeFault>
-    ensures { Gives form_of result (form_is (one_base base) (expr_tree tree) (reading_of reading) next) }
+    ensures { CheckAnswer form_of result (form_is (one_base base) (expr_tree tree) (reading_of reading) next) }
 {
     let tree = Box::new(alloc, tree)?;
     Ok(Form {
@@ -43,27 +44,30 @@ fn made(
     })
 }
 
+/// A literal.
 pub fn literal(alloc: Global, k: i128, next: u32) -> Result<Form, TypeFault>
-    ensures { Gives form_of result (form_is (one_base int) (expr_lit k) (a_term (term_lit k)) next) }
+    ensures { CheckAnswer form_of result (form_is (one_base int) (expr_lit k) (a_term (term_lit k)) next) }
 {
     let reading = Reading::Term(Box::new(alloc, Term::Lit(k))?);
     made(alloc, Base::Int, Expr::Lit(k), reading, next)
 }
 
+/// `true` or `false`.
 pub fn truth(alloc: Global, t: bool, next: u32) -> Result<Form, TypeFault>
-    ensures { Gives form_of result (form_is (one_base truth_base) (expr_truth t) (truth_reading t) next) }
+    ensures { CheckAnswer form_of result (form_is (one_base truth_base) (expr_truth t) (truth_reading t) next) }
 {
     let reading = reading::of_truth(alloc, t)?;
     made(alloc, Base::Bool, Expr::Truth(t), reading, next)
 }
 
+/// The variable that a name stands for.
 pub fn variable(
     alloc: Global,
     place: Place,
     next: u32,
     found: Option<Variable>,
 ) -> Result<Form, TypeFault>
-    ensures { Gives form_of result (variable_form place next found) }
+    ensures { CheckAnswer form_of result (variable_form place next found) }
 {
     match found {
         None => Err(TypeFault::UnknownName(place)),
@@ -74,22 +78,24 @@ pub fn variable(
     }
 }
 
+// What a set form is as a part of a relation.
 fn set_reading(
     alloc: Global,
     place: Place,
-    bend: Option<Place>,
+    first_nonlinear: Option<Place>,
     trees: &[Expr],
 ) -> Result<Reading, NoMemory>
-    ensures { IfOk result (λ r. reading_of r ≡ set_reading_of place bend (map expr_tree trees.now)) }
+    ensures { IfOk result (λ r. reading_of r ≡ set_reading_of place first_nonlinear (map expr_tree trees.now)) }
 {
     match trees.split_first() {
         None => Ok(Reading::Set(Box::new(alloc, SetTerm::Empty)?)),
-        Some(_) => Ok(reading::bent_at(bend, place)),
+        Some(_) => Ok(reading::not_linear_at(first_nonlinear, place)),
     }
 }
 
+/// The set of these elements.
 pub fn set(alloc: Global, place: Place, parts: Forms) -> Result<Form, TypeFault>
-    ensures { Gives form_of result (set_form place (forms_of parts)) }
+    ensures { CheckAnswer form_of result (set_form place (forms_of parts)) }
 {
     if !bases::all_are(Base::Int, &parts.bases) {
         drop(parts);
@@ -98,16 +104,17 @@ pub fn set(alloc: Global, place: Place, parts: Forms) -> Result<Form, TypeFault>
     let Forms {
         bases,
         trees,
-        bend,
+        first_nonlinear,
         next,
     } = parts;
     drop(bases);
-    let reading = set_reading(alloc, place, bend, &trees)?;
+    let reading = set_reading(alloc, place, first_nonlinear, &trees)?;
     made(alloc, Base::Set, Expr::SetOf(trees), reading, next)
 }
 
+/// The tuple of these parts.
 pub fn tuple(alloc: Global, place: Place, parts: Forms) -> Result<Form, TypeFault>
-    ensures { Gives form_of result (tuple_form place (forms_of parts)) }
+    ensures { CheckAnswer form_of result (tuple_form place (forms_of parts)) }
 {
     if !bases::all_are_single(&parts.bases) {
         drop(parts);
@@ -116,7 +123,7 @@ pub fn tuple(alloc: Global, place: Place, parts: Forms) -> Result<Form, TypeFaul
     let Forms {
         bases,
         trees,
-        bend,
+        first_nonlinear,
         next,
     } = parts;
     let all = bases::joined(alloc, &bases);
@@ -125,13 +132,14 @@ pub fn tuple(alloc: Global, place: Place, parts: Forms) -> Result<Form, TypeFaul
     Ok(Form {
         bases: all?,
         tree,
-        reading: reading::bent_at(bend, place),
+        reading: reading::not_linear_at(first_nonlinear, place),
         next,
     })
 }
 
+/// The negative of a number.
 pub fn neg(alloc: Global, place: Place, part: Form) -> Result<Form, TypeFault>
-    ensures { Gives form_of result (unary_form place int int expr_neg (on_term (λ t. a_term (term_neg t))) (form_of part)) }
+    ensures { CheckAnswer form_of result (unary_form place int int expr_neg (on_term (λ t. a_term (term_neg t))) (form_of part)) }
 {
     if !bases::is_one(Base::Int, &part.bases) {
         drop(part);
@@ -148,8 +156,9 @@ pub fn neg(alloc: Global, place: Place, part: Form) -> Result<Form, TypeFault>
     made(alloc, Base::Int, Expr::Neg(tree), reading, next)
 }
 
+/// The opposite of a truth value.
 pub fn not(alloc: Global, place: Place, part: Form) -> Result<Form, TypeFault>
-    ensures { Gives form_of result (unary_form place truth_base truth_base expr_not (on_relation (λ r. a_relation (rel_not r))) (form_of part)) }
+    ensures { CheckAnswer form_of result (unary_form place truth_base truth_base expr_not (on_relation (λ r. a_relation (rel_not r))) (form_of part)) }
 {
     if !bases::is_one(Base::Bool, &part.bases) {
         drop(part);
@@ -166,8 +175,9 @@ pub fn not(alloc: Global, place: Place, part: Form) -> Result<Form, TypeFault>
     made(alloc, Base::Bool, Expr::Not(tree), reading, next)
 }
 
+/// The absolute value of a number.
 pub fn abs(alloc: Global, place: Place, part: Form) -> Result<Form, TypeFault>
-    ensures { Gives form_of result (unary_form place int int expr_abs (on_term (λ t. a_term (term_abs t))) (form_of part)) }
+    ensures { CheckAnswer form_of result (unary_form place int int expr_abs (on_term (λ t. a_term (term_abs t))) (form_of part)) }
 {
     if !bases::is_one(Base::Int, &part.bases) {
         drop(part);
@@ -184,8 +194,9 @@ pub fn abs(alloc: Global, place: Place, part: Form) -> Result<Form, TypeFault>
     made(alloc, Base::Int, Expr::Abs(tree), reading, next)
 }
 
+/// Whether `k` divides a number.
 pub fn divides(alloc: Global, place: Place, k: i128, part: Form) -> Result<Form, TypeFault>
-    ensures { Gives form_of result (unary_form place int truth_base (expr_divides k) (on_term (λ t. a_relation (rel_divides k t))) (form_of part)) }
+    ensures { CheckAnswer form_of result (unary_form place int truth_base (expr_divides k) (on_term (λ t. a_relation (rel_divides k t))) (form_of part)) }
 {
     if !bases::is_one(Base::Int, &part.bases) {
         drop(part);
@@ -208,8 +219,9 @@ pub fn divides(alloc: Global, place: Place, k: i128, part: Form) -> Result<Form,
     )
 }
 
+/// A number divided by `k`, rounded down.
 pub fn div(alloc: Global, place: Place, part: Form, k: i128) -> Result<Form, TypeFault>
-    ensures { Gives form_of result (unary_form place int int (λ e. expr_div e k) (on_term (λ t. a_term (term_div t k))) (form_of part)) }
+    ensures { CheckAnswer form_of result (unary_form place int int (λ e. expr_div e k) (on_term (λ t. a_term (term_div t k))) (form_of part)) }
 {
     if !bases::is_one(Base::Int, &part.bases) {
         drop(part);
@@ -226,8 +238,9 @@ pub fn div(alloc: Global, place: Place, part: Form, k: i128) -> Result<Form, Typ
     made(alloc, Base::Int, Expr::Div { of: tree, k }, reading, next)
 }
 
+/// What division by `k` leaves of a number.
 pub fn modulo(alloc: Global, place: Place, part: Form, k: i128) -> Result<Form, TypeFault>
-    ensures { Gives form_of result (unary_form place int int (λ e. expr_mod e k) (on_term (λ t. a_term (term_mod t k))) (form_of part)) }
+    ensures { CheckAnswer form_of result (unary_form place int int (λ e. expr_mod e k) (on_term (λ t. a_term (term_mod t k))) (form_of part)) }
 {
     if !bases::is_one(Base::Int, &part.bases) {
         drop(part);
@@ -244,8 +257,9 @@ pub fn modulo(alloc: Global, place: Place, part: Form, k: i128) -> Result<Form, 
     made(alloc, Base::Int, Expr::Mod { of: tree, k }, reading, next)
 }
 
+/// The size of a set.
 pub fn card(alloc: Global, place: Place, part: Form) -> Result<Form, TypeFault>
-    ensures { Gives form_of result (unary_form place set_base int expr_card (on_set (λ s. a_term (term_card s))) (form_of part)) }
+    ensures { CheckAnswer form_of result (unary_form place set_base int expr_card (on_set (λ s. a_term (term_card s))) (form_of part)) }
 {
     if !bases::is_one(Base::Set, &part.bases) {
         drop(part);
@@ -262,6 +276,7 @@ pub fn card(alloc: Global, place: Place, part: Form) -> Result<Form, TypeFault>
     made(alloc, Base::Int, Expr::Card(tree), reading, next)
 }
 
+/// An operation with two sides.
 pub fn binary(
     alloc: Global,
     place: Place,
@@ -269,7 +284,7 @@ pub fn binary(
     left: Form,
     right: Form,
 ) -> Result<Form, TypeFault>
-    ensures { Gives form_of result (binary_form place op (form_of left) (form_of right)) }
+    ensures { CheckAnswer form_of result (binary_form place op (form_of left) (form_of right)) }
 {
     if !bases::sides_fit(op, &left.bases, &right.bases) {
         drop(left);
@@ -299,22 +314,19 @@ pub fn binary(
     made(alloc, bases::result_of(op), tree, reading, next)
 }
 
-pub fn call(
-    alloc: Global,
-    place: Place,
-    callees: &Callees,
-    caller: u32,
-    name: &Text,
-    args: Forms,
-) -> Result<Form, TypeFault>
-    ensures { Gives form_of result (call_form place (callee_from caller 0 (map raw_def_tree callees.now) name.now) (forms_of args)) }
+/// The call of the function of that name.
+pub fn call(caller: &Caller, place: Place, name: &Text, args: Forms) -> Result<Form, TypeFault>
+    ensures { CheckAnswer form_of result (call_form place (callee_from caller.now.number 0 (map raw_def_tree caller.now.callees.now) name.now) (forms_of args)) }
 {
-    match callees.find(caller, name) {
+    match caller.callees.find(caller.number, name) {
         None => Err(TypeFault::UnknownName(place)),
-        Some((number, def, is_earlier)) => call_of(alloc, place, number, def, is_earlier, args),
+        Some((number, def, is_earlier)) => {
+            call_of(caller.alloc, place, number, def, is_earlier, args)
+        }
     }
 }
 
+// The call of this function.
 fn call_of(
     alloc: Global,
     place: Place,
@@ -323,7 +335,7 @@ fn call_of(
     is_earlier: bool,
     args: Forms,
 ) -> Result<Form, TypeFault>
-    ensures { Gives form_of result (call_form place (Some (callee_seen number (raw_def_tree def.now) is_earlier)) (forms_of args)) }
+    ensures { CheckAnswer form_of result (call_form place (Some (callee_seen number (raw_def_tree def.now) is_earlier)) (forms_of args)) }
 {
     if args.bases.len() != def.params.len() {
         drop(args);
@@ -340,7 +352,7 @@ fn call_of(
     let Forms {
         bases,
         trees,
-        bend,
+        first_nonlinear,
         next,
     } = args;
     drop(bases);
@@ -354,7 +366,7 @@ fn call_of(
     Ok(Form {
         bases: Vec::from_slice(alloc, &def.results)?,
         tree,
-        reading: reading::bent_at(bend, place),
+        reading: reading::not_linear_at(first_nonlinear, place),
         next,
     })
 }
@@ -374,6 +386,7 @@ pub fn bare(form: Form) -> Box<Expr>
     tree
 }
 
+/// An `if`.
 pub fn choice(
     alloc: Global,
     place: Place,
@@ -381,7 +394,7 @@ pub fn choice(
     yes: Form,
     no: Form,
 ) -> Result<Form, TypeFault>
-    ensures { Gives form_of result (if_form place (form_of test) (form_of yes) (form_of no)) }
+    ensures { CheckAnswer form_of result (if_form place (form_of test) (form_of yes) (form_of no)) }
 {
     if !bases::is_one(Base::Bool, &test.bases) || !same_bases(&yes.bases, &no.bases) {
         drop(test);
@@ -389,8 +402,14 @@ pub fn choice(
         drop(no);
         return Err(TypeFault::Mismatch(place));
     }
-    let in_yes = reading::first_bend(reading::bend(&yes.reading), reading::bend(&no.reading));
-    let bend = reading::first_bend(reading::bend(&test.reading), in_yes);
+    let in_yes = reading::earlier_nonlinear(
+        reading::first_nonlinear(&yes.reading),
+        reading::first_nonlinear(&no.reading),
+    );
+    let first_nonlinear = reading::earlier_nonlinear(
+        reading::first_nonlinear(&test.reading),
+        in_yes,
+    );
     let next = no.next;
     let test = bare(test);
     let no = bare(no);
@@ -405,13 +424,13 @@ pub fn choice(
     Ok(Form {
         bases,
         tree,
-        reading: reading::bent_at(bend, place),
+        reading: reading::not_linear_at(first_nonlinear, place),
         next,
     })
 }
 
 /// A number of names or functions.
-pub fn counted(n: usize) -> Result<u32, NoMemory>
+pub fn to_u32(n: usize) -> Result<u32, NoMemory>
     ensures { IfOk result (λ m. m ≡ n) }
 {
     match u32::try_from(n) {
@@ -430,6 +449,7 @@ pub fn following(n: u32) -> Result<u32, NoMemory>
     }
 }
 
+/// A `let` of so many names.
 pub fn binding(
     alloc: Global,
     place: Place,
@@ -437,9 +457,9 @@ pub fn binding(
     value: Form,
     body: Form,
 ) -> Result<Form, TypeFault>
-    ensures { Gives form_of result (let_form place count (form_of value) (form_of body)) }
+    ensures { CheckAnswer form_of result (let_form place count (form_of value) (form_of body)) }
 {
-    let count = match counted(count) {
+    let count = match to_u32(count) {
         Ok(count) => count,
         Err(fault) => {
             drop(value);
@@ -447,7 +467,10 @@ pub fn binding(
             return Err(TypeFault::from(fault));
         }
     };
-    let bend = reading::first_bend(reading::bend(&value.reading), reading::bend(&body.reading));
+    let first_nonlinear = reading::earlier_nonlinear(
+        reading::first_nonlinear(&value.reading),
+        reading::first_nonlinear(&body.reading),
+    );
     let value = bare(value);
     let Form {
         bases,
@@ -460,24 +483,24 @@ pub fn binding(
     Ok(Form {
         bases,
         tree,
-        reading: reading::bent_at(bend, place),
+        reading: reading::not_linear_at(first_nonlinear, place),
         next,
     })
 }
 
-/// The relation that was read, where it is linear.
+// The relation that was read, where it is linear.
 fn linear(place: Place, reading: Reading) -> Result<Box<Rel>, TypeFault>
-    ensures { Gives (λ r. rel_tree r.value) result (linear_of place (reading_of reading)) }
+    ensures { CheckAnswer (λ r. rel_tree r.value) result (linear_of place (reading_of reading)) }
 {
     match reading {
         Reading::Relation(rel) => Ok(rel),
         Reading::Term(_) => Err(TypeFault::NotLinear(place)),
         Reading::Set(_) => Err(TypeFault::NotLinear(place)),
-        Reading::Bent(first) => Err(TypeFault::NotLinear(first)),
+        Reading::NotLinear(first) => Err(TypeFault::NotLinear(first)),
     }
 }
 
-/// The bases of outputs.
+// The bases of outputs.
 fn output_bases(alloc: Global, outputs: &[Param]) -> Result<Vec<Base>, NoMemory>
     ensures { IfOk result (λ bs. bs.items ≡ bases_of outputs.now) }
 {
@@ -488,6 +511,7 @@ fn output_bases(alloc: Global, outputs: &[Param]) -> Result<Vec<Base>, NoMemory>
     Ok(all)
 }
 
+/// The `choose` of that number and these outputs, where `scope` holds the variables in scope.
 pub fn choose(
     alloc: Global,
     place: Place,
@@ -496,77 +520,96 @@ pub fn choose(
     outputs: &[Param],
     rel: Form,
 ) -> Result<Form, TypeFault>
-    ensures { Gives form_of result (choose_form place number scope.items outputs.now (form_of rel)) }
+    ensures { CheckAnswer form_of result (choose_form place number scope.items outputs.now (form_of rel)) }
 {
+    if !bases::is_one(Base::Bool, &rel.bases) {
+        drop(rel);
+        return Err(TypeFault::Mismatch(place));
+    }
     let Form {
         bases,
-        tree: _,
+        tree,
         reading,
         next,
     } = rel;
-    if !bases::is_one(Base::Bool, &bases) {
-        return Err(TypeFault::Mismatch(place));
-    }
+    drop(bases);
+    drop(tree);
     let rel = linear(place, reading)?;
+    let bases = output_bases(alloc, outputs)?;
+    let outputs = output_bases(alloc, outputs)?;
+    let tree = Box::new(
+        alloc,
+        Expr::Choose {
+            number,
+            scope,
+            outputs,
+            rel: Box::into_inner(rel),
+        },
+    )?;
     Ok(Form {
-        bases: output_bases(alloc, outputs)?,
-        tree: Box::new(
-            alloc,
-            Expr::Choose {
-                number,
-                scope,
-                outputs: output_bases(alloc, outputs)?,
-                rel: Box::into_inner(rel),
-            },
-        )?,
-        reading: Reading::Bent(place),
+        bases,
+        tree,
+        reading: Reading::NotLinear(place),
         next,
     })
 }
 
+/// No expressions, before those that are numbered from `next` on.
 pub fn no_forms(alloc: Global, next: u32) -> Forms
     ensures { forms_of result ≡ no_forms_of next }
 {
     Forms {
         bases: Vec::new(alloc),
         trees: Vec::new(alloc),
-        bend: None,
+        first_nonlinear: None,
         next,
     }
 }
 
+/// These expressions and one more.
 pub fn with_form(before: Forms, form: Form) -> Result<Forms, NoMemory>
     ensures { IfOk result (λ fs. forms_of fs ≡ with_form_of (forms_of before) (form_of form)) }
 {
     let Forms {
         mut bases,
         mut trees,
-        bend,
+        first_nonlinear,
         next: _,
     } = before;
-    let bend = reading::first_bend(bend, reading::bend(&form.reading));
-    bases.push(form.bases)?;
-    trees.push(Box::into_inner(form.tree))?;
+    let Form {
+        bases: own,
+        tree,
+        reading,
+        next,
+    } = form;
+    let first_nonlinear = reading::earlier_nonlinear(
+        first_nonlinear,
+        reading::first_nonlinear(&reading),
+    );
+    drop(reading);
+    bases.push(own)?;
+    trees.push(Box::into_inner(tree))?;
     Ok(Forms {
         bases,
         trees,
-        bend,
-        next: form.next,
+        first_nonlinear,
+        next,
     })
 }
 
+/// No arms, before those that are numbered from `next` on.
 pub fn no_arms(alloc: Global, next: u32) -> Arms
     ensures { arms_of result ≡ no_arms_of next }
 {
     Arms {
         bases: Vec::new(alloc),
         trees: Vec::new(alloc),
-        bend: None,
+        first_nonlinear: None,
         next,
     }
 }
 
-/// The number of an arm: the next one where it has variables, and else 0.
+// The number of an arm: the next one where it has variables, and else 0.
 fn number_of(next: u32, parts: &[Part]) -> u32
     ensures { result ≡ arm_number next parts.now }
 {
@@ -584,7 +627,7 @@ pub fn after_arm_number(next: u32, parts: &[Part]) -> Result<u32, NoMemory>
     }
 }
 
-/// The factors of a pattern.
+// The factors of a pattern.
 fn factors_of(alloc: Global, parts: &[Part]) -> Result<Vec<i128>, NoMemory>
     ensures { IfOk result (λ fs. fs.items ≡ map (λ x. x.factor) parts.now) }
 {
@@ -595,6 +638,7 @@ fn factors_of(alloc: Global, parts: &[Part]) -> Result<Vec<i128>, NoMemory>
     Ok(all)
 }
 
+/// These arms and one more, of that pattern and body.
 pub fn with_arm(
     alloc: Global,
     before: Arms,
@@ -607,25 +651,38 @@ pub fn with_arm(
     let Arms {
         mut bases,
         mut trees,
-        bend,
+        first_nonlinear,
         next,
     } = before;
-    let bend = reading::first_bend(bend, reading::bend(&body.reading));
-    bases.push(body.bases)?;
+    let number = number_of(next, parts);
+    let Form {
+        bases: own,
+        tree,
+        reading,
+        next,
+    } = body;
+    let first_nonlinear = reading::earlier_nonlinear(
+        first_nonlinear,
+        reading::first_nonlinear(&reading),
+    );
+    drop(reading);
+    bases.push(own)?;
+    let factors = factors_of(alloc, parts)?;
     trees.push(MatchArm {
-        number: number_of(next, parts),
-        factors: factors_of(alloc, parts)?,
+        number,
+        factors,
         constant,
-        body: Box::into_inner(body.tree),
+        body: Box::into_inner(tree),
     })?;
     Ok(Arms {
         bases,
         trees,
-        bend,
-        next: body.next,
+        first_nonlinear,
+        next,
     })
 }
 
+/// The `match` of that number, where `scope` holds the variables in scope and last the matched value.
 pub fn matching(
     alloc: Global,
     place: Place,
@@ -634,7 +691,7 @@ pub fn matching(
     value: Form,
     arms: Arms,
 ) -> Result<Form, TypeFault>
-    ensures { Gives form_of result (match_form place number scope.items (form_of value) (arms_of arms)) }
+    ensures { CheckAnswer form_of result (match_form place number scope.items (form_of value) (arms_of arms)) }
 {
     if !bases::is_one(Base::Int, &value.bases) || !bases::all_same(&arms.bases) {
         drop(scope);
@@ -645,12 +702,15 @@ pub fn matching(
     let Arms {
         bases,
         trees,
-        bend,
+        first_nonlinear,
         next,
     } = arms;
     let all = bases::first(alloc, &bases);
     drop(bases);
-    let first = reading::first_bend(reading::bend(&value.reading), bend);
+    let first = reading::earlier_nonlinear(
+        reading::first_nonlinear(&value.reading),
+        first_nonlinear,
+    );
     let tree = Expr::Match {
         number,
         scope,
@@ -661,7 +721,7 @@ pub fn matching(
     Ok(Form {
         bases: all?,
         tree,
-        reading: reading::bent_at(first, place),
+        reading: reading::not_linear_at(first, place),
         next,
     })
 }

@@ -2,11 +2,11 @@
 ghost use Rattle.std.specs.Prelude.{◌≡◌, map, take, IfOk, OnOk};
 ghost use Rattle.cf_tree.specs.DefView.{raw_def_tree};
 ghost use Rattle.cf_type.specs.FormView.{callee_seen};
-ghost use Rattle.cf_type.specs.Gives.{Shows};
-ghost use Rattle.cf_type.specs.Names.{callee_from, is_among};
+ghost use Rattle.cf_program.specs.CheckAnswers.{Shows};
+ghost use Rattle.cf_program.specs.Names.{callee_from, is_among};
 ghost use Rattle.cf_type.specs.Numbers.{shown, with_name};
 
-use crate::build::counted;
+use crate::build::to_u32;
 use cf_tree::base::Text;
 use cf_tree::memory::NoMemory;
 use cf_tree::raw::RawDef;
@@ -40,7 +40,15 @@ impl<'a> Model for Callees<'a> {
     ghost invariant = { λ c. shown c.numbers.entries ≡ numbers_of c.defs.now };
 }
 
-/// Gives a new name its number.
+/// A function whose body is walked: its number, and the functions that it may name.
+#[derive(Drop)]
+pub struct Caller<'a> {
+    pub alloc: Global,
+    pub callees: &'a Callees<'a>,
+    pub number: u32,
+}
+
+// Gives a new name its number.
 fn add(
     alloc: Global,
     numbers: &mut IndexMap<Vec<u8>, u32>,
@@ -53,7 +61,7 @@ fn add(
     if numbers.contains_key(bytes) {
         return Ok(());
     }
-    let number = counted(number)?;
+    let number = to_u32(number)?;
     numbers.insert(Vec::from_slice(alloc, bytes)?, number)?;
     Ok(())
 }

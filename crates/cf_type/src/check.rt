@@ -1,39 +1,48 @@
 //! The rules over a program.
-ghost use Rattle.std.specs.Prelude.{◌≡◌, ℕ, [], length, map, take, codes, Ok, IfOk};
+ghost use Rattle.std.specs.Prelude.{◌≡◌, ℕ, [], length, map, take, codes, Ok, IfOk, OnOk};
 ghost use Rattle.std.specs.Str.{bytes_eq};
 ghost use Rattle.cf_tree.specs.DefView.{program_tree, raw_def_tree, def_tree, DefTree};
 ghost use Rattle.cf_tree.specs.RawTree.{place_of};
 ghost use Rattle.cf_tree.specs.RawView.{raw_tree};
-ghost use Rattle.cf_type.specs.Checked.{checked, walk_def as walk_def_of, walk_defs as walk_defs_of, main_from, def_form};
-ghost use Rattle.cf_type.specs.declared.fault.TypeFault.TheVariants.{Mismatch};
+ghost use Rattle.cf_program.specs.Checked.{checked, walk_def as walk_def_of, walk_defs as walk_defs_of, main_from, def_form};
+ghost use Rattle.cf_program.specs.declared.fault.TypeFault.TheVariants.{Mismatch};
 ghost use Rattle.cf_type.specs.FormView.{form_of};
-ghost use Rattle.cf_type.specs.Gives.{Gives};
-ghost use Rattle.cf_type.specs.Names.{callee_from, same_bases as same_bases_of};
-ghost use Rattle.cf_type.specs.Source.{IsSpelledProgram};
-ghost use Rattle.cf_type.specs.Typed.{typed_tree};
-ghost use Rattle.cf_type.specs.Walk.{where_kept, walk as walk_of};
+ghost use Rattle.cf_program.specs.DistinctNames.{IsDistinctlyNamed};
+ghost use Rattle.cf_program.specs.CheckAnswers.{CheckAnswer};
+ghost use Rattle.cf_program.specs.Names.{callee_from};
+ghost use Rattle.cf_tree.specs.Bases.{same_bases as same_bases_of};
+ghost use Rattle.cf_program.specs.Source.{IsSpelledProgram};
+ghost use Rattle.cf_program.specs.Typed.{typed_tree};
+ghost use Rattle.cf_program.specs.Walk.{where_kept, walk as walk_of};
 
 use crate::build::bare;
-use crate::callees::Callees;
-use crate::fault::TypeFault;
+use crate::callees::{Callees, Caller};
 use crate::form::Form;
-use crate::names::{repeated_param, same_bases};
-use crate::scope::{Scope, copied_params};
+use crate::names::repeated_param;
+use crate::scope::Scope;
 use crate::size;
-use crate::typed::{Typed, TypedDefs};
 use crate::walk::walk;
-use cf_tree::base::Text;
+use cf_program::fault::TypeFault;
+use cf_program::typed::{Typed, TypedDefs};
+use cf_tree::base::{Text, same_bases};
+use cf_tree::copy::words::copy_params;
 use cf_tree::expr::Def;
 use cf_tree::memory::NoMemory;
 use cf_tree::raw::{Program, RawDef};
 use std::alloc::Global;
 
-/// The program with its names turned into levels and its chooses numbered, or the first rule that
-/// it breaks in the order of its text.
-#[tactic(auto, using(crate::proofs::CheckLemmas::fails_is, crate::proofs::WalkSteps::fails_then))]
+/// The program with its names turned into levels and its chooses numbered from 1 in the order of
+/// the text. The tree is one that the source grammar spells.
+///
+/// # Errors
+/// The first rule that the program breaks in the order of its text, where parts come before the
+/// whole; then a missing `main`, then weights, then depths (docs/LANGUAGE.md). Want of memory also
+/// where functions, levels or chooses are more than a `u32` counts.
+#[tactic(auto, using(crate::proofs::CheckLemmas::fails_is, crate::proofs::CheckLemmas::named_is, crate::proofs::WalkSteps::fails_then))]
 pub fn check(alloc: Global, program: &Program) -> Result<Typed, TypeFault>
     requires { IsSpelledProgram (program_tree program.now) }
-    ensures { Gives typed_tree result (checked (program_tree program.now)) }
+    ensures gives { CheckAnswer typed_tree result (checked (program_tree program.now)) }
+    ensures named { OnOk result (IsDistinctlyNamed (program_tree program.now)) }
 {
     let defs = walk_defs(alloc, &program.defs)?;
     let main = match find_main(&program.defs)? {
@@ -49,7 +58,7 @@ pub fn check(alloc: Global, program: &Program) -> Result<Typed, TypeFault>
     Ok(Typed::new(TypedDefs { defs, main }))
 }
 
-/// The body of a function behind these.
+// The body of a function behind these.
 fn walk_body(
     alloc: Global,
     callees: &Callees,
@@ -57,25 +66,30 @@ fn walk_body(
     def: &RawDef,
     next: u32,
 ) -> Result<Form, TypeFault>
-    ensures { Gives form_of result (walk_of (callee_from (length before.now) 0 (map raw_def_tree callees.now)) def.now.params.items next (raw_tree def.now.body)) }
+    ensures { CheckAnswer form_of result (walk_of (callee_from (length before.now) 0 (map raw_def_tree callees.now)) def.now.params.items next (raw_tree def.now.body)) }
 {
     match u32::try_from(before.len()) {
         Err(_) => Err(TypeFault::NoMemory),
-        Ok(caller) => {
+        Ok(number) => {
             let mut scope = Scope::new(alloc);
             scope.enter(alloc, &def.params)?;
-            walk(alloc, callees, caller, &mut scope, next, &def.body)
+            let caller = Caller {
+                alloc,
+                callees,
+                number,
+            };
+            walk(&caller, &mut scope, next, &def.body)
         }
     }
 }
 
-/// The function with its body.
+// The function with its body.
 fn with_body(alloc: Global, def: &RawDef, body: Form) -> Result<Def, NoMemory>
     ensures { IfOk result (λ d. def_tree d ≡ def_form (raw_def_tree def.now) (form_of body)) }
 {
     let tree = bare(body);
     let name = def.name.try_copy(alloc)?;
-    let params = copied_params(alloc, &def.params)?;
+    let params = copy_params(alloc, &def.params)?;
     let results = Vec::from_slice(alloc, &def.results)?;
     Ok(Def {
         name,
@@ -85,18 +99,19 @@ fn with_body(alloc: Global, def: &RawDef, body: Form) -> Result<Def, NoMemory>
     })
 }
 
-/// The function with its body and the next number of a choose, where the body gives its results.
+// The function with its body and the next number of a choose, where the body gives its results.
 fn closed(alloc: Global, def: &RawDef, body: Form) -> Result<(Def, u32), TypeFault>
-    ensures { Gives {Y = DefTree × ℕ} (λ r. (def_tree r.0, r.1)) result (where_kept (same_bases_of (form_of body).bases def.now.results.items) (Mismatch (place_of (raw_tree def.now.body))) (Ok (def_form (raw_def_tree def.now) (form_of body), (form_of body).next))) }
+    ensures { CheckAnswer {Y = DefTree × ℕ} (λ r. (def_tree r.0, r.1)) result (where_kept (same_bases_of (form_of body).bases def.now.results.items) (Mismatch (place_of (raw_tree def.now.body))) (Ok (def_form (raw_def_tree def.now) (form_of body), (form_of body).next))) }
 {
     if !same_bases(&body.bases, &def.results) {
+        drop(body);
         return Err(TypeFault::Mismatch(def.body.place));
     }
     let next = body.next;
     Ok((with_body(alloc, def, body)?, next))
 }
 
-/// A function behind these, and the next number of a choose after it.
+// A function behind these, and the next number of a choose after it.
 fn walk_def(
     alloc: Global,
     callees: &Callees,
@@ -105,7 +120,7 @@ fn walk_def(
     next: u32,
 ) -> Result<(Def, u32), TypeFault>
     requires { before.now ≡ take (length before.now) callees.now }
-    ensures { Gives {Y = DefTree × ℕ} (λ r. (def_tree r.0, r.1)) result (walk_def_of (map raw_def_tree callees.now) (map raw_def_tree before.now) next (raw_def_tree def.now)) }
+    ensures { CheckAnswer {Y = DefTree × ℕ} (λ r. (def_tree r.0, r.1)) result (walk_def_of (map raw_def_tree callees.now) (map raw_def_tree before.now) next (raw_def_tree def.now)) }
 {
     if callees.is_named_before(before.len(), &def.name) {
         return Err(TypeFault::DuplicateName(def.place));
@@ -116,9 +131,9 @@ fn walk_def(
     closed(alloc, def, walk_body(alloc, callees, before, def, next)?)
 }
 
-/// The functions in the order of the text.
+// The functions in the order of the text.
 fn walk_defs(alloc: Global, defs: &[RawDef]) -> Result<Vec<Def>, TypeFault>
-    ensures { Gives (λ ds. map def_tree ds.items) result (walk_defs_of (map raw_def_tree defs.now) [] [] 1 (map raw_def_tree defs.now)) }
+    ensures { CheckAnswer (λ ds. map def_tree ds.items) result (walk_defs_of (map raw_def_tree defs.now) [] [] 1 (map raw_def_tree defs.now)) }
 {
     let callees = Callees::new(alloc, defs)?;
     let done = walk_each(alloc, &callees, defs);
@@ -126,10 +141,10 @@ fn walk_defs(alloc: Global, defs: &[RawDef]) -> Result<Vec<Def>, TypeFault>
     done
 }
 
-/// The functions in the order of the text, where these are all that can be called.
+// The functions in the order of the text, where these are all that can be called.
 fn walk_each(alloc: Global, callees: &Callees, defs: &[RawDef]) -> Result<Vec<Def>, TypeFault>
     requires { callees.now ≡ defs.now }
-    ensures { Gives (λ ds. map def_tree ds.items) result (walk_defs_of (map raw_def_tree defs.now) [] [] 1 (map raw_def_tree defs.now)) }
+    ensures { CheckAnswer (λ ds. map def_tree ds.items) result (walk_defs_of (map raw_def_tree defs.now) [] [] 1 (map raw_def_tree defs.now)) }
 {
     let mut done = Vec::new(alloc);
     let mut next = 1;
@@ -141,14 +156,14 @@ fn walk_each(alloc: Global, callees: &Callees, defs: &[RawDef]) -> Result<Vec<De
     Ok(done)
 }
 
-/// Whether a name is `main`.
+// Whether a name is `main`.
 fn is_main(name: &Text) -> bool
     ensures { result ≡ bytes_eq name.now (codes "main") }
 {
     name.bytes.as_slice() == b"main".as_slice()
 }
 
-/// The number of the first function that is named `main`.
+// The number of the first function that is named `main`.
 fn find_main(defs: &[RawDef]) -> Result<Option<u32>, NoMemory>
     ensures { IfOk result (λ o. o ≡ main_from 0 (map raw_def_tree defs.now)) }
 {

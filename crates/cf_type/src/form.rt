@@ -9,7 +9,7 @@ pub enum Reading {
     Relation(Box<Rel>),
     Term(Box<Term>),
     Set(Box<SetTerm>),
-    Bent(Place),
+    NotLinear(Place),
 }
 
 /// An expression: the bases of its parts, its tree with levels, its reading, and the next number
@@ -27,7 +27,7 @@ pub struct Form {
 pub struct Forms {
     pub bases: Vec<Vec<Base>>,
     pub trees: Vec<Expr>,
-    pub bend: Option<Place>,
+    pub first_nonlinear: Option<Place>,
     pub next: u32,
 }
 
@@ -36,6 +36,6 @@ pub struct Forms {
 pub struct Arms {
     pub bases: Vec<Vec<Base>>,
     pub trees: Vec<MatchArm>,
-    pub bend: Option<Place>,
+    pub first_nonlinear: Option<Place>,
     pub next: u32,
 }

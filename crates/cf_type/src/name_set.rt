@@ -1,6 +1,6 @@
 //! The names that were met so far.
 ghost use Rattle.std.specs.Prelude.{◌≡◌, ◌++◌, ◌∷◌, [], IfOk, if◌then◌else◌};
-ghost use Rattle.cf_type.specs.Names.{is_among};
+ghost use Rattle.cf_program.specs.Names.{is_among};
 
 use cf_tree::base::Text;
 use cf_tree::memory::NoMemory;

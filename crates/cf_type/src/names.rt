@@ -1,66 +1,15 @@
-//! Names, and the variables and functions that they stand for.
+//! Names that stand together, and which of them is the first that stands twice.
 ghost use Rattle.std.specs.Prelude.{◌≡◌, [], map, IfOk};
-ghost use Rattle.cf_type.specs.Walk.{output_fault as output_fault_of};
-ghost use Rattle.cf_type.specs.Names.{same_base as same_base_of, same_bases as same_bases_of, repeated as repeated_of, names_of};
+ghost use Rattle.cf_program.specs.Walk.{output_fault as output_fault_of};
+ghost use Rattle.cf_program.specs.Names.{repeated as repeated_of, names_of};
 
 use crate::bases::is_output;
-use crate::fault::TypeFault;
 use crate::name_set::NameSet;
-use cf_tree::base::{Base, Place, Text};
+use cf_program::fault::TypeFault;
+use cf_tree::base::{Place, Text};
 use cf_tree::memory::NoMemory;
 use cf_tree::raw::{Param, Part};
 use std::alloc::Global;
-
-/// A variable: its level and its base.
-#[derive(Clone, Copy, Debug, PartialEq, Eq)]
-pub struct Variable {
-    pub level: u32,
-    pub base: Base,
-}
-
-/// Whether two bases are the same.
-pub fn same_base(a: Base, b: Base) -> bool
-    ensures { result ≡ same_base_of a b }
-{
-    match a {
-        Base::Int => match b {
-            Base::Int => true,
-            Base::Bool => false,
-            Base::Set => false,
-        },
-        Base::Bool => match b {
-            Base::Int => false,
-            Base::Bool => true,
-            Base::Set => false,
-        },
-        Base::Set => match b {
-            Base::Int => false,
-            Base::Bool => false,
-            Base::Set => true,
-        },
-    }
-}
-
-/// Whether two lists of bases are the same.
-pub fn same_bases(a: &[Base], b: &[Base]) -> bool
-    ensures { result ≡ same_bases_of a.now b.now }
-{
-    let mut left = a;
-    let mut right = b;
-    while let Some((x, more)) = left.split_first() {
-        match right.split_first() {
-            None => return false,
-            Some((y, rest)) => {
-                if !same_base(*x, *y) {
-                    return false;
-                }
-                left = more;
-                right = rest;
-            }
-        }
-    }
-    right.is_empty()
-}
 
 /// The place of the first name that equals one before it.
 pub fn repeated(alloc: Global, names: &[Text], places: &[Place]) -> Result<Option<Place>, NoMemory>
@@ -72,7 +21,7 @@ pub fn repeated(alloc: Global, names: &[Text], places: &[Place]) -> Result<Optio
     found
 }
 
-/// The place of the first name that equals one before it, where these stand before.
+// The place of the first name that equals one before it, where these stand before.
 fn repeated_behind<'a>(
     before: &mut NameSet<'a>,
     names: &'a [Text],
@@ -105,7 +54,7 @@ pub fn repeated_param(alloc: Global, params: &[Param]) -> Result<Option<Place>, 
     found
 }
 
-/// The place of the first parameter whose name is that of one before it, where these stand before.
+// The place of the first parameter whose name is that of one before it, where these stand before.
 fn repeated_param_behind<'a>(
     before: &mut NameSet<'a>,
     params: &'a [Param],
@@ -130,7 +79,7 @@ pub fn repeated_part(alloc: Global, parts: &[Part]) -> Result<Option<Place>, NoM
     found
 }
 
-/// The place of the first variable of a pattern whose name is that of one before it, where these stand before.
+// The place of the first variable of a pattern whose name is that of one before it, where these stand before.
 fn repeated_part_behind<'a>(
     before: &mut NameSet<'a>,
     parts: &'a [Part],
@@ -155,7 +104,7 @@ pub fn output_fault(alloc: Global, outputs: &[Param]) -> Result<Option<TypeFault
     found
 }
 
-/// What is wrong with the outputs of a choose, where these stand before.
+// What is wrong with the outputs of a choose, where these stand before.
 fn output_fault_behind<'a>(
     before: &mut NameSet<'a>,
     outputs: &'a [Param],

@@ -4,10 +4,10 @@ ghost use Rattle.cf_tree.specs.Relation.{is_fixed as is_fixed_of};
 ghost use Rattle.cf_tree.specs.RelView.{rel_tree, term_tree, set_tree};
 ghost use Rattle.cf_tree.specs.RelTree.{rel_compare, rel_divides, rel_not, rel_and, rel_or, rel_subset, term_neg, term_abs, term_div, term_mod, term_card, term_add, term_sub, union_of, inter_of, diff_of};
 ghost use Rattle.cf_type.specs.FormView.{reading_of};
-ghost use Rattle.cf_type.specs.Reading.{relation as a_relation, term as a_term, set as a_set, bend as bend_of, first_bend as first_bend_of, bent_at as bent_at_of, on_relation, on_term, on_set, truth_reading, variable_reading, product_reading, sets_reading, compare_reading, binary_reading};
+ghost use Rattle.cf_program.specs.Reading.{relation as a_relation, term as a_term, set as a_set, first_nonlinear as first_nonlinear_of, earlier_nonlinear as earlier_nonlinear_of, not_linear_at as not_linear_at_of, on_relation, on_term, on_set, truth_reading, variable_reading, product_reading, sets_reading, compare_reading, binary_reading};
 
 use crate::form::Reading;
-use crate::names::Variable;
+use cf_program::variable::Variable;
 use cf_tree::base::{Base, Order, Place};
 use cf_tree::memory::NoMemory;
 use cf_tree::raw::BinOp;
@@ -15,20 +15,20 @@ use cf_tree::rel::{Rel, SetTerm, Term};
 use std::alloc::Global;
 
 /// Where the first form stands that is not linear.
-pub fn bend(reading: &Reading) -> Option<Place>
-    ensures { result ≡ bend_of (reading_of reading.now) }
+pub fn first_nonlinear(reading: &Reading) -> Option<Place>
+    ensures { result ≡ first_nonlinear_of (reading_of reading.now) }
 {
     match reading {
         Reading::Relation(_) => None,
         Reading::Term(_) => None,
         Reading::Set(_) => None,
-        Reading::Bent(place) => Some(*place),
+        Reading::NotLinear(place) => Some(*place),
     }
 }
 
 /// The first of two places, if any.
-pub fn first_bend(first: Option<Place>, second: Option<Place>) -> Option<Place>
-    ensures { result ≡ first_bend_of first second }
+pub fn earlier_nonlinear(first: Option<Place>, second: Option<Place>) -> Option<Place>
+    ensures { result ≡ earlier_nonlinear_of first second }
 {
     match first {
         Some(place) => Some(place),
@@ -36,16 +36,17 @@ pub fn first_bend(first: Option<Place>, second: Option<Place>) -> Option<Place>
     }
 }
 
-/// The reading of a form that is no linear form, whose parts bend there first.
-pub fn bent_at(first: Option<Place>, place: Place) -> Reading
-    ensures { reading_of result ≡ bent_at_of first place }
+/// The reading of a form that is no linear form, whose parts are not linear there first.
+pub fn not_linear_at(first: Option<Place>, place: Place) -> Reading
+    ensures { reading_of result ≡ not_linear_at_of first place }
 {
     match first {
-        Some(earlier) => Reading::Bent(earlier),
-        None => Reading::Bent(place),
+        Some(earlier) => Reading::NotLinear(earlier),
+        None => Reading::NotLinear(place),
     }
 }
 
+/// A truth value.
 pub fn of_truth(alloc: Global, truth: bool) -> Result<Reading, NoMemory>
     ensures { IfOk result (λ r. reading_of r ≡ truth_reading truth) }
 {
@@ -53,94 +54,102 @@ pub fn of_truth(alloc: Global, truth: bool) -> Result<Reading, NoMemory>
     Ok(Reading::Relation(Box::new(alloc, rel)?))
 }
 
+/// A variable.
 pub fn of_variable(alloc: Global, place: Place, variable: Variable) -> Result<Reading, NoMemory>
     ensures { IfOk result (λ r. reading_of r ≡ variable_reading place variable.base variable.level) }
 {
     match variable.base {
         Base::Int => Ok(Reading::Term(Box::new(alloc, Term::Var(variable.level))?)),
-        Base::Bool => Ok(Reading::Bent(place)),
+        Base::Bool => Ok(Reading::NotLinear(place)),
         Base::Set => Ok(Reading::Set(Box::new(alloc, SetTerm::Var(variable.level))?)),
     }
 }
 
+/// The opposite of a relation.
 pub fn of_not(alloc: Global, place: Place, part: Reading) -> Result<Reading, NoMemory>
     ensures { IfOk result (λ r. reading_of r ≡ on_relation (λ a. a_relation (rel_not a)) place (reading_of part)) }
 {
     match part {
         Reading::Relation(a) => Ok(Reading::Relation(Box::new(alloc, Rel::Not(a))?)),
-        Reading::Term(_) => Ok(Reading::Bent(place)),
-        Reading::Set(_) => Ok(Reading::Bent(place)),
-        Reading::Bent(first) => Ok(Reading::Bent(first)),
+        Reading::Term(_) => Ok(Reading::NotLinear(place)),
+        Reading::Set(_) => Ok(Reading::NotLinear(place)),
+        Reading::NotLinear(first) => Ok(Reading::NotLinear(first)),
     }
 }
 
+/// The negative of a number form.
 pub fn of_neg(alloc: Global, place: Place, part: Reading) -> Result<Reading, NoMemory>
     ensures { IfOk result (λ r. reading_of r ≡ on_term (λ t. a_term (term_neg t)) place (reading_of part)) }
 {
     match part {
-        Reading::Relation(_) => Ok(Reading::Bent(place)),
+        Reading::Relation(_) => Ok(Reading::NotLinear(place)),
         Reading::Term(t) => Ok(Reading::Term(Box::new(alloc, Term::Neg(t))?)),
-        Reading::Set(_) => Ok(Reading::Bent(place)),
-        Reading::Bent(first) => Ok(Reading::Bent(first)),
+        Reading::Set(_) => Ok(Reading::NotLinear(place)),
+        Reading::NotLinear(first) => Ok(Reading::NotLinear(first)),
     }
 }
 
+/// The absolute value of a number form.
 pub fn of_abs(alloc: Global, place: Place, part: Reading) -> Result<Reading, NoMemory>
     ensures { IfOk result (λ r. reading_of r ≡ on_term (λ t. a_term (term_abs t)) place (reading_of part)) }
 {
     match part {
-        Reading::Relation(_) => Ok(Reading::Bent(place)),
+        Reading::Relation(_) => Ok(Reading::NotLinear(place)),
         Reading::Term(t) => Ok(Reading::Term(Box::new(alloc, Term::Abs(t))?)),
-        Reading::Set(_) => Ok(Reading::Bent(place)),
-        Reading::Bent(first) => Ok(Reading::Bent(first)),
+        Reading::Set(_) => Ok(Reading::NotLinear(place)),
+        Reading::NotLinear(first) => Ok(Reading::NotLinear(first)),
     }
 }
 
+/// A number form divided by `k`, rounded down.
 pub fn of_div(alloc: Global, place: Place, part: Reading, k: i128) -> Result<Reading, NoMemory>
     ensures { IfOk result (λ r. reading_of r ≡ on_term (λ t. a_term (term_div t k)) place (reading_of part)) }
 {
     match part {
-        Reading::Relation(_) => Ok(Reading::Bent(place)),
+        Reading::Relation(_) => Ok(Reading::NotLinear(place)),
         Reading::Term(t) => Ok(Reading::Term(Box::new(alloc, Term::Div(t, k))?)),
-        Reading::Set(_) => Ok(Reading::Bent(place)),
-        Reading::Bent(first) => Ok(Reading::Bent(first)),
+        Reading::Set(_) => Ok(Reading::NotLinear(place)),
+        Reading::NotLinear(first) => Ok(Reading::NotLinear(first)),
     }
 }
 
+/// What division by `k` leaves of a number form.
 pub fn of_mod(alloc: Global, place: Place, part: Reading, k: i128) -> Result<Reading, NoMemory>
     ensures { IfOk result (λ r. reading_of r ≡ on_term (λ t. a_term (term_mod t k)) place (reading_of part)) }
 {
     match part {
-        Reading::Relation(_) => Ok(Reading::Bent(place)),
+        Reading::Relation(_) => Ok(Reading::NotLinear(place)),
         Reading::Term(t) => Ok(Reading::Term(Box::new(alloc, Term::Mod(t, k))?)),
-        Reading::Set(_) => Ok(Reading::Bent(place)),
-        Reading::Bent(first) => Ok(Reading::Bent(first)),
+        Reading::Set(_) => Ok(Reading::NotLinear(place)),
+        Reading::NotLinear(first) => Ok(Reading::NotLinear(first)),
     }
 }
 
+/// Whether `k` divides a number form.
 pub fn of_divides(alloc: Global, place: Place, k: i128, part: Reading) -> Result<Reading, NoMemory>
     ensures { IfOk result (λ r. reading_of r ≡ on_term (λ t. a_relation (rel_divides k t)) place (reading_of part)) }
 {
     match part {
-        Reading::Relation(_) => Ok(Reading::Bent(place)),
+        Reading::Relation(_) => Ok(Reading::NotLinear(place)),
         Reading::Term(t) => Ok(Reading::Relation(Box::new(alloc, Rel::Divides { k, of: t })?)),
-        Reading::Set(_) => Ok(Reading::Bent(place)),
-        Reading::Bent(first) => Ok(Reading::Bent(first)),
+        Reading::Set(_) => Ok(Reading::NotLinear(place)),
+        Reading::NotLinear(first) => Ok(Reading::NotLinear(first)),
     }
 }
 
+/// The size of a set form.
 pub fn of_card(alloc: Global, place: Place, part: Reading) -> Result<Reading, NoMemory>
     ensures { IfOk result (λ r. reading_of r ≡ on_set (λ s. a_term (term_card s)) place (reading_of part)) }
 {
     match part {
-        Reading::Relation(_) => Ok(Reading::Bent(place)),
-        Reading::Term(_) => Ok(Reading::Bent(place)),
+        Reading::Relation(_) => Ok(Reading::NotLinear(place)),
+        Reading::Term(_) => Ok(Reading::NotLinear(place)),
         Reading::Set(s) => Ok(Reading::Term(Box::new(alloc, Term::Card(s))?)),
-        Reading::Bent(first) => Ok(Reading::Bent(first)),
+        Reading::NotLinear(first) => Ok(Reading::NotLinear(first)),
     }
 }
 
-/// Whether a number form holds no variable, no card, no div and no mod.
+// Whether a number form holds no variable, no card, no div and no mod.
 fn is_fixed(term: &Term) -> bool
     ensures { result ≡ is_fixed_of (term_tree term.now) }
 {
@@ -158,7 +167,7 @@ fn is_fixed(term: &Term) -> bool
     }
 }
 
-/// The operation of two number forms.
+// The operation of two number forms.
 fn of_terms(
     alloc: Global,
     op: BinOp,
@@ -175,7 +184,7 @@ fn of_terms(
             if is_fixed(&a) || is_fixed(&b) {
                 Ok(Reading::Term(Box::new(alloc, Term::Mul(a, b))?))
             } else {
-                Ok(Reading::Bent(place))
+                Ok(Reading::NotLinear(place))
             }
         }
         BinOp::Compare(order) => Ok(Reading::Relation(Box::new(
@@ -186,16 +195,16 @@ fn of_terms(
                 right: b,
             },
         )?)),
-        BinOp::And => Ok(Reading::Bent(place)),
-        BinOp::Or => Ok(Reading::Bent(place)),
-        BinOp::Union => Ok(Reading::Bent(place)),
-        BinOp::Inter => Ok(Reading::Bent(place)),
-        BinOp::Diff => Ok(Reading::Bent(place)),
-        BinOp::Subset => Ok(Reading::Bent(place)),
+        BinOp::And => Ok(Reading::NotLinear(place)),
+        BinOp::Or => Ok(Reading::NotLinear(place)),
+        BinOp::Union => Ok(Reading::NotLinear(place)),
+        BinOp::Inter => Ok(Reading::NotLinear(place)),
+        BinOp::Diff => Ok(Reading::NotLinear(place)),
+        BinOp::Subset => Ok(Reading::NotLinear(place)),
     }
 }
 
-/// The operation of two relations.
+// The operation of two relations.
 fn of_relations(
     alloc: Global,
     op: BinOp,
@@ -208,18 +217,18 @@ fn of_relations(
     match op {
         BinOp::And => Ok(Reading::Relation(Box::new(alloc, Rel::And(a, b))?)),
         BinOp::Or => Ok(Reading::Relation(Box::new(alloc, Rel::Or(a, b))?)),
-        BinOp::Add => Ok(Reading::Bent(place)),
-        BinOp::Sub => Ok(Reading::Bent(place)),
-        BinOp::Mul => Ok(Reading::Bent(place)),
-        BinOp::Compare(_) => Ok(Reading::Bent(place)),
-        BinOp::Union => Ok(Reading::Bent(place)),
-        BinOp::Inter => Ok(Reading::Bent(place)),
-        BinOp::Diff => Ok(Reading::Bent(place)),
-        BinOp::Subset => Ok(Reading::Bent(place)),
+        BinOp::Add => Ok(Reading::NotLinear(place)),
+        BinOp::Sub => Ok(Reading::NotLinear(place)),
+        BinOp::Mul => Ok(Reading::NotLinear(place)),
+        BinOp::Compare(_) => Ok(Reading::NotLinear(place)),
+        BinOp::Union => Ok(Reading::NotLinear(place)),
+        BinOp::Inter => Ok(Reading::NotLinear(place)),
+        BinOp::Diff => Ok(Reading::NotLinear(place)),
+        BinOp::Subset => Ok(Reading::NotLinear(place)),
     }
 }
 
-/// The comparison of two set forms.
+// The comparison of two set forms.
 fn of_compared_sets(
     alloc: Global,
     order: Order,
@@ -232,14 +241,14 @@ fn of_compared_sets(
     match order {
         Order::Eq => Ok(Reading::Relation(Box::new(alloc, Rel::SameSet(a, b))?)),
         Order::Ne => Ok(Reading::Relation(Box::new(alloc, Rel::OtherSet(a, b))?)),
-        Order::Lt => Ok(Reading::Bent(place)),
-        Order::Le => Ok(Reading::Bent(place)),
-        Order::Gt => Ok(Reading::Bent(place)),
-        Order::Ge => Ok(Reading::Bent(place)),
+        Order::Lt => Ok(Reading::NotLinear(place)),
+        Order::Le => Ok(Reading::NotLinear(place)),
+        Order::Gt => Ok(Reading::NotLinear(place)),
+        Order::Ge => Ok(Reading::NotLinear(place)),
     }
 }
 
-/// The operation of two set forms.
+// The operation of two set forms.
 fn of_sets(
     alloc: Global,
     op: BinOp,
@@ -255,15 +264,15 @@ fn of_sets(
         BinOp::Diff => Ok(Reading::Set(Box::new(alloc, SetTerm::Diff(a, b))?)),
         BinOp::Subset => Ok(Reading::Relation(Box::new(alloc, Rel::Subset(a, b))?)),
         BinOp::Compare(order) => of_compared_sets(alloc, order, place, a, b),
-        BinOp::Add => Ok(Reading::Bent(place)),
-        BinOp::Sub => Ok(Reading::Bent(place)),
-        BinOp::Mul => Ok(Reading::Bent(place)),
-        BinOp::And => Ok(Reading::Bent(place)),
-        BinOp::Or => Ok(Reading::Bent(place)),
+        BinOp::Add => Ok(Reading::NotLinear(place)),
+        BinOp::Sub => Ok(Reading::NotLinear(place)),
+        BinOp::Mul => Ok(Reading::NotLinear(place)),
+        BinOp::And => Ok(Reading::NotLinear(place)),
+        BinOp::Or => Ok(Reading::NotLinear(place)),
     }
 }
 
-/// An operation whose left side is a relation.
+// An operation whose left side is a relation.
 #[tactic(auto, using(crate::proofs::ReadingLemmas::relation_and_term, crate::proofs::ReadingLemmas::relation_and_set))]
 fn on_left_relation(
     alloc: Global,
@@ -276,24 +285,24 @@ fn on_left_relation(
 {
     match right {
         Reading::Relation(b) => of_relations(alloc, op, place, a, b),
-        Reading::Term(_) => Ok(Reading::Bent(place)),
-        Reading::Set(_) => Ok(Reading::Bent(place)),
-        Reading::Bent(first) => match op {
-            BinOp::Add => Ok(Reading::Bent(place)),
-            BinOp::Sub => Ok(Reading::Bent(place)),
-            BinOp::Mul => Ok(Reading::Bent(place)),
-            BinOp::And => Ok(Reading::Bent(first)),
-            BinOp::Or => Ok(Reading::Bent(first)),
-            BinOp::Union => Ok(Reading::Bent(place)),
-            BinOp::Inter => Ok(Reading::Bent(place)),
-            BinOp::Diff => Ok(Reading::Bent(place)),
-            BinOp::Subset => Ok(Reading::Bent(place)),
-            BinOp::Compare(_) => Ok(Reading::Bent(first)),
+        Reading::Term(_) => Ok(Reading::NotLinear(place)),
+        Reading::Set(_) => Ok(Reading::NotLinear(place)),
+        Reading::NotLinear(first) => match op {
+            BinOp::Add => Ok(Reading::NotLinear(place)),
+            BinOp::Sub => Ok(Reading::NotLinear(place)),
+            BinOp::Mul => Ok(Reading::NotLinear(place)),
+            BinOp::And => Ok(Reading::NotLinear(first)),
+            BinOp::Or => Ok(Reading::NotLinear(first)),
+            BinOp::Union => Ok(Reading::NotLinear(place)),
+            BinOp::Inter => Ok(Reading::NotLinear(place)),
+            BinOp::Diff => Ok(Reading::NotLinear(place)),
+            BinOp::Subset => Ok(Reading::NotLinear(place)),
+            BinOp::Compare(_) => Ok(Reading::NotLinear(first)),
         },
     }
 }
 
-/// An operation whose left side is a number form.
+// An operation whose left side is a number form.
 #[tactic(auto, using(crate::proofs::ReadingLemmas::term_and_relation, crate::proofs::ReadingLemmas::term_and_set))]
 fn on_left_term(
     alloc: Global,
@@ -305,25 +314,25 @@ fn on_left_term(
     ensures { IfOk result (λ r. reading_of r ≡ binary_reading op place (a_term (term_tree a.value)) (reading_of right)) }
 {
     match right {
-        Reading::Relation(_) => Ok(Reading::Bent(place)),
+        Reading::Relation(_) => Ok(Reading::NotLinear(place)),
         Reading::Term(b) => of_terms(alloc, op, place, a, b),
-        Reading::Set(_) => Ok(Reading::Bent(place)),
-        Reading::Bent(first) => match op {
-            BinOp::Add => Ok(Reading::Bent(first)),
-            BinOp::Sub => Ok(Reading::Bent(first)),
-            BinOp::Mul => Ok(Reading::Bent(first)),
-            BinOp::And => Ok(Reading::Bent(place)),
-            BinOp::Or => Ok(Reading::Bent(place)),
-            BinOp::Union => Ok(Reading::Bent(place)),
-            BinOp::Inter => Ok(Reading::Bent(place)),
-            BinOp::Diff => Ok(Reading::Bent(place)),
-            BinOp::Subset => Ok(Reading::Bent(place)),
-            BinOp::Compare(_) => Ok(Reading::Bent(first)),
+        Reading::Set(_) => Ok(Reading::NotLinear(place)),
+        Reading::NotLinear(first) => match op {
+            BinOp::Add => Ok(Reading::NotLinear(first)),
+            BinOp::Sub => Ok(Reading::NotLinear(first)),
+            BinOp::Mul => Ok(Reading::NotLinear(first)),
+            BinOp::And => Ok(Reading::NotLinear(place)),
+            BinOp::Or => Ok(Reading::NotLinear(place)),
+            BinOp::Union => Ok(Reading::NotLinear(place)),
+            BinOp::Inter => Ok(Reading::NotLinear(place)),
+            BinOp::Diff => Ok(Reading::NotLinear(place)),
+            BinOp::Subset => Ok(Reading::NotLinear(place)),
+            BinOp::Compare(_) => Ok(Reading::NotLinear(first)),
         },
     }
 }
 
-/// An operation whose left side is a set form.
+// An operation whose left side is a set form.
 #[tactic(auto, using(crate::proofs::ReadingLemmas::set_and_relation, crate::proofs::ReadingLemmas::set_and_term))]
 fn on_left_set(
     alloc: Global,
@@ -335,20 +344,20 @@ fn on_left_set(
     ensures { IfOk result (λ r. reading_of r ≡ binary_reading op place (a_set (set_tree a.value)) (reading_of right)) }
 {
     match right {
-        Reading::Relation(_) => Ok(Reading::Bent(place)),
-        Reading::Term(_) => Ok(Reading::Bent(place)),
+        Reading::Relation(_) => Ok(Reading::NotLinear(place)),
+        Reading::Term(_) => Ok(Reading::NotLinear(place)),
         Reading::Set(b) => of_sets(alloc, op, place, a, b),
-        Reading::Bent(first) => match op {
-            BinOp::Add => Ok(Reading::Bent(place)),
-            BinOp::Sub => Ok(Reading::Bent(place)),
-            BinOp::Mul => Ok(Reading::Bent(place)),
-            BinOp::And => Ok(Reading::Bent(place)),
-            BinOp::Or => Ok(Reading::Bent(place)),
-            BinOp::Union => Ok(Reading::Bent(first)),
-            BinOp::Inter => Ok(Reading::Bent(first)),
-            BinOp::Diff => Ok(Reading::Bent(first)),
-            BinOp::Subset => Ok(Reading::Bent(first)),
-            BinOp::Compare(_) => Ok(Reading::Bent(first)),
+        Reading::NotLinear(first) => match op {
+            BinOp::Add => Ok(Reading::NotLinear(place)),
+            BinOp::Sub => Ok(Reading::NotLinear(place)),
+            BinOp::Mul => Ok(Reading::NotLinear(place)),
+            BinOp::And => Ok(Reading::NotLinear(place)),
+            BinOp::Or => Ok(Reading::NotLinear(place)),
+            BinOp::Union => Ok(Reading::NotLinear(first)),
+            BinOp::Inter => Ok(Reading::NotLinear(first)),
+            BinOp::Diff => Ok(Reading::NotLinear(first)),
+            BinOp::Subset => Ok(Reading::NotLinear(first)),
+            BinOp::Compare(_) => Ok(Reading::NotLinear(first)),
         },
     }
 }
@@ -368,6 +377,6 @@ pub fn of_binary(
         Reading::Relation(a) => on_left_relation(alloc, op, place, a, right),
         Reading::Term(a) => on_left_term(alloc, op, place, a, right),
         Reading::Set(a) => on_left_set(alloc, op, place, a, right),
-        Reading::Bent(first) => Ok(Reading::Bent(first)),
+        Reading::NotLinear(first) => Ok(Reading::NotLinear(first)),
     }
 }

@@ -2,11 +2,11 @@
 ghost use Rattle.std.specs.Prelude.{◌≡◌, ◌-◌, ◌++◌, ◌∷◌, [], length, map, take, OnOk, IfOk};
 ghost use Rattle.std.specs.Map.{set_value};
 ghost use Rattle.std.specs.Str.{bytes_eq};
-ghost use Rattle.cf_type.specs.Names.{variable_of};
-ghost use Rattle.cf_type.specs.Walk.{bound, matched, variables_of};
+ghost use Rattle.cf_program.specs.Names.{variable_of};
+ghost use Rattle.cf_program.specs.Walk.{bound, matched, variables_of};
 
-use crate::build::counted;
-use crate::names::Variable;
+use crate::build::to_u32;
+use cf_program::variable::Variable;
 use cf_tree::base::{Base, Place, Text};
 use cf_tree::memory::NoMemory;
 use cf_tree::raw::{Param, Part};
@@ -14,7 +14,7 @@ use indexmap::IndexMap;
 use std::alloc::Global;
 use std::marker::Model;
 
-/// A variable in scope, and the outer one of the same name that it hides.
+// A variable in scope, and the outer one of the same name that it hides.
 #[derive(Drop)]
 struct Binding {
     param: Param,
@@ -35,47 +35,25 @@ impl Model for Scope {
 
     ghost Value = { List Param };
 
-    ghost use Rattle.cf_type.specs.Scoped.{Tells};
+    ghost use Rattle.cf_type.specs.Scoped.{TableAnswer};
 
     ghost view = { λ s. map (λ b. b.param) s.bindings.items };
 
-    ghost invariant = { λ s. Tells s.innermost.entries (map (λ b. b.param) s.bindings.items) (map (λ b. b.hidden) s.bindings.items) };
+    ghost invariant = { λ s. TableAnswer s.innermost.entries (map (λ b. b.param) s.bindings.items) (map (λ b. b.hidden) s.bindings.items) };
 }
 
-/// An equal parameter.
-pub fn copied_param(alloc: Global, param: &Param) -> Result<Param, NoMemory>
-    ensures { IfOk result (λ new. new ≡ param.now) }
-{
-    Ok(Param {
-        place: param.place,
-        name: param.name.try_copy(alloc)?,
-        base: param.base,
-    })
-}
-
-/// Equal parameters, in the same order.
-pub fn copied_params(alloc: Global, params: &[Param]) -> Result<Vec<Param>, NoMemory>
-    ensures { IfOk result (λ new. new.items ≡ params.now) }
-{
-    let mut all = Vec::new(alloc);
-    for param in params {
-        all.push(copied_param(alloc, param)?)?;
-    }
-    Ok(all)
-}
-
-/// The variables of bindings, copied.
+// The variables of bindings, copied.
 fn params_of(alloc: Global, bindings: &[Binding]) -> Result<Vec<Param>, NoMemory>
     ensures { IfOk result (λ new. new.items ≡ map (λ b. b.param) bindings.now) }
 {
     let mut all = Vec::new(alloc);
     for binding in bindings {
-        all.push(copied_param(alloc, &binding.param)?)?;
+        all.push(binding.param.try_copy(alloc)?)?;
     }
     Ok(all)
 }
 
-/// The parameter as the variable of a level.
+// The parameter as the variable of a level.
 fn variable_at(level: u32, param: &Param) -> Variable
     ensures { result ≡ record { level = level; base = param.now.base } }
 {
@@ -85,7 +63,7 @@ fn variable_at(level: u32, param: &Param) -> Variable
     }
 }
 
-/// Gives a name that the table has the variable that was hidden.
+// Gives a name that the table has the variable that was hidden.
 fn restore(
     innermost: &mut IndexMap<Vec<u8>, Option<Variable>>,
     name: &Text,
@@ -133,12 +111,12 @@ impl Scope {
         params_of(alloc, &self.bindings)
     }
 
-    /// Binds one more variable.
+    // Binds one more variable.
     fn push(&mut self, alloc: Global, param: Param) -> Result<(), NoMemory>
         ensures { OnOk result (self.new ≡ self.old ++ param ∷ []) }
     {
         let hidden = self.find(&param.name);
-        let level = counted(self.len())?;
+        let level = to_u32(self.len())?;
         let variable = variable_at(level, &param);
         let name = Vec::from_slice(alloc, param.name.bytes.as_slice())?;
         self.bindings.reserve(1)?;
@@ -152,7 +130,7 @@ impl Scope {
         ensures { OnOk result (self.new ≡ self.old ++ params.now) }
     {
         for param in params {
-            self.push(alloc, copied_param(alloc, param)?)?;
+            self.push(alloc, param.try_copy(alloc)?)?;
         }
         Ok(())
     }
@@ -224,7 +202,7 @@ impl Scope {
     }
 
     /// Leaves the innermost variable, and has the one that it hides again.
-    fn pop(&mut self)
+    pub fn leave_last(&mut self)
         ensures { self.new ≡ take (length self.old - 1) self.old }
     {
         if let Some(Binding { param, hidden }) = self.bindings.pop() {
@@ -237,7 +215,7 @@ impl Scope {
         ensures { self.new ≡ take size self.old }
     {
         while size < self.len() {
-            self.pop();
+            self.leave_last();
         }
     }
 }

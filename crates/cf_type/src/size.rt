@@ -3,20 +3,20 @@ ghost use Rattle.std.specs.Prelude.{◌≡◌, ◌+◌, max, slice_index, map, I
 ghost use Rattle.cf_tree.specs.DefView.{def_tree};
 ghost use Rattle.cf_tree.specs.ExprView.{expr_tree, expr_trees, match_arm_tree, match_arm_trees};
 ghost use Rattle.cf_tree.specs.RelSize.{capped};
-ghost use Rattle.cf_type.specs.Checked.{size_fault};
+ghost use Rattle.cf_program.specs.Checked.{size_fault};
 ghost use Rattle.cf_type.specs.Counted.{are_zero as are_zero_of, test_weight as test_weight_of, test_depth as test_depth_of, tests_weight as tests_weight_of, any_weight as any_weight_of, tests_depth as tests_depth_of, any_depth as any_depth_of, picks_weight as picks_weight_of, picks_depth as picks_depth_of, last_level as last_level_of, variables_weight as variables_weight_of, variables_depth as variables_depth_of, weight_of, weight_of_all, weight_of_arm, weight_of_arms, depth_of, depth_of_all, depth_of_arm, depth_of_arms};
-ghost use Rattle.cf_type.specs.declared.fault.TypeFault.TheVariants.{Weight, Depth};
-ghost use Rattle.cf_type.specs.Size.{weights, depths};
+ghost use Rattle.cf_program.specs.declared.fault.TypeFault.TheVariants.{Weight, Depth};
+ghost use Rattle.cf_program.specs.Size.{weights, depths};
 
-use crate::fault::TypeFault;
+use cf_program::fault::TypeFault;
 use cf_tree::expr::{Def, Expr, MatchArm};
 use cf_tree::memory::NoMemory;
 use std::alloc::Global;
 
-/// The greatest weight of a function.
+// The greatest weight of a function.
 const WEIGHT_LIMIT: u64 = 1_000_000;
 
-/// The greatest unfolded depth of a function.
+// The greatest unfolded depth of a function.
 const DEPTH_LIMIT: u64 = 200;
 
 /// The fault of the first function whose weight passes 1,000,000.
@@ -49,7 +49,7 @@ pub(crate) fn depth_fault(alloc: Global, defs: &[Def]) -> Result<Option<TypeFaul
     Ok(None)
 }
 
-/// What is known of an earlier function.
+// What is known of an earlier function.
 fn of_callee(calls: &[u64], def: u32) -> u64
     ensures { result ≡ slice_index calls.now def }
 {
@@ -59,28 +59,28 @@ fn of_callee(calls: &[u64], def: u32) -> u64
     }
 }
 
-/// Whether all factors of a pattern are 0.
+// Whether all factors of a pattern are 0.
 fn are_zero(factors: &[i128]) -> bool
     ensures { result ≡ are_zero_of factors.now }
 {
     factors.iter().all(|factor| *factor == 0)
 }
 
-/// The nodes of the test whether an arm fits.
+// The nodes of the test whether an arm fits.
 fn test_weight(arm: &MatchArm) -> u64
     ensures { result ≡ test_weight_of (match_arm_tree arm.now) }
 {
     if are_zero(&arm.factors) { 3 } else { 4 }
 }
 
-/// The depth of the test whether an arm fits.
+// The depth of the test whether an arm fits.
 fn test_depth(arm: &MatchArm) -> u64
     ensures { result ≡ test_depth_of (match_arm_tree arm.now) }
 {
     if are_zero(&arm.factors) { 2 } else { 3 }
 }
 
-/// The nodes of the tests of these arms, each joined to those before.
+// The nodes of the tests of these arms, each joined to those before.
 fn tests_weight(arms: &[MatchArm]) -> u64
     ensures { result ≡ capped (tests_weight_of (match_arm_trees arms.now)) }
 {
@@ -91,7 +91,7 @@ fn tests_weight(arms: &[MatchArm]) -> u64
     total
 }
 
-/// The nodes of the test whether any arm fits.
+// The nodes of the test whether any arm fits.
 fn any_weight(arms: &[MatchArm]) -> u64
     ensures { result ≡ capped (any_weight_of (match_arm_trees arms.now)) }
 {
@@ -101,7 +101,7 @@ fn any_weight(arms: &[MatchArm]) -> u64
     }
 }
 
-/// The depth of the tests of these arms, joined to one of this depth before them.
+// The depth of the tests of these arms, joined to one of this depth before them.
 fn tests_depth(before: u64, arms: &[MatchArm]) -> u64
     ensures { result ≡ capped (tests_depth_of before (match_arm_trees arms.now)) }
 {
@@ -112,7 +112,7 @@ fn tests_depth(before: u64, arms: &[MatchArm]) -> u64
     depth
 }
 
-/// The depth of the test whether any arm fits.
+// The depth of the test whether any arm fits.
 fn any_depth(arms: &[MatchArm]) -> u64
     ensures { result ≡ capped (any_depth_of (match_arm_trees arms.now)) }
 {
@@ -122,8 +122,8 @@ fn any_depth(arms: &[MatchArm]) -> u64
     }
 }
 
-/// The nodes of the tests that pick an arm, each with its `if`. The last arm has none, and without
-/// arms there is the empty tuple.
+// The nodes of the tests that pick an arm, each with its `if`. The last arm has none, and without
+// arms there is the empty tuple.
 fn picks_weight(arms: &[MatchArm]) -> u64
     ensures { result ≡ capped (picks_weight_of (match_arm_trees arms.now)) }
 {
@@ -141,7 +141,7 @@ fn picks_weight(arms: &[MatchArm]) -> u64
     total.saturating_add(1)
 }
 
-/// The depth of the deepest test that picks an arm.
+// The depth of the deepest test that picks an arm.
 fn picks_depth(arms: &[MatchArm]) -> u64
     ensures { result ≡ capped (picks_depth_of 0 (match_arm_trees arms.now)) }
 {
@@ -161,7 +161,7 @@ fn picks_depth(arms: &[MatchArm]) -> u64
     deepest
 }
 
-/// The depth of the value of a match, of this depth itself, where an arm fits it.
+// The depth of the value of a match, of this depth itself, where an arm fits it.
 fn fitting_depth(value: u64, arms: &[MatchArm]) -> u64
     ensures { result ≡ capped (1 + max value (1 + max (any_depth_of (match_arm_trees arms.now)) 2)) }
 {
@@ -172,7 +172,7 @@ fn fitting_depth(value: u64, arms: &[MatchArm]) -> u64
         .saturating_add(1)
 }
 
-/// How many tests stand before the last arm.
+// How many tests stand before the last arm.
 #[tactic(auto, using(crate::proofs::CountedLaws::last_level_is))]
 fn last_level(arms: &[MatchArm]) -> u64
     ensures { result ≡ last_level_of (match_arm_trees arms.now) }
@@ -180,7 +180,7 @@ fn last_level(arms: &[MatchArm]) -> u64
     arms.len().saturating_sub(1) as u64
 }
 
-/// The nodes of the choose of a pattern's variables, and of the `let` that binds them.
+// The nodes of the choose of a pattern's variables, and of the `let` that binds them.
 fn variables_weight(factors: &[i128]) -> u64
     ensures { result ≡ capped (variables_weight_of factors.now) }
 {
@@ -190,7 +190,7 @@ fn variables_weight(factors: &[i128]) -> u64
     }
 }
 
-/// The depth of a body with a pattern's variables.
+// The depth of a body with a pattern's variables.
 fn variables_depth(factors: &[i128], body: u64) -> u64
     ensures { result ≡ capped (variables_depth_of factors.now body) }
 {
@@ -203,8 +203,8 @@ fn variables_depth(factors: &[i128], body: u64) -> u64
     }
 }
 
-/// How many nodes an expression has, with those of called functions, but never more than the
-/// greatest number of 64 bits.
+// How many nodes an expression has, with those of called functions, but never more than the
+// greatest number of 64 bits.
 #[cycle(weight)]
 fn weight(calls: &[u64], expr: &Expr) -> u64
     ensures { result ≡ capped (weight_of (λ f. slice_index calls.now f) (expr_tree expr.now)) }
@@ -269,8 +269,8 @@ fn weight_arms(calls: &[u64], arms: &[MatchArm]) -> u64
     total
 }
 
-/// How deep an expression is, with the functions that it calls, but never more than the greatest
-/// number of 64 bits.
+// How deep an expression is, with the functions that it calls, but never more than the greatest
+// number of 64 bits.
 #[cycle(depth)]
 fn depth(calls: &[u64], expr: &Expr) -> u64
     ensures { result ≡ capped (depth_of (λ f. slice_index calls.now f) (expr_tree expr.now)) }

@@ -1,94 +1,94 @@
 //! The walk through an expression in the order of its text: what it stands for, or the first rule
 //! that it breaks.
-ghost use Rattle.std.specs.Prelude.{◌≡◌, ◌+◌, ◌++◌, ◌∷◌, ◌==◌, [], length, map, take, OnOk, IfOk};
+ghost use Rattle.std.specs.Prelude.{◌≡◌, ◌+◌, ◌-◌, ◌++◌, ◌∷◌, ◌==◌, [], length, map, take, OnOk, IfOk};
 ghost use Rattle.cf_tree.specs.DefView.{raw_def_tree};
 ghost use Rattle.cf_tree.specs.RawView.{raw_tree, raw_trees, raw_arm_tree, raw_arm_trees};
 ghost use Rattle.cf_type.specs.FormView.{form_of, forms_of, arms_of};
-ghost use Rattle.cf_type.specs.Gives.{Gives};
-ghost use Rattle.cf_type.specs.Names.{callee_from, repeated as repeated_of};
-ghost use Rattle.cf_type.specs.declared.fault.TypeFault.TheVariants.{WrongCount};
-ghost use Rattle.cf_type.specs.Walk.{◌>>=◌ as chained, where_kept, where_no_fault, where_none_repeated, bound, matched, variables_of, after_arm, no_forms as no_forms_of, no_arms as no_arms_of, output_fault as output_fault_of, binary_form, if_form, let_form, choose_form, match_form, walk as walk_of, walk_all as walk_all_of, walk_arms as walk_arms_of, walk_arm as walk_arm_of, with_walked as with_walked_of};
+ghost use Rattle.cf_program.specs.CheckAnswers.{CheckAnswer};
+ghost use Rattle.cf_program.specs.Names.{callee_from, repeated as repeated_of};
+ghost use Rattle.cf_program.specs.declared.fault.TypeFault.TheVariants.{WrongCount};
+ghost use Rattle.cf_program.specs.Walk.{◌>>=◌ as chained, where_kept, where_no_fault, where_none_repeated, bound, matched, variables_of, after_arm, no_forms as no_forms_of, no_arms as no_arms_of, output_fault as output_fault_of, binary_form, if_form, let_form, choose_form, match_form, walk as walk_of, walk_all as walk_all_of, walk_arms as walk_arms_of, walk_arm as walk_arm_of, with_walked as with_walked_of};
 
 use crate::build;
-use crate::callees::Callees;
-use crate::fault::TypeFault;
+use crate::callees::Caller;
 use crate::form::{Arms, Form, Forms};
 use crate::names::{output_fault, repeated, repeated_part};
 use crate::scope::Scope;
+use cf_program::fault::TypeFault;
 use cf_tree::base::{Place, Text};
-use cf_tree::memory::NoMemory;
+use cf_tree::memory::{NoMemory, without};
 use cf_tree::raw::{BinOp, Param, Part, Raw, RawArm, RawNode};
 use std::alloc::Global;
 
-/// What an expression stands for, where function number `caller` of these holds it, the variables
-/// of `scope` are in scope, and `next` is the next number of a `choose`.
+// The names that a `let` binds, each with its place.
+#[derive(Drop)]
+struct LetNames<'a> {
+    texts: &'a [Text],
+    places: &'a [Place],
+}
+
+/// What an expression in the body of this caller stands for, where the variables of `scope` are in
+/// scope, and `next` is the next number of a `choose`.
 #[cycle(walk)]
 #[tactic(auto, using(crate::proofs::WalkSteps::fails_then))]
-pub fn walk(
-    alloc: Global,
-    callees: &Callees,
-    caller: u32,
-    scope: &mut Scope,
-    next: u32,
-    raw: &Raw,
-) -> Result<Form, TypeFault>
-    ensures gives { Gives form_of result (walk_of (callee_from caller 0 (map raw_def_tree callees.now)) scope.old next (raw_tree raw.now)) }
+pub fn walk(caller: &Caller, scope: &mut Scope, next: u32, raw: &Raw) -> Result<Form, TypeFault>
+    ensures gives { CheckAnswer form_of result (walk_of (callee_from caller.now.number 0 (map raw_def_tree caller.now.callees.now)) scope.old next (raw_tree raw.now)) }
     ensures kept { OnOk result (scope.new ≡ scope.old) }
 {
     let place = raw.place;
     match &raw.node {
-        RawNode::Lit(k) => build::literal(alloc, *k, next),
-        RawNode::Truth(t) => build::truth(alloc, *t, next),
-        RawNode::Name(name) => build::variable(alloc, place, next, scope.find(name)),
+        RawNode::Lit(k) => build::literal(caller.alloc, *k, next),
+        RawNode::Truth(t) => build::truth(caller.alloc, *t, next),
+        RawNode::Name(name) => build::variable(caller.alloc, place, next, scope.find(name)),
         RawNode::SetOf(parts) => {
-            let parts = walk_all(alloc, callees, caller, scope, next, parts)?;
-            build::set(alloc, place, parts)
+            let parts = walk_all(caller, scope, next, parts)?;
+            build::set(caller.alloc, place, parts)
         }
-        RawNode::Group(a) => walk(alloc, callees, caller, scope, next, a),
+        RawNode::Group(a) => walk(caller, scope, next, a),
         RawNode::Tuple(parts) => {
-            let parts = walk_all(alloc, callees, caller, scope, next, parts)?;
-            build::tuple(alloc, place, parts)
+            let parts = walk_all(caller, scope, next, parts)?;
+            build::tuple(caller.alloc, place, parts)
         }
         RawNode::Neg(a) => {
-            let a = walk(alloc, callees, caller, scope, next, a)?;
-            build::neg(alloc, place, a)
+            let a = walk(caller, scope, next, a)?;
+            build::neg(caller.alloc, place, a)
         }
         RawNode::Not(a) => {
-            let a = walk(alloc, callees, caller, scope, next, a)?;
-            build::not(alloc, place, a)
+            let a = walk(caller, scope, next, a)?;
+            build::not(caller.alloc, place, a)
         }
         RawNode::Abs(a) => {
-            let a = walk(alloc, callees, caller, scope, next, a)?;
-            build::abs(alloc, place, a)
+            let a = walk(caller, scope, next, a)?;
+            build::abs(caller.alloc, place, a)
         }
         RawNode::Binary { op, left, right } => {
-            let left = walk(alloc, callees, caller, scope, next, left)?;
-            walk_right(alloc, callees, caller, scope, place, *op, left, right)
+            let left = walk(caller, scope, next, left)?;
+            walk_right(caller, scope, place, *op, left, right)
         }
         RawNode::Divides { k, of } => {
-            let of = walk(alloc, callees, caller, scope, next, of)?;
-            build::divides(alloc, place, *k, of)
+            let of = walk(caller, scope, next, of)?;
+            build::divides(caller.alloc, place, *k, of)
         }
         RawNode::Div { of, k } => {
-            let of = walk(alloc, callees, caller, scope, next, of)?;
-            build::div(alloc, place, of, *k)
+            let of = walk(caller, scope, next, of)?;
+            build::div(caller.alloc, place, of, *k)
         }
         RawNode::Mod { of, k } => {
-            let of = walk(alloc, callees, caller, scope, next, of)?;
-            build::modulo(alloc, place, of, *k)
+            let of = walk(caller, scope, next, of)?;
+            build::modulo(caller.alloc, place, of, *k)
         }
         RawNode::Card(a) => {
-            let a = walk(alloc, callees, caller, scope, next, a)?;
-            build::card(alloc, place, a)
+            let a = walk(caller, scope, next, a)?;
+            build::card(caller.alloc, place, a)
         }
         RawNode::Call { name, args } => {
-            let args = walk_all(alloc, callees, caller, scope, next, args)?;
-            build::call(alloc, place, callees, caller, name, args)
+            let args = walk_all(caller, scope, next, args)?;
+            build::call(caller, place, name, args)
         }
         RawNode::If { test, yes, no } => {
-            let test = walk(alloc, callees, caller, scope, next, test)?;
-            match walk(alloc, callees, caller, scope, test.next, yes) {
-                Ok(yes) => walk_no(alloc, callees, caller, scope, place, test, yes, no),
+            let test = walk(caller, scope, next, test)?;
+            match walk(caller, scope, test.next, yes) {
+                Ok(yes) => walk_no(caller, scope, place, test, yes, no),
                 Err(fault) => Err(without(test, fault)),
             }
         }
@@ -98,89 +98,73 @@ pub fn walk(
             value,
             body,
         } => {
-            let value = walk(alloc, callees, caller, scope, next, value)?;
-            walk_let(
-                alloc, callees, caller, scope, place, names, places, value, body,
-            )
+            let value = walk(caller, scope, next, value)?;
+            let names = LetNames {
+                texts: names.as_slice(),
+                places: places.as_slice(),
+            };
+            walk_let(caller, scope, place, names, value, body)
         }
         RawNode::Choose { outputs, rel } => {
-            walk_choose(alloc, callees, caller, scope, place, next, outputs, rel)
+            walk_choose(caller, scope, place, next, outputs, rel)
         }
         RawNode::Match { of, arms } => {
-            let of = walk_matched(alloc, callees, caller, scope, next, of)?;
-            walk_match(alloc, callees, caller, scope, place, next, of, arms)
+            let of = walk_matched(caller, scope, next, of)?;
+            walk_match(caller, scope, place, next, of, arms)
         }
     }
 }
 
-/// The fault, once a value is given up.
-fn without<T: Drop>(_value: T, fault: TypeFault) -> TypeFault
-    ensures { result ≡ fault }
-{
-    fault
-}
-
-/// An operation whose left side was walked.
+// An operation whose left side was walked.
 #[cycle(walk)]
 #[tactic(auto, using(crate::proofs::WalkSteps::fails_then))]
 fn walk_right(
-    alloc: Global,
-    callees: &Callees,
-    caller: u32,
+    caller: &Caller,
     scope: &mut Scope,
     place: Place,
     op: BinOp,
     left: Form,
     right: &Raw,
 ) -> Result<Form, TypeFault>
-    ensures gives { Gives form_of result (chained (walk_of (callee_from caller 0 (map raw_def_tree callees.now)) scope.old left.next (raw_tree right.now)) (binary_form place op (form_of left))) }
+    ensures gives { CheckAnswer form_of result (chained (walk_of (callee_from caller.now.number 0 (map raw_def_tree caller.now.callees.now)) scope.old left.next (raw_tree right.now)) (binary_form place op (form_of left))) }
     ensures kept { OnOk result (scope.new ≡ scope.old) }
 {
-    match walk(alloc, callees, caller, scope, left.next, right) {
-        Ok(right) => build::binary(alloc, place, op, left, right),
+    match walk(caller, scope, left.next, right) {
+        Ok(right) => build::binary(caller.alloc, place, op, left, right),
         Err(fault) => Err(without(left, fault)),
     }
 }
 
-/// An `if` whose test and first branch were walked.
+// An `if` whose test and first branch were walked.
 #[cycle(walk)]
 #[tactic(auto, using(crate::proofs::WalkSteps::fails_then))]
 fn walk_no(
-    alloc: Global,
-    callees: &Callees,
-    caller: u32,
+    caller: &Caller,
     scope: &mut Scope,
     place: Place,
     test: Form,
     yes: Form,
     no: &Raw,
 ) -> Result<Form, TypeFault>
-    ensures gives { Gives form_of result (chained (walk_of (callee_from caller 0 (map raw_def_tree callees.now)) scope.old yes.next (raw_tree no.now)) (if_form place (form_of test) (form_of yes))) }
+    ensures gives { CheckAnswer form_of result (chained (walk_of (callee_from caller.now.number 0 (map raw_def_tree caller.now.callees.now)) scope.old yes.next (raw_tree no.now)) (if_form place (form_of test) (form_of yes))) }
     ensures kept { OnOk result (scope.new ≡ scope.old) }
 {
-    match walk(alloc, callees, caller, scope, yes.next, no) {
-        Ok(no) => build::choice(alloc, place, test, yes, no),
+    match walk(caller, scope, yes.next, no) {
+        Ok(no) => build::choice(caller.alloc, place, test, yes, no),
         Err(fault) => Err(without(test, without(yes, fault))),
     }
 }
 
-/// Expressions in a row.
+// Expressions in a row.
 #[cycle(walk)]
 #[tactic(auto, using(crate::proofs::WalkSteps::more_fails))]
-fn walk_all(
-    alloc: Global,
-    callees: &Callees,
-    caller: u32,
-    scope: &mut Scope,
-    next: u32,
-    raws: &[Raw],
-) -> Result<Forms, TypeFault>
-    ensures gives { Gives forms_of result (walk_all_of (callee_from caller 0 (map raw_def_tree callees.now)) scope.old (no_forms_of next) (raw_trees raws.now)) }
+fn walk_all(caller: &Caller, scope: &mut Scope, next: u32, raws: &[Raw]) -> Result<Forms, TypeFault>
+    ensures gives { CheckAnswer forms_of result (walk_all_of (callee_from caller.now.number 0 (map raw_def_tree caller.now.callees.now)) scope.old (no_forms_of next) (raw_trees raws.now)) }
     ensures kept { OnOk result (scope.new ≡ scope.old) }
 {
-    let mut done = build::no_forms(alloc, next);
+    let mut done = build::no_forms(caller.alloc, next);
     for raw in raws {
-        match walk(alloc, callees, caller, scope, done.next, raw) {
+        match walk(caller, scope, done.next, raw) {
             Ok(form) => done = build::with_form(done, form)?,
             Err(fault) => return Err(without(done, fault)),
         }
@@ -188,92 +172,85 @@ fn walk_all(
     Ok(done)
 }
 
-/// A `let` whose value was walked.
+// A `let` whose value was walked.
 #[cycle(walk)]
 #[tactic(auto, using(crate::proofs::WalkSteps::fails_then, crate::proofs::WalkSteps::left_again))]
 fn walk_let(
-    alloc: Global,
-    callees: &Callees,
-    caller: u32,
+    caller: &Caller,
     scope: &mut Scope,
     place: Place,
-    names: &[Text],
-    places: &[Place],
+    names: LetNames,
     value: Form,
     body: &Raw,
 ) -> Result<Form, TypeFault>
-    ensures gives { Gives form_of result (where_none_repeated (repeated_of [] names.now places.now) (where_kept (length names.now == length value.bases.items) (WrongCount place) (chained (walk_of (callee_from caller 0 (map raw_def_tree callees.now)) (scope.old ++ bound names.now places.now value.bases.items) value.next (raw_tree body.now)) (let_form place (length names.now) (form_of value))))) }
+    ensures gives { CheckAnswer form_of result (where_none_repeated (repeated_of [] names.entry.texts.now names.entry.places.now) (where_kept (length names.entry.texts.now == length value.bases.items) (WrongCount place) (chained (walk_of (callee_from caller.now.number 0 (map raw_def_tree caller.now.callees.now)) (scope.old ++ bound names.entry.texts.now names.entry.places.now value.bases.items) value.next (raw_tree body.now)) (let_form place (length names.entry.texts.now) (form_of value))))) }
     ensures kept { OnOk result (scope.new ≡ scope.old) }
 {
-    match repeated(alloc, names, places) {
+    match repeated(caller.alloc, names.texts, names.places) {
         Ok(None) => (),
         Ok(Some(later)) => return Err(without(value, TypeFault::DuplicateName(later))),
         Err(_) => return Err(without(value, TypeFault::NoMemory)),
     }
-    if names.len() != value.bases.len() {
+    if names.texts.len() != value.bases.len() {
         return Err(without(value, TypeFault::WrongCount(place)));
     }
     let size = scope.len();
-    match scope.bind(alloc, names, places, &value.bases) {
+    match scope.bind(caller.alloc, names.texts, names.places, &value.bases) {
         Ok(()) => (),
         Err(_) => return Err(without(value, TypeFault::NoMemory)),
     }
-    match walk(alloc, callees, caller, scope, value.next, body) {
+    match walk(caller, scope, value.next, body) {
         Ok(body) => {
             scope.leave(size);
-            build::binding(alloc, place, names.len(), value, body)
+            build::binding(caller.alloc, place, names.texts.len(), value, body)
         }
         Err(fault) => Err(without(value, fault)),
     }
 }
 
-/// A `choose` of this number.
+// A `choose` of this number.
 #[cycle(walk)]
 #[tactic(auto, using(crate::proofs::WalkSteps::fails_then))]
 fn walk_choose(
-    alloc: Global,
-    callees: &Callees,
-    caller: u32,
+    caller: &Caller,
     scope: &mut Scope,
     place: Place,
     number: u32,
     outputs: &[Param],
     rel: &Raw,
 ) -> Result<Form, TypeFault>
-    ensures gives { Gives form_of result (where_no_fault (output_fault_of [] outputs.now) (chained (walk_of (callee_from caller 0 (map raw_def_tree callees.now)) (scope.old ++ outputs.now) (number + 1) (raw_tree rel.now)) (choose_form place number scope.old outputs.now))) }
+    ensures gives { CheckAnswer form_of result (where_no_fault (output_fault_of [] outputs.now) (chained (walk_of (callee_from caller.now.number 0 (map raw_def_tree caller.now.callees.now)) (scope.old ++ outputs.now) (number + 1) (raw_tree rel.now)) (choose_form place number scope.old outputs.now))) }
     ensures kept { OnOk result (scope.new ≡ scope.old) }
 {
-    if let Some(fault) = output_fault(alloc, outputs)? {
+    if let Some(fault) = output_fault(caller.alloc, outputs)? {
         return Err(fault);
     }
     let next = build::following(number)?;
-    let rel = walk_inside(alloc, callees, caller, scope, next, outputs, rel)?;
-    choose_in(alloc, scope, place, number, outputs, rel)
+    let rel = walk_inside(caller, scope, next, outputs, rel)?;
+    choose_in(caller.alloc, scope, place, number, outputs, rel)
 }
 
-/// A part in which these variables are in scope too.
+// A part in which these variables are in scope too.
 #[cycle(walk)]
 #[tactic(auto, using(crate::proofs::WalkSteps::fails_then, crate::proofs::WalkSteps::left_again))]
 fn walk_inside(
-    alloc: Global,
-    callees: &Callees,
-    caller: u32,
+    caller: &Caller,
     scope: &mut Scope,
     next: u32,
     params: &[Param],
     raw: &Raw,
 ) -> Result<Form, TypeFault>
-    ensures gives { Gives form_of result (walk_of (callee_from caller 0 (map raw_def_tree callees.now)) (scope.old ++ params.now) next (raw_tree raw.now)) }
+    ensures gives { CheckAnswer form_of result (walk_of (callee_from caller.now.number 0 (map raw_def_tree caller.now.callees.now)) (scope.old ++ params.now) next (raw_tree raw.now)) }
     ensures kept { OnOk result (scope.new ≡ scope.old) }
 {
     let size = scope.len();
-    scope.enter(alloc, params)?;
-    let form = walk(alloc, callees, caller, scope, next, raw)?;
+    scope.enter(caller.alloc, params)?;
+    let form = walk(caller, scope, next, raw)?;
     scope.leave(size);
     Ok(form)
 }
 
-/// The `choose` whose relation was walked.
+// The `choose` whose relation was walked.
 fn choose_in(
     alloc: Global,
     scope: &Scope,
@@ -282,7 +259,7 @@ fn choose_in(
     outputs: &[Param],
     rel: Form,
 ) -> Result<Form, TypeFault>
-    ensures { Gives form_of result (choose_form place number scope.now outputs.now (form_of rel)) }
+    ensures { CheckAnswer form_of result (choose_form place number scope.now outputs.now (form_of rel)) }
 {
     match scope.copied(alloc) {
         Ok(params) => build::choose(alloc, place, number, params, outputs, rel),
@@ -290,139 +267,122 @@ fn choose_in(
     }
 }
 
-/// The value of a `match` of this number.
+// The value of a `match` of this number.
 #[cycle(walk)]
 #[tactic(auto, using(crate::proofs::WalkSteps::fails_then))]
 fn walk_matched(
-    alloc: Global,
-    callees: &Callees,
-    caller: u32,
+    caller: &Caller,
     scope: &mut Scope,
     number: u32,
     value: &Raw,
 ) -> Result<Form, TypeFault>
-    ensures gives { Gives form_of result (walk_of (callee_from caller 0 (map raw_def_tree callees.now)) scope.old (number + 1) (raw_tree value.now)) }
+    ensures gives { CheckAnswer form_of result (walk_of (callee_from caller.now.number 0 (map raw_def_tree caller.now.callees.now)) scope.old (number + 1) (raw_tree value.now)) }
     ensures kept { OnOk result (scope.new ≡ scope.old) }
 {
     let next = build::following(number)?;
-    walk(alloc, callees, caller, scope, next, value)
+    walk(caller, scope, next, value)
 }
 
-/// A `match` of this number, whose value was walked.
+// A `match` of this number, whose value was walked.
 #[cycle(walk)]
-#[tactic(auto, using(crate::proofs::WalkSteps::fails_then, crate::proofs::WalkSteps::left_again))]
+#[tactic(auto, using(crate::proofs::WalkSteps::fails_then, crate::proofs::WalkSteps::left_last))]
 fn walk_match(
-    alloc: Global,
-    callees: &Callees,
-    caller: u32,
+    caller: &Caller,
     scope: &mut Scope,
     place: Place,
     number: u32,
     value: Form,
+    // for the proof: behind a call that may end early, the measure of a slice would stay open
     arms: &Vec<RawArm>,
 ) -> Result<Form, TypeFault>
-    ensures gives { Gives form_of result (chained (walk_arms_of (callee_from caller 0 (map raw_def_tree callees.now)) (scope.old ++ matched place ∷ []) (no_arms_of value.next) (raw_arm_trees arms.now.items)) (match_form place number (scope.old ++ matched place ∷ []) (form_of value))) }
+    ensures gives { CheckAnswer form_of result (chained (walk_arms_of (callee_from caller.now.number 0 (map raw_def_tree caller.now.callees.now)) (scope.old ++ matched place ∷ []) (no_arms_of value.next) (raw_arm_trees arms.now.items)) (match_form place number (scope.old ++ matched place ∷ []) (form_of value))) }
     ensures kept { OnOk result (scope.new ≡ scope.old) }
 {
-    let size = scope.len();
-    match scope.enter_matched(alloc, place) {
+    match scope.enter_matched(caller.alloc, place) {
         Ok(()) => (),
         Err(_) => return Err(without(value, TypeFault::NoMemory)),
     }
-    match walk_arms(alloc, callees, caller, scope, value.next, arms) {
-        Ok(arms) => match_in(alloc, scope, size, place, number, value, arms),
+    match walk_arms(caller, scope, value.next, arms) {
+        Ok(arms) => match_in(caller.alloc, scope, place, number, value, arms),
         Err(fault) => Err(without(value, fault)),
     }
 }
 
-/// The arms of a `match`.
+// The arms of a `match`.
 #[cycle(walk)]
 fn walk_arms(
-    alloc: Global,
-    callees: &Callees,
-    caller: u32,
+    caller: &Caller,
     scope: &mut Scope,
     next: u32,
     arms: &[RawArm],
 ) -> Result<Arms, TypeFault>
-    ensures gives { Gives arms_of result (walk_arms_of (callee_from caller 0 (map raw_def_tree callees.now)) scope.old (no_arms_of next) (raw_arm_trees arms.now)) }
+    ensures gives { CheckAnswer arms_of result (walk_arms_of (callee_from caller.now.number 0 (map raw_def_tree caller.now.callees.now)) scope.old (no_arms_of next) (raw_arm_trees arms.now)) }
     ensures kept { OnOk result (scope.new ≡ scope.old) }
 {
-    let mut done = build::no_arms(alloc, next);
+    let mut done = build::no_arms(caller.alloc, next);
     for arm in arms {
-        match walk_arm(alloc, callees, caller, scope, done.next, arm) {
-            Ok(body) => done = with_walked(alloc, done, arm, body)?,
+        match walk_arm(caller, scope, done.next, arm) {
+            Ok(body) => done = with_walked(caller.alloc, done, arm, body)?,
             Err(fault) => return Err(without(done, fault)),
         }
     }
     Ok(done)
 }
 
-/// The body of an arm.
+// The body of an arm.
 #[cycle(walk)]
-fn walk_arm(
-    alloc: Global,
-    callees: &Callees,
-    caller: u32,
-    scope: &mut Scope,
-    next: u32,
-    arm: &RawArm,
-) -> Result<Form, TypeFault>
-    ensures gives { Gives form_of result (walk_arm_of (callee_from caller 0 (map raw_def_tree callees.now)) scope.old next (raw_arm_tree arm.now)) }
+fn walk_arm(caller: &Caller, scope: &mut Scope, next: u32, arm: &RawArm) -> Result<Form, TypeFault>
+    ensures gives { CheckAnswer form_of result (walk_arm_of (callee_from caller.now.number 0 (map raw_def_tree caller.now.callees.now)) scope.old next (raw_arm_tree arm.now)) }
     ensures kept { OnOk result (scope.new ≡ scope.old) }
 {
-    walk_body(alloc, callees, caller, scope, next, &arm.parts, &arm.body)
+    walk_body(caller, scope, next, &arm.parts, &arm.body)
 }
 
-/// The body of an arm whose pattern has these variables.
+// The body of an arm whose pattern has these variables.
 #[cycle(walk)]
 #[tactic(auto, using(crate::proofs::WalkSteps::fails_then, crate::proofs::WalkSteps::left_again))]
 fn walk_body(
-    alloc: Global,
-    callees: &Callees,
-    caller: u32,
+    caller: &Caller,
     scope: &mut Scope,
     next: u32,
     parts: &[Part],
     body: &Raw,
 ) -> Result<Form, TypeFault>
-    ensures gives { Gives form_of result (where_none_repeated (repeated_of [] (map (λ x. x.name) parts.now) (map (λ x. x.place) parts.now)) (walk_of (callee_from caller 0 (map raw_def_tree callees.now)) (scope.old ++ variables_of parts.now) (after_arm next parts.now) (raw_tree body.now))) }
+    ensures gives { CheckAnswer form_of result (where_none_repeated (repeated_of [] (map (λ x. x.name) parts.now) (map (λ x. x.place) parts.now)) (walk_of (callee_from caller.now.number 0 (map raw_def_tree caller.now.callees.now)) (scope.old ++ variables_of parts.now) (after_arm next parts.now) (raw_tree body.now))) }
     ensures kept { OnOk result (scope.new ≡ scope.old) }
 {
-    if let Some(later) = repeated_part(alloc, parts)? {
+    if let Some(later) = repeated_part(caller.alloc, parts)? {
         return Err(TypeFault::DuplicateName(later));
     }
     let size = scope.len();
-    scope.enter_parts(alloc, parts)?;
+    scope.enter_parts(caller.alloc, parts)?;
     let next = build::after_arm_number(next, parts)?;
-    let body = walk(alloc, callees, caller, scope, next, body)?;
+    let body = walk(caller, scope, next, body)?;
     scope.leave(size);
     Ok(body)
 }
 
-/// The arms before, and this one with its body.
+// The arms before, and this one with its body.
 fn with_walked(alloc: Global, before: Arms, arm: &RawArm, body: Form) -> Result<Arms, NoMemory>
     ensures { IfOk result (λ arms. arms_of arms ≡ with_walked_of (arms_of before) (raw_arm_tree arm.now) (form_of body)) }
 {
     build::with_arm(alloc, before, &arm.parts, arm.constant, body)
 }
 
-/// The `match` whose value and arms were walked; only the outermost variables, as many as `size`,
-/// stay in scope.
+// The `match` whose value and arms were walked; the value leaves the scope.
 fn match_in(
     alloc: Global,
     scope: &mut Scope,
-    size: usize,
     place: Place,
     number: u32,
     value: Form,
     arms: Arms,
 ) -> Result<Form, TypeFault>
-    ensures gives { Gives form_of result (match_form place number scope.old (form_of value) (arms_of arms)) }
-    ensures left { scope.new ≡ take size scope.old }
+    ensures gives { CheckAnswer form_of result (match_form place number scope.old (form_of value) (arms_of arms)) }
+    ensures left { scope.new ≡ take (length scope.old - 1) scope.old }
 {
     let params = scope.copied(alloc);
-    scope.leave(size);
+    scope.leave_last();
     match params {
         Ok(params) => build::matching(alloc, place, number, params, value, arms),
         Err(_) => Err(without(arms, without(value, TypeFault::NoMemory))),

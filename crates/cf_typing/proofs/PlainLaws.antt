@@ -8,7 +8,8 @@ use Rattle.cf_tree.specs.CodeTree.{CodeTree, code_lit, code_truth, code_var, cod
 use Rattle.cf_tree.specs.Meaning.{count_below}
 use Rattle.cf_tree.specs.Typing.{AreBounds, HasNoSolve, HaveNoSolve, ItemHasNoSolve, ItemsHaveNoSolve}
 use Rattle.cf_typing.specs.Bases.{are_positive, are_bounds, has_no_solve, have_no_solve, item_has_no_solve, items_have_no_solve, is_plain, plain, done}
-use Rattle.cf_typing.proofs.Steps.{IsFound, both, both_true, true_both, true_done}
+use Rattle.cf_typing.proofs.Steps.{IsFound, true_both, true_done}
+use Rattle.cf_tree.proofs.BaseLemmas.{both, both_true}
 
 positive_is : (bs : List ℕ) → are_positive bs ≡ true → All (λ b. 1 ≤ b) bs
 positive_is [] h = All-nil (λ b. 1 ≤ b)

@@ -7,47 +7,12 @@ use Rattle.cf_tree.specs.declared.base.Base.{Base}
 use Rattle.cf_tree.specs.declared.base.Base.TheVariants.{Int, Bool as Truth, Set}
 use Rattle.cf_tree.specs.CodeTree.{CodeTrees, count}
 use Rattle.cf_tree.specs.Typing.{Meets, IsOne, one}
-use Rattle.cf_typing.specs.Bases.{same_base, same_bases, then_found, after_found, where_true, done, single, alone, placed, again, compared, bound, at_least, as_many, divides}
+use Rattle.cf_tree.specs.Bases.{same_base, same_bases}
+use Rattle.cf_tree.proofs.BaseLemmas.{both, both_true, same_base_is, same_base_self, same_bases_is, same_bases_self}
+use Rattle.cf_typing.specs.Bases.{then_found, after_found, where_true, done, single, alone, placed, again, compared, bound, at_least, as_many, divides}
 
 abbrev pub IsFound : {A : Type 0} → Option A → Type 0
 IsFound {A} r = (x : A) × (r ≡ Some x)
-
-pub both : (x y : Bool) → (x && y) ≡ true → (x ≡ true) × (y ≡ true)
-both true y e = (refl, e)
-both false y e = cc
-
-pub both_true : (x y : Bool) → x ≡ true → y ≡ true → (x && y) ≡ true
-both_true x y e f = rw (e, f) refl
-
-pub same_base_is : (b c : Base) → same_base b c ≡ true → b ≡ c
-same_base_is Int Int h = refl
-same_base_is Int Truth h = cc
-same_base_is Int Set h = cc
-same_base_is Truth Int h = cc
-same_base_is Truth Truth h = refl
-same_base_is Truth Set h = cc
-same_base_is Set Int h = cc
-same_base_is Set Truth h = cc
-same_base_is Set Set h = refl
-
-same_base_self : (b : Base) → same_base b b ≡ true
-same_base_self Int = refl
-same_base_self Truth = refl
-same_base_self Set = refl
-
-pub same_bases_is : (bs cs : List Base) → same_bases bs cs ≡ true → bs ≡ cs
-same_bases_is [] [] h = refl
-same_bases_is [] (c ∷ cs) h = cc
-same_bases_is (b ∷ bs) [] h = cc
-same_bases_is (b ∷ bs) (c ∷ cs) h =
-    let p : (same_base b c ≡ true) × (same_bases bs cs ≡ true) = both (same_base b c) (same_bases bs cs) h in
-    let e : b ≡ c = same_base_is b c p.0 in
-    let f : bs ≡ cs = same_bases_is bs cs p.1 in
-    cc
-
-same_bases_self : (bs : List Base) → same_bases bs bs ≡ true
-same_bases_self [] = refl
-same_bases_self (b ∷ bs) = both_true (same_base b b) (same_bases bs bs) (same_base_self b) (same_bases_self bs)
 
 pub after_both : {A B : Type 0} (r : Option A) (s : Option B) (y : B) → after_found r s ≡ Some y → IsFound r × (s ≡ Some y)
 after_both None s y e = cc

@@ -2,26 +2,10 @@
 use Rattle.std.specs.Prelude.{ℕ, ℤ, pos, int_le, nat_le, nat_eq, Bool, true, false, ◌&&◌, List, [], ◌∷◌, ◌++◌, length, map, slice_get, Option, Some, None}
 use Rattle.cf_tree.specs.declared.base.Base.{Base}
 use Rattle.cf_tree.specs.declared.base.Base.TheVariants.{Int, Bool as Truth, Set}
+use Rattle.cf_tree.specs.Bases.{same_base, same_bases}
 use Rattle.cf_tree.specs.CodeTree.{CodeTree, code_lit, code_truth, code_var, code_set_of, code_tuple, code_sum, code_sub, code_mul, code_neg, code_div, code_mod, code_min, code_max, code_compare, code_divides, code_and, code_or, code_not, code_union, code_inter, code_diff, code_subset, code_card, code_slice, code_fresh, code_if, code_let, code_solve, CodeTrees, no_codes, code_more, ItemTree, let_item, need_item, ItemTrees, no_items, item_more, ArmTree, arm_of, ArmTrees, no_arms, arm_more, count}
 use Rattle.cf_tree.specs.Meaning.{count_below}
 use Rattle.cf_tree.specs.Typing.{one, ask, side}
-
-abbrev pub same_base : Base → Base → Bool
-same_base Int Int = true
-same_base Int Truth = false
-same_base Int Set = false
-same_base Truth Int = false
-same_base Truth Truth = true
-same_base Truth Set = false
-same_base Set Int = false
-same_base Set Truth = false
-same_base Set Set = true
-
-abbrev pub same_bases : List Base → List Base → Bool
-same_bases [] [] = true
-same_bases [] (c ∷ cs) = false
-same_bases (b ∷ bs) [] = false
-same_bases (b ∷ bs) (c ∷ cs) = same_base b c && same_bases bs cs
 
 abbrev pub then_found : {A B : Type 0} → Option A → (A → Option B) → Option B
 then_found None go = None

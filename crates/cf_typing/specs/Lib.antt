@@ -1,2 +1,2 @@
 pub mod Bases
-pub mod Tells
+pub mod TypingAnswers

@@ -4,7 +4,7 @@ ghost use Rattle.std.specs.Prelude.{◌≡◌, ◌++◌, ◌<◌, [], Some, None
 ghost use Rattle.cf_tree.specs.CodeView.{code_tree, code_trees, item_tree, item_trees, arm_tree, arm_trees};
 ghost use Rattle.cf_tree.specs.Typing.{one as one_of, ask, side as side_of};
 ghost use Rattle.cf_typing.specs.Bases.{then_found, after_found, single as single_of, again, bound as bound_of, divides as divides_of, at_least, as_many, placed, solved, bases_of, all_have, parts_of, parts_have, items_scope, item_scope, inner_bases, arm_bases, arms_bases, arms_give};
-ghost use Rattle.cf_typing.specs.Tells.{TellsBases, TellsBase, TellsDone, TellsAsked, TellsScope, Extends};
+ghost use Rattle.cf_typing.specs.TypingAnswers.{BasesAnswer, BaseAnswer, DoneAnswer, AskedAnswer, ScopeAnswer, Extends};
 
 use crate::fault::TargetFault;
 use crate::form::{
@@ -15,10 +15,10 @@ use cf_tree::base::{Base, Order};
 use cf_tree::code::{Arm, Code, Item};
 use std::alloc::Global;
 
-/// The bases of a code at a place that asks none, under these bases of the variables in scope.
+// The bases of a code at a place that asks none, under these bases of the variables in scope.
 #[cycle(infer)]
 fn infer(alloc: Global, scope: &mut Vec<Base>, code: &Code) -> Result<Vec<Base>, TargetFault>
-    ensures told { TellsBases result (bases_of (code_tree code.now) scope.old.items None) }
+    ensures told { BasesAnswer result (bases_of (code_tree code.now) scope.old.items None) }
     ensures kept { OnOk result (scope.new.items ≡ scope.old.items) }
 {
     match code {
@@ -98,7 +98,7 @@ pub fn check(
     code: &Code,
     asked: &[Base],
 ) -> Result<(), TargetFault>
-    ensures told { TellsAsked asked.now result (bases_of (code_tree code.now) scope.old.items (Some asked.now)) }
+    ensures told { AskedAnswer asked.now result (bases_of (code_tree code.now) scope.old.items (Some asked.now)) }
     ensures kept { OnOk result (scope.new.items ≡ scope.old.items) }
 {
     match code {
@@ -145,7 +145,7 @@ pub fn check(
     }
 }
 
-/// Whether the bases of a code at a place that asks none are those that are asked.
+// Whether the bases of a code at a place that asks none are those that are asked.
 #[cycle(infer)]
 fn check_found(
     alloc: Global,
@@ -153,14 +153,14 @@ fn check_found(
     code: &Code,
     asked: &[Base],
 ) -> Result<(), TargetFault>
-    ensures told { TellsAsked asked.now result (placed (Some asked.now) (bases_of (code_tree code.now) scope.old.items None)) }
+    ensures told { AskedAnswer asked.now result (placed (Some asked.now) (bases_of (code_tree code.now) scope.old.items None)) }
     ensures kept { OnOk result (scope.new.items ≡ scope.old.items) }
 {
     let bases = infer(alloc, scope, code)?;
     meet(&bases, asked)
 }
 
-/// Whether a code has this one base, which its place asks.
+// Whether a code has this one base, which its place asks.
 #[cycle(infer)]
 fn check_one(
     alloc: Global,
@@ -168,13 +168,13 @@ fn check_one(
     code: &Code,
     base: Base,
 ) -> Result<(), TargetFault>
-    ensures told { TellsAsked (one_of base) result (bases_of (code_tree code.now) scope.old.items (ask base)) }
+    ensures told { AskedAnswer (one_of base) result (bases_of (code_tree code.now) scope.old.items (ask base)) }
     ensures kept { OnOk result (scope.new.items ≡ scope.old.items) }
 {
     check(alloc, scope, code, &[base])
 }
 
-/// The base of a form whose last part is asked for a base.
+// The base of a form whose last part is asked for a base.
 #[cycle(infer)]
 fn infer_last(
     alloc: Global,
@@ -183,14 +183,14 @@ fn infer_last(
     asked: Base,
     base: Base,
 ) -> Result<Vec<Base>, TargetFault>
-    ensures told { TellsBases result (after_found (bases_of (code_tree part.now) scope.old.items (ask asked)) (Some (one_of base))) }
+    ensures told { BasesAnswer result (after_found (bases_of (code_tree part.now) scope.old.items (ask asked)) (Some (one_of base))) }
     ensures kept { OnOk result (scope.new.items ≡ scope.old.items) }
 {
     check_one(alloc, scope, part, asked)?;
     one(alloc, base)
 }
 
-/// The base of a form that divides a number by `k`.
+// The base of a form that divides a number by `k`.
 #[cycle(infer)]
 fn infer_divided(
     alloc: Global,
@@ -199,24 +199,25 @@ fn infer_divided(
     k: &i128,
     base: Base,
 ) -> Result<Vec<Base>, TargetFault>
-    ensures told { TellsBases result (after_found (divides_of k.now) (after_found (bases_of (code_tree part.now) scope.old.items (ask Base.Int)) (Some (one_of base)))) }
+    ensures told { BasesAnswer result (after_found (divides_of k.now) (after_found (bases_of (code_tree part.now) scope.old.items (ask Base.Int)) (Some (one_of base)))) }
     ensures kept { OnOk result (scope.new.items ≡ scope.old.items) }
 {
     divides(k)?;
     infer_last(alloc, scope, part, Base::Int, base)
 }
 
-/// The base of a form that has at least so many parts, each asked for one base.
+// The base of a form that has at least so many parts, each asked for one base.
 #[cycle(infer)]
 fn infer_list(
     alloc: Global,
     scope: &mut Vec<Base>,
+    // for the proof: behind a call that may end early, the measure of a slice would stay open
     parts: &Vec<Code>,
     least: usize,
     asked: Base,
     base: Base,
 ) -> Result<Vec<Base>, TargetFault>
-    ensures told { TellsBases result (after_found (at_least least (code_trees parts.now.items)) (after_found (all_have (code_trees parts.now.items) scope.old.items asked) (Some (one_of base)))) }
+    ensures told { BasesAnswer result (after_found (at_least least (code_trees parts.now.items)) (after_found (all_have (code_trees parts.now.items) scope.old.items asked) (Some (one_of base)))) }
     ensures kept { OnOk result (scope.new.items ≡ scope.old.items) }
 {
     are_at_least(least, parts)?;
@@ -224,7 +225,7 @@ fn infer_list(
     one(alloc, base)
 }
 
-/// Whether all codes have this one base.
+// Whether all codes have this one base.
 #[cycle(infer)]
 fn check_all(
     alloc: Global,
@@ -232,7 +233,7 @@ fn check_all(
     codes: &[Code],
     base: Base,
 ) -> Result<(), TargetFault>
-    ensures told { TellsDone result (all_have (code_trees codes.now) scope.old.items base) }
+    ensures told { DoneAnswer result (all_have (code_trees codes.now) scope.old.items base) }
     ensures kept { OnOk result (scope.new.items ≡ scope.old.items) }
 {
     for i in 0..codes.len() {
@@ -241,28 +242,29 @@ fn check_all(
     Ok(())
 }
 
-/// The bases of a tuple at a place that asks none.
+// The bases of a tuple at a place that asks none.
 #[cycle(infer)]
 fn infer_tuple(
     alloc: Global,
     scope: &mut Vec<Base>,
+    // for the proof: behind a call that may end early, the measure of a slice would stay open
     parts: &Vec<Code>,
 ) -> Result<Vec<Base>, TargetFault>
-    ensures told { TellsBases result (after_found (at_least 2 (code_trees parts.now.items)) (parts_of (code_trees parts.now.items) scope.old.items [])) }
+    ensures told { BasesAnswer result (after_found (at_least 2 (code_trees parts.now.items)) (parts_of (code_trees parts.now.items) scope.old.items [])) }
     ensures kept { OnOk result (scope.new.items ≡ scope.old.items) }
 {
     are_at_least(2, parts)?;
     infer_parts(alloc, scope, parts)
 }
 
-/// The bases of parts, one each.
+// The bases of parts, one each.
 #[cycle(infer)]
 fn infer_parts(
     alloc: Global,
     scope: &mut Vec<Base>,
     parts: &[Code],
 ) -> Result<Vec<Base>, TargetFault>
-    ensures told { TellsBases result (parts_of (code_trees parts.now) scope.old.items []) }
+    ensures told { BasesAnswer result (parts_of (code_trees parts.now) scope.old.items []) }
     ensures kept { OnOk result (scope.new.items ≡ scope.old.items) }
 {
     let mut bases = Vec::new(alloc);
@@ -273,25 +275,26 @@ fn infer_parts(
     Ok(bases)
 }
 
-/// The one base of a code at a place that asks none.
+// The one base of a code at a place that asks none.
 #[cycle(infer)]
 fn infer_one(alloc: Global, scope: &mut Vec<Base>, code: &Code) -> Result<Base, TargetFault>
-    ensures told { TellsBase result (then_found (bases_of (code_tree code.now) scope.old.items None) single_of) }
+    ensures told { BaseAnswer result (then_found (bases_of (code_tree code.now) scope.old.items None) single_of) }
     ensures kept { OnOk result (scope.new.items ≡ scope.old.items) }
 {
     let bases = infer(alloc, scope, code)?;
     single(&bases)
 }
 
-/// Whether a tuple has the bases that its place asks.
+// Whether a tuple has the bases that its place asks.
 #[cycle(infer)]
 fn check_tuple(
     alloc: Global,
     scope: &mut Vec<Base>,
+    // for the proof: behind a call that may end early, the measure of a slice would stay open
     parts: &Vec<Code>,
     asked: &[Base],
 ) -> Result<(), TargetFault>
-    ensures told { TellsAsked asked.now result (after_found (at_least 2 (code_trees parts.now.items)) (after_found (as_many (code_trees parts.now.items) asked.now) (after_found (parts_have (code_trees parts.now.items) scope.old.items asked.now) (Some asked.now)))) }
+    ensures told { AskedAnswer asked.now result (after_found (at_least 2 (code_trees parts.now.items)) (after_found (as_many (code_trees parts.now.items) asked.now) (after_found (parts_have (code_trees parts.now.items) scope.old.items asked.now) (Some asked.now)))) }
     ensures kept { OnOk result (scope.new.items ≡ scope.old.items) }
 {
     are_at_least(2, parts)?;
@@ -300,7 +303,7 @@ fn check_tuple(
     Ok(())
 }
 
-/// Whether parts have these bases, one each.
+// Whether parts have these bases, one each.
 #[cycle(infer)]
 fn check_parts(
     alloc: Global,
@@ -309,7 +312,7 @@ fn check_parts(
     asked: &[Base],
 ) -> Result<(), TargetFault>
     requires { length parts.now ≡ length asked.now }
-    ensures told { TellsDone result (parts_have (code_trees parts.now) scope.old.items asked.now) }
+    ensures told { DoneAnswer result (parts_have (code_trees parts.now) scope.old.items asked.now) }
     ensures kept { OnOk result (scope.new.items ≡ scope.old.items) }
 {
     for i in 0..parts.len() {
@@ -318,7 +321,7 @@ fn check_parts(
     Ok(())
 }
 
-/// The base of a side of a comparison.
+// The base of a side of a comparison.
 #[cycle(infer)]
 fn infer_side(
     alloc: Global,
@@ -326,7 +329,7 @@ fn infer_side(
     order: Order,
     code: &Code,
 ) -> Result<Base, TargetFault>
-    ensures told { TellsBase result (then_found (bases_of (code_tree code.now) scope.old.items (side_of order)) single_of) }
+    ensures told { BaseAnswer result (then_found (bases_of (code_tree code.now) scope.old.items (side_of order)) single_of) }
     ensures kept { OnOk result (scope.new.items ≡ scope.old.items) }
 {
     match order {
@@ -338,7 +341,7 @@ fn infer_side(
     }
 }
 
-/// Whether a code has these bases at a place that asks none.
+// Whether a code has these bases at a place that asks none.
 #[cycle(infer)]
 fn check_again(
     alloc: Global,
@@ -346,14 +349,14 @@ fn check_again(
     code: &Code,
     bases: &[Base],
 ) -> Result<(), TargetFault>
-    ensures told { TellsDone result (again bases.now (bases_of (code_tree code.now) scope.old.items None)) }
+    ensures told { DoneAnswer result (again bases.now (bases_of (code_tree code.now) scope.old.items None)) }
     ensures kept { OnOk result (scope.new.items ≡ scope.old.items) }
 {
     let others = infer(alloc, scope, code)?;
     agree(bases, &others)
 }
 
-/// The bases of the value of a `let` that binds so many variables from this level on.
+// The bases of the value of a `let` that binds so many variables from this level on.
 #[cycle(infer)]
 fn infer_bound(
     alloc: Global,
@@ -362,14 +365,14 @@ fn infer_bound(
     count: u32,
     value: &Code,
 ) -> Result<Vec<Base>, TargetFault>
-    ensures told { TellsBases result (bound_of first count (length scope.old.items) (bases_of (code_tree value.now) scope.old.items None)) }
+    ensures told { BasesAnswer result (bound_of first count (length scope.old.items) (bases_of (code_tree value.now) scope.old.items None)) }
     ensures kept { OnOk result (scope.new.items ≡ scope.old.items) }
 {
     let bases = infer(alloc, scope, value)?;
     bound(scope, first, count, bases)
 }
 
-/// The bases of a code in which variables of these bases are in scope too.
+// The bases of a code in which variables of these bases are in scope too.
 #[cycle(infer)]
 fn infer_inside(
     alloc: Global,
@@ -377,7 +380,7 @@ fn infer_inside(
     vars: &[Base],
     code: &Code,
 ) -> Result<Vec<Base>, TargetFault>
-    ensures told { TellsBases result (bases_of (code_tree code.now) (scope.old.items ++ vars.now) None) }
+    ensures told { BasesAnswer result (bases_of (code_tree code.now) (scope.old.items ++ vars.now) None) }
     ensures kept { OnOk result (scope.new.items ≡ scope.old.items) }
 {
     let size = scope.len();
@@ -387,7 +390,7 @@ fn infer_inside(
     Ok(bases)
 }
 
-/// Whether a code in which variables of these bases are in scope too has the bases that are asked.
+// Whether a code in which variables of these bases are in scope too has the bases that are asked.
 #[cycle(infer)]
 fn check_inside(
     alloc: Global,
@@ -396,7 +399,7 @@ fn check_inside(
     code: &Code,
     asked: &[Base],
 ) -> Result<(), TargetFault>
-    ensures told { TellsAsked asked.now result (bases_of (code_tree code.now) (scope.old.items ++ vars.now) (Some asked.now)) }
+    ensures told { AskedAnswer asked.now result (bases_of (code_tree code.now) (scope.old.items ++ vars.now) (Some asked.now)) }
     ensures kept { OnOk result (scope.new.items ≡ scope.old.items) }
 {
     let size = scope.len();
@@ -406,14 +409,15 @@ fn check_inside(
     Ok(())
 }
 
-/// The bases of a `solve` at a place that asks none.
+// The bases of a `solve` at a place that asks none.
 #[cycle(infer)]
 fn infer_solve(
     alloc: Global,
     scope: &mut Vec<Base>,
+    // for the proof: behind a call that may end early, the measure of a slice would stay open
     arms: &Vec<Arm>,
 ) -> Result<Vec<Base>, TargetFault>
-    ensures told { TellsBases result (solved (arm_trees arms.now.items) None (arms_bases (arm_trees arms.now.items) scope.old.items)) }
+    ensures told { BasesAnswer result (solved (arm_trees arms.now.items) None (arms_bases (arm_trees arms.now.items) scope.old.items)) }
     ensures kept { OnOk result (scope.new.items ≡ scope.old.items) }
 {
     if arms.is_empty() {
@@ -422,15 +426,16 @@ fn infer_solve(
     infer_arms(alloc, scope, arms)
 }
 
-/// Whether a `solve` has the bases that its place asks. Without arms it has them.
+// Whether a `solve` has the bases that its place asks. Without arms it has them.
 #[cycle(infer)]
 fn check_solve(
     alloc: Global,
     scope: &mut Vec<Base>,
+    // for the proof: behind a call that may end early, the measure of a slice would stay open
     arms: &Vec<Arm>,
     asked: &[Base],
 ) -> Result<(), TargetFault>
-    ensures told { TellsAsked asked.now result (solved (arm_trees arms.now.items) (Some asked.now) (arms_bases (arm_trees arms.now.items) scope.old.items)) }
+    ensures told { AskedAnswer asked.now result (solved (arm_trees arms.now.items) (Some asked.now) (arms_bases (arm_trees arms.now.items) scope.old.items)) }
     ensures kept { OnOk result (scope.new.items ≡ scope.old.items) }
 {
     if arms.is_empty() {
@@ -440,11 +445,11 @@ fn check_solve(
     meet(&bases, asked)
 }
 
-/// The bases that all arms give.
+// The bases that all arms give.
 #[cycle(infer)]
 fn infer_arms(alloc: Global, scope: &mut Vec<Base>, arms: &[Arm]) -> Result<Vec<Base>, TargetFault>
     requires { 0 < length arms.now }
-    ensures told { TellsBases result (arms_bases (arm_trees arms.now) scope.old.items) }
+    ensures told { BasesAnswer result (arms_bases (arm_trees arms.now) scope.old.items) }
     ensures kept { OnOk result (scope.new.items ≡ scope.old.items) }
 {
     let bases = infer_arm(alloc, scope, &arms[0])?;
@@ -452,7 +457,7 @@ fn infer_arms(alloc: Global, scope: &mut Vec<Base>, arms: &[Arm]) -> Result<Vec<
     Ok(bases)
 }
 
-/// Whether the arms behind the first give these bases.
+// Whether the arms behind the first give these bases.
 #[cycle(infer)]
 fn check_others(
     alloc: Global,
@@ -461,7 +466,7 @@ fn check_others(
     bases: &[Base],
 ) -> Result<(), TargetFault>
     requires { 0 < length arms.now }
-    ensures told { TellsDone result (arms_give (arm_trees (drop 1 arms.now)) scope.old.items bases.now) }
+    ensures told { DoneAnswer result (arms_give (arm_trees (drop 1 arms.now)) scope.old.items bases.now) }
     ensures kept { OnOk result (scope.new.items ≡ scope.old.items) }
 {
     for i in 1..arms.len() {
@@ -470,7 +475,7 @@ fn check_others(
     Ok(())
 }
 
-/// Whether an arm gives these bases.
+// Whether an arm gives these bases.
 #[cycle(infer)]
 fn check_arm(
     alloc: Global,
@@ -478,17 +483,17 @@ fn check_arm(
     arm: &Arm,
     bases: &[Base],
 ) -> Result<(), TargetFault>
-    ensures told { TellsDone result (again bases.now (arm_bases (arm_tree arm.now) scope.old.items)) }
+    ensures told { DoneAnswer result (again bases.now (arm_bases (arm_tree arm.now) scope.old.items)) }
     ensures kept { OnOk result (scope.new.items ≡ scope.old.items) }
 {
     let others = infer_arm(alloc, scope, arm)?;
     agree(bases, &others)
 }
 
-/// The bases that an arm gives.
+// The bases that an arm gives.
 #[cycle(infer)]
 fn infer_arm(alloc: Global, scope: &mut Vec<Base>, arm: &Arm) -> Result<Vec<Base>, TargetFault>
-    ensures told { TellsBases result (arm_bases (arm_tree arm.now) scope.old.items) }
+    ensures told { BasesAnswer result (arm_bases (arm_tree arm.now) scope.old.items) }
     ensures kept { OnOk result (scope.new.items ≡ scope.old.items) }
 {
     let size = scope.len();
@@ -498,20 +503,20 @@ fn infer_arm(alloc: Global, scope: &mut Vec<Base>, arm: &Arm) -> Result<Vec<Base
     Ok(bases)
 }
 
-/// The bases that an arm gives where its searches are in scope. Its lets stay in scope.
+// The bases that an arm gives where its searches are in scope. Its lets stay in scope.
 #[cycle(infer)]
 fn infer_gives(alloc: Global, scope: &mut Vec<Base>, arm: &Arm) -> Result<Vec<Base>, TargetFault>
-    ensures told { TellsBases result (inner_bases (arm_tree arm.now) scope.old.items) }
+    ensures told { BasesAnswer result (inner_bases (arm_tree arm.now) scope.old.items) }
     ensures kept { OnOk result (Extends scope.old.items scope.new.items) }
 {
     check_items(alloc, scope, &arm.items)?;
     infer_parts(alloc, scope, &arm.gives)
 }
 
-/// Whether the items of an arm are well typed. Their lets come into scope.
+// Whether the items of an arm are well typed. Their lets come into scope.
 #[cycle(infer)]
 fn check_items(alloc: Global, scope: &mut Vec<Base>, items: &[Item]) -> Result<(), TargetFault>
-    ensures told { TellsScope scope.new.items result (items_scope (item_trees items.now) scope.old.items) }
+    ensures told { ScopeAnswer scope.new.items result (items_scope (item_trees items.now) scope.old.items) }
     ensures kept { OnOk result (Extends scope.old.items scope.new.items) }
 {
     for i in 0..items.len() {
@@ -522,7 +527,7 @@ fn check_items(alloc: Global, scope: &mut Vec<Base>, items: &[Item]) -> Result<(
 
 #[cycle(infer)]
 fn check_item(alloc: Global, scope: &mut Vec<Base>, item: &Item) -> Result<(), TargetFault>
-    ensures told { TellsScope scope.new.items result (item_scope (item_tree item.now) scope.old.items) }
+    ensures told { ScopeAnswer scope.new.items result (item_scope (item_tree item.now) scope.old.items) }
     ensures kept { OnOk result (Extends scope.old.items scope.new.items) }
 {
     match item {

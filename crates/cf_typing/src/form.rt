@@ -4,20 +4,20 @@ ghost use Rattle.std.specs.Prelude.{◌≡◌, ◌++◌, Some, length, map, slic
 ghost use Rattle.cf_tree.specs.declared.base.Base.TheVariants.{Int};
 ghost use Rattle.cf_tree.specs.CodeView.{code_tree, code_trees, item_tree, item_trees, arm_tree};
 ghost use Rattle.cf_tree.specs.Typing.{one as one_of};
-ghost use Rattle.cf_typing.specs.Bases.{same_base as same_base_of, same_bases as same_bases_of, alone, single as single_of, placed, where_true as where_true_of, done, compared as compared_of, again, bound as bound_of, at_least, as_many, divides as divides_of, are_bounds as are_bounds_of, has_no_solve as has_no_solve_of, have_no_solve as have_no_solve_of, item_has_no_solve as item_has_no_solve_of, items_have_no_solve as items_have_no_solve_of, is_plain as is_plain_of, plain, searches};
-ghost use Rattle.cf_typing.specs.Tells.{TellsBase, TellsBases, TellsDone, TellsAsked};
+ghost use Rattle.cf_typing.specs.Bases.{alone, single as single_of, placed, where_true as where_true_of, done, compared as compared_of, again, bound as bound_of, at_least, as_many, divides as divides_of, are_bounds as are_bounds_of, has_no_solve as has_no_solve_of, have_no_solve as have_no_solve_of, item_has_no_solve as item_has_no_solve_of, items_have_no_solve as items_have_no_solve_of, is_plain as is_plain_of, plain, searches};
+ghost use Rattle.cf_typing.specs.TypingAnswers.{BaseAnswer, BasesAnswer, DoneAnswer, AskedAnswer};
 
 use crate::fault::TargetFault;
-use cf_tree::base::Base;
+use cf_tree::base::{Base, same_base, same_bases};
 use cf_tree::code::{Arm, Code, Item};
 use std::alloc::Global;
 
-/// The most tuples that may lie below the bounds of an arm.
+// The most tuples that may lie below the bounds of an arm.
 const MOST_TUPLES: u64 = 1_048_576;
 
-/// Nothing where the test holds.
+// Nothing where the test holds.
 fn where_true(holds: bool) -> Result<(), TargetFault>
-    ensures { TellsDone result (where_true_of holds done) }
+    ensures { DoneAnswer result (where_true_of holds done) }
 {
     if holds {
         Ok(())
@@ -28,7 +28,7 @@ fn where_true(holds: bool) -> Result<(), TargetFault>
 
 /// The one base.
 pub fn one(alloc: Global, base: Base) -> Result<Vec<Base>, TargetFault>
-    ensures { TellsBases result (Some (one_of base)) }
+    ensures { BasesAnswer result (Some (one_of base)) }
 {
     let mut bases = Vec::new(alloc);
     bases.push(base)?;
@@ -37,7 +37,7 @@ pub fn one(alloc: Global, base: Base) -> Result<Vec<Base>, TargetFault>
 
 /// The base, where it is alone.
 pub fn single(bases: &[Base]) -> Result<Base, TargetFault>
-    ensures { TellsBase result (single_of bases.now) }
+    ensures { BaseAnswer result (single_of bases.now) }
 {
     match bases {
         [base] => Ok(*base),
@@ -47,7 +47,7 @@ pub fn single(bases: &[Base]) -> Result<Base, TargetFault>
 
 /// The base of the variable at this level.
 pub fn variable(alloc: Global, scope: &[Base], level: u32) -> Result<Vec<Base>, TargetFault>
-    ensures { TellsBases result (alone (slice_get scope.now level)) }
+    ensures { BasesAnswer result (alone (slice_get scope.now level)) }
 {
     match scope.get(level as usize) {
         None => Err(TargetFault::BadTarget),
@@ -57,7 +57,7 @@ pub fn variable(alloc: Global, scope: &[Base], level: u32) -> Result<Vec<Base>, 
 
 /// The base of a comparison whose sides have these bases.
 pub fn compared(alloc: Global, left: Base, right: Base) -> Result<Vec<Base>, TargetFault>
-    ensures { TellsBases result (compared_of (Some left) (Some right)) }
+    ensures { BasesAnswer result (compared_of (Some left) (Some right)) }
 {
     if same_base(left, right) {
         one(alloc, Base::Bool)
@@ -68,7 +68,7 @@ pub fn compared(alloc: Global, left: Base, right: Base) -> Result<Vec<Base>, Tar
 
 /// Whether these bases are those that are asked.
 pub fn meet(bases: &[Base], asked: &[Base]) -> Result<(), TargetFault>
-    ensures { TellsAsked asked.now result (placed (Some asked.now) (Some bases.now)) }
+    ensures { AskedAnswer asked.now result (placed (Some asked.now) (Some bases.now)) }
 {
     if same_bases(bases, asked) {
         Ok(())
@@ -79,7 +79,7 @@ pub fn meet(bases: &[Base], asked: &[Base]) -> Result<(), TargetFault>
 
 /// Whether the others are these bases again.
 pub fn agree(bases: &[Base], others: &[Base]) -> Result<(), TargetFault>
-    ensures { TellsDone result (again bases.now (Some others.now)) }
+    ensures { DoneAnswer result (again bases.now (Some others.now)) }
 {
     where_true(same_bases(bases, others))
 }
@@ -91,7 +91,7 @@ pub fn bound(
     count: u32,
     bases: Vec<Base>,
 ) -> Result<Vec<Base>, TargetFault>
-    ensures { TellsBases result (bound_of first count (length scope.now) (Some bases.items)) }
+    ensures { BasesAnswer result (bound_of first count (length scope.now) (Some bases.items)) }
 {
     if first as usize == scope.len() && count as usize == bases.len() {
         Ok(bases)
@@ -102,14 +102,14 @@ pub fn bound(
 
 /// Whether there are at least so many parts.
 pub fn are_at_least(least: usize, parts: &[Code]) -> Result<(), TargetFault>
-    ensures { TellsDone result (at_least least (code_trees parts.now)) }
+    ensures { DoneAnswer result (at_least least (code_trees parts.now)) }
 {
     where_true(least <= parts.len())
 }
 
 /// Whether there are as many parts as bases.
 pub fn are_as_many(parts: &[Code], bases: &[Base]) -> Result<(), TargetFault>
-    ensures told { TellsDone result (as_many (code_trees parts.now) bases.now) }
+    ensures told { DoneAnswer result (as_many (code_trees parts.now) bases.now) }
     ensures many { OnOk result (length parts.now ≡ length bases.now) }
 {
     where_true(parts.len() == bases.len())
@@ -117,7 +117,7 @@ pub fn are_as_many(parts: &[Code], bases: &[Base]) -> Result<(), TargetFault>
 
 /// Whether a number may divide.
 pub fn divides(k: &i128) -> Result<(), TargetFault>
-    ensures { TellsDone result (divides_of k.now) }
+    ensures { DoneAnswer result (divides_of k.now) }
 {
     where_true(*k >= 1)
 }
@@ -125,14 +125,14 @@ pub fn divides(k: &i128) -> Result<(), TargetFault>
 /// Brings the searches of an arm into scope, where few tuples lie below its bounds and no solve
 /// stands inside it.
 pub fn push_searches(scope: &mut Vec<Base>, arm: &Arm) -> Result<(), TargetFault>
-    ensures told { TellsDone result (plain (arm_tree arm.now)) }
+    ensures told { DoneAnswer result (plain (arm_tree arm.now)) }
     ensures pushed { OnOk result (scope.new.items ≡ scope.old.items ++ searches (arm_tree arm.now)) }
 {
     where_true(is_plain(arm))?;
     push_numbers(scope, &arm.bounds)
 }
 
-/// Brings a number into scope for each bound.
+// Brings a number into scope for each bound.
 fn push_numbers(scope: &mut Vec<Base>, bounds: &[u32]) -> Result<(), TargetFault>
     ensures pushed { OnOk result (scope.new.items ≡ scope.old.items ++ map (λ _. Int) bounds.now) }
     ensures err { IfErr result (λ e. e ≡ TargetFault.NoMemory) }
@@ -143,51 +143,7 @@ fn push_numbers(scope: &mut Vec<Base>, bounds: &[u32]) -> Result<(), TargetFault
     Ok(())
 }
 
-/// Whether two bases are the same.
-fn same_base(a: Base, b: Base) -> bool
-    ensures { result ≡ same_base_of a b }
-{
-    match a {
-        Base::Int => match b {
-            Base::Int => true,
-            Base::Bool => false,
-            Base::Set => false,
-        },
-        Base::Bool => match b {
-            Base::Int => false,
-            Base::Bool => true,
-            Base::Set => false,
-        },
-        Base::Set => match b {
-            Base::Int => false,
-            Base::Bool => false,
-            Base::Set => true,
-        },
-    }
-}
-
-/// Whether two lists of bases are the same.
-fn same_bases(a: &[Base], b: &[Base]) -> bool
-    ensures { result ≡ same_bases_of a.now b.now }
-{
-    let mut left = a;
-    let mut right = b;
-    while let Some((x, more)) = left.split_first() {
-        match right.split_first() {
-            None => return false,
-            Some((y, rest)) => {
-                if !same_base(*x, *y) {
-                    return false;
-                }
-                left = more;
-                right = rest;
-            }
-        }
-    }
-    right.is_empty()
-}
-
-/// Whether each bound is at least 1, and few tuples lie below them.
+// Whether each bound is at least 1, and few tuples lie below them.
 fn are_bounds(bounds: &[u32]) -> bool
     ensures { result ≡ are_bounds_of bounds.now }
 {
@@ -201,7 +157,7 @@ fn are_bounds(bounds: &[u32]) -> bool
     tuples <= MOST_TUPLES
 }
 
-/// Whether an arm may be tried: few tuples lie below its bounds, and no solve stands inside.
+// Whether an arm may be tried: few tuples lie below its bounds, and no solve stands inside.
 fn is_plain(arm: &Arm) -> bool
     ensures { result ≡ is_plain_of (arm_tree arm.now) }
 {

@@ -1,5 +1,5 @@
 use Rattle.std.proofs.Common.{◌≡◌, map, drop}
-use Rattle.cf_type.specs.Walk.{all_have}
+use Rattle.cf_program.specs.Walk.{all_have}
 use Rattle.cf_type.proofs.bases.all_have.Given as goal
 
 abbrev pub invariant-loop-other : goal.invariant-loop-other

@@ -1,6 +1,6 @@
 use Rattle.std.proofs.Common.{◌≡◌, map, length}
-use Rattle.cf_type.specs.Names.{bases_of}
-use Rattle.cf_type.specs.Walk.{are_asked}
+use Rattle.cf_program.specs.Names.{bases_of}
+use Rattle.cf_program.specs.Walk.{are_asked}
 use Rattle.cf_type.proofs.bases.are_asked.Given as goal
 
 abbrev pub invariant-loop-bases : goal.invariant-loop-bases

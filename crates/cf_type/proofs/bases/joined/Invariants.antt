@@ -1,5 +1,5 @@
 use Rattle.std.proofs.Common.{◌≡◌, ◌++◌, map, drop}
-use Rattle.cf_type.specs.Walk.{joined}
+use Rattle.cf_program.specs.Walk.{joined}
 use Rattle.cf_type.proofs.bases.joined.Given as goal
 
 abbrev pub invariant-loop-bases : goal.invariant-loop-bases

@@ -1,9 +1,9 @@
 use Rattle.std.proofs.Common.{rules, ◌≡◌, [], map, Ok, Some, None}
 use Rattle.cf_tree.specs.DefView.{program_tree, def_tree}
-use Rattle.cf_type.specs.Checked.{walk_defs, main_from, size_fault}
-use Rattle.cf_type.specs.Size.{weights, depths}
-use Rattle.cf_type.specs.declared.fault.TypeFault.TheVariants.{Weight, Depth}
-use Rattle.cf_type.proofs.ProgramLaws.{is_typed}
+use Rattle.cf_program.specs.Checked.{walk_defs, main_from, size_fault}
+use Rattle.cf_program.specs.Size.{weights, depths}
+use Rattle.cf_program.specs.declared.fault.TypeFault.TheVariants.{Weight, Depth}
+use Rattle.cf_program.proofs.ProgramLaws.{is_typed}
 use Rattle.cf_type.proofs.check.check.Goals as goal
 
 pub new-requires : goal.new-requires

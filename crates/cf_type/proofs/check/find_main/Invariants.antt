@@ -1,6 +1,6 @@
 use Rattle.std.proofs.Common.{◌≡◌, map, drop}
 use Rattle.cf_tree.specs.DefView.{raw_def_tree}
-use Rattle.cf_type.specs.Checked.{main_from}
+use Rattle.cf_program.specs.Checked.{main_from}
 use Rattle.cf_type.proofs.check.find_main.Given as goal
 
 abbrev pub invariant-loop-i : goal.invariant-loop-i

@@ -1,5 +1,5 @@
 use Rattle.std.proofs.Common.{◌≡◌, drop}
-use Rattle.cf_type.specs.Walk.{output_fault}
+use Rattle.cf_program.specs.Walk.{output_fault}
 use Rattle.cf_type.proofs.names.output_fault_behind.Given as goal
 
 abbrev pub invariant-loop-output : goal.invariant-loop-output

@@ -1,5 +1,5 @@
 use Rattle.std.proofs.Common.{◌≡◌, drop}
-use Rattle.cf_type.specs.Names.{repeated}
+use Rattle.cf_program.specs.Names.{repeated}
 use Rattle.cf_type.proofs.names.repeated_behind.Given as goal
 
 abbrev pub invariant-loop-name : goal.invariant-loop-name

@@ -1,7 +1,7 @@
 use Rattle.std.proofs.Common.{rules, ◌≡◌, ◌++◌, ◌∷◌, [], arith}
 use Rattle.cf_type.specs.Counted.{depth_of}
-use Rattle.cf_type.specs.declared.fault.TypeFault.TheVariants.{Depth}
-use Rattle.cf_type.specs.Size.{depth_in}
+use Rattle.cf_program.specs.declared.fault.TypeFault.TheVariants.{Depth}
+use Rattle.cf_program.specs.Size.{depth_in}
 use Rattle.cf_type.proofs.CountedLaws.{depth_lowered}
 use Rattle.cf_type.proofs.SizeLemmas.{measured_goes_on, measured_passes}
 use Rattle.cf_type.proofs.size.depth_fault.Goals as goal

@@ -1,7 +1,7 @@
 use Rattle.std.proofs.Common.{rules, ◌≡◌, ◌++◌, ◌∷◌, [], arith}
 use Rattle.cf_type.specs.Counted.{weight_of}
-use Rattle.cf_type.specs.declared.fault.TypeFault.TheVariants.{Weight}
-use Rattle.cf_type.specs.Size.{weight_in}
+use Rattle.cf_program.specs.declared.fault.TypeFault.TheVariants.{Weight}
+use Rattle.cf_program.specs.Size.{weight_in}
 use Rattle.cf_type.proofs.CountedLaws.{weight_lowered}
 use Rattle.cf_type.proofs.SizeLemmas.{measured_goes_on, measured_passes}
 use Rattle.cf_type.proofs.size.weight_fault.Goals as goal

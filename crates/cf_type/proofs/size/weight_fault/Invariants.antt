@@ -1,8 +1,8 @@
 use Rattle.std.proofs.Common.{◌≡◌, map, drop}
 use Rattle.cf_tree.specs.DefView.{def_tree}
-use Rattle.cf_type.specs.Checked.{size_fault}
-use Rattle.cf_type.specs.declared.fault.TypeFault.TheVariants.{Weight}
-use Rattle.cf_type.specs.Size.{measured, weight_in, weights}
+use Rattle.cf_program.specs.Checked.{size_fault}
+use Rattle.cf_program.specs.declared.fault.TypeFault.TheVariants.{Weight}
+use Rattle.cf_program.specs.Size.{measured, weight_in, weights}
 use Rattle.cf_type.proofs.size.weight_fault.Given as goal
 
 abbrev pub invariant-loop-def : goal.invariant-loop-def

@@ -2,8 +2,8 @@ use Rattle.std.proofs.Common.{◌≡◌, ◌+◌, ◌∷◌, map, drop, sym, ap,
 use Rattle.std.proofs.lemmas.List.{drop_more}
 use Rattle.cf_tree.specs.DefView.{raw_def_tree}
 use Rattle.cf_type.specs.FormView.{form_of}
-use Rattle.cf_type.specs.Gives.{Gives}
-use Rattle.cf_type.specs.Names.{callee_from}
+use Rattle.cf_program.specs.CheckAnswers.{CheckAnswer}
+use Rattle.cf_program.specs.Names.{callee_from}
 use Rattle.cf_type.proofs.WalkSteps.{arm_body, arms_fail, arms_next}
 use Rattle.cf_type.proofs.walk.+walk.Goals as goal
 
@@ -28,5 +28,5 @@ walk_arms-loop-arm-preserved t c =
 
 pub walk_arm-returns-clause-gives : goal.walk_arm-returns-clause-gives
 walk_arm-returns-clause-gives t c =
-    let calls = callee_from c.args.caller 0 (map raw_def_tree c.args.callees.now) in
-    subst (λ r. Gives form_of c.walk_body.result r) (sym (arm_body calls c.args.scope.now c.args.next c.args.arm.now c.deref.result.now c.deref.ensures.value)) c.walk_body.ensures.gives
+    let calls = callee_from c.args.caller.now.number 0 (map raw_def_tree c.args.caller.now.callees.now) in
+    subst (λ r. CheckAnswer form_of c.walk_body.result r) (sym (arm_body calls c.args.scope.now c.args.next c.args.arm.now c.deref.result.now c.deref.ensures.value)) c.walk_body.ensures.gives

@@ -1,7 +1,7 @@
 use Rattle.std.proofs.Common.{◌≡◌, drop, []}
 use Rattle.cf_tree.specs.CodeView.{code_trees, item_trees, arm_trees}
 use Rattle.cf_typing.specs.Bases.{all_have, parts_of, parts_have, items_scope, arms_give}
-use Rattle.cf_typing.specs.Tells.{Extends}
+use Rattle.cf_typing.specs.TypingAnswers.{Extends}
 use Rattle.cf_typing.proofs.bases.+infer.Given as goal
 
 abbrev pub invariant-check_all-loop-i : goal.invariant-check_all-loop-i

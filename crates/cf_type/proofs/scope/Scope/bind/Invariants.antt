@@ -1,5 +1,5 @@
 use Rattle.std.proofs.Common.{◌≡◌, ◌++◌, drop}
-use Rattle.cf_type.specs.Walk.{bound}
+use Rattle.cf_program.specs.Walk.{bound}
 use Rattle.cf_type.proofs.scope.Scope.bind.Given as goal
 
 abbrev pub invariant-loop-name : goal.invariant-loop-name

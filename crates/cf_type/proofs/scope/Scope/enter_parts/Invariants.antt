@@ -1,5 +1,5 @@
 use Rattle.std.proofs.Common.{◌≡◌, ◌++◌, drop}
-use Rattle.cf_type.specs.Walk.{variables_of}
+use Rattle.cf_program.specs.Walk.{variables_of}
 use Rattle.cf_type.proofs.scope.Scope.enter_parts.Given as goal
 
 abbrev pub invariant-loop-part : goal.invariant-loop-part

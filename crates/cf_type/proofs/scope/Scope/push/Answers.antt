@@ -1,5 +1,5 @@
 use Rattle.std.proofs.Common.{◌≡◌, ◌++◌, ◌∷◌, [], length, map, ap, ◌∙◌, rules}
-use Rattle.cf_type.specs.Names.{variable_of}
+use Rattle.cf_program.specs.Names.{variable_of}
 use Rattle.cf_type.specs.declared.scope.Binding.{Binding}
 use Rattle.cf_type.proofs.ScopedLemmas.{scope_pushed}
 use Rattle.cf_type.proofs.scope.Scope.push.Goals as goal

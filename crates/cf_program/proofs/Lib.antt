@@ -1,0 +1,9 @@
+mod BaseLaws
+pub mod Kept
+mod LoweredExamples
+mod NameLaws
+pub mod ProgramLaws
+mod ReadsLaws
+mod Rising
+mod RuleExamples
+mod WalkLaws

@@ -1,0 +1,12 @@
+pub mod Checked
+pub mod DistinctNames
+pub mod CheckAnswers
+pub mod Laws
+pub mod Lowered
+pub mod Names
+pub mod Reading
+pub mod Size
+pub mod Source
+pub mod Typed
+pub mod TypedProgram
+pub mod Walk

@@ -1,0 +1,142 @@
+-- What every program keeps in which no rule is broken, as a fact about its functions with levels.
+use Rattle.std.specs.Prelude.{ℕ, ℤ, ◌≤◌, ◌≡◌, ◌==◌, nat_eq, List, [], ◌∷◌, ◌++◌, length, map, reverse, slice_get, codes, Option, Some, None, All, MatchBool}
+use Rattle.std.specs.List.{IsDistinct}
+use Rattle.cf_num.specs.Limit.{IsWithin}
+use Rattle.cf_tree.specs.declared.base.Base.{Base}
+use Rattle.cf_tree.specs.declared.base.Base.TheVariants.{Int, Bool as Truth, Set}
+use Rattle.cf_tree.specs.DefView.{DefTree}
+use Rattle.cf_tree.specs.ExprTree.{ExprTree, expr_lit, expr_truth, expr_var, expr_set_of, expr_tuple, expr_neg, expr_not, expr_abs, expr_binary, expr_divides, expr_div, expr_mod, expr_card, expr_if, expr_call, expr_let, expr_choose, expr_match, ExprTrees, no_exprs, expr_more, match_arm, MatchArmTrees, no_match_arms, match_arm_more}
+use Rattle.cf_tree.specs.Relation.{IsDivisor, IsTyped, IsLinear}
+use Rattle.cf_program.specs.DistinctNames.{AreDistinct}
+use Rattle.cf_program.specs.Names.{bases_of, names_of}
+use Rattle.cf_program.specs.Size.{weights, depths}
+use Rattle.cf_program.specs.Walk.{side_of, result_of}
+use Rattle.cf_tree.specs.Typing.{one}
+
+-- both sides have the base that is asked, or where none is asked, one and the same
+abbrev pub AreSides : Option Base → (Base → Type 0) → (Base → Type 0) → Type 0
+AreSides (Some b) left right = left b × right b
+AreSides None left right = (b : Base) × left b × right b
+
+abbrev pub IsOutput : Base → Type 0
+IsOutput Int = Unit {0}
+IsOutput Truth = ⊥
+IsOutput Set = Unit {0}
+
+-- the number of an arm is 0 where it has no variables, and else at least 1
+abbrev pub IsArmNumber : ℕ → List ℤ → Type 0
+IsArmNumber m [] = m ≡ 0
+IsArmNumber m (f ∷ factors) = 1 ≤ m
+
+abbrev pub HasArms : MatchArmTrees → Type 0
+HasArms no_match_arms = ⊥
+HasArms (match_arm_more arm arms) = Unit {0}
+
+abbrev mutual
+  -- an expression has these bases, where `calls` says which bases a function takes and gives, and the scope has the bases of the variables by level
+  pub ExprHasBases : (ℕ → List Base → List Base → Type 0) → ExprTree → List Base → List Base → Type 0
+  ExprHasBases calls (expr_lit k) scope bs = IsWithin k × (bs ≡ one Int)
+  ExprHasBases calls (expr_truth t) scope bs = bs ≡ one Truth
+  ExprHasBases calls (expr_var x) scope bs = (b : Base) × (slice_get scope x ≡ Some b) × (bs ≡ one b)
+  ExprHasBases calls (expr_set_of es) scope bs = AllHave calls es scope Int × (bs ≡ one Set)
+  ExprHasBases calls (expr_tuple es) scope bs = (2 ≤ length bs) × PartsHave calls es scope bs
+  ExprHasBases calls (expr_neg a) scope bs = ExprHasBases calls a scope (one Int) × (bs ≡ one Int)
+  ExprHasBases calls (expr_not a) scope bs = ExprHasBases calls a scope (one Truth) × (bs ≡ one Truth)
+  ExprHasBases calls (expr_abs a) scope bs = ExprHasBases calls a scope (one Int) × (bs ≡ one Int)
+  ExprHasBases calls (expr_binary op a b) scope bs =
+      AreSides (side_of op) (λ c. ExprHasBases calls a scope (one c)) (λ c. ExprHasBases calls b scope (one c)) × (bs ≡ one (result_of op))
+  ExprHasBases calls (expr_divides k a) scope bs = IsDivisor k × ExprHasBases calls a scope (one Int) × (bs ≡ one Truth)
+  ExprHasBases calls (expr_div a k) scope bs = IsDivisor k × ExprHasBases calls a scope (one Int) × (bs ≡ one Int)
+  ExprHasBases calls (expr_mod a k) scope bs = IsDivisor k × ExprHasBases calls a scope (one Int) × (bs ≡ one Int)
+  ExprHasBases calls (expr_card a) scope bs = ExprHasBases calls a scope (one Set) × (bs ≡ one Int)
+  ExprHasBases calls (expr_if t a b) scope bs = ExprHasBases calls t scope (one Truth) × ExprHasBases calls a scope bs × ExprHasBases calls b scope bs
+  ExprHasBases calls (expr_call f es) scope bs = (params : List Base) × calls f params bs × PartsHave calls es scope params
+  ExprHasBases calls (expr_let n a b) scope bs =
+      (vs : List Base) × ExprHasBases calls a scope vs × (n ≡ length vs) × (1 ≤ n) × ExprHasBases calls b (scope ++ vs) bs
+  ExprHasBases calls (expr_choose n params outputs rel) scope bs =
+      (bases_of params ≡ scope) × (1 ≤ length outputs) × All IsOutput outputs × IsTyped (scope ++ outputs) rel × IsLinear rel × (bs ≡ outputs)
+  ExprHasBases calls (expr_match n params a arms) scope bs =
+      (bases_of params ≡ scope ++ one Int) × ExprHasBases calls a scope (one Int) × HasArms arms × ArmsHave calls arms (scope ++ one Int) bs
+
+  -- all have this one base
+  pub AllHave : (ℕ → List Base → List Base → Type 0) → ExprTrees → List Base → Base → Type 0
+  AllHave calls no_exprs scope b = Unit {0}
+  AllHave calls (expr_more e es) scope b = ExprHasBases calls e scope (one b) × AllHave calls es scope b
+
+  -- they have one base each, in order
+  pub PartsHave : (ℕ → List Base → List Base → Type 0) → ExprTrees → List Base → List Base → Type 0
+  PartsHave calls no_exprs scope bs = bs ≡ []
+  PartsHave calls (expr_more e es) scope bs =
+      (b : Base) × (rest : List Base) × (bs ≡ b ∷ rest) × ExprHasBases calls e scope (one b) × PartsHave calls es scope rest
+
+  -- the bodies of all arms have these bases, each with the variables of its pattern, which are numbers
+  pub ArmsHave : (ℕ → List Base → List Base → Type 0) → MatchArmTrees → List Base → List Base → Type 0
+  ArmsHave calls no_match_arms scope bs = Unit {0}
+  ArmsHave calls (match_arm_more (match_arm m factors k body) arms) scope bs =
+      IsArmNumber m factors × All IsWithin factors × IsWithin k × ExprHasBases calls body (scope ++ map (λ _. Int) factors) bs
+      × ArmsHave calls arms scope bs
+
+-- an arm has a number of its own where it has variables
+abbrev pub arm_numbers : ℕ → List ℤ → List ℕ
+arm_numbers m [] = []
+arm_numbers m (f ∷ factors) = m ∷ []
+
+-- the numbers of the chooses, of the matches and of their arms with variables
+abbrev mutual
+  pub numbers : ExprTree → List ℕ
+  numbers (expr_lit k) = []
+  numbers (expr_truth t) = []
+  numbers (expr_var x) = []
+  numbers (expr_set_of es) = numbers_all es
+  numbers (expr_tuple es) = numbers_all es
+  numbers (expr_neg a) = numbers a
+  numbers (expr_not a) = numbers a
+  numbers (expr_abs a) = numbers a
+  numbers (expr_binary op a b) = numbers a ++ numbers b
+  numbers (expr_divides k a) = numbers a
+  numbers (expr_div a k) = numbers a
+  numbers (expr_mod a k) = numbers a
+  numbers (expr_card a) = numbers a
+  numbers (expr_if t a b) = numbers t ++ numbers a ++ numbers b
+  numbers (expr_call f es) = numbers_all es
+  numbers (expr_let n a b) = numbers a ++ numbers b
+  numbers (expr_choose n params outputs rel) = n ∷ []
+  numbers (expr_match n params a arms) = n ∷ numbers a ++ numbers_arms arms
+
+  pub numbers_all : ExprTrees → List ℕ
+  numbers_all no_exprs = []
+  numbers_all (expr_more e es) = numbers e ++ numbers_all es
+
+  pub numbers_arms : MatchArmTrees → List ℕ
+  numbers_arms no_match_arms = []
+  numbers_arms (match_arm_more (match_arm m factors k body) arms) = arm_numbers m factors ++ numbers body ++ numbers_arms arms
+
+abbrev pub all_numbers : List DefTree → List ℕ
+all_numbers [] = []
+all_numbers (d ∷ ds) = numbers d.body ++ all_numbers ds
+
+-- function number f takes and gives these bases, where the functions stand last first
+abbrev pub Takes : List DefTree → ℕ → List Base → List Base → Type 0
+Takes [] f params results = ⊥
+Takes (d ∷ earlier) f params results =
+    MatchBool (f == length earlier) ((params ≡ bases_of d.params) × (results ≡ d.results)) (Takes earlier f params results)
+
+-- a function whose body has its results, and calls only these earlier functions
+abbrev pub IsTypedDef : List DefTree → DefTree → Type 0
+IsTypedDef earlier d = (1 ≤ length d.results) × ExprHasBases (Takes earlier) d.body (bases_of d.params) d.results
+
+-- functions that stand last first
+abbrev pub AreTypedDefs : List DefTree → Type 0
+AreTypedDefs [] = Unit {0}
+AreTypedDefs (d ∷ earlier) = IsTypedDef earlier d × AreTypedDefs earlier
+
+-- functions in the order of the text, with the number of `main`
+pub record IsTypedProgram (defs : List DefTree) (main : ℕ) : Type 0 where
+  pub typed : AreTypedDefs (reverse defs)
+  pub functions : AreDistinct (map (λ d. d.name) defs)
+  pub params : All (λ d. AreDistinct (names_of d.params)) defs
+  pub has_main : (d : DefTree) × (slice_get defs main ≡ Some d) × (d.name ≡ codes "main")
+  pub distinct : IsDistinct nat_eq (all_numbers defs)
+  pub positive : All (λ n. 1 ≤ n) (all_numbers defs)
+  pub light : All (λ n. n ≤ 1000000) (weights defs)
+  pub shallow : All (λ n. n ≤ 200) (depths defs)

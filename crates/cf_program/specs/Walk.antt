@@ -1,0 +1,312 @@
+-- The walk through an expression in the order of its text: what it stands for, or the first rule that is broken.
+--
+-- Parts come before the whole, from left to right. Where one form breaks several rules at once, the first test below that fails decides.
+use Rattle.std.specs.Prelude.{ℕ, ℤ, ◌+◌, Bool, true, false, ◌&&◌, ◌==◌, List, [], ◌∷◌, ◌++◌, length, map, codes, Option, Some, None, Result, Ok, Err, if◌then◌else◌}
+use Rattle.cf_tree.specs.declared.base.Base.{Base}
+use Rattle.cf_tree.specs.declared.base.Base.TheVariants.{Int, Bool as Truth, Set}
+use Rattle.cf_tree.specs.declared.base.Order.TheVariants.{Eq, Ne, Lt, Le, Gt, Ge}
+use Rattle.cf_tree.specs.declared.base.Place.{Place}
+use Rattle.cf_tree.specs.declared.raw.BinOp.{BinOp}
+use Rattle.cf_tree.specs.declared.raw.BinOp.TheVariants.{Add, Sub, Mul, And, Or, Union, Inter, Diff, Subset, Compare}
+use Rattle.cf_tree.specs.declared.raw.Param.{Param}
+use Rattle.cf_tree.specs.declared.raw.Part.{Part}
+use Rattle.cf_tree.specs.Bases.{same_bases}
+use Rattle.cf_tree.specs.Typing.{one}
+use Rattle.cf_tree.specs.ExprTree.{ExprTree, expr_lit, expr_truth, expr_var, expr_set_of, expr_tuple, expr_neg, expr_not, expr_abs, expr_binary, expr_divides, expr_div, expr_mod, expr_card, expr_if, expr_call, expr_let, expr_choose, expr_match, exprs_of, MatchArmTree, match_arm, match_arms_of}
+use Rattle.cf_tree.specs.RawTree.{RawTree, raw_lit, raw_truth, raw_name, raw_set_of, raw_group, raw_tuple, raw_neg, raw_not, raw_abs, raw_binary, raw_divides, raw_div, raw_mod, raw_card, raw_call, raw_if, raw_let, raw_choose, raw_match, RawTrees, no_raws, raw_more, RawArmTree, raw_arm, RawArmTrees, no_raw_arms, raw_arm_more}
+use Rattle.cf_tree.specs.RelTree.{term_lit, term_card, term_neg, term_div, term_mod, term_abs, empty_set, RelTree, rel_divides, rel_not}
+use Rattle.cf_program.specs.declared.fault.TypeFault.{TypeFault}
+use Rattle.cf_program.specs.declared.fault.TypeFault.TheVariants.{UnknownName, DuplicateName, WrongCount, Mismatch, CallsLater, NotLinear}
+use Rattle.cf_program.specs.declared.variable.Variable.{Variable}
+use Rattle.cf_program.specs.Names.{variable_of, Callee, bases_of, is_among, repeated}
+use Rattle.cf_program.specs.Reading.{Reading, relation, term, set, not_linear, first_nonlinear, earlier_nonlinear, not_linear_at, on_relation, on_term, on_set, truth_reading, variable_reading, binary_reading}
+
+infixl 10 ◌>>=◌
+abbrev pub ◌>>=◌ : {A B : Type 0} → Result A TypeFault → (A → Result B TypeFault) → Result B TypeFault
+(Ok x) >>= f = f x
+(Err e) >>= f = Err e
+
+-- goes on where a rule is kept
+abbrev pub where_kept : {A : Type 0} → Bool → TypeFault → Result A TypeFault → Result A TypeFault
+where_kept true fault go = go
+where_kept false fault go = Err fault
+
+abbrev pub where_no_fault : {A : Type 0} → Option TypeFault → Result A TypeFault → Result A TypeFault
+where_no_fault (Some fault) go = Err fault
+where_no_fault None go = go
+
+-- goes on where no name is repeated
+abbrev pub where_none_repeated : {A : Type 0} → Option Place → Result A TypeFault → Result A TypeFault
+where_none_repeated (Some p) go = Err (DuplicateName p)
+where_none_repeated None go = go
+
+-- an expression: the bases of its parts, its tree with levels, what it is as a part of a relation, and the next number of a choose
+pub record Form : Type 0 where
+  pub bases : List Base
+  pub tree : ExprTree
+  pub reading : Reading
+  pub next : ℕ
+
+abbrev pub form : List Base → ExprTree → Reading → ℕ → Result Form TypeFault
+form bases tree reading next = Ok (record { bases = bases; tree = tree; reading = reading; next = next })
+
+-- expressions in a row: the bases of each, their trees, where the first form stands that is not linear, and the next number
+pub record Forms : Type 0 where
+  pub bases : List (List Base)
+  pub trees : List ExprTree
+  pub first_nonlinear : Option Place
+  pub next : ℕ
+
+abbrev pub no_forms : ℕ → Forms
+no_forms n = record { bases = []; trees = []; first_nonlinear = None; next = n }
+
+abbrev pub with_form : Forms → Form → Forms
+with_form es f =
+    record {
+      bases = es.bases ++ f.bases ∷ [];
+      trees = es.trees ++ f.tree ∷ [];
+      first_nonlinear = earlier_nonlinear es.first_nonlinear (first_nonlinear f.reading);
+      next = f.next;
+    }
+
+-- the arms of a match: the bases of each body, their trees, where the first form stands that is not linear, and the next number
+pub record Arms : Type 0 where
+  pub bases : List (List Base)
+  pub trees : List MatchArmTree
+  pub first_nonlinear : Option Place
+  pub next : ℕ
+
+abbrev pub no_arms : ℕ → Arms
+no_arms n = record { bases = []; trees = []; first_nonlinear = None; next = n }
+
+abbrev pub is_one : Base → List Base → Bool
+is_one b bs = same_bases bs (one b)
+
+-- whether each of several expressions has this one base
+abbrev pub all_are : Base → List (List Base) → Bool
+all_are b [] = true
+all_are b (bs ∷ more) = is_one b bs && all_are b more
+
+-- whether each has one base
+abbrev pub all_are_single : List (List Base) → Bool
+all_are_single [] = true
+all_are_single (bs ∷ more) = (length bs == 1) && all_are_single more
+
+-- whether each has the one base that is asked of it
+abbrev pub are_asked : List (List Base) → List Base → Bool
+are_asked [] [] = true
+are_asked [] (b ∷ asked) = false
+are_asked (bs ∷ more) [] = false
+are_asked (bs ∷ more) (b ∷ asked) = is_one b bs && are_asked more asked
+
+-- whether each has these bases
+abbrev pub all_have : List Base → List (List Base) → Bool
+all_have bs [] = true
+all_have bs (cs ∷ more) = same_bases cs bs && all_have bs more
+
+abbrev pub all_same : List (List Base) → Bool
+all_same [] = true
+all_same (bs ∷ more) = all_have bs more
+
+abbrev pub joined : List (List Base) → List Base
+joined [] = []
+joined (bs ∷ more) = bs ++ joined more
+
+abbrev pub first_of : List (List Base) → List Base
+first_of [] = []
+first_of (bs ∷ more) = bs
+
+-- the one base that an operation asks of both sides; == and != ask that both have the same one base
+abbrev pub side_of : BinOp → Option Base
+side_of Add = Some Int
+side_of Sub = Some Int
+side_of Mul = Some Int
+side_of And = Some Truth
+side_of Or = Some Truth
+side_of Union = Some Set
+side_of Inter = Some Set
+side_of Diff = Some Set
+side_of Subset = Some Set
+side_of (Compare Eq) = None
+side_of (Compare Ne) = None
+side_of (Compare Lt) = Some Int
+side_of (Compare Le) = Some Int
+side_of (Compare Gt) = Some Int
+side_of (Compare Ge) = Some Int
+
+abbrev pub sides_fit : Option Base → List Base → List Base → Bool
+sides_fit (Some b) left right = is_one b left && is_one b right
+sides_fit None left right = (length left == 1) && same_bases left right
+
+-- the base of an operation
+abbrev pub result_of : BinOp → Base
+result_of Add = Int
+result_of Sub = Int
+result_of Mul = Int
+result_of And = Truth
+result_of Or = Truth
+result_of Union = Set
+result_of Inter = Set
+result_of Diff = Set
+result_of Subset = Truth
+result_of (Compare order) = Truth
+
+abbrev pub variable_form : Place → ℕ → Option Variable → Result Form TypeFault
+variable_form p n None = Err (UnknownName p)
+variable_form p n (Some v) = form (one v.base) (expr_var v.level) (variable_reading p v.base v.level) n
+
+-- a form at p over one part
+abbrev pub unary_form : Place → Base → Base → (ExprTree → ExprTree) → (Place → Reading → Reading) → Form → Result Form TypeFault
+unary_form p asked given tree reading a =
+    where_kept (is_one asked a.bases) (Mismatch p) (form (one given) (tree a.tree) (reading p a.reading) a.next)
+
+abbrev pub binary_form : Place → BinOp → Form → Form → Result Form TypeFault
+binary_form p op a b =
+    where_kept (sides_fit (side_of op) a.bases b.bases) (Mismatch p) (
+    form (one (result_of op)) (expr_binary op a.tree b.tree) (binary_reading op p a.reading b.reading) b.next)
+
+-- only the set form without elements is linear
+abbrev pub set_reading : Place → Option Place → List ExprTree → Reading
+set_reading p first [] = set empty_set
+set_reading p first (e ∷ es) = not_linear_at first p
+
+abbrev pub set_form : Place → Forms → Result Form TypeFault
+set_form p es = where_kept (all_are Int es.bases) (Mismatch p) (form (one Set) (expr_set_of (exprs_of es.trees)) (set_reading p es.first_nonlinear es.trees) es.next)
+
+abbrev pub tuple_form : Place → Forms → Result Form TypeFault
+tuple_form p es = where_kept (all_are_single es.bases) (Mismatch p) (form (joined es.bases) (expr_tuple (exprs_of es.trees)) (not_linear_at es.first_nonlinear p) es.next)
+
+abbrev pub call_form : Place → Option Callee → Forms → Result Form TypeFault
+call_form p None es = Err (UnknownName p)
+call_form p (Some f) es =
+    where_kept (length es.bases == length f.params) (WrongCount p) (
+    where_kept (are_asked es.bases f.params) (Mismatch p) (
+    where_kept f.is_earlier (CallsLater p) (
+    form f.results (expr_call f.number (exprs_of es.trees)) (not_linear_at es.first_nonlinear p) es.next)))
+
+abbrev pub if_form : Place → Form → Form → Form → Result Form TypeFault
+if_form p t a b =
+    where_kept (is_one Truth t.bases && same_bases a.bases b.bases) (Mismatch p) (
+    form a.bases (expr_if t.tree a.tree b.tree) (not_linear_at (earlier_nonlinear (first_nonlinear t.reading) (earlier_nonlinear (first_nonlinear a.reading) (first_nonlinear b.reading))) p) b.next)
+
+-- the variables that a let binds to parts of these bases
+abbrev pub bound : List (List ℕ) → List Place → List Base → List Param
+bound [] places bases = []
+bound (x ∷ xs) [] bases = []
+bound (x ∷ xs) (p ∷ places) [] = []
+bound (x ∷ xs) (p ∷ places) (b ∷ bases) = record { place = p; name = x; base = b } ∷ bound xs places bases
+
+abbrev pub let_form : Place → ℕ → Form → Form → Result Form TypeFault
+let_form p count a b = form b.bases (expr_let count a.tree b.tree) (not_linear_at (earlier_nonlinear (first_nonlinear a.reading) (first_nonlinear b.reading)) p) b.next
+
+abbrev pub is_output : Base → Bool
+is_output Int = true
+is_output Truth = false
+is_output Set = true
+
+-- what is wrong with the outputs of a choose, from left to right, behind outputs of the names `before`: each has a new name, and is no truth value
+abbrev pub output_fault : List (List ℕ) → List Param → Option TypeFault
+output_fault before [] = None
+output_fault before (o ∷ os) =
+    if is_among before o.name then Some (DuplicateName o.place)
+    else if is_output o.base then output_fault (before ++ o.name ∷ []) os
+    else Some (Mismatch o.place)
+
+-- the relation that is read, where it is linear
+abbrev pub linear : Place → Reading → Result RelTree TypeFault
+linear p (relation rel) = Ok rel
+linear p (term t) = Err (NotLinear p)
+linear p (set s) = Err (NotLinear p)
+linear p (not_linear q) = Err (NotLinear q)
+
+-- choose number n at p: its relation is a truth value, and linear
+abbrev pub choose_form : Place → ℕ → List Param → List Param → Form → Result Form TypeFault
+choose_form p n scope outputs r =
+    where_kept (is_one Truth r.bases) (Mismatch p) (
+    linear p r.reading >>= λ rel. form (bases_of outputs) (expr_choose n scope (bases_of outputs) rel) (not_linear p) r.next)
+
+-- the value that is matched, as a variable
+abbrev pub matched : Place → Param
+matched p = record { place = p; name = codes "match"; base = Int }
+
+-- the variables of a pattern
+abbrev pub variables_of : List Part → List Param
+variables_of parts = map (λ x. record { place = x.place; name = x.name; base = Int }) parts
+
+-- the number of an arm: the next one where it has variables, and else 0
+abbrev pub arm_number : ℕ → List Part → ℕ
+arm_number n [] = 0
+arm_number n (x ∷ parts) = n
+
+abbrev pub after_arm : ℕ → List Part → ℕ
+after_arm n [] = n
+after_arm n (x ∷ parts) = n + 1
+
+abbrev pub with_arm : Arms → List Part → ℤ → Form → Arms
+with_arm arms parts k f =
+    record {
+      bases = arms.bases ++ f.bases ∷ [];
+      trees = arms.trees ++ match_arm (arm_number arms.next parts) (map (λ x. x.factor) parts) k f.tree ∷ [];
+      first_nonlinear = earlier_nonlinear arms.first_nonlinear (first_nonlinear f.reading);
+      next = f.next;
+    }
+
+-- match number n at p: a number is matched, and all bodies have the same bases
+abbrev pub match_form : Place → ℕ → List Param → Form → Arms → Result Form TypeFault
+match_form p n scope a arms =
+    where_kept (is_one Int a.bases && all_same arms.bases) (Mismatch p) (
+    form (first_of arms.bases) (expr_match n scope a.tree (match_arms_of arms.trees)) (not_linear_at (earlier_nonlinear (first_nonlinear a.reading) arms.first_nonlinear) p) arms.next)
+
+abbrev mutual
+  -- `calls` says what a name of a function stands for, `scope` holds the variables by level, and n is the next number of a choose
+  pub walk : (List ℕ → Option Callee) → List Param → ℕ → RawTree → Result Form TypeFault
+  walk calls scope n (raw_lit p k) = form (one Int) (expr_lit k) (term (term_lit k)) n
+  walk calls scope n (raw_truth p t) = form (one Truth) (expr_truth t) (truth_reading t) n
+  walk calls scope n (raw_name p x) = variable_form p n (variable_of scope x)
+  walk calls scope n (raw_set_of p es) = walk_all calls scope (no_forms n) es >>= set_form p
+  walk calls scope n (raw_group p a) = walk calls scope n a
+  walk calls scope n (raw_tuple p es) = walk_all calls scope (no_forms n) es >>= tuple_form p
+  walk calls scope n (raw_neg p a) = walk calls scope n a >>= unary_form p Int Int expr_neg (on_term (λ t. term (term_neg t)))
+  walk calls scope n (raw_not p a) = walk calls scope n a >>= unary_form p Truth Truth expr_not (on_relation (λ r. relation (rel_not r)))
+  walk calls scope n (raw_abs p a) = walk calls scope n a >>= unary_form p Int Int expr_abs (on_term (λ t. term (term_abs t)))
+  walk calls scope n (raw_binary p op a b) = walk calls scope n a >>= λ f. walk calls scope f.next b >>= binary_form p op f
+  walk calls scope n (raw_divides p k a) = walk calls scope n a >>= unary_form p Int Truth (expr_divides k) (on_term (λ t. relation (rel_divides k t)))
+  walk calls scope n (raw_div p a k) = walk calls scope n a >>= unary_form p Int Int (λ e. expr_div e k) (on_term (λ t. term (term_div t k)))
+  walk calls scope n (raw_mod p a k) = walk calls scope n a >>= unary_form p Int Int (λ e. expr_mod e k) (on_term (λ t. term (term_mod t k)))
+  walk calls scope n (raw_card p a) = walk calls scope n a >>= unary_form p Set Int expr_card (on_set (λ s. term (term_card s)))
+  walk calls scope n (raw_call p x es) = walk_all calls scope (no_forms n) es >>= call_form p (calls x)
+  walk calls scope n (raw_if p t a b) =
+      walk calls scope n t >>= λ f. walk calls scope f.next a >>= λ g. walk calls scope g.next b >>= if_form p f g
+  walk calls scope n (raw_let p xs places a b) =
+      walk calls scope n a >>= λ f.
+      where_none_repeated (repeated [] xs places) (
+      where_kept (length xs == length f.bases) (WrongCount p) (
+      walk calls (scope ++ bound xs places f.bases) f.next b >>= let_form p (length xs) f))
+  walk calls scope n (raw_choose p outputs r) =
+      where_no_fault (output_fault [] outputs) (walk calls (scope ++ outputs) (n + 1) r >>= choose_form p n scope outputs)
+  walk calls scope n (raw_match p a arms) =
+      walk calls scope (n + 1) a >>= λ f. walk_arms calls (scope ++ matched p ∷ []) (no_arms f.next) arms >>= match_form p n (scope ++ matched p ∷ []) f
+
+  -- behind the expressions that stand before
+  pub walk_all : (List ℕ → Option Callee) → List Param → Forms → RawTrees → Result Forms TypeFault
+  walk_all calls scope before no_raws = Ok before
+  walk_all calls scope before (raw_more e es) =
+      walk calls scope before.next e >>= λ f. walk_all calls scope (with_form before f) es
+
+  -- behind the arms that stand before
+  pub walk_arms : (List ℕ → Option Callee) → List Param → Arms → RawArmTrees → Result Arms TypeFault
+  walk_arms calls scope before no_raw_arms = Ok before
+  walk_arms calls scope before (raw_arm_more (raw_arm parts k body) arms) =
+      where_none_repeated (repeated [] (map (λ x. x.name) parts) (map (λ x. x.place) parts)) (
+      walk calls (scope ++ variables_of parts) (after_arm before.next parts) body >>= λ f.
+      walk_arms calls scope (with_arm before parts k f) arms)
+
+-- the body of one arm
+abbrev pub walk_arm : (List ℕ → Option Callee) → List Param → ℕ → RawArmTree → Result Form TypeFault
+walk_arm calls scope n (raw_arm parts k body) =
+    where_none_repeated (repeated [] (map (λ x. x.name) parts) (map (λ x. x.place) parts)) (
+    walk calls (scope ++ variables_of parts) (after_arm n parts) body)
+
+-- the arms before, and this one with the form of its body
+abbrev pub with_walked : Arms → RawArmTree → Form → Arms
+with_walked arms (raw_arm parts k body) f = with_arm arms parts k f

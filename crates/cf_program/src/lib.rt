@@ -1,0 +1,15 @@
+//! Programs in which no rule is broken, and the rules that say which sources are such programs.
+#![tactic(auto)]
+
+pub mod fault;
+pub mod typed;
+pub mod variable;
+
+ghost use Rattle.cf_program.specs.Laws.{RulesKeepNames, RulesKeepTypes};
+
+/// A source for which the rules give no fault is a typed program, and its names differ where they
+/// stand together.
+pub fn rules_keep_facts()
+    ensures types { RulesKeepTypes }
+    ensures names { RulesKeepNames }
+{}
