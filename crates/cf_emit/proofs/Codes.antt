@@ -8,10 +8,11 @@ use Rattle.cf_lex.specs.declared.token.TokenKind.{TokenKind}
 use Rattle.cf_lex.specs.declared.token.TokenKind.TheVariants.{Sign}
 use Rattle.cf_tree.specs.CodeTree.{CodeTree, code_lit, code_truth, code_var, code_set_of, code_tuple, code_sum, code_sub, code_mul, code_neg, code_div, code_mod, code_min, code_max, code_compare, code_divides, code_and, code_or, code_not, code_union, code_inter, code_diff, code_subset, code_card, code_slice, code_fresh, code_if, code_let, code_solve, CodeTrees, no_codes, code_more, let_item, need_item, ItemTrees, no_items, item_more, arm_of, ArmTrees, no_arms, arm_more, count}
 use Rattle.cf_tree.specs.Spelled.{IsSpelled, AreSpelled, AreItemsSpelled, AreArmsSpelled, AreGives}
+use Rattle.cf_reader.specs.Tokens.{Form, If}
 use Rattle.cf_target.specs.Spelling.{SpellsCode, SpellsCodes, SpellsOthers, SpellsArms, SpellsItems, SpellsGives, InBrackets}
 use Rattle.cf_emit.specs.Printed.{order_text, variables_text, listed, code_text, codes_text, more_codes, items_text, item_text, gives_text, arm_text, arms_text}
 use Rattle.cf_emit.proofs.Spans.{Spans, Says, then, as_form, spaced, Mark, closing, opening_brace, closing_brace, comma, spaced_sign, spaced_word}
-use Rattle.cf_emit.proofs.Forms.{Form, joined_parts, first_part, next_part, next_begins, bracketed, set_form, gives_form, pair_form, list_called, one_called, two_called, three_called, headed_form, solve_form, item_form, arm_form}
+use Rattle.cf_emit.proofs.Forms.{joined_parts, first_part, next_part, next_begins, bracketed, set_form, gives_form, pair_form, list_called, one_called, two_called, three_called, headed_form, solve_form, item_form, arm_form}
 use Rattle.cf_emit.proofs.Words.{number_says, divisor_says, numeral_says, variable_says, variables_say, truth_says, order_mark, bounds_say}
 
 plus : Mark (Sign (codes "+")) (codes " + ")
@@ -34,7 +35,7 @@ one_holds = spaced_sign (codes "||") (λ rest. refl)
 
 -- codes with a separator between each two, in brackets
 listed_form : {X : Form} (cs : CodeTrees) (t : List ℕ) → 2 ≤ count cs → ((rest : List ℕ) → Spans X (t ++ (codes ")" ++ rest)) rest) →
-    Says (λ ts rest. (2 ≤ count cs) × InBrackets X ts rest) (codes "(" ++ t ++ codes ")")
+    Says (If (2 ≤ count cs) (InBrackets X)) (codes "(" ++ t ++ codes ")")
 listed_form cs t two s rest stops = as_form (λ ts more h. (two, h)) (bracketed t rest (s rest))
 
 others_begin : {k close : TokenKind} (cs : CodeTrees) (o w rest : List ℕ) → Mark k o → Mark close w → StopsAt is_in_word (more_codes o cs ++ (w ++ rest))

@@ -2,54 +2,24 @@
 use Rattle.std.proofs.Common.{◌≡◌, ℕ, true, List, ◌∷◌, ◌++◌, refl, codes, append_assoc}
 use Rattle.cf_lex.specs.Bytes.{is_in_word}
 use Rattle.cf_lex.specs.Runs.{StopsAt}
-use Rattle.cf_lex.specs.declared.token.Token.{Token}
 use Rattle.cf_lex.specs.declared.token.TokenKind.{TokenKind}
 use Rattle.cf_lex.specs.declared.token.TokenKind.TheVariants.{Word, Sign}
-use Rattle.cf_reader.specs.Tokens.{Next}
+use Rattle.cf_reader.specs.Tokens.{Form, ◌⨟◌, Next}
 use Rattle.cf_target.specs.Spelling.{InBrackets, Called, Before, Last, Pair}
 use Rattle.cf_emit.specs.Printed.{line_end}
-use Rattle.cf_emit.proofs.Spans.{Spans, Says, Then, then, as_form, white_before, white_behind, is_plain, word, spaced, Mark, opening, closing, opening_brace, closing_brace, opening_square, semicolon, comma}
-
--- what tokens up to a rest spell
-abbrev pub Form : Type 1
-Form = List Token → List Token → Type 0
-
-pub three : {P Q R : Form} {a b c d : List ℕ} → Spans P a b → Spans Q b c → Spans R c d → Spans (λ ts rest. (x y : List Token) × P ts x × Q x y × R y rest) a d
-three p q r = as_form (λ ts rest h. (h.0, h.2.0, h.1, h.2.1, h.2.2)) (then p (then q r))
-
-pub four : {P Q R S : Form} {a b c d e : List ℕ} → Spans P a b → Spans Q b c → Spans R c d → Spans S d e →
-    Spans (λ ts rest. (x y z : List Token) × P ts x × Q x y × R y z × S z rest) a e
-four p q r s = as_form (λ ts rest h. (h.0, h.2.0, h.2.2.0, h.1, h.2.1, h.2.2.1, h.2.2.2)) (then p (then q (then r s)))
-
-pub five : {P Q R S T : Form} {a b c d e f : List ℕ} → Spans P a b → Spans Q b c → Spans R c d → Spans S d e → Spans T e f →
-    Spans (λ ts rest. (w x y z : List Token) × P ts w × Q w x × R x y × S y z × T z rest) a f
-five p q r s t =
-    as_form (λ ts rest h. (h.0, h.2.0, h.2.2.0, h.2.2.2.0, h.1, h.2.1, h.2.2.1, h.2.2.2.1, h.2.2.2.2)) (then p (then q (then r (then s t))))
-
-pub seven : {P Q R S T U V : Form} {a b c d e f g h : List ℕ} → Spans P a b → Spans Q b c → Spans R c d → Spans S d e → Spans T e f → Spans U f g → Spans V g h →
-    Spans (λ ts rest. (i j k l m n : List Token) × P ts i × Q i j × R j k × S k l × T l m × U m n × V n rest) a h
-seven p q r s t u v =
-    as_form (λ ts rest h. (h.0, h.2.0, h.2.2.0, h.2.2.2.0, h.2.2.2.2.0, h.2.2.2.2.2.0, h.1, h.2.1, h.2.2.1, h.2.2.2.1, h.2.2.2.2.1, h.2.2.2.2.2.1, h.2.2.2.2.2.2))
-    (then p (then q (then r (then s (then t (then u v))))))
-
-pub eight : {P Q R S T U V W : Form} {a b c d e f g h i : List ℕ} → Spans P a b → Spans Q b c → Spans R c d → Spans S d e → Spans T e f → Spans U f g → Spans V g h →
-    Spans W h i → Spans (λ ts rest. (j k l m n o x : List Token) × P ts j × Q j k × R k l × S l m × T m n × U n o × V o x × W x rest) a i
-eight p q r s t u v w =
-    as_form
-    (λ ts rest h. (h.0, h.2.0, h.2.2.0, h.2.2.2.0, h.2.2.2.2.0, h.2.2.2.2.2.0, h.2.2.2.2.2.2.0, h.1, h.2.1, h.2.2.1, h.2.2.2.1, h.2.2.2.2.1, h.2.2.2.2.2.1, h.2.2.2.2.2.2.1, h.2.2.2.2.2.2.2))
-    (then p (then q (then r (then s (then t (then u (then v w)))))))
+use Rattle.cf_emit.proofs.Spans.{Spans, Says, then, white_before, white_behind, is_plain, word, spaced, Mark, opening, closing, opening_brace, closing_brace, opening_square, semicolon, comma}
 
 -- a part and then others
-pub joined_parts : {X Y : Form} (a m end : List ℕ) {rest : List ℕ} → Spans X (a ++ (m ++ end)) (m ++ end) → Spans Y (m ++ end) rest → Spans (Then X Y) (a ++ m ++ end) rest
+pub joined_parts : {X Y : Form} (a m end : List ℕ) {rest : List ℕ} → Spans X (a ++ (m ++ end)) (m ++ end) → Spans Y (m ++ end) rest → Spans (X ⨟ Y) (a ++ m ++ end) rest
 joined_parts a m end s t = simp append_assoc (then s t)
 
-pub first_part : {X Y : Form} (a m end : List ℕ) {rest : List ℕ} → Says X a → StopsAt is_in_word (m ++ end) → Spans Y (m ++ end) rest → Spans (Then X Y) (a ++ m ++ end) rest
+pub first_part : {X Y : Form} (a m end : List ℕ) {rest : List ℕ} → Says X a → StopsAt is_in_word (m ++ end) → Spans Y (m ++ end) rest → Spans (X ⨟ Y) (a ++ m ++ end) rest
 first_part a m end s stops t = joined_parts a m end (s (m ++ end) stops) t
 
 -- a separator, a part and then others
 pub next_part : {X Y : Form} {k : TokenKind} (o a m end : List ℕ) {rest : List ℕ} → Mark k o → Says X a → StopsAt is_in_word (m ++ end) → Spans Y (m ++ end) rest →
-    Spans (λ ts left. (x y : List Token) × Next k ts x × X x y × Y y left) (o ++ a ++ m ++ end) rest
-next_part o a m end mark s stops t = simp append_assoc (three (mark.gives (a ++ (m ++ end))) (s (m ++ end) stops) t)
+    Spans (Next k ⨟ X ⨟ Y) (o ++ a ++ m ++ end) rest
+next_part o a m end mark s stops t = simp append_assoc (then (mark.gives (a ++ (m ++ end))) (then (s (m ++ end) stops) t))
 
 pub next_begins : {k : TokenKind} (o a m end : List ℕ) → Mark k o → StopsAt is_in_word (o ++ a ++ m ++ end)
 next_begins o a m end mark = simp append_assoc (mark.begins (a ++ (m ++ end)))
@@ -60,33 +30,33 @@ bracketed t rest s = simp append_assoc (then (opening.gives (t ++ (codes ")" ++ 
 
 -- "{", a part and others up to the "}"
 pub set_form : {X Y : Form} (a m rest : List ℕ) → Says X a → StopsAt is_in_word (m ++ (codes "}" ++ rest)) → Spans Y (m ++ (codes "}" ++ rest)) rest →
-    Spans (λ ts left. (x y : List Token) × Next (Sign (codes "{")) ts x × X x y × Y y left) (codes "{" ++ (a ++ m) ++ codes "}" ++ rest) rest
-set_form a m rest s stops t = simp append_assoc (three (opening_brace.gives (a ++ (m ++ (codes "}" ++ rest)))) (s (m ++ (codes "}" ++ rest)) stops) t)
+    Spans (Next (Sign (codes "{")) ⨟ X ⨟ Y) (codes "{" ++ (a ++ m) ++ codes "}" ++ rest) rest
+set_form a m rest s stops t = simp append_assoc (then (opening_brace.gives (a ++ (m ++ (codes "}" ++ rest)))) (then (s (m ++ (codes "}" ++ rest)) stops) t))
 
 -- "(", a part and others up to the ")"
 pub tuple_form : {X Y : Form} (a m rest : List ℕ) → Says X a → StopsAt is_in_word (m ++ (codes ")" ++ rest)) → Spans Y (m ++ (codes ")" ++ rest)) rest →
-    Spans (λ ts left. (x y : List Token) × Next (Sign (codes "(")) ts x × X x y × Y y left) (codes "(" ++ a ++ m ++ codes ")" ++ rest) rest
-tuple_form a m rest s stops t = simp append_assoc (three (opening.gives (a ++ (m ++ (codes ")" ++ rest)))) (s (m ++ (codes ")" ++ rest)) stops) t)
+    Spans (Next (Sign (codes "(")) ⨟ X ⨟ Y) (codes "(" ++ a ++ m ++ codes ")" ++ rest) rest
+tuple_form a m rest s stops t = simp append_assoc (then (opening.gives (a ++ (m ++ (codes ")" ++ rest)))) (then (s (m ++ (codes ")" ++ rest)) stops) t))
 
 pub gives_form : {X Y : Form} (a b m rest : List ℕ) → Says X a → Spans Y (codes ", " ++ b ++ m ++ (codes ")" ++ rest)) rest →
-    Spans (λ ts left. (x y : List Token) × Next (Sign (codes "(")) ts x × X x y × Y y left) (codes "(" ++ a ++ codes ", " ++ b ++ m ++ codes ")" ++ rest) rest
+    Spans (Next (Sign (codes "(")) ⨟ X ⨟ Y) (codes "(" ++ a ++ codes ", " ++ b ++ m ++ codes ")" ++ rest) rest
 gives_form {X = X} {Y = Y} a b m rest s t =
     let tail : List ℕ = b ++ (m ++ (codes ")" ++ rest)) in
     let u : Spans Y (codes ", " ++ tail) rest = simp append_assoc at t in
-    simp append_assoc (three (opening.gives (a ++ (codes ", " ++ tail))) (s (codes ", " ++ tail) refl) u)
+    simp append_assoc (then (opening.gives (a ++ (codes ", " ++ tail))) (then (s (codes ", " ++ tail) refl) u))
 
 -- "(", a part, an operation, a part and ")"
 pub pair_form : {X Y : Form} {k : TokenKind} (a o b : List ℕ) → Says X a → Mark k o → Says Y b → Says (Pair X k Y) (codes "(" ++ a ++ o ++ b ++ codes ")")
 pair_form a o b s mark t rest stops =
     let right : List ℕ = b ++ (codes ")" ++ rest) in
-    simp append_assoc (five (opening.gives (a ++ (o ++ right))) (s (o ++ right) (mark.begins right)) (mark.gives right) (t (codes ")" ++ rest) refl) (closing.gives rest))
+    simp append_assoc (then (opening.gives (a ++ (o ++ right))) (then (s (o ++ right) (mark.begins right)) (then (mark.gives right) (then (t (codes ")" ++ rest) refl) (closing.gives rest)))))
 
 -- a word and "(", then what stands up to its ")"
 called : {X : Form} (w t : List ℕ) {rest : List ℕ} → is_plain w ≡ true → Spans X t rest → Spans (Called w X) (w ++ (codes "(" ++ t)) rest
-called w t plain s = three (word w (codes "(" ++ t) plain refl) (opening.gives t) s
+called w t plain s = then (word w (codes "(" ++ t) plain refl) (then (opening.gives t) s)
 
 before : {X Y : Form} (a t : List ℕ) {rest : List ℕ} → Says X a → Spans Y t rest → Spans (Before X Y) (a ++ (codes ", " ++ t)) rest
-before a t s n = three (s (codes ", " ++ t) refl) (comma.gives t) n
+before a t s n = then (s (codes ", " ++ t) refl) (then (comma.gives t) n)
 
 last : {X : Form} (a rest : List ℕ) → Says X a → Spans (Last X) (a ++ (codes ")" ++ rest)) rest
 last a rest s = then (s (codes ")" ++ rest) refl) (closing.gives rest)
@@ -110,38 +80,38 @@ three_called w a b c plain s t u rest stops =
 
 -- "(" and a word, then three parts with an operation between each two, and ")"
 pub headed_form : {X Y Z : Form} {j k : TokenKind} (w a o b n c : List ℕ) → is_plain w ≡ true → Says X a → Mark j o → Says Y b → Mark k n → Says Z c →
-    Says (λ ts rest. (d e f g h i l : List Token) × Next (Sign (codes "(")) ts d × Next (Word w) d e × X e f × Next j f g × Y g h × Next k h i × Z i l × Next (Sign (codes ")")) l rest)
+    Says (InBrackets (Next (Word w) ⨟ X ⨟ Next j ⨟ Y ⨟ Next k ⨟ Last Z))
     (codes "(" ++ w ++ codes " " ++ a ++ o ++ b ++ n ++ c ++ codes ")")
 headed_form w a o b n c plain s first t second u rest stops =
     let third : List ℕ = c ++ (codes ")" ++ rest) in
     let right : List ℕ = b ++ (n ++ third) in
-    simp append_assoc (eight (opening.gives (w ++ (codes " " ++ (a ++ (o ++ right))))) (spaced w (a ++ (o ++ right)) plain) (s (o ++ right) (first.begins right)) (first.gives right)
-    (t (n ++ third) (second.begins third)) (second.gives third) (u (codes ")" ++ rest) refl) (closing.gives rest))
+    simp append_assoc (then (opening.gives (w ++ (codes " " ++ (a ++ (o ++ right))))) (then (spaced w (a ++ (o ++ right)) plain) (then (s (o ++ right) (first.begins right)) (then (first.gives right)
+    (then (t (n ++ third) (second.begins third)) (then (second.gives third) (then (u (codes ")" ++ rest) refl) (closing.gives rest))))))))
 
 -- an opening brace that ends its line
 line_opened : (rest : List ℕ) → Spans (Next (Sign (codes "{"))) (codes " {" ++ (line_end ++ rest)) rest
 line_opened rest = white_before 32 refl (white_behind 10 refl (opening_brace.gives (10 ∷ rest)))
 
 pub solve_form : {X Y : Form} (a m : List ℕ) → Says X a → ((rest : List ℕ) → Spans Y (m ++ (codes "}" ++ rest)) rest) →
-    Says (λ ts rest. (x y z : List Token) × Next (Word (codes "solve")) ts x × X x y × Next (Sign (codes "{")) y z × Y z rest)
+    Says (Next (Word (codes "solve")) ⨟ X ⨟ Next (Sign (codes "{")) ⨟ Y)
     (codes "solve " ++ a ++ codes " {" ++ line_end ++ m ++ codes "}")
 solve_form a m s t rest stops =
     let arms : List ℕ = m ++ (codes "}" ++ rest) in
-    simp append_assoc (four (spaced (codes "solve") (a ++ (codes " {" ++ (line_end ++ arms))) refl) (s (codes " {" ++ (line_end ++ arms)) refl) (line_opened arms) (t rest))
+    simp append_assoc (then (spaced (codes "solve") (a ++ (codes " {" ++ (line_end ++ arms))) refl) (then (s (codes " {" ++ (line_end ++ arms)) refl) (then (line_opened arms) (t rest))))
 
 pub item_form : {X : Form} (w a rest : List ℕ) → is_plain w ≡ true → Says X a →
-    Spans (λ ts left. (x y : List Token) × Next (Word w) ts x × X x y × Next (Sign (codes ";")) y left) (w ++ codes " " ++ a ++ codes ";" ++ line_end ++ rest) rest
+    Spans (Next (Word w) ⨟ X ⨟ Next (Sign (codes ";"))) (w ++ codes " " ++ a ++ codes ";" ++ line_end ++ rest) rest
 item_form w a rest plain s =
     let end : List ℕ = codes ";" ++ (line_end ++ rest) in
-    simp append_assoc (three (spaced w (a ++ end) plain) (s end refl) (white_behind 10 refl (semicolon.gives (10 ∷ rest))))
+    simp append_assoc (then (spaced w (a ++ end) plain) (then (s end refl) (white_behind 10 refl (semicolon.gives (10 ∷ rest)))))
 
 pub arm_form : {X Y Z : Form} (b i g rest : List ℕ) → ((end : List ℕ) → Spans X (b ++ (codes "]" ++ end)) end) → ((end : List ℕ) → Spans Y (i ++ (codes "give " ++ end)) end) → Says Z g →
-    Spans (λ ts left. (c d e f h j : List Token) × Next (Word (codes "arm")) ts c × Next (Sign (codes "[")) c d × X d e × Next (Sign (codes "{")) e f × Y f h × Z h j × Next (Sign (codes "}")) j left)
+    Spans (Next (Word (codes "arm")) ⨟ Next (Sign (codes "[")) ⨟ X ⨟ Next (Sign (codes "{")) ⨟ Y ⨟ Z ⨟ Next (Sign (codes "}")))
     (codes "arm [" ++ b ++ codes "] {" ++ line_end ++ i ++ codes "give " ++ g ++ line_end ++ codes "}" ++ line_end ++ rest) rest
 arm_form b i g rest bounds items gives =
     let end : List ℕ = line_end ++ (codes "}" ++ (line_end ++ rest)) in
     let inner : List ℕ = i ++ (codes "give " ++ (g ++ end)) in
     let braced : List ℕ = codes " {" ++ (line_end ++ inner) in
     let head : List ℕ = b ++ (codes "]" ++ braced) in
-    simp append_assoc (seven (spaced (codes "arm") (codes "[" ++ head) refl) (opening_square.gives head) (bounds braced) (line_opened inner) (items (g ++ end)) (gives end refl)
-    (white_before 10 refl (white_behind 10 refl (closing_brace.gives (10 ∷ rest)))))
+    simp append_assoc (then (spaced (codes "arm") (codes "[" ++ head) refl) (then (opening_square.gives head) (then (bounds braced) (then (line_opened inner)
+    (then (items (g ++ end)) (then (gives end refl) (white_before 10 refl (white_behind 10 refl (closing_brace.gives (10 ∷ rest))))))))))

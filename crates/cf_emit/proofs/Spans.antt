@@ -9,20 +9,17 @@ use Rattle.cf_tree.specs.declared.base.Place.{Place}
 use Rattle.cf_lex.specs.declared.token.Token.{Token}
 use Rattle.cf_lex.specs.declared.token.TokenKind.{TokenKind}
 use Rattle.cf_lex.specs.declared.token.TokenKind.TheVariants.{Word, Sign}
-use Rattle.cf_reader.specs.Tokens.{Next}
+use Rattle.cf_reader.specs.Tokens.{Form, ◌⨟◌, Next}
 
 -- From any place on, the text gives tokens that spell X and then the tokens of the rest.
-pub record Spans (X : List Token → List Token → Type 0) (text rest : List ℕ) : Type 0 where
+pub record Spans (X : Form) (text rest : List ℕ) : Type 0 where
   pub spans : (p : Place) → (q : Place) × ((more : List Token) (e : Place) → Lexes (2 ^ 127 - 1) q rest more e [] → (ts : List Token) × Lexes (2 ^ 127 - 1) p text ts e [] × X ts more)
 
 -- w gives tokens that spell X, before any rest that does not go on with its last word
-abbrev pub Says : (List Token → List Token → Type 0) → List ℕ → Type 0
+abbrev pub Says : Form → List ℕ → Type 0
 Says X w = (rest : List ℕ) → StopsAt is_in_word rest → Spans X (w ++ rest) rest
 
-abbrev pub Then : (X Y : List Token → List Token → Type 0) → List Token → List Token → Type 0
-Then X Y ts rest = (a : List Token) × X ts a × Y a rest
-
-pub then : {X Y : List Token → List Token → Type 0} {text mid rest : List ℕ} → Spans X text mid → Spans Y mid rest → Spans (Then X Y) text rest
+pub then : {X Y : Form} {text mid rest : List ℕ} → Spans X text mid → Spans Y mid rest → Spans (X ⨟ Y) text rest
 then s n = record {
   spans = λ p.
       let front = s.spans p in
@@ -30,7 +27,7 @@ then s n = record {
       (back.0, λ more e l. let b = back.1 more e l in let f = front.1 b.0 e b.1 in (f.0, f.1, (b.0, f.2, b.2)));
 }
 
-pub as_form : {X Y : List Token → List Token → Type 0} {text rest : List ℕ} → ((ts more : List Token) → X ts more → Y ts more) → Spans X text rest → Spans Y text rest
+pub as_form : {X Y : Form} {text rest : List ℕ} → ((ts more : List Token) → X ts more → Y ts more) → Spans X text rest → Spans Y text rest
 as_form turn s = record { spans = λ p. let g = s.spans p in (g.0, λ more e l. let x = g.1 more e l in (x.0, x.1, turn x.0 more x.2)) }
 
 -- a token
@@ -38,14 +35,14 @@ pub one_token : (w rest : List ℕ) (k : TokenKind) → IsPiece (2 ^ 127 - 1) w 
 one_token w rest k h = record { spans = λ p. (place_after p w, λ more e l. (record { place = p; kind = k } ∷ more, piece w (Some k) refl h refl l, (p, refl))) }
 
 -- a white byte before, and one behind
-pub white_before : {X : List Token → List Token → Type 0} {text rest : List ℕ} (b : ℕ) → is_white b ≡ true → Spans X text rest → Spans X (b ∷ text) rest
+pub white_before : {X : Form} {text rest : List ℕ} (b : ℕ) → is_white b ≡ true → Spans X text rest → Spans X (b ∷ text) rest
 white_before b white s = record {
   spans = λ p.
       let g = s.spans (place_after p (b ∷ [])) in
       (g.0, λ more e l. let x = g.1 more e l in (x.0, piece (b ∷ []) None refl (inl (white, refl)) refl x.1, x.2));
 }
 
-pub white_behind : {X : List Token → List Token → Type 0} {text rest : List ℕ} (b : ℕ) → is_white b ≡ true → Spans X text (b ∷ rest) → Spans X text rest
+pub white_behind : {X : Form} {text rest : List ℕ} (b : ℕ) → is_white b ≡ true → Spans X text (b ∷ rest) → Spans X text rest
 white_behind b white s = record {
   spans = λ p.
       let g = s.spans p in

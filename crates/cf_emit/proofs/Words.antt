@@ -9,7 +9,7 @@ use Rattle.cf_lex.specs.Bytes.{is_in_word}
 use Rattle.cf_lex.specs.Runs.{StopsAt}
 use Rattle.cf_lex.specs.declared.token.TokenKind.{TokenKind}
 use Rattle.cf_lex.specs.declared.token.TokenKind.TheVariants.{Literal, Word, Sign}
-use Rattle.cf_reader.specs.Tokens.{Next, Others, Several, OneOrTuple}
+use Rattle.cf_reader.specs.Tokens.{Form, Next, Others, Several, OneOrTuple}
 use Rattle.cf_reader.specs.Kinds.{truth_kind, order_kind, SpellsBase}
 use Rattle.cf_target.specs.Spelling.{level_name, SpellsVariable, SpellsMoreVariables, SpellsVariables, SpellsNumber, SpellsDivisor, SpellsNumeral, SpellsBounds, SpellsBases, SpellsHeader}
 use Rattle.cf_tree.specs.declared.base.Base.{Base}
@@ -21,7 +21,7 @@ use Rattle.cf_tree.specs.Spelled.{IsNumeral}
 use Rattle.cf_emit.specs.Printed.{line_end, base_text, truth_text, order_text, variable_text, more_variables, variables_text, more_texts, listed, results_text}
 use Rattle.cf_emit.proofs.Numerals.{AreDigitsOf, decimal_read, digits_in_word, ends_digits}
 use Rattle.cf_emit.proofs.Spans.{Spans, Says, then, as_form, one_token, white_behind, word, spaced, Mark, closing, closing_square, minus, comma, spaced_sign}
-use Rattle.cf_emit.proofs.Forms.{Form, first_part, next_part, bracketed, tuple_form}
+use Rattle.cf_emit.proofs.Forms.{first_part, next_part, bracketed, tuple_form}
 
 digits_say : (n : ℕ) (ds : List ℕ) → n ≤ 2 ^ 127 - 1 → AreDigitsOf n ds → Says (Next (Literal (pos n))) ds
 digits_say n ds fits r rest stops =
@@ -45,7 +45,7 @@ no_divisor n h = omega (arith, ints)
 pub number_says : (k : ℤ) → IsWithin k → Says (SpellsNumber k) (signed_decimal k)
 number_says (pos n) fits rest stops = as_form (λ ts more h. inl (h.0, (h.1, not_negative n))) (literal_says n fits rest stops)
 number_says (negsuc n) fits rest stops =
-    as_form (λ ts more h. inr (h.0, h.2.0, pos (suc n), h.1, (h.2.1, positive n), refl)) (then (minus.gives (decimal (suc n) ++ rest)) (literal_says (suc n) fits rest stops))
+    as_form (λ ts more h. inr (pos (suc n), (h.0, h.1, (h.2.0, (h.2.1, positive n))), refl)) (then (minus.gives (decimal (suc n) ++ rest)) (literal_says (suc n) fits rest stops))
 
 pub divisor_says : (k : ℤ) → IsDivisor k → Says (SpellsDivisor k) (signed_decimal k)
 divisor_says (pos n) d rest stops = as_form (λ ts more h. (h.0, (h.1, d.0))) (literal_says n d.1 rest stops)

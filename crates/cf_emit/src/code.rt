@@ -9,6 +9,7 @@ use crate::word::{put_count, put_number, put_order, put_truth, put_variable, put
 use cf_tree::code::{Arm, Code, Item};
 use cf_tree::memory::NoMemory;
 
+/// Puts the text of a code at the end.
 #[cycle(put_code)]
 pub(crate) fn put_code(out: &mut Vec<u8>, code: &Code) -> Result<(), NoMemory>
     ensures { OnOk result (out.new.items ≡ out.old.items ++ code_text (code_tree code.now)) }
@@ -172,6 +173,7 @@ fn put_item(out: &mut Vec<u8>, item: &Item) -> Result<(), NoMemory>
     Ok(())
 }
 
+/// Puts a line for each step of an arm at the end.
 #[cycle(put_code)]
 pub(crate) fn put_items(out: &mut Vec<u8>, items: &[Item]) -> Result<(), NoMemory>
     ensures { OnOk result (out.new.items ≡ out.old.items ++ items_text (item_trees items.now)) }
@@ -217,7 +219,7 @@ fn put_arms(out: &mut Vec<u8>, arms: &[Arm]) -> Result<(), NoMemory>
     Ok(())
 }
 
-// The first line of an arm.
+/// The first line of an arm.
 pub(crate) fn put_searches(out: &mut Vec<u8>, bounds: &[u32]) -> Result<(), NoMemory>
     ensures { OnOk result (out.new.items ≡ out.old.items ++ (codes "arm [" ++ listed (map decimal bounds.now) ++ codes "] {" ++ line_end)) }
 {

@@ -17,7 +17,7 @@ fn put_more_bases(out: &mut Vec<u8>, bases: &[Base]) -> Result<(), NoMemory>
     Ok(())
 }
 
-// Bases with a comma and a space between each two.
+/// Bases with a comma and a space between each two.
 pub(crate) fn put_bases(out: &mut Vec<u8>, bases: &[Base]) -> Result<(), NoMemory>
     ensures { OnOk result (out.new.items ≡ out.old.items ++ listed (map base_text bases.now)) }
 {
@@ -30,7 +30,7 @@ pub(crate) fn put_bases(out: &mut Vec<u8>, bases: &[Base]) -> Result<(), NoMemor
     }
 }
 
-// The bases of results: one alone, and several as a tuple.
+/// The bases of results: one alone, and several as a tuple.
 pub(crate) fn put_results(out: &mut Vec<u8>, results: &[Base]) -> Result<(), NoMemory>
     ensures { OnOk result (out.new.items ≡ out.old.items ++ results_text results.now) }
 {
@@ -57,7 +57,7 @@ fn put_more_bounds(out: &mut Vec<u8>, bounds: &[u32]) -> Result<(), NoMemory>
     Ok(())
 }
 
-// Bounds with a comma and a space between each two.
+/// Bounds with a comma and a space between each two.
 pub(crate) fn put_bounds(out: &mut Vec<u8>, bounds: &[u32]) -> Result<(), NoMemory>
     ensures { OnOk result (out.new.items ≡ out.old.items ++ listed (map decimal bounds.now)) }
 {
@@ -81,7 +81,7 @@ fn put_more_names(out: &mut Vec<u8>, names: &[Text]) -> Result<(), NoMemory>
     Ok(())
 }
 
-// Names with a comma and a space between each two.
+/// Names with a comma and a space between each two.
 pub(crate) fn put_names(out: &mut Vec<u8>, names: &[Text]) -> Result<(), NoMemory>
     ensures { OnOk result (out.new.items ≡ out.old.items ++ listed names.now) }
 {

@@ -7,6 +7,7 @@ use cf_tree::base::{Base, Order};
 use cf_tree::memory::NoMemory;
 use itoa::Buffer;
 
+/// Puts a number in decimal at the end.
 pub(crate) fn put_number(out: &mut Vec<u8>, z: &i128) -> Result<(), NoMemory>
     ensures { OnOk result (out.new.items ≡ out.old.items ++ signed_decimal z.now) }
 {
@@ -15,6 +16,7 @@ pub(crate) fn put_number(out: &mut Vec<u8>, z: &i128) -> Result<(), NoMemory>
     Ok(())
 }
 
+/// Puts a count in decimal at the end.
 pub(crate) fn put_count(out: &mut Vec<u8>, n: u64) -> Result<(), NoMemory>
     ensures { OnOk result (out.new.items ≡ out.old.items ++ decimal n) }
 {
@@ -23,6 +25,7 @@ pub(crate) fn put_count(out: &mut Vec<u8>, n: u64) -> Result<(), NoMemory>
     Ok(())
 }
 
+/// Puts the word of a base at the end.
 pub(crate) fn put_base(out: &mut Vec<u8>, base: Base) -> Result<(), NoMemory>
     ensures { OnOk result (out.new.items ≡ out.old.items ++ base_text base) }
 {
@@ -34,6 +37,7 @@ pub(crate) fn put_base(out: &mut Vec<u8>, base: Base) -> Result<(), NoMemory>
     Ok(())
 }
 
+/// Puts the word of a truth value at the end.
 pub(crate) fn put_truth(out: &mut Vec<u8>, truth: bool) -> Result<(), NoMemory>
     ensures { OnOk result (out.new.items ≡ out.old.items ++ truth_text truth) }
 {
@@ -44,6 +48,7 @@ pub(crate) fn put_truth(out: &mut Vec<u8>, truth: bool) -> Result<(), NoMemory>
     Ok(())
 }
 
+/// Puts the sign of a comparison, with spaces around it, at the end.
 pub(crate) fn put_order(out: &mut Vec<u8>, order: Order) -> Result<(), NoMemory>
     ensures { OnOk result (out.new.items ≡ out.old.items ++ order_text order) }
 {
@@ -58,6 +63,7 @@ pub(crate) fn put_order(out: &mut Vec<u8>, order: Order) -> Result<(), NoMemory>
     Ok(())
 }
 
+/// Puts the name of a level at the end.
 pub(crate) fn put_variable(out: &mut Vec<u8>, level: u64) -> Result<(), NoMemory>
     ensures { OnOk result (out.new.items ≡ out.old.items ++ variable_text level) }
 {
@@ -90,7 +96,7 @@ fn put_several(out: &mut Vec<u8>, first: u32, count: u32) -> Result<(), NoMemory
     Ok(())
 }
 
-// The variables of a let, as many as `count`, from a level on.
+/// The variables of a let, as many as `count`, from a level on.
 pub(crate) fn put_variables(out: &mut Vec<u8>, first: u32, count: u32) -> Result<(), NoMemory>
     ensures { OnOk result (out.new.items ≡ out.old.items ++ variables_text first count) }
 {

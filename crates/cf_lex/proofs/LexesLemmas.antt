@@ -1,6 +1,6 @@
 -- What holds of all tokens of a text.
 use Rattle.std.proofs.Common.{ℕ, ◌≤◌, ◌<◌, List, length, arith, length-append, Some, None, Result, Ok, Err, IfOk}
-use Rattle.cf_lex.specs.Tokens.{IsPiece, Lexes, none, piece, AreWithin, IsKindWithin, Tells}
+use Rattle.cf_lex.specs.Tokens.{IsPiece, Lexes, none, piece, AreWithin, IsKindWithin, TokensAnswer}
 use Rattle.cf_lex.specs.declared.fault.LexFault.{LexFault}
 use Rattle.cf_tree.specs.declared.base.Place.{Place}
 use Rattle.cf_lex.specs.declared.token.Token.{Token}
@@ -31,10 +31,10 @@ lexes-within none = tt
 lexes-within (piece w None is h all_is s) = rw all_is (lexes-within s)
 lexes-within {limit = limit} (piece {rest = rest} w (Some k) is h all_is s) = rw all_is (kind_within limit w rest k h, lexes-within s)
 
-pub told-count : (limit : ℕ) (text : List ℕ) (r : Result TokenList LexFault) → Tells limit text r → IfOk r (λ l. length l.list.items ≤ length text)
-told-count limit text (Ok l) h = lexes-count h.1
-told-count limit text (Err f) h = tt
+pub answer-count : (limit : ℕ) (text : List ℕ) (r : Result TokenList LexFault) → TokensAnswer limit text r → IfOk r (λ l. length l.list.items ≤ length text)
+answer-count limit text (Ok l) h = lexes-count h.1
+answer-count limit text (Err f) h = tt
 
-pub told-within : (limit : ℕ) (text : List ℕ) (r : Result TokenList LexFault) → Tells limit text r → IfOk r (λ l. AreWithin limit l.list.items)
-told-within limit text (Ok l) h = lexes-within h.1
-told-within limit text (Err f) h = tt
+pub answer-within : (limit : ℕ) (text : List ℕ) (r : Result TokenList LexFault) → TokensAnswer limit text r → IfOk r (λ l. AreWithin limit l.list.items)
+answer-within limit text (Ok l) h = lexes-within h.1
+answer-within limit text (Err f) h = tt

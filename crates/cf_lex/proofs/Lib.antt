@@ -4,3 +4,4 @@ pub mod RunLemmas
 pub mod GrammarLemmas
 pub mod StepLemmas
 pub mod LexesLemmas
+pub mod Examples

@@ -3,7 +3,7 @@ use Rattle.std.proofs.Common.{◌≡◌, ℕ, ◌-◌, length, arith, List, [], 
 use Rattle.std.proofs.lemmas.List.{take_rest}
 use Rattle.cf_lex.specs.Places.{first_place, place_after}
 use Rattle.cf_lex.specs.Tokens.{Ending, at_end, bad_byte, past_limit, tokens_of}
-use Rattle.cf_lex.specs.Steps.{Scans, stop, skip, token, step, step_to, stops, Told}
+use Rattle.cf_lex.specs.Steps.{Scans, stop, skip, token, step, step_to, stops, ScanAnswer}
 use Rattle.cf_lex.specs.Steps.{NextIs}
 use Rattle.cf_tree.specs.declared.base.Place.{Place}
 use Rattle.cf_lex.specs.declared.token.Token.{Token}
@@ -38,7 +38,7 @@ goes_empty [] g none = goes_stop at_end g refl
 goes_empty (b ∷ rest) g none = absurd (omega arith)
 
 pub goes_fault : {limit : ℕ} {text : List ℕ} {items : List Token} {p : Place} {rest : List ℕ} (f : LexFault) →
-    Goes limit text items p rest → NextIs limit p rest (Err f) → Told limit text (Err f)
+    Goes limit text items p rest → NextIs limit p rest (Err f) → ScanAnswer limit text (Err f)
 goes_fault {limit = limit} {text = text} {items = items} (fault.BadByte q) g is = (items, rw is.0 (goes_stop bad_byte g is.1))
 goes_fault {limit = limit} {text = text} {items = items} (fault.NumberPast q) g is = (items, rw is.0 (goes_stop past_limit g is.1))
 goes_fault fault.NoMemory g is = tt

@@ -5,11 +5,11 @@ use Rattle.std.proofs.lemmas.Bool.{cases_lt}
 use Rattle.cf_lex.specs.Digits.{digits_value, at_most}
 use Rattle.cf_lex.specs.Front.{front_of}
 use Rattle.cf_lex.specs.Places.{place_after}
-use Rattle.cf_lex.specs.Steps.{Scans, stop, skip, token, Step, step, step_of, step_to, literal_step, stops, skips, gives, Told}
+use Rattle.cf_lex.specs.Steps.{Scans, stop, skip, token, Step, step, step_of, step_to, literal_step, stops, skips, gives, ScanAnswer}
 use Rattle.cf_lex.specs.Tokens.{IsBlank, IsLiteral, IsWord, IsSign, IsPiece, Lexes, none, piece, Ending, at_end, bad_byte, past_limit, Ends, LexesTo, tokens_of}
 use Rattle.cf_lex.specs.declared.front.Piece.{Piece}
 use Rattle.cf_lex.specs.declared.front.Piece.TheVariants as found
-use Rattle.cf_lex.specs.Tokens.{Tells, IsTold}
+use Rattle.cf_lex.specs.Tokens.{TokensAnswer, IsAnswer}
 use Rattle.cf_lex.specs.declared.token.TokenList.{TokenList}
 use Rattle.cf_lex.specs.declared.fault.LexFault.{LexFault}
 use Rattle.cf_lex.specs.declared.fault.LexFault.TheVariants as fault
@@ -140,14 +140,14 @@ pub LexesTo-once : (limit : ℕ) (text : List ℕ) (ts us : List Token) (q r : P
     (ts ≡ us) × (q ≡ r) × (e ≡ d)
 LexesTo-once limit text ts us q r e d a b = Scans-once limit (Scans-from e a.1 a.2) (Scans-from d b.1 b.2)
 
-pub told_from : (limit : ℕ) (text : List ℕ) (r : Result TokenList LexFault) → Told limit text r → Tells limit text r
-told_from limit text (Ok l) s = Lexes-from s
-told_from limit text (Err (fault.BadByte q)) s = (s.0, Lexes-from s.1)
-told_from limit text (Err (fault.NumberPast q)) s = (s.0, Lexes-from s.1)
-told_from limit text (Err fault.NoMemory) s = tt
+pub answer_from : (limit : ℕ) (text : List ℕ) (r : Result TokenList LexFault) → ScanAnswer limit text r → TokensAnswer limit text r
+answer_from limit text (Ok l) s = Lexes-from s
+answer_from limit text (Err (fault.BadByte q)) s = (s.0, Lexes-from s.1)
+answer_from limit text (Err (fault.NumberPast q)) s = (s.0, Lexes-from s.1)
+answer_from limit text (Err fault.NoMemory) s = tt
 
-pub only_from : (limit : ℕ) (text : List ℕ) (r : Result TokenList LexFault) → Told limit text r →
-    (ts : List Token) (q : Place) (e : Ending) → LexesTo limit text ts q e → IsTold ts q e r
+pub only_from : (limit : ℕ) (text : List ℕ) (r : Result TokenList LexFault) → ScanAnswer limit text r →
+    (ts : List Token) (q : Place) (e : Ending) → LexesTo limit text ts q e → IsAnswer ts q e r
 only_from limit text (Ok l) s ts q e a = Scans-once limit (Scans-from e a.1 a.2) s
 only_from limit text (Err (fault.BadByte p)) s ts q e a = let o = Scans-once limit (Scans-from e a.1 a.2) s.1 in (o.1, o.2)
 only_from limit text (Err (fault.NumberPast p)) s ts q e a = let o = Scans-once limit (Scans-from e a.1 a.2) s.1 in (o.1, o.2)

@@ -48,7 +48,7 @@ pub data Scans (limit : ℕ) : Place → List ℕ → List Token → Place → E
   token : {p : Place} {text : List ℕ} {ts : List Token} {q : Place} {e : Ending} {n : ℕ} {k : TokenKind} → step limit text ≡ gives n k →
       Scans limit (place_after p (take n text)) (drop n text) ts q e → Scans limit p text (record { place = p; kind = k } ∷ ts) q e
 
--- what a reader is told of the next piece
+-- the answer about the next piece
 abbrev pub NextIs : ℕ → Place → List ℕ → Result Taken LexFault → Type 0
 NextIs limit p text (Ok n) = step limit text ≡ step_to n.size n.kind
 NextIs limit p text (Err (fault.BadByte q)) = (q ≡ p) × (step limit text ≡ stops bad_byte)
@@ -56,8 +56,8 @@ NextIs limit p text (Err (fault.NumberPast q)) = (q ≡ p) × (step limit text �
 NextIs limit p text (Err fault.NoMemory) = Unit {0}
 
 -- the tokens, or the first fault
-abbrev pub Told : ℕ → List ℕ → Result TokenList LexFault → Type 0
-Told limit text (Ok l) = Scans limit first_place text l.list.items l.end at_end
-Told limit text (Err (fault.BadByte q)) = (ts : List Token) × Scans limit first_place text ts q bad_byte
-Told limit text (Err (fault.NumberPast q)) = (ts : List Token) × Scans limit first_place text ts q past_limit
-Told limit text (Err fault.NoMemory) = Unit {0}
+abbrev pub ScanAnswer : ℕ → List ℕ → Result TokenList LexFault → Type 0
+ScanAnswer limit text (Ok l) = Scans limit first_place text l.list.items l.end at_end
+ScanAnswer limit text (Err (fault.BadByte q)) = (ts : List Token) × Scans limit first_place text ts q bad_byte
+ScanAnswer limit text (Err (fault.NumberPast q)) = (ts : List Token) × Scans limit first_place text ts q past_limit
+ScanAnswer limit text (Err fault.NoMemory) = Unit {0}

@@ -67,19 +67,19 @@ Ends limit text past_limit = (w rest : List ℕ) × (text ≡ w ++ rest) × IsLi
 abbrev pub LexesTo : ℕ → List ℕ → List Token → Place → Ending → Type 0
 LexesTo limit text ts q e = (left : List ℕ) × Lexes limit first_place text ts q left × Ends limit left e
 
--- what a reader tells: the tokens of the whole text, or the place of its first fault
-abbrev pub Tells : ℕ → List ℕ → Result TokenList LexFault → Type 0
-Tells limit text (Ok l) = LexesTo limit text l.list.items l.end at_end
-Tells limit text (Err (fault.BadByte q)) = (ts : List Token) × LexesTo limit text ts q bad_byte
-Tells limit text (Err (fault.NumberPast q)) = (ts : List Token) × LexesTo limit text ts q past_limit
-Tells limit text (Err fault.NoMemory) = Unit {0}
+-- the answer of a reader: the tokens of the whole text, or the place of its first fault
+abbrev pub TokensAnswer : ℕ → List ℕ → Result TokenList LexFault → Type 0
+TokensAnswer limit text (Ok l) = LexesTo limit text l.list.items l.end at_end
+TokensAnswer limit text (Err (fault.BadByte q)) = (ts : List Token) × LexesTo limit text ts q bad_byte
+TokensAnswer limit text (Err (fault.NumberPast q)) = (ts : List Token) × LexesTo limit text ts q past_limit
+TokensAnswer limit text (Err fault.NoMemory) = Unit {0}
 
--- these tokens and this ending are what was told
-abbrev pub IsTold : List Token → Place → Ending → Result TokenList LexFault → Type 0
-IsTold ts q e (Ok l) = (ts ≡ l.list.items) × (q ≡ l.end) × (e ≡ at_end)
-IsTold ts q e (Err (fault.BadByte p)) = (q ≡ p) × (e ≡ bad_byte)
-IsTold ts q e (Err (fault.NumberPast p)) = (q ≡ p) × (e ≡ past_limit)
-IsTold ts q e (Err fault.NoMemory) = Unit {0}
+-- these tokens and this ending are the answer
+abbrev pub IsAnswer : List Token → Place → Ending → Result TokenList LexFault → Type 0
+IsAnswer ts q e (Ok l) = (ts ≡ l.list.items) × (q ≡ l.end) × (e ≡ at_end)
+IsAnswer ts q e (Err (fault.BadByte p)) = (q ≡ p) × (e ≡ bad_byte)
+IsAnswer ts q e (Err (fault.NumberPast p)) = (q ≡ p) × (e ≡ past_limit)
+IsAnswer ts q e (Err fault.NoMemory) = Unit {0}
 
 -- a literal is at most the limit
 abbrev pub IsKindWithin : ℕ → TokenKind → Type 0

@@ -14,6 +14,7 @@ pub(crate) enum Piece {
     Bad,
 }
 
+/// The piece at the front of a text of this first byte and this rest.
 pub(crate) fn front(first: u8, rest: &[u8]) -> Piece
     requires { length rest.now < 2 ^ 32 }
     ensures found { result ≡ front_of first rest.now }

@@ -1,8 +1,8 @@
 //! The reader of tokens.
 ghost use Rattle.std.specs.Prelude.{◌≡◌, ℕ, List, ◌+◌, ◌-◌, ◌^◌, ◌<◌, ◌≤◌, length, ◌∷◌, ◌++◌, [], OnOk, IfOk};
 ghost use Rattle.cf_lex.specs.Places.{place_after};
-ghost use Rattle.cf_lex.specs.Tokens.{Tells, IsTold, LexesTo, Ending, AreWithin, tokens_of};
-ghost use Rattle.cf_lex.specs.Steps.{NextIs, Told};
+ghost use Rattle.cf_lex.specs.Tokens.{TokensAnswer, IsAnswer, LexesTo, Ending, AreWithin, tokens_of};
+ghost use Rattle.cf_lex.specs.Steps.{NextIs, ScanAnswer};
 ghost use Rattle.cf_lex.specs.declared.token.Token.{Token};
 ghost use Rattle.cf_tree.specs.declared.base.Place.{Place};
 
@@ -14,7 +14,7 @@ use cf_tree::base::{Place, Text};
 use cf_tree::memory::NoMemory;
 use std::alloc::Global;
 
-/// The place after some bytes.
+// The place after some bytes.
 fn after(place: Place, bytes: &[u8]) -> Place
     requires line { place.line + length bytes.now < 2 ^ 32 }
     requires column { place.column + length bytes.now < 2 ^ 32 }
@@ -84,7 +84,7 @@ fn take_piece(alloc: Global, place: Place, text: &[u8], limit: u128) -> Result<T
     }
 }
 
-/// Adds the token that a piece is, if it is one.
+// Adds the token that a piece is, if it is one.
 fn add(list: &mut Vec<Token>, place: Place, kind: Option<TokenKind>) -> Result<(), NoMemory>
     ensures { OnOk result (list.new.items ≡ list.old.items ++ tokens_of place kind) }
 {
@@ -100,7 +100,7 @@ fn add(list: &mut Vec<Token>, place: Place, kind: Option<TokenKind>) -> Result<(
 fn scan(alloc: Global, text: &[u8], limit: u128) -> Result<TokenList, LexFault>
     requires short { length text.now < 2 ^ 32 - 1 }
     requires limit { limit < 2 ^ 127 }
-    ensures { Told limit text.now result }
+    ensures { ScanAnswer limit text.now result }
 {
     let mut list = Vec::new(alloc);
     let mut place = Place { line: 1, column: 1 };
@@ -114,14 +114,14 @@ fn scan(alloc: Global, text: &[u8], limit: u128) -> Result<TokenList, LexFault>
     Ok(TokenList { list, end: place })
 }
 
-/// The greatest literal.
+// The greatest literal.
 const MAX: u128 = 170141183460469231731687303715884105727;
 
 fn tokens_within(alloc: Global, text: &[u8], limit: u128) -> Result<TokenList, LexFault>
     requires short { length text.now < 2 ^ 32 - 1 }
     requires limit { limit < 2 ^ 127 }
-    ensures told { Tells limit text.now result }
-    ensures only { (ts : List Token) (q : Place) (e : Ending) → LexesTo limit text.now ts q e → IsTold ts q e result }
+    ensures answer { TokensAnswer limit text.now result }
+    ensures only { (ts : List Token) (q : Place) (e : Ending) → LexesTo limit text.now ts q e → IsAnswer ts q e result }
     ensures literals { IfOk result (λ l. AreWithin limit l.list.items) }
     ensures count { IfOk result (λ l. length l.list.items ≤ length text.now) }
 {
@@ -136,9 +136,9 @@ fn tokens_within(alloc: Global, text: &[u8], limit: u128) -> Result<TokenList, L
 /// past 2^127 - 1: whichever stands first. `NoMemory` where no memory is left.
 pub fn tokens(alloc: Global, text: &[u8]) -> Result<TokenList, LexFault>
     requires { length text.now < 2 ^ 32 - 1 }
-    ensures told { Tells (2 ^ 127 - 1) text.now result }
+    ensures answer { TokensAnswer (2 ^ 127 - 1) text.now result }
     // A text has no other tokens, and no other first fault.
-    ensures only { (ts : List Token) (q : Place) (e : Ending) → LexesTo (2 ^ 127 - 1) text.now ts q e → IsTold ts q e result }
+    ensures only { (ts : List Token) (q : Place) (e : Ending) → LexesTo (2 ^ 127 - 1) text.now ts q e → IsAnswer ts q e result }
     ensures literals { IfOk result (λ l. AreWithin (2 ^ 127 - 1) l.list.items) }
     ensures count { IfOk result (λ l. length l.list.items ≤ length text.now) }
 {

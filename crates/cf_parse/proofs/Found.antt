@@ -3,15 +3,11 @@ use Rattle.std.proofs.Common.{◌≡◌, inl, inr, ℕ, suc, zero, ◌≤◌, Bo
 use Rattle.std.specs.Prelude.{ℤ, pos, ◌≤ℤ◌, int_le, nat_eq, codes}
 use Rattle.std.specs.Str.{bytes_eq}
 use Rattle.std.proofs.lemmas.Bool.{eqb-true, leb-true}
-use Rattle.std.proofs.lemmas.Slice.Eq.{bytes_eq-Decides}
 use Rattle.cf_lex.specs.declared.token.Token.{Token}
 use Rattle.cf_lex.specs.declared.token.TokenKind.{TokenKind}
 use Rattle.cf_lex.specs.declared.token.TokenKind.TheVariants.{Literal, Word, Sign}
 use Rattle.cf_tree.specs.declared.base.Place.{Place}
-use Rattle.cf_tree.specs.declared.base.Base.{Base}
-use Rattle.cf_tree.specs.declared.base.Order.TheVariants.{Eq, Ne, Lt, Le, Gt, Ge}
 use Rattle.cf_tree.specs.declared.raw.BinOp.{BinOp}
-use Rattle.cf_tree.specs.declared.raw.BinOp.TheVariants.{Add, Sub, Mul, And, Or, Union, Inter, Diff, Subset, Compare}
 use Rattle.cf_tree.specs.declared.raw.Part.{Part}
 use Rattle.cf_tree.specs.RawTree.{RawTree, raw_lit, raw_truth, raw_name, raw_set_of, raw_group, raw_tuple, raw_neg, raw_not, raw_abs, raw_binary, raw_divides, raw_div, raw_mod, raw_card, raw_call, raw_if, raw_let, raw_choose, raw_match, RawArmTree, raw_arm, raws_of, raw_arms_of, raw_depth, raws_depth, raw_arm_depth, raw_arms_depth}
 use Rattle.cf_reader.specs.Readers.{Reader, is, a_name, must, bind, first, several_of, snoc}
@@ -20,11 +16,11 @@ use Rattle.cf_reader.proofs.KindLaws.{took_base, took_truth}
 use Rattle.cf_reader.proofs.Yields.{Yields, faults, Took, pure_yields, widen, bind_yields, must_yields, first_yields, deep_yields, added, all_added, if_some, if_else_some, same_token, took_is, took_next, took_name, in_order, took_literal, several_yields, same_text, one_or_tuple_yields}
 use Rattle.cf_reader.specs.Operations.{op_kind, op_of}
 use Rattle.cf_reader.proofs.OperationLaws.{op_on}
-use Rattle.cf_parse.specs.declared.level.Level.{Level}
-use Rattle.cf_parse.specs.declared.level.Level.TheVariants.{Whole, Ors, Ands, Cmps, Sums, Muls, Unary}
+use Rattle.cf_parse.specs.declared.tier.Tier.{Tier}
+use Rattle.cf_parse.specs.declared.tier.Tier.TheVariants.{Whole, Ors, Ands, Cmps, Sums, Muls, Unary}
 use Rattle.cf_parse.specs.declared.pattern.Term.{Term}
 use Rattle.cf_parse.specs.declared.pattern.Term.TheVariants.{Part as a_part, Constant as the_constant}
-use Rattle.cf_parse.specs.Spelling.{rank, under, op_level, left_level, Fits, SpellsParam, SpellsName, SpellsNames, plus_or_minus, SpellsPart, SpellsConstant, SpellsSigned, SpellsPattern, Spells, SpellsItems, SpellsOthers, SpellsArm, SpellsArms}
+use Rattle.cf_parse.specs.Spelling.{rank, under, op_tier, left_tier, Fits, SpellsParam, SpellsName, SpellsNames, plus_or_minus, SpellsPart, SpellsConstant, SpellsSigned, SpellsPattern, Spells, SpellsItems, SpellsOthers, SpellsArm, SpellsArms}
 use Rattle.cf_parse.specs.Reading.{a_sign, op_at, next_op, lone_literal, factor_of, divides_by, param_of, named, names_of, term_of, Pattern, by_term, terms_of, all_terms, pattern_of, Parts, chain_of, list_of, items_of, grouped, inside_of, divided_of, named_of, word_of, atom_of, unary_of, muls_of, sums_of, compared_of, cmps_of, ands_of, ors_of, let_of, if_of, choose_of, arm_of, match_of, whole_of, step, read}
 
 -- the tests of the grammar's words and signs
@@ -40,17 +36,17 @@ sign_on q (Literal n) x e = cc
 pub took_sign : (ts us : List Token) (x : Bool) → Took a_sign ts x us → Next (plus_or_minus x) ts us
 took_sign ts us x (t, e, f) = (t.place, same_token t t.place (plus_or_minus x) ts us e refl (sign_on t.place t.kind x f))
 
-rank_level : ℕ → Level
-rank_level zero = Whole
-rank_level (suc zero) = Ors
-rank_level (suc (suc zero)) = Ands
-rank_level (suc (suc (suc zero))) = Cmps
-rank_level (suc (suc (suc (suc zero)))) = Sums
-rank_level (suc (suc (suc (suc (suc zero))))) = Muls
-rank_level (suc (suc (suc (suc (suc (suc n)))))) = Unary
+rank_tier : ℕ → Tier
+rank_tier zero = Whole
+rank_tier (suc zero) = Ors
+rank_tier (suc (suc zero)) = Ands
+rank_tier (suc (suc (suc zero))) = Cmps
+rank_tier (suc (suc (suc (suc zero)))) = Sums
+rank_tier (suc (suc (suc (suc (suc zero))))) = Muls
+rank_tier (suc (suc (suc (suc (suc (suc n)))))) = Unary
 
-rank_again : (level : Level) → rank_level (rank level) ≡ level
-unfolding rank_level
+rank_again : (tier : Tier) → rank_tier (rank tier) ≡ tier
+unfolding rank_tier
 rank_again Whole = refl
 rank_again Ors = refl
 rank_again Ands = refl
@@ -59,31 +55,31 @@ rank_again Sums = refl
 rank_again Muls = refl
 rank_again Unary = refl
 
-pub same_rank : (a b : Level) → rank a ≡ rank b → a ≡ b
-same_rank a b e = sym (rank_again a) ∙ ap rank_level e ∙ rank_again b
+pub same_rank : (a b : Tier) → rank a ≡ rank b → a ≡ b
+same_rank a b e = sym (rank_again a) ∙ ap rank_tier e ∙ rank_again b
 
--- an operation of the level
-pub record OpFound (level : Level) (n d : ℕ) (ts : List Token) (o : Place × BinOp) (us : List Token) : Type 0 where
+-- an operation of the tier
+pub record OpFound (tier : Tier) (n d : ℕ) (ts : List Token) (o : Place × BinOp) (us : List Token) : Type 0 where
   pub small : d ≤ n
-  pub at_level : op_level o.1 ≡ level
+  pub at_tier : op_tier o.1 ≡ tier
   pub stands : First o.0 (op_kind o.1) ts us
 
-op_at_on : (level : Level) (p : Place) (o : Option BinOp) (x : Place × BinOp) → op_at level p o ≡ Some x → (o ≡ Some x.1) × (p ≡ x.0) × (op_level x.1 ≡ level)
-op_at_on level p None x e = cc
-op_at_on level p (Some op) x e =
-    let h = if_some (nat_eq (rank (op_level op)) (rank level)) (p, op) x e in
-    (ap (λ z. Some z.1) h.1, ap (λ z. z.0) h.1, subst (λ z. op_level z ≡ level) (ap (λ z. z.1) h.1) (same_rank (op_level op) level (eqb-true (rank (op_level op)) (rank level) h.0)))
+op_at_on : (tier : Tier) (p : Place) (o : Option BinOp) (x : Place × BinOp) → op_at tier p o ≡ Some x → (o ≡ Some x.1) × (p ≡ x.0) × (op_tier x.1 ≡ tier)
+op_at_on tier p None x e = cc
+op_at_on tier p (Some op) x e =
+    let h = if_some (nat_eq (rank (op_tier op)) (rank tier)) (p, op) x e in
+    (ap (λ z. Some z.1) h.1, ap (λ z. z.0) h.1, subst (λ z. op_tier z ≡ tier) (ap (λ z. z.1) h.1) (same_rank (op_tier op) tier (eqb-true (rank (op_tier op)) (rank tier) h.0)))
 
 next_on : (b : Bool) (o : Option (Place × BinOp)) (x : Place × BinOp) → cond b o None ≡ Some x → (b ≡ true) × (o ≡ Some x)
 next_on true o x e = (refl, e)
 next_on false o x e = cc
 
-pub took_op : (level : Level) (n d : ℕ) (ts us : List Token) (o : Place × BinOp) → Took (next_op level n d) ts o us → OpFound level n d ts o us
+pub took_op : (tier : Tier) (n d : ℕ) (ts us : List Token) (o : Place × BinOp) → Took (next_op tier n d) ts o us → OpFound tier n d ts o us
 unfolding next_op
-took_op level n d ts us o (t, e, f) =
+took_op tier n d ts us o (t, e, f) =
     let g = next_on (nat_le d n) _ o f in
-    let h = op_at_on level t.place (op_of t.kind) o g.1 in
-    record { small = leb-true d n g.0; at_level = h.2; stands = same_token t o.0 (op_kind o.1) ts us e h.1 (op_on t.kind o.1 h.0) }
+    let h = op_at_on tier t.place (op_of t.kind) o g.1 in
+    record { small = leb-true d n g.0; at_tier = h.2; stands = same_token t o.0 (op_kind o.1) ts us e h.1 (op_on t.kind o.1 h.0) }
 
 -- the word divides, behind a literal
 pub record DividesFound (n : ℕ) (left : RawTree) (ts : List Token) (k : Place × ℤ) (us : List Token) : Type 0 where
@@ -137,7 +133,7 @@ pub param_yields : (ts : List Token) → Yields (λ x us. SpellsParam x ts us) (
 unfolding param_of
 param_yields ts =
     bind_yields _ _ ts (must_yields _ ts) (λ x a n. bind_yields _ _ a (must_yields _ a) (λ p b c. bind_yields _ _ b (must_yields _ b) (λ base us d.
-    pure_yields _ us (a, b, took_name ts a x n, took_next _ a b p c, took_base b us base d))))
+    pure_yields _ us (a, took_name ts a x n, (b, took_next _ a b p c, took_base b us base d)))))
 
 added_names : (xs : List (List ℕ)) (qs : List Place) (new : List (Place × List ℕ)) → added named (xs, qs) new ≡ (xs ++ map (λ x. x.1) new, qs ++ map (λ x. x.0) new)
 added_names xs qs [] = ap (λ (ys : List (List ℕ)). (ys, qs)) (sym (append-nil xs)) ∙ ap (λ (ys : List Place). (xs ++ [], ys)) (sym (append-nil qs))
@@ -174,8 +170,8 @@ unfolding term_of
 term_yields minus ts =
     first_yields _ _ _ ts
     (λ k a n. first_yields _ _ _ a
-    (λ p b s. bind_yields _ _ b (must_yields _ b) (λ x us w. pure_yields _ us (inr (k.0, k.1, a, b, took_literal (pos 0) ts a k n, took_next _ a b p s, took_name b us x w, refl))))
-    (pure_yields _ a (k.0, k.1, took_literal (pos 0) ts a k n, refl)))
+    (λ p b s. bind_yields _ _ b (must_yields _ b) (λ x us w. pure_yields _ us (inr (k.1, (a, (k.0, took_literal (pos 0) ts a k n), (b, took_next _ a b p s, took_name b us x w)), refl))))
+    (pure_yields _ a (k.1, (k.0, took_literal (pos 0) ts a k n), refl)))
     (bind_yields _ _ ts (must_yields _ ts) (λ x us w. pure_yields _ us (inl (took_name ts us x w, refl))))
 
 -- terms behind a sign, with the parts read before
@@ -186,8 +182,8 @@ pub record TermsFound (minus : Bool) (done : List Part) (ts : List Token) (y : P
 
 behind : (minus sign : Bool) (done : List Part) (ts a b us : List Token) (x : Part) (y : Pattern) → SpellsPart minus x ts a → Next (plus_or_minus sign) a b → (new : List Part) → y.0 ≡ (done ++ x ∷ []) ++ new →
     SpellsSigned sign new y.1 b us → TermsFound minus done ts y us
-behind minus sign done ts a b us x y w n [] e s = record { new = x ∷ []; all = e ∙ append-nil (done ++ x ∷ []); spelled = (a, w, inr (sign, b, n, s)) }
-behind minus sign done ts a b us x y w n (z ∷ zs) e s = record { new = x ∷ z ∷ zs; all = e ∙ append_assoc done (x ∷ []) (z ∷ zs); spelled = (a, w, (sign, b, s.0, n, s.1, s.2)) }
+behind minus sign done ts a b us x y w n [] e s = record { new = x ∷ []; all = e ∙ append-nil (done ++ x ∷ []); spelled = (a, w, inr (sign, (b, n, s))) }
+behind minus sign done ts a b us x y w n (z ∷ zs) e s = record { new = x ∷ z ∷ zs; all = e ∙ append_assoc done (x ∷ []) (z ∷ zs); spelled = (a, w, (sign, (b, n, s))) }
 
 term_case : {Q : Pattern → List Token → Type 0} (minus : Bool) (ts a : List Token) (f : ℤ → Reader Pattern) (g : Part → Reader Pattern) (term : Term) → SpellsTerm minus term ts a →
     ((k : ℤ) → SpellsConstant minus k ts a → Yields Q (f k a)) → ((x : Part) → SpellsPart minus x ts a → Yields Q (g x a)) → Yields Q (by_term term f g a)
@@ -212,20 +208,20 @@ pattern_yields ts =
 
 -- expressions
 
--- a tree of depth at most n at a level, spelled by the tokens up to the rest
-pub record Found (n : ℕ) (level : Level) (ts : List Token) (t : RawTree) (us : List Token) : Type 0 where
-  pub fits : Fits level t
+-- a tree of depth at most n at a tier, spelled by the tokens up to the rest
+pub record Found (n : ℕ) (tier : Tier) (ts : List Token) (t : RawTree) (us : List Token) : Type 0 where
+  pub fits : Fits tier t
   pub deep : raw_depth t ≤ n
   pub spelled : Spells t ts us
 
 -- what parts of depth at most n are read
 unfoldable pub Finds : Parts → ℕ → Type 0
-Finds part n = (level : Level) (ts : List Token) → Yields (Found n level ts) (part level ts)
+Finds part n = (tier : Tier) (ts : List Token) → Yields (Found n tier ts) (part tier ts)
 
 others_spelled : (n : ℕ) (close : TokenKind) (es : List RawTree) (ts us : List Token) → Others (λ t ts us. Found n Whole ts t us) (Sign (codes ",")) close es ts us →
     (raws_depth (raws_of es) ≤ n) × SpellsOthers (raws_of es) close ts us
 others_spelled n close [] ts us w = (omega arith, w)
-others_spelled n close (e ∷ es) ts us (a, b, c, f, o) = let h = others_spelled n close es b us o in (omega (arith, f.deep, h.0), (a, b, c, f.spelled, h.1))
+others_spelled n close (e ∷ es) ts us (a, c, (b, f, o)) = let h = others_spelled n close es b us o in (omega (arith, f.deep, h.0), (a, c, (b, f.spelled, h.1)))
 
 -- expr { "," expr } close
 pub record ListFound (n : ℕ) (close : TokenKind) (ts : List Token) (es : List RawTree) (us : List Token) : Type 0 where
@@ -264,8 +260,8 @@ items_yields part n h close ts =
 -- trees in parentheses, by how many they are
 group_found : (n : ℕ) (p : Place) (ts b mid : List Token) (e : RawTree) (others : List RawTree) (us : List Token) → First p (Sign (codes "(")) ts b → raw_depth e ≤ n → raws_depth (raws_of others) ≤ n →
     Spells e b mid → SpellsOthers (raws_of others) (Sign (codes ")")) mid us → Found (suc n) Unary ts (grouped p (e ∷ others)) us
-group_found n p ts b mid e [] us w d ds s more = record { fits = omega arith; deep = omega (arith, d); spelled = (b, mid, w, s, more) }
-group_found n p ts b mid e (f ∷ fs) us w d ds s more = record { fits = omega arith; deep = omega (arith, d, ds); spelled = (b, mid, w, s, more) }
+group_found n p ts b mid e [] us w d ds s more = record { fits = omega arith; deep = omega (arith, d); spelled = (b, w, (mid, s, more)) }
+group_found n p ts b mid e (f ∷ fs) us w d ds s more = record { fits = omega arith; deep = omega (arith, d, ds); spelled = (b, w, (mid, s, more)) }
 
 grouped_found : (n : ℕ) (p : Place) (ts a : List Token) (es : List RawTree) (us : List Token) → First p (Sign (codes "(")) ts a → ListFound n (Sign (codes ")")) a es us → Found (suc n) Unary ts (grouped p es) us
 grouped_found n p ts a es us w l =
@@ -295,7 +291,7 @@ divided_yields part n h ts =
 
 call_found : (n : ℕ) (ts a b us : List Token) (x : Place × List ℕ) (es : List RawTree) → FirstName x.0 x.1 ts a → Next (Sign (codes "(")) a b → ItemsFound n (Sign (codes ")")) b es us →
     Found (suc n) Unary ts (raw_call x.0 x.1 (raws_of es)) us
-call_found n ts a b us x es w o i = record { fits = omega arith; deep = omega (arith, i.0); spelled = (a, b, w, o, i.1) }
+call_found n ts a b us x es w o i = record { fits = omega arith; deep = omega (arith, i.0); spelled = (a, w, (b, o, i.1)) }
 
 named_yields : (part : Parts) (n : ℕ) → Finds part n → (ts : List Token) → Yields (Found (suc n) Unary ts) (named_of part ts)
 unfolding named_of
@@ -305,16 +301,16 @@ named_yields part n h ts =
     (pure_yields _ a (record { fits = omega arith; deep = omega arith; spelled = took_name ts a x w })))
 
 card_found : (n : ℕ) (p : Place) (ts a : List Token) (e : RawTree) (us : List Token) → First p (Word (codes "card")) ts a → InsideFound n a e us → Found (suc n) Unary ts (raw_card p e) us
-card_found n p ts a e us w (b, c, o, s, cl, d) = record { fits = omega arith; deep = omega (arith, d); spelled = (a, b, c, w, o, s, cl) }
+card_found n p ts a e us w (b, c, o, s, cl, d) = record { fits = omega arith; deep = omega (arith, d); spelled = (a, w, (b, o, (c, s, cl))) }
 
 abs_found : (n : ℕ) (p : Place) (ts a : List Token) (e : RawTree) (us : List Token) → First p (Word (codes "abs")) ts a → InsideFound n a e us → Found (suc n) Unary ts (raw_abs p e) us
-abs_found n p ts a e us w (b, c, o, s, cl, d) = record { fits = omega arith; deep = omega (arith, d); spelled = (a, b, c, w, o, s, cl) }
+abs_found n p ts a e us w (b, c, o, s, cl, d) = record { fits = omega arith; deep = omega (arith, d); spelled = (a, w, (b, o, (c, s, cl))) }
 
 div_found : (n : ℕ) (p : Place) (ts a : List Token) (e : RawTree × ℤ) (us : List Token) → First p (Word (codes "div")) ts a → DividedFound n a e us → Found (suc n) Unary ts (raw_div p e.0 e.1) us
-div_found n p ts a e us w (b, c, d, f, o, s, m, l, cl, i) = record { fits = omega arith; deep = omega (arith, i); spelled = (a, b, c, d, f, w, o, s, m, l, cl) }
+div_found n p ts a e us w (b, c, d, f, o, s, m, l, cl, i) = record { fits = omega arith; deep = omega (arith, i); spelled = (a, w, (b, o, (c, s, (d, m, (f, l, cl))))) }
 
 mod_found : (n : ℕ) (p : Place) (ts a : List Token) (e : RawTree × ℤ) (us : List Token) → First p (Word (codes "mod")) ts a → DividedFound n a e us → Found (suc n) Unary ts (raw_mod p e.0 e.1) us
-mod_found n p ts a e us w (b, c, d, f, o, s, m, l, cl, i) = record { fits = omega arith; deep = omega (arith, i); spelled = (a, b, c, d, f, w, o, s, m, l, cl) }
+mod_found n p ts a e us w (b, c, d, f, o, s, m, l, cl, i) = record { fits = omega arith; deep = omega (arith, i); spelled = (a, w, (b, o, (c, s, (d, m, (f, l, cl))))) }
 
 word_yields : (part : Parts) (n : ℕ) → Finds part n → (ts : List Token) → Yields (Found (suc n) Unary ts) (word_of part n ts)
 unfolding word_of
@@ -338,11 +334,11 @@ atom_yields part n h ts =
 unary_yields : (part : Parts) (n : ℕ) → Finds part n → (ts : List Token) → Yields (Found (suc n) Unary ts) (unary_of part n ts)
 unfolding unary_of Finds
 unary_yields part n h ts =
-    deep_yields _ _ _ _ ts (λ p a w. bind_yields _ _ a (h Unary a) (λ e us f. pure_yields _ us (record { fits = omega arith; deep = omega (arith, f.deep); spelled = (a, took_is _ ts a p w, f.fits, f.spelled) })))
-    (deep_yields _ _ _ _ ts (λ p a w. bind_yields _ _ a (h Unary a) (λ e us f. pure_yields _ us (record { fits = omega arith; deep = omega (arith, f.deep); spelled = (a, took_is _ ts a p w, f.fits, f.spelled) })))
+    deep_yields _ _ _ _ ts (λ p a w. bind_yields _ _ a (h Unary a) (λ e us f. pure_yields _ us (record { fits = omega arith; deep = omega (arith, f.deep); spelled = (a, took_is _ ts a p w, (f.fits, f.spelled)) })))
+    (deep_yields _ _ _ _ ts (λ p a w. bind_yields _ _ a (h Unary a) (λ e us f. pure_yields _ us (record { fits = omega arith; deep = omega (arith, f.deep); spelled = (a, took_is _ ts a p w, (f.fits, f.spelled)) })))
     (atom_yields part n h ts))
 
-left_is : (level : Level) → 1 ≤ rank level → (rank level ≡ 3 → ⊥) → left_level level ≡ level
+left_is : (tier : Tier) → 1 ≤ rank tier → (rank tier ≡ 3 → ⊥) → left_tier tier ≡ tier
 left_is Whole h i = refl
 left_is Ors h i = refl
 left_is Ands h i = refl
@@ -351,31 +347,31 @@ left_is Sums h i = refl
 left_is Muls h i = refl
 left_is Unary h i = refl
 
-made_op : (n : ℕ) (level : Level) (left : RawTree) (start ts : List Token) (o : Place × BinOp) (b : List Token) (right : RawTree) (us : List Token) →
-    Fits (left_level level) left → Spells left start ts → OpFound level n (raw_depth left) ts o b → Found n (under level) b right us →
-    Found (suc n) level start (raw_binary o.0 o.1 left right) us
-made_op n level left start ts o b right us fit spelled op found = record {
-  fits = let e : rank (op_level o.1) ≡ rank level = ap rank op.at_level in omega (arith, e);
+made_op : (n : ℕ) (tier : Tier) (left : RawTree) (start ts : List Token) (o : Place × BinOp) (b : List Token) (right : RawTree) (us : List Token) →
+    Fits (left_tier tier) left → Spells left start ts → OpFound tier n (raw_depth left) ts o b → Found n (under tier) b right us →
+    Found (suc n) tier start (raw_binary o.0 o.1 left right) us
+made_op n tier left start ts o b right us fit spelled op found = record {
+  fits = let e : rank (op_tier o.1) ≡ rank tier = ap rank op.at_tier in omega (arith, e);
   deep = omega (arith, op.small, found.deep);
-  spelled = (ts, b, subst (λ l. Fits (left_level l) left) (sym op.at_level) fit, spelled, op.stands, subst (λ l. Fits (under l) right) (sym op.at_level) found.fits, found.spelled);
+  spelled = (ts, (subst (λ l. Fits (left_tier l) left) (sym op.at_tier) fit, spelled), (b, op.stands, (subst (λ l. Fits (under l) right) (sym op.at_tier) found.fits, found.spelled)));
 }
 
-chain_yields : (part : Parts) (n : ℕ) → Finds part n → (level : Level) → left_level level ≡ level → (k : ℕ) (left : RawTree) (start ts : List Token) →
-    Found (suc n) level start left ts → Yields (Found (suc n) level start) (chain_of part level n k left ts)
+chain_yields : (part : Parts) (n : ℕ) → Finds part n → (tier : Tier) → left_tier tier ≡ tier → (k : ℕ) (left : RawTree) (start ts : List Token) →
+    Found (suc n) tier start left ts → Yields (Found (suc n) tier start) (chain_of part tier n k left ts)
 unfolding chain_of Finds
-chain_yields part n h level i zero left start ts w = pure_yields left ts w
-chain_yields part n h level i (suc k) left start ts w =
+chain_yields part n h tier i zero left start ts w = pure_yields left ts w
+chain_yields part n h tier i (suc k) left start ts w =
     first_yields _ _ _ ts
-    (λ o b t. bind_yields _ _ b (h (under level) b) (λ right us f. chain_yields part n h level i k (raw_binary o.0 o.1 left right) start us
-    (made_op n level left start ts o b right us (subst (λ l. Fits l left) (sym i) w.fits) w.spelled (took_op level n (raw_depth left) ts b o t) f)))
+    (λ o b t. bind_yields _ _ b (h (under tier) b) (λ right us f. chain_yields part n h tier i k (raw_binary o.0 o.1 left right) start us
+    (made_op n tier left start ts o b right us (subst (λ l. Fits l left) (sym i) w.fits) w.spelled (took_op tier n (raw_depth left) ts b o t) f)))
     (pure_yields left ts w)
 
-out : (n : ℕ) (inner outer : Level) (ts : List Token) (t : RawTree) (us : List Token) → rank outer ≤ rank inner → Found n inner ts t us → Found n outer ts t us
+out : (n : ℕ) (inner outer : Tier) (ts : List Token) (t : RawTree) (us : List Token) → rank outer ≤ rank inner → Found n inner ts t us → Found n outer ts t us
 out n inner outer ts t us h found = record { fits = omega (arith, h, found.fits); deep = found.deep; spelled = found.spelled }
 
-chained : (part : Parts) (n : ℕ) → Finds part n → (inner level : Level) → left_level level ≡ level → (first : Reader RawTree) (ts : List Token) → rank level ≤ rank inner →
-    Yields (Found (suc n) inner ts) (first ts) → Yields (Found (suc n) level ts) (bind first (λ e. chain_of part level n n e) ts)
-chained part n h inner level i first ts e w = bind_yields _ _ ts w (λ left us f. chain_yields part n h level i n left ts us (out (suc n) inner level ts left us e f))
+chained : (part : Parts) (n : ℕ) → Finds part n → (inner tier : Tier) → left_tier tier ≡ tier → (first : Reader RawTree) (ts : List Token) → rank tier ≤ rank inner →
+    Yields (Found (suc n) inner ts) (first ts) → Yields (Found (suc n) tier ts) (bind first (λ e. chain_of part tier n n e) ts)
+chained part n h inner tier i first ts e w = bind_yields _ _ ts w (λ left us f. chain_yields part n h tier i n left ts us (out (suc n) inner tier ts left us e f))
 
 muls_yields : (part : Parts) (n : ℕ) → Finds part n → (ts : List Token) → Yields (Found (suc n) Muls ts) (muls_of part n ts)
 unfolding muls_of
@@ -390,7 +386,7 @@ divides_found : (n : ℕ) (left : RawTree) (start ts a : List Token) (k : Place 
 divides_found n left start ts a k e us s d f = record {
   fits = omega arith;
   deep = omega (arith, f.deep);
-  spelled = (ts, a, ((subst (λ t. Spells t start ts) d.alone s).0, d.least), d.stands, f.fits, f.spelled);
+  spelled = (ts, ((subst (λ t. Spells t start ts) d.alone s).0, d.least), (a, d.stands, (f.fits, f.spelled)));
 }
 
 compared_yields : (part : Parts) (n : ℕ) → Finds part n → (left : RawTree) (start ts : List Token) → Found (suc n) Sums start left ts → Yields (Found (suc n) Cmps start) (compared_of part n left ts)
@@ -419,7 +415,7 @@ let_yields part n h p start ts w =
     bind_yields _ _ d (h Whole d) (λ g us k. pure_yields _ us (record {
       fits = omega arith;
       deep = omega (arith, f.deep, k.deep);
-      spelled = (ts, a, b, c, d, w, x, took_next _ a b q m, f.spelled, took_next _ c d r i, k.spelled);
+      spelled = (ts, w, (a, x, (b, took_next _ a b q m, (c, f.spelled, (d, took_next _ c d r i, k.spelled)))));
     }))))))
 
 if_yields : (part : Parts) (n : ℕ) → Finds part n → (p : Place) (start ts : List Token) → First p (Word (codes "if")) start ts → Yields (Found (suc n) Whole start) (if_of part p ts)
@@ -429,7 +425,7 @@ if_yields part n h p start ts w =
     bind_yields _ _ d (h Whole d) (λ k us l. pure_yields _ us (record {
       fits = omega arith;
       deep = omega (arith, f.deep, i.deep, l.deep);
-      spelled = (ts, a, b, c, d, w, f.spelled, took_next _ a b q m, i.spelled, took_next _ c d r j, l.spelled);
+      spelled = (ts, w, (a, f.spelled, (b, took_next _ a b q m, (c, i.spelled, (d, took_next _ c d r j, l.spelled)))));
     }))))))
 
 choose_yields : (part : Parts) (n : ℕ) → Finds part n → (p : Place) (start ts : List Token) → First p (Word (codes "choose")) start ts → Yields (Found (suc n) Whole start) (choose_of part p ts)
@@ -439,7 +435,7 @@ choose_yields part n h p start ts w =
     pure_yields _ us (record {
       fits = omega arith;
       deep = omega (arith, f.deep);
-      spelled = (ts, a, b, c, w, took_next _ ts a q o, l, took_next _ b c r m, f.fits, f.spelled);
+      spelled = (ts, w, (a, took_next _ ts a q o, (b, l, (c, took_next _ b c r m, (f.fits, f.spelled)))));
     })))))
 
 -- an arm of depth at most n
@@ -471,12 +467,12 @@ arm_yields : (part : Parts) (n : ℕ) → Finds part n → (ts : List Token) →
 unfolding arm_of Finds
 arm_yields part n h ts =
     bind_yields _ _ ts (pattern_yields ts) (λ x a y. bind_yields _ _ a (must_yields _ a) (λ q b m. bind_yields _ _ b (h Whole b) (λ e us f.
-    pure_yields (raw_arm x.0 x.1 e) us (omega (arith, f.deep, deep_one e), (a, b, y, took_next _ a b q m, f.spelled)))))
+    pure_yields (raw_arm x.0 x.1 e) us (omega (arith, f.deep, deep_one e), (a, y, (b, took_next _ a b q m, f.spelled))))))
 
 arms_spelled : (n : ℕ) (arms : List RawArmTree) (ts us : List Token) → Others (ArmFound n) (Sign (codes ";")) (Sign (codes "}")) arms ts us →
     (raw_arms_depth (raw_arms_of arms) ≤ n) × SpellsArms (raw_arms_of arms) ts us
 arms_spelled n [] ts us w = (omega arith, w)
-arms_spelled n (x ∷ arms) ts us (a, b, c, f, o) = let h = arms_spelled n arms b us o in (omega (arith, f.0, h.0), (a, b, c, f.1, h.1))
+arms_spelled n (x ∷ arms) ts us (a, c, (b, f, o)) = let h = arms_spelled n arms b us o in (omega (arith, f.0, h.0), (a, c, (b, f.1, h.1)))
 
 match_found : (n : ℕ) (p : Place) (start ts a b c us : List Token) (e : RawTree) (y new : List RawArmTree) → First p (Word (codes "match")) start ts → Found n Whole ts e a →
     Next (Word (codes "with")) a b → Next (Sign (codes "{")) b c → y ≡ new → Several (ArmFound n) (Sign (codes ";")) (Sign (codes "}")) new c us →
@@ -485,7 +481,7 @@ match_found n p start ts a b c us e y [] w f i o same l = absurd l
 match_found n p start ts a b c us e y (arm ∷ arms) w f i o same (d, g, more) =
     let h = arms_spelled n arms d us more in
     subst (λ z. Found (suc n) Whole start (raw_match p e (raw_arms_of z)) us) (sym same)
-    (record { fits = omega arith; deep = omega (arith, f.deep, g.0, h.0); spelled = (ts, a, b, c, d, w, f.spelled, i, o, g.1, h.1) })
+    (record { fits = omega arith; deep = omega (arith, f.deep, g.0, h.0); spelled = (ts, w, (a, f.spelled, (b, i, (c, o, (d, g.1, h.1))))) })
 
 match_yields : (part : Parts) (n : ℕ) → Finds part n → (p : Place) (start ts : List Token) → First p (Word (codes "match")) start ts → Yields (Found (suc n) Whole start) (match_of part p ts)
 unfolding match_of Finds
@@ -503,7 +499,7 @@ whole_yields part n h ts =
     (deep_yields _ _ _ _ ts (λ p a w. match_yields part n h p ts a (took_is _ ts a p w))
     (widen (λ t us w. out (suc n) Ors Whole ts t us (omega arith) w) (ors_yields part n h ts)))))
 
-step_yields : (part : Parts) (n : ℕ) → Finds part n → (level : Level) (ts : List Token) → Yields (Found (suc n) level ts) (step part n level ts)
+step_yields : (part : Parts) (n : ℕ) → Finds part n → (tier : Tier) (ts : List Token) → Yields (Found (suc n) tier ts) (step part n tier ts)
 unfolding step
 step_yields part n h Whole ts = whole_yields part n h ts
 step_yields part n h Ors ts = ors_yields part n h ts
@@ -515,5 +511,5 @@ step_yields part n h Unary ts = unary_yields part n h ts
 
 pub read_found : (n : ℕ) → Finds (read n) n
 unfolding read Finds
-read_found zero level ts = faults (length ts)
-read_found (suc n) level ts = step_yields (read n) n (read_found n) level ts
+read_found zero tier ts = faults (length ts)
+read_found (suc n) tier ts = step_yields (read n) n (read_found n) tier ts

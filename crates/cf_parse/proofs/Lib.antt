@@ -7,3 +7,4 @@ pub mod LocalReading
 pub mod Only
 pub mod Defs
 pub mod Programs
+pub mod Examples

@@ -8,8 +8,8 @@ use Rattle.cf_tree.specs.declared.raw.Part.{Part}
 use Rattle.cf_tree.specs.RawTree.{RawTree}
 use Rattle.cf_reader.specs.Readers.{Reader}
 use Rattle.cf_reader.proofs.Near.{Local, pure_local, fault_local, end_local, any_local, bind_local, first_local, deep_local, must_local, several_local, one_or_tuple_local}
-use Rattle.cf_parse.specs.declared.level.Level.{Level}
-use Rattle.cf_parse.specs.declared.level.Level.TheVariants.{Whole, Ors, Ands, Cmps, Sums, Muls, Unary}
+use Rattle.cf_parse.specs.declared.tier.Tier.{Tier}
+use Rattle.cf_parse.specs.declared.tier.Tier.TheVariants.{Whole, Ors, Ands, Cmps, Sums, Muls, Unary}
 use Rattle.cf_parse.specs.declared.pattern.Term.{Term}
 use Rattle.cf_parse.specs.declared.pattern.Term.TheVariants.{Part as a_part, Constant as the_constant}
 use Rattle.cf_parse.specs.Reading.{param_of, params_of, named, names_of, term_of, Pattern, by_term, terms_of, all_terms, pattern_of, Parts, chain_of, list_of, items_of, inside_of, divided_of, named_of, word_of, atom_of, unary_of, muls_of, sums_of, compared_of, cmps_of, ands_of, ors_of, let_of, if_of, choose_of, arm_of, match_of, whole_of, step, read}
@@ -57,12 +57,12 @@ pattern_local = first_local _ (λ p. all_terms_local _) (all_terms_local _)
 
 -- readers of parts are local
 unfoldable pub LocalParts : List Token → List Token → Parts → Type 0
-LocalParts more other part = (level : Level) → Local more other (part level) (part level)
+LocalParts more other part = (tier : Tier) → Local more other (part tier) (part tier)
 
-chain_local : {more other : List Token} (part : Parts) → LocalParts more other part → (level : Level) (n k : ℕ) (left : RawTree) → Local more other (chain_of part level n k left) (chain_of part level n k left)
+chain_local : {more other : List Token} (part : Parts) → LocalParts more other part → (tier : Tier) (n k : ℕ) (left : RawTree) → Local more other (chain_of part tier n k left) (chain_of part tier n k left)
 unfolding chain_of LocalParts
-chain_local part h level n zero left = pure_local _
-chain_local part h level n (suc k) left = first_local _ (λ o. bind_local (h _) (λ right. chain_local part h level n k _)) (pure_local _)
+chain_local part h tier n zero left = pure_local _
+chain_local part h tier n (suc k) left = first_local _ (λ o. bind_local (h _) (λ right. chain_local part h tier n k _)) (pure_local _)
 
 list_local : {more other : List Token} (part : Parts) → LocalParts more other part → (close : TokenKind) → Local more other (list_of part close) (list_of part close)
 unfolding list_of LocalParts
@@ -159,7 +159,7 @@ whole_local part h n =
     deep_local _ _ (λ p. match_local part h p) (
     ors_local part h n))))
 
-step_local : {more other : List Token} (part : Parts) → LocalParts more other part → (n : ℕ) (level : Level) → Local more other (step part n level) (step part n level)
+step_local : {more other : List Token} (part : Parts) → LocalParts more other part → (n : ℕ) (tier : Tier) → Local more other (step part n tier) (step part n tier)
 unfolding step
 step_local part h n Whole = whole_local part h n
 step_local part h n Ors = ors_local part h n
@@ -171,5 +171,5 @@ step_local part h n Unary = unary_local part h n
 
 pub read_local : (more other : List Token) (n : ℕ) → LocalParts more other (read n)
 unfolding read LocalParts
-read_local more other zero level = fault_local
-read_local more other (suc n) level = step_local (read n) (read_local more other n) n level
+read_local more other zero tier = fault_local
+read_local more other (suc n) tier = step_local (read n) (read_local more other n) n tier

@@ -1,7 +1,6 @@
 -- What is spelled is read, whatever follows that does not go on with it.
 use Rattle.std.proofs.Common.{◌≡◌, ◌<◌, ◌⊎◌, inl, inr, ℕ, suc, zero, ◌+◌, ◌≤◌, Bool, true, false, List, [], ◌∷◌, ◌++◌, length, map, Option, Some, None, Ok, nat_le, max, refl, sym, ap, subst, ◌∙◌, append_assoc, append-nil, cond, T, arith}
 use Rattle.std.specs.Prelude.{ℤ, pos, negsuc, ◌≤ℤ◌, nat_eq, codes}
-use Rattle.std.specs.Str.{bytes_eq}
 use Rattle.std.specs.Int.Signed.{le_z_yes}
 use Rattle.std.proofs.lemmas.Bool.{eq-eqb, le-leb, eqb-true}
 use Rattle.cf_lex.specs.Words.{is_reserved}
@@ -9,8 +8,6 @@ use Rattle.cf_lex.specs.declared.token.Token.{Token}
 use Rattle.cf_lex.specs.declared.token.TokenKind.{TokenKind}
 use Rattle.cf_lex.specs.declared.token.TokenKind.TheVariants.{Literal, Word, Sign}
 use Rattle.cf_tree.specs.declared.base.Place.{Place}
-use Rattle.cf_tree.specs.declared.base.Base.{Base}
-use Rattle.cf_tree.specs.declared.base.Base.TheVariants.{Int, Bool as BoolBase, Set}
 use Rattle.cf_tree.specs.declared.base.Order.TheVariants.{Eq, Ne, Lt, Le, Gt, Ge}
 use Rattle.cf_tree.specs.declared.raw.BinOp.{BinOp}
 use Rattle.cf_tree.specs.declared.raw.BinOp.TheVariants.{Add, Sub, Mul, And, Or, Union, Inter, Diff, Subset, Compare}
@@ -26,27 +23,27 @@ use Rattle.cf_reader.proofs.KindLaws.{base_is, no_literal, sign_literal, truth_i
 use Rattle.cf_reader.proofs.Yields.{all_added}
 use Rattle.cf_reader.specs.Operations.{op_kind, op_of}
 use Rattle.cf_reader.proofs.OperationLaws.{op_again}
-use Rattle.cf_parse.specs.declared.level.Level.{Level}
-use Rattle.cf_parse.specs.declared.level.Level.TheVariants.{Whole, Ors, Ands, Cmps, Sums, Muls, Unary}
+use Rattle.cf_parse.specs.declared.tier.Tier.{Tier}
+use Rattle.cf_parse.specs.declared.tier.Tier.TheVariants.{Whole, Ors, Ands, Cmps, Sums, Muls, Unary}
 use Rattle.cf_parse.specs.declared.pattern.Term.TheVariants.{Part as a_part, Constant as the_constant}
-use Rattle.cf_parse.specs.Spelling.{rank, under, op_level, left_level, Fits, SpellsParam, SpellsName, SpellsNames, plus_or_minus, SpellsPart, SpellsConstant, SpellsSigned, SpellsPattern, Spells, SpellsItems, SpellsOthers, SpellsArm, SpellsArms}
+use Rattle.cf_parse.specs.Spelling.{rank, under, op_tier, left_tier, Fits, SpellsParam, SpellsName, SpellsNames, plus_or_minus, SpellsPart, SpellsConstant, SpellsSigned, SpellsPattern, Spells, SpellsItems, SpellsOthers, SpellsArm, SpellsArms}
 use Rattle.cf_parse.specs.Reading.{a_sign, op_at, next_op, lone_literal, factor_of, divides_by, param_of, Names, named, names_of, term_of, terms_of, all_terms, pattern_of, Parts, chain_of, list_of, items_of, inside_of, divided_of, named_of, word_of, atom_of, unary_of, muls_of, sums_of, compared_of, cmps_of, ands_of, ors_of, let_of, if_of, choose_of, arm_of, match_of, whole_of, step, read}
 use Rattle.cf_parse.proofs.Above.{chain_goes, chain_stops}
 use Rattle.cf_parse.proofs.LocalReading.{LocalParts, param_local, arm_local, read_local}
 use Rattle.cf_parse.proofs.Found.{same_rank, all_names, deep_one}
 
--- nothing stands first that would go on with a tree of this level
-pub record Stops (level : Level) (ts : List Token) : Type 0 where
+-- nothing stands first that would go on with a tree of this tier
+pub record Stops (tier : Tier) (ts : List Token) : Type 0 where
   pub call : at (is (Sign (codes "("))) ts ≡ None
-  pub divides : rank level ≤ 3 → at (is (Word (codes "divides"))) ts ≡ None
-  pub ops : (inner : Level) (n d : ℕ) → rank level ≤ rank inner → at (next_op inner n d) ts ≡ None
+  pub divides : rank tier ≤ 3 → at (is (Word (codes "divides"))) ts ≡ None
+  pub ops : (inner : Tier) (n d : ℕ) → rank tier ≤ rank inner → at (next_op inner n d) ts ≡ None
 
-pub stops_end : (level : Level) → Stops level []
+pub stops_end : (tier : Tier) → Stops tier []
 unfolding at
-stops_end level = record { call = refl; divides = λ h. refl; ops = λ inner n d h. refl }
+stops_end tier = record { call = refl; divides = λ h. refl; ops = λ inner n d h. refl }
 
-pub stops_in : (level outer : Level) (ts : List Token) → rank outer ≤ rank level → Stops outer ts → Stops level ts
-stops_in level outer ts e s = record { call = s.call; divides = λ h. s.divides (omega (arith, e, h)); ops = λ inner n d h. s.ops inner n d (omega (arith, e, h)) }
+pub stops_in : (tier outer : Tier) (ts : List Token) → rank outer ≤ rank tier → Stops outer ts → Stops tier ts
+stops_in tier outer ts e s = record { call = s.call; divides = λ h. s.divides (omega (arith, e, h)); ops = λ inner n d h. s.ops inner n d (omega (arith, e, h)) }
 
 -- a token that ends an expression
 pub record Closes (k : TokenKind) : Type 0 where
@@ -95,12 +92,12 @@ same_both : {A : Type 0} (b : Bool) (o : Option A) → cond b o o ≡ o
 same_both true o = refl
 same_both false o = refl
 
-not_next : (inner : Level) (n d : ℕ) (k : TokenKind) (ts us : List Token) (p : Place) → op_of k ≡ None → First p k ts us → at (next_op inner n d) ts ≡ None
+not_next : (inner : Tier) (n d : ℕ) (k : TokenKind) (ts us : List Token) (p : Place) → op_of k ≡ None → First p k ts us → at (next_op inner n d) ts ≡ None
 unfolding at next_op
 not_next inner n d k ts us p e w = ap (at (next_op inner n d)) w ∙ ap (λ o. before us (cond (nat_le d n) (op_at inner p o) None)) e ∙ ap (λ o. before us o) (same_both (nat_le d n) None)
 
-pub stops_at : (level : Level) (k : TokenKind) (ts us : List Token) → Closes k → Next k ts us → Stops level ts
-stops_at level k ts us c (p, w) = record {
+pub stops_at : (tier : Tier) (k : TokenKind) (ts us : List Token) → Closes k → Next k ts us → Stops tier ts
+stops_at tier k ts us c (p, w) = record {
   call = at_not (Sign (codes "(")) k ts us p c.call w;
   divides = λ h. at_not (Word (codes "divides")) k ts us p c.divides w;
   ops = λ inner n d h. not_next inner n d k ts us p c.op w;
@@ -144,11 +141,11 @@ false_from : (b : Bool) → (b ≡ true → ⊥) → b ≡ false
 false_from true h = absurd (h refl)
 false_from false h = refl
 
-not_op_at : (inner : Level) (p : Place) (op : BinOp) → rank (op_level op) < rank inner → op_at inner p (Some op) ≡ None
+not_op_at : (inner : Tier) (p : Place) (op : BinOp) → rank (op_tier op) < rank inner → op_at inner p (Some op) ≡ None
 not_op_at inner p op h =
-    ap (λ b. cond b (Some (p, op)) None) (false_from (nat_eq (rank (op_level op)) (rank inner)) (λ e. let s : rank (op_level op) ≡ rank inner = eqb-true (rank (op_level op)) (rank inner) e in omega (arith, h, s)))
+    ap (λ b. cond b (Some (p, op)) None) (false_from (nat_eq (rank (op_tier op)) (rank inner)) (λ e. let s : rank (op_tier op) ≡ rank inner = eqb-true (rank (op_tier op)) (rank inner) e in omega (arith, h, s)))
 
-under_more : (op : BinOp) → rank (op_level op) < rank (under (op_level op))
+under_more : (op : BinOp) → rank (op_tier op) < rank (under (op_tier op))
 under_more Add = omega arith
 under_more Sub = omega arith
 under_more Mul = omega arith
@@ -165,33 +162,33 @@ under_more (Compare Le) = omega arith
 under_more (Compare Gt) = omega arith
 under_more (Compare Ge) = omega arith
 
-not_inner : (inner : Level) (n d : ℕ) (op : BinOp) (p : Place) (ts us : List Token) → rank (op_level op) < rank inner → First p (op_kind op) ts us → at (next_op inner n d) ts ≡ None
+not_inner : (inner : Tier) (n d : ℕ) (op : BinOp) (p : Place) (ts us : List Token) → rank (op_tier op) < rank inner → First p (op_kind op) ts us → at (next_op inner n d) ts ≡ None
 unfolding at next_op
 not_inner inner n d op p ts us h w =
     ap (at (next_op inner n d)) w ∙ ap (λ o. before us (cond (nat_le d n) (op_at inner p o) None)) (op_again op)
     ∙ ap (λ o. before us (cond (nat_le d n) o None)) (not_op_at inner p op h) ∙ ap (λ o. before us o) (same_both (nat_le d n) None)
 
-pub stops_op : (op : BinOp) (level : Level) (p : Place) (ts us : List Token) → rank (op_level op) < rank level → First p (op_kind op) ts us → Stops level ts
-stops_op op level p ts us e w = record {
+pub stops_op : (op : BinOp) (tier : Tier) (p : Place) (ts us : List Token) → rank (op_tier op) < rank tier → First p (op_kind op) ts us → Stops tier ts
+stops_op op tier p ts us e w = record {
   call = at_not (Sign (codes "(")) (op_kind op) ts us p (op_no_call op) w;
   divides = λ h. at_not (Word (codes "divides")) (op_kind op) ts us p (op_no_divides op) w;
   ops = λ inner n d h. not_inner inner n d op p ts us (omega (arith, e, h)) w;
 }
 
-yes_op : (p : Place) (op : BinOp) → op_at (op_level op) p (Some op) ≡ Some (p, op)
-yes_op p op = ap (λ b. cond b (Some (p, op)) None) (eq-eqb (rank (op_level op)) (rank (op_level op)) refl)
+yes_op : (p : Place) (op : BinOp) → op_at (op_tier op) p (Some op) ≡ Some (p, op)
+yes_op p op = ap (λ b. cond b (Some (p, op)) None) (eq-eqb (rank (op_tier op)) (rank (op_tier op)) refl)
 
-op_is : (n d : ℕ) (op : BinOp) (p : Place) (ts us : List Token) → d ≤ n → First p (op_kind op) ts us → at (next_op (op_level op) n d) ts ≡ Some ((p, op), us)
+op_is : (n d : ℕ) (op : BinOp) (p : Place) (ts us : List Token) → d ≤ n → First p (op_kind op) ts us → at (next_op (op_tier op) n d) ts ≡ Some ((p, op), us)
 unfolding at next_op
 op_is n d op p ts us h w =
-    ap (at (next_op (op_level op) n d)) w ∙ ap (λ b. before us (cond b (op_at (op_level op) p (op_of (op_kind op))) None)) (le-leb d n h)
-    ∙ ap (λ o. before us (op_at (op_level op) p o)) (op_again op) ∙ ap (λ o. before us o) (yes_op p op)
+    ap (at (next_op (op_tier op) n d)) w ∙ ap (λ b. before us (cond b (op_at (op_tier op) p (op_of (op_kind op))) None)) (le-leb d n h)
+    ∙ ap (λ o. before us (op_at (op_tier op) p o)) (op_again op) ∙ ap (λ o. before us o) (yes_op p op)
 
 -- parameters, names, bases
 
 pub param_is : (x : Param) (ts us : List Token) → SpellsParam x ts us → param_of ts ≡ Ok (x, us)
 unfolding param_of
-param_is x ts us (a, b, n, c, d) =
+param_is x ts us (a, n, (b, c, d)) =
     bind_is _ _ ts (must_is _ ts a _ (name_is ts a x.place x.name n)) (bind_is _ _ a (next_is _ a b refl c) (bind_is _ _ b (must_is _ b us _ (base_is x.base b us d)) (pure_is _ x us refl)))
 
 param_items : Items param_of SpellsParam (Sign (codes ",")) (Sign (codes ")"))
@@ -228,22 +225,22 @@ unfolding term_of
 part_is minus x ts us (inl (n, f)) =
     first_not _ _ _ ts (no_literal x.place x.name ts us n.0)
     (bind_is _ _ ts (must_is _ ts us _ (name_is ts us x.place x.name n)) (pure_is _ (a_part x) us (ap (λ z. a_part (record { place = x.place; factor = z; name = x.name })) (sym f))))
-part_is minus x ts us (inr (p, n, a, b, l, s, m, f)) =
+part_is minus x ts us (inr (n, (a, (p, l), (b, s, m)), f)) =
     first_is _ _ _ ts (literal_is (pos 0) ts a p n l)
     (first_is _ _ _ a (at_is _ a b s.0 refl s.1)
     (bind_is _ _ b (must_is _ b us _ (name_is b us x.place x.name m)) (pure_is _ (a_part x) us (ap (λ z. a_part (record { place = x.place; factor = z; name = x.name })) (sym f)))))
 
 constant_is : (minus : Bool) (c : ℤ) (ts us : List Token) → SpellsConstant minus c ts us → at (is (Sign (codes "*"))) us ≡ None → term_of minus ts ≡ Ok (the_constant c, us)
 unfolding term_of
-constant_is minus c ts us (p, n, l, e) s = first_is _ _ _ ts (literal_is (pos 0) ts us p n l) (first_not _ _ _ us s (pure_is _ (the_constant c) us (ap the_constant (sym e))))
+constant_is minus c ts us (n, (p, l), e) s = first_is _ _ _ ts (literal_is (pos 0) ts us p n l) (first_not _ _ _ us s (pure_is _ (the_constant c) us (ap the_constant (sym e))))
 
 part_longer : (minus : Bool) (x : Part) (ts us : List Token) → SpellsPart minus x ts us → length us < length ts
 part_longer minus x ts us (inl (n, f)) = omega (arith, first_longer (Word x.name) ts us x.place n.0)
-part_longer minus x ts us (inr (p, n, a, b, l, s, m, f)) =
+part_longer minus x ts us (inr (n, (a, (p, l), (b, s, m)), f)) =
     omega (arith, first_longer (Literal n) ts a p l.0, first_longer (Sign (codes "*")) a b s.0 s.1, first_longer (Word x.name) b us x.place m.0)
 
 constant_longer : (minus : Bool) (c : ℤ) (ts us : List Token) → SpellsConstant minus c ts us → length us < length ts
-constant_longer minus c ts us (p, n, l, e) = omega (arith, first_longer (Literal n) ts us p l.0)
+constant_longer minus c ts us (n, (p, l), e) = omega (arith, first_longer (Literal n) ts us p l.0)
 
 -- what stands behind a pattern goes on with none
 pub record Ended (ts : List Token) : Type 0 where
@@ -260,23 +257,23 @@ terms_are (suc k) minus done [] c ts rest w z l =
 terms_are (suc k) minus done (x ∷ []) c ts rest (a, p, inl (e, f)) z l =
     bind_is _ _ ts (part_is minus x ts a p)
     (first_not _ _ _ a (ap (at a_sign) e ∙ z.sign) (pure_is _ _ a refl ∙ ap (λ (us : List Token). Ok ((done ++ x ∷ [], pos 0), us)) e ∙ ap (λ y. Ok ((done ++ x ∷ [], y), rest)) (sym f)))
-terms_are (suc k) minus done (x ∷ []) c ts rest (a, p, inr (sign, b, n, w)) z l =
+terms_are (suc k) minus done (x ∷ []) c ts rest (a, p, inr (sign, (b, n, w))) z l =
     bind_is _ _ ts (part_is minus x ts a p)
     (first_is _ _ _ a (sign_is sign a b n)
     (terms_are k sign (done ++ x ∷ []) [] c b rest w z (omega (arith, l, part_longer minus x ts a p, first_longer (plus_or_minus sign) a b n.0 n.1))
     ∙ ap (λ (y : List Part). Ok ((y, c), rest)) (append-nil (done ++ x ∷ []))))
-terms_are (suc k) minus done (x ∷ y ∷ parts) c ts rest (a, p, (sign, b, d, n, q, w)) z l =
+terms_are (suc k) minus done (x ∷ y ∷ parts) c ts rest (a, p, (sign, (b, n, w))) z l =
     bind_is _ _ ts (part_is minus x ts a p)
     (first_is _ _ _ a (sign_is sign a b n)
-    (terms_are k sign (done ++ x ∷ []) (y ∷ parts) c b rest (d, q, w) z (omega (arith, l, part_longer minus x ts a p, first_longer (plus_or_minus sign) a b n.0 n.1))
+    (terms_are k sign (done ++ x ∷ []) (y ∷ parts) c b rest w z (omega (arith, l, part_longer minus x ts a p, first_longer (plus_or_minus sign) a b n.0 n.1))
     ∙ ap (λ (y : List Part). Ok ((y, c), rest)) (append_assoc done (x ∷ []) (y ∷ parts))))
 
 part_start : (minus : Bool) (x : Part) (ts us : List Token) → SpellsPart minus x ts us → at (is (Sign (codes "-"))) ts ≡ None
 part_start minus x ts us (inl (n, f)) = at_not _ (Word x.name) ts us x.place refl n.0
-part_start minus x ts us (inr (p, n, a, b, l, s, m, f)) = at_not _ (Literal n) ts a p refl l.0
+part_start minus x ts us (inr (n, (a, (p, l), (b, s, m)), f)) = at_not _ (Literal n) ts a p refl l.0
 
 signed_start : (minus : Bool) (parts : List Part) (c : ℤ) (ts rest : List Token) → SpellsSigned minus parts c ts rest → at (is (Sign (codes "-"))) ts ≡ None
-signed_start minus [] c ts rest (p, n, l, e) = at_not _ (Literal n) ts rest p refl l.0
+signed_start minus [] c ts rest (n, (p, l), e) = at_not _ (Literal n) ts rest p refl l.0
 signed_start minus (x ∷ parts) c ts rest w = part_start minus x ts w.0 w.1
 
 pattern_is : (parts : List Part) (c : ℤ) (ts rest : List Token) → SpellsPattern parts c ts rest → Ended rest → pattern_of ts ≡ Ok ((parts, c), rest)
@@ -286,7 +283,7 @@ pattern_is parts c ts rest (inr (a, n, w)) z = first_is _ _ _ ts (at_is _ ts a n
 
 -- how expressions begin
 
--- no expression begins with this token, but perhaps one of the outermost level
+-- no expression begins with this token, but perhaps one of the outermost tier
 pub record Unstarted (k : TokenKind) : Type 0 where
   pub name : (x : List ℕ) → is_reserved x ≡ false → same_kind (Word x) k ≡ false
   pub literal : (n : ℤ) → same_kind (Literal n) k ≡ false
@@ -300,7 +297,7 @@ pub record Unstarted (k : TokenKind) : Type 0 where
   pub div : same_kind (Word (codes "div")) k ≡ false
   pub modulo : same_kind (Word (codes "mod")) k ≡ false
 
--- nor one of that level
+-- nor one of that tier
 pub record Outside (k : TokenKind) : Type 0 where
   pub lets : same_kind (Word (codes "let")) k ≡ false
   pub ifs : same_kind (Word (codes "if")) k ≡ false
@@ -311,7 +308,7 @@ truth_other : (k : TokenKind) → same_kind (Word (codes "true")) k ≡ false �
 truth_other k e f true = e
 truth_other k e f false = f
 
-op_inner : (op : BinOp) → 1 ≤ rank (op_level op)
+op_inner : (op : BinOp) → 1 ≤ rank (op_tier op)
 op_inner Add = omega arith
 op_inner Sub = omega arith
 op_inner Mul = omega arith
@@ -328,7 +325,7 @@ op_inner (Compare Le) = omega arith
 op_inner (Compare Gt) = omega arith
 op_inner (Compare Ge) = omega arith
 
-left_inner : (op : BinOp) → 1 ≤ rank (left_level (op_level op))
+left_inner : (op : BinOp) → 1 ≤ rank (left_tier (op_tier op))
 left_inner Add = omega arith
 left_inner Sub = omega arith
 left_inner Mul = omega arith
@@ -374,27 +371,27 @@ starts k u (raw_lit p n) ts rest f w = at_not k (Literal n) ts rest p (u.literal
 starts k u (raw_truth p b) ts rest f w = at_not k (truth_kind b) ts rest p (u.truth b) w
 starts k u (raw_name p x) ts rest f w = at_not k (Word x) ts rest p (u.name x w.1) w.0
 starts k u (raw_set_of p es) ts rest f w = at_not k (Sign (codes "{")) ts w.0 p u.brace w.1
-starts k u (raw_group p e) ts rest f w = at_not k (Sign (codes "(")) ts w.0 p u.paren w.2
+starts k u (raw_group p e) ts rest f w = at_not k (Sign (codes "(")) ts w.0 p u.paren w.1
 starts k u (raw_tuple p no_raws) ts rest f w = absurd w
 starts k u (raw_tuple p (raw_more e no_raws)) ts rest f w = absurd w
-starts k u (raw_tuple p (raw_more e (raw_more g es))) ts rest f w = at_not k (Sign (codes "(")) ts w.0 p u.paren w.2
+starts k u (raw_tuple p (raw_more e (raw_more g es))) ts rest f w = at_not k (Sign (codes "(")) ts w.0 p u.paren w.1
 starts k u (raw_neg p e) ts rest f w = at_not k (Sign (codes "-")) ts w.0 p u.minus w.1
 starts k u (raw_not p e) ts rest f w = at_not k (Sign (codes "!")) ts w.0 p u.bang w.1
-starts k u (raw_abs p e) ts rest f w = at_not k (Word (codes "abs")) ts w.0 p u.abs w.3
-starts k u (raw_card p e) ts rest f w = at_not k (Word (codes "card")) ts w.0 p u.card w.3
-starts k u (raw_binary p op e g) ts rest f w = starts k u e ts w.0 (inr (omega (arith, w.2, left_inner op))) w.3
-starts k u (raw_divides p n e) ts rest f w = at_not k (Literal n) ts w.0 p (u.literal n) w.2.0
-starts k u (raw_div p e n) ts rest f w = at_not k (Word (codes "div")) ts w.0 p u.div w.5
-starts k u (raw_mod p e n) ts rest f w = at_not k (Word (codes "mod")) ts w.0 p u.modulo w.5
-starts k u (raw_call p x es) ts rest f w = at_not k (Word x) ts w.0 p (u.name x w.2.1) w.2.0
-starts k u (raw_if p e g h) ts rest (inl o) w = at_not k (Word (codes "if")) ts w.0 p o.ifs w.5
+starts k u (raw_abs p e) ts rest f w = at_not k (Word (codes "abs")) ts w.0 p u.abs w.1
+starts k u (raw_card p e) ts rest f w = at_not k (Word (codes "card")) ts w.0 p u.card w.1
+starts k u (raw_binary p op e g) ts rest f w = starts k u e ts w.0 (inr (omega (arith, w.1.0, left_inner op))) w.1.1
+starts k u (raw_divides p n e) ts rest f w = at_not k (Literal n) ts w.0 p (u.literal n) w.1.0
+starts k u (raw_div p e n) ts rest f w = at_not k (Word (codes "div")) ts w.0 p u.div w.1
+starts k u (raw_mod p e n) ts rest f w = at_not k (Word (codes "mod")) ts w.0 p u.modulo w.1
+starts k u (raw_call p x es) ts rest f w = at_not k (Word x) ts w.0 p (u.name x w.1.1) w.1.0
+starts k u (raw_if p e g h) ts rest (inl o) w = at_not k (Word (codes "if")) ts w.0 p o.ifs w.1
 starts k u (raw_if p e g h) ts rest (inr f) w = absurd (omega (arith, f))
-starts k u (raw_let p xs qs e g) ts rest (inl o) w = at_not k (Word (codes "let")) ts w.0 p o.lets w.5
+starts k u (raw_let p xs qs e g) ts rest (inl o) w = at_not k (Word (codes "let")) ts w.0 p o.lets w.1
 starts k u (raw_let p xs qs e g) ts rest (inr f) w = absurd (omega (arith, f))
-starts k u (raw_choose p ps e) ts rest (inl o) w = at_not k (Word (codes "choose")) ts w.0 p o.chooses w.4
+starts k u (raw_choose p ps e) ts rest (inl o) w = at_not k (Word (codes "choose")) ts w.0 p o.chooses w.1
 starts k u (raw_choose p ps e) ts rest (inr f) w = absurd (omega (arith, f))
 starts k u (raw_match p e no_raw_arms) ts rest f w = absurd w
-starts k u (raw_match p e (raw_arm_more arm arms)) ts rest (inl o) w = at_not k (Word (codes "match")) ts w.0 p o.matches w.5
+starts k u (raw_match p e (raw_arm_more arm arms)) ts rest (inl o) w = at_not k (Word (codes "match")) ts w.0 p o.matches w.1
 starts k u (raw_match p e (raw_arm_more arm arms)) ts rest (inr f) w = absurd (omega (arith, f))
 
 -- lists of expressions
@@ -419,10 +416,10 @@ arm_items_again (raw_arm_more a arms) = ap (raw_arm_more a) (arm_items_again arm
 
 -- trees of depth at most n are read by the readers of parts, which leave no more tokens than they are given
 unfoldable pub OnlyReads : Parts → ℕ → Type 0
-OnlyReads part n = (level : Level) (t : RawTree) (ts rest : List Token) → Fits level t → raw_depth t ≤ n → Spells t ts rest → Stops level rest → part level ts ≡ Ok (t, rest)
+OnlyReads part n = (tier : Tier) (t : RawTree) (ts rest : List Token) → Fits tier t → raw_depth t ≤ n → Spells t ts rest → Stops tier rest → part tier ts ≡ Ok (t, rest)
 
 unfoldable pub Shrinks : Parts → Type 0
-Shrinks part = (level : Level) (ts : List Token) → Within (length ts) (part level ts)
+Shrinks part = (tier : Tier) (ts : List Token) → Within (length ts) (part tier ts)
 
 -- a sign that closes a list of expressions
 pub record ListEnd (close : TokenKind) : Type 0 where
@@ -457,7 +454,7 @@ tree_items part n h sh close c = record {
 deep_others : (n : ℕ) (close : TokenKind) (es : RawTrees) (ts rest : List Token) → raws_depth es ≤ n → SpellsOthers es close ts rest → Others (Deep n) (Sign (codes ",")) close (items es) ts rest
 unfolding items
 deep_others n close no_raws ts rest d w = w
-deep_others n close (raw_more e es) ts rest d (a, b, c, s, o) = (a, b, c, (omega (arith, d), s), deep_others n close es b rest (omega (arith, d)) o)
+deep_others n close (raw_more e es) ts rest d (a, c, (b, s, o)) = (a, c, (b, (omega (arith, d), s), deep_others n close es b rest (omega (arith, d)) o))
 
 list_is : (part : Parts) (n : ℕ) → OnlyReads part n → Shrinks part → (close : TokenKind) → ListEnd close → (e : RawTree) (es : RawTrees) (ts mid rest : List Token) → raw_depth e ≤ n → raws_depth es ≤ n → Spells e ts mid → SpellsOthers es close mid rest →
     list_of part close ts ≡ Ok (e ∷ items es, rest)
@@ -473,7 +470,7 @@ items_are part n h sh close c no_raws ts rest d w = first_is _ _ _ ts (at_is clo
 items_are part n h sh close c (raw_more e es) ts rest d (a, s, o) =
     first_not _ _ _ ts (starts close c.unstarted e ts a (inl c.outside) s) (list_is part n h sh close c e es ts a rest (omega (arith, d)) (omega (arith, d)) s o)
 
--- forms of the innermost level
+-- forms of the innermost tier
 
 -- a name stands first
 name_first : (part : Parts) (n : ℕ) (p : Place) (x : List ℕ) (ts us : List Token) (y : Got RawTree) → FirstName p x ts us →
@@ -499,7 +496,7 @@ divided_is part n h e k q ts a b c d us l o s m w r =
     bind_is _ _ ts (next_is _ ts a refl o) (bind_is _ _ a (h Whole e a b (omega arith) l s (stops_at Whole (Sign (codes ",")) b c comma_closes m)) (bind_is _ _ b (next_is _ b c refl m)
     (bind_is _ _ c (must_is _ c d _ (literal_is (pos 1) c d q k w)) (bind_is _ _ d (next_is _ d us refl r) (pure_is _ _ us refl)))))
 
-op_outer : (op : BinOp) → rank (op_level op) ≤ 5
+op_outer : (op : BinOp) → rank (op_tier op) ≤ 5
 op_outer Add = omega arith
 op_outer Sub = omega arith
 op_outer Mul = omega arith
@@ -549,38 +546,38 @@ unary_is part n h sh (raw_set_of p es) ts rest f d (a, w, i) s =
     atom_first part n (Sign (codes "{")) p ts a _ w refl refl
     (first_not _ _ _ ts (sign_literal _ p ts a w) (deep_not _ _ _ _ ts (at_not _ (Sign (codes "{")) ts a p refl w) (first_is _ _ _ ts (at_is _ ts a p refl w)
     (bind_is _ _ a (items_are part n h sh (Sign (codes "}")) brace_end es a rest (omega (arith, d)) i) (pure_is _ _ rest (ap (raw_set_of p) (items_again es)))))))
-unary_is part n h sh (raw_group p e) ts rest f d (a, b, w, i, c) s =
+unary_is part n h sh (raw_group p e) ts rest f d (a, w, (b, i, c)) s =
     atom_first part n (Sign (codes "(")) p ts a _ w refl refl
     (first_not _ _ _ ts (sign_literal _ p ts a w) (deep_is _ _ _ _ ts (omega (arith, d, deep_one e)) (at_is _ ts a p refl w)
     (bind_is _ _ a (list_is part n h sh (Sign (codes ")")) paren_end e no_raws a b rest (omega (arith, d)) (omega arith) i c) (pure_is _ _ rest refl))))
 unary_is part n h sh (raw_tuple p no_raws) ts rest f d w s = absurd w
 unary_is part n h sh (raw_tuple p (raw_more e no_raws)) ts rest f d w s = absurd w
-unary_is part n h sh (raw_tuple p (raw_more e (raw_more g es))) ts rest f d (a, b, w, i, c) s =
+unary_is part n h sh (raw_tuple p (raw_more e (raw_more g es))) ts rest f d (a, w, (b, i, c)) s =
     atom_first part n (Sign (codes "(")) p ts a _ w refl refl
     (first_not _ _ _ ts (sign_literal _ p ts a w) (deep_is _ _ _ _ ts (omega (arith, d, deep_one e)) (at_is _ ts a p refl w)
     (bind_is _ _ a (list_is part n h sh (Sign (codes ")")) paren_end e (raw_more g es) a b rest (omega (arith, d)) (omega (arith, d)) i c)
     (pure_is _ _ rest (ap (λ (z : RawTrees). raw_tuple p (raw_more e (raw_more g z))) (items_again es))))))
-unary_is part n h sh (raw_neg p e) ts rest f d (a, w, i, g) s =
+unary_is part n h sh (raw_neg p e) ts rest f d (a, w, (i, g)) s =
     minus_first part n p ts a _ w (omega (arith, d, deep_one e)) (bind_is _ _ a (h Unary e a rest i (omega (arith, d)) g s) (pure_is _ _ rest refl))
-unary_is part n h sh (raw_not p e) ts rest f d (a, w, i, g) s =
+unary_is part n h sh (raw_not p e) ts rest f d (a, w, (i, g)) s =
     bang_first part n p ts a _ w (omega (arith, d, deep_one e)) (bind_is _ _ a (h Unary e a rest i (omega (arith, d)) g s) (pure_is _ _ rest refl))
-unary_is part n h sh (raw_card p e) ts rest f d (a, b, c, w, o, i, z) s =
+unary_is part n h sh (raw_card p e) ts rest f d (a, w, (b, o, (c, i, z))) s =
     word_first part n (codes "card") p ts a _ w (first_not _ _ _ ts (no_truth _ p ts a refl w) (deep_is _ _ _ _ ts (omega (arith, d, deep_one e)) (at_is _ ts a p refl w)
     (bind_is _ _ a (inside_is part n h e a b c rest (omega (arith, d)) o i z) (pure_is _ _ rest refl))))
-unary_is part n h sh (raw_abs p e) ts rest f d (a, b, c, w, o, i, z) s =
+unary_is part n h sh (raw_abs p e) ts rest f d (a, w, (b, o, (c, i, z))) s =
     word_first part n (codes "abs") p ts a _ w (first_not _ _ _ ts (no_truth _ p ts a refl w) (deep_not _ _ _ _ ts (at_not _ (Word (codes "abs")) ts a p refl w)
     (deep_is _ _ _ _ ts (omega (arith, d, deep_one e)) (at_is _ ts a p refl w)
     (bind_is _ _ a (inside_is part n h e a b c rest (omega (arith, d)) o i z) (pure_is _ _ rest refl)))))
-unary_is part n h sh (raw_div p e k) ts rest f d (a, b, c, g, j, w, o, i, m, l, z) s =
+unary_is part n h sh (raw_div p e k) ts rest f d (a, w, (b, o, (c, i, (g, m, (j, l, z))))) s =
     word_first part n (codes "div") p ts a _ w (first_not _ _ _ ts (no_truth _ p ts a refl w) (deep_not _ _ _ _ ts (at_not _ (Word (codes "div")) ts a p refl w)
     (deep_not _ _ _ _ ts (at_not _ (Word (codes "div")) ts a p refl w) (deep_is _ _ _ _ ts (omega (arith, d, deep_one e)) (at_is _ ts a p refl w)
     (bind_is _ _ a (divided_is part n h e k l.0 a b c g j rest (omega (arith, d)) o i m l.1 z) (pure_is _ _ rest refl))))))
-unary_is part n h sh (raw_mod p e k) ts rest f d (a, b, c, g, j, w, o, i, m, l, z) s =
+unary_is part n h sh (raw_mod p e k) ts rest f d (a, w, (b, o, (c, i, (g, m, (j, l, z))))) s =
     word_first part n (codes "mod") p ts a _ w (first_not _ _ _ ts (no_truth _ p ts a refl w) (deep_not _ _ _ _ ts (at_not _ (Word (codes "mod")) ts a p refl w)
     (deep_not _ _ _ _ ts (at_not _ (Word (codes "mod")) ts a p refl w) (deep_not _ _ _ _ ts (at_not _ (Word (codes "mod")) ts a p refl w)
     (deep_is _ _ _ _ ts (omega (arith, d, deep_one e)) (at_is _ ts a p refl w)
     (bind_is _ _ a (divided_is part n h e k l.0 a b c g j rest (omega (arith, d)) o i m l.1 z) (pure_is _ _ rest refl)))))))
-unary_is part n h sh (raw_call p x es) ts rest f d (a, b, w, o, i) s =
+unary_is part n h sh (raw_call p x es) ts rest f d (a, w, (b, o, i)) s =
     name_first part n p x ts a _ w (first_is _ _ _ a (at_is _ a b o.0 refl o.1)
     (bind_is _ _ b (items_are part n h sh (Sign (codes ")")) paren_end es b rest (omega (arith, d)) i) (pure_is _ _ rest (ap (raw_call p x) (items_again es)))))
 unary_is part n h sh (raw_binary p op e g) ts rest f d w s = absurd (omega (arith, f, op_outer op))
@@ -593,23 +590,23 @@ unary_is part n h sh (raw_match p e arms) ts rest f d w s = absurd (omega (arith
 -- chains
 
 -- reading a chain comes to this tree, with operations left to take
-record Arrived (part : Parts) (n : ℕ) (level : Level) (t : RawTree) (rest : List Token) (got : Got RawTree) : Type 0 where
+record Arrived (part : Parts) (n : ℕ) (tier : Tier) (t : RawTree) (rest : List Token) (got : Got RawTree) : Type 0 where
   left : ℕ
   enough : n < left + raw_depth t
-  same : got ≡ chain_of part level n left t rest
+  same : got ≡ chain_of part tier n left t rest
 
--- the next inner level's reader
-abbrev pub FirstReads : ℕ → Level → Reader RawTree → Type 0
-FirstReads n level inner = (t : RawTree) (ts rest : List Token) → Fits (under level) t → raw_depth t ≤ suc n → Spells t ts rest → Stops (under level) rest → inner ts ≡ Ok (t, rest)
+-- the next inner tier's reader
+abbrev pub FirstReads : ℕ → Tier → Reader RawTree → Type 0
+FirstReads n tier inner = (t : RawTree) (ts rest : List Token) → Fits (under tier) t → raw_depth t ≤ suc n → Spells t ts rest → Stops (under tier) rest → inner ts ≡ Ok (t, rest)
 
--- a level whose operations form chains
-data Chains : Level → Type 0 where
+-- a tier whose operations form chains
+data Chains : Tier → Type 0 where
   ors_chain : Chains Ors
   ands_chain : Chains Ands
   sums_chain : Chains Sums
   muls_chain : Chains Muls
 
-inner_unary : (level : Level) → rank (under level) ≤ 6
+inner_unary : (tier : Tier) → rank (under tier) ≤ 6
 inner_unary Whole = omega arith
 inner_unary Ors = omega arith
 inner_unary Ands = omega arith
@@ -618,7 +615,7 @@ inner_unary Sums = omega arith
 inner_unary Muls = omega arith
 inner_unary Unary = omega arith
 
-inner_rank : (level : Level) → rank level ≤ rank (under level)
+inner_rank : (tier : Tier) → rank tier ≤ rank (under tier)
 inner_rank Whole = omega arith
 inner_rank Ors = omega arith
 inner_rank Ands = omega arith
@@ -627,13 +624,13 @@ inner_rank Sums = omega arith
 inner_rank Muls = omega arith
 inner_rank Unary = omega arith
 
-chain_left : (level : Level) → Chains level → left_level level ≡ level
+chain_left : (tier : Tier) → Chains tier → left_tier tier ≡ tier
 chain_left _ ors_chain = refl
 chain_left _ ands_chain = refl
 chain_left _ sums_chain = refl
 chain_left _ muls_chain = refl
 
-chain_rank : (level : Level) → Chains level → (1 ≤ rank level) × (rank (under level) ≡ suc (rank level)) × (rank level ≤ 5)
+chain_rank : (tier : Tier) → Chains tier → (1 ≤ rank tier) × (rank (under tier) ≡ suc (rank tier)) × (rank tier ≤ 5)
 chain_rank _ ors_chain = (omega arith, refl, omega arith)
 chain_rank _ ands_chain = (omega arith, refl, omega arith)
 chain_rank _ sums_chain = (omega arith, refl, omega arith)
@@ -645,77 +642,77 @@ same_or_inner zero (suc b) h = inr (omega arith)
 same_or_inner (suc a) zero h = absurd (omega (arith, h))
 same_or_inner (suc a) (suc b) h = elim (same_or_inner a b (omega (arith, h))) [ inl e ↦ inl (ap suc e) | inr l ↦ inr (omega (arith, l)) ]
 
-split_op : (level : Level) (op : BinOp) → Chains level → rank level ≤ rank (op_level op) → (op_level op ≡ level) ⊎ (rank (under level) ≤ rank (op_level op))
-split_op level op c h = elim (same_or_inner (rank level) (rank (op_level op)) h) [
-  | inl e ↦ inl (same_rank (op_level op) level e)
-  | inr l ↦ inr (omega (arith, l, (chain_rank level c).1))
+split_op : (tier : Tier) (op : BinOp) → Chains tier → rank tier ≤ rank (op_tier op) → (op_tier op ≡ tier) ⊎ (rank (under tier) ≤ rank (op_tier op))
+split_op tier op c h = elim (same_or_inner (rank tier) (rank (op_tier op)) h) [
+  | inl e ↦ inl (same_rank (op_tier op) tier e)
+  | inr l ↦ inr (omega (arith, l, (chain_rank tier c).1))
 ]
 
-arrive_first : (part : Parts) (n : ℕ) (level : Level) (t : RawTree) (inner : Reader RawTree) (ts rest : List Token) → inner ts ≡ Ok (t, rest) →
-    Arrived part n level t rest (bind inner (λ e. chain_of part level n n e) ts)
-arrive_first part n level t inner ts rest e = record { left = n; enough = omega (arith, deep_one t); same = bind_is inner _ ts e refl }
+arrive_first : (part : Parts) (n : ℕ) (tier : Tier) (t : RawTree) (inner : Reader RawTree) (ts rest : List Token) → inner ts ≡ Ok (t, rest) →
+    Arrived part n tier t rest (bind inner (λ e. chain_of part tier n n e) ts)
+arrive_first part n tier t inner ts rest e = record { left = n; enough = omega (arith, deep_one t); same = bind_is inner _ ts e refl }
 
 predecessor : (k : ℕ) → 1 ≤ k → (j : ℕ) × (k ≡ suc j)
 predecessor zero h = absurd (omega (arith, h))
 predecessor (suc k) h = (k, refl)
 
-arrive_next : (part : Parts) (n : ℕ) → OnlyReads part n → (level : Level) (p : Place) (op : BinOp) (e g : RawTree) (a b rest : List Token) (got : Got RawTree) → op_level op ≡ level →
-    1 + max (raw_depth e) (raw_depth g) ≤ suc n → First p (op_kind op) a b → Fits (under level) g → Spells g b rest → Stops (under level) rest →
-    Arrived part n level e a got → Arrived part n level (raw_binary p op e g) rest got
+arrive_next : (part : Parts) (n : ℕ) → OnlyReads part n → (tier : Tier) (p : Place) (op : BinOp) (e g : RawTree) (a b rest : List Token) (got : Got RawTree) → op_tier op ≡ tier →
+    1 + max (raw_depth e) (raw_depth g) ≤ suc n → First p (op_kind op) a b → Fits (under tier) g → Spells g b rest → Stops (under tier) rest →
+    Arrived part n tier e a got → Arrived part n tier (raw_binary p op e g) rest got
 unfolding OnlyReads
-arrive_next part n h level p op e g a b rest got is_at d w fit s z arrived =
+arrive_next part n h tier p op e g a b rest got is_at d w fit s z arrived =
     let j : (j : ℕ) × (arrived.left ≡ suc j) = predecessor arrived.left (omega (arith, arrived.enough, d)) in
-    let o : at (next_op level n (raw_depth e)) a ≡ Some ((p, op), b) = subst (λ l. at (next_op l n (raw_depth e)) a ≡ Some ((p, op), b)) is_at (op_is n (raw_depth e) op p a b (omega (arith, d)) w) in
+    let o : at (next_op tier n (raw_depth e)) a ≡ Some ((p, op), b) = subst (λ l. at (next_op l n (raw_depth e)) a ≡ Some ((p, op), b)) is_at (op_is n (raw_depth e) op p a b (omega (arith, d)) w) in
     record {
       left = j.0;
       enough = omega (arith, arrived.enough, j.1, d);
-      same = arrived.same ∙ chain_goes part level n arrived.left j.0 e a p op b g rest o (h (under level) g b rest fit (omega (arith, d)) s z) j.1;
+      same = arrived.same ∙ chain_goes part tier n arrived.left j.0 e a p op b g rest o (h (under tier) g b rest fit (omega (arith, d)) s z) j.1;
     }
 
-divides_inside : (level : Level) → Chains level → rank level ≤ 3 → rank (under level) ≤ 3
+divides_inside : (tier : Tier) → Chains tier → rank tier ≤ 3 → rank (under tier) ≤ 3
 divides_inside _ ors_chain h = omega arith
 divides_inside _ ands_chain h = omega arith
 divides_inside _ sums_chain h = absurd (omega (arith, h))
 divides_inside _ muls_chain h = absurd (omega (arith, h))
 
--- an operation of the level, or a tree from further in
-chain_arrives : (part : Parts) (n : ℕ) → OnlyReads part n → (level : Level) → Chains level → (inner : Reader RawTree) → FirstReads n level inner →
-    (t : RawTree) (ts rest : List Token) → Fits level t → raw_depth t ≤ suc n → Spells t ts rest → Stops (under level) rest →
-    Arrived part n level t rest (bind inner (λ e. chain_of part level n n e) ts)
-chain_arrives part n h level c inner reads (raw_lit p k) ts rest f d w s = arrive_first part n level (raw_lit p k) inner ts rest (reads (raw_lit p k) ts rest (inner_unary level) d w s)
-chain_arrives part n h level c inner reads (raw_truth p b) ts rest f d w s = arrive_first part n level (raw_truth p b) inner ts rest (reads (raw_truth p b) ts rest (inner_unary level) d w s)
-chain_arrives part n h level c inner reads (raw_name p x) ts rest f d w s = arrive_first part n level (raw_name p x) inner ts rest (reads (raw_name p x) ts rest (inner_unary level) d w s)
-chain_arrives part n h level c inner reads (raw_set_of p es) ts rest f d w s = arrive_first part n level (raw_set_of p es) inner ts rest (reads (raw_set_of p es) ts rest (inner_unary level) d w s)
-chain_arrives part n h level c inner reads (raw_group p e) ts rest f d w s = arrive_first part n level (raw_group p e) inner ts rest (reads (raw_group p e) ts rest (inner_unary level) d w s)
-chain_arrives part n h level c inner reads (raw_tuple p es) ts rest f d w s = arrive_first part n level (raw_tuple p es) inner ts rest (reads (raw_tuple p es) ts rest (inner_unary level) d w s)
-chain_arrives part n h level c inner reads (raw_neg p e) ts rest f d w s = arrive_first part n level (raw_neg p e) inner ts rest (reads (raw_neg p e) ts rest (inner_unary level) d w s)
-chain_arrives part n h level c inner reads (raw_not p e) ts rest f d w s = arrive_first part n level (raw_not p e) inner ts rest (reads (raw_not p e) ts rest (inner_unary level) d w s)
-chain_arrives part n h level c inner reads (raw_abs p e) ts rest f d w s = arrive_first part n level (raw_abs p e) inner ts rest (reads (raw_abs p e) ts rest (inner_unary level) d w s)
-chain_arrives part n h level c inner reads (raw_div p e k) ts rest f d w s = arrive_first part n level (raw_div p e k) inner ts rest (reads (raw_div p e k) ts rest (inner_unary level) d w s)
-chain_arrives part n h level c inner reads (raw_mod p e k) ts rest f d w s = arrive_first part n level (raw_mod p e k) inner ts rest (reads (raw_mod p e k) ts rest (inner_unary level) d w s)
-chain_arrives part n h level c inner reads (raw_card p e) ts rest f d w s = arrive_first part n level (raw_card p e) inner ts rest (reads (raw_card p e) ts rest (inner_unary level) d w s)
-chain_arrives part n h level c inner reads (raw_call p x es) ts rest f d w s = arrive_first part n level (raw_call p x es) inner ts rest (reads (raw_call p x es) ts rest (inner_unary level) d w s)
-chain_arrives part n h level c inner reads (raw_binary p op e g) ts rest f d w s =
-    elim (split_op level op c f) [
-      | inl at_level ↦ arrive_next part n h level p op e g w.0 w.1 rest (bind inner (λ e. chain_of part level n n e) ts) at_level d w.4
-          (subst (λ l. Fits (under l) g) at_level w.5) w.6 s
-          (chain_arrives part n h level c inner reads e ts w.0 (subst (λ l. Fits l e) (ap left_level at_level ∙ chain_left level c) w.2) (omega (arith, d)) w.3
-          (subst (λ l. Stops (under l) w.0) at_level (stops_op op (under (op_level op)) p w.0 w.1 (under_more op) w.4)))
-      | inr inside ↦ arrive_first part n level (raw_binary p op e g) inner ts rest (reads (raw_binary p op e g) ts rest inside d w s)
+-- an operation of the tier, or a tree from further in
+chain_arrives : (part : Parts) (n : ℕ) → OnlyReads part n → (tier : Tier) → Chains tier → (inner : Reader RawTree) → FirstReads n tier inner →
+    (t : RawTree) (ts rest : List Token) → Fits tier t → raw_depth t ≤ suc n → Spells t ts rest → Stops (under tier) rest →
+    Arrived part n tier t rest (bind inner (λ e. chain_of part tier n n e) ts)
+chain_arrives part n h tier c inner reads (raw_lit p k) ts rest f d w s = arrive_first part n tier (raw_lit p k) inner ts rest (reads (raw_lit p k) ts rest (inner_unary tier) d w s)
+chain_arrives part n h tier c inner reads (raw_truth p b) ts rest f d w s = arrive_first part n tier (raw_truth p b) inner ts rest (reads (raw_truth p b) ts rest (inner_unary tier) d w s)
+chain_arrives part n h tier c inner reads (raw_name p x) ts rest f d w s = arrive_first part n tier (raw_name p x) inner ts rest (reads (raw_name p x) ts rest (inner_unary tier) d w s)
+chain_arrives part n h tier c inner reads (raw_set_of p es) ts rest f d w s = arrive_first part n tier (raw_set_of p es) inner ts rest (reads (raw_set_of p es) ts rest (inner_unary tier) d w s)
+chain_arrives part n h tier c inner reads (raw_group p e) ts rest f d w s = arrive_first part n tier (raw_group p e) inner ts rest (reads (raw_group p e) ts rest (inner_unary tier) d w s)
+chain_arrives part n h tier c inner reads (raw_tuple p es) ts rest f d w s = arrive_first part n tier (raw_tuple p es) inner ts rest (reads (raw_tuple p es) ts rest (inner_unary tier) d w s)
+chain_arrives part n h tier c inner reads (raw_neg p e) ts rest f d w s = arrive_first part n tier (raw_neg p e) inner ts rest (reads (raw_neg p e) ts rest (inner_unary tier) d w s)
+chain_arrives part n h tier c inner reads (raw_not p e) ts rest f d w s = arrive_first part n tier (raw_not p e) inner ts rest (reads (raw_not p e) ts rest (inner_unary tier) d w s)
+chain_arrives part n h tier c inner reads (raw_abs p e) ts rest f d w s = arrive_first part n tier (raw_abs p e) inner ts rest (reads (raw_abs p e) ts rest (inner_unary tier) d w s)
+chain_arrives part n h tier c inner reads (raw_div p e k) ts rest f d w s = arrive_first part n tier (raw_div p e k) inner ts rest (reads (raw_div p e k) ts rest (inner_unary tier) d w s)
+chain_arrives part n h tier c inner reads (raw_mod p e k) ts rest f d w s = arrive_first part n tier (raw_mod p e k) inner ts rest (reads (raw_mod p e k) ts rest (inner_unary tier) d w s)
+chain_arrives part n h tier c inner reads (raw_card p e) ts rest f d w s = arrive_first part n tier (raw_card p e) inner ts rest (reads (raw_card p e) ts rest (inner_unary tier) d w s)
+chain_arrives part n h tier c inner reads (raw_call p x es) ts rest f d w s = arrive_first part n tier (raw_call p x es) inner ts rest (reads (raw_call p x es) ts rest (inner_unary tier) d w s)
+chain_arrives part n h tier c inner reads (raw_binary p op e g) ts rest f d w s =
+    elim (split_op tier op c f) [
+      | inl at_tier ↦ arrive_next part n h tier p op e g w.0 w.2.0 rest (bind inner (λ e. chain_of part tier n n e) ts) at_tier d w.2.1
+          (subst (λ l. Fits (under l) g) at_tier w.2.2.0) w.2.2.1 s
+          (chain_arrives part n h tier c inner reads e ts w.0 (subst (λ l. Fits l e) (ap left_tier at_tier ∙ chain_left tier c) w.1.0) (omega (arith, d)) w.1.1
+          (subst (λ l. Stops (under l) w.0) at_tier (stops_op op (under (op_tier op)) p w.0 w.2.0 (under_more op) w.2.1)))
+      | inr inside ↦ arrive_first part n tier (raw_binary p op e g) inner ts rest (reads (raw_binary p op e g) ts rest inside d w s)
     ]
-chain_arrives part n h level c inner reads (raw_divides p k e) ts rest f d w s =
-    arrive_first part n level (raw_divides p k e) inner ts rest (reads (raw_divides p k e) ts rest (divides_inside level c f) d w s)
-chain_arrives part n h level c inner reads (raw_if p e g i) ts rest f d w s = absurd (omega (arith, (chain_rank level c).0, f))
-chain_arrives part n h level c inner reads (raw_let p xs qs e g) ts rest f d w s = absurd (omega (arith, (chain_rank level c).0, f))
-chain_arrives part n h level c inner reads (raw_choose p ps e) ts rest f d w s = absurd (omega (arith, (chain_rank level c).0, f))
-chain_arrives part n h level c inner reads (raw_match p e arms) ts rest f d w s = absurd (omega (arith, (chain_rank level c).0, f))
+chain_arrives part n h tier c inner reads (raw_divides p k e) ts rest f d w s =
+    arrive_first part n tier (raw_divides p k e) inner ts rest (reads (raw_divides p k e) ts rest (divides_inside tier c f) d w s)
+chain_arrives part n h tier c inner reads (raw_if p e g i) ts rest f d w s = absurd (omega (arith, (chain_rank tier c).0, f))
+chain_arrives part n h tier c inner reads (raw_let p xs qs e g) ts rest f d w s = absurd (omega (arith, (chain_rank tier c).0, f))
+chain_arrives part n h tier c inner reads (raw_choose p ps e) ts rest f d w s = absurd (omega (arith, (chain_rank tier c).0, f))
+chain_arrives part n h tier c inner reads (raw_match p e arms) ts rest f d w s = absurd (omega (arith, (chain_rank tier c).0, f))
 
-chain_only : (part : Parts) (n : ℕ) → OnlyReads part n → (level : Level) → Chains level → (inner : Reader RawTree) → FirstReads n level inner →
-    (t : RawTree) (ts rest : List Token) → Fits level t → raw_depth t ≤ suc n → Spells t ts rest → Stops level rest →
-    bind inner (λ e. chain_of part level n n e) ts ≡ Ok (t, rest)
-chain_only part n h level c inner reads t ts rest f d w s =
-    let arrived : Arrived part n level t rest (bind inner (λ e. chain_of part level n n e) ts) = chain_arrives part n h level c inner reads t ts rest f d w (stops_in (under level) level rest (inner_rank level) s) in
-    arrived.same ∙ chain_stops part level n arrived.left t rest (s.ops level n (raw_depth t) (omega arith))
+chain_only : (part : Parts) (n : ℕ) → OnlyReads part n → (tier : Tier) → Chains tier → (inner : Reader RawTree) → FirstReads n tier inner →
+    (t : RawTree) (ts rest : List Token) → Fits tier t → raw_depth t ≤ suc n → Spells t ts rest → Stops tier rest →
+    bind inner (λ e. chain_of part tier n n e) ts ≡ Ok (t, rest)
+chain_only part n h tier c inner reads t ts rest f d w s =
+    let arrived : Arrived part n tier t rest (bind inner (λ e. chain_of part tier n n e) ts) = chain_arrives part n h tier c inner reads t ts rest f d w (stops_in (under tier) tier rest (inner_rank tier) s) in
+    arrived.same ∙ chain_stops part tier n arrived.left t rest (s.ops tier n (raw_depth t) (omega arith))
 
 muls_is : (part : Parts) (n : ℕ) → OnlyReads part n → Shrinks part → (t : RawTree) (ts rest : List Token) → Fits Muls t → raw_depth t ≤ suc n → Spells t ts rest → Stops Muls rest → muls_of part n ts ≡ Ok (t, rest)
 unfolding muls_of
@@ -768,11 +765,11 @@ cmps_inner part n h sh t ts rest f d w s =
     bind_is _ _ ts (sums_is part n h sh t ts rest f d w (stops_in Sums Cmps rest (omega arith) s))
     (first_not _ _ _ rest (s.ops Cmps n (raw_depth t) (omega arith)) (first_not _ _ _ rest (not_divides n t rest (s.divides (omega arith))) (pure_is _ _ rest refl)))
 
-compare_is : (part : Parts) (n : ℕ) → OnlyReads part n → Shrinks part → (p : Place) (op : BinOp) (e g : RawTree) (ts a b rest : List Token) → op_level op ≡ Cmps → Fits (left_level (op_level op)) e → Fits (under (op_level op)) g →
+compare_is : (part : Parts) (n : ℕ) → OnlyReads part n → Shrinks part → (p : Place) (op : BinOp) (e g : RawTree) (ts a b rest : List Token) → op_tier op ≡ Cmps → Fits (left_tier (op_tier op)) e → Fits (under (op_tier op)) g →
     1 + max (raw_depth e) (raw_depth g) ≤ suc n → Spells e ts a → First p (op_kind op) a b → Spells g b rest → Stops Cmps rest → cmps_of part n ts ≡ Ok (raw_binary p op e g, rest)
 unfolding cmps_of compared_of OnlyReads
 compare_is part n h sh p op e g ts a b rest is_at f i d w o v s =
-    bind_is _ _ ts (sums_is part n h sh e ts a (subst (λ l. Fits (left_level l) e) is_at f) (omega (arith, d)) w (stops_op op Sums p a b (let r : rank (op_level op) ≡ 3 = ap rank is_at in omega (arith, r)) o))
+    bind_is _ _ ts (sums_is part n h sh e ts a (subst (λ l. Fits (left_tier l) e) is_at f) (omega (arith, d)) w (stops_op op Sums p a b (let r : rank (op_tier op) ≡ 3 = ap rank is_at in omega (arith, r)) o))
     (first_is _ _ _ a (subst (λ l. at (next_op l n (raw_depth e)) a ≡ Some ((p, op), b)) is_at (op_is n (raw_depth e) op p a b (omega (arith, d)) o))
     (bind_is _ _ b (h Sums g b rest (subst (λ l. Fits (under l) g) is_at i) (omega (arith, d)) v (stops_in Sums Cmps rest (omega arith) s)) (pure_is _ _ rest refl)))
 
@@ -791,11 +788,11 @@ cmps_is part n h sh (raw_div p e k) ts rest f d w s = cmps_inner part n h sh (ra
 cmps_is part n h sh (raw_mod p e k) ts rest f d w s = cmps_inner part n h sh (raw_mod p e k) ts rest (omega arith) d w s
 cmps_is part n h sh (raw_card p e) ts rest f d w s = cmps_inner part n h sh (raw_card p e) ts rest (omega arith) d w s
 cmps_is part n h sh (raw_call p x es) ts rest f d w s = cmps_inner part n h sh (raw_call p x es) ts rest (omega arith) d w s
-cmps_is part n h sh (raw_binary p op e g) ts rest f d w s = elim (same_or_inner 3 (rank (op_level op)) f) [
-  | inl at_level ↦ compare_is part n h sh p op e g ts w.0 w.1 rest (same_rank (op_level op) Cmps at_level) w.2 w.5 d w.3 w.4 w.6 s
+cmps_is part n h sh (raw_binary p op e g) ts rest f d w s = elim (same_or_inner 3 (rank (op_tier op)) f) [
+  | inl at_tier ↦ compare_is part n h sh p op e g ts w.0 w.2.0 rest (same_rank (op_tier op) Cmps at_tier) w.1.0 w.2.2.0 d w.1.1 w.2.1 w.2.2.1 s
   | inr inside ↦ cmps_inner part n h sh (raw_binary p op e g) ts rest inside d w s
 ]
-cmps_is part n h sh (raw_divides p k e) ts rest f d (a, b, l, v, i, g) s =
+cmps_is part n h sh (raw_divides p k e) ts rest f d (a, l, (b, v, (i, g))) s =
     bind_is _ _ ts (sums_is part n h sh (raw_lit p k) ts a (omega arith) (omega arith) (literal_zero p k ts a l) (divides_stops a b v))
     (first_not _ _ _ a (not_next Cmps n 1 (Word (codes "divides")) a b v.0 divides_no_op v.1)
     (first_is _ _ _ a (divides_is n p k a b (omega (arith, d, deep_one e)) l.1 v)
@@ -813,12 +810,12 @@ ors_is : (part : Parts) (n : ℕ) → OnlyReads part n → Shrinks part → (t :
 unfolding ors_of
 ors_is part n h sh t ts rest f d w s = chain_only part n h Ors ors_chain (ands_of part n) (ands_is part n h sh) t ts rest f d w s
 
--- forms of the outermost level
+-- forms of the outermost tier
 
 let_is : (part : Parts) (n : ℕ) → OnlyReads part n → (p : Place) (xs : List (List ℕ)) (qs : List Place) (e g : RawTree) (ts rest : List Token) → raw_depth (raw_let p xs qs e g) ≤ suc n → Spells (raw_let p xs qs e g) ts rest → Stops Whole rest →
     whole_of part n ts ≡ Ok (raw_let p xs qs e g, rest)
 unfolding whole_of let_of OnlyReads
-let_is part n h p xs qs e g ts rest d (a, b, c, i, j, w, x, m, v, k, u) s =
+let_is part n h p xs qs e g ts rest d (a, w, (b, x, (c, m, (i, v, (j, k, u))))) s =
     deep_is _ _ _ _ ts (omega (arith, d, deep_one e)) (at_is _ ts a p refl w)
     (bind_is _ _ a (names_are xs qs a b x) (bind_is _ _ b (next_is _ b c refl m) (bind_is _ _ c (h Whole e c i (omega arith) (omega (arith, d)) v (stops_at Whole (Word (codes "in")) i j in_closes k))
     (bind_is _ _ i (next_is _ i j refl k) (bind_is _ _ j (h Whole g j rest (omega arith) (omega (arith, d)) u s) (pure_is _ _ rest refl))))))
@@ -826,7 +823,7 @@ let_is part n h p xs qs e g ts rest d (a, b, c, i, j, w, x, m, v, k, u) s =
 if_is : (part : Parts) (n : ℕ) → OnlyReads part n → (p : Place) (e f g : RawTree) (ts rest : List Token) → raw_depth (raw_if p e f g) ≤ suc n → Spells (raw_if p e f g) ts rest → Stops Whole rest →
     whole_of part n ts ≡ Ok (raw_if p e f g, rest)
 unfolding whole_of if_of OnlyReads
-if_is part n h p e f g ts rest d (a, b, c, i, j, w, x, m, v, k, u) s =
+if_is part n h p e f g ts rest d (a, w, (b, x, (c, m, (i, v, (j, k, u))))) s =
     deep_not _ _ _ _ ts (at_not _ (Word (codes "if")) ts a p refl w) (deep_is _ _ _ _ ts (omega (arith, d, deep_one e)) (at_is _ ts a p refl w)
     (bind_is _ _ a (h Whole e a b (omega arith) (omega (arith, d)) x (stops_at Whole (Word (codes "then")) b c then_closes m)) (bind_is _ _ b (next_is _ b c refl m)
     (bind_is _ _ c (h Whole f c i (omega arith) (omega (arith, d)) v (stops_at Whole (Word (codes "else")) i j else_closes k))
@@ -835,7 +832,7 @@ if_is part n h p e f g ts rest d (a, b, c, i, j, w, x, m, v, k, u) s =
 choose_is : (part : Parts) (n : ℕ) → OnlyReads part n → (p : Place) (ps : List Param) (e : RawTree) (ts rest : List Token) → raw_depth (raw_choose p ps e) ≤ suc n → Spells (raw_choose p ps e) ts rest → Stops Whole rest →
     whole_of part n ts ≡ Ok (raw_choose p ps e, rest)
 unfolding whole_of choose_of OnlyReads
-choose_is part n h p ps e ts rest d (a, b, c, i, w, o, l, m, f, u) s =
+choose_is part n h p ps e ts rest d (a, w, (b, o, (c, l, (i, m, (f, u))))) s =
     deep_not _ _ _ _ ts (at_not _ (Word (codes "choose")) ts a p refl w) (deep_not _ _ _ _ ts (at_not _ (Word (codes "choose")) ts a p refl w)
     (deep_is _ _ _ _ ts (omega (arith, d, deep_one e)) (at_is _ ts a p refl w)
     (bind_is _ _ a (next_is _ a b refl o) (bind_is _ _ b (params_are ps b c l) (bind_is _ _ c (next_is _ c i refl m)
@@ -849,7 +846,7 @@ then_ends ts us (p, w) = record { sign = no_sign (Word (codes "then")) ts us p r
 
 arm_is : (part : Parts) (n : ℕ) → OnlyReads part n → (arm : RawArmTree) (ts us : List Token) → DeepArm n arm ts us → Stops Whole us → arm_of part ts ≡ Ok (arm, us)
 unfolding arm_of OnlyReads
-arm_is part n h (raw_arm parts c e) ts us (d, (a, b, y, m, v)) s =
+arm_is part n h (raw_arm parts c e) ts us (d, (a, y, (b, m, v))) s =
     bind_is _ _ ts (pattern_is parts c ts a y (then_ends a b m)) (bind_is _ _ a (next_is _ a b refl m) (bind_is _ _ b (h Whole e b us (omega arith) (omega (arith, d)) v s) (pure_is _ _ us refl)))
 
 arm_list : (part : Parts) (n : ℕ) → OnlyReads part n → ((ts : List Token) → Within (length ts) (arm_of part ts)) → Items (arm_of part) (DeepArm n) (Sign (codes ";")) (Sign (codes "}"))
@@ -864,12 +861,12 @@ arm_list part n h within = record {
 deep_arms : (n : ℕ) (arms : RawArmTrees) (ts rest : List Token) → raw_arms_depth arms ≤ n → SpellsArms arms ts rest → Others (DeepArm n) (Sign (codes ";")) (Sign (codes "}")) (arm_items arms) ts rest
 unfolding arm_items
 deep_arms n no_raw_arms ts rest d w = w
-deep_arms n (raw_arm_more arm arms) ts rest d (a, b, c, s, o) = (a, b, c, (omega (arith, d), s), deep_arms n arms b rest (omega (arith, d)) o)
+deep_arms n (raw_arm_more arm arms) ts rest d (a, c, (b, s, o)) = (a, c, (b, (omega (arith, d), s), deep_arms n arms b rest (omega (arith, d)) o))
 
 match_is : (part : Parts) (n : ℕ) → OnlyReads part n → ((ts : List Token) → Within (length ts) (arm_of part ts)) → (p : Place) (e : RawTree) (arm : RawArmTree) (arms : RawArmTrees) (ts rest : List Token) →
     raw_depth (raw_match p e (raw_arm_more arm arms)) ≤ suc n → Spells (raw_match p e (raw_arm_more arm arms)) ts rest → Stops Whole rest → whole_of part n ts ≡ Ok (raw_match p e (raw_arm_more arm arms), rest)
 unfolding whole_of match_of OnlyReads
-match_is part n h within p e arm arms ts rest d (a, b, c, i, j, w, x, m, o, v, u) s =
+match_is part n h within p e arm arms ts rest d (a, w, (b, x, (c, m, (i, o, (j, v, u))))) s =
     deep_not _ _ _ _ ts (at_not _ (Word (codes "match")) ts a p refl w) (deep_not _ _ _ _ ts (at_not _ (Word (codes "match")) ts a p refl w) (deep_not _ _ _ _ ts (at_not _ (Word (codes "match")) ts a p refl w)
     (deep_is _ _ _ _ ts (omega (arith, d, deep_one e)) (at_is _ ts a p refl w)
     (bind_is _ _ a (h Whole e a b (omega arith) (omega (arith, d)) x (stops_at Whole (Word (codes "with")) b c with_closes m)) (bind_is _ _ b (next_is _ b c refl m) (bind_is _ _ c (next_is _ c i refl o)
@@ -904,7 +901,7 @@ whole_is part n h sh i (raw_choose p ps e) ts rest d w s = choose_is part n h p 
 whole_is part n h sh i (raw_match p e no_raw_arms) ts rest d w s = absurd w
 whole_is part n h sh i (raw_match p e (raw_arm_more arm arms)) ts rest d w s = match_is part n h i p e arm arms ts rest d w s
 
-step_is : (part : Parts) (n : ℕ) → OnlyReads part n → Shrinks part → ((ts : List Token) → Within (length ts) (arm_of part ts)) → (level : Level) (t : RawTree) (ts rest : List Token) → Fits level t → raw_depth t ≤ suc n → Spells t ts rest → Stops level rest → step part n level ts ≡ Ok (t, rest)
+step_is : (part : Parts) (n : ℕ) → OnlyReads part n → Shrinks part → ((ts : List Token) → Within (length ts) (arm_of part ts)) → (tier : Tier) (t : RawTree) (ts rest : List Token) → Fits tier t → raw_depth t ≤ suc n → Spells t ts rest → Stops tier rest → step part n tier ts ≡ Ok (t, rest)
 unfolding step
 step_is part n h sh i Whole t ts rest f d w s = whole_is part n h sh i t ts rest d w s
 step_is part n h sh i Ors t ts rest f d w s = ors_is part n h sh t ts rest f d w s
@@ -916,12 +913,12 @@ step_is part n h sh i Unary t ts rest f d w s = unary_is part n h sh t ts rest f
 
 read_shrinks : (n : ℕ) → Shrinks (read n)
 unfolding Shrinks LocalParts
-read_shrinks n level ts = (read_local [] [] n level).within ts (length ts) (omega arith)
+read_shrinks n tier ts = (read_local [] [] n tier).within ts (length ts) (omega arith)
 
 arm_shrinks : (n : ℕ) (ts : List Token) → Within (length ts) (arm_of (read n) ts)
 arm_shrinks n ts = (arm_local {more = []} {other = []} (read n) (read_local [] [] n)).within ts (length ts) (omega arith)
 
 pub read_only : (n : ℕ) → OnlyReads (read n) n
 unfolding read OnlyReads
-read_only zero level t ts rest f d w s = absurd (omega (arith, d, deep_one t))
-read_only (suc n) level t ts rest f d w s = step_is (read n) n (read_only n) (read_shrinks n) (arm_shrinks n) level t ts rest f d w s
+read_only zero tier t ts rest f d w s = absurd (omega (arith, d, deep_one t))
+read_only (suc n) tier t ts rest f d w s = step_is (read n) n (read_only n) (read_shrinks n) (arm_shrinks n) tier t ts rest f d w s

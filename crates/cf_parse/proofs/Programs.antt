@@ -1,5 +1,5 @@
 -- The answers of the reader of programs are those of the grammar.
-use Rattle.std.proofs.Common.{◌≡◌, ℕ, suc, zero, ◌-◌, ◌≤◌, List, [], ◌∷◌, ◌++◌, length, take, drop, Ok, Err, refl, sym, ap, subst, ◌∙◌, inl, inr, append_assoc, append-nil, length-drop, take-append-drop, arith}
+use Rattle.std.proofs.Common.{◌≡◌, ℕ, suc, zero, ◌-◌, ◌≤◌, List, [], ◌∷◌, ◌++◌, length, Ok, Err, refl, sym, ap, subst, ◌∙◌, append_assoc, append-nil, arith}
 use Rattle.std.specs.Prelude.{codes}
 use Rattle.cf_lex.specs.declared.token.Token.{Token}
 use Rattle.cf_lex.specs.declared.token.TokenKind.TheVariants.{Word, Sign}
@@ -7,14 +7,14 @@ use Rattle.cf_tree.specs.declared.base.Place.{Place}
 use Rattle.cf_tree.specs.declared.raw.Param.{Param}
 use Rattle.cf_tree.specs.DefView.{RawDefTree}
 use Rattle.cf_reader.specs.Readers.{at_end, snoc}
-use Rattle.cf_reader.specs.Faults.{IsFaultPlace, place_of}
+use Rattle.cf_reader.specs.Faults.{IsFaultPlace, IsFaultPlaceOf, place_with_left}
 use Rattle.cf_reader.specs.Tokens.{Several}
 use Rattle.cf_reader.proofs.Exact.{bind_is, pure_is, must_is, first_is, first_not, at_is, at_not, next_is, name_is, first_longer, left_over}
-use Rattle.cf_reader.proofs.Faults.{same_value, found_on, ReadsAll, fault_law as read_fault}
+use Rattle.cf_reader.proofs.Faults.{same_value, found_on, ReadsAll, fault_law as read_fault, exact_law as read_exact}
 use Rattle.cf_reader.proofs.Near.{Local, pure_local, end_local, any_local, bind_local, must_local, at_end_local}
 use Rattle.cf_reader.proofs.KindLaws.{results_local, results_yields, results_are}
 use Rattle.cf_reader.proofs.Yields.{Yields, yields, faults, pure_yields, widen, bind_yields, must_yields, first_yields, took_is, took_next, took_name}
-use Rattle.cf_parse.specs.declared.level.Level.TheVariants.{Whole}
+use Rattle.cf_parse.specs.declared.tier.Tier.TheVariants.{Whole}
 use Rattle.cf_parse.specs.Spelling.{SpellsParam}
 use Rattle.cf_parse.specs.Reading.{params_of}
 use Rattle.cf_parse.specs.Programs.{SpellsParams, SpellsDef, SpellsDefs, SpellsProgram, IsProgram, def_from, def_of, defs_of, all_defs, program_of, SomeProgram}
@@ -37,7 +37,7 @@ unfolding def_of def_from Finds
 def_yields limit ts =
     bind_yields _ _ ts (must_yields _ ts) (λ p a w. bind_yields _ _ a (must_yields _ a) (λ x b n. bind_yields _ _ b (must_yields _ b) (λ q c o. bind_yields _ _ c (maybe_params_yields c) (λ params e l.
     bind_yields _ _ e (must_yields _ e) (λ r f m. bind_yields _ _ f (results_yields f) (λ results g k. bind_yields _ _ g (must_yields _ g) (λ s h i. bind_yields _ _ h (read_found limit Whole h) (λ t us found.
-    pure_yields _ us (a, b, c, e, f, g, h, took_is _ ts a p w, (x.0, took_name a b x n), took_next _ b c q o, l, took_next _ e f r m, k, took_next _ g h s i, found.spelled, found.deep)))))))))
+    pure_yields _ us (a, took_is _ ts a p w, (b, (x.0, took_name a b x n), (c, took_next _ b c q o, (e, l, (f, took_next _ e f r m, (g, k, (h, took_next _ g h s i, (found.deep, found.spelled))))))))))))))))
 
 -- functions behind those read before
 abbrev DefsFound : ℕ → List RawDefTree → List Token → List RawDefTree → List Token → Type 0
@@ -70,17 +70,17 @@ found_from ts items ds us same e = subst (IsProgram ds) same (found_law ts ds us
 maybe_params_are : (xs : List Param) (ts rest : List Token) → SpellsParams xs ts rest → params_of ts ≡ Ok (xs, rest)
 unfolding params_of
 maybe_params_are [] ts rest w = first_is _ _ _ ts (at_is _ ts rest w.0 refl w.1) (pure_is _ _ rest refl)
-maybe_params_are (x ∷ xs) ts rest w = first_not _ _ _ ts (at_not _ (Word x.name) ts w.1.0 x.place refl w.1.2.0) (params_are (x ∷ xs) ts rest w)
+maybe_params_are (x ∷ xs) ts rest w = first_not _ _ _ ts (at_not _ (Word x.name) ts w.1.0 x.place refl w.1.1.0) (params_are (x ∷ xs) ts rest w)
 
 def_from_is : (limit : ℕ) (d : RawDefTree) (ts us : List Token) → (w : SpellsDef limit d ts us) → Stops Whole us → def_from limit d.place w.0 ≡ Ok (d, us)
 unfolding def_from OnlyReads
-def_from_is limit d ts us (a, b, c, e, f, g, h, w, (q, n), o, l, m, k, i, s, z) stops =
+def_from_is limit d ts us (a, w, (b, (q, n), (c, o, (e, l, (f, m, (g, k, (h, i, (z, s)))))))) stops =
     bind_is _ _ a (must_is _ a b _ (name_is a b q d.name n)) (bind_is _ _ b (next_is _ b c refl o) (bind_is _ _ c (maybe_params_are d.params c e l) (bind_is _ _ e (next_is _ e f refl m)
     (bind_is _ _ f (results_are d.results f g k) (bind_is _ _ g (next_is _ g h refl i) (bind_is _ _ h (read_only limit Whole d.body h us (omega arith) z s stops) (pure_is _ d us refl)))))))
 
 def_is : (limit : ℕ) (d : RawDefTree) (ts us : List Token) → SpellsDef limit d ts us → Stops Whole us → def_of limit ts ≡ Ok (d, us)
 unfolding def_of
-def_is limit d ts us w stops = bind_is _ _ ts (must_is _ ts w.0 _ (at_is _ ts w.0 d.place refl w.7)) (def_from_is limit d ts us w stops)
+def_is limit d ts us w stops = bind_is _ _ ts (must_is _ ts w.0 _ (at_is _ ts w.0 d.place refl w.1)) (def_from_is limit d ts us w stops)
 
 def_from_local : {more other : List Token} (limit : ℕ) (p : Place) → Local more other (def_from limit p) (def_from limit p)
 unfolding def_from LocalParts
@@ -90,11 +90,11 @@ def_from_local limit p =
 
 def_shorter : (limit : ℕ) (d : RawDefTree) (ts us : List Token) → SpellsDef limit d ts us → Stops Whole us → suc (length us) ≤ length ts
 def_shorter limit d ts us w stops =
-    omega (arith, first_longer (Word (codes "def")) ts w.0 d.place w.7, left_over (length w.0) (def_from limit d.place w.0) d us (def_from_is limit d ts us w stops) ((def_from_local {more = []} {other = []} limit d.place).within w.0 (length w.0) (omega arith)))
+    omega (arith, first_longer (Word (codes "def")) ts w.0 d.place w.1, left_over (length w.0) (def_from limit d.place w.0) d us (def_from_is limit d ts us w stops) ((def_from_local {more = []} {other = []} limit d.place).within w.0 (length w.0) (omega arith)))
 
 defs_stop : (limit : ℕ) (ds : List RawDefTree) (ts : List Token) → SpellsDefs limit ds ts → Stops Whole ts
 defs_stop limit [] ts e = subst (λ us. Stops Whole us) (sym e) (stops_end Whole)
-defs_stop limit (d ∷ ds) ts (a, w, s) = stops_at Whole (Word (codes "def")) ts w.0 def_closes (d.place, w.7)
+defs_stop limit (d ∷ ds) ts (a, w, s) = stops_at Whole (Word (codes "def")) ts w.0 def_closes (d.place, w.1)
 
 defs_are : (limit k : ℕ) (done ds : List RawDefTree) (ts : List Token) → SpellsDefs limit ds ts → length ts ≤ k → defs_of limit k done ts ≡ Ok (done ++ ds, [])
 unfolding defs_of at_end
@@ -103,8 +103,8 @@ defs_are limit (suc k) done [] ts e l = ap (defs_of limit (suc k) done) e ∙ ap
 defs_are limit zero done (d ∷ ds) ts (a, w, s) l = absurd (omega (arith, l, def_shorter limit d ts a w (defs_stop limit ds a s)))
 defs_are limit (suc k) done (d ∷ ds) ts (a, w, s) l =
     let stops : Stops Whole a = defs_stop limit ds a s in
-    ap (defs_of limit (suc k) done) w.7
-    ∙ bind_is (def_of limit) (λ d. defs_of limit k (snoc done d)) _ (ap (def_of limit) (sym w.7) ∙ def_is limit d ts a w stops)
+    ap (defs_of limit (suc k) done) w.1
+    ∙ bind_is (def_of limit) (λ d. defs_of limit k (snoc done d)) _ (ap (def_of limit) (sym w.1) ∙ def_is limit d ts a w stops)
     (defs_are limit k (done ++ d ∷ []) ds a s (omega (arith, l, def_shorter limit d ts a w stops)) ∙ ap (λ (z : List RawDefTree). Ok (z, [])) (append_assoc done (d ∷ []) ds))
 
 program_is : (limit : ℕ) (ds : List RawDefTree) (ts : List Token) → SpellsProgram limit ds ts → program_of limit ts ≡ Ok (ds, [])
@@ -145,5 +145,8 @@ program_local {more} {other} limit = bind_local (def_local limit) (λ d. record 
 all_read : ReadsAll SomeProgram (program_of 200)
 all_read ts (ds, w) = (ds, [], only_law ts ds w)
 
-pub fault_law : (ts : List Token) (end : Place) (e : ℕ) → program_of 200 ts ≡ Err e → IsFaultPlace SomeProgram ts end (place_of ts end e)
+pub fault_law : (ts : List Token) (end : Place) (e : ℕ) → program_of 200 ts ≡ Err e → IsFaultPlace SomeProgram ts end (place_with_left ts end e)
 fault_law ts end e p = read_fault SomeProgram (program_of 200) (λ more other. program_local 200) all_read ts end e p
+
+pub exact_law : (ts : List Token) (end : Place) (e : ℕ) → program_of 200 ts ≡ Err e → IsFaultPlaceOf (program_of 200) ts end (place_with_left ts end e)
+exact_law ts end e p = read_exact (program_of 200) ts end e p

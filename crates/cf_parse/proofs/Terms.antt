@@ -3,7 +3,7 @@ use Rattle.std.proofs.Common.{◌≡◌, ℕ, suc, zero, ℤ, ◌<◌, Bool, Lis
 use Rattle.std.specs.Prelude.{pos}
 use Rattle.cf_lex.specs.declared.token.Token.{Token}
 use Rattle.cf_tree.specs.declared.raw.Part.{Part}
-use Rattle.cf_reader.specs.Gives.{Fails}
+use Rattle.cf_reader.specs.Answers.{StopAnswer}
 use Rattle.cf_reader.specs.Readers.{at, bind, pure, first, snoc}
 use Rattle.cf_parse.specs.declared.pattern.Term.TheVariants.{Part as a_part, Constant as the_constant}
 use Rattle.cf_reader.specs.declared.stop.Stop.{Stop}
@@ -36,6 +36,6 @@ unfolding terms_of bind
 terms_err zero minus done ts e g lt = absurd (omega arith)
 terms_err (suc k) minus done ts e g lt = rw (terms_of, bind, g) refl
 
-pub terms_fail : (k : ℕ) (minus : Bool) (done : List Part) (ts : List Token) (e : Stop) → Fails e (term_of minus ts) → 0 < k → Fails e (terms_of k minus done ts)
-terms_fail k minus done ts stops.Memory g lt = tt
-terms_fail k minus done ts (stops.At n) g lt = terms_err k minus done ts n g lt
+pub terms_fail : (k : ℕ) (minus : Bool) (done : List Part) (ts : List Token) (e : Stop) → StopAnswer e (term_of minus ts) → 0 < k → StopAnswer e (terms_of k minus done ts)
+terms_fail k minus done ts stops.NoMemory g lt = tt
+terms_fail k minus done ts (stops.TokensLeft n) g lt = terms_err k minus done ts n g lt

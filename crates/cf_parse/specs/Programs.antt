@@ -1,5 +1,5 @@
 -- Programs, and what the reader of a program answers.
-use Rattle.std.specs.Prelude.{◌≡◌, ◌≤◌, ◌⊎◌, ℕ, zero, suc, ◌-◌, List, [], ◌∷◌, ◌++◌, length, drop, Result, Ok, Err, codes}
+use Rattle.std.specs.Prelude.{◌≡◌, ◌≤◌, ℕ, zero, suc, ◌-◌, List, [], ◌∷◌, length, Result, Ok, Err, codes}
 use Rattle.cf_lex.specs.declared.token.Token.{Token}
 use Rattle.cf_lex.specs.declared.token.TokenKind.TheVariants.{Word, Sign}
 use Rattle.cf_tree.specs.declared.base.Place.{Place}
@@ -8,30 +8,28 @@ use Rattle.cf_tree.specs.declared.raw.Program.{Program}
 use Rattle.cf_tree.specs.RawTree.{raw_depth}
 use Rattle.cf_tree.specs.DefView.{RawDefTree, program_tree}
 use Rattle.cf_reader.specs.Readers.{Reader, is, a_name, pure, must, ◌>>=◌, at_end, snoc}
-use Rattle.cf_reader.specs.Tokens.{First, Next, FirstName, Several, OneOrTuple}
+use Rattle.cf_reader.specs.Tokens.{Form, ◌⨟◌, If, First, Next, NextName, AnyNumber, OneOrTuple}
 use Rattle.cf_reader.specs.Kinds.{SpellsBase, results_of}
-use Rattle.cf_parse.specs.declared.level.Level.TheVariants.{Whole}
+use Rattle.cf_parse.specs.declared.tier.Tier.TheVariants.{Whole}
 use Rattle.cf_reader.specs.declared.fault.ParseFault.{ParseFault}
 use Rattle.cf_reader.specs.declared.fault.ParseFault.TheVariants.{Syntax, NoMemory}
 use Rattle.cf_parse.specs.Spelling.{SpellsParam, Spells}
 use Rattle.cf_parse.specs.Reading.{params_of, read}
 
 -- [ param { "," param } ] ")"
-abbrev pub SpellsParams : List Param → List Token → List Token → Type 0
-SpellsParams [] ts rest = Next (Sign (codes ")")) ts rest
-SpellsParams (x ∷ xs) ts rest = Several SpellsParam (Sign (codes ",")) (Sign (codes ")")) (x ∷ xs) ts rest
+abbrev pub SpellsParams : List Param → Form
+SpellsParams xs = AnyNumber SpellsParam (Sign (codes ",")) (Sign (codes ")")) xs
 
 -- def = "def" name "(" [ param { "," param } ] ")" ":" results "=" expr, with a body of at most this depth
-abbrev pub SpellsDef : ℕ → RawDefTree → List Token → List Token → Type 0
-SpellsDef limit d ts rest =
-    (a b c e f g h : List Token) × First d.place (Word (codes "def")) ts a × ((q : Place) × FirstName q d.name a b) × Next (Sign (codes "(")) b c
-    × SpellsParams d.params c e × Next (Sign (codes ":")) e f × OneOrTuple SpellsBase d.results f g × Next (Sign (codes "=")) g h
-    × Spells d.body h rest × (raw_depth d.body ≤ limit)
+abbrev pub SpellsDef : ℕ → RawDefTree → Form
+SpellsDef limit d =
+    First d.place (Word (codes "def")) ⨟ NextName d.name ⨟ Next (Sign (codes "(")) ⨟ SpellsParams d.params ⨟ Next (Sign (codes ":")) ⨟ OneOrTuple SpellsBase d.results
+    ⨟ Next (Sign (codes "=")) ⨟ If (raw_depth d.body ≤ limit) (Spells d.body)
 
 -- { def }, up to the end
 abbrev pub SpellsDefs : ℕ → List RawDefTree → List Token → Type 0
 SpellsDefs limit [] ts = ts ≡ []
-SpellsDefs limit (d ∷ ds) ts = (a : List Token) × SpellsDef limit d ts a × SpellsDefs limit ds a
+SpellsDefs limit (d ∷ ds) ts = (mid : List Token) × SpellsDef limit d ts mid × SpellsDefs limit ds mid
 
 -- program = def { def }
 abbrev pub SpellsProgram : ℕ → List RawDefTree → List Token → Type 0
@@ -74,7 +72,7 @@ unfoldable pub program_of : ℕ → Reader (List RawDefTree)
 program_of limit = def_of limit >>= λ d. all_defs limit (d ∷ [])
 
 -- the answer is this program, or memory ran out
-abbrev pub Reads : List RawDefTree → Result Program ParseFault → Type 0
-Reads ds (Ok x) = program_tree x ≡ ds
-Reads ds (Err NoMemory) = Unit {0}
-Reads ds (Err (Syntax p)) = ⊥
+abbrev pub ParseAnswer : List RawDefTree → Result Program ParseFault → Type 0
+ParseAnswer ds (Ok x) = program_tree x ≡ ds
+ParseAnswer ds (Err NoMemory) = Unit {0}
+ParseAnswer ds (Err (Syntax p)) = ⊥

@@ -15,11 +15,11 @@ use Rattle.cf_tree.specs.RawTree.{RawTree, raw_lit, raw_truth, raw_name, raw_set
 use Rattle.cf_reader.specs.Readers.{Reader, Test, is, a_name, a_literal, pure, must, ◌>>=◌, first, deep, several_of, snoc, one_or_tuple}
 use Rattle.cf_reader.specs.Kinds.{a_base, a_truth}
 use Rattle.cf_reader.specs.Operations.{op_of}
-use Rattle.cf_parse.specs.declared.level.Level.{Level}
-use Rattle.cf_parse.specs.declared.level.Level.TheVariants.{Whole, Ors, Ands, Cmps, Sums, Muls, Unary}
+use Rattle.cf_parse.specs.declared.tier.Tier.{Tier}
+use Rattle.cf_parse.specs.declared.tier.Tier.TheVariants.{Whole, Ors, Ands, Cmps, Sums, Muls, Unary}
 use Rattle.cf_parse.specs.declared.pattern.Term.{Term}
 use Rattle.cf_parse.specs.declared.pattern.Term.TheVariants.{Part as a_part, Constant as the_constant}
-use Rattle.cf_parse.specs.Spelling.{rank, under, op_level, signed}
+use Rattle.cf_parse.specs.Spelling.{rank, under, op_tier, signed}
 
 -- a plus or a minus: true for a minus
 abbrev pub a_sign : Test Bool
@@ -29,13 +29,13 @@ a_sign t = elim t.kind [
   | Word x ↦ None
 ]
 
-abbrev pub op_at : Level → Place → Option BinOp → Option (Place × BinOp)
-op_at level p None = None
-op_at level p (Some op) = if nat_eq (rank (op_level op)) (rank level) then Some (p, op) else None
+abbrev pub op_at : Tier → Place → Option BinOp → Option (Place × BinOp)
+op_at tier p None = None
+op_at tier p (Some op) = if nat_eq (rank (op_tier op)) (rank tier) then Some (p, op) else None
 
--- the operation with which a tree of depth d goes on at a level, where its parts may have depth n
-unfoldable pub next_op : Level → ℕ → ℕ → Test (Place × BinOp)
-next_op level n d t = if nat_le d n then op_at level t.place (op_of t.kind) else None
+-- the operation with which a tree of depth d goes on at a tier, where its parts may have depth n
+unfoldable pub next_op : Tier → ℕ → ℕ → Test (Place × BinOp)
+next_op tier n d t = if nat_le d n then op_at tier t.place (op_of t.kind) else None
 
 -- a literal that stands alone
 abbrev pub lone_literal : RawTree → Option (Place × ℤ)
@@ -120,13 +120,13 @@ pattern_of = first (is (Sign (codes "-"))) (λ p. all_terms true) (all_terms fal
 
 -- readers of parts
 abbrev pub Parts : Type 0
-Parts = Level → Reader RawTree
+Parts = Tier → Reader RawTree
 
 -- the rest of a chain, of at most fuel operations
-unfoldable pub chain_of : Parts → Level → ℕ → ℕ → RawTree → Reader RawTree
-chain_of part level n zero left = pure left
-chain_of part level n (suc fuel) left =
-    first (next_op level n (raw_depth left)) (λ o. part (under level) >>= λ right. chain_of part level n fuel (raw_binary o.0 o.1 left right)) (pure left)
+unfoldable pub chain_of : Parts → Tier → ℕ → ℕ → RawTree → Reader RawTree
+chain_of part tier n zero left = pure left
+chain_of part tier n (suc fuel) left =
+    first (next_op tier n (raw_depth left)) (λ o. part (under tier) >>= λ right. chain_of part tier n fuel (raw_binary o.0 o.1 left right)) (pure left)
 
 -- expr { "," expr } close
 unfoldable pub list_of : Parts → TokenKind → Reader (List RawTree)
@@ -259,7 +259,7 @@ whole_of part n =
     deep n (is (Word (codes "match"))) (λ p. match_of part p) (
     ors_of part n))))
 
-unfoldable pub step : Parts → ℕ → Level → Reader RawTree
+unfoldable pub step : Parts → ℕ → Tier → Reader RawTree
 step part n Whole = whole_of part n
 step part n Ors = ors_of part n
 step part n Ands = ands_of part n
@@ -268,7 +268,7 @@ step part n Sums = sums_of part n
 step part n Muls = muls_of part n
 step part n Unary = unary_of part n
 
--- a tree of depth at most n, at a level
-unfoldable pub read : ℕ → Level → Reader RawTree
-read zero level = λ ts. Err (length ts)
-read (suc n) level = step (read n) n level
+-- a tree of depth at most n, at a tier
+unfoldable pub read : ℕ → Tier → Reader RawTree
+read zero tier = λ ts. Err (length ts)
+read (suc n) tier = step (read n) n tier

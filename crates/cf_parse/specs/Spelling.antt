@@ -1,24 +1,21 @@
 -- Which tokens spell an expression: the grammar, by cases on the tree.
 use Rattle.std.specs.Prelude.{◌≡◌, ◌≤◌, ◌⊎◌, ℕ, ℤ, pos, neg_ℤ, Bool, true, false, List, [], ◌∷◌, map, codes}
-use Rattle.cf_lex.specs.declared.token.Token.{Token}
 use Rattle.cf_lex.specs.declared.token.TokenKind.{TokenKind}
 use Rattle.cf_lex.specs.declared.token.TokenKind.TheVariants.{Word, Sign}
 use Rattle.cf_tree.specs.declared.base.Place.{Place}
-use Rattle.cf_tree.specs.declared.base.Base.{Base}
-use Rattle.cf_tree.specs.declared.base.Base.TheVariants.{Int, Bool as BoolBase, Set}
 use Rattle.cf_tree.specs.declared.raw.BinOp.{BinOp}
 use Rattle.cf_tree.specs.declared.raw.BinOp.TheVariants.{Add, Sub, Mul, And, Or, Union, Inter, Diff, Subset, Compare}
 use Rattle.cf_tree.specs.declared.raw.Param.{Param}
 use Rattle.cf_tree.specs.declared.raw.Part.{Part}
 use Rattle.cf_tree.specs.RawTree.{RawTree, raw_lit, raw_truth, raw_name, raw_set_of, raw_group, raw_tuple, raw_neg, raw_not, raw_abs, raw_binary, raw_divides, raw_div, raw_mod, raw_card, raw_call, raw_if, raw_let, raw_choose, raw_match, RawTrees, no_raws, raw_more, RawArmTree, raw_arm, RawArmTrees, no_raw_arms, raw_arm_more}
-use Rattle.cf_reader.specs.Tokens.{First, Next, FirstName, FirstLiteral, Several, OneOrTuple}
-use Rattle.cf_reader.specs.Kinds.{base_kind, truth_kind, order_kind}
+use Rattle.cf_reader.specs.Tokens.{Form, ◌⨟◌, Nothing, If, First, Next, FirstName, FirstLiteral, NextLiteral, Several, OneOrTuple}
+use Rattle.cf_reader.specs.Kinds.{base_kind, truth_kind}
 use Rattle.cf_reader.specs.Operations.{op_kind}
-use Rattle.cf_parse.specs.declared.level.Level.{Level}
-use Rattle.cf_parse.specs.declared.level.Level.TheVariants.{Whole, Ors, Ands, Cmps, Sums, Muls, Unary}
+use Rattle.cf_parse.specs.declared.tier.Tier.{Tier}
+use Rattle.cf_parse.specs.declared.tier.Tier.TheVariants.{Whole, Ors, Ands, Cmps, Sums, Muls, Unary}
 
--- how far inside a level is
-abbrev pub rank : Level → ℕ
+-- how far inside a tier is
+abbrev pub rank : Tier → ℕ
 rank Whole = 0
 rank Ors = 1
 rank Ands = 2
@@ -27,8 +24,8 @@ rank Sums = 4
 rank Muls = 5
 rank Unary = 6
 
--- the level next inside
-abbrev pub under : Level → Level
+-- the tier next inside
+abbrev pub under : Tier → Tier
 under Whole = Ors
 under Ors = Ands
 under Ands = Cmps
@@ -37,64 +34,64 @@ under Sums = Muls
 under Muls = Unary
 under Unary = Unary
 
--- the level of an operation
-abbrev pub op_level : BinOp → Level
-op_level Or = Ors
-op_level And = Ands
-op_level (Compare order) = Cmps
-op_level Subset = Cmps
-op_level Add = Sums
-op_level Sub = Sums
-op_level Union = Sums
-op_level Diff = Sums
-op_level Mul = Muls
-op_level Inter = Muls
+-- the tier of an operation
+abbrev pub op_tier : BinOp → Tier
+op_tier Or = Ors
+op_tier And = Ands
+op_tier (Compare order) = Cmps
+op_tier Subset = Cmps
+op_tier Add = Sums
+op_tier Sub = Sums
+op_tier Union = Sums
+op_tier Diff = Sums
+op_tier Mul = Muls
+op_tier Inter = Muls
 
--- the level of an operation's left side: chains group to the left, and a comparison is no chain
-abbrev pub left_level : Level → Level
-left_level Whole = Whole
-left_level Ors = Ors
-left_level Ands = Ands
-left_level Cmps = Sums
-left_level Sums = Sums
-left_level Muls = Muls
-left_level Unary = Unary
+-- the tier of an operation's left side: chains group to the left, and a comparison is no chain
+abbrev pub left_tier : Tier → Tier
+left_tier Whole = Whole
+left_tier Ors = Ors
+left_tier Ands = Ands
+left_tier Cmps = Sums
+left_tier Sums = Sums
+left_tier Muls = Muls
+left_tier Unary = Unary
 
--- the level of a form: it stands where a form of this level, or of one further out, is asked
-abbrev pub level_of : RawTree → Level
-level_of (raw_lit p k) = Unary
-level_of (raw_truth p t) = Unary
-level_of (raw_name p x) = Unary
-level_of (raw_set_of p es) = Unary
-level_of (raw_group p a) = Unary
-level_of (raw_tuple p es) = Unary
-level_of (raw_neg p a) = Unary
-level_of (raw_not p a) = Unary
-level_of (raw_abs p a) = Unary
-level_of (raw_binary p op a b) = op_level op
-level_of (raw_divides p k a) = Cmps
-level_of (raw_div p a k) = Unary
-level_of (raw_mod p a k) = Unary
-level_of (raw_card p a) = Unary
-level_of (raw_call p x es) = Unary
-level_of (raw_if p a b c) = Whole
-level_of (raw_let p xs qs a b) = Whole
-level_of (raw_choose p ps a) = Whole
-level_of (raw_match p a arms) = Whole
+-- the tier of a form: it stands where a form of this tier, or of one further out, is asked
+abbrev pub tier_of : RawTree → Tier
+tier_of (raw_lit p k) = Unary
+tier_of (raw_truth p t) = Unary
+tier_of (raw_name p x) = Unary
+tier_of (raw_set_of p es) = Unary
+tier_of (raw_group p a) = Unary
+tier_of (raw_tuple p es) = Unary
+tier_of (raw_neg p a) = Unary
+tier_of (raw_not p a) = Unary
+tier_of (raw_abs p a) = Unary
+tier_of (raw_binary p op a b) = op_tier op
+tier_of (raw_divides p k a) = Cmps
+tier_of (raw_div p a k) = Unary
+tier_of (raw_mod p a k) = Unary
+tier_of (raw_card p a) = Unary
+tier_of (raw_call p x es) = Unary
+tier_of (raw_if p a b c) = Whole
+tier_of (raw_let p xs qs a b) = Whole
+tier_of (raw_choose p ps a) = Whole
+tier_of (raw_match p a arms) = Whole
 
-abbrev pub Fits : Level → RawTree → Type 0
-Fits level t = rank level ≤ rank (level_of t)
+abbrev pub Fits : Tier → RawTree → Type 0
+Fits tier t = rank tier ≤ rank (tier_of t)
 
 -- param = name ":" base
-abbrev pub SpellsParam : Param → List Token → List Token → Type 0
-SpellsParam x ts rest = (a b : List Token) × FirstName x.place x.name ts a × Next (Sign (codes ":")) a b × Next (base_kind x.base) b rest
+abbrev pub SpellsParam : Param → Form
+SpellsParam x = FirstName x.place x.name ⨟ Next (Sign (codes ":")) ⨟ Next (base_kind x.base)
 
 -- a name and its place
-abbrev pub SpellsName : Place × List ℕ → List Token → List Token → Type 0
-SpellsName x ts rest = FirstName x.0 x.1 ts rest
+abbrev pub SpellsName : Place × List ℕ → Form
+SpellsName x = FirstName x.0 x.1
 
 -- names = name | "(" name "," name { "," name } ")"
-abbrev pub SpellsNames : List (List ℕ) → List Place → List Token → List Token → Type 0
+abbrev pub SpellsNames : List (List ℕ) → List Place → Form
 SpellsNames names places ts rest =
     (xs : List (Place × List ℕ)) × (names ≡ map (λ x. x.1) xs) × (places ≡ map (λ x. x.0) xs) × OneOrTuple SpellsName xs ts rest
 
@@ -108,90 +105,78 @@ plus_or_minus true = Sign (codes "-")
 plus_or_minus false = Sign (codes "+")
 
 -- part = [ literal "*" ] name, behind a plus or a minus
-abbrev pub SpellsPart : Bool → Part → List Token → List Token → Type 0
+abbrev pub SpellsPart : Bool → Part → Form
 SpellsPart minus x ts rest =
     (FirstName x.place x.name ts rest × (x.factor ≡ signed minus (pos 1)))
-    ⊎ ((p : Place) × (n : ℤ) × (a b : List Token) × FirstLiteral (pos 0) p n ts a × Next (Sign (codes "*")) a b × FirstName x.place x.name b rest × (x.factor ≡ signed minus n))
+    ⊎ ((n : ℤ) × (NextLiteral (pos 0) n ⨟ Next (Sign (codes "*")) ⨟ FirstName x.place x.name) ts rest × (x.factor ≡ signed minus n))
 
 -- the constant, behind a plus or a minus
-abbrev pub SpellsConstant : Bool → ℤ → List Token → List Token → Type 0
-SpellsConstant minus constant ts rest = (p : Place) × (n : ℤ) × FirstLiteral (pos 0) p n ts rest × (constant ≡ signed minus n)
+abbrev pub SpellsConstant : Bool → ℤ → Form
+SpellsConstant minus constant ts rest = (n : ℤ) × NextLiteral (pos 0) n ts rest × (constant ≡ signed minus n)
 
 -- { ("+" | "-") part } [ ("+" | "-") literal ]
-abbrev pub SpellsTerms : List Part → ℤ → List Token → List Token → Type 0
+abbrev pub SpellsTerms : List Part → ℤ → Form
 SpellsTerms [] constant ts rest =
-    ((ts ≡ rest) × (constant ≡ pos 0)) ⊎ ((minus : Bool) × (a : List Token) × Next (plus_or_minus minus) ts a × SpellsConstant minus constant a rest)
-SpellsTerms (x ∷ xs) constant ts rest =
-    (minus : Bool) × (a b : List Token) × Next (plus_or_minus minus) ts a × SpellsPart minus x a b × SpellsTerms xs constant b rest
+    ((ts ≡ rest) × (constant ≡ pos 0)) ⊎ ((minus : Bool) × (Next (plus_or_minus minus) ⨟ SpellsConstant minus constant) ts rest)
+SpellsTerms (x ∷ xs) constant ts rest = (minus : Bool) × (Next (plus_or_minus minus) ⨟ SpellsPart minus x ⨟ SpellsTerms xs constant) ts rest
 
 -- a pattern behind its first sign, if it has one
-abbrev pub SpellsSigned : Bool → List Part → ℤ → List Token → List Token → Type 0
-SpellsSigned minus [] constant ts rest = SpellsConstant minus constant ts rest
-SpellsSigned minus (x ∷ xs) constant ts rest = (a : List Token) × SpellsPart minus x ts a × SpellsTerms xs constant a rest
+abbrev pub SpellsSigned : Bool → List Part → ℤ → Form
+SpellsSigned minus [] constant = SpellsConstant minus constant
+SpellsSigned minus (x ∷ xs) constant = SpellsPart minus x ⨟ SpellsTerms xs constant
 
 -- pattern = [ "-" ] part { ("+" | "-") part } [ ("+" | "-") literal ] | [ "-" ] literal
-abbrev pub SpellsPattern : List Part → ℤ → List Token → List Token → Type 0
+abbrev pub SpellsPattern : List Part → ℤ → Form
 SpellsPattern parts constant ts rest =
-    SpellsSigned false parts constant ts rest ⊎ ((a : List Token) × Next (Sign (codes "-")) ts a × SpellsSigned true parts constant a rest)
+    SpellsSigned false parts constant ts rest ⊎ (Next (Sign (codes "-")) ⨟ SpellsSigned true parts constant) ts rest
 
 abbrev mutual
   -- the tree is spelled by the tokens up to the rest
-  pub Spells : RawTree → List Token → List Token → Type 0
-  Spells (raw_lit p k) ts rest = FirstLiteral (pos 0) p k ts rest
-  Spells (raw_truth p t) ts rest = First p (truth_kind t) ts rest
-  Spells (raw_name p x) ts rest = FirstName p x ts rest
-  Spells (raw_set_of p es) ts rest = (a : List Token) × First p (Sign (codes "{")) ts a × SpellsItems es (Sign (codes "}")) a rest
-  Spells (raw_group p e) ts rest = (a b : List Token) × First p (Sign (codes "(")) ts a × Spells e a b × Next (Sign (codes ")")) b rest
-  Spells (raw_tuple p no_raws) ts rest = ⊥
-  Spells (raw_tuple p (raw_more e no_raws)) ts rest = ⊥
-  Spells (raw_tuple p (raw_more e (raw_more f es))) ts rest =
-      (a b : List Token) × First p (Sign (codes "(")) ts a × Spells e a b × SpellsOthers (raw_more f es) (Sign (codes ")")) b rest
-  Spells (raw_neg p e) ts rest = (a : List Token) × First p (Sign (codes "-")) ts a × Fits Unary e × Spells e a rest
-  Spells (raw_not p e) ts rest = (a : List Token) × First p (Sign (codes "!")) ts a × Fits Unary e × Spells e a rest
-  Spells (raw_abs p e) ts rest =
-      (a b c : List Token) × First p (Word (codes "abs")) ts a × Next (Sign (codes "(")) a b × Spells e b c × Next (Sign (codes ")")) c rest
-  Spells (raw_card p e) ts rest =
-      (a b c : List Token) × First p (Word (codes "card")) ts a × Next (Sign (codes "(")) a b × Spells e b c × Next (Sign (codes ")")) c rest
-  Spells (raw_binary p op e f) ts rest =
-      (a b : List Token) × Fits (left_level (op_level op)) e × Spells e ts a × First p (op_kind op) a b × Fits (under (op_level op)) f × Spells f b rest
-  Spells (raw_divides p k e) ts rest =
-      (a b : List Token) × FirstLiteral (pos 1) p k ts a × Next (Word (codes "divides")) a b × Fits Sums e × Spells e b rest
-  Spells (raw_div p e k) ts rest =
-      (a b c d f : List Token) × First p (Word (codes "div")) ts a × Next (Sign (codes "(")) a b × Spells e b c × Next (Sign (codes ",")) c d
-      × ((q : Place) × FirstLiteral (pos 1) q k d f) × Next (Sign (codes ")")) f rest
-  Spells (raw_mod p e k) ts rest =
-      (a b c d f : List Token) × First p (Word (codes "mod")) ts a × Next (Sign (codes "(")) a b × Spells e b c × Next (Sign (codes ",")) c d
-      × ((q : Place) × FirstLiteral (pos 1) q k d f) × Next (Sign (codes ")")) f rest
-  Spells (raw_call p x es) ts rest = (a b : List Token) × FirstName p x ts a × Next (Sign (codes "(")) a b × SpellsItems es (Sign (codes ")")) b rest
-  Spells (raw_if p e f g) ts rest =
-      (a b c d h : List Token) × First p (Word (codes "if")) ts a × Spells e a b × Next (Word (codes "then")) b c × Spells f c d × Next (Word (codes "else")) d h
-      × Spells g h rest
-  Spells (raw_let p names places e f) ts rest =
-      (a b c d g : List Token) × First p (Word (codes "let")) ts a × SpellsNames names places a b × Next (Sign (codes "=")) b c × Spells e c d
-      × Next (Word (codes "in")) d g × Spells f g rest
-  Spells (raw_choose p outputs e) ts rest =
-      (a b c d : List Token) × First p (Word (codes "choose")) ts a × Next (Sign (codes "(")) a b
-      × Several SpellsParam (Sign (codes ",")) (Sign (codes ")")) outputs b c × Next (Word (codes "where")) c d × Fits Ors e × Spells e d rest
-  Spells (raw_match p e no_raw_arms) ts rest = ⊥
-  Spells (raw_match p e (raw_arm_more arm arms)) ts rest =
-      (a b c d f : List Token) × First p (Word (codes "match")) ts a × Spells e a b × Next (Word (codes "with")) b c × Next (Sign (codes "{")) c d
-      × SpellsArm arm d f × SpellsArms arms f rest
+  pub Spells : RawTree → Form
+  Spells (raw_lit p k) = FirstLiteral (pos 0) p k
+  Spells (raw_truth p t) = First p (truth_kind t)
+  Spells (raw_name p x) = FirstName p x
+  Spells (raw_set_of p es) = First p (Sign (codes "{")) ⨟ SpellsItems es (Sign (codes "}"))
+  Spells (raw_group p e) = First p (Sign (codes "(")) ⨟ Spells e ⨟ Next (Sign (codes ")"))
+  Spells (raw_tuple p no_raws) = Nothing
+  Spells (raw_tuple p (raw_more e no_raws)) = Nothing
+  Spells (raw_tuple p (raw_more e (raw_more f es))) = First p (Sign (codes "(")) ⨟ Spells e ⨟ SpellsOthers (raw_more f es) (Sign (codes ")"))
+  Spells (raw_neg p e) = First p (Sign (codes "-")) ⨟ If (Fits Unary e) (Spells e)
+  Spells (raw_not p e) = First p (Sign (codes "!")) ⨟ If (Fits Unary e) (Spells e)
+  Spells (raw_abs p e) = First p (Word (codes "abs")) ⨟ Next (Sign (codes "(")) ⨟ Spells e ⨟ Next (Sign (codes ")"))
+  Spells (raw_card p e) = First p (Word (codes "card")) ⨟ Next (Sign (codes "(")) ⨟ Spells e ⨟ Next (Sign (codes ")"))
+  Spells (raw_binary p op e f) = If (Fits (left_tier (op_tier op)) e) (Spells e) ⨟ First p (op_kind op) ⨟ If (Fits (under (op_tier op)) f) (Spells f)
+  Spells (raw_divides p k e) = FirstLiteral (pos 1) p k ⨟ Next (Word (codes "divides")) ⨟ If (Fits Sums e) (Spells e)
+  Spells (raw_div p e k) =
+      First p (Word (codes "div")) ⨟ Next (Sign (codes "(")) ⨟ Spells e ⨟ Next (Sign (codes ",")) ⨟ NextLiteral (pos 1) k ⨟ Next (Sign (codes ")"))
+  Spells (raw_mod p e k) =
+      First p (Word (codes "mod")) ⨟ Next (Sign (codes "(")) ⨟ Spells e ⨟ Next (Sign (codes ",")) ⨟ NextLiteral (pos 1) k ⨟ Next (Sign (codes ")"))
+  Spells (raw_call p x es) = FirstName p x ⨟ Next (Sign (codes "(")) ⨟ SpellsItems es (Sign (codes ")"))
+  Spells (raw_if p e f g) = First p (Word (codes "if")) ⨟ Spells e ⨟ Next (Word (codes "then")) ⨟ Spells f ⨟ Next (Word (codes "else")) ⨟ Spells g
+  Spells (raw_let p names places e f) =
+      First p (Word (codes "let")) ⨟ SpellsNames names places ⨟ Next (Sign (codes "=")) ⨟ Spells e ⨟ Next (Word (codes "in")) ⨟ Spells f
+  Spells (raw_choose p outputs e) =
+      First p (Word (codes "choose")) ⨟ Next (Sign (codes "(")) ⨟ Several SpellsParam (Sign (codes ",")) (Sign (codes ")")) outputs ⨟ Next (Word (codes "where"))
+      ⨟ If (Fits Ors e) (Spells e)
+  Spells (raw_match p e no_raw_arms) = Nothing
+  Spells (raw_match p e (raw_arm_more arm arms)) =
+      First p (Word (codes "match")) ⨟ Spells e ⨟ Next (Word (codes "with")) ⨟ Next (Sign (codes "{")) ⨟ SpellsArm arm ⨟ SpellsArms arms
 
   -- [ expr { "," expr } ] close
-  pub SpellsItems : RawTrees → TokenKind → List Token → List Token → Type 0
-  SpellsItems no_raws close ts rest = Next close ts rest
-  SpellsItems (raw_more e es) close ts rest = (a : List Token) × Spells e ts a × SpellsOthers es close a rest
+  pub SpellsItems : RawTrees → TokenKind → Form
+  SpellsItems no_raws close = Next close
+  SpellsItems (raw_more e es) close = Spells e ⨟ SpellsOthers es close
 
   -- { "," expr } close
-  pub SpellsOthers : RawTrees → TokenKind → List Token → List Token → Type 0
-  SpellsOthers no_raws close ts rest = Next close ts rest
-  SpellsOthers (raw_more e es) close ts rest = (a b : List Token) × Next (Sign (codes ",")) ts a × Spells e a b × SpellsOthers es close b rest
+  pub SpellsOthers : RawTrees → TokenKind → Form
+  SpellsOthers no_raws close = Next close
+  SpellsOthers (raw_more e es) close = Next (Sign (codes ",")) ⨟ Spells e ⨟ SpellsOthers es close
 
   -- marm = pattern "then" expr
-  pub SpellsArm : RawArmTree → List Token → List Token → Type 0
-  SpellsArm (raw_arm parts constant body) ts rest = (a b : List Token) × SpellsPattern parts constant ts a × Next (Word (codes "then")) a b × Spells body b rest
+  pub SpellsArm : RawArmTree → Form
+  SpellsArm (raw_arm parts constant body) = SpellsPattern parts constant ⨟ Next (Word (codes "then")) ⨟ Spells body
 
   -- { ";" marm } "}"
-  pub SpellsArms : RawArmTrees → List Token → List Token → Type 0
-  SpellsArms no_raw_arms ts rest = Next (Sign (codes "}")) ts rest
-  SpellsArms (raw_arm_more arm arms) ts rest = (a b : List Token) × Next (Sign (codes ";")) ts a × SpellsArm arm a b × SpellsArms arms b rest
+  pub SpellsArms : RawArmTrees → Form
+  SpellsArms no_raw_arms = Next (Sign (codes "}"))
+  SpellsArms (raw_arm_more arm arms) = Next (Sign (codes ";")) ⨟ SpellsArm arm ⨟ SpellsArms arms

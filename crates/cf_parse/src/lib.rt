@@ -1,13 +1,13 @@
 //! Reads the program, or the target, that a list of tokens spells.
 #![tactic(auto)]
 
-mod level;
 mod lists;
+mod measured;
 mod node;
-mod part;
 mod pattern;
 mod reading;
 mod source;
+mod tier;
 mod words;
 
 pub use cf_reader::fault::ParseFault;

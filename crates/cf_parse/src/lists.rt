@@ -1,7 +1,7 @@
 //! Parameters and names.
 ghost use Rattle.std.specs.Prelude.{◌≡◌, ◌∷◌, [], length, codes, Ok};
 ghost use Rattle.cf_lex.specs.declared.token.TokenKind.TheVariants.{Sign};
-ghost use Rattle.cf_reader.specs.Gives.{Gives};
+ghost use Rattle.cf_reader.specs.Answers.{ReadAnswer};
 ghost use Rattle.cf_reader.specs.Readers.{must, a_name, snoc, others_of, several_of};
 ghost use Rattle.cf_parse.specs.Reading.{named, param_of, params_of, names_of};
 
@@ -20,10 +20,10 @@ pub struct Names {
     pub places: Vec<Place>,
 }
 
-/// A name and its base.
+// A name and its base.
 #[tactic(auto, unfolding(cf_reader::specs::Readers::pure, cf_reader::specs::Readers::bind, crate::specs::Reading::param_of))]
 fn param(alloc: Global, tokens: &[Token]) -> Result<(Param, &[Token]), Stop>
-    ensures { Gives (λ x. (x.0, x.1.now)) result (param_of tokens.now) }
+    ensures { ReadAnswer (λ x. (x.0, x.1.now)) result (param_of tokens.now) }
 {
     let ((place, name), rest) = expect_name(alloc, tokens)?;
     let (_, rest) = expect_sign(":", rest)?;
@@ -34,7 +34,7 @@ fn param(alloc: Global, tokens: &[Token]) -> Result<(Param, &[Token]), Stop>
 /// One parameter or more, up to the closing parenthesis.
 #[tactic(auto, unfolding(cf_reader::specs::Readers::bind, cf_reader::specs::Readers::several_of))]
 pub fn params(alloc: Global, tokens: &[Token]) -> Result<(Vec<Param>, &[Token]), Stop>
-    ensures { Gives (λ x. (x.0.items, x.1.now)) result (several_of snoc param_of (Sign (codes ",")) (Sign (codes ")")) [] tokens.now) }
+    ensures { ReadAnswer (λ x. (x.0.items, x.1.now)) result (several_of snoc param_of (Sign (codes ",")) (Sign (codes ")")) [] tokens.now) }
 {
     let (first, rest) = param(alloc, tokens)?;
     let mut params = Vec::new(alloc);
@@ -48,7 +48,7 @@ fn more_params(
     first: Vec<Param>,
     tokens: &[Token],
 ) -> Result<(Vec<Param>, &[Token]), Stop>
-    ensures { Gives (λ x. (x.0.items, x.1.now)) result (others_of snoc param_of (Sign (codes ",")) (Sign (codes ")")) first.items tokens.now) }
+    ensures { ReadAnswer (λ x. (x.0.items, x.1.now)) result (others_of snoc param_of (Sign (codes ",")) (Sign (codes ")")) first.items tokens.now) }
 {
     let mut done = first;
     let mut rest = tokens;
@@ -65,13 +65,14 @@ fn more_params(
             }
         }
     }
-    Err(Stop::At(0))
+    // for the proof: the loop ends before
+    Err(Stop::TokensLeft(0))
 }
 
 /// Parameters, if any, up to the closing parenthesis.
 #[tactic(auto, unfolding(cf_reader::specs::Readers::first, cf_reader::specs::Readers::pure, crate::specs::Reading::params_of))]
 pub fn maybe_params(alloc: Global, tokens: &[Token]) -> Result<(Vec<Param>, &[Token]), Stop>
-    ensures { Gives (λ x. (x.0.items, x.1.now)) result (params_of tokens.now) }
+    ensures { ReadAnswer (λ x. (x.0.items, x.1.now)) result (params_of tokens.now) }
 {
     match after_sign(")", tokens) {
         Some((_, rest)) => Ok((Vec::new(alloc), rest)),
@@ -79,7 +80,7 @@ pub fn maybe_params(alloc: Global, tokens: &[Token]) -> Result<(Vec<Param>, &[To
     }
 }
 
-/// No names.
+// No names.
 fn no_names(alloc: Global) -> Names
     ensures names { result.names.items ≡ [] }
     ensures places { result.places.items ≡ [] }
@@ -90,9 +91,9 @@ fn no_names(alloc: Global) -> Names
     }
 }
 
-/// One more name.
+// One more name.
 fn with_name(names: Names, name: (Place, Text)) -> Result<Names, Stop>
-    ensures { Gives (λ x. (x.names.items, x.places.items)) result (Ok (named (names.names.items, names.places.items) (name.0, name.1))) }
+    ensures { ReadAnswer (λ x. (x.names.items, x.places.items)) result (Ok (named (names.names.items, names.places.items) (name.0, name.1))) }
 {
     let mut all = names.names;
     let mut places = names.places;
@@ -104,7 +105,7 @@ fn with_name(names: Names, name: (Place, Text)) -> Result<Names, Stop>
 /// A name, or two or more in parentheses.
 #[tactic(auto, using(crate::proofs::Steps::names_several), unfolding(cf_reader::specs::Readers::first, cf_reader::specs::Readers::bind, cf_reader::specs::Readers::pure, cf_reader::specs::Readers::one_or_tuple, crate::specs::Reading::names_of))]
 pub fn read_names(alloc: Global, tokens: &[Token]) -> Result<(Names, &[Token]), Stop>
-    ensures { Gives (λ x. ((x.0.names.items, x.0.places.items), x.1.now)) result (names_of tokens.now) }
+    ensures { ReadAnswer (λ x. ((x.0.names.items, x.0.places.items), x.1.now)) result (names_of tokens.now) }
 {
     match after_sign("(", tokens) {
         Some((_, rest)) => {
@@ -123,7 +124,7 @@ pub fn read_names(alloc: Global, tokens: &[Token]) -> Result<(Names, &[Token]), 
 
 #[tactic(auto, using(cf_reader::proofs::Steps::more_ends, cf_reader::proofs::Steps::more_goes, cf_reader::proofs::Steps::more_errs, cf_reader::proofs::Steps::more_closes, cf_reader::proofs::Steps::more_unclosed), unfolding(cf_reader::specs::Readers::others_of))]
 fn more_names(alloc: Global, first: Names, tokens: &[Token]) -> Result<(Names, &[Token]), Stop>
-    ensures { Gives (λ x. ((x.0.names.items, x.0.places.items), x.1.now)) result (others_of named (must a_name) (Sign (codes ",")) (Sign (codes ")")) (first.names.items, first.places.items) tokens.now) }
+    ensures { ReadAnswer (λ x. ((x.0.names.items, x.0.places.items), x.1.now)) result (others_of named (must a_name) (Sign (codes ",")) (Sign (codes ")")) (first.names.items, first.places.items) tokens.now) }
 {
     let mut done = first;
     let mut rest = tokens;
@@ -140,5 +141,6 @@ fn more_names(alloc: Global, first: Names, tokens: &[Token]) -> Result<(Names, &
             }
         }
     }
-    Err(Stop::At(0))
+    // for the proof: the loop ends before
+    Err(Stop::TokensLeft(0))
 }

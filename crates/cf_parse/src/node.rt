@@ -2,17 +2,18 @@
 ghost use Rattle.std.specs.Prelude.{◌≡◌, ◌≤◌, ◌<◌, ◌+◌, ◌^◌, ◌∷◌, ◌++◌, [], IfOk, Ok, map, max};
 ghost use Rattle.cf_tree.specs.RawTree.{raw_lit, raw_truth, raw_name, raw_set_of, raw_neg, raw_not, raw_abs, raw_binary, raw_divides, raw_div, raw_mod, raw_card, raw_call, raw_if, raw_let, raw_choose, raw_match, raw_arm, raws_of, raw_arms_of};
 ghost use Rattle.cf_tree.specs.RawView.{raw_tree, raw_arm_tree};
-ghost use Rattle.cf_reader.specs.Gives.{Gives};
+ghost use Rattle.cf_reader.specs.Answers.{ReadAnswer};
 ghost use Rattle.cf_parse.specs.Reading.{grouped as grouped_of};
 
 use crate::lists::Names;
-use crate::part::{Boxed, Measured, MeasuredArm, MeasuredArms, MeasuredList};
+use crate::measured::{Boxed, Measured, MeasuredArm, MeasuredArms, MeasuredList};
 use crate::pattern::Pattern;
 use cf_reader::stop::Stop;
 use cf_tree::base::{Place, Text};
 use cf_tree::raw::{BinOp, Param, Raw, RawArm, RawNode};
 use std::alloc::Global;
 
+/// A number.
 pub fn literal(place: Place, k: i128) -> Measured
     ensures value { raw_tree result.raw ≡ raw_lit place k }
     ensures deep { result.depth ≡ 1 }
@@ -26,6 +27,7 @@ pub fn literal(place: Place, k: i128) -> Measured
     }
 }
 
+/// A truth value.
 pub fn truth(place: Place, t: bool) -> Measured
     ensures value { raw_tree result.raw ≡ raw_truth place t }
     ensures deep { result.depth ≡ 1 }
@@ -39,6 +41,7 @@ pub fn truth(place: Place, t: bool) -> Measured
     }
 }
 
+/// A name.
 pub fn name(place: Place, x: Text) -> Measured
     ensures value { raw_tree result.raw ≡ raw_name place x }
     ensures deep { result.depth ≡ 1 }
@@ -52,6 +55,7 @@ pub fn name(place: Place, x: Text) -> Measured
     }
 }
 
+/// The set of these elements.
 pub fn set_of(place: Place, list: MeasuredList) -> Measured
     requires { list.depth < 2 ^ 31 }
     ensures value { raw_tree result.raw ≡ raw_set_of place (raws_of (map raw_tree list.trees.items)) }
@@ -66,6 +70,7 @@ pub fn set_of(place: Place, list: MeasuredList) -> Measured
     }
 }
 
+/// A call of the function `x`.
 pub fn call(place: Place, x: Text, list: MeasuredList) -> Measured
     requires { list.depth < 2 ^ 31 }
     ensures value { raw_tree result.raw ≡ raw_call place x (raws_of (map raw_tree list.trees.items)) }
@@ -83,6 +88,7 @@ pub fn call(place: Place, x: Text, list: MeasuredList) -> Measured
     }
 }
 
+/// The negative of a part.
 pub fn neg(place: Place, e: Boxed) -> Measured
     requires { e.depth < 2 ^ 31 }
     ensures value { raw_tree result.raw ≡ raw_neg place (raw_tree e.raw.value) }
@@ -99,6 +105,7 @@ pub fn neg(place: Place, e: Boxed) -> Measured
     }
 }
 
+/// The negation of a part.
 pub fn not(place: Place, e: Boxed) -> Measured
     requires { e.depth < 2 ^ 31 }
     ensures value { raw_tree result.raw ≡ raw_not place (raw_tree e.raw.value) }
@@ -115,6 +122,7 @@ pub fn not(place: Place, e: Boxed) -> Measured
     }
 }
 
+/// The absolute value of a part.
 pub fn abs(place: Place, e: Boxed) -> Measured
     requires { e.depth < 2 ^ 31 }
     ensures value { raw_tree result.raw ≡ raw_abs place (raw_tree e.raw.value) }
@@ -131,6 +139,7 @@ pub fn abs(place: Place, e: Boxed) -> Measured
     }
 }
 
+/// The number of elements of a part.
 pub fn card(place: Place, e: Boxed) -> Measured
     requires { e.depth < 2 ^ 31 }
     ensures value { raw_tree result.raw ≡ raw_card place (raw_tree e.raw.value) }
@@ -147,6 +156,7 @@ pub fn card(place: Place, e: Boxed) -> Measured
     }
 }
 
+/// Whether a literal divides a part.
 pub fn divides(place: Place, k: i128, e: Boxed) -> Measured
     requires { e.depth < 2 ^ 31 }
     ensures value { raw_tree result.raw ≡ raw_divides place k (raw_tree e.raw.value) }
@@ -163,6 +173,7 @@ pub fn divides(place: Place, k: i128, e: Boxed) -> Measured
     }
 }
 
+/// The quotient of a part and a literal.
 pub fn div(place: Place, e: Boxed, k: i128) -> Measured
     requires { e.depth < 2 ^ 31 }
     ensures value { raw_tree result.raw ≡ raw_div place (raw_tree e.raw.value) k }
@@ -179,6 +190,7 @@ pub fn div(place: Place, e: Boxed, k: i128) -> Measured
     }
 }
 
+/// The remainder of a part and a literal.
 pub fn modulo(place: Place, e: Boxed, k: i128) -> Measured
     requires { e.depth < 2 ^ 31 }
     ensures value { raw_tree result.raw ≡ raw_mod place (raw_tree e.raw.value) k }
@@ -195,6 +207,7 @@ pub fn modulo(place: Place, e: Boxed, k: i128) -> Measured
     }
 }
 
+/// A `choose` of these outputs.
 pub fn choose(place: Place, outputs: Vec<Param>, e: Boxed) -> Measured
     requires { e.depth < 2 ^ 31 }
     ensures value { raw_tree result.raw ≡ raw_choose place outputs.items (raw_tree e.raw.value) }
@@ -211,6 +224,7 @@ pub fn choose(place: Place, outputs: Vec<Param>, e: Boxed) -> Measured
     }
 }
 
+/// An operation of two parts.
 pub fn binary(
     alloc: Global,
     place: Place,
@@ -220,7 +234,7 @@ pub fn binary(
 ) -> Result<Measured, Stop>
     requires left_in { left.depth < 2 ^ 31 }
     requires right_in { right.depth < 2 ^ 31 }
-    ensures value { Gives (λ x. raw_tree x.raw) result (Ok (raw_binary place op (raw_tree left.raw) (raw_tree right.raw.value))) }
+    ensures value { ReadAnswer (λ x. raw_tree x.raw) result (Ok (raw_binary place op (raw_tree left.raw) (raw_tree right.raw.value))) }
     ensures deep { IfOk result (λ x. x.depth ≡ 1 + max left.depth right.depth) }
 {
     let depth = 1 + left.depth.max(right.depth);
@@ -235,6 +249,7 @@ pub fn binary(
     })
 }
 
+/// An `if`.
 pub fn if_else(place: Place, test: Boxed, yes: Boxed, no: Boxed) -> Measured
     requires test_in { test.depth < 2 ^ 31 }
     requires yes_in { yes.depth < 2 ^ 31 }
@@ -255,6 +270,7 @@ pub fn if_else(place: Place, test: Boxed, yes: Boxed, no: Boxed) -> Measured
     }
 }
 
+/// A `let` of these names.
 pub fn let_in(place: Place, names: Names, value: Boxed, body: Boxed) -> Measured
     requires value_in { value.depth < 2 ^ 31 }
     requires body_in { body.depth < 2 ^ 31 }
@@ -278,6 +294,7 @@ pub fn let_in(place: Place, names: Names, value: Boxed, body: Boxed) -> Measured
     }
 }
 
+/// A `match` with these arms.
 pub fn match_with(place: Place, of: Boxed, arms: MeasuredArms) -> Measured
     requires of_in { of.depth < 2 ^ 31 }
     requires arms_in { arms.depth < 2 ^ 31 }
@@ -300,7 +317,7 @@ pub fn match_with(place: Place, of: Boxed, arms: MeasuredArms) -> Measured
 
 /// The tree in a box.
 pub fn boxed(alloc: Global, e: Measured) -> Result<Boxed, Stop>
-    ensures value { Gives (λ x. raw_tree x.raw.value) result (Ok (raw_tree e.raw)) }
+    ensures value { ReadAnswer (λ x. raw_tree x.raw.value) result (Ok (raw_tree e.raw)) }
     ensures deep { IfOk result (λ x. x.depth ≡ e.depth) }
 {
     let depth = e.depth;
@@ -318,7 +335,7 @@ pub fn without<T: Drop>(_value: T, stop: Stop) -> Stop
 /// One tree in parentheses, or two or more.
 pub fn grouped(alloc: Global, place: Place, list: MeasuredList) -> Result<Measured, Stop>
     requires { list.depth < 2 ^ 31 }
-    ensures value { Gives (λ x. raw_tree x.raw) result (Ok (grouped_of place (map raw_tree list.trees.items))) }
+    ensures value { ReadAnswer (λ x. raw_tree x.raw) result (Ok (grouped_of place (map raw_tree list.trees.items))) }
     ensures deep { IfOk result (λ x. x.depth ≡ 1 + list.depth) }
 {
     let depth = 1 + list.depth;
@@ -358,7 +375,7 @@ pub fn none(alloc: Global) -> MeasuredList
 /// One more tree at the end.
 #[tactic(auto, using(crate::proofs::Depths::depths_more))]
 pub fn with(list: MeasuredList, e: Measured) -> Result<MeasuredList, Stop>
-    ensures value { Gives (λ x. map raw_tree x.trees.items) result (Ok (map raw_tree list.trees.items ++ raw_tree e.raw ∷ [])) }
+    ensures value { ReadAnswer (λ x. map raw_tree x.trees.items) result (Ok (map raw_tree list.trees.items ++ raw_tree e.raw ∷ [])) }
     ensures deep { IfOk result (λ x. x.depth ≡ max list.depth e.depth) }
 {
     let depth = list.depth.max(e.depth);
@@ -367,6 +384,7 @@ pub fn with(list: MeasuredList, e: Measured) -> Result<MeasuredList, Stop>
     Ok(MeasuredList { trees, depth })
 }
 
+/// An arm of a `match`.
 pub fn arm(pattern: Pattern, body: Measured) -> MeasuredArm
     ensures value { raw_arm_tree result.arm ≡ raw_arm pattern.parts.items pattern.constant (raw_tree body.raw) }
     ensures deep { result.depth ≡ max 1 body.depth }
@@ -396,7 +414,7 @@ pub fn no_arms(alloc: Global) -> MeasuredArms
 /// One more arm at the end.
 #[tactic(auto, using(crate::proofs::Depths::arm_depths_more))]
 pub fn with_arm(list: MeasuredArms, arm: MeasuredArm) -> Result<MeasuredArms, Stop>
-    ensures value { Gives (λ x. map raw_arm_tree x.arms.items) result (Ok (map raw_arm_tree list.arms.items ++ raw_arm_tree arm.arm ∷ [])) }
+    ensures value { ReadAnswer (λ x. map raw_arm_tree x.arms.items) result (Ok (map raw_arm_tree list.arms.items ++ raw_arm_tree arm.arm ∷ [])) }
     ensures deep { IfOk result (λ x. x.depth ≡ max list.depth arm.depth) }
 {
     let depth = list.depth.max(arm.depth);

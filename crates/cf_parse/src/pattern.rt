@@ -1,6 +1,6 @@
 //! Linear patterns.
 ghost use Rattle.std.specs.Prelude.{◌≡◌, ◌≤ℤ◌, pos};
-ghost use Rattle.cf_reader.specs.Gives.{Gives};
+ghost use Rattle.cf_reader.specs.Answers.{ReadAnswer};
 ghost use Rattle.cf_parse.specs.Spelling.{signed as signed_of};
 ghost use Rattle.cf_parse.specs.Reading.{term_of, all_terms, pattern_of};
 
@@ -18,14 +18,14 @@ pub struct Pattern {
     pub constant: i128,
 }
 
-/// A part of a pattern, or its constant, which stands last.
+// A part of a pattern, or its constant, which stands last.
 #[derive(Drop)]
 enum Term {
     Part(Part),
     Constant(i128),
 }
 
-/// The number with a minus before it, or as it is.
+// The number with a minus before it, or as it is.
 fn signed(minus: bool, k: i128) -> i128
     requires { pos 0 ≤ℤ k }
     ensures { result ≡ signed_of minus k }
@@ -33,10 +33,10 @@ fn signed(minus: bool, k: i128) -> i128
     if minus { -k } else { k }
 }
 
-/// The next term, behind a minus or a plus.
+// The next term, behind a minus or a plus.
 #[tactic(auto, unfolding(cf_reader::specs::Readers::first, cf_reader::specs::Readers::bind, cf_reader::specs::Readers::pure, crate::specs::Reading::term_of))]
 fn next_term(alloc: Global, minus: bool, tokens: &[Token]) -> Result<(Term, &[Token]), Stop>
-    ensures { Gives (λ x. (x.0, x.1.now)) result (term_of minus tokens.now) }
+    ensures { ReadAnswer (λ x. (x.0, x.1.now)) result (term_of minus tokens.now) }
 {
     match literal_at_least(0, tokens) {
         Some(((_, k), rest)) => match after_sign("*", rest) {
@@ -65,10 +65,10 @@ fn next_term(alloc: Global, minus: bool, tokens: &[Token]) -> Result<(Term, &[To
     }
 }
 
-/// The terms of a pattern, the first behind a minus or a plus.
+// The terms of a pattern, the first behind a minus or a plus.
 #[tactic(auto, using(crate::proofs::Terms::terms_end, crate::proofs::Terms::terms_constant, crate::proofs::Terms::terms_last, crate::proofs::Terms::terms_go, crate::proofs::Terms::terms_err), unfolding(crate::specs::Reading::all_terms))]
 fn terms(alloc: Global, first: bool, tokens: &[Token]) -> Result<(Pattern, &[Token]), Stop>
-    ensures { Gives (λ x. ((x.0.parts.items, x.0.constant), x.1.now)) result (all_terms first tokens.now) }
+    ensures { ReadAnswer (λ x. ((x.0.parts.items, x.0.constant), x.1.now)) result (all_terms first tokens.now) }
 {
     let mut parts = Vec::new(alloc);
     let mut minus = first;
@@ -89,13 +89,14 @@ fn terms(alloc: Global, first: bool, tokens: &[Token]) -> Result<(Pattern, &[Tok
             }
         }
     }
-    Err(Stop::At(0))
+    // for the proof: the loop ends before
+    Err(Stop::TokensLeft(0))
 }
 
 /// A pattern.
 #[tactic(auto, unfolding(cf_reader::specs::Readers::first, crate::specs::Reading::pattern_of))]
 pub fn read_pattern(alloc: Global, tokens: &[Token]) -> Result<(Pattern, &[Token]), Stop>
-    ensures { Gives (λ x. ((x.0.parts.items, x.0.constant), x.1.now)) result (pattern_of tokens.now) }
+    ensures { ReadAnswer (λ x. ((x.0.parts.items, x.0.constant), x.1.now)) result (pattern_of tokens.now) }
 {
     match after_sign("-", tokens) {
         Some((_, rest)) => terms(alloc, true, rest),

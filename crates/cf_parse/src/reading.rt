@@ -1,17 +1,17 @@
 //! Reads expressions.
 ghost use Rattle.std.specs.Prelude.{◌≡◌, ◌≤◌, ◌<◌, ◌+◌, ◌^◌, IfOk, map, codes, length};
 ghost use Rattle.cf_lex.specs.declared.token.TokenKind.TheVariants.{Sign};
-ghost use Rattle.cf_parse.specs.declared.level.Level.TheVariants.{Whole};
+ghost use Rattle.cf_parse.specs.declared.tier.Tier.TheVariants.{Whole};
 ghost use Rattle.cf_tree.specs.RawView.{raw_tree, raw_arm_tree};
-ghost use Rattle.cf_reader.specs.Gives.{Gives};
+ghost use Rattle.cf_reader.specs.Answers.{ReadAnswer};
 ghost use Rattle.cf_reader.specs.Readers.{snoc, others_of, several_of};
 ghost use Rattle.cf_parse.specs.Reading.{chain_of, list_of, items_of, inside_of, divided_of, named_of, word_of, atom_of, unary_of, muls_of, sums_of, compared_of, cmps_of, ands_of, ors_of, let_of, if_of, choose_of, arm_of, match_of, whole_of, read as read_at};
 
-use crate::level::Level;
 use crate::lists::{params, read_names};
+use crate::measured::{Boxed, Measured, MeasuredArm, MeasuredArms, MeasuredList};
 use crate::node;
-use crate::part::{Boxed, Measured, MeasuredArm, MeasuredArms, MeasuredList};
 use crate::pattern::read_pattern;
+use crate::tier::Tier;
 use crate::words::{divides_by, next_op, under};
 use cf_lex::Token;
 use cf_reader::stop::Stop;
@@ -22,80 +22,80 @@ use cf_reader::words::truth;
 use cf_tree::base::Place;
 use std::alloc::Global;
 
-/// A tree of depth at most `n`, at a level.
+/// A tree of depth at most `n`, at a tier.
 #[cycle(reading)]
 #[tactic(auto, using(crate::proofs::Above::read_above, crate::proofs::Above::read_none), unfolding(crate::specs::Reading::step))]
-pub fn part(
+pub fn tree_at(
     alloc: Global,
-    level: Level,
+    tier: Tier,
     n: u32,
     tokens: &[Token],
 ) -> Result<(Measured, &[Token]), Stop>
     requires { n < 2 ^ 30 }
-    ensures value { Gives (λ x. (raw_tree x.0.raw, x.1.now)) result (read_at n level tokens.now) }
+    ensures value { ReadAnswer (λ x. (raw_tree x.0.raw, x.1.now)) result (read_at n tier tokens.now) }
     ensures deep { IfOk result (λ x. x.0.depth ≤ n) }
 {
     if n == 0 {
-        return Err(Stop::At(tokens.len()));
+        return Err(Stop::TokensLeft(tokens.len()));
     }
-    match level {
-        Level::Whole => whole(alloc, n - 1, tokens),
-        Level::Ors => ors(alloc, n - 1, tokens),
-        Level::Ands => ands(alloc, n - 1, tokens),
-        Level::Cmps => cmps(alloc, n - 1, tokens),
-        Level::Sums => sums(alloc, n - 1, tokens),
-        Level::Muls => muls(alloc, n - 1, tokens),
-        Level::Unary => unary(alloc, n - 1, tokens),
+    match tier {
+        Tier::Whole => whole(alloc, n - 1, tokens),
+        Tier::Ors => ors(alloc, n - 1, tokens),
+        Tier::Ands => ands(alloc, n - 1, tokens),
+        Tier::Cmps => cmps(alloc, n - 1, tokens),
+        Tier::Sums => sums(alloc, n - 1, tokens),
+        Tier::Muls => muls(alloc, n - 1, tokens),
+        Tier::Unary => unary(alloc, n - 1, tokens),
     }
 }
 
-/// A tree of depth at most `n`, at a level, in a box.
+// A tree of depth at most `n`, at a tier, in a box.
 #[cycle(reading)]
-fn boxed(alloc: Global, level: Level, n: u32, tokens: &[Token]) -> Result<(Boxed, &[Token]), Stop>
+fn boxed(alloc: Global, tier: Tier, n: u32, tokens: &[Token]) -> Result<(Boxed, &[Token]), Stop>
     requires { n < 2 ^ 30 }
-    ensures value { Gives (λ x. (raw_tree x.0.raw.value, x.1.now)) result (read_at n level tokens.now) }
+    ensures value { ReadAnswer (λ x. (raw_tree x.0.raw.value, x.1.now)) result (read_at n tier tokens.now) }
     ensures deep { IfOk result (λ x. x.0.depth ≤ n) }
 {
-    let (e, rest) = part(alloc, level, n, tokens)?;
+    let (e, rest) = tree_at(alloc, tier, n, tokens)?;
     Ok((node::boxed(alloc, e)?, rest))
 }
 
-/// Any expression.
+// Any expression.
 #[cycle(reading)]
 #[tactic(auto, unfolding(cf_reader::specs::Readers::deep, crate::specs::Reading::whole_of))]
 fn whole(alloc: Global, n: u32, tokens: &[Token]) -> Result<(Measured, &[Token]), Stop>
     requires { n < 2 ^ 30 }
-    ensures value { Gives (λ x. (raw_tree x.0.raw, x.1.now)) result (whole_of (read_at n) n tokens.now) }
+    ensures value { ReadAnswer (λ x. (raw_tree x.0.raw, x.1.now)) result (whole_of (read_at n) n tokens.now) }
     ensures deep { IfOk result (λ x. x.0.depth ≤ n + 1) }
 {
     if let Some((place, rest)) = after_word("let", tokens) {
         if n == 0 {
-            return Err(Stop::At(tokens.len()));
+            return Err(Stop::TokensLeft(tokens.len()));
         }
         return let_in(alloc, n, place, rest);
     }
     if let Some((place, rest)) = after_word("if", tokens) {
         if n == 0 {
-            return Err(Stop::At(tokens.len()));
+            return Err(Stop::TokensLeft(tokens.len()));
         }
         return if_else(alloc, n, place, rest);
     }
     if let Some((place, rest)) = after_word("choose", tokens) {
         if n == 0 {
-            return Err(Stop::At(tokens.len()));
+            return Err(Stop::TokensLeft(tokens.len()));
         }
         return choose(alloc, n, place, rest);
     }
     if let Some((place, rest)) = after_word("match", tokens) {
         if n == 0 {
-            return Err(Stop::At(tokens.len()));
+            return Err(Stop::TokensLeft(tokens.len()));
         }
         return match_with(alloc, n, place, rest);
     }
     ors(alloc, n, tokens)
 }
 
-/// Behind the word `let`.
+// Behind the word `let`.
 #[cycle(reading)]
 #[tactic(auto, unfolding(cf_reader::specs::Readers::bind, cf_reader::specs::Readers::pure, crate::specs::Reading::let_of))]
 fn let_in(
@@ -105,18 +105,18 @@ fn let_in(
     tokens: &[Token],
 ) -> Result<(Measured, &[Token]), Stop>
     requires { n < 2 ^ 30 }
-    ensures value { Gives (λ x. (raw_tree x.0.raw, x.1.now)) result (let_of (read_at n) place tokens.now) }
+    ensures value { ReadAnswer (λ x. (raw_tree x.0.raw, x.1.now)) result (let_of (read_at n) place tokens.now) }
     ensures deep { IfOk result (λ x. x.0.depth ≤ n + 1) }
 {
     let (names, rest) = read_names(alloc, tokens)?;
     let (_, rest) = expect_sign("=", rest)?;
-    let (value, rest) = boxed(alloc, Level::Whole, n, rest)?;
+    let (value, rest) = boxed(alloc, Tier::Whole, n, rest)?;
     let (_, rest) = expect_word("in", rest)?;
-    let (body, rest) = boxed(alloc, Level::Whole, n, rest)?;
+    let (body, rest) = boxed(alloc, Tier::Whole, n, rest)?;
     Ok((node::let_in(place, names, value, body), rest))
 }
 
-/// Behind the word `if`.
+// Behind the word `if`.
 #[cycle(reading)]
 #[tactic(auto, unfolding(cf_reader::specs::Readers::bind, cf_reader::specs::Readers::pure, crate::specs::Reading::if_of))]
 fn if_else(
@@ -126,18 +126,18 @@ fn if_else(
     tokens: &[Token],
 ) -> Result<(Measured, &[Token]), Stop>
     requires { n < 2 ^ 30 }
-    ensures value { Gives (λ x. (raw_tree x.0.raw, x.1.now)) result (if_of (read_at n) place tokens.now) }
+    ensures value { ReadAnswer (λ x. (raw_tree x.0.raw, x.1.now)) result (if_of (read_at n) place tokens.now) }
     ensures deep { IfOk result (λ x. x.0.depth ≤ n + 1) }
 {
-    let (test, rest) = boxed(alloc, Level::Whole, n, tokens)?;
+    let (test, rest) = boxed(alloc, Tier::Whole, n, tokens)?;
     let (_, rest) = expect_word("then", rest)?;
-    let (yes, rest) = boxed(alloc, Level::Whole, n, rest)?;
+    let (yes, rest) = boxed(alloc, Tier::Whole, n, rest)?;
     let (_, rest) = expect_word("else", rest)?;
-    let (no, rest) = boxed(alloc, Level::Whole, n, rest)?;
+    let (no, rest) = boxed(alloc, Tier::Whole, n, rest)?;
     Ok((node::if_else(place, test, yes, no), rest))
 }
 
-/// Behind the word `choose`.
+// Behind the word `choose`.
 #[cycle(reading)]
 #[tactic(auto, unfolding(cf_reader::specs::Readers::bind, cf_reader::specs::Readers::pure, crate::specs::Reading::choose_of))]
 fn choose(
@@ -147,17 +147,17 @@ fn choose(
     tokens: &[Token],
 ) -> Result<(Measured, &[Token]), Stop>
     requires { n < 2 ^ 30 }
-    ensures value { Gives (λ x. (raw_tree x.0.raw, x.1.now)) result (choose_of (read_at n) place tokens.now) }
+    ensures value { ReadAnswer (λ x. (raw_tree x.0.raw, x.1.now)) result (choose_of (read_at n) place tokens.now) }
     ensures deep { IfOk result (λ x. x.0.depth ≤ n + 1) }
 {
     let (_, rest) = expect_sign("(", tokens)?;
     let (outputs, rest) = params(alloc, rest)?;
     let (_, rest) = expect_word("where", rest)?;
-    let (rel, rest) = boxed(alloc, Level::Ors, n, rest)?;
+    let (rel, rest) = boxed(alloc, Tier::Ors, n, rest)?;
     Ok((node::choose(place, outputs, rel), rest))
 }
 
-/// Behind the word `match`.
+// Behind the word `match`.
 #[cycle(reading)]
 #[tactic(auto, unfolding(cf_reader::specs::Readers::bind, cf_reader::specs::Readers::pure, cf_reader::specs::Readers::several_of, crate::specs::Reading::match_of))]
 fn match_with(
@@ -168,10 +168,10 @@ fn match_with(
 ) -> Result<(Measured, &[Token]), Stop>
     requires small { n < 2 ^ 30 }
     requires some { 1 ≤ n }
-    ensures value { Gives (λ x. (raw_tree x.0.raw, x.1.now)) result (match_of (read_at n) place tokens.now) }
+    ensures value { ReadAnswer (λ x. (raw_tree x.0.raw, x.1.now)) result (match_of (read_at n) place tokens.now) }
     ensures deep { IfOk result (λ x. x.0.depth ≤ n + 1) }
 {
-    let (of, rest) = boxed(alloc, Level::Whole, n, tokens)?;
+    let (of, rest) = boxed(alloc, Tier::Whole, n, tokens)?;
     let (_, rest) = expect_word("with", rest)?;
     let (_, rest) = expect_sign("{", rest)?;
     let (first, rest) = arm(alloc, n, rest)?;
@@ -180,22 +180,22 @@ fn match_with(
     Ok((node::match_with(place, of, arms), rest))
 }
 
-/// An arm of a `match`.
+// An arm of a `match`.
 #[cycle(reading)]
 #[tactic(auto, unfolding(cf_reader::specs::Readers::bind, cf_reader::specs::Readers::pure, crate::specs::Reading::arm_of))]
 fn arm(alloc: Global, n: u32, tokens: &[Token]) -> Result<(MeasuredArm, &[Token]), Stop>
     requires small { n < 2 ^ 30 }
     requires some { 1 ≤ n }
-    ensures value { Gives (λ x. (raw_arm_tree x.0.arm, x.1.now)) result (arm_of (read_at n) tokens.now) }
+    ensures value { ReadAnswer (λ x. (raw_arm_tree x.0.arm, x.1.now)) result (arm_of (read_at n) tokens.now) }
     ensures deep { IfOk result (λ x. x.0.depth ≤ n) }
 {
     let (pattern, rest) = read_pattern(alloc, tokens)?;
     let (_, rest) = expect_word("then", rest)?;
-    let (body, rest) = part(alloc, Level::Whole, n, rest)?;
+    let (body, rest) = tree_at(alloc, Tier::Whole, n, rest)?;
     Ok((node::arm(pattern, body), rest))
 }
 
-/// More arms, up to the closing brace.
+// More arms, up to the closing brace.
 #[cycle(reading)]
 #[tactic(auto, using(cf_reader::proofs::Steps::more_ends, cf_reader::proofs::Steps::more_goes, cf_reader::proofs::Steps::more_errs, cf_reader::proofs::Steps::more_closes, cf_reader::proofs::Steps::more_unclosed), unfolding(cf_reader::specs::Readers::others_of))]
 fn more_arms(
@@ -207,7 +207,7 @@ fn more_arms(
     requires small { n < 2 ^ 30 }
     requires some { 1 ≤ n }
     requires first_in { first.depth ≤ n }
-    ensures value { Gives (λ x. (map raw_arm_tree x.0.arms.items, x.1.now)) result (others_of snoc (arm_of (read_at n)) (Sign (codes ";")) (Sign (codes "}")) (map raw_arm_tree first.arms.items) tokens.now) }
+    ensures value { ReadAnswer (λ x. (map raw_arm_tree x.0.arms.items, x.1.now)) result (others_of snoc (arm_of (read_at n)) (Sign (codes ";")) (Sign (codes "}")) (map raw_arm_tree first.arms.items) tokens.now) }
     ensures deep { IfOk result (λ x. x.0.depth ≤ n) }
 {
     let mut done = first;
@@ -225,46 +225,47 @@ fn more_arms(
             }
         }
     }
-    Err(Stop::At(0))
+    // for the proof: the loop ends before
+    Err(Stop::TokensLeft(0))
 }
 
-/// Joined by `||`.
+// Joined by `||`.
 #[cycle(reading)]
 #[tactic(auto, unfolding(cf_reader::specs::Readers::bind, crate::specs::Reading::ors_of))]
 fn ors(alloc: Global, n: u32, tokens: &[Token]) -> Result<(Measured, &[Token]), Stop>
     requires { n < 2 ^ 30 }
-    ensures value { Gives (λ x. (raw_tree x.0.raw, x.1.now)) result (ors_of (read_at n) n tokens.now) }
+    ensures value { ReadAnswer (λ x. (raw_tree x.0.raw, x.1.now)) result (ors_of (read_at n) n tokens.now) }
     ensures deep { IfOk result (λ x. x.0.depth ≤ n + 1) }
 {
     let (left, rest) = ands(alloc, n, tokens)?;
-    chain(alloc, Level::Ors, n, left, rest)
+    chain(alloc, Tier::Ors, n, left, rest)
 }
 
-/// Joined by `&&`.
+// Joined by `&&`.
 #[cycle(reading)]
 #[tactic(auto, unfolding(cf_reader::specs::Readers::bind, crate::specs::Reading::ands_of))]
 fn ands(alloc: Global, n: u32, tokens: &[Token]) -> Result<(Measured, &[Token]), Stop>
     requires { n < 2 ^ 30 }
-    ensures value { Gives (λ x. (raw_tree x.0.raw, x.1.now)) result (ands_of (read_at n) n tokens.now) }
+    ensures value { ReadAnswer (λ x. (raw_tree x.0.raw, x.1.now)) result (ands_of (read_at n) n tokens.now) }
     ensures deep { IfOk result (λ x. x.0.depth ≤ n + 1) }
 {
     let (left, rest) = cmps(alloc, n, tokens)?;
-    chain(alloc, Level::Ands, n, left, rest)
+    chain(alloc, Tier::Ands, n, left, rest)
 }
 
-/// At most one comparison, or `divides`.
+// At most one comparison, or `divides`.
 #[cycle(reading)]
 #[tactic(auto, unfolding(cf_reader::specs::Readers::bind, crate::specs::Reading::cmps_of))]
 fn cmps(alloc: Global, n: u32, tokens: &[Token]) -> Result<(Measured, &[Token]), Stop>
     requires { n < 2 ^ 30 }
-    ensures value { Gives (λ x. (raw_tree x.0.raw, x.1.now)) result (cmps_of (read_at n) n tokens.now) }
+    ensures value { ReadAnswer (λ x. (raw_tree x.0.raw, x.1.now)) result (cmps_of (read_at n) n tokens.now) }
     ensures deep { IfOk result (λ x. x.0.depth ≤ n + 1) }
 {
     let (left, rest) = sums(alloc, n, tokens)?;
     compared(alloc, n, left, rest)
 }
 
-/// The rest of a comparison or of `divides`, if there is any, behind the first part.
+// The rest of a comparison or of `divides`, if there is any, behind the first part.
 #[cycle(reading)]
 #[tactic(auto, unfolding(cf_reader::specs::Readers::first, cf_reader::specs::Readers::bind, cf_reader::specs::Readers::pure, crate::specs::Reading::compared_of))]
 fn compared(
@@ -275,69 +276,69 @@ fn compared(
 ) -> Result<(Measured, &[Token]), Stop>
     requires small { n < 2 ^ 30 }
     requires left_in { left.depth ≤ n + 1 }
-    ensures value { Gives (λ x. (raw_tree x.0.raw, x.1.now)) result (compared_of (read_at n) n (raw_tree left.raw) tokens.now) }
+    ensures value { ReadAnswer (λ x. (raw_tree x.0.raw, x.1.now)) result (compared_of (read_at n) n (raw_tree left.raw) tokens.now) }
     ensures deep { IfOk result (λ x. x.0.depth ≤ n + 1) }
 {
-    if let Some(((place, op), rest)) = next_op(Level::Cmps, n, left.depth, tokens) {
-        return match boxed(alloc, Level::Sums, n, rest) {
+    if let Some(((place, op), rest)) = next_op(Tier::Cmps, n, left.depth, tokens) {
+        return match boxed(alloc, Tier::Sums, n, rest) {
             Ok((right, rest)) => Ok((node::binary(alloc, place, op, left, right)?, rest)),
             Err(stop) => Err(node::without(left, stop)),
         };
     }
     if let Some(((place, k), rest)) = divides_by(n, &left.raw, tokens) {
         drop(left);
-        let (of, rest) = boxed(alloc, Level::Sums, n, rest)?;
+        let (of, rest) = boxed(alloc, Tier::Sums, n, rest)?;
         return Ok((node::divides(place, k, of), rest));
     }
     Ok((left, tokens))
 }
 
-/// Joined by `+`, `-`, `union` or `diff`.
+// Joined by `+`, `-`, `union` or `diff`.
 #[cycle(reading)]
 #[tactic(auto, unfolding(cf_reader::specs::Readers::bind, crate::specs::Reading::sums_of))]
 fn sums(alloc: Global, n: u32, tokens: &[Token]) -> Result<(Measured, &[Token]), Stop>
     requires { n < 2 ^ 30 }
-    ensures value { Gives (λ x. (raw_tree x.0.raw, x.1.now)) result (sums_of (read_at n) n tokens.now) }
+    ensures value { ReadAnswer (λ x. (raw_tree x.0.raw, x.1.now)) result (sums_of (read_at n) n tokens.now) }
     ensures deep { IfOk result (λ x. x.0.depth ≤ n + 1) }
 {
     let (left, rest) = muls(alloc, n, tokens)?;
-    chain(alloc, Level::Sums, n, left, rest)
+    chain(alloc, Tier::Sums, n, left, rest)
 }
 
-/// Joined by `*` or `inter`.
+// Joined by `*` or `inter`.
 #[cycle(reading)]
 #[tactic(auto, unfolding(cf_reader::specs::Readers::bind, crate::specs::Reading::muls_of))]
 fn muls(alloc: Global, n: u32, tokens: &[Token]) -> Result<(Measured, &[Token]), Stop>
     requires { n < 2 ^ 30 }
-    ensures value { Gives (λ x. (raw_tree x.0.raw, x.1.now)) result (muls_of (read_at n) n tokens.now) }
+    ensures value { ReadAnswer (λ x. (raw_tree x.0.raw, x.1.now)) result (muls_of (read_at n) n tokens.now) }
     ensures deep { IfOk result (λ x. x.0.depth ≤ n + 1) }
 {
     let (left, rest) = unary(alloc, n, tokens)?;
-    chain(alloc, Level::Muls, n, left, rest)
+    chain(alloc, Tier::Muls, n, left, rest)
 }
 
-/// The rest of a chain.
+// The rest of a chain.
 #[cycle(reading)]
 #[tactic(auto, using(crate::proofs::Above::chain_stops, crate::proofs::Above::chain_ends, crate::proofs::Above::chain_goes, crate::proofs::Above::chain_errs))]
 fn chain(
     alloc: Global,
-    level: Level,
+    tier: Tier,
     n: u32,
     first: Measured,
     tokens: &[Token],
 ) -> Result<(Measured, &[Token]), Stop>
     requires small { n < 2 ^ 30 }
     requires first_in { first.depth ≤ n + 1 }
-    ensures value { Gives (λ x. (raw_tree x.0.raw, x.1.now)) result (chain_of (read_at n) level n n (raw_tree first.raw) tokens.now) }
+    ensures value { ReadAnswer (λ x. (raw_tree x.0.raw, x.1.now)) result (chain_of (read_at n) tier n n (raw_tree first.raw) tokens.now) }
     ensures deep { IfOk result (λ x. x.0.depth ≤ n + 1) }
 {
     let mut left = first;
     let mut rest = tokens;
     for _ in 0..n {
-        match next_op(level, n, left.depth, rest) {
+        match next_op(tier, n, left.depth, rest) {
             None => return Ok((left, rest)),
             Some(((place, op), behind)) => {
-                match boxed(alloc, under(level), n, behind) {
+                match boxed(alloc, under(tier), n, behind) {
                     Ok((right, behind)) => {
                         left = node::binary(alloc, place, op, left, right)?;
                         rest = behind;
@@ -350,37 +351,37 @@ fn chain(
     Ok((left, rest))
 }
 
-/// Behind signs, or by itself.
+// Behind signs, or by itself.
 #[cycle(reading)]
 #[tactic(auto, unfolding(cf_reader::specs::Readers::deep, cf_reader::specs::Readers::bind, cf_reader::specs::Readers::pure, crate::specs::Reading::unary_of))]
 fn unary(alloc: Global, n: u32, tokens: &[Token]) -> Result<(Measured, &[Token]), Stop>
     requires { n < 2 ^ 30 }
-    ensures value { Gives (λ x. (raw_tree x.0.raw, x.1.now)) result (unary_of (read_at n) n tokens.now) }
+    ensures value { ReadAnswer (λ x. (raw_tree x.0.raw, x.1.now)) result (unary_of (read_at n) n tokens.now) }
     ensures deep { IfOk result (λ x. x.0.depth ≤ n + 1) }
 {
     if let Some((place, rest)) = after_sign("-", tokens) {
         if n == 0 {
-            return Err(Stop::At(tokens.len()));
+            return Err(Stop::TokensLeft(tokens.len()));
         }
-        let (e, rest) = boxed(alloc, Level::Unary, n, rest)?;
+        let (e, rest) = boxed(alloc, Tier::Unary, n, rest)?;
         return Ok((node::neg(place, e), rest));
     }
     if let Some((place, rest)) = after_sign("!", tokens) {
         if n == 0 {
-            return Err(Stop::At(tokens.len()));
+            return Err(Stop::TokensLeft(tokens.len()));
         }
-        let (e, rest) = boxed(alloc, Level::Unary, n, rest)?;
+        let (e, rest) = boxed(alloc, Tier::Unary, n, rest)?;
         return Ok((node::not(place, e), rest));
     }
     atom(alloc, n, tokens)
 }
 
-/// By itself.
+// By itself.
 #[cycle(reading)]
 #[tactic(auto, unfolding(cf_reader::specs::Readers::first, cf_reader::specs::Readers::deep, cf_reader::specs::Readers::bind, cf_reader::specs::Readers::pure, crate::specs::Reading::atom_of))]
 fn atom(alloc: Global, n: u32, tokens: &[Token]) -> Result<(Measured, &[Token]), Stop>
     requires { n < 2 ^ 30 }
-    ensures value { Gives (λ x. (raw_tree x.0.raw, x.1.now)) result (atom_of (read_at n) n tokens.now) }
+    ensures value { ReadAnswer (λ x. (raw_tree x.0.raw, x.1.now)) result (atom_of (read_at n) n tokens.now) }
     ensures deep { IfOk result (λ x. x.0.depth ≤ n + 1) }
 {
     if let Some(((place, k), rest)) = literal_at_least(0, tokens) {
@@ -388,7 +389,7 @@ fn atom(alloc: Global, n: u32, tokens: &[Token]) -> Result<(Measured, &[Token]),
     }
     if let Some((place, rest)) = after_sign("(", tokens) {
         if n == 0 {
-            return Err(Stop::At(tokens.len()));
+            return Err(Stop::TokensLeft(tokens.len()));
         }
         let (es, rest) = list(alloc, n, ")", rest)?;
         return Ok((node::grouped(alloc, place, es)?, rest));
@@ -400,12 +401,12 @@ fn atom(alloc: Global, n: u32, tokens: &[Token]) -> Result<(Measured, &[Token]),
     word(alloc, n, tokens)
 }
 
-/// A form that begins with a word.
+// A form that begins with a word.
 #[cycle(reading)]
 #[tactic(auto, unfolding(cf_reader::specs::Readers::first, cf_reader::specs::Readers::deep, cf_reader::specs::Readers::bind, cf_reader::specs::Readers::pure, crate::specs::Reading::word_of))]
 fn word(alloc: Global, n: u32, tokens: &[Token]) -> Result<(Measured, &[Token]), Stop>
     requires { n < 2 ^ 30 }
-    ensures value { Gives (λ x. (raw_tree x.0.raw, x.1.now)) result (word_of (read_at n) n tokens.now) }
+    ensures value { ReadAnswer (λ x. (raw_tree x.0.raw, x.1.now)) result (word_of (read_at n) n tokens.now) }
     ensures deep { IfOk result (λ x. x.0.depth ≤ n + 1) }
 {
     if let Some(((place, t), rest)) = truth(tokens) {
@@ -413,28 +414,28 @@ fn word(alloc: Global, n: u32, tokens: &[Token]) -> Result<(Measured, &[Token]),
     }
     if let Some((place, rest)) = after_word("card", tokens) {
         if n == 0 {
-            return Err(Stop::At(tokens.len()));
+            return Err(Stop::TokensLeft(tokens.len()));
         }
         let (e, rest) = inside(alloc, n, rest)?;
         return Ok((node::card(place, e), rest));
     }
     if let Some((place, rest)) = after_word("abs", tokens) {
         if n == 0 {
-            return Err(Stop::At(tokens.len()));
+            return Err(Stop::TokensLeft(tokens.len()));
         }
         let (e, rest) = inside(alloc, n, rest)?;
         return Ok((node::abs(place, e), rest));
     }
     if let Some((place, rest)) = after_word("div", tokens) {
         if n == 0 {
-            return Err(Stop::At(tokens.len()));
+            return Err(Stop::TokensLeft(tokens.len()));
         }
         let ((e, k), rest) = divided(alloc, n, rest)?;
         return Ok((node::div(place, e, k), rest));
     }
     if let Some((place, rest)) = after_word("mod", tokens) {
         if n == 0 {
-            return Err(Stop::At(tokens.len()));
+            return Err(Stop::TokensLeft(tokens.len()));
         }
         let ((e, k), rest) = divided(alloc, n, rest)?;
         return Ok((node::modulo(place, e, k), rest));
@@ -442,12 +443,12 @@ fn word(alloc: Global, n: u32, tokens: &[Token]) -> Result<(Measured, &[Token]),
     name_or_call(alloc, n, tokens)
 }
 
-/// A name, or a call.
+// A name, or a call.
 #[cycle(reading)]
 #[tactic(auto, unfolding(cf_reader::specs::Readers::first, cf_reader::specs::Readers::bind, cf_reader::specs::Readers::pure, crate::specs::Reading::named_of))]
 fn name_or_call(alloc: Global, n: u32, tokens: &[Token]) -> Result<(Measured, &[Token]), Stop>
     requires { n < 2 ^ 30 }
-    ensures value { Gives (λ x. (raw_tree x.0.raw, x.1.now)) result (named_of (read_at n) tokens.now) }
+    ensures value { ReadAnswer (λ x. (raw_tree x.0.raw, x.1.now)) result (named_of (read_at n) tokens.now) }
     ensures deep { IfOk result (λ x. x.0.depth ≤ n + 1) }
 {
     let ((place, name), rest) = expect_name(alloc, tokens)?;
@@ -460,37 +461,37 @@ fn name_or_call(alloc: Global, n: u32, tokens: &[Token]) -> Result<(Measured, &[
     }
 }
 
-/// An expression in parentheses.
+// An expression in parentheses.
 #[cycle(reading)]
 #[tactic(auto, unfolding(cf_reader::specs::Readers::bind, cf_reader::specs::Readers::pure, crate::specs::Reading::inside_of))]
 fn inside(alloc: Global, n: u32, tokens: &[Token]) -> Result<(Boxed, &[Token]), Stop>
     requires { n < 2 ^ 30 }
-    ensures value { Gives (λ x. (raw_tree x.0.raw.value, x.1.now)) result (inside_of (read_at n) tokens.now) }
+    ensures value { ReadAnswer (λ x. (raw_tree x.0.raw.value, x.1.now)) result (inside_of (read_at n) tokens.now) }
     ensures deep { IfOk result (λ x. x.0.depth ≤ n) }
 {
     let (_, rest) = expect_sign("(", tokens)?;
-    let (e, rest) = boxed(alloc, Level::Whole, n, rest)?;
+    let (e, rest) = boxed(alloc, Tier::Whole, n, rest)?;
     let (_, rest) = expect_sign(")", rest)?;
     Ok((e, rest))
 }
 
-/// An expression and a literal of at least 1, in parentheses.
+// An expression and a literal of at least 1, in parentheses.
 #[cycle(reading)]
 #[tactic(auto, unfolding(cf_reader::specs::Readers::bind, cf_reader::specs::Readers::pure, crate::specs::Reading::divided_of))]
 fn divided(alloc: Global, n: u32, tokens: &[Token]) -> Result<((Boxed, i128), &[Token]), Stop>
     requires { n < 2 ^ 30 }
-    ensures value { Gives (λ x. ((raw_tree x.0.0.raw.value, x.0.1), x.1.now)) result (divided_of (read_at n) tokens.now) }
+    ensures value { ReadAnswer (λ x. ((raw_tree x.0.0.raw.value, x.0.1), x.1.now)) result (divided_of (read_at n) tokens.now) }
     ensures deep { IfOk result (λ x. x.0.0.depth ≤ n) }
 {
     let (_, rest) = expect_sign("(", tokens)?;
-    let (e, rest) = boxed(alloc, Level::Whole, n, rest)?;
+    let (e, rest) = boxed(alloc, Tier::Whole, n, rest)?;
     let (_, rest) = expect_sign(",", rest)?;
     let ((_, k), rest) = expect_literal(1, rest)?;
     let (_, rest) = expect_sign(")", rest)?;
     Ok(((e, k), rest))
 }
 
-/// Expressions, if any, up to the closing sign.
+// Expressions, if any, up to the closing sign.
 #[cycle(reading)]
 #[tactic(auto, unfolding(cf_reader::specs::Readers::first, cf_reader::specs::Readers::pure, crate::specs::Reading::items_of))]
 fn items<'a>(
@@ -500,7 +501,7 @@ fn items<'a>(
     tokens: &'a [Token],
 ) -> Result<(MeasuredList, &'a [Token]), Stop>
     requires { n < 2 ^ 30 }
-    ensures value { Gives (λ x. (map raw_tree x.0.trees.items, x.1.now)) result (items_of (read_at n) (Sign close.now) tokens.now) }
+    ensures value { ReadAnswer (λ x. (map raw_tree x.0.trees.items, x.1.now)) result (items_of (read_at n) (Sign close.now) tokens.now) }
     ensures deep { IfOk result (λ x. x.0.depth ≤ n) }
 {
     match after_sign(close, tokens) {
@@ -509,7 +510,7 @@ fn items<'a>(
     }
 }
 
-/// One expression or more, up to the closing sign.
+// One expression or more, up to the closing sign.
 #[cycle(reading)]
 #[tactic(auto, unfolding(cf_reader::specs::Readers::bind, cf_reader::specs::Readers::several_of, crate::specs::Reading::list_of))]
 fn list<'a>(
@@ -519,15 +520,15 @@ fn list<'a>(
     tokens: &'a [Token],
 ) -> Result<(MeasuredList, &'a [Token]), Stop>
     requires { n < 2 ^ 30 }
-    ensures value { Gives (λ x. (map raw_tree x.0.trees.items, x.1.now)) result (list_of (read_at n) (Sign close.now) tokens.now) }
+    ensures value { ReadAnswer (λ x. (map raw_tree x.0.trees.items, x.1.now)) result (list_of (read_at n) (Sign close.now) tokens.now) }
     ensures deep { IfOk result (λ x. x.0.depth ≤ n) }
 {
-    let (e, rest) = part(alloc, Level::Whole, n, tokens)?;
+    let (e, rest) = tree_at(alloc, Tier::Whole, n, tokens)?;
     let first = node::with(node::none(alloc), e)?;
     more(alloc, n, close, first, rest)
 }
 
-/// More expressions, up to the closing sign.
+// More expressions, up to the closing sign.
 #[cycle(reading)]
 #[tactic(auto, using(cf_reader::proofs::Steps::more_ends, cf_reader::proofs::Steps::more_goes, cf_reader::proofs::Steps::more_errs, cf_reader::proofs::Steps::more_closes, cf_reader::proofs::Steps::more_unclosed), unfolding(cf_reader::specs::Readers::others_of))]
 fn more<'a>(
@@ -539,7 +540,7 @@ fn more<'a>(
 ) -> Result<(MeasuredList, &'a [Token]), Stop>
     requires small { n < 2 ^ 30 }
     requires first_in { first.depth ≤ n }
-    ensures value { Gives (λ x. (map raw_tree x.0.trees.items, x.1.now)) result (others_of snoc (read_at n Whole) (Sign (codes ",")) (Sign close.now) (map raw_tree first.trees.items) tokens.now) }
+    ensures value { ReadAnswer (λ x. (map raw_tree x.0.trees.items, x.1.now)) result (others_of snoc (read_at n Whole) (Sign (codes ",")) (Sign close.now) (map raw_tree first.trees.items) tokens.now) }
     ensures deep { IfOk result (λ x. x.0.depth ≤ n) }
 {
     let mut done = first;
@@ -547,7 +548,7 @@ fn more<'a>(
     for _ in 0..tokens.len() {
         match after_sign(",", rest) {
             Some((_, behind)) => {
-                let (e, behind) = part(alloc, Level::Whole, n, behind)?;
+                let (e, behind) = tree_at(alloc, Tier::Whole, n, behind)?;
                 done = node::with(done, e)?;
                 rest = behind;
             }
@@ -557,5 +558,6 @@ fn more<'a>(
             }
         }
     }
-    Err(Stop::At(0))
+    // for the proof: the loop ends before
+    Err(Stop::TokensLeft(0))
 }

@@ -1,12 +1,12 @@
 //! Words and signs of expressions that stand first.
 ghost use Rattle.std.specs.Prelude.{◌≡◌, ◌≤◌, IfSome};
 ghost use Rattle.cf_tree.specs.RawView.{raw_tree};
-ghost use Rattle.cf_reader.specs.Gives.{Shows};
+ghost use Rattle.cf_reader.specs.Answers.{FirstAnswer};
 ghost use Rattle.cf_reader.specs.Readers.{at};
-ghost use Rattle.cf_parse.specs.Spelling.{under as under_of, op_level as op_level_of, rank as rank_of};
+ghost use Rattle.cf_parse.specs.Spelling.{under as under_of, op_tier as op_tier_of, rank as rank_of};
 ghost use Rattle.cf_parse.specs.Reading.{a_sign, next_op as next_op_of, lone_literal as lone_literal_of, divides_by as divides_by_of};
 
-use crate::level::Level;
+use crate::tier::Tier;
 use cf_lex::{Token, TokenKind};
 use cf_reader::operations::operation;
 use cf_reader::tokens::after_word;
@@ -16,7 +16,7 @@ use cf_tree::raw::{BinOp, Raw, RawNode};
 /// Whether a minus stands first, or a plus, and the tokens after it.
 #[tactic(auto, unfolding(cf_reader::specs::Readers::at))]
 pub fn plus_or_minus(tokens: &[Token]) -> Option<(bool, &[Token])>
-    ensures { Shows (λ x. (x.0, x.1.now)) result (at a_sign tokens.now) }
+    ensures { FirstAnswer (λ x. (x.0, x.1.now)) result (at a_sign tokens.now) }
 {
     let (t, rest) = tokens.split_first()?;
     let TokenKind::Sign(sign) = &t.kind else {
@@ -31,57 +31,57 @@ pub fn plus_or_minus(tokens: &[Token]) -> Option<(bool, &[Token])>
     }
 }
 
-/// The level next inside.
-pub fn under(level: Level) -> Level
-    ensures { result ≡ under_of level }
+/// The tier next inside.
+pub fn under(tier: Tier) -> Tier
+    ensures { result ≡ under_of tier }
 {
-    match level {
-        Level::Whole => Level::Ors,
-        Level::Ors => Level::Ands,
-        Level::Ands => Level::Cmps,
-        Level::Cmps => Level::Sums,
-        Level::Sums => Level::Muls,
-        Level::Muls => Level::Unary,
-        Level::Unary => Level::Unary,
+    match tier {
+        Tier::Whole => Tier::Ors,
+        Tier::Ors => Tier::Ands,
+        Tier::Ands => Tier::Cmps,
+        Tier::Cmps => Tier::Sums,
+        Tier::Sums => Tier::Muls,
+        Tier::Muls => Tier::Unary,
+        Tier::Unary => Tier::Unary,
     }
 }
 
-fn rank(level: Level) -> u32
-    ensures { result ≡ rank_of level }
+fn rank(tier: Tier) -> u32
+    ensures { result ≡ rank_of tier }
 {
-    match level {
-        Level::Whole => 0,
-        Level::Ors => 1,
-        Level::Ands => 2,
-        Level::Cmps => 3,
-        Level::Sums => 4,
-        Level::Muls => 5,
-        Level::Unary => 6,
+    match tier {
+        Tier::Whole => 0,
+        Tier::Ors => 1,
+        Tier::Ands => 2,
+        Tier::Cmps => 3,
+        Tier::Sums => 4,
+        Tier::Muls => 5,
+        Tier::Unary => 6,
     }
 }
 
-fn op_level(op: BinOp) -> Level
-    ensures { result ≡ op_level_of op }
+fn op_tier(op: BinOp) -> Tier
+    ensures { result ≡ op_tier_of op }
 {
     match op {
-        BinOp::Or => Level::Ors,
-        BinOp::And => Level::Ands,
-        BinOp::Compare(_) => Level::Cmps,
-        BinOp::Subset => Level::Cmps,
-        BinOp::Add => Level::Sums,
-        BinOp::Sub => Level::Sums,
-        BinOp::Union => Level::Sums,
-        BinOp::Diff => Level::Sums,
-        BinOp::Mul => Level::Muls,
-        BinOp::Inter => Level::Muls,
+        BinOp::Or => Tier::Ors,
+        BinOp::And => Tier::Ands,
+        BinOp::Compare(_) => Tier::Cmps,
+        BinOp::Subset => Tier::Cmps,
+        BinOp::Add => Tier::Sums,
+        BinOp::Sub => Tier::Sums,
+        BinOp::Union => Tier::Sums,
+        BinOp::Diff => Tier::Sums,
+        BinOp::Mul => Tier::Muls,
+        BinOp::Inter => Tier::Muls,
     }
 }
 
-/// The operation with which a tree of depth `d` goes on at a level, where its parts may have depth
+/// The operation with which a tree of depth `d` goes on at a tier, where its parts may have depth
 /// `n`, with its place, and the tokens after it.
 #[tactic(auto, unfolding(cf_reader::specs::Readers::at, crate::specs::Reading::next_op))]
-pub fn next_op(level: Level, n: u32, d: u32, tokens: &[Token]) -> Option<((Place, BinOp), &[Token])>
-    ensures value { Shows (λ x. (x.0, x.1.now)) result (at (next_op_of level n d) tokens.now) }
+pub fn next_op(tier: Tier, n: u32, d: u32, tokens: &[Token]) -> Option<((Place, BinOp), &[Token])>
+    ensures value { FirstAnswer (λ x. (x.0, x.1.now)) result (at (next_op_of tier n d) tokens.now) }
     ensures small { IfSome result (λ x. d ≤ n) }
 {
     let (t, rest) = tokens.split_first()?;
@@ -89,14 +89,14 @@ pub fn next_op(level: Level, n: u32, d: u32, tokens: &[Token]) -> Option<((Place
         return None;
     }
     let op = operation(&t.kind)?;
-    if rank(op_level(op)) == rank(level) {
+    if rank(op_tier(op)) == rank(tier) {
         Some(((t.place, op), rest))
     } else {
         None
     }
 }
 
-/// A literal that stands alone, with its place.
+// A literal that stands alone, with its place.
 fn lone_literal(raw: &Raw) -> Option<(Place, i128)>
     ensures { result ≡ lone_literal_of (raw_tree raw.now) }
 {
@@ -114,7 +114,7 @@ pub fn divides_by<'a>(
     left: &Raw,
     tokens: &'a [Token],
 ) -> Option<((Place, i128), &'a [Token])>
-    ensures value { Shows (λ x. (x.0, x.1.now)) result (at (divides_by_of n (raw_tree left.now)) tokens.now) }
+    ensures value { FirstAnswer (λ x. (x.0, x.1.now)) result (at (divides_by_of n (raw_tree left.now)) tokens.now) }
     ensures small { IfSome result (λ x. 1 ≤ n) }
 {
     let (place, k) = lone_literal(left)?;

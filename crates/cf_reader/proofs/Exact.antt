@@ -99,7 +99,7 @@ Ends separator close us = (rest : List Token) × (Next separator us rest ⊎ Nex
 
 others_end : {A : Type 0} (Item : A → List Token → List Token → Type 0) (separator close : TokenKind) (xs : List A) (ts rest : List Token) → Others Item separator close xs ts rest → Ends separator close ts
 others_end Item separator close [] ts rest w = (rest, inr w)
-others_end Item separator close (x ∷ xs) ts rest w = (w.0, inl w.2)
+others_end Item separator close (x ∷ xs) ts rest w = (w.0, inl w.1)
 
 rest_of : {A : Type 0} → Got A → List Token
 rest_of (Ok a) = a.1
@@ -122,10 +122,10 @@ pub more_is : {A B : Type 0} (add : B → A → B) (item : Reader A) (Item : A �
     (xs : List A) (k : ℕ) (done : B) (ts rest : List Token) → Others Item separator close xs ts rest → length ts ≤ k → more_of add item separator close k done ts ≡ Ok (added add done xs, rest)
 unfolding more_of
 more_is add item Item separator close h [] zero done ts rest w l = absurd (omega (arith, l, first_longer close ts rest w.0 w.1))
-more_is add item Item separator close h (x ∷ xs) zero done ts rest w l = absurd (omega (arith, l, first_longer separator ts w.0 w.2.0 w.2.1))
+more_is add item Item separator close h (x ∷ xs) zero done ts rest w l = absurd (omega (arith, l, first_longer separator ts w.0 w.1.0 w.1.1))
 more_is add item Item separator close h [] (suc k) done ts rest w l =
     first_not _ _ _ ts (at_not separator close ts rest w.0 h.differs w.1) (bind_is _ _ ts (next_is close ts rest h.closes w) (pure_is done done rest refl))
-more_is add item Item separator close h (x ∷ xs) (suc k) done ts rest (a, b, n, i, o) l =
+more_is add item Item separator close h (x ∷ xs) (suc k) done ts rest (a, n, (b, i, o)) l =
     let e : item a ≡ Ok (x, b) = h.reads x a b i (others_end Item separator close xs b rest o) in
     first_is _ _ _ ts (at_is separator ts a n.0 h.separates n.1)
     (bind_is _ _ a e (more_is add item Item separator close h xs k (add done x) b rest o (omega (arith, l, first_longer separator ts a n.0 n.1, left_over (length a) (item a) x b e (h.within a)))))
@@ -151,6 +151,6 @@ pub one_or_tuple_is : {A B : Type 0} (add : B → A → B) (item : Reader A) (It
 unfolding one_or_tuple
 one_or_tuple_is add item Item none h g u [] ts rest w = absurd w
 one_or_tuple_is add item Item none h g u (x ∷ []) ts rest w = first_not _ _ _ ts (u x ts rest w) (bind_is _ _ ts (g x ts rest w) (pure_is _ _ rest refl))
-one_or_tuple_is add item Item none h g u (x ∷ y ∷ xs) ts rest (a, o, (b, i, (c, d, n, j, more))) =
+one_or_tuple_is add item Item none h g u (x ∷ y ∷ xs) ts rest (a, o, (b, i, (c, n, (d, j, more)))) =
     first_is _ _ _ ts (at_is _ ts a o.0 refl o.1)
     (bind_is _ _ a (g x a b i) (bind_is _ _ b (next_is _ b c refl n) (bind_is _ _ c (g y c d j) (others_are add item Item (Sign (codes ",")) (Sign (codes ")")) h xs (add (add none x) y) d rest more))))

@@ -3,7 +3,7 @@ use Rattle.std.proofs.Common.{◌≡◌, ℕ, suc, ◌-◌, ◌≤◌, List, [],
 use Rattle.cf_lex.specs.declared.token.Token.{Token}
 use Rattle.cf_tree.specs.declared.base.Place.{Place}
 use Rattle.cf_reader.specs.Readers.{Got, Reader}
-use Rattle.cf_reader.specs.Faults.{IsDead, IsFaultPlace, first_place, place_of}
+use Rattle.cf_reader.specs.Faults.{IsDead, IsFaultPlace, IsFaultPlaceOf, front_place, place_with_left}
 use Rattle.cf_reader.proofs.Near.{Within, ok_in, err_in, Near, here, later, Alike, both, past, refused, Local}
 use Rattle.cf_reader.proofs.Yields.{Yields, yields, faults}
 
@@ -45,13 +45,16 @@ dead Spelled r local all front t more e other w =
     refuse more other h.0 h.1 (r (front ++ t ∷ more)) (r (front ++ t ∷ other)) ((local more other).near (front ++ t ∷ more) (front ++ t ∷ other) (near front t more other)) e h.2
 
 fault_on : {A : Type 0} (Spelled : List Token → Type 0) (r : Reader A) → ((more other : List Token) → Local more other r r) → ReadsAll Spelled r →
-    (ts : List Token) (end : Place) (e : ℕ) (front d : List Token) → ts ≡ front ++ d → length d ≡ e → r ts ≡ Err e → IsFaultPlace Spelled ts end (first_place d end)
+    (ts : List Token) (end : Place) (e : ℕ) (front d : List Token) → ts ≡ front ++ d → length d ≡ e → r ts ≡ Err e → IsFaultPlace Spelled ts end (front_place d end)
 fault_on Spelled r local all ts end e front [] same l p = inl refl
 fault_on Spelled r local all ts end e front (t ∷ more) same l p = inr (front, t, more, same, refl, dead Spelled r local all front t more (ap r (sym same) ∙ p ∙ ap Err (sym l)))
 
 pub fault_law : {A : Type 0} (Spelled : List Token → Type 0) (r : Reader A) → ((more other : List Token) → Local more other r r) → ReadsAll Spelled r →
-    (ts : List Token) (end : Place) (e : ℕ) → r ts ≡ Err e → IsFaultPlace Spelled ts end (place_of ts end e)
-unfolding place_of
+    (ts : List Token) (end : Place) (e : ℕ) → r ts ≡ Err e → IsFaultPlace Spelled ts end (place_with_left ts end e)
+unfolding place_with_left
 fault_law Spelled r local all ts end e p =
     fault_on Spelled r local all ts end e (take (length ts - e) ts) (drop (length ts - e) ts) (sym (take-append-drop (length ts - e) ts))
     (let small : e ≤ length ts = within_err (length ts) e (r ts) ((local [] []).within ts (length ts) (omega arith)) p in omega (arith, length-drop (length ts - e) ts)) p
+
+pub exact_law : {A : Type 0} (r : Reader A) (ts : List Token) (end : Place) (e : ℕ) → r ts ≡ Err e → IsFaultPlaceOf r ts end (place_with_left ts end e)
+exact_law r ts end e p = record { left = e; stops = p; stands = refl }

@@ -6,3 +6,5 @@ pub mod Steps
 pub mod KindLaws
 pub mod OperationLaws
 pub mod Faults
+pub mod Sample
+pub mod Keeps

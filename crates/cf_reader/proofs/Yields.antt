@@ -150,7 +150,7 @@ took_literal least ts us x (t, e, f) = let h = literal_on least t.place t.kind x
 next_item : {A B : Type 0} (add : B → A → B) (Item : A → List Token → List Token → Type 0) (separator close : TokenKind) (done : B) (ts a b : List Token) (x : A) (y : B) (us : List Token) →
     Next separator ts a → Item x a b → (new : List A) × (y ≡ added add (add done x) new) × Others Item separator close new b us →
     (new : List A) × (y ≡ added add done new) × Others Item separator close new ts us
-next_item add Item separator close done ts a b x y us n i (new, e, o) = (x ∷ new, e, (a, b, n, i, o))
+next_item add Item separator close done ts a b x y us n i (new, e, o) = (x ∷ new, e, (a, n, (b, i, o)))
 
 pub more_yields : {A B : Type 0} (add : B → A → B) (item : Reader A) (Item : A → List Token → List Token → Type 0) (separator close : TokenKind) →
     ((ts : List Token) → Yields (λ x us. Item x ts us) (item ts)) → (k : ℕ) (done : B) (ts : List Token) →
@@ -181,7 +181,7 @@ same_text x y h = (bytes_eq-Decides x y).0 h
 
 tuple_found : {A : Type 0} (Item : A → List Token → List Token → Type 0) (ts a b c d us : List Token) (x y : A) (new : List A) → Next (Sign (codes "(")) ts a → Item x a b → Next (Sign (codes ",")) b c → Item y c d →
     Others Item (Sign (codes ",")) (Sign (codes ")")) new d us → OneOrTuple Item (x ∷ y ∷ new) ts us
-tuple_found Item ts a b c d us x y new o i n j more = (a, o, (b, i, (c, d, n, j, more)))
+tuple_found Item ts a b c d us x y new o i n j more = (a, o, (b, i, (c, n, (d, j, more))))
 
 pub one_or_tuple_yields : {A B : Type 0} (add : B → A → B) (item : Reader A) (Item : A → List Token → List Token → Type 0) (none : B) →
     ((ts : List Token) → Yields (λ x us. Item x ts us) (item ts)) → (ts : List Token) →

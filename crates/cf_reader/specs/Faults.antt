@@ -1,7 +1,8 @@
 -- Where tokens are refused: Spelled says of which lists of tokens there is a tree.
-use Rattle.std.specs.Prelude.{◌≡◌, ◌⊎◌, ℕ, ◌-◌, List, [], ◌∷◌, ◌++◌, length, drop}
+use Rattle.std.specs.Prelude.{◌≡◌, ◌⊎◌, ℕ, ◌-◌, List, [], ◌∷◌, ◌++◌, length, drop, Err}
 use Rattle.cf_lex.specs.declared.token.Token.{Token}
 use Rattle.cf_tree.specs.declared.base.Place.{Place}
+use Rattle.cf_reader.specs.Readers.{Reader}
 use Rattle.cf_reader.specs.declared.fault.ParseFault.{ParseFault}
 use Rattle.cf_reader.specs.declared.fault.ParseFault.TheVariants.{Syntax, NoMemory}
 
@@ -18,10 +19,20 @@ abbrev pub IsFault : (List Token → Type 0) → List Token → Place → ParseF
 IsFault Spelled ts end NoMemory = Unit {0}
 IsFault Spelled ts end (Syntax p) = IsFaultPlace Spelled ts end p
 
-abbrev pub first_place : List Token → Place → Place
-first_place [] end = end
-first_place (t ∷ ts) end = t.place
+abbrev pub front_place : List Token → Place → Place
+front_place [] end = end
+front_place (t ∷ ts) end = t.place
 
 -- the place where so many tokens are left
-unfoldable pub place_of : List Token → Place → ℕ → Place
-place_of ts end left = first_place (drop (length ts - left) ts) end
+unfoldable pub place_with_left : List Token → Place → ℕ → Place
+place_with_left ts end left = front_place (drop (length ts - left) ts) end
+
+-- the token from which on reading stops has this place, or the end where none is left
+pub record IsFaultPlaceOf {A : Type 0} (read : Reader A) (ts : List Token) (end p : Place) : Type 0 where
+  pub left : ℕ
+  pub stops : read ts ≡ Err left
+  pub stands : p ≡ place_with_left ts end left
+
+abbrev pub IsFaultOf : {A : Type 0} → Reader A → List Token → Place → ParseFault → Type 0
+IsFaultOf read ts end NoMemory = Unit {0}
+IsFaultOf read ts end (Syntax p) = IsFaultPlaceOf read ts end p

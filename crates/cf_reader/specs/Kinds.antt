@@ -9,7 +9,7 @@ use Rattle.cf_tree.specs.declared.base.Base.{Base}
 use Rattle.cf_tree.specs.declared.base.Base.TheVariants.{Int, Bool as BoolBase, Set}
 use Rattle.cf_tree.specs.declared.base.Order.{Order}
 use Rattle.cf_tree.specs.declared.base.Order.TheVariants.{Eq, Ne, Lt, Le, Gt, Ge}
-use Rattle.cf_reader.specs.Tokens.{Next}
+use Rattle.cf_reader.specs.Tokens.{Form, Next}
 use Rattle.cf_reader.specs.Readers.{Reader, Test, must, snoc, one_or_tuple}
 
 abbrev pub base_kind : Base → TokenKind
@@ -30,8 +30,8 @@ order_kind Le = Sign (codes "<=")
 order_kind Gt = Sign (codes ">")
 order_kind Ge = Sign (codes ">=")
 
-abbrev pub SpellsBase : Base → List Token → List Token → Type 0
-SpellsBase base ts rest = Next (base_kind base) ts rest
+abbrev pub SpellsBase : Base → Form
+SpellsBase base = Next (base_kind base)
 
 abbrev pub a_base : Test Base
 a_base t = elim t.kind [

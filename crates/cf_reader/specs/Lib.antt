@@ -2,5 +2,5 @@ pub mod Tokens
 pub mod Readers
 pub mod Kinds
 pub mod Operations
-pub mod Gives
+pub mod Answers
 pub mod Faults

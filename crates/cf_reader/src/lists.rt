@@ -1,7 +1,7 @@
 //! Lists of bases.
 ghost use Rattle.std.specs.Prelude.{◌≡◌, codes};
 ghost use Rattle.cf_lex.specs.declared.token.TokenKind.TheVariants.{Sign};
-ghost use Rattle.cf_reader.specs.Gives.{Gives};
+ghost use Rattle.cf_reader.specs.Answers.{ReadAnswer};
 ghost use Rattle.cf_reader.specs.Readers.{must, snoc, others_of};
 ghost use Rattle.cf_reader.specs.Kinds.{a_base, results_of};
 
@@ -15,7 +15,7 @@ use std::alloc::Global;
 /// A base, or two or more in parentheses.
 #[tactic(auto, using(crate::proofs::Steps::results_several), unfolding(crate::specs::Readers::first, crate::specs::Readers::bind, crate::specs::Readers::pure, crate::specs::Readers::one_or_tuple, crate::specs::Kinds::results_of))]
 pub fn results(alloc: Global, tokens: &[Token]) -> Result<(Vec<Base>, &[Token]), Stop>
-    ensures { Gives (λ x. (x.0.items, x.1.now)) result (results_of tokens.now) }
+    ensures { ReadAnswer (λ x. (x.0.items, x.1.now)) result (results_of tokens.now) }
 {
     let mut all = Vec::new(alloc);
     match after_sign("(", tokens) {
@@ -38,7 +38,7 @@ pub fn results(alloc: Global, tokens: &[Token]) -> Result<(Vec<Base>, &[Token]),
 /// More bases, each behind a comma, up to the closing parenthesis.
 #[tactic(auto, using(crate::proofs::Steps::more_ends, crate::proofs::Steps::more_goes, crate::proofs::Steps::more_errs, crate::proofs::Steps::more_closes, crate::proofs::Steps::more_unclosed), unfolding(crate::specs::Readers::others_of))]
 pub fn more_bases(first: Vec<Base>, tokens: &[Token]) -> Result<(Vec<Base>, &[Token]), Stop>
-    ensures { Gives (λ x. (x.0.items, x.1.now)) result (others_of snoc (must a_base) (Sign (codes ",")) (Sign (codes ")")) first.items tokens.now) }
+    ensures { ReadAnswer (λ x. (x.0.items, x.1.now)) result (others_of snoc (must a_base) (Sign (codes ",")) (Sign (codes ")")) first.items tokens.now) }
 {
     let mut done = first;
     let mut rest = tokens;
@@ -55,5 +55,6 @@ pub fn more_bases(first: Vec<Base>, tokens: &[Token]) -> Result<(Vec<Base>, &[To
             }
         }
     }
-    Err(Stop::At(0))
+    // for the proof: the loop ends before
+    Err(Stop::TokensLeft(0))
 }

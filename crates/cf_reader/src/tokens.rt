@@ -4,7 +4,7 @@ ghost use Rattle.std.specs.List.{list_any};
 ghost use Rattle.std.specs.Str.{bytes_eq};
 ghost use Rattle.cf_lex.specs.Words.{is_reserved as reserved, reserved_words};
 ghost use Rattle.cf_lex.specs.declared.token.TokenKind.TheVariants.{Word, Sign};
-ghost use Rattle.cf_reader.specs.Gives.{Gives, Shows};
+ghost use Rattle.cf_reader.specs.Answers.{ReadAnswer, FirstAnswer};
 ghost use Rattle.cf_reader.specs.Readers.{same_kind, is, a_name, a_literal, at, must};
 
 use crate::stop::Stop;
@@ -15,7 +15,7 @@ use std::alloc::Global;
 /// The place of the sign `sign`, if it stands first, and the tokens after it.
 #[tactic(auto, unfolding(crate::specs::Readers::at))]
 pub fn after_sign<'a>(sign: &str, tokens: &'a [Token]) -> Option<(Place, &'a [Token])>
-    ensures { Shows (λ x. (x.0, x.1.now)) result (at (is (Sign sign.now)) tokens.now) }
+    ensures { FirstAnswer (λ x. (x.0, x.1.now)) result (at (is (Sign sign.now)) tokens.now) }
 {
     let (t, rest) = tokens.split_first()?;
     if is_sign(sign, &t.kind) {
@@ -28,7 +28,7 @@ pub fn after_sign<'a>(sign: &str, tokens: &'a [Token]) -> Option<(Place, &'a [To
 /// The place of the word `word`, if it stands first, and the tokens after it.
 #[tactic(auto, unfolding(crate::specs::Readers::at))]
 pub fn after_word<'a>(word: &str, tokens: &'a [Token]) -> Option<(Place, &'a [Token])>
-    ensures { Shows (λ x. (x.0, x.1.now)) result (at (is (Word word.now)) tokens.now) }
+    ensures { FirstAnswer (λ x. (x.0, x.1.now)) result (at (is (Word word.now)) tokens.now) }
 {
     let (t, rest) = tokens.split_first()?;
     if is_word(word, &t.kind) {
@@ -38,7 +38,7 @@ pub fn after_word<'a>(word: &str, tokens: &'a [Token]) -> Option<(Place, &'a [To
     }
 }
 
-/// Whether a token is the sign `sign`.
+// Whether a token is the sign `sign`.
 fn is_sign(sign: &str, kind: &TokenKind) -> bool
     ensures { result ≡ same_kind kind.now (Sign sign.now) }
 {
@@ -49,7 +49,7 @@ fn is_sign(sign: &str, kind: &TokenKind) -> bool
     }
 }
 
-/// Whether a token is the word `word`.
+// Whether a token is the word `word`.
 fn is_word(word: &str, kind: &TokenKind) -> bool
     ensures { result ≡ same_kind kind.now (Word word.now) }
 {
@@ -63,29 +63,29 @@ fn is_word(word: &str, kind: &TokenKind) -> bool
 /// The tokens after the sign `sign`, which has to stand first, and its place.
 #[tactic(auto, unfolding(crate::specs::Readers::must))]
 pub fn expect_sign<'a>(sign: &str, tokens: &'a [Token]) -> Result<(Place, &'a [Token]), Stop>
-    ensures { Gives (λ x. (x.0, x.1.now)) result (must (is (Sign sign.now)) tokens.now) }
+    ensures { ReadAnswer (λ x. (x.0, x.1.now)) result (must (is (Sign sign.now)) tokens.now) }
 {
     match after_sign(sign, tokens) {
         Some(found) => Ok(found),
-        None => Err(Stop::At(tokens.len())),
+        None => Err(Stop::TokensLeft(tokens.len())),
     }
 }
 
 /// The tokens after the word `word`, which has to stand first, and its place.
 #[tactic(auto, unfolding(crate::specs::Readers::must))]
 pub fn expect_word<'a>(word: &str, tokens: &'a [Token]) -> Result<(Place, &'a [Token]), Stop>
-    ensures { Gives (λ x. (x.0, x.1.now)) result (must (is (Word word.now)) tokens.now) }
+    ensures { ReadAnswer (λ x. (x.0, x.1.now)) result (must (is (Word word.now)) tokens.now) }
 {
     match after_word(word, tokens) {
         Some(found) => Ok(found),
-        None => Err(Stop::At(tokens.len())),
+        None => Err(Stop::TokensLeft(tokens.len())),
     }
 }
 
 /// A literal of at least `least` that stands first, with its place, and the tokens after it.
 #[tactic(auto, unfolding(crate::specs::Readers::at))]
 pub fn literal_at_least(least: i128, tokens: &[Token]) -> Option<((Place, i128), &[Token])>
-    ensures value { Shows (λ x. (x.0, x.1.now)) result (at (a_literal least) tokens.now) }
+    ensures value { FirstAnswer (λ x. (x.0, x.1.now)) result (at (a_literal least) tokens.now) }
     ensures least_in { IfSome result (λ x. least ≤ℤ x.0.1) }
 {
     let (t, rest) = tokens.split_first()?;
@@ -105,16 +105,16 @@ pub fn literal_at_least(least: i128, tokens: &[Token]) -> Option<((Place, i128),
 /// A literal of at least `least` that has to stand first, with its place, and the tokens after it.
 #[tactic(auto, unfolding(crate::specs::Readers::must))]
 pub fn expect_literal(least: i128, tokens: &[Token]) -> Result<((Place, i128), &[Token]), Stop>
-    ensures value { Gives (λ x. (x.0, x.1.now)) result (must (a_literal least) tokens.now) }
+    ensures value { ReadAnswer (λ x. (x.0, x.1.now)) result (must (a_literal least) tokens.now) }
     ensures least_in { IfOk result (λ x. least ≤ℤ x.0.1) }
 {
     match literal_at_least(least, tokens) {
         Some(found) => Ok(found),
-        None => Err(Stop::At(tokens.len())),
+        None => Err(Stop::TokensLeft(tokens.len())),
     }
 }
 
-/// Whether a word is reserved.
+// Whether a word is reserved.
 #[tactic(auto, using(crate::proofs::Reserved::reserved_parts))]
 fn is_reserved(word: &[u8]) -> bool
     ensures { result ≡ reserved word.now }
@@ -122,7 +122,7 @@ fn is_reserved(word: &[u8]) -> bool
     is_reserved_early(word) || is_reserved_amid(word) || is_reserved_late(word)
 }
 
-/// Whether a word is one of the first twelve reserved words.
+// Whether a word is one of the first twelve reserved words.
 fn is_reserved_early(word: &[u8]) -> bool
     ensures { result ≡ list_any (λ r. bytes_eq word.now r) (take 12 reserved_words) }
 {
@@ -140,7 +140,7 @@ fn is_reserved_early(word: &[u8]) -> bool
         || word == b"true".as_slice()
 }
 
-/// Whether a word is one of the next twelve reserved words.
+// Whether a word is one of the next twelve reserved words.
 fn is_reserved_amid(word: &[u8]) -> bool
     ensures { result ≡ list_any (λ r. bytes_eq word.now r) (take 12 (drop 12 reserved_words)) }
 {
@@ -158,7 +158,7 @@ fn is_reserved_amid(word: &[u8]) -> bool
         || word == b"need".as_slice()
 }
 
-/// Whether a word is one of the last ten reserved words.
+// Whether a word is one of the last ten reserved words.
 fn is_reserved_late(word: &[u8]) -> bool
     ensures { result ≡ list_any (λ r. bytes_eq word.now r) (drop 24 reserved_words) }
 {
@@ -177,13 +177,13 @@ fn is_reserved_late(word: &[u8]) -> bool
 /// A name that has to stand first, with its place, and the tokens after it.
 #[tactic(auto, unfolding(crate::specs::Readers::must, crate::specs::Readers::at))]
 pub fn expect_name(alloc: Global, tokens: &[Token]) -> Result<((Place, Text), &[Token]), Stop>
-    ensures { Gives (λ x. (x.0, x.1.now)) result (must a_name tokens.now) }
+    ensures { ReadAnswer (λ x. (x.0, x.1.now)) result (must a_name tokens.now) }
 {
     let Some((t, rest)) = tokens.split_first() else {
-        return Err(Stop::At(0));
+        return Err(Stop::TokensLeft(0));
     };
     match &t.kind {
         TokenKind::Word(x) if !is_reserved(&x.bytes) => Ok(((t.place, x.try_copy(alloc)?), rest)),
-        _ => Err(Stop::At(tokens.len())),
+        _ => Err(Stop::TokensLeft(tokens.len())),
     }
 }

@@ -1,6 +1,6 @@
 //! Bases and truth values that stand first.
 ghost use Rattle.std.specs.Prelude.{◌≡◌};
-ghost use Rattle.cf_reader.specs.Gives.{Gives, Shows};
+ghost use Rattle.cf_reader.specs.Answers.{ReadAnswer, FirstAnswer};
 ghost use Rattle.cf_reader.specs.Readers.{at, must};
 ghost use Rattle.cf_reader.specs.Kinds.{a_base, a_truth};
 
@@ -11,13 +11,13 @@ use cf_tree::base::{Base, Place};
 /// A base that has to stand first, and the tokens after it.
 #[tactic(auto, unfolding(crate::specs::Readers::must, crate::specs::Readers::at))]
 pub fn expect_base(tokens: &[Token]) -> Result<(Base, &[Token]), Stop>
-    ensures { Gives (λ x. (x.0, x.1.now)) result (must a_base tokens.now) }
+    ensures { ReadAnswer (λ x. (x.0, x.1.now)) result (must a_base tokens.now) }
 {
     let Some((t, rest)) = tokens.split_first() else {
-        return Err(Stop::At(0));
+        return Err(Stop::TokensLeft(0));
     };
     let TokenKind::Word(word) = &t.kind else {
-        return Err(Stop::At(tokens.len()));
+        return Err(Stop::TokensLeft(tokens.len()));
     };
     if word.bytes.as_slice() == b"int".as_slice() {
         Ok((Base::Int, rest))
@@ -26,14 +26,14 @@ pub fn expect_base(tokens: &[Token]) -> Result<(Base, &[Token]), Stop>
     } else if word.bytes.as_slice() == b"set".as_slice() {
         Ok((Base::Set, rest))
     } else {
-        Err(Stop::At(tokens.len()))
+        Err(Stop::TokensLeft(tokens.len()))
     }
 }
 
 /// A truth value that stands first, with its place, and the tokens after it.
 #[tactic(auto, unfolding(crate::specs::Readers::at))]
 pub fn truth(tokens: &[Token]) -> Option<((Place, bool), &[Token])>
-    ensures { Shows (λ x. (x.0, x.1.now)) result (at a_truth tokens.now) }
+    ensures { FirstAnswer (λ x. (x.0, x.1.now)) result (at a_truth tokens.now) }
 {
     let (t, rest) = tokens.split_first()?;
     let TokenKind::Word(word) = &t.kind else {

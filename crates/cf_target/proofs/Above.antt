@@ -7,7 +7,7 @@ use Rattle.cf_tree.specs.declared.base.Place.{Place}
 use Rattle.cf_tree.specs.CodeTree.{CodeTree, ItemTree}
 use Rattle.cf_reader.specs.declared.stop.Stop.{Stop}
 use Rattle.cf_reader.specs.declared.stop.Stop.TheVariants as stops
-use Rattle.cf_reader.specs.Gives.{Fails}
+use Rattle.cf_reader.specs.Answers.{StopAnswer}
 use Rattle.cf_reader.specs.Readers.{Got, Reader, is, at, must, bind, pure, refuse, first, others_of, snoc}
 use Rattle.cf_target.specs.declared.form.Step.{Step}
 use Rattle.cf_target.specs.Reading.{a_step, item_of, steps_of, arm_from, all_arms, step, read}
@@ -59,9 +59,9 @@ steps_unclosed part zero done ts e h g lt = absurd (omega arith)
 steps_unclosed part (suc k) done ts e h g lt = rw (steps_of, first, h, bind, g) refl
 
 pub steps_fail : (part : Reader CodeTree) (k : ℕ) (done : List ItemTree) (ts : List Token) (s : Step) (us : List Token) (e : Stop) →
-    at a_step ts ≡ Some (s, us) → Fails e (item_of part s us) → 0 < k → Fails e (steps_of part k done ts)
-steps_fail part k done ts s us stops.Memory h g lt = tt
-steps_fail part k done ts s us (stops.At n) h g lt = steps_err part k done ts s us n h g lt
+    at a_step ts ≡ Some (s, us) → StopAnswer e (item_of part s us) → 0 < k → StopAnswer e (steps_of part k done ts)
+steps_fail part k done ts s us stops.NoMemory h g lt = tt
+steps_fail part k done ts s us (stops.TokensLeft n) h g lt = steps_err part k done ts s us n h g lt
 
 -- the next turn of the loop
 pub steps_next : (part : Reader CodeTree) (k j : ℕ) (done done' : List ItemTree) (ts : List Token) (s : Step) (us : List Token) (i : ItemTree) (vs : List Token) (whole : Got (List ItemTree)) →

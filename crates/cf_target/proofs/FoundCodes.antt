@@ -49,7 +49,7 @@ one_more : (last : ℕ) (ts a b : List Token) (x y : ℕ) (us : List Token) → 
 unfolding MoreVariables
 one_more last ts a b x y us c v e' (n, f, w) =
     let e : x ≡ suc last = omega (arith, e') in
-    (suc n, omega (arith, e, f), (a, b, c, subst (λ z. SpellsVariable z a b) e v, subst (λ z. SpellsMoreVariables (suc z) n b us) e w))
+    (suc n, omega (arith, e, f), (a, c, (b, subst (λ z. SpellsVariable z a b) e v, subst (λ z. SpellsMoreVariables (suc z) n b us) e w)))
 
 no_more : (last : ℕ) (ts a : List Token) → Next (Sign (codes ")")) ts a → MoreVariables last ts last a
 unfolding MoreVariables
@@ -73,7 +73,7 @@ unfolding MoreVariables
 tuple_of_variables ts a b c d us x y last o v m w e' (n, f, r) =
     let e : y ≡ suc x = omega (arith, e') in
     subst (λ z. SpellsVariables x z ts us) (sym (counted x y last n e f))
-    (a, b, o, v, (c, d, m, subst (λ z. SpellsVariable z c d) e w, subst (λ z. SpellsMoreVariables (suc z) n d us) e r))
+    (a, o, (b, v, (c, m, (d, subst (λ z. SpellsVariable z c d) e w, subst (λ z. SpellsMoreVariables (suc z) n d us) e r))))
 
 pub vars_yields : (ts : List Token) → Yields (λ xs us. SpellsVariables xs.0 xs.1 ts us) (vars_of ts)
 unfolding vars_of all_variables
@@ -103,8 +103,8 @@ pub record OthersFound (n : ℕ) (separator close : TokenKind) (ts : List Token)
 
 others_found : (n : ℕ) (separator close : TokenKind) (cs : List CodeTree) (ts us : List Token) → Others (λ c ts us. Found n ts c us) separator close cs ts us → OthersFound n separator close ts cs us
 others_found n separator close [] ts us w = record { deep = omega arith; spelled = w }
-others_found n separator close (c ∷ cs) ts us (a, b, s, f, o) =
-    let h = others_found n separator close cs b us o in record { deep = omega (arith, f.deep, h.deep); spelled = (a, b, s, f.spelled, h.spelled) }
+others_found n separator close (c ∷ cs) ts us (a, s, (b, f, o)) =
+    let h = others_found n separator close cs b us o in record { deep = omega (arith, f.deep, h.deep); spelled = (a, s, (b, f.spelled, h.spelled)) }
 
 -- code { separator code } close
 pub record ListFound (n : ℕ) (separator close : TokenKind) (ts : List Token) (cs : List CodeTree) (us : List Token) : Type 0 where
@@ -136,7 +136,7 @@ list_spelled n separator close ts us cs l =
 set_found : (n : ℕ) (start ts us : List Token) (cs : List CodeTree) → Next (Sign (codes "{")) start ts → ListFound n (Sign (codes ",")) (Sign (codes "}")) ts cs us → Found (suc n) start (code_set_of (codes_of cs)) us
 set_found n start ts us cs o l =
     subst (λ z. Found (suc n) start (code_set_of (codes_of z)) us) (sym l.all)
-    (record { deep = omega (arith, l.first_found.deep, l.more.deep); spelled = (ts, l.mid, o, l.first_found.spelled, l.more.spelled) })
+    (record { deep = omega (arith, l.first_found.deep, l.more.deep); spelled = (ts, o, (l.mid, l.first_found.spelled, l.more.spelled)) })
 
 elements_yields : (part : Reader CodeTree) (n : ℕ) → Finds part n → (start ts : List Token) → Next (Sign (codes "{")) start ts → Yields (λ cs us. Found (suc n) start (code_set_of (codes_of cs)) us) (elements_of part ts)
 unfolding elements_of
@@ -147,9 +147,9 @@ elements_yields part n h start ts o =
 -- forms that begin with a word
 
 one_made : (n : ℕ) (u : Unary) (c : CodeTree) (start ts a b us : List Token) → Next (unary_kind u) start ts → Next (Sign (codes "(")) ts a → Found n a c b → Next (Sign (codes ")")) b us → Found (suc n) start (unary_tree u c) us
-one_made n Neg c start ts a b us w o f e = record { deep = omega (arith, f.deep); spelled = (ts, a, w, o, (b, f.spelled, e)) }
-one_made n Not c start ts a b us w o f e = record { deep = omega (arith, f.deep); spelled = (ts, a, w, o, (b, f.spelled, e)) }
-one_made n Card c start ts a b us w o f e = record { deep = omega (arith, f.deep); spelled = (ts, a, w, o, (b, f.spelled, e)) }
+one_made n Neg c start ts a b us w o f e = record { deep = omega (arith, f.deep); spelled = (ts, w, (a, o, (b, f.spelled, e))) }
+one_made n Not c start ts a b us w o f e = record { deep = omega (arith, f.deep); spelled = (ts, w, (a, o, (b, f.spelled, e))) }
+one_made n Card c start ts a b us w o f e = record { deep = omega (arith, f.deep); spelled = (ts, w, (a, o, (b, f.spelled, e))) }
 
 one_yields : (part : Reader CodeTree) (n : ℕ) → Finds part n → (start ts : List Token) (u : Unary) → Next (unary_kind u) start ts → Yields (λ c us. Found (suc n) start (unary_tree u c) us) (one_of part ts)
 unfolding one_of Finds
@@ -159,8 +159,8 @@ one_yields part n h start ts u w =
 
 divided_made : (n : ℕ) (d : Division) (c : CodeTree) (k : ℤ) (q : Place) (start ts a b e f us : List Token) → Next (division_kind d) start ts → Next (Sign (codes "(")) ts a → Found n a c b → Next (Sign (codes ",")) b e →
     FirstLiteral (pos 1) q k e f → Next (Sign (codes ")")) f us → Found (suc n) start (division_tree d c k) us
-divided_made n Div c k q start ts a b e f us w o g m l r = record { deep = omega (arith, g.deep); spelled = (ts, a, w, o, (b, e, g.spelled, m, (f, (q, l), r))) }
-divided_made n Mod c k q start ts a b e f us w o g m l r = record { deep = omega (arith, g.deep); spelled = (ts, a, w, o, (b, e, g.spelled, m, (f, (q, l), r))) }
+divided_made n Div c k q start ts a b e f us w o g m l r = record { deep = omega (arith, g.deep); spelled = (ts, w, (a, o, (b, g.spelled, (e, m, (f, (q, l), r))))) }
+divided_made n Mod c k q start ts a b e f us w o g m l r = record { deep = omega (arith, g.deep); spelled = (ts, w, (a, o, (b, g.spelled, (e, m, (f, (q, l), r))))) }
 
 divided_yields : (part : Reader CodeTree) (n : ℕ) → Finds part n → (start ts : List Token) (d : Division) → Next (division_kind d) start ts → Yields (λ x us. Found (suc n) start (division_tree d x.0 x.1) us) (divided_of part ts)
 unfolding divided_of Finds
@@ -170,8 +170,8 @@ divided_yields part n h start ts d w =
 
 listed_made : (n : ℕ) (x : Extreme) (cs : List CodeTree) (start ts a us : List Token) → Next (extreme_kind x) start ts → Next (Sign (codes "(")) ts a → ListFound n (Sign (codes ",")) (Sign (codes ")")) a cs us →
     Found (suc n) start (extreme_tree x cs) us
-listed_made n Min cs start ts a us w o l = let h = list_spelled n _ _ a us cs l in record { deep = omega (arith, h.0); spelled = (ts, a, w, o, h.1) }
-listed_made n Max cs start ts a us w o l = let h = list_spelled n _ _ a us cs l in record { deep = omega (arith, h.0); spelled = (ts, a, w, o, h.1) }
+listed_made n Min cs start ts a us w o l = let h = list_spelled n _ _ a us cs l in record { deep = omega (arith, h.0); spelled = (ts, w, (a, o, h.1)) }
+listed_made n Max cs start ts a us w o l = let h = list_spelled n _ _ a us cs l in record { deep = omega (arith, h.0); spelled = (ts, w, (a, o, h.1)) }
 
 listed_yields : (part : Reader CodeTree) (n : ℕ) → Finds part n → (start ts : List Token) (x : Extreme) → Next (extreme_kind x) start ts → Yields (λ cs us. Found (suc n) start (extreme_tree x cs) us) (listed_of part ts)
 unfolding listed_of
@@ -185,7 +185,7 @@ slice_yields part n h start ts w =
     bind_yields _ _ i (h i) (λ j l t. bind_yields _ _ l (must_yields _ l) (λ u us v.
     pure_yields _ us (record {
       deep = omega (arith, f.deep, k.deep, t.deep);
-      spelled = (ts, a, w, took_next _ ts a p o, (b, d, f.spelled, took_next _ b d q m, (g, i, k.spelled, took_next _ g i r s, (l, t.spelled, took_next _ l us u v))));
+      spelled = (ts, w, (a, took_next _ ts a p o, (b, f.spelled, (d, took_next _ b d q m, (g, k.spelled, (i, took_next _ g i r s, (l, t.spelled, took_next _ l us u v)))))));
     }))))))))
 
 fresh_yields : (part : Reader CodeTree) (n : ℕ) → Finds part n → (start ts : List Token) → Next (Word (codes "fresh")) start ts → Yields (λ c us. Found (suc n) start c us) (fresh_of part ts)
@@ -194,7 +194,7 @@ fresh_yields part n h start ts w =
     bind_yields _ _ ts (must_yields _ ts) (λ p a o. bind_yields _ _ a (h a) (λ c b f. bind_yields _ _ b (must_yields _ b) (λ q d m. bind_yields _ _ d (h d) (λ e g k. bind_yields _ _ g (must_yields _ g) (λ r us s.
     pure_yields _ us (record {
       deep = omega (arith, f.deep, k.deep);
-      spelled = (ts, a, w, took_next _ ts a p o, (b, d, f.spelled, took_next _ b d q m, (g, k.spelled, took_next _ g us r s)));
+      spelled = (ts, w, (a, took_next _ ts a p o, (b, f.spelled, (d, took_next _ b d q m, (g, k.spelled, took_next _ g us r s)))));
     }))))))
 
 forms_yields : (part : Reader CodeTree) (n : ℕ) → Finds part n → (ts : List Token) → Yields (Found (suc n) ts) (forms_of part ts)
@@ -224,7 +224,7 @@ if_yields part n h ts b w =
     pure_yields _ us (λ start v. (
       record {
         deep = omega (arith, f.deep, k.deep, r.deep);
-        spelled = (ts, b, d, e, g, i, l, v, w, f.spelled, took_next _ d e p o, k.spelled, took_next _ g i q m, r.spelled, took_next _ l us s u);
+        spelled = (ts, v, (b, w, (d, f.spelled, (e, took_next _ d e p o, (g, k.spelled, (i, took_next _ g i q m, (l, r.spelled, took_next _ l us s u)))))));
       },
       tt,
     ))))))))
@@ -236,7 +236,7 @@ let_yields part n h ts b w =
     pure_yields _ us (λ start v. (
       record {
         deep = omega (arith, k.deep, r.deep);
-        spelled = (ts, b, d, e, g, i, l, v, w, f, took_next _ d e p o, k.spelled, took_next _ g i q m, r.spelled, took_next _ l us s u);
+        spelled = (ts, v, (b, w, (d, f, (e, took_next _ d e p o, (g, k.spelled, (i, took_next _ g i q m, (l, r.spelled, took_next _ l us s u)))))));
       },
       tt,
     ))))))))
@@ -248,7 +248,7 @@ two_yields : (part : Reader CodeTree) (n : ℕ) → Finds part n → (c : CodeTr
     Yields (λ d ws. InsideFound n n ts (single d) ws) (bind part (λ d. bind (must (is (Sign (codes ")")))) (λ p. pure (two_tree two c d))) vs)
 unfolding Finds InsideFound
 two_yields part n h c two ts us vs k l s o made =
-    bind_yields _ _ vs (h vs) (λ d ws f. bind_yields _ _ ws (must_yields _ ws) (λ p xs q. pure_yields _ xs (λ start v. made start d xs f.deep (ts, us, vs, ws, v, s, o, f.spelled, took_next _ ws xs p q))))
+    bind_yields _ _ vs (h vs) (λ d ws f. bind_yields _ _ ws (must_yields _ ws) (λ p xs q. pure_yields _ xs (λ start v. made start d xs f.deep (ts, v, (us, s, (vs, o, (ws, f.spelled, took_next _ ws xs p q)))))))
 
 -- parts behind the first one and a separator
 record MoreFound (n : ℕ) (separator close : TokenKind) (c : CodeTree) (ts : List Token) (cs : List CodeTree) (us : List Token) : Type 0 where
@@ -262,7 +262,7 @@ more_found n separator close c ts us vs ws cs [] e l s o w = absurd w
 more_found n separator close c ts us vs ws cs (d ∷ new) e l s o (a, f, w) =
     let h = others_found n separator close new a ws w in
     subst (λ z. MoreFound n separator close c ts z ws) (sym e)
-    (record { deep = omega (arith, l, f.deep, h.deep); long = omega arith; spelled = (us, s, (vs, a, o, f.spelled, h.spelled)) })
+    (record { deep = omega (arith, l, f.deep, h.deep); long = omega arith; spelled = (us, s, (vs, o, (a, f.spelled, h.spelled))) })
 
 more_yields : (part : Reader CodeTree) (n : ℕ) → Finds part n → (separator close : TokenKind) (c : CodeTree) (ts us vs : List Token) → code_depth c ≤ n → SpellsCode c ts us → Next separator us vs →
     Yields (MoreFound n separator close c ts) (several_of snoc part separator close (c ∷ []) vs)
@@ -304,7 +304,7 @@ below k (negsuc n) l e h = l.le
 
 divisor_found : (k : ℤ) (ts us : List Token) → pos 1 ≤ℤ k → SpellsNumber k ts us → SpellsDivisor k ts us
 divisor_found k ts us h (inl (p, w)) = (p, (w.0, h))
-divisor_found k ts us h (inr (a, p, n, m, w, e)) = absurd (below k n w.1 e h)
+divisor_found k ts us h (inr (n, (a, m, (p, w)), e)) = absurd (below k n w.1 e h)
 
 divides_yields : (part : Reader CodeTree) (m n : ℕ) → Finds part n → (c : CodeTree) (k : ℤ) (ts us vs : List Token) → SpellsCode c ts us → DividesFound n c us k vs →
     Yields (InsideFound m n ts) (bind part (λ d. bind (must (is (Sign (codes ")")))) (λ p. pure (single (code_divides k d)))) vs)
@@ -313,7 +313,7 @@ divides_yields part m n h c k ts us vs s d =
     bind_yields _ _ vs (h vs) (λ e ws f. bind_yields _ _ ws (must_yields _ ws) (λ p xs q. pure_yields _ xs (λ start v. (
       record {
         deep = omega (arith, f.deep);
-        spelled = (ts, us, vs, ws, v, divisor_found k ts us d.least (subst (λ z. SpellsCode z ts us) d.alone s), d.stands, f.spelled, took_next _ ws xs p q);
+        spelled = (ts, v, (us, divisor_found k ts us d.least (subst (λ z. SpellsCode z ts us) d.alone s), (vs, d.stands, (ws, f.spelled, took_next _ ws xs p q))));
       },
       tt,
     ))))
@@ -363,8 +363,8 @@ ItemFound n s a i us = (start : List Token) → Next (step_kind s) start a → (
 
 item_made : (n : ℕ) (s : Step) (c : CodeTree) (a b us : List Token) → Found n a c b → Next (Sign (codes ";")) b us → ItemFound n s a (step_tree s c) us
 unfolding ItemFound
-item_made n Let c a b us f e = λ start w. (f.deep, (a, b, w, f.spelled, e))
-item_made n Need c a b us f e = λ start w. (f.deep, (a, b, w, f.spelled, e))
+item_made n Let c a b us f e = λ start w. (f.deep, (a, w, (b, f.spelled, e)))
+item_made n Need c a b us f e = λ start w. (f.deep, (a, w, (b, f.spelled, e)))
 
 item_yields : (part : Reader CodeTree) (n : ℕ) → Finds part n → (s : Step) (a : List Token) → Yields (ItemFound n s a) (item_of part s a)
 unfolding item_of Finds
@@ -399,7 +399,7 @@ several_given : (n : ℕ) (start ts us : List Token) (cs : List CodeTree) → Ne
     SpellsCodes (codes_of cs) (Sign (codes ",")) (Sign (codes ")")) ts us → GivesFound n start cs us
 several_given n start ts us [] o d l w = absurd w
 several_given n start ts us (c ∷ []) o d l w = absurd (omega (arith, l))
-several_given n start ts us (c ∷ e ∷ cs) o d l (a, s, w) = (d, (ts, a, o, s, w))
+several_given n start ts us (c ∷ e ∷ cs) o d l (a, s, w) = (d, (ts, o, (a, s, w)))
 
 given_found : (n m : ℕ) (start ts us : List Token) (x : InsideTree) → suc m ≡ n → Next (Sign (codes "(")) start ts → InsideFound n m ts x us → GivesFound n start (all_given x) us
 unfolding InsideFound
@@ -478,12 +478,12 @@ unfolding arm_from all_steps ArmFound
 arm_yields part less n m e g h ts =
     bind_yields _ _ ts (must_yields _ ts) (λ p b o. bind_yields _ _ b (bounds_yields b) (λ bounds c bs. bind_yields _ _ c (must_yields _ c) (λ q d i. bind_yields _ _ d (all_yields part n g d) (λ steps f is.
     bind_yields _ _ f (gives_yields part less n m e g h f) (λ gives j gs. bind_yields _ _ j (must_yields _ j) (λ r us l.
-    pure_yields _ us (λ start w. (omega (arith, is.0, gs.0), (ts, b, c, d, f, j, w, took_next _ ts b p o, bs, took_next _ c d q i, is.1, gs.1, took_next _ j us r l)))))))))
+    pure_yields _ us (λ start w. (omega (arith, is.0, gs.0), (ts, w, (b, took_next _ ts b p o, (c, bs, (d, took_next _ c d q i, (f, is.1, (j, gs.1, took_next _ j us r l))))))))))))))
 
 arms_found : (n : ℕ) (arms : List ArmTree) (ts us : List Token) → Others (λ arm ts us. ArmFound n arm ts us) (Word (codes "arm")) (Sign (codes "}")) arms ts us → (arms_depth (arms_of arms) ≤ n) × SpellsArms (arms_of arms) ts us
 unfolding ArmFound
 arms_found n [] ts us w = (omega arith, w)
-arms_found n (arm ∷ arms) ts us (a, b, s, f, o) = let g = f ts s in let h = arms_found n arms b us o in (omega (arith, g.0, h.0), (b, g.1, h.1))
+arms_found n (arm ∷ arms) ts us (a, s, (b, f, o)) = let g = f ts s in let h = arms_found n arms b us o in (omega (arith, g.0, h.0), (b, g.1, h.1))
 
 all_arms_yields : (part less : Reader CodeTree) (n : ℕ) → Finds part n → Finds less (n - 1) → (ts : List Token) → Yields (λ arms us. (arms_depth (arms_of arms) ≤ n) × SpellsArms (arms_of arms) ts us) (all_arms part less n ts)
 unfolding all_arms
@@ -497,7 +497,7 @@ solve_yields : (part less : Reader CodeTree) (n : ℕ) → Finds part n → Find
 unfolding solve_of
 solve_yields part less n g h start ts w =
     bind_yields _ _ ts (must_yields _ ts) (λ number a k. bind_yields _ _ a (must_yields _ a) (λ p b o. bind_yields _ _ b (all_arms_yields part less n g h b) (λ arms us s.
-    pure_yields _ us (record { deep = omega (arith, s.0); spelled = (ts, a, b, w, took_numeral ts a number k, took_next _ a b p o, s.1) }))))
+    pure_yields _ us (record { deep = omega (arith, s.0); spelled = (ts, w, (a, took_numeral ts a number k, (b, took_next _ a b p o, s.1))) }))))
 
 unless_zero_yields : {A : Type 0} {P : A → List Token → Type 0} (n : ℕ) (r : Reader A) (ts : List Token) → Yields P (r ts) → Yields P (unless_zero n r ts)
 unfolding unless_zero
@@ -519,7 +519,7 @@ unfolding step negative_of
 step_yields part less n g h ts =
     first_yields _ _ _ ts (λ k a w. pure_yields _ a (record { deep = omega arith; spelled = inl (k.0, took_literal (pos 0) ts a k w) }))
     (first_yields _ _ _ ts (λ p a w. bind_yields _ _ a (must_yields _ a) (λ k us l.
-    pure_yields _ us (record { deep = omega arith; spelled = inr (a, k.0, k.1, took_next _ ts a p w, took_literal (pos 1) a us k l, refl) })))
+    pure_yields _ us (record { deep = omega arith; spelled = inr (k.1, (a, took_next _ ts a p w, (k.0, took_literal (pos 1) a us k l)), refl) })))
     (first_yields _ _ _ ts (λ t a w. pure_yields _ a (record { deep = omega arith; spelled = (t.0, took_truth ts a t w) }))
     (first_yields _ _ _ ts (λ x a w. pure_yields _ a (record { deep = omega arith; spelled = took_variable ts a x w }))
     (first_yields _ _ _ ts (λ p a w. bind_yields _ _ a (elements_yields part n g ts a (took_next _ ts a p w)) (λ cs us f. pure_yields _ us f))

@@ -113,23 +113,23 @@ digit_step n d k l g =
 first_digit : (d k : ℕ) → Digit 0 d k → decimal k ≡ d ∷ []
 first_digit d k g = let f : 48 + k ≡ d = omega (arith, g.low, g.value) in decimal_digit k (omega (arith, g.high, g.value)) ∙ ap (λ z. z ∷ []) f
 
-abbrev Tells : List ℕ → List ℕ → ℕ → Type 0
-Tells front ds x = (decimal x ≡ front ++ ds) × (x < 2 ^ 32)
+abbrev LevelAnswer : List ℕ → List ℕ → ℕ → Type 0
+LevelAnswer front ds x = (decimal x ≡ front ++ ds) × (x < 2 ^ 32)
 
 after_found_on : (ds : List ℕ) (n d x : ℕ) (o : Option ℕ) → with_digit n d ≡ o → 1 ≤ n →
-    ((j : ℕ) → 1 ≤ j → j < 2 ^ 32 → level_after j ds ≡ Some x → Tells (decimal j) ds x) →
-    elim o [ None ↦ None | Some j ↦ level_after j ds ] ≡ Some x → Tells (decimal n) (d ∷ ds) x
+    ((j : ℕ) → 1 ≤ j → j < 2 ^ 32 → level_after j ds ≡ Some x → LevelAnswer (decimal j) ds x) →
+    elim o [ None ↦ None | Some j ↦ level_after j ds ] ≡ Some x → LevelAnswer (decimal n) (d ∷ ds) x
 after_found_on ds n d x None w l f e = cc
 after_found_on ds n d x (Some j) w l f e =
     let g = digit_found n d j w in
     let r = f j (omega (arith, l, g.value)) g.small e in
     (r.0 ∙ ap (λ z. z ++ ds) (digit_step n d j l g) ∙ append_assoc (decimal n) (d ∷ []) ds, r.1)
 
-after_found : (ds : List ℕ) (n x : ℕ) → 1 ≤ n → n < 2 ^ 32 → level_after n ds ≡ Some x → Tells (decimal n) ds x
+after_found : (ds : List ℕ) (n x : ℕ) → 1 ≤ n → n < 2 ^ 32 → level_after n ds ≡ Some x → LevelAnswer (decimal n) ds x
 after_found [] n x l h e = let s : n ≡ x = some_same n x e in (ap decimal (sym s) ∙ sym (append-nil (decimal n)), omega (arith, h, s))
 after_found (d ∷ ds) n x l h e = after_found_on ds n d x (with_digit n d) refl l (λ j. after_found ds j x) e
 
-one_found : (d x : ℕ) (o : Option ℕ) → with_digit 0 d ≡ o → elim o [ None ↦ None | Some j ↦ Some j ] ≡ Some x → Tells [] (d ∷ []) x
+one_found : (d x : ℕ) (o : Option ℕ) → with_digit 0 d ≡ o → elim o [ None ↦ None | Some j ↦ Some j ] ≡ Some x → LevelAnswer [] (d ∷ []) x
 one_found d x None w e = cc
 one_found d x (Some j) w e =
     let s : j ≡ x = some_same j x e in let g = digit_found 0 d j w in (ap decimal (sym s) ∙ first_digit d j g, omega (arith, g.small, s))
@@ -141,14 +141,14 @@ not_zero : (d j : ℕ) → nat_eq d 48 ≡ false → Digit 0 d j → 1 ≤ j
 not_zero d zero f g = absurd (let s : d ≡ 48 = omega (arith, g.low, g.value) in clash (nat_eq d 48) (eq-eqb d 48 s) f)
 not_zero d (suc j) f g = omega arith
 
-many_found : (ds : List ℕ) (d x : ℕ) (o : Option ℕ) → with_digit 0 d ≡ o → nat_eq d 48 ≡ false → elim o [ None ↦ None | Some j ↦ level_after j ds ] ≡ Some x → Tells [] (d ∷ ds) x
+many_found : (ds : List ℕ) (d x : ℕ) (o : Option ℕ) → with_digit 0 d ≡ o → nat_eq d 48 ≡ false → elim o [ None ↦ None | Some j ↦ level_after j ds ] ≡ Some x → LevelAnswer [] (d ∷ ds) x
 many_found ds d x None w f e = cc
 many_found ds d x (Some j) w f e =
     let g = digit_found 0 d j w in
     let r = after_found ds j x (not_zero d j f g) g.small e in
     (r.0 ∙ ap (λ z. z ++ ds) (first_digit d j g), r.1)
 
-in_found : (ds : List ℕ) (x : ℕ) → level_in ds ≡ Some x → Tells [] ds x
+in_found : (ds : List ℕ) (x : ℕ) → level_in ds ≡ Some x → LevelAnswer [] ds x
 in_found [] x e = cc
 in_found (d ∷ []) x e = let h = guarded (nat_eq d 48) (nat_le 1 0) (level_after 0 (d ∷ [])) x e in one_found d x (with_digit 0 d) refl h.0
 in_found (d ∷ b ∷ ds) x e =

@@ -7,16 +7,16 @@ use Rattle.cf_tree.specs.declared.base.Base.{Base}
 use Rattle.cf_tree.specs.declared.base.Base.TheVariants.{Int, Bool as Truth, Set}
 use Rattle.cf_tree.specs.declared.base.Place.{Place}
 use Rattle.cf_tree.specs.CodeTree.{code_depth}
-use Rattle.cf_reader.specs.Tokens.{Next, OneOrTuple}
+use Rattle.cf_reader.specs.Tokens.{Next}
 use Rattle.cf_reader.specs.Readers.{Got, is, at, must, at_end, refuse, snoc}
 use Rattle.cf_reader.specs.Kinds.{SpellsBase, base_kind, a_base}
-use Rattle.cf_reader.specs.Faults.{IsFaultPlace, place_of}
+use Rattle.cf_reader.specs.Faults.{IsFaultPlace, IsFaultPlaceOf, place_with_left}
 use Rattle.cf_reader.proofs.Near.{Local, pure_local, refuse_local, bind_local, first_local, must_local, several_local, at_end_local}
 use Rattle.cf_reader.proofs.Yields.{all_added}
 use Rattle.cf_reader.proofs.Exact.{bind_is, pure_is, must_is, first_is, first_not, at_is, at_not, next_is, several_are}
 use Rattle.cf_reader.proofs.KindLaws.{base_items, results_are, results_local}
-use Rattle.cf_reader.proofs.Faults.{same_value, ReadsAll, fault_law as read_fault}
-use Rattle.cf_target.specs.Spelling.{TargetTree, SpellsBases, SpellsHeader, SpellsCode, SpellsTarget, IsTarget}
+use Rattle.cf_reader.proofs.Faults.{same_value, ReadsAll, fault_law as read_fault, exact_law as read_exact}
+use Rattle.cf_target.specs.Spelling.{TargetTree, SpellsBases, SpellsMain, SpellsTarget, IsTarget}
 use Rattle.cf_target.specs.Reading.{read}
 use Rattle.cf_target.specs.Targets.{SomeTarget, bases_of, a_two, body_of, target_of}
 use Rattle.cf_target.proofs.LocalReading.{read_local}
@@ -38,19 +38,18 @@ two_is : (ts us : List Token) (w : Next (Literal (pos 2)) ts us) → at a_two ts
 unfolding at
 two_is ts us w = ap (at a_two) w.1
 
-body_is : (limit : ℕ) (t : TargetTree) (a b c d e f g : List Token) → Next (Word (codes "main")) a b → Next (Sign (codes "(")) b c → SpellsBases t.params c d → Next (Sign (codes ":")) d e →
-    OneOrTuple SpellsBase t.results e f → Next (Sign (codes "=")) f g → SpellsCode t.code g [] → code_depth t.code ≤ limit → body_of limit a ≡ Ok (t, [])
+body_is : (limit : ℕ) (t : TargetTree) (ts : List Token) → SpellsMain t ts [] → code_depth t.code ≤ limit → body_of limit ts ≡ Ok (t, [])
 unfolding body_of at_end
-body_is limit t a b c d e f g m o bs s rs q w l =
-    bind_is _ _ a (next_is _ a b refl m) (bind_is _ _ b (next_is _ b c refl o) (bind_is _ _ c (bases_are t.params c d bs) (bind_is _ _ d (next_is _ d e refl s)
+body_is limit t ts (b, m, (c, o, (d, bs, (e, s, (f, rs, (g, q, w)))))) l =
+    bind_is _ _ ts (next_is _ ts b refl m) (bind_is _ _ b (next_is _ b c refl o) (bind_is _ _ c (bases_are t.params c d bs) (bind_is _ _ d (next_is _ d e refl s)
     (bind_is _ _ e (results_are t.results e f rs) (bind_is _ _ f (next_is _ f g refl q) (bind_is _ _ g (read_reads limit t.code g [] l w) refl))))))
 
 target_is : (limit : ℕ) (t : TargetTree) (ts : List Token) → SpellsTarget limit t ts → target_of limit ts ≡ Ok (t, [])
 unfolding target_of
-target_is limit t ts (a, b, c, d, e, f, g, inl h, m, o, bs, s, rs, q, w, l) =
-    first_not _ _ _ ts (at_not _ (Word (codes "main")) ts b m.0 refl (h ∙ m.1)) (ap (body_of limit) h ∙ body_is limit t a b c d e f g m o bs s rs q w l)
-target_is limit t ts (a, b, c, d, e, f, g, inr (x, n, two), m, o, bs, s, rs, q, w, l) =
-    first_is _ _ _ ts (at_is _ ts x n.0 refl n.1) (bind_is _ _ x (must_is a_two x a two.0 (two_is x a two)) (body_is limit t a b c d e f g m o bs s rs q w l))
+target_is limit t ts ((a, inl h, w), l) =
+    first_not _ _ _ ts (at_not _ (Word (codes "main")) ts w.0 w.1.0 refl (h ∙ w.1.1)) (ap (body_of limit) h ∙ body_is limit t a w l)
+target_is limit t ts ((a, inr (x, n, two), w), l) =
+    first_is _ _ _ ts (at_is _ ts x n.0 refl n.1) (bind_is _ _ x (must_is a_two x a two.0 (two_is x a two)) (body_is limit t a w l))
 
 pub only_law : (ts : List Token) (t : TargetTree) → IsTarget t ts → target_of 500 ts ≡ Ok (t, [])
 only_law ts t w = target_is 500 t ts w
@@ -86,5 +85,8 @@ target_local limit = first_local _ (λ p. bind_local (must_local _) (λ q. body_
 all_read : ReadsAll SomeTarget (target_of 500)
 all_read ts (t, w) = (t, [], only_law ts t w)
 
-pub fault_law : (ts : List Token) (end : Place) (e : ℕ) → target_of 500 ts ≡ Err e → IsFaultPlace SomeTarget ts end (place_of ts end e)
+pub fault_law : (ts : List Token) (end : Place) (e : ℕ) → target_of 500 ts ≡ Err e → IsFaultPlace SomeTarget ts end (place_with_left ts end e)
 fault_law ts end e p = read_fault SomeTarget (target_of 500) (λ more other. target_local 500) all_read ts end e p
+
+pub exact_law : (ts : List Token) (end : Place) (e : ℕ) → target_of 500 ts ≡ Err e → IsFaultPlaceOf (target_of 500) ts end (place_with_left ts end e)
+exact_law ts end e p = read_exact (target_of 500) ts end e p

@@ -7,7 +7,7 @@ use Rattle.cf_lex.specs.declared.token.TokenKind.TheVariants.{Literal, Word, Sig
 use Rattle.cf_tree.specs.declared.base.Place.{Place}
 use Rattle.cf_tree.specs.CodeTree.{CodeTree, code_lit, code_truth, code_var, code_set_of, code_tuple, code_sum, code_sub, code_mul, code_neg, code_div, code_mod, code_min, code_max, code_compare, code_divides, code_and, code_or, code_not, code_union, code_inter, code_diff, code_subset, code_card, code_slice, code_fresh, code_if, code_let, code_solve, CodeTrees, no_codes, code_more, ItemTree, let_item, need_item, ItemTrees, no_items, item_more, ArmTree, arm_of, ArmTrees, no_arms, arm_more, codes_of, items_of, arms_of, count, code_depth, codes_depth, item_depth, items_depth, arm_depth, arms_depth}
 use Rattle.cf_tree.specs.Spelled.{IsNoTuple}
-use Rattle.cf_reader.specs.Tokens.{First, Next, FirstLiteral, Others}
+use Rattle.cf_reader.specs.Tokens.{◌⨟◌, First, Next, FirstLiteral, Others}
 use Rattle.cf_reader.specs.Readers.{Got, Reader, same_kind, before, is, a_literal, at, pure, refuse, must, bind, first, others_of, snoc}
 use Rattle.cf_reader.specs.Kinds.{truth_kind, a_truth}
 use Rattle.cf_reader.proofs.Exact.{bind_is, pure_is, must_is, first_is, first_not, deep_is, at_is, at_not, next_is, literal_is, first_longer, Items, others_are, left_over}
@@ -29,36 +29,36 @@ use Rattle.cf_target.proofs.OnlyCodes.{variable_is, numeral_is, bounds_are, Begi
 -- a code that is no tuple stands in parentheses, or does not begin with one
 opened_or_not : (c : CodeTree) (ts us : List Token) → IsNoTuple c → SpellsCode c ts us → IsBracketed c ⊎ (at (is (Sign (codes "("))) ts ≡ None)
 opened_or_not (code_lit k) ts us i (inl (p, w)) = inr (at_not _ (Literal k) ts us p refl w.0)
-opened_or_not (code_lit k) ts us i (inr (a, p, n, m, w, e)) = inr (at_not _ (Sign (codes "-")) ts a m.0 refl m.1)
+opened_or_not (code_lit k) ts us i (inr (n, (a, m, w), e)) = inr (at_not _ (Sign (codes "-")) ts a m.0 refl m.1)
 opened_or_not (code_truth true) ts us i w = inr (at_not _ (truth_kind true) ts us w.0 refl w.1)
 opened_or_not (code_truth false) ts us i w = inr (at_not _ (truth_kind false) ts us w.0 refl w.1)
 opened_or_not (code_var x) ts us i w = inr (at_not _ (Word (level_name x)) ts us w.1.0 refl w.1.1)
 opened_or_not (code_set_of no_codes) ts us i w = inr (at_not _ (Sign (codes "{")) ts w.0 w.1.0 refl w.1.1)
-opened_or_not (code_set_of (code_more c cs)) ts us i w = inr (at_not _ (Sign (codes "{")) ts w.0 w.2.0 refl w.2.1)
+opened_or_not (code_set_of (code_more c cs)) ts us i w = inr (at_not _ (Sign (codes "{")) ts w.0 w.1.0 refl w.1.1)
 opened_or_not (code_tuple cs) ts us i w = absurd i
 opened_or_not (code_sum cs) ts us i w = inl tt
 opened_or_not (code_sub c d) ts us i w = inl tt
 opened_or_not (code_mul c d) ts us i w = inl tt
-opened_or_not (code_neg c) ts us i w = inr (at_not _ (Word (codes "neg")) ts w.0 w.2.0 refl w.2.1)
-opened_or_not (code_div c k) ts us i w = inr (at_not _ (Word (codes "div")) ts w.0 w.2.0 refl w.2.1)
-opened_or_not (code_mod c k) ts us i w = inr (at_not _ (Word (codes "mod")) ts w.0 w.2.0 refl w.2.1)
-opened_or_not (code_min cs) ts us i w = inr (at_not _ (Word (codes "min")) ts w.0 w.2.0 refl w.2.1)
-opened_or_not (code_max cs) ts us i w = inr (at_not _ (Word (codes "max")) ts w.0 w.2.0 refl w.2.1)
+opened_or_not (code_neg c) ts us i w = inr (at_not _ (Word (codes "neg")) ts w.0 w.1.0 refl w.1.1)
+opened_or_not (code_div c k) ts us i w = inr (at_not _ (Word (codes "div")) ts w.0 w.1.0 refl w.1.1)
+opened_or_not (code_mod c k) ts us i w = inr (at_not _ (Word (codes "mod")) ts w.0 w.1.0 refl w.1.1)
+opened_or_not (code_min cs) ts us i w = inr (at_not _ (Word (codes "min")) ts w.0 w.1.0 refl w.1.1)
+opened_or_not (code_max cs) ts us i w = inr (at_not _ (Word (codes "max")) ts w.0 w.1.0 refl w.1.1)
 opened_or_not (code_compare o c d) ts us i w = inl tt
 opened_or_not (code_divides k c) ts us i w = inl tt
 opened_or_not (code_and c d) ts us i w = inl tt
 opened_or_not (code_or c d) ts us i w = inl tt
-opened_or_not (code_not c) ts us i w = inr (at_not _ (Word (codes "not")) ts w.0 w.2.0 refl w.2.1)
+opened_or_not (code_not c) ts us i w = inr (at_not _ (Word (codes "not")) ts w.0 w.1.0 refl w.1.1)
 opened_or_not (code_union cs) ts us i w = inl tt
 opened_or_not (code_inter cs) ts us i w = inl tt
 opened_or_not (code_diff c d) ts us i w = inl tt
 opened_or_not (code_subset c d) ts us i w = inl tt
-opened_or_not (code_card c) ts us i w = inr (at_not _ (Word (codes "card")) ts w.0 w.2.0 refl w.2.1)
-opened_or_not (code_slice c d e) ts us i w = inr (at_not _ (Word (codes "slice")) ts w.0 w.2.0 refl w.2.1)
-opened_or_not (code_fresh c d) ts us i w = inr (at_not _ (Word (codes "fresh")) ts w.0 w.2.0 refl w.2.1)
+opened_or_not (code_card c) ts us i w = inr (at_not _ (Word (codes "card")) ts w.0 w.1.0 refl w.1.1)
+opened_or_not (code_slice c d e) ts us i w = inr (at_not _ (Word (codes "slice")) ts w.0 w.1.0 refl w.1.1)
+opened_or_not (code_fresh c d) ts us i w = inr (at_not _ (Word (codes "fresh")) ts w.0 w.1.0 refl w.1.1)
 opened_or_not (code_if t c d) ts us i w = inl tt
 opened_or_not (code_let x n c d) ts us i w = inl tt
-opened_or_not (code_solve n arms) ts us i w = inr (at_not _ (Word (codes "solve")) ts w.0 w.3.0 refl w.3.1)
+opened_or_not (code_solve n arms) ts us i w = inr (at_not _ (Word (codes "solve")) ts w.0 w.1.0 refl w.1.1)
 
 -- the readers of the parts of a form whose parts may have depth n
 pub record Budget (n : ℕ) (part less : Reader CodeTree) : Type 0 where
@@ -80,7 +80,7 @@ gives_are : (n : ℕ) (part less : Reader CodeTree) → Budget n part less → (
 unfolding gives_of
 gives_are n part less h no_codes ts us d w = absurd w
 gives_are n part less h (code_more c no_codes) ts us d (i, w) = one_given n part less h c ts us (omega (arith, d)) w (opened_or_not c ts us i w)
-gives_are n part less h (code_more c (code_more e cs)) ts us d (a, b, o, w, r) =
+gives_are n part less h (code_more c (code_more e cs)) ts us d (a, o, (b, w, r)) =
     first_is _ _ _ ts (at_is _ ts a o.0 refl o.1)
     (bind_is _ _ a (tuple_is part less n (n - 1) (budget_heads n part less h) (code_more c (code_more e cs)) a us (omega arith) d (b, w, r)) (pure_is _ _ us refl))
 
@@ -103,15 +103,15 @@ code_then n part h k c ts a b us d w s e =
     record { shorter = omega (arith, first_longer k ts a w.0 w.1, first_longer _ b us e.0 e.1, left_over (length a) (part a) c b (h.reads c a b d s) (h.within a)) }
 
 item_shorter : (n : ℕ) (part : Reader CodeTree) → ReadsTo n part → (i : ItemTree) (ts us : List Token) → item_depth i ≤ n → SpellsItem i ts us → Shorter ts us
-item_shorter n part h (let_item c) ts us d (a, b, w, s, e) = code_then n part h _ c ts a b us d w s e
-item_shorter n part h (need_item c) ts us d (a, b, w, s, e) = code_then n part h _ c ts a b us d w s e
+item_shorter n part h (let_item c) ts us d (a, w, (b, s, e)) = code_then n part h _ c ts a b us d w s e
+item_shorter n part h (need_item c) ts us d (a, w, (b, s, e)) = code_then n part h _ c ts a b us d w s e
 
 step_goes : (n : ℕ) (part : Reader CodeTree) → ReadsTo n part → (k : ℕ) (done : List ItemTree) (i : ItemTree) (ts us : List Token) {y : Got (List ItemTree)} → item_depth i ≤ n → SpellsItem i ts us →
     steps_of part k (snoc done i) us ≡ y → steps_of part (suc k) done ts ≡ y
 unfolding steps_of item_of at
-step_goes n part h k done (let_item c) ts us d (a, b, w, s, e) x =
+step_goes n part h k done (let_item c) ts us d (a, w, (b, s, e)) x =
     first_is _ _ _ ts (ap (at a_step) w.1) (bind_is _ _ a (bind_is _ _ a (h.reads c a b d s) (bind_is _ _ b (next_is _ b us refl e) (pure_is _ _ us refl))) x)
-step_goes n part h k done (need_item c) ts us d (a, b, w, s, e) x =
+step_goes n part h k done (need_item c) ts us d (a, w, (b, s, e)) x =
     first_is _ _ _ ts (ap (at a_step) w.1) (bind_is _ _ a (bind_is _ _ a (h.reads c a b d s) (bind_is _ _ b (next_is _ b us refl e) (pure_is _ _ us refl))) x)
 
 steps_end : (part : Reader CodeTree) (k : ℕ) (done : List ItemTree) (ts us : List Token) → Next (Word (codes "give")) ts us → steps_of part (suc k) done ts ≡ Ok (done, us)
@@ -137,11 +137,11 @@ all_steps_are n part h is ts us d w = steps_are n part h (length ts) is [] ts us
 abbrev IsArm : ℕ → ArmTree → List Token → List Token → Type 0
 IsArm n (arm_of bounds is gs) ts us =
     (arm_depth (arm_of bounds is gs) ≤ n)
-    × ((a b c d e : List Token) × Next (Sign (codes "[")) ts a × SpellsBounds bounds a b × Next (Sign (codes "{")) b c × SpellsItems is c d × SpellsGives gs d e × Next (Sign (codes "}")) e us)
+    × (Next (Sign (codes "[")) ⨟ SpellsBounds bounds ⨟ Next (Sign (codes "{")) ⨟ SpellsItems is ⨟ SpellsGives gs ⨟ Next (Sign (codes "}"))) ts us
 
 arm_is : (n : ℕ) (part less : Reader CodeTree) → Budget n part less → (arm : ArmTree) (ts us : List Token) → IsArm n arm ts us → arm_from part less n ts ≡ Ok (arm, us)
 unfolding arm_from
-arm_is n part less h (arm_of bounds is gs) ts us (l, (a, b, c, d, e, o, w, x, y, z, r)) =
+arm_is n part less h (arm_of bounds is gs) ts us (l, (a, o, (b, w, (c, x, (d, y, (e, z, r)))))) =
     bind_is _ _ ts (next_is _ ts a refl o) (bind_is _ _ a (bounds_are bounds a b w) (bind_is _ _ b (next_is _ b c refl x) (bind_is _ _ c (all_steps_are n part h.parts is c d (omega (arith, l)) y)
     (bind_is _ _ d (gives_are n part less h gs d e (omega (arith, l)) z) (bind_is _ _ e (next_is _ e us refl r)
     (pure_is _ _ us (ap (λ v. arm_of bounds v (codes_of (listed gs))) (steps_again is) ∙ ap (λ v. arm_of bounds is v) (listed_again gs))))))))
@@ -159,8 +159,8 @@ arm_items n part less h v = record { reads = λ arm ts us w e. arm_is n part les
 
 as_arms : (n : ℕ) (arms : ArmTrees) (ts us : List Token) → arms_depth arms ≤ n → SpellsArms arms ts us → Others (IsArm n) (Word (codes "arm")) (Sign (codes "}")) (arms_in arms) ts us
 as_arms n no_arms ts us d w = w
-as_arms n (arm_more (arm_of bounds is gs) arms) ts us d (a, (b, c, e, f, g, i, o, w, x, y, z, v, r), q) =
-    (b, a, o, (omega (arith, d), (c, e, f, g, i, w, x, y, z, v, r)), as_arms n arms a us (omega (arith, d)) q)
+as_arms n (arm_more (arm_of bounds is gs) arms) ts us d (a, (b, o, (c, w, (e, x, (f, y, (g, z, (i, v, r)))))), q) =
+    (b, o, (a, (omega (arith, d), (c, w, (e, x, (f, y, (g, z, (i, v, r)))))), as_arms n arms a us (omega (arith, d)) q))
 
 -- an arm gives at least one code, so it is deep
 arm_deep : (bounds : List ℕ) (is : ItemTrees) (gs : CodeTrees) (ts us : List Token) → SpellsGives gs ts us → 1 ≤ arm_depth (arm_of bounds is gs)
@@ -169,7 +169,7 @@ arm_deep bounds is (code_more c cs) ts us w = omega (arith, depth_one c)
 
 no_budget : (arms : ArmTrees) (ts us : List Token) → arms_depth arms ≤ 0 → SpellsArms arms ts us → (arms ≡ no_arms) × Next (Sign (codes "}")) ts us
 no_budget no_arms ts us d w = (refl, w)
-no_budget (arm_more (arm_of bounds is gs) arms) ts us d (a, (b, c, e, f, g, i, o, w, x, y, z, v, r), q) = absurd (omega (arith, d, arm_deep bounds is gs g i v))
+no_budget (arm_more (arm_of bounds is gs) arms) ts us d (a, (b, o, (c, w, (e, x, (f, y, (g, z, (i, v, r)))))), q) = absurd (omega (arith, d, arm_deep bounds is gs g i v))
 
 arms_are : (n : ℕ) (part less : Reader CodeTree) → Budget n part less → ((ts : List Token) → Within (length ts) (arm_from part less n ts)) → (arms : ArmTrees) (ts us : List Token) → arms_depth arms ≤ n → SpellsArms arms ts us →
     all_arms part less n ts ≡ Ok (arms_in arms, us)
@@ -208,7 +208,7 @@ no_elements part ts us w = first_is _ _ _ ts (at_is _ ts us w.0 refl w.1) (pure_
 number_is : (part less : Reader CodeTree) (n : ℕ) (k : ℤ) (ts us : List Token) → SpellsNumber k ts us → step part less n ts ≡ Ok (code_lit k, us)
 unfolding step negative_of
 number_is part less n k ts us (inl (p, w)) = first_is _ _ _ ts (literal_is (pos 0) ts us p k w) (pure_is _ _ us refl)
-number_is part less n k ts us (inr (a, p, m, o, w, e)) =
+number_is part less n k ts us (inr (m, (a, o, (p, w)), e)) =
     first_not _ _ _ ts (sign_literal _ o.0 ts a o.1) (first_is _ _ _ ts (at_is _ ts a o.0 refl o.1)
     (bind_is _ _ a (must_is _ a us _ (literal_is (pos 1) a us p m w)) (pure_is _ _ us (ap code_lit (sym e)))))
 
@@ -243,7 +243,7 @@ step_reads n part less h v (code_lit k) ts us d w = number_is part less n k ts u
 step_reads n part less h v (code_truth b) ts us d w = truth_step part less n b ts us w
 step_reads n part less h v (code_var x) ts us d w = variable_step part less n x ts us w
 step_reads n part less h v (code_set_of no_codes) ts us d (a, o, w) = set_step part less n o.0 ts a us [] (code_set_of no_codes) o.1 (no_elements part a us w) refl
-step_reads n part less h v (code_set_of (code_more c cs)) ts us d (a, b, o, w, r) =
+step_reads n part less h v (code_set_of (code_more c cs)) ts us d (a, o, (b, w, r)) =
     set_step part less n o.0 ts a us (c ∷ listed cs) (code_set_of (code_more c cs)) o.1 (elements_are n part h.parts c cs a b us (omega (arith, d)) (omega (arith, d)) w r) (ap (λ z. code_set_of (code_more c z)) (listed_again cs))
 step_reads n part less h v (code_tuple cs) ts us d (l, (a, o, w)) =
     sign_step part less n o.0 ts a us (several (listed cs)) (code_tuple cs) (omega (arith, d, some_deep cs (omega (arith, l)))) o.1
@@ -261,28 +261,28 @@ step_reads n part less h v (code_compare o c e) ts us d w = bracket_step n part 
 step_reads n part less h v (code_divides k c) ts us d w = bracket_step n part less h.parts (code_divides k c) ts us (omega (arith, d, depth_one c)) tt d w
 step_reads n part less h v (code_if t c e) ts us d w = bracket_step n part less h.parts (code_if t c e) ts us (omega (arith, d, depth_one c)) tt d w
 step_reads n part less h v (code_let x m c e) ts us d w = bracket_step n part less h.parts (code_let x m c e) ts us (omega (arith, d, depth_one c)) tt d w
-step_reads n part less h v (code_neg c) ts us d (a, b, (p, f), o, (e, w, r)) =
+step_reads n part less h v (code_neg c) ts us d (a, (p, f), (b, o, (e, w, r))) =
     form_step part less n (codes "neg") p ts a (omega (arith, d, depth_one c)) f refl refl refl (unary_is n part h.parts Neg c ts a b e us (omega (arith, d)) (ap (at _) f) o w r)
-step_reads n part less h v (code_not c) ts us d (a, b, (p, f), o, (e, w, r)) =
+step_reads n part less h v (code_not c) ts us d (a, (p, f), (b, o, (e, w, r))) =
     form_step part less n (codes "not") p ts a (omega (arith, d, depth_one c)) f refl refl refl (unary_is n part h.parts Not c ts a b e us (omega (arith, d)) (ap (at _) f) o w r)
-step_reads n part less h v (code_card c) ts us d (a, b, (p, f), o, (e, w, r)) =
+step_reads n part less h v (code_card c) ts us d (a, (p, f), (b, o, (e, w, r))) =
     form_step part less n (codes "card") p ts a (omega (arith, d, depth_one c)) f refl refl refl (unary_is n part h.parts Card c ts a b e us (omega (arith, d)) (ap (at _) f) o w r)
-step_reads n part less h v (code_div c k) ts us d (a, b, (p, f), o, (e, g, w, m, (i, j, r))) =
+step_reads n part less h v (code_div c k) ts us d (a, (p, f), (b, o, (e, w, (g, m, (i, j, r))))) =
     form_step part less n (codes "div") p ts a (omega (arith, d, depth_one c)) f refl refl refl (division_is n part h.parts Div c k ts a b e g i us (omega (arith, d)) (ap (at _) f) (ap (at _) f) o w m j r)
-step_reads n part less h v (code_mod c k) ts us d (a, b, (p, f), o, (e, g, w, m, (i, j, r))) =
+step_reads n part less h v (code_mod c k) ts us d (a, (p, f), (b, o, (e, w, (g, m, (i, j, r))))) =
     form_step part less n (codes "mod") p ts a (omega (arith, d, depth_one c)) f refl refl refl (division_is n part h.parts Mod c k ts a b e g i us (omega (arith, d)) (ap (at _) f) (ap (at _) f) o w m j r)
-step_reads n part less h v (code_min cs) ts us d (a, b, (p, f), o, w) =
+step_reads n part less h v (code_min cs) ts us d (a, (p, f), (b, o, w)) =
     form_step part less n (codes "min") p ts a (omega (arith, d, some_codes cs _ _ b us w)) f refl refl refl
     (extreme_is n part h.parts Min cs ts a b us (omega (arith, d)) (ap (at _) f) (ap (at _) f) (ap (at _) f) o w ∙ ap (λ z. Ok (code_min z, us)) (listed_again cs))
-step_reads n part less h v (code_max cs) ts us d (a, b, (p, f), o, w) =
+step_reads n part less h v (code_max cs) ts us d (a, (p, f), (b, o, w)) =
     form_step part less n (codes "max") p ts a (omega (arith, d, some_codes cs _ _ b us w)) f refl refl refl
     (extreme_is n part h.parts Max cs ts a b us (omega (arith, d)) (ap (at _) f) (ap (at _) f) (ap (at _) f) o w ∙ ap (λ z. Ok (code_max z, us)) (listed_again cs))
-step_reads n part less h v (code_slice c e q) ts us d (a, b, (p, f), o, (g, i, w, m, (j, k, x, y, (l, z, r)))) =
+step_reads n part less h v (code_slice c e q) ts us d (a, (p, f), (b, o, (g, w, (i, m, (j, x, (k, y, (l, z, r))))))) =
     form_step part less n (codes "slice") p ts a (omega (arith, d, depth_one c)) f refl refl refl
     (slice_is n part h.parts c e q ts a b g i j k l us p (omega (arith, d)) (omega (arith, d)) (omega (arith, d)) f o w m x y z r)
-step_reads n part less h v (code_fresh c e) ts us d (a, b, (p, f), o, (g, i, w, m, (j, x, r))) =
+step_reads n part less h v (code_fresh c e) ts us d (a, (p, f), (b, o, (g, w, (i, m, (j, x, r))))) =
     form_step part less n (codes "fresh") p ts a (omega (arith, d, depth_one c)) f refl refl refl (fresh_is n part h.parts c e ts a b g i j us p (omega (arith, d)) (omega (arith, d)) f o w m x r)
-step_reads n part less h v (code_solve number arms) ts us d (a, b, e, (p, f), m, o, w) =
+step_reads n part less h v (code_solve number arms) ts us d (a, (p, f), (b, m, (e, o, w))) =
     word_step part less n (codes "solve") p ts a f refl refl
     (first_is _ _ _ ts (at_is _ ts a p refl f) (solve_is n part less h v number arms a b e us (omega (arith, d)) m o w))
 

@@ -76,10 +76,10 @@ no_comma x ts us p w = ap (at (comma_after x)) w ∙ ap (λ (o : Option Place). 
 more_are : (k x n : ℕ) (ts us : List Token) → length ts ≤ k → SpellsMoreVariables (suc x) n ts us → variables_of k x ts ≡ Ok (x + n, us)
 unfolding variables_of
 more_are zero x zero ts us l w = absurd (omega (arith, l, first_longer (Sign (codes ")")) ts us w.0 w.1))
-more_are zero x (suc n) ts us l (a, b, c, v, r) = absurd (omega (arith, l, first_longer (Sign (codes ",")) ts a c.0 c.1))
+more_are zero x (suc n) ts us l (a, c, (b, v, r)) = absurd (omega (arith, l, first_longer (Sign (codes ",")) ts a c.0 c.1))
 more_are (suc k) x zero ts us l (p, w) =
     let e : x ≡ x + 0 = omega arith in first_not _ _ _ ts (no_comma x ts us p w) (bind_is _ _ ts (next_is (Sign (codes ")")) ts us refl (p, w)) (pure_is x (x + 0) us e))
-more_are (suc k) x (suc n) ts us l (a, b, c, v, r) =
+more_are (suc k) x (suc n) ts us l (a, c, (b, v, r)) =
     let e : x + 1 + n ≡ x + suc n = omega arith in
     let f : x + 1 ≡ suc x = omega arith in
     let g : suc (suc x) ≡ suc (x + 1) = omega arith in
@@ -93,7 +93,7 @@ unfolding vars_of all_variables
 vars_are x zero ts us w = absurd w
 vars_are x (suc zero) ts us v =
     first_not _ _ _ ts (at_not (Sign (codes "(")) (Word (level_name x)) ts us v.1.0 refl v.1.1) (bind_is _ _ ts (must_is _ ts us x (variable_is x ts us v)) (pure_is _ _ us refl))
-vars_are x (suc (suc n)) ts us (a, b, o, v, (c, d, m, w, r)) =
+vars_are x (suc (suc n)) ts us (a, o, (b, v, (c, m, (d, w, r)))) =
     let e : x + 1 + n - x + 1 ≡ suc (suc n) = omega arith in
     let f : x + 1 ≡ suc x = omega arith in
     let g : suc (suc x) ≡ suc (x + 1) = omega arith in
@@ -143,35 +143,35 @@ opens ts us w = begins_at (Sign (codes "(")) ts us refl refl refl w
 
 pub begins : (c : CodeTree) (ts us : List Token) → SpellsCode c ts us → Begins ts
 begins (code_lit k) ts us (inl (p, w)) = begins_at (Literal k) ts us refl refl refl (p, w.0)
-begins (code_lit k) ts us (inr (a, p, n, m, w, e)) = begins_at (Sign (codes "-")) ts a refl refl refl m
+begins (code_lit k) ts us (inr (n, (a, m, w), e)) = begins_at (Sign (codes "-")) ts a refl refl refl m
 begins (code_truth b) ts us w = truth_begins b ts us w
 begins (code_var x) ts us w = begins_at (Word (level_name x)) ts us refl refl refl w.1
 begins (code_set_of no_codes) ts us w = begins_at (Sign (codes "{")) ts w.0 refl refl refl w.1
-begins (code_set_of (code_more c cs)) ts us w = begins_at (Sign (codes "{")) ts w.0 refl refl refl w.2
+begins (code_set_of (code_more c cs)) ts us w = begins_at (Sign (codes "{")) ts w.0 refl refl refl w.1
 begins (code_tuple cs) ts us w = opens ts w.1.0 w.1.1
 begins (code_sum cs) ts us w = opens ts w.1.0 w.1.1
-begins (code_sub c d) ts us w = opens ts w.0 w.4
-begins (code_mul c d) ts us w = opens ts w.0 w.4
-begins (code_neg c) ts us w = begins_at (Word (codes "neg")) ts w.0 refl refl refl w.2
-begins (code_div c k) ts us w = begins_at (Word (codes "div")) ts w.0 refl refl refl w.2
-begins (code_mod c k) ts us w = begins_at (Word (codes "mod")) ts w.0 refl refl refl w.2
-begins (code_min cs) ts us w = begins_at (Word (codes "min")) ts w.0 refl refl refl w.2
-begins (code_max cs) ts us w = begins_at (Word (codes "max")) ts w.0 refl refl refl w.2
-begins (code_compare o c d) ts us w = opens ts w.0 w.4
-begins (code_divides k c) ts us w = opens ts w.0 w.4
-begins (code_and c d) ts us w = opens ts w.0 w.4
-begins (code_or c d) ts us w = opens ts w.0 w.4
-begins (code_not c) ts us w = begins_at (Word (codes "not")) ts w.0 refl refl refl w.2
+begins (code_sub c d) ts us w = opens ts w.0 w.1
+begins (code_mul c d) ts us w = opens ts w.0 w.1
+begins (code_neg c) ts us w = begins_at (Word (codes "neg")) ts w.0 refl refl refl w.1
+begins (code_div c k) ts us w = begins_at (Word (codes "div")) ts w.0 refl refl refl w.1
+begins (code_mod c k) ts us w = begins_at (Word (codes "mod")) ts w.0 refl refl refl w.1
+begins (code_min cs) ts us w = begins_at (Word (codes "min")) ts w.0 refl refl refl w.1
+begins (code_max cs) ts us w = begins_at (Word (codes "max")) ts w.0 refl refl refl w.1
+begins (code_compare o c d) ts us w = opens ts w.0 w.1
+begins (code_divides k c) ts us w = opens ts w.0 w.1
+begins (code_and c d) ts us w = opens ts w.0 w.1
+begins (code_or c d) ts us w = opens ts w.0 w.1
+begins (code_not c) ts us w = begins_at (Word (codes "not")) ts w.0 refl refl refl w.1
 begins (code_union cs) ts us w = opens ts w.1.0 w.1.1
 begins (code_inter cs) ts us w = opens ts w.1.0 w.1.1
-begins (code_diff c d) ts us w = opens ts w.0 w.4
-begins (code_subset c d) ts us w = opens ts w.0 w.4
-begins (code_card c) ts us w = begins_at (Word (codes "card")) ts w.0 refl refl refl w.2
-begins (code_slice c d e) ts us w = begins_at (Word (codes "slice")) ts w.0 refl refl refl w.2
-begins (code_fresh c d) ts us w = begins_at (Word (codes "fresh")) ts w.0 refl refl refl w.2
-begins (code_if t c d) ts us w = opens ts w.0 w.7
-begins (code_let x n c d) ts us w = opens ts w.0 w.7
-begins (code_solve n arms) ts us w = begins_at (Word (codes "solve")) ts w.0 refl refl refl w.3
+begins (code_diff c d) ts us w = opens ts w.0 w.1
+begins (code_subset c d) ts us w = opens ts w.0 w.1
+begins (code_card c) ts us w = begins_at (Word (codes "card")) ts w.0 refl refl refl w.1
+begins (code_slice c d e) ts us w = begins_at (Word (codes "slice")) ts w.0 refl refl refl w.1
+begins (code_fresh c d) ts us w = begins_at (Word (codes "fresh")) ts w.0 refl refl refl w.1
+begins (code_if t c d) ts us w = opens ts w.0 w.1
+begins (code_let x n c d) ts us w = opens ts w.0 w.1
+begins (code_solve n arms) ts us w = begins_at (Word (codes "solve")) ts w.0 refl refl refl w.1
 
 pub depth_one : (c : CodeTree) → 1 ≤ code_depth c
 depth_one (code_lit k) = omega arith
@@ -244,7 +244,7 @@ code_items n part separator close h e =
 
 as_others : (n : ℕ) (separator close : TokenKind) (cs : CodeTrees) (ts us : List Token) → codes_depth cs ≤ n → SpellsOthers cs separator close ts us → Others (IsItem n) separator close (listed cs) ts us
 as_others n separator close no_codes ts us d w = w
-as_others n separator close (code_more c cs) ts us d (a, b, s, w, o) = (a, b, s, (omega (arith, d), w), as_others n separator close cs b us (omega (arith, d)) o)
+as_others n separator close (code_more c cs) ts us d (a, s, (b, w, o)) = (a, s, (b, (omega (arith, d), w), as_others n separator close cs b us (omega (arith, d)) o))
 
 -- code { separator code } close, behind codes that were read before
 codes_are : (n : ℕ) (part : Reader CodeTree) (separator close : TokenKind) → ReadsTo n part → Ends separator close → (done : List CodeTree) (c : CodeTree) (cs : CodeTrees) (ts mid us : List Token) →
@@ -351,7 +351,7 @@ pub tuple_is : (head part : Reader CodeTree) (m n : ℕ) → Heads m n head part
 unfolding behind_of
 tuple_is head part m n h no_codes ts us l d w = absurd w
 tuple_is head part m n h (code_more c no_codes) ts us l d w = absurd (omega (arith, l))
-tuple_is head part m n h (code_more c (code_more e cs)) ts us l d (a, w, (b, f, s, v, o)) =
+tuple_is head part m n h (code_more c (code_more e cs)) ts us l d (a, w, (b, s, (f, v, o))) =
     not_worded head part m n c ts a w (bind_is _ _ ts (h.heads.reads c ts a (omega (arith, d)) w)
     (first_is _ _ _ a (at_is (Sign (codes ",")) a b s.0 refl s.1)
     (bind_is _ _ b (codes_are m head (Sign (codes ",")) (Sign (codes ")")) h.heads comma_paren (c ∷ []) e cs b f us (omega (arith, d)) (omega (arith, d)) v o) (pure_is _ _ us refl))))
@@ -403,7 +403,7 @@ many_is : (head part : Reader CodeTree) (m n : ℕ) → Heads m n head part → 
 unfolding operated_of
 many_is head part m n h op many f g no_codes ts us l d w = absurd w
 many_is head part m n h op many f g (code_more c no_codes) ts us l d w = absurd (omega (arith, l))
-many_is head part m n h op many f g (code_more c (code_more e cs)) ts us l d (a, w, (b, i, s, v, o)) =
+many_is head part m n h op many f g (code_more c (code_more e cs)) ts us l d (a, w, (b, s, (i, v, o))) =
     operated head part m n h op c (many_tree many (c ∷ e ∷ listed cs)) ts a b us (omega (arith, d)) w (subst (λ z. Next z a b) (sym g) s)
     (ap (λ z. operated_of part c z b) f
     ∙ bind_is _ _ b (codes_are n part (many_kind many) (Sign (codes ")")) h.parts (many_paren many) (c ∷ []) e cs b i us (omega (arith, d)) (omega (arith, d)) v o) (pure_is _ _ us refl))
@@ -465,23 +465,23 @@ bracketed head part m n h (code_union cs) ts us i d (l, (a, o, w)) =
     record { behind = a; opened = o; reads = many_is head part m n h ops.Union manies.Union refl refl cs a us l (omega (arith, d)) w ∙ ap (λ z. Ok (single (code_union z), us)) (listed_again cs) }
 bracketed head part m n h (code_inter cs) ts us i d (l, (a, o, w)) =
     record { behind = a; opened = o; reads = many_is head part m n h ops.Inter manies.Inter refl refl cs a us l (omega (arith, d)) w ∙ ap (λ z. Ok (single (code_inter z), us)) (listed_again cs) }
-bracketed head part m n h (code_sub c e) ts us i d (a, b, f, g, o, w, s, v, r) =
+bracketed head part m n h (code_sub c e) ts us i d (a, o, (b, w, (f, s, (g, v, r)))) =
     record { behind = a; opened = o; reads = two_is head part m n h ops.Sub twos.Sub refl c e a b f g us (omega (arith, d)) (omega (arith, d)) w s v r }
-bracketed head part m n h (code_mul c e) ts us i d (a, b, f, g, o, w, s, v, r) =
+bracketed head part m n h (code_mul c e) ts us i d (a, o, (b, w, (f, s, (g, v, r)))) =
     record { behind = a; opened = o; reads = two_is head part m n h ops.Mul twos.Mul refl c e a b f g us (omega (arith, d)) (omega (arith, d)) w s v r }
-bracketed head part m n h (code_diff c e) ts us i d (a, b, f, g, o, w, s, v, r) =
+bracketed head part m n h (code_diff c e) ts us i d (a, o, (b, w, (f, s, (g, v, r)))) =
     record { behind = a; opened = o; reads = two_is head part m n h ops.Diff twos.Diff refl c e a b f g us (omega (arith, d)) (omega (arith, d)) w s v r }
-bracketed head part m n h (code_subset c e) ts us i d (a, b, f, g, o, w, s, v, r) =
+bracketed head part m n h (code_subset c e) ts us i d (a, o, (b, w, (f, s, (g, v, r)))) =
     record { behind = a; opened = o; reads = two_is head part m n h ops.Subset twos.Subset refl c e a b f g us (omega (arith, d)) (omega (arith, d)) w s v r }
-bracketed head part m n h (code_and c e) ts us i d (a, b, f, g, o, w, s, v, r) =
+bracketed head part m n h (code_and c e) ts us i d (a, o, (b, w, (f, s, (g, v, r)))) =
     record { behind = a; opened = o; reads = two_is head part m n h ops.And twos.And refl c e a b f g us (omega (arith, d)) (omega (arith, d)) w s v r }
-bracketed head part m n h (code_or c e) ts us i d (a, b, f, g, o, w, s, v, r) =
+bracketed head part m n h (code_or c e) ts us i d (a, o, (b, w, (f, s, (g, v, r)))) =
     record { behind = a; opened = o; reads = two_is head part m n h ops.Or twos.Or refl c e a b f g us (omega (arith, d)) (omega (arith, d)) w s v r }
-bracketed head part m n h (code_compare order c e) ts us i d (a, b, f, g, o, w, s, v, r) =
+bracketed head part m n h (code_compare order c e) ts us i d (a, o, (b, w, (f, s, (g, v, r)))) =
     record { behind = a; opened = o; reads = two_is head part m n h (ops.Compare order) (twos.Compare order) refl c e a b f g us (omega (arith, d)) (omega (arith, d)) w s v r }
-bracketed head part m n h (code_divides k e) ts us i d (a, b, f, g, o, w, s, v, r) =
+bracketed head part m n h (code_divides k e) ts us i d (a, o, (b, w, (f, s, (g, v, r)))) =
     record { behind = a; opened = o; reads = multiple_is head part m n h k e a b f g us (omega (arith, d)) w s v r }
-bracketed head part m n h (code_if t c e) ts us i d (a, b, f, g, j, k, l, o, w, x, y, z, u, v, s) =
+bracketed head part m n h (code_if t c e) ts us i d (a, o, (b, w, (f, x, (g, y, (j, z, (k, u, (l, v, s))))))) =
     record {
       behind = a;
       opened = o;
@@ -490,7 +490,7 @@ bracketed head part m n h (code_if t c e) ts us i d (a, b, f, g, j, k, l, o, w, 
           (bind_is _ _ b (bind_is _ _ b (h.parts.reads t b f (omega (arith, d)) x) (bind_is _ _ f (next_is _ f g refl y) (bind_is _ _ g (h.parts.reads c g j (omega (arith, d)) z) (bind_is _ _ j (next_is _ j k refl u)
           (bind_is _ _ k (h.parts.reads e k l (omega (arith, d)) v) (bind_is _ _ l (next_is _ l us refl s) (pure_is _ _ us refl))))))) (pure_is _ _ us refl));
     }
-bracketed head part m n h (code_let q i c e) ts us ok d (a, b, f, g, j, k, l, o, w, x, y, z, u, v, s) =
+bracketed head part m n h (code_let q i c e) ts us ok d (a, o, (b, w, (f, x, (g, y, (j, z, (k, u, (l, v, s))))))) =
     record {
       behind = a;
       opened = o;

@@ -11,7 +11,7 @@ use Rattle.cf_tree.specs.CodeTree.{CodeTree}
 use Rattle.cf_reader.specs.Tokens.{First, Next, Several}
 use Rattle.cf_reader.specs.Readers.{Reader, is, at, must, first, at_end, refuse, several_of, snoc}
 use Rattle.cf_reader.specs.Kinds.{SpellsBase, base_kind, a_base, results_of}
-use Rattle.cf_reader.specs.Faults.{IsFaultPlace, place_of}
+use Rattle.cf_reader.specs.Faults.{IsFaultPlace, place_with_left}
 use Rattle.cf_reader.proofs.Near.{Local, pure_local, refuse_local, bind_local, first_local, must_local, several_local, at_end_local}
 use Rattle.cf_reader.proofs.Yields.{Yields, yields, Took, pure_yields, refuse_yields, widen, bind_yields, must_yields, first_yields, all_added, if_some, same_token, in_order, took_next, several_yields}
 use Rattle.cf_reader.proofs.Exact.{from_T, bind_is, pure_is, must_is, first_is, first_not, at_is, at_not, next_is, several_are}
@@ -66,7 +66,7 @@ unfolding body_of Finds
 body_yields limit start ts w =
     bind_yields _ _ ts (must_yields _ ts) (λ p b m. bind_yields _ _ b (must_yields _ b) (λ q c o. bind_yields _ _ c (bases_yields c) (λ params d l. bind_yields _ _ d (must_yields _ d) (λ r e n.
     bind_yields _ _ e (results_yields e) (λ results f k. bind_yields _ _ f (must_yields _ f) (λ s g i. bind_yields _ _ g (read_found limit g) (λ code us found.
-    end_yields _ us (λ h. (ts, b, c, d, e, f, g, w, took_next _ ts b p m, took_next _ b c q o, l, took_next _ d e r n, k, took_next _ f g s i, subst (λ z. SpellsCode code g z) h found.spelled, found.deep)))))))))
+    end_yields _ us (λ h. ((ts, w, (b, took_next _ ts b p m, (c, took_next _ b c q o, (d, l, (e, took_next _ d e r n, (f, k, (g, took_next _ f g s i, subst (λ z. SpellsCode code g z) h found.spelled))))))), found.deep)))))))))
 
 target_yields : (limit : ℕ) (ts : List Token) → Yields (λ t us. SpellsTarget limit t ts) (target_of limit ts)
 unfolding target_of

@@ -6,7 +6,7 @@ use Rattle.cf_lex.specs.declared.token.TokenKind.TheVariants.{Sign}
 use Rattle.cf_tree.specs.declared.base.Place.{Place}
 use Rattle.cf_reader.specs.declared.stop.Stop.{Stop}
 use Rattle.cf_reader.specs.declared.stop.Stop.TheVariants as stops
-use Rattle.cf_reader.specs.Gives.{Fails}
+use Rattle.cf_reader.specs.Answers.{StopAnswer}
 use Rattle.cf_reader.specs.Readers.{is, at, must, bind, pure, first}
 use Rattle.cf_target.specs.Reading.{the_variable, comma_after, variables_of}
 
@@ -38,6 +38,6 @@ variables_unclosed zero last ts e h g lt = absurd (omega arith)
 variables_unclosed (suc k) last ts e h g lt = rw (variables_of, first, h, bind, g) refl
 
 pub variables_fail : (k last : ℕ) (ts : List Token) (p : Place) (us : List Token) (e : Stop) →
-    at (comma_after last) ts ≡ Some (p, us) → Fails e (must (the_variable (last + 1)) us) → 0 < k → Fails e (variables_of k last ts)
-variables_fail k last ts p us stops.Memory h g lt = tt
-variables_fail k last ts p us (stops.At n) h g lt = variables_err k last ts p us n h g lt
+    at (comma_after last) ts ≡ Some (p, us) → StopAnswer e (must (the_variable (last + 1)) us) → 0 < k → StopAnswer e (variables_of k last ts)
+variables_fail k last ts p us stops.NoMemory h g lt = tt
+variables_fail k last ts p us (stops.TokensLeft n) h g lt = variables_err k last ts p us n h g lt

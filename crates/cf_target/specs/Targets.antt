@@ -17,10 +17,10 @@ abbrev pub SomeTarget : List Token → Type 0
 SomeTarget ts = (t : TargetTree) × IsTarget t ts
 
 -- the answer is this target, or memory ran out
-abbrev pub Reads : TargetTree → Result RawTarget ParseFault → Type 0
-Reads t (Ok x) = target_tree x ≡ t
-Reads t (Err NoMemory) = Unit {0}
-Reads t (Err (Syntax p)) = ⊥
+abbrev pub TargetAnswer : TargetTree → Result RawTarget ParseFault → Type 0
+TargetAnswer t (Ok x) = target_tree x ≡ t
+TargetAnswer t (Err NoMemory) = Unit {0}
+TargetAnswer t (Err (Syntax p)) = ⊥
 
 -- [ base { "," base } ] ")"
 unfoldable pub bases_of : Reader (List Base)

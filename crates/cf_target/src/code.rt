@@ -3,7 +3,7 @@ ghost use Rattle.std.specs.Prelude.{◌≡◌, ◌≤◌, ◌<◌, ◌-◌, ◌^
 ghost use Rattle.cf_lex.specs.declared.token.TokenKind.TheVariants.{Word, Sign};
 ghost use Rattle.cf_tree.specs.CodeTree.{code_depth};
 ghost use Rattle.cf_tree.specs.CodeView.{code_tree, item_tree, arm_tree};
-ghost use Rattle.cf_reader.specs.Gives.{Gives};
+ghost use Rattle.cf_reader.specs.Answers.{ReadAnswer};
 ghost use Rattle.cf_reader.specs.Readers.{snoc, others_of};
 ghost use Rattle.cf_target.specs.Reading.{many_kind, list_of, elements_of, one_of, divided_of, listed_of, slice_of, fresh_of, if_of, let_of, operated_of, forms_of, behind_of, inside_tree, inside_of, item_of, all_steps, gives_of, arm_from, all_arms, solve_of, word_of, step as step_of, read};
 
@@ -28,19 +28,19 @@ use std::alloc::Global;
 #[cycle(code)]
 #[tactic(auto, using(crate::proofs::Above::read_above, crate::proofs::Above::read_none))]
 pub fn code(alloc: Global, n: u32, tokens: &[Token]) -> Result<(Code, &[Token]), Stop>
-    ensures { Gives (λ x. (code_tree x.0, x.1.now)) result (read n tokens.now) }
+    ensures { ReadAnswer (λ x. (code_tree x.0, x.1.now)) result (read n tokens.now) }
 {
     if n == 0 {
-        return Err(Stop::At(tokens.len()));
+        return Err(Stop::TokensLeft(tokens.len()));
     }
     form(alloc, n - 1, tokens)
 }
 
-/// A code whose parts have depth at most `n`.
+// A code whose parts have depth at most `n`.
 #[cycle(code)]
 #[tactic(auto, unfolding(cf_reader::specs::Readers::first, cf_reader::specs::Readers::deep, cf_reader::specs::Readers::bind, cf_reader::specs::Readers::pure, crate::specs::Reading::step))]
 fn form(alloc: Global, n: u32, tokens: &[Token]) -> Result<(Code, &[Token]), Stop>
-    ensures { Gives (λ x. (code_tree x.0, x.1.now)) result (step_of (read n) (read (n - 1)) n tokens.now) }
+    ensures { ReadAnswer (λ x. (code_tree x.0, x.1.now)) result (step_of (read n) (read (n - 1)) n tokens.now) }
 {
     if let Some(((_, k), rest)) = literal_at_least(0, tokens) {
         return Ok((node::literal(k), rest));
@@ -60,7 +60,7 @@ fn form(alloc: Global, n: u32, tokens: &[Token]) -> Result<(Code, &[Token]), Sto
     }
     if let Some((_, rest)) = after_sign("(", tokens) {
         if n == 0 {
-            return Err(Stop::At(tokens.len()));
+            return Err(Stop::TokensLeft(tokens.len()));
         }
         let (inside, rest) = inside(alloc, n, n, rest)?;
         return Ok((whole(inside), rest));
@@ -68,26 +68,26 @@ fn form(alloc: Global, n: u32, tokens: &[Token]) -> Result<(Code, &[Token]), Sto
     word(alloc, n, tokens)
 }
 
-/// A form that begins with a word.
+// A form that begins with a word.
 #[cycle(code)]
 #[tactic(auto, unfolding(cf_reader::specs::Readers::first, crate::specs::Reading::unless_zero, crate::specs::Reading::word_of))]
 fn word(alloc: Global, n: u32, tokens: &[Token]) -> Result<(Code, &[Token]), Stop>
-    ensures { Gives (λ x. (code_tree x.0, x.1.now)) result (word_of (read n) (read (n - 1)) n tokens.now) }
+    ensures { ReadAnswer (λ x. (code_tree x.0, x.1.now)) result (word_of (read n) (read (n - 1)) n tokens.now) }
 {
     if let Some((_, rest)) = after_word("solve", tokens) {
         return solve(alloc, n, rest);
     }
     if n == 0 {
-        return Err(Stop::At(tokens.len()));
+        return Err(Stop::TokensLeft(tokens.len()));
     }
     form_of_parts(alloc, n, tokens)
 }
 
-/// A form that begins with a word and has parts.
+// A form that begins with a word and has parts.
 #[cycle(code)]
 #[tactic(auto, unfolding(cf_reader::specs::Readers::first, cf_reader::specs::Readers::refuse, cf_reader::specs::Readers::bind, cf_reader::specs::Readers::pure, crate::specs::Reading::forms_of))]
 fn form_of_parts(alloc: Global, n: u32, tokens: &[Token]) -> Result<(Code, &[Token]), Stop>
-    ensures { Gives (λ x. (code_tree x.0, x.1.now)) result (forms_of (read n) tokens.now) }
+    ensures { ReadAnswer (λ x. (code_tree x.0, x.1.now)) result (forms_of (read n) tokens.now) }
 {
     if let Some((form, rest)) = after_unary(tokens) {
         let (code, rest) = in_parentheses(alloc, n, rest)?;
@@ -107,23 +107,23 @@ fn form_of_parts(alloc: Global, n: u32, tokens: &[Token]) -> Result<(Code, &[Tok
     if let Some((_, rest)) = after_word("fresh", tokens) {
         return fresh(alloc, n, rest);
     }
-    Err(Stop::At(tokens.len()))
+    Err(Stop::TokensLeft(tokens.len()))
 }
 
-/// A code of depth at most `n`, in a box.
+// A code of depth at most `n`, in a box.
 #[cycle(code)]
 fn boxed(alloc: Global, n: u32, tokens: &[Token]) -> Result<(Box<Code>, &[Token]), Stop>
-    ensures { Gives (λ x. (code_tree x.0.value, x.1.now)) result (read n tokens.now) }
+    ensures { ReadAnswer (λ x. (code_tree x.0.value, x.1.now)) result (read n tokens.now) }
 {
     let (c, rest) = code(alloc, n, tokens)?;
     Ok((node::boxed(alloc, c)?, rest))
 }
 
-/// One code in parentheses.
+// One code in parentheses.
 #[cycle(code)]
 #[tactic(auto, unfolding(cf_reader::specs::Readers::bind, cf_reader::specs::Readers::pure, crate::specs::Reading::one_of))]
 fn in_parentheses(alloc: Global, n: u32, tokens: &[Token]) -> Result<(Box<Code>, &[Token]), Stop>
-    ensures { Gives (λ x. (code_tree x.0.value, x.1.now)) result (one_of (read n) tokens.now) }
+    ensures { ReadAnswer (λ x. (code_tree x.0.value, x.1.now)) result (one_of (read n) tokens.now) }
 {
     let (_, rest) = expect_sign("(", tokens)?;
     let (c, rest) = boxed(alloc, n, rest)?;
@@ -131,11 +131,11 @@ fn in_parentheses(alloc: Global, n: u32, tokens: &[Token]) -> Result<(Box<Code>,
     Ok((c, rest))
 }
 
-/// A code and a literal of at least 1, in parentheses.
+// A code and a literal of at least 1, in parentheses.
 #[cycle(code)]
 #[tactic(auto, unfolding(cf_reader::specs::Readers::bind, cf_reader::specs::Readers::pure, crate::specs::Reading::divided_of))]
 fn divided(alloc: Global, n: u32, tokens: &[Token]) -> Result<((Box<Code>, i128), &[Token]), Stop>
-    ensures { Gives (λ x. ((code_tree x.0.0.value, x.0.1), x.1.now)) result (divided_of (read n) tokens.now) }
+    ensures { ReadAnswer (λ x. ((code_tree x.0.0.value, x.0.1), x.1.now)) result (divided_of (read n) tokens.now) }
 {
     let (_, rest) = expect_sign("(", tokens)?;
     let (c, rest) = boxed(alloc, n, rest)?;
@@ -145,21 +145,21 @@ fn divided(alloc: Global, n: u32, tokens: &[Token]) -> Result<((Box<Code>, i128)
     Ok(((c, k), rest))
 }
 
-/// One code or more, in parentheses.
+// One code or more, in parentheses.
 #[cycle(code)]
 #[tactic(auto, unfolding(cf_reader::specs::Readers::bind, crate::specs::Reading::listed_of))]
 fn listed(alloc: Global, n: u32, tokens: &[Token]) -> Result<(Vec<Code>, &[Token]), Stop>
-    ensures { Gives (λ x. (map code_tree x.0.items, x.1.now)) result (listed_of (read n) tokens.now) }
+    ensures { ReadAnswer (λ x. (map code_tree x.0.items, x.1.now)) result (listed_of (read n) tokens.now) }
 {
     let (_, rest) = expect_sign("(", tokens)?;
     list(alloc, n, ")", rest)
 }
 
-/// Behind the word `slice`.
+// Behind the word `slice`.
 #[cycle(code)]
 #[tactic(auto, unfolding(cf_reader::specs::Readers::bind, cf_reader::specs::Readers::pure, crate::specs::Reading::slice_of))]
 fn slice(alloc: Global, n: u32, tokens: &[Token]) -> Result<(Code, &[Token]), Stop>
-    ensures { Gives (λ x. (code_tree x.0, x.1.now)) result (slice_of (read n) tokens.now) }
+    ensures { ReadAnswer (λ x. (code_tree x.0, x.1.now)) result (slice_of (read n) tokens.now) }
 {
     let (_, rest) = expect_sign("(", tokens)?;
     let (set, rest) = boxed(alloc, n, rest)?;
@@ -171,11 +171,11 @@ fn slice(alloc: Global, n: u32, tokens: &[Token]) -> Result<(Code, &[Token]), St
     Ok((node::slice(set, from, count), rest))
 }
 
-/// Behind the word `fresh`.
+// Behind the word `fresh`.
 #[cycle(code)]
 #[tactic(auto, unfolding(cf_reader::specs::Readers::bind, cf_reader::specs::Readers::pure, crate::specs::Reading::fresh_of))]
 fn fresh(alloc: Global, n: u32, tokens: &[Token]) -> Result<(Code, &[Token]), Stop>
-    ensures { Gives (λ x. (code_tree x.0, x.1.now)) result (fresh_of (read n) tokens.now) }
+    ensures { ReadAnswer (λ x. (code_tree x.0, x.1.now)) result (fresh_of (read n) tokens.now) }
 {
     let (_, rest) = expect_sign("(", tokens)?;
     let (avoid, rest) = boxed(alloc, n, rest)?;
@@ -185,11 +185,11 @@ fn fresh(alloc: Global, n: u32, tokens: &[Token]) -> Result<(Code, &[Token]), St
     Ok((node::fresh(avoid, count), rest))
 }
 
-/// Elements, if any, up to the closing brace.
+// Elements, if any, up to the closing brace.
 #[cycle(code)]
 #[tactic(auto, unfolding(cf_reader::specs::Readers::first, cf_reader::specs::Readers::pure, crate::specs::Reading::elements_of))]
 fn elements(alloc: Global, n: u32, tokens: &[Token]) -> Result<(Vec<Code>, &[Token]), Stop>
-    ensures { Gives (λ x. (map code_tree x.0.items, x.1.now)) result (elements_of (read n) tokens.now) }
+    ensures { ReadAnswer (λ x. (map code_tree x.0.items, x.1.now)) result (elements_of (read n) tokens.now) }
 {
     match after_sign("}", tokens) {
         Some((_, rest)) => Ok((Vec::new(alloc), rest)),
@@ -197,7 +197,7 @@ fn elements(alloc: Global, n: u32, tokens: &[Token]) -> Result<(Vec<Code>, &[Tok
     }
 }
 
-/// One code or more with commas, up to the closing sign.
+// One code or more with commas, up to the closing sign.
 #[cycle(code)]
 #[tactic(auto, unfolding(cf_reader::specs::Readers::bind, cf_reader::specs::Readers::several_of, crate::specs::Reading::list_of))]
 fn list<'a>(
@@ -206,13 +206,13 @@ fn list<'a>(
     close: &str,
     tokens: &'a [Token],
 ) -> Result<(Vec<Code>, &'a [Token]), Stop>
-    ensures { Gives (λ x. (map code_tree x.0.items, x.1.now)) result (list_of (read n) (Sign close.now) tokens.now) }
+    ensures { ReadAnswer (λ x. (map code_tree x.0.items, x.1.now)) result (list_of (read n) (Sign close.now) tokens.now) }
 {
     let (first, rest) = code(alloc, n, tokens)?;
     more(alloc, n, close, one(alloc, first)?, rest)
 }
 
-/// More codes, each behind a comma, up to the closing sign.
+// More codes, each behind a comma, up to the closing sign.
 #[cycle(code)]
 #[tactic(auto, using(cf_reader::proofs::Steps::more_ends, cf_reader::proofs::Steps::more_goes, cf_reader::proofs::Steps::more_errs, cf_reader::proofs::Steps::more_closes, cf_reader::proofs::Steps::more_unclosed), unfolding(cf_reader::specs::Readers::others_of))]
 fn more<'a>(
@@ -222,7 +222,7 @@ fn more<'a>(
     first: Vec<Code>,
     tokens: &'a [Token],
 ) -> Result<(Vec<Code>, &'a [Token]), Stop>
-    ensures { Gives (λ x. (map code_tree x.0.items, x.1.now)) result (others_of snoc (read n) (Sign (codes ",")) (Sign close.now) (map code_tree first.items) tokens.now) }
+    ensures { ReadAnswer (λ x. (map code_tree x.0.items, x.1.now)) result (others_of snoc (read n) (Sign (codes ",")) (Sign close.now) (map code_tree first.items) tokens.now) }
 {
     let mut done = first;
     let mut rest = tokens;
@@ -239,10 +239,11 @@ fn more<'a>(
             }
         }
     }
-    Err(Stop::At(0))
+    // for the proof: the loop ends before
+    Err(Stop::TokensLeft(0))
 }
 
-/// More parts of an operation, up to the closing parenthesis.
+// More parts of an operation, up to the closing parenthesis.
 #[cycle(code)]
 #[tactic(auto, using(cf_reader::proofs::Steps::more_ends, cf_reader::proofs::Steps::more_goes, cf_reader::proofs::Steps::more_errs, cf_reader::proofs::Steps::more_closes, cf_reader::proofs::Steps::more_unclosed), unfolding(cf_reader::specs::Readers::others_of))]
 fn more_parts(
@@ -252,7 +253,7 @@ fn more_parts(
     first: Vec<Code>,
     tokens: &[Token],
 ) -> Result<(Vec<Code>, &[Token]), Stop>
-    ensures { Gives (λ x. (map code_tree x.0.items, x.1.now)) result (others_of snoc (read n) (many_kind form) (Sign (codes ")")) (map code_tree first.items) tokens.now) }
+    ensures { ReadAnswer (λ x. (map code_tree x.0.items, x.1.now)) result (others_of snoc (read n) (many_kind form) (Sign (codes ")")) (map code_tree first.items) tokens.now) }
 {
     let mut done = first;
     let mut rest = tokens;
@@ -269,27 +270,28 @@ fn more_parts(
             }
         }
     }
-    Err(Stop::At(0))
+    // for the proof: the loop ends before
+    Err(Stop::TokensLeft(0))
 }
 
-/// Behind an opening parenthesis. The parts with commas may have depth `m`, and those of any other
-/// form depth `n`.
+// Behind an opening parenthesis. The parts with commas may have depth `m`, and those of any other
+// form depth `n`.
 #[cycle(code)]
 #[tactic(auto, unfolding(cf_reader::specs::Readers::deep, cf_reader::specs::Readers::bind, cf_reader::specs::Readers::pure, crate::specs::Reading::inside_of))]
 fn inside(alloc: Global, m: u32, n: u32, tokens: &[Token]) -> Result<(Inside, &[Token]), Stop>
     requires { n ≤ m }
-    ensures { Gives (λ x. (inside_tree x.0, x.1.now)) result (inside_of (read m) (read n) m n tokens.now) }
+    ensures { ReadAnswer (λ x. (inside_tree x.0, x.1.now)) result (inside_of (read m) (read n) m n tokens.now) }
 {
     if let Some((_, rest)) = after_word("if", tokens) {
         if n == 0 {
-            return Err(Stop::At(tokens.len()));
+            return Err(Stop::TokensLeft(tokens.len()));
         }
         let (c, rest) = if_else(alloc, n, rest)?;
         return Ok((single(c), rest));
     }
     if let Some((_, rest)) = after_word("let", tokens) {
         if n == 0 {
-            return Err(Stop::At(tokens.len()));
+            return Err(Stop::TokensLeft(tokens.len()));
         }
         let (c, rest) = let_in(alloc, n, rest)?;
         return Ok((single(c), rest));
@@ -299,7 +301,7 @@ fn inside(alloc: Global, m: u32, n: u32, tokens: &[Token]) -> Result<(Inside, &[
     behind(alloc, m, n, may, first, rest)
 }
 
-/// Behind an opening parenthesis and the first part; `may` says whether an operation may follow.
+// Behind an opening parenthesis and the first part; `may` says whether an operation may follow.
 #[cycle(code)]
 #[tactic(auto, unfolding(cf_reader::specs::Readers::first, cf_reader::specs::Readers::refuse, cf_reader::specs::Readers::bind, cf_reader::specs::Readers::pure, cf_reader::specs::Readers::several_of, crate::specs::Reading::behind_of))]
 fn behind(
@@ -311,7 +313,7 @@ fn behind(
     tokens: &[Token],
 ) -> Result<(Inside, &[Token]), Stop>
     requires { n ≤ m }
-    ensures { Gives (λ x. (inside_tree x.0, x.1.now)) result (behind_of (read m) (read n) n may (code_tree first.value) tokens.now) }
+    ensures { ReadAnswer (λ x. (inside_tree x.0, x.1.now)) result (behind_of (read m) (read n) n may (code_tree first.value) tokens.now) }
 {
     if let Some((_, rest)) = after_sign(",", tokens) {
         let codes = one(alloc, Box::into_inner(first))?;
@@ -328,10 +330,10 @@ fn behind(
         let (_, rest) = expect_sign(")", rest)?;
         return Ok((single(node::divides(k, of)), rest));
     }
-    Err(Stop::At(tokens.len()))
+    Err(Stop::TokensLeft(tokens.len()))
 }
 
-/// Behind the first part and an operation.
+// Behind the first part and an operation.
 #[cycle(code)]
 #[tactic(auto, unfolding(cf_reader::specs::Readers::bind, cf_reader::specs::Readers::pure, cf_reader::specs::Readers::several_of, crate::specs::Reading::operated_of))]
 fn operated(
@@ -341,7 +343,7 @@ fn operated(
     first: Box<Code>,
     tokens: &[Token],
 ) -> Result<(Code, &[Token]), Stop>
-    ensures { Gives (λ x. (code_tree x.0, x.1.now)) result (operated_of (read n) (code_tree first.value) operation tokens.now) }
+    ensures { ReadAnswer (λ x. (code_tree x.0, x.1.now)) result (operated_of (read n) (code_tree first.value) operation tokens.now) }
 {
     match operation {
         Operation::Two(form) => {
@@ -359,11 +361,11 @@ fn operated(
     }
 }
 
-/// Behind `(if`.
+// Behind `(if`.
 #[cycle(code)]
 #[tactic(auto, unfolding(cf_reader::specs::Readers::bind, cf_reader::specs::Readers::pure, crate::specs::Reading::if_of))]
 fn if_else(alloc: Global, n: u32, tokens: &[Token]) -> Result<(Code, &[Token]), Stop>
-    ensures { Gives (λ x. (code_tree x.0, x.1.now)) result (if_of (read n) tokens.now) }
+    ensures { ReadAnswer (λ x. (code_tree x.0, x.1.now)) result (if_of (read n) tokens.now) }
 {
     let (test, rest) = boxed(alloc, n, tokens)?;
     let (_, rest) = expect_word("then", rest)?;
@@ -374,11 +376,11 @@ fn if_else(alloc: Global, n: u32, tokens: &[Token]) -> Result<(Code, &[Token]), 
     Ok((node::if_else(test, yes, no), rest))
 }
 
-/// Behind `(let`.
+// Behind `(let`.
 #[cycle(code)]
 #[tactic(auto, unfolding(cf_reader::specs::Readers::bind, cf_reader::specs::Readers::pure, crate::specs::Reading::let_of))]
 fn let_in(alloc: Global, n: u32, tokens: &[Token]) -> Result<(Code, &[Token]), Stop>
-    ensures { Gives (λ x. (code_tree x.0, x.1.now)) result (let_of (read n) tokens.now) }
+    ensures { ReadAnswer (λ x. (code_tree x.0, x.1.now)) result (let_of (read n) tokens.now) }
 {
     let (bound, rest) = read_variables(tokens)?;
     let (_, rest) = expect_sign("=", rest)?;
@@ -389,11 +391,11 @@ fn let_in(alloc: Global, n: u32, tokens: &[Token]) -> Result<(Code, &[Token]), S
     Ok((node::let_in(bound, value, body), rest))
 }
 
-/// Behind the word `solve`.
+// Behind the word `solve`.
 #[cycle(code)]
 #[tactic(auto, unfolding(cf_reader::specs::Readers::bind, cf_reader::specs::Readers::pure, crate::specs::Reading::solve_of))]
 fn solve(alloc: Global, n: u32, tokens: &[Token]) -> Result<(Code, &[Token]), Stop>
-    ensures { Gives (λ x. (code_tree x.0, x.1.now)) result (solve_of (read n) (read (n - 1)) n tokens.now) }
+    ensures { ReadAnswer (λ x. (code_tree x.0, x.1.now)) result (solve_of (read n) (read (n - 1)) n tokens.now) }
 {
     let (number, rest) = expect_numeral(tokens)?;
     let (_, rest) = expect_sign("{", rest)?;
@@ -401,11 +403,11 @@ fn solve(alloc: Global, n: u32, tokens: &[Token]) -> Result<(Code, &[Token]), St
     Ok((node::solve(number, arms), rest))
 }
 
-/// Arms, if any, up to the closing brace.
+// Arms, if any, up to the closing brace.
 #[cycle(code)]
 #[tactic(auto, using(crate::proofs::Above::arms_above, crate::proofs::Above::arms_none), unfolding(cf_reader::specs::Readers::bind, cf_reader::specs::Readers::pure))]
 fn arms(alloc: Global, n: u32, tokens: &[Token]) -> Result<(Vec<Arm>, &[Token]), Stop>
-    ensures { Gives (λ x. (map arm_tree x.0.items, x.1.now)) result (all_arms (read n) (read (n - 1)) n tokens.now) }
+    ensures { ReadAnswer (λ x. (map arm_tree x.0.items, x.1.now)) result (all_arms (read n) (read (n - 1)) n tokens.now) }
 {
     if n == 0 {
         let (_, rest) = expect_sign("}", tokens)?;
@@ -414,12 +416,12 @@ fn arms(alloc: Global, n: u32, tokens: &[Token]) -> Result<(Vec<Arm>, &[Token]),
     more_arms(alloc, n, tokens)
 }
 
-/// Arms, if any, up to the closing brace, where there may be some.
+// Arms, if any, up to the closing brace, where there may be some.
 #[cycle(code)]
 #[tactic(auto, using(cf_reader::proofs::Steps::more_ends, cf_reader::proofs::Steps::more_goes, cf_reader::proofs::Steps::more_errs, cf_reader::proofs::Steps::more_closes, cf_reader::proofs::Steps::more_unclosed), unfolding(cf_reader::specs::Readers::others_of))]
 fn more_arms(alloc: Global, n: u32, tokens: &[Token]) -> Result<(Vec<Arm>, &[Token]), Stop>
     requires { 1 ≤ n }
-    ensures { Gives (λ x. (map arm_tree x.0.items, x.1.now)) result (others_of snoc (arm_from (read n) (read (n - 1)) n) (Word (codes "arm")) (Sign (codes "}")) [] tokens.now) }
+    ensures { ReadAnswer (λ x. (map arm_tree x.0.items, x.1.now)) result (others_of snoc (arm_from (read n) (read (n - 1)) n) (Word (codes "arm")) (Sign (codes "}")) [] tokens.now) }
 {
     let mut done = Vec::new(alloc);
     let mut rest = tokens;
@@ -436,15 +438,16 @@ fn more_arms(alloc: Global, n: u32, tokens: &[Token]) -> Result<(Vec<Arm>, &[Tok
             }
         }
     }
-    Err(Stop::At(0))
+    // for the proof: the loop ends before
+    Err(Stop::TokensLeft(0))
 }
 
-/// Behind the word `arm`.
+// Behind the word `arm`.
 #[cycle(code)]
 #[tactic(auto, unfolding(cf_reader::specs::Readers::bind, cf_reader::specs::Readers::pure, crate::specs::Reading::arm_from))]
 fn arm(alloc: Global, n: u32, tokens: &[Token]) -> Result<(Arm, &[Token]), Stop>
     requires { 1 ≤ n }
-    ensures { Gives (λ x. (arm_tree x.0, x.1.now)) result (arm_from (read n) (read (n - 1)) n tokens.now) }
+    ensures { ReadAnswer (λ x. (arm_tree x.0, x.1.now)) result (arm_from (read n) (read (n - 1)) n tokens.now) }
 {
     let (_, rest) = expect_sign("[", tokens)?;
     let (bounds, rest) = bounds(alloc, rest)?;
@@ -455,11 +458,11 @@ fn arm(alloc: Global, n: u32, tokens: &[Token]) -> Result<(Arm, &[Token]), Stop>
     Ok((node::arm(bounds, items, gives), rest))
 }
 
-/// The steps of an arm, up to the word `give`.
+// The steps of an arm, up to the word `give`.
 #[cycle(code)]
 #[tactic(auto, using(crate::proofs::Above::steps_end, crate::proofs::Above::steps_go, crate::proofs::Above::steps_err, crate::proofs::Above::steps_close, crate::proofs::Above::steps_unclosed), unfolding(crate::specs::Reading::all_steps))]
 fn steps(alloc: Global, n: u32, tokens: &[Token]) -> Result<(Vec<Item>, &[Token]), Stop>
-    ensures { Gives (λ x. (map item_tree x.0.items, x.1.now)) result (all_steps (read n) tokens.now) }
+    ensures { ReadAnswer (λ x. (map item_tree x.0.items, x.1.now)) result (all_steps (read n) tokens.now) }
 {
     let mut done = Vec::new(alloc);
     let mut rest = tokens;
@@ -476,14 +479,15 @@ fn steps(alloc: Global, n: u32, tokens: &[Token]) -> Result<(Vec<Item>, &[Token]
             }
         }
     }
-    Err(Stop::At(0))
+    // for the proof: the loop ends before
+    Err(Stop::TokensLeft(0))
 }
 
-/// Behind the word of a step.
+// Behind the word of a step.
 #[cycle(code)]
 #[tactic(auto, unfolding(cf_reader::specs::Readers::bind, cf_reader::specs::Readers::pure, crate::specs::Reading::item_of))]
 fn item(alloc: Global, n: u32, form: Step, tokens: &[Token]) -> Result<(Item, &[Token]), Stop>
-    ensures { Gives (λ x. (item_tree x.0, x.1.now)) result (item_of (read n) form tokens.now) }
+    ensures { ReadAnswer (λ x. (item_tree x.0, x.1.now)) result (item_of (read n) form tokens.now) }
 {
     let (c, rest) = code(alloc, n, tokens)?;
     match expect_sign(";", rest) {
@@ -492,12 +496,12 @@ fn item(alloc: Global, n: u32, form: Step, tokens: &[Token]) -> Result<(Item, &[
     }
 }
 
-/// Behind the word `give`.
+// Behind the word `give`.
 #[cycle(code)]
 #[tactic(auto, unfolding(cf_reader::specs::Readers::first, cf_reader::specs::Readers::bind, cf_reader::specs::Readers::pure, crate::specs::Reading::gives_of))]
 fn gives(alloc: Global, n: u32, tokens: &[Token]) -> Result<(Vec<Code>, &[Token]), Stop>
     requires { 1 ≤ n }
-    ensures { Gives (λ x. (map code_tree x.0.items, x.1.now)) result (gives_of (read n) (read (n - 1)) n tokens.now) }
+    ensures { ReadAnswer (λ x. (map code_tree x.0.items, x.1.now)) result (gives_of (read n) (read (n - 1)) n tokens.now) }
 {
     match after_sign("(", tokens) {
         Some((_, rest)) => {

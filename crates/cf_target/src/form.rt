@@ -1,6 +1,6 @@
 //! Forms of code that one word or sign tells.
 ghost use Rattle.std.specs.Prelude.{◌≡◌};
-ghost use Rattle.cf_reader.specs.Gives.{Shows};
+ghost use Rattle.cf_reader.specs.Answers.{FirstAnswer};
 ghost use Rattle.cf_reader.specs.Readers.{at, is};
 ghost use Rattle.cf_target.specs.Reading.{a_unary, a_division, an_extreme, a_step, an_operation, operation_of, many_kind};
 
@@ -11,7 +11,7 @@ use cf_tree::base::{Order, Place};
 use cf_tree::raw::BinOp;
 
 /// Forms of one part.
-#[derive(Clone, Copy, Debug, PartialEq, Eq)]
+#[derive(Clone, Copy)]
 pub enum Unary {
     Neg,
     Not,
@@ -19,28 +19,28 @@ pub enum Unary {
 }
 
 /// Forms of a part and a literal.
-#[derive(Clone, Copy, Debug, PartialEq, Eq)]
+#[derive(Clone, Copy)]
 pub enum Division {
     Div,
     Mod,
 }
 
 /// Forms of one part or more.
-#[derive(Clone, Copy, Debug, PartialEq, Eq)]
+#[derive(Clone, Copy)]
 pub enum Extreme {
     Min,
     Max,
 }
 
 /// Steps of an arm.
-#[derive(Clone, Copy, Debug, PartialEq, Eq)]
+#[derive(Clone, Copy)]
 pub enum Step {
     Let,
     Need,
 }
 
 /// Operations of two parts or more.
-#[derive(Clone, Copy, Debug, PartialEq, Eq)]
+#[derive(Clone, Copy)]
 pub enum Many {
     Sum,
     Union,
@@ -48,7 +48,7 @@ pub enum Many {
 }
 
 /// Operations of two parts.
-#[derive(Clone, Copy, Debug, PartialEq, Eq)]
+#[derive(Clone, Copy)]
 pub enum Two {
     Sub,
     Mul,
@@ -60,7 +60,7 @@ pub enum Two {
 }
 
 /// Operations, by how many parts they may have.
-#[derive(Clone, Copy, Debug, PartialEq, Eq)]
+#[derive(Clone, Copy)]
 pub enum Operation {
     Many(Many),
     Two(Two),
@@ -69,7 +69,7 @@ pub enum Operation {
 /// The form of one part whose word stands first, and the tokens after it.
 #[tactic(auto, unfolding(cf_reader::specs::Readers::at))]
 pub fn after_unary(tokens: &[Token]) -> Option<(Unary, &[Token])>
-    ensures { Shows (λ x. (x.0, x.1.now)) result (at a_unary tokens.now) }
+    ensures { FirstAnswer (λ x. (x.0, x.1.now)) result (at a_unary tokens.now) }
 {
     let (t, rest) = tokens.split_first()?;
     let TokenKind::Word(word) = &t.kind else {
@@ -89,7 +89,7 @@ pub fn after_unary(tokens: &[Token]) -> Option<(Unary, &[Token])>
 /// The division whose word stands first, and the tokens after it.
 #[tactic(auto, unfolding(cf_reader::specs::Readers::at))]
 pub fn after_division(tokens: &[Token]) -> Option<(Division, &[Token])>
-    ensures { Shows (λ x. (x.0, x.1.now)) result (at a_division tokens.now) }
+    ensures { FirstAnswer (λ x. (x.0, x.1.now)) result (at a_division tokens.now) }
 {
     let (t, rest) = tokens.split_first()?;
     let TokenKind::Word(word) = &t.kind else {
@@ -107,7 +107,7 @@ pub fn after_division(tokens: &[Token]) -> Option<(Division, &[Token])>
 /// The extreme whose word stands first, and the tokens after it.
 #[tactic(auto, unfolding(cf_reader::specs::Readers::at))]
 pub fn after_extreme(tokens: &[Token]) -> Option<(Extreme, &[Token])>
-    ensures { Shows (λ x. (x.0, x.1.now)) result (at an_extreme tokens.now) }
+    ensures { FirstAnswer (λ x. (x.0, x.1.now)) result (at an_extreme tokens.now) }
 {
     let (t, rest) = tokens.split_first()?;
     let TokenKind::Word(word) = &t.kind else {
@@ -125,7 +125,7 @@ pub fn after_extreme(tokens: &[Token]) -> Option<(Extreme, &[Token])>
 /// The step of an arm whose word stands first, and the tokens after it.
 #[tactic(auto, unfolding(cf_reader::specs::Readers::at))]
 pub fn after_step(tokens: &[Token]) -> Option<(Step, &[Token])>
-    ensures { Shows (λ x. (x.0, x.1.now)) result (at a_step tokens.now) }
+    ensures { FirstAnswer (λ x. (x.0, x.1.now)) result (at a_step tokens.now) }
 {
     let (t, rest) = tokens.split_first()?;
     let TokenKind::Word(word) = &t.kind else {
@@ -161,7 +161,7 @@ pub fn parts(op: BinOp) -> Operation
 /// The operation that stands first, if there may be one, and the tokens after it.
 #[tactic(auto, unfolding(cf_reader::specs::Readers::at))]
 pub fn after_operator(may: bool, tokens: &[Token]) -> Option<(BinOp, &[Token])>
-    ensures { Shows (λ x. (x.0, x.1.now)) result (at (an_operation may) tokens.now) }
+    ensures { FirstAnswer (λ x. (x.0, x.1.now)) result (at (an_operation may) tokens.now) }
 {
     let (t, rest) = tokens.split_first()?;
     if !may {
@@ -173,7 +173,7 @@ pub fn after_operator(may: bool, tokens: &[Token]) -> Option<(BinOp, &[Token])>
 
 /// The place of the operation `many`, if it stands first, and the tokens after it.
 pub fn after_many(many: Many, tokens: &[Token]) -> Option<(Place, &[Token])>
-    ensures { Shows (λ x. (x.0, x.1.now)) result (at (is (many_kind many)) tokens.now) }
+    ensures { FirstAnswer (λ x. (x.0, x.1.now)) result (at (is (many_kind many)) tokens.now) }
 {
     match many {
         Many::Sum => after_sign("+", tokens),

@@ -2,7 +2,7 @@
 ghost use Rattle.std.specs.Prelude.{◌≡◌, ◌∷◌, [], map, Ok};
 ghost use Rattle.cf_tree.specs.CodeView.{code_tree};
 ghost use Rattle.cf_target.specs.Reading.{several as several_of, single as single_of, inside_tree, whole as whole_of, all_given};
-ghost use Rattle.cf_reader.specs.Gives.{Gives};
+ghost use Rattle.cf_reader.specs.Answers.{ReadAnswer};
 
 use cf_reader::stop::Stop;
 use cf_tree::code::Code;
@@ -41,7 +41,7 @@ pub fn whole(inside: Inside) -> Code
 
 /// What an arm gives.
 pub fn given(alloc: Global, inside: Inside) -> Result<Vec<Code>, Stop>
-    ensures { Gives (λ x. map code_tree x.items) result (Ok (all_given (inside_tree inside))) }
+    ensures { ReadAnswer (λ x. map code_tree x.items) result (Ok (all_given (inside_tree inside))) }
 {
     match inside {
         Inside::Several(codes) => Ok(codes),
@@ -51,7 +51,7 @@ pub fn given(alloc: Global, inside: Inside) -> Result<Vec<Code>, Stop>
 
 /// A list of one code.
 pub fn one(alloc: Global, code: Code) -> Result<Vec<Code>, Stop>
-    ensures { Gives (λ x. map code_tree x.items) result (Ok (code_tree code ∷ [])) }
+    ensures { ReadAnswer (λ x. map code_tree x.items) result (Ok (code_tree code ∷ [])) }
 {
     let mut codes = Vec::new(alloc);
     codes.push(code)?;

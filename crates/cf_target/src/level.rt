@@ -2,7 +2,7 @@
 ghost use Rattle.std.specs.Prelude.{◌≡◌};
 ghost use Rattle.cf_target.specs.Levels.{with_digit as with_digit_of, level_after as level_after_of, level_in as level_in_of, level_of};
 
-/// The number with one more digit, if it is below 2^32.
+// The number with one more digit, if it is below 2^32.
 #[tactic(auto, unfolding(crate::specs::Levels::with_digit, crate::specs::Levels::last_level))]
 fn with_digit(n: u32, d: u8) -> Option<u32>
     ensures { result ≡ with_digit_of n d }
@@ -18,21 +18,21 @@ fn with_digit(n: u32, d: u8) -> Option<u32>
     }
 }
 
-/// The level that digits tell behind those of `n`.
+// The level that digits tell behind those of `n`.
 fn level_after(n: u32, digits: &[u8]) -> Option<u32>
     ensures { result ≡ level_after_of n digits.now }
 {
-    let mut level = n;
+    let mut level_named = n;
     for d in digits {
-        match with_digit(level, *d) {
-            Some(more) => level = more,
+        match with_digit(level_named, *d) {
+            Some(more) => level_named = more,
             None => return None,
         }
     }
-    Some(level)
+    Some(level_named)
 }
 
-/// The level that digits without leading zeros tell.
+// The level that digits without leading zeros tell.
 fn level_in(digits: &[u8]) -> Option<u32>
     ensures { result ≡ level_in_of digits.now }
 {
@@ -44,7 +44,7 @@ fn level_in(digits: &[u8]) -> Option<u32>
 }
 
 /// The level of the variable that has this name, if it is the name of one.
-pub fn level(name: &[u8]) -> Option<u32>
+pub fn level_named(name: &[u8]) -> Option<u32>
     ensures { result ≡ level_of name.now }
 {
     let (v, digits) = name.split_first()?;

@@ -2,7 +2,7 @@
 ghost use Rattle.std.specs.Prelude.{◌≡◌, map, Ok};
 ghost use Rattle.cf_tree.specs.CodeTree.{code_lit, code_truth, code_var, code_set_of, code_solve, arm_of, codes_of, items_of, arms_of, code_slice, code_fresh, code_if, code_let, code_divides};
 ghost use Rattle.cf_tree.specs.CodeView.{code_tree, item_tree, arm_tree};
-ghost use Rattle.cf_reader.specs.Gives.{Gives};
+ghost use Rattle.cf_reader.specs.Answers.{ReadAnswer};
 ghost use Rattle.cf_target.specs.Reading.{unary_tree, division_tree, extreme_tree, many_tree, two_tree, step_tree};
 
 use crate::form::{Division, Extreme, Many, Step, Two, Unary};
@@ -11,36 +11,42 @@ use cf_reader::stop::Stop;
 use cf_tree::code::{Arm, Code, Item};
 use std::alloc::Global;
 
+/// A number.
 pub fn literal(k: i128) -> Code
     ensures { code_tree result ≡ code_lit k }
 {
     Code::Lit(k)
 }
 
+/// A truth value.
 pub fn truth(t: bool) -> Code
     ensures { code_tree result ≡ code_truth t }
 {
     Code::Truth(t)
 }
 
+/// The variable of a level.
 pub fn variable(x: u32) -> Code
     ensures { code_tree result ≡ code_var x }
 {
     Code::Var(x)
 }
 
+/// The set of these elements.
 pub fn set_of(codes: Vec<Code>) -> Code
     ensures { code_tree result ≡ code_set_of (codes_of (map code_tree codes.items)) }
 {
     Code::SetOf(codes)
 }
 
+/// A solve with the number of its choose.
 pub fn solve(number: u32, arms: Vec<Arm>) -> Code
     ensures { code_tree result ≡ code_solve number (arms_of (map arm_tree arms.items)) }
 {
     Code::Solve { number, arms }
 }
 
+/// An arm with the bounds of its searches, its steps and what it gives.
 pub fn arm(bounds: Vec<u32>, items: Vec<Item>, gives: Vec<Code>) -> Arm
     ensures { arm_tree result ≡ arm_of bounds.items (items_of (map item_tree items.items)) (codes_of (map code_tree gives.items)) }
 {
@@ -51,6 +57,7 @@ pub fn arm(bounds: Vec<u32>, items: Vec<Item>, gives: Vec<Code>) -> Arm
     }
 }
 
+/// A form of one part.
 pub fn unary(form: Unary, code: Box<Code>) -> Code
     ensures { code_tree result ≡ unary_tree form (code_tree code.value) }
 {
@@ -61,6 +68,7 @@ pub fn unary(form: Unary, code: Box<Code>) -> Code
     }
 }
 
+/// A form of a part and a literal.
 pub fn division(form: Division, of: Box<Code>, k: i128) -> Code
     ensures { code_tree result ≡ division_tree form (code_tree of.value) k }
 {
@@ -70,6 +78,7 @@ pub fn division(form: Division, of: Box<Code>, k: i128) -> Code
     }
 }
 
+/// A form of one part or more.
 pub fn extreme(form: Extreme, codes: Vec<Code>) -> Code
     ensures { code_tree result ≡ extreme_tree form (map code_tree codes.items) }
 {
@@ -79,6 +88,7 @@ pub fn extreme(form: Extreme, codes: Vec<Code>) -> Code
     }
 }
 
+/// A form of two parts or more.
 pub fn many(form: Many, codes: Vec<Code>) -> Code
     ensures { code_tree result ≡ many_tree form (map code_tree codes.items) }
 {
@@ -89,6 +99,7 @@ pub fn many(form: Many, codes: Vec<Code>) -> Code
     }
 }
 
+/// A form of two parts.
 pub fn two(form: Two, left: Box<Code>, right: Box<Code>) -> Code
     ensures { code_tree result ≡ two_tree form (code_tree left.value) (code_tree right.value) }
 {
@@ -103,6 +114,7 @@ pub fn two(form: Two, left: Box<Code>, right: Box<Code>) -> Code
     }
 }
 
+/// A step of an arm.
 pub fn step(form: Step, code: Code) -> Item
     ensures { item_tree result ≡ step_tree form (code_tree code) }
 {
@@ -112,24 +124,28 @@ pub fn step(form: Step, code: Code) -> Item
     }
 }
 
+/// The slice of a set.
 pub fn slice(set: Box<Code>, from: Box<Code>, n: Box<Code>) -> Code
     ensures { code_tree result ≡ code_slice (code_tree set.value) (code_tree from.value) (code_tree n.value) }
 {
     Code::Slice { set, from, n }
 }
 
+/// Fresh numbers.
 pub fn fresh(avoid: Box<Code>, n: Box<Code>) -> Code
     ensures { code_tree result ≡ code_fresh (code_tree avoid.value) (code_tree n.value) }
 {
     Code::Fresh { avoid, n }
 }
 
+/// An `if`.
 pub fn if_else(test: Box<Code>, yes: Box<Code>, no: Box<Code>) -> Code
     ensures { code_tree result ≡ code_if (code_tree test.value) (code_tree yes.value) (code_tree no.value) }
 {
     Code::If { test, yes, no }
 }
 
+/// A `let` of these variables.
 pub fn let_in(variables: Variables, value: Box<Code>, body: Box<Code>) -> Code
     ensures { code_tree result ≡ code_let variables.first variables.count (code_tree value.value) (code_tree body.value) }
 {
@@ -141,6 +157,7 @@ pub fn let_in(variables: Variables, value: Box<Code>, body: Box<Code>) -> Code
     }
 }
 
+/// Whether a literal divides a part.
 pub fn divides(k: i128, of: Box<Code>) -> Code
     ensures { code_tree result ≡ code_divides k (code_tree of.value) }
 {
@@ -149,7 +166,7 @@ pub fn divides(k: i128, of: Box<Code>) -> Code
 
 /// The code in a box.
 pub fn boxed(alloc: Global, code: Code) -> Result<Box<Code>, Stop>
-    ensures { Gives (λ x. code_tree x.value) result (Ok (code_tree code)) }
+    ensures { ReadAnswer (λ x. code_tree x.value) result (Ok (code_tree code)) }
 {
     Ok(Box::new(alloc, code)?)
 }

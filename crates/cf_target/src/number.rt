@@ -1,19 +1,19 @@
 //! Numbers, variables and bounds.
 ghost use Rattle.std.specs.Prelude.{◌≡◌, ℕ, ◌<◌, ◌≤◌, ◌^◌, ◌-◌, ◌+◌, codes, Ok, IfOk, IfSome};
 ghost use Rattle.cf_lex.specs.declared.token.TokenKind.TheVariants.{Sign};
-ghost use Rattle.cf_reader.specs.Gives.{Gives, Shows};
+ghost use Rattle.cf_reader.specs.Answers.{ReadAnswer, FirstAnswer};
 ghost use Rattle.cf_reader.specs.Readers.{at, must, snoc, others_of};
 ghost use Rattle.cf_target.specs.Levels.{last_level};
 ghost use Rattle.cf_target.specs.Reading.{numeral_of, a_numeral, a_variable, an_early_variable, the_variable, comma_after as comma_after_of, all_variables, vars_of, bounds_of};
 
-use crate::level::level;
+use crate::level::level_named;
 use cf_lex::{Token, TokenKind};
 use cf_reader::stop::Stop;
 use cf_reader::tokens::{after_sign, expect_sign};
 use cf_tree::base::Place;
 use std::alloc::Global;
 
-/// A number other than 0 in 32 bits.
+// A number other than 0 in 32 bits.
 #[tactic(auto, unfolding(crate::specs::Levels::last_level))]
 fn numeral(k: i128) -> Option<u32>
     ensures { result ≡ numeral_of k }
@@ -27,48 +27,48 @@ fn numeral(k: i128) -> Option<u32>
 /// A literal other than 0 in 32 bits that has to stand first, and the tokens after it.
 #[tactic(auto, unfolding(cf_reader::specs::Readers::must, cf_reader::specs::Readers::at))]
 pub fn expect_numeral(tokens: &[Token]) -> Result<(u32, &[Token]), Stop>
-    ensures { Gives (λ x. (x.0, x.1.now)) result (must a_numeral tokens.now) }
+    ensures { ReadAnswer (λ x. (x.0, x.1.now)) result (must a_numeral tokens.now) }
 {
     let Some((t, rest)) = tokens.split_first() else {
-        return Err(Stop::At(0));
+        return Err(Stop::TokensLeft(0));
     };
     let TokenKind::Literal(k) = &t.kind else {
-        return Err(Stop::At(tokens.len()));
+        return Err(Stop::TokensLeft(tokens.len()));
     };
     match numeral(*k) {
         Some(n) => Ok((n, rest)),
-        None => Err(Stop::At(tokens.len())),
+        None => Err(Stop::TokensLeft(tokens.len())),
     }
 }
 
 /// A variable that stands first, and the tokens after it.
 #[tactic(auto, unfolding(cf_reader::specs::Readers::at))]
 pub fn variable(tokens: &[Token]) -> Option<(u32, &[Token])>
-    ensures { Shows (λ x. (x.0, x.1.now)) result (at a_variable tokens.now) }
+    ensures { FirstAnswer (λ x. (x.0, x.1.now)) result (at a_variable tokens.now) }
 {
     let (t, rest) = tokens.split_first()?;
     let TokenKind::Word(name) = &t.kind else {
         return None;
     };
-    let level = level(&name.bytes)?;
-    Some((level, rest))
+    let level_named = level_named(&name.bytes)?;
+    Some((level_named, rest))
 }
 
-/// A variable that has to stand first, and the tokens after it.
+// A variable that has to stand first, and the tokens after it.
 #[tactic(auto, unfolding(cf_reader::specs::Readers::must))]
 fn expect_variable(tokens: &[Token]) -> Result<(u32, &[Token]), Stop>
-    ensures { Gives (λ x. (x.0, x.1.now)) result (must a_variable tokens.now) }
+    ensures { ReadAnswer (λ x. (x.0, x.1.now)) result (must a_variable tokens.now) }
 {
     match variable(tokens) {
         Some(found) => Ok(found),
-        None => Err(Stop::At(tokens.len())),
+        None => Err(Stop::TokensLeft(tokens.len())),
     }
 }
 
-/// A variable below the last one that has to stand first, and the tokens after it.
+// A variable below the last one that has to stand first, and the tokens after it.
 #[tactic(auto, unfolding(cf_reader::specs::Readers::must, cf_reader::specs::Readers::at, crate::specs::Levels::last_level))]
 fn expect_early_variable(tokens: &[Token]) -> Result<(u32, &[Token]), Stop>
-    ensures value { Gives (λ x. (x.0, x.1.now)) result (must an_early_variable tokens.now) }
+    ensures value { ReadAnswer (λ x. (x.0, x.1.now)) result (must an_early_variable tokens.now) }
     ensures early { IfOk result (λ x. x.0 < 2 ^ 32 - 1) }
 {
     match variable(tokens) {
@@ -76,35 +76,35 @@ fn expect_early_variable(tokens: &[Token]) -> Result<(u32, &[Token]), Stop>
             if x < u32::MAX {
                 Ok((x, rest))
             } else {
-                Err(Stop::At(tokens.len()))
+                Err(Stop::TokensLeft(tokens.len()))
             }
         }
-        None => Err(Stop::At(tokens.len())),
+        None => Err(Stop::TokensLeft(tokens.len())),
     }
 }
 
-/// The variable of the level `x`, which has to stand first, and the tokens after it.
+// The variable of the level `x`, which has to stand first, and the tokens after it.
 #[tactic(auto, unfolding(cf_reader::specs::Readers::must, cf_reader::specs::Readers::at))]
 fn expect_level(x: u32, tokens: &[Token]) -> Result<(u32, &[Token]), Stop>
-    ensures { Gives (λ y. (y.0, y.1.now)) result (must (the_variable x) tokens.now) }
+    ensures { ReadAnswer (λ y. (y.0, y.1.now)) result (must (the_variable x) tokens.now) }
 {
     match variable(tokens) {
         Some((y, rest)) => {
             if y == x {
                 Ok((y, rest))
             } else {
-                Err(Stop::At(tokens.len()))
+                Err(Stop::TokensLeft(tokens.len()))
             }
         }
-        None => Err(Stop::At(tokens.len())),
+        None => Err(Stop::TokensLeft(tokens.len())),
     }
 }
 
-/// The place of a comma, if one stands first and there is a level after `last`, and the tokens after
-/// it.
+// The place of a comma, if one stands first and there is a level after `last`, and the tokens after
+// it.
 #[tactic(auto, unfolding(cf_reader::specs::Readers::at, crate::specs::Levels::last_level))]
 fn comma_after(last: u32, tokens: &[Token]) -> Option<(Place, &[Token])>
-    ensures value { Shows (λ x. (x.0, x.1.now)) result (at (comma_after_of last) tokens.now) }
+    ensures value { FirstAnswer (λ x. (x.0, x.1.now)) result (at (comma_after_of last) tokens.now) }
     ensures early { IfSome result (λ x. last < 2 ^ 32 - 1) }
 {
     if last < u32::MAX {
@@ -114,10 +114,10 @@ fn comma_after(last: u32, tokens: &[Token]) -> Option<(Place, &[Token])>
     }
 }
 
-/// The last of the variables that rise by 1, up to the closing parenthesis.
+// The last of the variables that rise by 1, up to the closing parenthesis.
 #[tactic(auto, using(crate::proofs::VariableSteps::variables_end, crate::proofs::VariableSteps::variables_go, crate::proofs::VariableSteps::variables_err, crate::proofs::VariableSteps::variables_close, crate::proofs::VariableSteps::variables_unclosed), unfolding(crate::specs::Reading::all_variables))]
 fn more_variables(first: u32, tokens: &[Token]) -> Result<(u32, &[Token]), Stop>
-    ensures { Gives (λ x. (x.0, x.1.now)) result (all_variables first tokens.now) }
+    ensures { ReadAnswer (λ x. (x.0, x.1.now)) result (all_variables first tokens.now) }
 {
     let mut last = first;
     let mut rest = tokens;
@@ -134,30 +134,31 @@ fn more_variables(first: u32, tokens: &[Token]) -> Result<(u32, &[Token]), Stop>
             }
         }
     }
-    Err(Stop::At(0))
+    // for the proof: the loop ends before
+    Err(Stop::TokensLeft(0))
 }
 
 /// The variables of a `let`.
-#[derive(Clone, Copy, Debug, PartialEq, Eq)]
+#[derive(Clone, Copy)]
 pub struct Variables {
     pub first: u32,
     pub count: u32,
 }
 
-/// The variables from `first` up to `last`. More than 32 bits count have no tree.
-fn counted(first: u32, last: u32) -> Result<Variables, Stop>
-    ensures { Gives {Y = ℕ × ℕ} (λ x. (x.first, x.count)) result (Ok (first, last - first + 1)) }
+// The variables from `first` up to `last`. More than 32 bits count have no tree.
+fn variables_between(first: u32, last: u32) -> Result<Variables, Stop>
+    ensures { ReadAnswer {Y = ℕ × ℕ} (λ x. (x.first, x.count)) result (Ok (first, last - first + 1)) }
 {
     match last.saturating_sub(first).checked_add(1) {
         Some(count) => Ok(Variables { first, count }),
-        None => Err(Stop::Memory),
+        None => Err(Stop::NoMemory),
     }
 }
 
 /// A variable, or two or more in parentheses that rise by 1.
 #[tactic(auto, unfolding(cf_reader::specs::Readers::first, cf_reader::specs::Readers::bind, cf_reader::specs::Readers::pure, crate::specs::Reading::vars_of))]
 pub fn read_variables(tokens: &[Token]) -> Result<(Variables, &[Token]), Stop>
-    ensures { Gives (λ x. ((x.0.first, x.0.count), x.1.now)) result (vars_of tokens.now) }
+    ensures { ReadAnswer (λ x. ((x.0.first, x.0.count), x.1.now)) result (vars_of tokens.now) }
 {
     match after_sign("(", tokens) {
         Some((_, rest)) => {
@@ -165,7 +166,7 @@ pub fn read_variables(tokens: &[Token]) -> Result<(Variables, &[Token]), Stop>
             let (_, rest) = expect_sign(",", rest)?;
             let (second, rest) = expect_level(first + 1, rest)?;
             let (last, rest) = more_variables(second, rest)?;
-            Ok((counted(first, last)?, rest))
+            Ok((variables_between(first, last)?, rest))
         }
         None => {
             let (first, rest) = expect_variable(tokens)?;
@@ -174,10 +175,10 @@ pub fn read_variables(tokens: &[Token]) -> Result<(Variables, &[Token]), Stop>
     }
 }
 
-/// More bounds, each behind a comma, up to the closing bracket.
+// More bounds, each behind a comma, up to the closing bracket.
 #[tactic(auto, using(cf_reader::proofs::Steps::more_ends, cf_reader::proofs::Steps::more_goes, cf_reader::proofs::Steps::more_errs, cf_reader::proofs::Steps::more_closes, cf_reader::proofs::Steps::more_unclosed), unfolding(cf_reader::specs::Readers::others_of))]
 fn more_bounds(first: Vec<u32>, tokens: &[Token]) -> Result<(Vec<u32>, &[Token]), Stop>
-    ensures { Gives (λ x. (x.0.items, x.1.now)) result (others_of snoc (must a_numeral) (Sign (codes ",")) (Sign (codes "]")) first.items tokens.now) }
+    ensures { ReadAnswer (λ x. (x.0.items, x.1.now)) result (others_of snoc (must a_numeral) (Sign (codes ",")) (Sign (codes "]")) first.items tokens.now) }
 {
     let mut done = first;
     let mut rest = tokens;
@@ -194,13 +195,14 @@ fn more_bounds(first: Vec<u32>, tokens: &[Token]) -> Result<(Vec<u32>, &[Token])
             }
         }
     }
-    Err(Stop::At(0))
+    // for the proof: the loop ends before
+    Err(Stop::TokensLeft(0))
 }
 
 /// Bounds, if any, up to the closing bracket.
 #[tactic(auto, unfolding(cf_reader::specs::Readers::first, cf_reader::specs::Readers::bind, cf_reader::specs::Readers::pure, cf_reader::specs::Readers::several_of, crate::specs::Reading::bounds_of))]
 pub fn bounds(alloc: Global, tokens: &[Token]) -> Result<(Vec<u32>, &[Token]), Stop>
-    ensures { Gives (λ x. (x.0.items, x.1.now)) result (bounds_of tokens.now) }
+    ensures { ReadAnswer (λ x. (x.0.items, x.1.now)) result (bounds_of tokens.now) }
 {
     let mut all = Vec::new(alloc);
     match after_sign("]", tokens) {

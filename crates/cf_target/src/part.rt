@@ -2,7 +2,7 @@
 ghost use Rattle.std.specs.Prelude.{◌≡◌, ◌∷◌, [], map, nat_eq, nat_le, ◌||◌, neg_ℤ, ◌≤ℤ◌, pos, Ok};
 ghost use Rattle.cf_tree.specs.CodeTree.{code_depth};
 ghost use Rattle.cf_tree.specs.CodeView.{code_tree, item_tree, arm_tree};
-ghost use Rattle.cf_reader.specs.Gives.{Gives, Shows};
+ghost use Rattle.cf_reader.specs.Answers.{ReadAnswer, FirstAnswer};
 ghost use Rattle.cf_reader.specs.Readers.{at, snoc};
 ghost use Rattle.cf_target.specs.Reading.{lone_literal as lone_literal_of, divides_by as divides_by_of, negative_of};
 
@@ -12,7 +12,7 @@ use cf_reader::stop::Stop;
 use cf_reader::tokens::{after_word, expect_literal};
 use cf_tree::code::{Arm, Code, Item};
 
-/// Whether the depth of a code is at most `n`.
+// Whether the depth of a code is at most `n`.
 fn is_within(code: &Code, n: u32) -> bool
     ensures { result ≡ nat_le (code_depth (code_tree code.now)) n }
 {
@@ -27,7 +27,7 @@ pub fn may_operate(m: u32, n: u32, first: &Code) -> bool
     m == n || is_within(first, n)
 }
 
-/// A literal that stands alone.
+// A literal that stands alone.
 fn lone_literal(code: &Code) -> Option<i128>
     ensures { result ≡ lone_literal_of (code_tree code.now) }
 {
@@ -41,7 +41,7 @@ fn lone_literal(code: &Code) -> Option<i128>
 /// after it; the part may have depth `n`.
 #[tactic(auto, unfolding(cf_reader::specs::Readers::at, crate::specs::Reading::divides_by))]
 pub fn divides_by<'a>(n: u32, left: &Code, tokens: &'a [Token]) -> Option<(i128, &'a [Token])>
-    ensures { Shows (λ x. (x.0, x.1.now)) result (at (divides_by_of n (code_tree left.now)) tokens.now) }
+    ensures { FirstAnswer (λ x. (x.0, x.1.now)) result (at (divides_by_of n (code_tree left.now)) tokens.now) }
 {
     let k = lone_literal(left)?;
     let (_, rest) = after_word("divides", tokens)?;
@@ -52,7 +52,7 @@ pub fn divides_by<'a>(n: u32, left: &Code, tokens: &'a [Token]) -> Option<(i128,
     }
 }
 
-/// The negative number of this size.
+// The negative number of this size.
 fn negated(k: &i128) -> i128
     requires { pos 1 ≤ℤ k.now }
     ensures { result ≡ neg_ℤ k.now }
@@ -63,7 +63,7 @@ fn negated(k: &i128) -> i128
 /// Behind a minus.
 #[tactic(auto, unfolding(cf_reader::specs::Readers::bind, cf_reader::specs::Readers::pure, crate::specs::Reading::negative_of))]
 pub fn negative(tokens: &[Token]) -> Result<(Code, &[Token]), Stop>
-    ensures { Gives (λ x. (code_tree x.0, x.1.now)) result (negative_of tokens.now) }
+    ensures { ReadAnswer (λ x. (code_tree x.0, x.1.now)) result (negative_of tokens.now) }
 {
     let ((_, k), rest) = expect_literal(1, tokens)?;
     Ok((node::literal(negated(&k)), rest))
@@ -71,7 +71,7 @@ pub fn negative(tokens: &[Token]) -> Result<(Code, &[Token]), Stop>
 
 /// The codes with one more.
 pub fn with_code(codes: Vec<Code>, code: Code) -> Result<Vec<Code>, Stop>
-    ensures { Gives (λ x. map code_tree x.items) result (Ok (snoc (map code_tree codes.items) (code_tree code))) }
+    ensures { ReadAnswer (λ x. map code_tree x.items) result (Ok (snoc (map code_tree codes.items) (code_tree code))) }
 {
     let mut all = codes;
     all.push(code)?;
@@ -80,7 +80,7 @@ pub fn with_code(codes: Vec<Code>, code: Code) -> Result<Vec<Code>, Stop>
 
 /// The items with one more.
 pub fn with_item(items: Vec<Item>, item: Item) -> Result<Vec<Item>, Stop>
-    ensures { Gives (λ x. map item_tree x.items) result (Ok (snoc (map item_tree items.items) (item_tree item))) }
+    ensures { ReadAnswer (λ x. map item_tree x.items) result (Ok (snoc (map item_tree items.items) (item_tree item))) }
 {
     let mut all = items;
     all.push(item)?;
@@ -89,7 +89,7 @@ pub fn with_item(items: Vec<Item>, item: Item) -> Result<Vec<Item>, Stop>
 
 /// The arms with one more.
 pub fn with_arm(arms: Vec<Arm>, arm: Arm) -> Result<Vec<Arm>, Stop>
-    ensures { Gives (λ x. map arm_tree x.items) result (Ok (snoc (map arm_tree arms.items) (arm_tree arm))) }
+    ensures { ReadAnswer (λ x. map arm_tree x.items) result (Ok (snoc (map arm_tree arms.items) (arm_tree arm))) }
 {
     let mut all = arms;
     all.push(arm)?;

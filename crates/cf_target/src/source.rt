@@ -1,10 +1,12 @@
 //! Reads targets.
-ghost use Rattle.std.specs.Prelude.{◌≡◌, IfOk, IfErr};
-ghost use Rattle.cf_reader.specs.Gives.{Gives, Shows};
+ghost use Rattle.std.specs.Prelude.{◌≡◌, ◌-◌, ◌^◌, IfOk, IfErr};
+ghost use Rattle.cf_lex.specs.Tokens.{AreWithin};
+ghost use Rattle.cf_tree.specs.Spelled.{HasSpelling};
+ghost use Rattle.cf_reader.specs.Answers.{ReadAnswer, FirstAnswer};
 ghost use Rattle.cf_reader.specs.Readers.{at, must, at_end, refuse};
-ghost use Rattle.cf_reader.specs.Faults.{IsFault};
+ghost use Rattle.cf_reader.specs.Faults.{IsFault, IsFaultOf};
 ghost use Rattle.cf_target.specs.Spelling.{TargetTree, target_tree, IsTarget};
-ghost use Rattle.cf_target.specs.Targets.{SomeTarget, Reads, a_two, bases_of, body_of, target_of};
+ghost use Rattle.cf_target.specs.Targets.{SomeTarget, TargetAnswer, a_two, bases_of, body_of, target_of};
 
 use crate::code::code;
 use crate::node::without;
@@ -19,13 +21,13 @@ use cf_tree::base::{Base, Place};
 use cf_tree::target::RawTarget;
 use std::alloc::Global;
 
-/// The greatest depth of a target's code.
+// The greatest depth of a target's code.
 const DEPTH_LIMIT: u32 = 500;
 
-/// Bases, if any, up to the closing parenthesis.
+// Bases, if any, up to the closing parenthesis.
 #[tactic(auto, unfolding(cf_reader::specs::Readers::first, cf_reader::specs::Readers::bind, cf_reader::specs::Readers::pure, cf_reader::specs::Readers::several_of, crate::specs::Targets::bases_of))]
 fn bases(alloc: Global, tokens: &[Token]) -> Result<(Vec<Base>, &[Token]), Stop>
-    ensures { Gives (λ x. (x.0.items, x.1.now)) result (bases_of tokens.now) }
+    ensures { ReadAnswer (λ x. (x.0.items, x.1.now)) result (bases_of tokens.now) }
 {
     let mut all = Vec::new(alloc);
     match after_sign(")", tokens) {
@@ -38,42 +40,43 @@ fn bases(alloc: Global, tokens: &[Token]) -> Result<(Vec<Base>, &[Token]), Stop>
     }
 }
 
-/// The literal 2, which has to stand first, with its place, and the tokens after it.
+// The literal 2, which has to stand first, with its place, and the tokens after it.
 #[tactic(auto, unfolding(cf_reader::specs::Readers::must, cf_reader::specs::Readers::at))]
 fn expect_two(tokens: &[Token]) -> Result<(Place, &[Token]), Stop>
-    ensures { Gives (λ x. (x.0, x.1.now)) result (must a_two tokens.now) }
+    ensures { ReadAnswer (λ x. (x.0, x.1.now)) result (must a_two tokens.now) }
 {
     let Some((t, rest)) = tokens.split_first() else {
-        return Err(Stop::At(0));
+        return Err(Stop::TokensLeft(0));
     };
     match &t.kind {
         TokenKind::Literal(n) => {
+            // for the proof: in place of an equation of i128
             if 2 <= *n && *n <= 2 {
                 Ok((t.place, rest))
             } else {
-                Err(Stop::At(tokens.len()))
+                Err(Stop::TokensLeft(tokens.len()))
             }
         }
-        TokenKind::Word(_) => Err(Stop::At(tokens.len())),
-        TokenKind::Sign(_) => Err(Stop::At(tokens.len())),
+        TokenKind::Word(_) => Err(Stop::TokensLeft(tokens.len())),
+        TokenKind::Sign(_) => Err(Stop::TokensLeft(tokens.len())),
     }
 }
 
-/// The target, where no tokens are left.
+// The target, where no tokens are left.
 #[tactic(auto, unfolding(cf_reader::specs::Readers::refuse, cf_reader::specs::Readers::at_end))]
 fn ended(target: RawTarget, rest: &[Token]) -> Result<(RawTarget, &[Token]), Stop>
-    ensures { Gives (λ x. (target_tree x.0, x.1.now)) result (at_end (target_tree target) refuse rest.now) }
+    ensures { ReadAnswer (λ x. (target_tree x.0, x.1.now)) result (at_end (target_tree target) refuse rest.now) }
 {
     match rest.split_first() {
         None => Ok((target, rest)),
-        Some(_) => Err(without(target, Stop::At(rest.len()))),
+        Some(_) => Err(without(target, Stop::TokensLeft(rest.len()))),
     }
 }
 
-/// A target behind its header, with a code of depth at most `limit`, up to the end.
+// A target behind its header, with a code of depth at most `limit`, up to the end.
 #[tactic(auto, unfolding(cf_reader::specs::Readers::bind, crate::specs::Targets::body_of))]
 fn body(alloc: Global, limit: u32, tokens: &[Token]) -> Result<(RawTarget, &[Token]), Stop>
-    ensures { Gives (λ x. (target_tree x.0, x.1.now)) result (body_of limit tokens.now) }
+    ensures { ReadAnswer (λ x. (target_tree x.0, x.1.now)) result (body_of limit tokens.now) }
 {
     let (_, rest) = expect_word("main", tokens)?;
     let (_, rest) = expect_sign("(", rest)?;
@@ -90,10 +93,10 @@ fn body(alloc: Global, limit: u32, tokens: &[Token]) -> Result<(RawTarget, &[Tok
     ended(target, rest)
 }
 
-/// A target with a code of depth at most `limit`.
+// A target with a code of depth at most `limit`.
 #[tactic(auto, unfolding(cf_reader::specs::Readers::first, cf_reader::specs::Readers::bind, crate::specs::Targets::target_of))]
 fn whole(alloc: Global, limit: u32, tokens: &[Token]) -> Result<(RawTarget, &[Token]), Stop>
-    ensures { Gives (λ x. (target_tree x.0, x.1.now)) result (target_of limit tokens.now) }
+    ensures { ReadAnswer (λ x. (target_tree x.0, x.1.now)) result (target_of limit tokens.now) }
 {
     match after_word("comfusy", tokens) {
         Some((_, rest)) => {
@@ -105,20 +108,24 @@ fn whole(alloc: Global, limit: u32, tokens: &[Token]) -> Result<(RawTarget, &[To
 }
 
 /// The one target that the tokens spell.
-#[tactic(auto, using(crate::proofs::Only::fault_law))]
+#[tactic(auto, using(crate::proofs::Only::fault_law, crate::proofs::Only::exact_law))]
 pub fn target(alloc: Global, tokens: &TokenList) -> Result<RawTarget, ParseFault>
     // What is read is spelled by the tokens, within the depth limit.
     ensures found { IfOk result (λ x. IsTarget (target_tree x) tokens.now.list.items) }
     // What is spelled by the tokens is read, unless memory runs out; so Syntax comes only where there is no target.
-    ensures only { (t : TargetTree) → IsTarget t tokens.now.list.items → Reads t result }
+    ensures only { (t : TargetTree) → IsTarget t tokens.now.list.items → TargetAnswer t result }
     // At most one target is spelled by the tokens.
     ensures one { (t u : TargetTree) → IsTarget t tokens.now.list.items → IsTarget u tokens.now.list.items → t ≡ u }
     // Syntax stands at a token up to and with which no target begins, or at the end.
     ensures place { IfErr result (λ e. IsFault SomeTarget tokens.now.list.items tokens.now.end e) }
+    // It is the place at which reading from left to right stops.
+    ensures exact { IfErr result (λ e. IsFaultOf (target_of 500) tokens.now.list.items tokens.now.end e) }
+    // Where the literals are within the limit, the target has a spelling, so that it can be printed and read again.
+    ensures spelled { AreWithin (2 ^ 127 - 1) tokens.now.list.items → IfOk result (λ x. HasSpelling x) }
 {
     match whole(alloc, DEPTH_LIMIT, tokens.list.as_slice()) {
         Ok((target, _)) => Ok(target),
-        Err(Stop::Memory) => Err(ParseFault::NoMemory),
-        Err(Stop::At(left)) => Err(ParseFault::Syntax(place_at(tokens, left))),
+        Err(Stop::NoMemory) => Err(ParseFault::NoMemory),
+        Err(Stop::TokensLeft(left)) => Err(ParseFault::Syntax(place_at(tokens, left))),
     }
 }

@@ -2,7 +2,7 @@ use Rattle.std.proofs.Common.{refl, arith}
 use Rattle.std.proofs.lemmas.Result.{err_from_is_err_and}
 use Rattle.cf_reader.specs.Readers.{others_of, snoc}
 use Rattle.cf_reader.proofs.Steps.{more_fails, more_next, ok_same}
-use Rattle.cf_parse.specs.declared.level.Level.TheVariants.{Whole}
+use Rattle.cf_parse.specs.declared.tier.Tier.TheVariants.{Whole}
 use Rattle.cf_parse.specs.Reading.{arm_of, read}
 use Rattle.cf_parse.proofs.reading.+reading.Goals as goal
 

@@ -3,12 +3,12 @@ use Rattle.std.specs.Prelude.{codes}
 use Rattle.cf_lex.specs.declared.token.TokenKind.TheVariants.{Sign}
 use Rattle.cf_tree.specs.RawView.{raw_tree, raw_arm_tree}
 use Rattle.cf_reader.specs.Readers.{more_of, snoc}
-use Rattle.cf_parse.specs.declared.level.Level.TheVariants.{Whole}
+use Rattle.cf_parse.specs.declared.tier.Tier.TheVariants.{Whole}
 use Rattle.cf_parse.specs.Reading.{read, chain_of, arm_of}
 use Rattle.cf_parse.proofs.reading.+reading.Given as goal
 
-abbrev pub decreases-part : goal.decreases-part
-decreases-part l = 32 * l.n
+abbrev pub decreases-tree_at : goal.decreases-tree_at
+decreases-tree_at l = 32 * l.n
 
 abbrev pub decreases-boxed : goal.decreases-boxed
 decreases-boxed l = 32 * l.n + 1
@@ -85,7 +85,7 @@ decreases-more l = 32 * l.n + 1
 abbrev pub invariant-chain-loop : goal.invariant-chain-loop
 invariant-chain-loop l =
     (l.left.depth ≤ l.n + 1)
-    × (chain_of (read l.n) l.level l.n (l.n - l.counter) (raw_tree l.left.raw) l.rest ≡ chain_of (read l.n) l.level l.n l.n (raw_tree l.fn.first.raw) l.fn.tokens)
+    × (chain_of (read l.n) l.tier l.n (l.n - l.counter) (raw_tree l.left.raw) l.rest ≡ chain_of (read l.n) l.tier l.n l.n (raw_tree l.fn.first.raw) l.fn.tokens)
 
 abbrev pub invariant-more-loop : goal.invariant-more-loop
 invariant-more-loop l =

@@ -1,8 +1,8 @@
-//! Levels of the grammar.
+//! Tiers of the grammar.
 
 /// How tightly a form binds, from the loosest to the tightest.
 #[derive(Clone, Copy, Debug, PartialEq, Eq)]
-pub enum Level {
+pub enum Tier {
     /// Any expression.
     Whole,
     /// Joined by `||`.
