@@ -4,7 +4,7 @@ use Rattle.std.specs.Prelude.{◌<ℤ◌, unsigned_abs, nat_lt, int_lt}
 use Rattle.std.proofs.lemmas.Int.{ints}
 use Rattle.std.proofs.lemmas.Bool.{cond_both, eq-eqb, ne_eqb, and_cases, ltb-false}
 use Rattle.cf_linear.specs.Rows.{Row, entry, without}
-use Rattle.cf_linear.specs.Matrices.{Matrix, EachRow, then_answer}
+use Rattle.cf_linear.specs.Systems.{System, EachRow, then_answer}
 use Rattle.cf_linear.specs.Steps.{lowers, uppers, is_positive, one_at, two_at, Found, searches, search_equation, search_bound, found_row, found_all, no_found, searched, dropped}
 use Rattle.cf_linear.specs.Keep.{In, Formed}
 use Rattle.cf_linear.specs.Solved.{search_columns, Rising, Owes}
@@ -19,15 +19,15 @@ use Rattle.cf_bounds.proofs.DropLemmas.{Lower, Upper, positive_so, negative_so}
 use Rattle.cf_bounds.proofs.OwesLemmas.{dropped_step}
 
 -- ---- the new columns
-pub record Made (lo : ℕ) (s : Found) : Type 0 where
+pub record FoundColumns (lo : ℕ) (s : Found) : Type 0 where
   pub same : search_columns s.bounds ≡ s.columns
   pub rise : Rising lo s.next s.columns
   pub unknown_rise : Rising lo s.next s.unknowns
   pub apart : (c : ℕ) → In c s.columns → In c s.unknowns → ⊥
 
-made_row : (lo : ℕ) (x : ℕ) (lower : Bool) (s : Found) (r : Row) → Made lo s → Made lo (found_row x lower s r)
+made_row : (lo : ℕ) (x : ℕ) (lower : Bool) (s : Found) (r : Row) → FoundColumns lo s → FoundColumns lo (found_row x lower s r)
 made_row lo x lower s r h =
-    by_row (Made lo) x lower s r
+    by_row (FoundColumns lo) x lower s r
     (λ e. record {
       same = search_columns-append s.bounds ((s.next, unsigned_abs (entry r x)) ∷ []) ∙ ap (λ y. y ++ (s.next ∷ [])) h.same;
       rise = Rising-append lo s.next (s.next + 2) s.columns (s.next ∷ []) h.rise (omega arith, omega arith);
@@ -40,11 +40,11 @@ made_row lo x lower s r h =
     })
     (record { same = h.same; rise = h.rise; unknown_rise = h.unknown_rise; apart = h.apart })
 
-pub made_all : (lo : ℕ) (x : ℕ) (lower : Bool) (rows : List Row) (s : Found) → Made lo s → Made lo (found_all x lower s rows)
+pub made_all : (lo : ℕ) (x : ℕ) (lower : Bool) (rows : List Row) (s : Found) → FoundColumns lo s → FoundColumns lo (found_all x lower s rows)
 made_all lo x lower [] s h = h
 made_all lo x lower (r ∷ rows) s h = made_all lo x lower rows (found_row x lower s r) (made_row lo x lower s r h)
 
-pub searched_step : (m : Matrix) (x : ℕ) (lower : Bool) → Formed m → In x m.unknown → Owes m (searched m x lower)
+pub searched_step : (m : System) (x : ℕ) (lower : Bool) → Formed m → In x m.unknown → Owes m (searched m x lower)
 unfolding searched
 searched_step m x lower f i =
     let s = found_all x lower (no_found m) m.inequalities in
@@ -64,7 +64,7 @@ searched_step m x lower f i =
       kept = λ v c k. refl;
     }
 
-pub searched_kinds : (m : Matrix) (x : ℕ) (lower : Bool) → Formed m → Kinds (searched m x lower).matrix
+pub searched_kinds : (m : System) (x : ℕ) (lower : Bool) → Formed m → Kinds (searched m x lower).system
 unfolding searched
 searched_kinds m x lower f =
     let s = found_all x lower (no_found m) m.inequalities in
@@ -168,25 +168,25 @@ exact_side false x rows h =
     (EachRow-tested (Upper x) (λ r. int_lt (entry r x) (pos 0)) (λ r e. negative_so (entry r x) e) rows) (EachRow-filter (one_side false x) (λ r. int_lt (entry r x) (pos 0)) rows h) in
     all_rows (λ l. EachRow (IsExact x l) (uppers x rows)) (λ l. EachRow-weaker (λ u. neg_ℤ (entry u x) ≡ pos 1) (IsExact x l) (λ u e. inr e) (uppers x rows) ups) (lowers x rows)
 
-search_sides : (m : Matrix) (x : ℕ) (lower : Bool) → Formed m → In x m.unknown → Sides lower x (found_all x lower (no_found m) m.inequalities)
+search_sides : (m : System) (x : ℕ) (lower : Bool) → Formed m → In x m.unknown → Sides lower x (found_all x lower (no_found m) m.inequalities)
 search_sides m x lower f i = sides_all lower x m.inequalities (no_found m) (record { under = f.unknown_below x i; rows = tt; free = tt })
 
-pub searched_exact : (m : Matrix) (x : ℕ) (lower : Bool) → Formed m → In x m.unknown → AreExact x (searched m x lower).matrix.inequalities
+pub searched_exact : (m : System) (x : ℕ) (lower : Bool) → Formed m → In x m.unknown → AreExact x (searched m x lower).system.inequalities
 unfolding searched
 searched_exact m x lower f i = exact_side lower x (found_all x lower (no_found m) m.inequalities).rows (search_sides m x lower f i).rows
 
-pub searched_free : (m : Matrix) (x : ℕ) (lower : Bool) → Formed m → In x m.unknown → IsFree x m.equations → IsFree x (searched m x lower).matrix.equations
+pub searched_free : (m : System) (x : ℕ) (lower : Bool) → Formed m → In x m.unknown → IsFree x m.equations → IsFree x (searched m x lower).system.equations
 unfolding searched
 searched_free m x lower f i none =
     let s = found_all x lower (no_found m) m.inequalities in
     EachRow-append (λ r. entry r x ≡ pos 0) m.equations s.equations none (search_sides m x lower f i).free
 
-pub searched_in : (m : Matrix) (x : ℕ) (lower : Bool) → In x m.unknown → In x (searched m x lower).matrix.unknown
+pub searched_in : (m : System) (x : ℕ) (lower : Bool) → In x m.unknown → In x (searched m x lower).system.unknown
 unfolding searched
 searched_in m x lower i = In-left x m.unknown (found_all x lower (no_found m) m.inequalities).unknowns i
 
 -- the search and the drop
-pub bound_step : (m : Matrix) (x : ℕ) (lower : Bool) → Formed m → In x m.unknown → IsFree x m.equations → Owes m (then_answer (searched m x lower) (dropped (searched m x lower).matrix x))
+pub bound_step : (m : System) (x : ℕ) (lower : Bool) → Formed m → In x m.unknown → IsFree x m.equations → Owes m (then_answer (searched m x lower) (dropped (searched m x lower).system x))
 bound_step m x lower f i none =
-    step_then m (searched m x lower) (dropped (searched m x lower).matrix x) (searched_step m x lower f i)
-    (dropped_step (searched m x lower).matrix x (searched_kinds m x lower f) (searched_in m x lower i) (searched_free m x lower f i none) (searched_exact m x lower f i))
+    step_then m (searched m x lower) (dropped (searched m x lower).system x) (searched_step m x lower f i)
+    (dropped_step (searched m x lower).system x (searched_kinds m x lower f) (searched_in m x lower i) (searched_free m x lower f i none) (searched_exact m x lower f i))

@@ -5,25 +5,25 @@ use Rattle.std.proofs.lemmas.Int.{ints}
 use Rattle.std.proofs.lemmas.Bool.{le-leb, leb-true}
 use Rattle.std.proofs.lemmas.List.{length-map, length-append, map-append}
 use Rattle.cf_tree.specs.declared.memory.NoMemory.{NoMemory}
-use Rattle.cf_linear.specs.declared.system.Step.{Step}
+use Rattle.cf_linear.specs.declared.system.Step.{Step as DeclaredStep}
 use Rattle.cf_linear.specs.Rows.{Row, AreBelow, comb}
-use Rattle.cf_linear.specs.Matrices.{Matrix, EachRow, Move, floor_of, need_zero, need_nonneg, Answer}
+use Rattle.cf_linear.specs.Systems.{System, EachRow, Step, floor_of, need_zero, need_nonneg, Answer}
 use Rattle.cf_linear.specs.Steps.{has_unknown, unknown_part, known_part, common, divided, one_at, tighten_row, Tightened, clean}
 use Rattle.cf_linear.specs.Keep.{Formed}
 use Rattle.cf_linear.specs.Solved.{Owes}
-use Rattle.cf_linear.specs.Views.{matrix_of, move_of}
+use Rattle.cf_linear.specs.Views.{system_of, step_of}
 use Rattle.cf_linear.proofs.BoolLemmas.{on_bool}
 use Rattle.cf_linear.proofs.FormedLemmas.{low_from}
 use Rattle.cf_bounds.specs.declared.cleaning.Cleaned.{Cleaned}
 use Rattle.cf_bounds.specs.declared.cleaning.Tight.{Tight}
-use Rattle.cf_bounds.specs.Made.{cleaned, tight_of}
+use Rattle.cf_bounds.specs.CleanAnswers.{cleaned, tight_of}
 use Rattle.cf_bounds.specs.Sides.{divides_known, divided_by}
 use Rattle.cf_bounds.specs.Cleaning.{needs_of, tightened, joined}
 use Rattle.cf_bounds.proofs.ListLemmas.{all_below}
 use Rattle.cf_bounds.proofs.OwesLemmas.{clean_step}
 use Rattle.cf_bounds.proofs.FormedAgain.{clean_formed}
 
-joined_is : (m : Matrix) → joined m (filter (has_unknown m.unknown) m.equations) (tightened m) (needs_of m) ≡ clean m
+joined_is : (m : System) → joined m (filter (has_unknown m.unknown) m.equations) (tightened m) (needs_of m) ≡ clean m
 unfolding clean
 joined_is m =
     let zeros = filter (λ r. not (has_unknown m.unknown r)) m.equations in
@@ -32,12 +32,12 @@ joined_is m =
     omega (arith, length-append (map need_zero zeros) (map need_nonneg nonnegs), length-map zeros need_zero, length-map nonnegs need_nonneg) in
     rw count refl
 
-pub clean_is : (m : Matrix) (a : Answer) (equations : List Row) (t : Tightened) (needs : List Move) →
+pub clean_is : (m : System) (a : Answer) (equations : List Row) (t : Tightened) (needs : List Step) →
     equations ≡ filter (has_unknown m.unknown) m.equations → t ≡ tightened m → needs ≡ needs_of m → a ≡ joined m equations t needs → a ≡ clean m
 clean_is m a equations t needs e f g h = h ∙ rw (e, f, g) (joined_is m)
 
-pub steps_append : (xs ys : List Step) → map move_of (xs ++ ys) ≡ map move_of xs ++ map move_of ys
-steps_append xs ys = map-append move_of xs ys
+pub steps_append : (xs ys : List DeclaredStep) → map step_of (xs ++ ys) ≡ map step_of xs ++ map step_of ys
+steps_append xs ys = map-append step_of xs ys
 
 -- ---- one row
 module _ (us : List ℕ) (n : ℕ) (r : Row) where
@@ -52,7 +52,7 @@ module _ (us : List ℕ) (n : ℕ) (r : Row) where
   is_floored e d = rw (e, d) refl
 
   module _ (g : ℤ) (res : Result Tight NoMemory) where
-    abbrev Tightens : Option Move × Row → Type 0
+    abbrev Tightens : Option Step × Row → Type 0
     Tightens t = IfOk res (λ x. tight_of x ≡ t)
 
     is_great : g ≡ pos (common (unknown_part us r)) → (g ≤ℤ pos 1 → ⊥) → nat_le (common (unknown_part us r)) 1 ≡ false
@@ -73,13 +73,13 @@ module _ (us : List ℕ) (n : ℕ) (r : Row) where
         (subst (λ y. Tightens (Some (floor_of n (known_part us r) g), comb (pos 1) (divided_by g y) (pos 1) (one_at n))) eu
         (subst (λ y. Tightens (Some (floor_of n y g), comb (pos 1) (divided_by g u) (pos 1) (one_at n))) ek h)))
 
-pub clean_below : (m : Matrix) → Formed m → EachRow (AreBelow m.next) m.inequalities
+pub clean_below : (m : System) → Formed m → EachRow (AreBelow m.next) m.inequalities
 clean_below m f = all_below m.next m.inequalities (low_from m f).nonneg
 
-pub clean_owes : (m : Matrix) (r : Result Cleaned NoMemory) → Formed m → IfOk r (λ c. cleaned c ≡ clean m) → IfOk r (λ c. Owes m (cleaned c))
+pub clean_owes : (m : System) (r : Result Cleaned NoMemory) → Formed m → IfOk r (λ c. cleaned c ≡ clean m) → IfOk r (λ c. Owes m (cleaned c))
 clean_owes m (Ok c) f e = subst (Owes m) (sym e) (clean_step m f)
 clean_owes m (Err x) f e = tt
 
-pub clean_forms : (m : Matrix) (r : Result Cleaned NoMemory) → Formed m → IfOk r (λ c. cleaned c ≡ clean m) → IfOk r (λ c. Formed (matrix_of c.system))
-clean_forms m (Ok c) f e = subst Formed (sym (ap (λ a. a.matrix) e)) (clean_formed m f)
+pub clean_forms : (m : System) (r : Result Cleaned NoMemory) → Formed m → IfOk r (λ c. cleaned c ≡ clean m) → IfOk r (λ c. Formed (system_of c.system))
+clean_forms m (Ok c) f e = subst Formed (sym (ap (λ a. a.system) e)) (clean_formed m f)
 clean_forms m (Err x) f e = tt

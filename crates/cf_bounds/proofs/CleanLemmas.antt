@@ -12,13 +12,13 @@ use Rattle.cf_num.proofs.DivisionLemmas.{int_div_euclid_once}
 use Rattle.cf_num.proofs.DivisorLemmas.{gcd_of-is}
 use Rattle.cf_linear.specs.Rows.{Row, Values, value, comb, same_row, Rises}
 use Rattle.cf_linear.specs.Relations.{Divides}
-use Rattle.cf_linear.specs.Matrices.{Matrix, EachRow, Move, floor_of, need_nonneg, need_zero}
+use Rattle.cf_linear.specs.Systems.{System, EachRow, Step, floor_of, need_nonneg, need_zero}
 use Rattle.cf_linear.specs.Steps.{has_column, has_unknown, unknown_part, known_part, common, divides_it, divided, Tightened, next_tightened, then_tighten, distinct_after, clean}
 use Rattle.cf_linear.specs.Keep.{Over, Same, Keeps, AllFit, update}
 use Rattle.cf_linear.proofs.RowLemmas.{value-comb, value-put, zero_from_is_zero}
 use Rattle.cf_linear.proofs.RowTests.{same_row-is}
 use Rattle.cf_linear.proofs.KindLemmas.{IsZero, IsNonneg, Below, EachRow-append, EachRow-split, EachRow-filter, EachRow-unfilter, EachRow-below_more, Below-more, Over-comb, Over-put, Over-filter}
-use Rattle.cf_linear.proofs.ValueLemmas.{EachRow-same, one_z, value-same, value-parts, update-at, update-same, Same-trans, MovesBelow, AllFit-same, AllFit-append, AllFit-split, MovesBelow-append, MovesBelow-more}
+use Rattle.cf_linear.proofs.ValueLemmas.{EachRow-same, one_z, value-same, value-parts, update-at, update-same, Same-trans, StepsBelow, AllFit-same, AllFit-append, AllFit-split, StepsBelow-append, StepsBelow-more}
 use Rattle.cf_linear.proofs.FormedLemmas.{Low}
 use Rattle.cf_bounds.proofs.Arithmetic.{tighten, zero_value, nonneg_value}
 
@@ -58,11 +58,11 @@ nonnegs_from : (v : Values) (rows : List Row) → AllFit v (map need_nonneg rows
 nonnegs_from v [] h = tt
 nonnegs_from v (r ∷ rows) h = (h.0, nonnegs_from v rows h.1)
 
-zeros_below : (n : ℕ) (rows : List Row) → EachRow (Below n) rows → MovesBelow n (map need_zero rows)
+zeros_below : (n : ℕ) (rows : List Row) → EachRow (Below n) rows → StepsBelow n (map need_zero rows)
 zeros_below n [] h = tt
 zeros_below n (r ∷ rows) h = (h.0, zeros_below n rows h.1)
 
-nonnegs_below : (n : ℕ) (rows : List Row) → EachRow (Below n) rows → MovesBelow n (map need_nonneg rows)
+nonnegs_below : (n : ℕ) (rows : List Row) → EachRow (Below n) rows → StepsBelow n (map need_nonneg rows)
 nonnegs_below n [] h = tt
 nonnegs_below n (r ∷ rows) h = (h.0, nonnegs_below n rows h.1)
 
@@ -79,7 +79,7 @@ divides_abs g (negsuc n) d = (neg_ℤ d.0, let e = d.1 in simp ring (omega (arit
 divides_trans : (g h k : ℤ) → Divides g h → Divides h k → Divides g k
 divides_trans g h k d e = (d.0 *ℤ e.0, let i = d.1 in e.1 ∙ rw i (simp ring (omega (arith, ints))))
 
-common-divides : (r : Row) → EntriesDiv (common r) r
+pub common-divides : (r : Row) → EntriesDiv (common r) r
 common-divides [] = tt
 common-divides ((c, k) ∷ r) =
     let is = gcd_of-is (unsigned_abs k) (common r) in
@@ -158,13 +158,13 @@ abbrev pub floored : List ℕ → ℕ → Row → Row
 floored us n r = comb (pos 1) (divided (unknowns_of us r) (unknown_part us r)) (pos 1) ((n, pos 1) ∷ [])
 
 abbrev pub with_kept : Tightened → Row → Tightened
-with_kept t r = record { next = t.next; made = t.made; moves = t.moves; rows = t.rows ++ (r ∷ []) }
+with_kept t r = record { next = t.next; made = t.made; steps = t.steps; rows = t.rows ++ (r ∷ []) }
 
 abbrev pub with_floor : List ℕ → Tightened → Row → Tightened
 with_floor us t r = record {
   next = t.next + 1;
   made = t.made ++ (t.next ∷ []);
-  moves = t.moves ++ (floor_of t.next (known_part us r) (pos (unknowns_of us r)) ∷ []);
+  steps = t.steps ++ (floor_of t.next (known_part us r) (pos (unknowns_of us r)) ∷ []);
   rows = t.rows ++ (floored us t.next r ∷ []);
 }
 
@@ -174,7 +174,7 @@ pub by_row : (P : Tightened → Type 0) (us : List ℕ) (t : Tightened) (r : Row
 by_row P us t r f g h =
     let d = unknowns_of us r in
     let test = list_all (λ (c, k). (c == 0) || divides_it d k) (known_part us r) in
-    let last : Option Move × Row = (if test then (None, divided d r) else (Some (floor_of t.next (known_part us r) (pos d)), floored us t.next r)) in
+    let last : Option Step × Row = (if test then (None, divided d r) else (Some (floor_of t.next (known_part us r) (pos d)), floored us t.next r)) in
     cond_both (nat_le d 1) (None, r) last (λ y. P (next_tightened t y)) (λ _. f)
     (λ e. let i = leb-false d 1 e in
     cond_both test (None, divided d r) (Some (floor_of t.next (known_part us r) (pos d)), floored us t.next r) (λ y. P (next_tightened t y)) (λ q. g (omega arith) q) (λ q. h (omega arith)))
@@ -216,15 +216,15 @@ floored_iff v us n r h f =
 
 -- ---- what the tightening has so far
 pub record Good (v : Values) (t : Tightened) : Type 0 where
-  pub fits : AllFit v t.moves
+  pub fits : AllFit v t.steps
   pub nonneg : EachRow (IsNonneg v) t.rows
 
 pub record LowTight (t : Tightened) : Type 0 where
-  pub moves : MovesBelow t.next t.moves
+  pub steps : StepsBelow t.next t.steps
   pub nonneg : EachRow (Below t.next) t.rows
 
 kept_low : (t : Tightened) (r : Row) → LowTight t → Below t.next r → LowTight (with_kept t r)
-kept_low t r low b = record { moves = low.moves; nonneg = EachRow-append (Below t.next) t.rows (r ∷ []) low.nonneg (b, tt) }
+kept_low t r low b = record { steps = low.steps; nonneg = EachRow-append (Below t.next) t.rows (r ∷ []) low.nonneg (b, tt) }
 
 floor_low : (us : List ℕ) (t : Tightened) (r : Row) → LowTight t → Below t.next r → LowTight (with_floor us t r)
 floor_low us t r low b =
@@ -232,7 +232,7 @@ floor_low us t r low b =
     let q : ℕ → Type 0 = λ c. c < n + 1 in
     let b' = Below-more n (n + 1) (omega arith) r b in
     record {
-      moves = MovesBelow-append (n + 1) t.moves (floor_of n (known_part us r) (pos (unknowns_of us r)) ∷ []) (MovesBelow-more n (n + 1) (omega arith) t.moves low.moves)
+      steps = StepsBelow-append (n + 1) t.steps (floor_of n (known_part us r) (pos (unknowns_of us r)) ∷ []) (StepsBelow-more n (n + 1) (omega arith) t.steps low.steps)
           ((omega arith, Over-filter q (λ (c, k). not (has_column us c)) r b'), tt);
       nonneg = EachRow-append (Below (n + 1)) t.rows (floored us n r ∷ []) (EachRow-below_more n (n + 1) (omega arith) t.rows low.nonneg)
           (Over-comb q (pos 1) (divided (unknowns_of us r) (unknown_part us r)) (pos 1) ((n, pos 1) ∷ []) (Over-divided q (unknowns_of us r) (unknown_part us r) (Over-filter q (λ (c, k). has_column us c) r b')) (omega arith, tt), tt);
@@ -264,7 +264,7 @@ row_forth us t r v one s low b good up =
       w,
       same,
       record {
-        fits = AllFit-append w t.moves (floor_of n k (pos g) ∷ []) (AllFit-same n v w same t.moves low.moves good.fits) (f, tt);
+        fits = AllFit-append w t.steps (floor_of n k (pos g) ∷ []) (AllFit-same n v w same t.steps low.steps good.fits) (f, tt);
         nonneg = EachRow-append (IsNonneg w) t.rows (floored us n r ∷ []) (EachRow-same nonneg_value n v w same t.rows low.nonneg good.nonneg) ((floored_iff w us n r h f).0 up', tt);
       },
     ))
@@ -277,7 +277,7 @@ row_back us t r v one s =
     by_row (λ x. Good v x → Good v t × IsNonneg v r) us t r (kept_back t r v)
     (λ h e good. let b = kept_back t (divided (unknowns_of us r) r) v good in (b.0, (divided_iff v us r one s h e).1 b.1))
     (λ h good.
-    let f = AllFit-split v t.moves (floor_of t.next (known_part us r) (pos (unknowns_of us r)) ∷ []) good.fits in
+    let f = AllFit-split v t.steps (floor_of t.next (known_part us r) (pos (unknowns_of us r)) ∷ []) good.fits in
     let n = EachRow-split (IsNonneg v) t.rows (floored us t.next r ∷ []) good.nonneg in
     (record { fits = f.0; nonneg = n.0 }, (floored_iff v us t.next r h f.1.0).1 n.1.0))
 
@@ -312,7 +312,7 @@ all_back us (r ∷ rows) t v one s good =
     (c.0, (c.1, b.1))
 
 -- ---- the step
-pub clean_keeps : (m : Matrix) → Low m → 0 < m.next → EachRow (Rises 0) m.inequalities → Keeps m (clean m)
+pub clean_keeps : (m : System) → Low m → 0 < m.next → EachRow (Rises 0) m.inequalities → Keeps m (clean m)
 unfolding clean
 clean_keeps m low p rises =
     let us = m.unknown in
@@ -320,11 +320,11 @@ clean_keeps m low p rises =
     let zeros = filter (λ r. not (has_unknown us r)) m.equations in
     let nonnegs = filter (λ r. not (has_unknown us r)) m.inequalities in
     let rows = filter (has_unknown us) m.inequalities in
-    let start : Tightened = record { next = m.next; made = []; moves = []; rows = [] } in
+    let start : Tightened = record { next = m.next; made = []; steps = []; rows = [] } in
     let t = tight us start rows in
     record {
       forth = λ v one h.
-          let f = all_forth us rows start v one (EachRow-filter (Rises 0) has m.inequalities rises) p (record { moves = tt; nonneg = tt }) (EachRow-filter (Below m.next) has m.inequalities low.nonneg)
+          let f = all_forth us rows start v one (EachRow-filter (Rises 0) has m.inequalities rises) p (record { steps = tt; nonneg = tt }) (EachRow-filter (Below m.next) has m.inequalities low.nonneg)
           (record { fits = tt; nonneg = tt }) (EachRow-filter (IsNonneg v) has m.inequalities h.nonneg) in
           let w = f.0 in
           let ze = EachRow-same zero_value m.next v w f.1 m.equations low.zero h.zero in
@@ -332,12 +332,12 @@ clean_keeps m low p rises =
             w,
             f.1,
             tt,
-            AllFit-append w (map need_zero zeros ++ map need_nonneg nonnegs) t.moves
+            AllFit-append w (map need_zero zeros ++ map need_nonneg nonnegs) t.steps
                 (AllFit-append w (map need_zero zeros) (map need_nonneg nonnegs) (zeros_fit w zeros (EachRow-filter (IsZero w) (λ r. not (has r)) m.equations ze)) (nonnegs_fit w nonnegs (EachRow-filter (IsNonneg w) (λ r. not (has r)) m.inequalities no))) f.2.fits,
             record { zero = EachRow-filter (IsZero w) has m.equations ze; nonneg = distinct_forth (IsNonneg w) [] t.rows f.2.nonneg },
           );
       back = λ v one _ fit h.
-          let g = AllFit-split v (map need_zero zeros ++ map need_nonneg nonnegs) t.moves fit in
+          let g = AllFit-split v (map need_zero zeros ++ map need_nonneg nonnegs) t.steps fit in
           let f = AllFit-split v (map need_zero zeros) (map need_nonneg nonnegs) g.0 in
           let b = all_back us rows start v one (EachRow-filter (Rises 0) has m.inequalities rises) (record { fits = g.1; nonneg = distinct_back (IsNonneg v) [] t.rows tt h.nonneg }) in
           record {

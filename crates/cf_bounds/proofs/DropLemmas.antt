@@ -7,9 +7,9 @@ use Rattle.std.proofs.lemmas.Int.{ints, clamps}
 use Rattle.std.proofs.lemmas.Bool.{cond_both, ltb-true, lt-ltb}
 use Rattle.cf_num.proofs.Ring.{ring, mul_comm_z}
 use Rattle.cf_linear.specs.Rows.{Row, Values, entry, value, is_zero, without}
-use Rattle.cf_linear.specs.Matrices.{Matrix, EachRow}
-use Rattle.cf_linear.specs.Steps.{lowers, uppers, free_of, pair_row, pairs_of, way_of, is_positive, dropped}
-use Rattle.cf_linear.specs.Keep.{Keeps, update, way_value}
+use Rattle.cf_linear.specs.Systems.{System, EachRow}
+use Rattle.cf_linear.specs.Steps.{lowers, uppers, free_of, pair_row, pairs_of, how_between, is_positive, dropped}
+use Rattle.cf_linear.specs.Keep.{Keeps, update, how_value}
 use Rattle.cf_linear.proofs.RowLemmas.{value-comb, zero_from_is_zero}
 use Rattle.cf_linear.proofs.KindLemmas.{IsZero, IsNonneg, EachRow-append, EachRow-split, EachRow-filter, EachRow-with, EachRow-tested}
 use Rattle.cf_linear.proofs.ValueLemmas.{value-split, value-update}
@@ -137,7 +137,7 @@ all_kinds Q x (r ∷ rows) f l u = (
 -- ---- the step
 module _ (v : Values) (x : ℕ) where
   abbrev best_value : List Row → List Row → ℤ
-  best_value low high = way_value v (way_of x low high)
+  best_value low high = how_value v (how_between x low high)
 
   between : (low high : List Row) → EachRow (Lower x) low → EachRow (Upper x) high → EachRow (λ l. EachRow (IsExact x l) high) low → EachRow (IsNonneg v) (pairs_of x low high) →
       EachRow (IsNonneg (update v x (best_value low high))) low × EachRow (IsNonneg (update v x (best_value low high))) high
@@ -170,7 +170,7 @@ equation_at v x z r k h =
     let s = rw k at (value-split v x r) in
     rw (value-update v x z r, k) (omega (arith, ints))
 
-pub dropped_keeps : (m : Matrix) (x : ℕ) → IsFree x m.equations → EachRow (λ l. EachRow (IsExact x l) (uppers x m.inequalities)) (lowers x m.inequalities) → Keeps m (dropped m x)
+pub dropped_keeps : (m : System) (x : ℕ) → IsFree x m.equations → EachRow (λ l. EachRow (IsExact x l) (uppers x m.inequalities)) (lowers x m.inequalities) → Keeps m (dropped m x)
 unfolding dropped
 dropped_keeps m x free ex =
     let rows = m.inequalities in
@@ -192,7 +192,7 @@ dropped_keeps m x free ex =
       );
       back = λ v _ _ _ h.
           let s = EachRow-split (IsNonneg v) (free_of x rows) (pairs_of x low high) h.nonneg in
-          let z = way_value v (way_of x low high) in
+          let z = how_value v (how_between x low high) in
           let b = between v x low high hl hu ex s.1 in
           let zeros = EachRow-tested (λ r. is_zero (entry r x) ≡ true) (λ r. is_zero (entry r x)) (λ r e. e) rows in
           record {

@@ -6,8 +6,8 @@ use Rattle.std.proofs.lemmas.Int.{ints}
 use Rattle.std.proofs.lemmas.Nat.{mul-le}
 use Rattle.std.proofs.lemmas.Bool.{cond_both, ltb-true, ltb-false, and_cases, and_parts, or_parts}
 use Rattle.cf_linear.specs.Rows.{Row, entry}
-use Rattle.cf_linear.specs.Matrices.{EachRow}
-use Rattle.cf_linear.specs.Steps.{Choice, choice_at, is_better, best, pick, has_greater, product_of, lowers, uppers, is_positive}
+use Rattle.cf_linear.specs.Systems.{EachRow}
+use Rattle.cf_linear.specs.Steps.{Pick, pick_at, is_better, best, pick, has_greater, product_of, lowers, uppers, is_positive}
 use Rattle.cf_linear.specs.Keep.{In}
 use Rattle.cf_linear.proofs.BoolLemmas.{on_bool}
 use Rattle.cf_linear.proofs.KindLemmas.{EachRow-tested, EachRow-with, EachRow-weaker}
@@ -15,16 +15,16 @@ use Rattle.cf_bounds.specs.Exact.{IsExact, AreExact}
 use Rattle.cf_bounds.specs.Sides.{times_entry}
 use Rattle.cf_bounds.proofs.DropLemmas.{Lower, Upper, positive_so, negative_so}
 
-best_is : (P : Choice → Type 0) (rows : List Row) (us : List ℕ) (c : Choice) → P c → ((u : ℕ) → In u us → P (choice_at rows u)) → P (best c (map (choice_at rows) us))
+best_is : (P : Pick → Type 0) (rows : List Row) (us : List ℕ) (c : Pick) → P c → ((u : ℕ) → In u us → P (pick_at rows u)) → P (best c (map (pick_at rows) us))
 best_is P rows [] c h k = h
 best_is P rows (u ∷ us) c h k =
-    best_is P rows us (if is_better (choice_at rows u) c then choice_at rows u else c)
-    (cond_both (is_better (choice_at rows u) c) (choice_at rows u) c P (λ _. k u (inl refl)) (λ _. h)) (λ w i. k w (inr i))
+    best_is P rows us (if is_better (pick_at rows u) c then pick_at rows u else c)
+    (cond_both (is_better (pick_at rows u) c) (pick_at rows u) c P (λ _. k u (inl refl)) (λ _. h)) (λ w i. k w (inr i))
 
--- what holds of each choice holds of the pick
-pub pick_is : (P : Choice → Type 0) (rows : List Row) (x : ℕ) (us : List ℕ) → ((u : ℕ) → In u (x ∷ us) → P (choice_at rows u)) → P (pick rows x us)
+-- what holds of the pick at each unknown holds of the best one
+pub pick_is : (P : Pick → Type 0) (rows : List Row) (x : ℕ) (us : List ℕ) → ((u : ℕ) → In u (x ∷ us) → P (pick_at rows u)) → P (pick rows x us)
 unfolding pick
-pick_is P rows x us h = best_is P rows us (choice_at rows x) (h x (inl refl)) (λ u i. h u (inr i))
+pick_is P rows x us h = best_is P rows us (pick_at rows x) (h x (inl refl)) (λ u i. h u (inr i))
 
 pub pick_in : (rows : List Row) (x : ℕ) (us : List ℕ) → In (pick rows x us).unknown (x ∷ us)
 pick_in rows x us = pick_is (λ c. In c.unknown (x ∷ us)) rows x us (λ u i. i)
@@ -88,8 +88,8 @@ exact_high x rows e =
     (EachRow-tested (Upper x) (λ r. int_lt (entry r x) (pos 0)) (λ r h. negative_so (entry r x) h) rows) (none_greater x (uppers x rows) e) in
     all_rows (λ l. EachRow (IsExact x l) (uppers x rows)) (λ l. EachRow-weaker (λ u. neg_ℤ (entry u x) ≡ pos 1) (IsExact x l) (λ u i. inr i) (uppers x rows) ups) (lowers x rows)
 
-choice_exact : (rows : List Row) (x : ℕ) → (choice_at rows x).product ≤ 1 → AreExact x rows
-choice_exact rows x h = on_bool (has_greater x (lowers x rows) && has_greater x (uppers x rows))
+pick_at_exact : (rows : List Row) (x : ℕ) → (pick_at rows x).product ≤ 1 → AreExact x rows
+pick_at_exact rows x h = on_bool (has_greater x (lowers x rows) && has_greater x (uppers x rows))
     (λ e.
     let g = and_parts (has_greater x (lowers x rows)) (has_greater x (uppers x rows)) e in
     let least : min (product_of x (lowers x rows)) (product_of x (uppers x rows)) ≤ 1 = rw e at h in
@@ -99,4 +99,4 @@ choice_exact rows x h = on_bool (has_greater x (lowers x rows) && has_greater x 
 
 -- where the picked product is 1, no search is needed
 pub pick_exact : (rows : List Row) (x : ℕ) (us : List ℕ) → (pick rows x us).product ≤ 1 → AreExact (pick rows x us).unknown rows
-pick_exact rows x us = pick_is (λ c. c.product ≤ 1 → AreExact c.unknown rows) rows x us (λ u i h. choice_exact rows u h)
+pick_exact rows x us = pick_is (λ c. c.product ≤ 1 → AreExact c.unknown rows) rows x us (λ u i h. pick_at_exact rows u h)

@@ -2,13 +2,13 @@
 use Rattle.std.proofs.Common.{◌≡◌, ◌≢◌, ℕ, neg_ℤ, pos, List, [], ◌∷◌, ◌++◌, refl, ap, arith, subst, ◌⊎◌, inl, inr, ⊎_elim}
 use Rattle.std.specs.Prelude.{filter, map, unsigned_abs, int_lt}
 use Rattle.cf_linear.specs.Rows.{Row, entry, comb, Rises, is_zero, without}
-use Rattle.cf_linear.specs.Matrices.{Matrix, EachRow}
+use Rattle.cf_linear.specs.Systems.{System, EachRow}
 use Rattle.cf_linear.specs.Steps.{pairs_of, lowers, uppers, free_of, is_positive, divided, unknown_part, has_column, has_unknown, Tightened, then_tighten, clean, dropped}
 use Rattle.cf_linear.specs.Keep.{In, Over, IsColumn, Formed}
 use Rattle.cf_linear.specs.Solved.{Rising}
 use Rattle.cf_linear.proofs.RowLemmas.{zero_from_is_zero}
 use Rattle.cf_linear.proofs.CombLemmas.{Rises-comb, Rises-without}
-use Rattle.cf_linear.proofs.KindLemmas.{EachRow-append, EachRow-filter, EachRow-weaker, EachRow-both, EachRow-tested, Over-weaker, Over-comb, Over-filter, Over-both, Over-without, Rises-filter, free_row, In-append, In-left, In-right, In-filter, In-unfilter, Rising-le, Rising-in}
+use Rattle.cf_linear.proofs.KindLemmas.{EachRow-append, EachRow-filter, EachRow-weaker, EachRow-with, EachRow-tested, Over-weaker, Over-comb, Over-filter, Over-both, Over-without, Rises-filter, free_row, In-append, In-left, In-right, In-filter, In-unfilter, Rising-le, Rising-in}
 use Rattle.cf_bounds.specs.Exact.{IsFree}
 use Rattle.cf_bounds.proofs.CleanLemmas.{by_row, with_kept, unknowns_of, tight, distinct_forth, Over-divided}
 use Rattle.cf_bounds.proofs.OwesLemmas.{made_all}
@@ -22,17 +22,17 @@ pairs_are P Q x f (l ∷ low) high hl hu = EachRow-append P (map (λ u. comb (ne
     one [] h = tt
     one (u ∷ high) h = (f l u hl.0 h.0, one high h.1)
 
-pub dropped_formed : (m : Matrix) (x : ℕ) → Formed m → IsFree x m.equations → Formed (dropped m x).matrix
+pub dropped_formed : (m : System) (x : ℕ) → Formed m → IsFree x m.equations → Formed (dropped m x).system
 unfolding dropped
 dropped_formed m x f free =
-    let n = (dropped m x).matrix in
+    let n = (dropped m x).system in
     let rows = m.inequalities in
     let C : ℕ → Type 0 = IsColumn m in
     let D : ℕ → Type 0 = IsColumn n in
     let move : (c : ℕ) → C c → c ≢ x → D c = λ c q h. ⊎_elim (λ k. inl k) (λ k. inr (In-filter c x m.unknown k h)) q in
     let Canon : Row → Type 0 = λ r. Over C r × Rises 0 r in
     let bare : (r : Row) → Canon r → entry r x ≡ pos 0 → Over D r = λ r k e. Over-both C (λ c. c ≢ x) D move r k.0 (free_row 0 x r k.1 e) in
-    let canon : (rows : List Row) → EachRow (Over C) rows → EachRow (Rises 0) rows → EachRow Canon rows = λ rows o h. EachRow-both (Over C) (Rises 0) Canon (λ r a b. (a, b)) rows o h in
+    let canon : (rows : List Row) → EachRow (Over C) rows → EachRow (Rises 0) rows → EachRow Canon rows = λ rows o h. EachRow-with (Over C) (Rises 0) Canon (λ r a b. (a, b)) rows o h in
     let zeros = EachRow-tested (λ r. entry r x ≡ pos 0) (λ r. is_zero (entry r x)) (λ r e. zero_from_is_zero (entry r x) e) rows in
     let ineq = canon rows f.nonneg f.nonneg_rise in
     let low = EachRow-filter Canon (λ r. is_positive (entry r x)) rows ineq in
@@ -44,8 +44,8 @@ dropped_formed m x f free =
       below = f.below;
       unknown_below = λ c i. f.unknown_below c (In-unfilter c x m.unknown i);
       apart = λ c k i. f.apart c k (In-unfilter c x m.unknown i);
-      zero = EachRow-both Canon (λ r. entry r x ≡ pos 0) (Over D) bare m.equations (canon m.equations f.zero f.zero_rise) free;
-      nonneg = EachRow-append (Over D) (free_of x rows) (pairs_of x (lowers x rows) (uppers x rows)) (EachRow-both Canon (λ r. entry r x ≡ pos 0) (Over D) bare (free_of x rows) (EachRow-filter Canon (λ r. is_zero (entry r x)) rows ineq) zeros)
+      zero = EachRow-with Canon (λ r. entry r x ≡ pos 0) (Over D) bare m.equations (canon m.equations f.zero f.zero_rise) free;
+      nonneg = EachRow-append (Over D) (free_of x rows) (pairs_of x (lowers x rows) (uppers x rows)) (EachRow-with Canon (λ r. entry r x ≡ pos 0) (Over D) bare (free_of x rows) (EachRow-filter Canon (λ r. is_zero (entry r x)) rows ineq) zeros)
           (pairs_are (Over D) Canon x (λ l u a b. Over-comb D (neg_ℤ (entry u x)) (without x l) (entry l x) (without x u) (part l a.0) (part u b.0)) (lowers x rows) (uppers x rows) low high);
       zero_rise = f.zero_rise;
       nonneg_rise = EachRow-append (Rises 0) (free_of x rows) (pairs_of x (lowers x rows) (uppers x rows)) (EachRow-filter (Rises 0) (λ r. is_zero (entry r x)) rows f.nonneg_rise)
@@ -84,12 +84,12 @@ shaped_all : (C : ℕ → Type 0) (us : List ℕ) (rows : List Row) (t : Tighten
 shaped_all C us [] t o h s = s
 shaped_all C us (r ∷ rows) t o h s = shaped_all C us rows (then_tighten us t r) o.1 h.1 (shaped_row C us t r o.0 h.0 s)
 
-pub clean_formed : (m : Matrix) → Formed m → Formed (clean m).matrix
+pub clean_formed : (m : System) → Formed m → Formed (clean m).system
 unfolding clean
 clean_formed m f =
     let us = m.unknown in
     let rows = filter (has_unknown us) m.inequalities in
-    let start : Tightened = record { next = m.next; made = []; moves = []; rows = [] } in
+    let start : Tightened = record { next = m.next; made = []; steps = []; rows = [] } in
     let t = tight us start rows in
     let o = EachRow-filter (Over (IsColumn m)) (has_unknown us) m.inequalities f.nonneg in
     let h = EachRow-filter (Rises 0) (has_unknown us) m.inequalities f.nonneg_rise in

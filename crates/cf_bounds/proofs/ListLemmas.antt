@@ -8,7 +8,7 @@ use Rattle.std.proofs.lemmas.List.{append-nil}
 use Rattle.std.proofs.Math.ListN.{drop_of_length-le}
 use Rattle.std.proofs.lemmas.List.Elements.{filter_more}
 use Rattle.cf_linear.specs.Rows.{Row, AreBelow, IsRow, Rises, same_row, is_zero, put, add_at, comb}
-use Rattle.cf_linear.specs.Matrices.{EachRow}
+use Rattle.cf_linear.specs.Systems.{EachRow}
 use Rattle.cf_linear.specs.Steps.{distinct_after, one_at}
 use Rattle.cf_linear.specs.Keep.{Over}
 use Rattle.cf_linear.proofs.BoolLemmas.{on_bool}

@@ -7,22 +7,22 @@ use Rattle.std.proofs.lemmas.Nat.{mul-le}
 use Rattle.std.proofs.lemmas.List.Sums.{length-filter}
 use Rattle.std.proofs.Math.ListN.{drop_of_length-le}
 use Rattle.cf_linear.specs.Rows.{Row, entry}
-use Rattle.cf_linear.specs.Steps.{Choice, choice_at, is_better, best, pick, has_greater}
+use Rattle.cf_linear.specs.Steps.{Pick, pick_at, is_better, best, pick, has_greater}
 use Rattle.cf_linear.proofs.BoolLemmas.{on_bool}
 use Rattle.cf_bounds.specs.Sides.{is_great, is_side, side, side_product}
 use Rattle.cf_bounds.specs.Picking.{picked}
 
 -- ---- over the unknowns
-pub picked_first : (rows : List Row) (us : List ℕ) → 0 < length us → best (choice_at rows (get_or us 0 0)) (map (choice_at rows) (drop 1 us)) ≡ picked rows us
+pub picked_first : (rows : List Row) (us : List ℕ) → 0 < length us → best (pick_at rows (get_or us 0 0)) (map (pick_at rows) (drop 1 us)) ≡ picked rows us
 unfolding pick
 picked_first rows [] h = absurd (omega arith)
 picked_first rows (x ∷ us) h = refl
 
-pub picked_next : (rows : List Row) (us : List ℕ) (i : ℕ) (c : Choice) → i < length us →
-    best c (map (choice_at rows) (drop i us)) ≡ best (if is_better (choice_at rows (get_or us i 0)) c then choice_at rows (get_or us i 0) else c) (map (choice_at rows) (drop (i + 1) us))
+pub picked_next : (rows : List Row) (us : List ℕ) (i : ℕ) (c : Pick) → i < length us →
+    best c (map (pick_at rows) (drop i us)) ≡ best (if is_better (pick_at rows (get_or us i 0)) c then pick_at rows (get_or us i 0) else c) (map (pick_at rows) (drop (i + 1) us))
 picked_next rows us i c h = rw (add-one, drop-cons us i 0) refl
 
-pub picked_end : (rows : List Row) (us : List ℕ) (i : ℕ) (c : Choice) → length us ≤ i → best c (map (choice_at rows) (drop i us)) ≡ c
+pub picked_end : (rows : List Row) (us : List ℕ) (i : ℕ) (c : Pick) → length us ≤ i → best c (map (pick_at rows) (drop i us)) ≡ c
 picked_end rows us i c h = rw (drop_of_length-le us h) refl
 
 -- ---- over the rows
@@ -56,13 +56,13 @@ pub product_next : (lower : Bool) (x n : ℕ) (r : Row) (rows : List Row) →
 product_next lower x n r rows = on_bool (is_side lower (entry r x)) (λ e. rw e refl) (λ e. rw e refl)
 
 -- ---- one unknown
-pub choice_search : (x : ℕ) (rows : List Row) (c : Choice) → list_any (is_great true x) rows ≡ true → list_any (is_great false x) rows ≡ true →
-    c ≡ record { unknown = x; lower = nat_le (side_product true x 1 rows) (side_product false x 1 rows); product = min (side_product true x 1 rows) (side_product false x 1 rows); pairs = (choice_at rows x).pairs } → c ≡ choice_at rows x
-choice_search x rows c e f g = g ∙ rw (sym (greater_side true x rows) ∙ e, sym (greater_side false x rows) ∙ f) refl
+pub pick_at_search : (x : ℕ) (rows : List Row) (c : Pick) → list_any (is_great true x) rows ≡ true → list_any (is_great false x) rows ≡ true →
+    c ≡ record { unknown = x; lower = nat_le (side_product true x 1 rows) (side_product false x 1 rows); product = min (side_product true x 1 rows) (side_product false x 1 rows); pairs = (pick_at rows x).pairs } → c ≡ pick_at rows x
+pick_at_search x rows c e f g = g ∙ rw (sym (greater_side true x rows) ∙ e, sym (greater_side false x rows) ∙ f) refl
 
-pub choice_plain : (x : ℕ) (rows : List Row) (c : Choice) → (list_any (is_great true x) rows && list_any (is_great false x) rows) ≡ false →
-    c ≡ record { unknown = x; lower = true; product = 1; pairs = (choice_at rows x).pairs } → c ≡ choice_at rows x
-choice_plain x rows c e g = g ∙ rw both refl
+pub pick_at_plain : (x : ℕ) (rows : List Row) (c : Pick) → (list_any (is_great true x) rows && list_any (is_great false x) rows) ≡ false →
+    c ≡ record { unknown = x; lower = true; product = 1; pairs = (pick_at rows x).pairs } → c ≡ pick_at rows x
+pick_at_plain x rows c e g = g ∙ rw both refl
   where
     both : (has_greater x (side true x rows) && has_greater x (side false x rows)) ≡ false
     both = rw (← greater_side true x rows, ← greater_side false x rows) e

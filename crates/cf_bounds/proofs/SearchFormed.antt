@@ -2,7 +2,7 @@
 use Rattle.std.proofs.Common.{◌≢◌, ℕ, ◌+◌, ℤ, pos, negsuc, neg_ℤ, List, [], ◌∷◌, ◌++◌, Bool, true, false, not, ◌==◌, refl, ap, arith, ◌⊎◌, inl, inr, ⊎_elim}
 use Rattle.std.specs.Prelude.{unsigned_abs}
 use Rattle.cf_linear.specs.Rows.{Row, Rises, entry, without}
-use Rattle.cf_linear.specs.Matrices.{Matrix, EachRow}
+use Rattle.cf_linear.specs.Systems.{System, EachRow}
 use Rattle.cf_linear.specs.Steps.{one_at, two_at, Found, search_equation, search_bound, found_row, found_all, no_found, searched}
 use Rattle.cf_linear.specs.Keep.{In, Over, IsColumn, Formed}
 use Rattle.cf_linear.proofs.CombLemmas.{Rises-comb, Rises-without}
@@ -72,7 +72,7 @@ shaped_all : (C : ℕ → Type 0) (x : ℕ) (lower : Bool) (rows : List Row) (s 
 shaped_all C x lower [] s cx o h g = g
 shaped_all C x lower (r ∷ rows) s cx o h g = shaped_all C x lower rows (found_row x lower s r) cx o.1 h.1 (shaped_row C x lower s r cx o.0 h.0 g)
 
-pub searched_formed : (m : Matrix) (x : ℕ) (lower : Bool) → Formed m → In x m.unknown → Formed (searched m x lower).matrix
+pub searched_formed : (m : System) (x : ℕ) (lower : Bool) → Formed m → In x m.unknown → Formed (searched m x lower).system
 unfolding searched
 searched_formed m x lower f i =
     let s = found_all x lower (no_found m) m.inequalities in

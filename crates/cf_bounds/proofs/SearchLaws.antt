@@ -4,11 +4,11 @@ use Rattle.std.specs.Prelude.{IfOk, unsigned_abs, nat_lt, if◌then◌else◌}
 use Rattle.std.proofs.lemmas.Bool.{cond_both}
 use Rattle.cf_tree.specs.declared.memory.NoMemory.{NoMemory}
 use Rattle.cf_linear.specs.Rows.{Row, AreBelow, entry, comb, put, is_zero, add_at, without}
-use Rattle.cf_linear.specs.Matrices.{Matrix, EachRow, Answer}
+use Rattle.cf_linear.specs.Systems.{System, EachRow, Answer}
 use Rattle.cf_linear.specs.Steps.{one_at, two_at, searches, search_equation, search_bound, Found, found_row, found_all, searched_as, searched}
-use Rattle.cf_linear.specs.Keep.{In, Formed}
+use Rattle.cf_linear.specs.Keep.{In, Formed, ContinuesOnce}
 use Rattle.cf_linear.specs.Solved.{Owes}
-use Rattle.cf_linear.specs.Views.{matrix_of}
+use Rattle.cf_linear.specs.Views.{system_of}
 use Rattle.cf_linear.proofs.CombLemmas.{Rises-comb}
 use Rattle.cf_linear.proofs.Joining.{AreBelow-append, AreBelow-raise}
 use Rattle.cf_linear.proofs.SubstituteLemmas.{AreBelow-without, two_entries, AreBelow-put}
@@ -17,32 +17,36 @@ use Rattle.cf_bounds.specs.declared.searching.Searched.{Searched}
 use Rattle.cf_bounds.specs.Exact.{IsFree, AreExact}
 use Rattle.cf_bounds.specs.Searching.{searched_answer, found_from, found_with, equation_start}
 use Rattle.cf_bounds.proofs.ListLemmas.{all_below, comb_before}
-use Rattle.cf_bounds.proofs.SearchLemmas.{sided}
+use Rattle.cf_bounds.proofs.SearchLemmas.{sided, searched_one}
 use Rattle.cf_bounds.proofs.BoundLemmas.{searched_step, searched_exact, searched_free}
 use Rattle.cf_bounds.proofs.SearchFormed.{searched_formed}
 
-pub search_below : (m : Matrix) → Formed m → EachRow (AreBelow m.next) m.inequalities
+pub search_below : (m : System) → Formed m → EachRow (AreBelow m.next) m.inequalities
 search_below m f = all_below m.next m.inequalities (low_from m f).nonneg
 
-pub searched_is : (m : Matrix) (x : ℕ) (lower : Bool) (f : Found) (a : Answer) → f ≡ found_all x lower (found_from m.next) m.inequalities → a ≡ searched_as m f → a ≡ searched m x lower
+pub searched_is : (m : System) (x : ℕ) (lower : Bool) (f : Found) (a : Answer) → f ≡ found_all x lower (found_from m.next) m.inequalities → a ≡ searched_as m f → a ≡ searched m x lower
 unfolding searched
 searched_is m x lower f a e g = g ∙ ap (searched_as m) e
 
-pub search_owes : (m : Matrix) (x : ℕ) (lower : Bool) (r : Result Searched NoMemory) → Formed m → In x m.unknown → IfOk r (λ s. searched_answer s ≡ searched m x lower) → IfOk r (λ s. Owes m (searched_answer s))
+pub search_owes : (m : System) (x : ℕ) (lower : Bool) (r : Result Searched NoMemory) → Formed m → In x m.unknown → IfOk r (λ s. searched_answer s ≡ searched m x lower) → IfOk r (λ s. Owes m (searched_answer s))
 search_owes m x lower (Ok s) f i e = subst (Owes m) (sym e) (searched_step m x lower f i)
 search_owes m x lower (Err z) f i e = tt
 
-pub search_forms : (m : Matrix) (x : ℕ) (lower : Bool) (r : Result Searched NoMemory) → Formed m → In x m.unknown → IfOk r (λ s. searched_answer s ≡ searched m x lower) → IfOk r (λ s. Formed (matrix_of s.system))
-search_forms m x lower (Ok s) f i e = subst Formed (sym (ap (λ a. a.matrix) e)) (searched_formed m x lower f i)
+pub search_once : (m : System) (x : ℕ) (lower : Bool) (r : Result Searched NoMemory) → Formed m → In x m.unknown → IfOk r (λ s. searched_answer s ≡ searched m x lower) → IfOk r (λ s. ContinuesOnce m (searched_answer s))
+search_once m x lower (Ok s) f i e = subst (ContinuesOnce m) (sym e) (searched_one m x lower (low_from m f) (f.unknown_below x i))
+search_once m x lower (Err z) f i e = tt
+
+pub search_forms : (m : System) (x : ℕ) (lower : Bool) (r : Result Searched NoMemory) → Formed m → In x m.unknown → IfOk r (λ s. searched_answer s ≡ searched m x lower) → IfOk r (λ s. Formed (system_of s.system))
+search_forms m x lower (Ok s) f i e = subst Formed (sym (ap (λ a. a.system) e)) (searched_formed m x lower f i)
 search_forms m x lower (Err z) f i e = tt
 
-pub search_exact : (m : Matrix) (x : ℕ) (lower : Bool) (r : Result Searched NoMemory) → Formed m → In x m.unknown → IfOk r (λ s. searched_answer s ≡ searched m x lower) → IfOk r (λ s. AreExact x (matrix_of s.system).inequalities)
-search_exact m x lower (Ok s) f i e = subst (AreExact x) (sym (ap (λ a. a.matrix.inequalities) e)) (searched_exact m x lower f i)
+pub search_exact : (m : System) (x : ℕ) (lower : Bool) (r : Result Searched NoMemory) → Formed m → In x m.unknown → IfOk r (λ s. searched_answer s ≡ searched m x lower) → IfOk r (λ s. AreExact x (system_of s.system).inequalities)
+search_exact m x lower (Ok s) f i e = subst (AreExact x) (sym (ap (λ a. a.system.inequalities) e)) (searched_exact m x lower f i)
 search_exact m x lower (Err z) f i e = tt
 
-pub search_free : (m : Matrix) (x : ℕ) (lower : Bool) (r : Result Searched NoMemory) → Formed m → In x m.unknown → IfOk r (λ s. searched_answer s ≡ searched m x lower) →
-    IfOk r (λ s. IsFree x m.equations → IsFree x (matrix_of s.system).equations)
-search_free m x lower (Ok s) f i e = λ free. subst (IsFree x) (sym (ap (λ a. a.matrix.equations) e)) (searched_free m x lower f i free)
+pub search_free : (m : System) (x : ℕ) (lower : Bool) (r : Result Searched NoMemory) → Formed m → In x m.unknown → IfOk r (λ s. searched_answer s ≡ searched m x lower) →
+    IfOk r (λ s. IsFree x m.equations → IsFree x (system_of s.system).equations)
+search_free m x lower (Ok s) f i e = λ free. subst (IsFree x) (sym (ap (λ a. a.system.equations) e)) (searched_free m x lower f i free)
 search_free m x lower (Err z) f i e = tt
 
 -- ---- one row

@@ -5,9 +5,9 @@ use Rattle.std.proofs.lemmas.Int.{ints}
 use Rattle.std.proofs.lemmas.Bool.{cond_both, ltb-true, and_parts, eqb-true, eqb-false}
 use Rattle.cf_num.proofs.Ring.{ring}
 use Rattle.cf_linear.specs.Rows.{Row, Values, entry, value, without}
-use Rattle.cf_linear.specs.Matrices.{Matrix, EachRow, Sat}
+use Rattle.cf_linear.specs.Systems.{System, EachRow, Sat}
 use Rattle.cf_linear.specs.Steps.{is_positive, one_at, two_at, Found, searches, search_equation, search_bound, found_row, found_all, no_found, searched}
-use Rattle.cf_linear.specs.Keep.{Same, Keeps, Within, update}
+use Rattle.cf_linear.specs.Keep.{Same, Keeps, Continues, ContinuesOnce, Within, update}
 use Rattle.cf_linear.proofs.RowLemmas.{value-comb}
 use Rattle.cf_linear.proofs.KindLemmas.{IsZero, IsNonneg, Below, EachRow-append, EachRow-split, EachRow-below_more, Below-more, Over-comb, Over-filter}
 use Rattle.cf_linear.proofs.ValueLemmas.{EachRow-same, one_z, value-same, value-split, update-at, update-same, Same-trans, Within-append, Within-split}
@@ -305,10 +305,10 @@ all_once x lower (r ∷ rows) s v w low lx br same gv gw =
     all_once x lower rows t v w l.1 (omega arith) (EachRow-below_more s.next t.next le rows br.1) o gv gw
 
 -- ---- the step
-first_low : (m : Matrix) → LowFound (no_found m)
+first_low : (m : System) → LowFound (no_found m)
 first_low m = record { bounds = tt; zero = tt; nonneg = tt }
 
-pub searched_keeps : (m : Matrix) (x : ℕ) (lower : Bool) → Low m → x < m.next → Keeps m (searched m x lower)
+pub searched_keeps : (m : System) (x : ℕ) (lower : Bool) → Low m → x < m.next → Keeps m (searched m x lower)
 unfolding searched
 searched_keeps m x lower low lx =
     let s = found_all x lower (no_found m) m.inequalities in
@@ -323,11 +323,19 @@ searched_keeps m x lower low lx =
     }
 
 -- an old solution has one tuple, and one value of each new unknown
-pub searched_once : (m : Matrix) (x : ℕ) (lower : Bool) → Low m → x < m.next → (v w : Values) → Same m.next v w → Within v (searched m x lower).bounds → Within w (searched m x lower).bounds →
-    Sat (searched m x lower).matrix v → Sat (searched m x lower).matrix w → Same (searched m x lower).matrix.next v w
+pub searched_once : (m : System) (x : ℕ) (lower : Bool) → Low m → x < m.next → (v w : Values) → Same m.next v w → Within v (searched m x lower).bounds → Within w (searched m x lower).bounds →
+    Sat (searched m x lower).system v → Sat (searched m x lower).system w → Same (searched m x lower).system.next v w
 unfolding searched
 searched_once m x lower low lx v w same wv ww hv hw =
     let s = found_all x lower (no_found m) m.inequalities in
     let zv = (EachRow-split (IsZero v) m.equations s.equations hv.zero).1 in
     let zw = (EachRow-split (IsZero w) m.equations s.equations hw.zero).1 in
     all_once x lower m.inequalities (no_found m) v w (first_low m) lx low.nonneg same (record { within = wv; zero = zv; nonneg = hv.nonneg }) (record { within = ww; zero = zw; nonneg = hw.nonneg })
+
+pub searched_one : (m : System) (x : ℕ) (lower : Bool) → Low m → x < m.next → ContinuesOnce m (searched m x lower)
+searched_one m x lower low lx v one h =
+    let f = (searched_keeps m x lower low lx).forth v one h in
+    let w = f.0 in
+    let other : (u : Values) → Continues m (searched m x lower) v u → Same (searched m x lower).system.next w u = λ u c.
+    searched_once m x lower low lx w u (λ d l. sym (f.1 d l) ∙ c.0 d l) f.2 c.1 f.4 c.3 in
+    (w, (f.1, f.2, f.3, f.4), other)

@@ -1,21 +1,21 @@
 -- What the private calls of `clean` answer.
 use Rattle.std.specs.Prelude.{◌+◌, List, [], ◌∷◌, ◌++◌, length, map, filter, not}
 use Rattle.cf_linear.specs.Rows.{Row}
-use Rattle.cf_linear.specs.Matrices.{Matrix, Move, need_zero, need_nonneg, Answer}
+use Rattle.cf_linear.specs.Systems.{System, Step, need_zero, need_nonneg, Answer}
 use Rattle.cf_linear.specs.Steps.{has_unknown, Tightened, tighten_all, distinct_after}
 
 -- the needs of the equations without unknowns, and then of the inequalities
-abbrev pub needs_of : Matrix → List Move
+abbrev pub needs_of : System → List Step
 needs_of m = map need_zero (filter (λ r. not (has_unknown m.unknown r)) m.equations) ++ map need_nonneg (filter (λ r. not (has_unknown m.unknown r)) m.inequalities)
 
 -- the inequalities that hold an unknown, tightened
-abbrev pub tightened : Matrix → Tightened
+abbrev pub tightened : System → Tightened
 tightened m = tighten_all m.unknown m.next (filter (has_unknown m.unknown) m.inequalities)
 
 -- the new system of these parts
-abbrev pub joined : Matrix → List Row → Tightened → List Move → Answer
+abbrev pub joined : System → List Row → Tightened → List Step → Answer
 joined m equations t needs = record {
-  matrix = record {
+  system = record {
     known = m.known ++ t.made;
     unknown = m.unknown;
     next = t.next;
@@ -23,11 +23,11 @@ joined m equations t needs = record {
     inequalities = distinct_after [] t.rows;
     needs = m.needs + length needs;
   };
-  moves = needs ++ t.moves;
+  steps = needs ++ t.steps;
   back = [];
   bounds = [];
 }
 
 -- with the let of the next column
-abbrev pub with_let : Tightened → Move → Tightened
-with_let t m = record { next = t.next + 1; made = t.made ++ (t.next ∷ []); moves = t.moves ++ (m ∷ []); rows = t.rows }
+abbrev pub with_let : Tightened → Step → Tightened
+with_let t m = record { next = t.next + 1; made = t.made ++ (t.next ∷ []); steps = t.steps ++ (m ∷ []); rows = t.rows }

@@ -4,12 +4,12 @@ use Rattle.std.specs.List.{list_any}
 use Rattle.cf_bounds.specs.declared.dropping.Dropped.{Dropped}
 use Rattle.cf_linear.specs.declared.system.Divided.{Divided}
 use Rattle.cf_linear.specs.Rows.{Row}
-use Rattle.cf_linear.specs.Matrices.{Matrix, Way, Answer}
+use Rattle.cf_linear.specs.Systems.{System, How, Answer}
 use Rattle.cf_linear.specs.Steps.{pair_passes}
-use Rattle.cf_linear.specs.Views.{matrix_of, back_of}
+use Rattle.cf_linear.specs.Views.{system_of, back_of}
 
 abbrev pub dropped_answer : Dropped → Answer
-dropped_answer d = record { matrix = matrix_of d.system; moves = []; back = back_of d.back ∷ []; bounds = [] }
+dropped_answer d = record { system = system_of d.system; steps = []; back = back_of d.back ∷ []; bounds = [] }
 
 abbrev pub bound_pair : Divided → Row × ℤ
 bound_pair b = (b.row, b.k)
@@ -18,11 +18,11 @@ bound_pair b = (b.row, b.k)
 unfoldable pub pairs_pass : ℕ → List Row → List Row → Bool
 pairs_pass x low high = list_any (λ l. list_any (pair_passes x l) high) low
 
--- the matrix with these inequalities, without x, which is computed so
-abbrev pub with_rows : Matrix → ℕ → List Row → Way → Answer
-with_rows m x rows way = record {
-  matrix = record { known = m.known; unknown = filter (λ w. not (w == x)) m.unknown; next = m.next; equations = m.equations; inequalities = rows; needs = m.needs };
-  moves = [];
-  back = (x, way) ∷ [];
+-- the system with these inequalities, without x, which is computed so
+abbrev pub with_rows : System → ℕ → List Row → How → Answer
+with_rows m x rows how = record {
+  system = record { known = m.known; unknown = filter (λ w. not (w == x)) m.unknown; next = m.next; equations = m.equations; inequalities = rows; needs = m.needs };
+  steps = [];
+  back = (x, how) ∷ [];
   bounds = [];
 }

@@ -1,7 +1,7 @@
 -- When an unknown may be dropped.
 use Rattle.std.specs.Prelude.{◌≡◌, ℕ, pos, neg_ℤ, List, ◌⊎◌}
 use Rattle.cf_linear.specs.Rows.{Row, entry}
-use Rattle.cf_linear.specs.Matrices.{EachRow}
+use Rattle.cf_linear.specs.Systems.{EachRow}
 use Rattle.cf_linear.specs.Steps.{lowers, uppers}
 
 -- no row has x

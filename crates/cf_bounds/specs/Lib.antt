@@ -1,7 +1,7 @@
 pub mod Cleaning
 pub mod Dropping
 pub mod Exact
-pub mod Made
+pub mod CleanAnswers
 pub mod Picking
 pub mod Searching
 pub mod Sides

@@ -1,17 +1,17 @@
 -- What `remainder_step` and its private calls answer.
 use Rattle.std.specs.Prelude.{ℕ, ◌+◌, ◌∷◌, ◌++◌, ℤ, pos, negsuc, unsigned_abs, nat_lt, ◌&&◌, map, [], Bool, if◌then◌else◌}
 use Rattle.cf_bounds.specs.declared.searching.Searched.{Searched}
-use Rattle.cf_bounds.specs.declared.searching.Finding.{Finding}
+use Rattle.cf_bounds.specs.declared.searching.SearchBuilder.{SearchBuilder}
 use Rattle.cf_linear.specs.Rows.{Row, comb, without}
-use Rattle.cf_linear.specs.Matrices.{Answer}
+use Rattle.cf_linear.specs.Systems.{Answer}
 use Rattle.cf_linear.specs.Steps.{Found}
-use Rattle.cf_linear.specs.Views.{matrix_of, bound_of}
+use Rattle.cf_linear.specs.Views.{system_of, bound_of}
 use Rattle.cf_bounds.specs.Sides.{is_side}
 
 abbrev pub searched_answer : Searched → Answer
-searched_answer s = record { matrix = matrix_of s.system; moves = []; back = []; bounds = map bound_of s.bounds.items }
+searched_answer s = record { system = system_of s.system; steps = []; back = []; bounds = map bound_of s.bounds.items }
 
-abbrev pub found_of : Finding → Found
+abbrev pub found_of : SearchBuilder → Found
 found_of f = record { next = f.next; columns = f.columns.items; unknowns = f.unknowns.items; equations = f.equations.items; rows = f.rows.items; bounds = map bound_of f.bounds.items }
 
 -- nothing is found yet

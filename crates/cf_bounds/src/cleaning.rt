@@ -3,13 +3,13 @@ ghost use Rattle.std.specs.Prelude.{◌≡◌, ◌≤◌, ◌++◌, pos, ◌<ℤ
 ghost use Rattle.std.specs.List.{list_any};
 ghost use Rattle.cf_num.specs.Limit.{IsWithin};
 ghost use Rattle.cf_linear.specs.Rows.{AreBelow, same_row, comb};
-ghost use Rattle.cf_linear.specs.Matrices.{EachRow, need_zero, need_nonneg, floor_of};
+ghost use Rattle.cf_linear.specs.Systems.{EachRow, need_zero, need_nonneg, floor_of};
 ghost use Rattle.cf_linear.specs.Steps.{has_unknown, unknown_part, common, tighten_row, next_tightened, tighten_all, distinct_after, one_at, clean};
 ghost use Rattle.cf_linear.specs.Keep.{Formed};
 ghost use Rattle.cf_linear.specs.Solved.{Owes};
-ghost use Rattle.cf_linear.specs.Views.{matrix_of, move_of};
+ghost use Rattle.cf_linear.specs.Views.{system_of, step_of};
 ghost use Rattle.cf_bounds.specs.Sides.{divided_by};
-ghost use Rattle.cf_bounds.specs.Made.{cleaned, tight_of, tightened_of};
+ghost use Rattle.cf_bounds.specs.CleanAnswers.{cleaned, tight_of, tightened_of};
 ghost use Rattle.cf_bounds.specs.Cleaning.{needs_of, tightened, joined, with_let};
 
 use crate::parts::{
@@ -36,7 +36,7 @@ pub(crate) struct Tight {
 
 // The rows that were tightened so far, with the new columns and their lets.
 #[derive(Drop)]
-pub(crate) struct Tightening {
+pub(crate) struct TightenedRows {
     pub(crate) next: u32,
     pub(crate) made: Vec<u32>,
     pub(crate) steps: Vec<Step>,
@@ -47,18 +47,18 @@ pub(crate) struct Tightening {
 /// greatest common divisor of their unknowns' coefficients, where the known part is rounded down or
 /// gives way to a new column, and of equal ones the first stays.
 pub fn clean(alloc: Global, system: System) -> Result<Cleaned, NoMemory>
-    requires { Formed (matrix_of system) }
-    ensures next { IfOk result (λ c. cleaned c ≡ clean (matrix_of system)) }
-    ensures owes { IfOk result (λ c. Owes (matrix_of system) (cleaned c)) }
-    ensures formed { IfOk result (λ c. Formed (matrix_of c.system)) }
+    requires { Formed (system_of system) }
+    ensures next { IfOk result (λ c. cleaned c ≡ clean (system_of system)) }
+    ensures owes { IfOk result (λ c. Owes (system_of system) (cleaned c)) }
+    ensures formed { IfOk result (λ c. Formed (system_of c.system)) }
 {
     cleaned_system(alloc, system)
 }
 
 #[tactic(auto, using(crate::proofs::CleanLaws::clean_is))]
 fn cleaned_system(alloc: Global, system: System) -> Result<Cleaned, NoMemory>
-    requires { EachRow (AreBelow (matrix_of system).next) (matrix_of system).inequalities }
-    ensures { IfOk result (λ c. cleaned c ≡ clean (matrix_of system)) }
+    requires { EachRow (AreBelow (system_of system).next) (system_of system).inequalities }
+    ensures { IfOk result (λ c. cleaned c ≡ clean (system_of system)) }
 {
     let needs = needs_of(alloc, &system)?;
     let tight = tightened(alloc, &system)?;
@@ -71,10 +71,10 @@ fn joined(
     alloc: Global,
     system: System,
     equations: Vec<Row>,
-    tight: Tightening,
+    tight: TightenedRows,
     needs: Vec<Step>,
 ) -> Result<Cleaned, NoMemory>
-    ensures { IfOk result (λ c. cleaned c ≡ joined (matrix_of system) equations.items (tightened_of tight) (map move_of needs.items)) }
+    ensures { IfOk result (λ c. cleaned c ≡ joined (system_of system) equations.items (tightened_of tight) (map step_of needs.items)) }
 {
     let Some(count) = system.needs.checked_add(needs.len() as u64) else {
         return Err(NoMemory);
@@ -109,7 +109,7 @@ fn both_steps(first: Vec<Step>, second: Vec<Step>) -> Result<Vec<Step>, NoMemory
 // The needs of the equations without unknowns, and then of the inequalities.
 #[tactic(auto, using(crate::proofs::CleanLaws::steps_append))]
 fn needs_of(alloc: Global, system: &System) -> Result<Vec<Step>, NoMemory>
-    ensures { IfOk result (λ s. map move_of s.items ≡ needs_of (matrix_of system.now)) }
+    ensures { IfOk result (λ s. map step_of s.items ≡ needs_of (system_of system.now)) }
 {
     let equations = bare_rows(alloc, &system.unknown, &system.equations)?;
     let inequalities = bare_rows(alloc, &system.unknown, &system.inequalities)?;
@@ -120,7 +120,7 @@ fn needs_of(alloc: Global, system: &System) -> Result<Vec<Step>, NoMemory>
 }
 
 fn zero_needs(alloc: Global, rows: &[Row]) -> Result<Vec<Step>, NoMemory>
-    ensures { IfOk result (λ s. map move_of s.items ≡ map need_zero rows.now) }
+    ensures { IfOk result (λ s. map step_of s.items ≡ map need_zero rows.now) }
 {
     let mut out = Vec::new(alloc);
     for row in rows {
@@ -130,7 +130,7 @@ fn zero_needs(alloc: Global, rows: &[Row]) -> Result<Vec<Step>, NoMemory>
 }
 
 fn nonneg_needs(alloc: Global, rows: &[Row]) -> Result<Vec<Step>, NoMemory>
-    ensures { IfOk result (λ s. map move_of s.items ≡ map need_nonneg rows.now) }
+    ensures { IfOk result (λ s. map step_of s.items ≡ map need_nonneg rows.now) }
 {
     let mut out = Vec::new(alloc);
     for row in rows {
@@ -182,9 +182,9 @@ fn has_row(row: &Row, rows: &[Row]) -> bool
 }
 
 // The inequalities that hold an unknown, tightened.
-fn tightened(alloc: Global, system: &System) -> Result<Tightening, NoMemory>
-    requires { EachRow (AreBelow (matrix_of system.now).next) (matrix_of system.now).inequalities }
-    ensures { IfOk result (λ t. tightened_of t ≡ tightened (matrix_of system.now)) }
+fn tightened(alloc: Global, system: &System) -> Result<TightenedRows, NoMemory>
+    requires { EachRow (AreBelow (system_of system.now).next) (system_of system.now).inequalities }
+    ensures { IfOk result (λ t. tightened_of t ≡ tightened (system_of system.now)) }
 {
     let held = with_unknowns(alloc, &system.unknown, &system.inequalities)?;
     tighten_all(alloc, &system.unknown, system.next, &held)
@@ -195,11 +195,11 @@ fn tighten_all(
     unknown: &[u32],
     next: u32,
     rows: &[Row],
-) -> Result<Tightening, NoMemory>
+) -> Result<TightenedRows, NoMemory>
     requires { EachRow (AreBelow next) rows.now }
     ensures { IfOk result (λ t. tightened_of t ≡ tighten_all unknown.now next rows.now) }
 {
-    let mut all = Tightening {
+    let mut all = TightenedRows {
         next,
         made: Vec::new(alloc),
         steps: Vec::new(alloc),
@@ -280,7 +280,7 @@ fn floored(alloc: Global, unknowns: &Row, known: Row, g: i128, next: u32) -> Res
     })
 }
 
-impl Tightening {
+impl TightenedRows {
     // Adds a row, and the new column that it got.
     fn add(&mut self, tight: Tight) -> Result<(), NoMemory>
         ensures value { OnOk result (tightened_of self.new ≡ next_tightened (tightened_of self.old) (tight_of tight)) }
@@ -296,7 +296,7 @@ impl Tightening {
 
     // Adds the let of the next column.
     fn add_let(&mut self, step: Step) -> Result<(), NoMemory>
-        ensures value { OnOk result (tightened_of self.new ≡ with_let (tightened_of self.old) (move_of step)) }
+        ensures value { OnOk result (tightened_of self.new ≡ with_let (tightened_of self.old) (step_of step)) }
         ensures grown { OnOk result (self.old.next ≤ self.new.next) }
     {
         self.steps.push(step)?;

@@ -2,10 +2,10 @@
 ghost use Rattle.std.specs.Prelude.{◌≡◌, ◌++◌, ◌∷◌, [], pos, neg_ℤ, not, ◌==◌, map, filter, true, false, Err, IfOk, OnOk};
 ghost use Rattle.std.specs.List.{list_any};
 ghost use Rattle.cf_linear.specs.Rows.{entry, without};
-ghost use Rattle.cf_linear.specs.Steps.{free_of, pair_row, pair_passes, pairs_of, way_of, dropped, drop_passes};
+ghost use Rattle.cf_linear.specs.Steps.{free_of, pair_row, pair_passes, pairs_of, how_between, dropped, drop_passes};
 ghost use Rattle.cf_linear.specs.Keep.{In, Formed};
 ghost use Rattle.cf_linear.specs.Solved.{Owes};
-ghost use Rattle.cf_linear.specs.Views.{matrix_of, way_of_how};
+ghost use Rattle.cf_linear.specs.Views.{system_of, how_of};
 ghost use Rattle.cf_bounds.specs.Exact.{IsFree, AreExact};
 ghost use Rattle.cf_bounds.specs.Sides.{side};
 ghost use Rattle.cf_bounds.specs.Dropping.{dropped_answer, bound_pair, pairs_pass, with_rows};
@@ -30,24 +30,24 @@ pub struct Dropped {
 /// Each lower bound with each upper one makes an inequality. Past exactly where a product or a sum
 /// that makes an entry of these passes the limit.
 pub fn drop_output(alloc: Global, system: System, unknown: u32) -> Result<Dropped, RowFault>
-    requires formed { Formed (matrix_of system) }
-    requires unknown { In unknown (matrix_of system).unknown }
-    requires free { IsFree unknown (matrix_of system).equations }
-    requires exact { AreExact unknown (matrix_of system).inequalities }
-    ensures next { IfOk result (λ d. dropped_answer d ≡ dropped (matrix_of system) unknown) }
-    ensures owes { IfOk result (λ d. Owes (matrix_of system) (dropped_answer d)) }
-    ensures formed { IfOk result (λ d. Formed (matrix_of d.system)) }
-    ensures fits { IfOk result (λ d. drop_passes (matrix_of system) unknown ≡ false) }
-    ensures past { result ≡ Err RowFault.Past → drop_passes (matrix_of system) unknown ≡ true }
+    requires formed { Formed (system_of system) }
+    requires unknown { In unknown (system_of system).unknown }
+    requires free { IsFree unknown (system_of system).equations }
+    requires exact { AreExact unknown (system_of system).inequalities }
+    ensures next { IfOk result (λ d. dropped_answer d ≡ dropped (system_of system) unknown) }
+    ensures owes { IfOk result (λ d. Owes (system_of system) (dropped_answer d)) }
+    ensures formed { IfOk result (λ d. Formed (system_of d.system)) }
+    ensures fits { IfOk result (λ d. drop_passes (system_of system) unknown ≡ false) }
+    ensures past { result ≡ Err RowFault.Past → drop_passes (system_of system) unknown ≡ true }
 {
     dropped_system(alloc, system, unknown)
 }
 
 #[tactic(auto, using(crate::proofs::DropLaws::dropped_is))]
 fn dropped_system(alloc: Global, system: System, unknown: u32) -> Result<Dropped, RowFault>
-    ensures next { IfOk result (λ d. dropped_answer d ≡ dropped (matrix_of system) unknown) }
-    ensures fits { IfOk result (λ d. drop_passes (matrix_of system) unknown ≡ false) }
-    ensures past { result ≡ Err RowFault.Past → drop_passes (matrix_of system) unknown ≡ true }
+    ensures next { IfOk result (λ d. dropped_answer d ≡ dropped (system_of system) unknown) }
+    ensures fits { IfOk result (λ d. drop_passes (system_of system) unknown ≡ false) }
+    ensures past { result ≡ Err RowFault.Past → drop_passes (system_of system) unknown ≡ true }
 {
     let low = side(alloc, &system.inequalities, unknown, true)?;
     let high = side(alloc, &system.inequalities, unknown, false)?;
@@ -66,9 +66,9 @@ fn with_left(
     high: &[Row],
     rows: Vec<Row>,
 ) -> Result<Dropped, NoMemory>
-    ensures { IfOk result (λ d. dropped_answer d ≡ with_rows (matrix_of system) unknown rows.items (way_of unknown low.now high.now)) }
+    ensures { IfOk result (λ d. dropped_answer d ≡ with_rows (system_of system) unknown rows.items (how_between unknown low.now high.now)) }
 {
-    let how = way(alloc, unknown, low, high)?;
+    let how = how_between(alloc, unknown, low, high)?;
     let dropped = with_rows(alloc, system, unknown, rows, how)?;
     Ok(dropped)
 }
@@ -81,7 +81,7 @@ fn with_rows(
     rows: Vec<Row>,
     how: How,
 ) -> Result<Dropped, NoMemory>
-    ensures { IfOk result (λ d. dropped_answer d ≡ with_rows (matrix_of system) unknown rows.items (way_of_how how)) }
+    ensures { IfOk result (λ d. dropped_answer d ≡ with_rows (system_of system) unknown rows.items (how_of how)) }
 {
     let left = others(alloc, &system.unknown, unknown)?;
     Ok(Dropped {
@@ -207,8 +207,8 @@ fn pair(alloc: Global, unknown: u32, low: &Row, high: &Row) -> Result<Row, RowFa
 }
 
 // How the unknown is computed of its bounds.
-fn way(alloc: Global, unknown: u32, low: &[Row], high: &[Row]) -> Result<How, NoMemory>
-    ensures { IfOk result (λ h. way_of_how h ≡ way_of unknown low.now high.now) }
+fn how_between(alloc: Global, unknown: u32, low: &[Row], high: &[Row]) -> Result<How, NoMemory>
+    ensures { IfOk result (λ h. how_of h ≡ how_between unknown low.now high.now) }
 {
     if !low.is_empty() {
         return Ok(How::Greatest(lower_bounds(alloc, unknown, low)?));

@@ -10,14 +10,14 @@ use cf_num::{fdiv, gcd, modulo};
 use cf_tree::memory::NoMemory;
 use std::alloc::Global;
 
-/// Whether the column is one of the unknowns.
+// Whether the column is one of the unknowns.
 pub(crate) fn has_column(unknown: &[u32], column: u32) -> bool
     ensures { result ≡ has_column unknown.now column }
 {
     unknown.iter().any(|u| *u == column)
 }
 
-/// Whether the row holds an unknown.
+// Whether the row holds an unknown.
 #[tactic(auto, using(crate::proofs::PartLemmas::unknown_next, crate::proofs::PartLemmas::unknown_end))]
 pub(crate) fn has_unknown(unknown: &[u32], row: &Row) -> bool
     ensures { result ≡ has_unknown unknown.now row.now }
@@ -30,7 +30,7 @@ pub(crate) fn has_unknown(unknown: &[u32], row: &Row) -> bool
     false
 }
 
-/// The unknowns of the row with their entries.
+// The unknowns of the row with their entries.
 #[tactic(auto, using(crate::proofs::PartLemmas::unknown_more, crate::proofs::PartLemmas::unknown_below))]
 pub(crate) fn unknown_part(alloc: Global, unknown: &[u32], row: &Row) -> Result<Row, NoMemory>
     ensures { IfOk result (λ r. r ≡ unknown_part unknown.now row.now) }
@@ -43,7 +43,7 @@ pub(crate) fn unknown_part(alloc: Global, unknown: &[u32], row: &Row) -> Result<
     Ok(out)
 }
 
-/// The other columns of the row with their entries.
+// The other columns of the row with their entries.
 #[tactic(auto, using(crate::proofs::PartLemmas::known_more, crate::proofs::PartLemmas::known_below))]
 pub(crate) fn known_part(alloc: Global, unknown: &[u32], row: &Row) -> Result<Row, NoMemory>
     ensures { IfOk result (λ r. r ≡ known_part unknown.now row.now) }
@@ -56,7 +56,7 @@ pub(crate) fn known_part(alloc: Global, unknown: &[u32], row: &Row) -> Result<Ro
     Ok(out)
 }
 
-/// The greatest common divisor of the entries.
+// The greatest common divisor of the entries.
 #[tactic(auto, using(crate::proofs::PartLemmas::common_next, crate::proofs::PartLemmas::common_end))]
 pub(crate) fn common(row: &Row) -> i128
     ensures value { result ≡ pos (common row.now) }
@@ -71,7 +71,7 @@ pub(crate) fn common(row: &Row) -> i128
     g
 }
 
-/// Whether `g` divides each entry but the constant.
+// Whether `g` divides each entry but the constant.
 #[tactic(auto, using(crate::proofs::PartLemmas::divides_next, crate::proofs::PartLemmas::divides_end))]
 pub(crate) fn divides_known(row: &Row, g: i128) -> bool
     requires g_in { IsWithin g }
@@ -87,7 +87,7 @@ pub(crate) fn divides_known(row: &Row, g: i128) -> bool
     true
 }
 
-/// Each entry divided by `g` and rounded down.
+// Each entry divided by `g` and rounded down.
 #[tactic(auto, using(crate::proofs::PartLemmas::divided_more, crate::proofs::PartLemmas::divided_below))]
 pub(crate) fn divided(alloc: Global, row: &Row, g: i128) -> Result<Row, NoMemory>
     requires g_in { IsWithin g }
@@ -103,7 +103,7 @@ pub(crate) fn divided(alloc: Global, row: &Row, g: i128) -> Result<Row, NoMemory
     Ok(out)
 }
 
-/// The first columns and then the second.
+// The first columns and then the second.
 pub(crate) fn joined_columns(first: Vec<u32>, second: &[u32]) -> Result<Vec<u32>, NoMemory>
     ensures { IfOk result (λ all. all.items ≡ first.items ++ second.now) }
 {
@@ -112,7 +112,7 @@ pub(crate) fn joined_columns(first: Vec<u32>, second: &[u32]) -> Result<Vec<u32>
     Ok(all)
 }
 
-/// The first rows and then the second.
+// The first rows and then the second.
 pub(crate) fn joined_rows(first: Vec<Row>, second: Vec<Row>) -> Result<Vec<Row>, NoMemory>
     ensures { IfOk result (λ all. all.items ≡ first.items ++ second.items) }
 {
@@ -122,7 +122,7 @@ pub(crate) fn joined_rows(first: Vec<Row>, second: Vec<Row>) -> Result<Vec<Row>,
     Ok(all)
 }
 
-/// Adds a copy of the row to the end, if it is wanted.
+// Adds a copy of the row to the end, if it is wanted.
 pub(crate) fn add_copy(
     alloc: Global,
     out: &mut Vec<Row>,

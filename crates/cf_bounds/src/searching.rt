@@ -2,11 +2,11 @@
 ghost use Rattle.std.specs.Prelude.{◌≡◌, ◌<◌, ◌≤◌, ◌+◌, ◌^◌, pos, negsuc, neg_ℤ, unsigned_abs, if◌then◌else◌, true, IfOk, OnOk};
 ghost use Rattle.cf_num.specs.Limit.{IsWithin};
 ghost use Rattle.cf_linear.specs.Rows.{AreBelow};
-ghost use Rattle.cf_linear.specs.Matrices.{EachRow};
+ghost use Rattle.cf_linear.specs.Systems.{EachRow};
 ghost use Rattle.cf_linear.specs.Steps.{searches, search_equation, search_bound, found_row, found_all, searched_as, searched};
-ghost use Rattle.cf_linear.specs.Keep.{In, Formed};
+ghost use Rattle.cf_linear.specs.Keep.{In, Formed, ContinuesOnce};
 ghost use Rattle.cf_linear.specs.Solved.{Owes};
-ghost use Rattle.cf_linear.specs.Views.{matrix_of};
+ghost use Rattle.cf_linear.specs.Views.{system_of};
 ghost use Rattle.cf_bounds.specs.Exact.{IsFree, AreExact};
 ghost use Rattle.cf_bounds.specs.Searching.{searched_answer, found_of, found_from, found_with, equation_start, is_searched};
 
@@ -27,7 +27,7 @@ pub struct Searched {
 
 // What the search has so far.
 #[derive(Drop)]
-pub(crate) struct Finding {
+pub(crate) struct SearchBuilder {
     pub(crate) next: u32,
     pub(crate) columns: Vec<u32>,
     pub(crate) unknowns: Vec<u32>,
@@ -40,13 +40,14 @@ pub(crate) struct Finding {
 /// with a search column, which goes from 0 up to the coefficient, not with it, and a new unknown, which
 /// takes the bound's place. After it each pair of bounds has a coefficient 1 or -1.
 pub fn remainder_step(alloc: Global, system: System, pick: &Pick) -> Result<Searched, NoMemory>
-    requires formed { Formed (matrix_of system) }
-    requires unknown { In pick.now.unknown (matrix_of system).unknown }
-    ensures next { IfOk result (λ s. searched_answer s ≡ searched (matrix_of system) pick.now.unknown pick.now.lower) }
-    ensures owes { IfOk result (λ s. Owes (matrix_of system) (searched_answer s)) }
-    ensures formed { IfOk result (λ s. Formed (matrix_of s.system)) }
-    ensures exact { IfOk result (λ s. AreExact pick.now.unknown (matrix_of s.system).inequalities) }
-    ensures free { IfOk result (λ s. IsFree pick.now.unknown (matrix_of system).equations → IsFree pick.now.unknown (matrix_of s.system).equations) }
+    requires formed { Formed (system_of system) }
+    requires unknown { In pick.now.unknown (system_of system).unknown }
+    ensures next { IfOk result (λ s. searched_answer s ≡ searched (system_of system) pick.now.unknown pick.now.lower) }
+    ensures owes { IfOk result (λ s. Owes (system_of system) (searched_answer s)) }
+    ensures once { IfOk result (λ s. ContinuesOnce (system_of system) (searched_answer s)) }
+    ensures formed { IfOk result (λ s. Formed (system_of s.system)) }
+    ensures exact { IfOk result (λ s. AreExact pick.now.unknown (system_of s.system).inequalities) }
+    ensures free { IfOk result (λ s. IsFree pick.now.unknown (system_of system).equations → IsFree pick.now.unknown (system_of s.system).equations) }
 {
     searched_system(alloc, system, pick.unknown, pick.lower)
 }
@@ -58,17 +59,17 @@ fn searched_system(
     unknown: u32,
     lower: bool,
 ) -> Result<Searched, NoMemory>
-    requires rows { EachRow (AreBelow (matrix_of system).next) (matrix_of system).inequalities }
-    requires column { unknown < (matrix_of system).next }
-    ensures { IfOk result (λ s. searched_answer s ≡ searched (matrix_of system) unknown lower) }
+    requires rows { EachRow (AreBelow (system_of system).next) (system_of system).inequalities }
+    requires column { unknown < (system_of system).next }
+    ensures { IfOk result (λ s. searched_answer s ≡ searched (system_of system) unknown lower) }
 {
     let found = find_all(alloc, &system.inequalities, system.next, unknown, lower)?;
     with_found(system, found)
 }
 
 // The system with what the search found.
-fn with_found(system: System, found: Finding) -> Result<Searched, NoMemory>
-    ensures { IfOk result (λ s. searched_answer s ≡ searched_as (matrix_of system) (found_of found)) }
+fn with_found(system: System, found: SearchBuilder) -> Result<Searched, NoMemory>
+    ensures { IfOk result (λ s. searched_answer s ≡ searched_as (system_of system) (found_of found)) }
 {
     let known = joined_columns(system.known, &found.columns)?;
     let unknown = joined_columns(system.unknown, &found.unknowns)?;
@@ -93,12 +94,12 @@ fn find_all(
     next: u32,
     unknown: u32,
     lower: bool,
-) -> Result<Finding, NoMemory>
+) -> Result<SearchBuilder, NoMemory>
     requires rows { EachRow (AreBelow next) rows.now }
     requires column { unknown < next }
     ensures { IfOk result (λ f. found_of f ≡ found_all unknown lower (found_from next) rows.now) }
 {
-    let mut found = Finding {
+    let mut found = SearchBuilder {
         next,
         columns: Vec::new(alloc),
         unknowns: Vec::new(alloc),
@@ -149,7 +150,7 @@ fn search_equation(
     let k = row.entry(unknown);
     let mut out = equation_start(alloc, unknown, lower, row)?;
     out.append(column, side_sign(lower))?;
-    out.append(column + 1, turned(lower, k))?;
+    out.append(column + 1, side_coefficient(lower, k))?;
     Ok(out)
 }
 
@@ -161,7 +162,7 @@ fn side_sign(lower: bool) -> i128
 }
 
 // The coefficient, with the other sign for a lower bound.
-fn turned(lower: bool, k: i128) -> i128
+fn side_coefficient(lower: bool, k: i128) -> i128
     requires { IsWithin k }
     ensures value { result ≡ (if lower then neg_ℤ k else k) }
     ensures fits { IsWithin result }
@@ -191,7 +192,7 @@ fn search_bound(alloc: Global, unknown: u32, lower: bool, column: u32) -> Result
     }
 }
 
-impl Finding {
+impl SearchBuilder {
     // Adds a row, or what takes its place.
     fn add(&mut self, alloc: Global, unknown: u32, lower: bool, row: &Row) -> Result<(), NoMemory>
         requires below { AreBelow self.old.next row.now }

@@ -1,10 +1,10 @@
 //! The unknown that goes next.
 ghost use Rattle.std.specs.Prelude.{◌≡◌, ◌<◌, ◌*◌, ◌-◌, ◌^◌, ◌&&◌, nat_lt, min, unsigned_abs, length, if◌then◌else◌};
 ghost use Rattle.std.specs.List.{list_any};
-ghost use Rattle.cf_linear.specs.Steps.{choice_at, is_better};
-ghost use Rattle.cf_linear.specs.Views.{matrix_of};
+ghost use Rattle.cf_linear.specs.Steps.{pick_at, is_better};
+ghost use Rattle.cf_linear.specs.Views.{system_of};
 ghost use Rattle.cf_bounds.specs.Sides.{is_great, is_side, side, side_product};
-ghost use Rattle.cf_bounds.specs.Picking.{choice_of, picked};
+ghost use Rattle.cf_bounds.specs.Picking.{pick_of, picked};
 
 use cf_linear::row::Row;
 use cf_linear::system::System;
@@ -21,8 +21,8 @@ pub struct Pick {
 
 /// The unknown with the least product, then with the fewest pairs, then the first.
 pub fn select(system: &System) -> Pick
-    requires { 0 < length (matrix_of system.now).unknown }
-    ensures { length (matrix_of system.now).inequalities < 2 ^ 32 → choice_of result ≡ picked (matrix_of system.now).inequalities (matrix_of system.now).unknown }
+    requires { 0 < length (system_of system.now).unknown }
+    ensures { length (system_of system.now).inequalities < 2 ^ 32 → pick_of result ≡ picked (system_of system.now).inequalities (system_of system.now).unknown }
 {
     picked(&system.inequalities, &system.unknown)
 }
@@ -30,7 +30,7 @@ pub fn select(system: &System) -> Pick
 #[tactic(auto, using(crate::proofs::PickLaws::picked_first, crate::proofs::PickLaws::picked_next, crate::proofs::PickLaws::picked_end))]
 fn picked(rows: &[Row], unknowns: &[u32]) -> Pick
     requires { 0 < length unknowns.now }
-    ensures { length rows.now < 2 ^ 32 → choice_of result ≡ picked rows.now unknowns.now }
+    ensures { length rows.now < 2 ^ 32 → pick_of result ≡ picked rows.now unknowns.now }
 {
     let mut best = pick_at(rows, unknowns[0]);
     for i in 1..unknowns.len() {
@@ -41,7 +41,7 @@ fn picked(rows: &[Row], unknowns: &[u32]) -> Pick
 
 // The first, if it is better, and else the second.
 fn better(first: Pick, second: Pick) -> Pick
-    ensures { choice_of result ≡ (if is_better (choice_of first) (choice_of second) then choice_of first else choice_of second) }
+    ensures { pick_of result ≡ (if is_better (pick_of first) (pick_of second) then pick_of first else pick_of second) }
 {
     if first.is_better(&second) {
         first
@@ -52,16 +52,16 @@ fn better(first: Pick, second: Pick) -> Pick
 
 impl Pick {
     fn is_better(&self, other: &Pick) -> bool
-        ensures { result ≡ is_better (choice_of self.now) (choice_of other.now) }
+        ensures { result ≡ is_better (pick_of self.now) (pick_of other.now) }
     {
         self.product < other.product || (self.product == other.product && self.pairs < other.pairs)
     }
 }
 
 // What the unknown would be picked with.
-#[tactic(auto, using(crate::proofs::PickLaws::choice_search, crate::proofs::PickLaws::choice_plain))]
+#[tactic(auto, using(crate::proofs::PickLaws::pick_at_search, crate::proofs::PickLaws::pick_at_plain))]
 fn pick_at(rows: &[Row], unknown: u32) -> Pick
-    ensures { length rows.now < 2 ^ 32 → choice_of result ≡ choice_at rows.now unknown }
+    ensures { length rows.now < 2 ^ 32 → pick_of result ≡ pick_at rows.now unknown }
 {
     let pairs = pairs_at(rows, unknown);
     if has_greater(rows, unknown, true) && has_greater(rows, unknown, false) {
@@ -86,7 +86,7 @@ fn pick_at(rows: &[Row], unknown: u32) -> Pick
 // How many pairs its bounds make.
 #[tactic(auto, using(crate::proofs::PickLaws::pairs_fit))]
 fn pairs_at(rows: &[Row], unknown: u32) -> u64
-    ensures { length rows.now < 2 ^ 32 → result ≡ (choice_at rows.now unknown).pairs }
+    ensures { length rows.now < 2 ^ 32 → result ≡ (pick_at rows.now unknown).pairs }
 {
     let low = count(rows, unknown, true) as u64;
     let high = count(rows, unknown, false) as u64;

@@ -1,4 +1,4 @@
--- A relation holds in an environment exactly where the first matrix of some case is satisfied at values of the columns that agree with it.
+-- A relation holds in an environment exactly where the first system of some case is satisfied at values of the columns that agree with it.
 use Rattle.std.proofs.Common.{◌≡◌, ◌≢◌, ℕ, ◌+◌, ◌-◌, ◌^◌, ℤ, pos, ◌*ℤ◌, neg_ℤ, List, [], ◌∷◌, ◌++◌, length, Bool, true, false, ◌||◌, refl, sym, ◌∙◌, ap, arith}
 use Rattle.std.specs.Prelude.{◌↔◌, ◌≤ℤ◌, IsTrue}
 use Rattle.std.proofs.lemmas.Int.{ints}
@@ -10,18 +10,18 @@ use Rattle.cf_tree.specs.Sets.{has, set_union, set_inter, set_diff}
 use Rattle.cf_tree.specs.Values.{Value, number_of, value_at}
 use Rattle.cf_linear.specs.Rows.{Values, value}
 use Rattle.cf_linear.specs.Keep.{Same, Formed}
-use Rattle.cf_linear.specs.Matrices.{Matrix, EachRow, Sat}
-use Rattle.cf_linear.specs.Layout.{Levels, masks, set_count, covers, has_level, first_free, number_column, region_row}
+use Rattle.cf_linear.specs.Systems.{System, EachRow, Sat}
+use Rattle.cf_linear.specs.Layout.{Layout, masks, set_count, covers, has_level, first_free, number_column, region_row}
 use Rattle.cf_linear.specs.Written.{val_at, IsPlaced, IsPlacedSet}
-use Rattle.cf_linear.specs.Cases.{Atom, atom_true, atom_false, atom_compare, atom_divides, atom_not_divides, atom_same, atom_other, atom_subset, atom_not_subset, Signed, in_first, in_one, none_rows, plain, cases_of, matrix_of_case, matrices}
+use Rattle.cf_linear.specs.Cases.{Atom, atom_true, atom_false, atom_compare, atom_divides, atom_not_divides, atom_same, atom_other, atom_subset, atom_not_subset, Signed, in_first, in_one, none_rows, negation_normal, disjuncts, system_of_case, first_systems}
 use Rattle.cf_cases.specs.Holding.{EachOf, SomeOf, signs_of, signs_in, AtomHolds, SignedHolds, CaseHolds, AtomAt, SignedAt, CaseAt, AreCounts, AtomFits, CaseFits, IsPlacedRel, Agrees}
 use Rattle.cf_cases.proofs.Quantifiers.{each-map, each-imp, some-map, some-unmap, some-each}
 use Rattle.cf_cases.proofs.CaseLaws.{holds-cases}
 use Rattle.cf_cases.proofs.WriteLaws.{val_at-same}
-use Rattle.cf_cases.proofs.FormedLaws.{matrix-formed}
-use Rattle.cf_cases.proofs.MatrixLaws.{case_from_matrix, matrix_from_case, cases-fit}
+use Rattle.cf_cases.proofs.FormedLaws.{system-formed}
+use Rattle.cf_cases.proofs.SystemLaws.{case_from_system, system_from_case, cases-fit}
 
-module _ (l : Levels) (env : List Value) (v : Values) (g : Agrees l env v) where
+module _ (l : Layout) (env : List Value) (v : Values) (g : Agrees l env v) where
   pub val-agrees : (t : TermTree) → IsPlaced l t → val t env ≡ val_at l v t
   val-agrees (term_lit n) p = refl
   val-agrees (term_var x) p = g.numbers x p
@@ -87,26 +87,26 @@ module _ (l : Levels) (env : List Value) (v : Values) (g : Agrees l env v) where
   case_holds [] f h = tt
   case_holds ((a, ss) ∷ c) f h = ((atom_holds a f.0.0 h.0.0, h.0.1 ∙ sym (in-agree a f.0.0)), case_holds c f.1 h.1)
 
--- the values v with values for the quotients, at which the first matrix of the case is satisfied
-abbrev pub MeetsCase : Levels → Values → List Signed → Type 0
-MeetsCase l v c = (w : Values) × Same (first_free l) v w × Sat (matrix_of_case l c) w
+-- the values v with values for the quotients, at which the first system of the case is satisfied
+abbrev pub MeetsCase : Layout → Values → List Signed → Type 0
+MeetsCase l v c = (w : Values) × Same (first_free l) v w × Sat (system_of_case l c) w
 
--- where a relation holds, the first matrix of some case is satisfied
-pub case_from_holds : (scope : List Base) (rel : RelTree) (l : Levels) (env : List Value) (v : Values) → IsTyped scope rel → IsPlacedRel l rel → Agrees l env v → v 0 ≡ pos 1 → AreCounts l v →
-    Holds rel env → SomeOf (MeetsCase l v) (cases_of (plain true rel))
+-- where a relation holds, the first system of some case is satisfied
+pub case_from_holds : (scope : List Base) (rel : RelTree) (l : Layout) (env : List Value) (v : Values) → IsTyped scope rel → IsPlacedRel l rel → Agrees l env v → v 0 ≡ pos 1 → AreCounts l v →
+    Holds rel env → SomeOf (MeetsCase l v) (disjuncts (negation_normal true rel))
 case_from_holds scope rel l env v t p g one n h =
-    some-each (CaseHolds env) (CaseFits l) (MeetsCase l v) (λ c x f. matrix_from_case l c v f one (case_at l env v g c f x) n) (cases_of (plain true rel))
+    some-each (CaseHolds env) (CaseFits l) (MeetsCase l v) (λ c x f. system_from_case l c v f one (case_at l env v g c f x) n) (disjuncts (negation_normal true rel))
     ((holds-cases scope rel t env).0 h) (cases-fit l true rel p)
 
--- where the first matrix of some case is satisfied at values that agree, the relation holds
-pub holds_from_case : (scope : List Base) (rel : RelTree) (l : Levels) (env : List Value) (v : Values) → IsTyped scope rel → IsPlacedRel l rel → Agrees l env v → v 0 ≡ pos 1 →
-    SomeOf (λ c. Sat (matrix_of_case l c) v) (cases_of (plain true rel)) → Holds rel env
+-- where the first system of some case is satisfied at values that agree, the relation holds
+pub holds_from_case : (scope : List Base) (rel : RelTree) (l : Layout) (env : List Value) (v : Values) → IsTyped scope rel → IsPlacedRel l rel → Agrees l env v → v 0 ≡ pos 1 →
+    SomeOf (λ c. Sat (system_of_case l c) v) (disjuncts (negation_normal true rel)) → Holds rel env
 holds_from_case scope rel l env v t p g one h =
     (holds-cases scope rel t env).1
-    (some-each (λ (c : List Signed). Sat (matrix_of_case l c) v) (CaseFits l) (CaseHolds env) (λ c s f. case_holds l env v g c f (case_from_matrix l c v f one s).0) (cases_of (plain true rel)) h (cases-fit l true rel p))
+    (some-each (λ (c : List Signed). Sat (system_of_case l c) v) (CaseFits l) (CaseHolds env) (λ c s f. case_holds l env v g c f (case_from_system l c v f one s).0) (disjuncts (negation_normal true rel)) h (cases-fit l true rel p))
 
 -- ---- layouts without sets
-module _ (l : Levels) (env : List Value) (v : Values) (no_inputs : l.inputs ≡ []) (no_outputs : l.out_sets ≡ []) where
+module _ (l : Layout) (env : List Value) (v : Values) (no_inputs : l.inputs ≡ []) (no_outputs : l.out_sets ≡ []) where
   nothing_in : (s : SetTree) → IsPlacedSet l s → members s env ≡ []
   nothing_in empty_set p = refl
   nothing_in (set_var x) p = absurd (let q = rw (no_inputs, no_outputs) at p in cc)
@@ -134,22 +134,22 @@ module _ (l : Levels) (env : List Value) (v : Values) (no_inputs : l.inputs ≡ 
   pub counts_without_sets : AreCounts l v
   counts_without_sets = record { sums = rw no_inputs tt; nonneg = rw (no_inputs, no_outputs) tt }
 
--- ---- the first matrices of a relation
--- where a relation holds, some first matrix is satisfied
-pub matrix_from_holds : (scope : List Base) (rel : RelTree) (l : Levels) (env : List Value) (v : Values) → IsTyped scope rel → IsPlacedRel l rel → Agrees l env v → v 0 ≡ pos 1 → AreCounts l v →
-    Holds rel env → SomeOf (λ (m : Matrix). (w : Values) × Same (first_free l) v w × Sat m w) (matrices l rel)
-unfolding matrices
-matrix_from_holds scope rel l env v t p g one n h =
-    some-map (λ (m : Matrix). (w : Values) × Same (first_free l) v w × Sat m w) (matrix_of_case l) (cases_of (plain true rel)) (case_from_holds scope rel l env v t p g one n h)
+-- ---- the first systems of a relation
+-- where a relation holds, some first system is satisfied
+pub system_from_holds : (scope : List Base) (rel : RelTree) (l : Layout) (env : List Value) (v : Values) → IsTyped scope rel → IsPlacedRel l rel → Agrees l env v → v 0 ≡ pos 1 → AreCounts l v →
+    Holds rel env → SomeOf (λ (m : System). (w : Values) × Same (first_free l) v w × Sat m w) (first_systems l rel)
+unfolding first_systems
+system_from_holds scope rel l env v t p g one n h =
+    some-map (λ (m : System). (w : Values) × Same (first_free l) v w × Sat m w) (system_of_case l) (disjuncts (negation_normal true rel)) (case_from_holds scope rel l env v t p g one n h)
 
--- where some first matrix is satisfied at values that agree, the relation holds
-pub holds_from_matrix : (scope : List Base) (rel : RelTree) (l : Levels) (env : List Value) (v : Values) → IsTyped scope rel → IsPlacedRel l rel → Agrees l env v → v 0 ≡ pos 1 →
-    SomeOf (λ (m : Matrix). Sat m v) (matrices l rel) → Holds rel env
-unfolding matrices
-holds_from_matrix scope rel l env v t p g one h =
-    holds_from_case scope rel l env v t p g one (some-unmap (λ (m : Matrix). Sat m v) (matrix_of_case l) (cases_of (plain true rel)) h)
+-- where some first system is satisfied at values that agree, the relation holds
+pub holds_from_system : (scope : List Base) (rel : RelTree) (l : Layout) (env : List Value) (v : Values) → IsTyped scope rel → IsPlacedRel l rel → Agrees l env v → v 0 ≡ pos 1 →
+    SomeOf (λ (m : System). Sat m v) (first_systems l rel) → Holds rel env
+unfolding first_systems
+holds_from_system scope rel l env v t p g one h =
+    holds_from_case scope rel l env v t p g one (some-unmap (λ (m : System). Sat m v) (system_of_case l) (disjuncts (negation_normal true rel)) h)
 
--- each first matrix is as the steps of the elimination ask
-pub matrices-formed : (rel : RelTree) (l : Levels) → IsPlacedRel l rel → EachOf Formed (matrices l rel)
-unfolding matrices
-matrices-formed rel l p = each-map Formed (matrix_of_case l) (cases_of (plain true rel)) (each-imp (CaseFits l) (λ (c : List Signed). Formed (matrix_of_case l c)) (λ c f. matrix-formed l c f) (cases_of (plain true rel)) (cases-fit l true rel p))
+-- each first system is as the steps of the elimination ask
+pub first_systems-formed : (rel : RelTree) (l : Layout) → IsPlacedRel l rel → EachOf Formed (first_systems l rel)
+unfolding first_systems
+first_systems-formed rel l p = each-map Formed (system_of_case l) (disjuncts (negation_normal true rel)) (each-imp (CaseFits l) (λ (c : List Signed). Formed (system_of_case l c)) (λ c f. system-formed l c f) (disjuncts (negation_normal true rel)) (cases-fit l true rel p))

@@ -12,9 +12,9 @@ use Rattle.cf_tree.specs.RelTree.{TermTree}
 use Rattle.cf_tree.specs.Relation.{IsLinearTerm}
 use Rattle.cf_linear.specs.Rows.{Row, Values, value, AreBelow}
 use Rattle.cf_linear.specs.Keep.{Same, update}
-use Rattle.cf_linear.specs.Matrices.{EachRow}
+use Rattle.cf_linear.specs.Systems.{EachRow}
 use Rattle.cf_linear.specs.Relations.{Divides}
-use Rattle.cf_linear.specs.Layout.{Levels, first_free, region_row}
+use Rattle.cf_linear.specs.Layout.{Layout, first_free, region_row}
 use Rattle.cf_linear.specs.Written.{above_quotient, below_quotient, constant_row, plus, write, val_at, abs_count, IsPlaced}
 use Rattle.cf_linear.specs.Cases.{atom_true, atom_false, atom_compare, atom_divides, atom_not_divides, atom_same, atom_other, atom_subset, atom_not_subset, Signed, AtomRows, less, compare_zero, compare_nonneg, in_first, in_one, some_row, guards_of, write_atom}
 use Rattle.cf_linear.proofs.RowLemmas.{value-put, value-comb}
@@ -106,7 +106,7 @@ from_one : (z : ℤ) → pos 1 ≤ℤ z → pos 0 ≤ℤ (z +ℤ negsuc 0)
 from_one z h = omega (arith, ints)
 
 -- ---- one written form, and two
-module _ (l : Levels) (v : Values) (one : v 0 ≡ pos 1) where
+module _ (l : Layout) (v : Values) (one : v 0 ≡ pos 1) where
   pub record Read (t : TermTree) (ss : List Bool) (q : ℕ) : Type 0 where
     pub is_value : value v (write l t ss q).row ≡ val_at l v t
     pub are_signs : ss ≡ signs_of (val_at l v) t ++ (write l t ss q).signs
@@ -192,7 +192,7 @@ pub record Met (n : ℕ) (v : Values) (a : AtomRows) : Type 0 where
   pub zero : AreZero values a.equations
   pub nonneg : AreNonneg values a.inequalities
 
-module _ (l : Levels) (v : Values) (one : v 0 ≡ pos 1) where
+module _ (l : Layout) (v : Values) (one : v 0 ≡ pos 1) where
   one_too : (q : ℕ) (w : Values) → first_free l ≤ q → Same q v w → w 0 ≡ pos 1
   one_too q w h s = sym (s 0 (let z = positive_free l in omega arith)) ∙ one
 

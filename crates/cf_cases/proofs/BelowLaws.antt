@@ -8,7 +8,7 @@ use Rattle.cf_tree.specs.RelTree.{TermTree, term_lit, term_var, term_card, term_
 use Rattle.cf_tree.specs.Relation.{is_fixed}
 use Rattle.cf_linear.specs.Rows.{Row, Values, entry, value, is_zero, put, add_at, comb, AreBelow}
 use Rattle.cf_linear.specs.Keep.{Same}
-use Rattle.cf_linear.specs.Layout.{Levels, set_count, has_level, place, covers, number_column, region_column, first_free, region_row}
+use Rattle.cf_linear.specs.Layout.{Layout, set_count, has_level, place, covers, number_column, region_column, first_free, region_row}
 use Rattle.cf_linear.specs.Written.{GuardTree, sign_guard, quotient_guard, constant_row, plus, above_quotient, below_quotient, WrittenTree, from_one, from_two, with_quotient, signed_by, first_sign, product_by, write, IsPlaced}
 use Rattle.cf_linear.proofs.BoolLemmas.{on_bool}
 use Rattle.cf_linear.proofs.Joining.{AreBelow-raise}
@@ -59,18 +59,18 @@ has_place : (x : ℕ) (xs : List ℕ) → has_level xs x ≡ true → place x xs
 has_place x [] h = absurd (cc)
 has_place x (y ∷ ys) h = on_bool (y == x) (λ e. rw e (omega arith)) (λ e. let k : has_level ys x ≡ true = rw e at h in let i = has_place x ys k in rw e (omega arith))
 
-pub positive_free : (l : Levels) → 0 < first_free l
+pub positive_free : (l : Layout) → 0 < first_free l
 positive_free l = omega (arith, pow_pos (length l.inputs), pow_pos (set_count l))
 
-pub number-below : (l : Levels) (x : ℕ) → IsTrue (has_level l.numbers x || has_level l.out_numbers x) → number_column l x < first_free l
+pub number-below : (l : Layout) (x : ℕ) → IsTrue (has_level l.numbers x || has_level l.out_numbers x) → number_column l x < first_free l
 number-below l x h = on_bool (has_level l.numbers x)
     (λ e. let p = has_place x l.numbers e in rw e (omega (arith, pow_pos (length l.inputs), pow_pos (set_count l))))
     (λ e. let p = has_place x l.out_numbers (other_side (has_level l.numbers x) (has_level l.out_numbers x) h e) in rw e (omega (arith, pow_pos (length l.inputs), pow_pos (set_count l))))
 
-pub region-below : (l : Levels) (m : ℕ) → 1 ≤ m → m < 1 + (2 ^ set_count l - 1) → region_column l m < first_free l
+pub region-below : (l : Layout) (m : ℕ) → 1 ≤ m → m < 1 + (2 ^ set_count l - 1) → region_column l m < first_free l
 region-below l m h k = omega (arith, pow_pos (length l.inputs), pow_pos (set_count l))
 
-pub below-region_row : (l : Levels) (p : ℕ → Bool) → AreBelow (first_free l) (region_row l p)
+pub below-region_row : (l : Layout) (p : ℕ → Bool) → AreBelow (first_free l) (region_row l p)
 below-region_row l p = below-ones (first_free l) (region_column l) p 1 (2 ^ set_count l - 1) (λ m a b. region-below l m a b)
 
 -- ---- written forms
@@ -111,7 +111,7 @@ below-product : (n : ℕ) (b : Bool) (r s : Row) → AreBelow n r → AreBelow n
 below-product n true r s p q = below-comb n (entry r 0) s (pos 0) [] q tt
 below-product n false r s p q = below-comb n (entry s 0) r (pos 0) [] p tt
 
-pub write-fits : (l : Levels) (t : TermTree) (ss : List Bool) (q : ℕ) → IsPlaced l t → first_free l ≤ q → Fitting (write l t ss q)
+pub write-fits : (l : Layout) (t : TermTree) (ss : List Bool) (q : ℕ) → IsPlaced l t → first_free l ≤ q → Fitting (write l t ss q)
 write-fits l (term_lit n) ss q p h = record { row = below-put q 0 n [] (let z = positive_free l in omega arith) tt; guards = tt }
 write-fits l (term_var x) ss q p h = record { row = below-put q (number_column l x) (pos 1) [] (let z = number-below l x p in omega arith) tt; guards = tt }
 write-fits l (term_card s) ss q p h = record { row = AreBelow-raise (first_free l) q (region_row l (covers l s)) h (below-region_row l (covers l s)); guards = tt }

@@ -12,10 +12,10 @@ use Rattle.cf_tree.specs.RelTree.{TermTree, term_lit, term_var, term_card, term_
 use Rattle.cf_tree.specs.Relation.{val, Holds, IsTyped}
 use Rattle.cf_tree.specs.Values.{Value}
 use Rattle.cf_linear.specs.Written.{abs_count}
-use Rattle.cf_linear.specs.Cases.{Atom, atom_true, atom_false, atom_compare, atom_divides, atom_not_divides, atom_same, atom_other, atom_subset, atom_not_subset, Plain, plain_atom, plain_and, plain_or, plain, Signed, atom_signs, atom_ways, atom_cases, sign_choices, cases_of}
-use Rattle.cf_cases.specs.Holding.{EachOf, SomeOf, signs_of, signs_in, AtomHolds, PlainHolds, SignedHolds, CaseHolds}
+use Rattle.cf_linear.specs.Cases.{Atom, atom_true, atom_false, atom_compare, atom_divides, atom_not_divides, atom_same, atom_other, atom_subset, atom_not_subset, Normal, normal_atom, normal_and, normal_or, negation_normal, Signed, atom_signs, atom_ways, atom_cases, sign_choices, disjuncts}
+use Rattle.cf_cases.specs.Holding.{EachOf, SomeOf, signs_of, signs_in, AtomHolds, NormalHolds, SignedHolds, CaseHolds}
 use Rattle.cf_cases.proofs.Quantifiers.{each-append, each-split, some-left, some-right, some-split, some-imp, some-map, some-unmap, some-flat_map, some-unflat_map, some-out}
-use Rattle.cf_cases.proofs.PlainLaws.{plain-holds}
+use Rattle.cf_cases.proofs.NormalLaws.{plain-holds}
 
 -- ---- signs
 one_more : (a b n m : ℕ) → a ≡ n → b ≡ m → a + b ≡ n + m
@@ -114,36 +114,36 @@ module _ (env : List Value) where
       (λ ss p. from_ways a (some-imp (λ (w : Atom). SignedHolds env (w, ss)) (AtomHolds env) (λ w q. q.0) (atom_ways a) (some-unmap (SignedHolds env) (λ (w : Atom). (w, ss)) (atom_ways a) p)))
       (sign_choices (atom_signs a)) (some-unflat_map (SignedHolds env) (λ (ss : List Bool). map (λ (w : Atom). (w, ss)) (atom_ways a)) (sign_choices (atom_signs a)) h)
 
-  to_cases : (p : Plain) → PlainHolds env p → SomeOf (CaseHolds env) (cases_of p)
-  unfolding cases_of
-  to_cases (plain_atom a) h = some-map (CaseHolds env) (λ (s : Signed). s ∷ []) (atom_cases a) (some-imp (SignedHolds env) (λ (s : Signed). CaseHolds env (s ∷ [])) (λ s q. (q, tt)) (atom_cases a) (to_signed a h))
-  to_cases (plain_and p q) h =
-      some-flat_map (CaseHolds env) (λ (c : List Signed). map (λ (d : List Signed). c ++ d) (cases_of q)) (cases_of p)
-      (some-imp (CaseHolds env) (λ (c : List Signed). SomeOf (CaseHolds env) (map (λ (d : List Signed). c ++ d) (cases_of q)))
-      (λ c g. some-map (CaseHolds env) (λ (d : List Signed). c ++ d) (cases_of q) (some-imp (CaseHolds env) (λ (d : List Signed). CaseHolds env (c ++ d)) (λ d k. each-append (SignedHolds env) c d g k) (cases_of q) (to_cases q h.1)))
-      (cases_of p) (to_cases p h.0))
-  to_cases (plain_or p q) h = elim h [
-    | inl g ↦ some-left (CaseHolds env) (cases_of p) (cases_of q) (to_cases p g)
-    | inr g ↦ some-right (CaseHolds env) (cases_of p) (cases_of q) (to_cases q g)
+  to_cases : (p : Normal) → NormalHolds env p → SomeOf (CaseHolds env) (disjuncts p)
+  unfolding disjuncts
+  to_cases (normal_atom a) h = some-map (CaseHolds env) (λ (s : Signed). s ∷ []) (atom_cases a) (some-imp (SignedHolds env) (λ (s : Signed). CaseHolds env (s ∷ [])) (λ s q. (q, tt)) (atom_cases a) (to_signed a h))
+  to_cases (normal_and p q) h =
+      some-flat_map (CaseHolds env) (λ (c : List Signed). map (λ (d : List Signed). c ++ d) (disjuncts q)) (disjuncts p)
+      (some-imp (CaseHolds env) (λ (c : List Signed). SomeOf (CaseHolds env) (map (λ (d : List Signed). c ++ d) (disjuncts q)))
+      (λ c g. some-map (CaseHolds env) (λ (d : List Signed). c ++ d) (disjuncts q) (some-imp (CaseHolds env) (λ (d : List Signed). CaseHolds env (c ++ d)) (λ d k. each-append (SignedHolds env) c d g k) (disjuncts q) (to_cases q h.1)))
+      (disjuncts p) (to_cases p h.0))
+  to_cases (normal_or p q) h = elim h [
+    | inl g ↦ some-left (CaseHolds env) (disjuncts p) (disjuncts q) (to_cases p g)
+    | inr g ↦ some-right (CaseHolds env) (disjuncts p) (disjuncts q) (to_cases q g)
   ]
 
-  from_cases : (p : Plain) → SomeOf (CaseHolds env) (cases_of p) → PlainHolds env p
-  unfolding cases_of
-  from_cases (plain_atom a) h = from_signed a (some-imp (λ (s : Signed). CaseHolds env (s ∷ [])) (SignedHolds env) (λ s q. q.0) (atom_cases a) (some-unmap (CaseHolds env) (λ (s : Signed). s ∷ []) (atom_cases a) h))
-  from_cases (plain_and p q) h =
-      let both = some-unflat_map (CaseHolds env) (λ (c : List Signed). map (λ (d : List Signed). c ++ d) (cases_of q)) (cases_of p) h in
-      let parts = some-imp (λ (c : List Signed). SomeOf (CaseHolds env) (map (λ (d : List Signed). c ++ d) (cases_of q))) (λ (c : List Signed). CaseHolds env c × SomeOf (CaseHolds env) (cases_of q))
-      (λ c g. let k = some-unmap (CaseHolds env) (λ (d : List Signed). c ++ d) (cases_of q) g in
-      let m = some-imp (λ (d : List Signed). CaseHolds env (c ++ d)) (λ (d : List Signed). CaseHolds env c × CaseHolds env d) (λ d x. each-split (SignedHolds env) c d x) (cases_of q) k in
-      (some-out (λ (d : List Signed). CaseHolds env c × CaseHolds env d) (λ d x. x.0) (cases_of q) m, some-imp (λ (d : List Signed). CaseHolds env c × CaseHolds env d) (CaseHolds env) (λ d x. x.1) (cases_of q) m))
-      (cases_of p) both in (
-        from_cases p (some-imp (λ (c : List Signed). CaseHolds env c × SomeOf (CaseHolds env) (cases_of q)) (CaseHolds env) (λ c x. x.0) (cases_of p) parts),
-        from_cases q (some-out (λ (c : List Signed). CaseHolds env c × SomeOf (CaseHolds env) (cases_of q)) (λ c x. x.1) (cases_of p) parts),
+  from_cases : (p : Normal) → SomeOf (CaseHolds env) (disjuncts p) → NormalHolds env p
+  unfolding disjuncts
+  from_cases (normal_atom a) h = from_signed a (some-imp (λ (s : Signed). CaseHolds env (s ∷ [])) (SignedHolds env) (λ s q. q.0) (atom_cases a) (some-unmap (CaseHolds env) (λ (s : Signed). s ∷ []) (atom_cases a) h))
+  from_cases (normal_and p q) h =
+      let both = some-unflat_map (CaseHolds env) (λ (c : List Signed). map (λ (d : List Signed). c ++ d) (disjuncts q)) (disjuncts p) h in
+      let parts = some-imp (λ (c : List Signed). SomeOf (CaseHolds env) (map (λ (d : List Signed). c ++ d) (disjuncts q))) (λ (c : List Signed). CaseHolds env c × SomeOf (CaseHolds env) (disjuncts q))
+      (λ c g. let k = some-unmap (CaseHolds env) (λ (d : List Signed). c ++ d) (disjuncts q) g in
+      let m = some-imp (λ (d : List Signed). CaseHolds env (c ++ d)) (λ (d : List Signed). CaseHolds env c × CaseHolds env d) (λ d x. each-split (SignedHolds env) c d x) (disjuncts q) k in
+      (some-out (λ (d : List Signed). CaseHolds env c × CaseHolds env d) (λ d x. x.0) (disjuncts q) m, some-imp (λ (d : List Signed). CaseHolds env c × CaseHolds env d) (CaseHolds env) (λ d x. x.1) (disjuncts q) m))
+      (disjuncts p) both in (
+        from_cases p (some-imp (λ (c : List Signed). CaseHolds env c × SomeOf (CaseHolds env) (disjuncts q)) (CaseHolds env) (λ c x. x.0) (disjuncts p) parts),
+        from_cases q (some-out (λ (c : List Signed). CaseHolds env c × SomeOf (CaseHolds env) (disjuncts q)) (λ c x. x.1) (disjuncts p) parts),
       )
-  from_cases (plain_or p q) h = elim (some-split (CaseHolds env) (cases_of p) (cases_of q) h) [ inl g ↦ inl (from_cases p g) | inr g ↦ inr (from_cases q g) ]
+  from_cases (normal_or p q) h = elim (some-split (CaseHolds env) (disjuncts p) (disjuncts q) h) [ inl g ↦ inl (from_cases p g) | inr g ↦ inr (from_cases q g) ]
 
 -- a relation holds exactly where, for some case, all atoms of the case hold with the signs of the case
-pub holds-cases : (scope : List Base) (rel : RelTree) → IsTyped scope rel → (env : List Value) → Holds rel env ↔ SomeOf (CaseHolds env) (cases_of (plain true rel))
+pub holds-cases : (scope : List Base) (rel : RelTree) → IsTyped scope rel → (env : List Value) → Holds rel env ↔ SomeOf (CaseHolds env) (disjuncts (negation_normal true rel))
 holds-cases scope rel t env =
     let p = plain-holds scope env rel t in
-    (λ h. to_cases env (plain true rel) (p.1 h), λ h. p.0 (from_cases env (plain true rel) h))
+    (λ h. to_cases env (negation_normal true rel) (p.1 h), λ h. p.0 (from_cases env (negation_normal true rel) h))

@@ -1,4 +1,4 @@
--- The first matrix of a case is as each step of the elimination asks.
+-- The first system of a case is as each step of the elimination asks.
 use Rattle.std.proofs.Common.{inl, inr, ◌⊎◌, ℕ, zero, suc, ◌+◌, ◌-◌, ◌^◌, ◌%◌, ◌<◌, ◌≤◌, ◌==◌, ℤ, pos, negsuc, neg_ℤ, ◌-ℤ◌, List, [], ◌∷◌, ◌++◌, length, map, filter, Bool, true, false, arith}
 use Rattle.std.specs.List.{range_with_len, fold, flat_map}
 use Rattle.std.proofs.lemmas.Bool.{cond_both, cases_lt}
@@ -9,17 +9,17 @@ use Rattle.cf_tree.specs.RelTree.{TermTree, term_lit, term_var, term_card, term_
 use Rattle.cf_tree.specs.Relation.{is_fixed}
 use Rattle.cf_linear.specs.Rows.{Row, entry, put, comb, Rises, AreBelow}
 use Rattle.cf_linear.specs.Keep.{In, Over, IsColumn, Formed}
-use Rattle.cf_linear.specs.Matrices.{EachRow}
-use Rattle.cf_linear.specs.Layout.{Levels, masks, set_count, covers, first_free, known_count, number_column, region_column, region_row, input_column}
+use Rattle.cf_linear.specs.Systems.{EachRow}
+use Rattle.cf_linear.specs.Layout.{Layout, masks, set_count, covers, first_free, known_count, number_column, region_column, region_row, input_column}
 use Rattle.cf_linear.specs.Written.{GuardTree, guard_rows, sign_guard, quotient_guard, above_quotient, below_quotient, plus, WrittenTree, first_sign, signed_by, product_by, write}
-use Rattle.cf_linear.specs.Cases.{atom_true, atom_false, atom_compare, atom_divides, atom_not_divides, atom_same, atom_other, atom_subset, atom_not_subset, Signed, AtomRows, less, compare_zero, compare_nonneg, in_first, in_one, guards_of, write_atom, input_row, no_rows, rows_then, case_rows, matrix_of_case}
+use Rattle.cf_linear.specs.Cases.{atom_true, atom_false, atom_compare, atom_divides, atom_not_divides, atom_same, atom_other, atom_subset, atom_not_subset, Signed, AtomRows, less, compare_zero, compare_nonneg, in_first, in_one, guards_of, write_atom, input_row, no_rows, rows_then, case_rows, system_of_case}
 use Rattle.cf_linear.proofs.Canonical.{Rises-lower, Rises-put}
 use Rattle.cf_linear.proofs.CombLemmas.{Rises-comb}
 use Rattle.cf_linear.proofs.KindLemmas.{EachRow-append}
 use Rattle.cf_linear.proofs.PassingLemmas.{Rises-plus}
 use Rattle.cf_cases.specs.Holding.{EachOf, CaseFits}
 use Rattle.cf_cases.proofs.Quantifiers.{each-append}
-use Rattle.cf_cases.proofs.MatrixLaws.{Low, atom-next, then-low, rows-raise, inputs-below, counts-below}
+use Rattle.cf_cases.proofs.SystemLaws.{Low, atom-next, then-low, rows-raise, inputs-below, counts-below}
 
 -- ---- rising rows
 Rises-column : (c : ℕ) (k : ℤ) → Rises 0 (put c k [])
@@ -47,10 +47,10 @@ Rises-ones d p a (suc k) h =
     (λ e. (omega arith, (λ z. cc), Rises-lower (suc (d + a - 1)) (d + (a + 1) - 1) (map (λ m. (d + m - 1, pos 1)) (filter p (range_with_len (a + 1) k))) (omega arith) rest))
     (λ e. Rises-lower (d + a - 1) (d + (a + 1) - 1) (map (λ m. (d + m - 1, pos 1)) (filter p (range_with_len (a + 1) k))) (omega arith) rest)
 
-pub Rises-region : (l : Levels) (p : ℕ → Bool) → Rises (known_count l + length l.out_numbers) (region_row l p)
+pub Rises-region : (l : Layout) (p : ℕ → Bool) → Rises (known_count l + length l.out_numbers) (region_row l p)
 Rises-region l p = Rises-lower (known_count l + length l.out_numbers) (known_count l + length l.out_numbers + 1 - 1) (region_row l p) (omega arith) (Rises-ones (known_count l + length l.out_numbers) p 1 (2 ^ set_count l - 1) (omega arith))
 
-Rises-region_0 : (l : Levels) (p : ℕ → Bool) → Rises 0 (region_row l p)
+Rises-region_0 : (l : Layout) (p : ℕ → Bool) → Rises 0 (region_row l p)
 Rises-region_0 l p = Rises-lower 0 (known_count l + length l.out_numbers) (region_row l p) (omega arith) (Rises-region l p)
 
 -- ---- written forms
@@ -69,7 +69,7 @@ rising-sign true w f = record {
 }
 rising-sign false w f = record { row = f.row; guards = each-append GuardRises w.guards (sign_guard w.row ∷ []) f.guards (f.row, tt) }
 
-write-rises : (l : Levels) (t : TermTree) (ss : List Bool) (q : ℕ) → Rising (write l t ss q)
+write-rises : (l : Layout) (t : TermTree) (ss : List Bool) (q : ℕ) → Rising (write l t ss q)
 write-rises l (term_lit n) ss q = record { row = Rises-column 0 n; guards = tt }
 write-rises l (term_var x) ss q = record { row = Rises-column (number_column l x) (pos 1); guards = tt }
 write-rises l (term_card s) ss q = record { row = Rises-region_0 l (covers l s); guards = tt }
@@ -127,7 +127,7 @@ columns_rise : (f : ℕ → ℕ) (ms : List ℕ) → EachRow (Rises 0) (map (λ 
 columns_rise f [] = tt
 columns_rise f (m ∷ ms) = (Rises-column (f m) (pos 1), columns_rise f ms)
 
-atom-rises : (l : Levels) (s : Signed) (q : ℕ) → RowsRise (write_atom l s q)
+atom-rises : (l : Layout) (s : Signed) (q : ℕ) → RowsRise (write_atom l s q)
 unfolding write_atom
 atom-rises l (atom_true, ss) q = record { zero = tt; nonneg = tt }
 atom-rises l (atom_false, ss) q = record { zero = tt; nonneg = (Rises-column 0 (negsuc 0), tt) }
@@ -155,18 +155,18 @@ atom-rises l (atom_other a b, ss) q = record { zero = tt; nonneg = (Rises-plus (
 atom-rises l (atom_subset a b, ss) q = record { zero = columns_rise (region_column l) (filter (in_first l a b) (masks (set_count l))); nonneg = tt }
 atom-rises l (atom_not_subset a b, ss) q = record { zero = tt; nonneg = (Rises-plus (region_row l (in_first l a b)) (negsuc 0) (Rises-region_0 l (in_first l a b)), tt) }
 
-case_rise : (l : Levels) (c : List Signed) (a : AtomRows) → RowsRise a → RowsRise (fold (rows_then l) a c)
+case_rise : (l : Layout) (c : List Signed) (a : AtomRows) → RowsRise a → RowsRise (fold (rows_then l) a c)
 case_rise l [] a p = p
 case_rise l (s ∷ c) a p =
     let b = write_atom l s a.next in
     let q = atom-rises l s a.next in
     case_rise l c (rows_then l a s) (record { zero = EachRow-append (Rises 0) a.equations b.equations p.zero q.zero; nonneg = EachRow-append (Rises 0) a.inequalities b.inequalities p.nonneg q.nonneg })
 
-case_low : (l : Levels) (c : List Signed) (a : AtomRows) → CaseFits l c → first_free l ≤ a.next → Low a → Low (fold (rows_then l) a c)
+case_low : (l : Layout) (c : List Signed) (a : AtomRows) → CaseFits l c → first_free l ≤ a.next → Low a → Low (fold (rows_then l) a c)
 case_low l [] a f h p = p
 case_low l (s ∷ c) a f h p = case_low l c (rows_then l a s) f.1 (omega (arith, atom-next l s a.next)) (then-low l a s f.0 h p)
 
-pub case-next : (l : Levels) (c : List Signed) (a : AtomRows) → a.next ≤ (fold (rows_then l) a c).next
+pub case-next : (l : Layout) (c : List Signed) (a : AtomRows) → a.next ≤ (fold (rows_then l) a c).next
 case-next l [] a = omega arith
 case-next l (s ∷ c) a = omega (arith, atom-next l s a.next, case-next l c (rows_then l a s))
 
@@ -187,7 +187,7 @@ rows_over : (Q : ℕ → Type 0) (n : ℕ) (f : (c : ℕ) → c < n → Q c) (rs
 rows_over Q n f [] p = tt
 rows_over Q n f (r ∷ rs) p = (over_below Q n f r p.0, rows_over Q n f rs p.1)
 
-inputs_rise : (l : Levels) (a k : ℕ) → 1 ≤ a → a + k ≤ 1 + (2 ^ length l.inputs - 1) → EachRow (Rises 0) (map (input_row l) (range_with_len a k))
+inputs_rise : (l : Layout) (a k : ℕ) → 1 ≤ a → a + k ≤ 1 + (2 ^ length l.inputs - 1) → EachRow (Rises 0) (map (input_row l) (range_with_len a k))
 inputs_rise l a zero h i = tt
 inputs_rise l a (suc k) h i =
     let low : suc (input_column l a) ≤ known_count l + length l.out_numbers = omega (arith, pow_pos (length l.inputs)) in (
@@ -196,9 +196,9 @@ inputs_rise l a (suc k) h i =
       inputs_rise l (a + 1) k (omega arith) (omega arith),
     )
 
-pub matrix-formed : (l : Levels) (c : List Signed) → CaseFits l c → Formed (matrix_of_case l c)
-unfolding matrix_of_case
-matrix-formed l c f =
+pub system-formed : (l : Layout) (c : List Signed) → CaseFits l c → Formed (system_of_case l c)
+unfolding system_of_case
+system-formed l c f =
     let a = case_rows l c in
     let k = known_count l in
     let i : first_free l ≤ a.next = case-next l c (no_rows l) in
@@ -215,8 +215,8 @@ matrix-formed l c f =
       below = λ d h. let r = range-In 0 k d h in omega arith;
       unknown_below = λ d h. let r = range-In k (a.next - k) d h in omega arith;
       apart = λ d h g. let r = range-In 0 k d h in let s = range-In k (a.next - k) d g in omega arith;
-      zero = rows_over (IsColumn (matrix_of_case l c)) a.next column (a.equations ++ input_rows) (EachRow-append (AreBelow a.next) a.equations input_rows low.zero input_low);
-      nonneg = rows_over (IsColumn (matrix_of_case l c)) a.next column (a.inequalities ++ count_rows) (EachRow-append (AreBelow a.next) a.inequalities count_rows low.nonneg count_low);
+      zero = rows_over (IsColumn (system_of_case l c)) a.next column (a.equations ++ input_rows) (EachRow-append (AreBelow a.next) a.equations input_rows low.zero input_low);
+      nonneg = rows_over (IsColumn (system_of_case l c)) a.next column (a.inequalities ++ count_rows) (EachRow-append (AreBelow a.next) a.inequalities count_rows low.nonneg count_low);
       zero_rise = EachRow-append (Rises 0) a.equations input_rows rise.zero (inputs_rise l 1 (2 ^ length l.inputs - 1) (omega arith) (omega arith));
       nonneg_rise = EachRow-append (Rises 0) a.inequalities count_rows rise.nonneg (columns_rise (region_column l) (masks (set_count l)));
     }

@@ -10,7 +10,7 @@ use Rattle.cf_num.proofs.DivisionLemmas.{int_div_euclid-bounds, int_div_euclid_o
 use Rattle.cf_tree.specs.Numbers.{quotient}
 use Rattle.cf_tree.proofs.SetLemmas.{lt_not}
 use Rattle.cf_linear.specs.Rows.{Row, Values, value, put, comb}
-use Rattle.cf_linear.specs.Matrices.{EachRow}
+use Rattle.cf_linear.specs.Systems.{EachRow}
 use Rattle.cf_linear.specs.Keep.{Same}
 use Rattle.cf_linear.specs.Written.{GuardTree, sign_guard, quotient_guard, GuardHolds, GuardsHold, above_quotient, below_quotient, guard_rows}
 use Rattle.cf_linear.proofs.RowLemmas.{value-put, value-comb}

@@ -1,12 +1,12 @@
 pub mod Quantifiers
 pub mod Deciding
-pub mod PlainLaws
+pub mod NormalLaws
 pub mod CaseLaws
 pub mod BelowLaws
 pub mod GuardLaws
 pub mod WriteLaws
 pub mod AtomLaws
-pub mod MatrixLaws
+pub mod SystemLaws
 pub mod AgreeLaws
 pub mod CountLaws
 pub mod SignLaws
@@ -16,5 +16,6 @@ pub mod AddLaws
 pub mod FormedLaws
 pub mod PlacedLaws
 pub mod LessLaws
-pub mod DraftLaws
+pub mod SystemBuilderLaws
 pub mod MovedRows
+pub mod HeldLaws

@@ -8,7 +8,7 @@ use Rattle.cf_tree.specs.declared.base.Order.TheVariants.{Eq, Ne, Lt, Le, Gt, Ge
 use Rattle.cf_tree.specs.RelTree.{TermTree, term_lit, term_var, term_card, term_neg, term_add, term_sub, term_mul, term_div, term_mod, term_abs}
 use Rattle.cf_tree.specs.Relation.{is_fixed}
 use Rattle.cf_linear.specs.Rows.{Row, entry, is_zero, put, add_at, comb, AreBelow, passes, row_passes}
-use Rattle.cf_linear.specs.Layout.{Levels, covers, first_free, number_column, region_row}
+use Rattle.cf_linear.specs.Layout.{Layout, covers, first_free, number_column, region_row}
 use Rattle.cf_linear.specs.Written.{constant_row, plus, above_quotient, below_quotient, WrittenTree, first_sign, other_signs, signed_by, product_by, write, IsPlaced}
 use Rattle.cf_linear.specs.Cases.{atom_true, atom_false, atom_compare, atom_divides, atom_not_divides, atom_same, atom_other, atom_subset, atom_not_subset, Signed, less, compare_zero, compare_nonneg, write_atom}
 use Rattle.cf_linear.proofs.BoolLemmas.{on_bool}
@@ -76,7 +76,7 @@ module _ (f : ℕ → ℕ) (before : (c d : ℕ) → nat_lt (f c) (f d) ≡ nat_
   moved-product false r r' s s' e g = rw (e, g, moved-entry s) (moved-comb (entry s 0) r (pos 0) [])
 
   -- ---- written forms
-  module _ (l : Levels) (low : (c : ℕ) → c < first_free l → f c ≡ c) (high : (c : ℕ) → first_free l ≤ c → f (c + 1) ≡ f c + 1) where
+  module _ (l : Layout) (low : (c : ℕ) → c < first_free l → f c ≡ c) (high : (c : ℕ) → first_free l ≤ c → f (c + 1) ≡ f c + 1) where
     not_moved : (r : Row) → AreBelow (first_free l) r → r ≡ moved r
     not_moved [] b = refl
     not_moved ((c, k) ∷ r) b = rw (low c b.0, ← not_moved r b.1) refl
@@ -230,7 +230,7 @@ raised-next : (n d c : ℕ) → n ≤ c → raised n d (c + 1) ≡ raised n d c 
 raised-next n d c h = rw (raised-high n d (c + 1) (omega arith), raised-high n d c h) (omega arith)
 
 -- whether a row of the atom passes the limit is the same from each free column on
-pub passes-same : (l : Levels) (s : Signed) (q : ℕ) → SignedFits l s → first_free l ≤ q → (write_atom l s q).passes ≡ (write_atom l s (first_free l)).passes
+pub passes-same : (l : Layout) (s : Signed) (q : ℕ) → SignedFits l s → first_free l ≤ q → (write_atom l s q).passes ≡ (write_atom l s (first_free l)).passes
 passes-same l s q h i =
     let n = first_free l in
     let d = q - n in

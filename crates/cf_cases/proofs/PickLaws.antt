@@ -6,9 +6,9 @@ use Rattle.std.proofs.lemmas.Bool.{cond_both, ltb-true, ltb-false}
 use Rattle.std.proofs.lemmas.List.{get_or_append_left, get_or-append_right, get_or-map, length-map}
 use Rattle.std.proofs.lemmas.List.Concat.{get_or-flat_map}
 use Rattle.std.proofs.lemmas.Nat.{div-add-mod', pow_pos}
-use Rattle.std.proofs.Math.Nat.{div-lt_iff_lt-mul}
+use Rattle.std.proofs.Math.Nat.{div-lt_iff_lt-mul, mul-pos}
 use Rattle.cf_tree.specs.declared.base.Order.TheVariants.{Eq, Ne, Lt, Le, Gt, Ge}
-use Rattle.cf_linear.specs.Cases.{Atom, atom_true, atom_false, atom_compare, atom_divides, atom_not_divides, atom_same, atom_other, atom_subset, atom_not_subset, Plain, plain_atom, plain_and, plain_or, Signed, atom_signs, atom_ways, atom_cases, sign_choices, cases_of, case_count}
+use Rattle.cf_linear.specs.Cases.{Atom, atom_true, atom_false, atom_compare, atom_divides, atom_not_divides, atom_same, atom_other, atom_subset, atom_not_subset, Normal, normal_atom, normal_and, normal_or, Signed, atom_signs, atom_ways, atom_cases, sign_choices, disjuncts, case_count}
 use Rattle.cf_cases.specs.Holding.{EachOf}
 use Rattle.cf_cases.specs.Picking.{signs_at, atom_at, case_by}
 
@@ -109,50 +109,45 @@ pick_atom a i h =
     ∙ ap (λ (ss : List Bool). with_signs ss (get_or (atom_ways a) (i % n) a)) (signs-at (atom_signs a) (i / n) j)
 
 -- ---- relations
-pub product_some : (a b : ℕ) → 1 ≤ a → 1 ≤ b → 1 ≤ a * b
-product_some (suc a) (suc b) h k = omega arith
-product_some zero b h k = absurd (omega arith)
-product_some (suc a) zero h k = absurd (omega arith)
-
-pub count_positive : (p : Plain) → 1 ≤ case_count p
+pub count_positive : (p : Normal) → 1 ≤ case_count p
 unfolding case_count
-count_positive (plain_atom a) = product_some (length (atom_ways a)) (2 ^ atom_signs a) (ways_positive a) (pow_pos (atom_signs a))
-count_positive (plain_and p q) = product_some (case_count p) (case_count q) (count_positive p) (count_positive q)
-count_positive (plain_or p q) = let h = count_positive p in omega arith
+count_positive (normal_atom a) = mul-pos (ways_positive a) (pow_pos (atom_signs a))
+count_positive (normal_and p q) = mul-pos (count_positive p) (count_positive q)
+count_positive (normal_or p q) = let h = count_positive p in omega arith
 
 -- a relation has a case
-pub count_above : (p : Plain) → 0 < case_count p
+pub count_above : (p : Normal) → 0 < case_count p
 count_above p = let h = count_positive p in omega arith
 
 joined_lengths : {A : Type 0} (n : ℕ) (ds : List (List A)) (cs : List (List A)) → length ds ≡ n → EachOf (λ c. length (map (λ d. c ++ d) ds) ≡ n) cs
 joined_lengths n ds [] e = tt
 joined_lengths n ds (c ∷ cs) e = (length-map ds (λ d. c ++ d) ∙ e, joined_lengths n ds cs e)
 
-pub length-cases : (p : Plain) → length (cases_of p) ≡ case_count p
-unfolding cases_of case_count
-length-cases (plain_atom a) = length-map (atom_cases a) (λ (s : Signed). s ∷ []) ∙ length-atom_cases a
-length-cases (plain_and p q) =
-    flat_length (λ (c : List Signed). map (λ (d : List Signed). c ++ d) (cases_of q)) (case_count q) (cases_of p) (joined_lengths (case_count q) (cases_of q) (cases_of p) (length-cases q)) ∙ ap (λ n. n * case_count q) (length-cases p)
-length-cases (plain_or p q) = length-append (cases_of p) (cases_of q) ∙ rw (length-cases p, length-cases q) refl
+pub length-cases : (p : Normal) → length (disjuncts p) ≡ case_count p
+unfolding disjuncts case_count
+length-cases (normal_atom a) = length-map (atom_cases a) (λ (s : Signed). s ∷ []) ∙ length-atom_cases a
+length-cases (normal_and p q) =
+    flat_length (λ (c : List Signed). map (λ (d : List Signed). c ++ d) (disjuncts q)) (case_count q) (disjuncts p) (joined_lengths (case_count q) (disjuncts q) (disjuncts p) (length-cases q)) ∙ ap (λ n. n * case_count q) (length-cases p)
+length-cases (normal_or p q) = length-append (disjuncts p) (disjuncts q) ∙ rw (length-cases p, length-cases q) refl
 
 -- the case with an index
-pub case-by : (p : Plain) (i : ℕ) → i < case_count p → get_or (cases_of p) i [] ≡ case_by p i
-unfolding cases_of case_count case_by
-case-by (plain_atom a) i h = get_or-map (λ (s : Signed). s ∷ []) (atom_cases a) i (a, []) [] (omega (arith, length-atom_cases a)) ∙ ap (λ (s : Signed). s ∷ []) (pick_atom a i h)
-case-by (plain_and p q) i h =
+pub case-by : (p : Normal) (i : ℕ) → i < case_count p → get_or (disjuncts p) i [] ≡ case_by p i
+unfolding disjuncts case_count case_by
+case-by (normal_atom a) i h = get_or-map (λ (s : Signed). s ∷ []) (atom_cases a) i (a, []) [] (omega (arith, length-atom_cases a)) ∙ ap (λ (s : Signed). s ∷ []) (pick_atom a i h)
+case-by (normal_and p q) i h =
     let n = case_count q in
     let z = count_positive q in
     let j : i / n < case_count p = below_div i n (case_count p) z (omega arith) in
     let k : i % n < n = omega arith in
-    let x : i / n < length (cases_of p) = omega (arith, length-cases p) in
-    let c = get_or (cases_of p) (i / n) [] in
-    let y : i % n < length (cases_of q) = omega (arith, length-cases q) in
-    let y' : i % n < length (map (λ (d : List Signed). c ++ d) (cases_of q)) = omega (arith, length-map (cases_of q) (λ d. c ++ d)) in
-    ap (λ m. get_or (cases_of (plain_and p q)) m []) (sym (div-add-mod' i n))
-    ∙ grid (λ (c : List Signed). map (λ (d : List Signed). c ++ d) (cases_of q)) n (cases_of p) [] [] (i / n) (i % n) (joined_lengths n (cases_of q) (cases_of p) (length-cases q)) x y'
-    ∙ get_or-map (λ (d : List Signed). c ++ d) (cases_of q) (i % n) [] [] y
+    let x : i / n < length (disjuncts p) = omega (arith, length-cases p) in
+    let c = get_or (disjuncts p) (i / n) [] in
+    let y : i % n < length (disjuncts q) = omega (arith, length-cases q) in
+    let y' : i % n < length (map (λ (d : List Signed). c ++ d) (disjuncts q)) = omega (arith, length-map (disjuncts q) (λ d. c ++ d)) in
+    ap (λ m. get_or (disjuncts (normal_and p q)) m []) (sym (div-add-mod' i n))
+    ∙ grid (λ (c : List Signed). map (λ (d : List Signed). c ++ d) (disjuncts q)) n (disjuncts p) [] [] (i / n) (i % n) (joined_lengths n (disjuncts q) (disjuncts p) (length-cases q)) x y'
+    ∙ get_or-map (λ (d : List Signed). c ++ d) (disjuncts q) (i % n) [] [] y
     ∙ rw (case-by p (i / n) j, case-by q (i % n) k) refl
-case-by (plain_or p q) i h =
-    cond_both (nat_lt i (case_count p)) (case_by p i) (case_by q (i - case_count p)) (λ x. get_or (cases_of (plain_or p q)) i [] ≡ x)
-    (λ e. let k : i < case_count p = ltb-true i (case_count p) e in get_or_append_left (cases_of p) (cases_of q) [] i (omega (arith, length-cases p)) ∙ case-by p i k)
-    (λ e. let k : case_count p ≤ i = ltb-false i (case_count p) e in get_or-append_right (cases_of p) (cases_of q) (case_count p) i [] (length-cases p) k ∙ case-by q (i - case_count p) (omega arith))
+case-by (normal_or p q) i h =
+    cond_both (nat_lt i (case_count p)) (case_by p i) (case_by q (i - case_count p)) (λ x. get_or (disjuncts (normal_or p q)) i [] ≡ x)
+    (λ e. let k : i < case_count p = ltb-true i (case_count p) e in get_or_append_left (disjuncts p) (disjuncts q) [] i (omega (arith, length-cases p)) ∙ case-by p i k)
+    (λ e. let k : case_count p ≤ i = ltb-false i (case_count p) e in get_or-append_right (disjuncts p) (disjuncts q) (case_count p) i [] (length-cases p) k ∙ case-by q (i - case_count p) (omega arith))

@@ -6,7 +6,7 @@ use Rattle.cf_tree.specs.declared.base.Base.{Base}
 use Rattle.cf_tree.specs.declared.base.Base.TheVariants.{Int, Set, Bool as Truth}
 use Rattle.cf_tree.specs.RelTree.{SetTree, empty_set, set_var, union_of, inter_of, diff_of, TermTree, term_lit, term_var, term_card, term_neg, term_add, term_sub, term_mul, term_div, term_mod, term_abs, RelTree, rel_true, rel_false, rel_compare, rel_same_set, rel_other_set, rel_subset, rel_divides, rel_and, rel_or, rel_not}
 use Rattle.cf_tree.specs.Relation.{IsLinearTerm, IsLinear, IsTypedSet, IsTypedTerm, IsTyped}
-use Rattle.cf_linear.specs.Layout.{Levels, set_holds, term_holds, rel_holds, is_number, is_set, levels_with, levels_of, has_level}
+use Rattle.cf_linear.specs.Layout.{Layout, set_holds, term_holds, rel_holds, is_number, is_set, levels_with, layout_of, has_level}
 use Rattle.cf_linear.specs.Written.{IsPlaced, IsPlacedSet}
 use Rattle.cf_linear.proofs.BoolLemmas.{on_bool}
 use Rattle.cf_linear.proofs.PassingLemmas.{or_left, or_right}
@@ -59,14 +59,14 @@ module _ (scope outputs : List Base) (rel : RelTree) where
         or_right (has_level (filter (λ y. rel_holds y rel) (levels_with p 0 scope)) x) (has_level (levels_with p (length scope) outputs) x) (rw z at k))
   ]
 
-  placed_set : (s : SetTree) → IsTypedSet (scope ++ outputs) s → ((x : ℕ) → set_holds x s ≡ true → rel_holds x rel ≡ true) → IsPlacedSet (levels_of scope outputs rel) s
+  placed_set : (s : SetTree) → IsTypedSet (scope ++ outputs) s → ((x : ℕ) → set_holds x s ≡ true → rel_holds x rel ≡ true) → IsPlacedSet (layout_of scope outputs rel) s
   placed_set empty_set t h = tt
   placed_set (set_var y) t h = true_is _ (placed is_set Set y refl t (h y (same_level y)))
   placed_set (union_of a b) t h = (placed_set a t.0 (λ x e. h x (or_left (set_holds x a) (set_holds x b) e)), placed_set b t.1 (λ x e. h x (or_right (set_holds x a) (set_holds x b) e)))
   placed_set (inter_of a b) t h = (placed_set a t.0 (λ x e. h x (or_left (set_holds x a) (set_holds x b) e)), placed_set b t.1 (λ x e. h x (or_right (set_holds x a) (set_holds x b) e)))
   placed_set (diff_of a b) t h = (placed_set a t.0 (λ x e. h x (or_left (set_holds x a) (set_holds x b) e)), placed_set b t.1 (λ x e. h x (or_right (set_holds x a) (set_holds x b) e)))
 
-  placed_term : (s : TermTree) → IsTypedTerm (scope ++ outputs) s → ((x : ℕ) → term_holds x s ≡ true → rel_holds x rel ≡ true) → IsPlaced (levels_of scope outputs rel) s
+  placed_term : (s : TermTree) → IsTypedTerm (scope ++ outputs) s → ((x : ℕ) → term_holds x s ≡ true → rel_holds x rel ≡ true) → IsPlaced (layout_of scope outputs rel) s
   placed_term (term_lit n) t h = t
   placed_term (term_var y) t h = true_is _ (placed is_number Int y refl t (h y (same_level y)))
   placed_term (term_card s) t h = placed_set s t h
@@ -78,7 +78,7 @@ module _ (scope outputs : List Base) (rel : RelTree) where
   placed_term (term_mod a k) t h = (placed_term a t.0 h, t.1)
   placed_term (term_abs a) t h = placed_term a t h
 
-  placed_part : (p : RelTree) → IsTyped (scope ++ outputs) p → IsLinear p → ((x : ℕ) → rel_holds x p ≡ true → rel_holds x rel ≡ true) → IsPlacedRel (levels_of scope outputs rel) p
+  placed_part : (p : RelTree) → IsTyped (scope ++ outputs) p → IsLinear p → ((x : ℕ) → rel_holds x p ≡ true → rel_holds x rel ≡ true) → IsPlacedRel (layout_of scope outputs rel) p
   placed_part rel_true t l h = tt
   placed_part rel_false t l h = tt
   placed_part (rel_compare o a b) t l h =
@@ -92,5 +92,5 @@ module _ (scope outputs : List Base) (rel : RelTree) where
   placed_part (rel_not p) t l h = placed_part p t l h
 
 -- a well-typed linear relation fits its layout
-pub placed-rel : (scope outputs : List Base) (rel : RelTree) → IsTyped (scope ++ outputs) rel → IsLinear rel → IsPlacedRel (levels_of scope outputs rel) rel
+pub placed-rel : (scope outputs : List Base) (rel : RelTree) → IsTyped (scope ++ outputs) rel → IsLinear rel → IsPlacedRel (layout_of scope outputs rel) rel
 placed-rel scope outputs rel t l = placed_part scope outputs rel rel t l (λ x e. e)

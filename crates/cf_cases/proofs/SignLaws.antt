@@ -3,7 +3,7 @@ use Rattle.std.proofs.Common.{◌≡◌, ℕ, ◌+◌, ◌≤◌, pos, negsuc, L
 use Rattle.cf_tree.specs.RelTree.{TermTree, term_lit, term_var, term_card, term_neg, term_add, term_sub, term_mul, term_div, term_mod, term_abs}
 use Rattle.cf_tree.specs.Relation.{is_fixed}
 use Rattle.cf_linear.specs.Rows.{put, comb}
-use Rattle.cf_linear.specs.Layout.{Levels}
+use Rattle.cf_linear.specs.Layout.{Layout}
 use Rattle.cf_linear.specs.Written.{WrittenTree, from_one, from_two, with_quotient, write_mod, first_sign, other_signs, signed_by, with_sign, product_by, write, abs_count}
 
 pub signed_rest : (b : Bool) (w : WrittenTree) → (signed_by b w).signs ≡ other_signs w.signs
@@ -19,7 +19,7 @@ one_less [] h = absurd (omega arith)
 one_less (b ∷ ss) h = omega arith
 
 -- how many signs are left
-pub length-left : (l : Levels) (t : TermTree) (ss : List Bool) (q : ℕ) → abs_count t ≤ length ss → length (write l t ss q).signs + abs_count t ≡ length ss
+pub length-left : (l : Layout) (t : TermTree) (ss : List Bool) (q : ℕ) → abs_count t ≤ length ss → length (write l t ss q).signs + abs_count t ≡ length ss
 length-left l (term_lit n) ss q h = omega arith
 length-left l (term_var x) ss q h = omega arith
 length-left l (term_card s) ss q h = omega arith
@@ -49,7 +49,7 @@ more_signed w ys b rest e = rw e (by_sign b)
     by_sign true = refl
     by_sign false = refl
 
-pub write-more : (l : Levels) (t : TermTree) (xs ys : List Bool) (q : ℕ) → abs_count t ≤ length xs → write l t (xs ++ ys) q ≡ more (write l t xs q) ys
+pub write-more : (l : Layout) (t : TermTree) (xs ys : List Bool) (q : ℕ) → abs_count t ≤ length xs → write l t (xs ++ ys) q ≡ more (write l t xs q) ys
 write-more l (term_lit n) xs ys q h = refl
 write-more l (term_var x) xs ys q h = refl
 write-more l (term_card s) xs ys q h = refl

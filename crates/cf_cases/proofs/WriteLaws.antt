@@ -9,7 +9,7 @@ use Rattle.cf_tree.specs.Relation.{IsLinearTerm}
 use Rattle.cf_tree.proofs.SetLemmas.{on_bool, lt_is, lt_not}
 use Rattle.cf_linear.specs.Rows.{Values, value, comb}
 use Rattle.cf_linear.specs.Keep.{Same, update}
-use Rattle.cf_linear.specs.Layout.{Levels, covers, first_free, region_row}
+use Rattle.cf_linear.specs.Layout.{Layout, covers, first_free, region_row}
 use Rattle.cf_linear.specs.Written.{sign_guard, quotient_guard, GuardsHold, plus, WrittenTree, first_sign, other_signs, signed_by, write, val_at, abs_count, IsPlaced}
 use Rattle.cf_linear.proofs.WritingLemmas.{write-next}
 use Rattle.cf_linear.proofs.WrittenLemmas.{GuardsHold-append, value-times, value-plus, write-value}
@@ -45,7 +45,7 @@ inner_guards v false w g = (GuardsHold-append v w.guards (sign_guard w.row ∷ [
 lengths : (ss xs ys : List Bool) (n : ℕ) → ss ≡ xs ++ ys → length xs ≡ n → length ss ≡ n + length ys
 lengths ss xs ys n e h = ap length e ∙ length-append xs ys ∙ ap (λ k. k + length ys) h
 
-module _ (l : Levels) (v : Values) (one : v 0 ≡ pos 1) where
+module _ (l : Layout) (v : Values) (one : v 0 ≡ pos 1) where
   two_signs : (a b : TermTree) (ss ts us : List Bool) → ss ≡ signs_of (val_at l v) a ++ ts → ts ≡ signs_of (val_at l v) b ++ us → ss ≡ (signs_of (val_at l v) a ++ signs_of (val_at l v) b) ++ us
   two_signs a b ss ts us e f = e ∙ rw (f, append_assoc) refl
 
@@ -97,7 +97,7 @@ module _ (l : Levels) (v : Values) (one : v 0 ≡ pos 1) where
       taken (b ∷ ss) h = refl
 
 -- ---- values that agree on the columns of the layout
-module _ (l : Levels) (v w : Values) (same : Same (first_free l) v w) where
+module _ (l : Layout) (v w : Values) (same : Same (first_free l) v w) where
   pub val_at-same : (t : TermTree) → IsPlaced l t → val_at l v t ≡ val_at l w t
   val_at-same (term_lit n) p = refl
   val_at-same (term_var x) p = same _ (number-below l x p)
@@ -136,7 +136,7 @@ same-less n m v w h p = λ c i. p c (omega arith)
 pub update-same : (v : Values) (c : ℕ) (z : ℤ) → Same c v (update v c z)
 update-same v c z = λ d h. let n : d == c ≡ false = ne_eqb d c (λ e. omega arith) in rw n refl
 
-module _ (l : Levels) where
+module _ (l : Layout) where
   -- the second form after the first
   fill_two : (a b : TermTree) (ss rest : List Bool) (q : ℕ) (v : Values) → IsPlaced l a → IsPlaced l b → first_free l ≤ q → v 0 ≡ pos 1 →
       ss ≡ (signs_of (val_at l v) a ++ signs_of (val_at l v) b) ++ rest →

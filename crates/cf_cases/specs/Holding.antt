@@ -7,11 +7,11 @@ use Rattle.cf_tree.specs.Relation.{members, val, IsLinearTerm, IsDivisor}
 use Rattle.cf_tree.specs.Sets.{has}
 use Rattle.cf_tree.specs.Values.{Value, number_of, value_at}
 use Rattle.cf_linear.specs.Rows.{Values, value, put}
-use Rattle.cf_linear.specs.Matrices.{EachRow}
+use Rattle.cf_linear.specs.Systems.{EachRow}
 use Rattle.cf_linear.specs.Relations.{Divides}
-use Rattle.cf_linear.specs.Layout.{Levels, masks, set_count, covers, has_level, number_column, region_row, region_column}
+use Rattle.cf_linear.specs.Layout.{Layout, masks, set_count, covers, has_level, number_column, region_row, region_column}
 use Rattle.cf_linear.specs.Written.{val_at, IsPlaced, IsPlacedSet}
-use Rattle.cf_linear.specs.Cases.{Atom, atom_true, atom_false, atom_compare, atom_divides, atom_not_divides, atom_same, atom_other, atom_subset, atom_not_subset, Plain, plain_atom, plain_and, plain_or, Signed, atom_signs, in_first, in_one, none_rows, input_row}
+use Rattle.cf_linear.specs.Cases.{Atom, atom_true, atom_false, atom_compare, atom_divides, atom_not_divides, atom_same, atom_other, atom_subset, atom_not_subset, Normal, normal_atom, normal_and, normal_or, Signed, atom_signs, in_first, in_one, none_rows, input_row}
 
 -- P holds of each item, or of some item
 abbrev pub EachOf : {A : Type 0} → (A → Type 0) → List A → Type 0
@@ -58,10 +58,10 @@ AtomHolds env (atom_other a b) = members a env ≢ members b env
 AtomHolds env (atom_subset a b) = (x : ℤ) → has (members a env) x ≡ true → has (members b env) x ≡ true
 AtomHolds env (atom_not_subset a b) = ((x : ℤ) → has (members a env) x ≡ true → has (members b env) x ≡ true) → ⊥
 
-abbrev pub PlainHolds : List Value → Plain → Type 0
-PlainHolds env (plain_atom a) = AtomHolds env a
-PlainHolds env (plain_and p q) = PlainHolds env p × PlainHolds env q
-PlainHolds env (plain_or p q) = PlainHolds env p ⊎ PlainHolds env q
+abbrev pub NormalHolds : List Value → Normal → Type 0
+NormalHolds env (normal_atom a) = AtomHolds env a
+NormalHolds env (normal_and p q) = NormalHolds env p × NormalHolds env q
+NormalHolds env (normal_or p q) = NormalHolds env p ⊎ NormalHolds env q
 
 -- the atom holds, and the signs are those of the values
 abbrev pub SignedHolds : List Value → Signed → Type 0
@@ -71,7 +71,7 @@ abbrev pub CaseHolds : List Value → List Signed → Type 0
 CaseHolds env c = EachOf (SignedHolds env) c
 
 -- ---- at values of the columns
-abbrev pub AtomAt : Levels → Values → Atom → Type 0
+abbrev pub AtomAt : Layout → Values → Atom → Type 0
 AtomAt l v atom_true = Unit {0}
 AtomAt l v atom_false = ⊥
 AtomAt l v (atom_compare o a b) = Compares o (val_at l v a) (val_at l v b)
@@ -82,20 +82,20 @@ AtomAt l v (atom_other a b) = pos 1 ≤ℤ value v (region_row l (in_one l a b))
 AtomAt l v (atom_subset a b) = EachRow (λ r. value v r ≡ pos 0) (none_rows l (in_first l a b))
 AtomAt l v (atom_not_subset a b) = pos 1 ≤ℤ value v (region_row l (in_first l a b))
 
-abbrev pub SignedAt : Levels → Values → Signed → Type 0
+abbrev pub SignedAt : Layout → Values → Signed → Type 0
 SignedAt l v (a, ss) = AtomAt l v a × (ss ≡ signs_in (val_at l v) a)
 
-abbrev pub CaseAt : Levels → Values → List Signed → Type 0
+abbrev pub CaseAt : Layout → Values → List Signed → Type 0
 CaseAt l v c = EachOf (SignedAt l v) c
 
 -- the counts of the regions are at least 0, and those in exactly the same input sets sum to that region's count
-pub record AreCounts (l : Levels) (v : Values) : Type 0 where
+pub record AreCounts (l : Layout) (v : Values) : Type 0 where
   pub sums : EachRow (λ r. value v r ≡ pos 0) (map (input_row l) (masks (length l.inputs)))
   pub nonneg : EachRow (λ r. pos 0 ≤ℤ value v r) (map (λ m. put (region_column l m) (pos 1) []) (masks (set_count l)))
 
 -- ---- what is asked of atoms
 -- its variables are in the layout, its products are linear, its divisors at least 1, and it is not `!=` of numbers
-abbrev pub AtomFits : Levels → Atom → Type 0
+abbrev pub AtomFits : Layout → Atom → Type 0
 AtomFits l atom_true = Unit {0}
 AtomFits l atom_false = Unit {0}
 AtomFits l (atom_compare o a b) = (o ≢ Ne) × (IsPlaced l a × IsLinearTerm a) × (IsPlaced l b × IsLinearTerm b)
@@ -106,14 +106,14 @@ AtomFits l (atom_other a b) = IsPlacedSet l a × IsPlacedSet l b
 AtomFits l (atom_subset a b) = IsPlacedSet l a × IsPlacedSet l b
 AtomFits l (atom_not_subset a b) = IsPlacedSet l a × IsPlacedSet l b
 
-abbrev pub SignedFits : Levels → Signed → Type 0
+abbrev pub SignedFits : Layout → Signed → Type 0
 SignedFits l (a, ss) = AtomFits l a × (length ss ≡ atom_signs a)
 
-abbrev pub CaseFits : Levels → List Signed → Type 0
+abbrev pub CaseFits : Layout → List Signed → Type 0
 CaseFits l c = EachOf (SignedFits l) c
 
 -- the same of each part of a relation
-abbrev pub IsPlacedRel : Levels → RelTree → Type 0
+abbrev pub IsPlacedRel : Layout → RelTree → Type 0
 IsPlacedRel l rel_true = Unit {0}
 IsPlacedRel l rel_false = Unit {0}
 IsPlacedRel l (rel_compare o a b) = (IsPlaced l a × IsLinearTerm a) × (IsPlaced l b × IsLinearTerm b)
@@ -127,7 +127,7 @@ IsPlacedRel l (rel_not p) = IsPlacedRel l p
 
 -- ---- environments and columns
 -- the values of the columns are those of the variables, and the counts of the regions are those of the sets
-pub record Agrees (l : Levels) (env : List Value) (v : Values) : Type 0 where
+pub record Agrees (l : Layout) (env : List Value) (v : Values) : Type 0 where
   pub numbers : (x : ℕ) → IsTrue (has_level l.numbers x || has_level l.out_numbers x) → number_of (value_at env x) ≡ v (number_column l x)
   pub sizes : (s : SetTree) → IsPlacedSet l s → pos (length (members s env)) ≡ value v (region_row l (covers l s))
   pub same : (a b : SetTree) → IsPlacedSet l a → IsPlacedSet l b → (members a env ≡ members b env) ↔ EachRow (λ r. value v r ≡ pos 0) (none_rows l (in_one l a b))

@@ -1,4 +1,5 @@
 pub mod Counts
-pub mod Drafts
+pub mod SystemBuilders
 pub mod Holding
+pub mod Laws
 pub mod Picking

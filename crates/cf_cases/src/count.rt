@@ -1,17 +1,110 @@
 //! How many cases a relation has.
-ghost use Rattle.std.specs.Prelude.{◌≡◌, ◌≤◌, ◌+◌, ◌*◌, ◌^◌, true};
+ghost use Rattle.std.specs.Prelude.{◌≡◌, ◌≤◌, ◌+◌, ◌*◌, ◌^◌, true, IfOk};
 ghost use Rattle.cf_tree.specs.RelSize.{capped};
 ghost use Rattle.cf_tree.specs.RelView.{term_tree, rel_tree};
 ghost use Rattle.cf_linear.specs.Written.{abs_count};
-ghost use Rattle.cf_linear.specs.Cases.{plain, case_count};
-ghost use Rattle.cf_cases.specs.Counts.{wide, order_as, order_ways, both_or_either};
+ghost use Rattle.cf_linear.specs.Cases.{negation_normal, case_count};
+ghost use Rattle.cf_cases.specs.Counts.{wide, order_as, order_ways, both_or_either, count_tree, count_in, left_in, right_in, both_counts, counts_of};
 
 use cf_tree::base::Order;
+use cf_tree::memory::NoMemory;
 use cf_tree::rel::{Rel, Term};
+use std::alloc::Global;
+
+/// How many cases a relation has, and its parts, each counted once. The numbers stop at `2^128 - 1`.
+#[derive(Drop)]
+pub enum Counts {
+    /// The cases of an atom.
+    One(u128),
+    /// The cases of both sides or of either, and those of each side.
+    Two(u128, Box<Counts>, Box<Counts>),
+}
+
+impl Counts {
+    /// The counts of the relation.
+    pub fn of(alloc: Global, rel: &Rel) -> Result<Counts, NoMemory>
+        ensures { IfOk result (λ c. count_tree c ≡ counts_of (negation_normal true (rel_tree rel.now))) }
+    {
+        counts_as(alloc, rel, true)
+    }
+
+    // How many cases there are.
+    pub(crate) fn count(&self) -> u128
+        ensures { result ≡ count_in (count_tree self.now) }
+    {
+        match self {
+            Counts::One(n) => *n,
+            Counts::Two(n, _, _) => *n,
+        }
+    }
+
+    // The counts of the left side, where there are two.
+    pub(crate) fn left(&self) -> &Counts
+        ensures { count_tree result.now ≡ left_in (count_tree self.now) }
+    {
+        match self {
+            Counts::One(_) => self,
+            Counts::Two(_, left, _) => left,
+        }
+    }
+
+    // The counts of the right side, where there are two.
+    pub(crate) fn right(&self) -> &Counts
+        ensures { count_tree result.now ≡ right_in (count_tree self.now) }
+    {
+        match self {
+            Counts::One(_) => self,
+            Counts::Two(_, _, right) => right,
+        }
+    }
+}
+
+// The counts of the relation, where `holds`, or of its negation.
+#[cycle(counts_as)]
+fn counts_as(alloc: Global, rel: &Rel, holds: bool) -> Result<Counts, NoMemory>
+    ensures { IfOk result (λ c. count_tree c ≡ counts_of (negation_normal holds (rel_tree rel.now))) }
+{
+    match rel {
+        Rel::And(a, b) => {
+            let left = boxed(alloc, a, holds)?;
+            let right = boxed(alloc, b, holds)?;
+            Ok(both_counts(holds, left, right))
+        }
+        Rel::Or(a, b) => {
+            let left = boxed(alloc, a, holds)?;
+            let right = boxed(alloc, b, holds)?;
+            Ok(both_counts(!holds, left, right))
+        }
+        Rel::Not(a) => counts_as(alloc, a, !holds),
+        Rel::True
+        | Rel::False
+        | Rel::SameSet(_, _)
+        | Rel::OtherSet(_, _)
+        | Rel::Subset(_, _)
+        | Rel::Compare { .. }
+        | Rel::Divides { .. } => Ok(Counts::One(count_as(rel, holds))),
+    }
+}
+
+// The same in a box.
+#[cycle(counts_as)]
+fn boxed(alloc: Global, rel: &Rel, holds: bool) -> Result<Box<Counts>, NoMemory>
+    ensures { IfOk result (λ c. count_tree c.value ≡ counts_of (negation_normal holds (rel_tree rel.now))) }
+{
+    Ok(Box::new(alloc, counts_as(alloc, rel, holds)?)?)
+}
+
+// The counts of both sides, where `both`, or of either.
+fn both_counts(both: bool, left: Box<Counts>, right: Box<Counts>) -> Counts
+    ensures { count_tree result ≡ both_counts both (count_tree left.value) (count_tree right.value) }
+{
+    let n = both_or_either(both, left.count(), right.count());
+    Counts::Two(n, left, right)
+}
 
 /// The number of cases of the relation, or `2^64 - 1` where there are more.
 pub fn count(rel: &Rel) -> u64
-    ensures { result ≡ capped (case_count (plain true (rel_tree rel.now))) }
+    ensures { result ≡ capped (case_count (negation_normal true (rel_tree rel.now))) }
 {
     let n = count_as(rel, true);
     if n < u64::MAX as u128 {
@@ -23,7 +116,7 @@ pub fn count(rel: &Rel) -> u64
 
 // The same of the relation, where `holds`, or of its negation, or `2^128 - 1` where there are more.
 pub(crate) fn count_as(rel: &Rel, holds: bool) -> u128
-    ensures { result ≡ wide (case_count (plain holds (rel_tree rel.now))) }
+    ensures { result ≡ wide (case_count (negation_normal holds (rel_tree rel.now))) }
 {
     match rel {
         Rel::True => 1,

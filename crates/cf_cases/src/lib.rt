@@ -4,6 +4,7 @@
 mod atom;
 pub mod case;
 pub mod count;
-mod draft;
+pub mod laws;
 mod regions;
 mod signs;
+mod system_builder;

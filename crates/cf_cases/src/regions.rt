@@ -3,13 +3,14 @@ ghost use Rattle.std.specs.Prelude.{◌≡◌, ◌++◌, ◌+◌, ◌≤◌, ◌
 ghost use Rattle.cf_tree.specs.RelView.{set_tree};
 ghost use Rattle.cf_tree.specs.RelTree.{diff_of};
 ghost use Rattle.cf_linear.specs.Rows.{put, AreBelow};
+ghost use Rattle.cf_linear.specs.declared.refusal.TheConstants.{MOST_SETS};
 ghost use Rattle.cf_linear.specs.Layout.{set_count, first_free, covers, region_row, masks, region_column};
-ghost use Rattle.cf_linear.specs.Views.{plain_levels};
+ghost use Rattle.cf_linear.specs.Views.{plain_layout};
 ghost use Rattle.cf_linear.specs.Cases.{input_row};
-ghost use Rattle.cf_cases.specs.Drafts.{rows_of, region_rows, apart, apart_form, entries_if, Drafts};
+ghost use Rattle.cf_cases.specs.SystemBuilders.{rows_of, region_rows, apart, apart_form, entries_if, BuilderAnswer};
 
-use crate::draft::{Draft, add_columns, add_positive};
-use cf_linear::columns::{known_count, region_row};
+use crate::system_builder::{SystemBuilder, add_columns, add_positive};
+use cf_linear::columns::region_row;
 use cf_linear::refusal::RowFault;
 use cf_linear::row::Row;
 use cf_linear::system::Layout;
@@ -17,57 +18,69 @@ use cf_tree::memory::NoMemory;
 use cf_tree::rel::SetTerm;
 use std::alloc::Global;
 
-// Adds the rows that say of the regions in the first set form and not in the second, or, where
-// `either`, in exactly one of them, that each is empty, where `empty`, or that some is not.
+// The regions that tell two set forms apart: those in exactly one of them, or those in the first and
+// not in the second.
+#[derive(Clone, Copy)]
+pub(crate) enum Regions {
+    InOne,
+    InFirst,
+}
+
+// Adds the rows that say of these regions that each is empty, where `empty`, or that some is not.
 pub(crate) fn add_apart(
-    alloc: Global,
-    either: bool,
+    regions: Regions,
     empty: bool,
     a: &SetTerm,
     b: &SetTerm,
     layout: &Layout,
-    draft: &mut Draft,
+    builder: &mut SystemBuilder,
 ) -> Result<(), RowFault>
-    requires sets { set_count (plain_levels layout.now) ≤ 6 }
-    requires room { first_free (plain_levels layout.now) < 2 ^ 32 }
-    ensures gives { Drafts (region_rows empty (rows_of draft.old) (plain_levels layout.now) (apart either (plain_levels layout.now) (set_tree a.now) (set_tree b.now))) draft.new result }
-    ensures next { IfOk result (λ _. draft.new.next ≡ draft.old.next) }
+    requires sets { set_count (plain_layout layout.now) ≤ MOST_SETS }
+    requires room { first_free (plain_layout layout.now) < 2 ^ 32 }
+    ensures gives { BuilderAnswer (region_rows empty (rows_of builder.old) (plain_layout layout.now) (apart regions (plain_layout layout.now) (set_tree a.now) (set_tree b.now))) builder.new result }
+    ensures next { IfOk result (λ _. builder.new.next ≡ builder.old.next) }
 {
-    let row = apart(alloc, either, a, b, layout)?;
+    let row = apart(builder.alloc, regions, a, b, layout)?;
     if empty {
-        add_columns(alloc, &row, &mut draft.equations)?;
+        add_columns(builder.alloc, &row, &mut builder.equations)?;
         Ok(())
     } else {
-        add_positive(alloc, &row, draft)
+        add_positive(&row, builder)
     }
 }
 
 // The sum of the counts of those regions.
 fn apart(
     alloc: Global,
-    either: bool,
+    regions: Regions,
     a: &SetTerm,
     b: &SetTerm,
     layout: &Layout,
 ) -> Result<Row, NoMemory>
-    requires sets { set_count (plain_levels layout.now) ≤ 6 }
-    requires room { first_free (plain_levels layout.now) < 2 ^ 32 }
-    ensures { IfOk result (λ row. row ≡ region_row (plain_levels layout.now) (apart either (plain_levels layout.now) (set_tree a.now) (set_tree b.now))) }
+    requires sets { set_count (plain_layout layout.now) ≤ MOST_SETS }
+    requires room { first_free (plain_layout layout.now) < 2 ^ 32 }
+    ensures { IfOk result (λ row. row ≡ region_row (plain_layout layout.now) (apart regions (plain_layout layout.now) (set_tree a.now) (set_tree b.now))) }
 {
-    let form = apart_form(alloc, either, a, b)?;
+    let form = apart_form(alloc, regions, a, b)?;
     region_row(alloc, layout, &form)
 }
 
-// What lies in the first set form and not in the second, or, where `either`, in exactly one of them.
-fn apart_form(alloc: Global, either: bool, a: &SetTerm, b: &SetTerm) -> Result<SetTerm, NoMemory>
-    ensures { IfOk result (λ s. set_tree s ≡ apart_form either (set_tree a.now) (set_tree b.now)) }
+// What lies in these regions.
+fn apart_form(
+    alloc: Global,
+    regions: Regions,
+    a: &SetTerm,
+    b: &SetTerm,
+) -> Result<SetTerm, NoMemory>
+    ensures { IfOk result (λ s. set_tree s ≡ apart_form regions (set_tree a.now) (set_tree b.now)) }
 {
-    if either {
-        let left = difference(alloc, a, b)?;
-        let right = difference(alloc, b, a)?;
-        Ok(SetTerm::Union(Box::new(alloc, left)?, Box::new(alloc, right)?))
-    } else {
-        difference(alloc, a, b)
+    match regions {
+        Regions::InOne => {
+            let left = difference(alloc, a, b)?;
+            let right = difference(alloc, b, a)?;
+            Ok(SetTerm::Union(Box::new(alloc, left)?, Box::new(alloc, right)?))
+        }
+        Regions::InFirst => difference(alloc, a, b),
     }
 }
 
@@ -86,12 +99,11 @@ pub(crate) fn add_inputs(
     layout: &Layout,
     rows: &mut Vec<Row>,
 ) -> Result<(), NoMemory>
-    requires sets { set_count (plain_levels layout.now) ≤ 6 }
-    requires room { first_free (plain_levels layout.now) < 2 ^ 32 }
-    ensures { OnOk result (rows.new.items ≡ rows.old.items ++ map (input_row (plain_levels layout.now)) (masks (length layout.now.inputs.items))) }
+    requires sets { set_count (plain_layout layout.now) ≤ MOST_SETS }
+    requires room { first_free (plain_layout layout.now) < 2 ^ 32 }
+    ensures { OnOk result (rows.new.items ≡ rows.old.items ++ map (input_row (plain_layout layout.now)) (masks (length layout.now.inputs.items))) }
 {
-    let end = 1u32 << layout.inputs.len();
-    for mask in 1..end {
+    for mask in 1..layout.input_regions() {
         let row = input_row(alloc, layout, mask)?;
         rows.push(row)?;
     }
@@ -101,29 +113,20 @@ pub(crate) fn add_inputs(
 // The sum of the counts of the regions in exactly the input sets of the mask, less the count of that
 // input region.
 fn input_row(alloc: Global, layout: &Layout, mask: u32) -> Result<Row, NoMemory>
-    requires sets { set_count (plain_levels layout.now) ≤ 6 }
-    requires room { first_free (plain_levels layout.now) < 2 ^ 32 }
+    requires sets { set_count (plain_layout layout.now) ≤ MOST_SETS }
+    requires room { first_free (plain_layout layout.now) < 2 ^ 32 }
     requires mask { mask < 2 ^ length layout.now.inputs.items }
-    ensures { IfOk result (λ row. row ≡ input_row (plain_levels layout.now) mask) }
+    ensures { IfOk result (λ row. row ≡ input_row (plain_layout layout.now) mask) }
 {
-    let before = known_count(layout) + layout.out_numbers.len() as u32;
-    let end = 1u32 << (layout.inputs.len() + layout.out_sets.len());
-    let choices = input_choices(layout);
-    let mut row = Row::unit(alloc, layout.numbers.len() as u32 + mask, -1)?;
+    let end = layout.regions();
+    let choices = layout.input_regions();
+    let mut row = Row::unit(alloc, layout.input_column(mask), -1)?;
     for region in 1..end {
+        let column = layout.region_column(region);
         let inside = is_inside(region, choices, mask);
-        append_if(&mut row, before + region - 1, inside)?;
+        append_if(&mut row, column, inside)?;
     }
     Ok(row)
-}
-
-// How many choices of input sets there are.
-fn input_choices(layout: &Layout) -> u32
-    requires { set_count (plain_levels layout.now) ≤ 6 }
-    ensures choices { result ≡ 2 ^ length layout.now.inputs.items }
-    ensures some { 1 ≤ result }
-{
-    1u32 << layout.inputs.len()
 }
 
 // Whether the region lies in exactly the input sets of the mask.
@@ -151,14 +154,12 @@ pub(crate) fn add_counts(
     layout: &Layout,
     rows: &mut Vec<Row>,
 ) -> Result<(), NoMemory>
-    requires sets { set_count (plain_levels layout.now) ≤ 6 }
-    requires room { first_free (plain_levels layout.now) < 2 ^ 32 }
-    ensures { OnOk result (rows.new.items ≡ rows.old.items ++ map (λ m. put (region_column (plain_levels layout.now) m) (pos 1) []) (masks (set_count (plain_levels layout.now)))) }
+    requires sets { set_count (plain_layout layout.now) ≤ MOST_SETS }
+    requires room { first_free (plain_layout layout.now) < 2 ^ 32 }
+    ensures { OnOk result (rows.new.items ≡ rows.old.items ++ map (λ m. put (region_column (plain_layout layout.now) m) (pos 1) []) (masks (set_count (plain_layout layout.now)))) }
 {
-    let before = known_count(layout) + layout.out_numbers.len() as u32;
-    let end = 1u32 << (layout.inputs.len() + layout.out_sets.len());
-    for region in 1..end {
-        let row = Row::unit(alloc, before + region - 1, 1)?;
+    for region in 1..layout.regions() {
+        let row = Row::unit(alloc, layout.region_column(region), 1)?;
         rows.push(row)?;
     }
     Ok(())

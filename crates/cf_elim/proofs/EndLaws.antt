@@ -1,4 +1,4 @@
--- The elimination of a matrix ends, in fewer than 2^64 steps.
+-- The elimination of a system ends, in fewer than 2^64 steps.
 use Rattle.std.proofs.Common.{◌≡◌, ◌≢◌, ℕ, zero, suc, ◌+◌, ◌-◌, ◌*◌, ◌^◌, ◌<◌, ◌≤◌, ℤ, pos, negsuc, neg_ℤ, ◌+ℤ◌, ◌*ℤ◌, List, [], ◌∷◌, length, Bool, true, false, not, ◌==◌, Option, Some, None, refl, sym, ◌∙◌, ap, arith, subst, ◌⊎◌, inl, inr, ⊎_elim, ◌/◌}
 use Rattle.std.specs.Prelude.{nat_lt, min, map, filter, unsigned_abs, ◌<ℤ◌, if◌then◌else◌}
 use Rattle.std.specs.List.{fold}
@@ -15,9 +15,9 @@ use Rattle.cf_linear.specs.declared.refusal.LimitKind.TheVariants.{Rows, Columns
 use Rattle.cf_linear.specs.declared.refusal.Refusal.{Refusal}
 use Rattle.cf_linear.specs.declared.refusal.Refusal.TheVariants.{Past, Limit}
 use Rattle.cf_linear.specs.Rows.{Row, entry, is_zero, without, subst_row, Rises}
-use Rattle.cf_linear.specs.Matrices.{Matrix, EachRow, Answer, rows_of, columns_of}
+use Rattle.cf_linear.specs.Systems.{System, EachRow, Answer, rows_of, columns_of}
 use Rattle.cf_linear.specs.Keep.{In, Over, IsColumn, Formed}
-use Rattle.cf_linear.specs.Steps.{present, has_column, has_unknown, clean, two_at, one_at, replaced, mix, merge, factors_of, last, Choice, pick, searched, searched_by, dropped, bound}
+use Rattle.cf_linear.specs.Steps.{present, has_column, has_unknown, clean, two_at, one_at, replaced, mix, merge, factors_of, last, Pick, pick, searched, searched_by, dropped, bound}
 use Rattle.cf_linear.specs.Stages.{State, End, refused, Taken, Stage, ends, goes, stage, first_count, ends_or, refused_if, times_bound, clean_stage, equation_stage, row_stage, unknown_stage, bound_stage, Trace, stop, more, first_state, Run, run, limits}
 use Rattle.cf_linear.proofs.BoolLemmas.{on_bool}
 use Rattle.cf_linear.proofs.StageLemmas.{run-trace}
@@ -34,7 +34,7 @@ use Rattle.cf_bounds.proofs.ExactLaws.{pick_in, pick_is}
 use Rattle.cf_bounds.proofs.BoundLemmas.{searched_free}
 use Rattle.cf_bounds.proofs.FormedAgain.{clean_formed, dropped_formed}
 use Rattle.cf_bounds.proofs.SearchFormed.{searched_formed}
-use Rattle.cf_elim.specs.Turns.{IsReady}
+use Rattle.cf_elim.specs.Stages.{IsReady}
 use Rattle.cf_elim.proofs.TupleLaws.{tuples_are}
 use Rattle.cf_elim.proofs.BoundLaws.{searched_differs, plain_search}
 
@@ -74,7 +74,7 @@ abbrev need : Bool → List ℕ → List Row → ℕ
 need b us rows = if b then stuck us rows else 1
 
 abbrev height : State → ℕ
-height s = measure s.tuples (length s.matrix.unknown) (length s.matrix.equations) (held s.matrix.unknown s.matrix.equations) (need s.is_clean s.matrix.unknown s.matrix.equations)
+height s = measure s.tuples (length s.system.unknown) (length s.system.equations) (held s.system.unknown s.system.equations) (need s.is_past_clean s.system.unknown s.system.equations)
 
 -- ---- parts of lists
 filter_short : {A : Type 0} (p : A → Bool) (xs : List A) → length (filter p xs) ≤ length xs
@@ -238,8 +238,8 @@ moved_same x u y v c n m = rw (ne_eqb c y m, ne_eqb c x n) refl
 moved_new : (x u y v : ℕ) → v ≢ x → moved x u y v y ≡ v
 moved_new x u y v n = rw (eq-eqb y y refl, ne_eqb v x n) refl
 
-merge_held : (m : Matrix) (e : Row) (rest : List Row) (x y : ℕ) → Formed m → m.equations ≡ e ∷ rest → Over (λ c. c < m.next) e → In x m.unknown → In y m.unknown → x ≢ y → entry e x ≢ pos 0 → entry e y ≢ pos 0 →
-    held (merge m e x y).matrix.unknown (merge m e x y).matrix.equations < length (present m.unknown e)
+merge_held : (m : System) (e : Row) (rest : List Row) (x y : ℕ) → Formed m → m.equations ≡ e ∷ rest → Over (λ c. c < m.next) e → In x m.unknown → In y m.unknown → x ≢ y → entry e x ≢ pos 0 → entry e y ≢ pos 0 →
+    held (merge m e x y).system.unknown (merge m e x y).system.equations < length (present m.unknown e)
 unfolding merge mix
 merge_held m e rest x y f eq o ix iy n ex ey =
     let p = factors_of (entry e x) (entry e y) in
@@ -260,32 +260,32 @@ merge_held m e rest x y f eq o ix iy n ex ey =
 
 -- ---- what a step leaves
 record Falls (s t : State) : Type 0 where
-  ready : IsReady t.matrix
+  ready : IsReady t.system
   some : 1 ≤ t.tuples
   few : t.tuples ≤ 1048576
   less : height t < height s
 
 record Before (s : State) : Type 0 where
-  ready : IsReady s.matrix
+  ready : IsReady s.system
   some : 1 ≤ s.tuples
   few : s.tuples ≤ 1048576
 
-one_of : (b : Bool) (g h : Stage) (t : State) (a : Taken) → (if b then g else h) ≡ goes t a → ((b ≡ true) × (g ≡ goes t a)) ⊎ ((b ≡ false) × (h ≡ goes t a))
+pub one_of : (b : Bool) (g h : Stage) (t : State) (a : Taken) → (if b then g else h) ≡ goes t a → ((b ≡ true) × (g ≡ goes t a)) ⊎ ((b ≡ false) × (h ≡ goes t a))
 one_of true g h t a e = inl (refl, e)
 one_of false g h t a e = inr (refl, e)
 
-count_passed : (o : Option Refusal) (h : Stage) (t : State) (a : Taken) → ends_or o h ≡ goes t a → (o ≡ None) × (h ≡ goes t a)
+pub count_passed : (o : Option Refusal) (h : Stage) (t : State) (a : Taken) → ends_or o h ≡ goes t a → (o ≡ None) × (h ≡ goes t a)
 count_passed (Some r) h t a e = cc
 count_passed None h t a e = (refl, e)
 
-not_refused : (b : Bool) (r : Refusal) (h : Stage) (t : State) (a : Taken) → refused_if b r h ≡ goes t a → (b ≡ false) × (h ≡ goes t a)
+pub not_refused : (b : Bool) (r : Refusal) (h : Stage) (t : State) (a : Taken) → refused_if b r h ≡ goes t a → (b ≡ false) × (h ≡ goes t a)
 not_refused true r h t a e = cc
 not_refused false r h t a e = (refl, e)
 
 falls_at : (s u t : State) (x a : Taken) → goes u x ≡ goes t a → Falls s u → Falls s t
 falls_at s u t x a e h = let q : u ≡ t = cc in subst (λ y. Falls s y) q h
 
-counts_few : (m : Matrix) → first_count limits m ≡ None → (length m.equations ≤ 1000) × (length m.unknown ≤ 1000)
+counts_few : (m : System) → first_count limits m ≡ None → (length m.equations ≤ 1000) × (length m.unknown ≤ 1000)
 counts_few m e = on_bool (nat_lt 1000 (rows_of m))
     (λ t. let q : Some (Limit Rows (rows_of m)) ≡ None = rw t at e in cc)
     (λ t. on_bool (nat_lt 1000 (columns_of m))
@@ -305,63 +305,63 @@ clean_less us rows p le lu =
     rw q (by_need p (length us) (length rows) (held us rows) 1 (stuck us rows) (omega arith)))
     (filter_all (has_unknown us) rows)
 
-clean_differ : (m : Matrix) → Differ m.unknown → Differ (clean m).matrix.unknown
+clean_differ : (m : System) → Differ m.unknown → Differ (clean m).system.unknown
 unfolding clean
 clean_differ m d = d
 
-clean_ready : (m : Matrix) → IsReady m → IsReady (clean m).matrix
+clean_ready : (m : System) → IsReady m → IsReady (clean m).system
 clean_ready m r = record { formed = clean_formed m r.formed; differ = clean_differ m r.differ }
 
-cleaned_less : (m : Matrix) (p : ℕ) → length (clean m).matrix.equations ≤ 1000 → length (clean m).matrix.unknown ≤ 1000 →
-    measure p (length (clean m).matrix.unknown) (length (clean m).matrix.equations) (held (clean m).matrix.unknown (clean m).matrix.equations) (stuck (clean m).matrix.unknown (clean m).matrix.equations) < measure p (length m.unknown) (length m.equations) (held m.unknown m.equations) 1
+cleaned_less : (m : System) (p : ℕ) → length (clean m).system.equations ≤ 1000 → length (clean m).system.unknown ≤ 1000 →
+    measure p (length (clean m).system.unknown) (length (clean m).system.equations) (held (clean m).system.unknown (clean m).system.equations) (stuck (clean m).system.unknown (clean m).system.equations) < measure p (length m.unknown) (length m.equations) (held m.unknown m.equations) 1
 unfolding clean
 cleaned_less m p le lu = clean_less m.unknown m.equations p le lu
 
-clean_falls : (s t : State) (a : Taken) → Before s → s.is_clean ≡ false → clean_stage limits s ≡ goes t a → Falls s t
+clean_falls : (s t : State) (a : Taken) → Before s → s.is_past_clean ≡ false → clean_stage limits s ≡ goes t a → Falls s t
 unfolding clean_stage
 clean_falls s t a b c e =
-    let x = count_passed (first_count limits s.matrix) _ t a e in
-    let y = count_passed (first_count limits (clean s.matrix).matrix) _ t a x.1 in
-    let k = counts_few (clean s.matrix).matrix y.0 in
-    falls_at s _ t _ a y.1 (record { ready = clean_ready s.matrix b.ready; some = b.some; few = b.few; less = rw c (cleaned_less s.matrix s.tuples k.0 k.1) })
+    let x = count_passed (first_count limits s.system) _ t a e in
+    let y = count_passed (first_count limits (clean s.system).system) _ t a x.1 in
+    let k = counts_few (clean s.system).system y.0 in
+    falls_at s _ t _ a y.1 (record { ready = clean_ready s.system b.ready; some = b.some; few = b.few; less = rw c (cleaned_less s.system s.tuples k.0 k.1) })
 
 -- ---- an equation step
 -- an equation without an unknown: the same state, to be cleaned
-nothing_falls : (s : State) (e : Row) (rest : List Row) → Before s → s.is_clean ≡ true → s.matrix.equations ≡ e ∷ rest → present s.matrix.unknown e ≡ [] → Falls s (record { matrix = s.matrix; tuples = s.tuples; is_clean = false })
+nothing_falls : (s : State) (e : Row) (rest : List Row) → Before s → s.is_past_clean ≡ true → s.system.equations ≡ e ∷ rest → present s.system.unknown e ≡ [] → Falls s (record { system = s.system; tuples = s.tuples; is_past_clean = false })
 nothing_falls s e rest b c q p =
     let rise = subst (λ rows. EachRow (Rises 0) rows) q b.ready.formed.zero_rise in
-    let z : stuck s.matrix.unknown s.matrix.equations ≡ 2 = subst (λ rows. stuck s.matrix.unknown rows ≡ 2) (sym q) (empty_stuck s.matrix.unknown e rest rise.0 p) in
-    let i : need s.is_clean s.matrix.unknown s.matrix.equations ≡ 2 = rw c z in
+    let z : stuck s.system.unknown s.system.equations ≡ 2 = subst (λ rows. stuck s.system.unknown rows ≡ 2) (sym q) (empty_stuck s.system.unknown e rest rise.0 p) in
+    let i : need s.is_past_clean s.system.unknown s.system.equations ≡ 2 = rw c z in
     record {
       ready = b.ready;
       some = b.some;
       few = b.few;
-      less = by_need s.tuples (length s.matrix.unknown) (length s.matrix.equations) (held s.matrix.unknown s.matrix.equations) (need s.is_clean s.matrix.unknown s.matrix.equations) 1 (omega arith);
+      less = by_need s.tuples (length s.system.unknown) (length s.system.equations) (held s.system.unknown s.system.equations) (need s.is_past_clean s.system.unknown s.system.equations) 1 (omega arith);
     }
 
 length-map_rows : (f : Row → Row) (rows : List Row) → length (map f rows) ≡ length rows
 length-map_rows f [] = refl
 length-map_rows f (r ∷ rows) = ap suc (length-map_rows f rows)
 
-last_lengths : (m : Matrix) (e : Row) (rest : List Row) (u : ℕ) → (length (last m e rest u).matrix.equations ≡ length rest) × (length (last m e rest u).matrix.unknown ≤ length m.unknown)
+last_lengths : (m : System) (e : Row) (rest : List Row) (u : ℕ) → (length (last m e rest u).system.equations ≡ length rest) × (length (last m e rest u).system.unknown ≤ length m.unknown)
 unfolding last
 last_lengths m e rest u = (length-map_rows _ rest, filter_short (λ w. not (w == u)) m.unknown)
 
-last_falls : (s : State) (e : Row) (rest : List Row) (u : ℕ) → Before s → s.matrix.equations ≡ e ∷ rest → present s.matrix.unknown e ≡ u ∷ [] → first_count limits (last s.matrix e rest u).matrix ≡ None →
-    Falls s (record { matrix = (last s.matrix e rest u).matrix; tuples = s.tuples; is_clean = false })
+last_falls : (s : State) (e : Row) (rest : List Row) (u : ℕ) → Before s → s.system.equations ≡ e ∷ rest → present s.system.unknown e ≡ u ∷ [] → first_count limits (last s.system e rest u).system ≡ None →
+    Falls s (record { system = (last s.system e rest u).system; tuples = s.tuples; is_past_clean = false })
 last_falls s e rest u b q p n =
     let f = b.ready.formed in
     let rise = subst (λ rows. EachRow (Rises 0) rows) q f.zero_rise in
-    let over = subst (λ rows. EachRow (Over (IsColumn s.matrix)) rows) q f.zero in
-    let m = (last s.matrix e rest u).matrix in
+    let over = subst (λ rows. EachRow (Over (IsColumn s.system)) rows) q f.zero in
+    let m = (last s.system e rest u).system in
     let k = counts_few m n in
-    let l = last_lengths s.matrix e rest u in
-    let i : length s.matrix.equations ≡ suc (length rest) = ap length q in
+    let l = last_lengths s.system e rest u in
+    let i : length s.system.equations ≡ suc (length rest) = ap length q in
     record {
-      ready = record { formed = last_formed s.matrix e rest u f q (only_unknown s.matrix e u over.0 rise.0 p); differ = last_differs s.matrix e rest u b.ready.differ };
+      ready = record { formed = last_formed s.system e rest u f q (only_unknown s.system e u over.0 rise.0 p); differ = last_differs s.system e rest u b.ready.differ };
       some = b.some;
       few = b.few;
-      less = by_equation s.tuples (length s.matrix.unknown) (length s.matrix.equations) (held s.matrix.unknown s.matrix.equations) (need s.is_clean s.matrix.unknown s.matrix.equations)
+      less = by_equation s.tuples (length s.system.unknown) (length s.system.equations) (held s.system.unknown s.system.equations) (need s.is_past_clean s.system.unknown s.system.equations)
           (length m.unknown) (length m.equations) (held m.unknown m.equations) 1 l.1 (omega (arith, l.0)) k.1 (held_few m.unknown m.equations) (omega arith);
     }
 
@@ -369,137 +369,137 @@ length-replaced : (x y : ℕ) (us : List ℕ) → length (replaced x y us) ≡ l
 length-replaced x y [] = refl
 length-replaced x y (u ∷ us) = ap suc (length-replaced x y us)
 
-merge_lengths : (m : Matrix) (e : Row) (x y : ℕ) → (length (merge m e x y).matrix.unknown ≡ length m.unknown) × (length (merge m e x y).matrix.equations ≡ length m.equations)
+merge_lengths : (m : System) (e : Row) (x y : ℕ) → (length (merge m e x y).system.unknown ≡ length m.unknown) × (length (merge m e x y).system.equations ≡ length m.equations)
 unfolding merge mix
 merge_lengths m e x y = (rw (length-replaced, length-replaced) refl, rw (length-map_rows, length-map_rows) refl)
 
-merge_ready : (m : Matrix) (e : Row) (x y : ℕ) → IsReady m → In x m.unknown → In y m.unknown → x ≢ y → IsReady (merge m e x y).matrix
+merge_ready : (m : System) (e : Row) (x y : ℕ) → IsReady m → In x m.unknown → In y m.unknown → x ≢ y → IsReady (merge m e x y).system
 unfolding merge
 merge_ready m e x y r ix iy n = record { formed = mix_formed m x y _ _ _ _ r.formed ix iy n; differ = mix_differs m x y _ _ _ _ r.formed r.differ }
 
-merge_falls : (s : State) (e : Row) (rest : List Row) (x y : ℕ) (us : List ℕ) → Before s → s.matrix.equations ≡ e ∷ rest → present s.matrix.unknown e ≡ x ∷ y ∷ us →
-    Falls s (record { matrix = (merge s.matrix e x y).matrix; tuples = s.tuples; is_clean = true })
+merge_falls : (s : State) (e : Row) (rest : List Row) (x y : ℕ) (us : List ℕ) → Before s → s.system.equations ≡ e ∷ rest → present s.system.unknown e ≡ x ∷ y ∷ us →
+    Falls s (record { system = (merge s.system e x y).system; tuples = s.tuples; is_past_clean = true })
 merge_falls s e rest x y us b q p =
     let f = b.ready.formed in
-    let over = subst (λ rows. EachRow (Over (IsColumn s.matrix)) rows) q f.zero in
-    let low = Over-weaker (IsColumn s.matrix) (λ c. c < s.matrix.next) (column_below s.matrix f) e over.0 in
-    let ix = In-present x s.matrix.unknown e (subst (λ xs. In x xs) (sym p) (inl refl)) in
-    let iy = In-present y s.matrix.unknown e (subst (λ xs. In y xs) (sym p) (inr (inl refl))) in
-    let d : Differ (x ∷ y ∷ us) = subst Differ p (Differ-filter _ s.matrix.unknown b.ready.differ) in
+    let over = subst (λ rows. EachRow (Over (IsColumn s.system)) rows) q f.zero in
+    let low = Over-weaker (IsColumn s.system) (λ c. c < s.system.next) (column_below s.system f) e over.0 in
+    let ix = In-present x s.system.unknown e (subst (λ xs. In x xs) (sym p) (inl refl)) in
+    let iy = In-present y s.system.unknown e (subst (λ xs. In y xs) (sym p) (inr (inl refl))) in
+    let d : Differ (x ∷ y ∷ us) = subst Differ p (Differ-filter _ s.system.unknown b.ready.differ) in
     let n : x ≢ y = λ i. d.0 (inl i) in
-    let m = (merge s.matrix e x y).matrix in
-    let l = merge_lengths s.matrix e x y in
-    let h = merge_held s.matrix e rest x y f q low ix.0 iy.0 n ix.1 iy.1 in
-    let i : held s.matrix.unknown s.matrix.equations ≡ length (present s.matrix.unknown e) = rw q refl in
+    let m = (merge s.system e x y).system in
+    let l = merge_lengths s.system e x y in
+    let h = merge_held s.system e rest x y f q low ix.0 iy.0 n ix.1 iy.1 in
+    let i : held s.system.unknown s.system.equations ≡ length (present s.system.unknown e) = rw q refl in
     record {
-      ready = merge_ready s.matrix e x y b.ready ix.0 iy.0 n;
+      ready = merge_ready s.system e x y b.ready ix.0 iy.0 n;
       some = b.some;
       few = b.few;
-      less = by_held s.tuples (length s.matrix.unknown) (length s.matrix.equations) (held s.matrix.unknown s.matrix.equations) (need s.is_clean s.matrix.unknown s.matrix.equations)
+      less = by_held s.tuples (length s.system.unknown) (length s.system.equations) (held s.system.unknown s.system.equations) (need s.is_past_clean s.system.unknown s.system.equations)
           (length m.unknown) (length m.equations) (held m.unknown m.equations) (stuck m.unknown m.equations) l.0 l.1 (subst (λ k. held m.unknown m.equations < k) (sym i) h) (stuck_few m.unknown m.equations);
     }
 
-equation_falls : (s t : State) (a : Taken) (e : Row) (rest : List Row) (us : List ℕ) → Before s → s.is_clean ≡ true → s.matrix.equations ≡ e ∷ rest → present s.matrix.unknown e ≡ us → equation_stage limits s e rest us ≡ goes t a → Falls s t
+equation_falls : (s t : State) (a : Taken) (e : Row) (rest : List Row) (us : List ℕ) → Before s → s.is_past_clean ≡ true → s.system.equations ≡ e ∷ rest → present s.system.unknown e ≡ us → equation_stage limits s e rest us ≡ goes t a → Falls s t
 unfolding equation_stage
 equation_falls s t a e rest [] b c q p g = falls_at s _ t _ a g (nothing_falls s e rest b c q p)
 equation_falls s t a e rest (u ∷ []) b c q p g =
-    let x = count_passed (first_count limits (last s.matrix e rest u).matrix) _ t a g in
+    let x = count_passed (first_count limits (last s.system e rest u).system) _ t a g in
     falls_at s _ t _ a (not_refused _ Past _ t a x.1).1 (last_falls s e rest u b q p x.0)
 equation_falls s t a e rest (u ∷ w ∷ us) b c q p g =
-    let x = count_passed (first_count limits (merge s.matrix e u w).matrix) _ t a g in
+    let x = count_passed (first_count limits (merge s.system e u w).system) _ t a g in
     falls_at s _ t _ a (not_refused _ Past _ t a x.1).1 (merge_falls s e rest u w us b q p)
 
 -- ---- a Bound step
-tuples_pick : (m : Matrix) (x : ℕ) (us : List ℕ) (n : ℕ) → n ≤ 2 ^ 64 - 1 →
+tuples_pick : (m : System) (x : ℕ) (us : List ℕ) (n : ℕ) → n ≤ 2 ^ 64 - 1 →
     fold times_bound n (searched_by m (pick m.inequalities x us)).bounds ≡ min (n * (pick m.inequalities x us).product) (2 ^ 64 - 1)
 tuples_pick m x us n l = pick_is (λ c. fold times_bound n (searched_by m c).bounds ≡ min (n * c.product) (2 ^ 64 - 1)) m.inequalities x us (λ u i. tuples_are m u n l)
 
-searched_ready : (m : Matrix) (c : Choice) → IsReady m → In c.unknown m.unknown → m.equations ≡ [] → IsReady (searched_by m c).matrix × IsFree c.unknown (searched_by m c).matrix.equations
+searched_ready : (m : System) (c : Pick) → IsReady m → In c.unknown m.unknown → m.equations ≡ [] → IsReady (searched_by m c).system × IsFree c.unknown (searched_by m c).system.equations
 unfolding searched_by
 searched_ready m c r i q =
     let free : IsFree c.unknown m.equations = subst (λ rows. IsFree c.unknown rows) (sym q) tt in
-    let plain : Answer = record { matrix = m; moves = []; back = []; bounds = [] } in
-    cond_both (nat_lt 1 c.product) (searched m c.unknown c.lower) plain (λ (a : Answer). IsReady a.matrix × IsFree c.unknown a.matrix.equations)
+    let plain : Answer = record { system = m; steps = []; back = []; bounds = [] } in
+    cond_both (nat_lt 1 c.product) (searched m c.unknown c.lower) plain (λ (a : Answer). IsReady a.system × IsFree c.unknown a.system.equations)
     (λ _. (record { formed = searched_formed m c.unknown c.lower r.formed i; differ = searched_differs m c.unknown c.lower r.formed r.differ }, searched_free m c.unknown c.lower r.formed i free))
     (λ _. (r, free))
 
-dropped_differ : (m : Matrix) (x : ℕ) → Differ m.unknown → Differ (dropped m x).matrix.unknown
+dropped_differ : (m : System) (x : ℕ) → Differ m.unknown → Differ (dropped m x).system.unknown
 unfolding dropped
 dropped_differ m x d = Differ-filter (λ w. not (w == x)) m.unknown d
 
-dropped_ready : (m : Matrix) (x : ℕ) → IsReady m → IsFree x m.equations → IsReady (dropped m x).matrix
+dropped_ready : (m : System) (x : ℕ) → IsReady m → IsFree x m.equations → IsReady (dropped m x).system
 dropped_ready m x r f = record { formed = dropped_formed m x r.formed f; differ = dropped_differ m x r.differ }
 
-bound_ready : (m : Matrix) (c : Choice) → IsReady m → In c.unknown m.unknown → m.equations ≡ [] → IsReady (bound m c).matrix
+bound_ready : (m : System) (c : Pick) → IsReady m → In c.unknown m.unknown → m.equations ≡ [] → IsReady (bound m c).system
 unfolding bound
-bound_ready m c r i q = let h = searched_ready m c r i q in dropped_ready (searched_by m c).matrix c.unknown h.0 h.1
+bound_ready m c r i q = let h = searched_ready m c r i q in dropped_ready (searched_by m c).system c.unknown h.0 h.1
 
-dropped_short : (m : Matrix) (x : ℕ) → In x m.unknown → length (dropped m x).matrix.unknown < length m.unknown
+dropped_short : (m : System) (x : ℕ) → In x m.unknown → length (dropped m x).system.unknown < length m.unknown
 unfolding dropped
 dropped_short m x i = filter_gone x m.unknown i
 
-plain_short : (m : Matrix) (c : Choice) → In c.unknown m.unknown → c.product ≤ 1 → length (bound m c).matrix.unknown < length m.unknown
+plain_short : (m : System) (c : Pick) → In c.unknown m.unknown → c.product ≤ 1 → length (bound m c).system.unknown < length m.unknown
 unfolding bound
 plain_short m c i l = rw (plain_search m c l) (dropped_short m c.unknown i)
 
-plain_tuples : (m : Matrix) (c : Choice) (n : ℕ) → c.product ≤ 1 → fold times_bound n (searched_by m c).bounds ≡ n
+plain_tuples : (m : System) (c : Pick) (n : ℕ) → c.product ≤ 1 → fold times_bound n (searched_by m c).bounds ≡ n
 plain_tuples m c n l = rw (plain_search m c l) refl
 
 -- a search at least doubles the tuples
 doubled : (n p : ℕ) → 1 < p → min (n * p) (2 ^ 64 - 1) ≤ 1048576 → 2 * n ≤ min (n * p) (2 ^ 64 - 1)
 doubled n p h l = let k = mul-le n 2 n p (omega arith) h in omega arith
 
-bound_less : (s : State) (c : Choice) (n : ℕ) → Before s → In c.unknown s.matrix.unknown → n ≡ fold times_bound s.tuples (searched_by s.matrix c).bounds → n ≡ min (s.tuples * c.product) (2 ^ 64 - 1) → n ≤ 1048576 →
-    first_count limits (bound s.matrix c).matrix ≡ None → (1 ≤ n) × (height (record { matrix = (bound s.matrix c).matrix; tuples = n; is_clean = false }) < height s)
+bound_less : (s : State) (c : Pick) (n : ℕ) → Before s → In c.unknown s.system.unknown → n ≡ fold times_bound s.tuples (searched_by s.system c).bounds → n ≡ min (s.tuples * c.product) (2 ^ 64 - 1) → n ≤ 1048576 →
+    first_count limits (bound s.system c).system ≡ None → (1 ≤ n) × (height (record { system = (bound s.system c).system; tuples = n; is_past_clean = false }) < height s)
 bound_less s c n b i t d l k =
-    let m = (bound s.matrix c).matrix in
+    let m = (bound s.system c).system in
     let few = counts_few m k in
     let p = b.some in
     on_bool (nat_lt 1 c.product)
     (λ g.
     let two : 2 * s.tuples ≤ n = subst (λ z. 2 * s.tuples ≤ z) (sym d) (doubled s.tuples c.product (ltb-true 1 c.product g) (subst (λ z. z ≤ 1048576) d l)) in (
       omega arith,
-      by_search s.tuples (length s.matrix.unknown) (length s.matrix.equations) (held s.matrix.unknown s.matrix.equations) (need s.is_clean s.matrix.unknown s.matrix.equations)
+      by_search s.tuples (length s.system.unknown) (length s.system.equations) (held s.system.unknown s.system.equations) (need s.is_past_clean s.system.unknown s.system.equations)
           n (length m.unknown) (length m.equations) (held m.unknown m.equations) 1 p two l few.1 few.0 (held_few m.unknown m.equations) (omega arith),
     ))
     (λ g.
     let one = ltb-false 1 c.product g in
-    let same : n ≡ s.tuples = t ∙ plain_tuples s.matrix c s.tuples one in (
+    let same : n ≡ s.tuples = t ∙ plain_tuples s.system c s.tuples one in (
       omega arith,
-      by_unknown s.tuples (length s.matrix.unknown) (length s.matrix.equations) (held s.matrix.unknown s.matrix.equations) (need s.is_clean s.matrix.unknown s.matrix.equations)
-          n (length m.unknown) (length m.equations) (held m.unknown m.equations) 1 same (plain_short s.matrix c i one) few.1 few.0 (held_few m.unknown m.equations) (omega arith),
+      by_unknown s.tuples (length s.system.unknown) (length s.system.equations) (held s.system.unknown s.system.equations) (need s.is_past_clean s.system.unknown s.system.equations)
+          n (length m.unknown) (length m.equations) (held m.unknown m.equations) 1 same (plain_short s.system c i one) few.1 few.0 (held_few m.unknown m.equations) (omega arith),
     ))
 
-bound_falls : (s t : State) (a : Taken) (c : Choice) → Before s → In c.unknown s.matrix.unknown → s.matrix.equations ≡ [] → fold times_bound s.tuples (searched_by s.matrix c).bounds ≡ min (s.tuples * c.product) (2 ^ 64 - 1) →
+bound_falls : (s t : State) (a : Taken) (c : Pick) → Before s → In c.unknown s.system.unknown → s.system.equations ≡ [] → fold times_bound s.tuples (searched_by s.system c).bounds ≡ min (s.tuples * c.product) (2 ^ 64 - 1) →
     bound_stage limits s c ≡ goes t a → Falls s t
 unfolding bound_stage
 bound_falls s t a c b i q d g =
-    let n = fold times_bound s.tuples (searched_by s.matrix c).bounds in
+    let n = fold times_bound s.tuples (searched_by s.system c).bounds in
     let x = not_refused (nat_lt 1048576 n) (Limit Search n) _ t a g in
-    let y = count_passed (first_count limits (bound s.matrix c).matrix) _ t a x.1 in
+    let y = count_passed (first_count limits (bound s.system c).system) _ t a x.1 in
     let l = ltb-false 1048576 n x.0 in
     let h = bound_less s c n b i refl d l y.0 in
-    falls_at s _ t _ a (not_refused _ Past _ t a y.1).1 (record { ready = bound_ready s.matrix c b.ready i q; some = h.0; few = l; less = h.1 })
+    falls_at s _ t _ a (not_refused _ Past _ t a y.1).1 (record { ready = bound_ready s.system c b.ready i q; some = h.0; few = l; less = h.1 })
 
-unknown_falls : (s t : State) (a : Taken) (us : List ℕ) → Before s → s.matrix.equations ≡ [] → ((c : ℕ) → In c us → In c s.matrix.unknown) → unknown_stage limits s us ≡ goes t a → Falls s t
+unknown_falls : (s t : State) (a : Taken) (us : List ℕ) → Before s → s.system.equations ≡ [] → ((c : ℕ) → In c us → In c s.system.unknown) → unknown_stage limits s us ≡ goes t a → Falls s t
 unfolding unknown_stage
 unknown_falls s t a [] b q i g = cc
 unknown_falls s t a (x ∷ us) b q i g =
-    let c = pick s.matrix.inequalities x us in
+    let c = pick s.system.inequalities x us in
     let few = b.few in
-    bound_falls s t a c b (i c.unknown (pick_in s.matrix.inequalities x us)) q (tuples_pick s.matrix x us s.tuples (omega arith)) g
+    bound_falls s t a c b (i c.unknown (pick_in s.system.inequalities x us)) q (tuples_pick s.system x us s.tuples (omega arith)) g
 
 -- ---- one stage
-row_falls : (s t : State) (a : Taken) (rows : List Row) → Before s → s.is_clean ≡ true → s.matrix.equations ≡ rows → row_stage limits s rows ≡ goes t a → Falls s t
+row_falls : (s t : State) (a : Taken) (rows : List Row) → Before s → s.is_past_clean ≡ true → s.system.equations ≡ rows → row_stage limits s rows ≡ goes t a → Falls s t
 unfolding row_stage
-row_falls s t a [] b c q g = unknown_falls s t a s.matrix.unknown b q (λ w i. i) g
-row_falls s t a (e ∷ rest) b c q g = equation_falls s t a e rest (present s.matrix.unknown e) b c q refl g
+row_falls s t a [] b c q g = unknown_falls s t a s.system.unknown b q (λ w i. i) g
+row_falls s t a (e ∷ rest) b c q g = equation_falls s t a e rest (present s.system.unknown e) b c q refl g
 
 stage_falls : (s t : State) (a : Taken) → Before s → stage limits s ≡ goes t a → Falls s t
 unfolding stage
 stage_falls s t a b g = ⊎_elim
-    (λ p. row_falls s t a s.matrix.equations b p.0 refl p.1)
-    (λ p. clean_falls s t a b p.0 p.1) (one_of s.is_clean (row_stage limits s s.matrix.equations) (clean_stage limits s) t a g)
+    (λ p. row_falls s t a s.system.equations b p.0 refl p.1)
+    (λ p. clean_falls s t a b p.0 p.1) (one_of s.is_past_clean (row_stage limits s s.system.equations) (clean_stage limits s) t a g)
 
 -- ---- the trace
 -- a trace of at most n steps
@@ -520,32 +520,32 @@ ended_from : (n : ℕ) (s : State) → Before s → height s < n → Ended n s
 ended_from zero s b h = absurd (omega arith)
 ended_from (suc n) s b h = ended_next n s b (λ t c l. ended_from n t c (omega arith))
 
--- a matrix whose first count passes its limit ends at once
-first_refused : (m : Matrix) (r : Refusal) → first_count limits m ≡ Some r → stage limits (first_state m) ≡ ends (refused r)
+-- a system whose first count passes its limit ends at once
+first_refused : (m : System) (r : Refusal) → first_count limits m ≡ Some r → stage limits (first_state m) ≡ ends (refused r)
 unfolding stage clean_stage
 first_refused m r e = rw e refl
 
-ended_first : (m : Matrix) → IsReady m → (o : Option Refusal) → first_count limits m ≡ o → Ended (2 ^ 63) (first_state m)
+ended_first : (m : System) → IsReady m → (o : Option Refusal) → first_count limits m ≡ o → Ended (2 ^ 63) (first_state m)
 ended_first m r (Some q) e = ([], refused q, stop (first_refused m q e), omega arith)
 ended_first m r None e =
     let k = counts_few m e in
     let l = measure_few 1 (length m.unknown) (length m.equations) (held m.unknown m.equations) 1 k.1 k.0 (held_few m.unknown m.equations) (omega arith) in
     ended_from (2 ^ 63) (first_state m) (record { ready = r; some = omega arith; few = omega arith }) l
 
--- the elimination of a matrix comes to an end in fewer than 2^64 steps
-pub trace_ends : (m : Matrix) → IsReady m → (taken : List Taken) × (e : End) × Trace limits (first_state m) taken e × (length taken < 2 ^ 64)
+-- the elimination of a system comes to an end in fewer than 2^64 steps
+pub trace_ends : (m : System) → IsReady m → (taken : List Taken) × (e : End) × Trace limits (first_state m) taken e × (length taken < 2 ^ 64)
 trace_ends m r = let h = ended_first m r (first_count limits m) refl in (h.0, h.1, h.2, let k = h.3 in omega arith)
 
 -- its run is that trace
-run_both : (m : Matrix) → IsReady m → Trace limits (first_state m) (run limits m).taken (run limits m).end × (length (run limits m).taken < 2 ^ 64)
+run_both : (m : System) → IsReady m → Trace limits (first_state m) (run limits m).taken (run limits m).end × (length (run limits m).taken < 2 ^ 64)
 unfolding run
 run_both m r =
     let h = trace_ends m r in
     let e = run-trace h.2 (2 ^ 64) h.3 in
     subst (λ (x : Run). Trace limits (first_state m) x.taken x.end × (length x.taken < 2 ^ 64)) (sym e) (h.2, h.3)
 
-pub run_is_trace : (m : Matrix) → IsReady m → Trace limits (first_state m) (run limits m).taken (run limits m).end
+pub run_is_trace : (m : System) → IsReady m → Trace limits (first_state m) (run limits m).taken (run limits m).end
 run_is_trace m r = (run_both m r).0
 
-pub run_is_short : (m : Matrix) → IsReady m → length (run limits m).taken < 2 ^ 64
+pub run_is_short : (m : System) → IsReady m → length (run limits m).taken < 2 ^ 64
 run_is_short m r = (run_both m r).1

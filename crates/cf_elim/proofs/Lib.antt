@@ -7,4 +7,4 @@ pub mod SearchLaws
 pub mod StageLaws
 pub mod StepReturns
 pub mod TupleLaws
-pub mod TurnLaws
+pub mod NextStageLaws

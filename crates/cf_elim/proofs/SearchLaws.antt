@@ -2,16 +2,16 @@
 use Rattle.std.proofs.Common.{◌≡◌, ℕ, zero, suc, ◌*◌, ◌-◌, ◌<◌, ◌≤◌, ◌^◌, List, [], ◌∷◌, ◌++◌, ◌⊎◌, inl, inr, All, map, min, subst, arith, Bool, true, false, ◌&&◌, refl}
 use Rattle.std.specs.Prelude.{unsigned_abs, nat_lt}
 use Rattle.std.specs.List.{fold}
-use Rattle.std.proofs.Math.Nat.{mul-suc}
+use Rattle.std.proofs.Math.Nat.{mul-pos, mul-suc}
 use Rattle.std.proofs.lemmas.Bool.{cond_both, ltb-true}
 use Rattle.std.proofs.lemmas.List.{append-nil}
 use Rattle.std.proofs.lemmas.List.Elements.{All-nil, All-cons, All-head, All-tail}
 use Rattle.cf_tree.specs.Meaning.{count_below}
 use Rattle.cf_tree.specs.Typing.{AreBounds}
 use Rattle.cf_linear.specs.Rows.{Row, entry}
-use Rattle.cf_linear.specs.Matrices.{Matrix, Answer}
+use Rattle.cf_linear.specs.Systems.{System, Answer}
 use Rattle.cf_linear.specs.Stages.{times_bound}
-use Rattle.cf_linear.specs.Steps.{searches, Found, found_row, found_all, no_found, searched, searched_by, Choice, dropped, bound}
+use Rattle.cf_linear.specs.Steps.{searches, Found, found_row, found_all, no_found, searched, searched_by, Pick, dropped, bound}
 use Rattle.cf_linear.proofs.BoolLemmas.{on_bool}
 
 abbrev pub IsSome : ℕ → Type 0
@@ -33,15 +33,12 @@ times_some : (m n : ℕ) → 1 ≤ n → m ≤ m * n
 times_some m zero h = absurd (omega arith)
 times_some m (suc n) h = let s = mul-suc m n in omega arith
 
-product_some : (m n : ℕ) → 1 ≤ m → 1 ≤ n → 1 ≤ m * n
-product_some m n h k = let s = times_some m n k in omega arith
-
 mul_assoc : (a b c : ℕ) → a * b * c ≡ a * (b * c)
 mul_assoc a b c = grind arith
 
-count_some : (bs : List ℕ) → All (λ b. 1 ≤ b) bs → 1 ≤ count_below bs
+pub count_some : (bs : List ℕ) → All IsSome bs → 1 ≤ count_below bs
 count_some [] h = omega arith
-count_some (b ∷ bs) h = product_some b (count_below bs) (All-head IsSome b bs h) (count_some bs (All-tail IsSome b bs h))
+count_some (b ∷ bs) h = mul-pos (All-head IsSome b bs h) (count_some bs (All-tail IsSome b bs h))
 
 -- a product of bounds that stops at 2^64 - 1 and is small did not stop
 pub product_few : (limit : ℕ) → limit < 2 ^ 64 - 1 → (bs : List (ℕ × ℕ)) (n : ℕ) → 1 ≤ n → All IsSome (bounds_of bs) → fold times_bound n bs ≤ limit → n * count_below (bounds_of bs) ≤ limit
@@ -52,7 +49,7 @@ product_few limit small ((k, p) ∷ bs) n some h l =
     let c = count_some (bounds_of bs) rest in
     elim (least_of (n * p) (2 ^ 64 - 1)) as (λ _. n * (p * count_below (bounds_of bs)) ≤ limit) [
       | inl e ↦
-          let again = product_few limit small bs (n * p) (product_some n p some q) rest (subst (λ m. fold times_bound m bs ≤ limit) e l) in
+          let again = product_few limit small bs (n * p) (mul-pos some q) rest (subst (λ m. fold times_bound m bs ≤ limit) e l) in
           rw (← mul_assoc n p (count_below (bounds_of bs))) again
       | inr e ↦
           let again = product_few limit small bs (2 ^ 64 - 1) (omega arith) rest (subst (λ m. fold times_bound m bs ≤ limit) e.0 l) in
@@ -81,16 +78,16 @@ found_some x lower (r ∷ rows) s h = found_some x lower rows (found_row x lower
     (λ e. rw e (some_then s.bounds ((s.next, unsigned_abs (entry r x)) ∷ []) h (All-cons IsSome (unsigned_abs (entry r x)) [] (searches_some x lower r e) (All-nil IsSome))))
     (λ e. rw e h))
 
-searched_some : (m : Matrix) (x : ℕ) (lower : Bool) → All IsSome (bounds_of (searched m x lower).bounds)
+searched_some : (m : System) (x : ℕ) (lower : Bool) → All IsSome (bounds_of (searched m x lower).bounds)
 unfolding searched
 searched_some m x lower = found_some x lower m.inequalities (no_found m) (All-nil IsSome)
 
-pub search_some : (m : Matrix) (c : Choice) → All IsSome (bounds_of (searched_by m c).bounds)
+pub search_some : (m : System) (c : Pick) → All IsSome (bounds_of (searched_by m c).bounds)
 unfolding searched_by
 search_some m c =
-    cond_both (nat_lt 1 c.product) (searched m c.unknown c.lower) (record { matrix = m; moves = []; back = []; bounds = [] }) (λ (a : Answer). All IsSome (bounds_of a.bounds)) (λ _. searched_some m c.unknown c.lower) (λ _. All-nil IsSome)
+    cond_both (nat_lt 1 c.product) (searched m c.unknown c.lower) (record { system = m; steps = []; back = []; bounds = [] }) (λ (a : Answer). All IsSome (bounds_of a.bounds)) (λ _. searched_some m c.unknown c.lower) (λ _. All-nil IsSome)
 
 -- a Bound step has the bounds of its search
-pub bound_bounds : (m : Matrix) (c : Choice) → (bound m c).bounds ≡ (searched_by m c).bounds
+pub bound_bounds : (m : System) (c : Pick) → (bound m c).bounds ≡ (searched_by m c).bounds
 unfolding bound dropped
 bound_bounds m c = append-nil (searched_by m c).bounds

@@ -6,8 +6,8 @@ use Rattle.std.proofs.Math.Nat.{mul-le-mul_left}
 use Rattle.std.proofs.lemmas.List.Sums.{fold_push}
 use Rattle.std.proofs.lemmas.Bool.{ltb-true, ltb-false, lt-ltb, leb-true, leb-false, cases_lt}
 use Rattle.cf_linear.specs.Rows.{Row, entry}
-use Rattle.cf_linear.specs.Matrices.{Matrix, EachRow}
-use Rattle.cf_linear.specs.Steps.{is_positive, lowers, uppers, choice_at, product_of, has_greater, searches, searched, searched_by, Found, found_row, found_all, no_found}
+use Rattle.cf_linear.specs.Systems.{System, EachRow}
+use Rattle.cf_linear.specs.Steps.{is_positive, lowers, uppers, pick_at, product_of, has_greater, searches, searched, searched_by, Found, found_row, found_all, no_found}
 use Rattle.cf_linear.specs.Stages.{times_bound}
 use Rattle.cf_linear.proofs.BoolLemmas.{on_bool}
 use Rattle.cf_linear.proofs.KindLemmas.{EachRow-tested}
@@ -122,16 +122,16 @@ found_product t x lower (r ∷ rows) s =
 
 -- the product of the picked side
 side_is : (x : ℕ) (rows : List Row) → has_greater x (lowers x rows) && has_greater x (uppers x rows) ≡ true →
-    fold (times_entry x) 1 (filter (on_side x (choice_at rows x).lower) rows) ≡ (choice_at rows x).product
+    fold (times_entry x) 1 (filter (on_side x (pick_at rows x).lower) rows) ≡ (pick_at rows x).product
 side_is x rows t = rw t (on_bool (nat_le (product_of x (lowers x rows)) (product_of x (uppers x rows)))
     (λ l. let h = leb-true (product_of x (lowers x rows)) (product_of x (uppers x rows)) l in rw l (omega arith))
     (λ l. let h = leb-false (product_of x (lowers x rows)) (product_of x (uppers x rows)) l in rw l (omega arith)))
 
-pub tuples_are : (m : Matrix) (x t : ℕ) → t ≤ top → fold times_bound t (searched_by m (choice_at m.inequalities x)).bounds ≡ min (t * (choice_at m.inequalities x).product) top
+pub tuples_are : (m : System) (x t : ℕ) → t ≤ top → fold times_bound t (searched_by m (pick_at m.inequalities x)).bounds ≡ min (t * (pick_at m.inequalities x).product) top
 unfolding searched_by searched
 tuples_are m x t h =
     let rows = m.inequalities in
-    let c = choice_at rows x in
+    let c = pick_at rows x in
     on_bool (has_greater x (lowers x rows) && has_greater x (uppers x rows))
     (λ b.
     let two = both_two x rows b in

@@ -2,5 +2,6 @@ pub mod Bounds
 pub mod Cases
 pub mod Eliminated
 pub mod Ends
+pub mod Laws
 pub mod Returning
-pub mod Turns
+pub mod Stages

@@ -4,49 +4,54 @@ ghost use Rattle.cf_linear.specs.Keep.{In, Formed};
 ghost use Rattle.cf_linear.specs.Rows.{is_zero};
 ghost use Rattle.cf_linear.specs.Stages.{unknown_stage, limits};
 ghost use Rattle.cf_linear.specs.Steps.{dropped, is_positive, lowers, uppers, free_of};
-ghost use Rattle.cf_linear.specs.Views.{matrix_of};
+ghost use Rattle.cf_linear.specs.Views.{system_of};
 ghost use Rattle.cf_bounds.specs.Exact.{IsFree, AreExact};
-ghost use Rattle.cf_bounds.specs.Picking.{choice_of};
-ghost use Rattle.cf_elim.specs.Turns.{TurnIs, IsReady, is_cleaned, CountsAre};
+ghost use Rattle.cf_bounds.specs.Picking.{pick_of};
+ghost use Rattle.cf_elim.specs.Stages.{StageIs, IsReady, past_clean, CountsAre};
 ghost use Rattle.cf_elim.specs.Bounds.{IsSearched, DropIs, GoesDropped, SearchedIs};
 
-use crate::counts::{Counts, others, sum, within};
+use crate::counts::{Counts, other_count, sum, within};
 use crate::fault::ElimFault;
-use crate::made::Made;
-use crate::turn::{Current, Turn};
+use crate::output::StepOutput;
+use crate::stage::{Stage, State};
 use cf_bounds::{Dropped, Pick, Searched, drop_output, remainder_step, select};
-use cf_linear::refusal::{LimitKind, Refusal, RowFault};
+use cf_linear::refusal::{LimitKind, MOST_TUPLES, Refusal, RowFault};
 use cf_linear::row::Row;
 use cf_linear::system::{Search, System};
 use cf_tree::memory::NoMemory;
 use std::alloc::Global;
 
-pub(crate) fn bound_turn(alloc: Global, system: System, tuples: u64) -> Result<Turn, ElimFault>
-    requires ready { IsReady (matrix_of system) }
+pub(crate) fn bound_stage(alloc: Global, system: System, tuples: u64) -> Result<Stage, ElimFault>
+    requires ready { IsReady (system_of system) }
     requires none { system.equations.items ≡ [] }
     requires some { 0 < length system.unknown.items }
-    ensures { TurnIs (is_cleaned (matrix_of system) tuples) (unknown_stage limits (is_cleaned (matrix_of system) tuples) system.unknown.items) result }
+    ensures { StageIs (past_clean (system_of system) tuples) (unknown_stage limits (past_clean (system_of system) tuples) system.unknown.items) result }
 {
     if system.inequalities.len() > u32::MAX as usize {
         return Err(ElimFault::NoMemory);
     }
     let pick = select(&system);
     let tuples = tuples.saturating_mul(pick.product);
-    if tuples > 1048576 {
+    if tuples > MOST_TUPLES {
         return Err(ElimFault::Refused(Refusal::Limit {
             kind: LimitKind::Search,
             number: tuples,
         }));
     }
     match searched_by(alloc, system, &pick) {
-        Ok(searched) => searched_turn(alloc, searched, pick.unknown, tuples),
+        Ok(searched) => searched_stage(alloc, searched, pick.unknown, tuples),
         Err(_) => Err(ElimFault::NoMemory),
     }
 }
 
 // The drop of x after its search.
-fn searched_turn(alloc: Global, searched: Searched, x: u32, tuples: u64) -> Result<Turn, ElimFault>
-    requires formed { Formed (matrix_of searched.system) }
+fn searched_stage(
+    alloc: Global,
+    searched: Searched,
+    x: u32,
+    tuples: u64,
+) -> Result<Stage, ElimFault>
+    requires formed { Formed (system_of searched.system) }
     requires unknown { In x searched.system.unknown.items }
     requires free { IsFree x searched.system.equations.items }
     requires exact { AreExact x searched.system.inequalities.items }
@@ -65,18 +70,18 @@ fn goes(
     bounds: Vec<Search>,
     dropped: Dropped,
     tuples: u64,
-) -> Result<Turn, ElimFault>
+) -> Result<Stage, ElimFault>
     ensures { GoesDropped bounds.items dropped tuples result }
 {
     let mut back = Vec::new(alloc);
     match back.push(dropped.back) {
-        Ok(()) => Ok(Turn::Goes(
-            Current {
+        Ok(()) => Ok(Stage::Goes(
+            State {
                 system: dropped.system,
                 tuples,
-                is_clean: false,
+                is_past_clean: false,
             },
-            Made {
+            StepOutput {
                 bounds,
                 steps: Vec::new(alloc),
                 back,
@@ -88,11 +93,11 @@ fn goes(
 
 // The search, where the picked product is above 1.
 fn searched_by(alloc: Global, system: System, pick: &Pick) -> Result<Searched, NoMemory>
-    requires ready { IsReady (matrix_of system) }
+    requires ready { IsReady (system_of system) }
     requires none { system.equations.items ≡ [] }
     requires unknown { In pick.now.unknown system.unknown.items }
     requires exact { pick.now.product ≤ 1 → AreExact pick.now.unknown system.inequalities.items }
-    ensures { IfOk result (λ s. IsSearched (matrix_of system) (choice_of pick.now) s) }
+    ensures { IfOk result (λ s. IsSearched (system_of system) (pick_of pick.now) s) }
 {
     if pick.product <= 1 {
         return Ok(Searched {
@@ -105,11 +110,11 @@ fn searched_by(alloc: Global, system: System, pick: &Pick) -> Result<Searched, N
 
 // The unknown x is dropped, once the counts that this leaves are within the limits.
 fn dropped_within(alloc: Global, system: System, x: u32) -> Result<Dropped, ElimFault>
-    requires formed { Formed (matrix_of system) }
+    requires formed { Formed (system_of system) }
     requires unknown { In x system.unknown.items }
     requires free { IsFree x system.equations.items }
     requires exact { AreExact x system.inequalities.items }
-    ensures { DropIs (matrix_of system) x result }
+    ensures { DropIs (system_of system) x result }
 {
     let counts = match counts_after(&system, x) {
         Some(counts) => counts,
@@ -128,7 +133,7 @@ fn dropped_within(alloc: Global, system: System, x: u32) -> Result<Dropped, Elim
 
 // The rows and columns that the drop of x leaves: each lower bound with each upper one makes a row.
 fn counts_after(system: &System, x: u32) -> Option<Counts>
-    ensures { IfSome result (λ c. CountsAre (dropped (matrix_of system.now) x).matrix c.rows c.columns) }
+    ensures { IfSome result (λ c. CountsAre (dropped (system_of system.now) x).system c.rows c.columns) }
 {
     let low = low_count(&system.inequalities, x) as u64;
     let high = high_count(&system.inequalities, x) as u64;
@@ -136,7 +141,7 @@ fn counts_after(system: &System, x: u32) -> Option<Counts>
     let pairs = low.checked_mul(high)?;
     let kept = sum(system.equations.len(), 0, system.needs)?.checked_add(free)?;
     let rows = kept.checked_add(pairs)?;
-    let columns = sum(system.known.len(), others(&system.unknown, x), 0)?;
+    let columns = sum(system.known.len(), other_count(&system.unknown, x), 0)?;
     Some(Counts { rows, columns })
 }
 

@@ -1,18 +1,18 @@
 //! A solved case of what all steps made.
 ghost use Rattle.std.specs.Prelude.{◌≡◌, reverse};
 
-use crate::made::Whole;
+use crate::output::RunOutput;
 use crate::solved::CaseParts;
 use cf_linear::system::System;
 
 // The system with what all steps made.
-pub(crate) fn parts_of(first: System, whole: Whole) -> CaseParts
+pub(crate) fn parts_of(first: System, whole: RunOutput) -> CaseParts
     ensures first { result.first ≡ first }
     ensures bounds { result.bounds.items ≡ whole.bounds.items }
     ensures steps { result.steps.items ≡ whole.steps.items }
     ensures back { result.back.items ≡ reverse whole.later.items }
 {
-    let Whole {
+    let RunOutput {
         bounds,
         steps,
         later,

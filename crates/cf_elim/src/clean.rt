@@ -1,43 +1,43 @@
 //! A Clean between counted systems.
 ghost use Rattle.cf_linear.specs.Stages.{clean_stage, limits};
-ghost use Rattle.cf_linear.specs.Views.{matrix_of};
-ghost use Rattle.cf_elim.specs.Turns.{TurnIs, IsReady, unclean};
+ghost use Rattle.cf_linear.specs.Views.{system_of};
+ghost use Rattle.cf_elim.specs.Stages.{StageIs, IsReady, before_clean};
 ghost use Rattle.cf_elim.specs.Ends.{CleanedIs};
 
-use crate::counts::counted;
+use crate::counts::within_counts;
 use crate::fault::ElimFault;
-use crate::made::Made;
-use crate::turn::{Current, Turn};
+use crate::output::StepOutput;
+use crate::stage::{Stage, State};
 use cf_bounds::{Cleaned, clean};
 use cf_linear::system::System;
 use std::alloc::Global;
 
-pub(crate) fn clean_turn(alloc: Global, system: System, tuples: u64) -> Result<Turn, ElimFault>
-    requires { IsReady (matrix_of system) }
-    ensures { TurnIs (unclean (matrix_of system) tuples) (clean_stage limits (unclean (matrix_of system) tuples)) result }
+pub(crate) fn clean_stage(alloc: Global, system: System, tuples: u64) -> Result<Stage, ElimFault>
+    requires { IsReady (system_of system) }
+    ensures { StageIs (before_clean (system_of system) tuples) (clean_stage limits (before_clean (system_of system) tuples)) result }
 {
-    match counted(&system) {
+    match within_counts(&system) {
         Ok(()) => {}
         Err(fault) => return Err(fault),
     }
     match clean(alloc, system) {
-        Ok(cleaned) => cleaned_turn(alloc, cleaned, tuples),
+        Ok(cleaned) => cleaned_stage(alloc, cleaned, tuples),
         Err(_) => Err(ElimFault::NoMemory),
     }
 }
 
 // On to the cleaned system, if its counts are within the limits.
-fn cleaned_turn(alloc: Global, cleaned: Cleaned, tuples: u64) -> Result<Turn, ElimFault>
+fn cleaned_stage(alloc: Global, cleaned: Cleaned, tuples: u64) -> Result<Stage, ElimFault>
     ensures { CleanedIs cleaned tuples result }
 {
-    match counted(&cleaned.system) {
-        Ok(()) => Ok(Turn::Goes(
-            Current {
+    match within_counts(&cleaned.system) {
+        Ok(()) => Ok(Stage::Goes(
+            State {
                 system: cleaned.system,
                 tuples,
-                is_clean: true,
+                is_past_clean: true,
             },
-            Made {
+            StepOutput {
                 bounds: Vec::new(alloc),
                 steps: cleaned.steps,
                 back: Vec::new(alloc),

@@ -1,11 +1,11 @@
 //! Rows and columns against their limits.
 ghost use Rattle.std.specs.Prelude.{◌≡◌, ◌+◌, ◌==◌, not, filter, length, IfSome};
 ghost use Rattle.cf_linear.specs.Stages.{first_count, limits};
-ghost use Rattle.cf_linear.specs.Views.{matrix_of};
-ghost use Rattle.cf_elim.specs.Turns.{count_refusal, CountIs};
+ghost use Rattle.cf_linear.specs.Views.{system_of};
+ghost use Rattle.cf_elim.specs.Stages.{count_refusal, CountIs};
 
 use crate::fault::ElimFault;
-use cf_linear::refusal::{LimitKind, Refusal};
+use cf_linear::refusal::{LimitKind, MOST_COLUMNS, MOST_ROWS, Refusal};
 use cf_linear::system::System;
 
 // How many rows and columns there are.
@@ -16,8 +16,8 @@ pub(crate) struct Counts {
 }
 
 // Whether the rows and the columns of the system are within the limits.
-pub(crate) fn counted(system: &System) -> Result<(), ElimFault>
-    ensures { CountIs (first_count limits (matrix_of system.now)) result }
+pub(crate) fn within_counts(system: &System) -> Result<(), ElimFault>
+    ensures { CountIs (first_count limits (system_of system.now)) result }
 {
     let rows = sum(
         system.equations.len(),
@@ -35,10 +35,10 @@ pub(crate) fn counted(system: &System) -> Result<(), ElimFault>
 pub(crate) fn within(rows: u64, columns: u64) -> Result<(), ElimFault>
     ensures { CountIs (count_refusal limits rows columns) result }
 {
-    if rows > 1000 {
+    if rows > MOST_ROWS {
         return Err(refused(LimitKind::Rows, rows));
     }
-    if columns > 1000 {
+    if columns > MOST_COLUMNS {
         return Err(refused(LimitKind::Columns, columns));
     }
     Ok(())
@@ -58,7 +58,7 @@ pub(crate) fn sum(a: usize, b: usize, c: u64) -> Option<u64>
 }
 
 // How many columns differ from u.
-pub(crate) fn others(columns: &[u32], u: u32) -> usize
+pub(crate) fn other_count(columns: &[u32], u: u32) -> usize
     ensures { result ≡ length (filter (λ w. not (w == u)) columns.now) }
 {
     let mut n = 0;

@@ -4,11 +4,11 @@
 mod bound;
 mod case;
 mod clean;
-mod copy;
 mod counts;
 pub mod eliminate;
 mod equation;
 pub mod fault;
-mod made;
+pub mod laws;
+mod output;
 pub mod solved;
-mod turn;
+mod stage;

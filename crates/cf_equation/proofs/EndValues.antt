@@ -4,25 +4,25 @@ use Rattle.std.proofs.lemmas.Int.{ints}
 use Rattle.std.proofs.lemmas.Bool.{eqb-true}
 use Rattle.cf_num.specs.Limit.{IsWithin}
 use Rattle.cf_linear.specs.Rows.{Row, entry, without, comb, sum_passes, comb_passes, IsRow}
-use Rattle.cf_linear.specs.Matrices.{Matrix, row_way}
+use Rattle.cf_linear.specs.Systems.{System, row_how}
 use Rattle.cf_linear.specs.Steps.{last, is_unit}
 use Rattle.cf_linear.proofs.PassingLemmas.{within_not, entry-within}
 use Rattle.cf_linear.proofs.Joining.{passes_nowhere}
-use Rattle.cf_linear.specs.Views.{move_of}
+use Rattle.cf_linear.specs.Views.{step_of}
 use Rattle.cf_equation.specs.declared.replace.Left.{Left}
 use Rattle.cf_equation.specs.declared.end.Solution.{Solution}
 use Rattle.cf_equation.specs.Equations.{first_of, rest_of}
 use Rattle.cf_equation.specs.Ending.{IsLeft, IsSolution}
 
-pub last_is : (m : Matrix) (u : ℕ) (s : Solution) (l : Left) → IsSolution m (entry (first_of m) u) (without u (first_of m)) s → IsLeft m u s.row l →
+pub last_is : (m : System) (u : ℕ) (s : Solution) (l : Left) → IsSolution m (entry (first_of m) u) (without u (first_of m)) s → IsLeft m u s.row l →
     last m (first_of m) (rest_of m) u ≡ record {
-      matrix = record { known = s.known.items; unknown = l.unknown.items; next = s.next; equations = l.equations.items; inequalities = l.inequalities.items; needs = s.needs };
-      moves = map move_of s.steps.items;
-      back = (u, row_way s.row) ∷ [];
+      system = record { known = s.known.items; unknown = l.unknown.items; next = s.next; equations = l.equations.items; inequalities = l.inequalities.items; needs = s.needs };
+      steps = map step_of s.steps.items;
+      back = (u, row_how s.row) ∷ [];
       bounds = [];
     }
 unfolding last
-last_is m u s l h k = rw (k.unknown, k.equations, k.inequalities, h.row, h.known, h.next, h.needs, h.moves) refl
+last_is m u s l h k = rw (k.unknown, k.equations, k.inequalities, h.row, h.known, h.next, h.needs, h.steps) refl
 
 -- a row times 1 or -1 passes no limit
 fine_sum : (k e : ℤ) → IsWithin (k *ℤ e) → IsWithin (k *ℤ e +ℤ pos 0 *ℤ pos 0) → sum_passes k e (pos 0) (pos 0) ≡ false
@@ -39,6 +39,6 @@ unit_sum (negsuc n) e u h =
 pub unit_fine : (c : ℤ) (r : Row) → is_unit c ≡ true → IsRow r → comb_passes (neg_ℤ c) r (pos 0) [] ≡ false
 unit_fine c r u h = passes_nowhere (neg_ℤ c) r (pos 0) [] (λ x. unit_sum c (entry r x) u (entry-within r 0 x h.0 h.1))
 
-pub unit_solution : (m : Matrix) (c : ℤ) (r : Row) (s : Solution) → is_unit c ≡ true → s.row ≡ comb (neg_ℤ c) r (pos 0) [] → s.known.items ≡ m.known → s.next ≡ m.next → s.needs ≡ m.needs →
-    map move_of s.steps.items ≡ [] → IsSolution m c r s
-unit_solution m c r s u a b n d e = record { row = rw u a; known = rw u b; next = rw u n; needs = rw u d; moves = rw u e }
+pub unit_solution : (m : System) (c : ℤ) (r : Row) (s : Solution) → is_unit c ≡ true → s.row ≡ comb (neg_ℤ c) r (pos 0) [] → s.known.items ≡ m.known → s.next ≡ m.next → s.needs ≡ m.needs →
+    map step_of s.steps.items ≡ [] → IsSolution m c r s
+unit_solution m c r s u a b n d e = record { row = rw u a; known = rw u b; next = rw u n; needs = rw u d; steps = rw u e }

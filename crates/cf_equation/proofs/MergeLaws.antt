@@ -7,9 +7,9 @@ use Rattle.std.proofs.lemmas.Bool.{cond_both, eqb-true, eqb-false}
 use Rattle.cf_num.specs.Parts.{parts_of}
 use Rattle.cf_num.proofs.Ring.{ring}
 use Rattle.cf_linear.specs.Rows.{Row, Values, entry, value, Rises}
-use Rattle.cf_linear.specs.Matrices.{Matrix}
+use Rattle.cf_linear.specs.Systems.{System, row_how}
 use Rattle.cf_linear.specs.Steps.{subst_all, one_at, two_at, replaced, mix, merge, factors_of}
-use Rattle.cf_linear.specs.Keep.{In, Over, Keeps, Formed, IsColumn, update}
+use Rattle.cf_linear.specs.Keep.{In, Over, Keeps, Reaches, Formed, IsColumn, update, after_back}
 use Rattle.cf_linear.specs.Solved.{Owes}
 use Rattle.cf_linear.proofs.RowLemmas.{value-comb}
 use Rattle.cf_linear.proofs.CombLemmas.{Rises-comb}
@@ -17,15 +17,27 @@ use Rattle.cf_linear.proofs.KindLemmas.{Over-comb}
 use Rattle.cf_linear.proofs.ValueLemmas.{EachRow-subst, EachRow-unsubst, EachRow-same, update-at, update-same, update-other, Same-trans, one_z}
 use Rattle.cf_linear.proofs.FormedLemmas.{Low, kinds_from, low_from, still, subst_over, subst_rise}
 use Rattle.cf_equation.specs.Equations.{Differ}
-use Rattle.cf_equation.proofs.EndLaws.{IsNull, IsLeast0}
+use Rattle.cf_equation.proofs.EndLaws.{IsNull, IsLeast0, update_own}
 use Rattle.cf_equation.proofs.FactorLaws.{parts_one, first_again, second_again}
 
 value-two_at : (v : Values) (s t : ℤ) (c d : ℕ) → value v (two_at s c t d) ≡ s *ℤ v c +ℤ t *ℤ v d
 value-two_at v s t c d = value-comb v s (one_at c) t (one_at d) ∙ rw (one_z (v c), one_z (v d)) refl
 
-pub merge_keeps : (m : Matrix) (e : Row) (x1 x2 : ℕ) → Low m → x1 < m.next → x2 < m.next → entry e x1 ≢ pos 0 → entry e x2 ≢ pos 0 → Keeps m (merge m e x1 x2)
+-- rows have the same value where all columns have
+value_all : (v w : Values) → ((c : ℕ) → v c ≡ w c) → (r : Row) → value v r ≡ value w r
+value_all v w h [] = refl
+value_all v w h ((c, k) ∷ r) = rw (h c, value_all v w h r) refl
+
+-- two unknowns that already have their rows' values are computed to what they are
+two_own : (w : Values) (x y : ℕ) (r s : Row) → w x ≡ value w r → w y ≡ value w s → (c : ℕ) → after_back w ((x, row_how r) ∷ (y, row_how s) ∷ []) c ≡ w c
+two_own w x y r s i j c =
+    let w1 = update w x (value w r) in
+    let one : (d : ℕ) → w1 d ≡ w d = update_own w x (value w r) i in
+    update_own w1 y (value w1 s) (one y ∙ j ∙ sym (value_all w1 w one s)) c ∙ one c
+
+pub merge_reaches : (m : System) (e : Row) (x1 x2 : ℕ) → Low m → x1 < m.next → x2 < m.next → entry e x1 ≢ pos 0 → entry e x2 ≢ pos 0 → Reaches m (merge m e x1 x2)
 unfolding merge mix factors_of
-merge_keeps m e x1 x2 low l1 l2 h1 h2 =
+merge_reaches m e x1 x2 low l1 l2 h1 h2 v _ h =
     let p = parts_of (entry e x1) (entry e x2) in
     let one = parts_one (entry e x1) (entry e x2) h1 h2 in
     let a = int_div_euclid (entry e x1) p.g in
@@ -33,28 +45,40 @@ merge_keeps m e x1 x2 low l1 l2 h1 h2 =
     let n = m.next in
     let r1 = two_at p.s n (neg_ℤ b) (n + 1) in
     let r2 = two_at p.t n a (n + 1) in
+    let y = a *ℤ v x1 +ℤ b *ℤ v x2 in
+    let z = p.s *ℤ v x2 -ℤ p.t *ℤ v x1 in
+    let w1 = update v n y in
+    let w = update w1 (n + 1) z in
+    let s1 = update-same n v n y (omega arith) in
+    let s2 = update-same (n + 1) w1 (n + 1) z (omega arith) in
+    let same = Same-trans n (n + 1) v w1 w (omega arith) s1 s2 in
+    let at1 : w n ≡ y = sym (s2 n (omega arith)) ∙ update-at v n y in
+    let at2 : w (n + 1) ≡ z = update-at w1 (n + 1) z in
+    let i1 : w x1 ≡ value w r1 = sym (same x1 l1) ∙ sym (first_again a b p.s p.t (v x1) (v x2) one) ∙ sym (value-two_at w p.s (neg_ℤ b) n (n + 1) ∙ rw (at1, at2) (simp ring (omega (arith, ints)))) in
+    let i2 : w x2 ≡ value w r2 = sym (same x2 l2) ∙ sym (second_again a b p.s p.t (v x1) (v x2) one) ∙ sym (value-two_at w p.t a n (n + 1) ∙ rw (at1, at2) refl) in (
+      w,
+      (
+        same,
+        tt,
+        tt,
+        record {
+          zero = EachRow-subst IsNull w x1 r1 i1 (subst_all x2 r2 m.equations) (EachRow-subst IsNull w x2 r2 i2 m.equations (EachRow-same IsNull n v w same m.equations low.zero h.zero));
+          nonneg = EachRow-subst IsLeast0 w x1 r1 i1 (subst_all x2 r2 m.inequalities) (EachRow-subst IsLeast0 w x2 r2 i2 m.inequalities (EachRow-same IsLeast0 n v w same m.inequalities low.nonneg h.nonneg));
+        },
+      ),
+      λ c l. same c l ∙ sym (two_own w x1 x2 r1 r2 i1 i2 c),
+    )
+
+pub merge_keeps : (m : System) (e : Row) (x1 x2 : ℕ) → Low m → x1 < m.next → x2 < m.next → entry e x1 ≢ pos 0 → entry e x2 ≢ pos 0 → Keeps m (merge m e x1 x2)
+unfolding merge mix factors_of
+merge_keeps m e x1 x2 low l1 l2 h1 h2 =
+    let p = parts_of (entry e x1) (entry e x2) in
+    let a = int_div_euclid (entry e x1) p.g in
+    let b = int_div_euclid (entry e x2) p.g in
+    let r1 = two_at p.s m.next (neg_ℤ b) (m.next + 1) in
+    let r2 = two_at p.t m.next a (m.next + 1) in
     record {
-      forth = λ v _ h.
-          let y = a *ℤ v x1 +ℤ b *ℤ v x2 in
-          let z = p.s *ℤ v x2 -ℤ p.t *ℤ v x1 in
-          let w1 = update v n y in
-          let w = update w1 (n + 1) z in
-          let s1 = update-same n v n y (omega arith) in
-          let s2 = update-same (n + 1) w1 (n + 1) z (omega arith) in
-          let same = Same-trans n (n + 1) v w1 w (omega arith) s1 s2 in
-          let at1 : w n ≡ y = sym (s2 n (omega arith)) ∙ update-at v n y in
-          let at2 : w (n + 1) ≡ z = update-at w1 (n + 1) z in
-          let i1 : w x1 ≡ value w r1 = sym (same x1 l1) ∙ sym (first_again a b p.s p.t (v x1) (v x2) one) ∙ sym (value-two_at w p.s (neg_ℤ b) n (n + 1) ∙ rw (at1, at2) (simp ring (omega (arith, ints)))) in
-          let i2 : w x2 ≡ value w r2 = sym (same x2 l2) ∙ sym (second_again a b p.s p.t (v x1) (v x2) one) ∙ sym (value-two_at w p.t a n (n + 1) ∙ rw (at1, at2) refl) in (
-            w,
-            same,
-            tt,
-            tt,
-            record {
-              zero = EachRow-subst IsNull w x1 r1 i1 (subst_all x2 r2 m.equations) (EachRow-subst IsNull w x2 r2 i2 m.equations (EachRow-same IsNull n v w same m.equations low.zero h.zero));
-              nonneg = EachRow-subst IsLeast0 w x1 r1 i1 (subst_all x2 r2 m.inequalities) (EachRow-subst IsLeast0 w x2 r2 i2 m.inequalities (EachRow-same IsLeast0 n v w same m.inequalities low.nonneg h.nonneg));
-            },
-          );
+      forth = λ v one h. let r = merge_reaches m e x1 x2 low l1 l2 h1 h2 v one h in (r.0, r.1.0, r.1.1, r.1.2, r.1.3);
       back = λ v _ _ _ h.
           let v1 = update v x1 (value v r1) in
           record {
@@ -63,7 +87,7 @@ merge_keeps m e x1 x2 low l1 l2 h1 h2 =
           };
     }
 
-pub merge_owes : (m : Matrix) (e : Row) (x1 x2 : ℕ) → Formed m → In x1 m.unknown → In x2 m.unknown → entry e x1 ≢ pos 0 → entry e x2 ≢ pos 0 → Owes m (merge m e x1 x2)
+pub merge_owes : (m : System) (e : Row) (x1 x2 : ℕ) → Formed m → In x1 m.unknown → In x2 m.unknown → entry e x1 ≢ pos 0 → entry e x2 ≢ pos 0 → Owes m (merge m e x1 x2)
 unfolding merge mix
 merge_owes m e x1 x2 f i1 i2 h1 h2 =
     still m (merge m e x1 x2) (kinds_from m f) (merge_keeps m e x1 x2 (low_from m f) (f.unknown_below x1 i1) (f.unknown_below x2 i2) h1 h2) refl (omega arith) refl refl
@@ -110,7 +134,7 @@ two_rise a n b = Rises-comb 0 a (one_at n) b (one_at (n + 1)) (omega arith, one_
 two_over : (Q : ℕ → Type 0) (a : ℤ) (n : ℕ) (b : ℤ) → Q n → Q (n + 1) → Over Q (two_at a n b (n + 1))
 two_over Q a n b p q = Over-comb Q a (one_at n) b (one_at (n + 1)) (p, tt) (q, tt)
 
-pub mix_formed : (m : Matrix) (x y : ℕ) (a b c d : ℤ) → Formed m → In x m.unknown → In y m.unknown → x ≢ y → Formed (mix m x y a b c d).matrix
+pub mix_formed : (m : System) (x y : ℕ) (a b c d : ℤ) → Formed m → In x m.unknown → In y m.unknown → x ≢ y → Formed (mix m x y a b c d).system
 unfolding mix
 mix_formed m x y a b c d f ix iy apart =
     let u = m.next in
@@ -118,7 +142,7 @@ mix_formed m x y a b c d f ix iy apart =
     let us = replaced x u (replaced y v m.unknown) in
     let first = two_at a u b v in
     let second = two_at c u d v in
-    let n = (mix m x y a b c d).matrix in
+    let n = (mix m x y a b c d).system in
     -- the unknowns with v in the place of y, and u beside them
     let Half : ℕ → Type 0 = λ w. In w m.known ⊎ (In w (replaced y v m.unknown) ⊎ (w ≡ u)) in
     let Full : ℕ → Type 0 = IsColumn n in
@@ -145,7 +169,7 @@ mix_formed m x y a b c d f ix iy apart =
       nonneg_rise = subst_rise x first (two_rise a u b) (subst_all y second m.inequalities) (subst_rise y second (two_rise c u d) m.inequalities f.nonneg_rise);
     }
 
-pub mix_differs : (m : Matrix) (x y : ℕ) (a b c d : ℤ) → Formed m → Differ m.unknown → Differ (mix m x y a b c d).matrix.unknown
+pub mix_differs : (m : System) (x y : ℕ) (a b c d : ℤ) → Formed m → Differ m.unknown → Differ (mix m x y a b c d).system.unknown
 unfolding mix
 mix_differs m x y a b c d f h =
     let u = m.next in

@@ -2,7 +2,7 @@
 use Rattle.std.proofs.Common.{◌≡◌, ◌≢◌, ℕ, ◌+◌, ◌<◌, pos, List, [], ◌∷◌, Result, Ok, Err, refl, sym, ◌∙◌, subst, length, get_or, drop, drop-cons, add-one, inl, inr}
 use Rattle.std.specs.Prelude.{IfOk}
 use Rattle.cf_linear.specs.Rows.{Row, entry, is_zero}
-use Rattle.cf_linear.specs.Matrices.{Matrix, Answer}
+use Rattle.cf_linear.specs.Systems.{System, Answer}
 use Rattle.cf_linear.specs.Keep.{In, Formed}
 use Rattle.cf_linear.specs.Steps.{present, merge, last}
 use Rattle.cf_linear.proofs.RowLemmas.{zero_from_is_zero}
@@ -35,20 +35,20 @@ present_found us e i h z =
     rw (add-one, drop-cons us i 0) (on_bool (is_zero (entry e (get_or us i 0))) (λ t. absurd (z (zero_from_is_zero (entry e (get_or us i 0)) t))) (λ t. rw t refl))
 
 -- ---- what the step is for one unknown, and for several
-pub one_entry : (m : Matrix) (u : ℕ) → first_present m ≡ u ∷ [] → entry (first_of m) u ≢ pos 0
+pub one_entry : (m : System) (u : ℕ) → first_present m ≡ u ∷ [] → entry (first_of m) u ≢ pos 0
 one_entry m u p = (In-present u m.unknown (first_of m) (subst (λ xs. In u xs) (sym p) (inl refl))).1
 
-pub first_entry : (m : Matrix) (u w : ℕ) (ws : List ℕ) → first_present m ≡ u ∷ w ∷ ws → entry (first_of m) u ≢ pos 0
+pub first_entry : (m : System) (u w : ℕ) (ws : List ℕ) → first_present m ≡ u ∷ w ∷ ws → entry (first_of m) u ≢ pos 0
 first_entry m u w ws p = (In-present u m.unknown (first_of m) (subst (λ xs. In u xs) (sym p) (inl refl))).1
 
-pub second_entry : (m : Matrix) (u w : ℕ) (ws : List ℕ) → first_present m ≡ u ∷ w ∷ ws → entry (first_of m) w ≢ pos 0
+pub second_entry : (m : System) (u w : ℕ) (ws : List ℕ) → first_present m ≡ u ∷ w ∷ ws → entry (first_of m) w ≢ pos 0
 second_entry m u w ws p = (In-present w m.unknown (first_of m) (subst (λ xs. In w xs) (sym p) (inr (inl refl)))).1
 
-pub one_owes : (m : Matrix) (u : ℕ) (a : Answer) → Formed m → Differ m.unknown → 0 < length m.equations → first_present m ≡ u ∷ [] → a ≡ last m (first_of m) (rest_of m) u → StepOwes m a
+pub one_owes : (m : System) (u : ℕ) (a : Answer) → Formed m → Differ m.unknown → 0 < length m.equations → first_present m ≡ u ∷ [] → a ≡ last m (first_of m) (rest_of m) u → StepOwes m a
 one_owes m u a f d s p e =
     subst (λ x. StepOwes m x) (sym e) (subst (λ us. StepOwes m (equation_answer m us)) p (step_owes m f d s (λ q. let r : [] ≡ u ∷ [] = sym q ∙ p in cc)))
 
-pub several_owes : (m : Matrix) (u w : ℕ) (ws : List ℕ) (a : Answer) → Formed m → Differ m.unknown → 0 < length m.equations → first_present m ≡ u ∷ w ∷ ws → a ≡ merge m (first_of m) u w → StepOwes m a
+pub several_owes : (m : System) (u w : ℕ) (ws : List ℕ) (a : Answer) → Formed m → Differ m.unknown → 0 < length m.equations → first_present m ≡ u ∷ w ∷ ws → a ≡ merge m (first_of m) u w → StepOwes m a
 several_owes m u w ws a f d s p e =
     subst (λ x. StepOwes m x) (sym e) (subst (λ us. StepOwes m (equation_answer m us)) p (step_owes m f d s (λ q. let r : [] ≡ u ∷ w ∷ ws = sym q ∙ p in cc)))
 

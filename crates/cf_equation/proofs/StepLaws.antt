@@ -4,9 +4,9 @@ use Rattle.std.specs.Prelude.{filter}
 use Rattle.std.proofs.lemmas.Int.{ints}
 use Rattle.std.proofs.lemmas.Bool.{cond_both, ne_eqb}
 use Rattle.cf_linear.specs.Rows.{Row, entry, without, Rises, is_zero}
-use Rattle.cf_linear.specs.Matrices.{Matrix, Answer, EachRow, row_way}
+use Rattle.cf_linear.specs.Systems.{System, Answer, EachRow, row_how}
 use Rattle.cf_linear.specs.Steps.{present, merge, last, is_unit, is_positive}
-use Rattle.cf_linear.specs.Keep.{In, Over, IsColumn, Formed}
+use Rattle.cf_linear.specs.Keep.{In, Over, IsColumn, Formed, Reaches}
 use Rattle.cf_linear.specs.Solved.{Owes}
 use Rattle.cf_linear.proofs.BoolLemmas.{on_bool}
 use Rattle.cf_linear.proofs.RowLemmas.{zero_from_is_zero}
@@ -15,15 +15,15 @@ use Rattle.cf_linear.proofs.CombLemmas.{Rises-comb}
 use Rattle.cf_linear.proofs.KindLemmas.{Over-weaker, Over-comb, Over-both, Over-without, Rises-filter, In-append, In-left, In-right, In-filter, In-unfilter}
 use Rattle.cf_linear.proofs.FormedLemmas.{kinds_from, low_from, still, one_kept, subst_over, subst_rise}
 use Rattle.cf_equation.specs.Equations.{Differ, first_of, rest_of, equation_answer, first_present}
-use Rattle.cf_equation.proofs.EndLaws.{unit_answer, divided_answer, unit_keeps, divided_keeps, unit_row, turned_row, turn, last-unit, last-divided}
-use Rattle.cf_equation.proofs.MergeLaws.{merge_owes, mix_formed, mix_differs}
+use Rattle.cf_equation.proofs.EndLaws.{unit_answer, divided_answer, unit_keeps, divided_keeps, unit_reaches, divided_reaches, unit_row, turned_row, turn, last-unit, last-divided}
+use Rattle.cf_equation.proofs.MergeLaws.{merge_owes, merge_reaches, mix_formed, mix_differs}
 
 -- the equation has no other unknown
-abbrev pub OnlyUnknown : Matrix → ℕ → Row → Type 0
+abbrev pub OnlyUnknown : System → ℕ → Row → Type 0
 OnlyUnknown m u e = Over (λ c. In c m.known ⊎ (c ≡ u)) e
 
 -- ---- the last unknown
-divided_owes : (m : Matrix) (e : Row) (rest : List Row) (u : ℕ) → Formed m → m.equations ≡ e ∷ rest → In u m.unknown → entry e u ≢ pos 0 → OnlyUnknown m u e → Owes m (divided_answer m e rest u)
+divided_owes : (m : System) (e : Row) (rest : List Row) (u : ℕ) → Formed m → m.equations ≡ e ∷ rest → In u m.unknown → entry e u ≢ pos 0 → OnlyUnknown m u e → Owes m (divided_answer m e rest u)
 divided_owes m e rest u f eq i h alone =
     let r = without u e in
     let over : Over (λ c. In c m.known ⊎ In c []) r =
@@ -40,19 +40,25 @@ divided_owes m e rest u f eq i h alone =
       bounds_rise = omega arith;
       lets_rise = (omega arith, omega arith);
       apart = λ c j l. absurd j;
-      kept = one_kept m u (row_way (turned_row m.next u e)) (kinds_from m f) i;
+      kept = one_kept m u (row_how (turned_row m.next u e)) (kinds_from m f) i;
     }
 
-pub last_owes : (m : Matrix) (e : Row) (rest : List Row) (u : ℕ) → Formed m → m.equations ≡ e ∷ rest → In u m.unknown → entry e u ≢ pos 0 → OnlyUnknown m u e → Owes m (last m e rest u)
+pub last_owes : (m : System) (e : Row) (rest : List Row) (u : ℕ) → Formed m → m.equations ≡ e ∷ rest → In u m.unknown → entry e u ≢ pos 0 → OnlyUnknown m u e → Owes m (last m e rest u)
 last_owes m e rest u f eq i h alone =
     cond_both (is_unit (entry e u)) (pos 0) (pos 0) (λ _. Owes m (last m e rest u))
-    (λ j. subst (λ a. Owes m a) (sym (last-unit m e rest u j)) (still m (unit_answer m e rest u) (kinds_from m f) (unit_keeps m e rest u eq (low_from m f) j) refl (omega arith) refl refl (one_kept m u (row_way (unit_row u e)) (kinds_from m f) i)))
+    (λ j. subst (λ a. Owes m a) (sym (last-unit m e rest u j)) (still m (unit_answer m e rest u) (kinds_from m f) (unit_keeps m e rest u eq (low_from m f) j) refl (omega arith) refl refl (one_kept m u (row_how (unit_row u e)) (kinds_from m f) i)))
     (λ j. subst (λ a. Owes m a) (sym (last-divided m e rest u j)) (divided_owes m e rest u f eq i h alone))
 
-unit_formed : (m : Matrix) (e : Row) (rest : List Row) (u : ℕ) → Formed m → m.equations ≡ e ∷ rest → OnlyUnknown m u e → Formed (unit_answer m e rest u).matrix
+last_reaches : (m : System) (e : Row) (rest : List Row) (u : ℕ) → Formed m → m.equations ≡ e ∷ rest → In u m.unknown → entry e u ≢ pos 0 → Reaches m (last m e rest u)
+last_reaches m e rest u f eq i h =
+    cond_both (is_unit (entry e u)) (pos 0) (pos 0) (λ _. Reaches m (last m e rest u))
+    (λ j. subst (Reaches m) (sym (last-unit m e rest u j)) (unit_reaches m e rest u eq (low_from m f) j))
+    (λ j. subst (Reaches m) (sym (last-divided m e rest u j)) (divided_reaches m e rest u eq (low_from m f) (f.unknown_below u i) h))
+
+unit_formed : (m : System) (e : Row) (rest : List Row) (u : ℕ) → Formed m → m.equations ≡ e ∷ rest → OnlyUnknown m u e → Formed (unit_answer m e rest u).system
 unit_formed m e rest u f eq alone =
     let s = unit_row u e in
-    let n = (unit_answer m e rest u).matrix in
+    let n = (unit_answer m e rest u).system in
     let zo = subst (λ rows. EachRow (Over (IsColumn m)) rows) eq f.zero in
     let zr = subst (λ rows. EachRow (Rises 0) rows) eq f.zero_rise in
     let move : (c : ℕ) → IsColumn m c × (c ≢ u) → IsColumn n c = λ c q. ⊎_elim (λ k. inl k) (λ k. inr (In-filter c u m.unknown k q.1)) q.0 in
@@ -79,11 +85,11 @@ plus_some e = cc
 turn_some : (c : ℤ) → turn c ≢ pos 0
 turn_some c q = on_bool (is_positive c) (λ e. minus_some (rw e at q)) (λ e. plus_some (rw e at q))
 
-divided_formed : (m : Matrix) (e : Row) (rest : List Row) (u : ℕ) → Formed m → m.equations ≡ e ∷ rest → Formed (divided_answer m e rest u).matrix
+divided_formed : (m : System) (e : Row) (rest : List Row) (u : ℕ) → Formed m → m.equations ≡ e ∷ rest → Formed (divided_answer m e rest u).system
 divided_formed m e rest u f eq =
     let d = m.next in
     let s = turned_row d u e in
-    let n = (divided_answer m e rest u).matrix in
+    let n = (divided_answer m e rest u).system in
     let zo = subst (λ rows. EachRow (Over (IsColumn m)) rows) eq f.zero in
     let zr = subst (λ rows. EachRow (Rises 0) rows) eq f.zero_rise in
     let move : (c : ℕ) → IsColumn m c × (c ≢ u) → IsColumn n c = λ c q. ⊎_elim (λ k. inl (In-left c m.known (d ∷ []) k)) (λ k. inr (In-filter c u m.unknown k q.1)) q.0 in
@@ -103,11 +109,11 @@ divided_formed m e rest u f eq =
       nonneg_rise = subst_rise u s sr m.inequalities f.nonneg_rise;
     }
 
-pub last_formed : (m : Matrix) (e : Row) (rest : List Row) (u : ℕ) → Formed m → m.equations ≡ e ∷ rest → OnlyUnknown m u e → Formed (last m e rest u).matrix
+pub last_formed : (m : System) (e : Row) (rest : List Row) (u : ℕ) → Formed m → m.equations ≡ e ∷ rest → OnlyUnknown m u e → Formed (last m e rest u).system
 last_formed m e rest u f eq alone =
-    cond_both (is_unit (entry e u)) (pos 0) (pos 0) (λ _. Formed (last m e rest u).matrix)
-    (λ j. subst (λ a. Formed a.matrix) (sym (last-unit m e rest u j)) (unit_formed m e rest u f eq alone))
-    (λ j. subst (λ a. Formed a.matrix) (sym (last-divided m e rest u j)) (divided_formed m e rest u f eq))
+    cond_both (is_unit (entry e u)) (pos 0) (pos 0) (λ _. Formed (last m e rest u).system)
+    (λ j. subst (λ a. Formed a.system) (sym (last-unit m e rest u j)) (unit_formed m e rest u f eq alone))
+    (λ j. subst (λ a. Formed a.system) (sym (last-divided m e rest u j)) (divided_formed m e rest u f eq))
 
 pub Differ-filter : (p : ℕ → Bool) (us : List ℕ) → Differ us → Differ (filter p us)
 Differ-filter p [] h = tt
@@ -117,7 +123,7 @@ Differ-filter p (c ∷ us) h = cond_both (p c) (c ∷ filter p us) (filter p us)
     In-any [] i = i
     In-any (d ∷ ys) i = cond_both (p d) (d ∷ filter p ys) (filter p ys) (λ y. In c y → In c (d ∷ ys)) (λ e k. ⊎_elim (λ q. inl q) (λ q. inr (In-any ys q)) k) (λ e k. inr (In-any ys k)) i
 
-pub last_differs : (m : Matrix) (e : Row) (rest : List Row) (u : ℕ) → Differ m.unknown → Differ (last m e rest u).matrix.unknown
+pub last_differs : (m : System) (e : Row) (rest : List Row) (u : ℕ) → Differ m.unknown → Differ (last m e rest u).system.unknown
 unfolding last
 last_differs m e rest u h = Differ-filter (λ w. not (w == u)) m.unknown h
 
@@ -162,34 +168,35 @@ all_some c ((d, k) ∷ r) h = (
     plain : (z : ℤ) → pos 0 +ℤ z ≡ pos 0 → z ≡ pos 0
     plain z e = omega (arith, ints)
 
-pub only_unknown : (m : Matrix) (e : Row) (u : ℕ) → Over (IsColumn m) e → Rises 0 e → present m.unknown e ≡ u ∷ [] → OnlyUnknown m u e
+pub only_unknown : (m : System) (e : Row) (u : ℕ) → Over (IsColumn m) e → Rises 0 e → present m.unknown e ≡ u ∷ [] → OnlyUnknown m u e
 only_unknown m e u o h p =
     Over-both (IsColumn m) (λ x. entry e x ≢ pos 0) (λ c. In c m.known ⊎ (c ≡ u))
     (λ c q n. ⊎_elim (λ k. inl k) (λ k. inr (⊎_elim (λ t. t) (λ t. absurd t) (subst (λ us. In c us) p (present-in c m.unknown e k n)))) q) e o (all_some 0 e h)
 
 -- ---- the step
-equations_are : (m : Matrix) → 0 < length m.equations → m.equations ≡ first_of m ∷ rest_of m
+equations_are : (m : System) → 0 < length m.equations → m.equations ≡ first_of m ∷ rest_of m
 equations_are m = by m.equations
   where
     by : (rows : List Row) → 0 < length rows → rows ≡ slice_index_or rows 0 [] ∷ drop 1 rows
     by [] h = absurd (omega arith)
     by (e ∷ rows) h = refl
 
-merge_formed : (m : Matrix) (e : Row) (u w : ℕ) → Formed m → In u m.unknown → In w m.unknown → u ≢ w → Formed (merge m e u w).matrix
+merge_formed : (m : System) (e : Row) (u w : ℕ) → Formed m → In u m.unknown → In w m.unknown → u ≢ w → Formed (merge m e u w).system
 unfolding merge
 merge_formed m e u w f iu iw apart = mix_formed m u w _ _ _ _ f iu iw apart
 
-merge_differs : (m : Matrix) (e : Row) (u w : ℕ) → Formed m → Differ m.unknown → Differ (merge m e u w).matrix.unknown
+merge_differs : (m : System) (e : Row) (u w : ℕ) → Formed m → Differ m.unknown → Differ (merge m e u w).system.unknown
 unfolding merge
 merge_differs m e u w f d = mix_differs m u w _ _ _ _ f d
 
 -- what an equation step owes
-pub record StepOwes (m : Matrix) (a : Answer) : Type 0 where
+pub record StepOwes (m : System) (a : Answer) : Type 0 where
   pub owes : Owes m a
-  pub formed : Formed a.matrix
-  pub differ : Differ a.matrix.unknown
+  pub reaches : Reaches m a
+  pub formed : Formed a.system
+  pub differ : Differ a.system.unknown
 
-pub step_owes : (m : Matrix) → Formed m → Differ m.unknown → 0 < length m.equations → first_present m ≢ [] → StepOwes m (equation_answer m (first_present m))
+pub step_owes : (m : System) → Formed m → Differ m.unknown → 0 < length m.equations → first_present m ≢ [] → StepOwes m (equation_answer m (first_present m))
 step_owes m f d some h = by (first_present m) refl
   where
     by : (us : List ℕ) → first_present m ≡ us → StepOwes m (equation_answer m us)
@@ -202,6 +209,7 @@ step_owes m f d some h = by (first_present m) refl
         let alone = only_unknown m (first_of m) u zo.0 zr.0 p in
         record {
           owes = last_owes m (first_of m) (rest_of m) u f eq is.0 is.1 alone;
+          reaches = last_reaches m (first_of m) (rest_of m) u f eq is.0 is.1;
           formed = last_formed m (first_of m) (rest_of m) u f eq alone;
           differ = last_differs m (first_of m) (rest_of m) u d;
         }
@@ -212,6 +220,7 @@ step_owes m f d some h = by (first_present m) refl
         let apart : u ≢ w = λ q. dp.0 (inl q) in
         record {
           owes = merge_owes m (first_of m) u w f iu.0 iw.0 iu.1 iw.1;
+          reaches = merge_reaches m (first_of m) u w (low_from m f) (f.unknown_below u iu.0) (f.unknown_below w iw.0) iu.1 iw.1;
           formed = merge_formed m (first_of m) u w f iu.0 iw.0 apart;
           differ = merge_differs m (first_of m) u w f d;
         }

@@ -3,9 +3,9 @@ ghost use Rattle.std.specs.Prelude.{◌≡◌, ◌<◌, ◌∷◌, ◌++◌, Lis
 ghost use Rattle.std.specs.List.{list_any};
 ghost use Rattle.cf_num.specs.Limit.{IsWithin};
 ghost use Rattle.cf_linear.specs.Rows.{entry, without, comb, subst_passes};
-ghost use Rattle.cf_linear.specs.Matrices.{row_way, need_divides, floor_of};
+ghost use Rattle.cf_linear.specs.Systems.{row_how, need_divides, floor_of};
 ghost use Rattle.cf_linear.specs.Steps.{is_unit, is_positive, last, last_passes};
-ghost use Rattle.cf_linear.specs.Views.{matrix_of, move_of, back_of};
+ghost use Rattle.cf_linear.specs.Views.{system_of, step_of, back_of};
 ghost use Rattle.cf_equation.specs.Equations.{reduced, first_of, rest_of};
 ghost use Rattle.cf_equation.specs.Ending.{IsLeft, IsSolution};
 
@@ -31,9 +31,9 @@ pub(crate) struct Solution {
 // The first equation has the one unknown u, which is computed by the rest of it.
 pub(crate) fn end(alloc: Global, system: System, u: u32) -> Result<Reduced, RowFault>
     requires some { 0 < length system.equations.items }
-    ensures value { IfOk result (λ r. reduced r ≡ last (matrix_of system) (first_of (matrix_of system)) (rest_of (matrix_of system)) u) }
-    ensures fits { IfOk result (λ r. last_passes (matrix_of system) (first_of (matrix_of system)) (rest_of (matrix_of system)) u ≡ false) }
-    ensures past { result ≡ Err RowFault.Past → last_passes (matrix_of system) (first_of (matrix_of system)) (rest_of (matrix_of system)) u ≡ true }
+    ensures value { IfOk result (λ r. reduced r ≡ last (system_of system) (first_of (system_of system)) (rest_of (system_of system)) u) }
+    ensures fits { IfOk result (λ r. last_passes (system_of system) (first_of (system_of system)) (rest_of (system_of system)) u ≡ false) }
+    ensures past { result ≡ Err RowFault.Past → last_passes (system_of system) (first_of (system_of system)) (rest_of (system_of system)) u ≡ true }
 {
     let solved = solved_for(alloc, &system, u)?;
     match left_after(alloc, &system, u, &solved.row) {
@@ -56,7 +56,7 @@ pub(crate) fn end(alloc: Global, system: System, u: u32) -> Result<Reduced, RowF
 // The unknown u of the first equation, which has no other.
 fn solved_for(alloc: Global, system: &System, u: u32) -> Result<Solution, NoMemory>
     requires some { 0 < length system.now.equations.items }
-    ensures { IfOk result (λ s. IsSolution (matrix_of system.now) (entry (first_of (matrix_of system.now)) u) (without u (first_of (matrix_of system.now))) s) }
+    ensures { IfOk result (λ s. IsSolution (system_of system.now) (entry (first_of (system_of system.now)) u) (without u (first_of (system_of system.now))) s) }
 {
     let c = system.equations[0].entry(u);
     let rest = system.equations[0].without(alloc, u)?;
@@ -80,10 +80,10 @@ fn whole_solution(
     requires unit { is_unit c ≡ true }
     requires c_in { IsWithin c }
     requires known { known.items ≡ system.now.known.items }
-    ensures { IfOk result (λ s. IsSolution (matrix_of system.now) c rest s) }
+    ensures { IfOk result (λ s. IsSolution (system_of system.now) c rest s) }
 {
     Ok(Solution {
-        row: turned(alloc, &rest, c)?,
+        row: unit_multiple(alloc, &rest, c)?,
         known,
         next: system.next,
         needs: system.needs,
@@ -92,7 +92,7 @@ fn whole_solution(
 }
 
 // `-c` times the row, for c of 1 or -1.
-fn turned(alloc: Global, row: &Row, c: i128) -> Result<Row, NoMemory>
+fn unit_multiple(alloc: Global, row: &Row, c: i128) -> Result<Row, NoMemory>
     requires unit { is_unit c ≡ true }
     requires c_in { IsWithin c }
     ensures { IfOk result (λ r. r ≡ comb (neg_ℤ c) row.now (pos 0) []) }
@@ -117,7 +117,7 @@ fn divided_solution(
     requires other { is_unit c ≡ false }
     requires c_in { IsWithin c }
     requires known { known.items ≡ system.now.known.items }
-    ensures { IfOk result (λ s. IsSolution (matrix_of system.now) c rest s) }
+    ensures { IfOk result (λ s. IsSolution (system_of system.now) c rest s) }
 {
     let column = system.next;
     let (next, needs) = match (column.checked_add(1), system.needs.checked_add(1)) {
@@ -148,7 +148,7 @@ fn size_of(c: i128) -> (i128, i128)
 
 // The need that the number divides the row, and the let of the quotient.
 fn division(alloc: Global, column: u32, row: Row, size: i128) -> Result<Vec<Step>, NoMemory>
-    ensures { IfOk result (λ v. map move_of v.items ≡ (need_divides size row ∷ floor_of column row size ∷ [])) }
+    ensures { IfOk result (λ v. map step_of v.items ≡ (need_divides size row ∷ floor_of column row size ∷ [])) }
 {
     let copy = row.try_copy(alloc)?;
     let mut steps = Vec::new(alloc);
@@ -159,7 +159,7 @@ fn division(alloc: Global, column: u32, row: Row, size: i128) -> Result<Vec<Step
 
 // The unknown with the row that it is.
 fn one_row(alloc: Global, u: u32, row: Row) -> Result<Vec<Back>, NoMemory>
-    ensures { IfOk result (λ v. map back_of v.items ≡ ((u, row_way row) ∷ [])) }
+    ensures { IfOk result (λ v. map back_of v.items ≡ ((u, row_how row) ∷ [])) }
 {
     let mut back = Vec::new(alloc);
     back.push(Back {
@@ -173,9 +173,9 @@ fn one_row(alloc: Global, u: u32, row: Row) -> Result<Vec<Back>, NoMemory>
 #[tactic(auto, using(crate::proofs::AnyLemmas::either_false, crate::proofs::AnyLemmas::left_true, crate::proofs::AnyLemmas::right_true))]
 fn left_after(alloc: Global, system: &System, u: u32, row: &Row) -> Result<Left, RowFault>
     requires { 0 < length system.now.equations.items }
-    ensures value { IfOk result (λ l. IsLeft (matrix_of system.now) u row.now l) }
-    ensures fits { IfOk result (λ l. list_any (subst_passes u row.now) (rest_of (matrix_of system.now) ++ (matrix_of system.now).inequalities) ≡ false) }
-    ensures past { result ≡ Err RowFault.Past → list_any (subst_passes u row.now) (rest_of (matrix_of system.now) ++ (matrix_of system.now).inequalities) ≡ true }
+    ensures value { IfOk result (λ l. IsLeft (system_of system.now) u row.now l) }
+    ensures fits { IfOk result (λ l. list_any (subst_passes u row.now) (rest_of (system_of system.now) ++ (system_of system.now).inequalities) ≡ false) }
+    ensures past { result ≡ Err RowFault.Past → list_any (subst_passes u row.now) (rest_of (system_of system.now) ++ (system_of system.now).inequalities) ≡ true }
 {
     let equations = match subst_rows(alloc, &system.equations[1..], u, row) {
         Ok(rows) => rows,

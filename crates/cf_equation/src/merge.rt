@@ -3,9 +3,9 @@ ghost use Rattle.std.specs.Prelude.{◌≡◌, ◌≢◌, ◌<◌, ◌+◌, ◌^
 ghost use Rattle.std.specs.List.{list_any};
 ghost use Rattle.cf_num.specs.Limit.{IsWithin};
 ghost use Rattle.cf_linear.specs.Rows.{entry};
-ghost use Rattle.cf_linear.specs.Matrices.{row_way};
+ghost use Rattle.cf_linear.specs.Systems.{row_how};
 ghost use Rattle.cf_linear.specs.Steps.{subst_all, replaced, mix, mix_passes, factors_of, merge, merge_passes};
-ghost use Rattle.cf_linear.specs.Views.{matrix_of, back_of};
+ghost use Rattle.cf_linear.specs.Views.{system_of, back_of};
 ghost use Rattle.cf_equation.specs.Equations.{reduced, first_of};
 ghost use Rattle.cf_equation.specs.Merging.{plain_factors, mix_row_passes, WithinFactors, IsMixed};
 
@@ -48,11 +48,11 @@ fn factors(a: i128, b: i128) -> MergeFactors
 // Two new unknowns, of which the first equation holds the first alone, take the places of x and y.
 pub(crate) fn merge(alloc: Global, system: System, x: u32, y: u32) -> Result<Reduced, RowFault>
     requires some { 0 < length system.equations.items }
-    requires first { entry (first_of (matrix_of system)) x ≢ pos 0 }
-    requires second { entry (first_of (matrix_of system)) y ≢ pos 0 }
-    ensures value { IfOk result (λ r. reduced r ≡ merge (matrix_of system) (first_of (matrix_of system)) x y) }
-    ensures fits { IfOk result (λ r. merge_passes (matrix_of system) (first_of (matrix_of system)) x y ≡ false) }
-    ensures past { result ≡ Err RowFault.Past → merge_passes (matrix_of system) (first_of (matrix_of system)) x y ≡ true }
+    requires first { entry (first_of (system_of system)) x ≢ pos 0 }
+    requires second { entry (first_of (system_of system)) y ≢ pos 0 }
+    ensures value { IfOk result (λ r. reduced r ≡ merge (system_of system) (first_of (system_of system)) x y) }
+    ensures fits { IfOk result (λ r. merge_passes (system_of system) (first_of (system_of system)) x y ≡ false) }
+    ensures past { result ≡ Err RowFault.Past → merge_passes (system_of system) (first_of (system_of system)) x y ≡ true }
 {
     let a = first_entry(&system, x);
     let b = first_entry(&system, y);
@@ -62,7 +62,7 @@ pub(crate) fn merge(alloc: Global, system: System, x: u32, y: u32) -> Result<Red
 // The entry of the first equation at the column.
 fn first_entry(system: &System, x: u32) -> i128
     requires { 0 < length system.now.equations.items }
-    ensures value { result ≡ entry (first_of (matrix_of system.now)) x }
+    ensures value { result ≡ entry (first_of (system_of system.now)) x }
     ensures fits { IsWithin result }
 {
     system.equations[0].entry(x)
@@ -77,9 +77,9 @@ fn merge_by(
     f: MergeFactors,
 ) -> Result<Reduced, RowFault>
     requires within { WithinFactors f }
-    ensures value { IfOk result (λ r. reduced r ≡ mix (matrix_of system) x y f.s f.m f.t f.n) }
-    ensures fits { IfOk result (λ r. mix_passes (matrix_of system) x y f.s f.m f.t f.n ≡ false) }
-    ensures past { result ≡ Err RowFault.Past → mix_passes (matrix_of system) x y f.s f.m f.t f.n ≡ true }
+    ensures value { IfOk result (λ r. reduced r ≡ mix (system_of system) x y f.s f.m f.t f.n) }
+    ensures fits { IfOk result (λ r. mix_passes (system_of system) x y f.s f.m f.t f.n ≡ false) }
+    ensures past { result ≡ Err RowFault.Past → mix_passes (system_of system) x y f.s f.m f.t f.n ≡ true }
 {
     let u = system.next;
     let next = match u.checked_add(2) {
@@ -116,7 +116,7 @@ fn mixed_left(
     second: &Row,
 ) -> Result<Left, RowFault>
     requires { system.now.next + 1 < 2 ^ 32 }
-    ensures value { IfOk result (λ l. IsMixed (matrix_of system.now) x first.now y second.now l) }
+    ensures value { IfOk result (λ l. IsMixed (system_of system.now) x first.now y second.now l) }
     ensures fits { IfOk result (λ l. list_any (mix_row_passes x first.now y second.now) (system.now.equations.items ++ system.now.inequalities.items) ≡ false) }
     ensures past { result ≡ Err RowFault.Past → list_any (mix_row_passes x first.now y second.now) (system.now.equations.items ++ system.now.inequalities.items) ≡ true }
 {
@@ -169,7 +169,7 @@ fn replaced(alloc: Global, columns: &[u32], x: u32, u: u32) -> Result<Vec<u32>, 
 
 // x and then y, each computed by its row.
 fn two_rows(alloc: Global, x: u32, first: Row, y: u32, second: Row) -> Result<Vec<Back>, NoMemory>
-    ensures { IfOk result (λ v. map back_of v.items ≡ ((x, row_way first) ∷ (y, row_way second) ∷ [])) }
+    ensures { IfOk result (λ v. map back_of v.items ≡ ((x, row_how first) ∷ (y, row_how second) ∷ [])) }
 {
     let mut back = Vec::new(alloc);
     back.push(Back {

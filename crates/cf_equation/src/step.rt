@@ -1,8 +1,8 @@
 //! One step of the elimination with the first equation.
 ghost use Rattle.std.specs.Prelude.{◌≡◌, ◌≢◌, ◌<◌, [], true, false, length, Err, IfOk};
-ghost use Rattle.cf_linear.specs.Keep.{Formed};
+ghost use Rattle.cf_linear.specs.Keep.{Formed, Reaches};
 ghost use Rattle.cf_linear.specs.Solved.{Owes};
-ghost use Rattle.cf_linear.specs.Views.{matrix_of};
+ghost use Rattle.cf_linear.specs.Views.{system_of};
 ghost use Rattle.cf_equation.specs.Equations.{Differ, reduced, first_present, equation_answer, equation_passes};
 
 use crate::end::end;
@@ -25,16 +25,17 @@ pub struct Reduced {
 /// equation holds an unknown, and the unknowns are all different. Past exactly where a product or a
 /// sum that makes an entry of a new row passes the limit.
 pub fn step_first(alloc: Global, system: System) -> Result<Reduced, RowFault>
-    requires formed { Formed (matrix_of system) }
+    requires formed { Formed (system_of system) }
     requires differ { Differ system.unknown.items }
     requires some { 0 < length system.equations.items }
-    requires holds { first_present (matrix_of system) ≢ [] }
-    ensures next { IfOk result (λ r. reduced r ≡ equation_answer (matrix_of system) (first_present (matrix_of system))) }
-    ensures owes { IfOk result (λ r. Owes (matrix_of system) (reduced r)) }
-    ensures formed { IfOk result (λ r. Formed (matrix_of r.system)) }
+    requires holds { first_present (system_of system) ≢ [] }
+    ensures next { IfOk result (λ r. reduced r ≡ equation_answer (system_of system) (first_present (system_of system))) }
+    ensures owes { IfOk result (λ r. Owes (system_of system) (reduced r)) }
+    ensures reaches { IfOk result (λ r. Reaches (system_of system) (reduced r)) }
+    ensures formed { IfOk result (λ r. Formed (system_of r.system)) }
     ensures differ { IfOk result (λ r. Differ r.system.unknown.items) }
-    ensures fits { IfOk result (λ r. equation_passes (matrix_of system) (first_present (matrix_of system)) ≡ false) }
-    ensures past { result ≡ Err RowFault.Past → equation_passes (matrix_of system) (first_present (matrix_of system)) ≡ true }
+    ensures fits { IfOk result (λ r. equation_passes (system_of system) (first_present (system_of system)) ≡ false) }
+    ensures past { result ≡ Err RowFault.Past → equation_passes (system_of system) (first_present (system_of system)) ≡ true }
 {
     match first_unknowns(&system) {
         Present::Nothing => unreachable!(),

@@ -1,7 +1,7 @@
 //! The unknowns of an equation.
 ghost use Rattle.std.specs.Prelude.{◌≡◌, ◌<◌, length};
 ghost use Rattle.cf_linear.specs.Steps.{present};
-ghost use Rattle.cf_linear.specs.Views.{matrix_of};
+ghost use Rattle.cf_linear.specs.Views.{system_of};
 ghost use Rattle.cf_equation.specs.Equations.{present_of, first_of};
 
 use cf_linear::row::Row;
@@ -21,7 +21,7 @@ pub enum Present {
 /// The first unknowns of the system's first equation.
 pub fn first_unknowns(system: &System) -> Present
     requires { 0 < length system.now.equations.items }
-    ensures { result ≡ present_of (present (matrix_of system.now).unknown (first_of (matrix_of system.now))) }
+    ensures { result ≡ present_of (present (system_of system.now).unknown (first_of (system_of system.now))) }
 {
     first_present(&system.equations[0], &system.unknown)
 }

@@ -3,12 +3,9 @@ use Rattle.std.proofs.Common.{◌≡◌, ◌⊎◌, ◌-◌, ◌^◌, ℤ, pos, 
 use Rattle.std.specs.Prelude.{unsigned_abs, nat_le}
 use Rattle.std.proofs.lemmas.Int.{ints}
 use Rattle.cf_num.specs.Limit.{within}
+pub use Rattle.cf_tree.proofs.SetLemmas.{on_bool}
 use Rattle.cf_linear.specs.Rows.{passes, sum_passes, next_sum}
 use Rattle.cf_linear.specs.Merging.{two_products}
-
-pub on_bool : {P : Type 0} (b : Bool) → (b ≡ true → P) → (b ≡ false → P) → P
-on_bool true f g = f refl
-on_bool false f g = g refl
 
 pub zero_plus : (z : ℤ) → pos 0 +ℤ z ≡ z
 zero_plus z = omega (arith, ints)

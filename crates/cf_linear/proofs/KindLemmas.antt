@@ -4,7 +4,7 @@ use Rattle.std.specs.Prelude.{◌≤ℤ◌, filter, nat_lt}
 use Rattle.std.proofs.lemmas.Int.{ints}
 use Rattle.std.proofs.lemmas.Bool.{cond_both, eqb-true, eqb-false, eq-eqb, ne_eqb, true≢false}
 use Rattle.cf_linear.specs.Rows.{Row, Values, entry, value, comb, is_zero, put, add_at, Rises, without}
-use Rattle.cf_linear.specs.Matrices.{EachRow, Move, floor_of, need_nonneg, need_zero, need_divides}
+use Rattle.cf_linear.specs.Systems.{EachRow, Step, floor_of, need_nonneg, need_zero, need_divides}
 use Rattle.cf_linear.specs.Keep.{In, Over}
 use Rattle.cf_linear.specs.Solved.{search_columns, let_columns, Rising}
 use Rattle.cf_linear.proofs.Canonical.{Rises-lower, entry-low}
@@ -49,10 +49,6 @@ EachRow-unfilter Q p (x ∷ xs) h k = by (p x) (EachRow-unfilter Q p xs) h k
         EachRow Q (cond (not b) (x ∷ filter (λ r. not (p r)) xs) (filter (λ r. not (p r)) xs)) → EachRow Q (cond b (x ∷ filter p xs) (filter p xs)) → EachRow Q (x ∷ xs)
     by true again h k = (k.0, again h k.1)
     by false again h k = (h.0, again h.1 k)
-
-pub EachRow-both : (Q R S : Row → Type 0) → ((r : Row) → Q r → R r → S r) → (rows : List Row) → EachRow Q rows → EachRow R rows → EachRow S rows
-EachRow-both Q R S f [] h k = tt
-EachRow-both Q R S f (r ∷ rows) h k = (f r h.0 k.0, EachRow-both Q R S f rows h.1 k.1)
 
 -- each row of the filter has what the test says
 pub EachRow-tested : (Q : Row → Type 0) (p : Row → Bool) → ((r : Row) → p r ≡ true → Q r) → (rows : List Row) → EachRow Q (filter p rows)
@@ -141,7 +137,7 @@ pub search_columns-append : (bs cs : List (ℕ × ℕ)) → search_columns (bs +
 search_columns-append [] cs = refl
 search_columns-append ((c, n) ∷ bs) cs = ap (λ x. c ∷ x) (search_columns-append bs cs)
 
-pub let_columns-append : (ms ns : List Move) → let_columns (ms ++ ns) ≡ let_columns ms ++ let_columns ns
+pub let_columns-append : (ms ns : List Step) → let_columns (ms ++ ns) ≡ let_columns ms ++ let_columns ns
 let_columns-append [] ns = refl
 let_columns-append (floor_of c r g ∷ ms) ns = ap (λ x. c ∷ x) (let_columns-append ms ns)
 let_columns-append (need_nonneg r ∷ ms) ns = let_columns-append ms ns

@@ -1,5 +1,7 @@
+pub mod ArmExamples
 pub mod BoolLemmas
 pub mod Canonical
+pub mod CaseExamples
 pub mod ColumnLemmas
 pub mod CombLemmas
 pub mod Examples
@@ -9,8 +11,10 @@ pub mod KindLemmas
 pub mod MapLemmas
 pub mod MergingLemmas
 pub mod PassingLemmas
+pub mod RefusalExamples
 pub mod RowLemmas
 pub mod RowTests
+pub mod SetExamples
 pub mod SolvedLemmas
 pub mod StageLemmas
 pub mod SubstituteLemmas

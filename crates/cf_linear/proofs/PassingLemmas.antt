@@ -8,14 +8,14 @@ use Rattle.cf_linear.specs.declared.refusal.RowFault.{RowFault}
 use Rattle.cf_linear.specs.declared.refusal.RowFault.TheVariants.{Past, NoMemory}
 use Rattle.cf_linear.specs.Rows.{Row, entry, put, comb, Rises, AreWithin, IsRow, passes, sum_passes, passes_at, row_passes, comb_passes}
 use Rattle.cf_linear.specs.Written.{constant_row, plus}
-use Rattle.cf_linear.specs.Parts.{Fails, GivesRow, OnlySums}
+use Rattle.cf_linear.specs.Parts.{IsRowFault, RowAnswer, OnlySums}
 use Rattle.cf_linear.proofs.BoolLemmas.{on_bool, zero_plus}
 use Rattle.cf_linear.proofs.RowLemmas.{entry-comb}
 use Rattle.cf_linear.proofs.Canonical.{entry-low, entry-head, Rises-put}
 use Rattle.cf_linear.proofs.CombLemmas.{Rises-comb, entry-put}
 use Rattle.cf_linear.proofs.Joining.{passes_somewhere, passes_nowhere}
 
-pub fails_where : (e : RowFault) (b d : Bool) → (b ≡ true → d ≡ true) → Fails b e → Fails d e
+pub fails_where : (e : RowFault) (b d : Bool) → (b ≡ true → d ≡ true) → IsRowFault b e → IsRowFault d e
 fails_where Past b d f h = f h
 fails_where NoMemory b d f h = tt
 
@@ -78,7 +78,7 @@ module _ (a : ℤ) (r : Row) (b : ℤ) (s : Row) (p : IsRow r) (q : IsRow s) whe
       (λ t. t))))
 
 pub gives_row : (a : ℤ) (r : Row) (b : ℤ) (s : Row) (x : Result Row RowFault) → IsRow r → IsRow s → OnlySums a r b s →
-    IfOk x (λ y. y ≡ comb a r b s) → IfOk x (λ y. comb_passes a r b s ≡ false) → (x ≡ Err Past → comb_passes a r b s ≡ true) → GivesRow (comb a r b s) x
+    IfOk x (λ y. y ≡ comb a r b s) → IfOk x (λ y. comb_passes a r b s ≡ false) → (x ≡ Err Past → comb_passes a r b s ≡ true) → RowAnswer (comb a r b s) x
 gives_row a r b s (Ok y) p q o v f g = (v, comb_not a r b s p q f)
 gives_row a r b s (Err Past) p q o v f g = comb_past a r b s p q o (g refl)
 gives_row a r b s (Err NoMemory) p q o v f g = tt

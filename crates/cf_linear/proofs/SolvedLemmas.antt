@@ -5,10 +5,10 @@ use Rattle.std.specs.Int.{int_div_euclid}
 use Rattle.std.proofs.lemmas.Bool.{cond_both, eqb-true, eqb-false}
 use Rattle.cf_linear.specs.Rows.{Row, Values, value}
 use Rattle.cf_linear.specs.Relations.{Divides}
-use Rattle.cf_linear.specs.Matrices.{Matrix, EachRow, Sat, Move, floor_of, need_nonneg, need_zero, need_divides, Way, Answer, then_answer, no_answer, whole}
+use Rattle.cf_linear.specs.Systems.{System, EachRow, Sat, Step, floor_of, need_nonneg, need_zero, need_divides, How, Answer, then_answer, no_answer, whole}
 use Rattle.cf_linear.specs.Stages.{Limits, State, End, solved, Taken, ends, goes, stage, Trace, stop, more}
-use Rattle.cf_linear.specs.Keep.{In, Over, AllFit, Within, update, way_value, ways_back}
-use Rattle.cf_linear.specs.Solved.{search_columns, let_columns, Rising, MovesOver, Owes, after_moves, NeedsHold, InBounds, set_tuple, SameKnown, SolvedCase}
+use Rattle.cf_linear.specs.Keep.{In, Over, AllFit, Within, update, how_value, after_back}
+use Rattle.cf_linear.specs.Solved.{search_columns, let_columns, Rising, StepsOver, Owes, after_steps, NeedsHold, InBounds, set_tuple, SameKnown, SolvedBy}
 use Rattle.cf_linear.proofs.KindLemmas.{IsZero, IsNonneg, Over-weaker, In-append, In-left, In-right, search_columns-append, let_columns-append, Rising-le, Rising-in, Rising-append}
 use Rattle.cf_linear.proofs.ValueLemmas.{update-at, update-other, Same-trans, AllFit-append, AllFit-split, Within-append, Within-split}
 
@@ -26,15 +26,15 @@ update-agree Q v w c z h e d q =
     (λ i. ⊎_elim (λ (j : d ≡ c). absurd (eqb-false d c i j)) (λ k. h d k) q)
 
 -- ---- from a valuation of all search_columns to the arm
-moves_hold : (Q : ℕ → Type 0) (s w : Values) (ms : List Move) → Agree Q s w → MovesOver Q ms → AllFit w ms → NeedsHold s ms
-moves_hold Q s w [] h o f = tt
-moves_hold Q s w (floor_of c r g ∷ ms) h o f =
+steps_hold : (Q : ℕ → Type 0) (s w : Values) (ms : List Step) → Agree Q s w → StepsOver Q ms → AllFit w ms → NeedsHold s ms
+steps_hold Q s w [] h o f = tt
+steps_hold Q s w (floor_of c r g ∷ ms) h o f =
     let z = int_div_euclid (value s r) g in
     let e : w c ≡ z = f.0 ∙ ap (λ y. int_div_euclid y g) (sym (value-agree Q s w h r o.0)) in
-    (tt, moves_hold (λ d. (d ≡ c) ⊎ Q d) (update s c z) w ms (update-agree Q s w c z h e) o.1 f.1)
-moves_hold Q s w (need_nonneg r ∷ ms) h o f = (subst (λ y. pos 0 ≤ℤ y) (sym (value-agree Q s w h r o.0)) f.0, moves_hold Q s w ms h o.1 f.1)
-moves_hold Q s w (need_zero r ∷ ms) h o f = (value-agree Q s w h r o.0 ∙ f.0, moves_hold Q s w ms h o.1 f.1)
-moves_hold Q s w (need_divides g r ∷ ms) h o f = (subst (λ y. Divides g y) (sym (value-agree Q s w h r o.0)) f.0, moves_hold Q s w ms h o.1 f.1)
+    (tt, steps_hold (λ d. (d ≡ c) ⊎ Q d) (update s c z) w ms (update-agree Q s w c z h e) o.1 f.1)
+steps_hold Q s w (need_nonneg r ∷ ms) h o f = (subst (λ y. pos 0 ≤ℤ y) (sym (value-agree Q s w h r o.0)) f.0, steps_hold Q s w ms h o.1 f.1)
+steps_hold Q s w (need_zero r ∷ ms) h o f = (value-agree Q s w h r o.0 ∙ f.0, steps_hold Q s w ms h o.1 f.1)
+steps_hold Q s w (need_divides g r ∷ ms) h o f = (subst (λ y. Divides g y) (sym (value-agree Q s w h r o.0)) f.0, steps_hold Q s w ms h o.1 f.1)
 
 -- the search numbers of a valuation
 abbrev tuple_of : Values → List (ℕ × ℕ) → List ℤ
@@ -52,39 +52,39 @@ tuple_agrees Q v w ((d, n) ∷ bs) h c q =
     (⊎_elim (λ k. inl (inr k)) (λ i. ⊎_elim (λ e. inl (inl e)) (λ j. inr j) i) q)
 
 -- ---- and back
-after_moves-other : (s : Values) (ms : List Move) (d : ℕ) → (In d (let_columns ms) → ⊥) → after_moves s ms d ≡ s d
-after_moves-other s [] d h = refl
-after_moves-other s (floor_of c r g ∷ ms) d h =
-    after_moves-other (update s c (int_div_euclid (value s r) g)) ms d (λ i. h (inr i)) ∙ update-other s c d (int_div_euclid (value s r) g) (λ e. h (inl e))
-after_moves-other s (need_nonneg r ∷ ms) d h = after_moves-other s ms d h
-after_moves-other s (need_zero r ∷ ms) d h = after_moves-other s ms d h
-after_moves-other s (need_divides g r ∷ ms) d h = after_moves-other s ms d h
+pub after_steps-other : (s : Values) (ms : List Step) (d : ℕ) → (In d (let_columns ms) → ⊥) → after_steps s ms d ≡ s d
+after_steps-other s [] d h = refl
+after_steps-other s (floor_of c r g ∷ ms) d h =
+    after_steps-other (update s c (int_div_euclid (value s r) g)) ms d (λ i. h (inr i)) ∙ update-other s c d (int_div_euclid (value s r) g) (λ e. h (inl e))
+after_steps-other s (need_nonneg r ∷ ms) d h = after_steps-other s ms d h
+after_steps-other s (need_zero r ∷ ms) d h = after_steps-other s ms d h
+after_steps-other s (need_divides g r ∷ ms) d h = after_steps-other s ms d h
 
-moves_fit : (Q : ℕ → Type 0) (lo hi : ℕ) (s : Values) (ms : List Move) → Rising lo hi (let_columns ms) → ((c : ℕ) → Q c → In c (let_columns ms) → ⊥) → MovesOver Q ms → NeedsHold s ms → AllFit (after_moves s ms) ms
-moves_fit Q lo hi s [] ri fresh o h = tt
-moves_fit Q lo hi s (floor_of c r g ∷ ms) ri fresh o h =
+steps_fit : (Q : ℕ → Type 0) (lo hi : ℕ) (s : Values) (ms : List Step) → Rising lo hi (let_columns ms) → ((c : ℕ) → Q c → In c (let_columns ms) → ⊥) → StepsOver Q ms → NeedsHold s ms → AllFit (after_steps s ms) ms
+steps_fit Q lo hi s [] ri fresh o h = tt
+steps_fit Q lo hi s (floor_of c r g ∷ ms) ri fresh o h =
     let z = int_div_euclid (value s r) g in
     let s1 = update s c z in
-    let w = after_moves s1 ms in
+    let w = after_steps s1 ms in
     let not_later : In c (let_columns ms) → ⊥ = λ i. let b = Rising-in (suc c) hi c (let_columns ms) ri.1 i in absurd (omega arith) in
-    let at : w c ≡ z = after_moves-other s1 ms c not_later ∙ update-at s c z in
-    let ag : Agree Q s w = λ d q. sym (after_moves-other s1 ms d (λ i. fresh d q (inr i)) ∙ update-other s c d z (λ e. fresh d q (inl e))) in (
+    let at : w c ≡ z = after_steps-other s1 ms c not_later ∙ update-at s c z in
+    let ag : Agree Q s w = λ d q. sym (after_steps-other s1 ms d (λ i. fresh d q (inr i)) ∙ update-other s c d z (λ e. fresh d q (inl e))) in (
       at ∙ ap (λ y. int_div_euclid y g) (value-agree Q s w ag r o.0),
-      moves_fit (λ d. (d ≡ c) ⊎ Q d) (suc c) hi s1 ms ri.1 (λ d q i. ⊎_elim (λ (e : d ≡ c). not_later (subst (λ y. In y (let_columns ms)) e i)) (λ k. fresh d k (inr i)) q) o.1 h.1,
+      steps_fit (λ d. (d ≡ c) ⊎ Q d) (suc c) hi s1 ms ri.1 (λ d q i. ⊎_elim (λ (e : d ≡ c). not_later (subst (λ y. In y (let_columns ms)) e i)) (λ k. fresh d k (inr i)) q) o.1 h.1,
     )
-moves_fit Q lo hi s (need_nonneg r ∷ ms) ri fresh o h =
-    (subst (λ y. pos 0 ≤ℤ y) (value-agree Q s (after_moves s ms) (λ d q. sym (after_moves-other s ms d (fresh d q))) r o.0) h.0, moves_fit Q lo hi s ms ri fresh o.1 h.1)
-moves_fit Q lo hi s (need_zero r ∷ ms) ri fresh o h =
-    (sym (value-agree Q s (after_moves s ms) (λ d q. sym (after_moves-other s ms d (fresh d q))) r o.0) ∙ h.0, moves_fit Q lo hi s ms ri fresh o.1 h.1)
-moves_fit Q lo hi s (need_divides g r ∷ ms) ri fresh o h =
-    (subst (λ y. Divides g y) (value-agree Q s (after_moves s ms) (λ d q. sym (after_moves-other s ms d (fresh d q))) r o.0) h.0, moves_fit Q lo hi s ms ri fresh o.1 h.1)
+steps_fit Q lo hi s (need_nonneg r ∷ ms) ri fresh o h =
+    (subst (λ y. pos 0 ≤ℤ y) (value-agree Q s (after_steps s ms) (λ d q. sym (after_steps-other s ms d (fresh d q))) r o.0) h.0, steps_fit Q lo hi s ms ri fresh o.1 h.1)
+steps_fit Q lo hi s (need_zero r ∷ ms) ri fresh o h =
+    (sym (value-agree Q s (after_steps s ms) (λ d q. sym (after_steps-other s ms d (fresh d q))) r o.0) ∙ h.0, steps_fit Q lo hi s ms ri fresh o.1 h.1)
+steps_fit Q lo hi s (need_divides g r ∷ ms) ri fresh o h =
+    (subst (λ y. Divides g y) (value-agree Q s (after_steps s ms) (λ d q. sym (after_steps-other s ms d (fresh d q))) r o.0) h.0, steps_fit Q lo hi s ms ri fresh o.1 h.1)
 
-set_tuple-other : (v : Values) (bs : List (ℕ × ℕ)) (ks : List ℤ) (d : ℕ) → (In d (search_columns bs) → ⊥) → set_tuple v bs ks d ≡ v d
+pub set_tuple-other : (v : Values) (bs : List (ℕ × ℕ)) (ks : List ℤ) (d : ℕ) → (In d (search_columns bs) → ⊥) → set_tuple v bs ks d ≡ v d
 set_tuple-other v [] ks d h = refl
 set_tuple-other v ((c, n) ∷ bs) [] d h = refl
 set_tuple-other v ((c, n) ∷ bs) (k ∷ ks) d h = set_tuple-other (update v c k) bs ks d (λ i. h (inr i)) ∙ update-other v c d k (λ e. h (inl e))
 
-tuple_within : (lo hi : ℕ) (v : Values) (bs : List (ℕ × ℕ)) (ks : List ℤ) → Rising lo hi (search_columns bs) → InBounds bs ks → Within (set_tuple v bs ks) bs
+pub tuple_within : (lo hi : ℕ) (v : Values) (bs : List (ℕ × ℕ)) (ks : List ℤ) → Rising lo hi (search_columns bs) → InBounds bs ks → Within (set_tuple v bs ks) bs
 tuple_within lo hi v [] ks ri h = tt
 tuple_within lo hi v ((c, n) ∷ bs) [] ri h = absurd h
 tuple_within lo hi v ((c, n) ∷ bs) (k ∷ ks) ri h =
@@ -98,7 +98,7 @@ Within-agree v w ((c, n) ∷ bs) a h =
     (subst (λ y. pos 0 ≤ℤ y) (a c (inl refl)) h.0, subst (λ y. y <ℤ pos n) (a c (inl refl)) h.1, Within-agree v w bs (λ d i. a d (inr i)) h.2)
 
 -- ---- the case
-pub solved_case : (m : Matrix) (a : Answer) → Owes m a → a.matrix.equations ≡ [] → a.matrix.inequalities ≡ [] → SolvedCase m a
+pub solved_case : (m : System) (a : Answer) → Owes m a → a.system.equations ≡ [] → a.system.inequalities ≡ [] → SolvedBy m a
 solved_case m a st no_e no_i =
     let Q : ℕ → Type 0 = λ c. In c m.known ⊎ In c (search_columns a.bounds) in
     record {
@@ -106,44 +106,44 @@ solved_case m a st no_e no_i =
           let f = st.keeps.forth w (sym (same 0 st.constant) ∙ one) h in
           let x = f.0 in
           let ag : Agree (λ c. In c m.known) v x = λ c i. same c i ∙ f.1 c (st.below c i) in
-          (tuple_of x a.bounds, tuple_in x a.bounds f.2, moves_hold Q (set_tuple v a.bounds (tuple_of x a.bounds)) x a.moves (tuple_agrees (λ c. In c m.known) v x a.bounds ag) st.over f.3);
+          (tuple_of x a.bounds, tuple_in x a.bounds f.2, steps_hold Q (set_tuple v a.bounds (tuple_of x a.bounds)) x a.steps (tuple_agrees (λ c. In c m.known) v x a.bounds ag) st.over f.3);
       found = λ v one ks inb needs.
           let s = set_tuple v a.bounds ks in
-          let x = after_moves s a.moves in
-          let fresh : (c : ℕ) → Q c → In c (let_columns a.moves) → ⊥ = λ c q i.
-          ⊎_elim (λ k. let b = st.below c k in let r = Rising-in m.next a.matrix.next c (let_columns a.moves) st.lets_rise i in absurd (omega arith)) (λ k. st.apart c k i) q in
-          let fit = moves_fit Q m.next a.matrix.next s a.moves st.lets_rise fresh st.over needs in
-          let wi = Within-agree s x a.bounds (λ c i. sym (after_moves-other s a.moves c (fresh c (inr i)))) (tuple_within m.next a.matrix.next v a.bounds ks st.bounds_rise inb) in
-          let same : SameKnown m v x = λ c k. sym (after_moves-other s a.moves c (fresh c (inl k)) ∙
-          set_tuple-other v a.bounds ks c (λ i. let b = st.below c k in let r = Rising-in m.next a.matrix.next c (search_columns a.bounds) st.bounds_rise i in absurd (omega arith))) in (
+          let x = after_steps s a.steps in
+          let fresh : (c : ℕ) → Q c → In c (let_columns a.steps) → ⊥ = λ c q i.
+          ⊎_elim (λ k. let b = st.below c k in let r = Rising-in m.next a.system.next c (let_columns a.steps) st.lets_rise i in absurd (omega arith)) (λ k. st.apart c k i) q in
+          let fit = steps_fit Q m.next a.system.next s a.steps st.lets_rise fresh st.over needs in
+          let wi = Within-agree s x a.bounds (λ c i. sym (after_steps-other s a.steps c (fresh c (inr i)))) (tuple_within m.next a.system.next v a.bounds ks st.bounds_rise inb) in
+          let same : SameKnown m v x = λ c k. sym (after_steps-other s a.steps c (fresh c (inl k)) ∙
+          set_tuple-other v a.bounds ks c (λ i. let b = st.below c k in let r = Rising-in m.next a.system.next c (search_columns a.bounds) st.bounds_rise i in absurd (omega arith))) in (
             (λ c k. same c k ∙ sym (st.kept x c k)),
             st.keeps.back x (sym (same 0 st.constant) ∙ one) wi fit (record { zero = subst (λ rows. EachRow (IsZero x) rows) (sym no_e) tt; nonneg = subst (λ rows. EachRow (IsNonneg x) rows) (sym no_i) tt }),
           );
     }
 
 -- ---- two steps
-pub MovesOver-weaker : (Q R : ℕ → Type 0) → ((c : ℕ) → Q c → R c) → (ms : List Move) → MovesOver Q ms → MovesOver R ms
-MovesOver-weaker Q R f [] h = tt
-MovesOver-weaker Q R f (floor_of c r g ∷ ms) h =
-    (Over-weaker Q R f r h.0, MovesOver-weaker (λ d. (d ≡ c) ⊎ Q d) (λ d. (d ≡ c) ⊎ R d) (λ d q. ⊎_elim (λ e. inl e) (λ k. inr (f d k)) q) ms h.1)
-MovesOver-weaker Q R f (need_nonneg r ∷ ms) h = (Over-weaker Q R f r h.0, MovesOver-weaker Q R f ms h.1)
-MovesOver-weaker Q R f (need_zero r ∷ ms) h = (Over-weaker Q R f r h.0, MovesOver-weaker Q R f ms h.1)
-MovesOver-weaker Q R f (need_divides g r ∷ ms) h = (Over-weaker Q R f r h.0, MovesOver-weaker Q R f ms h.1)
+pub StepsOver-weaker : (Q R : ℕ → Type 0) → ((c : ℕ) → Q c → R c) → (ms : List Step) → StepsOver Q ms → StepsOver R ms
+StepsOver-weaker Q R f [] h = tt
+StepsOver-weaker Q R f (floor_of c r g ∷ ms) h =
+    (Over-weaker Q R f r h.0, StepsOver-weaker (λ d. (d ≡ c) ⊎ Q d) (λ d. (d ≡ c) ⊎ R d) (λ d q. ⊎_elim (λ e. inl e) (λ k. inr (f d k)) q) ms h.1)
+StepsOver-weaker Q R f (need_nonneg r ∷ ms) h = (Over-weaker Q R f r h.0, StepsOver-weaker Q R f ms h.1)
+StepsOver-weaker Q R f (need_zero r ∷ ms) h = (Over-weaker Q R f r h.0, StepsOver-weaker Q R f ms h.1)
+StepsOver-weaker Q R f (need_divides g r ∷ ms) h = (Over-weaker Q R f r h.0, StepsOver-weaker Q R f ms h.1)
 
-pub MovesOver-append : (Q : ℕ → Type 0) (ms ns : List Move) → MovesOver Q ms → MovesOver (λ c. In c (let_columns ms) ⊎ Q c) ns → MovesOver Q (ms ++ ns)
-MovesOver-append Q [] ns h k = MovesOver-weaker (λ c. ⊥ ⊎ Q c) Q (λ c q. ⊎_elim (λ i. absurd i) (λ i. i) q) ns k
-MovesOver-append Q (floor_of c r g ∷ ms) ns h k = (
+pub StepsOver-append : (Q : ℕ → Type 0) (ms ns : List Step) → StepsOver Q ms → StepsOver (λ c. In c (let_columns ms) ⊎ Q c) ns → StepsOver Q (ms ++ ns)
+StepsOver-append Q [] ns h k = StepsOver-weaker (λ c. ⊥ ⊎ Q c) Q (λ c q. ⊎_elim (λ i. absurd i) (λ i. i) q) ns k
+StepsOver-append Q (floor_of c r g ∷ ms) ns h k = (
   h.0,
-  MovesOver-append (λ d. (d ≡ c) ⊎ Q d) ms ns h.1
-      (MovesOver-weaker (λ d. ((d ≡ c) ⊎ In d (let_columns ms)) ⊎ Q d) (λ d. In d (let_columns ms) ⊎ ((d ≡ c) ⊎ Q d))
+  StepsOver-append (λ d. (d ≡ c) ⊎ Q d) ms ns h.1
+      (StepsOver-weaker (λ d. ((d ≡ c) ⊎ In d (let_columns ms)) ⊎ Q d) (λ d. In d (let_columns ms) ⊎ ((d ≡ c) ⊎ Q d))
       (λ d q. ⊎_elim (λ o. ⊎_elim (λ e. inr (inl e)) (λ i. inl i) o) (λ i. inr (inr i)) q) ns k),
 )
-MovesOver-append Q (need_nonneg r ∷ ms) ns h k = (h.0, MovesOver-append Q ms ns h.1 k)
-MovesOver-append Q (need_zero r ∷ ms) ns h k = (h.0, MovesOver-append Q ms ns h.1 k)
-MovesOver-append Q (need_divides g r ∷ ms) ns h k = (h.0, MovesOver-append Q ms ns h.1 k)
+StepsOver-append Q (need_nonneg r ∷ ms) ns h k = (h.0, StepsOver-append Q ms ns h.1 k)
+StepsOver-append Q (need_zero r ∷ ms) ns h k = (h.0, StepsOver-append Q ms ns h.1 k)
+StepsOver-append Q (need_divides g r ∷ ms) ns h k = (h.0, StepsOver-append Q ms ns h.1 k)
 
--- moves fit where the values agree on their search_columns
-AllFit-agree : (R Q : ℕ → Type 0) (v w : Values) → Agree R v w → ((c : ℕ) → Q c → R c) → (ms : List Move) → MovesOver Q ms → ((c : ℕ) → In c (let_columns ms) → R c) → AllFit v ms → AllFit w ms
+-- steps fit where the values agree on their search_columns
+AllFit-agree : (R Q : ℕ → Type 0) (v w : Values) → Agree R v w → ((c : ℕ) → Q c → R c) → (ms : List Step) → StepsOver Q ms → ((c : ℕ) → In c (let_columns ms) → R c) → AllFit v ms → AllFit w ms
 AllFit-agree R Q v w a f [] o l h = tt
 AllFit-agree R Q v w a f (floor_of c r g ∷ ms) o l h = (
   sym (a c (l c (inl refl))) ∙ h.0 ∙ ap (λ y. int_div_euclid y g) (value-agree R v w a r (Over-weaker Q R f r o.0)),
@@ -153,25 +153,25 @@ AllFit-agree R Q v w a f (need_nonneg r ∷ ms) o l h = (subst (λ y. pos 0 ≤�
 AllFit-agree R Q v w a f (need_zero r ∷ ms) o l h = (sym (value-agree R v w a r (Over-weaker Q R f r o.0)) ∙ h.0, AllFit-agree R Q v w a f ms o.1 l h.1)
 AllFit-agree R Q v w a f (need_divides g r ∷ ms) o l h = (subst (λ y. Divides g y) (value-agree R v w a r (Over-weaker Q R f r o.0)) h.0, AllFit-agree R Q v w a f ms o.1 l h.1)
 
-ways_back-append : (v : Values) (xs ys : List (ℕ × Way)) → ways_back v (xs ++ ys) ≡ ways_back (ways_back v xs) ys
-ways_back-append v [] ys = refl
-ways_back-append v ((x, w) ∷ xs) ys = ways_back-append (update v x (way_value v w)) xs ys
+after_back-append : (v : Values) (xs ys : List (ℕ × How)) → after_back v (xs ++ ys) ≡ after_back (after_back v xs) ys
+after_back-append v [] ys = refl
+after_back-append v ((x, w) ∷ xs) ys = after_back-append (update v x (how_value v w)) xs ys
 
-pub step_then : (m : Matrix) (a b : Answer) → Owes m a → Owes a.matrix b → Owes m (then_answer a b)
+pub step_then : (m : System) (a b : Answer) → Owes m a → Owes a.system b → Owes m (then_answer a b)
 step_then m a b s t =
-    let R : ℕ → Type 0 = λ c. In c a.matrix.known in
+    let R : ℕ → Type 0 = λ c. In c a.system.known in
     let Q : ℕ → Type 0 = λ c. In c m.known ⊎ In c (search_columns a.bounds) in
     let into : (c : ℕ) → Q c → R c = λ c q. ⊎_elim (λ k. s.grows c k) (λ k. s.bound_known c k) q in
-    let le : m.next ≤ a.matrix.next = Rising-le m.next a.matrix.next (search_columns a.bounds) s.bounds_rise in
+    let le : m.next ≤ a.system.next = Rising-le m.next a.system.next (search_columns a.bounds) s.bounds_rise in
     let left_bound : (c : ℕ) → In c (search_columns a.bounds) → In c (search_columns (a.bounds ++ b.bounds)) = λ c i. subst (λ x. In c x) (sym (search_columns-append a.bounds b.bounds)) (In-left c (search_columns a.bounds) (search_columns b.bounds) i) in
     let right_bound : (c : ℕ) → In c (search_columns b.bounds) → In c (search_columns (a.bounds ++ b.bounds)) = λ c i. subst (λ x. In c x) (sym (search_columns-append a.bounds b.bounds)) (In-right c (search_columns a.bounds) (search_columns b.bounds) i) in
-    let left_let : (c : ℕ) → In c (let_columns a.moves) → In c (let_columns (a.moves ++ b.moves)) = λ c i. subst (λ x. In c x) (sym (let_columns-append a.moves b.moves)) (In-left c (let_columns a.moves) (let_columns b.moves) i) in
-    let right_let : (c : ℕ) → In c (let_columns b.moves) → In c (let_columns (a.moves ++ b.moves)) = λ c i. subst (λ x. In c x) (sym (let_columns-append a.moves b.moves)) (In-right c (let_columns a.moves) (let_columns b.moves) i) in
+    let left_let : (c : ℕ) → In c (let_columns a.steps) → In c (let_columns (a.steps ++ b.steps)) = λ c i. subst (λ x. In c x) (sym (let_columns-append a.steps b.steps)) (In-left c (let_columns a.steps) (let_columns b.steps) i) in
+    let right_let : (c : ℕ) → In c (let_columns b.steps) → In c (let_columns (a.steps ++ b.steps)) = λ c i. subst (λ x. In c x) (sym (let_columns-append a.steps b.steps)) (In-right c (let_columns a.steps) (let_columns b.steps) i) in
     let some_bound : (c : ℕ) → In c (search_columns (a.bounds ++ b.bounds)) → In c (search_columns a.bounds) ⊎ In c (search_columns b.bounds) = λ c i. In-append c (search_columns a.bounds) (search_columns b.bounds) (subst (λ x. In c x) (search_columns-append a.bounds b.bounds) i) in
-    let some_let : (c : ℕ) → In c (let_columns (a.moves ++ b.moves)) → In c (let_columns a.moves) ⊎ In c (let_columns b.moves) = λ c i. In-append c (let_columns a.moves) (let_columns b.moves) (subst (λ x. In c x) (let_columns-append a.moves b.moves) i) in
+    let some_let : (c : ℕ) → In c (let_columns (a.steps ++ b.steps)) → In c (let_columns a.steps) ⊎ In c (let_columns b.steps) = λ c i. In-append c (let_columns a.steps) (let_columns b.steps) (subst (λ x. In c x) (let_columns-append a.steps b.steps) i) in
     let Q2 : ℕ → Type 0 = λ c. In c m.known ⊎ In c (search_columns (a.bounds ++ b.bounds)) in
     let wide : (c : ℕ) → Q c → Q2 c = λ c q. ⊎_elim (λ k. inl k) (λ k. inr (left_bound c k)) q in
-    let later : (c : ℕ) → In c a.matrix.known ⊎ In c (search_columns b.bounds) → In c (let_columns a.moves) ⊎ Q2 c = λ c q.
+    let later : (c : ℕ) → In c a.system.known ⊎ In c (search_columns b.bounds) → In c (let_columns a.steps) ⊎ Q2 c = λ c q.
     ⊎_elim (λ k. ⊎_elim (λ i. inl i) (λ i. inr (wide c i)) (s.only c k)) (λ k. inr (inr (right_bound c k))) q in
     record {
       keeps = record {
@@ -180,20 +180,20 @@ step_then m a b s t =
             let g = t.keeps.forth f.0 (sym (f.1 0 (s.below 0 s.constant)) ∙ one) f.4 in
             let ag : Agree R f.0 g.0 = λ c k. g.1 c (t.below c k) in (
               g.0,
-              Same-trans m.next a.matrix.next v f.0 g.0 le f.1 g.1,
+              Same-trans m.next a.system.next v f.0 g.0 le f.1 g.1,
               Within-append g.0 a.bounds b.bounds (Within-agree f.0 g.0 a.bounds (λ c i. ag c (s.bound_known c i)) f.2) g.2,
-              AllFit-append g.0 a.moves b.moves (AllFit-agree R Q f.0 g.0 ag into a.moves s.over s.let_known f.3) g.3,
+              AllFit-append g.0 a.steps b.steps (AllFit-agree R Q f.0 g.0 ag into a.steps s.over s.let_known f.3) g.3,
               g.4,
             );
         back = λ v one wi fit h.
             let ws = Within-split v a.bounds b.bounds wi in
-            let fs = AllFit-split v a.moves b.moves fit in
-            let x = ways_back v b.back in
+            let fs = AllFit-split v a.steps b.steps fit in
+            let x = after_back v b.back in
             let ag : Agree R v x = λ c k. sym (t.kept v c k) in
             let mid = t.keeps.back v one ws.1 fs.1 h in
             let old = s.keeps.back x (t.kept v 0 (s.grows 0 s.constant) ∙ one) (Within-agree v x a.bounds (λ c i. ag c (s.bound_known c i)) ws.0)
-            (AllFit-agree R Q v x ag into a.moves s.over s.let_known fs.0) mid in
-            subst (λ y. Sat m y) (sym (ways_back-append v b.back a.back)) old;
+            (AllFit-agree R Q v x ag into a.steps s.over s.let_known fs.0) mid in
+            subst (λ y. Sat m y) (sym (after_back-append v b.back a.back)) old;
       };
       constant = s.constant;
       below = s.below;
@@ -201,20 +201,20 @@ step_then m a b s t =
       bound_known = λ c i. ⊎_elim (λ j. t.grows c (s.bound_known c j)) (λ j. t.bound_known c j) (some_bound c i);
       let_known = λ c i. ⊎_elim (λ j. t.grows c (s.let_known c j)) (λ j. t.let_known c j) (some_let c i);
       only = λ c k. ⊎_elim (λ i. inl (right_let c i)) (λ q. ⊎_elim (λ i. inl (left_let c i)) (λ i. inr i) (later c q)) (t.only c k);
-      over = MovesOver-append Q2 a.moves b.moves (MovesOver-weaker Q Q2 wide a.moves s.over) (MovesOver-weaker (λ c. In c a.matrix.known ⊎ In c (search_columns b.bounds)) (λ c. In c (let_columns a.moves) ⊎ Q2 c) later b.moves t.over);
-      bounds_rise = subst (λ x. Rising m.next b.matrix.next x) (sym (search_columns-append a.bounds b.bounds)) (Rising-append m.next a.matrix.next b.matrix.next (search_columns a.bounds) (search_columns b.bounds) s.bounds_rise t.bounds_rise);
-      lets_rise = subst (λ x. Rising m.next b.matrix.next x) (sym (let_columns-append a.moves b.moves)) (Rising-append m.next a.matrix.next b.matrix.next (let_columns a.moves) (let_columns b.moves) s.lets_rise t.lets_rise);
+      over = StepsOver-append Q2 a.steps b.steps (StepsOver-weaker Q Q2 wide a.steps s.over) (StepsOver-weaker (λ c. In c a.system.known ⊎ In c (search_columns b.bounds)) (λ c. In c (let_columns a.steps) ⊎ Q2 c) later b.steps t.over);
+      bounds_rise = subst (λ x. Rising m.next b.system.next x) (sym (search_columns-append a.bounds b.bounds)) (Rising-append m.next a.system.next b.system.next (search_columns a.bounds) (search_columns b.bounds) s.bounds_rise t.bounds_rise);
+      lets_rise = subst (λ x. Rising m.next b.system.next x) (sym (let_columns-append a.steps b.steps)) (Rising-append m.next a.system.next b.system.next (let_columns a.steps) (let_columns b.steps) s.lets_rise t.lets_rise);
       apart = λ c i j. ⊎_elim
-          (λ p. ⊎_elim (λ q. s.apart c p q) (λ q. ranges c (Rising-in m.next a.matrix.next c (search_columns a.bounds) s.bounds_rise p) (Rising-in a.matrix.next b.matrix.next c (let_columns b.moves) t.lets_rise q)) (some_let c j))
-          (λ p. ⊎_elim (λ q. ranges c (Rising-in m.next a.matrix.next c (let_columns a.moves) s.lets_rise q) (Rising-in a.matrix.next b.matrix.next c (search_columns b.bounds) t.bounds_rise p)) (λ q. t.apart c p q) (some_let c j))
+          (λ p. ⊎_elim (λ q. s.apart c p q) (λ q. ranges c (Rising-in m.next a.system.next c (search_columns a.bounds) s.bounds_rise p) (Rising-in a.system.next b.system.next c (let_columns b.steps) t.lets_rise q)) (some_let c j))
+          (λ p. ⊎_elim (λ q. ranges c (Rising-in m.next a.system.next c (let_columns a.steps) s.lets_rise q) (Rising-in a.system.next b.system.next c (search_columns b.bounds) t.bounds_rise p)) (λ q. t.apart c p q) (some_let c j))
           (some_bound c i);
-      kept = λ v c k. ap (λ f. f c) (ways_back-append v b.back a.back) ∙ s.kept (ways_back v b.back) c k ∙ t.kept v c (s.grows c k);
+      kept = λ v c k. ap (λ f. f c) (after_back-append v b.back a.back) ∙ s.kept (after_back v b.back) c k ∙ t.kept v c (s.grows c k);
     }
   where
-    ranges : (c : ℕ) → (m.next ≤ c) × (c < a.matrix.next) → (a.matrix.next ≤ c) × (c < b.matrix.next) → ⊥
+    ranges : (c : ℕ) → (m.next ≤ c) × (c < a.system.next) → (a.system.next ≤ c) × (c < b.system.next) → ⊥
     ranges c p q = let i = p.1 in let j = q.0 in absurd (omega arith)
 
-pub step_none : (m : Matrix) → In 0 m.known → ((c : ℕ) → In c m.known → c < m.next) → Owes m (no_answer m)
+pub step_none : (m : System) → In 0 m.known → ((c : ℕ) → In c m.known → c < m.next) → Owes m (no_answer m)
 step_none m zero_in below = record {
   keeps = record { forth = λ v one h. (v, (λ c l. refl), tt, tt, h); back = λ v one _ _ h. h };
   constant = zero_in;
@@ -231,21 +231,21 @@ step_none m zero_in below = record {
 }
 
 -- ---- a trace, from states of the kind Good
-module _ (l : Limits) (Good : State → Type 0) (constant : (s : State) → Good s → In 0 s.matrix.known) (below : (s : State) → Good s → (c : ℕ) → In c s.matrix.known → c < s.matrix.next)
-    (at_end : (s : State) → Good s → stage l s ≡ ends solved → (s.matrix.equations ≡ []) × (s.matrix.inequalities ≡ []))
-    (owes : (s t : State) (a : Taken) → Good s → stage l s ≡ goes t a → (t.matrix ≡ a.answer.matrix) × Good t × Owes s.matrix a.answer) where
-  abbrev Ended : Matrix → Answer → Type 0
-  Ended m a = Owes m a × (a.matrix.equations ≡ []) × (a.matrix.inequalities ≡ [])
+module _ (l : Limits) (Good : State → Type 0) (constant : (s : State) → Good s → In 0 s.system.known) (below : (s : State) → Good s → (c : ℕ) → In c s.system.known → c < s.system.next)
+    (at_end : (s : State) → Good s → stage l s ≡ ends solved → (s.system.equations ≡ []) × (s.system.inequalities ≡ []))
+    (owes : (s t : State) (a : Taken) → Good s → stage l s ≡ goes t a → (t.system ≡ a.answer.system) × Good t × Owes s.system a.answer) where
+  abbrev Ended : System → Answer → Type 0
+  Ended m a = Owes m a × (a.system.equations ≡ []) × (a.system.inequalities ≡ [])
 
   abbrev answers : List Taken → List Answer
   answers as_ = map (λ a. a.answer) as_
 
-  pub trace_step : {s : State} {as_ : List Taken} {e : End} → Trace l s as_ e → e ≡ solved → Good s → Ended s.matrix (whole s.matrix (answers as_))
-  trace_step (stop {s = s} p) q g = let z = at_end s g (rw (← q) p) in (step_none s.matrix (constant s g) (below s g), z.0, z.1)
+  pub trace_step : {s : State} {as_ : List Taken} {e : End} → Trace l s as_ e → e ≡ solved → Good s → Ended s.system (whole s.system (answers as_))
+  trace_step (stop {s = s} p) q g = let z = at_end s g (rw (← q) p) in (step_none s.system (constant s g) (below s g), z.0, z.1)
   trace_step (more {s = s} {t = t} {a = a} {as_ = as_} p k) q g =
       let o = owes s t a g p in
       let rest = subst (λ m. Ended m (whole m (answers as_))) o.0 (trace_step k q o.1) in
-      (step_then s.matrix a.answer (whole a.answer.matrix (answers as_)) o.2 rest.0, rest.1, rest.2)
+      (step_then s.system a.answer (whole a.answer.system (answers as_)) o.2 rest.0, rest.1, rest.2)
 
-  pub trace_solved : {s : State} {as_ : List Taken} → Trace l s as_ solved → Good s → SolvedCase s.matrix (whole s.matrix (answers as_))
-  trace_solved {s} {as_} t g = let r = trace_step t refl g in solved_case s.matrix (whole s.matrix (answers as_)) r.0 r.1 r.2
+  pub trace_solved : {s : State} {as_ : List Taken} → Trace l s as_ solved → Good s → SolvedBy s.system (whole s.system (answers as_))
+  trace_solved {s} {as_} t g = let r = trace_step t refl g in solved_case s.system (whole s.system (answers as_)) r.0 r.1 r.2

@@ -7,7 +7,7 @@ use Rattle.std.proofs.lemmas.Bool.{cond_both, eqb-true, eqb-false, eq-eqb}
 use Rattle.cf_num.proofs.Ring.{ring}
 use Rattle.cf_linear.specs.Rows.{Row, Values, entry, value, comb, without, subst_row}
 use Rattle.cf_linear.specs.Relations.{Divides}
-use Rattle.cf_linear.specs.Matrices.{EachRow, Move, floor_of, need_nonneg, need_zero, need_divides}
+use Rattle.cf_linear.specs.Systems.{EachRow, Step, floor_of, need_nonneg, need_zero, need_divides}
 use Rattle.cf_linear.specs.Steps.{subst_all}
 use Rattle.cf_linear.specs.Keep.{Over, Same, AllFit, Within, update}
 use Rattle.cf_linear.proofs.RowLemmas.{value-comb}
@@ -70,43 +70,43 @@ value-parts v p ((c, k) ∷ r) =
     cond_both (p (c, k)) (pos 0) (pos 0) (λ _. k *ℤ v c +ℤ value v r ≡ value v (filter p ((c, k) ∷ r)) +ℤ value v (filter (λ x. not (p x)) ((c, k) ∷ r)))
     (λ e. rw (e, value-parts v p r) (omega (arith, ints))) (λ e. rw (e, value-parts v p r) (omega (arith, ints)))
 
--- ---- moves
--- the columns of the move are below n
-abbrev pub MoveBelow : ℕ → Move → Type 0
-MoveBelow n (floor_of c r g) = (c < n) × Below n r
-MoveBelow n (need_nonneg r) = Below n r
-MoveBelow n (need_zero r) = Below n r
-MoveBelow n (need_divides g r) = Below n r
+-- ---- steps
+-- the columns of the step are below n
+abbrev pub StepBelow : ℕ → Step → Type 0
+StepBelow n (floor_of c r g) = (c < n) × Below n r
+StepBelow n (need_nonneg r) = Below n r
+StepBelow n (need_zero r) = Below n r
+StepBelow n (need_divides g r) = Below n r
 
-abbrev pub MovesBelow : ℕ → List Move → Type 0
-MovesBelow n [] = Unit {0}
-MovesBelow n (m ∷ ms) = MoveBelow n m × MovesBelow n ms
+abbrev pub StepsBelow : ℕ → List Step → Type 0
+StepsBelow n [] = Unit {0}
+StepsBelow n (m ∷ ms) = StepBelow n m × StepsBelow n ms
 
-pub AllFit-same : (n : ℕ) (v w : Values) → Same n v w → (ms : List Move) → MovesBelow n ms → AllFit v ms → AllFit w ms
+pub AllFit-same : (n : ℕ) (v w : Values) → Same n v w → (ms : List Step) → StepsBelow n ms → AllFit v ms → AllFit w ms
 AllFit-same n v w s [] b h = tt
 AllFit-same n v w s (floor_of c r g ∷ ms) b h = (sym (s c b.0.0) ∙ h.0 ∙ ap (λ y. int_div_euclid y g) (value-same n v w s r b.0.1), AllFit-same n v w s ms b.1 h.1)
 AllFit-same n v w s (need_nonneg r ∷ ms) b h = (subst (λ y. pos 0 ≤ℤ y) (value-same n v w s r b.0) h.0, AllFit-same n v w s ms b.1 h.1)
 AllFit-same n v w s (need_zero r ∷ ms) b h = (sym (value-same n v w s r b.0) ∙ h.0, AllFit-same n v w s ms b.1 h.1)
 AllFit-same n v w s (need_divides g r ∷ ms) b h = (subst (λ y. Divides g y) (value-same n v w s r b.0) h.0, AllFit-same n v w s ms b.1 h.1)
 
-pub AllFit-append : (v : Values) (ms ns : List Move) → AllFit v ms → AllFit v ns → AllFit v (ms ++ ns)
+pub AllFit-append : (v : Values) (ms ns : List Step) → AllFit v ms → AllFit v ns → AllFit v (ms ++ ns)
 AllFit-append v [] ns h k = k
 AllFit-append v (m ∷ ms) ns h k = (h.0, AllFit-append v ms ns h.1 k)
 
-pub AllFit-split : (v : Values) (ms ns : List Move) → AllFit v (ms ++ ns) → AllFit v ms × AllFit v ns
+pub AllFit-split : (v : Values) (ms ns : List Step) → AllFit v (ms ++ ns) → AllFit v ms × AllFit v ns
 AllFit-split v [] ns h = (tt, h)
 AllFit-split v (m ∷ ms) ns h = let r = AllFit-split v ms ns h.1 in ((h.0, r.0), r.1)
 
-pub MovesBelow-append : (n : ℕ) (ms ns : List Move) → MovesBelow n ms → MovesBelow n ns → MovesBelow n (ms ++ ns)
-MovesBelow-append n [] ns h k = k
-MovesBelow-append n (m ∷ ms) ns h k = (h.0, MovesBelow-append n ms ns h.1 k)
+pub StepsBelow-append : (n : ℕ) (ms ns : List Step) → StepsBelow n ms → StepsBelow n ns → StepsBelow n (ms ++ ns)
+StepsBelow-append n [] ns h k = k
+StepsBelow-append n (m ∷ ms) ns h k = (h.0, StepsBelow-append n ms ns h.1 k)
 
-pub MovesBelow-more : (n p : ℕ) → n ≤ p → (ms : List Move) → MovesBelow n ms → MovesBelow p ms
-MovesBelow-more n p l [] h = tt
-MovesBelow-more n p l (floor_of c r g ∷ ms) h = ((let i = h.0.0 in omega arith, Below-more n p l r h.0.1), MovesBelow-more n p l ms h.1)
-MovesBelow-more n p l (need_nonneg r ∷ ms) h = (Below-more n p l r h.0, MovesBelow-more n p l ms h.1)
-MovesBelow-more n p l (need_zero r ∷ ms) h = (Below-more n p l r h.0, MovesBelow-more n p l ms h.1)
-MovesBelow-more n p l (need_divides g r ∷ ms) h = (Below-more n p l r h.0, MovesBelow-more n p l ms h.1)
+pub StepsBelow-more : (n p : ℕ) → n ≤ p → (ms : List Step) → StepsBelow n ms → StepsBelow p ms
+StepsBelow-more n p l [] h = tt
+StepsBelow-more n p l (floor_of c r g ∷ ms) h = ((let i = h.0.0 in omega arith, Below-more n p l r h.0.1), StepsBelow-more n p l ms h.1)
+StepsBelow-more n p l (need_nonneg r ∷ ms) h = (Below-more n p l r h.0, StepsBelow-more n p l ms h.1)
+StepsBelow-more n p l (need_zero r ∷ ms) h = (Below-more n p l r h.0, StepsBelow-more n p l ms h.1)
+StepsBelow-more n p l (need_divides g r ∷ ms) h = (Below-more n p l r h.0, StepsBelow-more n p l ms h.1)
 
 -- ---- search bounds
 pub Within-append : (v : Values) (bs cs : List (ℕ × ℕ)) → Within v bs → Within v cs → Within v (bs ++ cs)

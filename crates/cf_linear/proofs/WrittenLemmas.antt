@@ -8,7 +8,7 @@ use Rattle.cf_tree.specs.Numbers.{quotient, absolute}
 use Rattle.cf_tree.specs.RelTree.{TermTree, term_lit, term_var, term_card, term_neg, term_add, term_sub, term_mul, term_div, term_mod, term_abs}
 use Rattle.cf_tree.specs.Relation.{is_fixed, IsLinearTerm}
 use Rattle.cf_linear.specs.Rows.{Row, Values, entry, value, is_zero, put, comb}
-use Rattle.cf_linear.specs.Layout.{Levels, number_column}
+use Rattle.cf_linear.specs.Layout.{Layout, number_column}
 use Rattle.cf_linear.specs.Written.{val_at, GuardTree, sign_guard, quotient_guard, GuardsHold, constant_row, plus, write, WrittenTree, first_sign, signed_by, product_by}
 use Rattle.cf_linear.proofs.BoolLemmas.{on_bool}
 use Rattle.cf_linear.proofs.RowLemmas.{value-put, value-comb, entry-comb}
@@ -42,7 +42,7 @@ constant-signed : (b : Bool) (w : WrittenTree) → IsConstant w.row → IsConsta
 constant-signed true w p = constant-comb (negsuc 0) w.row (pos 0) [] p constant-none
 constant-signed false w p = p
 
-pub constant-fixed : (l : Levels) (t : TermTree) (ss : List Bool) (q : ℕ) → is_fixed t ≡ true → IsConstant (write l t ss q).row
+pub constant-fixed : (l : Layout) (t : TermTree) (ss : List Bool) (q : ℕ) → is_fixed t ≡ true → IsConstant (write l t ss q).row
 constant-fixed l (term_lit n) ss q e = constant-row n
 constant-fixed l (term_var x) ss q e = cc
 constant-fixed l (term_card s) ss q e = cc
@@ -109,7 +109,7 @@ other_side true b t e = cc
 other_side false true t e = refl
 other_side false false t e = cc
 
-pub write-value : (l : Levels) (v : Values) → v 0 ≡ pos 1 → (t : TermTree) (ss : List Bool) (q : ℕ) → IsLinearTerm t → GuardsHold v (write l t ss q).guards →
+pub write-value : (l : Layout) (v : Values) → v 0 ≡ pos 1 → (t : TermTree) (ss : List Bool) (q : ℕ) → IsLinearTerm t → GuardsHold v (write l t ss q).guards →
     value v (write l t ss q).row ≡ val_at l v t
 write-value l v one (term_lit n) ss q p g = value-put v 0 n [] ∙ rw one (omega (arith, ints))
 write-value l v one (term_var x) ss q p g = value-put v (number_column l x) (pos 1) [] ∙ omega (arith, ints)

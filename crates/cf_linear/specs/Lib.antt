@@ -1,6 +1,6 @@
 pub mod Rows
 pub mod Merging
-pub mod Matrices
+pub mod Systems
 pub mod Steps
 pub mod Stages
 pub mod Layout

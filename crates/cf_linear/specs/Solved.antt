@@ -3,15 +3,15 @@ use Rattle.std.specs.Prelude.{◌≡◌, ℕ, suc, ◌<◌, ◌≤◌, ℤ, pos,
 use Rattle.std.specs.Int.{int_div_euclid}
 use Rattle.cf_linear.specs.Rows.{Values, value}
 use Rattle.cf_linear.specs.Relations.{Divides}
-use Rattle.cf_linear.specs.Matrices.{Matrix, Sat, Move, floor_of, need_nonneg, need_zero, need_divides, Answer}
-use Rattle.cf_linear.specs.Keep.{In, Over, update, ways_back, Keeps}
+use Rattle.cf_linear.specs.Systems.{System, Sat, Step, floor_of, need_nonneg, need_zero, need_divides, Answer}
+use Rattle.cf_linear.specs.Keep.{In, Over, update, after_back, Keeps}
 
 -- the columns of searches, and those of lets
 abbrev pub search_columns : List (ℕ × ℕ) → List ℕ
 search_columns [] = []
 search_columns ((c, n) ∷ bs) = c ∷ search_columns bs
 
-abbrev pub let_columns : List Move → List ℕ
+abbrev pub let_columns : List Step → List ℕ
 let_columns [] = []
 let_columns (floor_of c r g ∷ ms) = c ∷ let_columns ms
 let_columns (need_nonneg r ∷ ms) = let_columns ms
@@ -24,50 +24,50 @@ Rising lo hi [] = lo ≤ hi
 Rising lo hi (c ∷ cs) = (lo ≤ c) × Rising (suc c) hi cs
 
 -- each row has columns of the kind, or of earlier lets
-abbrev pub MovesOver : (ℕ → Type 0) → List Move → Type 0
-MovesOver Q [] = Unit {0}
-MovesOver Q (floor_of c r g ∷ ms) = Over Q r × MovesOver (λ d. (d ≡ c) ⊎ Q d) ms
-MovesOver Q (need_nonneg r ∷ ms) = Over Q r × MovesOver Q ms
-MovesOver Q (need_zero r ∷ ms) = Over Q r × MovesOver Q ms
-MovesOver Q (need_divides g r ∷ ms) = Over Q r × MovesOver Q ms
+abbrev pub StepsOver : (ℕ → Type 0) → List Step → Type 0
+StepsOver Q [] = Unit {0}
+StepsOver Q (floor_of c r g ∷ ms) = Over Q r × StepsOver (λ d. (d ≡ c) ⊎ Q d) ms
+StepsOver Q (need_nonneg r ∷ ms) = Over Q r × StepsOver Q ms
+StepsOver Q (need_zero r ∷ ms) = Over Q r × StepsOver Q ms
+StepsOver Q (need_divides g r ∷ ms) = Over Q r × StepsOver Q ms
 
 -- what one step owes, and several steps as one too
-pub record Owes (m : Matrix) (a : Answer) : Type 0 where
+pub record Owes (m : System) (a : Answer) : Type 0 where
   pub keeps : Keeps m a
   pub constant : In 0 m.known
   pub below : (c : ℕ) → In c m.known → c < m.next
-  pub grows : (c : ℕ) → In c m.known → In c a.matrix.known
-  pub bound_known : (c : ℕ) → In c (search_columns a.bounds) → In c a.matrix.known
-  pub let_known : (c : ℕ) → In c (let_columns a.moves) → In c a.matrix.known
-  pub only : (c : ℕ) → In c a.matrix.known → In c (let_columns a.moves) ⊎ (In c m.known ⊎ In c (search_columns a.bounds))
-  pub over : MovesOver (λ c. In c m.known ⊎ In c (search_columns a.bounds)) a.moves
-  pub bounds_rise : Rising m.next a.matrix.next (search_columns a.bounds)
-  pub lets_rise : Rising m.next a.matrix.next (let_columns a.moves)
-  pub apart : (c : ℕ) → In c (search_columns a.bounds) → In c (let_columns a.moves) → ⊥
-  pub kept : (v : Values) (c : ℕ) → In c m.known → ways_back v a.back c ≡ v c
+  pub grows : (c : ℕ) → In c m.known → In c a.system.known
+  pub bound_known : (c : ℕ) → In c (search_columns a.bounds) → In c a.system.known
+  pub let_known : (c : ℕ) → In c (let_columns a.steps) → In c a.system.known
+  pub only : (c : ℕ) → In c a.system.known → In c (let_columns a.steps) ⊎ (In c m.known ⊎ In c (search_columns a.bounds))
+  pub over : StepsOver (λ c. In c m.known ⊎ In c (search_columns a.bounds)) a.steps
+  pub bounds_rise : Rising m.next a.system.next (search_columns a.bounds)
+  pub lets_rise : Rising m.next a.system.next (let_columns a.steps)
+  pub apart : (c : ℕ) → In c (search_columns a.bounds) → In c (let_columns a.steps) → ⊥
+  pub kept : (v : Values) (c : ℕ) → In c m.known → after_back v a.back c ≡ v c
 
 -- ---- one after the other: a tuple of search values, then lets and needs, then the unknowns
 -- a let sets its new column
-abbrev pub after_move : Values → Move → Values
-after_move v (floor_of c r g) = update v c (int_div_euclid (value v r) g)
-after_move v (need_nonneg r) = v
-after_move v (need_zero r) = v
-after_move v (need_divides g r) = v
+abbrev pub after_step : Values → Step → Values
+after_step v (floor_of c r g) = update v c (int_div_euclid (value v r) g)
+after_step v (need_nonneg r) = v
+after_step v (need_zero r) = v
+after_step v (need_divides g r) = v
 
-abbrev pub after_moves : Values → List Move → Values
-after_moves v [] = v
-after_moves v (m ∷ ms) = after_moves (after_move v m) ms
+abbrev pub after_steps : Values → List Step → Values
+after_steps v [] = v
+after_steps v (m ∷ ms) = after_steps (after_step v m) ms
 
-abbrev pub Need : Values → Move → Type 0
+abbrev pub Need : Values → Step → Type 0
 Need v (floor_of c r g) = Unit {0}
 Need v (need_nonneg r) = pos 0 ≤ℤ value v r
 Need v (need_zero r) = value v r ≡ pos 0
 Need v (need_divides g r) = Divides g (value v r)
 
 -- each need holds at the values of the lets before it
-abbrev pub NeedsHold : Values → List Move → Type 0
+abbrev pub NeedsHold : Values → List Step → Type 0
 NeedsHold v [] = Unit {0}
-NeedsHold v (m ∷ ms) = Need v m × NeedsHold (after_move v m) ms
+NeedsHold v (m ∷ ms) = Need v m × NeedsHold (after_step v m) ms
 
 -- one number for each search column, from 0 on and below its bound
 abbrev pub InBounds : List (ℕ × ℕ) → List ℤ → Type 0
@@ -83,13 +83,13 @@ set_tuple v ((c, n) ∷ bs) (k ∷ ks) = set_tuple (update v c k) bs ks
 
 -- the values after the searches and the lets
 abbrev pub after : Answer → Values → List ℤ → Values
-after a v ks = after_moves (set_tuple v a.bounds ks) a.moves
+after a v ks = after_steps (set_tuple v a.bounds ks) a.steps
 
-abbrev pub SameKnown : Matrix → Values → Values → Type 0
+abbrev pub SameKnown : System → Values → Values → Type 0
 SameKnown m v w = (c : ℕ) → In c m.known → v c ≡ w c
 
--- some tuple meets the needs where some unknowns satisfy the matrix, and at each tuple that meets them the way back gives such unknowns
-pub record SolvedCase (m : Matrix) (a : Answer) : Type 0 where
-  pub meets : (v : Values) → v 0 ≡ pos 1 → (w : Values) → SameKnown m v w → Sat m w → (ks : List ℤ) × InBounds a.bounds ks × NeedsHold (set_tuple v a.bounds ks) a.moves
-  pub found : (v : Values) → v 0 ≡ pos 1 → (ks : List ℤ) → InBounds a.bounds ks → NeedsHold (set_tuple v a.bounds ks) a.moves →
-      SameKnown m v (ways_back (after a v ks) a.back) × Sat m (ways_back (after a v ks) a.back)
+-- some tuple meets the needs where some unknowns satisfy the system, and at each tuple that meets them the way back gives such unknowns
+pub record SolvedBy (m : System) (a : Answer) : Type 0 where
+  pub meets : (v : Values) → v 0 ≡ pos 1 → (w : Values) → SameKnown m v w → Sat m w → (ks : List ℤ) × InBounds a.bounds ks × NeedsHold (set_tuple v a.bounds ks) a.steps
+  pub found : (v : Values) → v 0 ≡ pos 1 → (ks : List ℤ) → InBounds a.bounds ks → NeedsHold (set_tuple v a.bounds ks) a.steps →
+      SameKnown m v (after_back (after a v ks) a.back) × Sat m (after_back (after a v ks) a.back)

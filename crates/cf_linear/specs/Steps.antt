@@ -5,7 +5,7 @@ use Rattle.std.specs.Int.{int_div_euclid, int_rem_euclid}
 use Rattle.cf_num.specs.Divisors.{gcd_of}
 use Rattle.cf_num.specs.Parts.{parts_of}
 use Rattle.cf_linear.specs.Rows.{Row, entry, is_zero, put, comb, comb_passes, same_row, without, norm, subst_row, subst_passes}
-use Rattle.cf_linear.specs.Matrices.{Matrix, Move, floor_of, need_nonneg, need_zero, need_divides, Way, row_way, greatest, least, Answer, then_answer}
+use Rattle.cf_linear.specs.Systems.{System, Step, floor_of, need_nonneg, need_zero, need_divides, How, row_how, greatest, least, Answer, then_answer}
 
 -- ---- parts of rows
 abbrev pub has_column : List ℕ → ℕ → Bool
@@ -48,7 +48,7 @@ greatest_of ns = fold max 0 ns
 
 -- ---- Clean
 -- an inequality is tightened by the greatest common divisor g of its unknowns' coefficients; where g does not divide the known part, its floor by g is a new column
-abbrev pub tighten_row : List ℕ → ℕ → Row → Option Move × Row
+abbrev pub tighten_row : List ℕ → ℕ → Row → Option Step × Row
 tighten_row us next r =
     let g = common (unknown_part us r) in
     if nat_le g 1 then (None, r) else
@@ -58,18 +58,18 @@ tighten_row us next r =
 pub record Tightened : Type 0 where
   pub next : ℕ
   pub made : List ℕ
-  pub moves : List Move
+  pub steps : List Step
   pub rows : List Row
 
-abbrev pub next_tightened : Tightened → (Option Move × Row) → Tightened
-next_tightened t (None, r) = record { next = t.next; made = t.made; moves = t.moves; rows = t.rows ++ (r ∷ []) }
-next_tightened t (Some m, r) = record { next = t.next + 1; made = t.made ++ (t.next ∷ []); moves = t.moves ++ (m ∷ []); rows = t.rows ++ (r ∷ []) }
+abbrev pub next_tightened : Tightened → (Option Step × Row) → Tightened
+next_tightened t (None, r) = record { next = t.next; made = t.made; steps = t.steps; rows = t.rows ++ (r ∷ []) }
+next_tightened t (Some m, r) = record { next = t.next + 1; made = t.made ++ (t.next ∷ []); steps = t.steps ++ (m ∷ []); rows = t.rows ++ (r ∷ []) }
 
 abbrev pub then_tighten : List ℕ → Tightened → Row → Tightened
 then_tighten us t r = next_tightened t (tighten_row us t.next r)
 
 abbrev pub tighten_all : List ℕ → ℕ → List Row → Tightened
-tighten_all us next rows = fold (then_tighten us) (record { next = next; made = []; moves = []; rows = [] }) rows
+tighten_all us next rows = fold (then_tighten us) (record { next = next; made = []; steps = []; rows = [] }) rows
 
 -- the rows without those that are equal to an earlier one
 abbrev pub distinct_after : List Row → List Row → List Row
@@ -77,13 +77,13 @@ distinct_after seen [] = []
 distinct_after seen (r ∷ rows) = (if list_any (same_row r) seen then distinct_after seen rows else r ∷ distinct_after (r ∷ seen) rows)
 
 -- rows without unknowns become needs, the inequalities are tightened, and equal ones are dropped
-unfoldable pub clean : Matrix → Answer
+unfoldable pub clean : System → Answer
 clean m =
     let zeros = filter (λ r. not (has_unknown m.unknown r)) m.equations in
     let nonnegs = filter (λ r. not (has_unknown m.unknown r)) m.inequalities in
     let t = tighten_all m.unknown m.next (filter (has_unknown m.unknown) m.inequalities) in
     record {
-      matrix = record {
+      system = record {
         known = m.known ++ t.made;
         unknown = m.unknown;
         next = t.next;
@@ -91,7 +91,7 @@ clean m =
         inequalities = distinct_after [] t.rows;
         needs = m.needs + length zeros + length nonnegs;
       };
-      moves = map need_zero zeros ++ map need_nonneg nonnegs ++ t.moves;
+      steps = map need_zero zeros ++ map need_nonneg nonnegs ++ t.steps;
       back = [];
       bounds = [];
     }
@@ -105,12 +105,12 @@ abbrev pub two_at : ℤ → ℕ → ℤ → ℕ → Row
 two_at a u b v = comb a (one_at u) b (one_at v)
 
 -- x = a * u + b * v and y = c * u + d * v, for new unknowns u and v in the places of x and y
-unfoldable pub mix : Matrix → ℕ → ℕ → ℤ → ℤ → ℤ → ℤ → Answer
+unfoldable pub mix : System → ℕ → ℕ → ℤ → ℤ → ℤ → ℤ → Answer
 mix m x y a b c d =
     let u = m.next in
     let v = m.next + 1 in
     record {
-      matrix = record {
+      system = record {
         known = m.known;
         unknown = replaced x u (replaced y v m.unknown);
         next = m.next + 2;
@@ -118,12 +118,12 @@ mix m x y a b c d =
         inequalities = subst_all x (two_at a u b v) (subst_all y (two_at c u d v) m.inequalities);
         needs = m.needs;
       };
-      moves = [];
-      back = (x, row_way (two_at a u b v)) ∷ (y, row_way (two_at c u d v)) ∷ [];
+      steps = [];
+      back = (x, row_how (two_at a u b v)) ∷ (y, row_how (two_at c u d v)) ∷ [];
       bounds = [];
     }
 
-abbrev pub mix_passes : Matrix → ℕ → ℕ → ℤ → ℤ → ℤ → ℤ → Bool
+abbrev pub mix_passes : System → ℕ → ℕ → ℤ → ℤ → ℤ → ℤ → Bool
 mix_passes m x y a b c d =
     list_any (λ r. subst_passes y (two_at c m.next d (m.next + 1)) r || subst_passes x (two_at a m.next b (m.next + 1)) (subst_row y (two_at c m.next d (m.next + 1)) r)) (m.equations ++ m.inequalities)
 
@@ -138,10 +138,10 @@ unfoldable pub factors_of : ℤ → ℤ → Factors
 factors_of a b = let p = parts_of a b in record { s = p.s; m = neg_ℤ (int_div_euclid b p.g); t = p.t; n = int_div_euclid a p.g }
 
 -- Merge: the two unknowns of the equation e give way to two new ones, of which e holds the first alone
-unfoldable pub merge : Matrix → Row → ℕ → ℕ → Answer
+unfoldable pub merge : System → Row → ℕ → ℕ → Answer
 merge m e x1 x2 = let f = factors_of (entry e x1) (entry e x2) in mix m x1 x2 f.s f.m f.t f.n
 
-unfoldable pub merge_passes : Matrix → Row → ℕ → ℕ → Bool
+unfoldable pub merge_passes : System → Row → ℕ → ℕ → Bool
 merge_passes m e x1 x2 = let f = factors_of (entry e x1) (entry e x2) in mix_passes m x1 x2 f.s f.m f.t f.n
 
 unfoldable pub merge_factor : Row → ℕ → ℕ → ℕ
@@ -160,15 +160,15 @@ abbrev pub solved_row : ℤ → Row → ℕ → Row
 solved_row c r d =
     (if is_unit c then comb (neg_ℤ c) r (pos 0) [] else (d, (if is_positive c then negsuc 0 else pos 1)) ∷ [])
 
--- the equation e, one of the matrix, has the one unknown u; both leave, and the other equations are `rest`
-unfoldable pub last : Matrix → Row → List Row → ℕ → Answer
+-- the equation e, one of the system, has the one unknown u; both leave, and the other equations are `rest`
+unfoldable pub last : System → Row → List Row → ℕ → Answer
 last m e rest u =
     let c = entry e u in
     let r = without u e in
     let d = m.next in
     let s = solved_row c r d in
     record {
-      matrix = record {
+      system = record {
         known = (if is_unit c then m.known else m.known ++ (d ∷ []));
         unknown = filter (λ w. not (w == u)) m.unknown;
         next = (if is_unit c then m.next else m.next + 1);
@@ -176,12 +176,12 @@ last m e rest u =
         inequalities = subst_all u s m.inequalities;
         needs = (if is_unit c then m.needs else m.needs + 1);
       };
-      moves = (if is_unit c then [] else need_divides (pos (unsigned_abs c)) r ∷ floor_of d r (pos (unsigned_abs c)) ∷ []);
-      back = (u, row_way s) ∷ [];
+      steps = (if is_unit c then [] else need_divides (pos (unsigned_abs c)) r ∷ floor_of d r (pos (unsigned_abs c)) ∷ []);
+      back = (u, row_how s) ∷ [];
       bounds = [];
     }
 
-abbrev pub last_passes : Matrix → Row → List Row → ℕ → Bool
+abbrev pub last_passes : System → Row → List Row → ℕ → Bool
 last_passes m e rest u = list_any (subst_passes u (solved_row (entry e u) (without u e) m.next)) (rest ++ m.inequalities)
 
 -- ---- a Bound step
@@ -195,7 +195,7 @@ abbrev pub free_of : ℕ → List Row → List Row
 free_of x rows = filter (λ r. is_zero (entry r x)) rows
 
 -- which unknown goes, by which side, the product of that side's coefficients, and how many pairs its bounds make
-pub record Choice : Type 0 where
+pub record Pick : Type 0 where
   pub unknown : ℕ
   pub lower : Bool
   pub product : ℕ
@@ -208,8 +208,8 @@ product_of x rows = fold (λ n r. min (n * unsigned_abs (entry r x)) (2 ^ 64 - 1
 abbrev pub has_greater : ℕ → List Row → Bool
 has_greater x rows = list_any (λ r. nat_lt 1 (unsigned_abs (entry r x))) rows
 
-abbrev pub choice_at : List Row → ℕ → Choice
-choice_at rows x =
+abbrev pub pick_at : List Row → ℕ → Pick
+pick_at rows x =
     let low = lowers x rows in
     let high = uppers x rows in
     let p = product_of x low in
@@ -217,16 +217,16 @@ choice_at rows x =
     let both = has_greater x low && has_greater x high in
     record { unknown = x; lower = (if both then nat_le p q else true); product = (if both then min p q else 1); pairs = length low * length high }
 
-abbrev pub is_better : Choice → Choice → Bool
+abbrev pub is_better : Pick → Pick → Bool
 is_better c d = nat_lt c.product d.product || ((c.product == d.product) && nat_lt c.pairs d.pairs)
 
-abbrev pub best : Choice → List Choice → Choice
+abbrev pub best : Pick → List Pick → Pick
 best c [] = c
 best c (d ∷ ds) = best (if is_better d c then d else c) ds
 
 -- the least product, then the fewest pairs, then the least place, among x and then us
-unfoldable pub pick : List Row → ℕ → List ℕ → Choice
-pick rows x us = best (choice_at rows x) (map (choice_at rows) us)
+unfoldable pub pick : List Row → ℕ → List ℕ → Pick
+pick rows x us = best (pick_at rows x) (map (pick_at rows) us)
 
 -- whether the row is a bound of x on that side with a coefficient above 1
 abbrev pub searches : ℕ → Bool → Row → Bool
@@ -266,19 +266,19 @@ found_row x lower s r =
 abbrev pub found_all : ℕ → Bool → Found → List Row → Found
 found_all x lower s rows = fold (found_row x lower) s rows
 
-abbrev pub no_found : Matrix → Found
+abbrev pub no_found : System → Found
 no_found m = record { next = m.next; columns = []; unknowns = []; equations = []; rows = []; bounds = [] }
 
-abbrev pub searched_as : Matrix → Found → Answer
+abbrev pub searched_as : System → Found → Answer
 searched_as m s = record {
-  matrix = record { known = m.known ++ s.columns; unknown = m.unknown ++ s.unknowns; next = s.next; equations = m.equations ++ s.equations; inequalities = s.rows; needs = m.needs };
-  moves = [];
+  system = record { known = m.known ++ s.columns; unknown = m.unknown ++ s.unknowns; next = s.next; equations = m.equations ++ s.equations; inequalities = s.rows; needs = m.needs };
+  steps = [];
   back = [];
   bounds = s.bounds;
 }
 
 -- each bound of x on that side with a coefficient above 1 becomes an equation with a search column and a new unknown
-unfoldable pub searched : Matrix → ℕ → Bool → Answer
+unfoldable pub searched : System → ℕ → Bool → Answer
 searched m x lower = searched_as m (found_all x lower (no_found m) m.inequalities)
 
 -- q * l + p * m for a lower bound p * x + l and an upper bound -q * x + m
@@ -288,15 +288,15 @@ pair_row x low high = comb (neg_ℤ (entry high x)) (without x low) (entry low x
 abbrev pub pairs_of : ℕ → List Row → List Row → List Row
 pairs_of x low high = flat_map (λ l. map (pair_row x l) high) low
 
-abbrev pub way_of : ℕ → List Row → List Row → Way
-way_of x [] [] = row_way []
-way_of x [] (u ∷ high) = least (map (λ r. (without x r, neg_ℤ (entry r x))) (u ∷ high))
-way_of x (l ∷ low) high = greatest (map (λ r. (without x r, entry r x)) (l ∷ low))
+abbrev pub how_between : ℕ → List Row → List Row → How
+how_between x [] [] = row_how []
+how_between x [] (u ∷ high) = least (map (λ r. (without x r, neg_ℤ (entry r x))) (u ∷ high))
+how_between x (l ∷ low) high = greatest (map (λ r. (without x r, entry r x)) (l ∷ low))
 
 -- x, which no equation holds, is dropped
-unfoldable pub dropped : Matrix → ℕ → Answer
+unfoldable pub dropped : System → ℕ → Answer
 dropped m x = record {
-  matrix = record {
+  system = record {
     known = m.known;
     unknown = filter (λ w. not (w == x)) m.unknown;
     next = m.next;
@@ -304,36 +304,36 @@ dropped m x = record {
     inequalities = free_of x m.inequalities ++ pairs_of x (lowers x m.inequalities) (uppers x m.inequalities);
     needs = m.needs;
   };
-  moves = [];
-  back = (x, way_of x (lowers x m.inequalities) (uppers x m.inequalities)) ∷ [];
+  steps = [];
+  back = (x, how_between x (lowers x m.inequalities) (uppers x m.inequalities)) ∷ [];
   bounds = [];
 }
 
 abbrev pub pair_passes : ℕ → Row → Row → Bool
 pair_passes x low high = comb_passes (neg_ℤ (entry high x)) (without x low) (entry low x) (without x high)
 
-abbrev pub drop_passes : Matrix → ℕ → Bool
+abbrev pub drop_passes : System → ℕ → Bool
 drop_passes m x = list_any (λ l. list_any (pair_passes x l) (uppers x m.inequalities)) (lowers x m.inequalities)
 
 -- the search, where the picked product is above 1
-unfoldable pub searched_by : Matrix → Choice → Answer
-searched_by m c = (if nat_lt 1 c.product then searched m c.unknown c.lower else record { matrix = m; moves = []; back = []; bounds = [] })
+unfoldable pub searched_by : System → Pick → Answer
+searched_by m c = (if nat_lt 1 c.product then searched m c.unknown c.lower else record { system = m; steps = []; back = []; bounds = [] })
 
 -- the search and then the drop of the picked unknown
-unfoldable pub bound : Matrix → Choice → Answer
-bound m c = let s = searched_by m c in then_answer s (dropped s.matrix c.unknown)
+unfoldable pub bound : System → Pick → Answer
+bound m c = let s = searched_by m c in then_answer s (dropped s.system c.unknown)
 
-unfoldable pub bound_passes : Matrix → Choice → Bool
-bound_passes m c = drop_passes (searched_by m c).matrix c.unknown
+unfoldable pub bound_passes : System → Pick → Bool
+bound_passes m c = drop_passes (searched_by m c).system c.unknown
 
 -- the greatest search bound, times the greatest norm, without the entry of x, of an inequality that holds x
-unfoldable pub bound_factor : Matrix → Choice → ℕ
+unfoldable pub bound_factor : System → Pick → ℕ
 bound_factor m c =
     max 1 (greatest_of (map (λ (k, n). n) (searched_by m c).bounds)) *
     greatest_of (map (λ r. norm (without c.unknown r)) (filter (λ r. not (is_zero (entry r c.unknown))) m.inequalities))
 
 -- the greatest norm of a row that gets a new column
-abbrev pub let_norm : Move → ℕ
+abbrev pub let_norm : Step → ℕ
 let_norm (floor_of c r g) = norm r
 let_norm (need_nonneg r) = 0
 let_norm (need_zero r) = 0

@@ -5,10 +5,10 @@ use Rattle.cf_tree.specs.RelTree.{SetTree, empty_set, set_var, union_of, inter_o
 use Rattle.cf_tree.specs.Relation.{is_fixed, IsDivisor}
 use Rattle.cf_num.specs.Limit.{IsWithin}
 use Rattle.cf_linear.specs.Rows.{Row, Values, entry, value, put, comb, row_passes}
-use Rattle.cf_linear.specs.Layout.{Levels, has_level, number_column, region_row, covers}
+use Rattle.cf_linear.specs.Layout.{Layout, has_level, number_column, region_row, covers}
 
 -- the value of a number form at these values of the columns, with the counts of the regions in the place of `card`
-abbrev pub val_at : Levels → Values → TermTree → ℤ
+abbrev pub val_at : Layout → Values → TermTree → ℤ
 val_at l v (term_lit n) = n
 val_at l v (term_var x) = v (number_column l x)
 val_at l v (term_card s) = value v (region_row l (covers l s))
@@ -114,7 +114,7 @@ abbrev pub write_mod : WrittenTree → ℤ → WrittenTree
 write_mod w k = with_quotient w k (above_quotient w.next w.row k)
 
 -- the row of a number form; an inner part is written before the outer one, from left to right
-abbrev pub write : Levels → TermTree → List Bool → ℕ → WrittenTree
+abbrev pub write : Layout → TermTree → List Bool → ℕ → WrittenTree
 write l (term_lit n) signs next = alone (constant_row n) signs next
 write l (term_var x) signs next = alone (put (number_column l x) (pos 1) []) signs next
 write l (term_card s) signs next = alone (region_row l (covers l s)) signs next
@@ -156,7 +156,7 @@ quotient_count (term_mod a k) = quotient_count a + 1
 quotient_count (term_abs a) = quotient_count a
 
 -- each variable of a set form is a set of the layout
-abbrev pub IsPlacedSet : Levels → SetTree → Type 0
+abbrev pub IsPlacedSet : Layout → SetTree → Type 0
 IsPlacedSet l empty_set = Unit {0}
 IsPlacedSet l (set_var x) = IsTrue (has_level l.inputs x || has_level l.out_sets x)
 IsPlacedSet l (union_of a b) = IsPlacedSet l a × IsPlacedSet l b
@@ -164,7 +164,7 @@ IsPlacedSet l (inter_of a b) = IsPlacedSet l a × IsPlacedSet l b
 IsPlacedSet l (diff_of a b) = IsPlacedSet l a × IsPlacedSet l b
 
 -- each variable of a number form is in the layout with its base, and each number is within the limit
-abbrev pub IsPlaced : Levels → TermTree → Type 0
+abbrev pub IsPlaced : Layout → TermTree → Type 0
 IsPlaced l (term_lit n) = IsWithin n
 IsPlaced l (term_var x) = IsTrue (has_level l.numbers x || has_level l.out_numbers x)
 IsPlaced l (term_card s) = IsPlacedSet l s

@@ -4,6 +4,21 @@ ghost use Rattle.std.specs.Prelude.{◌≡◌};
 use cf_tree::memory::NoMemory;
 use std::alloc::{AllocError, AllocFailed};
 
+/// The most set variables of a `choose`: parameters that occur in its relation, and outputs.
+pub const MOST_SETS: usize = 6;
+
+/// The most cases of a relation.
+pub const MOST_CASES: u64 = 1024;
+
+/// The most rows of a state of the elimination: equations, inequalities and all needs so far.
+pub const MOST_ROWS: u64 = 1000;
+
+/// The most columns of a state of the elimination, known and unknown.
+pub const MOST_COLUMNS: u64 = 1000;
+
+/// The most tuples of the searches of a case.
+pub const MOST_TUPLES: u64 = 1_048_576;
+
 /// Which counted limit a `choose` passes.
 #[derive(Clone, Copy, Debug, PartialEq, Eq)]
 pub enum LimitKind {

@@ -1,9 +1,9 @@
 //! Rows.
-ghost use Rattle.std.specs.Prelude.{◌≡◌, ◌≤◌, ◌<◌, ◌⊎◌, ◌↔◌, ◌++◌, ℕ, ℤ, pos, negsuc, ◌+ℤ◌, ◌*ℤ◌, List, [], ◌∷◌, length, drop, get_or, slice_index_or, All, true, false, Result, Ok, Err, IfOk, OnOk, IfSome};
+ghost use Rattle.std.specs.Prelude.{◌≡◌, ◌≤◌, ◌<◌, ◌⊎◌, ◌↔◌, ◌++◌, ℕ, ℤ, pos, negsuc, ◌+ℤ◌, ◌*ℤ◌, List, [], ◌∷◌, length, drop, get_or, slice_index_or, All, true, false, Result, Ok, Err, IfOk, OnOk, OnErr, IfSome};
 ghost use Rattle.cf_num.specs.Limit.{IsWithin};
 ghost use Rattle.cf_linear.specs.Rows.{entry, put, comb, comb_passes, sum_passes, Rises, IsRow, AreBelow, next_sum, value_from, same_row};
 ghost use Rattle.cf_linear.specs.Merging.{two_products, IsLeast, IsTaken};
-ghost use Rattle.cf_linear.specs.Parts.{GivesRow, OnlySums};
+ghost use Rattle.cf_linear.specs.Parts.{RowAnswer, OnlySums};
 
 use crate::refusal::RowFault;
 use cf_num::{add, mul};
@@ -77,6 +77,7 @@ impl Row {
         requires a_in { IsWithin a }
         requires b_in { IsWithin b }
         ensures value { IfOk result (λ r. r ≡ comb a self.now b other.now) }
+        ensures entries { IfOk result (λ r. (c : ℕ) → entry r c ≡ a *ℤ entry self.now c +ℤ b *ℤ entry other.now c) }
         ensures fits { IfOk result (λ r. comb_passes a self.now b other.now ≡ false) }
         ensures past { result ≡ Err RowFault.Past → comb_passes a self.now b other.now ≡ true }
         ensures rows { IsRow self.now × IsRow other.now }
@@ -105,7 +106,7 @@ impl Row {
         requires a_in { IsWithin a }
         requires b_in { IsWithin b }
         requires only { IsRow self.now → IsRow other.now → OnlySums a self.now b other.now }
-        ensures gives { GivesRow (comb a self.now b other.now) result }
+        ensures gives { RowAnswer (comb a self.now b other.now) result }
         ensures rows { IsRow self.now }
     {
         self.combine(alloc, a, other, b)
@@ -114,7 +115,7 @@ impl Row {
     /// `k` times the row. Past exactly where an entry of the answer passes.
     pub(crate) fn times(&self, alloc: Global, k: i128) -> Result<Row, RowFault>
         requires k_in { IsWithin k }
-        ensures gives { GivesRow (comb k self.now (pos 0) []) result }
+        ensures gives { RowAnswer (comb k self.now (pos 0) []) result }
         ensures rows { IsRow self.now }
     {
         let none = Row::empty(alloc);
@@ -207,11 +208,13 @@ impl Row {
         }
     }
 
-    /// Adds the entry at the end, if it is not 0: the column is above those of the row.
+    /// Adds the entry at the end, if it is not 0: the column is above those of the row. Without memory the
+    /// row stays as it is.
     pub fn append(&mut self, column: u32, k: i128) -> Result<(), NoMemory>
         requires after { AreBelow column self.old }
         requires k_in { IsWithin k }
-        ensures { OnOk result (self.new ≡ self.old ++ put column k []) }
+        ensures value { OnOk result (self.new ≡ self.old ++ put column k []) }
+        ensures refused { OnErr result (self.new ≡ self.old) }
     {
         if k != 0 {
             self.entries.insert(column, k)?;

@@ -24,23 +24,6 @@ pub struct System {
     pub needs: u64,
 }
 
-/// A relation over numbers and region counts, without negations.
-#[derive(Drop)]
-pub enum IntRel {
-    /// The row is at least 0.
-    Nonneg(Row),
-    /// The row is 0.
-    Zero(Row),
-    /// The row is not 0.
-    NonZero(Row),
-    Divides(i128, Row),
-    NotDivides(i128, Row),
-    And(Vec<IntRel>),
-    Or(Vec<IntRel>),
-    /// The column holds the quotient of the row by `k`, rounded down.
-    Quotient { column: u32, of: Row, k: i128 },
-}
-
 /// A let of a new known column, which holds the row divided by the number and rounded down, or a
 /// need.
 #[derive(Drop)]

@@ -6,8 +6,9 @@ ghost use Rattle.cf_tree.specs.Relation.{IsLinearTerm, is_fixed, IsDivisor};
 ghost use Rattle.cf_linear.specs.Rows.{Values, IsRow, value, put, comb, row_passes};
 ghost use Rattle.cf_linear.specs.Layout.{set_count, first_free, covers, region_row};
 ghost use Rattle.cf_linear.specs.Written.{first_sign, other_signs, plus, above_quotient, below_quotient, product_by, write, val_at, GuardsHold, IsPlaced, abs_count, quotient_count, sign_guard};
-ghost use Rattle.cf_linear.specs.Parts.{Gives, GivesRow, GivesPart, GivesDivided, GivesAbsolute, GivesQuotient, GivesSigned, GivesGuard, GivesBack, Tested};
-ghost use Rattle.cf_linear.specs.Views.{plain_levels, guard_of};
+ghost use Rattle.cf_linear.specs.Parts.{WrittenAnswer, RowAnswer, PartAnswer, DividedAnswer, AbsoluteAnswer, QuotientAnswer, SignedAnswer, GuardAnswer, BackAnswer, Tested};
+ghost use Rattle.cf_linear.specs.Views.{plain_layout, guard_of};
+ghost use Rattle.cf_linear.specs.declared.refusal.TheConstants.{MOST_SETS};
 
 use crate::columns::{number_column, region_row};
 use crate::refusal::RowFault;
@@ -45,17 +46,17 @@ pub fn row_of(
     next: u32,
 ) -> Result<Written, RowFault>
     requires linear { IsLinearTerm (term_tree term.now) }
-    requires placed { IsPlaced (plain_levels layout.now) (term_tree term.now) }
-    requires sets { set_count (plain_levels layout.now) ≤ 6 }
+    requires placed { IsPlaced (plain_layout layout.now) (term_tree term.now) }
+    requires sets { set_count (plain_layout layout.now) ≤ MOST_SETS }
     requires signs { length signs.now ≡ abs_count (term_tree term.now) }
-    requires above { first_free (plain_levels layout.now) ≤ next }
+    requires above { first_free (plain_layout layout.now) ≤ next }
     requires room { next + quotient_count (term_tree term.now) < 2 ^ 32 }
-    ensures row { IfOk result (λ w. w.row ≡ (write (plain_levels layout.now) (term_tree term.now) signs.now next).row) }
-    ensures guards { IfOk result (λ w. map guard_of w.guards.items ≡ (write (plain_levels layout.now) (term_tree term.now) signs.now next).guards) }
-    ensures next { IfOk result (λ w. w.next ≡ (write (plain_levels layout.now) (term_tree term.now) signs.now next).next) }
-    ensures value { IfOk result (λ w. (v : Values) → v 0 ≡ pos 1 → GuardsHold v (map guard_of w.guards.items) → value v w.row ≡ val_at (plain_levels layout.now) v (term_tree term.now)) }
-    ensures fits { IfOk result (λ w. (write (plain_levels layout.now) (term_tree term.now) signs.now next).passes ≡ false) }
-    ensures past { result ≡ Err RowFault.Past → (write (plain_levels layout.now) (term_tree term.now) signs.now next).passes ≡ true }
+    ensures row { IfOk result (λ w. w.row ≡ (write (plain_layout layout.now) (term_tree term.now) signs.now next).row) }
+    ensures guards { IfOk result (λ w. map guard_of w.guards.items ≡ (write (plain_layout layout.now) (term_tree term.now) signs.now next).guards) }
+    ensures next { IfOk result (λ w. w.next ≡ (write (plain_layout layout.now) (term_tree term.now) signs.now next).next) }
+    ensures value { IfOk result (λ w. (v : Values) → v 0 ≡ pos 1 → GuardsHold v (map guard_of w.guards.items) → value v w.row ≡ val_at (plain_layout layout.now) v (term_tree term.now)) }
+    ensures fits { IfOk result (λ w. (write (plain_layout layout.now) (term_tree term.now) signs.now next).passes ≡ false) }
+    ensures past { result ≡ Err RowFault.Past → (write (plain_layout layout.now) (term_tree term.now) signs.now next).passes ≡ true }
 {
     let mut guards = Vec::new(alloc);
     let part = part_of(alloc, term, layout, signs, 0, next, &mut guards)?;
@@ -70,7 +71,7 @@ pub fn row_of(
 /// the answer passes the limit.
 pub fn above_quotient(alloc: Global, column: u32, of: &Row, k: &i128) -> Result<Row, RowFault>
     requires { IsDivisor k.now }
-    ensures gives { GivesRow (above_quotient column of.now k.now) result }
+    ensures gives { RowAnswer (above_quotient column of.now k.now) result }
     ensures rows { result ≡ Err RowFault.Past → IsRow of.now }
 {
     let quotient = Row::unit(alloc, column, 1)?;
@@ -82,7 +83,7 @@ pub fn above_quotient(alloc: Global, column: u32, of: &Row, k: &i128) -> Result<
 pub fn below_quotient(alloc: Global, column: u32, of: &Row, k: &i128) -> Result<Row, RowFault>
     requires column { 1 ≤ column }
     requires divisor { IsDivisor k.now }
-    ensures { GivesRow (below_quotient column of.now k.now) result }
+    ensures { RowAnswer (below_quotient column of.now k.now) result }
 {
     let quotient = Row::unit(alloc, column, 1)?;
     match of.sum(alloc, -1, &quotient, *k) {
@@ -94,7 +95,7 @@ pub fn below_quotient(alloc: Global, column: u32, of: &Row, k: &i128) -> Result<
 /// The row with `n` more at the constant. Past exactly where an entry of the answer passes the limit.
 pub fn plus(alloc: Global, row: &Row, n: i128) -> Result<Row, RowFault>
     requires { IsWithin n }
-    ensures { GivesRow (plus row.now n) result }
+    ensures { RowAnswer (plus row.now n) result }
 {
     let constant = Row::unit(alloc, 0, n)?;
     added(alloc, row, &constant)
@@ -118,11 +119,11 @@ fn part_of(
     next: u32,
     guards: &mut Vec<Guard>,
 ) -> Result<Part, RowFault>
-    requires placed { IsPlaced (plain_levels layout.now) (term_tree term.now) }
-    requires sets { set_count (plain_levels layout.now) ≤ 6 }
-    requires above { first_free (plain_levels layout.now) ≤ next }
+    requires placed { IsPlaced (plain_layout layout.now) (term_tree term.now) }
+    requires sets { set_count (plain_layout layout.now) ≤ MOST_SETS }
+    requires above { first_free (plain_layout layout.now) ≤ next }
     requires room { next + quotient_count (term_tree term.now) < 2 ^ 32 }
-    ensures gives { Gives (write (plain_levels layout.now) (term_tree term.now) (drop used signs.now) next) signs.now (map guard_of guards.old.items) (map guard_of guards.new.items) result }
+    ensures gives { WrittenAnswer (write (plain_layout layout.now) (term_tree term.now) (drop used signs.now) next) signs.now (map guard_of guards.old.items) (map guard_of guards.new.items) result }
     ensures next { IfOk result (λ p. p.next ≡ next + quotient_count (term_tree term.now)) }
 {
     match term {
@@ -179,7 +180,7 @@ fn without<T: Drop>(_value: T, fault: RowFault) -> RowFault
 // `n` times a column.
 fn unit_of(alloc: Global, column: u32, n: &i128, next: u32, used: usize) -> Result<Part, RowFault>
     requires { IsWithin n.now }
-    ensures { GivesPart (put column n.now []) next used result }
+    ensures { PartAnswer (put column n.now []) next used result }
 {
     let row = Row::unit(alloc, column, *n)?;
     Ok(Part { row, next, used })
@@ -193,9 +194,9 @@ fn count_of(
     next: u32,
     used: usize,
 ) -> Result<Part, RowFault>
-    requires sets { set_count (plain_levels layout.now) ≤ 6 }
-    requires room { first_free (plain_levels layout.now) < 2 ^ 32 }
-    ensures { GivesPart (region_row (plain_levels layout.now) (covers (plain_levels layout.now) (set_tree set.now))) next used result }
+    requires sets { set_count (plain_layout layout.now) ≤ MOST_SETS }
+    requires room { first_free (plain_layout layout.now) < 2 ^ 32 }
+    ensures { PartAnswer (region_row (plain_layout layout.now) (covers (plain_layout layout.now) (set_tree set.now))) next used result }
 {
     let row = region_row(alloc, layout, set)?;
     Ok(Part { row, next, used })
@@ -203,7 +204,7 @@ fn count_of(
 
 // The part with the other signs.
 fn negated_of(alloc: Global, part: Part) -> Result<Part, RowFault>
-    ensures { GivesPart (comb (negsuc 0) part.row (pos 0) []) part.next part.used result }
+    ensures { PartAnswer (comb (negsuc 0) part.row (pos 0) []) part.next part.used result }
 {
     let (next, used) = (part.next, part.used);
     let row = part.row.times(alloc, -1);
@@ -214,7 +215,7 @@ fn negated_of(alloc: Global, part: Part) -> Result<Part, RowFault>
 
 // The sum of two parts, the second written after the first.
 fn sum_of(alloc: Global, left: Part, right: Part) -> Result<Part, RowFault>
-    ensures { GivesPart (comb (pos 1) left.row (pos 1) right.row) right.next right.used result }
+    ensures { PartAnswer (comb (pos 1) left.row (pos 1) right.row) right.next right.used result }
 {
     let (next, used) = (right.next, right.used);
     let row = added(alloc, &left.row, &right.row);
@@ -226,7 +227,7 @@ fn sum_of(alloc: Global, left: Part, right: Part) -> Result<Part, RowFault>
 
 // The difference of two parts, the second written after the first.
 fn difference_of(alloc: Global, left: Part, right: Part) -> Result<Part, RowFault>
-    ensures { GivesPart (comb (pos 1) left.row (negsuc 0) right.row) right.next right.used result }
+    ensures { PartAnswer (comb (pos 1) left.row (negsuc 0) right.row) right.next right.used result }
 {
     let (next, used) = (right.next, right.used);
     let row = subtracted(alloc, &left.row, &right.row);
@@ -238,7 +239,7 @@ fn difference_of(alloc: Global, left: Part, right: Part) -> Result<Part, RowFaul
 
 // The product of two parts, the second written after the first.
 fn product_of(alloc: Global, is_left_fixed: bool, left: Part, right: Part) -> Result<Part, RowFault>
-    ensures { GivesPart (product_by is_left_fixed left.row right.row) right.next right.used result }
+    ensures { PartAnswer (product_by is_left_fixed left.row right.row) right.next right.used result }
 {
     let (next, used) = (right.next, right.used);
     let row = multiplied(alloc, is_left_fixed, &left.row, &right.row);
@@ -258,7 +259,7 @@ fn quotient_of(
     requires column { 1 ≤ part.next }
     requires room { part.next + 1 < 2 ^ 32 }
     requires divisor { IsDivisor k.now }
-    ensures { GivesDivided (put part.next (pos 1) []) part.next part.row k.now part.used (map guard_of guards.old.items) (map guard_of guards.new.items) result }
+    ensures { DividedAnswer (put part.next (pos 1) []) part.next part.row k.now part.used (map guard_of guards.old.items) (map guard_of guards.new.items) result }
 {
     let (column, used) = (part.next, part.used);
     add_quotient(alloc, guards, column, part.row, k)?;
@@ -280,7 +281,7 @@ fn remainder_of(
     requires column { 1 ≤ part.next }
     requires room { part.next + 1 < 2 ^ 32 }
     requires divisor { IsDivisor k.now }
-    ensures { GivesDivided (above_quotient part.next part.row k.now) part.next part.row k.now part.used (map guard_of guards.old.items) (map guard_of guards.new.items) result }
+    ensures { DividedAnswer (above_quotient part.next part.row k.now) part.next part.row k.now part.used (map guard_of guards.old.items) (map guard_of guards.new.items) result }
 {
     let (column, used) = (part.next, part.used);
     let row = add_quotient(alloc, guards, column, part.row, k)?;
@@ -298,7 +299,7 @@ fn absolute_of(
     signs: &[bool],
     part: Part,
 ) -> Result<Part, RowFault>
-    ensures { GivesAbsolute (drop part.used signs.now) signs.now part.row part.next (map guard_of guards.old.items) (map guard_of guards.new.items) result }
+    ensures { AbsoluteAnswer (drop part.used signs.now) signs.now part.row part.next (map guard_of guards.old.items) (map guard_of guards.new.items) result }
 {
     let next = part.next;
     let (minus, used) = take_sign(signs, part.used);
@@ -308,21 +309,22 @@ fn absolute_of(
 
 // The sum of two rows.
 fn added(alloc: Global, left: &Row, right: &Row) -> Result<Row, RowFault>
-    ensures { GivesRow (comb (pos 1) left.now (pos 1) right.now) result }
+    ensures { RowAnswer (comb (pos 1) left.now (pos 1) right.now) result }
 {
     left.sum(alloc, 1, right, 1)
 }
 
-// The difference of two rows.
-fn subtracted(alloc: Global, left: &Row, right: &Row) -> Result<Row, RowFault>
-    ensures { GivesRow (comb (pos 1) left.now (negsuc 0) right.now) result }
+/// The difference of two rows. Past exactly where an entry of the answer passes the limit.
+pub fn subtracted(alloc: Global, left: &Row, right: &Row) -> Result<Row, RowFault>
+    ensures gives { RowAnswer (comb (pos 1) left.now (negsuc 0) right.now) result }
+    ensures rows { IsRow left.now × IsRow right.now }
 {
-    left.sum(alloc, 1, right, -1)
+    left.combine(alloc, 1, right, -1)
 }
 
 // The product of two rows, of which the left one is of the constant alone, or else the right one.
 fn multiplied(alloc: Global, is_left_fixed: bool, left: &Row, right: &Row) -> Result<Row, RowFault>
-    ensures { GivesRow (product_by is_left_fixed left.now right.now) result }
+    ensures { RowAnswer (product_by is_left_fixed left.now right.now) result }
 {
     if is_left_fixed {
         right.times(alloc, left.entry(0))
@@ -341,7 +343,7 @@ fn add_quotient(
 ) -> Result<Row, RowFault>
     requires column { 1 ≤ column }
     requires divisor { IsDivisor k.now }
-    ensures { GivesQuotient column of k.now (map guard_of guards.old.items) (map guard_of guards.new.items) result }
+    ensures { QuotientAnswer column of k.now (map guard_of guards.old.items) (map guard_of guards.new.items) result }
 {
     let above = above_quotient(alloc, column, &of, k)?;
     test_below(alloc, column, &of, k)?;
@@ -362,7 +364,7 @@ fn test_below(alloc: Global, column: u32, of: &Row, k: &i128) -> Result<(), RowF
 
 // Adds the guard of the sign, true being minus, and gives the row with the sign.
 fn add_sign(alloc: Global, guards: &mut Vec<Guard>, minus: bool, row: Row) -> Result<Row, RowFault>
-    ensures { GivesSigned minus row (map guard_of guards.old.items) (map guard_of guards.new.items) result }
+    ensures { SignedAnswer minus row (map guard_of guards.old.items) (map guard_of guards.new.items) result }
 {
     if minus {
         let negated = row.negated(alloc);
@@ -375,7 +377,7 @@ fn add_sign(alloc: Global, guards: &mut Vec<Guard>, minus: bool, row: Row) -> Re
 
 // Adds the guard of a minus, and gives the row back, which has the sign.
 fn add_minus(alloc: Global, guards: &mut Vec<Guard>, row: Row) -> Result<Row, RowFault>
-    ensures { GivesBack row (row_passes (plus row (negsuc 0))) (sign_guard (plus row (negsuc 0))) (map guard_of guards.old.items) (map guard_of guards.new.items) result }
+    ensures { BackAnswer row (row_passes (plus row (negsuc 0))) (sign_guard (plus row (negsuc 0))) (map guard_of guards.old.items) (map guard_of guards.new.items) result }
 {
     match add_less(alloc, guards, &row) {
         Ok(()) => Ok(row),
@@ -385,7 +387,7 @@ fn add_minus(alloc: Global, guards: &mut Vec<Guard>, row: Row) -> Result<Row, Ro
 
 // Adds the guard that the row is at least 1.
 fn add_less(alloc: Global, guards: &mut Vec<Guard>, row: &Row) -> Result<(), RowFault>
-    ensures { GivesGuard (row_passes (plus row.now (negsuc 0))) (sign_guard (plus row.now (negsuc 0))) (map guard_of guards.old.items) (map guard_of guards.new.items) result }
+    ensures { GuardAnswer (row_passes (plus row.now (negsuc 0))) (sign_guard (plus row.now (negsuc 0))) (map guard_of guards.old.items) (map guard_of guards.new.items) result }
 {
     let guard = plus(alloc, row, -1)?;
     guards.push(Guard::Sign(guard))?;
@@ -394,7 +396,7 @@ fn add_less(alloc: Global, guards: &mut Vec<Guard>, row: &Row) -> Result<(), Row
 
 // Adds the guard that the row is at least 0, and gives the row back.
 fn add_plus(alloc: Global, guards: &mut Vec<Guard>, row: Row) -> Result<Row, RowFault>
-    ensures { GivesBack row false (sign_guard row) (map guard_of guards.old.items) (map guard_of guards.new.items) result }
+    ensures { BackAnswer row false (sign_guard row) (map guard_of guards.old.items) (map guard_of guards.new.items) result }
 {
     match add_copy(alloc, guards, &row) {
         Ok(()) => Ok(row),
@@ -404,7 +406,7 @@ fn add_plus(alloc: Global, guards: &mut Vec<Guard>, row: Row) -> Result<Row, Row
 
 // Adds the guard that the row is at least 0.
 fn add_copy(alloc: Global, guards: &mut Vec<Guard>, row: &Row) -> Result<(), RowFault>
-    ensures { GivesGuard false (sign_guard row.now) (map guard_of guards.old.items) (map guard_of guards.new.items) result }
+    ensures { GuardAnswer false (sign_guard row.now) (map guard_of guards.old.items) (map guard_of guards.new.items) result }
 {
     let guard = row.try_copy(alloc)?;
     guards.push(Guard::Sign(guard))?;

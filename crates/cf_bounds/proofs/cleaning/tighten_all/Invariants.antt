@@ -1,7 +1,7 @@
 use Rattle.std.proofs.Common.{◌≡◌, ◌≤◌, drop}
 use Rattle.std.specs.List.{fold}
 use Rattle.cf_linear.specs.Steps.{then_tighten, tighten_all}
-use Rattle.cf_bounds.specs.Made.{tightened_of}
+use Rattle.cf_bounds.specs.CleanAnswers.{tightened_of}
 use Rattle.cf_bounds.proofs.cleaning.tighten_all.Given as goal
 
 abbrev pub invariant-loop-row : goal.invariant-loop-row

@@ -1,6 +1,6 @@
 use Rattle.std.proofs.Common.{◌≡◌, ◌∙◌, Err, true, false}
 use Rattle.cf_linear.specs.declared.refusal.RowFault.TheVariants.{Past}
-use Rattle.cf_linear.specs.Views.{matrix_of}
+use Rattle.cf_linear.specs.Views.{system_of}
 use Rattle.cf_bounds.specs.Sides.{side}
 use Rattle.cf_bounds.proofs.DropLaws.{drop_passes_from}
 use Rattle.cf_bounds.proofs.dropping.dropped_system.Goals as goal
@@ -9,7 +9,7 @@ pub returns-in_ok-with_left-in-Ok-clause-fits : goal.returns-in_ok-with_left-in-
 returns-in_ok-with_left-in-Ok-clause-fits c =
     let low : c.deref-4.result.now ≡ side true c.args.unknown c.args.system.inequalities.items = c.deref-4.ensures.value ∙ (rw c.deref.ensures.value at c.in_ok-low.ensures) in
     let high : c.deref-5.result.now ≡ side false c.args.unknown c.args.system.inequalities.items = c.deref-5.ensures.value ∙ (rw c.deref-2.ensures.value at c.in_ok-high.ensures) in
-    drop_passes_from (matrix_of c.args.system) c.args.unknown c.deref-4.result.now c.deref-5.result.now false c.in-Ok.ensures.fits low high
+    drop_passes_from (system_of c.args.system) c.args.unknown c.deref-4.result.now c.deref-5.result.now false c.in-Ok.ensures.fits low high
 
 pub returns-in-Err-clause-past : goal.returns-in-Err-clause-past
 returns-in-Err-clause-past c = λ e.
@@ -17,4 +17,4 @@ returns-in-Err-clause-past c = λ e.
     let r : c.left_rows.result ≡ Err Past = cc in
     let low : c.deref-4.result.now ≡ side true c.args.unknown c.args.system.inequalities.items = c.deref-4.ensures.value ∙ (rw c.deref.ensures.value at c.in_ok-low.ensures) in
     let high : c.deref-5.result.now ≡ side false c.args.unknown c.args.system.inequalities.items = c.deref-5.ensures.value ∙ (rw c.deref-2.ensures.value at c.in_ok-high.ensures) in
-    drop_passes_from (matrix_of c.args.system) c.args.unknown c.deref-4.result.now c.deref-5.result.now true (c.left_rows.ensures.past r) low high
+    drop_passes_from (system_of c.args.system) c.args.unknown c.deref-4.result.now c.deref-5.result.now true (c.left_rows.ensures.past r) low high

@@ -1,4 +1,4 @@
-use Rattle.cf_bounds.proofs.SearchLaws.{search_below, search_owes, search_forms, search_exact, search_free}
+use Rattle.cf_bounds.proofs.SearchLaws.{search_below, search_owes, search_once, search_forms, search_exact, search_free}
 use Rattle.cf_bounds.proofs.searching.remainder_step.Goals as goal
 
 pub searched_system-requires-clause-rows : goal.searched_system-requires-clause-rows
@@ -9,6 +9,9 @@ searched_system-requires-clause-column c = c.requires.formed.unknown_below _ c.r
 
 pub returns-clause-owes : goal.returns-clause-owes
 returns-clause-owes c = search_owes _ _ _ _ c.requires.formed c.requires.unknown c.searched_system.ensures
+
+pub returns-clause-once : goal.returns-clause-once
+returns-clause-once c = search_once _ _ _ _ c.requires.formed c.requires.unknown c.searched_system.ensures
 
 pub returns-clause-formed : goal.returns-clause-formed
 returns-clause-formed c = search_forms _ _ _ _ c.requires.formed c.requires.unknown c.searched_system.ensures

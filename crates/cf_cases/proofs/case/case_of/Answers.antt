@@ -1,25 +1,25 @@
 use Rattle.std.proofs.Common.{◌≡◌, true, false, refl}
 use Rattle.cf_tree.specs.RelView.{rel_tree}
-use Rattle.cf_linear.specs.Cases.{plain, AtomRows}
-use Rattle.cf_linear.specs.Views.{plain_levels, matrix_of}
-use Rattle.cf_cases.specs.Drafts.{rows_of}
-use Rattle.cf_cases.proofs.DraftLaws.{matrix_is, fits_is, past_is, fault_is}
+use Rattle.cf_linear.specs.Cases.{negation_normal, AtomRows}
+use Rattle.cf_linear.specs.Views.{plain_layout, system_of}
+use Rattle.cf_cases.specs.SystemBuilders.{rows_of}
+use Rattle.cf_cases.proofs.SystemBuilderLaws.{system_is, fits_is, past_is, fault_is}
 use Rattle.cf_cases.proofs.case.case_of.Goals as goal
 
-pub returns-in_ok-first_system-in-Ok-clause-matrix : goal.returns-in_ok-first_system-in-Ok-clause-matrix
-returns-in_ok-first_system-in-Ok-clause-matrix c =
+pub returns-in_ok-first_system-in-Ok-clause-system : goal.returns-in_ok-first_system-in-Ok-clause-system
+returns-in_ok-first_system-in-Ok-clause-system c =
     let start : AtomRows = record { equations = c.new.result.items; inequalities = c.new-2.result.items; next = c.first_free.result; passes = false } in
-    matrix_is (plain_levels c.args.layout.now) (plain true (rel_tree c.args.rel.now)) c.args.index start (rows_of c.add_case.new.draft) (matrix_of c.in_ok-first_system-in-Ok.field-0)
+    system_is (plain_layout c.args.layout.now) (negation_normal true (rel_tree c.args.rel.now)) c.args.index start (rows_of c.add_case.new.builder) (system_of c.in_ok-first_system-in-Ok.field-0)
     (rw (c.new.ensures.items, c.new-2.ensures.items, c.first_free.ensures) refl) c.in-Ok.ensures.gives c.in_ok-first_system-in-Ok.ensures c.requires.index
 
 pub returns-in_ok-first_system-in-Ok-clause-fits : goal.returns-in_ok-first_system-in-Ok-clause-fits
 returns-in_ok-first_system-in-Ok-clause-fits c =
     let start : AtomRows = record { equations = c.new.result.items; inequalities = c.new-2.result.items; next = c.first_free.result; passes = false } in
-    fits_is (plain_levels c.args.layout.now) (plain true (rel_tree c.args.rel.now)) c.args.index start (rows_of c.add_case.new.draft)
+    fits_is (plain_layout c.args.layout.now) (negation_normal true (rel_tree c.args.rel.now)) c.args.index start (rows_of c.add_case.new.builder)
     (rw (c.new.ensures.items, c.new-2.ensures.items, c.first_free.ensures) refl) c.in-Ok.ensures.gives refl c.requires.index
 
 pub returns-in-Err-clause-past : goal.returns-in-Err-clause-past
 returns-in-Err-clause-past c h =
     let start : AtomRows = record { equations = c.new.result.items; inequalities = c.new-2.result.items; next = c.first_free.result; passes = false } in
-    past_is (plain_levels c.args.layout.now) (plain true (rel_tree c.args.rel.now)) c.args.index start c.in-Err.fault
+    past_is (plain_layout c.args.layout.now) (negation_normal true (rel_tree c.args.rel.now)) c.args.index start c.in-Err.fault
     (rw (c.new.ensures.items, c.new-2.ensures.items, c.first_free.ensures) refl) c.in-Err.ensures.gives c.requires.index (fault_is c.in-Err.fault h)

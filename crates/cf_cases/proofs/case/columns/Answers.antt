@@ -1,5 +1,5 @@
 use Rattle.std.proofs.Common.{arith}
-use Rattle.cf_cases.proofs.DraftLaws.{range_next}
+use Rattle.cf_cases.proofs.SystemBuilderLaws.{range_next}
 use Rattle.cf_cases.proofs.case.columns.Goals as goal
 
 pub loop-column-preserved : goal.loop-column-preserved

@@ -1,16 +1,23 @@
+use Rattle.std.proofs.Common.{ap}
 use Rattle.cf_tree.specs.RelView.{rel_tree}
-use Rattle.cf_linear.specs.Cases.{plain}
-use Rattle.cf_cases.proofs.PartLaws.{count_some, parts_are}
+use Rattle.cf_linear.specs.Cases.{negation_normal}
+use Rattle.cf_cases.specs.Counts.{count_tree, count_in}
+use Rattle.cf_cases.proofs.PartLaws.{sides_of}
 use Rattle.cf_cases.proofs.case.parts_of.Goals as goal
 
 pub split-requires : goal.split-requires
-split-requires c = count_some (plain c.args.holds (rel_tree c.args.b.now)) _ c.count_as-2.ensures
+split-requires c =
+    let s = sides_of c.args.both (negation_normal c.args.holds (rel_tree c.args._a.now)) (negation_normal c.args.holds (rel_tree c.args._b.now)) (count_tree c.args.counts.now) c.args.index c.requires.counts c.requires.index c.requires.small in
+    rw (c.count-2.ensures, c.right.ensures) s.some
 
 pub returns : goal.returns
 returns c =
-    let p = parts_are c.args.both (plain c.args.holds (rel_tree c.args.a.now)) (plain c.args.holds (rel_tree c.args.b.now)) c.args.index _ _ c.count_as.ensures c.count_as-2.ensures c.requires.index c.requires.small in
+    let s = sides_of c.args.both (negation_normal c.args.holds (rel_tree c.args._a.now)) (negation_normal c.args.holds (rel_tree c.args._b.now)) (count_tree c.args.counts.now) c.args.index c.requires.counts c.requires.index c.requires.small in
+    let e = rw (c.count.ensures, c.left.ensures, c.count-2.ensures, c.right.ensures) at c.split.ensures in
     record {
-      first = rw c.split.ensures.first p.first;
-      second = rw c.split.ensures.second p.second;
-      whole = rw (c.split.ensures.first, c.split.ensures.second) p.whole;
+      left = s.left;
+      right = s.right;
+      first = rw e.first s.parts.first;
+      second = rw e.second s.parts.second;
+      whole = rw (e.first, e.second) s.parts.whole;
     }

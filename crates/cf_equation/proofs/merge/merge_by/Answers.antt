@@ -1,5 +1,5 @@
 use Rattle.std.proofs.Common.{◌≡◌, ◌+◌, Result, Err, refl, sym, arith}
-use Rattle.cf_linear.specs.Views.{matrix_of}
+use Rattle.cf_linear.specs.Views.{system_of}
 use Rattle.cf_linear.proofs.MapLemmas.{back}
 use Rattle.cf_equation.proofs.MergeValues.{mix_is}
 use Rattle.cf_equation.proofs.merge.merge_by.Goals as goal
@@ -15,7 +15,7 @@ returns-in_ok-two_rows-in-Ok-clause-value c =
     let r = rw (back f.s w.s, back f.m w.m) at c.in_ok-first.ensures in
     let s = rw (back f.t w.t, back f.n w.n) at c.in_ok-second.ensures in
     rw (e, c.new.ensures.items, c.in_ok-two_rows-in-Ok.ensures)
-    (sym (mix_is (matrix_of c.args.system) c.args.x c.in_ok-first.first c.args.y c.in_ok-second.second c.in-Ok.left f.s f.m f.t f.n r s c.in-Ok.ensures.value))
+    (sym (mix_is (system_of c.args.system) c.args.x c.in_ok-first.first c.args.y c.in_ok-second.second c.in-Ok.left f.s f.m f.t f.n r s c.in-Ok.ensures.value))
 
 pub returns-in_ok-two_rows-in-Ok-clause-fits : goal.returns-in_ok-two_rows-in-Ok-clause-fits
 returns-in_ok-two_rows-in-Ok-clause-fits c =

@@ -4,33 +4,33 @@ use Rattle.cf_tree.specs.Relation.{is_fixed}
 use Rattle.cf_linear.specs.Rows.{Row, put, comb}
 use Rattle.cf_linear.specs.Layout.{covers, region_row}
 use Rattle.cf_linear.specs.Written.{above_quotient, product_by, write}
-use Rattle.cf_linear.specs.Views.{plain_levels, guard_of}
+use Rattle.cf_linear.specs.Views.{plain_layout, guard_of}
 use Rattle.cf_linear.proofs.WritingLemmas.{leaf_gives, two_gives, divided_gives}
 use Rattle.cf_linear.proofs.written.+part_of.Goals as goal
 
 pub returns-in-Card-clause-gives : goal.returns-in-Card-clause-gives
 returns-in-Card-clause-gives t c =
-    let l = plain_levels c.args.layout.now in
+    let l = plain_layout c.args.layout.now in
     let g = rw c.deref.ensures at c.count_of.ensures in
     rw c.in-Card.is (leaf_gives _ c.args.signs.now (map guard_of c.args.guards.now.items) _ _ c.count_of.result g)
 
 pub returns-in-Ok-clause-gives : goal.returns-in-Ok-clause-gives
 returns-in-Ok-clause-gives t c =
-    let l = plain_levels c.args.layout.now in
+    let l = plain_layout c.args.layout.now in
     let p = rw c.deref-in-Add.ensures at c.in_ok-left-in-Add.ensures.gives in
     let q = rw (c.deref-in-Add-2.ensures, c.in-Ok.is) at c.part_of-in-Add-2.ensures.gives in
     rw c.in-Add.is (two_gives _ _ _ _ _ _ _ p (λ x y. comb (pos 1) x (pos 1) y) (λ ss n. write l (term_tree c.in-Add.b.value) ss n) _ _ _ _ c.sum_of.result q c.sum_of.ensures)
 
 pub returns-in-Ok-part_of-clause-gives : goal.returns-in-Ok-part_of-clause-gives
 returns-in-Ok-part_of-clause-gives t c =
-    let l = plain_levels c.args.layout.now in
+    let l = plain_layout c.args.layout.now in
     let p = rw c.deref-in-Sub.ensures at c.in_ok-left-in-Sub.ensures.gives in
     let q = rw (c.deref-in-Sub-2.ensures, c.in-Ok-part_of.is) at c.part_of-in-Sub-2.ensures.gives in
     rw c.in-Sub.is (two_gives _ _ _ _ _ _ _ p (λ x y. comb (pos 1) x (negsuc 0) y) (λ ss n. write l (term_tree c.in-Sub.b.value) ss n) _ _ _ _ c.difference_of.result q c.difference_of.ensures)
 
 pub returns-in-Ok-part_of-2-clause-gives : goal.returns-in-Ok-part_of-2-clause-gives
 returns-in-Ok-part_of-2-clause-gives t c =
-    let l = plain_levels c.args.layout.now in
+    let l = plain_layout c.args.layout.now in
     let p = rw c.deref-in-Mul.ensures at c.in_ok-left-in-Mul.ensures.gives in
     let q = rw (c.deref-in-Mul-2.ensures, c.in-Ok-part_of-2.is) at c.part_of-in-Mul-2.ensures.gives in
     let g = rw (c.is_fixed.ensures, c.deref-in-Ok-part_of-2.ensures) at c.product_of.ensures in

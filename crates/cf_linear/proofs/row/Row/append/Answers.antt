@@ -14,5 +14,5 @@ pub invariant_of-self : goal.invariant_of-self
 invariant_of-self c =
     subst IsRow (sym (appended c)) (IsRow-append c.args.self.now c.args.column c.args.k (subst IsRow c.self.view_is c.self.invariant) c.requires.after c.requires.k_in (nonzero c))
 
-pub returns-in_ok-insert : goal.returns-in_ok-insert
-returns-in_ok-insert c = appended c ∙ ap (λ x. c.args.self.now ++ x) (sym (put_nonzero c.args.column c.args.k (nonzero c)))
+pub returns-in_ok-insert-clause-value : goal.returns-in_ok-insert-clause-value
+returns-in_ok-insert-clause-value c = appended c ∙ ap (λ x. c.args.self.now ++ x) (sym (put_nonzero c.args.column c.args.k (nonzero c)))

@@ -1,5 +1,7 @@
-use Rattle.std.proofs.Common.{◌≡◌, ◌≤◌, length, arith, Result, Err, refl}
+use Rattle.std.proofs.Common.{◌≡◌, ◌≤◌, length, arith, Result, Err, refl, ap, ◌∙◌}
+use Rattle.cf_linear.specs.Rows.{Row, entry}
 use Rattle.cf_linear.proofs.MapLemmas.{back}
+use Rattle.cf_linear.proofs.RowLemmas.{entry-comb}
 use Rattle.cf_linear.proofs.Joining.{joined, below_least, joining_less, joining_past, joining_done}
 use Rattle.cf_linear.proofs.row.Row.combine.Goals as goal
 
@@ -38,3 +40,11 @@ returns-clause-fits c =
     let p : length c.args.self.now ≤ c.loop-i.i = omega (arith, c.len-left.ensures.len) in
     let q : length c.args.other.now ≤ c.loop-i.j = omega (arith, c.len-right.ensures.len) in
     (joining_done c.args.a c.args.self.now c.args.b c.args.other.now c.loop-i.i c.loop-i.j c.loop-i.out inv p q).1
+
+pub returns-clause-entries : goal.returns-clause-entries
+returns-clause-entries c n =
+    let inv = rw (back c.args.a c.requires.a_in, back c.args.b c.requires.b_in) at c.loop-i.invariant in
+    let p : length c.args.self.now ≤ c.loop-i.i = omega (arith, c.len-left.ensures.len) in
+    let q : length c.args.other.now ≤ c.loop-i.j = omega (arith, c.len-right.ensures.len) in
+    ap (λ (x : Row). entry x n) (joining_done c.args.a c.args.self.now c.args.b c.args.other.now c.loop-i.i c.loop-i.j c.loop-i.out inv p q).0 ∙
+    entry-comb n c.args.a c.args.self.now c.args.b c.args.other.now

@@ -1,0 +1,67 @@
+//! What the steps of an elimination make.
+ghost use Rattle.std.specs.Prelude.{◌≡◌, ◌++◌, [], reverse, OnOk};
+
+use cf_linear::system::{Back, Search, Step};
+use cf_tree::memory::NoMemory;
+use std::alloc::Global;
+
+// What one step makes.
+#[derive(Drop)]
+pub(crate) struct StepOutput {
+    pub(crate) bounds: Vec<Search>,
+    pub(crate) steps: Vec<Step>,
+    pub(crate) back: Vec<Back>,
+}
+
+impl StepOutput {
+    // Nothing.
+    pub(crate) fn none(alloc: Global) -> StepOutput
+        ensures bounds { result.bounds.items ≡ [] }
+        ensures steps { result.steps.items ≡ [] }
+        ensures back { result.back.items ≡ [] }
+    {
+        StepOutput {
+            bounds: Vec::new(alloc),
+            steps: Vec::new(alloc),
+            back: Vec::new(alloc),
+        }
+    }
+}
+
+// What all steps so far make. The unknowns stand in the opposite order: the last step's are computed
+// first.
+#[derive(Drop)]
+pub(crate) struct RunOutput {
+    pub(crate) bounds: Vec<Search>,
+    pub(crate) steps: Vec<Step>,
+    pub(crate) later: Vec<Back>,
+}
+
+impl RunOutput {
+    // Nothing.
+    pub(crate) fn none(alloc: Global) -> RunOutput
+        ensures bounds { result.bounds.items ≡ [] }
+        ensures steps { result.steps.items ≡ [] }
+        ensures later { result.later.items ≡ [] }
+    {
+        RunOutput {
+            bounds: Vec::new(alloc),
+            steps: Vec::new(alloc),
+            later: Vec::new(alloc),
+        }
+    }
+
+    // Adds what a step makes.
+    pub(crate) fn add(&mut self, made: StepOutput) -> Result<(), NoMemory>
+        ensures bounds { OnOk result (self.new.bounds.items ≡ self.old.bounds.items ++ made.bounds.items) }
+        ensures steps { OnOk result (self.new.steps.items ≡ self.old.steps.items ++ made.steps.items) }
+        ensures later { OnOk result (self.new.later.items ≡ self.old.later.items ++ reverse made.back.items) }
+    {
+        let mut made = made;
+        made.back.reverse();
+        self.bounds.append(&mut made.bounds)?;
+        self.steps.append(&mut made.steps)?;
+        self.later.append(&mut made.back)?;
+        Ok(())
+    }
+}

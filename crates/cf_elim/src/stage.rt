@@ -1,0 +1,49 @@
+//! One step of the elimination.
+ghost use Rattle.cf_linear.specs.Stages.{stage, limits};
+ghost use Rattle.cf_linear.specs.Views.{system_of};
+ghost use Rattle.cf_elim.specs.Stages.{state_of, StageIs, IsReady};
+
+use crate::bound::bound_stage;
+use crate::clean::clean_stage;
+use crate::equation::equation_stage;
+use crate::fault::ElimFault;
+use crate::output::StepOutput;
+use cf_linear::system::System;
+use std::alloc::Global;
+
+// A system on its way, the number of search tuples so far, and whether the next step is not a Clean.
+#[derive(Drop)]
+pub(crate) struct State {
+    pub(crate) system: System,
+    pub(crate) tuples: u64,
+    pub(crate) is_past_clean: bool,
+}
+
+// The next system with what the step made, or the end.
+#[derive(Drop)]
+pub(crate) enum Stage {
+    Goes(State, StepOutput),
+    Ends,
+}
+
+// The next step: a Clean, an equation step while an equation is left, or a Bound step while an unknown is.
+pub(crate) fn next_stage(alloc: Global, current: State) -> Result<Stage, ElimFault>
+    requires { IsReady (system_of current.system) }
+    ensures { StageIs (state_of current) (stage limits (state_of current)) result }
+{
+    let State {
+        system,
+        tuples,
+        is_past_clean,
+    } = current;
+    if !is_past_clean {
+        return clean_stage(alloc, system, tuples);
+    }
+    if !system.equations.is_empty() {
+        return equation_stage(alloc, system, tuples);
+    }
+    if system.unknown.is_empty() {
+        return Ok(Stage::Ends);
+    }
+    bound_stage(alloc, system, tuples)
+}
