@@ -40,7 +40,7 @@ split_some (got None) go e h = absurd (none_is_some e h)
 split_some (got (Some d)) go e h = (d, refl, h)
 split_some (none_at n) go e h = absurd (stop_is_some n e h)
 
-lead_first : (i : ItemTree) (is : List ItemTree) (env d e : List Value) → (item_path i env).gives ≡ got (Some d) → Leads is d e → Leads (i ∷ is) env e
+pub lead_first : (i : ItemTree) (is : List ItemTree) (env d e : List Value) → (item_path i env).gives ≡ got (Some d) → Leads is d e → Leads (i ∷ is) env e
 lead_first i is env d e h k = rw h k
 
 pub leads_none : (env e : List Value) → Leads [] env e → env ≡ e
@@ -84,12 +84,16 @@ pub shallow_then : (is js : List ItemTree) → items_depth (items_of is) ≤ 8 �
 shallow_then [] js h k = k
 shallow_then (i ∷ is) js h k = let m = shallow_then is js (omega arith) k in omega arith
 
+-- the items lead to one environment
+pub leads_once : (is : List ItemTree) (env d e : List Value) → Leads is env d → Leads is env e → d ≡ e
+leads_once is env d e h k = some_once d e (sym h ∙ k)
+
 -- ---- a let
-pub let_leads : (c : CodeTree) (e : List Value) (v : ℤ) → (path c e).gives ≡ got (number v ∷ []) → Leads (let_item c ∷ []) e (e ++ (number v ∷ []))
+pub let_leads : (c : CodeTree) (e : List Value) (v : Value) → (path c e).gives ≡ got (v ∷ []) → Leads (let_item c ∷ []) e (e ++ (v ∷ []))
 let_leads c e v h = rw h refl
 
-pub let_found : (c : CodeTree) (e d : List Value) (v : ℤ) → (path c e).gives ≡ got (number v ∷ []) → Leads (let_item c ∷ []) e d → e ++ (number v ∷ []) ≡ d
-let_found c e d v h l = some_once (e ++ (number v ∷ [])) d (sym (let_leads c e v h) ∙ l)
+pub let_found : (c : CodeTree) (e d : List Value) (v : Value) → (path c e).gives ≡ got (v ∷ []) → Leads (let_item c ∷ []) e d → e ++ (v ∷ []) ≡ d
+let_found c e d v h l = some_once (e ++ (v ∷ [])) d (sym (let_leads c e v h) ∙ l)
 
 -- ---- a need
 -- a code of one truth value, without a solve, and the value that it is

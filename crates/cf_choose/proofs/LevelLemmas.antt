@@ -7,9 +7,10 @@ use Rattle.cf_tree.specs.declared.base.Base.{Base}
 use Rattle.cf_tree.specs.declared.code.Code.{Code}
 use Rattle.cf_tree.specs.CodeTree.{CodeTree}
 use Rattle.cf_tree.specs.CodeView.{code_tree}
-use Rattle.cf_linear.specs.Arm.{Names}
-use Rattle.cf_linear.specs.Layout.{Levels, levels_with, number_column}
-use Rattle.cf_choose.specs.Makings.{IsNamed, SameNames}
+use Rattle.cf_linear.specs.Arm.{ColumnLevels}
+use Rattle.cf_linear.specs.Layout.{Layout, levels_with, number_column}
+use Rattle.cf_setwit.specs.Naming.{IsNamed}
+use Rattle.cf_choose.specs.ArmBuilders.{SameColumnLevels}
 
 added : {A : Type 0} (out next rest whole : List A) (x : A) (p t : Bool) → t ≡ p → next ≡ out ++ cond t (x ∷ []) [] → out ++ cond p (x ∷ rest) rest ≡ whole → next ++ rest ≡ whole
 added out next rest whole x true true e n h = rw (n, append_assoc out (x ∷ []) rest) h
@@ -40,8 +41,8 @@ pub gives_more : (f : ℕ → CodeTree) (codes next : List Code) (code : Code) (
 gives_more f codes next code a i j e c s h = rw (e, map-append code_tree codes (code ∷ []), h, map-range_with_len_more f a i j s, c) refl
 
 -- a parameter before the others
-pub named_before : (l : Levels) (xs : List ℕ) (rest old new : Names) (i level column d : ℕ) → 0 < i → i ≤ length xs → level ≡ get_or xs (i - 1) d → column ≡ number_column l level →
-    IsNamed old column level new → SameNames old (map (λ x. (number_column l x, x)) (drop i xs) ++ rest) → SameNames new (map (λ x. (number_column l x, x)) (drop (i - 1) xs) ++ rest)
+pub named_before : (l : Layout) (xs : List ℕ) (rest old new : ColumnLevels) (i level column d : ℕ) → 0 < i → i ≤ length xs → level ≡ get_or xs (i - 1) d → column ≡ number_column l level →
+    IsNamed old column level new → SameColumnLevels old (map (λ x. (number_column l x, x)) (drop i xs) ++ rest) → SameColumnLevels new (map (λ x. (number_column l x, x)) (drop (i - 1) xs) ++ rest)
 named_before l xs rest old new i level column z some h e c named same d =
     let s : suc (i - 1) ≡ i = omega arith in
     let k : drop (i - 1) xs ≡ level ∷ drop i xs = drop-cons xs (i - 1) z (omega arith) ∙ rw (← e) (ap (λ j. level ∷ drop j xs) s) in

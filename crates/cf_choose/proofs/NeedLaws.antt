@@ -33,7 +33,7 @@ let_forth : (c : CodeTree) (is : ItemTrees) (env d : List Value) → (item_path 
 let_forth c no_items env d h r = (env, refl)
 let_forth c (item_more i is) env d h r = step (let_item c) (item_more i is) env d h r
 
-bound : (g : Got (List Value)) (env xs : List Value) → g ≡ got xs → then_gives g (λ ys. (gives_only (Some (env ++ ys))).gives) ≡ got (Some (env ++ xs))
+pub bound : (g : Got (List Value)) (env xs : List Value) → g ≡ got xs → then_gives g (λ ys. (gives_only (Some (env ++ ys))).gives) ≡ got (Some (env ++ xs))
 bound g env xs e = rw e refl
 
 let_gives : (c : CodeTree) (env : List Value) → HasNoSolve c → (d : List Value) × ((item_path (let_item c) env).gives ≡ got (Some d))
@@ -76,7 +76,7 @@ needs_each all arms i l e = ap arms_of (e ∙ ap (λ xs. map needs_of (map arm_t
 
 -- the precondition of a solved choose
 pub precondition_of : (s : SolvedParts) (arms : ArmTrees) → IsSolved s → arms ≡ all_needs (arm_trees s.arms.items) → IsPrecondition s.scope.items s.outputs.items (rel_tree s.rel) arms
-precondition_of s arms h e = rw e (precondition s.scope.items s.outputs.items (rel_tree s.rel) (arm_trees s.arms.items) h.solves h.typed)
+precondition_of s arms h e = rw e (precondition s.scope.items s.outputs.items (rel_tree s.rel) (arm_trees s.arms.items) h.solve.solves h.solve.typed)
 
 -- ---- lists that grow at their end
 some_before : (c : CodeTree) (is : List ItemTree) (i : ItemTree) → let_before c (items_of (is ++ i ∷ [])) ≡ item_more (let_item c) (items_of (is ++ i ∷ []))

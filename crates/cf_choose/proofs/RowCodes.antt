@@ -18,32 +18,32 @@ use Rattle.cf_tree.specs.Spelled.{IsSpelled, AreSpelled}
 use Rattle.cf_tree.specs.Typing.{Meets, one, HasBases, AllHave, HasNoSolve, HaveNoSolve}
 use Rattle.cf_tree.specs.Values.{Value, number, value_at, number_of, HaveBases}
 use Rattle.cf_tree.proofs.SetLemmas.{eq_is}
-use Rattle.cf_linear.specs.Arm.{Names, level_of, entry_code, row_code, turned, lower_code, upper_code, way_code}
-use Rattle.cf_linear.specs.Keep.{In, Over, way_value}
-use Rattle.cf_linear.specs.Matrices.{Way, row_way, greatest, least}
+use Rattle.cf_linear.specs.Arm.{ColumnLevels, level_of, entry_code, row_code, negated, lower_code, upper_code, how_code}
+use Rattle.cf_linear.specs.Keep.{In, Over, how_value}
+use Rattle.cf_linear.specs.Systems.{How, row_how, greatest, least}
 use Rattle.cf_linear.specs.Rows.{Row, value, AreWithin, IsRow}
 use Rattle.cf_linear.proofs.BoolLemmas.{on_bool}
 use Rattle.cf_linear.proofs.RowLemmas.{value-comb}
-use Rattle.cf_choose.specs.CaseArms.{seen, PairsWritten, WayWritten}
-use Rattle.cf_elim.specs.Returning.{PairsOver, WayOver}
-use Rattle.cf_choose.proofs.TurnedRows.{turned-over, turned-within}
+use Rattle.cf_choose.specs.CaseArms.{seen, PairsWritten, HowWritten}
+use Rattle.cf_elim.specs.Returning.{PairsOver, HowOver}
+use Rattle.cf_choose.proofs.TurnedRows.{negated-over, negated-within}
 use Rattle.cf_cases.proofs.GuardLaws.{quotient-is}
 
 -- ---- names
-abbrev pub named : Names → List ℕ
+abbrev pub named : ColumnLevels → List ℕ
 named [] = []
 named ((c, x) ∷ names) = c ∷ named names
 
 -- a column with a value: the constant, or one that has a name
-abbrev pub HasName : Names → ℕ → Type 0
+abbrev pub HasName : ColumnLevels → ℕ → Type 0
 HasName names c = (c ≡ 0) ⊎ In c (named names)
 
 -- the names are levels of numbers
-abbrev pub AreNumbers : List Base → Names → Type 0
+abbrev pub AreNumbers : List Base → ColumnLevels → Type 0
 AreNumbers bases [] = Unit {0}
 AreNumbers bases ((c, x) ∷ names) = (slice_get bases x ≡ Some Int) × AreNumbers bases names
 
-pub number_named : (bases : List Base) (names : Names) (c : ℕ) → AreNumbers bases names → In c (named names) → slice_get bases (level_of names c) ≡ Some Int
+pub number_named : (bases : List Base) (names : ColumnLevels) (c : ℕ) → AreNumbers bases names → In c (named names) → slice_get bases (level_of names c) ≡ Some Int
 number_named bases [] c n i = absurd i
 number_named bases ((d, x) ∷ names) c n i =
     cond_both (d == c) x (level_of names c) (λ y. slice_get bases y ≡ Some Int) (λ _. n.0)
@@ -132,7 +132,7 @@ module _ (scope : List Base) (few : length scope ≤ 2 ^ 32) where
     shallow = let l = h.shallow in let m = k.shallow in omega arith;
   }
 
-  module _ (names : Names) (numbers : AreNumbers scope names) where
+  module _ (names : ColumnLevels) (numbers : AreNumbers scope names) where
     variable_computes : (c : ℕ) (k : ℤ) → In c (named names) → IsWithin k →
         Computes 2 scope (cond (int_eq k (pos 1)) (code_var (level_of names c)) (code_mul (code_lit k) (code_var (level_of names c)))) (λ e. k *ℤ number_of (value_at e (level_of names c)))
     variable_computes c k i w =
@@ -208,14 +208,14 @@ module _ (scope : List Base) (few : length scope ≤ 2 ^ 32) where
     over_one : (z p : ℤ) → p ≡ pos 1 → int_div_euclid z p ≡ z
     over_one z p e = rw e (int_div_euclid-one z)
 
-    turned_value : (e : List Value) (r : Row) (p : ℤ) → p ≡ pos 1 → value (seen names e) (turned r) ≡ neg_ℤ (int_div_euclid (value (seen names e) r) p)
+    turned_value : (e : List Value) (r : Row) (p : ℤ) → p ≡ pos 1 → value (seen names e) (negated r) ≡ neg_ℤ (int_div_euclid (value (seen names e) r) p)
     turned_value e r p h = rw (value-comb (seen names e) (negsuc 0) r (pos 0) [], over_one (value (seen names e) r) p h) (omega (arith, ints))
 
     lower_computes : (r : Row) (p : ℤ) → Over (HasName names) r → IsRow r → IsDivisor p → Computes 5 scope (lower_code names (r, p)) (λ e. neg_ℤ (int_div_euclid (value (seen names e) r) p))
     lower_computes r p o w d =
-        cond_both (int_eq p (pos 1)) (row_code names (turned r)) (code_neg (code_div (row_code names r) p)) (λ c. Computes 5 scope c (λ e. neg_ℤ (int_div_euclid (value (seen names e) r) p)))
-        (λ t. deeper 3 5 (row_code names (turned r)) (λ e. value (seen names e) (turned r)) (λ e. neg_ℤ (int_div_euclid (value (seen names e) r) p)) (omega arith) (λ e. turned_value e r p (eq_is p (pos 1) t))
-        (row_computes (turned r) (turned-over (HasName names) r o) (turned-within r w)))
+        cond_both (int_eq p (pos 1)) (row_code names (negated r)) (code_neg (code_div (row_code names r) p)) (λ c. Computes 5 scope c (λ e. neg_ℤ (int_div_euclid (value (seen names e) r) p)))
+        (λ t. deeper 3 5 (row_code names (negated r)) (λ e. value (seen names e) (negated r)) (λ e. neg_ℤ (int_div_euclid (value (seen names e) r) p)) (omega arith) (λ e. turned_value e r p (eq_is p (pos 1) t))
+        (row_computes (negated r) (negated-over (HasName names) r o) (negated-within r w)))
         (λ t. neg_div_computes r p o w.1 d)
 
     upper_computes : (r : Row) (p : ℤ) → Over (HasName names) r → IsRow r → IsDivisor p → Computes 5 scope (upper_code names (r, p)) (λ e. int_div_euclid (value (seen names e) r) p)
@@ -274,17 +274,17 @@ module _ (scope : List Base) (few : length scope ≤ 2 ^ 32) where
     abbrev high_value : List Value → Row × ℤ → ℤ
     high_value e (r, p) = int_div_euclid (value (seen names e) r) p
 
-    greatest_computes : (bs : List (Row × ℤ)) → PairsOver (HasName names) bs → PairsWritten bs → Computes 6 scope (way_code names (greatest bs)) (λ e. way_value (seen names e) (greatest bs))
+    greatest_computes : (bs : List (Row × ℤ)) → PairsOver (HasName names) bs → PairsWritten bs → Computes 6 scope (how_code names (greatest bs)) (λ e. how_value (seen names e) (greatest bs))
     greatest_computes [] o s = none_computes (lower_code names) low_value lower_computes
     greatest_computes (b ∷ []) o s = one_computes (lower_code names) low_value lower_computes b o s
     greatest_computes (b ∷ c ∷ bs) o s = max_computes (lower_code names) low_value lower_computes b c bs o s
 
-    least_computes : (bs : List (Row × ℤ)) → PairsOver (HasName names) bs → PairsWritten bs → Computes 6 scope (way_code names (least bs)) (λ e. way_value (seen names e) (least bs))
+    least_computes : (bs : List (Row × ℤ)) → PairsOver (HasName names) bs → PairsWritten bs → Computes 6 scope (how_code names (least bs)) (λ e. how_value (seen names e) (least bs))
     least_computes [] o s = none_computes (upper_code names) high_value upper_computes
     least_computes (b ∷ []) o s = one_computes (upper_code names) high_value upper_computes b o s
     least_computes (b ∷ c ∷ bs) o s = min_computes (upper_code names) high_value upper_computes b c bs o s
 
-    pub way_computes : (w : Way) → WayOver (HasName names) w → WayWritten w → Computes 6 scope (way_code names w) (λ e. way_value (seen names e) w)
-    way_computes (row_way r) o s = deeper 3 6 (row_code names r) (λ e. value (seen names e) r) (λ e. value (seen names e) r) (omega arith) (λ e. refl) (row_computes r o s.1)
-    way_computes (greatest bs) o s = greatest_computes bs o s
-    way_computes (least bs) o s = least_computes bs o s
+    pub how_computes : (w : How) → HowOver (HasName names) w → HowWritten w → Computes 6 scope (how_code names w) (λ e. how_value (seen names e) w)
+    how_computes (row_how r) o s = deeper 3 6 (row_code names r) (λ e. value (seen names e) r) (λ e. value (seen names e) r) (omega arith) (λ e. refl) (row_computes r o s.1)
+    how_computes (greatest bs) o s = greatest_computes bs o s
+    how_computes (least bs) o s = least_computes bs o s

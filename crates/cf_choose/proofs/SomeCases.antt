@@ -2,9 +2,9 @@
 use Rattle.std.proofs.Common.{true, List, [], ◌∷◌, inl, map, ◌≤◌, length, arith}
 use Rattle.cf_tree.specs.CodeTree.{ArmTree, arms_of}
 use Rattle.cf_tree.specs.RelTree.{RelTree}
-use Rattle.cf_linear.specs.Cases.{Plain, plain, cases_of, matrix_of_case, matrices}
-use Rattle.cf_linear.specs.Layout.{Levels}
-use Rattle.cf_linear.specs.Matrices.{Matrix}
+use Rattle.cf_linear.specs.Cases.{Normal, negation_normal, disjuncts, system_of_case, first_systems}
+use Rattle.cf_linear.specs.Layout.{Layout}
+use Rattle.cf_linear.specs.Systems.{System}
 use Rattle.cf_cases.specs.Holding.{SomeOf}
 use Rattle.cf_cases.proofs.Quantifiers.{some-map}
 use Rattle.cf_cases.proofs.PickLaws.{length-cases, count_positive}
@@ -21,14 +21,14 @@ has_item : {A : Type 0} (xs : List A) → 1 ≤ length xs → HasItem xs
 has_item [] h = absurd (omega arith)
 has_item (x ∷ xs) h = inl tt
 
-pub some_case : (p : Plain) → HasItem (cases_of p)
-some_case p = has_item (cases_of p) (omega (arith, length-cases p, count_positive p))
+pub some_case : (p : Normal) → HasItem (disjuncts p)
+some_case p = has_item (disjuncts p) (omega (arith, length-cases p, count_positive p))
 
 arms_from : (ts : List ArmTree) → HasItem ts → HasArms (arms_of ts)
 arms_from [] h = absurd h
 arms_from (t ∷ ts) h = tt
 
-pub has_arms : (l : Levels) (rel : RelTree) (f : Matrix → ArmTree) → HasArms (arms_of (map f (matrices l rel)))
-unfolding matrices
+pub has_arms : (l : Layout) (rel : RelTree) (f : System → ArmTree) → HasArms (arms_of (map f (first_systems l rel)))
+unfolding first_systems
 has_arms l rel f =
-    arms_from (map f (map (matrix_of_case l) (cases_of (plain true rel)))) (mapped f (map (matrix_of_case l) (cases_of (plain true rel))) (mapped (matrix_of_case l) (cases_of (plain true rel)) (some_case (plain true rel))))
+    arms_from (map f (map (system_of_case l) (disjuncts (negation_normal true rel)))) (mapped f (map (system_of_case l) (disjuncts (negation_normal true rel))) (mapped (system_of_case l) (disjuncts (negation_normal true rel)) (some_case (negation_normal true rel))))

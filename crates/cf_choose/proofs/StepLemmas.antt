@@ -7,14 +7,14 @@ use Rattle.cf_tree.specs.declared.code.Code.{Code}
 use Rattle.cf_tree.specs.CodeTree.{CodeTree}
 use Rattle.cf_tree.specs.CodeView.{code_tree}
 use Rattle.cf_linear.specs.declared.system.Divided.{Divided}
-use Rattle.cf_linear.specs.declared.system.Step.{Step}
+use Rattle.cf_linear.specs.declared.system.Step.{Step as DeclaredStep}
 use Rattle.cf_linear.specs.declared.system.Back.{Back}
-use Rattle.cf_linear.specs.Arm.{way_code, Making, let_named, move_item, back_item}
-use Rattle.cf_linear.specs.Matrices.{Move, Way}
+use Rattle.cf_linear.specs.Arm.{how_code, ArmBuilder, let_named, step_item, back_item}
+use Rattle.cf_linear.specs.Systems.{Step, How}
 use Rattle.cf_linear.specs.Rows.{Row}
-use Rattle.cf_linear.specs.Views.{move_of, back_of, way_of_how}
-use Rattle.cf_choose.specs.Makings.{pair_of, SameMaking, Fits, PairsFit, WayFits, WaysFit, MoveFits, MovesFit}
-use Rattle.cf_choose.proofs.SameLemmas.{same_then, same_move, same_back}
+use Rattle.cf_linear.specs.Views.{step_of, back_of, how_of}
+use Rattle.cf_choose.specs.ArmBuilders.{pair_of, SameBuilder, Fits, PairsFit, HowFits, BackFits, StepFits, StepsFit}
+use Rattle.cf_choose.proofs.SameLemmas.{same_then, same_step, same_back}
 
 -- one more mapped item
 pub map_more : {A B : Type 0} (f : A → B) (xs : List A) (i : ℕ) (x : A) → i < length xs → x ≡ get_or xs i x → map f (take (i + 1) xs) ≡ map f (take i xs) ++ (f x ∷ [])
@@ -32,31 +32,31 @@ fit_pairs ((s, m) ∷ bs) r k h f = (h.0, fit_pairs bs r k h.1 f)
 pub pairs_more : (bs : List Divided) (i : ℕ) (b : Divided) → i < length bs → b ≡ get_or bs i b → PairsFit (map pair_of (take i bs)) → Fits b.row b.k → PairsFit (map pair_of (take (i + 1) bs))
 pairs_more bs i b h e f g = rw (map_more pair_of bs i b h e) (fit_pairs (map pair_of (take i bs)) b.row b.k f g)
 
-fit_moves : (ms : List Move) (m : Move) → MovesFit ms → MoveFits m → MovesFit (ms ++ (m ∷ []))
-fit_moves [] m h f = (f, tt)
-fit_moves (n ∷ ms) m h f = (h.0, fit_moves ms m h.1 f)
+fit_steps : (ms : List Step) (m : Step) → StepsFit ms → StepFits m → StepsFit (ms ++ (m ∷ []))
+fit_steps [] m h f = (f, tt)
+fit_steps (n ∷ ms) m h f = (h.0, fit_steps ms m h.1 f)
 
-pub fits_more : (steps : List Step) (i : ℕ) (x : Step) → i < length steps → x ≡ get_or steps i x → MovesFit (map move_of (take i steps)) → MoveFits (move_of x) → MovesFit (map move_of (take (i + 1) steps))
-fits_more steps i x h e f g = rw (map_more move_of steps i x h e) (fit_moves (map move_of (take i steps)) (move_of x) f g)
+pub fits_more : (steps : List DeclaredStep) (i : ℕ) (x : DeclaredStep) → i < length steps → x ≡ get_or steps i x → StepsFit (map step_of (take i steps)) → StepFits (step_of x) → StepsFit (map step_of (take (i + 1) steps))
+fits_more steps i x h e f g = rw (map_more step_of steps i x h e) (fit_steps (map step_of (take i steps)) (step_of x) f g)
 
-pub moves_more : (start now next : Making) (steps : List Step) (i : ℕ) (x : Step) → i < length steps → x ≡ get_or steps i x → SameMaking now (fold move_item start (map move_of (take i steps))) →
-    SameMaking next (move_item now (move_of x)) → SameMaking next (fold move_item start (map move_of (take (i + 1) steps)))
-moves_more start now next steps i x h e s t =
-    let ms = map move_of (take i steps) in
-    rw (map_more move_of steps i x h e, fold_push move_item start ms (move_of x))
-    (same_then next (move_item now (move_of x)) (move_item (fold move_item start ms) (move_of x)) t (same_move now (fold move_item start ms) (move_of x) s))
+pub steps_more : (start now next : ArmBuilder) (steps : List DeclaredStep) (i : ℕ) (x : DeclaredStep) → i < length steps → x ≡ get_or steps i x → SameBuilder now (fold step_item start (map step_of (take i steps))) →
+    SameBuilder next (step_item now (step_of x)) → SameBuilder next (fold step_item start (map step_of (take (i + 1) steps)))
+steps_more start now next steps i x h e s t =
+    let ms = map step_of (take i steps) in
+    rw (map_more step_of steps i x h e, fold_push step_item start ms (step_of x))
+    (same_then next (step_item now (step_of x)) (step_item (fold step_item start ms) (step_of x)) t (same_step now (fold step_item start ms) (step_of x) s))
 
-fit_ways : (ws : List (ℕ × Way)) (x : ℕ) (w : Way) → WaysFit ws → WayFits w → WaysFit (ws ++ ((x, w) ∷ []))
-fit_ways [] x w h f = (f, tt)
-fit_ways ((y, v) ∷ ws) x w h f = (h.0, fit_ways ws x w h.1 f)
+fit_back : (ws : List (ℕ × How)) (x : ℕ) (w : How) → BackFits ws → HowFits w → BackFits (ws ++ ((x, w) ∷ []))
+fit_back [] x w h f = (f, tt)
+fit_back ((y, v) ∷ ws) x w h f = (h.0, fit_back ws x w h.1 f)
 
-pub ways_fit_more : (back : List Back) (i : ℕ) (x : Back) → i < length back → x ≡ get_or back i x → WaysFit (map back_of (take i back)) → WayFits (way_of_how x.how) → WaysFit (map back_of (take (i + 1) back))
-ways_fit_more back i x h e f g = rw (map_more back_of back i x h e) (fit_ways (map back_of (take i back)) x.unknown (way_of_how x.how) f g)
+pub back_fit_more : (back : List Back) (i : ℕ) (x : Back) → i < length back → x ≡ get_or back i x → BackFits (map back_of (take i back)) → HowFits (how_of x.how) → BackFits (map back_of (take (i + 1) back))
+back_fit_more back i x h e f g = rw (map_more back_of back i x h e) (fit_back (map back_of (take i back)) x.unknown (how_of x.how) f g)
 
-pub ways_more : (start now next : Making) (back : List Back) (i : ℕ) (x : Back) (code : CodeTree) → i < length back → x ≡ get_or back i x → SameMaking now (fold back_item start (map back_of (take i back))) →
-    code ≡ way_code now.names (way_of_how x.how) → SameMaking next (let_named now x.unknown code) → SameMaking next (fold back_item start (map back_of (take (i + 1) back)))
-ways_more start now next back i x code h e s c t =
+pub back_more : (start now next : ArmBuilder) (back : List Back) (i : ℕ) (x : Back) (code : CodeTree) → i < length back → x ≡ get_or back i x → SameBuilder now (fold back_item start (map back_of (take i back))) →
+    code ≡ how_code now.names (how_of x.how) → SameBuilder next (let_named now x.unknown code) → SameBuilder next (fold back_item start (map back_of (take (i + 1) back)))
+back_more start now next back i x code h e s c t =
     let ws = map back_of (take i back) in
-    let u : SameMaking next (back_item now (back_of x)) = rw (← c) t in
+    let u : SameBuilder next (back_item now (back_of x)) = rw (← c) t in
     rw (map_more back_of back i x h e, fold_push back_item start ws (back_of x))
     (same_then next (back_item now (back_of x)) (back_item (fold back_item start ws) (back_of x)) u (same_back now (fold back_item start ws) (back_of x) s))

@@ -1,6 +1,5 @@
 -- What an elimination that ended leaves to the arm of its case, and what the cases of a choose answer.
-use Rattle.std.specs.Prelude.{◌≡◌, ◌<◌, ◌^◌, ◌-◌, nat_lt, true, false, List, [], map, min, length, Option, Some, None, Result, Ok, Err, Vec, if◌then◌else◌}
-use Rattle.std.specs.List.{range_with_len}
+use Rattle.std.specs.Prelude.{◌≡◌, ◌≤◌, ◌<◌, ◌^◌, ◌-◌, nat_lt, true, false, List, [], map, min, length, Option, Some, None, Result, Ok, Err, Vec, if◌then◌else◌}
 use Rattle.std.specs.Global.{Global}
 use Rattle.cf_tree.specs.CodeView.{arm_tree}
 use Rattle.cf_tree.specs.declared.code.Arm.{Arm}
@@ -11,51 +10,52 @@ use Rattle.cf_linear.specs.declared.refusal.Refusal.{Refusal}
 use Rattle.cf_linear.specs.declared.refusal.Refusal.TheVariants.{Past, Limit}
 use Rattle.cf_linear.specs.declared.refusal.RowFault.{RowFault}
 use Rattle.cf_linear.specs.declared.refusal.RowFault.TheVariants.{Past as PastLimit, NoMemory as NoRoom}
-use Rattle.cf_linear.specs.declared.system.Layout.{Layout}
-use Rattle.cf_linear.specs.declared.system.System.{System}
-use Rattle.cf_linear.specs.Matrices.{Matrix, Answer}
+use Rattle.cf_linear.specs.declared.system.Layout.{Layout as DeclaredLayout}
+use Rattle.cf_linear.specs.declared.system.System.{System as DeclaredSystem}
+use Rattle.cf_linear.specs.Systems.{System, Answer}
 use Rattle.cf_linear.specs.Keep.{Formed}
-use Rattle.cf_linear.specs.Solved.{Owes, SolvedCase}
+use Rattle.cf_linear.specs.Solved.{Owes, SolvedBy}
 use Rattle.cf_linear.specs.Stages.{solved, refused, run, limits}
-use Rattle.cf_linear.specs.Layout.{Levels, set_count}
-use Rattle.cf_linear.specs.Cases.{plain, matrices, case_count, written_passes}
+use Rattle.cf_linear.specs.Layout.{Layout, set_count}
+use Rattle.cf_linear.specs.Cases.{negation_normal, first_systems, case_count, written_passes}
 use Rattle.cf_linear.specs.Chooses.{made_of, arm_of_case, choose_limits, first_refused}
-use Rattle.cf_linear.specs.Views.{matrix_of}
+use Rattle.cf_linear.specs.Views.{system_of, step_of, bound_of}
 use Rattle.cf_choose.specs.declared.fault.ChooseFault.{ChooseFault}
 use Rattle.cf_choose.specs.declared.fault.ChooseFault.TheVariants.{Refused, NoMemory}
 use Rattle.cf_choose.specs.CaseArms.{IsWritable}
+use Rattle.cf_choose.specs.ArmBuilders.{HasOutputs}
 use Rattle.cf_cases.specs.Holding.{EachOf}
 use Rattle.cf_equation.specs.Equations.{Differ}
 use Rattle.cf_elim.specs.declared.solved.CaseParts.{CaseParts}
-use Rattle.cf_elim.specs.Returning.{ComesBack, WaysDivide, MovesDivide}
+use Rattle.cf_elim.specs.Returning.{ComesBack, BackDivides, StepsDivide}
 
 -- ---- a case
 -- what an elimination can begin with: its rows have forms, and its unknowns are all different
-abbrev pub IsReady : Matrix → Type 0
-IsReady m = Formed m × Differ m.unknown
+abbrev pub CanBegin : System → Type 0
+CanBegin m = Formed m × Differ m.unknown
 
 -- the case is solved, no unknown is left, each unknown is computed from columns that have names by then, divisors are at least 1, and the
 -- searches have few tuples
-pub record IsEliminated (m : Matrix) (a : Answer) : Type 0 where
-  pub solved : SolvedCase m a
+pub record IsEliminated (m : System) (a : Answer) : Type 0 where
+  pub solved : SolvedBy m a
   pub owes : Owes m a
   pub comes : ComesBack m a
-  pub done : a.matrix.unknown ≡ []
-  pub moves : MovesDivide a.moves
-  pub back : WaysDivide a.back
+  pub done : a.system.unknown ≡ []
+  pub steps : StepsDivide a.steps
+  pub back : BackDivides a.back
   pub bounds : AreBounds (map (λ (c, p). p) a.bounds)
 
--- what the elimination of the matrix makes
-abbrev pub made : Matrix → Answer
+-- what the elimination of the system makes
+abbrev pub made : System → Answer
 made m = made_of m (run limits m)
 
-pub record IsCaseDone (l : Levels) (m : Matrix) : Type 0 where
+pub record IsCaseDone (l : Layout) (m : System) : Type 0 where
   pub ends : (run limits m).end ≡ solved
   pub eliminated : IsEliminated m (made m)
   pub writable : IsWritable l (made m)
 
--- a layout and a case of less than 2^29 variables and items each
-pub record HasRoom (l : Layout) (c : CaseParts) : Type 0 where
+-- a layout and a case of less than 2^29 variables of numbers and items each
+pub record HasRoom (l : DeclaredLayout) (c : CaseParts) : Type 0 where
   pub scope : l.scope < 2 ^ 29
   pub numbers : length l.numbers.items < 2 ^ 29
   pub outputs : length l.out_numbers.items < 2 ^ 29
@@ -63,52 +63,67 @@ pub record HasRoom (l : Layout) (c : CaseParts) : Type 0 where
   pub steps : length c.steps.items < 2 ^ 29
   pub back : length c.back.items < 2 ^ 29
 
--- the arm of the case, or the refusal of its elimination
-abbrev pub CaseIs : Levels → Matrix → Result Arm ChooseFault → Type 0
-CaseIs l m (Ok a) = IsCaseDone l m × (arm_tree a ≡ arm_of_case limits l m)
-CaseIs l m (Err (Refused r)) = (run limits m).end ≡ refused r
-CaseIs l m (Err NoMemory) = Unit {0}
+-- the system of a case before any step
+abbrev pub first_of : CaseParts → System
+first_of c = system_of c.first
 
--- the arms of the cases, or the first refusal among them
-abbrev pub CasesAre : Levels → List Matrix → Result (Vec Arm Global) ChooseFault → Type 0
-CasesAre l ms (Ok v) = EachOf (IsCaseDone l) ms × (map arm_tree v.items ≡ map (arm_of_case limits l) ms)
-CasesAre l ms (Err (Refused r)) = first_refused limits ms ≡ Some r
-CasesAre l ms (Err NoMemory) = Unit {0}
+-- the case of the system, or the refusal of its elimination
+abbrev pub CaseIs : System → Result CaseParts ChooseFault → Type 0
+CaseIs m (Ok c) = (first_of c ≡ m) × ((run limits m).end ≡ solved)
+CaseIs m (Err (Refused r)) = (run limits m).end ≡ refused r
+CaseIs m (Err NoMemory) = Unit {0}
+
+-- the cases of the systems, or the first refusal among them
+abbrev pub EachCaseIs : List System → Result (Vec CaseParts Global) ChooseFault → Type 0
+EachCaseIs ms (Ok v) = map first_of v.items ≡ ms
+EachCaseIs ms (Err (Refused r)) = first_refused limits ms ≡ Some r
+EachCaseIs ms (Err NoMemory) = Unit {0}
+
+-- what a case keeps of its elimination is what the definition makes
+pub record IsTraced (c : CaseParts) : Type 0 where
+  pub steps : map step_of c.steps.items ≡ (made (first_of c)).steps
+  pub bounds : map bound_of c.bounds.items ≡ (made (first_of c)).bounds
+
+-- the case is done, and this is its arm
+pub record IsArmFor (l : Layout) (c : CaseParts) (a : Arm) : Type 0 where
+  pub done : IsCaseDone l (first_of c)
+  pub traced : IsTraced c
+  pub tree : arm_tree a ≡ arm_of_case limits l (first_of c)
+
+-- the cases are done, and these are their arms
+pub record AreArmsFor (l : Layout) (cases : List CaseParts) (arms : List Arm) : Type 0 where
+  pub done : EachOf (IsCaseDone l) (map first_of cases)
+  pub traced : EachOf IsTraced cases
+  pub trees : map arm_tree arms ≡ map (λ c. arm_of_case limits l (first_of c)) cases
 
 -- ---- a relation whose counts are within the limits
 -- the first systems of all cases, or Past exactly where a written or guard row passes the limit
-abbrev pub SystemsAre : Levels → RelTree → Result (Vec System Global) RowFault → Type 0
-SystemsAre l rel (Ok systems) = (written_passes l (plain true rel) ≡ false) × (map matrix_of systems.items ≡ matrices l rel)
-SystemsAre l rel (Err PastLimit) = written_passes l (plain true rel) ≡ true
+abbrev pub SystemsAre : Layout → RelTree → Result (Vec DeclaredSystem Global) RowFault → Type 0
+SystemsAre l rel (Ok systems) = (written_passes l (negation_normal true rel) ≡ false) × (map system_of systems.items ≡ first_systems l rel)
+SystemsAre l rel (Err PastLimit) = written_passes l (negation_normal true rel) ≡ true
 SystemsAre l rel (Err NoRoom) = Unit {0}
 
 -- the refusal for a row past the limit, or else the first one of the eliminations
-abbrev pub later_refusal : Levels → RelTree → Option Refusal
-later_refusal l rel = (if written_passes l (plain true rel) then Some Past else first_refused limits (matrices l rel))
+abbrev pub later_refusal : Layout → RelTree → Option Refusal
+later_refusal l rel = (if written_passes l (negation_normal true rel) then Some Past else first_refused limits (first_systems l rel))
 
--- the arms of the relation, where each case is done, or its first refusal
-abbrev pub ArmsAre : Levels → RelTree → Result (Vec Arm Global) ChooseFault → Type 0
-ArmsAre l rel (Ok v) = (written_passes l (plain true rel) ≡ false) × EachOf (IsCaseDone l) (matrices l rel) × (map arm_tree v.items ≡ map (arm_of_case limits l) (matrices l rel))
-ArmsAre l rel (Err (Refused r)) = later_refusal l rel ≡ Some r
-ArmsAre l rel (Err NoMemory) = Unit {0}
+-- the cases of the relation, or its first refusal
+abbrev pub CasesAre : Layout → RelTree → Result (Vec CaseParts Global) ChooseFault → Type 0
+CasesAre l rel (Ok v) = (written_passes l (negation_normal true rel) ≡ false) × (map first_of v.items ≡ first_systems l rel)
+CasesAre l rel (Err (Refused r)) = later_refusal l rel ≡ Some r
+CasesAre l rel (Err NoMemory) = Unit {0}
 
--- no set occurs
-pub record IsNumbers (l : Layout) : Type 0 where
-  pub no_inputs : l.inputs.items ≡ []
-  pub no_sets : l.out_sets.items ≡ []
-
--- and the outputs are numbers, one after the other
-pub record IsNumbersLayout (l : Layout) : Type 0 where
-  pub no_inputs : l.inputs.items ≡ []
-  pub no_sets : l.out_sets.items ≡ []
-  pub outputs : l.out_numbers.items ≡ range_with_len l.scope (length l.out_numbers.items)
+-- few sets, and outputs that are numbers or sets
+pub record IsFewSets (l : Layout) : Type 0 where
+  pub few : set_count l ≤ 6
+  pub outputs : HasOutputs l
 
 -- ---- counts
 -- the refusal for too many sets or cases
-abbrev pub count_refusal : Levels → RelTree → Option Refusal
-count_refusal l rel =
+abbrev pub case_refusal : Layout → RelTree → Option Refusal
+case_refusal l rel =
     (if nat_lt choose_limits.sets (set_count l) then Some (Limit Sets (set_count l))
-    else (if nat_lt choose_limits.cases (case_count (plain true rel)) then Some (Limit Cases (min (case_count (plain true rel)) (2 ^ 64 - 1)))
+    else (if nat_lt choose_limits.cases (case_count (negation_normal true rel)) then Some (Limit Cases (min (case_count (negation_normal true rel)) (2 ^ 64 - 1)))
     else None))
 
 abbrev pub CountIs : Option Refusal → Result (Unit {0}) ChooseFault → Type 0

@@ -1,6 +1,6 @@
 pub mod CaseArms
-pub mod CaseLaws
 pub mod Eliminations
-pub mod Makings
+pub mod ArmBuilders
 pub mod Precondition
 pub mod Solved
+pub mod Solving

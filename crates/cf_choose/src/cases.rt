@@ -1,13 +1,11 @@
-//! The arms of the cases of a choose without sets.
-ghost use Rattle.std.specs.Prelude.{◌≡◌, ◌+◌, ◌<◌, ◌≤◌, ◌^◌, [], true, map, length};
-ghost use Rattle.std.specs.List.{range_with_len};
-ghost use Rattle.cf_linear.specs.Views.{plain_levels, matrix_of};
-ghost use Rattle.cf_linear.specs.Cases.{matrices};
+//! The eliminations of the cases of a choose, and their arms.
+ghost use Rattle.std.specs.Prelude.{◌≡◌, ◌<◌, ◌≤◌, ◌^◌, true, map, IfOk};
 ghost use Rattle.cf_tree.specs.RelView.{rel_tree};
+ghost use Rattle.cf_linear.specs.Cases.{negation_normal, case_count};
 ghost use Rattle.cf_linear.specs.Layout.{set_count};
-ghost use Rattle.cf_linear.specs.Cases.{plain, case_count};
+ghost use Rattle.cf_linear.specs.Views.{plain_layout, system_of};
 ghost use Rattle.cf_cases.specs.Holding.{EachOf, IsPlacedRel};
-ghost use Rattle.cf_choose.specs.Eliminations.{IsReady, HasRoom, CaseIs, CasesAre, ArmsAre, IsNumbersLayout};
+ghost use Rattle.cf_choose.specs.Eliminations.{CanBegin, HasRoom, CaseIs, EachCaseIs, IsArmFor, AreArmsFor, CasesAre, IsFewSets};
 
 use crate::arm::arm;
 use crate::fault::ChooseFault;
@@ -18,18 +16,88 @@ use cf_elim::solved::SolvedCase;
 use cf_linear::refusal::{Refusal, RowFault};
 use cf_linear::system::{Layout, System};
 use cf_tree::code::Arm;
+use cf_tree::memory::NoMemory;
 use cf_tree::rel::Rel;
 use std::alloc::Global;
 
-// Whether as many things have levels.
-fn is_few(n: usize) -> bool
-    ensures { result ≡ true → n < 2 ^ 29 }
+// The cases of the relation, whose counts of sets and of cases are within the limits, or its first
+// refusal.
+pub(crate) fn cases(
+    alloc: Global,
+    layout: &Layout,
+    rel: &Rel,
+) -> Result<Vec<SolvedCase>, ChooseFault>
+    requires sets { set_count (plain_layout layout.now) ≤ 6 }
+    requires placed { IsPlacedRel (plain_layout layout.now) (rel_tree rel.now) }
+    requires few { case_count (negation_normal true (rel_tree rel.now)) ≤ 1024 }
+    ensures { CasesAre (plain_layout layout.now) (rel_tree rel.now) result }
 {
-    n < 1 << 29
+    let systems = match systems(alloc, layout, rel) {
+        Ok(systems) => systems,
+        Err(RowFault::Past) => return Err(ChooseFault::Refused(Refusal::Past)),
+        Err(RowFault::NoMemory) => return Err(ChooseFault::NoMemory),
+    };
+    each_case(alloc, systems)
+}
+
+// The cases of first systems, in order, or the first refusal.
+fn each_case(alloc: Global, systems: Vec<System>) -> Result<Vec<SolvedCase>, ChooseFault>
+    requires { EachOf CanBegin (map system_of systems.items) }
+    ensures { EachCaseIs (map system_of systems.items) result }
+{
+    let mut left = systems;
+    left.reverse();
+    let mut cases = Vec::new(alloc);
+    while let Some(system) = left.pop() {
+        match case(alloc, system) {
+            Ok(case) => cases.push(case)?,
+            Err(fault) => return Err(fault),
+        }
+    }
+    Ok(cases)
+}
+
+// The case of a first system.
+fn case(alloc: Global, system: System) -> Result<SolvedCase, ChooseFault>
+    requires { CanBegin (system_of system) }
+    ensures { CaseIs (system_of system) result }
+{
+    match eliminate(alloc, system) {
+        Ok(case) => Ok(case),
+        Err(ElimFault::Refused(refusal)) => Err(ChooseFault::Refused(refusal)),
+        Err(ElimFault::NoMemory) => Err(ChooseFault::NoMemory),
+    }
+}
+
+// The arms of cases, in order.
+pub(crate) fn arms(
+    alloc: Global,
+    layout: &Layout,
+    cases: &[SolvedCase],
+) -> Result<Vec<Arm>, NoMemory>
+    requires { IsFewSets (plain_layout layout.now) }
+    ensures { IfOk result (λ v. AreArmsFor (plain_layout layout.now) cases.now v.items) }
+{
+    let mut arms = Vec::new(alloc);
+    for case in cases {
+        arms.push(case_arm(alloc, layout, case)?)?;
+    }
+    Ok(arms)
+}
+
+// The arm of a case.
+fn case_arm(alloc: Global, layout: &Layout, case: &SolvedCase) -> Result<Arm, NoMemory>
+    requires { IsFewSets (plain_layout layout.now) }
+    ensures { IfOk result (IsArmFor (plain_layout layout.now) case.now) }
+{
+    if !has_room(layout, case) {
+        return Err(NoMemory);
+    }
+    Ok(arm(alloc, layout, case.bounds(), case.steps(), case.back())?)
 }
 
 // Whether the levels of an arm are numbers of 32 bits.
-pub(crate) fn has_room(layout: &Layout, case: &SolvedCase) -> bool
+fn has_room(layout: &Layout, case: &SolvedCase) -> bool
     ensures { result ≡ true → HasRoom layout.now case.now }
 {
     layout.scope < 1 << 29
@@ -40,56 +108,9 @@ pub(crate) fn has_room(layout: &Layout, case: &SolvedCase) -> bool
         && is_few(case.back().len())
 }
 
-// The arm of the case of a first system.
-fn case_arm(alloc: Global, layout: &Layout, system: System) -> Result<Arm, ChooseFault>
-    requires layout { IsNumbersLayout layout.now }
-    requires ready { IsReady (matrix_of system) }
-    ensures { CaseIs (plain_levels layout.now) (matrix_of system) result }
+// Whether as many things have levels.
+fn is_few(n: usize) -> bool
+    ensures { result ≡ true → n < 2 ^ 29 }
 {
-    let case = match eliminate(alloc, system) {
-        Ok(case) => case,
-        Err(ElimFault::Refused(refusal)) => return Err(ChooseFault::Refused(refusal)),
-        Err(ElimFault::NoMemory) => return Err(ChooseFault::NoMemory),
-    };
-    if !has_room(layout, &case) {
-        return Err(ChooseFault::NoMemory);
-    }
-    match arm(alloc, layout, case.bounds(), case.steps(), case.back()) {
-        Ok(arm) => Ok(arm),
-        Err(_) => Err(ChooseFault::NoMemory),
-    }
-}
-
-// The arms of all cases, in order, or the first refusal.
-fn each_arm(alloc: Global, layout: &Layout, systems: Vec<System>) -> Result<Vec<Arm>, ChooseFault>
-    requires layout { IsNumbersLayout layout.now }
-    requires ready { EachOf IsReady (map matrix_of systems.items) }
-    ensures { CasesAre (plain_levels layout.now) (map matrix_of systems.items) result }
-{
-    let mut left = systems;
-    left.reverse();
-    let mut arms = Vec::new(alloc);
-    while let Some(system) = left.pop() {
-        match case_arm(alloc, layout, system) {
-            Ok(arm) => arms.push(arm)?,
-            Err(fault) => return Err(fault),
-        }
-    }
-    Ok(arms)
-}
-
-// The arms of the relation, whose counts of sets and of cases are within the limits, or its first
-// refusal.
-pub(crate) fn arms(alloc: Global, layout: &Layout, rel: &Rel) -> Result<Vec<Arm>, ChooseFault>
-    requires layout { IsNumbersLayout layout.now }
-    requires placed { IsPlacedRel (plain_levels layout.now) (rel_tree rel.now) }
-    requires few { case_count (plain true (rel_tree rel.now)) ≤ 1024 }
-    ensures { ArmsAre (plain_levels layout.now) (rel_tree rel.now) result }
-{
-    let systems = match systems(alloc, layout, rel) {
-        Ok(systems) => systems,
-        Err(RowFault::Past) => return Err(ChooseFault::Refused(Refusal::Past)),
-        Err(RowFault::NoMemory) => return Err(ChooseFault::NoMemory),
-    };
-    each_arm(alloc, layout, systems)
+    n < 1 << 29
 }

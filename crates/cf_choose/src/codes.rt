@@ -3,21 +3,22 @@ ghost use Rattle.std.specs.Prelude.{◌≡◌, ◌<◌, pos, map, length, get_or
 ghost use Rattle.cf_num.specs.Limit.{IsWithin};
 ghost use Rattle.cf_tree.specs.CodeTree.{code_lit, code_div, code_compare, code_divides};
 ghost use Rattle.cf_tree.specs.CodeView.{code_tree};
-ghost use Rattle.cf_linear.specs.Arm.{sum_of, entry_code, row_code, lower_code, upper_code, greatest_code, least_code, way_code, turned};
+ghost use Rattle.cf_linear.specs.Arm.{entry_code, row_code, lower_code, upper_code, greatest_code, least_code, how_code, negated};
 ghost use Rattle.cf_linear.specs.Rows.{IsRow};
-ghost use Rattle.cf_linear.specs.Views.{way_of_how};
-ghost use Rattle.cf_choose.specs.Makings.{pair_of, Fits, PairsFit, WayFits};
+ghost use Rattle.cf_linear.specs.Views.{how_of};
+ghost use Rattle.cf_choose.specs.ArmBuilders.{pair_of, Fits, PairsFit, HowFits};
 
-use crate::names::Names;
 use cf_linear::row::Row;
 use cf_linear::system::{Divided, How};
+use cf_setwit::names::ColumnLevels;
+use cf_setwit::several::sum_of;
 use cf_tree::base::Order;
 use cf_tree::code::Code;
 use cf_tree::memory::NoMemory;
 use std::alloc::Global;
 
 // The code of an entry.
-fn entry_code(alloc: Global, names: &Names, column: u32, k: i128) -> Result<Code, NoMemory>
+fn entry_code(alloc: Global, names: &ColumnLevels, column: u32, k: i128) -> Result<Code, NoMemory>
     ensures { IfOk result (λ c. code_tree c ≡ entry_code names.now (column, k)) }
 {
     if column == 0 {
@@ -30,20 +31,6 @@ fn entry_code(alloc: Global, names: &Names, column: u32, k: i128) -> Result<Code
     let factor = Box::new(alloc, Code::Lit(k))?;
     let variable = Box::new(alloc, Code::Var(level))?;
     Ok(Code::Mul(factor, variable))
-}
-
-// One code alone, or the sum of several.
-fn sum_of(codes: Vec<Code>) -> Code
-    ensures { code_tree result ≡ sum_of (map code_tree codes.items) }
-{
-    let mut codes = codes;
-    if codes.len() > 1 {
-        return Code::Sum(codes);
-    }
-    match codes.pop() {
-        Some(code) => code,
-        None => Code::Lit(0),
-    }
 }
 
 // One code alone, or the greatest of several.
@@ -75,7 +62,7 @@ fn least_of(codes: Vec<Code>) -> Code
 }
 
 // The sum of the entries.
-pub(crate) fn row_code(alloc: Global, names: &Names, row: &Row) -> Result<Code, NoMemory>
+pub(crate) fn row_code(alloc: Global, names: &ColumnLevels, row: &Row) -> Result<Code, NoMemory>
     ensures code { IfOk result (λ c. code_tree c ≡ row_code names.now row.now) }
     ensures is_row { IsRow row.now }
 {
@@ -91,7 +78,7 @@ pub(crate) fn row_code(alloc: Global, names: &Names, row: &Row) -> Result<Code, 
 // The row divided by the number and rounded down.
 pub(crate) fn quotient_code(
     alloc: Global,
-    names: &Names,
+    names: &ColumnLevels,
     row: &Row,
     k: i128,
 ) -> Result<Code, NoMemory>
@@ -108,7 +95,7 @@ pub(crate) fn quotient_code(
 // Whether the row is at least 0, or 0.
 pub(crate) fn need_code(
     alloc: Global,
-    names: &Names,
+    names: &ColumnLevels,
     order: Order,
     row: &Row,
 ) -> Result<Code, NoMemory>
@@ -126,7 +113,7 @@ pub(crate) fn need_code(
 // Whether the number divides the row.
 pub(crate) fn divides_code(
     alloc: Global,
-    names: &Names,
+    names: &ColumnLevels,
     k: i128,
     row: &Row,
 ) -> Result<Code, NoMemory>
@@ -141,8 +128,8 @@ pub(crate) fn divides_code(
 }
 
 // The row with its signs turned.
-fn turned(alloc: Global, row: &Row) -> Result<Row, NoMemory>
-    ensures { IfOk result (λ r. r ≡ turned row.now) }
+fn negated(alloc: Global, row: &Row) -> Result<Row, NoMemory>
+    ensures { IfOk result (λ r. r ≡ negated row.now) }
 {
     match row.combine(alloc, -1, &Row::empty(alloc), 0) {
         Ok(row) => Ok(row),
@@ -151,21 +138,21 @@ fn turned(alloc: Global, row: &Row) -> Result<Row, NoMemory>
 }
 
 // The least number that meets a lower bound.
-fn lower_code(alloc: Global, names: &Names, bound: &Divided) -> Result<Code, NoMemory>
+fn lower_code(alloc: Global, names: &ColumnLevels, bound: &Divided) -> Result<Code, NoMemory>
     ensures code { IfOk result (λ c. code_tree c ≡ lower_code names.now (pair_of bound.now)) }
     ensures fits { Fits bound.now.row bound.now.k }
 {
     let _size = size(&bound.row);
     if bound.k == 1 {
-        let turned = turned(alloc, &bound.row)?;
-        return row_code(alloc, names, &turned);
+        let negated = negated(alloc, &bound.row)?;
+        return row_code(alloc, names, &negated);
     }
     let quotient = quotient_code(alloc, names, &bound.row, bound.k)?;
     Ok(Code::Neg(Box::new(alloc, quotient)?))
 }
 
 // The greatest number that meets an upper bound.
-fn upper_code(alloc: Global, names: &Names, bound: &Divided) -> Result<Code, NoMemory>
+fn upper_code(alloc: Global, names: &ColumnLevels, bound: &Divided) -> Result<Code, NoMemory>
     ensures code { IfOk result (λ c. code_tree c ≡ upper_code names.now (pair_of bound.now)) }
     ensures fits { Fits bound.now.row bound.now.k }
 {
@@ -175,7 +162,11 @@ fn upper_code(alloc: Global, names: &Names, bound: &Divided) -> Result<Code, NoM
     quotient_code(alloc, names, &bound.row, bound.k)
 }
 
-fn lower_codes(alloc: Global, names: &Names, bounds: &[Divided]) -> Result<Vec<Code>, NoMemory>
+fn lower_codes(
+    alloc: Global,
+    names: &ColumnLevels,
+    bounds: &[Divided],
+) -> Result<Vec<Code>, NoMemory>
     ensures codes { IfOk result (λ cs. map code_tree cs.items ≡ map (lower_code names.now) (map pair_of bounds.now)) }
     ensures fit { IfOk result (λ _. PairsFit (map pair_of bounds.now)) }
 {
@@ -186,7 +177,11 @@ fn lower_codes(alloc: Global, names: &Names, bounds: &[Divided]) -> Result<Vec<C
     Ok(parts)
 }
 
-fn upper_codes(alloc: Global, names: &Names, bounds: &[Divided]) -> Result<Vec<Code>, NoMemory>
+fn upper_codes(
+    alloc: Global,
+    names: &ColumnLevels,
+    bounds: &[Divided],
+) -> Result<Vec<Code>, NoMemory>
     ensures codes { IfOk result (λ cs. map code_tree cs.items ≡ map (upper_code names.now) (map pair_of bounds.now)) }
     ensures fit { IfOk result (λ _. PairsFit (map pair_of bounds.now)) }
 {
@@ -198,9 +193,9 @@ fn upper_codes(alloc: Global, names: &Names, bounds: &[Divided]) -> Result<Vec<C
 }
 
 // How an unknown is computed.
-pub(crate) fn way_code(alloc: Global, names: &Names, how: &How) -> Result<Code, NoMemory>
-    ensures code { IfOk result (λ c. code_tree c ≡ way_code names.now (way_of_how how.now)) }
-    ensures fits { IfOk result (λ _. WayFits (way_of_how how.now)) }
+pub(crate) fn how_code(alloc: Global, names: &ColumnLevels, how: &How) -> Result<Code, NoMemory>
+    ensures code { IfOk result (λ c. code_tree c ≡ how_code names.now (how_of how.now)) }
+    ensures fits { IfOk result (λ _. HowFits (how_of how.now)) }
 {
     match how {
         How::Row(row) => row_code(alloc, names, row),

@@ -42,8 +42,3 @@ impl<T: Drop> From<AllocFailed<T>> for ChooseFault {
         ChooseFault::NoMemory
     }
 }
-
-// Want of memory, for a form that is not built yet.
-pub(crate) fn not_built() -> NoMemory {
-    NoMemory
-}

@@ -1,8 +1,8 @@
 //! The levels of the variables of a choose.
 ghost use Rattle.std.specs.Prelude.{◌≡◌, ◌+◌, ◌<◌, ◌^◌, ◌++◌, ◌∷◌, [], length, filter, IfOk, OnOk, if◌then◌else◌};
 ghost use Rattle.cf_tree.specs.RelView.{set_tree, term_tree, rel_tree};
-ghost use Rattle.cf_linear.specs.Layout.{set_holds, term_holds, rel_holds, is_number, is_set, levels_with, levels_of};
-ghost use Rattle.cf_linear.specs.Views.{plain_levels};
+ghost use Rattle.cf_linear.specs.Layout.{set_holds, term_holds, rel_holds, is_number, is_set, levels_with, layout_of};
+ghost use Rattle.cf_linear.specs.Views.{plain_layout};
 
 use cf_linear::system::Layout;
 use cf_tree::base::Base;
@@ -129,7 +129,7 @@ pub(crate) fn layout(
     rel: &Rel,
 ) -> Result<Layout, NoMemory>
     requires { length scope.now + length outputs.now < 2 ^ 32 }
-    ensures { IfOk result (λ l. plain_levels l ≡ levels_of scope.now outputs.now (rel_tree rel.now)) }
+    ensures { IfOk result (λ l. plain_layout l ≡ layout_of scope.now outputs.now (rel_tree rel.now)) }
 {
     let first = scope.len() as u32;
     let all_numbers = numbers(alloc, scope, 0)?;

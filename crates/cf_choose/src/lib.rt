@@ -2,12 +2,11 @@
 #![tactic(auto)]
 
 mod arm;
+mod arm_builder;
 mod cases;
 mod codes;
 pub mod fault;
 mod levels;
-mod making;
-mod names;
 mod needs;
 pub mod solve;
 pub mod solved;

@@ -64,14 +64,14 @@ fn needed(items: &[Item]) -> usize
 {
     let mut count = 0;
     for i in 0..items.len() {
-        count = counted(items, i, count);
+        count = needed_after(items, i, count);
     }
     count
 }
 
 // How many of the first items there are up to the last need, where so many are of those before the
 // last of them.
-fn counted(items: &[Item], i: usize, count: usize) -> usize
+fn needed_after(items: &[Item], i: usize, count: usize) -> usize
     requires inside { i < length items.now }
     requires within { count ≤ i }
     requires needed { items_of (map item_tree (take count items.now)) ≡ to_last_need (items_of (map item_tree (take i items.now))) }

@@ -1,18 +1,19 @@
 //! Solving a relation for its outputs.
-ghost use Rattle.std.specs.Prelude.{◌≡◌, ◌++◌, [], true, All, IfOk};
-ghost use Rattle.cf_tree.specs.CodeView.{arm_trees};
+ghost use Rattle.std.specs.Prelude.{◌≡◌, ◌++◌, All, IfOk};
 ghost use Rattle.cf_tree.specs.RelView.{rel_tree};
 ghost use Rattle.cf_tree.specs.Relation.{IsTyped, IsLinear};
-ghost use Rattle.cf_linear.specs.Views.{plain_levels};
-ghost use Rattle.cf_choose.specs.Eliminations.{count_refusal, CountIs, IsNumbers};
-ghost use Rattle.cf_choose.specs.Solved.{IsOutput, ArmsSolve, Tells};
+ghost use Rattle.cf_linear.specs.Views.{plain_layout};
+ghost use Rattle.cf_choose.specs.Eliminations.{case_refusal, CountIs};
+ghost use Rattle.cf_choose.specs.Solved.{IsOutput, IsOf, IsSolvedBy, SolveAnswer};
+ghost use Rattle.cf_choose.specs.Solving.{IsEliminatedBy};
 
-use crate::cases::arms;
-use crate::fault::{ChooseFault, not_built};
+use crate::cases::{arms, cases};
+use crate::fault::ChooseFault;
 use crate::levels::layout;
 use crate::solved::{Solved, SolvedParts};
 use cf_cases::count::count;
-use cf_linear::refusal::{LimitKind, Refusal};
+use cf_elim::solved::SolvedCase;
+use cf_linear::refusal::{LimitKind, MOST_CASES, MOST_SETS, Refusal};
 use cf_linear::system::Layout;
 use cf_tree::base::Base;
 use cf_tree::code::Arm;
@@ -20,8 +21,23 @@ use cf_tree::memory::NoMemory;
 use cf_tree::rel::Rel;
 use std::alloc::Global;
 
-/// The relation with arms that solve it, where the scope and the outputs have these bases; or the
-/// first limit that it passes.
+// How many variables are in scope at most, and how many outputs, so that levels and columns are
+// numbers of 32 bits.
+const MOST_VARIABLES: usize = 1 << 29;
+
+// The layout of a choose and its cases.
+#[derive(Drop)]
+struct Eliminated {
+    layout: Layout,
+    cases: Vec<SolvedCase>,
+}
+
+/// The relation with arms that solve it, where the variables in scope have these bases by level and
+/// the outputs, behind them, those of `outputs`.
+///
+/// # Errors
+/// `Refused` exactly where the relation passes a limit, with the first one, and `NoMemory` where memory
+/// ran out.
 pub fn solve(
     alloc: Global,
     scope: &[Base],
@@ -31,9 +47,9 @@ pub fn solve(
     requires typed { IsTyped (scope.now ++ outputs.now) (rel_tree rel.now) }
     requires linear { IsLinear (rel_tree rel.now) }
     requires outputs { All IsOutput outputs.now }
-    ensures { Tells scope.now outputs.now (rel_tree rel.now) result }
+    ensures { SolveAnswer scope.now outputs.now (rel_tree rel.now) result }
 {
-    if scope.len() >= 1 << 29 || outputs.len() >= 1 << 29 {
+    if scope.len() >= MOST_VARIABLES || outputs.len() >= MOST_VARIABLES {
         return Err(ChooseFault::NoMemory);
     }
     let layout = match layout(alloc, scope, outputs, rel) {
@@ -43,14 +59,11 @@ pub fn solve(
     if let Err(fault) = counts(&layout, rel) {
         return Err(fault);
     }
-    if !is_numbers(&layout) {
-        return Err(ChooseFault::from(not_built()));
-    }
-    let arms = match arms(alloc, &layout, rel) {
-        Ok(arms) => arms,
+    let cases = match cases(alloc, &layout, rel) {
+        Ok(cases) => cases,
         Err(fault) => return Err(fault),
     };
-    match solved(alloc, scope, outputs, rel, arms) {
+    match with_arms(alloc, scope, outputs, rel, Eliminated { layout, cases }) {
         Ok(solved) => Ok(solved),
         Err(_) => Err(ChooseFault::NoMemory),
     }
@@ -58,14 +71,14 @@ pub fn solve(
 
 // Whether the sets and the cases are within their limits.
 fn counts(layout: &Layout, rel: &Rel) -> Result<(), ChooseFault>
-    ensures { CountIs (count_refusal (plain_levels layout.now) (rel_tree rel.now)) result }
+    ensures { CountIs (case_refusal (plain_layout layout.now) (rel_tree rel.now)) result }
 {
     let sets = layout.inputs.len() as u64 + layout.out_sets.len() as u64;
-    if sets > 6 {
+    if sets > MOST_SETS as u64 {
         return Err(refused(LimitKind::Sets, sets));
     }
     let cases = count(rel);
-    if cases > 1024 {
+    if cases > MOST_CASES {
         return Err(refused(LimitKind::Cases, cases));
     }
     Ok(())
@@ -77,26 +90,32 @@ fn refused(kind: LimitKind, number: u64) -> ChooseFault
     ChooseFault::Refused(Refusal::Limit { kind, number })
 }
 
-// Whether no set occurs.
-fn is_numbers(layout: &Layout) -> bool
-    ensures { result ≡ true → IsNumbers layout.now }
-{
-    layout.inputs.is_empty() && layout.out_sets.is_empty()
-}
-
-// The relation with arms that solve it.
-fn solved(
+// The choose with the arms of its cases.
+fn with_arms(
     alloc: Global,
     scope: &[Base],
     outputs: &[Base],
     rel: &Rel,
+    of: Eliminated,
+) -> Result<Solved, NoMemory>
+    requires { IsEliminatedBy scope.now outputs.now (rel_tree rel.now) of }
+    ensures { IfOk result (IsOf scope.now outputs.now (rel_tree rel.now)) }
+{
+    let arms = arms(alloc, &of.layout, &of.cases)?;
+    solved_with(alloc, scope, outputs, rel, of, arms)
+}
+
+// The choose that these arms solve.
+fn solved_with(
+    alloc: Global,
+    scope: &[Base],
+    outputs: &[Base],
+    rel: &Rel,
+    of: Eliminated,
     arms: Vec<Arm>,
 ) -> Result<Solved, NoMemory>
-    requires { ArmsSolve scope.now outputs.now (rel_tree rel.now) (arm_trees arms.items) }
-    ensures scope { IfOk result (λ s. s.scope.items ≡ scope.now) }
-    ensures outputs { IfOk result (λ s. s.outputs.items ≡ outputs.now) }
-    ensures relation { IfOk result (λ s. rel_tree s.rel ≡ rel_tree rel.now) }
-    ensures arms { IfOk result (λ s. s.arms.items ≡ arms.items) }
+    requires { IsSolvedBy scope.now outputs.now (rel_tree rel.now) of.layout of.cases.items arms.items }
+    ensures { IfOk result (IsOf scope.now outputs.now (rel_tree rel.now)) }
 {
     let scope = Vec::from_slice(alloc, scope)?;
     let outputs = Vec::from_slice(alloc, outputs)?;
@@ -105,6 +124,8 @@ fn solved(
         scope,
         outputs,
         rel,
+        layout: of.layout,
+        cases: of.cases,
         arms,
     }))
 }

@@ -1,17 +1,18 @@
 //! The first systems of the cases of a relation.
-ghost use Rattle.std.specs.Prelude.{◌≡◌, ◌+◌, ◌<◌, ◌≤◌, ◌^◌, [], map, true, IfOk};
+ghost use Rattle.std.specs.Prelude.{◌≡◌, ◌+◌, ◌<◌, ◌≤◌, ◌^◌, map, true, IfOk};
 ghost use Rattle.cf_tree.specs.RelView.{rel_tree};
-ghost use Rattle.cf_linear.specs.Cases.{plain, case_count};
+ghost use Rattle.cf_linear.specs.Cases.{negation_normal, case_count};
 ghost use Rattle.cf_linear.specs.Keep.{Formed};
-ghost use Rattle.cf_linear.specs.Layout.{first_free};
-ghost use Rattle.cf_linear.specs.Views.{plain_levels, matrix_of};
+ghost use Rattle.cf_linear.specs.Layout.{set_count, first_free};
+ghost use Rattle.cf_linear.specs.Views.{plain_layout, system_of};
 ghost use Rattle.cf_equation.specs.Equations.{Differ};
-ghost use Rattle.cf_cases.specs.Drafts.{rel_quotients};
+ghost use Rattle.cf_cases.specs.Counts.{count_tree, counts_of};
+ghost use Rattle.cf_cases.specs.SystemBuilders.{rel_quotients};
 ghost use Rattle.cf_cases.specs.Holding.{IsPlacedRel, EachOf};
 ghost use Rattle.cf_choose.specs.Eliminations.{SystemsAre};
 
 use cf_cases::case::case_of;
-use cf_cases::count::count;
+use cf_cases::count::{Counts, count};
 use cf_linear::refusal::RowFault;
 use cf_linear::system::{Layout, System};
 use cf_tree::rel::Rel;
@@ -19,19 +20,37 @@ use std::alloc::Global;
 
 // The first systems of the cases of the relation, in order.
 pub(crate) fn systems(alloc: Global, layout: &Layout, rel: &Rel) -> Result<Vec<System>, RowFault>
-    requires placed { IsPlacedRel (plain_levels layout.now) (rel_tree rel.now) }
-    requires inputs { layout.now.inputs.items ≡ [] }
-    requires out_sets { layout.now.out_sets.items ≡ [] }
-    requires few { case_count (plain true (rel_tree rel.now)) ≤ 1024 }
-    ensures systems { SystemsAre (plain_levels layout.now) (rel_tree rel.now) result }
-    ensures ready { IfOk result (λ v. EachOf (λ m. Formed m × Differ m.unknown) (map matrix_of v.items)) }
+    requires placed { IsPlacedRel (plain_layout layout.now) (rel_tree rel.now) }
+    requires sets { set_count (plain_layout layout.now) ≤ 6 }
+    requires few { case_count (negation_normal true (rel_tree rel.now)) ≤ 1024 }
+    ensures systems { SystemsAre (plain_layout layout.now) (rel_tree rel.now) result }
+    ensures ready { IfOk result (λ v. EachOf (λ m. Formed m × Differ m.unknown) (map system_of v.items)) }
 {
     if !has_columns(layout, rel) {
         return Err(RowFault::NoMemory);
     }
+    let counts = Counts::of(alloc, rel)?;
+    each_system(alloc, layout, rel, &counts)
+}
+
+// The same, where the cases are counted.
+fn each_system(
+    alloc: Global,
+    layout: &Layout,
+    rel: &Rel,
+    counts: &Counts,
+) -> Result<Vec<System>, RowFault>
+    requires counts { count_tree counts.now ≡ counts_of (negation_normal true (rel_tree rel.now)) }
+    requires placed { IsPlacedRel (plain_layout layout.now) (rel_tree rel.now) }
+    requires sets { set_count (plain_layout layout.now) ≤ 6 }
+    requires few { case_count (negation_normal true (rel_tree rel.now)) ≤ 1024 }
+    requires room { first_free (plain_layout layout.now) + rel_quotients (rel_tree rel.now) < 2 ^ 32 }
+    ensures systems { SystemsAre (plain_layout layout.now) (rel_tree rel.now) result }
+    ensures ready { IfOk result (λ v. EachOf (λ m. Formed m × Differ m.unknown) (map system_of v.items)) }
+{
     let mut all = Vec::new(alloc);
     for index in 0..count(rel) {
-        match case_of(alloc, rel, layout, index) {
+        match case_of(alloc, rel, counts, layout, index) {
             Ok(system) => all.push(system)?,
             Err(fault) => return Err(fault),
         }
@@ -39,12 +58,11 @@ pub(crate) fn systems(alloc: Global, layout: &Layout, rel: &Rel) -> Result<Vec<S
     Ok(all)
 }
 
-// Whether the columns of a layout without sets, and those of the quotients of the relation, are
-// surely numbers of 32 bits.
+// Whether the columns of the layout and those of the quotients of the relation are surely numbers of
+// 32 bits.
 fn has_columns(layout: &Layout, rel: &Rel) -> bool
-    requires inputs { layout.now.inputs.items ≡ [] }
-    requires out_sets { layout.now.out_sets.items ≡ [] }
-    ensures { result ≡ true → first_free (plain_levels layout.now) + rel_quotients (rel_tree rel.now) < 2 ^ 32 }
+    requires { set_count (plain_layout layout.now) ≤ 6 }
+    ensures { result ≡ true → first_free (plain_layout layout.now) + rel_quotients (rel_tree rel.now) < 2 ^ 32 }
 {
     are_few(layout.numbers.len(), layout.out_numbers.len(), rel.size())
 }

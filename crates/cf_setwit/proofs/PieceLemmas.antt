@@ -7,8 +7,8 @@ use Rattle.std.proofs.lemmas.List.Sums.{fold_push}
 use Rattle.cf_tree.specs.declared.code.Code.{Code}
 use Rattle.cf_tree.specs.CodeTree.{CodeTree, code_var, code_diff}
 use Rattle.cf_tree.specs.CodeView.{code_tree}
-use Rattle.cf_linear.specs.Arm.{Names, level_of, vars, earlier_counts}
-use Rattle.cf_linear.specs.Layout.{Levels, region_column}
+use Rattle.cf_linear.specs.Arm.{ColumnLevels, level_of, vars, earlier_counts}
+use Rattle.cf_linear.specs.Layout.{Layout, region_column}
 
 -- one set more is taken away
 pub without_more : (start region next : CodeTree) (xs : List ℕ) (i : ℕ) → i < length xs → region ≡ fold (λ c d. code_diff c d) start (vars (take i xs)) →
@@ -23,7 +23,7 @@ pushed f out next code ms r true n c h = rw (n, map-append code_tree out (code �
 pushed f out next code ms r false n c h = rw (n, append-nil out, append-nil ms) h
 
 -- one earlier region more
-pub earlier_more : (l : Levels) (names : Names) (m o r : ℕ) (out next : List Code) (code : Code) → m + 2 ^ length l.inputs * o ≡ r → next ≡ out ++ cond (not (r == 0)) (code ∷ []) [] →
+pub earlier_more : (l : Layout) (names : ColumnLevels) (m o r : ℕ) (out next : List Code) (code : Code) → m + 2 ^ length l.inputs * o ≡ r → next ≡ out ++ cond (not (r == 0)) (code ∷ []) [] →
     code_tree code ≡ code_var (level_of names (region_column l r)) → map code_tree out ≡ earlier_counts l names m o → map code_tree next ≡ earlier_counts l names m (o + 1)
 earlier_more l names m o r out next code e n c h =
     let f : ℕ → CodeTree = λ r. code_var (level_of names (region_column l r)) in

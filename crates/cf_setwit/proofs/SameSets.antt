@@ -2,10 +2,10 @@
 use Rattle.std.proofs.Common.{◌≡◌, ℕ, ◌+◌, ◌*◌, ◌/◌, ◌%◌, ◌^◌, ◌==◌, List, [], ◌∷◌, filter, length, map, not, refl, ap}
 use Rattle.std.specs.List.{range_with_len}
 use Rattle.cf_tree.specs.CodeTree.{code_var, code_fresh}
-use Rattle.cf_linear.specs.Arm.{Names, level_of, sum_of, vars, union_of_all, earlier_counts, piece_code, set_code, fresh_code}
-use Rattle.cf_linear.specs.Layout.{Levels, bit, masks, set_count, region_column}
+use Rattle.cf_linear.specs.Arm.{ColumnLevels, level_of, sum_of, vars, union_of_all, earlier_counts, piece_code, set_code, fresh_code}
+use Rattle.cf_linear.specs.Layout.{Layout, bit, masks, set_count, region_column}
 
-module _ (l : Levels) (names ns : Names) (same : (c : ℕ) → level_of names c ≡ level_of ns c) where
+module _ (l : Layout) (names ns : ColumnLevels) (same : (c : ℕ) → level_of names c ≡ level_of ns c) where
   counts_same : (rs : List ℕ) → map (λ r. code_var (level_of names (region_column l r))) rs ≡ map (λ r. code_var (level_of ns (region_column l r))) rs
   counts_same [] = refl
   counts_same (r ∷ rs) = rw (same (region_column l r), counts_same rs) refl

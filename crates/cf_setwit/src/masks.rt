@@ -1,11 +1,11 @@
 //! Masks of regions: bit `i` is of input set `i`, and the bits after those of the input sets are of
 //! the output sets.
 ghost use Rattle.std.specs.Prelude.{◌≡◌, ◌+◌, ◌≤◌, ◌<◌, ◌^◌, length, filter, not, IfOk};
-ghost use Rattle.cf_linear.specs.Layout.{bit, masks, place, set_count, first_free, region_column};
-ghost use Rattle.cf_linear.specs.Views.{plain_levels};
+ghost use Rattle.cf_linear.specs.Layout.{bit, masks, place, set_count};
+ghost use Rattle.cf_linear.specs.Views.{plain_layout};
 
 use crate::lists::push_if;
-use cf_linear::columns::known_count;
+use cf_linear::columns::{has_bit, place};
 use cf_linear::system::Layout;
 use cf_tree::memory::NoMemory;
 use std::alloc::Global;
@@ -44,69 +44,22 @@ fn is_in(inputs: &[u32], x: u32, mask: u32) -> bool
 
 // The masks of output set `j`, in rising order.
 pub(crate) fn masks_of(alloc: Global, layout: &Layout, j: usize) -> Result<Vec<u32>, NoMemory>
-    requires sets { set_count (plain_levels layout.now) ≤ 6 }
-    requires set { j ≤ length layout.now.out_sets.items }
-    ensures { IfOk result (λ v. v.items ≡ filter (bit (length layout.now.inputs.items + j)) (masks (set_count (plain_levels layout.now)))) }
+    requires sets { set_count (plain_layout layout.now) ≤ 6 }
+    requires set { j < length layout.now.out_sets.items }
+    ensures { IfOk result (λ v. v.items ≡ filter (bit (length layout.now.inputs.items + j)) (masks (set_count (plain_layout layout.now)))) }
 {
     let i = layout.inputs.len() + j;
     let mut masks = Vec::new(alloc);
-    for mask in 1..all_masks(layout) {
+    for mask in 1..layout.regions() {
         push_if(&mut masks, has_bit(i, mask), mask)?;
     }
     Ok(masks)
 }
 
-// How many masks of input sets there are, with the mask 0.
-pub(crate) fn input_masks(layout: &Layout) -> u32
-    requires { set_count (plain_levels layout.now) ≤ 6 }
-    ensures { result ≡ 2 ^ length layout.now.inputs.items }
-{
-    1u32 << layout.inputs.len()
-}
-
 // How many masks of output sets there are, with the mask 0.
 pub(crate) fn output_masks(layout: &Layout) -> u32
-    requires { set_count (plain_levels layout.now) ≤ 6 }
+    requires { set_count (plain_layout layout.now) ≤ 6 }
     ensures { result ≡ 2 ^ length layout.now.out_sets.items }
 {
     1u32 << layout.out_sets.len()
-}
-
-// How many masks of all sets there are, with the mask 0.
-fn all_masks(layout: &Layout) -> u32
-    requires { set_count (plain_levels layout.now) ≤ 6 }
-    ensures { result ≡ 2 ^ set_count (plain_levels layout.now) }
-{
-    1u32 << (layout.inputs.len() + layout.out_sets.len())
-}
-
-// The column of the region's count.
-pub(crate) fn region_column(layout: &Layout, mask: u32) -> u32
-    requires sets { set_count (plain_levels layout.now) ≤ 6 }
-    requires room { first_free (plain_levels layout.now) < 2 ^ 32 }
-    requires mask { mask < 2 ^ set_count (plain_levels layout.now) }
-    ensures { result ≡ region_column (plain_levels layout.now) mask }
-{
-    known_count(layout) + layout.out_numbers.len() as u32 + mask - 1
-}
-
-// The place of the level, or how many levels there are.
-fn place(x: u32, levels: &[u32]) -> usize
-    ensures value { result ≡ place x levels.now }
-    ensures bound { result ≤ length levels.now }
-{
-    for i in 0..levels.len() {
-        if levels[i] == x {
-            return i;
-        }
-    }
-    levels.len()
-}
-
-// Whether the mask has the bit.
-fn has_bit(i: usize, mask: u32) -> bool
-    requires { i ≤ 6 }
-    ensures { result ≡ bit i mask }
-{
-    (mask >> i) & 1 == 1
 }

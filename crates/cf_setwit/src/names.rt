@@ -1,5 +1,5 @@
 //! Names of columns.
-ghost use Rattle.std.specs.Prelude.{◌≡◌, [], OnOk};
+ghost use Rattle.std.specs.Prelude.{◌≡◌, [], OnErr, OnOk};
 ghost use Rattle.cf_linear.specs.Arm.{level_of};
 ghost use Rattle.cf_setwit.specs.Naming.{IsNamed};
 
@@ -11,11 +11,11 @@ use std::marker::Model;
 /// The levels of the columns that are named so far. Contracts see the list of columns with their
 /// levels.
 #[derive(Drop)]
-pub struct Names {
+pub struct ColumnLevels {
     levels: IndexMap<u32, u32>,
 }
 
-impl Model for Names {
+impl Model for ColumnLevels {
     ghost use Rattle.std.specs.Prelude.{ℕ, List};
 
     ghost Value = { List (ℕ × ℕ) };
@@ -23,12 +23,12 @@ impl Model for Names {
     ghost view = { λ n. n.levels.entries };
 }
 
-impl Names {
+impl ColumnLevels {
     /// No names.
-    pub fn new(alloc: Global) -> Names
+    pub fn new(alloc: Global) -> ColumnLevels
         ensures { result ≡ [] }
     {
-        Names {
+        ColumnLevels {
             levels: IndexMap::new(alloc),
         }
     }
@@ -43,9 +43,13 @@ impl Names {
         }
     }
 
-    /// The column has the level.
+    /// The column has the level, and other columns keep theirs.
+    ///
+    /// # Errors
+    /// `NoMemory` where memory ran out; then the names are as before.
     pub fn name(&mut self, column: u32, level: u32) -> Result<(), NoMemory>
-        ensures { OnOk result (IsNamed self.old column level self.new) }
+        ensures named { OnOk result (IsNamed self.old column level self.new) }
+        ensures refused { OnErr result (self.new ≡ self.old) }
     {
         self.levels.insert(column, level)?;
         Ok(())

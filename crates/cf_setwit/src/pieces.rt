@@ -4,12 +4,12 @@ ghost use Rattle.cf_tree.specs.CodeTree.{code_var, code_slice, code_fresh};
 ghost use Rattle.cf_tree.specs.CodeView.{code_tree};
 ghost use Rattle.cf_linear.specs.Arm.{level_of, sum_of, earlier_counts, piece_code, set_code, fresh_code};
 ghost use Rattle.cf_linear.specs.Layout.{set_count, first_free, region_column};
-ghost use Rattle.cf_linear.specs.Views.{plain_levels};
+ghost use Rattle.cf_linear.specs.Views.{plain_layout};
 ghost use Rattle.cf_setwit.specs.Sources.{level_from};
 
 use crate::lists::push_if;
-use crate::masks::{input_masks, masks_of, output_masks, region_column};
-use crate::names::Names;
+use crate::masks::{masks_of, output_masks};
+use crate::names::ColumnLevels;
 use crate::regions::variables;
 use crate::several::{sum_of, union_of_all};
 use cf_linear::system::Layout;
@@ -26,29 +26,36 @@ pub struct Sources {
 }
 
 /// As many numbers outside all input sets as the regions that lie in no input set have elements.
-pub fn fresh_code(alloc: Global, layout: &Layout, names: &Names) -> Result<Code, NoMemory>
-    requires sets { set_count (plain_levels layout.now) ≤ 6 }
-    requires room { first_free (plain_levels layout.now) < 2 ^ 32 }
-    ensures { IfOk result (λ c. code_tree c ≡ fresh_code (plain_levels layout.now) names.now) }
+///
+/// # Errors
+/// `NoMemory` where memory ran out.
+pub fn fresh_code(alloc: Global, layout: &Layout, names: &ColumnLevels) -> Result<Code, NoMemory>
+    requires sets { set_count (plain_layout layout.now) ≤ 6 }
+    requires room { first_free (plain_layout layout.now) < 2 ^ 32 }
+    ensures { IfOk result (λ c. code_tree c ≡ fresh_code (plain_layout layout.now) names.now) }
 {
     let inputs = union_of_all(variables(alloc, &layout.inputs)?);
     let n = sum_of_earlier(alloc, layout, names, 0, output_masks(layout))?;
     numbers_outside(alloc, inputs, n)
 }
 
-/// Output set `j`: the pieces of all regions that lie in it, in rising order of their masks.
+/// Output set `j`, counted from 0: the pieces of all regions that lie in it, in rising order of
+/// their masks.
+///
+/// # Errors
+/// `NoMemory` where memory ran out.
 pub fn set_code(
     alloc: Global,
     layout: &Layout,
-    names: &Names,
+    names: &ColumnLevels,
     sources: Sources,
     j: usize,
 ) -> Result<Code, NoMemory>
-    requires sets { set_count (plain_levels layout.now) ≤ 6 }
-    requires room { first_free (plain_levels layout.now) < 2 ^ 32 }
+    requires sets { set_count (plain_layout layout.now) ≤ 6 }
+    requires room { first_free (plain_layout layout.now) < 2 ^ 32 }
     requires levels { sources.regions + 2 * (2 ^ length layout.now.inputs.items - 1) < 2 ^ 32 }
-    requires set { j ≤ length layout.now.out_sets.items }
-    ensures { IfOk result (λ c. code_tree c ≡ set_code (plain_levels layout.now) names.now (level_from sources.regions) sources.fresh j) }
+    requires set { j < length layout.now.out_sets.items }
+    ensures { IfOk result (λ c. code_tree c ≡ set_code (plain_layout layout.now) names.now (level_from sources.regions) sources.fresh j) }
 {
     let masks = masks_of(alloc, layout, j)?;
     Ok(union_of_all(pieces(alloc, layout, names, sources, &masks)?))
@@ -58,15 +65,15 @@ pub fn set_code(
 fn pieces(
     alloc: Global,
     layout: &Layout,
-    names: &Names,
+    names: &ColumnLevels,
     sources: Sources,
     masks: &[u32],
 ) -> Result<Vec<Code>, NoMemory>
-    requires sets { set_count (plain_levels layout.now) ≤ 6 }
-    requires room { first_free (plain_levels layout.now) < 2 ^ 32 }
+    requires sets { set_count (plain_layout layout.now) ≤ 6 }
+    requires room { first_free (plain_layout layout.now) < 2 ^ 32 }
     requires levels { sources.regions + 2 * (2 ^ length layout.now.inputs.items - 1) < 2 ^ 32 }
-    requires masks { All (λ m. m < 2 ^ set_count (plain_levels layout.now)) masks.now }
-    ensures { IfOk result (λ cs. map code_tree cs.items ≡ map (piece_code (plain_levels layout.now) names.now (level_from sources.regions) sources.fresh) masks.now) }
+    requires masks { All (λ m. m < 2 ^ set_count (plain_layout layout.now)) masks.now }
+    ensures { IfOk result (λ cs. map code_tree cs.items ≡ map (piece_code (plain_layout layout.now) names.now (level_from sources.regions) sources.fresh) masks.now) }
 {
     let mut pieces = Vec::new(alloc);
     for mask in masks {
@@ -78,21 +85,24 @@ fn pieces(
 /// The piece of the region with the mask: a slice of the input region that it lies in, or of the
 /// fresh numbers where it lies in no input set. The regions with smaller masks take what comes
 /// before it.
+///
+/// # Errors
+/// `NoMemory` where memory ran out.
 pub fn piece_code(
     alloc: Global,
     layout: &Layout,
-    names: &Names,
+    names: &ColumnLevels,
     sources: Sources,
     mask: u32,
 ) -> Result<Code, NoMemory>
-    requires sets { set_count (plain_levels layout.now) ≤ 6 }
-    requires room { first_free (plain_levels layout.now) < 2 ^ 32 }
+    requires sets { set_count (plain_layout layout.now) ≤ 6 }
+    requires room { first_free (plain_layout layout.now) < 2 ^ 32 }
     requires levels { sources.regions + 2 * (2 ^ length layout.now.inputs.items - 1) < 2 ^ 32 }
-    requires mask { mask < 2 ^ set_count (plain_levels layout.now) }
-    ensures { IfOk result (λ c. code_tree c ≡ piece_code (plain_levels layout.now) names.now (level_from sources.regions) sources.fresh mask) }
+    requires mask { mask < 2 ^ set_count (plain_layout layout.now) }
+    ensures { IfOk result (λ c. code_tree c ≡ piece_code (plain_layout layout.now) names.now (level_from sources.regions) sources.fresh mask) }
 {
-    let input = mask % input_masks(layout);
-    let earlier = mask / input_masks(layout);
+    let input = mask % layout.input_regions();
+    let earlier = mask / layout.input_regions();
     let from = sum_of_earlier(alloc, layout, names, input, earlier)?;
     let n = count_of(layout, names, mask);
     slice(alloc, source_level(sources, input), from, n)
@@ -101,20 +111,23 @@ pub fn piece_code(
 /// The sum of the counts of the regions that lie in exactly the input sets of the mask and have
 /// one of the first `n` masks of output sets. What lies in no set at all is no region and has no
 /// count.
+///
+/// # Errors
+/// `NoMemory` where memory ran out.
 pub fn sum_of_earlier(
     alloc: Global,
     layout: &Layout,
-    names: &Names,
+    names: &ColumnLevels,
     mask: u32,
     n: u32,
 ) -> Result<Code, NoMemory>
-    requires sets { set_count (plain_levels layout.now) ≤ 6 }
-    requires room { first_free (plain_levels layout.now) < 2 ^ 32 }
+    requires sets { set_count (plain_layout layout.now) ≤ 6 }
+    requires room { first_free (plain_layout layout.now) < 2 ^ 32 }
     requires mask { mask < 2 ^ length layout.now.inputs.items }
     requires count { n ≤ 2 ^ length layout.now.out_sets.items }
-    ensures { IfOk result (λ c. code_tree c ≡ sum_of (earlier_counts (plain_levels layout.now) names.now mask n)) }
+    ensures { IfOk result (λ c. code_tree c ≡ sum_of (earlier_counts (plain_layout layout.now) names.now mask n)) }
 {
-    let step = input_masks(layout);
+    let step = layout.input_regions();
     let mut counts = Vec::new(alloc);
     for o in 0..n {
         let earlier = mask + step * o;
@@ -125,13 +138,13 @@ pub fn sum_of_earlier(
 }
 
 // How many elements the region with the mask has.
-fn count_of(layout: &Layout, names: &Names, mask: u32) -> Code
-    requires sets { set_count (plain_levels layout.now) ≤ 6 }
-    requires room { first_free (plain_levels layout.now) < 2 ^ 32 }
-    requires mask { mask < 2 ^ set_count (plain_levels layout.now) }
-    ensures { code_tree result ≡ code_var (level_of names.now (region_column (plain_levels layout.now) mask)) }
+fn count_of(layout: &Layout, names: &ColumnLevels, mask: u32) -> Code
+    requires sets { set_count (plain_layout layout.now) ≤ 6 }
+    requires room { first_free (plain_layout layout.now) < 2 ^ 32 }
+    requires mask { mask < 2 ^ set_count (plain_layout layout.now) }
+    ensures { code_tree result ≡ code_var (level_of names.now (region_column (plain_layout layout.now) mask)) }
 {
-    let column = region_column(layout, mask);
+    let column = layout.region_column(mask);
     Code::Var(names.level_of(column))
 }
 

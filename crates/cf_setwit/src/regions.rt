@@ -5,7 +5,7 @@ ghost use Rattle.cf_tree.specs.CodeTree.{code_var, code_diff, code_card};
 ghost use Rattle.cf_tree.specs.CodeView.{code_tree};
 ghost use Rattle.cf_linear.specs.Arm.{vars, region_code};
 ghost use Rattle.cf_linear.specs.Layout.{set_count};
-ghost use Rattle.cf_linear.specs.Views.{plain_levels};
+ghost use Rattle.cf_linear.specs.Views.{plain_layout};
 
 use crate::masks::{sets_in, sets_out};
 use crate::several::inter_of_all;
@@ -16,9 +16,12 @@ use std::alloc::Global;
 
 /// The elements that the input sets in the mask have in common, without those of the other input
 /// sets.
+///
+/// # Errors
+/// `NoMemory` where memory ran out.
 pub fn region_code(alloc: Global, layout: &Layout, mask: u32) -> Result<Code, NoMemory>
-    requires { set_count (plain_levels layout.now) ≤ 6 }
-    ensures { IfOk result (λ c. code_tree c ≡ region_code (plain_levels layout.now) mask) }
+    requires { set_count (plain_layout layout.now) ≤ 6 }
+    ensures { IfOk result (λ c. code_tree c ≡ region_code (plain_layout layout.now) mask) }
 {
     let inside = sets_in(alloc, &layout.inputs, mask)?;
     let others = sets_out(alloc, &layout.inputs, mask)?;
@@ -27,6 +30,9 @@ pub fn region_code(alloc: Global, layout: &Layout, mask: u32) -> Result<Code, No
 }
 
 /// How many elements the set with the level has.
+///
+/// # Errors
+/// `NoMemory` where memory ran out.
 pub fn size_code(alloc: Global, level: u32) -> Result<Code, NoMemory>
     ensures { IfOk result (λ c. code_tree c ≡ code_card (code_var level)) }
 {

@@ -11,7 +11,7 @@ use Rattle.cf_tree.specs.Values.{Value, number_of, elements_of, value_at}
 use Rattle.cf_tree.proofs.SetLemmas.{on_bool, has-union, has-inter, has-diff}
 use Rattle.cf_tree.proofs.RisingLemmas.{rising_ext, rising_filter, rising_union}
 use Rattle.cf_linear.specs.Rows.{Values, value, put}
-use Rattle.cf_linear.specs.Layout.{Levels, place, has_level, set_count, covers, number_column, input_column, region_column, region_row}
+use Rattle.cf_linear.specs.Layout.{Layout, place, has_level, set_count, covers, number_column, input_column, region_column, region_row}
 use Rattle.cf_linear.specs.Written.{IsPlacedSet}
 use Rattle.cf_linear.specs.Cases.{in_first, in_one, input_row}
 use Rattle.cf_linear.proofs.RowLemmas.{value-put}
@@ -23,10 +23,10 @@ use Rattle.cf_venn.proofs.TotalLemmas.{total-is, by_total, input_total}
 use Rattle.cf_venn.proofs.RowTotals.{each_of, region_total, none_total, some_total}
 
 -- all sets of a layout
-abbrev pub sets_of : Levels → List Value → List (List ℤ)
+abbrev pub sets_of : Layout → List Value → List (List ℤ)
 sets_of l env = sets_at env (l.inputs ++ l.out_sets)
 
-pub length_sets : (l : Levels) (env : List Value) → length (sets_of l env) ≡ set_count l
+pub length_sets : (l : Layout) (env : List Value) → length (sets_of l env) ≡ set_count l
 length_sets l env = length-map (l.inputs ++ l.out_sets) (λ x. elements_of (value_at env x)) ∙ length-append l.inputs l.out_sets
 
 -- ---- levels and their places
@@ -64,14 +64,14 @@ turn_iff f = (f.1, f.0)
 not_zero : {P : Type 0} (n : ℕ) → P ↔ (n ≡ 0) → (P → ⊥) ↔ (1 ≤ n)
 not_zero n f = (λ h. let k : n ≡ 0 → ⊥ = λ e. h (f.1 e) in omega arith, λ l p. let e = f.0 p in absurd (omega arith))
 
-covers_none : (l : Levels) (s : SetTree) → covers l s 0 ≡ false
+covers_none : (l : Layout) (s : SetTree) → covers l s 0 ≡ false
 covers_none l empty_set = refl
 covers_none l (set_var x) = bit_zero (place x (l.inputs ++ l.out_sets))
 covers_none l (union_of a b) = rw (covers_none l a, covers_none l b)
 covers_none l (inter_of a b) = rw (covers_none l a)
 covers_none l (diff_of a b) = rw (covers_none l a)
 
-module _ (l : Levels) (env : List Value) where
+module _ (l : Layout) (env : List Value) where
   -- a set form has an element exactly where it covers the element's mask
   has-members : (s : SetTree) → IsPlacedSet l s → (z : ℤ) → has (members s env) z ≡ covers l s (mask (sets_of l env) z)
   has-members empty_set p z = refl
@@ -147,7 +147,7 @@ unit_nonneg : (x : ℤ) (n : ℕ) → x ≡ pos n → pos 0 ≤ℤ (pos 1 *ℤ x
 unit_nonneg x n e = omega (arith, ints)
 
 -- the sum over the masks with the input part m, by the levels of the layout
-pub inputs_total : (l : Levels) (env : List Value) (m : ℕ) → 0 < m → total (set_count l) (λ k. k % 2 ^ length l.inputs == m) (count (sets_of l env)) ≡ count (sets_at env l.inputs) m
+pub inputs_total : (l : Layout) (env : List Value) (m : ℕ) → 0 < m → total (set_count l) (λ k. k % 2 ^ length l.inputs == m) (count (sets_of l env)) ≡ count (sets_at env l.inputs) m
 inputs_total l env m z =
     let f : ℕ → List ℤ = λ x. elements_of (value_at env x) in
     let parts : sets_of l env ≡ sets_at env l.inputs ++ sets_at env l.out_sets = map-append f l.inputs l.out_sets in
@@ -158,7 +158,7 @@ inputs_total l env m z =
     (subst (λ n. total n (λ k. k % 2 ^ length (sets_at env l.inputs) == m) (count (sets_at env l.inputs ++ sets_at env l.out_sets)) ≡ count (sets_at env l.inputs) m) all
     (input_total (sets_at env l.inputs) (sets_at env l.out_sets) m z))
 
-module _ (l : Levels) (env : List Value) (v : Values) (held : (m : ℕ) → 1 ≤ m → m < 2 ^ set_count l → v (region_column l m) ≡ pos (count (sets_of l env) m))
+module _ (l : Layout) (env : List Value) (v : Values) (held : (m : ℕ) → 1 ≤ m → m < 2 ^ set_count l → v (region_column l m) ≡ pos (count (sets_of l env) m))
     (inputs : (m : ℕ) → 1 ≤ m → m < 2 ^ length l.inputs → v (input_column l m) ≡ pos (count (sets_at env l.inputs) m)) where
   pub counts_by_counts : AreCounts l v
   counts_by_counts =

@@ -8,7 +8,7 @@ use Rattle.std.proofs.Math.ListN.{get_or-append}
 use Rattle.cf_tree.specs.Values.{Value, number_of, value_at}
 use Rattle.cf_tree.proofs.SetLemmas.{on_bool}
 use Rattle.cf_linear.specs.Keep.{Same}
-use Rattle.cf_linear.specs.Layout.{Levels, place, has_level, set_count, known_count, first_free, number_column, input_column, region_column}
+use Rattle.cf_linear.specs.Layout.{Layout, place, has_level, set_count, known_count, first_free, number_column, input_column, region_column}
 use Rattle.cf_linear.specs.Rows.{Values}
 use Rattle.cf_venn.specs.Columns.{numbers_at, counts_at, known, known_values, column_values}
 use Rattle.cf_venn.specs.Masks.{sets_at, count}
@@ -36,7 +36,7 @@ number_entry env xs x h = at_place (λ x. number_of (value_at env x)) (pos 0) xs
 count_entry : (env : List Value) (xs : List ℕ) (m : ℕ) → 1 ≤ m → m < 2 ^ length xs → get_or (counts_at env xs) (m - 1) (pos 0) ≡ pos (count (sets_at env xs) m)
 count_entry env xs m a b = get_or-map-range_with_len (λ m. pos (count (sets_at env xs) m)) 1 (2 ^ length xs - 1) (m - 1) m (pos 0) (omega arith) (omega arith)
 
-module _ (l : Levels) (env : List Value) where
+module _ (l : Layout) (env : List Value) where
   length-known : length (known l env) ≡ known_count l
   length-known =
       let a = length-append (numbers_at env l.numbers) (counts_at env l.inputs) in

@@ -2,8 +2,8 @@
 use Rattle.std.proofs.Common.{◌≡◌, ℕ, ◌-◌, ℤ, pos, List, [], ◌∷◌, ◌++◌, get_or, map, refl}
 use Rattle.cf_tree.specs.Meaning.{means}
 use Rattle.cf_tree.specs.Values.{Value, number, elements, values}
-use Rattle.cf_linear.specs.Arm.{Names, region_code, set_code, fresh_code}
-use Rattle.cf_linear.specs.Layout.{Levels}
+use Rattle.cf_linear.specs.Arm.{ColumnLevels, region_code, set_code, fresh_code}
+use Rattle.cf_linear.specs.Layout.{Layout}
 use Rattle.cf_venn.specs.Columns.{known, column_values, outputs_from}
 use Rattle.cf_venn.specs.Lets.{region_values}
 use Rattle.cf_venn.specs.Masks.{mask, region, count}
@@ -51,7 +51,7 @@ output_made : outputs one_set 1 counts ≡ (pos 0 ∷ pos 2 ∷ pos 3 ∷ pos 4 
 output_made = refl
 
 -- ---- columns of a number, a set, a number output and an output set
-abbrev layout : Levels
+abbrev layout : Layout
 layout = record { scope = 2; numbers = 0 ∷ []; inputs = 1 ∷ []; out_numbers = 2 ∷ []; out_sets = 3 ∷ [] }
 
 abbrev parameters : List Value
@@ -70,7 +70,7 @@ and_back : outputs_from layout parameters (column_values layout (parameters ++ r
 and_back = refl
 
 -- ---- codes, where the levels after the parameters hold a region, its count, a number output, counts and fresh numbers
-abbrev names : Names
+abbrev names : ColumnLevels
 names = (2, 3) ∷ (3, 4) ∷ (4, 5) ∷ (5, 6) ∷ (6, 7) ∷ []
 
 abbrev held : List Value

@@ -2,7 +2,7 @@
 use Rattle.std.proofs.Common.{◌≡◌, ℕ, suc, ◌+◌, ◌-◌, ◌*◌, ◌/◌, ◌%◌, ◌^◌, ◌<◌, ◌≤◌, ◌==◌, Bool, true, cond, not, Some, List, [], ◌∷◌, length, map, filter, subst, refl, arith}
 use Rattle.std.specs.List.{range_with_len, fold}
 use Rattle.std.specs.Prelude.{slice_get}
-use Rattle.std.proofs.lemmas.Bool.{eqb-false}
+use Rattle.std.proofs.lemmas.Bool.{eqb-true, eqb-false}
 use Rattle.std.proofs.lemmas.List.{length-map}
 use Rattle.std.proofs.lemmas.List.Sums.{length-filter, count_by-le-length}
 use Rattle.std.proofs.lemmas.Nat.{pow_pos, pow-add}
@@ -14,12 +14,12 @@ use Rattle.cf_tree.specs.CodeTree.{CodeTree, code_var, code_diff, code_slice, co
 use Rattle.cf_tree.specs.Spelled.{AreSpelled}
 use Rattle.cf_tree.specs.Typing.{one, AllHave, HaveNoSolve}
 use Rattle.cf_tree.proofs.SetLemmas.{on_bool}
-use Rattle.cf_linear.specs.Arm.{Names, level_of, sum_of, inter_of_all, union_of_all, vars, sets_in, sets_out, region_code, earlier_counts, piece_code, set_code, fresh_code}
-use Rattle.cf_linear.specs.Layout.{Levels, bit, masks, place, has_level, set_count, region_column}
+use Rattle.cf_linear.specs.Arm.{ColumnLevels, level_of, sum_of, inter_of_all, union_of_all, vars, sets_in, sets_out, region_code, earlier_counts, piece_code, set_code, fresh_code}
+use Rattle.cf_linear.specs.Layout.{Layout, bit, masks, place, has_level, set_count, region_column}
 use Rattle.cf_cases.specs.Holding.{EachOf}
 use Rattle.cf_cases.proofs.Quantifiers.{each-map}
 use Rattle.cf_venn.specs.Forms.{IsCodeOf, InputsTyped, CountsTyped, RegionsTyped, RegionCodesFit, FreshCodeFits, SetCodesFit}
-use Rattle.cf_venn.proofs.CodeLaws.{each_passing, each_earlier, each_level}
+use Rattle.cf_venn.proofs.CodeLaws.{each_passing, each_earlier, each_level, sets_some}
 use Rattle.cf_venn.proofs.LevelLaws.{has_unfiltered}
 use Rattle.cf_venn.proofs.PartLemmas.{below_product, high_below}
 
@@ -113,7 +113,7 @@ module _ (scope : List Base) (few : length scope ≤ 2 ^ 32) where
   }
 
   -- ---- the codes of an arm
-  module _ (l : Levels) where
+  module _ (l : Layout) where
     vars_fit : InputsTyped scope l → (xs : List ℕ) → ((x : ℕ) → has_level xs x ≡ true → has_level l.inputs x ≡ true) → EachOf (IsCodeOf Set 1 scope) (vars xs)
     vars_fit inputs xs within = each-map (IsCodeOf Set 1 scope) (λ x. code_var x) xs (each_level (λ x. IsCodeOf Set 1 scope (code_var x)) xs (λ x h. var_fits Set x (inputs x (within x h))))
 
@@ -128,7 +128,7 @@ module _ (scope : List Base) (few : length scope ≤ 2 ^ 32) where
         deeper Set (2 + length (vars (sets_out l m))) (2 + length l.inputs) (region_code l m) (omega arith)
         (diffs_fit (vars (sets_out l m)) out 2 (inter_of_all (vars (sets_in l m))) (omega arith) (inter_fits 1 (vars (sets_in l m)) within))
 
-    module _ (names : Names) (counts : CountsTyped scope l names) where
+    module _ (names : ColumnLevels) (counts : CountsTyped scope l names) where
       earlier_fits : (m n : ℕ) → m < 2 ^ length l.inputs → n ≤ 2 ^ length l.out_sets → IsCodeOf Int 2 scope (sum_of (earlier_counts l names m n))
       earlier_fits m n a b =
           let f : ℕ → CodeTree = λ k. code_var (level_of names (region_column l k)) in
@@ -145,10 +145,10 @@ module _ (scope : List Base) (few : length scope ≤ 2 ^ 32) where
           (union_fits 1 (vars l.inputs) (vars_fit inputs l.inputs (λ x h. h)))
           (earlier_fits 0 (2 ^ length l.out_sets) (pow_pos (length l.inputs)) (omega arith))
 
-      module _ (regions : ℕ → ℕ) (fresh_level : ℕ) (sets : RegionsTyped scope l regions) (fresh_set : slice_get scope fresh_level ≡ Some Set) where
-        source_fits : (m : ℕ) → m < 2 ^ length l.inputs → slice_get scope (cond (m == 0) fresh_level (regions m)) ≡ Some Set
-        source_fits m a = on_bool (m == 0)
-            (λ b. rw b fresh_set)
+      module _ (regions : ℕ → ℕ) (fresh_level : ℕ) (sets : RegionsTyped scope l regions) (fresh_set : 1 ≤ length l.out_sets → slice_get scope fresh_level ≡ Some Set) where
+        source_fits : (m : ℕ) → m < 2 ^ length l.inputs → (m ≡ 0 → 1 ≤ length l.out_sets) → slice_get scope (cond (m == 0) fresh_level (regions m)) ≡ Some Set
+        source_fits m a some = on_bool (m == 0)
+            (λ b. rw b (fresh_set (some (eqb-true m 0 b))))
             (λ b. let d = eqb-false m 0 b in rw b (sets m (omega arith) a))
 
         piece_fits : (k : ℕ) → 1 ≤ k → k < 2 ^ set_count l → IsCodeOf Set 3 scope (piece_code l names regions fresh_level k)
@@ -159,7 +159,7 @@ module _ (scope : List Base) (few : length scope ≤ 2 ^ 32) where
             let below : k < p * 2 ^ length l.out_sets = rw (← (pow-add 2 (length l.inputs) (length l.out_sets))) b in
             let higher = high_below k p (2 ^ length l.out_sets) (pow_pos (length l.inputs)) below in
             slice_fits (code_var (cond (m == 0) fresh_level (regions m))) (sum_of (earlier_counts l names m (k / p))) (code_var (level_of names (region_column l k)))
-            (var_fits Set (cond (m == 0) fresh_level (regions m)) (source_fits m lower))
+            (var_fits Set (cond (m == 0) fresh_level (regions m)) (source_fits m lower (sets_some p k (length l.out_sets) a below)))
             (earlier_fits m (k / p) lower (omega arith))
             (var_fits Int (level_of names (region_column l k)) (counts k a b))
 

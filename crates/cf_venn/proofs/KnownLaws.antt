@@ -9,8 +9,8 @@ use Rattle.cf_tree.specs.declared.base.Base.TheVariants.{Int, Bool as Truth, Set
 use Rattle.cf_tree.specs.RelTree.{RelTree}
 use Rattle.cf_tree.specs.Values.{Value, number, elements_of, number_of, value_at, HasBase, HaveBases}
 use Rattle.cf_tree.proofs.SetLemmas.{on_bool}
-use Rattle.cf_linear.specs.Arm.{Names, level_of, let_region, begun, search_names}
-use Rattle.cf_linear.specs.Layout.{Levels, levels_of, is_number, is_set, levels_with, rel_holds, masks, place, has_level, known_count, number_column, input_column}
+use Rattle.cf_linear.specs.Arm.{ColumnLevels, level_of, let_region, begun, search_names}
+use Rattle.cf_linear.specs.Layout.{Layout, layout_of, is_number, is_set, levels_with, rel_holds, masks, place, has_level, known_count, number_column, input_column}
 use Rattle.cf_venn.specs.Codes.{HoldsInputs}
 use Rattle.cf_venn.specs.Columns.{known_values}
 use Rattle.cf_venn.specs.Lets.{region_values, ParametersKnown}
@@ -18,7 +18,7 @@ use Rattle.cf_venn.specs.Masks.{sets_at}
 use Rattle.cf_venn.proofs.AgreeLaws.{at_place, place_later}
 use Rattle.cf_venn.proofs.ColumnLaws.{number_known, input_known}
 use Rattle.cf_venn.proofs.LetLaws.{region_lets_lead}
-use Rattle.cf_venn.proofs.LevelLaws.{Up, up_levels, up_filter, up_has, same_level, same_each, has_unfiltered, base_at, level_at, length_have, layout_of}
+use Rattle.cf_venn.proofs.LevelLaws.{Up, up_levels, up_filter, up_has, same_level, same_each, has_unfiltered, base_at, level_at, length_have, is_layout}
 
 -- ---- sets among parameters
 set_value : (b : Base) (v : Value) → is_set b ≡ true → HasBase b v → HasBase Set v
@@ -45,7 +45,7 @@ place_at lo (x ∷ xs) (suc i) u h =
 place_once : (xs : List ℕ) (x y : ℕ) → has_level xs x ≡ true → has_level xs y ≡ true → place y xs ≡ place x xs → y ≡ x
 place_once xs x y h k e = sym (at_place (λ z. z) 0 xs y k) ∙ ap (λ i. get_or (map (λ z. z) xs) i 0) e ∙ at_place (λ z. z) 0 xs x h
 
-level_found : (f : ℕ → ℕ) (xs : List ℕ) (x : ℕ) (rest : Names) → has_level xs x ≡ true → ((y : ℕ) → has_level xs y ≡ true → f y ≡ f x → y ≡ x) → level_of (map (λ z. (f z, z)) xs ++ rest) (f x) ≡ x
+level_found : (f : ℕ → ℕ) (xs : List ℕ) (x : ℕ) (rest : ColumnLevels) → has_level xs x ≡ true → ((y : ℕ) → has_level xs y ≡ true → f y ≡ f x → y ≡ x) → level_of (map (λ z. (f z, z)) xs ++ rest) (f x) ≡ x
 level_found f [] x rest h once = absurd (cc)
 level_found f (y ∷ ys) x rest h once = on_bool (f y == f x)
     (λ t. rw t (once y (rw (same_level y) refl) (eqb-true (f y) (f x) t)))
@@ -57,15 +57,15 @@ same_places : (i j c d : ℕ) → c ≡ 1 + i → d ≡ 1 + j → c ≡ d → i 
 same_places i j c d e f g = omega arith
 
 module _ (scope outs : List Base) (rel : RelTree) (bounds : List (ℕ × ℕ)) (env ks : List Value) (have : HaveBases scope env) (long : length ks ≡ length bounds) where
-  l : Levels
-  l = levels_of scope outs rel
+  l : Layout
+  l = layout_of scope outs rel
 
   inputs_held : HoldsInputs l (env ++ ks)
   unfolding l
   inputs_held x h =
       let k = level_at is_set 0 scope x (has_unfiltered (λ y. rel_holds y rel) (levels_with is_set 0 scope) x h) in
       let z : x - 0 ≡ x = omega arith in
-      let i = (layout_of scope outs rel).inputs x h in
+      let i = (is_layout scope outs rel).inputs x h in
       let n = length_have scope env have in
       let s : HasBase Set (value_at env x) = set_at scope env x have (rw z at k.1) in
       (s.0, get_or-append env ks (number (pos 0)) x (omega arith) ∙ s.1, s.2)
@@ -74,8 +74,8 @@ module _ (scope outs : List Base) (rel : RelTree) (bounds : List (ℕ × ℕ)) (
   unfolding l
   inputs_same =
       let n = length_have scope env have in
-      same_each (λ x. elements_of (value_at (env ++ ks) x)) (λ x. elements_of (value_at env x)) (levels_of scope outs rel).inputs
-      (λ x h. let i = (layout_of scope outs rel).inputs x h in ap elements_of (get_or-append env ks (number (pos 0)) x (omega arith)))
+      same_each (λ x. elements_of (value_at (env ++ ks) x)) (λ x. elements_of (value_at env x)) (layout_of scope outs rel).inputs
+      (λ x h. let i = (is_layout scope outs rel).inputs x h in ap elements_of (get_or-append env ks (number (pos 0)) x (omega arith)))
 
   numbers_up : Up 0 l.numbers
   unfolding l
@@ -88,7 +88,7 @@ module _ (scope outs : List Base) (rel : RelTree) (bounds : List (ℕ × ℕ)) (
   unfolding l after
   known_named c a b =
       let n = length_have scope env have in
-      let layout = layout_of scope outs rel in
+      let layout = is_layout scope outs rel in
       let length_e = length-append env ks in
       let lets = region_lets_lead scope outs rel (begun l bounds) (env ++ ks) inputs_held (omega arith) (omega arith) in
       let names = (fold (let_region l) (begun l bounds) (masks (length l.inputs))).names in
@@ -122,10 +122,10 @@ module _ (scope outs : List Base) (rel : RelTree) (bounds : List (ℕ × ℕ)) (
             )
       ]
 
-  both : HoldsInputs (levels_of scope outs rel) (env ++ ks)
-      × ((c : ℕ) → 1 ≤ c → c < known_count (levels_of scope outs rel) →
-      number_of (value_at ((env ++ ks) ++ region_values (sets_at env (levels_of scope outs rel).inputs) (masks (length (levels_of scope outs rel).inputs)))
-      (level_of (fold (let_region (levels_of scope outs rel)) (begun (levels_of scope outs rel) bounds) (masks (length (levels_of scope outs rel).inputs))).names c)) ≡ known_values (levels_of scope outs rel) env c)
+  both : HoldsInputs (layout_of scope outs rel) (env ++ ks)
+      × ((c : ℕ) → 1 ≤ c → c < known_count (layout_of scope outs rel) →
+      number_of (value_at ((env ++ ks) ++ region_values (sets_at env (layout_of scope outs rel).inputs) (masks (length (layout_of scope outs rel).inputs)))
+      (level_of (fold (let_region (layout_of scope outs rel)) (begun (layout_of scope outs rel) bounds) (masks (length (layout_of scope outs rel).inputs))).names c)) ≡ known_values (layout_of scope outs rel) env c)
   unfolding l after
   both = (inputs_held, known_named)
 

@@ -10,25 +10,25 @@ use Rattle.cf_tree.specs.CodeTree.{CodeTree, code_var, code_card, ItemTree, let_
 use Rattle.cf_tree.specs.Meaning.{got, items_path}
 use Rattle.cf_tree.specs.Values.{Value, number, elements, elements_of, value_at}
 use Rattle.cf_tree.proofs.SetLemmas.{on_bool}
-use Rattle.cf_linear.specs.Arm.{Making, level_of, region_code, let_region}
-use Rattle.cf_linear.specs.Layout.{Levels, levels_of, is_set, levels_with, rel_holds, has_level, input_column}
+use Rattle.cf_linear.specs.Arm.{ArmBuilder, level_of, region_code, let_region}
+use Rattle.cf_linear.specs.Layout.{Layout, layout_of, is_set, levels_with, rel_holds, has_level, input_column}
 use Rattle.cf_venn.specs.Codes.{HoldsInputs}
 use Rattle.cf_venn.specs.Lets.{region_values, RegionLetsLead}
 use Rattle.cf_venn.specs.Masks.{sets_at, region, count}
-use Rattle.cf_venn.proofs.CodeLaws.{Gives, var_gives}
-use Rattle.cf_venn.proofs.LevelLaws.{Up, up_levels, up_filter, same_each, layout_of}
+use Rattle.cf_venn.proofs.CodeLaws.{CodeGives, var_gives}
+use Rattle.cf_venn.proofs.LevelLaws.{Up, up_levels, up_filter, same_each, is_layout}
 use Rattle.cf_venn.proofs.RegionCodes.{region_gives}
 
-card_gives : (c : CodeTree) (e : List Value) (zs : List ℤ) → Gives c e (elements zs) → Gives (code_card c) e (number (pos (length zs)))
+card_gives : (c : CodeTree) (e : List Value) (zs : List ℤ) → CodeGives c e (elements zs) → CodeGives (code_card c) e (number (pos (length zs)))
 card_gives c e zs h = rw h refl
 
-two_lets : (c d : CodeTree) (is : List ItemTree) (e f : List Value) (v w : Value) → Gives c e v → Gives d (e ++ (v ∷ [])) w → (items_path (items_of is) ((e ++ (v ∷ [])) ++ (w ∷ []))).gives ≡ got (Some f) →
+two_lets : (c d : CodeTree) (is : List ItemTree) (e f : List Value) (v w : Value) → CodeGives c e v → CodeGives d (e ++ (v ∷ [])) w → (items_path (items_of is) ((e ++ (v ∷ [])) ++ (w ∷ []))).gives ≡ got (Some f) →
     (items_path (items_of (let_item c ∷ let_item d ∷ is)) e).gives ≡ got (Some f)
 two_lets c d is e f v w g h k = rw (g, h) k
 
 -- ---- items, levels and names
-module _ (l : Levels) where
-  lets : Making → ℕ → ℕ → Making
+module _ (l : Layout) where
+  lets : ArmBuilder → ℕ → ℕ → ArmBuilder
   lets k a n = fold (let_region l) k (range_with_len a n)
 
   -- the items of n regions from mask a on, the first at this level
@@ -36,7 +36,7 @@ module _ (l : Levels) where
   region_items level a zero = []
   region_items level a (suc n) = let_item (region_code l a) ∷ let_item (code_card (code_var level)) ∷ region_items (level + 2) (a + 1) n
 
-  items_are : (k : Making) (a n : ℕ) → (lets k a n).items ≡ k.items ++ region_items k.level a n
+  items_are : (k : ArmBuilder) (a n : ℕ) → (lets k a n).items ≡ k.items ++ region_items k.level a n
   unfolding lets region_items
   items_are k a zero = sym (append-nil k.items)
   items_are k a (suc n) =
@@ -50,19 +50,19 @@ module _ (l : Levels) where
       ∙ append_assoc (k.items ++ (r ∷ [])) (c ∷ []) rest
       ∙ append_assoc k.items (r ∷ []) (c ∷ rest)
 
-  level_is : (k : Making) (a n : ℕ) → (lets k a n).level ≡ k.level + 2 * n
+  level_is : (k : ArmBuilder) (a n : ℕ) → (lets k a n).level ≡ k.level + 2 * n
   unfolding lets
   level_is k a zero = omega arith
   level_is k a (suc n) = let i = level_is (let_region l k a) (a + 1) n in i ∙ omega arith
 
-  names_kept : (k : Making) (a n c : ℕ) → ((m : ℕ) → a ≤ m → m < a + n → input_column l m ≡ c → ⊥) → level_of (lets k a n).names c ≡ level_of k.names c
+  names_kept : (k : ArmBuilder) (a n c : ℕ) → ((m : ℕ) → a ≤ m → m < a + n → input_column l m ≡ c → ⊥) → level_of (lets k a n).names c ≡ level_of k.names c
   unfolding lets
   names_kept k a zero c h = refl
   names_kept k a (suc n) c h =
       names_kept (let_region l k a) (a + 1) n c (λ m i j. h m (omega arith) (omega arith))
       ∙ rw (ne_eqb (input_column l a) c (h a (omega arith) (omega arith))) refl
 
-  name_at : (k : Making) (a n m : ℕ) → a ≤ m → m < a + n → level_of (lets k a n).names (input_column l m) ≡ k.level + 2 * (m - a) + 1
+  name_at : (k : ArmBuilder) (a n m : ℕ) → a ≤ m → m < a + n → level_of (lets k a n).names (input_column l m) ≡ k.level + 2 * (m - a) + 1
   unfolding lets
   name_at k a zero m i j = absurd (omega arith)
   name_at k a (suc n) m i j = on_bool (a == m)
@@ -96,7 +96,7 @@ later_value : (e f : List Value) (c i : ℕ) → c ≡ length e + i → value_at
 later_value e f c i h = rw h (get_or-append-add e f i (number (pos 0)))
 
 -- ---- what the lets lead to
-module _ (l : Levels) (lo : ℕ) (u : Up lo l.inputs) where
+module _ (l : Layout) (lo : ℕ) (u : Up lo l.inputs) where
   module _ (e : List Value) (early : (x : ℕ) → has_level l.inputs x ≡ true → x < length e) (d : List Value) where
     same_value : (x : ℕ) → has_level l.inputs x ≡ true → value_at (e ++ d) x ≡ value_at e x
     same_value x h = get_or-append e d (number (pos 0)) x (early x h)
@@ -118,7 +118,7 @@ module _ (l : Levels) (lo : ℕ) (u : Up lo l.inputs) where
       let rest = region_values ins (range_with_len (a + 1) n) in
       let pair = elements R ∷ number (pos (count ins a)) ∷ [] in
       let e2_is : e2 ≡ e ++ pair = append_assoc e (elements R ∷ []) (number (pos (count ins a)) ∷ []) in
-      let first : Gives (region_code l a) e (elements R) = region_gives l e inputs lo u a x (omega arith) ∙ ap (λ ss. got (elements (region ss a) ∷ [])) same in
+      let first : CodeGives (region_code l a) e (elements R) = region_gives l e inputs lo u a x (omega arith) ∙ ap (λ ss. got (elements (region ss a) ∷ [])) same in
       let there : value_at e1 level ≡ elements R = rw s (get_or-append_seam e (elements R) [] (number (pos 0))) in
       let long : length (e ++ pair) ≡ length e + 2 = length-append e pair in
       let next = lead n (a + 1) (e ++ pair) ins (level + 2) (omega arith) (λ z h. let i = early z h in omega arith) (still_holds e early pair inputs) (same_sets e early pair ∙ same) (omega arith) (omega arith) in
@@ -130,11 +130,11 @@ module _ (l : Levels) (lo : ℕ) (u : Up lo l.inputs) where
 pub region_lets_lead : RegionLetsLead
 unfolding lets
 region_lets_lead scope outs rel k e inputs long s =
-    let l = levels_of scope outs rel in
+    let l = layout_of scope outs rel in
     let ins = sets_at e l.inputs in
     let n = 2 ^ length l.inputs - 1 in
     let u = up_filter (λ x. rel_holds x rel) 0 (levels_with is_set 0 scope) (up_levels is_set 0 scope) in
-    let layout = layout_of scope outs rel in
+    let layout = is_layout scope outs rel in
     let pairs = region_values ins (range_with_len 1 n) in
     let some = pow_pos (length l.inputs) in
     record {

@@ -8,7 +8,7 @@ use Rattle.cf_tree.specs.RelTree.{RelTree}
 use Rattle.cf_tree.specs.Sets.{IsRising}
 use Rattle.cf_tree.specs.Values.{Value, elements_of, value_at, HasBase, HaveBases}
 use Rattle.cf_tree.proofs.SetLemmas.{on_bool}
-use Rattle.cf_linear.specs.Layout.{Levels, is_number, is_set, levels_with, levels_of, rel_holds, place, has_level}
+use Rattle.cf_linear.specs.Layout.{Layout, is_number, is_set, levels_with, layout_of, rel_holds, place, has_level}
 use Rattle.cf_venn.specs.Laws.{AreOutputs}
 use Rattle.cf_venn.proofs.AgreeLaws.{place_later}
 
@@ -127,7 +127,7 @@ set_at_only (b ∷ bs) (suc i) h = set_at_only bs i h
 level_early : (p : Base → Bool) (n : ℕ) (bs : List Base) (x : ℕ) → x < n → has_level (levels_with p n bs) x ≡ false
 level_early p n bs x l = on_bool (has_level (levels_with p n bs) x) (λ e. let k = up_has n (levels_with p n bs) x (up_levels p n bs) e in absurd (omega arith)) (λ e. e)
 
-level_has : (p : Base → Bool) (n : ℕ) (bs : List Base) (i : ℕ) → has_level (levels_with p n bs) (n + i) ≡ base_at p bs i
+pub level_has : (p : Base → Bool) (n : ℕ) (bs : List Base) (i : ℕ) → has_level (levels_with p n bs) (n + i) ≡ base_at p bs i
 level_has p n [] i = refl
 level_has p n (b ∷ bs) zero =
     let z : n + 0 ≡ n = omega arith in
@@ -173,7 +173,7 @@ have_listed f n (Set ∷ bs) o h k =
 
 -- ---- layouts
 -- parameters stand in the scope, and outputs after it, the sets among them in order
-pub record IsLayout (scope outputs : List Base) (l : Levels) : Type 0 where
+pub record IsLayout (scope outputs : List Base) (l : Layout) : Type 0 where
   pub scope_is : l.scope ≡ length scope
   pub numbers : (x : ℕ) → has_level l.numbers x ≡ true → x < length scope
   pub inputs : (x : ℕ) → has_level l.inputs x ≡ true → x < length scope
@@ -181,8 +181,8 @@ pub record IsLayout (scope outputs : List Base) (l : Levels) : Type 0 where
   pub out_sets : (x : ℕ) → has_level l.out_sets x ≡ true → (length scope ≤ x) × (x < length scope + length outputs) × (has_level l.out_numbers x ≡ false)
   pub up : Up (length scope) l.out_sets
 
-pub layout_of : (scope outputs : List Base) (rel : RelTree) → IsLayout scope outputs (levels_of scope outputs rel)
-layout_of scope outputs rel =
+pub is_layout : (scope outputs : List Base) (rel : RelTree) → IsLayout scope outputs (layout_of scope outputs rel)
+is_layout scope outputs rel =
     let n = length scope in
     let early : (p : Base → Bool) (x : ℕ) → has_level (filter (λ y. rel_holds y rel) (levels_with p 0 scope)) x ≡ true → x < n =
     λ p x h. (let k = level_at p 0 scope x (has_unfiltered (λ y. rel_holds y rel) (levels_with p 0 scope) x h) in let w = base_within p scope (x - 0) k.1 in omega arith) in
@@ -202,13 +202,13 @@ layout_of scope outputs rel =
 
 -- values of the bases of the outputs, by tests of their levels
 pub have_outputs : (f : ℕ → Value) (scope outputs : List Base) (rel : RelTree) → AreOutputs outputs →
-    ((x : ℕ) → has_level (levels_of scope outputs rel).out_numbers x ≡ true → HasBase Int (f x)) →
-    ((x : ℕ) → has_level (levels_of scope outputs rel).out_sets x ≡ true → HasBase Set (f x)) →
-    HaveBases outputs (map f (range_with_len (length scope) (length (levels_of scope outputs rel).out_numbers + length (levels_of scope outputs rel).out_sets)))
+    ((x : ℕ) → has_level (layout_of scope outputs rel).out_numbers x ≡ true → HasBase Int (f x)) →
+    ((x : ℕ) → has_level (layout_of scope outputs rel).out_sets x ≡ true → HasBase Set (f x)) →
+    HaveBases outputs (map f (range_with_len (length scope) (length (layout_of scope outputs rel).out_numbers + length (layout_of scope outputs rel).out_sets)))
 have_outputs f scope outputs rel o h k =
     let n = length scope in
     subst (λ m. HaveBases outputs (map f (range_with_len n m))) (sym (all_levels n outputs o))
     (have_listed f n outputs o (λ i e. h (n + i) (level_has is_number n outputs i ∙ e)) (λ i e. k (n + i) (level_has is_set n outputs i ∙ e)))
 
-pub outputs_count : (scope outputs : List Base) (rel : RelTree) → AreOutputs outputs → length (levels_of scope outputs rel).out_numbers + length (levels_of scope outputs rel).out_sets ≡ length outputs
+pub outputs_count : (scope outputs : List Base) (rel : RelTree) → AreOutputs outputs → length (layout_of scope outputs rel).out_numbers + length (layout_of scope outputs rel).out_sets ≡ length outputs
 outputs_count scope outputs rel o = all_levels (length scope) outputs o

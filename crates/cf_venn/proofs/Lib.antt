@@ -16,3 +16,4 @@ pub mod FormLaws
 pub mod LetLaws
 pub mod KnownLaws
 mod Examples
+pub mod RelationLaws

@@ -12,7 +12,7 @@ use Rattle.cf_tree.specs.Numbers.{count_of}
 use Rattle.cf_tree.specs.Values.{Value, number, number_of, elements_of, value_at, HaveBases}
 use Rattle.cf_tree.proofs.SetLemmas.{on_bool}
 use Rattle.cf_linear.specs.Keep.{Same}
-use Rattle.cf_linear.specs.Layout.{Levels, levels_of, masks, place, has_level, set_count, known_count, number_column, input_column, region_column, region_row}
+use Rattle.cf_linear.specs.Layout.{Layout, layout_of, masks, place, has_level, set_count, known_count, number_column, input_column, region_column, region_row}
 use Rattle.cf_linear.specs.Cases.{input_row}
 use Rattle.cf_linear.specs.Rows.{Values, value, put}
 use Rattle.cf_linear.proofs.RowLemmas.{value-put}
@@ -20,14 +20,14 @@ use Rattle.cf_cases.specs.Holding.{AreCounts, Agrees}
 use Rattle.cf_venn.specs.Columns.{numbers_at, counts_at, known as known_columns, known_values, region_count, output_at, outputs_from}
 use Rattle.cf_venn.specs.Laws.{SetsHaveCounts, CountsHaveSets}
 use Rattle.cf_venn.specs.Masks.{sets_at, count}
-use Rattle.cf_venn.specs.Pieces.{earlier, output, outputs}
+use Rattle.cf_venn.specs.Pieces.{Consistent, earlier, output, outputs}
 use Rattle.cf_venn.proofs.CountLemmas.{total}
 use Rattle.cf_venn.proofs.TotalLemmas.{earlier_all}
-use Rattle.cf_venn.proofs.PieceLemmas.{Consistent, count_output, rising_output}
+use Rattle.cf_venn.proofs.PieceLemmas.{count_output, rising_output}
 use Rattle.cf_venn.proofs.RowTotals.{each_at, region_total}
 use Rattle.cf_venn.proofs.AgreeLaws.{sets_of, agrees_by_counts, counts_by_counts}
 use Rattle.cf_venn.proofs.ColumnLaws.{number_known, input_known, known_same, input_same, region_same, number_same}
-use Rattle.cf_venn.proofs.LevelLaws.{length_have, have_append, rising_at, same_each, by_places, IsLayout, layout_of, have_outputs, outputs_count}
+use Rattle.cf_venn.proofs.LevelLaws.{length_have, have_append, rising_at, same_each, by_places, IsLayout, is_layout, have_outputs, outputs_count}
 
 -- ---- counts in columns
 count_is : (x : ℤ) → pos 0 ≤ℤ (pos 1 *ℤ x +ℤ pos 0) → x ≡ pos (count_of x)
@@ -37,7 +37,7 @@ count_is (negsuc n) h = absurd (omega (arith, ints))
 sum_is : (x y : ℤ) (c n : ℕ) → x ≡ pos c → y ≡ pos n → negsuc 0 *ℤ x +ℤ y ≡ pos 0 → n ≡ c
 sum_is x y c n e f g = omega (arith, ints)
 
-module _ (l : Levels) (env : List Value) (v : Values) (counts : AreCounts l v) where
+module _ (l : Layout) (env : List Value) (v : Values) (counts : AreCounts l v) where
   pub held : (m : ℕ) → 1 ≤ m → m < 2 ^ set_count l → v (region_column l m) ≡ pos (region_count l v m)
   held m a b = count_is (v (region_column l m)) (each_at (λ k. pos 0 ≤ℤ value v k) (λ m. put (region_column l m) (pos 1) []) 1 (2 ^ set_count l - 1) counts.nonneg m a (omega arith))
 
@@ -63,7 +63,7 @@ module _ (l : Levels) (env : List Value) (v : Values) (counts : AreCounts l v) w
         count_output (sets_at env l.inputs) (length l.out_sets) (region_count l v) consistent m a (rw few b)
 
 -- ---- the environment with the outputs
-module _ (scope outputs_bases : List Base) (l : Levels) (layout : IsLayout scope outputs_bases l) (few : length l.out_numbers + length l.out_sets ≡ length outputs_bases)
+module _ (scope outputs_bases : List Base) (l : Layout) (layout : IsLayout scope outputs_bases l) (few : length l.out_numbers + length l.out_sets ≡ length outputs_bases)
     (env : List Value) (long : length env ≡ length scope) (v : Values) where
   made : List Value
   made = env ++ outputs_from l env v
@@ -110,9 +110,9 @@ module _ (scope outputs_bases : List Base) (l : Levels) (layout : IsLayout scope
 -- ---- the laws
 pub sets_have_counts : SetsHaveCounts
 sets_have_counts scope outs rel env xs h k v same =
-    let l = levels_of scope outs rel in
+    let l = layout_of scope outs rel in
     let e = env ++ xs in
-    let layout = layout_of scope outs rel in
+    let layout = is_layout scope outs rel in
     let long = length_have scope env h in
     let at_first : (x : ℕ) → x < length scope → value_at e x ≡ value_at env x = λ x i. get_or-append env xs (number (pos 0)) x (omega arith) in
     let numbers : map (λ x. number_of (value_at env x)) l.numbers ≡ map (λ x. number_of (value_at e x)) l.numbers =
@@ -128,8 +128,8 @@ sets_have_counts scope outs rel env xs h k v same =
 
 pub counts_have_sets : CountsHaveSets
 counts_have_sets scope outs rel env o h v known counts =
-    let l = levels_of scope outs rel in
-    let layout = layout_of scope outs rel in
+    let l = layout_of scope outs rel in
+    let layout = is_layout scope outs rel in
     let have : HaveBases outs (outputs_from l env v) =
     have_outputs (output_at l env v) scope outs rel o
     (λ x i. rw i (v (number_column l x), refl))

@@ -12,15 +12,11 @@ use Rattle.cf_tree.proofs.RisingLemmas.{rising_filter, rising_take, rising_drop}
 use Rattle.cf_tree.proofs.SliceLemmas.{has-slice, take_more, take_within, drop_within, take_all, rising_fresh, length-fresh, fresh_not}
 use Rattle.cf_linear.specs.Layout.{bit, masks}
 use Rattle.cf_venn.specs.Masks.{mask, union_all, count}
-use Rattle.cf_venn.specs.Pieces.{earlier, source, piece, output, outputs}
+use Rattle.cf_venn.specs.Pieces.{Consistent, earlier, source, piece, output, outputs}
 use Rattle.cf_venn.proofs.MaskLemmas.{bit_zero, bit_high, mask-append, mask-below, mask_none, in_union_all, rising_union_all}
 use Rattle.cf_venn.proofs.CountLemmas.{count_same, length_within}
 use Rattle.cf_venn.proofs.PartLemmas.{mod_parts, pos_parts, some_part, high_below, below_product, parts_once, part_mod, part_div}
 use Rattle.cf_venn.proofs.TotalLemmas.{earlier-more}
-
--- each input region is used up by the counts of its parts
-abbrev pub Consistent : List (List ℤ) → ℕ → (ℕ → ℕ) → Type 0
-Consistent ins q r = (m : ℕ) → 0 < m → m < 2 ^ length ins → earlier (length ins) r m (2 ^ q) ≡ count ins m
 
 -- the count of the mask with the parts m and o, and 0 at the mask 0
 abbrev pub part : ℕ → (ℕ → ℕ) → ℕ → ℕ → ℕ

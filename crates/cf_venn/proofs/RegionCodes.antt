@@ -12,26 +12,26 @@ use Rattle.cf_tree.specs.Values.{Value, elements, elements_of, value_at}
 use Rattle.cf_tree.proofs.SetLemmas.{on_bool, has-filter, has-inter, has-diff}
 use Rattle.cf_tree.proofs.RisingLemmas.{rising_ext, rising_filter}
 use Rattle.cf_linear.specs.Arm.{inter_of_all, vars, sets_in, sets_out, region_code}
-use Rattle.cf_linear.specs.Layout.{Levels, bit, is_set, levels_with, levels_of, rel_holds, place, has_level}
+use Rattle.cf_linear.specs.Layout.{Layout, bit, is_set, levels_with, layout_of, rel_holds, place, has_level}
 use Rattle.cf_cases.specs.Holding.{EachOf}
 use Rattle.cf_venn.specs.Codes.{HoldsInputs, RegionCodesMean}
 use Rattle.cf_venn.specs.Masks.{sets_at, AreRising, mask, union_all, region}
 use Rattle.cf_venn.proofs.MaskLemmas.{in_union_all, rising_union_all}
 use Rattle.cf_venn.proofs.AgreeLaws.{place_later}
 use Rattle.cf_venn.proofs.LevelLaws.{Up, up_has, up_levels, up_filter, same_level, has_unfiltered}
-use Rattle.cf_venn.proofs.CodeLaws.{Gives, joins, join_gives, each_level, input_gives, input_rises, each_rises}
+use Rattle.cf_venn.proofs.CodeLaws.{CodeGives, joins, join_gives, each_level, input_gives, input_rises, each_rises}
 
 -- ---- what the codes give
-inter_gives : (f : ℕ → CodeTree) (g : ℕ → List ℤ) (e : List Value) (ks : List ℕ) → EachOf (λ k. Gives (f k) e (elements (g k))) ks → Gives (inter_of_all (map f ks)) e (elements (joins set_inter (map g ks)))
+inter_gives : (f : ℕ → CodeTree) (g : ℕ → List ℤ) (e : List Value) (ks : List ℕ) → EachOf (λ k. CodeGives (f k) e (elements (g k))) ks → CodeGives (inter_of_all (map f ks)) e (elements (joins set_inter (map g ks)))
 inter_gives f g e [] h = refl
 inter_gives f g e (k ∷ []) h = h.0
 inter_gives f g e (k ∷ j ∷ ks) h = rw (h.0) (join_gives set_inter f g e (j ∷ ks) h.1 (g k))
 
-diff_gives : (c d : CodeTree) (e : List Value) (xs ys : List ℤ) → Gives c e (elements xs) → Gives d e (elements ys) → Gives (code_diff c d) e (elements (set_diff xs ys))
+diff_gives : (c d : CodeTree) (e : List Value) (xs ys : List ℤ) → CodeGives c e (elements xs) → CodeGives d e (elements ys) → CodeGives (code_diff c d) e (elements (set_diff xs ys))
 diff_gives c d e xs ys g h = rw (g, h) refl
 
-diffs_give : (f : ℕ → CodeTree) (g : ℕ → List ℤ) (e : List Value) (ks : List ℕ) → EachOf (λ k. Gives (f k) e (elements (g k))) ks → (c : CodeTree) (zs : List ℤ) → Gives c e (elements zs) →
-    Gives (fold (λ c d. code_diff c d) c (map f ks)) e (elements (fold set_diff zs (map g ks)))
+diffs_give : (f : ℕ → CodeTree) (g : ℕ → List ℤ) (e : List Value) (ks : List ℕ) → EachOf (λ k. CodeGives (f k) e (elements (g k))) ks → (c : CodeTree) (zs : List ℤ) → CodeGives c e (elements zs) →
+    CodeGives (fold (λ c d. code_diff c d) c (map f ks)) e (elements (fold set_diff zs (map g ks)))
 diffs_give f g e [] h c zs k = k
 diffs_give f g e (x ∷ ks) h c zs k = diffs_give f g e ks h.1 (code_diff c (f x)) (set_diff zs (g x)) (diff_gives c (f x) e zs (g x) k h.0)
 
@@ -155,7 +155,7 @@ yes_within a true h = rw (h refl) refl
 yes_within true false h = refl
 yes_within false false h = refl
 
-module _ (l : Levels) (e : List Value) (inputs : HoldsInputs l e) (lo : ℕ) (u : Up lo l.inputs) (m : ℕ) (z : 1 ≤ m) (below : m < 2 ^ length l.inputs) where
+module _ (l : Layout) (e : List Value) (inputs : HoldsInputs l e) (lo : ℕ) (u : Up lo l.inputs) (m : ℕ) (z : 1 ≤ m) (below : m < 2 ^ length l.inputs) where
   code_set : List ℤ
   code_set = fold set_diff (joins set_inter (sets_at e (sets_in l m))) (sets_at e (sets_out l m))
 
@@ -179,11 +179,11 @@ module _ (l : Levels) (e : List Value) (inputs : HoldsInputs l e) (lo : ℕ) (u 
       ∙ yes_within (has (union_all ss) y) (mask ss y == m) (λ i. in_union_all ss y (let k = eqb-true (mask ss y) m i in omega arith))
       ∙ sym (has-filter (λ x. mask ss x == m) (union_all ss) y))
 
-  pub region_gives : Gives (region_code l m) e (elements (region (sets_at e l.inputs) m))
+  pub region_gives : CodeGives (region_code l m) e (elements (region (sets_at e l.inputs) m))
   unfolding code_set
   region_gives =
       let f : ℕ → List ℤ = λ x. elements_of (value_at e x) in
-      let P : ℕ → Type 0 = λ x. Gives (code_var x) e (elements (f x)) in
+      let P : ℕ → Type 0 = λ x. CodeGives (code_var x) e (elements (f x)) in
       diffs_give (λ x. code_var x) f e (sets_out l m) (each_level P (sets_out l m) (λ x h. input_gives l e inputs x (has_unfiltered (λ x. not (bit (place x l.inputs) m)) l.inputs x h)))
       (inter_of_all (vars (sets_in l m))) (joins set_inter (sets_at e (sets_in l m)))
       (inter_gives (λ x. code_var x) f e (sets_in l m) (each_level P (sets_in l m) (λ x h. input_gives l e inputs x (has_unfiltered (λ x. bit (place x l.inputs) m) l.inputs x h))))
@@ -191,6 +191,6 @@ module _ (l : Levels) (e : List Value) (inputs : HoldsInputs l e) (lo : ℕ) (u 
 
 pub region_codes_mean : RegionCodesMean
 region_codes_mean scope outs rel e inputs m z below =
-    let l = levels_of scope outs rel in
+    let l = layout_of scope outs rel in
     let u = up_filter (λ x. rel_holds x rel) 0 (levels_with is_set 0 scope) (up_levels is_set 0 scope) in
     ap outcome_of (region_gives l e inputs 0 u m z below)

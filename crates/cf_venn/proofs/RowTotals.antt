@@ -6,8 +6,8 @@ use Rattle.std.proofs.lemmas.Int.{ints}
 use Rattle.std.proofs.lemmas.Bool.{cond_both, eqb-true, eqb-false}
 use Rattle.std.proofs.lemmas.List.Sums.{sum_by-cons}
 use Rattle.cf_linear.specs.Rows.{Row, Values, value, put}
-use Rattle.cf_linear.specs.Matrices.{EachRow}
-use Rattle.cf_linear.specs.Layout.{Levels, set_count, region_column, region_row}
+use Rattle.cf_linear.specs.Systems.{EachRow}
+use Rattle.cf_linear.specs.Layout.{Layout, set_count, region_column, region_row}
 use Rattle.cf_linear.specs.Cases.{none_rows}
 use Rattle.cf_linear.proofs.BoolLemmas.{on_bool}
 use Rattle.cf_venn.proofs.CountLemmas.{total, each_zero, zero_each}
@@ -63,7 +63,7 @@ zero_unit : (x : ℤ) (n : ℕ) → x ≡ pos n → n ≡ 0 → pos 1 *ℤ x +�
 zero_unit x n e f = omega (arith, ints)
 
 -- ---- rows of regions
-module _ (l : Levels) (v : Values) (r : ℕ → ℕ) (held : (m : ℕ) → 1 ≤ m → m < 2 ^ set_count l → v (region_column l m) ≡ pos (r m)) where
+module _ (l : Layout) (v : Values) (r : ℕ → ℕ) (held : (m : ℕ) → 1 ≤ m → m < 2 ^ set_count l → v (region_column l m) ≡ pos (r m)) where
   pub region_total : (t : ℕ → Bool) → value v (region_row l t) ≡ pos (total (set_count l) t r)
   region_total t = row_total v (region_column l) t r 1 (2 ^ set_count l - 1) (λ m a b. held m a (omega arith))
 

@@ -5,3 +5,4 @@ pub mod Laws
 pub mod Codes
 pub mod Forms
 pub mod Lets
+pub mod Relations

@@ -1,9 +1,9 @@
 -- Output sets made of counts of regions. A mask is m + 2^p * o, where m is of the p input sets and o of the output sets.
-use Rattle.std.specs.Prelude.{ℕ, ◌+◌, ◌*◌, ◌/◌, ◌%◌, ◌^◌, ◌==◌, ℤ, not, List, length, map, filter, if◌then◌else◌}
+use Rattle.std.specs.Prelude.{ℕ, ◌+◌, ◌*◌, ◌/◌, ◌%◌, ◌^◌, ◌<◌, ◌==◌, ◌≡◌, ℤ, not, List, length, map, filter, if◌then◌else◌}
 use Rattle.std.specs.List.{range_with_len, sum_by}
 use Rattle.cf_tree.specs.Sets.{set_slice, set_fresh}
 use Rattle.cf_linear.specs.Layout.{bit, masks}
-use Rattle.cf_venn.specs.Masks.{union_all, region}
+use Rattle.cf_venn.specs.Masks.{union_all, region, count}
 
 -- the sum of the counts of the masks m + 2^p * o for o below n, without the mask 0
 abbrev pub earlier : ℕ → (ℕ → ℕ) → ℕ → ℕ → ℕ
@@ -22,6 +22,10 @@ abbrev pub piece : List (List ℤ) → ℕ → (ℕ → ℕ) → ℕ → List �
 piece ins q r k =
     let m = k % 2 ^ length ins in
     set_slice (source ins q r m) (earlier (length ins) r m (k / 2 ^ length ins)) (r k)
+
+-- the counts of the masks with the same input part sum to the count of that region
+abbrev pub Consistent : List (List ℤ) → ℕ → (ℕ → ℕ) → Type 0
+Consistent ins q r = (m : ℕ) → 0 < m → m < 2 ^ length ins → earlier (length ins) r m (2 ^ q) ≡ count ins m
 
 -- output set j: the pieces of the masks that hold it
 abbrev pub output : List (List ℤ) → ℕ → (ℕ → ℕ) → ℕ → List ℤ

@@ -1,7 +1,7 @@
 use Rattle.std.proofs.Common.{◌≡◌, map, take}
 use Rattle.cf_tree.specs.CodeView.{code_tree}
 use Rattle.cf_linear.specs.Arm.{lower_code}
-use Rattle.cf_choose.specs.Makings.{pair_of, PairsFit}
+use Rattle.cf_choose.specs.ArmBuilders.{pair_of, PairsFit}
 use Rattle.cf_choose.proofs.codes.lower_codes.Given as goal
 
 abbrev pub invariant-loop-bound : goal.invariant-loop-bound

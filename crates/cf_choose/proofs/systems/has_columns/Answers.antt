@@ -1,10 +1,10 @@
 use Rattle.std.proofs.Common.{arith}
 use Rattle.cf_tree.specs.RelView.{rel_tree}
-use Rattle.cf_linear.specs.Views.{plain_levels}
+use Rattle.cf_linear.specs.Views.{plain_layout}
 use Rattle.cf_choose.proofs.SystemLaws.{columns_fit}
 use Rattle.cf_choose.proofs.systems.has_columns.Goals as goal
 
 pub returns : goal.returns
 returns c h =
     let k = c.are_few.ensures h in
-    columns_fit (plain_levels c.args.layout.now) (rel_tree c.args.rel.now) c.size.result c.requires.inputs c.requires.out_sets c.size.ensures (omega (arith, c.len.ensures, k.0), omega (arith, c.len-2.ensures, k.1), k.2)
+    columns_fit (plain_layout c.args.layout.now) (rel_tree c.args.rel.now) c.size.result c.requires c.size.ensures (omega (arith, c.len.ensures, k.0), omega (arith, c.len-2.ensures, k.1), k.2)

@@ -1,5 +1,0 @@
-use Rattle.cf_linear.proofs.ColumnLemmas.{bit_by_and}
-use Rattle.cf_setwit.proofs.masks.has_bit.Goals as goal
-
-pub returns : goal.returns
-returns c = bit_by_and c.args.i c.args.mask
