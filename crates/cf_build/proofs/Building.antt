@@ -16,24 +16,29 @@ use Rattle.cf_tree.specs.ExprTree.{ExprTree, ExprTrees, expr_lit, expr_truth, ex
 use Rattle.cf_tree.specs.ExprView.{expr_tree}
 use Rattle.cf_tree.specs.Relation.{IsTyped, IsLinear}
 use Rattle.cf_tree.specs.Typing.{IsTypedCode}
+use Rattle.cf_tree.specs.Values.{HaveBases}
 use Rattle.cf_choose.specs.Solved.{IsOutput}
 use Rattle.cf_linear.specs.declared.refusal.Refusal.{Refusal}
-use Rattle.cf_type.specs.Names.{bases_of}
-use Rattle.cf_type.specs.Size.{depths}
-use Rattle.cf_type.specs.TypedProgram.{HasBases, AllHave, PartsHave, Takes, AreTypedDefs, IsTypedProgram, numbers, numbers_all, all_numbers, IsOutput as IsTypedOutput}
-use Rattle.cf_type.specs.Walk.{side_of}
+use Rattle.cf_program.specs.Names.{bases_of}
+use Rattle.cf_program.specs.Size.{depths}
+use Rattle.cf_program.specs.TypedProgram.{ExprHasBases, AllHave, PartsHave, Takes, AreTypedDefs, IsTypedProgram, numbers, numbers_all, all_numbers, IsOutput as IsTypedOutput}
+use Rattle.cf_program.specs.Walk.{side_of}
 use Rattle.cf_build.specs.declared.chooses.Choose.{Choose}
 use Rattle.cf_build.specs.declared.fault.BuildFault.{BuildFault}
 use Rattle.cf_build.specs.declared.fault.BuildFault.TheVariants as faults
-use Rattle.cf_build.specs.Built.{IsBuilt, Tells, lowered_def}
+use Rattle.cf_build.specs.Built.{IsBuilt, BuildAnswer, lowered_def, unfolded_code}
 use Rattle.cf_build.specs.Codes.{called, code_of, codes_behind, solved_in}
-use Rattle.cf_build.specs.Questions.{Question, questions, questions_all, all_questions, limit_of, IsFirstRefused}
+use Rattle.cf_build.specs.Runs.{lowered_bodies}
+use Rattle.cf_build.specs.Questions.{Question, questions, questions_all, all_questions, solve_of, IsFirstRefused}
 use Rattle.cf_build.specs.Shifted.{HasLevels}
-use Rattle.cf_build.specs.Solves.{question_of, questions_of, HasNoMatch, HaveNoMatch, IsAsked, AreSolved, IsSolveOf, TellsFault}
+use Rattle.cf_build.specs.Solves.{question_of, questions_of, HasNoMatch, HaveNoMatch, IsAsked, AreSolved, IsSolveOf, FaultAnswer}
 use Rattle.cf_build.proofs.CodeLists.{called_is}
 use Rattle.cf_build.proofs.Meanings.{sides_have}
-use Rattle.cf_build.proofs.Programs.{Knows, program_known, lowered_same, map_reverse}
-use Rattle.cf_build.proofs.SolveLists.{solved_limits, solved_found}
+use Rattle.cf_build.proofs.PickedPaths.{AreFit}
+use Rattle.cf_build.proofs.Programs.{Knows, bodies, program_known, lowered_same, map_reverse}
+use Rattle.cf_build.proofs.Runs.{runs_as_picked, bodies_lowered}
+use Rattle.cf_build.proofs.SameCodes.{behind_same}
+use Rattle.cf_build.proofs.SolveLists.{solved_found}
 
 -- ---- the numbers of chooses
 abbrev numbers_of : List Question → List ℕ
@@ -94,7 +99,7 @@ output_is Set s = tt
 
 module _ (takes : ℕ → List Base → List Base → Type 0) where
   mutual
-    may : (e : ExprTree) → HasNoMatch e → (scope bs : List Base) → HasBases takes e scope bs → All MayBeSolved (questions e)
+    may : (e : ExprTree) → HasNoMatch e → (scope bs : List Base) → ExprHasBases takes e scope bs → All MayBeSolved (questions e)
     may (expr_lit k) p scope bs h = All-nil MayBeSolved
     may (expr_truth t) p scope bs h = All-nil MayBeSolved
     may (expr_var x) p scope bs h = All-nil MayBeSolved
@@ -104,7 +109,7 @@ module _ (takes : ℕ → List Base → List Base → Type 0) where
     may (expr_not a) p scope bs h = may a p scope _ h.0
     may (expr_abs a) p scope bs h = may a p scope _ h.0
     may (expr_binary op a b) p scope bs h =
-        let t = sides_have (side_of op) (λ c. HasBases takes a scope (c ∷ [])) (λ c. HasBases takes b scope (c ∷ [])) h.0 in
+        let t = sides_have (side_of op) (λ c. ExprHasBases takes a scope (c ∷ [])) (λ c. ExprHasBases takes b scope (c ∷ [])) h.0 in
         All-append MayBeSolved (questions a) (questions b) (may a p.0 scope (t.0 ∷ []) t.1) (may b p.1 scope (t.0 ∷ []) t.2)
     may (expr_divides k a) p scope bs h = may a p scope _ h.1
     may (expr_div a k) p scope bs h = may a p scope _ h.1
@@ -129,7 +134,7 @@ module _ (takes : ℕ → List Base → List Base → Type 0) where
     parts_may (expr_more a es) p scope bs h = All-append MayBeSolved (questions a) (questions_all es) (may a p.0 scope _ h.3) (parts_may es p.1 scope h.1 h.4)
 
 abbrev HasTypes : DefTree → Type 0
-HasTypes d = (earlier : List DefTree) × HasBases (Takes earlier) d.body (bases_of d.params) d.results
+HasTypes d = (earlier : List DefTree) × ExprHasBases (Takes earlier) d.body (bases_of d.params) d.results
 
 typed_each : (ds : List DefTree) → AreTypedDefs ds → All HasTypes ds
 typed_each [] t = All-nil HasTypes
@@ -185,7 +190,7 @@ module _ (ds : List Def) (main : ℕ) (t : IsTypedProgram (map def_tree ds) main
   first_refused cs n r e h = rw (questions_same (map def_tree ds) plain, ← e) h
 
   module _ (ss : List (ℕ × CodeTree)) (s : AreSolved (questions_of (map def_tree ds)) ss) (codes : List CodeTree) (same : codes ≡ codes_behind (solved_in ss) [] (map def_tree ds)) (l : All HasLevels codes) where
-    solve : (q : Question) → Contains (all_questions (map def_tree ds)) q → IsSolveOf q (solved_in ss q.number)
+    solve : (q : Question) → Contains (all_questions (map def_tree ds)) q → IsSolveOf q (solved_in ss q)
     solve q c = solved_found (questions_of (map def_tree ds)) ss s (rw (program_numbers (map def_tree ds) plain) at t.distinct) q (rw (questions_same (map def_tree ds) plain) at c)
 
     known : Knows (map def_tree ds) (reverse (map def_tree ds)) codes (depths (map def_tree ds))
@@ -194,26 +199,41 @@ module _ (ds : List Def) (main : ℕ) (t : IsTypedProgram (map def_tree ds) main
     pub main_typed : (d : DefTree) → slice_get (map def_tree ds) main ≡ Some d → IsTypedCode (called codes main) (bases_of d.params) d.results
     main_typed d e = known.typed main (bases_of d.params) d.results (known.takes main d e) (Some d.results) refl
 
-    pub main_built : (d : DefTree) → slice_get (map def_tree ds) main ≡ Some d → (raw : RawTarget) → raw.params.items ≡ bases_of d.params → raw.results.items ≡ d.results → code_tree raw.code ≡ called codes main → IsBuilt (map def_tree ds) main raw
+    all_bodies : bodies (reverse (map def_tree ds)) ≡ reverse (lowered_bodies (map def_tree ds))
+    all_bodies = map_reverse (map def_tree ds) ∙ ap (λ bs. reverse bs) (sym (bodies_lowered (map def_tree ds) plain))
+
+    -- the code is the definition's, which has the solve of each choose
+    is_unfolded : called codes main ≡ unfolded_code (map def_tree ds) main
+    is_unfolded =
+        ap (λ cs. called cs main) (same
+        ∙ behind_same (solved_in ss) solve_of (map def_tree ds) [] (λ q m. (solve q (rw (questions_same (map def_tree ds) plain) m)).code)
+        ∙ ap (λ xs. codes_behind solve_of [] xs) (sym (lowered_defs (map def_tree ds) plain)))
+
+    pub main_built : (d : DefTree) → slice_get (map def_tree ds) main ≡ Some d → (raw : RawTarget) → raw.params.items ≡ bases_of d.params → raw.results.items ≡ d.results → code_tree raw.code ≡ called codes main →
+        IsBuilt (map def_tree ds) main raw
     main_built d e raw ps rs c =
         let takes = known.takes main d e in
         record {
           like_main = (d, e, ps, rs);
+          unfolded = c ∙ is_unfolded;
+          typed =
+              subst (λ k. IsTypedCode k raw.params.items raw.results.items) (sym c)
+              (subst (λ bs. IsTypedCode (called codes main) bs raw.results.items) (sym ps)
+              (subst (λ bs. IsTypedCode (called codes main) (bases_of d.params) bs) (sym rs) (main_typed d e)));
           spelled = rw (c, rs) (
             omega (arith, known.shallow main, index_within (depths (map def_tree ds)) main t.shallow),
             known.spelled main (bases_of d.params) d.results takes,
             known.several main (bases_of d.params) d.results takes,
           );
-          solved = λ q m. All-contains (λ x. limit_of x ≡ None) (questions_of (map def_tree ds)) q (solved_limits (questions_of (map def_tree ds)) ss s) (rw (questions_same (map def_tree ds) plain) at m);
-          unfolded = record {
-            solves = solved_in ss;
-            solve = λ q m. (solve q m).code;
-            is = rw (lowered_defs (map def_tree ds) plain, ← same) c;
-          };
+          solved = λ q m. let h = solve q m in subst (λ c. IsSolveOf q c) h.code h;
+          runs = λ env h small.
+              let fit : AreFit (bases_of d.params) env = record { bases = subst (λ bs. HaveBases bs env) ps h; small = small } in
+              rw c (runs_as_picked (map def_tree ds) main (called codes main) env (bodies (reverse (map def_tree ds))) all_bodies
+              (known.picked main (bases_of d.params) d.results takes env fit) (known.entered main (bases_of d.params) d.results takes env fit));
           allowed = λ env h. rw (c, ← map_reverse (map def_tree ds)) (known.fine main (bases_of d.params) d.results takes env (rw ps at h)).0;
         }
 
-pub codes_length : (solves : ℕ → CodeTree) (known : List CodeTree) (ds : List DefTree) → length (codes_behind solves known ds) ≡ length known + length ds
+pub codes_length : (solves : Question → CodeTree) (known : List CodeTree) (ds : List DefTree) → length (codes_behind solves known ds) ≡ length known + length ds
 codes_length solves known [] = omega arith
 codes_length solves known (d ∷ ds) =
     let c = code_of (called known) solves (length d.params) d.body in
@@ -245,6 +265,6 @@ module _ (ds : List Def) (main : ℕ) (t : IsTypedProgram (map def_tree ds) main
         main_built ds main t p ss s (map code_tree cs) same (All-map HasLevels code_tree cs l) (def_tree d) def_is raw r.0 r.1 (r.2 ∙ sym code_is)
 
 pub tells_fault : (ds : List Def) (main : ℕ) → IsTypedProgram (map def_tree ds) main → All (λ d. HasNoMatch (expr_tree d.body)) ds → (cs : List Choose) → map question_of cs ≡ questions_of (map def_tree ds) →
-    (fault : BuildFault) → TellsFault (map question_of cs) fault → Tells (map def_tree ds) main (Err fault)
+    (fault : BuildFault) → FaultAnswer (map question_of cs) fault → BuildAnswer (map def_tree ds) main (Err fault)
 tells_fault ds main t p cs e (faults.Choose n r) h = first_refused ds main t p cs n r e h
 tells_fault ds main t p cs e faults.NoMemory h = tt

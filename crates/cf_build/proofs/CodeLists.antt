@@ -6,8 +6,9 @@ use Rattle.cf_tree.specs.CodeView.{code_tree, code_trees}
 use Rattle.cf_tree.specs.ExprTree.{ExprTree, exprs_of}
 use Rattle.cf_tree.specs.declared.code.Code.{Code}
 use Rattle.cf_build.specs.Codes.{joined_code, call_code, code_of, codes_of_all, called}
+use Rattle.cf_build.specs.Questions.{Question}
 
-pub codes_of_exprs : (calls solves : ℕ → CodeTree) (n : ℕ) (es : List ExprTree) → codes_of (map (λ e. code_of calls solves n e) es) ≡ codes_of_all calls solves n (exprs_of es)
+pub codes_of_exprs : (calls : ℕ → CodeTree) (solves : Question → CodeTree) (n : ℕ) (es : List ExprTree) → codes_of (map (λ e. code_of calls solves n e) es) ≡ codes_of_all calls solves n (exprs_of es)
 codes_of_exprs calls solves n [] = refl
 codes_of_exprs calls solves n (e ∷ es) = ap (λ cs. code_more (code_of calls solves n e) cs) (codes_of_exprs calls solves n es)
 

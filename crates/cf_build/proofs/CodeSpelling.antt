@@ -8,10 +8,10 @@ use Rattle.cf_tree.specs.declared.raw.BinOp.TheVariants.{Add, Sub, Mul, And, Or,
 use Rattle.cf_tree.specs.CodeTree.{CodeTree, CodeTrees, no_codes, code_more, code_depth, codes_depth}
 use Rattle.cf_tree.specs.ExprTree.{ExprTree, expr_lit, expr_truth, expr_var, expr_set_of, expr_tuple, expr_neg, expr_not, expr_abs, expr_binary, expr_divides, expr_div, expr_mod, expr_card, expr_if, expr_call, expr_let, expr_choose, expr_match, ExprTrees, no_exprs, expr_more}
 use Rattle.cf_tree.specs.Spelled.{IsSpelled, AreSpelled}
-use Rattle.cf_type.specs.Names.{bases_of}
-use Rattle.cf_type.specs.Size.{depth_in, depth_all}
-use Rattle.cf_type.specs.TypedProgram.{HasBases, AllHave, PartsHave}
-use Rattle.cf_type.specs.Walk.{side_of}
+use Rattle.cf_program.specs.Names.{bases_of}
+use Rattle.cf_program.specs.Size.{depth_in, depth_all}
+use Rattle.cf_program.specs.TypedProgram.{ExprHasBases, AllHave, PartsHave}
+use Rattle.cf_program.specs.Walk.{side_of}
 use Rattle.cf_build.specs.Codes.{binary_code, call_code, code_of, codes_of_all}
 use Rattle.cf_build.specs.Questions.{Question, questions, questions_all}
 use Rattle.cf_build.specs.Shifted.{shifted, HasLevels, HaveLevels}
@@ -41,9 +41,9 @@ solve_depth : (q : Question) (c : CodeTree) → IsSolveOf q c → code_depth c �
 solve_depth q c s = rw (s.code) (omega (arith, s.solved.shallow))
 
 -- the code of an expression is at most twice as deep as the expression with its calls unfolded, and 16 more
-module _ (calls solves : ℕ → CodeTree) (depths : ℕ → ℕ) (calls_shallow : (f : ℕ) → code_depth (calls f) ≤ 2 * depths f + 16) where
+module _ (calls : ℕ → CodeTree) (solves : Question → CodeTree) (depths : ℕ → ℕ) (calls_shallow : (f : ℕ) → code_depth (calls f) ≤ 2 * depths f + 16) where
   abbrev AreSolves : List Question → Type 0
-  AreSolves qs = (q : Question) → Contains qs q → IsSolveOf q (solves q.number)
+  AreSolves qs = (q : Question) → Contains qs q → IsSolveOf q (solves q)
 
   mutual
     pub depth_within : (e : ExprTree) → HasNoMatch e → AreSolves (questions e) → (n : ℕ) → code_depth (code_of calls solves n e) ≤ 2 * depth_in depths e + 16
@@ -83,7 +83,7 @@ module _ (calls solves : ℕ → CodeTree) (depths : ℕ → ℕ) (calls_shallow
         )
     depth_within (expr_choose k params outputs rel) p s n =
         let q : Question = record { number = k; scope = bases_of params; outputs = outputs; relation = rel } in
-        omega (arith, depth_same 0 (solves k), solve_depth q (solves k) (s q (0, omega arith, refl)))
+        omega (arith, solve_depth q (solves q) (s q (0, omega arith, refl)))
     depth_within (expr_match k params a arms) p s n = absurd p
 
     depths_within : (es : ExprTrees) → HaveNoMatch es → AreSolves (questions_all es) → (n : ℕ) → codes_depth (codes_of_all calls solves n es) ≤ 2 * depth_all depths es + 16
@@ -112,12 +112,12 @@ call_spelled n no_codes body l f g = g l
 call_spelled n (code_more c no_codes) body l f g = (omega arith, l.0, (f (l.1, tt)).0, g l.2)
 call_spelled n (code_more c (code_more d cs)) body l f g = (omega arith, l.0, (omega arith, f l.1), g l.2)
 
-module _ (calls solves : ℕ → CodeTree) (takes : ℕ → List Base → List Base → Type 0) (calls_spelled : (f : ℕ) (ps rs : List Base) → takes f ps rs → IsSpelled (calls f)) where
+module _ (calls : ℕ → CodeTree) (solves : Question → CodeTree) (takes : ℕ → List Base → List Base → Type 0) (calls_spelled : (f : ℕ) (ps rs : List Base) → takes f ps rs → IsSpelled (calls f)) where
   abbrev AreSolves_ : List Question → Type 0
-  AreSolves_ qs = (q : Question) → Contains qs q → IsSolveOf q (solves q.number)
+  AreSolves_ qs = (q : Question) → Contains qs q → IsSolveOf q (solves q)
 
   mutual
-    pub spelled : (e : ExprTree) → HasNoMatch e → AreSolves_ (questions e) → (scope bs : List Base) → HasBases takes e scope bs → (n : ℕ) → HasLevels (code_of calls solves n e) → IsSpelled (code_of calls solves n e)
+    pub spelled : (e : ExprTree) → HasNoMatch e → AreSolves_ (questions e) → (scope bs : List Base) → ExprHasBases takes e scope bs → (n : ℕ) → HasLevels (code_of calls solves n e) → IsSpelled (code_of calls solves n e)
     spelled (expr_lit k) p s scope bs h n l = h.0
     spelled (expr_truth t) p s scope bs h n l = tt
     spelled (expr_var x) p s scope bs h n l = l
@@ -127,7 +127,7 @@ module _ (calls solves : ℕ → CodeTree) (takes : ℕ → List Base → List B
     spelled (expr_not a) p s scope bs h n l = spelled a p s scope _ h.0 n l
     spelled (expr_abs a) p s scope bs h n l = (omega arith, l.0, spelled a p s scope _ h.0 n l.1, (omega arith, l.2))
     spelled (expr_binary op a b) p s scope bs h n l =
-        let t = sides_have (side_of op) (λ c. HasBases takes a scope (c ∷ [])) (λ c. HasBases takes b scope (c ∷ [])) h.0 in
+        let t = sides_have (side_of op) (λ c. ExprHasBases takes a scope (c ∷ [])) (λ c. ExprHasBases takes b scope (c ∷ [])) h.0 in
         binary_spelled op (code_of calls solves n a) (code_of calls solves n b) l
         (spelled a p.0 (λ q m. s q (Contains-append_left (questions a) (questions b) q m)) scope (t.0 ∷ []) t.1 n)
         (spelled b p.1 (λ q m. s q (Contains-append_right (questions a) (questions b) q m)) scope (t.0 ∷ []) t.2 n)
@@ -149,8 +149,7 @@ module _ (calls solves : ℕ → CodeTree) (takes : ℕ → List Base → List B
       spelled b p.1 (λ q m. s q (Contains-append_right (questions a) (questions b) q m)) (scope ++ h.0) bs h.4 (n + k) l.2,
     )
     spelled (expr_choose k params outputs rel) p s scope bs h n l =
-        let solve = s (record { number = k; scope = bases_of params; outputs = outputs; relation = rel }) (0, omega arith, refl) in
-        spelled_shifted 0 (solves k) solve.spelled l
+        (s (record { number = k; scope = bases_of params; outputs = outputs; relation = rel }) (0, omega arith, refl)).spelled
     spelled (expr_match k params a arms) p s scope bs h n l = absurd p
 
     all_spelled : (es : ExprTrees) → HaveNoMatch es → AreSolves_ (questions_all es) → (scope : List Base) (b : Base) → AllHave takes es scope b → (n : ℕ) → HaveLevels (codes_of_all calls solves n es) → AreSpelled (codes_of_all calls solves n es)

@@ -12,14 +12,14 @@ use Rattle.cf_tree.specs.CodeTree.{CodeTree, ArmTrees, no_arms, arm_more, CodeTr
 use Rattle.cf_tree.specs.ExprTree.{ExprTree, expr_lit, expr_truth, expr_var, expr_set_of, expr_tuple, expr_neg, expr_not, expr_abs, expr_binary, expr_divides, expr_div, expr_mod, expr_card, expr_if, expr_call, expr_let, expr_choose, expr_match, ExprTrees, no_exprs, expr_more}
 use Rattle.cf_tree.specs.Typing.{Meets, ask, share, IsGiven, HasBases as CodeHas, AllHave as CodesHave, PartsHave as CodePartsHave}
 use Rattle.cf_choose.specs.Solved.{HasArms}
-use Rattle.cf_choose.proofs.MakingLemmas.{slice_get-end}
-use Rattle.cf_type.specs.Names.{bases_of}
-use Rattle.cf_type.specs.TypedProgram.{HasBases, AllHave, PartsHave, AreSides}
-use Rattle.cf_type.specs.Walk.{side_of, result_of}
+use Rattle.cf_choose.proofs.ArmBuilderLemmas.{slice_get-end}
+use Rattle.cf_program.specs.Names.{bases_of}
+use Rattle.cf_program.specs.TypedProgram.{ExprHasBases, AllHave, PartsHave, AreSides}
+use Rattle.cf_program.specs.Walk.{side_of, result_of}
 use Rattle.cf_build.specs.Codes.{binary_code, joined_code, call_code, code_of, codes_of_all}
-use Rattle.cf_build.specs.Questions.{Question, questions, questions_all}
+use Rattle.cf_build.specs.Questions.{Question, questions, questions_all, question_arms}
 use Rattle.cf_build.specs.Shifted.{shifted}
-use Rattle.cf_build.specs.Solves.{HasNoMatch, HaveNoMatch, IsSolveOf, question_arms}
+use Rattle.cf_build.specs.Solves.{HasNoMatch, HaveNoMatch, IsSolveOf}
 use Rattle.cf_build.proofs.ShiftedTyping.{shifted_has}
 
 given : (arms : ArmTrees) (asked : Option (List Base)) (bs : List Base) → HasArms arms → Meets asked bs → IsGiven arms asked bs
@@ -61,19 +61,18 @@ module _ (a b : CodeTree) (scope : List Base) (asked : Option (List Base)) (bs :
   binary_typed Subset A B f g h e = (f Set h.0 (ask Set) refl, g Set h.1 (ask Set) refl, (e, m))
   binary_typed (Compare o) A B f g h e = compare_typed o A B f g h e
 
-pub parts_count : (calls solves : ℕ → CodeTree) (takes : ℕ → List Base → List Base → Type 0) (es : ExprTrees) (scope bs : List Base) (n : ℕ) → PartsHave takes es scope bs → count (codes_of_all calls solves n es) ≡ length bs
+pub parts_count : (calls : ℕ → CodeTree) (solves : Question → CodeTree) (takes : ℕ → List Base → List Base → Type 0) (es : ExprTrees) (scope bs : List Base) (n : ℕ) → PartsHave takes es scope bs → count (codes_of_all calls solves n es) ≡ length bs
 parts_count calls solves takes no_exprs scope bs n h = rw h refl
 parts_count calls solves takes (expr_more e es) scope bs n h = rw h.2 (omega (arith, parts_count calls solves takes es scope h.1 n h.4))
 
-module _ (calls solves : ℕ → CodeTree) (takes : ℕ → List Base → List Base → Type 0)
+module _ (calls : ℕ → CodeTree) (solves : Question → CodeTree) (takes : ℕ → List Base → List Base → Type 0)
     (calls_typed : (f : ℕ) (ps rs : List Base) → takes f ps rs → (asked : Option (List Base)) → Meets asked rs → CodeHas (calls f) ps asked rs) where
   abbrev SolvedHere : List Question → Type 0
-  SolvedHere qs = (q : Question) → Contains qs q → IsSolveOf q (solves q.number)
+  SolvedHere qs = (q : Question) → Contains qs q → IsSolveOf q (solves q)
 
-  solve_typed : (scope bs : List Base) (asked : Option (List Base)) (q : Question) → IsSolveOf q (solves q.number) → q.scope ≡ scope → bs ≡ q.outputs → Meets asked bs → CodeHas (shifted 0 (solves q.number)) scope asked bs
+  solve_typed : (scope bs : List Base) (asked : Option (List Base)) (q : Question) → IsSolveOf q (solves q) → q.scope ≡ scope → bs ≡ q.outputs → Meets asked bs → CodeHas (solves q) scope asked bs
   solve_typed scope bs asked q s e f m =
-      shifted_has [] scope (solves q.number) asked bs
-      (rw (s.code, ← e, f) (given (question_arms q) asked q.outputs s.solved.some (rw f at m), s.solved.typed))
+      rw (s.code, ← e, f) (given (question_arms q) asked q.outputs s.solved.some (rw f at m), s.solved.typed)
 
   call_typed : (f : ℕ) (cs : CodeTrees) (scope ps rs : List Base) (asked : Option (List Base)) (n : ℕ) → n ≡ length scope → takes f ps rs → Meets asked rs → count cs ≡ length ps → CodePartsHave cs scope None ps →
       CodeHas (call_code n cs (shifted n (calls f))) scope asked rs
@@ -85,7 +84,7 @@ module _ (calls solves : ℕ → CodeTree) (takes : ℕ → List Base → List B
       (ps, joined_typed c cs scope ps h, e, l, rw e (shifted_has scope ps (calls f) asked rs (calls_typed f ps rs t asked m)))
 
   mutual
-    pub typed : (e : ExprTree) → HasNoMatch e → SolvedHere (questions e) → (scope bs : List Base) → HasBases takes e scope bs → (asked : Option (List Base)) → Meets asked bs → (n : ℕ) → n ≡ length scope →
+    pub typed : (e : ExprTree) → HasNoMatch e → SolvedHere (questions e) → (scope bs : List Base) → ExprHasBases takes e scope bs → (asked : Option (List Base)) → Meets asked bs → (n : ℕ) → n ≡ length scope →
         CodeHas (code_of calls solves n e) scope asked bs
     typed (expr_lit z) p s scope bs h asked m n e = (h.1, m)
     typed (expr_truth t) p s scope bs h asked m n e = (h, m)
@@ -103,7 +102,7 @@ module _ (calls solves : ℕ → CodeTree) (takes : ℕ → List Base → List B
           (omega arith, ((Int, at, (refl, refl)), (((Int, at, (refl, refl)), (refl, refl)), tt)), (h.1, m)),
         )
     typed (expr_binary op a b) p s scope bs h asked m n e =
-        binary_typed (code_of calls solves n a) (code_of calls solves n b) scope asked bs m op (λ c. HasBases takes a scope (c ∷ [])) (λ c. HasBases takes b scope (c ∷ []))
+        binary_typed (code_of calls solves n a) (code_of calls solves n b) scope asked bs m op (λ c. ExprHasBases takes a scope (c ∷ [])) (λ c. ExprHasBases takes b scope (c ∷ []))
         (λ c t place i. typed a p.0 (λ q k. s q (Contains-append_left (questions a) (questions b) q k)) scope (c ∷ []) t place i n e)
         (λ c t place i. typed b p.1 (λ q k. s q (Contains-append_right (questions a) (questions b) q k)) scope (c ∷ []) t place i n e) h.0 h.1
     typed (expr_divides k a) p s scope bs h asked m n e = (h.0.0, typed a p s scope (Int ∷ []) h.1 (ask Int) refl n e, (h.2, m))

@@ -47,10 +47,10 @@ def_found ds i d now new l is h g =
     g ∙ ap (λ qs. qs ++ questions (expr_tree d.body)) h ∙ sym one
 
 pub solves_more : (cs : List Choose) (i : ℕ) (c : Choose) (old new : List ChooseCode) (code : ChooseCode) → i < length cs → c ≡ get_or cs i c → AreSolved (map question_of (take i cs)) (map choose_code old) →
-    new ≡ old ++ code ∷ [] → code.number ≡ c.number → IsSolveOf (question_of c) (code_tree code.code) → limit_of (question_of c) ≡ None → AreSolved (map question_of (take (i + 1) cs)) (map choose_code new)
-solves_more cs i c old new code l is h n e s m =
+    new ≡ old ++ code ∷ [] → code.number ≡ c.number → IsSolveOf (question_of c) (code_tree code.code) → AreSolved (map question_of (take (i + 1) cs)) (map choose_code new)
+solves_more cs i c old new code l is h n e s =
     rw (map_at question_of cs i c l is, n, map-append choose_code old (code ∷ []))
-    (solved_push (map question_of (take i cs)) (map choose_code old) (question_of c) (choose_code code) h e s m)
+    (solved_push (map question_of (take i cs)) (map choose_code old) (question_of c) (choose_code code) h e s)
 
 pub refused_more : (cs : List Choose) (i : ℕ) (c : Choose) (old : List ChooseCode) (r : Refusal) → i < length cs → c ≡ get_or cs i c → AreSolved (map question_of (take i cs)) (map choose_code old) →
     limit_of (question_of c) ≡ Some r → IsFirstRefused (map question_of (take (i + 1) cs)) c.number r
@@ -66,7 +66,7 @@ from_here : (ds : List Def) (i : ℕ) (d : Def) → i < length ds → d ≡ get_
 from_here ds i d l is =
     subst (λ k. drop i ds ≡ d ∷ drop k ds) (sym (add-one i)) (subst (λ x. drop i ds ≡ x ∷ drop (suc i) ds) (sym is) (drop-cons ds i d l))
 
-pub behind_more : (solves : ℕ → CodeTree) (ds : List Def) (i : ℕ) (d : Def) (old new : List Code) (c : Code) (all : List CodeTree) → i < length ds → d ≡ get_or ds i d → new ≡ old ++ c ∷ [] →
+pub behind_more : (solves : Question → CodeTree) (ds : List Def) (i : ℕ) (d : Def) (old new : List Code) (c : Code) (all : List CodeTree) → i < length ds → d ≡ get_or ds i d → new ≡ old ++ c ∷ [] →
     code_tree c ≡ code_of (called (map code_tree old)) solves (length d.params.items) (expr_tree d.body) → codes_behind solves (map code_tree old) (map def_tree (drop i ds)) ≡ all →
     codes_behind solves (map code_tree new) (map def_tree (drop (i + 1) ds)) ≡ all
 behind_more solves ds i d old new c all l is n e h =
@@ -88,6 +88,6 @@ items_at_end by is done i l h = ap items_of (h ∙ ap (λ xs. map (λ c. item_sh
 pub arms_at_end : (by : ℕ) (arms done : List Arm) (i : ℕ) → length arms ≤ i → map arm_tree done ≡ map (λ a. arm_shifted by a) (map arm_tree (take i arms)) → arm_trees done ≡ arms_shifted by (arm_trees arms)
 arms_at_end by arms done i l h = ap arms_of (h ∙ ap (λ xs. map (λ a. arm_shifted by a) (map arm_tree xs)) (take_all i arms l)) ∙ list_arms_shifted by (map arm_tree arms)
 
-pub exprs_at_end : (calls solves : ℕ → CodeTree) (n : ℕ) (es : List Expr) (done : List Code) (i : ℕ) → length es ≤ i → map code_tree done ≡ map (λ e. code_of calls solves n e) (map expr_tree (take i es)) →
+pub exprs_at_end : (calls : ℕ → CodeTree) (solves : Question → CodeTree) (n : ℕ) (es : List Expr) (done : List Code) (i : ℕ) → length es ≤ i → map code_tree done ≡ map (λ e. code_of calls solves n e) (map expr_tree (take i es)) →
     code_trees done ≡ codes_of_all calls solves n (expr_trees es)
 exprs_at_end calls solves n es done i l h = ap codes_of (h ∙ ap (λ xs. map (λ e. code_of calls solves n e) (map expr_tree xs)) (take_all i es l)) ∙ codes_of_exprs calls solves n (map expr_tree es)

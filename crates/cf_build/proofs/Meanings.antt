@@ -8,32 +8,30 @@ use Rattle.cf_tree.specs.declared.raw.BinOp.{BinOp}
 use Rattle.cf_tree.specs.declared.raw.BinOp.TheVariants.{Add, Sub, Mul, And, Or, Union, Inter, Diff, Subset, Compare}
 use Rattle.cf_tree.specs.Allowed.{AllowedThen, goes_on, Gives, Chosen, operation, AllowedRight, AllowedIn, AllowedAll}
 use Rattle.cf_tree.specs.declared.base.Order.{Order}
-use Rattle.cf_tree.specs.CodeTree.{CodeTree, code_var, code_neg, code_max, CodeTrees, no_codes, code_more, arms_of}
+use Rattle.cf_tree.specs.CodeTree.{CodeTree, code_var, code_neg, code_max, CodeTrees, no_codes, code_more}
 use Rattle.cf_tree.specs.Numbers.{absolute}
 use Rattle.std.specs.Ordering.{int_eq}
 use Rattle.cf_tree.specs.ExprTree.{ExprTree, expr_lit, expr_truth, expr_var, expr_set_of, expr_tuple, expr_neg, expr_not, expr_abs, expr_binary, expr_divides, expr_div, expr_mod, expr_card, expr_if, expr_call, expr_let, expr_choose, expr_match, ExprTrees, no_exprs, expr_more}
 use Rattle.cf_tree.specs.Meaning.{Got, got, none_at, then_gives, path, all_path, set_path, set_in, truth_in, gives_truth, means, outcome_of}
 use Rattle.cf_tree.specs.Relation.{Sol}
-use Rattle.cf_tree.specs.RelTree.{RelTree}
 use Rattle.cf_tree.specs.Sets.{IsRising, has, set_of, set_put}
 use Rattle.cf_tree.specs.Values.{Value, number, truth, elements, Outcome, values, number_of, value_at, first_of, HaveBases}
 use Rattle.cf_tree.proofs.RisingLemmas.{rising_ext, rising_put, rising_set_of, rising_union, rising_filter}
 use Rattle.cf_tree.proofs.SetLemmas.{has-put, has-set_of}
 use Rattle.cf_tree.proofs.SolvingLemmas.{solve_chosen}
-use Rattle.cf_choose.proofs.MakingLemmas.{length_have, value_at-end}
-use Rattle.cf_type.specs.Names.{bases_of}
-use Rattle.cf_type.specs.TypedProgram.{HasBases, AllHave, PartsHave, AreSides}
-use Rattle.cf_type.specs.Walk.{side_of, result_of}
-use Rattle.cf_linear.specs.Chooses.{arms}
+use Rattle.cf_choose.proofs.ArmBuilderLemmas.{length_have, value_at-end}
+use Rattle.cf_program.specs.Names.{bases_of}
+use Rattle.cf_program.specs.TypedProgram.{ExprHasBases, AllHave, PartsHave, AreSides}
+use Rattle.cf_program.specs.Walk.{side_of, result_of}
 use Rattle.cf_build.specs.Codes.{two, binary_code, joined_code, call_code, code_of, codes_of_all}
-use Rattle.cf_build.specs.Questions.{Question, questions, questions_all}
+use Rattle.cf_build.specs.Questions.{Question, questions, questions_all, question_arms}
 use Rattle.cf_build.specs.Shifted.{shifted}
 use Rattle.cf_build.specs.Solves.{HasNoMatch, HaveNoMatch, IsSolveOf}
-use Rattle.cf_build.proofs.ShiftedMeaning.{shifted_means}
+use Rattle.cf_build.proofs.ShiftedPaths.{shifted_means}
 use Rattle.cf_build.proofs.Values.{Keeps, then_fine, more_fine, then_same, then_weaker, keeps_same, if_fine, value_means, keeps_number, keeps_truth, keeps_value, value_has, have_append, set_is_rising, number_alone, chosen_keeps, from_zero, greater_is_absolute}
 
 -- the numbers of a list put into a set, the first of them first
-abbrev put_all : List ℤ → List ℤ → List ℤ
+abbrev pub put_all : List ℤ → List ℤ → List ℤ
 put_all [] done = done
 put_all (x ∷ xs) done = put_all xs (set_put x done)
 
@@ -51,7 +49,7 @@ put_all_has (x ∷ xs) done z = put_all_has xs (set_put x done) z ∙ rw (has-pu
     or_turned false true c = refl
     or_turned false false c = refl
 
-put_all_is : (xs : List ℤ) → put_all xs [] ≡ set_of xs
+pub put_all_is : (xs : List ℤ) → put_all xs [] ≡ set_of xs
 put_all_is xs =
     rising_ext _ _ (put_all_rises xs [] tt) (rising_set_of xs) (λ z. put_all_has xs [] z ∙ or_false (has xs z) ∙ sym (has-set_of xs z))
   where
@@ -73,7 +71,7 @@ strict_fine : {P R : Outcome → Type 0} (Q : Value → Value → Value) (bs cs 
 strict_fine {R = R} Q bs cs ds g h p q k =
     then_fine bs ds g _ p (λ xs hx. then_fine {P = R} cs ds h _ q (λ ys hy. (refl, k xs ys hx hy)))
 
-abbrev Fine : (Outcome → Type 0) → List Base → CodeTree → List Value → Type 0
+abbrev pub Fine : (Outcome → Type 0) → List Base → CodeTree → List Value → Type 0
 Fine P bs c env = P (means c env) × Keeps bs (means c env)
 
 sum_gives : (a b : CodeTree) (env : List Value) →
@@ -157,7 +155,7 @@ absolute_gives : (env : List Value) (n : ℕ) (z : ℤ) → n ≡ length env →
 absolute_gives env n z e = rw (value_at-end env (number z) n e) (ap (λ w. got (number w ∷ [])) (greater_is_absolute z))
 
 -- one code alone, or a tuple, gives what the codes give
-joined_gives : (c : CodeTree) (cs : CodeTrees) (env : List Value) → (path (joined_code (code_more c cs)) env).gives ≡ (all_path (code_more c cs) env []).gives
+pub joined_gives : (c : CodeTree) (cs : CodeTrees) (env : List Value) → (path (joined_code (code_more c cs)) env).gives ≡ (all_path (code_more c cs) env []).gives
 joined_gives c no_codes env = by (path c env).gives
   where
     by : (g : Got (List Value)) → g ≡ then_gives g (λ xs. got ([] ++ xs))
@@ -165,16 +163,16 @@ joined_gives c no_codes env = by (path c env).gives
     by (none_at n) = refl
 joined_gives c (code_more d cs) env = refl
 
-module _ (calls solves : ℕ → CodeTree) (takes : ℕ → List Base → List Base → Type 0) (allows : ℕ → List Value → Outcome → Type 0)
+module _ (calls : ℕ → CodeTree) (solves : Question → CodeTree) (takes : ℕ → List Base → List Base → Type 0) (allows : ℕ → List Value → Outcome → Type 0)
     (calls_fine : (f : ℕ) (ps rs : List Base) → takes f ps rs → (xs : List Value) → HaveBases ps xs → Fine (allows f xs) rs (calls f) xs) where
   abbrev Solved : List Question → Type 0
-  Solved qs = (q : Question) → Contains qs q → IsSolveOf q (solves q.number)
+  Solved qs = (q : Question) → Contains qs q → IsSolveOf q (solves q)
 
-  choose_fine : (m : ℕ) (scope outputs : List Base) (rel : RelTree) (env : List Value) → HaveBases scope env →
-      IsSolveOf (record { number = m; scope = scope; outputs = outputs; relation = rel }) (solves m) → Fine (Chosen m (Sol outputs rel env)) outputs (shifted 0 (solves m)) env
-  choose_fine m scope outputs rel env h s =
-      let chosen : Chosen m (Sol outputs rel env) (means (solves m) env) = rw s.code (solve_chosen m scope outputs rel (arms_of (arms scope outputs rel)) s.solved.solves s.solved.typed env h) in
-      rw (shifted_means [] env (solves m)) (chosen, chosen_keeps m outputs rel env (means (solves m) env) chosen)
+  choose_fine : (q : Question) (env : List Value) → HaveBases q.scope env → IsSolveOf q (solves q) → Fine (Chosen q.number (Sol q.outputs q.relation env)) q.outputs (solves q) env
+  choose_fine q env h s =
+      let chosen : Chosen q.number (Sol q.outputs q.relation env) (means (solves q) env) =
+      rw s.code (solve_chosen q.number q.scope q.outputs q.relation (question_arms q) s.solved.solves s.solved.typed env h) in
+      (chosen, chosen_keeps q.number q.outputs q.relation env (means (solves q) env) chosen)
 
   call_means : (n : ℕ) (c : CodeTree) (env xs : List Value) → n ≡ length env → means (shifted n c) (env ++ xs) ≡ means c xs
   call_means n c env xs e = ap (λ k. means (shifted k c) (env ++ xs)) e ∙ shifted_means env xs c
@@ -195,7 +193,7 @@ module _ (calls solves : ℕ → CodeTree) (takes : ℕ → List Base → List B
       (λ xs hx. rw (call_means n (calls f) env xs e) (calls_fine f ps rs t xs hx))
 
   mutual
-    pub fine : (e : ExprTree) → HasNoMatch e → Solved (questions e) → (scope bs : List Base) → HasBases takes e scope bs → (env : List Value) → HaveBases scope env → (n : ℕ) → n ≡ length scope →
+    pub fine : (e : ExprTree) → HasNoMatch e → Solved (questions e) → (scope bs : List Base) → ExprHasBases takes e scope bs → (env : List Value) → HaveBases scope env → (n : ℕ) → n ≡ length scope →
         Fine (AllowedIn allows e env) bs (code_of calls solves n e) env
     fine (expr_lit z) p s scope bs h env k n e = (refl, keeps_number bs z h.1)
     fine (expr_truth t) p s scope bs h env k n e = (refl, keeps_truth bs t h)
@@ -218,7 +216,7 @@ module _ (calls solves : ℕ → CodeTree) (takes : ℕ → List Base → List B
     fine (expr_binary op a b) p s scope bs h env k n e =
         let r =
         binary_fine (AllowedIn allows a env) (AllowedIn allows b env) (code_of calls solves n a) (code_of calls solves n b) env op
-        (λ c. HasBases takes a scope (c ∷ [])) (λ c. HasBases takes b scope (c ∷ []))
+        (λ c. ExprHasBases takes a scope (c ∷ [])) (λ c. ExprHasBases takes b scope (c ∷ []))
         (λ c t. fine a p.0 (λ q m. s q (Contains-append_left (questions a) (questions b) q m)) scope (c ∷ []) t env k n e)
         (λ c t. fine b p.1 (λ q m. s q (Contains-append_right (questions a) (questions b) q m)) scope (c ∷ []) t env k n e) h.0 in
         (r.0, keeps_same (result_of op ∷ []) bs _ (sym h.1) r.1)
@@ -243,13 +241,13 @@ module _ (calls solves : ℕ → CodeTree) (takes : ℕ → List Base → List B
         (fine a p.0 (λ q c. s q (Contains-append_left (questions a) (questions b) q c)) scope h.0 h.1 env k n e) (λ xs hx.
         fine b p.1 (λ q c. s q (Contains-append_right (questions a) (questions b) q c)) (scope ++ h.0) bs h.4 (env ++ xs) (have_append scope h.0 env xs k hx) (n + m) (omega (arith, e, h.2, length-append scope h.0)))
     fine (expr_choose m params outputs rel) p s scope bs h env k n e =
-        let solved = s (record { number = m; scope = bases_of params; outputs = outputs; relation = rel }) (0, omega arith, refl) in
-        let r = choose_fine m (bases_of params) outputs rel env (rw h.0 k) solved in
+        let q : Question = record { number = m; scope = bases_of params; outputs = outputs; relation = rel } in
+        let r = choose_fine q env (rw h.0 k) (s q (0, omega arith, refl)) in
         (r.0, keeps_same outputs bs _ (sym h.5) r.1)
     fine (expr_match m params a arms) p s scope bs h env k n e = absurd p
 
     -- the values behind those that are done
-    all_fine : (es : ExprTrees) → HaveNoMatch es → Solved (questions_all es) → (scope bs : List Base) → PartsHave takes es scope bs → (env : List Value) → HaveBases scope env → (n : ℕ) → n ≡ length scope →
+    pub all_fine : (es : ExprTrees) → HaveNoMatch es → Solved (questions_all es) → (scope bs : List Base) → PartsHave takes es scope bs → (env : List Value) → HaveBases scope env → (n : ℕ) → n ≡ length scope →
         (ds : List Base) (done : List Value) → HaveBases ds done →
         AllowedThen (AllowedAll allows es env) (λ ys o. o ≡ values (done ++ ys)) (outcome_of (all_path (codes_of_all calls solves n es) env done).gives)
         × Keeps (ds ++ bs) (outcome_of (all_path (codes_of_all calls solves n es) env done).gives)

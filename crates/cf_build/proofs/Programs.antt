@@ -1,5 +1,6 @@
 -- The codes of the functions of a program.
 use Rattle.std.proofs.Common.{◌≡◌, ℕ, zero, suc, ◌+◌, ◌*◌, ◌≤◌, ◌<◌, ◌==◌, Bool, true, false, Option, Some, List, [], ◌∷◌, ◌++◌, length, map, reverse, slice_get, slice_index, All, MatchBool, Contains, ◌⊎◌, inl, inr, refl, sym, ap, ◌∙◌, subst, arith, length-append}
+use Rattle.std.specs.Prelude.{if◌then◌else◌}
 use Rattle.std.proofs.lemmas.Bool.{eqb-true, eq-eqb, cases_order}
 use Rattle.std.proofs.lemmas.Bool.Decides.{nat_tests}
 use Rattle.std.proofs.lemmas.List.{append_assoc, append-nil, reverse-append, map-append, length-map}
@@ -9,21 +10,24 @@ use Rattle.cf_tree.specs.Allowed.{AllowedIn, AllowedCall}
 use Rattle.cf_tree.specs.CodeTree.{CodeTree, code_tuple, no_codes, code_depth}
 use Rattle.cf_tree.specs.DefView.{DefTree}
 use Rattle.cf_tree.specs.ExprTree.{ExprTree, ExprTrees, expr_lit, expr_truth, expr_var, expr_set_of, expr_tuple, expr_neg, expr_not, expr_abs, expr_binary, expr_divides, expr_div, expr_mod, expr_card, expr_if, expr_call, expr_let, expr_choose, expr_match, no_exprs, expr_more}
-use Rattle.cf_tree.specs.Meaning.{means}
+use Rattle.cf_tree.specs.Meaning.{means, path}
 use Rattle.cf_tree.specs.Spelled.{IsSpelled}
 use Rattle.cf_tree.specs.Typing.{Meets, HasBases as CodeHas}
 use Rattle.cf_tree.specs.Values.{Value, Outcome, HaveBases}
-use Rattle.cf_type.specs.Lowered.{lowered, all_lowered}
-use Rattle.cf_type.specs.Names.{bases_of}
-use Rattle.cf_type.specs.Size.{depth_in, measured, depths}
-use Rattle.cf_type.specs.TypedProgram.{Takes, IsTypedDef, AreTypedDefs}
+use Rattle.cf_growth.specs.Overflowing.{picked_in, picked_call, IsFineIn, IsFineCall}
+use Rattle.cf_program.specs.Lowered.{lowered, all_lowered}
+use Rattle.cf_program.specs.Names.{bases_of}
+use Rattle.cf_program.specs.Size.{depth_in, measured, depths}
+use Rattle.cf_program.specs.TypedProgram.{Takes, IsTypedDef, AreTypedDefs}
 use Rattle.cf_build.specs.Codes.{code_of, called, codes_behind}
 use Rattle.cf_build.specs.Questions.{Question, questions, all_questions}
 use Rattle.cf_build.specs.Shifted.{HasLevels}
 use Rattle.cf_build.specs.Solves.{HasNoMatch, HaveNoMatch, IsSolveOf}
 use Rattle.cf_build.proofs.CodeSpelling.{depth_within, spelled}
 use Rattle.cf_build.proofs.CodeTyping.{typed}
+use Rattle.cf_build.proofs.EnteredChooses.{entered}
 use Rattle.cf_build.proofs.Meanings.{fine}
+use Rattle.cf_build.proofs.PickedPaths.{IsPickedBy, AreFit, Around, picked_by}
 use Rattle.cf_build.proofs.Values.{Keeps}
 
 -- ---- matches
@@ -115,11 +119,37 @@ taken d earlier f ps rs h = by (f == length earlier) refl h
 abbrev pub bodies : List DefTree → List ExprTree
 bodies defs = map (λ d. d.body) defs
 
+pick_first : (b : Bool) (x y : Option Outcome) → b ≡ true → (if b then x else y) ≡ x
+pick_first true x y e = refl
+pick_first false x y e = cc
+
+pick_second : (b : Bool) (x y : Option Outcome) → b ≡ false → (if b then x else y) ≡ y
+pick_second true x y e = cc
+pick_second false x y e = refl
+
+is_last : (earlier : List DefTree) (f : ℕ) → f ≡ length earlier → (f == length (bodies earlier)) ≡ true
+is_last earlier f e = eq-eqb f (length (bodies earlier)) (omega (arith, e, length-map earlier (λ d. d.body)))
+
+is_before : (earlier : List DefTree) (f : ℕ) → f < length earlier → (f == length (bodies earlier)) ≡ false
+is_before earlier f l = apart f (length (bodies earlier)) (omega (arith, l, length-map earlier (λ d. d.body)))
+
+picks_new : (d : DefTree) (earlier : List DefTree) (f : ℕ) (xs : List Value) → f ≡ length earlier → picked_call (bodies (d ∷ earlier)) f xs ≡ picked_in (picked_call (bodies earlier)) d.body xs
+picks_new d earlier f xs e = pick_first (f == length (bodies earlier)) _ _ (is_last earlier f e)
+
+picks_old : (d : DefTree) (earlier : List DefTree) (f : ℕ) (xs : List Value) → f < length earlier → picked_call (bodies (d ∷ earlier)) f xs ≡ picked_call (bodies earlier) f xs
+picks_old d earlier f xs l = pick_second (f == length (bodies earlier)) _ _ (is_before earlier f l)
+
+enters_new : (d : DefTree) (earlier : List DefTree) (f : ℕ) (xs : List Value) → f ≡ length earlier → IsFineIn (picked_call (bodies earlier)) (IsFineCall (bodies earlier)) d.body xs → IsFineCall (bodies (d ∷ earlier)) f xs
+enters_new d earlier f xs e h = pick_then _ _ (f == length (bodies earlier)) (is_last earlier f e) h
+
+enters_old : (d : DefTree) (earlier : List DefTree) (f : ℕ) (xs : List Value) → f < length earlier → IsFineCall (bodies earlier) f xs → IsFineCall (bodies (d ∷ earlier)) f xs
+enters_old d earlier f xs l h = pick_else _ _ (f == length (bodies earlier)) (is_before earlier f l) h
+
 allows_new : (d : DefTree) (earlier : List DefTree) (f : ℕ) (xs : List Value) (o : Outcome) → f ≡ length earlier → AllowedIn (AllowedCall (bodies earlier)) d.body xs o → AllowedCall (bodies (d ∷ earlier)) f xs o
-allows_new d earlier f xs o e a = pick_then _ _ (f == length (bodies earlier)) (eq-eqb f (length (bodies earlier)) (omega (arith, e, length-map earlier (λ d. d.body)))) a
+allows_new d earlier f xs o e a = pick_then _ _ (f == length (bodies earlier)) (is_last earlier f e) a
 
 allows_old : (d : DefTree) (earlier : List DefTree) (f : ℕ) (xs : List Value) (o : Outcome) → f < length earlier → AllowedCall (bodies earlier) f xs o → AllowedCall (bodies (d ∷ earlier)) f xs o
-allows_old d earlier f xs o l a = pick_else _ _ (f == length (bodies earlier)) (apart f (length (bodies earlier)) (omega (arith, l, length-map earlier (λ d. d.body)))) a
+allows_old d earlier f xs o l a = pick_else _ _ (f == length (bodies earlier)) (is_before earlier f l) a
 
 get_last : (xs : List DefTree) (y : DefTree) (i : ℕ) (z : DefTree) → slice_get (xs ++ y ∷ []) i ≡ Some z → ((i ≡ length xs) × (y ≡ z)) ⊎ ((i < length xs) × (slice_get xs i ≡ Some z))
 get_last [] y zero z e = inl (refl, cc)
@@ -142,6 +172,8 @@ pub record Knows (done earlier : List DefTree) (known : List CodeTree) (deep : L
   pub typed : (f : ℕ) (ps rs : List Base) → Takes earlier f ps rs → (asked : Option (List Base)) → Meets asked rs → CodeHas (called known f) ps asked rs
   pub spelled : (f : ℕ) (ps rs : List Base) → Takes earlier f ps rs → IsSpelled (called known f)
   pub fine : (f : ℕ) (ps rs : List Base) → Takes earlier f ps rs → (xs : List Value) → HaveBases ps xs → AllowedCall (bodies earlier) f xs (means (called known f) xs) × Keeps rs (means (called known f) xs)
+  pub picked : (f : ℕ) (ps rs : List Base) → Takes earlier f ps rs → (xs : List Value) → AreFit ps xs → IsPickedBy (picked_call (bodies earlier) f xs) (path (called known f) xs)
+  pub entered : (f : ℕ) (ps rs : List Base) → Takes earlier f ps rs → (xs : List Value) → AreFit ps xs → IsFineCall (bodies earlier) f xs
   pub shallow : (f : ℕ) → code_depth (called known f) ≤ 2 * slice_index deep f + 16
   pub takes : (f : ℕ) (d : DefTree) → slice_get done f ≡ Some d → Takes earlier f (bases_of d.params) d.results
 
@@ -155,18 +187,20 @@ knows_none = record {
   typed = λ f ps rs t. absurd t;
   spelled = λ f ps rs t. absurd t;
   fine = λ f ps rs t. absurd t;
+  picked = λ f ps rs t. absurd t;
+  entered = λ f ps rs t. absurd t;
   shallow = λ f. omega arith;
   takes = λ f d e. cc;
 }
 
-module _ (solves : ℕ → CodeTree) (done earlier : List DefTree) (known : List CodeTree) (deep : List ℕ) (k : Knows done earlier known deep) (d : DefTree) where
+module _ (solves : Question → CodeTree) (done earlier : List DefTree) (known : List CodeTree) (deep : List ℕ) (k : Knows done earlier known deep) (d : DefTree) where
   abbrev code : CodeTree
   code = code_of (called known) solves (length d.params) d.body
 
   abbrev depth : ℕ
   depth = depth_in (λ f. slice_index deep f) d.body
 
-  module _ (h : IsTypedDef earlier d) (p : HasNoMatch d.body) (s : (q : Question) → Contains (questions d.body) q → IsSolveOf q (solves q.number)) (l : HasLevels code) where
+  module _ (h : IsTypedDef earlier d) (p : HasNoMatch d.body) (s : (q : Question) → Contains (questions d.body) q → IsSolveOf q (solves q)) (l : HasLevels code) where
     arity : length d.params ≡ length (bases_of d.params)
     arity = sym (length-map d.params (λ x. x.base))
 
@@ -190,6 +224,25 @@ module _ (solves : ℕ → CodeTree) (done earlier : List DefTree) (known : List
     fine_next f ps rs (old less t) xs x =
         let r = k.fine f ps rs t xs x in
         rw (called_old known code f (rw k.codes less)) (allows_old d earlier f xs (means (called known f) xs) less r.0, r.1)
+
+    around : (f : ℕ) (ps : List Base) (xs : List Value) → ps ≡ bases_of d.params → AreFit ps xs → Around (bases_of d.params) xs (length d.params)
+    around f ps xs a x = record { bases = subst (λ bs. HaveBases bs xs) a x.bases; small = x.small; level = arity }
+
+    picked_next : (f : ℕ) (ps rs : List Base) → IsTaken d earlier f ps rs → (xs : List Value) → AreFit ps xs →
+        IsPickedBy (picked_call (bodies (d ∷ earlier)) f xs) (path (called (known ++ code ∷ []) f) xs)
+    picked_next f ps rs (new e a b) xs x =
+        subst (λ o. IsPickedBy o (path (called (known ++ code ∷ []) f) xs)) (sym (picks_new d earlier f xs e))
+        (subst (λ c. IsPickedBy (picked_in (picked_call (bodies earlier)) d.body xs) (path c xs)) (sym (called_new known code f (e ∙ sym k.codes)))
+        (picked_by (called known) solves (Takes earlier) (AllowedCall (bodies earlier)) (picked_call (bodies earlier)) k.fine k.picked d.body p s (bases_of d.params) d.results h.1 xs (length d.params) (around f ps xs a x)))
+    picked_next f ps rs (old less t) xs x =
+        subst (λ o. IsPickedBy o (path (called (known ++ code ∷ []) f) xs)) (sym (picks_old d earlier f xs less))
+        (subst (λ c. IsPickedBy (picked_call (bodies earlier) f xs) (path c xs)) (sym (called_old known code f (rw k.codes less))) (k.picked f ps rs t xs x))
+
+    entered_next : (f : ℕ) (ps rs : List Base) → IsTaken d earlier f ps rs → (xs : List Value) → AreFit ps xs → IsFineCall (bodies (d ∷ earlier)) f xs
+    entered_next f ps rs (new e a b) xs x =
+        enters_new d earlier f xs e
+        (entered (called known) solves (Takes earlier) (AllowedCall (bodies earlier)) (picked_call (bodies earlier)) (IsFineCall (bodies earlier)) k.fine k.picked k.entered d.body p s (bases_of d.params) d.results h.1 xs (length d.params) (around f ps xs a x))
+    entered_next f ps rs (old less t) xs x = enters_old d earlier f xs less (k.entered f ps rs t xs x)
 
     shallow_next : (f : ℕ) → code_depth (called (known ++ code ∷ []) f) ≤ 2 * slice_index (deep ++ depth ∷ []) f + 16
     shallow_next f =
@@ -224,6 +277,8 @@ module _ (solves : ℕ → CodeTree) (done earlier : List DefTree) (known : List
       typed = λ f ps rs t. typed_next f ps rs (taken d earlier f ps rs t);
       spelled = λ f ps rs t. spelled_next f ps rs (taken d earlier f ps rs t);
       fine = λ f ps rs t. fine_next f ps rs (taken d earlier f ps rs t);
+      picked = λ f ps rs t. picked_next f ps rs (taken d earlier f ps rs t);
+      entered = λ f ps rs t. entered_next f ps rs (taken d earlier f ps rs t);
       shallow = shallow_next;
       takes = takes_next;
     }
@@ -233,20 +288,20 @@ typed_tail : (ds earlier : List DefTree) → AreTypedDefs (ds ++ earlier) → Ar
 typed_tail [] earlier h = h
 typed_tail (d ∷ ds) earlier h = typed_tail ds earlier h.1
 
-behind_keeps : (P : CodeTree → Type 0) (solves : ℕ → CodeTree) (ds : List DefTree) (known : List CodeTree) → All P (codes_behind solves known ds) → All P known
+behind_keeps : (P : CodeTree → Type 0) (solves : Question → CodeTree) (ds : List DefTree) (known : List CodeTree) → All P (codes_behind solves known ds) → All P known
 behind_keeps P solves [] known h = h
 behind_keeps P solves (d ∷ ds) known h =
     let c = code_of (called known) solves (length d.params) d.body in
     (All-pop P (known ++ c ∷ []) known (Some c) refl (behind_keeps P solves ds (known ++ c ∷ []) h)).0
 
-behind_first : (P : CodeTree → Type 0) (solves : ℕ → CodeTree) (d : DefTree) (ds : List DefTree) (known : List CodeTree) → All P (codes_behind solves known (d ∷ ds)) →
+behind_first : (P : CodeTree → Type 0) (solves : Question → CodeTree) (d : DefTree) (ds : List DefTree) (known : List CodeTree) → All P (codes_behind solves known (d ∷ ds)) →
     P (code_of (called known) solves (length d.params) d.body)
 behind_first P solves d ds known h =
     let c = code_of (called known) solves (length d.params) d.body in
     (All-pop P (known ++ c ∷ []) known (Some c) refl (behind_keeps P solves ds (known ++ c ∷ []) h)).1
 
-pub all_known : (solves : ℕ → CodeTree) (ds done earlier : List DefTree) (known : List CodeTree) (deep : List ℕ) → Knows done earlier known deep → AreTypedDefs (reverse ds ++ earlier) → All (λ d. HasNoMatch d.body) ds →
-    ((q : Question) → Contains (all_questions ds) q → IsSolveOf q (solves q.number)) → All HasLevels (codes_behind solves known ds) →
+pub all_known : (solves : Question → CodeTree) (ds done earlier : List DefTree) (known : List CodeTree) (deep : List ℕ) → Knows done earlier known deep → AreTypedDefs (reverse ds ++ earlier) → All (λ d. HasNoMatch d.body) ds →
+    ((q : Question) → Contains (all_questions ds) q → IsSolveOf q (solves q)) → All HasLevels (codes_behind solves known ds) →
     Knows (done ++ ds) (reverse ds ++ earlier) (codes_behind solves known ds) (deep ++ measured depth_in deep ds)
 all_known solves [] done earlier known deep k t p s l = rw (append-nil done, append-nil deep) k
 all_known solves (d ∷ ds) done earlier known deep k t p s l =
@@ -266,7 +321,7 @@ map_reverse (d ∷ ds) =
     rw (reverse-append (d ∷ []) ds, reverse-append (d.body ∷ []) (bodies ds), map-append (λ d. d.body) (reverse ds) (d ∷ []), map_reverse ds) refl
 
 -- what is known of a whole program
-pub program_known : (solves : ℕ → CodeTree) (defs : List DefTree) → AreTypedDefs (reverse defs) → All (λ d. HasNoMatch d.body) defs → ((q : Question) → Contains (all_questions defs) q → IsSolveOf q (solves q.number)) →
+pub program_known : (solves : Question → CodeTree) (defs : List DefTree) → AreTypedDefs (reverse defs) → All (λ d. HasNoMatch d.body) defs → ((q : Question) → Contains (all_questions defs) q → IsSolveOf q (solves q)) →
     All HasLevels (codes_behind solves [] defs) → Knows defs (reverse defs) (codes_behind solves [] defs) (depths defs)
 program_known solves defs t p s l =
     subst (λ earlier. Knows defs earlier (codes_behind solves [] defs) (depths defs)) (append-nil (reverse defs))

@@ -1,5 +1,6 @@
 -- What a built target keeps.
-use Rattle.std.specs.Prelude.{ℕ, ◌≡◌, List, [], map, slice_get, Some, None, Contains, Result, Ok, Err}
+use Rattle.std.specs.Prelude.{ℕ, ◌≡◌, List, [], map, slice_get, Some, Contains, Result, Ok, Err}
+use Rattle.cf_num.specs.Limit.{limit}
 use Rattle.cf_tree.specs.declared.target.RawTarget.{RawTarget}
 use Rattle.cf_tree.specs.Allowed.{ProgramAllows}
 use Rattle.cf_tree.specs.CodeTree.{CodeTree}
@@ -7,14 +8,17 @@ use Rattle.cf_tree.specs.CodeView.{code_tree}
 use Rattle.cf_tree.specs.DefView.{DefTree}
 use Rattle.cf_tree.specs.Meaning.{means}
 use Rattle.cf_tree.specs.Spelled.{HasSpelling}
+use Rattle.cf_tree.specs.Typing.{IsWellTyped}
 use Rattle.cf_tree.specs.Values.{Value, Outcome, HaveBases}
-use Rattle.cf_type.specs.Lowered.{lowered}
-use Rattle.cf_type.specs.Names.{bases_of}
+use Rattle.cf_program.specs.Lowered.{lowered}
+use Rattle.cf_program.specs.Names.{bases_of}
+use Rattle.cf_growth.specs.Meeting.{AreSmall}
 use Rattle.cf_build.specs.declared.fault.BuildFault.{BuildFault}
 use Rattle.cf_build.specs.declared.fault.BuildFault.TheVariants.{Choose, NoMemory}
 use Rattle.cf_build.specs.Codes.{called, codes_behind}
-use Rattle.cf_build.specs.Questions.{Question, limit_of, all_questions, IsFirstRefused}
-use Rattle.cf_build.specs.Solves.{solve_of}
+use Rattle.cf_build.specs.Questions.{Question, solve_of, all_questions, IsFirstRefused}
+use Rattle.cf_build.specs.Runs.{RunsAsPicked}
+use Rattle.cf_build.specs.Solves.{IsSolveOf}
 
 -- what the functions of a program allow a call of function number f to do
 abbrev pub SourceAllows : List DefTree → ℕ → List Value → Outcome → Type 0
@@ -24,23 +28,24 @@ SourceAllows defs f = ProgramAllows (map (λ d. d.body) defs) f
 abbrev pub lowered_def : DefTree → DefTree
 lowered_def d = record { name = d.name; params = d.params; results = d.results; body = lowered d.body }
 
--- the code is main's body with its calls unfolded, and each choose replaced by the solve with the arms of its cases
-pub record IsUnfolded (defs : List DefTree) (main : ℕ) (code : CodeTree) : Type 0 where
-  pub solves : ℕ → CodeTree
-  pub solve : (q : Question) → Contains (all_questions defs) q → solves q.number ≡ solve_of q
-  pub is : code ≡ called (codes_behind solves [] (map lowered_def defs)) main
+-- main's body with its calls unfolded, and each choose replaced by the solve with the arms of its cases
+abbrev pub unfolded_code : List DefTree → ℕ → CodeTree
+unfolded_code defs main = called (codes_behind solve_of [] (map lowered_def defs)) main
 
--- no choose of the program is refused, and the target has main's parameters and results, a spelling, main's unfolded code, and in each environment
--- an outcome that the source allows
+-- a target with main's parameters and results and main's unfolded code, which is well typed and has a spelling; each choose of the program is within
+-- the limits, and its arms solve it; in each environment the target has an outcome that the source allows, and where no number in it passes 2^127 - 1,
+-- the target runs as the source picks
 pub record IsBuilt (defs : List DefTree) (main : ℕ) (t : RawTarget) : Type 0 where
   pub like_main : (d : DefTree) × (slice_get defs main ≡ Some d) × (t.params.items ≡ bases_of d.params) × (t.results.items ≡ d.results)
+  pub unfolded : code_tree t.code ≡ unfolded_code defs main
+  pub typed : IsWellTyped t
   pub spelled : HasSpelling t
-  pub solved : (q : Question) → Contains (all_questions defs) q → limit_of q ≡ None
-  pub unfolded : IsUnfolded defs main (code_tree t.code)
+  pub solved : (q : Question) → Contains (all_questions defs) q → IsSolveOf q (solve_of q)
   pub allowed : (env : List Value) → HaveBases t.params.items env → SourceAllows defs main env (means (code_tree t.code) env)
+  pub runs : (env : List Value) → HaveBases t.params.items env → AreSmall limit env → RunsAsPicked defs main (code_tree t.code) env
 
 -- the target of a program, or its first choose that is refused, or want of memory
-abbrev pub Tells : List DefTree → ℕ → Result RawTarget BuildFault → Type 0
-Tells defs main (Ok t) = IsBuilt defs main t
-Tells defs main (Err (Choose n r)) = IsFirstRefused (all_questions defs) n r
-Tells defs main (Err NoMemory) = Unit {0}
+abbrev pub BuildAnswer : List DefTree → ℕ → Result RawTarget BuildFault → Type 0
+BuildAnswer defs main (Ok t) = IsBuilt defs main t
+BuildAnswer defs main (Err (Choose n r)) = IsFirstRefused (all_questions defs) n r
+BuildAnswer defs main (Err NoMemory) = Unit {0}

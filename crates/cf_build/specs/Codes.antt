@@ -7,6 +7,8 @@ use Rattle.cf_tree.specs.DefView.{DefTree}
 use Rattle.cf_tree.specs.ExprTree.{ExprTree, expr_lit, expr_truth, expr_var, expr_set_of, expr_tuple, expr_neg, expr_not, expr_abs, expr_binary, expr_divides, expr_div, expr_mod, expr_card, expr_if, expr_call, expr_let, expr_choose, expr_match, ExprTrees, no_exprs, expr_more}
 use Rattle.cf_tree.specs.CodeView.{code_tree}
 use Rattle.cf_build.specs.declared.solves.ChooseCode.{ChooseCode}
+use Rattle.cf_program.specs.Names.{bases_of}
+use Rattle.cf_build.specs.Questions.{Question}
 use Rattle.cf_build.specs.Shifted.{shifted}
 
 abbrev pub two : CodeTree → CodeTree → CodeTrees
@@ -55,8 +57,8 @@ call_code n no_codes body = body
 call_code n (code_more c cs) body = code_let n (count (code_more c cs)) (joined_code (code_more c cs)) body
 
 abbrev mutual
-  -- the code of an expression behind n variables, where `calls` holds the codes of the functions before, and `solves` those of the chooses
-  pub code_of : (ℕ → CodeTree) → (ℕ → CodeTree) → ℕ → ExprTree → CodeTree
+  -- the code of an expression behind n variables, where `calls` holds the codes of the functions before, and `solves` that of each choose
+  pub code_of : (ℕ → CodeTree) → (Question → CodeTree) → ℕ → ExprTree → CodeTree
   code_of calls solves n (expr_lit k) = code_lit k
   code_of calls solves n (expr_truth t) = code_truth t
   code_of calls solves n (expr_var x) = code_var x
@@ -73,10 +75,10 @@ abbrev mutual
   code_of calls solves n (expr_if t a b) = code_if (code_of calls solves n t) (code_of calls solves n a) (code_of calls solves n b)
   code_of calls solves n (expr_call f es) = call_code n (codes_of_all calls solves n es) (shifted n (calls f))
   code_of calls solves n (expr_let m a b) = code_let n m (code_of calls solves n a) (code_of calls solves (n + m) b)
-  code_of calls solves n (expr_choose m scope outputs rel) = shifted 0 (solves m)
+  code_of calls solves n (expr_choose m scope outputs rel) = solves (record { number = m; scope = bases_of scope; outputs = outputs; relation = rel })
   code_of calls solves n (expr_match m scope a arms) = code_tuple no_codes
 
-  pub codes_of_all : (ℕ → CodeTree) → (ℕ → CodeTree) → ℕ → ExprTrees → CodeTrees
+  pub codes_of_all : (ℕ → CodeTree) → (Question → CodeTree) → ℕ → ExprTrees → CodeTrees
   codes_of_all calls solves n no_exprs = no_codes
   codes_of_all calls solves n (expr_more e es) = code_more (code_of calls solves n e) (codes_of_all calls solves n es)
 
@@ -92,12 +94,16 @@ called codes f = or_nothing (slice_get codes f)
 abbrev pub choose_code : ChooseCode → ℕ × CodeTree
 choose_code c = (c.number, code_tree c.code)
 
--- the code of a choose number
-abbrev pub solved_in : List (ℕ × CodeTree) → ℕ → CodeTree
-solved_in [] m = code_tuple no_codes
-solved_in (s ∷ ss) m = if s.0 == m then s.1 else solved_in ss m
+-- the code of choose number m
+abbrev pub numbered : List (ℕ × CodeTree) → ℕ → CodeTree
+numbered [] m = code_tuple no_codes
+numbered (s ∷ ss) m = if s.0 == m then s.1 else numbered ss m
+
+-- the code of a choose, which is found by its number
+abbrev pub solved_in : List (ℕ × CodeTree) → Question → CodeTree
+solved_in ss q = numbered ss q.number
 
 -- the codes of functions in the order of the text, where `known` holds those of the functions before
-abbrev pub codes_behind : (ℕ → CodeTree) → List CodeTree → List DefTree → List CodeTree
+abbrev pub codes_behind : (Question → CodeTree) → List CodeTree → List DefTree → List CodeTree
 codes_behind solves known [] = known
 codes_behind solves known (d ∷ ds) = codes_behind solves (known ++ code_of (called known) solves (length d.params) d.body ∷ []) ds

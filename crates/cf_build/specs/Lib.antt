@@ -1,5 +1,6 @@
 pub mod Built
 pub mod Codes
 pub mod Questions
+pub mod Runs
 pub mod Shifted
 pub mod Solves

@@ -2,12 +2,13 @@
 use Rattle.std.specs.Prelude.{ℕ, ◌<◌, ◌≡◌, List, [], ◌∷◌, ◌++◌, Option, Some, None, Contains}
 use Rattle.cf_tree.specs.declared.base.Base.{Base}
 use Rattle.cf_tree.specs.DefView.{DefTree}
+use Rattle.cf_tree.specs.CodeTree.{CodeTree, ArmTrees, code_solve, arms_of}
 use Rattle.cf_tree.specs.ExprTree.{ExprTree, expr_lit, expr_truth, expr_var, expr_set_of, expr_tuple, expr_neg, expr_not, expr_abs, expr_binary, expr_divides, expr_div, expr_mod, expr_card, expr_if, expr_call, expr_let, expr_choose, expr_match, ExprTrees, no_exprs, expr_more, match_arm, MatchArmTrees, no_match_arms, match_arm_more}
 use Rattle.cf_tree.specs.RelTree.{RelTree}
-use Rattle.cf_type.specs.Lowered.{lowered}
-use Rattle.cf_type.specs.Names.{bases_of}
+use Rattle.cf_program.specs.Lowered.{lowered}
+use Rattle.cf_program.specs.Names.{bases_of}
 use Rattle.cf_linear.specs.declared.refusal.Refusal.{Refusal}
-use Rattle.cf_linear.specs.Chooses.{limit}
+use Rattle.cf_linear.specs.Chooses.{arms, limit}
 
 -- a choose: its number, the bases of its scope and of its outputs, and its relation
 pub record Question : Type 0 where
@@ -18,6 +19,14 @@ pub record Question : Type 0 where
 
 abbrev pub limit_of : Question → Option Refusal
 limit_of q = limit q.scope q.outputs q.relation
+
+-- the arms of a choose, one for each case of its relation
+abbrev pub question_arms : Question → ArmTrees
+question_arms q = arms_of (arms q.scope q.outputs q.relation)
+
+-- the solve with these arms
+abbrev pub solve_of : Question → CodeTree
+solve_of q = code_solve q.number (question_arms q)
 
 -- the chooses in an expression, in the order of the text
 abbrev mutual

@@ -1,6 +1,6 @@
 -- Chooses that may be solved, and what their codes keep.
 use Rattle.std.specs.Prelude.{ℕ, ◌≤◌, ◌<◌, ◌≡◌, List, [], ◌∷◌, ◌++◌, length, Some, None, Result, Ok, Err, All}
-use Rattle.cf_tree.specs.CodeTree.{CodeTree, ArmTrees, code_solve, arms_of}
+use Rattle.cf_tree.specs.CodeTree.{CodeTree}
 use Rattle.cf_tree.specs.ExprTree.{ExprTree, expr_lit, expr_truth, expr_var, expr_set_of, expr_tuple, expr_neg, expr_not, expr_abs, expr_binary, expr_divides, expr_div, expr_mod, expr_card, expr_if, expr_call, expr_let, expr_choose, expr_match, ExprTrees, no_exprs, expr_more}
 use Rattle.cf_tree.specs.Relation.{IsTyped, IsLinear}
 use Rattle.cf_tree.specs.Spelled.{IsSpelled}
@@ -9,14 +9,13 @@ use Rattle.cf_tree.specs.CodeView.{code_tree}
 use Rattle.cf_tree.specs.DefView.{DefTree}
 use Rattle.cf_tree.specs.RelView.{rel_tree}
 use Rattle.cf_tree.specs.declared.code.Code.{Code}
-use Rattle.cf_linear.specs.Chooses.{arms}
 use Rattle.cf_linear.specs.declared.refusal.Refusal.{Refusal}
 use Rattle.cf_choose.specs.declared.fault.ChooseFault.{ChooseFault}
 use Rattle.cf_choose.specs.declared.fault.ChooseFault.TheVariants.{Refused, NoMemory}
 use Rattle.cf_build.specs.declared.chooses.Choose.{Choose as ChooseParts}
 use Rattle.cf_build.specs.declared.fault.BuildFault.{BuildFault}
 use Rattle.cf_build.specs.declared.fault.BuildFault.TheVariants as faults
-use Rattle.cf_build.specs.Questions.{Question, questions, limit_of, IsFirstRefused}
+use Rattle.cf_build.specs.Questions.{Question, questions, limit_of, question_arms, solve_of, IsFirstRefused}
 
 -- a choose of a typed program
 pub record IsAsked (q : Question) : Type 0 where
@@ -26,25 +25,19 @@ pub record IsAsked (q : Question) : Type 0 where
   pub typed : IsTyped (q.scope ++ q.outputs) q.relation
   pub linear : IsLinear q.relation
 
--- the arms of a choose, one for each case of its relation
-abbrev pub question_arms : Question → ArmTrees
-question_arms q = arms_of (arms q.scope q.outputs q.relation)
-
-abbrev pub solve_of : Question → CodeTree
-solve_of q = code_solve q.number (question_arms q)
-
--- the solve of the choose, whose arms solve it
+-- the solve of a choose that passes no limit, whose arms solve it
 pub record IsSolveOf (q : Question) (c : CodeTree) : Type 0 where
   pub code : c ≡ solve_of q
+  pub within : limit_of q ≡ None
   pub solved : ArmsSolve q.scope q.outputs q.relation (question_arms q)
   pub spelled : IsSpelled c
 
--- the codes of chooses in order, none of which is refused
+-- the codes of chooses in order
 abbrev pub AreSolved : List Question → List (ℕ × CodeTree) → Type 0
 AreSolved [] [] = Unit {0}
 AreSolved [] (s ∷ ss) = ⊥
 AreSolved (q ∷ qs) [] = ⊥
-AreSolved (q ∷ qs) (s ∷ ss) = (s.0 ≡ q.number) × IsSolveOf q s.1 × (limit_of q ≡ None) × AreSolved qs ss
+AreSolved (q ∷ qs) (s ∷ ss) = (s.0 ≡ q.number) × IsSolveOf q s.1 × AreSolved qs ss
 
 -- no match stands in an expression
 abbrev mutual
@@ -81,15 +74,15 @@ questions_of [] = []
 questions_of (d ∷ ds) = questions d.body ++ questions_of ds
 
 -- a choose is solved, or its first limit refuses it, or memory ran out
-abbrev pub TellsOne : Question → Result Code ChooseFault → Type 0
-TellsOne q (Ok c) = IsSolveOf q (code_tree c) × (limit_of q ≡ None)
-TellsOne q (Err (Refused r)) = limit_of q ≡ Some r
-TellsOne q (Err NoMemory) = Unit {0}
+abbrev pub QuestionAnswer : Question → Result Code ChooseFault → Type 0
+QuestionAnswer q (Ok c) = IsSolveOf q (code_tree c)
+QuestionAnswer q (Err (Refused r)) = limit_of q ≡ Some r
+QuestionAnswer q (Err NoMemory) = Unit {0}
 
 -- the first of the chooses that is refused, or memory ran out
-abbrev pub TellsFault : List Question → BuildFault → Type 0
-TellsFault qs (faults.Choose n r) = IsFirstRefused qs n r
-TellsFault qs faults.NoMemory = Unit {0}
+abbrev pub FaultAnswer : List Question → BuildFault → Type 0
+FaultAnswer qs (faults.Choose n r) = IsFirstRefused qs n r
+FaultAnswer qs faults.NoMemory = Unit {0}
 
 -- the first of a refused choose and of another one
 pub data IsNext (q : Question) (n : ℕ) (r : Refusal) : ℕ → Refusal → Type 0 where

@@ -4,8 +4,8 @@ ghost use Rattle.cf_tree.specs.CodeView.{code_tree};
 ghost use Rattle.cf_tree.specs.DefView.{def_tree};
 ghost use Rattle.cf_tree.specs.ExprView.{expr_tree};
 ghost use Rattle.cf_tree.specs.Typing.{IsTypedCode};
-ghost use Rattle.cf_type.specs.Names.{bases_of};
-ghost use Rattle.cf_build.specs.Built.{Tells, IsBuilt};
+ghost use Rattle.cf_program.specs.Names.{bases_of};
+ghost use Rattle.cf_build.specs.Built.{BuildAnswer, IsBuilt};
 ghost use Rattle.cf_build.specs.Codes.{called, choose_code, code_of, codes_behind, solved_in};
 ghost use Rattle.cf_build.specs.Shifted.{HasLevels};
 ghost use Rattle.cf_build.specs.Solves.{questions_of, AreSolved, HasNoMatch};
@@ -14,18 +14,21 @@ use crate::chooses::{bases, collect};
 use crate::codes::code;
 use crate::fault::BuildFault;
 use crate::solves::{ChooseCode, solve_all};
+use cf_program::typed::Typed;
 use cf_tree::code::Code;
 use cf_tree::expr::Def;
 use cf_tree::memory::NoMemory;
 use cf_tree::target::{RawTarget, Target};
-use cf_type::typed::Typed;
 use std::alloc::Global;
 
 /// The target of a program: main's body, with its calls unfolded, its matches as chooses, and each
-/// choose replaced by its solved code; or the first choose that is refused. Every choose of every function
-/// is solved, called or not.
+/// choose replaced by the `solve` with the arms of its cases. Every choose of every function is
+/// solved, called or not.
+///
+/// # Errors
+/// The refused choose with the least number, with the first limit that it passes; or want of memory.
 pub fn build(alloc: Global, typed: &Typed) -> Result<Target, BuildFault>
-    ensures { Tells (map def_tree typed.now.defs.items) typed.now.main result }
+    ensures { BuildAnswer (map def_tree typed.now.defs.items) typed.now.main result }
 {
     let chooses = collect(alloc, typed.defs())?;
     match solve_all(alloc, &chooses) {

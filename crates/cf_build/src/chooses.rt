@@ -5,7 +5,7 @@ ghost use Rattle.std.specs.Prelude.{◌≡◌, ◌++◌, IfOk, OnOk, map, All};
 ghost use Rattle.cf_tree.specs.DefView.{def_tree};
 ghost use Rattle.cf_tree.specs.ExprView.{expr_tree, expr_trees};
 ghost use Rattle.cf_tree.specs.RelView.{rel_tree};
-ghost use Rattle.cf_type.specs.Names.{bases_of};
+ghost use Rattle.cf_program.specs.Names.{bases_of};
 ghost use Rattle.cf_build.specs.Questions.{questions, questions_all};
 ghost use Rattle.cf_build.specs.Solves.{question_of, questions_of, HasNoMatch, HaveNoMatch};
 

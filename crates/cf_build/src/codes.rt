@@ -5,11 +5,11 @@ ghost use Rattle.std.specs.Prelude.{◌≡◌, ◌+◌, ◌<◌, ◌^◌, ◌∷
 ghost use Rattle.cf_tree.specs.CodeTree.{code_max, code_neg, code_var};
 ghost use Rattle.cf_tree.specs.CodeView.{code_tree, code_trees};
 ghost use Rattle.cf_tree.specs.ExprView.{expr_tree, expr_trees};
-ghost use Rattle.cf_build.specs.Codes.{two, over_list, over_one, binary_code, joined_code, call_code, code_of, codes_of_all, called, choose_code, solved_in};
+ghost use Rattle.cf_build.specs.Codes.{two, over_list, over_one, binary_code, joined_code, call_code, code_of, codes_of_all, called, choose_code, numbered, solved_in};
 ghost use Rattle.cf_build.specs.Shifted.{shifted, HasLevels, HaveLevels};
 
 use crate::not_built;
-use crate::shift::{level, shift};
+use crate::shift::{copy, level_sum, shift};
 use crate::solves::ChooseCode;
 use cf_tree::code::Code;
 use cf_tree::expr::Expr;
@@ -74,9 +74,9 @@ pub(crate) fn code(
             first: n,
             count: *count,
             value: boxed(alloc, value, n, codes, solves)?,
-            body: boxed(alloc, body, level(n, *count)?, codes, solves)?,
+            body: boxed(alloc, body, level_sum(n, *count)?, codes, solves)?,
         }),
-        Expr::Choose { number, .. } => solve_code(alloc, solves, *number),
+        Expr::Choose { number, .. } => solve_numbered(alloc, solves, *number),
         Expr::Match { .. } => Err(not_built()),
     }
 }
@@ -225,7 +225,7 @@ fn count_of(args: &[Code], n: u32) -> Result<u32, NoMemory>
     let Ok(count) = u32::try_from(args.len()) else {
         return Err(NoMemory);
     };
-    level(n, count)?;
+    level_sum(n, count)?;
     Ok(count)
 }
 
@@ -245,13 +245,13 @@ fn joined(mut codes: Vec<Code>) -> Code
 }
 
 // The code of choose number `number`.
-fn solve_code(alloc: Global, solves: &[ChooseCode], number: u32) -> Result<Code, NoMemory>
-    ensures code { IfOk result (λ c. code_tree c ≡ shifted 0 (solved_in (map choose_code solves.now) number)) }
+fn solve_numbered(alloc: Global, solves: &[ChooseCode], number: u32) -> Result<Code, NoMemory>
+    ensures code { IfOk result (λ c. code_tree c ≡ numbered (map choose_code solves.now) number) }
     ensures levels { IfOk result (λ c. HasLevels (code_tree c)) }
 {
     for solve in solves {
         if solve.number == number {
-            return shift(alloc, &solve.code, 0);
+            return copy(alloc, &solve.code);
         }
     }
     Ok(Code::Tuple(Vec::new(alloc)))

@@ -3,10 +3,13 @@ use cf_linear::refusal::Refusal;
 use cf_tree::memory::NoMemory;
 use std::alloc::{AllocError, AllocFailed};
 
-/// The first choose that is refused, with its refusal, or want of memory.
+/// Why a program is not built.
 #[derive(Clone, Copy, Debug, PartialEq, Eq)]
 pub enum BuildFault {
+    /// The choose with this number passes a limit, and none with a smaller number does. The refusal is
+    /// the first limit that it passes.
     Choose { number: u32, refusal: Refusal },
+    /// Memory ran out, or a form is not built yet.
     NoMemory,
 }
 

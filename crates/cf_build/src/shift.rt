@@ -9,7 +9,7 @@ use cf_tree::memory::NoMemory;
 use std::alloc::Global;
 
 // The sum of two levels. More variables than 32 bits count are want of memory.
-pub(crate) fn level(a: u32, b: u32) -> Result<u32, NoMemory>
+pub(crate) fn level_sum(a: u32, b: u32) -> Result<u32, NoMemory>
     ensures { IfOk result (λ n. n ≡ a + b) }
 {
     match a.checked_add(b) {
@@ -27,7 +27,7 @@ pub(crate) fn shift(alloc: Global, code: &Code, by: u32) -> Result<Code, NoMemor
     match code {
         Code::Lit(k) => Ok(Code::Lit(*k)),
         Code::Truth(t) => Ok(Code::Truth(*t)),
-        Code::Var(x) => Ok(Code::Var(level(by, *x)?)),
+        Code::Var(x) => Ok(Code::Var(level_sum(by, *x)?)),
         Code::SetOf(parts)
         | Code::Tuple(parts)
         | Code::Sum(parts)
@@ -100,6 +100,14 @@ pub(crate) fn shift(alloc: Global, code: &Code, by: u32) -> Result<Code, NoMemor
             arms: shift_arms(alloc, arms, by)?,
         }),
     }
+}
+
+// A copy of the code, whose levels fit.
+pub(crate) fn copy(alloc: Global, code: &Code) -> Result<Code, NoMemory>
+    ensures code { IfOk result (λ new. code_tree new ≡ code_tree code.now) }
+    ensures levels { IfOk result (λ new. HasLevels (code_tree new)) }
+{
+    shift(alloc, code, 0)
 }
 
 // The form of the code behind `by` more variables, over a list of its parts behind them.
@@ -190,8 +198,8 @@ fn over_three(code: &Code, by: u32, a: Box<Code>, b: Box<Code>, c: Box<Code>) ->
 fn first_level(by: u32, first: u32, count: u32) -> Result<u32, NoMemory>
     ensures { IfOk result (λ n. (n ≡ by + first) × (n + count < 2 ^ 32)) }
 {
-    let n = level(by, first)?;
-    level(n, count)?;
+    let n = level_sum(by, first)?;
+    level_sum(n, count)?;
     Ok(n)
 }
 

@@ -1,11 +1,11 @@
 //! Solving all chooses of a program.
-ghost use Rattle.std.specs.Prelude.{◌≡◌, ◌≤◌, IfOk, IfErr, map, length, take, All};
-ghost use Rattle.cf_tree.specs.CodeView.{arm_tree, code_tree};
+ghost use Rattle.std.specs.Prelude.{◌≡◌, ◌≤◌, None, IfOk, IfErr, map, length, take, All};
+ghost use Rattle.cf_tree.specs.CodeView.{code_tree};
 ghost use Rattle.cf_tree.specs.RelView.{rel_tree};
-ghost use Rattle.cf_linear.specs.Chooses.{arms};
+ghost use Rattle.cf_linear.specs.Chooses.{limit};
 ghost use Rattle.cf_build.specs.Codes.{choose_code};
 ghost use Rattle.cf_build.specs.Questions.{IsFirstRefused};
-ghost use Rattle.cf_build.specs.Solves.{question_of, IsAsked, IsSolveOf, AreSolved, TellsOne, TellsFault, IsNext};
+ghost use Rattle.cf_build.specs.Solves.{question_of, IsAsked, IsSolveOf, AreSolved, QuestionAnswer, FaultAnswer, IsNext};
 
 use crate::chooses::Choose;
 use crate::fault::BuildFault;
@@ -35,7 +35,7 @@ struct Refused {
 pub(crate) fn solve_all(alloc: Global, chooses: &[Choose]) -> Result<Vec<ChooseCode>, BuildFault>
     requires { All (λ c. IsAsked (question_of c)) chooses.now }
     ensures solved { IfOk result (λ solves. AreSolved (map question_of chooses.now) (map choose_code solves.items)) }
-    ensures refused { IfErr result (TellsFault (map question_of chooses.now)) }
+    ensures refused { IfErr result (FaultAnswer (map question_of chooses.now)) }
 {
     let mut solves = Vec::new(alloc);
     for i in 0..chooses.len() {
@@ -57,7 +57,7 @@ fn first_refused(alloc: Global, chooses: &[Choose], seen: usize, refused: Refuse
     requires asked { All (λ c. IsAsked (question_of c)) chooses.now }
     requires known { IsFirstRefused (map question_of (take seen chooses.now)) refused.number refused.refusal }
     requires within { seen ≤ length chooses.now }
-    ensures { TellsFault (map question_of chooses.now) result }
+    ensures { FaultAnswer (map question_of chooses.now) result }
 {
     let mut first = refused;
     for i in seen..chooses.len() {
@@ -91,20 +91,20 @@ fn earlier(alloc: Global, choose: &Choose, first: Refused) -> Result<Refused, No
 // The code of a choose, or its refusal.
 fn solve_one(alloc: Global, choose: &Choose) -> Result<Code, ChooseFault>
     requires { IsAsked (question_of choose.now) }
-    ensures { TellsOne (question_of choose.now) result }
+    ensures { QuestionAnswer (question_of choose.now) result }
 {
     match solve(alloc, &choose.scope, &choose.outputs, &choose.rel) {
-        Ok(solved) => Ok(solve_code(alloc, choose.number, &solved)?),
+        Ok(solved) => Ok(solve_code(choose.number, solved)),
         Err(fault) => Err(fault),
     }
 }
 
 // The code of a solved choose.
-fn solve_code(alloc: Global, number: u32, solved: &Solved) -> Result<Code, NoMemory>
+fn solve_code(number: u32, solved: Solved) -> Code
     requires positive { 1 ≤ number }
-    requires several { 1 ≤ length solved.now.outputs.items }
-    requires arms { map arm_tree solved.now.arms.items ≡ arms solved.now.scope.items solved.now.outputs.items (rel_tree solved.now.rel) }
-    ensures { IfOk result (λ c. IsSolveOf (record { number = number; scope = solved.now.scope.items; outputs = solved.now.outputs.items; relation = rel_tree solved.now.rel }) (code_tree c)) }
+    requires several { 1 ≤ length solved.outputs.items }
+    ensures code { IsSolveOf (record { number = number; scope = solved.scope.items; outputs = solved.outputs.items; relation = rel_tree solved.rel }) (code_tree result) }
+    ensures limit { limit solved.scope.items solved.outputs.items (rel_tree solved.rel) ≡ None }
 {
-    solved.code(alloc, number)
+    solved.into_code(number)
 }

@@ -1,7 +1,7 @@
 use Rattle.std.proofs.Common.{◌≡◌, map, All, sym, subst}
 use Rattle.cf_tree.specs.DefView.{def_tree}
 use Rattle.cf_tree.specs.ExprView.{expr_tree}
-use Rattle.cf_build.specs.Solves.{HasNoMatch, IsAsked, TellsFault, question_of, questions_of}
+use Rattle.cf_build.specs.Solves.{HasNoMatch, IsAsked, FaultAnswer, question_of, questions_of}
 use Rattle.cf_build.proofs.Building.{all_asked, tells_fault}
 use Rattle.cf_build.proofs.build.build.Goals as goal
 
@@ -16,4 +16,4 @@ returns c =
     let plain = subst (λ ds. All (λ d. HasNoMatch (expr_tree d.body)) ds) c.defs.ensures.value c.in_ok-chooses.ensures.no_match in
     let found = subst (λ ds. map question_of c.in_ok-chooses.chooses.items ≡ questions_of (map def_tree ds)) c.defs.ensures.value c.in_ok-chooses.ensures.questions in
     tells_fault c.args.typed.now.defs.items c.args.typed.now.main c.defs.ensures.typed plain c.in_ok-chooses.chooses.items found c.in-Err.fault
-    (subst (λ xs. TellsFault (map question_of xs) c.in-Err.fault) c.deref.ensures.value c.in-Err.ensures.refused)
+    (subst (λ xs. FaultAnswer (map question_of xs) c.in-Err.fault) c.deref.ensures.value c.in-Err.ensures.refused)

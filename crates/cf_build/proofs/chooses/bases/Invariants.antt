@@ -1,5 +1,5 @@
 use Rattle.std.proofs.Common.{◌≡◌, take}
-use Rattle.cf_type.specs.Names.{bases_of}
+use Rattle.cf_program.specs.Names.{bases_of}
 use Rattle.cf_build.proofs.chooses.bases.Given as goal
 
 abbrev pub invariant-loop-param : goal.invariant-loop-param

@@ -10,7 +10,7 @@ returns-then-first-number c = stays (λ less. absurd (omega (arith, less, c.if-f
 pub returns : goal.returns
 returns c =
     elim c.match-solve_one.branch [
-      | in-Ok w ↦ rw w.result-is (stays (λ less. w.in-Ok.ensures.1))
+      | in-Ok w ↦ rw w.result-is (stays (λ less. w.in-Ok.ensures.within))
       | in-Err-Refused w ↦
           let refused : limit_of (question_of c.args.choose.now) ≡ Some w.in-Err-Refused.refusal = rw w.in-Err-Refused.field-0-is at w.in-Err-Refused.ensures in
           rw (w.result-is, w.in-Err-Refused.refusal-is) (sooner c.if-first-number.false refused)

@@ -15,4 +15,4 @@ pub loop-i-preserved : goal.loop-i-preserved
 loop-i-preserved c =
     let x = c.index-chooses-i.result in
     solves_more c.args.chooses.now c.loop-i.i x c.loop-i.solves.items c.push.new.self.items _ c.loop-i-test.true c.index-chooses-i.is c.loop-i.invariant
-    c.in_ok-push-in-Ok.ensures.items refl c.in-Ok.ensures.0 c.in-Ok.ensures.1
+    c.in_ok-push-in-Ok.ensures.items refl c.in-Ok.ensures
