@@ -43,7 +43,7 @@ sink_failed s = record s { calls = one_more s.calls; faults = one_more s.faults 
 abbrev pub sink_took : SinkState → List ℕ → ℕ → SinkState
 sink_took s piece count = record s { held = s.held ++ take count piece; room = s.room - count; calls = one_more s.calls }
 
--- the texts with their names in order, what is left of the fetched one, and the rest as above
+-- the texts with their names in order, what is left of the fetched one, the number of fetches, and the rest as above
 pub record ShelfState : Type 0 where
   pub names : List (List ℕ)
   pub texts : List (List ℕ)
@@ -51,17 +51,23 @@ pub record ShelfState : Type 0 where
   pub fails : List ℕ
   pub calls : ℕ
   pub faults : ℕ
+  pub fetches : ℕ
 
 abbrev pub shelf_of : MemShelf → ShelfState
-shelf_of s = record { names = s.names.items; texts = s.texts.items; left = drop s.at (text_at s.texts.items s.place); fails = s.fails.items; calls = s.calls; faults = s.faults }
+shelf_of s =
+    record { names = s.names.items; texts = s.texts.items; left = drop s.at (text_at s.texts.items s.place); fails = s.fails.items; calls = s.calls; faults = s.faults; fetches = s.fetches }
 
--- after a call that failed
+-- after a read that failed
 abbrev pub shelf_failed : ShelfState → ShelfState
 shelf_failed s = record s { calls = one_more s.calls; faults = one_more s.faults }
 
+-- after a fetch that failed
+abbrev pub shelf_refused : ShelfState → ShelfState
+shelf_refused s = record s { calls = one_more s.calls; faults = one_more s.faults; fetches = one_more s.fetches }
+
 -- after this text was fetched
 abbrev pub shelf_fetched : ShelfState → List ℕ → ShelfState
-shelf_fetched s text = record s { left = text; calls = one_more s.calls }
+shelf_fetched s text = record s { left = text; calls = one_more s.calls; fetches = one_more s.fetches }
 
 -- after a read that gave so many bytes
 abbrev pub shelf_gave : ShelfState → ℕ → ShelfState

@@ -12,6 +12,10 @@ sure_text s = s.text.items
 abbrev pub sure_left : SureShelf → List ℕ
 sure_left s = drop s.at s.text.items
 
+-- how often a text was fetched
+abbrev pub sure_fetches : SureShelf → ℕ
+sure_fetches s = s.fetches
+
 -- the bytes that are left
 abbrev pub sure_bytes : SureSource → List ℕ
 sure_bytes s = drop s.at s.bytes.items

@@ -5,6 +5,7 @@ ghost use Rattle.cf_io.specs.Limits.{line_limit, input_limit};
 ghost use Rattle.cf_io.specs.Lines.{rest_of, last_of};
 ghost use Rattle.cf_io.specs.Segments.{rest_from};
 
+use crate::limits::{longest_input, longest_line};
 use crate::line::{Fed, Line};
 use crate::segments::{ended_lines, last_start};
 use cf_tree::base::Bytes;
@@ -58,7 +59,7 @@ impl Cutter {
         ensures full { IfOk result (λ fed. (fed ≡ Fed.Full) ↔ (input_limit < self.old.total + length piece.now)) }
         ensures err { OnErr result ((self.new ≡ self.old) × (lines.new.items ≡ lines.old.items)) }
     {
-        self.feed_within(piece, lines, longest_line(), longest_input())
+        self.feed_within(piece, lines, longest_line(), longest_input() as u64)
     }
 
     fn feed_within(
@@ -119,22 +120,6 @@ impl Cutter {
     {
         finish_within(self, lines, longest_line())
     }
-}
-
-// The most bytes of a line, without its end.
-#[tactic(auto, unfolding(crate::specs::Limits::line_limit))]
-fn longest_line() -> usize
-    ensures { result ≡ line_limit }
-{
-    65536
-}
-
-// The most bytes of the input.
-#[tactic(auto, unfolding(crate::specs::Limits::input_limit))]
-fn longest_input() -> u64
-    ensures { result ≡ input_limit }
-{
-    16777216
 }
 
 fn finish_within(cutter: Cutter, lines: &mut Vec<Line>, limit: usize) -> Result<(), NoMemory>

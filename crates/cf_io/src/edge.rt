@@ -1,5 +1,7 @@
 //! The trusted edge: files and the standard streams. These objects tell no content.
-ghost use Rattle.std.specs.Prelude.{◌≡◌, ◌<◌, ◌^◌, None};
+ghost use Rattle.std.specs.Prelude.{◌≡◌, ◌<◌, ◌^◌, None, IfOk};
+ghost use Rattle.std.specs.Io.{ReadsAtMost, WritesAtMost};
+ghost use Rattle.std.specs.Io.KnownBytes.{ReadConsumes, WriteAppends};
 
 use crate::faults::{Failed, FetchFault};
 use crate::traits::{Shelf, Sink, Source};
@@ -8,7 +10,42 @@ use std::fs;
 use std::io::{ErrorKind, Read, Write};
 use std::rt::Files;
 
-/// A source over a reader, as the standard input.
+// How often an interrupted call is tried again before it counts as a fault.
+const MOST_TRIES: u32 = 65_536;
+
+// One read, tried again where it was interrupted.
+fn read_again<R: Read>(inner: &mut R, into: &mut [u8]) -> Result<usize, Failed>
+    ensures bound { ReadsAtMost result into.new }
+    ensures bytes { ReadConsumes (R.remaining inner.old) (R.remaining inner.new) result into.new }
+{
+    'tries: for _ in 0..MOST_TRIES {
+        match inner.read(into) {
+            Ok(count) => return Ok(count),
+            Err(fault) if fault.kind() == ErrorKind::Interrupted => {}
+            Err(_) => return Err(Failed),
+        }
+    }
+    Err(Failed)
+}
+
+// One write, tried again where it was interrupted. A writer that takes nothing failed.
+fn write_again<W: Write>(inner: &mut W, from: &[u8]) -> Result<usize, Failed>
+    ensures bound { WritesAtMost result from.now }
+    ensures bytes { WriteAppends (W.contents inner.old) (W.contents inner.new) result from.now }
+    ensures some { IfOk result (λ count. 0 < count) }
+{
+    'tries: for _ in 0..MOST_TRIES {
+        match inner.write(from) {
+            Ok(0) => return Err(Failed),
+            Ok(count) => return Ok(count),
+            Err(fault) if fault.kind() == ErrorKind::Interrupted => {}
+            Err(_) => return Err(Failed),
+        }
+    }
+    Err(Failed)
+}
+
+/// A source over a reader, as the standard input. An interrupted call is no fault.
 #[derive(Drop)]
 pub struct ReadSource<R> {
     inner: R,
@@ -27,9 +64,7 @@ impl<R: Read> ReadSource<R> {
 }
 
 impl<R: Read> Source for ReadSource<R> {
-    ghost use Rattle.std.specs.Prelude.{◌≤◌, ℕ, List, is_some, IfOk, OnErr};
-    ghost use Rattle.std.specs.Io.{ReadsAtMost};
-    ghost use Rattle.std.specs.Io.KnownBytes.{ReadConsumes};
+    ghost use Rattle.std.specs.Prelude.{◌≤◌, ℕ, List, is_some, OnOk, OnErr};
     ghost use Rattle.cf_io.specs.Causes.{Rose, ChangesNothing, one_more};
 
     ghost left = { λ s. None };
@@ -44,15 +79,16 @@ impl<R: Read> Source for ReadSource<R> {
         ensures failed { OnErr result (Rose self.old.faults self.new.faults) }
         ensures counts { self.old.faults ≤ self.new.faults }
         ensures last { self.new.faults < 2 ^ 64 }
+        ensures same { OnOk result (self.new.faults ≡ self.old.faults) }
+        ensures once { self.new.faults ≤ one_more self.old.faults }
         // It gives the reader's bytes, and after a fault the reader has left what it had.
         ensures inner { ReadConsumes (R.remaining self.old.inner) (R.remaining self.new.inner) result into.new }
         ensures counted { OnErr result (self.new.faults ≡ one_more self.old.faults) }
-        ensures same { IfOk result (λ count. self.new.faults ≡ self.old.faults) }
     {
         if into.is_empty() {
             return Ok(0);
         }
-        match self.inner.read(into) {
+        match read_again(&mut self.inner, into) {
             Ok(count) => Ok(count),
             Err(_) => {
                 self.faults = self.faults.saturating_add(1);
@@ -62,7 +98,7 @@ impl<R: Read> Source for ReadSource<R> {
     }
 }
 
-/// A sink over a writer, as the standard output.
+/// A sink over a writer, as the standard output. An interrupted call is no fault.
 #[derive(Drop)]
 pub struct WriteSink<W> {
     inner: W,
@@ -81,9 +117,7 @@ impl<W: Write> WriteSink<W> {
 }
 
 impl<W: Write> Sink for WriteSink<W> {
-    ghost use Rattle.std.specs.Prelude.{◌≤◌, ℕ, List, length, is_some, IfOk, OnErr};
-    ghost use Rattle.std.specs.Io.{WritesAtMost};
-    ghost use Rattle.std.specs.Io.KnownBytes.{WriteAppends};
+    ghost use Rattle.std.specs.Prelude.{◌≤◌, ℕ, List, length, is_some, IfOk, OnOk, OnErr};
     ghost use Rattle.cf_io.specs.Causes.{Rose, ChangesNothing, one_more};
 
     ghost held = { λ s. None };
@@ -99,17 +133,18 @@ impl<W: Write> Sink for WriteSink<W> {
         ensures failed { OnErr result (Rose self.old.faults self.new.faults) }
         ensures counts { self.old.faults ≤ self.new.faults }
         ensures last { self.new.faults < 2 ^ 64 }
+        ensures same { OnOk result (self.new.faults ≡ self.old.faults) }
+        ensures once { self.new.faults ≤ one_more self.old.faults }
         // The writer takes the bytes, and after a fault it holds what it held.
         ensures inner { WriteAppends (W.contents self.old.inner) (W.contents self.new.inner) result from.now }
         ensures counted { OnErr result (self.new.faults ≡ one_more self.old.faults) }
-        ensures same { IfOk result (λ count. self.new.faults ≡ self.old.faults) }
     {
         if from.is_empty() {
             return Ok(0);
         }
-        match self.inner.write(from) {
-            Ok(count) if count > 0 => Ok(count),
-            _ => {
+        match write_again(&mut self.inner, from) {
+            Ok(count) => Ok(count),
+            Err(_) => {
                 self.faults = self.faults.saturating_add(1);
                 Err(Failed)
             }
@@ -123,6 +158,7 @@ pub struct FileShelf<'a, R: Files> {
     rt: &'a R,
     file: Option<R::File>,
     faults: u64,
+    fetches: u64,
     ghost counted: { faults < 2 ^ 64 },
 }
 
@@ -131,19 +167,19 @@ impl<'a, R: Files> FileShelf<'a, R> {
     pub fn new(rt: &'a R) -> FileShelf<'a, R>
         ensures file { result.file ≡ None }
         ensures faults { result.faults ≡ 0 }
+        ensures fetches { result.fetches ≡ 0 }
     {
         FileShelf {
             rt,
             file: None,
             faults: 0,
+            fetches: 0,
         }
     }
 }
 
 impl<'a, R: Files> Shelf for FileShelf<'a, R> {
-    ghost use Rattle.std.specs.Prelude.{◌↔◌, ◌≤◌, ℕ, List, Option, is_some, IsSome, IfOk, IfSome, OnOk, OnErr, IsErrOf};
-    ghost use Rattle.std.specs.Io.{ReadsAtMost};
-    ghost use Rattle.std.specs.Io.KnownBytes.{ReadConsumes};
+    ghost use Rattle.std.specs.Prelude.{◌↔◌, ◌≤◌, ℕ, List, Option, is_some, IsSome, IfSome, OnOk, OnErr, IsErrOf};
     ghost use Rattle.cf_io.specs.Causes.{Rose, ChangesNothing, one_more};
 
     ghost text = { λ s name. None };
@@ -153,6 +189,8 @@ impl<'a, R: Files> Shelf for FileShelf<'a, R> {
     ghost faults = { λ s name. s.faults };
 
     ghost turned = { λ s name. Unit {0} };
+
+    ghost fetches = { λ s. s.fetches };
 
     fn fetch(&mut self, alloc: Global, name: &str) -> Result<(), FetchFault>
         ensures start { OnOk result (◌≡◌ {A = Option (List ℕ)} None None) }
@@ -164,13 +202,15 @@ impl<'a, R: Files> Shelf for FileShelf<'a, R> {
         ensures texts { (other : List ℕ) → ◌≡◌ {A = Option (List ℕ)} None None }
         ensures counts { (other : List ℕ) → self.old.faults ≤ self.new.faults }
         ensures last { (other : List ℕ) → self.new.faults < 2 ^ 64 }
+        ensures same { ¬ IsErrOf result FetchFault.Failed → (other : List ℕ) → self.new.faults ≡ self.old.faults }
+        ensures once { (other : List ℕ) → self.new.faults ≤ one_more self.old.faults }
+        ensures asked { self.new.fetches ≡ one_more self.old.fetches }
         ensures opened { OnOk result (IsSome self.new.file) }
         // A file that was not opened leaves the one before it.
         ensures file { OnErr result (self.new.file ≡ self.old.file) }
         ensures counted { IsErrOf result FetchFault.Failed → self.new.faults ≡ one_more self.old.faults }
-        ensures same { OnOk result (self.new.faults ≡ self.old.faults) }
-        ensures memory { IsErrOf result FetchFault.NoMemory → self.new ≡ self.old }
     {
+        self.fetches = self.fetches.saturating_add(1);
         match fs::open(self.rt, name) {
             Ok(file) => {
                 self.file = Some(file);
@@ -196,18 +236,20 @@ impl<'a, R: Files> Shelf for FileShelf<'a, R> {
         ensures texts { (other : List ℕ) → ◌≡◌ {A = Option (List ℕ)} None None }
         ensures counts { (other : List ℕ) → self.old.faults ≤ self.new.faults }
         ensures last { (other : List ℕ) → self.new.faults < 2 ^ 64 }
+        ensures same { OnOk result ((other : List ℕ) → self.new.faults ≡ self.old.faults) }
+        ensures once { (other : List ℕ) → self.new.faults ≤ one_more self.old.faults }
+        ensures asked { self.new.fetches ≡ self.old.fetches }
         // It gives the file's bytes, and after a fault the file has left what it had.
         ensures file { IfSome self.old.file (λ before. IfSome self.new.file (λ after. ReadConsumes (R.File.remaining before) (R.File.remaining after) result into.new)) }
         ensures opened { is_some self.new.file ≡ is_some self.old.file }
         ensures counted { OnErr result (self.new.faults ≡ one_more self.old.faults) }
-        ensures same { IfOk result (λ count. self.new.faults ≡ self.old.faults) }
     {
         if into.is_empty() {
             return Ok(0);
         }
         match &mut self.file {
             None => Ok(0),
-            Some(file) => match file.read(into) {
+            Some(file) => match read_again(file, into) {
                 Ok(count) => Ok(count),
                 Err(_) => {
                     self.faults = self.faults.saturating_add(1);

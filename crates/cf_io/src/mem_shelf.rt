@@ -12,7 +12,7 @@ use std::alloc::Global;
 
 /// A shelf of texts under names, which fails at the listed calls and at names that it does not have.
 ///
-/// It counts its calls from 0, but for reads on an empty slice, and its faults, one number for all names.
+/// It counts its calls from 0, but for reads on an empty slice, its fetches, and its faults, one number for all names.
 /// It is turned to every name. Before the first fetch nothing is left.
 #[derive(Drop)]
 pub struct MemShelf {
@@ -23,6 +23,7 @@ pub struct MemShelf {
     fails: Vec<u64>,
     calls: u64,
     faults: u64,
+    fetches: u64,
     ghost counted: { faults < 2 ^ 64 },
     ghost paired: { vec_len names ≡ vec_len texts },
     ghost within: { at ≤ length (text_at texts.items place) },
@@ -35,7 +36,7 @@ impl MemShelf {
     /// The calls whose numbers are in `fails` are to fail.
     pub fn new(names: Vec<Text>, texts: Vec<Bytes>, fails: Vec<u64>) -> MemShelf
         requires { vec_len names ≡ vec_len texts }
-        ensures { shelf_of result ≡ record { names = names.items; texts = texts.items; left = []; fails = fails.items; calls = 0; faults = 0 } }
+        ensures { shelf_of result ≡ record { names = names.items; texts = texts.items; left = []; fails = fails.items; calls = 0; faults = 0; fetches = 0 } }
     {
         let place = texts.len();
         MemShelf {
@@ -46,12 +47,13 @@ impl MemShelf {
             fails,
             calls: 0,
             faults: 0,
+            fetches: 0,
         }
     }
 }
 
 // Where a name first stands.
-fn place_of(names: &[Text], name: &[u8]) -> Option<usize>
+fn index_of(names: &[Text], name: &[u8]) -> Option<usize>
     ensures { result ≡ position (λ n. bytes_eq n name.now) names.now }
 {
     names.iter().position(|n| n.bytes.as_slice() == name)
@@ -71,9 +73,9 @@ impl Shelf for MemShelf {
     ghost use Rattle.std.specs.Prelude.{◌↔◌, ◌⊎◌, ℕ, List, Some, drop, min, is_some, IfOk, IfErr, IfSome, OnOk, OnErr, IsErr, IsErrOf, IsNone, Contains};
     ghost use Rattle.std.specs.Io.{ReadsAtMost};
     ghost use Rattle.std.specs.Io.KnownBytes.{ReadConsumes};
-    ghost use Rattle.cf_io.specs.Causes.{Rose, ChangesNothing};
+    ghost use Rattle.cf_io.specs.Causes.{Rose, ChangesNothing, one_more};
     ghost use Rattle.cf_io.specs.Texts.{text_under};
-    ghost use Rattle.cf_io.specs.Memory.{shelf_of, shelf_failed, shelf_fetched, shelf_gave};
+    ghost use Rattle.cf_io.specs.Memory.{shelf_of, shelf_failed, shelf_refused, shelf_fetched, shelf_gave};
 
     ghost text = { λ s name. text_under s.names.items s.texts.items name };
 
@@ -82,6 +84,8 @@ impl Shelf for MemShelf {
     ghost faults = { λ s name. s.faults };
 
     ghost turned = { λ s name. Unit {0} };
+
+    ghost fetches = { λ s. s.fetches };
 
     fn fetch(&mut self, alloc: Global, name: &str) -> Result<(), FetchFault>
         ensures start { OnOk result (Some (shelf_of self.new).left ≡ text_under (shelf_of self.old).names (shelf_of self.old).texts name.now) }
@@ -93,19 +97,23 @@ impl Shelf for MemShelf {
         ensures texts { (other : List ℕ) → text_under (shelf_of self.new).names (shelf_of self.new).texts other ≡ text_under (shelf_of self.old).names (shelf_of self.old).texts other }
         ensures counts { (other : List ℕ) → (shelf_of self.old).faults ≤ (shelf_of self.new).faults }
         ensures last { (other : List ℕ) → (shelf_of self.new).faults < 2 ^ 64 }
+        ensures same { ¬ IsErrOf result FetchFault.Failed → (other : List ℕ) → (shelf_of self.new).faults ≡ (shelf_of self.old).faults }
+        ensures once { (other : List ℕ) → (shelf_of self.new).faults ≤ one_more (shelf_of self.old).faults }
+        ensures asked { (shelf_of self.new).fetches ≡ one_more (shelf_of self.old).fetches }
         // It fails exactly where the call is listed or the name is not on the shelf, and never for want of memory.
         ensures listed { IsErr result ↔ (Contains (shelf_of self.old).fails (shelf_of self.old).calls ⊎ IsNone (text_under (shelf_of self.old).names (shelf_of self.old).texts name.now)) }
-        ensures refused { OnErr result (shelf_of self.new ≡ shelf_failed (shelf_of self.old)) }
+        ensures refused { OnErr result (shelf_of self.new ≡ shelf_refused (shelf_of self.old)) }
         ensures fault { IfErr result (λ fault. fault ≡ FetchFault.Failed) }
         ensures fetched { OnOk result (IfSome (text_under (shelf_of self.old).names (shelf_of self.old).texts name.now) (λ text. shelf_of self.new ≡ shelf_fetched (shelf_of self.old) text)) }
     {
         let number = self.calls;
         self.calls = self.calls.saturating_add(1);
+        self.fetches = self.fetches.saturating_add(1);
         if is_listed(&self.fails, number) {
             self.faults = self.faults.saturating_add(1);
             return Err(FetchFault::Failed);
         }
-        match place_of(&self.names, name.as_bytes()) {
+        match index_of(&self.names, name.as_bytes()) {
             Some(place) => {
                 self.place = place;
                 self.at = 0;
@@ -128,6 +136,9 @@ impl Shelf for MemShelf {
         ensures texts { (other : List ℕ) → text_under (shelf_of self.new).names (shelf_of self.new).texts other ≡ text_under (shelf_of self.old).names (shelf_of self.old).texts other }
         ensures counts { (other : List ℕ) → (shelf_of self.old).faults ≤ (shelf_of self.new).faults }
         ensures last { (other : List ℕ) → (shelf_of self.new).faults < 2 ^ 64 }
+        ensures same { OnOk result ((other : List ℕ) → (shelf_of self.new).faults ≡ (shelf_of self.old).faults) }
+        ensures once { (other : List ℕ) → (shelf_of self.new).faults ≤ one_more (shelf_of self.old).faults }
+        ensures asked { (shelf_of self.new).fetches ≡ (shelf_of self.old).fetches }
         // It fails exactly where the call is listed.
         ensures listed { 0 < length into.old → (IsErr result ↔ Contains (shelf_of self.old).fails (shelf_of self.old).calls) }
         ensures refused { OnErr result (shelf_of self.new ≡ shelf_failed (shelf_of self.old)) }

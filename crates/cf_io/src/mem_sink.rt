@@ -47,10 +47,10 @@ impl MemSink {
 }
 
 impl Sink for MemSink {
-    ghost use Rattle.std.specs.Prelude.{◌↔◌, ◌⊎◌, Some, length, min, is_some, OnErr, IsErr, Contains};
+    ghost use Rattle.std.specs.Prelude.{◌↔◌, ◌⊎◌, Some, length, min, is_some, OnOk, OnErr, IsErr, Contains};
     ghost use Rattle.std.specs.Io.{WritesAtMost};
     ghost use Rattle.std.specs.Io.KnownBytes.{WriteAppends};
-    ghost use Rattle.cf_io.specs.Causes.{Rose, ChangesNothing};
+    ghost use Rattle.cf_io.specs.Causes.{Rose, ChangesNothing, one_more};
     ghost use Rattle.cf_io.specs.Memory.{sink_of, sink_failed, sink_took};
 
     ghost held = { λ s. Some s.bytes.items };
@@ -66,6 +66,8 @@ impl Sink for MemSink {
         ensures failed { OnErr result (Rose (sink_of self.old).faults (sink_of self.new).faults) }
         ensures counts { (sink_of self.old).faults ≤ (sink_of self.new).faults }
         ensures last { (sink_of self.new).faults < 2 ^ 64 }
+        ensures same { OnOk result ((sink_of self.new).faults ≡ (sink_of self.old).faults) }
+        ensures once { (sink_of self.new).faults ≤ one_more (sink_of self.old).faults }
         // It fails exactly where the call is listed or no room is left.
         ensures listed { 0 < length from.now → (IsErr result ↔ (Contains (sink_of self.old).fails (sink_of self.old).calls ⊎ ((sink_of self.old).room ≡ 0))) }
         ensures refused { OnErr result (sink_of self.new ≡ sink_failed (sink_of self.old)) }

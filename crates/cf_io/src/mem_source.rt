@@ -39,10 +39,10 @@ impl MemSource {
 }
 
 impl Source for MemSource {
-    ghost use Rattle.std.specs.Prelude.{◌↔◌, Some, length, drop, min, is_some, IfOk, OnErr, IsErr, Contains};
+    ghost use Rattle.std.specs.Prelude.{◌↔◌, Some, length, drop, min, is_some, IfOk, OnOk, OnErr, IsErr, Contains};
     ghost use Rattle.std.specs.Io.{ReadsAtMost};
     ghost use Rattle.std.specs.Io.KnownBytes.{ReadConsumes};
-    ghost use Rattle.cf_io.specs.Causes.{Rose, ChangesNothing};
+    ghost use Rattle.cf_io.specs.Causes.{Rose, ChangesNothing, one_more};
     ghost use Rattle.cf_io.specs.Memory.{source_of, source_failed, source_gave};
 
     ghost left = { λ s. Some (drop s.at s.bytes.items) };
@@ -57,6 +57,8 @@ impl Source for MemSource {
         ensures failed { OnErr result (Rose (source_of self.old).faults (source_of self.new).faults) }
         ensures counts { (source_of self.old).faults ≤ (source_of self.new).faults }
         ensures last { (source_of self.new).faults < 2 ^ 64 }
+        ensures same { OnOk result ((source_of self.new).faults ≡ (source_of self.old).faults) }
+        ensures once { (source_of self.new).faults ≤ one_more (source_of self.old).faults }
         // It fails exactly where the call is listed.
         ensures listed { 0 < length into.old → (IsErr result ↔ Contains (source_of self.old).fails (source_of self.old).calls) }
         ensures refused { OnErr result (source_of self.new ≡ source_failed (source_of self.old)) }

@@ -1,7 +1,7 @@
 //! Reading a whole text.
 ghost use Rattle.std.specs.Prelude.{◌≡◌, ◌⊎◌, ◌≤◌, ◌<◌, ◌+◌, ℕ, List, length, IfOk, IfSome, IsErrOf};
 ghost use Rattle.cf_io.specs.Bytes.{TookFront};
-ghost use Rattle.cf_io.specs.Causes.{Rose};
+ghost use Rattle.cf_io.specs.Causes.{Rose, one_more};
 
 use crate::faults::ReadFault;
 use crate::traits::Shelf;
@@ -11,7 +11,7 @@ const PIECE: usize = 4096;
 
 /// Reads the whole text under a name, where it has at most `limit` bytes.
 ///
-/// It reads at most one byte more than the limit.
+/// It fetches the text once, and reads at most one byte more than the limit.
 pub fn read_text<F: Shelf>(
     alloc: Global,
     shelf: &mut F,
@@ -25,6 +25,9 @@ pub fn read_text<F: Shelf>(
     ensures most { (F.left shelf.new ≡ F.left shelf.old) ⊎ TookFront (limit + 1) (F.text shelf.old name.now) (F.left shelf.new) }
     ensures texts { (other : List ℕ) → F.text shelf.new other ≡ F.text shelf.old other }
     ensures counts { (other : List ℕ) → F.faults shelf.old other ≤ F.faults shelf.new other }
+    ensures same { ¬ IsErrOf result ReadFault.Failed → (other : List ℕ) → F.faults shelf.new other ≡ F.faults shelf.old other }
+    ensures once { (other : List ℕ) → F.faults shelf.new other ≤ one_more (F.faults shelf.old other) }
+    ensures asked { F.fetches shelf.new ≡ one_more (F.fetches shelf.old) }
 {
     shelf.fetch(alloc, name)?;
     let mut bytes = Vec::new(alloc);

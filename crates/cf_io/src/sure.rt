@@ -12,21 +12,24 @@ use std::alloc::Global;
 pub struct SureShelf {
     text: Vec<u8>,
     at: usize,
+    fetches: u64,
     ghost within: { at ≤ vec_len text },
 }
 
 impl SureShelf {
-    ghost use Rattle.cf_io.specs.Sure.{sure_text, sure_left};
+    ghost use Rattle.cf_io.specs.Sure.{sure_text, sure_left, sure_fetches};
 
     /// A shelf of this text. Before the first fetch nothing is left.
     pub fn new(text: Bytes) -> SureShelf
         ensures text { sure_text result ≡ text }
         ensures left { sure_left result ≡ [] }
+        ensures fetches { sure_fetches result ≡ 0 }
     {
         let at = text.bytes.len();
         SureShelf {
             text: text.bytes,
             at,
+            fetches: 0,
         }
     }
 }
@@ -35,8 +38,8 @@ impl Shelf for SureShelf {
     ghost use Rattle.std.specs.Prelude.{◌↔◌, ℕ, List, Some, length, drop, min, is_some, IsOk, IfOk, OnOk, OnErr, IsErrOf};
     ghost use Rattle.std.specs.Io.{ReadsAtMost};
     ghost use Rattle.std.specs.Io.KnownBytes.{ReadConsumes};
-    ghost use Rattle.cf_io.specs.Causes.{Rose, ChangesNothing};
-    ghost use Rattle.cf_io.specs.Sure.{sure_text, sure_left};
+    ghost use Rattle.cf_io.specs.Causes.{Rose, ChangesNothing, one_more};
+    ghost use Rattle.cf_io.specs.Sure.{sure_text, sure_left, sure_fetches};
 
     ghost text = { λ s name. Some s.text.items };
 
@@ -45,6 +48,8 @@ impl Shelf for SureShelf {
     ghost faults = { λ s name. 0 };
 
     ghost turned = { λ s name. Unit {0} };
+
+    ghost fetches = { λ s. s.fetches };
 
     fn fetch(&mut self, alloc: Global, name: &str) -> Result<(), FetchFault>
         ensures start { OnOk result (Some (sure_left self.new) ≡ Some (sure_text self.old)) }
@@ -56,9 +61,13 @@ impl Shelf for SureShelf {
         ensures texts { (other : List ℕ) → Some (sure_text self.new) ≡ Some (sure_text self.old) }
         ensures counts { (other : List ℕ) → 0 ≤ 0 }
         ensures last { (other : List ℕ) → 0 < 2 ^ 64 }
+        ensures same { ¬ IsErrOf result FetchFault.Failed → (other : List ℕ) → ◌≡◌ {A = ℕ} 0 0 }
+        ensures once { (other : List ℕ) → 0 ≤ one_more 0 }
+        ensures asked { sure_fetches self.new ≡ one_more (sure_fetches self.old) }
         ensures sure { IsOk result }
     {
         self.at = 0;
+        self.fetches = self.fetches.saturating_add(1);
         Ok(())
     }
 
@@ -72,6 +81,9 @@ impl Shelf for SureShelf {
         ensures texts { (other : List ℕ) → Some (sure_text self.new) ≡ Some (sure_text self.old) }
         ensures counts { (other : List ℕ) → 0 ≤ 0 }
         ensures last { (other : List ℕ) → 0 < 2 ^ 64 }
+        ensures same { OnOk result ((other : List ℕ) → ◌≡◌ {A = ℕ} 0 0) }
+        ensures once { (other : List ℕ) → 0 ≤ one_more 0 }
+        ensures asked { sure_fetches self.new ≡ sure_fetches self.old }
         ensures sure { IsOk result }
         ensures full { IfOk result (λ count. count ≡ min (length (sure_left self.old)) (length into.old)) }
     {
@@ -107,10 +119,10 @@ impl SureSource {
 }
 
 impl Source for SureSource {
-    ghost use Rattle.std.specs.Prelude.{Some, length, drop, min, is_some, IsOk, IfOk, OnErr};
+    ghost use Rattle.std.specs.Prelude.{ℕ, Some, length, drop, min, is_some, IsOk, IfOk, OnOk, OnErr};
     ghost use Rattle.std.specs.Io.{ReadsAtMost};
     ghost use Rattle.std.specs.Io.KnownBytes.{ReadConsumes};
-    ghost use Rattle.cf_io.specs.Causes.{Rose, ChangesNothing};
+    ghost use Rattle.cf_io.specs.Causes.{Rose, ChangesNothing, one_more};
     ghost use Rattle.cf_io.specs.Sure.{sure_bytes};
 
     ghost left = { λ s. Some (drop s.at s.bytes.items) };
@@ -125,6 +137,8 @@ impl Source for SureSource {
         ensures failed { OnErr result (Rose 0 0) }
         ensures counts { 0 ≤ 0 }
         ensures last { 0 < 2 ^ 64 }
+        ensures same { OnOk result (◌≡◌ {A = ℕ} 0 0) }
+        ensures once { 0 ≤ one_more 0 }
         ensures sure { IsOk result }
         ensures full { IfOk result (λ count. count ≡ min (length (sure_bytes self.old)) (length into.old)) }
     {
@@ -158,10 +172,10 @@ impl SureSink {
 }
 
 impl Sink for SureSink {
-    ghost use Rattle.std.specs.Prelude.{◌+◌, ◌-◌, ℕ, List, None, Ok, length, min, is_some, IfOk, OnErr};
+    ghost use Rattle.std.specs.Prelude.{◌+◌, ◌-◌, ℕ, List, None, Ok, length, min, is_some, IfOk, OnOk, OnErr};
     ghost use Rattle.std.specs.Io.{WritesAtMost};
     ghost use Rattle.std.specs.Io.KnownBytes.{WriteAppends};
-    ghost use Rattle.cf_io.specs.Causes.{Rose, ChangesNothing};
+    ghost use Rattle.cf_io.specs.Causes.{Rose, ChangesNothing, one_more};
     ghost use Rattle.cf_io.specs.Sure.{sure_taken};
 
     ghost held = { λ s. None };
@@ -177,6 +191,8 @@ impl Sink for SureSink {
         ensures failed { OnErr result (Rose 0 0) }
         ensures counts { 0 ≤ 0 }
         ensures last { 0 < 2 ^ 64 }
+        ensures same { OnOk result (◌≡◌ {A = ℕ} 0 0) }
+        ensures once { 0 ≤ one_more 0 }
         ensures whole { result ≡ Ok (length from.now) }
         ensures taken { sure_taken self.new ≡ min (sure_taken self.old + length from.now) (2 ^ 64 - 1) }
     {

@@ -1,10 +1,10 @@
 //! What each object outside tells of its content, where it tells it, and of its faults.
 //!
-//! A count of faults is a u64 that never falls, and at its last value it stays.
+//! A count of faults is a u64 that never falls, and at its last value it stays. Only a call that fails raises it, and by one.
 ghost use Rattle.std.specs.Prelude.{◌≡◌, ◌↔◌, ◌≤◌, ◌<◌, ◌^◌, ℕ, List, Option, length, is_some, OnOk, OnErr, IfOk, IsErrOf};
 ghost use Rattle.std.specs.Io.{ReadsAtMost, WritesAtMost};
 ghost use Rattle.std.specs.Io.KnownBytes.{ReadConsumes, WriteAppends};
-ghost use Rattle.cf_io.specs.Causes.{Rose, ChangesNothing};
+ghost use Rattle.cf_io.specs.Causes.{Rose, ChangesNothing, one_more};
 
 use crate::faults::{Failed, FetchFault};
 use std::alloc::Global;
@@ -23,6 +23,9 @@ pub trait Shelf {
     /// Whether it is turned to a name.
     ghost turned: { Self → List ℕ → Type 0 };
 
+    /// How often a text was fetched, whatever the call answered. At its last value this count stays.
+    ghost fetches: { Self → ℕ };
+
     /// Turns to the text of that name, at its start.
     fn fetch(&mut self, alloc: Global, name: &str) -> Result<(), FetchFault>
         ensures start { OnOk result (left self.new ≡ text self.old name.now) }
@@ -33,7 +36,10 @@ pub trait Shelf {
         ensures failed { IsErrOf result FetchFault.Failed → Rose (faults self.old name.now) (faults self.new name.now) }
         ensures texts { (other : List ℕ) → text self.new other ≡ text self.old other }
         ensures counts { (other : List ℕ) → faults self.old other ≤ faults self.new other }
-        ensures last { (other : List ℕ) → faults self.new other < 2 ^ 64 };
+        ensures last { (other : List ℕ) → faults self.new other < 2 ^ 64 }
+        ensures same { ¬ IsErrOf result FetchFault.Failed → (other : List ℕ) → faults self.new other ≡ faults self.old other }
+        ensures once { (other : List ℕ) → faults self.new other ≤ one_more (faults self.old other) }
+        ensures asked { fetches self.new ≡ one_more (fetches self.old) };
 
     /// Puts the next bytes of the fetched text into the front of `into`, and says how many.
     /// None for a slice that is not empty is the end.
@@ -46,7 +52,10 @@ pub trait Shelf {
         ensures turned { (name : List ℕ) → turned self.old name ↔ turned self.new name }
         ensures texts { (other : List ℕ) → text self.new other ≡ text self.old other }
         ensures counts { (other : List ℕ) → faults self.old other ≤ faults self.new other }
-        ensures last { (other : List ℕ) → faults self.new other < 2 ^ 64 };
+        ensures last { (other : List ℕ) → faults self.new other < 2 ^ 64 }
+        ensures same { OnOk result ((other : List ℕ) → faults self.new other ≡ faults self.old other) }
+        ensures once { (other : List ℕ) → faults self.new other ≤ one_more (faults self.old other) }
+        ensures asked { fetches self.new ≡ fetches self.old };
 }
 
 /// A source of bytes.
@@ -66,7 +75,9 @@ pub trait Source {
         ensures nothing { ChangesNothing into.old result self.old self.new }
         ensures failed { OnErr result (Rose (faults self.old) (faults self.new)) }
         ensures counts { faults self.old ≤ faults self.new }
-        ensures last { faults self.new < 2 ^ 64 };
+        ensures last { faults self.new < 2 ^ 64 }
+        ensures same { OnOk result (faults self.new ≡ faults self.old) }
+        ensures once { faults self.new ≤ one_more (faults self.old) };
 }
 
 /// A sink of bytes.
@@ -86,5 +97,7 @@ pub trait Sink {
         ensures some { IfOk result (λ count. 0 < length from.now → 0 < count) }
         ensures failed { OnErr result (Rose (faults self.old) (faults self.new)) }
         ensures counts { faults self.old ≤ faults self.new }
-        ensures last { faults self.new < 2 ^ 64 };
+        ensures last { faults self.new < 2 ^ 64 }
+        ensures same { OnOk result (faults self.new ≡ faults self.old) }
+        ensures once { faults self.new ≤ one_more (faults self.old) };
 }

@@ -1,22 +1,8 @@
 //! The program: it makes the real shelf, source and sinks, and ends with the status of the call.
 #![tactic(auto)]
 
-mod answer;
-mod fault;
-mod input;
-mod limits;
-mod reply;
-mod source;
-mod status;
-mod target;
-mod tell;
-mod text;
-mod top;
-mod words;
-
-use crate::status::Status;
-use crate::top::comfusy;
 use cf_io::{FileShelf, ReadSource, WriteSink};
+use cf_top::{Status, comfusy};
 use std::env;
 use std::io::ErrorKind;
 use std::process::ExitCode;

@@ -1,5 +1,6 @@
 use Rattle.std.proofs.Common.{◌-◌, ◌+◌, ◌≤◌, ◌≡◌, List, ℕ, vec_len}
 use Rattle.std.specs.Io.KnownBytes.{Consumes}
+use Rattle.cf_io.specs.Causes.{one_more}
 use Rattle.cf_io.proofs.read.read_text.Given as goal
 
 abbrev pub invariant-pieces : goal.invariant-pieces
@@ -8,7 +9,8 @@ invariant-pieces g l = record {
   read : Consumes (g.F.Shelf.text l.fn.shelf l.name) (g.F.Shelf.left l.shelf) l.bytes.items;
   turned : g.F.Shelf.turned l.shelf l.name;
   texts : (other : List ℕ) → g.F.Shelf.text l.shelf other ≡ g.F.Shelf.text l.fn.shelf other;
-  counts : (other : List ℕ) → g.F.Shelf.faults l.fn.shelf other ≤ g.F.Shelf.faults l.shelf other;
+  same : (other : List ℕ) → g.F.Shelf.faults l.shelf other ≡ g.F.Shelf.faults l.fn.shelf other;
+  asked : g.F.Shelf.fetches l.shelf ≡ one_more (g.F.Shelf.fetches l.fn.shelf);
 }
 
 abbrev pub decreases-pieces : goal.decreases-pieces

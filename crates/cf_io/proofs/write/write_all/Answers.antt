@@ -14,5 +14,5 @@ pub loop-at-preserved : goal.loop-at-preserved
 loop-at-preserved g c = record {
   within = search rules;
   took = rw take-add (Appends-trans _ _ _ _ _ c.loop-at.invariant.took (rw range_from at c.in_ok-at.ensures.bytes));
-  counts = omega (arith, c.loop-at.invariant.counts, c.in_ok-at.ensures.counts);
+  same = search rules;
 }

@@ -1,0 +1,90 @@
+-- The replies of the target that a source is compiled to are what the source picks.
+use Rattle.std.proofs.Common.{◌≡◌, ◌∙◌, sym, ap, subst, refl, ℕ, zero, suc, ◌-◌, ◌^◌, ℤ, pos, List, [], ◌∷◌, map, get_or, slice_get, Option, Some, None, inl, inr}
+use Rattle.cf_num.specs.Limit.{limit, IsWithin}
+use Rattle.cf_io.specs.Limits.{line_limit}
+use Rattle.cf_lex.specs.Digits.{digits_value}
+use Rattle.cf_tree.specs.declared.base.Base.{Base}
+use Rattle.cf_tree.specs.declared.base.Base.TheVariants as base
+use Rattle.cf_tree.specs.declared.target.RawTarget.{RawTarget}
+use Rattle.cf_tree.specs.CodeView.{code_tree}
+use Rattle.cf_tree.specs.DefView.{DefTree}
+use Rattle.cf_tree.specs.Values.{Value, number, truth, elements, Outcome, number_of, HasBase, HaveBases}
+use Rattle.cf_tree.proofs.RisingLemmas.{rising_set_of}
+use Rattle.cf_program.specs.Checked.{TypedTree}
+use Rattle.cf_program.specs.Names.{bases_of}
+use Rattle.cf_growth.specs.Meeting.{AreSmall}
+use Rattle.cf_build.specs.Built.{IsBuilt}
+use Rattle.cf_build.specs.Runs.{RunsAsPicked}
+use Rattle.cf_eval.specs.Replies.{meaning_text, IsReply, too_long, bad_input, meaning}
+use Rattle.cf_eval.specs.Spelling.{without_return, IsNumber, IsValue, Spells, SpellsValues}
+use Rattle.cf_eval.specs.Texts.{outcome_text}
+use Rattle.cf_top.specs.Owed.{by_target, IsReplyBy, AllReplied, AreReplies, ArePicked}
+use Rattle.cf_top.specs.Picked.{main_bases, main_picks, picked_text, IsSourceReply, too_long as source_too_long, bad_input as source_bad_input, picks}
+use Rattle.cf_top.specs.Sources.{Compiles}
+use Rattle.cf_top.proofs.ReplyLemmas.{within_text, overflow_text}
+use Rattle.cf_top.proofs.SpelledLemmas.{neg_within, none_within}
+
+-- what a line spells has its bases and is small
+number_fits : (w : List ℕ) (z : ℤ) → IsNumber limit w z → IsWithin z
+number_fits [] z h = absurd h
+number_fits (b ∷ w) z (inl h) = subst IsWithin (sym h.2) (neg_within (pos (digits_value w)) h.1.fits)
+number_fits (b ∷ w) z (inr h) = subst IsWithin (sym h.1) h.0.fits
+
+value_fits : (b : Base) (w : List ℕ) (v : Value) → IsValue limit b w v → HasBase b v × IsWithin (number_of v)
+value_fits base.Int w (number z) h = ((z, refl), number_fits w z h)
+value_fits base.Int w (truth t) h = absurd h
+value_fits base.Int w (elements es) h = absurd h
+value_fits base.Bool w (number z) h = absurd h
+value_fits base.Bool w (truth t) h = ((t, refl), none_within)
+value_fits base.Bool w (elements es) h = absurd h
+value_fits base.Set w (number z) h = absurd h
+value_fits base.Set w (truth t) h = absurd h
+value_fits base.Set w (elements es) h = ((es, refl, rw h.4 (rising_set_of h.1)), none_within)
+
+values_fit : (bases : List Base) (text : List ℕ) (vs : List Value) → Spells limit bases text vs → HaveBases bases vs × AreSmall limit vs
+values_fit [] text [] h = (tt, tt)
+values_fit [] text (v ∷ vs) h = absurd h
+values_fit (b ∷ bases) text [] h = absurd h
+values_fit (b ∷ bases) text (v ∷ vs) h =
+    let first = value_fits b h.1 v h.5 in
+    let more = values_fit bases h.2 vs h.7 in
+    ((first.0, more.0), (first.1, more.1))
+
+-- the target has the parameters of main
+parameters_at : (ds : List DefTree) (i : ℕ) (d : DefTree) → slice_get ds i ≡ Some d →
+    get_or (map (λ e. bases_of e.params) ds) i [] ≡ bases_of d.params
+parameters_at [] i d e = cc
+parameters_at (c ∷ ds) zero d e = let same : c ≡ d = cc in rw same refl
+parameters_at (c ∷ ds) (suc i) d e = parameters_at ds i d e
+
+same_parameters : (typed : TypedTree) (t : RawTarget) → IsBuilt typed.defs typed.main t → t.params.items ≡ main_bases typed
+same_parameters typed t h = let like = h.like_main in like.2 ∙ sym (parameters_at typed.defs typed.main like.0 like.1)
+
+-- the text of what is picked is that of the meaning
+same_text : (typed : TypedTree) (t : RawTarget) (vs : List Value) (p : Option Outcome) → main_picks typed vs ≡ p →
+    RunsAsPicked typed.defs typed.main (code_tree t.code) vs → picked_text p ≡ meaning_text (2 ^ 127 - 1) t vs
+same_text typed t vs (Some o) e h =
+    let runs = h.outcome o e in within_text (2 ^ 127 - 1) t vs (outcome_text o) runs.0 (ap outcome_text (sym runs.1))
+same_text typed t vs None e h = overflow_text (2 ^ 127 - 1) t vs (h.overflow e)
+
+picked_reply : (typed : TypedTree) (t : RawTarget) → IsBuilt typed.defs typed.main t → (line reply : List ℕ) →
+    IsReply line_limit (2 ^ 127 - 1) t line reply → IsSourceReply typed line reply
+picked_reply typed t h line reply (too_long long) = source_too_long long
+picked_reply typed t h line reply (bad_input short none) =
+    source_bad_input short (λ vs r. none vs (subst (λ bs. SpellsValues limit bs line vs) (sym (same_parameters typed t h)) r))
+picked_reply typed t h line reply (meaning vs short r) =
+    let fit = values_fit t.params.items (without_return line) vs r in
+    let runs = h.runs vs fit.0 fit.1 in
+    subst (IsSourceReply typed line) (same_text typed t vs (main_picks typed vs) refl runs)
+    (picks vs short (subst (λ bs. SpellsValues limit bs line vs) (same_parameters typed t h) r) (λ none. runs.near (runs.overflow none)))
+
+-- the same of all lines
+all_replied : (P Q : List ℕ → List ℕ → Type 0) → ((line reply : List ℕ) → P line reply → Q line reply) → (ls : List (List ℕ)) (text : List ℕ) →
+    AllReplied P ls text → AllReplied Q ls text
+all_replied P Q by [] text h = h
+all_replied P Q by (line ∷ ls) text h = (h.0, h.1, h.2, by line h.0 h.3, all_replied P Q by ls h.1 h.4)
+
+pub replies_picked : (file : List ℕ) (t : RawTarget) (ls : List (List ℕ)) (text : List ℕ) → Compiles file t → AreReplies (by_target t) ls text →
+    ArePicked file ls text
+replies_picked file t ls text h replies =
+    (h.0, h.1, all_replied (IsReplyBy (by_target t)) (IsSourceReply h.0) (picked_reply h.0 t h.2) ls text replies)

@@ -1,0 +1,40 @@
+use Rattle.std.proofs.Common.{◌∙◌, sym, ap, subst}
+use Rattle.cf_top.specs.Statuses.{status_of}
+use Rattle.cf_top.specs.Top.{IsEarly}
+use Rattle.cf_top.proofs.VerdictLemmas.{completes, file_rose, input_rose, out_rose, told_or_rose}
+use Rattle.cf_top.proofs.StatusLemmas.{is_usage, is_file, is_input, is_output}
+use Rattle.cf_top.proofs.top.comfusy.Goals as goal
+
+pub returns-clause-tells : goal.returns-clause-tells
+returns-clause-tells g c = record {
+  answer = c.answer_words-answer.result;
+  is = c.status_of.ensures;
+  answers = c.answer_words-answer.ensures.answers;
+  told = record { prefix = c.tell.ensures.prefix; whole = told_or_rose _ c.tell.ensures.all c.tell.ensures.same c.tell.ensures.failed };
+}
+
+pub returns-clause-usage : goal.returns-clause-usage
+returns-clause-usage g c =
+    let is = c.status_of.ensures in
+    (λ e. c.answer_words-answer.ensures.usage.0 (is_usage _ (sym is ∙ e)), λ n. is ∙ ap status_of (c.answer_words-answer.ensures.usage.1 n))
+
+pub returns-clause-file : goal.returns-clause-file
+returns-clause-file g c = λ e. file_rose _ _ _ _ c.answer_words-answer.ensures.answers (is_file _ (sym c.status_of.ensures ∙ e))
+
+pub returns-clause-input : goal.returns-clause-input
+returns-clause-input g c = λ e. input_rose _ _ _ _ c.answer_words-answer.ensures.answers (is_input _ (sym c.status_of.ensures ∙ e))
+
+pub returns-clause-output : goal.returns-clause-output
+returns-clause-output g c = λ e. out_rose _ _ _ _ c.answer_words-answer.ensures.answers (is_output _ (sym c.status_of.ensures ∙ e))
+
+pub returns-clause-complete : goal.returns-clause-complete
+returns-clause-complete g c = completes _ _ _ _ _ _ (returns-clause-tells g c)
+
+pub returns-clause-shelf : goal.returns-clause-shelf
+returns-clause-shelf g c = λ e. c.answer_words-answer.ensures.shelf (is_usage _ (sym c.status_of.ensures ∙ e))
+
+pub returns-clause-unread : goal.returns-clause-unread
+returns-clause-unread g c = λ e. c.answer_words-answer.ensures.unread (subst IsEarly c.status_of.ensures e)
+
+pub returns-clause-unwritten : goal.returns-clause-unwritten
+returns-clause-unwritten g c = λ e. c.answer_words-answer.ensures.unwritten (subst IsEarly c.status_of.ensures e)

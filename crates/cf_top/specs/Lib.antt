@@ -1,0 +1,13 @@
+pub mod Commands
+pub mod Ends
+pub mod Limits
+pub mod Outside
+pub mod Owed
+pub mod Picked
+pub mod Refusals
+pub mod Sources
+pub mod Statuses
+pub mod Steps
+pub mod Texts
+pub mod Top
+pub mod Words

@@ -1,0 +1,32 @@
+-- The reply to a line, told from the program of a source.
+use Rattle.std.specs.Prelude.{◌≡◌, ℕ, ◌<◌, ◌≤◌, List, [], length, map, get_or, codes, Option, Some, None}
+use Rattle.cf_num.specs.Limit.{limit}
+use Rattle.cf_io.specs.Limits.{line_limit}
+use Rattle.cf_tree.specs.declared.base.Base.{Base}
+use Rattle.cf_tree.specs.Values.{Value, Outcome}
+use Rattle.cf_program.specs.Checked.{TypedTree}
+use Rattle.cf_program.specs.Names.{bases_of}
+use Rattle.cf_growth.specs.Overflowing.{picked, MayOverflow}
+use Rattle.cf_build.specs.Runs.{lowered_bodies}
+use Rattle.cf_eval.specs.Spelling.{SpellsValues}
+use Rattle.cf_eval.specs.Texts.{outcome_text}
+
+-- the bases of the parameters of main
+abbrev pub main_bases : TypedTree → List Base
+main_bases typed = get_or (map (λ d. bases_of d.params) typed.defs) typed.main []
+
+-- what main picks at these values; none is overflow
+abbrev pub main_picks : TypedTree → List Value → Option Outcome
+main_picks typed vs = picked (lowered_bodies typed.defs) typed.main vs
+
+-- the text of what is picked
+abbrev pub picked_text : Option Outcome → List ℕ
+picked_text None = codes "overflow"
+picked_text (Some o) = outcome_text o
+
+-- The reply to a line: what main picks at the values that the line spells. It is overflow only where a near path may overflow.
+pub data IsSourceReply (typed : TypedTree) (line : List ℕ) : List ℕ → Type 0 where
+  too_long : line_limit < length line → IsSourceReply typed line (codes "line too long")
+  bad_input : length line ≤ line_limit → ((vs : List Value) → SpellsValues limit (main_bases typed) line vs → ⊥) → IsSourceReply typed line (codes "bad input")
+  picks : (vs : List Value) → length line ≤ line_limit → SpellsValues limit (main_bases typed) line vs →
+      (main_picks typed vs ≡ None → MayOverflow (lowered_bodies typed.defs) typed.main vs) → IsSourceReply typed line (picked_text (main_picks typed vs))

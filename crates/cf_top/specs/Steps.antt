@@ -1,0 +1,84 @@
+-- How far an input was answered; for the contracts within the crate.
+use Rattle.std.specs.Prelude.{◌≡◌, ◌⊎◌, ◌≤◌, ◌<◌, ◌+◌, ℕ, List, [], ◌∷◌, ◌++◌, take, length, codes, Option, Result, Ok, Err}
+use Rattle.std.specs.Io.KnownBytes.{Appends, Consumes, IsAtEnd}
+use Rattle.cf_io.specs.Bytes.{TookPrefix}
+use Rattle.cf_io.specs.Cut.{CutterState, Stands, told}
+use Rattle.cf_io.specs.Limits.{line_limit, input_limit}
+use Rattle.cf_io.specs.Lines.{lines, ended}
+use Rattle.cf_io.specs.declared.line.Line.{Line}
+use Rattle.cf_io.specs.declared.line.Line.TheVariants.{Text, TooLong}
+use Rattle.cf_tree.specs.declared.target.RawTarget.{RawTarget}
+use Rattle.cf_top.specs.Ends.{answered_lines}
+use Rattle.cf_top.specs.Outside.{AreTold}
+use Rattle.cf_top.specs.Owed.{Answerer, by_target, IsReplyBy, AreReplies, HasTarget}
+use Rattle.cf_top.specs.Refusals.{IsRefused}
+use Rattle.cf_top.specs.declared.fault.Fault.{Fault}
+use Rattle.cf_top.specs.declared.fault.Fault.TheVariants as fault
+use Rattle.cf_top.specs.declared.words.CommandKind.{CommandKind}
+
+-- the target of a text, or why it is refused, or want of memory
+abbrev pub IsVerdict : CommandKind → List ℕ → Result RawTarget Fault → Type 0
+IsVerdict kind text (Ok t) = HasTarget kind text t
+IsVerdict kind text (Err f) = IsRefused kind text f ⊎ (f ≡ fault.NoMemory)
+
+-- the reply to a line as it is cut
+abbrev pub IsLineReply : Answerer → Line → List ℕ → Type 0
+IsLineReply a (Text bytes) reply = length bytes ≤ line_limit → IsReplyBy a bytes reply
+IsLineReply a TooLong reply = reply ≡ codes "line too long"
+
+abbrev pub AreLineReplies : Answerer → List Line → List ℕ → Type 0
+AreLineReplies a [] text = text ≡ []
+AreLineReplies a (l ∷ ls) text = (reply : List ℕ) × (more : List ℕ) × (text ≡ reply ++ 10 ∷ more) × IsLineReply a l reply × AreLineReplies a ls more
+
+-- it took the replies to these lines
+abbrev pub TookLines : Answerer → List Line → Option (List ℕ) → Option (List ℕ) → Type 0
+TookLines a ls old new = (text : List ℕ) × AreLineReplies a ls text × Appends old new text
+
+-- it took a prefix of them
+abbrev pub TookSomeLines : Answerer → List Line → Option (List ℕ) → Option (List ℕ) → Type 0
+TookSomeLines a ls old new = (text : List ℕ) × AreLineReplies a ls text × TookPrefix old new text
+
+-- the same of lines that are not cut
+abbrev pub TookReplies : Answerer → List (List ℕ) → Option (List ℕ) → Option (List ℕ) → Type 0
+TookReplies a ls old new = (text : List ℕ) × AreReplies a ls text × Appends old new text
+
+abbrev pub TookSome : Answerer → List (List ℕ) → Option (List ℕ) → Option (List ℕ) → Type 0
+TookSome a ls old new = (text : List ℕ) × AreReplies a ls text × TookPrefix old new text
+
+-- the cutter stands for these bytes, and the lines that it told of them are answered
+pub record IsAnswered (a : Answerer) (cutter : CutterState) (bytes : List ℕ) (old new : Option (List ℕ)) : Type 0 where
+  pub stands : Stands line_limit cutter bytes
+  pub took : TookLines a (told line_limit input_limit bytes) old new
+
+-- a fault of writing, or want of memory
+abbrev pub IsOutFault : Fault → Type 0
+IsOutFault f = (f ≡ fault.Output) ⊎ (f ≡ fault.NoMemory)
+
+-- so many bytes were read, and their lines are answered
+pub record IsReadTo (a : Answerer) (left still_left : Option (List ℕ)) (cutter : CutterState) (old new : Option (List ℕ)) (total : ℕ) : Type 0 where
+  pub bytes : List ℕ
+  pub read : Consumes left still_left bytes
+  pub total_is : total ≡ length bytes
+  pub answered : IsAnswered a cutter bytes old new
+
+-- what answering an input does, of which `front` was read and `left` is left; the sink held `old` before and holds `new` behind it
+abbrev pub Runs : Answerer → List ℕ → Option (List ℕ) → Option (List ℕ) → Option (List ℕ) → Result (Unit {0}) Fault → Type 0
+Runs a front left old new (Ok done) = IsAtEnd left × (length front ≤ input_limit) × TookReplies a (lines front) old new
+Runs a front left old new (Err fault.InputTooLong) = (input_limit < length front) × TookReplies a (ended (take input_limit front)) old new
+Runs a front left old new (Err fault.Input) = (length front ≤ input_limit) × TookReplies a (ended front) old new
+Runs a front left old new (Err fault.Output) = (rest : List ℕ) × AreTold left rest × TookSome a (answered_lines (front ++ rest)) old new
+Runs a front left old new (Err fault.NoMemory) = (rest : List ℕ) × AreTold left rest × TookSome a (answered_lines (front ++ rest)) old new
+Runs a front left old new (Err f) = ⊥
+
+-- the same of an input that may be told, of which at most one byte more than the limit is read
+pub record RunsOn (a : Answerer) (left still_left old new : Option (List ℕ)) (answer : Result (Unit {0}) Fault) : Type 0 where
+  pub front : List ℕ
+  pub read : Consumes left still_left front
+  pub most : length front ≤ input_limit + 1
+  pub runs : Runs a front still_left old new answer
+
+-- what comes of a text and an input
+pub data AnswersText (kind : CommandKind) (text : List ℕ) (left still_left old new : Option (List ℕ)) (answer : Result (Unit {0}) Fault) : Type 0 where
+  ran : (t : RawTarget) → HasTarget kind text t → RunsOn (by_target t) left still_left old new answer → AnswersText kind text left still_left old new answer
+  stopped : (f : Fault) → answer ≡ Err f → IsRefused kind text f → still_left ≡ left → new ≡ old → AnswersText kind text left still_left old new answer
+  no_memory : answer ≡ Err fault.NoMemory → still_left ≡ left → new ≡ old → AnswersText kind text left still_left old new answer

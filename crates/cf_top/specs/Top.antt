@@ -1,0 +1,64 @@
+-- What the top call answers and tells.
+use Rattle.std.specs.Prelude.{◌≡◌, ◌⊎◌, ◌≤◌, ◌<◌, ℕ, Bool, true, false, List, length, map, Option, Some, Result}
+use Rattle.std.specs.Io.KnownBytes.{Appends}
+use Rattle.cf_io.specs.Bytes.{TookPrefix}
+use Rattle.cf_io.specs.Causes.{one_more}
+use Rattle.cf_io.specs.Limits.{input_limit}
+use Rattle.cf_top.specs.Commands.{Command, names_of, reads_input}
+use Rattle.cf_top.specs.Ends.{Answers}
+use Rattle.cf_top.specs.Outside.{Outside}
+use Rattle.cf_top.specs.Refusals.{Refuses, IsAccepted}
+use Rattle.cf_top.specs.Statuses.{fault_status, status_of}
+use Rattle.cf_top.specs.Texts.{answer_line}
+use Rattle.cf_top.specs.declared.fault.Fault.{Fault}
+use Rattle.cf_top.specs.declared.status.Status.{Status}
+use Rattle.cf_top.specs.declared.status.Status.TheVariants.{Done, Usage, File, Input, Output, Text, Types, NotLinear, Past, Limit, InputLong, NoMemory}
+
+-- what a sink of errors tells, and its count of faults
+pub record Errors : Type 0 where
+  pub held : Option (List ℕ)
+  pub faults : ℕ
+
+-- it took a prefix of these bytes, and all of them unless it failed, once
+pub record IsTold (before after : Errors) (text : List ℕ) : Type 0 where
+  pub prefix : TookPrefix before.held after.held text
+  pub whole : (after.faults ≡ one_more before.faults) ⊎ (Appends before.held after.held text × (after.faults ≡ before.faults))
+
+-- an answer to the words, with its status and its line
+pub record TopAnswer (command : Option Command) (before after : Outside) (errors_before errors_after : Errors) (status : Status) : Type 0 where
+  pub answer : Result (Unit {0}) Fault
+  pub is : status ≡ status_of answer
+  pub answers : Answers command before after answer
+  pub told : IsTold errors_before errors_after (answer_line answer)
+
+-- a status after which the input and `out` are as before
+abbrev pub IsEarly : Status → Type 0
+IsEarly Usage = Unit {0}
+IsEarly File = Unit {0}
+IsEarly Text = Unit {0}
+IsEarly Types = Unit {0}
+IsEarly NotLinear = Unit {0}
+IsEarly Past = Unit {0}
+IsEarly Limit = Unit {0}
+IsEarly status = ⊥
+
+-- an input that is read is told, and within the limit; told, and past it
+abbrev pub IsShort : Bool → Option (List ℕ) → Type 0
+IsShort true input = (bytes : List ℕ) × (input ≡ Some bytes) × (length bytes ≤ input_limit)
+IsShort false input = Unit {0}
+
+abbrev pub IsLong : Bool → Option (List ℕ) → Type 0
+IsLong true input = (bytes : List ℕ) × (input ≡ Some bytes) × (input_limit < length bytes)
+IsLong false input = ⊥
+
+-- A command that is refused on its files has the status of that fault, whatever the input and `out` did. One that is not is done where neither of them
+-- failed, unless the input is too long. Or memory ran out.
+pub record IsComplete (command : Command) (files : List (List ℕ)) (input : Option (List ℕ)) (status : Status) : Type 0 where
+  pub refused : (f : Fault) → Refuses command files f → (status ≡ fault_status f) ⊎ (status ≡ NoMemory)
+  pub done : IsAccepted command files → (status ≡ Input → ⊥) → (status ≡ Output → ⊥) → IsShort (reads_input command) input → (status ≡ Done) ⊎ (status ≡ NoMemory)
+  pub too_long : IsAccepted command files → (status ≡ Input → ⊥) → (status ≡ Output → ⊥) → IsLong (reads_input command) input → (status ≡ InputLong) ⊎ (status ≡ NoMemory)
+
+-- the same where the texts of its files are told and no file failed
+abbrev pub Completes : Command → Outside → Status → Type 0
+Completes command before status =
+    (files : List (List ℕ)) → map before.texts (names_of command) ≡ map Some files → (status ≡ File → ⊥) → IsComplete command files before.input status

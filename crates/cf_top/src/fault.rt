@@ -1,0 +1,29 @@
+//! Why a call did not do what its words ask.
+use cf_linear::refusal::Refusal;
+use cf_program::fault::TypeFault;
+use cf_tree::base::Place;
+
+/// Why a call did not do what its words ask.
+#[derive(Clone, Copy, Debug, PartialEq, Eq)]
+pub enum Fault {
+    /// The words are no command.
+    Usage,
+    /// The file was not read.
+    File,
+    TextTooLong,
+    BadByte(Place),
+    NumberPast(Place),
+    Syntax(Place),
+    /// The first rule that the program breaks.
+    Rule(TypeFault),
+    /// The first choose that is refused.
+    Choose { number: u32, refusal: Refusal },
+    /// The target that the file spells is not well typed.
+    BadTarget,
+    /// The input was not read.
+    Input,
+    /// A reply was not written.
+    Output,
+    InputTooLong,
+    NoMemory,
+}
