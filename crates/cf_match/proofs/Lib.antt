@@ -1,0 +1,14 @@
+mod ClassExamples
+mod ClassLaws
+mod LoweredLaws
+mod LoweringExamples
+mod Matches
+mod NoMatchLaws
+mod NumberLaws
+mod Outcomes
+mod Patterns
+mod ProgramLaws
+mod ProgramTypes
+mod Tests
+mod TypedLaws
+mod Variables

@@ -1,0 +1,32 @@
+-- What the lowered form of a program keeps.
+use Rattle.std.specs.Prelude.{ℕ, ◌≡◌, ◌↔◌, List, map, slice_get, Some, All}
+use Rattle.cf_tree.specs.Allowed.{ProgramAllows}
+use Rattle.cf_tree.specs.DefView.{DefTree}
+use Rattle.cf_tree.specs.ExprTree.{ExprTree}
+use Rattle.cf_tree.specs.Values.{Value, Outcome, HaveBases}
+use Rattle.cf_program.specs.Lowered.{lowered}
+use Rattle.cf_program.specs.Names.{bases_of}
+use Rattle.cf_program.specs.TypedProgram.{IsTypedProgram}
+use Rattle.cf_match.specs.NoMatch.{HasNoMatch}
+
+abbrev pub bodies : List DefTree → List ExprTree
+bodies defs = map (λ d. d.body) defs
+
+-- a function with each match as the chooses that it stands for
+abbrev pub lowered_def : DefTree → DefTree
+lowered_def d = record { name = d.name; params = d.params; results = d.results; body = lowered d.body }
+
+-- each lowered function allows the same outcomes as before in every environment of its parameters
+abbrev pub LoweringKeepsOutcomes : Type 0
+LoweringKeepsOutcomes =
+    (defs : List DefTree) (main : ℕ) → IsTypedProgram defs main → (f : ℕ) (d : DefTree) → slice_get defs f ≡ Some d →
+    (env : List Value) → HaveBases (bases_of d.params) env → (o : Outcome) →
+    ProgramAllows (bodies defs) f env o ↔ ProgramAllows (bodies (map lowered_def defs)) f env o
+
+-- the lowered functions are a typed program with the same main function
+abbrev pub LoweringKeepsTypes : Type 0
+LoweringKeepsTypes = (defs : List DefTree) (main : ℕ) → IsTypedProgram defs main → IsTypedProgram (map lowered_def defs) main
+
+-- no match stands in them
+abbrev pub LoweringLeavesNoMatch : Type 0
+LoweringLeavesNoMatch = (defs : List DefTree) → All (λ d. HasNoMatch d.body) (map lowered_def defs)
