@@ -9,7 +9,7 @@ use Rattle.cf_tree.specs.Sets.{AreWithin}
 use Rattle.cf_tree.specs.Values.{Value, number, elements, same_list}
 use Rattle.cf_tree.specs.Meaning.{greatest, count_below, tuple_at}
 use Rattle.cf_eval.specs.Reached.{given, met, met_set}
-use Rattle.cf_eval.specs.Tells.{BindsAll, capped}
+use Rattle.cf_eval.specs.RunAnswers.{BindsAll, capped}
 
 -- an index divides as well by a stride that is too great to be kept
 div_capped : (i n : ℕ) → i < 2 ^ 64 - 1 → i / capped n ≡ i / n

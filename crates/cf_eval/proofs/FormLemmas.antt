@@ -11,13 +11,13 @@ use Rattle.cf_tree.specs.declared.base.Order.TheVariants.{Eq, Ne, Lt, Le, Gt, Ge
 use Rattle.cf_tree.specs.Sets.{set_fresh, set_put, set_diff, set_slice, set_union, set_inter, is_subset}
 use Rattle.cf_tree.specs.Numbers.{count_of, quotient, remainder, is_multiple}
 use Rattle.cf_eval.specs.declared.given.Stop.{Stop}
-use Rattle.cf_eval.specs.declared.given.Stop.TheVariants.{Memory, Past, Unsolved}
+use Rattle.cf_eval.specs.declared.given.Stop.TheVariants.{NoMemory, Past, Unsolved}
 use Rattle.cf_eval.specs.declared.kind.Kind.{Kind}
 use Rattle.cf_eval.specs.declared.kind.Kind.TheVariants.{Number, Truth, Elements, Other}
 use Rattle.cf_eval.specs.Forms.{kind_of_tree, is_number_kind, is_numeric}
 use Rattle.cf_eval.specs.Reached.{Reached, given, none_from, past, then_reached, seen, as_first, as_number, as_truth, as_set, met, gives_truth, gives_set, reached, set_reached, sum_reached, best_reached, join_reached}
 use Rattle.cf_eval.specs.Seen.{plains}
-use Rattle.cf_eval.specs.Tells.{StopIs, TellsMore}
+use Rattle.cf_eval.specs.RunAnswers.{StopIs, MoreAnswer}
 use Rattle.cf_eval.specs.declared.value.Value.{Value as RunValue}
 use Rattle.cf_eval.specs.declared.value.Value.TheVariants.{Int}
 
@@ -187,7 +187,7 @@ set_ok c env zs k e = one_set (reached c env) zs (elements_only c env k) e
 
 -- what stops the seen stops what is seen
 seen_stop : {A : Type 0} (f : Value → A) (e : Stop) (r : Reached (List Value)) → StopIs e (seen f (as_first r)) → StopIs e r
-seen_stop f Memory r h = tt
+seen_stop f NoMemory r h = tt
 seen_stop f Past (given vs) h = cc
 seen_stop f Past (none_from n) h = cc
 seen_stop f Past past h = refl
@@ -241,7 +241,7 @@ pub compare_ok : (o : Order) (a b : CodeTree) (env : List Value) (x y : ℤ) →
 compare_ok o a b env x y t e f = compare_both o (kind_of_tree a) (reached a env) (reached b env) x y t (number_only a env) e f
 
 stop_first : (e : Stop) (r : Reached (List Value)) (go : Value → Reached (List Value)) → StopIs e (as_number r) → StopIs e (as_truth (then_reached (as_first r) go))
-stop_first Memory r go h = tt
+stop_first NoMemory r go h = tt
 stop_first Past (given vs) go h = cc
 stop_first Past (none_from n) go h = cc
 stop_first Past past go h = refl
@@ -263,6 +263,6 @@ compare_right e o a b env x f h = stop_second e (reached a env) (reached b env) 
 
 -- a number that a form of numbers gives, appended
 pub more_number : {A : Type 0} (c : CodeTree) (env : List Value) (z : ℤ) (r : Result A Stop) (old new : List RunValue) → kind_of_tree c ≡ Number → as_number (reached c env) ≡ given z →
-    OnOk r (new ≡ old ++ (Int z ∷ [])) → IfErr r (λ e. e ≡ Memory) → TellsMore r (plains old) (plains new) (reached c env)
+    OnOk r (new ≡ old ++ (Int z ∷ [])) → IfErr r (λ e. e ≡ NoMemory) → MoreAnswer r (plains old) (plains new) (reached c env)
 more_number c env z (Ok u) old new k e ok err = (number z ∷ [], number_ok c env z k e, rw (ok, map-append) refl)
 more_number c env z (Err s) old new k e ok err = rw err tt

@@ -4,7 +4,7 @@ use Rattle.std.specs.List.{prefix_len, slice_split, onto_first}
 use Rattle.std.proofs.lemmas.List.{drop_more}
 use Rattle.std.proofs.lemmas.List.Splits.{slice_split_first}
 use Rattle.std.proofs.lemmas.Bool.{cases_lt}
-use Rattle.cf_eval.specs.Reading.{is_before_comma, items_from, item_at, added, Fails, values_from, value_at, after_spaces, is_apart}
+use Rattle.cf_eval.specs.Reading.{is_before_comma, items_from, item_at, added, ReadFault, values_from, value_at, after_spaces, is_apart}
 use Rattle.cf_tree.specs.declared.base.Base.{Base}
 use Rattle.cf_tree.specs.Values.{Value}
 use Rattle.cf_eval.specs.declared.fault.LineFault.{LineFault}
@@ -52,7 +52,7 @@ parts_more limit n rest done new is fits some = rw (commas_more rest n is fits, 
 
 -- the exit where a part is no number
 pub parts_fault : (limit n : ℕ) (rest : List ℕ) (done : List ℤ) (e : LineFault) → n ≡ prefix_len is_before_comma rest →
-    Fails e (added done (item_at limit (take n rest))) → Fails e (items_from limit (commas rest) done)
+    ReadFault e (added done (item_at limit (take n rest))) → ReadFault e (items_from limit (commas rest) done)
 parts_fault limit n rest done fault.BadInput is h = parts_none limit n rest done is h
 parts_fault limit n rest done fault.NoMemory is h = tt
 

@@ -14,9 +14,9 @@ use Rattle.cf_tree.specs.Values.{Value, number, truth, elements, HasBase, HaveBa
 use Rattle.cf_tree.specs.declared.base.Base.{Base}
 use Rattle.cf_tree.specs.declared.base.Base.TheVariants as base
 use Rattle.cf_eval.specs.Seen.{plains}
-use Rattle.cf_eval.specs.Spelling.{is_space, without_return, IsValue, IsApart, Spells, Reads}
-use Rattle.cf_eval.specs.Reading.{Read, is_before_brace, after_spaces, number_at, value_at, number_read, truth_at, set_at, set_read, braces_at, body_at, is_apart, with_value, values_from, Gives}
-use Rattle.cf_eval.specs.Told.{Tells}
+use Rattle.cf_eval.specs.Spelling.{is_space, without_return, IsValue, IsApart, Spells, SpellsValues}
+use Rattle.cf_eval.specs.Reading.{Read, is_before_brace, after_spaces, number_at, value_at, number_read, truth_at, set_at, set_read, braces_at, body_at, is_apart, with_value, values_from, ReadAnswer}
+use Rattle.cf_eval.specs.LineAnswers.{LineAnswer}
 use Rattle.cf_eval.specs.declared.fault.LineFault.{LineFault}
 use Rattle.cf_eval.specs.declared.fault.LineFault.TheVariants as fault
 use Rattle.cf_eval.specs.declared.value.Value.{Value as RunValue}
@@ -191,14 +191,14 @@ Spells-takes limit (b ∷ bases) line done all e =
     value_by limit b bases line done all (value_at limit b (after_spaces line)) refl (λ more new. Spells-takes limit bases more new all) e
 
 -- what a reader of lines tells, both ways
-reads_found : (limit : ℕ) (bases : List Base) (line : List ℕ) (vs : List Value) → values_from limit bases (without_return line) [] ≡ Some vs → Reads limit bases line vs
+reads_found : (limit : ℕ) (bases : List Base) (line : List ℕ) (vs : List Value) → values_from limit bases (without_return line) [] ≡ Some vs → SpellsValues limit bases line vs
 reads_found limit bases line vs e = let r = Spells-takes limit bases (without_return line) [] vs e in rw r.1 r.2
 
-reads_only : (limit : ℕ) (bases : List Base) (line : List ℕ) (vs : List Value) → Reads limit bases line vs → values_from limit bases (without_return line) [] ≡ Some vs
+reads_only : (limit : ℕ) (bases : List Base) (line : List ℕ) (vs : List Value) → SpellsValues limit bases line vs → values_from limit bases (without_return line) [] ≡ Some vs
 reads_only limit bases line vs r = Spells-again limit bases (without_return line) vs [] r
 
 pub tells_from : (limit : ℕ) (bases : List Base) (line : List ℕ) (r : Result (Vec RunValue Global) LineFault) →
-    Gives (λ v. plains v.items) r (values_from limit bases (without_return line) []) → Tells limit bases line r
+    ReadAnswer (λ v. plains v.items) r (values_from limit bases (without_return line) []) → LineAnswer limit bases line r
 tells_from limit bases line (Ok v) e =
     (reads_found limit bases line (plains v.items) e, λ vs r. some_is {A = List Value} vs (plains v.items) (sym (reads_only limit bases line vs r) ∙ e))
 tells_from limit bases line (Err fault.BadInput) e = λ vs r. let some = reads_only limit bases line vs r in cc
@@ -222,7 +222,7 @@ spelled-bases limit [] text (v ∷ vs) h = absurd h
 spelled-bases limit (b ∷ bases) text [] h = absurd h
 spelled-bases limit (b ∷ bases) text (v ∷ vs) h = (value-base limit b h.1 v h.5, spelled-bases limit bases h.2 vs h.7)
 
-pub told-bases : (limit : ℕ) (bases : List Base) (line : List ℕ) (r : Result (Vec RunValue Global) LineFault) → Tells limit bases line r →
+pub told-bases : (limit : ℕ) (bases : List Base) (line : List ℕ) (r : Result (Vec RunValue Global) LineFault) → LineAnswer limit bases line r →
     IfOk r (λ v. HaveBases bases (plains v.items))
 told-bases limit bases line (Ok v) h = spelled-bases limit bases (without_return line) (plains v.items) h.0
 told-bases limit bases line (Err e) h = tt

@@ -7,10 +7,10 @@ use Rattle.cf_tree.specs.Meaning.{tuple_at}
 use Rattle.cf_tree.specs.declared.code.Arm.{Arm, the_lemmas}
 use Rattle.cf_tree.specs.CodeView.{arm_tree}
 use Rattle.cf_eval.specs.declared.given.Stop.{Stop}
-use Rattle.cf_eval.specs.declared.given.Stop.TheVariants.{Memory, Past, Unsolved}
+use Rattle.cf_eval.specs.declared.given.Stop.TheVariants.{NoMemory, Past, Unsolved}
 use Rattle.cf_eval.specs.declared.value.Value.{Value as RunValue}
 use Rattle.cf_eval.specs.Reached.{Reached, given, then_reached, or_later, first_reached, met_all, try_reached, tries_reached, bounds_of}
-use Rattle.cf_eval.specs.Tells.{StopIs, BindsAll, TellsFound, capped}
+use Rattle.cf_eval.specs.RunAnswers.{StopIs, BindsAll, FoundAnswer, capped}
 
 -- one more number
 first_step : (n i : ℕ) (f : ℕ → Reached (Option (List Value))) → i < n →
@@ -27,7 +27,7 @@ tries_at a env n i vs h e = first_step n i _ h ∙ ap (λ r. then_reached (then_
 
 -- what stops a part stops the whole
 stop_then : {A B : Type 0} (e : Stop) (r : Reached A) (go : A → Reached B) → StopIs e r → StopIs e (then_reached r go)
-stop_then Memory r go h = tt
+stop_then NoMemory r go h = tt
 stop_then Past r go h = rw h
 stop_then (Unsolved n) r go h = rw h
 
@@ -44,11 +44,11 @@ below_capped n i h = omega arith
 pub tries_err : (a : ArmTree) (env pushed : List Value) (n i : ℕ) (e : Stop) → i < n → BindsAll (tuple_at (bounds_of a) i) env pushed → StopIs e (try_reached a pushed) → StopIs e (tries_reached a env (n - i) i)
 tries_err a env pushed n i e h b s = rw (tries_at a env n i b.0 h b.1, ← b.2) (stop_then e _ _ s)
 
-pub tries_found : (a : ArmTree) (env pushed : List Value) (n i : ℕ) (found : Option (Vec RunValue Global)) → i < n → BindsAll (tuple_at (bounds_of a) i) env pushed → is_some found ≡ true → TellsFound (Ok found) (try_reached a pushed) → TellsFound (Ok found) (tries_reached a env (n - i) i)
+pub tries_found : (a : ArmTree) (env pushed : List Value) (n i : ℕ) (found : Option (Vec RunValue Global)) → i < n → BindsAll (tuple_at (bounds_of a) i) env pushed → is_some found ≡ true → FoundAnswer (Ok found) (try_reached a pushed) → FoundAnswer (Ok found) (tries_reached a env (n - i) i)
 tries_found a env pushed n i None h b some s = absurd (true≢false (sym some))
 tries_found a env pushed n i (Some vs) h b some s = rw (tries_at a env n i b.0 h b.1, ← b.2, s)
 
-pub tries_next : (a : ArmTree) (env pushed : List Value) (n i : ℕ) (found : Option (Vec RunValue Global)) → i < n → BindsAll (tuple_at (bounds_of a) i) env pushed → is_some found ≡ false → TellsFound (Ok found) (try_reached a pushed) → tries_reached a env (n - (i + 1)) (i + 1) ≡ tries_reached a env (n - i) i
+pub tries_next : (a : ArmTree) (env pushed : List Value) (n i : ℕ) (found : Option (Vec RunValue Global)) → i < n → BindsAll (tuple_at (bounds_of a) i) env pushed → is_some found ≡ false → FoundAnswer (Ok found) (try_reached a pushed) → tries_reached a env (n - (i + 1)) (i + 1) ≡ tries_reached a env (n - i) i
 tries_next a env pushed n i None h b none s = rw (tries_at a env n i b.0 h b.1, ← b.2, s)
 tries_next a env pushed n i (Some vs) h b none s = absurd (true≢false none)
 

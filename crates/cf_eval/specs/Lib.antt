@@ -3,9 +3,9 @@ pub mod Replies
 pub mod Seen
 pub mod Spelling
 pub mod Texts
-pub mod Told
+pub mod LineAnswers
 pub mod Answers
 pub mod Choice
 pub mod Reached
-pub mod Tells
+pub mod RunAnswers
 pub mod Forms

@@ -105,20 +105,20 @@ values_from limit [] text done = if list_all is_space text then Some done else N
 values_from limit (base ∷ bases) text done = with_value (values_from limit bases) bases done (value_at limit base (after_spaces text))
 
 -- an error, by what is read
-abbrev pub Fails : {Y : Type 0} → LineFault → Option Y → Type 0
-Fails fault.BadInput read = read ≡ None
-Fails fault.NoMemory read = Unit {0}
+abbrev pub ReadFault : {Y : Type 0} → LineFault → Option Y → Type 0
+ReadFault fault.BadInput read = read ≡ None
+ReadFault fault.NoMemory read = Unit {0}
 
 -- what a reader gives, seen by view
-abbrev pub Gives : {X Y : Type 0} → (X → Y) → Result X LineFault → Option Y → Type 0
-Gives view (Ok x) read = read ≡ Some (view x)
-Gives view (Err e) read = Fails e read
+abbrev pub ReadAnswer : {X Y : Type 0} → (X → Y) → Result X LineFault → Option Y → Type 0
+ReadAnswer view (Ok x) read = read ≡ Some (view x)
+ReadAnswer view (Err e) read = ReadFault e read
 
 -- the same where no memory is wanted
-abbrev pub GivesNumber : Option (ℤ × Bor (List ℕ)) → Read ℤ → Type 0
-GivesNumber (Some x) read = read ≡ Some (x.0, x.1.now)
-GivesNumber None read = read ≡ None
+abbrev pub NumberRead : Option (ℤ × Bor (List ℕ)) → Read ℤ → Type 0
+NumberRead (Some x) read = read ≡ Some (x.0, x.1.now)
+NumberRead None read = read ≡ None
 
-abbrev pub GivesTruth : Option (RunValue × Bor (List ℕ)) → Read Value → Type 0
-GivesTruth (Some x) read = read ≡ Some (plain x.0, x.1.now)
-GivesTruth None read = read ≡ None
+abbrev pub TruthRead : Option (RunValue × Bor (List ℕ)) → Read Value → Type 0
+TruthRead (Some x) read = read ≡ Some (plain x.0, x.1.now)
+TruthRead None read = read ≡ None

@@ -5,7 +5,7 @@ use Rattle.cf_tree.specs.CodeView.{code_tree}
 use Rattle.cf_tree.specs.Meaning.{means, peak}
 use Rattle.cf_tree.specs.Values.{Value}
 use Rattle.cf_tree.specs.declared.target.RawTarget.{RawTarget}
-use Rattle.cf_eval.specs.Spelling.{Reads}
+use Rattle.cf_eval.specs.Spelling.{SpellsValues}
 use Rattle.cf_eval.specs.Texts.{outcome_text}
 
 -- the text of what a target means, or overflow where a number met passes the limit
@@ -15,8 +15,8 @@ meaning_text limit t vs = if nat_le (peak (code_tree t.code) vs) limit then outc
 -- the reply to a line
 pub data IsReply (line_limit limit : ℕ) (t : RawTarget) (line : List ℕ) : List ℕ → Type 0 where
   too_long : line_limit < length line → IsReply line_limit limit t line (codes "line too long")
-  bad_input : length line ≤ line_limit → ((vs : List Value) → ¬ Reads limit t.params.items line vs) → IsReply line_limit limit t line (codes "bad input")
-  meaning : (vs : List Value) → length line ≤ line_limit → Reads limit t.params.items line vs → IsReply line_limit limit t line (meaning_text limit t vs)
+  bad_input : length line ≤ line_limit → ((vs : List Value) → ¬ SpellsValues limit t.params.items line vs) → IsReply line_limit limit t line (codes "bad input")
+  meaning : (vs : List Value) → length line ≤ line_limit → SpellsValues limit t.params.items line vs → IsReply line_limit limit t line (meaning_text limit t vs)
 
 -- the replies to lines, each with a line feed
 abbrev pub AreReplies : ℕ → ℕ → RawTarget → List (List ℕ) → List ℕ → Type 0

@@ -72,5 +72,5 @@ Spells limit (b ∷ bases) text (v ∷ vs) = (before : List ℕ) × (w : List �
     × IsValue limit b w v × IsApart bases rest × Spells limit bases rest vs
 
 -- the line spells these values of these bases
-abbrev pub Reads : ℕ → List Base → List ℕ → List Value → Type 0
-Reads limit bases line vs = Spells limit bases (without_return line) vs
+abbrev pub SpellsValues : ℕ → List Base → List ℕ → List Value → Type 0
+SpellsValues limit bases line vs = Spells limit bases (without_return line) vs

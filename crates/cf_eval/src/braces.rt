@@ -2,7 +2,7 @@
 ghost use Rattle.std.specs.Prelude.{◌≡◌, ◌+◌, ◌^◌, ◌<◌, ◌≤◌, [], ◌==◌, length, All, OnOk, IfOk};
 ghost use Rattle.std.specs.List.{slice_split};
 ghost use Rattle.cf_num.specs.Limit.{IsWithin};
-ghost use Rattle.cf_eval.specs.Reading.{added, item_at, items_from, body_at, set_at, Gives};
+ghost use Rattle.cf_eval.specs.Reading.{added, item_at, items_from, body_at, set_at, ReadAnswer};
 ghost use Rattle.cf_eval.specs.Seen.{plain, IsFit};
 
 use crate::fault::LineFault;
@@ -14,7 +14,7 @@ use std::alloc::Global;
 
 fn add_item(items: &mut Vec<i128>, text: &[u8], limit: u128) -> Result<(), LineFault>
     requires { limit < 2 ^ 127 }
-    ensures added { Gives (λ _. items.new.items) result (added items.old.items (item_at limit text.now)) }
+    ensures added { ReadAnswer (λ _. items.new.items) result (added items.old.items (item_at limit text.now)) }
     ensures fits { OnOk result (All IsWithin items.old.items → All IsWithin items.new.items) }
 {
     match item(text, limit) {
@@ -29,7 +29,7 @@ fn add_item(items: &mut Vec<i128>, text: &[u8], limit: u128) -> Result<(), LineF
 /// The numbers between the commas.
 fn items(alloc: Global, body: &[u8], limit: u128) -> Result<Vec<i128>, LineFault>
     requires { limit < 2 ^ 127 }
-    ensures value { Gives (λ v. v.items) result (items_from limit (slice_split (λ b. b == 44) body.now) []) }
+    ensures value { ReadAnswer (λ v. v.items) result (items_from limit (slice_split (λ b. b == 44) body.now) []) }
     ensures fits { IfOk result (λ v. All IsWithin v.items) }
 {
     let mut items = Vec::new(alloc);
@@ -46,7 +46,7 @@ fn items(alloc: Global, body: &[u8], limit: u128) -> Result<Vec<i128>, LineFault
 
 fn body(alloc: Global, text: &[u8], limit: u128) -> Result<Vec<i128>, LineFault>
     requires { limit < 2 ^ 127 }
-    ensures value { Gives (λ v. v.items) result (body_at limit text.now) }
+    ensures value { ReadAnswer (λ v. v.items) result (body_at limit text.now) }
     ensures fits { IfOk result (λ v. All IsWithin v.items) }
 {
     if is_blank(text) {
@@ -59,7 +59,7 @@ fn body(alloc: Global, text: &[u8], limit: u128) -> Result<Vec<i128>, LineFault>
 /// The set at the front of a text, and the rest.
 pub(crate) fn set(alloc: Global, text: &[u8], limit: u128) -> Result<(Value, &[u8]), LineFault>
     requires { limit < 2 ^ 127 }
-    ensures value { Gives (λ x. (plain x.0, x.1.now)) result (set_at limit text.now) }
+    ensures value { ReadAnswer (λ x. (plain x.0, x.1.now)) result (set_at limit text.now) }
     ensures fits { IfOk result (λ x. IsFit x.0) }
 {
     match text {

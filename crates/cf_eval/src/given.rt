@@ -4,7 +4,7 @@ ghost use Rattle.cf_num.specs.Limit.{IsWithin, within};
 ghost use Rattle.cf_tree.specs.Values.{first_of, number};
 ghost use Rattle.cf_eval.specs.Reached.{met as met_reached, met_value, as_number};
 ghost use Rattle.cf_eval.specs.Seen.{plain, plains, IsFit};
-ghost use Rattle.cf_eval.specs.Tells.{Tells, TellsMore, TellsNumber, IsGivenFit, given_items, seen_or_zero};
+ghost use Rattle.cf_eval.specs.RunAnswers.{RunAnswer, MoreAnswer, NumberAnswer, IsGivenFit, given_items, seen_or_zero};
 
 use crate::value::Value;
 use cf_set::Set;
@@ -14,41 +14,41 @@ use std::alloc::{AllocError, AllocFailed, Global};
 // Why a run stops with no values: no memory, a number past the limit, or no solution at a choose.
 #[derive(Clone, Copy, Debug, PartialEq, Eq)]
 pub enum Stop {
-    Memory,
+    NoMemory,
     Past,
     Unsolved(u32),
 }
 
 impl From<NoMemory> for Stop {
     ghost use Rattle.std.specs.Prelude.{◌≡◌};
-    ghost use Rattle.cf_eval.specs.declared.given.Stop.TheVariants.{Memory};
+    ghost use Rattle.cf_eval.specs.declared.given.Stop.TheVariants.{NoMemory};
 
-    ghost from_gives = { λ _ e. e ≡ Memory };
+    ghost from_gives = { λ _ e. e ≡ NoMemory };
 
     fn from(_e: NoMemory) -> Stop {
-        Stop::Memory
+        Stop::NoMemory
     }
 }
 
 impl From<AllocError> for Stop {
     ghost use Rattle.std.specs.Prelude.{◌≡◌};
-    ghost use Rattle.cf_eval.specs.declared.given.Stop.TheVariants.{Memory};
+    ghost use Rattle.cf_eval.specs.declared.given.Stop.TheVariants.{NoMemory};
 
-    ghost from_gives = { λ _ e. e ≡ Memory };
+    ghost from_gives = { λ _ e. e ≡ NoMemory };
 
     fn from(_e: AllocError) -> Stop {
-        Stop::Memory
+        Stop::NoMemory
     }
 }
 
 impl<T: Drop> From<AllocFailed<T>> for Stop {
     ghost use Rattle.std.specs.Prelude.{◌≡◌};
-    ghost use Rattle.cf_eval.specs.declared.given.Stop.TheVariants.{Memory};
+    ghost use Rattle.cf_eval.specs.declared.given.Stop.TheVariants.{NoMemory};
 
-    ghost from_gives = { λ _ e. e ≡ Memory };
+    ghost from_gives = { λ _ e. e ≡ NoMemory };
 
     fn from(_e: AllocFailed<T>) -> Stop {
-        Stop::Memory
+        Stop::NoMemory
     }
 }
 
@@ -88,7 +88,7 @@ pub fn limited(z: i128) -> Option<i128>
 // A number that is met.
 pub fn met(z: Option<i128>) -> Result<Given, Stop>
     requires { IfSome z IsWithin }
-    ensures told { Tells result (met_reached z) }
+    ensures told { RunAnswer result (met_reached z) }
     ensures fit { IfOk result IsGivenFit }
 {
     match z {
@@ -100,7 +100,7 @@ pub fn met(z: Option<i128>) -> Result<Given, Stop>
 // The same, as a number.
 pub fn met_number(z: Option<i128>) -> Result<i128, Stop>
     requires { IfSome z IsWithin }
-    ensures told { TellsNumber result (as_number (met_reached z)) }
+    ensures told { NumberAnswer result (as_number (met_reached z)) }
     ensures fit { IfOk result IsWithin }
 {
     match z {
@@ -111,7 +111,7 @@ pub fn met_number(z: Option<i128>) -> Result<i128, Stop>
 
 // The number of a variable, met where it is one.
 pub fn met_number_of(v: Option<&Value>) -> Result<i128, Stop>
-    ensures told { TellsNumber result (as_number (met_value (seen_or_zero v.entry))) }
+    ensures told { NumberAnswer result (as_number (met_value (seen_or_zero v.entry))) }
     ensures fit { IfOk result IsWithin }
 {
     match v {
@@ -126,7 +126,7 @@ pub fn met_number_of(v: Option<&Value>) -> Result<i128, Stop>
 pub fn push_met(z: i128, all: &mut Vec<Value>) -> Result<(), Stop>
     requires { IsWithin z }
     ensures ok { OnOk result (all.new.items ≡ all.old.items ++ (Value.Int z ∷ [])) }
-    ensures err { IfErr result (λ e. e ≡ Stop.Memory) }
+    ensures err { IfErr result (λ e. e ≡ Stop.NoMemory) }
 {
     all.push(Value::Int(z))?;
     Ok(())
@@ -134,7 +134,7 @@ pub fn push_met(z: i128, all: &mut Vec<Value>) -> Result<(), Stop>
 
 // The value of a variable, met where it is a number.
 pub fn met_copy(alloc: Global, v: Option<&Value>) -> Result<Given, Stop>
-    ensures told { Tells result (met_value (seen_or_zero v.entry)) }
+    ensures told { RunAnswer result (met_value (seen_or_zero v.entry)) }
     ensures fit { IfOk result IsGivenFit }
 {
     match v {
@@ -147,7 +147,7 @@ pub fn met_copy(alloc: Global, v: Option<&Value>) -> Result<Given, Stop>
 
 // Appends the value of a variable, met where it is a number.
 pub fn push_copy(alloc: Global, v: Option<&Value>, all: &mut Vec<Value>) -> Result<(), Stop>
-    ensures told { TellsMore result (plains all.old.items) (plains all.new.items) (met_value (seen_or_zero v.entry)) }
+    ensures told { MoreAnswer result (plains all.old.items) (plains all.new.items) (met_value (seen_or_zero v.entry)) }
     ensures fit { OnOk result (All IsFit all.old.items → All IsFit all.new.items) }
 {
     match v {
@@ -161,7 +161,7 @@ pub fn push_copy(alloc: Global, v: Option<&Value>, all: &mut Vec<Value>) -> Resu
 
 #[inline(never)]
 fn push_other(alloc: Global, v: Option<&Value>, all: &mut Vec<Value>) -> Result<(), Stop>
-    ensures told { TellsMore result (plains all.old.items) (plains all.new.items) (met_value (seen_or_zero v.entry)) }
+    ensures told { MoreAnswer result (plains all.old.items) (plains all.new.items) (met_value (seen_or_zero v.entry)) }
     ensures fit { OnOk result (All IsFit all.old.items → All IsFit all.new.items) }
 {
     let given = met_copy(alloc, v)?;
@@ -198,7 +198,7 @@ impl Given {
     // Appends the values.
     pub fn append_to(self, env: &mut Vec<Value>) -> Result<(), Stop>
         ensures ok { OnOk result (env.new.items ≡ env.old.items ++ given_items self) }
-        ensures err { IfErr result (λ e. e ≡ Stop.Memory) }
+        ensures err { IfErr result (λ e. e ≡ Stop.NoMemory) }
     {
         match self {
             Given::One(v) => {

@@ -3,8 +3,8 @@ ghost use Rattle.std.specs.Prelude.{◌≡◌, ◌+◌, ◌-◌, ◌^◌, ◌<�
 ghost use Rattle.cf_tree.specs.Values.{HaveBases};
 ghost use Rattle.cf_eval.specs.Seen.{plain, plains, IsFit};
 ghost use Rattle.cf_eval.specs.Spelling.{without_return};
-ghost use Rattle.cf_eval.specs.Reading.{truth_at, value_at, is_apart, values_from, Gives, GivesTruth};
-ghost use Rattle.cf_eval.specs.Told.{Tells};
+ghost use Rattle.cf_eval.specs.Reading.{truth_at, value_at, is_apart, values_from, ReadAnswer, TruthRead};
+ghost use Rattle.cf_eval.specs.LineAnswers.{LineAnswer};
 
 use crate::braces::set;
 use crate::fault::LineFault;
@@ -15,7 +15,7 @@ use cf_tree::base::Base;
 use std::alloc::Global;
 
 fn truth(text: &[u8]) -> Option<(Value, &[u8])>
-    ensures value { GivesTruth result (truth_at text.now) }
+    ensures value { TruthRead result (truth_at text.now) }
     ensures fits { IfSome result (λ x. IsFit x.0) }
 {
     if text.starts_with(b"true") {
@@ -29,7 +29,7 @@ fn truth(text: &[u8]) -> Option<(Value, &[u8])>
 
 fn value(alloc: Global, base: Base, text: &[u8], limit: u128) -> Result<(Value, &[u8]), LineFault>
     requires { limit < 2 ^ 127 }
-    ensures value { Gives (λ x. (plain x.0, x.1.now)) result (value_at limit base text.now) }
+    ensures value { ReadAnswer (λ x. (plain x.0, x.1.now)) result (value_at limit base text.now) }
     ensures fits { IfOk result (λ x. IsFit x.0) }
 {
     match base {
@@ -62,7 +62,7 @@ fn read_values(
     limit: u128,
 ) -> Result<Vec<Value>, LineFault>
     requires { limit < 2 ^ 127 }
-    ensures values { Gives (λ v. plains v.items) result (values_from limit types.now text.now []) }
+    ensures values { ReadAnswer (λ v. plains v.items) result (values_from limit types.now text.now []) }
     ensures fits { IfOk result (λ v. All IsFit v.items) }
 {
     let mut out = Vec::with_capacity(alloc, types.len())?;
@@ -107,7 +107,7 @@ fn read_within(
     limit: u128,
 ) -> Result<Vec<Value>, LineFault>
     requires { limit < 2 ^ 127 }
-    ensures told { Tells limit types.now line.now result }
+    ensures told { LineAnswer limit types.now line.now result }
     ensures bases { IfOk result (λ v. HaveBases types.now (plains v.items)) }
     ensures fits { IfOk result (λ v. All IsFit v.items) }
 {
@@ -120,7 +120,7 @@ fn read_within(
 ///
 /// `BadInput` exactly where the line spells none. `NoMemory` where no memory is left.
 pub fn read_line(alloc: Global, line: &[u8], types: &[Base]) -> Result<Vec<Value>, LineFault>
-    ensures told { Tells (2 ^ 127 - 1) types.now line.now result }
+    ensures told { LineAnswer (2 ^ 127 - 1) types.now line.now result }
     ensures bases { IfOk result (λ v. HaveBases types.now (plains v.items)) }
     ensures fits { IfOk result (λ v. All IsFit v.items) }
 {

@@ -1,14 +1,14 @@
 //! Numbers on a line.
 ghost use Rattle.std.specs.Prelude.{◌≡◌, ◌^◌, ◌<◌, true, false, IfSome};
 ghost use Rattle.cf_num.specs.Limit.{IsWithin};
-ghost use Rattle.cf_eval.specs.Reading.{digits_at, number_at, item_at, GivesNumber};
+ghost use Rattle.cf_eval.specs.Reading.{digits_at, number_at, item_at, NumberRead};
 
 use crate::runs::{after_spaces, is_blank};
 use cf_lex::digits::{digits_len, literal};
 
 fn digits(text: &[u8], minus: bool, limit: u128) -> Option<(i128, &[u8])>
     requires { limit < 2 ^ 127 }
-    ensures value { GivesNumber result (digits_at limit minus text.now) }
+    ensures value { NumberRead result (digits_at limit minus text.now) }
     ensures fits { IfSome result (λ x. IsWithin x.0) }
 {
     let n = digits_len(text);
@@ -22,7 +22,7 @@ fn digits(text: &[u8], minus: bool, limit: u128) -> Option<(i128, &[u8])>
 /// The number at the front of a text, and the rest.
 pub(crate) fn number(text: &[u8], limit: u128) -> Option<(i128, &[u8])>
     requires { limit < 2 ^ 127 }
-    ensures value { GivesNumber result (number_at limit text.now) }
+    ensures value { NumberRead result (number_at limit text.now) }
     ensures fits { IfSome result (λ x. IsWithin x.0) }
 {
     match text {

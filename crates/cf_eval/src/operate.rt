@@ -8,7 +8,7 @@ ghost use Rattle.cf_tree.specs.Meaning.{choose_with, joined_with, joined};
 ghost use Rattle.cf_eval.specs.Forms.{is_number_kind, is_numeric};
 ghost use Rattle.cf_eval.specs.Reached.{as_number, as_set, met as met_reached, met_set, met_value, then_reached};
 ghost use Rattle.cf_eval.specs.Seen.{plain};
-ghost use Rattle.cf_eval.specs.Tells.{TellsNumber, TellsSet, seen_or_zero};
+ghost use Rattle.cf_eval.specs.RunAnswers.{NumberAnswer, SetAnswer, seen_or_zero};
 ghost use Rattle.cf_eval.specs.Choice.{better_of, join_of};
 
 use crate::given::{Stop, limited, met_number, met_number_of};
@@ -63,7 +63,7 @@ fn narrow_product(x: i64, y: i64) -> i128
 fn wide_product(a: i128, b: i128) -> Result<i128, Stop>
     requires a_in { IsWithin a }
     requires b_in { IsWithin b }
-    ensures told { TellsNumber result (as_number (met_reached (within (a *ℤ b)))) }
+    ensures told { NumberAnswer result (as_number (met_reached (within (a *ℤ b)))) }
     ensures fit { IfOk result IsWithin }
 {
     met_number(cf_num::mul(a, b))
@@ -74,7 +74,7 @@ fn wide_product(a: i128, b: i128) -> Result<i128, Stop>
 pub fn product(a: i128, b: i128) -> Result<i128, Stop>
     requires a_in { IsWithin a }
     requires b_in { IsWithin b }
-    ensures told { TellsNumber result (as_number (met_reached (within (a *ℤ b)))) }
+    ensures told { NumberAnswer result (as_number (met_reached (within (a *ℤ b)))) }
     ensures fit { IfOk result IsWithin }
 {
     match i64::try_from(a) {
@@ -89,7 +89,7 @@ pub fn product(a: i128, b: i128) -> Result<i128, Stop>
 // A number times the value of a variable.
 #[inline(always)]
 pub fn scaled(k: i128, v: Option<&Value>) -> Result<i128, Stop>
-    ensures told { TellsNumber result (as_number (then_reached (as_number (met_reached (within k))) (λ x.
+    ensures told { NumberAnswer result (as_number (then_reached (as_number (met_reached (within k))) (λ x.
         then_reached (as_number (met_value (seen_or_zero v.entry))) (λ y. met_reached (within (x *ℤ y)))))) }
     ensures fit { IfOk result IsWithin }
 {
@@ -131,7 +131,7 @@ pub fn push_element(x: i128, items: &mut Vec<i128>) -> Result<(), Stop>
     requires within { AreWithin items.old.items }
     ensures value { OnOk result (set_of items.new.items ≡ set_put x (set_of items.old.items)) }
     ensures within { OnOk result (AreWithin items.new.items) }
-    ensures err { IfErr result (λ e. e ≡ Stop.Memory) }
+    ensures err { IfErr result (λ e. e ≡ Stop.NoMemory) }
 {
     items.push(x)?;
     Ok(())
@@ -145,7 +145,7 @@ pub fn empty(alloc: Global) -> Result<Set, NoMemory>
 
 // The n least numbers from 0 upwards that are not in the set, each of them met.
 pub fn fresh(alloc: Global, avoid: &Set, n: i128) -> Result<Set, Stop>
-    ensures told { TellsSet result (as_set (met_set (set_fresh avoid.now (count_of n)))) }
+    ensures told { SetAnswer result (as_set (met_set (set_fresh avoid.now (count_of n)))) }
 {
     Ok(Set::fresh(alloc, avoid, n)?)
 }

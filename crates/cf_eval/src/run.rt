@@ -7,7 +7,7 @@ ghost use Rattle.cf_eval.specs.Answers.{Answers};
 ghost use Rattle.cf_eval.specs.Choice.{better_of, join_of};
 ghost use Rattle.cf_eval.specs.Reached.{reached, seen, as_first, as_number, as_truth, as_set, all_reached, set_reached, sum_reached, best_reached, join_reached, items_reached, item_reached, try_reached, arm_reached, arms_reached};
 ghost use Rattle.cf_eval.specs.Seen.{plains, IsFit};
-ghost use Rattle.cf_eval.specs.Tells.{Tells, TellsAll, TellsFirst, TellsNumber, TellsTruth, TellsSet, TellsFound, TellsItems, TellsMore, Extends, IsGivenFit, IsFoundFit};
+ghost use Rattle.cf_eval.specs.RunAnswers.{RunAnswer, ValuesAnswer, ValueAnswer, NumberAnswer, TruthAnswer, SetAnswer, FoundAnswer, ItemsAnswer, MoreAnswer, Extends, IsGivenFit, IsFoundFit};
 
 use crate::given::{
     Given, Stop, limited, met_copy, met_number, met_number_of, number, push_copy, push_met, set,
@@ -42,7 +42,7 @@ pub fn run_code(alloc: Global, code: &Code, values: &[Value]) -> Result<Outcome,
     let mut env = copy_values(alloc, values)?;
     match eval(alloc, code, &mut env) {
         Ok(given) => Ok(Outcome::Values(given.into_values(alloc)?)),
-        Err(Stop::Memory) => Err(NoMemory),
+        Err(Stop::NoMemory) => Err(NoMemory),
         Err(Stop::Past) => Ok(Outcome::Overflow),
         Err(Stop::Unsolved(n)) => Ok(Outcome::NoSolution(n)),
     }
@@ -65,7 +65,7 @@ fn copy_values(alloc: Global, values: &[Value]) -> Result<Vec<Value>, NoMemory>
 #[cycle(eval)]
 #[tactic(auto, using(crate::proofs::FormLemmas::number_ok, crate::proofs::FormLemmas::truth_ok, crate::proofs::FormLemmas::set_ok, crate::proofs::FormLemmas::number_stop, crate::proofs::FormLemmas::truth_stop, crate::proofs::FormLemmas::set_stop))]
 fn eval(alloc: Global, code: &Code, env: &mut Vec<Value>) -> Result<Given, Stop>
-    ensures told { Tells result (reached (code_tree code.now) (plains env.old.items)) }
+    ensures told { RunAnswer result (reached (code_tree code.now) (plains env.old.items)) }
     ensures fit { IfOk result IsGivenFit }
     ensures kept { OnOk result (env.new.items ≡ env.old.items) }
 {
@@ -79,7 +79,7 @@ fn eval(alloc: Global, code: &Code, env: &mut Vec<Value>) -> Result<Given, Stop>
 
 #[cycle(eval)]
 fn eval_first(alloc: Global, code: &Code, env: &mut Vec<Value>) -> Result<Value, Stop>
-    ensures told { TellsFirst result (as_first (reached (code_tree code.now) (plains env.old.items))) }
+    ensures told { ValueAnswer result (as_first (reached (code_tree code.now) (plains env.old.items))) }
     ensures fit { IfOk result IsFit }
     ensures kept { OnOk result (env.new.items ≡ env.old.items) }
 {
@@ -89,7 +89,7 @@ fn eval_first(alloc: Global, code: &Code, env: &mut Vec<Value>) -> Result<Value,
 #[cycle(eval)]
 #[inline(always)]
 fn eval_number(alloc: Global, code: &Code, env: &mut Vec<Value>) -> Result<i128, Stop>
-    ensures told { TellsNumber result (as_number (reached (code_tree code.now) (plains env.old.items))) }
+    ensures told { NumberAnswer result (as_number (reached (code_tree code.now) (plains env.old.items))) }
     ensures fit { IfOk result IsWithin }
     ensures kept { OnOk result (env.new.items ≡ env.old.items) }
 {
@@ -109,7 +109,7 @@ fn eval_number(alloc: Global, code: &Code, env: &mut Vec<Value>) -> Result<i128,
 
 #[cycle(eval)]
 fn eval_count(alloc: Global, code: &Code, env: &mut Vec<Value>) -> Result<i128, Stop>
-    ensures told { TellsNumber result (as_number (reached (code_tree code.now) (plains env.old.items))) }
+    ensures told { NumberAnswer result (as_number (reached (code_tree code.now) (plains env.old.items))) }
     ensures fit { IfOk result IsWithin }
     ensures kept { OnOk result (env.new.items ≡ env.old.items) }
 {
@@ -122,7 +122,7 @@ fn eval_count(alloc: Global, code: &Code, env: &mut Vec<Value>) -> Result<i128, 
 #[cycle(eval)]
 #[inline(never)]
 fn other_number(alloc: Global, code: &Code, env: &mut Vec<Value>) -> Result<i128, Stop>
-    ensures told { TellsNumber result (as_number (reached (code_tree code.now) (plains env.old.items))) }
+    ensures told { NumberAnswer result (as_number (reached (code_tree code.now) (plains env.old.items))) }
     ensures fit { IfOk result IsWithin }
     ensures kept { OnOk result (env.new.items ≡ env.old.items) }
 {
@@ -135,7 +135,7 @@ fn other_number(alloc: Global, code: &Code, env: &mut Vec<Value>) -> Result<i128
 
 #[cycle(eval)]
 fn eval_truth(alloc: Global, code: &Code, env: &mut Vec<Value>) -> Result<bool, Stop>
-    ensures told { TellsTruth result (as_truth (reached (code_tree code.now) (plains env.old.items))) }
+    ensures told { TruthAnswer result (as_truth (reached (code_tree code.now) (plains env.old.items))) }
     ensures kept { OnOk result (env.new.items ≡ env.old.items) }
 {
     match kind_of(code) {
@@ -147,7 +147,7 @@ fn eval_truth(alloc: Global, code: &Code, env: &mut Vec<Value>) -> Result<bool, 
 #[cycle(eval)]
 #[inline(never)]
 fn other_truth(alloc: Global, code: &Code, env: &mut Vec<Value>) -> Result<bool, Stop>
-    ensures told { TellsTruth result (as_truth (reached (code_tree code.now) (plains env.old.items))) }
+    ensures told { TruthAnswer result (as_truth (reached (code_tree code.now) (plains env.old.items))) }
     ensures kept { OnOk result (env.new.items ≡ env.old.items) }
 {
     match code {
@@ -172,7 +172,7 @@ fn other_truth(alloc: Global, code: &Code, env: &mut Vec<Value>) -> Result<bool,
 #[cycle(eval)]
 #[inline(never)]
 fn first_truth(alloc: Global, code: &Code, env: &mut Vec<Value>) -> Result<bool, Stop>
-    ensures told { TellsTruth result (as_truth (reached (code_tree code.now) (plains env.old.items))) }
+    ensures told { TruthAnswer result (as_truth (reached (code_tree code.now) (plains env.old.items))) }
     ensures kept { OnOk result (env.new.items ≡ env.old.items) }
 {
     match eval_first(alloc, code, env)? {
@@ -184,7 +184,7 @@ fn first_truth(alloc: Global, code: &Code, env: &mut Vec<Value>) -> Result<bool,
 
 #[cycle(eval)]
 fn eval_set(alloc: Global, code: &Code, env: &mut Vec<Value>) -> Result<Set, Stop>
-    ensures told { TellsSet result (as_set (reached (code_tree code.now) (plains env.old.items))) }
+    ensures told { SetAnswer result (as_set (reached (code_tree code.now) (plains env.old.items))) }
     ensures kept { OnOk result (env.new.items ≡ env.old.items) }
 {
     match kind_of(code) {
@@ -196,7 +196,7 @@ fn eval_set(alloc: Global, code: &Code, env: &mut Vec<Value>) -> Result<Set, Sto
 #[cycle(eval)]
 #[inline(never)]
 fn other_set(alloc: Global, code: &Code, env: &mut Vec<Value>) -> Result<Set, Stop>
-    ensures told { TellsSet result (as_set (reached (code_tree code.now) (plains env.old.items))) }
+    ensures told { SetAnswer result (as_set (reached (code_tree code.now) (plains env.old.items))) }
     ensures kept { OnOk result (env.new.items ≡ env.old.items) }
 {
     match eval_first(alloc, code, env)? {
@@ -210,7 +210,7 @@ fn other_set(alloc: Global, code: &Code, env: &mut Vec<Value>) -> Result<Set, St
 #[cycle(eval)]
 #[inline(never)]
 fn count(alloc: Global, code: &Code, env: &mut Vec<Value>) -> Result<i128, Stop>
-    ensures told { TellsNumber result (as_number (reached (code_tree code.now) (plains env.old.items))) }
+    ensures told { NumberAnswer result (as_number (reached (code_tree code.now) (plains env.old.items))) }
     ensures fit { IfOk result IsWithin }
     ensures kept { OnOk result (env.new.items ≡ env.old.items) }
 {
@@ -233,7 +233,7 @@ fn count(alloc: Global, code: &Code, env: &mut Vec<Value>) -> Result<i128, Stop>
         Code::Min(parts) => eval_best(alloc, Side::Least, parts, env),
         Code::Max(parts) => eval_best(alloc, Side::Greatest, parts, env),
         Code::Card(a) => Ok(i128::from(eval_set(alloc, a, env)?.card())),
-        _ => Err(Stop::Memory),
+        _ => Err(Stop::NoMemory),
     }
 }
 
@@ -242,7 +242,7 @@ fn count(alloc: Global, code: &Code, env: &mut Vec<Value>) -> Result<i128, Stop>
 #[inline(never)]
 #[tactic(auto, using(crate::proofs::FormLemmas::compare_ok, crate::proofs::FormLemmas::compare_left, crate::proofs::FormLemmas::compare_right))]
 fn test(alloc: Global, code: &Code, env: &mut Vec<Value>) -> Result<bool, Stop>
-    ensures told { TellsTruth result (as_truth (reached (code_tree code.now) (plains env.old.items))) }
+    ensures told { TruthAnswer result (as_truth (reached (code_tree code.now) (plains env.old.items))) }
     ensures kept { OnOk result (env.new.items ≡ env.old.items) }
 {
     match code {
@@ -262,7 +262,7 @@ fn test(alloc: Global, code: &Code, env: &mut Vec<Value>) -> Result<bool, Stop>
             let s = eval_set(alloc, a, env)?;
             is_subset_of(alloc, s, b, env)
         }
-        _ => Err(Stop::Memory),
+        _ => Err(Stop::NoMemory),
     }
 }
 
@@ -270,7 +270,7 @@ fn test(alloc: Global, code: &Code, env: &mut Vec<Value>) -> Result<bool, Stop>
 #[cycle(eval)]
 #[inline(never)]
 fn compare_values(alloc: Global, code: &Code, env: &mut Vec<Value>) -> Result<bool, Stop>
-    ensures told { TellsTruth result (as_truth (reached (code_tree code.now) (plains env.old.items))) }
+    ensures told { TruthAnswer result (as_truth (reached (code_tree code.now) (plains env.old.items))) }
     ensures kept { OnOk result (env.new.items ≡ env.old.items) }
 {
     match code {
@@ -279,7 +279,7 @@ fn compare_values(alloc: Global, code: &Code, env: &mut Vec<Value>) -> Result<bo
             let w = eval_first(alloc, right, env)?;
             Ok(compare(*order, &v, &w))
         }
-        _ => Err(Stop::Memory),
+        _ => Err(Stop::NoMemory),
     }
 }
 
@@ -287,7 +287,7 @@ fn compare_values(alloc: Global, code: &Code, env: &mut Vec<Value>) -> Result<bo
 #[cycle(eval)]
 #[inline(never)]
 fn is_subset_of(alloc: Global, s: Set, code: &Code, env: &mut Vec<Value>) -> Result<bool, Stop>
-    ensures told { TellsTruth result (seen (is_subset s) (as_set (reached (code_tree code.now) (plains env.old.items)))) }
+    ensures told { TruthAnswer result (seen (is_subset s) (as_set (reached (code_tree code.now) (plains env.old.items)))) }
     ensures kept { OnOk result (env.new.items ≡ env.old.items) }
 {
     let t = eval_set(alloc, code, env)?;
@@ -298,7 +298,7 @@ fn is_subset_of(alloc: Global, s: Set, code: &Code, env: &mut Vec<Value>) -> Res
 #[cycle(eval)]
 #[inline(never)]
 fn collect(alloc: Global, code: &Code, env: &mut Vec<Value>) -> Result<Set, Stop>
-    ensures told { TellsSet result (as_set (reached (code_tree code.now) (plains env.old.items))) }
+    ensures told { SetAnswer result (as_set (reached (code_tree code.now) (plains env.old.items))) }
     ensures kept { OnOk result (env.new.items ≡ env.old.items) }
 {
     match code {
@@ -321,7 +321,7 @@ fn collect(alloc: Global, code: &Code, env: &mut Vec<Value>) -> Result<Set, Stop
             let size = eval_number(alloc, n, env)?;
             fresh(alloc, &s, size)
         }
-        _ => Err(Stop::Memory),
+        _ => Err(Stop::NoMemory),
     }
 }
 
@@ -329,7 +329,7 @@ fn collect(alloc: Global, code: &Code, env: &mut Vec<Value>) -> Result<Set, Stop
 #[cycle(eval)]
 #[inline(never)]
 fn choose(alloc: Global, code: &Code, env: &mut Vec<Value>) -> Result<Given, Stop>
-    ensures told { Tells result (reached (code_tree code.now) (plains env.old.items)) }
+    ensures told { RunAnswer result (reached (code_tree code.now) (plains env.old.items)) }
     ensures fit { IfOk result IsGivenFit }
     ensures kept { OnOk result (env.new.items ≡ env.old.items) }
 {
@@ -369,14 +369,14 @@ fn choose(alloc: Global, code: &Code, env: &mut Vec<Value>) -> Result<Given, Sto
             None => Err(Stop::Unsolved(*number)),
             Some(values) => Ok(Given::Several(values)),
         },
-        _ => Err(Stop::Memory),
+        _ => Err(Stop::NoMemory),
     }
 }
 
 // The values of the parts, one after another.
 #[cycle(eval)]
 fn eval_all(alloc: Global, parts: &[Code], env: &mut Vec<Value>) -> Result<Vec<Value>, Stop>
-    ensures told { TellsAll result (all_reached (code_trees parts.now) (plains env.old.items) []) }
+    ensures told { ValuesAnswer result (all_reached (code_trees parts.now) (plains env.old.items) []) }
     ensures fit { IfOk result (λ vs. All IsFit vs.items) }
     ensures kept { OnOk result (env.new.items ≡ env.old.items) }
 {
@@ -396,7 +396,7 @@ fn add_part(
     env: &mut Vec<Value>,
     all: &mut Vec<Value>,
 ) -> Result<(), Stop>
-    ensures told { TellsMore result (plains all.old.items) (plains all.new.items) (reached (code_tree code.now) (plains env.old.items)) }
+    ensures told { MoreAnswer result (plains all.old.items) (plains all.new.items) (reached (code_tree code.now) (plains env.old.items)) }
     ensures fit { OnOk result (All IsFit all.old.items → All IsFit all.new.items) }
     ensures kept { OnOk result (env.new.items ≡ env.old.items) }
 {
@@ -416,7 +416,7 @@ fn add_other(
     env: &mut Vec<Value>,
     all: &mut Vec<Value>,
 ) -> Result<(), Stop>
-    ensures told { TellsMore result (plains all.old.items) (plains all.new.items) (reached (code_tree code.now) (plains env.old.items)) }
+    ensures told { MoreAnswer result (plains all.old.items) (plains all.new.items) (reached (code_tree code.now) (plains env.old.items)) }
     ensures fit { OnOk result (All IsFit all.old.items → All IsFit all.new.items) }
     ensures kept { OnOk result (env.new.items ≡ env.old.items) }
 {
@@ -434,7 +434,7 @@ fn add_given(
     env: &mut Vec<Value>,
     all: &mut Vec<Value>,
 ) -> Result<(), Stop>
-    ensures told { TellsMore result (plains all.old.items) (plains all.new.items) (reached (code_tree code.now) (plains env.old.items)) }
+    ensures told { MoreAnswer result (plains all.old.items) (plains all.new.items) (reached (code_tree code.now) (plains env.old.items)) }
     ensures fit { OnOk result (All IsFit all.old.items → All IsFit all.new.items) }
     ensures kept { OnOk result (env.new.items ≡ env.old.items) }
 {
@@ -444,7 +444,7 @@ fn add_given(
 
 #[cycle(eval)]
 fn eval_set_of(alloc: Global, parts: &[Code], env: &mut Vec<Value>) -> Result<Set, Stop>
-    ensures told { TellsSet result (as_set (set_reached (code_trees parts.now) (plains env.old.items) [])) }
+    ensures told { SetAnswer result (as_set (set_reached (code_trees parts.now) (plains env.old.items) [])) }
     ensures kept { OnOk result (env.new.items ≡ env.old.items) }
 {
     let mut items = Vec::with_capacity(alloc, parts.len())?;
@@ -457,7 +457,7 @@ fn eval_set_of(alloc: Global, parts: &[Code], env: &mut Vec<Value>) -> Result<Se
 
 #[cycle(eval)]
 fn eval_sum(alloc: Global, parts: &[Code], env: &mut Vec<Value>) -> Result<i128, Stop>
-    ensures told { TellsNumber result (as_number (sum_reached (code_trees parts.now) (plains env.old.items) (pos 0))) }
+    ensures told { NumberAnswer result (as_number (sum_reached (code_trees parts.now) (plains env.old.items) (pos 0))) }
     ensures fit { IfOk result IsWithin }
     ensures kept { OnOk result (env.new.items ≡ env.old.items) }
 {
@@ -474,7 +474,7 @@ fn eval_sum(alloc: Global, parts: &[Code], env: &mut Vec<Value>) -> Result<i128,
 
 #[cycle(eval)]
 fn eval_best(alloc: Global, side: Side, parts: &[Code], env: &mut Vec<Value>) -> Result<i128, Stop>
-    ensures told { TellsNumber result (as_number (best_reached (better_of side) (code_trees parts.now) (plains env.old.items) None)) }
+    ensures told { NumberAnswer result (as_number (best_reached (better_of side) (code_trees parts.now) (plains env.old.items) None)) }
     ensures fit { IfOk result IsWithin }
     ensures kept { OnOk result (env.new.items ≡ env.old.items) }
 {
@@ -488,7 +488,7 @@ fn eval_best(alloc: Global, side: Side, parts: &[Code], env: &mut Vec<Value>) ->
 
 #[cycle(eval)]
 fn eval_join(alloc: Global, how: Join, parts: &[Code], env: &mut Vec<Value>) -> Result<Set, Stop>
-    ensures told { TellsSet result (as_set (join_reached (join_of how) (code_trees parts.now) (plains env.old.items) None)) }
+    ensures told { SetAnswer result (as_set (join_reached (join_of how) (code_trees parts.now) (plains env.old.items) None)) }
     ensures kept { OnOk result (env.new.items ≡ env.old.items) }
 {
     let mut joined: Option<Set> = None;
@@ -505,7 +505,7 @@ fn eval_join(alloc: Global, how: Join, parts: &[Code], env: &mut Vec<Value>) -> 
 // What the first arm gives whose needs hold at some tuple.
 #[cycle(eval)]
 fn eval_arms(alloc: Global, arms: &[Arm], env: &mut Vec<Value>) -> Result<Option<Vec<Value>>, Stop>
-    ensures told { TellsFound result (arms_reached (arm_trees arms.now) (plains env.old.items)) }
+    ensures told { FoundAnswer result (arms_reached (arm_trees arms.now) (plains env.old.items)) }
     ensures fit { IfOk result IsFoundFit }
     ensures kept { OnOk result (env.new.items ≡ env.old.items) }
 {
@@ -522,7 +522,7 @@ fn eval_arms(alloc: Global, arms: &[Arm], env: &mut Vec<Value>) -> Result<Option
 // end is that of no target; after so many tuples this answers want of memory.
 #[cycle(eval)]
 fn eval_arm(alloc: Global, arm: &Arm, env: &mut Vec<Value>) -> Result<Option<Vec<Value>>, Stop>
-    ensures told { TellsFound result (arm_reached (arm_tree arm.now) (plains env.old.items)) }
+    ensures told { FoundAnswer result (arm_reached (arm_tree arm.now) (plains env.old.items)) }
     ensures fit { IfOk result IsFoundFit }
     ensures kept { OnOk result (env.new.items ≡ env.old.items) }
 {
@@ -537,7 +537,7 @@ fn eval_arm(alloc: Global, arm: &Arm, env: &mut Vec<Value>) -> Result<Option<Vec
         }
     }
     if count == u64::MAX {
-        return Err(Stop::Memory);
+        return Err(Stop::NoMemory);
     }
     Ok(None)
 }
@@ -546,7 +546,7 @@ fn eval_arm(alloc: Global, arm: &Arm, env: &mut Vec<Value>) -> Result<Option<Vec
 // lets behind.
 #[cycle(eval)]
 fn try_arm(alloc: Global, arm: &Arm, env: &mut Vec<Value>) -> Result<Option<Vec<Value>>, Stop>
-    ensures told { TellsFound result (try_reached (arm_tree arm.now) (plains env.old.items)) }
+    ensures told { FoundAnswer result (try_reached (arm_tree arm.now) (plains env.old.items)) }
     ensures fit { IfOk result IsFoundFit }
     ensures kept { OnOk result (Extends env.old.items env.new.items) }
 {
@@ -560,7 +560,7 @@ fn try_arm(alloc: Global, arm: &Arm, env: &mut Vec<Value>) -> Result<Option<Vec<
 // Whether all needs hold, up to the first that fails.
 #[cycle(eval)]
 fn run_items(alloc: Global, items: &[Item], env: &mut Vec<Value>) -> Result<bool, Stop>
-    ensures told { TellsItems result (plains env.new.items) (items_reached (item_trees items.now) (plains env.old.items)) }
+    ensures told { ItemsAnswer result (plains env.new.items) (items_reached (item_trees items.now) (plains env.old.items)) }
     ensures kept { OnOk result (Extends env.old.items env.new.items) }
 {
     for i in 0..items.len() {
@@ -573,7 +573,7 @@ fn run_items(alloc: Global, items: &[Item], env: &mut Vec<Value>) -> Result<bool
 
 #[cycle(eval)]
 fn run_item(alloc: Global, item: &Item, env: &mut Vec<Value>) -> Result<bool, Stop>
-    ensures told { TellsItems result (plains env.new.items) (item_reached (item_tree item.now) (plains env.old.items)) }
+    ensures told { ItemsAnswer result (plains env.new.items) (item_reached (item_tree item.now) (plains env.old.items)) }
     ensures kept { OnOk result (Extends env.old.items env.new.items) }
 {
     match item {
@@ -589,7 +589,7 @@ fn run_item(alloc: Global, item: &Item, env: &mut Vec<Value>) -> Result<bool, St
 #[cycle(eval)]
 #[tactic(auto, using(crate::proofs::FormLemmas::number_ok, crate::proofs::FormLemmas::number_stop))]
 fn bind(alloc: Global, code: &Code, env: &mut Vec<Value>) -> Result<(), Stop>
-    ensures told { TellsMore result (plains env.old.items) (plains env.new.items) (reached (code_tree code.now) (plains env.old.items)) }
+    ensures told { MoreAnswer result (plains env.old.items) (plains env.new.items) (reached (code_tree code.now) (plains env.old.items)) }
     ensures kept { OnOk result (Extends env.old.items env.new.items) }
 {
     match kind_of(code) {
@@ -604,7 +604,7 @@ fn bind(alloc: Global, code: &Code, env: &mut Vec<Value>) -> Result<(), Stop>
 #[cycle(eval)]
 #[inline(never)]
 fn bind_other(alloc: Global, code: &Code, env: &mut Vec<Value>) -> Result<(), Stop>
-    ensures told { TellsMore result (plains env.old.items) (plains env.new.items) (reached (code_tree code.now) (plains env.old.items)) }
+    ensures told { MoreAnswer result (plains env.old.items) (plains env.new.items) (reached (code_tree code.now) (plains env.old.items)) }
     ensures kept { OnOk result (Extends env.old.items env.new.items) }
 {
     match code {
@@ -619,7 +619,7 @@ fn bind_other(alloc: Global, code: &Code, env: &mut Vec<Value>) -> Result<(), St
 #[cycle(eval)]
 #[inline(never)]
 fn bind_given(alloc: Global, code: &Code, env: &mut Vec<Value>) -> Result<(), Stop>
-    ensures told { TellsMore result (plains env.old.items) (plains env.new.items) (reached (code_tree code.now) (plains env.old.items)) }
+    ensures told { MoreAnswer result (plains env.old.items) (plains env.new.items) (reached (code_tree code.now) (plains env.old.items)) }
     ensures kept { OnOk result (Extends env.old.items env.new.items) }
 {
     let more = eval(alloc, code, env)?;

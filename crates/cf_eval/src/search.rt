@@ -2,7 +2,7 @@
 ghost use Rattle.std.specs.Prelude.{◌≡◌, ◌++◌, ◌∷◌, [], ◌<◌, ◌-◌, ◌^◌, IfErr, OnOk, pos};
 ghost use Rattle.cf_tree.specs.Meaning.{count_below, tuple_at};
 ghost use Rattle.cf_eval.specs.Seen.{plains};
-ghost use Rattle.cf_eval.specs.Tells.{BindsAll, Extends, capped};
+ghost use Rattle.cf_eval.specs.RunAnswers.{BindsAll, Extends, capped};
 
 use crate::given::Stop;
 use crate::value::Value;
@@ -38,7 +38,7 @@ pub fn push_tuple(bounds: &[u32], index: u64, env: &mut Vec<Value>) -> Result<()
     requires index_low { index < 2 ^ 64 - 1 }
     ensures ok { OnOk result (Extends env.old.items env.new.items) }
     ensures bound { OnOk result (BindsAll (tuple_at bounds.now index) (plains env.old.items) (plains env.new.items)) }
-    ensures err { IfErr result (λ e. e ≡ Stop.Memory) }
+    ensures err { IfErr result (λ e. e ≡ Stop.NoMemory) }
 {
     let mut rest = bounds;
     let mut left = index;
@@ -54,7 +54,7 @@ pub fn push_tuple(bounds: &[u32], index: u64, env: &mut Vec<Value>) -> Result<()
 
 fn push_number(k: u64, env: &mut Vec<Value>) -> Result<(), Stop>
     ensures ok { OnOk result (env.new.items ≡ env.old.items ++ (Value.Int (pos k) ∷ [])) }
-    ensures err { IfErr result (λ e. e ≡ Stop.Memory) }
+    ensures err { IfErr result (λ e. e ≡ Stop.NoMemory) }
 {
     env.push(Value::Int(i128::from(k)))?;
     Ok(())

@@ -2,9 +2,9 @@
 use Rattle.std.specs.Prelude.{[], ◌∷◌}
 use Rattle.cf_tree.specs.declared.base.Order.TheVariants.{Lt}
 use Rattle.cf_tree.specs.RelTree.{term_var, RelTree, rel_compare}
-use Rattle.cf_linear.specs.Layout.{Levels}
+use Rattle.cf_linear.specs.Layout.{Layout}
 
-abbrev pub test_levels : Levels
+abbrev pub test_levels : Layout
 test_levels = record { scope = 1; numbers = 0 ∷ []; inputs = []; out_numbers = 1 ∷ []; out_sets = [] }
 
 -- v0 < v1

@@ -1,7 +1,7 @@
 ghost use Rattle.std.specs.Prelude.{◌≡◌, ◌<◌, ◌∷◌, [], length, IfOk};
 ghost use Rattle.cf_linear.specs.Rows.{AreBelow, Rises};
 ghost use Rattle.cf_linear.specs.Keep.{In, Formed};
-ghost use Rattle.cf_linear.specs.Views.{matrix_of};
+ghost use Rattle.cf_linear.specs.Views.{system_of};
 ghost use Rattle.cf_bounds.specs.Exact.{IsFree};
 
 use cf_bounds::{Pick, clean, drop_output, remainder_step, select};
@@ -17,11 +17,11 @@ fn system(alloc: Global, first: Row, second: Row) -> Result<System, NoMemory>
     requires first_rises { Rises 0 first }
     requires second_below { AreBelow 4 second }
     requires second_rises { Rises 0 second }
-    ensures formed { IfOk result (λ s. Formed (matrix_of s)) }
-    ensures rows { IfOk result (λ s. (matrix_of s).inequalities ≡ first ∷ second ∷ []) }
-    ensures unknown { IfOk result (λ s. In 2 (matrix_of s).unknown) }
-    ensures some { IfOk result (λ s. 0 < length (matrix_of s).unknown) }
-    ensures free { IfOk result (λ s. IsFree 2 (matrix_of s).equations) }
+    ensures formed { IfOk result (λ s. Formed (system_of s)) }
+    ensures rows { IfOk result (λ s. (system_of s).inequalities ≡ first ∷ second ∷ []) }
+    ensures unknown { IfOk result (λ s. In 2 (system_of s).unknown) }
+    ensures some { IfOk result (λ s. 0 < length (system_of s).unknown) }
+    ensures free { IfOk result (λ s. IsFree 2 (system_of s).equations) }
 {
     let known = vec![in alloc; 0, 1]?;
     let unknown = vec![in alloc; 2, 3]?;

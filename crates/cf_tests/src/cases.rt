@@ -1,10 +1,10 @@
 ghost use Rattle.std.specs.Prelude.{◌≡◌, IfOk};
 ghost use Rattle.cf_tree.specs.RelView.{rel_tree};
-ghost use Rattle.cf_linear.specs.Views.{plain_levels};
+ghost use Rattle.cf_linear.specs.Views.{plain_layout};
 ghost use Rattle.cf_tests.specs.Cases.{test_levels, test_rel};
 
 use cf_cases::case::case_of;
-use cf_cases::count::count;
+use cf_cases::count::{Counts, count};
 use cf_linear::system::Layout;
 use cf_tree::base::Order;
 use cf_tree::memory::NoMemory;
@@ -14,7 +14,7 @@ use std::test::*;
 
 // Level 0 is a number parameter and level 1 a number output; their columns are 1 and 2.
 fn layout_of(alloc: Global) -> Result<Layout, NoMemory>
-    ensures { IfOk result (λ l. plain_levels l ≡ test_levels) }
+    ensures { IfOk result (λ l. plain_layout l ≡ test_levels) }
 {
     Ok(Layout {
         scope: 1,
@@ -60,7 +60,9 @@ fn cases_are_counted(rt: HostRuntime) -> Result<(), Fail> {
 fn a_case_has_a_first_system(rt: HostRuntime) -> Result<(), Fail> {
     let alloc = rt.alloc();
     let layout = layout_of(alloc)?;
-    let Ok(system) = case_of(alloc, &relation_of(alloc)?, &layout, 0) else {
+    let rel = relation_of(alloc)?;
+    let counts = Counts::of(alloc, &rel)?;
+    let Ok(system) = case_of(alloc, &rel, &counts, &layout, 0) else {
         return Err(NoMemory.into());
     };
     assert_eq!(rt; system.next, 3);

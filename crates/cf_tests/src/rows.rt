@@ -1,12 +1,12 @@
 ghost use Rattle.std.specs.Prelude.{◌≡◌, IfOk};
 ghost use Rattle.cf_tree.specs.RelView.{term_tree};
-ghost use Rattle.cf_linear.specs.Views.{plain_levels};
+ghost use Rattle.cf_linear.specs.Views.{plain_layout};
 ghost use Rattle.cf_tests.specs.Rows.{test_levels, test_form};
 
 use cf_linear::columns::{number_column, region_row};
 use cf_linear::refusal::RowFault;
 use cf_linear::row::Row;
-use cf_linear::system::{Back, Divided, How, IntRel, Layout, Step, System};
+use cf_linear::system::{Layout, System};
 use cf_linear::written::{Guard, row_of};
 use cf_tree::memory::NoMemory;
 use cf_tree::rel::{SetTerm, Term};
@@ -48,7 +48,7 @@ fn sums_pass_the_limit(rt: HostRuntime) {
 // Level 0 is a number parameter, level 1 an input set and level 2 a number output; the columns are
 // 0, 1 and 2 known, 3 the output's, and 4 the set's.
 fn layout_of(alloc: Global) -> Result<Layout, NoMemory>
-    ensures { IfOk result (λ l. plain_levels l ≡ test_levels) }
+    ensures { IfOk result (λ l. plain_layout l ≡ test_levels) }
 {
     Ok(Layout {
         scope: 2,
@@ -84,11 +84,9 @@ fn forms_are_written(rt: HostRuntime) -> Result<(), Fail> {
     assert_eq!(rt; written.guards.len(), 2);
     assert_eq!(rt; written.row.entry(3), -4);
     assert_eq!(rt; written.row.entry(5), -12);
-    let copy = written.try_copy(alloc)?;
-    assert!(rt; copy.row.same(&written.row));
     assert!(rt;
         matches!(
-            &copy.guards[0],
+            &written.guards[0],
             Guard::Quotient {
                 column: 5,
                 of: _,
@@ -100,13 +98,8 @@ fn forms_are_written(rt: HostRuntime) -> Result<(), Fail> {
 }
 
 #[test]
-fn data_is_copied(rt: HostRuntime) -> Result<(), Fail> {
+fn systems_are_copied(rt: HostRuntime) -> Result<(), Fail> {
     let alloc = rt.alloc();
-    let layout = layout_of(alloc)?.try_copy(alloc)?;
-    assert_eq!(rt; layout.inputs.len(), 1);
-    let part = IntRel::Divides(3, Row::unit(alloc, 1, 7)?);
-    let rel = IntRel::And(vec![in alloc; part]?).try_copy(alloc)?;
-    assert!(rt; matches!(&rel, IntRel::And(parts) if parts.len() == 1));
     let system = System {
         known: Vec::from_slice(alloc, &[0, 1])?,
         unknown: Vec::new(alloc),
@@ -116,16 +109,5 @@ fn data_is_copied(rt: HostRuntime) -> Result<(), Fail> {
         needs: 3,
     };
     assert_eq!(rt; system.try_copy(alloc)?.equations[0].entry(1), 7);
-    let step = Step::NeedDivides(3, Row::unit(alloc, 1, 7)?).try_copy(alloc)?;
-    assert!(rt; matches!(&step, Step::NeedDivides(3, _)));
-    let bound = Divided {
-        row: Row::unit(alloc, 1, 7)?,
-        k: 2,
-    };
-    let back = Back {
-        unknown: 5,
-        how: How::Least(vec![in alloc; bound]?),
-    };
-    assert!(rt; matches!(&back.try_copy(alloc)?.how, How::Least(bounds) if bounds[0].k == 2));
     Ok(())
 }

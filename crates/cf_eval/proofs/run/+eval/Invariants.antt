@@ -6,7 +6,7 @@ use Rattle.cf_tree.specs.CodeView.{code_trees, item_trees, arm_tree, arm_trees}
 use Rattle.cf_eval.specs.Choice.{better_of, join_of}
 use Rattle.cf_eval.specs.Reached.{all_reached, set_reached, sum_reached, best_reached, join_reached, items_reached, arms_reached, arm_reached, tries_reached, bounds_of}
 use Rattle.cf_eval.specs.Seen.{plains, IsFit}
-use Rattle.cf_eval.specs.Tells.{Extends, capped}
+use Rattle.cf_eval.specs.RunAnswers.{Extends, capped}
 use Rattle.cf_eval.proofs.run.+eval.Given as goal
 
 abbrev pub invariant-eval_all-loop-i : goal.invariant-eval_all-loop-i

@@ -1,6 +1,6 @@
 use Rattle.std.proofs.Common.{◌≡◌, ◌≤◌, length, drop}
 use Rattle.cf_tree.specs.Meaning.{count_below}
-use Rattle.cf_eval.specs.Tells.{capped}
+use Rattle.cf_eval.specs.RunAnswers.{capped}
 use Rattle.cf_eval.proofs.search.count_of.Given as goal
 
 abbrev pub invariant-bounds : goal.invariant-bounds

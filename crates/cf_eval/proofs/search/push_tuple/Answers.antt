@@ -4,7 +4,7 @@ use Rattle.std.proofs.lemmas.List.{map-append}
 use Rattle.cf_tree.specs.Values.{number}
 use Rattle.cf_eval.specs.declared.value.Value.{Value as RunValue}
 use Rattle.cf_eval.specs.Seen.{plains}
-use Rattle.cf_eval.specs.Tells.{Extends}
+use Rattle.cf_eval.specs.RunAnswers.{Extends}
 use Rattle.cf_eval.proofs.Binding.{binds_next, next_in}
 use Rattle.cf_eval.proofs.search.push_tuple.Goals as goal
 

@@ -1,7 +1,7 @@
 use Rattle.std.proofs.Common.{◌≡◌, ◌<◌, ◌-◌, ◌^◌, length}
 use Rattle.cf_tree.specs.Meaning.{count_below}
 use Rattle.cf_eval.specs.Seen.{plains}
-use Rattle.cf_eval.specs.Tells.{Extends, capped}
+use Rattle.cf_eval.specs.RunAnswers.{Extends, capped}
 use Rattle.cf_eval.proofs.Binding.{Binds}
 use Rattle.cf_eval.proofs.search.push_tuple.Given as goal
 
