@@ -1,10 +1,13 @@
 -- Which outcomes a source expression allows.
 use Rattle.std.specs.Prelude.{ℕ, ℤ, pos, ◌+ℤ◌, ◌-ℤ◌, ◌*ℤ◌, neg_ℤ, ◌≡◌, ◌⊎◌, true, false, ◌==◌, not, List, [], ◌∷◌, ◌++◌, length, map, reverse, MatchBool}
+use Rattle.cf_tree.specs.declared.base.Base.{Base}
 use Rattle.cf_tree.specs.declared.raw.BinOp.{BinOp}
 use Rattle.cf_tree.specs.declared.raw.BinOp.TheVariants.{Add, Sub, Mul, And, Or, Union, Inter, Diff, Subset, Compare}
+use Rattle.cf_tree.specs.declared.raw.Param.{Param}
 use Rattle.cf_tree.specs.ExprTree.{ExprTree, expr_lit, expr_truth, expr_var, expr_set_of, expr_tuple, expr_neg, expr_not, expr_abs, expr_binary, expr_divides, expr_div, expr_mod, expr_card, expr_if, expr_call, expr_let, expr_choose, expr_match, ExprTrees, no_exprs, expr_more, match_arm, MatchArmTrees, no_match_arms, match_arm_more}
 use Rattle.cf_tree.specs.Numbers.{quotient, remainder, is_multiple, absolute}
 use Rattle.cf_tree.specs.Relation.{Sol}
+use Rattle.cf_tree.specs.RelTree.{RelTree}
 use Rattle.cf_tree.specs.Sets.{set_of, set_union, set_inter, set_diff, is_subset}
 use Rattle.cf_tree.specs.Values.{Value, number, truth, elements, Outcome, values, no_solution, number_of, truth_of, elements_of, value_at, first_of, compared}
 
@@ -50,49 +53,78 @@ AllowedRight And v right o = MatchBool (truth_of v) (right o) (Gives (truth fals
 AllowedRight Or v right o = MatchBool (truth_of v) (Gives (truth true) o) (right o)
 AllowedRight op v right o = AllowedThen right (λ ys. Gives (operation op v (first_of ys))) o
 
+-- which outcomes a choose allows: by its number, the bases of its scope and of its outputs, its relation, and the environment
+abbrev pub Choosing : Type 1
+Choosing = ℕ → List Base → List Base → RelTree → List Value → Outcome → Type 0
+
+-- which outcomes a call of a function allows
+abbrev pub Calling : Type 1
+Calling = ℕ → List Value → Outcome → Type 0
+
+abbrev pub scope_of : List Param → List Base
+scope_of ps = map (λ p. p.base) ps
+
 abbrev mutual
-  -- what an expression allows in an environment, where `calls` says what a call of a function allows
-  pub AllowedIn : (ℕ → List Value → Outcome → Type 0) → ExprTree → List Value → Outcome → Type 0
-  AllowedIn calls (expr_lit k) env o = Gives (number k) o
-  AllowedIn calls (expr_truth t) env o = Gives (truth t) o
-  AllowedIn calls (expr_var x) env o = Gives (value_at env x) o
-  AllowedIn calls (expr_set_of es) env o = AllowedThen (AllowedAll calls es env) (λ xs. Gives (elements (set_of (map number_of xs)))) o
-  AllowedIn calls (expr_tuple es) env o = AllowedAll calls es env o
-  AllowedIn calls (expr_neg a) env o = AllowedThen (AllowedIn calls a env) (λ xs. Gives (number (neg_ℤ (number_of (first_of xs))))) o
-  AllowedIn calls (expr_not a) env o = AllowedThen (AllowedIn calls a env) (λ xs. Gives (truth (not (truth_of (first_of xs))))) o
-  AllowedIn calls (expr_abs a) env o = AllowedThen (AllowedIn calls a env) (λ xs. Gives (number (absolute (number_of (first_of xs))))) o
-  AllowedIn calls (expr_binary op a b) env o =
-      AllowedThen (AllowedIn calls a env) (λ xs. AllowedRight op (first_of xs) (AllowedIn calls b env)) o
-  AllowedIn calls (expr_divides k a) env o = AllowedThen (AllowedIn calls a env) (λ xs. Gives (truth (is_multiple k (number_of (first_of xs))))) o
-  AllowedIn calls (expr_div a k) env o = AllowedThen (AllowedIn calls a env) (λ xs. Gives (number (quotient (number_of (first_of xs)) k))) o
-  AllowedIn calls (expr_mod a k) env o = AllowedThen (AllowedIn calls a env) (λ xs. Gives (number (remainder (number_of (first_of xs)) k))) o
-  AllowedIn calls (expr_card a) env o = AllowedThen (AllowedIn calls a env) (λ xs. Gives (number (pos (length (elements_of (first_of xs)))))) o
-  AllowedIn calls (expr_if t a b) env o =
-      AllowedThen (AllowedIn calls t env) (λ xs p. MatchBool (truth_of (first_of xs)) (AllowedIn calls a env p) (AllowedIn calls b env p)) o
-  AllowedIn calls (expr_call f es) env o = AllowedThen (AllowedAll calls es env) (calls f) o
-  AllowedIn calls (expr_let n a b) env o = AllowedThen (AllowedIn calls a env) (λ xs. AllowedIn calls b (env ++ xs)) o
-  AllowedIn calls (expr_choose n scope outputs rel) env o = Chosen n (Sol outputs rel env) o
-  AllowedIn calls (expr_match n scope a arms) env o =
-      AllowedThen (AllowedIn calls a env) (λ xs. AllowedArm calls n arms (number_of (first_of xs)) (env ++ xs)) o
+  -- what an expression allows in an environment
+  pub AllowedBy : Choosing → Calling → ExprTree → List Value → Outcome → Type 0
+  AllowedBy chooses calls (expr_lit k) env o = Gives (number k) o
+  AllowedBy chooses calls (expr_truth t) env o = Gives (truth t) o
+  AllowedBy chooses calls (expr_var x) env o = Gives (value_at env x) o
+  AllowedBy chooses calls (expr_set_of es) env o = AllowedThen (AllAllowedBy chooses calls es env) (λ xs. Gives (elements (set_of (map number_of xs)))) o
+  AllowedBy chooses calls (expr_tuple es) env o = AllAllowedBy chooses calls es env o
+  AllowedBy chooses calls (expr_neg a) env o = AllowedThen (AllowedBy chooses calls a env) (λ xs. Gives (number (neg_ℤ (number_of (first_of xs))))) o
+  AllowedBy chooses calls (expr_not a) env o = AllowedThen (AllowedBy chooses calls a env) (λ xs. Gives (truth (not (truth_of (first_of xs))))) o
+  AllowedBy chooses calls (expr_abs a) env o = AllowedThen (AllowedBy chooses calls a env) (λ xs. Gives (number (absolute (number_of (first_of xs))))) o
+  AllowedBy chooses calls (expr_binary op a b) env o =
+      AllowedThen (AllowedBy chooses calls a env) (λ xs. AllowedRight op (first_of xs) (AllowedBy chooses calls b env)) o
+  AllowedBy chooses calls (expr_divides k a) env o =
+      AllowedThen (AllowedBy chooses calls a env) (λ xs. Gives (truth (is_multiple k (number_of (first_of xs))))) o
+  AllowedBy chooses calls (expr_div a k) env o = AllowedThen (AllowedBy chooses calls a env) (λ xs. Gives (number (quotient (number_of (first_of xs)) k))) o
+  AllowedBy chooses calls (expr_mod a k) env o = AllowedThen (AllowedBy chooses calls a env) (λ xs. Gives (number (remainder (number_of (first_of xs)) k))) o
+  AllowedBy chooses calls (expr_card a) env o = AllowedThen (AllowedBy chooses calls a env) (λ xs. Gives (number (pos (length (elements_of (first_of xs)))))) o
+  AllowedBy chooses calls (expr_if t a b) env o =
+      AllowedThen (AllowedBy chooses calls t env)
+      (λ xs p. MatchBool (truth_of (first_of xs)) (AllowedBy chooses calls a env p) (AllowedBy chooses calls b env p)) o
+  AllowedBy chooses calls (expr_call f es) env o = AllowedThen (AllAllowedBy chooses calls es env) (calls f) o
+  AllowedBy chooses calls (expr_let n a b) env o = AllowedThen (AllowedBy chooses calls a env) (λ xs. AllowedBy chooses calls b (env ++ xs)) o
+  AllowedBy chooses calls (expr_choose n scope outputs rel) env o = chooses n (scope_of scope) outputs rel env o
+  AllowedBy chooses calls (expr_match n scope a arms) env o =
+      AllowedThen (AllowedBy chooses calls a env) (λ xs. ArmAllowedBy chooses calls n arms (number_of (first_of xs)) (env ++ xs)) o
 
   -- the values of all, from left to right
-  pub AllowedAll : (ℕ → List Value → Outcome → Type 0) → ExprTrees → List Value → Outcome → Type 0
-  AllowedAll calls no_exprs env o = o ≡ values []
-  AllowedAll calls (expr_more e es) env o =
-      AllowedThen (AllowedIn calls e env) (λ xs. AllowedThen (AllowedAll calls es env) (λ ys p. p ≡ values (xs ++ ys))) o
+  pub AllAllowedBy : Choosing → Calling → ExprTrees → List Value → Outcome → Type 0
+  AllAllowedBy chooses calls no_exprs env o = o ≡ values []
+  AllAllowedBy chooses calls (expr_more e es) env o =
+      AllowedThen (AllowedBy chooses calls e env) (λ xs. AllowedThen (AllAllowedBy chooses calls es env) (λ ys p. p ≡ values (xs ++ ys))) o
 
   -- the first arm whose pattern can be v, with any numbers that make it v
-  pub AllowedArm : (ℕ → List Value → Outcome → Type 0) → ℕ → MatchArmTrees → ℤ → List Value → Outcome → Type 0
-  AllowedArm calls n no_match_arms v env o = o ≡ no_solution n
-  AllowedArm calls n (match_arm_more (match_arm m factors k body) arms) v env o =
-      ((is : List ℤ) × Fits factors k v is × AllowedIn calls body (env ++ map number is) o)
-      ⊎ (((is : List ℤ) → Fits factors k v is → ⊥) × AllowedArm calls n arms v env o)
+  pub ArmAllowedBy : Choosing → Calling → ℕ → MatchArmTrees → ℤ → List Value → Outcome → Type 0
+  ArmAllowedBy chooses calls n no_match_arms v env o = o ≡ no_solution n
+  ArmAllowedBy chooses calls n (match_arm_more (match_arm m factors k body) arms) v env o =
+      ((is : List ℤ) × Fits factors k v is × AllowedBy chooses calls body (env ++ map number is) o)
+      ⊎ (((is : List ℤ) → Fits factors k v is → ⊥) × ArmAllowedBy chooses calls n arms v env o)
 
 -- what a call of function number f allows, where the functions stand last first: each calls only those after it in the list
-abbrev pub AllowedCall : List ExprTree → ℕ → List Value → Outcome → Type 0
-AllowedCall [] f xs o = ⊥
-AllowedCall (body ∷ earlier) f xs o =
-    MatchBool (f == length earlier) (AllowedIn (AllowedCall earlier) body xs o) (AllowedCall earlier f xs o)
+abbrev pub CallAllowedBy : Choosing → List ExprTree → Calling
+CallAllowedBy chooses [] f xs o = ⊥
+CallAllowedBy chooses (body ∷ earlier) f xs o =
+    MatchBool (f == length earlier) (AllowedBy chooses (CallAllowedBy chooses earlier) body xs o) (CallAllowedBy chooses earlier f xs o)
+
+-- a choose allows each solution, and no solution exactly where there is none
+abbrev pub AllChosen : Choosing
+AllChosen n scope outputs rel env o = Chosen n (Sol outputs rel env) o
+
+abbrev pub AllowedIn : Calling → ExprTree → List Value → Outcome → Type 0
+AllowedIn = AllowedBy AllChosen
+
+abbrev pub AllowedAll : Calling → ExprTrees → List Value → Outcome → Type 0
+AllowedAll = AllAllowedBy AllChosen
+
+abbrev pub AllowedArm : Calling → ℕ → MatchArmTrees → ℤ → List Value → Outcome → Type 0
+AllowedArm = ArmAllowedBy AllChosen
+
+abbrev pub AllowedCall : List ExprTree → Calling
+AllowedCall = CallAllowedBy AllChosen
 
 -- what an expression allows whose calls are of these functions, which stand in the order of the source
 abbrev pub Allowed : List ExprTree → ExprTree → List Value → Outcome → Type 0

@@ -13,7 +13,6 @@ pub mod RelSize
 pub mod RelTree
 pub mod RelView
 pub mod Relation
-pub mod SameCode
 pub mod SameParts
 pub mod Sets
 pub mod Solving
