@@ -26,12 +26,14 @@ use Rattle.cf_program.specs.Walk.{side_of}
 use Rattle.cf_build.specs.declared.chooses.Choose.{Choose}
 use Rattle.cf_build.specs.declared.fault.BuildFault.{BuildFault}
 use Rattle.cf_build.specs.declared.fault.BuildFault.TheVariants as faults
-use Rattle.cf_build.specs.Built.{IsBuilt, BuildAnswer, lowered_def, unfolded_code}
+use Rattle.cf_program.specs.Lowered.{lowered_def}
+use Rattle.cf_build.specs.Built.{IsBuilt, BuildAnswer, unfolded_code}
 use Rattle.cf_build.specs.Codes.{called, code_of, codes_behind, solved_in}
 use Rattle.cf_build.specs.Runs.{lowered_bodies}
 use Rattle.cf_build.specs.Questions.{Question, questions, questions_all, all_questions, solve_of, IsFirstRefused}
 use Rattle.cf_build.specs.Shifted.{HasLevels}
-use Rattle.cf_build.specs.Solves.{question_of, questions_of, HasNoMatch, HaveNoMatch, IsAsked, AreSolved, IsSolveOf, FaultAnswer}
+use Rattle.cf_program.specs.NoMatch.{HasNoMatch, HaveNoMatch}
+use Rattle.cf_build.specs.Solves.{question_of, questions_of, IsAsked, AreSolved, IsSolveOf, FaultAnswer}
 use Rattle.cf_build.proofs.CodeLists.{called_is}
 use Rattle.cf_build.proofs.Meanings.{sides_have}
 use Rattle.cf_build.proofs.PickedPaths.{AreFit}

@@ -7,7 +7,8 @@ use Rattle.cf_tree.specs.DefView.{DefTree}
 use Rattle.cf_tree.specs.ExprView.{expr_tree, expr_trees}
 use Rattle.cf_tree.specs.ExprTree.{ExprTree, exprs_of}
 use Rattle.cf_build.specs.Questions.{questions, questions_all}
-use Rattle.cf_build.specs.Solves.{questions_of, HasNoMatch, HaveNoMatch}
+use Rattle.cf_program.specs.NoMatch.{HasNoMatch, HaveNoMatch}
+use Rattle.cf_build.specs.Solves.{questions_of}
 
 pub have_no_match : (es : List Expr) → All (λ e. HasNoMatch (expr_tree e)) es → HaveNoMatch (expr_trees es)
 have_no_match [] h = tt

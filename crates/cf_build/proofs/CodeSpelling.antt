@@ -15,7 +15,8 @@ use Rattle.cf_program.specs.Walk.{side_of}
 use Rattle.cf_build.specs.Codes.{binary_code, call_code, code_of, codes_of_all}
 use Rattle.cf_build.specs.Questions.{Question, questions, questions_all}
 use Rattle.cf_build.specs.Shifted.{shifted, HasLevels, HaveLevels}
-use Rattle.cf_build.specs.Solves.{HasNoMatch, HaveNoMatch, IsSolveOf}
+use Rattle.cf_program.specs.NoMatch.{HasNoMatch, HaveNoMatch}
+use Rattle.cf_build.specs.Solves.{IsSolveOf}
 use Rattle.cf_build.proofs.CodeTyping.{parts_count}
 use Rattle.cf_build.proofs.Meanings.{sides_have}
 use Rattle.cf_build.proofs.ShiftedSpelling.{depth_same, spelled_shifted}

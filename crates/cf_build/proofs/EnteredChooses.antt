@@ -13,7 +13,8 @@ use Rattle.cf_program.specs.Walk.{side_of}
 use Rattle.cf_growth.specs.Overflowing.{IsFineIn, AreFineIn}
 use Rattle.cf_growth.proofs.FineLaws.{chooses_are_fine}
 use Rattle.cf_build.specs.Questions.{Question, questions, questions_all}
-use Rattle.cf_build.specs.Solves.{HasNoMatch, HaveNoMatch, IsSolveOf}
+use Rattle.cf_program.specs.NoMatch.{HasNoMatch, HaveNoMatch}
+use Rattle.cf_build.specs.Solves.{IsSolveOf}
 use Rattle.cf_build.proofs.Meanings.{Fine, sides_have}
 use Rattle.cf_build.proofs.PickedPaths.{IsPickedBy, AreFit, Around, behind, value_fit, parts_fit}
 

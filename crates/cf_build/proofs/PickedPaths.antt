@@ -29,7 +29,8 @@ use Rattle.cf_growth.proofs.PickLaws.{none_some, some_none, same_outcome, above}
 use Rattle.cf_build.specs.Codes.{two, binary_code, joined_code, call_code, code_of, codes_of_all}
 use Rattle.cf_build.specs.Questions.{Question, questions, questions_all, solve_of}
 use Rattle.cf_build.specs.Shifted.{shifted}
-use Rattle.cf_build.specs.Solves.{HasNoMatch, HaveNoMatch, IsSolveOf}
+use Rattle.cf_program.specs.NoMatch.{HasNoMatch, HaveNoMatch}
+use Rattle.cf_build.specs.Solves.{IsSolveOf}
 use Rattle.cf_build.proofs.Meanings.{Fine, put_all, put_all_is, joined_gives, sides_have, fine, all_fine}
 use Rattle.cf_build.proofs.ShiftedPaths.{shifted_path}
 use Rattle.cf_build.proofs.Values.{Keeps, have_append, number_alone, from_zero, greater_is_absolute}

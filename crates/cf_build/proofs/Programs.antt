@@ -22,7 +22,8 @@ use Rattle.cf_program.specs.TypedProgram.{Takes, IsTypedDef, AreTypedDefs}
 use Rattle.cf_build.specs.Codes.{code_of, called, codes_behind}
 use Rattle.cf_build.specs.Questions.{Question, questions, all_questions}
 use Rattle.cf_build.specs.Shifted.{HasLevels}
-use Rattle.cf_build.specs.Solves.{HasNoMatch, HaveNoMatch, IsSolveOf}
+use Rattle.cf_program.specs.NoMatch.{HasNoMatch, HaveNoMatch}
+use Rattle.cf_build.specs.Solves.{IsSolveOf}
 use Rattle.cf_build.proofs.CodeSpelling.{depth_within, spelled}
 use Rattle.cf_build.proofs.CodeTyping.{typed}
 use Rattle.cf_build.proofs.EnteredChooses.{entered}

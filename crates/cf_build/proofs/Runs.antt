@@ -10,7 +10,7 @@ use Rattle.cf_tree.specs.Values.{Value, Outcome}
 use Rattle.cf_growth.specs.Overflowing.{picked_call, IsFineCall}
 use Rattle.cf_growth.proofs.PickLaws.{picks_are_near}
 use Rattle.cf_build.specs.Runs.{lowered_bodies, RunsAsPicked}
-use Rattle.cf_build.specs.Solves.{HasNoMatch}
+use Rattle.cf_program.specs.NoMatch.{HasNoMatch}
 use Rattle.cf_build.proofs.PickedPaths.{IsPickedBy}
 use Rattle.cf_build.proofs.Programs.{bodies, lowered_same}
 

@@ -10,7 +10,7 @@ use Rattle.cf_tree.specs.Meaning.{means}
 use Rattle.cf_tree.specs.Spelled.{HasSpelling}
 use Rattle.cf_tree.specs.Typing.{IsWellTyped}
 use Rattle.cf_tree.specs.Values.{Value, Outcome, HaveBases}
-use Rattle.cf_program.specs.Lowered.{lowered}
+use Rattle.cf_program.specs.Lowered.{lowered_def}
 use Rattle.cf_program.specs.Names.{bases_of}
 use Rattle.cf_growth.specs.Meeting.{AreSmall}
 use Rattle.cf_build.specs.declared.fault.BuildFault.{BuildFault}
@@ -23,10 +23,6 @@ use Rattle.cf_build.specs.Solves.{IsSolveOf}
 -- what the functions of a program allow a call of function number f to do
 abbrev pub SourceAllows : List DefTree → ℕ → List Value → Outcome → Type 0
 SourceAllows defs f = ProgramAllows (map (λ d. d.body) defs) f
-
--- a function with its matches as the chooses that they stand for
-abbrev pub lowered_def : DefTree → DefTree
-lowered_def d = record { name = d.name; params = d.params; results = d.results; body = lowered d.body }
 
 -- main's body with its calls unfolded, and each choose replaced by the solve with the arms of its cases
 abbrev pub unfolded_code : List DefTree → ℕ → CodeTree

@@ -8,7 +8,8 @@ ghost use Rattle.cf_program.specs.Names.{bases_of};
 ghost use Rattle.cf_build.specs.Built.{BuildAnswer, IsBuilt};
 ghost use Rattle.cf_build.specs.Codes.{called, choose_code, code_of, codes_behind, solved_in};
 ghost use Rattle.cf_build.specs.Shifted.{HasLevels};
-ghost use Rattle.cf_build.specs.Solves.{questions_of, AreSolved, HasNoMatch};
+ghost use Rattle.cf_program.specs.NoMatch.{HasNoMatch};
+ghost use Rattle.cf_build.specs.Solves.{questions_of, AreSolved};
 
 use crate::chooses::{bases, collect};
 use crate::codes::code;

@@ -7,7 +7,8 @@ ghost use Rattle.cf_tree.specs.ExprView.{expr_tree, expr_trees};
 ghost use Rattle.cf_tree.specs.RelView.{rel_tree};
 ghost use Rattle.cf_program.specs.Names.{bases_of};
 ghost use Rattle.cf_build.specs.Questions.{questions, questions_all};
-ghost use Rattle.cf_build.specs.Solves.{question_of, questions_of, HasNoMatch, HaveNoMatch};
+ghost use Rattle.cf_program.specs.NoMatch.{HasNoMatch, HaveNoMatch};
+ghost use Rattle.cf_build.specs.Solves.{question_of, questions_of};
 
 use crate::not_built;
 use cf_tree::base::Base;

@@ -5,9 +5,9 @@ use Rattle.cf_tree.specs.declared.raw.BinOp.TheVariants.{Add}
 use Rattle.cf_tree.specs.DefView.{DefTree}
 use Rattle.cf_tree.specs.ExprTree.{ExprTree, expr_lit, expr_truth, expr_var, expr_set_of, expr_tuple, expr_neg, expr_not, expr_abs, expr_binary, expr_divides, expr_div, expr_mod, expr_card, expr_if, expr_call, expr_let, expr_choose, expr_match, exprs_of, no_match_arms}
 use Rattle.cf_tree.specs.RelTree.{rel_true}
-use Rattle.cf_program.specs.Lowered.{lowered}
-use Rattle.cf_match.specs.Laws.{bodies, lowered_def}
-use Rattle.cf_match.specs.NoMatch.{HasNoMatch}
+use Rattle.cf_program.specs.Lowered.{lowered, lowered_def}
+use Rattle.cf_match.specs.Laws.{bodies}
+use Rattle.cf_program.specs.NoMatch.{HasNoMatch}
 
 abbrev k : ExprTree
 k = expr_lit (pos 5)

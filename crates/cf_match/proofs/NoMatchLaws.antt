@@ -4,7 +4,7 @@ use Rattle.cf_tree.specs.declared.raw.BinOp.TheVariants.{Or}
 use Rattle.cf_tree.specs.declared.raw.Param.{Param}
 use Rattle.cf_tree.specs.ExprTree.{ExprTree, expr_lit, expr_truth, expr_var, expr_set_of, expr_tuple, expr_neg, expr_not, expr_abs, expr_binary, expr_divides, expr_div, expr_mod, expr_card, expr_if, expr_call, expr_let, expr_choose, expr_match, ExprTrees, no_exprs, expr_more, match_arm, MatchArmTrees, no_match_arms, match_arm_more}
 use Rattle.cf_program.specs.Lowered.{divisor, test_by, test, any_test, any_fits, unless_last, with_variables, lowered, all_lowered, picked}
-use Rattle.cf_match.specs.NoMatch.{HasNoMatch, HaveNoMatch}
+use Rattle.cf_program.specs.NoMatch.{HasNoMatch, HaveNoMatch}
 
 test_by_none : (x d : ℕ) (k : ℤ) → HasNoMatch (test_by x d k)
 test_by_none x zero k = (tt, tt)

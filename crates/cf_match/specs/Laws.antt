@@ -4,17 +4,13 @@ use Rattle.cf_tree.specs.Allowed.{ProgramAllows}
 use Rattle.cf_tree.specs.DefView.{DefTree}
 use Rattle.cf_tree.specs.ExprTree.{ExprTree}
 use Rattle.cf_tree.specs.Values.{Value, Outcome, HaveBases}
-use Rattle.cf_program.specs.Lowered.{lowered}
+use Rattle.cf_program.specs.Lowered.{lowered_def}
 use Rattle.cf_program.specs.Names.{bases_of}
 use Rattle.cf_program.specs.TypedProgram.{IsTypedProgram}
-use Rattle.cf_match.specs.NoMatch.{HasNoMatch}
+use Rattle.cf_program.specs.NoMatch.{HasNoMatch}
 
 abbrev pub bodies : List DefTree → List ExprTree
 bodies defs = map (λ d. d.body) defs
-
--- a function with each match as the chooses that it stands for
-abbrev pub lowered_def : DefTree → DefTree
-lowered_def d = record { name = d.name; params = d.params; results = d.results; body = lowered d.body }
 
 -- each lowered function allows the same outcomes as before in every environment of its parameters
 abbrev pub LoweringKeepsOutcomes : Type 0

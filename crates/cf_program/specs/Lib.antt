@@ -4,6 +4,7 @@ pub mod CheckAnswers
 pub mod Laws
 pub mod Lowered
 pub mod Names
+pub mod NoMatch
 pub mod Reading
 pub mod Size
 pub mod Source

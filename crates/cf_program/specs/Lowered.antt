@@ -7,6 +7,7 @@ use Rattle.cf_tree.specs.declared.base.Base.TheVariants.{Int}
 use Rattle.cf_tree.specs.declared.base.Order.TheVariants.{Eq}
 use Rattle.cf_tree.specs.declared.raw.BinOp.TheVariants.{Or, Compare}
 use Rattle.cf_tree.specs.declared.raw.Param.{Param}
+use Rattle.cf_tree.specs.DefView.{DefTree}
 use Rattle.cf_tree.specs.ExprTree.{ExprTree, expr_lit, expr_truth, expr_var, expr_set_of, expr_tuple, expr_neg, expr_not, expr_abs, expr_binary, expr_divides, expr_div, expr_mod, expr_card, expr_if, expr_call, expr_let, expr_choose, expr_match, ExprTrees, no_exprs, expr_more, match_arm, MatchArmTrees, no_match_arms, match_arm_more}
 use Rattle.cf_tree.specs.Numbers.{remainder}
 use Rattle.cf_tree.specs.RelTree.{TermTree, term_lit, term_var, term_add, term_mul, rel_false, rel_compare}
@@ -92,3 +93,7 @@ abbrev mutual
   picked x scope no_match_arms = expr_tuple no_exprs
   picked x scope (match_arm_more (match_arm m factors k body) arms) =
       unless_last (test x factors k) (with_variables m x scope factors k (lowered body)) arms (picked x scope arms)
+
+-- a function with each match as the chooses that it stands for
+abbrev pub lowered_def : DefTree → DefTree
+lowered_def d = record { name = d.name; params = d.params; results = d.results; body = lowered d.body }

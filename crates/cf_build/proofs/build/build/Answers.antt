@@ -1,7 +1,8 @@
 use Rattle.std.proofs.Common.{◌≡◌, map, All, sym, subst}
 use Rattle.cf_tree.specs.DefView.{def_tree}
 use Rattle.cf_tree.specs.ExprView.{expr_tree}
-use Rattle.cf_build.specs.Solves.{HasNoMatch, IsAsked, FaultAnswer, question_of, questions_of}
+use Rattle.cf_program.specs.NoMatch.{HasNoMatch}
+use Rattle.cf_build.specs.Solves.{IsAsked, FaultAnswer, question_of, questions_of}
 use Rattle.cf_build.proofs.Building.{all_asked, tells_fault}
 use Rattle.cf_build.proofs.build.build.Goals as goal
 

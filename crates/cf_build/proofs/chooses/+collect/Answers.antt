@@ -1,6 +1,6 @@
 use Rattle.std.proofs.Common.{◌<◌, length, arith}
 use Rattle.cf_tree.specs.ExprView.{expr_tree}
-use Rattle.cf_build.specs.Solves.{HasNoMatch}
+use Rattle.cf_program.specs.NoMatch.{HasNoMatch}
 use Rattle.cf_build.proofs.ChooseLists.{have_no_match}
 use Rattle.cf_build.proofs.LoopSteps.{expr_found, all_more, all_at_end}
 use Rattle.cf_build.proofs.chooses.+collect.Goals as goal

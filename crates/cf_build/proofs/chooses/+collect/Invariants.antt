@@ -1,7 +1,8 @@
 use Rattle.std.proofs.Common.{◌≡◌, ◌++◌, map, take, All}
 use Rattle.cf_tree.specs.ExprView.{expr_tree, expr_trees}
 use Rattle.cf_build.specs.Questions.{questions_all}
-use Rattle.cf_build.specs.Solves.{question_of, HasNoMatch}
+use Rattle.cf_program.specs.NoMatch.{HasNoMatch}
+use Rattle.cf_build.specs.Solves.{question_of}
 use Rattle.cf_build.proofs.chooses.+collect.Given as goal
 
 abbrev pub invariant-collect_all-loop-expr : goal.invariant-collect_all-loop-expr

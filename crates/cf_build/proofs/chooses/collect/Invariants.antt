@@ -1,7 +1,8 @@
 use Rattle.std.proofs.Common.{◌≡◌, map, take, All}
 use Rattle.cf_tree.specs.DefView.{def_tree}
 use Rattle.cf_tree.specs.ExprView.{expr_tree}
-use Rattle.cf_build.specs.Solves.{question_of, questions_of, HasNoMatch}
+use Rattle.cf_program.specs.NoMatch.{HasNoMatch}
+use Rattle.cf_build.specs.Solves.{question_of, questions_of}
 use Rattle.cf_build.proofs.chooses.collect.Given as goal
 
 abbrev pub invariant-loop-def : goal.invariant-loop-def
