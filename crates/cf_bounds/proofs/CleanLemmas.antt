@@ -68,7 +68,7 @@ nonnegs_below n (r ∷ rows) h = (h.0, nonnegs_below n rows h.1)
 
 -- ---- common factors
 -- each entry is a multiple of g
-abbrev EntriesDiv : ℕ → Row → Type 0
+abbrev pub EntriesDiv : ℕ → Row → Type 0
 EntriesDiv g [] = Unit {0}
 EntriesDiv g ((c, k) ∷ r) = Divides (pos g) k × EntriesDiv g r
 

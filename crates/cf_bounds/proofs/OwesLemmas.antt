@@ -19,7 +19,7 @@ unfolding dropped
 dropped_step m x f i free ex = still m (dropped m x) f (dropped_keeps m x free ex) refl (omega arith) refl refl (one_kept m x (how_between x (lowers x m.inequalities) (uppers x m.inequalities)) f i)
 
 -- ---- Clean
-has-in : (c : ℕ) (us : List ℕ) → In c us → has_column us c ≡ true
+pub has-in : (c : ℕ) (us : List ℕ) → In c us → has_column us c ≡ true
 has-in c [] i = absurd i
 has-in c (u ∷ us) i = cond_both (u == c) (pos 0) (pos 0) (λ _. has_column (u ∷ us) c ≡ true) (λ e. rw e refl)
     (λ e. ⊎_elim (λ (j : c ≡ u). absurd (eqb-false u c e (sym j))) (λ j. rw e (has-in c us j)) i)

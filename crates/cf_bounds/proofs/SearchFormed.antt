@@ -22,7 +22,7 @@ record Shaped (C : ℕ → Type 0) (s : Found) : Type 0 where
 one_some : pos 1 ≢ pos 0
 one_some e = absurd (let i = ap unsigned_abs e in omega (arith, i))
 
-two_over : (E : ℕ → Type 0) (a : ℤ) (u : ℕ) (b : ℤ) (v : ℕ) → E u → E v → Over E (two_at a u b v)
+pub two_over : (E : ℕ → Type 0) (a : ℤ) (u : ℕ) (b : ℤ) (v : ℕ) → E u → E v → Over E (two_at a u b v)
 two_over E a u b v h k = Over-comb E a (one_at u) b (one_at v) (h, tt) (k, tt)
 
 two_rise : (a : ℤ) (u : ℕ) (b : ℤ) (v : ℕ) → Rises 0 (two_at a u b v)

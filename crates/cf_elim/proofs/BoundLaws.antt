@@ -173,7 +173,7 @@ pub bound_refused : (s : State) (c : Pick) (n : ℕ) (r : Searched) (f : ElimFau
 bound_refused s c n r (Refused q) p l h d = drop_refused (system_of r.system) c.unknown q (unknown_stage limits s s.system.unknown) _ d (search_left s c n r p l h)
 bound_refused s c n r NoMemory p l h d = tt
 
-dropped_differs : (m : System) (x : ℕ) → Differ m.unknown → Differ (dropped m x).system.unknown
+pub dropped_differs : (m : System) (x : ℕ) → Differ m.unknown → Differ (dropped m x).system.unknown
 unfolding dropped
 dropped_differs m x h = Differ-filter (λ w. not (w == x)) m.unknown h
 

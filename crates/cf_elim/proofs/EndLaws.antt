@@ -36,7 +36,7 @@ use Rattle.cf_bounds.proofs.FormedAgain.{clean_formed, dropped_formed}
 use Rattle.cf_bounds.proofs.SearchFormed.{searched_formed}
 use Rattle.cf_elim.specs.Stages.{IsReady}
 use Rattle.cf_elim.proofs.TupleLaws.{tuples_are}
-use Rattle.cf_elim.proofs.BoundLaws.{searched_differs, plain_search}
+use Rattle.cf_elim.proofs.BoundLaws.{searched_differs, dropped_differs, plain_search}
 
 -- ---- the measure: the product of the search bounds, the unknowns, the equations, the unknowns of the first equation, and the need of a Clean
 abbrev measure : ℕ → ℕ → ℕ → ℕ → ℕ → ℕ
@@ -61,7 +61,7 @@ measure_few : (p u e f c : ℕ) → u ≤ 1000 → e ≤ 1000 → f ≤ u → c 
 measure_few p u e f c a b d g = omega arith
 
 -- the unknowns of the first equation
-abbrev held : List ℕ → List Row → ℕ
+abbrev pub held : List ℕ → List Row → ℕ
 held us [] = 0
 held us (e ∷ rest) = length (present us e)
 
@@ -81,20 +81,20 @@ filter_short : {A : Type 0} (p : A → Bool) (xs : List A) → length (filter p 
 filter_short p [] = omega arith
 filter_short p (x ∷ xs) = let i = filter_short p xs in cond_both (p x) (x ∷ filter p xs) (filter p xs) (λ ys. length ys ≤ suc (length xs)) (λ _. omega arith) (λ _. omega arith)
 
-filter_all : {A : Type 0} (p : A → Bool) (xs : List A) → (length (filter p xs) < length xs) ⊎ (filter p xs ≡ xs)
+pub filter_all : {A : Type 0} (p : A → Bool) (xs : List A) → (length (filter p xs) < length xs) ⊎ (filter p xs ≡ xs)
 filter_all p [] = inr refl
 filter_all p (x ∷ xs) = cond_both (p x) (x ∷ filter p xs) (filter p xs) (λ ys. (length ys < suc (length xs)) ⊎ (ys ≡ x ∷ xs))
     (λ _. ⊎_elim (λ l. inl (omega arith)) (λ e. inr (ap (λ ys. x ∷ ys) e)) (filter_all p xs))
     (λ _. let i = filter_short p xs in inl (omega arith))
 
-filter_gone : (x : ℕ) (us : List ℕ) → In x us → length (filter (λ w. not (w == x)) us) < length us
+pub filter_gone : (x : ℕ) (us : List ℕ) → In x us → length (filter (λ w. not (w == x)) us) < length us
 filter_gone x [] i = absurd i
 filter_gone x (u ∷ us) i = let l = filter_short (λ w. not (w == x)) us in
     on_bool (u == x)
     (λ e. rw e (omega arith))
     (λ e. ⊎_elim (λ (q : x ≡ u). absurd (eqb-false u x e (sym q))) (λ j. let k = filter_gone x us j in rw e (omega arith)) i)
 
-held_few : (us : List ℕ) (rows : List Row) → held us rows ≤ length us
+pub held_few : (us : List ℕ) (rows : List Row) → held us rows ≤ length us
 held_few us [] = omega arith
 held_few us (e ∷ rest) = filter_short (λ u. not (is_zero (entry e u))) us
 
@@ -238,7 +238,7 @@ moved_same x u y v c n m = rw (ne_eqb c y m, ne_eqb c x n) refl
 moved_new : (x u y v : ℕ) → v ≢ x → moved x u y v y ≡ v
 moved_new x u y v n = rw (eq-eqb y y refl, ne_eqb v x n) refl
 
-merge_held : (m : System) (e : Row) (rest : List Row) (x y : ℕ) → Formed m → m.equations ≡ e ∷ rest → Over (λ c. c < m.next) e → In x m.unknown → In y m.unknown → x ≢ y → entry e x ≢ pos 0 → entry e y ≢ pos 0 →
+pub merge_held : (m : System) (e : Row) (rest : List Row) (x y : ℕ) → Formed m → m.equations ≡ e ∷ rest → Over (λ c. c < m.next) e → In x m.unknown → In y m.unknown → x ≢ y → entry e x ≢ pos 0 → entry e y ≢ pos 0 →
     held (merge m e x y).system.unknown (merge m e x y).system.equations < length (present m.unknown e)
 unfolding merge mix
 merge_held m e rest x y f eq o ix iy n ex ey =
@@ -285,7 +285,7 @@ not_refused false r h t a e = (refl, e)
 falls_at : (s u t : State) (x a : Taken) → goes u x ≡ goes t a → Falls s u → Falls s t
 falls_at s u t x a e h = let q : u ≡ t = cc in subst (λ y. Falls s y) q h
 
-counts_few : (m : System) → first_count limits m ≡ None → (length m.equations ≤ 1000) × (length m.unknown ≤ 1000)
+pub counts_few : (m : System) → first_count limits m ≡ None → (length m.equations ≤ 1000) × (length m.unknown ≤ 1000)
 counts_few m e = on_bool (nat_lt 1000 (rows_of m))
     (λ t. let q : Some (Limit Rows (rows_of m)) ≡ None = rw t at e in cc)
     (λ t. on_bool (nat_lt 1000 (columns_of m))
@@ -305,11 +305,11 @@ clean_less us rows p le lu =
     rw q (by_need p (length us) (length rows) (held us rows) 1 (stuck us rows) (omega arith)))
     (filter_all (has_unknown us) rows)
 
-clean_differ : (m : System) → Differ m.unknown → Differ (clean m).system.unknown
+pub clean_differ : (m : System) → Differ m.unknown → Differ (clean m).system.unknown
 unfolding clean
 clean_differ m d = d
 
-clean_ready : (m : System) → IsReady m → IsReady (clean m).system
+pub clean_ready : (m : System) → IsReady m → IsReady (clean m).system
 clean_ready m r = record { formed = clean_formed m r.formed; differ = clean_differ m r.differ }
 
 cleaned_less : (m : System) (p : ℕ) → length (clean m).system.equations ≤ 1000 → length (clean m).system.unknown ≤ 1000 →
@@ -343,7 +343,7 @@ length-map_rows : (f : Row → Row) (rows : List Row) → length (map f rows) �
 length-map_rows f [] = refl
 length-map_rows f (r ∷ rows) = ap suc (length-map_rows f rows)
 
-last_lengths : (m : System) (e : Row) (rest : List Row) (u : ℕ) → (length (last m e rest u).system.equations ≡ length rest) × (length (last m e rest u).system.unknown ≤ length m.unknown)
+pub last_lengths : (m : System) (e : Row) (rest : List Row) (u : ℕ) → (length (last m e rest u).system.equations ≡ length rest) × (length (last m e rest u).system.unknown ≤ length m.unknown)
 unfolding last
 last_lengths m e rest u = (length-map_rows _ rest, filter_short (λ w. not (w == u)) m.unknown)
 
@@ -369,11 +369,11 @@ length-replaced : (x y : ℕ) (us : List ℕ) → length (replaced x y us) ≡ l
 length-replaced x y [] = refl
 length-replaced x y (u ∷ us) = ap suc (length-replaced x y us)
 
-merge_lengths : (m : System) (e : Row) (x y : ℕ) → (length (merge m e x y).system.unknown ≡ length m.unknown) × (length (merge m e x y).system.equations ≡ length m.equations)
+pub merge_lengths : (m : System) (e : Row) (x y : ℕ) → (length (merge m e x y).system.unknown ≡ length m.unknown) × (length (merge m e x y).system.equations ≡ length m.equations)
 unfolding merge mix
 merge_lengths m e x y = (rw (length-replaced, length-replaced) refl, rw (length-map_rows, length-map_rows) refl)
 
-merge_ready : (m : System) (e : Row) (x y : ℕ) → IsReady m → In x m.unknown → In y m.unknown → x ≢ y → IsReady (merge m e x y).system
+pub merge_ready : (m : System) (e : Row) (x y : ℕ) → IsReady m → In x m.unknown → In y m.unknown → x ≢ y → IsReady (merge m e x y).system
 unfolding merge
 merge_ready m e x y r ix iy n = record { formed = mix_formed m x y _ _ _ _ r.formed ix iy n; differ = mix_differs m x y _ _ _ _ r.formed r.differ }
 
@@ -410,11 +410,11 @@ equation_falls s t a e rest (u ∷ w ∷ us) b c q p g =
     falls_at s _ t _ a (not_refused _ Past _ t a x.1).1 (merge_falls s e rest u w us b q p)
 
 -- ---- a Bound step
-tuples_pick : (m : System) (x : ℕ) (us : List ℕ) (n : ℕ) → n ≤ 2 ^ 64 - 1 →
+pub tuples_pick : (m : System) (x : ℕ) (us : List ℕ) (n : ℕ) → n ≤ 2 ^ 64 - 1 →
     fold times_bound n (searched_by m (pick m.inequalities x us)).bounds ≡ min (n * (pick m.inequalities x us).product) (2 ^ 64 - 1)
 tuples_pick m x us n l = pick_is (λ c. fold times_bound n (searched_by m c).bounds ≡ min (n * c.product) (2 ^ 64 - 1)) m.inequalities x us (λ u i. tuples_are m u n l)
 
-searched_ready : (m : System) (c : Pick) → IsReady m → In c.unknown m.unknown → m.equations ≡ [] → IsReady (searched_by m c).system × IsFree c.unknown (searched_by m c).system.equations
+pub searched_ready : (m : System) (c : Pick) → IsReady m → In c.unknown m.unknown → m.equations ≡ [] → IsReady (searched_by m c).system × IsFree c.unknown (searched_by m c).system.equations
 unfolding searched_by
 searched_ready m c r i q =
     let free : IsFree c.unknown m.equations = subst (λ rows. IsFree c.unknown rows) (sym q) tt in
@@ -423,14 +423,10 @@ searched_ready m c r i q =
     (λ _. (record { formed = searched_formed m c.unknown c.lower r.formed i; differ = searched_differs m c.unknown c.lower r.formed r.differ }, searched_free m c.unknown c.lower r.formed i free))
     (λ _. (r, free))
 
-dropped_differ : (m : System) (x : ℕ) → Differ m.unknown → Differ (dropped m x).system.unknown
-unfolding dropped
-dropped_differ m x d = Differ-filter (λ w. not (w == x)) m.unknown d
-
 dropped_ready : (m : System) (x : ℕ) → IsReady m → IsFree x m.equations → IsReady (dropped m x).system
-dropped_ready m x r f = record { formed = dropped_formed m x r.formed f; differ = dropped_differ m x r.differ }
+dropped_ready m x r f = record { formed = dropped_formed m x r.formed f; differ = dropped_differs m x r.differ }
 
-bound_ready : (m : System) (c : Pick) → IsReady m → In c.unknown m.unknown → m.equations ≡ [] → IsReady (bound m c).system
+pub bound_ready : (m : System) (c : Pick) → IsReady m → In c.unknown m.unknown → m.equations ≡ [] → IsReady (bound m c).system
 unfolding bound
 bound_ready m c r i q = let h = searched_ready m c r i q in dropped_ready (searched_by m c).system c.unknown h.0 h.1
 
@@ -446,7 +442,7 @@ plain_tuples : (m : System) (c : Pick) (n : ℕ) → c.product ≤ 1 → fold ti
 plain_tuples m c n l = rw (plain_search m c l) refl
 
 -- a search at least doubles the tuples
-doubled : (n p : ℕ) → 1 < p → min (n * p) (2 ^ 64 - 1) ≤ 1048576 → 2 * n ≤ min (n * p) (2 ^ 64 - 1)
+pub doubled : (n p : ℕ) → 1 < p → min (n * p) (2 ^ 64 - 1) ≤ 1048576 → 2 * n ≤ min (n * p) (2 ^ 64 - 1)
 doubled n p h l = let k = mul-le n 2 n p (omega arith) h in omega arith
 
 bound_less : (s : State) (c : Pick) (n : ℕ) → Before s → In c.unknown s.system.unknown → n ≡ fold times_bound s.tuples (searched_by s.system c).bounds → n ≡ min (s.tuples * c.product) (2 ^ 64 - 1) → n ≤ 1048576 →

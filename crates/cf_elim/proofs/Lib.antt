@@ -8,3 +8,11 @@ pub mod StageLaws
 pub mod StepReturns
 pub mod TupleLaws
 pub mod NextStageLaws
+pub mod StageOwes
+pub mod StageEnds
+pub mod SolvedRuns
+pub mod StageCounts
+pub mod RunCounts
+pub mod SmallRows
+pub mod StageSmall
+pub mod RunSmall

@@ -181,11 +181,11 @@ equations_are m = by m.equations
     by [] h = absurd (omega arith)
     by (e ∷ rows) h = refl
 
-merge_formed : (m : System) (e : Row) (u w : ℕ) → Formed m → In u m.unknown → In w m.unknown → u ≢ w → Formed (merge m e u w).system
+pub merge_formed : (m : System) (e : Row) (u w : ℕ) → Formed m → In u m.unknown → In w m.unknown → u ≢ w → Formed (merge m e u w).system
 unfolding merge
 merge_formed m e u w f iu iw apart = mix_formed m u w _ _ _ _ f iu iw apart
 
-merge_differs : (m : System) (e : Row) (u w : ℕ) → Formed m → Differ m.unknown → Differ (merge m e u w).system.unknown
+pub merge_differs : (m : System) (e : Row) (u w : ℕ) → Formed m → Differ m.unknown → Differ (merge m e u w).system.unknown
 unfolding merge
 merge_differs m e u w f d = mix_differs m u w _ _ _ _ f d
 

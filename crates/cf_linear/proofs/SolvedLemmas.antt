@@ -13,7 +13,7 @@ use Rattle.cf_linear.proofs.KindLemmas.{IsZero, IsNonneg, Over-weaker, In-append
 use Rattle.cf_linear.proofs.ValueLemmas.{update-at, update-other, Same-trans, AllFit-append, AllFit-split, Within-append, Within-split}
 
 -- ---- values that agree on a kind of column
-abbrev Agree : (ℕ → Type 0) → Values → Values → Type 0
+abbrev pub Agree : (ℕ → Type 0) → Values → Values → Type 0
 Agree Q v w = (c : ℕ) → Q c → v c ≡ w c
 
 value-agree : (Q : ℕ → Type 0) (v w : Values) → Agree Q v w → (r : Row) → Over Q r → value v r ≡ value w r
@@ -92,7 +92,7 @@ tuple_within lo hi v ((c, n) ∷ bs) (k ∷ ks) ri h =
     let at : k ≡ set_tuple (update v c k) bs ks c = sym (set_tuple-other (update v c k) bs ks c not_later ∙ update-at v c k) in
     (subst (λ y. pos 0 ≤ℤ y) at h.0, subst (λ y. y <ℤ pos n) at h.1, tuple_within (suc c) hi (update v c k) bs ks ri.1 h.2)
 
-Within-agree : (v w : Values) (bs : List (ℕ × ℕ)) → Agree (λ c. In c (search_columns bs)) v w → Within v bs → Within w bs
+pub Within-agree : (v w : Values) (bs : List (ℕ × ℕ)) → Agree (λ c. In c (search_columns bs)) v w → Within v bs → Within w bs
 Within-agree v w [] a h = tt
 Within-agree v w ((c, n) ∷ bs) a h =
     (subst (λ y. pos 0 ≤ℤ y) (a c (inl refl)) h.0, subst (λ y. y <ℤ pos n) (a c (inl refl)) h.1, Within-agree v w bs (λ d i. a d (inr i)) h.2)
@@ -153,7 +153,7 @@ AllFit-agree R Q v w a f (need_nonneg r ∷ ms) o l h = (subst (λ y. pos 0 ≤�
 AllFit-agree R Q v w a f (need_zero r ∷ ms) o l h = (sym (value-agree R v w a r (Over-weaker Q R f r o.0)) ∙ h.0, AllFit-agree R Q v w a f ms o.1 l h.1)
 AllFit-agree R Q v w a f (need_divides g r ∷ ms) o l h = (subst (λ y. Divides g y) (value-agree R v w a r (Over-weaker Q R f r o.0)) h.0, AllFit-agree R Q v w a f ms o.1 l h.1)
 
-after_back-append : (v : Values) (xs ys : List (ℕ × How)) → after_back v (xs ++ ys) ≡ after_back (after_back v xs) ys
+pub after_back-append : (v : Values) (xs ys : List (ℕ × How)) → after_back v (xs ++ ys) ≡ after_back (after_back v xs) ys
 after_back-append v [] ys = refl
 after_back-append v ((x, w) ∷ xs) ys = after_back-append (update v x (how_value v w)) xs ys
 
