@@ -1,5 +1,6 @@
 -- The rows of an atom hold for some quotients exactly where the atom holds with its signs.
-use Rattle.std.proofs.Common.{◌≡◌, ◌≢◌, ℕ, zero, suc, ◌+◌, ◌-◌, ◌<◌, ◌≤◌, ℤ, pos, negsuc, ◌+ℤ◌, ◌-ℤ◌, ◌*ℤ◌, List, [], ◌∷◌, ◌++◌, length, Bool, refl, sym, ◌∙◌, ap, arith, length-append}
+use Rattle.std.proofs.Common.{◌≡◌, ◌≢◌, ℕ, zero, suc, ◌+◌, ◌-◌, ◌<◌, ◌≤◌, ℤ, pos, negsuc, ◌+ℤ◌, ◌-ℤ◌, ◌*ℤ◌, List, [], ◌∷◌, ◌++◌, length, Bool, refl, sym, ◌∙◌}
+use Rattle.std.proofs.Common.{ap, arith, length-append}
 use Rattle.std.specs.Prelude.{◌≤ℤ◌, ◌<ℤ◌}
 use Rattle.std.specs.Int.{int_div_euclid}
 use Rattle.std.proofs.lemmas.Int.{ints}
@@ -16,7 +17,8 @@ use Rattle.cf_linear.specs.Systems.{EachRow}
 use Rattle.cf_linear.specs.Relations.{Divides}
 use Rattle.cf_linear.specs.Layout.{Layout, first_free, region_row}
 use Rattle.cf_linear.specs.Written.{above_quotient, below_quotient, constant_row, plus, write, val_at, abs_count, IsPlaced}
-use Rattle.cf_linear.specs.Cases.{atom_true, atom_false, atom_compare, atom_divides, atom_not_divides, atom_same, atom_other, atom_subset, atom_not_subset, Signed, AtomRows, less, compare_zero, compare_nonneg, in_first, in_one, some_row, guards_of, write_atom}
+use Rattle.cf_linear.specs.Cases.{atom_true, atom_false, atom_compare, atom_divides, atom_not_divides, atom_same, atom_other, atom_subset, atom_not_subset}
+use Rattle.cf_linear.specs.Cases.{Signed, AtomRows, less, compare_zero, compare_nonneg, in_first, in_one, some_row, guards_of, write_atom}
 use Rattle.cf_linear.proofs.RowLemmas.{value-put, value-comb}
 use Rattle.cf_linear.proofs.WritingLemmas.{write-next}
 use Rattle.cf_linear.proofs.WrittenLemmas.{value-plus, write-value}
@@ -111,7 +113,8 @@ module _ (l : Layout) (v : Values) (one : v 0 ≡ pos 1) where
     pub is_value : value v (write l t ss q).row ≡ val_at l v t
     pub are_signs : ss ≡ signs_of (val_at l v) t ++ (write l t ss q).signs
 
-  read : (t : TermTree) (ss : List Bool) (q : ℕ) → IsPlaced l t × IsLinearTerm t → first_free l ≤ q → abs_count t ≤ length ss → AreNonneg v (guards_of (write l t ss q)) → Read t ss q
+  read : (t : TermTree) (ss : List Bool) (q : ℕ) → IsPlaced l t × IsLinearTerm t → first_free l ≤ q → abs_count t ≤ length ss →
+      AreNonneg v (guards_of (write l t ss q)) → Read t ss q
   read t ss q p h n g =
       let w = write l t ss q in
       let f = write-fits l t ss q p.0 h in
@@ -128,7 +131,8 @@ module _ (l : Layout) (v : Values) (one : v 0 ≡ pos 1) where
 
   -- ---- from rows to the atom
   from_compare : (o : Order) (a b : TermTree) (ss : List Bool) (q : ℕ) → SignedFits l (atom_compare o a b, ss) → first_free l ≤ q →
-      AreZero v (write_atom l (atom_compare o a b, ss) q).equations → AreNonneg v (write_atom l (atom_compare o a b, ss) q).inequalities → SignedAt l v (atom_compare o a b, ss)
+      AreZero v (write_atom l (atom_compare o a b, ss) q).equations → AreNonneg v (write_atom l (atom_compare o a b, ss) q).inequalities →
+      SignedAt l v (atom_compare o a b, ss)
   unfolding write_atom
   from_compare o a b ss q p h z g =
       let w = write l a ss q in
@@ -142,7 +146,8 @@ module _ (l : Layout) (v : Values) (one : v 0 ≡ pos 1) where
       (rw (r.is_value, t.is_value) at c, r.are_signs ∙ ap (λ x. signs_of (val_at l v) a ++ x) (whole_signs b w.signs w.next t n))
 
   from_divides : (k : ℤ) (t : TermTree) (ss : List Bool) (q : ℕ) → SignedFits l (atom_divides k t, ss) → first_free l ≤ q →
-      AreZero v (write_atom l (atom_divides k t, ss) q).equations → AreNonneg v (write_atom l (atom_divides k t, ss) q).inequalities → SignedAt l v (atom_divides k t, ss)
+      AreZero v (write_atom l (atom_divides k t, ss) q).equations → AreNonneg v (write_atom l (atom_divides k t, ss) q).inequalities →
+      SignedAt l v (atom_divides k t, ss)
   unfolding write_atom
   from_divides k t ss q p h z g =
       let w = write l t ss q in
@@ -158,7 +163,8 @@ module _ (l : Layout) (v : Values) (one : v 0 ≡ pos 1) where
       let w = write l t ss q in
       let j = EachRow-split (λ r. pos 0 ≤ℤ value v r) (guards_of w) (plus (above_quotient w.next w.row k) (negsuc 0) ∷ below_quotient w.next w.row k ∷ []) g in
       let r = read t ss q (p.0.1, p.0.2) h (let n = p.1 in omega arith) j.0 in
-      let x : pos 0 ≤ℤ (val_at l v t -ℤ k *ℤ v w.next +ℤ negsuc 0) = rw (value-plus v (above_quotient w.next w.row k) (negsuc 0) one, value-above v w.next w.row k, r.is_value) at j.1.0 in
+      let x : pos 0 ≤ℤ (val_at l v t -ℤ k *ℤ v w.next +ℤ negsuc 0) =
+      rw (value-plus v (above_quotient w.next w.row k) (negsuc 0) one, value-above v w.next w.row k, r.is_value) at j.1.0 in
       let y : pos 0 ≤ℤ (k *ℤ v w.next +ℤ (k -ℤ pos 1) -ℤ val_at l v t) = rw (value-below v w.next w.row k one, r.is_value) at j.1.1.0 in
       (not_multiple (val_at l v t) k (v w.next) p.0.0.0 x y, whole_signs t ss q r p.1)
 
@@ -168,7 +174,8 @@ module _ (l : Layout) (v : Values) (one : v 0 ≡ pos 1) where
   from_false : AreNonneg v (constant_row (negsuc 0) ∷ []) → ⊥
   from_false g = let h = rw (value-put v 0 (negsuc 0) [], one) at g.0 in omega (arith, ints)
 
-  pub atom_from_rows : (s : Signed) (q : ℕ) → SignedFits l s → first_free l ≤ q → AreZero v (write_atom l s q).equations → AreNonneg v (write_atom l s q).inequalities → SignedAt l v s
+  pub atom_from_rows : (s : Signed) (q : ℕ) → SignedFits l s → first_free l ≤ q → AreZero v (write_atom l s q).equations →
+      AreNonneg v (write_atom l s q).inequalities → SignedAt l v s
   unfolding write_atom
   atom_from_rows (atom_true, ss) q p h z g = (tt, no_signs ss p.1)
   atom_from_rows (atom_false, ss) q p h z g = absurd (from_false g)
@@ -180,7 +187,8 @@ module _ (l : Layout) (v : Values) (one : v 0 ≡ pos 1) where
   atom_from_rows (atom_subset a b, ss) q p h z g = (z, no_signs ss p.1)
   atom_from_rows (atom_not_subset a b, ss) q p h z g = (from_some (in_first l a b) g, no_signs ss p.1)
 
-pub rows-same : (n : ℕ) (P : ℤ → Type 0) (x y : Values) → Same n x y → (rs : List Row) → EachRow (AreBelow n) rs → EachRow (λ r. P (value x r)) rs → EachRow (λ r. P (value y r)) rs
+pub rows-same : (n : ℕ) (P : ℤ → Type 0) (x y : Values) → Same n x y → (rs : List Row) → EachRow (AreBelow n) rs → EachRow (λ r. P (value x r)) rs →
+    EachRow (λ r. P (value y r)) rs
 rows-same n P x y s [] b p = tt
 rows-same n P x y s (r ∷ rs) b p = (rw (value-same n x y r s b.0) at p.0, rows-same n P x y s rs b.1 p.1)
 
@@ -197,9 +205,11 @@ module _ (l : Layout) (v : Values) (one : v 0 ≡ pos 1) where
   one_too q w h s = sym (s 0 (let z = positive_free l in omega arith)) ∙ one
 
   -- the form has the same value with the new columns
-  filled_value : (t : TermTree) (ss rest : List Bool) (q : ℕ) → IsPlaced l t × IsLinearTerm t → first_free l ≤ q → (f : Filled q v (write l t ss q) rest) → value f.values (write l t ss q).row ≡ val_at l v t
+  filled_value : (t : TermTree) (ss rest : List Bool) (q : ℕ) → IsPlaced l t × IsLinearTerm t → first_free l ≤ q → (f : Filled q v (write l t ss q) rest) →
+      value f.values (write l t ss q).row ≡ val_at l v t
   filled_value t ss rest q p h f =
-      write-value l f.values (one_too q f.values h f.same) t ss q p.1 f.holds ∙ sym (val_at-same l v f.values (same-less (first_free l) q v f.values h f.same) t p.0)
+      write-value l f.values (one_too q f.values h f.same) t ss q p.1 f.holds ∙
+      sym (val_at-same l v f.values (same-less (first_free l) q v f.values h f.same) t p.0)
 
   -- the form with its quotients, and a quotient in the next column
   pub record Divided (t : TermTree) (ss : List Bool) (q : ℕ) (d : ℤ) : Type 0 where
@@ -226,7 +236,8 @@ module _ (l : Layout) (v : Values) (one : v 0 ≡ pos 1) where
         guards = rows_from_guards u (one_too q u h m) w.next w.guards k.guards (guards-same w.next f.values u s w.guards k.guards f.holds);
       }
 
-  to_compare : (o : Order) (a b : TermTree) (ss : List Bool) (q : ℕ) → SignedFits l (atom_compare o a b, ss) → first_free l ≤ q → SignedAt l v (atom_compare o a b, ss) → Met q v (write_atom l (atom_compare o a b, ss) q)
+  to_compare : (o : Order) (a b : TermTree) (ss : List Bool) (q : ℕ) → SignedFits l (atom_compare o a b, ss) → first_free l ≤ q →
+      SignedAt l v (atom_compare o a b, ss) → Met q v (write_atom l (atom_compare o a b, ss) q)
   unfolding write_atom
   to_compare o a b ss q p h g =
       let w = write l a ss q in
@@ -235,13 +246,16 @@ module _ (l : Layout) (v : Values) (one : v 0 ≡ pos 1) where
       let i : q ≤ w.next = omega (arith, write-next l a ss q) in
       let c = one_too q f.values h f.same in
       let s = same-less (first_free l) q v f.values h f.same in
-      let k = fill l b w.signs [] w.next f.values p.0.2.0 p.0.2.1 (omega arith) c (f.left ∙ signs-same l v f.values s b p.0.2.0 ∙ sym (append-nil (signs_of (val_at l f.values) b))) in
+      let k = fill l b w.signs [] w.next f.values p.0.2.0 p.0.2.1 (omega arith) c (f.left ∙ signs-same l v f.values s b p.0.2.0 ∙
+      sym (append-nil (signs_of (val_at l f.values) b))) in
       let m = Same-trans q w.next v f.values k.values i f.same k.same in
       let j = one_too q k.values h m in
       let n = write-fits l a ss q p.0.1.0 h in
       let n' = write-fits l b w.signs w.next p.0.2.0 (omega arith) in
-      let x : value k.values w.row ≡ val_at l v a = sym (value-same w.next f.values k.values w.row k.same n.row) ∙ filled_value a ss (signs_of (val_at l v) b) q p.0.1 h f in
-      let y : value k.values u.row ≡ val_at l v b = write-value l k.values j b w.signs w.next p.0.2.1 k.holds ∙ sym (val_at-same l v k.values (same-less (first_free l) q v k.values h m) b p.0.2.0) in
+      let x : value k.values w.row ≡ val_at l v a = sym (value-same w.next f.values k.values w.row k.same n.row) ∙
+      filled_value a ss (signs_of (val_at l v) b) q p.0.1 h f in
+      let y : value k.values u.row ≡ val_at l v b = write-value l k.values j b w.signs w.next p.0.2.1 k.holds ∙
+      sym (val_at-same l v k.values (same-less (first_free l) q v k.values h m) b p.0.2.0) in
       let z : Compares o (value k.values w.row) (value k.values u.row) = rw (x, y) g.0 in
       record {
         values = k.values;
@@ -254,7 +268,8 @@ module _ (l : Layout) (v : Values) (one : v 0 ≡ pos 1) where
             (nonneg_from_compares k.values j w.row u.row o z);
       }
 
-  to_divides : (k : ℤ) (t : TermTree) (ss : List Bool) (q : ℕ) → SignedFits l (atom_divides k t, ss) → first_free l ≤ q → SignedAt l v (atom_divides k t, ss) → Met q v (write_atom l (atom_divides k t, ss) q)
+  to_divides : (k : ℤ) (t : TermTree) (ss : List Bool) (q : ℕ) → SignedFits l (atom_divides k t, ss) → first_free l ≤ q →
+      SignedAt l v (atom_divides k t, ss) → Met q v (write_atom l (atom_divides k t, ss) q)
   unfolding write_atom
   to_divides k t ss q p h g =
       let w = write l t ss q in
@@ -267,7 +282,8 @@ module _ (l : Layout) (v : Values) (one : v 0 ≡ pos 1) where
         nonneg = EachRow-append (λ r. pos 0 ≤ℤ value d.values r) (guards_of w) [] d.guards tt;
       }
 
-  to_not_divides : (k : ℤ) (t : TermTree) (ss : List Bool) (q : ℕ) → SignedFits l (atom_not_divides k t, ss) → first_free l ≤ q → SignedAt l v (atom_not_divides k t, ss) → Met q v (write_atom l (atom_not_divides k t, ss) q)
+  to_not_divides : (k : ℤ) (t : TermTree) (ss : List Bool) (q : ℕ) → SignedFits l (atom_not_divides k t, ss) → first_free l ≤ q →
+      SignedAt l v (atom_not_divides k t, ss) → Met q v (write_atom l (atom_not_divides k t, ss) q)
   unfolding write_atom
   to_not_divides k t ss q p h g =
       let w = write l t ss q in
@@ -281,10 +297,11 @@ module _ (l : Layout) (v : Values) (one : v 0 ≡ pos 1) where
         values = d.values;
         same = d.same;
         zero = tt;
-        nonneg = EachRow-append (λ r. pos 0 ≤ℤ value d.values r) (guards_of w) (plus (above_quotient w.next w.row k) (negsuc 0) ∷ below_quotient w.next w.row k ∷ []) d.guards (
-          rw (value-plus d.values (above_quotient w.next w.row k) (negsuc 0) j, value-above d.values w.next w.row k, d.row_is, d.column_is) x,
-          (rw (value-below d.values w.next w.row k j, d.row_is, d.column_is) y, tt),
-        );
+        nonneg = EachRow-append (λ r. pos 0 ≤ℤ value d.values r) (guards_of w) (plus (above_quotient w.next w.row k) (negsuc 0) ∷
+            below_quotient w.next w.row k ∷ []) d.guards (
+              rw (value-plus d.values (above_quotient w.next w.row k) (negsuc 0) j, value-above d.values w.next w.row k, d.row_is, d.column_is) x,
+              (rw (value-below d.values w.next w.row k j, d.row_is, d.column_is) y, tt),
+            );
       }
 
   to_some : (p : ℕ → Bool) → pos 1 ≤ℤ value v (region_row l p) → AreNonneg v (some_row l p ∷ [])

@@ -1,5 +1,6 @@
 -- Rows whose columns are below a column.
-use Rattle.std.proofs.Common.{◌≡◌, ℕ, zero, suc, ◌+◌, ◌-◌, ◌^◌, ◌<◌, ◌≤◌, ◌==◌, ℤ, pos, negsuc, neg_ℤ, ◌-ℤ◌, ◌+ℤ◌, ◌*ℤ◌, List, [], ◌∷◌, Bool, true, false, ◌||◌, length, map, filter, refl, arith}
+use Rattle.std.proofs.Common.{◌≡◌, ℕ, zero, suc, ◌+◌, ◌-◌, ◌^◌, ◌<◌, ◌≤◌, ◌==◌, ℤ, pos, negsuc, neg_ℤ, ◌-ℤ◌, ◌+ℤ◌, ◌*ℤ◌, List, [], ◌∷◌, Bool, true, false}
+use Rattle.std.proofs.Common.{◌||◌, length, map, filter, refl, arith}
 use Rattle.std.specs.Prelude.{nat_lt, IsTrue, ◌≤ℤ◌}
 use Rattle.std.specs.List.{range_with_len}
 use Rattle.std.proofs.lemmas.Bool.{cond_both}
@@ -9,7 +10,8 @@ use Rattle.cf_tree.specs.Relation.{is_fixed}
 use Rattle.cf_linear.specs.Rows.{Row, Values, entry, value, is_zero, put, add_at, comb, AreBelow}
 use Rattle.cf_linear.specs.Keep.{Same}
 use Rattle.cf_linear.specs.Layout.{Layout, set_count, has_level, place, covers, number_column, region_column, first_free, region_row}
-use Rattle.cf_linear.specs.Written.{GuardTree, sign_guard, quotient_guard, constant_row, plus, above_quotient, below_quotient, WrittenTree, from_one, from_two, with_quotient, signed_by, first_sign, product_by, write, IsPlaced}
+use Rattle.cf_linear.specs.Written.{GuardTree, sign_guard, quotient_guard, constant_row, plus, above_quotient, below_quotient, WrittenTree, from_one}
+use Rattle.cf_linear.specs.Written.{from_two, with_quotient, signed_by, first_sign, product_by, write, IsPlaced}
 use Rattle.cf_linear.proofs.BoolLemmas.{on_bool}
 use Rattle.cf_linear.proofs.Joining.{AreBelow-raise}
 use Rattle.cf_linear.proofs.WritingLemmas.{write-next}
@@ -44,10 +46,12 @@ pub below-above_quotient : (n c : ℕ) (r : Row) (k : ℤ) → c < n → AreBelo
 below-above_quotient n c r k h p = below-comb n (pos 1) r (neg_ℤ k) (put c (pos 1) []) p (below-put n c (pos 1) [] h tt)
 
 pub below-below_quotient : (n c : ℕ) (r : Row) (k : ℤ) → c < n → AreBelow n r → AreBelow n (below_quotient c r k)
-below-below_quotient n c r k h p = below-plus n (comb (negsuc 0) r k (put c (pos 1) [])) (k -ℤ pos 1) (omega arith) (below-comb n (negsuc 0) r k (put c (pos 1) []) p (below-put n c (pos 1) [] h tt))
+below-below_quotient n c r k h p = below-plus n (comb (negsuc 0) r k (put c (pos 1) [])) (k -ℤ pos 1) (omega arith)
+    (below-comb n (negsuc 0) r k (put c (pos 1) []) p (below-put n c (pos 1) [] h tt))
 
 -- entries 1 at the columns of the numbers that pass
-pub below-ones : (n : ℕ) (f : ℕ → ℕ) (p : ℕ → Bool) (a k : ℕ) → ((m : ℕ) → a ≤ m → m < a + k → f m < n) → AreBelow n (map (λ m. (f m, pos 1)) (filter p (range_with_len a k)))
+pub below-ones : (n : ℕ) (f : ℕ → ℕ) (p : ℕ → Bool) (a k : ℕ) → ((m : ℕ) → a ≤ m → m < a + k → f m < n) →
+    AreBelow n (map (λ m. (f m, pos 1)) (filter p (range_with_len a k)))
 below-ones n f p a zero h = tt
 below-ones n f p a (suc k) h =
     let rest = below-ones n f p (a + 1) k (λ m x y. h m (omega arith) (omega arith)) in
@@ -57,7 +61,8 @@ below-ones n f p a (suc k) h =
 -- ---- columns of a layout
 has_place : (x : ℕ) (xs : List ℕ) → has_level xs x ≡ true → place x xs < length xs
 has_place x [] h = absurd (cc)
-has_place x (y ∷ ys) h = on_bool (y == x) (λ e. rw e (omega arith)) (λ e. let k : has_level ys x ≡ true = rw e at h in let i = has_place x ys k in rw e (omega arith))
+has_place x (y ∷ ys) h = on_bool (y == x) (λ e. rw e (omega arith)) (λ e. let k : has_level ys x ≡ true = rw e at h in let i = has_place x ys k in
+    rw e (omega arith))
 
 pub positive_free : (l : Layout) → 0 < first_free l
 positive_free l = omega (arith, pow_pos (length l.inputs), pow_pos (set_count l))
@@ -65,7 +70,8 @@ positive_free l = omega (arith, pow_pos (length l.inputs), pow_pos (set_count l)
 pub number-below : (l : Layout) (x : ℕ) → IsTrue (has_level l.numbers x || has_level l.out_numbers x) → number_column l x < first_free l
 number-below l x h = on_bool (has_level l.numbers x)
     (λ e. let p = has_place x l.numbers e in rw e (omega (arith, pow_pos (length l.inputs), pow_pos (set_count l))))
-    (λ e. let p = has_place x l.out_numbers (other_side (has_level l.numbers x) (has_level l.out_numbers x) h e) in rw e (omega (arith, pow_pos (length l.inputs), pow_pos (set_count l))))
+    (λ e. let p = has_place x l.out_numbers (other_side (has_level l.numbers x) (has_level l.out_numbers x) h e) in
+    rw e (omega (arith, pow_pos (length l.inputs), pow_pos (set_count l))))
 
 pub region-below : (l : Layout) (m : ℕ) → 1 ≤ m → m < 1 + (2 ^ set_count l - 1) → region_column l m < first_free l
 region-below l m h k = omega (arith, pow_pos (length l.inputs), pow_pos (set_count l))
@@ -91,7 +97,11 @@ fitting-one : (w : WrittenTree) (r : Row) → Fitting w → AreBelow w.next r �
 fitting-one w r f p = record { row = p; guards = f.guards }
 
 fitting-two : (w u : WrittenTree) (r : Row) → Fitting w → Fitting u → w.next ≤ u.next → AreBelow u.next r → Fitting (from_two w u r)
-fitting-two w u r f g h p = record { row = p; guards = each-append (GuardFits u.next) w.guards u.guards (each-imp (GuardFits w.next) (GuardFits u.next) (guard-raise w.next u.next h) w.guards f.guards) g.guards }
+fitting-two w u r f g h p = record {
+  row = p;
+  guards = each-append (GuardFits u.next) w.guards u.guards
+      (each-imp (GuardFits w.next) (GuardFits u.next) (guard-raise w.next u.next h) w.guards f.guards) g.guards;
+}
 
 fitting-quotient : (w : WrittenTree) (k : ℤ) (r : Row) → Fitting w → pos 1 ≤ℤ k → AreBelow (w.next + 1) r → Fitting (with_quotient w k r)
 fitting-quotient w k r f h p = record {
@@ -104,7 +114,11 @@ fitting-quotient w k r f h p = record {
 fitting-sign : (b : Bool) (w : WrittenTree) → Fitting w → 0 < w.next → Fitting (signed_by b w)
 fitting-sign true w f h =
     let t = below-comb w.next (negsuc 0) w.row (pos 0) [] f.row tt in
-    record { row = t; guards = each-append (GuardFits w.next) w.guards (sign_guard (plus (comb (negsuc 0) w.row (pos 0) []) (negsuc 0)) ∷ []) f.guards (below-plus w.next (comb (negsuc 0) w.row (pos 0) []) (negsuc 0) h t, tt) }
+    record {
+      row = t;
+      guards = each-append (GuardFits w.next) w.guards (sign_guard (plus (comb (negsuc 0) w.row (pos 0) []) (negsuc 0)) ∷ []) f.guards
+          (below-plus w.next (comb (negsuc 0) w.row (pos 0) []) (negsuc 0) h t, tt);
+    }
 fitting-sign false w f h = record { row = f.row; guards = each-append (GuardFits w.next) w.guards (sign_guard w.row ∷ []) f.guards (f.row, tt) }
 
 below-product : (n : ℕ) (b : Bool) (r s : Row) → AreBelow n r → AreBelow n s → AreBelow n (product_by b r s)
@@ -114,7 +128,10 @@ below-product n false r s p q = below-comb n (entry s 0) r (pos 0) [] p tt
 pub write-fits : (l : Layout) (t : TermTree) (ss : List Bool) (q : ℕ) → IsPlaced l t → first_free l ≤ q → Fitting (write l t ss q)
 write-fits l (term_lit n) ss q p h = record { row = below-put q 0 n [] (let z = positive_free l in omega arith) tt; guards = tt }
 write-fits l (term_var x) ss q p h = record { row = below-put q (number_column l x) (pos 1) [] (let z = number-below l x p in omega arith) tt; guards = tt }
-write-fits l (term_card s) ss q p h = record { row = AreBelow-raise (first_free l) q (region_row l (covers l s)) h (below-region_row l (covers l s)); guards = tt }
+write-fits l (term_card s) ss q p h = record {
+  row = AreBelow-raise (first_free l) q (region_row l (covers l s)) h (below-region_row l (covers l s));
+  guards = tt;
+}
 write-fits l (term_neg a) ss q p h =
     let w = write l a ss q in
     let f = write-fits l a ss q p h in
@@ -132,14 +149,16 @@ write-fits l (term_sub a b) ss q p h =
     let i : w.next ≤ u.next = omega (arith, write-next l b w.signs w.next) in
     let f = write-fits l a ss q p.0 h in
     let g = write-fits l b w.signs w.next p.1 (omega (arith, write-next l a ss q)) in
-    fitting-two w u (comb (pos 1) w.row (negsuc 0) u.row) f g i (below-comb u.next (pos 1) w.row (negsuc 0) u.row (AreBelow-raise w.next u.next w.row i f.row) g.row)
+    fitting-two w u (comb (pos 1) w.row (negsuc 0) u.row) f g i (below-comb u.next (pos 1) w.row (negsuc 0) u.row
+    (AreBelow-raise w.next u.next w.row i f.row) g.row)
 write-fits l (term_mul a b) ss q p h =
     let w = write l a ss q in
     let u = write l b w.signs w.next in
     let i : w.next ≤ u.next = omega (arith, write-next l b w.signs w.next) in
     let f = write-fits l a ss q p.0 h in
     let g = write-fits l b w.signs w.next p.1 (omega (arith, write-next l a ss q)) in
-    fitting-two w u (product_by (is_fixed a) w.row u.row) f g i (below-product u.next (is_fixed a) w.row u.row (AreBelow-raise w.next u.next w.row i f.row) g.row)
+    fitting-two w u (product_by (is_fixed a) w.row u.row) f g i (below-product u.next (is_fixed a) w.row u.row (AreBelow-raise w.next u.next w.row i f.row)
+    g.row)
 write-fits l (term_div a k) ss q p h =
     let w = write l a ss q in
     let f = write-fits l a ss q p.0 h in
@@ -147,7 +166,8 @@ write-fits l (term_div a k) ss q p h =
 write-fits l (term_mod a k) ss q p h =
     let w = write l a ss q in
     let f = write-fits l a ss q p.0 h in
-    fitting-quotient w k (above_quotient w.next w.row k) f p.1.0 (below-above_quotient (w.next + 1) w.next w.row k (omega arith) (AreBelow-raise w.next (w.next + 1) w.row (omega arith) f.row))
+    fitting-quotient w k (above_quotient w.next w.row k) f p.1.0 (below-above_quotient (w.next + 1) w.next w.row k (omega arith)
+    (AreBelow-raise w.next (w.next + 1) w.row (omega arith) f.row))
 write-fits l (term_abs a) ss q p h =
     let w = write l a ss q in
     let z = positive_free l in

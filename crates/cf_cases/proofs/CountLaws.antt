@@ -5,7 +5,8 @@ use Rattle.std.proofs.lemmas.Bool.{cases_lt}
 use Rattle.std.proofs.lemmas.Nat.{pow-add}
 use Rattle.cf_tree.specs.declared.base.Order.{Order}
 use Rattle.cf_tree.specs.declared.base.Order.TheVariants.{Eq, Ne, Lt, Le, Gt, Ge}
-use Rattle.cf_tree.specs.RelTree.{SetTree, TermTree, RelTree, rel_true, rel_false, rel_compare, rel_same_set, rel_other_set, rel_subset, rel_divides, rel_and, rel_or}
+use Rattle.cf_tree.specs.RelTree.{SetTree, TermTree, RelTree, rel_true, rel_false, rel_compare, rel_same_set, rel_other_set, rel_subset, rel_divides, rel_and}
+use Rattle.cf_tree.specs.RelTree.{rel_or}
 use Rattle.cf_linear.specs.Written.{abs_count}
 use Rattle.cf_linear.specs.Cases.{atom_compare, atom_ways, opposite, negation_normal, case_count}
 use Rattle.cf_cases.specs.Counts.{wide, order_as, order_ways, both_or_either}
@@ -49,12 +50,14 @@ pub sum_capped : (a b x y z : ℕ) → x ≡ wide a → y ≡ wide b → z ≡ w
 sum_capped a b x y z e f g = g ∙ rw (e, f) (capped_add (2 ^ 128 - 1) a b)
 
 -- ---- parts of a relation
-pub and_count : (b : Bool) (p q : RelTree) (x y z : ℕ) → x ≡ wide (case_count (negation_normal b p)) → y ≡ wide (case_count (negation_normal b q)) → z ≡ wide (both_or_either b x y) → z ≡ wide (case_count (negation_normal b (rel_and p q)))
+pub and_count : (b : Bool) (p q : RelTree) (x y z : ℕ) → x ≡ wide (case_count (negation_normal b p)) → y ≡ wide (case_count (negation_normal b q)) →
+    z ≡ wide (both_or_either b x y) → z ≡ wide (case_count (negation_normal b (rel_and p q)))
 unfolding case_count
 and_count true p q x y z e f g = product_capped (case_count (negation_normal true p)) (case_count (negation_normal true q)) x y z e f g
 and_count false p q x y z e f g = sum_capped (case_count (negation_normal false p)) (case_count (negation_normal false q)) x y z e f g
 
-pub or_count : (b : Bool) (p q : RelTree) (x y z : ℕ) → x ≡ wide (case_count (negation_normal b p)) → y ≡ wide (case_count (negation_normal b q)) → z ≡ wide (both_or_either (not b) x y) → z ≡ wide (case_count (negation_normal b (rel_or p q)))
+pub or_count : (b : Bool) (p q : RelTree) (x y z : ℕ) → x ≡ wide (case_count (negation_normal b p)) → y ≡ wide (case_count (negation_normal b q)) →
+    z ≡ wide (both_or_either (not b) x y) → z ≡ wide (case_count (negation_normal b (rel_or p q)))
 unfolding case_count
 or_count true p q x y z e f g = sum_capped (case_count (negation_normal true p)) (case_count (negation_normal true q)) x y z e f g
 or_count false p q x y z e f g = product_capped (case_count (negation_normal false p)) (case_count (negation_normal false q)) x y z e f g
@@ -72,7 +75,8 @@ compare_ways Le a b = refl
 compare_ways Gt a b = refl
 compare_ways Ge a b = refl
 
-compare_is : (d : Bool) (o : Order) (a b : TermTree) → order_ways (order_as d o) * 2 ^ (abs_count a + abs_count b) ≡ case_count (negation_normal d (rel_compare o a b))
+compare_is : (d : Bool) (o : Order) (a b : TermTree) → order_ways (order_as d o) * 2 ^ (abs_count a + abs_count b) ≡ case_count
+    (negation_normal d (rel_compare o a b))
 unfolding case_count
 compare_is true o a b = ap (λ n. n * 2 ^ (abs_count a + abs_count b)) (compare_ways o a b)
 compare_is false o a b = ap (λ n. n * 2 ^ (abs_count a + abs_count b)) (compare_ways (opposite o) a b)
@@ -85,7 +89,8 @@ few_ways Le = refl
 few_ways Gt = refl
 few_ways Ge = refl
 
-pub compare_count : (d : Bool) (o : Order) (a b : TermTree) (n x y z r : ℕ) → n ≡ order_ways (order_as d o) → x ≡ wide (2 ^ abs_count a) → y ≡ wide (2 ^ abs_count b) → z ≡ wide (x * y) → r ≡ wide (n * z) →
+pub compare_count : (d : Bool) (o : Order) (a b : TermTree) (n x y z r : ℕ) → n ≡ order_ways (order_as d o) → x ≡ wide (2 ^ abs_count a) →
+    y ≡ wide (2 ^ abs_count b) → z ≡ wide (x * y) → r ≡ wide (n * z) →
     r ≡ wide (case_count (negation_normal d (rel_compare o a b)))
 compare_count d o a b n x y z r h e f g i =
     let p : z ≡ wide (2 ^ abs_count a * 2 ^ abs_count b) = product_capped (2 ^ abs_count a) (2 ^ abs_count b) x y z e f g in

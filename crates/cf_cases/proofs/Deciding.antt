@@ -1,10 +1,10 @@
 -- Facts that hold or do not.
-use Rattle.std.proofs.Common.{inl, inr, ◌≡◌, ◌≢◌, ◌⊎◌, ℤ, pos, ◌+ℤ◌, ◌-ℤ◌, ◌*ℤ◌, Bool, true, false, List, refl, sym, ◌∙◌, arith}
+use Rattle.std.proofs.Common.{inl, inr, ◌≡◌, ◌⊎◌, ℤ, pos, ◌+ℤ◌, ◌*ℤ◌, Bool, true, false, List, sym, ◌∙◌, arith}
 use Rattle.std.specs.Prelude.{◌≤ℤ◌, ◌<ℤ◌, int_lt, ◌↔◌}
 use Rattle.std.specs.Int.{int_div_euclid}
 use Rattle.std.specs.Ordering.{int_eq}
 use Rattle.std.proofs.lemmas.Int.{ints}
-use Rattle.cf_num.proofs.DivisionLemmas.{int_div_euclid-bounds, int_div_euclid_once}
+use Rattle.cf_num.proofs.DivisionLemmas.{int_div_euclid_once}
 use Rattle.cf_tree.specs.declared.base.Order.{Order}
 use Rattle.cf_tree.specs.declared.base.Order.TheVariants.{Eq, Ne, Lt, Le, Gt, Ge}
 use Rattle.cf_tree.specs.Numbers.{Compares}

@@ -1,5 +1,6 @@
 -- The first system of a case is as each step of the elimination asks.
-use Rattle.std.proofs.Common.{inl, inr, ◌⊎◌, ℕ, zero, suc, ◌+◌, ◌-◌, ◌^◌, ◌%◌, ◌<◌, ◌≤◌, ◌==◌, ℤ, pos, negsuc, neg_ℤ, ◌-ℤ◌, List, [], ◌∷◌, ◌++◌, length, map, filter, Bool, true, false, arith}
+use Rattle.std.proofs.Common.{inl, inr, ◌⊎◌, ℕ, zero, suc, ◌+◌, ◌-◌, ◌^◌, ◌%◌, ◌<◌, ◌≤◌, ◌==◌, ℤ, pos, negsuc, neg_ℤ, ◌-ℤ◌, List, [], ◌∷◌, ◌++◌, length, map}
+use Rattle.std.proofs.Common.{filter, Bool, true, false, arith}
 use Rattle.std.specs.List.{range_with_len, fold, flat_map}
 use Rattle.std.proofs.lemmas.Bool.{cond_both, cases_lt}
 use Rattle.std.proofs.lemmas.Nat.{pow_pos}
@@ -11,8 +12,11 @@ use Rattle.cf_linear.specs.Rows.{Row, entry, put, comb, Rises, AreBelow}
 use Rattle.cf_linear.specs.Keep.{In, Over, IsColumn, Formed}
 use Rattle.cf_linear.specs.Systems.{EachRow}
 use Rattle.cf_linear.specs.Layout.{Layout, masks, set_count, covers, first_free, known_count, number_column, region_column, region_row, input_column}
-use Rattle.cf_linear.specs.Written.{GuardTree, guard_rows, sign_guard, quotient_guard, above_quotient, below_quotient, plus, WrittenTree, first_sign, signed_by, product_by, write}
-use Rattle.cf_linear.specs.Cases.{atom_true, atom_false, atom_compare, atom_divides, atom_not_divides, atom_same, atom_other, atom_subset, atom_not_subset, Signed, AtomRows, less, compare_zero, compare_nonneg, in_first, in_one, guards_of, write_atom, input_row, no_rows, rows_then, case_rows, system_of_case}
+use Rattle.cf_linear.specs.Written.{GuardTree, guard_rows, sign_guard, quotient_guard, above_quotient, below_quotient, plus, WrittenTree, first_sign}
+use Rattle.cf_linear.specs.Written.{signed_by, product_by, write}
+use Rattle.cf_linear.specs.Cases.{atom_true, atom_false, atom_compare, atom_divides, atom_not_divides, atom_same, atom_other, atom_subset, atom_not_subset}
+use Rattle.cf_linear.specs.Cases.{Signed, AtomRows, less, compare_zero, compare_nonneg, in_first, in_one, guards_of, write_atom, input_row, no_rows}
+use Rattle.cf_linear.specs.Cases.{rows_then, case_rows, system_of_case}
 use Rattle.cf_linear.proofs.Canonical.{Rises-lower, Rises-put}
 use Rattle.cf_linear.proofs.CombLemmas.{Rises-comb}
 use Rattle.cf_linear.proofs.KindLemmas.{EachRow-append}
@@ -29,7 +33,8 @@ Rises-above : (c : ℕ) (r : Row) (k : ℤ) → Rises 0 r → Rises 0 (above_quo
 Rises-above c r k p = Rises-comb 0 (pos 1) r (neg_ℤ k) (put c (pos 1) []) p (Rises-column c (pos 1))
 
 Rises-below : (c : ℕ) (r : Row) (k : ℤ) → Rises 0 r → Rises 0 (below_quotient c r k)
-Rises-below c r k p = Rises-plus (comb (negsuc 0) r k (put c (pos 1) [])) (k -ℤ pos 1) (Rises-comb 0 (negsuc 0) r k (put c (pos 1) []) p (Rises-column c (pos 1)))
+Rises-below c r k p = Rises-plus (comb (negsuc 0) r k (put c (pos 1) [])) (k -ℤ pos 1)
+    (Rises-comb 0 (negsuc 0) r k (put c (pos 1) []) p (Rises-column c (pos 1)))
 
 Rises-turned : (r : Row) → Rises 0 r → Rises 0 (comb (negsuc 0) r (pos 0) [])
 Rises-turned r p = Rises-comb 0 (negsuc 0) r (pos 0) [] p tt
@@ -44,11 +49,17 @@ Rises-ones d p a zero h = tt
 Rises-ones d p a (suc k) h =
     let rest = Rises-ones d p (a + 1) k (omega arith) in
     cond_both (p a) (a ∷ filter p (range_with_len (a + 1) k)) (filter p (range_with_len (a + 1) k)) (λ x. Rises (d + a - 1) (map (λ m. (d + m - 1, pos 1)) x))
-    (λ e. (omega arith, (λ z. cc), Rises-lower (suc (d + a - 1)) (d + (a + 1) - 1) (map (λ m. (d + m - 1, pos 1)) (filter p (range_with_len (a + 1) k))) (omega arith) rest))
+    (λ e. (
+      omega arith,
+      (λ z. cc),
+      Rises-lower (suc (d + a - 1)) (d + (a + 1) - 1) (map (λ m. (d + m - 1, pos 1)) (filter p (range_with_len (a + 1) k)))
+          (omega arith) rest,
+    ))
     (λ e. Rises-lower (d + a - 1) (d + (a + 1) - 1) (map (λ m. (d + m - 1, pos 1)) (filter p (range_with_len (a + 1) k))) (omega arith) rest)
 
 pub Rises-region : (l : Layout) (p : ℕ → Bool) → Rises (known_count l + length l.out_numbers) (region_row l p)
-Rises-region l p = Rises-lower (known_count l + length l.out_numbers) (known_count l + length l.out_numbers + 1 - 1) (region_row l p) (omega arith) (Rises-ones (known_count l + length l.out_numbers) p 1 (2 ^ set_count l - 1) (omega arith))
+Rises-region l p = Rises-lower (known_count l + length l.out_numbers) (known_count l + length l.out_numbers + 1 - 1) (region_row l p) (omega arith)
+    (Rises-ones (known_count l + length l.out_numbers) p 1 (2 ^ set_count l - 1) (omega arith))
 
 Rises-region_0 : (l : Layout) (p : ℕ → Bool) → Rises 0 (region_row l p)
 Rises-region_0 l p = Rises-lower 0 (known_count l + length l.out_numbers) (region_row l p) (omega arith) (Rises-region l p)
@@ -65,7 +76,8 @@ record Rising (w : WrittenTree) : Type 0 where
 rising-sign : (b : Bool) (w : WrittenTree) → Rising w → Rising (signed_by b w)
 rising-sign true w f = record {
   row = Rises-turned w.row f.row;
-  guards = each-append GuardRises w.guards (sign_guard (plus (comb (negsuc 0) w.row (pos 0) []) (negsuc 0)) ∷ []) f.guards (Rises-plus (comb (negsuc 0) w.row (pos 0) []) (negsuc 0) (Rises-turned w.row f.row), tt);
+  guards = each-append GuardRises w.guards (sign_guard (plus (comb (negsuc 0) w.row (pos 0) []) (negsuc 0)) ∷ []) f.guards
+      (Rises-plus (comb (negsuc 0) w.row (pos 0) []) (negsuc 0) (Rises-turned w.row f.row), tt);
 }
 rising-sign false w f = record { row = f.row; guards = each-append GuardRises w.guards (sign_guard w.row ∷ []) f.guards (f.row, tt) }
 
@@ -137,7 +149,11 @@ atom-rises l (atom_compare o a b, ss) q =
     let f = write-rises l a ss q in
     let g = write-rises l b w.signs w.next in
     let c = compare_rises o w.row u.row f.row g.row in
-    record { zero = c.0; nonneg = EachRow-append (Rises 0) (guards_of w ++ guards_of u) (compare_nonneg o w.row u.row) (EachRow-append (Rises 0) (guards_of w) (guards_of u) (guards_rise w.guards f.guards) (guards_rise u.guards g.guards)) c.1 }
+    record {
+      zero = c.0;
+      nonneg = EachRow-append (Rises 0) (guards_of w ++ guards_of u) (compare_nonneg o w.row u.row)
+          (EachRow-append (Rises 0) (guards_of w) (guards_of u) (guards_rise w.guards f.guards) (guards_rise u.guards g.guards)) c.1;
+    }
 atom-rises l (atom_divides k t, ss) q =
     let w = write l t ss q in
     let f = write-rises l t ss q in
@@ -147,20 +163,29 @@ atom-rises l (atom_not_divides k t, ss) q =
     let f = write-rises l t ss q in
     record {
       zero = tt;
-      nonneg = EachRow-append (Rises 0) (guards_of w) (plus (above_quotient w.next w.row k) (negsuc 0) ∷ below_quotient w.next w.row k ∷ []) (guards_rise w.guards f.guards)
+      nonneg = EachRow-append (Rises 0) (guards_of w) (plus (above_quotient w.next w.row k) (negsuc 0) ∷ below_quotient w.next w.row k ∷ [])
+          (guards_rise w.guards f.guards)
           (Rises-plus (above_quotient w.next w.row k) (negsuc 0) (Rises-above w.next w.row k f.row), (Rises-below w.next w.row k f.row, tt));
     }
 atom-rises l (atom_same a b, ss) q = record { zero = columns_rise (region_column l) (filter (in_one l a b) (masks (set_count l))); nonneg = tt }
 atom-rises l (atom_other a b, ss) q = record { zero = tt; nonneg = (Rises-plus (region_row l (in_one l a b)) (negsuc 0) (Rises-region_0 l (in_one l a b)), tt) }
 atom-rises l (atom_subset a b, ss) q = record { zero = columns_rise (region_column l) (filter (in_first l a b) (masks (set_count l))); nonneg = tt }
-atom-rises l (atom_not_subset a b, ss) q = record { zero = tt; nonneg = (Rises-plus (region_row l (in_first l a b)) (negsuc 0) (Rises-region_0 l (in_first l a b)), tt) }
+atom-rises l (atom_not_subset a b, ss) q = record {
+  zero = tt;
+  nonneg =
+      (Rises-plus (region_row l (in_first l a b)) (negsuc 0) (Rises-region_0 l (in_first l a b)), tt);
+}
 
 case_rise : (l : Layout) (c : List Signed) (a : AtomRows) → RowsRise a → RowsRise (fold (rows_then l) a c)
 case_rise l [] a p = p
 case_rise l (s ∷ c) a p =
     let b = write_atom l s a.next in
     let q = atom-rises l s a.next in
-    case_rise l c (rows_then l a s) (record { zero = EachRow-append (Rises 0) a.equations b.equations p.zero q.zero; nonneg = EachRow-append (Rises 0) a.inequalities b.inequalities p.nonneg q.nonneg })
+    case_rise l c (rows_then l a s) (record {
+      zero = EachRow-append (Rises 0) a.equations b.equations p.zero q.zero;
+      nonneg =
+          EachRow-append (Rises 0) a.inequalities b.inequalities p.nonneg q.nonneg;
+    })
 
 case_low : (l : Layout) (c : List Signed) (a : AtomRows) → CaseFits l c → first_free l ≤ a.next → Low a → Low (fold (rows_then l) a c)
 case_low l [] a f h p = p
@@ -192,7 +217,8 @@ inputs_rise l a zero h i = tt
 inputs_rise l a (suc k) h i =
     let low : suc (input_column l a) ≤ known_count l + length l.out_numbers = omega (arith, pow_pos (length l.inputs)) in (
       Rises-put 0 (input_column l a) (negsuc 0) (region_row l (λ r. r % 2 ^ length l.inputs == a)) (omega arith)
-          (Rises-lower (suc (input_column l a)) (known_count l + length l.out_numbers) (region_row l (λ r. r % 2 ^ length l.inputs == a)) low (Rises-region l (λ r. r % 2 ^ length l.inputs == a))),
+          (Rises-lower (suc (input_column l a)) (known_count l + length l.out_numbers) (region_row l (λ r. r % 2 ^ length l.inputs == a)) low
+          (Rises-region l (λ r. r % 2 ^ length l.inputs == a))),
       inputs_rise l (a + 1) k (omega arith) (omega arith),
     )
 
@@ -215,8 +241,10 @@ system-formed l c f =
       below = λ d h. let r = range-In 0 k d h in omega arith;
       unknown_below = λ d h. let r = range-In k (a.next - k) d h in omega arith;
       apart = λ d h g. let r = range-In 0 k d h in let s = range-In k (a.next - k) d g in omega arith;
-      zero = rows_over (IsColumn (system_of_case l c)) a.next column (a.equations ++ input_rows) (EachRow-append (AreBelow a.next) a.equations input_rows low.zero input_low);
-      nonneg = rows_over (IsColumn (system_of_case l c)) a.next column (a.inequalities ++ count_rows) (EachRow-append (AreBelow a.next) a.inequalities count_rows low.nonneg count_low);
+      zero = rows_over (IsColumn (system_of_case l c)) a.next column (a.equations ++ input_rows)
+          (EachRow-append (AreBelow a.next) a.equations input_rows low.zero input_low);
+      nonneg = rows_over (IsColumn (system_of_case l c)) a.next column (a.inequalities ++ count_rows)
+          (EachRow-append (AreBelow a.next) a.inequalities count_rows low.nonneg count_low);
       zero_rise = EachRow-append (Rises 0) a.equations input_rows rise.zero (inputs_rise l 1 (2 ^ length l.inputs - 1) (omega arith) (omega arith));
       nonneg_rise = EachRow-append (Rises 0) a.inequalities count_rows rise.nonneg (columns_rise (region_column l) (masks (set_count l)));
     }

@@ -20,7 +20,8 @@ use Rattle.cf_cases.specs.Holding.{EachOf}
 use Rattle.cf_cases.proofs.BelowLaws.{GuardFits, value-same}
 
 pub quotient-is : (z k : ℤ) → pos 1 ≤ℤ k → quotient z k ≡ int_div_euclid z k
-quotient-is z k p = cond_both (int_lt (pos 0) k) (int_div_euclid z k) (pos 0) (λ x. x ≡ int_div_euclid z k) (λ e. refl) (λ e. absurd (let l = lt_not (pos 0) k e in omega (arith, ints)))
+quotient-is z k p = cond_both (int_lt (pos 0) k) (int_div_euclid z k) (pos 0) (λ x. x ≡ int_div_euclid z k) (λ e. refl)
+    (λ e. absurd (let l = lt_not (pos 0) k e in omega (arith, ints)))
 
 -- ---- rows
 pub value-column : (v : Values) (c : ℕ) → value v (put c (pos 1) []) ≡ v c
@@ -30,14 +31,16 @@ above_is : (z x k c : ℤ) → x ≡ k *ℤ c → pos 1 *ℤ z +ℤ neg_ℤ x �
 above_is z x k c e = omega (arith, ints)
 
 pub value-above : (v : Values) (c : ℕ) (r : Row) (k : ℤ) → value v (above_quotient c r k) ≡ value v r -ℤ k *ℤ v c
-value-above v c r k = value-comb v (pos 1) r (neg_ℤ k) (put c (pos 1) []) ∙ rw (value-column v c, neg-mul_z k (v c)) (above_is (value v r) (k *ℤ v c) k (v c) refl)
+value-above v c r k = value-comb v (pos 1) r (neg_ℤ k) (put c (pos 1) []) ∙
+    rw (value-column v c, neg-mul_z k (v c)) (above_is (value v r) (k *ℤ v c) k (v c) refl)
 
 below_is : (z x m : ℤ) → negsuc 0 *ℤ z +ℤ x +ℤ m ≡ x +ℤ m -ℤ z
 below_is z x m = omega (arith, ints)
 
 pub value-below : (v : Values) (c : ℕ) (r : Row) (k : ℤ) → v 0 ≡ pos 1 → value v (below_quotient c r k) ≡ k *ℤ v c +ℤ (k -ℤ pos 1) -ℤ value v r
 value-below v c r k one =
-    value-plus v (comb (negsuc 0) r k (put c (pos 1) [])) (k -ℤ pos 1) one ∙ rw (value-comb v (negsuc 0) r k (put c (pos 1) []), value-column v c) (below_is (value v r) (k *ℤ v c) (k -ℤ pos 1))
+    value-plus v (comb (negsuc 0) r k (put c (pos 1) [])) (k -ℤ pos 1) one ∙
+    rw (value-comb v (negsuc 0) r k (put c (pos 1) []), value-column v c) (below_is (value v r) (k *ℤ v c) (k -ℤ pos 1))
 
 -- ---- quotients
 between : (z x k : ℤ) → pos 0 ≤ℤ (z -ℤ x) → pos 0 ≤ℤ (x +ℤ (k -ℤ pos 1) -ℤ z) → (x ≤ℤ z) × (z <ℤ (x +ℤ k))
@@ -61,22 +64,26 @@ rows_from_quotient z k c p e =
 -- ---- guards
 pub guard_from_rows : (v : Values) → v 0 ≡ pos 1 → (n : ℕ) (g : GuardTree) → GuardFits n g → EachRow (λ r. pos 0 ≤ℤ value v r) (guard_rows g) → GuardHolds v g
 guard_from_rows v one n (sign_guard r) f p = p.0
-guard_from_rows v one n (quotient_guard c r k) f p = quotient_from_rows (value v r) k (v c) f.2 (rw (value-above v c r k) at p.0) (rw (value-below v c r k one) at p.1.0)
+guard_from_rows v one n (quotient_guard c r k) f p = quotient_from_rows (value v r) k (v c) f.2 (rw (value-above v c r k) at p.0)
+    (rw (value-below v c r k one) at p.1.0)
 
 pub rows_from_guard : (v : Values) → v 0 ≡ pos 1 → (n : ℕ) (g : GuardTree) → GuardFits n g → GuardHolds v g → EachRow (λ r. pos 0 ≤ℤ value v r) (guard_rows g)
 rows_from_guard v one n (sign_guard r) f p = (p, tt)
 rows_from_guard v one n (quotient_guard c r k) f p =
     let b = rows_from_quotient (value v r) k (v c) f.2 p in (rw (value-above v c r k) b.0, (rw (value-below v c r k one) b.1, tt))
 
-pub guards_from_rows : (v : Values) → v 0 ≡ pos 1 → (n : ℕ) (gs : List GuardTree) → EachOf (GuardFits n) gs → EachRow (λ r. pos 0 ≤ℤ value v r) (flat_map guard_rows gs) → GuardsHold v gs
+pub guards_from_rows : (v : Values) → v 0 ≡ pos 1 → (n : ℕ) (gs : List GuardTree) → EachOf (GuardFits n) gs →
+    EachRow (λ r. pos 0 ≤ℤ value v r) (flat_map guard_rows gs) → GuardsHold v gs
 guards_from_rows v one n [] f p = tt
 guards_from_rows v one n (g ∷ gs) f p =
     let q = EachRow-split (λ r. pos 0 ≤ℤ value v r) (guard_rows g) (flat_map guard_rows gs) p in
     (guard_from_rows v one n g f.0 q.0, guards_from_rows v one n gs f.1 q.1)
 
-pub rows_from_guards : (v : Values) → v 0 ≡ pos 1 → (n : ℕ) (gs : List GuardTree) → EachOf (GuardFits n) gs → GuardsHold v gs → EachRow (λ r. pos 0 ≤ℤ value v r) (flat_map guard_rows gs)
+pub rows_from_guards : (v : Values) → v 0 ≡ pos 1 → (n : ℕ) (gs : List GuardTree) → EachOf (GuardFits n) gs → GuardsHold v gs →
+    EachRow (λ r. pos 0 ≤ℤ value v r) (flat_map guard_rows gs)
 rows_from_guards v one n [] f p = tt
-rows_from_guards v one n (g ∷ gs) f p = EachRow-append (λ r. pos 0 ≤ℤ value v r) (guard_rows g) (flat_map guard_rows gs) (rows_from_guard v one n g f.0 p.0) (rows_from_guards v one n gs f.1 p.1)
+rows_from_guards v one n (g ∷ gs) f p = EachRow-append (λ r. pos 0 ≤ℤ value v r) (guard_rows g) (flat_map guard_rows gs) (rows_from_guard v one n g f.0 p.0)
+    (rows_from_guards v one n gs f.1 p.1)
 
 pub guards-join : (v : Values) (gs hs : List GuardTree) → GuardsHold v gs → GuardsHold v hs → GuardsHold v (gs ++ hs)
 guards-join v [] hs p q = q

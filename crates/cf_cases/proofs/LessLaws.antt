@@ -40,10 +40,13 @@ less-plus r s p q = row_ext 0 (less (plus r (negsuc 0)) s) (plus (less r s) (neg
     (λ x. entries x)
   where
     left : (x : ℕ) → entry (less (plus r (negsuc 0)) s) x ≡ pos 1 *ℤ (pos 1 *ℤ entry r x +ℤ pos 1 *ℤ entry (constant_row (negsuc 0)) x) +ℤ negsuc 0 *ℤ entry s x
-    left x = entry-comb x (pos 1) (plus r (negsuc 0)) (negsuc 0) s ∙ ap (λ z. pos 1 *ℤ z +ℤ negsuc 0 *ℤ entry s x) (entry-comb x (pos 1) r (pos 1) (constant_row (negsuc 0)))
+    left x = entry-comb x (pos 1) (plus r (negsuc 0)) (negsuc 0) s ∙
+        ap (λ z. pos 1 *ℤ z +ℤ negsuc 0 *ℤ entry s x) (entry-comb x (pos 1) r (pos 1) (constant_row (negsuc 0)))
 
-    right : (x : ℕ) → entry (plus (less r s) (negsuc 0)) x ≡ pos 1 *ℤ (pos 1 *ℤ entry r x +ℤ negsuc 0 *ℤ entry s x) +ℤ pos 1 *ℤ entry (constant_row (negsuc 0)) x
-    right x = entry-comb x (pos 1) (less r s) (pos 1) (constant_row (negsuc 0)) ∙ ap (λ z. pos 1 *ℤ z +ℤ pos 1 *ℤ entry (constant_row (negsuc 0)) x) (entry-comb x (pos 1) r (negsuc 0) s)
+    right : (x : ℕ) → entry (plus (less r s) (negsuc 0)) x ≡ pos 1 *ℤ (pos 1 *ℤ entry r x +ℤ negsuc 0 *ℤ entry s x) +ℤ pos 1 *ℤ entry
+        (constant_row (negsuc 0)) x
+    right x = entry-comb x (pos 1) (less r s) (pos 1) (constant_row (negsuc 0)) ∙
+        ap (λ z. pos 1 *ℤ z +ℤ pos 1 *ℤ entry (constant_row (negsuc 0)) x) (entry-comb x (pos 1) r (negsuc 0) s)
 
     entries : (x : ℕ) → entry (less (plus r (negsuc 0)) s) x ≡ entry (plus (less r s) (negsuc 0)) x
     entries x = left x ∙ swapped (entry r x) (entry s x) (entry (constant_row (negsuc 0)) x) ∙ sym (right x)
@@ -60,6 +63,8 @@ less_past r s p q n h = on_bool (row_passes (plus (less r s) (negsuc 0))) (λ e.
 
     at_0 : row_passes (plus (less r s) (negsuc 0)) ≡ false → passes (entry (less r s) 0) ≡ false
     at_0 e =
-        let w : IsWithin (entry (less r s) 0 +ℤ negsuc 0) = within_is (entry (less r s) 0 +ℤ negsuc 0) (rw (entry_0 (less r s)) at (entry_not (plus (less r s) (negsuc 0)) 0 0 (Rises-plus (less r s) (negsuc 0) rises) e)) in
+        let w : IsWithin (entry (less r s) 0 +ℤ negsuc 0) = within_is (entry (less r s) 0 +ℤ negsuc 0)
+        (rw (entry_0 (less r s)) at (entry_not (plus (less r s) (negsuc 0)) 0 0 (Rises-plus (less r s) (negsuc 0) rises) e)) in
         let i = entry-comb 0 (pos 1) r (negsuc 0) s in
-        rw i (within_not (pos 1 *ℤ entry r 0 +ℤ negsuc 0 *ℤ entry s 0) (gap_within (entry r 0) (entry s 0) (entry-within r 0 0 p.0 p.1) (entry-within s 0 0 q.0 q.1) n (rw i at w)))
+        rw i (within_not (pos 1 *ℤ entry r 0 +ℤ negsuc 0 *ℤ entry s 0)
+        (gap_within (entry r 0) (entry s 0) (entry-within r 0 0 p.0 p.1) (entry-within s 0 0 q.0 q.1) n (rw i at w)))

@@ -1,5 +1,6 @@
 -- Whether a row of an atom passes the limit does not depend on the columns of its quotients.
-use Rattle.std.proofs.Common.{◌≡◌, ℕ, ◌+◌, ◌-◌, ◌<◌, ◌≤◌, ◌==◌, ℤ, pos, negsuc, neg_ℤ, ◌-ℤ◌, ◌+ℤ◌, ◌*ℤ◌, List, [], ◌∷◌, ◌++◌, Bool, true, false, ◌||◌, cond, refl, sym, ◌∙◌, ap, subst, arith}
+use Rattle.std.proofs.Common.{◌≡◌, ℕ, ◌+◌, ◌-◌, ◌<◌, ◌≤◌, ◌==◌, ℤ, pos, negsuc, neg_ℤ, ◌-ℤ◌, ◌+ℤ◌, ◌*ℤ◌, List, [], ◌∷◌, ◌++◌, Bool, true, false, ◌||◌, cond}
+use Rattle.std.proofs.Common.{refl, sym, ◌∙◌, ap, subst, arith}
 use Rattle.std.specs.Prelude.{nat_lt}
 use Rattle.std.specs.List.{list_any}
 use Rattle.std.proofs.lemmas.Bool.{lt-ltb, le-ltb, ltb-true, ltb-false, eq-eqb, ne_eqb, eqb-true, eqb-false}
@@ -9,8 +10,10 @@ use Rattle.cf_tree.specs.RelTree.{TermTree, term_lit, term_var, term_card, term_
 use Rattle.cf_tree.specs.Relation.{is_fixed}
 use Rattle.cf_linear.specs.Rows.{Row, entry, is_zero, put, add_at, comb, AreBelow, passes, row_passes}
 use Rattle.cf_linear.specs.Layout.{Layout, covers, first_free, number_column, region_row}
-use Rattle.cf_linear.specs.Written.{constant_row, plus, above_quotient, below_quotient, WrittenTree, first_sign, other_signs, signed_by, product_by, write, IsPlaced}
-use Rattle.cf_linear.specs.Cases.{atom_true, atom_false, atom_compare, atom_divides, atom_not_divides, atom_same, atom_other, atom_subset, atom_not_subset, Signed, less, compare_zero, compare_nonneg, write_atom}
+use Rattle.cf_linear.specs.Written.{constant_row, plus, above_quotient, below_quotient, WrittenTree, first_sign, other_signs, signed_by, product_by, write}
+use Rattle.cf_linear.specs.Written.{IsPlaced}
+use Rattle.cf_linear.specs.Cases.{atom_true, atom_false, atom_compare, atom_divides, atom_not_divides, atom_same, atom_other, atom_subset, atom_not_subset}
+use Rattle.cf_linear.specs.Cases.{Signed, less, compare_zero, compare_nonneg, write_atom}
 use Rattle.cf_linear.proofs.BoolLemmas.{on_bool}
 use Rattle.cf_linear.proofs.WritingLemmas.{write-next}
 use Rattle.cf_cases.specs.Holding.{SignedFits}
@@ -32,7 +35,8 @@ module _ (f : ℕ → ℕ) (before : (c d : ℕ) → nat_lt (f c) (f d) ≡ nat_
   moved-add c k [] = moved-put c k []
   moved-add c k ((d, m) ∷ r) = on_bool (nat_lt c d)
       (λ e. rw (before c d, e) (moved-put c k ((d, m) ∷ r)))
-      (λ e. on_bool (c == d) (λ g. rw (before c d, e, same c d, g) (moved-put c (k +ℤ m) r)) (λ g. rw (before c d, e, same c d, g) (ap (λ x. (f d, m) ∷ x) (moved-add c k r))))
+      (λ e. on_bool (c == d) (λ g. rw (before c d, e, same c d, g) (moved-put c (k +ℤ m) r))
+      (λ g. rw (before c d, e, same c d, g) (ap (λ x. (f d, m) ∷ x) (moved-add c k r))))
 
   moved-comb : (a : ℤ) (r : Row) (b : ℤ) (s : Row) → comb a (moved r) b (moved s) ≡ moved (comb a r b s)
   moved-comb a [] b [] = refl
@@ -63,7 +67,8 @@ module _ (f : ℕ → ℕ) (before : (c d : ℕ) → nat_lt (f c) (f d) ≡ nat_
   moved-above c d r s k e g = rw (e, g) (moved-comb (pos 1) r (neg_ℤ k) (put c (pos 1) []))
 
   moved-below : (c d : ℕ) (r s : Row) (k : ℤ) → d ≡ f c → s ≡ moved r → below_quotient d s k ≡ moved (below_quotient c r k)
-  moved-below c d r s k e g = moved-plus (comb (negsuc 0) r k (put c (pos 1) [])) (comb (negsuc 0) s k (put d (pos 1) [])) (k -ℤ pos 1) (rw (e, g) (moved-comb (negsuc 0) r k (put c (pos 1) [])))
+  moved-below c d r s k e g = moved-plus (comb (negsuc 0) r k (put c (pos 1) [])) (comb (negsuc 0) s k (put d (pos 1) [])) (k -ℤ pos 1)
+      (rw (e, g) (moved-comb (negsuc 0) r k (put c (pos 1) [])))
 
   moved-two : (a : ℤ) (r r' : Row) (b : ℤ) (s s' : Row) → r' ≡ moved r → s' ≡ moved s → comb a r' b s' ≡ moved (comb a r b s)
   moved-two a r r' b s s' e g = rw (e, g) (moved-comb a r b s)
@@ -95,11 +100,23 @@ module _ (f : ℕ → ℕ) (before : (c d : ℕ) → nat_lt (f c) (f d) ≡ nat_
         record { row = t; next = m.next; signs = ap other_signs m.signs; passes = or_same _ _ _ _ m.passes (moved-passes _ _ p) }
     moved-sign false w u m = record { row = m.row; next = m.next; signs = ap other_signs m.signs; passes = m.passes }
 
-    moved-write : (t : TermTree) (ss ss' : List Bool) (p q : ℕ) → IsPlaced l t → first_free l ≤ p → ss' ≡ ss → q ≡ f p → Moved (write l t ss p) (write l t ss' q)
+    moved-write : (t : TermTree) (ss ss' : List Bool) (p q : ℕ) → IsPlaced l t → first_free l ≤ p → ss' ≡ ss → q ≡ f p →
+        Moved (write l t ss p) (write l t ss' q)
     moved-write (term_lit n) ss ss' p q h i e g = record { row = moved-constant n; next = g; signs = e; passes = refl }
     moved-write (term_var x) ss ss' p q h i e g =
-        record { row = not_moved (put (number_column l x) (pos 1) []) (below-put (first_free l) (number_column l x) (pos 1) [] (number-below l x h) tt); next = g; signs = e; passes = refl }
-    moved-write (term_card s) ss ss' p q h i e g = record { row = not_moved (region_row l (covers l s)) (below-region_row l (covers l s)); next = g; signs = e; passes = refl }
+        record {
+          row = not_moved (put (number_column l x) (pos 1) []) (below-put (first_free l) (number_column l x) (pos 1) [] (number-below l x h) tt);
+          next = g;
+          signs = e;
+          passes = refl;
+        }
+    moved-write (term_card s) ss ss' p q h i e g = record {
+      row = not_moved (region_row l (covers l s)) (below-region_row l (covers l s));
+      next = g;
+      signs =
+          e;
+      passes = refl;
+    }
     moved-write (term_neg a) ss ss' p q h i e g =
         let m = moved-write a ss ss' p q h i e g in
         let r = moved-turned (write l a ss p).row (write l a ss' q).row m.row in
@@ -159,12 +176,15 @@ module _ (f : ℕ → ℕ) (before : (c d : ℕ) → nat_lt (f c) (f d) ≡ nat_
     row_alone : (r s : Row) → s ≡ moved r → list_any row_passes (s ∷ []) ≡ list_any row_passes (r ∷ [])
     row_alone r s e = or_same _ _ _ _ (moved-passes r s e) refl
 
-    moved-compare : (o : Order) (t t' u u' : Row) → t' ≡ moved t → u' ≡ moved u → list_any row_passes (compare_zero o t' u' ++ compare_nonneg o t' u') ≡ list_any row_passes (compare_zero o t u ++ compare_nonneg o t u)
+    moved-compare : (o : Order) (t t' u u' : Row) → t' ≡ moved t → u' ≡ moved u →
+        list_any row_passes (compare_zero o t' u' ++ compare_nonneg o t' u') ≡ list_any row_passes (compare_zero o t u ++ compare_nonneg o t u)
     moved-compare Eq t t' u u' e g = row_alone (less t u) (less t' u') (moved-two (pos 1) t t' (negsuc 0) u u' e g)
     moved-compare Ne t t' u u' e g = refl
-    moved-compare Lt t t' u u' e g = row_alone (plus (less u t) (negsuc 0)) (plus (less u' t') (negsuc 0)) (moved-plus (less u t) (less u' t') (negsuc 0) (moved-two (pos 1) u u' (negsuc 0) t t' g e))
+    moved-compare Lt t t' u u' e g = row_alone (plus (less u t) (negsuc 0)) (plus (less u' t') (negsuc 0))
+        (moved-plus (less u t) (less u' t') (negsuc 0) (moved-two (pos 1) u u' (negsuc 0) t t' g e))
     moved-compare Le t t' u u' e g = row_alone (less u t) (less u' t') (moved-two (pos 1) u u' (negsuc 0) t t' g e)
-    moved-compare Gt t t' u u' e g = row_alone (plus (less t u) (negsuc 0)) (plus (less t' u') (negsuc 0)) (moved-plus (less t u) (less t' u') (negsuc 0) (moved-two (pos 1) t t' (negsuc 0) u u' e g))
+    moved-compare Gt t t' u u' e g = row_alone (plus (less t u) (negsuc 0)) (plus (less t' u') (negsuc 0))
+        (moved-plus (less t u) (less t' u') (negsuc 0) (moved-two (pos 1) t t' (negsuc 0) u u' e g))
     moved-compare Ge t t' u u' e g = row_alone (less t u) (less t' u') (moved-two (pos 1) t t' (negsuc 0) u u' e g)
 
     moved-atom : (s : Signed) (p q : ℕ) → SignedFits l s → first_free l ≤ p → q ≡ f p → (write_atom l s q).passes ≡ (write_atom l s p).passes
@@ -176,12 +196,14 @@ module _ (f : ℕ → ℕ) (before : (c d : ℕ) → nat_lt (f c) (f d) ≡ nat_
         let w' = write l a ss q in
         let m = moved-write a ss ss p q h.0.1.0 i refl g in
         let n = moved-write b w.signs w'.signs w.next w'.next h.0.2.0 (omega (arith, write-next l a ss p)) m.signs m.next in
-        or_same _ _ _ _ (or_same _ _ _ _ m.passes n.passes) (moved-compare o w.row w'.row (write l b w.signs w.next).row (write l b w'.signs w'.next).row m.row n.row)
+        or_same _ _ _ _ (or_same _ _ _ _ m.passes n.passes) (moved-compare o w.row w'.row (write l b w.signs w.next).row (write l b w'.signs w'.next).row
+        m.row n.row)
     moved-atom (atom_divides k t, ss) p q h i g =
         let w = write l t ss p in
         let w' = write l t ss q in
         let m = moved-write t ss ss p q h.0.1 i refl g in
-        or_same _ _ _ _ m.passes (row_alone (above_quotient w.next w.row k) (above_quotient w'.next w'.row k) (moved-above w.next w'.next w.row w'.row k m.next m.row))
+        or_same _ _ _ _ m.passes (row_alone (above_quotient w.next w.row k) (above_quotient w'.next w'.row k)
+        (moved-above w.next w'.next w.row w'.row k m.next m.row))
     moved-atom (atom_not_divides k t, ss) p q h i g =
         let w = write l t ss p in
         let w' = write l t ss q in
@@ -189,7 +211,8 @@ module _ (f : ℕ → ℕ) (before : (c d : ℕ) → nat_lt (f c) (f d) ≡ nat_
         let x = moved-above w.next w'.next w.row w'.row k m.next m.row in
         let y = moved-below w.next w'.next w.row w'.row k m.next m.row in
         or_same _ _ _ _ m.passes
-        (or_same _ _ _ _ (moved-passes _ _ (moved-plus (above_quotient w.next w.row k) (above_quotient w'.next w'.row k) (negsuc 0) x)) (row_alone (below_quotient w.next w.row k) (below_quotient w'.next w'.row k) y))
+        (or_same _ _ _ _ (moved-passes _ _ (moved-plus (above_quotient w.next w.row k) (above_quotient w'.next w'.row k) (negsuc 0) x))
+        (row_alone (below_quotient w.next w.row k) (below_quotient w'.next w'.row k) y))
     moved-atom (atom_same a b, ss) p q h i g = refl
     moved-atom (atom_other a b, ss) p q h i g = refl
     moved-atom (atom_subset a b, ss) p q h i g = refl
@@ -218,13 +241,15 @@ raised-before : (n d a b : ℕ) → nat_lt (raised n d a) (raised n d b) ≡ nat
 raised-before n d a b =
     raised-is n d a (λ x. nat_lt x (raised n d b) ≡ nat_lt a b)
     (λ h. raised-is n d b (λ y. nat_lt a y ≡ nat_lt a b) (λ i. refl) (λ i. both_lt a b a (b + d) (λ j. omega arith) (λ j. omega arith)))
-    (λ h. raised-is n d b (λ y. nat_lt (a + d) y ≡ nat_lt a b) (λ i. both_lt a b (a + d) b (λ j. omega arith) (λ j. omega arith)) (λ i. both_lt a b (a + d) (b + d) (λ j. omega arith) (λ j. omega arith)))
+    (λ h. raised-is n d b (λ y. nat_lt (a + d) y ≡ nat_lt a b) (λ i. both_lt a b (a + d) b (λ j. omega arith) (λ j. omega arith))
+    (λ i. both_lt a b (a + d) (b + d) (λ j. omega arith) (λ j. omega arith)))
 
 raised-same : (n d a b : ℕ) → (raised n d a == raised n d b) ≡ (a == b)
 raised-same n d a b =
     raised-is n d a (λ x. (x == raised n d b) ≡ (a == b))
     (λ h. raised-is n d b (λ y. (a == y) ≡ (a == b)) (λ i. refl) (λ i. both_eq a b a (b + d) (λ j. omega arith) (λ j. omega arith)))
-    (λ h. raised-is n d b (λ y. (a + d == y) ≡ (a == b)) (λ i. both_eq a b (a + d) b (λ j. omega arith) (λ j. omega arith)) (λ i. both_eq a b (a + d) (b + d) (λ j. omega arith) (λ j. omega arith)))
+    (λ h. raised-is n d b (λ y. (a + d == y) ≡ (a == b)) (λ i. both_eq a b (a + d) b (λ j. omega arith) (λ j. omega arith))
+    (λ i. both_eq a b (a + d) (b + d) (λ j. omega arith) (λ j. omega arith)))
 
 raised-next : (n d c : ℕ) → n ≤ c → raised n d (c + 1) ≡ raised n d c + 1
 raised-next n d c h = rw (raised-high n d (c + 1) (omega arith), raised-high n d c h) (omega arith)
@@ -234,4 +259,5 @@ pub passes-same : (l : Layout) (s : Signed) (q : ℕ) → SignedFits l s → fir
 passes-same l s q h i =
     let n = first_free l in
     let d = q - n in
-    moved-atom (raised n d) (raised-before n d) (raised-same n d) (raised-low n d 0 (positive_free l)) l (raised-low n d) (raised-next n d) s n q h (omega arith) (let e : q ≡ n + d = omega arith in e ∙ sym (raised-high n d n (omega arith)))
+    moved-atom (raised n d) (raised-before n d) (raised-same n d) (raised-low n d 0 (positive_free l)) l (raised-low n d) (raised-next n d) s n q h
+    (omega arith) (let e : q ≡ n + d = omega arith in e ∙ sym (raised-high n d n (omega arith)))

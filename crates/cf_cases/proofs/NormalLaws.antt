@@ -1,5 +1,5 @@
 -- A relation without negations holds exactly where the relation does.
-use Rattle.std.proofs.Common.{inl, inr, ◌≡◌, ◌≢◌, ◌⊎◌, ℤ, Bool, true, false, List, refl, sym, arith}
+use Rattle.std.proofs.Common.{inl, inr, ℤ, Bool, true, false, List, arith}
 use Rattle.std.specs.Prelude.{◌↔◌, int_lt}
 use Rattle.std.proofs.lemmas.Int.{ints}
 use Rattle.cf_tree.specs.declared.base.Order.{Order}
@@ -10,9 +10,10 @@ use Rattle.cf_tree.specs.RelTree.{RelTree, rel_true, rel_false, rel_compare, rel
 use Rattle.cf_tree.specs.Relation.{members, val, Holds, IsTyped}
 use Rattle.cf_tree.specs.Values.{Value}
 use Rattle.cf_tree.proofs.SetLemmas.{on_bool, lt_is, lt_not}
-use Rattle.cf_linear.specs.Cases.{opposite, Normal, negation_normal}
+use Rattle.cf_linear.specs.Cases.{opposite, negation_normal}
 use Rattle.cf_cases.specs.Holding.{NormalHolds}
-use Rattle.cf_cases.proofs.Deciding.{Decided, yes, no, decided_and, decided_or, decided_not, twice_not, one_not, decide-compares, decide-divides, decide-same, decide-subset}
+use Rattle.cf_cases.proofs.Deciding.{Decided, yes, no, decided_and, decided_or, decided_not, twice_not, one_not, decide-compares, decide-divides, decide-same}
+use Rattle.cf_cases.proofs.Deciding.{decide-subset}
 
 -- the fact, or that it does not hold
 abbrev pub Meant : Bool → Type 0 → Type 0

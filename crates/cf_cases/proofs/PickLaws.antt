@@ -1,5 +1,6 @@
 -- The case with an index is the one that stands there in the list of cases.
-use Rattle.std.proofs.Common.{◌≡◌, ℕ, zero, suc, ◌+◌, ◌-◌, ◌*◌, ◌^◌, ◌/◌, ◌%◌, ◌<◌, ◌≤◌, Bool, true, false, List, [], ◌∷◌, ◌++◌, length, map, take, get_or, refl, sym, ◌∙◌, ap, arith, length-append}
+use Rattle.std.proofs.Common.{◌≡◌, ℕ, zero, suc, ◌+◌, ◌-◌, ◌*◌, ◌^◌, ◌/◌, ◌%◌, ◌<◌, ◌≤◌, Bool, true, false, List, [], ◌∷◌, ◌++◌, length, map, take, get_or}
+use Rattle.std.proofs.Common.{refl, sym, ◌∙◌, ap, arith, length-append}
 use Rattle.std.specs.Prelude.{nat_lt}
 use Rattle.std.specs.List.{flat_map}
 use Rattle.std.proofs.lemmas.Bool.{cond_both, ltb-true, ltb-false}
@@ -8,7 +9,9 @@ use Rattle.std.proofs.lemmas.List.Concat.{get_or-flat_map}
 use Rattle.std.proofs.lemmas.Nat.{div-add-mod', pow_pos}
 use Rattle.std.proofs.Math.Nat.{div-lt_iff_lt-mul, mul-pos}
 use Rattle.cf_tree.specs.declared.base.Order.TheVariants.{Eq, Ne, Lt, Le, Gt, Ge}
-use Rattle.cf_linear.specs.Cases.{Atom, atom_true, atom_false, atom_compare, atom_divides, atom_not_divides, atom_same, atom_other, atom_subset, atom_not_subset, Normal, normal_atom, normal_and, normal_or, Signed, atom_signs, atom_ways, atom_cases, sign_choices, disjuncts, case_count}
+use Rattle.cf_linear.specs.Cases.{Atom, atom_true, atom_false, atom_compare, atom_divides, atom_not_divides, atom_same, atom_other, atom_subset}
+use Rattle.cf_linear.specs.Cases.{atom_not_subset, Normal, normal_atom, normal_and, normal_or, Signed, atom_signs, atom_ways, atom_cases, sign_choices}
+use Rattle.cf_linear.specs.Cases.{disjuncts, case_count}
 use Rattle.cf_cases.specs.Holding.{EachOf}
 use Rattle.cf_cases.specs.Picking.{signs_at, atom_at, case_by}
 
@@ -27,9 +30,11 @@ length_taken zero xs h = refl
 length_taken (suc a) [] h = absurd (omega arith)
 length_taken (suc a) (x ∷ xs) h = let e = length_taken a xs (omega arith) in omega arith
 
-pub grid : {A B : Type 0} (f : A → List B) (n : ℕ) (xs : List A) (e : A) (d : B) (a b : ℕ) → EachOf (λ x. length (f x) ≡ n) xs → a < length xs → b < length (f (get_or xs a e)) → get_or (flat_map f xs) (a * n + b) d ≡ get_or (f (get_or xs a e)) b d
+pub grid : {A B : Type 0} (f : A → List B) (n : ℕ) (xs : List A) (e : A) (d : B) (a b : ℕ) → EachOf (λ x. length (f x) ≡ n) xs → a < length xs →
+    b < length (f (get_or xs a e)) → get_or (flat_map f xs) (a * n + b) d ≡ get_or (f (get_or xs a e)) b d
 grid f n xs e d a b p h k =
-    let t : length (flat_map f (take a xs)) ≡ a * n = flat_length f n (take a xs) (each-take (λ x. length (f x) ≡ n) a xs p) ∙ ap (λ m. m * n) (length_taken a xs h) in
+    let t : length (flat_map f (take a xs)) ≡ a * n = flat_length f n (take a xs) (each-take (λ x. length (f x) ≡ n) a xs p) ∙
+    ap (λ m. m * n) (length_taken a xs h) in
     ap (λ m. get_or (flat_map f xs) (m + b) d) (sym t) ∙ get_or-flat_map f xs a b e d h k
 
 -- ---- signs
@@ -37,7 +42,8 @@ pub length-choices : (n : ℕ) → length (sign_choices n) ≡ 2 ^ n
 length-choices zero = refl
 length-choices (suc n) =
     length-append (map (λ (ss : List Bool). false ∷ ss) (sign_choices n)) (map (λ (ss : List Bool). true ∷ ss) (sign_choices n))
-    ∙ rw (length-map (sign_choices n) (λ (ss : List Bool). false ∷ ss), length-map (sign_choices n) (λ (ss : List Bool). true ∷ ss), length-choices n) (omega arith)
+    ∙ rw (length-map (sign_choices n) (λ (ss : List Bool). false ∷ ss), length-map (sign_choices n) (λ (ss : List Bool). true ∷ ss), length-choices n)
+    (omega arith)
 
 signs-at : (n j : ℕ) → j < 2 ^ n → get_or (sign_choices n) j [] ≡ signs_at n j
 signs-at zero j h = let e : j ≡ 0 = omega arith in rw e refl
@@ -51,7 +57,8 @@ signs-at (suc n) j h =
     (λ e. let k : 2 ^ n ≤ j = ltb-false j (2 ^ n) e in
     let i : j - 2 ^ n < 2 ^ n = omega arith in
     get_or-append_right (map (λ (ss : List Bool). false ∷ ss) (sign_choices n)) (map (λ (ss : List Bool). true ∷ ss) (sign_choices n)) (2 ^ n) j [] (m ∙ l) k
-    ∙ get_or-map (λ (ss : List Bool). true ∷ ss) (sign_choices n) (j - 2 ^ n) [] [] (omega arith) ∙ ap (λ (ss : List Bool). true ∷ ss) (signs-at n (j - 2 ^ n) i))
+    ∙ get_or-map (λ (ss : List Bool). true ∷ ss) (sign_choices n) (j - 2 ^ n) [] [] (omega arith) ∙
+    ap (λ (ss : List Bool). true ∷ ss) (signs-at n (j - 2 ^ n) i))
 
 pub length-signs_at : (n j : ℕ) → length (signs_at n j) ≡ n
 length-signs_at zero j = refl
@@ -102,7 +109,8 @@ pick_atom a i h =
     let j : i / n < 2 ^ atom_signs a = below_div i n (2 ^ atom_signs a) (ways_positive a) h in
     let k : i % n < n = omega (arith, ways_positive a) in
     let x : i / n < length (sign_choices (atom_signs a)) = omega (arith, length-choices (atom_signs a)) in
-    let y : i % n < length (ways_with a (get_or (sign_choices (atom_signs a)) (i / n) [])) = omega (arith, length-map (atom_ways a) (with_signs (get_or (sign_choices (atom_signs a)) (i / n) []))) in
+    let y : i % n < length (ways_with a (get_or (sign_choices (atom_signs a)) (i / n) [])) =
+    omega (arith, length-map (atom_ways a) (with_signs (get_or (sign_choices (atom_signs a)) (i / n) []))) in
     ap (λ m. get_or (atom_cases a) m (a, [])) (sym (div-add-mod' i n))
     ∙ grid (ways_with a) n (sign_choices (atom_signs a)) [] (a, []) (i / n) (i % n) (way_lengths a (sign_choices (atom_signs a))) x y
     ∙ get_or-map (with_signs (get_or (sign_choices (atom_signs a)) (i / n) [])) (atom_ways a) (i % n) a (a, []) k
@@ -127,13 +135,15 @@ pub length-cases : (p : Normal) → length (disjuncts p) ≡ case_count p
 unfolding disjuncts case_count
 length-cases (normal_atom a) = length-map (atom_cases a) (λ (s : Signed). s ∷ []) ∙ length-atom_cases a
 length-cases (normal_and p q) =
-    flat_length (λ (c : List Signed). map (λ (d : List Signed). c ++ d) (disjuncts q)) (case_count q) (disjuncts p) (joined_lengths (case_count q) (disjuncts q) (disjuncts p) (length-cases q)) ∙ ap (λ n. n * case_count q) (length-cases p)
+    flat_length (λ (c : List Signed). map (λ (d : List Signed). c ++ d) (disjuncts q)) (case_count q) (disjuncts p)
+    (joined_lengths (case_count q) (disjuncts q) (disjuncts p) (length-cases q)) ∙ ap (λ n. n * case_count q) (length-cases p)
 length-cases (normal_or p q) = length-append (disjuncts p) (disjuncts q) ∙ rw (length-cases p, length-cases q) refl
 
 -- the case with an index
 pub case-by : (p : Normal) (i : ℕ) → i < case_count p → get_or (disjuncts p) i [] ≡ case_by p i
 unfolding disjuncts case_count case_by
-case-by (normal_atom a) i h = get_or-map (λ (s : Signed). s ∷ []) (atom_cases a) i (a, []) [] (omega (arith, length-atom_cases a)) ∙ ap (λ (s : Signed). s ∷ []) (pick_atom a i h)
+case-by (normal_atom a) i h = get_or-map (λ (s : Signed). s ∷ []) (atom_cases a) i (a, []) [] (omega (arith, length-atom_cases a)) ∙
+    ap (λ (s : Signed). s ∷ []) (pick_atom a i h)
 case-by (normal_and p q) i h =
     let n = case_count q in
     let z = count_positive q in
@@ -144,10 +154,13 @@ case-by (normal_and p q) i h =
     let y : i % n < length (disjuncts q) = omega (arith, length-cases q) in
     let y' : i % n < length (map (λ (d : List Signed). c ++ d) (disjuncts q)) = omega (arith, length-map (disjuncts q) (λ d. c ++ d)) in
     ap (λ m. get_or (disjuncts (normal_and p q)) m []) (sym (div-add-mod' i n))
-    ∙ grid (λ (c : List Signed). map (λ (d : List Signed). c ++ d) (disjuncts q)) n (disjuncts p) [] [] (i / n) (i % n) (joined_lengths n (disjuncts q) (disjuncts p) (length-cases q)) x y'
+    ∙ grid (λ (c : List Signed). map (λ (d : List Signed). c ++ d) (disjuncts q)) n (disjuncts p) [] [] (i / n) (i % n)
+    (joined_lengths n (disjuncts q) (disjuncts p) (length-cases q)) x y'
     ∙ get_or-map (λ (d : List Signed). c ++ d) (disjuncts q) (i % n) [] [] y
     ∙ rw (case-by p (i / n) j, case-by q (i % n) k) refl
 case-by (normal_or p q) i h =
     cond_both (nat_lt i (case_count p)) (case_by p i) (case_by q (i - case_count p)) (λ x. get_or (disjuncts (normal_or p q)) i [] ≡ x)
-    (λ e. let k : i < case_count p = ltb-true i (case_count p) e in get_or_append_left (disjuncts p) (disjuncts q) [] i (omega (arith, length-cases p)) ∙ case-by p i k)
-    (λ e. let k : case_count p ≤ i = ltb-false i (case_count p) e in get_or-append_right (disjuncts p) (disjuncts q) (case_count p) i [] (length-cases p) k ∙ case-by q (i - case_count p) (omega arith))
+    (λ e. let k : i < case_count p = ltb-true i (case_count p) e in get_or_append_left (disjuncts p) (disjuncts q) [] i (omega (arith, length-cases p)) ∙
+    case-by p i k)
+    (λ e. let k : case_count p ≤ i = ltb-false i (case_count p) e in get_or-append_right (disjuncts p) (disjuncts q) (case_count p) i [] (length-cases p)
+    k ∙ case-by q (i - case_count p) (omega arith))

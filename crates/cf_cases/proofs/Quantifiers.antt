@@ -1,5 +1,5 @@
 -- What holds of each item of a list, or of some item.
-use Rattle.std.proofs.Common.{inl, inr, ◌≡◌, ◌⊎◌, List, [], ◌∷◌, ◌++◌, map, ⊎_elim}
+use Rattle.std.proofs.Common.{inl, inr, ◌⊎◌, List, [], ◌∷◌, ◌++◌, map}
 use Rattle.std.specs.List.{flat_map}
 use Rattle.cf_cases.specs.Holding.{EachOf, SomeOf}
 

@@ -4,7 +4,8 @@ use Rattle.cf_tree.specs.RelTree.{TermTree, term_lit, term_var, term_card, term_
 use Rattle.cf_tree.specs.Relation.{is_fixed}
 use Rattle.cf_linear.specs.Rows.{put, comb}
 use Rattle.cf_linear.specs.Layout.{Layout}
-use Rattle.cf_linear.specs.Written.{WrittenTree, from_one, from_two, with_quotient, write_mod, first_sign, other_signs, signed_by, with_sign, product_by, write, abs_count}
+use Rattle.cf_linear.specs.Written.{WrittenTree, from_one, from_two, with_quotient, write_mod, first_sign, other_signs, signed_by, with_sign, product_by}
+use Rattle.cf_linear.specs.Written.{write, abs_count}
 
 pub signed_rest : (b : Bool) (w : WrittenTree) → (signed_by b w).signs ≡ other_signs w.signs
 signed_rest true w = refl
@@ -45,7 +46,8 @@ more w ys = record { row = w.row; guards = w.guards; next = w.next; signs = w.si
 more_signed : (w : WrittenTree) (ys : List Bool) (b : Bool) (rest : List Bool) → w.signs ≡ b ∷ rest → with_sign (more w ys) ≡ more (with_sign w) ys
 more_signed w ys b rest e = rw e (by_sign b)
   where
-    by_sign : (b : Bool) → signed_by b (record { row = w.row; guards = w.guards; next = w.next; signs = (b ∷ rest) ++ ys; passes = w.passes }) ≡ more (signed_by b (record { row = w.row; guards = w.guards; next = w.next; signs = b ∷ rest; passes = w.passes })) ys
+    by_sign : (b : Bool) → signed_by b (record { row = w.row; guards = w.guards; next = w.next; signs = (b ∷ rest) ++ ys; passes = w.passes }) ≡ more
+        (signed_by b (record { row = w.row; guards = w.guards; next = w.next; signs = b ∷ rest; passes = w.passes })) ys
     by_sign true = refl
     by_sign false = refl
 

@@ -1,5 +1,6 @@
 -- The guards of a written form hold for some quotients exactly where its signs are those of the values.
-use Rattle.std.proofs.Common.{◌≡◌, ℕ, ◌+◌, ◌≤◌, ◌==◌, ℤ, pos, negsuc, ◌+ℤ◌, ◌*ℤ◌, List, [], ◌∷◌, ◌++◌, length, Bool, true, false, refl, sym, ◌∙◌, ap, arith, append_assoc, length-append}
+use Rattle.std.proofs.Common.{◌≡◌, ℕ, ◌+◌, ◌≤◌, ◌==◌, ℤ, pos, negsuc, ◌+ℤ◌, ◌*ℤ◌, List, [], ◌∷◌, ◌++◌, length, Bool, true, false, refl, sym, ◌∙◌, ap, arith}
+use Rattle.std.proofs.Common.{append_assoc, length-append}
 use Rattle.std.specs.Prelude.{◌≤ℤ◌, int_lt}
 use Rattle.std.proofs.lemmas.Int.{ints}
 use Rattle.std.proofs.lemmas.Bool.{ne_eqb}
@@ -10,7 +11,8 @@ use Rattle.cf_tree.proofs.SetLemmas.{on_bool, lt_is, lt_not}
 use Rattle.cf_linear.specs.Rows.{Values, value, comb}
 use Rattle.cf_linear.specs.Keep.{Same, update}
 use Rattle.cf_linear.specs.Layout.{Layout, covers, first_free, region_row}
-use Rattle.cf_linear.specs.Written.{sign_guard, quotient_guard, GuardsHold, plus, WrittenTree, first_sign, other_signs, signed_by, write, val_at, abs_count, IsPlaced}
+use Rattle.cf_linear.specs.Written.{sign_guard, quotient_guard, GuardsHold, plus, WrittenTree, first_sign, other_signs, signed_by, write, val_at, abs_count}
+use Rattle.cf_linear.specs.Written.{IsPlaced}
 use Rattle.cf_linear.proofs.WritingLemmas.{write-next}
 use Rattle.cf_linear.proofs.WrittenLemmas.{GuardsHold-append, value-times, value-plus, write-value}
 use Rattle.cf_linear.proofs.ValueLemmas.{Same-trans, update-at}
@@ -28,10 +30,15 @@ plus_sign : (z : ℤ) → pos 0 ≤ℤ z → int_lt z (pos 0) ≡ false
 plus_sign z h = on_bool (int_lt z (pos 0)) (λ e. let g = lt_is z (pos 0) e in absurd (omega (arith, ints))) (λ e. e)
 
 -- the sign that a guard asks for is that of the value
-sign_met : (v : Values) → v 0 ≡ pos 1 → (b : Bool) (w : WrittenTree) (z : ℤ) → GuardsHold v (signed_by b w).guards → (GuardsHold v w.guards → value v w.row ≡ z) → b ≡ int_lt z (pos 0)
+sign_met : (v : Values) → v 0 ≡ pos 1 → (b : Bool) (w : WrittenTree) (z : ℤ) → GuardsHold v (signed_by b w).guards →
+    (GuardsHold v w.guards → value v w.row ≡ z) → b ≡ int_lt z (pos 0)
 sign_met v one true w z g e =
     let h = GuardsHold-append v w.guards (sign_guard (plus (comb (negsuc 0) w.row (pos 0) []) (negsuc 0)) ∷ []) g in
-    let m : pos 0 ≤ℤ (negsuc 0 *ℤ z +ℤ negsuc 0) = rw (value-plus v (comb (negsuc 0) w.row (pos 0) []) (negsuc 0) one, value-times v (negsuc 0) w.row, e h.0) at h.1.0 in
+    let m : pos 0 ≤ℤ (negsuc 0 *ℤ z +ℤ negsuc 0) = rw (
+      value-plus v (comb (negsuc 0) w.row (pos 0) []) (negsuc 0) one,
+      value-times v (negsuc 0) w.row,
+      e h.0,
+    ) at h.1.0 in
     sym (minus_sign z m)
 sign_met v one false w z g e =
     let h = GuardsHold-append v w.guards (sign_guard w.row ∷ []) g in
@@ -46,14 +53,16 @@ lengths : (ss xs ys : List Bool) (n : ℕ) → ss ≡ xs ++ ys → length xs ≡
 lengths ss xs ys n e h = ap length e ∙ length-append xs ys ∙ ap (λ k. k + length ys) h
 
 module _ (l : Layout) (v : Values) (one : v 0 ≡ pos 1) where
-  two_signs : (a b : TermTree) (ss ts us : List Bool) → ss ≡ signs_of (val_at l v) a ++ ts → ts ≡ signs_of (val_at l v) b ++ us → ss ≡ (signs_of (val_at l v) a ++ signs_of (val_at l v) b) ++ us
+  two_signs : (a b : TermTree) (ss ts us : List Bool) → ss ≡ signs_of (val_at l v) a ++ ts → ts ≡ signs_of (val_at l v) b ++ us →
+      ss ≡ (signs_of (val_at l v) a ++ signs_of (val_at l v) b) ++ us
   two_signs a b ss ts us e f = e ∙ rw (f, append_assoc) refl
 
   left_over : (a : TermTree) (n : ℕ) (ss ts : List Bool) → ss ≡ signs_of (val_at l v) a ++ ts → abs_count a + n ≤ length ss → n ≤ length ts
   left_over a n ss ts e h = let k = lengths ss (signs_of (val_at l v) a) ts (abs_count a) e (length-signs_of (val_at l v) a) in omega arith
 
   -- where the guards of a written form hold, its signs are those of the values
-  pub signs_met : (t : TermTree) (ss : List Bool) (q : ℕ) → IsLinearTerm t → abs_count t ≤ length ss → GuardsHold v (write l t ss q).guards → ss ≡ signs_of (val_at l v) t ++ (write l t ss q).signs
+  pub signs_met : (t : TermTree) (ss : List Bool) (q : ℕ) → IsLinearTerm t → abs_count t ≤ length ss → GuardsHold v (write l t ss q).guards →
+      ss ≡ signs_of (val_at l v) t ++ (write l t ss q).signs
   signs_met (term_lit n) ss q p h g = refl
   signs_met (term_var x) ss q p h g = refl
   signs_met (term_card s) ss q p h g = refl
@@ -142,7 +151,8 @@ module _ (l : Layout) where
       ss ≡ (signs_of (val_at l v) a ++ signs_of (val_at l v) b) ++ rest →
       ((r : List Bool) → ss ≡ signs_of (val_at l v) a ++ r → Filled q v (write l a ss q) r) →
       ((w : Values) (ts : List Bool) (n : ℕ) → first_free l ≤ n → w 0 ≡ pos 1 → ts ≡ signs_of (val_at l w) b ++ rest → Filled n w (write l b ts n) rest) →
-      (w : Values) × Same q v w × GuardsHold w ((write l a ss q).guards ++ (write l b (write l a ss q).signs (write l a ss q).next).guards) × ((write l b (write l a ss q).signs (write l a ss q).next).signs ≡ rest)
+      (w : Values) × Same q v w × GuardsHold w ((write l a ss q).guards ++ (write l b (write l a ss q).signs (write l a ss q).next).guards) ×
+      ((write l b (write l a ss q).signs (write l a ss q).next).signs ≡ rest)
   fill_two a b ss rest q v p p' h one e first second =
       let w = write l a ss q in
       let f = first (signs_of (val_at l v) b ++ rest) (e ∙ append_assoc (signs_of (val_at l v) a) (signs_of (val_at l v) b) rest) in
@@ -168,24 +178,31 @@ module _ (l : Layout) where
       let z = quotient (value f.values w.row) k in
       let u = update f.values w.next z in
       let s = update-same f.values w.next z in
-      let e : u w.next ≡ quotient (value u w.row) k = update-at f.values w.next z ∙ ap (λ x. quotient x k) (value-same w.next f.values u w.row s k'.row) in
-      (u, Same-trans q w.next v f.values u i f.same s, guards-join u w.guards (quotient_guard w.next w.row k ∷ []) (guards-same w.next f.values u s w.guards k'.guards f.holds) (e, tt))
+      let e : u w.next ≡ quotient (value u w.row) k = update-at f.values w.next z ∙ ap (λ x. quotient x k) (value-same w.next f.values u w.row s k'.row) in (
+        u,
+        Same-trans q w.next v f.values u i f.same s,
+        guards-join u w.guards (quotient_guard w.next w.row k ∷ [])
+            (guards-same w.next f.values u s w.guards k'.guards f.holds) (e, tt),
+      )
 
   minus_row : (z : ℤ) → int_lt z (pos 0) ≡ true → pos 0 ≤ℤ (negsuc 0 *ℤ z +ℤ negsuc 0)
   minus_row z e = let h = lt_is z (pos 0) e in omega (arith, ints)
 
-  fill_sign : (v : Values) → v 0 ≡ pos 1 → (b : Bool) (w : WrittenTree) → b ≡ int_lt (value v w.row) (pos 0) → GuardsHold v w.guards → GuardsHold v (signed_by b w).guards
+  fill_sign : (v : Values) → v 0 ≡ pos 1 → (b : Bool) (w : WrittenTree) → b ≡ int_lt (value v w.row) (pos 0) → GuardsHold v w.guards →
+      GuardsHold v (signed_by b w).guards
   fill_sign v one true w e g =
       guards-join v w.guards (sign_guard (plus (comb (negsuc 0) w.row (pos 0) []) (negsuc 0)) ∷ []) g
       (rw (value-plus v (comb (negsuc 0) w.row (pos 0) []) (negsuc 0) one, value-times v (negsuc 0) w.row) (minus_row (value v w.row) (sym e)), tt)
   fill_sign v one false w e g = guards-join v w.guards (sign_guard w.row ∷ []) g (lt_not (value v w.row) (pos 0) (sym e), tt)
 
   -- where the signs are those of the values, the new columns have values at which the guards hold
-  pub fill : (t : TermTree) (ss rest : List Bool) (q : ℕ) (v : Values) → IsPlaced l t → IsLinearTerm t → first_free l ≤ q → v 0 ≡ pos 1 → ss ≡ signs_of (val_at l v) t ++ rest → Filled q v (write l t ss q) rest
+  pub fill : (t : TermTree) (ss rest : List Bool) (q : ℕ) (v : Values) → IsPlaced l t → IsLinearTerm t → first_free l ≤ q → v 0 ≡ pos 1 →
+      ss ≡ signs_of (val_at l v) t ++ rest → Filled q v (write l t ss q) rest
   fill (term_lit n) ss rest q v p m h one e = record { values = v; same = λ c i. refl; holds = tt; left = e }
   fill (term_var x) ss rest q v p m h one e = record { values = v; same = λ c i. refl; holds = tt; left = e }
   fill (term_card s) ss rest q v p m h one e = record { values = v; same = λ c i. refl; holds = tt; left = e }
-  fill (term_neg a) ss rest q v p m h one e = let f = fill a ss rest q v p m h one e in record { values = f.values; same = f.same; holds = f.holds; left = f.left }
+  fill (term_neg a) ss rest q v p m h one e = let f = fill a ss rest q v p m h one e in
+      record { values = f.values; same = f.same; holds = f.holds; left = f.left }
   fill (term_add a b) ss rest q v p m h one e =
       let t = fill_two a b ss rest q v p.0 p.1 h one e (λ r i. fill a ss r q v p.0 m.0 h one i) (λ w ts n j o i. fill b ts rest n w p.1 m.1 j o i) in
       record { values = t.0; same = t.1; holds = t.2; left = t.3 }
@@ -208,7 +225,8 @@ module _ (l : Layout) where
       let s = int_lt (val_at l v a) (pos 0) in
       let f = fill a ss (s ∷ rest) q v p m h one (e ∙ append_assoc (signs_of (val_at l v) a) (s ∷ []) rest) in
       let o : f.values 0 ≡ pos 1 = sym (f.same 0 (let z = positive_free l in omega arith)) ∙ one in
-      let c : value f.values w.row ≡ val_at l v a = write-value l f.values o a ss q m f.holds ∙ sym (val_at-same l v f.values (same-less (first_free l) q v f.values h f.same) a p) in
+      let c : value f.values w.row ≡ val_at l v a = write-value l f.values o a ss q m f.holds ∙
+      sym (val_at-same l v f.values (same-less (first_free l) q v f.values h f.same) a p) in
       let b : first_sign w.signs ≡ int_lt (value f.values w.row) (pos 0) = ap first_sign f.left ∙ ap (λ x. int_lt x (pos 0)) (sym c) in
       record {
         values = f.values;

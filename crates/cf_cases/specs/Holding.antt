@@ -1,17 +1,19 @@
 -- When atoms and cases hold, in an environment and at values of the columns.
-use Rattle.std.specs.Prelude.{◌≡◌, ◌≢◌, ◌⊎◌, ◌↔◌, ◌||◌, IsTrue, ℕ, ◌<◌, ℤ, pos, ◌*ℤ◌, ◌≤ℤ◌, int_lt, Bool, true, List, [], ◌∷◌, ◌++◌, map, length}
+use Rattle.std.specs.Prelude.{◌≡◌, ◌≢◌, ◌⊎◌, ℤ, pos, ◌*ℤ◌, ◌≤ℤ◌, int_lt, Bool, true, List, [], ◌∷◌, ◌++◌, map, length}
 use Rattle.cf_tree.specs.declared.base.Order.TheVariants.{Ne}
 use Rattle.cf_tree.specs.Numbers.{Compares}
-use Rattle.cf_tree.specs.RelTree.{SetTree, TermTree, term_lit, term_var, term_card, term_neg, term_add, term_sub, term_mul, term_div, term_mod, term_abs, RelTree, rel_true, rel_false, rel_compare, rel_same_set, rel_other_set, rel_subset, rel_divides, rel_and, rel_or, rel_not}
+use Rattle.cf_tree.specs.RelTree.{TermTree, term_lit, term_var, term_card, term_neg, term_add, term_sub, term_mul, term_div, term_mod, term_abs, RelTree}
+use Rattle.cf_tree.specs.RelTree.{rel_true, rel_false, rel_compare, rel_same_set, rel_other_set, rel_subset, rel_divides, rel_and, rel_or, rel_not}
 use Rattle.cf_tree.specs.Relation.{members, val, IsLinearTerm, IsDivisor}
 use Rattle.cf_tree.specs.Sets.{has}
-use Rattle.cf_tree.specs.Values.{Value, number_of, value_at}
+use Rattle.cf_tree.specs.Values.{Value}
 use Rattle.cf_linear.specs.Rows.{Values, value, put}
 use Rattle.cf_linear.specs.Systems.{EachRow}
 use Rattle.cf_linear.specs.Relations.{Divides}
-use Rattle.cf_linear.specs.Layout.{Layout, masks, set_count, covers, has_level, number_column, region_row, region_column}
+use Rattle.cf_linear.specs.Layout.{Layout, masks, set_count, region_row, region_column}
 use Rattle.cf_linear.specs.Written.{val_at, IsPlaced, IsPlacedSet}
-use Rattle.cf_linear.specs.Cases.{Atom, atom_true, atom_false, atom_compare, atom_divides, atom_not_divides, atom_same, atom_other, atom_subset, atom_not_subset, Normal, normal_atom, normal_and, normal_or, Signed, atom_signs, in_first, in_one, none_rows, input_row}
+use Rattle.cf_linear.specs.Cases.{Atom, atom_true, atom_false, atom_compare, atom_divides, atom_not_divides, atom_same, atom_other, atom_subset}
+use Rattle.cf_linear.specs.Cases.{atom_not_subset, Normal, normal_atom, normal_and, normal_or, Signed, atom_signs, in_first, in_one, none_rows, input_row}
 
 -- P holds of each item, or of some item
 abbrev pub EachOf : {A : Type 0} → (A → Type 0) → List A → Type 0
@@ -124,15 +126,3 @@ IsPlacedRel l (rel_divides k t) = IsDivisor k × IsPlaced l t × IsLinearTerm t
 IsPlacedRel l (rel_and p q) = IsPlacedRel l p × IsPlacedRel l q
 IsPlacedRel l (rel_or p q) = IsPlacedRel l p × IsPlacedRel l q
 IsPlacedRel l (rel_not p) = IsPlacedRel l p
-
--- ---- environments and columns
--- the values of the columns are those of the variables, and the counts of the regions are those of the sets
-pub record Agrees (l : Layout) (env : List Value) (v : Values) : Type 0 where
-  pub numbers : (x : ℕ) → IsTrue (has_level l.numbers x || has_level l.out_numbers x) → number_of (value_at env x) ≡ v (number_column l x)
-  pub sizes : (s : SetTree) → IsPlacedSet l s → pos (length (members s env)) ≡ value v (region_row l (covers l s))
-  pub same : (a b : SetTree) → IsPlacedSet l a → IsPlacedSet l b → (members a env ≡ members b env) ↔ EachRow (λ r. value v r ≡ pos 0) (none_rows l (in_one l a b))
-  pub other : (a b : SetTree) → IsPlacedSet l a → IsPlacedSet l b → (members a env ≢ members b env) ↔ (pos 1 ≤ℤ value v (region_row l (in_one l a b)))
-  pub subset : (a b : SetTree) → IsPlacedSet l a → IsPlacedSet l b →
-      ((x : ℤ) → has (members a env) x ≡ true → has (members b env) x ≡ true) ↔ EachRow (λ r. value v r ≡ pos 0) (none_rows l (in_first l a b))
-  pub not_subset : (a b : SetTree) → IsPlacedSet l a → IsPlacedSet l b →
-      (((x : ℤ) → has (members a env) x ≡ true → has (members b env) x ≡ true) → ⊥) ↔ (pos 1 ≤ℤ value v (region_row l (in_first l a b)))

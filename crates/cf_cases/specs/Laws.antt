@@ -23,5 +23,6 @@ MeetsFrom l v m = (w : Values) × Same (first_free l) v w × Sat m w
 -- a relation without sets holds exactly where the first system of some case is satisfied at the values of parameters and outputs
 abbrev pub HeldByCases : Type 0
 HeldByCases =
-    (scope outputs : List Base) (rel : RelTree) → IsTyped (scope ++ outputs) rel → IsLinear rel → (l : Layout) → layout_of scope outputs rel ≡ l → l.inputs ≡ [] → l.out_sets ≡ [] →
+    (scope outputs : List Base) (rel : RelTree) → IsTyped (scope ++ outputs) rel → IsLinear rel → (l : Layout) → layout_of scope outputs rel ≡ l →
+    l.inputs ≡ [] → l.out_sets ≡ [] →
     (env : List Value) (v : Values) → HasNumbers l env v → Holds rel env ↔ SomeOf (MeetsFrom l v) (first_systems l rel)

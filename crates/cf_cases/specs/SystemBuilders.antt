@@ -3,14 +3,17 @@ use Rattle.std.specs.Prelude.{◌≡◌, ℕ, ◌+◌, ◌-◌, ◌≤◌, ℤ, 
 use Rattle.std.specs.List.{fold, list_any, range_with_len, flat_map}
 use Rattle.cf_tree.specs.declared.base.Order.{Order}
 use Rattle.cf_tree.specs.Relation.{IsDivisor}
-use Rattle.cf_tree.specs.RelTree.{SetTree, union_of, diff_of, RelTree, rel_true, rel_false, rel_compare, rel_same_set, rel_other_set, rel_subset, rel_divides, rel_and, rel_or, rel_not}
+use Rattle.cf_tree.specs.RelTree.{SetTree, union_of, diff_of, RelTree, rel_true, rel_false, rel_compare, rel_same_set, rel_other_set, rel_subset, rel_divides}
+use Rattle.cf_tree.specs.RelTree.{rel_and, rel_or, rel_not}
 use Rattle.cf_linear.specs.declared.refusal.RowFault.{RowFault}
 use Rattle.cf_linear.specs.Rows.{Row, put, row_passes}
 use Rattle.cf_linear.specs.Parts.{IsRowFault}
 use Rattle.cf_linear.specs.Systems.{System}
 use Rattle.cf_linear.specs.Layout.{Layout, masks, set_count, known_count, region_column}
-use Rattle.cf_linear.specs.Written.{constant_row, WrittenTree, GuardTree, sign_guard, quotient_guard, plus, above_quotient, below_quotient, guard_rows, quotient_count}
-use Rattle.cf_linear.specs.Cases.{AtomRows, Signed, atom_rows, rows_then, compare_zero, compare_nonneg, guards_of, in_first, in_one, none_rows, some_row, input_row}
+use Rattle.cf_linear.specs.Written.{constant_row, WrittenTree, GuardTree, sign_guard, quotient_guard, plus, above_quotient, below_quotient, guard_rows}
+use Rattle.cf_linear.specs.Written.{quotient_count}
+use Rattle.cf_linear.specs.Cases.{AtomRows, Signed, atom_rows, rows_then, compare_zero, compare_nonneg, guards_of, in_first, in_one, none_rows, some_row}
+use Rattle.cf_linear.specs.Cases.{input_row}
 use Rattle.cf_cases.specs.declared.system_builder.SystemBuilder.{SystemBuilder}
 use Rattle.cf_cases.specs.declared.regions.Regions.{Regions}
 use Rattle.cf_cases.specs.declared.regions.Regions.TheVariants.{InOne, InFirst}
@@ -28,7 +31,13 @@ rows_more a b = record { equations = a.equations ++ b.equations; inequalities = 
 
 -- the rows with these equations and inequalities
 abbrev pub with_rows : AtomRows → List Row → List Row → AtomRows
-with_rows a es is = record { equations = a.equations ++ es; inequalities = a.inequalities ++ is; next = a.next; passes = a.passes || list_any row_passes (es ++ is) }
+with_rows a es is = record {
+  equations = a.equations ++ es;
+  inequalities = a.inequalities ++ is;
+  next = a.next;
+  passes = a.passes ||
+      list_any row_passes (es ++ is);
+}
 
 -- the rows with those of guards of which no row passes the limit
 abbrev pub with_guards : AtomRows → List GuardTree → AtomRows
@@ -110,7 +119,8 @@ system_with l next es is = record {
 -- the first system of these rows
 abbrev pub first_system : Layout → AtomRows → System
 first_system l a =
-    system_with l a.next (a.equations ++ map (input_row l) (masks (length l.inputs))) (a.inequalities ++ map (λ m. put (region_column l m) (pos 1) []) (masks (set_count l)))
+    system_with l a.next (a.equations ++ map (input_row l) (masks (length l.inputs))) (a.inequalities ++
+    map (λ m. put (region_column l m) (pos 1) []) (masks (set_count l)))
 
 -- how many quotients a relation has at most
 abbrev pub rel_quotients : RelTree → ℕ

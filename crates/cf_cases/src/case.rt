@@ -1,5 +1,5 @@
 //! The first system of a case.
-ghost use Rattle.std.specs.Prelude.{◌≡◌, ◌+◌, ◌-◌, ◌<◌, ◌≤◌, ◌^◌, ◌++◌, [], true, false, not, Err, IfOk, get_or};
+ghost use Rattle.std.specs.Prelude.{◌≡◌, ◌+◌, ◌-◌, ◌<◌, ◌≤◌, ◌^◌, ◌++◌, [], true, false, Err, IfOk, get_or};
 ghost use Rattle.std.specs.List.{range_with_len};
 ghost use Rattle.cf_tree.specs.RelView.{rel_tree};
 ghost use Rattle.cf_linear.specs.declared.refusal.TheConstants.{MOST_SETS};
@@ -12,7 +12,7 @@ ghost use Rattle.cf_cases.specs.Counts.{count_tree, left_in, right_in, counts_of
 ghost use Rattle.cf_cases.specs.SystemBuilders.{rows_of, with_case, BuilderAnswer, system_with, first_system, rel_quotients};
 
 use crate::atom::{add_compare, add_constant, add_divides};
-use crate::count::{Counts, order_as};
+use crate::count::{CountedRel, Counts, order_as};
 use crate::regions::{Regions, add_apart, add_counts, add_inputs};
 use crate::system_builder::SystemBuilder;
 use cf_linear::columns::{first_free, known_count};
@@ -22,23 +22,21 @@ use cf_tree::memory::NoMemory;
 use cf_tree::rel::Rel;
 use std::alloc::Global;
 
-/// The first system of the case with this index of the relation; the counts are the relation's. Past
-/// exactly where a row of the case, or of a part of one of its forms, passes the limit.
+/// The first system of the case with this index of the relation. Past exactly where a row of the
+/// case, or of a part of one of its forms, passes the limit.
 pub fn case_of(
     alloc: Global,
-    rel: &Rel,
-    counts: &Counts,
+    counted: &CountedRel,
     layout: &Layout,
     index: u64,
 ) -> Result<System, RowFault>
-    requires counts { count_tree counts.now ≡ counts_of (negation_normal true (rel_tree rel.now)) }
-    requires placed { IsPlacedRel (plain_layout layout.now) (rel_tree rel.now) }
+    requires placed { IsPlacedRel (plain_layout layout.now) (rel_tree counted.now) }
     requires sets { set_count (plain_layout layout.now) ≤ MOST_SETS }
-    requires index { index < case_count (negation_normal true (rel_tree rel.now)) }
-    requires room { first_free (plain_layout layout.now) + rel_quotients (rel_tree rel.now) < 2 ^ 32 }
-    ensures system { IfOk result (λ s. system_of s ≡ system_of_case (plain_layout layout.now) (get_or (disjuncts (negation_normal true (rel_tree rel.now))) index [])) }
-    ensures fits { IfOk result (λ s. (case_rows (plain_layout layout.now) (get_or (disjuncts (negation_normal true (rel_tree rel.now))) index [])).passes ≡ false) }
-    ensures past { result ≡ Err RowFault.Past → (case_rows (plain_layout layout.now) (get_or (disjuncts (negation_normal true (rel_tree rel.now))) index [])).passes ≡ true }
+    requires index { index < case_count (negation_normal true (rel_tree counted.now)) }
+    requires room { first_free (plain_layout layout.now) + rel_quotients (rel_tree counted.now) < 2 ^ 32 }
+    ensures system { IfOk result (λ s. system_of s ≡ system_of_case (plain_layout layout.now) (get_or (disjuncts (negation_normal true (rel_tree counted.now))) index [])) }
+    ensures fits { IfOk result (λ s. (case_rows (plain_layout layout.now) (get_or (disjuncts (negation_normal true (rel_tree counted.now))) index [])).passes ≡ false) }
+    ensures past { result ≡ Err RowFault.Past → (case_rows (plain_layout layout.now) (get_or (disjuncts (negation_normal true (rel_tree counted.now))) index [])).passes ≡ true }
 {
     let mut builder = SystemBuilder {
         alloc,
@@ -46,6 +44,8 @@ pub fn case_of(
         inequalities: Vec::new(alloc),
         next: first_free(layout),
     };
+    let rel = counted.rel();
+    let counts = counted.counts();
     match add_case(rel, counts, true, index as u128, layout, &mut builder) {
         Ok(()) => Ok(first_system(alloc, layout, builder)?),
         Err(fault) => Err(fault),

@@ -1,5 +1,5 @@
 //! How many cases a relation has.
-ghost use Rattle.std.specs.Prelude.{◌≡◌, ◌≤◌, ◌+◌, ◌*◌, ◌^◌, true, IfOk};
+ghost use Rattle.std.specs.Prelude.{◌≡◌, ◌≤◌, ◌-◌, ◌*◌, ◌^◌, min, true, IfOk};
 ghost use Rattle.cf_tree.specs.RelSize.{capped};
 ghost use Rattle.cf_tree.specs.RelView.{term_tree, rel_tree};
 ghost use Rattle.cf_linear.specs.Written.{abs_count};
@@ -10,24 +10,77 @@ use cf_tree::base::Order;
 use cf_tree::memory::NoMemory;
 use cf_tree::rel::{Rel, Term};
 use std::alloc::Global;
+use std::marker::Model;
 
-/// How many cases a relation has, and its parts, each counted once. The numbers stop at `2^128 - 1`.
+/// A relation with the numbers of its cases and of those of its parts, each counted once. Contracts
+/// see the relation.
 #[derive(Drop)]
-pub enum Counts {
-    /// The cases of an atom.
+pub struct CountedRel<'a> {
+    rel: &'a Rel,
+    counts: Counts,
+}
+
+impl<'a> Model for CountedRel<'a> {
+    ghost use Rattle.cf_tree.specs.declared.rel.Rel.{Rel};
+    ghost use Rattle.cf_tree.specs.contracts.rel.Rel as coded_rel;
+    ghost use Rattle.std.specs.Coded.{codes};
+
+    ghost Value = { Rel };
+
+    ghost coded = { Prim.hlevel (codes, coded_rel.the_row.coded) };
+
+    ghost use Rattle.std.specs.Prelude.{◌≡◌, true};
+    ghost use Rattle.cf_tree.specs.RelView.{rel_tree};
+    ghost use Rattle.cf_linear.specs.Cases.{negation_normal};
+    ghost use Rattle.cf_cases.specs.Counts.{count_tree, counts_of};
+
+    ghost view = { λ c. c.rel.now };
+
+    ghost invariant = { λ c. count_tree c.counts ≡ counts_of (negation_normal true (rel_tree c.rel.now)) };
+}
+
+impl<'a> CountedRel<'a> {
+    /// The relation with its counts.
+    pub fn of(alloc: Global, rel: &'a Rel) -> Result<CountedRel<'a>, NoMemory>
+        ensures { IfOk result (λ c. c ≡ rel.now) }
+    {
+        let counts = counts_as(alloc, rel, true)?;
+        Ok(CountedRel { rel, counts })
+    }
+
+    /// The number of cases of the relation, or `2^64 - 1` where there are more.
+    #[tactic(auto, using(crate::proofs::PartLaws::told_count))]
+    pub fn cases_len(&self) -> u64
+        ensures { result ≡ capped (case_count (negation_normal true (rel_tree self.now))) }
+    {
+        narrow(self.counts.count())
+    }
+
+    // The relation.
+    pub(crate) fn rel(&self) -> &Rel
+        ensures { result.now ≡ self.now }
+    {
+        self.rel
+    }
+
+    // The numbers of cases of the relation and of its parts.
+    pub(crate) fn counts(&self) -> &Counts
+        ensures { count_tree result.now ≡ counts_of (negation_normal true (rel_tree self.now)) }
+    {
+        &self.counts
+    }
+}
+
+// How many cases a relation has, and its parts, each counted once. The numbers stop at `2^128 - 1`.
+#[derive(Drop)]
+pub(crate) enum Counts {
+    // The cases of an atom.
     One(u128),
-    /// The cases of both sides or of either, and those of each side.
+    // The cases of both sides or of either, and those of each side.
     Two(u128, Box<Counts>, Box<Counts>),
 }
 
 impl Counts {
-    /// The counts of the relation.
-    pub fn of(alloc: Global, rel: &Rel) -> Result<Counts, NoMemory>
-        ensures { IfOk result (λ c. count_tree c ≡ counts_of (negation_normal true (rel_tree rel.now))) }
-    {
-        counts_as(alloc, rel, true)
-    }
-
     // How many cases there are.
     pub(crate) fn count(&self) -> u128
         ensures { result ≡ count_in (count_tree self.now) }
@@ -106,7 +159,13 @@ fn both_counts(both: bool, left: Box<Counts>, right: Box<Counts>) -> Counts
 pub fn count(rel: &Rel) -> u64
     ensures { result ≡ capped (case_count (negation_normal true (rel_tree rel.now))) }
 {
-    let n = count_as(rel, true);
+    narrow(count_as(rel, true))
+}
+
+// The number, or `2^64 - 1` where it is greater.
+fn narrow(n: u128) -> u64
+    ensures { result ≡ min n (2 ^ 64 - 1) }
+{
     if n < u64::MAX as u128 {
         n as u64
     } else {

@@ -4,7 +4,7 @@ ghost use Rattle.cf_tree.specs.RelView.{set_tree};
 ghost use Rattle.cf_tree.specs.RelTree.{diff_of};
 ghost use Rattle.cf_linear.specs.Rows.{put, AreBelow};
 ghost use Rattle.cf_linear.specs.declared.refusal.TheConstants.{MOST_SETS};
-ghost use Rattle.cf_linear.specs.Layout.{set_count, first_free, covers, region_row, masks, region_column};
+ghost use Rattle.cf_linear.specs.Layout.{set_count, first_free, region_row, masks, region_column};
 ghost use Rattle.cf_linear.specs.Views.{plain_layout};
 ghost use Rattle.cf_linear.specs.Cases.{input_row};
 ghost use Rattle.cf_cases.specs.SystemBuilders.{rows_of, region_rows, apart, apart_form, entries_if, BuilderAnswer};

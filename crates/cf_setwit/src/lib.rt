@@ -2,7 +2,7 @@
 //! pieces of both.
 #![tactic(auto)]
 
-mod lists;
+pub mod lists;
 mod masks;
 pub mod names;
 pub mod pieces;

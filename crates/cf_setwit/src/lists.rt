@@ -3,8 +3,8 @@ ghost use Rattle.std.specs.Prelude.{◌≡◌, ◌++◌, ◌∷◌, [], OnOk, if
 
 use cf_tree::memory::NoMemory;
 
-// Adds the item, where it is wanted.
-pub(crate) fn push_if<T: Drop>(items: &mut Vec<T>, is_wanted: bool, item: T) -> Result<(), NoMemory>
+/// Adds the item, where it is wanted.
+pub fn push_if<T: Drop>(items: &mut Vec<T>, is_wanted: bool, item: T) -> Result<(), NoMemory>
     ensures { OnOk result (items.new.items ≡ items.old.items ++ (if is_wanted then item ∷ [] else [])) }
 {
     if is_wanted {

@@ -2,6 +2,7 @@
 ghost use Rattle.std.specs.Prelude.{◌≡◌, ◌+◌, ◌-◌, ◌*◌, ◌≤◌, ◌<◌, ◌^◌, ◌==◌, length, map, All, IfOk, if◌then◌else◌};
 ghost use Rattle.cf_tree.specs.CodeTree.{code_var, code_slice, code_fresh};
 ghost use Rattle.cf_tree.specs.CodeView.{code_tree};
+ghost use Rattle.cf_linear.specs.declared.refusal.TheConstants.{MOST_SETS};
 ghost use Rattle.cf_linear.specs.Arm.{level_of, sum_of, earlier_counts, piece_code, set_code, fresh_code};
 ghost use Rattle.cf_linear.specs.Layout.{set_count, first_free, region_column};
 ghost use Rattle.cf_linear.specs.Views.{plain_layout};
@@ -30,7 +31,7 @@ pub struct Sources {
 /// # Errors
 /// `NoMemory` where memory ran out.
 pub fn fresh_code(alloc: Global, layout: &Layout, names: &ColumnLevels) -> Result<Code, NoMemory>
-    requires sets { set_count (plain_layout layout.now) ≤ 6 }
+    requires sets { set_count (plain_layout layout.now) ≤ MOST_SETS }
     requires room { first_free (plain_layout layout.now) < 2 ^ 32 }
     ensures { IfOk result (λ c. code_tree c ≡ fresh_code (plain_layout layout.now) names.now) }
 {
@@ -51,7 +52,7 @@ pub fn set_code(
     sources: Sources,
     j: usize,
 ) -> Result<Code, NoMemory>
-    requires sets { set_count (plain_layout layout.now) ≤ 6 }
+    requires sets { set_count (plain_layout layout.now) ≤ MOST_SETS }
     requires room { first_free (plain_layout layout.now) < 2 ^ 32 }
     requires levels { sources.regions + 2 * (2 ^ length layout.now.inputs.items - 1) < 2 ^ 32 }
     requires set { j < length layout.now.out_sets.items }
@@ -69,7 +70,7 @@ fn pieces(
     sources: Sources,
     masks: &[u32],
 ) -> Result<Vec<Code>, NoMemory>
-    requires sets { set_count (plain_layout layout.now) ≤ 6 }
+    requires sets { set_count (plain_layout layout.now) ≤ MOST_SETS }
     requires room { first_free (plain_layout layout.now) < 2 ^ 32 }
     requires levels { sources.regions + 2 * (2 ^ length layout.now.inputs.items - 1) < 2 ^ 32 }
     requires masks { All (λ m. m < 2 ^ set_count (plain_layout layout.now)) masks.now }
@@ -95,7 +96,7 @@ pub fn piece_code(
     sources: Sources,
     mask: u32,
 ) -> Result<Code, NoMemory>
-    requires sets { set_count (plain_layout layout.now) ≤ 6 }
+    requires sets { set_count (plain_layout layout.now) ≤ MOST_SETS }
     requires room { first_free (plain_layout layout.now) < 2 ^ 32 }
     requires levels { sources.regions + 2 * (2 ^ length layout.now.inputs.items - 1) < 2 ^ 32 }
     requires mask { mask < 2 ^ set_count (plain_layout layout.now) }
@@ -121,7 +122,7 @@ pub fn sum_of_earlier(
     mask: u32,
     n: u32,
 ) -> Result<Code, NoMemory>
-    requires sets { set_count (plain_layout layout.now) ≤ 6 }
+    requires sets { set_count (plain_layout layout.now) ≤ MOST_SETS }
     requires room { first_free (plain_layout layout.now) < 2 ^ 32 }
     requires mask { mask < 2 ^ length layout.now.inputs.items }
     requires count { n ≤ 2 ^ length layout.now.out_sets.items }
@@ -139,7 +140,7 @@ pub fn sum_of_earlier(
 
 // How many elements the region with the mask has.
 fn count_of(layout: &Layout, names: &ColumnLevels, mask: u32) -> Code
-    requires sets { set_count (plain_layout layout.now) ≤ 6 }
+    requires sets { set_count (plain_layout layout.now) ≤ MOST_SETS }
     requires room { first_free (plain_layout layout.now) < 2 ^ 32 }
     requires mask { mask < 2 ^ set_count (plain_layout layout.now) }
     ensures { code_tree result ≡ code_var (level_of names.now (region_column (plain_layout layout.now) mask)) }

@@ -3,6 +3,7 @@ ghost use Rattle.std.specs.Prelude.{◌≡◌, ◌≤◌, map, IfOk};
 ghost use Rattle.std.specs.List.{fold};
 ghost use Rattle.cf_tree.specs.CodeTree.{code_var, code_diff, code_card};
 ghost use Rattle.cf_tree.specs.CodeView.{code_tree};
+ghost use Rattle.cf_linear.specs.declared.refusal.TheConstants.{MOST_SETS};
 ghost use Rattle.cf_linear.specs.Arm.{vars, region_code};
 ghost use Rattle.cf_linear.specs.Layout.{set_count};
 ghost use Rattle.cf_linear.specs.Views.{plain_layout};
@@ -20,7 +21,7 @@ use std::alloc::Global;
 /// # Errors
 /// `NoMemory` where memory ran out.
 pub fn region_code(alloc: Global, layout: &Layout, mask: u32) -> Result<Code, NoMemory>
-    requires { set_count (plain_layout layout.now) ≤ 6 }
+    requires { set_count (plain_layout layout.now) ≤ MOST_SETS }
     ensures { IfOk result (λ c. code_tree c ≡ region_code (plain_layout layout.now) mask) }
 {
     let inside = sets_in(alloc, &layout.inputs, mask)?;

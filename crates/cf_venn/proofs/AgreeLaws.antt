@@ -1,21 +1,24 @@
--- Values that hold the counts of the regions of sets agree with these sets.
-use Rattle.std.proofs.Common.{◌≡◌, ◌↔◌, ℕ, suc, ◌-◌, ◌%◌, ◌^◌, ◌<◌, ◌≤◌, ◌==◌, ℤ, pos, negsuc, ◌+ℤ◌, ◌*ℤ◌, Bool, true, false, not, ◌&&◌, ◌||◌, List, [], ◌∷◌, ◌++◌, length, get_or, map, subst, refl, ap, sym, ◌∙◌, arith}
-use Rattle.std.specs.Prelude.{IsTrue, ◌≤ℤ◌}
+-- Values that hold the counts of the regions of sets agree with the forms over these sets.
+use Rattle.std.proofs.Common.{◌≡◌, ◌↔◌, ℕ, suc, ◌-◌, ◌%◌, ◌^◌, ◌<◌, ◌≤◌, ◌==◌, ℤ, pos, negsuc, ◌+ℤ◌, ◌*ℤ◌, Bool, true, false, not, ◌&&◌, ◌||◌, List, [], ◌∷◌}
+use Rattle.std.proofs.Common.{◌++◌, length, get_or, map, subst, refl, ap, sym, ◌∙◌, arith}
+use Rattle.std.specs.Prelude.{◌≤ℤ◌}
 use Rattle.std.proofs.lemmas.Int.{ints}
 use Rattle.std.proofs.lemmas.Bool.{eqb-true}
 use Rattle.std.proofs.lemmas.List.{length-append, length-map, map-append}
 use Rattle.cf_tree.specs.RelTree.{SetTree, empty_set, set_var, union_of, inter_of, diff_of}
 use Rattle.cf_tree.specs.Relation.{members}
 use Rattle.cf_tree.specs.Sets.{IsRising, has}
-use Rattle.cf_tree.specs.Values.{Value, number_of, elements_of, value_at}
+use Rattle.cf_tree.specs.Values.{Value, elements_of, value_at}
 use Rattle.cf_tree.proofs.SetLemmas.{on_bool, has-union, has-inter, has-diff}
 use Rattle.cf_tree.proofs.RisingLemmas.{rising_ext, rising_filter, rising_union}
 use Rattle.cf_linear.specs.Rows.{Values, value, put}
-use Rattle.cf_linear.specs.Layout.{Layout, place, has_level, set_count, covers, number_column, input_column, region_column, region_row}
+use Rattle.cf_linear.specs.Layout.{Layout, place, has_level, set_count, covers, input_column, region_column, region_row}
 use Rattle.cf_linear.specs.Written.{IsPlacedSet}
 use Rattle.cf_linear.specs.Cases.{in_first, in_one, input_row}
 use Rattle.cf_linear.proofs.RowLemmas.{value-put}
-use Rattle.cf_cases.specs.Holding.{AreCounts, Agrees}
+use Rattle.cf_cases.specs.Holding.{AreCounts}
+use Rattle.cf_cases.proofs.AgreeLaws.{FormsAgree}
+use Rattle.cf_venn.specs.Columns.{Agrees}
 use Rattle.cf_venn.specs.Masks.{sets_at, mask, union_all, count}
 use Rattle.cf_venn.proofs.MaskLemmas.{bit_zero, bit-mask, mask_none, rising_union_all}
 use Rattle.cf_venn.proofs.CountLemmas.{total, count_same, length_within}
@@ -77,7 +80,8 @@ module _ (l : Layout) (env : List Value) where
   has-members empty_set p z = refl
   has-members (set_var x) p z =
       let levels = l.inputs ++ l.out_sets in
-      sym (bit-mask (sets_of l env) (place x levels) z ∙ ap (λ s. has s z) (at_place (λ x. elements_of (value_at env x)) [] levels x (has_either l.inputs l.out_sets x p)))
+      sym (bit-mask (sets_of l env) (place x levels) z ∙ ap (λ s. has s z)
+      (at_place (λ x. elements_of (value_at env x)) [] levels x (has_either l.inputs l.out_sets x p)))
   has-members (union_of a b) p z = has-union (members a env) (members b env) z ∙ rw (has-members a p.0 z, has-members b p.1 z) refl
   has-members (inter_of a b) p z = has-inter (members a env) (members b env) z ∙ rw (has-members a p.0 z, has-members b p.1 z) refl
   has-members (diff_of a b) p z = has-diff (members a env) (members b env) z ∙ rw (has-members a p.0 z, has-members b p.1 z) refl
@@ -105,9 +109,11 @@ module _ (l : Layout) (env : List Value) where
         ∙ ap (λ n. total n (covers l s) (count ss)) (length_sets l env)
 
     by_masks : (t : ℕ → Bool) → t 0 ≡ false → ((z : ℤ) → t (mask (sets_of l env) z) ≡ false) ↔ (total (set_count l) t (count (sets_of l env)) ≡ 0)
-    by_masks t n = subst (λ k. ((z : ℤ) → t (mask (sets_of l env) z) ≡ false) ↔ (total k t (count (sets_of l env)) ≡ 0)) (length_sets l env) (by_total t (sets_of l env) n)
+    by_masks t n = subst (λ k. ((z : ℤ) → t (mask (sets_of l env) z) ≡ false) ↔ (total k t (count (sets_of l env)) ≡ 0)) (length_sets l env)
+        (by_total t (sets_of l env) n)
 
-    same_total : (a b : SetTree) → IsPlacedSet l a → IsPlacedSet l b → (members a env ≡ members b env) ↔ (total (set_count l) (in_one l a b) (count (sets_of l env)) ≡ 0)
+    same_total : (a b : SetTree) → IsPlacedSet l a → IsPlacedSet l b →
+        (members a env ≡ members b env) ↔ (total (set_count l) (in_one l a b) (count (sets_of l env)) ≡ 0)
     same_total a b p q =
         let ss = sets_of l env in
         let by = by_masks (in_one l a b) (rw (covers_none l a, covers_none l b)) in (
@@ -125,19 +131,19 @@ module _ (l : Layout) (env : List Value) where
           λ e z f. has-members b q z ∙ (first_bools (covers l a (mask ss z)) (covers l b (mask ss z))).1 (by.1 e z) (sym (has-members a p z) ∙ f),
         )
 
-    module _ (v : Values) (held : (m : ℕ) → 1 ≤ m → m < 2 ^ set_count l → v (region_column l m) ≡ pos (count (sets_of l env) m)) where
-      -- values agree with an environment where they have its numbers and the counts of its regions
-      pub agrees_by_counts : ((x : ℕ) → IsTrue (has_level l.numbers x || has_level l.out_numbers x) → number_of (value_at env x) ≡ v (number_column l x)) → Agrees l env v
-      agrees_by_counts n =
-          let r = count (sets_of l env) in
-          record {
-            numbers = n;
-            sizes = λ s p. ap (λ k. pos k) (card_total s p) ∙ sym (region_total l v r held (covers l s));
-            same = λ a b p q. then_iff (same_total a b p q) (turn_iff (none_total l v r held (in_one l a b)));
-            other = λ a b p q. then_iff (not_zero (total (set_count l) (in_one l a b) r) (same_total a b p q)) (some_total l v r held (in_one l a b));
-            subset = λ a b p q. then_iff (subset_total a b p q) (turn_iff (none_total l v r held (in_first l a b)));
-            not_subset = λ a b p q. then_iff (not_zero (total (set_count l) (in_first l a b) r) (subset_total a b p q)) (some_total l v r held (in_first l a b));
-          }
+    -- where values have the numbers and the counts of the regions, they agree with all forms over sets
+    pub forms_agree : (v : Values) → Agrees l env v → FormsAgree l env v
+    forms_agree v g =
+        let r = count (sets_of l env) in
+        record {
+          numbers = g.numbers;
+          sizes = λ s p. ap (λ k. pos k) (card_total s p) ∙ sym (region_total l v r g.counts (covers l s));
+          same = λ a b p q. then_iff (same_total a b p q) (turn_iff (none_total l v r g.counts (in_one l a b)));
+          other = λ a b p q. then_iff (not_zero (total (set_count l) (in_one l a b) r) (same_total a b p q)) (some_total l v r g.counts (in_one l a b));
+          subset = λ a b p q. then_iff (subset_total a b p q) (turn_iff (none_total l v r g.counts (in_first l a b)));
+          not_subset = λ a b p q. then_iff (not_zero (total (set_count l) (in_first l a b) r) (subset_total a b p q))
+              (some_total l v r g.counts (in_first l a b));
+        }
 
 -- ---- counts
 minus_itself : (x y : ℤ) (n : ℕ) → x ≡ pos n → y ≡ pos n → negsuc 0 *ℤ x +ℤ y ≡ pos 0
@@ -147,7 +153,8 @@ unit_nonneg : (x : ℤ) (n : ℕ) → x ≡ pos n → pos 0 ≤ℤ (pos 1 *ℤ x
 unit_nonneg x n e = omega (arith, ints)
 
 -- the sum over the masks with the input part m, by the levels of the layout
-pub inputs_total : (l : Layout) (env : List Value) (m : ℕ) → 0 < m → total (set_count l) (λ k. k % 2 ^ length l.inputs == m) (count (sets_of l env)) ≡ count (sets_at env l.inputs) m
+pub inputs_total : (l : Layout) (env : List Value) (m : ℕ) → 0 < m → total (set_count l) (λ k. k % 2 ^ length l.inputs == m) (count (sets_of l env)) ≡ count
+    (sets_at env l.inputs) m
 inputs_total l env m z =
     let f : ℕ → List ℤ = λ x. elements_of (value_at env x) in
     let parts : sets_of l env ≡ sets_at env l.inputs ++ sets_at env l.out_sets = map-append f l.inputs l.out_sets in
@@ -155,7 +162,8 @@ inputs_total l env m z =
     let all : length (sets_at env l.inputs ++ sets_at env l.out_sets) ≡ set_count l = ap length (sym parts) ∙ length_sets l env in
     ap (λ ss. total (set_count l) (λ k. k % 2 ^ length l.inputs == m) (count ss)) parts
     ∙ subst (λ p. total (set_count l) (λ k. k % 2 ^ p == m) (count (sets_at env l.inputs ++ sets_at env l.out_sets)) ≡ count (sets_at env l.inputs) m) few
-    (subst (λ n. total n (λ k. k % 2 ^ length (sets_at env l.inputs) == m) (count (sets_at env l.inputs ++ sets_at env l.out_sets)) ≡ count (sets_at env l.inputs) m) all
+    (subst (λ n. total n (λ k. k % 2 ^ length (sets_at env l.inputs) == m) (count (sets_at env l.inputs ++ sets_at env l.out_sets)) ≡ count
+    (sets_at env l.inputs) m) all
     (input_total (sets_at env l.inputs) (sets_at env l.out_sets) m z))
 
 module _ (l : Layout) (env : List Value) (v : Values) (held : (m : ℕ) → 1 ≤ m → m < 2 ^ set_count l → v (region_column l m) ≡ pos (count (sets_of l env) m))
@@ -169,5 +177,6 @@ module _ (l : Layout) (env : List Value) (v : Values) (held : (m : ℕ) → 1 �
             ∙ minus_itself (v (input_column l m)) (value v (region_row l (λ k. k % 2 ^ length l.inputs == m))) (count (sets_at env l.inputs) m)
             (inputs m a (omega arith))
             (region_total l v r held (λ k. k % 2 ^ length l.inputs == m) ∙ ap (λ k. pos k) (inputs_total l env m a)));
-        nonneg = each_of (λ k. pos 0 ≤ℤ value v k) (λ m. put (region_column l m) (pos 1) []) 1 (2 ^ set_count l - 1) (λ m a b. unit_nonneg (v (region_column l m)) (r m) (held m a (omega arith)));
+        nonneg = each_of (λ k. pos 0 ≤ℤ value v k) (λ m. put (region_column l m) (pos 1) []) 1 (2 ^ set_count l - 1)
+            (λ m a b. unit_nonneg (v (region_column l m)) (r m) (held m a (omega arith)));
       }

@@ -46,9 +46,11 @@ module _ (l : Layout) (env : List Value) where
       omega arith
 
   pub known_early : (c : ℕ) → c < known_count l → column_values l env c ≡ known_values l env c
-  known_early c h = let k = length-known in get_or-append (known l env) (numbers_at env l.out_numbers ++ counts_at env (l.inputs ++ l.out_sets)) (pos 0) c (omega arith)
+  known_early c h = let k = length-known in get_or-append (known l env) (numbers_at env l.out_numbers ++ counts_at env (l.inputs ++ l.out_sets)) (pos 0) c
+      (omega arith)
 
-  pub number_known : (x : ℕ) → has_level l.numbers x ≡ true → (1 + place x l.numbers < known_count l) × (known_values l env (1 + place x l.numbers) ≡ number_of (value_at env x))
+  pub number_known : (x : ℕ) → has_level l.numbers x ≡ true → (1 + place x l.numbers < known_count l) ×
+      (known_values l env (1 + place x l.numbers) ≡ number_of (value_at env x))
   number_known x h =
       let w = place_within x l.numbers h in
       let k = length-numbers_at env l.numbers in
@@ -58,11 +60,13 @@ module _ (l : Layout) (env : List Value) where
         rw s (get_or-append (numbers_at env l.numbers) (counts_at env l.inputs) (pos 0) (place x l.numbers) (omega arith) ∙ number_entry env l.numbers x h),
       )
 
-  pub input_known : (m : ℕ) → 1 ≤ m → m < 2 ^ length l.inputs → (input_column l m < known_count l) × (known_values l env (input_column l m) ≡ pos (count (sets_at env l.inputs) m))
+  pub input_known : (m : ℕ) → 1 ≤ m → m < 2 ^ length l.inputs → (input_column l m < known_count l) ×
+      (known_values l env (input_column l m) ≡ pos (count (sets_at env l.inputs) m))
   input_known m a b =
       let s : length l.numbers + m ≡ suc (length l.numbers + (m - 1)) = omega arith in (
         omega arith,
-        rw s (get_at (numbers_at env l.numbers) (counts_at env l.inputs) (length l.numbers) (m - 1) (length l.numbers + (m - 1)) (length-numbers_at env l.numbers) refl ∙ count_entry env l.inputs m a b),
+        rw s (get_at (numbers_at env l.numbers) (counts_at env l.inputs) (length l.numbers) (m - 1) (length l.numbers + (m - 1))
+            (length-numbers_at env l.numbers) refl ∙ count_entry env l.inputs m a b),
       )
 
   known_few : known_count l ≤ first_free l
@@ -75,18 +79,22 @@ module _ (l : Layout) (env : List Value) where
       let k = length-numbers_at env l.out_numbers in
       let d = pow_pos (set_count l) in (
         omega arith,
-        get_at (known l env) (numbers_at env l.out_numbers ++ counts_at env (l.inputs ++ l.out_sets)) (known_count l) (place x l.out_numbers) (known_count l + place x l.out_numbers) length-known refl
+        get_at (known l env) (numbers_at env l.out_numbers ++ counts_at env (l.inputs ++ l.out_sets)) (known_count l) (place x l.out_numbers)
+            (known_count l + place x l.out_numbers) length-known refl
             ∙ get_or-append (numbers_at env l.out_numbers) (counts_at env (l.inputs ++ l.out_sets)) (pos 0) (place x l.out_numbers) (omega arith)
             ∙ number_entry env l.out_numbers x h,
       )
 
-  region_known : (m : ℕ) → 1 ≤ m → m < 2 ^ set_count l → (region_column l m < first_free l) × (column_values l env (region_column l m) ≡ pos (count (sets_of l env) m))
+  region_known : (m : ℕ) → 1 ≤ m → m < 2 ^ set_count l → (region_column l m < first_free l) ×
+      (column_values l env (region_column l m) ≡ pos (count (sets_of l env) m))
   region_known m a b =
       let n : length (l.inputs ++ l.out_sets) ≡ set_count l = length-append l.inputs l.out_sets in
       let few : m < 2 ^ length (l.inputs ++ l.out_sets) = rw n b in (
         omega arith,
-        get_at (known l env) (numbers_at env l.out_numbers ++ counts_at env (l.inputs ++ l.out_sets)) (known_count l) (length l.out_numbers + (m - 1)) (region_column l m) length-known (omega arith)
-            ∙ get_at (numbers_at env l.out_numbers) (counts_at env (l.inputs ++ l.out_sets)) (length l.out_numbers) (m - 1) (length l.out_numbers + (m - 1)) (length-numbers_at env l.out_numbers) refl
+        get_at (known l env) (numbers_at env l.out_numbers ++ counts_at env (l.inputs ++ l.out_sets)) (known_count l) (length l.out_numbers + (m - 1))
+            (region_column l m) length-known (omega arith)
+            ∙ get_at (numbers_at env l.out_numbers) (counts_at env (l.inputs ++ l.out_sets)) (length l.out_numbers) (m - 1) (length l.out_numbers + (m - 1))
+            (length-numbers_at env l.out_numbers) refl
             ∙ count_entry env (l.inputs ++ l.out_sets) m a few,
       )
 
@@ -104,4 +112,5 @@ module _ (l : Layout) (env : List Value) where
     pub number_same : (x : ℕ) → IsTrue (has_level l.numbers x || has_level l.out_numbers x) → number_of (value_at env x) ≡ v (number_column l x)
     number_same x t = on_bool (has_level l.numbers x)
         (λ e. let k = number_known x e in rw e (sym k.1 ∙ known_same (1 + place x l.numbers) k.0))
-        (λ e. let h : has_level l.out_numbers x ≡ true = rw e at t in let k = out_known x h in rw e (sym k.1 ∙ same (known_count l + place x l.out_numbers) k.0))
+        (λ e. let h : has_level l.out_numbers x ≡ true = rw e at t in let k = out_known x h in
+        rw e (sym k.1 ∙ same (known_count l + place x l.out_numbers) k.0))

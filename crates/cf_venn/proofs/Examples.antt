@@ -63,7 +63,8 @@ results = number (pos 9) ∷ elements (pos 0 ∷ pos 2 ∷ pos 3 ∷ pos 4 ∷ [
 known_first : known layout parameters ≡ pos 1 ∷ pos 7 ∷ pos 3 ∷ []
 known_first = refl
 
-columns : map (column_values layout (parameters ++ results)) (0 ∷ 1 ∷ 2 ∷ 3 ∷ 4 ∷ 5 ∷ 6 ∷ 7 ∷ []) ≡ pos 1 ∷ pos 7 ∷ pos 3 ∷ pos 9 ∷ pos 1 ∷ pos 2 ∷ pos 2 ∷ pos 0 ∷ []
+columns : map (column_values layout (parameters ++ results)) (0 ∷ 1 ∷ 2 ∷ 3 ∷ 4 ∷ 5 ∷ 6 ∷ 7 ∷ []) ≡ pos 1 ∷ pos 7 ∷ pos 3 ∷ pos 9 ∷ pos 1 ∷ pos 2 ∷ pos 2 ∷
+    pos 0 ∷ []
 columns = refl
 
 and_back : outputs_from layout parameters (column_values layout (parameters ++ results)) ≡ results
@@ -75,7 +76,8 @@ names = (2, 3) ∷ (3, 4) ∷ (4, 5) ∷ (5, 6) ∷ (6, 7) ∷ []
 
 abbrev held : List Value
 held =
-    parameters ++ (elements (pos 1 ∷ pos 2 ∷ pos 3 ∷ []) ∷ number (pos 3) ∷ number (pos 9) ∷ number (pos 1) ∷ number (pos 2) ∷ number (pos 2) ∷ elements (pos 0 ∷ pos 4 ∷ []) ∷ [])
+    parameters ++ (elements (pos 1 ∷ pos 2 ∷ pos 3 ∷ []) ∷ number (pos 3) ∷ number (pos 9) ∷ number (pos 1) ∷ number (pos 2) ∷ number (pos 2) ∷
+    elements (pos 0 ∷ pos 4 ∷ []) ∷ [])
 
 region_meant : means (region_code layout 1) held ≡ values (elements (pos 1 ∷ pos 2 ∷ pos 3 ∷ []) ∷ [])
 region_meant = refl

@@ -1,5 +1,6 @@
 -- The codes of regions, of fresh numbers and of output sets are well typed, spelled and not deep.
-use Rattle.std.proofs.Common.{◌≡◌, ℕ, suc, ◌+◌, ◌-◌, ◌*◌, ◌/◌, ◌%◌, ◌^◌, ◌<◌, ◌≤◌, ◌==◌, Bool, true, cond, not, Some, List, [], ◌∷◌, length, map, filter, subst, refl, arith}
+use Rattle.std.proofs.Common.{◌≡◌, ℕ, suc, ◌+◌, ◌-◌, ◌*◌, ◌/◌, ◌%◌, ◌^◌, ◌<◌, ◌≤◌, ◌==◌, Bool, true, cond, not, Some, List, [], ◌∷◌, length, map, filter}
+use Rattle.std.proofs.Common.{subst, refl, arith}
 use Rattle.std.specs.List.{range_with_len, fold}
 use Rattle.std.specs.Prelude.{slice_get}
 use Rattle.std.proofs.lemmas.Bool.{eqb-true, eqb-false}
@@ -14,7 +15,8 @@ use Rattle.cf_tree.specs.CodeTree.{CodeTree, code_var, code_diff, code_slice, co
 use Rattle.cf_tree.specs.Spelled.{AreSpelled}
 use Rattle.cf_tree.specs.Typing.{one, AllHave, HaveNoSolve}
 use Rattle.cf_tree.proofs.SetLemmas.{on_bool}
-use Rattle.cf_linear.specs.Arm.{ColumnLevels, level_of, sum_of, inter_of_all, union_of_all, vars, sets_in, sets_out, region_code, earlier_counts, piece_code, set_code, fresh_code}
+use Rattle.cf_linear.specs.Arm.{ColumnLevels, level_of, sum_of, inter_of_all, union_of_all, vars, sets_in, sets_out, region_code, earlier_counts, piece_code}
+use Rattle.cf_linear.specs.Arm.{set_code, fresh_code}
 use Rattle.cf_linear.specs.Layout.{Layout, bit, masks, place, has_level, set_count, region_column}
 use Rattle.cf_cases.specs.Holding.{EachOf}
 use Rattle.cf_cases.proofs.Quantifiers.{each-map}
@@ -90,11 +92,13 @@ module _ (scope : List Base) (few : length scope ≤ 2 ^ 32) where
     shallow = let i = h.shallow in let j = k.shallow in omega arith;
   }
 
-  diffs_fit : (cs : List CodeTree) → EachOf (IsCodeOf Set 1 scope) cs → (d : ℕ) (c : CodeTree) → 1 ≤ d → IsCodeOf Set d scope c → IsCodeOf Set (d + length cs) scope (fold (λ c e. code_diff c e) c cs)
+  diffs_fit : (cs : List CodeTree) → EachOf (IsCodeOf Set 1 scope) cs → (d : ℕ) (c : CodeTree) → 1 ≤ d → IsCodeOf Set d scope c →
+      IsCodeOf Set (d + length cs) scope (fold (λ c e. code_diff c e) c cs)
   diffs_fit [] k d c l h = deeper Set d (d + 0) c (omega arith) h
   diffs_fit (e ∷ cs) k d c l h =
       let s : d + 1 + length cs ≡ d + suc (length cs) = omega arith in
-      subst (λ n. IsCodeOf Set n scope (fold (λ c e. code_diff c e) (code_diff c e) cs)) s (diffs_fit cs k.1 (d + 1) (code_diff c e) (omega arith) (diff_fits d c e l h k.0))
+      subst (λ n. IsCodeOf Set n scope (fold (λ c e. code_diff c e) (code_diff c e) cs)) s
+      (diffs_fit cs k.1 (d + 1) (code_diff c e) (omega arith) (diff_fits d c e l h k.0))
 
   slice_fits : (a b c : CodeTree) → IsCodeOf Set 1 scope a → IsCodeOf Int 2 scope b → IsCodeOf Int 1 scope c → IsCodeOf Set 3 scope (code_slice a b c)
   slice_fits a b c h k i = record {
@@ -115,7 +119,8 @@ module _ (scope : List Base) (few : length scope ≤ 2 ^ 32) where
   -- ---- the codes of an arm
   module _ (l : Layout) where
     vars_fit : InputsTyped scope l → (xs : List ℕ) → ((x : ℕ) → has_level xs x ≡ true → has_level l.inputs x ≡ true) → EachOf (IsCodeOf Set 1 scope) (vars xs)
-    vars_fit inputs xs within = each-map (IsCodeOf Set 1 scope) (λ x. code_var x) xs (each_level (λ x. IsCodeOf Set 1 scope (code_var x)) xs (λ x h. var_fits Set x (inputs x (within x h))))
+    vars_fit inputs xs within = each-map (IsCodeOf Set 1 scope) (λ x. code_var x) xs
+        (each_level (λ x. IsCodeOf Set 1 scope (code_var x)) xs (λ x h. var_fits Set x (inputs x (within x h))))
 
     region_fits : InputsTyped scope l → (m : ℕ) → IsCodeOf Set (2 + length l.inputs) scope (region_code l m)
     region_fits inputs m =
@@ -136,8 +141,10 @@ module _ (scope : List Base) (few : length scope ≤ 2 ^ 32) where
           sum_fits 1 (earlier_counts l names m n) (each-map (IsCodeOf Int 1 scope) f ks
           (each_earlier (λ k. IsCodeOf Int 1 scope (f k)) (λ o. m + 2 ^ length l.inputs * o) 0 n
           (λ o i z.
-          let below : m + 2 ^ length l.inputs * o < 2 ^ length l.inputs * 2 ^ length l.out_sets = below_product (2 ^ length l.inputs) (2 ^ length l.out_sets) m o a (omega arith) in
-          var_fits Int (level_of names (region_column l (m + 2 ^ length l.inputs * o))) (counts (m + 2 ^ length l.inputs * o) z (rw (pow-add 2 (length l.inputs) (length l.out_sets)) below)))))
+          let below : m + 2 ^ length l.inputs * o < 2 ^ length l.inputs * 2 ^ length l.out_sets =
+          below_product (2 ^ length l.inputs) (2 ^ length l.out_sets) m o a (omega arith) in
+          var_fits Int (level_of names (region_column l (m + 2 ^ length l.inputs * o)))
+          (counts (m + 2 ^ length l.inputs * o) z (rw (pow-add 2 (length l.inputs) (length l.out_sets)) below)))))
 
       fresh_code_form : InputsTyped scope l → IsCodeOf Set 3 scope (fresh_code l names)
       fresh_code_form inputs =
@@ -145,7 +152,8 @@ module _ (scope : List Base) (few : length scope ≤ 2 ^ 32) where
           (union_fits 1 (vars l.inputs) (vars_fit inputs l.inputs (λ x h. h)))
           (earlier_fits 0 (2 ^ length l.out_sets) (pow_pos (length l.inputs)) (omega arith))
 
-      module _ (regions : ℕ → ℕ) (fresh_level : ℕ) (sets : RegionsTyped scope l regions) (fresh_set : 1 ≤ length l.out_sets → slice_get scope fresh_level ≡ Some Set) where
+      module _ (regions : ℕ → ℕ) (fresh_level : ℕ) (sets : RegionsTyped scope l regions) (fresh_set : 1 ≤ length l.out_sets →
+          slice_get scope fresh_level ≡ Some Set) where
         source_fits : (m : ℕ) → m < 2 ^ length l.inputs → (m ≡ 0 → 1 ≤ length l.out_sets) → slice_get scope (cond (m == 0) fresh_level (regions m)) ≡ Some Set
         source_fits m a some = on_bool (m == 0)
             (λ b. rw b (fresh_set (some (eqb-true m 0 b))))
@@ -158,7 +166,8 @@ module _ (scope : List Base) (few : length scope ≤ 2 ^ 32) where
             let lower : m < p = mod-lt k (pow_pos (length l.inputs)) in
             let below : k < p * 2 ^ length l.out_sets = rw (← (pow-add 2 (length l.inputs) (length l.out_sets))) b in
             let higher = high_below k p (2 ^ length l.out_sets) (pow_pos (length l.inputs)) below in
-            slice_fits (code_var (cond (m == 0) fresh_level (regions m))) (sum_of (earlier_counts l names m (k / p))) (code_var (level_of names (region_column l k)))
+            slice_fits (code_var (cond (m == 0) fresh_level (regions m))) (sum_of (earlier_counts l names m (k / p)))
+            (code_var (level_of names (region_column l k)))
             (var_fits Set (cond (m == 0) fresh_level (regions m)) (source_fits m lower (sets_some p k (length l.out_sets) a below)))
             (earlier_fits m (k / p) lower (omega arith))
             (var_fits Int (level_of names (region_column l k)) (counts k a b))

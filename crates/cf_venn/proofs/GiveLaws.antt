@@ -12,7 +12,8 @@ use Rattle.cf_venn.specs.Columns.{region_count, output_at}
 use Rattle.cf_venn.specs.Masks.{sets_at}
 use Rattle.cf_venn.proofs.CodeLaws.{CodeGives, var_gives, set_gives}
 
-all_give : (f : ℕ → CodeTree) (g : ℕ → Value) (e : List Value) → ((x : ℕ) → CodeGives (f x) e (g x)) → (xs : List ℕ) (done : List Value) → (all_path (codes_of (map f xs)) e done).gives ≡ got (done ++ map g xs)
+all_give : (f : ℕ → CodeTree) (g : ℕ → Value) (e : List Value) → ((x : ℕ) → CodeGives (f x) e (g x)) → (xs : List ℕ) (done : List Value) →
+    (all_path (codes_of (map f xs)) e done).gives ≡ got (done ++ map g xs)
 all_give f g e h [] done = ap got (sym (append-nil done))
 all_give f g e h (x ∷ xs) done = rw (h x) (all_give f g e h xs (done ++ (g x ∷ [])) ∙ ap got (append_assoc done (g x ∷ []) (map g xs)))
 

@@ -1,5 +1,6 @@
 -- After the lets of the regions, the known columns have the values of the parameters.
-use Rattle.std.proofs.Common.{◌≡◌, inl, inr, ℕ, zero, suc, ◌+◌, ◌-◌, ◌<◌, ◌≤◌, ◌==◌, pos, true, false, List, [], ◌∷◌, ◌++◌, length, get_or, map, refl, sym, ◌∙◌, ap, arith}
+use Rattle.std.proofs.Common.{◌≡◌, inl, inr, ℕ, zero, suc, ◌+◌, ◌-◌, ◌<◌, ◌≤◌, ◌==◌, pos, true, false, List, [], ◌∷◌, ◌++◌, length, get_or, map, refl, sym}
+use Rattle.std.proofs.Common.{◌∙◌, ap, arith}
 use Rattle.std.specs.List.{fold}
 use Rattle.std.proofs.lemmas.Bool.{cases_lt, eqb-true, eqb-false, ne_eqb}
 use Rattle.std.proofs.lemmas.List.{length-append}
@@ -10,7 +11,8 @@ use Rattle.cf_tree.specs.RelTree.{RelTree}
 use Rattle.cf_tree.specs.Values.{Value, number, elements_of, number_of, value_at, HasBase, HaveBases}
 use Rattle.cf_tree.proofs.SetLemmas.{on_bool}
 use Rattle.cf_linear.specs.Arm.{ColumnLevels, level_of, let_region, begun, search_names}
-use Rattle.cf_linear.specs.Layout.{Layout, layout_of, is_number, is_set, levels_with, rel_holds, masks, place, has_level, known_count, number_column, input_column}
+use Rattle.cf_linear.specs.Layout.{Layout, layout_of, is_number, is_set, levels_with, rel_holds, masks, place, has_level, known_count, number_column}
+use Rattle.cf_linear.specs.Layout.{input_column}
 use Rattle.cf_venn.specs.Codes.{HoldsInputs}
 use Rattle.cf_venn.specs.Columns.{known_values}
 use Rattle.cf_venn.specs.Lets.{region_values, ParametersKnown}
@@ -33,7 +35,7 @@ set_at (b ∷ bs) (v ∷ vs) zero h e = set_value b v e h.0
 set_at (b ∷ bs) (v ∷ vs) (suc i) h e = set_at bs vs i h.1 e
 
 -- ---- a level of a list and its place
-place_at : (lo : ℕ) (xs : List ℕ) (i : ℕ) → Up lo xs → i < length xs → (has_level xs (get_or xs i 0) ≡ true) × (place (get_or xs i 0) xs ≡ i)
+pub place_at : (lo : ℕ) (xs : List ℕ) (i : ℕ) → Up lo xs → i < length xs → (has_level xs (get_or xs i 0) ≡ true) × (place (get_or xs i 0) xs ≡ i)
 place_at lo [] i u h = absurd (omega arith)
 place_at lo (x ∷ xs) zero u h = (rw (same_level x) refl, rw (same_level x) refl)
 place_at lo (x ∷ xs) (suc i) u h =
@@ -45,7 +47,8 @@ place_at lo (x ∷ xs) (suc i) u h =
 place_once : (xs : List ℕ) (x y : ℕ) → has_level xs x ≡ true → has_level xs y ≡ true → place y xs ≡ place x xs → y ≡ x
 place_once xs x y h k e = sym (at_place (λ z. z) 0 xs y k) ∙ ap (λ i. get_or (map (λ z. z) xs) i 0) e ∙ at_place (λ z. z) 0 xs x h
 
-level_found : (f : ℕ → ℕ) (xs : List ℕ) (x : ℕ) (rest : ColumnLevels) → has_level xs x ≡ true → ((y : ℕ) → has_level xs y ≡ true → f y ≡ f x → y ≡ x) → level_of (map (λ z. (f z, z)) xs ++ rest) (f x) ≡ x
+level_found : (f : ℕ → ℕ) (xs : List ℕ) (x : ℕ) (rest : ColumnLevels) → has_level xs x ≡ true → ((y : ℕ) → has_level xs y ≡ true → f y ≡ f x → y ≡ x) →
+    level_of (map (λ z. (f z, z)) xs ++ rest) (f x) ≡ x
 level_found f [] x rest h once = absurd (cc)
 level_found f (y ∷ ys) x rest h once = on_bool (f y == f x)
     (λ t. rw t (once y (rw (same_level y) refl) (eqb-true (f y) (f x) t)))
@@ -56,7 +59,8 @@ level_found f (y ∷ ys) x rest h once = on_bool (f y == f x)
 same_places : (i j c d : ℕ) → c ≡ 1 + i → d ≡ 1 + j → c ≡ d → i ≡ j
 same_places i j c d e f g = omega arith
 
-module _ (scope outs : List Base) (rel : RelTree) (bounds : List (ℕ × ℕ)) (env ks : List Value) (have : HaveBases scope env) (long : length ks ≡ length bounds) where
+module _ (scope outs : List Base) (rel : RelTree) (bounds : List (ℕ × ℕ)) (env ks : List Value) (have : HaveBases scope env)
+    (long : length ks ≡ length bounds) where
   l : Layout
   l = layout_of scope outs rel
 
@@ -84,7 +88,8 @@ module _ (scope outs : List Base) (rel : RelTree) (bounds : List (ℕ × ℕ)) (
   after : List Value
   after = (env ++ ks) ++ region_values (sets_at env l.inputs) (masks (length l.inputs))
 
-  known_named : (c : ℕ) → 1 ≤ c → c < known_count l → number_of (value_at after (level_of (fold (let_region l) (begun l bounds) (masks (length l.inputs))).names c)) ≡ known_values l env c
+  known_named : (c : ℕ) → 1 ≤ c → c < known_count l → number_of (value_at after
+      (level_of (fold (let_region l) (begun l bounds) (masks (length l.inputs))).names c)) ≡ known_values l env c
   unfolding l after
   known_named c a b =
       let n = length_have scope env have in
@@ -98,7 +103,8 @@ module _ (scope outs : List Base) (rel : RelTree) (bounds : List (ℕ × ℕ)) (
             let column : input_column l m ≡ c = omega arith in
             let k = input_known l env m (omega arith) (omega arith) in
             ap (λ ss. number_of (value_at ((env ++ ks) ++ region_values ss (masks (length l.inputs))) (level_of names c))) (sym inputs_same)
-            ∙ ap (λ d. number_of (value_at ((env ++ ks) ++ region_values (sets_at (env ++ ks) l.inputs) (masks (length l.inputs))) (level_of names d))) (sym column)
+            ∙ ap (λ d. number_of (value_at ((env ++ ks) ++ region_values (sets_at (env ++ ks) l.inputs) (masks (length l.inputs))) (level_of names d)))
+            (sym column)
             ∙ ap number_of (lets.counts m (omega arith) (omega arith))
             ∙ ap (λ ss. number_of (value_at (region_values ss (m ∷ [])) 1)) inputs_same
             ∙ sym k.1
@@ -114,9 +120,11 @@ module _ (scope outs : List Base) (rel : RelTree) (bounds : List (ℕ × ℕ)) (
             lets.others c (λ m h j e. omega arith)
             ∙ ap (level_of (begun l bounds).names) (sym column)
             ∙ level_found (number_column l) l.numbers x (search_names l.scope bounds) p.0
-            (λ y h e. place_once l.numbers x y p.0 h (same_places (place y l.numbers) (place x l.numbers) (number_column l y) (number_column l x) (rw h refl) (rw p.0 refl) e)) in
+            (λ y h e. place_once l.numbers x y p.0 h (same_places (place y l.numbers) (place x l.numbers) (number_column l y) (number_column l x)
+            (rw h refl) (rw p.0 refl) e)) in
             let there : value_at after x ≡ value_at env x =
-            get_or-append (env ++ ks) (region_values (sets_at env l.inputs) (masks (length l.inputs))) (number (pos 0)) x (omega arith) ∙ get_or-append env ks (number (pos 0)) x (omega arith) in
+            get_or-append (env ++ ks) (region_values (sets_at env l.inputs) (masks (length l.inputs))) (number (pos 0)) x (omega arith) ∙
+            get_or-append env ks (number (pos 0)) x (omega arith) in
             let k = number_known l env x p.0 in
             ap (λ j. number_of (value_at after j)) found ∙ ap number_of there ∙ sym k.1 ∙ ap (known_values l env) (ap (λ j. 1 + j) p.1 ∙ omega arith)
             )
@@ -125,7 +133,8 @@ module _ (scope outs : List Base) (rel : RelTree) (bounds : List (ℕ × ℕ)) (
   both : HoldsInputs (layout_of scope outs rel) (env ++ ks)
       × ((c : ℕ) → 1 ≤ c → c < known_count (layout_of scope outs rel) →
       number_of (value_at ((env ++ ks) ++ region_values (sets_at env (layout_of scope outs rel).inputs) (masks (length (layout_of scope outs rel).inputs)))
-      (level_of (fold (let_region (layout_of scope outs rel)) (begun (layout_of scope outs rel) bounds) (masks (length (layout_of scope outs rel).inputs))).names c)) ≡ known_values (layout_of scope outs rel) env c)
+      (level_of (fold (let_region (layout_of scope outs rel)) (begun (layout_of scope outs rel) bounds)
+      (masks (length (layout_of scope outs rel).inputs))).names c)) ≡ known_values (layout_of scope outs rel) env c)
   unfolding l after
   both = (inputs_held, known_named)
 

@@ -1,5 +1,6 @@
 -- What the lets of the regions and of their counts lead to.
-use Rattle.std.proofs.Common.{◌≡◌, ℕ, zero, suc, ◌+◌, ◌-◌, ◌*◌, ◌^◌, ◌<◌, ◌≤◌, ◌==◌, ℤ, pos, true, Some, List, [], ◌∷◌, ◌++◌, length, refl, sym, ◌∙◌, ap, arith, append_assoc, append-nil}
+use Rattle.std.proofs.Common.{◌≡◌, ℕ, zero, suc, ◌+◌, ◌-◌, ◌*◌, ◌^◌, ◌<◌, ◌≤◌, ◌==◌, ℤ, pos, true, Some, List, [], ◌∷◌, ◌++◌, length, refl, sym, ◌∙◌, ap}
+use Rattle.std.proofs.Common.{arith, append_assoc, append-nil}
 use Rattle.std.specs.List.{range_with_len, fold}
 use Rattle.std.proofs.lemmas.Bool.{eqb-true, eqb-false, eq-eqb, ne_eqb}
 use Rattle.std.proofs.lemmas.List.{length-append, get_or-append-add}
@@ -22,7 +23,8 @@ use Rattle.cf_venn.proofs.RegionCodes.{region_gives}
 card_gives : (c : CodeTree) (e : List Value) (zs : List ℤ) → CodeGives c e (elements zs) → CodeGives (code_card c) e (number (pos (length zs)))
 card_gives c e zs h = rw h refl
 
-two_lets : (c d : CodeTree) (is : List ItemTree) (e f : List Value) (v w : Value) → CodeGives c e v → CodeGives d (e ++ (v ∷ [])) w → (items_path (items_of is) ((e ++ (v ∷ [])) ++ (w ∷ []))).gives ≡ got (Some f) →
+two_lets : (c d : CodeTree) (is : List ItemTree) (e f : List Value) (v w : Value) → CodeGives c e v → CodeGives d (e ++ (v ∷ [])) w →
+    (items_path (items_of is) ((e ++ (v ∷ [])) ++ (w ∷ []))).gives ≡ got (Some f) →
     (items_path (items_of (let_item c ∷ let_item d ∷ is)) e).gives ≡ got (Some f)
 two_lets c d is e f v w g h k = rw (g, h) k
 
@@ -84,13 +86,16 @@ region_at : (ins : List (List ℤ)) (a n m : ℕ) → a ≤ m → m < a + n → 
 region_at ins a zero m i j = absurd (omega arith)
 region_at ins a (suc n) m i j = on_bool (a == m)
     (λ t. let s = eqb-true a m t in let z : 2 * (m - a) ≡ 0 = omega arith in rw z (ap (λ o. elements (region ins o)) s))
-    (λ t. let d = eqb-false a m t in let z : 2 * (m - a) ≡ suc (suc (2 * (m - (a + 1)))) = omega arith in rw z (region_at ins (a + 1) n m (omega arith) (omega arith)))
+    (λ t. let d = eqb-false a m t in let z : 2 * (m - a) ≡ suc (suc (2 * (m - (a + 1)))) = omega arith in
+    rw z (region_at ins (a + 1) n m (omega arith) (omega arith)))
 
-count_at : (ins : List (List ℤ)) (a n m : ℕ) → a ≤ m → m < a + n → value_at (region_values ins (range_with_len a n)) (suc (2 * (m - a))) ≡ number (pos (count ins m))
+count_at : (ins : List (List ℤ)) (a n m : ℕ) → a ≤ m → m < a + n → value_at (region_values ins (range_with_len a n)) (suc (2 * (m - a))) ≡ number
+    (pos (count ins m))
 count_at ins a zero m i j = absurd (omega arith)
 count_at ins a (suc n) m i j = on_bool (a == m)
     (λ t. let s = eqb-true a m t in let z : 2 * (m - a) ≡ 0 = omega arith in rw z (ap (λ o. number (pos (count ins o))) s))
-    (λ t. let d = eqb-false a m t in let z : 2 * (m - a) ≡ suc (suc (2 * (m - (a + 1)))) = omega arith in rw z (count_at ins (a + 1) n m (omega arith) (omega arith)))
+    (λ t. let d = eqb-false a m t in let z : 2 * (m - a) ≡ suc (suc (2 * (m - (a + 1)))) = omega arith in
+    rw z (count_at ins (a + 1) n m (omega arith) (omega arith)))
 
 later_value : (e f : List Value) (c i : ℕ) → c ≡ length e + i → value_at (e ++ f) c ≡ value_at f i
 later_value e f c i h = rw h (get_or-append-add e f i (number (pos 0)))
@@ -107,8 +112,10 @@ module _ (l : Layout) (lo : ℕ) (u : Up lo l.inputs) where
     still_holds : HoldsInputs l e → HoldsInputs l (e ++ d)
     still_holds inputs x h = let k = inputs x h in (k.0, same_value x h ∙ k.1, k.2)
 
-  lead : (n a : ℕ) (e : List Value) (ins : List (List ℤ)) (level : ℕ) → level ≡ length e → ((x : ℕ) → has_level l.inputs x ≡ true → x < length e) → HoldsInputs l e → sets_at e l.inputs ≡ ins →
-      1 ≤ a → a + n ≤ 2 ^ length l.inputs → (items_path (items_of (region_items l level a n)) e).gives ≡ got (Some (e ++ region_values ins (range_with_len a n)))
+  lead : (n a : ℕ) (e : List Value) (ins : List (List ℤ)) (level : ℕ) → level ≡ length e → ((x : ℕ) → has_level l.inputs x ≡ true → x < length e) →
+      HoldsInputs l e → sets_at e l.inputs ≡ ins →
+      1 ≤ a → a + n ≤ 2 ^ length l.inputs → (items_path (items_of (region_items l level a n)) e).gives ≡ got
+      (Some (e ++ region_values ins (range_with_len a n)))
   unfolding region_items
   lead zero a e ins level s early inputs same x y = ap (λ f. got (Some f)) (sym (append-nil e))
   lead (suc n) a e ins level s early inputs same x y =
@@ -118,11 +125,14 @@ module _ (l : Layout) (lo : ℕ) (u : Up lo l.inputs) where
       let rest = region_values ins (range_with_len (a + 1) n) in
       let pair = elements R ∷ number (pos (count ins a)) ∷ [] in
       let e2_is : e2 ≡ e ++ pair = append_assoc e (elements R ∷ []) (number (pos (count ins a)) ∷ []) in
-      let first : CodeGives (region_code l a) e (elements R) = region_gives l e inputs lo u a x (omega arith) ∙ ap (λ ss. got (elements (region ss a) ∷ [])) same in
+      let first : CodeGives (region_code l a) e (elements R) = region_gives l e inputs lo u a x (omega arith) ∙
+      ap (λ ss. got (elements (region ss a) ∷ [])) same in
       let there : value_at e1 level ≡ elements R = rw s (get_or-append_seam e (elements R) [] (number (pos 0))) in
       let long : length (e ++ pair) ≡ length e + 2 = length-append e pair in
-      let next = lead n (a + 1) (e ++ pair) ins (level + 2) (omega arith) (λ z h. let i = early z h in omega arith) (still_holds e early pair inputs) (same_sets e early pair ∙ same) (omega arith) (omega arith) in
-      two_lets (region_code l a) (code_card (code_var level)) (region_items l (level + 2) (a + 1) n) e (e ++ (pair ++ rest)) (elements R) (number (pos (count ins a)))
+      let next = lead n (a + 1) (e ++ pair) ins (level + 2) (omega arith) (λ z h. let i = early z h in omega arith) (still_holds e early pair inputs)
+      (same_sets e early pair ∙ same) (omega arith) (omega arith) in
+      two_lets (region_code l a) (code_card (code_var level)) (region_items l (level + 2) (a + 1) n) e (e ++ (pair ++ rest)) (elements R)
+      (number (pos (count ins a)))
       first
       (card_gives (code_var level) e1 R (var_gives level e1 (elements R) there))
       (ap (λ f. (items_path (items_of (region_items l (level + 2) (a + 1) n)) f).gives) e2_is ∙ next ∙ ap (λ f. got (Some f)) (append_assoc e pair rest))

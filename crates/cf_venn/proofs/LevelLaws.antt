@@ -1,5 +1,6 @@
 -- The levels of a choose, and values of their bases.
-use Rattle.std.proofs.Common.{◌≡◌, ℕ, zero, suc, ◌+◌, ◌-◌, ◌<◌, ◌≤◌, ◌==◌, Bool, true, false, List, [], ◌∷◌, ◌++◌, length, map, filter, subst, refl, ap, sym, ◌∙◌, arith}
+use Rattle.std.proofs.Common.{◌≡◌, ℕ, zero, suc, ◌+◌, ◌-◌, ◌<◌, ◌≤◌, ◌==◌, Bool, true, false, List, [], ◌∷◌, ◌++◌, length, map, filter, subst, refl, ap, sym}
+use Rattle.std.proofs.Common.{◌∙◌, arith}
 use Rattle.std.specs.List.{range_with_len}
 use Rattle.std.proofs.lemmas.Bool.{cond_both, eq-eqb, ne_eqb, eqb-true}
 use Rattle.cf_tree.specs.declared.base.Base.{Base}
@@ -125,7 +126,8 @@ set_at_only (b ∷ bs) zero h = set_only b h
 set_at_only (b ∷ bs) (suc i) h = set_at_only bs i h
 
 level_early : (p : Base → Bool) (n : ℕ) (bs : List Base) (x : ℕ) → x < n → has_level (levels_with p n bs) x ≡ false
-level_early p n bs x l = on_bool (has_level (levels_with p n bs) x) (λ e. let k = up_has n (levels_with p n bs) x (up_levels p n bs) e in absurd (omega arith)) (λ e. e)
+level_early p n bs x l = on_bool (has_level (levels_with p n bs) x) (λ e. let k = up_has n (levels_with p n bs) x (up_levels p n bs) e in
+    absurd (omega arith)) (λ e. e)
 
 pub level_has : (p : Base → Bool) (n : ℕ) (bs : List Base) (i : ℕ) → has_level (levels_with p n bs) (n + i) ≡ base_at p bs i
 level_has p n [] i = refl
@@ -185,7 +187,8 @@ pub is_layout : (scope outputs : List Base) (rel : RelTree) → IsLayout scope o
 is_layout scope outputs rel =
     let n = length scope in
     let early : (p : Base → Bool) (x : ℕ) → has_level (filter (λ y. rel_holds y rel) (levels_with p 0 scope)) x ≡ true → x < n =
-    λ p x h. (let k = level_at p 0 scope x (has_unfiltered (λ y. rel_holds y rel) (levels_with p 0 scope) x h) in let w = base_within p scope (x - 0) k.1 in omega arith) in
+    λ p x h. (let k = level_at p 0 scope x (has_unfiltered (λ y. rel_holds y rel) (levels_with p 0 scope) x h) in let w = base_within p scope (x - 0) k.1 in
+    omega arith) in
     record {
       scope_is = refl;
       numbers = early is_number;
@@ -210,5 +213,6 @@ have_outputs f scope outputs rel o h k =
     subst (λ m. HaveBases outputs (map f (range_with_len n m))) (sym (all_levels n outputs o))
     (have_listed f n outputs o (λ i e. h (n + i) (level_has is_number n outputs i ∙ e)) (λ i e. k (n + i) (level_has is_set n outputs i ∙ e)))
 
-pub outputs_count : (scope outputs : List Base) (rel : RelTree) → AreOutputs outputs → length (layout_of scope outputs rel).out_numbers + length (layout_of scope outputs rel).out_sets ≡ length outputs
+pub outputs_count : (scope outputs : List Base) (rel : RelTree) → AreOutputs outputs →
+    length (layout_of scope outputs rel).out_numbers + length (layout_of scope outputs rel).out_sets ≡ length outputs
 outputs_count scope outputs rel o = all_levels (length scope) outputs o

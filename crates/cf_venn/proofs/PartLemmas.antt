@@ -23,7 +23,8 @@ below_product p u m o l k = let h = mul-le-mul_left p k in omega arith
 
 pub parts_once : (p m o n u : ℕ) → m < p → n < p → m + p * o ≡ n + p * u → (m ≡ n) × (o ≡ u)
 parts_once p m o n u l k e =
-    let f = rw (add-mul-div_left m o {y = p} (omega arith), add-mul-div_left n u {y = p} (omega arith), div-eq_of_lt l, div-eq_of_lt k) at (ap (λ x. x / p) e) in
+    let f = rw (add-mul-div_left m o {y = p} (omega arith), add-mul-div_left n u {y = p} (omega arith), div-eq_of_lt l, div-eq_of_lt k) at
+    (ap (λ x. x / p) e) in
     let same : o ≡ u = omega arith in
     let g = rw same at e in
     (omega arith, same)

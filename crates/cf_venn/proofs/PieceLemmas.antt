@@ -1,5 +1,6 @@
 -- Output sets made of counts have these counts.
-use Rattle.std.proofs.Common.{◌≡◌, ℕ, zero, suc, ℤ, ◌+◌, ◌-◌, ◌*◌, ◌/◌, ◌%◌, ◌^◌, ◌<◌, ◌≤◌, ◌==◌, Bool, true, cond, List, ◌∷◌, ◌++◌, length, map, filter, take, drop, subst, refl, ap, sym, ◌∙◌, arith, ltb, length-drop}
+use Rattle.std.proofs.Common.{◌≡◌, ℕ, zero, suc, ℤ, ◌+◌, ◌-◌, ◌*◌, ◌/◌, ◌%◌, ◌^◌, ◌<◌, ◌≤◌, ◌==◌, Bool, true, cond, List, ◌∷◌, ◌++◌, length, map, filter}
+use Rattle.std.proofs.Common.{take, drop, subst, refl, ap, sym, ◌∙◌, arith, ltb, length-drop}
 use Rattle.std.specs.List.{range_with_len}
 use Rattle.std.proofs.lemmas.Bool.{cond_both, eq-eqb, ne_eqb, eqb-true, eqb-false, and_parts, and_from, not-true, or_left, or_right, ltb-true, ltb-false}
 use Rattle.std.proofs.lemmas.List.{length-take-le}
@@ -33,7 +34,8 @@ earlier_rises p r m a (suc b) l = on_bool (a == suc b)
     (λ e. let n = eqb-false a (suc b) e in let h = earlier_rises p r m a b (omega arith) in let s = earlier-more p r m b in omega arith)
 
 -- ---- unions of many sets
-pub union_to : (f : ℕ → List ℤ) (t : ℕ → Bool) (a n k : ℕ) (y : ℤ) → a ≤ k → k < a + n → t k ≡ true → has (f k) y ≡ true → has (union_all (map f (filter t (range_with_len a n)))) y ≡ true
+pub union_to : (f : ℕ → List ℤ) (t : ℕ → Bool) (a n k : ℕ) (y : ℤ) → a ≤ k → k < a + n → t k ≡ true → has (f k) y ≡ true →
+    has (union_all (map f (filter t (range_with_len a n)))) y ≡ true
 union_to f t a zero k y l h e g = absurd (omega arith)
 union_to f t a (suc n) k y l h e g =
     let rest = filter t (range_with_len (a + 1) n) in
@@ -74,7 +76,8 @@ mask-listed f a (suc n) o y l h =
     let z : a + 0 ≡ a = omega arith in
     rw (
       ap (λ i. has (f i) y) (sym z) ∙ h 0,
-      mask-listed f (a + 1) n (o / 2) y (half_below o (2 ^ n) (rw (pow-succ' 2 n) at l)) (λ j. let s : a + 1 + j ≡ a + suc j = omega arith in ap (λ i. has (f i) y) s ∙ h (suc j)),
+      mask-listed f (a + 1) n (o / 2) y (half_below o (2 ^ n) (rw (pow-succ' 2 n) at l)) (λ j. let s : a + 1 + j ≡ a + suc j = omega arith in
+          ap (λ i. has (f i) y) s ∙ h (suc j)),
     )
     (halves o)
 
@@ -90,7 +93,8 @@ some_bit j (suc o) b = omega arith
 
 module _ (ins : List (List ℤ)) (q : ℕ) (r : ℕ → ℕ) where
   pub rising_source : (m : ℕ) → IsRising (source ins q r m)
-  rising_source m = cond_both (m == 0) _ _ IsRising (λ e. rising_fresh (union_all ins) _) (λ e. rising_filter (λ x. mask ins x == m) (union_all ins) (rising_union_all ins))
+  rising_source m = cond_both (m == 0) _ _ IsRising (λ e. rising_fresh (union_all ins) _)
+      (λ e. rising_filter (λ x. mask ins x == m) (union_all ins) (rising_union_all ins))
 
   rising_cut : (m o : ℕ) → IsRising (cut ins q r m o)
   rising_cut m o = rising_take (part (length ins) r m o) _ (rising_drop (earlier (length ins) r m o) (source ins q r m) (rising_source m))
@@ -98,7 +102,8 @@ module _ (ins : List (List ℤ)) (q : ℕ) (r : ℕ → ℕ) where
   source_mask : (m : ℕ) (y : ℤ) → has (source ins q r m) y ≡ true → mask ins y ≡ m
   source_mask m y h = on_bool (m == 0)
       (λ e. mask_none ins y (fresh_not (union_all ins) _ y (rw e at h)) ∙ sym (eqb-true m 0 e))
-      (λ e. eqb-true (mask ins y) m (and_parts (has (union_all ins) y) (mask ins y == m) (sym (has-filter (λ x. mask ins x == m) (union_all ins) y) ∙ rw e at h)).1)
+      (λ e. eqb-true (mask ins y) m (and_parts (has (union_all ins) y) (mask ins y == m) (sym (has-filter (λ x. mask ins x == m) (union_all ins) y) ∙
+      rw e at h)).1)
 
   length_source : Consistent ins q r → (m : ℕ) → m < 2 ^ length ins → length (source ins q r m) ≡ earlier (length ins) r m (2 ^ q)
   length_source ok m l = on_bool (m == 0)
@@ -126,7 +131,8 @@ module _ (ins : List (List ℤ)) (q : ℕ) (r : ℕ → ℕ) where
   some_cut m (suc n) y e = on_bool (has (take (earlier (length ins) r m n) (source ins q r m)) y)
       (λ g. let s = some_cut m n y g in let l = s.1 in (s.0, omega arith, s.2))
       (λ g.
-      let f : has (take (earlier (length ins) r m n + part (length ins) r m n) (source ins q r m)) y ≡ true = ap (λ k. has (take k (source ins q r m)) y) (sym (earlier-more (length ins) r m n)) ∙ e in
+      let f : has (take (earlier (length ins) r m n + part (length ins) r m n) (source ins q r m)) y ≡ true =
+      ap (λ k. has (take k (source ins q r m)) y) (sym (earlier-more (length ins) r m n)) ∙ e in
       (n, omega arith, has-slice (earlier (length ins) r m n) (part (length ins) r m n) (source ins q r m) y (rising_source m) ∙ rw (f, g) refl))
 
   -- an element is in one piece only
@@ -157,7 +163,8 @@ module _ (ins : List (List ℤ)) (q : ℕ) (r : ℕ → ℕ) where
       (bit_high (length ins) j (m + 2 ^ length ins * o) ∙ ap (bit j) (part_div (2 ^ length ins) m o l) ∙ b)
       (ap (λ s. has s y) (piece_cut m o l z) ∙ e)
 
-  out_from : (j : ℕ) (y : ℤ) → has (output ins q r j) y ≡ true → (m : ℕ) × (o : ℕ) × (m < 2 ^ length ins) × (o < 2 ^ q) × (bit j o ≡ true) × (has (cut ins q r m o) y ≡ true)
+  out_from : (j : ℕ) (y : ℤ) → has (output ins q r j) y ≡ true → (m : ℕ) × (o : ℕ) × (m < 2 ^ length ins) × (o < 2 ^ q) × (bit j o ≡ true) ×
+      (has (cut ins q r m o) y ≡ true)
   out_from j y e =
       let s = union_from (piece ins q r) (bit (length ins + j)) 1 (2 ^ (length ins + q) - 1) y e in
       let k = s.0 in
@@ -186,7 +193,8 @@ module _ (ins : List (List ℤ)) (q : ℕ) (r : ℕ → ℕ) where
 
   -- an element of a piece has that mask among the outputs
   out_mask : (m o : ℕ) (y : ℤ) → m < 2 ^ length ins → o < 2 ^ q → has (cut ins q r m o) y ≡ true → mask (outputs ins q r) y ≡ o
-  out_mask m o y l k e = mask-listed (output ins q r) 0 q o y k (λ j. let s : 0 + j ≡ j = omega arith in ap (λ i. has (output ins q r i) y) s ∙ output_bit m o y l k e j)
+  out_mask m o y l k e = mask-listed (output ins q r) 0 q o y k (λ j. let s : 0 + j ≡ j = omega arith in ap (λ i. has (output ins q r i) y) s ∙
+      output_bit m o y l k e j)
 
   cut_mask : (m o : ℕ) (y : ℤ) → m < 2 ^ length ins → o < 2 ^ q → has (cut ins q r m o) y ≡ true → mask (ins ++ outputs ins q r) y ≡ m + 2 ^ length ins * o
   cut_mask m o y l k e = mask-append ins (outputs ins q r) y ∙ rw (source_mask m y (cut_source m o y e), out_mask m o y l k e) refl
@@ -212,7 +220,8 @@ module _ (ins : List (List ℤ)) (q : ℕ) (r : ℕ → ℕ) where
     -- the elements of a mask are those of its piece
     mask_cut : (m o : ℕ) (y : ℤ) → 0 < m + o → m < 2 ^ length ins → mask (ins ++ outputs ins q r) y ≡ m + 2 ^ length ins * o → has (cut ins q r m o) y ≡ true
     mask_cut m o y z l e =
-        let once = parts_once (2 ^ length ins) (mask ins y) (mask (outputs ins q r) y) m o (mask-below ins y) l (sym (mask-append ins (outputs ins q r) y) ∙ e) in
+        let once = parts_once (2 ^ length ins) (mask ins y) (mask (outputs ins q r) y) m o (mask-below ins y) l (sym (mask-append ins (outputs ins q r) y) ∙
+        e) in
         on_bool (m == 0)
         (λ f. let zero_m = eqb-true m 0 f in
         ap (λ v. has (cut ins q r v o) y) zero_m ∙ from_output o y (omega arith) (once.0 ∙ zero_m) once.1)

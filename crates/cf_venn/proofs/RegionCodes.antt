@@ -1,5 +1,6 @@
 -- The code of a region means the region.
-use Rattle.std.proofs.Common.{◌≡◌, ℕ, suc, ◌+◌, ◌*◌, ◌/◌, ◌%◌, ◌^◌, ◌<◌, ◌≤◌, ◌==◌, ℤ, Bool, true, false, cond, not, ◌&&◌, ◌||◌, List, [], ◌∷◌, length, map, filter, refl, ap, sym, ◌∙◌, arith}
+use Rattle.std.proofs.Common.{◌≡◌, ℕ, suc, ◌+◌, ◌*◌, ◌/◌, ◌%◌, ◌^◌, ◌<◌, ◌≤◌, ◌==◌, ℤ, Bool, true, false, cond, not, ◌&&◌, ◌||◌, List, [], ◌∷◌, length, map}
+use Rattle.std.proofs.Common.{filter, refl, ap, sym, ◌∙◌, arith}
 use Rattle.std.specs.List.{fold}
 use Rattle.std.proofs.lemmas.Bool.{eq-eqb, ne_eqb, eqb-true, eqb-false}
 use Rattle.std.proofs.lemmas.Bool.Decides.{nat_tests}
@@ -22,15 +23,18 @@ use Rattle.cf_venn.proofs.LevelLaws.{Up, up_has, up_levels, up_filter, same_leve
 use Rattle.cf_venn.proofs.CodeLaws.{CodeGives, joins, join_gives, each_level, input_gives, input_rises, each_rises}
 
 -- ---- what the codes give
-inter_gives : (f : ℕ → CodeTree) (g : ℕ → List ℤ) (e : List Value) (ks : List ℕ) → EachOf (λ k. CodeGives (f k) e (elements (g k))) ks → CodeGives (inter_of_all (map f ks)) e (elements (joins set_inter (map g ks)))
+inter_gives : (f : ℕ → CodeTree) (g : ℕ → List ℤ) (e : List Value) (ks : List ℕ) → EachOf (λ k. CodeGives (f k) e (elements (g k))) ks →
+    CodeGives (inter_of_all (map f ks)) e (elements (joins set_inter (map g ks)))
 inter_gives f g e [] h = refl
 inter_gives f g e (k ∷ []) h = h.0
 inter_gives f g e (k ∷ j ∷ ks) h = rw (h.0) (join_gives set_inter f g e (j ∷ ks) h.1 (g k))
 
-diff_gives : (c d : CodeTree) (e : List Value) (xs ys : List ℤ) → CodeGives c e (elements xs) → CodeGives d e (elements ys) → CodeGives (code_diff c d) e (elements (set_diff xs ys))
+diff_gives : (c d : CodeTree) (e : List Value) (xs ys : List ℤ) → CodeGives c e (elements xs) → CodeGives d e (elements ys) →
+    CodeGives (code_diff c d) e (elements (set_diff xs ys))
 diff_gives c d e xs ys g h = rw (g, h) refl
 
-diffs_give : (f : ℕ → CodeTree) (g : ℕ → List ℤ) (e : List Value) (ks : List ℕ) → EachOf (λ k. CodeGives (f k) e (elements (g k))) ks → (c : CodeTree) (zs : List ℤ) → CodeGives c e (elements zs) →
+diffs_give : (f : ℕ → CodeTree) (g : ℕ → List ℤ) (e : List Value) (ks : List ℕ) → EachOf (λ k. CodeGives (f k) e (elements (g k))) ks →
+    (c : CodeTree) (zs : List ℤ) → CodeGives c e (elements zs) →
     CodeGives (fold (λ c d. code_diff c d) c (map f ks)) e (elements (fold set_diff zs (map g ks)))
 diffs_give f g e [] h c zs k = k
 diffs_give f g e (x ∷ ks) h c zs k = diffs_give f g e ks h.1 (code_diff c (f x)) (set_diff zs (g x)) (diff_gives c (f x) e zs (g x) k h.0)
@@ -114,7 +118,8 @@ module _ (x : ℕ) (xs : List ℕ) (u : Up (suc x) xs) (m : ℕ) where
   out_is : levels_out (x ∷ xs) m ≡ cond (not (m % 2 == 1)) (x ∷ levels_out xs (m / 2)) (levels_out xs (m / 2))
   out_is =
       ap (λ b. cond (not b) (x ∷ filter (λ y. not (bit (place y (x ∷ xs)) m)) xs) (filter (λ y. not (bit (place y (x ∷ xs)) m)) xs)) first_bit
-      ∙ ap (λ ys. cond (not (m % 2 == 1)) (x ∷ ys) ys) (filter_same (λ y. not (bit (place y (x ∷ xs)) m)) (λ y. not (bit (place y xs) (m / 2))) xs (λ y h. ap not (later_bit y h)))
+      ∙ ap (λ ys. cond (not (m % 2 == 1)) (x ∷ ys) ys) (filter_same (λ y. not (bit (place y (x ∷ xs)) m)) (λ y. not (bit (place y xs) (m / 2))) xs
+      (λ y h. ap not (later_bit y h)))
 
 half_below : (o b : ℕ) → o < 2 * b → o / 2 < b
 half_below o b l = omega arith
@@ -131,7 +136,8 @@ in_some : (lo : ℕ) (xs : List ℕ) (m : ℕ) → Up lo xs → 0 < m → m < 2 
 in_some lo [] m u z l = absurd (omega arith)
 in_some lo (x ∷ xs) m u z l = rw (in_is x xs u.1 m) (on_bool (m % 2 == 1)
     (λ e. rw e (omega arith))
-    (λ e. let f = eqb-false (m % 2) 1 e in rw e (in_some (suc x) xs (m / 2) u.1 (omega arith) (half_below m (2 ^ length xs) (rw (pow-succ' 2 (length xs)) at l)))))
+    (λ e. let f = eqb-false (m % 2) 1 e in rw e (in_some (suc x) xs (m / 2) u.1 (omega arith)
+    (half_below m (2 ^ length xs) (rw (pow-succ' 2 (length xs)) at l)))))
 
 module _ (S : ℕ → List ℤ) (y : ℤ) where
   abbrev exactly : List ℕ → List ℕ → Bool
@@ -171,7 +177,8 @@ module _ (l : Layout) (e : List Value) (inputs : HoldsInputs l e) (lo : ℕ) (u 
   code_set_is =
       let f : ℕ → List ℤ = λ x. elements_of (value_at e x) in
       let ss = sets_at e l.inputs in
-      let some : 0 < length (sets_at e (sets_in l m)) = let k = in_some lo l.inputs m u (omega arith) below in let n = length-map (sets_in l m) f in omega arith in
+      let some : 0 < length (sets_at e (sets_in l m)) = let k = in_some lo l.inputs m u (omega arith) below in let n = length-map (sets_in l m) f in
+      omega arith in
       rising_ext code_set (region ss m) rising_code_set (rising_filter (λ x. mask ss x == m) (union_all ss) (rising_union_all ss))
       (λ y. has_diffs (joins set_inter (sets_at e (sets_in l m))) (sets_at e (sets_out l m)) y
       ∙ ap (λ b. b && not (any_has (sets_at e (sets_out l m)) y)) (has_joins (sets_at e (sets_in l m)) y some)
@@ -184,9 +191,11 @@ module _ (l : Layout) (e : List Value) (inputs : HoldsInputs l e) (lo : ℕ) (u 
   region_gives =
       let f : ℕ → List ℤ = λ x. elements_of (value_at e x) in
       let P : ℕ → Type 0 = λ x. CodeGives (code_var x) e (elements (f x)) in
-      diffs_give (λ x. code_var x) f e (sets_out l m) (each_level P (sets_out l m) (λ x h. input_gives l e inputs x (has_unfiltered (λ x. not (bit (place x l.inputs) m)) l.inputs x h)))
+      diffs_give (λ x. code_var x) f e (sets_out l m) (each_level P (sets_out l m)
+      (λ x h. input_gives l e inputs x (has_unfiltered (λ x. not (bit (place x l.inputs) m)) l.inputs x h)))
       (inter_of_all (vars (sets_in l m))) (joins set_inter (sets_at e (sets_in l m)))
-      (inter_gives (λ x. code_var x) f e (sets_in l m) (each_level P (sets_in l m) (λ x h. input_gives l e inputs x (has_unfiltered (λ x. bit (place x l.inputs) m) l.inputs x h))))
+      (inter_gives (λ x. code_var x) f e (sets_in l m) (each_level P (sets_in l m)
+      (λ x h. input_gives l e inputs x (has_unfiltered (λ x. bit (place x l.inputs) m) l.inputs x h))))
       ∙ ap (λ s. got (elements s ∷ [])) code_set_is
 
 pub region_codes_mean : RegionCodesMean

@@ -1,20 +1,19 @@
 -- A relation holds at values of its variables exactly where it holds over the numbers and the counts of the regions.
-use Rattle.std.proofs.Common.{◌≡◌, inl, inr, List, ◌++◌, sym, ◌∙◌, refl}
+use Rattle.std.proofs.Common.{inl, inr, List, ◌++◌, sym, ◌∙◌, refl}
 use Rattle.std.specs.Prelude.{◌↔◌}
-use Rattle.cf_tree.specs.declared.base.Base.{Base}
 use Rattle.cf_tree.specs.RelTree.{RelTree, rel_true, rel_false, rel_compare, rel_same_set, rel_other_set, rel_subset, rel_divides, rel_and, rel_or, rel_not}
-use Rattle.cf_tree.specs.Relation.{IsTyped, IsLinear, Holds}
-use Rattle.cf_tree.specs.Values.{Value, HaveBases}
+use Rattle.cf_tree.specs.Relation.{Holds}
+use Rattle.cf_tree.specs.Values.{Value}
 use Rattle.cf_linear.specs.Layout.{Layout, layout_of}
 use Rattle.cf_linear.specs.Rows.{Values}
-use Rattle.cf_cases.specs.Holding.{IsPlacedRel, Agrees}
-use Rattle.cf_cases.proofs.AgreeLaws.{val-agrees}
+use Rattle.cf_cases.specs.Holding.{IsPlacedRel}
+use Rattle.cf_cases.proofs.AgreeLaws.{FormsAgree, val-agrees}
 use Rattle.cf_cases.proofs.PlacedLaws.{placed-rel}
 use Rattle.cf_venn.specs.Columns.{column_values}
 use Rattle.cf_venn.specs.Relations.{HoldsAt, HoldsByCounts}
-use Rattle.cf_venn.proofs.OutputLaws.{sets_have_counts}
+use Rattle.cf_venn.proofs.OutputLaws.{sets_have_counts, forms_at}
 
-module _ (l : Layout) (env : List Value) (v : Values) (g : Agrees l env v) where
+module _ (l : Layout) (env : List Value) (v : Values) (g : FormsAgree l env v) where
   mutual
     there : (rel : RelTree) → IsPlacedRel l rel → Holds rel env → HoldsAt l v rel
     there rel_true p h = h
@@ -50,4 +49,4 @@ holds_by_counts scope outs rel typed linear env xs h k =
     let l = layout_of scope outs rel in
     let v = column_values l (env ++ xs) in
     let s = sets_have_counts scope outs rel env xs h k v (λ c i. refl) in
-    over_counts l (env ++ xs) v s.0 rel (placed-rel scope outs rel typed linear)
+    over_counts l (env ++ xs) v (forms_at scope outs env xs h k l v s.0) rel (placed-rel scope outs rel typed linear)

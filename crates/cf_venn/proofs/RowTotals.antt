@@ -1,5 +1,6 @@
 -- Rows of regions at values that hold counts.
-use Rattle.std.proofs.Common.{◌≡◌, ◌↔◌, ℕ, zero, suc, ◌+◌, ◌-◌, ◌^◌, ◌<◌, ◌≤◌, ◌==◌, ℤ, pos, ◌+ℤ◌, ◌*ℤ◌, Bool, true, cond, [], ◌∷◌, map, filter, subst, refl, ap, sym, ◌∙◌, arith, sum_by}
+use Rattle.std.proofs.Common.{◌≡◌, ◌↔◌, ℕ, zero, suc, ◌+◌, ◌-◌, ◌^◌, ◌<◌, ◌≤◌, ◌==◌, ℤ, pos, ◌+ℤ◌, ◌*ℤ◌, Bool, true, cond, [], ◌∷◌, map, filter, subst, refl}
+use Rattle.std.proofs.Common.{ap, sym, ◌∙◌, arith, sum_by}
 use Rattle.std.specs.List.{range_with_len}
 use Rattle.std.specs.Prelude.{◌≤ℤ◌}
 use Rattle.std.proofs.lemmas.Int.{ints}
@@ -23,7 +24,8 @@ pub each_of : (Q : Row → Type 0) (f : ℕ → Row) (a n : ℕ) → ((m : ℕ) 
 each_of Q f a zero h = tt
 each_of Q f a (suc n) h = (h a (omega arith) (omega arith), each_of Q f (a + 1) n (λ m l k. h m (omega arith) (omega arith)))
 
-passing_at : (Q : Row → Type 0) (f : ℕ → Row) (t : ℕ → Bool) (a n : ℕ) → EachRow Q (map f (filter t (range_with_len a n))) → (m : ℕ) → a ≤ m → m < a + n → t m ≡ true → Q (f m)
+passing_at : (Q : Row → Type 0) (f : ℕ → Row) (t : ℕ → Bool) (a n : ℕ) → EachRow Q (map f (filter t (range_with_len a n))) → (m : ℕ) → a ≤ m → m < a + n →
+    t m ≡ true → Q (f m)
 passing_at Q f t a zero h m l k e = absurd (omega arith)
 passing_at Q f t a (suc n) h m l k e =
     let rest = filter t (range_with_len (a + 1) n) in
@@ -37,7 +39,8 @@ passing_at Q f t a (suc n) h m l k e =
     let g : EachRow Q (map f rest) = cond_both (t a) (a ∷ rest) rest (λ ms. EachRow Q (map f ms) → EachRow Q (map f rest)) (λ _ i. i.1) (λ _ i. i) h in
     passing_at Q f t (a + 1) n g m (omega arith) (omega arith) e)
 
-passing_of : (Q : Row → Type 0) (f : ℕ → Row) (t : ℕ → Bool) (a n : ℕ) → ((m : ℕ) → a ≤ m → m < a + n → t m ≡ true → Q (f m)) → EachRow Q (map f (filter t (range_with_len a n)))
+passing_of : (Q : Row → Type 0) (f : ℕ → Row) (t : ℕ → Bool) (a n : ℕ) → ((m : ℕ) → a ≤ m → m < a + n → t m ≡ true → Q (f m)) →
+    EachRow Q (map f (filter t (range_with_len a n)))
 passing_of Q f t a zero h = tt
 passing_of Q f t a (suc n) h =
     let rest = filter t (range_with_len (a + 1) n) in

@@ -21,7 +21,7 @@ use Rattle.cf_cases.proofs.PlacedLaws.{placed-rel}
 use Rattle.cf_cases.proofs.Quantifiers.{each-map, some-each, some-out, some-unmap}
 use Rattle.cf_venn.specs.Columns.{known_values, column_values, outputs_from}
 use Rattle.cf_venn.specs.Laws.{AreOutputs, HeldByCounts, SolvedByCounts}
-use Rattle.cf_venn.proofs.OutputLaws.{sets_have_counts, counts_have_sets}
+use Rattle.cf_venn.proofs.OutputLaws.{sets_have_counts, counts_have_sets, forms_at}
 
 -- the known columns are those below the first unknown one
 abbrev KnowsFirst : Layout → System → Type 0
@@ -33,13 +33,15 @@ each_case P f (x ∷ xs) = (f x, each_case P f xs)
 
 knows_first : (l : Layout) (rel : RelTree) → EachOf (KnowsFirst l) (first_systems l rel)
 unfolding first_systems system_of_case
-knows_first l rel = each-map (KnowsFirst l) (system_of_case l) (disjuncts (negation_normal true rel)) (each_case (λ c. KnowsFirst l (system_of_case l c)) (λ c. refl) (disjuncts (negation_normal true rel)))
+knows_first l rel = each-map (KnowsFirst l) (system_of_case l) (disjuncts (negation_normal true rel))
+    (each_case (λ c. KnowsFirst l (system_of_case l c)) (λ c. refl) (disjuncts (negation_normal true rel)))
 
 known_few : (l : Layout) → known_count l ≤ first_free l
 known_few l = let d = pow_pos (set_count l) in omega arith
 
 -- where some first system is satisfied, the columns of the regions hold counts
-counts_from_system : (l : Layout) (rel : RelTree) → IsPlacedRel l rel → (w : Values) → w 0 ≡ pos 1 → SomeOf (λ (m : System). Sat m w) (first_systems l rel) → AreCounts l w
+counts_from_system : (l : Layout) (rel : RelTree) → IsPlacedRel l rel → (w : Values) → w 0 ≡ pos 1 →
+    SomeOf (λ (m : System). Sat m w) (first_systems l rel) → AreCounts l w
 unfolding first_systems
 counts_from_system l rel p w one s =
     let cs = disjuncts (negation_normal true rel) in
@@ -48,7 +50,8 @@ counts_from_system l rel p w one s =
     (some-unmap (λ (m : System). Sat m w) (system_of_case l) cs s) (cases-fit l true rel p))
 
 -- what holds where some system is satisfied holds where each one is
-each_found : (l : Layout) (v : Values) (R : Values → Type 0) (ms : List System) → EachOf (KnowsFirst l) ms → ((w : Values) → Same (known_count l) v w → SomeOf (λ m. Sat m w) ms → R w) →
+each_found : (l : Layout) (v : Values) (R : Values → Type 0) (ms : List System) → EachOf (KnowsFirst l) ms →
+    ((w : Values) → Same (known_count l) v w → SomeOf (λ m. Sat m w) ms → R w) →
     EachOf (λ m. (w : Values) → SameKnown m v w → Sat m w → R w) ms
 each_found l v R [] e f = tt
 each_found l v R (m ∷ ms) e f = (
@@ -56,7 +59,8 @@ each_found l v R (m ∷ ms) e f = (
   each_found l v R ms e.1 (λ w k s. f w k (inr s)),
 )
 
-module _ (scope outs : List Base) (rel : RelTree) (typed : IsTyped (scope ++ outs) rel) (linear : IsLinear rel) (o : AreOutputs outs) (env : List Value) (have : HaveBases scope env) where
+module _ (scope outs : List Base) (rel : RelTree) (typed : IsTyped (scope ++ outs) rel) (linear : IsLinear rel) (o : AreOutputs outs) (env : List Value)
+    (have : HaveBases scope env) where
   l : Layout
   l = layout_of scope outs rel
 
@@ -65,10 +69,13 @@ module _ (scope outs : List Base) (rel : RelTree) (typed : IsTyped (scope ++ out
   satisfied xs s =
       let v = column_values l (env ++ xs) in
       let g = sets_have_counts scope outs rel env xs have s.0 v (λ c h. refl) in
+      let forms = forms_at scope outs env xs have s.0 l v g.0 in
       let few = known_few l in
-      some-each (λ (m : System). (w : Values) × Same (first_free l) v w × Sat m w) (KnowsFirst l) (λ m. (w : Values) × SameKnown m (known_values l env) w × Sat m w)
+      some-each (λ (m : System). (w : Values) × Same (first_free l) v w × Sat m w) (KnowsFirst l) (λ m. (w : Values) × SameKnown m (known_values l env) w ×
+      Sat m w)
       (λ m k e. (k.0, λ c i. let r = range-In 0 (known_count l) c (subst (λ cs. In c cs) e i) in let h = r.1 in g.2 c (omega arith) ∙ k.1 c (omega arith), k.2))
-      (first_systems l rel) (system_from_holds (scope ++ outs) rel l (env ++ xs) v typed (placed-rel scope outs rel typed linear) g.0 refl g.1 s.1) (knows_first l rel)
+      (first_systems l rel) (system_from_holds (scope ++ outs) rel l (env ++ xs) v typed (placed-rel scope outs rel typed linear) forms refl g.1 s.1)
+      (knows_first l rel)
 
   solves : (w : Values) → Same (known_count l) (known_values l env) w → SomeOf (λ m. Sat m w) (first_systems l rel) → Sol outs rel env (outputs_from l env w)
   unfolding l
@@ -76,13 +83,22 @@ module _ (scope outs : List Base) (rel : RelTree) (typed : IsTyped (scope ++ out
       let placed = placed-rel scope outs rel typed linear in
       let few = pow_pos (length (layout_of scope outs rel).inputs) in
       let one : w 0 ≡ pos 1 = sym (k 0 (omega arith)) in
-      let b = counts_have_sets scope outs rel env o have w k (counts_from_system l rel placed w one s) in
-      (b.0, holds_from_system (scope ++ outs) rel l (env ++ outputs_from l env w) w typed placed b.1 one s)
+      let b = counts_have_sets scope outs rel env o have w k (counts_from_system l rel placed w one s) in (
+        b.0,
+        holds_from_system (scope ++ outs) rel l (env ++ outputs_from l env w) w typed placed
+            (forms_at scope outs env (outputs_from l env w) have b.0 l w b.1) one s,
+      )
 
-  both : (((xs : List Value) × Sol outs rel env xs) → SomeOf (λ m. (w : Values) × SameKnown m (known_values (layout_of scope outs rel) env) w × Sat m w) (first_systems (layout_of scope outs rel) rel))
-      × EachOf (λ m. (w : Values) → SameKnown m (known_values (layout_of scope outs rel) env) w → Sat m w → Sol outs rel env (outputs_from (layout_of scope outs rel) env w)) (first_systems (layout_of scope outs rel) rel)
+  both : (((xs : List Value) × Sol outs rel env xs) → SomeOf (λ m. (w : Values) × SameKnown m (known_values (layout_of scope outs rel) env) w × Sat m w)
+      (first_systems (layout_of scope outs rel) rel))
+      × EachOf (λ m. (w : Values) → SameKnown m (known_values (layout_of scope outs rel) env) w → Sat m w →
+      Sol outs rel env (outputs_from (layout_of scope outs rel) env w)) (first_systems (layout_of scope outs rel) rel)
   unfolding l
-  both = (λ s. satisfied s.0 s.1, each_found l (known_values l env) (λ w. Sol outs rel env (outputs_from l env w)) (first_systems l rel) (knows_first l rel) solves)
+  both = (
+    λ s. satisfied s.0 s.1,
+    each_found l (known_values l env) (λ w. Sol outs rel env (outputs_from l env w)) (first_systems l rel) (knows_first l rel)
+        solves,
+  )
 
 pub solved_by_counts : SolvedByCounts
 solved_by_counts scope outs rel typed linear o env have = both scope outs rel typed linear o env have
@@ -92,4 +108,5 @@ held_by_counts scope outs rel typed linear env xs have out =
     let l = layout_of scope outs rel in
     let v = column_values l (env ++ xs) in
     let at = sets_have_counts scope outs rel env xs have out in
-    held_where (scope ++ outs) rel l (env ++ xs) v typed (placed-rel scope outs rel typed linear) refl (at v (λ c h. refl)).1 (λ w s. (at w s).0)
+    held_where (scope ++ outs) rel l (env ++ xs) v typed (placed-rel scope outs rel typed linear) refl (at v (λ c h. refl)).1
+    (λ w s. forms_at scope outs env xs have out l w (at w s).0)

@@ -32,13 +32,15 @@ pub record HoldsPieces (l : Layout) (names : ColumnLevels) (regions : ℕ → �
 -- the code of an input region means the region
 abbrev pub RegionCodesMean : Type 0
 RegionCodesMean =
-    (scope outputs : List Base) (rel : RelTree) (e : List Value) → HoldsInputs (layout_of scope outputs rel) e → (m : ℕ) → 1 ≤ m → m < 2 ^ length (layout_of scope outputs rel).inputs →
+    (scope outputs : List Base) (rel : RelTree) (e : List Value) → HoldsInputs (layout_of scope outputs rel) e → (m : ℕ) → 1 ≤ m →
+    m < 2 ^ length (layout_of scope outputs rel).inputs →
     means (region_code (layout_of scope outputs rel) m) e ≡ values (elements (region (sets_at e (layout_of scope outputs rel).inputs) m) ∷ [])
 
 -- the code of output set j means it
 abbrev pub SetCodesMean : Type 0
 SetCodesMean =
-    (l : Layout) (names : ColumnLevels) (regions : ℕ → ℕ) (fresh_level : ℕ) (ins : List (List ℤ)) (r : ℕ → ℕ) (e : List Value) → HoldsPieces l names regions fresh_level ins r e → (j : ℕ) →
+    (l : Layout) (names : ColumnLevels) (regions : ℕ → ℕ) (fresh_level : ℕ) (ins : List (List ℤ)) (r : ℕ → ℕ) (e : List Value) →
+    HoldsPieces l names regions fresh_level ins r e → (j : ℕ) →
     means (set_code l names regions fresh_level j) e ≡ values (elements (output ins (length l.out_sets) r j) ∷ [])
 
 -- the code of the fresh numbers means them

@@ -26,12 +26,15 @@ abbrev pub RegionsTyped : List Base → Layout → (ℕ → ℕ) → Type 0
 RegionsTyped scope l regions = (m : ℕ) → 1 ≤ m → m < 2 ^ length l.inputs → slice_get scope (regions m) ≡ Some Set
 
 abbrev pub RegionCodesFit : Type 0
-RegionCodesFit = (scope : List Base) → length scope ≤ 2 ^ 32 → (l : Layout) → InputsTyped scope l → (m : ℕ) → IsCodeOf Set (2 + length l.inputs) scope (region_code l m)
+RegionCodesFit = (scope : List Base) → length scope ≤ 2 ^ 32 → (l : Layout) → InputsTyped scope l → (m : ℕ) →
+    IsCodeOf Set (2 + length l.inputs) scope (region_code l m)
 
 abbrev pub FreshCodeFits : Type 0
-FreshCodeFits = (scope : List Base) → length scope ≤ 2 ^ 32 → (l : Layout) (names : ColumnLevels) → InputsTyped scope l → CountsTyped scope l names → IsCodeOf Set 3 scope (fresh_code l names)
+FreshCodeFits = (scope : List Base) → length scope ≤ 2 ^ 32 → (l : Layout) (names : ColumnLevels) → InputsTyped scope l → CountsTyped scope l names →
+    IsCodeOf Set 3 scope (fresh_code l names)
 
 abbrev pub SetCodesFit : Type 0
 SetCodesFit =
-    (scope : List Base) → length scope ≤ 2 ^ 32 → (l : Layout) (names : ColumnLevels) (regions : ℕ → ℕ) (fresh_level : ℕ) → CountsTyped scope l names → RegionsTyped scope l regions →
+    (scope : List Base) → length scope ≤ 2 ^ 32 → (l : Layout) (names : ColumnLevels) (regions : ℕ → ℕ) (fresh_level : ℕ) → CountsTyped scope l names →
+    RegionsTyped scope l regions →
     (1 ≤ length l.out_sets → slice_get scope fresh_level ≡ Some Set) → (j : ℕ) → IsCodeOf Set 4 scope (set_code l names regions fresh_level j)

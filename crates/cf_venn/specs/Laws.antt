@@ -12,9 +12,9 @@ use Rattle.cf_linear.specs.Layout.{layout_of, known_count, first_free}
 use Rattle.cf_linear.specs.Systems.{Sat}
 use Rattle.cf_linear.specs.Rows.{Values}
 use Rattle.cf_linear.specs.Solved.{SameKnown}
-use Rattle.cf_cases.specs.Holding.{EachOf, SomeOf, AreCounts, Agrees}
+use Rattle.cf_cases.specs.Holding.{EachOf, SomeOf, AreCounts}
 use Rattle.cf_cases.specs.Laws.{MeetsFrom}
-use Rattle.cf_venn.specs.Columns.{known_values, column_values, outputs_from}
+use Rattle.cf_venn.specs.Columns.{Agrees, known_values, column_values, outputs_from}
 use Rattle.cf_venn.specs.Masks.{union_all, count}
 use Rattle.cf_venn.specs.Pieces.{fresh, outputs, Consistent}
 
@@ -47,17 +47,21 @@ CountsHaveSets =
 -- these, for some quotients
 abbrev pub HeldByCounts : Type 0
 HeldByCounts =
-    (scope outputs : List Base) (rel : RelTree) → IsTyped (scope ++ outputs) rel → IsLinear rel → (env xs : List Value) → HaveBases scope env → HaveBases outputs xs →
-    Holds rel (env ++ xs) ↔ SomeOf (MeetsFrom (layout_of scope outputs rel) (column_values (layout_of scope outputs rel) (env ++ xs))) (first_systems (layout_of scope outputs rel) rel)
+    (scope outputs : List Base) (rel : RelTree) → IsTyped (scope ++ outputs) rel → IsLinear rel → (env xs : List Value) → HaveBases scope env →
+    HaveBases outputs xs →
+    Holds rel (env ++ xs) ↔ SomeOf (MeetsFrom (layout_of scope outputs rel) (column_values (layout_of scope outputs rel) (env ++ xs)))
+    (first_systems (layout_of scope outputs rel) rel)
 
 -- where outputs solve a relation, the first system of some case is satisfied at values whose known columns are as the parameters say, and
 -- at all such values that satisfy one, the outputs that are made from them solve the relation
 abbrev pub SolvedByCounts : Type 0
 SolvedByCounts =
-    (scope outputs : List Base) (rel : RelTree) → IsTyped (scope ++ outputs) rel → IsLinear rel → AreOutputs outputs → (env : List Value) → HaveBases scope env →
+    (scope outputs : List Base) (rel : RelTree) → IsTyped (scope ++ outputs) rel → IsLinear rel → AreOutputs outputs → (env : List Value) →
+    HaveBases scope env →
     (((xs : List Value) × Sol outputs rel env xs) →
     SomeOf (λ m. (w : Values) × SameKnown m (known_values (layout_of scope outputs rel) env) w × Sat m w) (first_systems (layout_of scope outputs rel) rel))
-    × EachOf (λ m. (w : Values) → SameKnown m (known_values (layout_of scope outputs rel) env) w → Sat m w → Sol outputs rel env (outputs_from (layout_of scope outputs rel) env w))
+    × EachOf (λ m. (w : Values) → SameKnown m (known_values (layout_of scope outputs rel) env) w → Sat m w →
+    Sol outputs rel env (outputs_from (layout_of scope outputs rel) env w))
     (first_systems (layout_of scope outputs rel) rel)
 
 -- for counts that are consistent with the input sets, the output sets that are made of them have with the input sets exactly these counts

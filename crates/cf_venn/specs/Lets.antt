@@ -22,13 +22,16 @@ pub record LetsRegions (l : Layout) (k j : ArmBuilder) (e : List Value) (ins : L
   pub items_are : j.items ≡ k.items ++ items
   pub leads : (items_path (items_of items) e).gives ≡ got (Some (e ++ region_values ins (masks (length l.inputs))))
   pub level_is : j.level ≡ length (e ++ region_values ins (masks (length l.inputs)))
-  pub regions : (m : ℕ) → 1 ≤ m → m < 2 ^ length l.inputs → value_at (e ++ region_values ins (masks (length l.inputs))) (k.level + 2 * (m - 1)) ≡ elements (region ins m)
-  pub counts : (m : ℕ) → 1 ≤ m → m < 2 ^ length l.inputs → value_at (e ++ region_values ins (masks (length l.inputs))) (level_of j.names (input_column l m)) ≡ number (pos (count ins m))
+  pub regions : (m : ℕ) → 1 ≤ m → m < 2 ^ length l.inputs → value_at (e ++ region_values ins (masks (length l.inputs))) (k.level + 2 * (m - 1)) ≡ elements
+      (region ins m)
+  pub counts : (m : ℕ) → 1 ≤ m → m < 2 ^ length l.inputs → value_at (e ++ region_values ins (masks (length l.inputs)))
+      (level_of j.names (input_column l m)) ≡ number (pos (count ins m))
   pub others : (c : ℕ) → ((m : ℕ) → 1 ≤ m → m < 2 ^ length l.inputs → input_column l m ≡ c → ⊥) → level_of j.names c ≡ level_of k.names c
 
 abbrev pub RegionLetsLead : Type 0
 RegionLetsLead =
-    (scope outputs : List Base) (rel : RelTree) (k : ArmBuilder) (e : List Value) → HoldsInputs (layout_of scope outputs rel) e → length scope ≤ length e → k.level ≡ length e →
+    (scope outputs : List Base) (rel : RelTree) (k : ArmBuilder) (e : List Value) → HoldsInputs (layout_of scope outputs rel) e → length scope ≤ length e →
+    k.level ≡ length e →
     LetsRegions (layout_of scope outputs rel) k (fold (let_region (layout_of scope outputs rel)) k (masks (length (layout_of scope outputs rel).inputs))) e
     (sets_at e (layout_of scope outputs rel).inputs)
 
@@ -40,5 +43,6 @@ ParametersKnown =
     HoldsInputs (layout_of scope outputs rel) (env ++ ks)
     × ((c : ℕ) → 1 ≤ c → c < known_count (layout_of scope outputs rel) →
     number_of (value_at ((env ++ ks) ++ region_values (sets_at env (layout_of scope outputs rel).inputs) (masks (length (layout_of scope outputs rel).inputs)))
-    (level_of (fold (let_region (layout_of scope outputs rel)) (begun (layout_of scope outputs rel) bounds) (masks (length (layout_of scope outputs rel).inputs))).names c))
+    (level_of (fold (let_region (layout_of scope outputs rel)) (begun (layout_of scope outputs rel) bounds)
+    (masks (length (layout_of scope outputs rel).inputs))).names c))
     ≡ known_values (layout_of scope outputs rel) env c)

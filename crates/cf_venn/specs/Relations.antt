@@ -30,5 +30,6 @@ HoldsAt l v (rel_not p) = HoldsAt l v p → ⊥
 -- at the values of parameters and outputs a relation holds exactly where it holds over the numbers and the counts of the regions
 abbrev pub HoldsByCounts : Type 0
 HoldsByCounts =
-    (scope outputs : List Base) (rel : RelTree) → IsTyped (scope ++ outputs) rel → IsLinear rel → (env xs : List Value) → HaveBases scope env → HaveBases outputs xs →
+    (scope outputs : List Base) (rel : RelTree) → IsTyped (scope ++ outputs) rel → IsLinear rel → (env xs : List Value) → HaveBases scope env →
+    HaveBases outputs xs →
     Holds rel (env ++ xs) ↔ HoldsAt (layout_of scope outputs rel) (column_values (layout_of scope outputs rel) (env ++ xs)) rel

@@ -15,14 +15,17 @@ row_of-requires-clause-signs c = ap length (c.deref.ensures.value ∙ c.in_ok-si
 
 pub add_divided-requires-clause-guards : goal.add_divided-requires-clause-guards
 add_divided-requires-clause-guards c =
-    rw c.in-Ok.ensures.guards (guards_fine (plain_layout c.args.layout.now) (term_tree c.args.of.now) c.deref.result.now c.args.builder.now.next c.requires.placed c.requires.above c.in-Ok.ensures.fits)
+    rw c.in-Ok.ensures.guards (guards_fine (plain_layout c.args.layout.now) (term_tree c.args.of.now) c.deref.result.now c.args.builder.now.next
+    c.requires.placed c.requires.above c.in-Ok.ensures.fits)
 
 pub add_divided-requires-clause-column : goal.add_divided-requires-clause-column
-add_divided-requires-clause-column c = next_positive (plain_layout c.args.layout.now) (term_tree c.args.of.now) c.deref.result.now c.args.builder.now.next c.in-Ok.written.next c.requires.above c.in-Ok.ensures.next
+add_divided-requires-clause-column c = next_positive (plain_layout c.args.layout.now) (term_tree c.args.of.now) c.deref.result.now c.args.builder.now.next
+    c.in-Ok.written.next c.requires.above c.in-Ok.ensures.next
 
 pub add_divided-requires-clause-room : goal.add_divided-requires-clause-room
 add_divided-requires-clause-room c =
-    let e = c.in-Ok.ensures.next ∙ write-next (plain_layout c.args.layout.now) (term_tree c.args.of.now) c.deref.result.now c.args.builder.now.next in omega arith
+    let e = c.in-Ok.ensures.next ∙ write-next (plain_layout c.args.layout.now) (term_tree c.args.of.now) c.deref.result.now c.args.builder.now.next in
+    omega arith
 
 pub returns-in-Ok-clause-next : goal.returns-in-Ok-clause-next
 returns-in-Ok-clause-next c =
@@ -32,10 +35,12 @@ returns-in-Ok-clause-next c =
 pub returns-in-Ok-clause-gives : goal.returns-in-Ok-clause-gives
 returns-in-Ok-clause-gives c =
     let s : c.deref.result.now ≡ signs_at (abs_count (term_tree c.args.of.now)) c.args.index = c.deref.ensures.value ∙ c.in_ok-signs.ensures in
-    divides_gives (plain_layout c.args.layout.now) (rows_of c.args.builder.now) c.args.holds c.args.k.now (term_tree c.args.of.now) c.args.index c.add_divided.new.builder c.add_divided.result
+    divides_gives (plain_layout c.args.layout.now) (rows_of c.args.builder.now) c.args.holds c.args.k.now (term_tree c.args.of.now) c.args.index
+    c.add_divided.new.builder c.add_divided.result
     (rw s at c.in-Ok.ensures.fits) (rw (c.in-Ok.ensures.row, c.in-Ok.ensures.guards, c.in-Ok.ensures.next, s) at c.add_divided.ensures.gives)
 
 pub returns-clause-gives : goal.returns-clause-gives
 returns-clause-gives c =
     let s : c.deref.result.now ≡ signs_at (abs_count (term_tree c.args.of.now)) c.args.index = c.deref.ensures.value ∙ c.in_ok-signs.ensures in
-    divides_past (plain_layout c.args.layout.now) (rows_of c.args.builder.now) c.args.holds c.args.k.now (term_tree c.args.of.now) c.args.index c.in-Err.fault (rw s at (fails_from c.in-Err.fault _ c.in-Err.ensures.past))
+    divides_past (plain_layout c.args.layout.now) (rows_of c.args.builder.now) c.args.holds c.args.k.now (term_tree c.args.of.now) c.args.index
+    c.in-Err.fault (rw s at (fails_from c.in-Err.fault _ c.in-Err.ensures.past))

@@ -1,4 +1,4 @@
-use Rattle.std.proofs.Common.{◌∙◌, refl, arith}
+use Rattle.std.proofs.Common.{◌∙◌}
 use Rattle.cf_tree.specs.RelView.{term_tree}
 use Rattle.cf_linear.specs.Views.{plain_layout}
 use Rattle.cf_linear.proofs.WritingLemmas.{write-next}
@@ -7,7 +7,8 @@ use Rattle.cf_cases.proofs.atom.add_second.Goals as goal
 
 pub add_written-requires-clause-second : goal.add_written-requires-clause-second
 add_written-requires-clause-second c =
-    rw c.in-Ok.ensures.guards (guards_fine (plain_layout c.args.layout.now) (term_tree c.args.right.now) c.args.signs.now c.args.first.now.next c.requires.right c.requires.above c.in-Ok.ensures.fits)
+    rw c.in-Ok.ensures.guards (guards_fine (plain_layout c.args.layout.now) (term_tree c.args.right.now) c.args.signs.now c.args.first.now.next
+    c.requires.right c.requires.above c.in-Ok.ensures.fits)
 
 pub returns-in-Ok-clause-next : goal.returns-in-Ok-clause-next
 returns-in-Ok-clause-next c =

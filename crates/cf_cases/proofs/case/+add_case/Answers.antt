@@ -1,14 +1,12 @@
-use Rattle.std.proofs.Common.{◌≡◌, ap, not, refl, ◌∙◌, sym, arith, rules}
-use Rattle.std.proofs.lemmas.Grind.{common_steps}
-use Rattle.cf_tree.specs.RelView.{rel_tree, set_tree}
+use Rattle.std.proofs.Common.{ap, not}
+use Rattle.cf_tree.specs.RelView.{rel_tree}
 use Rattle.cf_linear.specs.Views.{plain_layout}
 use Rattle.cf_linear.specs.Cases.{negation_normal}
-use Rattle.cf_cases.specs.SystemBuilders.{rows_of, with_rows, false_rows, region_rows, apart, with_case}
-use Rattle.cf_cases.specs.Picking.{case_by}
+use Rattle.cf_cases.specs.SystemBuilders.{rows_of}
 use Rattle.cf_cases.specs.Counts.{count_tree}
 use Rattle.cf_cases.proofs.PartLaws.{plain-and, plain-or, and_counts, or_counts}
 use Rattle.cf_cases.proofs.SystemBuilderLaws.{parts_give, parts_fail}
-use Rattle.cf_cases.proofs.AddLaws.{drafts_as, true_case, false_case, same_case, other_case, subset_case}
+use Rattle.cf_cases.proofs.AddLaws.{true_case, false_case, same_case, other_case, subset_case}
 use Rattle.cf_cases.proofs.case.+add_case.Goals as goal
 
 pub add_case-returns-in-True-clause-gives : goal.add_case-returns-in-True-clause-gives
@@ -17,7 +15,8 @@ add_case-returns-in-True-clause-gives t c =
 
 pub add_case-returns-in-False-clause-gives : goal.add_case-returns-in-False-clause-gives
 add_case-returns-in-False-clause-gives t c =
-    rw (c.in-False.is, ← false_case (plain_layout c.args.layout.now) (rows_of c.args.builder.now) c.args.holds c.args.index) c.add_constant-in-False.ensures.gives
+    rw (c.in-False.is, ← false_case (plain_layout c.args.layout.now) (rows_of c.args.builder.now) c.args.holds c.args.index)
+    c.add_constant-in-False.ensures.gives
 
 pub add_case-returns-in-SameSet-clause-gives : goal.add_case-returns-in-SameSet-clause-gives
 add_case-returns-in-SameSet-clause-gives t c =
@@ -35,33 +34,59 @@ add_case-returns-in-Subset-clause-gives t c =
     rw (c.in-Subset.is, ← subset_case (plain_layout c.args.layout.now) (rows_of c.args.builder.now) c.args.holds _ _ c.args.index) g
 
 pub add_case-parts_of-first-requires-clause-index : goal.add_case-parts_of-first-requires-clause-index
-add_case-parts_of-first-requires-clause-index t c = rw (c.deref-in-And.ensures, c.deref-in-And-2.ensures, ← plain-and c.args.holds (rel_tree c.in-And.a.value) (rel_tree c.in-And.b.value)) (rw c.in-And.is at c.requires.index)
+add_case-parts_of-first-requires-clause-index t c = rw (
+  c.deref-in-And.ensures,
+  c.deref-in-And-2.ensures,
+  ← plain-and c.args.holds (rel_tree c.in-And.a.value) (rel_tree c.in-And.b.value),
+) (rw c.in-And.is at c.requires.index)
 
 pub add_case-returns-in-Ok-clause-gives : goal.add_case-returns-in-Ok-clause-gives
 add_case-returns-in-Ok-clause-gives t c =
     rw (c.in-And.is, plain-and c.args.holds (rel_tree c.in-And.a.value) (rel_tree c.in-And.b.value))
-    (parts_give (plain_layout c.args.layout.now) c.args.holds (negation_normal c.args.holds (rel_tree c.in-And.a.value)) (negation_normal c.args.holds (rel_tree c.in-And.b.value)) c.args.index c.parts_of-first.result.0 c.parts_of-first.result.1 (rw (c.deref-in-And.ensures, c.deref-in-And-2.ensures) at c.parts_of-first.ensures.whole) c.args.builder.now c.add_part.new.builder c.add_part-in-Ok.new.builder c.add_part-in-Ok.result (rw c.deref-in-And-3.ensures at c.in-Ok.ensures.gives) (rw c.deref-in-Ok.ensures at c.add_part-in-Ok.ensures.gives))
+    (parts_give (plain_layout c.args.layout.now) c.args.holds (negation_normal c.args.holds (rel_tree c.in-And.a.value))
+    (negation_normal c.args.holds (rel_tree c.in-And.b.value)) c.args.index c.parts_of-first.result.0 c.parts_of-first.result.1
+    (rw (c.deref-in-And.ensures, c.deref-in-And-2.ensures) at c.parts_of-first.ensures.whole) c.args.builder.now c.add_part.new.builder
+    c.add_part-in-Ok.new.builder c.add_part-in-Ok.result (rw c.deref-in-And-3.ensures at c.in-Ok.ensures.gives)
+    (rw c.deref-in-Ok.ensures at c.add_part-in-Ok.ensures.gives))
 
 pub add_case-returns-in-Err-clause-gives : goal.add_case-returns-in-Err-clause-gives
-add_case-returns-in-Err-clause-gives t c = rw (c.in-And.is, plain-and c.args.holds (rel_tree c.in-And.a.value) (rel_tree c.in-And.b.value)) (parts_fail (plain_layout c.args.layout.now) c.args.holds (negation_normal c.args.holds (rel_tree c.in-And.a.value)) (negation_normal c.args.holds (rel_tree c.in-And.b.value)) c.args.index c.parts_of-first.result.0 c.parts_of-first.result.1 (rw (c.deref-in-And.ensures, c.deref-in-And-2.ensures) at c.parts_of-first.ensures.whole) c.args.builder.now c.in-Err.fault (rw c.deref-in-And-3.ensures at c.in-Err.ensures.gives))
+add_case-returns-in-Err-clause-gives t c = rw (c.in-And.is, plain-and c.args.holds (rel_tree c.in-And.a.value) (rel_tree c.in-And.b.value))
+    (parts_fail (plain_layout c.args.layout.now) c.args.holds (negation_normal c.args.holds (rel_tree c.in-And.a.value))
+    (negation_normal c.args.holds (rel_tree c.in-And.b.value)) c.args.index c.parts_of-first.result.0 c.parts_of-first.result.1
+    (rw (c.deref-in-And.ensures, c.deref-in-And-2.ensures) at c.parts_of-first.ensures.whole) c.args.builder.now c.in-Err.fault
+    (rw c.deref-in-And-3.ensures at c.in-Err.ensures.gives))
 
 pub add_case-parts_of-first-requires-in-Or-clause-index : goal.add_case-parts_of-first-requires-in-Or-clause-index
-add_case-parts_of-first-requires-in-Or-clause-index t c = rw (c.deref-in-Or.ensures, c.deref-in-Or-2.ensures, ← plain-or c.args.holds (rel_tree c.in-Or.a.value) (rel_tree c.in-Or.b.value)) (rw c.in-Or.is at c.requires.index)
+add_case-parts_of-first-requires-in-Or-clause-index t c = rw (
+  c.deref-in-Or.ensures,
+  c.deref-in-Or-2.ensures,
+  ← plain-or c.args.holds (rel_tree c.in-Or.a.value) (rel_tree c.in-Or.b.value),
+) (rw c.in-Or.is at c.requires.index)
 
 pub add_case-returns-in-Ok-add_part-clause-gives : goal.add_case-returns-in-Ok-add_part-clause-gives
 add_case-returns-in-Ok-add_part-clause-gives t c =
     rw (c.in-Or.is, plain-or c.args.holds (rel_tree c.in-Or.a.value) (rel_tree c.in-Or.b.value))
-    (parts_give (plain_layout c.args.layout.now) (not c.args.holds) (negation_normal c.args.holds (rel_tree c.in-Or.a.value)) (negation_normal c.args.holds (rel_tree c.in-Or.b.value)) c.args.index c.parts_of-first-in-Or.result.0 c.parts_of-first-in-Or.result.1 (rw (c.deref-in-Or.ensures, c.deref-in-Or-2.ensures) at c.parts_of-first-in-Or.ensures.whole) c.args.builder.now c.add_part-in-Or.new.builder c.add_part-in-Ok-add_part.new.builder c.add_part-in-Ok-add_part.result (rw c.deref-in-Or-3.ensures at c.in-Ok-add_part.ensures.gives) (rw c.deref-in-Ok-add_part.ensures at c.add_part-in-Ok-add_part.ensures.gives))
+    (parts_give (plain_layout c.args.layout.now) (not c.args.holds) (negation_normal c.args.holds (rel_tree c.in-Or.a.value))
+    (negation_normal c.args.holds (rel_tree c.in-Or.b.value)) c.args.index c.parts_of-first-in-Or.result.0 c.parts_of-first-in-Or.result.1
+    (rw (c.deref-in-Or.ensures, c.deref-in-Or-2.ensures) at c.parts_of-first-in-Or.ensures.whole) c.args.builder.now c.add_part-in-Or.new.builder
+    c.add_part-in-Ok-add_part.new.builder c.add_part-in-Ok-add_part.result (rw c.deref-in-Or-3.ensures at c.in-Ok-add_part.ensures.gives)
+    (rw c.deref-in-Ok-add_part.ensures at c.add_part-in-Ok-add_part.ensures.gives))
 
 pub add_case-returns-in-Err-add_part-clause-gives : goal.add_case-returns-in-Err-add_part-clause-gives
-add_case-returns-in-Err-add_part-clause-gives t c = rw (c.in-Or.is, plain-or c.args.holds (rel_tree c.in-Or.a.value) (rel_tree c.in-Or.b.value)) (parts_fail (plain_layout c.args.layout.now) (not c.args.holds) (negation_normal c.args.holds (rel_tree c.in-Or.a.value)) (negation_normal c.args.holds (rel_tree c.in-Or.b.value)) c.args.index c.parts_of-first-in-Or.result.0 c.parts_of-first-in-Or.result.1 (rw (c.deref-in-Or.ensures, c.deref-in-Or-2.ensures) at c.parts_of-first-in-Or.ensures.whole) c.args.builder.now c.in-Err-add_part.fault (rw c.deref-in-Or-3.ensures at c.in-Err-add_part.ensures.gives))
+add_case-returns-in-Err-add_part-clause-gives t c = rw (c.in-Or.is, plain-or c.args.holds (rel_tree c.in-Or.a.value) (rel_tree c.in-Or.b.value))
+    (parts_fail (plain_layout c.args.layout.now) (not c.args.holds) (negation_normal c.args.holds (rel_tree c.in-Or.a.value))
+    (negation_normal c.args.holds (rel_tree c.in-Or.b.value)) c.args.index c.parts_of-first-in-Or.result.0 c.parts_of-first-in-Or.result.1
+    (rw (c.deref-in-Or.ensures, c.deref-in-Or-2.ensures) at c.parts_of-first-in-Or.ensures.whole) c.args.builder.now c.in-Err-add_part.fault
+    (rw c.deref-in-Or-3.ensures at c.in-Err-add_part.ensures.gives))
 
 pub add_case-parts_of-first-requires-clause-counts : goal.add_case-parts_of-first-requires-clause-counts
 add_case-parts_of-first-requires-clause-counts t c =
     rw (c.deref-in-And.ensures, c.deref-in-And-2.ensures)
-    (and_counts c.args.holds (rel_tree c.args.rel.now) (rel_tree c.in-And.a.value) (rel_tree c.in-And.b.value) (count_tree c.args.counts.now) (ap rel_tree c.in-And.is) c.requires.counts)
+    (and_counts c.args.holds (rel_tree c.args.rel.now) (rel_tree c.in-And.a.value) (rel_tree c.in-And.b.value) (count_tree c.args.counts.now)
+    (ap rel_tree c.in-And.is) c.requires.counts)
 
 pub add_case-parts_of-first-requires-in-Or-clause-counts : goal.add_case-parts_of-first-requires-in-Or-clause-counts
 add_case-parts_of-first-requires-in-Or-clause-counts t c =
     rw (c.deref-in-Or.ensures, c.deref-in-Or-2.ensures)
-    (or_counts c.args.holds (rel_tree c.args.rel.now) (rel_tree c.in-Or.a.value) (rel_tree c.in-Or.b.value) (count_tree c.args.counts.now) (ap rel_tree c.in-Or.is) c.requires.counts)
+    (or_counts c.args.holds (rel_tree c.args.rel.now) (rel_tree c.in-Or.a.value) (rel_tree c.in-Or.b.value) (count_tree c.args.counts.now)
+    (ap rel_tree c.in-Or.is) c.requires.counts)

@@ -1,4 +1,4 @@
-use Rattle.std.proofs.Common.{◌≡◌, true, false, refl}
+use Rattle.std.proofs.Common.{true, false, refl}
 use Rattle.cf_tree.specs.RelView.{rel_tree}
 use Rattle.cf_linear.specs.Cases.{negation_normal, AtomRows}
 use Rattle.cf_linear.specs.Views.{plain_layout, system_of}
@@ -9,17 +9,20 @@ use Rattle.cf_cases.proofs.case.case_of.Goals as goal
 pub returns-in_ok-first_system-in-Ok-clause-system : goal.returns-in_ok-first_system-in-Ok-clause-system
 returns-in_ok-first_system-in-Ok-clause-system c =
     let start : AtomRows = record { equations = c.new.result.items; inequalities = c.new-2.result.items; next = c.first_free.result; passes = false } in
-    system_is (plain_layout c.args.layout.now) (negation_normal true (rel_tree c.args.rel.now)) c.args.index start (rows_of c.add_case.new.builder) (system_of c.in_ok-first_system-in-Ok.field-0)
-    (rw (c.new.ensures.items, c.new-2.ensures.items, c.first_free.ensures) refl) c.in-Ok.ensures.gives c.in_ok-first_system-in-Ok.ensures c.requires.index
+    system_is (plain_layout c.args.layout.now) (negation_normal true (rel_tree c.args.counted.now)) c.args.index start (rows_of c.add_case.new.builder)
+    (system_of c.in_ok-first_system-in-Ok.field-0)
+    (rw (c.new.ensures.items, c.new-2.ensures.items, c.first_free.ensures) refl) (rw c.rel-rel.ensures at c.in-Ok.ensures.gives)
+    c.in_ok-first_system-in-Ok.ensures c.requires.index
 
 pub returns-in_ok-first_system-in-Ok-clause-fits : goal.returns-in_ok-first_system-in-Ok-clause-fits
 returns-in_ok-first_system-in-Ok-clause-fits c =
     let start : AtomRows = record { equations = c.new.result.items; inequalities = c.new-2.result.items; next = c.first_free.result; passes = false } in
-    fits_is (plain_layout c.args.layout.now) (negation_normal true (rel_tree c.args.rel.now)) c.args.index start (rows_of c.add_case.new.builder)
-    (rw (c.new.ensures.items, c.new-2.ensures.items, c.first_free.ensures) refl) c.in-Ok.ensures.gives refl c.requires.index
+    fits_is (plain_layout c.args.layout.now) (negation_normal true (rel_tree c.args.counted.now)) c.args.index start (rows_of c.add_case.new.builder)
+    (rw (c.new.ensures.items, c.new-2.ensures.items, c.first_free.ensures) refl) (rw c.rel-rel.ensures at c.in-Ok.ensures.gives) refl c.requires.index
 
 pub returns-in-Err-clause-past : goal.returns-in-Err-clause-past
 returns-in-Err-clause-past c h =
     let start : AtomRows = record { equations = c.new.result.items; inequalities = c.new-2.result.items; next = c.first_free.result; passes = false } in
-    past_is (plain_layout c.args.layout.now) (negation_normal true (rel_tree c.args.rel.now)) c.args.index start c.in-Err.fault
-    (rw (c.new.ensures.items, c.new-2.ensures.items, c.first_free.ensures) refl) c.in-Err.ensures.gives c.requires.index (fault_is c.in-Err.fault h)
+    past_is (plain_layout c.args.layout.now) (negation_normal true (rel_tree c.args.counted.now)) c.args.index start c.in-Err.fault
+    (rw (c.new.ensures.items, c.new-2.ensures.items, c.first_free.ensures) refl) (rw c.rel-rel.ensures at c.in-Err.ensures.gives) c.requires.index
+    (fault_is c.in-Err.fault h)

@@ -22,7 +22,8 @@ returns-in-Subset t c = rw c.in-Subset.is (subset_count c.args.holds _ _)
 pub returns-in-Compare : goal.returns-in-Compare
 returns-in-Compare t c =
     rw c.in-Compare.is (compare_count c.args.holds c.in-Compare.order (term_tree c.in-Compare.left.value) (term_tree c.in-Compare.right.value) _ _ _ _ _
-    (c.order_ways-ways.ensures.ways ∙ ap order_ways c.order_as.ensures) (rw c.deref.ensures at c.choices.ensures) (rw c.deref-in-Compare.ensures at c.choices-in-Compare.ensures) c.saturating_mul-signs.ensures c.saturating_mul.ensures)
+    (c.order_ways-ways.ensures.ways ∙ ap order_ways c.order_as.ensures) (rw c.deref.ensures at c.choices.ensures)
+    (rw c.deref-in-Compare.ensures at c.choices-in-Compare.ensures) c.saturating_mul-signs.ensures c.saturating_mul.ensures)
 
 pub returns-in-Divides : goal.returns-in-Divides
 returns-in-Divides t c =
@@ -31,8 +32,10 @@ returns-in-Divides t c =
 
 pub returns-in-And : goal.returns-in-And
 returns-in-And t c =
-    rw c.in-And.is (and_count c.args.holds (rel_tree c.in-And.a.value) (rel_tree c.in-And.b.value) _ _ _ (rw c.deref-in-And.ensures at c.count_as.ensures) (rw c.deref-in-And-2.ensures at c.count_as-in-And.ensures) c.both_or_either.ensures)
+    rw c.in-And.is (and_count c.args.holds (rel_tree c.in-And.a.value) (rel_tree c.in-And.b.value) _ _ _ (rw c.deref-in-And.ensures at c.count_as.ensures)
+    (rw c.deref-in-And-2.ensures at c.count_as-in-And.ensures) c.both_or_either.ensures)
 
 pub returns-in-Or : goal.returns-in-Or
 returns-in-Or t c =
-    rw c.in-Or.is (or_count c.args.holds (rel_tree c.in-Or.a.value) (rel_tree c.in-Or.b.value) _ _ _ (rw c.deref-in-Or.ensures at c.count_as-in-Or.ensures) (rw c.deref-in-Or-2.ensures at c.count_as-in-Or-2.ensures) c.both_or_either-in-Or.ensures)
+    rw c.in-Or.is (or_count c.args.holds (rel_tree c.in-Or.a.value) (rel_tree c.in-Or.b.value) _ _ _ (rw c.deref-in-Or.ensures at c.count_as-in-Or.ensures)
+    (rw c.deref-in-Or-2.ensures at c.count_as-in-Or-2.ensures) c.both_or_either-in-Or.ensures)

@@ -8,7 +8,8 @@ use Rattle.cf_cases.proofs.regions.add_counts.Goals as goal
 
 pub loop-region-preserved : goal.loop-region-preserved
 loop-region-preserved c =
-    masks_next (λ m. put (region_column (plain_layout c.args.layout.now) m) (pos 1) []) c.args.rows.now.items c.loop-region.rows.items c.push.new.self.items c.loop-region.region (omega (arith, c.loop-region.auto.region)) c.loop-region.invariant
+    masks_next (λ m. put (region_column (plain_layout c.args.layout.now) m) (pos 1) []) c.args.rows.now.items c.loop-region.rows.items c.push.new.self.items
+    c.loop-region.region (omega (arith, c.loop-region.auto.region)) c.loop-region.invariant
     (rw (c.in_ok-row.ensures, c.region_column.ensures) at c.in_ok-push.ensures.items)
 
 pub returns : goal.returns

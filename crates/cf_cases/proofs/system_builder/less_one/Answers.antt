@@ -9,7 +9,8 @@ use Rattle.cf_cases.proofs.LessLaws.{lower_not, less-plus, less_past}
 use Rattle.cf_cases.proofs.system_builder.less_one.Goals as goal
 
 pub returns-in-Ok : goal.returns-in-Ok
-returns-in-Ok c = rw (c.in-Ok.ensures.0, less-plus c.args.left.now c.args.right.now c.entry.ensures.is_row.0 c.subtracted.ensures.rows.1.0) at c.subtracted.ensures.gives
+returns-in-Ok c = rw (c.in-Ok.ensures.0, less-plus c.args.left.now c.args.right.now c.entry.ensures.is_row.0 c.subtracted.ensures.rows.1.0) at
+    c.subtracted.ensures.gives
 
 pub returns-in-Err : goal.returns-in-Err
 returns-in-Err c =
@@ -25,5 +26,6 @@ returns-in-Err-subtracted c =
     let f = c.if-entry-gt0.false in
     let n : entry c.args.left.now 0 ≤ℤ pos 0 = omega (arith, ints) in
     let r = c.in-Err-subtracted.ensures.rows in
-    fails_where c.in-Err-subtracted.fault (row_passes (less c.args.left.now c.args.right.now)) (row_passes (plus (less c.args.left.now c.args.right.now) (negsuc 0)))
+    fails_where c.in-Err-subtracted.fault (row_passes (less c.args.left.now c.args.right.now))
+    (row_passes (plus (less c.args.left.now c.args.right.now) (negsuc 0)))
     (λ h. less_past c.args.left.now c.args.right.now r.0 r.1 n h) c.in-Err-subtracted.ensures.gives

@@ -6,4 +6,5 @@ use Rattle.cf_setwit.specs.Sources.{level_from}
 use Rattle.cf_setwit.proofs.pieces.pieces.Given as goal
 
 abbrev pub invariant-loop-mask : goal.invariant-loop-mask
-invariant-loop-mask l = map code_tree l.pieces.items ≡ map (piece_code (plain_layout l.layout) l.names (level_from l.sources.regions) l.sources.fresh) (take l.mask-index l.masks)
+invariant-loop-mask l = map code_tree l.pieces.items ≡ map (piece_code (plain_layout l.layout) l.names (level_from l.sources.regions) l.sources.fresh)
+    (take l.mask-index l.masks)
