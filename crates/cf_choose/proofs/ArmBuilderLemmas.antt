@@ -1,5 +1,6 @@
 -- Lets and needs over names of columns: what they lead to, and the values of the columns there.
-use Rattle.std.proofs.Common.{◌≡◌, ◌↔◌, ℕ, suc, ◌+◌, ◌<◌, ◌≤◌, ◌^◌, ◌==◌, ℤ, pos, neg_ℤ, List, [], ◌∷◌, ◌++◌, ◌⊎◌, inl, inr, length, map, Some, refl, sym, ap, arith, ◌∙◌, length-append, append-nil, append_assoc}
+use Rattle.std.proofs.Common.{◌≡◌, ◌↔◌, ℕ, suc, ◌+◌, ◌<◌, ◌≤◌, ◌^◌, ◌==◌, ℤ, pos, neg_ℤ, List, [], ◌∷◌, ◌++◌, ◌⊎◌, inl, inr, length, map, Some, refl, sym, ap}
+use Rattle.std.proofs.Common.{arith, ◌∙◌, length-append, append-nil, append_assoc}
 use Rattle.std.specs.Prelude.{slice_get, None, Bool, true, false}
 use Rattle.std.specs.Int.{int_div_euclid}
 use Rattle.std.specs.List.{fold}
@@ -27,7 +28,8 @@ use Rattle.cf_venn.specs.Forms.{IsCodeOf}
 use Rattle.cf_choose.specs.ArmBuilders.{let_alone}
 use Rattle.cf_choose.specs.CaseArms.{seen, HowWritten, BackWritten, StepWritten, StepsWritten}
 use Rattle.cf_choose.proofs.RowCodes.{named, HasName, AreNumbers, number_named, Computes, deeper, row_computes, div_computes, how_computes}
-use Rattle.cf_choose.proofs.ItemLemmas.{Leads, leads_forth, leads_back, have_then, plain_then, spelled_then, shallow_then, let_leads, let_found, Tests, need_leads, need_found, nonneg_tests, zero_tests, divides_tests, nonneg_need, zero_need, divides_need}
+use Rattle.cf_choose.proofs.ItemLemmas.{Leads, leads_forth, leads_back, have_then, plain_then, spelled_then, shallow_then, let_leads, let_found, Tests}
+use Rattle.cf_choose.proofs.ItemLemmas.{need_leads, need_found, nonneg_tests, zero_tests, divides_tests, nonneg_need, zero_need, divides_need}
 
 -- ---- environments with one more number
 pub length_have : (bs : List Base) (vs : List Value) → HaveBases bs vs → length vs ≡ length bs
@@ -80,7 +82,8 @@ other_name c names d level (inr (inl s)) e f = absurd (eqb-false c d f (sym s))
 other_name c names d level (inr (inr i)) e f = i
 
 -- a let names its column
-pub let_agrees : (bases : List Base) (names : ColumnLevels) (e : List Value) (v : Values) (c level : ℕ) (z : ℤ) → 1 ≤ c → AreNumbers bases names → HaveBases bases e → level ≡ length e →
+pub let_agrees : (bases : List Base) (names : ColumnLevels) (e : List Value) (v : Values) (c level : ℕ) (z : ℤ) → 1 ≤ c → AreNumbers bases names →
+    HaveBases bases e → level ≡ length e →
     Agrees names e v → Agrees ((c, level) ∷ names) (e ++ (number z ∷ [])) (update v c z)
 let_agrees bases names e v c level z some numbers have same agrees d h = on_bool (d == 0)
     (λ t.
@@ -139,7 +142,8 @@ pub record Makes (bases : List Base) (b : Base) (c : CodeTree) (w : List Value �
   pub means : (e : List Value) → HaveBases bases e → (path c e).gives ≡ got (w e ∷ [])
   pub base : (e : List Value) → HaveBases bases e → HasBase b (w e)
 
-pub alone_made : (scope bases : List Base) (k : ArmBuilder) (b : Base) (code : CodeTree) (w : List Value → Value) → Makes bases b code w → IsMade scope k bases → IsMade scope (let_alone k code) (bases ++ (b ∷ []))
+pub alone_made : (scope bases : List Base) (k : ArmBuilder) (b : Base) (code : CodeTree) (w : List Value → Value) → Makes bases b code w →
+    IsMade scope k bases → IsMade scope (let_alone k code) (bases ++ (b ∷ []))
 alone_made scope bases k b code w h m = record {
   typed = have_then k.items (let_item code ∷ []) scope bases (λ s. s ≡ bases ++ (b ∷ [])) m.typed (b, h.code.typed None tt, refl);
   plain = plain_then k.items (let_item code ∷ []) m.plain (h.code.plain, tt);
@@ -168,7 +172,8 @@ let_made scope bases k c code w h m = record {
       rw (← let_found code a.0 e (number (w a.0)) (h.means a.0 b) a.2) (have_more bases a.0 (w a.0) b);
 }
 
-need_made : (scope bases : List Base) (k : ArmBuilder) (code : CodeTree) (w : List Value → Bool) → Tests bases code w → IsMade scope k bases → IsMade scope (need k code) bases
+need_made : (scope bases : List Base) (k : ArmBuilder) (code : CodeTree) (w : List Value → Bool) → Tests bases code w → IsMade scope k bases →
+    IsMade scope (need k code) bases
 need_made scope bases k code w h m = record {
   typed = have_then k.items (need_item code ∷ []) scope bases (λ s. s ≡ bases) m.typed (h.typed, refl);
   plain = plain_then k.items (need_item code ∷ []) m.plain (h.plain, tt);
@@ -191,7 +196,8 @@ pub record Continues (scope from : List Base) (k k' : ArmBuilder) (Holds : Value
   pub forth : (env e : List Value) (v : Values) → HaveBases scope env → Leads k.items env e → Agrees k.names e v → Holds v →
       (d : List Value) × Leads k'.items env d × Agrees k'.names d (next v)
   pub back : (env d : List Value) → HaveBases scope env → Leads k'.items env d →
-      (e : List Value) × Leads k.items env e × ((more : List Value) × (d ≡ e ++ more)) × ((v : Values) → Agrees k.names e v → Holds v × Agrees k'.names d (next v))
+      (e : List Value) × Leads k.items env e × ((more : List Value) × (d ≡ e ++ more)) ×
+      ((v : Values) → Agrees k.names e v → Holds v × Agrees k'.names d (next v))
 
 pub continues_none : (scope bases : List Base) (k : ArmBuilder) → IsMade scope k bases → Continues scope bases k k (λ _. Unit {0}) (λ v. v)
 continues_none scope bases k m = record {
@@ -203,7 +209,8 @@ continues_none scope bases k m = record {
   back = λ env d have l. (d, l, ([], sym (append-nil d)), λ v a. (tt, a));
 }
 
-pub continues_then : (scope from : List Base) (k j i : ArmBuilder) (P Q : Values → Type 0) (f g : Values → Values) (p : Continues scope from k j P f) → Continues scope p.bases j i Q g →
+pub continues_then : (scope from : List Base) (k j i : ArmBuilder) (P Q : Values → Type 0) (f g : Values → Values) (p : Continues scope from k j P f) →
+    Continues scope p.bases j i Q g →
     Continues scope from k i (λ v. P v × Q (f v)) (λ v. g (f v))
 continues_then scope from k j i P Q f g p q = record {
   bases = q.bases;
@@ -215,11 +222,17 @@ continues_then scope from k j i P Q f g p q = record {
       q.forth env s.0 (f v) have s.1 s.2 h.1;
   back = λ env d have l.
       let s = q.back env d have l in
-      let t = p.back env s.0 have s.1 in
-      (t.0, t.1, (t.2.0 ++ s.2.0, s.2.1 ∙ ap (λ e. e ++ s.2.0) t.2.1 ∙ append_assoc t.0 t.2.0 s.2.0), λ v a. let x = t.3 v a in let y = s.3 (f v) x.1 in ((x.0, y.0), y.1));
+      let t = p.back env s.0 have s.1 in (
+        t.0,
+        t.1,
+        (t.2.0 ++ s.2.0, s.2.1 ∙ ap (λ e. e ++ s.2.0) t.2.1 ∙ append_assoc t.0 t.2.0 s.2.0),
+        λ v a. let x = t.3 v a in let y = s.3 (f v) x.1 in
+            ((x.0, y.0), y.1),
+      );
 }
 
-continues_let : (scope bases : List Base) (k : ArmBuilder) (c : ℕ) (code : CodeTree) (w : List Value → ℤ) (f : Values → ℤ) → 1 ≤ c → Computes 6 bases code w → IsMade scope k bases →
+continues_let : (scope bases : List Base) (k : ArmBuilder) (c : ℕ) (code : CodeTree) (w : List Value → ℤ) (f : Values → ℤ) → 1 ≤ c →
+    Computes 6 bases code w → IsMade scope k bases →
     ((e : List Value) (v : Values) → Agrees k.names e v → w e ≡ f v) → Continues scope bases k (let_named k c code) (λ _. Unit {0}) (λ v. update v c (f v))
 continues_let scope bases k c code w f some h m same = record {
   bases = bases ++ (Int ∷ []);
@@ -239,11 +252,13 @@ continues_let scope bases k c code w f some h m same = record {
       (s.0, s.1, (number (w s.0) ∷ [], sym f), λ v a. (tt, rw (← f) (agrees s.0 v b a)));
 }
   where
-    agrees : (e : List Value) (v : Values) → HaveBases bases e → Agrees k.names e v → Agrees ((c, k.level) ∷ k.names) (e ++ (number (w e) ∷ [])) (update v c (f v))
+    agrees : (e : List Value) (v : Values) → HaveBases bases e → Agrees k.names e v →
+        Agrees ((c, k.level) ∷ k.names) (e ++ (number (w e) ∷ [])) (update v c (f v))
     agrees e v b a =
         rw (← same e v a) (let_agrees bases k.names e v c k.level (w e) some m.numbers b (m.level ∙ sym (length_have bases e b)) a)
 
-continues_need : (scope bases : List Base) (k : ArmBuilder) (code : CodeTree) (w : List Value → Bool) (P : Values → Type 0) → Tests bases code w → IsMade scope k bases →
+continues_need : (scope bases : List Base) (k : ArmBuilder) (code : CodeTree) (w : List Value → Bool) (P : Values → Type 0) → Tests bases code w →
+    IsMade scope k bases →
     ((e : List Value) (v : Values) → Agrees k.names e v → (w e ≡ true) ↔ P v) → Continues scope bases k (need k code) P (λ v. v)
 continues_need scope bases k code w P h m same = record {
   bases = bases;
@@ -274,18 +289,22 @@ module _ (scope bases : List Base) (k : ArmBuilder) (few : k.level ≤ 2 ^ 32) (
   floor_continues : (c : ℕ) (r : Row) (g : ℤ) → 1 ≤ c → Over (HasName k.names) r → StepWritten (floor_of c r g) →
       Continues scope bases k (step_item k (floor_of c r g)) (λ v. Need v (floor_of c r g)) (λ v. after_step v (floor_of c r g))
   floor_continues c r g some o w =
-      continues_let scope bases k c (code_div (row_code k.names r) g) (λ e. int_div_euclid (value (seen k.names e) r) g) (λ v. int_div_euclid (value v r) g) some
-      (deeper bases short 4 6 (code_div (row_code k.names r) g) (λ e. int_div_euclid (value (seen k.names e) r) g) (λ e. int_div_euclid (value (seen k.names e) r) g) (omega arith) (λ e. refl)
+      continues_let scope bases k c (code_div (row_code k.names r) g) (λ e. int_div_euclid (value (seen k.names e) r) g) (λ v. int_div_euclid (value v r) g)
+      some
+      (deeper bases short 4 6 (code_div (row_code k.names r) g) (λ e. int_div_euclid (value (seen k.names e) r) g)
+      (λ e. int_div_euclid (value (seen k.names e) r) g) (omega arith) (λ e. refl)
       (div_computes bases short k.names m.numbers r g o w.0.1 w.1)) m
       (λ e v a. ap (λ z. int_div_euclid z g) (value_agrees k.names e v r o a))
 
-  nonneg_continues : (r : Row) → Over (HasName k.names) r → StepWritten (need_nonneg r) → Continues scope bases k (step_item k (need_nonneg r)) (λ v. Need v (need_nonneg r)) (λ v. v)
+  nonneg_continues : (r : Row) → Over (HasName k.names) r → StepWritten (need_nonneg r) →
+      Continues scope bases k (step_item k (need_nonneg r)) (λ v. Need v (need_nonneg r)) (λ v. v)
   nonneg_continues r o w =
       let c = row_of r o w in
       continues_need scope bases k _ _ (λ v. Need v (need_nonneg r)) (nonneg_tests bases (row_code k.names r) (λ e. value (seen k.names e) r) c) m
       (λ e v a. rw (value_agrees k.names e v r o a) (nonneg_need (value v r)))
 
-  zero_continues : (r : Row) → Over (HasName k.names) r → StepWritten (need_nonneg r) → Continues scope bases k (step_item k (need_zero r)) (λ v. Need v (need_zero r)) (λ v. v)
+  zero_continues : (r : Row) → Over (HasName k.names) r → StepWritten (need_nonneg r) →
+      Continues scope bases k (step_item k (need_zero r)) (λ v. Need v (need_zero r)) (λ v. v)
   zero_continues r o w =
       let c = row_of r o w in
       continues_need scope bases k _ _ (λ v. Need v (need_zero r)) (zero_tests bases (row_code k.names r) (λ e. value (seen k.names e) r) c) m
@@ -298,22 +317,26 @@ module _ (scope bases : List Base) (k : ArmBuilder) (few : k.level ≤ 2 ^ 32) (
       continues_need scope bases k _ _ (λ v. Need v (need_divides g r)) (divides_tests bases g (row_code k.names r) (λ e. value (seen k.names e) r) w.1 c) m
       (λ e v a. rw (value_agrees k.names e v r o a) (divides_need g (value v r) w.1.0))
 
-  way_continues : (x : ℕ) (w : How) → 1 ≤ x → HowOver (HasName k.names) w → HowWritten w → Continues scope bases k (back_item k (x, w)) (λ _. Unit {0}) (λ v. update v x (how_value v w))
+  way_continues : (x : ℕ) (w : How) → 1 ≤ x → HowOver (HasName k.names) w → HowWritten w →
+      Continues scope bases k (back_item k (x, w)) (λ _. Unit {0}) (λ v. update v x (how_value v w))
   way_continues x w some o s =
-      continues_let scope bases k x (how_code k.names w) (λ e. how_value (seen k.names e) w) (λ v. how_value v w) some (how_computes bases short k.names m.numbers w o s) m
+      continues_let scope bases k x (how_code k.names w) (λ e. how_value (seen k.names e) w) (λ v. how_value v w) some
+      (how_computes bases short k.names m.numbers w o s) m
       (λ e v a. how_agrees k.names e v a w o)
 
-wider_let : (Q : ℕ → Type 0) (names : ColumnLevels) (c level : ℕ) → ((d : ℕ) → Q d → HasName names d) → (d : ℕ) → (d ≡ c) ⊎ Q d → HasName ((c, level) ∷ names) d
+pub wider_let : (Q : ℕ → Type 0) (names : ColumnLevels) (c level : ℕ) → ((d : ℕ) → Q d → HasName names d) → (d : ℕ) → (d ≡ c) ⊎ Q d → HasName ((c, level) ∷ names) d
 wider_let Q names c level f d (inl s) = inr (inl s)
 wider_let Q names c level f d (inr q) = elim (f d q) as (λ _. HasName ((c, level) ∷ names) d) [ inl z ↦ inl z | inr i ↦ inr (inr i) ]
 
-pub steps_continue : (scope bases : List Base) (ms : List Step) (k : ArmBuilder) (Q : ℕ → Type 0) → IsMade scope k bases → StepsWritten ms → StepsOver Q ms → ((c : ℕ) → Q c → HasName k.names c) →
+pub steps_continue : (scope bases : List Base) (ms : List Step) (k : ArmBuilder) (Q : ℕ → Type 0) → IsMade scope k bases → StepsWritten ms →
+    StepsOver Q ms → ((c : ℕ) → Q c → HasName k.names c) →
     LetsSome ms → k.level + length ms ≤ 2 ^ 32 → Continues scope bases k (fold step_item k ms) (λ v. NeedsHold v ms) (λ v. after_steps v ms)
 steps_continue scope bases [] k Q m s o f l few = continues_none scope bases k m
 steps_continue scope bases (floor_of c r g ∷ ms) k Q m s o f l few =
     let p = floor_continues scope bases k (omega arith) m c r g (l c (inl refl)) (Over-weaker Q (HasName k.names) f r o.0) s.0 in
     let j = step_item k (floor_of c r g) in
-    continues_then scope bases k j (fold step_item j ms) (λ v. Need v (floor_of c r g)) (λ v. NeedsHold v ms) (λ v. after_step v (floor_of c r g)) (λ v. after_steps v ms) p
+    continues_then scope bases k j (fold step_item j ms) (λ v. Need v (floor_of c r g)) (λ v. NeedsHold v ms) (λ v. after_step v (floor_of c r g))
+    (λ v. after_steps v ms) p
     (steps_continue scope p.bases ms j (λ d. (d ≡ c) ⊎ Q d) p.made s.1 o.1 (wider_let Q k.names c k.level f) (λ d i. l d (inr i)) (omega arith))
 steps_continue scope bases (need_nonneg r ∷ ms) k Q m s o f l few =
     let p = nonneg_continues scope bases k (omega arith) m r (Over-weaker Q (HasName k.names) f r o.0) s.0 in
@@ -340,7 +363,8 @@ pub nothing : (ws : List (ℕ × How)) → Nothing ws
 nothing [] = tt
 nothing (w ∷ ws) = (tt, nothing ws)
 
-pub back_continue : (scope bases : List Base) (ws : List (ℕ × How)) (k : ArmBuilder) (Q : ℕ → Type 0) → IsMade scope k bases → BackWritten ws → BackOver Q ws → ((c : ℕ) → Q c → HasName k.names c) →
+pub back_continue : (scope bases : List Base) (ws : List (ℕ × How)) (k : ArmBuilder) (Q : ℕ → Type 0) → IsMade scope k bases → BackWritten ws →
+    BackOver Q ws → ((c : ℕ) → Q c → HasName k.names c) →
     k.level + length ws ≤ 2 ^ 32 → Continues scope bases k (fold back_item k ws) (λ _. Nothing ws) (λ v. after_back v ws)
 back_continue scope bases [] k Q m s o f few = continues_none scope bases k m
 back_continue scope bases ((x, w) ∷ ws) k Q m s o f few =

@@ -1,7 +1,8 @@
 -- The arm of a solved case.
-use Rattle.std.proofs.Common.{◌≡◌, ℕ, zero, suc, ◌+◌, ◌-◌, ◌*◌, ◌<◌, ◌≤◌, ◌^◌, ◌==◌, ℤ, pos, List, [], ◌∷◌, ◌++◌, ◌⊎◌, inl, inr, length, map, cond, refl, sym, ap, subst, arith, ◌∙◌, append_assoc, length-append, All}
-use Rattle.std.specs.Prelude.{false, true, None, slice_get, Some, IsTrue}
-use Rattle.std.specs.List.{range_with_len, fold}
+use Rattle.std.proofs.Common.{◌≡◌, ℕ, zero, suc, ◌+◌, ◌-◌, ◌*◌, ◌<◌, ◌≤◌, ◌^◌, ◌==◌, ℤ, pos, List, [], ◌∷◌, ◌++◌, ◌⊎◌, inl, inr, length, map, cond, refl, sym}
+use Rattle.std.proofs.Common.{ap, subst, arith, ◌∙◌, append_assoc, length-append, All}
+use Rattle.std.specs.Prelude.{false, true, None, IsTrue}
+use Rattle.std.specs.List.{fold}
 use Rattle.std.proofs.Math.Nat.{mul-suc}
 use Rattle.std.proofs.lemmas.Bool.{cases_lt, eq-eqb, ne_eqb}
 use Rattle.std.proofs.lemmas.List.{length-map}
@@ -10,19 +11,21 @@ use Rattle.std.proofs.lemmas.Nat.{pow_pos}
 use Rattle.std.proofs.lemmas.Option.{slice_get_within}
 use Rattle.cf_tree.specs.declared.base.Base.{Base}
 use Rattle.cf_tree.specs.declared.base.Base.TheVariants.{Int, Set}
-use Rattle.cf_tree.specs.CodeTree.{codes_of, codes_depth, items_of, arm_of, no_arms, arm_more, arms_depth}
-use Rattle.cf_tree.specs.Meaning.{got, count_below, path}
+use Rattle.cf_tree.specs.CodeTree.{codes_of, items_of, arm_of, no_arms, arm_more, arms_depth}
+use Rattle.cf_tree.specs.Meaning.{got, count_below}
 use Rattle.cf_tree.specs.RelTree.{RelTree}
 use Rattle.cf_tree.specs.Solving.{IsBelow, with_tuple, NeedsHold, ArmGives}
 use Rattle.cf_tree.specs.Spelled.{IsNumeral, AreArmsSpelled}
 use Rattle.cf_tree.specs.Typing.{PartsHave, ArmsHave}
 use Rattle.cf_tree.specs.Values.{Value, number, elements, elements_of, number_of, value_at, HaveBases}
-use Rattle.cf_linear.specs.Arm.{ColumnLevels, level_of, ArmBuilder, step_item, back_item, let_region, search_names, begun, computed, fresh_code, with_fresh, region_level, gives, arm}
+use Rattle.cf_linear.specs.declared.refusal.TheConstants.{MOST_SETS}
+use Rattle.cf_linear.specs.Arm.{level_of, ArmBuilder, step_item, back_item, let_region, search_names, begun, fresh_code, with_fresh, region_level, gives, arm}
 use Rattle.cf_linear.specs.Keep.{In, update, after_back}
-use Rattle.cf_linear.specs.Layout.{Layout, layout_of, masks, has_level, set_count, number_column, input_column, region_column, known_count, first_free}
+use Rattle.cf_linear.specs.Layout.{Layout, layout_of, masks, has_level, set_count, number_column, input_column, region_column, known_count}
 use Rattle.cf_linear.specs.Systems.{System, Sat, Step, floor_of, need_nonneg, need_zero, need_divides, How, Answer}
 use Rattle.cf_linear.specs.Rows.{Values}
-use Rattle.cf_linear.specs.Solved.{Rising, InBounds, search_columns, let_columns, set_tuple, after, after_steps, SameKnown, Owes, SolvedBy, NeedsHold as StepsHold}
+use Rattle.cf_linear.specs.Solved.{Rising, InBounds, search_columns, let_columns, set_tuple, after, after_steps, SameKnown, Owes, SolvedBy}
+use Rattle.cf_linear.specs.Solved.{NeedsHold as StepsHold}
 use Rattle.cf_linear.proofs.KindLemmas.{In-append}
 use Rattle.cf_cases.specs.Holding.{AreCounts}
 use Rattle.cf_cases.proofs.FormedLaws.{In-range, range-In}
@@ -44,13 +47,16 @@ use Rattle.cf_venn.proofs.LevelLaws.{same_each, is_layout, outputs_count}
 use Rattle.cf_venn.proofs.OutputLaws.{held}
 use Rattle.cf_choose.specs.CaseArms.{seen, parameter_names, IsWritable, IsArmOf}
 use Rattle.cf_choose.proofs.ChooseLevels.{IsFirst, numbers_once, number_levels, output_column}
-use Rattle.cf_choose.proofs.ColumnNames.{named-append, named-first, named-second, ints_of, wholes, search_numbers, search_have, AreEarlier, search_agrees, search_named, rising_from, in_bounds, below_bounds, parameter_numbers, named_parameter, place-within, column_is, column_named}
+use Rattle.cf_choose.proofs.ColumnNames.{named-append, named-first, named-second, ints_of, wholes, search_numbers, search_have, AreEarlier, search_agrees}
+use Rattle.cf_choose.proofs.ColumnNames.{search_named, rising_from, in_bounds, below_bounds, parameter_numbers, named_parameter, place-within, column_is}
+use Rattle.cf_choose.proofs.ColumnNames.{column_named}
 use Rattle.cf_choose.proofs.FreshLets.{IsEnded, ended}
 use Rattle.cf_choose.proofs.GiveForms.{AreGiven, outputs_given, gives_some}
 use Rattle.cf_choose.proofs.ItemLemmas.{Leads, leads_none, leads_once, have_weaker}
-use Rattle.cf_choose.proofs.ArmBuilderLemmas.{Agrees, IsMade, Continues, continues_then, steps_continue, back_continue, Nothing, nothing, steps_named, back_named, length_have, value_at-early, slice_get-more}
+use Rattle.cf_choose.proofs.ArmBuilderLemmas.{Agrees, IsMade, Continues, continues_then, steps_continue, back_continue, Nothing, nothing, steps_named}
+use Rattle.cf_choose.proofs.ArmBuilderLemmas.{back_named, length_have, value_at-early, slice_get-more}
 use Rattle.cf_choose.proofs.RegionLets.{pairs, length-pairs, region_set, inputs_typed, holds_inputs, regions_made, named_before, named_region, named_after}
-use Rattle.cf_choose.proofs.RowCodes.{named, HasName, AreNumbers, number_named, number_at}
+use Rattle.cf_choose.proofs.RowCodes.{named, HasName, number_named, number_at}
 
 -- ---- bounds
 factor_left : (m n k : ℕ) → 1 ≤ n → m * n ≤ k → m ≤ k
@@ -80,7 +86,8 @@ tuple_before v ((d, n) ∷ bounds) (k ∷ ks) lo hi c r h =
     let l = r.0 in
     tuple_before (update v d k) bounds ks (suc d) hi c r.1 (omega arith) ∙ rw (ne_eqb c d (λ e. omega arith)) refl
 
-tuple_same : (v w : Values) (bounds : List (ℕ × ℕ)) (ks : List ℤ) (c : ℕ) → (v c ≡ w c) ⊎ In c (search_columns bounds) → InBounds bounds ks → set_tuple v bounds ks c ≡ set_tuple w bounds ks c
+tuple_same : (v w : Values) (bounds : List (ℕ × ℕ)) (ks : List ℤ) (c : ℕ) → (v c ≡ w c) ⊎ In c (search_columns bounds) → InBounds bounds ks →
+    set_tuple v bounds ks c ≡ set_tuple w bounds ks c
 tuple_same v w [] [] c (inl e) b = e
 tuple_same v w [] [] c (inr i) b = absurd i
 tuple_same v w [] (k ∷ ks) c h b = absurd b
@@ -92,7 +99,7 @@ tuple_same v w ((d, n) ∷ bounds) (k ∷ ks) c h b = tuple_same (update v d k) 
     next (inr (inl s)) = inl (rw (eq-eqb c d s) refl)
     next (inr (inr i)) = inr i
 
-named_search : (n c : ℕ) (bounds : List (ℕ × ℕ)) → In c (named (search_names n bounds)) → In c (search_columns bounds)
+pub named_search : (n c : ℕ) (bounds : List (ℕ × ℕ)) → In c (named (search_names n bounds)) → In c (search_columns bounds)
 named_search n c [] i = i
 named_search n c ((d, p) ∷ bounds) (inl s) = inl s
 named_search n c ((d, p) ∷ bounds) (inr i) = inr (named_search (n + 1) c bounds i)
@@ -114,14 +121,15 @@ back_level [] k = omega arith
 back_level ((x, w) ∷ ws) k = let h = back_level ws (back_item k (x, w)) in omega arith
 
 -- ---- the arm
-module _ (scope outputs : List Base) (rel : RelTree) (outs : AreOutputs outputs) (few_sets : set_count (layout_of scope outputs rel) ≤ 6) where
+module _ (scope outputs : List Base) (rel : RelTree) (outs : AreOutputs outputs) (few_sets : set_count (layout_of scope outputs rel) ≤ MOST_SETS) where
   abbrev l : Layout
   l = layout_of scope outputs rel
 
-  few_inputs : length l.inputs ≤ 6
+  few_inputs : length l.inputs ≤ MOST_SETS
   few_inputs = omega arith
 
-  module _ (m : System) (a : Answer) (opens : IsFirst l m) (solved : SolvedBy m a) (owes : Owes m a) (comes : ComesBack m a) (done : a.system.unknown ≡ []) (writable : IsWritable l a) where
+  module _ (m : System) (a : Answer) (opens : IsFirst l m) (solved : SolvedBy m a) (owes : Owes m a) (comes : ComesBack m a) (done : a.system.unknown ≡ [])
+      (writable : IsWritable l a) where
     abbrev bounds : List ℕ
     bounds = bounds_of a.bounds
 
@@ -188,7 +196,8 @@ module _ (scope outputs : List Base) (rel : RelTree) (outs : AreOutputs outputs)
     made_parted =
         let s = pow_pos (length l.inputs) in
         let f = writable.few in
-        regions_made scope outputs rel few_inputs start regions 1 start first made_first (inputs_typed scope outputs rel (ints_of bounds)) (omega arith) (omega arith) (omega (arith, length_start))
+        regions_made scope outputs rel few_inputs start regions 1 start first made_first (inputs_typed scope outputs rel (ints_of bounds)) (omega arith)
+        (omega arith) (omega (arith, length_start))
 
     -- known columns and those of searches
     abbrev Begins : ℕ → Type 0
@@ -205,7 +214,8 @@ module _ (scope outputs : List Base) (rel : RelTree) (outs : AreOutputs outputs)
               let n = suc c - length l.numbers in
               let e : input_column l n ≡ suc c = omega arith in
               inr (subst (λ d. In d (named parted.names)) e (named_region scope outputs rel few_inputs regions 1 first n (omega arith) (omega arith))))
-          | inr g ↦ first_named (suc c) (named-first (suc c) (parameter_names l) (search_names l.scope a.bounds) (column_named l (suc c) (numbers_once scope outputs rel) (omega arith) (omega arith)))
+          | inr g ↦ first_named (suc c) (named-first (suc c) (parameter_names l) (search_names l.scope a.bounds)
+              (column_named l (suc c) (numbers_once scope outputs rel) (omega arith) (omega arith)))
         ]
 
     begins_named : (c : ℕ) → Begins c → HasName parted.names c
@@ -219,7 +229,8 @@ module _ (scope outputs : List Base) (rel : RelTree) (outs : AreOutputs outputs)
     parted_level = made_parted.level ∙ length_from ∙ omega (arith, length_start)
 
     steps_go : Continues start from parted middle (λ v. StepsHold v a.steps) (λ v. after_steps v a.steps)
-    steps_go = steps_continue start from a.steps parted Begins made_parted writable.steps owes.over begins_named lets_some (let f = writable.few in omega (arith, parted_level))
+    steps_go = steps_continue start from a.steps parted Begins made_parted writable.steps owes.over begins_named lets_some (let f = writable.few in
+        omega (arith, parted_level))
 
     left_named : (c : ℕ) → In c a.system.known ⊎ In c a.system.unknown → HasName middle.names c
     left_named c (inl i) = elim (owes.only c i) as (λ _. HasName middle.names c) [
@@ -229,11 +240,13 @@ module _ (scope outputs : List Base) (rel : RelTree) (outs : AreOutputs outputs)
     left_named c (inr i) = absurd (subst (λ cs. In c cs) done i)
 
     back_go : Continues start steps_go.bases middle end (λ _. Nothing a.back) (λ v. after_back v a.back)
-    back_go = back_continue start steps_go.bases a.back middle (λ c. In c a.system.known ⊎ In c a.system.unknown) steps_go.made writable.back comes.over left_named
+    back_go = back_continue start steps_go.bases a.back middle (λ c. In c a.system.known ⊎ In c a.system.unknown) steps_go.made writable.back comes.over
+        left_named
         (let f = writable.few in let h = steps_level a.steps parted in omega (arith, parted_level))
 
     all_go : Continues start from parted end (λ v. StepsHold v a.steps × Nothing a.back) (λ v. after_back (after_steps v a.steps) a.back)
-    all_go = continues_then start from parted middle end (λ v. StepsHold v a.steps) (λ _. Nothing a.back) (λ v. after_steps v a.steps) (λ v. after_back v a.back) steps_go back_go
+    all_go = continues_then start from parted middle end (λ v. StepsHold v a.steps) (λ _. Nothing a.back) (λ v. after_steps v a.steps)
+        (λ v. after_back v a.back) steps_go back_go
 
     end_level : length all_go.bases + 1 ≤ 2 ^ 32
     end_level =
@@ -247,7 +260,11 @@ module _ (scope outputs : List Base) (rel : RelTree) (outs : AreOutputs outputs)
     unknown_named c u =
         let s = opens.later c u in
         let k = pow_pos (length l.inputs) in
-        some_name c (omega arith) (elim (comes.covers c u) as (λ _. HasName end.names c) [ inl j ↦ absurd (subst (λ cs. In c cs) done j) | inr j ↦ back_named a.back middle c (inl j) ])
+        some_name c (omega arith) (elim (comes.covers c u) as (λ _. HasName end.names c) [
+          | inl j ↦ absurd (subst (λ cs. In c cs) done j)
+          | inr j ↦
+              back_named a.back middle c (inl j)
+        ])
       where
         some_name : (c : ℕ) → 1 ≤ c → HasName end.names c → In c (named end.names)
         some_name c s (inl z) = absurd (omega arith)
@@ -293,7 +310,8 @@ module _ (scope outputs : List Base) (rel : RelTree) (outs : AreOutputs outputs)
     same_sets : (env more : List Value) → HaveBases scope env → sets_at (env ++ more) l.inputs ≡ sets_at env l.inputs
     same_sets env more have =
         same_each (λ x. elements_of (value_at (env ++ more) x)) (λ x. elements_of (value_at env x)) l.inputs
-        (λ x h. let i = (is_layout scope outputs rel).inputs x h in let n = length_have scope env have in ap elements_of (value_at-early env more x (omega arith)))
+        (λ x h. let i = (is_layout scope outputs rel).inputs x h in let n = length_have scope env have in
+        ap elements_of (value_at-early env more x (omega arith)))
 
     length_tuple : (env : List Value) (ks : List ℕ) → HaveBases scope env → IsBelow bounds ks → length (with_tuple env ks) ≡ length start
     length_tuple env ks have below = length_have start (with_tuple env ks) (start_have env ks have below)
@@ -332,7 +350,8 @@ module _ (scope outputs : List Base) (rel : RelTree) (outs : AreOutputs outputs)
       lets : LetsRegions l first parted at_start (sets_at at_start l.inputs)
       lets =
           let n = length_tuple env ks have below in
-          region_lets_lead scope outputs rel first at_start (holds_inputs start l at_start (inputs_typed scope outputs rel (ints_of bounds)) (start_have env ks have below))
+          region_lets_lead scope outputs rel first at_start (holds_inputs start l at_start (inputs_typed scope outputs rel (ints_of bounds))
+          (start_have env ks have below))
           (omega (arith, n, length_start)) (omega (arith, n, length_start))
 
       parted_leads : Leads parted.items at_start (parted_at env ks)
@@ -355,15 +374,19 @@ module _ (scope outputs : List Base) (rel : RelTree) (outs : AreOutputs outputs)
           let z : c == 0 ≡ false = ne_eqb c 0 (λ e. omega arith) in
           let h = slice_get_within start (level_of first.names c) Int (number_named start first.names c made_first.numbers n) in
           let given =
-          search_agrees scope a.bounds (parameter_names l) (length scope) m.next a.system.next env (seen (parameter_names l) env) ks refl (parameter_numbers l scope l.numbers (number_levels scope outputs rel)) have early s
+          search_agrees scope a.bounds (parameter_names l) (length scope) m.next a.system.next env (seen (parameter_names l) env) ks refl
+          (parameter_numbers l scope l.numbers (number_levels scope outputs rel)) have early s
           owes.bounds_rise below (λ d k. refl) in
-          let there : number_of (value_at at_start (level_of first.names c)) ≡ set_tuple (seen (parameter_names l) env) a.bounds (wholes ks) c = rw z at (given c (inr n)) in
+          let there : number_of (value_at at_start (level_of first.names c)) ≡ set_tuple (seen (parameter_names l) env) a.bounds (wholes ks) c =
+          rw z at (given c (inr n)) in
           ap (λ x. number_of (value_at (parted_at env ks) x)) other
-          ∙ ap number_of (value_at-early at_start (region_values (sets_at at_start l.inputs) (masks (length l.inputs))) (level_of first.names c) (rw (length_tuple env ks have below) h))
+          ∙ ap number_of (value_at-early at_start (region_values (sets_at at_start l.inputs) (masks (length l.inputs))) (level_of first.names c)
+          (rw (length_tuple env ks have below) h))
           ∙ there
           ∙ tuple_same (seen (parameter_names l) env) (known_values l env) a.bounds (wholes ks) c (inr i) (in_bounds a.bounds ks below)
 
-      seen_as : (c : ℕ) → 1 ≤ c → number_of (value_at (parted_at env ks) (level_of parted.names c)) ≡ values c → seen parted.names (parted_at env ks) c ≡ values c
+      seen_as : (c : ℕ) → 1 ≤ c → number_of (value_at (parted_at env ks) (level_of parted.names c)) ≡ values c →
+          seen parted.names (parted_at env ks) c ≡ values c
       seen_as c h e = rw (ne_eqb c 0 (λ z. omega arith)) e
 
       seen_known : (c : ℕ) → 1 ≤ c → c < known_count l → seen parted.names (parted_at env ks) c ≡ values c
@@ -377,9 +400,11 @@ module _ (scope outputs : List Base) (rel : RelTree) (outs : AreOutputs outputs)
           let s = next_some in
           seen_as c (omega arith) (search_value c j)
 
-      seen_named : (c : ℕ) → ((n : ℕ) × (1 ≤ n) × (n < 1 + regions) × (c ≡ input_column l n)) ⊎ In c (named first.names) → seen parted.names (parted_at env ks) c ≡ values c
+      seen_named : (c : ℕ) → ((n : ℕ) × (1 ≤ n) × (n < 1 + regions) × (c ≡ input_column l n)) ⊎ In c (named first.names) →
+          seen parted.names (parted_at env ks) c ≡ values c
       seen_named c (inl h) = let x = h.1 in let y = h.2 in let e = h.3 in let s = pow_pos (length l.inputs) in seen_known c (omega arith) (omega arith)
-      seen_named c (inr i) = seen_first c (In-append c (named (parameter_names l)) (named (search_names l.scope a.bounds)) (rw (named-append (parameter_names l) (search_names l.scope a.bounds)) at i))
+      seen_named c (inr i) = seen_first c (In-append c (named (parameter_names l)) (named (search_names l.scope a.bounds))
+          (rw (named-append (parameter_names l) (search_names l.scope a.bounds)) at i))
 
       zero_agrees : pos 1 ≡ values 0
       zero_agrees = sym (tuple_before (known_values l env) a.bounds (wholes ks) m.next a.system.next 0 owes.bounds_rise next_some)
@@ -394,12 +419,14 @@ module _ (scope outputs : List Base) (rel : RelTree) (outs : AreOutputs outputs)
       region_there : (n : ℕ) → 1 ≤ n → n < 2 ^ length l.inputs → value_at (parted_at env ks) (region_level l a n) ≡ elements (region (sets_at env l.inputs) n)
       region_there n x y = lets.regions n x y ∙ ap (λ ss. elements (region ss n)) (same_sets env tuple have)
 
-    needs_hold : (env : List Value) → HaveBases scope env → (w : Values) → SameKnown m (known_values l env) w → Sat m w → (ks : List ℕ) × (e : List Value) × NeedsHold (arm l a) env ks e
+    needs_hold : (env : List Value) → HaveBases scope env → (w : Values) → SameKnown m (known_values l env) w → Sat m w → (ks : List ℕ) × (e : List Value) ×
+        NeedsHold (arm l a) env ks e
     needs_hold env have w same sat =
         let t = solved.meets (known_values l env) refl w same sat in
         let b = below_bounds a.bounds t.0 t.1 in
         let n = subst (λ zs. StepsHold (set_tuple (known_values l env) a.bounds zs) a.steps) b.1 t.2 in
-        let d = all_go.forth (with_tuple env b.0) (parted_at env b.0) (set_tuple (known_values l env) a.bounds (wholes b.0)) (start_have env b.0 have b.2) (parted_leads env b.0 have b.2)
+        let d = all_go.forth (with_tuple env b.0) (parted_at env b.0) (set_tuple (known_values l env) a.bounds (wholes b.0)) (start_have env b.0 have b.2)
+        (parted_leads env b.0 have b.2)
         (parted_agrees env b.0 have b.2) (n, nothing a.back) in
         let f = last.forth (with_tuple env b.0) d.0 d.1 in
         (b.0, f.0, rw arm_is (b.2, f.1))
@@ -412,7 +439,8 @@ module _ (scope outputs : List Base) (rel : RelTree) (outs : AreOutputs outputs)
       pieces : HoldsPieces l end.names (region_level l a) end.level (sets_at env l.inputs) (region_count l w) e
       numbers : (x : ℕ) → IsTrue (has_level l.out_numbers x) → value_at e (level_of end.names (number_column l x)) ≡ number (w (number_column l x))
 
-    found : (env : List Value) → HaveBases scope env → (ks : List ℕ) (e : List Value) → IsBelow bounds ks → Leads (with_fresh l end) (with_tuple env ks) e → Found env ks e
+    found : (env : List Value) → HaveBases scope env → (ks : List ℕ) (e : List Value) → IsBelow bounds ks → Leads (with_fresh l end) (with_tuple env ks) e →
+        Found env ks e
     found env have ks e below leads =
         let s = start_have env ks have below in
         let f = last.back (with_tuple env ks) e s leads in
@@ -437,12 +465,15 @@ module _ (scope outputs : List Base) (rel : RelTree) (outs : AreOutputs outputs)
           pieces = record {
             inputs_are = length-map l.inputs (λ x. elements_of (value_at env x));
             regions_are = λ n x y.
-                later_value f.0 f.2.0 e f.2.1 (region_level l a n) (let k = ap length grown in omega (arith, k, length-append (parted_at env ks) b.2.0, length_parted env ks have below, length_from, length_start))
-                ∙ later_value (parted_at env ks) b.2.0 f.0 grown (region_level l a n) (omega (arith, length_parted env ks have below, length_from, length_start)) ∙ region_there env ks have below n x y;
+                later_value f.0 f.2.0 e f.2.1 (region_level l a n) (let k = ap length grown in
+                omega (arith, k, length-append (parted_at env ks) b.2.0, length_parted env ks have below, length_from, length_start))
+                ∙ later_value (parted_at env ks) b.2.0 f.0 grown (region_level l a n)
+                (omega (arith, length_parted env ks have below, length_from, length_start)) ∙ region_there env ks have below n x y;
             fresh_is = λ some. f.3 (elements (fresh (sets_at env l.inputs) (length l.out_sets) (region_count l w))) some
                 (code ∙ ap (λ ss. got (elements (fresh ss (length l.out_sets) (region_count l w)) ∷ [])) sets);
             counts_are = λ k x y.
-                later_value f.0 f.2.0 e f.2.1 (level_of end.names (region_column l k)) (column_early f.0 have_end (region_column l k) (region_unknown k x y)) ∙ held_end k x y;
+                later_value f.0 f.2.0 e f.2.1 (level_of end.names (region_column l k))
+                (column_early f.0 have_end (region_column l k) (region_unknown k x y)) ∙ held_end k x y;
           };
           numbers = λ x h.
               later_value f.0 f.2.0 e f.2.1 (level_of end.names (number_column l x)) (column_early f.0 have_end (number_column l x) (number_unknown x h))
@@ -463,9 +494,11 @@ module _ (scope outputs : List Base) (rel : RelTree) (outs : AreOutputs outputs)
     given : AreGiven last.bases outputs (gives l a end)
     given =
         outputs_given scope outputs rel outs a end last.bases few_last
-        (λ x h. last.kept (level_of end.names (number_column l x)) Int (number_named all_go.bases end.names (number_column l x) all_go.made.numbers (unknown_named (number_column l x) (number_unknown x h))))
+        (λ x h. last.kept (level_of end.names (number_column l x)) Int
+        (number_named all_go.bases end.names (number_column l x) all_go.made.numbers (unknown_named (number_column l x) (number_unknown x h))))
         (λ k x y. last.kept (level_of end.names (region_column l k)) Int (counts_typed k x y))
-        (λ n x y. last.kept (region_level l a n) Set (all_go.kept (region_level l a n) Set (region_set start regions n (region_level l a n) x (omega arith) (omega (arith, length_start)))))
+        (λ n x y. last.kept (region_level l a n) Set (all_go.kept (region_level l a n) Set
+        (region_set start regions n (region_level l a n) x (omega arith) (omega (arith, length_start)))))
         last.fresh
 
     arm_typed : ArmsHave (arm_more (arm l a) no_arms) scope outputs
@@ -473,7 +506,8 @@ module _ (scope outputs : List Base) (rel : RelTree) (outs : AreOutputs outputs)
       writable.bounds,
       last.plain,
       given.plain,
-      have_weaker (with_fresh l end) start (λ s. s ≡ last.bases) (λ inner. PartsHave (codes_of (gives l a end)) inner None outputs) (λ s e. rw e given.typed) last.typed,
+      have_weaker (with_fresh l end) start (λ s. s ≡ last.bases) (λ inner. PartsHave (codes_of (gives l a end)) inner None outputs)
+          (λ s e. rw e given.typed) last.typed,
       tt,
     )
 

@@ -6,6 +6,7 @@ use Rattle.cf_tree.specs.declared.base.Base.{Base}
 use Rattle.cf_tree.specs.CodeTree.{arms_of}
 use Rattle.cf_tree.specs.RelTree.{RelTree}
 use Rattle.cf_tree.specs.Relation.{IsTyped, IsLinear}
+use Rattle.cf_linear.specs.declared.refusal.TheConstants.{MOST_SETS}
 use Rattle.cf_linear.specs.declared.refusal.Refusal.{Refusal}
 use Rattle.cf_linear.specs.Layout.{Layout, layout_of, set_count}
 use Rattle.cf_linear.specs.Systems.{System}
@@ -24,7 +25,7 @@ use Rattle.cf_choose.proofs.ChooseLevels.{IsFirst, each_first}
 use Rattle.cf_choose.proofs.JoinLemmas.{arms_solve, arms_typed, arms_shallow, arms_spelled}
 use Rattle.cf_choose.proofs.SomeCases.{has_arms}
 
-module _ (scope outputs : List Base) (rel : RelTree) (outs : AreOutputs outputs) (few_sets : set_count (layout_of scope outputs rel) ≤ 6) where
+module _ (scope outputs : List Base) (rel : RelTree) (outs : AreOutputs outputs) (few_sets : set_count (layout_of scope outputs rel) ≤ MOST_SETS) where
   abbrev l : Layout
   l = layout_of scope outputs rel
 
@@ -38,7 +39,8 @@ module _ (scope outputs : List Base) (rel : RelTree) (outs : AreOutputs outputs)
   each_done (m ∷ ms) f d = (done_arm m f.0 d.0, each_done ms f.1 d.1)
 
   -- the arms of all cases solve the relation
-  pub all_solved : IsTyped (scope ++ outputs) rel → IsLinear rel → EachOf (IsCaseDone l) (first_systems l rel) → ArmsSolve scope outputs rel (arms_of (map (arm_of_case limits l) (first_systems l rel)))
+  pub all_solved : IsTyped (scope ++ outputs) rel → IsLinear rel → EachOf (IsCaseDone l) (first_systems l rel) →
+      ArmsSolve scope outputs rel (arms_of (map (arm_of_case limits l) (first_systems l rel)))
   all_solved typed linear d =
       let each = each_done (first_systems l rel) (each_first l rel (placed-rel scope outputs rel typed linear)) d in
       record {
@@ -83,15 +85,18 @@ limit_is : (scope outputs : List Base) (rel : RelTree) (l : Layout) → l ≡ la
 unfolding limit
 limit_is scope outputs rel l same = ap (λ k. refusal_by choose_limits k rel) (sym same)
 
-pub refused_by_count : (scope outputs : List Base) (rel : RelTree) (l : Layout) (r : Refusal) → l ≡ layout_of scope outputs rel → case_refusal l rel ≡ Some r → limit scope outputs rel ≡ Some r
+pub refused_by_count : (scope outputs : List Base) (rel : RelTree) (l : Layout) (r : Refusal) → l ≡ layout_of scope outputs rel →
+    case_refusal l rel ≡ Some r → limit scope outputs rel ≡ Some r
 refused_by_count scope outputs rel l r same e = limit_is scope outputs rel l same ∙ count_first l rel r e
 
-pub refused_later : (scope outputs : List Base) (rel : RelTree) (l : Layout) → l ≡ layout_of scope outputs rel → case_refusal l rel ≡ None → limit scope outputs rel ≡ later_refusal l rel
+pub refused_later : (scope outputs : List Base) (rel : RelTree) (l : Layout) → l ≡ layout_of scope outputs rel → case_refusal l rel ≡ None →
+    limit scope outputs rel ≡ later_refusal l rel
 refused_later scope outputs rel l same e = limit_is scope outputs rel l same ∙ count_then l rel e
 
-pub no_limit : (scope outputs : List Base) (rel : RelTree) (l : Layout) → l ≡ layout_of scope outputs rel → case_refusal l rel ≡ None → written_passes l (negation_normal true rel) ≡ false →
+pub no_limit : (scope outputs : List Base) (rel : RelTree) (l : Layout) → l ≡ layout_of scope outputs rel → case_refusal l rel ≡ None →
+    written_passes l (negation_normal true rel) ≡ false →
     EachOf (IsCaseDone l) (first_systems l rel) → limit scope outputs rel ≡ None
 no_limit scope outputs rel l same e w d = refused_later scope outputs rel l same e ∙ rw w (none_refused l (first_systems l rel) d)
 
-pub few_sets : (l : Layout) (rel : RelTree) → case_refusal l rel ≡ None → set_count l ≤ 6
+pub few_sets : (l : Layout) (rel : RelTree) → case_refusal l rel ≡ None → set_count l ≤ MOST_SETS
 few_sets l rel e = on_bool (nat_lt choose_limits.sets (set_count l)) (λ t. let k = rw t at e in absurd (cc)) (λ t. ltb-false choose_limits.sets (set_count l) t)

@@ -1,8 +1,9 @@
 -- The levels of a choose and the columns of the first systems of its cases.
-use Rattle.std.proofs.Common.{◌≡◌, ℕ, zero, suc, ◌+◌, ◌-◌, ◌<◌, ◌≤◌, ◌^◌, ◌==◌, pos, List, [], ◌∷◌, Bool, true, false, filter, map, length, get_or, Some, refl, sym, ap, subst, arith, ◌∙◌, All}
+use Rattle.std.proofs.Common.{◌≡◌, ℕ, zero, suc, ◌+◌, ◌-◌, ◌<◌, ◌≤◌, ◌==◌, pos, List, [], ◌∷◌, Bool, true, false, filter, map, length, get_or, Some, refl}
+use Rattle.std.proofs.Common.{sym, ap, subst, arith, ◌∙◌, All}
 use Rattle.std.specs.Prelude.{slice_get}
 use Rattle.std.specs.List.{range_with_len}
-use Rattle.std.proofs.lemmas.Bool.{cond_both, eqb-true, eq-eqb, ne_eqb}
+use Rattle.std.proofs.lemmas.Bool.{cond_both, eq-eqb, ne_eqb}
 use Rattle.std.proofs.lemmas.List.Elements.{All-head, All-tail}
 use Rattle.cf_tree.specs.declared.base.Base.{Base}
 use Rattle.cf_tree.specs.declared.base.Base.TheVariants.{Int, Bool as IsTruth, Set}
@@ -44,25 +45,31 @@ once_up lo (x ∷ xs) u (suc i) h =
     rw (n, once_up (suc x) xs u.1 i (omega arith)) (omega arith)
 
 -- ---- numbers of the scope
-int_levels : (scope bs : List Base) (n : ℕ) → ((i : ℕ) (b : Base) → slice_get bs i ≡ Some b → slice_get scope (n + i) ≡ Some b) → AreInts scope (levels_with is_number n bs)
+int_levels : (scope bs : List Base) (n : ℕ) → ((i : ℕ) (b : Base) → slice_get bs i ≡ Some b → slice_get scope (n + i) ≡ Some b) →
+    AreInts scope (levels_with is_number n bs)
 int_levels scope [] n h = tt
-int_levels scope (b ∷ bs) n h = with_base b (h 0 b refl) (int_levels scope bs (n + 1) (λ i d e. let s : n + 1 + i ≡ n + suc i = omega arith in rw s (h (suc i) d e)))
+int_levels scope (b ∷ bs) n h = with_base b (h 0 b refl) (int_levels scope bs (n + 1) (λ i d e. let s : n + 1 + i ≡ n + suc i = omega arith in
+    rw s (h (suc i) d e)))
   where
-    with_base : (b : Base) → slice_get scope (n + 0) ≡ Some b → AreInts scope (levels_with is_number (n + 1) bs) → AreInts scope (levels_with is_number n (b ∷ bs))
+    with_base : (b : Base) → slice_get scope (n + 0) ≡ Some b → AreInts scope (levels_with is_number (n + 1) bs) →
+        AreInts scope (levels_with is_number n (b ∷ bs))
     with_base Int e k = let z : n + 0 ≡ n = omega arith in (subst (λ m. slice_get scope m ≡ Some Int) z e, k)
     with_base IsTruth e k = k
     with_base Set e k = k
 
 ints_filter : (scope : List Base) (q : ℕ → Bool) (xs : List ℕ) → AreInts scope xs → AreInts scope (filter q xs)
 ints_filter scope q [] h = tt
-ints_filter scope q (x ∷ xs) h = cond_both (q x) (x ∷ filter q xs) (filter q xs) (λ ys. AreInts scope ys) (λ _. (h.0, ints_filter scope q xs h.1)) (λ _. ints_filter scope q xs h.1)
+ints_filter scope q (x ∷ xs) h = cond_both (q x) (x ∷ filter q xs) (filter q xs) (λ ys. AreInts scope ys) (λ _. (h.0, ints_filter scope q xs h.1))
+    (λ _. ints_filter scope q xs h.1)
 
 module _ (scope outputs : List Base) (rel : RelTree) where
   pub numbers_once : AreOnce (layout_of scope outputs rel).numbers
-  numbers_once = once_up 0 (layout_of scope outputs rel).numbers (up_filter (λ x. rel_holds x rel) 0 (levels_with is_number 0 scope) (up_levels is_number 0 scope))
+  numbers_once = once_up 0 (layout_of scope outputs rel).numbers
+      (up_filter (λ x. rel_holds x rel) 0 (levels_with is_number 0 scope) (up_levels is_number 0 scope))
 
   pub number_levels : AreInts scope (layout_of scope outputs rel).numbers
-  number_levels = ints_filter scope (λ x. rel_holds x rel) (levels_with is_number 0 scope) (int_levels scope scope 0 (λ i b k. let z : 0 + i ≡ i = omega arith in rw z k))
+  number_levels = ints_filter scope (λ x. rel_holds x rel) (levels_with is_number 0 scope)
+      (int_levels scope scope 0 (λ i b k. let z : 0 + i ≡ i = omega arith in rw z k))
 
   -- an output that is a number has its column after the known ones
   pub output_column : (x : ℕ) → has_level (layout_of scope outputs rel).out_numbers x ≡ true →
@@ -98,7 +105,8 @@ has_outputs scope outputs rel o =
       numbers = λ x a b h.
           let k = outputs_count scope outputs rel o in
           let s : n + (x - n) ≡ x = omega arith in
-          let none : has_level l.out_sets x ≡ false = on_bool (has_level l.out_sets x) (λ t. let w = place_within x l.out_sets t in absurd (omega arith)) (λ t. t) in
+          let none : has_level l.out_sets x ≡ false = on_bool (has_level l.out_sets x) (λ t. let w = place_within x l.out_sets t in absurd (omega arith))
+          (λ t. t) in
           let e : base_at is_set outputs (x - n) ≡ false = sym (level_has is_set n outputs (x - n)) ∙ ap (has_level l.out_sets) s ∙ none in
           ap (has_level l.out_numbers) (sym s) ∙ level_has is_number n outputs (x - n) ∙ number_base outputs (x - n) o (omega arith) e;
     }

@@ -1,5 +1,6 @@
 -- Names of the parameters and of the search columns, and the values that they have.
-use Rattle.std.proofs.Common.{◌≡◌, ℕ, zero, suc, ◌+◌, ◌-◌, ◌<◌, ◌≤◌, ◌==◌, ℤ, pos, negsuc, List, [], ◌∷◌, ◌++◌, inl, inr, length, get_or, map, refl, sym, ap, subst, arith, ◌∙◌, cond, append-nil, append_assoc, length-append}
+use Rattle.std.proofs.Common.{◌≡◌, ℕ, zero, suc, ◌+◌, ◌-◌, ◌<◌, ◌≤◌, ◌==◌, ℤ, pos, negsuc, List, [], ◌∷◌, ◌++◌, inl, inr, length, get_or, map, refl, sym, ap}
+use Rattle.std.proofs.Common.{subst, arith, ◌∙◌, cond, append-nil, append_assoc, length-append}
 use Rattle.std.specs.Prelude.{true}
 use Rattle.std.proofs.lemmas.Int.{ints}
 use Rattle.std.proofs.lemmas.Bool.{eqb-true, eqb-false}
@@ -26,7 +27,8 @@ In-at (x ∷ xs) zero h = inl refl
 In-at (x ∷ xs) (suc i) h = inr (In-at xs i (omega arith))
 
 pub has-In : (x : ℕ) (xs : List ℕ) → In x xs → has_level xs x ≡ true
-has-In x (y ∷ xs) i = on_bool (y == x) (λ t. rw t refl) (λ t. rw t (elim i as (λ _. has_level xs x ≡ true) [ inl s ↦ absurd (eqb-false y x t (sym s)) | inr j ↦ has-In x xs j ]))
+has-In x (y ∷ xs) i = on_bool (y == x) (λ t. rw t refl) (λ t. rw t
+    (elim i as (λ _. has_level xs x ≡ true) [ inl s ↦ absurd (eqb-false y x t (sym s)) | inr j ↦ has-In x xs j ]))
 has-In x [] i = absurd i
 
 pub named-append : (names ns : ColumnLevels) → named (names ++ ns) ≡ named names ++ named ns
@@ -58,8 +60,10 @@ last_name names c n d (inr i) =
       | inr j ↦ elim j as (λ _. HasName ((c, n) ∷ names) d) [ inl s ↦ inr (inl s) | inr e ↦ absurd e ]
     ]
 
-last_agrees : (names : ColumnLevels) (e : List Value) (v : Values) (c n : ℕ) → (In c (named names) → ⊥) → Agrees ((c, n) ∷ names) e v → Agrees (names ++ (c, n) ∷ []) e v
-last_agrees names e v c n fresh a d h = ap (λ x. cond (d == 0) (pos 1) (number_of (value_at e x))) (level-last names c n d fresh) ∙ a d (last_name names c n d h)
+last_agrees : (names : ColumnLevels) (e : List Value) (v : Values) (c n : ℕ) → (In c (named names) → ⊥) → Agrees ((c, n) ∷ names) e v →
+    Agrees (names ++ (c, n) ∷ []) e v
+last_agrees names e v c n fresh a d h = ap (λ x. cond (d == 0) (pos 1) (number_of (value_at e x))) (level-last names c n d fresh) ∙
+    a d (last_name names c n d h)
 
 numbers-append : (bases : List Base) (names ns : ColumnLevels) → AreNumbers bases names → AreNumbers bases ns → AreNumbers bases (names ++ ns)
 numbers-append bases [] ns h k = k
@@ -84,18 +88,23 @@ one_more_name names ns c n P h = subst P (append_assoc names ((c, n) ∷ []) ns)
 one_more_value : (env vs : List Value) (z : ℤ) (P : List Value → Type 0) → P ((env ++ (number z ∷ [])) ++ vs) → P (env ++ (number z ∷ vs))
 one_more_value env vs z P h = subst P (append_assoc env (number z ∷ []) vs) h
 
-last_numbers : (bases : List Base) (names : ColumnLevels) (c n : ℕ) → n ≡ length bases → AreNumbers bases names → AreNumbers (bases ++ (Int ∷ [])) (names ++ ((c, n) ∷ []))
-last_numbers bases names c n e h = numbers-append (bases ++ (Int ∷ [])) names ((c, n) ∷ []) (numbers_more bases (Int ∷ []) names h) (slice_get-end bases n e, tt)
+last_numbers : (bases : List Base) (names : ColumnLevels) (c n : ℕ) → n ≡ length bases → AreNumbers bases names →
+    AreNumbers (bases ++ (Int ∷ [])) (names ++ ((c, n) ∷ []))
+last_numbers bases names c n e h = numbers-append (bases ++ (Int ∷ [])) names ((c, n) ∷ []) (numbers_more bases (Int ∷ []) names h)
+    (slice_get-end bases n e, tt)
 
 pub search_numbers : (bases : List Base) (bounds : List (ℕ × ℕ)) (names : ColumnLevels) (n : ℕ) → n ≡ length bases → AreNumbers bases names →
     AreNumbers (bases ++ ints_of (bounds_of bounds)) (names ++ search_names n bounds)
-search_numbers bases [] names n e h = subst (λ bs. AreNumbers bs (names ++ [])) (sym (append-nil bases)) (subst (λ ns. AreNumbers bases ns) (sym (append-nil names)) h)
+search_numbers bases [] names n e h = subst (λ bs. AreNumbers bs (names ++ [])) (sym (append-nil bases))
+    (subst (λ ns. AreNumbers bases ns) (sym (append-nil names)) h)
 search_numbers bases ((c, p) ∷ bounds) names n e h =
-    let s = search_numbers (bases ++ (Int ∷ [])) bounds (names ++ ((c, n) ∷ [])) (n + 1) (omega (arith, length-append bases (Int ∷ []))) (last_numbers bases names c n e h) in
+    let s = search_numbers (bases ++ (Int ∷ [])) bounds (names ++ ((c, n) ∷ [])) (n + 1) (omega (arith, length-append bases (Int ∷ [])))
+    (last_numbers bases names c n e h) in
     one_more_bases bases (ints_of (bounds_of bounds)) (λ bs. AreNumbers bs (names ++ ((c, n) ∷ search_names (n + 1) bounds)))
     (one_more_name names (search_names (n + 1) bounds) c n (λ ns. AreNumbers ((bases ++ (Int ∷ [])) ++ ints_of (bounds_of bounds)) ns) s)
 
-pub search_have : (bases : List Base) (bounds ks : List ℕ) (env : List Value) → HaveBases bases env → IsBelow bounds ks → HaveBases (bases ++ ints_of bounds) (env ++ tuple_of ks)
+pub search_have : (bases : List Base) (bounds ks : List ℕ) (env : List Value) → HaveBases bases env → IsBelow bounds ks →
+    HaveBases (bases ++ ints_of bounds) (env ++ tuple_of ks)
 search_have bases [] [] env h b = subst (λ bs. HaveBases bs (env ++ [])) (sym (append-nil bases)) (subst (λ vs. HaveBases bases vs) (sym (append-nil env)) h)
 search_have bases [] (k ∷ ks) env h b = absurd b
 search_have bases (p ∷ bounds) [] env h b = absurd b
@@ -115,7 +124,8 @@ last_earlier names lo c n l h d i =
       | inr j ↦ elim j as (λ _. d < suc c) [ inl s ↦ omega arith | inr e ↦ absurd e ]
     ]
 
-pub search_agrees : (bases : List Base) (bounds : List (ℕ × ℕ)) (names : ColumnLevels) (n lo hi : ℕ) (env : List Value) (v : Values) (ks : List ℕ) → n ≡ length bases → AreNumbers bases names →
+pub search_agrees : (bases : List Base) (bounds : List (ℕ × ℕ)) (names : ColumnLevels) (n lo hi : ℕ) (env : List Value) (v : Values) (ks : List ℕ) →
+    n ≡ length bases → AreNumbers bases names →
     HaveBases bases env → AreEarlier lo names → 1 ≤ lo → Rising lo hi (search_columns bounds) → IsBelow (bounds_of bounds) ks → Agrees names env v →
     Agrees (names ++ search_names n bounds) (env ++ tuple_of ks) (set_tuple v bounds (wholes ks))
 search_agrees bases [] names n lo hi env v [] e h have early some rise below a =
@@ -126,11 +136,15 @@ search_agrees bases ((c, p) ∷ bounds) names n lo hi env v (k ∷ ks) e h have 
     let l = rise.0 in
     let fresh : In c (named names) → ⊥ = λ i. let m = early c i in omega arith in
     let same : n ≡ length env = e ∙ sym (length_have bases env have) in
-    let one = last_agrees names (env ++ (number (pos k) ∷ [])) (update v c (pos k)) c n fresh (let_agrees bases names env v c n (pos k) (omega arith) h have same a) in
+    let one = last_agrees names (env ++ (number (pos k) ∷ [])) (update v c (pos k)) c n fresh
+    (let_agrees bases names env v c n (pos k) (omega arith) h have same a) in
     let s = search_agrees (bases ++ (Int ∷ [])) bounds (names ++ ((c, n) ∷ [])) (n + 1) (suc c) hi (env ++ (number (pos k) ∷ [])) (update v c (pos k)) ks
-    (omega (arith, length-append bases (Int ∷ []))) (last_numbers bases names c n e h) (have_more bases env (pos k) have) (last_earlier names lo c n l early) (omega arith) rise.1 below.1 one in
-    one_more_name names (search_names (n + 1) bounds) c n (λ ns. Agrees ns (env ++ (number (pos k) ∷ tuple_of ks)) (set_tuple (update v c (pos k)) bounds (wholes ks)))
-    (one_more_value env (tuple_of ks) (pos k) (λ vs. Agrees ((names ++ ((c, n) ∷ [])) ++ search_names (n + 1) bounds) vs (set_tuple (update v c (pos k)) bounds (wholes ks))) s)
+    (omega (arith, length-append bases (Int ∷ []))) (last_numbers bases names c n e h) (have_more bases env (pos k) have)
+    (last_earlier names lo c n l early) (omega arith) rise.1 below.1 one in
+    one_more_name names (search_names (n + 1) bounds) c n (λ ns. Agrees ns (env ++ (number (pos k) ∷ tuple_of ks))
+    (set_tuple (update v c (pos k)) bounds (wholes ks)))
+    (one_more_value env (tuple_of ks) (pos k) (λ vs. Agrees ((names ++ ((c, n) ∷ [])) ++ search_names (n + 1) bounds) vs
+    (set_tuple (update v c (pos k)) bounds (wholes ks))) s)
 
 pub search_named : (n c : ℕ) (bounds : List (ℕ × ℕ)) → In c (search_columns bounds) → In c (named (search_names n bounds))
 search_named n c [] i = absurd i
@@ -177,7 +191,11 @@ named_parameter l c (y ∷ xs) (inr i) = let r = named_parameter l c xs i in (r.
 pub place-within : (x : ℕ) (xs : List ℕ) → In x xs → place x xs < length xs
 place-within x [] i = absurd i
 place-within x (y ∷ xs) i = on_bool (y == x) (λ t. rw t (omega arith))
-    (λ t. rw t (elim i as (λ _. 1 + place x xs < length (y ∷ xs)) [ inl s ↦ absurd (eqb-false y x t (sym s)) | inr j ↦ let l = place-within x xs j in omega arith ]))
+    (λ t. rw t (elim i as (λ _. 1 + place x xs < length (y ∷ xs)) [
+      | inl s ↦ absurd (eqb-false y x t (sym s))
+      | inr j ↦ let l = place-within x xs j in
+          omega arith
+    ]))
 
 pub column_is : (l : Layout) (x : ℕ) → In x l.numbers → number_column l x ≡ 1 + place x l.numbers
 column_is l x i = rw (has-In x l.numbers i) refl

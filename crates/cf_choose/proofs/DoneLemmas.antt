@@ -1,8 +1,9 @@
 -- A case that is done: its parts have a spelling, and its arm is that of the definitions.
-use Rattle.std.proofs.Common.{◌≡◌, ℕ, zero, suc, ◌+◌, ◌*◌, ◌^◌, ◌<◌, ◌≤◌, ℤ, List, [], ◌∷◌, ◌++◌, All, map, length, reverse, sym, ap, subst, arith, ◌∙◌}
+use Rattle.std.proofs.Common.{◌≡◌, ℕ, ◌+◌, ◌*◌, ◌^◌, ◌<◌, ◌≤◌, ℤ, List, [], ◌∷◌, ◌++◌, map, length, reverse, sym, ap, subst, arith, ◌∙◌}
 use Rattle.std.proofs.lemmas.List.{length-map, reverse-append}
 use Rattle.cf_tree.specs.declared.code.Arm.{Arm}
 use Rattle.cf_tree.specs.CodeView.{arm_tree}
+use Rattle.cf_linear.specs.declared.refusal.TheConstants.{MOST_SETS}
 use Rattle.cf_linear.specs.declared.system.Layout.{Layout}
 use Rattle.cf_linear.specs.declared.system.System.{System as DeclaredSystem}
 use Rattle.cf_linear.specs.Arm.{arm}
@@ -46,10 +47,19 @@ same_length : {A B : Type 0} (f : A → B) (xs : List A) (ys : List B) → map f
 same_length f xs ys e = sym (ap length e) ∙ length-map xs f
 
 eliminated : (p : CaseParts) → IsSolvedCase p → IsEliminated (first_of p) (made (first_of p))
-eliminated p i = subst (IsEliminated (first_of p)) i.made (record { solved = i.solves; owes = i.owes; comes = i.returns.comes; done = i.done; steps = i.returns.steps; back = i.returns.back; bounds = i.bounds })
+eliminated p i = subst (IsEliminated (first_of p)) i.made (record {
+  solved = i.solves;
+  owes = i.owes;
+  comes = i.returns.comes;
+  done = i.done;
+  steps =
+      i.returns.steps;
+  back = i.returns.back;
+  bounds = i.bounds;
+})
 
 -- ---- levels and columns of 32 bits
-module _ (lay : Layout) (p : CaseParts) (few : set_count (plain_layout lay) ≤ 6) (room : HasRoom lay p) where
+module _ (lay : Layout) (p : CaseParts) (few : set_count (plain_layout lay) ≤ MOST_SETS) (room : HasRoom lay p) where
   pub free_fits : first_free (plain_layout lay) < 2 ^ 32
   free_fits =
       let n = room.numbers in
@@ -65,7 +75,8 @@ module _ (lay : Layout) (p : CaseParts) (few : set_count (plain_layout lay) ≤ 
   pub outputs_fit : lay.scope + (length lay.out_numbers.items + length lay.out_sets.items) < 2 ^ 32
   outputs_fit = let s = room.scope in let o = room.outputs in omega arith
 
-pub arm_for : (lay : Layout) (p : CaseParts) (a : Arm) → set_count (plain_layout lay) ≤ 6 → IsSolvedCase p → HasRoom lay p → StepsFit (map step_of p.steps.items) → BackFits (map back_of p.back.items) →
+pub arm_for : (lay : Layout) (p : CaseParts) (a : Arm) → set_count (plain_layout lay) ≤ MOST_SETS → IsSolvedCase p → HasRoom lay p →
+    StepsFit (map step_of p.steps.items) → BackFits (map back_of p.back.items) →
     arm_tree a ≡ arm (plain_layout lay) (answer_of p.bounds.items p.steps.items p.back.items) → IsArmFor (plain_layout lay) p a
 arm_for lay p a few i room f g e =
     let all : Answer = made (first_of p) in

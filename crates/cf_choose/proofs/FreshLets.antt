@@ -1,5 +1,5 @@
 -- The let of the fresh numbers, which stands last where there are output sets.
-use Rattle.std.proofs.Common.{◌≡◌, ℕ, zero, suc, ◌+◌, ◌<◌, ◌≤◌, ◌^◌, List, [], ◌∷◌, ◌++◌, length, Some, true, false, refl, sym, arith, ◌∙◌, append-nil, length-append}
+use Rattle.std.proofs.Common.{◌≡◌, ℕ, ◌+◌, ◌≤◌, List, [], ◌∷◌, ◌++◌, length, Some, false, refl, sym, arith, ◌∙◌, append-nil, length-append}
 use Rattle.std.specs.Prelude.{slice_get, None, nat_lt}
 use Rattle.std.proofs.lemmas.Bool.{ltb-false}
 use Rattle.cf_tree.specs.declared.base.Base.{Base}
@@ -30,7 +30,8 @@ pub record IsEnded (start from : List Base) (l : Layout) (k : ArmBuilder) (items
   pub fresh : 1 ≤ length l.out_sets → slice_get bases k.level ≡ Some Set
   pub forth : (env e : List Value) → Leads k.items env e → (d : List Value) × Leads items env d
   pub back : (env d : List Value) → HaveBases start env → Leads items env d →
-      (e : List Value) × Leads k.items env e × ((more : List Value) × (d ≡ e ++ more)) × ((v : Value) → 1 ≤ length l.out_sets → (path (fresh_code l k.names) e).gives ≡ got (v ∷ []) → value_at d k.level ≡ v)
+      (e : List Value) × Leads k.items env e × ((more : List Value) × (d ≡ e ++ more)) ×
+      ((v : Value) → 1 ≤ length l.out_sets → (path (fresh_code l k.names) e).gives ≡ got (v ∷ []) → value_at d k.level ≡ v)
 
 -- a let without a solve adds values
 let_reaches : (c : CodeTree) (e : List Value) → HasNoSolve c → (more : List Value) × Leads (let_item c ∷ []) e (e ++ more)
@@ -61,8 +62,13 @@ module _ (start from : List Base) (l : Layout) (k : ArmBuilder) (made : IsMade s
     forth = λ env e h. let r = let_reaches code e form.plain in (e ++ r.0, leads_forth k.items (let_item code ∷ []) env e (e ++ r.0) h r.1);
     back = λ env d have h.
         let s = leads_back k.items (let_item code ∷ []) env d h in
-        let i = made.have env s.0 have s.1 in
-        (s.0, s.1, let_more code s.0 d form.plain s.2, λ w some g. rw (← let_found code s.0 d w g s.2) (value_at-end s.0 w k.level (made.level ∙ sym (length_have from s.0 i))));
+        let i = made.have env s.0 have s.1 in (
+          s.0,
+          s.1,
+          let_more code s.0 d form.plain s.2,
+          λ w some g. rw (← let_found code s.0 d w g s.2)
+              (value_at-end s.0 w k.level (made.level ∙ sym (length_have from s.0 i))),
+        );
   }
 
   without_let : nat_lt 0 (length l.out_sets) ≡ false → IsEnded start from l k k.items

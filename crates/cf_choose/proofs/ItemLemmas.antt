@@ -14,7 +14,7 @@ use Rattle.cf_tree.specs.Numbers.{quotient, remainder, is_multiple}
 use Rattle.cf_tree.specs.Relation.{IsDivisor}
 use Rattle.cf_tree.specs.Spelled.{AreItemsSpelled, IsSpelled}
 use Rattle.cf_tree.specs.Typing.{one, ask, HasBases, HasNoSolve, ItemsHave, ItemsHaveNoSolve}
-use Rattle.cf_tree.specs.Values.{Value, number, truth, HaveBases}
+use Rattle.cf_tree.specs.Values.{Value, truth, HaveBases}
 use Rattle.cf_tree.proofs.SetLemmas.{lt_is, lt_not, eq_is, eq_same}
 use Rattle.cf_linear.specs.Relations.{Divides}
 use Rattle.cf_choose.proofs.RowCodes.{Computes}
@@ -25,13 +25,13 @@ use Rattle.cf_cases.proofs.AtomLaws.{zero_gap}
 abbrev pub Leads : List ItemTree → List Value → List Value → Type 0
 Leads is env e = (items_path (items_of is) env).gives ≡ got (Some e)
 
-some_once : (e e' : List Value) → got (Some e) ≡ got (Some e') → e ≡ e'
+pub some_once : (e e' : List Value) → got (Some e) ≡ got (Some e') → e ≡ e'
 some_once e e' h = cc
 
-none_is_some : (e : List Value) → got None ≡ got (Some e) → ⊥
+pub none_is_some : (e : List Value) → got None ≡ got (Some e) → ⊥
 none_is_some e h = cc
 
-stop_is_some : (n : ℕ) (e : List Value) → none_at n ≡ got (Some e) → ⊥
+pub stop_is_some : (n : ℕ) (e : List Value) → none_at n ≡ got (Some e) → ⊥
 stop_is_some n e h = cc
 
 pub split_some : (g : Got (Option (List Value))) (go : List Value → Path (Option (List Value))) (e : List Value) →
@@ -59,13 +59,15 @@ leads_back (i ∷ is) js env e h =
     let r = leads_back is js s.0 e s.2 in
     (r.0, lead_first i is env s.0 r.0 s.1 r.1, r.2)
 
-pub have_then : (is js : List ItemTree) (scope mid : List Base) (Q : List Base → Type 0) → ItemsHave (items_of is) scope (λ s. s ≡ mid) → ItemsHave (items_of js) mid Q →
+pub have_then : (is js : List ItemTree) (scope mid : List Base) (Q : List Base → Type 0) → ItemsHave (items_of is) scope (λ s. s ≡ mid) →
+    ItemsHave (items_of js) mid Q →
     ItemsHave (items_of (is ++ js)) scope Q
 have_then [] js scope mid Q h k = rw h k
 have_then (let_item c ∷ is) js scope mid Q h k = (h.0, h.1, have_then is js (scope ++ one h.0) mid Q h.2 k)
 have_then (need_item c ∷ is) js scope mid Q h k = (h.0, have_then is js scope mid Q h.1 k)
 
-pub have_weaker : (is : List ItemTree) (scope : List Base) (P Q : List Base → Type 0) → ((s : List Base) → P s → Q s) → ItemsHave (items_of is) scope P → ItemsHave (items_of is) scope Q
+pub have_weaker : (is : List ItemTree) (scope : List Base) (P Q : List Base → Type 0) → ((s : List Base) → P s → Q s) → ItemsHave (items_of is) scope P →
+    ItemsHave (items_of is) scope Q
 have_weaker [] scope P Q f h = f scope h
 have_weaker (let_item c ∷ is) scope P Q f h = (h.0, h.1, have_weaker is (scope ++ one h.0) P Q f h.2)
 have_weaker (need_item c ∷ is) scope P Q f h = (h.0, have_weaker is scope P Q f h.1)
@@ -104,7 +106,8 @@ pub record Tests (scope : List Base) (c : CodeTree) (w : List Value → Bool) : 
   pub shallow : code_depth c ≤ 5
   pub means : (e : List Value) → HaveBases scope e → (path c e).gives ≡ got (truth (w e) ∷ [])
 
-need_step : (c : CodeTree) (e : List Value) (b : Bool) → (path c e).gives ≡ got (truth b ∷ []) → (items_path (items_of (need_item c ∷ [])) e).gives ≡ got (cond b (Some e) None)
+need_step : (c : CodeTree) (e : List Value) (b : Bool) → (path c e).gives ≡ got (truth b ∷ []) →
+    (items_path (items_of (need_item c ∷ [])) e).gives ≡ got (cond b (Some e) None)
 need_step c e b h = rw h (ends b)
   where
     ends : (b : Bool) → then_gives (got (cond b (Some e) None)) (λ next. (if_some next (items_path (items_of []))).gives) ≡ got (cond b (Some e) None)
@@ -121,7 +124,8 @@ where_some true e d h = (refl, some_once e d h)
 pub need_found : (c : CodeTree) (e d : List Value) (b : Bool) → (path c e).gives ≡ got (truth b ∷ []) → Leads (need_item c ∷ []) e d → (b ≡ true) × (e ≡ d)
 need_found c e d b h l = where_some b e d (sym (need_step c e b h) ∙ l)
 
-pub nonneg_tests : (scope : List Base) (c : CodeTree) (w : List Value → ℤ) → Computes 3 scope c w → Tests scope (code_compare Ge c (code_lit (pos 0))) (λ e. not (int_lt (w e) (pos 0)))
+pub nonneg_tests : (scope : List Base) (c : CodeTree) (w : List Value → ℤ) → Computes 3 scope c w →
+    Tests scope (code_compare Ge c (code_lit (pos 0))) (λ e. not (int_lt (w e) (pos 0)))
 nonneg_tests scope c w h = record {
   typed = (Int, refl, h.code.typed (Some (one Int)) refl, (refl, refl), (refl, refl));
   plain = (h.code.plain, tt);
@@ -130,7 +134,8 @@ nonneg_tests scope c w h = record {
   means = λ e have. rw (h.means e have) refl;
 }
 
-pub zero_tests : (scope : List Base) (c : CodeTree) (w : List Value → ℤ) → Computes 3 scope c w → Tests scope (code_compare Eq c (code_lit (pos 0))) (λ e. int_eq (w e) (pos 0))
+pub zero_tests : (scope : List Base) (c : CodeTree) (w : List Value → ℤ) → Computes 3 scope c w →
+    Tests scope (code_compare Eq c (code_lit (pos 0))) (λ e. int_eq (w e) (pos 0))
 zero_tests scope c w h = record {
   typed = (Int, tt, h.code.typed None tt, (refl, tt), (refl, refl));
   plain = (h.code.plain, tt);
@@ -139,7 +144,8 @@ zero_tests scope c w h = record {
   means = λ e have. rw (h.means e have) refl;
 }
 
-pub divides_tests : (scope : List Base) (g : ℤ) (c : CodeTree) (w : List Value → ℤ) → IsDivisor g → Computes 3 scope c w → Tests scope (code_divides g c) (λ e. is_multiple g (w e))
+pub divides_tests : (scope : List Base) (g : ℤ) (c : CodeTree) (w : List Value → ℤ) → IsDivisor g → Computes 3 scope c w →
+    Tests scope (code_divides g c) (λ e. is_multiple g (w e))
 divides_tests scope g c w d h = record {
   typed = (d.0, h.code.typed (Some (one Int)) refl, (refl, refl));
   plain = h.code.plain;
@@ -157,7 +163,10 @@ not_true true h = absurd (h refl)
 not_true false h = refl
 
 pub nonneg_need : (z : ℤ) → (not (int_lt z (pos 0)) ≡ true) ↔ (pos 0 ≤ℤ z)
-nonneg_need z = ((λ h. lt_not z (pos 0) (true_or_false (int_lt z (pos 0)) h)), (λ h. not_true (int_lt z (pos 0)) (λ t. let l = lt_is z (pos 0) t in omega (arith, ints))))
+nonneg_need z = (
+  (λ h. lt_not z (pos 0) (true_or_false (int_lt z (pos 0)) h)),
+  (λ h. not_true (int_lt z (pos 0)) (λ t. let l = lt_is z (pos 0) t in omega (arith, ints))),
+)
 
 pub zero_need : (z : ℤ) → (int_eq z (pos 0) ≡ true) ↔ (z ≡ pos 0)
 zero_need z = ((λ h. eq_is z (pos 0) h), (λ h. eq_same z (pos 0) h))

@@ -1,5 +1,5 @@
 -- The arms of all cases together solve the relation.
-use Rattle.std.proofs.Common.{◌≡◌, ℕ, ◌≤◌, List, [], ◌∷◌, ◌++◌, inl, inr, length, map, arith}
+use Rattle.std.proofs.Common.{ℕ, ◌≤◌, List, [], ◌∷◌, ◌++◌, inl, inr, length, map, arith}
 use Rattle.cf_tree.specs.declared.base.Base.{Base}
 use Rattle.cf_tree.specs.CodeTree.{ArmTree, arm_of, ArmTrees, no_arms, arm_more, arms_of, arms_depth}
 use Rattle.cf_tree.specs.RelTree.{RelTree}
@@ -66,7 +66,8 @@ module _ (scope outputs : List Base) (rel : RelTree) (f : System → ArmTree) wh
       each_gives ms r.1 q.1,
     )
 
-  pub arms_solve : IsTyped (scope ++ outputs) rel → IsLinear rel → AreOutputs outputs → EachOf IsArm (first_systems l rel) → Solves scope outputs rel (arms_of (map f (first_systems l rel)))
+  pub arms_solve : IsTyped (scope ++ outputs) rel → IsLinear rel → AreOutputs outputs → EachOf IsArm (first_systems l rel) →
+      Solves scope outputs rel (arms_of (map f (first_systems l rel)))
   arms_solve typed linear outs each = record {
     holds = λ env have.
         let s = solved_by_counts scope outputs rel typed linear outs env have in (
@@ -80,7 +81,8 @@ module _ (scope outputs : List Base) (rel : RelTree) (f : System → ArmTree) wh
   arms_typed [] r = tt
   arms_typed (m ∷ ms) r = typed_more (f m) (arms_of (map f ms)) r.0.typed (arms_typed ms r.1)
     where
-      typed_more : (a : ArmTree) (arms : ArmTrees) → ArmsHave (arm_more a no_arms) scope outputs → ArmsHave arms scope outputs → ArmsHave (arm_more a arms) scope outputs
+      typed_more : (a : ArmTree) (arms : ArmTrees) → ArmsHave (arm_more a no_arms) scope outputs → ArmsHave arms scope outputs →
+          ArmsHave (arm_more a arms) scope outputs
       typed_more (arm_of bounds is gs) arms h k = (h.0, h.1, h.2, h.3, k)
 
   pub arms_shallow : (ms : List System) → EachOf IsArm ms → arms_depth (arms_of (map f ms)) ≤ 16

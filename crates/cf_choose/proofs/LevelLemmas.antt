@@ -1,5 +1,6 @@
 -- Lists of levels, and the codes of outputs, one more at a time.
-use Rattle.std.proofs.Common.{◌≡◌, ℕ, suc, ◌+◌, ◌-◌, ◌<◌, ◌≤◌, List, [], ◌∷◌, ◌++◌, Bool, true, false, cond, filter, map, drop, length, get_or, refl, ap, ◌∙◌, arith, append_assoc, append-nil, drop-cons}
+use Rattle.std.proofs.Common.{◌≡◌, ℕ, suc, ◌+◌, ◌-◌, ◌<◌, ◌≤◌, List, [], ◌∷◌, ◌++◌, Bool, true, false, cond, filter, map, drop, length, get_or, refl, ap, ◌∙◌}
+use Rattle.std.proofs.Common.{arith, append_assoc, append-nil, drop-cons}
 use Rattle.std.specs.List.{range_with_len}
 use Rattle.std.proofs.lemmas.List.{map-append}
 use Rattle.std.proofs.lemmas.List.FromFn.{map-range_with_len_more}
@@ -12,13 +13,15 @@ use Rattle.cf_linear.specs.Layout.{Layout, levels_with, number_column}
 use Rattle.cf_setwit.specs.Naming.{IsNamed}
 use Rattle.cf_choose.specs.ArmBuilders.{SameColumnLevels}
 
-added : {A : Type 0} (out next rest whole : List A) (x : A) (p t : Bool) → t ≡ p → next ≡ out ++ cond t (x ∷ []) [] → out ++ cond p (x ∷ rest) rest ≡ whole → next ++ rest ≡ whole
+added : {A : Type 0} (out next rest whole : List A) (x : A) (p t : Bool) → t ≡ p → next ≡ out ++ cond t (x ∷ []) [] → out ++
+    cond p (x ∷ rest) rest ≡ whole → next ++ rest ≡ whole
 added out next rest whole x true true e n h = rw (n, append_assoc out (x ∷ []) rest) h
 added out next rest whole x false false e n h = rw (n, append-nil out) h
 added out next rest whole x true false e n h = absurd (cc)
 added out next rest whole x false true e n h = absurd (cc)
 
-pub levels_more : (p : Base → Bool) (n i : ℕ) (bases : List Base) (d : Base) (t : Bool) (x : ℕ) (out next whole : List ℕ) → i < length bases → t ≡ p (get_or bases i d) → x ≡ n + i →
+pub levels_more : (p : Base → Bool) (n i : ℕ) (bases : List Base) (d : Base) (t : Bool) (x : ℕ) (out next whole : List ℕ) → i < length bases →
+    t ≡ p (get_or bases i d) → x ≡ n + i →
     next ≡ out ++ cond t (x ∷ []) [] → out ++ levels_with p (n + i) (drop i bases) ≡ whole → next ++ levels_with p (n + (i + 1)) (drop (i + 1) bases) ≡ whole
 levels_more p n i bases d t x out next whole h te xe ne inv =
     let k = drop-cons bases i d h in
@@ -41,8 +44,10 @@ pub gives_more : (f : ℕ → CodeTree) (codes next : List Code) (code : Code) (
 gives_more f codes next code a i j e c s h = rw (e, map-append code_tree codes (code ∷ []), h, map-range_with_len_more f a i j s, c) refl
 
 -- a parameter before the others
-pub named_before : (l : Layout) (xs : List ℕ) (rest old new : ColumnLevels) (i level column d : ℕ) → 0 < i → i ≤ length xs → level ≡ get_or xs (i - 1) d → column ≡ number_column l level →
-    IsNamed old column level new → SameColumnLevels old (map (λ x. (number_column l x, x)) (drop i xs) ++ rest) → SameColumnLevels new (map (λ x. (number_column l x, x)) (drop (i - 1) xs) ++ rest)
+pub named_before : (l : Layout) (xs : List ℕ) (rest old new : ColumnLevels) (i level column d : ℕ) → 0 < i → i ≤ length xs → level ≡ get_or xs (i - 1) d →
+    column ≡ number_column l level →
+    IsNamed old column level new → SameColumnLevels old (map (λ x. (number_column l x, x)) (drop i xs) ++ rest) →
+    SameColumnLevels new (map (λ x. (number_column l x, x)) (drop (i - 1) xs) ++ rest)
 named_before l xs rest old new i level column z some h e c named same d =
     let s : suc (i - 1) ≡ i = omega arith in
     let k : drop (i - 1) xs ≡ level ∷ drop i xs = drop-cons xs (i - 1) z (omega arith) ∙ rw (← e) (ap (λ j. level ∷ drop j xs) s) in

@@ -19,3 +19,5 @@ pub mod SomeCases
 pub mod StepLemmas
 pub mod SystemLaws
 pub mod TurnedRows
+pub mod FirstRows
+pub mod DefinedArms

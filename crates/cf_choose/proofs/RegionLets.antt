@@ -1,25 +1,26 @@
 -- The lets of the regions of the input sets and of their sizes: what they are over bases, and which columns they name.
-use Rattle.std.proofs.Common.{◌≡◌, ℕ, zero, suc, ◌+◌, ◌-◌, ◌*◌, ◌<◌, ◌≤◌, ◌^◌, ◌==◌, ℤ, pos, List, [], ◌∷◌, ◌++◌, ◌⊎◌, inl, inr, length, Some, true, refl, sym, ap, subst, arith, ◌∙◌, append-nil, append_assoc, length-append}
-use Rattle.std.specs.Prelude.{slice_get, Option, None, IsTrue}
+use Rattle.std.proofs.Common.{◌≡◌, ℕ, zero, suc, ◌+◌, ◌-◌, ◌*◌, ◌<◌, ◌≤◌, ◌^◌, ◌==◌, ℤ, pos, List, [], ◌∷◌, ◌++◌, ◌⊎◌, inl, inr, length, Some, true, refl}
+use Rattle.std.proofs.Common.{sym, ap, subst, arith, ◌∙◌, append-nil, append_assoc, length-append}
+use Rattle.std.specs.Prelude.{slice_get}
 use Rattle.std.specs.List.{range_with_len, fold}
 use Rattle.std.proofs.lemmas.Bool.{eqb-true, eqb-false}
-use Rattle.std.proofs.lemmas.Nat.{pow_pos}
 use Rattle.std.proofs.lemmas.Option.{slice_get_within}
 use Rattle.cf_tree.specs.declared.base.Base.{Base}
 use Rattle.cf_tree.specs.declared.base.Base.TheVariants.{Int, Bool as IsTruth, Set}
-use Rattle.cf_tree.specs.CodeTree.{CodeTree, code_var, code_card}
+use Rattle.cf_tree.specs.CodeTree.{code_var, code_card}
 use Rattle.cf_tree.specs.Meaning.{Got, got, none_at, outcome_of, path}
 use Rattle.cf_tree.specs.RelTree.{RelTree}
 use Rattle.cf_tree.specs.Sets.{IsRising}
 use Rattle.cf_tree.specs.Typing.{one}
-use Rattle.cf_tree.specs.Values.{Value, number, elements, elements_of, value_at, values, HasBase, HaveBases}
+use Rattle.cf_tree.specs.Values.{Value, elements, elements_of, value_at, values, HaveBases}
 use Rattle.cf_tree.proofs.RisingLemmas.{rising_filter}
-use Rattle.cf_linear.specs.Arm.{ColumnLevels, ArmBuilder, let_named, let_region, region_code}
+use Rattle.cf_linear.specs.declared.refusal.TheConstants.{MOST_SETS}
+use Rattle.cf_linear.specs.Arm.{ArmBuilder, let_region, region_code}
 use Rattle.cf_linear.specs.Keep.{In}
-use Rattle.cf_linear.specs.Layout.{Layout, layout_of, is_set, levels_with, rel_holds, has_level, masks, input_column}
+use Rattle.cf_linear.specs.Layout.{Layout, layout_of, is_set, levels_with, rel_holds, input_column}
 use Rattle.cf_linear.proofs.BoolLemmas.{on_bool}
 use Rattle.cf_venn.specs.Codes.{HoldsInputs}
-use Rattle.cf_venn.specs.Forms.{IsCodeOf, InputsTyped}
+use Rattle.cf_venn.specs.Forms.{InputsTyped}
 use Rattle.cf_venn.specs.Masks.{sets_at, mask, union_all, region}
 use Rattle.cf_venn.proofs.FormLaws.{region_codes_fit}
 use Rattle.cf_venn.proofs.LevelLaws.{base_at, level_at, has_unfiltered}
@@ -30,7 +31,8 @@ use Rattle.cf_choose.proofs.ArmBuilderLemmas.{IsMade, Makes, alone_made, let_mad
 use Rattle.cf_choose.proofs.RowCodes.{named, Computes}
 
 -- ---- sets of an environment
-pub set_value_at : (bases : List Base) (e : List Value) (x : ℕ) → HaveBases bases e → slice_get bases x ≡ Some Set → (zs : List ℤ) × (value_at e x ≡ elements zs) × IsRising zs
+pub set_value_at : (bases : List Base) (e : List Value) (x : ℕ) → HaveBases bases e → slice_get bases x ≡ Some Set → (zs : List ℤ) ×
+    (value_at e x ≡ elements zs) × IsRising zs
 set_value_at [] [] x h s = absurd (cc)
 set_value_at [] (v ∷ e) x h s = absurd h
 set_value_at (b ∷ bases) [] x h s = absurd h
@@ -60,7 +62,8 @@ values_got : (g : Got (List Value)) (vs : List Value) → outcome_of g ≡ value
 values_got (got us) vs h = cc
 values_got (none_at n) vs h = cc
 
-size_computes : (bases : List Base) (x : ℕ) → length bases ≤ 2 ^ 32 → slice_get bases x ≡ Some Set → Computes 6 bases (code_card (code_var x)) (λ e. pos (length (elements_of (value_at e x))))
+size_computes : (bases : List Base) (x : ℕ) → length bases ≤ 2 ^ 32 → slice_get bases x ≡ Some Set →
+    Computes 6 bases (code_card (code_var x)) (λ e. pos (length (elements_of (value_at e x))))
 size_computes bases x few s = record {
   code = record {
     typed = λ asked m. ((Set, s, (refl, refl)), (refl, m));
@@ -97,7 +100,7 @@ typed_more : (bases more : List Base) (l : Layout) → InputsTyped bases l → I
 typed_more bases more l t x i = slice_get-more bases more x Set (t x i)
 
 -- ---- the lets
-module _ (scope outputs : List Base) (rel : RelTree) (few_sets : length (layout_of scope outputs rel).inputs ≤ 6) where
+module _ (scope outputs : List Base) (rel : RelTree) (few_sets : length (layout_of scope outputs rel).inputs ≤ MOST_SETS) where
   abbrev l : Layout
   l = layout_of scope outputs rel
 
@@ -107,8 +110,14 @@ module _ (scope outputs : List Base) (rel : RelTree) (few_sets : length (layout_
         let f = region_codes_fit bases (omega arith) l typed m in
         record {
           code = record { typed = f.typed; plain = f.plain; spelled = f.spelled; shallow = let s = f.shallow in omega arith };
-          means = λ e have. values_got (path (region_code l m) e).gives (elements (region (sets_at e l.inputs) m) ∷ []) (region_codes_mean scope outputs rel e (holds_inputs bases l e typed have) m a b);
-          base = λ e have. (region (sets_at e l.inputs) m, refl, rising_filter (λ x. mask (sets_at e l.inputs) x == m) (union_all (sets_at e l.inputs)) (rising_union_all (sets_at e l.inputs)));
+          means = λ e have. values_got (path (region_code l m) e).gives (elements (region (sets_at e l.inputs) m) ∷ [])
+              (region_codes_mean scope outputs rel e (holds_inputs bases l e typed have) m a b);
+          base = λ e have. (
+            region (sets_at e l.inputs) m,
+            refl,
+            rising_filter (λ x. mask (sets_at e l.inputs) x == m) (union_all (sets_at e l.inputs))
+                (rising_union_all (sets_at e l.inputs)),
+          );
         }
 
     pub region_made : (m : ℕ) → 1 ≤ m → m < 2 ^ length l.inputs → IsMade start (let_region l k m) (bases ++ (Set ∷ Int ∷ []))
@@ -117,16 +126,19 @@ module _ (scope outputs : List Base) (rel : RelTree) (few_sets : length (layout_
         let first = alone_made start bases k Set (region_code l m) (λ e. elements (region (sets_at e l.inputs) m)) (region_makes m a b) made in
         let s : slice_get one_more k.level ≡ Some Set = slice_get-last bases Set k.level made.level in
         let n : length one_more ≤ 2 ^ 32 = omega (arith, length-append bases (Set ∷ [])) in
-        let both = let_made start one_more (let_alone k (region_code l m)) (input_column l m) (code_card (code_var k.level)) (λ e. pos (length (elements_of (value_at e k.level)))) (size_computes one_more k.level n s) first in
+        let both = let_made start one_more (let_alone k (region_code l m)) (input_column l m) (code_card (code_var k.level))
+        (λ e. pos (length (elements_of (value_at e k.level)))) (size_computes one_more k.level n s) first in
         subst (IsMade start (let_region l k m)) (append_assoc bases (Set ∷ []) (Int ∷ [])) both
 
-  pub regions_made : (start : List Base) (n a : ℕ) (bases : List Base) (k : ArmBuilder) → IsMade start k bases → InputsTyped bases l → 1 ≤ a → a + n ≤ 2 ^ length l.inputs → length bases + 2 * n ≤ 2 ^ 32 →
+  pub regions_made : (start : List Base) (n a : ℕ) (bases : List Base) (k : ArmBuilder) → IsMade start k bases → InputsTyped bases l → 1 ≤ a →
+      a + n ≤ 2 ^ length l.inputs → length bases + 2 * n ≤ 2 ^ 32 →
       IsMade start (fold (let_region l) k (range_with_len a n)) (bases ++ pairs n)
   regions_made start zero a bases k made typed x y few = subst (IsMade start k) (sym (append-nil bases)) made
   regions_made start (suc n) a bases k made typed x y few =
       let next = region_made start bases k made typed (omega arith) a x (omega arith) in
       subst (IsMade start (fold (let_region l) (let_region l k a) (range_with_len (a + 1) n))) (append_assoc bases (Set ∷ Int ∷ []) (pairs n))
-      (regions_made start n (a + 1) (bases ++ (Set ∷ Int ∷ [])) (let_region l k a) next (typed_more bases (Set ∷ Int ∷ []) l typed) (omega arith) (omega arith) (omega (arith, length-append bases (Set ∷ Int ∷ []))))
+      (regions_made start n (a + 1) (bases ++ (Set ∷ Int ∷ [])) (let_region l k a) next (typed_more bases (Set ∷ Int ∷ []) l typed) (omega arith)
+      (omega arith) (omega (arith, length-append bases (Set ∷ Int ∷ []))))
 
   -- ---- which columns have names
   pub named_before : (n a : ℕ) (k : ArmBuilder) (c : ℕ) → In c (named k.names) → In c (named (fold (let_region l) k (range_with_len a n)).names)
@@ -140,9 +152,12 @@ module _ (scope outputs : List Base) (rel : RelTree) (few_sets : length (layout_
       (λ t. let d = eqb-false a m t in named_region n (a + 1) (let_region l k a) m (omega arith) (omega arith))
 
   -- the column of a region, or one that was named before
-  pub named_after : (n a : ℕ) (k : ArmBuilder) (c : ℕ) → In c (named (fold (let_region l) k (range_with_len a n)).names) → ((m : ℕ) × (a ≤ m) × (m < a + n) × (c ≡ input_column l m)) ⊎ In c (named k.names)
+  pub named_after : (n a : ℕ) (k : ArmBuilder) (c : ℕ) → In c (named (fold (let_region l) k (range_with_len a n)).names) →
+      ((m : ℕ) × (a ≤ m) × (m < a + n) × (c ≡ input_column l m)) ⊎ In c (named k.names)
   named_after zero a k c i = inr i
-  named_after (suc n) a k c i = elim (named_after n (a + 1) (let_region l k a) c i) as (λ _. ((m : ℕ) × (a ≤ m) × (m < a + suc n) × (c ≡ input_column l m)) ⊎ In c (named k.names)) [
-    | inl h ↦ let x = h.1 in let y = h.2 in inl (h.0, omega arith, omega arith, h.3)
-    | inr j ↦ elim j as (λ _. ((m : ℕ) × (a ≤ m) × (m < a + suc n) × (c ≡ input_column l m)) ⊎ In c (named k.names)) [ inl s ↦ inl (a, omega arith, omega arith, s) | inr h ↦ inr h ]
-  ]
+  named_after (suc n) a k c i = elim (named_after n (a + 1) (let_region l k a) c i) as
+      (λ _. ((m : ℕ) × (a ≤ m) × (m < a + suc n) × (c ≡ input_column l m)) ⊎ In c (named k.names)) [
+        | inl h ↦ let x = h.1 in let y = h.2 in inl (h.0, omega arith, omega arith, h.3)
+        | inr j ↦ elim j as (λ _. ((m : ℕ) × (a ≤ m) × (m < a + suc n) × (c ≡ input_column l m)) ⊎ In c (named k.names))
+            [ inl s ↦ inl (a, omega arith, omega arith, s) | inr h ↦ inr h ]
+      ]

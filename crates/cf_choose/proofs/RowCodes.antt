@@ -1,5 +1,6 @@
 -- What the codes of rows and of ways compute, over names of columns.
-use Rattle.std.proofs.Common.{◌≡◌, ℕ, zero, suc, ◌≤◌, ◌^◌, ◌==◌, ℤ, pos, negsuc, neg_ℤ, ◌+ℤ◌, ◌*ℤ◌, List, [], ◌∷◌, ◌⊎◌, inl, inr, length, map, Some, refl, sym, ap, arith, ◌∙◌, cond}
+use Rattle.std.proofs.Common.{◌≡◌, ℕ, zero, suc, ◌≤◌, ◌^◌, ◌==◌, ℤ, pos, negsuc, neg_ℤ, ◌+ℤ◌, ◌*ℤ◌, List, [], ◌∷◌, ◌⊎◌, inl, inr, length, map, Some, refl}
+use Rattle.std.proofs.Common.{sym, ap, arith, ◌∙◌, cond}
 use Rattle.std.specs.Prelude.{slice_get, Option, None, false}
 use Rattle.std.specs.Int.{int_div_euclid, int_max, int_min}
 use Rattle.std.specs.List.{fold}
@@ -43,11 +44,16 @@ abbrev pub AreNumbers : List Base → ColumnLevels → Type 0
 AreNumbers bases [] = Unit {0}
 AreNumbers bases ((c, x) ∷ names) = (slice_get bases x ≡ Some Int) × AreNumbers bases names
 
-pub number_named : (bases : List Base) (names : ColumnLevels) (c : ℕ) → AreNumbers bases names → In c (named names) → slice_get bases (level_of names c) ≡ Some Int
+pub number_named : (bases : List Base) (names : ColumnLevels) (c : ℕ) → AreNumbers bases names → In c (named names) →
+    slice_get bases (level_of names c) ≡ Some Int
 number_named bases [] c n i = absurd i
 number_named bases ((d, x) ∷ names) c n i =
     cond_both (d == c) x (level_of names c) (λ y. slice_get bases y ≡ Some Int) (λ _. n.0)
-    (λ e. elim i as (λ _. slice_get bases (level_of names c) ≡ Some Int) [ inl s ↦ absurd (eqb-false d c e (sym s)) | inr j ↦ number_named bases names c n.1 j ])
+    (λ e. elim i as (λ _. slice_get bases (level_of names c) ≡ Some Int) [
+      | inl s ↦ absurd (eqb-false d c e (sym s))
+      | inr j ↦
+          number_named bases names c n.1 j
+    ])
 
 -- a code of one number, without a solve, of a depth of at most d
 pub record IsNumberCode (d : ℕ) (scope : List Base) (c : CodeTree) : Type 0 where
@@ -61,7 +67,8 @@ pub record Computes (d : ℕ) (scope : List Base) (c : CodeTree) (w : List Value
   pub code : IsNumberCode d scope c
   pub means : (e : List Value) → HaveBases scope e → (path c e).gives ≡ got (number (w e) ∷ [])
 
-pub number_at : (scope : List Base) (e : List Value) (x : ℕ) → HaveBases scope e → slice_get scope x ≡ Some Int → value_at e x ≡ number (number_of (value_at e x))
+pub number_at : (scope : List Base) (e : List Value) (x : ℕ) → HaveBases scope e → slice_get scope x ≡ Some Int →
+    value_at e x ≡ number (number_of (value_at e x))
 number_at [] [] x h s = refl
 number_at [] (v ∷ e) x h s = absurd h
 number_at (b ∷ scope) [] x h s = absurd h
@@ -71,11 +78,11 @@ number_at (Set ∷ scope) (v ∷ e) zero h s = absurd (cc)
 number_at (b ∷ scope) (v ∷ e) (suc x) h s = number_at scope e x h.1 s
 
 -- ---- the best of several numbers
-abbrev best_of : (ℤ → ℤ → ℤ) → Option ℤ → List ℤ → ℤ
+abbrev pub best_of : (ℤ → ℤ → ℤ) → Option ℤ → List ℤ → ℤ
 best_of better z [] = chosen z
 best_of better z (x ∷ xs) = best_of better (Some (choose_with better z x)) xs
 
-best_fold : (better : ℤ → ℤ → ℤ) (z : ℤ) (xs : List ℤ) → best_of better (Some z) xs ≡ fold better z xs
+pub best_fold : (better : ℤ → ℤ → ℤ) (z : ℤ) (xs : List ℤ) → best_of better (Some z) xs ≡ fold better z xs
 best_fold better z [] = refl
 best_fold better z (x ∷ xs) = best_fold better (better z x) xs
 
@@ -94,7 +101,8 @@ module _ (scope : List Base) (few : length scope ≤ 2 ^ 32) where
   lit_computes : (k : ℤ) → IsWithin k → Computes 1 scope (code_lit k) (λ e. k)
   lit_computes k w = record { code = record { typed = λ asked m. (refl, m); plain = tt; spelled = w; shallow = omega arith }; means = λ e h. refl }
 
-  mul_computes : (k : ℤ) (x : ℕ) → IsWithin k → slice_get scope x ≡ Some Int → Computes 2 scope (code_mul (code_lit k) (code_var x)) (λ e. k *ℤ number_of (value_at e x))
+  mul_computes : (k : ℤ) (x : ℕ) → IsWithin k → slice_get scope x ≡ Some Int →
+      Computes 2 scope (code_mul (code_lit k) (code_var x)) (λ e. k *ℤ number_of (value_at e x))
   mul_computes k x w s = record {
     code = record {
       typed = λ asked m. ((refl, refl), (Int, s, (refl, refl)), (refl, m));
@@ -134,12 +142,14 @@ module _ (scope : List Base) (few : length scope ≤ 2 ^ 32) where
 
   module _ (names : ColumnLevels) (numbers : AreNumbers scope names) where
     variable_computes : (c : ℕ) (k : ℤ) → In c (named names) → IsWithin k →
-        Computes 2 scope (cond (int_eq k (pos 1)) (code_var (level_of names c)) (code_mul (code_lit k) (code_var (level_of names c)))) (λ e. k *ℤ number_of (value_at e (level_of names c)))
+        Computes 2 scope (cond (int_eq k (pos 1)) (code_var (level_of names c)) (code_mul (code_lit k) (code_var (level_of names c))))
+        (λ e. k *ℤ number_of (value_at e (level_of names c)))
     variable_computes c k i w =
         let h = number_named scope names c numbers i in
         let x = level_of names c in
         cond_both (int_eq k (pos 1)) (code_var x) (code_mul (code_lit k) (code_var x)) (λ c. Computes 2 scope c (λ e. k *ℤ number_of (value_at e x)))
-        (λ t. deeper 1 2 (code_var x) (λ e. number_of (value_at e x)) (λ e. k *ℤ number_of (value_at e x)) (omega arith) (λ e. times_one k (number_of (value_at e x)) (eq_is k (pos 1) t)) (var_computes x h))
+        (λ t. deeper 1 2 (code_var x) (λ e. number_of (value_at e x)) (λ e. k *ℤ number_of (value_at e x)) (omega arith)
+        (λ e. times_one k (number_of (value_at e x)) (eq_is k (pos 1) t)) (var_computes x h))
         (λ t. mul_computes k x w h)
 
     named_unless : (c : ℕ) → HasName names c → c == 0 ≡ false → In c (named names)
@@ -153,7 +163,8 @@ module _ (scope : List Base) (few : length scope ≤ 2 ^ 32) where
 
     entries_numbers : (r : Row) → Over (HasName names) r → AreWithin r → AreNumberCodes 2 (map (entry_code names) r)
     entries_numbers [] o w = no_numbers 2
-    entries_numbers ((c, k) ∷ r) o w = more_numbers 2 (entry_code names (c, k)) (map (entry_code names) r) (entry_computes c k o.0 w.0).code (entries_numbers r o.1 w.1)
+    entries_numbers ((c, k) ∷ r) o w = more_numbers 2 (entry_code names (c, k)) (map (entry_code names) r) (entry_computes c k o.0 w.0).code
+        (entries_numbers r o.1 w.1)
 
     sum_means : (r : Row) (e : List Value) (z : ℤ) → Over (HasName names) r → AreWithin r → HaveBases scope e →
         (sum_path (codes_of (map (entry_code names) r)) e z).gives ≡ got (number (z +ℤ value (seen names e) r) ∷ [])
@@ -165,7 +176,8 @@ module _ (scope : List Base) (few : length scope ≤ 2 ^ 32) where
     pub row_computes : (r : Row) → Over (HasName names) r → AreWithin r → Computes 3 scope (row_code names r) (λ e. value (seen names e) r)
     row_computes [] o w = deeper 1 3 (code_lit (pos 0)) (λ e. pos 0) (λ e. pos 0) (omega arith) (λ e. refl) (lit_computes (pos 0) (omega arith))
     row_computes ((c, k) ∷ []) o w =
-        deeper 2 3 (entry_code names (c, k)) (λ e. k *ℤ seen names e c) (λ e. k *ℤ seen names e c +ℤ pos 0) (omega arith) (λ e. omega (arith, ints)) (entry_computes c k o.0 w.0)
+        deeper 2 3 (entry_code names (c, k)) (λ e. k *ℤ seen names e c) (λ e. k *ℤ seen names e c +ℤ pos 0) (omega arith) (λ e. omega (arith, ints))
+        (entry_computes c k o.0 w.0)
     row_computes ((c, k) ∷ p ∷ r) o w =
         let cs = entries_numbers ((c, k) ∷ p ∷ r) o w in
         record {
@@ -178,7 +190,8 @@ module _ (scope : List Base) (few : length scope ≤ 2 ^ 32) where
           means = λ e h. sum_means ((c, k) ∷ p ∷ r) e (pos 0) o w h ∙ ap (λ x. got (number x ∷ [])) (omega (arith, ints));
         }
 
-    pub div_computes : (r : Row) (g : ℤ) → Over (HasName names) r → AreWithin r → IsDivisor g → Computes 4 scope (code_div (row_code names r) g) (λ e. int_div_euclid (value (seen names e) r) g)
+    pub div_computes : (r : Row) (g : ℤ) → Over (HasName names) r → AreWithin r → IsDivisor g →
+        Computes 4 scope (code_div (row_code names r) g) (λ e. int_div_euclid (value (seen names e) r) g)
     div_computes r g o w d =
         let c = row_computes r o w in
         record {
@@ -211,28 +224,38 @@ module _ (scope : List Base) (few : length scope ≤ 2 ^ 32) where
     turned_value : (e : List Value) (r : Row) (p : ℤ) → p ≡ pos 1 → value (seen names e) (negated r) ≡ neg_ℤ (int_div_euclid (value (seen names e) r) p)
     turned_value e r p h = rw (value-comb (seen names e) (negsuc 0) r (pos 0) [], over_one (value (seen names e) r) p h) (omega (arith, ints))
 
-    lower_computes : (r : Row) (p : ℤ) → Over (HasName names) r → IsRow r → IsDivisor p → Computes 5 scope (lower_code names (r, p)) (λ e. neg_ℤ (int_div_euclid (value (seen names e) r) p))
+    lower_computes : (r : Row) (p : ℤ) → Over (HasName names) r → IsRow r → IsDivisor p →
+        Computes 5 scope (lower_code names (r, p)) (λ e. neg_ℤ (int_div_euclid (value (seen names e) r) p))
     lower_computes r p o w d =
-        cond_both (int_eq p (pos 1)) (row_code names (negated r)) (code_neg (code_div (row_code names r) p)) (λ c. Computes 5 scope c (λ e. neg_ℤ (int_div_euclid (value (seen names e) r) p)))
-        (λ t. deeper 3 5 (row_code names (negated r)) (λ e. value (seen names e) (negated r)) (λ e. neg_ℤ (int_div_euclid (value (seen names e) r) p)) (omega arith) (λ e. turned_value e r p (eq_is p (pos 1) t))
+        cond_both (int_eq p (pos 1)) (row_code names (negated r)) (code_neg (code_div (row_code names r) p))
+        (λ c. Computes 5 scope c (λ e. neg_ℤ (int_div_euclid (value (seen names e) r) p)))
+        (λ t. deeper 3 5 (row_code names (negated r)) (λ e. value (seen names e) (negated r)) (λ e. neg_ℤ (int_div_euclid (value (seen names e) r) p))
+        (omega arith) (λ e. turned_value e r p (eq_is p (pos 1) t))
         (row_computes (negated r) (negated-over (HasName names) r o) (negated-within r w)))
         (λ t. neg_div_computes r p o w.1 d)
 
-    upper_computes : (r : Row) (p : ℤ) → Over (HasName names) r → IsRow r → IsDivisor p → Computes 5 scope (upper_code names (r, p)) (λ e. int_div_euclid (value (seen names e) r) p)
+    upper_computes : (r : Row) (p : ℤ) → Over (HasName names) r → IsRow r → IsDivisor p →
+        Computes 5 scope (upper_code names (r, p)) (λ e. int_div_euclid (value (seen names e) r) p)
     upper_computes r p o w d =
-        cond_both (int_eq p (pos 1)) (row_code names r) (code_div (row_code names r) p) (λ c. Computes 5 scope c (λ e. int_div_euclid (value (seen names e) r) p))
-        (λ t. deeper 3 5 (row_code names r) (λ e. value (seen names e) r) (λ e. int_div_euclid (value (seen names e) r) p) (omega arith) (λ e. sym (over_one (value (seen names e) r) p (eq_is p (pos 1) t))) (row_computes r o w.1))
-        (λ t. deeper 4 5 (code_div (row_code names r) p) (λ e. int_div_euclid (value (seen names e) r) p) (λ e. int_div_euclid (value (seen names e) r) p) (omega arith) (λ e. refl) (div_computes r p o w.1 d))
+        cond_both (int_eq p (pos 1)) (row_code names r) (code_div (row_code names r) p)
+        (λ c. Computes 5 scope c (λ e. int_div_euclid (value (seen names e) r) p))
+        (λ t. deeper 3 5 (row_code names r) (λ e. value (seen names e) r) (λ e. int_div_euclid (value (seen names e) r) p) (omega arith)
+        (λ e. sym (over_one (value (seen names e) r) p (eq_is p (pos 1) t))) (row_computes r o w.1))
+        (λ t. deeper 4 5 (code_div (row_code names r) p) (λ e. int_div_euclid (value (seen names e) r) p) (λ e. int_div_euclid (value (seen names e) r) p)
+        (omega arith) (λ e. refl) (div_computes r p o w.1 d))
 
-    module _ (f : Row × ℤ → CodeTree) (w : List Value → Row × ℤ → ℤ) (each : (r : Row) (p : ℤ) → Over (HasName names) r → IsRow r → IsDivisor p → Computes 5 scope (f (r, p)) (λ e. w e (r, p))) where
+    module _ (f : Row × ℤ → CodeTree) (w : List Value → Row × ℤ → ℤ) (each : (r : Row) (p : ℤ) → Over (HasName names) r → IsRow r → IsDivisor p →
+        Computes 5 scope (f (r, p)) (λ e. w e (r, p))) where
       pairs_numbers : (bs : List (Row × ℤ)) → PairsOver (HasName names) bs → PairsWritten bs → AreNumberCodes 5 (map f bs)
       pairs_numbers [] o s = no_numbers 5
       pairs_numbers ((r, p) ∷ bs) o s = more_numbers 5 (f (r, p)) (map f bs) (each r p o.0 s.0 s.1).code (pairs_numbers bs o.1 s.2)
 
-      best_means : (better : ℤ → ℤ → ℤ) (e : List Value) → HaveBases scope e → (bs : List (Row × ℤ)) (z : Option ℤ) → PairsOver (HasName names) bs → PairsWritten bs →
+      best_means : (better : ℤ → ℤ → ℤ) (e : List Value) → HaveBases scope e → (bs : List (Row × ℤ)) (z : Option ℤ) → PairsOver (HasName names) bs →
+          PairsWritten bs →
           (best_path better (codes_of (map f bs)) e z).gives ≡ got (number (best_of better z (map (w e) bs)) ∷ [])
       best_means better e have [] z o s = refl
-      best_means better e have ((r, p) ∷ bs) z o s = rw ((each r p o.0 s.0 s.1).means e have) (best_means better e have bs (Some (choose_with better z (w e (r, p)))) o.1 s.2)
+      best_means better e have ((r, p) ∷ bs) z o s = rw ((each r p o.0 s.0 s.1).means e have)
+          (best_means better e have bs (Some (choose_with better z (w e (r, p)))) o.1 s.2)
 
       none_computes : Computes 6 scope (code_lit (pos 0)) (λ e. pos 0)
       none_computes = deeper 1 6 (code_lit (pos 0)) (λ e. pos 0) (λ e. pos 0) (omega arith) (λ e. refl) (lit_computes (pos 0) (omega arith))
@@ -274,17 +297,20 @@ module _ (scope : List Base) (few : length scope ≤ 2 ^ 32) where
     abbrev high_value : List Value → Row × ℤ → ℤ
     high_value e (r, p) = int_div_euclid (value (seen names e) r) p
 
-    greatest_computes : (bs : List (Row × ℤ)) → PairsOver (HasName names) bs → PairsWritten bs → Computes 6 scope (how_code names (greatest bs)) (λ e. how_value (seen names e) (greatest bs))
+    greatest_computes : (bs : List (Row × ℤ)) → PairsOver (HasName names) bs → PairsWritten bs →
+        Computes 6 scope (how_code names (greatest bs)) (λ e. how_value (seen names e) (greatest bs))
     greatest_computes [] o s = none_computes (lower_code names) low_value lower_computes
     greatest_computes (b ∷ []) o s = one_computes (lower_code names) low_value lower_computes b o s
     greatest_computes (b ∷ c ∷ bs) o s = max_computes (lower_code names) low_value lower_computes b c bs o s
 
-    least_computes : (bs : List (Row × ℤ)) → PairsOver (HasName names) bs → PairsWritten bs → Computes 6 scope (how_code names (least bs)) (λ e. how_value (seen names e) (least bs))
+    least_computes : (bs : List (Row × ℤ)) → PairsOver (HasName names) bs → PairsWritten bs →
+        Computes 6 scope (how_code names (least bs)) (λ e. how_value (seen names e) (least bs))
     least_computes [] o s = none_computes (upper_code names) high_value upper_computes
     least_computes (b ∷ []) o s = one_computes (upper_code names) high_value upper_computes b o s
     least_computes (b ∷ c ∷ bs) o s = min_computes (upper_code names) high_value upper_computes b c bs o s
 
     pub how_computes : (w : How) → HowOver (HasName names) w → HowWritten w → Computes 6 scope (how_code names w) (λ e. how_value (seen names e) w)
-    how_computes (row_how r) o s = deeper 3 6 (row_code names r) (λ e. value (seen names e) r) (λ e. value (seen names e) r) (omega arith) (λ e. refl) (row_computes r o s.1)
+    how_computes (row_how r) o s = deeper 3 6 (row_code names r) (λ e. value (seen names e) r) (λ e. value (seen names e) r) (omega arith) (λ e. refl)
+        (row_computes r o s.1)
     how_computes (greatest bs) o s = greatest_computes bs o s
     how_computes (least bs) o s = least_computes bs o s

@@ -1,8 +1,9 @@
 -- Codes and builders depend on names of columns by their levels alone.
 use Rattle.std.proofs.Common.{◌≡◌, ℕ, ◌+◌, ℤ, List, [], ◌∷◌, map, refl, ap, ◌∙◌}
 use Rattle.std.specs.List.{fold}
-use Rattle.cf_tree.specs.CodeTree.{CodeTree, code_var, code_card, code_div, code_divides, let_item}
-use Rattle.cf_linear.specs.Arm.{ColumnLevels, sum_of, entry_code, row_code, negated, lower_code, upper_code, greatest_code, least_code, how_code, ArmBuilder, let_named, need, let_region, region_code, step_item, back_item, with_fresh, fresh_code}
+use Rattle.cf_tree.specs.CodeTree.{CodeTree, code_var, code_card, code_div, code_divides}
+use Rattle.cf_linear.specs.Arm.{ColumnLevels, sum_of, entry_code, row_code, negated, lower_code, upper_code, greatest_code, least_code, how_code, ArmBuilder}
+use Rattle.cf_linear.specs.Arm.{let_named, need, let_region, region_code, step_item, back_item, with_fresh}
 use Rattle.cf_linear.specs.Layout.{Layout, input_column}
 use Rattle.cf_linear.specs.Systems.{Step, floor_of, need_nonneg, need_zero, need_divides, How, row_how, greatest, least}
 use Rattle.cf_linear.specs.Rows.{Row}

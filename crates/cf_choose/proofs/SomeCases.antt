@@ -31,4 +31,6 @@ arms_from (t ∷ ts) h = tt
 pub has_arms : (l : Layout) (rel : RelTree) (f : System → ArmTree) → HasArms (arms_of (map f (first_systems l rel)))
 unfolding first_systems
 has_arms l rel f =
-    arms_from (map f (map (system_of_case l) (disjuncts (negation_normal true rel)))) (mapped f (map (system_of_case l) (disjuncts (negation_normal true rel))) (mapped (system_of_case l) (disjuncts (negation_normal true rel)) (some_case (negation_normal true rel))))
+    arms_from (map f (map (system_of_case l) (disjuncts (negation_normal true rel))))
+    (mapped f (map (system_of_case l) (disjuncts (negation_normal true rel)))
+    (mapped (system_of_case l) (disjuncts (negation_normal true rel)) (some_case (negation_normal true rel))))

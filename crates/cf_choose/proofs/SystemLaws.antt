@@ -1,13 +1,16 @@
 -- The systems of the cases of a relation.
-use Rattle.std.proofs.Common.{◌≡◌, inl, ℕ, zero, suc, ◌+◌, ◌-◌, ◌<◌, ◌≤◌, ◌^◌, Bool, true, false, ◌||◌, List, [], ◌∷◌, ◌++◌, length, map, take, get_or, Result, Ok, Err, Vec, ⊎_elim, subst, refl, sym, ◌∙◌, ap, arith}
+use Rattle.std.proofs.Common.{◌≡◌, inl, ℕ, zero, suc, ◌+◌, ◌-◌, ◌<◌, ◌≤◌, ◌^◌, Bool, true, false, ◌||◌, List, [], ◌∷◌, ◌++◌, length, map, take, get_or}
+use Rattle.std.proofs.Common.{Result, Ok, Err, Vec, ⊎_elim, subst, refl, sym, ◌∙◌, ap, arith}
 use Rattle.std.specs.List.{fold, flat_map, list_any, range_with_len}
 use Rattle.std.specs.Global.{Global}
 use Rattle.std.proofs.lemmas.Bool.{or_from}
 use Rattle.std.proofs.lemmas.List.{map-append, take_all, take_more}
 use Rattle.std.proofs.lemmas.List.Folds.{list_any-append, list_any_more, list_any_at}
 use Rattle.cf_tree.specs.RelSize.{capped, term_size, rel_size}
-use Rattle.cf_tree.specs.RelTree.{RelTree, rel_true, rel_false, rel_compare, rel_same_set, rel_other_set, rel_subset, rel_divides, rel_and, rel_or, rel_not, TermTree, term_lit, term_var, term_card, term_neg, term_add, term_sub, term_mul, term_div, term_mod, term_abs}
+use Rattle.cf_tree.specs.RelTree.{RelTree, rel_true, rel_false, rel_compare, rel_same_set, rel_other_set, rel_subset, rel_divides, rel_and, rel_or, rel_not}
+use Rattle.cf_tree.specs.RelTree.{TermTree, term_lit, term_var, term_card, term_neg, term_add, term_sub, term_mul, term_div, term_mod, term_abs}
 use Rattle.cf_tree.proofs.SetLemmas.{or_assoc}
+use Rattle.cf_linear.specs.declared.refusal.TheConstants.{MOST_SETS, MOST_CASES}
 use Rattle.cf_linear.specs.declared.refusal.RowFault.{RowFault}
 use Rattle.cf_linear.specs.declared.refusal.RowFault.TheVariants.{Past, NoMemory}
 use Rattle.cf_linear.specs.declared.system.System.{System as DeclaredSystem}
@@ -16,13 +19,15 @@ use Rattle.cf_linear.specs.Systems.{System}
 use Rattle.cf_linear.specs.Layout.{Layout, set_count, first_free, known_count}
 use Rattle.cf_linear.specs.Written.{quotient_count}
 use Rattle.cf_linear.specs.Views.{system_of}
-use Rattle.cf_linear.specs.Cases.{Signed, Normal, negation_normal, normal_atom, normal_and, normal_or, atom_cases, disjuncts, case_count, AtomRows, write_atom, no_rows, rows_then, case_rows, system_of_case, first_systems, written_passes}
+use Rattle.cf_linear.specs.Cases.{Signed, Normal, negation_normal, normal_atom, normal_and, normal_or, atom_cases, disjuncts, case_count, AtomRows}
+use Rattle.cf_linear.specs.Cases.{write_atom, no_rows, rows_then, case_rows, system_of_case, first_systems, written_passes}
 use Rattle.cf_equation.specs.Equations.{Differ}
 use Rattle.cf_cases.specs.Holding.{EachOf, CaseFits, IsPlacedRel}
 use Rattle.cf_cases.specs.SystemBuilders.{rel_quotients}
 use Rattle.cf_cases.proofs.AgreeLaws.{first_systems-formed}
 use Rattle.cf_cases.proofs.SystemLaws.{atom-next, cases-fit}
 use Rattle.cf_cases.proofs.PickLaws.{length-cases}
+use Rattle.cf_choose.specs.declared.levels.TheConstants.{LEVEL_LIMIT}
 use Rattle.cf_choose.specs.Eliminations.{SystemsAre}
 use Rattle.cf_cases.proofs.MovedRows.{passes-same}
 use Rattle.cf_choose.proofs.SomeCases.{HasItem, some_case}
@@ -39,7 +44,8 @@ or_none : (b : Bool) → b ≡ (b || false)
 or_none true = refl
 or_none false = refl
 
-fold_passes : (l : Layout) (c : List Signed) (a : AtomRows) → CaseFits l c → first_free l ≤ a.next → (fold (rows_then l) a c).passes ≡ (a.passes || passes_in l c)
+fold_passes : (l : Layout) (c : List Signed) (a : AtomRows) → CaseFits l c → first_free l ≤ a.next →
+    (fold (rows_then l) a c).passes ≡ (a.passes || passes_in l c)
 fold_passes l [] a f h = or_none a.passes
 fold_passes l (s ∷ c) a f h =
     fold_passes l c (rows_then l a s) f.1 (omega (arith, atom-next l s a.next))
@@ -47,7 +53,7 @@ fold_passes l (s ∷ c) a f h =
     ∙ or_assoc a.passes (passes_alone l s) (passes_in l c)
 
 -- whether a row of the case passes the limit
-abbrev case_passes : Layout → List Signed → Bool
+abbrev pub case_passes : Layout → List Signed → Bool
 case_passes l c = (case_rows l c).passes
 
 any_case : (l : Layout) (cs : List (List Signed)) → EachOf (CaseFits l) cs → list_any (case_passes l) cs ≡ list_any (passes_in l) cs
@@ -82,11 +88,13 @@ any_right b p (x ∷ y ∷ xs) h = ap (λ c. (p x || b) || c) (any_right b p (y 
     join false false true = refl
     join false false false = refl
 
-any_joined : (l : Layout) (c : List Signed) (ds : List (List Signed)) → list_any (passes_in l) (map (λ d. c ++ d) ds) ≡ list_any (λ d. passes_in l c || passes_in l d) ds
+any_joined : (l : Layout) (c : List Signed) (ds : List (List Signed)) →
+    list_any (passes_in l) (map (λ d. c ++ d) ds) ≡ list_any (λ d. passes_in l c || passes_in l d) ds
 any_joined l c [] = refl
 any_joined l c (d ∷ ds) = rw (list_any-append (passes_alone l) c d, any_joined l c ds) refl
 
-any_both : (l : Layout) (cs ds : List (List Signed)) → HasItem ds → list_any (passes_in l) (flat_map (λ c. map (λ d. c ++ d) ds) cs) ≡ list_any (λ c. passes_in l c || list_any (passes_in l) ds) cs
+any_both : (l : Layout) (cs ds : List (List Signed)) → HasItem ds → list_any (passes_in l) (flat_map (λ c. map (λ d. c ++ d) ds) cs) ≡ list_any
+    (λ c. passes_in l c || list_any (passes_in l) ds) cs
 any_both l [] ds h = refl
 any_both l (c ∷ cs) ds h =
     list_any-append (passes_in l) (map (λ d. c ++ d) ds) (flat_map (λ c. map (λ d. c ++ d) ds) cs)
@@ -101,7 +109,8 @@ written_any l (normal_and p q) =
     (sym (any_both l (disjuncts p) (disjuncts q) (some_case q) ∙ any_right (list_any (passes_in l) (disjuncts q)) (passes_in l) (disjuncts p) (some_case p)))
 
 -- a written row of the relation passes the limit exactly where one of some case does
-written_cases : (l : Layout) (r : RelTree) → IsPlacedRel l r → written_passes l (negation_normal true r) ≡ list_any (case_passes l) (disjuncts (negation_normal true r))
+pub written_cases : (l : Layout) (r : RelTree) → IsPlacedRel l r → written_passes l (negation_normal true r) ≡ list_any (case_passes l)
+    (disjuncts (negation_normal true r))
 written_cases l r p = written_any l (negation_normal true r) ∙ sym (any_case l (disjuncts (negation_normal true r)) (cases-fit l true r p))
 
 -- ---- columns
@@ -109,7 +118,7 @@ range_above : (a n c : ℕ) → In c (range_with_len a n) → a ≤ c
 range_above a zero c h = elim h [ ]
 range_above a (suc n) c h = ⊎_elim (λ e. omega arith) (λ i. let b = range_above (a + 1) n c i in omega arith) h
 
-range_differs : (a n : ℕ) → Differ (range_with_len a n)
+pub range_differs : (a n : ℕ) → Differ (range_with_len a n)
 range_differs a zero = tt
 range_differs a (suc n) = ((λ i. let b = range_above (a + 1) n a i in omega arith), range_differs (a + 1) n)
 
@@ -129,9 +138,10 @@ all_differ : (l : Layout) (cs : List (List Signed)) → EachOf (λ (m : System).
 all_differ l [] = tt
 all_differ l (c ∷ cs) = (case_differs l c, all_differ l cs)
 
-first_systems_begun : (l : Layout) (r : RelTree) → IsPlacedRel l r → EachOf IsBegun (first_systems l r)
+pub first_systems_begun : (l : Layout) (r : RelTree) → IsPlacedRel l r → EachOf IsBegun (first_systems l r)
 unfolding first_systems
-first_systems_begun l r p = both_each Formed (λ (m : System). Differ m.unknown) (first_systems l r) (first_systems-formed r l p) (all_differ l (disjuncts (negation_normal true r)))
+first_systems_begun l r p = both_each Formed (λ (m : System). Differ m.unknown) (first_systems l r) (first_systems-formed r l p)
+    (all_differ l (disjuncts (negation_normal true r)))
 
 -- ---- quotients
 quotients-le : (t : TermTree) → quotient_count t ≤ term_size t
@@ -158,7 +168,7 @@ rel_quotients-le (rel_and p q) = omega (arith, rel_quotients-le p, rel_quotients
 rel_quotients-le (rel_or p q) = omega (arith, rel_quotients-le p, rel_quotients-le q)
 rel_quotients-le (rel_not p) = omega (arith, rel_quotients-le p)
 
-pub pow_small : (n : ℕ) → n ≤ 6 → 2 ^ n ≤ 64
+pub pow_small : (n : ℕ) → n ≤ MOST_SETS → 2 ^ n ≤ 64
 pow_small zero h = omega arith
 pow_small (suc zero) h = omega arith
 pow_small (suc (suc zero)) h = omega arith
@@ -169,11 +179,13 @@ pow_small (suc (suc (suc (suc (suc (suc zero)))))) h = omega arith
 pow_small (suc (suc (suc (suc (suc (suc (suc n))))))) h = absurd (omega arith)
 
 -- the columns of few variables, of few sets and of a small relation
-pub columns_fit : (l : Layout) (r : RelTree) (n : ℕ) → set_count l ≤ 6 → n ≡ capped (rel_size r) → (length l.numbers < 2 ^ 30) × (length l.out_numbers < 2 ^ 30) × (n < 2 ^ 30) → first_free l + rel_quotients r < 2 ^ 32
+pub columns_fit : (l : Layout) (r : RelTree) (n : ℕ) → set_count l ≤ MOST_SETS → n ≡ capped (rel_size r) → (length l.numbers < LEVEL_LIMIT) ×
+    (length l.out_numbers < LEVEL_LIMIT) × (n < LEVEL_LIMIT) → first_free l + rel_quotients r < 2 ^ 32
 columns_fit l r n few s h =
-    fit (length l.numbers) (length l.out_numbers) (rel_size r) (rel_quotients r) n (2 ^ length l.inputs) (2 ^ set_count l) s h (rel_quotients-le r) (pow_small (length l.inputs) (omega arith)) (pow_small (set_count l) few)
+    fit (length l.numbers) (length l.out_numbers) (rel_size r) (rel_quotients r) n (2 ^ length l.inputs) (2 ^ set_count l) s h (rel_quotients-le r)
+    (pow_small (length l.inputs) (omega arith)) (pow_small (set_count l) few)
   where
-    fit : (a b s q n i j : ℕ) → n ≡ capped s → (a < 2 ^ 30) × (b < 2 ^ 30) × (n < 2 ^ 30) → q ≤ s → i ≤ 64 → j ≤ 64 → a + i + b + j - 1 + q < 2 ^ 32
+    fit : (a b s q n i j : ℕ) → n ≡ capped s → (a < LEVEL_LIMIT) × (b < LEVEL_LIMIT) × (n < LEVEL_LIMIT) → q ≤ s → i ≤ 64 → j ≤ 64 → a + i + b + j - 1 + q < 2 ^ 32
     fit a b s q n i j e h k x y = let u = h.0 in let v = h.1 in let w = h.2 in omega arith
 
 -- ---- the systems
@@ -182,7 +194,8 @@ pub record IsTaken (l : Layout) (r : RelTree) (i : ℕ) (systems : List Declared
   pub within : list_any (case_passes l) (take i (disjuncts (negation_normal true r))) ≡ false
   pub are : map system_of systems ≡ map (system_of_case l) (take i (disjuncts (negation_normal true r)))
 
-pub one_more : (l : Layout) (r : RelTree) (i : ℕ) (systems more : List DeclaredSystem) (x : DeclaredSystem) → i < case_count (negation_normal true r) → more ≡ systems ++ (x ∷ []) → system_of x ≡ system_of_case l (get_or (disjuncts (negation_normal true r)) i []) →
+pub one_more : (l : Layout) (r : RelTree) (i : ℕ) (systems more : List DeclaredSystem) (x : DeclaredSystem) → i < case_count (negation_normal true r) →
+    more ≡ systems ++ (x ∷ []) → system_of x ≡ system_of_case l (get_or (disjuncts (negation_normal true r)) i []) →
     case_passes l (get_or (disjuncts (negation_normal true r)) i []) ≡ false → IsTaken l r i systems → IsTaken l r (i + 1) more
 one_more l r i systems more x h e m f t =
     let cs = disjuncts (negation_normal true r) in
@@ -190,18 +203,20 @@ one_more l r i systems more x h e m f t =
     record {
       within = list_any_more (case_passes l) cs i [] k ∙ or_from (list_any (case_passes l) (take i cs)) (case_passes l (get_or cs i [])) t.within f;
       are =
-          ap (map system_of) e ∙ map-append system_of systems (x ∷ []) ∙ rw (t.are, m) refl ∙ sym (map-append (system_of_case l) (take i cs) (get_or cs i [] ∷ []))
+          ap (map system_of) e ∙ map-append system_of systems (x ∷ []) ∙ rw (t.are, m) refl ∙
+          sym (map-append (system_of_case l) (take i cs) (get_or cs i [] ∷ []))
           ∙ ap (map (system_of_case l)) (sym (take_more cs i [] k));
     }
 
 pub index_below : (n m i : ℕ) → n ≡ capped m → i < n → i < m
 index_below n m i e h = omega arith
 
-pub index_past : (n m i : ℕ) → n ≡ capped m → m ≤ 1024 → n ≤ i → m ≤ i
+pub index_past : (n m i : ℕ) → n ≡ capped m → m ≤ MOST_CASES → n ≤ i → m ≤ i
 index_past n m i e f h = omega arith
 
 module _ (l : Layout) (r : RelTree) (placed : IsPlacedRel l r) where
-  all_taken : (i : ℕ) (systems : List DeclaredSystem) → case_count (negation_normal true r) ≤ i → IsTaken l r i systems → (written_passes l (negation_normal true r) ≡ false) × (map system_of systems ≡ first_systems l r)
+  all_taken : (i : ℕ) (systems : List DeclaredSystem) → case_count (negation_normal true r) ≤ i → IsTaken l r i systems →
+      (written_passes l (negation_normal true r) ≡ false) × (map system_of systems ≡ first_systems l r)
   unfolding first_systems
   all_taken i systems h t =
       let cs = disjuncts (negation_normal true r) in
@@ -211,9 +226,13 @@ module _ (l : Layout) (r : RelTree) (placed : IsPlacedRel l r) where
   pub systems_are : (i : ℕ) (v : Vec DeclaredSystem Global) → case_count (negation_normal true r) ≤ i → IsTaken l r i v.items → SystemsAre l r (Ok v)
   systems_are i v h t = all_taken i v.items h t
 
-  pub systems_begun : (i : ℕ) (v : Vec DeclaredSystem Global) → case_count (negation_normal true r) ≤ i → IsTaken l r i v.items → EachOf IsBegun (map system_of v.items)
+  pub systems_begun : (i : ℕ) (v : Vec DeclaredSystem Global) → case_count (negation_normal true r) ≤ i → IsTaken l r i v.items →
+      EachOf IsBegun (map system_of v.items)
   systems_begun i v h t = subst (EachOf IsBegun) (sym (all_taken i v.items h t).1) (first_systems_begun l r placed)
 
-  pub fault_is : (i : ℕ) (e : RowFault) → i < case_count (negation_normal true r) → (◌≡◌ {A = Result DeclaredSystem RowFault} (Err e) (Err Past) → case_passes l (get_or (disjuncts (negation_normal true r)) i []) ≡ true) → SystemsAre l r (Err e)
-  fault_is i Past h f = written_cases l r placed ∙ list_any_at (case_passes l) (disjuncts (negation_normal true r)) i [] (omega (arith, length-cases (negation_normal true r))) (f refl)
+  pub fault_is : (i : ℕ) (e : RowFault) → i < case_count (negation_normal true r) →
+      (◌≡◌ {A = Result DeclaredSystem RowFault} (Err e) (Err Past) → case_passes l (get_or (disjuncts (negation_normal true r)) i []) ≡ true) →
+      SystemsAre l r (Err e)
+  fault_is i Past h f = written_cases l r placed ∙ list_any_at (case_passes l) (disjuncts (negation_normal true r)) i []
+      (omega (arith, length-cases (negation_normal true r))) (f refl)
   fault_is i NoMemory h f = tt

@@ -11,7 +11,7 @@ use Rattle.cf_linear.proofs.PassingLemmas.{negated_not, within_is}
 pub negated-over : (Q : ℕ → Type 0) (r : Row) → Over Q r → Over Q (negated r)
 negated-over Q r o = Over-comb Q (negsuc 0) r (pos 0) [] o tt
 
-within_from_test : (r : Row) → row_passes r ≡ false → AreWithin r
+pub within_from_test : (r : Row) → row_passes r ≡ false → AreWithin r
 within_from_test [] e = tt
 within_from_test ((c, k) ∷ r) e =
     on_bool (passes k)

@@ -46,7 +46,8 @@ answer_of bounds steps back = record { system = no_system; steps = map step_of s
 -- each level of an output is that of a number or of a set, and not of both
 pub record HasOutputs (l : Layout) : Type 0 where
   pub sets : (x : ℕ) → place x l.out_sets < length l.out_sets → has_level l.out_numbers x ≡ false
-  pub numbers : (x : ℕ) → l.scope ≤ x → x < l.scope + (length l.out_numbers + length l.out_sets) → length l.out_sets ≤ place x l.out_sets → has_level l.out_numbers x ≡ true
+  pub numbers : (x : ℕ) → l.scope ≤ x → x < l.scope + (length l.out_numbers + length l.out_sets) → length l.out_sets ≤ place x l.out_sets →
+      has_level l.out_numbers x ≡ true
 
 -- the output with level x, where the regions have the levels from `first` on and the fresh numbers have the level `fresh`
 abbrev pub output_code : Layout → ColumnLevels → ℕ → ℕ → ℕ → CodeTree

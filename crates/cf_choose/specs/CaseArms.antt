@@ -68,7 +68,8 @@ pub record IsWritable (l : Layout) (a : Answer) : Type 0 where
 -- the needs of the arm hold at some tuple where the system has a solution at the parameters, and at each tuple at which they hold the arm
 -- gives the outputs of a solution; the arm is well typed, not deep, and spelled
 pub record IsArmOf (scope outputs : List Base) (l : Layout) (m : System) (arm : ArmTree) : Type 0 where
-  pub meets : (env : List Value) → HaveBases scope env → (w : Values) → SameKnown m (known_values l env) w → Sat m w → (ks : List ℕ) × (e : List Value) × NeedsHold arm env ks e
+  pub meets : (env : List Value) → HaveBases scope env → (w : Values) → SameKnown m (known_values l env) w → Sat m w → (ks : List ℕ) × (e : List Value) ×
+      NeedsHold arm env ks e
   pub gives : (env : List Value) → HaveBases scope env → (ks : List ℕ) (e : List Value) → NeedsHold arm env ks e →
       (w : Values) × SameKnown m (known_values l env) w × Sat m w × ArmGives arm e (outputs_from l env w)
   pub typed : ArmsHave (arm_more arm no_arms) scope outputs

@@ -5,6 +5,7 @@ use Rattle.cf_tree.specs.CodeView.{arm_tree}
 use Rattle.cf_tree.specs.declared.code.Arm.{Arm}
 use Rattle.cf_tree.specs.RelTree.{RelTree}
 use Rattle.cf_tree.specs.Typing.{AreBounds}
+use Rattle.cf_linear.specs.declared.refusal.TheConstants.{MOST_SETS}
 use Rattle.cf_linear.specs.declared.refusal.LimitKind.TheVariants.{Sets, Cases}
 use Rattle.cf_linear.specs.declared.refusal.Refusal.{Refusal}
 use Rattle.cf_linear.specs.declared.refusal.Refusal.TheVariants.{Past, Limit}
@@ -20,6 +21,7 @@ use Rattle.cf_linear.specs.Layout.{Layout, set_count}
 use Rattle.cf_linear.specs.Cases.{negation_normal, first_systems, case_count, written_passes}
 use Rattle.cf_linear.specs.Chooses.{made_of, arm_of_case, choose_limits, first_refused}
 use Rattle.cf_linear.specs.Views.{system_of, step_of, bound_of}
+use Rattle.cf_choose.specs.declared.levels.TheConstants.{LEVEL_LIMIT}
 use Rattle.cf_choose.specs.declared.fault.ChooseFault.{ChooseFault}
 use Rattle.cf_choose.specs.declared.fault.ChooseFault.TheVariants.{Refused, NoMemory}
 use Rattle.cf_choose.specs.CaseArms.{IsWritable}
@@ -54,14 +56,14 @@ pub record IsCaseDone (l : Layout) (m : System) : Type 0 where
   pub eliminated : IsEliminated m (made m)
   pub writable : IsWritable l (made m)
 
--- a layout and a case of less than 2^29 variables of numbers and items each
+-- a layout and a case whose levels are few
 pub record HasRoom (l : DeclaredLayout) (c : CaseParts) : Type 0 where
-  pub scope : l.scope < 2 ^ 29
-  pub numbers : length l.numbers.items < 2 ^ 29
-  pub outputs : length l.out_numbers.items < 2 ^ 29
-  pub bounds : length c.bounds.items < 2 ^ 29
-  pub steps : length c.steps.items < 2 ^ 29
-  pub back : length c.back.items < 2 ^ 29
+  pub scope : l.scope < LEVEL_LIMIT
+  pub numbers : length l.numbers.items < LEVEL_LIMIT
+  pub outputs : length l.out_numbers.items < LEVEL_LIMIT
+  pub bounds : length c.bounds.items < LEVEL_LIMIT
+  pub steps : length c.steps.items < LEVEL_LIMIT
+  pub back : length c.back.items < LEVEL_LIMIT
 
 -- the system of a case before any step
 abbrev pub first_of : CaseParts → System
@@ -115,7 +117,7 @@ CasesAre l rel (Err NoMemory) = Unit {0}
 
 -- few sets, and outputs that are numbers or sets
 pub record IsFewSets (l : Layout) : Type 0 where
-  pub few : set_count l ≤ 6
+  pub few : set_count l ≤ MOST_SETS
   pub outputs : HasOutputs l
 
 -- ---- counts
@@ -123,7 +125,8 @@ pub record IsFewSets (l : Layout) : Type 0 where
 abbrev pub case_refusal : Layout → RelTree → Option Refusal
 case_refusal l rel =
     (if nat_lt choose_limits.sets (set_count l) then Some (Limit Sets (set_count l))
-    else (if nat_lt choose_limits.cases (case_count (negation_normal true rel)) then Some (Limit Cases (min (case_count (negation_normal true rel)) (2 ^ 64 - 1)))
+    else (if nat_lt choose_limits.cases (case_count (negation_normal true rel)) then Some
+    (Limit Cases (min (case_count (negation_normal true rel)) (2 ^ 64 - 1)))
     else None))
 
 abbrev pub CountIs : Option Refusal → Result (Unit {0}) ChooseFault → Type 0

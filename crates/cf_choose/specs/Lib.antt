@@ -4,3 +4,4 @@ pub mod ArmBuilders
 pub mod Precondition
 pub mod Solved
 pub mod Solving
+pub mod Laws

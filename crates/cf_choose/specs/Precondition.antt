@@ -1,7 +1,8 @@
 -- The precondition of a solved choose.
 use Rattle.std.specs.Prelude.{◌↔◌, Bool, true, false, List}
 use Rattle.cf_tree.specs.declared.base.Base.{Base}
-use Rattle.cf_tree.specs.CodeTree.{CodeTree, no_codes, ItemTree, let_item, need_item, ItemTrees, no_items, item_more, ArmTree, arm_of, ArmTrees, no_arms, arm_more}
+use Rattle.cf_tree.specs.CodeTree.{CodeTree, no_codes, ItemTree, let_item, need_item, ItemTrees, no_items, item_more, ArmTree, arm_of, ArmTrees, no_arms}
+use Rattle.cf_tree.specs.CodeTree.{arm_more}
 use Rattle.cf_tree.specs.Relation.{Sol}
 use Rattle.cf_tree.specs.RelTree.{RelTree}
 use Rattle.cf_tree.specs.Solving.{HoldSomewhere}

@@ -1,8 +1,9 @@
 //! The arm of a case.
-ghost use Rattle.std.specs.Prelude.{◌≡◌, ◌+◌, ◌*◌, ◌≤◌, ◌<◌, ◌^◌, [], map, length, IfOk};
+ghost use Rattle.std.specs.Prelude.{◌≡◌, ◌+◌, ◌*◌, ◌≤◌, ◌<◌, ◌^◌, map, length, IfOk};
 ghost use Rattle.std.specs.List.{range_with_len};
-ghost use Rattle.cf_tree.specs.CodeTree.{code_var, arm_of, items_of, codes_of};
+ghost use Rattle.cf_tree.specs.CodeTree.{arm_of, items_of, codes_of};
 ghost use Rattle.cf_tree.specs.CodeView.{code_tree, item_tree, arm_tree};
+ghost use Rattle.cf_linear.specs.declared.refusal.TheConstants.{MOST_SETS};
 ghost use Rattle.cf_linear.specs.Arm.{begun, search_names, first_names, arm};
 ghost use Rattle.cf_linear.specs.Layout.{set_count, first_free};
 ghost use Rattle.cf_linear.specs.Views.{plain_layout, step_of, back_of, bound_of};
@@ -26,7 +27,7 @@ pub(crate) fn arm(
     back: &[Back],
 ) -> Result<Arm, NoMemory>
     requires outputs { HasOutputs (plain_layout layout.now) }
-    requires sets { set_count (plain_layout layout.now) ≤ 6 }
+    requires sets { set_count (plain_layout layout.now) ≤ MOST_SETS }
     requires room { first_free (plain_layout layout.now) < 2 ^ 32 }
     requires levels { layout.now.scope + length bounds.now + 2 * 2 ^ length layout.now.inputs.items < 2 ^ 32 }
     requires last { layout.now.scope + (length layout.now.out_numbers.items + length layout.now.out_sets.items) < 2 ^ 32 }
@@ -48,7 +49,7 @@ pub(crate) fn arm(
 
 // No items yet.
 fn start(alloc: Global, layout: &Layout, bounds: &[Search]) -> Result<ArmBuilder, NoMemory>
-    requires sets { set_count (plain_layout layout.now) ≤ 6 }
+    requires sets { set_count (plain_layout layout.now) ≤ MOST_SETS }
     requires room { first_free (plain_layout layout.now) < 2 ^ 32 }
     requires levels { layout.now.scope + length bounds.now < 2 ^ 32 }
     ensures made { IfOk result (λ b. SameBuilder (builder_of b) (begun (plain_layout layout.now) (map bound_of bounds.now))) }
@@ -64,7 +65,7 @@ fn start(alloc: Global, layout: &Layout, bounds: &[Search]) -> Result<ArmBuilder
 
 // The names of the parameters and then of the search columns.
 fn first_names(alloc: Global, layout: &Layout, bounds: &[Search]) -> Result<ColumnLevels, NoMemory>
-    requires sets { set_count (plain_layout layout.now) ≤ 6 }
+    requires sets { set_count (plain_layout layout.now) ≤ MOST_SETS }
     requires room { first_free (plain_layout layout.now) < 2 ^ 32 }
     requires levels { layout.now.scope + length bounds.now < 2 ^ 32 }
     ensures { IfOk result (λ n. SameColumnLevels n (first_names (plain_layout layout.now) (map bound_of bounds.now))) }
@@ -101,7 +102,7 @@ fn gives(
     sources: Sources,
 ) -> Result<Vec<Code>, NoMemory>
     requires outputs { HasOutputs (plain_layout layout.now) }
-    requires sets { set_count (plain_layout layout.now) ≤ 6 }
+    requires sets { set_count (plain_layout layout.now) ≤ MOST_SETS }
     requires room { first_free (plain_layout layout.now) < 2 ^ 32 }
     requires levels { sources.regions + 2 * 2 ^ length layout.now.inputs.items < 2 ^ 32 }
     requires last { layout.now.scope + (length layout.now.out_numbers.items + length layout.now.out_sets.items) < 2 ^ 32 }
@@ -124,7 +125,7 @@ fn output(
     x: u32,
 ) -> Result<Code, NoMemory>
     requires outputs { HasOutputs (plain_layout layout.now) }
-    requires sets { set_count (plain_layout layout.now) ≤ 6 }
+    requires sets { set_count (plain_layout layout.now) ≤ MOST_SETS }
     requires room { first_free (plain_layout layout.now) < 2 ^ 32 }
     requires levels { sources.regions + 2 * 2 ^ length layout.now.inputs.items < 2 ^ 32 }
     requires after { layout.now.scope ≤ x }

@@ -1,12 +1,12 @@
 //! The lets and needs of an arm as they are made.
-ghost use Rattle.std.specs.Prelude.{◌≡◌, ◌+◌, ◌≤◌, ◌<◌, ◌^◌, map, length, IfOk, OnOk};
+ghost use Rattle.std.specs.Prelude.{◌≡◌, ◌≤◌, ◌<◌, ◌^◌, map, length, IfOk, OnOk};
 ghost use Rattle.std.specs.List.{fold};
-ghost use Rattle.cf_tree.specs.CodeTree.{let_item, need_item};
 ghost use Rattle.cf_tree.specs.CodeView.{code_tree, item_tree};
+ghost use Rattle.cf_linear.specs.declared.refusal.TheConstants.{MOST_SETS};
 ghost use Rattle.cf_linear.specs.Arm.{let_named, let_region, need, step_item, back_item, with_fresh};
 ghost use Rattle.cf_linear.specs.Layout.{masks, set_count, first_free};
 ghost use Rattle.cf_linear.specs.Views.{plain_layout, step_of, back_of};
-ghost use Rattle.cf_choose.specs.ArmBuilders.{builder_of, let_alone, SameBuilder, StepFits, StepsFit, HowFits, BackFits};
+ghost use Rattle.cf_choose.specs.ArmBuilders.{builder_of, let_alone, SameBuilder, StepFits, StepsFit, BackFits};
 
 use crate::codes::{divides_code, how_code, need_code, quotient_code};
 use cf_linear::system::{Back, Layout, Step};
@@ -52,7 +52,7 @@ impl ArmBuilder {
 
     // The region with the mask and its size.
     fn region(&mut self, alloc: Global, layout: &Layout, mask: u32) -> Result<(), NoMemory>
-        requires sets { set_count (plain_layout layout.now) ≤ 6 }
+        requires sets { set_count (plain_layout layout.now) ≤ MOST_SETS }
         requires room { first_free (plain_layout layout.now) < 2 ^ 32 }
         requires mask { mask < 2 ^ length layout.now.inputs.items }
         ensures { OnOk result (SameBuilder (builder_of self.new) (let_region (plain_layout layout.now) (builder_of self.old) mask)) }
@@ -66,7 +66,7 @@ impl ArmBuilder {
 
     // All regions of the input sets and their sizes.
     pub(crate) fn regions(&mut self, alloc: Global, layout: &Layout) -> Result<(), NoMemory>
-        requires sets { set_count (plain_layout layout.now) ≤ 6 }
+        requires sets { set_count (plain_layout layout.now) ≤ MOST_SETS }
         requires room { first_free (plain_layout layout.now) < 2 ^ 32 }
         ensures { OnOk result (SameBuilder (builder_of self.new) (fold (let_region (plain_layout layout.now)) (builder_of self.old) (masks (length layout.now.inputs.items)))) }
     {
@@ -78,7 +78,7 @@ impl ArmBuilder {
 
     // The fresh numbers, where there are output sets.
     pub(crate) fn fresh(&mut self, alloc: Global, layout: &Layout) -> Result<(), NoMemory>
-        requires sets { set_count (plain_layout layout.now) ≤ 6 }
+        requires sets { set_count (plain_layout layout.now) ≤ MOST_SETS }
         requires room { first_free (plain_layout layout.now) < 2 ^ 32 }
         ensures { OnOk result (map item_tree self.new.items.items ≡ with_fresh (plain_layout layout.now) (builder_of self.old)) }
     {

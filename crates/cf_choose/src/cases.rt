@@ -1,14 +1,17 @@
 //! The eliminations of the cases of a choose, and their arms.
-ghost use Rattle.std.specs.Prelude.{◌≡◌, ◌<◌, ◌≤◌, ◌^◌, true, map, IfOk};
+ghost use Rattle.std.specs.Prelude.{◌≡◌, ◌<◌, ◌≤◌, true, map, IfOk};
 ghost use Rattle.cf_tree.specs.RelView.{rel_tree};
+ghost use Rattle.cf_linear.specs.declared.refusal.TheConstants.{MOST_SETS, MOST_CASES};
 ghost use Rattle.cf_linear.specs.Cases.{negation_normal, case_count};
 ghost use Rattle.cf_linear.specs.Layout.{set_count};
 ghost use Rattle.cf_linear.specs.Views.{plain_layout, system_of};
 ghost use Rattle.cf_cases.specs.Holding.{EachOf, IsPlacedRel};
+ghost use Rattle.cf_choose.specs.declared.levels.TheConstants.{LEVEL_LIMIT};
 ghost use Rattle.cf_choose.specs.Eliminations.{CanBegin, HasRoom, CaseIs, EachCaseIs, IsArmFor, AreArmsFor, CasesAre, IsFewSets};
 
 use crate::arm::arm;
 use crate::fault::ChooseFault;
+use crate::levels::LEVEL_LIMIT;
 use crate::systems::systems;
 use cf_elim::eliminate::eliminate;
 use cf_elim::fault::ElimFault;
@@ -27,9 +30,9 @@ pub(crate) fn cases(
     layout: &Layout,
     rel: &Rel,
 ) -> Result<Vec<SolvedCase>, ChooseFault>
-    requires sets { set_count (plain_layout layout.now) ≤ 6 }
+    requires sets { set_count (plain_layout layout.now) ≤ MOST_SETS }
     requires placed { IsPlacedRel (plain_layout layout.now) (rel_tree rel.now) }
-    requires few { case_count (negation_normal true (rel_tree rel.now)) ≤ 1024 }
+    requires few { case_count (negation_normal true (rel_tree rel.now)) ≤ MOST_CASES }
     ensures { CasesAre (plain_layout layout.now) (rel_tree rel.now) result }
 {
     let systems = match systems(alloc, layout, rel) {
@@ -100,7 +103,7 @@ fn case_arm(alloc: Global, layout: &Layout, case: &SolvedCase) -> Result<Arm, No
 fn has_room(layout: &Layout, case: &SolvedCase) -> bool
     ensures { result ≡ true → HasRoom layout.now case.now }
 {
-    layout.scope < 1 << 29
+    is_few(layout.scope as usize)
         && is_few(layout.numbers.len())
         && is_few(layout.out_numbers.len())
         && is_few(case.bounds().len())
@@ -110,7 +113,7 @@ fn has_room(layout: &Layout, case: &SolvedCase) -> bool
 
 // Whether as many things have levels.
 fn is_few(n: usize) -> bool
-    ensures { result ≡ true → n < 2 ^ 29 }
+    ensures { result ≡ true → n < LEVEL_LIMIT }
 {
-    n < 1 << 29
+    n < LEVEL_LIMIT
 }

@@ -1,14 +1,19 @@
 //! The levels of the variables of a choose.
-ghost use Rattle.std.specs.Prelude.{◌≡◌, ◌+◌, ◌<◌, ◌^◌, ◌++◌, ◌∷◌, [], length, filter, IfOk, OnOk, if◌then◌else◌};
+ghost use Rattle.std.specs.Prelude.{◌≡◌, ◌+◌, ◌<◌, ◌^◌, length, filter, IfOk};
 ghost use Rattle.cf_tree.specs.RelView.{set_tree, term_tree, rel_tree};
 ghost use Rattle.cf_linear.specs.Layout.{set_holds, term_holds, rel_holds, is_number, is_set, levels_with, layout_of};
 ghost use Rattle.cf_linear.specs.Views.{plain_layout};
 
 use cf_linear::system::Layout;
+use cf_setwit::lists::push_if;
 use cf_tree::base::Base;
 use cf_tree::memory::NoMemory;
 use cf_tree::rel::{Rel, SetTerm, Term};
 use std::alloc::Global;
+
+/// Of variables in scope, of numbers among them, of outputs and of what an elimination makes there are
+/// fewer than this, so that levels and columns are numbers of 32 bits.
+pub(crate) const LEVEL_LIMIT: usize = 1 << 29;
 
 // Whether the set form holds the variable.
 fn set_holds(x: u32, set: &SetTerm) -> bool
@@ -55,16 +60,6 @@ fn rel_holds(x: u32, rel: &Rel) -> bool
         Rel::And(a, b) | Rel::Or(a, b) => rel_holds(x, a) || rel_holds(x, b),
         Rel::Not(a) => rel_holds(x, a),
     }
-}
-
-// Adds the level, where it is wanted.
-fn push_if(levels: &mut Vec<u32>, is_wanted: bool, x: u32) -> Result<(), NoMemory>
-    ensures { OnOk result (levels.new.items ≡ levels.old.items ++ (if is_wanted then x ∷ [] else [])) }
-{
-    if is_wanted {
-        levels.push(x)?;
-    }
-    Ok(())
 }
 
 // The levels of the numbers among the bases, the first base having level `first`.

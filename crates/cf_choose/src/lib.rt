@@ -6,6 +6,7 @@ mod arm_builder;
 mod cases;
 mod codes;
 pub mod fault;
+pub mod laws;
 mod levels;
 mod needs;
 pub mod solve;

@@ -9,7 +9,7 @@ ghost use Rattle.cf_choose.specs.Solving.{IsEliminatedBy};
 
 use crate::cases::{arms, cases};
 use crate::fault::ChooseFault;
-use crate::levels::layout;
+use crate::levels::{LEVEL_LIMIT, layout};
 use crate::solved::{Solved, SolvedParts};
 use cf_cases::count::count;
 use cf_elim::solved::SolvedCase;
@@ -20,10 +20,6 @@ use cf_tree::code::Arm;
 use cf_tree::memory::NoMemory;
 use cf_tree::rel::Rel;
 use std::alloc::Global;
-
-// How many variables are in scope at most, and how many outputs, so that levels and columns are
-// numbers of 32 bits.
-const MOST_VARIABLES: usize = 1 << 29;
 
 // The layout of a choose and its cases.
 #[derive(Drop)]
@@ -49,7 +45,7 @@ pub fn solve(
     requires outputs { All IsOutput outputs.now }
     ensures { SolveAnswer scope.now outputs.now (rel_tree rel.now) result }
 {
-    if scope.len() >= MOST_VARIABLES || outputs.len() >= MOST_VARIABLES {
+    if scope.len() >= LEVEL_LIMIT || outputs.len() >= LEVEL_LIMIT {
         return Err(ChooseFault::NoMemory);
     }
     let layout = match layout(alloc, scope, outputs, rel) {

@@ -1,18 +1,20 @@
 //! The first systems of the cases of a relation.
 ghost use Rattle.std.specs.Prelude.{◌≡◌, ◌+◌, ◌<◌, ◌≤◌, ◌^◌, map, true, IfOk};
 ghost use Rattle.cf_tree.specs.RelView.{rel_tree};
+ghost use Rattle.cf_linear.specs.declared.refusal.TheConstants.{MOST_SETS, MOST_CASES};
 ghost use Rattle.cf_linear.specs.Cases.{negation_normal, case_count};
 ghost use Rattle.cf_linear.specs.Keep.{Formed};
 ghost use Rattle.cf_linear.specs.Layout.{set_count, first_free};
 ghost use Rattle.cf_linear.specs.Views.{plain_layout, system_of};
 ghost use Rattle.cf_equation.specs.Equations.{Differ};
-ghost use Rattle.cf_cases.specs.Counts.{count_tree, counts_of};
 ghost use Rattle.cf_cases.specs.SystemBuilders.{rel_quotients};
 ghost use Rattle.cf_cases.specs.Holding.{IsPlacedRel, EachOf};
+ghost use Rattle.cf_choose.specs.declared.levels.TheConstants.{LEVEL_LIMIT};
 ghost use Rattle.cf_choose.specs.Eliminations.{SystemsAre};
 
+use crate::levels::LEVEL_LIMIT;
 use cf_cases::case::case_of;
-use cf_cases::count::{Counts, count};
+use cf_cases::count::CountedRel;
 use cf_linear::refusal::RowFault;
 use cf_linear::system::{Layout, System};
 use cf_tree::rel::Rel;
@@ -21,36 +23,34 @@ use std::alloc::Global;
 // The first systems of the cases of the relation, in order.
 pub(crate) fn systems(alloc: Global, layout: &Layout, rel: &Rel) -> Result<Vec<System>, RowFault>
     requires placed { IsPlacedRel (plain_layout layout.now) (rel_tree rel.now) }
-    requires sets { set_count (plain_layout layout.now) ≤ 6 }
-    requires few { case_count (negation_normal true (rel_tree rel.now)) ≤ 1024 }
+    requires sets { set_count (plain_layout layout.now) ≤ MOST_SETS }
+    requires few { case_count (negation_normal true (rel_tree rel.now)) ≤ MOST_CASES }
     ensures systems { SystemsAre (plain_layout layout.now) (rel_tree rel.now) result }
     ensures ready { IfOk result (λ v. EachOf (λ m. Formed m × Differ m.unknown) (map system_of v.items)) }
 {
     if !has_columns(layout, rel) {
         return Err(RowFault::NoMemory);
     }
-    let counts = Counts::of(alloc, rel)?;
-    each_system(alloc, layout, rel, &counts)
+    let counted = CountedRel::of(alloc, rel)?;
+    each_system(alloc, layout, &counted)
 }
 
 // The same, where the cases are counted.
 fn each_system(
     alloc: Global,
     layout: &Layout,
-    rel: &Rel,
-    counts: &Counts,
+    counted: &CountedRel,
 ) -> Result<Vec<System>, RowFault>
-    requires counts { count_tree counts.now ≡ counts_of (negation_normal true (rel_tree rel.now)) }
-    requires placed { IsPlacedRel (plain_layout layout.now) (rel_tree rel.now) }
-    requires sets { set_count (plain_layout layout.now) ≤ 6 }
-    requires few { case_count (negation_normal true (rel_tree rel.now)) ≤ 1024 }
-    requires room { first_free (plain_layout layout.now) + rel_quotients (rel_tree rel.now) < 2 ^ 32 }
-    ensures systems { SystemsAre (plain_layout layout.now) (rel_tree rel.now) result }
+    requires placed { IsPlacedRel (plain_layout layout.now) (rel_tree counted.now) }
+    requires sets { set_count (plain_layout layout.now) ≤ MOST_SETS }
+    requires few { case_count (negation_normal true (rel_tree counted.now)) ≤ MOST_CASES }
+    requires room { first_free (plain_layout layout.now) + rel_quotients (rel_tree counted.now) < 2 ^ 32 }
+    ensures systems { SystemsAre (plain_layout layout.now) (rel_tree counted.now) result }
     ensures ready { IfOk result (λ v. EachOf (λ m. Formed m × Differ m.unknown) (map system_of v.items)) }
 {
     let mut all = Vec::new(alloc);
-    for index in 0..count(rel) {
-        match case_of(alloc, rel, counts, layout, index) {
+    for index in 0..counted.cases_len() {
+        match case_of(alloc, counted, layout, index) {
             Ok(system) => all.push(system)?,
             Err(fault) => return Err(fault),
         }
@@ -61,7 +61,7 @@ fn each_system(
 // Whether the columns of the layout and those of the quotients of the relation are surely numbers of
 // 32 bits.
 fn has_columns(layout: &Layout, rel: &Rel) -> bool
-    requires { set_count (plain_layout layout.now) ≤ 6 }
+    requires { set_count (plain_layout layout.now) ≤ MOST_SETS }
     ensures { result ≡ true → first_free (plain_layout layout.now) + rel_quotients (rel_tree rel.now) < 2 ^ 32 }
 {
     are_few(layout.numbers.len(), layout.out_numbers.len(), rel.size())
@@ -69,7 +69,7 @@ fn has_columns(layout: &Layout, rel: &Rel) -> bool
 
 // Whether variables and nodes are so few that each has a column.
 fn are_few(numbers: usize, outputs: usize, nodes: u64) -> bool
-    ensures { result ≡ true → (numbers < 2 ^ 30) × (outputs < 2 ^ 30) × (nodes < 2 ^ 30) }
+    ensures { result ≡ true → (numbers < LEVEL_LIMIT) × (outputs < LEVEL_LIMIT) × (nodes < LEVEL_LIMIT) }
 {
-    numbers < 1 << 30 && outputs < 1 << 30 && nodes < 1 << 30
+    numbers < LEVEL_LIMIT && outputs < LEVEL_LIMIT && nodes < LEVEL_LIMIT as u64
 }

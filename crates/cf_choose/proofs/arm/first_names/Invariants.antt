@@ -8,7 +8,8 @@ use Rattle.cf_choose.proofs.arm.first_names.Given as goal
 abbrev pub invariant-loop-i : goal.invariant-loop-i
 invariant-loop-i l = record {
   within : l.i ≤ length l.layout.numbers.items;
-  same : SameColumnLevels l.names (map (λ x. (number_column (plain_layout l.layout) x, x)) (drop l.i l.layout.numbers.items) ++ search_names l.layout.scope (map bound_of l.bounds));
+  same : SameColumnLevels l.names (map (λ x. (number_column (plain_layout l.layout) x, x)) (drop l.i l.layout.numbers.items) ++
+      search_names l.layout.scope (map bound_of l.bounds));
 }
 
 abbrev pub decreases-loop-i : goal.decreases-loop-i

@@ -6,5 +6,6 @@ use Rattle.cf_choose.proofs.arm.gives.Goals as goal
 
 pub loop-i-preserved : goal.loop-i-preserved
 loop-i-preserved c =
-    gives_more (output_code (plain_layout c.args.layout.now) c.args.names.now c.args.sources.regions c.args.sources.fresh) c.loop-i.codes.items c.push.new.self.items c.in_ok-code.code c.args.layout.now.scope c.loop-i.i
+    gives_more (output_code (plain_layout c.args.layout.now) c.args.names.now c.args.sources.regions c.args.sources.fresh) c.loop-i.codes.items
+    c.push.new.self.items c.in_ok-code.code c.args.layout.now.scope c.loop-i.i
     (c.args.layout.now.scope + c.loop-i.i) c.in_ok-push.ensures.items c.in_ok-code.ensures refl c.loop-i.invariant

@@ -6,4 +6,5 @@ use Rattle.cf_choose.specs.ArmBuilders.{output_code}
 use Rattle.cf_choose.proofs.arm.gives.Given as goal
 
 abbrev pub invariant-loop-i : goal.invariant-loop-i
-invariant-loop-i l = map code_tree l.codes.items ≡ map (output_code (plain_layout l.layout) l.names l.sources.regions l.sources.fresh) (range_with_len l.layout.scope l.i)
+invariant-loop-i l = map code_tree l.codes.items ≡ map (output_code (plain_layout l.layout) l.names l.sources.regions l.sources.fresh)
+    (range_with_len l.layout.scope l.i)

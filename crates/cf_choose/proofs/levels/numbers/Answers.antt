@@ -5,5 +5,6 @@ use Rattle.cf_choose.proofs.levels.numbers.Goals as goal
 
 pub loop-i-preserved : goal.loop-i-preserved
 loop-i-preserved c =
-    levels_more is_number c.args.first c.loop-i.i c.args.bases.now _ c.is_number.result (c.args.first + c.loop-i.i) c.loop-i.levels.items c.push_if.new.levels.items _ c.loop-i-test.true c.is_number.ensures refl
+    levels_more is_number c.args.first c.loop-i.i c.args.bases.now _ c.is_number.result (c.args.first + c.loop-i.i) c.loop-i.levels.items
+    c.push_if.new.items.items _ c.loop-i-test.true c.is_number.ensures refl
     c.in_ok-push_if.ensures c.loop-i.invariant

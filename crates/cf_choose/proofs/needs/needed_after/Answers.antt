@@ -8,4 +8,5 @@ returns-then-is_need-clause-needed c =
 
 pub returns-else-is_need-clause-needed : goal.returns-else-is_need-clause-needed
 returns-else-is_need-clause-needed c =
-    passed c.args.items.now c.args.i c.args.count c.index-items-i.result c.requires.inside c.index-items-i.is (sym c.is_need.ensures ∙ c.if-is_need.false) c.requires.needed
+    passed c.args.items.now c.args.i c.args.count c.index-items-i.result c.requires.inside c.index-items-i.is (sym c.is_need.ensures ∙ c.if-is_need.false)
+    c.requires.needed

@@ -1,4 +1,4 @@
-use Rattle.std.proofs.Common.{◌-◌, length}
+use Rattle.std.proofs.Common.{◌-◌}
 use Rattle.std.specs.List.{fold, range_with_len}
 use Rattle.cf_linear.specs.Arm.{let_region}
 use Rattle.cf_linear.specs.Views.{plain_layout}
