@@ -1,6 +1,5 @@
 -- The values after the searches and the lets of an arm, whether its needs hold or not.
 use Rattle.std.proofs.Common.{◌≡◌, ℕ, ℤ, pos, List, [], ◌∷◌, refl, sym, ◌∙◌, ap, arith, suc, subst, ◌⊎◌, inl, inr, ⊎_elim}
-use Rattle.std.specs.Prelude.{◌≤ℤ◌, ◌<ℤ◌}
 use Rattle.std.specs.Int.{int_div_euclid}
 use Rattle.cf_tree.specs.Solving.{IsBelow}
 use Rattle.cf_linear.specs.Rows.{Values, value}
@@ -8,7 +7,7 @@ use Rattle.cf_linear.specs.Systems.{System, Step, floor_of, need_nonneg, need_ze
 use Rattle.cf_linear.specs.Keep.{In, Within, update}
 use Rattle.cf_linear.specs.Solved.{search_columns, let_columns, Rising, StepsOver, Owes, after, after_steps, InBounds, set_tuple, SameKnown}
 use Rattle.cf_linear.proofs.KindLemmas.{Rising-in}
-use Rattle.cf_linear.proofs.SolvedLemmas.{after_steps-other, set_tuple-other, tuple_within}
+use Rattle.cf_linear.proofs.SolvedLemmas.{after_steps-other, set_tuple-other, tuple_within, Within-agree}
 use Rattle.cf_linear.proofs.ValueLemmas.{update-at, update-other}
 use Rattle.cf_elim.proofs.SearchLaws.{bounds_of}
 use Rattle.cf_choose.proofs.ColumnNames.{wholes}
@@ -30,11 +29,6 @@ lets_fit Q lo hi s (floor_of c r g ∷ ms) ri fresh o =
 lets_fit Q lo hi s (need_nonneg r ∷ ms) ri fresh o = lets_fit Q lo hi s ms ri fresh o.1
 lets_fit Q lo hi s (need_zero r ∷ ms) ri fresh o = lets_fit Q lo hi s ms ri fresh o.1
 lets_fit Q lo hi s (need_divides g r ∷ ms) ri fresh o = lets_fit Q lo hi s ms ri fresh o.1
-
-Within-same : (v w : Values) (bs : List (ℕ × ℕ)) → ((c : ℕ) → In c (search_columns bs) → v c ≡ w c) → Within v bs → Within w bs
-Within-same v w [] a h = tt
-Within-same v w ((c, n) ∷ bs) a h =
-    (subst (λ y. pos 0 ≤ℤ y) (a c (inl refl)) h.0, subst (λ y. y <ℤ pos n) (a c (inl refl)) h.1, Within-same v w bs (λ d i. a d (inr i)) h.2)
 
 -- each search value is that of a search column
 pub tuple_value : (lo hi : ℕ) (v : Values) (bs : List (ℕ × ℕ)) (ks : List ℕ) → Rising lo hi (search_columns bs) → IsBelow (bounds_of bs) ks → (k : ℕ) → In k ks →
@@ -65,7 +59,7 @@ after_is m a st v ks inb =
     ⊎_elim (λ k. let b = st.below c k in let r = Rising-in m.next a.system.next c (let_columns a.steps) st.lets_rise i in absurd (omega arith)) (λ k. st.apart c k i) q in
     let first : (c : ℕ) → Q c → x c ≡ s c = λ c q. after_steps-other s a.steps c (fresh c q) in
     record {
-      within = Within-same s x a.bounds (λ c i. sym (first c (inr i))) (tuple_within m.next a.system.next v a.bounds ks st.bounds_rise inb);
+      within = Within-agree s x a.bounds (λ c i. sym (first c (inr i))) (tuple_within m.next a.system.next v a.bounds ks st.bounds_rise inb);
       lets = lets_fit Q m.next a.system.next s a.steps st.lets_rise fresh st.over;
       same = λ c k. sym (first c (inl k) ∙ set_tuple-other v a.bounds ks c (λ i. let b = st.below c k in let r = Rising-in m.next a.system.next c (search_columns a.bounds) st.bounds_rise i in absurd (omega arith)));
       first = first;

@@ -1,5 +1,5 @@
 -- A Bound step: search columns are at most the greatest search bound, and an unknown that is dropped is at most the greatest norm of its bounds, without its own entry.
-use Rattle.std.proofs.Common.{◌≡◌, ◌≢◌, ℕ, ◌≤◌, ◌<◌, ◌+◌, ◌*◌, ℤ, pos, negsuc, neg_ℤ, List, [], ◌∷◌, ◌++◌, Bool, true, false, not, refl, sym, ◌∙◌, ap, arith, subst, ◌⊎◌, inl, inr, ⊎_elim, max, map, ◌==◌}
+use Rattle.std.proofs.Common.{◌≡◌, ◌≢◌, ℕ, ◌≤◌, ◌<◌, ◌+◌, ◌*◌, ℤ, pos, negsuc, neg_ℤ, List, [], ◌∷◌, Bool, true, false, not, refl, sym, ◌∙◌, ap, arith, subst, ◌⊎◌, inl, inr, ⊎_elim, max, map, ◌==◌}
 use Rattle.std.specs.Prelude.{filter, unsigned_abs, nat_lt, int_lt}
 use Rattle.std.specs.List.{fold}
 use Rattle.std.specs.Int.{int_div_euclid, int_max, int_min}
@@ -8,7 +8,7 @@ use Rattle.std.proofs.lemmas.Bool.{cond_both, eq-eqb, ne_eqb, true≢false}
 use Rattle.std.proofs.Math.Nat.{mul-le-mul_left}
 use Rattle.cf_linear.specs.Rows.{Row, Values, value, norm, entry, is_zero, without}
 use Rattle.cf_linear.specs.Systems.{System, EachRow, Answer, then_answer}
-use Rattle.cf_linear.specs.Steps.{is_positive, lowers, uppers, searches, search_equation, search_bound, Found, found_row, found_all, no_found, searched, searched_by, how_between, dropped, bound, Pick, greatest_of}
+use Rattle.cf_linear.specs.Steps.{is_positive, lowers, uppers, searches, search_bound, Found, found_row, found_all, no_found, searched, searched_by, how_between, dropped, bound, Pick, greatest_of}
 use Rattle.cf_linear.specs.Arm.{negated}
 use Rattle.cf_linear.specs.Keep.{In, Over, IsColumn, Within, how_value}
 use Rattle.cf_linear.specs.Solved.{search_columns}
@@ -17,6 +17,7 @@ use Rattle.cf_linear.proofs.RowLemmas.{zero_from_is_zero}
 use Rattle.cf_linear.proofs.SubstituteLemmas.{two_entries}
 use Rattle.cf_linear.proofs.FormedLemmas.{Kinds, one_kept}
 use Rattle.cf_linear.proofs.KindLemmas.{EachRow-append, EachRow-with, EachRow-weaker, In-append, In-left, In-right, In-filter, Over-weaker, Over-without, Over-comb, search_columns-append}
+use Rattle.cf_bounds.proofs.SearchLemmas.{found_new, found_kept}
 use Rattle.cf_growth.specs.Norms.{IsBounded}
 use Rattle.cf_growth.specs.Growing.{PairsWithin, HowWithin, Grows}
 use Rattle.cf_growth.proofs.NormLaws.{times_more, times_le, bounded_more, value_bound, sums_bound, quotient_bound, norm-turned}
@@ -43,19 +44,6 @@ record Searching (x g : ℕ) (s : Found) : Type 0 where
   columns : (c : ℕ) → In c s.columns → In c (search_columns s.bounds)
   back : (c : ℕ) → In c (search_columns s.bounds) → In c s.columns
   rows : EachRow (IsSmall x g) s.rows
-
-abbrev pub found_new : ℕ → Bool → Found → Row → Found
-found_new x lower s r = record {
-  next = s.next + 2;
-  columns = s.columns ++ (s.next ∷ []);
-  unknowns = s.unknowns ++ ((s.next + 1) ∷ []);
-  equations = s.equations ++ (search_equation x lower s.next r ∷ []);
-  rows = s.rows ++ (search_bound x lower s.next ∷ []);
-  bounds = s.bounds ++ ((s.next, unsigned_abs (entry r x)) ∷ []);
-}
-
-abbrev pub found_kept : Found → Row → Found
-found_kept s r = record { next = s.next; columns = s.columns; unknowns = s.unknowns; equations = s.equations; rows = s.rows ++ (r ∷ []); bounds = s.bounds }
 
 searching_row : (x g : ℕ) (lower : Bool) (s : Found) (r : Row) → 1 ≤ g → IsSmall x g r → Searching x g s → Searching x g (found_row x lower s r)
 searching_row x g lower s r some h k =

@@ -1,5 +1,5 @@
 -- A choose meets nothing above its reach.
-use Rattle.std.proofs.Common.{◌≡◌, ℕ, zero, suc, ◌+◌, ◌-◌, ◌*◌, ◌^◌, ◌<◌, ◌≤◌, ℤ, List, [], ◌∷◌, inl, inr, map, true, refl, sym, subst, arith, max, length}
+use Rattle.std.proofs.Common.{◌≡◌, ℕ, ◌+◌, ◌-◌, ◌*◌, ◌^◌, ◌<◌, ◌≤◌, ℤ, List, [], ◌∷◌, inl, inr, map, true, refl, sym, subst, arith, max, length}
 use Rattle.std.specs.Prelude.{nat_lt, Option, Some, None}
 use Rattle.cf_linear.specs.declared.refusal.Refusal.{Refusal}
 use Rattle.std.specs.List.{fold, range_with_len}
@@ -23,8 +23,8 @@ use Rattle.cf_cases.specs.Holding.{EachOf, IsPlacedRel}
 use Rattle.cf_cases.proofs.AgreeLaws.{first_systems-formed}
 use Rattle.cf_cases.proofs.FormedLaws.{In-range, range-In, case-next}
 use Rattle.cf_cases.proofs.PlacedLaws.{placed-rel}
-use Rattle.cf_venn.proofs.ColumnLaws.{place_within}
-use Rattle.cf_venn.proofs.LevelLaws.{is_layout}
+use Rattle.cf_choose.proofs.ChooseLevels.{output_column}
+use Rattle.cf_choose.proofs.SystemLaws.{range_differs}
 use Rattle.cf_growth.specs.Reaching.{parameters_size, IsNearElement, IsNear, AreNear, ArmsWithinReach}
 use Rattle.cf_growth.specs.Tracing.{all_of}
 use Rattle.cf_growth.proofs.EndLaws.{trace_done, cases_grow}
@@ -67,18 +67,9 @@ pub record IsBegun (l : Layout) (m : System) : Type 0 where
   pub later : (c : ℕ) → In c m.unknown → 1 ≤ c
   pub differ : Differ m.unknown
 
-range_differs : (a n : ℕ) → Differ (range_with_len a n)
-range_differs a zero = tt
-range_differs a (suc n) = ((λ i. let b = (range-In (a + 1) n a i).0 in absurd (omega arith)), range_differs (a + 1) n)
-
 module _ (scope outputs : List Base) (rel : RelTree) where
   abbrev l : Layout
   l = layout_of scope outputs rel
-
-  output_column : (x : ℕ) → has_level l.out_numbers x ≡ true → number_column l x ≡ known_count l + place x l.out_numbers
-  output_column x t = on_bool (has_level l.numbers x)
-      (λ s. let a = (is_layout scope outputs rel).numbers x s in let b = ((is_layout scope outputs rel).out_numbers x t).0 in absurd (omega arith))
-      (λ s. rw s refl)
 
   case_begun : (c : List Signed) → IsBegun l (system_of_case l c)
   unfolding system_of_case
@@ -89,8 +80,8 @@ module _ (scope outputs : List Base) (rel : RelTree) where
       let t = pow_pos (length l.inputs) in
       record {
         known = refl;
-        unknown = λ x h. let p = place_within x l.out_numbers h in
-            subst (λ d. In d (range_with_len (known_count l) (n - known_count l))) (sym (output_column x h)) (In-range (known_count l) (n - known_count l) (known_count l + place x l.out_numbers) (omega arith) (omega arith));
+        unknown = λ x h. let c = output_column scope outputs rel x h in let p = c.1 in
+            subst (λ d. In d (range_with_len (known_count l) (n - known_count l))) (sym c.0) (In-range (known_count l) (n - known_count l) (known_count l + place x l.out_numbers) (omega arith) (omega arith));
         regions = λ r x y. In-range (known_count l) (n - known_count l) (region_column l r) (omega arith) (omega arith);
         later = λ d i. let h = (range-In (known_count l) (n - known_count l) d i).0 in omega arith;
         differ = range_differs (known_count l) (n - known_count l);

@@ -1,8 +1,8 @@
 -- A Clean lets the known columns grow by at most the greatest norm of a row that gets a new column.
-use Rattle.std.proofs.Common.{◌≡◌, ℕ, ◌≤◌, pos, List, [], ◌∷◌, ◌++◌, true, false, not, refl, sym, ◌∙◌, arith, subst, inl, inr, ⊎_elim, max, map, cond, ◌==◌}
+use Rattle.std.proofs.Common.{◌≡◌, ℕ, ◌≤◌, pos, List, [], ◌∷◌, ◌++◌, false, not, refl, sym, ◌∙◌, arith, subst, inl, inr, ⊎_elim, max, map, cond, ◌==◌}
 use Rattle.std.specs.Prelude.{filter, nat_le, ◌||◌, Option, Some, None}
 use Rattle.std.specs.List.{fold, list_all}
-use Rattle.std.proofs.lemmas.Bool.{cond_both, eq-eqb, true≢false}
+use Rattle.std.proofs.lemmas.Bool.{cond_both, true≢false}
 use Rattle.cf_linear.specs.Rows.{Row, comb}
 use Rattle.cf_linear.specs.Systems.{System, EachRow, Step, floor_of, need_nonneg, need_zero, need_divides}
 use Rattle.cf_linear.specs.Steps.{has_column, has_unknown, unknown_part, known_part, common, divides_it, divided, one_at, tighten_row, Tightened, next_tightened, then_tighten, clean, greatest_of, let_norm}
@@ -10,21 +10,17 @@ use Rattle.cf_linear.specs.Keep.{In, Over, IsColumn, Formed}
 use Rattle.cf_linear.specs.Solved.{let_columns}
 use Rattle.cf_linear.proofs.BoolLemmas.{on_bool}
 use Rattle.cf_linear.proofs.KindLemmas.{In-append, In-left, In-right, let_columns-append, EachRow-filter}
+use Rattle.cf_bounds.proofs.OwesLemmas.{has-in}
 use Rattle.cf_growth.specs.Growing.{IsKnown, Grows}
 use Rattle.cf_growth.proofs.NormLaws.{times_more}
 use Rattle.cf_growth.proofs.LetLaws.{RowsIn, lets_of, rows_append, over_from, lets_bound, lets_met}
 
 -- ---- the known part
-has_in : (c : ℕ) (us : List ℕ) → In c us → has_column us c ≡ true
-has_in c [] i = absurd i
-has_in c (u ∷ us) (inl e) = rw (eq-eqb u c (sym e)) refl
-has_in c (u ∷ us) (inr i) = on_bool (u == c) (λ t. rw t refl) (λ f. rw f (has_in c us i))
-
 known_over : (m : System) (r : Row) → Over (IsColumn m) r → Over (IsKnown m) (known_part m.unknown r)
 known_over m [] o = tt
 known_over m ((c, k) ∷ r) o =
     on_bool (has_column m.unknown c) (λ t. rw t (known_over m r o.1))
-    (λ f. rw f (⊎_elim (λ i. i) (λ i. absurd (true≢false (sym (has_in c m.unknown i) ∙ f))) o.0, known_over m r o.1))
+    (λ f. rw f (⊎_elim (λ i. i) (λ i. absurd (true≢false (sym (has-in c m.unknown i) ∙ f))) o.0, known_over m r o.1))
 
 -- ---- one row
 abbrev Makes : (ℕ → Type 0) → ℕ → Option Step → Type 0
@@ -74,7 +70,7 @@ row_known : (m : System) (r : Row) → Over (IsColumn m) r → has_unknown m.unk
 row_known m [] o h = tt
 row_known m ((c, k) ∷ r) o h =
     on_bool (has_column m.unknown c) (λ t. absurd (true≢false (rw t at h)))
-    (λ f. (⊎_elim (λ i. i) (λ i. absurd (true≢false (sym (has_in c m.unknown i) ∙ f))) o.0, row_known m r o.1 (rw f at h)))
+    (λ f. (⊎_elim (λ i. i) (λ i. absurd (true≢false (sym (has-in c m.unknown i) ∙ f))) o.0, row_known m r o.1 (rw f at h)))
 
 rows_known : (m : System) (rows : List Row) → EachRow (Over (IsColumn m)) rows → EachRow (Over (IsKnown m)) (filter (λ r. not (has_unknown m.unknown r)) rows)
 rows_known m [] o = tt

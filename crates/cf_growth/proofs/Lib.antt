@@ -12,6 +12,7 @@ pub mod MergeGrowth
 pub mod MetCodes
 pub mod NormLaws
 pub mod OwesLaws
+mod NearExamples
 pub mod ParameterLaws
 pub mod PickLaws
 pub mod ReachLaws
@@ -19,6 +20,8 @@ pub mod RegionGrowth
 pub mod RunExamples
 pub mod SetCodes
 pub mod SetGrowth
+mod SetNumberExamples
+pub mod SetNumbers
 pub mod SizeLaws
 pub mod StageGrowth
 pub mod ThenLaws

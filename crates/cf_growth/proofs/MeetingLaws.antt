@@ -4,6 +4,7 @@ use Rattle.std.specs.Prelude.{unsigned_abs, cond}
 use Rattle.cf_tree.specs.CodeTree.{CodeTree, code_lit, code_truth, code_var, code_set_of, code_tuple, code_sum, code_sub, code_mul, code_neg, code_div, code_mod, code_min, code_max, code_compare, code_divides, code_and, code_or, code_not, code_union, code_inter, code_diff, code_subset, code_card, code_slice, code_fresh, code_if, code_let, code_solve, CodeTrees, no_codes, code_more, ArmTree, arm_of, ArmTrees, no_arms, arm_more}
 use Rattle.cf_tree.specs.Meaning.{Got, got, none_at, Path, then_gives, then_peak, then_path, gives_only, if_some, or_later, or_none, first_from, path, all_path, set_path, sum_path, best_path, join_path, items_path, arm_path, arms_path, meets, meets_value, meets_all, tuple_at, number_in, truth_in}
 use Rattle.cf_tree.specs.Values.{Value, number, truth, elements, value_at}
+use Rattle.cf_choose.proofs.ItemLemmas.{some_once, none_is_some}
 use Rattle.cf_growth.specs.Meeting.{AreSmall, GivenAreMet}
 
 stop_not : {A : Type 0} (k : ℕ) (x : A) → none_at k ≡ got x → ⊥
@@ -11,12 +12,6 @@ stop_not k x e = cc
 
 same_got : {A : Type 0} (x y : A) → got x ≡ got y → x ≡ y
 same_got x y e = cc
-
-none_found : (vs : List Value) → got None ≡ got (Some vs) → ⊥
-none_found vs e = cc
-
-same_found : (xs ys : List Value) → got (Some xs) ≡ got (Some ys) → xs ≡ ys
-same_found xs ys e = cc
 
 pub small_append : (n : ℕ) (xs ys : List Value) → AreSmall n xs → AreSmall n ys → AreSmall n (xs ++ ys)
 small_append n [] ys h k = k
@@ -72,7 +67,7 @@ or_else_own p q h k n l vs e = by p.gives p.peak (λ m. h n m) l e
     by (none_at x) m f l e = absurd (stop_not x (Some vs) e)
 
 none_own : IsOwnFound (gives_only None)
-none_own n l vs e = absurd (none_found vs e)
+none_own n l vs e = absurd (none_is_some vs e)
 
 first_own : (total k : ℕ) (f : ℕ → Path (Option (List Value))) → ((i : ℕ) → IsOwnFound (f i)) → IsOwnFound (first_from total k f)
 first_own zero k f h = none_own
@@ -86,7 +81,7 @@ some_own : (p : Path (List Value)) → IsOwn p → IsOwnFound (then_path p (λ v
 some_own p h n l vs e = by p.gives p.peak (λ m. h n m) l e
   where
     by : (g : Got (List Value)) (m : ℕ) → (m ≤ n → (ws : List Value) → g ≡ got ws → AreSmall n ws) → then_peak m g (λ vs. 0) ≤ n → then_gives g (λ ws. got (Some ws)) ≡ got (Some vs) → AreSmall n vs
-    by (got ws) m f l e = f (omega arith) vs (ap got (same_found ws vs e))
+    by (got ws) m f l e = f (omega arith) vs (ap got (some_once ws vs e))
     by (none_at x) m f l e = absurd (stop_not x (Some vs) e)
 
 -- what was found is the outcome of a solve

@@ -1,13 +1,13 @@
 -- A Merge makes no known column, and its two unknowns are at most its factor times the new ones.
-use Rattle.std.proofs.Common.{◌≡◌, ℕ, ◌≤◌, ◌+◌, ◌*◌, ℤ, List, [], ◌∷◌, true, false, refl, sym, ◌∙◌, arith, subst, ◌⊎◌, inl, inr, ⊎_elim, max, ◌==◌}
+use Rattle.std.proofs.Common.{◌≡◌, ℕ, ◌≤◌, ◌+◌, ◌*◌, ℤ, refl, sym, ◌∙◌, arith, subst, ◌⊎◌, inl, inr, ⊎_elim, max, ◌==◌}
 use Rattle.std.specs.Prelude.{unsigned_abs}
-use Rattle.std.proofs.lemmas.Bool.{cond_both, eqb-false, eq-eqb, ne_eqb}
+use Rattle.std.proofs.lemmas.Bool.{cond_both, eqb-false}
 use Rattle.cf_linear.specs.Rows.{Row, Values, value, norm, entry}
 use Rattle.cf_linear.specs.Systems.{System}
 use Rattle.cf_linear.specs.Steps.{one_at, two_at, replaced, mix, merge, merge_factor, factors_of}
 use Rattle.cf_linear.specs.Keep.{In, Over, Formed, update}
-use Rattle.cf_linear.proofs.KindLemmas.{Over-comb}
 use Rattle.cf_linear.proofs.ValueLemmas.{update-other}
+use Rattle.cf_bounds.proofs.SearchFormed.{two_over}
 use Rattle.cf_elim.proofs.StepReturns.{In-replaced, replaced-In}
 use Rattle.cf_growth.specs.Norms.{IsBounded}
 use Rattle.cf_growth.specs.Growing.{Grows}
@@ -15,9 +15,6 @@ use Rattle.cf_growth.proofs.NormLaws.{times_more, times_le, value_bound, sums_bo
 
 two_norm : (a : ℤ) (u : ℕ) (b : ℤ) (v : ℕ) → norm (two_at a u b v) ≤ unsigned_abs a + unsigned_abs b
 two_norm a u b v = let h = norm-comb a (one_at u) b (one_at v) in omega arith
-
-two_over : (Q : ℕ → Type 0) (a : ℤ) (u : ℕ) (b : ℤ) (v : ℕ) → Q u → Q v → Over Q (two_at a u b v)
-two_over Q a u b v i j = Over-comb Q a (one_at u) b (one_at v) (i, tt) (j, tt)
 
 grows_mix : (m : System) (x y : ℕ) (a b c d : ℤ) → Formed m → In x m.unknown → In y m.unknown → (x ≡ y → ⊥) → 1 ≤ max (unsigned_abs a + unsigned_abs b) (unsigned_abs c + unsigned_abs d) →
     Grows m (mix m x y a b c d) 1 (max (unsigned_abs a + unsigned_abs b) (unsigned_abs c + unsigned_abs d))

@@ -2,7 +2,6 @@
 use Rattle.std.proofs.Common.{◌≡◌, ℕ, ◌≤◌, ◌<◌, ◌==◌, ℤ, pos, negsuc, neg_ℤ, ◌+ℤ◌, ◌*ℤ◌, List, [], ◌∷◌, inl, inr, length, map, Some, refl, sym, ap, arith, ◌∙◌, cond, subst}
 use Rattle.std.specs.Prelude.{Option, None, false, unsigned_abs, ◌≤ℤ◌}
 use Rattle.std.specs.Int.{int_div_euclid, int_max, int_min}
-use Rattle.std.specs.List.{fold}
 use Rattle.std.specs.Ordering.{int_eq}
 use Rattle.std.proofs.lemmas.Int.{ints, clamps}
 use Rattle.std.proofs.lemmas.Bool.{cond_both, eqb-true, eqb-false}
@@ -20,7 +19,7 @@ use Rattle.cf_linear.proofs.RowLemmas.{value-comb}
 use Rattle.cf_linear.proofs.KindLemmas.{Over-comb}
 use Rattle.cf_elim.specs.Returning.{PairsOver, HowOver, PairsDivide, HowDivides}
 use Rattle.cf_cases.proofs.GuardLaws.{quotient-is}
-use Rattle.cf_choose.proofs.RowCodes.{named, HasName}
+use Rattle.cf_choose.proofs.RowCodes.{named, HasName, best_of, best_fold}
 use Rattle.cf_growth.specs.Norms.{SumsWithin}
 use Rattle.cf_growth.specs.Growing.{PairsWithin, HowWithin}
 use Rattle.cf_growth.proofs.NormLaws.{quotient_bound}
@@ -66,14 +65,6 @@ div_met n c g e z d h =
     record { gives = rw (h.gives, q) refl; peak = rw (h.gives, q) (omega arith); size = omega arith }
 
 -- ---- the best of several numbers
-abbrev best_of : (ℤ → ℤ → ℤ) → Option ℤ → List ℤ → ℤ
-best_of better z [] = chosen z
-best_of better z (x ∷ xs) = best_of better (Some (choose_with better z x)) xs
-
-best_fold : (better : ℤ → ℤ → ℤ) (z : ℤ) (xs : List ℤ) → best_of better (Some z) xs ≡ fold better z xs
-best_fold better z [] = refl
-best_fold better z (x ∷ xs) = best_fold better (better z x) xs
-
 module _ (n : ℕ) (better : ℤ → ℤ → ℤ) (keeps : (x y : ℤ) → unsigned_abs x ≤ n → unsigned_abs y ≤ n → unsigned_abs (better x y) ≤ n) (f : Row × ℤ → CodeTree) (w : Row × ℤ → ℤ) (e : List Value) where
   abbrev pub AllMet : List (Row × ℤ) → Type 0
   AllMet [] = Unit {0}
@@ -140,6 +131,9 @@ module _ (n : ℕ) (names : ColumnLevels) (e : List Value) (v : Values) (one : v
       record { gives = h.0 ∙ ap (λ x. got (number x ∷ [])) z; peak = h.1; size = subst (λ x. unsigned_abs x ≤ n) z h.2 }
 
   -- ---- bounds
+  over_one : (p z : ℤ) → p ≡ pos 1 → int_div_euclid z p ≡ z
+  over_one p z i = rw i (int_div_euclid-one z)
+
   lower_met : (r : Row) (p : ℤ) → SumsWithin n v (pos 0) r → SumsWithin n v (pos 0) (negated r) → Over (HasName names) r → pos 1 ≤ℤ p → IsMet n (lower_code names (r, p)) e (neg_ℤ (int_div_euclid (value v r) p))
   lower_met r p s t o d =
       cond_both (int_eq p (pos 1)) (row_code names (negated r)) (code_neg (code_div (row_code names r) p)) (λ y. IsMet n y e (neg_ℤ (int_div_euclid (value v r) p)))
@@ -147,20 +141,14 @@ module _ (n : ℕ) (names : ColumnLevels) (e : List Value) (v : Values) (one : v
       (row_met (negated r) t (Over-comb (HasName names) (negsuc 0) r (pos 0) [] o tt)))
       (λ _. neg_met n (code_div (row_code names r) p) e (int_div_euclid (value v r) p) (div_met n (row_code names r) p e (value v r) d (row_met r s o)))
     where
-      over_one : (z : ℤ) → p ≡ pos 1 → int_div_euclid z p ≡ z
-      over_one z i = rw i (int_div_euclid-one z)
-
       turned_is : p ≡ pos 1 → value v (negated r) ≡ neg_ℤ (int_div_euclid (value v r) p)
-      turned_is i = rw (value-comb v (negsuc 0) r (pos 0) [], over_one (value v r) i) (omega (arith, ints))
+      turned_is i = rw (value-comb v (negsuc 0) r (pos 0) [], over_one p (value v r) i) (omega (arith, ints))
 
   upper_met : (r : Row) (p : ℤ) → SumsWithin n v (pos 0) r → Over (HasName names) r → pos 1 ≤ℤ p → IsMet n (upper_code names (r, p)) e (int_div_euclid (value v r) p)
   upper_met r p s o d =
       cond_both (int_eq p (pos 1)) (row_code names r) (code_div (row_code names r) p) (λ y. IsMet n y e (int_div_euclid (value v r) p))
-      (λ i. same_met n (row_code names r) e (value v r) (int_div_euclid (value v r) p) (sym (over_one (value v r) (eq_is p (pos 1) i))) (row_met r s o))
+      (λ i. same_met n (row_code names r) e (value v r) (int_div_euclid (value v r) p) (sym (over_one p (value v r) (eq_is p (pos 1) i))) (row_met r s o))
       (λ _. div_met n (row_code names r) p e (value v r) d (row_met r s o))
-    where
-      over_one : (z : ℤ) → p ≡ pos 1 → int_div_euclid z p ≡ z
-      over_one z i = rw i (int_div_euclid-one z)
 
   max_within : (x y : ℤ) → unsigned_abs x ≤ n → unsigned_abs y ≤ n → unsigned_abs (int_max x y) ≤ n
   max_within x y h k = omega (arith, ints, clamps)

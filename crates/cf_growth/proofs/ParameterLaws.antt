@@ -1,65 +1,28 @@
 -- The parameters of a choose: their columns, names and sizes.
-use Rattle.std.proofs.Common.{◌≡◌, ℕ, zero, suc, ◌+◌, ◌-◌, ◌^◌, ◌<◌, ◌≤◌, ◌==◌, ℤ, List, [], ◌∷◌, ◌++◌, ◌⊎◌, inl, inr, ⊎_elim, length, get_or, map, Some, refl, sym, ap, subst, arith, ◌∙◌, append-nil}
-use Rattle.std.specs.Prelude.{true, false, unsigned_abs, slice_get, filter, Bool, nat_le}
+use Rattle.std.proofs.Common.{◌≡◌, ℕ, zero, suc, ◌+◌, ◌-◌, ◌^◌, ◌<◌, ◌≤◌, ◌==◌, ℤ, List, [], ◌∷◌, ◌++◌, ◌⊎◌, inl, inr, ⊎_elim, length, get_or, map, refl, sym, ap, subst, arith, ◌∙◌, append-nil}
+use Rattle.std.specs.Prelude.{true, false, unsigned_abs, filter, Bool, nat_le}
 use Rattle.std.specs.List.{fold}
-use Rattle.std.proofs.lemmas.Bool.{cond_both, eqb-true, eqb-false, ne_eqb, leb-true, leb-false}
+use Rattle.std.proofs.lemmas.Bool.{cond_both, eqb-true, eqb-false, leb-true, leb-false}
 use Rattle.std.proofs.lemmas.Nat.{pow_pos}
 use Rattle.cf_tree.specs.declared.base.Base.{Base}
-use Rattle.cf_tree.specs.declared.base.Base.TheVariants.{Int, Bool as IsTruth, Set}
 use Rattle.cf_tree.specs.RelTree.{RelTree}
 use Rattle.cf_tree.specs.Values.{Value, elements, number_of, value_at, HaveBases}
-use Rattle.cf_linear.specs.Arm.{ColumnLevels, level_of, ArmBuilder, let_region, search_names}
+use Rattle.cf_linear.specs.Arm.{level_of, ArmBuilder, let_region}
 use Rattle.cf_linear.specs.Keep.{In}
 use Rattle.cf_linear.specs.Layout.{Layout, layout_of, levels_with, is_number, is_set, rel_holds, place, number_column, input_column, known_count}
-use Rattle.cf_linear.specs.Solved.{search_columns}
 use Rattle.cf_linear.proofs.BoolLemmas.{on_bool}
 use Rattle.cf_linear.proofs.KindLemmas.{In-right, In-left}
-use Rattle.cf_choose.specs.CaseArms.{parameter_names, AreInts}
+use Rattle.cf_choose.specs.CaseArms.{parameter_names}
 use Rattle.cf_choose.proofs.ColumnNames.{has-In, In-at, named_parameter, parameter_named, column_is, place-within}
 use Rattle.cf_choose.proofs.ArmBuilderLemmas.{Agrees}
 use Rattle.cf_choose.proofs.RowCodes.{named, HasName}
 use Rattle.cf_venn.specs.Codes.{HoldsInputs}
 use Rattle.cf_venn.specs.Columns.{known_values}
-use Rattle.cf_venn.proofs.AgreeLaws.{place_later}
 use Rattle.cf_venn.proofs.ColumnLaws.{number_known}
-use Rattle.cf_venn.proofs.KnownLaws.{parameters_known}
-use Rattle.cf_venn.proofs.LevelLaws.{Up, up_levels, up_filter, up_has, same_level}
+use Rattle.cf_venn.proofs.KnownLaws.{place_at, parameters_known}
+use Rattle.cf_venn.proofs.LevelLaws.{Up, up_levels, up_filter}
 use Rattle.cf_growth.specs.Reaching.{size_of, parameters_size}
 use Rattle.cf_growth.proofs.SizeLaws.{number_size, size_in, level_in}
-
--- ---- names of several lists
-pub named-both : (names ns : ColumnLevels) → named (names ++ ns) ≡ named names ++ named ns
-named-both [] ns = refl
-named-both ((c, x) ∷ names) ns = ap (λ cs. c ∷ cs) (named-both names ns)
-
-pub named_search : (n c : ℕ) (bounds : List (ℕ × ℕ)) → In c (named (search_names n bounds)) → In c (search_columns bounds)
-named_search n c [] i = i
-named_search n c ((d, p) ∷ bounds) (inl s) = inl s
-named_search n c ((d, p) ∷ bounds) (inr i) = inr (named_search (n + 1) c bounds i)
-
--- ---- numbers of the scope
-int_levels : (scope bs : List Base) (n : ℕ) → ((i : ℕ) (b : Base) → slice_get bs i ≡ Some b → slice_get scope (n + i) ≡ Some b) → AreInts scope (levels_with is_number n bs)
-int_levels scope [] n h = tt
-int_levels scope (b ∷ bs) n h = with_base b (h 0 b refl) (int_levels scope bs (n + 1) (λ i d e. let s : n + 1 + i ≡ n + suc i = omega arith in rw s (h (suc i) d e)))
-  where
-    with_base : (b : Base) → slice_get scope (n + 0) ≡ Some b → AreInts scope (levels_with is_number (n + 1) bs) → AreInts scope (levels_with is_number n (b ∷ bs))
-    with_base Int e k = let z : n + 0 ≡ n = omega arith in (subst (λ m. slice_get scope m ≡ Some Int) z e, k)
-    with_base IsTruth e k = k
-    with_base Set e k = k
-
-ints_filter : (scope : List Base) (q : ℕ → Bool) (xs : List ℕ) → AreInts scope xs → AreInts scope (filter q xs)
-ints_filter scope q [] h = tt
-ints_filter scope q (x ∷ xs) h = cond_both (q x) (x ∷ filter q xs) (filter q xs) (λ ys. AreInts scope ys) (λ _. (h.0, ints_filter scope q xs h.1)) (λ _. ints_filter scope q xs h.1)
-
--- ---- a level of a list and its place
-place_at : (lo : ℕ) (xs : List ℕ) (i : ℕ) → Up lo xs → i < length xs → place (get_or xs i 0) xs ≡ i
-place_at lo [] i u h = absurd (omega arith)
-place_at lo (x ∷ xs) zero u h = rw (same_level x) refl
-place_at lo (x ∷ xs) (suc i) u h =
-    let k = place_at (suc x) xs i u.1 (omega arith) in
-    let l = up_has (suc x) xs (get_or xs i 0) u.1 (has-In (get_or xs i 0) xs (In-at xs i (omega arith))) in
-    let n : (x == get_or xs i 0) ≡ false = ne_eqb x (get_or xs i 0) (λ e. omega arith) in
-    place_later (get_or xs i 0) x xs n ∙ ap suc k
 
 pub In-unpassed : (x : ℕ) (p : ℕ → Bool) (xs : List ℕ) → In x (filter p xs) → In x xs
 In-unpassed x p [] i = i
@@ -69,9 +32,6 @@ In-unpassed x p (y ∷ xs) i =
 module _ (scope outputs : List Base) (rel : RelTree) where
   abbrev l : Layout
   l = layout_of scope outputs rel
-
-  pub numbers_are_ints : AreInts scope l.numbers
-  numbers_are_ints = ints_filter scope (λ x. rel_holds x rel) (levels_with is_number 0 scope) (int_levels scope scope 0 (λ i b k. let z : 0 + i ≡ i = omega arith in rw z k))
 
   pub inputs_up : Up 0 l.inputs
   inputs_up = up_filter (λ x. rel_holds x rel) 0 (levels_with is_set 0 scope) (up_levels is_set 0 scope)
@@ -102,7 +62,7 @@ module _ (scope outputs : List Base) (rel : RelTree) where
       by_place g =
           let j = In-at l.numbers i (omega arith) in
           let x = get_or l.numbers i 0 in
-          let e : number_column l x ≡ suc i = column_is l x j ∙ ap (λ n. 1 + n) (place_at 0 l.numbers i numbers_up (omega arith)) ∙ omega arith in
+          let e : number_column l x ≡ suc i = column_is l x j ∙ ap (λ n. 1 + n) (place_at 0 l.numbers i numbers_up (omega arith)).1 ∙ omega arith in
           subst (λ d. In d (named (parameter_names l))) e (parameter_named l x l.numbers j)
 
   -- a parameter's column and the level that it names

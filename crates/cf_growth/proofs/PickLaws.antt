@@ -5,7 +5,7 @@ use Rattle.std.proofs.lemmas.Bool.{leb-false}
 use Rattle.cf_num.specs.Limit.{limit}
 use Rattle.cf_tree.specs.declared.raw.BinOp.{BinOp}
 use Rattle.cf_tree.specs.declared.raw.BinOp.TheVariants.{Add, Sub, Mul, And, Or, Union, Inter, Diff, Subset, Compare}
-use Rattle.cf_tree.specs.Allowed.{AllowedThen, goes_on, ends_at, Gives, AllowedRight, operation}
+use Rattle.cf_tree.specs.Allowed.{AllowedThen, goes_on, ends_at, Gives, AllowedRight, operation, Calling, scope_of}
 use Rattle.cf_tree.specs.CodeTree.{code_solve, arms_of}
 use Rattle.cf_tree.specs.ExprTree.{ExprTree, expr_lit, expr_truth, expr_var, expr_set_of, expr_tuple, expr_neg, expr_not, expr_abs, expr_binary, expr_divides, expr_div, expr_mod, expr_card, expr_if, expr_call, expr_let, expr_choose, expr_match, ExprTrees, no_exprs, expr_more}
 use Rattle.cf_tree.specs.Meaning.{means, peak}
@@ -14,7 +14,7 @@ use Rattle.cf_tree.specs.Sets.{set_of}
 use Rattle.cf_tree.specs.Values.{Value, number, truth, elements, Outcome, values, no_solution, number_of, truth_of, elements_of, value_at, first_of}
 use Rattle.cf_linear.specs.Chooses.{arms}
 use Rattle.cf_linear.proofs.BoolLemmas.{on_bool}
-use Rattle.cf_growth.specs.Overflowing.{scope_of, NearIn, NearAll, NearCall, Passes, RightPasses, Near, Over, OverIn, OverAll, OverCall, then_picked, ordinary, picked_right, picked_in, picked_all, picked_call, IsFineIn, AreFineIn, IsFineCall, IsFinePick, PicksAreNear}
+use Rattle.cf_growth.specs.Overflowing.{NearIn, NearAll, NearCall, Passes, RightPasses, Over, OverIn, OverAll, OverCall, then_picked, ordinary, picked_right, picked_in, picked_all, picked_call, IsFineIn, AreFineIn, IsFineCall, IsFinePick, PicksAreNear}
 
 pub none_some : (o : Outcome) → None ≡ Some o → ⊥
 none_some o e = cc
@@ -87,7 +87,7 @@ module _ (v : Value) (p : Option Outcome) (N : Outcome → Type 0) (O : Type 0) 
 pub above : (a b c : ℕ) → a < b → b ≤ c → a < c
 above a b c h k = omega arith
 
-module _ (calls : ℕ → List Value → Option Outcome) (near : Near) (over fine : Over) (each : (f : ℕ) (xs : List Value) → fine f xs → IsFinePick (calls f xs) (near f xs) (over f xs)) where
+module _ (calls : ℕ → List Value → Option Outcome) (near : Calling) (over fine : Over) (each : (f : ℕ) (xs : List Value) → fine f xs → IsFinePick (calls f xs) (near f xs) (over f xs)) where
   mutual
     pick_near : (e : ExprTree) (env : List Value) → IsFineIn calls fine e env → IsFinePick (picked_in calls e env) (NearIn near e env) (OverIn near over e env)
     pick_near (expr_lit k) env h = given (values (number k ∷ [])) (Gives (number k)) ⊥ refl

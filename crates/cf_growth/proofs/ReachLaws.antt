@@ -22,7 +22,8 @@ use Rattle.cf_linear.proofs.KindLemmas.{Over-weaker}
 use Rattle.cf_linear.proofs.ValueLemmas.{update-at, update-other}
 use Rattle.cf_elim.specs.Returning.{BackOver, StepsDivide, BackDivides}
 use Rattle.cf_elim.proofs.ReturnLaws.{how_wider}
-use Rattle.cf_choose.proofs.ArmBuilderLemmas.{value_at-end, value_at-early}
+use Rattle.cf_choose.proofs.ArmBuilderLemmas.{value_at-end, value_at-early, wider_let}
+use Rattle.cf_choose.proofs.ItemLemmas.{some_once, none_is_some}
 use Rattle.cf_choose.proofs.RowCodes.{named, HasName}
 use Rattle.cf_growth.specs.Growing.{LetsFit, LetsWithin, NeedsWithin, WaysWithin}
 use Rattle.cf_growth.proofs.MetCodes.{IsMet, AreHeld, row_met, how_met, div_met}
@@ -38,12 +39,6 @@ stop_not k o h = cc
 some_not : (e : List Value) → got (Some e) ≡ got None → ⊥
 some_not e h = cc
 
-none_not : (e : List Value) → got None ≡ got (Some e) → ⊥
-none_not e h = cc
-
-some_same : (e d : List Value) → got (Some e) ≡ got (Some d) → e ≡ d
-some_same e d h = cc
-
 pub reach_none : (n : ℕ) (is js : List ItemTree) (env : List Value) → Reaches n is env None → Reaches n (is ++ js) env None
 reach_none n [] js env h = absurd (some_not env h.0)
 reach_none n (i ∷ is) js env h = by (item_path i env).gives (item_path i env).peak (λ e k. reach_none n is js e k) h
@@ -56,13 +51,13 @@ reach_none n (i ∷ is) js env h = by (item_path i env).gives (item_path i env).
     by (none_at k) p again h = absurd (stop_not k None h.0)
 
 pub reach_some : (n : ℕ) (is js : List ItemTree) (env d : List Value) (o : Option (List Value)) → Reaches n is env (Some d) → Reaches n js d o → Reaches n (is ++ js) env o
-reach_some n [] js env d o h k = subst (λ x. Reaches n js x o) (sym (some_same env d h.0)) k
+reach_some n [] js env d o h k = subst (λ x. Reaches n js x o) (sym (some_once env d h.0)) k
 reach_some n (i ∷ is) js env d o h k = by (item_path i env).gives (item_path i env).peak (λ e l. reach_some n is js e d o l k) h
   where
     by : (g : Got (Option (List Value))) (p : ℕ) → ((e : List Value) → Reaches n is e (Some d) → Reaches n (is ++ js) e o) →
         (then_gives g (λ next. (if_some next (items_path (items_of is))).gives) ≡ got (Some d)) × (then_peak p g (λ next. (if_some next (items_path (items_of is))).peak) ≤ n) →
         (then_gives g (λ next. (if_some next (items_path (items_of (is ++ js)))).gives) ≡ got o) × (then_peak p g (λ next. (if_some next (items_path (items_of (is ++ js)))).peak) ≤ n)
-    by (got None) p again h = absurd (none_not d h.0)
+    by (got None) p again h = absurd (none_is_some d h.0)
     by (got (Some e)) p again h = let l = h.1 in let r = again e (h.0, omega arith) in let m = r.1 in (r.0, omega arith)
     by (none_at x) p again h = absurd (stop_not x (Some d) h.0)
 
@@ -180,10 +175,6 @@ compare_met n o c e z h = let p = h.peak in (compared o (number z) (number (pos 
 divides_met : (n : ℕ) (g : ℤ) (c : CodeTree) (e : List Value) (z : ℤ) → IsMet n c e z → (b : Bool) × ((path (code_divides g c) e).gives ≡ got (truth b ∷ [])) × ((path (code_divides g c) e).peak ≤ n)
 divides_met n g c e z h = let p = h.peak in (is_multiple g z, rw h.gives refl, rw h.gives (omega arith))
 
-wider_let : (Q : ℕ → Type 0) (names : ColumnLevels) (c level : ℕ) → ((d : ℕ) → Q d → HasName names d) → (d : ℕ) → (d ≡ c) ⊎ Q d → HasName ((c, level) ∷ names) d
-wider_let Q names c level f d (inl s) = inr (inl s)
-wider_let Q names c level f d (inr q) = elim (f d q) as (λ _. HasName ((c, level) ∷ names) d) [ inl z ↦ inl z | inr i ↦ inr (inr i) ]
-
 pub steps_come : (n : ℕ) (E : ℤ → Type 0) (base env : List Value) (v : Values) → v 0 ≡ pos 1 → (ms : List Step) (k : ArmBuilder) (Q : ℕ → Type 0) → Comes n E k base env v → ((c : ℕ) → Q c → HasName k.names c) → StepsOver Q ms → LetsFit v ms → LetsWithin n v ms →
     NeedsWithin n v ms → StepsDivide ms → Comes n E (fold step_item k ms) base env v
 steps_come n E base env v one [] k Q h f o l w s d = h
@@ -227,9 +218,6 @@ pub record IsFinePath (n : ℕ) (N : List Value → Type 0) (p : Path (Option (L
   pub peak : p.peak ≤ n
   pub gives : (vs : List Value) → p.gives ≡ got (Some vs) → N vs
 
-some_of : (xs ys : List Value) → got (Some xs) ≡ got (Some ys) → xs ≡ ys
-some_of xs ys h = cc
-
 tuple_met : (n : ℕ) (ks : List ℕ) → ((k : ℕ) → In k ks → k ≤ n) → ((meets_all ks).gives ≡ got (map (λ k. number (pos k)) ks)) × ((meets_all ks).peak ≤ n)
 tuple_met n [] h = (refl, omega arith)
 tuple_met n (k ∷ ks) h =
@@ -253,7 +241,7 @@ module _ (n : ℕ) (N : List Value → Type 0) where
   then_fine p q h k = let r = later_fine p.gives p.peak q (h.peak, h.gives) k in record { peak = r.0; gives = r.1 }
 
   pub none_fine : IsFinePath n N (gives_only None)
-  none_fine = record { peak = omega arith; gives = λ vs e. absurd (none_not vs e) }
+  none_fine = record { peak = omega arith; gives = λ vs e. absurd (none_is_some vs e) }
 
   first_fine : (total k : ℕ) (f : ℕ → Path (Option (List Value))) → ((i : ℕ) → k ≤ i → i < k + total → IsFinePath n N (f i)) → IsFinePath n N (first_from total k f)
   first_fine zero k f h = none_fine
@@ -268,7 +256,7 @@ module _ (n : ℕ) (N : List Value → Type 0) where
   gives_fine gs (Some e) h = let r = by (all_path gs e []).gives (all_path gs e []).peak (h e refl) in record { peak = r.0; gives = r.1 }
     where
       by : (g : Got (List Value)) (p : ℕ) → (p ≤ n) × ((vs : List Value) → g ≡ got vs → N vs) → (then_peak p g (λ vs. 0) ≤ n) × ((vs : List Value) → then_gives g (λ xs. got (Some xs)) ≡ got (Some vs) → N vs)
-      by (got xs) p l = (let m = l.0 in omega arith, λ vs e. subst N (some_of xs vs e) (l.1 xs refl))
+      by (got xs) p l = (let m = l.0 in omega arith, λ vs e. subst N (some_once xs vs e) (l.1 xs refl))
       by (none_at x) p l = (l.0, λ vs e. absurd (stop_not x (Some vs) e))
 
   pub arm_fine : (bounds : List ℕ) (is : List ItemTree) (gs : CodeTrees) (env : List Value) →

@@ -23,10 +23,10 @@ use Rattle.cf_growth.proofs.ParameterLaws.{In-unpassed, inputs_up, inputs_held, 
 use Rattle.cf_growth.proofs.ReachLaws.{At, with_let, let_at, set_at}
 use Rattle.cf_growth.proofs.SetCodes.{IsSetMet, AllSets, set_var_met, inter_met, diffs_met}
 
-same_set : (xs ys : List ℤ) → got (elements xs ∷ []) ≡ got (elements ys ∷ []) → xs ≡ ys
+pub same_set : (xs ys : List ℤ) → got (elements xs ∷ []) ≡ got (elements ys ∷ []) → xs ≡ ys
 same_set xs ys e = cc
 
-vars_sets : (n len : ℕ) (E : ℤ → Type 0) (e : List Value) (xs : List ℕ) → ((x : ℕ) → In x xs → (zs : List ℤ) × (value_at e x ≡ elements zs) × (length zs ≤ len) × ((y : ℤ) → has zs y ≡ true → E y)) → AllSets n len E (vars xs) e
+pub vars_sets : (n len : ℕ) (E : ℤ → Type 0) (e : List Value) (xs : List ℕ) → ((x : ℕ) → In x xs → (zs : List ℤ) × (value_at e x ≡ elements zs) × (length zs ≤ len) × ((y : ℤ) → has zs y ≡ true → E y)) → AllSets n len E (vars xs) e
 vars_sets n len E e [] h = tt
 vars_sets n len E e (x ∷ xs) h = let q = h x (inl refl) in (set_var_met n len E x e q.0 q.1 q.2 q.3, vars_sets n len E e xs (λ y i. h y (inr i)))
 

@@ -5,7 +5,7 @@ use Rattle.cf_num.specs.Divisors.{gcd_by, factors_by}
 use Rattle.cf_num.specs.Parts.{parts_of}
 use Rattle.cf_num.specs.Limit.{limit}
 use Rattle.cf_tree.specs.declared.base.Base.{Base}
-use Rattle.cf_tree.specs.declared.base.Base.TheVariants.{Int, Set}
+use Rattle.cf_tree.specs.declared.base.Base.TheVariants.{Int}
 use Rattle.cf_tree.specs.declared.base.Order.TheVariants.{Eq, Le}
 use Rattle.cf_tree.specs.declared.raw.BinOp.TheVariants.{Add, Sub, Mul, And, Or, Union, Inter, Diff, Subset, Compare}
 use Rattle.cf_tree.specs.declared.raw.Param.{Param}
@@ -21,10 +21,10 @@ use Rattle.cf_linear.specs.Steps.{clean, mix, factors_of, merge, merge_passes, m
 use Rattle.cf_growth.specs.Overflowing.{MayOverflow, picked}
 use Rattle.cf_growth.specs.Reaching.{reach}
 
-abbrev param : Base → Param
+abbrev pub param : Base → Param
 param b = record { place = record { line = 1; column = 1 }; name = codes "a"; base = b }
 
-abbrev numbers : List ℤ → List Value
+abbrev pub numbers : List ℤ → List Value
 numbers zs = map number zs
 
 abbrev gives : List Value → Option Outcome

@@ -28,9 +28,10 @@ use Rattle.cf_linear.proofs.KindLemmas.{In-append}
 use Rattle.cf_elim.specs.Returning.{ComesBack, StepsDivide, BackDivides}
 use Rattle.cf_elim.proofs.SearchLaws.{bounds_of}
 use Rattle.cf_cases.proofs.FormedLaws.{In-range, range-In}
-use Rattle.cf_cases.specs.Holding.{EachOf}
 use Rattle.cf_choose.specs.CaseArms.{parameter_names}
-use Rattle.cf_choose.proofs.ColumnNames.{named-first, named-second, ints_of, wholes, search_numbers, search_have, AreEarlier, search_agrees, search_named, rising_from, in_bounds, parameter_numbers}
+use Rattle.cf_choose.proofs.ArmLemmas.{named_search}
+use Rattle.cf_choose.proofs.ChooseLevels.{number_levels}
+use Rattle.cf_choose.proofs.ColumnNames.{named-append, named-first, named-second, ints_of, wholes, search_numbers, search_have, AreEarlier, search_agrees, search_named, rising_from, in_bounds, parameter_numbers}
 use Rattle.cf_choose.proofs.ArmBuilderLemmas.{length_have, value_at-early, steps_named, back_named}
 use Rattle.cf_choose.proofs.RowCodes.{named, HasName, AreNumbers, number_named, number_at}
 use Rattle.cf_venn.specs.Columns.{known_values}
@@ -46,10 +47,10 @@ use Rattle.cf_growth.specs.Tracing.{StaysWithin}
 use Rattle.cf_growth.proofs.AfterLaws.{AfterIs, after_is, tuple_value}
 use Rattle.cf_growth.proofs.MetCodes.{IsMet, AreHeld, var_met}
 use Rattle.cf_growth.proofs.NormLaws.{times_more, times_le}
-use Rattle.cf_growth.proofs.ParameterLaws.{named-both, named_search, numbers_are_ints, parameter_column, known_column, parameters_agree, parameter_small, regions_keep, regions_name}
+use Rattle.cf_growth.proofs.ParameterLaws.{parameter_column, known_column, parameters_agree, parameter_small, regions_keep, regions_name}
 use Rattle.cf_growth.proofs.ReachLaws.{Reaches, reach_none, At, Comes, set_at, steps_come, back_come, IsFine, fine_number, IsFinePath, arm_fine}
 use Rattle.cf_growth.proofs.RegionGrowth.{count_small, regions_at, input_sets}
-use Rattle.cf_growth.proofs.SetCodes.{IsSetMet, AllSets, IsSmallAt, AreSmall, union_met, counts_met, fresh_met, slice_met}
+use Rattle.cf_growth.proofs.SetCodes.{IsSetMet, each_set, IsSmallAt, AreSmall, union_met, counts_met, fresh_met, slice_met}
 
 -- ---- what is given
 -- each code gives near values, and meets nothing above n
@@ -80,10 +81,6 @@ map_give n l env f e (x ∷ xs) h = (h x, map_give n l env f e xs h)
 short_filter : (p : ℕ → Bool) (xs : List ℕ) → length (filter p xs) ≤ length xs
 short_filter p [] = omega arith
 short_filter p (x ∷ xs) = let h = short_filter p xs in on_bool (p x) (λ t. rw t (omega arith)) (λ t. rw t (omega arith))
-
-each_set : (n b : ℕ) (E : ℤ → Type 0) (f : ℕ → CodeTree) (e : List Value) (rs : List ℕ) → EachOf (λ r. IsSetMet n b E (f r) e) rs → AllSets n b E (map f rs) e
-each_set n b E f e [] h = tt
-each_set n b E f e (r ∷ rs) h = (h.0, each_set n b E f e rs h.1)
 
 filter_none : (p : ℕ → Bool) (a n : ℕ) → ((r : ℕ) → a ≤ r → r < a + n → p r ≡ false) → filter p (range_with_len a n) ≡ []
 filter_none p a zero h = refl
@@ -142,7 +139,7 @@ module _ (scope outputs : List Base) (rel : RelTree) (m : System) (a : Answer) w
     early d i = owes.below d (parameter_known d i)
 
     numbers : AreNumbers start first.names
-    numbers = search_numbers scope a.bounds (parameter_names l) (length scope) refl (parameter_numbers l scope l.numbers (numbers_are_ints scope outputs rel))
+    numbers = search_numbers scope a.bounds (parameter_names l) (length scope) refl (parameter_numbers l scope l.numbers (number_levels scope outputs rel))
 
     -- known columns and those of searches
     abbrev Begins : ℕ → Type 0
@@ -165,7 +162,7 @@ module _ (scope outputs : List Base) (rel : RelTree) (m : System) (a : Answer) w
         let r = rising_from m.next a.system.next c (search_columns a.bounds) owes.bounds_rise s in
         let o = next_some in
         (omega arith, inr s))
-        (In-append c (named (parameter_names l)) (named (search_names l.scope a.bounds)) (rw (named-both (parameter_names l) (search_names l.scope a.bounds)) at i))
+        (In-append c (named (parameter_names l)) (named (search_names l.scope a.bounds)) (rw (named-append (parameter_names l) (search_names l.scope a.bounds)) at i))
 
     known_named : (c : ℕ) → In c a.system.known ⊎ In c a.system.unknown → HasName middle.names c
     known_named c (inl i) = elim (owes.only c i) as (λ _. HasName middle.names c) [
@@ -229,7 +226,7 @@ module _ (scope outputs : List Base) (rel : RelTree) (m : System) (a : Answer) w
           let s = b.0 in
           let z : c == 0 ≡ false = ne_eqb c 0 (λ q. omega arith) in
           let j = number_named start first.names c numbers i in
-          let g = search_agrees scope a.bounds (parameter_names l) (length scope) m.next a.system.next env (known_values l env) ks refl (parameter_numbers l scope l.numbers (numbers_are_ints scope outputs rel)) have early next_some owes.bounds_rise below
+          let g = search_agrees scope a.bounds (parameter_names l) (length scope) m.next a.system.next env (known_values l env) ks refl (parameter_numbers l scope l.numbers (number_levels scope outputs rel)) have early next_some owes.bounds_rise below
           (parameters_agree scope outputs rel env) c (inr i) in
           let t : number_of (value_at e0 (level_of first.names c)) ≡ set_tuple (known_values l env) a.bounds (wholes ks) c = rw z at g in
           let y = slice_get_within start (level_of first.names c) Int j in

@@ -1,30 +1,25 @@
 -- Each stage that goes on grows by no more than its factor.
-use Rattle.std.proofs.Common.{◌≡◌, ◌≢◌, ℕ, ◌≤◌, ◌+◌, ℤ, pos, ◌+ℤ◌, ◌*ℤ◌, List, [], ◌∷◌, ◌++◌, Bool, true, false, not, Option, Some, None, refl, sym, ◌∙◌, ap, arith, suc, subst, ◌⊎◌, inl, inr, ⊎_elim, max, map, ◌==◌}
-use Rattle.std.specs.Prelude.{unsigned_abs, nat_lt, nat_le, if◌then◌else◌}
+use Rattle.std.proofs.Common.{◌≡◌, ◌≢◌, ℕ, ◌≤◌, ◌+◌, ℤ, pos, ◌+ℤ◌, ◌*ℤ◌, List, [], ◌∷◌, Bool, true, false, Option, refl, sym, ◌∙◌, ap, arith, subst, ◌⊎◌, inl, inr, ⊎_elim, max, map}
+use Rattle.std.specs.Prelude.{unsigned_abs, nat_le}
 use Rattle.std.proofs.lemmas.Int.{ints}
-use Rattle.std.proofs.lemmas.Bool.{cond_both, true≢false, leb-true, leb-false}
+use Rattle.std.proofs.lemmas.Bool.{true≢false, leb-true, leb-false}
 use Rattle.cf_linear.specs.declared.refusal.Refusal.{Refusal}
 use Rattle.cf_linear.specs.declared.refusal.Refusal.TheVariants.{Past}
 use Rattle.cf_linear.specs.Rows.{Row, entry, norm, without, Rises}
-use Rattle.cf_linear.specs.Systems.{System, EachRow, Answer}
+use Rattle.cf_linear.specs.Systems.{System, EachRow}
 use Rattle.cf_linear.specs.Keep.{In, Over, IsColumn, Formed}
-use Rattle.cf_linear.specs.Solved.{Rising}
-use Rattle.cf_linear.specs.Steps.{present, clean, mix, merge, merge_factor, factors_of, Pick, pick, searched, searched_by, dropped, bound, found_all, no_found, greatest_of, let_norm}
-use Rattle.cf_linear.specs.Stages.{Limits, State, Taken, Stage, goes, stage, first_count, ends_or, refused_if, clean_stage, equation_stage, row_stage, unknown_stage, bound_stage}
+use Rattle.cf_linear.specs.Steps.{present, clean, mix, merge, merge_factor, factors_of, Pick, pick, searched_by, bound, greatest_of, let_norm}
+use Rattle.cf_linear.specs.Stages.{Limits, State, Taken, goes, stage, first_count, ends_or, refused_if, clean_stage, equation_stage, row_stage, unknown_stage, bound_stage}
 use Rattle.cf_linear.proofs.BoolLemmas.{on_bool}
 use Rattle.cf_linear.proofs.FormedLemmas.{kinds_from}
-use Rattle.cf_linear.proofs.KindLemmas.{In-append, Rising-in}
 use Rattle.cf_equation.specs.Equations.{Differ}
 use Rattle.cf_equation.proofs.FactorLaws.{parts_one}
-use Rattle.cf_equation.proofs.MergeLaws.{mix_formed, mix_differs}
-use Rattle.cf_equation.proofs.StepLaws.{Differ-filter, In-present, only_unknown, last_formed, last_differs}
+use Rattle.cf_equation.proofs.StepLaws.{Differ-filter, In-present, only_unknown, last_formed, last_differs, merge_formed, merge_differs}
 use Rattle.cf_bounds.specs.Exact.{IsFree}
-use Rattle.cf_bounds.proofs.BoundLemmas.{made_all, searched_free}
 use Rattle.cf_bounds.proofs.ExactLaws.{pick_in}
 use Rattle.cf_bounds.proofs.FormedAgain.{clean_formed, dropped_formed}
-use Rattle.cf_bounds.proofs.SearchFormed.{searched_formed}
-use Rattle.cf_elim.proofs.BoundLaws.{Differ-append}
-use Rattle.cf_elim.proofs.EndLaws.{one_of}
+use Rattle.cf_elim.proofs.BoundLaws.{dropped_differs}
+use Rattle.cf_elim.proofs.EndLaws.{one_of, clean_differ, searched_ready}
 use Rattle.cf_elim.proofs.StageLaws.{ends_or_goes, refused_goes, goes_parts}
 use Rattle.cf_growth.specs.Tracing.{Stands, Says}
 use Rattle.cf_growth.proofs.BoundGrowth.{search_factor, drop_norm, grows_bound}
@@ -46,10 +41,6 @@ never : (b : Bool) → b ≡ false → (P : Type 0) → b ≡ true → P
 never b e P t = absurd (true≢false (sym t ∙ e))
 
 -- ---- Clean
-clean_differ : (m : System) → Differ m.unknown → Differ (clean m).system.unknown
-unfolding clean
-clean_differ m d = d
-
 clean_says : (l : Limits) (s t : State) (a : Taken) → Stands s → clean_stage l s ≡ goes t a → Says s t a
 unfolding clean_stage
 clean_says l s t a h e =
@@ -78,14 +69,6 @@ merge_some e x y i j =
     let n = max (unsigned_abs f.s + unsigned_abs f.m) (unsigned_abs f.t + unsigned_abs f.n) in
     on_bool (nat_le 1 n) (λ t. leb-true 1 n t)
     (λ t. let l = leb-false 1 n t in absurd (no_one f.s f.t _ _ (omega arith) (omega arith) (parts_one (entry e x) (entry e y) i j)))
-
-merge_formed : (m : System) (e : Row) (x y : ℕ) → Formed m → In x m.unknown → In y m.unknown → x ≢ y → Formed (merge m e x y).system
-unfolding merge
-merge_formed m e x y f ix iy n = mix_formed m x y _ _ _ _ f ix iy n
-
-merge_differs : (m : System) (e : Row) (x y : ℕ) → Formed m → Differ m.unknown → Differ (merge m e x y).system.unknown
-unfolding merge
-merge_differs m e x y f d = mix_differs m x y _ _ _ _ f d
 
 merge_left : (m : System) (e d : Row) (rest : List Row) (x y : ℕ) → m.equations ≡ d ∷ rest → (merge m e x y).system.equations ≡ [] → ⊥
 unfolding merge mix
@@ -129,37 +112,15 @@ equation_says l s t a e rest (u ∷ w ∷ us) h q p g =
     })
 
 -- ---- a Bound step
-Rising-differ : (lo hi : ℕ) (cs : List ℕ) → Rising lo hi cs → Differ cs
-Rising-differ lo hi [] h = tt
-Rising-differ lo hi (c ∷ cs) h = ((λ i. let r = Rising-in (suc c) hi c cs h.1 i in absurd (omega arith)), Rising-differ (suc c) hi cs h.1)
-
-searched_differs : (m : System) (x : ℕ) (lower : Bool) → Formed m → Differ m.unknown → Differ (searched m x lower).system.unknown
-unfolding searched
-searched_differs m x lower f d =
-    let s = found_all x lower (no_found m) m.inequalities in
-    let h = made_all m.next x lower m.inequalities (no_found m) (record { same = refl; rise = omega arith; unknown_rise = omega arith; apart = λ c i j. i }) in
-    Differ-append m.unknown s.unknowns d (Rising-differ m.next s.next s.unknowns h.unknown_rise)
-    (λ c i j. let l = f.unknown_below c i in let r = Rising-in m.next s.next c s.unknowns h.unknown_rise j in absurd (omega arith))
-
 pub search_stands : (m : System) (c : Pick) → Formed m → Differ m.unknown → In c.unknown m.unknown → m.equations ≡ [] →
     Formed (searched_by m c).system × Differ (searched_by m c).system.unknown × IsFree c.unknown (searched_by m c).system.equations
-unfolding searched_by
-search_stands m c f d i q =
-    let free : IsFree c.unknown m.equations = subst (λ rows. IsFree c.unknown rows) (sym q) tt in
-    let plain : Answer = record { system = m; steps = []; back = []; bounds = [] } in
-    cond_both (nat_lt 1 c.product) (searched m c.unknown c.lower) plain (λ (a : Answer). Formed a.system × Differ a.system.unknown × IsFree c.unknown a.system.equations)
-    (λ _. (searched_formed m c.unknown c.lower f i, searched_differs m c.unknown c.lower f d, searched_free m c.unknown c.lower f i free))
-    (λ _. (f, d, free))
-
-dropped_differ : (m : System) (x : ℕ) → Differ m.unknown → Differ (dropped m x).system.unknown
-unfolding dropped
-dropped_differ m x d = Differ-filter (λ w. not (w == x)) m.unknown d
+search_stands m c f d i q = let h = searched_ready m c (record { formed = f; differ = d }) i q in (h.0.formed, h.0.differ, h.1)
 
 bound_stands : (m : System) (c : Pick) → Formed m → Differ m.unknown → In c.unknown m.unknown → m.equations ≡ [] → Formed (bound m c).system × Differ (bound m c).system.unknown
 unfolding bound
 bound_stands m c f d i q =
     let h = search_stands m c f d i q in
-    (dropped_formed (searched_by m c).system c.unknown h.0 h.2, dropped_differ (searched_by m c).system c.unknown h.1)
+    (dropped_formed (searched_by m c).system c.unknown h.0 h.2, dropped_differs (searched_by m c).system c.unknown h.1)
 
 bound_says : (l : Limits) (s t : State) (a : Taken) (c : Pick) → Stands s → s.is_past_clean ≡ true → s.system.equations ≡ [] → In c.unknown s.system.unknown → bound_stage l s c ≡ goes t a → Says s t a
 unfolding bound_stage

@@ -8,6 +8,7 @@ use Rattle.cf_linear.specs.Arm.{negated}
 use Rattle.cf_linear.specs.Keep.{In, Over, Within, update, how_value, after_back, IsColumn}
 use Rattle.cf_linear.specs.Solved.{search_columns}
 use Rattle.cf_linear.proofs.KindLemmas.{In-append, Over-weaker, search_columns-append}
+use Rattle.cf_linear.proofs.SolvedLemmas.{after_back-append}
 use Rattle.cf_linear.proofs.ValueLemmas.{Within-split}
 use Rattle.cf_growth.specs.Norms.{IsBounded, SumsWithin}
 use Rattle.cf_growth.specs.Growing.{IsKnown, LetsFit, StepsIn, LetsWithin, PairsWithin, HowWithin, WaysWithin, Grows}
@@ -71,10 +72,6 @@ over_weaker Q R f (floor_of c r g ∷ ms) h = (f c h.0, Over-weaker Q R f r h.1,
 over_weaker Q R f (need_nonneg r ∷ ms) h = (Over-weaker Q R f r h.0, over_weaker Q R f ms h.1)
 over_weaker Q R f (need_zero r ∷ ms) h = (Over-weaker Q R f r h.0, over_weaker Q R f ms h.1)
 over_weaker Q R f (need_divides g r ∷ ms) h = (Over-weaker Q R f r h.0, over_weaker Q R f ms h.1)
-
-pub after_back-append : (v : Values) (ws us : List (ℕ × How)) → after_back v (ws ++ us) ≡ after_back (after_back v ws) us
-after_back-append v [] us = refl
-after_back-append v ((x, w) ∷ ws) us = after_back-append (update v x (how_value v w)) ws us
 
 back_append : (n : ℕ) (v : Values) (ws us : List (ℕ × How)) → WaysWithin n v ws → WaysWithin n (after_back v ws) us → WaysWithin n v (ws ++ us)
 back_append n v [] us h k = k

@@ -1,26 +1,26 @@
 -- After a Clean, an unknown with a coefficient above 1 does not stand alone in its row; so where a search is made, some bound has a norm of at least 1 without it.
-use Rattle.std.proofs.Common.{◌≡◌, ◌≢◌, ℕ, suc, ◌≤◌, ◌<◌, ◌+◌, ◌*◌, ◌/◌, ℤ, pos, negsuc, neg_ℤ, ◌+ℤ◌, ◌*ℤ◌, List, [], ◌∷◌, true, false, refl, sym, ◌∙◌, ap, arith, subst, inl, inr, cond, ◌==◌}
+use Rattle.std.proofs.Common.{◌≡◌, ◌≢◌, ℕ, suc, ◌≤◌, ◌<◌, ◌+◌, ◌*◌, ℤ, pos, negsuc, ◌+ℤ◌, List, [], ◌∷◌, false, refl, sym, ◌∙◌, ap, arith, subst, cond, ◌==◌}
 use Rattle.std.specs.Prelude.{filter, unsigned_abs, nat_le, ◌||◌, Option, Some, None, if◌then◌else◌}
-use Rattle.std.specs.List.{fold, list_all, list_any}
+use Rattle.std.specs.List.{fold, list_all}
 use Rattle.std.specs.Int.{int_div_euclid}
 use Rattle.std.proofs.lemmas.Int.{ints}
 use Rattle.std.proofs.lemmas.Bool.{cond_both, eqb-true, eq-eqb, ne_eqb, true≢false, leb-true, leb-false}
-use Rattle.std.proofs.Math.Nat.{mul-div_cancel', mul-add}
+use Rattle.std.proofs.Math.Nat.{mul-add}
 use Rattle.cf_num.specs.Divisors.{gcd_by, gcd_of}
-use Rattle.cf_num.proofs.Ring.{ring}
 use Rattle.cf_num.proofs.DivisionLemmas.{int_div_euclid_once}
-use Rattle.cf_num.proofs.DivisorLemmas.{gcd_of-is}
-use Rattle.cf_linear.specs.Rows.{Row, norm, entry, is_zero, put, comb, without, Rises, same_row}
+use Rattle.cf_linear.specs.Rows.{Row, norm, entry, is_zero, put, comb, without, Rises}
 use Rattle.cf_linear.specs.Relations.{Divides}
 use Rattle.cf_linear.specs.Systems.{System, EachRow, Step, floor_of}
-use Rattle.cf_linear.specs.Steps.{has_column, has_unknown, unknown_part, known_part, common, divides_it, divided, one_at, tighten_row, Tightened, next_tightened, then_tighten, distinct_after, clean}
+use Rattle.cf_linear.specs.Steps.{has_column, has_unknown, unknown_part, known_part, common, divides_it, divided, one_at, tighten_row, Tightened, next_tightened, then_tighten, clean}
 use Rattle.cf_linear.specs.Keep.{In, Over, IsColumn, Formed}
 use Rattle.cf_linear.proofs.BoolLemmas.{on_bool}
 use Rattle.cf_linear.proofs.RowLemmas.{zero_from_is_zero, entry-comb}
 use Rattle.cf_linear.proofs.Canonical.{entry-low}
 use Rattle.cf_linear.proofs.CombLemmas.{entry-put}
 use Rattle.cf_linear.proofs.FormedLemmas.{column_below}
-use Rattle.cf_linear.proofs.KindLemmas.{EachRow-append, EachRow-filter, EachRow-weaker, Over-weaker, Over-filter, Over-put, Rises-filter}
+use Rattle.cf_linear.proofs.KindLemmas.{EachRow-append, EachRow-filter, EachRow-weaker, Over-weaker, Over-filter, Rises-filter}
+use Rattle.cf_bounds.proofs.CleanLemmas.{EntriesDiv, common-divides, exact_quotient, Over-divided, distinct_forth}
+use Rattle.cf_bounds.proofs.OwesLemmas.{has-in}
 use Rattle.cf_growth.specs.Tracing.{IsTight}
 use Rattle.cf_growth.proofs.NormLaws.{abs-mul, abs-add}
 
@@ -71,11 +71,6 @@ part_norm us x ((c, k) ∷ r) =
     (λ t. rw t (on_bool (c == x) (λ e. rw e h) (λ e. rw e (omega arith))))
     (λ t. rw t (on_bool (c == x) (λ e. rw e h) (λ e. rw e (omega arith))))
 
-has_in : (c : ℕ) (us : List ℕ) → In c us → has_column us c ≡ true
-has_in c [] i = absurd i
-has_in c (u ∷ us) (inl e) = rw (eq-eqb u c (sym e)) refl
-has_in c (u ∷ us) (inr i) = on_bool (u == c) (λ t. rw t refl) (λ f. rw f (has_in c us i))
-
 part_entry : (us : List ℕ) (x : ℕ) (r : Row) → In x us → entry (unknown_part us r) x ≡ entry r x
 part_entry us x [] i = refl
 part_entry us x ((c, k) ∷ r) i =
@@ -83,42 +78,13 @@ part_entry us x ((c, k) ∷ r) i =
     on_bool (has_column us c)
     (λ t. rw (t, h) refl)
     (λ t.
-    let n : c == x ≡ false = ne_eqb c x (λ e. true≢false (sym (has_in x us i) ∙ subst (λ y. has_column us y ≡ false) e t)) in
+    let n : c == x ≡ false = ne_eqb c x (λ e. true≢false (sym (has-in x us i) ∙ subst (λ y. has_column us y ≡ false) e t)) in
     rw (t, n, h) (no_plus (entry r x)))
   where
     no_plus : (z : ℤ) → z ≡ pos 0 +ℤ z
     no_plus z = omega (arith, ints)
 
 -- ---- common factors
-abbrev EntriesDiv : ℕ → Row → Type 0
-EntriesDiv g [] = Unit {0}
-EntriesDiv g ((c, k) ∷ r) = Divides (pos g) k × EntriesDiv g r
-
-divides_abs : (g : ℕ) (k : ℤ) → Divides (pos g) (pos (unsigned_abs k)) → Divides (pos g) k
-divides_abs g (pos n) d = d
-divides_abs g (negsuc n) d = (neg_ℤ d.0, let e = d.1 in simp ring (omega (arith, ints)))
-
-divides_trans : (g h k : ℤ) → Divides g h → Divides h k → Divides g k
-divides_trans g h k d e = (d.0 *ℤ e.0, let i = d.1 in e.1 ∙ rw i (simp ring (omega (arith, ints))))
-
-common-divides : (r : Row) → EntriesDiv (common r) r
-common-divides [] = tt
-common-divides ((c, k) ∷ r) =
-    let is = gcd_of-is (unsigned_abs k) (common r) in
-    let g = gcd_of (unsigned_abs k) (common r) in
-    let first : pos (unsigned_abs k) ≡ pos g *ℤ pos (unsigned_abs k / g) = ap pos (sym (mul-div_cancel' g is.0)) in
-    let rest : pos (common r) ≡ pos g *ℤ pos (common r / g) = ap pos (sym (mul-div_cancel' g is.1)) in
-    (divides_abs g k (pos (unsigned_abs k / g), first), all (common r) g (pos (common r / g), rest) r (common-divides r))
-  where
-    all : (h g : ℕ) → Divides (pos g) (pos h) → (r : Row) → EntriesDiv h r → EntriesDiv g r
-    all h g d [] e = tt
-    all h g d ((c, k) ∷ r) e = (divides_trans (pos g) (pos h) k d e.0, all h g d r e.1)
-
-exact_quotient : (g : ℕ) (k : ℤ) → 0 < g → Divides (pos g) k → pos g *ℤ int_div_euclid k (pos g) ≡ k
-exact_quotient g k h d =
-    let f = int_div_euclid_once k (pos g) d.0 (omega (arith, ints)) (omega (arith, ints, d.1)) (omega (arith, ints, d.1)) in
-    rw f (sym d.1)
-
 -- the norm of the unknowns' part without x is at most g times that of the divided row
 divided_norm : (us : List ℕ) (g x : ℕ) (r : Row) → 0 < g → EntriesDiv g (unknown_part us r) → norm (without x (unknown_part us r)) ≤ g * norm (without x (divided g r))
 divided_norm us g x [] h d = omega arith
@@ -173,10 +139,6 @@ low_entry n ((c, k) ∷ r) o =
     let e : c == n ≡ false = ne_eqb c n (λ q. omega arith) in
     rw (e, low_entry n r o.1) refl
 
-low_divided : (Q : ℕ → Type 0) (g : ℕ) (r : Row) → Over Q r → Over Q (divided g r)
-low_divided Q g [] o = tt
-low_divided Q g ((c, k) ∷ r) o = Over-put Q c (int_div_euclid k (pos g)) (divided g r) o.0 (low_divided Q g r o.1)
-
 small_common : (us : List ℕ) (r : Row) → Rises 0 r → common (unknown_part us r) ≤ 1 → IsTight us r
 small_common us r p l x i h = on_bool (nat_le 1 (norm (without x r))) (λ t. leb-true 1 (norm (without x r)) t)
     (λ t.
@@ -224,7 +186,7 @@ tight_row us n r p o low =
     (λ t.
     let l = leb-false g 1 t in
     cond_both whole a b Says (λ _. divided_tight us g r (omega arith) p refl)
-    (λ _. new_tight us n (divided g (unknown_part us r)) (low_divided (λ c. c < n) g (unknown_part us r) (Over-filter (λ c. c < n) (λ (c, k). has_column us c) r o)) low))
+    (λ _. new_tight us n (divided g (unknown_part us r)) (Over-divided (λ c. c < n) g (unknown_part us r) (Over-filter (λ c. c < n) (λ (c, k). has_column us c) r o)) low))
 
 tight_next : (us : List ℕ) (t : Tightened) (p : Option Step × Row) → EachRow (IsTight us) t.rows → IsTight us p.1 → EachRow (IsTight us) (next_tightened t p).rows × (t.next ≤ (next_tightened t p).next)
 tight_next us t (None, r) h k = (EachRow-append (IsTight us) t.rows (r ∷ []) h (k, tt), omega arith)
@@ -238,12 +200,6 @@ tight_all us n (r ∷ rows) t l p o low h =
     let s = tight_next us t (tighten_row us t.next r) h q in
     let y = s.1 in
     tight_all us n rows (then_tighten us t r) (omega arith) p.1 o.1 low s.0
-
-distinct_forth : (Q : Row → Type 0) (seen rows : List Row) → EachRow Q rows → EachRow Q (distinct_after seen rows)
-distinct_forth Q seen [] h = tt
-distinct_forth Q seen (r ∷ rows) h =
-    cond_both (list_any (same_row r) seen) (distinct_after seen rows) (r ∷ distinct_after (r ∷ seen) rows) (λ ys. EachRow Q ys)
-    (λ e. distinct_forth Q seen rows h.1) (λ e. (h.0, distinct_forth Q (r ∷ seen) rows h.1))
 
 pub clean_tight : (m : System) → Formed m → EachRow (IsTight (clean m).system.unknown) (clean m).system.inequalities
 unfolding clean

@@ -9,8 +9,9 @@ use Rattle.cf_linear.specs.Keep.{In}
 use Rattle.cf_linear.proofs.BoolLemmas.{on_bool}
 use Rattle.cf_linear.proofs.RowLemmas.{zero_from_is_zero}
 use Rattle.cf_linear.proofs.KindLemmas.{EachRow-with}
+use Rattle.cf_bounds.proofs.SearchLemmas.{found_new, found_kept}
 use Rattle.cf_growth.specs.Tracing.{IsTight}
-use Rattle.cf_growth.proofs.BoundGrowth.{IsSmall, found_new, found_kept, search_factor, drop_norm, norms_small}
+use Rattle.cf_growth.proofs.BoundGrowth.{IsSmall, search_factor, drop_norm, norms_small}
 
 no_bounds : (x : ℕ) (lower : Bool) (rows : List Row) (s : Found) → EachRow (λ r. searches x lower r ≡ false) rows → (found_all x lower s rows).bounds ≡ s.bounds
 no_bounds x lower [] s h = refl

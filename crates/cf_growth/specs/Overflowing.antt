@@ -1,11 +1,10 @@
--- Near paths of a source, which of them may overflow, and what a source picks. Matches stand as the chooses that they stand for.
+-- Near paths of a source, which of them may overflow, and what a source picks. A program is read here with its matches as the chooses that they stand for.
 use Rattle.std.specs.Prelude.{ℕ, ◌<◌, ◌≤◌, ◌==◌, pos, neg_ℤ, unsigned_abs, nat_le, ◌≡◌, ◌⊎◌, true, false, not, List, [], ◌∷◌, ◌++◌, length, map, reverse, MatchBool, Option, Some, None, if◌then◌else◌}
 use Rattle.cf_num.specs.Limit.{limit}
 use Rattle.cf_tree.specs.declared.base.Base.{Base}
 use Rattle.cf_tree.specs.declared.raw.BinOp.{BinOp}
 use Rattle.cf_tree.specs.declared.raw.BinOp.TheVariants.{And, Or}
-use Rattle.cf_tree.specs.declared.raw.Param.{Param}
-use Rattle.cf_tree.specs.Allowed.{AllowedThen, Gives, AllowedRight, operation}
+use Rattle.cf_tree.specs.Allowed.{operation, Choosing, Calling, scope_of, AllowedBy, AllAllowedBy, CallAllowedBy}
 use Rattle.cf_tree.specs.CodeTree.{code_solve, arms_of}
 use Rattle.cf_tree.specs.ExprTree.{ExprTree, expr_lit, expr_truth, expr_var, expr_set_of, expr_tuple, expr_neg, expr_not, expr_abs, expr_binary, expr_divides, expr_div, expr_mod, expr_card, expr_if, expr_call, expr_let, expr_choose, expr_match, ExprTrees, no_exprs, expr_more}
 use Rattle.cf_tree.specs.Meaning.{means, peak}
@@ -20,47 +19,20 @@ use Rattle.cf_linear.specs.Chooses.{arms, limit as first_refusal}
 use Rattle.cf_linear.specs.Layout.{layout_of}
 use Rattle.cf_growth.specs.Reaching.{AreNear, reach}
 
-abbrev pub scope_of : List Param → List Base
-scope_of ps = map (λ p. p.base) ps
-
 -- ---- near paths
 -- an allowed outcome of a choose, all of whose picks are near
-abbrev pub NearChosen : ℕ → List Base → List Base → RelTree → List Value → Outcome → Type 0
+abbrev pub NearChosen : Choosing
 NearChosen n scope outputs rel env (values xs) = Sol outputs rel env xs × AreNear (reach scope outputs rel env) (layout_of scope outputs rel) env xs
 NearChosen n scope outputs rel env (no_solution m) = (m ≡ n) × ((xs : List Value) → Sol outputs rel env xs → ⊥)
 
-abbrev mutual
-  -- what an expression allows on near paths, where `calls` says it of functions
-  pub NearIn : (ℕ → List Value → Outcome → Type 0) → ExprTree → List Value → Outcome → Type 0
-  NearIn calls (expr_lit k) env o = Gives (number k) o
-  NearIn calls (expr_truth t) env o = Gives (truth t) o
-  NearIn calls (expr_var x) env o = Gives (value_at env x) o
-  NearIn calls (expr_set_of es) env o = AllowedThen (NearAll calls es env) (λ xs. Gives (elements (set_of (map number_of xs)))) o
-  NearIn calls (expr_tuple es) env o = NearAll calls es env o
-  NearIn calls (expr_neg a) env o = AllowedThen (NearIn calls a env) (λ xs. Gives (number (neg_ℤ (number_of (first_of xs))))) o
-  NearIn calls (expr_not a) env o = AllowedThen (NearIn calls a env) (λ xs. Gives (truth (not (truth_of (first_of xs))))) o
-  NearIn calls (expr_abs a) env o = AllowedThen (NearIn calls a env) (λ xs. Gives (number (absolute (number_of (first_of xs))))) o
-  NearIn calls (expr_binary op a b) env o = AllowedThen (NearIn calls a env) (λ xs. AllowedRight op (first_of xs) (NearIn calls b env)) o
-  NearIn calls (expr_divides k a) env o = AllowedThen (NearIn calls a env) (λ xs. Gives (truth (is_multiple k (number_of (first_of xs))))) o
-  NearIn calls (expr_div a k) env o = AllowedThen (NearIn calls a env) (λ xs. Gives (number (quotient (number_of (first_of xs)) k))) o
-  NearIn calls (expr_mod a k) env o = AllowedThen (NearIn calls a env) (λ xs. Gives (number (remainder (number_of (first_of xs)) k))) o
-  NearIn calls (expr_card a) env o = AllowedThen (NearIn calls a env) (λ xs. Gives (number (pos (length (elements_of (first_of xs)))))) o
-  NearIn calls (expr_if t a b) env o =
-      AllowedThen (NearIn calls t env) (λ xs p. MatchBool (truth_of (first_of xs)) (NearIn calls a env p) (NearIn calls b env p)) o
-  NearIn calls (expr_call f es) env o = AllowedThen (NearAll calls es env) (calls f) o
-  NearIn calls (expr_let n a b) env o = AllowedThen (NearIn calls a env) (λ xs. NearIn calls b (env ++ xs)) o
-  NearIn calls (expr_choose n scope outputs rel) env o = NearChosen n (scope_of scope) outputs rel env o
-  NearIn calls (expr_match n scope a arms) env o = ⊥
+abbrev pub NearIn : Calling → ExprTree → List Value → Outcome → Type 0
+NearIn = AllowedBy NearChosen
 
-  pub NearAll : (ℕ → List Value → Outcome → Type 0) → ExprTrees → List Value → Outcome → Type 0
-  NearAll calls no_exprs env o = o ≡ values []
-  NearAll calls (expr_more e es) env o =
-      AllowedThen (NearIn calls e env) (λ xs. AllowedThen (NearAll calls es env) (λ ys p. p ≡ values (xs ++ ys))) o
+abbrev pub NearAll : Calling → ExprTrees → List Value → Outcome → Type 0
+NearAll = AllAllowedBy NearChosen
 
-abbrev pub NearCall : List ExprTree → ℕ → List Value → Outcome → Type 0
-NearCall [] f xs o = ⊥
-NearCall (body ∷ earlier) f xs o =
-    MatchBool (f == length earlier) (NearIn (NearCall earlier) body xs o) (NearCall earlier f xs o)
+abbrev pub NearCall : List ExprTree → Calling
+NearCall = CallAllowedBy NearChosen
 
 -- ---- where a near path may overflow
 abbrev pub Passes : Value → Type 0
@@ -72,16 +44,13 @@ RightPasses And v near later = MatchBool (truth_of v) later ⊥
 RightPasses Or v near later = MatchBool (truth_of v) ⊥ later
 RightPasses op v near later = later ⊎ ((ys : List Value) × near (values ys) × Passes (operation op v (first_of ys)))
 
--- a call: what it allows on near paths, and whether it may overflow on one
-abbrev pub Near : Type 1
-Near = ℕ → List Value → Outcome → Type 0
-
+-- whether a call may overflow on a near path
 abbrev pub Over : Type 1
 Over = ℕ → List Value → Type 0
 
 abbrev mutual
   -- on some near path an operation's value passes the limit, or a choose is entered whose reach does
-  pub OverIn : Near → Over → ExprTree → List Value → Type 0
+  pub OverIn : Calling → Over → ExprTree → List Value → Type 0
   OverIn near over (expr_lit k) env = ⊥
   OverIn near over (expr_truth t) env = ⊥
   OverIn near over (expr_var x) env = ⊥
@@ -103,7 +72,7 @@ abbrev mutual
   OverIn near over (expr_choose n scope outputs rel) env = limit < reach (scope_of scope) outputs rel env
   OverIn near over (expr_match n scope a arms) env = ⊥
 
-  pub OverAll : Near → Over → ExprTrees → List Value → Type 0
+  pub OverAll : Calling → Over → ExprTrees → List Value → Type 0
   OverAll near over no_exprs env = ⊥
   OverAll near over (expr_more e es) env = OverIn near over e env ⊎ ((xs : List Value) × NearIn near e env (values xs) × OverAll near over es env)
 
