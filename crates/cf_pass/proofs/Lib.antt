@@ -1,0 +1,13 @@
+pub mod Arms
+pub mod CodeLists
+pub mod DeadLaws
+pub mod DeadLists
+mod Examples
+pub mod Forms
+pub mod LoopSteps
+mod NameExamples
+pub mod NeedsArms
+pub mod NeedsLaws
+pub mod NeedsLists
+pub mod Sound
+pub mod Ways

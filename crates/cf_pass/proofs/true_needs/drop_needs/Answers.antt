@@ -1,0 +1,7 @@
+use Rattle.std.proofs.Common.{ℕ, ◌≡◌, sym, subst}
+use Rattle.cf_pass.specs.Improves.{Improves}
+use Rattle.cf_pass.proofs.NeedsLaws.{needs_improve}
+use Rattle.cf_pass.proofs.true_needs.drop_needs.Goals as goal
+
+pub returns-clause-improves : goal.returns-clause-improves
+returns-clause-improves c = λ n. rw c.drop_in_code.ensures.code (needs_improve n _)

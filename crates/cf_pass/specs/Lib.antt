@@ -1,0 +1,6 @@
+pub mod DropArms
+pub mod DropNeeds
+pub mod Improves
+pub mod Lacks
+pub mod Parts
+pub mod Passes
