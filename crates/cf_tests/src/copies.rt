@@ -1,223 +1,67 @@
-use cf_tree::base::{Base, Order, Place, Text};
-use cf_tree::code::{Arm, Code, Item};
-use cf_tree::expr::{Def, Expr, MatchArm};
+//! Copies of programs and of functions, which no command makes yet.
+ghost use Rattle.std.specs.Prelude.{◌-◌, ◌^◌, ◌<◌, length};
+
+use cf_lex::tokens;
+use cf_parse::program;
+use cf_tree::base::{Base, Place, Text};
+use cf_tree::expr::{Def, Expr};
 use cf_tree::memory::NoMemory;
-use cf_tree::raw::{BinOp, Param, Part, Program, Raw, RawArm, RawDef, RawNode};
-use cf_tree::rel::{Rel, SetTerm, Term};
-use cf_tree::target::{Pre, RawTarget, Target};
+use cf_tree::raw::{Param, Program};
+use cf_tree::rel::Rel;
 use std::alloc::Global;
 use std::test::Fail;
 
-const HERE: Place = Place { line: 1, column: 1 };
+const SOURCE: &[u8] =
+    b"def f(s: set): set = s union {1, 2} def main(a: int): int = match a with { 2 * q - 1 then card(f({q})) ; x then choose (y: int) where y <= x }";
 
-fn named(alloc: Global, base: Base) -> Result<Param, NoMemory> {
-    Ok(Param {
-        place: HERE,
-        name: Text::from_str(alloc, "a")?,
-        base,
-    })
-}
-
-// not(card({} | v0) + (-3) < v1)
-fn relation(alloc: Global) -> Result<Rel, NoMemory> {
-    let none = Box::new(alloc, SetTerm::Empty)?;
-    let set = SetTerm::Union(none, Box::new(alloc, SetTerm::Var(0))?);
-    let card = Box::new(alloc, Term::Card(Box::new(alloc, set)?))?;
-    let sum = Term::Add(card, Box::new(alloc, Term::Lit(-3))?);
-    let less = Rel::Compare {
-        order: Order::Lt,
-        left: Box::new(alloc, sum)?,
-        right: Box::new(alloc, Term::Var(1))?,
+fn parsed(alloc: Global, text: &[u8]) -> Result<Program, Fail>
+    requires { length text.now < 2 ^ 32 - 1 }
+{
+    let Ok(list) = tokens(alloc, text) else {
+        return Err(NoMemory.into());
     };
-    Ok(Rel::Not(Box::new(alloc, less)?))
-}
-
-#[test]
-fn relations_are_copied(rt: HostRuntime) -> Result<(), Fail> {
-    let rel = relation(rt.alloc())?;
-    let copy = rel.try_copy(rt.alloc())?;
-    for tree in [&rel, &copy] {
-        assert_eq!(rt; tree.size(), 9);
-        assert_eq!(rt; tree.depth(), 6);
+    match program(alloc, &list) {
+        Ok(program) => Ok(program),
+        Err(_) => Err(NoMemory.into()),
     }
-    Ok(())
-}
-
-// search v0 below 2: let v1 = v0; need true; give v0 - 1
-fn arm(alloc: Global) -> Result<Arm, NoMemory> {
-    let mut arm = Arm {
-        bounds: Vec::new(alloc),
-        items: Vec::new(alloc),
-        gives: Vec::new(alloc),
-    };
-    arm.bounds.push(2)?;
-    arm.items.push(Item::Let(Code::Var(0)))?;
-    arm.items.push(Item::Need(Code::Truth(true)))?;
-    let one = Box::new(alloc, Code::Lit(1))?;
-    arm.gives
-        .push(Code::Sub(Box::new(alloc, Code::Var(0))?, one))?;
-    Ok(arm)
-}
-
-// if not(false) then 7 else solve 0 with the arm above
-fn target(alloc: Global) -> Result<RawTarget, NoMemory> {
-    let truth = Box::new(alloc, Code::Truth(false))?;
-    let mut arms = Vec::new(alloc);
-    arms.push(arm(alloc)?)?;
-    let code = Code::If {
-        test: Box::new(alloc, Code::Not(truth))?,
-        yes: Box::new(alloc, Code::Lit(7))?,
-        no: Box::new(alloc, Code::Solve { number: 0, arms })?,
-    };
-    let mut results = Vec::new(alloc);
-    results.push(Base::Int)?;
-    Ok(RawTarget {
-        params: Vec::new(alloc),
-        results,
-        code,
-    })
-}
-
-#[test]
-fn targets_are_copied(rt: HostRuntime) -> Result<(), Fail> {
-    let target = target(rt.alloc())?;
-    let copy = target.try_copy(rt.alloc())?;
-    for tree in [&target, &copy] {
-        assert_eq!(rt; tree.size(), 10);
-        assert_eq!(rt; tree.depth(), 4);
-    }
-    Ok(())
-}
-
-#[test]
-fn preconditions_are_copied(rt: HostRuntime) -> Result<(), Fail> {
-    let mut arms = Vec::new(rt.alloc());
-    arms.push(arm(rt.alloc())?)?;
-    arms.push(arm(rt.alloc())?)?;
-    let pre = Pre { arms };
-    let copy = pre.try_copy(rt.alloc())?;
-    for tree in [&pre, &copy] {
-        assert_eq!(rt; tree.size(), 10);
-        assert_eq!(rt; tree.depth(), 2);
-    }
-    Ok(())
-}
-
-fn raw_name(alloc: Global) -> Result<Box<Raw>, NoMemory> {
-    let node = RawNode::Name(Text::from_str(alloc, "q")?);
-    Ok(Box::new(alloc, Raw { place: HERE, node })?)
-}
-
-// 2 * q - 1 => q + q
-fn raw_arm(alloc: Global) -> Result<RawArm, NoMemory> {
-    let mut parts = Vec::new(alloc);
-    parts.push(Part {
-        place: HERE,
-        factor: 2,
-        name: Text::from_str(alloc, "q")?,
-    })?;
-    let node = RawNode::Binary {
-        op: BinOp::Add,
-        left: raw_name(alloc)?,
-        right: raw_name(alloc)?,
-    };
-    Ok(RawArm {
-        parts,
-        constant: -1,
-        body: Raw { place: HERE, node },
-    })
-}
-
-fn raw_def(alloc: Global, node: RawNode) -> Result<RawDef, NoMemory> {
-    let mut params = Vec::new(alloc);
-    params.push(named(alloc, Base::Set)?)?;
-    let mut results = Vec::new(alloc);
-    results.push(Base::Int)?;
-    Ok(RawDef {
-        place: HERE,
-        name: Text::from_str(alloc, "f")?,
-        params,
-        results,
-        body: Raw { place: HERE, node },
-    })
 }
 
 #[test]
 fn programs_are_copied(rt: HostRuntime) -> Result<(), Fail> {
-    let alloc = rt.alloc();
-    let mut arms = Vec::new(alloc);
-    arms.push(raw_arm(alloc)?)?;
-    let of = raw_name(alloc)?;
-    let mut defs = Vec::new(alloc);
-    defs.push(raw_def(alloc, RawNode::Lit(0))?)?;
-    defs.push(raw_def(alloc, RawNode::Match { of, arms })?)?;
-    let program = Program { defs };
-    let copy = program.try_copy(alloc)?;
-    for tree in [&program, &copy] {
-        assert_eq!(rt; tree.size(), 7);
-        assert_eq!(rt; tree.depth(), 3);
-    }
+    assert!(rt; SOURCE.len() < 1000);
+    let program = parsed(rt.alloc(), SOURCE)?;
+    let copy = program.try_copy(rt.alloc())?;
+    assert!(rt; copy.size() > 10);
+    assert_eq!(rt; copy.size(), program.size());
+    assert_eq!(rt; copy.depth(), program.depth());
     Ok(())
 }
 
-// 2 * v1 - 1 => choose 2 with the relation above
-fn match_arm(alloc: Global) -> Result<MatchArm, NoMemory> {
-    let mut factors = Vec::new(alloc);
-    factors.push(2)?;
-    let mut scope = Vec::new(alloc);
-    scope.push(named(alloc, Base::Int)?)?;
-    let mut outputs = Vec::new(alloc);
-    outputs.push(Base::Int)?;
-    Ok(MatchArm {
-        number: 1,
-        factors,
-        constant: -1,
+// f(a: int): (int) = choose 2 in that scope: true
+fn function(alloc: Global) -> Result<Def, NoMemory> {
+    let param = Param {
+        place: Place { line: 1, column: 7 },
+        name: Text::from_str(alloc, "a")?,
+        base: Base::Int,
+    };
+    Ok(Def {
+        name: Text::from_str(alloc, "f")?,
+        params: Vec::new(alloc),
+        results: Vec::from_slice(alloc, &[Base::Int])?,
         body: Expr::Choose {
             number: 2,
-            scope,
-            outputs,
-            rel: relation(alloc)?,
+            scope: vec![in alloc; param]?,
+            outputs: Vec::from_slice(alloc, &[Base::Int])?,
+            rel: Rel::True,
         },
     })
 }
 
 #[test]
 fn functions_are_copied(rt: HostRuntime) -> Result<(), Fail> {
-    let alloc = rt.alloc();
-    let mut arms = Vec::new(alloc);
-    arms.push(match_arm(alloc)?)?;
-    let body = Expr::Match {
-        number: 0,
-        scope: Vec::new(alloc),
-        of: Box::new(alloc, Expr::Var(0))?,
-        arms,
-    };
-    let def = Def {
-        name: Text::from_str(alloc, "f")?,
-        params: Vec::new(alloc),
-        results: Vec::new(alloc),
-        body,
-    };
-    let copy = def.try_copy(alloc)?;
-    for tree in [&def, &copy] {
-        assert_eq!(rt; tree.size(), 13);
-        assert_eq!(rt; tree.depth(), 8);
-    }
-    Ok(())
-}
-
-#[test]
-fn a_target_has_the_parts_that_it_was_made_of(rt: HostRuntime) -> Result<(), Fail> {
-    let alloc = rt.alloc();
-    let mut results = Vec::new(alloc);
-    results.push(Base::Int)?;
-    let target = Target::new(RawTarget {
-        params: Vec::new(alloc),
-        results,
-        code: Code::Lit(3),
-    });
-    assert_eq!(rt; target.body().size(), 1);
-    assert_eq!(rt; target.params().len(), 0);
-    assert_eq!(rt; target.results().len(), 1);
+    let function = function(rt.alloc())?;
+    let copy = function.try_copy(rt.alloc())?;
+    assert_eq!(rt; copy.size(), function.size());
+    assert_eq!(rt; copy.depth(), function.depth());
     Ok(())
 }
