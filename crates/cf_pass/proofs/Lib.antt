@@ -4,6 +4,7 @@ pub mod DeadLaws
 pub mod DeadLists
 mod Examples
 pub mod Forms
+pub mod ImproveLaws
 pub mod LoopSteps
 mod NameExamples
 pub mod NeedsArms
