@@ -1,5 +1,5 @@
 -- Lets and needs over names of columns: what they lead to, and the values of the columns there.
-use Rattle.std.proofs.Common.{◌≡◌, ◌↔◌, ℕ, suc, ◌+◌, ◌<◌, ◌≤◌, ◌^◌, ◌==◌, ℤ, pos, neg_ℤ, List, [], ◌∷◌, ◌++◌, ◌⊎◌, inl, inr, length, map, Some, refl, sym, ap}
+use Rattle.std.proofs.Common.{◌≡◌, ◌↔◌, ℕ, suc, ◌<◌, ◌≤◌, ◌^◌, ◌==◌, ℤ, pos, neg_ℤ, List, [], ◌∷◌, ◌++◌, ◌⊎◌, inl, inr, length, map, Some, refl, sym, ap}
 use Rattle.std.proofs.Common.{arith, ◌∙◌, length-append, append-nil, append_assoc}
 use Rattle.std.specs.Prelude.{slice_get, None, Bool, true, false}
 use Rattle.std.specs.Int.{int_div_euclid}
@@ -126,11 +126,12 @@ module _ (names : ColumnLevels) (e : List Value) (v : Values) (agrees : Agrees n
   how_agrees (least ((r, p) ∷ bs)) o = rw (value_agrees names e v r o.0 agrees, highs_agree bs o.1) refl
 
 -- ---- what is made so far
--- the items are well typed from the scope to the bases, spelled and not deep, and the names are levels of numbers there
+-- the items are well typed from the scope to the bases, not deep, and spelled where levels are numbers of 32 bits, and the names are levels of
+-- numbers there
 pub record IsMade (scope : List Base) (k : ArmBuilder) (bases : List Base) : Type 0 where
   pub typed : ItemsHave (items_of k.items) scope (λ s. s ≡ bases)
   pub plain : ItemsHaveNoSolve (items_of k.items)
-  pub spelled : AreItemsSpelled (items_of k.items)
+  pub spelled : length bases ≤ 2 ^ 32 → AreItemsSpelled (items_of k.items)
   pub shallow : items_depth (items_of k.items) ≤ 8
   pub level : k.level ≡ length bases
   pub numbers : AreNumbers bases k.names
@@ -142,12 +143,15 @@ pub record Makes (bases : List Base) (b : Base) (c : CodeTree) (w : List Value �
   pub means : (e : List Value) → HaveBases bases e → (path c e).gives ≡ got (w e ∷ [])
   pub base : (e : List Value) → HaveBases bases e → HasBase b (w e)
 
+pub fewer : (bases more : List Base) → length (bases ++ more) ≤ 2 ^ 32 → length bases ≤ 2 ^ 32
+fewer bases more h = omega (arith, length-append bases more)
+
 pub alone_made : (scope bases : List Base) (k : ArmBuilder) (b : Base) (code : CodeTree) (w : List Value → Value) → Makes bases b code w →
     IsMade scope k bases → IsMade scope (let_alone k code) (bases ++ (b ∷ []))
 alone_made scope bases k b code w h m = record {
   typed = have_then k.items (let_item code ∷ []) scope bases (λ s. s ≡ bases ++ (b ∷ [])) m.typed (b, h.code.typed None tt, refl);
   plain = plain_then k.items (let_item code ∷ []) m.plain (h.code.plain, tt);
-  spelled = spelled_then k.items (let_item code ∷ []) m.spelled (h.code.spelled, tt);
+  spelled = λ few. let s = fewer bases (b ∷ []) few in spelled_then k.items (let_item code ∷ []) (m.spelled s) (h.code.spelled s, tt);
   shallow = shallow_then k.items (let_item code ∷ []) m.shallow (let s = h.code.shallow in omega arith);
   level = let l = m.level in omega (arith, length-append bases (b ∷ []));
   numbers = numbers_more bases (b ∷ []) k.names m.numbers;
@@ -162,7 +166,7 @@ pub let_made : (scope bases : List Base) (k : ArmBuilder) (c : ℕ) (code : Code
 let_made scope bases k c code w h m = record {
   typed = have_then k.items (let_item code ∷ []) scope bases (λ s. s ≡ bases ++ (Int ∷ [])) m.typed (Int, h.code.typed None tt, refl);
   plain = plain_then k.items (let_item code ∷ []) m.plain (h.code.plain, tt);
-  spelled = spelled_then k.items (let_item code ∷ []) m.spelled (h.code.spelled, tt);
+  spelled = λ few. let s = fewer bases (Int ∷ []) few in spelled_then k.items (let_item code ∷ []) (m.spelled s) (h.code.spelled s, tt);
   shallow = shallow_then k.items (let_item code ∷ []) m.shallow (let s = h.code.shallow in omega arith);
   level = let l = m.level in omega (arith, length-append bases (Int ∷ []));
   numbers = (slice_get-end bases k.level m.level, numbers_more bases (Int ∷ []) k.names m.numbers);
@@ -177,7 +181,7 @@ need_made : (scope bases : List Base) (k : ArmBuilder) (code : CodeTree) (w : Li
 need_made scope bases k code w h m = record {
   typed = have_then k.items (need_item code ∷ []) scope bases (λ s. s ≡ bases) m.typed (h.typed, refl);
   plain = plain_then k.items (need_item code ∷ []) m.plain (h.plain, tt);
-  spelled = spelled_then k.items (need_item code ∷ []) m.spelled (h.spelled, tt);
+  spelled = λ few. spelled_then k.items (need_item code ∷ []) (m.spelled few) (h.spelled few, tt);
   shallow = shallow_then k.items (need_item code ∷ []) m.shallow (let s = h.shallow in omega arith);
   level = m.level;
   numbers = m.numbers;
@@ -279,21 +283,18 @@ continues_need scope bases k code w P h m same = record {
 abbrev pub LetsSome : List Step → Type 0
 LetsSome ms = (c : ℕ) → In c (let_columns ms) → 1 ≤ c
 
-module _ (scope bases : List Base) (k : ArmBuilder) (few : k.level ≤ 2 ^ 32) (m : IsMade scope k bases) where
-  short : length bases ≤ 2 ^ 32
-  short = let l = m.level in omega arith
-
+module _ (scope bases : List Base) (k : ArmBuilder) (m : IsMade scope k bases) where
   row_of : (r : Row) → Over (HasName k.names) r → StepWritten (need_nonneg r) → Computes 3 bases (row_code k.names r) (λ e. value (seen k.names e) r)
-  row_of r o w = row_computes bases short k.names m.numbers r o w.1
+  row_of r o w = row_computes bases k.names m.numbers r o w.1
 
   floor_continues : (c : ℕ) (r : Row) (g : ℤ) → 1 ≤ c → Over (HasName k.names) r → StepWritten (floor_of c r g) →
       Continues scope bases k (step_item k (floor_of c r g)) (λ v. Need v (floor_of c r g)) (λ v. after_step v (floor_of c r g))
   floor_continues c r g some o w =
       continues_let scope bases k c (code_div (row_code k.names r) g) (λ e. int_div_euclid (value (seen k.names e) r) g) (λ v. int_div_euclid (value v r) g)
       some
-      (deeper bases short 4 6 (code_div (row_code k.names r) g) (λ e. int_div_euclid (value (seen k.names e) r) g)
+      (deeper bases 4 6 (code_div (row_code k.names r) g) (λ e. int_div_euclid (value (seen k.names e) r) g)
       (λ e. int_div_euclid (value (seen k.names e) r) g) (omega arith) (λ e. refl)
-      (div_computes bases short k.names m.numbers r g o w.0.1 w.1)) m
+      (div_computes bases k.names m.numbers r g o w.0.1 w.1)) m
       (λ e v a. ap (λ z. int_div_euclid z g) (value_agrees k.names e v r o a))
 
   nonneg_continues : (r : Row) → Over (HasName k.names) r → StepWritten (need_nonneg r) →
@@ -321,7 +322,7 @@ module _ (scope bases : List Base) (k : ArmBuilder) (few : k.level ≤ 2 ^ 32) (
       Continues scope bases k (back_item k (x, w)) (λ _. Unit {0}) (λ v. update v x (how_value v w))
   way_continues x w some o s =
       continues_let scope bases k x (how_code k.names w) (λ e. how_value (seen k.names e) w) (λ v. how_value v w) some
-      (how_computes bases short k.names m.numbers w o s) m
+      (how_computes bases k.names m.numbers w o s) m
       (λ e v a. how_agrees k.names e v a w o)
 
 pub wider_let : (Q : ℕ → Type 0) (names : ColumnLevels) (c level : ℕ) → ((d : ℕ) → Q d → HasName names d) → (d : ℕ) → (d ≡ c) ⊎ Q d → HasName ((c, level) ∷ names) d
@@ -330,29 +331,29 @@ wider_let Q names c level f d (inr q) = elim (f d q) as (λ _. HasName ((c, leve
 
 pub steps_continue : (scope bases : List Base) (ms : List Step) (k : ArmBuilder) (Q : ℕ → Type 0) → IsMade scope k bases → StepsWritten ms →
     StepsOver Q ms → ((c : ℕ) → Q c → HasName k.names c) →
-    LetsSome ms → k.level + length ms ≤ 2 ^ 32 → Continues scope bases k (fold step_item k ms) (λ v. NeedsHold v ms) (λ v. after_steps v ms)
-steps_continue scope bases [] k Q m s o f l few = continues_none scope bases k m
-steps_continue scope bases (floor_of c r g ∷ ms) k Q m s o f l few =
-    let p = floor_continues scope bases k (omega arith) m c r g (l c (inl refl)) (Over-weaker Q (HasName k.names) f r o.0) s.0 in
+    LetsSome ms → Continues scope bases k (fold step_item k ms) (λ v. NeedsHold v ms) (λ v. after_steps v ms)
+steps_continue scope bases [] k Q m s o f l = continues_none scope bases k m
+steps_continue scope bases (floor_of c r g ∷ ms) k Q m s o f l =
+    let p = floor_continues scope bases k m c r g (l c (inl refl)) (Over-weaker Q (HasName k.names) f r o.0) s.0 in
     let j = step_item k (floor_of c r g) in
     continues_then scope bases k j (fold step_item j ms) (λ v. Need v (floor_of c r g)) (λ v. NeedsHold v ms) (λ v. after_step v (floor_of c r g))
     (λ v. after_steps v ms) p
-    (steps_continue scope p.bases ms j (λ d. (d ≡ c) ⊎ Q d) p.made s.1 o.1 (wider_let Q k.names c k.level f) (λ d i. l d (inr i)) (omega arith))
-steps_continue scope bases (need_nonneg r ∷ ms) k Q m s o f l few =
-    let p = nonneg_continues scope bases k (omega arith) m r (Over-weaker Q (HasName k.names) f r o.0) s.0 in
+    (steps_continue scope p.bases ms j (λ d. (d ≡ c) ⊎ Q d) p.made s.1 o.1 (wider_let Q k.names c k.level f) (λ d i. l d (inr i)))
+steps_continue scope bases (need_nonneg r ∷ ms) k Q m s o f l =
+    let p = nonneg_continues scope bases k m r (Over-weaker Q (HasName k.names) f r o.0) s.0 in
     let j = step_item k (need_nonneg r) in
     continues_then scope bases k j (fold step_item j ms) (λ v. Need v (need_nonneg r)) (λ v. NeedsHold v ms) (λ v. v) (λ v. after_steps v ms) p
-    (steps_continue scope p.bases ms j Q p.made s.1 o.1 f l (omega arith))
-steps_continue scope bases (need_zero r ∷ ms) k Q m s o f l few =
-    let p = zero_continues scope bases k (omega arith) m r (Over-weaker Q (HasName k.names) f r o.0) s.0 in
+    (steps_continue scope p.bases ms j Q p.made s.1 o.1 f l)
+steps_continue scope bases (need_zero r ∷ ms) k Q m s o f l =
+    let p = zero_continues scope bases k m r (Over-weaker Q (HasName k.names) f r o.0) s.0 in
     let j = step_item k (need_zero r) in
     continues_then scope bases k j (fold step_item j ms) (λ v. Need v (need_zero r)) (λ v. NeedsHold v ms) (λ v. v) (λ v. after_steps v ms) p
-    (steps_continue scope p.bases ms j Q p.made s.1 o.1 f l (omega arith))
-steps_continue scope bases (need_divides g r ∷ ms) k Q m s o f l few =
-    let p = divides_continues scope bases k (omega arith) m g r (Over-weaker Q (HasName k.names) f r o.0) s.0 in
+    (steps_continue scope p.bases ms j Q p.made s.1 o.1 f l)
+steps_continue scope bases (need_divides g r ∷ ms) k Q m s o f l =
+    let p = divides_continues scope bases k m g r (Over-weaker Q (HasName k.names) f r o.0) s.0 in
     let j = step_item k (need_divides g r) in
     continues_then scope bases k j (fold step_item j ms) (λ v. Need v (need_divides g r)) (λ v. NeedsHold v ms) (λ v. v) (λ v. after_steps v ms) p
-    (steps_continue scope p.bases ms j Q p.made s.1 o.1 f l (omega arith))
+    (steps_continue scope p.bases ms j Q p.made s.1 o.1 f l)
 
 -- the ways back need nothing
 abbrev pub Nothing : List (ℕ × How) → Type 0
@@ -365,13 +366,13 @@ nothing (w ∷ ws) = (tt, nothing ws)
 
 pub back_continue : (scope bases : List Base) (ws : List (ℕ × How)) (k : ArmBuilder) (Q : ℕ → Type 0) → IsMade scope k bases → BackWritten ws →
     BackOver Q ws → ((c : ℕ) → Q c → HasName k.names c) →
-    k.level + length ws ≤ 2 ^ 32 → Continues scope bases k (fold back_item k ws) (λ _. Nothing ws) (λ v. after_back v ws)
-back_continue scope bases [] k Q m s o f few = continues_none scope bases k m
-back_continue scope bases ((x, w) ∷ ws) k Q m s o f few =
-    let p = way_continues scope bases k (omega arith) m x w o.0 (how_wider Q (HasName k.names) f w o.1) s.0 in
+    Continues scope bases k (fold back_item k ws) (λ _. Nothing ws) (λ v. after_back v ws)
+back_continue scope bases [] k Q m s o f = continues_none scope bases k m
+back_continue scope bases ((x, w) ∷ ws) k Q m s o f =
+    let p = way_continues scope bases k m x w o.0 (how_wider Q (HasName k.names) f w o.1) s.0 in
     let j = back_item k (x, w) in
     continues_then scope bases k j (fold back_item j ws) (λ _. Unit {0}) (λ _. Nothing ws) (λ v. update v x (how_value v w)) (λ v. after_back v ws) p
-    (back_continue scope p.bases ws j (λ d. (d ≡ x) ⊎ Q d) p.made s.1 o.2 (wider_let Q k.names x k.level f) (omega arith))
+    (back_continue scope p.bases ws j (λ d. (d ≡ x) ⊎ Q d) p.made s.1 o.2 (wider_let Q k.names x k.level f))
 
 -- ---- which columns have names
 pub steps_named : (ms : List Step) (k : ArmBuilder) (c : ℕ) → In c (let_columns ms) ⊎ HasName k.names c → HasName (fold step_item k ms).names c

@@ -45,7 +45,7 @@ use Rattle.cf_venn.proofs.KnownLaws.{parameters_known}
 use Rattle.cf_venn.proofs.LetLaws.{region_lets_lead}
 use Rattle.cf_venn.proofs.LevelLaws.{same_each, is_layout, outputs_count}
 use Rattle.cf_venn.proofs.OutputLaws.{held}
-use Rattle.cf_choose.specs.CaseArms.{seen, parameter_names, IsWritable, IsArmOf}
+use Rattle.cf_choose.specs.CaseArms.{seen, parameter_names, IsWritable, HasFewLevels, IsArmOf}
 use Rattle.cf_choose.proofs.ChooseLevels.{IsFirst, numbers_once, number_levels, output_column}
 use Rattle.cf_choose.proofs.ColumnNames.{named-append, named-first, named-second, ints_of, wholes, search_numbers, search_have, AreEarlier, search_agrees}
 use Rattle.cf_choose.proofs.ColumnNames.{search_named, rising_from, in_bounds, below_bounds, parameter_numbers, named_parameter, place-within, column_is}
@@ -129,7 +129,7 @@ module _ (scope outputs : List Base) (rel : RelTree) (outs : AreOutputs outputs)
   few_inputs = omega arith
 
   module _ (m : System) (a : Answer) (opens : IsFirst l m) (solved : SolvedBy m a) (owes : Owes m a) (comes : ComesBack m a) (done : a.system.unknown ≡ [])
-      (writable : IsWritable l a) where
+      (writable : IsWritable a) where
     abbrev bounds : List ℕ
     bounds = bounds_of a.bounds
 
@@ -185,7 +185,7 @@ module _ (scope outputs : List Base) (rel : RelTree) (outs : AreOutputs outputs)
     made_first = record {
       typed = refl;
       plain = tt;
-      spelled = tt;
+      spelled = λ _. tt;
       shallow = omega arith;
       level = omega (arith, length_start);
       numbers = search_numbers scope a.bounds (parameter_names l) (length scope) refl (parameter_numbers l scope l.numbers (number_levels scope outputs rel));
@@ -195,9 +195,8 @@ module _ (scope outputs : List Base) (rel : RelTree) (outs : AreOutputs outputs)
     made_parted : IsMade start parted from
     made_parted =
         let s = pow_pos (length l.inputs) in
-        let f = writable.few in
         regions_made scope outputs rel few_inputs start regions 1 start first made_first (inputs_typed scope outputs rel (ints_of bounds)) (omega arith)
-        (omega arith) (omega (arith, length_start))
+        (omega arith)
 
     -- known columns and those of searches
     abbrev Begins : ℕ → Type 0
@@ -229,8 +228,7 @@ module _ (scope outputs : List Base) (rel : RelTree) (outs : AreOutputs outputs)
     parted_level = made_parted.level ∙ length_from ∙ omega (arith, length_start)
 
     steps_go : Continues start from parted middle (λ v. StepsHold v a.steps) (λ v. after_steps v a.steps)
-    steps_go = steps_continue start from a.steps parted Begins made_parted writable.steps owes.over begins_named lets_some (let f = writable.few in
-        omega (arith, parted_level))
+    steps_go = steps_continue start from a.steps parted Begins made_parted writable.steps owes.over begins_named lets_some
 
     left_named : (c : ℕ) → In c a.system.known ⊎ In c a.system.unknown → HasName middle.names c
     left_named c (inl i) = elim (owes.only c i) as (λ _. HasName middle.names c) [
@@ -242,15 +240,13 @@ module _ (scope outputs : List Base) (rel : RelTree) (outs : AreOutputs outputs)
     back_go : Continues start steps_go.bases middle end (λ _. Nothing a.back) (λ v. after_back v a.back)
     back_go = back_continue start steps_go.bases a.back middle (λ c. In c a.system.known ⊎ In c a.system.unknown) steps_go.made writable.back comes.over
         left_named
-        (let f = writable.few in let h = steps_level a.steps parted in omega (arith, parted_level))
 
     all_go : Continues start from parted end (λ v. StepsHold v a.steps × Nothing a.back) (λ v. after_back (after_steps v a.steps) a.back)
     all_go = continues_then start from parted middle end (λ v. StepsHold v a.steps) (λ _. Nothing a.back) (λ v. after_steps v a.steps)
         (λ v. after_back v a.back) steps_go back_go
 
-    end_level : length all_go.bases + 1 ≤ 2 ^ 32
-    end_level =
-        let f = writable.few in
+    end_level : HasFewLevels l a → length all_go.bases + 1 ≤ 2 ^ 32
+    end_level few =
         let h = steps_level a.steps parted in
         let e = all_go.made.level in
         omega (arith, back_level a.back middle, parted_level)
@@ -331,7 +327,7 @@ module _ (scope outputs : List Base) (rel : RelTree) (outs : AreOutputs outputs)
 
     fresh_form : IsCodeOf Set 8 all_go.bases (fresh_code l end.names)
     fresh_form =
-        let f = fresh_code_fits all_go.bases (let e = end_level in omega arith) l end.names inputs_kept counts_typed in
+        let f = fresh_code_fits all_go.bases l end.names inputs_kept counts_typed in
         record { typed = f.typed; plain = f.plain; spelled = f.spelled; shallow = let s = f.shallow in omega arith }
 
     last : IsEnded start all_go.bases l end (with_fresh l end)
@@ -488,12 +484,12 @@ module _ (scope outputs : List Base) (rel : RelTree) (outs : AreOutputs outputs)
         (f.w, f.known, f.sat, rw arm_is (gives_mean l a end env f.w e f.pieces f.numbers))
 
     -- ---- its form
-    few_last : length last.bases ≤ 2 ^ 32
-    few_last = let f = last.few in let e = end_level in omega arith
+    few_last : HasFewLevels l a → length last.bases ≤ 2 ^ 32
+    few_last few = let f = last.few in let e = end_level few in omega arith
 
     given : AreGiven last.bases outputs (gives l a end)
     given =
-        outputs_given scope outputs rel outs a end last.bases few_last
+        outputs_given scope outputs rel outs a end last.bases
         (λ x h. last.kept (level_of end.names (number_column l x)) Int
         (number_named all_go.bases end.names (number_column l x) all_go.made.numbers (unknown_named (number_column l x) (number_unknown x h))))
         (λ k x y. last.kept (level_of end.names (region_column l k)) Int (counts_typed k x y))
@@ -514,11 +510,12 @@ module _ (scope outputs : List Base) (rel : RelTree) (outs : AreOutputs outputs)
     arm_shallow : arms_depth (arm_more (arm l a) no_arms) ≤ 16
     arm_shallow = rw arm_is (let h = last.shallow in let g = given.shallow in omega arith)
 
-    arm_spelled : 1 ≤ length outputs → AreArmsSpelled (arm_more (arm l a) no_arms)
-    arm_spelled some =
+    pub spelled_arm : HasFewLevels l a → 1 ≤ length outputs → AreArmsSpelled (arm_more (arm l a) no_arms)
+    spelled_arm few some =
         let b = writable.bounds in
+        let s = few_last few in
         let c : 1 ≤ length l.out_numbers + length l.out_sets = omega (arith, outputs_count scope outputs rel outs) in
-        rw arm_is (numerals bounds b.0 b.1, last.spelled, gives_some l a end c, given.spelled, tt)
+        rw arm_is (numerals bounds b.0 b.1, last.spelled s, gives_some l a end c, given.spelled s, tt)
 
     pub solved_arm : IsArmOf scope outputs l m (arm l a)
-    solved_arm = record { meets = needs_hold; gives = outputs_found; typed = arm_typed; shallow = arm_shallow; spelled = arm_spelled }
+    solved_arm = record { meets = needs_hold; gives = outputs_found; typed = arm_typed; shallow = arm_shallow }

@@ -1,11 +1,14 @@
 -- The cases of a choose that are all done, and its first refusal.
-use Rattle.std.proofs.Common.{◌≡◌, ◌≤◌, List, [], ◌∷◌, ◌++◌, true, false, Some, None, map, refl, sym, ap, ◌∙◌}
+use Rattle.std.proofs.Common.{◌≡◌, ◌≤◌, List, [], ◌∷◌, ◌++◌, true, false, Some, None, map, length, refl, sym, ap, ◌∙◌}
 use Rattle.std.specs.Prelude.{nat_lt}
 use Rattle.std.proofs.lemmas.Bool.{ltb-false}
 use Rattle.cf_tree.specs.declared.base.Base.{Base}
-use Rattle.cf_tree.specs.CodeTree.{arms_of}
+use Rattle.cf_tree.specs.CodeTree.{ArmTree, arm_more, no_arms, arms_of, arms_depth}
 use Rattle.cf_tree.specs.RelTree.{RelTree}
 use Rattle.cf_tree.specs.Relation.{IsTyped, IsLinear}
+use Rattle.cf_tree.specs.Solving.{Solves}
+use Rattle.cf_tree.specs.Spelled.{AreArmsSpelled}
+use Rattle.cf_tree.specs.Typing.{ArmsHave}
 use Rattle.cf_linear.specs.declared.refusal.TheConstants.{MOST_SETS}
 use Rattle.cf_linear.specs.declared.refusal.Refusal.{Refusal}
 use Rattle.cf_linear.specs.Layout.{Layout, layout_of, set_count}
@@ -17,38 +20,81 @@ use Rattle.cf_linear.proofs.BoolLemmas.{on_bool}
 use Rattle.cf_cases.specs.Holding.{EachOf}
 use Rattle.cf_cases.proofs.PlacedLaws.{placed-rel}
 use Rattle.cf_venn.specs.Laws.{AreOutputs}
-use Rattle.cf_choose.specs.CaseArms.{IsArmOf}
-use Rattle.cf_choose.specs.Eliminations.{IsCaseDone, made, later_refusal, case_refusal}
-use Rattle.cf_choose.specs.Solved.{ArmsSolve}
-use Rattle.cf_choose.proofs.ArmLemmas.{solved_arm}
+use Rattle.cf_choose.specs.CaseArms.{IsWritable, HasFewLevels, IsArmOf}
+use Rattle.cf_choose.specs.Eliminations.{IsEliminated, IsCaseDone, made, later_refusal, case_refusal}
+use Rattle.cf_choose.specs.Solved.{HasArms, ArmsSolve}
+use Rattle.cf_choose.proofs.ArmLemmas.{solved_arm, spelled_arm}
 use Rattle.cf_choose.proofs.ChooseLevels.{IsFirst, each_first}
 use Rattle.cf_choose.proofs.JoinLemmas.{arms_solve, arms_typed, arms_shallow, arms_spelled}
 use Rattle.cf_choose.proofs.SomeCases.{has_arms}
+
+-- the elimination of the case is done, and what it makes has a spelling but for its levels
+pub record IsArmed (m : System) : Type 0 where
+  pub eliminated : IsEliminated m (made m)
+  pub writable : IsWritable (made m)
 
 module _ (scope outputs : List Base) (rel : RelTree) (outs : AreOutputs outputs) (few_sets : set_count (layout_of scope outputs rel) ≤ MOST_SETS) where
   abbrev l : Layout
   l = layout_of scope outputs rel
 
-  done_arm : (m : System) → IsFirst l m → IsCaseDone l m → IsArmOf scope outputs l m (arm_of_case limits l m)
-  done_arm m f d =
-      let e = d.eliminated in
-      solved_arm scope outputs rel outs few_sets m (made m) f e.solved e.owes e.comes e.done d.writable
+  abbrev arm_at : System → ArmTree
+  arm_at m = arm_of_case limits l m
 
-  each_done : (ms : List System) → EachOf (IsFirst l) ms → EachOf (IsCaseDone l) ms → EachOf (λ m. IsArmOf scope outputs l m (arm_of_case limits l m)) ms
-  each_done [] f d = tt
-  each_done (m ∷ ms) f d = (done_arm m f.0 d.0, each_done ms f.1 d.1)
+  each_arm : (ms : List System) → EachOf (IsFirst l) ms → EachOf IsArmed ms → EachOf (λ m. IsArmOf scope outputs l m (arm_at m)) ms
+  each_arm [] f d = tt
+  each_arm (m ∷ ms) f d =
+      let e = d.0.eliminated in
+      (solved_arm scope outputs rel outs few_sets m (made m) f.0 e.solved e.owes e.comes e.done d.0.writable, each_arm ms f.1 d.1)
 
-  -- the arms of all cases solve the relation
+  each_spelled : 1 ≤ length outputs → (ms : List System) → EachOf (IsFirst l) ms → EachOf IsArmed ms → EachOf (λ m. HasFewLevels l (made m)) ms →
+      EachOf (λ m. AreArmsSpelled (arm_more (arm_at m) no_arms)) ms
+  each_spelled some [] f d n = tt
+  each_spelled some (m ∷ ms) f d n =
+      let e = d.0.eliminated in (
+        spelled_arm scope outputs rel outs few_sets m (made m) f.0 e.solved e.owes e.comes e.done d.0.writable n.0 some,
+        each_spelled some ms f.1 d.1 n.1,
+      )
+
+  module _ (typed : IsTyped (scope ++ outputs) rel) (linear : IsLinear rel) (armed : EachOf IsArmed (first_systems l rel)) where
+    firsts : EachOf (IsFirst l) (first_systems l rel)
+    firsts = each_first l rel (placed-rel scope outputs rel typed linear)
+
+    each : EachOf (λ m. IsArmOf scope outputs l m (arm_at m)) (first_systems l rel)
+    each = each_arm (first_systems l rel) firsts armed
+
+    -- the arms of all cases solve the relation
+    pub armed_solve : HasArms (arms_of (map arm_at (first_systems l rel))) × Solves scope outputs rel (arms_of (map arm_at (first_systems l rel)))
+    armed_solve = (has_arms l rel arm_at, arms_solve scope outputs rel arm_at typed linear outs each)
+
+    pub armed_typed : ArmsHave (arms_of (map arm_at (first_systems l rel))) scope outputs
+    armed_typed = arms_typed scope outputs rel arm_at (first_systems l rel) each
+
+    pub armed_shallow : arms_depth (arms_of (map arm_at (first_systems l rel))) ≤ 16
+    armed_shallow = arms_shallow scope outputs rel arm_at (first_systems l rel) each
+
+    pub armed_spelled : EachOf (λ m. HasFewLevels l (made m)) (first_systems l rel) → 1 ≤ length outputs →
+        AreArmsSpelled (arms_of (map arm_at (first_systems l rel)))
+    armed_spelled few some = arms_spelled scope outputs rel arm_at (first_systems l rel) (each_spelled some (first_systems l rel) firsts armed few)
+
+  each_armed : (ms : List System) → EachOf (IsCaseDone l) ms → EachOf IsArmed ms
+  each_armed [] d = tt
+  each_armed (m ∷ ms) d = (record { eliminated = d.0.eliminated; writable = d.0.writable }, each_armed ms d.1)
+
+  each_few : (ms : List System) → EachOf (IsCaseDone l) ms → EachOf (λ m. HasFewLevels l (made m)) ms
+  each_few [] d = tt
+  each_few (m ∷ ms) d = (d.0.few, each_few ms d.1)
+
   pub all_solved : IsTyped (scope ++ outputs) rel → IsLinear rel → EachOf (IsCaseDone l) (first_systems l rel) →
       ArmsSolve scope outputs rel (arms_of (map (arm_of_case limits l) (first_systems l rel)))
   all_solved typed linear d =
-      let each = each_done (first_systems l rel) (each_first l rel (placed-rel scope outputs rel typed linear)) d in
+      let armed = each_armed (first_systems l rel) d in
+      let both = armed_solve typed linear armed in
       record {
-        some = has_arms l rel (arm_of_case limits l);
-        solves = arms_solve scope outputs rel (arm_of_case limits l) typed linear outs each;
-        typed = arms_typed scope outputs rel (arm_of_case limits l) (first_systems l rel) each;
-        shallow = arms_shallow scope outputs rel (arm_of_case limits l) (first_systems l rel) each;
-        spelled = λ some. arms_spelled scope outputs rel (arm_of_case limits l) some (first_systems l rel) each;
+        some = both.0;
+        solves = both.1;
+        typed = armed_typed typed linear armed;
+        shallow = armed_shallow typed linear armed;
+        spelled = λ some. armed_spelled typed linear armed (each_few (first_systems l rel) d) some;
       }
 
 -- ---- the first refusal

@@ -1,12 +1,16 @@
 -- The arms of the definition solve a relation that no limit refuses.
 use Rattle.std.proofs.Common.{◌≡◌, ℕ, ◌+◌, ◌^◌, ◌<◌, ◌≤◌, ℤ, List, [], ◌∷◌, length, true, false, Option, Some, None, refl, sym, ◌∙◌, arith}
 use Rattle.cf_tree.specs.declared.base.Base.{Base}
-use Rattle.cf_tree.specs.CodeTree.{arms_of}
+use Rattle.cf_tree.specs.CodeTree.{arms_of, arms_depth}
 use Rattle.cf_tree.specs.RelTree.{RelTree}
+use Rattle.cf_tree.specs.Solving.{Solves}
+use Rattle.cf_tree.specs.Spelled.{AreArmsSpelled}
+use Rattle.cf_tree.specs.Typing.{ArmsHave}
+use Rattle.cf_linear.specs.declared.refusal.TheConstants.{MOST_SETS}
 use Rattle.cf_linear.specs.declared.refusal.Refusal.{Refusal}
 use Rattle.cf_linear.specs.Cases.{negation_normal, first_systems, written_passes}
 use Rattle.cf_linear.specs.Chooses.{arms, limit, refusal_of, or_else, first_refused}
-use Rattle.cf_linear.specs.Layout.{Layout, layout_of}
+use Rattle.cf_linear.specs.Layout.{Layout, layout_of, set_count}
 use Rattle.cf_linear.specs.Rows.{Row}
 use Rattle.cf_linear.specs.Stages.{End, solved, refused, run, limits}
 use Rattle.cf_linear.specs.Systems.{System, Step, floor_of, need_nonneg, need_zero, need_divides, How, row_how, greatest, least}
@@ -19,11 +23,11 @@ use Rattle.cf_elim.proofs.RunCounts.{run_few}
 use Rattle.cf_elim.proofs.RunSmall.{run_small}
 use Rattle.cf_elim.proofs.SolvedRuns.{run_solved}
 use Rattle.cf_elim.proofs.StageSmall.{PairsSmall, HowSmall, BackSmall, StepsSmall, RowsSmall}
-use Rattle.cf_choose.specs.CaseArms.{PairsWritten, HowWritten, BackWritten, StepsWritten}
-use Rattle.cf_choose.specs.Eliminations.{IsCaseDone, made, case_refusal, later_refusal}
-use Rattle.cf_choose.specs.Laws.{IsUnrefused}
-use Rattle.cf_choose.specs.Solved.{ArmsSolve}
-use Rattle.cf_choose.proofs.CaseLemmas.{all_solved, few_sets, refused_by_count, refused_later}
+use Rattle.cf_choose.specs.CaseArms.{PairsWritten, HowWritten, BackWritten, StepsWritten, HasFewLevels}
+use Rattle.cf_choose.specs.Eliminations.{made, case_refusal, later_refusal}
+use Rattle.cf_choose.specs.Laws.{IsUnrefused, HasLevels}
+use Rattle.cf_choose.specs.Solved.{HasArms}
+use Rattle.cf_choose.proofs.CaseLemmas.{IsArmed, armed_solve, armed_typed, armed_shallow, armed_spelled, few_sets, refused_by_count, refused_later}
 use Rattle.cf_choose.proofs.ChooseLevels.{are_outputs}
 use Rattle.cf_choose.proofs.FirstRows.{firsts_small}
 use Rattle.cf_choose.proofs.SystemLaws.{IsBegun, first_systems_begun, pow_small}
@@ -50,14 +54,11 @@ steps_written (need_zero r ∷ ms) s d = (s.0, steps_written ms s.1 d.1)
 steps_written (need_divides g r ∷ ms) s d = ((s.0.0, (d.0, s.0.1)), steps_written ms s.1 d.1)
 
 -- ---- a case
-case_done : (l : Layout) (m : System) → l.scope < 2 ^ 31 → length l.inputs ≤ 6 → IsReady m → RowsSmall m → (run limits m).end ≡ solved → IsCaseDone l m
-case_done l m levels few r h e =
+case_armed : (m : System) → IsReady m → RowsSmall m → (run limits m).end ≡ solved → IsArmed m
+case_armed m r h e =
     let s = run_solved m r e in
     let k = run_small m r h in
-    let n : length (made m).bounds + length (made m).steps + length (made m).back < 2 ^ 26 = run_few m r e in
-    let p = pow_small (length l.inputs) few in
     record {
-      ends = e;
       eliminated = record {
         solved = s.solves;
         owes = s.owes;
@@ -71,14 +72,23 @@ case_done l m levels few r h e =
         steps = steps_written (made m).steps k.steps s.returns.steps;
         back = back_written (made m).back k.back s.returns.back;
         bounds = s.bounds;
-        few = omega arith;
       };
     }
 
-cases_done : (l : Layout) → l.scope < 2 ^ 31 → length l.inputs ≤ 6 → (ms : List System) → EachOf IsBegun ms → EachOf RowsSmall ms →
-    EachOf (λ m. (run limits m).end ≡ solved) ms → EachOf (IsCaseDone l) ms
-cases_done l levels few [] b h e = tt
-cases_done l levels few (m ∷ ms) b h e = (case_done l m levels few (record { formed = b.0.0; differ = b.0.1 }) h.0 e.0, cases_done l levels few ms b.1 h.1 e.1)
+cases_armed : (ms : List System) → EachOf IsBegun ms → EachOf RowsSmall ms → EachOf (λ m. (run limits m).end ≡ solved) ms → EachOf IsArmed ms
+cases_armed [] b h e = tt
+cases_armed (m ∷ ms) b h e = (case_armed m (record { formed = b.0.0; differ = b.0.1 }) h.0 e.0, cases_armed ms b.1 h.1 e.1)
+
+case_few : (l : Layout) (m : System) → l.scope < 2 ^ 31 → length l.inputs ≤ 6 → IsReady m → (run limits m).end ≡ solved → HasFewLevels l (made m)
+case_few l m levels few r e =
+    let n : length (made m).bounds + length (made m).steps + length (made m).back < 2 ^ 26 = run_few m r e in
+    let p = pow_small (length l.inputs) few in
+    omega arith
+
+cases_few : (l : Layout) → l.scope < 2 ^ 31 → length l.inputs ≤ 6 → (ms : List System) → EachOf IsBegun ms → EachOf (λ m. (run limits m).end ≡ solved) ms →
+    EachOf (λ m. HasFewLevels l (made m)) ms
+cases_few l levels few [] b e = tt
+cases_few l levels few (m ∷ ms) b e = (case_few l m levels few (record { formed = b.0.0; differ = b.0.1 }) e.0, cases_few l levels few ms b.1 e.1)
 
 -- ---- no refusal
 end_solved : (e : End) (o : Option Refusal) → or_else (refusal_of e) o ≡ None → (e ≡ solved) × (o ≡ None)
@@ -109,16 +119,41 @@ none_refused scope outputs rel e = by (case_refusal (layout_of scope outputs rel
     by None c = later_none (layout_of scope outputs rel) rel c (sym (refused_later scope outputs rel (layout_of scope outputs rel) refl c) ∙ e)
 
 -- ---- the arms
-pub unrefused_solved : (scope outputs : List Base) (rel : RelTree) → IsUnrefused scope outputs rel →
-    ArmsSolve scope outputs rel (arms_of (arms scope outputs rel))
-unfolding arms
-unrefused_solved scope outputs rel u =
-    let l = layout_of scope outputs rel in
-    let n = none_refused scope outputs rel u.within in
-    let few = few_sets l rel n.counts in
-    let placed = placed-rel scope outputs rel u.typed u.linear in
-    let levels : l.scope < 2 ^ 31 = u.levels in
-    let inputs : length l.inputs ≤ 6 = omega arith in
-    all_solved scope outputs rel (are_outputs outputs u.are_outputs) few u.typed u.linear
-    (cases_done l levels inputs (first_systems l rel) (first_systems_begun l rel placed) (firsts_small l rel placed n.written)
-    (ends_solved (first_systems l rel) n.ends))
+module _ (scope outputs : List Base) (rel : RelTree) (u : IsUnrefused scope outputs rel) where
+  abbrev l : Layout
+  l = layout_of scope outputs rel
+
+  none : NoneRefused l rel
+  none = none_refused scope outputs rel u.within
+
+  sets : set_count l ≤ MOST_SETS
+  sets = few_sets l rel none.counts
+
+  begun : EachOf IsBegun (first_systems l rel)
+  begun = first_systems_begun l rel (placed-rel scope outputs rel u.typed u.linear)
+
+  ends : EachOf (λ m. (run limits m).end ≡ solved) (first_systems l rel)
+  ends = ends_solved (first_systems l rel) none.ends
+
+  armed : EachOf IsArmed (first_systems l rel)
+  armed = cases_armed (first_systems l rel) begun (firsts_small l rel (placed-rel scope outputs rel u.typed u.linear) none.written) ends
+
+  pub unrefused_solve : HasArms (arms_of (arms scope outputs rel)) × Solves scope outputs rel (arms_of (arms scope outputs rel))
+  unfolding arms
+  unrefused_solve = armed_solve scope outputs rel (are_outputs outputs u.are_outputs) sets u.typed u.linear armed
+
+  pub unrefused_typed : ArmsHave (arms_of (arms scope outputs rel)) scope outputs
+  unfolding arms
+  unrefused_typed = armed_typed scope outputs rel (are_outputs outputs u.are_outputs) sets u.typed u.linear armed
+
+  pub unrefused_shallow : arms_depth (arms_of (arms scope outputs rel)) ≤ 16
+  unfolding arms
+  unrefused_shallow = armed_shallow scope outputs rel (are_outputs outputs u.are_outputs) sets u.typed u.linear armed
+
+  pub unrefused_spelled : HasLevels scope → 1 ≤ length outputs → AreArmsSpelled (arms_of (arms scope outputs rel))
+  unfolding arms
+  unrefused_spelled levels some =
+      let few = sets in
+      let short : l.scope < 2 ^ 31 = levels in
+      armed_spelled scope outputs rel (are_outputs outputs u.are_outputs) sets u.typed u.linear armed
+      (cases_few l short (omega arith) (first_systems l rel) begun ends) some

@@ -99,8 +99,8 @@ arm_for lay p a few i room f g e =
           steps = steps_written all.steps (subst StepsFit steps f) whole.steps;
           back = back_written all.back (subst BackFits back g) whole.back;
           bounds = whole.bounds;
-          few = omega (arith, pow_small (length lay.inputs.items) (omega arith));
         };
+        few = omega (arith, pow_small (length lay.inputs.items) (omega arith));
       };
       traced = record { steps = steps; bounds = bounds };
       tree = e ∙ arm_same (plain_layout lay) (answer_of p.bounds.items p.steps.items p.back.items) all steps back bounds;

@@ -1,5 +1,5 @@
 -- The let of the fresh numbers, which stands last where there are output sets.
-use Rattle.std.proofs.Common.{◌≡◌, ℕ, ◌+◌, ◌≤◌, List, [], ◌∷◌, ◌++◌, length, Some, false, refl, sym, arith, ◌∙◌, append-nil, length-append}
+use Rattle.std.proofs.Common.{◌≡◌, ℕ, ◌+◌, ◌≤◌, ◌^◌, List, [], ◌∷◌, ◌++◌, length, Some, false, refl, sym, arith, ◌∙◌, append-nil, length-append}
 use Rattle.std.specs.Prelude.{slice_get, None, nat_lt}
 use Rattle.std.proofs.lemmas.Bool.{ltb-false}
 use Rattle.cf_tree.specs.declared.base.Base.{Base}
@@ -15,7 +15,7 @@ use Rattle.cf_linear.proofs.BoolLemmas.{on_bool}
 use Rattle.cf_venn.specs.Forms.{IsCodeOf}
 use Rattle.cf_tree.proofs.SolvingLemmas.{got_path, got_is}
 use Rattle.cf_choose.proofs.ItemLemmas.{Leads, lead_first, leads_forth, leads_back, leads_once, let_found, have_then, plain_then, spelled_then, shallow_then}
-use Rattle.cf_choose.proofs.ArmBuilderLemmas.{IsMade, length_have, value_at-end, slice_get-more, slice_get-last}
+use Rattle.cf_choose.proofs.ArmBuilderLemmas.{IsMade, fewer, length_have, value_at-end, slice_get-more, slice_get-last}
 use Rattle.cf_choose.proofs.NeedLaws.{bound}
 
 -- the items of a making with the let of the fresh numbers, over the bases `start`, where the making has the bases `from`
@@ -23,7 +23,7 @@ pub record IsEnded (start from : List Base) (l : Layout) (k : ArmBuilder) (items
   pub bases : List Base
   pub typed : ItemsHave (items_of items) start (λ s. s ≡ bases)
   pub plain : ItemsHaveNoSolve (items_of items)
-  pub spelled : AreItemsSpelled (items_of items)
+  pub spelled : length bases ≤ 2 ^ 32 → AreItemsSpelled (items_of items)
   pub shallow : items_depth (items_of items) ≤ 8
   pub few : length bases ≤ length from + 1
   pub kept : (x : ℕ) (b : Base) → slice_get from x ≡ Some b → slice_get bases x ≡ Some b
@@ -54,7 +54,7 @@ module _ (start from : List Base) (l : Layout) (k : ArmBuilder) (made : IsMade s
     bases = from ++ (Set ∷ []);
     typed = have_then k.items (let_item code ∷ []) start from (λ s. s ≡ from ++ (Set ∷ [])) made.typed (Set, form.typed None tt, refl);
     plain = plain_then k.items (let_item code ∷ []) made.plain (form.plain, tt);
-    spelled = spelled_then k.items (let_item code ∷ []) made.spelled (form.spelled, tt);
+    spelled = λ few. let s = fewer from (Set ∷ []) few in spelled_then k.items (let_item code ∷ []) (made.spelled s) (form.spelled s, tt);
     shallow = shallow_then k.items (let_item code ∷ []) made.shallow (let s = form.shallow in omega arith);
     few = omega (arith, length-append from (Set ∷ []));
     kept = λ x b e. slice_get-more from (Set ∷ []) x b e;

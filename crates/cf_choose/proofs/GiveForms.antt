@@ -19,11 +19,11 @@ use Rattle.cf_venn.specs.Laws.{AreOutputs}
 use Rattle.cf_venn.proofs.FormLaws.{set_codes_fit}
 use Rattle.cf_venn.proofs.LevelLaws.{base_at, level_has, is_layout, outputs_count}
 
--- codes of one value of each of these bases
+-- codes of one value of each of these bases, spelled where levels are numbers of 32 bits
 pub record AreGiven (bases outputs : List Base) (cs : List CodeTree) : Type 0 where
   pub typed : PartsHave (codes_of cs) bases None outputs
   pub plain : HaveNoSolve (codes_of cs)
-  pub spelled : AreSpelled (codes_of cs)
+  pub spelled : length bases ≤ 2 ^ 32 → AreSpelled (codes_of cs)
   pub shallow : codes_depth (codes_of cs) ≤ 4
 
 given_more : (bases outputs : List Base) (b : Base) (c : CodeTree) (cs : List CodeTree) → IsCodeOf b 4 bases c → AreGiven bases outputs cs →
@@ -31,14 +31,14 @@ given_more : (bases outputs : List Base) (b : Base) (c : CodeTree) (cs : List Co
 given_more bases outputs b c cs h k = record {
   typed = (b, outputs, refl, h.typed None tt, k.typed);
   plain = (h.plain, k.plain);
-  spelled = (h.spelled, k.spelled);
+  spelled = λ few. (h.spelled few, k.spelled few);
   shallow = let s = h.shallow in let t = k.shallow in omega arith;
 }
 
 given_listed : (bases : List Base) (f : ℕ → CodeTree) (n : ℕ) (bs : List Base) → AreOutputs bs →
     ((i : ℕ) → base_at is_number bs i ≡ true → IsCodeOf Int 4 bases (f (n + i))) →
     ((i : ℕ) → base_at is_set bs i ≡ true → IsCodeOf Set 4 bases (f (n + i))) → AreGiven bases bs (map f (range_with_len n (length bs)))
-given_listed bases f n [] o h k = record { typed = refl; plain = tt; spelled = tt; shallow = omega arith }
+given_listed bases f n [] o h k = record { typed = refl; plain = tt; spelled = λ _. tt; shallow = omega arith }
 given_listed bases f n (Int ∷ bs) o h k =
     let z : n + 0 ≡ n = omega arith in
     given_more bases bs Int (f n) (map f (range_with_len (n + 1) (length bs))) (subst (λ i. IsCodeOf Int 4 bases (f i)) z (h 0 refl))
@@ -70,8 +70,7 @@ gives_some l a k h =
     (range_with_len l.scope (length l.out_numbers + length l.out_sets)) (rw (length-range_with_len l.scope (length l.out_numbers + length l.out_sets)) h)
 
 -- ---- the outputs of a choose
-module _ (scope outputs : List Base) (rel : RelTree) (o : AreOutputs outputs) (a : Answer) (k : ArmBuilder) (bases : List Base)
-    (few : length bases ≤ 2 ^ 32) where
+module _ (scope outputs : List Base) (rel : RelTree) (o : AreOutputs outputs) (a : Answer) (k : ArmBuilder) (bases : List Base) where
   abbrev l : Layout
   l = layout_of scope outputs rel
 
@@ -86,7 +85,7 @@ module _ (scope outputs : List Base) (rel : RelTree) (o : AreOutputs outputs) (a
         rw t (record {
           typed = λ asked m. (Int, s, (refl, m));
           plain = tt;
-          spelled = let h =
+          spelled = λ few. let h =
               slice_get_within bases (level_of k.names (number_column l x)) Int s in omega arith;
           shallow = omega arith;
         })
@@ -95,7 +94,7 @@ module _ (scope outputs : List Base) (rel : RelTree) (o : AreOutputs outputs) (a
     give_set i e =
         let x = length scope + i in
         let t : has_level l.out_numbers x ≡ false = ((is_layout scope outputs rel).out_sets x (level_has is_set (length scope) outputs i ∙ e)).2 in
-        rw t (set_codes_fit bases few l k.names (region_level l a) k.level counts regions fresh (place x l.out_sets))
+        rw t (set_codes_fit bases l k.names (region_level l a) k.level counts regions fresh (place x l.out_sets))
 
     pub outputs_given : AreGiven bases outputs (gives l a k)
     outputs_given =

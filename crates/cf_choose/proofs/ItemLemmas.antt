@@ -1,5 +1,5 @@
 -- Lists of lets and needs, one after another.
-use Rattle.std.proofs.Common.{◌≡◌, ◌≢◌, ◌↔◌, ℕ, ◌≤◌, ℤ, pos, ◌*ℤ◌, List, [], ◌∷◌, ◌++◌, Some, refl, sym, ap, arith, ◌∙◌, cond}
+use Rattle.std.proofs.Common.{◌≡◌, ◌≢◌, ◌↔◌, ℕ, ◌≤◌, ◌^◌, ℤ, pos, ◌*ℤ◌, List, [], ◌∷◌, ◌++◌, length, Some, refl, sym, ap, arith, ◌∙◌, cond}
 use Rattle.std.specs.Prelude.{◌≤ℤ◌, Option, None, int_lt, Bool, true, false, not}
 use Rattle.std.specs.Int.{int_div_euclid}
 use Rattle.std.specs.Ordering.{int_eq}
@@ -98,11 +98,11 @@ pub let_found : (c : CodeTree) (e d : List Value) (v : Value) → (path c e).giv
 let_found c e d v h l = some_once (e ++ (v ∷ [])) d (sym (let_leads c e v h) ∙ l)
 
 -- ---- a need
--- a code of one truth value, without a solve, and the value that it is
+-- a code of one truth value, without a solve, and spelled where levels are numbers of 32 bits, and the value that it is
 pub record Tests (scope : List Base) (c : CodeTree) (w : List Value → Bool) : Type 0 where
   pub typed : HasBases c scope (ask IsTruth) (one IsTruth)
   pub plain : HasNoSolve c
-  pub spelled : IsSpelled c
+  pub spelled : length scope ≤ 2 ^ 32 → IsSpelled c
   pub shallow : code_depth c ≤ 5
   pub means : (e : List Value) → HaveBases scope e → (path c e).gives ≡ got (truth (w e) ∷ [])
 
@@ -129,7 +129,7 @@ pub nonneg_tests : (scope : List Base) (c : CodeTree) (w : List Value → ℤ) �
 nonneg_tests scope c w h = record {
   typed = (Int, refl, h.code.typed (Some (one Int)) refl, (refl, refl), (refl, refl));
   plain = (h.code.plain, tt);
-  spelled = (h.code.spelled, omega arith);
+  spelled = λ few. (h.code.spelled few, omega arith);
   shallow = let s = h.code.shallow in omega arith;
   means = λ e have. rw (h.means e have) refl;
 }
@@ -139,7 +139,7 @@ pub zero_tests : (scope : List Base) (c : CodeTree) (w : List Value → ℤ) →
 zero_tests scope c w h = record {
   typed = (Int, tt, h.code.typed None tt, (refl, tt), (refl, refl));
   plain = (h.code.plain, tt);
-  spelled = (h.code.spelled, omega arith);
+  spelled = λ few. (h.code.spelled few, omega arith);
   shallow = let s = h.code.shallow in omega arith;
   means = λ e have. rw (h.means e have) refl;
 }
@@ -149,7 +149,7 @@ pub divides_tests : (scope : List Base) (g : ℤ) (c : CodeTree) (w : List Value
 divides_tests scope g c w d h = record {
   typed = (d.0, h.code.typed (Some (one Int)) refl, (refl, refl));
   plain = h.code.plain;
-  spelled = (d, h.code.spelled);
+  spelled = λ few. (d, h.code.spelled few);
   shallow = let s = h.code.shallow in omega arith;
   means = λ e have. rw (h.means e have) refl;
 }

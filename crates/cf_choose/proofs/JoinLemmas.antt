@@ -1,5 +1,5 @@
 -- The arms of all cases together solve the relation.
-use Rattle.std.proofs.Common.{ℕ, ◌≤◌, List, [], ◌∷◌, ◌++◌, inl, inr, length, map, arith}
+use Rattle.std.proofs.Common.{ℕ, ◌≤◌, List, [], ◌∷◌, ◌++◌, inl, inr, map, arith}
 use Rattle.cf_tree.specs.declared.base.Base.{Base}
 use Rattle.cf_tree.specs.CodeTree.{ArmTree, arm_of, ArmTrees, no_arms, arm_more, arms_of, arms_depth}
 use Rattle.cf_tree.specs.RelTree.{RelTree}
@@ -89,9 +89,9 @@ module _ (scope outputs : List Base) (rel : RelTree) (f : System → ArmTree) wh
   arms_shallow [] r = omega arith
   arms_shallow (m ∷ ms) r = let h = r.0.shallow in let k = arms_shallow ms r.1 in omega arith
 
-  pub arms_spelled : 1 ≤ length outputs → (ms : List System) → EachOf IsArm ms → AreArmsSpelled (arms_of (map f ms))
-  arms_spelled some [] r = tt
-  arms_spelled some (m ∷ ms) r = spelled_more (f m) (arms_of (map f ms)) (r.0.spelled some) (arms_spelled some ms r.1)
+  pub arms_spelled : (ms : List System) → EachOf (λ m. AreArmsSpelled (arm_more (f m) no_arms)) ms → AreArmsSpelled (arms_of (map f ms))
+  arms_spelled [] r = tt
+  arms_spelled (m ∷ ms) r = spelled_more (f m) (arms_of (map f ms)) r.0 (arms_spelled ms r.1)
     where
       spelled_more : (a : ArmTree) (arms : ArmTrees) → AreArmsSpelled (arm_more a no_arms) → AreArmsSpelled arms → AreArmsSpelled (arm_more a arms)
       spelled_more (arm_of bounds is gs) arms h k = (h.0, h.1, h.2, h.3, k)

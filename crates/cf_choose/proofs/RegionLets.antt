@@ -1,6 +1,6 @@
 -- The lets of the regions of the input sets and of their sizes: what they are over bases, and which columns they name.
 use Rattle.std.proofs.Common.{◌≡◌, ℕ, zero, suc, ◌+◌, ◌-◌, ◌*◌, ◌<◌, ◌≤◌, ◌^◌, ◌==◌, ℤ, pos, List, [], ◌∷◌, ◌++◌, ◌⊎◌, inl, inr, length, Some, true, refl}
-use Rattle.std.proofs.Common.{sym, ap, subst, arith, ◌∙◌, append-nil, append_assoc, length-append}
+use Rattle.std.proofs.Common.{sym, ap, subst, arith, ◌∙◌, append-nil, append_assoc}
 use Rattle.std.specs.Prelude.{slice_get}
 use Rattle.std.specs.List.{range_with_len, fold}
 use Rattle.std.proofs.lemmas.Bool.{eqb-true, eqb-false}
@@ -62,13 +62,13 @@ values_got : (g : Got (List Value)) (vs : List Value) → outcome_of g ≡ value
 values_got (got us) vs h = cc
 values_got (none_at n) vs h = cc
 
-size_computes : (bases : List Base) (x : ℕ) → length bases ≤ 2 ^ 32 → slice_get bases x ≡ Some Set →
+size_computes : (bases : List Base) (x : ℕ) → slice_get bases x ≡ Some Set →
     Computes 6 bases (code_card (code_var x)) (λ e. pos (length (elements_of (value_at e x))))
-size_computes bases x few s = record {
+size_computes bases x s = record {
   code = record {
     typed = λ asked m. ((Set, s, (refl, refl)), (refl, m));
     plain = tt;
-    spelled = let h = slice_get_within bases x Set s in omega arith;
+    spelled = λ few. let h = slice_get_within bases x Set s in omega arith;
     shallow = omega arith;
   };
   means = λ e have. let v = set_value_at bases e x have s in rw v.1 refl;
@@ -104,10 +104,10 @@ module _ (scope outputs : List Base) (rel : RelTree) (few_sets : length (layout_
   abbrev l : Layout
   l = layout_of scope outputs rel
 
-  module _ (start bases : List Base) (k : ArmBuilder) (made : IsMade start k bases) (typed : InputsTyped bases l) (few : length bases + 2 ≤ 2 ^ 32) where
+  module _ (start bases : List Base) (k : ArmBuilder) (made : IsMade start k bases) (typed : InputsTyped bases l) where
     region_makes : (m : ℕ) → 1 ≤ m → m < 2 ^ length l.inputs → Makes bases Set (region_code l m) (λ e. elements (region (sets_at e l.inputs) m))
     region_makes m a b =
-        let f = region_codes_fit bases (omega arith) l typed m in
+        let f = region_codes_fit bases l typed m in
         record {
           code = record { typed = f.typed; plain = f.plain; spelled = f.spelled; shallow = let s = f.shallow in omega arith };
           means = λ e have. values_got (path (region_code l m) e).gives (elements (region (sets_at e l.inputs) m) ∷ [])
@@ -125,20 +125,19 @@ module _ (scope outputs : List Base) (rel : RelTree) (few_sets : length (layout_
         let one_more = bases ++ (Set ∷ []) in
         let first = alone_made start bases k Set (region_code l m) (λ e. elements (region (sets_at e l.inputs) m)) (region_makes m a b) made in
         let s : slice_get one_more k.level ≡ Some Set = slice_get-last bases Set k.level made.level in
-        let n : length one_more ≤ 2 ^ 32 = omega (arith, length-append bases (Set ∷ [])) in
         let both = let_made start one_more (let_alone k (region_code l m)) (input_column l m) (code_card (code_var k.level))
-        (λ e. pos (length (elements_of (value_at e k.level)))) (size_computes one_more k.level n s) first in
+        (λ e. pos (length (elements_of (value_at e k.level)))) (size_computes one_more k.level s) first in
         subst (IsMade start (let_region l k m)) (append_assoc bases (Set ∷ []) (Int ∷ [])) both
 
   pub regions_made : (start : List Base) (n a : ℕ) (bases : List Base) (k : ArmBuilder) → IsMade start k bases → InputsTyped bases l → 1 ≤ a →
-      a + n ≤ 2 ^ length l.inputs → length bases + 2 * n ≤ 2 ^ 32 →
+      a + n ≤ 2 ^ length l.inputs →
       IsMade start (fold (let_region l) k (range_with_len a n)) (bases ++ pairs n)
-  regions_made start zero a bases k made typed x y few = subst (IsMade start k) (sym (append-nil bases)) made
-  regions_made start (suc n) a bases k made typed x y few =
-      let next = region_made start bases k made typed (omega arith) a x (omega arith) in
+  regions_made start zero a bases k made typed x y = subst (IsMade start k) (sym (append-nil bases)) made
+  regions_made start (suc n) a bases k made typed x y =
+      let next = region_made start bases k made typed a x (omega arith) in
       subst (IsMade start (fold (let_region l) (let_region l k a) (range_with_len (a + 1) n))) (append_assoc bases (Set ∷ Int ∷ []) (pairs n))
       (regions_made start n (a + 1) (bases ++ (Set ∷ Int ∷ [])) (let_region l k a) next (typed_more bases (Set ∷ Int ∷ []) l typed) (omega arith)
-      (omega arith) (omega (arith, length-append bases (Set ∷ Int ∷ []))))
+      (omega arith))
 
   -- ---- which columns have names
   pub named_before : (n a : ℕ) (k : ArmBuilder) (c : ℕ) → In c (named k.names) → In c (named (fold (let_region l) k (range_with_len a n)).names)

@@ -55,11 +55,11 @@ number_named bases ((d, x) ∷ names) c n i =
           number_named bases names c n.1 j
     ])
 
--- a code of one number, without a solve, of a depth of at most d
+-- a code of one number, without a solve, of a depth of at most d, and spelled where levels are numbers of 32 bits
 pub record IsNumberCode (d : ℕ) (scope : List Base) (c : CodeTree) : Type 0 where
   pub typed : (asked : Option (List Base)) → Meets asked (one Int) → HasBases c scope asked (one Int)
   pub plain : HasNoSolve c
-  pub spelled : IsSpelled c
+  pub spelled : length scope ≤ 2 ^ 32 → IsSpelled c
   pub shallow : code_depth c ≤ d
 
 -- and the number that it is
@@ -86,20 +86,20 @@ pub best_fold : (better : ℤ → ℤ → ℤ) (z : ℤ) (xs : List ℤ) → bes
 best_fold better z [] = refl
 best_fold better z (x ∷ xs) = best_fold better (better z x) xs
 
-module _ (scope : List Base) (few : length scope ≤ 2 ^ 32) where
+module _ (scope : List Base) where
   var_computes : (x : ℕ) → slice_get scope x ≡ Some Int → Computes 1 scope (code_var x) (λ e. number_of (value_at e x))
   var_computes x s = record {
     code = record {
       typed = λ asked m. (Int, s, (refl, m));
       plain = tt;
-      spelled = let h = slice_get_within scope x Int s in omega arith;
+      spelled = λ few. let h = slice_get_within scope x Int s in omega arith;
       shallow = omega arith;
     };
     means = λ e h. rw (number_at scope e x h s) refl;
   }
 
   lit_computes : (k : ℤ) → IsWithin k → Computes 1 scope (code_lit k) (λ e. k)
-  lit_computes k w = record { code = record { typed = λ asked m. (refl, m); plain = tt; spelled = w; shallow = omega arith }; means = λ e h. refl }
+  lit_computes k w = record { code = record { typed = λ asked m. (refl, m); plain = tt; spelled = λ _. w; shallow = omega arith }; means = λ e h. refl }
 
   mul_computes : (k : ℤ) (x : ℕ) → IsWithin k → slice_get scope x ≡ Some Int →
       Computes 2 scope (code_mul (code_lit k) (code_var x)) (λ e. k *ℤ number_of (value_at e x))
@@ -107,7 +107,7 @@ module _ (scope : List Base) (few : length scope ≤ 2 ^ 32) where
     code = record {
       typed = λ asked m. ((refl, refl), (Int, s, (refl, refl)), (refl, m));
       plain = (tt, tt);
-      spelled = (w, let h = slice_get_within scope x Int s in omega arith);
+      spelled = λ few. (w, let h = slice_get_within scope x Int s in omega arith);
       shallow = omega arith;
     };
     means = λ e h. rw (number_at scope e x h s) refl;
@@ -126,17 +126,17 @@ module _ (scope : List Base) (few : length scope ≤ 2 ^ 32) where
   pub record AreNumberCodes (d : ℕ) (cs : List CodeTree) : Type 0 where
     pub typed : AllHave (codes_of cs) scope Int
     pub plain : HaveNoSolve (codes_of cs)
-    pub spelled : AreSpelled (codes_of cs)
+    pub spelled : length scope ≤ 2 ^ 32 → AreSpelled (codes_of cs)
     pub shallow : codes_depth (codes_of cs) ≤ d
 
   no_numbers : (d : ℕ) → AreNumberCodes d []
-  no_numbers d = record { typed = tt; plain = tt; spelled = tt; shallow = omega arith }
+  no_numbers d = record { typed = tt; plain = tt; spelled = λ _. tt; shallow = omega arith }
 
   more_numbers : (d : ℕ) (c : CodeTree) (cs : List CodeTree) → IsNumberCode d scope c → AreNumberCodes d cs → AreNumberCodes d (c ∷ cs)
   more_numbers d c cs h k = record {
     typed = (h.typed (Some (one Int)) refl, k.typed);
     plain = (h.plain, k.plain);
-    spelled = (h.spelled, k.spelled);
+    spelled = λ few. (h.spelled few, k.spelled few);
     shallow = let l = h.shallow in let m = k.shallow in omega arith;
   }
 
@@ -184,7 +184,7 @@ module _ (scope : List Base) (few : length scope ≤ 2 ^ 32) where
           code = record {
             typed = λ asked m. (omega arith, cs.typed, (refl, m));
             plain = cs.plain;
-            spelled = (omega arith, cs.spelled);
+            spelled = λ few. (omega arith, cs.spelled few);
             shallow = let s = cs.shallow in omega arith;
           };
           means = λ e h. sum_means ((c, k) ∷ p ∷ r) e (pos 0) o w h ∙ ap (λ x. got (number x ∷ [])) (omega (arith, ints));
@@ -198,7 +198,7 @@ module _ (scope : List Base) (few : length scope ≤ 2 ^ 32) where
           code = record {
             typed = λ asked m. (d.0, c.code.typed (Some (one Int)) refl, (refl, m));
             plain = c.code.plain;
-            spelled = (d, c.code.spelled);
+            spelled = λ few. (d, c.code.spelled few);
             shallow = let s = c.code.shallow in omega arith;
           };
           means = λ e h. rw (c.means e h) (ap (λ x. got (number x ∷ [])) (quotient-is (value (seen names e) r) g d.0));
@@ -271,7 +271,7 @@ module _ (scope : List Base) (few : length scope ≤ 2 ^ 32) where
             code = record {
               typed = λ asked m. (omega arith, cs.typed, (refl, m));
               plain = cs.plain;
-              spelled = (omega arith, cs.spelled);
+              spelled = λ few. (omega arith, cs.spelled few);
               shallow = let s = cs.shallow in omega arith;
             };
             means = λ e have. best_means int_max e have (b ∷ c ∷ bs) None o s ∙ ap (λ x. got (number x ∷ [])) (best_fold int_max (w e b) (map (w e) (c ∷ bs)));
@@ -285,7 +285,7 @@ module _ (scope : List Base) (few : length scope ≤ 2 ^ 32) where
             code = record {
               typed = λ asked m. (omega arith, cs.typed, (refl, m));
               plain = cs.plain;
-              spelled = (omega arith, cs.spelled);
+              spelled = λ few. (omega arith, cs.spelled few);
               shallow = let s = cs.shallow in omega arith;
             };
             means = λ e have. best_means int_min e have (b ∷ c ∷ bs) None o s ∙ ap (λ x. got (number x ∷ [])) (best_fold int_min (w e b) (map (w e) (c ∷ bs)));

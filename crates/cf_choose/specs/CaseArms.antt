@@ -5,7 +5,6 @@ use Rattle.cf_tree.specs.declared.base.Base.TheVariants.{Int}
 use Rattle.cf_tree.specs.CodeTree.{ArmTree, no_arms, arm_more, arms_depth}
 use Rattle.cf_tree.specs.Relation.{IsDivisor}
 use Rattle.cf_tree.specs.Solving.{NeedsHold, ArmGives}
-use Rattle.cf_tree.specs.Spelled.{AreArmsSpelled}
 use Rattle.cf_tree.specs.Typing.{AreBounds, ArmsHave}
 use Rattle.cf_tree.specs.Values.{Value, number_of, value_at, HaveBases}
 use Rattle.cf_linear.specs.Arm.{ColumnLevels, level_of}
@@ -57,16 +56,19 @@ abbrev pub StepsWritten : List Step → Type 0
 StepsWritten [] = Unit {0}
 StepsWritten (m ∷ ms) = StepWritten m × StepsWritten ms
 
--- rows and divisors are within the limit of numbers, searches within that of tuples, and the levels of the arm are spelled
-pub record IsWritable (l : Layout) (a : Answer) : Type 0 where
+-- rows and divisors are within the limit of numbers, and searches within that of tuples
+pub record IsWritable (a : Answer) : Type 0 where
   pub steps : StepsWritten a.steps
   pub back : BackWritten a.back
   pub bounds : AreBounds (map (λ (c, p). p) a.bounds)
-  pub few : l.scope + length a.bounds + 2 * 2 ^ length l.inputs + length a.steps + length a.back < 2 ^ 32
+
+-- the levels of the arm are numbers of 32 bits
+abbrev pub HasFewLevels : Layout → Answer → Type 0
+HasFewLevels l a = l.scope + length a.bounds + 2 * 2 ^ length l.inputs + length a.steps + length a.back < 2 ^ 32
 
 -- ---- the arm
 -- the needs of the arm hold at some tuple where the system has a solution at the parameters, and at each tuple at which they hold the arm
--- gives the outputs of a solution; the arm is well typed, not deep, and spelled
+-- gives the outputs of a solution; the arm is well typed and not deep
 pub record IsArmOf (scope outputs : List Base) (l : Layout) (m : System) (arm : ArmTree) : Type 0 where
   pub meets : (env : List Value) → HaveBases scope env → (w : Values) → SameKnown m (known_values l env) w → Sat m w → (ks : List ℕ) × (e : List Value) ×
       NeedsHold arm env ks e
@@ -74,4 +76,3 @@ pub record IsArmOf (scope outputs : List Base) (l : Layout) (m : System) (arm : 
       (w : Values) × SameKnown m (known_values l env) w × Sat m w × ArmGives arm e (outputs_from l env w)
   pub typed : ArmsHave (arm_more arm no_arms) scope outputs
   pub shallow : arms_depth (arm_more arm no_arms) ≤ 16
-  pub spelled : 1 ≤ length outputs → AreArmsSpelled (arm_more arm no_arms)

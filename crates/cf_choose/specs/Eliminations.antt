@@ -24,7 +24,7 @@ use Rattle.cf_linear.specs.Views.{system_of, step_of, bound_of}
 use Rattle.cf_choose.specs.declared.levels.TheConstants.{LEVEL_LIMIT}
 use Rattle.cf_choose.specs.declared.fault.ChooseFault.{ChooseFault}
 use Rattle.cf_choose.specs.declared.fault.ChooseFault.TheVariants.{Refused, NoMemory}
-use Rattle.cf_choose.specs.CaseArms.{IsWritable}
+use Rattle.cf_choose.specs.CaseArms.{IsWritable, HasFewLevels}
 use Rattle.cf_choose.specs.ArmBuilders.{HasOutputs}
 use Rattle.cf_cases.specs.Holding.{EachOf}
 use Rattle.cf_equation.specs.Equations.{Differ}
@@ -54,7 +54,8 @@ made m = made_of m (run limits m)
 pub record IsCaseDone (l : Layout) (m : System) : Type 0 where
   pub ends : (run limits m).end ≡ solved
   pub eliminated : IsEliminated m (made m)
-  pub writable : IsWritable l (made m)
+  pub writable : IsWritable (made m)
+  pub few : HasFewLevels l (made m)
 
 -- a layout and a case whose levels are few
 pub record HasRoom (l : DeclaredLayout) (c : CaseParts) : Type 0 where

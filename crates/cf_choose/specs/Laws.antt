@@ -10,16 +10,11 @@ use Rattle.cf_tree.specs.Typing.{ArmsHave}
 use Rattle.cf_linear.specs.Chooses.{arms, limit}
 use Rattle.cf_choose.specs.Solved.{IsOutput, HasArms}
 
--- so few variables are in scope that each level of an arm is a number of 32 bits
-abbrev pub HasLevels : List Base → Type 0
-HasLevels scope = length scope < 2 ^ 31
-
--- a typed and linear relation over such a scope, which passes no limit
+-- a typed and linear relation that passes no limit
 pub record IsUnrefused (scope outputs : List Base) (rel : RelTree) : Type 0 where
   pub typed : IsTyped (scope ++ outputs) rel
   pub linear : IsLinear rel
   pub are_outputs : All IsOutput outputs
-  pub levels : HasLevels scope
   pub within : limit scope outputs rel ≡ None
 
 -- the arms of the definition are so for each such relation
@@ -34,6 +29,10 @@ ArmsSolveAll = OfArms (λ scope outputs rel as_. HasArms as_ × Solves scope out
 abbrev pub ArmsAreTyped : Type 0
 ArmsAreTyped = OfArms (λ scope outputs rel as_. ArmsHave as_ scope outputs)
 
--- the arms are not deep, and have a spelling where they give something
+-- so few variables are in scope that each level of an arm is a number of 32 bits
+abbrev pub HasLevels : List Base → Type 0
+HasLevels scope = length scope < 2 ^ 31
+
+-- the arms are not deep, and over such a scope they have a spelling where they give something
 abbrev pub ArmsHaveSpelling : Type 0
-ArmsHaveSpelling = OfArms (λ scope outputs rel as_. (arms_depth as_ ≤ 16) × (1 ≤ length outputs → AreArmsSpelled as_))
+ArmsHaveSpelling = OfArms (λ scope outputs rel as_. (arms_depth as_ ≤ 16) × (HasLevels scope → 1 ≤ length outputs → AreArmsSpelled as_))

@@ -25,12 +25,12 @@ use Rattle.cf_venn.proofs.CodeLaws.{each_passing, each_earlier, each_level, sets
 use Rattle.cf_venn.proofs.LevelLaws.{has_unfiltered}
 use Rattle.cf_venn.proofs.PartLemmas.{below_product, high_below}
 
-module _ (scope : List Base) (few : length scope ≤ 2 ^ 32) where
+module _ (scope : List Base) where
   var_fits : (b : Base) (x : ℕ) → slice_get scope x ≡ Some b → IsCodeOf b 1 scope (code_var x)
   var_fits b x s = record {
     typed = λ asked m. (b, s, (refl, m));
     plain = tt;
-    spelled = let h = slice_get_within scope x b s in omega arith;
+    spelled = λ few. let h = slice_get_within scope x b s in omega arith;
     shallow = omega arith;
   }
 
@@ -41,18 +41,18 @@ module _ (scope : List Base) (few : length scope ≤ 2 ^ 32) where
   record AreCodesOf (b : Base) (d : ℕ) (cs : List CodeTree) : Type 0 where
     typed : AllHave (codes_of cs) scope b
     plain : HaveNoSolve (codes_of cs)
-    spelled : AreSpelled (codes_of cs)
+    spelled : length scope ≤ 2 ^ 32 → AreSpelled (codes_of cs)
     shallow : codes_depth (codes_of cs) ≤ d
 
   all_fit : (b : Base) (d : ℕ) (cs : List CodeTree) → EachOf (IsCodeOf b d scope) cs → AreCodesOf b d cs
-  all_fit b d [] h = record { typed = tt; plain = tt; spelled = tt; shallow = omega arith }
+  all_fit b d [] h = record { typed = tt; plain = tt; spelled = λ _. tt; shallow = omega arith }
   all_fit b d (c ∷ cs) h =
       let k = all_fit b d cs h.1 in
       let f = h.0 in
       record {
         typed = (f.typed (Some (one b)) refl, k.typed);
         plain = (f.plain, k.plain);
-        spelled = (f.spelled, k.spelled);
+        spelled = λ few. (f.spelled few, k.spelled few);
         shallow = let l = f.shallow in let m = k.shallow in omega arith;
       }
 
@@ -60,35 +60,35 @@ module _ (scope : List Base) (few : length scope ≤ 2 ^ 32) where
   two_count c d cs = omega arith
 
   union_fits : (d : ℕ) (cs : List CodeTree) → EachOf (IsCodeOf Set d scope) cs → IsCodeOf Set (1 + d) scope (union_of_all cs)
-  union_fits d [] h = record { typed = λ asked m. (tt, (refl, m)); plain = tt; spelled = tt; shallow = omega arith }
+  union_fits d [] h = record { typed = λ asked m. (tt, (refl, m)); plain = tt; spelled = λ _. tt; shallow = omega arith }
   union_fits d (c ∷ []) h = deeper Set d (1 + d) c (omega arith) h.0
   union_fits d (c ∷ e ∷ cs) h =
       let k = all_fit Set d (c ∷ e ∷ cs) h in
       let t = two_count c e cs in
-      record { typed = λ asked m. (t, k.typed, (refl, m)); plain = k.plain; spelled = (t, k.spelled); shallow = let l = k.shallow in omega arith }
+      record { typed = λ asked m. (t, k.typed, (refl, m)); plain = k.plain; spelled = λ few. (t, k.spelled few); shallow = let l = k.shallow in omega arith }
 
   inter_fits : (d : ℕ) (cs : List CodeTree) → EachOf (IsCodeOf Set d scope) cs → IsCodeOf Set (1 + d) scope (inter_of_all cs)
-  inter_fits d [] h = record { typed = λ asked m. (tt, (refl, m)); plain = tt; spelled = tt; shallow = omega arith }
+  inter_fits d [] h = record { typed = λ asked m. (tt, (refl, m)); plain = tt; spelled = λ _. tt; shallow = omega arith }
   inter_fits d (c ∷ []) h = deeper Set d (1 + d) c (omega arith) h.0
   inter_fits d (c ∷ e ∷ cs) h =
       let k = all_fit Set d (c ∷ e ∷ cs) h in
       let t = two_count c e cs in
-      record { typed = λ asked m. (t, k.typed, (refl, m)); plain = k.plain; spelled = (t, k.spelled); shallow = let l = k.shallow in omega arith }
+      record { typed = λ asked m. (t, k.typed, (refl, m)); plain = k.plain; spelled = λ few. (t, k.spelled few); shallow = let l = k.shallow in omega arith }
 
   sum_fits : (d : ℕ) (cs : List CodeTree) → EachOf (IsCodeOf Int d scope) cs → IsCodeOf Int (1 + d) scope (sum_of cs)
-  sum_fits d [] h = record { typed = λ asked m. (refl, m); plain = tt; spelled = omega arith; shallow = omega arith }
+  sum_fits d [] h = record { typed = λ asked m. (refl, m); plain = tt; spelled = λ _. omega arith; shallow = omega arith }
   sum_fits d (c ∷ []) h = deeper Int d (1 + d) c (omega arith) h.0
   sum_fits d (c ∷ e ∷ cs) h =
       let k = all_fit Int d (c ∷ e ∷ cs) h in
       let t = two_count c e cs in
-      record { typed = λ asked m. (t, k.typed, (refl, m)); plain = k.plain; spelled = (t, k.spelled); shallow = let l = k.shallow in omega arith }
+      record { typed = λ asked m. (t, k.typed, (refl, m)); plain = k.plain; spelled = λ few. (t, k.spelled few); shallow = let l = k.shallow in omega arith }
 
   -- ---- differences, slices and fresh numbers
   diff_fits : (d : ℕ) (a b : CodeTree) → 1 ≤ d → IsCodeOf Set d scope a → IsCodeOf Set 1 scope b → IsCodeOf Set (d + 1) scope (code_diff a b)
   diff_fits d a b l h k = record {
     typed = λ asked m. (h.typed (Some (one Set)) refl, k.typed (Some (one Set)) refl, (refl, m));
     plain = (h.plain, k.plain);
-    spelled = (h.spelled, k.spelled);
+    spelled = λ few. (h.spelled few, k.spelled few);
     shallow = let i = h.shallow in let j = k.shallow in omega arith;
   }
 
@@ -104,7 +104,7 @@ module _ (scope : List Base) (few : length scope ≤ 2 ^ 32) where
   slice_fits a b c h k i = record {
     typed = λ asked m. (h.typed (Some (one Set)) refl, k.typed (Some (one Int)) refl, i.typed (Some (one Int)) refl, (refl, m));
     plain = (h.plain, k.plain, i.plain);
-    spelled = (h.spelled, k.spelled, i.spelled);
+    spelled = λ few. (h.spelled few, k.spelled few, i.spelled few);
     shallow = let p = h.shallow in let q = k.shallow in let r = i.shallow in omega arith;
   }
 
@@ -112,7 +112,7 @@ module _ (scope : List Base) (few : length scope ≤ 2 ^ 32) where
   fresh_fits a b h k = record {
     typed = λ asked m. (h.typed (Some (one Set)) refl, k.typed (Some (one Int)) refl, (refl, m));
     plain = (h.plain, k.plain);
-    spelled = (h.spelled, k.spelled);
+    spelled = λ few. (h.spelled few, k.spelled few);
     shallow = let p = h.shallow in let q = k.shallow in omega arith;
   }
 
@@ -180,10 +180,10 @@ module _ (scope : List Base) (few : length scope ≤ 2 ^ 32) where
             (each_passing (λ k. IsCodeOf Set 3 scope (f k)) t 1 (2 ^ set_count l - 1) (λ k a b. piece_fits k a (omega arith))))
 
 pub region_codes_fit : RegionCodesFit
-region_codes_fit scope few l inputs m = region_fits scope few l inputs m
+region_codes_fit scope l inputs m = region_fits scope l inputs m
 
 pub fresh_code_fits : FreshCodeFits
-fresh_code_fits scope few l names inputs counts = fresh_code_form scope few l names counts inputs
+fresh_code_fits scope l names inputs counts = fresh_code_form scope l names counts inputs
 
 pub set_codes_fit : SetCodesFit
-set_codes_fit scope few l names regions fresh_level counts sets fresh_set j = set_fits scope few l names counts regions fresh_level sets fresh_set j
+set_codes_fit scope l names regions fresh_level counts sets fresh_set j = set_fits scope l names counts regions fresh_level sets fresh_set j

@@ -1,11 +1,11 @@
-use Rattle.cf_choose.proofs.DefinedArms.{unrefused_solved}
+use Rattle.cf_choose.proofs.DefinedArms.{unrefused_solve, unrefused_typed, unrefused_shallow, unrefused_spelled}
 use Rattle.cf_choose.proofs.laws.arms_solve.Goals as goal
 
 pub returns-clause-solve : goal.returns-clause-solve
-returns-clause-solve c = λ scope outputs rel u. let s = unrefused_solved scope outputs rel u in (s.some, s.solves)
+returns-clause-solve c = λ scope outputs rel u. unrefused_solve scope outputs rel u
 
 pub returns-clause-typed : goal.returns-clause-typed
-returns-clause-typed c = λ scope outputs rel u. (unrefused_solved scope outputs rel u).typed
+returns-clause-typed c = λ scope outputs rel u. unrefused_typed scope outputs rel u
 
 pub returns-clause-spelled : goal.returns-clause-spelled
-returns-clause-spelled c = λ scope outputs rel u. let s = unrefused_solved scope outputs rel u in (s.shallow, s.spelled)
+returns-clause-spelled c = λ scope outputs rel u. (unrefused_shallow scope outputs rel u, λ few some. unrefused_spelled scope outputs rel u few some)
