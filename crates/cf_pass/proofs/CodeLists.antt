@@ -1,5 +1,5 @@
 -- Lists of codes with better parts, and the forms over them.
-use Rattle.std.proofs.Common.{◌≡◌, ◌≤◌, ◌<◌, ℕ, ◌+◌, ℤ, pos, ◌+ℤ◌, Option, None, List, [], ◌++◌, length, refl, arith}
+use Rattle.std.proofs.Common.{◌≡◌, ◌≤◌, ◌<◌, ℕ, ℤ, pos, ◌+ℤ◌, Option, None, List, [], ◌++◌, length, refl, arith}
 use Rattle.std.specs.Int.{int_max, int_min}
 use Rattle.cf_tree.specs.declared.base.Base.{Base}
 use Rattle.cf_tree.specs.declared.base.Base.TheVariants.{Int, Set}

@@ -1,8 +1,8 @@
 -- A solve without its dead arms may take the place of the solve.
-use Rattle.std.proofs.Common.{◌||◌, ◌≡◌, ℕ, zero, suc, ◌+◌, Bool, true, false, cond, Option, Some, None, List, [], ◌∷◌, ◌++◌, refl, sym, subst, arith}
+use Rattle.std.proofs.Common.{◌||◌, ◌≡◌, ℕ, zero, suc, Bool, true, false, cond, Option, Some, None, List, [], ◌∷◌, ◌++◌, refl, sym, subst, arith}
 use Rattle.cf_tree.specs.CodeTree.{CodeTree, code_truth, code_solve, CodeTrees, ItemTree, let_item, need_item, ItemTrees, no_items, item_more, ArmTree, arm_of, ArmTrees, no_arms, arm_more}
-use Rattle.cf_tree.specs.Meaning.{Got, got, Path, then_gives, then_path, if_some, or_later, path, items_path, item_path, arm_path, first_from, meets_all, tuple_at, count_below}
-use Rattle.cf_tree.specs.Typing.{ItemHasNoSolve, ItemsHaveNoSolve, one}
+use Rattle.cf_tree.specs.Meaning.{Got, got, Path, then_gives, then_path, if_some, or_later, items_path, item_path, arm_path, first_from, meets_all, tuple_at, count_below}
+use Rattle.cf_tree.specs.Typing.{ItemHasNoSolve, ItemsHaveNoSolve}
 use Rattle.cf_tree.specs.Values.{Value}
 use Rattle.cf_pass.specs.Improves.{IsNoWorse, Improves}
 use Rattle.cf_pass.specs.DropArms.{never_holds, some_never, is_dead, live_arms, or_this, arms_left, without_arms}

@@ -1,5 +1,5 @@
 -- Arms in a vector, without the dead ones.
-use Rattle.std.proofs.Common.{◌≡◌, ◌≤◌, ℕ, suc, ◌-◌, Bool, true, false, not, ◌&&◌, cond, List, [], ◌∷◌, length, filter, take, refl, ap, sym, ◌∙◌, arith}
+use Rattle.std.proofs.Common.{◌≡◌, ◌≤◌, ℕ, suc, Bool, true, false, not, ◌&&◌, cond, List, [], ◌∷◌, length, filter, take, refl, ap, sym, ◌∙◌, arith}
 use Rattle.cf_tree.specs.declared.code.Arm.{Arm}
 use Rattle.cf_tree.specs.CodeTree.{ArmTree, ArmTrees, no_arms, arm_more}
 use Rattle.cf_tree.specs.CodeView.{arm_tree, arm_trees}

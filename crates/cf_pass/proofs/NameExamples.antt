@@ -1,5 +1,5 @@
 -- Worked examples that hold down the names of passes and which variables a code lacks.
-use Rattle.std.proofs.Common.{◌≡◌, ◌≤◌, pos, false, [], ◌∷◌, refl, arith}
+use Rattle.std.proofs.Common.{◌≡◌, pos, false, [], ◌∷◌, refl, arith}
 use Rattle.std.specs.Prelude.{codes}
 use Rattle.std.specs.List.{list_all}
 use Rattle.cf_tree.specs.CodeTree.{code_lit, code_var, code_sum, code_let, code_solve, codes_of, items_of, arms_of, let_item, need_item, arm_of}

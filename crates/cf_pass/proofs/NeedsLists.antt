@@ -1,5 +1,5 @@
 -- Items in a vector, without those that always hold.
-use Rattle.std.proofs.Common.{◌≡◌, ℕ, suc, ◌+◌, ◌-◌, Bool, true, false, not, cond, List, [], ◌∷◌, length, filter, refl, ap, arith}
+use Rattle.std.proofs.Common.{◌≡◌, ℕ, suc, ◌+◌, Bool, true, false, not, cond, List, [], ◌∷◌, length, filter, refl, ap, arith}
 use Rattle.cf_tree.specs.declared.code.Item.{Item}
 use Rattle.cf_tree.specs.CodeTree.{ItemTrees, item_more}
 use Rattle.cf_tree.specs.CodeView.{item_tree, item_trees}

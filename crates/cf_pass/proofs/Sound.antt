@@ -7,7 +7,7 @@ use Rattle.cf_tree.specs.declared.base.Base.TheVariants.{Int, Bool as Truth, Set
 use Rattle.cf_tree.specs.CodeTree.{CodeTree, code_lit, code_truth, code_var, code_set_of, code_tuple, code_sum, code_sub, code_mul, code_neg, code_div, code_mod, code_min, code_max, code_compare, code_divides, code_and, code_or, code_not, code_union, code_inter, code_diff, code_subset, code_card, code_slice, code_fresh, code_if, code_let, code_solve, CodeTrees, no_codes, code_more, let_item, need_item, ItemTrees, no_items, item_more, arm_of, ArmTrees, no_arms, arm_more}
 use Rattle.cf_tree.specs.Meaning.{Got, got, none_at, Path, gives_only, then_gives, then_path, meets_value, truth_in, number_in, set_in, choose_with, joined_with, joined, if_some, or_later, or_none, path, all_path, set_path, sum_path, best_path, join_path, items_path, item_path, arms_path, first_from, meets_all, tuple_at, count_below}
 use Rattle.cf_tree.specs.Numbers.{count_of}
-use Rattle.cf_tree.specs.Sets.{IsRising, set_put, set_union, set_inter, set_diff, set_fresh, set_slice, has}
+use Rattle.cf_tree.specs.Sets.{IsRising, set_put, set_union, set_inter, set_diff, set_fresh, set_slice}
 use Rattle.cf_tree.specs.Typing.{HasBases, AllHave, PartsHave, ItemsHave, ArmsHave, one, share, ask}
 use Rattle.cf_tree.specs.Values.{Value, number, truth, elements, elements_of, value_at, first_of, HasBase, HaveBases}
 use Rattle.cf_pass.specs.Parts.{count_lets}

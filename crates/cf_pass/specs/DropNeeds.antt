@@ -1,5 +1,5 @@
 -- What is left of a solve without its needs `true`.
-use Rattle.std.specs.Prelude.{ℕ, suc, ◌+◌, Bool, true, false, cond}
+use Rattle.std.specs.Prelude.{ℕ, suc, ◌+◌, Bool, false, cond}
 use Rattle.cf_tree.specs.CodeTree.{CodeTree, code_truth, code_solve, ItemTree, need_item, ItemTrees, no_items, item_more, ArmTree, arm_of, ArmTrees, no_arms, arm_more}
 
 -- the item is `need true`

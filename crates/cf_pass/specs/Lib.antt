@@ -1,7 +1,13 @@
 pub mod DropArms
 pub mod DropNeeds
+pub mod Folding
 pub mod Improves
 pub mod Lacks
 pub mod Laws
+pub mod LetSteps
+pub mod Lets
+pub mod Literals
 pub mod Parts
 pub mod Passes
+pub mod Rewritten
+pub mod Walked

@@ -8,7 +8,7 @@ use cf_tree::code::{Arm, Code, Item};
 
 /// Removes each arm of a solve that holds an item `need false`, and answers how many it removed. Where every arm
 /// holds one, the first arm stays. Another form stays, and so do the parts of a form.
-pub fn drop_arms(code: &mut Code) -> u64
+pub(crate) fn drop_arms(code: &mut Code) -> u64
     ensures code { code_tree code.new ≡ without_arms (code_tree code.old) }
     ensures improves { (outside : ℕ) → Improves outside (code_tree code.old) (code_tree code.new) }
     ensures removed { result ≡ dead_at (code_tree code.old) }

@@ -9,7 +9,7 @@ use cf_tree::code::{Arm, Code, Item};
 
 /// Removes each item `need true` of a solve, and answers how many it removed, at most `2^64 - 1`.
 /// Another form stays, and so do the parts of a form.
-pub fn drop_needs(code: &mut Code) -> u64
+pub(crate) fn drop_needs(code: &mut Code) -> u64
     ensures code { code_tree code.new ≡ without_needs (code_tree code.old) }
     ensures improves { (outside : ℕ) → Improves outside (code_tree code.old) (code_tree code.new) }
     ensures removed { result ≡ capped (needs_at (code_tree code.old)) }

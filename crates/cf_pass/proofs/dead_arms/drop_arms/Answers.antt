@@ -1,5 +1,3 @@
-use Rattle.std.proofs.Common.{ℕ, ◌≡◌, sym, subst}
-use Rattle.cf_pass.specs.Improves.{Improves}
 use Rattle.cf_pass.proofs.DeadLaws.{arms_improve}
 use Rattle.cf_pass.proofs.dead_arms.drop_arms.Goals as goal
 

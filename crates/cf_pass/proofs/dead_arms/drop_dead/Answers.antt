@@ -1,6 +1,6 @@
-use Rattle.std.proofs.Common.{rules, arith, ◌≡◌, ◌≤◌, ◌-◌, ◌∙◌, length, ap, sym}
+use Rattle.std.proofs.Common.{rules, arith, ◌≡◌, length, ap}
 use Rattle.cf_tree.specs.CodeView.{arm_trees}
-use Rattle.cf_pass.specs.DropArms.{arms_left, arm_count}
+use Rattle.cf_pass.specs.DropArms.{arm_count}
 use Rattle.cf_pass.proofs.DeadLists.{as_many_arms, left_fewer}
 use Rattle.cf_pass.proofs.dead_arms.drop_dead.Goals as goal
 

@@ -1,4 +1,4 @@
-use Rattle.std.proofs.Common.{rules, ◌≡◌, ◌∙◌, ap}
+use Rattle.std.proofs.Common.{rules, ◌∙◌, ap}
 use Rattle.std.proofs.lemmas.Fn.{filter_same}
 use Rattle.cf_tree.specs.CodeView.{arm_trees}
 use Rattle.cf_pass.proofs.DeadLists.{lives, live_left, first_left}

@@ -1,4 +1,4 @@
-use Rattle.std.proofs.Common.{rules, arith, ◌≡◌, ◌<◌, ◌+◌, ◌≤◌, ◌∙◌, ◌++◌, length, take, drop, min, suc, ap, subst}
+use Rattle.std.proofs.Common.{rules, arith, ◌≡◌, ◌<◌, ◌+◌, ◌∙◌, length, suc, ap, subst}
 use Rattle.cf_tree.specs.CodeView.{arm_trees}
 use Rattle.cf_tree.specs.RelSize.{capped}
 use Rattle.cf_pass.proofs.NeedsArms.{arms_to, needs_to, arms_on, needs_on, arms_all, needs_all}

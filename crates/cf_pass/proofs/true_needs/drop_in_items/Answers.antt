@@ -1,7 +1,6 @@
-use Rattle.std.proofs.Common.{rules, arith, ◌≡◌, ◌+◌, ◌∙◌, length, ap, filter}
+use Rattle.std.proofs.Common.{rules, ◌≡◌, ◌∙◌, length, ap, filter}
 use Rattle.std.proofs.lemmas.Fn.{filter_same}
 use Rattle.cf_tree.specs.CodeView.{item_trees}
-use Rattle.cf_pass.specs.DropNeeds.{needs_in}
 use Rattle.cf_pass.proofs.NeedsLists.{stays, others, counted}
 use Rattle.cf_pass.proofs.true_needs.drop_in_items.Goals as goal
 

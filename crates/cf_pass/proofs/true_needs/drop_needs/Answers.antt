@@ -1,5 +1,3 @@
-use Rattle.std.proofs.Common.{ℕ, ◌≡◌, sym, subst}
-use Rattle.cf_pass.specs.Improves.{Improves}
 use Rattle.cf_pass.proofs.NeedsLaws.{needs_improve}
 use Rattle.cf_pass.proofs.true_needs.drop_needs.Goals as goal
 

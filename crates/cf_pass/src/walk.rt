@@ -1,0 +1,348 @@
+//! A rule at each form of a code, parts first.
+ghost use Rattle.std.specs.Prelude.{◌≡◌, ◌≤◌, ◌+◌, ℕ, IsOk, IfOk, OnOk, length};
+ghost use Rattle.cf_tree.specs.CodeView.{code_tree, item_tree, arm_tree, code_trees, item_trees, arm_trees};
+ghost use Rattle.cf_tree.specs.RelSize.{capped};
+ghost use Rattle.cf_pass.specs.Improves.{Improves};
+ghost use Rattle.cf_pass.specs.Rewritten.{rewritten, units_of};
+ghost use Rattle.cf_pass.specs.Walked.{FormWalked, Walked, AllWalked, GivesWalked, ItemWalked, ItemsWalked, ArmWalked, ArmsWalked};
+
+use crate::rule::Rule;
+use cf_tree::code::{Arm, Code, Item};
+use cf_tree::memory::NoMemory;
+use std::alloc::Global;
+
+/// The rule at each form of the code, outside which `outside` variables are bound.
+/// After want of memory what was replaced stands, and nothing more is replaced.
+pub(crate) fn rewrite_each<R: Rule>(
+    alloc: Global,
+    rule: &mut R,
+    outside: u32,
+    code: &mut Code,
+) -> Result<(), NoMemory>
+    ensures code { Improves outside (code_tree code.old) (code_tree code.new) }
+    ensures tally { R.tally rule.old ≤ R.tally rule.new }
+    ensures made { OnOk result (code_tree code.new ≡ rewritten R.made outside (code_tree code.old)) }
+    ensures units { OnOk result (capped (R.tally rule.new) ≡ capped (R.tally rule.old + units_of R.made R.units outside (code_tree code.old))) }
+{
+    walk(alloc, rule, outside, Ok(()), code)
+}
+
+// The level behind `more` variables, unless memory was wanting before. More variables than 32 bits count are want of memory.
+fn behind(so_far: Result<(), NoMemory>, outside: u32, more: u32) -> Result<u32, NoMemory>
+    ensures level { IfOk result (λ n. n ≡ outside + more) }
+    ensures before { OnOk result (IsOk so_far) }
+{
+    match so_far {
+        Ok(()) => match outside.checked_add(more) {
+            Some(level) => Ok(level),
+            None => Err(NoMemory),
+        },
+        Err(fault) => Err(fault),
+    }
+}
+
+// The level behind the searches of an arm.
+fn behind_bounds(
+    so_far: Result<(), NoMemory>,
+    outside: u32,
+    bounds: &[u32],
+) -> Result<u32, NoMemory>
+    ensures level { IfOk result (λ n. n ≡ outside + length bounds.now) }
+    ensures before { OnOk result (IsOk so_far) }
+{
+    match u32::try_from(bounds.len()) {
+        Ok(count) => behind(so_far, outside, count),
+        Err(_) => Err(NoMemory),
+    }
+}
+
+// The rule at the form itself, unless memory was wanting before.
+fn finish<R: Rule>(
+    alloc: Global,
+    rule: &mut R,
+    outside: u32,
+    so_far: Result<(), NoMemory>,
+    code: &mut Code,
+) -> Result<(), NoMemory>
+    ensures { FormWalked R.made R.units outside (code_tree code.old) (code_tree code.new) (R.tally rule.old) (R.tally rule.new) so_far result }
+{
+    match so_far {
+        Ok(()) => rule.apply(alloc, outside, code),
+        Err(fault) => Err(fault),
+    }
+}
+
+// for the proof: no way ends early where parts are rewritten, and the form itself stands last in each arm
+#[cycle(walk)]
+fn walk<R: Rule>(
+    alloc: Global,
+    rule: &mut R,
+    outside: u32,
+    so_far: Result<(), NoMemory>,
+    code: &mut Code,
+) -> Result<(), NoMemory>
+    ensures { Walked R.made R.units outside (code_tree code.old) (code_tree code.new) (R.tally rule.old) (R.tally rule.new) so_far result }
+{
+    match code {
+        Code::Let {
+            count,
+            value,
+            body,
+            ..
+        } => {
+            let so_far = walk(alloc, rule, outside, so_far, value);
+            let so_far = walk_behind(alloc, rule, outside, *count, so_far, body);
+            finish(alloc, rule, outside, so_far, code)
+        }
+        Code::Solve { arms, .. } => {
+            let so_far = walk_arms(alloc, rule, outside, so_far, arms);
+            finish(alloc, rule, outside, so_far, code)
+        }
+        Code::SetOf(parts) => {
+            let so_far = walk_all(alloc, rule, outside, so_far, parts);
+            finish(alloc, rule, outside, so_far, code)
+        }
+        Code::Tuple(parts) => {
+            let so_far = walk_all(alloc, rule, outside, so_far, parts);
+            finish(alloc, rule, outside, so_far, code)
+        }
+        Code::Sum(parts) => {
+            let so_far = walk_all(alloc, rule, outside, so_far, parts);
+            finish(alloc, rule, outside, so_far, code)
+        }
+        Code::Sub(a, b) => {
+            let so_far = walk(alloc, rule, outside, so_far, a);
+            let so_far = walk(alloc, rule, outside, so_far, b);
+            finish(alloc, rule, outside, so_far, code)
+        }
+        Code::Mul(a, b) => {
+            let so_far = walk(alloc, rule, outside, so_far, a);
+            let so_far = walk(alloc, rule, outside, so_far, b);
+            finish(alloc, rule, outside, so_far, code)
+        }
+        Code::Neg(a) => {
+            let so_far = walk_part(alloc, rule, outside, so_far, a);
+            finish(alloc, rule, outside, so_far, code)
+        }
+        Code::Div { of, .. } => {
+            let so_far = walk_part(alloc, rule, outside, so_far, of);
+            finish(alloc, rule, outside, so_far, code)
+        }
+        Code::Mod { of, .. } => {
+            let so_far = walk_part(alloc, rule, outside, so_far, of);
+            finish(alloc, rule, outside, so_far, code)
+        }
+        Code::Min(parts) => {
+            let so_far = walk_all(alloc, rule, outside, so_far, parts);
+            finish(alloc, rule, outside, so_far, code)
+        }
+        Code::Max(parts) => {
+            let so_far = walk_all(alloc, rule, outside, so_far, parts);
+            finish(alloc, rule, outside, so_far, code)
+        }
+        Code::Compare { left, right, .. } => {
+            let so_far = walk(alloc, rule, outside, so_far, left);
+            let so_far = walk(alloc, rule, outside, so_far, right);
+            finish(alloc, rule, outside, so_far, code)
+        }
+        Code::Divides { of, .. } => {
+            let so_far = walk_part(alloc, rule, outside, so_far, of);
+            finish(alloc, rule, outside, so_far, code)
+        }
+        Code::And(a, b) => {
+            let so_far = walk(alloc, rule, outside, so_far, a);
+            let so_far = walk(alloc, rule, outside, so_far, b);
+            finish(alloc, rule, outside, so_far, code)
+        }
+        Code::Or(a, b) => {
+            let so_far = walk(alloc, rule, outside, so_far, a);
+            let so_far = walk(alloc, rule, outside, so_far, b);
+            finish(alloc, rule, outside, so_far, code)
+        }
+        Code::Not(a) => {
+            let so_far = walk_part(alloc, rule, outside, so_far, a);
+            finish(alloc, rule, outside, so_far, code)
+        }
+        Code::Union(parts) => {
+            let so_far = walk_all(alloc, rule, outside, so_far, parts);
+            finish(alloc, rule, outside, so_far, code)
+        }
+        Code::Inter(parts) => {
+            let so_far = walk_all(alloc, rule, outside, so_far, parts);
+            finish(alloc, rule, outside, so_far, code)
+        }
+        Code::Diff(a, b) => {
+            let so_far = walk(alloc, rule, outside, so_far, a);
+            let so_far = walk(alloc, rule, outside, so_far, b);
+            finish(alloc, rule, outside, so_far, code)
+        }
+        Code::Subset(a, b) => {
+            let so_far = walk(alloc, rule, outside, so_far, a);
+            let so_far = walk(alloc, rule, outside, so_far, b);
+            finish(alloc, rule, outside, so_far, code)
+        }
+        Code::Card(a) => {
+            let so_far = walk_part(alloc, rule, outside, so_far, a);
+            finish(alloc, rule, outside, so_far, code)
+        }
+        Code::Slice { set, from, n } => {
+            let so_far = walk(alloc, rule, outside, so_far, set);
+            let so_far = walk(alloc, rule, outside, so_far, from);
+            let so_far = walk(alloc, rule, outside, so_far, n);
+            finish(alloc, rule, outside, so_far, code)
+        }
+        Code::Fresh { avoid, n } => {
+            let so_far = walk(alloc, rule, outside, so_far, avoid);
+            let so_far = walk(alloc, rule, outside, so_far, n);
+            finish(alloc, rule, outside, so_far, code)
+        }
+        Code::If { test, yes, no } => {
+            let so_far = walk(alloc, rule, outside, so_far, test);
+            let so_far = walk(alloc, rule, outside, so_far, yes);
+            let so_far = walk(alloc, rule, outside, so_far, no);
+            finish(alloc, rule, outside, so_far, code)
+        }
+        Code::Lit(_) => finish(alloc, rule, outside, so_far, code),
+        Code::Truth(_) => finish(alloc, rule, outside, so_far, code),
+        Code::Var(_) => finish(alloc, rule, outside, so_far, code),
+    }
+}
+
+// for the proof: the only part of a form is lent with its box
+#[cycle(walk)]
+fn walk_part<R: Rule>(
+    alloc: Global,
+    rule: &mut R,
+    outside: u32,
+    so_far: Result<(), NoMemory>,
+    part: &mut Box<Code>,
+) -> Result<(), NoMemory>
+    ensures { Walked R.made R.units outside (code_tree part.old.value) (code_tree part.new.value) (R.tally rule.old) (R.tally rule.new) so_far result }
+{
+    walk(alloc, rule, outside, so_far, part)
+}
+
+// The same behind `more` further variables.
+#[cycle(walk)]
+fn walk_behind<R: Rule>(
+    alloc: Global,
+    rule: &mut R,
+    outside: u32,
+    more: u32,
+    so_far: Result<(), NoMemory>,
+    code: &mut Code,
+) -> Result<(), NoMemory>
+    ensures { Walked R.made R.units (outside + more) (code_tree code.old) (code_tree code.new) (R.tally rule.old) (R.tally rule.new) so_far result }
+{
+    match behind(so_far, outside, more) {
+        Ok(level) => walk(alloc, rule, level, Ok(()), code),
+        Err(fault) => Err(fault),
+    }
+}
+
+#[cycle(walk)]
+fn walk_all<R: Rule>(
+    alloc: Global,
+    rule: &mut R,
+    outside: u32,
+    so_far: Result<(), NoMemory>,
+    codes: &mut Vec<Code>,
+) -> Result<(), NoMemory>
+    ensures { AllWalked R.made R.units outside (code_trees codes.old.items) (code_trees codes.new.items) (R.tally rule.old) (R.tally rule.new) so_far result }
+{
+    let mut so_far = so_far;
+    for code in codes.iter_mut() {
+        so_far = walk(alloc, rule, outside, so_far, code);
+    }
+    so_far
+}
+
+// What an arm gives, behind the level, unless memory was wanting before.
+#[cycle(walk)]
+fn walk_gives<R: Rule>(
+    alloc: Global,
+    rule: &mut R,
+    level: Result<u32, NoMemory>,
+    codes: &mut Vec<Code>,
+) -> Result<(), NoMemory>
+    ensures { (n : ℕ) → GivesWalked R.made R.units n (code_trees codes.old.items) (code_trees codes.new.items) (R.tally rule.old) (R.tally rule.new) level result }
+{
+    match level {
+        Ok(outside) => walk_all(alloc, rule, outside, Ok(()), codes),
+        Err(fault) => Err(fault),
+    }
+}
+
+// At the level, unless memory was wanting before. Answers the level behind the item.
+#[cycle(walk)]
+fn walk_item<R: Rule>(
+    alloc: Global,
+    rule: &mut R,
+    level: Result<u32, NoMemory>,
+    item: &mut Item,
+) -> Result<u32, NoMemory>
+    ensures { (n : ℕ) → ItemWalked R.made R.units n (item_tree item.old) (item_tree item.new) (R.tally rule.old) (R.tally rule.new) level result }
+{
+    match level {
+        Ok(outside) => match item {
+            Item::Let(code) => {
+                let so_far = walk(alloc, rule, outside, Ok(()), code);
+                behind(so_far, outside, 1)
+            }
+            Item::Need(code) => {
+                let so_far = walk(alloc, rule, outside, Ok(()), code);
+                behind(so_far, outside, 0)
+            }
+        },
+        Err(fault) => Err(fault),
+    }
+}
+
+// Answers the level behind the items.
+#[cycle(walk)]
+fn walk_items<R: Rule>(
+    alloc: Global,
+    rule: &mut R,
+    level: Result<u32, NoMemory>,
+    items: &mut Vec<Item>,
+) -> Result<u32, NoMemory>
+    ensures { (n : ℕ) → ItemsWalked R.made R.units n (item_trees items.old.items) (item_trees items.new.items) (R.tally rule.old) (R.tally rule.new) level result }
+{
+    let mut level = level;
+    for item in items.iter_mut() {
+        level = walk_item(alloc, rule, level, item);
+    }
+    level
+}
+
+#[cycle(walk)]
+fn walk_arm<R: Rule>(
+    alloc: Global,
+    rule: &mut R,
+    outside: u32,
+    so_far: Result<(), NoMemory>,
+    arm: &mut Arm,
+) -> Result<(), NoMemory>
+    ensures { ArmWalked R.made R.units outside (arm_tree arm.old) (arm_tree arm.new) (R.tally rule.old) (R.tally rule.new) so_far result }
+{
+    let level = behind_bounds(so_far, outside, &arm.bounds);
+    let level = walk_items(alloc, rule, level, &mut arm.items);
+    walk_gives(alloc, rule, level, &mut arm.gives)
+}
+
+#[cycle(walk)]
+fn walk_arms<R: Rule>(
+    alloc: Global,
+    rule: &mut R,
+    outside: u32,
+    so_far: Result<(), NoMemory>,
+    arms: &mut Vec<Arm>,
+) -> Result<(), NoMemory>
+    ensures { ArmsWalked R.made R.units outside (arm_trees arms.old.items) (arm_trees arms.new.items) (R.tally rule.old) (R.tally rule.new) so_far result }
+{
+    let mut so_far = so_far;
+    for arm in arms.iter_mut() {
+        so_far = walk_arm(alloc, rule, outside, so_far, arm);
+    }
+    so_far
+}
