@@ -1,9 +1,15 @@
 mod ClassExamples
 mod ClassLaws
+mod FormExamples
+mod FormLaws
+mod LoopSteps
 mod LoweredLaws
+mod Lowering
 mod LoweringExamples
+mod MatchExamples
+mod MatchLists
 mod Matches
-mod NoMatchLaws
+pub mod NoMatchLaws
 mod NumberLaws
 mod Outcomes
 mod Patterns

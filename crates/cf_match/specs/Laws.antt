@@ -12,12 +12,14 @@ use Rattle.cf_program.specs.NoMatch.{HasNoMatch}
 abbrev pub bodies : List DefTree → List ExprTree
 bodies defs = map (λ d. d.body) defs
 
--- each lowered function allows the same outcomes as before in every environment of its parameters
+-- each function allows the same outcomes as the one at its place in the second list, in every environment of its parameters
+abbrev pub AllowTheSame : List DefTree → List DefTree → Type 0
+AllowTheSame defs new =
+    (f : ℕ) (d : DefTree) → slice_get defs f ≡ Some d → (env : List Value) → HaveBases (bases_of d.params) env → (o : Outcome) →
+    ProgramAllows (bodies defs) f env o ↔ ProgramAllows (bodies new) f env o
+
 abbrev pub LoweringKeepsOutcomes : Type 0
-LoweringKeepsOutcomes =
-    (defs : List DefTree) (main : ℕ) → IsTypedProgram defs main → (f : ℕ) (d : DefTree) → slice_get defs f ≡ Some d →
-    (env : List Value) → HaveBases (bases_of d.params) env → (o : Outcome) →
-    ProgramAllows (bodies defs) f env o ↔ ProgramAllows (bodies (map lowered_def defs)) f env o
+LoweringKeepsOutcomes = (defs : List DefTree) (main : ℕ) → IsTypedProgram defs main → AllowTheSame defs (map lowered_def defs)
 
 -- the lowered functions are a typed program with the same main function
 abbrev pub LoweringKeepsTypes : Type 0

@@ -1,2 +1,5 @@
 pub mod Classes
+pub mod Forms
+pub mod Kept
 pub mod Laws
+pub mod Matches

@@ -1,7 +1,11 @@
 //! Matches as the chooses that they stand for, and the classes of their patterns.
 #![tactic(auto)]
 
+mod arms;
 pub mod class;
+mod collect;
+mod lower;
+pub mod lowered;
 
 ghost use Rattle.cf_match.specs.Laws.{LoweringKeepsOutcomes, LoweringKeepsTypes, LoweringLeavesNoMatch};
 
