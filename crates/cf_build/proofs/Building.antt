@@ -1,9 +1,12 @@
 -- A target that was built keeps what it promises.
-use Rattle.std.proofs.Common.{◌≡◌, ℕ, zero, suc, ◌+◌, ◌≤◌, ◌<◌, Some, None, List, [], ◌∷◌, ◌++◌, length, map, reverse, slice_get, slice_index, get_or, Err, All, Contains, refl, sym, ap, ◌∙◌, subst, arith, length-append}
-use Rattle.std.proofs.lemmas.List.{reverse-append, map-append, length-map}
+use Rattle.std.proofs.Common.{◌≡◌, ℕ, zero, suc, ◌+◌, ◌≤◌, ◌<◌, Some, List, [], ◌∷◌, ◌++◌, length, map, reverse, slice_get, slice_index, get_or, nat_eq, All, Contains, refl, sym, ap, ◌∙◌, subst, arith, length-append}
+use Rattle.std.specs.List.{IsDistinct}
+use Rattle.std.specs.List.Sorted.{IsPermutation, IsNonDecreasing, IsNonDecreasingBy}
+use Rattle.std.proofs.lemmas.List.{reverse-append, map-append, length-map, get_or-map}
+use Rattle.std.proofs.lemmas.List.Sorted.{IsPermutation-map, All-permutation}
 use Rattle.std.proofs.lemmas.Option.{slice_get_within, slice_get_read, slice_get-map}
 use Rattle.std.specs.Option.{option_map}
-use Rattle.std.proofs.lemmas.List.Elements.{All-nil, All-cons, All-head, All-tail, All-append, All-pop, All-contains, All-weaker, All-map}
+use Rattle.std.proofs.lemmas.List.Elements.{All-nil, All-cons, All-head, All-tail, All-append, All-pop, All-weaker, All-map}
 use Rattle.cf_tree.specs.declared.base.Base.{Base}
 use Rattle.cf_tree.specs.declared.base.Base.TheVariants.{Int, Bool as Truth, Set}
 use Rattle.cf_tree.specs.declared.code.Code.{Code}
@@ -16,36 +19,35 @@ use Rattle.cf_tree.specs.ExprTree.{ExprTree, ExprTrees, expr_lit, expr_truth, ex
 use Rattle.cf_tree.specs.ExprView.{expr_tree}
 use Rattle.cf_tree.specs.Relation.{IsTyped, IsLinear}
 use Rattle.cf_tree.specs.Typing.{IsTypedCode}
+use Rattle.cf_tree.specs.Meaning.{path}
 use Rattle.cf_tree.specs.Values.{HaveBases}
 use Rattle.cf_choose.specs.Solved.{IsOutput}
-use Rattle.cf_linear.specs.declared.refusal.Refusal.{Refusal}
-use Rattle.cf_program.specs.Names.{bases_of}
+use Rattle.cf_pass.specs.Improves.{IsNoWorse}
+use Rattle.cf_program.specs.Names.{bases_of, names_of}
 use Rattle.cf_program.specs.Size.{depths}
 use Rattle.cf_program.specs.TypedProgram.{ExprHasBases, AllHave, PartsHave, Takes, AreTypedDefs, IsTypedProgram, numbers, numbers_all, all_numbers, IsOutput as IsTypedOutput}
 use Rattle.cf_program.specs.Walk.{side_of}
 use Rattle.cf_build.specs.declared.chooses.Choose.{Choose}
-use Rattle.cf_build.specs.declared.fault.BuildFault.{BuildFault}
-use Rattle.cf_build.specs.declared.fault.BuildFault.TheVariants as faults
 use Rattle.cf_program.specs.Lowered.{lowered_def}
-use Rattle.cf_build.specs.Built.{IsBuilt, BuildAnswer, unfolded_code}
+use Rattle.cf_build.specs.Built.{IsBuilt, unfolded_code}
 use Rattle.cf_build.specs.Codes.{called, code_of, codes_behind, solved_in}
 use Rattle.cf_build.specs.Runs.{lowered_bodies}
-use Rattle.cf_build.specs.Questions.{Question, questions, questions_all, all_questions, solve_of, IsFirstRefused}
+use Rattle.cf_build.specs.Questions.{Question, questions, questions_all, all_questions, by_number, solve_of}
 use Rattle.cf_build.specs.Shifted.{HasLevels}
 use Rattle.cf_program.specs.NoMatch.{HasNoMatch, HaveNoMatch}
-use Rattle.cf_build.specs.Solves.{question_of, questions_of, IsAsked, AreSolved, IsSolveOf, FaultAnswer}
+use Rattle.cf_build.specs.Solves.{question_of, questions_of, IsAsked, IsRising, AreCodes, IsSolveOf}
 use Rattle.cf_build.proofs.CodeLists.{called_is}
 use Rattle.cf_build.proofs.Meanings.{sides_have}
+use Rattle.cf_build.proofs.NumberOrder.{numbers_of, ordered_distinct, ordered_has, sorted_ordered, sorted_rises}
 use Rattle.cf_build.proofs.PickedPaths.{AreFit}
-use Rattle.cf_build.proofs.Programs.{Knows, bodies, program_known, lowered_same, map_reverse}
+use Rattle.cf_match.proofs.NoMatchLaws.{lowered_same}
+use Rattle.cf_build.proofs.Programs.{Knows, bodies, program_known, map_reverse}
+use Rattle.cf_build.proofs.Rewriting.{worse_same}
 use Rattle.cf_build.proofs.Runs.{runs_as_picked, bodies_lowered}
 use Rattle.cf_build.proofs.SameCodes.{behind_same}
 use Rattle.cf_build.proofs.SolveLists.{solved_found}
 
 -- ---- the numbers of chooses
-abbrev numbers_of : List Question → List ℕ
-numbers_of qs = map (λ q. q.number) qs
-
 both_numbers : (a b : ExprTree) → numbers a ≡ numbers_of (questions a) → numbers b ≡ numbers_of (questions b) → numbers a ++ numbers b ≡ numbers_of (questions a ++ questions b)
 both_numbers a b e f = rw (map-append (λ q. q.number) (questions a) (questions b), e, f) refl
 
@@ -123,7 +125,7 @@ module _ (takes : ℕ → List Base → List Base → Type 0) where
     may (expr_call f es) p scope bs h = parts_may es p scope h.0 h.2
     may (expr_let n a b) p scope bs h = All-append MayBeSolved (questions a) (questions b) (may a p.0 scope h.0 h.1) (may b p.1 (scope ++ h.0) bs h.4)
     may (expr_choose n params outputs rel) p scope bs h =
-        All-cons MayBeSolved (record { number = n; scope = bases_of params; outputs = outputs; relation = rel }) []
+        All-cons MayBeSolved (record { number = n; names = names_of params; scope = bases_of params; outputs = outputs; relation = rel }) []
         (h.1, All-weaker IsTypedOutput IsOutput output_is outputs h.2, rw h.0 h.3, h.4) (All-nil MayBeSolved)
     may (expr_match n params a arms) p scope bs h = absurd p
 
@@ -163,6 +165,17 @@ asked_each (q ∷ qs) m p =
     All-cons IsAsked q qs (record { positive = All-head (λ n. 1 ≤ n) q.number (numbers_of qs) p; several = h.0; outputs = h.1; typed = h.2; linear = h.3 })
     (asked_each qs (All-tail MayBeSolved q qs m) (All-tail (λ n. 1 ≤ n) q.number (numbers_of qs) p))
 
+numbers_of_chooses : (cs : List Choose) → numbers_of (map question_of cs) ≡ map (λ c. c.number) cs
+numbers_of_chooses [] = refl
+numbers_of_chooses (c ∷ cs) = ap (λ ns. c.number ∷ ns) (numbers_of_chooses cs)
+
+not_falling : {X : Type 0} (f : X → ℕ) (xs : List X) → IsNonDecreasingBy f xs → IsNonDecreasing (map f xs)
+not_falling f [] h i j d l m = absurd (omega (arith, m))
+not_falling f (x ∷ xs) h i j d l m =
+    let last : j < length (x ∷ xs) = omega (arith, m, length-map (x ∷ xs) f) in
+    let first : i < length (x ∷ xs) = omega (arith, l, last) in
+    rw (get_or-map f (x ∷ xs) i x d first, get_or-map f (x ∷ xs) j x d last) (h i j x l last)
+
 asked_parts : (cs : List Choose) → All IsAsked (map question_of cs) → All (λ c. IsAsked (question_of c)) cs
 asked_parts [] h = All-nil (λ c. IsAsked (question_of c))
 asked_parts (c ∷ cs) h =
@@ -183,22 +196,47 @@ module _ (ds : List Def) (main : ℕ) (t : IsTypedProgram (map def_tree ds) main
   plain : All (λ d. HasNoMatch d.body) (map def_tree ds)
   plain = plain_trees ds p
 
-  pub all_asked : (cs : List Choose) → map question_of cs ≡ questions_of (map def_tree ds) → All (λ c. IsAsked (question_of c)) cs
+  all_asked : (cs : List Choose) → map question_of cs ≡ questions_of (map def_tree ds) → All (λ c. IsAsked (question_of c)) cs
   all_asked cs e =
       let may_be = program_may (map def_tree ds) plain (all_turned HasTypes (map def_tree ds) (typed_each (reverse (map def_tree ds)) t.typed)) in
       asked_parts cs (rw e (asked_each (questions_of (map def_tree ds)) may_be (rw (program_numbers (map def_tree ds) plain) at t.positive)))
 
-  pub first_refused : (cs : List Choose) (n : ℕ) (r : Refusal) → map question_of cs ≡ questions_of (map def_tree ds) → IsFirstRefused (map question_of cs) n r → IsFirstRefused (all_questions (map def_tree ds)) n r
-  first_refused cs n r e h = rw (questions_same (map def_tree ds) plain, ← e) h
+  numbers_differ : IsDistinct nat_eq (numbers_of (all_questions (map def_tree ds)))
+  numbers_differ = rw (questions_same (map def_tree ds) plain) (rw (program_numbers (map def_tree ds) plain) at t.distinct)
 
-  module _ (ss : List (ℕ × CodeTree)) (s : AreSolved (questions_of (map def_tree ds)) ss) (codes : List CodeTree) (same : codes ≡ codes_behind (solved_in ss) [] (map def_tree ds)) (l : All HasLevels codes) where
+  -- the chooses that were found, and the same in the order of their numbers
+  module _ (cs sorted : List Choose) (e : map question_of cs ≡ questions_of (map def_tree ds)) (m : IsPermutation cs sorted) (o : IsNonDecreasingBy (λ c. c.number) sorted) where
+    found : map question_of cs ≡ all_questions (map def_tree ds)
+    found = e ∙ sym (questions_same (map def_tree ds) plain)
+
+    distinct : IsDistinct nat_eq (numbers_of (map question_of cs))
+    distinct = rw found numbers_differ
+
+    moved : IsPermutation (map question_of cs) (map question_of sorted)
+    moved = IsPermutation-map question_of cs sorted m
+
+    rise : IsNonDecreasing (numbers_of (map question_of sorted))
+    rise = rw (numbers_of_chooses sorted) (not_falling (λ c. c.number) sorted o)
+
+    pub in_order : map question_of sorted ≡ by_number (all_questions (map def_tree ds))
+    in_order = sorted_ordered (map question_of cs) (map question_of sorted) distinct moved rise ∙ ap by_number found
+
+    pub in_order_rises : IsRising (map question_of sorted)
+    in_order_rises = sorted_rises (map question_of cs) (map question_of sorted) distinct moved rise
+
+    pub in_order_asked : All (λ c. IsAsked (question_of c)) sorted
+    in_order_asked = All-permutation (λ c. IsAsked (question_of c)) cs sorted m (all_asked cs e)
+
+  module _ (ss : List (ℕ × CodeTree)) (s : AreCodes (by_number (all_questions (map def_tree ds))) ss) (codes : List CodeTree) (same : codes ≡ codes_behind (solved_in ss) [] (map def_tree ds)) (l : All HasLevels codes) where
     solve : (q : Question) → Contains (all_questions (map def_tree ds)) q → IsSolveOf q (solved_in ss q)
-    solve q c = solved_found (questions_of (map def_tree ds)) ss s (rw (program_numbers (map def_tree ds) plain) at t.distinct) q (rw (questions_same (map def_tree ds) plain) at c)
+    solve q c =
+        let qs = all_questions (map def_tree ds) in
+        solved_found (by_number qs) ss s (ordered_distinct qs numbers_differ) q (ordered_has qs q c)
 
     known : Knows (map def_tree ds) (reverse (map def_tree ds)) codes (depths (map def_tree ds))
     known = rw same (program_known (solved_in ss) (map def_tree ds) t.typed plain solve (rw same at l))
 
-    pub main_typed : (d : DefTree) → slice_get (map def_tree ds) main ≡ Some d → IsTypedCode (called codes main) (bases_of d.params) d.results
+    main_typed : (d : DefTree) → slice_get (map def_tree ds) main ≡ Some d → IsTypedCode (called codes main) (bases_of d.params) d.results
     main_typed d e = known.typed main (bases_of d.params) d.results (known.takes main d e) (Some d.results) refl
 
     all_bodies : bodies (reverse (map def_tree ds)) ≡ reverse (lowered_bodies (map def_tree ds))
@@ -212,12 +250,13 @@ module _ (ds : List Def) (main : ℕ) (t : IsTypedProgram (map def_tree ds) main
         ∙ ap (λ xs. codes_behind solve_of [] xs) (sym (lowered_defs (map def_tree ds) plain)))
 
     pub main_built : (d : DefTree) → slice_get (map def_tree ds) main ≡ Some d → (raw : RawTarget) → raw.params.items ≡ bases_of d.params → raw.results.items ≡ d.results → code_tree raw.code ≡ called codes main →
-        IsBuilt (map def_tree ds) main raw
+        IsBuilt (map def_tree ds) main 0 raw
     main_built d e raw ps rs c =
         let takes = known.takes main d e in
         record {
           like_main = (d, e, ps, rs);
-          unfolded = c ∙ is_unfolded;
+          unfolded = λ _. c ∙ is_unfolded;
+          rewritten = λ env h. subst (λ k. IsNoWorse (path (unfolded_code (map def_tree ds) main) env) (path k env)) (sym (c ∙ is_unfolded)) (worse_same (path (unfolded_code (map def_tree ds) main) env));
           typed =
               subst (λ k. IsTypedCode k raw.params.items raw.results.items) (sym c)
               (subst (λ bs. IsTypedCode (called codes main) bs raw.results.items) (sym ps)
@@ -245,7 +284,7 @@ pub main_below : (ds : List Def) (main : ℕ) → IsTypedProgram (map def_tree d
 main_below ds main t = let h = t.has_main in omega (arith, slice_get_within (map def_tree ds) main h.0 h.1, length-map ds def_tree)
 
 -- the code of `main` among those of all functions
-module _ (ds : List Def) (main : ℕ) (t : IsTypedProgram (map def_tree ds) main) (p : All (λ d. HasNoMatch (expr_tree d.body)) ds) (ss : List (ℕ × CodeTree)) (s : AreSolved (questions_of (map def_tree ds)) ss)
+module _ (ds : List Def) (main : ℕ) (t : IsTypedProgram (map def_tree ds) main) (p : All (λ d. HasNoMatch (expr_tree d.body)) ds) (ss : List (ℕ × CodeTree)) (s : AreCodes (by_number (all_questions (map def_tree ds))) ss)
     (cs : List Code) (same : map code_tree cs ≡ codes_behind (solved_in ss) [] (map def_tree ds)) (l : All (λ c. HasLevels (code_tree c)) cs) where
   pub main_has_code : main < length cs
   main_has_code = omega (arith, main_below ds main t, codes_length (solved_in ss) [] (map def_tree ds), ap length same, length-map cs code_tree, length-map ds def_tree)
@@ -257,16 +296,6 @@ module _ (ds : List Def) (main : ℕ) (t : IsTypedProgram (map def_tree ds) main
     def_is : slice_get (map def_tree ds) main ≡ Some (def_tree d)
     def_is = slice_get-map def_tree ds main ∙ ap (λ o. option_map def_tree o) (slice_get_read ds (length ds) main d refl (main_below ds main t) there)
 
-    pub target_typed : IsTypedCode (code_tree c) (bases_of d.params.items) d.results.items
-    target_typed =
-        subst (λ k. IsTypedCode k (bases_of d.params.items) d.results.items) code_is
-        (main_typed ds main t p ss s (map code_tree cs) same (All-map HasLevels code_tree cs l) (def_tree d) def_is)
-
-    pub target_built : (raw : RawTarget) → (raw.params.items ≡ bases_of d.params.items) × (raw.results.items ≡ d.results.items) × (code_tree raw.code ≡ code_tree c) → IsBuilt (map def_tree ds) main raw
+    pub target_built : (raw : RawTarget) → (raw.params.items ≡ bases_of d.params.items) × (raw.results.items ≡ d.results.items) × (code_tree raw.code ≡ code_tree c) → IsBuilt (map def_tree ds) main 0 raw
     target_built raw r =
         main_built ds main t p ss s (map code_tree cs) same (All-map HasLevels code_tree cs l) (def_tree d) def_is raw r.0 r.1 (r.2 ∙ sym code_is)
-
-pub tells_fault : (ds : List Def) (main : ℕ) → IsTypedProgram (map def_tree ds) main → All (λ d. HasNoMatch (expr_tree d.body)) ds → (cs : List Choose) → map question_of cs ≡ questions_of (map def_tree ds) →
-    (fault : BuildFault) → FaultAnswer (map question_of cs) fault → BuildAnswer (map def_tree ds) main (Err fault)
-tells_fault ds main t p cs e (faults.Choose n r) h = first_refused ds main t p cs n r e h
-tells_fault ds main t p cs e faults.NoMemory h = tt

@@ -1,18 +1,10 @@
 -- Lists of chooses.
-use Rattle.std.proofs.Common.{◌≡◌, List, [], ◌∷◌, ◌++◌, map, All, sym, ap, ◌∙◌}
+use Rattle.std.proofs.Common.{◌≡◌, List, [], ◌∷◌, ◌++◌, map, sym, ap, ◌∙◌}
 use Rattle.std.proofs.lemmas.List.{append_assoc, append-nil, map-append}
-use Rattle.std.proofs.lemmas.List.Elements.{All-head, All-tail}
-use Rattle.cf_tree.specs.declared.expr.Expr.{Expr}
 use Rattle.cf_tree.specs.DefView.{DefTree}
-use Rattle.cf_tree.specs.ExprView.{expr_tree, expr_trees}
 use Rattle.cf_tree.specs.ExprTree.{ExprTree, exprs_of}
 use Rattle.cf_build.specs.Questions.{questions, questions_all}
-use Rattle.cf_program.specs.NoMatch.{HasNoMatch, HaveNoMatch}
 use Rattle.cf_build.specs.Solves.{questions_of}
-
-pub have_no_match : (es : List Expr) → All (λ e. HasNoMatch (expr_tree e)) es → HaveNoMatch (expr_trees es)
-have_no_match [] h = tt
-have_no_match (e ∷ es) h = (All-head (λ e. HasNoMatch (expr_tree e)) e es h, have_no_match es (All-tail (λ e. HasNoMatch (expr_tree e)) e es h))
 
 pub questions_push : (es : List ExprTree) (e : ExprTree) → questions_all (exprs_of (es ++ e ∷ [])) ≡ questions_all (exprs_of es) ++ questions e
 questions_push [] e = append-nil (questions e)
@@ -22,4 +14,4 @@ pub questions_of_push : (ds : List DefTree) (d : DefTree) → questions_of (ds +
 questions_of_push [] d = append-nil (questions d.body)
 questions_of_push (c ∷ ds) d = ap (λ qs. questions c.body ++ qs) (questions_of_push ds d) ∙ sym (append_assoc (questions c.body) (questions_of ds) (questions d.body))
 
-pub ruleset choose_lists = (have_no_match, questions_push, questions_of_push, append_assoc, append-nil, map-append)
+pub ruleset choose_lists = (questions_push, questions_of_push, append_assoc, append-nil, map-append)

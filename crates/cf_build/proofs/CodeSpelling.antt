@@ -8,7 +8,7 @@ use Rattle.cf_tree.specs.declared.raw.BinOp.TheVariants.{Add, Sub, Mul, And, Or,
 use Rattle.cf_tree.specs.CodeTree.{CodeTree, CodeTrees, no_codes, code_more, code_depth, codes_depth}
 use Rattle.cf_tree.specs.ExprTree.{ExprTree, expr_lit, expr_truth, expr_var, expr_set_of, expr_tuple, expr_neg, expr_not, expr_abs, expr_binary, expr_divides, expr_div, expr_mod, expr_card, expr_if, expr_call, expr_let, expr_choose, expr_match, ExprTrees, no_exprs, expr_more}
 use Rattle.cf_tree.specs.Spelled.{IsSpelled, AreSpelled}
-use Rattle.cf_program.specs.Names.{bases_of}
+use Rattle.cf_program.specs.Names.{bases_of, names_of}
 use Rattle.cf_program.specs.Size.{depth_in, depth_all}
 use Rattle.cf_program.specs.TypedProgram.{ExprHasBases, AllHave, PartsHave}
 use Rattle.cf_program.specs.Walk.{side_of}
@@ -83,7 +83,7 @@ module _ (calls : ℕ → CodeTree) (solves : Question → CodeTree) (depths : �
           depth_within b p.1 (λ q m. s q (Contains-append_right (questions a) (questions b) q m)) (n + k),
         )
     depth_within (expr_choose k params outputs rel) p s n =
-        let q : Question = record { number = k; scope = bases_of params; outputs = outputs; relation = rel } in
+        let q : Question = record { number = k; names = names_of params; scope = bases_of params; outputs = outputs; relation = rel } in
         omega (arith, solve_depth q (solves q) (s q (0, omega arith, refl)))
     depth_within (expr_match k params a arms) p s n = absurd p
 
@@ -150,7 +150,7 @@ module _ (calls : ℕ → CodeTree) (solves : Question → CodeTree) (takes : �
       spelled b p.1 (λ q m. s q (Contains-append_right (questions a) (questions b) q m)) (scope ++ h.0) bs h.4 (n + k) l.2,
     )
     spelled (expr_choose k params outputs rel) p s scope bs h n l =
-        (s (record { number = k; scope = bases_of params; outputs = outputs; relation = rel }) (0, omega arith, refl)).spelled
+        (s (record { number = k; names = names_of params; scope = bases_of params; outputs = outputs; relation = rel }) (0, omega arith, refl)).spelled
     spelled (expr_match k params a arms) p s scope bs h n l = absurd p
 
     all_spelled : (es : ExprTrees) → HaveNoMatch es → AreSolves_ (questions_all es) → (scope : List Base) (b : Base) → AllHave takes es scope b → (n : ℕ) → HaveLevels (codes_of_all calls solves n es) → AreSpelled (codes_of_all calls solves n es)

@@ -13,7 +13,7 @@ use Rattle.cf_tree.specs.ExprTree.{ExprTree, expr_lit, expr_truth, expr_var, exp
 use Rattle.cf_tree.specs.Typing.{Meets, ask, share, IsGiven, HasBases as CodeHas, AllHave as CodesHave, PartsHave as CodePartsHave}
 use Rattle.cf_choose.specs.Solved.{HasArms}
 use Rattle.cf_choose.proofs.ArmBuilderLemmas.{slice_get-end}
-use Rattle.cf_program.specs.Names.{bases_of}
+use Rattle.cf_program.specs.Names.{bases_of, names_of}
 use Rattle.cf_program.specs.TypedProgram.{ExprHasBases, AllHave, PartsHave, AreSides}
 use Rattle.cf_program.specs.Walk.{side_of, result_of}
 use Rattle.cf_build.specs.Codes.{binary_code, joined_code, call_code, code_of, codes_of_all}
@@ -125,7 +125,7 @@ module _ (calls : ℕ → CodeTree) (solves : Question → CodeTree) (takes : �
       typed b p.1 (λ q c. s q (Contains-append_right (questions a) (questions b) q c)) (scope ++ h.0) bs h.4 asked m (n + k) (omega (arith, e, h.2, length-append scope h.0)),
     )
     typed (expr_choose k params outputs rel) p s scope bs h asked m n e =
-        let q : Question = record { number = k; scope = bases_of params; outputs = outputs; relation = rel } in
+        let q : Question = record { number = k; names = names_of params; scope = bases_of params; outputs = outputs; relation = rel } in
         solve_typed scope bs asked q (s q (0, omega arith, refl)) h.0 h.5 m
     typed (expr_match k params a arms) p s scope bs h asked m n e = absurd p
 

@@ -1,13 +1,13 @@
 -- Each choose that a typed expression enters keeps within its reach.
-use Rattle.std.proofs.Common.{◌≡◌, ℕ, Option, Some, List, [], ◌∷◌, ◌++◌, ◌+◌, Contains, refl, arith}
+use Rattle.std.proofs.Common.{ℕ, Option, List, [], ◌∷◌, ◌++◌, ◌+◌, Contains, refl, arith}
 use Rattle.std.proofs.lemmas.List.Elements.{Contains-append_left, Contains-append_right}
 use Rattle.cf_tree.specs.declared.base.Base.{Base}
 use Rattle.cf_tree.specs.declared.base.Base.TheVariants.{Int}
 use Rattle.cf_tree.specs.CodeTree.{CodeTree}
 use Rattle.cf_tree.specs.ExprTree.{ExprTree, expr_lit, expr_truth, expr_var, expr_set_of, expr_tuple, expr_neg, expr_not, expr_abs, expr_binary, expr_divides, expr_div, expr_mod, expr_card, expr_if, expr_call, expr_let, expr_choose, expr_match, ExprTrees, no_exprs, expr_more}
 use Rattle.cf_tree.specs.Meaning.{path}
-use Rattle.cf_tree.specs.Values.{Value, Outcome, values, HaveBases}
-use Rattle.cf_program.specs.Names.{bases_of}
+use Rattle.cf_tree.specs.Values.{Value, Outcome, HaveBases}
+use Rattle.cf_program.specs.Names.{bases_of, names_of}
 use Rattle.cf_program.specs.TypedProgram.{ExprHasBases, AllHave, PartsHave}
 use Rattle.cf_program.specs.Walk.{side_of}
 use Rattle.cf_growth.specs.Overflowing.{IsFineIn, AreFineIn}
@@ -66,7 +66,7 @@ module _ (calls : ℕ → CodeTree) (solves : Question → CodeTree) (takes : �
           (λ q k. s q (Contains-append_left (questions b) (questions c) q k)) scope h.0 h.1 env n a xs e) h.2)),
     )
     entered (expr_choose m params outputs rel) p s scope bs h env n a =
-        let q : Question = record { number = m; scope = bases_of params; outputs = outputs; relation = rel } in
+        let q : Question = record { number = m; names = names_of params; scope = bases_of params; outputs = outputs; relation = rel } in
         let solve = s q (0, omega arith, refl) in
         chooses_are_fine m (bases_of params) outputs rel (rw h.0 h.3) h.4 solve.within solve.solved.solves solve.solved.typed env (rw h.0 a.bases)
     entered (expr_match m params b arms) p s scope bs h env n a = absurd p

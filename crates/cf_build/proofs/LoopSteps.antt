@@ -1,5 +1,5 @@
 -- One more step of the loops over functions, expressions and chooses.
-use Rattle.std.proofs.Common.{◌≡◌, ℕ, suc, ◌+◌, ◌<◌, ◌≤◌, Some, None, List, [], ◌∷◌, ◌++◌, length, map, take, drop, get_or, All, sym, ap, ◌∙◌, subst}
+use Rattle.std.proofs.Common.{◌≡◌, ℕ, suc, ◌+◌, ◌<◌, ◌≤◌, List, [], ◌∷◌, ◌++◌, length, map, take, drop, get_or, All, sym, ap, ◌∙◌, subst}
 use Rattle.std.proofs.Math.Numerals.{add-one}
 use Rattle.std.proofs.Math.Seq.{drop-cons}
 use Rattle.std.proofs.lemmas.List.{append_assoc, map-append, map_more, take_all}
@@ -14,20 +14,17 @@ use Rattle.cf_tree.specs.declared.code.Item.{Item}
 use Rattle.cf_tree.specs.declared.code.Arm.{Arm}
 use Rattle.cf_tree.specs.declared.expr.Def.{Def}
 use Rattle.cf_tree.specs.declared.expr.Expr.{Expr}
-use Rattle.cf_linear.specs.declared.refusal.Refusal.{Refusal}
+use Rattle.cf_program.specs.NoMatch.{HasNoMatch, HaveNoMatch}
 use Rattle.cf_build.specs.declared.chooses.Choose.{Choose}
-use Rattle.cf_build.specs.declared.solves.ChooseCode.{ChooseCode}
-use Rattle.cf_build.specs.Codes.{choose_code, code_of, codes_of_all, called, codes_behind}
-use Rattle.cf_build.specs.Questions.{Question, questions, questions_all, limit_of, IsFirstRefused}
+use Rattle.cf_build.specs.declared.solves.SolvedChoose.{SolvedChoose}
+use Rattle.cf_build.specs.Codes.{code_of, codes_of_all, called, codes_behind}
+use Rattle.cf_build.specs.Questions.{Question, questions, questions_all}
 use Rattle.cf_build.specs.Shifted.{shifted, all_shifted, item_shifted, items_shifted, arm_shifted, arms_shifted, HasLevels}
-use Rattle.cf_build.specs.Solves.{question_of, questions_of, AreSolved, IsSolveOf, IsNext}
+use Rattle.cf_build.specs.Solves.{question_of, questions_of, AreSolved, IsSolved}
 use Rattle.cf_build.proofs.CodeLists.{codes_of_exprs}
 use Rattle.cf_build.proofs.ShiftLists.{codes_shifted, list_items_shifted, list_arms_shifted}
 use Rattle.cf_build.proofs.ChooseLists.{questions_push, questions_of_push}
-use Rattle.cf_build.proofs.SolveLists.{solved_push, refused_behind, next_refused}
-
-pub all_more : {X : Type 0} (P : X → Type 0) (xs : List X) (i : ℕ) (x : X) → i < length xs → x ≡ get_or xs i x → All P (take i xs) → P x → All P (take (i + 1) xs)
-all_more P xs i x l e h p = All-more P xs i x l h (subst P e p)
+use Rattle.cf_build.proofs.SolveLists.{solved_push}
 
 map_at : {X Y : Type 0} (f : X → Y) (xs : List X) (i : ℕ) (x : X) → i < length xs → x ≡ get_or xs i x → map f (take (i + 1) xs) ≡ map f (take i xs) ++ f x ∷ []
 map_at f xs i x l e = map_more f xs i x l ∙ ap (λ y. map f (take i xs) ++ f y ∷ []) (sym e)
@@ -46,25 +43,25 @@ def_found ds i d now new l is h g =
     ap questions_of (map_at def_tree ds i d l is) ∙ questions_of_push (map def_tree (take i ds)) (def_tree d) in
     g ∙ ap (λ qs. qs ++ questions (expr_tree d.body)) h ∙ sym one
 
-pub solves_more : (cs : List Choose) (i : ℕ) (c : Choose) (old new : List ChooseCode) (code : ChooseCode) → i < length cs → c ≡ get_or cs i c → AreSolved (map question_of (take i cs)) (map choose_code old) →
-    new ≡ old ++ code ∷ [] → code.number ≡ c.number → IsSolveOf (question_of c) (code_tree code.code) → AreSolved (map question_of (take (i + 1) cs)) (map choose_code new)
-solves_more cs i c old new code l is h n e s =
-    rw (map_at question_of cs i c l is, n, map-append choose_code old (code ∷ []))
-    (solved_push (map question_of (take i cs)) (map choose_code old) (question_of c) (choose_code code) h e s)
+pub solves_more : (cs : List Choose) (i : ℕ) (c : Choose) (old new : List SolvedChoose) (s : SolvedChoose) → i < length cs → c ≡ get_or cs i c → AreSolved (map question_of (take i cs)) old →
+    new ≡ old ++ s ∷ [] → IsSolved (question_of c) s → AreSolved (map question_of (take (i + 1) cs)) new
+solves_more cs i c old new s l is h n k = rw (map_at question_of cs i c l is, n) (solved_push (map question_of (take i cs)) old (question_of c) s h k)
 
-pub refused_more : (cs : List Choose) (i : ℕ) (c : Choose) (old : List ChooseCode) (r : Refusal) → i < length cs → c ≡ get_or cs i c → AreSolved (map question_of (take i cs)) (map choose_code old) →
-    limit_of (question_of c) ≡ Some r → IsFirstRefused (map question_of (take (i + 1) cs)) c.number r
-refused_more cs i c old r l is h e =
-    rw (map_at question_of cs i c l is) (refused_behind (map question_of (take i cs)) (map choose_code old) (question_of c) r h e)
+-- the elements from place i on are that one and those after it
+from_here : {X : Type 0} (xs : List X) (i : ℕ) (x : X) → i < length xs → x ≡ get_or xs i x → drop i xs ≡ x ∷ drop (i + 1) xs
+from_here xs i x l is =
+    subst (λ k. drop i xs ≡ x ∷ drop k xs) (sym (add-one i)) (subst (λ y. drop i xs ≡ y ∷ drop (suc i) xs) (sym is) (drop-cons xs i x l))
 
-pub next_more : (cs : List Choose) (i : ℕ) (c : Choose) (n m : ℕ) (r s : Refusal) → i < length cs → c ≡ get_or cs i c → IsFirstRefused (map question_of (take i cs)) n r → IsNext (question_of c) n r m s →
-    IsFirstRefused (map question_of (take (i + 1) cs)) m s
-next_more cs i c n m r s l is h k = rw (map_at question_of cs i c l is) (next_refused (map question_of (take i cs)) (question_of c) n m r s h k)
+pub all_here : {X : Type 0} (P : X → Type 0) (xs : List X) (i : ℕ) (x : X) → i < length xs → x ≡ get_or xs i x → All P xs → P x
+all_here P xs i x l is h = subst P (sym is) (h i x l)
 
--- the functions from place i on are that one and those after it
-from_here : (ds : List Def) (i : ℕ) (d : Def) → i < length ds → d ≡ get_or ds i d → drop i ds ≡ d ∷ drop (i + 1) ds
-from_here ds i d l is =
-    subst (λ k. drop i ds ≡ d ∷ drop k ds) (sym (add-one i)) (subst (λ x. drop i ds ≡ x ∷ drop (suc i) ds) (sym is) (drop-cons ds i d l))
+-- no match stands in the expression at place i, nor in those behind it
+pub none_at : (es : List Expr) (i : ℕ) (e : Expr) → i < length es → e ≡ get_or es i e → HaveNoMatch (expr_trees (drop i es)) → HasNoMatch (expr_tree e)
+none_at es i e l is h = (subst (λ xs. HaveNoMatch (expr_trees xs)) (from_here es i e l is) h).0
+
+pub none_behind : (es : List Expr) (i : ℕ) (e : Expr) → i < length es → e ≡ get_or es i e → HaveNoMatch (expr_trees (drop i es)) →
+    HaveNoMatch (expr_trees (drop (i + 1) es))
+none_behind es i e l is h = (subst (λ xs. HaveNoMatch (expr_trees xs)) (from_here es i e l is) h).1
 
 pub behind_more : (solves : Question → CodeTree) (ds : List Def) (i : ℕ) (d : Def) (old new : List Code) (c : Code) (all : List CodeTree) → i < length ds → d ≡ get_or ds i d → new ≡ old ++ c ∷ [] →
     code_tree c ≡ code_of (called (map code_tree old)) solves (length d.params.items) (expr_tree d.body) → codes_behind solves (map code_tree old) (map def_tree (drop i ds)) ≡ all →
@@ -76,9 +73,6 @@ pub levels_more : (old new : List Code) (c : Code) → new ≡ old ++ c ∷ [] �
 levels_more old new c n h l = rw n (All-push (λ x. HasLevels (code_tree x)) old c h l)
 
 -- ---- the ends of loops
-pub all_at_end : {X : Type 0} (P : X → Type 0) (xs : List X) (i : ℕ) → length xs ≤ i → All P (take i xs) → All P xs
-all_at_end P xs i l h = subst (λ ys. All P ys) (take_all i xs l) h
-
 pub codes_at_end : (by : ℕ) (cs done : List Code) (i : ℕ) → length cs ≤ i → map code_tree done ≡ map (λ c. shifted by c) (map code_tree (take i cs)) → code_trees done ≡ all_shifted by (code_trees cs)
 codes_at_end by cs done i l h = ap codes_of (h ∙ ap (λ xs. map (λ c. shifted by c) (map code_tree xs)) (take_all i cs l)) ∙ codes_shifted by (map code_tree cs)
 

@@ -20,7 +20,7 @@ use Rattle.cf_tree.proofs.RisingLemmas.{rising_ext, rising_put, rising_set_of, r
 use Rattle.cf_tree.proofs.SetLemmas.{has-put, has-set_of}
 use Rattle.cf_tree.proofs.SolvingLemmas.{solve_chosen}
 use Rattle.cf_choose.proofs.ArmBuilderLemmas.{length_have, value_at-end}
-use Rattle.cf_program.specs.Names.{bases_of}
+use Rattle.cf_program.specs.Names.{bases_of, names_of}
 use Rattle.cf_program.specs.TypedProgram.{ExprHasBases, AllHave, PartsHave, AreSides}
 use Rattle.cf_program.specs.Walk.{side_of, result_of}
 use Rattle.cf_build.specs.Codes.{two, binary_code, joined_code, call_code, code_of, codes_of_all}
@@ -242,7 +242,7 @@ module _ (calls : ℕ → CodeTree) (solves : Question → CodeTree) (takes : �
         (fine a p.0 (λ q c. s q (Contains-append_left (questions a) (questions b) q c)) scope h.0 h.1 env k n e) (λ xs hx.
         fine b p.1 (λ q c. s q (Contains-append_right (questions a) (questions b) q c)) (scope ++ h.0) bs h.4 (env ++ xs) (have_append scope h.0 env xs k hx) (n + m) (omega (arith, e, h.2, length-append scope h.0)))
     fine (expr_choose m params outputs rel) p s scope bs h env k n e =
-        let q : Question = record { number = m; scope = bases_of params; outputs = outputs; relation = rel } in
+        let q : Question = record { number = m; names = names_of params; scope = bases_of params; outputs = outputs; relation = rel } in
         let r = choose_fine q env (rw h.0 k) (s q (0, omega arith, refl)) in
         (r.0, keeps_same outputs bs _ (sym h.5) r.1)
     fine (expr_match m params a arms) p s scope bs h env k n e = absurd p

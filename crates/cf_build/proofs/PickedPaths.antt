@@ -7,19 +7,19 @@ use Rattle.std.proofs.lemmas.Bool.{leb-true, leb-false}
 use Rattle.std.proofs.lemmas.List.Elements.{Contains-append_left, Contains-append_right}
 use Rattle.cf_num.specs.Limit.{limit}
 use Rattle.cf_tree.specs.declared.base.Base.{Base}
-use Rattle.cf_tree.specs.declared.base.Base.TheVariants.{Int, Bool as Truth, Set}
+use Rattle.cf_tree.specs.declared.base.Base.TheVariants.{Int}
 use Rattle.cf_tree.specs.declared.raw.BinOp.{BinOp}
 use Rattle.cf_tree.specs.declared.raw.BinOp.TheVariants.{Add, Sub, Mul, And, Or, Union, Inter, Diff, Subset, Compare}
 use Rattle.cf_tree.specs.Allowed.{operation}
-use Rattle.cf_tree.specs.CodeTree.{CodeTree, code_var, code_neg, code_max, code_tuple, no_codes}
+use Rattle.cf_tree.specs.CodeTree.{CodeTree, code_var, code_neg, code_max, code_tuple}
 use Rattle.cf_tree.specs.ExprTree.{ExprTree, expr_lit, expr_truth, expr_var, expr_set_of, expr_tuple, expr_neg, expr_not, expr_abs, expr_binary, expr_divides, expr_div, expr_mod, expr_card, expr_if, expr_call, expr_let, expr_choose, expr_match, ExprTrees, no_exprs, expr_more}
-use Rattle.cf_tree.specs.Meaning.{Got, got, none_at, Path, then_gives, then_peak, then_path, gives_only, meets, meets_value, path, all_path, set_path, outcome_of, means, peak, number_in, truth_in}
+use Rattle.cf_tree.specs.Meaning.{Got, got, none_at, Path, then_peak, then_path, gives_only, meets, meets_value, path, all_path, set_path, outcome_of, means, peak, number_in, truth_in}
 use Rattle.cf_tree.specs.Numbers.{absolute}
 use Rattle.cf_tree.specs.Sets.{set_of, set_put}
 use Rattle.cf_tree.specs.Values.{Value, number, truth, elements, Outcome, values, no_solution, number_of, value_at, first_of, HaveBases}
 use Rattle.cf_linear.proofs.BoolLemmas.{on_bool}
 use Rattle.cf_choose.proofs.ArmBuilderLemmas.{length_have}
-use Rattle.cf_program.specs.Names.{bases_of}
+use Rattle.cf_program.specs.Names.{bases_of, names_of}
 use Rattle.cf_program.specs.TypedProgram.{ExprHasBases, AllHave, PartsHave}
 use Rattle.cf_program.specs.Walk.{side_of}
 use Rattle.cf_growth.specs.Meeting.{AreSmall}
@@ -417,7 +417,7 @@ module _ (calls : ℕ → CodeTree) (solves : Question → CodeTree) (takes : �
         picked_by c p.1 (λ q k. s q (Contains-append_right (questions b) (questions c) q k)) (scope ++ h.0) bs h.4 (env ++ xs) (n + m)
         (behind scope h.0 env xs n m a f h.2))
     picked_by (expr_choose m params outputs rel) p s scope bs h env n a =
-        let q : Question = record { number = m; scope = bases_of params; outputs = outputs; relation = rel } in
+        let q : Question = record { number = m; names = names_of params; scope = bases_of params; outputs = outputs; relation = rel } in
         subst (λ c. IsPickedBy (picked_in picks (expr_choose m params outputs rel) env) (path c env)) (sym (s q (0, omega arith, refl)).code)
         (solve_by (solve_of q) env)
     picked_by (expr_match m params b arms) p s scope bs h env n a = absurd p

@@ -9,20 +9,21 @@ use Rattle.cf_tree.specs.declared.base.Base.{Base}
 use Rattle.cf_tree.specs.Allowed.{AllowedIn, AllowedCall}
 use Rattle.cf_tree.specs.CodeTree.{CodeTree, code_tuple, no_codes, code_depth}
 use Rattle.cf_tree.specs.DefView.{DefTree}
-use Rattle.cf_tree.specs.ExprTree.{ExprTree, ExprTrees, expr_lit, expr_truth, expr_var, expr_set_of, expr_tuple, expr_neg, expr_not, expr_abs, expr_binary, expr_divides, expr_div, expr_mod, expr_card, expr_if, expr_call, expr_let, expr_choose, expr_match, no_exprs, expr_more}
+use Rattle.cf_tree.specs.ExprTree.{ExprTree}
 use Rattle.cf_tree.specs.Meaning.{means, path}
 use Rattle.cf_tree.specs.Spelled.{IsSpelled}
 use Rattle.cf_tree.specs.Typing.{Meets, HasBases as CodeHas}
 use Rattle.cf_tree.specs.Values.{Value, Outcome, HaveBases}
 use Rattle.cf_growth.specs.Overflowing.{picked_in, picked_call, IsFineIn, IsFineCall}
-use Rattle.cf_program.specs.Lowered.{lowered, all_lowered}
+use Rattle.cf_program.specs.Lowered.{lowered}
 use Rattle.cf_program.specs.Names.{bases_of}
 use Rattle.cf_program.specs.Size.{depth_in, measured, depths}
 use Rattle.cf_program.specs.TypedProgram.{Takes, IsTypedDef, AreTypedDefs}
 use Rattle.cf_build.specs.Codes.{code_of, called, codes_behind}
 use Rattle.cf_build.specs.Questions.{Question, questions, all_questions}
 use Rattle.cf_build.specs.Shifted.{HasLevels}
-use Rattle.cf_program.specs.NoMatch.{HasNoMatch, HaveNoMatch}
+use Rattle.cf_program.specs.NoMatch.{HasNoMatch}
+use Rattle.cf_match.proofs.NoMatchLaws.{lowered_same}
 use Rattle.cf_build.specs.Solves.{IsSolveOf}
 use Rattle.cf_build.proofs.CodeSpelling.{depth_within, spelled}
 use Rattle.cf_build.proofs.CodeTyping.{typed}
@@ -30,32 +31,6 @@ use Rattle.cf_build.proofs.EnteredChooses.{entered}
 use Rattle.cf_build.proofs.Meanings.{fine}
 use Rattle.cf_build.proofs.PickedPaths.{IsPickedBy, AreFit, Around, picked_by}
 use Rattle.cf_build.proofs.Values.{Keeps}
-
--- ---- matches
-mutual
-  pub lowered_same : (e : ExprTree) → HasNoMatch e → lowered e ≡ e
-  lowered_same (expr_lit k) p = refl
-  lowered_same (expr_truth t) p = refl
-  lowered_same (expr_var x) p = refl
-  lowered_same (expr_set_of es) p = ap expr_set_of (all_lowered_same es p)
-  lowered_same (expr_tuple es) p = ap expr_tuple (all_lowered_same es p)
-  lowered_same (expr_neg a) p = ap expr_neg (lowered_same a p)
-  lowered_same (expr_not a) p = ap expr_not (lowered_same a p)
-  lowered_same (expr_abs a) p = ap expr_abs (lowered_same a p)
-  lowered_same (expr_binary op a b) p = rw (lowered_same a p.0, lowered_same b p.1) refl
-  lowered_same (expr_divides k a) p = ap (λ c. expr_divides k c) (lowered_same a p)
-  lowered_same (expr_div a k) p = ap (λ c. expr_div c k) (lowered_same a p)
-  lowered_same (expr_mod a k) p = ap (λ c. expr_mod c k) (lowered_same a p)
-  lowered_same (expr_card a) p = ap expr_card (lowered_same a p)
-  lowered_same (expr_if t a b) p = rw (lowered_same t p.0, lowered_same a p.1, lowered_same b p.2) refl
-  lowered_same (expr_call f es) p = ap (λ cs. expr_call f cs) (all_lowered_same es p)
-  lowered_same (expr_let n a b) p = rw (lowered_same a p.0, lowered_same b p.1) refl
-  lowered_same (expr_choose n params outputs rel) p = refl
-  lowered_same (expr_match n params a arms) p = absurd p
-
-  all_lowered_same : (es : ExprTrees) → HaveNoMatch es → all_lowered es ≡ es
-  all_lowered_same no_exprs p = refl
-  all_lowered_same (expr_more e es) p = rw (lowered_same e p.0, all_lowered_same es p.1) refl
 
 -- ---- lists that grow
 pub pick_then : (X Y : Type 0) (b : Bool) → b ≡ true → X → MatchBool b X Y

@@ -9,10 +9,10 @@ use Rattle.cf_tree.specs.declared.base.Base.TheVariants.{Int}
 use Rattle.cf_tree.specs.declared.raw.BinOp.TheVariants.{Or}
 use Rattle.cf_tree.specs.DefView.{DefTree}
 use Rattle.cf_tree.specs.ExprTree.{ExprTree, expr_lit, expr_truth, expr_var, expr_set_of, expr_tuple, expr_neg, expr_not, expr_abs, expr_binary, expr_divides, expr_div, expr_mod, expr_card, expr_if, expr_call, expr_let, expr_choose, expr_match, ExprTrees, no_exprs, expr_more, match_arm, MatchArmTrees, no_match_arms, match_arm_more}
-use Rattle.cf_tree.specs.RelTree.{rel_false, rel_compare}
+use Rattle.cf_tree.specs.RelTree.{rel_false}
 use Rattle.cf_linear.specs.declared.refusal.Refusal.{Refusal}
 use Rattle.cf_program.specs.Lowered.{divisor, test_by, test, with_variables, any_test, any_fits, unless_last, lowered, all_lowered, picked}
-use Rattle.cf_program.specs.Names.{bases_of}
+use Rattle.cf_program.specs.Names.{bases_of, names_of}
 use Rattle.cf_program.specs.TypedProgram.{arm_numbers, numbers, numbers_all, numbers_arms, all_numbers}
 use Rattle.cf_build.specs.Questions.{Question, questions, questions_all, all_questions, limit_of, IsFirstRefused}
 
@@ -156,7 +156,7 @@ mutual
   numbered (expr_choose n scope outputs rel) = numbered_one _
   numbered (expr_match n scope a arms) =
       let x = length scope - 1 in
-      let whole : Question = record { number = n; scope = bases_of scope; outputs = Int ∷ []; relation = rel_false } in
+      let whole : Question = record { number = n; names = names_of scope; scope = bases_of scope; outputs = Int ∷ []; relation = rel_false } in
       rw (fits_none x arms) (
       numbered_both _ _ (n ∷ numbers a) (numbers_arms arms)
       (numbered_turned (whole ∷ []) (questions (lowered a)) (n ∷ numbers a) (numbered_both (whole ∷ []) _ (n ∷ []) (numbers a) (numbered_one whole) (numbered a)))

@@ -1,5 +1,5 @@
 -- A code that is picked runs as its source picks.
-use Rattle.std.proofs.Common.{◌≡◌, ℕ, ◌<◌, ◌≤◌, Option, Some, None, List, [], ◌∷◌, map, reverse, refl, ap, ◌∙◌, subst, arith, All}
+use Rattle.std.proofs.Common.{◌≡◌, ℕ, ◌<◌, ◌≤◌, Option, Some, None, List, [], ◌∷◌, reverse, refl, ap, ◌∙◌, subst, arith, All}
 use Rattle.std.proofs.lemmas.List.Elements.{All-head, All-tail}
 use Rattle.cf_num.specs.Limit.{limit}
 use Rattle.cf_tree.specs.CodeTree.{CodeTree}
@@ -12,7 +12,8 @@ use Rattle.cf_growth.proofs.PickLaws.{picks_are_near}
 use Rattle.cf_build.specs.Runs.{lowered_bodies, RunsAsPicked}
 use Rattle.cf_program.specs.NoMatch.{HasNoMatch}
 use Rattle.cf_build.proofs.PickedPaths.{IsPickedBy}
-use Rattle.cf_build.proofs.Programs.{bodies, lowered_same}
+use Rattle.cf_match.proofs.NoMatchLaws.{lowered_same}
+use Rattle.cf_build.proofs.Programs.{bodies}
 
 pub bodies_lowered : (ds : List DefTree) → All (λ d. HasNoMatch d.body) ds → lowered_bodies ds ≡ bodies ds
 bodies_lowered [] p = refl
@@ -29,12 +30,12 @@ over_none None q h l = refl
 over_none (Some o) q h l = absurd (not_both limit q.peak l (h.within o refl))
 
 pub runs_as_picked : (defs : List DefTree) (main : ℕ) (code : CodeTree) (env : List Value) (bs : List ExprTree) → bs ≡ reverse (lowered_bodies defs) →
-    IsPickedBy (picked_call bs main env) (path code env) → IsFineCall bs main env → RunsAsPicked defs main code env
+    IsPickedBy (picked_call bs main env) (path code env) → IsFineCall bs main env → RunsAsPicked defs main 0 code env
 runs_as_picked defs main code env bs e h k =
     let picks = subst (λ cs. IsPickedBy (picked_call cs main env) (path code env)) e h in
     let near = picks_are_near (lowered_bodies defs) main env (subst (λ cs. IsFineCall cs main env) e k) in
     record {
       outcome = λ o q. (picks.within o q, picks.same o q);
-      overflow = λ q. picks.over q;
+      overflow = λ _ q. picks.over q;
       near = λ l. near.overflows (over_none (picked_call (reverse (lowered_bodies defs)) main env) (path code env) picks l);
     }

@@ -1,68 +1,154 @@
--- Chooses that are solved in order, and the first that is refused.
-use Rattle.std.proofs.Common.{◌≡◌, ℕ, nat_eq, false, Some, None, List, [], ◌∷◌, ◌++◌, map, All, Contains, inl, inr, refl, ap, arith}
+-- Chooses that are solved in order, the first that is refused, and the codes of solved ones.
+use Rattle.std.proofs.Common.{◌≡◌, ℕ, zero, suc, ◌<◌, nat_eq, false, Some, None, List, [], ◌∷◌, ◌++◌, length, map, take, get_or, All, Contains, refl, sym, ap, ◌∙◌, subst, arith}
 use Rattle.std.proofs.lemmas.Bool.{eq-eqb}
-use Rattle.std.proofs.lemmas.List.Elements.{All-nil, All-cons, All-head, All-tail, All-contains, Contains-append_left, Contains-push, Contains-push_cases}
+use Rattle.std.proofs.lemmas.List.Elements.{All-nil, All-cons, All-head, All-tail, All-contains}
 use Rattle.std.specs.List.{IsDistinct, AllByRecursion}
-use Rattle.cf_tree.specs.CodeTree.{CodeTree}
+use Rattle.std.specs.List.Sorted.{IsStrictlyIncreasing}
+use Rattle.cf_tree.specs.CodeTree.{CodeTree, arms_of}
+use Rattle.cf_tree.specs.CodeView.{arm_trees}
+use Rattle.cf_tree.specs.RelView.{rel_tree}
+use Rattle.cf_tree.specs.Spelled.{IsSpelled}
 use Rattle.cf_linear.specs.declared.refusal.Refusal.{Refusal}
-use Rattle.cf_build.specs.Codes.{numbered, solved_in}
-use Rattle.cf_build.specs.Questions.{Question, limit_of, IsFirstRefused}
-use Rattle.cf_build.specs.Solves.{AreSolved, IsSolveOf, IsNext, stays, earlier}
+use Rattle.cf_linear.specs.Chooses.{arms, limit}
+use Rattle.cf_choose.specs.Solved.{ArmsSolve}
+use Rattle.cf_build.specs.declared.chooses.Choose.{Choose}
+use Rattle.cf_build.specs.declared.solves.SolvedChoose.{SolvedChoose}
+use Rattle.cf_build.specs.Codes.{numbered, solved_in, solve_code}
+use Rattle.cf_build.specs.declared.fault.BuildFault.{BuildFault}
+use Rattle.cf_build.specs.declared.fault.BuildFault.TheVariants as faults
+use Rattle.cf_build.specs.Questions.{Question, by_number, limit_of, question_arms, solve_of, IsFirstRefused}
+use Rattle.cf_build.specs.Solves.{question_of, AreSolved, AreCodes, IsSolved, IsSolveOf, IsRising, FaultAnswer}
+use Rattle.cf_build.proofs.NumberOrder.{ordered_has, ordered_from, rising_increases}
 
-pub solved_push : (qs : List Question) (ss : List (ℕ × CodeTree)) (q : Question) (s : ℕ × CodeTree) → AreSolved qs ss → s.0 ≡ q.number → IsSolveOf q s.1 → AreSolved (qs ++ q ∷ []) (ss ++ s ∷ [])
-solved_push [] [] q s h n c = (n, c, tt)
-solved_push [] (t ∷ ss) q s h n c = absurd h
-solved_push (p ∷ qs) [] q s h n c = absurd h
-solved_push (p ∷ qs) (t ∷ ss) q s h n c = (h.0, h.1, solved_push qs ss q s h.2 n c)
+pub solved_push : (qs : List Question) (ss : List SolvedChoose) (q : Question) (s : SolvedChoose) → AreSolved qs ss → IsSolved q s →
+    AreSolved (qs ++ q ∷ []) (ss ++ s ∷ [])
+solved_push [] [] q s h k = (k, tt)
+solved_push [] (t ∷ ss) q s h k = absurd h
+solved_push (p ∷ qs) [] q s h k = absurd h
+solved_push (p ∷ qs) (t ∷ ss) q s h k = (h.0, solved_push qs ss q s h.1 k)
 
--- no solved choose is refused
-pub solved_limits : (qs : List Question) (ss : List (ℕ × CodeTree)) → AreSolved qs ss → All (λ q. limit_of q ≡ None) qs
-solved_limits [] ss h = All-nil (λ q. limit_of q ≡ None)
-solved_limits (q ∷ qs) [] h = absurd h
-solved_limits (q ∷ qs) (s ∷ ss) h = All-cons (λ q. limit_of q ≡ None) q qs h.1.within (solved_limits qs ss h.2)
+-- a solved choose passes no limit
+solved_limit : (q : Question) (s : SolvedChoose) → IsSolved q s → limit_of q ≡ None
+solved_limit q s h =
+    let o = h.solved in
+    let within : limit q.scope q.outputs q.relation ≡ None = rw (← o.same_scope, ← o.same_outputs, ← o.same_relation) o.solved.within in within
 
--- the first refusal behind solved chooses
-pub refused_behind : (qs : List Question) (ss : List (ℕ × CodeTree)) (q : Question) (r : Refusal) → AreSolved qs ss → limit_of q ≡ Some r → IsFirstRefused (qs ++ q ∷ []) q.number r
-refused_behind qs ss q r h e = record {
-  refused = (q, Contains-push qs q, refl, e);
-  first = λ p c less.
-      elim (Contains-push_cases qs q p c) as (λ _. limit_of p ≡ None) [
-        | inl m ↦ All-contains (λ x. limit_of x ≡ None) qs p (solved_limits qs ss h) m
-        | inr same ↦ let f = ap (λ x. x.number) same in absurd (omega (arith, f, less))
-      ];
+-- ---- the first that is refused
+refused_here : (q : Question) (qs : List Question) (r : Refusal) → All (λ p. q.number < p.number) qs → limit_of q ≡ Some r → IsFirstRefused (q ∷ qs) q.number r
+refused_here q qs r less e = record {
+  refused = (q, (0, omega arith, refl), refl, e);
+  first = λ p c l. not_before q qs less p c l;
+}
+  where
+    not_before : (q : Question) (qs : List Question) → All (λ p. q.number < p.number) qs → (p : Question) → Contains (q ∷ qs) p → p.number < q.number →
+        limit_of p ≡ None
+    not_before q qs less p (zero, m, e) l = let same = ap (λ x. x.number) e in absurd (omega (arith, same, l))
+    not_before q qs less p (suc k, m, e) l =
+        let more : q.number < p.number = All-contains (λ x. q.number < x.number) qs p less (k, omega (arith, m), e) in
+        absurd (omega (arith, more, l))
+
+refused_later : (q : Question) (qs : List Question) (n : ℕ) (r : Refusal) → limit_of q ≡ None → IsFirstRefused qs n r → IsFirstRefused (q ∷ qs) n r
+refused_later q qs n r e h = record {
+  refused = let p = h.refused in let c = p.1 in (p.0, (suc c.0, omega (arith, c.1), c.2), p.2, p.3);
+  first = λ p c l. before q qs n e h.first p c l;
+}
+  where
+    before : (q : Question) (qs : List Question) (n : ℕ) → limit_of q ≡ None → ((p : Question) → Contains qs p → p.number < n → limit_of p ≡ None) →
+        (p : Question) → Contains (q ∷ qs) p → p.number < n → limit_of p ≡ None
+    before q qs n e f p (zero, m, same) l = rw (← same) e
+    before q qs n e f p (suc k, m, same) l = f p (k, omega (arith, m), same) l
+
+-- where the numbers rise, the first that is met behind solved ones is the first that is refused
+refused_at : (cs : List Choose) (i : ℕ) (c : Choose) (ss : List SolvedChoose) (r : Refusal) → IsRising (map question_of cs) → i < length cs →
+    c ≡ get_or cs i c → AreSolved (map question_of (take i cs)) ss →
+    limit_of (question_of c) ≡ Some r → IsFirstRefused (map question_of cs) c.number r
+refused_at [] i c ss r up l is h e = absurd (omega (arith, l))
+refused_at (d ∷ cs) zero c ss r up l is h e =
+    let same : c ≡ d = is in
+    subst (λ x. IsFirstRefused (map question_of (d ∷ cs)) x.number r) (sym same)
+    (refused_here (question_of d) (map question_of cs) r up.0 (subst (λ x. limit_of (question_of x) ≡ Some r) same e))
+refused_at (d ∷ cs) (suc i) c [] r up l is h e = absurd h
+refused_at (d ∷ cs) (suc i) c (s ∷ ss) r up l is h e =
+    refused_later (question_of d) (map question_of cs) c.number r (solved_limit (question_of d) s h.0) (refused_at cs i c ss r up.1 (omega (arith, l)) is h.1 e)
+
+pub refused_alone : (q : Question) (r : Refusal) → limit_of q ≡ Some r → IsFirstRefused (q ∷ []) q.number r
+refused_alone q r e = refused_here q [] r (All-nil (λ p. q.number < p.number)) e
+
+alone : (q p : Question) (n : ℕ) (r : Refusal) → Contains (q ∷ []) p → p.number ≡ n → limit_of p ≡ Some r → (q.number ≡ n) × (limit_of q ≡ Some r)
+alone q p n r (zero, l, e) f g = rw e (f, g)
+alone q p n r (suc k, l, e) f g = absurd (omega (arith, l))
+
+pub fault_at : (cs : List Choose) (i : ℕ) (c : Choose) (ss : List SolvedChoose) (fault : BuildFault) → IsRising (map question_of cs) → i < length cs →
+    c ≡ get_or cs i c → AreSolved (map question_of (take i cs)) ss → FaultAnswer (question_of c ∷ []) fault → FaultAnswer (map question_of cs) fault
+fault_at cs i c ss (faults.Choose n r) up l is h f =
+    let p = f.refused in
+    let one = alone (question_of c) p.0 n r p.1 p.2 p.3 in
+    subst (λ m. IsFirstRefused (map question_of cs) m r) one.0 (refused_at cs i c ss r up l is h one.1)
+fault_at cs i c ss faults.NoMemory up l is h f = tt
+
+-- the first in the order of the numbers is the first in any order
+refused_in_order : (qs : List Question) (n : ℕ) (r : Refusal) → IsFirstRefused (by_number qs) n r → IsFirstRefused qs n r
+refused_in_order qs n r h = record {
+  refused = let p = h.refused in (p.0, ordered_from qs p.0 p.1, p.2, p.3);
+  first = λ p c l. h.first p (ordered_has qs p c) l;
 }
 
-pub next_refused : (qs : List Question) (q : Question) (n m : ℕ) (r s : Refusal) → IsFirstRefused qs n r → IsNext q n r m s → IsFirstRefused (qs ++ q ∷ []) m s
-next_refused qs q n m r s h (stays f) = record {
-  refused = (h.refused.0, Contains-append_left qs (q ∷ []) h.refused.0 h.refused.1, h.refused.2, h.refused.3);
-  first = λ p c less.
-      elim (Contains-push_cases qs q p c) as (λ _. limit_of p ≡ None) [
-        | inl k ↦ h.first p k less
-        | inr same ↦ rw (← same) (f (rw (← same) at less))
-      ];
-}
-next_refused qs q n m r s h (earlier l e) = record {
-  refused = (q, Contains-push qs q, refl, e);
-  first = λ p c less.
-      elim (Contains-push_cases qs q p c) as (λ _. limit_of p ≡ None) [
-        | inl k ↦ h.first p k (omega (arith, less, l))
-        | inr same ↦ let f = ap (λ x. x.number) same in absurd (omega (arith, f, less))
-      ];
-}
+pub fault_in_order : (qs : List Question) (fault : BuildFault) → FaultAnswer (by_number qs) fault → FaultAnswer qs fault
+fault_in_order qs (faults.Choose n r) h = refused_in_order qs n r h
+fault_in_order qs faults.NoMemory h = tt
+
+-- ---- the codes of solved chooses
+solve_is : (q : Question) (s : SolvedChoose) → IsSolved q s → IsSolveOf q (solve_code s).1
+solve_is q s h =
+    let o = h.solved in
+    let k = o.solved in
+    let found : arms s.solved.scope.items s.solved.outputs.items (rel_tree s.solved.rel) ≡ arms q.scope q.outputs q.relation =
+    rw (o.same_scope, o.same_outputs, o.same_relation) refl in
+    let moved : ArmsSolve q.scope q.outputs q.relation (arm_trees s.solved.arms.items) = rw (← o.same_scope, ← o.same_outputs, ← o.same_relation) k.solve in
+    let solves : ArmsSolve q.scope q.outputs q.relation (question_arms q) =
+    subst (λ ts. ArmsSolve q.scope q.outputs q.relation (arms_of ts)) (k.arms_are ∙ found) moved in
+    let code : (solve_code s).1 ≡ solve_of q = rw (h.number, found) refl in
+    record {
+      code = code;
+      within = solved_limit q s h;
+      solved = solves;
+      spelled = subst (λ c. IsSpelled c) (sym code) ((h.asked.positive, h.fits), solves.spelled h.asked.several);
+    }
+
+pub solved_codes : (qs : List Question) (ss : List SolvedChoose) → AreSolved qs ss → AreCodes qs (map solve_code ss)
+solved_codes [] [] h = tt
+solved_codes [] (s ∷ ss) h = absurd h
+solved_codes (q ∷ qs) [] h = absurd h
+solved_codes (q ∷ qs) (s ∷ ss) h = (h.0.number, solve_is q s h.0, solved_codes qs ss h.1)
+
+-- solved chooses have the numbers of those that were asked
+pub solved_numbers : (qs : List Question) (ss : List SolvedChoose) → AreSolved qs ss → map (λ s. s.number) ss ≡ map (λ q. q.number) qs
+solved_numbers [] [] h = refl
+solved_numbers [] (s ∷ ss) h = absurd h
+solved_numbers (q ∷ qs) [] h = absurd h
+solved_numbers (q ∷ qs) (s ∷ ss) h = rw (h.0.number, solved_numbers qs ss h.1) refl
+
+pub solved_rise : (qs : List Question) (ss : List SolvedChoose) → IsRising qs → AreSolved qs ss → IsStrictlyIncreasing (map (λ s. s.number) ss)
+solved_rise qs ss r h = subst IsStrictlyIncreasing (sym (solved_numbers qs ss h)) (rising_increases qs r)
 
 -- ---- the code of a choose is found by its number
 found_later : (n : ℕ) (c : CodeTree) (ss : List (ℕ × CodeTree)) (qs : List Question) → AllByRecursion (λ m. nat_eq n m ≡ false) (map (λ q. q.number) qs) →
     All (λ q. IsSolveOf q (numbered ss q.number)) qs → All (λ q. IsSolveOf q (numbered ((n, c) ∷ ss) q.number)) qs
 found_later n c ss [] h k = All-nil (λ q. IsSolveOf q (numbered ((n, c) ∷ ss) q.number))
 found_later n c ss (q ∷ qs) h k =
-    All-cons (λ q. IsSolveOf q (numbered ((n, c) ∷ ss) q.number)) q qs (rw (h.0) (All-head (λ q. IsSolveOf q (numbered ss q.number)) q qs k)) (found_later n c ss qs h.1 (All-tail (λ q. IsSolveOf q (numbered ss q.number)) q qs k))
+    All-cons (λ q. IsSolveOf q (numbered ((n, c) ∷ ss) q.number)) q qs
+    (rw (h.0) (All-head (λ q. IsSolveOf q (numbered ss q.number)) q qs k))
+    (found_later n c ss qs h.1 (All-tail (λ q. IsSolveOf q (numbered ss q.number)) q qs k))
 
-found_all : (qs : List Question) (ss : List (ℕ × CodeTree)) → AreSolved qs ss → IsDistinct nat_eq (map (λ q. q.number) qs) → All (λ q. IsSolveOf q (numbered ss q.number)) qs
+found_all : (qs : List Question) (ss : List (ℕ × CodeTree)) → AreCodes qs ss → IsDistinct nat_eq (map (λ q. q.number) qs) →
+    All (λ q. IsSolveOf q (numbered ss q.number)) qs
 unfolding IsDistinct
 found_all [] ss h d = All-nil (λ q. IsSolveOf q (numbered ss q.number))
 found_all (q ∷ qs) [] h d = absurd h
 found_all (q ∷ qs) ((n, c) ∷ ss) h d =
-    All-cons (λ q. IsSolveOf q (numbered ((n, c) ∷ ss) q.number)) q qs (rw (eq-eqb n q.number h.0) h.1) (found_later n c ss qs (rw (h.0) d.0) (found_all qs ss h.2 d.1))
+    All-cons (λ q. IsSolveOf q (numbered ((n, c) ∷ ss) q.number)) q qs
+    (rw (eq-eqb n q.number h.0) h.1) (found_later n c ss qs (rw (h.0) d.0) (found_all qs ss h.2 d.1))
 
-pub solved_found : (qs : List Question) (ss : List (ℕ × CodeTree)) → AreSolved qs ss → IsDistinct nat_eq (map (λ q. q.number) qs) → (q : Question) → Contains qs q → IsSolveOf q (solved_in ss q)
+pub solved_found : (qs : List Question) (ss : List (ℕ × CodeTree)) → AreCodes qs ss → IsDistinct nat_eq (map (λ q. q.number) qs) → (q : Question) →
+    Contains qs q → IsSolveOf q (solved_in ss q)
 solved_found qs ss h d q c = All-contains (λ x. IsSolveOf x (solved_in ss x)) qs q (found_all qs ss h d) c

@@ -6,19 +6,19 @@ use Rattle.cf_tree.specs.Allowed.{ProgramAllows}
 use Rattle.cf_tree.specs.CodeTree.{CodeTree}
 use Rattle.cf_tree.specs.CodeView.{code_tree}
 use Rattle.cf_tree.specs.DefView.{DefTree}
-use Rattle.cf_tree.specs.Meaning.{means}
+use Rattle.cf_tree.specs.Meaning.{path, means}
 use Rattle.cf_tree.specs.Spelled.{HasSpelling}
 use Rattle.cf_tree.specs.Typing.{IsWellTyped}
 use Rattle.cf_tree.specs.Values.{Value, Outcome, HaveBases}
+use Rattle.cf_pass.specs.Improves.{IsNoWorse}
 use Rattle.cf_program.specs.Lowered.{lowered_def}
 use Rattle.cf_program.specs.Names.{bases_of}
 use Rattle.cf_growth.specs.Meeting.{AreSmall}
 use Rattle.cf_build.specs.declared.fault.BuildFault.{BuildFault}
-use Rattle.cf_build.specs.declared.fault.BuildFault.TheVariants.{Choose, NoMemory}
 use Rattle.cf_build.specs.Codes.{called, codes_behind}
-use Rattle.cf_build.specs.Questions.{Question, solve_of, all_questions, IsFirstRefused}
+use Rattle.cf_build.specs.Questions.{Question, solve_of, all_questions}
 use Rattle.cf_build.specs.Runs.{RunsAsPicked}
-use Rattle.cf_build.specs.Solves.{IsSolveOf}
+use Rattle.cf_build.specs.Solves.{IsSolveOf, FaultAnswer}
 
 -- what the functions of a program allow a call of function number f to do
 abbrev pub SourceAllows : List DefTree → ℕ → List Value → Outcome → Type 0
@@ -28,20 +28,20 @@ SourceAllows defs f = ProgramAllows (map (λ d. d.body) defs) f
 abbrev pub unfolded_code : List DefTree → ℕ → CodeTree
 unfolded_code defs main = called (codes_behind solve_of [] (map lowered_def defs)) main
 
--- a target with main's parameters and results and main's unfolded code, which is well typed and has a spelling; each choose of the program is within
--- the limits, and its arms solve it; in each environment the target has an outcome that the source allows, and where no number in it passes 2^127 - 1,
--- the target runs as the source picks
-pub record IsBuilt (defs : List DefTree) (main : ℕ) (t : RawTarget) : Type 0 where
+-- a target with main's parameters and results, whose code is main's unfolded code, rewritten by so many passes: it is that code where there are none,
+-- and else means the same in each environment and meets no greater number; it is well typed and has a spelling; each choose of the program is within the
+-- limits, and its arms solve it; in each environment the target has an outcome that the source allows, and it runs as the source picks
+pub record IsBuilt (defs : List DefTree) (main passes : ℕ) (t : RawTarget) : Type 0 where
   pub like_main : (d : DefTree) × (slice_get defs main ≡ Some d) × (t.params.items ≡ bases_of d.params) × (t.results.items ≡ d.results)
-  pub unfolded : code_tree t.code ≡ unfolded_code defs main
+  pub unfolded : passes ≡ 0 → code_tree t.code ≡ unfolded_code defs main
+  pub rewritten : (env : List Value) → HaveBases t.params.items env → IsNoWorse (path (unfolded_code defs main) env) (path (code_tree t.code) env)
   pub typed : IsWellTyped t
   pub spelled : HasSpelling t
   pub solved : (q : Question) → Contains (all_questions defs) q → IsSolveOf q (solve_of q)
   pub allowed : (env : List Value) → HaveBases t.params.items env → SourceAllows defs main env (means (code_tree t.code) env)
-  pub runs : (env : List Value) → HaveBases t.params.items env → AreSmall limit env → RunsAsPicked defs main (code_tree t.code) env
+  pub runs : (env : List Value) → HaveBases t.params.items env → AreSmall limit env → RunsAsPicked defs main passes (code_tree t.code) env
 
--- the target of a program, or its first choose that is refused, or want of memory
-abbrev pub BuildAnswer : List DefTree → ℕ → Result RawTarget BuildFault → Type 0
-BuildAnswer defs main (Ok t) = IsBuilt defs main t
-BuildAnswer defs main (Err (Choose n r)) = IsFirstRefused (all_questions defs) n r
-BuildAnswer defs main (Err NoMemory) = Unit {0}
+-- the target of a program, rewritten by so many passes, or its first choose that is refused, or want of memory
+abbrev pub BuildAnswer : List DefTree → ℕ → ℕ → Result RawTarget BuildFault → Type 0
+BuildAnswer defs main passes (Ok t) = IsBuilt defs main passes t
+BuildAnswer defs main passes (Err fault) = FaultAnswer (all_questions defs) fault

@@ -2,12 +2,15 @@
 use Rattle.std.specs.Prelude.{ℕ, ◌+◌, List, [], ◌∷◌, ◌++◌, length, slice_get, Option, Some, None, ◌==◌, if◌then◌else◌}
 use Rattle.cf_tree.specs.declared.raw.BinOp.{BinOp}
 use Rattle.cf_tree.specs.declared.raw.BinOp.TheVariants.{Add, Sub, Mul, And, Or, Union, Inter, Diff, Subset, Compare}
-use Rattle.cf_tree.specs.CodeTree.{CodeTree, code_lit, code_truth, code_var, code_set_of, code_tuple, code_sum, code_sub, code_mul, code_neg, code_div, code_mod, code_max, code_compare, code_divides, code_and, code_or, code_not, code_union, code_inter, code_diff, code_subset, code_card, code_if, code_let, CodeTrees, no_codes, code_more, count}
+use Rattle.cf_tree.specs.CodeTree.{CodeTree, code_lit, code_truth, code_var, code_set_of, code_tuple, code_sum, code_sub, code_mul, code_neg, code_div, code_mod, code_max, code_compare, code_divides, code_and, code_or, code_not, code_union, code_inter, code_diff, code_subset, code_card, code_if, code_let, code_solve, arms_of, CodeTrees, no_codes, code_more, count}
 use Rattle.cf_tree.specs.DefView.{DefTree}
 use Rattle.cf_tree.specs.ExprTree.{ExprTree, expr_lit, expr_truth, expr_var, expr_set_of, expr_tuple, expr_neg, expr_not, expr_abs, expr_binary, expr_divides, expr_div, expr_mod, expr_card, expr_if, expr_call, expr_let, expr_choose, expr_match, ExprTrees, no_exprs, expr_more}
 use Rattle.cf_tree.specs.CodeView.{code_tree}
-use Rattle.cf_build.specs.declared.solves.ChooseCode.{ChooseCode}
-use Rattle.cf_program.specs.Names.{bases_of}
+use Rattle.cf_tree.specs.RelView.{rel_tree}
+use Rattle.cf_linear.specs.Chooses.{arms}
+use Rattle.cf_build.specs.declared.choose_codes.ChooseCode.{ChooseCode}
+use Rattle.cf_build.specs.declared.solves.SolvedChoose.{SolvedChoose}
+use Rattle.cf_program.specs.Names.{bases_of, names_of}
 use Rattle.cf_build.specs.Questions.{Question}
 use Rattle.cf_build.specs.Shifted.{shifted}
 
@@ -75,7 +78,7 @@ abbrev mutual
   code_of calls solves n (expr_if t a b) = code_if (code_of calls solves n t) (code_of calls solves n a) (code_of calls solves n b)
   code_of calls solves n (expr_call f es) = call_code n (codes_of_all calls solves n es) (shifted n (calls f))
   code_of calls solves n (expr_let m a b) = code_let n m (code_of calls solves n a) (code_of calls solves (n + m) b)
-  code_of calls solves n (expr_choose m scope outputs rel) = solves (record { number = m; scope = bases_of scope; outputs = outputs; relation = rel })
+  code_of calls solves n (expr_choose m scope outputs rel) = solves (record { number = m; names = names_of scope; scope = bases_of scope; outputs = outputs; relation = rel })
   code_of calls solves n (expr_match m scope a arms) = code_tuple no_codes
 
   pub codes_of_all : (ℕ → CodeTree) → (Question → CodeTree) → ℕ → ExprTrees → CodeTrees
@@ -93,6 +96,10 @@ called codes f = or_nothing (slice_get codes f)
 
 abbrev pub choose_code : ChooseCode → ℕ × CodeTree
 choose_code c = (c.number, code_tree c.code)
+
+-- the solve of a solved choose
+abbrev pub solve_code : SolvedChoose → ℕ × CodeTree
+solve_code s = (s.number, code_solve s.number (arms_of (arms s.solved.scope.items s.solved.outputs.items (rel_tree s.solved.rel))))
 
 -- the code of choose number m
 abbrev pub numbered : List (ℕ × CodeTree) → ℕ → CodeTree

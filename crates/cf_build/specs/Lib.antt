@@ -1,6 +1,8 @@
 pub mod Built
 pub mod Codes
+pub mod Lowering
 pub mod Questions
+pub mod Rewritten
 pub mod Runs
 pub mod Shifted
 pub mod Solves

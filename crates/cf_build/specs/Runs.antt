@@ -13,9 +13,9 @@ use Rattle.cf_growth.specs.Overflowing.{picked, MayOverflow}
 abbrev pub lowered_bodies : List DefTree → List ExprTree
 lowered_bodies defs = map (λ d. lowered d.body) defs
 
--- where the source picks an outcome, the code means it within the limit; where what it picks overflows, the code passes the limit; and that is only
--- where a near path of the source may overflow
-pub record RunsAsPicked (defs : List DefTree) (main : ℕ) (code : CodeTree) (env : List Value) : Type 0 where
+-- where the source picks an outcome, the code means it within the limit; where what it picks overflows, the code passes the limit, if no pass has rewritten
+-- it; and that is only where a near path of the source may overflow
+pub record RunsAsPicked (defs : List DefTree) (main passes : ℕ) (code : CodeTree) (env : List Value) : Type 0 where
   pub outcome : (o : Outcome) → picked (lowered_bodies defs) main env ≡ Some o → (peak code env ≤ limit) × (means code env ≡ o)
-  pub overflow : picked (lowered_bodies defs) main env ≡ None → limit < peak code env
+  pub overflow : passes ≡ 0 → picked (lowered_bodies defs) main env ≡ None → limit < peak code env
   pub near : limit < peak code env → MayOverflow (lowered_bodies defs) main env

@@ -1,20 +1,26 @@
 //! Building a target.
-ghost use Rattle.std.specs.Prelude.{◌≡◌, [], IfOk, map, length, All};
+ghost use Rattle.std.specs.Prelude.{◌≡◌, ◌+◌, [], IfOk, IfErr, map, length, All};
+ghost use Rattle.std.specs.List.Sorted.{IsStrictlyIncreasing};
 ghost use Rattle.cf_tree.specs.CodeView.{code_tree};
 ghost use Rattle.cf_tree.specs.DefView.{def_tree};
 ghost use Rattle.cf_tree.specs.ExprView.{expr_tree};
-ghost use Rattle.cf_tree.specs.Typing.{IsTypedCode};
+ghost use Rattle.cf_tree.specs.RelSize.{capped};
+ghost use Rattle.cf_pass.specs.Passes.{NoneFell};
 ghost use Rattle.cf_program.specs.Names.{bases_of};
 ghost use Rattle.cf_build.specs.Built.{BuildAnswer, IsBuilt};
 ghost use Rattle.cf_build.specs.Codes.{called, choose_code, code_of, codes_behind, solved_in};
+ghost use Rattle.cf_build.specs.Questions.{all_questions, by_number};
 ghost use Rattle.cf_build.specs.Shifted.{HasLevels};
 ghost use Rattle.cf_program.specs.NoMatch.{HasNoMatch};
-ghost use Rattle.cf_build.specs.Solves.{questions_of, AreSolved};
+ghost use Rattle.cf_build.specs.Solves.{AreCodes, AreSolved};
 
-use crate::chooses::{bases, collect};
+use crate::choose_codes::{ChooseCodes, choose_codes};
+use crate::chooses::bases;
 use crate::codes::code;
 use crate::fault::BuildFault;
-use crate::solves::{ChooseCode, solve_all};
+use crate::rewrite::rewritten;
+use crate::solves::{SolvedChoose, solve_all};
+use cf_pass::Pass;
 use cf_program::typed::Typed;
 use cf_tree::code::Code;
 use cf_tree::expr::Def;
@@ -22,27 +28,68 @@ use cf_tree::memory::NoMemory;
 use cf_tree::target::{RawTarget, Target};
 use std::alloc::Global;
 
-/// The target of a program: main's body, with its calls unfolded, its matches as chooses, and each
-/// choose replaced by the `solve` with the arms of its cases. Every choose of every function is
-/// solved, called or not.
+/// The target of a program without matches: main's body, with its calls unfolded, and each choose
+/// replaced by the `solve` with the arms of its cases, and then rewritten once by each pass, in order. Every choose of every function is solved, called or not. Where a pass finds no memory, its
+/// code stands, and the next one runs.
 ///
 /// # Errors
 /// The refused choose with the least number, with the first limit that it passes; or want of memory.
-pub fn build(alloc: Global, typed: &Typed) -> Result<Target, BuildFault>
-    ensures { BuildAnswer (map def_tree typed.now.defs.items) typed.now.main result }
+#[tactic(auto, using(crate::proofs::PassLists::none_fell))]
+pub fn build(
+    alloc: Global,
+    typed: &Typed,
+    passes: &mut Vec<Box<dyn Pass>>,
+) -> Result<Target, BuildFault>
+    requires no_match { All (λ d. HasNoMatch (expr_tree d.body)) typed.now.defs.items }
+    ensures answer { BuildAnswer (map def_tree typed.now.defs.items) typed.now.main (length passes.old.items) result }
+    ensures names { map (λ p. name p) passes.new.items ≡ map (λ p. name p) passes.old.items }
+    ensures tallies { NoneFell (map (λ p. tally p) passes.old.items) (map (λ p. tally p) passes.new.items) }
+    ensures one_turn { IfOk result (λ _. map (λ p. turns p) passes.new.items ≡ map (λ p. capped (turns p + 1)) passes.old.items) }
+    ensures no_turn { IfErr result (λ _. map (λ p. turns p) passes.new.items ≡ map (λ p. turns p) passes.old.items) }
 {
-    let chooses = collect(alloc, typed.defs())?;
-    match solve_all(alloc, &chooses) {
-        Ok(solves) => Ok(main_target(alloc, typed, &solves)?),
+    match solve_all(alloc, typed) {
+        Ok(solves) => Ok(built(alloc, typed, solves, passes)?),
         Err(fault) => Err(fault),
     }
 }
 
-// The target, where the codes of all chooses are known.
-fn main_target(alloc: Global, typed: &Typed, solves: &[ChooseCode]) -> Result<Target, NoMemory>
+// The target, where all chooses are solved.
+#[tactic(auto, using(crate::proofs::PassLists::none_fell))]
+fn built(
+    alloc: Global,
+    typed: &Typed,
+    solves: Vec<SolvedChoose>,
+    passes: &mut Vec<Box<dyn Pass>>,
+) -> Result<Target, NoMemory>
     requires no_match { All (λ d. HasNoMatch (expr_tree d.body)) typed.now.defs.items }
-    requires solved { AreSolved (questions_of (map def_tree typed.now.defs.items)) (map choose_code solves.now) }
-    ensures { IfOk result (IsBuilt (map def_tree typed.now.defs.items) typed.now.main) }
+    requires solved { AreSolved (by_number (all_questions (map def_tree typed.now.defs.items))) solves.items }
+    requires rising { IsStrictlyIncreasing (map (λ s. s.number) solves.items) }
+    ensures target { IfOk result (IsBuilt (map def_tree typed.now.defs.items) typed.now.main (length passes.old.items)) }
+    ensures names { map (λ p. name p) passes.new.items ≡ map (λ p. name p) passes.old.items }
+    ensures tallies { NoneFell (map (λ p. tally p) passes.old.items) (map (λ p. tally p) passes.new.items) }
+    ensures one_turn { IfOk result (λ _. map (λ p. turns p) passes.new.items ≡ map (λ p. capped (turns p + 1)) passes.old.items) }
+    ensures no_turn { IfErr result (λ _. map (λ p. turns p) passes.new.items ≡ map (λ p. turns p) passes.old.items) }
+{
+    let raw = unfolded(alloc, typed, solves)?;
+    rewritten(alloc, raw, passes)
+}
+
+// The target before any pass, where all chooses are solved.
+fn unfolded(alloc: Global, typed: &Typed, solves: Vec<SolvedChoose>) -> Result<RawTarget, NoMemory>
+    requires no_match { All (λ d. HasNoMatch (expr_tree d.body)) typed.now.defs.items }
+    requires solved { AreSolved (by_number (all_questions (map def_tree typed.now.defs.items))) solves.items }
+    requires rising { IsStrictlyIncreasing (map (λ s. s.number) solves.items) }
+    ensures { IfOk result (IsBuilt (map def_tree typed.now.defs.items) typed.now.main 0) }
+{
+    let codes = choose_codes(alloc, solves)?;
+    main_target(alloc, typed, &codes)
+}
+
+// The target before any pass, where the codes of all chooses are known.
+fn main_target(alloc: Global, typed: &Typed, solves: &ChooseCodes) -> Result<RawTarget, NoMemory>
+    requires no_match { All (λ d. HasNoMatch (expr_tree d.body)) typed.now.defs.items }
+    requires solved { AreCodes (by_number (all_questions (map def_tree typed.now.defs.items))) (map choose_code solves.now.codes.items) }
+    ensures { IfOk result (IsBuilt (map def_tree typed.now.defs.items) typed.now.main 0) }
 {
     let mut codes = def_codes(alloc, typed.defs(), solves)?;
     let main = typed.main() as usize;
@@ -51,8 +98,8 @@ fn main_target(alloc: Global, typed: &Typed, solves: &[ChooseCode]) -> Result<Ta
 }
 
 // The codes of functions, each behind its parameters.
-fn def_codes(alloc: Global, defs: &[Def], solves: &[ChooseCode]) -> Result<Vec<Code>, NoMemory>
-    ensures codes { IfOk result (λ codes. map code_tree codes.items ≡ codes_behind (solved_in (map choose_code solves.now)) [] (map def_tree defs.now)) }
+fn def_codes(alloc: Global, defs: &[Def], solves: &ChooseCodes) -> Result<Vec<Code>, NoMemory>
+    ensures codes { IfOk result (λ codes. map code_tree codes.items ≡ codes_behind (solved_in (map choose_code solves.now.codes.items)) [] (map def_tree defs.now)) }
     ensures levels { IfOk result (λ codes. All (λ c. HasLevels (code_tree c)) codes.items) }
 {
     let mut codes = Vec::new(alloc);
@@ -67,9 +114,9 @@ fn def_code(
     alloc: Global,
     def: &Def,
     codes: &[Code],
-    solves: &[ChooseCode],
+    solves: &ChooseCodes,
 ) -> Result<Code, NoMemory>
-    ensures code { IfOk result (λ c. code_tree c ≡ code_of (called (map code_tree codes.now)) (solved_in (map choose_code solves.now)) (length def.now.params.items) (expr_tree def.now.body)) }
+    ensures code { IfOk result (λ c. code_tree c ≡ code_of (called (map code_tree codes.now)) (solved_in (map choose_code solves.now.codes.items)) (length def.now.params.items) (expr_tree def.now.body)) }
     ensures levels { IfOk result (λ c. HasLevels (code_tree c)) }
 {
     let Ok(arity) = u32::try_from(def.params.len()) else {
@@ -79,15 +126,14 @@ fn def_code(
 }
 
 // The target with this code, and a function's parameters and results.
-fn target(alloc: Global, def: &Def, code: Code) -> Result<Target, NoMemory>
-    requires { IsTypedCode (code_tree code) (bases_of def.now.params.items) def.now.results.items }
+fn target(alloc: Global, def: &Def, code: Code) -> Result<RawTarget, NoMemory>
     ensures { IfOk result (λ t. (t.params.items ≡ bases_of def.now.params.items) × (t.results.items ≡ def.now.results.items) × (code_tree t.code ≡ code_tree code)) }
 {
     let params = bases(alloc, &def.params)?;
     let results = Vec::from_slice(alloc, &def.results)?;
-    Ok(Target::new(RawTarget {
+    Ok(RawTarget {
         params,
         results,
         code,
-    }))
+    })
 }

@@ -5,32 +5,55 @@ ghost use Rattle.std.specs.Prelude.{◌≡◌, ◌++◌, IfOk, OnOk, map, All};
 ghost use Rattle.cf_tree.specs.DefView.{def_tree};
 ghost use Rattle.cf_tree.specs.ExprView.{expr_tree, expr_trees};
 ghost use Rattle.cf_tree.specs.RelView.{rel_tree};
-ghost use Rattle.cf_program.specs.Names.{bases_of};
-ghost use Rattle.cf_build.specs.Questions.{questions, questions_all};
 ghost use Rattle.cf_program.specs.NoMatch.{HasNoMatch, HaveNoMatch};
-ghost use Rattle.cf_build.specs.Solves.{question_of, questions_of};
+ghost use Rattle.cf_program.specs.Names.{bases_of, names_of};
+ghost use Rattle.cf_build.specs.Questions.{questions, questions_all, all_questions, by_number};
+ghost use Rattle.cf_build.specs.Solves.{question_of, questions_of, IsAsked, IsRising};
+ghost use Rattle.std.specs.List.Sorted.{IsNonDecreasingBy, IsPermutation};
 
-use crate::not_built;
-use cf_tree::base::Base;
+use cf_program::typed::Typed;
+use cf_tree::base::{Base, Text};
 use cf_tree::expr::{Def, Expr};
 use cf_tree::memory::NoMemory;
 use cf_tree::raw::Param;
 use cf_tree::rel::Rel;
 use std::alloc::Global;
 
-// A choose: its number, the bases of its scope and of its outputs, and its relation.
+// A choose: its number, the names of the variables in scope, their bases and those of the outputs,
+// and its relation.
 #[derive(Drop)]
 pub(crate) struct Choose {
     pub(crate) number: u32,
+    pub(crate) names: Vec<Text>,
     pub(crate) scope: Vec<Base>,
     pub(crate) outputs: Vec<Base>,
     pub(crate) rel: Rel,
 }
 
+// The chooses of a program in the order of their numbers.
+pub(crate) fn numbered(alloc: Global, typed: &Typed) -> Result<Vec<Choose>, NoMemory>
+    requires { All (λ d. HasNoMatch (expr_tree d.body)) typed.now.defs.items }
+    ensures questions { IfOk result (λ chooses. map question_of chooses.items ≡ by_number (all_questions (map def_tree typed.now.defs.items))) }
+    ensures asked { IfOk result (λ chooses. All (λ c. IsAsked (question_of c)) chooses.items) }
+    ensures rising { IfOk result (λ chooses. IsRising (map question_of chooses.items)) }
+{
+    let mut chooses = collect(alloc, typed.defs())?;
+    sort(&mut chooses);
+    Ok(chooses)
+}
+
+// Puts chooses in the order of their numbers.
+fn sort(chooses: &mut Vec<Choose>)
+    ensures order { IsNonDecreasingBy (λ c. c.number) chooses.new.items }
+    ensures same { IsPermutation chooses.old.items chooses.new.items }
+{
+    chooses.sort_unstable_by_key(|choose| choose.number);
+}
+
 // The chooses of all functions, in the order of the text.
-pub(crate) fn collect(alloc: Global, defs: &[Def]) -> Result<Vec<Choose>, NoMemory>
-    ensures questions { IfOk result (λ chooses. map question_of chooses.items ≡ questions_of (map def_tree defs.now)) }
-    ensures no_match { IfOk result (λ _. All (λ d. HasNoMatch (expr_tree d.body)) defs.now) }
+fn collect(alloc: Global, defs: &[Def]) -> Result<Vec<Choose>, NoMemory>
+    requires { All (λ d. HasNoMatch (expr_tree d.body)) defs.now }
+    ensures { IfOk result (λ chooses. map question_of chooses.items ≡ questions_of (map def_tree defs.now)) }
 {
     let mut chooses = Vec::new(alloc);
     for def in defs {
@@ -42,8 +65,8 @@ pub(crate) fn collect(alloc: Global, defs: &[Def]) -> Result<Vec<Choose>, NoMemo
 // The chooses of the expression, behind those found before.
 #[cycle(collect)]
 fn collect_expr(alloc: Global, expr: &Expr, chooses: &mut Vec<Choose>) -> Result<(), NoMemory>
-    ensures questions { OnOk result (map question_of chooses.new.items ≡ map question_of chooses.old.items ++ questions (expr_tree expr.now)) }
-    ensures no_match { OnOk result (HasNoMatch (expr_tree expr.now)) }
+    requires no_match { HasNoMatch (expr_tree expr.now) }
+    ensures { OnOk result (map question_of chooses.new.items ≡ map question_of chooses.old.items ++ questions (expr_tree expr.now)) }
 {
     match expr {
         Expr::Lit(_) | Expr::Truth(_) | Expr::Var(_) => Ok(()),
@@ -86,14 +109,15 @@ fn collect_expr(alloc: Global, expr: &Expr, chooses: &mut Vec<Choose>) -> Result
             chooses.push(copied(alloc, *number, scope, outputs, rel)?)?;
             Ok(())
         }
-        Expr::Match { .. } => Err(not_built()),
+        Expr::Match { .. } => unreachable!(),
     }
 }
 
 #[cycle(collect)]
+#[tactic(auto, using(crate::proofs::ChooseLists::choose_lists, crate::proofs::LoopSteps::none_at))]
 fn collect_all(alloc: Global, exprs: &[Expr], chooses: &mut Vec<Choose>) -> Result<(), NoMemory>
-    ensures questions { OnOk result (map question_of chooses.new.items ≡ map question_of chooses.old.items ++ questions_all (expr_trees exprs.now)) }
-    ensures no_match { OnOk result (HaveNoMatch (expr_trees exprs.now)) }
+    requires no_match { HaveNoMatch (expr_trees exprs.now) }
+    ensures { OnOk result (map question_of chooses.new.items ≡ map question_of chooses.old.items ++ questions_all (expr_trees exprs.now)) }
 {
     for expr in exprs {
         collect_expr(alloc, expr, chooses)?;
@@ -108,14 +132,26 @@ fn copied(
     outputs: &[Base],
     rel: &Rel,
 ) -> Result<Choose, NoMemory>
-    ensures { IfOk result (λ c. question_of c ≡ record { number = number; scope = bases_of scope.now; outputs = outputs.now; relation = rel_tree rel.now }) }
+    ensures { IfOk result (λ c. question_of c ≡ record { number = number; names = names_of scope.now; scope = bases_of scope.now; outputs = outputs.now; relation = rel_tree rel.now }) }
 {
     Ok(Choose {
         number,
+        names: names(alloc, scope)?,
         scope: bases(alloc, scope)?,
         outputs: Vec::from_slice(alloc, outputs)?,
         rel: rel.try_copy(alloc)?,
     })
+}
+
+// The names of parameters.
+fn names(alloc: Global, params: &[Param]) -> Result<Vec<Text>, NoMemory>
+    ensures { IfOk result (λ names. names.items ≡ names_of params.now) }
+{
+    let mut names = Vec::new(alloc);
+    for param in params {
+        names.push(param.name.try_copy(alloc)?)?;
+    }
+    Ok(names)
 }
 
 // The bases of parameters.

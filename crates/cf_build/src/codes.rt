@@ -8,9 +8,8 @@ ghost use Rattle.cf_tree.specs.ExprView.{expr_tree, expr_trees};
 ghost use Rattle.cf_build.specs.Codes.{two, over_list, over_one, binary_code, joined_code, call_code, code_of, codes_of_all, called, choose_code, numbered, solved_in};
 ghost use Rattle.cf_build.specs.Shifted.{shifted, HasLevels, HaveLevels};
 
-use crate::not_built;
+use crate::choose_codes::ChooseCodes;
 use crate::shift::{copy, level_sum, shift};
-use crate::solves::ChooseCode;
 use cf_tree::code::Code;
 use cf_tree::expr::Expr;
 use cf_tree::memory::NoMemory;
@@ -25,9 +24,9 @@ pub(crate) fn code(
     expr: &Expr,
     n: u32,
     codes: &[Code],
-    solves: &[ChooseCode],
+    solves: &ChooseCodes,
 ) -> Result<Code, NoMemory>
-    ensures code { IfOk result (λ c. code_tree c ≡ code_of (called (map code_tree codes.now)) (solved_in (map choose_code solves.now)) n (expr_tree expr.now)) }
+    ensures code { IfOk result (λ c. code_tree c ≡ code_of (called (map code_tree codes.now)) (solved_in (map choose_code solves.now.codes.items)) n (expr_tree expr.now)) }
     ensures levels { IfOk result (λ c. HasLevels (code_tree c)) }
 {
     match expr {
@@ -77,7 +76,8 @@ pub(crate) fn code(
             body: boxed(alloc, body, level_sum(n, *count)?, codes, solves)?,
         }),
         Expr::Choose { number, .. } => solve_numbered(alloc, solves, *number),
-        Expr::Match { .. } => Err(not_built()),
+        // for the proof: no match stands in a program that is built
+        Expr::Match { .. } => Ok(Code::Tuple(Vec::new(alloc))),
     }
 }
 
@@ -87,9 +87,9 @@ fn boxed(
     expr: &Expr,
     n: u32,
     codes: &[Code],
-    solves: &[ChooseCode],
+    solves: &ChooseCodes,
 ) -> Result<Box<Code>, NoMemory>
-    ensures code { IfOk result (λ c. code_tree c.value ≡ code_of (called (map code_tree codes.now)) (solved_in (map choose_code solves.now)) n (expr_tree expr.now)) }
+    ensures code { IfOk result (λ c. code_tree c.value ≡ code_of (called (map code_tree codes.now)) (solved_in (map choose_code solves.now.codes.items)) n (expr_tree expr.now)) }
     ensures levels { IfOk result (λ c. HasLevels (code_tree c.value)) }
 {
     Ok(Box::new(alloc, code(alloc, expr, n, codes, solves)?)?)
@@ -101,9 +101,9 @@ fn all(
     exprs: &[Expr],
     n: u32,
     codes: &[Code],
-    solves: &[ChooseCode],
+    solves: &ChooseCodes,
 ) -> Result<Vec<Code>, NoMemory>
-    ensures code { IfOk result (λ cs. code_trees cs.items ≡ codes_of_all (called (map code_tree codes.now)) (solved_in (map choose_code solves.now)) n (expr_trees exprs.now)) }
+    ensures code { IfOk result (λ cs. code_trees cs.items ≡ codes_of_all (called (map code_tree codes.now)) (solved_in (map choose_code solves.now.codes.items)) n (expr_trees exprs.now)) }
     ensures levels { IfOk result (λ cs. HaveLevels (code_trees cs.items)) }
 {
     let mut all = Vec::new(alloc);
@@ -244,15 +244,13 @@ fn joined(mut codes: Vec<Code>) -> Code
     }
 }
 
-// The code of choose number `number`.
-fn solve_numbered(alloc: Global, solves: &[ChooseCode], number: u32) -> Result<Code, NoMemory>
-    ensures code { IfOk result (λ c. code_tree c ≡ numbered (map choose_code solves.now) number) }
+// A copy of the code of choose number `number`.
+fn solve_numbered(alloc: Global, solves: &ChooseCodes, number: u32) -> Result<Code, NoMemory>
+    ensures code { IfOk result (λ c. code_tree c ≡ numbered (map choose_code solves.now.codes.items) number) }
     ensures levels { IfOk result (λ c. HasLevels (code_tree c)) }
 {
-    for solve in solves {
-        if solve.number == number {
-            return copy(alloc, &solve.code);
-        }
+    match solves.find(number) {
+        Some(code) => copy(alloc, code),
+        None => Ok(Code::Tuple(Vec::new(alloc))),
     }
-    Ok(Code::Tuple(Vec::new(alloc)))
 }

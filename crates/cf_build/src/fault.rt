@@ -9,7 +9,7 @@ pub enum BuildFault {
     /// The choose with this number passes a limit, and none with a smaller number does. The refusal is
     /// the first limit that it passes.
     Choose { number: u32, refusal: Refusal },
-    /// Memory ran out, or a form is not built yet.
+    /// Memory ran out.
     NoMemory,
 }
 

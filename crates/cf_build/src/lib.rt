@@ -2,15 +2,19 @@
 #![tactic(auto)]
 
 pub mod build;
+mod choose_codes;
 mod chooses;
 mod codes;
 pub mod fault;
+mod rewrite;
 mod shift;
-mod solves;
+pub mod solves;
 
-use cf_tree::memory::NoMemory;
+ghost use Rattle.cf_build.specs.Lowering.{LoweringKeepsQuestions, LoweringKeepsAnswers};
 
-// Want of memory, for a form that is not built yet.
-fn not_built() -> NoMemory {
-    NoMemory
-}
+/// What is built for a program without its matches, each as the chooses that it stands for, is
+/// built for the program.
+pub fn lowering_keeps_answers()
+    ensures questions { LoweringKeepsQuestions }
+    ensures answers { LoweringKeepsAnswers }
+{}

@@ -1,110 +1,118 @@
 //! Solving all chooses of a program.
-ghost use Rattle.std.specs.Prelude.{◌≡◌, ◌≤◌, None, IfOk, IfErr, map, length, take, All};
-ghost use Rattle.cf_tree.specs.CodeView.{code_tree};
+ghost use Rattle.std.specs.Prelude.{◌≡◌, ◌<◌, ◌^◌, [], ◌∷◌, Err, IfOk, IfErr, map, All};
+ghost use Rattle.std.specs.List.Sorted.{IsStrictlyIncreasing};
+ghost use Rattle.cf_tree.specs.DefView.{def_tree};
+ghost use Rattle.cf_tree.specs.ExprView.{expr_tree};
 ghost use Rattle.cf_tree.specs.RelView.{rel_tree};
-ghost use Rattle.cf_linear.specs.Chooses.{limit};
-ghost use Rattle.cf_build.specs.Codes.{choose_code};
-ghost use Rattle.cf_build.specs.Questions.{IsFirstRefused};
-ghost use Rattle.cf_build.specs.Solves.{question_of, IsAsked, IsSolveOf, AreSolved, QuestionAnswer, FaultAnswer, IsNext};
+ghost use Rattle.cf_choose.specs.Solved.{IsOf};
+ghost use Rattle.cf_program.specs.NoMatch.{HasNoMatch};
+ghost use Rattle.cf_build.specs.Questions.{all_questions, by_number};
+ghost use Rattle.cf_build.specs.Solves.{question_of, IsAsked, IsRising, AreSolved, QuestionAnswer, FaultAnswer};
 
-use crate::chooses::Choose;
+use crate::chooses::{Choose, numbered};
 use crate::fault::BuildFault;
 use cf_choose::fault::ChooseFault;
 use cf_choose::solve::solve;
 use cf_choose::solved::Solved;
-use cf_linear::refusal::Refusal;
-use cf_tree::code::Code;
+use cf_program::typed::Typed;
+use cf_tree::base::Text;
 use cf_tree::memory::NoMemory;
 use std::alloc::Global;
 
-// The `solve` of a choose, and its number.
+/// A solved choose of a program: its number, the names of the variables in scope by level, and its
+/// relation with the arms that solve it.
 #[derive(Drop)]
-pub(crate) struct ChooseCode {
-    pub(crate) number: u32,
-    pub(crate) code: Code,
+pub struct SolvedChoose {
+    pub number: u32,
+    pub names: Vec<Text>,
+    pub solved: Solved,
 }
 
-// A choose that is refused.
-#[derive(Clone, Copy)]
-struct Refused {
-    number: u32,
-    refusal: Refusal,
+/// The chooses of all functions of a program without matches, called or not, solved in the order of
+/// their numbers.
+///
+/// # Errors
+/// The refused choose with the least number, with the first limit that it passes; or want of memory.
+pub fn solve_all(alloc: Global, typed: &Typed) -> Result<Vec<SolvedChoose>, BuildFault>
+    requires no_match { All (λ d. HasNoMatch (expr_tree d.body)) typed.now.defs.items }
+    ensures solved { IfOk result (λ solves. AreSolved (by_number (all_questions (map def_tree typed.now.defs.items))) solves.items) }
+    ensures refused { IfErr result (FaultAnswer (all_questions (map def_tree typed.now.defs.items))) }
+    ensures rising { IfOk result (λ solves. IsStrictlyIncreasing (map (λ s. s.number) solves.items)) }
+{
+    let chooses = numbered(alloc, typed)?;
+    solve_each(alloc, &chooses)
 }
 
-// The codes of the chooses, or the refused one of the least number.
-pub(crate) fn solve_all(alloc: Global, chooses: &[Choose]) -> Result<Vec<ChooseCode>, BuildFault>
-    requires { All (λ c. IsAsked (question_of c)) chooses.now }
-    ensures solved { IfOk result (λ solves. AreSolved (map question_of chooses.now) (map choose_code solves.items)) }
+// These chooses, whose numbers rise, solved in order, or the first of them that is refused.
+fn solve_each(alloc: Global, chooses: &[Choose]) -> Result<Vec<SolvedChoose>, BuildFault>
+    requires asked { All (λ c. IsAsked (question_of c)) chooses.now }
+    requires rising { IsRising (map question_of chooses.now) }
+    ensures solved { IfOk result (λ solves. AreSolved (map question_of chooses.now) solves.items) }
     ensures refused { IfErr result (FaultAnswer (map question_of chooses.now)) }
 {
     let mut solves = Vec::new(alloc);
     for i in 0..chooses.len() {
         let choose = &chooses[i];
-        let number = choose.number;
         match solve_one(alloc, choose) {
-            Ok(code) => solves.push(ChooseCode { number, code })?,
-            Err(ChooseFault::Refused(refusal)) => {
-                return Err(first_refused(alloc, chooses, i + 1, Refused { number, refusal }));
-            }
-            Err(ChooseFault::NoMemory) => return Err(BuildFault::NoMemory),
+            Ok(solved) => solves.push(solved)?,
+            Err(fault) => return Err(refusal(choose, fault)),
         }
     }
     Ok(solves)
 }
 
-// The refused one of the least number, where it is known among those before place `seen`.
-fn first_refused(alloc: Global, chooses: &[Choose], seen: usize, refused: Refused) -> BuildFault
-    requires asked { All (λ c. IsAsked (question_of c)) chooses.now }
-    requires known { IsFirstRefused (map question_of (take seen chooses.now)) refused.number refused.refusal }
-    requires within { seen ≤ length chooses.now }
-    ensures { FaultAnswer (map question_of chooses.now) result }
-{
-    let mut first = refused;
-    for i in seen..chooses.len() {
-        match earlier(alloc, &chooses[i], first) {
-            Ok(next) => first = next,
-            Err(NoMemory) => return BuildFault::NoMemory,
-        }
-    }
-    BuildFault::Choose {
-        number: first.number,
-        refusal: first.refusal,
-    }
-}
-
-// The choose, where it has a smaller number than the first refused one and is refused too; else that one.
-fn earlier(alloc: Global, choose: &Choose, first: Refused) -> Result<Refused, NoMemory>
-    requires { IsAsked (question_of choose.now) }
-    ensures { IfOk result (λ next. IsNext (question_of choose.now) first.number first.refusal next.number next.refusal) }
+// Why this choose is not solved.
+fn refusal(choose: &Choose, fault: ChooseFault) -> BuildFault
+    requires { QuestionAnswer (question_of choose.now) (Err fault) }
+    ensures { FaultAnswer (question_of choose.now ∷ []) result }
 {
     let number = choose.number;
-    if first.number <= number {
-        return Ok(first);
-    }
-    match solve_one(alloc, choose) {
-        Ok(_) => Ok(first),
-        Err(ChooseFault::Refused(refusal)) => Ok(Refused { number, refusal }),
-        Err(ChooseFault::NoMemory) => Err(NoMemory),
+    match fault {
+        ChooseFault::Refused(refusal) => BuildFault::Choose { number, refusal },
+        ChooseFault::NoMemory => BuildFault::NoMemory,
     }
 }
 
-// The code of a choose, or its refusal.
-fn solve_one(alloc: Global, choose: &Choose) -> Result<Code, ChooseFault>
+// The choose with its arms, or its refusal.
+fn solve_one(alloc: Global, choose: &Choose) -> Result<SolvedChoose, ChooseFault>
     requires { IsAsked (question_of choose.now) }
     ensures { QuestionAnswer (question_of choose.now) result }
 {
     match solve(alloc, &choose.scope, &choose.outputs, &choose.rel) {
-        Ok(solved) => Ok(solve_code(choose.number, solved)),
+        Ok(solved) => named(alloc, choose, solved),
         Err(fault) => Err(fault),
     }
 }
 
-// The code of a solved choose.
-fn solve_code(number: u32, solved: Solved) -> Code
-    requires positive { 1 ≤ number }
-    requires several { 1 ≤ length solved.outputs.items }
-    ensures code { IsSolveOf (record { number = number; scope = solved.scope.items; outputs = solved.outputs.items; relation = rel_tree solved.rel }) (code_tree result) }
-    ensures limit { limit solved.scope.items solved.outputs.items (rel_tree solved.rel) ≡ None }
+// The solved choose with its number and the names of its scope.
+fn named(alloc: Global, choose: &Choose, solved: Solved) -> Result<SolvedChoose, ChooseFault>
+    requires asked { IsAsked (question_of choose.now) }
+    requires solved { IsOf choose.now.scope.items choose.now.outputs.items (rel_tree choose.now.rel) solved }
+    ensures { QuestionAnswer (question_of choose.now) result }
 {
-    solved.into_code(number)
+    let names = copies(alloc, &choose.names)?;
+    Ok(numbered_choose(choose.number, names, solved))
+}
+
+// A solved choose of that number.
+fn numbered_choose(number: u32, names: Vec<Text>, solved: Solved) -> SolvedChoose
+    ensures parts { result ≡ record { number = number; names = names; solved = solved } }
+    ensures fits { number < 2 ^ 32 }
+{
+    SolvedChoose {
+        number,
+        names,
+        solved,
+    }
+}
+
+// Equal texts.
+fn copies(alloc: Global, texts: &[Text]) -> Result<Vec<Text>, NoMemory>
+    ensures { IfOk result (λ copies. copies.items ≡ texts.now) }
+{
+    let mut copies = Vec::new(alloc);
+    for text in texts {
+        copies.push(text.try_copy(alloc)?)?;
+    }
+    Ok(copies)
 }

@@ -1,18 +1,28 @@
-use Rattle.std.proofs.Common.{◌≡◌, Some, refl}
-use Rattle.cf_build.specs.Questions.{limit_of}
-use Rattle.cf_build.specs.Solves.{question_of}
-use Rattle.cf_build.proofs.LoopSteps.{refused_more, solves_more}
+use Rattle.std.proofs.Common.{◌≡◌, ◌∙◌, All, IfOk, IfErr, ap, map, sym, subst}
+use Rattle.std.proofs.lemmas.Result.{IfOk-weaker, IfErr-weaker}
+use Rattle.cf_tree.specs.DefView.{def_tree}
+use Rattle.cf_build.specs.Questions.{all_questions, by_number}
+use Rattle.cf_build.specs.Solves.{question_of, AreSolved, FaultAnswer, IsAsked, IsRising}
+use Rattle.cf_build.proofs.SolveLists.{fault_in_order, solved_rise}
 use Rattle.cf_build.proofs.solves.solve_all.Goals as goal
 
-pub first_refused-requires-clause-known : goal.first_refused-requires-clause-known
-first_refused-requires-clause-known c =
-    let x = c.index-chooses-i.result in
-    let refused : limit_of (question_of x) ≡ Some c.in-Err-Refused.refusal = rw c.in-Err-Refused.field-0-is at c.in-Err-Refused.ensures in
-    rw c.in-Err-Refused.refusal-is
-    (refused_more c.args.chooses.now c.loop-i.i x c.loop-i.solves.items c.in-Err-Refused.refusal c.loop-i-test.true c.index-chooses-i.is c.loop-i.invariant refused)
+pub solve_each-requires : goal.solve_each-requires
+solve_each-requires c = record {
+  asked = subst (λ xs. All (λ x. IsAsked (question_of x)) xs) (sym c.deref.ensures.value) c.in_ok-chooses.ensures.asked;
+  rising = subst (λ xs. IsRising (map question_of xs)) (sym c.deref.ensures.value) c.in_ok-chooses.ensures.rising;
+}
 
-pub loop-i-preserved : goal.loop-i-preserved
-loop-i-preserved c =
-    let x = c.index-chooses-i.result in
-    solves_more c.args.chooses.now c.loop-i.i x c.loop-i.solves.items c.push.new.self.items _ c.loop-i-test.true c.index-chooses-i.is c.loop-i.invariant
-    c.in_ok-push-in-Ok.ensures.items refl c.in-Ok.ensures
+pub returns : goal.returns
+returns c =
+    let qs = all_questions (map def_tree c.args.typed.now.defs.items) in
+    let same : map question_of c.deref.result.now ≡ by_number qs = ap (λ xs. map question_of xs) c.deref.ensures.value ∙ c.in_ok-chooses.ensures.questions in
+    let rising : IsRising (map question_of c.deref.result.now) = subst (λ xs. IsRising (map question_of xs)) (sym c.deref.ensures.value) c.in_ok-chooses.ensures.rising in
+    record {
+      solved = subst (λ ps. IfOk c.solve_each.result (λ ss. AreSolved ps ss.items)) same c.solve_each.ensures.solved;
+      refused =
+          IfErr-weaker c.solve_each.result (FaultAnswer (by_number qs)) (FaultAnswer qs) (λ fault h. fault_in_order qs fault h)
+          (subst (λ ps. IfErr c.solve_each.result (FaultAnswer ps)) same c.solve_each.ensures.refused);
+      rising =
+          IfOk-weaker c.solve_each.result _ _ (λ ss h. solved_rise (map question_of c.deref.result.now) ss.items rising h)
+          c.solve_each.ensures.solved;
+    }

@@ -1,0 +1,6 @@
+use Rattle.std.proofs.Common.{◌≡◌, take}
+use Rattle.cf_program.specs.Names.{names_of}
+use Rattle.cf_build.proofs.chooses.names.Given as goal
+
+abbrev pub invariant-loop-param : goal.invariant-loop-param
+invariant-loop-param l = l.names.items ≡ names_of (take l.param-index l.params)
