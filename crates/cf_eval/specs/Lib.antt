@@ -8,4 +8,5 @@ pub mod Answers
 pub mod Choice
 pub mod Reached
 pub mod RunAnswers
+pub mod Quick
 pub mod Forms

@@ -2,9 +2,9 @@
 ghost use Rattle.std.specs.Prelude.{◌≡◌, ◌++◌, ◌∷◌, [], IfErr, IfOk, IfSome, OnOk, All};
 ghost use Rattle.cf_num.specs.Limit.{IsWithin, within};
 ghost use Rattle.cf_tree.specs.Values.{first_of, number};
-ghost use Rattle.cf_eval.specs.Reached.{met as met_reached, met_value, as_number};
+ghost use Rattle.cf_eval.specs.Reached.{given, met as met_reached, met_value, as_number};
 ghost use Rattle.cf_eval.specs.Seen.{plain, plains, IsFit};
-ghost use Rattle.cf_eval.specs.RunAnswers.{RunAnswer, MoreAnswer, NumberAnswer, IsGivenFit, given_items, seen_or_zero};
+ghost use Rattle.cf_eval.specs.RunAnswers.{RunAnswer, MoreAnswer, NumberAnswer, Extends, IsGivenFit, given_items, seen_or_zero};
 
 use crate::value::Value;
 use cf_set::Set;
@@ -63,6 +63,14 @@ pub fn number(z: i128) -> Given
     ensures { result ≡ Given.One (Value.Int z) }
 {
     Given::One(Value::Int(z))
+}
+
+// A number of 64 bits, which no limit stops.
+pub fn narrow_number(z: i64) -> Given
+    ensures told { result ≡ Given.One (Value.Int z) }
+    ensures fit { IsGivenFit result }
+{
+    number(i128::from(z))
 }
 
 pub fn truth(b: bool) -> Given
@@ -130,6 +138,15 @@ pub fn push_met(z: i128, all: &mut Vec<Value>) -> Result<(), Stop>
 {
     all.push(Value::Int(z))?;
     Ok(())
+}
+
+// Appends a number of 64 bits.
+pub fn push_narrow(z: i64, all: &mut Vec<Value>) -> Result<(), Stop>
+    ensures told { MoreAnswer result (plains all.old.items) (plains all.new.items) (given (number z ∷ [])) }
+    ensures fit { OnOk result (All IsFit all.old.items → All IsFit all.new.items) }
+    ensures kept { OnOk result (Extends all.old.items all.new.items) }
+{
+    push_met(i128::from(z), all)
 }
 
 // The value of a variable, met where it is a number.

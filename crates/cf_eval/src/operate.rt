@@ -6,12 +6,12 @@ ghost use Rattle.cf_tree.specs.Sets.{AreWithin, set_fresh, set_of, set_put};
 ghost use Rattle.cf_tree.specs.Values.{number, number_of, truth_of, compared, same_value};
 ghost use Rattle.cf_tree.specs.Meaning.{choose_with, joined_with, joined};
 ghost use Rattle.cf_eval.specs.Forms.{is_number_kind, is_numeric};
-ghost use Rattle.cf_eval.specs.Reached.{as_number, as_set, met as met_reached, met_set, met_value, then_reached};
+ghost use Rattle.cf_eval.specs.Reached.{as_number, as_set, met as met_reached, met_set};
 ghost use Rattle.cf_eval.specs.Seen.{plain};
-ghost use Rattle.cf_eval.specs.RunAnswers.{NumberAnswer, SetAnswer, seen_or_zero};
+ghost use Rattle.cf_eval.specs.RunAnswers.{NumberAnswer, SetAnswer};
 ghost use Rattle.cf_eval.specs.Choice.{better_of, join_of};
 
-use crate::given::{Stop, limited, met_number, met_number_of};
+use crate::given::{Stop, met_number};
 use crate::kind::Kind;
 use crate::value::Value;
 use cf_set::Set;
@@ -50,7 +50,9 @@ pub fn remain(x: i128, k: i128) -> i128
 }
 
 // The product of two numbers of 64 bits, which no limit stops.
-fn narrow_product(x: i64, y: i64) -> i128
+#[inline(always)]
+pub fn narrow_product(x: i64, y: i64) -> i128
+    ensures exact { result ≡ x *ℤ y }
     ensures value { within (x *ℤ y) ≡ Some result }
     ensures fits { IsWithin result }
 {
@@ -84,18 +86,6 @@ pub fn product(a: i128, b: i128) -> Result<i128, Stop>
         },
         Err(_) => wide_product(a, b),
     }
-}
-
-// A number times the value of a variable.
-#[inline(always)]
-pub fn scaled(k: i128, v: Option<&Value>) -> Result<i128, Stop>
-    ensures told { NumberAnswer result (as_number (then_reached (as_number (met_reached (within k))) (λ x.
-        then_reached (as_number (met_value (seen_or_zero v.entry))) (λ y. met_reached (within (x *ℤ y)))))) }
-    ensures fit { IfOk result IsWithin }
-{
-    let x = met_number(limited(k))?;
-    let y = met_number_of(v)?;
-    product(x, y)
 }
 
 // The better of what was chosen so far and x.

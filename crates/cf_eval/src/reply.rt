@@ -94,15 +94,25 @@ fn put_values(out: &mut Vec<u8>, values: &[Value]) -> Result<(), NoMemory>
 // Room for the text of a few numbers.
 const ROOM: usize = 32;
 
+/// Writes the text of what a run came to behind what `out` holds, without a line feed.
+pub fn put_reply(out: &mut Vec<u8>, outcome: &Outcome) -> Result<(), NoMemory>
+    ensures { OnOk result (out.new.items ≡ out.old.items ++ reply_text outcome.now) }
+{
+    match outcome {
+        Outcome::Values(values) => put_values(out, values),
+        Outcome::NoSolution(number) => put_no_solution(out, *number),
+        Outcome::Overflow => {
+            out.extend_from_slice(b"overflow")?;
+            Ok(())
+        }
+    }
+}
+
 /// The text of what a run came to, without a line feed.
 pub fn reply(alloc: Global, outcome: &Outcome) -> Result<Vec<u8>, NoMemory>
     ensures { IfOk result (λ bytes. bytes.items ≡ reply_text outcome.now) }
 {
     let mut out = Vec::with_capacity(alloc, ROOM)?;
-    match outcome {
-        Outcome::Values(values) => put_values(&mut out, values)?,
-        Outcome::NoSolution(number) => put_no_solution(&mut out, *number)?,
-        Outcome::Overflow => out.extend_from_slice(b"overflow")?,
-    }
+    put_reply(&mut out, outcome)?;
     Ok(out)
 }

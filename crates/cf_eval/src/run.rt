@@ -5,19 +5,21 @@ ghost use Rattle.cf_tree.specs.Sets.{is_subset};
 ghost use Rattle.cf_tree.specs.CodeView.{code_tree, item_tree, arm_tree, code_trees, item_trees, arm_trees};
 ghost use Rattle.cf_eval.specs.Answers.{Answers};
 ghost use Rattle.cf_eval.specs.Choice.{better_of, join_of};
-ghost use Rattle.cf_eval.specs.Reached.{reached, seen, as_first, as_number, as_truth, as_set, all_reached, set_reached, sum_reached, best_reached, join_reached, items_reached, item_reached, try_reached, arm_reached, arms_reached};
+ghost use Rattle.cf_eval.specs.Reached.{reached, seen, as_first, as_number, as_truth, as_set, all_reached, set_reached, sum_reached, best_reached, join_reached, items_reached, item_reached, try_reached, arm_reached, arms_reached, or_none, then_reached};
 ghost use Rattle.cf_eval.specs.Seen.{plains, IsFit};
 ghost use Rattle.cf_eval.specs.RunAnswers.{RunAnswer, ValuesAnswer, ValueAnswer, NumberAnswer, TruthAnswer, SetAnswer, FoundAnswer, ItemsAnswer, MoreAnswer, Extends, IsGivenFit, IsFoundFit};
 
 use crate::given::{
-    Given, Stop, limited, met_copy, met_number, met_number_of, number, push_copy, push_met, set,
-    truth,
+    Given, Stop, limited, met_copy, met_number, met_number_of, narrow_number, number, push_copy,
+    push_met, push_narrow, set, truth,
 };
 use crate::kind::{Kind, kind_of};
+use crate::lent::lent_set;
 use crate::operate::{
     Join, Side, better, compare, compare_numbers, divide, empty, fresh, join_more, numeric,
-    product, push_element, remain, scaled,
+    product, push_element, remain,
 };
+use crate::quick::{known, known_truth};
 use crate::search::{count_of, push_tuple};
 use crate::value::{Outcome, Value};
 use cf_set::Set;
@@ -70,7 +72,10 @@ fn eval(alloc: Global, code: &Code, env: &mut Vec<Value>) -> Result<Given, Stop>
     ensures kept { OnOk result (env.new.items ≡ env.old.items) }
 {
     match kind_of(code) {
-        Kind::Number => Ok(number(count(alloc, code, env)?)),
+        Kind::Number => match known(code, env) {
+            Some(z) => Ok(narrow_number(z)),
+            None => Ok(number(count(alloc, code, env)?)),
+        },
         Kind::Truth => Ok(truth(test(alloc, code, env)?)),
         Kind::Elements => Ok(set(collect(alloc, code, env)?)),
         Kind::Other => choose(alloc, code, env),
@@ -96,13 +101,6 @@ fn eval_number(alloc: Global, code: &Code, env: &mut Vec<Value>) -> Result<i128,
     match code {
         Code::Lit(k) => met_number(limited(*k)),
         Code::Var(x) => met_number_of(env.get(*x as usize)),
-        Code::Mul(a, b) => match &**a {
-            Code::Lit(k) => match &**b {
-                Code::Var(x) => scaled(*k, env.get(*x as usize)),
-                _ => eval_count(alloc, code, env),
-            },
-            _ => eval_count(alloc, code, env),
-        },
         _ => eval_count(alloc, code, env),
     }
 }
@@ -135,6 +133,18 @@ fn other_number(alloc: Global, code: &Code, env: &mut Vec<Value>) -> Result<i128
 
 #[cycle(eval)]
 fn eval_truth(alloc: Global, code: &Code, env: &mut Vec<Value>) -> Result<bool, Stop>
+    ensures told { TruthAnswer result (as_truth (reached (code_tree code.now) (plains env.old.items))) }
+    ensures kept { OnOk result (env.new.items ≡ env.old.items) }
+{
+    match known_truth(code, env) {
+        Some(b) => Ok(b),
+        None => exact_truth(alloc, code, env),
+    }
+}
+
+#[cycle(eval)]
+#[inline(never)]
+fn exact_truth(alloc: Global, code: &Code, env: &mut Vec<Value>) -> Result<bool, Stop>
     ensures told { TruthAnswer result (as_truth (reached (code_tree code.now) (plains env.old.items))) }
     ensures kept { OnOk result (env.new.items ≡ env.old.items) }
 {
@@ -301,6 +311,18 @@ fn collect(alloc: Global, code: &Code, env: &mut Vec<Value>) -> Result<Set, Stop
     ensures told { SetAnswer result (as_set (reached (code_tree code.now) (plains env.old.items))) }
     ensures kept { OnOk result (env.new.items ≡ env.old.items) }
 {
+    match lent_set(alloc, code, env)? {
+        Some(s) => Ok(s),
+        None => made_set(alloc, code, env),
+    }
+}
+
+#[cycle(eval)]
+#[inline(never)]
+fn made_set(alloc: Global, code: &Code, env: &mut Vec<Value>) -> Result<Set, Stop>
+    ensures told { SetAnswer result (as_set (reached (code_tree code.now) (plains env.old.items))) }
+    ensures kept { OnOk result (env.new.items ≡ env.old.items) }
+{
     match code {
         Code::SetOf(parts) => eval_set_of(alloc, parts, env),
         Code::Union(parts) => eval_join(alloc, Join::Union, parts, env),
@@ -365,11 +387,21 @@ fn choose(alloc: Global, code: &Code, env: &mut Vec<Value>) -> Result<Given, Sto
             env.truncate(size);
             Ok(given)
         }
-        Code::Solve { number, arms } => match eval_arms(alloc, arms, env)? {
-            None => Err(Stop::Unsolved(*number)),
-            Some(values) => Ok(Given::Several(values)),
-        },
+        Code::Solve { number, arms } => eval_solve(alloc, *number, arms, env),
         _ => Err(Stop::NoMemory),
+    }
+}
+
+#[cycle(eval)]
+#[inline(never)]
+fn eval_solve(alloc: Global, number: u32, arms: &[Arm], env: &mut Vec<Value>) -> Result<Given, Stop>
+    ensures told { RunAnswer result (then_reached (arms_reached (arm_trees arms.now) (plains env.old.items)) (or_none number)) }
+    ensures fit { IfOk result IsGivenFit }
+    ensures kept { OnOk result (env.new.items ≡ env.old.items) }
+{
+    match eval_arms(alloc, arms, env)? {
+        None => Err(Stop::Unsolved(number)),
+        Some(values) => Ok(Given::Several(values)),
     }
 }
 
@@ -389,8 +421,26 @@ fn eval_all(alloc: Global, parts: &[Code], env: &mut Vec<Value>) -> Result<Vec<V
 
 // Appends what the code gives.
 #[cycle(eval)]
-#[tactic(auto, using(crate::proofs::FormLemmas::number_ok, crate::proofs::FormLemmas::number_stop))]
 fn add_part(
+    alloc: Global,
+    code: &Code,
+    env: &mut Vec<Value>,
+    all: &mut Vec<Value>,
+) -> Result<(), Stop>
+    ensures told { MoreAnswer result (plains all.old.items) (plains all.new.items) (reached (code_tree code.now) (plains env.old.items)) }
+    ensures fit { OnOk result (All IsFit all.old.items → All IsFit all.new.items) }
+    ensures kept { OnOk result (env.new.items ≡ env.old.items) }
+{
+    match known(code, env) {
+        Some(z) => push_narrow(z, all),
+        None => add_exact(alloc, code, env, all),
+    }
+}
+
+#[cycle(eval)]
+#[inline(never)]
+#[tactic(auto, using(crate::proofs::FormLemmas::number_ok, crate::proofs::FormLemmas::number_stop))]
+fn add_exact(
     alloc: Global,
     code: &Code,
     env: &mut Vec<Value>,
@@ -587,8 +637,20 @@ fn run_item(alloc: Global, item: &Item, env: &mut Vec<Value>) -> Result<bool, St
 
 // Binds what the code gives.
 #[cycle(eval)]
-#[tactic(auto, using(crate::proofs::FormLemmas::number_ok, crate::proofs::FormLemmas::number_stop))]
 fn bind(alloc: Global, code: &Code, env: &mut Vec<Value>) -> Result<(), Stop>
+    ensures told { MoreAnswer result (plains env.old.items) (plains env.new.items) (reached (code_tree code.now) (plains env.old.items)) }
+    ensures kept { OnOk result (Extends env.old.items env.new.items) }
+{
+    match known(code, env) {
+        Some(z) => push_narrow(z, env),
+        None => bind_exact(alloc, code, env),
+    }
+}
+
+#[cycle(eval)]
+#[inline(never)]
+#[tactic(auto, using(crate::proofs::FormLemmas::number_ok, crate::proofs::FormLemmas::number_stop))]
+fn bind_exact(alloc: Global, code: &Code, env: &mut Vec<Value>) -> Result<(), Stop>
     ensures told { MoreAnswer result (plains env.old.items) (plains env.new.items) (reached (code_tree code.now) (plains env.old.items)) }
     ensures kept { OnOk result (Extends env.old.items env.new.items) }
 {

@@ -39,14 +39,14 @@ eval_arm-loop-index-preserved t c =
       rw same (tries_next (arm_tree c.args.arm.now) (plains c.loop-index.env.items) _ n c.loop-index.index _ low b (sym c.if-is_some.ensures) c.in_ok-found.ensures.told ∙ c.loop-index.invariant.2),
     )
 
-pub add_part-returns-in_ok-z-in-Number-clause-told : goal.add_part-returns-in_ok-z-in-Number-clause-told
-add_part-returns-in_ok-z-in-Number-clause-told t c =
+pub add_exact-returns-in_ok-z-in-Number-clause-told : goal.add_exact-returns-in_ok-z-in-Number-clause-told
+add_exact-returns-in_ok-z-in-Number-clause-told t c =
     let ok : OnOk c.push_met.result (c.push_met.new.all.items ≡ c.args.all.now.items ++ (Int c.in_ok-z-in-Number.z ∷ [])) = search rules in
     more_number (code_tree c.args.code.now) (plains c.args.env.now.items) c.in_ok-z-in-Number.z c.push_met.result c.args.all.now.items c.push_met.new.all.items
     (sym c.in-Number.ensures) c.in_ok-z-in-Number.ensures.told ok c.push_met.ensures.err
 
-pub bind-returns-in_ok-z-in-Number-clause-told : goal.bind-returns-in_ok-z-in-Number-clause-told
-bind-returns-in_ok-z-in-Number-clause-told t c =
+pub bind_exact-returns-in_ok-z-in-Number-clause-told : goal.bind_exact-returns-in_ok-z-in-Number-clause-told
+bind_exact-returns-in_ok-z-in-Number-clause-told t c =
     let ok : OnOk c.push_met.result (c.push_met.new.all.items ≡ c.args.env.now.items ++ (Int c.in_ok-z-in-Number.z ∷ [])) = search rules in
     more_number (code_tree c.args.code.now) (plains c.args.env.now.items) c.in_ok-z-in-Number.z c.push_met.result c.args.env.now.items c.push_met.new.all.items
     (sym c.in-Number.ensures) c.in_ok-z-in-Number.ensures.told ok c.push_met.ensures.err
