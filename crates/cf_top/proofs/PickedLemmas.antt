@@ -1,25 +1,27 @@
 -- The replies of the target that a source is compiled to are what the source picks.
-use Rattle.std.proofs.Common.{◌≡◌, ◌∙◌, sym, ap, subst, refl, ℕ, zero, suc, ◌-◌, ◌^◌, ℤ, pos, List, [], ◌∷◌, map, get_or, slice_get, Option, Some, None, inl, inr}
+use Rattle.std.proofs.Common.{◌≡◌, ◌∙◌, sym, ap, subst, refl, ℕ, zero, suc, ◌-◌, ◌^◌, ◌<◌, ◌≤◌, length, ◌⊎◌, ℤ, pos, List, [], ◌∷◌, map, get_or, slice_get, Option, Some, None, inl, inr, arith}
 use Rattle.cf_num.specs.Limit.{limit, IsWithin}
 use Rattle.cf_io.specs.Limits.{line_limit}
 use Rattle.cf_lex.specs.Digits.{digits_value}
 use Rattle.cf_tree.specs.declared.base.Base.{Base}
 use Rattle.cf_tree.specs.declared.base.Base.TheVariants as base
 use Rattle.cf_tree.specs.declared.target.RawTarget.{RawTarget}
+use Rattle.std.proofs.lemmas.Bool.{cases_lt}
 use Rattle.cf_tree.specs.CodeView.{code_tree}
+use Rattle.cf_tree.specs.Meaning.{means, peak}
 use Rattle.cf_tree.specs.DefView.{DefTree}
 use Rattle.cf_tree.specs.Values.{Value, number, truth, elements, Outcome, number_of, HasBase, HaveBases}
 use Rattle.cf_tree.proofs.RisingLemmas.{rising_set_of}
 use Rattle.cf_program.specs.Checked.{TypedTree}
 use Rattle.cf_program.specs.Names.{bases_of}
 use Rattle.cf_growth.specs.Meeting.{AreSmall}
-use Rattle.cf_build.specs.Built.{IsBuilt}
+use Rattle.cf_build.specs.Built.{IsBuilt, SourceAllows}
 use Rattle.cf_build.specs.Runs.{RunsAsPicked}
 use Rattle.cf_eval.specs.Replies.{meaning_text, IsReply, too_long, bad_input, meaning}
 use Rattle.cf_eval.specs.Spelling.{without_return, IsNumber, IsValue, Spells, SpellsValues}
 use Rattle.cf_eval.specs.Texts.{outcome_text}
 use Rattle.cf_top.specs.Owed.{by_target, IsReplyBy, AllReplied, AreReplies, ArePicked}
-use Rattle.cf_top.specs.Picked.{main_bases, main_picks, picked_text, IsSourceReply, too_long as source_too_long, bad_input as source_bad_input, picks}
+use Rattle.cf_top.specs.Picked.{main_bases, main_picks, picked_text, IsSourceReply, too_long as source_too_long, bad_input as source_bad_input, picks, allows}
 use Rattle.cf_top.specs.Sources.{Compiles}
 use Rattle.cf_top.proofs.ReplyLemmas.{within_text, overflow_text}
 use Rattle.cf_top.proofs.SpelledLemmas.{neg_within, none_within}
@@ -57,26 +59,55 @@ parameters_at [] i d e = cc
 parameters_at (c ∷ ds) zero d e = let same : c ≡ d = cc in rw same refl
 parameters_at (c ∷ ds) (suc i) d e = parameters_at ds i d e
 
-same_parameters : (typed : TypedTree) (t : RawTarget) → IsBuilt typed.defs typed.main t → t.params.items ≡ main_bases typed
-same_parameters typed t h = let like = h.like_main in like.2 ∙ sym (parameters_at typed.defs typed.main like.0 like.1)
+same_parameters : (typed : TypedTree) (passes : ℕ) (t : RawTarget) → IsBuilt typed.defs typed.main passes t → t.params.items ≡ main_bases typed
+same_parameters typed passes t h = let like = h.like_main in like.2 ∙ sym (parameters_at typed.defs typed.main like.0 like.1)
 
 -- the text of what is picked is that of the meaning
-same_text : (typed : TypedTree) (t : RawTarget) (vs : List Value) (p : Option Outcome) → main_picks typed vs ≡ p →
-    RunsAsPicked typed.defs typed.main (code_tree t.code) vs → picked_text p ≡ meaning_text (2 ^ 127 - 1) t vs
-same_text typed t vs (Some o) e h =
+picked_text_of : (typed : TypedTree) (passes : ℕ) (t : RawTarget) (vs : List Value) (o : Outcome) → main_picks typed vs ≡ Some o →
+    RunsAsPicked typed.defs typed.main passes (code_tree t.code) vs → picked_text (Some o) ≡ meaning_text (2 ^ 127 - 1) t vs
+picked_text_of typed passes t vs o e h =
     let runs = h.outcome o e in within_text (2 ^ 127 - 1) t vs (outcome_text o) runs.0 (ap outcome_text (sym runs.1))
-same_text typed t vs None e h = overflow_text (2 ^ 127 - 1) t vs (h.overflow e)
 
-picked_reply : (typed : TypedTree) (t : RawTarget) → IsBuilt typed.defs typed.main t → (line reply : List ℕ) →
-    IsReply line_limit (2 ^ 127 - 1) t line reply → IsSourceReply typed line reply
-picked_reply typed t h line reply (too_long long) = source_too_long long
-picked_reply typed t h line reply (bad_input short none) =
-    source_bad_input short (λ vs r. none vs (subst (λ bs. SpellsValues limit bs line vs) (sym (same_parameters typed t h)) r))
-picked_reply typed t h line reply (meaning vs short r) =
+-- what is known of values that a line spells
+record Read (typed : TypedTree) (passes : ℕ) (t : RawTarget) (line : List ℕ) (vs : List Value) : Type 0 where
+  short : length line ≤ line_limit
+  spelled : SpellsValues limit (main_bases typed) line vs
+  allowed : SourceAllows typed.defs typed.main vs (means (code_tree t.code) vs)
+  runs : RunsAsPicked typed.defs typed.main passes (code_tree t.code) vs
+
+-- main picks overflow: the target overflows, or it has an outcome that is allowed, and there are passes
+overflows : (typed : TypedTree) (passes : ℕ) (t : RawTarget) (line : List ℕ) (vs : List Value) → main_picks typed vs ≡ None → Read typed passes t line vs →
+    (limit < peak (code_tree t.code) vs) ⊎ (peak (code_tree t.code) vs ≤ limit) → IsSourceReply typed passes line (meaning_text (2 ^ 127 - 1) t vs)
+overflows typed passes t line vs e r (inl past) =
+    subst (IsSourceReply typed passes line) (ap picked_text e ∙ overflow_text (2 ^ 127 - 1) t vs past) (picks vs r.short r.spelled (λ _. r.runs.near past))
+overflows typed passes t line vs e r (inr within) =
+    subst (IsSourceReply typed passes line) (within_text (2 ^ 127 - 1) t vs (outcome_text (means (code_tree t.code) vs)) within refl)
+    (allows vs (means (code_tree t.code) vs) r.short r.spelled e (some_pass passes (λ none. r.runs.overflow none e)) r.allowed)
+  where
+    some_pass : (n : ℕ) → (n ≡ 0 → limit < peak (code_tree t.code) vs) → 1 ≤ n
+    some_pass zero h = absurd (omega (arith, within, h refl))
+    some_pass (suc n) h = omega arith
+
+reply_to : (typed : TypedTree) (passes : ℕ) (t : RawTarget) (line : List ℕ) (vs : List Value) (p : Option Outcome) → main_picks typed vs ≡ p →
+    Read typed passes t line vs →
+    IsSourceReply typed passes line (meaning_text (2 ^ 127 - 1) t vs)
+reply_to typed passes t line vs (Some o) e r =
+    subst (IsSourceReply typed passes line) (ap picked_text e ∙ picked_text_of typed passes t vs o e r.runs) (picks vs r.short r.spelled (λ none. cc))
+reply_to typed passes t line vs None e r = overflows typed passes t line vs e r (cases_lt limit (peak (code_tree t.code) vs))
+
+picked_reply : (typed : TypedTree) (passes : ℕ) (t : RawTarget) → IsBuilt typed.defs typed.main passes t → (line reply : List ℕ) →
+    IsReply line_limit (2 ^ 127 - 1) t line reply → IsSourceReply typed passes line reply
+picked_reply typed passes t h line reply (too_long long) = source_too_long long
+picked_reply typed passes t h line reply (bad_input short none) =
+    source_bad_input short (λ vs r. none vs (subst (λ bs. SpellsValues limit bs line vs) (sym (same_parameters typed passes t h)) r))
+picked_reply typed passes t h line reply (meaning vs short r) =
     let fit = values_fit t.params.items (without_return line) vs r in
-    let runs = h.runs vs fit.0 fit.1 in
-    subst (IsSourceReply typed line) (same_text typed t vs (main_picks typed vs) refl runs)
-    (picks vs short (subst (λ bs. SpellsValues limit bs line vs) (same_parameters typed t h) r) (λ none. runs.near (runs.overflow none)))
+    reply_to typed passes t line vs (main_picks typed vs) refl (record {
+      short = short;
+      spelled = subst (λ bs. SpellsValues limit bs line vs) (same_parameters typed passes t h) r;
+      allowed = h.allowed vs fit.0;
+      runs = h.runs vs fit.0 fit.1;
+    })
 
 -- the same of all lines
 all_replied : (P Q : List ℕ → List ℕ → Type 0) → ((line reply : List ℕ) → P line reply → Q line reply) → (ls : List (List ℕ)) (text : List ℕ) →
@@ -84,7 +115,8 @@ all_replied : (P Q : List ℕ → List ℕ → Type 0) → ((line reply : List �
 all_replied P Q by [] text h = h
 all_replied P Q by (line ∷ ls) text h = (h.0, h.1, h.2, by line h.0 h.3, all_replied P Q by ls h.1 h.4)
 
-pub replies_picked : (file : List ℕ) (t : RawTarget) (ls : List (List ℕ)) (text : List ℕ) → Compiles file t → AreReplies (by_target t) ls text →
-    ArePicked file ls text
-replies_picked file t ls text h replies =
-    (h.0, h.1, all_replied (IsReplyBy (by_target t)) (IsSourceReply h.0) (picked_reply h.0 t h.2) ls text replies)
+pub replies_picked : (passes : ℕ) (file : List ℕ) (t : RawTarget) (ls : List (List ℕ)) (text : List ℕ) → Compiles passes file t →
+    AreReplies (by_target t) ls text →
+    ArePicked passes file ls text
+replies_picked passes file t ls text h replies =
+    (h.0, h.1, all_replied (IsReplyBy (by_target t)) (IsSourceReply h.0 passes) (picked_reply h.0 passes t h.2) ls text replies)

@@ -1,11 +1,13 @@
 -- Why a source text is refused, and that this is one thing only.
-use Rattle.std.proofs.Common.{◌≡◌, ap, subst, refl, ℕ, List, None, Some, nat_eq}
+use Rattle.std.proofs.Common.{◌≡◌, ap, subst, refl, ℕ, List, [], ◌∷◌, None, Some, nat_eq, All}
 use Rattle.std.specs.List.{IsDistinct}
+use Rattle.std.proofs.lemmas.List.Elements.{All-nil, All-cons, All-contains}
+use Rattle.std.proofs.lemmas.List.Sorted.{Contains-permutation}
 use Rattle.std.specs.Prelude.{Result, Ok, Err, Contains}
 use Rattle.cf_lex.proofs.LexesLemmas.{lexes-within}
 use Rattle.cf_tree.specs.DefView.{RawDefTree}
 use Rattle.cf_tree.specs.declared.target.RawTarget.{RawTarget}
-use Rattle.cf_parse.specs.Programs.{IsProgram}
+use Rattle.cf_parse.specs.Programs.{IsProgram, program_of}
 use Rattle.cf_parse.proofs.Programs.{one_law}
 use Rattle.cf_program.specs.Checked.{TypedTree, checked}
 use Rattle.cf_program.specs.CheckAnswers.{CheckFault}
@@ -14,13 +16,14 @@ use Rattle.cf_program.specs.declared.fault.TypeFault.{TypeFault}
 use Rattle.cf_program.specs.declared.fault.TypeFault.TheVariants as rule
 use Rattle.cf_program.proofs.Kept.{when_is}
 use Rattle.cf_program.proofs.ProgramLaws.{checked_typed}
-use Rattle.cf_build.specs.Questions.{Question, all_questions, limit_of, IsFirstRefused}
+use Rattle.cf_build.specs.Questions.{Question, all_questions, by_number, limit_of, IsFirstRefused}
 use Rattle.cf_build.proofs.QuestionLaws.{one_refusal}
-use Rattle.cf_top.specs.Refusals.{IsBadProgram, broken, refused, IsRefused}
-use Rattle.cf_top.specs.Sources.{Spelled, Compiles}
+use Rattle.cf_build.proofs.NumberOrder.{ordered_same}
+use Rattle.cf_top.specs.Owed.{ArePres}
+use Rattle.cf_top.specs.Refusals.{IsBadProgram, broken, refused, IsRefusedSource}
+use Rattle.cf_top.specs.Sources.{Spelled, IsTypedSource, Compiles}
 use Rattle.cf_top.specs.Statuses.{refusal_status, rule_status, fault_status}
 use Rattle.cf_top.specs.declared.fault.Fault.{Fault}
-use Rattle.cf_top.specs.declared.words.CommandKind.TheVariants.{Run}
 use Rattle.cf_top.proofs.CauseLemmas.{alike, unrefused}
 use Rattle.cf_top.proofs.SpelledLemmas.{spelled_program}
 
@@ -38,10 +41,12 @@ fails_so (rule.Weight k) r n h = h
 fails_so (rule.Depth k) r n h = h
 
 -- the numbers of its chooses differ
-source_distinct : (text : List ℕ) (program : List RawDefTree) (typed : TypedTree) → Spelled IsProgram text program → checked program ≡ Ok typed → IsDistinct nat_eq (all_numbers typed.defs)
+source_distinct : (text : List ℕ) (program : List RawDefTree) (typed : TypedTree) → Spelled IsProgram text program → checked program ≡ Ok typed →
+    IsDistinct nat_eq (all_numbers typed.defs)
 source_distinct text program typed s e = (when_is (checked program) typed (checked_typed program (spelled_program program s.0 s.3 (lexes-within s.2.1.1))) e).distinct
 
-bad_alike : (text : List ℕ) (program : List RawDefTree) (f g : Fault) → Spelled IsProgram text program → IsBadProgram program f → IsBadProgram program g → fault_status f ≡ fault_status g
+bad_alike : (text : List ℕ) (program : List RawDefTree) (f g : Fault) → Spelled IsProgram text program → IsBadProgram program f → IsBadProgram program g →
+    fault_status f ≡ fault_status g
 bad_alike text program f g s (broken e h) (broken d i) = let same : e ≡ d = cc in ap rule_status same
 bad_alike text program f g s (broken e h) (refused typed n r i b) = cc
 bad_alike text program f g s (refused typed n r h b) (broken e i) = cc
@@ -50,11 +55,12 @@ bad_alike text program f g s (refused typed n r h b) (refused other m q i c) =
     let there : IsFirstRefused (all_questions typed.defs) m q = subst (λ v. IsFirstRefused (all_questions v.defs) m q) same c in
     ap refusal_status (one_refusal typed.defs n m r q (source_distinct text program typed s h) b there)
 
-pub sources_alike : (text : List ℕ) (f g : Fault) → IsRefused Run text f → IsRefused Run text g → fault_status f ≡ fault_status g
-sources_alike text f g h i = alike IsProgram IsBadProgram one_law text (bad_alike text) f g h i
+pub sources_alike : (text : List ℕ) (f g : Fault) → IsRefusedSource text f → IsRefusedSource text g → fault_status f ≡ fault_status g
+sources_alike text f g h i = alike IsProgram (program_of 200) IsBadProgram one_law text (bad_alike text) f g h i
 
 -- a program whose chooses pass no limit is not refused
-never_bad : (program : List RawDefTree) (typed : TypedTree) → checked program ≡ Ok typed → ((q : Question) → Contains (all_questions typed.defs) q → limit_of q ≡ None) → (f : Fault) → IsBadProgram program f → ⊥
+never_bad : (program : List RawDefTree) (typed : TypedTree) → checked program ≡ Ok typed →
+    ((q : Question) → Contains (all_questions typed.defs) q → limit_of q ≡ None) → (f : Fault) → IsBadProgram program f → ⊥
 never_bad program typed is within f (broken e h) = cc
 never_bad program typed is within f (refused other n r h b) =
     let same : other ≡ typed = cc in
@@ -62,5 +68,25 @@ never_bad program typed is within f (refused other n r h b) =
     let none : limit_of q.0 ≡ None = within q.0 (subst (λ v. Contains (all_questions v.defs) q.0) same q.1) in
     let some : limit_of q.0 ≡ Some r = q.3 in cc
 
-pub compiled_unrefused : (text : List ℕ) (t : RawTarget) (f : Fault) → Compiles text t → IsRefused Run text f → ⊥
-compiled_unrefused text t f c h = unrefused IsProgram IsBadProgram one_law text f c.1.0 (never_bad c.1.0 c.0 c.1.2 (λ q m. (c.2.solved q m).within)) h c.1.1
+typed_unrefused : (text : List ℕ) (typed : TypedTree) (f : Fault) → IsTypedSource text typed →
+    ((q : Question) → Contains (all_questions typed.defs) q → limit_of q ≡ None) →
+    IsRefusedSource text f → ⊥
+typed_unrefused text typed f s within h = unrefused IsProgram (program_of 200) IsBadProgram one_law text f s.0 (never_bad s.0 typed s.2 within) h s.1
+
+pub compiled_unrefused : (passes : ℕ) (text : List ℕ) (t : RawTarget) (f : Fault) → Compiles passes text t → IsRefusedSource text f → ⊥
+compiled_unrefused passes text t f c h = typed_unrefused text c.0 f c.1 (λ q m. (c.2.solved q m).within) h
+
+-- nor is one whose preconditions are owed
+abbrev IsWithin : Question → Type 0
+IsWithin q = limit_of q ≡ None
+
+pres_within : (qs : List Question) (text : List ℕ) → ArePres qs text → All IsWithin qs
+pres_within [] text h = All-nil IsWithin
+pres_within (q ∷ qs) text h = All-cons IsWithin q qs h.3.within (pres_within qs h.1 h.4)
+
+pub pres_unrefused : (text : List ℕ) (typed : TypedTree) (pres : List ℕ) (f : Fault) → IsTypedSource text typed →
+    ArePres (by_number (all_questions typed.defs)) pres → IsRefusedSource text f → ⊥
+pres_unrefused text typed pres f s owed h =
+    let qs = all_questions typed.defs in
+    typed_unrefused text typed f s
+    (λ q m. All-contains IsWithin (by_number qs) q (pres_within (by_number qs) pres owed) (Contains-permutation qs (by_number qs) q (ordered_same qs) m)) h

@@ -80,15 +80,15 @@ read_more t left mid still_left before behind old now new total more piece r c i
 }
 
 -- what is left, where it is told
-abbrev left_of : Option (List ℕ) → List ℕ
+abbrev pub left_of : Option (List ℕ) → List ℕ
 left_of None = []
 left_of (Some bytes) = bytes
 
-left_told : (left : Option (List ℕ)) → AreTold left (left_of left)
+pub left_told : (left : Option (List ℕ)) → AreTold left (left_of left)
 left_told None = tt
 left_told (Some bytes) = refl
 
-end_told : (left : Option (List ℕ)) → IsAtEnd left → AreTold left []
+pub end_told : (left : Option (List ℕ)) → IsAtEnd left → AreTold left []
 end_told None h = tt
 end_told (Some xs) h = h
 
@@ -118,7 +118,7 @@ ended_front : (front rest : List ℕ) → (more : List (List ℕ)) × (ended (fr
 ended_front front rest =
     (ended_from (rest_from [] front) rest, ended-is (front ++ rest) ∙ ended_from-append [] front rest ∙ ap (λ ls. ls ++ ended_from (rest_from [] front) rest) (sym (ended-is front)))
 
-short_answered : (input : List ℕ) → length input ≤ input_limit → answered_lines input ≡ lines input
+pub short_answered : (input : List ℕ) → length input ≤ input_limit → answered_lines input ≡ lines input
 short_answered input h = let test : nat_le (length input) input_limit ≡ true = grind (arith, nat_tests) in rw test refl
 
 long_answered : (input : List ℕ) → input_limit < length input → answered_lines input ≡ ended (take input_limit input)

@@ -4,10 +4,11 @@ use Rattle.std.specs.Prelude.{◌⊎◌, Result, Ok, Err, IfSome, IsSomeAnd, OnO
 use Rattle.cf_io.specs.Causes.{Rose}
 use Rattle.cf_io.specs.Limits.{input_limit}
 use Rattle.cf_target.specs.Spelling.{target_tree}
-use Rattle.cf_top.specs.Commands.{Command, run, exec, names_of, reads_input}
-use Rattle.cf_top.specs.Ends.{Reads, IsReadUp, Ends, Answers}
+use Rattle.cf_top.specs.Commands.{Command, compile, run, pre, exec, names_of, reads_input}
+use Rattle.cf_top.specs.Ends.{Streams, streams_of, Job, Reads, IsReadUp, Wrote, Ends, Does, Answers}
 use Rattle.cf_top.specs.Outside.{Outside, AreTold, AreTexts}
 use Rattle.cf_top.specs.Owed.{Owes}
+use Rattle.cf_top.specs.Passes.{Told, applied}
 use Rattle.cf_top.specs.Refusals.{Refuses, IsAccepted}
 use Rattle.cf_top.specs.Statuses.{fault_status, status_of}
 use Rattle.cf_top.specs.Top.{Errors, IsShort, IsLong, IsComplete, Completes, TopAnswer}
@@ -16,23 +17,29 @@ use Rattle.cf_top.specs.declared.fault.Fault.TheVariants as fault
 use Rattle.cf_top.specs.declared.status.Status.{Status}
 use Rattle.cf_top.specs.declared.status.Status.TheVariants.{Done, File, Input, Output, InputLong, NoMemory}
 use Rattle.cf_top.proofs.CountLemmas.{rose_once}
-use Rattle.cf_top.proofs.SourceLemmas.{sources_alike, compiled_unrefused}
+use Rattle.cf_top.proofs.SourceLemmas.{sources_alike, compiled_unrefused, pres_unrefused}
 use Rattle.cf_top.proofs.TargetLemmas.{targets_alike, typed_unrefused}
 
 -- a command is refused for faults of one status
 refused_alike : (command : Command) (files : List (List ℕ)) (f g : Fault) → Refuses command files f → Refuses command files g → fault_status f ≡ fault_status g
+refused_alike (compile flags name) (text ∷ []) f g h i = sources_alike text f g h i
 refused_alike (run flags name) (text ∷ []) f g h i = sources_alike text f g h i
+refused_alike (pre name) (text ∷ []) f g h i = sources_alike text f g h i
 refused_alike (exec name) (text ∷ []) f g h i = targets_alike text f g h i
 refused_alike command files f g h i = absurd h
 
 -- a command that owes something is not refused
-owed_accepted : (command : Command) (files ls : List (List ℕ)) (text : List ℕ) → Owes command files ls text → IsAccepted command files
-owed_accepted (run flags name) (file ∷ []) ls text h = λ f r. compiled_unrefused file h.0 f h.1 r
-owed_accepted (exec name) (file ∷ []) ls text h = λ f r. typed_unrefused file (target_tree h.0) f h.1 r
-owed_accepted command files ls text h = absurd h
+owed_accepted : (command : Command) (files : List (List ℕ)) (passes : List Told) (ls : List (List ℕ)) (text : List ℕ) → Owes command files passes ls text →
+    IsAccepted command files
+owed_accepted (compile flags name) (file ∷ []) passes ls text h = λ f r. compiled_unrefused (applied (compile flags name) passes) file h.0 f h.1 r
+owed_accepted (run flags name) (file ∷ []) passes ls text h = λ f r. compiled_unrefused (applied (run flags name) passes) file h.0 f h.1 r
+owed_accepted (pre name) (file ∷ []) passes ls text h = λ f r. pres_unrefused file h.0 text f h.1 h.2 r
+owed_accepted (exec name) (file ∷ []) passes ls text h = λ f r. typed_unrefused file (target_tree h.0) f h.1 r
+owed_accepted command files passes ls text h = absurd h
 
 -- the texts are those that are told
-texts_same : (texts : List ℕ → Option (List ℕ)) (names files other : List (List ℕ)) → map texts names ≡ map Some files → AreTexts texts names other → other ≡ files
+texts_same : (texts : List ℕ → Option (List ℕ)) (names files other : List (List ℕ)) → map texts names ≡ map Some files → AreTexts texts names other →
+    other ≡ files
 texts_same texts [] [] [] e h = refl
 texts_same texts [] [] (o ∷ other) e h = absurd h
 texts_same texts [] (f ∷ files) other e h = cc
@@ -45,7 +52,8 @@ texts_same texts (n ∷ names) (f ∷ files) (o ∷ other) e h =
     rw (texts_same texts names files other more h.1, same) refl
 
 -- what was read of an input that is told
-read_all : (reading : Bool) (old new : Option (List ℕ)) (front : List ℕ) → Reads reading old new front → IsReadUp reading new → length front ≤ input_limit → IsLong reading old → ⊥
+read_all : (reading : Bool) (old new : Option (List ℕ)) (front : List ℕ) → Reads reading old new front → IsReadUp reading new → length front ≤ input_limit →
+    IsLong reading old → ⊥
 read_all false old new front r up few long = long
 read_all true None new front r up few (bytes, is, many) = cc
 read_all true (Some xs) None front r up few long = r
@@ -72,23 +80,25 @@ data Settled (command : Command) (files : List (List ℕ)) (input : Option (List
   finished : IsAccepted command files → (IsLong (reads_input command) input → ⊥) → status ≡ Done → Settled command files input status
   overlong : IsAccepted command files → (IsShort (reads_input command) input → ⊥) → status ≡ InputLong → Settled command files input status
 
-settled_by : (command : Command) (before after : Outside) (files : List (List ℕ)) (status : Status) (answer : Result (Unit {0}) Fault) → Ends command before after answer → status ≡ status_of answer →
-    ((other : List (List ℕ)) → AreTexts before.texts (names_of command) other → other ≡ files) → (status ≡ File → ⊥) → Settled command files before.input status
-settled_by command before after files status (Ok done) h is same nf =
-    let w = h.3 in
-    finished (subst (IsAccepted command) (same w.files w.told) (owed_accepted command w.files _ w.text w.owed)) (read_all (reads_input command) before.input after.input h.0 w.read h.1 h.2) is
-settled_by command before after files status (Err fault.Input) h is same nf =
-    let w = h.2 in input_failed (subst (IsAccepted command) (same w.files w.told) (owed_accepted command w.files _ w.text w.owed)) is
-settled_by command before after files status (Err fault.InputTooLong) h is same nf =
-    let w = h.2 in
-    overlong (subst (IsAccepted command) (same w.files w.told) (owed_accepted command w.files _ w.text w.owed)) (read_past (reads_input command) before.input after.input h.0 w.read h.1) is
-settled_by command before after files status (Err fault.Output) h is same nf =
-    let w = h.3 in out_failed (subst (IsAccepted command) (same w.files w.told) (owed_accepted command w.files _ w.text w.owed)) is
-settled_by command before after files status (Err fault.NoMemory) h is same nf = no_memory is
-settled_by command before after files status (Err fault.File) h is same nf = absurd (nf is)
-settled_by command before after files status (Err f) h is same nf = stopped f (subst (λ v. Refuses command v f) (same h.0 h.1) h.2) is
+wrote_accepted : (job : Job) (before after : Streams) (Took : Option (List ℕ) → Option (List ℕ) → List ℕ → Type 0) (front : List ℕ) (ls : List (List ℕ)) (end : List ℕ) →
+    Wrote job before after Took front ls end → IsAccepted job.command job.files
+wrote_accepted job before after Took front ls end w = owed_accepted job.command job.files job.passes ls w.text w.owed
 
-when_refused : (command : Command) (files : List (List ℕ)) (input : Option (List ℕ)) (status : Status) → Settled command files input status → (f : Fault) → Refuses command files f → (status ≡ fault_status f) ⊎ (status ≡ NoMemory)
+settled_by : (job : Job) (before after : Streams) (status : Status) (answer : Result (Unit {0}) Fault) → Ends job before after answer →
+    status ≡ status_of answer → (status ≡ File → ⊥) →
+    Settled job.command job.files before.input status
+settled_by job before after status (Ok done) h is nf =
+    finished (wrote_accepted job before after _ _ _ _ h.3) (read_all (reads_input job.command) before.input after.input h.0 h.3.read h.1 h.2) is
+settled_by job before after status (Err fault.Input) h is nf = input_failed (wrote_accepted job before after _ _ _ _ h.3) is
+settled_by job before after status (Err fault.InputTooLong) h is nf =
+    overlong (wrote_accepted job before after _ _ _ _ h.2) (read_past (reads_input job.command) before.input after.input h.0 h.2.read h.1) is
+settled_by job before after status (Err fault.Output) h is nf = out_failed (wrote_accepted job before after _ _ _ _ h.3) is
+settled_by job before after status (Err fault.NoMemory) h is nf = no_memory is
+settled_by job before after status (Err fault.File) h is nf = absurd (nf is)
+settled_by job before after status (Err f) h is nf = stopped f h.0 is
+
+when_refused : (command : Command) (files : List (List ℕ)) (input : Option (List ℕ)) (status : Status) → Settled command files input status → (f : Fault) →
+    Refuses command files f → (status ≡ fault_status f) ⊎ (status ≡ NoMemory)
 when_refused command files input status (no_memory is) f h = inr is
 when_refused command files input status (input_failed a is) f h = absurd (a f h)
 when_refused command files input status (out_failed a is) f h = absurd (a f h)
@@ -96,7 +106,8 @@ when_refused command files input status (stopped g i is) f h = inl (is ∙ refus
 when_refused command files input status (finished a n is) f h = absurd (a f h)
 when_refused command files input status (overlong a n is) f h = absurd (a f h)
 
-when_short : (command : Command) (files : List (List ℕ)) (input : Option (List ℕ)) (status : Status) → Settled command files input status → IsAccepted command files → (status ≡ Input → ⊥) → (status ≡ Output → ⊥) →
+when_short : (command : Command) (files : List (List ℕ)) (input : Option (List ℕ)) (status : Status) → Settled command files input status →
+    IsAccepted command files → (status ≡ Input → ⊥) → (status ≡ Output → ⊥) →
     IsShort (reads_input command) input → (status ≡ Done) ⊎ (status ≡ NoMemory)
 when_short command files input status (no_memory is) a ni nout short = inr is
 when_short command files input status (input_failed b is) a ni nout short = absurd (ni is)
@@ -105,7 +116,8 @@ when_short command files input status (stopped g i is) a ni nout short = absurd 
 when_short command files input status (finished b n is) a ni nout short = inl is
 when_short command files input status (overlong b n is) a ni nout short = absurd (n short)
 
-when_long : (command : Command) (files : List (List ℕ)) (input : Option (List ℕ)) (status : Status) → Settled command files input status → IsAccepted command files → (status ≡ Input → ⊥) → (status ≡ Output → ⊥) →
+when_long : (command : Command) (files : List (List ℕ)) (input : Option (List ℕ)) (status : Status) → Settled command files input status →
+    IsAccepted command files → (status ≡ Input → ⊥) → (status ≡ Output → ⊥) →
     IsLong (reads_input command) input → (status ≡ InputLong) ⊎ (status ≡ NoMemory)
 when_long command files input status (no_memory is) a ni nout long = inr is
 when_long command files input status (input_failed b is) a ni nout long = absurd (ni is)
@@ -114,27 +126,39 @@ when_long command files input status (stopped g i is) a ni nout long = absurd (a
 when_long command files input status (finished b n is) a ni nout long = absurd (n long)
 when_long command files input status (overlong b n is) a ni nout long = inl is
 
-completed : (command : Command) (files : List (List ℕ)) (input : Option (List ℕ)) (status : Status) → Settled command files input status → IsComplete command files input status
+completed : (command : Command) (files : List (List ℕ)) (input : Option (List ℕ)) (status : Status) → Settled command files input status →
+    IsComplete command files input status
 completed command files input status s = record { refused = when_refused command files input status s; done = when_short command files input status s; too_long = when_long command files input status s }
 
-pub completes : (command : Option Command) (before after : Outside) (errors_before errors_after : Errors) (status : Status) → TopAnswer command before after errors_before errors_after status → IfSome command (λ c. Completes c before status)
-completes None before after errors_before errors_after status t = tt
-completes (Some c) before after errors_before errors_after status t =
-    λ files told nf. completed c files before.input status (settled_by c before after files status t.answer t.answers.ends t.is (λ other h. texts_same before.texts (names_of c) files other told h) nf)
+does_complete : (c : Command) (given : List Told) (before after : Outside) (status : Status) (answer : Result (Unit {0}) Fault) →
+    Does c given before after answer → status ≡ status_of answer →
+    (files : List (List ℕ)) → map before.texts (names_of c) ≡ map Some files → (status ≡ File → ⊥) → IsComplete c files before.input status
+does_complete c given before after status answer d is files told nf =
+    let same : d.files ≡ files = texts_same before.texts (names_of c) files d.files told d.told in
+    subst (λ v. IsComplete c v before.input status) same
+    (completed c d.files before.input status (settled_by (record { command = c; files = d.files; passes = d.passes }) (streams_of before) (streams_of after) status answer d.ends is nf))
+
+pub completes : (command : Option Command) (given : List Told) (before after : Outside) (errors_before errors_after : Errors) (status : Status) →
+    TopAnswer command given before after errors_before errors_after status → IfSome command (λ c. Completes c before status)
+completes None given before after errors_before errors_after status t = tt
+completes (Some c) given before after errors_before errors_after status t = does_complete c given before after status t.answer t.answers t.is
 
 -- which object failed
-pub file_rose : (command : Option Command) (before after : Outside) (answer : Result (Unit {0}) Fault) → Answers command before after answer → answer ≡ Err fault.File →
+pub file_rose : (command : Option Command) (given : List Told) (before after : Outside) (answer : Result (Unit {0}) Fault) →
+    Answers command given before after answer → answer ≡ Err fault.File →
     IsSomeAnd command (λ c. (name : List ℕ) × Contains (names_of c) name × Rose (before.file_faults name) (after.file_faults name))
-file_rose None before after answer h e = let other : answer ≡ Err fault.Usage = h.0 in cc
-file_rose (Some c) before after answer h e = let f = h.blames.file e in (f.0, f.1, rose_once (before.file_faults f.0) (after.file_faults f.0) f.2)
+file_rose None given before after answer h e = let other : answer ≡ Err fault.Usage = h.0 in cc
+file_rose (Some c) given before after answer h e = let f = h.blames.file e in (f.0, f.1, rose_once (before.file_faults f.0) (after.file_faults f.0) f.2)
 
-pub input_rose : (command : Option Command) (before after : Outside) (answer : Result (Unit {0}) Fault) → Answers command before after answer → answer ≡ Err fault.Input → Rose before.input_faults after.input_faults
-input_rose None before after answer h e = let other : answer ≡ Err fault.Usage = h.0 in cc
-input_rose (Some c) before after answer h e = rose_once before.input_faults after.input_faults (h.blames.input.rose e)
+pub input_rose : (command : Option Command) (given : List Told) (before after : Outside) (answer : Result (Unit {0}) Fault) →
+    Answers command given before after answer → answer ≡ Err fault.Input → Rose before.input_faults after.input_faults
+input_rose None given before after answer h e = let other : answer ≡ Err fault.Usage = h.0 in cc
+input_rose (Some c) given before after answer h e = rose_once before.input_faults after.input_faults (h.blames.input.rose e)
 
-pub out_rose : (command : Option Command) (before after : Outside) (answer : Result (Unit {0}) Fault) → Answers command before after answer → answer ≡ Err fault.Output → Rose before.out_faults after.out_faults
-out_rose None before after answer h e = let other : answer ≡ Err fault.Usage = h.0 in cc
-out_rose (Some c) before after answer h e = rose_once before.out_faults after.out_faults (h.blames.out.rose e)
+pub out_rose : (command : Option Command) (given : List Told) (before after : Outside) (answer : Result (Unit {0}) Fault) →
+    Answers command given before after answer → answer ≡ Err fault.Output → Rose before.out_faults after.out_faults
+out_rose None given before after answer h e = let other : answer ≡ Err fault.Usage = h.0 in cc
+out_rose (Some c) given before after answer h e = rose_once before.out_faults after.out_faults (h.blames.out.rose e)
 
 -- all was written, or the sink of errors failed once
 pub told_or_rose : {A B C E : Type 0} (r : Result (Unit {0}) E) → OnOk r A → OnOk r C → OnErr r B → B ⊎ (A × C)

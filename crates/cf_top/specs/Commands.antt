@@ -1,10 +1,6 @@
--- The commands, the files that each reads, and whether it reads the input.
-use Rattle.std.specs.Prelude.{ℕ, Bool, true, false, List, [], ◌∷◌}
-
--- without passes; with the tallies of the passes
-pub record Flags : Type 0 where
-  pub plain : Bool
-  pub stats : Bool
+-- The commands, the files that each reads, whether it reads the input, and what it does with the passes.
+use Rattle.std.specs.Prelude.{ℕ, Bool, true, false, not, List, [], ◌∷◌}
+use Rattle.cf_top.specs.declared.words.Flags.{Flags}
 
 pub data Command : Type 0 where
   compile : Flags → List ℕ → Command
@@ -31,3 +27,16 @@ abbrev pub reads_input : Command → Bool
 reads_input (run flags file) = true
 reads_input (exec file) = true
 reads_input command = false
+
+-- whether the passes rewrite what it compiles
+abbrev pub calls_passes : Command → Bool
+calls_passes (compile flags file) = not flags.plain
+calls_passes (run flags file) = not flags.plain
+calls_passes (gen n) = true
+calls_passes command = false
+
+-- whether it tells the tallies of the passes
+abbrev pub tells_tallies : Command → Bool
+tells_tallies (compile flags file) = flags.stats
+tells_tallies (run flags file) = flags.stats
+tells_tallies command = false

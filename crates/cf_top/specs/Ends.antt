@@ -4,20 +4,25 @@ use Rattle.std.specs.Io.KnownBytes.{Appends, Consumes, IsAtEnd}
 use Rattle.cf_io.specs.Bytes.{TookPrefix}
 use Rattle.cf_io.specs.Limits.{input_limit}
 use Rattle.cf_io.specs.Lines.{lines, ended}
-use Rattle.cf_top.specs.Commands.{Command, names_of, reads_input}
+use Rattle.cf_top.specs.Commands.{Command, names_of, reads_input, calls_passes}
 use Rattle.cf_top.specs.Outside.{Outside, AreTold, AreTexts, Blames, IsFrugal}
 use Rattle.cf_top.specs.Owed.{Owes}
+use Rattle.cf_top.specs.Passes.{Told, ArePassed, closing}
 use Rattle.cf_top.specs.Refusals.{Refuses}
 use Rattle.cf_top.specs.declared.fault.Fault.{Fault}
 use Rattle.cf_top.specs.declared.fault.Fault.TheVariants as fault
 
--- the lines of an input that are answered: all, or where it is too long those whose line feed stands within the limit
+-- the input as far as the command reads it
+abbrev pub input_for : Command → List ℕ → List ℕ
+input_for command input = if reads_input command then input else []
+
+-- the lines that are answered: all, or where the input is too long those whose line feed stands within the limit
 abbrev pub answered_lines : List ℕ → List (List ℕ)
 answered_lines input = if nat_le (length input) input_limit then lines input else ended (take input_limit input)
 
--- those of a command that may read no input
-abbrev pub lines_for : Command → List ℕ → List (List ℕ)
-lines_for command input = if reads_input command then answered_lines input else []
+-- what stands behind the answers: the closing, or where the input is too long nothing
+abbrev pub behind_lines : List ℕ → List ℕ → List ℕ
+behind_lines input end = if nat_le (length input) input_limit then end else []
 
 -- these first bytes of the input were read, and none by a command that reads no input
 abbrev pub Reads : Bool → Option (List ℕ) → Option (List ℕ) → List ℕ → Type 0
@@ -29,45 +34,63 @@ abbrev pub IsReadUp : Bool → Option (List ℕ) → Type 0
 IsReadUp true new = IsAtEnd new
 IsReadUp false new = Unit {0}
 
--- so much of the input was read, and `out` took what is owed for these lines, as far as Took says
-pub record Wrote (command : Command) (before after : Outside) (Took : Option (List ℕ) → Option (List ℕ) → List ℕ → Type 0) (front : List ℕ) (ls : List (List ℕ)) : Type 0 where
+-- what the input and `out` tell
+pub record Streams : Type 0 where
+  pub input : Option (List ℕ)
+  pub out : Option (List ℕ)
+
+abbrev pub streams_of : Outside → Streams
+streams_of o = record { input = o.input; out = o.out }
+
+-- what there was to do: a command on files of these texts, with passes that tell this last
+pub record Job : Type 0 where
+  pub command : Command
   pub files : List (List ℕ)
+  pub passes : List Told
+
+-- so much of the input was read, and `out` took what is owed for these lines and then `end`, as far as Took says
+pub record Wrote (job : Job) (before after : Streams) (Took : Option (List ℕ) → Option (List ℕ) → List ℕ → Type 0) (front : List ℕ) (ls : List (List ℕ)) (end : List ℕ) : Type 0 where
   pub text : List ℕ
-  pub told : AreTexts before.texts (names_of command) files
-  pub read : Reads (reads_input command) before.input after.input front
-  pub owed : Owes command files ls text
-  pub took : Took before.out after.out text
+  pub read : Reads (reads_input job.command) before.input after.input front
+  pub owed : Owes job.command job.files job.passes ls text
+  pub took : Took before.out after.out (text ++ end)
+
+-- what a command that is done writes behind all else
+abbrev pub closing_of : Job → List ℕ
+closing_of job = closing job.command job.passes
 
 -- `out` took a prefix of all that is owed for this input
-abbrev pub IsStopped : Command → Outside → Outside → Type 0
-IsStopped command before after =
-    (front : List ℕ) × (rest : List ℕ) × AreTold after.input rest × Wrote command before after TookPrefix front (lines_for command (front ++ rest))
-
--- a file of these texts is refused, and `out` took nothing
-abbrev pub IsRefusedBy : Command → Outside → Outside → Fault → Type 0
-IsRefusedBy command before after f = (files : List (List ℕ)) × AreTexts before.texts (names_of command) files × Refuses command files f × (after.out ≡ before.out)
+abbrev pub IsStopped : Job → Streams → Streams → Type 0
+IsStopped job before after =
+    (front : List ℕ) × (rest : List ℕ) × AreTold after.input rest
+    × Wrote job before after TookPrefix front (answered_lines (input_for job.command (front ++ rest))) (behind_lines (input_for job.command (front ++ rest)) (closing_of job))
 
 -- Done: all was read, and all that is owed was written. The input failed: the lines were answered whose line feed was read. The input is too long: those
 -- were whose line feed stands within the limit. `out` failed, or memory ran out: a prefix was written of what is owed. The file failed, or is refused:
 -- nothing was written.
-abbrev pub Ends : Command → Outside → Outside → Result (Unit {0}) Fault → Type 0
-Ends command before after (Ok done) =
-    (front : List ℕ) × IsReadUp (reads_input command) after.input × (length front ≤ input_limit) × Wrote command before after Appends front (lines front)
-Ends command before after (Err fault.Input) = (front : List ℕ) × (length front ≤ input_limit) × Wrote command before after Appends front (ended front)
-Ends command before after (Err fault.InputTooLong) =
-    (front : List ℕ) × (input_limit < length front) × Wrote command before after Appends front (ended (take input_limit front))
-Ends command before after (Err fault.Output) = IsStopped command before after
-Ends command before after (Err fault.NoMemory) = IsStopped command before after ⊎ (after.out ≡ before.out)
-Ends command before after (Err fault.File) = after.out ≡ before.out
-Ends command before after (Err f) = IsRefusedBy command before after f
+abbrev pub Ends : Job → Streams → Streams → Result (Unit {0}) Fault → Type 0
+Ends job before after (Ok done) =
+    (front : List ℕ) × IsReadUp (reads_input job.command) after.input × (length front ≤ input_limit) × Wrote job before after Appends front (lines front) (closing_of job)
+Ends job before after (Err fault.Input) =
+    (front : List ℕ) × (reads_input job.command ≡ true) × (length front ≤ input_limit) × Wrote job before after Appends front (ended front) []
+Ends job before after (Err fault.InputTooLong) = (front : List ℕ) × (input_limit < length front) × Wrote job before after Appends front (ended (take input_limit front)) []
+Ends job before after (Err fault.Output) = IsStopped job before after
+Ends job before after (Err fault.NoMemory) = IsStopped job before after ⊎ (after.out ≡ before.out)
+Ends job before after (Err fault.File) = after.out ≡ before.out
+Ends job before after (Err f) = Refuses job.command job.files f × (after.out ≡ before.out)
 
--- how it ends, which object failed, and what was taken of the file and of the input
-pub record Does (command : Command) (before after : Outside) (answer : Result (Unit {0}) Fault) : Type 0 where
-  pub ends : Ends command before after answer
+-- The texts of the files, as far as they are told, and what the passes told last; how it ends, which object failed, and what was taken of the file and of
+-- the input.
+pub record Does (command : Command) (given : List Told) (before after : Outside) (answer : Result (Unit {0}) Fault) : Type 0 where
+  pub files : List (List ℕ)
+  pub told : AreTexts before.texts (names_of command) files
+  pub passes : List Told
+  pub passed : ArePassed (calls_passes command) given passes
+  pub ends : Ends (record { command = command; files = files; passes = passes }) (streams_of before) (streams_of after) answer
   pub blames : Blames (names_of command) before after answer
   pub frugal : IsFrugal (names_of command) before after
 
 -- what the words ask, or nothing where they are no command
-abbrev pub Answers : Option Command → Outside → Outside → Result (Unit {0}) Fault → Type 0
-Answers None before after answer = (answer ≡ Err fault.Usage) × (after ≡ before)
-Answers (Some command) before after answer = Does command before after answer
+abbrev pub Answers : Option Command → List Told → Outside → Outside → Result (Unit {0}) Fault → Type 0
+Answers None given before after answer = (answer ≡ Err fault.Usage) × (after ≡ before)
+Answers (Some command) given before after answer = Does command given before after answer

@@ -3,6 +3,7 @@ pub mod Ends
 pub mod Limits
 pub mod Outside
 pub mod Owed
+pub mod Passes
 pub mod Picked
 pub mod Refusals
 pub mod Sources

@@ -1,15 +1,18 @@
 -- What a command is to write, in all.
-use Rattle.std.specs.Prelude.{◌≡◌, ℕ, ◌-◌, ◌^◌, List, [], ◌∷◌, ◌++◌}
+use Rattle.std.specs.Prelude.{◌≡◌, ℕ, ◌-◌, ◌^◌, List, [], ◌∷◌, ◌++◌, None}
 use Rattle.cf_io.specs.Limits.{line_limit}
 use Rattle.cf_tree.specs.declared.target.RawTarget.{RawTarget}
 use Rattle.cf_target.specs.Spelling.{target_tree}
 use Rattle.cf_program.specs.Checked.{TypedTree}
+use Rattle.cf_choose.specs.Precondition.{all_needs, IsPrecondition}
+use Rattle.cf_build.specs.Questions.{Question, all_questions, by_number, limit_of, question_arms}
+use Rattle.cf_emit.specs.Printed.{target_text, pre_text}
+use Rattle.cf_emit.specs.ReadsBack.{ReadsBack}
 use Rattle.cf_eval.specs.Replies.{IsReply}
-use Rattle.cf_top.specs.Commands.{Command, run, exec}
+use Rattle.cf_top.specs.Commands.{Command, compile, run, pre, exec}
+use Rattle.cf_top.specs.Passes.{Told, applied}
 use Rattle.cf_top.specs.Picked.{IsSourceReply}
 use Rattle.cf_top.specs.Sources.{Compiles, IsTypedSource, IsTypedTarget}
-use Rattle.cf_top.specs.declared.words.CommandKind.{CommandKind}
-use Rattle.cf_top.specs.declared.words.CommandKind.TheVariants.{Run, Exec}
 
 -- what answers the lines of the input
 pub data Answerer : Type 0 where
@@ -27,17 +30,31 @@ AllReplied Is (line ∷ ls) text = (reply : List ℕ) × (more : List ℕ) × (t
 abbrev pub AreReplies : Answerer → List (List ℕ) → List ℕ → Type 0
 AreReplies a ls text = AllReplied (IsReplyBy a) ls text
 
--- the replies that the program of a source picks
-abbrev pub ArePicked : List ℕ → List (List ℕ) → List ℕ → Type 0
-ArePicked source ls text = (typed : TypedTree) × IsTypedSource source typed × AllReplied (IsSourceReply typed) ls text
+-- the replies that the program of a source picks, where so many passes have rewritten it
+abbrev pub ArePicked : ℕ → List ℕ → List (List ℕ) → List ℕ → Type 0
+ArePicked passes source ls text = (typed : TypedTree) × IsTypedSource source typed × AllReplied (IsSourceReply typed passes) ls text
 
--- what answers the lines of the input by a file of this text: the target that the source is compiled to, or the one that the file spells
-abbrev pub HasTarget : CommandKind → List ℕ → RawTarget → Type 0
-HasTarget Run text t = Compiles text t
-HasTarget Exec text t = IsTypedTarget text (target_tree t)
+-- the printed target, which reads back to this target alone
+pub record IsPrinted (t : RawTarget) (text : List ℕ) : Type 0 where
+  pub is : text ≡ target_text t
+  pub reads_back : ReadsBack (target_tree t) text
 
--- what a command is to write on files of these texts and these lines of the input; a source's replies are what it picks
-abbrev pub Owes : Command → List (List ℕ) → List (List ℕ) → List ℕ → Type 0
-Owes (run flags name) (file ∷ []) ls text = (t : RawTarget) × HasTarget Run file t × AreReplies (by_target t) ls text × ArePicked file ls text
-Owes (exec name) (file ∷ []) ls text = (t : RawTarget) × HasTarget Exec file t × AreReplies (by_target t) ls text
-Owes command files ls text = ⊥
+-- a choose passes no limit, and this is the printed form of the needs of its arms, which hold exactly where there are outputs
+pub record IsPreOf (q : Question) (text : List ℕ) : Type 0 where
+  pub within : limit_of q ≡ None
+  pub is : text ≡ pre_text q.number q.names (all_needs (question_arms q))
+  pub holds : IsPrecondition q.scope q.outputs q.relation (all_needs (question_arms q))
+
+-- the preconditions of chooses in order
+abbrev pub ArePres : List Question → List ℕ → Type 0
+ArePres [] text = text ≡ []
+ArePres (q ∷ qs) text = (first : List ℕ) × (more : List ℕ) × (text ≡ first ++ more) × IsPreOf q first × ArePres qs more
+
+-- What a command is to write on files of these texts, with passes that tell this, and these lines of the input. A source's replies are what it picks.
+abbrev pub Owes : Command → List (List ℕ) → List Told → List (List ℕ) → List ℕ → Type 0
+Owes (compile flags name) (file ∷ []) passes ls text = (t : RawTarget) × Compiles (applied (compile flags name) passes) file t × IsPrinted t text
+Owes (run flags name) (file ∷ []) passes ls text =
+    (t : RawTarget) × Compiles (applied (run flags name) passes) file t × AreReplies (by_target t) ls text × ArePicked (applied (run flags name) passes) file ls text
+Owes (pre name) (file ∷ []) passes ls text = (typed : TypedTree) × IsTypedSource file typed × ArePres (by_number (all_questions typed.defs)) text
+Owes (exec name) (file ∷ []) passes ls text = (t : RawTarget) × IsTypedTarget file (target_tree t) × AreReplies (by_target t) ls text
+Owes command files passes ls text = ⊥

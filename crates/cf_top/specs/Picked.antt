@@ -7,6 +7,7 @@ use Rattle.cf_tree.specs.Values.{Value, Outcome}
 use Rattle.cf_program.specs.Checked.{TypedTree}
 use Rattle.cf_program.specs.Names.{bases_of}
 use Rattle.cf_growth.specs.Overflowing.{picked, MayOverflow}
+use Rattle.cf_build.specs.Built.{SourceAllows}
 use Rattle.cf_build.specs.Runs.{lowered_bodies}
 use Rattle.cf_eval.specs.Spelling.{SpellsValues}
 use Rattle.cf_eval.specs.Texts.{outcome_text}
@@ -24,9 +25,13 @@ abbrev pub picked_text : Option Outcome → List ℕ
 picked_text None = codes "overflow"
 picked_text (Some o) = outcome_text o
 
--- The reply to a line: what main picks at the values that the line spells. It is overflow only where a near path may overflow.
-pub data IsSourceReply (typed : TypedTree) (line : List ℕ) : List ℕ → Type 0 where
-  too_long : line_limit < length line → IsSourceReply typed line (codes "line too long")
-  bad_input : length line ≤ line_limit → ((vs : List Value) → SpellsValues limit (main_bases typed) line vs → ⊥) → IsSourceReply typed line (codes "bad input")
+-- The reply to a line by a program that so many passes have rewritten: what main picks at the values that the line spells. It is overflow only where a near
+-- path may overflow. Where what main picks overflows and there are passes, an allowed outcome may stand in its place.
+pub data IsSourceReply (typed : TypedTree) (passes : ℕ) (line : List ℕ) : List ℕ → Type 0 where
+  too_long : line_limit < length line → IsSourceReply typed passes line (codes "line too long")
+  bad_input : length line ≤ line_limit → ((vs : List Value) → SpellsValues limit (main_bases typed) line vs → ⊥) →
+      IsSourceReply typed passes line (codes "bad input")
   picks : (vs : List Value) → length line ≤ line_limit → SpellsValues limit (main_bases typed) line vs →
-      (main_picks typed vs ≡ None → MayOverflow (lowered_bodies typed.defs) typed.main vs) → IsSourceReply typed line (picked_text (main_picks typed vs))
+      (main_picks typed vs ≡ None → MayOverflow (lowered_bodies typed.defs) typed.main vs) → IsSourceReply typed passes line (picked_text (main_picks typed vs))
+  allows : (vs : List Value) (o : Outcome) → length line ≤ line_limit → SpellsValues limit (main_bases typed) line vs → main_picks typed vs ≡ None →
+      1 ≤ passes → SourceAllows typed.defs typed.main vs o → IsSourceReply typed passes line (outcome_text o)

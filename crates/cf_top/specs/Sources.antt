@@ -24,9 +24,9 @@ Spelled Is text x = (ts : List Token) × (end : Place) × HasTokens text ts end 
 abbrev pub IsTypedSource : List ℕ → TypedTree → Type 0
 IsTypedSource text typed = (program : List RawDefTree) × Spelled IsProgram text program × (checked program ≡ Ok typed)
 
--- the text spells a program in which no rule is broken, and this target is built of it
-abbrev pub Compiles : List ℕ → RawTarget → Type 0
-Compiles text t = (typed : TypedTree) × IsTypedSource text typed × IsBuilt typed.defs typed.main t
+-- the text spells a program in which no rule is broken, and this target is built of it and rewritten by so many passes
+abbrev pub Compiles : ℕ → List ℕ → RawTarget → Type 0
+Compiles passes text t = (typed : TypedTree) × IsTypedSource text typed × IsBuilt typed.defs typed.main passes t
 
 -- the whole code of the target asks for its results
 abbrev pub IsTypedTree : TargetTree → Type 0

@@ -1,25 +1,30 @@
 -- How far an input was answered; for the contracts within the crate.
-use Rattle.std.specs.Prelude.{◌≡◌, ◌⊎◌, ◌≤◌, ◌<◌, ◌+◌, ℕ, List, [], ◌∷◌, ◌++◌, take, length, codes, Option, Result, Ok, Err}
+use Rattle.std.specs.Prelude.{◌≡◌, ◌⊎◌, ◌≤◌, ◌<◌, ◌+◌, ℕ, false, List, [], ◌∷◌, ◌++◌, take, length, codes, Option, Result, Ok, Err}
 use Rattle.std.specs.Io.KnownBytes.{Appends, Consumes, IsAtEnd}
-use Rattle.cf_io.specs.Bytes.{TookPrefix}
+use Rattle.cf_io.specs.Bytes.{TookPrefix, TookFront}
 use Rattle.cf_io.specs.Cut.{CutterState, Stands, told}
 use Rattle.cf_io.specs.Limits.{line_limit, input_limit}
 use Rattle.cf_io.specs.Lines.{lines, ended}
 use Rattle.cf_io.specs.declared.line.Line.{Line}
 use Rattle.cf_io.specs.declared.line.Line.TheVariants.{Text, TooLong}
-use Rattle.cf_tree.specs.declared.target.RawTarget.{RawTarget}
-use Rattle.cf_top.specs.Ends.{answered_lines}
+use Rattle.cf_top.specs.Commands.{Command, calls_passes}
+use Rattle.cf_top.specs.Ends.{Streams, answered_lines, Ends}
 use Rattle.cf_top.specs.Outside.{AreTold}
-use Rattle.cf_top.specs.Owed.{Answerer, by_target, IsReplyBy, AreReplies, HasTarget}
-use Rattle.cf_top.specs.Refusals.{IsRefused}
+use Rattle.cf_top.specs.Owed.{Answerer, IsReplyBy, AreReplies}
+use Rattle.cf_top.specs.Passes.{Told, ArePassed}
+use Rattle.cf_top.specs.Words.{is_flag}
 use Rattle.cf_top.specs.declared.fault.Fault.{Fault}
 use Rattle.cf_top.specs.declared.fault.Fault.TheVariants as fault
-use Rattle.cf_top.specs.declared.words.CommandKind.{CommandKind}
 
--- the target of a text, or why it is refused, or want of memory
-abbrev pub IsVerdict : CommandKind → List ℕ → Result RawTarget Fault → Type 0
-IsVerdict kind text (Ok t) = HasTarget kind text t
-IsVerdict kind text (Err f) = IsRefused kind text f ⊎ (f ≡ fault.NoMemory)
+-- the words begin with no flag
+abbrev pub IsPastFlags : List (List ℕ) → Type 0
+IsPastFlags [] = Unit {0}
+IsPastFlags (word ∷ words) = is_flag word ≡ false
+
+-- what is made of a text, where Good says what it may be; or a fault for which Refused says that the text is refused; or want of memory
+abbrev pub IsVerdict : {A : Type 0} → (A → Type 0) → (Fault → Type 0) → Result A Fault → Type 0
+IsVerdict Good Refused (Ok x) = Good x
+IsVerdict Good Refused (Err f) = Refused f ⊎ (f ≡ fault.NoMemory)
 
 -- the reply to a line as it is cut
 abbrev pub IsLineReply : Answerer → Line → List ℕ → Type 0
@@ -77,8 +82,20 @@ pub record RunsOn (a : Answerer) (left still_left old new : Option (List ℕ)) (
   pub most : length front ≤ input_limit + 1
   pub runs : Runs a front still_left old new answer
 
--- what comes of a text and an input
-pub data AnswersText (kind : CommandKind) (text : List ℕ) (left still_left old new : Option (List ℕ)) (answer : Result (Unit {0}) Fault) : Type 0 where
-  ran : (t : RawTarget) → HasTarget kind text t → RunsOn (by_target t) left still_left old new answer → AnswersText kind text left still_left old new answer
-  stopped : (f : Fault) → answer ≡ Err f → IsRefused kind text f → still_left ≡ left → new ≡ old → AnswersText kind text left still_left old new answer
-  no_memory : answer ≡ Err fault.NoMemory → still_left ≡ left → new ≡ old → AnswersText kind text left still_left old new answer
+-- what answering an input and then writing `end` does
+pub data RunsThrough (a : Answerer) (end : List ℕ) (left still_left old new : Option (List ℕ)) (answer : Result (Unit {0}) Fault) : Type 0 where
+  cut : (f : Fault) → answer ≡ Err f → RunsOn a left still_left old new (Err f) → RunsThrough a end left still_left old new answer
+  part : (mid : Option (List ℕ)) (f : Fault) → RunsOn a left still_left old mid (Ok tt) → answer ≡ Err f → IsOutFault f → TookPrefix mid new end →
+      RunsThrough a end left still_left old new answer
+  whole : (mid : Option (List ℕ)) → RunsOn a left still_left old mid (Ok tt) → answer ≡ Ok tt → Appends mid new end →
+      RunsThrough a end left still_left old new answer
+
+-- what comes of a command on files of these texts, with passes that told this before: how it ends, whatever the names of the files, and how much of the
+-- input was read; the answer names neither the words nor a file
+pub record AnswersOn (command : Command) (given : List Told) (files : List (List ℕ)) (before after : Streams) (answer : Result (Unit {0}) Fault) : Type 0 where
+  pub passes : List Told
+  pub passed : ArePassed (calls_passes command) given passes
+  pub ends : Ends (record { command = command; files = files; passes = passes }) before after answer
+  pub frugal : TookFront (input_limit + 1) before.input after.input
+  pub not_usage : answer ≡ Err fault.Usage → ⊥
+  pub not_file : answer ≡ Err fault.File → ⊥

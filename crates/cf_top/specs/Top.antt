@@ -7,6 +7,7 @@ use Rattle.cf_io.specs.Limits.{input_limit}
 use Rattle.cf_top.specs.Commands.{Command, names_of, reads_input}
 use Rattle.cf_top.specs.Ends.{Answers}
 use Rattle.cf_top.specs.Outside.{Outside}
+use Rattle.cf_top.specs.Passes.{Told}
 use Rattle.cf_top.specs.Refusals.{Refuses, IsAccepted}
 use Rattle.cf_top.specs.Statuses.{fault_status, status_of}
 use Rattle.cf_top.specs.Texts.{answer_line}
@@ -24,11 +25,11 @@ pub record IsTold (before after : Errors) (text : List ℕ) : Type 0 where
   pub prefix : TookPrefix before.held after.held text
   pub whole : (after.faults ≡ one_more before.faults) ⊎ (Appends before.held after.held text × (after.faults ≡ before.faults))
 
--- an answer to the words, with its status and its line
-pub record TopAnswer (command : Option Command) (before after : Outside) (errors_before errors_after : Errors) (status : Status) : Type 0 where
+-- an answer to the words, with passes that told this before; its status and its line
+pub record TopAnswer (command : Option Command) (given : List Told) (before after : Outside) (errors_before errors_after : Errors) (status : Status) : Type 0 where
   pub answer : Result (Unit {0}) Fault
   pub is : status ≡ status_of answer
-  pub answers : Answers command before after answer
+  pub answers : Answers command given before after answer
   pub told : IsTold errors_before errors_after (answer_line answer)
 
 -- a status after which the input and `out` are as before
@@ -55,8 +56,10 @@ IsLong false input = ⊥
 -- failed, unless the input is too long. Or memory ran out.
 pub record IsComplete (command : Command) (files : List (List ℕ)) (input : Option (List ℕ)) (status : Status) : Type 0 where
   pub refused : (f : Fault) → Refuses command files f → (status ≡ fault_status f) ⊎ (status ≡ NoMemory)
-  pub done : IsAccepted command files → (status ≡ Input → ⊥) → (status ≡ Output → ⊥) → IsShort (reads_input command) input → (status ≡ Done) ⊎ (status ≡ NoMemory)
-  pub too_long : IsAccepted command files → (status ≡ Input → ⊥) → (status ≡ Output → ⊥) → IsLong (reads_input command) input → (status ≡ InputLong) ⊎ (status ≡ NoMemory)
+  pub done : IsAccepted command files → (status ≡ Input → ⊥) → (status ≡ Output → ⊥) → IsShort (reads_input command) input →
+      (status ≡ Done) ⊎ (status ≡ NoMemory)
+  pub too_long : IsAccepted command files → (status ≡ Input → ⊥) → (status ≡ Output → ⊥) → IsLong (reads_input command) input →
+      (status ≡ InputLong) ⊎ (status ≡ NoMemory)
 
 -- the same where the texts of its files are told and no file failed
 abbrev pub Completes : Command → Outside → Status → Type 0

@@ -16,8 +16,9 @@ use cf_tree::memory::NoMemory;
 use cf_tree::target::Target;
 use std::alloc::Global;
 
+/// Writes a text.
 #[tactic(auto, using(crate::proofs::CountLemmas::one_fault))]
-fn write_replies<O: Sink>(out: &mut O, text: &[u8]) -> Result<(), Fault>
+pub fn write_text<O: Sink>(out: &mut O, text: &[u8]) -> Result<(), Fault>
     ensures all { OnOk result (Appends (O.held out.old) (O.held out.new) text.now) }
     ensures prefix { TookPrefix (O.held out.old) (O.held out.new) text.now }
     ensures fault { IfErr result IsOutFault }
@@ -45,7 +46,7 @@ fn answer_lines<O: Sink>(
     ensures same { ¬ IsErrOf result Fault.Output → O.faults out.new ≡ O.faults out.old }
 {
     match replies(alloc, target, lines) {
-        Ok(text) => write_replies(out, &text),
+        Ok(text) => write_text(out, &text),
         Err(NoMemory) => Err(Fault::NoMemory),
     }
 }

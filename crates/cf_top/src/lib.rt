@@ -1,13 +1,16 @@
-//! What the program does, over any shelf, input and sinks.
+//! What the program does, over any shelf, input, sinks and passes.
 #![tactic(auto)]
 
 mod answer;
 mod fault;
+mod file;
 mod input;
 mod limits;
+mod preconditions;
 mod reply;
 mod source;
 mod status;
+mod tallies;
 mod target;
 mod tell;
 mod text;

@@ -1,31 +1,33 @@
 //! The top call.
-ghost use Rattle.std.specs.Prelude.{◌≡◌, ◌⊎◌, ◌↔◌, ◌≤◌, ◌<◌, ◌+◌, ◌-◌, ◌^◌, ℕ, List, length, map, string_bytes, Option, None, Some, IfSome, IsSomeAnd, IsErrOf, Contains};
+ghost use Rattle.std.specs.Prelude.{◌≡◌, ◌⊎◌, ◌↔◌, ◌≤◌, ◌<◌, ◌+◌, ◌-◌, ◌^◌, ℕ, List, [], ◌∷◌, false, length, map, string_bytes, Option, None, Some, IfSome, IsSomeAnd, IsErrOf, Contains};
 ghost use Rattle.cf_io.specs.Bytes.{TookPrefix, TookFront};
 ghost use Rattle.cf_io.specs.Causes.{Rose, one_more};
 ghost use Rattle.cf_io.specs.Limits.{input_limit};
-ghost use Rattle.cf_top.specs.Commands.{names_of};
+ghost use Rattle.cf_top.specs.Commands.{names_of, reads_input};
 ghost use Rattle.cf_top.specs.Ends.{Answers, Does};
 ghost use Rattle.cf_top.specs.Limits.{text_limit};
 ghost use Rattle.cf_top.specs.Outside.{Outside};
 ghost use Rattle.cf_top.specs.Statuses.{status_of as the_status_of};
-ghost use Rattle.cf_top.specs.Steps.{AnswersText};
+ghost use Rattle.cf_top.specs.Steps.{AnswersOn};
 ghost use Rattle.cf_top.specs.Top.{Errors, IsEarly, Completes, TopAnswer};
 ghost use Rattle.cf_top.specs.Words.{command_of, command_on};
 
 use crate::fault::Fault;
-use crate::input::answer_input;
+use crate::file::{run_source, run_target, write_preconditions, write_target};
 use crate::limits::longest_text;
 use crate::status::{Status, status_of};
 use crate::tell::tell;
-use crate::text::target_of;
 use crate::words::{Command, CommandKind, parse};
 use cf_io::{ReadFault, Shelf, Sink, Source, read_text};
+use cf_pass::Pass;
 use std::alloc::Global;
 
-/// Does all that the program does: it reads the words, the file and the input, and writes the replies.
-/// What a refusal writes goes to `err`.
+/// Does all that the program does: it reads the words, the file and the input, and writes what the
+/// command is to write. What a refusal writes goes to `err`.
 ///
-/// `words` are those behind the program's name. The status says how the call ended.
+/// `words` are those behind the program's name. `passes` rewrite what is compiled, each once and in
+/// order, unless the words say `--plain`; they are dropped before the call ends. The status says how it
+/// ended.
 pub fn comfusy<F: Shelf, I: Source, O: Sink, E: Sink>(
     alloc: Global,
     words: &[String],
@@ -33,9 +35,10 @@ pub fn comfusy<F: Shelf, I: Source, O: Sink, E: Sink>(
     input: &mut I,
     out: &mut O,
     err: &mut E,
+    passes: Vec<Box<dyn Pass>>,
 ) -> Status
-    // What was answered, what was read, what `out` and `err` took, and which object failed.
-    ensures tells { TopAnswer (command_of (map string_bytes words.now))
+    // What was answered, what was read, what `out` and `err` took, which object failed, and what the passes told last.
+    ensures tells { TopAnswer (command_of (map string_bytes words.now)) (map (λ p. record { name = name p; tally = tally p }) passes.items)
         (record { texts = F.text shelf.old; left = F.left shelf.old; input = I.left input.old; out = O.held out.old; fetches = F.fetches shelf.old; file_faults = F.faults shelf.old; input_faults = I.faults input.old; out_faults = O.faults out.old })
         (record { texts = F.text shelf.new; left = F.left shelf.new; input = I.left input.new; out = O.held out.new; fetches = F.fetches shelf.new; file_faults = F.faults shelf.new; input_faults = I.faults input.new; out_faults = O.faults out.new })
         (record { held = E.held err.old; faults = E.faults err.old }) (record { held = E.held err.new; faults = E.faults err.new }) result }
@@ -48,9 +51,11 @@ pub fn comfusy<F: Shelf, I: Source, O: Sink, E: Sink>(
         (record { texts = F.text shelf.old; left = F.left shelf.old; input = I.left input.old; out = O.held out.old; fetches = F.fetches shelf.old; file_faults = F.faults shelf.old; input_faults = I.faults input.old; out_faults = O.faults out.old }) result) }
     ensures shelf { result ≡ Status.Usage → shelf.new ≡ shelf.old }
     ensures unread { IsEarly result → input.new ≡ input.old }
+    ensures unasked { IfSome (command_of (map string_bytes words.now)) (λ c. reads_input c ≡ false → input.new ≡ input.old) }
     ensures unwritten { IsEarly result → out.new ≡ out.old }
 {
-    let answer = answer_words(alloc, words, shelf, input, out);
+    let mut passes = passes;
+    let answer = answer_words(alloc, words, shelf, input, out, &mut passes);
     let _ = tell(err, &answer);
     status_of(&answer)
 }
@@ -61,65 +66,74 @@ fn answer_words<F: Shelf, I: Source, O: Sink>(
     shelf: &mut F,
     input: &mut I,
     out: &mut O,
+    passes: &mut Vec<Box<dyn Pass>>,
 ) -> Result<(), Fault>
-    ensures answers { Answers (command_of (map string_bytes words.now))
+    ensures answers { Answers (command_of (map string_bytes words.now)) (map (λ p. record { name = name p; tally = tally p }) passes.old.items)
         (record { texts = F.text shelf.old; left = F.left shelf.old; input = I.left input.old; out = O.held out.old; fetches = F.fetches shelf.old; file_faults = F.faults shelf.old; input_faults = I.faults input.old; out_faults = O.faults out.old })
         (record { texts = F.text shelf.new; left = F.left shelf.new; input = I.left input.new; out = O.held out.new; fetches = F.fetches shelf.new; file_faults = F.faults shelf.new; input_faults = I.faults input.new; out_faults = O.faults out.new }) result }
     ensures usage { IsErrOf result Fault.Usage ↔ (command_of (map string_bytes words.now) ≡ None) }
     ensures shelf { IsErrOf result Fault.Usage → shelf.new ≡ shelf.old }
     ensures unread { IsEarly (the_status_of result) → input.new ≡ input.old }
+    ensures unasked { IfSome (command_of (map string_bytes words.now)) (λ c. reads_input c ≡ false → input.new ≡ input.old) }
     ensures unwritten { IsEarly (the_status_of result) → out.new ≡ out.old }
 {
     match parse(words) {
         None => Err(Fault::Usage),
-        Some(Command { kind, file }) => answer_file(alloc, kind, file, shelf, input, out),
+        Some(command) => answer_file(alloc, &command, shelf, input, out, passes),
     }
 }
 
-// Reads the file, and answers the input by it.
+// Reads the file, and does with it what the command asks.
 fn answer_file<F: Shelf, I: Source, O: Sink>(
     alloc: Global,
-    kind: CommandKind,
-    file: &str,
+    command: &Command<'_>,
     shelf: &mut F,
     input: &mut I,
     out: &mut O,
+    passes: &mut Vec<Box<dyn Pass>>,
 ) -> Result<(), Fault>
-    ensures does { Does (command_on kind file.now)
+    ensures does { Does (command_on command.now.kind command.now.flags command.now.file.now) (map (λ p. record { name = name p; tally = tally p }) passes.old.items)
         (record { texts = F.text shelf.old; left = F.left shelf.old; input = I.left input.old; out = O.held out.old; fetches = F.fetches shelf.old; file_faults = F.faults shelf.old; input_faults = I.faults input.old; out_faults = O.faults out.old })
         (record { texts = F.text shelf.new; left = F.left shelf.new; input = I.left input.new; out = O.held out.new; fetches = F.fetches shelf.new; file_faults = F.faults shelf.new; input_faults = I.faults input.new; out_faults = O.faults out.new }) result }
     ensures usage { ¬ IsErrOf result Fault.Usage }
     ensures unread { IsEarly (the_status_of result) → input.new ≡ input.old }
+    ensures unasked { reads_input (command_on command.now.kind command.now.flags command.now.file.now) ≡ false → input.new ≡ input.old }
     ensures unwritten { IsEarly (the_status_of result) → out.new ≡ out.old }
 {
-    match read_text(alloc, shelf, file, longest_text()) {
-        Ok(text) => answer_text(alloc, kind, &text, input, out),
+    match read_text(alloc, shelf, command.file, longest_text()) {
+        Ok(text) => answer_text(alloc, command, &text, input, out, passes),
         Err(ReadFault::Failed) => Err(Fault::File),
         Err(ReadFault::TooLong) => Err(Fault::TextTooLong),
         Err(ReadFault::NoMemory) => Err(Fault::NoMemory),
     }
 }
 
-// Answers the input by a text.
+// Does with the text of a file what the command asks.
 fn answer_text<I: Source, O: Sink>(
     alloc: Global,
-    kind: CommandKind,
+    command: &Command<'_>,
     text: &[u8],
     input: &mut I,
     out: &mut O,
+    passes: &mut Vec<Box<dyn Pass>>,
 ) -> Result<(), Fault>
     requires short { length text.now ≤ text_limit }
     requires small { length text.now < 2 ^ 31 }
-    ensures answers { AnswersText kind text.now (I.left input.old) (I.left input.new) (O.held out.old) (O.held out.new) result }
+    ensures answers { AnswersOn (command_on command.now.kind command.now.flags command.now.file.now) (map (λ p. record { name = name p; tally = tally p }) passes.old.items) (text.now ∷ [])
+        (record { input = I.left input.old; out = O.held out.old }) (record { input = I.left input.new; out = O.held out.new }) result }
     ensures input { IsErrOf result Fault.Input → I.faults input.new ≡ one_more (I.faults input.old) }
     ensures input_same { ¬ IsErrOf result Fault.Input → I.faults input.new ≡ I.faults input.old }
     ensures output { IsErrOf result Fault.Output → O.faults out.new ≡ one_more (O.faults out.old) }
     ensures output_same { ¬ IsErrOf result Fault.Output → O.faults out.new ≡ O.faults out.old }
     ensures unread { IsEarly (the_status_of result) → input.new ≡ input.old }
+    ensures unasked { reads_input (command_on command.now.kind command.now.flags command.now.file.now) ≡ false → input.new ≡ input.old }
     ensures unwritten { IsEarly (the_status_of result) → out.new ≡ out.old }
 {
-    match target_of(alloc, kind, text) {
-        Ok(target) => answer_input(alloc, &target, input, out),
-        Err(fault) => Err(fault),
+    let flags = command.flags;
+    match command.kind {
+        CommandKind::Compile => write_target(alloc, flags, text, out, passes),
+        CommandKind::Run => run_source(alloc, flags, text, input, out, passes),
+        CommandKind::Pre => write_preconditions(alloc, text, out),
+        CommandKind::Exec => run_target(alloc, text, input, out),
     }
 }

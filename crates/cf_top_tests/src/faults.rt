@@ -44,7 +44,15 @@ fn seen(alloc: Global, program: &str, faults: &Faults) -> Result<Ending, NoMemor
     let mut input = Dripping::new(LINES.as_bytes(), faults.input);
     let mut out = MemSink::new(alloc, faults.room, faults.out.to_vec(alloc)?)?;
     let mut err = MemSink::new(alloc, 100, faults.err.to_vec(alloc)?)?;
-    let status = comfusy(alloc, &words, &mut shelf, &mut input, &mut out, &mut err);
+    let status = comfusy(
+        alloc,
+        &words,
+        &mut shelf,
+        &mut input,
+        &mut out,
+        &mut err,
+        Vec::new(alloc),
+    );
     Ok(Ending {
         status,
         out: out.held().to_vec(alloc)?,

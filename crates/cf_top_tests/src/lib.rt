@@ -2,11 +2,15 @@
 #![tactic(auto)]
 
 #[cfg(test)]
+mod faint;
+#[cfg(test)]
 mod faults;
 #[cfg(test)]
 mod interrupted;
 #[cfg(test)]
 mod objects;
+#[cfg(test)]
+mod passes;
 #[cfg(test)]
 mod streaming;
 #[cfg(test)]

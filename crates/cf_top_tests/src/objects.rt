@@ -11,6 +11,10 @@ use std::cell::Cell;
 pub const ROUNDING: &str =
     "def main(a: int, b: int): int = choose (x: int) where a <= 2 * x && 2 * x <= b\n";
 
+/// The program that takes a number of seconds apart.
+pub const SECONDS: &str =
+    "def main(t: int): (int, int, int) = choose (h: int, m: int, s: int) where h * 3600 + m * 60 + s == t && 0 <= h && 0 <= m && m <= 59 && 0 <= s && s <= 59\n";
+
 /// The replies to `3 4` and `3 3`.
 pub const REPLIES: &str = "2\nno solution at choose 1\n";
 

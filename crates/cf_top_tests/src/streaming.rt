@@ -14,7 +14,15 @@ fn a_reply_comes_before_the_next_read(rt: HostRuntime) -> Result<(), Fail> {
     let mut input = Waiting::new(b"3 4\n", b"3 3\n", &taken);
     let mut out = Telling::new(alloc, &taken);
     let mut err = MemSink::new(alloc, 100, Vec::new(alloc))?;
-    let status = comfusy(alloc, &words, &mut shelf, &mut input, &mut out, &mut err);
+    let status = comfusy(
+        alloc,
+        &words,
+        &mut shelf,
+        &mut input,
+        &mut out,
+        &mut err,
+        Vec::new(alloc),
+    );
     assert_eq!(rt; status, Status::Done);
     assert_eq!(rt; out.held(), REPLIES.as_bytes());
     assert_eq!(rt; err.held(), b"".as_slice());

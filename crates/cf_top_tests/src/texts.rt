@@ -1,12 +1,9 @@
 //! A text that is cut off anywhere is refused as a text or for a rule, or is whole.
-use crate::objects::{shelf_of, words};
+use crate::objects::{SECONDS, shelf_of, words};
 use cf_io::{MemSink, MemSource};
 use cf_top::{Status, comfusy};
 use cf_tree::base::Bytes;
 use std::test::Fail;
-
-const SECONDS: &str =
-    "def main(t: int): (int, int, int) = choose (h: int, m: int, s: int) where h * 3600 + m * 60 + s == t && 0 <= h && 0 <= m && m <= 59 && 0 <= s && s <= 59\n";
 
 #[test]
 fn a_text_cut_after_any_byte_writes_nothing_unless_it_is_done(rt: HostRuntime) -> Result<(), Fail> {
@@ -18,7 +15,15 @@ fn a_text_cut_after_any_byte_writes_nothing_unless_it_is_done(rt: HostRuntime) -
         let mut input = MemSource::new(Bytes { bytes: line }, Vec::new(alloc));
         let mut out = MemSink::new(alloc, 100, Vec::new(alloc))?;
         let mut err = MemSink::new(alloc, 100, Vec::new(alloc))?;
-        let status = comfusy(alloc, &words, &mut shelf, &mut input, &mut out, &mut err);
+        let status = comfusy(
+            alloc,
+            &words,
+            &mut shelf,
+            &mut input,
+            &mut out,
+            &mut err,
+            Vec::new(alloc),
+        );
         assert!(rt; matches!(status, Status::Done | Status::Text | Status::Types));
         assert!(rt; status == Status::Done || out.held().is_empty());
         assert!(rt; status != Status::Done || err.held().is_empty());

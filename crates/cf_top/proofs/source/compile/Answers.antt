@@ -1,14 +1,15 @@
-use Rattle.cf_top.proofs.SpelledLemmas.{spelled_program}
-use Rattle.cf_top.proofs.TextLemmas.{no_source}
+use Rattle.std.proofs.Common.{inl}
+use Rattle.cf_program.specs.Typed.{typed_tree}
+use Rattle.cf_top.proofs.PassLemmas.{none_fell}
+use Rattle.cf_top.proofs.TextLemmas.{choose_refused}
 use Rattle.cf_top.proofs.source.compile.Goals as goal
 
-pub compile_program-requires : goal.compile_program-requires
-compile_program-requires c = spelled_program _ c.args.list.now.list.items c.in-Ok.ensures.found c.requires
+pub returns-in-Err-clause-tallies : goal.returns-in-Err-clause-tallies
+returns-in-Err-clause-tallies g c = none_fell _
 
-pub returns-in-Ok : goal.returns-in-Ok
-returns-in-Ok c = λ text h. c.compile_program.ensures text (c.args.list.now.list.items, c.args.list.now.end, h, c.in-Ok.ensures.found)
+pub returns-in-Err-lower-clause-tallies : goal.returns-in-Err-lower-clause-tallies
+returns-in-Err-lower-clause-tallies g c = none_fell _
 
-pub returns-in-Err-Syntax : goal.returns-in-Err-Syntax
-returns-in-Err-Syntax c =
-    λ text h. rw c.in-Err-Syntax.field-0-is
-    (no_source text c.args.list.now.list.items c.args.list.now.end c.in-Err-Syntax.place h (rw c.in-Err-Syntax.field-0-is at c.in-Err-Syntax.ensures.only) (rw c.in-Err-Syntax.field-0-is at c.in-Err-Syntax.ensures.place))
+pub returns-in-Err-Choose-clause-verdict : goal.returns-in-Err-Choose-clause-verdict
+returns-in-Err-Choose-clause-verdict g c =
+    inl (choose_refused c.args.text.now (typed_tree c.in-Ok.typed) _ _ c.in-Ok.ensures (rw c.in-Err-Choose.field-0-is at c.in-Err-Choose.ensures.answer))

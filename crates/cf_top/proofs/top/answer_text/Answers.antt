@@ -1,15 +1,7 @@
-use Rattle.cf_top.specs.Steps.{ran}
-use Rattle.cf_top.proofs.AnswerLemmas.{ran_not_early, refused_answers}
 use Rattle.cf_top.proofs.top.answer_text.Goals as goal
 
-pub returns-in-Ok-clause-answers : goal.returns-in-Ok-clause-answers
-returns-in-Ok-clause-answers g c = ran _ c.in-Ok.ensures c.answer_input.ensures.runs
+pub returns-in-Compile-clause-answers : goal.returns-in-Compile-clause-answers
+returns-in-Compile-clause-answers g c = rw c.in-Compile.is (c.write_target.ensures.answers c.args.command.now.file.now (g.I.Source.left c.args.input.now))
 
-pub returns-in-Ok-clause-unread : goal.returns-in-Ok-clause-unread
-returns-in-Ok-clause-unread g c = λ e. absurd (ran_not_early _ _ _ _ _ _ c.answer_input.ensures.runs e)
-
-pub returns-in-Ok-clause-unwritten : goal.returns-in-Ok-clause-unwritten
-returns-in-Ok-clause-unwritten g c = λ e. absurd (ran_not_early _ _ _ _ _ _ c.answer_input.ensures.runs e)
-
-pub returns-in-Err-clause-answers : goal.returns-in-Err-clause-answers
-returns-in-Err-clause-answers g c = refused_answers c.args.kind c.args.text.now _ _ _ c.in-Err.ensures
+pub returns-in-Run-clause-answers : goal.returns-in-Run-clause-answers
+returns-in-Run-clause-answers g c = rw c.in-Run.is (c.run_source.ensures.answers c.args.command.now.file.now)

@@ -19,16 +19,16 @@ returns-clause-usage g c =
     (λ e. c.answer_words-answer.ensures.usage.0 (is_usage _ (sym is ∙ e)), λ n. is ∙ ap status_of (c.answer_words-answer.ensures.usage.1 n))
 
 pub returns-clause-file : goal.returns-clause-file
-returns-clause-file g c = λ e. file_rose _ _ _ _ c.answer_words-answer.ensures.answers (is_file _ (sym c.status_of.ensures ∙ e))
+returns-clause-file g c = λ e. file_rose _ _ _ _ _ c.answer_words-answer.ensures.answers (is_file _ (sym c.status_of.ensures ∙ e))
 
 pub returns-clause-input : goal.returns-clause-input
-returns-clause-input g c = λ e. input_rose _ _ _ _ c.answer_words-answer.ensures.answers (is_input _ (sym c.status_of.ensures ∙ e))
+returns-clause-input g c = λ e. input_rose _ _ _ _ _ c.answer_words-answer.ensures.answers (is_input _ (sym c.status_of.ensures ∙ e))
 
 pub returns-clause-output : goal.returns-clause-output
-returns-clause-output g c = λ e. out_rose _ _ _ _ c.answer_words-answer.ensures.answers (is_output _ (sym c.status_of.ensures ∙ e))
+returns-clause-output g c = λ e. out_rose _ _ _ _ _ c.answer_words-answer.ensures.answers (is_output _ (sym c.status_of.ensures ∙ e))
 
 pub returns-clause-complete : goal.returns-clause-complete
-returns-clause-complete g c = completes _ _ _ _ _ _ (returns-clause-tells g c)
+returns-clause-complete g c = completes _ _ _ _ _ _ _ (returns-clause-tells g c)
 
 pub returns-clause-shelf : goal.returns-clause-shelf
 returns-clause-shelf g c = λ e. c.answer_words-answer.ensures.shelf (is_usage _ (sym c.status_of.ensures ∙ e))
@@ -38,3 +38,6 @@ returns-clause-unread g c = λ e. c.answer_words-answer.ensures.unread (subst Is
 
 pub returns-clause-unwritten : goal.returns-clause-unwritten
 returns-clause-unwritten g c = λ e. c.answer_words-answer.ensures.unwritten (subst IsEarly c.status_of.ensures e)
+
+pub returns-clause-unasked : goal.returns-clause-unasked
+returns-clause-unasked g c = c.answer_words-answer.ensures.unasked

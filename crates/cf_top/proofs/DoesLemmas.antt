@@ -1,0 +1,161 @@
+-- From reading a file to what the command does.
+use Rattle.std.proofs.Common.{◌≡◌, inl, inr, sym, subst, refl, ℕ, ◌<◌, ◌≤◌, ◌+◌, List, [], ◌∷◌, replicate, length, Option, Some, None, arith, rules}
+use Rattle.std.proofs.lemmas.List.{length-replicate}
+use Rattle.std.specs.Prelude.{◌⊎◌, Result, Err, IfSome, Contains}
+use Rattle.std.proofs.KnownBytes.{Consumes-nil}
+use Rattle.cf_io.specs.Bytes.{TookFront}
+use Rattle.cf_io.specs.Causes.{Rose, one_more}
+use Rattle.cf_io.specs.Limits.{input_limit}
+use Rattle.cf_top.specs.Commands.{Command, names_of, calls_passes}
+use Rattle.cf_top.specs.Ends.{streams_of, Ends, Does}
+use Rattle.cf_top.specs.Limits.{text_limit}
+use Rattle.cf_top.specs.Outside.{Outside, AreTold, AreTexts, Counts, IsFrugal}
+use Rattle.cf_top.specs.Passes.{Told}
+use Rattle.cf_top.specs.Refusals.{too_long, Refuses}
+use Rattle.cf_top.specs.Steps.{AnswersOn}
+use Rattle.cf_top.specs.Words.{command_on}
+use Rattle.cf_top.specs.declared.fault.Fault.{Fault}
+use Rattle.cf_top.specs.declared.fault.Fault.TheVariants as fault
+use Rattle.cf_top.specs.declared.words.CommandKind.{CommandKind}
+use Rattle.cf_top.specs.declared.words.CommandKind.TheVariants.{Compile, Run, Pre, Exec}
+use Rattle.cf_top.specs.declared.words.Flags.{Flags}
+use Rattle.cf_top.proofs.CountLemmas.{one_fault}
+use Rattle.cf_top.proofs.FaultLemmas.{failed}
+use Rattle.cf_top.proofs.PassLemmas.{unpassed}
+use Rattle.cf_top.proofs.StepLemmas.{left_of, left_told}
+
+-- a command on one file
+pub one_name : (kind : CommandKind) (flags : Flags) (name : List ℕ) → names_of (command_on kind flags name) ≡ name ∷ []
+one_name Compile flags name = refl
+one_name Run flags name = refl
+one_name Pre flags name = refl
+one_name Exec flags name = refl
+
+texts : (c : Command) (name : List ℕ) (told : List ℕ → Option (List ℕ)) (text : List ℕ) → names_of c ≡ name ∷ [] → AreTold (told name) text →
+    AreTexts told (names_of c) (text ∷ [])
+texts c name told text e h = subst (λ ns. AreTexts told ns (text ∷ [])) (sym e) (h, tt)
+
+one_contains : (name : List ℕ) → Contains (name ∷ []) name
+one_contains name = search rules
+
+has_name : (c : Command) (name : List ℕ) → names_of c ≡ name ∷ [] → Contains (names_of c) name
+has_name c name e = subst (λ ns. Contains ns name) (sym e) (one_contains name)
+
+-- what reading a file did
+pub record FileRead (name : List ℕ) (before after : Outside) : Type 0 where
+  pub fetched : after.fetches ≡ one_more before.fetches
+  pub most : (after.left ≡ before.left) ⊎ TookFront (text_limit + 1) (before.texts name) after.left
+
+frugal : (c : Command) (name : List ℕ) (before after : Outside) → names_of c ≡ name ∷ [] → FileRead name before after →
+    TookFront (input_limit + 1) before.input after.input →
+    IsFrugal (names_of c) before after
+frugal c name before after e file input = record {
+  fetches = rw e (omega (arith, file.fetched));
+  file = elim file.most [ inl same ↦ inl same | inr took ↦ inr (name, has_name c name e, took) ];
+  input = input;
+}
+
+-- nothing was read of the input and nothing written
+pub record Untouched (before after : Outside) : Type 0 where
+  pub input : after.input ≡ before.input
+  pub out : after.out ≡ before.out
+  pub input_faults : after.input_faults ≡ before.input_faults
+  pub out_faults : after.out_faults ≡ before.out_faults
+
+nothing_read : (left still_left : Option (List ℕ)) → still_left ≡ left → TookFront (input_limit + 1) left still_left
+nothing_read left still_left is = rw is ([], omega arith, Consumes-nil left)
+
+no_fault : {failed : Type 0} (old new : ℕ) → (failed → ⊥) → new ≡ old → Counts failed old new
+no_fault old new never is = record { same = λ _. is; rose = λ h. absurd (never h) }
+
+-- a file was read, and its text answered
+pub text_does : (c : Command) (name : List ℕ) (given : List Told) (before after : Outside) (text : List ℕ) (answer : Result (Unit {0}) Fault) →
+    names_of c ≡ name ∷ [] →
+    AreTold (before.texts name) text → AnswersOn c given (text ∷ []) (streams_of before) (streams_of after) answer → FileRead name before after →
+    ((other : List ℕ) → after.file_faults other ≡ before.file_faults other) → Counts (answer ≡ Err fault.Input) before.input_faults after.input_faults →
+    Counts (answer ≡ Err fault.Output) before.out_faults after.out_faults → Does c given before after answer
+text_does c name given before after text answer e told h file same input out = record {
+  files = text ∷ [];
+  told = texts c name before.texts text e told;
+  passes = h.passes;
+  passed = h.passed;
+  ends = h.ends;
+  blames = record { files = λ _. same; file = λ i. absurd (h.not_file i); others = λ i. absurd (h.not_file i); input = input; out = out };
+  frugal = frugal c name before after e file h.frugal;
+}
+
+-- the file failed
+pub file_does : (c : Command) (name : List ℕ) (given : List Told) (before after : Outside) → names_of c ≡ name ∷ [] → FileRead name before after →
+    Untouched before after →
+    Rose (before.file_faults name) (after.file_faults name) → ((other : List ℕ) → after.file_faults other ≤ one_more (before.file_faults other)) →
+    Does c given before after (Err fault.File)
+file_does c name given before after e file none rose once = record {
+  files = left_of (before.texts name) ∷ [];
+  told = texts c name before.texts (left_of (before.texts name)) e (left_told (before.texts name));
+  passes = given;
+  passed = unpassed (calls_passes c) given;
+  ends = none.out;
+  blames = record {
+    files = λ n. absurd (n refl);
+    file = λ _. (name, has_name c name e, one_fault (before.file_faults name) (after.file_faults name) rose (once name));
+    others = λ _. once;
+    input = no_fault before.input_faults after.input_faults (λ i. cc) none.input_faults;
+    out = no_fault before.out_faults after.out_faults (λ i. cc) none.out_faults;
+  };
+  frugal = frugal c name before after e file (nothing_read before.input after.input none.input);
+}
+
+-- a fault that names no object
+inner_does : (c : Command) (name : List ℕ) (given : List Told) (before after : Outside) (text : List ℕ) (f : Fault) → names_of c ≡ name ∷ [] →
+    AreTold (before.texts name) text →
+    Ends (record { command = c; files = text ∷ []; passes = given }) (streams_of before) (streams_of after) (Err f) → FileRead name before after → Untouched before after →
+    ((other : List ℕ) → after.file_faults other ≡ before.file_faults other) → (failed f ≡ Err fault.File → ⊥) → (failed f ≡ Err fault.Input → ⊥) →
+    (failed f ≡ Err fault.Output → ⊥) → Does c given before after (Err f)
+inner_does c name given before after text f e told ends file none same not_file not_input not_out = record {
+  files = text ∷ [];
+  told = texts c name before.texts text e told;
+  passes = given;
+  passed = unpassed (calls_passes c) given;
+  ends = ends;
+  blames = record {
+    files = λ _. same;
+    file = λ i. absurd (not_file i);
+    others = λ i. absurd (not_file i);
+    input = no_fault before.input_faults after.input_faults not_input none.input_faults;
+    out = no_fault before.out_faults after.out_faults not_out none.out_faults;
+  };
+  frugal = frugal c name before after e file (nothing_read before.input after.input none.input);
+}
+
+-- memory ran out before a text was there
+pub memory_does : (c : Command) (name : List ℕ) (given : List Told) (before after : Outside) → names_of c ≡ name ∷ [] → FileRead name before after →
+    Untouched before after →
+    ((other : List ℕ) → after.file_faults other ≡ before.file_faults other) → Does c given before after (Err fault.NoMemory)
+memory_does c name given before after e file none same =
+    inner_does c name given before after (left_of (before.texts name)) fault.NoMemory e (left_told (before.texts name)) (inr none.out) file none same (λ i. cc) (λ i. cc) (λ i. cc)
+
+-- a text that is too long
+long_text : (told : Option (List ℕ)) → IfSome told (λ text. text_limit < length text) → (text : List ℕ) × AreTold told text × (text_limit < length text)
+long_text None h = (replicate (text_limit + 1) 0, tt, rw length-replicate (omega arith))
+long_text (Some text) h = (text, refl, h)
+
+long_refused : (kind : CommandKind) (flags : Flags) (name text : List ℕ) → text_limit < length text →
+    Refuses (command_on kind flags name) (text ∷ []) fault.TextTooLong
+long_refused Compile flags name text h = too_long h
+long_refused Run flags name text h = too_long h
+long_refused Pre flags name text h = too_long h
+long_refused Exec flags name text h = too_long h
+
+pub long_does : (kind : CommandKind) (flags : Flags) (name : List ℕ) (given : List Told) (before after : Outside) →
+    IfSome (before.texts name) (λ text. text_limit < length text) →
+    FileRead name before after → Untouched before after → ((other : List ℕ) → after.file_faults other ≡ before.file_faults other) →
+    Does (command_on kind flags name) given before after (Err fault.TextTooLong)
+long_does kind flags name given before after long file none same =
+    let text = long_text (before.texts name) long in
+    inner_does (command_on kind flags name) name given before after text.0 fault.TextTooLong (one_name kind flags name) text.1 (long_refused kind flags name text.0 text.2, none.out) file none same
+    (λ i. cc) (λ i. cc) (λ i. cc)
+
+-- the text that was read is the one that is told
+pub text_told : (told : Option (List ℕ)) (text : List ℕ) → IfSome told (λ t. text ≡ t) → AreTold told text
+text_told None text h = tt
+text_told (Some t) text h = sym h

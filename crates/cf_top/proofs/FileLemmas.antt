@@ -1,0 +1,36 @@
+-- What each command owes on the text of its file.
+use Rattle.std.proofs.Common.{◌≡◌, ◌∙◌, sym, ap, subst, refl, ℕ, Bool, true, false, not, List, [], ◌∷◌, length, map}
+use Rattle.std.specs.Prelude.{if◌then◌else◌}
+use Rattle.std.proofs.lemmas.List.{length-map}
+use Rattle.cf_tree.specs.declared.target.RawTarget.{RawTarget}
+use Rattle.cf_tree.specs.Spelled.{HasSpelling}
+use Rattle.cf_target.specs.Spelling.{target_tree}
+use Rattle.cf_emit.specs.Printed.{target_text}
+use Rattle.cf_emit.specs.ReadsBack.{ReadsBack}
+use Rattle.cf_top.specs.Commands.{compile, run}
+use Rattle.cf_top.specs.Owed.{by_target, AreReplies, Owes}
+use Rattle.cf_top.specs.Passes.{Told, ArePassed, applied}
+use Rattle.cf_top.specs.Sources.{Compiles}
+use Rattle.cf_top.specs.declared.words.Flags.{Flags}
+use Rattle.cf_top.proofs.PickedLemmas.{replies_picked}
+
+-- how many passes are applied
+pub applied_by : {P : Type 0} (tell : P → Told) (plain : Bool) (old : List P) (last : List Told) → ArePassed (not plain) (map tell old) last →
+    (if plain then 0 else length old) ≡ (if not plain then length last else 0)
+applied_by tell true old last h = refl
+applied_by tell false old last h =
+    let names : length (map (λ p. p.name) last) ≡ length (map (λ p. p.name) (map tell old)) = ap length h.0 in
+    sym (sym (length-map last (λ p. p.name)) ∙ names ∙ length-map (map tell old) (λ p. p.name) ∙ length-map old tell)
+
+pub compile_owes : (flags : Flags) (name file : List ℕ) (last : List Told) (passes : ℕ) (t : RawTarget) → Compiles passes file t →
+    passes ≡ applied (compile flags name) last →
+    (HasSpelling t → ReadsBack (target_tree t) (target_text t)) → Owes (compile flags name) (file ∷ []) last [] (target_text t)
+compile_owes flags name file last passes t h is back = (t, subst (λ n. Compiles n file t) is h, record { is = refl; reads_back = back h.2.spelled })
+
+pub run_owes : (flags : Flags) (name file : List ℕ) (last : List Told) (passes : ℕ) (t : RawTarget) → Compiles passes file t →
+    passes ≡ applied (run flags name) last →
+    (ls : List (List ℕ)) (replies : List ℕ) → AreReplies (by_target t) ls replies → Owes (run flags name) (file ∷ []) last ls replies
+run_owes flags name file last passes t h is ls replies r =
+    let n = applied (run flags name) last in
+    let built : Compiles n file t = subst (λ n. Compiles n file t) is h in
+    (t, built, r, replies_picked n file t ls replies built r)

@@ -1,0 +1,44 @@
+-- A worked example of what `pre` and `compile` write of a choose.
+use Rattle.std.proofs.Common.{◌≡◌, pos, refl, [], ◌∷◌, None, codes}
+use Rattle.std.specs.Fmt.{digits}
+use Rattle.cf_tree.specs.declared.base.Base.TheVariants.{Int}
+use Rattle.cf_tree.specs.declared.base.Order.TheVariants.{Le}
+use Rattle.cf_tree.specs.RelTree.{term_lit, term_var, term_mul, rel_compare, rel_and}
+use Rattle.cf_num.specs.Divisors.{gcd_by, factors_by}
+use Rattle.cf_num.specs.Parts.{parts_of}
+use Rattle.cf_linear.specs.Steps.{clean, pick, searched, dropped, searched_by, bound, bound_passes}
+use Rattle.cf_linear.specs.Stages.{run, run_for, clean_stage, equation_stage, bound_stage, unknown_stage, row_stage, stage}
+use Rattle.cf_linear.specs.Cases.{disjuncts, case_count, system_of_case, first_systems, write_atom, written_passes}
+use Rattle.cf_linear.specs.Arm.{arm}
+use Rattle.cf_linear.specs.Chooses.{arms, first_refused, refusal_by, limit}
+use Rattle.cf_choose.specs.Precondition.{all_needs}
+use Rattle.cf_build.specs.Questions.{Question, limit_of, question_arms, solve_of}
+use Rattle.cf_emit.specs.Printed.{code_text, pre_text}
+
+-- the x whose double lies between a and b
+abbrev rounding : Question
+rounding = record {
+  number = 1;
+  names = codes "a" ∷ codes "b" ∷ [];
+  scope = Int ∷ Int ∷ [];
+  outputs = Int ∷ [];
+  relation = rel_and (rel_compare Le (term_var 0) (term_mul (term_lit (pos 2)) (term_var 2))) (rel_compare Le (term_mul (term_lit (pos 2)) (term_var 2)) (term_var 1));
+}
+
+rounding_passes_no_limit : limit_of rounding ≡ None
+unfolding arms arm first_systems disjuncts system_of_case write_atom run run_for stage clean_stage equation_stage bound_stage unknown_stage row_stage clean
+    pick searched dropped searched_by bound bound_passes gcd_by factors_by parts_of limit refusal_by case_count written_passes first_refused
+rounding_passes_no_limit = refl
+
+-- the items up to the last need
+rounding_pre : pre_text 1 rounding.names (all_needs (question_arms rounding))
+    ≡ codes "pre 1 (a, b) {\narm [] {\nlet div((-1 * v0), 2);\nlet div(v1, 2);\nneed ((v2 + v3) >= 0);\n}\n}\n"
+unfolding arms arm first_systems disjuncts system_of_case write_atom run run_for stage clean_stage equation_stage bound_stage unknown_stage row_stage clean
+    pick searched dropped searched_by bound bound_passes gcd_by factors_by parts_of digits
+rounding_pre = refl
+
+rounding_solve : code_text (solve_of rounding)
+    ≡ codes "solve 1 {\narm [] {\nlet div((-1 * v0), 2);\nlet div(v1, 2);\nneed ((v2 + v3) >= 0);\nlet (-1 * v2);\ngive v4\n}\n}"
+unfolding arms arm first_systems disjuncts system_of_case write_atom run run_for stage clean_stage equation_stage bound_stage unknown_stage row_stage clean
+    pick searched dropped searched_by bound bound_passes gcd_by factors_by parts_of digits
+rounding_solve = refl

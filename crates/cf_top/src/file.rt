@@ -1,0 +1,191 @@
+//! What each command does with the text of its file.
+ghost use Rattle.std.specs.Prelude.{◌≡◌, ◌≤◌, ◌<◌, ◌-◌, ◌^◌, ◌++◌, ◌∷◌, [], List, ℕ, Bool, true, not, Option, length, map, Ok, Err, IfOk, IfErr, IsErrOf, if◌then◌else◌};
+ghost use Rattle.cf_io.specs.Causes.{one_more};
+ghost use Rattle.cf_tree.specs.Spelled.{HasSpelling};
+ghost use Rattle.cf_target.specs.Spelling.{target_tree};
+ghost use Rattle.cf_emit.specs.Printed.{target_text};
+ghost use Rattle.cf_emit.specs.ReadsBack.{ReadsBack};
+ghost use Rattle.cf_top.specs.Commands.{compile as the_compile, run as the_run, pre as the_pre, exec as the_exec};
+ghost use Rattle.cf_top.specs.Limits.{text_limit};
+ghost use Rattle.cf_top.specs.Owed.{by_target};
+ghost use Rattle.cf_top.specs.Passes.{Told, ArePassed, closing_lines};
+ghost use Rattle.cf_top.specs.Refusals.{IsRefusedSource};
+ghost use Rattle.cf_top.specs.Sources.{Compiles};
+ghost use Rattle.cf_top.specs.Statuses.{status_of as the_status_of};
+ghost use Rattle.cf_top.specs.Steps.{IsVerdict, RunsThrough, AnswersOn};
+ghost use Rattle.cf_top.specs.Top.{IsEarly};
+
+use crate::answer::write_text;
+use crate::fault::Fault;
+use crate::input::answer_input;
+use crate::preconditions::preconditions;
+use crate::source::{compile, read_source};
+use crate::tallies::{closing, put_closing};
+use crate::target::read_target;
+use crate::words::Flags;
+use cf_emit::print::print;
+use cf_io::{Sink, Source};
+use cf_pass::Pass;
+use cf_tree::memory::NoMemory;
+use cf_tree::target::Target;
+use std::alloc::Global;
+
+// Answers the input by a target, and writes `end` behind the replies.
+fn answer_by<I: Source, O: Sink>(
+    alloc: Global,
+    target: &Target,
+    end: &[u8],
+    input: &mut I,
+    out: &mut O,
+) -> Result<(), Fault>
+    ensures through { RunsThrough (by_target target.now) end.now (I.left input.old) (I.left input.new) (O.held out.old) (O.held out.new) result }
+    ensures input { IsErrOf result Fault.Input → I.faults input.new ≡ one_more (I.faults input.old) }
+    ensures input_same { ¬ IsErrOf result Fault.Input → I.faults input.new ≡ I.faults input.old }
+    ensures output { IsErrOf result Fault.Output → O.faults out.new ≡ one_more (O.faults out.old) }
+    ensures output_same { ¬ IsErrOf result Fault.Output → O.faults out.new ≡ O.faults out.old }
+{
+    match answer_input(alloc, target, input, out) {
+        Ok(()) => write_text(out, end),
+        Err(fault) => Err(fault),
+    }
+}
+
+// The target that a source text is compiled to by the passes, or by none if it is to be plain.
+fn compiled(
+    alloc: Global,
+    plain: bool,
+    text: &[u8],
+    passes: &mut Vec<Box<dyn Pass>>,
+) -> Result<Target, Fault>
+    requires short { length text.now ≤ text_limit }
+    requires place { length text.now < 2 ^ 32 - 1 }
+    ensures verdict { IsVerdict (Compiles (if plain then 0 else length passes.old.items) text.now) (IsRefusedSource text.now) result }
+    ensures passed { ArePassed (not plain) (map (λ p. record { name = name p; tally = tally p }) passes.old.items) (map (λ p. record { name = name p; tally = tally p }) passes.new.items) }
+{
+    if plain {
+        return compile(alloc, text, &mut Vec::new(alloc));
+    }
+    compile(alloc, text, passes)
+}
+
+// The printed target, and what is written behind all else.
+fn printed(
+    alloc: Global,
+    target: &Target,
+    stats: bool,
+    passes: &[Box<dyn Pass>],
+) -> Result<Vec<u8>, Fault>
+    ensures text { IfOk result (λ text. text.items ≡ target_text target.now ++ closing_lines stats (map (λ p. record { name = name p; tally = tally p }) passes.now)) }
+    ensures reads_back { IfOk result (λ text. HasSpelling target.now → ReadsBack (target_tree target.now) (target_text target.now)) }
+    ensures fault { IfErr result (λ f. f ≡ Fault.NoMemory) }
+{
+    let Ok(mut text) = print(alloc, target) else {
+        return Err(Fault::NoMemory);
+    };
+    match put_closing(stats, passes, &mut text) {
+        Ok(()) => Ok(text),
+        Err(NoMemory) => Err(Fault::NoMemory),
+    }
+}
+
+/// Writes the target that a source text is compiled to.
+pub fn write_target<O: Sink>(
+    alloc: Global,
+    flags: Flags,
+    text: &[u8],
+    out: &mut O,
+    passes: &mut Vec<Box<dyn Pass>>,
+) -> Result<(), Fault>
+    requires short { length text.now ≤ text_limit }
+    requires place { length text.now < 2 ^ 32 - 1 }
+    ensures answers { (file : List ℕ) (input : Option (List ℕ)) → AnswersOn (the_compile flags file) (map (λ p. record { name = name p; tally = tally p }) passes.old.items) (text.now ∷ [])
+        (record { input = input; out = O.held out.old }) (record { input = input; out = O.held out.new }) result }
+    ensures input { ¬ IsErrOf result Fault.Input }
+    ensures output { IsErrOf result Fault.Output → O.faults out.new ≡ one_more (O.faults out.old) }
+    ensures output_same { ¬ IsErrOf result Fault.Output → O.faults out.new ≡ O.faults out.old }
+    ensures unwritten { IsEarly (the_status_of result) → out.new ≡ out.old }
+{
+    let target = match compiled(alloc, flags.plain, text, passes) {
+        Ok(target) => target,
+        Err(fault) => return Err(fault),
+    };
+    match printed(alloc, &target, flags.stats, passes) {
+        Ok(text) => write_text(out, &text),
+        Err(fault) => Err(fault),
+    }
+}
+
+/// Answers the input by the target that a source text is compiled to.
+pub fn run_source<I: Source, O: Sink>(
+    alloc: Global,
+    flags: Flags,
+    text: &[u8],
+    input: &mut I,
+    out: &mut O,
+    passes: &mut Vec<Box<dyn Pass>>,
+) -> Result<(), Fault>
+    requires short { length text.now ≤ text_limit }
+    requires place { length text.now < 2 ^ 32 - 1 }
+    ensures answers { (file : List ℕ) → AnswersOn (the_run flags file) (map (λ p. record { name = name p; tally = tally p }) passes.old.items) (text.now ∷ [])
+        (record { input = I.left input.old; out = O.held out.old }) (record { input = I.left input.new; out = O.held out.new }) result }
+    ensures input { IsErrOf result Fault.Input → I.faults input.new ≡ one_more (I.faults input.old) }
+    ensures input_same { ¬ IsErrOf result Fault.Input → I.faults input.new ≡ I.faults input.old }
+    ensures output { IsErrOf result Fault.Output → O.faults out.new ≡ one_more (O.faults out.old) }
+    ensures output_same { ¬ IsErrOf result Fault.Output → O.faults out.new ≡ O.faults out.old }
+    ensures unread { IsEarly (the_status_of result) → input.new ≡ input.old }
+    ensures unwritten { IsEarly (the_status_of result) → out.new ≡ out.old }
+{
+    let target = match compiled(alloc, flags.plain, text, passes) {
+        Ok(target) => target,
+        Err(fault) => return Err(fault),
+    };
+    match closing(alloc, flags.stats, passes) {
+        Ok(end) => answer_by(alloc, &target, &end, input, out),
+        Err(fault) => Err(fault),
+    }
+}
+
+/// Writes the preconditions of the chooses of a source text.
+pub fn write_preconditions<O: Sink>(alloc: Global, text: &[u8], out: &mut O) -> Result<(), Fault>
+    requires short { length text.now ≤ text_limit }
+    requires place { length text.now < 2 ^ 32 - 1 }
+    ensures answers { (file : List ℕ) (given : List Told) (input : Option (List ℕ)) → AnswersOn (the_pre file) given (text.now ∷ [])
+        (record { input = input; out = O.held out.old }) (record { input = input; out = O.held out.new }) result }
+    ensures input { ¬ IsErrOf result Fault.Input }
+    ensures output { IsErrOf result Fault.Output → O.faults out.new ≡ one_more (O.faults out.old) }
+    ensures output_same { ¬ IsErrOf result Fault.Output → O.faults out.new ≡ O.faults out.old }
+    ensures unwritten { IsEarly (the_status_of result) → out.new ≡ out.old }
+{
+    let typed = match read_source(alloc, text) {
+        Ok(typed) => typed,
+        Err(fault) => return Err(fault),
+    };
+    match preconditions(alloc, &typed) {
+        Ok(text) => write_text(out, &text),
+        Err(fault) => Err(fault),
+    }
+}
+
+/// Answers the input by the target that a text spells.
+pub fn run_target<I: Source, O: Sink>(
+    alloc: Global,
+    text: &[u8],
+    input: &mut I,
+    out: &mut O,
+) -> Result<(), Fault>
+    requires short { length text.now ≤ text_limit }
+    requires place { length text.now < 2 ^ 32 - 1 }
+    ensures answers { (file : List ℕ) (given : List Told) → AnswersOn (the_exec file) given (text.now ∷ [])
+        (record { input = I.left input.old; out = O.held out.old }) (record { input = I.left input.new; out = O.held out.new }) result }
+    ensures input { IsErrOf result Fault.Input → I.faults input.new ≡ one_more (I.faults input.old) }
+    ensures input_same { ¬ IsErrOf result Fault.Input → I.faults input.new ≡ I.faults input.old }
+    ensures output { IsErrOf result Fault.Output → O.faults out.new ≡ one_more (O.faults out.old) }
+    ensures output_same { ¬ IsErrOf result Fault.Output → O.faults out.new ≡ O.faults out.old }
+    ensures unread { IsEarly (the_status_of result) → input.new ≡ input.old }
+    ensures unwritten { IsEarly (the_status_of result) → out.new ≡ out.old }
+{
+    match read_target(alloc, text) {
+        Ok(target) => answer_by(alloc, &target, &[], input, out),
+        Err(fault) => Err(fault),
+    }
+}

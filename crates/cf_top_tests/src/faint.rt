@@ -1,0 +1,90 @@
+//! A pass that finds no memory ends nothing: what it did stands, and the next one runs.
+ghost use Rattle.std.specs.Prelude.{◌≡◌, codes};
+
+use crate::objects::{SECONDS, shelf_of, words};
+use cf_io::{MemSink, MemSource};
+use cf_pass::{DropNeeds, Fold, Pass};
+use cf_top::{Status, comfusy};
+use cf_tree::base::Bytes;
+use cf_tree::code::Code;
+use cf_tree::memory::NoMemory;
+use std::alloc::Global;
+use std::test::Fail;
+
+/// Replaces what `Fold` does, which in SECONDS is one comparison of two literals, and then finds no memory.
+#[derive(Drop)]
+struct Faint {
+    inner: Fold,
+}
+
+impl Pass for Faint {
+    ghost name = { λ _. codes "faint" };
+
+    ghost tally = { λ p. ⟦<Fold as Pass>⟧.tally p.inner };
+
+    ghost turns = { λ p. ⟦<Fold as Pass>⟧.turns p.inner };
+
+    fn name(&self) -> &str {
+        "faint"
+    }
+
+    fn tally(&self) -> u64 {
+        self.inner.tally()
+    }
+
+    fn rewrite(&mut self, alloc: Global, outside: u32, code: &mut Code) -> Result<(), NoMemory> {
+        self.inner.rewrite(alloc, outside, code)?;
+        Err(NoMemory)
+    }
+}
+
+// What SECONDS is compiled to, and the tallies.
+const COMPILED: &str = "comfusy 2
+main (int): (int, int, int) = solve 1 {
+arm [] {
+let div(v0, 60);
+let div((59 + (-1 * v0)), 60);
+need ((v1 + v2) >= 0);
+let div((59 + v2), 60);
+let div(v1, 60);
+need (v4 >= 0);
+need ((v3 + v4) >= 0);
+let (-1 * v4);
+let max((-59 + (60 * v5)), (-1 * v1));
+let v0;
+let (-1 * v6);
+let (v7 + (60 * v6));
+let (-1 * v5);
+let (v8 + (60 * v5));
+give (v10, v11, v9)
+}
+}
+# faint 1
+# drop-needs 1
+";
+
+#[test]
+fn a_pass_that_finds_no_memory_ends_nothing(rt: HostRuntime) -> Result<(), Fail> {
+    let alloc = rt.alloc();
+    let mut words = words(alloc, "compile")?;
+    words.push(String::from_str(alloc, "--stats")?)?;
+    let mut passes: Vec<Box<dyn Pass>> = Vec::new(alloc);
+    passes.push(Box::new(alloc, Faint { inner: Fold::new() })?)?;
+    passes.push(Box::new(alloc, DropNeeds::new())?)?;
+    let mut shelf = shelf_of(alloc, SECONDS.as_bytes(), &[])?;
+    let mut input = MemSource::new(
+        Bytes {
+            bytes: Vec::new(alloc),
+        },
+        Vec::new(alloc),
+    );
+    let mut out = MemSink::new(alloc, 1000, Vec::new(alloc))?;
+    let mut err = MemSink::new(alloc, 100, Vec::new(alloc))?;
+    let status = comfusy(
+        alloc, &words, &mut shelf, &mut input, &mut out, &mut err, passes,
+    );
+    assert_eq!(rt; status, Status::Done);
+    assert_eq!(rt; out.held(), COMPILED.as_bytes());
+    assert_eq!(rt; err.held(), b"".as_slice());
+    Ok(())
+}
