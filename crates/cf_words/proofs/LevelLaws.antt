@@ -1,0 +1,111 @@
+-- One more word of clap's walk behind a subcommand.
+use Rattle.std.proofs.Common.{◌≡◌, ◌∙◌, ◌==◌, ℕ, Bool, true, false, cond, refl, sym, ap, ap₂, List, [], ◌∷◌, fold, Option, Some, None, option_map, codes, bytes_eq}
+use Rattle.std.specs.Option.{option_map_or}
+use Rattle.clap.proofs.FaultLemmas.{turn_is}
+use Rattle.clap.proofs.WalkLemmas.{walked_is}
+use Rattle.clap.specs.Faults.{bundle_fault, check_fault, flag_word_fault, defaults_fault, level_fault, other_fault, settle_fault, step_fault, turn_fault, walk_fault, word_fault}
+use Rattle.clap.specs.Kinds.{Kinds, or_else}
+use Rattle.clap.specs.Lexer.{long_of, short_of}
+use Rattle.clap.specs.Simple.{Shape}
+use Rattle.clap.specs.Walk.{Held, Names, Rule, Row, Text, Walk, after_step, first_of, finished, idle, long_or_other, nothing_held, rows_after, settled, short_or_plain, subcommand_met, subcommand_or_other, trailing, value, walked, word_met}
+use Rattle.clap.specs.declared.builder.value_parser.Reading.TheVariants.{AsWritten}
+use Rattle.clap.specs.declared.parser.matches.ValueSource.TheVariants.{CommandLine}
+use Rattle.cf_words.proofs.RowLemmas.{row_of_values}
+use Rattle.cf_words.specs.Grammar.{flags_found, found_unless}
+use Rattle.cf_words.specs.declared.command.Flags.{Flags}
+
+-- what is found in rows
+abbrev pub said : List Row → Option (Flags × Text)
+said rows = option_map (λ o. (flags_found rows, o)) (first_of (codes "operand") rows)
+
+-- what a level comes to from a walk on
+abbrev pub end_of : Shape → Walk → List Text → Held
+end_of s w words = (fold (walked s.rules []) w words).held
+
+abbrev pub kinds_behind : Shape → Held → Kinds
+kinds_behind s end =
+    or_else (settle_fault s.rules s.args_override_self end)
+    (or_else (defaults_fault (settled s.rules end).rows s.rules) (check_fault s (finished s.rules end) false))
+
+abbrev pub found_from : Shape → Walk → List Text → Option (Flags × Text)
+found_from s w words =
+    found_unless (or_else (walk_fault s [] w words) (kinds_behind s (end_of s w words))) (said (finished s.rules (end_of s w words)))
+
+-- the flags and the operand that clap finds behind the name of a subcommand
+abbrev pub found_in : Shape → List Text → Option (Flags × Text)
+found_in s words = found_unless (level_fault s [] nothing_held words false []) (said (rows_after s.rules [] words))
+
+-- one more word that passes, and one that does not
+abbrev pub after_turn : Shape → List Text → Kinds → Walk → Option (Flags × Text)
+after_turn s words turn w =
+    found_unless (or_else (or_else turn (walk_fault s [] w words)) (kinds_behind s (end_of s w words))) (said (finished s.rules (end_of s w words)))
+
+pub passes : (s : Shape) (w after : Walk) (word : Text) (words : List Text) → turn_fault s [] w word ≡ [] → walked s.rules [] w word ≡ after
+    → found_from s w (word ∷ words) ≡ found_from s after words
+unfolding walk_fault
+passes s w after word words passed is = ap₂ (after_turn s words) passed is
+
+pub fails : (s : Shape) (w : Walk) (word : Text) (words : List Text) (kind : _) (kinds : Kinds) → turn_fault s [] w word ≡ kind ∷ kinds
+    → found_from s w (word ∷ words) ≡ None
+unfolding walk_fault
+fails s w word words kind kinds failed = ap (λ turn. after_turn s words turn (walked s.rules [] w word)) failed
+
+-- the rows so far, and the operand if it is the last word
+abbrev pub at : List Row → Option Text → ℕ → Walk
+at rows last position = record {
+  held = record { rows = rows; pending = option_map (λ o. (codes "operand", o ∷ [])) last; skip = 0 };
+  waiting = idle;
+  position = position;
+  is_trailing = false;
+  stopped = None;
+}
+
+abbrev pub flag_row : Text → Row
+flag_row id = row_of_values id AsWritten CommandLine (codes "true" ∷ [])
+
+abbrev pub operand_row : Text → Row
+operand_row o = row_of_values (codes "operand") AsWritten CommandLine (o ∷ [])
+
+-- an operand is no flag
+module _ (x : ℕ) (xs : List ℕ) (e : (x == 45) ≡ false) where
+  pub no_dashes : bytes_eq (x ∷ xs) (45 ∷ 45 ∷ []) ≡ false
+  no_dashes = rw e refl
+
+  pub no_long : long_of (x ∷ xs) ≡ None
+  no_long = rw e refl
+
+  pub no_short : short_of (x ∷ xs) ≡ None
+  no_short = rw e refl
+
+  pub operand_met : (c : List Rule) (names : Names) (position : ℕ) (h : Held) → subcommand_met names idle (x ∷ xs) ≡ None
+      → word_met c names false idle position (x ∷ xs) h ≡ (h, value)
+  operand_met c names position h none =
+      ap (λ met. subcommand_or_other c met idle position (x ∷ xs) h) none
+      ∙ ap₂ (λ dashes long. cond dashes (h, trailing position) (long_or_other c idle (x ∷ xs) long h)) no_dashes no_long
+      ∙ ap (λ short. short_or_plain c idle (x ∷ xs) short h) no_short
+
+  pub operand_fits : (s : Shape) (names : Names) (h : Held) → subcommand_met names idle (x ∷ xs) ≡ None → word_fault s names false idle (x ∷ xs) h ≡ []
+  operand_fits s names h none =
+      ap (λ met. other_fault s met (x ∷ xs) h) none
+      ∙ ap₂ (λ dashes long. cond dashes [] (flag_word_fault s.rules s.args_override_self long (x ∷ xs) h)) no_dashes no_long
+      ∙ ap (λ short. option_map_or (λ flags. bundle_fault s.rules s.args_override_self flags h) short []) no_short
+
+  pub operand_turn : (s : Shape) (names : Names) (rows : List Row) (last : Option Text) (position : ℕ) → subcommand_met names idle (x ∷ xs) ≡ None
+      → turn_fault s names (at rows last position) (x ∷ xs) ≡ step_fault s position (at rows last position).held value
+  operand_turn s names rows last position none =
+      let w = at rows last position in
+      sym (turn_is s names w (x ∷ xs) w.held value (sym (operand_met s.rules names position w.held none)) (operand_fits s names w.held none))
+
+  pub operand_walk : (s : Shape) (rows : List Row) (position : ℕ)
+      → walked s.rules [] (at rows None position) (x ∷ xs) ≡ after_step s.rules (x ∷ xs) (at rows None position) (at rows None position).held value
+  operand_walk s rows position =
+      let w = at rows None position in sym (walked_is s.rules [] w (x ∷ xs) w.held value (sym (operand_met s.rules [] position w.held refl)))
+
+-- the operand that came before, if one came, and those that come
+abbrev pub given_or : Option Text → List Text → List Text
+given_or None words = words
+given_or (Some o) words = o ∷ words
+
+pub cond_same : {X : Type 0} (b : Bool) (x : X) → cond b x x ≡ x
+cond_same true x = refl
+cond_same false x = refl

@@ -1,0 +1,9 @@
+mod WordsExamples
+pub mod RowLemmas
+pub mod Uses
+pub mod LevelLaws
+pub mod FlaggedLaws
+pub mod BareLaws
+pub mod GrammarLaws
+pub mod FoundLemmas
+pub mod SizeLemmas

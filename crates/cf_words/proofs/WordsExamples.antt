@@ -1,0 +1,108 @@
+-- Worked examples of the command that words are.
+use Rattle.std.proofs.Common.{◌≡◌, refl, true, false, [], ◌∷◌, Some, None, codes}
+use Rattle.std.specs.Fmt.{digits}
+use Rattle.cf_words.specs.Commands.{compile, run, pre, exec, gen}
+use Rattle.cf_words.specs.Words.{command_of, most_size}
+
+no_flags : command_of (codes "run" ∷ codes "a" ∷ []) ≡ Some (run (record { plain = false; stats = false }) (codes "a"))
+no_flags = refl
+
+flag_before : command_of (codes "compile" ∷ codes "--plain" ∷ codes "a" ∷ []) ≡ Some (compile (record { plain = true; stats = false }) (codes "a"))
+flag_before = refl
+
+flag_after : command_of (codes "compile" ∷ codes "a" ∷ codes "--stats" ∷ []) ≡ Some (compile (record { plain = false; stats = true }) (codes "a"))
+flag_after = refl
+
+flags_around : command_of (codes "run" ∷ codes "--stats" ∷ codes "a" ∷ codes "--plain" ∷ []) ≡ Some (run (record { plain = true; stats = true }) (codes "a"))
+flags_around = refl
+
+plain_twice : command_of (codes "compile" ∷ codes "a" ∷ codes "--plain" ∷ codes "--plain" ∷ []) ≡ None
+plain_twice = refl
+
+stats_twice : command_of (codes "run" ∷ codes "--stats" ∷ codes "a" ∷ codes "--stats" ∷ []) ≡ None
+stats_twice = refl
+
+another_flag : command_of (codes "run" ∷ codes "--quiet" ∷ codes "a" ∷ []) ≡ None
+another_flag = refl
+
+flag_with_value : command_of (codes "run" ∷ codes "--plain=a" ∷ codes "a" ∷ []) ≡ None
+flag_with_value = refl
+
+flag_of_pre : command_of (codes "pre" ∷ codes "a" ∷ codes "--plain" ∷ []) ≡ None
+flag_of_pre = refl
+
+flag_of_exec : command_of (codes "exec" ∷ codes "--stats" ∷ codes "a" ∷ []) ≡ None
+flag_of_exec = refl
+
+flag_of_gen : command_of (codes "gen" ∷ codes "--plain" ∷ codes "7" ∷ []) ≡ None
+flag_of_gen = refl
+
+two_dashes : command_of (codes "run" ∷ codes "--" ∷ codes "a" ∷ []) ≡ None
+two_dashes = refl
+
+one_dash : command_of (codes "run" ∷ codes "-" ∷ []) ≡ None
+one_dash = refl
+
+dash_in_a_name : command_of (codes "exec" ∷ codes "a-b" ∷ []) ≡ Some (exec (codes "a-b"))
+dash_in_a_name = refl
+
+no_words : command_of [] ≡ None
+no_words = refl
+
+another_word : command_of (codes "runs" ∷ codes "a" ∷ []) ≡ None
+another_word = refl
+
+help_is_no_command : command_of (codes "help" ∷ codes "run" ∷ []) ≡ None
+help_is_no_command = refl
+
+flag_first : command_of (codes "--plain" ∷ codes "run" ∷ codes "a" ∷ []) ≡ None
+flag_first = refl
+
+empty_name : command_of (codes "run" ∷ [] ∷ []) ≡ None
+empty_name = refl
+
+no_operand : command_of (codes "run" ∷ codes "--plain" ∷ []) ≡ None
+no_operand = refl
+
+two_operands : command_of (codes "pre" ∷ codes "a" ∷ codes "b" ∷ []) ≡ None
+two_operands = refl
+
+pre_file : command_of (codes "pre" ∷ codes "a" ∷ []) ≡ Some (pre (codes "a"))
+pre_file = refl
+
+file_named_run : command_of (codes "run" ∷ codes "run" ∷ []) ≡ Some (run (record { plain = false; stats = false }) (codes "run"))
+file_named_run = refl
+
+gen_least : command_of (codes "gen" ∷ codes "1" ∷ []) ≡ Some (gen 1)
+unfolding most_size digits
+gen_least = refl
+
+gen_most : command_of (codes "gen" ∷ codes "100" ∷ []) ≡ Some (gen 100)
+unfolding most_size digits
+gen_most = refl
+
+gen_nothing : command_of (codes "gen" ∷ codes "0" ∷ []) ≡ None
+unfolding most_size digits
+gen_nothing = refl
+
+gen_past : command_of (codes "gen" ∷ codes "101" ∷ []) ≡ None
+unfolding most_size digits
+gen_past = refl
+
+leading_zeros : command_of (codes "gen" ∷ codes "007" ∷ []) ≡ None
+unfolding most_size digits
+leading_zeros = refl
+
+no_number : command_of (codes "gen" ∷ codes "x" ∷ []) ≡ None
+unfolding most_size digits
+no_number = refl
+
+signed_number : command_of (codes "gen" ∷ codes "+7" ∷ []) ≡ None
+unfolding most_size digits
+signed_number = refl
+
+gen_of_none : command_of (codes "gen" ∷ []) ≡ None
+gen_of_none = refl
+
+gen_of_two : command_of (codes "gen" ∷ codes "7" ∷ codes "8" ∷ []) ≡ None
+gen_of_two = refl

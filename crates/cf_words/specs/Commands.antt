@@ -1,0 +1,34 @@
+-- The commands. Words that ask to check, prove or verify are not read yet.
+use Rattle.std.specs.Prelude.{◌≤◌, ⊤, ℕ, List}
+use Rattle.cf_words.specs.declared.command.Command as declared
+use Rattle.cf_words.specs.declared.command.Command.TheVariants.{OnFile, Gen}
+use Rattle.cf_words.specs.declared.command.CommandKind.{CommandKind}
+use Rattle.cf_words.specs.declared.command.CommandKind.TheVariants.{Compile, Run, Pre, Exec}
+use Rattle.cf_words.specs.declared.command.Flags.{Flags}
+
+pub data Command : Type 0 where
+  compile : Flags → List ℕ → Command
+  run : Flags → List ℕ → Command
+  pre : List ℕ → Command
+  check : List ℕ → Command
+  exec : List ℕ → Command
+  prove : List ℕ → Command
+  verify : List ℕ → List ℕ → Command
+  gen : ℕ → Command
+
+-- the command of a kind with these flags on a file
+abbrev pub command_on : CommandKind → Flags → List ℕ → Command
+command_on Compile flags file = compile flags file
+command_on Run flags file = run flags file
+command_on Pre flags file = pre file
+command_on Exec flags file = exec file
+
+-- a command of the program, without where its words lie in memory
+abbrev pub plain_command : declared.Command → Command
+plain_command (OnFile c) = command_on c.kind c.flags c.file.now
+plain_command (Gen n) = gen n
+
+-- a workload has a size from 1 to 100
+abbrev pub HasSize : declared.Command → Type 0
+HasSize (OnFile c) = ⊤
+HasSize (Gen n) = (1 ≤ n) × (n ≤ 100)

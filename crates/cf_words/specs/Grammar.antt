@@ -1,0 +1,63 @@
+-- What clap is told of the words, and what is made of its answer.
+use Rattle.std.specs.Prelude.{◌≡◌, ⊤, Result, Ok, Err, List, [], ◌∷◌, Bool, true, false, Option, Some, None, option_and_then, codes, bytes_eq}
+use Rattle.std.specs.Option.{option_map_or}
+use Rattle.clap.specs.Words.{App, Kinds, Row, Rule, Text, fault_of, first_of, new_app, new_rule, subcommand_of, subcommand_rows_of, with_rule, with_subcommand}
+use Rattle.clap.specs.declared.builder.action.ArgAction.TheVariants.{SetTrue}
+use Rattle.cf_words.specs.Commands.{Command}
+use Rattle.cf_words.specs.Words.{command_for}
+use Rattle.clap.specs.declared.parser.matches.ArgMatches.{ArgMatches}
+use Rattle.cf_words.specs.declared.command.Flags.{Flags}
+use Rattle.cf_words.specs.declared.fault.WordsFault.{WordsFault}
+use Rattle.cf_words.specs.declared.fault.WordsFault.TheVariants.{Usage, NoMemory}
+
+abbrev pub flag : Text → Rule
+flag id = record (new_rule id) { long = Some id; action = Some SetTrue }
+
+abbrev pub operand : Rule
+operand = record (new_rule (codes "operand")) { required = true }
+
+-- a subcommand with an operand alone, and one with both flags too
+abbrev pub bare_subcommand : Text → App
+bare_subcommand name = with_rule (new_app name) operand
+
+abbrev pub flagged_subcommand : Text → App
+flagged_subcommand name = with_rule (with_rule (with_rule (new_app name) (flag (codes "plain"))) (flag (codes "stats"))) operand
+
+-- the program: its first word is a subcommand, and it has neither help nor version
+abbrev pub program : App
+program =
+    let fresh = new_app (codes "comfusy") in
+    record fresh { top = record fresh.top { no_binary_name = true; disable_help_flag = true; disable_help_subcommand = true; subcommand_required = true } }
+
+abbrev pub grammar : App
+grammar =
+    with_subcommand (with_subcommand (with_subcommand (with_subcommand (with_subcommand program
+    (flagged_subcommand (codes "compile")).top) (flagged_subcommand (codes "run")).top)
+    (bare_subcommand (codes "pre")).top) (bare_subcommand (codes "exec")).top) (bare_subcommand (codes "gen")).top
+
+-- whether a flag was found
+abbrev pub is_set : Text → List Row → Bool
+is_set id rows = option_map_or (λ text. bytes_eq text (codes "true")) (first_of id rows) false
+
+abbrev pub flags_found : List Row → Flags
+flags_found rows = record { plain = is_set (codes "plain") rows; stats = is_set (codes "stats") rows }
+
+-- the command of a subcommand with what was found for it
+abbrev pub command_found : Option (Text × List Row) → Option Command
+command_found None = None
+command_found (Some found) = option_and_then (command_for found.0 (flags_found found.1)) (first_of (codes "operand") found.1)
+
+-- the answer, where no kind of error comes
+abbrev pub found_unless : {X : Type 0} → Kinds → Option X → Option X
+found_unless [] answer = answer
+found_unless (kind ∷ kinds) answer = None
+
+-- the command that clap's parse of the words leads to
+abbrev pub clap_command : List Text → Option Command
+clap_command words = found_unless (fault_of grammar words) (command_found (subcommand_of grammar words))
+
+-- what a parse answers, where the words lead to this command or to none
+abbrev pub MatchesAnswer : Option Command → Result ArgMatches WordsFault → Type 0
+MatchesAnswer asked (Ok matches) = command_found (subcommand_rows_of matches) ≡ asked
+MatchesAnswer asked (Err Usage) = asked ≡ None
+MatchesAnswer asked (Err NoMemory) = ⊤

@@ -1,0 +1,76 @@
+-- The words of the command line, and the command that they are.
+use Rattle.std.specs.Prelude.{◌≡◌, ⊤, ℕ, List, [], ◌∷◌, Bool, false, not, ◌&&◌, ◌||◌, ◌==◌, if◌then◌else◌, Option, Some, None, option_map, option_and_then, find, filter, codes, decimal, bytes_eq, Result, Ok, Err}
+use Rattle.std.specs.List.{list_all, list_any, range_with_len}
+use Rattle.cf_words.specs.Commands.{Command, compile, run, pre, exec, gen, plain_command}
+use Rattle.cf_words.specs.declared.command.Command as declared
+use Rattle.cf_words.specs.declared.command.Flags.{Flags}
+use Rattle.cf_words.specs.declared.fault.WordsFault.{WordsFault}
+use Rattle.cf_words.specs.declared.fault.WordsFault.TheVariants.{Usage, NoMemory}
+
+-- one of the two flags
+abbrev pub is_flag : List ℕ → Bool
+is_flag word = bytes_eq word (codes "--plain") || bytes_eq word (codes "--stats")
+
+-- a word that is not empty and does not begin with a dash
+abbrev pub is_operand : List ℕ → Bool
+is_operand [] = false
+is_operand (first ∷ more) = not (first == 45)
+
+-- a word stands among words, and stands there twice
+abbrev pub stands : List ℕ → List (List ℕ) → Bool
+stands word words = list_any (λ w. bytes_eq w word) words
+
+abbrev pub stands_twice : List ℕ → List (List ℕ) → Bool
+stands_twice word [] = false
+stands_twice word (first ∷ words) = if bytes_eq first word then stands word words else stands_twice word words
+
+-- each word is an operand or one of the two flags, and no flag stands twice
+abbrev pub may_be_read : List (List ℕ) → Bool
+may_be_read words =
+    list_all (λ w. is_flag w || is_operand w) words && (not (stands_twice (codes "--plain") words) && not (stands_twice (codes "--stats") words))
+
+unfoldable pub most_size : ℕ
+most_size = 100
+
+-- the number from 1 to the most that a word spells in decimal digits without leading zeros
+abbrev pub size_of : List ℕ → Option ℕ
+size_of word = find (λ n. bytes_eq word (decimal n)) (range_with_len 1 most_size)
+
+-- the command of a first word, with these flags and this operand
+abbrev pub command_for : List ℕ → Flags → List ℕ → Option Command
+command_for first flags operand =
+    if bytes_eq first (codes "compile") then Some (compile flags operand)
+    else if bytes_eq first (codes "run") then Some (run flags operand)
+    else if flags.plain || flags.stats then None
+    else if bytes_eq first (codes "pre") then Some (pre operand)
+    else if bytes_eq first (codes "exec") then Some (exec operand)
+    else if bytes_eq first (codes "gen") then option_map gen (size_of operand)
+    else None
+
+-- the flags that stand among words
+abbrev pub flags_in : List (List ℕ) → Flags
+flags_in words = record { plain = stands (codes "--plain") words; stats = stands (codes "--stats") words }
+
+-- the words that are no flags
+abbrev pub operands : List (List ℕ) → List (List ℕ)
+operands words = filter (λ w. not (is_flag w)) words
+
+-- the element of a list that has one
+abbrev pub only : List (List ℕ) → Option (List ℕ)
+only (operand ∷ []) = Some operand
+only operands = None
+
+-- behind the first word stand one operand and flags
+abbrev pub command_in : List (List ℕ) → Option Command
+command_in [] = None
+command_in (first ∷ words) = option_and_then (command_for first (flags_in words)) (only (operands words))
+
+-- the command that the words are; none where they are no command
+abbrev pub command_of : List (List ℕ) → Option Command
+command_of words = if may_be_read words then command_in words else None
+
+-- what is answered to words that are this command, or none; want of memory is free
+abbrev pub WordsAnswer : Option Command → Result declared.Command WordsFault → Type 0
+WordsAnswer asked (Ok command) = asked ≡ Some (plain_command command)
+WordsAnswer asked (Err Usage) = asked ≡ None
+WordsAnswer asked (Err NoMemory) = ⊤

@@ -1,0 +1,40 @@
+//! What the words of the command line ask for.
+
+/// What a command does with its file.
+#[derive(Clone, Copy, Debug, PartialEq, Eq)]
+pub enum CommandKind {
+    /// The file holds a source text. The target that it is compiled to is written.
+    Compile,
+    /// The file holds a source text. The input is answered by the target that it is compiled to.
+    Run,
+    /// The file holds a source text. The preconditions of its chooses are written.
+    Pre,
+    /// The file holds a target text. The input is answered by it.
+    Exec,
+}
+
+/// What is asked of the passes.
+#[derive(Clone, Copy, Debug, PartialEq, Eq)]
+pub struct Flags {
+    /// No pass is called.
+    pub plain: bool,
+    /// The tallies of the passes are written behind all else.
+    pub stats: bool,
+}
+
+/// A command on a file: its kind, its flags and the name of the file.
+#[derive(Clone, Copy, Debug)]
+pub struct FileCommand<'a> {
+    pub kind: CommandKind,
+    pub flags: Flags,
+    pub file: &'a str,
+}
+
+/// What the words ask for.
+#[derive(Clone, Copy, Debug)]
+pub enum Command<'a> {
+    /// Something is done with a file.
+    OnFile(FileCommand<'a>),
+    /// The workload of this size, from 1 to 100, is made, compiled and run.
+    Gen(u32),
+}

@@ -1,0 +1,52 @@
+//! The tests of words before they are read.
+ghost use Rattle.std.specs.Prelude.{◌≡◌, ◌||◌, map, string_bytes};
+ghost use Rattle.std.specs.List.{list_all};
+ghost use Rattle.cf_words.specs.Words.{is_flag, is_operand, may_be_read as may_be_read_as, stands as stands_in, stands_twice as stands_twice_in};
+
+use crate::word::may_stand;
+
+/// Each word is an operand or one of the two flags, and no flag stands twice.
+pub(crate) fn may_be_read(words: &[String]) -> bool
+    ensures { result ≡ may_be_read_as (map string_bytes words.now) }
+{
+    each_may_stand(words) && !stands_twice(words, "--plain") && !stands_twice(words, "--stats")
+}
+
+fn each_may_stand(words: &[String]) -> bool
+    ensures { result ≡ list_all (λ w. is_flag w || is_operand w) (map string_bytes words.now) }
+{
+    let mut rest = words;
+    'words: while let Some((word, more)) = rest.split_first() {
+        if !may_stand(word.as_str()) {
+            return false;
+        }
+        rest = more;
+    }
+    true
+}
+
+fn stands_twice(words: &[String], word: &str) -> bool
+    ensures { result ≡ stands_twice_in word.now (map string_bytes words.now) }
+{
+    let mut rest = words;
+    'words: while let Some((first, more)) = rest.split_first() {
+        if first.as_str() == word {
+            return stands(more, word);
+        }
+        rest = more;
+    }
+    false
+}
+
+fn stands(words: &[String], word: &str) -> bool
+    ensures { result ≡ stands_in word.now (map string_bytes words.now) }
+{
+    let mut rest = words;
+    'words: while let Some((first, more)) = rest.split_first() {
+        if first.as_str() == word {
+            return true;
+        }
+        rest = more;
+    }
+    false
+}

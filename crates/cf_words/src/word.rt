@@ -1,0 +1,27 @@
+//! What one word is.
+ghost use Rattle.std.specs.Prelude.{◌≡◌, ◌||◌};
+ghost use Rattle.cf_words.specs.Words.{is_flag as is_flag_word, is_operand as is_operand_word};
+
+/// One of the two flags.
+pub(crate) fn is_flag(word: &str) -> bool
+    ensures { result ≡ is_flag_word word.now }
+{
+    word == "--plain" || word == "--stats"
+}
+
+/// A word that is not empty and does not begin with a dash.
+pub(crate) fn is_operand(word: &[u8]) -> bool
+    ensures { result ≡ is_operand_word word.now }
+{
+    match word {
+        [] => false,
+        [first, ..] => *first != b'-',
+    }
+}
+
+/// A flag or an operand.
+pub(crate) fn may_stand(word: &str) -> bool
+    ensures { result ≡ (is_flag_word word.now || is_operand_word word.now) }
+{
+    is_flag(word) || is_operand(word.as_bytes())
+}
