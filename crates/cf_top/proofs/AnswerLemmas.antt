@@ -8,7 +8,8 @@ use Rattle.cf_io.specs.Bytes.{TookPrefix, TookFront}
 use Rattle.cf_io.specs.Limits.{input_limit}
 use Rattle.cf_io.specs.Lines.{lines, ended}
 use Rattle.cf_tree.specs.declared.target.RawTarget.{RawTarget}
-use Rattle.cf_top.specs.Commands.{Command, reads_input, calls_passes}
+use Rattle.cf_words.specs.Commands.{Command}
+use Rattle.cf_top.specs.Commands.{reads_input, calls_passes}
 use Rattle.cf_top.specs.Ends.{Streams, Job, input_for, answered_lines, behind_lines, Reads, IsReadUp, Wrote, IsStopped, Ends}
 use Rattle.cf_top.specs.Outside.{AreTold}
 use Rattle.cf_top.specs.Owed.{by_target, AreReplies, Owes}

@@ -6,19 +6,19 @@ use Rattle.std.proofs.KnownBytes.{Consumes-nil}
 use Rattle.cf_io.specs.Bytes.{TookFront}
 use Rattle.cf_io.specs.Causes.{Rose, one_more}
 use Rattle.cf_io.specs.Limits.{input_limit}
-use Rattle.cf_top.specs.Commands.{Command, names_of, calls_passes}
-use Rattle.cf_top.specs.Ends.{streams_of, Ends, Does}
+use Rattle.cf_words.specs.Commands.{Command, command_on, gen}
+use Rattle.cf_top.specs.Commands.{names_of, calls_passes}
+use Rattle.cf_top.specs.Ends.{streams_of, Ends, Does, Answers}
 use Rattle.cf_top.specs.Limits.{text_limit}
 use Rattle.cf_top.specs.Outside.{Outside, AreTold, AreTexts, Counts, IsFrugal}
 use Rattle.cf_top.specs.Passes.{Told}
 use Rattle.cf_top.specs.Refusals.{too_long, Refuses}
 use Rattle.cf_top.specs.Steps.{AnswersOn}
-use Rattle.cf_top.specs.Words.{command_on}
 use Rattle.cf_top.specs.declared.fault.Fault.{Fault}
 use Rattle.cf_top.specs.declared.fault.Fault.TheVariants as fault
-use Rattle.cf_top.specs.declared.words.CommandKind.{CommandKind}
-use Rattle.cf_top.specs.declared.words.CommandKind.TheVariants.{Compile, Run, Pre, Exec}
-use Rattle.cf_top.specs.declared.words.Flags.{Flags}
+use Rattle.cf_words.specs.declared.command.CommandKind.{CommandKind}
+use Rattle.cf_words.specs.declared.command.CommandKind.TheVariants.{Compile, Run, Pre, Exec}
+use Rattle.cf_words.specs.declared.command.Flags.{Flags}
 use Rattle.cf_top.proofs.CountLemmas.{one_fault}
 use Rattle.cf_top.proofs.FaultLemmas.{failed}
 use Rattle.cf_top.proofs.PassLemmas.{unpassed}
@@ -30,6 +30,9 @@ one_name Compile flags name = refl
 one_name Run flags name = refl
 one_name Pre flags name = refl
 one_name Exec flags name = refl
+
+pub reads_a_file : (kind : CommandKind) (flags : Flags) (name : List ℕ) → names_of (command_on kind flags name) ≡ [] → ⊥
+reads_a_file kind flags name none = let one : names_of (command_on kind flags name) ≡ name ∷ [] = one_name kind flags name in cc
 
 texts : (c : Command) (name : List ℕ) (told : List ℕ → Option (List ℕ)) (text : List ℕ) → names_of c ≡ name ∷ [] → AreTold (told name) text →
     AreTexts told (names_of c) (text ∷ [])
@@ -159,3 +162,47 @@ long_does kind flags name given before after long file none same =
 pub text_told : (told : Option (List ℕ)) (text : List ℕ) → IfSome told (λ t. text ≡ t) → AreTold told text
 text_told None text h = tt
 text_told (Some t) text h = sym h
+
+-- a workload reads no file and no input
+pub workload_does : (n : ℕ) (given : List Told) (before after : Outside) (answer : Result (Unit {0}) Fault) →
+    AnswersOn (gen n) given [] (streams_of before) (streams_of after) answer → after.fetches ≡ before.fetches → after.left ≡ before.left →
+    ((other : List ℕ) → after.file_faults other ≡ before.file_faults other) → Counts (answer ≡ Err fault.Input) before.input_faults after.input_faults →
+    Counts (answer ≡ Err fault.Output) before.out_faults after.out_faults → Does (gen n) given before after answer
+workload_does n given before after answer h fetches left same input out = record {
+  files = [];
+  told = tt;
+  passes = h.passes;
+  passed = h.passed;
+  ends = h.ends;
+  blames = record { files = λ _. same; file = λ i. absurd (h.not_file i); others = λ i. absurd (h.not_file i); input = input; out = out };
+  frugal = record { fetches = omega (arith, fetches); file = inl left; input = h.frugal };
+}
+
+-- there are texts under these names, as far as they are told
+some_texts : (texts : List ℕ → Option (List ℕ)) (names : List (List ℕ)) → (files : List (List ℕ)) × AreTexts texts names files
+some_texts texts [] = ([], tt)
+some_texts texts (name ∷ names) =
+    let more = some_texts texts names in (left_of (texts name) ∷ more.0, (left_told (texts name), more.1))
+
+-- memory ran out before anything was done
+not_of_a_file : failed fault.NoMemory ≡ Err fault.File → ⊥
+not_of_a_file e = cc
+
+pub nothing_answers : (command : Option Command) (given : List Told) (before : Outside) → Answers command given before before (Err fault.NoMemory)
+nothing_answers None given before = (inr refl, refl)
+nothing_answers (Some c) given before =
+    let texts = some_texts before.texts (names_of c) in record {
+      files = texts.0;
+      told = texts.1;
+      passes = given;
+      passed = unpassed (calls_passes c) given;
+      ends = inr refl;
+      blames = record {
+        files = λ _ name. refl;
+        file = λ i. absurd (not_of_a_file i);
+        others = λ i. absurd (not_of_a_file i);
+        input = no_fault before.input_faults before.input_faults (λ i. cc) refl;
+        out = no_fault before.out_faults before.out_faults (λ i. cc) refl;
+      };
+      frugal = record { fetches = omega arith; file = inl refl; input = nothing_read before.input before.input refl };
+    }

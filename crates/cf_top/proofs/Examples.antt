@@ -1,69 +1,18 @@
 -- Worked examples of the definitions.
-use Rattle.std.proofs.Common.{◌≡◌, ap, refl, ℕ, true, false, List, [], ◌∷◌, Some, None, arith, codes}
+use Rattle.std.proofs.Common.{◌≡◌, ap, refl, ℕ, true, false, List, [], ◌∷◌, arith, codes}
 use Rattle.std.specs.Fmt.{digits}
 use Rattle.std.specs.Prelude.{Ok, Err}
 use Rattle.cf_io.specs.Limits.{input_limit}
 use Rattle.cf_program.specs.declared.fault.TypeFault.TheVariants as rule
 use Rattle.cf_linear.specs.declared.refusal.LimitKind.TheVariants as kind
 use Rattle.cf_linear.specs.declared.refusal.Refusal.TheVariants as refusal
-use Rattle.cf_top.specs.Commands.{compile, run, pre, exec, verify, gen, names_of, reads_input}
+use Rattle.cf_words.specs.Commands.{compile, run, pre, exec, verify, gen}
+use Rattle.cf_top.specs.Commands.{names_of, reads_input}
 use Rattle.cf_top.specs.Ends.{input_for, answered_lines, behind_lines}
 use Rattle.cf_top.specs.Passes.{Told, ArePassed, applied, closing}
 use Rattle.cf_top.specs.Statuses.{code_of, status_of}
 use Rattle.cf_top.specs.Texts.{answer_line}
-use Rattle.cf_top.specs.Words.{command_of}
 use Rattle.cf_top.specs.declared.fault.Fault.TheVariants as fault
-
-plain_run : command_of (codes "run" ∷ codes "a" ∷ []) ≡ Some (run (record { plain = false; stats = false }) (codes "a"))
-plain_run = refl
-
-exec_file : command_of (codes "exec" ∷ codes "a-b" ∷ []) ≡ Some (exec (codes "a-b"))
-exec_file = refl
-
-pre_file : command_of (codes "pre" ∷ codes "a" ∷ []) ≡ Some (pre (codes "a"))
-pre_file = refl
-
-flag_before : command_of (codes "compile" ∷ codes "--plain" ∷ codes "a" ∷ []) ≡ Some (compile (record { plain = true; stats = false }) (codes "a"))
-flag_before = refl
-
-flags_around : command_of (codes "run" ∷ codes "--stats" ∷ codes "a" ∷ codes "--plain" ∷ []) ≡ Some (run (record { plain = true; stats = true }) (codes "a"))
-flags_around = refl
-
-flag_twice : command_of (codes "run" ∷ codes "--stats" ∷ codes "a" ∷ codes "--stats" ∷ []) ≡ None
-flag_twice = refl
-
-plain_twice : command_of (codes "compile" ∷ codes "a" ∷ codes "--plain" ∷ codes "--plain" ∷ []) ≡ None
-plain_twice = refl
-
-no_flag_there : command_of (codes "pre" ∷ codes "a" ∷ codes "--plain" ∷ []) ≡ None
-no_flag_there = refl
-
-nor_there : command_of (codes "exec" ∷ codes "--stats" ∷ codes "a" ∷ []) ≡ None
-nor_there = refl
-
-no_words : command_of [] ≡ None
-no_words = refl
-
-no_file : command_of (codes "run" ∷ codes "--plain" ∷ []) ≡ None
-no_file = refl
-
-two_files : command_of (codes "run" ∷ codes "a" ∷ codes "b" ∷ []) ≡ None
-two_files = refl
-
-an_empty_name : command_of (codes "run" ∷ [] ∷ []) ≡ None
-an_empty_name = refl
-
-a_dash : command_of (codes "run" ∷ codes "-a" ∷ []) ≡ None
-a_dash = refl
-
-another_word : command_of (codes "runs" ∷ codes "a" ∷ []) ≡ None
-another_word = refl
-
-a_flag_in_front : command_of (codes "--plain" ∷ codes "run" ∷ codes "a" ∷ []) ≡ None
-a_flag_in_front = refl
-
-a_flag_and_a_half : command_of (codes "run" ∷ codes "a" ∷ codes "--stat" ∷ []) ≡ None
-a_flag_and_a_half = refl
 
 -- passes that tell this
 abbrev two_passes : List Told
@@ -108,6 +57,15 @@ two_names = refl
 
 no_names : names_of (gen 1) ≡ []
 no_names = refl
+
+gen_reads_none : reads_input (gen 1) ≡ false
+gen_reads_none = refl
+
+gen_calls_passes : applied (gen 1) two_passes ≡ 2
+gen_calls_passes = refl
+
+gen_tells_no_tallies : closing (gen 1) two_passes ≡ []
+gen_tells_no_tallies = refl
 
 exec_reads : reads_input (exec (codes "a")) ≡ true
 exec_reads = refl

@@ -1,11 +1,12 @@
 -- The faults of a text.
 use Rattle.std.proofs.Common.{◌≡◌, inl, inr, sym, subst, ℕ, List, [], ◌∷◌}
 use Rattle.std.specs.Prelude.{◌⊎◌, Result, Err}
+use Rattle.cf_gen.specs.Workload.{gen_source}
 use Rattle.cf_lex.specs.declared.token.Token.{Token}
 use Rattle.cf_reader.specs.Readers.{Reader}
 use Rattle.cf_tree.specs.DefView.{RawDefTree}
 use Rattle.cf_target.specs.Spelling.{TargetTree}
-use Rattle.cf_top.specs.Commands.{Command, compile, run, pre, exec}
+use Rattle.cf_words.specs.Commands.{Command, compile, run, pre, exec, gen}
 use Rattle.cf_top.specs.Refusals.{Causes, too_long, odd_byte, large_number, no_tree, bad_tree, IsBadProgram, broken, refused, IsBadTarget, untyped, IsRefusedSource, IsRefusedTarget, Refuses}
 use Rattle.cf_top.specs.declared.fault.Fault.{Fault}
 use Rattle.cf_top.specs.declared.fault.Fault.TheVariants as fault
@@ -51,6 +52,7 @@ refused_fault (compile flags name) (text ∷ []) f h = source_text text f h
 refused_fault (run flags name) (text ∷ []) f h = source_text text f h
 refused_fault (pre name) (text ∷ []) f h = source_text text f h
 refused_fault (exec name) (text ∷ []) f h = target_text text f h
+refused_fault (gen n) [] f h = source_text (gen_source n) f h
 refused_fault c files f h = absurd h
 
 -- a source that is refused, or for which memory ran out, names no object outside

@@ -1,18 +1,21 @@
 -- What each command owes on the text of its file.
-use Rattle.std.proofs.Common.{◌≡◌, ◌∙◌, sym, ap, subst, refl, ℕ, Bool, true, false, not, List, [], ◌∷◌, length, map}
+use Rattle.std.proofs.Common.{◌≡◌, ◌∙◌, sym, ap, subst, refl, ℕ, ◌*◌, ℤ, Bool, true, false, not, List, [], ◌∷◌, length, map}
 use Rattle.std.specs.Prelude.{if◌then◌else◌}
 use Rattle.std.proofs.lemmas.List.{length-map}
+use Rattle.cf_gen.specs.Workload.{gen_source, gen_lines}
+use Rattle.cf_io.specs.Lines.{lines}
 use Rattle.cf_tree.specs.declared.target.RawTarget.{RawTarget}
 use Rattle.cf_tree.specs.Spelled.{HasSpelling}
 use Rattle.cf_target.specs.Spelling.{target_tree}
 use Rattle.cf_emit.specs.Printed.{target_text}
 use Rattle.cf_emit.specs.ReadsBack.{ReadsBack}
-use Rattle.cf_top.specs.Commands.{compile, run}
-use Rattle.cf_top.specs.Owed.{by_target, AreReplies, Owes}
+use Rattle.cf_words.specs.Commands.{compile, run, gen}
+use Rattle.cf_top.specs.Owed.{by_target, AreReplies, sum_line, Owes}
 use Rattle.cf_top.specs.Passes.{Told, ArePassed, applied}
 use Rattle.cf_top.specs.Sources.{Compiles}
-use Rattle.cf_top.specs.declared.words.Flags.{Flags}
-use Rattle.cf_top.proofs.PickedLemmas.{replies_picked}
+use Rattle.cf_top.specs.Steps.{AddUp}
+use Rattle.cf_words.specs.declared.command.Flags.{Flags}
+use Rattle.cf_top.proofs.PickedLemmas.{replies_picked, sum_picked}
 
 -- how many passes are applied
 pub applied_by : {P : Type 0} (tell : P → Told) (plain : Bool) (old : List P) (last : List Told) → ArePassed (not plain) (map tell old) last →
@@ -34,3 +37,10 @@ run_owes flags name file last passes t h is ls replies r =
     let n = applied (run flags name) last in
     let built : Compiles n file t = subst (λ n. Compiles n file t) is h in
     (t, built, r, replies_picked n file t ls replies built r)
+
+pub workload_owes : (n : ℕ) (last : List Told) (passes : ℕ) (t : RawTarget) (sum : ℤ) (text : List ℕ) → Compiles passes (gen_source n) t →
+    passes ≡ applied (gen n) last →
+    AddUp t (lines (gen_lines n)) sum → text ≡ sum_line (n * n) sum → Owes (gen n) [] last [] text
+workload_owes n last passes t sum text h is added line =
+    let built : Compiles (applied (gen n) last) (gen_source n) t = subst (λ k. Compiles k (gen_source n) t) is h in
+    (t, built, built.0, built.1, sum, sum_picked built.0 (applied (gen n) last) t built.2 (lines (gen_lines n)) sum added, line)

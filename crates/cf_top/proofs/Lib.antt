@@ -17,6 +17,7 @@ pub mod SourceLemmas
 pub mod SpelledLemmas
 pub mod StatusLemmas
 pub mod StepLemmas
+pub mod SumLemmas
 pub mod TargetLemmas
 pub mod TextLemmas
 pub mod VerdictLemmas

@@ -1,10 +1,12 @@
 -- How a call ends where nothing outside failed.
-use Rattle.std.proofs.Common.{◌≡◌, ◌∙◌, inl, inr, sym, subst, refl, ℕ, ◌≤◌, ◌<◌, Bool, true, false, List, [], ◌∷◌, ◌++◌, length, map, Option, Some, None, arith, append-nil, length-append}
+use Rattle.std.proofs.Common.{◌≡◌, ◌∙◌, inl, inr, sym, ap, subst, refl, ℕ, ◌≤◌, ◌<◌, Bool, true, false, List, [], ◌∷◌, ◌++◌, length, map, Option, Some, None, arith, append-nil, length-append}
 use Rattle.std.specs.Prelude.{◌⊎◌, Result, Ok, Err, IfSome, IsSomeAnd, OnOk, OnErr, Contains}
+use Rattle.cf_gen.specs.Workload.{gen_source}
 use Rattle.cf_io.specs.Causes.{Rose}
 use Rattle.cf_io.specs.Limits.{input_limit}
 use Rattle.cf_target.specs.Spelling.{target_tree}
-use Rattle.cf_top.specs.Commands.{Command, compile, run, pre, exec, names_of, reads_input}
+use Rattle.cf_words.specs.Commands.{Command, compile, run, pre, exec, gen}
+use Rattle.cf_top.specs.Commands.{names_of, reads_input}
 use Rattle.cf_top.specs.Ends.{Streams, streams_of, Job, Reads, IsReadUp, Wrote, Ends, Does, Answers}
 use Rattle.cf_top.specs.Outside.{Outside, AreTold, AreTexts}
 use Rattle.cf_top.specs.Owed.{Owes}
@@ -15,7 +17,7 @@ use Rattle.cf_top.specs.Top.{Errors, IsShort, IsLong, IsComplete, Completes, Top
 use Rattle.cf_top.specs.declared.fault.Fault.{Fault}
 use Rattle.cf_top.specs.declared.fault.Fault.TheVariants as fault
 use Rattle.cf_top.specs.declared.status.Status.{Status}
-use Rattle.cf_top.specs.declared.status.Status.TheVariants.{Done, File, Input, Output, InputLong, NoMemory}
+use Rattle.cf_top.specs.declared.status.Status.TheVariants.{Done, Usage, File, Input, Output, InputLong, NoMemory}
 use Rattle.cf_top.proofs.CountLemmas.{rose_once}
 use Rattle.cf_top.proofs.SourceLemmas.{sources_alike, compiled_unrefused, pres_unrefused}
 use Rattle.cf_top.proofs.TargetLemmas.{targets_alike, typed_unrefused}
@@ -26,6 +28,7 @@ refused_alike (compile flags name) (text ∷ []) f g h i = sources_alike text f 
 refused_alike (run flags name) (text ∷ []) f g h i = sources_alike text f g h i
 refused_alike (pre name) (text ∷ []) f g h i = sources_alike text f g h i
 refused_alike (exec name) (text ∷ []) f g h i = targets_alike text f g h i
+refused_alike (gen n) [] f g h i = sources_alike (gen_source n) f g h i
 refused_alike command files f g h i = absurd h
 
 -- a command that owes something is not refused
@@ -35,6 +38,7 @@ owed_accepted (compile flags name) (file ∷ []) passes ls text h = λ f r. comp
 owed_accepted (run flags name) (file ∷ []) passes ls text h = λ f r. compiled_unrefused (applied (run flags name) passes) file h.0 f h.1 r
 owed_accepted (pre name) (file ∷ []) passes ls text h = λ f r. pres_unrefused file h.0 text f h.1 h.2 r
 owed_accepted (exec name) (file ∷ []) passes ls text h = λ f r. typed_unrefused file (target_tree h.0) f h.1 r
+owed_accepted (gen n) [] passes ls text h = λ f r. compiled_unrefused (applied (gen n) passes) (gen_source n) h.0 f h.1 r
 owed_accepted command files passes ls text h = absurd h
 
 -- the texts are those that are told
@@ -143,21 +147,28 @@ pub completes : (command : Option Command) (given : List Told) (before after : O
 completes None given before after errors_before errors_after status t = tt
 completes (Some c) given before after errors_before errors_after status t = does_complete c given before after status t.answer t.answers t.is
 
+-- words that are no command are refused, or memory ran out
+pub no_command : (command : Option Command) (given : List Told) (before after : Outside) (answer : Result (Unit {0}) Fault) (status : Status) → command ≡ None →
+    Answers command given before after answer → status ≡ status_of answer → (status ≡ Usage) ⊎ (status ≡ NoMemory)
+no_command None given before after answer status none h is =
+    elim h.0 [ inl usage ↦ inl (is ∙ ap status_of usage) | inr memory ↦ inr (is ∙ ap status_of memory) ]
+no_command (Some c) given before after answer status none h is = cc
+
 -- which object failed
 pub file_rose : (command : Option Command) (given : List Told) (before after : Outside) (answer : Result (Unit {0}) Fault) →
     Answers command given before after answer → answer ≡ Err fault.File →
     IsSomeAnd command (λ c. (name : List ℕ) × Contains (names_of c) name × Rose (before.file_faults name) (after.file_faults name))
-file_rose None given before after answer h e = let other : answer ≡ Err fault.Usage = h.0 in cc
+file_rose None given before after answer h e = elim h.0 [ inl usage ↦ cc | inr memory ↦ cc ]
 file_rose (Some c) given before after answer h e = let f = h.blames.file e in (f.0, f.1, rose_once (before.file_faults f.0) (after.file_faults f.0) f.2)
 
 pub input_rose : (command : Option Command) (given : List Told) (before after : Outside) (answer : Result (Unit {0}) Fault) →
     Answers command given before after answer → answer ≡ Err fault.Input → Rose before.input_faults after.input_faults
-input_rose None given before after answer h e = let other : answer ≡ Err fault.Usage = h.0 in cc
+input_rose None given before after answer h e = elim h.0 [ inl usage ↦ cc | inr memory ↦ cc ]
 input_rose (Some c) given before after answer h e = rose_once before.input_faults after.input_faults (h.blames.input.rose e)
 
 pub out_rose : (command : Option Command) (given : List Told) (before after : Outside) (answer : Result (Unit {0}) Fault) →
     Answers command given before after answer → answer ≡ Err fault.Output → Rose before.out_faults after.out_faults
-out_rose None given before after answer h e = let other : answer ≡ Err fault.Usage = h.0 in cc
+out_rose None given before after answer h e = elim h.0 [ inl usage ↦ cc | inr memory ↦ cc ]
 out_rose (Some c) given before after answer h e = rose_once before.out_faults after.out_faults (h.blames.out.rose e)
 
 -- all was written, or the sink of errors failed once

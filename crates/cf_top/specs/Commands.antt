@@ -1,16 +1,6 @@
--- The commands, the files that each reads, whether it reads the input, and what it does with the passes.
+-- The files that each command reads, whether it reads the input, and what it does with the passes.
 use Rattle.std.specs.Prelude.{ℕ, Bool, true, false, not, List, [], ◌∷◌}
-use Rattle.cf_top.specs.declared.words.Flags.{Flags}
-
-pub data Command : Type 0 where
-  compile : Flags → List ℕ → Command
-  run : Flags → List ℕ → Command
-  pre : List ℕ → Command
-  check : List ℕ → Command
-  exec : List ℕ → Command
-  prove : List ℕ → Command
-  verify : List ℕ → List ℕ → Command
-  gen : ℕ → Command
+use Rattle.cf_words.specs.Commands.{Command, compile, run, pre, check, exec, prove, verify, gen}
 
 -- the names of the files that it reads, in order
 abbrev pub names_of : Command → List (List ℕ)

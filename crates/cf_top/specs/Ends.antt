@@ -4,7 +4,8 @@ use Rattle.std.specs.Io.KnownBytes.{Appends, Consumes, IsAtEnd}
 use Rattle.cf_io.specs.Bytes.{TookPrefix}
 use Rattle.cf_io.specs.Limits.{input_limit}
 use Rattle.cf_io.specs.Lines.{lines, ended}
-use Rattle.cf_top.specs.Commands.{Command, names_of, reads_input, calls_passes}
+use Rattle.cf_words.specs.Commands.{Command}
+use Rattle.cf_top.specs.Commands.{names_of, reads_input, calls_passes}
 use Rattle.cf_top.specs.Outside.{Outside, AreTold, AreTexts, Blames, IsFrugal}
 use Rattle.cf_top.specs.Owed.{Owes}
 use Rattle.cf_top.specs.Passes.{Told, ArePassed, closing}
@@ -90,7 +91,7 @@ pub record Does (command : Command) (given : List Told) (before after : Outside)
   pub blames : Blames (names_of command) before after answer
   pub frugal : IsFrugal (names_of command) before after
 
--- what the words ask, or nothing where they are no command
+-- What the words ask. Where they are no command, they are refused, or memory ran out while they were read, and nothing is done.
 abbrev pub Answers : Option Command → List Told → Outside → Outside → Result (Unit {0}) Fault → Type 0
-Answers None given before after answer = (answer ≡ Err fault.Usage) × (after ≡ before)
+Answers None given before after answer = ((answer ≡ Err fault.Usage) ⊎ (answer ≡ Err fault.NoMemory)) × (after ≡ before)
 Answers (Some command) given before after answer = Does command given before after answer

@@ -11,4 +11,3 @@ pub mod Statuses
 pub mod Steps
 pub mod Texts
 pub mod Top
-pub mod Words

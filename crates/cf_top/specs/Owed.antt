@@ -1,6 +1,10 @@
 -- What a command is to write, in all.
-use Rattle.std.specs.Prelude.{◌≡◌, ℕ, ◌-◌, ◌^◌, List, [], ◌∷◌, ◌++◌, None}
+use Rattle.std.specs.Prelude.{◌≡◌, ℕ, ◌-◌, ◌*◌, ◌^◌, ℤ, pos, ◌+ℤ◌, List, [], ◌∷◌, ◌++◌, None, codes, decimal}
+use Rattle.std.specs.List.{concat}
+use Rattle.std.specs.Fmt.{signed_decimal}
+use Rattle.cf_gen.specs.Workload.{gen_source, gen_lines}
 use Rattle.cf_io.specs.Limits.{line_limit}
+use Rattle.cf_io.specs.Lines.{lines}
 use Rattle.cf_tree.specs.declared.target.RawTarget.{RawTarget}
 use Rattle.cf_target.specs.Spelling.{target_tree}
 use Rattle.cf_program.specs.Checked.{TypedTree}
@@ -9,9 +13,9 @@ use Rattle.cf_build.specs.Questions.{Question, all_questions, by_number, limit_o
 use Rattle.cf_emit.specs.Printed.{target_text, pre_text}
 use Rattle.cf_emit.specs.ReadsBack.{ReadsBack}
 use Rattle.cf_eval.specs.Replies.{IsReply}
-use Rattle.cf_top.specs.Commands.{Command, compile, run, pre, exec}
+use Rattle.cf_words.specs.Commands.{Command, compile, run, pre, exec, gen}
 use Rattle.cf_top.specs.Passes.{Told, applied}
-use Rattle.cf_top.specs.Picked.{IsSourceReply}
+use Rattle.cf_top.specs.Picked.{IsSourceReply, adds}
 use Rattle.cf_top.specs.Sources.{Compiles, IsTypedSource, IsTypedTarget}
 
 -- what answers the lines of the input
@@ -50,11 +54,25 @@ abbrev pub ArePres : List Question → List ℕ → Type 0
 ArePres [] text = text ≡ []
 ArePres (q ∷ qs) text = (first : List ℕ) × (more : List ℕ) × (text ≡ first ++ more) × IsPreOf q first × ArePres qs more
 
--- What a command is to write on files of these texts, with passes that tell this, and these lines of the input. A source's replies are what it picks.
+-- the sum of the replies that the program picks, where so many passes have rewritten it
+abbrev pub IsSum : TypedTree → ℕ → List (List ℕ) → ℤ → Type 0
+IsSum typed passes [] sum = sum ≡ pos 0
+IsSum typed passes (line ∷ ls) sum =
+    (reply : List ℕ) × (is : IsSourceReply typed passes line reply) × (rest : ℤ) × (sum ≡ adds typed passes line reply is +ℤ rest) × IsSum typed passes ls rest
+
+-- lines L sum S
+abbrev pub sum_line : ℕ → ℤ → List ℕ
+sum_line count sum = concat (codes "lines " ∷ decimal count ∷ codes " sum " ∷ signed_decimal sum ∷ codes "\n" ∷ [])
+
+-- What a command is to write on files of these texts, with passes that tell this, and these lines of the input. A source's replies are what it
+-- picks. A workload has its own source and lines.
 abbrev pub Owes : Command → List (List ℕ) → List Told → List (List ℕ) → List ℕ → Type 0
 Owes (compile flags name) (file ∷ []) passes ls text = (t : RawTarget) × Compiles (applied (compile flags name) passes) file t × IsPrinted t text
 Owes (run flags name) (file ∷ []) passes ls text =
     (t : RawTarget) × Compiles (applied (run flags name) passes) file t × AreReplies (by_target t) ls text × ArePicked (applied (run flags name) passes) file ls text
 Owes (pre name) (file ∷ []) passes ls text = (typed : TypedTree) × IsTypedSource file typed × ArePres (by_number (all_questions typed.defs)) text
 Owes (exec name) (file ∷ []) passes ls text = (t : RawTarget) × IsTypedTarget file (target_tree t) × AreReplies (by_target t) ls text
+Owes (gen n) [] passes ls text =
+    (t : RawTarget) × Compiles (applied (gen n) passes) (gen_source n) t × (typed : TypedTree) × IsTypedSource (gen_source n) typed
+    × (sum : ℤ) × IsSum typed (applied (gen n) passes) (lines (gen_lines n)) sum × (text ≡ sum_line (n * n) sum)
 Owes command files passes ls text = ⊥

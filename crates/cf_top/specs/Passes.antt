@@ -2,7 +2,8 @@
 use Rattle.std.specs.Prelude.{◌≡◌, ℕ, Bool, true, false, List, [], ◌∷◌, length, map, flat_map, codes, decimal, if◌then◌else◌}
 use Rattle.std.specs.List.{concat}
 use Rattle.cf_pass.specs.Passes.{NoneFell}
-use Rattle.cf_top.specs.Commands.{Command, calls_passes, tells_tallies}
+use Rattle.cf_words.specs.Commands.{Command}
+use Rattle.cf_top.specs.Commands.{calls_passes, tells_tallies}
 
 -- the name of a pass, and how many units it has replaced
 pub record Told : Type 0 where

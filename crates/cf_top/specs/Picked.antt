@@ -1,9 +1,9 @@
 -- The reply to a line, told from the program of a source.
-use Rattle.std.specs.Prelude.{◌≡◌, ℕ, ◌<◌, ◌≤◌, List, [], length, map, get_or, codes, Option, Some, None}
+use Rattle.std.specs.Prelude.{◌≡◌, ℕ, ◌<◌, ◌≤◌, ℤ, pos, List, [], ◌∷◌, length, map, get_or, codes, Option, Some, None}
 use Rattle.cf_num.specs.Limit.{limit}
 use Rattle.cf_io.specs.Limits.{line_limit}
 use Rattle.cf_tree.specs.declared.base.Base.{Base}
-use Rattle.cf_tree.specs.Values.{Value, Outcome}
+use Rattle.cf_tree.specs.Values.{Value, Outcome, values, number_of}
 use Rattle.cf_program.specs.Checked.{TypedTree}
 use Rattle.cf_program.specs.Names.{bases_of}
 use Rattle.cf_growth.specs.Overflowing.{picked, MayOverflow}
@@ -35,3 +35,14 @@ pub data IsSourceReply (typed : TypedTree) (passes : ℕ) (line : List ℕ) : Li
       (main_picks typed vs ≡ None → MayOverflow (lowered_bodies typed.defs) typed.main vs) → IsSourceReply typed passes line (picked_text (main_picks typed vs))
   allows : (vs : List Value) (o : Outcome) → length line ≤ line_limit → SpellsValues limit (main_bases typed) line vs → main_picks typed vs ≡ None →
       1 ≤ passes → SourceAllows typed.defs typed.main vs o → IsSourceReply typed passes line (outcome_text o)
+
+-- the number that an outcome is; overflow counts as 0, and so does an outcome that is no number
+abbrev pub outcome_number : Option Outcome → ℤ
+outcome_number (Some (values (v ∷ []))) = number_of v
+outcome_number o = pos 0
+
+-- what a reply adds to a sum
+abbrev pub adds : (typed : TypedTree) (passes : ℕ) (line reply : List ℕ) → IsSourceReply typed passes line reply → ℤ
+adds typed passes line reply (picks vs short spelled near) = outcome_number (main_picks typed vs)
+adds typed passes line reply (allows vs o short spelled none some allowed) = outcome_number (Some o)
+adds typed passes line reply is = pos 0

@@ -1,5 +1,6 @@
 -- Why the text of a file is refused.
 use Rattle.std.specs.Prelude.{◌≡◌, ℕ, ◌<◌, List, [], ◌∷◌, length, Ok, Err}
+use Rattle.cf_gen.specs.Workload.{gen_source}
 use Rattle.cf_lex.specs.declared.token.Token.{Token}
 use Rattle.cf_lex.specs.Tokens.{bad_byte, past_limit, at_end}
 use Rattle.cf_tree.specs.declared.base.Place.{Place}
@@ -13,7 +14,7 @@ use Rattle.cf_program.specs.Checked.{TypedTree, checked}
 use Rattle.cf_program.specs.declared.fault.TypeFault.{TypeFault}
 use Rattle.cf_linear.specs.declared.refusal.Refusal.{Refusal}
 use Rattle.cf_build.specs.Questions.{all_questions, IsFirstRefused}
-use Rattle.cf_top.specs.Commands.{Command, compile, run, pre, exec}
+use Rattle.cf_words.specs.Commands.{Command, compile, run, pre, exec, gen}
 use Rattle.cf_top.specs.Limits.{text_limit}
 use Rattle.cf_top.specs.Sources.{HasTokens, Spelled, IsTypedTree}
 use Rattle.cf_top.specs.declared.fault.Fault.{Fault}
@@ -51,12 +52,13 @@ IsRefusedSource text f = Causes IsProgram (program_of 200) IsBadProgram text f
 abbrev pub IsRefusedTarget : List ℕ → Fault → Type 0
 IsRefusedTarget text f = Causes IsTarget (target_of 500) IsBadTarget text f
 
--- the fault for which a command is refused on files of these texts
+-- the fault for which a command is refused on files of these texts, or on a source of its own
 abbrev pub Refuses : Command → List (List ℕ) → Fault → Type 0
 Refuses (compile flags name) (text ∷ []) f = IsRefusedSource text f
 Refuses (run flags name) (text ∷ []) f = IsRefusedSource text f
 Refuses (pre name) (text ∷ []) f = IsRefusedSource text f
 Refuses (exec name) (text ∷ []) f = IsRefusedTarget text f
+Refuses (gen n) [] f = IsRefusedSource (gen_source n) f
 Refuses command files f = ⊥
 
 -- nothing but want of memory refuses it

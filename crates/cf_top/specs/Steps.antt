@@ -1,25 +1,31 @@
 -- How far an input was answered; for the contracts within the crate.
-use Rattle.std.specs.Prelude.{◌≡◌, ◌⊎◌, ◌≤◌, ◌<◌, ◌+◌, ℕ, false, List, [], ◌∷◌, ◌++◌, take, length, codes, Option, Result, Ok, Err}
+use Rattle.std.specs.Prelude.{◌≡◌, ◌⊎◌, ◌≤◌, ◌<◌, ◌+◌, ℕ, suc, ℤ, pos, ◌+ℤ◌, List, [], ◌∷◌, ◌++◌, take, length, codes, if◌then◌else◌, Option, Some, None, Result, Ok, Err}
 use Rattle.std.specs.Io.KnownBytes.{Appends, Consumes, IsAtEnd}
 use Rattle.cf_io.specs.Bytes.{TookPrefix, TookFront}
 use Rattle.cf_io.specs.Cut.{CutterState, Stands, told}
 use Rattle.cf_io.specs.Limits.{line_limit, input_limit}
-use Rattle.cf_io.specs.Lines.{lines, ended}
+use Rattle.cf_io.specs.Lines.{is_feed, lines, ended}
 use Rattle.cf_io.specs.declared.line.Line.{Line}
 use Rattle.cf_io.specs.declared.line.Line.TheVariants.{Text, TooLong}
-use Rattle.cf_top.specs.Commands.{Command, calls_passes}
+use Rattle.cf_num.specs.Limit.{limit}
+use Rattle.cf_tree.specs.declared.target.RawTarget.{RawTarget}
+use Rattle.cf_tree.specs.CodeTree.{CodeTree}
+use Rattle.cf_tree.specs.CodeView.{code_tree}
+use Rattle.cf_tree.specs.Values.{Value, values, no_solution}
+use Rattle.cf_eval.specs.Answers.{Answers}
+use Rattle.cf_eval.specs.Seen.{plains}
+use Rattle.cf_eval.specs.Spelling.{SpellsValues}
+use Rattle.cf_eval.specs.declared.value.Outcome.{Outcome as RunOutcome}
+use Rattle.cf_eval.specs.declared.value.Outcome.TheVariants.{Values, NoSolution, Overflow}
+use Rattle.cf_words.specs.Commands.{Command}
+use Rattle.cf_top.specs.Commands.{calls_passes}
 use Rattle.cf_top.specs.Ends.{Streams, answered_lines, Ends}
 use Rattle.cf_top.specs.Outside.{AreTold}
 use Rattle.cf_top.specs.Owed.{Answerer, IsReplyBy, AreReplies}
 use Rattle.cf_top.specs.Passes.{Told, ArePassed}
-use Rattle.cf_top.specs.Words.{is_flag}
+use Rattle.cf_top.specs.Picked.{outcome_number}
 use Rattle.cf_top.specs.declared.fault.Fault.{Fault}
 use Rattle.cf_top.specs.declared.fault.Fault.TheVariants as fault
-
--- the words begin with no flag
-abbrev pub IsPastFlags : List (List ℕ) → Type 0
-IsPastFlags [] = Unit {0}
-IsPastFlags (word ∷ words) = is_flag word ≡ false
 
 -- what is made of a text, where Good says what it may be; or a fault for which Refused says that the text is refused; or want of memory
 abbrev pub IsVerdict : {A : Type 0} → (A → Type 0) → (Fault → Type 0) → Result A Fault → Type 0
@@ -99,3 +105,30 @@ pub record AnswersOn (command : Command) (given : List Told) (files : List (List
   pub frugal : TookFront (input_limit + 1) before.input after.input
   pub not_usage : answer ≡ Err fault.Usage → ⊥
   pub not_file : answer ≡ Err fault.File → ⊥
+
+-- how many bytes stand before the first line feed, or how many there are
+abbrev pub first_size : List ℕ → ℕ
+first_size [] = 0
+first_size (b ∷ bytes) = if is_feed b then 0 else suc (first_size bytes)
+
+-- what the outcome of a run adds to a sum
+abbrev pub run_number : RunOutcome → ℤ
+run_number (Values vs) = outcome_number (Some (values (plains vs.items)))
+run_number (NoSolution n) = outcome_number (Some (no_solution n))
+run_number Overflow = outcome_number None
+
+-- a run of the code on these values comes to an outcome that adds this
+pub record ComesTo (code : CodeTree) (vs : List Value) (z : ℤ) : Type 0 where
+  pub outcome : RunOutcome
+  pub answers : Answers code vs outcome
+  pub is : z ≡ run_number outcome
+
+-- what the reply of a target to a line adds to a sum
+pub data LineAdds (t : RawTarget) (line : List ℕ) (z : ℤ) : Type 0 where
+  long_line : line_limit < length line → z ≡ pos 0 → LineAdds t line z
+  odd_line : length line ≤ line_limit → ((vs : List Value) → SpellsValues limit t.params.items line vs → ⊥) → z ≡ pos 0 → LineAdds t line z
+  read_line : (vs : List Value) → length line ≤ line_limit → SpellsValues limit t.params.items line vs → ComesTo (code_tree t.code) vs z → LineAdds t line z
+
+abbrev pub AddUp : RawTarget → List (List ℕ) → ℤ → Type 0
+AddUp t [] sum = sum ≡ pos 0
+AddUp t (line ∷ ls) sum = (z : ℤ) × (rest : ℤ) × (sum ≡ z +ℤ rest) × LineAdds t line z × AddUp t ls rest

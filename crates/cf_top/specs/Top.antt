@@ -4,7 +4,8 @@ use Rattle.std.specs.Io.KnownBytes.{Appends}
 use Rattle.cf_io.specs.Bytes.{TookPrefix}
 use Rattle.cf_io.specs.Causes.{one_more}
 use Rattle.cf_io.specs.Limits.{input_limit}
-use Rattle.cf_top.specs.Commands.{Command, names_of, reads_input}
+use Rattle.cf_words.specs.Commands.{Command}
+use Rattle.cf_top.specs.Commands.{names_of, reads_input}
 use Rattle.cf_top.specs.Ends.{Answers}
 use Rattle.cf_top.specs.Outside.{Outside}
 use Rattle.cf_top.specs.Passes.{Told}

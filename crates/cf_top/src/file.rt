@@ -5,7 +5,7 @@ ghost use Rattle.cf_tree.specs.Spelled.{HasSpelling};
 ghost use Rattle.cf_target.specs.Spelling.{target_tree};
 ghost use Rattle.cf_emit.specs.Printed.{target_text};
 ghost use Rattle.cf_emit.specs.ReadsBack.{ReadsBack};
-ghost use Rattle.cf_top.specs.Commands.{compile as the_compile, run as the_run, pre as the_pre, exec as the_exec};
+ghost use Rattle.cf_words.specs.Commands.{compile as the_compile, run as the_run, pre as the_pre, exec as the_exec};
 ghost use Rattle.cf_top.specs.Limits.{text_limit};
 ghost use Rattle.cf_top.specs.Owed.{by_target};
 ghost use Rattle.cf_top.specs.Passes.{Told, ArePassed, closing_lines};
@@ -22,12 +22,12 @@ use crate::preconditions::preconditions;
 use crate::source::{compile, read_source};
 use crate::tallies::{closing, put_closing};
 use crate::target::read_target;
-use crate::words::Flags;
 use cf_emit::print::print;
 use cf_io::{Sink, Source};
 use cf_pass::Pass;
 use cf_tree::memory::NoMemory;
 use cf_tree::target::Target;
+use cf_words::command::Flags;
 use std::alloc::Global;
 
 // Answers the input by a target, and writes `end` behind the replies.

@@ -8,8 +8,8 @@ use cf_tree::memory::NoMemory;
 use itoa::{Buffer, Integer};
 use std::alloc::Global;
 
-// Adds a number in decimal.
-fn put_number<I: Integer>(text: &mut Vec<u8>, number: I) -> Result<(), NoMemory>
+/// Adds a number in decimal.
+pub fn put_number<I: Integer>(text: &mut Vec<u8>, number: I) -> Result<(), NoMemory>
     ensures { OnOk result (text.new.items ≡ text.old.items ++ I.text number) }
 {
     let mut buffer = Buffer::new();

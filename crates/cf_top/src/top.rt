@@ -10,16 +10,20 @@ ghost use Rattle.cf_top.specs.Outside.{Outside};
 ghost use Rattle.cf_top.specs.Statuses.{status_of as the_status_of};
 ghost use Rattle.cf_top.specs.Steps.{AnswersOn};
 ghost use Rattle.cf_top.specs.Top.{Errors, IsEarly, Completes, TopAnswer};
-ghost use Rattle.cf_top.specs.Words.{command_of, command_on};
+ghost use Rattle.cf_words.specs.Commands.{command_on};
+ghost use Rattle.cf_words.specs.Words.{command_of};
 
 use crate::fault::Fault;
 use crate::file::{run_source, run_target, write_preconditions, write_target};
 use crate::limits::longest_text;
 use crate::status::{Status, status_of};
 use crate::tell::tell;
-use crate::words::{Command, CommandKind, parse};
+use crate::workload::write_workload;
 use cf_io::{ReadFault, Shelf, Sink, Source, read_text};
 use cf_pass::Pass;
+use cf_words::command::{Command, CommandKind, FileCommand};
+use cf_words::fault::WordsFault;
+use cf_words::parse::parse;
 use std::alloc::Global;
 
 /// Does all that the program does: it reads the words, the file and the input, and writes what the
@@ -42,7 +46,9 @@ pub fn comfusy<F: Shelf, I: Source, O: Sink, E: Sink>(
         (record { texts = F.text shelf.old; left = F.left shelf.old; input = I.left input.old; out = O.held out.old; fetches = F.fetches shelf.old; file_faults = F.faults shelf.old; input_faults = I.faults input.old; out_faults = O.faults out.old })
         (record { texts = F.text shelf.new; left = F.left shelf.new; input = I.left input.new; out = O.held out.new; fetches = F.fetches shelf.new; file_faults = F.faults shelf.new; input_faults = I.faults input.new; out_faults = O.faults out.new })
         (record { held = E.held err.old; faults = E.faults err.old }) (record { held = E.held err.new; faults = E.faults err.new }) result }
-    ensures usage { (result ≡ Status.Usage) ↔ (command_of (map string_bytes words.now) ≡ None) }
+    ensures usage { result ≡ Status.Usage → command_of (map string_bytes words.now) ≡ None }
+    ensures no_command { command_of (map string_bytes words.now) ≡ None → (result ≡ Status.Usage) ⊎ (result ≡ Status.NoMemory) }
+    ensures untouched { command_of (map string_bytes words.now) ≡ None → (shelf.new ≡ shelf.old) × (input.new ≡ input.old) × (out.new ≡ out.old) }
     ensures file { result ≡ Status.File → IsSomeAnd (command_of (map string_bytes words.now)) (λ c. (name : List ℕ) × Contains (names_of c) name × Rose (F.faults shelf.old name) (F.faults shelf.new name)) }
     ensures input { result ≡ Status.Input → Rose (I.faults input.old) (I.faults input.new) }
     ensures output { result ≡ Status.Output → Rose (O.faults out.old) (O.faults out.new) }
@@ -52,6 +58,8 @@ pub fn comfusy<F: Shelf, I: Source, O: Sink, E: Sink>(
     ensures shelf { result ≡ Status.Usage → shelf.new ≡ shelf.old }
     ensures unread { IsEarly result → input.new ≡ input.old }
     ensures unasked { IfSome (command_of (map string_bytes words.now)) (λ c. reads_input c ≡ false → input.new ≡ input.old) }
+    // A command that reads no file leaves the shelf.
+    ensures unfetched { IfSome (command_of (map string_bytes words.now)) (λ c. names_of c ≡ [] → shelf.new ≡ shelf.old) }
     ensures unwritten { IsEarly result → out.new ≡ out.old }
 {
     let mut passes = passes;
@@ -71,22 +79,26 @@ fn answer_words<F: Shelf, I: Source, O: Sink>(
     ensures answers { Answers (command_of (map string_bytes words.now)) (map (λ p. record { name = name p; tally = tally p }) passes.old.items)
         (record { texts = F.text shelf.old; left = F.left shelf.old; input = I.left input.old; out = O.held out.old; fetches = F.fetches shelf.old; file_faults = F.faults shelf.old; input_faults = I.faults input.old; out_faults = O.faults out.old })
         (record { texts = F.text shelf.new; left = F.left shelf.new; input = I.left input.new; out = O.held out.new; fetches = F.fetches shelf.new; file_faults = F.faults shelf.new; input_faults = I.faults input.new; out_faults = O.faults out.new }) result }
-    ensures usage { IsErrOf result Fault.Usage ↔ (command_of (map string_bytes words.now) ≡ None) }
+    ensures usage { IsErrOf result Fault.Usage → command_of (map string_bytes words.now) ≡ None }
+    ensures untouched { command_of (map string_bytes words.now) ≡ None → (shelf.new ≡ shelf.old) × (input.new ≡ input.old) × (out.new ≡ out.old) }
     ensures shelf { IsErrOf result Fault.Usage → shelf.new ≡ shelf.old }
     ensures unread { IsEarly (the_status_of result) → input.new ≡ input.old }
     ensures unasked { IfSome (command_of (map string_bytes words.now)) (λ c. reads_input c ≡ false → input.new ≡ input.old) }
+    ensures unfetched { IfSome (command_of (map string_bytes words.now)) (λ c. names_of c ≡ [] → shelf.new ≡ shelf.old) }
     ensures unwritten { IsEarly (the_status_of result) → out.new ≡ out.old }
 {
-    match parse(words) {
-        None => Err(Fault::Usage),
-        Some(command) => answer_file(alloc, &command, shelf, input, out, passes),
+    match parse(alloc, words) {
+        Ok(Command::OnFile(command)) => answer_file(alloc, &command, shelf, input, out, passes),
+        Ok(Command::Gen(size)) => write_workload(alloc, size, out, passes),
+        Err(WordsFault::Usage) => Err(Fault::Usage),
+        Err(WordsFault::NoMemory) => Err(Fault::NoMemory),
     }
 }
 
 // Reads the file, and does with it what the command asks.
 fn answer_file<F: Shelf, I: Source, O: Sink>(
     alloc: Global,
-    command: &Command<'_>,
+    command: &FileCommand<'_>,
     shelf: &mut F,
     input: &mut I,
     out: &mut O,
@@ -111,7 +123,7 @@ fn answer_file<F: Shelf, I: Source, O: Sink>(
 // Does with the text of a file what the command asks.
 fn answer_text<I: Source, O: Sink>(
     alloc: Global,
-    command: &Command<'_>,
+    command: &FileCommand<'_>,
     text: &[u8],
     input: &mut I,
     out: &mut O,

@@ -1,7 +1,6 @@
-use Rattle.std.proofs.Common.{◌∙◌, sym, ap, subst}
-use Rattle.cf_top.specs.Statuses.{status_of}
+use Rattle.std.proofs.Common.{◌∙◌, sym, subst}
 use Rattle.cf_top.specs.Top.{IsEarly}
-use Rattle.cf_top.proofs.VerdictLemmas.{completes, file_rose, input_rose, out_rose, told_or_rose}
+use Rattle.cf_top.proofs.VerdictLemmas.{completes, no_command, file_rose, input_rose, out_rose, told_or_rose}
 use Rattle.cf_top.proofs.StatusLemmas.{is_usage, is_file, is_input, is_output}
 use Rattle.cf_top.proofs.top.comfusy.Goals as goal
 
@@ -14,9 +13,13 @@ returns-clause-tells g c = record {
 }
 
 pub returns-clause-usage : goal.returns-clause-usage
-returns-clause-usage g c =
-    let is = c.status_of.ensures in
-    (λ e. c.answer_words-answer.ensures.usage.0 (is_usage _ (sym is ∙ e)), λ n. is ∙ ap status_of (c.answer_words-answer.ensures.usage.1 n))
+returns-clause-usage g c = λ e. c.answer_words-answer.ensures.usage (is_usage _ (sym c.status_of.ensures ∙ e))
+
+pub returns-clause-no_command : goal.returns-clause-no_command
+returns-clause-no_command g c = λ none. no_command _ _ _ _ _ _ none c.answer_words-answer.ensures.answers c.status_of.ensures
+
+pub returns-clause-untouched : goal.returns-clause-untouched
+returns-clause-untouched g c = c.answer_words-answer.ensures.untouched
 
 pub returns-clause-file : goal.returns-clause-file
 returns-clause-file g c = λ e. file_rose _ _ _ _ _ c.answer_words-answer.ensures.answers (is_file _ (sym c.status_of.ensures ∙ e))
@@ -41,3 +44,6 @@ returns-clause-unwritten g c = λ e. c.answer_words-answer.ensures.unwritten (su
 
 pub returns-clause-unasked : goal.returns-clause-unasked
 returns-clause-unasked g c = c.answer_words-answer.ensures.unasked
+
+pub returns-clause-unfetched : goal.returns-clause-unfetched
+returns-clause-unfetched g c = c.answer_words-answer.ensures.unfetched

@@ -1,0 +1,20 @@
+use Rattle.std.proofs.Common.{refl}
+use Rattle.cf_top.proofs.DoesLemmas.{workload_does, nothing_answers, reads_a_file}
+use Rattle.cf_top.proofs.top.answer_words.Goals as goal
+
+pub returns-in-Ok-Gen-clause-answers : goal.returns-in-Ok-Gen-clause-answers
+returns-in-Ok-Gen-clause-answers g c =
+    rw (rw c.in-Ok-Gen.field-0-is at c.in-Ok-Gen.ensures.answer)
+    (workload_does _ _ _ _ _ (c.write_workload.ensures.answers (g.I.Source.left c.args.input.now)) refl refl (λ other. refl)
+    (record { same = λ n. refl; rose = λ e. absurd (c.write_workload.ensures.input e) })
+    (record { same = c.write_workload.ensures.output_same; rose = c.write_workload.ensures.output }))
+
+pub returns-in-Ok-Gen-clause-usage : goal.returns-in-Ok-Gen-clause-usage
+returns-in-Ok-Gen-clause-usage g c = λ e. absurd ((c.write_workload.ensures.answers (g.I.Source.left c.args.input.now)).not_usage e)
+
+pub returns-in-Err-NoMemory-clause-answers : goal.returns-in-Err-NoMemory-clause-answers
+returns-in-Err-NoMemory-clause-answers g c = nothing_answers _ _ _
+
+pub returns-in-Ok-OnFile-clause-unfetched : goal.returns-in-Ok-OnFile-clause-unfetched
+returns-in-Ok-OnFile-clause-unfetched g c =
+    rw (rw c.in-Ok-OnFile.field-0-is at c.in-Ok-OnFile.ensures.answer) (λ none. absurd (reads_a_file c.in-Ok-OnFile.command.kind c.in-Ok-OnFile.command.flags c.in-Ok-OnFile.command.file.now none))
