@@ -1,0 +1,4 @@
+pub mod Questions
+pub mod Verdicts
+pub mod Writing
+pub mod Answering
