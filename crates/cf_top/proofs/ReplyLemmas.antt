@@ -1,7 +1,6 @@
 -- Replies to lines, one after the other.
 use Rattle.std.proofs.Common.{◌≡◌, ◌∙◌, sym, ap, subst, refl, ℕ, ◌+◌, ◌-◌, ◌^◌, ◌≤◌, ◌<◌, Bool, true, false, cond, nat_le, List, [], ◌∷◌, ◌++◌, length, map, take, get_or, Option, Some, None, codes, arith, append_assoc, ◌⊎◌, inl, inr}
-use Rattle.std.specs.Prelude.{Result, Ok, Err, IfOk, Vec}
-use Rattle.std.specs.Global.{Global}
+use Rattle.std.specs.Prelude.{Result, Ok, Err, OnOk}
 use Rattle.std.proofs.lemmas.Bool.Decides.{nat_tests}
 use Rattle.std.proofs.lemmas.Bool.{cases_lt}
 use Rattle.std.proofs.lemmas.List.{take_more}
@@ -153,8 +152,8 @@ pub replies_step : (who : Answerer) (ls : List Line) (i : ℕ) (d : Line) (old n
     new ≡ old ++ (reply ++ 10 ∷ []) → AreLineReplies who (take (i + 1) ls) new
 replies_step who ls i d old new reply lt before is same = rw (same, take_more ls i d lt) (line_replies_more who (take i ls) (get_or ls i d) old reply before is)
 
--- the reply to values that were read of a line
-pub reply_if_ok : {E : Type 0} (t : RawTarget) (bases : List Base) (line : List ℕ) (vs : List Value) (r : Result (Vec ℕ Global) E) → bases ≡ t.params.items → SpellsValues (2 ^ 127 - 1) bases line vs →
-    IfOk r (λ text. text.items ≡ meaning_text (2 ^ 127 - 1) t vs) → IfOk r (λ text. length line ≤ line_limit → IsReply line_limit (2 ^ 127 - 1) t line text.items)
-reply_if_ok t bases line vs (Ok text) is r same = λ short. reply_found t bases line vs text.items is r same short
-reply_if_ok t bases line vs (Err e) is r same = tt
+-- the reply to values that were read of a line, added to what was written
+pub reply_if_ok : {A E : Type 0} (t : RawTarget) (bases : List Base) (line : List ℕ) (vs : List Value) (r : Result A E) (old new : List ℕ) → bases ≡ t.params.items → SpellsValues (2 ^ 127 - 1) bases line vs →
+    OnOk r (new ≡ old ++ meaning_text (2 ^ 127 - 1) t vs) → OnOk r ((reply : List ℕ) × (new ≡ old ++ reply) × (length line ≤ line_limit → IsReply line_limit (2 ^ 127 - 1) t line reply))
+reply_if_ok t bases line vs (Ok u) old new is r same = (meaning_text (2 ^ 127 - 1) t vs, same, λ short. reply_found t bases line vs _ is r refl short)
+reply_if_ok t bases line vs (Err e) old new is r same = tt

@@ -8,7 +8,7 @@ ghost use Rattle.cf_top.specs.Steps.{IsLineReply, AreLineReplies};
 
 use cf_eval::fault::LineFault;
 use cf_eval::line::read_line;
-use cf_eval::reply::reply;
+use cf_eval::reply::put_reply;
 use cf_eval::run::run;
 use cf_eval::value::Value;
 use cf_io::Line;
@@ -16,31 +16,52 @@ use cf_tree::memory::NoMemory;
 use cf_tree::target::Target;
 use std::alloc::Global;
 
-// The text of what the target means on these values.
-fn reply_to_values(alloc: Global, target: &Target, values: &[Value]) -> Result<Vec<u8>, NoMemory>
-    ensures { IfOk result (λ text. text.items ≡ meaning_text (2 ^ 127 - 1) target.now (plains values.now)) }
+// Adds the text of what the target means on these values.
+fn add_meaning(
+    alloc: Global,
+    target: &Target,
+    values: &[Value],
+    text: &mut Vec<u8>,
+) -> Result<(), NoMemory>
+    ensures { OnOk result (text.new.items ≡ text.old.items ++ meaning_text (2 ^ 127 - 1) target.now (plains values.now)) }
 {
     let outcome = run(alloc, target, values)?;
-    reply(alloc, &outcome)
+    put_reply(text, &outcome)
 }
 
-// The reply to a line that is not too long.
-fn reply_to_text(alloc: Global, target: &Target, line: &[u8]) -> Result<Vec<u8>, NoMemory>
-    ensures { IfOk result (λ text. length line.now ≤ line_limit → IsReplyBy (by_target target.now) line.now text.items) }
+// Adds the reply to a line that is not too long.
+fn add_text_reply(
+    alloc: Global,
+    target: &Target,
+    line: &[u8],
+    text: &mut Vec<u8>,
+) -> Result<(), NoMemory>
+    ensures { OnOk result ((reply : List ℕ) × (text.new.items ≡ text.old.items ++ reply) × (length line.now ≤ line_limit → IsReplyBy (by_target target.now) line.now reply)) }
 {
     match read_line(alloc, line, target.params()) {
-        Ok(values) => reply_to_values(alloc, target, &values),
-        Err(LineFault::BadInput) => Ok(b"bad input".as_slice().to_vec(alloc)?),
+        Ok(values) => add_meaning(alloc, target, &values, text),
+        Err(LineFault::BadInput) => {
+            text.extend_from_slice(b"bad input")?;
+            Ok(())
+        }
         Err(LineFault::NoMemory) => Err(NoMemory),
     }
 }
 
-fn reply_to_line(alloc: Global, target: &Target, line: &Line) -> Result<Vec<u8>, NoMemory>
-    ensures { IfOk result (λ text. IsLineReply (by_target target.now) line.now text.items) }
+fn add_line_reply(
+    alloc: Global,
+    target: &Target,
+    line: &Line,
+    text: &mut Vec<u8>,
+) -> Result<(), NoMemory>
+    ensures { OnOk result ((reply : List ℕ) × (text.new.items ≡ text.old.items ++ reply) × IsLineReply (by_target target.now) line.now reply) }
 {
     match line {
-        Line::Text(text) => reply_to_text(alloc, target, &text.bytes),
-        Line::TooLong => Ok(b"line too long".as_slice().to_vec(alloc)?),
+        Line::Text(bytes) => add_text_reply(alloc, target, &bytes.bytes, text),
+        Line::TooLong => {
+            text.extend_from_slice(b"line too long")?;
+            Ok(())
+        }
     }
 }
 
@@ -53,8 +74,7 @@ fn add_reply(
 ) -> Result<(), NoMemory>
     ensures { OnOk result ((reply : List ℕ) × (text.new.items ≡ text.old.items ++ (reply ++ 10 ∷ [])) × IsLineReply (by_target target.now) line.now reply) }
 {
-    let reply = reply_to_line(alloc, target, line)?;
-    text.extend_from_slice(&reply)?;
+    add_line_reply(alloc, target, line, text)?;
     text.push(b'\n')?;
     Ok(())
 }
