@@ -32,7 +32,10 @@ struct Arms {
 
 impl DropArms {
     /// The pass with tally 0.
-    pub fn new() -> DropArms {
+    pub fn new() -> DropArms
+        ensures tally { result.arms.tally ≡ 0 }
+        ensures turns { result.turns ≡ 0 }
+    {
         DropArms {
             arms: Arms { tally: 0 },
             turns: 0,

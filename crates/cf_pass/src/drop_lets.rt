@@ -32,7 +32,10 @@ struct Lets {
 
 impl DropLets {
     /// The pass with tally 0.
-    pub fn new() -> DropLets {
+    pub fn new() -> DropLets
+        ensures tally { result.lets.tally ≡ 0 }
+        ensures turns { result.turns ≡ 0 }
+    {
         DropLets {
             lets: Lets { tally: 0 },
             turns: 0,

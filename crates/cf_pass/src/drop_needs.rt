@@ -31,7 +31,10 @@ struct Needs {
 
 impl DropNeeds {
     /// The pass with tally 0.
-    pub fn new() -> DropNeeds {
+    pub fn new() -> DropNeeds
+        ensures tally { result.needs.tally ≡ 0 }
+        ensures turns { result.turns ≡ 0 }
+    {
         DropNeeds {
             needs: Needs { tally: 0 },
             turns: 0,

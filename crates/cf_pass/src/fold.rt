@@ -33,7 +33,10 @@ struct Forms {
 
 impl Fold {
     /// The pass with tally 0.
-    pub fn new() -> Fold {
+    pub fn new() -> Fold
+        ensures tally { result.forms.tally ≡ 0 }
+        ensures turns { result.turns ≡ 0 }
+    {
         Fold {
             forms: Forms { tally: 0 },
             turns: 0,
