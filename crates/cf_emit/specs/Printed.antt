@@ -1,6 +1,7 @@
 -- The printed form of a target.
-use Rattle.std.specs.Prelude.{ℕ, zero, suc, Bool, true, false, List, [], ◌∷◌, ◌++◌, map, codes, decimal}
+use Rattle.std.specs.Prelude.{ℕ, zero, suc, List, [], ◌∷◌, ◌++◌, map, codes, decimal}
 use Rattle.std.specs.Fmt.{signed_decimal}
+use Rattle.cf_write.specs.Words.{truth_text}
 use Rattle.cf_tree.specs.declared.base.Base.{Base}
 use Rattle.cf_tree.specs.declared.base.Base.TheVariants.{Int, Bool as Truth, Set}
 use Rattle.cf_tree.specs.declared.base.Order.{Order}
@@ -17,10 +18,6 @@ abbrev pub base_text : Base → List ℕ
 base_text Int = codes "int"
 base_text Truth = codes "bool"
 base_text Set = codes "set"
-
-abbrev pub truth_text : Bool → List ℕ
-truth_text true = codes "true"
-truth_text false = codes "false"
 
 -- the sign of an order, with a space on each side
 abbrev pub order_text : Order → List ℕ

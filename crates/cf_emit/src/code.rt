@@ -5,9 +5,10 @@ ghost use Rattle.cf_tree.specs.CodeView.{code_tree, code_trees, item_tree, item_
 ghost use Rattle.cf_emit.specs.Printed.{line_end, listed, variables_text, code_text, codes_text, more_codes, item_text, items_text, gives_text, arm_text, arms_text};
 
 use crate::list::put_bounds;
-use crate::word::{put_count, put_number, put_order, put_truth, put_variable, put_variables};
+use crate::word::{put_order, put_variable, put_variables};
 use cf_tree::code::{Arm, Code, Item};
 use cf_tree::memory::NoMemory;
+use cf_write::{put_number, put_truth};
 
 /// Puts the text of a code at the end.
 #[cycle(put_code)]
@@ -15,7 +16,7 @@ pub(crate) fn put_code(out: &mut Vec<u8>, code: &Code) -> Result<(), NoMemory>
     ensures { OnOk result (out.new.items ≡ out.old.items ++ code_text (code_tree code.now)) }
 {
     match code {
-        Code::Lit(k) => put_number(out, k),
+        Code::Lit(k) => put_number(out, *k),
         Code::Truth(t) => put_truth(out, *t),
         Code::Var(x) => put_variable(out, u64::from(*x)),
         Code::SetOf(parts) => put_list(out, b"{", b", ", parts, b"}"),
@@ -124,7 +125,7 @@ fn put_quotient(out: &mut Vec<u8>, before: &[u8], code: &Code, k: &i128) -> Resu
     out.extend_from_slice(before)?;
     put_code(out, code)?;
     out.extend_from_slice(b", ")?;
-    put_number(out, k)?;
+    put_number(out, *k)?;
     out.push(b')')?;
     Ok(())
 }
@@ -234,7 +235,7 @@ fn put_solve(out: &mut Vec<u8>, number: u32) -> Result<(), NoMemory>
     ensures { OnOk result (out.new.items ≡ out.old.items ++ (codes "solve " ++ decimal number ++ codes " {" ++ line_end)) }
 {
     out.extend_from_slice(b"solve ")?;
-    put_count(out, u64::from(number))?;
+    put_number(out, number)?;
     out.extend_from_slice(b" {\n")?;
     Ok(())
 }
@@ -244,7 +245,7 @@ fn put_divisor(out: &mut Vec<u8>, k: &i128) -> Result<(), NoMemory>
     ensures { OnOk result (out.new.items ≡ out.old.items ++ (codes "(" ++ signed_decimal k.now)) }
 {
     out.push(b'(')?;
-    put_number(out, k)
+    put_number(out, *k)
 }
 
 // The beginning of a let, up to its last variable.

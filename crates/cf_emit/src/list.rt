@@ -2,9 +2,10 @@
 ghost use Rattle.std.specs.Prelude.{◌≡◌, ◌++◌, map, OnOk, decimal};
 ghost use Rattle.cf_emit.specs.Printed.{base_text, listed, more_texts, results_text};
 
-use crate::word::{put_base, put_count};
+use crate::word::put_base;
 use cf_tree::base::{Base, Text};
 use cf_tree::memory::NoMemory;
+use cf_write::put_number;
 
 // Bases, a comma and a space before each.
 fn put_more_bases(out: &mut Vec<u8>, bases: &[Base]) -> Result<(), NoMemory>
@@ -52,7 +53,7 @@ fn put_more_bounds(out: &mut Vec<u8>, bounds: &[u32]) -> Result<(), NoMemory>
 {
     for bound in bounds {
         out.extend_from_slice(b", ")?;
-        put_count(out, u64::from(*bound))?;
+        put_number(out, *bound)?;
     }
     Ok(())
 }
@@ -64,7 +65,7 @@ pub(crate) fn put_bounds(out: &mut Vec<u8>, bounds: &[u32]) -> Result<(), NoMemo
     match bounds.split_first() {
         None => Ok(()),
         Some((bound, more)) => {
-            put_count(out, u64::from(*bound))?;
+            put_number(out, *bound)?;
             put_more_bounds(out, more)
         }
     }

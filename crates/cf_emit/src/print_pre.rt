@@ -6,11 +6,11 @@ ghost use Rattle.cf_tree.specs.DefView.{pre_tree};
 
 use crate::code::{put_items, put_searches};
 use crate::list::put_names;
-use crate::word::put_count;
 use cf_tree::base::Text;
 use cf_tree::code::Arm;
 use cf_tree::memory::NoMemory;
 use cf_tree::target::Pre;
+use cf_write::put_number;
 use std::alloc::Global;
 
 /// The printed form of the precondition of a choose with this number, where the variables in scope
@@ -30,7 +30,7 @@ fn put_head(out: &mut Vec<u8>, number: u32, names: &[Text]) -> Result<(), NoMemo
     ensures { OnOk result (out.new.items ≡ out.old.items ++ (codes "pre " ++ decimal number ++ codes " (" ++ listed names.now ++ codes ") {" ++ line_end)) }
 {
     out.extend_from_slice(b"pre ")?;
-    put_count(out, u64::from(number))?;
+    put_number(out, number)?;
     out.extend_from_slice(b" (")?;
     put_names(out, names)?;
     out.extend_from_slice(b") {\n")?;

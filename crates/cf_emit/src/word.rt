@@ -1,29 +1,10 @@
 //! The words of printed code.
-ghost use Rattle.std.specs.Prelude.{◌≡◌, ◌++◌, ◌≤◌, ◌^◌, OnOk, decimal};
-ghost use Rattle.std.specs.Fmt.{signed_decimal};
-ghost use Rattle.cf_emit.specs.Printed.{base_text, more_variables, order_text, truth_text, variable_text, variables_text};
+ghost use Rattle.std.specs.Prelude.{◌≡◌, ◌++◌, ◌≤◌, ◌^◌, OnOk};
+ghost use Rattle.cf_emit.specs.Printed.{base_text, more_variables, order_text, variable_text, variables_text};
 
 use cf_tree::base::{Base, Order};
 use cf_tree::memory::NoMemory;
-use itoa::Buffer;
-
-/// Puts a number in decimal at the end.
-pub(crate) fn put_number(out: &mut Vec<u8>, z: &i128) -> Result<(), NoMemory>
-    ensures { OnOk result (out.new.items ≡ out.old.items ++ signed_decimal z.now) }
-{
-    let mut buffer = Buffer::new();
-    out.extend_from_slice(buffer.format(*z).as_bytes())?;
-    Ok(())
-}
-
-/// Puts a count in decimal at the end.
-pub(crate) fn put_count(out: &mut Vec<u8>, n: u64) -> Result<(), NoMemory>
-    ensures { OnOk result (out.new.items ≡ out.old.items ++ decimal n) }
-{
-    let mut buffer = Buffer::new();
-    out.extend_from_slice(buffer.format(n).as_bytes())?;
-    Ok(())
-}
+use cf_write::put_number;
 
 /// Puts the word of a base at the end.
 pub(crate) fn put_base(out: &mut Vec<u8>, base: Base) -> Result<(), NoMemory>
@@ -33,17 +14,6 @@ pub(crate) fn put_base(out: &mut Vec<u8>, base: Base) -> Result<(), NoMemory>
         Base::Int => out.extend_from_slice(b"int")?,
         Base::Bool => out.extend_from_slice(b"bool")?,
         Base::Set => out.extend_from_slice(b"set")?,
-    }
-    Ok(())
-}
-
-/// Puts the word of a truth value at the end.
-pub(crate) fn put_truth(out: &mut Vec<u8>, truth: bool) -> Result<(), NoMemory>
-    ensures { OnOk result (out.new.items ≡ out.old.items ++ truth_text truth) }
-{
-    match truth {
-        true => out.extend_from_slice(b"true")?,
-        false => out.extend_from_slice(b"false")?,
     }
     Ok(())
 }
@@ -68,7 +38,7 @@ pub(crate) fn put_variable(out: &mut Vec<u8>, level: u64) -> Result<(), NoMemory
     ensures { OnOk result (out.new.items ≡ out.old.items ++ variable_text level) }
 {
     out.push(b'v')?;
-    put_count(out, level)
+    put_number(out, level)
 }
 
 // As many variables from a level on, a comma and a space before each.

@@ -4,4 +4,3 @@
 mod draw;
 pub mod lines;
 pub mod source;
-mod word;

@@ -3,8 +3,8 @@ ghost use Rattle.std.specs.Prelude.{◌≡◌, ◌*◌, ◌≤◌, ◌++◌, IfO
 ghost use Rattle.cf_gen.specs.Workload.{drawn, gen_lines, input_line, input_of, seed as seed_at};
 
 use crate::draw::{input, next_seed};
-use crate::word::put_number;
 use cf_tree::memory::NoMemory;
+use cf_write::put_number;
 use std::alloc::Global;
 
 /// The input lines of the workload of size `n`: `n * n` lines, each a whole number in decimal and a

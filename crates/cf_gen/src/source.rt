@@ -4,8 +4,8 @@ ghost use Rattle.std.specs.List.{flat_map, range_with_len};
 ghost use Rattle.cf_gen.specs.Workload.{call_more, call_text, function_line, function_text, gen_source, main_line};
 
 use crate::draw::{coefficient, next_seed};
-use crate::word::put_number;
 use cf_tree::memory::NoMemory;
+use cf_write::put_number;
 use std::alloc::Global;
 
 /// The source of the workload of size `n`: a line for each of `n` functions, each of which solves

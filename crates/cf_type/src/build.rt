@@ -1,5 +1,5 @@
 //! The forms of expressions, made of their parts.
-ghost use Rattle.std.specs.Prelude.{◌≡◌, ◌+◌, map, Some, IfOk};
+ghost use Rattle.std.specs.Prelude.{◌≡◌, ◌+◌, map, true, false, Some, IfOk, IfErr};
 ghost use Rattle.cf_tree.specs.ExprView.{expr_tree};
 ghost use Rattle.cf_tree.specs.RelView.{rel_tree};
 ghost use Rattle.cf_tree.specs.DefView.{raw_def_tree};
@@ -10,7 +10,7 @@ ghost use Rattle.cf_type.specs.FormView.{form_of, forms_of, arms_of, reading_of,
 ghost use Rattle.cf_program.specs.CheckAnswers.{CheckAnswer};
 ghost use Rattle.cf_program.specs.Names.{callee_from, bases_of};
 ghost use Rattle.cf_program.specs.Reading.{relation as a_relation, term as a_term, on_relation, on_term, on_set, truth_reading};
-ghost use Rattle.cf_program.specs.Walk.{form as form_is, no_forms as no_forms_of, with_form as with_form_of, no_arms as no_arms_of, with_arm as with_arm_of, variable_form, unary_form, binary_form, set_reading as set_reading_of, set_form, tuple_form, call_form, if_form, let_form, choose_form, match_form, linear as linear_of, arm_number, after_arm};
+ghost use Rattle.cf_program.specs.Walk.{is_one, form as form_is, no_forms as no_forms_of, with_form as with_form_of, no_arms as no_arms_of, with_arm as with_arm_of, variable_form, unary_form, binary_form, set_reading as set_reading_of, set_form, tuple_form, call_form, if_form, let_form, choose_form, match_form, linear as linear_of, arm_number, after_arm};
 ghost use Rattle.cf_tree.specs.Typing.{one as one_base};
 
 use crate::callees::Caller;
@@ -137,11 +137,21 @@ pub fn tuple(alloc: Global, place: Place, parts: Forms) -> Result<Form, TypeFaul
     })
 }
 
-/// The negative of a number.
-pub fn neg(alloc: Global, place: Place, part: Form) -> Result<Form, TypeFault>
-    ensures { CheckAnswer form_of result (unary_form place int int expr_neg (on_term (λ t. a_term (term_neg t))) (form_of part)) }
+// What stands under an operator, without its bases.
+#[derive(Drop)]
+struct Operand {
+    tree: Box<Expr>,
+    reading: Reading,
+    next: u32,
+}
+
+// The operand, where it has this one base.
+fn operand_at(place: Place, base: Base, part: Form) -> Result<Operand, TypeFault>
+    ensures fault { IfErr result (λ f. (f ≡ TypeFault.Mismatch place) × (is_one base part.bases.items ≡ false)) }
+    ensures base { IfOk result (λ o. is_one base part.bases.items ≡ true) }
+    ensures same { IfOk result (λ o. (expr_tree o.tree.value ≡ expr_tree part.tree.value) × (reading_of o.reading ≡ reading_of part.reading) × (o.next ≡ part.next)) }
 {
-    if !bases::is_one(Base::Int, &part.bases) {
+    if !bases::is_one(base, &part.bases) {
         drop(part);
         return Err(TypeFault::Mismatch(place));
     }
@@ -152,70 +162,52 @@ pub fn neg(alloc: Global, place: Place, part: Form) -> Result<Form, TypeFault>
         next,
     } = part;
     drop(bases);
-    let reading = reading::of_neg(alloc, place, reading)?;
-    made(alloc, Base::Int, Expr::Neg(tree), reading, next)
+    Ok(Operand {
+        tree,
+        reading,
+        next,
+    })
+}
+
+/// The negative of a number.
+pub fn neg(alloc: Global, place: Place, part: Form) -> Result<Form, TypeFault>
+    ensures { CheckAnswer form_of result (unary_form place int int expr_neg (on_term (λ t. a_term (term_neg t))) (form_of part)) }
+{
+    let part = operand_at(place, Base::Int, part)?;
+    let reading = reading::of_neg(alloc, place, part.reading)?;
+    made(alloc, Base::Int, Expr::Neg(part.tree), reading, part.next)
 }
 
 /// The opposite of a truth value.
 pub fn not(alloc: Global, place: Place, part: Form) -> Result<Form, TypeFault>
     ensures { CheckAnswer form_of result (unary_form place truth_base truth_base expr_not (on_relation (λ r. a_relation (rel_not r))) (form_of part)) }
 {
-    if !bases::is_one(Base::Bool, &part.bases) {
-        drop(part);
-        return Err(TypeFault::Mismatch(place));
-    }
-    let Form {
-        bases,
-        tree,
-        reading,
-        next,
-    } = part;
-    drop(bases);
-    let reading = reading::of_not(alloc, place, reading)?;
-    made(alloc, Base::Bool, Expr::Not(tree), reading, next)
+    let part = operand_at(place, Base::Bool, part)?;
+    let reading = reading::of_not(alloc, place, part.reading)?;
+    made(alloc, Base::Bool, Expr::Not(part.tree), reading, part.next)
 }
 
 /// The absolute value of a number.
 pub fn abs(alloc: Global, place: Place, part: Form) -> Result<Form, TypeFault>
     ensures { CheckAnswer form_of result (unary_form place int int expr_abs (on_term (λ t. a_term (term_abs t))) (form_of part)) }
 {
-    if !bases::is_one(Base::Int, &part.bases) {
-        drop(part);
-        return Err(TypeFault::Mismatch(place));
-    }
-    let Form {
-        bases,
-        tree,
-        reading,
-        next,
-    } = part;
-    drop(bases);
-    let reading = reading::of_abs(alloc, place, reading)?;
-    made(alloc, Base::Int, Expr::Abs(tree), reading, next)
+    let part = operand_at(place, Base::Int, part)?;
+    let reading = reading::of_abs(alloc, place, part.reading)?;
+    made(alloc, Base::Int, Expr::Abs(part.tree), reading, part.next)
 }
 
 /// Whether `k` divides a number.
 pub fn divides(alloc: Global, place: Place, k: i128, part: Form) -> Result<Form, TypeFault>
     ensures { CheckAnswer form_of result (unary_form place int truth_base (expr_divides k) (on_term (λ t. a_relation (rel_divides k t))) (form_of part)) }
 {
-    if !bases::is_one(Base::Int, &part.bases) {
-        drop(part);
-        return Err(TypeFault::Mismatch(place));
-    }
-    let Form {
-        bases,
-        tree,
-        reading,
-        next,
-    } = part;
-    drop(bases);
-    let reading = reading::of_divides(alloc, place, k, reading)?;
+    let part = operand_at(place, Base::Int, part)?;
+    let reading = reading::of_divides(alloc, place, k, part.reading)?;
     made(
         alloc,
         Base::Bool,
-        Expr::Divides { k, of: tree },
+        Expr::Divides { k, of: part.tree },
         reading,
-        next,
+        part.next,
     )
 }
 
@@ -223,57 +215,39 @@ pub fn divides(alloc: Global, place: Place, k: i128, part: Form) -> Result<Form,
 pub fn div(alloc: Global, place: Place, part: Form, k: i128) -> Result<Form, TypeFault>
     ensures { CheckAnswer form_of result (unary_form place int int (λ e. expr_div e k) (on_term (λ t. a_term (term_div t k))) (form_of part)) }
 {
-    if !bases::is_one(Base::Int, &part.bases) {
-        drop(part);
-        return Err(TypeFault::Mismatch(place));
-    }
-    let Form {
-        bases,
-        tree,
+    let part = operand_at(place, Base::Int, part)?;
+    let reading = reading::of_div(alloc, place, part.reading, k)?;
+    made(
+        alloc,
+        Base::Int,
+        Expr::Div { of: part.tree, k },
         reading,
-        next,
-    } = part;
-    drop(bases);
-    let reading = reading::of_div(alloc, place, reading, k)?;
-    made(alloc, Base::Int, Expr::Div { of: tree, k }, reading, next)
+        part.next,
+    )
 }
 
 /// What division by `k` leaves of a number.
 pub fn modulo(alloc: Global, place: Place, part: Form, k: i128) -> Result<Form, TypeFault>
     ensures { CheckAnswer form_of result (unary_form place int int (λ e. expr_mod e k) (on_term (λ t. a_term (term_mod t k))) (form_of part)) }
 {
-    if !bases::is_one(Base::Int, &part.bases) {
-        drop(part);
-        return Err(TypeFault::Mismatch(place));
-    }
-    let Form {
-        bases,
-        tree,
+    let part = operand_at(place, Base::Int, part)?;
+    let reading = reading::of_mod(alloc, place, part.reading, k)?;
+    made(
+        alloc,
+        Base::Int,
+        Expr::Mod { of: part.tree, k },
         reading,
-        next,
-    } = part;
-    drop(bases);
-    let reading = reading::of_mod(alloc, place, reading, k)?;
-    made(alloc, Base::Int, Expr::Mod { of: tree, k }, reading, next)
+        part.next,
+    )
 }
 
 /// The size of a set.
 pub fn card(alloc: Global, place: Place, part: Form) -> Result<Form, TypeFault>
     ensures { CheckAnswer form_of result (unary_form place set_base int expr_card (on_set (λ s. a_term (term_card s))) (form_of part)) }
 {
-    if !bases::is_one(Base::Set, &part.bases) {
-        drop(part);
-        return Err(TypeFault::Mismatch(place));
-    }
-    let Form {
-        bases,
-        tree,
-        reading,
-        next,
-    } = part;
-    drop(bases);
-    let reading = reading::of_card(alloc, place, reading)?;
-    made(alloc, Base::Int, Expr::Card(tree), reading, next)
+    let part = operand_at(place, Base::Set, part)?;
+    let reading = reading::of_card(alloc, place, part.reading)?;
+    made(alloc, Base::Int, Expr::Card(part.tree), reading, part.next)
 }
 
 /// An operation with two sides.
