@@ -1,14 +1,12 @@
 -- The texts of values and outcomes.
-use Rattle.std.specs.Prelude.{ℕ, ℤ, Bool, if◌then◌else◌, List, ◌++◌, map, codes, decimal}
+use Rattle.std.specs.Prelude.{ℕ, ℤ, List, ◌++◌, map, codes, decimal}
 use Rattle.std.specs.List.{join_with_byte}
 use Rattle.std.specs.Fmt.{signed_decimal}
+use Rattle.cf_write.specs.Words.{truth_text}
 use Rattle.cf_tree.specs.Values.{Value, number, truth, elements, Outcome as Plain, values, no_solution}
 use Rattle.cf_eval.specs.Seen.{plains}
 use Rattle.cf_eval.specs.declared.value.Outcome.{Outcome}
 use Rattle.cf_eval.specs.declared.value.Outcome.TheVariants as outcome
-
-abbrev pub truth_text : Bool → List ℕ
-truth_text b = if b then codes "true" else codes "false"
 
 -- the rising elements between braces, with a comma between each two
 abbrev pub set_text : List ℤ → List ℕ

@@ -198,13 +198,14 @@ impl Given {
         }
     }
 
-    // The values as a vector.
-    pub fn into_values(self, alloc: Global) -> Result<Vec<Value>, NoMemory>
+    // The values as a vector. One value takes the place of those in a vector that is given up.
+    pub fn into_values(self, spent: Vec<Value>) -> Result<Vec<Value>, NoMemory>
         ensures { IfOk result (λ vs. vs.items ≡ given_items self) }
     {
         match self {
             Given::One(v) => {
-                let mut values = Vec::new(alloc);
+                let mut values = spent;
+                values.clear();
                 values.push(v)?;
                 Ok(values)
             }

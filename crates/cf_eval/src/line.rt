@@ -9,6 +9,7 @@ ghost use Rattle.cf_eval.specs.LineAnswers.{LineAnswer};
 use crate::braces::set;
 use crate::fault::LineFault;
 use crate::number::number;
+use crate::run::ROOM;
 use crate::runs::{after_spaces, is_blank, space};
 use crate::value::Value;
 use cf_tree::base::Base;
@@ -65,7 +66,7 @@ fn read_values(
     ensures values { ReadAnswer (λ v. plains v.items) result (values_from limit types.now text.now []) }
     ensures fits { IfOk result (λ v. All IsFit v.items) }
 {
-    let mut out = Vec::with_capacity(alloc, types.len())?;
+    let mut out = Vec::with_capacity(alloc, types.len().saturating_add(ROOM))?;
     let mut rest = text;
     for i in 0..types.len() {
         let (v, more) = value(alloc, types[i], after_spaces(rest), limit)?;

@@ -1,10 +1,39 @@
 //! Numbers on a line.
 ghost use Rattle.std.specs.Prelude.{◌≡◌, ◌^◌, ◌<◌, true, false, IfSome};
+ghost use Rattle.cf_lex.specs.Digits.{at_most, digits_value};
 ghost use Rattle.cf_num.specs.Limit.{IsWithin};
 ghost use Rattle.cf_eval.specs.Reading.{digits_at, number_at, item_at, NumberRead};
 
 use crate::runs::{after_spaces, is_blank};
 use cf_lex::digits::{digits_len, literal};
+
+// The value of a run of digits, where it has 64 bits.
+fn narrow(digits: &[u8]) -> Option<u64>
+    ensures { IfSome result (λ n. n ≡ digits_value digits.now) }
+{
+    let mut n = 0u64;
+    for b in digits {
+        let d = u64::from(b.saturating_sub(b'0'));
+        n = n.checked_mul(10)?.checked_add(d)?;
+    }
+    Some(n)
+}
+
+fn within(n: u128, limit: u128) -> Option<u128>
+    ensures { result ≡ at_most limit n }
+{
+    if n <= limit { Some(n) } else { None }
+}
+
+// The value of a run of digits, or none where it passes the limit. Most have 64 bits.
+fn value(digits: &[u8], limit: u128) -> Option<u128>
+    ensures { result ≡ at_most limit (digits_value digits.now) }
+{
+    match narrow(digits) {
+        Some(n) => within(u128::from(n), limit),
+        None => literal(digits, limit),
+    }
+}
 
 fn digits(text: &[u8], minus: bool, limit: u128) -> Option<(i128, &[u8])>
     requires { limit < 2 ^ 127 }
@@ -15,7 +44,7 @@ fn digits(text: &[u8], minus: bool, limit: u128) -> Option<(i128, &[u8])>
     if n == 0 {
         return None;
     }
-    let v = literal(&text[..n], limit)? as i128;
+    let v = value(&text[..n], limit)? as i128;
     Some((if minus { -v } else { v }, &text[n..]))
 }
 

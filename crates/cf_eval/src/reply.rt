@@ -3,20 +3,19 @@ ghost use Rattle.std.specs.Prelude.{◌≡◌, [], ◌∷◌, ◌++◌, OnOk, If
 ghost use Rattle.std.specs.List.{join_with_byte};
 ghost use Rattle.std.specs.Fmt.{signed_decimal};
 ghost use Rattle.cf_eval.specs.Seen.{plain, plains};
-ghost use Rattle.cf_eval.specs.Texts.{no_solution_text, reply_text, set_text, truth_text, value_text, values_text};
+ghost use Rattle.cf_eval.specs.Texts.{no_solution_text, reply_text, set_text, value_text, values_text};
 
 use crate::value::{Outcome, Value};
 use cf_set::Set;
 use cf_tree::memory::NoMemory;
-use itoa::Buffer;
+use cf_write::{put_number, put_truth};
 use std::alloc::Global;
 
-fn put_number(out: &mut Vec<u8>, z: &i128) -> Result<(), NoMemory>
+// Puts a number in decimal at the end.
+fn put_integer(out: &mut Vec<u8>, z: &i128) -> Result<(), NoMemory>
     ensures { OnOk result (out.new.items ≡ out.old.items ++ signed_decimal z.now) }
 {
-    let mut buffer = Buffer::new();
-    out.extend_from_slice(buffer.format(*z).as_bytes())?;
-    Ok(())
+    put_number(out, *z)
 }
 
 /// The byte before item `i`: none before the first.
@@ -35,7 +34,7 @@ fn put_numbers(out: &mut Vec<u8>, numbers: &[i128]) -> Result<(), NoMemory>
 {
     for i in 0..numbers.len() {
         put_gap(out, i, b',')?;
-        put_number(out, &numbers[i])?;
+        put_integer(out, &numbers[i])?;
     }
     Ok(())
 }
@@ -49,23 +48,12 @@ fn put_set(out: &mut Vec<u8>, set: &Set) -> Result<(), NoMemory>
     Ok(())
 }
 
-fn put_truth(out: &mut Vec<u8>, truth: bool) -> Result<(), NoMemory>
-    ensures { OnOk result (out.new.items ≡ out.old.items ++ truth_text truth) }
-{
-    let word = if truth {
-        b"true".as_slice()
-    } else {
-        b"false".as_slice()
-    };
-    out.extend_from_slice(word)?;
-    Ok(())
-}
-
-fn put_value(out: &mut Vec<u8>, value: &Value) -> Result<(), NoMemory>
+/// Writes the text of a value behind what `out` holds.
+pub fn put_value(out: &mut Vec<u8>, value: &Value) -> Result<(), NoMemory>
     ensures { OnOk result (out.new.items ≡ out.old.items ++ value_text (plain value.now)) }
 {
     match value {
-        Value::Int(z) => put_number(out, z),
+        Value::Int(z) => put_integer(out, z),
         Value::Truth(b) => put_truth(out, *b),
         Value::Elements(set) => put_set(out, set),
     }
@@ -74,14 +62,12 @@ fn put_value(out: &mut Vec<u8>, value: &Value) -> Result<(), NoMemory>
 fn put_no_solution(out: &mut Vec<u8>, number: u32) -> Result<(), NoMemory>
     ensures { OnOk result (out.new.items ≡ out.old.items ++ no_solution_text number) }
 {
-    let mut buffer = Buffer::new();
     out.extend_from_slice(b"no solution at choose ")?;
-    out.extend_from_slice(buffer.format(number).as_bytes())?;
-    Ok(())
+    put_number(out, number)
 }
 
-/// Values with a space between each two.
-fn put_values(out: &mut Vec<u8>, values: &[Value]) -> Result<(), NoMemory>
+/// Writes values behind what `out` holds, with a space between each two.
+pub fn put_values(out: &mut Vec<u8>, values: &[Value]) -> Result<(), NoMemory>
     ensures { OnOk result (out.new.items ≡ out.old.items ++ values_text (plains values.now)) }
 {
     for i in 0..values.len() {

@@ -37,21 +37,34 @@ pub fn run(alloc: Global, target: &Target, values: &[Value]) -> Result<Outcome, 
     run_code(alloc, target.body(), values)
 }
 
+/// The same on values that are given up: the run binds its variables behind them, and copies none.
+pub fn run_on(alloc: Global, target: &Target, values: Vec<Value>) -> Result<Outcome, NoMemory>
+    ensures { IfOk result (Answers (code_tree target.now.code) (plains values.items)) }
+{
+    run_in(alloc, target.body(), values)
+}
+
 /// The same of code that stands in no target, where its variables have these values by level.
 pub fn run_code(alloc: Global, code: &Code, values: &[Value]) -> Result<Outcome, NoMemory>
     ensures { IfOk result (Answers (code_tree code.now) (plains values.now)) }
 {
-    let mut env = copy_values(alloc, values)?;
+    run_in(alloc, code, copy_values(alloc, values)?)
+}
+
+fn run_in(alloc: Global, code: &Code, values: Vec<Value>) -> Result<Outcome, NoMemory>
+    ensures { IfOk result (Answers (code_tree code.now) (plains values.items)) }
+{
+    let mut env = values;
     match eval(alloc, code, &mut env) {
-        Ok(given) => Ok(Outcome::Values(given.into_values(alloc)?)),
+        Ok(given) => Ok(Outcome::Values(given.into_values(env)?)),
         Err(Stop::NoMemory) => Err(NoMemory),
         Err(Stop::Past) => Ok(Outcome::Overflow),
         Err(Stop::Unsolved(n)) => Ok(Outcome::NoSolution(n)),
     }
 }
 
-// Room for the variables that most targets bind.
-const ROOM: usize = 16;
+/// Room for the variables that most targets bind.
+pub const ROOM: usize = 16;
 
 fn copy_values(alloc: Global, values: &[Value]) -> Result<Vec<Value>, NoMemory>
     ensures { IfOk result (λ copies. copies.items ≡ values.now) }

@@ -1,5 +1,5 @@
 -- What a loop over feeds needs: the lines told so far, and at the end all lines.
-use Rattle.std.proofs.Common.{◌≡◌, ◌⊎◌, min, inl, inr, ℕ, ◌-◌, ◌<◌, ◌≤◌, List, [], ◌++◌, length, take, drop, map, ap, sym, ◌∙◌, arith, append-nil}
+use Rattle.std.proofs.Common.{◌≡◌, ◌⊎◌, min, inl, inr, ℕ, ◌-◌, ◌<◌, ◌≤◌, List, [], ◌++◌, length, take, drop, map, ap, sym, ◌∙◌, arith, refl, append-nil}
 use Rattle.std.proofs.lemmas.List.{take_all, map-append, take-append-le, take_min}
 use Rattle.std.proofs.lemmas.Bool.{cases_lt}
 use Rattle.std.proofs.Math.Seq.{drop-append_seam}
@@ -29,9 +29,13 @@ new_lines-is limit input bytes piece =
     ap (drop (length (told limit input bytes))) (told_more limit input bytes piece)
     ∙ drop-append_seam (told limit input bytes) (map (line_of limit) (ended_from (rest_of bytes) (take (input - length bytes) piece)))
 
-pub lines_found : (limit input total n : ℕ) (bytes piece : List ℕ) → total ≡ length bytes → n ≡ min (input - total) (length piece) →
-    map (line_of limit) (ended_from (rest_of bytes) (take n piece)) ≡ new_lines limit input bytes piece
-lines_found limit input total n bytes piece t m = rw (m, t, take_min) (sym (new_lines-is limit input bytes piece))
+-- the part of a piece that lies within the limit of the input
+pub within_is : (input total n : ℕ) (piece : List ℕ) → n ≡ min (input - total) (length piece) → take n piece ≡ take (input - total) piece
+within_is input total n piece m = rw (m, take_min) refl
+
+pub lines_found : (limit input total : ℕ) (bytes piece : List ℕ) → total ≡ length bytes →
+    map (line_of limit) (ended_from (rest_of bytes) (take (input - total) piece)) ≡ new_lines limit input bytes piece
+lines_found limit input total bytes piece t = rw t (sym (new_lines-is limit input bytes piece))
 
 -- the lines told so far, and those of one more piece
 pub lines_told : (limit input : ℕ) (bytes piece : List ℕ) → told limit input (bytes ++ piece) ≡ told limit input bytes ++ new_lines limit input bytes piece

@@ -1,5 +1,7 @@
 -- Lines go on over the seams of pieces.
 use Rattle.std.proofs.Common.{◌≡◌, get_or, ℕ, ◌+◌, ◌-◌, ◌<◌, ◌≤◌, Bool, true, false, cond, ◌||◌, List, [], ◌∷◌, ◌++◌, length, take, drop, map, count_by, refl, ap, sym, ◌∙◌, arith, eqb, append_assoc, append-nil, not, zero, suc, add-one, one-add}
+use Rattle.std.specs.Prelude.{Option, Some, None, MatchOption}
+use Rattle.std.specs.Borrow.{Bor}
 use Rattle.std.specs.List.{prefix_len, onto_first, list_any}
 use Rattle.std.proofs.lemmas.List.{take_rest, take_more, take-append-drop, length-append}
 use Rattle.std.proofs.lemmas.List.Recursion.{is_count_by}
@@ -7,6 +9,7 @@ use Rattle.std.proofs.Math.Seq.{take-append_seam}
 use Rattle.cf_io.specs.Cut.{line_of, Keeps, Stands, CutterState}
 use Rattle.cf_io.specs.Lines.{is_feed, lines, ended, rest_of, last_of}
 use Rattle.cf_io.specs.Segments.{ended_from, rest_from, is_in_line}
+use Rattle.cf_io.specs.declared.line.Line.{Line}
 
 pub rest_from-append : (line s t : List ℕ) → rest_from line (s ++ t) ≡ rest_from (rest_from line s) t
 rest_from-append line [] t = refl
@@ -95,6 +98,12 @@ feeds s = is_count_by (λ t. length (ended_from [] t)) is_feed refl (λ b t. fee
 pub ended-is : (s : List ℕ) → ended s ≡ ended_from [] s
 ended-is s = rw (lines_split s, ← feeds s) (take-append_seam (ended_from [] s) (last_of (rest_from [] s)))
 
+pub ended_split : (text : List ℕ) (o : Option (Bor (List ℕ) × Bor (List ℕ))) →
+    MatchOption o ((w : List ℕ) → ended_from w text ≡ []) (λ x. (w : List ℕ) → ended_from w text ≡ (w ++ x.0.now) ∷ ended_from [] x.1.now) →
+    MatchOption o (ended text ≡ []) (λ x. ended text ≡ x.0.now ∷ ended x.1.now)
+ended_split text None h = ended-is text ∙ h []
+ended_split text (Some x) h = rw (ended-is text, ended-is x.1.now) (h [])
+
 rest_none : (s : List ℕ) → list_any is_feed s ≡ false → rest_of s ≡ s
 rest_none [] e = refl
 rest_none (b ∷ s) e = rw e refl
@@ -143,18 +152,22 @@ rest_from-last piece at some fits feed none = rest_from-last_by piece (at - 1) a
 pub Keeps-none : (limit : ℕ) → Keeps limit [] 0 []
 Keeps-none limit = record { front = sym (take_none limit); whole = refl }
 
--- one line, and those behind it
-pub lines_step : (limit : ℕ) (w rest : List ℕ) (n : ℕ) → n ≡ prefix_len is_in_line rest → n < length rest →
-    map (line_of limit) (ended_from w rest) ≡ line_of limit (w ++ take n rest) ∷ map (line_of limit) (ended_from [] (take (length rest - (n + 1)) (drop (n + 1) rest)))
-lines_step limit w rest n is fits =
+-- the first line that ends, and those behind it
+pub line_cut : (w rest : List ℕ) (n : ℕ) → n ≡ prefix_len is_in_line rest → n < length rest →
+    ended_from w rest ≡ (w ++ take n rest) ∷ ended_from [] (take (length rest - (n + 1)) (drop (n + 1) rest))
+line_cut w rest n is fits =
     let h : prefix_len is_in_line rest < length rest = omega arith in
     rw (take_rest rest (n + 1), is, ended_from-cut w rest h) refl
 
-pub lines_none : (limit : ℕ) (w rest : List ℕ) (n : ℕ) → n ≡ prefix_len is_in_line rest → n ≤ length rest → length rest ≤ n →
-    map (line_of limit) (ended_from w rest) ≡ []
-lines_none limit w rest n is few many =
+pub line_none : (w rest : List ℕ) (n : ℕ) → n ≡ prefix_len is_in_line rest → n ≤ length rest → length rest ≤ n → ended_from w rest ≡ []
+line_none w rest n is few many =
     let h : prefix_len is_in_line rest ≡ length rest = omega arith in
-    rw (ended_from-none w rest h) refl
+    ended_from-none w rest h
+
+-- the same of the lines as they are told
+pub told_cut : (limit : ℕ) (w rest line more : List ℕ) (l : Line) (before : List Line) → ended_from w rest ≡ (w ++ line) ∷ ended_from [] more → l ≡ line_of limit (w ++ line) →
+    (before ++ l ∷ []) ++ map (line_of limit) (ended_from [] more) ≡ before ++ map (line_of limit) (ended_from w rest)
+told_cut limit w rest line more l before cut is = rw (append_assoc, cut, is) refl
 
 pub Stands-more : {limit : ℕ} {c : CutterState} {bytes : List ℕ} (piece kept : List ℕ) (size total : ℕ) → Stands limit c bytes →
     total ≡ c.total + length piece → Keeps limit kept size (rest_from (rest_of bytes) piece) →

@@ -1,13 +1,13 @@
 //! A cutter of lines.
-ghost use Rattle.std.specs.Prelude.{◌≡◌, ℕ, ◌+◌, ◌^◌, ◌<◌, ◌≤◌, ◌↔◌, List, [], ◌++◌, length, take, map, IfOk, OnOk, OnErr};
+ghost use Rattle.std.specs.Prelude.{◌≡◌, ℕ, ◌+◌, ◌-◌, ◌^◌, ◌<◌, ◌≤◌, ◌↔◌, List, [], ◌++◌, length, take, map, IfOk, OnOk, OnErr};
 ghost use Rattle.cf_io.specs.Cut.{line_of, Keeps, Stands, new_lines};
 ghost use Rattle.cf_io.specs.Limits.{line_limit, input_limit};
-ghost use Rattle.cf_io.specs.Lines.{rest_of, last_of};
+ghost use Rattle.cf_io.specs.Lines.{ended, rest_of, last_of};
 ghost use Rattle.cf_io.specs.Segments.{rest_from};
 
 use crate::limits::{longest_input, longest_line};
 use crate::line::{Fed, Line};
-use crate::segments::{ended_lines, last_start};
+use crate::segments::{ended_lines, first_ended, last_start};
 use cf_tree::base::Bytes;
 use cf_tree::memory::NoMemory;
 use std::alloc::Global;
@@ -62,6 +62,25 @@ impl Cutter {
         self.feed_within(piece, lines, longest_line(), longest_input() as u64)
     }
 
+    /// Takes the next piece as `feed` does, and adds the first line only of those that `feed` adds. The
+    /// others are those that end in the bytes which are lent.
+    ///
+    /// Where memory is wanted, the Cutter and the lines are as before.
+    pub fn feed_first<'p>(
+        &mut self,
+        piece: &'p [u8],
+        lines: &mut Vec<Line>,
+    ) -> Result<&'p [u8], NoMemory>
+        requires { self.old.total + length piece.now < 2 ^ 64 }
+        ensures stands { OnOk result ((bytes : List ℕ) → Stands line_limit self.old bytes → Stands line_limit self.new (bytes ++ piece.now)) }
+        ensures lines { IfOk result (λ rest. (bytes : List ℕ) → Stands line_limit self.old bytes →
+            lines.new.items ++ map (line_of line_limit) (ended rest.now) ≡ lines.old.items ++ new_lines line_limit input_limit bytes piece.now) }
+        ensures total { OnOk result (self.new.total ≡ self.old.total + length piece.now) }
+        ensures err { OnErr result ((self.new ≡ self.old) × (lines.new.items ≡ lines.old.items)) }
+    {
+        self.feed_first_within(piece, lines, longest_line(), longest_input() as u64)
+    }
+
     fn feed_within(
         &mut self,
         piece: &[u8],
@@ -83,20 +102,61 @@ impl Cutter {
         Ok(fed)
     }
 
+    fn feed_first_within<'p>(
+        &mut self,
+        piece: &'p [u8],
+        lines: &mut Vec<Line>,
+        limit: usize,
+        input: u64,
+    ) -> Result<&'p [u8], NoMemory>
+        requires { self.old.total + length piece.now < 2 ^ 64 }
+        ensures stands { OnOk result ((bytes : List ℕ) → Stands limit self.old bytes → Stands limit self.new (bytes ++ piece.now)) }
+        ensures lines { IfOk result (λ rest. (bytes : List ℕ) → Stands limit self.old bytes →
+            lines.new.items ++ map (line_of limit) (ended rest.now) ≡ lines.old.items ++ new_lines limit input bytes piece.now) }
+        ensures total { OnOk result (self.new.total ≡ self.old.total + length piece.now) }
+        ensures err { OnErr result ((self.new ≡ self.old) × (lines.new.items ≡ lines.old.items)) }
+    {
+        let mut first = Vec::new(self.alloc);
+        let rest = self.first_of(piece, &mut first, limit, input)?;
+        lines.reserve(first.len())?;
+        self.go_on(piece, limit, input)?;
+        lines.append(&mut first).unwrap();
+        Ok(rest)
+    }
+
+    // The bytes of the piece within the limit of the input.
+    fn within<'p>(&self, piece: &'p [u8], input: u64) -> &'p [u8]
+        ensures { result.now ≡ take (input - self.now.total) piece.now }
+    {
+        let room = input.saturating_sub(self.total).min(piece.len() as u64);
+        &piece[..room as usize]
+    }
+
     // The lines that end within the piece and within the limit of the input.
     fn lines_of(&self, piece: &[u8], limit: usize, input: u64) -> Result<Vec<Line>, NoMemory>
         requires { self.now.total + length piece.now < 2 ^ 64 }
         ensures { IfOk result (λ v. (bytes : List ℕ) → Stands limit self.now bytes → v.items ≡ new_lines limit input bytes piece.now) }
     {
-        let room = input.saturating_sub(self.total).min(piece.len() as u64);
-        let found = ended_lines(
-            self.alloc,
-            &self.kept,
-            self.size,
-            &piece[..room as usize],
-            limit,
-        )?;
+        let within = self.within(piece, input);
+        let found = ended_lines(self.alloc, &self.kept, self.size, within, limit)?;
         Ok(found)
+    }
+
+    // Adds the first of these lines. The others are those that end in the bytes which are lent.
+    fn first_of<'p>(
+        &self,
+        piece: &'p [u8],
+        lines: &mut Vec<Line>,
+        limit: usize,
+        input: u64,
+    ) -> Result<&'p [u8], NoMemory>
+        requires { self.now.total + length piece.now < 2 ^ 64 }
+        ensures { IfOk result (λ rest. (bytes : List ℕ) → Stands limit self.now bytes →
+            lines.new.items ++ map (line_of limit) (ended rest.now) ≡ lines.old.items ++ new_lines limit input bytes piece.now) }
+    {
+        let within = self.within(piece, input);
+        let rest = first_ended(self.alloc, &self.kept, self.size, within, limit, lines)?;
+        Ok(rest)
     }
 
     fn go_on(&mut self, piece: &[u8], limit: usize, input: u64) -> Result<Fed, NoMemory>

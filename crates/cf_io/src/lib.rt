@@ -26,6 +26,7 @@ pub use mem_shelf::MemShelf;
 pub use mem_sink::MemSink;
 pub use mem_source::MemSource;
 pub use read::read_text;
+pub use segments::first_line;
 pub use sure::{SureShelf, SureSink, SureSource};
 pub use traits::{Shelf, Sink, Source};
 pub use write::write_all;

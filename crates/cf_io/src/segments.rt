@@ -1,8 +1,9 @@
 //! The lines within one piece.
-ghost use Rattle.std.specs.Prelude.{◌≡◌, ℕ, ◌+◌, ◌^◌, ◌<◌, ◌≤◌, List, [], ◌++◌, length, take, map, IfOk, OnOk, IfSome, MatchOption, drop};
+ghost use Rattle.std.specs.Prelude.{◌≡◌, ℕ, ◌+◌, ◌^◌, ◌<◌, ◌≤◌, List, [], ◌∷◌, ◌++◌, length, take, map, IfOk, OnOk, IfSome, MatchOption, drop};
 ghost use Rattle.std.specs.List.{prefix_len};
 ghost use Rattle.cf_io.specs.Segments.{is_in_line, ended_from, rest_from};
 ghost use Rattle.cf_io.specs.Cut.{line_of, Keeps};
+ghost use Rattle.cf_io.specs.Lines.{ended};
 
 use crate::line::Line;
 use cf_tree::base::Bytes;
@@ -10,7 +11,7 @@ use cf_tree::memory::NoMemory;
 use std::alloc::Global;
 
 /// How many bytes stand before the first line feed.
-pub(crate) fn line_len(text: &[u8]) -> usize
+fn line_len(text: &[u8]) -> usize
     ensures count { result ≡ prefix_len is_in_line text.now }
     ensures size { result ≤ length text.now }
 {
@@ -19,6 +20,28 @@ pub(crate) fn line_len(text: &[u8]) -> usize
         n += 1;
     }
     n
+}
+
+/// The first line that ends in the text, and what follows its line feed. It may go on from the
+/// beginning of a line.
+pub(crate) fn split_line(text: &[u8]) -> Option<(&[u8], &[u8])>
+    ensures lines { MatchOption result ((w : List ℕ) → ended_from w text.now ≡ []) (λ x. (w : List ℕ) → ended_from w text.now ≡ (w ++ x.0.now) ∷ ended_from [] x.1.now) }
+    ensures size { IfSome result (λ x. length x.0.now + length x.1.now < length text.now) }
+{
+    let n = line_len(text);
+    if n < text.len() {
+        Some((&text[..n], &text[n + 1..]))
+    } else {
+        None
+    }
+}
+
+/// The first line that ends in the text, and what follows its line feed.
+pub fn first_line(text: &[u8]) -> Option<(&[u8], &[u8])>
+    ensures lines { MatchOption result (ended text.now ≡ []) (λ x. ended text.now ≡ x.0.now ∷ ended x.1.now) }
+    ensures less { IfSome result (λ x. length x.1.now < length text.now) }
+{
+    split_line(text)
 }
 
 // A line that goes on from one of `size` bytes, whose first bytes are `head`.
@@ -52,13 +75,34 @@ fn whole_lines(
     ensures { OnOk result (out.new.items ≡ out.old.items ++ map (line_of limit) (ended_from [] piece.now)) }
 {
     let mut rest = piece;
-    'lines: loop {
-        let n = line_len(rest);
-        if rest.len() <= n {
-            return Ok(());
+    'lines: while let Some((line, more)) = split_line(rest) {
+        out.push(line_text(alloc, &[], 0, line, limit)?)?;
+        rest = more;
+    }
+    Ok(())
+}
+
+/// Adds the first line that ends within the piece, where it goes on from one of `size` bytes. The
+/// others are those that end in the bytes which are lent.
+pub(crate) fn first_ended<'p>(
+    alloc: Global,
+    head: &[u8],
+    size: u64,
+    piece: &'p [u8],
+    limit: usize,
+    out: &mut Vec<Line>,
+) -> Result<&'p [u8], NoMemory>
+    requires { size + length piece.now < 2 ^ 64 }
+    ensures lines { IfOk result (λ rest. (w : List ℕ) → Keeps limit head.now size w →
+        out.new.items ++ map (line_of limit) (ended_from [] rest.now) ≡ out.old.items ++ map (line_of limit) (ended_from w piece.now)) }
+    ensures less { IfOk result (λ rest. length rest.now ≤ length piece.now) }
+{
+    match split_line(piece) {
+        Some((line, rest)) => {
+            out.push(line_text(alloc, head, size, line, limit)?)?;
+            Ok(rest)
         }
-        out.push(line_text(alloc, &[], 0, &rest[..n], limit)?)?;
-        rest = &rest[n + 1..];
+        None => Ok(&[]),
     }
 }
 
@@ -74,12 +118,8 @@ pub(crate) fn ended_lines(
     ensures { IfOk result (λ v. (w : List ℕ) → Keeps limit head.now size w → v.items ≡ map (line_of limit) (ended_from w piece.now)) }
 {
     let mut out = Vec::new(alloc);
-    let n = line_len(piece);
-    if piece.len() <= n {
-        return Ok(out);
-    }
-    out.push(line_text(alloc, head, size, &piece[..n], limit)?)?;
-    whole_lines(alloc, &piece[n + 1..], limit, &mut out)?;
+    let rest = first_ended(alloc, head, size, piece, limit, &mut out)?;
+    whole_lines(alloc, rest, limit, &mut out)?;
     Ok(out)
 }
 
