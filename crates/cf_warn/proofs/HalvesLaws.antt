@@ -2,20 +2,18 @@
 use Rattle.std.proofs.Common.{inl, inr, ◌≡◌, ◌⊎◌, ◌↔◌, ℕ, zero, suc, ◌/◌, ◌≤◌, List, [], ◌∷◌, ◌++◌, length, take, drop, map, subst, refl, sym, ap, ap₂, ◌∙◌, take-append-drop, arith}
 use Rattle.std.specs.List.{take-map, drop-map}
 use Rattle.std.proofs.lemmas.List.{length-take, length-drop, length-map}
-use Rattle.cf_tree.specs.declared.rel.Rel.{Rel}
 use Rattle.cf_tree.specs.Relation.{Holds}
-use Rattle.cf_tree.specs.RelTree.{RelTree, rel_or, rel_false}
-use Rattle.cf_tree.specs.RelView.{rel_tree}
+use Rattle.cf_tree.specs.RelTree.{RelTree, rel_true, rel_false, rel_and, rel_or}
 use Rattle.cf_tree.specs.Values.{Value}
 use Rattle.cf_cases.specs.Holding.{EachOf, SomeOf}
-use Rattle.cf_cases.proofs.Quantifiers.{each-split, some-split, some-left, some-right}
+use Rattle.cf_cases.proofs.Quantifiers.{each-append, each-split, some-split, some-left, some-right}
 use Rattle.cf_warn.specs.Questions.{halves_within, halves}
 
 -- the halves of a list of two or more are shorter
-front_fits : {A : Type 0} (n : ℕ) (p q : A) (ps : List A) → length (p ∷ q ∷ ps) ≤ suc n → length (take (length (p ∷ q ∷ ps) / 2) (p ∷ q ∷ ps)) ≤ n
+pub front_fits : {A : Type 0} (n : ℕ) (p q : A) (ps : List A) → length (p ∷ q ∷ ps) ≤ suc n → length (take (length (p ∷ q ∷ ps) / 2) (p ∷ q ∷ ps)) ≤ n
 front_fits n p q ps h = let e = length-take (length (p ∷ q ∷ ps) / 2) (p ∷ q ∷ ps) in omega arith
 
-back_fits : {A : Type 0} (n : ℕ) (p q : A) (ps : List A) → length (p ∷ q ∷ ps) ≤ suc n → length (drop (length (p ∷ q ∷ ps) / 2) (p ∷ q ∷ ps)) ≤ n
+pub back_fits : {A : Type 0} (n : ℕ) (p q : A) (ps : List A) → length (p ∷ q ∷ ps) ≤ suc n → length (drop (length (p ∷ q ∷ ps) / 2) (p ∷ q ∷ ps)) ≤ n
 back_fits n p q ps h = let e = length-drop (length (p ∷ q ∷ ps) / 2) (p ∷ q ∷ ps) in omega arith
 
 module _ {A : Type 0} (join : A → A → A) (empty : A) where
@@ -60,21 +58,22 @@ module _ {A : Type 0} (join : A → A → A) (empty : A) where
     pub halves_keep : (ps : List A) → EachOf P ps → P (halves join empty ps)
     halves_keep ps h = halves_within_keep (length ps) ps h
 
--- ---- relations joined by `||`
--- two halves of the relations of the program
-pub some_of_two : (parts front back : List Rel) (left right : RelTree) → 2 ≤ length parts → front ≡ take (length parts / 2) parts → back ≡ drop (length parts / 2) parts →
-    left ≡ halves rel_or rel_false (map rel_tree front) → right ≡ halves rel_or rel_false (map rel_tree back) → rel_or left right ≡ halves rel_or rel_false (map rel_tree parts)
-some_of_two parts front back left right h f b l r =
-    let n : length (map rel_tree parts) ≡ length parts = length-map parts rel_tree in
-    let x : take (length (map rel_tree parts) / 2) (map rel_tree parts) ≡ map rel_tree front =
-    ap (λ k. take (k / 2) (map rel_tree parts)) n ∙ take-map rel_tree (length parts / 2) parts ∙ ap (map rel_tree) (sym f) in
-    let y : drop (length (map rel_tree parts) / 2) (map rel_tree parts) ≡ map rel_tree back =
-    ap (λ k. drop (k / 2) (map rel_tree parts)) n ∙ drop-map rel_tree (length parts / 2) parts ∙ ap (map rel_tree) (sym b) in
-    let whole : halves rel_or rel_false (map rel_tree parts) ≡ rel_or (halves rel_or rel_false (map rel_tree front)) (halves rel_or rel_false (map rel_tree back)) =
-    halves_two rel_or rel_false (map rel_tree parts) (omega arith)
-    ∙ ap₂ (λ p q. rel_or p q) (ap (λ ps. halves rel_or rel_false ps) x) (ap (λ ps. halves rel_or rel_false ps) y) in
-    ap₂ (λ p q. rel_or p q) l r ∙ sym whole
+  -- two halves of parts of the program
+  pub halves_of_two : {X : Type 0} (tree : X → A) (parts front back : List X) (left right : A) → 2 ≤ length parts → front ≡ take (length parts / 2) parts →
+      back ≡ drop (length parts / 2) parts → left ≡ halves join empty (map tree front) → right ≡ halves join empty (map tree back) →
+      join left right ≡ halves join empty (map tree parts)
+  halves_of_two tree parts front back left right h f b l r =
+      let n : length (map tree parts) ≡ length parts = length-map parts tree in
+      let x : take (length (map tree parts) / 2) (map tree parts) ≡ map tree front =
+      ap (λ k. take (k / 2) (map tree parts)) n ∙ take-map tree (length parts / 2) parts ∙ ap (map tree) (sym f) in
+      let y : drop (length (map tree parts) / 2) (map tree parts) ≡ map tree back =
+      ap (λ k. drop (k / 2) (map tree parts)) n ∙ drop-map tree (length parts / 2) parts ∙ ap (map tree) (sym b) in
+      let whole : halves join empty (map tree parts) ≡ join (halves join empty (map tree front)) (halves join empty (map tree back)) =
+      halves_two (map tree parts) (omega arith)
+      ∙ ap₂ join (ap (λ ps. halves join empty ps) x) (ap (λ ps. halves join empty ps) y) in
+      ap₂ join l r ∙ sym whole
 
+-- ---- relations joined
 module _ (env : List Value) where
   abbrev Any : List RelTree → Type 0
   Any ps = SomeOf (λ r. Holds r env) ps
@@ -106,3 +105,25 @@ module _ (env : List Value) where
   -- a tree of halves of relations joined by `||` holds exactly where one of them does
   pub some_halves : (ps : List RelTree) → Holds (halves rel_or rel_false ps) env ↔ SomeOf (λ r. Holds r env) ps
   some_halves ps = some_within (length ps) ps (omega arith)
+
+  abbrev Each : List RelTree → Type 0
+  Each ps = EachOf (λ r. Holds r env) ps
+
+  each_within : (n : ℕ) (ps : List RelTree) → length ps ≤ n → Holds (halves_within n (λ a b. rel_and a b) rel_true ps) env ↔ Each ps
+  each_within zero [] h = (λ u. u, λ u. u)
+  each_within zero (p ∷ ps) h = absurd (omega arith)
+  each_within (suc n) [] h = (λ u. u, λ u. u)
+  each_within (suc n) (p ∷ []) h = (λ u. (u, tt), λ u. u.0)
+  each_within (suc n) (p ∷ q ∷ ps) h =
+      let front = take (length (p ∷ q ∷ ps) / 2) (p ∷ q ∷ ps) in
+      let back = drop (length (p ∷ q ∷ ps) / 2) (p ∷ q ∷ ps) in
+      let whole : front ++ back ≡ p ∷ q ∷ ps = take-append-drop (length (p ∷ q ∷ ps) / 2) (p ∷ q ∷ ps) in
+      let f = each_within n front (front_fits n p q ps h) in
+      let b = each_within n back (back_fits n p q ps h) in (
+        λ u. subst Each whole (each-append (λ r. Holds r env) front back (f.0 u.0) (b.0 u.1)),
+        λ u. let s = each-split (λ r. Holds r env) front back (subst Each (sym whole) u) in (f.1 s.0, b.1 s.1),
+      )
+
+  -- and one of relations joined by `&&` exactly where all do
+  pub each_halves : (ps : List RelTree) → Holds (halves (λ a b. rel_and a b) rel_true ps) env ↔ EachOf (λ r. Holds r env) ps
+  each_halves ps = each_within (length ps) ps (omega arith)

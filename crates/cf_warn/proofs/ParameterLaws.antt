@@ -84,7 +84,7 @@ has_filtered q (y ∷ ys) x h k =
     (λ _. on_bool (y == x) (λ e. rw e refl) (λ e. rw (e, has_filtered q ys x (rw e at h) k) refl))
     (λ f. on_bool (y == x) (λ e. let s : q x ≡ false = sym (ap q (eqb-true y x e)) ∙ f in absurd (cc)) (λ e. has_filtered q ys x (rw e at h) k))
 
-not_filtered : (q : ℕ → Bool) (xs : List ℕ) (x : ℕ) → q x ≡ false → has_level (filter q xs) x ≡ false
+pub not_filtered : (q : ℕ → Bool) (xs : List ℕ) (x : ℕ) → q x ≡ false → has_level (filter q xs) x ≡ false
 not_filtered q [] x h = refl
 not_filtered q (y ∷ ys) x h =
     cond_both (q y) (y ∷ filter q ys) (filter q ys) (λ zs. has_level zs x ≡ false)

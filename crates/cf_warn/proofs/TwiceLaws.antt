@@ -190,16 +190,18 @@ module _ (scope outputs : List Base) (rel : RelTree) (typed : IsTyped (scope ++ 
     ),
   )
 
-  pub twice_are_outputs : All IsOutput (twice_outputs scope outputs rel)
-  twice_are_outputs =
+  pub parameters_are_outputs : All IsOutput (parameter_bases scope rel)
+  parameters_are_outputs =
       let bases = each_filtered (λ x. IsOutput (base_at scope x)) (λ x. rel_holds x rel) 0 (length scope)
       (λ x l e. base_is scope x (early x (omega arith) (held x e))) in
-      All-append IsOutput (parameter_bases scope rel) (outputs ++ outputs)
-      (all_from_each IsOutput (parameter_bases scope rel) (each-map IsOutput (base_at scope) (parameters scope rel) bases))
-      (All-append IsOutput outputs outputs are_outputs are_outputs)
+      all_from_each IsOutput (parameter_bases scope rel) (each-map IsOutput (base_at scope) (parameters scope rel) bases)
     where
       early : (x : ℕ) → x < length scope → IsHeld (scope ++ outputs) x → IsHeld scope x
       early x l h = elim h [ inl e ↦ inl (sym (slice_get-early scope outputs x l) ∙ e) | inr e ↦ inr (sym (slice_get-early scope outputs x l) ∙ e) ]
+
+  pub twice_are_outputs : All IsOutput (twice_outputs scope outputs rel)
+  twice_are_outputs =
+      All-append IsOutput (parameter_bases scope rel) (outputs ++ outputs) parameters_are_outputs (All-append IsOutput outputs outputs are_outputs are_outputs)
 
   -- ---- the question holds at two different solutions at one sample
   module _ (env xs ys : List Value) (have : HaveBases scope env) (first : HaveBases outputs xs) (second : HaveBases outputs ys) where

@@ -54,7 +54,7 @@ none_asked outputs rel code n u same m p = (
 )
 
 -- ---- parts of a list of values
-have_split : (bs cs : List Base) (vs ws : List Value) → length vs ≡ length bs → HaveBases (bs ++ cs) (vs ++ ws) → HaveBases bs vs × HaveBases cs ws
+pub have_split : (bs cs : List Base) (vs ws : List Value) → length vs ≡ length bs → HaveBases (bs ++ cs) (vs ++ ws) → HaveBases bs vs × HaveBases cs ws
 have_split [] cs [] ws e h = (tt, h)
 have_split [] cs (v ∷ vs) ws e h = absurd (omega arith)
 have_split (b ∷ bs) cs [] ws e h = absurd (omega arith)

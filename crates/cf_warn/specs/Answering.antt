@@ -1,5 +1,5 @@
 -- What a question answers, before it is a verdict.
-use Rattle.std.specs.Prelude.{ℕ, ◌≡◌, [], ◌++◌, length, List}
+use Rattle.std.specs.Prelude.{ℕ, ◌≡◌, [], ◌++◌, length, take, List}
 use Rattle.cf_tree.specs.declared.base.Base.{Base}
 use Rattle.cf_tree.specs.Meaning.{means}
 use Rattle.cf_tree.specs.Relation.{Sol}
@@ -9,6 +9,8 @@ use Rattle.cf_eval.specs.declared.value.Value.{Value}
 use Rattle.cf_eval.specs.Seen.{plains}
 use Rattle.cf_warn.specs.declared.answer.UniquenessAnswer.{UniquenessAnswer}
 use Rattle.cf_warn.specs.declared.answer.UniquenessAnswer.TheVariants.{Unique, Two, Undecided}
+use Rattle.cf_warn.specs.declared.answer.ExistenceAnswer.{ExistenceAnswer}
+use Rattle.cf_warn.specs.declared.answer.ExistenceAnswer.TheVariants.{Always, Missing, Undecided as UndecidedExistence}
 use Rattle.cf_warn.specs.declared.ask.Asked.{Asked}
 use Rattle.cf_warn.specs.declared.ask.Asked.TheVariants as asked
 use Rattle.cf_warn.specs.Verdicts.{question_code, IsClear, IsDoubt}
@@ -30,3 +32,9 @@ abbrev pub IsTwoOf : ℕ → ℕ → List Value → UniquenessAnswer → Type 0
 IsTwoOf n k vs Unique = ⊥
 IsTwoOf n k vs (Two sample first second) = IsCut n k vs sample.items first.items second.items
 IsTwoOf n k vs (Undecided d) = ⊥
+
+-- so many first values are the sample
+abbrev pub IsMissingOf : ℕ → List Value → ExistenceAnswer → Type 0
+IsMissingOf n vs Always = ⊥
+IsMissingOf n vs (Missing sample) = sample.items ≡ take n vs
+IsMissingOf n vs (UndecidedExistence d) = ⊥

@@ -1,17 +1,23 @@
 -- What the questions of a choose answer.
-use Rattle.std.specs.Prelude.{◌≡◌, ◌≢◌, ◌≤◌, ◌<◌, ◌-◌, ◌^◌, List, [], ◌++◌, map, Some, None}
+use Rattle.std.specs.Prelude.{◌≡◌, ◌≢◌, ◌≤◌, ◌<◌, ◌-◌, ◌^◌, ◌⊎◌, List, [], ◌++◌, map, Some, None}
 use Rattle.cf_tree.specs.declared.base.Base.{Base}
 use Rattle.cf_tree.specs.CodeTree.{CodeTree, code_solve, arms_of}
 use Rattle.cf_tree.specs.Meaning.{means, peak}
 use Rattle.cf_tree.specs.Relation.{Sol}
 use Rattle.cf_tree.specs.RelTree.{RelTree}
 use Rattle.cf_tree.specs.Values.{Value, values, value_at, HaveBases}
+use Rattle.cf_linear.specs.declared.refusal.LimitKind.TheVariants.{Search}
+use Rattle.cf_linear.specs.declared.refusal.Refusal.TheVariants.{Limit}
 use Rattle.cf_linear.specs.Chooses.{arms, limit}
 use Rattle.cf_eval.specs.Seen.{plains}
 use Rattle.cf_warn.specs.declared.answer.Doubt.{Doubt}
 use Rattle.cf_warn.specs.declared.answer.Doubt.TheVariants.{Refused, Overflow}
 use Rattle.cf_warn.specs.declared.answer.UniquenessAnswer.{UniquenessAnswer}
 use Rattle.cf_warn.specs.declared.answer.UniquenessAnswer.TheVariants.{Unique, Two, Undecided}
+use Rattle.cf_warn.specs.declared.answer.ExistenceAnswer.{ExistenceAnswer}
+use Rattle.cf_warn.specs.declared.answer.ExistenceAnswer.TheVariants.{Always, Missing, Undecided as UndecidedExistence}
+use Rattle.cf_warn.specs.declared.existence.TheConstants.{MOST_TUPLES}
+use Rattle.cf_warn.specs.Missing.{none_outputs, none, tuple_count}
 use Rattle.cf_warn.specs.Questions.{parameters, parameter_bases, twice_outputs, twice}
 
 -- ---- questions
@@ -57,3 +63,30 @@ IsUniqueness scope outputs rel (Two sample first second) =
     × (means (question_code (twice_outputs scope outputs rel) (twice scope outputs rel)) [] ≡ values (plains sample.items ++ (plains first.items ++ plains second.items)))
     × AreTwo scope outputs rel (plains sample.items) (plains first.items) (plains second.items)
 IsUniqueness scope outputs rel (Undecided d) = IsDoubt (twice_outputs scope outputs rel) (twice scope outputs rel) d
+
+-- ---- existence
+-- some outputs solve the relation in each environment
+abbrev pub AreAlways : List Base → List Base → RelTree → Type 0
+AreAlways scope outputs rel = (env : List Value) → HaveBases scope env → (xs : List Value) × Sol outputs rel env xs
+
+-- no outputs solve the relation at a sample
+pub record AreMissing (scope outputs : List Base) (rel : RelTree) (sample : List Value) : Type 0 where
+  pub bases : HaveBases (parameter_bases scope rel) sample
+  pub somewhere : (env : List Value) × IsAt scope rel sample env
+  pub unsolved : (env : List Value) → IsAt scope rel sample env → (xs : List Value) → Sol outputs rel env xs → ⊥
+
+-- the arms have at most 1,000 tuples, and the question is without doubt
+pub record IsDecided (scope outputs : List Base) (rel : RelTree) : Type 0 where
+  pub few : tuple_count scope outputs rel ≤ MOST_TUPLES
+  pub clear : IsClear (none_outputs scope outputs rel) (none scope outputs rel)
+
+-- the verdict on the question whether outputs always exist
+abbrev pub IsExistence : List Base → List Base → RelTree → ExistenceAnswer → Type 0
+IsExistence scope outputs rel Always = IsDecided scope outputs rel × AreAlways scope outputs rel
+IsExistence scope outputs rel (Missing sample) =
+    IsDecided scope outputs rel
+    × ((lets : List Value) × (means (question_code (none_outputs scope outputs rel) (none scope outputs rel)) [] ≡ values (plains sample.items ++ lets)))
+    × AreMissing scope outputs rel (plains sample.items)
+IsExistence scope outputs rel (UndecidedExistence d) =
+    ((MOST_TUPLES < tuple_count scope outputs rel) × (d ≡ Refused (Limit Search (tuple_count scope outputs rel))))
+    ⊎ ((tuple_count scope outputs rel ≤ MOST_TUPLES) × IsDoubt (none_outputs scope outputs rel) (none scope outputs rel) d)

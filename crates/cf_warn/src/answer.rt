@@ -25,3 +25,14 @@ pub enum UniquenessAnswer {
     /// The question is not decided.
     Undecided(Doubt),
 }
+
+/// Whether a choose has outputs for every choice of its parameters.
+#[derive(Drop)]
+pub enum ExistenceAnswer {
+    /// Outputs exist whatever values the parameters have.
+    Always,
+    /// No outputs exist where the parameters have these values, in the order of their levels.
+    Missing(Vec<Value>),
+    /// The question is not decided.
+    Undecided(Doubt),
+}

@@ -3,8 +3,16 @@
 
 pub mod answer;
 mod ask;
+pub mod covers;
+mod draft;
+pub mod existence;
+mod forms;
 mod halves;
 mod levels;
-mod parameters;
+mod none;
+pub mod parameters;
+mod regions;
+mod rows;
+mod tuples;
 mod twice;
 pub mod uniqueness;

@@ -15,8 +15,11 @@ use cf_tree::base::Base;
 use cf_tree::memory::NoMemory;
 use std::alloc::Global;
 
-// The levels of the variables in scope that occur in the relation.
-pub(crate) fn parameters(alloc: Global, solved: &Solved) -> Result<Vec<u32>, NoMemory>
+/// The parameters of a choose: the levels of the variables in scope that occur in its relation, rising.
+///
+/// # Errors
+/// `NoMemory` where memory ran out.
+pub fn parameters(alloc: Global, solved: &Solved) -> Result<Vec<u32>, NoMemory>
     ensures { IfOk result (λ v. v.items ≡ parameters solved.now.scope.items (rel_tree solved.now.rel)) }
 {
     listed(alloc, solved.layout())

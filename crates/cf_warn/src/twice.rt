@@ -5,7 +5,7 @@ ghost use Rattle.cf_tree.specs.RelView.{rel_tree};
 ghost use Rattle.cf_choose.specs.Solved.{IsSolved};
 ghost use Rattle.cf_warn.specs.Questions.{halves, other, others, parameters, twice, twice_outputs};
 
-use crate::halves::some_of;
+use crate::halves::{Join, joined};
 use crate::levels::{Levels, narrow, sum};
 use crate::parameters::bases_at;
 use cf_choose::solved::Solved;
@@ -61,7 +61,7 @@ fn some_other(
     ensures { IfOk result (λ r. rel_tree r.value ≡ halves rel_or rel_false (others outputs.now first second)) }
 {
     let rels = others(alloc, outputs, first, second)?;
-    some_of(alloc, &rels)
+    Ok(Box::new(alloc, joined(alloc, Join::Or, &rels)?)?)
 }
 
 // The outputs from these two levels on differ, one by one.
