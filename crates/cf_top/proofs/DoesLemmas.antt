@@ -17,7 +17,7 @@ use Rattle.cf_top.specs.Steps.{AnswersOn}
 use Rattle.cf_top.specs.declared.fault.Fault.{Fault}
 use Rattle.cf_top.specs.declared.fault.Fault.TheVariants as fault
 use Rattle.cf_words.specs.declared.command.CommandKind.{CommandKind}
-use Rattle.cf_words.specs.declared.command.CommandKind.TheVariants.{Compile, Run, Pre, Exec}
+use Rattle.cf_words.specs.declared.command.CommandKind.TheVariants.{Compile, Run, Pre, Check, Exec}
 use Rattle.cf_words.specs.declared.command.Flags.{Flags}
 use Rattle.cf_top.proofs.CountLemmas.{one_fault}
 use Rattle.cf_top.proofs.FaultLemmas.{failed}
@@ -29,6 +29,7 @@ pub one_name : (kind : CommandKind) (flags : Flags) (name : List ℕ) → names_
 one_name Compile flags name = refl
 one_name Run flags name = refl
 one_name Pre flags name = refl
+one_name Check flags name = refl
 one_name Exec flags name = refl
 
 pub reads_a_file : (kind : CommandKind) (flags : Flags) (name : List ℕ) → names_of (command_on kind flags name) ≡ [] → ⊥
@@ -147,6 +148,7 @@ long_refused : (kind : CommandKind) (flags : Flags) (name text : List ℕ) → t
 long_refused Compile flags name text h = too_long h
 long_refused Run flags name text h = too_long h
 long_refused Pre flags name text h = too_long h
+long_refused Check flags name text h = too_long h
 long_refused Exec flags name text h = too_long h
 
 pub long_does : (kind : CommandKind) (flags : Flags) (name : List ℕ) (given : List Told) (before after : Outside) →

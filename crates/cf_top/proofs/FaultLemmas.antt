@@ -6,7 +6,7 @@ use Rattle.cf_lex.specs.declared.token.Token.{Token}
 use Rattle.cf_reader.specs.Readers.{Reader}
 use Rattle.cf_tree.specs.DefView.{RawDefTree}
 use Rattle.cf_target.specs.Spelling.{TargetTree}
-use Rattle.cf_words.specs.Commands.{Command, compile, run, pre, exec, gen}
+use Rattle.cf_words.specs.Commands.{Command, compile, run, pre, check, exec, gen}
 use Rattle.cf_top.specs.Refusals.{Causes, too_long, odd_byte, large_number, no_tree, bad_tree, IsBadProgram, broken, refused, IsBadTarget, untyped, IsRefusedSource, IsRefusedTarget, Refuses}
 use Rattle.cf_top.specs.declared.fault.Fault.{Fault}
 use Rattle.cf_top.specs.declared.fault.Fault.TheVariants as fault
@@ -51,6 +51,7 @@ pub refused_fault : (c : Command) (files : List (List ℕ)) (f : Fault) → Refu
 refused_fault (compile flags name) (text ∷ []) f h = source_text text f h
 refused_fault (run flags name) (text ∷ []) f h = source_text text f h
 refused_fault (pre name) (text ∷ []) f h = source_text text f h
+refused_fault (check name) (text ∷ []) f h = source_text text f h
 refused_fault (exec name) (text ∷ []) f h = target_text text f h
 refused_fault (gen n) [] f h = source_text (gen_source n) f h
 refused_fault c files f h = absurd h

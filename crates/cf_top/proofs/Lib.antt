@@ -1,11 +1,15 @@
 pub mod AnswerLemmas
 pub mod CauseLemmas
+mod CheckExamples
+pub mod CheckLemmas
 pub mod CountLemmas
 pub mod DoesLemmas
 mod Examples
 pub mod FaultLemmas
 pub mod FileLemmas
 pub mod LoweredLemmas
+pub mod MatchClassLemmas
+pub mod OriginLemmas
 pub mod PassLemmas
 mod PickedExamples
 pub mod PickedLemmas
@@ -13,11 +17,20 @@ pub mod PieceLemmas
 mod PreExamples
 pub mod PreLemmas
 pub mod ReplyLemmas
+pub mod SampleLemmas
 pub mod SourceLemmas
 pub mod SpelledLemmas
 pub mod StatusLemmas
 pub mod StepLemmas
+mod SumExamples
 pub mod SumLemmas
 pub mod TargetLemmas
 pub mod TextLemmas
 pub mod VerdictLemmas
+pub mod WorkloadLaw
+pub mod WorkloadPicks
+pub mod WorkloadShapes
+pub mod WorkloadSource
+pub mod WorkloadSum
+pub mod WorkloadTyped
+pub mod WrittenLemmas

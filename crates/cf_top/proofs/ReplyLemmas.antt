@@ -1,5 +1,5 @@
 -- Replies to lines, one after the other.
-use Rattle.std.proofs.Common.{◌≡◌, ◌∙◌, sym, ap, subst, refl, ℕ, ◌+◌, ◌-◌, ◌^◌, ◌≤◌, ◌<◌, Bool, true, false, cond, nat_le, List, [], ◌∷◌, ◌++◌, length, map, take, get_or, Option, Some, None, codes, arith, append_assoc, ◌⊎◌, inl, inr}
+use Rattle.std.proofs.Common.{◌≡◌, ◌∙◌, sym, ap, subst, refl, ℕ, ◌+◌, ◌-◌, ◌^◌, ◌≤◌, ◌<◌, Bool, true, false, cond, nat_le, List, [], ◌∷◌, ◌++◌, length, map, take, get_or, Option, Some, None, codes, arith, append_assoc, append-nil, ◌⊎◌, inl, inr}
 use Rattle.std.specs.Prelude.{Result, Ok, Err, OnOk}
 use Rattle.std.proofs.lemmas.Bool.Decides.{nat_tests}
 use Rattle.std.proofs.lemmas.Bool.{cases_lt}
@@ -8,6 +8,7 @@ use Rattle.std.proofs.KnownBytes.{Appends-nil, Appends-trans}
 use Rattle.cf_io.specs.Bytes.{TookPrefix}
 use Rattle.cf_io.specs.Cut.{line_of}
 use Rattle.cf_io.specs.Limits.{line_limit}
+use Rattle.cf_io.specs.Lines.{ended}
 use Rattle.cf_io.specs.declared.line.Line.{Line}
 use Rattle.cf_io.specs.declared.line.Line.TheVariants.{Text, TooLong}
 use Rattle.cf_tree.specs.declared.base.Base.{Base}
@@ -97,6 +98,38 @@ line_replies_append who (l ∷ ls) ms xs ys a b =
 
 pub line_replies_more : (who : Answerer) (ls : List Line) (l : Line) (xs reply : List ℕ) → AreLineReplies who ls xs → IsLineReply who l reply → AreLineReplies who (ls ++ l ∷ []) (xs ++ (reply ++ 10 ∷ []))
 line_replies_more who ls l xs reply a b = line_replies_append who ls (l ∷ []) xs (reply ++ 10 ∷ []) a (reply, [], refl, b, refl)
+
+-- the reply to a line that is told by its bytes
+pub long_line_reply : {A E : Type 0} (who : Answerer) (line : List ℕ) (r : Result A E) (old new : List ℕ) → line_limit < length line →
+    OnOk r (new ≡ old ++ codes "line too long") → OnOk r ((reply : List ℕ) × (new ≡ old ++ reply) × IsLineReply who (line_of line_limit line) reply)
+long_line_reply who line (Ok u) old new long is =
+    let test : nat_le (length line) line_limit ≡ false = grind (arith, nat_tests) in (codes "line too long", is, rw test refl)
+long_line_reply who line (Err e) old new long is = tt
+
+pub short_line_reply : {A E : Type 0} (who : Answerer) (line : List ℕ) (r : Result A E) (old new : List ℕ) → length line ≤ line_limit →
+    OnOk r ((reply : List ℕ) × (new ≡ old ++ reply) × (length line ≤ line_limit → IsReplyBy who line reply)) →
+    OnOk r ((reply : List ℕ) × (new ≡ old ++ reply) × IsLineReply who (line_of line_limit line) reply)
+short_line_reply who line (Ok u) old new short is =
+    let test : nat_le (length line) line_limit ≡ true = grind (arith, nat_tests) in (is.0, is.1, rw test is.2)
+short_line_reply who line (Err e) old new short is = tt
+
+-- the text replies to all of these lines but those that end in `rest`
+pub record LentTo (who : Answerer) (all : List Line) (rest text : List ℕ) : Type 0 where
+  pub done : List Line
+  pub replied : AreLineReplies who done text
+  pub whole : done ++ map (line_of line_limit) (ended rest) ≡ all
+
+pub lent_step : (who : Answerer) (all : List Line) (rest line more xs ys reply : List ℕ) → LentTo who all rest xs → ended rest ≡ line ∷ ended more →
+    ys ≡ xs ++ (reply ++ 10 ∷ []) → IsLineReply who (line_of line_limit line) reply → LentTo who all more ys
+lent_step who all rest line more xs ys reply a cut is r = record {
+  done = a.done ++ line_of line_limit line ∷ [];
+  replied = rw is (line_replies_more who a.done (line_of line_limit line) xs reply a.replied r);
+  whole = append_assoc a.done (line_of line_limit line ∷ []) (map (line_of line_limit) (ended more)) ∙ subst (λ ls. a.done ++ map (line_of line_limit) ls ≡ all) cut a.whole;
+}
+
+pub lent_end : (who : Answerer) (all : List Line) (rest text : List ℕ) → LentTo who all rest text → ended rest ≡ [] → AreLineReplies who all text
+lent_end who all rest text a none =
+    subst (λ ls. AreLineReplies who ls text) (sym (append-nil a.done) ∙ subst (λ ls. a.done ++ map (line_of line_limit) ls ≡ all) none a.whole) a.replied
 
 reply_by : (b : Bool) (who : Answerer) (line reply : List ℕ) → nat_le (length line) line_limit ≡ b → IsLineReply who (cond b (Text line) TooLong) reply → IsReplyBy who line reply
 reply_by true who line reply e h = h (grind (arith, nat_tests, e))

@@ -19,7 +19,9 @@ use Rattle.cf_program.proofs.ProgramLaws.{checked_typed}
 use Rattle.cf_build.specs.Questions.{Question, all_questions, by_number, limit_of, IsFirstRefused}
 use Rattle.cf_build.proofs.QuestionLaws.{one_refusal}
 use Rattle.cf_build.proofs.NumberOrder.{ordered_same}
-use Rattle.cf_top.specs.Owed.{ArePres}
+use Rattle.cf_match.specs.Matches.{all_matches}
+use Rattle.cf_top.specs.Checks.{IsCheckOf}
+use Rattle.cf_top.specs.Owed.{AllWritten, IsPreOf, ArePres, AreChecks}
 use Rattle.cf_top.specs.Refusals.{IsBadProgram, broken, refused, IsRefusedSource}
 use Rattle.cf_top.specs.Sources.{Spelled, IsTypedSource, Compiles}
 use Rattle.cf_top.specs.Statuses.{refusal_status, rule_status, fault_status}
@@ -76,17 +78,24 @@ typed_unrefused text typed f s within h = unrefused IsProgram (program_of 200) I
 pub compiled_unrefused : (passes : ℕ) (text : List ℕ) (t : RawTarget) (f : Fault) → Compiles passes text t → IsRefusedSource text f → ⊥
 compiled_unrefused passes text t f c h = typed_unrefused text c.0 f c.1 (λ q m. (c.2.solved q m).within) h
 
--- nor is one whose preconditions are owed
+-- nor is one of whose chooses something is owed that says so
 abbrev IsWithin : Question → Type 0
 IsWithin q = limit_of q ≡ None
 
-pres_within : (qs : List Question) (text : List ℕ) → ArePres qs text → All IsWithin qs
-pres_within [] text h = All-nil IsWithin
-pres_within (q ∷ qs) text h = All-cons IsWithin q qs h.3.within (pres_within qs h.1 h.4)
+module _ (Is : Question → List ℕ → Type 0) (within : (q : Question) (text : List ℕ) → Is q text → IsWithin q) where
+  written_within : (qs : List Question) (text : List ℕ) → AllWritten Is qs text → All IsWithin qs
+  written_within [] text h = All-nil IsWithin
+  written_within (q ∷ qs) text h = All-cons IsWithin q qs (within q h.0 h.3) (written_within qs h.1 h.4)
 
-pub pres_unrefused : (text : List ℕ) (typed : TypedTree) (pres : List ℕ) (f : Fault) → IsTypedSource text typed →
-    ArePres (by_number (all_questions typed.defs)) pres → IsRefusedSource text f → ⊥
-pres_unrefused text typed pres f s owed h =
-    let qs = all_questions typed.defs in
-    typed_unrefused text typed f s
-    (λ q m. All-contains IsWithin (by_number qs) q (pres_within (by_number qs) pres owed) (Contains-permutation qs (by_number qs) q (ordered_same qs) m)) h
+  written_unrefused : (text : List ℕ) (typed : TypedTree) (written : List ℕ) (f : Fault) → IsTypedSource text typed →
+      AllWritten Is (by_number (all_questions typed.defs)) written → IsRefusedSource text f → ⊥
+  written_unrefused text typed written f s owed h =
+      let qs = all_questions typed.defs in
+      typed_unrefused text typed f s
+      (λ q m. All-contains IsWithin (by_number qs) q (written_within (by_number qs) written owed) (Contains-permutation qs (by_number qs) q (ordered_same qs) m)) h
+
+pub pres_unrefused : (text : List ℕ) (typed : TypedTree) (pres : List ℕ) (f : Fault) → IsTypedSource text typed → ArePres typed pres → IsRefusedSource text f → ⊥
+pres_unrefused text typed pres f s owed h = written_unrefused IsPreOf (λ q t p. p.within) text typed pres f s owed h
+
+pub checks_unrefused : (text : List ℕ) (typed : TypedTree) (checks : List ℕ) (f : Fault) → IsTypedSource text typed → AreChecks typed checks → IsRefusedSource text f → ⊥
+checks_unrefused text typed checks f s owed h = written_unrefused (IsCheckOf (all_matches typed.defs)) (λ q t p. p.within) text typed checks f s owed h

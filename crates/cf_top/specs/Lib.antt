@@ -1,3 +1,5 @@
+pub mod Checking
+pub mod Checks
 pub mod Commands
 pub mod Ends
 pub mod Limits
@@ -9,5 +11,6 @@ pub mod Refusals
 pub mod Sources
 pub mod Statuses
 pub mod Steps
+pub mod Sums
 pub mod Texts
 pub mod Top

@@ -9,11 +9,13 @@ use Rattle.cf_tree.specs.declared.target.RawTarget.{RawTarget}
 use Rattle.cf_target.specs.Spelling.{target_tree}
 use Rattle.cf_program.specs.Checked.{TypedTree}
 use Rattle.cf_choose.specs.Precondition.{all_needs, IsPrecondition}
+use Rattle.cf_match.specs.Matches.{all_matches}
 use Rattle.cf_build.specs.Questions.{Question, all_questions, by_number, limit_of, question_arms}
 use Rattle.cf_emit.specs.Printed.{target_text, pre_text}
 use Rattle.cf_emit.specs.ReadsBack.{ReadsBack}
 use Rattle.cf_eval.specs.Replies.{IsReply}
-use Rattle.cf_words.specs.Commands.{Command, compile, run, pre, exec, gen}
+use Rattle.cf_words.specs.Commands.{Command, compile, run, pre, check, exec, gen}
+use Rattle.cf_top.specs.Checks.{IsCheckOf}
 use Rattle.cf_top.specs.Passes.{Told, applied}
 use Rattle.cf_top.specs.Picked.{IsSourceReply, adds}
 use Rattle.cf_top.specs.Sources.{Compiles, IsTypedSource, IsTypedTarget}
@@ -49,10 +51,18 @@ pub record IsPreOf (q : Question) (text : List ℕ) : Type 0 where
   pub is : text ≡ pre_text q.number q.names (all_needs (question_arms q))
   pub holds : IsPrecondition q.scope q.outputs q.relation (all_needs (question_arms q))
 
--- the preconditions of chooses in order
-abbrev pub ArePres : List Question → List ℕ → Type 0
-ArePres [] text = text ≡ []
-ArePres (q ∷ qs) text = (first : List ℕ) × (more : List ℕ) × (text ≡ first ++ more) × IsPreOf q first × ArePres qs more
+-- what is written of chooses in order, where Is says what is written of each
+abbrev pub AllWritten : (Question → List ℕ → Type 0) → List Question → List ℕ → Type 0
+AllWritten Is [] text = text ≡ []
+AllWritten Is (q ∷ qs) text = (first : List ℕ) × (more : List ℕ) × (text ≡ first ++ more) × Is q first × AllWritten Is qs more
+
+-- the preconditions of the chooses of a program, in the order of their numbers
+abbrev pub ArePres : TypedTree → List ℕ → Type 0
+ArePres typed text = AllWritten IsPreOf (by_number (all_questions typed.defs)) text
+
+-- the lines of its chooses and matches, in the order of their numbers
+abbrev pub AreChecks : TypedTree → List ℕ → Type 0
+AreChecks typed text = AllWritten (IsCheckOf (all_matches typed.defs)) (by_number (all_questions typed.defs)) text
 
 -- the sum of the replies that the program picks, where so many passes have rewritten it
 abbrev pub IsSum : TypedTree → ℕ → List (List ℕ) → ℤ → Type 0
@@ -70,7 +80,8 @@ abbrev pub Owes : Command → List (List ℕ) → List Told → List (List ℕ) 
 Owes (compile flags name) (file ∷ []) passes ls text = (t : RawTarget) × Compiles (applied (compile flags name) passes) file t × IsPrinted t text
 Owes (run flags name) (file ∷ []) passes ls text =
     (t : RawTarget) × Compiles (applied (run flags name) passes) file t × AreReplies (by_target t) ls text × ArePicked (applied (run flags name) passes) file ls text
-Owes (pre name) (file ∷ []) passes ls text = (typed : TypedTree) × IsTypedSource file typed × ArePres (by_number (all_questions typed.defs)) text
+Owes (pre name) (file ∷ []) passes ls text = (typed : TypedTree) × IsTypedSource file typed × ArePres typed text
+Owes (check name) (file ∷ []) passes ls text = (typed : TypedTree) × IsTypedSource file typed × AreChecks typed text
 Owes (exec name) (file ∷ []) passes ls text = (t : RawTarget) × IsTypedTarget file (target_tree t) × AreReplies (by_target t) ls text
 Owes (gen n) [] passes ls text =
     (t : RawTarget) × Compiles (applied (gen n) passes) (gen_source n) t × (typed : TypedTree) × IsTypedSource (gen_source n) typed

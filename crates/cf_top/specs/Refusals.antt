@@ -14,7 +14,7 @@ use Rattle.cf_program.specs.Checked.{TypedTree, checked}
 use Rattle.cf_program.specs.declared.fault.TypeFault.{TypeFault}
 use Rattle.cf_linear.specs.declared.refusal.Refusal.{Refusal}
 use Rattle.cf_build.specs.Questions.{all_questions, IsFirstRefused}
-use Rattle.cf_words.specs.Commands.{Command, compile, run, pre, exec, gen}
+use Rattle.cf_words.specs.Commands.{Command, compile, run, pre, check, exec, gen}
 use Rattle.cf_top.specs.Limits.{text_limit}
 use Rattle.cf_top.specs.Sources.{HasTokens, Spelled, IsTypedTree}
 use Rattle.cf_top.specs.declared.fault.Fault.{Fault}
@@ -57,6 +57,7 @@ abbrev pub Refuses : Command → List (List ℕ) → Fault → Type 0
 Refuses (compile flags name) (text ∷ []) f = IsRefusedSource text f
 Refuses (run flags name) (text ∷ []) f = IsRefusedSource text f
 Refuses (pre name) (text ∷ []) f = IsRefusedSource text f
+Refuses (check name) (text ∷ []) f = IsRefusedSource text f
 Refuses (exec name) (text ∷ []) f = IsRefusedTarget text f
 Refuses (gen n) [] f = IsRefusedSource (gen_source n) f
 Refuses command files f = ⊥

@@ -34,9 +34,14 @@ kind_text kind.Search = codes "Search"
 abbrev pub numbered_line : ℕ → List ℕ → List ℕ
 numbered_line n words = concat (codes "choose " ∷ decimal n ∷ codes ": " ∷ words ∷ codes "\n" ∷ [])
 
+-- the limit that is passed
+abbrev pub refusal_text : Refusal → List ℕ
+refusal_text refusal.Past = codes "coefficient past 128 bits"
+refusal_text (refusal.Limit kind number) = concat (kind_text kind ∷ codes " " ∷ decimal number ∷ [])
+
 -- the refusal of a choose
 abbrev pub choose_line : ℕ → Refusal → List ℕ
-choose_line n refusal.Past = numbered_line n (codes "coefficient past 128 bits")
+choose_line n refusal.Past = numbered_line n (refusal_text refusal.Past)
 choose_line n (refusal.Limit kind number) =
     concat (codes "choose " ∷ decimal n ∷ codes ": " ∷ kind_text kind ∷ codes " " ∷ decimal number ∷ codes "\n" ∷ [])
 

@@ -4,7 +4,7 @@ ghost use Rattle.std.specs.Io.KnownBytes.{Appends};
 ghost use Rattle.cf_io.specs.Bytes.{TookPrefix};
 ghost use Rattle.cf_io.specs.Causes.{one_more};
 ghost use Rattle.cf_io.specs.Cut.{told, line_of};
-ghost use Rattle.cf_io.specs.Lines.{lines as lines_of};
+ghost use Rattle.cf_io.specs.Lines.{ended, lines as lines_of};
 ghost use Rattle.cf_io.specs.Limits.{line_limit, input_limit};
 ghost use Rattle.cf_top.specs.Owed.{by_target};
 ghost use Rattle.cf_top.specs.Steps.{TookLines, TookSomeLines, IsAnswered, IsOutFault};
@@ -31,21 +31,22 @@ pub fn write_text<O: Sink>(out: &mut O, text: &[u8]) -> Result<(), Fault>
     }
 }
 
-// Writes the replies to lines.
+// Writes the replies to lines, and to those that end in the bytes behind them.
 #[tactic(auto, using(crate::proofs::ReplyLemmas::took_some, crate::proofs::ReplyLemmas::took_none))]
 fn answer_lines<O: Sink>(
     alloc: Global,
     target: &Target,
     lines: &[Line],
+    behind: &[u8],
     out: &mut O,
 ) -> Result<(), Fault>
-    ensures all { OnOk result (TookLines (by_target target.now) lines.now (O.held out.old) (O.held out.new)) }
-    ensures some { TookSomeLines (by_target target.now) lines.now (O.held out.old) (O.held out.new) }
+    ensures all { OnOk result (TookLines (by_target target.now) (lines.now ++ map (line_of line_limit) (ended behind.now)) (O.held out.old) (O.held out.new)) }
+    ensures some { TookSomeLines (by_target target.now) (lines.now ++ map (line_of line_limit) (ended behind.now)) (O.held out.old) (O.held out.new) }
     ensures fault { IfErr result IsOutFault }
     ensures failed { IsErrOf result Fault.Output → O.faults out.new ≡ one_more (O.faults out.old) }
     ensures same { ¬ IsErrOf result Fault.Output → O.faults out.new ≡ O.faults out.old }
 {
-    match replies(alloc, target, lines) {
+    match replies(alloc, target, lines, behind) {
         Ok(text) => write_text(out, &text),
         Err(NoMemory) => Err(Fault::NoMemory),
     }
@@ -70,8 +71,8 @@ pub fn answer_piece<O: Sink>(
     ensures same { ¬ IsErrOf result Fault.Output → O.faults out.new ≡ O.faults out.old }
 {
     let mut lines = Vec::new(alloc);
-    match cutter.feed(piece, &mut lines) {
-        Ok(_) => answer_lines(alloc, target, &lines, out),
+    match cutter.feed_first(piece, &mut lines) {
+        Ok(behind) => answer_lines(alloc, target, &lines, behind, out),
         Err(NoMemory) => Err(Fault::NoMemory),
     }
 }
@@ -93,7 +94,7 @@ pub fn answer_rest<O: Sink>(
 {
     let mut lines = Vec::new(alloc);
     match cutter.finish(&mut lines) {
-        Ok(()) => answer_lines(alloc, target, &lines, out),
+        Ok(()) => answer_lines(alloc, target, &lines, &[], out),
         Err(NoMemory) => Err(Fault::NoMemory),
     }
 }

@@ -5,7 +5,7 @@ ghost use Rattle.cf_tree.specs.Spelled.{HasSpelling};
 ghost use Rattle.cf_target.specs.Spelling.{target_tree};
 ghost use Rattle.cf_emit.specs.Printed.{target_text};
 ghost use Rattle.cf_emit.specs.ReadsBack.{ReadsBack};
-ghost use Rattle.cf_words.specs.Commands.{compile as the_compile, run as the_run, pre as the_pre, exec as the_exec};
+ghost use Rattle.cf_words.specs.Commands.{compile as the_compile, run as the_run, pre as the_pre, check as the_check, exec as the_exec};
 ghost use Rattle.cf_top.specs.Limits.{text_limit};
 ghost use Rattle.cf_top.specs.Owed.{by_target};
 ghost use Rattle.cf_top.specs.Passes.{Told, ArePassed, closing_lines};
@@ -16,6 +16,7 @@ ghost use Rattle.cf_top.specs.Steps.{IsVerdict, RunsThrough, AnswersOn};
 ghost use Rattle.cf_top.specs.Top.{IsEarly};
 
 use crate::answer::write_text;
+use crate::checks::checks;
 use crate::fault::Fault;
 use crate::input::answer_input;
 use crate::preconditions::preconditions;
@@ -161,6 +162,28 @@ pub fn write_preconditions<O: Sink>(alloc: Global, text: &[u8], out: &mut O) -> 
         Err(fault) => return Err(fault),
     };
     match preconditions(alloc, &typed) {
+        Ok(text) => write_text(out, &text),
+        Err(fault) => Err(fault),
+    }
+}
+
+/// Writes for each choose of a source text whether outputs always exist and whether they are the only
+/// ones, and for each match whether its arms cover all numbers.
+pub fn write_checks<O: Sink>(alloc: Global, text: &[u8], out: &mut O) -> Result<(), Fault>
+    requires short { length text.now ≤ text_limit }
+    requires place { length text.now < 2 ^ 32 - 1 }
+    ensures answers { (file : List ℕ) (given : List Told) (input : Option (List ℕ)) → AnswersOn (the_check file) given (text.now ∷ [])
+        (record { input = input; out = O.held out.old }) (record { input = input; out = O.held out.new }) result }
+    ensures input { ¬ IsErrOf result Fault.Input }
+    ensures output { IsErrOf result Fault.Output → O.faults out.new ≡ one_more (O.faults out.old) }
+    ensures output_same { ¬ IsErrOf result Fault.Output → O.faults out.new ≡ O.faults out.old }
+    ensures unwritten { IsEarly (the_status_of result) → out.new ≡ out.old }
+{
+    let typed = match read_source(alloc, text) {
+        Ok(typed) => typed,
+        Err(fault) => return Err(fault),
+    };
+    match checks(alloc, &typed) {
         Ok(text) => write_text(out, &text),
         Err(fault) => Err(fault),
     }

@@ -2,21 +2,25 @@
 #![tactic(auto)]
 
 mod answer;
+mod checks;
 mod fault;
 mod file;
 mod input;
 mod limits;
 mod line;
+mod origin;
 mod preconditions;
 mod reply;
 mod source;
 mod status;
 mod sum;
+pub mod sums;
 mod tallies;
 mod target;
 mod tell;
 mod text;
 mod top;
+mod verdict;
 mod workload;
 
 pub use status::Status;

@@ -5,7 +5,7 @@ ghost use Rattle.cf_build.specs.Questions.{Question, all_questions, by_number};
 ghost use Rattle.cf_build.specs.Solves.{IsSolved, AreSolved, FaultAnswer};
 ghost use Rattle.cf_emit.specs.Printed.{pre_text};
 ghost use Rattle.cf_program.specs.Typed.{typed_tree};
-ghost use Rattle.cf_top.specs.Owed.{IsPreOf, ArePres};
+ghost use Rattle.cf_top.specs.Owed.{IsPreOf, AllWritten, ArePres};
 ghost use Rattle.cf_top.specs.Refusals.{IsRefusedSource};
 ghost use Rattle.cf_top.specs.Sources.{IsTypedSource};
 ghost use Rattle.cf_top.specs.Steps.{IsVerdict};
@@ -31,7 +31,7 @@ fn put_pre(alloc: Global, choose: &SolvedChoose, text: &mut Vec<u8>) -> Result<(
 
 // The preconditions of solved chooses in order.
 fn pres(alloc: Global, chooses: &[SolvedChoose]) -> Result<Vec<u8>, NoMemory>
-    ensures { IfOk result (λ text. (qs : List Question) → AreSolved qs chooses.now → ArePres qs text.items) }
+    ensures { IfOk result (λ text. (qs : List Question) → AreSolved qs chooses.now → AllWritten IsPreOf qs text.items) }
 {
     let mut text = Vec::new(alloc);
     for choose in chooses {
@@ -43,7 +43,7 @@ fn pres(alloc: Global, chooses: &[SolvedChoose]) -> Result<Vec<u8>, NoMemory>
 /// The preconditions of the chooses of a program in the order of their numbers, or the choose for which it is refused.
 pub fn preconditions(alloc: Global, typed: &Typed) -> Result<Vec<u8>, Fault>
     ensures { (source : List ℕ) → IsTypedSource source (typed_tree typed.now) →
-        IsVerdict (λ text. ArePres (by_number (all_questions (typed_tree typed.now).defs)) text.items) (IsRefusedSource source) result }
+        IsVerdict (λ text. ArePres (typed_tree typed.now) text.items) (IsRefusedSource source) result }
 {
     match solved(alloc, typed) {
         Ok(chooses) => match pres(alloc, &chooses) {

@@ -1,6 +1,9 @@
 //! The replies to lines.
-ghost use Rattle.std.specs.Prelude.{◌≡◌, ◌≤◌, ◌-◌, ◌^◌, ◌++◌, ◌∷◌, [], List, ℕ, length, IfOk, OnOk};
+ghost use Rattle.std.specs.Prelude.{◌≡◌, ◌≤◌, ◌-◌, ◌^◌, ◌++◌, ◌∷◌, [], List, ℕ, codes, length, map, IfOk, OnOk};
+ghost use Rattle.cf_io.specs.Cut.{line_of};
 ghost use Rattle.cf_io.specs.Limits.{line_limit};
+ghost use Rattle.cf_io.specs.Lines.{ended};
+ghost use Rattle.cf_io.specs.declared.line.Line.{Line};
 ghost use Rattle.cf_eval.specs.Replies.{meaning_text};
 ghost use Rattle.cf_eval.specs.Seen.{plains};
 ghost use Rattle.cf_top.specs.Owed.{by_target, IsReplyBy};
@@ -9,9 +12,9 @@ ghost use Rattle.cf_top.specs.Steps.{IsLineReply, AreLineReplies};
 use cf_eval::fault::LineFault;
 use cf_eval::line::read_line;
 use cf_eval::reply::put_reply;
-use cf_eval::run::run;
+use cf_eval::run::run_on;
 use cf_eval::value::Value;
-use cf_io::Line;
+use cf_io::{Line, first_line, longest_line};
 use cf_tree::memory::NoMemory;
 use cf_tree::target::Target;
 use std::alloc::Global;
@@ -20,12 +23,12 @@ use std::alloc::Global;
 fn add_meaning(
     alloc: Global,
     target: &Target,
-    values: &[Value],
+    values: Vec<Value>,
     text: &mut Vec<u8>,
 ) -> Result<(), NoMemory>
-    ensures { OnOk result (text.new.items ≡ text.old.items ++ meaning_text (2 ^ 127 - 1) target.now (plains values.now)) }
+    ensures { OnOk result (text.new.items ≡ text.old.items ++ meaning_text (2 ^ 127 - 1) target.now (plains values.items)) }
 {
-    let outcome = run(alloc, target, values)?;
+    let outcome = run_on(alloc, target, values)?;
     put_reply(text, &outcome)
 }
 
@@ -39,13 +42,20 @@ fn add_text_reply(
     ensures { OnOk result ((reply : List ℕ) × (text.new.items ≡ text.old.items ++ reply) × (length line.now ≤ line_limit → IsReplyBy (by_target target.now) line.now reply)) }
 {
     match read_line(alloc, line, target.params()) {
-        Ok(values) => add_meaning(alloc, target, &values, text),
+        Ok(values) => add_meaning(alloc, target, values, text),
         Err(LineFault::BadInput) => {
             text.extend_from_slice(b"bad input")?;
             Ok(())
         }
         Err(LineFault::NoMemory) => Err(NoMemory),
     }
+}
+
+fn add_too_long(text: &mut Vec<u8>) -> Result<(), NoMemory>
+    ensures { OnOk result (text.new.items ≡ text.old.items ++ codes "line too long") }
+{
+    text.extend_from_slice(b"line too long")?;
+    Ok(())
 }
 
 fn add_line_reply(
@@ -58,10 +68,7 @@ fn add_line_reply(
 {
     match line {
         Line::Text(bytes) => add_text_reply(alloc, target, &bytes.bytes, text),
-        Line::TooLong => {
-            text.extend_from_slice(b"line too long")?;
-            Ok(())
-        }
+        Line::TooLong => add_too_long(text),
     }
 }
 
@@ -79,13 +86,74 @@ fn add_reply(
     Ok(())
 }
 
-/// The replies to lines, each with a line feed.
-pub fn replies(alloc: Global, target: &Target, lines: &[Line]) -> Result<Vec<u8>, NoMemory>
+fn owned_replies(alloc: Global, target: &Target, lines: &[Line]) -> Result<Vec<u8>, NoMemory>
     ensures { IfOk result (λ text. AreLineReplies (by_target target.now) lines.now text.items) }
 {
     let mut text = Vec::new(alloc);
     for line in lines {
         add_reply(alloc, target, line, &mut text)?;
     }
+    Ok(text)
+}
+
+// Adds the reply to a line that stands in other bytes.
+fn add_lent_line_reply(
+    alloc: Global,
+    target: &Target,
+    line: &[u8],
+    text: &mut Vec<u8>,
+) -> Result<(), NoMemory>
+    ensures { OnOk result ((reply : List ℕ) × (text.new.items ≡ text.old.items ++ reply) × IsLineReply (by_target target.now) (line_of line_limit line.now) reply) }
+{
+    if line.len() > longest_line() {
+        add_too_long(text)
+    } else {
+        add_text_reply(alloc, target, line, text)
+    }
+}
+
+// Adds the reply to such a line, and a line feed.
+fn add_lent_reply(
+    alloc: Global,
+    target: &Target,
+    line: &[u8],
+    text: &mut Vec<u8>,
+) -> Result<(), NoMemory>
+    ensures { OnOk result ((reply : List ℕ) × (text.new.items ≡ text.old.items ++ (reply ++ 10 ∷ [])) × IsLineReply (by_target target.now) (line_of line_limit line.now) reply) }
+{
+    add_lent_line_reply(alloc, target, line, text)?;
+    text.push(b'\n')?;
+    Ok(())
+}
+
+// Adds the replies to the lines that end in the bytes, each with a line feed.
+fn add_lent_replies(
+    alloc: Global,
+    target: &Target,
+    bytes: &[u8],
+    text: &mut Vec<u8>,
+) -> Result<(), NoMemory>
+    ensures { OnOk result ((before : List Line) → AreLineReplies (by_target target.now) before text.old.items →
+        AreLineReplies (by_target target.now) (before ++ map (line_of line_limit) (ended bytes.now)) text.new.items) }
+{
+    let mut rest = bytes;
+    'lines: while let Some((line, more)) = first_line(rest) {
+        add_lent_reply(alloc, target, line, text)?;
+        rest = more;
+    }
+    Ok(())
+}
+
+/// The replies to lines, and to those that end in the bytes behind them, each with a line feed.
+pub fn replies(
+    alloc: Global,
+    target: &Target,
+    lines: &[Line],
+    behind: &[u8],
+) -> Result<Vec<u8>, NoMemory>
+    ensures { IfOk result (λ text. AreLineReplies (by_target target.now) (lines.now ++ map (line_of line_limit) (ended behind.now)) text.items) }
+{
+    let mut text = owned_replies(alloc, target, lines)?;
+    add_lent_replies(alloc, target, behind, &mut text)?;
     Ok(text)
 }

@@ -11,7 +11,7 @@ ghost use Rattle.cf_top.specs.Steps.{run_number, ComesTo, LineAdds, AddUp};
 use crate::line::cut_line;
 use cf_eval::fault::LineFault;
 use cf_eval::line::read_line;
-use cf_eval::run::run;
+use cf_eval::run::run_on;
 use cf_eval::value::{Outcome, Value};
 use cf_io::longest_line;
 use cf_tree::memory::NoMemory;
@@ -56,10 +56,10 @@ fn number_of_outcome(outcome: &Outcome) -> i128
     }
 }
 
-fn number_at(alloc: Global, target: &Target, values: &[Value]) -> Result<i128, NoMemory>
-    ensures { IfOk result (λ z. ComesTo (code_tree target.now.code) (plains values.now) z) }
+fn number_at(alloc: Global, target: &Target, values: Vec<Value>) -> Result<i128, NoMemory>
+    ensures { IfOk result (λ z. ComesTo (code_tree target.now.code) (plains values.items) z) }
 {
-    let outcome = run(alloc, target, values)?;
+    let outcome = run_on(alloc, target, values)?;
     Ok(number_of_outcome(&outcome))
 }
 
@@ -68,7 +68,7 @@ fn number_of_text(alloc: Global, target: &Target, line: &[u8]) -> Result<i128, N
     ensures { IfOk result (λ z. LineAdds target.now line.now z) }
 {
     match read_line(alloc, line, target.params()) {
-        Ok(values) => number_at(alloc, target, &values),
+        Ok(values) => number_at(alloc, target, values),
         Err(LineFault::BadInput) => Ok(0),
         Err(LineFault::NoMemory) => Err(NoMemory),
     }

@@ -5,17 +5,8 @@ ghost use Rattle.cf_top.specs.Passes.{tally_line, closing_lines};
 use crate::fault::Fault;
 use cf_pass::Pass;
 use cf_tree::memory::NoMemory;
-use itoa::{Buffer, Integer};
+use cf_write::put_number;
 use std::alloc::Global;
-
-/// Adds a number in decimal.
-pub fn put_number<I: Integer>(text: &mut Vec<u8>, number: I) -> Result<(), NoMemory>
-    ensures { OnOk result (text.new.items ≡ text.old.items ++ I.text number) }
-{
-    let mut buffer = Buffer::new();
-    text.extend_from_slice(buffer.format(number).as_bytes())?;
-    Ok(())
-}
 
 // Adds the line of a pass that tells this.
 fn put_line(text: &mut Vec<u8>, name: &str, tally: u64) -> Result<(), NoMemory>

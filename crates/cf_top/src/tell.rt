@@ -72,7 +72,8 @@ fn put_count<E: Sink>(err: &mut E, name: &[u8], count: u64) -> Result<(), Failed
     put(err, &pieces)
 }
 
-fn kind_text(kind: &LimitKind) -> &'static [u8]
+/// The name of a limit.
+pub fn kind_text(kind: &LimitKind) -> &'static [u8]
     ensures { result.now ≡ the_kind_text kind.now }
 {
     match kind {

@@ -14,7 +14,7 @@ ghost use Rattle.cf_words.specs.Commands.{command_on};
 ghost use Rattle.cf_words.specs.Words.{command_of};
 
 use crate::fault::Fault;
-use crate::file::{run_source, run_target, write_preconditions, write_target};
+use crate::file::{run_source, run_target, write_checks, write_preconditions, write_target};
 use crate::limits::longest_text;
 use crate::status::{Status, status_of};
 use crate::tell::tell;
@@ -146,6 +146,7 @@ fn answer_text<I: Source, O: Sink>(
         CommandKind::Compile => write_target(alloc, flags, text, out, passes),
         CommandKind::Run => run_source(alloc, flags, text, input, out, passes),
         CommandKind::Pre => write_preconditions(alloc, text, out),
+        CommandKind::Check => write_checks(alloc, text, out),
         CommandKind::Exec => run_target(alloc, text, input, out),
     }
 }

@@ -17,13 +17,13 @@ use crate::fault::Fault;
 use crate::limits::longest_text;
 use crate::source::compile;
 use crate::sum::sum_of_replies;
-use crate::tallies::put_number;
 use cf_gen::lines::lines;
 use cf_gen::source::source;
 use cf_io::Sink;
 use cf_pass::Pass;
 use cf_tree::memory::NoMemory;
 use cf_tree::target::Target;
+use cf_write::put_number;
 use std::alloc::Global;
 
 // The target that the source of the workload of a size is compiled to.

@@ -198,6 +198,13 @@ fn a_pass_is_called_once_where_it_is_asked_for(rt: HostRuntime) -> Result<(), Fa
         (
             0,
             Call {
+                command: "check",
+                ..COMPILE
+            },
+        ),
+        (
+            0,
+            Call {
                 command: "exec",
                 text: "main (int): int = v0",
                 ..COMPILE

@@ -12,7 +12,7 @@ use Rattle.clap.specs.Kinds.{Kinds, or_else}
 use Rattle.clap.specs.Simple.{Shape, built, entered, names_of}
 use Rattle.clap.specs.Walk.{Row, Text, Walk, first_of, finished, idle, nothing_held, rows_after, settled, subcommand_met, walk_from, walked}
 use Rattle.clap.specs.declared.error.kind.ErrorKind.TheVariants.{InvalidSubcommand, UnknownArgument}
-use Rattle.cf_words.specs.Commands.{Command, compile as the_compile, run as the_run, pre as the_pre, exec as the_exec, gen as the_gen}
+use Rattle.cf_words.specs.Commands.{Command, compile as the_compile, run as the_run, pre as the_pre, check as the_check, exec as the_exec, gen as the_gen}
 use Rattle.cf_words.specs.Grammar.{clap_command, command_found, flags_found, found_unless, grammar}
 use Rattle.cf_words.specs.Words.{command_for, command_in, flags_in, is_flag, is_operand, may_be_read, only, operands, size_of, stands, stands_twice}
 use Rattle.cf_words.specs.declared.command.Flags.{Flags}
@@ -25,6 +25,7 @@ pub data Verb : Type 0 where
   compile : Verb
   run : Verb
   pre : Verb
+  check : Verb
   exec : Verb
   gen : Verb
 
@@ -32,6 +33,7 @@ abbrev verb_word : Verb → Text
 verb_word compile = codes "compile"
 verb_word run = codes "run"
 verb_word pre = codes "pre"
+verb_word check = codes "check"
 verb_word exec = codes "exec"
 verb_word gen = codes "gen"
 
@@ -39,6 +41,7 @@ abbrev shape_of : Verb → Shape
 shape_of compile = flagged (codes "compile")
 shape_of run = flagged (codes "run")
 shape_of pre = bare (codes "pre")
+shape_of check = bare (codes "check")
 shape_of exec = bare (codes "exec")
 shape_of gen = bare (codes "gen")
 
@@ -84,6 +87,8 @@ entering run words = ap₂ top_command (stopped_fault (built grammar).top (names
     (sym (walk_stopped (built grammar).top.rules (names_of (built grammar)) start (codes "run") [] words))
 entering pre words = ap₂ top_command (stopped_fault (built grammar).top (names_of (built grammar)) start (codes "pre", []) words)
     (sym (walk_stopped (built grammar).top.rules (names_of (built grammar)) start (codes "pre") [] words))
+entering check words = ap₂ top_command (stopped_fault (built grammar).top (names_of (built grammar)) start (codes "check", []) words)
+    (sym (walk_stopped (built grammar).top.rules (names_of (built grammar)) start (codes "check") [] words))
 entering exec words = ap₂ top_command (stopped_fault (built grammar).top (names_of (built grammar)) start (codes "exec", []) words)
     (sym (walk_stopped (built grammar).top.rules (names_of (built grammar)) start (codes "exec") [] words))
 entering gen words = ap₂ top_command (stopped_fault (built grammar).top (names_of (built grammar)) start (codes "gen", []) words)
@@ -96,6 +101,7 @@ entered_is compile words = level_asks (codes "compile") (level_fault (shape_of c
     (rows_after (shape_of compile).rules [] words)
 entered_is run words = level_asks (codes "run") (level_fault (shape_of run) [] nothing_held words false []) (rows_after (shape_of run).rules [] words)
 entered_is pre words = level_asks (codes "pre") (level_fault (shape_of pre) [] nothing_held words false []) (rows_after (shape_of pre).rules [] words)
+entered_is check words = level_asks (codes "check") (level_fault (shape_of check) [] nothing_held words false []) (rows_after (shape_of check).rules [] words)
 entered_is exec words = level_asks (codes "exec") (level_fault (shape_of exec) [] nothing_held words false []) (rows_after (shape_of exec).rules [] words)
 entered_is gen words = level_asks (codes "gen") (level_fault (shape_of gen) [] nothing_held words false []) (rows_after (shape_of gen).rules [] words)
 
@@ -119,6 +125,9 @@ module _ (us : List Use) (plain_once : stands_twice (codes "--plain") (words_of 
   asked_is pre =
       ap (option_and_then (command_with (codes "pre"))) (bare_found_are (codes "pre") us)
       ∙ without_flags (stands (codes "--plain") (words_of us) || stands (codes "--stats") (words_of us)) (codes "pre") (only (operands (words_of us)))
+  asked_is check =
+      ap (option_and_then (command_with (codes "check"))) (bare_found_are (codes "check") us)
+      ∙ without_flags (stands (codes "--plain") (words_of us) || stands (codes "--stats") (words_of us)) (codes "check") (only (operands (words_of us)))
   asked_is exec =
       ap (option_and_then (command_with (codes "exec"))) (bare_found_are (codes "exec") us)
       ∙ without_flags (stands (codes "--plain") (words_of us) || stands (codes "--stats") (words_of us)) (codes "exec") (only (operands (words_of us)))
@@ -129,11 +138,12 @@ module _ (us : List Use) (plain_once : stands_twice (codes "--plain") (words_of 
   verb_first : (v : Verb) → clap_command (verb_word v ∷ words_of us) ≡ command_in (verb_word v ∷ words_of us)
   verb_first v = entering v (words_of us) ∙ entered_is v (words_of us) ∙ asked_is v
 
--- the word is none of the five
+-- the word is none of the six
 record IsOther (w : Text) : Type 0 where
   compile : (bytes_eq (codes "compile") w ≡ false) × (bytes_eq w (codes "compile") ≡ false)
   run : (bytes_eq (codes "run") w ≡ false) × (bytes_eq w (codes "run") ≡ false)
   pre : (bytes_eq (codes "pre") w ≡ false) × (bytes_eq w (codes "pre") ≡ false)
+  check : (bytes_eq (codes "check") w ≡ false) × (bytes_eq w (codes "check") ≡ false)
   exec : (bytes_eq (codes "exec") w ≡ false) × (bytes_eq w (codes "exec") ≡ false)
   gen : (bytes_eq (codes "gen") w ≡ false) × (bytes_eq w (codes "gen") ≡ false)
 
@@ -156,11 +166,14 @@ named w = elim (apart (codes "compile") w) [
     | inl is ↦ verb run is
     | inr r ↦ elim (apart (codes "pre") w) [
       | inl is ↦ verb pre is
-      | inr p ↦ elim (apart (codes "exec") w) [
-        | inl is ↦ verb exec is
-        | inr e ↦ elim (apart (codes "gen") w) [
-          | inl is ↦ verb gen is
-          | inr g ↦ other (record { compile = c; run = r; pre = p; exec = e; gen = g })
+      | inr p ↦ elim (apart (codes "check") w) [
+        | inl is ↦ verb check is
+        | inr k ↦ elim (apart (codes "exec") w) [
+          | inl is ↦ verb exec is
+          | inr e ↦ elim (apart (codes "gen") w) [
+            | inl is ↦ verb gen is
+            | inr g ↦ other (record { compile = c; run = r; pre = p; check = k; exec = e; gen = g })
+          ]
         ]
       ]
     ]
@@ -174,7 +187,8 @@ none_then g (Some o) h = h o
 other_asks_none : (f : Flags) (word : Text) → IsOther word → (x : Text) → command_for word f x ≡ None
 other_asks_none f word h x =
     (λ i. cond (h.compile.1 i) (Some (the_compile f x)) (cond (h.run.1 i) (Some (the_run f x)) (cond (f.plain || f.stats) None
-    (cond (h.pre.1 i) (Some (the_pre x)) (cond (h.exec.1 i) (Some (the_exec x)) (cond (h.gen.1 i) (option_map the_gen (size_of x)) None))))))
+    (cond (h.pre.1 i) (Some (the_pre x)) (cond (h.check.1 i) (Some (the_check x)) (cond (h.exec.1 i) (Some (the_exec x))
+    (cond (h.gen.1 i) (option_map the_gen (size_of x)) None)))))))
     ∙ cond_same (f.plain || f.stats) None
 
 abbrev hit : Text → Option (Text × List Text)
@@ -184,7 +198,8 @@ hit name = Some (name, [])
 no_subcommand : (w : Text) → IsOther w → subcommand_met (names_of (built grammar)) idle w ≡ None
 no_subcommand w h =
     λ i. option_map (λ s. s.0) (cond (h.compile.0 i || false) (hit (codes "compile")) (cond (h.run.0 i || false) (hit (codes "run"))
-    (cond (h.pre.0 i || false) (hit (codes "pre")) (cond (h.exec.0 i || false) (hit (codes "exec")) (cond (h.gen.0 i || false) (hit (codes "gen")) None)))))
+    (cond (h.pre.0 i || false) (hit (codes "pre")) (cond (h.check.0 i || false) (hit (codes "check")) (cond (h.exec.0 i || false) (hit (codes "exec"))
+    (cond (h.gen.0 i || false) (hit (codes "gen")) None))))))
 
 stray : (x : ℕ) (xs : List ℕ) (e : (x == 45) ≡ false) → IsOther (x ∷ xs)
     → turn_fault (built grammar).top (names_of (built grammar)) (at [] None 1) (x ∷ xs) ≡ UnknownArgument ∷ InvalidSubcommand ∷ []

@@ -1,7 +1,7 @@
 -- Worked examples of the command that words are.
 use Rattle.std.proofs.Common.{◌≡◌, refl, true, false, [], ◌∷◌, Some, None, codes}
 use Rattle.std.specs.Fmt.{digits}
-use Rattle.cf_words.specs.Commands.{compile, run, pre, exec, gen}
+use Rattle.cf_words.specs.Commands.{compile, run, pre, check, exec, gen}
 use Rattle.cf_words.specs.Words.{command_of, most_size}
 
 no_flags : command_of (codes "run" ∷ codes "a" ∷ []) ≡ Some (run (record { plain = false; stats = false }) (codes "a"))
@@ -30,6 +30,9 @@ flag_with_value = refl
 
 flag_of_pre : command_of (codes "pre" ∷ codes "a" ∷ codes "--plain" ∷ []) ≡ None
 flag_of_pre = refl
+
+flag_of_check : command_of (codes "check" ∷ codes "--stats" ∷ codes "a" ∷ []) ≡ None
+flag_of_check = refl
 
 flag_of_exec : command_of (codes "exec" ∷ codes "--stats" ∷ codes "a" ∷ []) ≡ None
 flag_of_exec = refl
@@ -69,6 +72,9 @@ two_operands = refl
 
 pre_file : command_of (codes "pre" ∷ codes "a" ∷ []) ≡ Some (pre (codes "a"))
 pre_file = refl
+
+check_file : command_of (codes "check" ∷ codes "a" ∷ []) ≡ Some (check (codes "a"))
+check_file = refl
 
 file_named_run : command_of (codes "run" ∷ codes "run" ∷ []) ≡ Some (run (record { plain = false; stats = false }) (codes "run"))
 file_named_run = refl

@@ -1,9 +1,9 @@
--- The commands. Words that ask to check, prove or verify are not read yet.
+-- The commands. Words that ask to prove or verify are not read yet.
 use Rattle.std.specs.Prelude.{◌≤◌, ⊤, ℕ, List}
 use Rattle.cf_words.specs.declared.command.Command as declared
 use Rattle.cf_words.specs.declared.command.Command.TheVariants.{OnFile, Gen}
 use Rattle.cf_words.specs.declared.command.CommandKind.{CommandKind}
-use Rattle.cf_words.specs.declared.command.CommandKind.TheVariants.{Compile, Run, Pre, Exec}
+use Rattle.cf_words.specs.declared.command.CommandKind.TheVariants.{Compile, Run, Pre, Check, Exec}
 use Rattle.cf_words.specs.declared.command.Flags.{Flags}
 
 pub data Command : Type 0 where
@@ -21,6 +21,7 @@ abbrev pub command_on : CommandKind → Flags → List ℕ → Command
 command_on Compile flags file = compile flags file
 command_on Run flags file = run flags file
 command_on Pre flags file = pre file
+command_on Check flags file = check file
 command_on Exec flags file = exec file
 
 -- a command of the program, without where its words lie in memory

@@ -31,9 +31,10 @@ program =
 
 abbrev pub grammar : App
 grammar =
-    with_subcommand (with_subcommand (with_subcommand (with_subcommand (with_subcommand program
+    with_subcommand (with_subcommand (with_subcommand (with_subcommand (with_subcommand (with_subcommand program
     (flagged_subcommand (codes "compile")).top) (flagged_subcommand (codes "run")).top)
-    (bare_subcommand (codes "pre")).top) (bare_subcommand (codes "exec")).top) (bare_subcommand (codes "gen")).top
+    (bare_subcommand (codes "pre")).top) (bare_subcommand (codes "check")).top)
+    (bare_subcommand (codes "exec")).top) (bare_subcommand (codes "gen")).top
 
 -- whether a flag was found
 abbrev pub is_set : Text → List Row → Bool

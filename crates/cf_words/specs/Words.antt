@@ -1,7 +1,7 @@
 -- The words of the command line, and the command that they are.
 use Rattle.std.specs.Prelude.{◌≡◌, ⊤, ℕ, List, [], ◌∷◌, Bool, false, not, ◌&&◌, ◌||◌, ◌==◌, if◌then◌else◌, Option, Some, None, option_map, option_and_then, find, filter, codes, decimal, bytes_eq, Result, Ok, Err}
 use Rattle.std.specs.List.{list_all, list_any, range_with_len}
-use Rattle.cf_words.specs.Commands.{Command, compile, run, pre, exec, gen, plain_command}
+use Rattle.cf_words.specs.Commands.{Command, compile, run, pre, check, exec, gen, plain_command}
 use Rattle.cf_words.specs.declared.command.Command as declared
 use Rattle.cf_words.specs.declared.command.Flags.{Flags}
 use Rattle.cf_words.specs.declared.fault.WordsFault.{WordsFault}
@@ -43,6 +43,7 @@ command_for first flags operand =
     else if bytes_eq first (codes "run") then Some (run flags operand)
     else if flags.plain || flags.stats then None
     else if bytes_eq first (codes "pre") then Some (pre operand)
+    else if bytes_eq first (codes "check") then Some (check operand)
     else if bytes_eq first (codes "exec") then Some (exec operand)
     else if bytes_eq first (codes "gen") then option_map gen (size_of operand)
     else None

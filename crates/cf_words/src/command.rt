@@ -9,6 +9,9 @@ pub enum CommandKind {
     Run,
     /// The file holds a source text. The preconditions of its chooses are written.
     Pre,
+    /// The file holds a source text. For each of its chooses is written whether outputs always exist,
+    /// and whether they are the only ones.
+    Check,
     /// The file holds a target text. The input is answered by it.
     Exec,
 }

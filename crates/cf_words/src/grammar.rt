@@ -15,7 +15,8 @@ pub(crate) fn grammar<'a>(alloc: Global) -> Result<Command<'a>, AllocError>
     let compiling = with_flags(alloc, program(alloc), "compile")?;
     let running = with_flags(alloc, compiling, "run")?;
     let telling = without_flags(alloc, running, "pre")?;
-    let executing = without_flags(alloc, telling, "exec")?;
+    let checking = without_flags(alloc, telling, "check")?;
+    let executing = without_flags(alloc, checking, "exec")?;
     without_flags(alloc, executing, "gen")
 }
 

@@ -79,6 +79,8 @@ fn command_for<'a>(first: &str, flags: Flags, operand: &'a str) -> Option<Comman
         None
     } else if first == "pre" {
         Some(on_file(CommandKind::Pre, flags, operand))
+    } else if first == "check" {
+        Some(on_file(CommandKind::Check, flags, operand))
     } else if first == "exec" {
         Some(on_file(CommandKind::Exec, flags, operand))
     } else if first == "gen" {

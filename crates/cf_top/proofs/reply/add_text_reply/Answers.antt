@@ -5,8 +5,7 @@ use Rattle.cf_top.proofs.reply.add_text_reply.Goals as goal
 
 pub returns-in-Ok : goal.returns-in-Ok
 returns-in-Ok c =
-    let same : c.deref.result.now ≡ c.in-Ok.values.items = search rules in
-    reply_if_ok c.args.target.now _ c.args.line.now (plains c.deref.result.now) c.add_meaning.result c.args.text.now.items c.add_meaning.new.text.items c.params.ensures (rw same c.in-Ok.ensures.told.0) c.add_meaning.ensures
+    reply_if_ok c.args.target.now _ c.args.line.now (plains c.in-Ok.values.items) c.add_meaning.result c.args.text.now.items c.add_meaning.new.text.items c.params.ensures c.in-Ok.ensures.told.0 c.add_meaning.ensures
 
 pub returns-in_ok-extend_from_slice-in-Err-BadInput : goal.returns-in_ok-extend_from_slice-in-Err-BadInput
 returns-in_ok-extend_from_slice-in-Err-BadInput c =

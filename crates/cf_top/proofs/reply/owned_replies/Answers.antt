@@ -2,7 +2,7 @@ use Rattle.cf_top.specs.Owed.{by_target}
 use Rattle.std.proofs.Common.{arith, rules, ◌≡◌, get_or, subst}
 use Rattle.cf_top.specs.Steps.{IsLineReply}
 use Rattle.cf_top.proofs.ReplyLemmas.{replies_step}
-use Rattle.cf_top.proofs.reply.replies.Goals as goal
+use Rattle.cf_top.proofs.reply.owned_replies.Goals as goal
 
 pub loop-line-preserved : goal.loop-line-preserved
 loop-line-preserved c =

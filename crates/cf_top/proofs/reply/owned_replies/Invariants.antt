@@ -1,7 +1,7 @@
 use Rattle.std.proofs.Common.{take}
 use Rattle.cf_top.specs.Owed.{by_target}
 use Rattle.cf_top.specs.Steps.{AreLineReplies}
-use Rattle.cf_top.proofs.reply.replies.Given as goal
+use Rattle.cf_top.proofs.reply.owned_replies.Given as goal
 
 abbrev pub invariant-loop-line : goal.invariant-loop-line
 invariant-loop-line l = record {
