@@ -1,0 +1,11 @@
+pub mod MixLaws
+pub mod LastLaws
+pub mod Borrowed
+pub mod ApplyLaws
+pub mod FollowLaws
+pub mod CertifiedArms
+pub mod ApplyExamples
+pub mod CertificateExamples
+pub mod JudgeLaws
+pub mod TraceLaws
+pub mod TraceExamples

@@ -1,0 +1,54 @@
+-- What a certificate promises.
+use Rattle.std.specs.Prelude.{◌≡◌, List, ◌++◌, All, None}
+use Rattle.cf_num.specs.Limit.{IsWithin}
+use Rattle.cf_tree.specs.Allowed.{Chosen}
+use Rattle.cf_tree.specs.Meaning.{means}
+use Rattle.cf_tree.specs.Relation.{IsTyped, IsLinear, Sol}
+use Rattle.cf_tree.specs.Values.{Value, HaveBases}
+use Rattle.cf_cases.specs.Holding.{EachOf}
+use Rattle.cf_choose.specs.Laws.{IsUnrefused}
+use Rattle.cf_choose.specs.Solved.{IsOutput}
+use Rattle.cf_steps.specs.declared.act.Act.{Act}
+use Rattle.cf_steps.specs.declared.act.Act.TheVariants.{Clean, Mix, Last, Search, Drop}
+use Rattle.cf_steps.specs.Blocks.{BlockTree}
+use Rattle.cf_cert.specs.declared.verdict.Verdict.{Verdict}
+use Rattle.cf_cert.specs.Certifying.{QuestionTree, Certifies}
+use Rattle.cf_cert.specs.Judging.{fault_before_code, IsVerdict}
+use Rattle.cf_cert.specs.Tracing.{traced_block}
+
+-- each number of a Mix is within the limit
+abbrev pub IsWithinAct : Act → Type 0
+IsWithinAct Clean = Unit {0}
+IsWithinAct (Mix x y a b c d) = IsWithin a × IsWithin b × IsWithin c × IsWithin d
+IsWithinAct (Last e) = Unit {0}
+IsWithinAct (Search x lower) = Unit {0}
+IsWithinAct (Drop x) = Unit {0}
+
+abbrev pub AreWithinCases : List (List Act) → Type 0
+AreWithinCases cases = EachOf (λ acts. EachOf IsWithinAct acts) cases
+
+-- a typed and linear relation whose outputs are numbers or sets
+pub record IsQuestion (q : QuestionTree) : Type 0 where
+  pub typed : IsTyped (q.scope ++ q.outputs) q.rel
+  pub linear : IsLinear q.rel
+  pub are_outputs : All IsOutput q.outputs
+
+-- in each environment of the scope the block's code means a solution, or that there is none exactly where there is none
+abbrev pub MeansSolutions : QuestionTree → BlockTree → Type 0
+MeansSolutions q b = (env : List Value) → HaveBases q.scope env → Chosen q.number (Sol q.outputs q.rel env) (means b.target.code env)
+
+-- a block that certifies a choose does so
+abbrev pub CertifiedMeans : Type 0
+CertifiedMeans = (q : QuestionTree) (b : BlockTree) → IsQuestion q → AreWithinCases b.cases → Certifies q b → MeansSolutions q b
+
+-- the steps of the traces certify each choose that no limit refuses
+abbrev pub TracedCertifies : Type 0
+TracedCertifies = (q : QuestionTree) → IsUnrefused q.scope q.outputs q.rel → Certifies q (traced_block q)
+
+-- a block that certifies a choose has no fault before its code
+abbrev pub CertifiedWithoutFault : Type 0
+CertifiedWithoutFault = (q : QuestionTree) (b : BlockTree) → Certifies q b → fault_before_code q b ≡ None
+
+-- blocks have one verdict
+abbrev pub OneVerdict : Type 0
+OneVerdict = (qs : List QuestionTree) (bs : List BlockTree) (v w : Verdict) → IsVerdict qs bs v → IsVerdict qs bs w → v ≡ w

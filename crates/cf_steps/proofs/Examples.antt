@@ -1,0 +1,105 @@
+-- Worked examples of steps files: each production, and what is refused beside it.
+use Rattle.std.proofs.Common.{◌≡◌, ℕ, true, false, List, [], ◌∷◌, map, Ok, Err, refl, codes}
+use Rattle.std.specs.Prelude.{pos, negsuc}
+use Rattle.cf_lex.specs.declared.token.Token.{Token}
+use Rattle.cf_tree.specs.declared.base.Base.TheVariants.{Int}
+use Rattle.cf_tree.specs.CodeTree.{code_lit}
+use Rattle.cf_tree.specs.DefView.{TargetTree}
+use Rattle.cf_reader.specs.Readers.{at, pure, refuse, must, bind, first, deep, at_end, more_of, others_of, several_of, one_or_tuple}
+use Rattle.cf_reader.specs.Kinds.{results_of}
+use Rattle.cf_reader.proofs.Sample.{word, sign, literal}
+use Rattle.cf_target.specs.Levels.{last_level, with_digit}
+use Rattle.cf_target.specs.Reading.{step, read}
+use Rattle.cf_target.specs.Targets.{bases_of}
+use Rattle.cf_steps.specs.declared.act.Act.{Act}
+use Rattle.cf_steps.specs.declared.act.Act.TheVariants.{Clean, Mix, Last, Search, Drop}
+use Rattle.cf_steps.specs.Blocks.{BlockTree}
+use Rattle.cf_steps.specs.Spelling.{AreBlocks}
+use Rattle.cf_steps.specs.Reading.{factor_of, mix_of, search_of, act_of, ended_act, acts_of, all_acts, case_of, main_of, part_of, block_of, blocks_of}
+use Rattle.cf_steps.specs.Reading.{all_blocks}
+use Rattle.cf_steps.proofs.Found.{found_law}
+
+-- ---- steps and their tokens
+abbrev spelled : List (Act × List Token)
+spelled =
+    (Clean, word (codes "clean") ∷ []) ∷
+    -- numbers with and without a minus
+    (
+      Mix 2 3 (pos 1) (negsuc 1) (pos 0) (pos 0),
+      word (codes "mix") ∷ literal 2 ∷ literal 3 ∷ literal 1 ∷ sign (codes "-") ∷ literal 2 ∷ literal 0 ∷ sign
+          (codes "-") ∷ literal 0 ∷ [],
+    ) ∷
+    -- columns of 32 bits
+    (Last 0, word (codes "last") ∷ literal 0 ∷ []) ∷
+    (Last 4294967295, word (codes "last") ∷ literal 4294967295 ∷ []) ∷
+    (Search 3 true, word (codes "search") ∷ literal 3 ∷ word (codes "lower") ∷ []) ∷
+    (Search 3 false, word (codes "search") ∷ literal 3 ∷ word (codes "upper") ∷ []) ∷
+    (Drop 7, word (codes "drop") ∷ literal 7 ∷ []) ∷
+    []
+
+spelled-read : map (λ x. act_of x.1) spelled ≡ map (λ x. Ok (x.0, [])) spelled
+unfolding at pure refuse must bind first last_level factor_of mix_of search_of act_of
+spelled-read = refl
+
+-- tokens that spell no step, by how many are left from the fault on
+abbrev refused : List (ℕ × List Token)
+refused =
+    -- no step has this word
+    (2, word (codes "merge") ∷ literal 1 ∷ []) ∷
+    -- a column is no negative number, and has 32 bits
+    (2, word (codes "drop") ∷ sign (codes "-") ∷ literal 1 ∷ []) ∷
+    (1, word (codes "last") ∷ literal 4294967296 ∷ []) ∷
+    -- a search has a side
+    (0, word (codes "search") ∷ literal 3 ∷ []) ∷
+    (1, word (codes "search") ∷ literal 3 ∷ word (codes "left") ∷ []) ∷
+    -- a mix has four numbers
+    (0, word (codes "mix") ∷ literal 2 ∷ literal 3 ∷ literal 1 ∷ literal 0 ∷ literal 0 ∷ []) ∷
+    []
+
+refused-read : map (λ x. act_of x.1) refused ≡ map (λ x. Err x.0) refused
+unfolding at pure refuse must bind first last_level factor_of mix_of search_of act_of
+refused-read = refl
+
+-- ---- blocks
+-- the target `main (): int = 1`
+abbrev one : TargetTree
+one = record { params = []; results = Int ∷ []; code = code_lit (pos 1) }
+
+abbrev one_tokens : List Token → List Token
+one_tokens rest = word (codes "main") ∷ sign (codes "(") ∷ sign (codes ")") ∷ sign (codes ":") ∷ word (codes "int") ∷ sign (codes "=") ∷ literal 1 ∷ rest
+
+-- no case, and two cases of which one has no step; the second target has a header
+abbrev two : List BlockTree
+two = record { number = 0; cases = []; target = one } ∷ record { number = 2; cases = (Clean ∷ Drop 3 ∷ []) ∷ [] ∷ []; target = one } ∷ []
+
+abbrev two_tokens : List Token
+two_tokens =
+    word (codes "choose") ∷ literal 0 ∷ sign (codes "{") ∷ sign (codes "}") ∷ one_tokens (
+    word (codes "choose") ∷ literal 2 ∷ sign (codes "{") ∷
+    word (codes "case") ∷ sign (codes "{") ∷ word (codes "clean") ∷ sign (codes ";") ∷ word (codes "drop") ∷ literal 3 ∷ sign (codes ";") ∷ sign (codes "}") ∷
+    word (codes "case") ∷ sign (codes "{") ∷ sign (codes "}") ∷
+    sign (codes "}") ∷ word (codes "comfusy") ∷ literal 2 ∷ one_tokens [])
+
+two-blocks : AreBlocks two two_tokens
+unfolding at pure refuse must bind first deep at_end more_of others_of several_of one_or_tuple results_of last_level with_digit bases_of step read factor_of mix_of search_of act_of ended_act acts_of all_acts case_of main_of part_of block_of blocks_of all_blocks
+two-blocks = found_law two_tokens two [] refl
+
+no-blocks : AreBlocks [] []
+unfolding at_end blocks_of all_blocks
+no-blocks = found_law [] [] [] refl
+
+-- a fault by how many tokens are left: no semicolon, no target, another word behind a target, a number that is none of 32 bits
+abbrev broken : List (ℕ × List Token)
+broken = (
+  2,
+  word (codes "choose") ∷ literal 1 ∷ sign (codes "{") ∷ word (codes "case") ∷ sign (codes "{") ∷ word (codes "clean") ∷ sign (codes "}") ∷ sign
+      (codes "}") ∷ [],
+) ∷
+    (0, word (codes "choose") ∷ literal 1 ∷ sign (codes "{") ∷ sign (codes "}") ∷ []) ∷
+    (1, word (codes "choose") ∷ literal 1 ∷ sign (codes "{") ∷ sign (codes "}") ∷ one_tokens (word (codes "case") ∷ [])) ∷
+    (3, word (codes "choose") ∷ literal 4294967296 ∷ sign (codes "{") ∷ sign (codes "}") ∷ []) ∷
+    []
+
+broken-read : map (λ x. all_blocks 500 x.1) broken ≡ map (λ x. Err x.0) broken
+unfolding at pure refuse must bind first deep at_end more_of others_of several_of one_or_tuple results_of last_level with_digit bases_of step read factor_of mix_of search_of act_of ended_act acts_of all_acts case_of main_of part_of block_of blocks_of all_blocks
+broken-read = refl

@@ -1,0 +1,4 @@
+pub mod Borrowed
+pub mod Found
+pub mod Only
+pub mod Examples

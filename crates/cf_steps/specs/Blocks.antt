@@ -1,0 +1,18 @@
+-- The plain forms of blocks.
+use Rattle.std.specs.Prelude.{ℕ, List, map}
+use Rattle.cf_tree.specs.DefView.{TargetTree, target_tree}
+use Rattle.cf_steps.specs.declared.act.Act.{Act}
+use Rattle.cf_steps.specs.declared.block.Block.{Block}
+use Rattle.cf_steps.specs.declared.block.Blocks.{Blocks}
+
+-- a choose's number, the steps of its cases, and a target
+pub record BlockTree : Type 0 where
+  pub number : ℕ
+  pub cases : List (List Act)
+  pub target : TargetTree
+
+abbrev pub block_tree : Block → BlockTree
+block_tree b = record { number = b.number; cases = map (λ c. c.items) b.cases.items; target = target_tree b.target }
+
+abbrev pub block_trees : Blocks → List BlockTree
+block_trees bs = map block_tree bs.list.items

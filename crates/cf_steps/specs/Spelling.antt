@@ -1,0 +1,63 @@
+-- Which tokens spell the blocks of a steps file.
+use Rattle.std.specs.Prelude.{◌≡◌, ◌≤◌, ◌<◌, ◌^◌, ◌⊎◌, ℕ, ℤ, pos, neg_ℤ, Bool, true, false, List, [], ◌∷◌, codes}
+use Rattle.cf_lex.specs.declared.token.Token.{Token}
+use Rattle.cf_lex.specs.declared.token.TokenKind.{TokenKind}
+use Rattle.cf_lex.specs.declared.token.TokenKind.TheVariants.{Literal, Word, Sign}
+use Rattle.cf_tree.specs.CodeTree.{code_depth}
+use Rattle.cf_tree.specs.DefView.{TargetTree}
+use Rattle.cf_reader.specs.Tokens.{Form, ◌⨟◌, If, Next, NextLiteral, Others}
+use Rattle.cf_target.specs.Spelling.{SpellsHeader, SpellsMain}
+use Rattle.cf_steps.specs.declared.act.Act.{Act}
+use Rattle.cf_steps.specs.declared.act.Act.TheVariants.{Clean, Mix, Last, Search, Drop}
+use Rattle.cf_steps.specs.Blocks.{BlockTree}
+
+-- a literal below 2 ^ 32
+abbrev pub SpellsColumn : ℕ → Form
+SpellsColumn n = If (n < 2 ^ 32) (Next (Literal (pos n)))
+
+-- literal | "-" literal
+abbrev pub SpellsFactor : ℤ → Form
+SpellsFactor k ts rest = NextLiteral (pos 0) k ts rest ⊎ ((n : ℤ) × (Next (Sign (codes "-")) ⨟ NextLiteral (pos 0) n) ts rest × (k ≡ neg_ℤ n))
+
+abbrev pub side_kind : Bool → TokenKind
+side_kind true = Word (codes "lower")
+side_kind false = Word (codes "upper")
+
+-- step = "clean" | "mix" column column number number number number | "last" column | "search" column ("lower" | "upper") | "drop" column
+abbrev pub SpellsAct : Act → Form
+SpellsAct Clean = Next (Word (codes "clean"))
+SpellsAct (Mix x y a b c d) = Next (Word (codes "mix")) ⨟ SpellsColumn x ⨟ SpellsColumn y ⨟ SpellsFactor a ⨟ SpellsFactor b ⨟ SpellsFactor c ⨟ SpellsFactor d
+SpellsAct (Last e) = Next (Word (codes "last")) ⨟ SpellsColumn e
+SpellsAct (Search x lower) = Next (Word (codes "search")) ⨟ SpellsColumn x ⨟ Next (side_kind lower)
+SpellsAct (Drop x) = Next (Word (codes "drop")) ⨟ SpellsColumn x
+
+-- { step ";" } "}"
+abbrev pub SpellsActs : List Act → Form
+SpellsActs [] = Next (Sign (codes "}"))
+SpellsActs (act ∷ acts) = SpellsAct act ⨟ Next (Sign (codes ";")) ⨟ SpellsActs acts
+
+-- "{" { step ";" } "}"
+abbrev pub SpellsCase : List Act → Form
+SpellsCase acts = Next (Sign (codes "{")) ⨟ SpellsActs acts
+
+-- { "case" case } "}"
+abbrev pub SpellsCases : List (List Act) → Form
+SpellsCases cases = Others SpellsCase (Word (codes "case")) (Sign (codes "}")) cases
+
+-- a target whose code has at most this depth, up to a rest
+abbrev pub SpellsPart : ℕ → TargetTree → Form
+SpellsPart limit t = If (code_depth t.code ≤ limit) (SpellsHeader ⨟ SpellsMain t)
+
+-- "choose" literal "{" { case } "}" target
+abbrev pub SpellsBlock : ℕ → BlockTree → Form
+SpellsBlock limit b =
+    Next (Word (codes "choose")) ⨟ SpellsColumn b.number ⨟ Next (Sign (codes "{")) ⨟ SpellsCases b.cases ⨟ SpellsPart limit b.target
+
+-- the blocks one after the other, up to the end
+abbrev pub SpellsBlocks : ℕ → List BlockTree → List Token → Type 0
+SpellsBlocks limit [] ts = ts ≡ []
+SpellsBlocks limit (b ∷ bs) ts = (mid : List Token) × SpellsBlock limit b ts mid × SpellsBlocks limit bs mid
+
+-- the tokens spell the blocks, and the depth of each target's code is within the limit
+abbrev pub AreBlocks : List BlockTree → List Token → Type 0
+AreBlocks bs ts = SpellsBlocks 500 bs ts
