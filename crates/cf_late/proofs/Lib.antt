@@ -1,0 +1,5 @@
+pub mod KnownLaws
+pub mod ChooseLaws
+mod KnownExamples
+mod RunExamples
+mod TextExamples

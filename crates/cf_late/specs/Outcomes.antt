@@ -1,0 +1,46 @@
+-- What the program's outcomes of a late program stand for, and their texts.
+use Rattle.std.specs.Prelude.{ℕ, List, [], ◌∷◌, codes, decimal}
+use Rattle.std.specs.List.{concat}
+use Rattle.cf_tree.specs.Values.{values, no_solution}
+use Rattle.cf_linear.specs.declared.refusal.LimitKind.{LimitKind}
+use Rattle.cf_linear.specs.declared.refusal.LimitKind.TheVariants as kind
+use Rattle.cf_linear.specs.declared.refusal.Refusal.{Refusal}
+use Rattle.cf_linear.specs.declared.refusal.Refusal.TheVariants as refusal
+use Rattle.cf_eval.specs.Seen.{plains}
+use Rattle.cf_eval.specs.Texts.{outcome_text}
+use Rattle.cf_late.specs.declared.outcome.LateOutcome.{LateOutcome}
+use Rattle.cf_late.specs.declared.outcome.LateOutcome.TheVariants as outcome
+use Rattle.cf_late.specs.Fitting.{AreFit}
+use Rattle.cf_late.specs.LateRun.{Late, comes_to, overflow, refused}
+
+abbrev pub late_of : LateOutcome → Late
+late_of (outcome.Values vs) = comes_to (values (plains vs.items))
+late_of (outcome.NoSolution n) = comes_to (no_solution n)
+late_of outcome.Overflow = overflow
+late_of (outcome.Refused n r) = refused n r
+
+-- values within the limit, where there are some
+abbrev pub IsFitOutcome : LateOutcome → Type 0
+IsFitOutcome (outcome.Values vs) = AreFit (plains vs.items)
+IsFitOutcome (outcome.NoSolution n) = Unit {0}
+IsFitOutcome outcome.Overflow = Unit {0}
+IsFitOutcome (outcome.Refused n r) = Unit {0}
+
+-- ---- texts
+abbrev pub kind_text : LimitKind → List ℕ
+kind_text kind.Sets = codes "Sets"
+kind_text kind.Cases = codes "Cases"
+kind_text kind.Rows = codes "Rows"
+kind_text kind.Columns = codes "Columns"
+kind_text kind.Search = codes "Search"
+
+-- the refusal of a choose, without a line feed
+abbrev pub refusal_text : ℕ → Refusal → List ℕ
+refusal_text n refusal.Past = concat (codes "choose " ∷ decimal n ∷ codes ": coefficient past 128 bits" ∷ [])
+refusal_text n (refusal.Limit kind number) = concat (codes "choose " ∷ decimal n ∷ codes ": " ∷ kind_text kind ∷ codes " " ∷ decimal number ∷ [])
+
+-- the reply to a line
+abbrev pub late_text : Late → List ℕ
+late_text (comes_to o) = outcome_text o
+late_text overflow = codes "overflow"
+late_text (refused n r) = refusal_text n r

@@ -1,0 +1,22 @@
+//! Chooses whose coefficients are inputs: each is eliminated where it is entered, on the numbers of its environment.
+#![tactic(auto)]
+
+mod at;
+pub mod choose;
+pub mod outcome;
+pub mod reply;
+
+ghost use Rattle.cf_late.specs.Laws.{KnowingKeepsSolutions, KnowingKeepsTypes, KnowingIsLinear, LateChoosesAreAllowed};
+
+/// A relation with the literals of the numbers in scope has the same solutions there; it is typed
+/// where the relation is, and linear where the relation is once its scope is known.
+pub fn knowing_keeps_facts()
+    ensures solutions { KnowingKeepsSolutions }
+    ensures types { KnowingKeepsTypes }
+    ensures linear { KnowingIsLinear }
+{}
+
+/// An outcome that a choose comes to is one that its relation allows.
+pub fn late_chooses_are_allowed()
+    ensures { LateChoosesAreAllowed }
+{}
