@@ -1,0 +1,15 @@
+# Completions of comfusy for bash.
+_comfusy() {
+  local word=${COMP_WORDS[COMP_CWORD]} command=${COMP_WORDS[1]} kind=cf
+  COMPREPLY=()
+  if [ "$COMP_CWORD" = 1 ]; then
+    mapfile -t COMPREPLY < <(compgen -W 'compile pre check run exec gen' -- "$word")
+  elif [[ $word == -* ]]; then
+    if [[ $command == compile || $command == run ]]; then mapfile -t COMPREPLY < <(compgen -W '--plain --stats' -- "$word"); fi
+  elif [ "$command" != gen ]; then
+    [ "$command" != exec ] || kind=target
+    mapfile -t COMPREPLY < <(compgen -f -X "!*.$kind" -- "$word"; compgen -d -- "$word")
+    compopt -o filenames 2>/dev/null
+  fi
+}
+complete -F _comfusy comfusy

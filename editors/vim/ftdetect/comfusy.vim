@@ -1,0 +1,1 @@
+autocmd BufNewFile,BufRead *.cf,*.target setfiletype comfusy
