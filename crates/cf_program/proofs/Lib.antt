@@ -1,5 +1,6 @@
 mod BaseLaws
 pub mod Kept
+mod LateExamples
 mod LoweredExamples
 mod NameLaws
 pub mod ProgramLaws

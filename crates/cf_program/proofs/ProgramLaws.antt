@@ -12,20 +12,23 @@ use Rattle.cf_tree.specs.DefView.{RawDefTree, DefTree}
 use Rattle.cf_tree.specs.RelSize.{capped}
 use Rattle.cf_program.specs.declared.fault.TypeFault.{TypeFault}
 use Rattle.cf_program.specs.declared.fault.TypeFault.TheVariants.{Weight, Depth}
-use Rattle.cf_program.specs.Checked.{TypedTree, def_form, walk_def, walk_defs, main_from, size_fault, sized, checked}
+use Rattle.cf_program.specs.declared.linearity.Linearity.{Linearity}
+use Rattle.cf_program.specs.declared.linearity.Linearity.TheVariants.{Plain}
+use Rattle.cf_program.specs.Checked.{TypedTree, def_form, walk_def, walk_defs, main_from, size_fault, sized, checked_by, checked}
 use Rattle.cf_program.specs.DistinctNames.{AreDistinct, IsDistinctlyNamed}
 use Rattle.cf_program.specs.Laws.{RulesKeepTypes, RulesKeepNames}
+use Rattle.cf_program.specs.LateLinear.{IsLinearBy}
 use Rattle.cf_program.specs.Names.{bases_of, names_of, Callee, callee, callee_from, is_among, repeated}
 use Rattle.cf_tree.specs.Bases.{same_bases}
 use Rattle.cf_program.specs.Size.{weights, depths}
 use Rattle.cf_program.specs.Source.{IsSpelledDef, IsSpelledProgram}
-use Rattle.cf_program.specs.TypedProgram.{ExprHasBases, numbers, all_numbers, Takes, AreTypedDefs, IsTypedProgram}
-use Rattle.cf_program.specs.Walk.{Form, walk}
+use Rattle.cf_program.specs.TypedProgram.{numbers, all_numbers, Takes, AreTypedDefsBy, IsProgramBy}
+use Rattle.cf_program.specs.Walk.{Form, Context, in_body, walk}
 use Rattle.cf_tree.proofs.BaseLemmas.{same_bases_is}
 use Rattle.cf_program.proofs.Kept.{WhenOk, when_ok, when_err, when_bind, when_kept, when_no_fault, when_none_repeated, when_is, when_any, when_both}
 use Rattle.cf_program.proofs.NameLaws.{defs_named, program_named}
 use Rattle.cf_program.proofs.Rising.{Rising, rising_le, rising_append, rising_distinct, rising_above}
-use Rattle.cf_program.proofs.WalkLaws.{Knows, Good, walk_good}
+use Rattle.cf_program.proofs.WalkLaws.{ExprHas, Knows, Good, walk_good}
 
 -- functions with levels that stand for these functions, as far as calls see them
 abbrev pub Mirrors : List RawDefTree → List DefTree → Type 0
@@ -155,22 +158,27 @@ knows_earlier before rest done m x c e earlier =
     let R : List Base → Type 0 = λ rs. Takes (reverse done) c.number c.params rs in
     subst R results (subst Q params (subst P number t))
 
-pub record GoodDefs (before : List RawDefTree) (done : List DefTree) (n : ℕ) : Type 0 where
+pub record GoodDefs (how : Linearity) (before : List RawDefTree) (done : List DefTree) (n : ℕ) : Type 0 where
   pub mirrors : Mirrors before done
-  pub typed : AreTypedDefs (reverse done)
+  pub typed : AreTypedDefsBy (IsLinearBy how) (reverse done)
   pub rising : Rising 1 (all_numbers done) n
 
-abbrev pub GoodStep : List RawDefTree → List DefTree → RawDefTree → DefTree × ℕ → Type 0
-GoodStep before done d r = GoodDefs (before ++ d ∷ []) (done ++ r.0 ∷ []) r.1
+abbrev pub GoodStep : Linearity → List RawDefTree → List DefTree → RawDefTree → DefTree × ℕ → Type 0
+GoodStep how before done d r = GoodDefs how (before ++ d ∷ []) (done ++ r.0 ∷ []) r.1
 
 all_numbers_push : (ds : List DefTree) (d : DefTree) → all_numbers (ds ++ d ∷ []) ≡ all_numbers ds ++ numbers d.body
 all_numbers_push [] d = append-nil (numbers d.body)
 all_numbers_push (c ∷ ds) d = ap (λ ks. numbers c.body ++ ks) (all_numbers_push ds d) ∙ sym (append_assoc (numbers c.body) (all_numbers ds) (numbers d.body))
 
-def_good : (before : List RawDefTree) (done : List DefTree) (n : ℕ) (d : RawDefTree) (f : Form) → IsSpelledDef d → GoodDefs before done n → Good (Takes
-    (reverse done)) (bases_of d.params) n f → f.bases ≡ d.results → GoodStep before done d (def_form d f, f.next)
-def_good before done n d f s g h e =
-    let P : List Base → Type 0 = λ bs. ExprHasBases (Takes (reverse done)) f.tree (bases_of d.params) bs in
+-- where the body of a function stands that can call those before it in a program
+abbrev pub body_of : Linearity → List RawDefTree → List RawDefTree → Context
+body_of how before all = in_body how (callee_from (length before) 0 all)
+
+def_good : (how : Linearity) (before all : List RawDefTree) (done : List DefTree) (n : ℕ) (d : RawDefTree) (f : Form) → IsSpelledDef d →
+    GoodDefs how before done n → Good (body_of how before all) (Takes (reverse done)) (bases_of d.params) n f → f.bases ≡ d.results →
+    GoodStep how before done d (def_form d f, f.next)
+def_good how before all done n d f s g h e =
+    let P : List Base → Type 0 = λ bs. ExprHas (body_of how before all) (Takes (reverse done)) f.tree (bases_of d.params) bs in
     record {
       mirrors = mirrors_push before done d f g.mirrors;
       typed = rw (reverse-append done (def_form d f ∷ [])) ((s.0, subst P e h.typed), g.typed);
@@ -179,29 +187,29 @@ def_good before done n d f s g h e =
           (rising_append 1 (all_numbers done) n (numbers f.tree) f.next g.rising h.rising);
     }
 
-walk_def_good : (before rest : List RawDefTree) (done : List DefTree) (n : ℕ) (d : RawDefTree) → IsSpelledDef d → GoodDefs before done n → WhenOk
-    (GoodStep before done d) (walk_def (before ++ rest) before n d)
-walk_def_good before rest done n d s g =
+walk_def_good : (how : Linearity) (before rest : List RawDefTree) (done : List DefTree) (n : ℕ) (d : RawDefTree) → IsSpelledDef d →
+    GoodDefs how before done n → WhenOk (GoodStep how before done d) (walk_def how (before ++ rest) before n d)
+walk_def_good how before rest done n d s g =
+    let body : Context = body_of how before (before ++ rest) in
     when_kept (not (is_among (map (λ e. e.name) before) d.name)) _ _ (λ _.
     when_none_repeated (repeated [] (names_of d.params) (map (λ p. p.place) d.params)) _ (
-    when_bind (walk (callee_from (length before) 0 (before ++ rest)) d.params n d.body) _
-    (walk_good (callee_from (length before) 0 (before ++ rest)) (Takes (reverse done)) (knows_earlier before rest done g.mirrors) d.params n (rising_le 1
-    (all_numbers done) n g.rising) d.body s.1)
+    when_bind (walk body d.params n d.body) _
+    (walk_good body (Takes (reverse done)) (knows_earlier before rest done g.mirrors) d.params n (rising_le 1 (all_numbers done) n g.rising) d.body s.1)
     (λ f h.
     when_kept (same_bases f.bases d.results) _ _ (λ e.
-    when_ok (def_form d f, f.next) (def_good before done n d f s g h (same_bases_is f.bases d.results e))))))
+    when_ok (def_form d f, f.next) (def_good how before (before ++ rest) done n d f s g h (same_bases_is f.bases d.results e))))))
 
-abbrev pub GoodAll : List RawDefTree → List DefTree → Type 0
-GoodAll all done = (n : ℕ) × GoodDefs all done n
+abbrev pub GoodAll : Linearity → List RawDefTree → List DefTree → Type 0
+GoodAll how all done = (n : ℕ) × GoodDefs how all done n
 
-walk_defs_good : (before rest : List RawDefTree) (done : List DefTree) (n : ℕ) → All IsSpelledDef rest → GoodDefs before done n → WhenOk (GoodAll
-    (before ++ rest)) (walk_defs (before ++ rest) before done n rest)
-walk_defs_good before [] done n s g = when_ok done (n, rw (append-nil before) g)
-walk_defs_good before (d ∷ ds) done n s g =
-    when_bind (walk_def (before ++ d ∷ ds) before n d) _ (walk_def_good before (d ∷ ds) done n d (All-head IsSpelledDef d ds s) g) (λ r h.
+walk_defs_good : (how : Linearity) (before rest : List RawDefTree) (done : List DefTree) (n : ℕ) → All IsSpelledDef rest → GoodDefs how before done n → WhenOk
+    (GoodAll how (before ++ rest)) (walk_defs how (before ++ rest) before done n rest)
+walk_defs_good how before [] done n s g = when_ok done (n, rw (append-nil before) g)
+walk_defs_good how before (d ∷ ds) done n s g =
+    when_bind (walk_def how (before ++ d ∷ ds) before n d) _ (walk_def_good how before (d ∷ ds) done n d (All-head IsSpelledDef d ds s) g) (λ r h.
     let same : before ++ d ∷ [] ++ ds ≡ before ++ d ∷ ds = append_assoc before (d ∷ []) ds in
-    let P : List RawDefTree → Type 0 = λ all. WhenOk (GoodAll all) (walk_defs all (before ++ d ∷ []) (done ++ r.0 ∷ []) r.1 ds) in
-    subst P same (walk_defs_good (before ++ d ∷ []) ds (done ++ r.0 ∷ []) r.1 (All-tail IsSpelledDef d ds s) h))
+    let P : List RawDefTree → Type 0 = λ all. WhenOk (GoodAll how all) (walk_defs how all (before ++ d ∷ []) (done ++ r.0 ∷ []) r.1 ds) in
+    subst P same (walk_defs_good how (before ++ d ∷ []) ds (done ++ r.0 ∷ []) r.1 (All-tail IsSpelledDef d ds s) h))
 
 abbrev pub IsMain : List RawDefTree → ℕ → ℕ → Type 0
 IsMain ds i m = (k : ℕ) × (d : RawDefTree) × (m ≡ i + k) × (slice_get ds k ≡ Some d) × (d.name ≡ codes "main")
@@ -226,13 +234,14 @@ sizes_kept limit fault (n ∷ ns) e = by (nat_le n limit) refl (sizes_kept limit
     by true q rest h = All-cons (λ m. m ≤ limit) n ns (grind (arith, nat_tests)) (rest h)
     by false q rest h = cc
 
-abbrev pub IsTypedTree : TypedTree → Type 0
-IsTypedTree t = IsTypedProgram t.defs t.main
+-- the tree of a program in which no rule is broken
+abbrev pub IsProgramTree : Linearity → TypedTree → Type 0
+IsProgramTree how t = IsProgramBy (IsLinearBy how) t.defs t.main
 
-sized_good : (ds : List RawDefTree) (defs : List DefTree) (o : Option ℕ) → main_from 0 ds ≡ o → GoodAll ds defs → IsDistinctlyNamed ds → WhenOk IsTypedTree
-    (sized defs o)
-sized_good ds defs None e g named = when_err _
-sized_good ds defs (Some m) e g named =
+sized_good : (how : Linearity) (ds : List RawDefTree) (defs : List DefTree) (o : Option ℕ) → main_from 0 ds ≡ o → GoodAll how ds defs →
+    IsDistinctlyNamed ds → WhenOk (IsProgramTree how) (sized defs o)
+sized_good how ds defs None e g named = when_err _
+sized_good how ds defs (Some m) e g named =
     when_no_fault (size_fault 1000000 Weight (weights defs)) _ (λ light.
     when_no_fault (size_fault 200 Depth (depths defs)) _ (λ shallow.
     let f : IsMain ds 0 m = main_found 0 ds m e in
@@ -251,29 +260,30 @@ sized_good ds defs (Some m) e g named =
       shallow = sizes_kept 200 Depth (depths defs) shallow;
     })))
 
--- the facts of a program in which no rule is broken
-pub checked_typed : (ds : List RawDefTree) → IsSpelledProgram ds → WhenOk IsTypedTree (checked ds)
-checked_typed ds s =
-    when_bind (walk_defs ds [] [] 1 ds) _
-    (when_both (walk_defs ds [] [] 1 ds) (walk_defs_good [] ds [] 1 s (record { mirrors = tt; typed = tt; rising = omega arith })) (defs_named ds [] [] 1 ds s))
-    (λ defs g. sized_good ds defs (main_from 0 ds) refl g.0 (program_named ds g.1))
+module _ (how : Linearity) (ds : List RawDefTree) (s : IsSpelledProgram ds) where
+  -- the facts of a program in which no rule is broken
+  pub checked_good : WhenOk (IsProgramTree how) (checked_by how ds)
+  checked_good =
+      when_bind (walk_defs how ds [] [] 1 ds) _
+      (when_both (walk_defs how ds [] [] 1 ds) (walk_defs_good how [] ds [] 1 s (record { mirrors = tt; typed = tt; rising = omega arith }))
+      (defs_named how ds [] [] 1 ds s))
+      (λ defs g. sized_good how ds defs (main_from 0 ds) refl g.0 (program_named ds g.1))
+
+  pub is_named : (defs : List DefTree) → walk_defs how ds [] [] 1 ds ≡ Ok defs → IsDistinctlyNamed ds
+  is_named defs w = program_named ds (when_is (walk_defs how ds [] [] 1 ds) defs (defs_named how ds [] [] 1 ds s) w)
+
+  pub is_program : (defs : List DefTree) (m : ℕ) → walk_defs how ds [] [] 1 ds ≡ Ok defs → main_from 0 ds ≡ Some m →
+      size_fault 1000000 Weight (weights defs) ≡ None → size_fault 200 Depth (depths defs) ≡ None → IsProgramBy (IsLinearBy how) defs m
+  is_program defs m w e light shallow = when_is (checked_by how ds) (record { defs = defs; main = m }) checked_good (rw (w, e, light, shallow) refl)
 
 pub rules_keep_types : RulesKeepTypes
-rules_keep_types source t s e = when_is (checked source) t (checked_typed source s) e
+rules_keep_types how source t s e = when_is (checked_by how source) t (checked_good how source s) e
 
 pub rules_keep_names : RulesKeepNames
-rules_keep_names source t s e =
-    when_is (checked source) t (when_bind (walk_defs source [] [] 1 source) _ (defs_named source [] [] 1 source s) (λ defs h. when_any _
+rules_keep_names how source t s e =
+    when_is (checked_by how source) t (when_bind (walk_defs how source [] [] 1 source) _ (defs_named how source [] [] 1 source s) (λ defs h. when_any _
     (program_named source h))) e
 
-pub is_named : (ds : List RawDefTree) (defs : List DefTree) → IsSpelledProgram ds → walk_defs ds [] [] 1 ds ≡ Ok defs → IsDistinctlyNamed ds
-is_named ds defs s w = program_named ds (when_is (walk_defs ds [] [] 1 ds) defs (defs_named ds [] [] 1 ds s) w)
-
-pub checked_is : (ds : List RawDefTree) (defs : List DefTree)
-    (m : ℕ) → walk_defs ds [] [] 1 ds ≡ Ok defs → main_from 0 ds ≡ Some m → size_fault 1000000 Weight (weights defs) ≡ None → size_fault 200 Depth
-    (depths defs) ≡ None → checked ds ≡ Ok (record { defs = defs; main = m })
-checked_is ds defs m w e light shallow = rw (w, e, light, shallow) refl
-
-pub is_typed : (ds : List RawDefTree) (defs : List DefTree) (m : ℕ) → IsSpelledProgram ds → walk_defs ds [] [] 1 ds ≡ Ok defs → main_from 0 ds ≡ Some m →
-    size_fault 1000000 Weight (weights defs) ≡ None → size_fault 200 Depth (depths defs) ≡ None → IsTypedProgram defs m
-is_typed ds defs m s w e light shallow = when_is (checked ds) _ (checked_typed ds s) (checked_is ds defs m w e light shallow)
+-- the facts of a program in which no plain rule is broken
+pub checked_typed : (ds : List RawDefTree) → IsSpelledProgram ds → WhenOk (IsProgramTree Plain) (checked ds)
+checked_typed ds s = checked_good Plain ds s

@@ -20,19 +20,19 @@ use Rattle.cf_program.specs.Reading.{relation, term, set, not_linear, on_relatio
 use Rattle.cf_program.specs.Walk.{linear}
 
 -- a place in the first line, and in another
-abbrev at : ℕ → Place
+abbrev pub at : ℕ → Place
 at column = record { line = 1; column = column }
 
-abbrev on : ℕ → ℕ → Place
+abbrev pub on : ℕ → ℕ → Place
 on line column = record { line = line; column = column }
 
-abbrev param : Place → List ℕ → Base → Param
+abbrev pub param : Place → List ℕ → Base → Param
 param p x b = record { place = p; name = x; base = b }
 
-abbrev part : Place → ℤ → List ℕ → Part
+abbrev pub part : Place → ℤ → List ℕ → Part
 part p f x = record { place = p; factor = f; name = x }
 
-abbrev def : Place → List ℕ → List Param → List Base → RawTree → RawDefTree
+abbrev pub def : Place → List ℕ → List Param → List Base → RawTree → RawDefTree
 def p x ps bs body = record { place = p; name = x; params = ps; results = bs; body = body }
 
 abbrev typed : List ℕ → List Param → List Base → ExprTree → DefTree
@@ -861,7 +861,8 @@ at_least_of_others = refl
 no_relations : (linear (at 5) (term (term_var 0)) ≡ Err (NotLinear (at 5))) × (linear (at 5) (set empty_set) ≡ Err (NotLinear (at 5)))
 no_relations = (refl, refl)
 
-no_readings : (on_relation (λ r. relation r) (at 5) (term (term_var 0)) ≡ not_linear (at 5)) × (on_relation (λ r. relation r) (at 5) (set empty_set) ≡ not_linear (at 5))
+no_readings : (on_relation (λ r. relation r) (at 5) (term (term_var 0)) ≡ not_linear (at 5)) ×
+    (on_relation (λ r. relation r) (at 5) (set empty_set) ≡ not_linear (at 5))
     × (on_term (λ t. term t) (at 5) (relation rel_true) ≡ not_linear (at 5)) × (on_term (λ t. term t) (at 5) (set empty_set) ≡ not_linear (at 5))
     × (on_set (λ s. set s) (at 5) (relation rel_true) ≡ not_linear (at 5)) × (on_set (λ s. set s) (at 5) (term (term_var 0)) ≡ not_linear (at 5))
 no_readings = (refl, refl, refl, refl, refl, refl)

@@ -11,22 +11,23 @@ use Rattle.cf_tree.specs.declared.base.Place.{Place}
 use Rattle.cf_tree.specs.declared.raw.BinOp.{BinOp}
 use Rattle.cf_tree.specs.declared.raw.Param.{Param}
 use Rattle.cf_tree.specs.declared.raw.Part.{Part}
-use Rattle.cf_tree.specs.ExprTree.{ExprTree, exprs_of, MatchArmTree, match_arm, match_arms_of, expr_neg, expr_not, expr_abs, expr_divides, expr_div, expr_mod, expr_card, expr_choose}
+use Rattle.cf_tree.specs.ExprTree.{ExprTree, ExprTrees, exprs_of, MatchArmTree, MatchArmTrees, match_arm, match_arms_of, expr_neg, expr_not, expr_abs, expr_divides, expr_div, expr_mod, expr_card, expr_choose}
 use Rattle.cf_tree.specs.RawTree.{RawTree, raw_lit, raw_truth, raw_name, raw_set_of, raw_group, raw_tuple, raw_neg, raw_not, raw_abs, raw_binary, raw_divides, raw_div, raw_mod, raw_card, raw_call, raw_if, raw_let, raw_choose, raw_match, RawTrees, no_raws, raw_more, raw_arm, RawArmTrees, no_raw_arms, raw_arm_more}
 use Rattle.cf_program.specs.declared.variable.Variable.{Variable}
+use Rattle.cf_program.specs.LateLinear.{IsLinearBy, known_in}
 use Rattle.cf_program.specs.Names.{bases_of, variable_of, Callee}
 use Rattle.cf_tree.specs.Bases.{same_bases}
 use Rattle.cf_tree.specs.Relation.{IsTyped}
 use Rattle.cf_tree.specs.RelTree.{term_neg, term_abs, term_div, term_mod, term_card, rel_not, rel_divides}
-use Rattle.cf_program.specs.Reading.{Reading, relation, term, set, not_linear, on_relation, on_term, on_set}
+use Rattle.cf_program.specs.Reading.{Reading, relation, term, set, not_linear, first_nonlinear, on_relation, on_term, on_set}
 use Rattle.cf_program.specs.Source.{IsSpelledRaw, AreSpelledRaws, AreSpelledArms}
-use Rattle.cf_program.specs.TypedProgram.{AreSides, IsArmNumber, HasArms, ExprHasBases, AllHave, PartsHave, ArmsHave, arm_numbers, numbers, numbers_all, numbers_arms}
-use Rattle.cf_program.specs.Walk.{Form, Forms, no_forms, with_form, Arms, no_arms, with_arm, is_one, all_are, all_are_single, are_asked, all_have, all_same, joined, first_of, side_of, sides_fit, variable_form, unary_form, binary_form, set_reading, set_form, tuple_form, call_form, if_form, bound, let_form, output_fault, linear, form, ◌>>=◌, choose_form, matched, variables_of, arm_number, after_arm, match_form, walk, walk_all, walk_arms}
+use Rattle.cf_program.specs.TypedProgram.{AreSides, IsArmNumber, HasArms, ExprHasBasesBy, AllHaveBy, PartsHaveBy, ArmsHaveBy, arm_numbers, numbers, numbers_all, numbers_arms}
+use Rattle.cf_program.specs.Walk.{Form, Forms, no_forms, with_form, Arms, no_arms, with_arm, is_one, all_are, all_are_single, are_asked, all_have, all_same, joined, first_of, side_of, sides_fit, variable_form, unary_form, binary_form, set_reading, set_form, tuple_form, call_form, if_form, bound, let_form, output_fault, linear, form, ◌>>=◌, choose_form, matched, variables_of, arm_number, after_arm, match_form, Context, in_relation, walk, walk_all, walk_arms}
 use Rattle.cf_tree.specs.Typing.{one}
 use Rattle.cf_program.proofs.BaseLaws.{single_is, variable_found, bound_bases, variables_bases, outputs_are}
 use Rattle.cf_tree.proofs.BaseLemmas.{same_bases_is, both}
 use Rattle.cf_program.proofs.Kept.{WhenOk, when_ok, when_err, when_bind, when_kept, when_no_fault, when_none_repeated}
-use Rattle.cf_program.proofs.ReadsLaws.{IsReadingOver, bent_at_reads, on_relation_reads, on_term_reads, on_set_reads, truth_reads, variable_reads, binary_reads}
+use Rattle.cf_program.proofs.ReadsLaws.{linear_behind, IsReadingOver, bent_at_reads, on_relation_reads, on_term_reads, on_set_reads, truth_reads, variable_reads, binary_reads}
 use Rattle.cf_program.proofs.Rising.{Rising, rising_le, rising_append}
 
 abbrev pub Takes_ : Type 1
@@ -36,174 +37,201 @@ Takes_ = ℕ → List Base → List Base → Type 0
 abbrev pub Knows : (List ℕ → Option Callee) → Takes_ → Type 0
 Knows calls takes = (x : List ℕ) (c : Callee) → calls x ≡ Some c → c.is_earlier ≡ true → takes c.number c.params c.results
 
-pub record Good (takes : Takes_) (scope : List Base) (n : ℕ) (f : Form) : Type 0 where
-  pub typed : ExprHasBases takes f.tree scope f.bases
-  pub reads : IsReadingOver scope f.bases f.reading
+-- expressions have bases, where relations are linear as the context asks
+abbrev pub ExprHas : Context → Takes_ → ExprTree → List Base → List Base → Type 0
+ExprHas context takes e scope bs = ExprHasBasesBy (IsLinearBy context.how) takes e scope bs
+
+abbrev pub AllHas : Context → Takes_ → ExprTrees → List Base → Base → Type 0
+AllHas context takes es scope b = AllHaveBy (IsLinearBy context.how) takes es scope b
+
+abbrev pub PartsHas : Context → Takes_ → ExprTrees → List Base → List Base → Type 0
+PartsHas context takes es scope bs = PartsHaveBy (IsLinearBy context.how) takes es scope bs
+
+abbrev pub ArmsHas : Context → Takes_ → MatchArmTrees → List Base → List Base → Type 0
+ArmsHas context takes arms scope bs = ArmsHaveBy (IsLinearBy context.how) takes arms scope bs
+
+pub record Good (context : Context) (takes : Takes_) (scope : List Base) (n : ℕ) (f : Form) : Type 0 where
+  pub typed : ExprHas context takes f.tree scope f.bases
+  pub reads : IsReadingOver context.known scope f.bases f.reading
   pub rising : Rising n (numbers f.tree) f.next
 
-abbrev pub Zipped : Takes_ → List Base → List ExprTree → List (List Base) → Type 0
-Zipped takes scope [] [] = Unit {0}
-Zipped takes scope [] (bs ∷ bss) = ⊥
-Zipped takes scope (e ∷ es) [] = ⊥
-Zipped takes scope (e ∷ es) (bs ∷ bss) = ExprHasBases takes e scope bs × Zipped takes scope es bss
+abbrev pub Zipped : Context → Takes_ → List Base → List ExprTree → List (List Base) → Type 0
+Zipped context takes scope [] [] = Unit {0}
+Zipped context takes scope [] (bs ∷ bss) = ⊥
+Zipped context takes scope (e ∷ es) [] = ⊥
+Zipped context takes scope (e ∷ es) (bs ∷ bss) = ExprHas context takes e scope bs × Zipped context takes scope es bss
 
-pub record GoodForms (takes : Takes_) (scope : List Base) (n m : ℕ) (fs : Forms) : Type 0 where
-  pub zipped : Zipped takes scope fs.trees fs.bases
+pub record GoodForms (context : Context) (takes : Takes_) (scope : List Base) (n m : ℕ) (fs : Forms) : Type 0 where
+  pub zipped : Zipped context takes scope fs.trees fs.bases
   pub rising : Rising n (numbers_all (exprs_of fs.trees)) fs.next
   pub many : m ≤ length fs.bases
 
-zipped_push : (takes : Takes_) (scope : List Base) (es : List ExprTree) (bss : List (List Base)) (e : ExprTree)
-    (bs : List Base) → Zipped takes scope es bss → ExprHasBases takes e scope bs → Zipped takes scope (es ++ e ∷ []) (bss ++ bs ∷ [])
-zipped_push takes scope [] [] e bs h k = (k, tt)
-zipped_push takes scope [] (cs ∷ bss) e bs h k = absurd h
-zipped_push takes scope (d ∷ es) [] e bs h k = absurd h
-zipped_push takes scope (d ∷ es) (cs ∷ bss) e bs h k = (h.0, zipped_push takes scope es bss e bs h.1 k)
+zipped_push : (context : Context) (takes : Takes_) (scope : List Base) (es : List ExprTree) (bss : List (List Base)) (e : ExprTree)
+    (bs : List Base) → Zipped context takes scope es bss → ExprHas context takes e scope bs → Zipped context takes scope (es ++ e ∷ []) (bss ++ bs ∷ [])
+zipped_push context takes scope [] [] e bs h k = (k, tt)
+zipped_push context takes scope [] (cs ∷ bss) e bs h k = absurd h
+zipped_push context takes scope (d ∷ es) [] e bs h k = absurd h
+zipped_push context takes scope (d ∷ es) (cs ∷ bss) e bs h k = (h.0, zipped_push context takes scope es bss e bs h.1 k)
 
 numbers_push : (es : List ExprTree) (e : ExprTree) → numbers_all (exprs_of (es ++ e ∷ [])) ≡ numbers_all (exprs_of es) ++ numbers e
 numbers_push [] e = append-nil (numbers e)
 numbers_push (d ∷ es) e = ap (λ ks. numbers d ++ ks) (numbers_push es e) ∙ sym (append_assoc (numbers d) (numbers_all (exprs_of es)) (numbers e))
 
-with_form_good : (takes : Takes_) (scope : List Base) (n m : ℕ) (es : Forms)
-    (f : Form) → GoodForms takes scope n m es → Good takes scope es.next f → GoodForms takes scope n (suc m) (with_form es f)
-with_form_good takes scope n m es f g h =
+with_form_good : (context : Context) (takes : Takes_) (scope : List Base) (n m : ℕ) (es : Forms)
+    (f : Form) → GoodForms context takes scope n m es → Good context takes scope es.next f → GoodForms context takes scope n (suc m) (with_form es f)
+with_form_good context takes scope n m es f g h =
     record {
-      zipped = zipped_push takes scope es.trees es.bases f.tree f.bases g.zipped h.typed;
+      zipped = zipped_push context takes scope es.trees es.bases f.tree f.bases g.zipped h.typed;
       rising =
           rw (numbers_push es.trees f.tree)
           (rising_append n (numbers_all (exprs_of es.trees)) es.next (numbers f.tree) f.next g.rising h.rising);
       many = omega (arith, length-append es.bases (f.bases ∷ []), g.many);
     }
 
-fewer : (takes : Takes_) (scope : List Base) (n m : ℕ) (fs : Forms) → GoodForms takes scope n (suc m) fs → GoodForms takes scope n m fs
-fewer takes scope n m fs g = record { zipped = g.zipped; rising = g.rising; many = omega (arith, g.many) }
+fewer : (context : Context) (takes : Takes_) (scope : List Base) (n m : ℕ) (fs : Forms) → GoodForms context takes scope n (suc m) fs →
+    GoodForms context takes scope n m fs
+fewer context takes scope n m fs g = record { zipped = g.zipped; rising = g.rising; many = omega (arith, g.many) }
 
-have_all : (takes : Takes_) (scope : List Base) (b : Base) (es : List ExprTree) (bss : List
-    (List Base)) → Zipped takes scope es bss → all_are b bss ≡ true → AllHave takes (exprs_of es) scope b
-have_all takes scope b [] bss h k = tt
-have_all takes scope b (e ∷ es) [] h k = absurd h
-have_all takes scope b (e ∷ es) (bs ∷ bss) h k =
+have_all : (context : Context) (takes : Takes_) (scope : List Base) (b : Base) (es : List ExprTree) (bss : List
+    (List Base)) → Zipped context takes scope es bss → all_are b bss ≡ true → AllHas context takes (exprs_of es) scope b
+have_all context takes scope b [] bss h k = tt
+have_all context takes scope b (e ∷ es) [] h k = absurd h
+have_all context takes scope b (e ∷ es) (bs ∷ bss) h k =
     let p : (is_one b bs ≡ true) × (all_are b bss ≡ true) = both (is_one b bs) (all_are b bss) k in
-    let P : List Base → Type 0 = λ cs. ExprHasBases takes e scope cs in
-    (subst P (same_bases_is bs (one b) p.0) h.0, have_all takes scope b es bss h.1 p.1)
+    let P : List Base → Type 0 = λ cs. ExprHas context takes e scope cs in
+    (subst P (same_bases_is bs (one b) p.0) h.0, have_all context takes scope b es bss h.1 p.1)
 
-have_parts : (takes : Takes_) (scope : List Base) (es : List ExprTree) (bss : List
-    (List Base)) → Zipped takes scope es bss → all_are_single bss ≡ true → PartsHave takes (exprs_of es) scope (joined bss) × (length (joined bss) ≡ length bss)
-have_parts takes scope [] [] h k = (refl, refl)
-have_parts takes scope [] (bs ∷ bss) h k = absurd h
-have_parts takes scope (e ∷ es) [] h k = absurd h
-have_parts takes scope (e ∷ es) (bs ∷ bss) h k =
+have_parts : (context : Context) (takes : Takes_) (scope : List Base) (es : List ExprTree) (bss : List
+    (List Base)) → Zipped context takes scope es bss → all_are_single bss ≡ true →
+    PartsHas context takes (exprs_of es) scope (joined bss) × (length (joined bss) ≡ length bss)
+have_parts context takes scope [] [] h k = (refl, refl)
+have_parts context takes scope [] (bs ∷ bss) h k = absurd h
+have_parts context takes scope (e ∷ es) [] h k = absurd h
+have_parts context takes scope (e ∷ es) (bs ∷ bss) h k =
     let p : ((length bs == 1) ≡ true) × (all_are_single bss ≡ true) = both (length bs == 1) (all_are_single bss) k in
     let s : (b : Base) × (bs ≡ one b) = single_is bs p.0 in
-    let r : PartsHave takes (exprs_of es) scope (joined bss) × (length (joined bss) ≡ length bss) = have_parts takes scope es bss h.1 p.1 in
-    let P : List Base → Type 0 = λ cs. ExprHasBases takes e scope cs in (
+    let r : PartsHas context takes (exprs_of es) scope (joined bss) × (length (joined bss) ≡ length bss) = have_parts context takes scope es bss h.1 p.1 in
+    let P : List Base → Type 0 = λ cs. ExprHas context takes e scope cs in (
       (s.0, joined bss, ap (λ cs. cs ++ joined bss) s.1, subst P s.1 h.0, r.0),
       omega (arith, length-append bs (joined bss), ap length s.1, r.1),
     )
 
-have_asked : (takes : Takes_) (scope : List Base) (es : List ExprTree) (bss : List (List Base))
-    (params : List Base) → Zipped takes scope es bss → are_asked bss params ≡ true → PartsHave takes (exprs_of es) scope params
-have_asked takes scope [] [] [] h k = refl
-have_asked takes scope [] [] (b ∷ params) h k = cc
-have_asked takes scope [] (bs ∷ bss) params h k = absurd h
-have_asked takes scope (e ∷ es) [] params h k = absurd h
-have_asked takes scope (e ∷ es) (bs ∷ bss) [] h k = cc
-have_asked takes scope (e ∷ es) (bs ∷ bss) (b ∷ params) h k =
+have_asked : (context : Context) (takes : Takes_) (scope : List Base) (es : List ExprTree) (bss : List (List Base))
+    (params : List Base) → Zipped context takes scope es bss → are_asked bss params ≡ true → PartsHas context takes (exprs_of es) scope params
+have_asked context takes scope [] [] [] h k = refl
+have_asked context takes scope [] [] (b ∷ params) h k = cc
+have_asked context takes scope [] (bs ∷ bss) params h k = absurd h
+have_asked context takes scope (e ∷ es) [] params h k = absurd h
+have_asked context takes scope (e ∷ es) (bs ∷ bss) [] h k = cc
+have_asked context takes scope (e ∷ es) (bs ∷ bss) (b ∷ params) h k =
     let p : (is_one b bs ≡ true) × (are_asked bss params ≡ true) = both (is_one b bs) (are_asked bss params) k in
-    let P : List Base → Type 0 = λ cs. ExprHasBases takes e scope cs in
-    (b, params, refl, subst P (same_bases_is bs (one b) p.0) h.0, have_asked takes scope es bss params h.1 p.1)
+    let P : List Base → Type 0 = λ cs. ExprHas context takes e scope cs in
+    (b, params, refl, subst P (same_bases_is bs (one b) p.0) h.0, have_asked context takes scope es bss params h.1 p.1)
 
-unary_good : (takes : Takes_) (scope : List Base) (n : ℕ) (p : Place) (asked given : Base) (tree : ExprTree → ExprTree)
-    (reading : Place → Reading → Reading) (a : Form) → Good takes scope n a → (ExprHasBases takes a.tree scope (one asked) → ExprHasBases takes
-    (tree a.tree) scope (one given)) → (IsReadingOver scope (one asked) a.reading → IsReadingOver scope (one given) (reading p a.reading)) → numbers
-    (tree a.tree) ≡ numbers a.tree → WhenOk (Good takes scope n) (unary_form p asked given tree reading a)
-unary_good takes scope n p asked given tree reading a g typed reads same =
+unary_good : (context : Context) (takes : Takes_) (scope : List Base) (n : ℕ) (p : Place) (asked given : Base) (tree : ExprTree → ExprTree)
+    (reading : Place → Reading → Reading) (a : Form) → Good context takes scope n a → (ExprHas context takes a.tree scope (one asked) → ExprHas context takes
+    (tree a.tree) scope (one given)) → (IsReadingOver context.known scope (one asked) a.reading →
+    IsReadingOver context.known scope (one given) (reading p a.reading)) → numbers
+    (tree a.tree) ≡ numbers a.tree → WhenOk (Good context takes scope n) (unary_form p asked given tree reading a)
+unary_good context takes scope n p asked given tree reading a g typed reads same =
     when_kept (is_one asked a.bases) _ _ (λ h.
     let e : a.bases ≡ one asked = same_bases_is a.bases (one asked) h in
-    let P : List Base → Type 0 = λ bs. ExprHasBases takes a.tree scope bs in
-    let Q : List Base → Type 0 = λ bs. IsReadingOver scope bs a.reading in
+    let P : List Base → Type 0 = λ bs. ExprHas context takes a.tree scope bs in
+    let Q : List Base → Type 0 = λ bs. IsReadingOver context.known scope bs a.reading in
     when_ok _ (record { typed = typed (subst P e g.typed); reads = reads (subst Q e g.reads); rising = rw same g.rising }))
 
-sides : (takes : Takes_) (scope : List Base) (asked : Option Base)
-    (a b : Form) → ExprHasBases takes a.tree scope a.bases → ExprHasBases takes b.tree scope b.bases → sides_fit asked a.bases b.bases ≡ true → AreSides asked
-    (λ c. ExprHasBases takes a.tree scope (one c)) (λ c. ExprHasBases takes b.tree scope (one c))
-sides takes scope (Some c) a b h k fit =
+sides : (context : Context) (takes : Takes_) (scope : List Base) (asked : Option Base)
+    (a b : Form) → ExprHas context takes a.tree scope a.bases → ExprHas context takes b.tree scope b.bases → sides_fit asked a.bases b.bases ≡ true →
+    AreSides asked
+    (λ c. ExprHas context takes a.tree scope (one c)) (λ c. ExprHas context takes b.tree scope (one c))
+sides context takes scope (Some c) a b h k fit =
     let p : (is_one c a.bases ≡ true) × (is_one c b.bases ≡ true) = both (is_one c a.bases) (is_one c b.bases) fit in
-    let P : List Base → Type 0 = λ bs. ExprHasBases takes a.tree scope bs in
-    let Q : List Base → Type 0 = λ bs. ExprHasBases takes b.tree scope bs in
+    let P : List Base → Type 0 = λ bs. ExprHas context takes a.tree scope bs in
+    let Q : List Base → Type 0 = λ bs. ExprHas context takes b.tree scope bs in
     (subst P (same_bases_is a.bases (one c) p.0) h, subst Q (same_bases_is b.bases (one c) p.1) k)
-sides takes scope None a b h k fit =
+sides context takes scope None a b h k fit =
     let p : ((length a.bases == 1) ≡ true) × (same_bases a.bases b.bases ≡ true) = both (length a.bases == 1) (same_bases a.bases b.bases) fit in
     let s : (c : Base) × (a.bases ≡ one c) = single_is a.bases p.0 in
-    let P : List Base → Type 0 = λ bs. ExprHasBases takes a.tree scope bs in
-    let Q : List Base → Type 0 = λ bs. ExprHasBases takes b.tree scope bs in
+    let P : List Base → Type 0 = λ bs. ExprHas context takes a.tree scope bs in
+    let Q : List Base → Type 0 = λ bs. ExprHas context takes b.tree scope bs in
     (s.0, subst P s.1 h, subst Q (sym (same_bases_is a.bases b.bases p.1) ∙ s.1) k)
 
-binary_good : (takes : Takes_) (scope : List Base) (n : ℕ) (p : Place) (op : BinOp)
-    (a b : Form) → Good takes scope n a → Good takes scope a.next b → WhenOk (Good takes scope n) (binary_form p op a b)
-binary_good takes scope n p op a b g h =
+binary_good : (context : Context) (takes : Takes_) (scope : List Base) (n : ℕ) (p : Place) (op : BinOp)
+    (a b : Form) → Good context takes scope n a → Good context takes scope a.next b → WhenOk (Good context takes scope n) (binary_form context.known p op a b)
+binary_good context takes scope n p op a b g h =
     when_kept (sides_fit (side_of op) a.bases b.bases) _ _ (λ fit.
     when_ok _ (record {
-      typed = (sides takes scope (side_of op) a b g.typed h.typed fit, refl);
-      reads = binary_reads scope a.bases b.bases op p a.reading b.reading g.reads h.reads;
+      typed = (sides context takes scope (side_of op) a b g.typed h.typed fit, refl);
+      reads = binary_reads context.known scope a.bases b.bases op p a.reading b.reading g.reads h.reads;
       rising = rising_append n (numbers a.tree) a.next (numbers b.tree) b.next g.rising h.rising;
     }))
 
-set_good : (takes : Takes_) (scope : List Base) (n m : ℕ) (p : Place) (es : Forms) → GoodForms takes scope n m es → WhenOk (Good takes scope n) (set_form p es)
-set_good takes scope n m p es g =
+set_good : (context : Context) (takes : Takes_) (scope : List Base) (n m : ℕ) (p : Place) (es : Forms) → GoodForms context takes scope n m es →
+    WhenOk (Good context takes scope n) (set_form p es)
+set_good context takes scope n m p es g =
     when_kept (all_are Int es.bases) _ _ (λ h.
     when_ok _ (record {
-      typed = (have_all takes scope Int es.trees es.bases g.zipped h, refl);
+      typed = (have_all context takes scope Int es.trees es.bases g.zipped h, refl);
       reads = by es.trees;
       rising = g.rising;
     }))
   where
-    by : (ts : List ExprTree) → IsReadingOver scope (one Set) (set_reading p es.first_nonlinear ts)
+    by : (ts : List ExprTree) → IsReadingOver context.known scope (one Set) (set_reading p es.first_nonlinear ts)
     by [] = (refl, tt)
-    by (t ∷ ts) = bent_at_reads scope (one Set) es.first_nonlinear p
+    by (t ∷ ts) = bent_at_reads context.known scope (one Set) es.first_nonlinear p
 
-tuple_good : (takes : Takes_) (scope : List Base) (n : ℕ) (p : Place) (es : Forms) → GoodForms takes scope n 2 es → WhenOk (Good takes scope n)
+tuple_good : (context : Context) (takes : Takes_) (scope : List Base) (n : ℕ) (p : Place) (es : Forms) → GoodForms context takes scope n 2 es →
+    WhenOk (Good context takes scope n)
     (tuple_form p es)
-tuple_good takes scope n p es g =
+tuple_good context takes scope n p es g =
     when_kept (all_are_single es.bases) _ _ (λ h.
-    let r : PartsHave takes (exprs_of es.trees) scope (joined es.bases)
-    × (length (joined es.bases) ≡ length es.bases) = have_parts takes scope es.trees es.bases g.zipped h in
-    when_ok _ (record { typed = (omega (arith, g.many, r.1), r.0); reads = bent_at_reads scope (joined es.bases) es.first_nonlinear p; rising = g.rising }))
+    let r : PartsHas context takes (exprs_of es.trees) scope (joined es.bases)
+    × (length (joined es.bases) ≡ length es.bases) = have_parts context takes scope es.trees es.bases g.zipped h in
+    when_ok _ (record {
+      typed = (omega (arith, g.many, r.1), r.0);
+      reads = bent_at_reads context.known scope (joined es.bases) es.first_nonlinear p;
+      rising =
+          g.rising;
+    }))
 
-call_good : (calls : List ℕ → Option Callee) (takes : Takes_) → Knows calls takes → (scope : List Base) (n m : ℕ) (p : Place) (x : List ℕ)
-    (o : Option Callee) → calls x ≡ o → (es : Forms) → GoodForms takes scope n m es → WhenOk (Good takes scope n) (call_form p o es)
-call_good calls takes known scope n m p x None e es g = when_err _
-call_good calls takes known scope n m p x (Some c) e es g =
+call_good : (context : Context) (takes : Takes_) → Knows context.calls takes → (scope : List Base) (n m : ℕ) (p : Place) (x : List ℕ)
+    (o : Option Callee) → context.calls x ≡ o → (es : Forms) → GoodForms context takes scope n m es → WhenOk (Good context takes scope n) (call_form p o es)
+call_good context takes known scope n m p x None e es g = when_err _
+call_good context takes known scope n m p x (Some c) e es g =
     when_kept (length es.bases == length c.params) _ _ (λ _.
     when_kept (are_asked es.bases c.params) _ _ (λ asked.
     when_kept c.is_earlier _ _ (λ earlier.
     when_ok _ (record {
-      typed = (c.params, known x c e earlier, have_asked takes scope es.trees es.bases c.params g.zipped asked);
-      reads = bent_at_reads scope c.results es.first_nonlinear p;
+      typed = (c.params, known x c e earlier, have_asked context takes scope es.trees es.bases c.params g.zipped asked);
+      reads = bent_at_reads context.known scope c.results es.first_nonlinear p;
       rising = g.rising;
     }))))
 
-if_good : (takes : Takes_) (scope : List Base) (n : ℕ) (p : Place)
-    (t a b : Form) → Good takes scope n t → Good takes scope t.next a → Good takes scope a.next b → WhenOk (Good takes scope n) (if_form p t a b)
-if_good takes scope n p t a b f g h =
+if_good : (context : Context) (takes : Takes_) (scope : List Base) (n : ℕ) (p : Place)
+    (t a b : Form) → Good context takes scope n t → Good context takes scope t.next a → Good context takes scope a.next b →
+    WhenOk (Good context takes scope n) (if_form p t a b)
+if_good context takes scope n p t a b f g h =
     when_kept (is_one Truth t.bases && same_bases a.bases b.bases) _ _ (λ fit.
     let q : (is_one Truth t.bases ≡ true) × (same_bases a.bases b.bases ≡ true) = both (is_one Truth t.bases) (same_bases a.bases b.bases) fit in
-    let P : List Base → Type 0 = λ bs. ExprHasBases takes t.tree scope bs in
-    let Q : List Base → Type 0 = λ bs. ExprHasBases takes b.tree scope bs in
+    let P : List Base → Type 0 = λ bs. ExprHas context takes t.tree scope bs in
+    let Q : List Base → Type 0 = λ bs. ExprHas context takes b.tree scope bs in
     when_ok _ (record {
       typed = (subst P (same_bases_is t.bases (one Truth) q.0) f.typed, g.typed, subst Q (sym (same_bases_is a.bases b.bases q.1)) h.typed);
-      reads = bent_at_reads scope a.bases _ p;
+      reads = bent_at_reads context.known scope a.bases _ p;
       rising =
           rising_append n (numbers t.tree ++ numbers a.tree) a.next (numbers b.tree) b.next
           (rising_append n (numbers t.tree) t.next (numbers a.tree) a.next f.rising g.rising) h.rising;
     }))
 
-choose_good : (takes : Takes_) (n : ℕ) (p : Place) (scope outputs : List Param)
-    (r : Form) → 1 ≤ length outputs → output_fault [] outputs ≡ None → Good takes (bases_of (scope ++ outputs)) (n + 1) r → WhenOk (Good takes
+choose_good : (context : Context) (takes : Takes_) (n : ℕ) (p : Place) (scope outputs : List Param)
+    (r : Form) → 1 ≤ length outputs → output_fault [] outputs ≡ None → Good (in_relation context (length scope)) takes (bases_of (scope ++ outputs)) (n + 1) r →
+    WhenOk (Good context takes
     (bases_of scope) n) (choose_form p n scope outputs r)
-choose_good takes n p scope outputs r some none g =
+choose_good context takes n p scope outputs r some none g =
     when_kept (is_one Truth r.bases) _ _ (λ h. by r.reading g.reads)
   where
-    by : (reading : Reading) → IsReadingOver (bases_of (scope ++ outputs)) r.bases reading → WhenOk (Good takes (bases_of scope) n)
+    by : (reading : Reading) → IsReadingOver (known_in context.how (length scope)) (bases_of (scope ++ outputs)) r.bases reading →
+        WhenOk (Good context takes (bases_of scope) n)
         (linear p reading >>= λ rel. form (bases_of outputs) (expr_choose n scope (bases_of outputs) rel) (not_linear p) r.next)
     by (relation rel) reads =
         let P : List Base → Type 0 = λ bs. IsTyped bs rel in
@@ -213,7 +241,7 @@ choose_good takes n p scope outputs r some none g =
             omega (arith, length-map outputs (λ q. q.base), some),
             outputs_are [] outputs none,
             subst P (map-append (λ q. q.base) scope outputs) reads.1,
-            reads.2,
+            subst (λ k. IsLinearBy context.how k rel) (sym (length-map scope (λ q. q.base))) (linear_behind context.how (length scope) rel reads.2),
             refl,
           );
           reads = tt;
@@ -223,26 +251,28 @@ choose_good takes n p scope outputs r some none g =
     by (set s) reads = when_err _
     by (not_linear q) reads = when_err _
 
-abbrev pub ZippedArms : Takes_ → List Base → List MatchArmTree → List (List Base) → Type 0
-ZippedArms takes scope [] [] = Unit {0}
-ZippedArms takes scope [] (bs ∷ bss) = ⊥
-ZippedArms takes scope (t ∷ ts) [] = ⊥
-ZippedArms takes scope (match_arm m factors k body ∷ ts) (bs ∷ bss) =
-    (IsArmNumber m factors × All IsWithin factors × IsWithin k × ExprHasBases takes body (scope ++ map (λ _. Int) factors) bs)
-    × ZippedArms takes scope ts bss
+abbrev pub ZippedArms : Context → Takes_ → List Base → List MatchArmTree → List (List Base) → Type 0
+ZippedArms context takes scope [] [] = Unit {0}
+ZippedArms context takes scope [] (bs ∷ bss) = ⊥
+ZippedArms context takes scope (t ∷ ts) [] = ⊥
+ZippedArms context takes scope (match_arm m factors k body ∷ ts) (bs ∷ bss) =
+    (IsArmNumber m factors × All IsWithin factors × IsWithin k × ExprHas context takes body (scope ++ map (λ _. Int) factors) bs)
+    × ZippedArms context takes scope ts bss
 
-pub record GoodArms (takes : Takes_) (scope : List Base) (n m : ℕ) (arms : Arms) : Type 0 where
-  pub zipped : ZippedArms takes scope arms.trees arms.bases
+pub record GoodArms (context : Context) (takes : Takes_) (scope : List Base) (n m : ℕ) (arms : Arms) : Type 0 where
+  pub zipped : ZippedArms context takes scope arms.trees arms.bases
   pub rising : Rising n (numbers_arms (match_arms_of arms.trees)) arms.next
   pub many : m ≤ length arms.bases
 
-arms_push : (takes : Takes_) (scope : List Base) (ts : List MatchArmTree) (bss : List (List Base)) (m : ℕ) (factors : List ℤ) (k : ℤ) (body : ExprTree)
-    (bs : List Base) → ZippedArms takes scope ts bss → IsArmNumber m factors × All IsWithin factors × IsWithin k
-    × ExprHasBases takes body (scope ++ map (λ _. Int) factors) bs → ZippedArms takes scope (ts ++ match_arm m factors k body ∷ []) (bss ++ bs ∷ [])
-arms_push takes scope [] [] m factors k body bs h q = (q, tt)
-arms_push takes scope [] (cs ∷ bss) m factors k body bs h q = absurd h
-arms_push takes scope (t ∷ ts) [] m factors k body bs h q = absurd h
-arms_push takes scope (match_arm i gs j b ∷ ts) (cs ∷ bss) m factors k body bs h q = (h.0, arms_push takes scope ts bss m factors k body bs h.1 q)
+arms_push : (context : Context) (takes : Takes_) (scope : List Base) (ts : List MatchArmTree) (bss : List (List Base)) (m : ℕ) (factors : List ℤ) (k : ℤ)
+    (body : ExprTree)
+    (bs : List Base) → ZippedArms context takes scope ts bss → IsArmNumber m factors × All IsWithin factors × IsWithin k
+    × ExprHas context takes body (scope ++ map (λ _. Int) factors) bs → ZippedArms context takes scope (ts ++ match_arm m factors k body ∷ []) (bss ++ bs ∷ [])
+arms_push context takes scope [] [] m factors k body bs h q = (q, tt)
+arms_push context takes scope [] (cs ∷ bss) m factors k body bs h q = absurd h
+arms_push context takes scope (t ∷ ts) [] m factors k body bs h q = absurd h
+arms_push context takes scope (match_arm i gs j b ∷ ts) (cs ∷ bss) m factors k body bs h q =
+    (h.0, arms_push context takes scope ts bss m factors k body bs h.1 q)
 
 arms_numbers_push : (ts : List MatchArmTree) (m : ℕ) (factors : List ℤ) (k : ℤ) (body : ExprTree) → numbers_arms (match_arms_of
     (ts ++ match_arm m factors k body ∷ [])) ≡ numbers_arms (match_arms_of ts) ++ (arm_numbers m factors ++ numbers body)
@@ -260,19 +290,20 @@ arm_number_is : (n : ℕ) (parts : List Part) → 1 ≤ n → IsArmNumber (arm_n
 arm_number_is n [] h = refl
 arm_number_is n (x ∷ parts) h = h
 
-with_arm_good : (takes : Takes_) (scope : List Param) (n m : ℕ) (arms : Arms) (parts : List Part) (k : ℤ) (f : Form) → 1 ≤ n → GoodArms takes
-    (bases_of scope) n m arms → All (λ x. IsWithin x.factor) parts → IsWithin k → Good takes (bases_of (scope ++ variables_of parts))
-    (after_arm arms.next parts) f → GoodArms takes (bases_of scope) n (suc m) (with_arm arms parts k f)
-with_arm_good takes scope n m arms parts k f low g within fits h =
+with_arm_good : (context : Context) (takes : Takes_) (scope : List Param) (n m : ℕ) (arms : Arms) (parts : List Part) (k : ℤ) (f : Form) → 1 ≤ n →
+    GoodArms context takes
+    (bases_of scope) n m arms → All (λ x. IsWithin x.factor) parts → IsWithin k → Good context takes (bases_of (scope ++ variables_of parts))
+    (after_arm arms.next parts) f → GoodArms context takes (bases_of scope) n (suc m) (with_arm arms parts k f)
+with_arm_good context takes scope n m arms parts k f low g within fits h =
     let factors : List ℤ = map (λ x. x.factor) parts in
     let number : ℕ = arm_number arms.next parts in
     let e : bases_of (scope ++ variables_of parts) ≡ bases_of scope ++ map (λ _. Int) (map (λ x. x.factor) parts) = map-append (λ p. p.base) scope
     (variables_of parts) ∙ ap (λ bs. bases_of scope ++ bs) (variables_bases parts) in
-    let P : List Base → Type 0 = λ bs. ExprHasBases takes f.tree bs f.bases in
+    let P : List Base → Type 0 = λ bs. ExprHas context takes f.tree bs f.bases in
     let least : 1 ≤ arms.next = omega (arith, rising_le n (numbers_arms (match_arms_of arms.trees)) arms.next g.rising, low) in
     record {
       zipped =
-          arms_push takes (bases_of scope) arms.trees arms.bases (arm_number arms.next parts) (map (λ x. x.factor) parts) k f.tree f.bases g.zipped
+          arms_push context takes (bases_of scope) arms.trees arms.bases (arm_number arms.next parts) (map (λ x. x.factor) parts) k f.tree f.bases g.zipped
           (arm_number_is arms.next parts least, All-map IsWithin (λ x. x.factor) parts within, fits, subst P e h.typed);
       rising =
           rw (arms_numbers_push arms.trees (arm_number arms.next parts) (map (λ x. x.factor) parts) k f.tree)
@@ -280,75 +311,79 @@ with_arm_good takes scope n m arms parts k f low g within fits h =
       many = omega (arith, length-append arms.bases (f.bases ∷ []), g.many);
     }
 
-fewer_arms : (takes : Takes_) (scope : List Base) (n m : ℕ) (arms : Arms) → GoodArms takes scope n (suc m) arms → GoodArms takes scope n m arms
-fewer_arms takes scope n m arms g = record { zipped = g.zipped; rising = g.rising; many = omega (arith, g.many) }
+fewer_arms : (context : Context) (takes : Takes_) (scope : List Base) (n m : ℕ) (arms : Arms) → GoodArms context takes scope n (suc m) arms →
+    GoodArms context takes scope n m arms
+fewer_arms context takes scope n m arms g = record { zipped = g.zipped; rising = g.rising; many = omega (arith, g.many) }
 
-have_bases : (takes : Takes_) (scope : List Base) (ts : List MatchArmTree) (bss : List (List Base))
-    (bs : List Base) → ZippedArms takes scope ts bss → all_have bs bss ≡ true → ArmsHave takes (match_arms_of ts) scope bs
-have_bases takes scope [] bss bs h k = tt
-have_bases takes scope (t ∷ ts) [] bs h k = absurd h
-have_bases takes scope (match_arm m factors c body ∷ ts) (cs ∷ bss) bs h k =
+have_bases : (context : Context) (takes : Takes_) (scope : List Base) (ts : List MatchArmTree) (bss : List (List Base))
+    (bs : List Base) → ZippedArms context takes scope ts bss → all_have bs bss ≡ true → ArmsHas context takes (match_arms_of ts) scope bs
+have_bases context takes scope [] bss bs h k = tt
+have_bases context takes scope (t ∷ ts) [] bs h k = absurd h
+have_bases context takes scope (match_arm m factors c body ∷ ts) (cs ∷ bss) bs h k =
     let p : (same_bases cs bs ≡ true) × (all_have bs bss ≡ true) = both (same_bases cs bs) (all_have bs bss) k in
-    let P : List Base → Type 0 = λ ds. ExprHasBases takes body (scope ++ map (λ _. Int) factors) ds in
-    (h.0.0, h.0.1, h.0.2, subst P (same_bases_is cs bs p.0) h.0.3, have_bases takes scope ts bss bs h.1 p.1)
+    let P : List Base → Type 0 = λ ds. ExprHas context takes body (scope ++ map (λ _. Int) factors) ds in
+    (h.0.0, h.0.1, h.0.2, subst P (same_bases_is cs bs p.0) h.0.3, have_bases context takes scope ts bss bs h.1 p.1)
 
-have_same : (takes : Takes_) (scope : List Base) (ts : List MatchArmTree) (bss : List
-    (List Base)) → ZippedArms takes scope ts bss → 1 ≤ length bss → all_same bss ≡ true → HasArms (match_arms_of ts)
-    × ArmsHave takes (match_arms_of ts) scope (first_of bss)
-have_same takes scope ts [] h some k = absurd (omega arith)
-have_same takes scope [] (bs ∷ bss) h some k = absurd h
-have_same takes scope (match_arm m factors c body ∷ ts) (bs ∷ bss) h some k =
-    (tt, (h.0.0, h.0.1, h.0.2, h.0.3, have_bases takes scope ts bss bs h.1 k))
+have_same : (context : Context) (takes : Takes_) (scope : List Base) (ts : List MatchArmTree) (bss : List
+    (List Base)) → ZippedArms context takes scope ts bss → 1 ≤ length bss → all_same bss ≡ true → HasArms (match_arms_of ts)
+    × ArmsHas context takes (match_arms_of ts) scope (first_of bss)
+have_same context takes scope ts [] h some k = absurd (omega arith)
+have_same context takes scope [] (bs ∷ bss) h some k = absurd h
+have_same context takes scope (match_arm m factors c body ∷ ts) (bs ∷ bss) h some k =
+    (tt, (h.0.0, h.0.1, h.0.2, h.0.3, have_bases context takes scope ts bss bs h.1 k))
 
-match_good : (takes : Takes_) (n : ℕ) (p : Place) (scope : List Param) (a : Form) (arms : Arms) → Good takes (bases_of scope) (n + 1) a → GoodArms takes
-    (bases_of (scope ++ matched p ∷ [])) a.next 1 arms → WhenOk (Good takes (bases_of scope) n) (match_form p n (scope ++ matched p ∷ []) a arms)
-match_good takes n p scope a arms g h =
+match_good : (context : Context) (takes : Takes_) (n : ℕ) (p : Place) (scope : List Param) (a : Form) (arms : Arms) →
+    Good context takes (bases_of scope) (n + 1) a → GoodArms context takes
+    (bases_of (scope ++ matched p ∷ [])) a.next 1 arms → WhenOk (Good context takes (bases_of scope) n) (match_form p n (scope ++ matched p ∷ []) a arms)
+match_good context takes n p scope a arms g h =
     when_kept (is_one Int a.bases && all_same arms.bases) _ _ (λ fit.
     let q : (is_one Int a.bases ≡ true) × (all_same arms.bases ≡ true) = both (is_one Int a.bases) (all_same arms.bases) fit in
     let inner : bases_of (scope ++ matched p ∷ []) ≡ bases_of scope ++ one Int = map-append (λ x. x.base) scope (matched p ∷ []) in
-    let r : HasArms (match_arms_of arms.trees) × ArmsHave takes (match_arms_of arms.trees) (bases_of (scope ++ matched p ∷ []))
-    (first_of arms.bases) = have_same takes (bases_of (scope ++ matched p ∷ [])) arms.trees arms.bases h.zipped h.many q.1 in
-    let P : List Base → Type 0 = λ bs. ExprHasBases takes a.tree (bases_of scope) bs in
-    let Q : List Base → Type 0 = λ bs. ArmsHave takes (match_arms_of arms.trees) bs (first_of arms.bases) in
+    let r : HasArms (match_arms_of arms.trees) × ArmsHas context takes (match_arms_of arms.trees) (bases_of (scope ++ matched p ∷ []))
+    (first_of arms.bases) = have_same context takes (bases_of (scope ++ matched p ∷ [])) arms.trees arms.bases h.zipped h.many q.1 in
+    let P : List Base → Type 0 = λ bs. ExprHas context takes a.tree (bases_of scope) bs in
+    let Q : List Base → Type 0 = λ bs. ArmsHas context takes (match_arms_of arms.trees) bs (first_of arms.bases) in
     when_ok _ (record {
       typed = (inner, subst P (same_bases_is a.bases (one Int) q.0) g.typed, r.0, subst Q inner r.1);
-      reads = bent_at_reads (bases_of scope) (first_of arms.bases) _ p;
+      reads = bent_at_reads context.known (bases_of scope) (first_of arms.bases) _ p;
       rising = (
         omega arith,
         rising_append (suc n) (numbers a.tree) a.next (numbers_arms (match_arms_of arms.trees)) arms.next (rw add-one at g.rising) h.rising,
       );
     }))
 
-let_good : (takes : Takes_) (n : ℕ) (p : Place) (scope : List Param) (xs : List (List ℕ)) (places : List Place)
-    (a b : Form) → 1 ≤ length xs → length places ≡ length xs → length xs ≡ length a.bases → Good takes (bases_of scope) n a → Good takes (bases_of
-    (scope ++ bound xs places a.bases)) a.next b → WhenOk (Good takes (bases_of scope) n) (let_form p (length xs) a b)
-let_good takes n p scope xs places a b some paired fits g h =
+let_good : (context : Context) (takes : Takes_) (n : ℕ) (p : Place) (scope : List Param) (xs : List (List ℕ)) (places : List Place)
+    (a b : Form) → 1 ≤ length xs → length places ≡ length xs → length xs ≡ length a.bases → Good context takes (bases_of scope) n a →
+    Good context takes (bases_of
+    (scope ++ bound xs places a.bases)) a.next b → WhenOk (Good context takes (bases_of scope) n) (let_form p (length xs) a b)
+let_good context takes n p scope xs places a b some paired fits g h =
     let inner : bases_of (scope ++ bound xs places a.bases) ≡ bases_of scope ++ a.bases = map-append (λ x. x.base) scope (bound xs places a.bases) ∙ ap
     (λ bs. bases_of scope ++ bs) (bound_bases xs places a.bases paired fits) in
-    let P : List Base → Type 0 = λ bs. ExprHasBases takes b.tree bs b.bases in
+    let P : List Base → Type 0 = λ bs. ExprHas context takes b.tree bs b.bases in
     when_ok _ (record {
       typed = (a.bases, g.typed, fits, some, subst P inner h.typed);
-      reads = bent_at_reads (bases_of scope) b.bases _ p;
+      reads = bent_at_reads context.known (bases_of scope) b.bases _ p;
       rising = rising_append n (numbers a.tree) a.next (numbers b.tree) b.next g.rising h.rising;
     })
 
-variable_good : (takes : Takes_) (scope : List Param) (n : ℕ) (p : Place) (x : List ℕ) (o : Option Variable) → variable_of scope x ≡ o → WhenOk
-    (Good takes (bases_of scope) n) (variable_form p n o)
-variable_good takes scope n p x None e = when_err _
-variable_good takes scope n p x (Some v) e =
+variable_good : (context : Context) (takes : Takes_) (scope : List Param) (n : ℕ) (p : Place) (x : List ℕ) (o : Option Variable) → variable_of scope x ≡ o →
+    WhenOk
+    (Good context takes (bases_of scope) n) (variable_form p n o)
+variable_good context takes scope n p x None e = when_err _
+variable_good context takes scope n p x (Some v) e =
     let f : (k : ℕ) × (v.level ≡ 0 + k) × (slice_get (bases_of scope) k ≡ Some v.base) = variable_found 0 scope x v e in
     let same : f.0 ≡ v.level = omega (arith, f.1) in
     let P : ℕ → Type 0 = λ k. slice_get (bases_of scope) k ≡ Some v.base in
     let at : slice_get (bases_of scope) v.level ≡ Some v.base = subst P same f.2 in
-    when_ok _ (record { typed = (v.base, at, refl); reads = variable_reads (bases_of scope) p v.base v.level at; rising = omega arith })
+    when_ok _ (record { typed = (v.base, at, refl); reads = variable_reads context.known (bases_of scope) p v.base v.level at; rising = omega arith })
 
-none_good : (takes : Takes_) (scope : List Param) (n : ℕ) → GoodForms takes (bases_of scope) n 0 (no_forms n)
-none_good takes scope n = record { zipped = tt; rising = omega arith; many = omega arith }
+none_good : (context : Context) (takes : Takes_) (scope : List Param) (n : ℕ) → GoodForms context takes (bases_of scope) n 0 (no_forms n)
+none_good context takes scope n = record { zipped = tt; rising = omega arith; many = omega arith }
 
-no_arms_good : (takes : Takes_) (scope : List Param) (n : ℕ) → GoodArms takes (bases_of scope) n 0 (no_arms n)
-no_arms_good takes scope n = record { zipped = tt; rising = omega arith; many = omega arith }
+no_arms_good : (context : Context) (takes : Takes_) (scope : List Param) (n : ℕ) → GoodArms context takes (bases_of scope) n 0 (no_arms n)
+no_arms_good context takes scope n = record { zipped = tt; rising = omega arith; many = omega arith }
 
-higher : {takes : Takes_} {scope : List Base} (n : ℕ) (f : Form) → Good takes scope n f → 1 ≤ n → 1 ≤ f.next
+higher : {context : Context} {takes : Takes_} {scope : List Base} (n : ℕ) (f : Form) → Good context takes scope n f → 1 ≤ n → 1 ≤ f.next
 higher n f g low = omega (arith, rising_le n (numbers f.tree) f.next g.rising, low)
 
 after_low : (n : ℕ) (parts : List Part) → 1 ≤ n → 1 ≤ after_arm n parts
@@ -356,65 +391,66 @@ after_low n [] h = h
 after_low n (x ∷ parts) h = omega arith
 
 mutual
-  pub walk_good : (calls : List ℕ → Option Callee) (takes : Takes_) → Knows calls takes → (scope : List Param) (n : ℕ) → 1 ≤ n →
-      (raw : RawTree) → IsSpelledRaw raw → WhenOk (Good takes (bases_of scope) n) (walk calls scope n raw)
-  walk_good calls takes known scope n low (raw_lit p k) s = when_ok _ (record { typed = (s, refl); reads = (refl, s, tt); rising = omega arith })
-  walk_good calls takes known scope n low (raw_truth p t) s = when_ok _ (record { typed = refl; reads = truth_reads (bases_of scope) t; rising = omega arith })
-  walk_good calls takes known scope n low (raw_name p x) s = variable_good takes scope n p x (variable_of scope x) refl
-  walk_good calls takes known scope n low (raw_set_of p es) s =
-      when_bind (walk_all calls scope (no_forms n) es) _ (walk_all_good calls takes known scope n 0 low es (no_forms n) s (none_good takes scope n))
-      (λ fs g. set_good takes (bases_of scope) n 0 p fs g)
-  walk_good calls takes known scope n low (raw_group p a) s = walk_good calls takes known scope n low a s
-  walk_good calls takes known scope n low (raw_tuple p no_raws) s = absurd s.0
-  walk_good calls takes known scope n low (raw_tuple p (raw_more e no_raws)) s = absurd s.0
-  walk_good calls takes known scope n low (raw_tuple p (raw_more e (raw_more f es))) s =
-      when_bind (walk_all calls scope (no_forms n) (raw_more e (raw_more f es))) _
-      (when_bind (walk calls scope n e) _ (walk_good calls takes known scope n low e s.1.0) (λ a g.
-      when_bind (walk calls scope a.next f) _ (walk_good calls takes known scope a.next (higher n a g low) f s.1.1.0) (λ b h.
-      walk_all_good calls takes known scope n 2 low es _ s.1.1.1 (with_form_good takes (bases_of scope) n 1 _ b (with_form_good takes
-      (bases_of scope) n 0 _ a (none_good takes scope n) g) h))))
-      (λ fs g. tuple_good takes (bases_of scope) n p fs g)
-  walk_good calls takes known scope n low (raw_neg p a) s =
-      when_bind (walk calls scope n a) _ (walk_good calls takes known scope n low a s) (λ f g.
-      unary_good takes (bases_of scope) n p Int Int expr_neg (on_term (λ t. term (term_neg t))) f g (λ t. (
+  pub walk_good : (context : Context) (takes : Takes_) → Knows context.calls takes → (scope : List Param) (n : ℕ) → 1 ≤ n →
+      (raw : RawTree) → IsSpelledRaw raw → WhenOk (Good context takes (bases_of scope) n) (walk context scope n raw)
+  walk_good context takes known scope n low (raw_lit p k) s = when_ok _ (record { typed = (s, refl); reads = (refl, s, tt); rising = omega arith })
+  walk_good context takes known scope n low (raw_truth p t) s =
+      when_ok _ (record { typed = refl; reads = truth_reads context.known (bases_of scope) t; rising = omega arith })
+  walk_good context takes known scope n low (raw_name p x) s = variable_good context takes scope n p x (variable_of scope x) refl
+  walk_good context takes known scope n low (raw_set_of p es) s =
+      when_bind (walk_all context scope (no_forms n) es) _ (walk_all_good context takes known scope n 0 low es (no_forms n) s (none_good context takes scope n))
+      (λ fs g. set_good context takes (bases_of scope) n 0 p fs g)
+  walk_good context takes known scope n low (raw_group p a) s = walk_good context takes known scope n low a s
+  walk_good context takes known scope n low (raw_tuple p no_raws) s = absurd s.0
+  walk_good context takes known scope n low (raw_tuple p (raw_more e no_raws)) s = absurd s.0
+  walk_good context takes known scope n low (raw_tuple p (raw_more e (raw_more f es))) s =
+      when_bind (walk_all context scope (no_forms n) (raw_more e (raw_more f es))) _
+      (when_bind (walk context scope n e) _ (walk_good context takes known scope n low e s.1.0) (λ a g.
+      when_bind (walk context scope a.next f) _ (walk_good context takes known scope a.next (higher n a g low) f s.1.1.0) (λ b h.
+      walk_all_good context takes known scope n 2 low es _ s.1.1.1 (with_form_good context takes (bases_of scope) n 1 _ b (with_form_good context takes
+      (bases_of scope) n 0 _ a (none_good context takes scope n) g) h))))
+      (λ fs g. tuple_good context takes (bases_of scope) n p fs g)
+  walk_good context takes known scope n low (raw_neg p a) s =
+      when_bind (walk context scope n a) _ (walk_good context takes known scope n low a s) (λ f g.
+      unary_good context takes (bases_of scope) n p Int Int expr_neg (on_term (λ t. term (term_neg t))) f g (λ t. (
         t,
         refl,
-      )) (λ r. on_term_reads (bases_of scope) (one Int) (one Int) (λ t. term (term_neg t)) p f.reading r (λ t typed linear. (
+      )) (λ r. on_term_reads context.known (bases_of scope) (one Int) (one Int) (λ t. term (term_neg t)) p f.reading r (λ t typed linear. (
         refl,
         typed,
         linear,
       ))) refl)
-  walk_good calls takes known scope n low (raw_not p a) s =
-      when_bind (walk calls scope n a) _ (walk_good calls takes known scope n low a s) (λ f g.
-      unary_good takes (bases_of scope) n p Truth Truth expr_not (on_relation (λ r. relation (rel_not r))) f g (λ t. (
+  walk_good context takes known scope n low (raw_not p a) s =
+      when_bind (walk context scope n a) _ (walk_good context takes known scope n low a s) (λ f g.
+      unary_good context takes (bases_of scope) n p Truth Truth expr_not (on_relation (λ r. relation (rel_not r))) f g (λ t. (
         t,
         refl,
-      )) (λ r. on_relation_reads (bases_of scope) (one Truth) (one Truth) (λ r. relation (rel_not r)) p f.reading r (λ t typed linear. (
+      )) (λ r. on_relation_reads context.known (bases_of scope) (one Truth) (one Truth) (λ r. relation (rel_not r)) p f.reading r (λ t typed linear. (
         refl,
         typed,
         linear,
       ))) refl)
-  walk_good calls takes known scope n low (raw_abs p a) s =
-      when_bind (walk calls scope n a) _ (walk_good calls takes known scope n low a s) (λ f g.
-      unary_good takes (bases_of scope) n p Int Int expr_abs (on_term (λ t. term (term_abs t))) f g (λ t. (
+  walk_good context takes known scope n low (raw_abs p a) s =
+      when_bind (walk context scope n a) _ (walk_good context takes known scope n low a s) (λ f g.
+      unary_good context takes (bases_of scope) n p Int Int expr_abs (on_term (λ t. term (term_abs t))) f g (λ t. (
         t,
         refl,
-      )) (λ r. on_term_reads (bases_of scope) (one Int) (one Int) (λ t. term (term_abs t)) p f.reading r (λ t typed linear. (
+      )) (λ r. on_term_reads context.known (bases_of scope) (one Int) (one Int) (λ t. term (term_abs t)) p f.reading r (λ t typed linear. (
         refl,
         typed,
         linear,
       ))) refl)
-  walk_good calls takes known scope n low (raw_binary p op a b) s =
-      when_bind (walk calls scope n a) _ (walk_good calls takes known scope n low a s.0) (λ f g.
-      when_bind (walk calls scope f.next b) _ (walk_good calls takes known scope f.next (higher n f g low) b s.1) (λ h k.
-      binary_good takes (bases_of scope) n p op f h g k))
-  walk_good calls takes known scope n low (raw_divides p k a) s =
-      when_bind (walk calls scope n a) _ (walk_good calls takes known scope n low a s.1) (λ f g.
-      unary_good takes (bases_of scope) n p Int Truth (expr_divides k) (on_term (λ t. relation (rel_divides k t))) f g (λ t. (
+  walk_good context takes known scope n low (raw_binary p op a b) s =
+      when_bind (walk context scope n a) _ (walk_good context takes known scope n low a s.0) (λ f g.
+      when_bind (walk context scope f.next b) _ (walk_good context takes known scope f.next (higher n f g low) b s.1) (λ h k.
+      binary_good context takes (bases_of scope) n p op f h g k))
+  walk_good context takes known scope n low (raw_divides p k a) s =
+      when_bind (walk context scope n a) _ (walk_good context takes known scope n low a s.1) (λ f g.
+      unary_good context takes (bases_of scope) n p Int Truth (expr_divides k) (on_term (λ t. relation (rel_divides k t))) f g (λ t. (
         s.0,
         t,
         refl,
-      )) (λ r. on_term_reads (bases_of scope) (one Int) (one Truth) (λ t. relation (rel_divides k t)) p f.reading r (λ t typed linear. (
+      )) (λ r. on_term_reads context.known (bases_of scope) (one Int) (one Truth) (λ t. relation (rel_divides k t)) p f.reading r (λ t typed linear. (
         refl,
         (
           s.0,
@@ -422,90 +458,95 @@ mutual
         ),
         linear,
       ))) refl)
-  walk_good calls takes known scope n low (raw_div p a k) s =
-      when_bind (walk calls scope n a) _ (walk_good calls takes known scope n low a s.1) (λ f g.
-      unary_good takes (bases_of scope) n p Int Int (λ e. expr_div e k) (on_term (λ t. term (term_div t k))) f g (λ t. (
+  walk_good context takes known scope n low (raw_div p a k) s =
+      when_bind (walk context scope n a) _ (walk_good context takes known scope n low a s.1) (λ f g.
+      unary_good context takes (bases_of scope) n p Int Int (λ e. expr_div e k) (on_term (λ t. term (term_div t k))) f g (λ t. (
         s.0,
         t,
         refl,
-      )) (λ r. on_term_reads (bases_of scope) (one Int) (one Int) (λ t. term (term_div t k)) p f.reading r (λ t typed linear. (
+      )) (λ r. on_term_reads context.known (bases_of scope) (one Int) (one Int) (λ t. term (term_div t k)) p f.reading r (λ t typed linear. (
         refl,
         (typed, s.0),
         linear,
       ))) refl)
-  walk_good calls takes known scope n low (raw_mod p a k) s =
-      when_bind (walk calls scope n a) _ (walk_good calls takes known scope n low a s.1) (λ f g.
-      unary_good takes (bases_of scope) n p Int Int (λ e. expr_mod e k) (on_term (λ t. term (term_mod t k))) f g (λ t. (
+  walk_good context takes known scope n low (raw_mod p a k) s =
+      when_bind (walk context scope n a) _ (walk_good context takes known scope n low a s.1) (λ f g.
+      unary_good context takes (bases_of scope) n p Int Int (λ e. expr_mod e k) (on_term (λ t. term (term_mod t k))) f g (λ t. (
         s.0,
         t,
         refl,
-      )) (λ r. on_term_reads (bases_of scope) (one Int) (one Int) (λ t. term (term_mod t k)) p f.reading r (λ t typed linear. (
+      )) (λ r. on_term_reads context.known (bases_of scope) (one Int) (one Int) (λ t. term (term_mod t k)) p f.reading r (λ t typed linear. (
         refl,
         (typed, s.0),
         linear,
       ))) refl)
-  walk_good calls takes known scope n low (raw_card p a) s =
-      when_bind (walk calls scope n a) _ (walk_good calls takes known scope n low a s) (λ f g.
-      unary_good takes (bases_of scope) n p Set Int expr_card (on_set (λ s. term (term_card s))) f g (λ t. (
+  walk_good context takes known scope n low (raw_card p a) s =
+      when_bind (walk context scope n a) _ (walk_good context takes known scope n low a s) (λ f g.
+      unary_good context takes (bases_of scope) n p Set Int expr_card (on_set (λ s. term (term_card s))) f g (λ t. (
         t,
         refl,
-      )) (λ r. on_set_reads (bases_of scope) (one Set) (one Int) (λ s. term (term_card s)) p f.reading r (λ t typed. (refl, typed, tt))) refl)
-  walk_good calls takes known scope n low (raw_call p x es) s =
-      when_bind (walk_all calls scope (no_forms n) es) _ (walk_all_good calls takes known scope n 0 low es (no_forms n) s (none_good takes scope n)) (λ fs g.
-      call_good calls takes known (bases_of scope) n 0 p x (calls x) refl fs g)
-  walk_good calls takes known scope n low (raw_if p t a b) s =
-      when_bind (walk calls scope n t) _ (walk_good calls takes known scope n low t s.0) (λ f g.
-      when_bind (walk calls scope f.next a) _ (walk_good calls takes known scope f.next (higher n f g low) a s.1) (λ h k.
-      when_bind (walk calls scope h.next b) _ (walk_good calls takes known scope h.next (higher f.next h k (higher n f g low)) b s.2) (λ i j.
-      if_good takes (bases_of scope) n p f h i g k j)))
-  walk_good calls takes known scope n low (raw_let p xs places a b) s =
-      when_bind (walk calls scope n a) _ (walk_good calls takes known scope n low a s.2) (λ f g.
+      )) (λ r. on_set_reads context.known (bases_of scope) (one Set) (one Int) (λ s. term (term_card s)) p f.reading r (λ t typed. (refl, typed, tt))) refl)
+  walk_good context takes known scope n low (raw_call p x es) s =
+      when_bind (walk_all context scope (no_forms n) es) _ (walk_all_good context takes known scope n 0 low es (no_forms n) s (none_good context takes scope n))
+      (λ fs g.
+      call_good context takes known (bases_of scope) n 0 p x (context.calls x) refl fs g)
+  walk_good context takes known scope n low (raw_if p t a b) s =
+      when_bind (walk context scope n t) _ (walk_good context takes known scope n low t s.0) (λ f g.
+      when_bind (walk context scope f.next a) _ (walk_good context takes known scope f.next (higher n f g low) a s.1) (λ h k.
+      when_bind (walk context scope h.next b) _ (walk_good context takes known scope h.next (higher f.next h k (higher n f g low)) b s.2) (λ i j.
+      if_good context takes (bases_of scope) n p f h i g k j)))
+  walk_good context takes known scope n low (raw_let p xs places a b) s =
+      when_bind (walk context scope n a) _ (walk_good context takes known scope n low a s.2) (λ f g.
       when_none_repeated _ _ (
       when_kept (length xs == length f.bases) _ _ (λ e.
-      when_bind (walk calls (scope ++ bound xs places f.bases) f.next b) _ (walk_good calls takes known (scope ++ bound xs places f.bases) f.next
+      when_bind (walk context (scope ++ bound xs places f.bases) f.next b) _ (walk_good context takes known (scope ++ bound xs places f.bases) f.next
       (higher n f g low) b s.3) (λ h k.
-      let_good takes n p scope xs places f h s.0 s.1 (eqb-true (length xs) (length f.bases) e) g k))))
-  walk_good calls takes known scope n low (raw_choose p outputs r) s =
+      let_good context takes n p scope xs places f h s.0 s.1 (eqb-true (length xs) (length f.bases) e) g k))))
+  walk_good context takes known scope n low (raw_choose p outputs r) s =
+      let inner : Context = in_relation context (length scope) in
       when_no_fault (output_fault [] outputs) _ (λ none.
-      when_bind (walk calls (scope ++ outputs) (n + 1) r) _ (walk_good calls takes known (scope ++ outputs) (n + 1) (omega arith) r s.1) (λ f g.
-      choose_good takes n p scope outputs f s.0 none g))
-  walk_good calls takes known scope n low (raw_match p a no_raw_arms) s = absurd s.0
-  walk_good calls takes known scope n low (raw_match p a (raw_arm_more (raw_arm parts k body) arms)) s =
-      when_bind (walk calls scope (n + 1) a) _ (walk_good calls takes known scope (n + 1) (omega arith) a s.1) (λ f g.
-      when_bind (walk_arms calls (scope ++ matched p ∷ []) (no_arms f.next) (raw_arm_more (raw_arm parts k body) arms)) _
+      when_bind (walk inner (scope ++ outputs) (n + 1) r >>= choose_form p n scope outputs) _
+      (when_bind (walk inner (scope ++ outputs) (n + 1) r) _ (walk_good inner takes known (scope ++ outputs) (n + 1) (omega arith) r s.1) (λ f g.
+      choose_good context takes n p scope outputs f s.0 none g)) (λ f g.
+      when_bind (walk context (scope ++ outputs) (n + 1) r) _ (walk_good context takes known (scope ++ outputs) (n + 1) (omega arith) r s.1) (λ h _.
+      when_ok _ (record { typed = g.typed; reads = bent_at_reads context.known (bases_of scope) f.bases (first_nonlinear h.reading) p; rising = g.rising }))))
+  walk_good context takes known scope n low (raw_match p a no_raw_arms) s = absurd s.0
+  walk_good context takes known scope n low (raw_match p a (raw_arm_more (raw_arm parts k body) arms)) s =
+      when_bind (walk context scope (n + 1) a) _ (walk_good context takes known scope (n + 1) (omega arith) a s.1) (λ f g.
+      when_bind (walk_arms context (scope ++ matched p ∷ []) (no_arms f.next) (raw_arm_more (raw_arm parts k body) arms)) _
       (when_none_repeated _ _ (
-      when_bind (walk calls (scope ++ matched p ∷ [] ++ variables_of parts) (after_arm f.next parts) body) _
-      (walk_good calls takes known (scope ++ matched p ∷ [] ++ variables_of parts) (after_arm f.next parts) (after_low f.next parts (higher (n + 1) f g
+      when_bind (walk context (scope ++ matched p ∷ [] ++ variables_of parts) (after_arm f.next parts) body) _
+      (walk_good context takes known (scope ++ matched p ∷ [] ++ variables_of parts) (after_arm f.next parts) (after_low f.next parts (higher (n + 1) f g
       (omega arith))) body s.2.2) (λ h i.
-      walk_arms_good calls takes known (scope ++ matched p ∷ []) f.next 1 (higher (n + 1) f g (omega arith)) arms _ s.2.3
-      (with_arm_good takes (scope ++ matched p ∷ []) f.next 0 (no_arms f.next) parts k h (higher (n + 1) f g (omega arith)) (no_arms_good takes
+      walk_arms_good context takes known (scope ++ matched p ∷ []) f.next 1 (higher (n + 1) f g (omega arith)) arms _ s.2.3
+      (with_arm_good context takes (scope ++ matched p ∷ []) f.next 0 (no_arms f.next) parts k h (higher (n + 1) f g (omega arith)) (no_arms_good context takes
       (scope ++ matched p ∷ []) f.next) s.2.0 s.2.1 i))))
-      (λ h i. match_good takes n p scope f h g i))
+      (λ h i. match_good context takes n p scope f h g i))
 
-  pub walk_all_good : (calls : List ℕ → Option Callee) (takes : Takes_) → Knows calls takes → (scope : List Param) (n m : ℕ) → 1 ≤ n → (es : RawTrees)
-      (before : Forms) → AreSpelledRaws es → GoodForms takes (bases_of scope) n m before → WhenOk (GoodForms takes (bases_of scope) n m)
-      (walk_all calls scope before es)
-  walk_all_good calls takes known scope n m low no_raws before s g = when_ok before g
-  walk_all_good calls takes known scope n m low (raw_more e es) before s g =
-      when_bind (walk calls scope before.next e) _ (walk_good calls takes known scope before.next (omega (
+  pub walk_all_good : (context : Context) (takes : Takes_) → Knows context.calls takes → (scope : List Param) (n m : ℕ) → 1 ≤ n → (es : RawTrees)
+      (before : Forms) → AreSpelledRaws es → GoodForms context takes (bases_of scope) n m before → WhenOk (GoodForms context takes (bases_of scope) n m)
+      (walk_all context scope before es)
+  walk_all_good context takes known scope n m low no_raws before s g = when_ok before g
+  walk_all_good context takes known scope n m low (raw_more e es) before s g =
+      when_bind (walk context scope before.next e) _ (walk_good context takes known scope before.next (omega (
         arith,
         rising_le n (numbers_all (exprs_of before.trees)) before.next g.rising,
         low,
       )) e s.0) (λ f h.
-      walk_all_good calls takes known scope n m low es (with_form before f) s.1 (fewer takes (bases_of scope) n m (with_form before f)
-      (with_form_good takes (bases_of scope) n m before f g h)))
+      walk_all_good context takes known scope n m low es (with_form before f) s.1 (fewer context takes (bases_of scope) n m (with_form before f)
+      (with_form_good context takes (bases_of scope) n m before f g h)))
 
-  pub walk_arms_good : (calls : List ℕ → Option Callee) (takes : Takes_) → Knows calls takes → (scope : List Param) (n m : ℕ) → 1 ≤ n →
-      (arms : RawArmTrees) (before : Arms) → AreSpelledArms arms → GoodArms takes (bases_of scope) n m before → WhenOk (GoodArms takes
-      (bases_of scope) n m) (walk_arms calls scope before arms)
-  walk_arms_good calls takes known scope n m low no_raw_arms before s g = when_ok before g
-  walk_arms_good calls takes known scope n m low (raw_arm_more (raw_arm parts k body) arms) before s g =
+  pub walk_arms_good : (context : Context) (takes : Takes_) → Knows context.calls takes → (scope : List Param) (n m : ℕ) → 1 ≤ n →
+      (arms : RawArmTrees) (before : Arms) → AreSpelledArms arms → GoodArms context takes (bases_of scope) n m before → WhenOk (GoodArms context takes
+      (bases_of scope) n m) (walk_arms context scope before arms)
+  walk_arms_good context takes known scope n m low no_raw_arms before s g = when_ok before g
+  walk_arms_good context takes known scope n m low (raw_arm_more (raw_arm parts k body) arms) before s g =
       when_none_repeated _ _ (
-      when_bind (walk calls (scope ++ variables_of parts) (after_arm before.next parts) body) _
-      (walk_good calls takes known (scope ++ variables_of parts) (after_arm before.next parts) (after_low before.next parts (omega (
+      when_bind (walk context (scope ++ variables_of parts) (after_arm before.next parts) body) _
+      (walk_good context takes known (scope ++ variables_of parts) (after_arm before.next parts) (after_low before.next parts (omega (
         arith,
         rising_le n (numbers_arms (match_arms_of before.trees)) before.next g.rising,
         low,
       ))) body s.2) (λ f h.
-      walk_arms_good calls takes known scope n m low arms (with_arm before parts k f) s.3 (fewer_arms takes (bases_of scope) n m
-      (with_arm before parts k f) (with_arm_good takes scope n m before parts k f low g s.0 s.1 h))))
+      walk_arms_good context takes known scope n m low arms (with_arm before parts k f) s.3 (fewer_arms context takes (bases_of scope) n m
+      (with_arm before parts k f) (with_arm_good context takes scope n m before parts k f low g s.0 s.1 h))))

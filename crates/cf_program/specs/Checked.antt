@@ -5,11 +5,13 @@ use Rattle.cf_tree.specs.DefView.{RawDefTree, DefTree}
 use Rattle.cf_tree.specs.RawTree.{place_of}
 use Rattle.cf_tree.specs.RelSize.{capped}
 use Rattle.cf_program.specs.declared.fault.TypeFault.{TypeFault}
+use Rattle.cf_program.specs.declared.linearity.Linearity.{Linearity}
+use Rattle.cf_program.specs.declared.linearity.Linearity.TheVariants.{Plain}
 use Rattle.cf_program.specs.declared.fault.TypeFault.TheVariants.{DuplicateName, Mismatch, NoMain, Weight, Depth}
 use Rattle.cf_program.specs.Names.{names_of, is_among, repeated, callee_from}
 use Rattle.cf_tree.specs.Bases.{same_bases}
 use Rattle.cf_program.specs.Size.{weights, depths}
-use Rattle.cf_program.specs.Walk.{◌>>=◌, where_kept, where_no_fault, where_none_repeated, Form, walk}
+use Rattle.cf_program.specs.Walk.{◌>>=◌, where_kept, where_no_fault, where_none_repeated, Form, in_body, walk}
 
 -- a program with levels: its functions, and the number of the one that is named `main`
 pub record TypedTree : Type 0 where
@@ -20,18 +22,18 @@ abbrev pub def_form : RawDefTree → Form → DefTree
 def_form d f = record { name = d.name; params = d.params; results = d.results; body = f.tree }
 
 -- a function of the program behind those before it, with the next number of a choose after it
-abbrev pub walk_def : List RawDefTree → List RawDefTree → ℕ → RawDefTree → Result (DefTree × ℕ) TypeFault
-walk_def all before n d =
+abbrev pub walk_def : Linearity → List RawDefTree → List RawDefTree → ℕ → RawDefTree → Result (DefTree × ℕ) TypeFault
+walk_def how all before n d =
     where_kept (not (is_among (map (λ e. e.name) before) d.name)) (DuplicateName d.place) (
     where_none_repeated (repeated [] (names_of d.params) (map (λ p. p.place) d.params)) (
-    walk (callee_from (length before) 0 all) d.params n d.body >>= λ f.
+    walk (in_body how (callee_from (length before) 0 all)) d.params n d.body >>= λ f.
     where_kept (same_bases f.bases d.results) (Mismatch (place_of d.body)) (
     Ok (def_form d f, f.next))))
 
 -- the functions of the program behind those before, of which `done` are the trees; n is the next number of a choose
-abbrev pub walk_defs : List RawDefTree → List RawDefTree → List DefTree → ℕ → List RawDefTree → Result (List DefTree) TypeFault
-walk_defs all before done n [] = Ok done
-walk_defs all before done n (d ∷ ds) = walk_def all before n d >>= λ r. walk_defs all (before ++ d ∷ []) (done ++ r.0 ∷ []) r.1 ds
+abbrev pub walk_defs : Linearity → List RawDefTree → List RawDefTree → List DefTree → ℕ → List RawDefTree → Result (List DefTree) TypeFault
+walk_defs how all before done n [] = Ok done
+walk_defs how all before done n (d ∷ ds) = walk_def how all before n d >>= λ r. walk_defs how all (before ++ d ∷ []) (done ++ r.0 ∷ []) r.1 ds
 
 -- the number of the function that is named `main`, where the first has number i
 abbrev pub main_from : ℕ → List RawDefTree → Option ℕ
@@ -51,5 +53,9 @@ sized defs (Some main) =
     where_no_fault (size_fault 200 Depth (depths defs)) (
     Ok (record { defs = defs; main = main })))
 
+abbrev pub checked_by : Linearity → List RawDefTree → Result TypedTree TypeFault
+checked_by how ds = walk_defs how ds [] [] 1 ds >>= λ defs. sized defs (main_from 0 ds)
+
+-- by the plain rule, which `compile` asks
 abbrev pub checked : List RawDefTree → Result TypedTree TypeFault
-checked ds = walk_defs ds [] [] 1 ds >>= λ defs. sized defs (main_from 0 ds)
+checked = checked_by Plain

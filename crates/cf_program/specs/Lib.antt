@@ -1,6 +1,7 @@
 pub mod Checked
 pub mod DistinctNames
 pub mod CheckAnswers
+pub mod LateLinear
 pub mod Laws
 pub mod Lowered
 pub mod Names

@@ -1,7 +1,8 @@
 -- What an expression is as a part of a relation.
 --
 -- The linear forms are: of truth `true`, `false`, `&&`, `||`, `!`, comparisons of numbers, `==`, `!=` and `subset` of sets, and `divides`;
--- of numbers literals, variables, `card`, `+`, `-`, `div`, `mod`, `abs`, and a product with a side that holds no variable, card, div or mod;
+-- of numbers literals, variables, `card`, `+`, `-`, `div`, `mod`, `abs`, and a product with a side that holds no card, div or mod, and of the variables
+-- only those that count as known, the outermost ones;
 -- of sets variables, `{}`, `union`, `inter` and `diff`.
 use Rattle.std.specs.Prelude.{ℕ, Bool, true, false, ◌||◌, Option, Some, None, if◌then◌else◌}
 use Rattle.cf_tree.specs.declared.base.Base.{Base}
@@ -11,8 +12,8 @@ use Rattle.cf_tree.specs.declared.base.Order.TheVariants.{Eq, Ne, Lt, Le, Gt, Ge
 use Rattle.cf_tree.specs.declared.base.Place.{Place}
 use Rattle.cf_tree.specs.declared.raw.BinOp.{BinOp}
 use Rattle.cf_tree.specs.declared.raw.BinOp.TheVariants.{Add, Sub, Mul, And, Or, Union, Inter, Diff, Subset, Compare}
-use Rattle.cf_tree.specs.Relation.{is_fixed}
 use Rattle.cf_tree.specs.RelTree.{SetTree, set_var, union_of, inter_of, diff_of, TermTree, term_var, term_add, term_sub, term_mul, RelTree, rel_true, rel_false, rel_compare, rel_same_set, rel_other_set, rel_subset, rel_and, rel_or}
+use Rattle.cf_program.specs.LateLinear.{is_fixed_below}
 
 -- a relation, a number form or a set form, or the place of the first form that is not linear, where parts come before the whole
 pub data Reading : Type 0 where
@@ -66,8 +67,9 @@ variable_reading p Int x = term (term_var x)
 variable_reading p Truth x = not_linear p
 variable_reading p Set x = set (set_var x)
 
-abbrev pub product_reading : Place → TermTree → TermTree → Reading
-product_reading p a b = if is_fixed a || is_fixed b then term (term_mul a b) else not_linear p
+-- a product where so many of the outermost variables count as known
+abbrev pub product_reading : ℕ → Place → TermTree → TermTree → Reading
+product_reading known p a b = if is_fixed_below known a || is_fixed_below known b then term (term_mul a b) else not_linear p
 
 abbrev pub sets_reading : Order → Place → SetTree → SetTree → Reading
 sets_reading Eq p a b = relation (rel_same_set a b)
@@ -84,14 +86,14 @@ compare_reading order p (term a) right = on_term (λ b. relation (rel_compare or
 compare_reading order p (set a) right = on_set (sets_reading order p a) p right
 compare_reading order p (not_linear q) right = not_linear q
 
-abbrev pub binary_reading : BinOp → Place → Reading → Reading → Reading
-binary_reading Add p left right = on_term (λ a. on_term (λ b. term (term_add a b)) p right) p left
-binary_reading Sub p left right = on_term (λ a. on_term (λ b. term (term_sub a b)) p right) p left
-binary_reading Mul p left right = on_term (λ a. on_term (product_reading p a) p right) p left
-binary_reading And p left right = on_relation (λ a. on_relation (λ b. relation (rel_and a b)) p right) p left
-binary_reading Or p left right = on_relation (λ a. on_relation (λ b. relation (rel_or a b)) p right) p left
-binary_reading Union p left right = on_set (λ a. on_set (λ b. set (union_of a b)) p right) p left
-binary_reading Inter p left right = on_set (λ a. on_set (λ b. set (inter_of a b)) p right) p left
-binary_reading Diff p left right = on_set (λ a. on_set (λ b. set (diff_of a b)) p right) p left
-binary_reading Subset p left right = on_set (λ a. on_set (λ b. relation (rel_subset a b)) p right) p left
-binary_reading (Compare order) p left right = compare_reading order p left right
+abbrev pub binary_reading : ℕ → BinOp → Place → Reading → Reading → Reading
+binary_reading known Add p left right = on_term (λ a. on_term (λ b. term (term_add a b)) p right) p left
+binary_reading known Sub p left right = on_term (λ a. on_term (λ b. term (term_sub a b)) p right) p left
+binary_reading known Mul p left right = on_term (λ a. on_term (product_reading known p a) p right) p left
+binary_reading known And p left right = on_relation (λ a. on_relation (λ b. relation (rel_and a b)) p right) p left
+binary_reading known Or p left right = on_relation (λ a. on_relation (λ b. relation (rel_or a b)) p right) p left
+binary_reading known Union p left right = on_set (λ a. on_set (λ b. set (union_of a b)) p right) p left
+binary_reading known Inter p left right = on_set (λ a. on_set (λ b. set (inter_of a b)) p right) p left
+binary_reading known Diff p left right = on_set (λ a. on_set (λ b. set (diff_of a b)) p right) p left
+binary_reading known Subset p left right = on_set (λ a. on_set (λ b. relation (rel_subset a b)) p right) p left
+binary_reading known (Compare order) p left right = compare_reading order p left right

@@ -6,8 +6,11 @@ use Rattle.cf_tree.specs.declared.base.Base.{Base}
 use Rattle.cf_tree.specs.declared.base.Base.TheVariants.{Int, Bool as Truth, Set}
 use Rattle.cf_tree.specs.DefView.{DefTree}
 use Rattle.cf_tree.specs.ExprTree.{ExprTree, expr_lit, expr_truth, expr_var, expr_set_of, expr_tuple, expr_neg, expr_not, expr_abs, expr_binary, expr_divides, expr_div, expr_mod, expr_card, expr_if, expr_call, expr_let, expr_choose, expr_match, ExprTrees, no_exprs, expr_more, match_arm, MatchArmTrees, no_match_arms, match_arm_more}
-use Rattle.cf_tree.specs.Relation.{IsDivisor, IsTyped, IsLinear}
+use Rattle.cf_tree.specs.Relation.{IsDivisor, IsTyped}
+use Rattle.cf_tree.specs.RelTree.{RelTree}
+use Rattle.cf_program.specs.declared.linearity.Linearity.TheVariants.{Plain}
 use Rattle.cf_program.specs.DistinctNames.{AreDistinct}
+use Rattle.cf_program.specs.LateLinear.{IsLateLinear, IsLinearBy}
 use Rattle.cf_program.specs.Names.{bases_of, names_of}
 use Rattle.cf_program.specs.Size.{weights, depths}
 use Rattle.cf_program.specs.Walk.{side_of, result_of}
@@ -32,49 +35,67 @@ abbrev pub HasArms : MatchArmTrees → Type 0
 HasArms no_match_arms = ⊥
 HasArms (match_arm_more arm arms) = Unit {0}
 
+-- which relations are linear, behind so many variables in scope
+abbrev pub LinearBehind : Type 1
+LinearBehind = ℕ → RelTree → Type 0
+
 abbrev mutual
   -- an expression has these bases, where `calls` says which bases a function takes and gives, and the scope has the bases of the variables by level
-  pub ExprHasBases : (ℕ → List Base → List Base → Type 0) → ExprTree → List Base → List Base → Type 0
-  ExprHasBases calls (expr_lit k) scope bs = IsWithin k × (bs ≡ one Int)
-  ExprHasBases calls (expr_truth t) scope bs = bs ≡ one Truth
-  ExprHasBases calls (expr_var x) scope bs = (b : Base) × (slice_get scope x ≡ Some b) × (bs ≡ one b)
-  ExprHasBases calls (expr_set_of es) scope bs = AllHave calls es scope Int × (bs ≡ one Set)
-  ExprHasBases calls (expr_tuple es) scope bs = (2 ≤ length bs) × PartsHave calls es scope bs
-  ExprHasBases calls (expr_neg a) scope bs = ExprHasBases calls a scope (one Int) × (bs ≡ one Int)
-  ExprHasBases calls (expr_not a) scope bs = ExprHasBases calls a scope (one Truth) × (bs ≡ one Truth)
-  ExprHasBases calls (expr_abs a) scope bs = ExprHasBases calls a scope (one Int) × (bs ≡ one Int)
-  ExprHasBases calls (expr_binary op a b) scope bs =
-      AreSides (side_of op) (λ c. ExprHasBases calls a scope (one c)) (λ c. ExprHasBases calls b scope (one c)) × (bs ≡ one (result_of op))
-  ExprHasBases calls (expr_divides k a) scope bs = IsDivisor k × ExprHasBases calls a scope (one Int) × (bs ≡ one Truth)
-  ExprHasBases calls (expr_div a k) scope bs = IsDivisor k × ExprHasBases calls a scope (one Int) × (bs ≡ one Int)
-  ExprHasBases calls (expr_mod a k) scope bs = IsDivisor k × ExprHasBases calls a scope (one Int) × (bs ≡ one Int)
-  ExprHasBases calls (expr_card a) scope bs = ExprHasBases calls a scope (one Set) × (bs ≡ one Int)
-  ExprHasBases calls (expr_if t a b) scope bs = ExprHasBases calls t scope (one Truth) × ExprHasBases calls a scope bs × ExprHasBases calls b scope bs
-  ExprHasBases calls (expr_call f es) scope bs = (params : List Base) × calls f params bs × PartsHave calls es scope params
-  ExprHasBases calls (expr_let n a b) scope bs =
-      (vs : List Base) × ExprHasBases calls a scope vs × (n ≡ length vs) × (1 ≤ n) × ExprHasBases calls b (scope ++ vs) bs
-  ExprHasBases calls (expr_choose n params outputs rel) scope bs =
-      (bases_of params ≡ scope) × (1 ≤ length outputs) × All IsOutput outputs × IsTyped (scope ++ outputs) rel × IsLinear rel × (bs ≡ outputs)
-  ExprHasBases calls (expr_match n params a arms) scope bs =
-      (bases_of params ≡ scope ++ one Int) × ExprHasBases calls a scope (one Int) × HasArms arms × ArmsHave calls arms (scope ++ one Int) bs
+  pub ExprHasBasesBy : LinearBehind → (ℕ → List Base → List Base → Type 0) → ExprTree → List Base → List Base → Type 0
+  ExprHasBasesBy linear calls (expr_lit k) scope bs = IsWithin k × (bs ≡ one Int)
+  ExprHasBasesBy linear calls (expr_truth t) scope bs = bs ≡ one Truth
+  ExprHasBasesBy linear calls (expr_var x) scope bs = (b : Base) × (slice_get scope x ≡ Some b) × (bs ≡ one b)
+  ExprHasBasesBy linear calls (expr_set_of es) scope bs = AllHaveBy linear calls es scope Int × (bs ≡ one Set)
+  ExprHasBasesBy linear calls (expr_tuple es) scope bs = (2 ≤ length bs) × PartsHaveBy linear calls es scope bs
+  ExprHasBasesBy linear calls (expr_neg a) scope bs = ExprHasBasesBy linear calls a scope (one Int) × (bs ≡ one Int)
+  ExprHasBasesBy linear calls (expr_not a) scope bs = ExprHasBasesBy linear calls a scope (one Truth) × (bs ≡ one Truth)
+  ExprHasBasesBy linear calls (expr_abs a) scope bs = ExprHasBasesBy linear calls a scope (one Int) × (bs ≡ one Int)
+  ExprHasBasesBy linear calls (expr_binary op a b) scope bs =
+      AreSides (side_of op) (λ c. ExprHasBasesBy linear calls a scope (one c)) (λ c. ExprHasBasesBy linear calls b scope (one c)) × (bs ≡ one (result_of op))
+  ExprHasBasesBy linear calls (expr_divides k a) scope bs = IsDivisor k × ExprHasBasesBy linear calls a scope (one Int) × (bs ≡ one Truth)
+  ExprHasBasesBy linear calls (expr_div a k) scope bs = IsDivisor k × ExprHasBasesBy linear calls a scope (one Int) × (bs ≡ one Int)
+  ExprHasBasesBy linear calls (expr_mod a k) scope bs = IsDivisor k × ExprHasBasesBy linear calls a scope (one Int) × (bs ≡ one Int)
+  ExprHasBasesBy linear calls (expr_card a) scope bs = ExprHasBasesBy linear calls a scope (one Set) × (bs ≡ one Int)
+  ExprHasBasesBy linear calls (expr_if t a b) scope bs =
+      ExprHasBasesBy linear calls t scope (one Truth) × ExprHasBasesBy linear calls a scope bs × ExprHasBasesBy linear calls b scope bs
+  ExprHasBasesBy linear calls (expr_call f es) scope bs = (params : List Base) × calls f params bs × PartsHaveBy linear calls es scope params
+  ExprHasBasesBy linear calls (expr_let n a b) scope bs =
+      (vs : List Base) × ExprHasBasesBy linear calls a scope vs × (n ≡ length vs) × (1 ≤ n) × ExprHasBasesBy linear calls b (scope ++ vs) bs
+  ExprHasBasesBy linear calls (expr_choose n params outputs rel) scope bs =
+      (bases_of params ≡ scope) × (1 ≤ length outputs) × All IsOutput outputs × IsTyped (scope ++ outputs) rel × linear (length scope) rel × (bs ≡ outputs)
+  ExprHasBasesBy linear calls (expr_match n params a arms) scope bs =
+      (bases_of params ≡ scope ++ one Int) × ExprHasBasesBy linear calls a scope (one Int) × HasArms arms × ArmsHaveBy linear calls arms (scope ++ one Int) bs
 
   -- all have this one base
-  pub AllHave : (ℕ → List Base → List Base → Type 0) → ExprTrees → List Base → Base → Type 0
-  AllHave calls no_exprs scope b = Unit {0}
-  AllHave calls (expr_more e es) scope b = ExprHasBases calls e scope (one b) × AllHave calls es scope b
+  pub AllHaveBy : LinearBehind → (ℕ → List Base → List Base → Type 0) → ExprTrees → List Base → Base → Type 0
+  AllHaveBy linear calls no_exprs scope b = Unit {0}
+  AllHaveBy linear calls (expr_more e es) scope b = ExprHasBasesBy linear calls e scope (one b) × AllHaveBy linear calls es scope b
 
   -- they have one base each, in order
-  pub PartsHave : (ℕ → List Base → List Base → Type 0) → ExprTrees → List Base → List Base → Type 0
-  PartsHave calls no_exprs scope bs = bs ≡ []
-  PartsHave calls (expr_more e es) scope bs =
-      (b : Base) × (rest : List Base) × (bs ≡ b ∷ rest) × ExprHasBases calls e scope (one b) × PartsHave calls es scope rest
+  pub PartsHaveBy : LinearBehind → (ℕ → List Base → List Base → Type 0) → ExprTrees → List Base → List Base → Type 0
+  PartsHaveBy linear calls no_exprs scope bs = bs ≡ []
+  PartsHaveBy linear calls (expr_more e es) scope bs =
+      (b : Base) × (rest : List Base) × (bs ≡ b ∷ rest) × ExprHasBasesBy linear calls e scope (one b) × PartsHaveBy linear calls es scope rest
 
   -- the bodies of all arms have these bases, each with the variables of its pattern, which are numbers
-  pub ArmsHave : (ℕ → List Base → List Base → Type 0) → MatchArmTrees → List Base → List Base → Type 0
-  ArmsHave calls no_match_arms scope bs = Unit {0}
-  ArmsHave calls (match_arm_more (match_arm m factors k body) arms) scope bs =
-      IsArmNumber m factors × All IsWithin factors × IsWithin k × ExprHasBases calls body (scope ++ map (λ _. Int) factors) bs
-      × ArmsHave calls arms scope bs
+  pub ArmsHaveBy : LinearBehind → (ℕ → List Base → List Base → Type 0) → MatchArmTrees → List Base → List Base → Type 0
+  ArmsHaveBy linear calls no_match_arms scope bs = Unit {0}
+  ArmsHaveBy linear calls (match_arm_more (match_arm m factors k body) arms) scope bs =
+      IsArmNumber m factors × All IsWithin factors × IsWithin k × ExprHasBasesBy linear calls body (scope ++ map (λ _. Int) factors) bs
+      × ArmsHaveBy linear calls arms scope bs
+
+-- the same where relations are linear whatever their scope is
+abbrev pub ExprHasBases : (ℕ → List Base → List Base → Type 0) → ExprTree → List Base → List Base → Type 0
+ExprHasBases = ExprHasBasesBy (IsLinearBy Plain)
+
+abbrev pub AllHave : (ℕ → List Base → List Base → Type 0) → ExprTrees → List Base → Base → Type 0
+AllHave = AllHaveBy (IsLinearBy Plain)
+
+abbrev pub PartsHave : (ℕ → List Base → List Base → Type 0) → ExprTrees → List Base → List Base → Type 0
+PartsHave = PartsHaveBy (IsLinearBy Plain)
+
+abbrev pub ArmsHave : (ℕ → List Base → List Base → Type 0) → MatchArmTrees → List Base → List Base → Type 0
+ArmsHave = ArmsHaveBy (IsLinearBy Plain)
 
 -- an arm has a number of its own where it has variables
 abbrev pub arm_numbers : ℕ → List ℤ → List ℕ
@@ -122,17 +143,23 @@ Takes (d ∷ earlier) f params results =
     MatchBool (f == length earlier) ((params ≡ bases_of d.params) × (results ≡ d.results)) (Takes earlier f params results)
 
 -- a function whose body has its results, and calls only these earlier functions
+abbrev pub IsTypedDefBy : LinearBehind → List DefTree → DefTree → Type 0
+IsTypedDefBy linear earlier d = (1 ≤ length d.results) × ExprHasBasesBy linear (Takes earlier) d.body (bases_of d.params) d.results
+
 abbrev pub IsTypedDef : List DefTree → DefTree → Type 0
-IsTypedDef earlier d = (1 ≤ length d.results) × ExprHasBases (Takes earlier) d.body (bases_of d.params) d.results
+IsTypedDef = IsTypedDefBy (IsLinearBy Plain)
 
 -- functions that stand last first
+abbrev pub AreTypedDefsBy : LinearBehind → List DefTree → Type 0
+AreTypedDefsBy linear [] = Unit {0}
+AreTypedDefsBy linear (d ∷ earlier) = IsTypedDefBy linear earlier d × AreTypedDefsBy linear earlier
+
 abbrev pub AreTypedDefs : List DefTree → Type 0
-AreTypedDefs [] = Unit {0}
-AreTypedDefs (d ∷ earlier) = IsTypedDef earlier d × AreTypedDefs earlier
+AreTypedDefs = AreTypedDefsBy (IsLinearBy Plain)
 
 -- functions in the order of the text, with the number of `main`
-pub record IsTypedProgram (defs : List DefTree) (main : ℕ) : Type 0 where
-  pub typed : AreTypedDefs (reverse defs)
+pub record IsProgramBy (linear : LinearBehind) (defs : List DefTree) (main : ℕ) : Type 0 where
+  pub typed : AreTypedDefsBy linear (reverse defs)
   pub functions : AreDistinct (map (λ d. d.name) defs)
   pub params : All (λ d. AreDistinct (names_of d.params)) defs
   pub has_main : (d : DefTree) × (slice_get defs main ≡ Some d) × (d.name ≡ codes "main")
@@ -140,3 +167,10 @@ pub record IsTypedProgram (defs : List DefTree) (main : ℕ) : Type 0 where
   pub positive : All (λ n. 1 ≤ n) (all_numbers defs)
   pub light : All (λ n. n ≤ 1000000) (weights defs)
   pub shallow : All (λ n. n ≤ 200) (depths defs)
+
+abbrev pub IsTypedProgram : List DefTree → ℕ → Type 0
+IsTypedProgram = IsProgramBy (IsLinearBy Plain)
+
+-- the same where relations are linear once the numbers in their scopes are known
+abbrev pub IsLateProgram : List DefTree → ℕ → Type 0
+IsLateProgram = IsProgramBy IsLateLinear

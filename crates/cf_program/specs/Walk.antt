@@ -17,7 +17,9 @@ use Rattle.cf_tree.specs.RawTree.{RawTree, raw_lit, raw_truth, raw_name, raw_set
 use Rattle.cf_tree.specs.RelTree.{term_lit, term_card, term_neg, term_div, term_mod, term_abs, empty_set, RelTree, rel_divides, rel_not}
 use Rattle.cf_program.specs.declared.fault.TypeFault.{TypeFault}
 use Rattle.cf_program.specs.declared.fault.TypeFault.TheVariants.{UnknownName, DuplicateName, WrongCount, Mismatch, CallsLater, NotLinear}
+use Rattle.cf_program.specs.declared.linearity.Linearity.{Linearity}
 use Rattle.cf_program.specs.declared.variable.Variable.{Variable}
+use Rattle.cf_program.specs.LateLinear.{known_in}
 use Rattle.cf_program.specs.Names.{variable_of, Callee, bases_of, is_among, repeated}
 use Rattle.cf_program.specs.Reading.{Reading, relation, term, set, not_linear, first_nonlinear, earlier_nonlinear, not_linear_at, on_relation, on_term, on_set, truth_reading, variable_reading, binary_reading}
 
@@ -160,10 +162,11 @@ abbrev pub unary_form : Place → Base → Base → (ExprTree → ExprTree) → 
 unary_form p asked given tree reading a =
     where_kept (is_one asked a.bases) (Mismatch p) (form (one given) (tree a.tree) (reading p a.reading) a.next)
 
-abbrev pub binary_form : Place → BinOp → Form → Form → Result Form TypeFault
-binary_form p op a b =
+-- an operation where so many of the outermost variables count as known
+abbrev pub binary_form : ℕ → Place → BinOp → Form → Form → Result Form TypeFault
+binary_form known p op a b =
     where_kept (sides_fit (side_of op) a.bases b.bases) (Mismatch p) (
-    form (one (result_of op)) (expr_binary op a.tree b.tree) (binary_reading op p a.reading b.reading) b.next)
+    form (one (result_of op)) (expr_binary op a.tree b.tree) (binary_reading known op p a.reading b.reading) b.next)
 
 -- only the set form without elements is linear
 abbrev pub set_reading : Place → Option Place → List ExprTree → Reading
@@ -171,10 +174,12 @@ set_reading p first [] = set empty_set
 set_reading p first (e ∷ es) = not_linear_at first p
 
 abbrev pub set_form : Place → Forms → Result Form TypeFault
-set_form p es = where_kept (all_are Int es.bases) (Mismatch p) (form (one Set) (expr_set_of (exprs_of es.trees)) (set_reading p es.first_nonlinear es.trees) es.next)
+set_form p es = where_kept (all_are Int es.bases) (Mismatch p)
+    (form (one Set) (expr_set_of (exprs_of es.trees)) (set_reading p es.first_nonlinear es.trees) es.next)
 
 abbrev pub tuple_form : Place → Forms → Result Form TypeFault
-tuple_form p es = where_kept (all_are_single es.bases) (Mismatch p) (form (joined es.bases) (expr_tuple (exprs_of es.trees)) (not_linear_at es.first_nonlinear p) es.next)
+tuple_form p es = where_kept (all_are_single es.bases) (Mismatch p)
+    (form (joined es.bases) (expr_tuple (exprs_of es.trees)) (not_linear_at es.first_nonlinear p) es.next)
 
 abbrev pub call_form : Place → Option Callee → Forms → Result Form TypeFault
 call_form p None es = Err (UnknownName p)
@@ -187,7 +192,8 @@ call_form p (Some f) es =
 abbrev pub if_form : Place → Form → Form → Form → Result Form TypeFault
 if_form p t a b =
     where_kept (is_one Truth t.bases && same_bases a.bases b.bases) (Mismatch p) (
-    form a.bases (expr_if t.tree a.tree b.tree) (not_linear_at (earlier_nonlinear (first_nonlinear t.reading) (earlier_nonlinear (first_nonlinear a.reading) (first_nonlinear b.reading))) p) b.next)
+    form a.bases (expr_if t.tree a.tree b.tree)
+    (not_linear_at (earlier_nonlinear (first_nonlinear t.reading) (earlier_nonlinear (first_nonlinear a.reading) (first_nonlinear b.reading))) p) b.next)
 
 -- the variables that a let binds to parts of these bases
 abbrev pub bound : List (List ℕ) → List Place → List Base → List Param
@@ -197,7 +203,8 @@ bound (x ∷ xs) (p ∷ places) [] = []
 bound (x ∷ xs) (p ∷ places) (b ∷ bases) = record { place = p; name = x; base = b } ∷ bound xs places bases
 
 abbrev pub let_form : Place → ℕ → Form → Form → Result Form TypeFault
-let_form p count a b = form b.bases (expr_let count a.tree b.tree) (not_linear_at (earlier_nonlinear (first_nonlinear a.reading) (first_nonlinear b.reading)) p) b.next
+let_form p count a b = form b.bases (expr_let count a.tree b.tree) (not_linear_at (earlier_nonlinear (first_nonlinear a.reading) (first_nonlinear b.reading)) p)
+    b.next
 
 abbrev pub is_output : Base → Bool
 is_output Int = true
@@ -224,6 +231,10 @@ abbrev pub choose_form : Place → ℕ → List Param → List Param → Form �
 choose_form p n scope outputs r =
     where_kept (is_one Truth r.bases) (Mismatch p) (
     linear p r.reading >>= λ rel. form (bases_of outputs) (expr_choose n scope (bases_of outputs) rel) (not_linear p) r.next)
+
+-- a choose at p as a part of the relation around it: `inner` is what its own relation is as a part of that one
+abbrev pub choose_part : Place → Form → Form → Result Form TypeFault
+choose_part p chosen inner = form chosen.bases chosen.tree (not_linear_at (first_nonlinear inner.reading) p) chosen.next
 
 -- the value that is matched, as a variable
 abbrev pub matched : Place → Param
@@ -255,57 +266,75 @@ with_arm arms parts k f =
 abbrev pub match_form : Place → ℕ → List Param → Form → Arms → Result Form TypeFault
 match_form p n scope a arms =
     where_kept (is_one Int a.bases && all_same arms.bases) (Mismatch p) (
-    form (first_of arms.bases) (expr_match n scope a.tree (match_arms_of arms.trees)) (not_linear_at (earlier_nonlinear (first_nonlinear a.reading) arms.first_nonlinear) p) arms.next)
+    form (first_of arms.bases) (expr_match n scope a.tree (match_arms_of arms.trees))
+    (not_linear_at (earlier_nonlinear (first_nonlinear a.reading) arms.first_nonlinear) p) arms.next)
+
+-- where an expression stands: what the name of a function stands for, which relations are linear, and how many of the outermost variables count as known
+pub record Context : Type 0 where
+  pub calls : List ℕ → Option Callee
+  pub how : Linearity
+  pub known : ℕ
+
+-- in the body of a function, where no variable counts as known
+abbrev pub in_body : Linearity → (List ℕ → Option Callee) → Context
+in_body how calls = record { calls = calls; how = how; known = 0 }
+
+-- in the relation of a choose behind n variables
+abbrev pub in_relation : Context → ℕ → Context
+in_relation context n = record { calls = context.calls; how = context.how; known = known_in context.how n }
 
 abbrev mutual
-  -- `calls` says what a name of a function stands for, `scope` holds the variables by level, and n is the next number of a choose
-  pub walk : (List ℕ → Option Callee) → List Param → ℕ → RawTree → Result Form TypeFault
-  walk calls scope n (raw_lit p k) = form (one Int) (expr_lit k) (term (term_lit k)) n
-  walk calls scope n (raw_truth p t) = form (one Truth) (expr_truth t) (truth_reading t) n
-  walk calls scope n (raw_name p x) = variable_form p n (variable_of scope x)
-  walk calls scope n (raw_set_of p es) = walk_all calls scope (no_forms n) es >>= set_form p
-  walk calls scope n (raw_group p a) = walk calls scope n a
-  walk calls scope n (raw_tuple p es) = walk_all calls scope (no_forms n) es >>= tuple_form p
-  walk calls scope n (raw_neg p a) = walk calls scope n a >>= unary_form p Int Int expr_neg (on_term (λ t. term (term_neg t)))
-  walk calls scope n (raw_not p a) = walk calls scope n a >>= unary_form p Truth Truth expr_not (on_relation (λ r. relation (rel_not r)))
-  walk calls scope n (raw_abs p a) = walk calls scope n a >>= unary_form p Int Int expr_abs (on_term (λ t. term (term_abs t)))
-  walk calls scope n (raw_binary p op a b) = walk calls scope n a >>= λ f. walk calls scope f.next b >>= binary_form p op f
-  walk calls scope n (raw_divides p k a) = walk calls scope n a >>= unary_form p Int Truth (expr_divides k) (on_term (λ t. relation (rel_divides k t)))
-  walk calls scope n (raw_div p a k) = walk calls scope n a >>= unary_form p Int Int (λ e. expr_div e k) (on_term (λ t. term (term_div t k)))
-  walk calls scope n (raw_mod p a k) = walk calls scope n a >>= unary_form p Int Int (λ e. expr_mod e k) (on_term (λ t. term (term_mod t k)))
-  walk calls scope n (raw_card p a) = walk calls scope n a >>= unary_form p Set Int expr_card (on_set (λ s. term (term_card s)))
-  walk calls scope n (raw_call p x es) = walk_all calls scope (no_forms n) es >>= call_form p (calls x)
-  walk calls scope n (raw_if p t a b) =
-      walk calls scope n t >>= λ f. walk calls scope f.next a >>= λ g. walk calls scope g.next b >>= if_form p f g
-  walk calls scope n (raw_let p xs places a b) =
-      walk calls scope n a >>= λ f.
+  -- `scope` holds the variables by level, and n is the next number of a choose. The relation of a choose is read for the choose, and as a part of the one
+  -- around it.
+  pub walk : Context → List Param → ℕ → RawTree → Result Form TypeFault
+  walk context scope n (raw_lit p k) = form (one Int) (expr_lit k) (term (term_lit k)) n
+  walk context scope n (raw_truth p t) = form (one Truth) (expr_truth t) (truth_reading t) n
+  walk context scope n (raw_name p x) = variable_form p n (variable_of scope x)
+  walk context scope n (raw_set_of p es) = walk_all context scope (no_forms n) es >>= set_form p
+  walk context scope n (raw_group p a) = walk context scope n a
+  walk context scope n (raw_tuple p es) = walk_all context scope (no_forms n) es >>= tuple_form p
+  walk context scope n (raw_neg p a) = walk context scope n a >>= unary_form p Int Int expr_neg (on_term (λ t. term (term_neg t)))
+  walk context scope n (raw_not p a) = walk context scope n a >>= unary_form p Truth Truth expr_not (on_relation (λ r. relation (rel_not r)))
+  walk context scope n (raw_abs p a) = walk context scope n a >>= unary_form p Int Int expr_abs (on_term (λ t. term (term_abs t)))
+  walk context scope n (raw_binary p op a b) = walk context scope n a >>= λ f. walk context scope f.next b >>= binary_form context.known p op f
+  walk context scope n (raw_divides p k a) = walk context scope n a >>= unary_form p Int Truth (expr_divides k) (on_term (λ t. relation (rel_divides k t)))
+  walk context scope n (raw_div p a k) = walk context scope n a >>= unary_form p Int Int (λ e. expr_div e k) (on_term (λ t. term (term_div t k)))
+  walk context scope n (raw_mod p a k) = walk context scope n a >>= unary_form p Int Int (λ e. expr_mod e k) (on_term (λ t. term (term_mod t k)))
+  walk context scope n (raw_card p a) = walk context scope n a >>= unary_form p Set Int expr_card (on_set (λ s. term (term_card s)))
+  walk context scope n (raw_call p x es) = walk_all context scope (no_forms n) es >>= call_form p (context.calls x)
+  walk context scope n (raw_if p t a b) =
+      walk context scope n t >>= λ f. walk context scope f.next a >>= λ g. walk context scope g.next b >>= if_form p f g
+  walk context scope n (raw_let p xs places a b) =
+      walk context scope n a >>= λ f.
       where_none_repeated (repeated [] xs places) (
       where_kept (length xs == length f.bases) (WrongCount p) (
-      walk calls (scope ++ bound xs places f.bases) f.next b >>= let_form p (length xs) f))
-  walk calls scope n (raw_choose p outputs r) =
-      where_no_fault (output_fault [] outputs) (walk calls (scope ++ outputs) (n + 1) r >>= choose_form p n scope outputs)
-  walk calls scope n (raw_match p a arms) =
-      walk calls scope (n + 1) a >>= λ f. walk_arms calls (scope ++ matched p ∷ []) (no_arms f.next) arms >>= match_form p n (scope ++ matched p ∷ []) f
+      walk context (scope ++ bound xs places f.bases) f.next b >>= let_form p (length xs) f))
+  walk context scope n (raw_choose p outputs r) =
+      where_no_fault (output_fault [] outputs) (
+      walk (in_relation context (length scope)) (scope ++ outputs) (n + 1) r >>= choose_form p n scope outputs >>= λ f.
+      walk context (scope ++ outputs) (n + 1) r >>= choose_part p f)
+  walk context scope n (raw_match p a arms) =
+      walk context scope (n + 1) a >>= λ f. walk_arms context (scope ++ matched p ∷ []) (no_arms f.next) arms >>= match_form p n (scope ++ matched p ∷ []) f
 
   -- behind the expressions that stand before
-  pub walk_all : (List ℕ → Option Callee) → List Param → Forms → RawTrees → Result Forms TypeFault
-  walk_all calls scope before no_raws = Ok before
-  walk_all calls scope before (raw_more e es) =
-      walk calls scope before.next e >>= λ f. walk_all calls scope (with_form before f) es
+  pub walk_all : Context → List Param → Forms → RawTrees → Result Forms TypeFault
+  walk_all context scope before no_raws = Ok before
+  walk_all context scope before (raw_more e es) =
+      walk context scope before.next e >>= λ f. walk_all context scope (with_form before f) es
 
   -- behind the arms that stand before
-  pub walk_arms : (List ℕ → Option Callee) → List Param → Arms → RawArmTrees → Result Arms TypeFault
-  walk_arms calls scope before no_raw_arms = Ok before
-  walk_arms calls scope before (raw_arm_more (raw_arm parts k body) arms) =
+  pub walk_arms : Context → List Param → Arms → RawArmTrees → Result Arms TypeFault
+  walk_arms context scope before no_raw_arms = Ok before
+  walk_arms context scope before (raw_arm_more (raw_arm parts k body) arms) =
       where_none_repeated (repeated [] (map (λ x. x.name) parts) (map (λ x. x.place) parts)) (
-      walk calls (scope ++ variables_of parts) (after_arm before.next parts) body >>= λ f.
-      walk_arms calls scope (with_arm before parts k f) arms)
+      walk context (scope ++ variables_of parts) (after_arm before.next parts) body >>= λ f.
+      walk_arms context scope (with_arm before parts k f) arms)
 
 -- the body of one arm
-abbrev pub walk_arm : (List ℕ → Option Callee) → List Param → ℕ → RawArmTree → Result Form TypeFault
-walk_arm calls scope n (raw_arm parts k body) =
+abbrev pub walk_arm : Context → List Param → ℕ → RawArmTree → Result Form TypeFault
+walk_arm context scope n (raw_arm parts k body) =
     where_none_repeated (repeated [] (map (λ x. x.name) parts) (map (λ x. x.place) parts)) (
-    walk calls (scope ++ variables_of parts) (after_arm n parts) body)
+    walk context (scope ++ variables_of parts) (after_arm n parts) body)
 
 -- the arms before, and this one with the form of its body
 abbrev pub with_walked : Arms → RawArmTree → Form → Arms

@@ -2,13 +2,14 @@
 #![tactic(auto)]
 
 pub mod fault;
+pub mod linearity;
 pub mod typed;
 pub mod variable;
 
 ghost use Rattle.cf_program.specs.Laws.{RulesKeepNames, RulesKeepTypes};
 
-/// A source for which the rules give no fault is a typed program, and its names differ where they
-/// stand together.
+/// A source for which the rules give no fault is a typed program, with relations that are linear by
+/// the rule that was asked, and its names differ where they stand together.
 pub fn rules_keep_facts()
     ensures types { RulesKeepTypes }
     ensures names { RulesKeepNames }

@@ -1,13 +1,19 @@
 -- What the answers of checking say.
-use Rattle.std.proofs.Common.{◌≡◌, List, [], Result, Ok, Err}
+use Rattle.std.proofs.Common.{◌≡◌, ℕ, List, [], Result, Ok, Err, subst}
+use Rattle.cf_tree.specs.declared.raw.Param.{Param}
 use Rattle.cf_tree.specs.DefView.{RawDefTree, DefTree}
-use Rattle.cf_program.specs.Checked.{walk_defs}
+use Rattle.cf_tree.specs.RawTree.{RawTree}
+use Rattle.cf_program.specs.declared.linearity.Linearity.{Linearity}
 use Rattle.cf_program.specs.DistinctNames.{IsDistinctlyNamed}
 use Rattle.cf_program.specs.Source.{IsSpelledProgram}
+use Rattle.cf_program.specs.Checked.{walk_defs}
 use Rattle.cf_program.proofs.ProgramLaws.{is_named}
 use Rattle.cf_program.specs.declared.fault.TypeFault.{TypeFault}
 use Rattle.cf_program.specs.declared.fault.TypeFault.TheVariants as faults
-use Rattle.cf_program.specs.CheckAnswers.{CheckFault}
+use Rattle.cf_program.specs.CheckAnswers.{CheckFault, CheckAnswer}
+use Rattle.cf_program.specs.Walk.{Context, walk}
+use Rattle.cf_type.specs.declared.form.Form.{Form as DeclaredForm}
+use Rattle.cf_type.specs.FormView.{form_of}
 
 pub fails_is : {Y : Type 0} (e : TypeFault) (r : Result Y TypeFault) → r ≡ Err e → CheckFault e r
 fails_is faults.NoMemory r h = tt
@@ -21,5 +27,11 @@ fails_is (faults.NotLinear p) r h = h
 fails_is (faults.Weight n) r h = h
 fails_is (faults.Depth n) r h = h
 
-pub named_is : (ds : List RawDefTree) (defs : List DefTree) → IsSpelledProgram ds → walk_defs ds [] [] 1 ds ≡ Ok defs → IsDistinctlyNamed ds
-named_is ds defs s w = is_named ds defs s w
+pub named_is : (how : Linearity) (ds : List RawDefTree) (defs : List DefTree) → IsSpelledProgram ds → walk_defs how ds [] [] 1 ds ≡ Ok defs →
+    IsDistinctlyNamed ds
+named_is how ds defs s w = is_named how ds s defs w
+
+-- the answer of a walk, in the same context under another name
+pub walked_in : (told is : Context) (scope : List Param) (n : ℕ) (raw : RawTree) (r : Result DeclaredForm TypeFault) → told ≡ is →
+    CheckAnswer form_of r (walk told scope n raw) → CheckAnswer form_of r (walk is scope n raw)
+walked_in told is scope n raw r same h = subst (λ x. CheckAnswer form_of r (walk x scope n raw)) same h

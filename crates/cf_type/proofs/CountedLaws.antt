@@ -36,21 +36,25 @@ added_size : (sum : TermTree) (y : ℕ) (factors : List ℤ) (k : ℤ) → term_
 added_size sum y [] k = omega arith
 added_size sum y (f ∷ factors) k = omega (arith, added_size (term_add sum (term_mul (term_lit f) (term_var y))) (suc y) factors k)
 
-added_depth : (sum : TermTree) (y : ℕ) (factors : List ℤ) (k : ℤ) → 2 ≤ term_depth sum → term_depth (added sum y factors k) ≡ term_depth sum + length factors + 1
+added_depth : (sum : TermTree) (y : ℕ) (factors : List ℤ) (k : ℤ) → 2 ≤ term_depth sum →
+    term_depth (added sum y factors k) ≡ term_depth sum + length factors + 1
 added_depth sum y [] k h = omega arith
 added_depth sum y (f ∷ factors) k h = omega (arith, added_depth (term_add sum (term_mul (term_lit f) (term_var y))) (suc y) factors k (omega arith))
 
-with_variables_weight : (calls : ℕ → ℕ) (m x : ℕ) (scope : List Param) (factors : List ℤ) (k : ℤ) (body : ExprTree) → weight_in calls (with_variables m x scope factors k body) ≡ variables_weight factors + weight_in calls body
+with_variables_weight : (calls : ℕ → ℕ) (m x : ℕ) (scope : List Param) (factors : List ℤ) (k : ℤ) (body : ExprTree) →
+    weight_in calls (with_variables m x scope factors k body) ≡ variables_weight factors + weight_in calls body
 with_variables_weight calls m x scope [] k body = omega arith
 with_variables_weight calls m x scope (f ∷ factors) k body =
     omega (arith, added_size (term_mul (term_lit f) (term_var (suc x))) (suc (suc x)) factors k)
 
-with_variables_depth : (calls : ℕ → ℕ) (m x : ℕ) (scope : List Param) (factors : List ℤ) (k : ℤ) (body : ExprTree) → depth_in calls (with_variables m x scope factors k body) ≡ variables_depth factors (depth_in calls body)
+with_variables_depth : (calls : ℕ → ℕ) (m x : ℕ) (scope : List Param) (factors : List ℤ) (k : ℤ) (body : ExprTree) →
+    depth_in calls (with_variables m x scope factors k body) ≡ variables_depth factors (depth_in calls body)
 with_variables_depth calls m x scope [] k body = refl
 with_variables_depth calls m x scope (f ∷ factors) k body =
     omega (arith, added_depth (term_mul (term_lit f) (term_var (suc x))) (suc (suc x)) factors k (omega arith))
 
-any_test_weight : (calls : ℕ → ℕ) (x : ℕ) (before : ExprTree) (arms : MatchArmTrees) → weight_in calls (any_test x before arms) ≡ weight_in calls before + tests_weight arms
+any_test_weight : (calls : ℕ → ℕ) (x : ℕ) (before : ExprTree) (arms : MatchArmTrees) →
+    weight_in calls (any_test x before arms) ≡ weight_in calls before + tests_weight arms
 any_test_weight calls x before no_match_arms = omega arith
 any_test_weight calls x before (match_arm_more (match_arm m factors k body) arms) =
     omega (arith, any_test_weight calls x (expr_binary Or before (test x factors k)) arms, test_weight_is calls x factors k)
@@ -60,7 +64,8 @@ any_fits_weight calls x no_match_arms = refl
 any_fits_weight calls x (match_arm_more (match_arm m factors k body) arms) =
     omega (arith, any_test_weight calls x (test x factors k) arms, test_weight_is calls x factors k)
 
-any_test_depth : (calls : ℕ → ℕ) (x : ℕ) (before : ExprTree) (arms : MatchArmTrees) → depth_in calls (any_test x before arms) ≡ tests_depth (depth_in calls before) arms
+any_test_depth : (calls : ℕ → ℕ) (x : ℕ) (before : ExprTree) (arms : MatchArmTrees) →
+    depth_in calls (any_test x before arms) ≡ tests_depth (depth_in calls before) arms
 any_test_depth calls x before no_match_arms = refl
 any_test_depth calls x before (match_arm_more (match_arm m factors k body) arms) =
     any_test_depth calls x (expr_binary Or before (test x factors k)) arms
@@ -98,12 +103,19 @@ mutual
   weight_lowered_all calls no_exprs = refl
   weight_lowered_all calls (expr_more e es) = omega (arith, weight_lowered calls e, weight_lowered_all calls es)
 
-  weight_picked : (calls : ℕ → ℕ) (x : ℕ) (scope : List Param) (arms : MatchArmTrees) → weight_in calls (picked x scope arms) ≡ picks_weight arms + weight_of_arms calls arms
+  weight_picked : (calls : ℕ → ℕ) (x : ℕ) (scope : List Param) (arms : MatchArmTrees) →
+      weight_in calls (picked x scope arms) ≡ picks_weight arms + weight_of_arms calls arms
   weight_picked calls x scope no_match_arms = refl
   weight_picked calls x scope (match_arm_more (match_arm m factors k body) no_match_arms) =
       omega (arith, with_variables_weight calls m x scope factors k (lowered body), weight_lowered calls body)
   weight_picked calls x scope (match_arm_more (match_arm m factors k body) (match_arm_more b arms)) =
-      omega (arith, test_weight_is calls x factors k, with_variables_weight calls m x scope factors k (lowered body), weight_lowered calls body, weight_picked calls x scope (match_arm_more b arms))
+      omega (
+        arith,
+        test_weight_is calls x factors k,
+        with_variables_weight calls m x scope factors k (lowered body),
+        weight_lowered calls body,
+        weight_picked calls x scope (match_arm_more b arms),
+      )
 
 -- one arm is picked without a test
 picked_last : (n last d' d : ℕ) → d' ≡ d → last ≡ n + 0 → max (n + d') (n + 1) ≡ max (max 0 (max (min (n + 1) last + d) 0)) (n + 1)
@@ -127,7 +139,9 @@ not_less u v p b z h =
     stays x z h = omega arith
 
 -- an arm is picked by a test, or else one behind it
-picked_more : (n last t' t d' d p picks bodies level : ℕ) → t' ≡ t → d' ≡ d → 1 ≤ t → last ≡ n + (1 + level) → max (n + 1 + p) (n + 1 + 1) ≡ max (max picks bodies) (n + 1 + 1) → max (n + (1 + max t' (max d' p))) (n + 1) ≡ max (max (max (n + 1 + t) picks) (max (min (n + 1) last + d) bodies)) (n + 1)
+picked_more : (n last t' t d' d p picks bodies level : ℕ) → t' ≡ t → d' ≡ d → 1 ≤ t → last ≡ n + (1 + level) →
+    max (n + 1 + p) (n + 1 + 1) ≡ max (max picks bodies) (n + 1 + 1) →
+    max (n + (1 + max t' (max d' p))) (n + 1) ≡ max (max (max (n + 1 + t) picks) (max (min (n + 1) last + d) bodies)) (n + 1)
 picked_more n last t' t d' d p picks bodies level et ed some h rest =
     let low : n + 1 ≡ min (n + 1) last = omega arith in
     ap (λ u. max (n + (1 + max u (max d' p))) (n + 1)) et
@@ -139,7 +153,8 @@ picked_more n last t' t d' d p picks bodies level et ed some h rest =
     ∙ ap (λ q. max (max (max (n + 1 + t) picks) (max (q + d) bodies)) (n + 1)) low
 
 -- the depth of a match, of that of its value and of what picks an arm; without arms, the latter is less than the former
-match_depth : (a any picks bodies p : ℕ) → max p 1 ≡ max (max picks bodies) 1 → 1 + max (1 + max a (1 + max any 2)) p ≡ 1 + max (1 + max a (1 + max any 2)) (max picks bodies)
+match_depth : (a any picks bodies p : ℕ) → max p 1 ≡ max (max picks bodies) 1 →
+    1 + max (1 + max a (1 + max any 2)) p ≡ 1 + max (1 + max a (1 + max any 2)) (max picks bodies)
 match_depth a any picks bodies p h = omega arith
 
 mutual
@@ -163,22 +178,28 @@ mutual
   depth_lowered calls (expr_choose n scope outputs rel) = refl
   depth_lowered calls (expr_match n scope a arms) =
       rw (depth_lowered calls a, any_fits_depth calls (length scope - 1) arms)
-      (match_depth (depth_of calls a) (any_depth arms) (picks_depth 0 arms) (depth_of_arms calls 0 (last_level arms) arms) (depth_in calls (picked (length scope - 1) scope arms)) (omega (arith, depth_picked calls (length scope - 1) scope 0 (last_level arms) arms (omega arith))))
+      (match_depth (depth_of calls a) (any_depth arms) (picks_depth 0 arms) (depth_of_arms calls 0 (last_level arms) arms)
+      (depth_in calls (picked (length scope - 1) scope arms))
+      (omega (arith, depth_picked calls (length scope - 1) scope 0 (last_level arms) arms (omega arith))))
 
   depth_lowered_all : (calls : ℕ → ℕ) (es : ExprTrees) → depth_all calls (all_lowered es) ≡ depth_of_all calls es
   depth_lowered_all calls no_exprs = refl
   depth_lowered_all calls (expr_more e es) = omega (arith, depth_lowered calls e, depth_lowered_all calls es)
 
   -- as far as the depth is more than n + 1, as it is where there are arms
-  depth_picked : (calls : ℕ → ℕ) (x : ℕ) (scope : List Param) (n last : ℕ) (arms : MatchArmTrees) → last ≡ n + last_level arms → max (n + depth_in calls (picked x scope arms)) (n + 1) ≡ max (max (picks_depth n arms) (depth_of_arms calls n last arms)) (n + 1)
+  depth_picked : (calls : ℕ → ℕ) (x : ℕ) (scope : List Param) (n last : ℕ) (arms : MatchArmTrees) → last ≡ n + last_level arms →
+      max (n + depth_in calls (picked x scope arms)) (n + 1) ≡ max (max (picks_depth n arms) (depth_of_arms calls n last arms)) (n + 1)
   depth_picked calls x scope n last no_match_arms h = omega arith
   depth_picked calls x scope n last (match_arm_more (match_arm m factors k body) no_match_arms) h =
       picked_last n last (depth_in calls (with_variables m x scope factors k (lowered body))) (variables_depth factors (depth_of calls body))
       (with_variables_depth calls m x scope factors k (lowered body) ∙ ap (variables_depth factors) (depth_lowered calls body)) h
   depth_picked calls x scope n last (match_arm_more (match_arm m factors k body) (match_arm_more b arms)) h =
-      picked_more n last (depth_in calls (test x factors k)) (cond (are_zero factors) 2 3) (depth_in calls (with_variables m x scope factors k (lowered body))) (variables_depth factors (depth_of calls body))
-      (depth_in calls (picked x scope (match_arm_more b arms))) (picks_depth (n + 1) (match_arm_more b arms)) (depth_of_arms calls (n + 1) last (match_arm_more b arms)) (last_level (match_arm_more b arms))
-      (test_depth_is calls x factors k) (with_variables_depth calls m x scope factors k (lowered body) ∙ ap (variables_depth factors) (depth_lowered calls body)) (some_depth (are_zero factors)) h
+      picked_more n last (depth_in calls (test x factors k)) (cond (are_zero factors) 2 3) (depth_in calls (with_variables m x scope factors k (lowered body)))
+      (variables_depth factors (depth_of calls body))
+      (depth_in calls (picked x scope (match_arm_more b arms))) (picks_depth (n + 1) (match_arm_more b arms))
+      (depth_of_arms calls (n + 1) last (match_arm_more b arms)) (last_level (match_arm_more b arms))
+      (test_depth_is calls x factors k) (with_variables_depth calls m x scope factors k (lowered body) ∙
+      ap (variables_depth factors) (depth_lowered calls body)) (some_depth (are_zero factors)) h
       (depth_picked calls x scope (n + 1) last (match_arm_more b arms) (omega arith))
 
 -- counts that stand still
@@ -202,7 +223,9 @@ last_level_is (a ∷ b ∷ arms) = omega (arith, last_level_is (b ∷ arms))
 pub item_dropped : {A : Type 0} (xs : List A) (i : ℕ) (x : A) → i < length xs → x ≡ get_or xs i x → drop i xs ≡ x ∷ drop (i + 1) xs
 item_dropped xs i x h e = drop-cons xs i x h ∙ ap (λ y. y ∷ drop (suc i) xs) (sym e) ∙ ap (λ j. x ∷ drop j xs) (sym (add-one i))
 
-pub tests_depth_next : (arms : List MatchArm) (i : ℕ) (a : MatchArm) (d r m : ℕ) → i < length arms → a ≡ get_or arms i a → r ≡ capped (1 + max d (test_depth (match_arm_tree a))) → capped (tests_depth d (match_arm_trees (drop i arms))) ≡ m → capped (tests_depth r (match_arm_trees (drop (i + 1) arms))) ≡ m
+pub tests_depth_next : (arms : List MatchArm) (i : ℕ) (a : MatchArm) (d r m : ℕ) → i < length arms → a ≡ get_or arms i a →
+    r ≡ capped (1 + max d (test_depth (match_arm_tree a))) → capped (tests_depth d (match_arm_trees (drop i arms))) ≡ m →
+    capped (tests_depth r (match_arm_trees (drop (i + 1) arms))) ≡ m
 tests_depth_next arms i a d r m h at e inv =
     ap (λ n. capped (tests_depth n (match_arm_trees (drop (i + 1) arms)))) e
     ∙ tests_depth_capped (1 + max d (test_depth (match_arm_tree a))) (match_arm_trees (drop (i + 1) arms))

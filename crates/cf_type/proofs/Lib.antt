@@ -7,3 +7,4 @@ mod ReadingLemmas
 mod ScopedLemmas
 mod SizeLemmas
 mod WalkSteps
+mod DefSteps

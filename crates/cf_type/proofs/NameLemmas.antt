@@ -19,16 +19,19 @@ repeated_none before (x ∷ xs) (p ∷ places) e = cc
 -- a table of names by bytes: whether it has a name, and what it has after one more
 among_keys : {K : Type 0} (f : K → List ℕ) (ks : List K) (k : K) → list_any (λ y. bytes_eq (f k) (f y)) ks ≡ is_among (map f ks) (f k)
 among_keys f [] k = refl
-among_keys f (y ∷ ys) k = ap (λ b. b || list_any (λ z. bytes_eq (f k) (f z)) ys) (nat_list_eq_equiv.symm (f k) (f y)) ∙ ap (λ b. bytes_eq (f y) (f k) || b) (among_keys f ys k)
+among_keys f (y ∷ ys) k = ap (λ b. b || list_any (λ z. bytes_eq (f k) (f z)) ys) (nat_list_eq_equiv.symm (f k) (f y)) ∙
+    ap (λ b. bytes_eq (f y) (f k) || b) (among_keys f ys k)
 
-pub is_among_keys : {K : Type 0} (f : K → List ℕ) (ks : List K) (k : K) (new : Bool) → new ≡ not (list_any (λ y. bytes_eq (f k) (f y)) ks) → not new ≡ is_among (map f ks) (f k)
+pub is_among_keys : {K : Type 0} (f : K → List ℕ) (ks : List K) (k : K) (new : Bool) → new ≡ not (list_any (λ y. bytes_eq (f k) (f y)) ks) →
+    not new ≡ is_among (map f ks) (f k)
 is_among_keys f ks k new told = ap not told ∙ by (list_any (λ y. bytes_eq (f k) (f y)) ks) ∙ among_keys f ks k
   where
     by : (b : Bool) → not (not b) ≡ b
     by true = refl
     by false = refl
 
-pub keys_added : {K : Type 0} (f : K → List ℕ) (ks after : List K) (k : K) (new : Bool) → new ≡ not (list_any (λ y. bytes_eq (f k) (f y)) ks) → after ≡ insert_key (λ a b. bytes_eq (f a) (f b)) ks k →
+pub keys_added : {K : Type 0} (f : K → List ℕ) (ks after : List K) (k : K) (new : Bool) → new ≡ not (list_any (λ y. bytes_eq (f k) (f y)) ks) →
+    after ≡ insert_key (λ a b. bytes_eq (f a) (f b)) ks k →
     map f after ≡ (if not new then map f ks else map f ks ++ f k ∷ [])
 keys_added f ks after k new told added = ap (map f) added ∙ by (list_any (λ y. bytes_eq (f k) (f y)) ks) new told
   where

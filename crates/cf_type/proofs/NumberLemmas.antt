@@ -24,7 +24,8 @@ later_assoc (Some n) b c = refl
 later_assoc None b c = refl
 
 -- one more name at the end
-number_of_more : (table : List (List ℕ × ℕ)) (y x : List ℕ) (i : ℕ) → number_of (table ++ (y, i) ∷ []) x ≡ or_later (number_of table x) (cond (bytes_eq x y) (Some i) None)
+number_of_more : (table : List (List ℕ × ℕ)) (y x : List ℕ) (i : ℕ) →
+    number_of (table ++ (y, i) ∷ []) x ≡ or_later (number_of table x) (cond (bytes_eq x y) (Some i) None)
 number_of_more [] y x i = refl
 number_of_more (e ∷ es) y x i = by (bytes_eq x e.0) (number_of_more es y x i)
   where
@@ -37,7 +38,8 @@ same_number : (table : List (List ℕ × ℕ)) (x y : List ℕ) → bytes_eq x y
 same_number table x y h = ap (number_of table) ((bytes_decides x y).0 h)
 
 -- a name that the table has keeps its number
-had : (table : List (List ℕ × ℕ)) (y x : List ℕ) (i n : ℕ) → number_of table y ≡ Some n → or_later (number_of table x) (cond (bytes_eq x y) (Some i) None) ≡ number_of table x
+had : (table : List (List ℕ × ℕ)) (y x : List ℕ) (i n : ℕ) → number_of table y ≡ Some n →
+    or_later (number_of table x) (cond (bytes_eq x y) (Some i) None) ≡ number_of table x
 had table y x i n h = by (bytes_eq x y) refl (number_of table x) refl
   where
     by : (b : Bool) → bytes_eq x y ≡ b → (o : Option ℕ) → number_of table x ≡ o → or_later o (cond b (Some i) None) ≡ o
@@ -46,10 +48,12 @@ had table y x i n h = by (bytes_eq x y) refl (number_of table x) refl
     by false e (Some m) g = refl
     by false e None g = refl
 
-with_name_number : (table : List (List ℕ × ℕ)) (y x : List ℕ) (i : ℕ) → number_of (with_name table y i) x ≡ or_later (number_of table x) (cond (bytes_eq x y) (Some i) None)
+with_name_number : (table : List (List ℕ × ℕ)) (y x : List ℕ) (i : ℕ) →
+    number_of (with_name table y i) x ≡ or_later (number_of table x) (cond (bytes_eq x y) (Some i) None)
 with_name_number table y x i = by (number_of table y) refl
   where
-    by : (o : Option ℕ) → number_of table y ≡ o → number_of (if is_some o then table else table ++ (y, i) ∷ []) x ≡ or_later (number_of table x) (cond (bytes_eq x y) (Some i) None)
+    by : (o : Option ℕ) → number_of table y ≡ o →
+        number_of (if is_some o then table else table ++ (y, i) ∷ []) x ≡ or_later (number_of table x) (cond (bytes_eq x y) (Some i) None)
     by (Some n) h = sym (had table y x i n h)
     by None h = number_of_more table y x i
 
@@ -57,7 +61,8 @@ later_first : (b : Bool) (i : ℕ) (o : Option ℕ) → or_later (cond b (Some i
 later_first true i o = refl
 later_first false i o = refl
 
-numbered_first : (table : List (List ℕ × ℕ)) (i : ℕ) (ys : List (List ℕ)) (x : List ℕ) → number_of (with_names table i ys) x ≡ or_later (number_of table x) (first_from i ys x)
+numbered_first : (table : List (List ℕ × ℕ)) (i : ℕ) (ys : List (List ℕ)) (x : List ℕ) →
+    number_of (with_names table i ys) x ≡ or_later (number_of table x) (first_from i ys x)
 numbered_first table i [] x = by (number_of table x)
   where
     by : (o : Option ℕ) → o ≡ or_later o None
@@ -72,11 +77,13 @@ numbered_first table i (y ∷ ys) x =
 -- what a name of a function stands for, by the first number of the name
 pub data Stands (caller i : ℕ) (ds : List RawDef) (x : List ℕ) : Option ℕ → Type 0 where
   for_none : callee_from caller i (map raw_def_tree ds) x ≡ None → Stands caller i ds x None
-  for_def : (n k : ℕ) → n ≡ i + k → k < length ds → ((d : RawDef) → callee_from caller i (map raw_def_tree ds) x ≡ Some (callee caller n (raw_def_tree (get_or ds k d)))) → Stands caller i ds x (Some n)
+  for_def : (n k : ℕ) → n ≡ i + k → k < length ds →
+      ((d : RawDef) → callee_from caller i (map raw_def_tree ds) x ≡ Some (callee caller n (raw_def_tree (get_or ds k d)))) → Stands caller i ds x (Some n)
 
 stands : (caller i : ℕ) (ds : List RawDef) (x : List ℕ) → Stands caller i ds x (first_from i (names_of_defs ds) x)
 stands caller i [] x = for_none refl
-stands caller i (d ∷ ds) x = by (bytes_eq x d.name) (sym (nat_list_eq_equiv.symm x d.name)) (first_from (suc i) (names_of_defs ds) x) (stands caller (suc i) ds x)
+stands caller i (d ∷ ds) x = by (bytes_eq x d.name) (sym (nat_list_eq_equiv.symm x d.name)) (first_from (suc i) (names_of_defs ds) x)
+    (stands caller (suc i) ds x)
   where
     by : (b : Bool) → bytes_eq d.name x ≡ b → (o : Option ℕ) → Stands caller (suc i) ds x o → Stands caller i (d ∷ ds) x (cond b (Some i) o)
     by true e o s = for_def i 0 (omega arith) (omega arith) (λ d'. rw e refl)
@@ -88,11 +95,13 @@ has_shown : (es : List (Vec ℕ Global × ℕ)) (x : List ℕ) → number_of (sh
 has_shown [] x = refl
 has_shown (e ∷ es) x = ap (cond (bytes_eq x e.0.items) (Some e.1)) (has_shown es x)
 
-put_shown : (es : List (Vec ℕ Global × ℕ)) (k : Vec ℕ Global) (i : ℕ) → number_of (shown es) k.items ≡ None → shown (insert_entry (λ a b. bytes_eq a.items b.items) es k i) ≡ shown es ++ (k.items, i) ∷ []
+put_shown : (es : List (Vec ℕ Global × ℕ)) (k : Vec ℕ Global) (i : ℕ) → number_of (shown es) k.items ≡ None →
+    shown (insert_entry (λ a b. bytes_eq a.items b.items) es k i) ≡ shown es ++ (k.items, i) ∷ []
 put_shown [] k i h = refl
 put_shown (e ∷ es) k i h = by (bytes_eq k.items e.0.items) h (put_shown es k i)
   where
-    by : (b : Bool) → cond b (Some e.1) (number_of (shown es) k.items) ≡ None → (number_of (shown es) k.items ≡ None → shown (insert_entry (λ a b. bytes_eq a.items b.items) es k i) ≡ shown es ++ (k.items, i) ∷ []) →
+    by : (b : Bool) → cond b (Some e.1) (number_of (shown es) k.items) ≡ None →
+        (number_of (shown es) k.items ≡ None → shown (insert_entry (λ a b. bytes_eq a.items b.items) es k i) ≡ shown es ++ (k.items, i) ∷ []) →
         shown (cond b ((e.0, i) ∷ es) (e ∷ insert_entry (λ a b. bytes_eq a.items b.items) es k i)) ≡ (e.0.items, e.1) ∷ (shown es ++ (k.items, i) ∷ [])
     by true g later = cc
     by false g later = ap (λ r. (e.0.items, e.1) ∷ r) (later g)
@@ -106,7 +115,9 @@ none_there None h = refl
 none_there (Some n) h = cc
 
 -- a new name goes last
-pub name_added : (es after : List (Vec ℕ Global × ℕ)) (k : Vec ℕ Global) (x : List ℕ) (i : ℕ) → k.items ≡ x → false ≡ is_some (lookup (λ k. bytes_eq x k.items) es) → after ≡ insert_entry (λ a b. bytes_eq a.items b.items) es k i → shown after ≡ with_name (shown es) x i
+pub name_added : (es after : List (Vec ℕ Global × ℕ)) (k : Vec ℕ Global) (x : List ℕ) (i : ℕ) → k.items ≡ x →
+    false ≡ is_some (lookup (λ k. bytes_eq x k.items) es) → after ≡ insert_entry (λ a b. bytes_eq a.items b.items) es k i →
+    shown after ≡ with_name (shown es) x i
 name_added es after k x i same h put =
     let none : number_of (shown es) x ≡ None = has_shown es x ∙ none_there (lookup (λ k. bytes_eq x k.items) es) h in
     ap shown put
@@ -114,29 +125,35 @@ name_added es after k x i same h put =
     ∙ ap (λ y. shown es ++ (y, i) ∷ []) same
     ∙ ap (λ b. if b then shown es else shown es ++ (x, i) ∷ []) (sym (ap is_some none))
 
-stands_for : (caller : ℕ) (es : List (Vec ℕ Global × ℕ)) (ds : List RawDef) (x : List ℕ) (o : Option ℕ) → o ≡ lookup (λ k. bytes_eq x k.items) es → shown es ≡ numbers_of ds → Stands caller 0 ds x o
+stands_for : (caller : ℕ) (es : List (Vec ℕ Global × ℕ)) (ds : List RawDef) (x : List ℕ) (o : Option ℕ) → o ≡ lookup (λ k. bytes_eq x k.items) es →
+    shown es ≡ numbers_of ds → Stands caller 0 ds x o
 stands_for caller es ds x o h table =
-    subst (Stands caller 0 ds x) (sym (h ∙ sym (has_shown es x) ∙ ap (λ t. number_of t x) table ∙ numbered_first [] 0 (names_of_defs ds) x)) (stands caller 0 ds x)
+    subst (Stands caller 0 ds x) (sym (h ∙ sym (has_shown es x) ∙ ap (λ t. number_of t x) table ∙ numbered_first [] 0 (names_of_defs ds) x))
+    (stands caller 0 ds x)
 
-pub no_callee : (caller : ℕ) (es : List (Vec ℕ Global × ℕ)) (ds : List RawDef) (x : List ℕ) → None ≡ lookup (λ k. bytes_eq x k.items) es → shown es ≡ numbers_of ds → callee_from caller 0 (map raw_def_tree ds) x ≡ None
+pub no_callee : (caller : ℕ) (es : List (Vec ℕ Global × ℕ)) (ds : List RawDef) (x : List ℕ) → None ≡ lookup (λ k. bytes_eq x k.items) es →
+    shown es ≡ numbers_of ds → callee_from caller 0 (map raw_def_tree ds) x ≡ None
 no_callee caller es ds x h table = by None (stands_for caller es ds x None h table) refl
   where
     by : (o : Option ℕ) → Stands caller 0 ds x o → o ≡ None → callee_from caller 0 (map raw_def_tree ds) x ≡ None
     by None (for_none e) g = e
     by (Some n) s g = cc
 
-pub number_below : (es : List (Vec ℕ Global × ℕ)) (ds : List RawDef) (x : List ℕ) (n : ℕ) → Some n ≡ lookup (λ k. bytes_eq x k.items) es → shown es ≡ numbers_of ds → n < length ds
+pub number_below : (es : List (Vec ℕ Global × ℕ)) (ds : List RawDef) (x : List ℕ) (n : ℕ) → Some n ≡ lookup (λ k. bytes_eq x k.items) es →
+    shown es ≡ numbers_of ds → n < length ds
 number_below es ds x n h table = by (Some n) (stands_for 0 es ds x (Some n) h table) refl
   where
     by : (o : Option ℕ) → Stands 0 0 ds x o → o ≡ Some n → n < length ds
     by None s g = cc
     by (Some m) (for_def l k same below e) g = let m_is_n : m ≡ n = cc in omega (arith, same, below, m_is_n)
 
-pub callee_at : (caller : ℕ) (es : List (Vec ℕ Global × ℕ)) (ds : List RawDef) (x : List ℕ) (n : ℕ) (d : RawDef) → Some n ≡ lookup (λ k. bytes_eq x k.items) es → shown es ≡ numbers_of ds →
+pub callee_at : (caller : ℕ) (es : List (Vec ℕ Global × ℕ)) (ds : List RawDef) (x : List ℕ) (n : ℕ) (d : RawDef) →
+    Some n ≡ lookup (λ k. bytes_eq x k.items) es → shown es ≡ numbers_of ds →
     callee_from caller 0 (map raw_def_tree ds) x ≡ Some (callee caller n (raw_def_tree (get_or ds n d)))
 callee_at caller es ds x n d h table = by (Some n) (stands_for caller es ds x (Some n) h table) refl
   where
-    by : (o : Option ℕ) → Stands caller 0 ds x o → o ≡ Some n → callee_from caller 0 (map raw_def_tree ds) x ≡ Some (callee caller n (raw_def_tree (get_or ds n d)))
+    by : (o : Option ℕ) → Stands caller 0 ds x o → o ≡ Some n →
+        callee_from caller 0 (map raw_def_tree ds) x ≡ Some (callee caller n (raw_def_tree (get_or ds n d)))
     by None s e = cc
     by (Some m) (for_def l k same below all) e =
         let m_is_n : m ≡ n = cc in
@@ -160,7 +177,8 @@ named_before zero i ys x = sym (first_not_below i (i + 0) ys x (omega arith))
 named_before (suc k) i [] x = refl
 named_before (suc k) i (y ∷ ys) x = by (bytes_eq x y) (nat_list_eq_equiv.symm y x) (named_before k (suc i) ys x)
   where
-    by : (b : Bool) → bytes_eq y x ≡ b → is_among (take k ys) x ≡ is_below (first_from (suc i) ys x) (suc i + k) → (bytes_eq y x || is_among (take k ys) x) ≡ is_below (cond b (Some i) (first_from (suc i) ys x)) (i + suc k)
+    by : (b : Bool) → bytes_eq y x ≡ b → is_among (take k ys) x ≡ is_below (first_from (suc i) ys x) (suc i + k) →
+        (bytes_eq y x || is_among (take k ys) x) ≡ is_below (cond b (Some i) (first_from (suc i) ys x)) (i + suc k)
     by true e h = let below : i < i + suc k = omega arith in rw e (sym (lt-ltb i (i + suc k) below))
     by false e h = let same : suc i + k ≡ i + suc k = omega arith in rw e (h ∙ ap (is_below (first_from (suc i) ys x)) same)
 
@@ -173,7 +191,8 @@ names_taken zero ds = refl
 names_taken (suc k) [] = refl
 names_taken (suc k) (d ∷ ds) = ap (λ r. d.name ∷ r) (names_taken k ds)
 
-among_first : (es : List (Vec ℕ Global × ℕ)) (ds : List RawDef) (x : List ℕ) (k : ℕ) (o : Option ℕ) → o ≡ lookup (λ k. bytes_eq x k.items) es → shown es ≡ numbers_of ds →
+among_first : (es : List (Vec ℕ Global × ℕ)) (ds : List RawDef) (x : List ℕ) (k : ℕ) (o : Option ℕ) → o ≡ lookup (λ k. bytes_eq x k.items) es →
+    shown es ≡ numbers_of ds →
     is_among (map (λ e. e.name) (map raw_def_tree (take k ds))) x ≡ is_below o k
 among_first es ds x k o h table =
     let from_zero : 0 + k ≡ k = omega arith in
@@ -182,10 +201,12 @@ among_first es ds x k o h table =
     ∙ ap (is_below (first_from 0 (names_of_defs ds) x)) from_zero
     ∙ ap (λ r. is_below r k) (sym (h ∙ sym (has_shown es x) ∙ ap (λ t. number_of t x) table ∙ numbered_first [] 0 (names_of_defs ds) x))
 
-pub none_among : (es : List (Vec ℕ Global × ℕ)) (ds : List RawDef) (x : List ℕ) (k : ℕ) → None ≡ lookup (λ k. bytes_eq x k.items) es → shown es ≡ numbers_of ds →
+pub none_among : (es : List (Vec ℕ Global × ℕ)) (ds : List RawDef) (x : List ℕ) (k : ℕ) → None ≡ lookup (λ k. bytes_eq x k.items) es →
+    shown es ≡ numbers_of ds →
     false ≡ is_among (map (λ e. e.name) (map raw_def_tree (take k ds))) x
 none_among es ds x k h table = sym (among_first es ds x k None h table)
 
-pub first_among : (es : List (Vec ℕ Global × ℕ)) (ds : List RawDef) (x : List ℕ) (k n : ℕ) → Some n ≡ lookup (λ k. bytes_eq x k.items) es → shown es ≡ numbers_of ds →
+pub first_among : (es : List (Vec ℕ Global × ℕ)) (ds : List RawDef) (x : List ℕ) (k n : ℕ) → Some n ≡ lookup (λ k. bytes_eq x k.items) es →
+    shown es ≡ numbers_of ds →
     nat_lt n k ≡ is_among (map (λ e. e.name) (map raw_def_tree (take k ds))) x
 first_among es ds x k n h table = sym (among_first es ds x k (Some n) h table)

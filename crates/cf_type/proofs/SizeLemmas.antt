@@ -38,11 +38,15 @@ Counts measure counted = (calls : ℕ → ℕ) (e : ExprTree) → measure calls 
 abbrev pub IsCounted : ((ℕ → ℕ) → ExprTree → ℕ) → Def → List ℕ → ℕ → Type 0
 IsCounted counted d known w = w ≡ capped (counted (λ f. slice_index known f) (expr_tree d.body))
 
-measured_is : (measure counted : (ℕ → ℕ) → ExprTree → ℕ) (d : Def) (known calls : List ℕ) (w : ℕ) → Counts measure counted → calls ≡ known → IsCounted counted d calls w → w ≡ capped (measure (λ f. slice_index known f) (lowered (expr_tree d.body)))
+measured_is : (measure counted : (ℕ → ℕ) → ExprTree → ℕ) (d : Def) (known calls : List ℕ) (w : ℕ) → Counts measure counted → calls ≡ known →
+    IsCounted counted d calls w → w ≡ capped (measure (λ f. slice_index known f) (lowered (expr_tree d.body)))
 measured_is measure counted d known calls w law same e =
     e ∙ ap (λ c. capped (counted (λ f. slice_index c f) (expr_tree d.body))) same ∙ ap capped (sym (law (λ f. slice_index known f) (expr_tree d.body)))
 
-pub measured_goes_on : (limit : ℕ) (fault : ℕ → TypeFault) (measure counted : (ℕ → ℕ) → ExprTree → ℕ) (defs : List Def) (i : ℕ) (d : Def) (known calls : List ℕ) (w : ℕ) (o : Option TypeFault) → limit ≤ 1000000 → Counts measure counted → i < length defs → d ≡ get_or defs i d → calls ≡ known → IsCounted counted d calls w → w ≤ limit → size_fault limit fault (measured measure known (map def_tree (drop i defs))) ≡ o → size_fault limit fault (measured measure (known ++ w ∷ []) (map def_tree (drop (i + 1) defs))) ≡ o
+pub measured_goes_on : (limit : ℕ) (fault : ℕ → TypeFault) (measure counted : (ℕ → ℕ) → ExprTree → ℕ) (defs : List Def) (i : ℕ) (d : Def) (known calls : List ℕ)
+    (w : ℕ) (o : Option TypeFault) → limit ≤ 1000000 → Counts measure counted → i < length defs → d ≡ get_or defs i d → calls ≡ known →
+    IsCounted counted d calls w → w ≤ limit → size_fault limit fault (measured measure known (map def_tree (drop i defs))) ≡ o →
+    size_fault limit fault (measured measure (known ++ w ∷ []) (map def_tree (drop (i + 1) defs))) ≡ o
 measured_goes_on limit fault measure counted defs i d known calls w o low law h at same e fits inv =
     let n : ℕ = measure (λ f. slice_index known f) (lowered (expr_tree d.body)) in
     let is : w ≡ capped n = measured_is measure counted d known calls w law same e in
@@ -52,7 +56,9 @@ measured_goes_on limit fault measure counted defs i d known calls w o low law h 
     ∙ ap (λ rest. size_fault limit fault (measured measure known (map def_tree rest))) (sym (item_dropped defs i d h at))
     ∙ inv
 
-pub measured_passes : (limit : ℕ) (fault : ℕ → TypeFault) (measure counted : (ℕ → ℕ) → ExprTree → ℕ) (defs : List Def) (i : ℕ) (d : Def) (known calls : List ℕ) (w : ℕ) (o : Option TypeFault) → Counts measure counted → i < length defs → d ≡ get_or defs i d → calls ≡ known → IsCounted counted d calls w → limit < w → size_fault limit fault (measured measure known (map def_tree (drop i defs))) ≡ o → Some (fault w) ≡ o
+pub measured_passes : (limit : ℕ) (fault : ℕ → TypeFault) (measure counted : (ℕ → ℕ) → ExprTree → ℕ) (defs : List Def) (i : ℕ) (d : Def) (known calls : List ℕ)
+    (w : ℕ) (o : Option TypeFault) → Counts measure counted → i < length defs → d ≡ get_or defs i d → calls ≡ known → IsCounted counted d calls w → limit < w →
+    size_fault limit fault (measured measure known (map def_tree (drop i defs))) ≡ o → Some (fault w) ≡ o
 measured_passes limit fault measure counted defs i d known calls w o law h at same e over inv =
     let n : ℕ = measure (λ f. slice_index known f) (lowered (expr_tree d.body)) in
     let is : w ≡ capped n = measured_is measure counted d known calls w law same e in

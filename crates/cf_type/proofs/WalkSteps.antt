@@ -1,7 +1,10 @@
 -- Steps of the walk through expressions in a row and through arms.
-use Rattle.std.proofs.Common.{◌≡◌, ℕ, List, [], Option, Some, None, Result, Ok, ◌+◌, ◌-◌, map, length, take, drop, ◌++◌, ◌∷◌, refl, sym, ap, ◌∙◌, subst, rules, arith}
+use Rattle.std.proofs.Common.{◌≡◌, ◌==◌, ℕ, Bool, true, false, List, [], Option, Some, None, Result, Ok, ◌+◌, ◌-◌, map, length, take, drop, ◌++◌, ◌∷◌, refl, sym, ap, ◌∙◌, subst, rules, arith}
+use Rattle.std.proofs.lemmas.Bool.{eqb-true}
 use Rattle.std.proofs.lemmas.List.{length-append}
+use Rattle.cf_tree.specs.declared.base.Base.TheVariants.{Bool as Truth}
 use Rattle.cf_tree.specs.declared.base.Place.{Place}
+use Rattle.cf_tree.specs.ExprTree.{expr_choose}
 use Rattle.cf_tree.specs.declared.raw.Param.{Param}
 use Rattle.cf_tree.specs.declared.raw.RawArm.{RawArm, the_lemmas}
 use Rattle.cf_tree.specs.declared.raw.Part.{Part}
@@ -9,9 +12,12 @@ use Rattle.cf_tree.specs.RawTree.{RawTree, RawTrees, raw_more, RawArmTree, raw_a
 use Rattle.cf_tree.specs.RawView.{raw_tree, raw_arm_tree, raw_arm_trees}
 use Rattle.cf_program.specs.declared.fault.TypeFault.{TypeFault}
 use Rattle.cf_program.specs.declared.fault.TypeFault.TheVariants as faults
+use Rattle.cf_program.specs.declared.fault.TypeFault.TheVariants.{Mismatch}
 use Rattle.cf_program.specs.CheckAnswers.{CheckFault}
-use Rattle.cf_program.specs.Names.{Callee, repeated}
-use Rattle.cf_program.specs.Walk.{◌>>=◌, where_none_repeated, Form, Forms, Arms, with_form, variables_of, after_arm, walk, walk_all, walk_arms, walk_arm, with_walked}
+use Rattle.cf_program.specs.LateLinear.{known_in}
+use Rattle.cf_program.specs.Names.{bases_of, repeated}
+use Rattle.cf_program.specs.Reading.{Reading, relation, term, set, not_linear, first_nonlinear, not_linear_at}
+use Rattle.cf_program.specs.Walk.{◌>>=◌, where_kept, where_none_repeated, form, is_one, linear, choose_form, choose_part, Form, Forms, Arms, with_form, variables_of, after_arm, Context, in_relation, walk, walk_all, walk_arms, walk_arm, with_walked}
 
 -- a fault before the rest of a chain is the fault of the chain
 pub fails_then : {A B : Type 0} (e : TypeFault) (r : Result A TypeFault) (f : A → Result B TypeFault) → CheckFault e r → CheckFault e (r >>= f)
@@ -26,13 +32,17 @@ fails_then (faults.NotLinear p) r f h = rw h refl
 fails_then (faults.Weight n) r f h = rw h refl
 fails_then (faults.Depth n) r f h = rw h refl
 
-pub more_fails : (calls : List ℕ → Option Callee) (scope : List Param) (before : Forms) (e : RawTree) (es : RawTrees) (fault : TypeFault) →
-    CheckFault fault (walk calls scope before.next e) → CheckFault fault (walk_all calls scope before (raw_more e es))
-more_fails calls scope before e es fault h = fails_then fault (walk calls scope before.next e) (λ f. walk_all calls scope (with_form before f) es) h
+-- and a value before it goes on with the rest
+pub goes_on : {A B : Type 0} (r : Result A TypeFault) (x : A) (f : A → Result B TypeFault) → r ≡ Ok x → r >>= f ≡ f x
+goes_on r x f h = rw h refl
 
-pub more_walked : (calls : List ℕ → Option Callee) (scope : List Param) (before : Forms) (e : RawTree) (es : RawTrees) (f : Form) →
-    walk calls scope before.next e ≡ Ok f → walk_all calls scope before (raw_more e es) ≡ walk_all calls scope (with_form before f) es
-more_walked calls scope before e es f h = rw h refl
+pub more_fails : (context : Context) (scope : List Param) (before : Forms) (e : RawTree) (es : RawTrees) (fault : TypeFault) →
+    CheckFault fault (walk context scope before.next e) → CheckFault fault (walk_all context scope before (raw_more e es))
+more_fails context scope before e es fault h = fails_then fault (walk context scope before.next e) (λ f. walk_all context scope (with_form before f) es) h
+
+pub more_walked : (context : Context) (scope : List Param) (before : Forms) (e : RawTree) (es : RawTrees) (f : Form) →
+    walk context scope before.next e ≡ Ok f → walk_all context scope before (raw_more e es) ≡ walk_all context scope (with_form before f) es
+more_walked context scope before e es f h = rw h refl
 
 -- a test goes before a chain, whether the chain is taken up inside or outside
 pub repeated_then : {A B : Type 0} (o : Option Place) (r : Result A TypeFault) (f : A → Result B TypeFault) → where_none_repeated o (r >>= f) ≡
@@ -40,59 +50,82 @@ pub repeated_then : {A B : Type 0} (o : Option Place) (r : Result A TypeFault) (
 repeated_then None r f = refl
 repeated_then (Some p) r f = refl
 
-arm_is : (calls : List ℕ → Option Callee) (scope : List Param) (before : Arms) (a : RawArmTree) (arms : RawArmTrees) →
-    walk_arms calls scope before (raw_arm_more a arms) ≡ (walk_arm calls scope before.next a >>= λ f. walk_arms calls scope (with_walked before a f) arms)
-arm_is calls scope before (raw_arm parts k body) arms = repeated_then (repeated [] (map (λ x. x.name) parts) (map (λ x. x.place) parts)) _ _
+arm_is : (context : Context) (scope : List Param) (before : Arms) (a : RawArmTree) (arms : RawArmTrees) →
+    walk_arms context scope before (raw_arm_more a arms) ≡ (walk_arm context scope before.next a >>= λ f. walk_arms context scope (with_walked before a f) arms)
+arm_is context scope before (raw_arm parts k body) arms = repeated_then (repeated [] (map (λ x. x.name) parts) (map (λ x. x.place) parts)) _ _
 
-arm_fails : (calls : List ℕ → Option Callee) (scope : List Param) (before : Arms) (a : RawArmTree) (arms : RawArmTrees) (fault : TypeFault) →
-    CheckFault fault (walk_arm calls scope before.next a) → CheckFault fault (walk_arms calls scope before (raw_arm_more a arms))
-arm_fails calls scope before a arms fault h =
-    subst (λ r. CheckFault fault r) (sym (arm_is calls scope before a arms)) (fails_then fault (walk_arm calls scope before.next a) (λ f. walk_arms calls scope
+arm_fails : (context : Context) (scope : List Param) (before : Arms) (a : RawArmTree) (arms : RawArmTrees) (fault : TypeFault) →
+    CheckFault fault (walk_arm context scope before.next a) → CheckFault fault (walk_arms context scope before (raw_arm_more a arms))
+arm_fails context scope before a arms fault h =
+    subst (λ r. CheckFault fault r) (sym (arm_is context scope before a arms))
+    (fails_then fault (walk_arm context scope before.next a) (λ f. walk_arms context scope
     (with_walked before a f) arms) h)
 
-arm_walked : (calls : List ℕ → Option Callee) (scope : List Param) (before : Arms) (a : RawArmTree) (arms : RawArmTrees) (f : Form) →
-    walk_arm calls scope before.next a ≡ Ok f → walk_arms calls scope before (raw_arm_more a arms) ≡ walk_arms calls scope (with_walked before a f) arms
-arm_walked calls scope before a arms f h = arm_is calls scope before a arms ∙ ap (λ r. r >>= λ g. walk_arms calls scope (with_walked before a g) arms) h
+arm_walked : (context : Context) (scope : List Param) (before : Arms) (a : RawArmTree) (arms : RawArmTrees) (f : Form) →
+    walk_arm context scope before.next a ≡ Ok f → walk_arms context scope before (raw_arm_more a arms) ≡ walk_arms context scope (with_walked before a f) arms
+arm_walked context scope before a arms f h = arm_is context scope before a arms ∙ ap (λ r. r >>= λ g. walk_arms context scope (with_walked before a g) arms) h
 
 arm_tree : (a : RawArm) → raw_arm_tree a ≡ raw_arm a.parts.items a.constant (raw_tree a.body)
 arm_tree a = search (rules, the_lemmas)
 
 -- the arm of the program
-pub arm_body : (calls : List ℕ → Option Callee) (scope : List Param) (n : ℕ) (a : RawArm) (parts : List Part) → parts ≡ a.parts.items →
-    walk_arm calls scope n (raw_arm_tree a) ≡ where_none_repeated (repeated [] (map (λ x. x.name) parts) (map (λ x. x.place) parts)) (walk calls
+pub arm_body : (context : Context) (scope : List Param) (n : ℕ) (a : RawArm) (parts : List Part) → parts ≡ a.parts.items →
+    walk_arm context scope n (raw_arm_tree a) ≡ where_none_repeated (repeated [] (map (λ x. x.name) parts) (map (λ x. x.place) parts)) (walk context
     (scope ++ variables_of parts) (after_arm n parts) (raw_tree a.body))
-arm_body calls scope n a parts same =
-    ap (walk_arm calls scope n) (arm_tree a)
-    ∙ ap (λ xs. where_none_repeated (repeated [] (map (λ x. x.name) xs) (map (λ x. x.place) xs)) (walk calls (scope ++ variables_of xs) (after_arm n xs)
+arm_body context scope n a parts same =
+    ap (walk_arm context scope n) (arm_tree a)
+    ∙ ap (λ xs. where_none_repeated (repeated [] (map (λ x. x.name) xs) (map (λ x. x.place) xs)) (walk context (scope ++ variables_of xs) (after_arm n xs)
     (raw_tree a.body))) (sym same)
 
 -- an arm that is refused, behind those that were walked
-pub arms_fail : (calls : List ℕ → Option Callee) (scope now : List Param) (before : Arms) (arms : List RawArm) (i : ℕ) (a : RawArm)
+pub arms_fail : (context : Context) (scope now : List Param) (before : Arms) (arms : List RawArm) (i : ℕ) (a : RawArm)
     (fault told : TypeFault) (whole : Result Arms TypeFault) →
-    told ≡ fault → now ≡ scope → drop i arms ≡ a ∷ drop (i + 1) arms → CheckFault fault (walk_arm calls now before.next
-    (raw_arm_tree a)) → walk_arms calls scope before (raw_arm_trees (drop i arms)) ≡ whole →
+    told ≡ fault → now ≡ scope → drop i arms ≡ a ∷ drop (i + 1) arms → CheckFault fault (walk_arm context now before.next
+    (raw_arm_tree a)) → walk_arms context scope before (raw_arm_trees (drop i arms)) ≡ whole →
     CheckFault told whole
-arms_fail calls scope now before arms i a fault told whole same kept here fails rest =
-    let moved : CheckFault fault (walk_arm calls scope before.next (raw_arm_tree a)) = subst (λ s. CheckFault fault (walk_arm calls s before.next
+arms_fail context scope now before arms i a fault told whole same kept here fails rest =
+    let moved : CheckFault fault (walk_arm context scope before.next (raw_arm_tree a)) = subst (λ s. CheckFault fault (walk_arm context s before.next
     (raw_arm_tree a))) kept fails in
-    let step : CheckFault fault (walk_arms calls scope before (raw_arm_more (raw_arm_tree a) (raw_arm_trees (drop
-    (i + 1) arms)))) = arm_fails calls scope before (raw_arm_tree a) (raw_arm_trees (drop (i + 1) arms)) fault moved in
-    let whole_is : walk_arms calls scope before (raw_arm_more (raw_arm_tree a) (raw_arm_trees (drop (i + 1) arms))) ≡ whole = sym (ap
-    (λ xs. walk_arms calls scope before (raw_arm_trees xs)) here) ∙ rest in
+    let step : CheckFault fault (walk_arms context scope before (raw_arm_more (raw_arm_tree a) (raw_arm_trees (drop
+    (i + 1) arms)))) = arm_fails context scope before (raw_arm_tree a) (raw_arm_trees (drop (i + 1) arms)) fault moved in
+    let whole_is : walk_arms context scope before (raw_arm_more (raw_arm_tree a) (raw_arm_trees (drop (i + 1) arms))) ≡ whole = sym (ap
+    (λ xs. walk_arms context scope before (raw_arm_trees xs)) here) ∙ rest in
     subst (λ e. CheckFault e whole) (sym same) (subst (λ r. CheckFault fault r) whole_is step)
 
 -- an arm more
-pub arms_next : (calls : List ℕ → Option Callee) (scope now : List Param) (before after : Arms) (arms : List RawArm) (i : ℕ) (a : RawArm) (f : Form)
+pub arms_next : (context : Context) (scope now : List Param) (before after : Arms) (arms : List RawArm) (i : ℕ) (a : RawArm) (f : Form)
     (whole : Result Arms TypeFault) →
-    now ≡ scope → drop i arms ≡ a ∷ drop (i + 1) arms → walk_arm calls now before.next (raw_arm_tree a) ≡ Ok f → after ≡ with_walked before
-    (raw_arm_tree a) f → walk_arms calls scope before (raw_arm_trees (drop i arms)) ≡ whole →
-    walk_arms calls scope after (raw_arm_trees (drop (i + 1) arms)) ≡ whole
-arms_next calls scope now before after arms i a f whole kept here walked made rest =
-    let moved : walk_arm calls scope before.next (raw_arm_tree a) ≡ Ok f = ap (λ s. walk_arm calls s before.next (raw_arm_tree a)) (sym kept) ∙ walked in
-    let whole_is : walk_arms calls scope before (raw_arm_more (raw_arm_tree a) (raw_arm_trees (drop (i + 1) arms))) ≡ whole = sym (ap
-    (λ xs. walk_arms calls scope before (raw_arm_trees xs)) here) ∙ rest in
-    ap (λ s. walk_arms calls scope s (raw_arm_trees (drop (i + 1) arms))) made ∙ sym (arm_walked calls scope before (raw_arm_tree a) (raw_arm_trees (drop
+    now ≡ scope → drop i arms ≡ a ∷ drop (i + 1) arms → walk_arm context now before.next (raw_arm_tree a) ≡ Ok f → after ≡ with_walked before
+    (raw_arm_tree a) f → walk_arms context scope before (raw_arm_trees (drop i arms)) ≡ whole →
+    walk_arms context scope after (raw_arm_trees (drop (i + 1) arms)) ≡ whole
+arms_next context scope now before after arms i a f whole kept here walked made rest =
+    let moved : walk_arm context scope before.next (raw_arm_tree a) ≡ Ok f = ap (λ s. walk_arm context s before.next (raw_arm_tree a)) (sym kept) ∙ walked in
+    let whole_is : walk_arms context scope before (raw_arm_more (raw_arm_tree a) (raw_arm_trees (drop (i + 1) arms))) ≡ whole = sym (ap
+    (λ xs. walk_arms context scope before (raw_arm_trees xs)) here) ∙ rest in
+    ap (λ s. walk_arms context scope s (raw_arm_trees (drop (i + 1) arms))) made ∙ sym (arm_walked context scope before (raw_arm_tree a) (raw_arm_trees (drop
     (i + 1) arms)) f moved) ∙ whole_is
+
+-- where the relation around a choose has the same variables known, the choose is read alike in it
+module _ (p : Place) (n : ℕ) (scope outputs : List Param) (c : Form) where
+  part_alike : (f : Form) → choose_form p n scope outputs f ≡ Ok c → choose_part p c f ≡ Ok c
+  part_alike f e = by (is_one Truth f.bases) f.reading e
+    where
+      by : (b : Bool) (r : Reading) → where_kept b (Mismatch p) (linear p r >>= λ rel. form (bases_of outputs) (expr_choose n scope (bases_of outputs) rel)
+          (not_linear p) f.next) ≡ Ok c → form c.bases c.tree (not_linear_at (first_nonlinear r) p) c.next ≡ Ok c
+      by false r h = cc
+      by true (relation rel) h =
+          let same : record { bases = bases_of outputs; tree = expr_choose n scope (bases_of outputs) rel; reading = not_linear p; next = f.next } ≡ c = cc in
+          rw (← same) refl
+      by true (term t) h = cc
+      by true (set s) h = cc
+      by true (not_linear q) h = cc
+
+  pub read_alike : (context inner : Context) (size : ℕ) (inside : List Param) (m : ℕ) (r : RawTree) (f : Form) → inner ≡ in_relation context size →
+      (inner.known == context.known) ≡ true → walk inner inside m r ≡ Ok f → choose_form p n scope outputs f ≡ Ok c → walk context inside m r >>= choose_part p c ≡ Ok c
+  read_alike context inner size inside m r f is alike e h =
+      let known : known_in context.how size ≡ context.known = sym (ap (λ x. x.known) is) ∙ eqb-true inner.known context.known alike in
+      let same : inner ≡ context = is ∙ ap (λ k. record { calls = context.calls; how = context.how; known = k }) known in
+      ap (λ x. walk x inside m r >>= choose_part p c) (sym same) ∙ ap (λ x. x >>= choose_part p c) e ∙ part_alike f h
 
 -- what was in scope is in scope again
 pub left_again : (outer inner : List Param) (n : ℕ) → n ≡ length outer → take n (outer ++ inner) ≡ outer

@@ -1,6 +1,6 @@
 -- What the walk's values of the program stand for.
 use Rattle.std.specs.Prelude.{ℕ, Bool, map}
-use Rattle.cf_tree.specs.DefView.{RawDefTree}
+use Rattle.cf_tree.specs.DefView.{RawDefTree, raw_def_tree}
 use Rattle.cf_tree.specs.ExprView.{expr_tree, match_arm_tree}
 use Rattle.cf_tree.specs.RelView.{rel_tree, term_tree, set_tree}
 use Rattle.cf_type.specs.declared.form.Reading.{Reading as DeclaredReading}
@@ -8,9 +8,10 @@ use Rattle.cf_type.specs.declared.form.Reading.TheVariants.{Relation, Term, Set,
 use Rattle.cf_type.specs.declared.form.Form.{Form as DeclaredForm}
 use Rattle.cf_type.specs.declared.form.Forms.{Forms as DeclaredForms}
 use Rattle.cf_type.specs.declared.form.Arms.{Arms as DeclaredArms}
-use Rattle.cf_program.specs.Names.{Callee, bases_of}
+use Rattle.cf_type.specs.declared.callees.Caller.{Caller}
+use Rattle.cf_program.specs.Names.{Callee, callee_from, bases_of}
 use Rattle.cf_program.specs.Reading.{Reading, relation, term, set, not_linear}
-use Rattle.cf_program.specs.Walk.{Form, Forms, Arms}
+use Rattle.cf_program.specs.Walk.{Form, Forms, Arms, Context}
 
 abbrev pub reading_of : DeclaredReading → Reading
 reading_of (Relation r) = relation (rel_tree r.value)
@@ -29,3 +30,7 @@ arms_of f = record { bases = map (λ b. b.items) f.bases.items; trees = map matc
 
 abbrev pub callee_seen : ℕ → RawDefTree → Bool → Callee
 callee_seen i d is_earlier = record { number = i; params = bases_of d.params; results = d.results; is_earlier = is_earlier }
+
+-- where the expressions stand that a caller walks; unfolded only in the caller's own functions, so that goals about the walk stay small
+unfoldable pub context_of : Caller → Context
+context_of c = record { calls = callee_from c.number 0 (map raw_def_tree c.callees.now); how = c.how; known = c.known }

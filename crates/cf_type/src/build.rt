@@ -1,20 +1,21 @@
 //! The forms of expressions, made of their parts.
-ghost use Rattle.std.specs.Prelude.{◌≡◌, ◌+◌, map, true, false, Some, IfOk, IfErr};
+ghost use Rattle.std.specs.Prelude.{◌≡◌, ◌+◌, map, true, false, Some, Ok, IfOk, IfErr};
 ghost use Rattle.cf_tree.specs.ExprView.{expr_tree};
 ghost use Rattle.cf_tree.specs.RelView.{rel_tree};
 ghost use Rattle.cf_tree.specs.DefView.{raw_def_tree};
 ghost use Rattle.cf_tree.specs.ExprTree.{expr_lit, expr_truth, expr_neg, expr_not, expr_abs, expr_div, expr_mod, expr_divides, expr_card};
 ghost use Rattle.cf_tree.specs.RelTree.{term_lit, term_neg, term_abs, term_div, term_mod, term_card, rel_not, rel_divides};
 ghost use Rattle.cf_tree.specs.declared.base.Base.TheVariants.{Int as int, Bool as truth_base, Set as set_base};
-ghost use Rattle.cf_type.specs.FormView.{form_of, forms_of, arms_of, reading_of, callee_seen};
+ghost use Rattle.cf_type.specs.FormView.{form_of, forms_of, arms_of, reading_of, callee_seen, context_of};
 ghost use Rattle.cf_program.specs.CheckAnswers.{CheckAnswer};
-ghost use Rattle.cf_program.specs.Names.{callee_from, bases_of};
+ghost use Rattle.cf_program.specs.Names.{bases_of};
 ghost use Rattle.cf_program.specs.Reading.{relation as a_relation, term as a_term, on_relation, on_term, on_set, truth_reading};
-ghost use Rattle.cf_program.specs.Walk.{is_one, form as form_is, no_forms as no_forms_of, with_form as with_form_of, no_arms as no_arms_of, with_arm as with_arm_of, variable_form, unary_form, binary_form, set_reading as set_reading_of, set_form, tuple_form, call_form, if_form, let_form, choose_form, match_form, linear as linear_of, arm_number, after_arm};
+ghost use Rattle.cf_program.specs.Walk.{is_one, form as form_is, no_forms as no_forms_of, with_form as with_form_of, no_arms as no_arms_of, with_arm as with_arm_of, variable_form, unary_form, binary_form, set_reading as set_reading_of, set_form, tuple_form, call_form, if_form, let_form, choose_form, choose_part, match_form, linear as linear_of, arm_number, after_arm};
 ghost use Rattle.cf_tree.specs.Typing.{one as one_base};
 
 use crate::callees::Caller;
 use crate::form::{Arms, Form, Forms, Reading};
+use crate::reading::Operation;
 use crate::{bases, reading};
 use cf_program::fault::TypeFault;
 use cf_program::variable::Variable;
@@ -149,7 +150,8 @@ struct Operand {
 fn operand_at(place: Place, base: Base, part: Form) -> Result<Operand, TypeFault>
     ensures fault { IfErr result (λ f. (f ≡ TypeFault.Mismatch place) × (is_one base part.bases.items ≡ false)) }
     ensures base { IfOk result (λ o. is_one base part.bases.items ≡ true) }
-    ensures same { IfOk result (λ o. (expr_tree o.tree.value ≡ expr_tree part.tree.value) × (reading_of o.reading ≡ reading_of part.reading) × (o.next ≡ part.next)) }
+    ensures same { IfOk result (λ o. (expr_tree o.tree.value ≡ expr_tree part.tree.value) × (reading_of o.reading ≡ reading_of part.reading) ×
+        (o.next ≡ part.next)) }
 {
     if !bases::is_one(base, &part.bases) {
         drop(part);
@@ -251,14 +253,15 @@ pub fn card(alloc: Global, place: Place, part: Form) -> Result<Form, TypeFault>
 }
 
 /// An operation with two sides.
+#[tactic(auto, unfolding(crate::specs::FormView::context_of))]
 pub fn binary(
-    alloc: Global,
+    caller: &Caller,
     place: Place,
     op: BinOp,
     left: Form,
     right: Form,
 ) -> Result<Form, TypeFault>
-    ensures { CheckAnswer form_of result (binary_form place op (form_of left) (form_of right)) }
+    ensures { CheckAnswer form_of result (binary_form (context_of caller.now).known place op (form_of left) (form_of right)) }
 {
     if !bases::sides_fit(op, &left.bases, &right.bases) {
         drop(left);
@@ -279,18 +282,24 @@ pub fn binary(
     } = right;
     drop(left_bases);
     drop(right_bases);
-    let reading = reading::of_binary(alloc, op, place, left_reading, right_reading)?;
+    let operation = Operation {
+        op,
+        place,
+        known: caller.known,
+    };
+    let reading = reading::of_binary(caller.alloc, operation, left_reading, right_reading)?;
     let tree = Expr::Binary {
         op,
         left: left_tree,
         right: right_tree,
     };
-    made(alloc, bases::result_of(op), tree, reading, next)
+    made(caller.alloc, bases::result_of(op), tree, reading, next)
 }
 
 /// The call of the function of that name.
+#[tactic(auto, unfolding(crate::specs::FormView::context_of))]
 pub fn call(caller: &Caller, place: Place, name: &Text, args: Forms) -> Result<Form, TypeFault>
-    ensures { CheckAnswer form_of result (call_form place (callee_from caller.now.number 0 (map raw_def_tree caller.now.callees.now) name.now) (forms_of args)) }
+    ensures { CheckAnswer form_of result (call_form place ((context_of caller.now).calls name.now) (forms_of args)) }
 {
     match caller.callees.find(caller.number, name) {
         None => Err(TypeFault::UnknownName(place)),
@@ -526,6 +535,28 @@ pub fn choose(
         reading: Reading::NotLinear(place),
         next,
     })
+}
+
+/// The `choose` as a part of the relation around it, where its own relation was read as a part of
+/// that one.
+pub fn part(place: Place, chosen: Form, inner: Form) -> Form
+    ensures { Ok (form_of result) ≡ choose_part place (form_of chosen) (form_of inner) }
+{
+    let first = reading::first_nonlinear(&inner.reading);
+    drop(inner);
+    let Form {
+        bases,
+        tree,
+        reading,
+        next,
+    } = chosen;
+    drop(reading);
+    Form {
+        bases,
+        tree,
+        reading: reading::not_linear_at(first, place),
+        next,
+    }
 }
 
 /// No expressions, before those that are numbered from `next` on.

@@ -1,12 +1,14 @@
 //! The functions of a program, by name.
-ghost use Rattle.std.specs.Prelude.{◌≡◌, map, take, IfOk, OnOk};
+ghost use Rattle.std.specs.Prelude.{◌≡◌, ◌==◌, map, take, IfOk, OnOk};
 ghost use Rattle.cf_tree.specs.DefView.{raw_def_tree};
-ghost use Rattle.cf_type.specs.FormView.{callee_seen};
+ghost use Rattle.cf_type.specs.FormView.{callee_seen, context_of};
 ghost use Rattle.cf_program.specs.CheckAnswers.{Shows};
 ghost use Rattle.cf_program.specs.Names.{callee_from, is_among};
+ghost use Rattle.cf_program.specs.Walk.{in_body, in_relation as in_relation_of};
 ghost use Rattle.cf_type.specs.Numbers.{shown, with_name};
 
 use crate::build::to_u32;
+use cf_program::linearity::Linearity;
 use cf_tree::base::Text;
 use cf_tree::memory::NoMemory;
 use cf_tree::raw::RawDef;
@@ -40,12 +42,53 @@ impl<'a> Model for Callees<'a> {
     ghost invariant = { λ c. shown c.numbers.entries ≡ numbers_of c.defs.now };
 }
 
-/// A function whose body is walked: its number, and the functions that it may name.
+/// Where an expression stands: the number of the function, the functions that it may name, which
+/// relations are linear, and how many of the outermost variables count as known.
 #[derive(Drop)]
 pub struct Caller<'a> {
     pub alloc: Global,
     pub callees: &'a Callees<'a>,
     pub number: u32,
+    pub how: Linearity,
+    pub known: usize,
+}
+
+impl<'a> Caller<'a> {
+    /// In the body of that function.
+    #[tactic(auto, unfolding(crate::specs::FormView::context_of))]
+    pub fn new(alloc: Global, callees: &'a Callees<'a>, number: u32, how: Linearity) -> Caller<'a>
+        ensures { context_of result ≡ in_body how (callee_from number 0 (map raw_def_tree callees.now)) }
+    {
+        Caller {
+            alloc,
+            callees,
+            number,
+            how,
+            known: 0,
+        }
+    }
+
+    /// Whether as many variables count as known for both.
+    #[tactic(auto, unfolding(crate::specs::FormView::context_of))]
+    pub fn knows_as_many(&self, other: &Caller) -> bool
+        ensures { result ≡ ((context_of self.now).known == (context_of other.now).known) }
+    {
+        self.known == other.known
+    }
+
+    /// In the relation of a `choose` behind so many variables.
+    #[tactic(auto, unfolding(crate::specs::FormView::context_of))]
+    pub fn in_relation(&self, scope: usize) -> Caller<'a>
+        ensures { context_of result ≡ in_relation_of (context_of self.now) scope }
+    {
+        Caller {
+            alloc: self.alloc,
+            callees: self.callees,
+            number: self.number,
+            how: self.how,
+            known: self.how.known_in(scope),
+        }
+    }
 }
 
 // Gives a new name its number.

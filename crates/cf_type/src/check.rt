@@ -4,16 +4,18 @@ ghost use Rattle.std.specs.Str.{bytes_eq};
 ghost use Rattle.cf_tree.specs.DefView.{program_tree, raw_def_tree, def_tree, DefTree};
 ghost use Rattle.cf_tree.specs.RawTree.{place_of};
 ghost use Rattle.cf_tree.specs.RawView.{raw_tree};
-ghost use Rattle.cf_program.specs.Checked.{checked, walk_def as walk_def_of, walk_defs as walk_defs_of, main_from, def_form};
+ghost use Rattle.cf_program.specs.Checked.{checked, checked_by, walk_def as walk_def_of, walk_defs as walk_defs_of, main_from, def_form};
 ghost use Rattle.cf_program.specs.declared.fault.TypeFault.TheVariants.{Mismatch};
 ghost use Rattle.cf_type.specs.FormView.{form_of};
 ghost use Rattle.cf_program.specs.DistinctNames.{IsDistinctlyNamed};
 ghost use Rattle.cf_program.specs.CheckAnswers.{CheckAnswer};
 ghost use Rattle.cf_program.specs.Names.{callee_from};
 ghost use Rattle.cf_tree.specs.Bases.{same_bases as same_bases_of};
+ghost use Rattle.cf_program.specs.LateLinear.{IsLinearBy};
 ghost use Rattle.cf_program.specs.Source.{IsSpelledProgram};
 ghost use Rattle.cf_program.specs.Typed.{typed_tree};
-ghost use Rattle.cf_program.specs.Walk.{where_kept, walk as walk_of};
+ghost use Rattle.cf_program.specs.TypedProgram.{IsProgramBy};
+ghost use Rattle.cf_program.specs.Walk.{where_kept, in_body, walk as walk_of};
 
 use crate::build::bare;
 use crate::callees::{Callees, Caller};
@@ -23,7 +25,8 @@ use crate::scope::Scope;
 use crate::size;
 use crate::walk::walk;
 use cf_program::fault::TypeFault;
-use cf_program::typed::{Typed, TypedDefs};
+use cf_program::linearity::Linearity;
+use cf_program::typed::{Late, Typed, TypedDefs};
 use cf_tree::base::{Text, same_bases};
 use cf_tree::copy::words::copy_params;
 use cf_tree::expr::Def;
@@ -38,13 +41,36 @@ use std::alloc::Global;
 /// The first rule that the program breaks in the order of its text, where parts come before the
 /// whole; then a missing `main`, then weights, then depths (docs/LANGUAGE.md). Want of memory also
 /// where functions, levels or chooses are more than a `u32` counts.
-#[tactic(auto, using(crate::proofs::CheckLemmas::fails_is, crate::proofs::CheckLemmas::named_is, crate::proofs::WalkSteps::fails_then))]
 pub fn check(alloc: Global, program: &Program) -> Result<Typed, TypeFault>
     requires { IsSpelledProgram (program_tree program.now) }
     ensures gives { CheckAnswer typed_tree result (checked (program_tree program.now)) }
     ensures named { OnOk result (IsDistinctlyNamed (program_tree program.now)) }
 {
-    let defs = walk_defs(alloc, &program.defs)?;
+    Ok(Typed::new(check_by(alloc, Linearity::Plain, program)?))
+}
+
+/// As `check`, for a program that is solved where the numbers in the scope of each `choose` are
+/// known: a product in its relation may have a side of literals and of these numbers.
+///
+/// # Errors
+/// As those of `check`. `NotLinear` comes where a form in a relation is not linear so.
+pub fn check_late(alloc: Global, program: &Program) -> Result<Late, TypeFault>
+    requires { IsSpelledProgram (program_tree program.now) }
+    ensures gives { CheckAnswer typed_tree result (checked_by Linearity.Late (program_tree program.now)) }
+    ensures named { OnOk result (IsDistinctlyNamed (program_tree program.now)) }
+{
+    Ok(Late::new(check_by(alloc, Linearity::Late, program)?))
+}
+
+// The program with levels, where relations are linear so.
+#[tactic(auto, using(crate::proofs::CheckLemmas::fails_is, crate::proofs::CheckLemmas::named_is, crate::proofs::WalkSteps::fails_then))]
+fn check_by(alloc: Global, how: Linearity, program: &Program) -> Result<TypedDefs, TypeFault>
+    requires { IsSpelledProgram (program_tree program.now) }
+    ensures gives { CheckAnswer typed_tree result (checked_by how (program_tree program.now)) }
+    ensures named { OnOk result (IsDistinctlyNamed (program_tree program.now)) }
+    ensures typed { IfOk result (λ t. IsProgramBy (IsLinearBy how) (map def_tree t.defs.items) t.main) }
+{
+    let defs = walk_defs(alloc, how, &program.defs)?;
     let main = match find_main(&program.defs)? {
         None => return Err(TypeFault::NoMain),
         Some(main) => main,
@@ -55,29 +81,28 @@ pub fn check(alloc: Global, program: &Program) -> Result<Typed, TypeFault>
     if let Some(fault) = size::depth_fault(alloc, &defs)? {
         return Err(fault);
     }
-    Ok(Typed::new(TypedDefs { defs, main }))
+    Ok(TypedDefs { defs, main })
 }
 
 // The body of a function behind these.
+#[tactic(auto, using(crate::proofs::CheckLemmas::walked_in))]
 fn walk_body(
     alloc: Global,
+    how: Linearity,
     callees: &Callees,
     before: &[RawDef],
     def: &RawDef,
     next: u32,
 ) -> Result<Form, TypeFault>
-    ensures { CheckAnswer form_of result (walk_of (callee_from (length before.now) 0 (map raw_def_tree callees.now)) def.now.params.items next (raw_tree def.now.body)) }
+    ensures { CheckAnswer form_of result (walk_of (in_body how (callee_from (length before.now) 0 (map raw_def_tree callees.now))) def.now.params.items next
+        (raw_tree def.now.body)) }
 {
     match u32::try_from(before.len()) {
         Err(_) => Err(TypeFault::NoMemory),
         Ok(number) => {
             let mut scope = Scope::new(alloc);
             scope.enter(alloc, &def.params)?;
-            let caller = Caller {
-                alloc,
-                callees,
-                number,
-            };
+            let caller = Caller::new(alloc, callees, number, how);
             walk(&caller, &mut scope, next, &def.body)
         }
     }
@@ -101,7 +126,9 @@ fn with_body(alloc: Global, def: &RawDef, body: Form) -> Result<Def, NoMemory>
 
 // The function with its body and the next number of a choose, where the body gives its results.
 fn closed(alloc: Global, def: &RawDef, body: Form) -> Result<(Def, u32), TypeFault>
-    ensures { CheckAnswer {Y = DefTree × ℕ} (λ r. (def_tree r.0, r.1)) result (where_kept (same_bases_of (form_of body).bases def.now.results.items) (Mismatch (place_of (raw_tree def.now.body))) (Ok (def_form (raw_def_tree def.now) (form_of body), (form_of body).next))) }
+    ensures { CheckAnswer {Y = DefTree × ℕ} (λ r. (def_tree r.0, r.1)) result
+        (where_kept (same_bases_of (form_of body).bases def.now.results.items) (Mismatch (place_of (raw_tree def.now.body)))
+        (Ok (def_form (raw_def_tree def.now) (form_of body), (form_of body).next))) }
 {
     if !same_bases(&body.bases, &def.results) {
         drop(body);
@@ -112,15 +139,18 @@ fn closed(alloc: Global, def: &RawDef, body: Form) -> Result<(Def, u32), TypeFau
 }
 
 // A function behind these, and the next number of a choose after it.
+#[tactic(auto, using(crate::proofs::WalkSteps::fails_then, crate::proofs::WalkSteps::goes_on))]
 fn walk_def(
     alloc: Global,
+    how: Linearity,
     callees: &Callees,
     before: &[RawDef],
     def: &RawDef,
     next: u32,
 ) -> Result<(Def, u32), TypeFault>
     requires { before.now ≡ take (length before.now) callees.now }
-    ensures { CheckAnswer {Y = DefTree × ℕ} (λ r. (def_tree r.0, r.1)) result (walk_def_of (map raw_def_tree callees.now) (map raw_def_tree before.now) next (raw_def_tree def.now)) }
+    ensures { CheckAnswer {Y = DefTree × ℕ} (λ r. (def_tree r.0, r.1)) result
+        (walk_def_of how (map raw_def_tree callees.now) (map raw_def_tree before.now) next (raw_def_tree def.now)) }
 {
     if callees.is_named_before(before.len(), &def.name) {
         return Err(TypeFault::DuplicateName(def.place));
@@ -128,28 +158,38 @@ fn walk_def(
     if let Some(place) = repeated_param(alloc, &def.params)? {
         return Err(TypeFault::DuplicateName(place));
     }
-    closed(alloc, def, walk_body(alloc, callees, before, def, next)?)
+    closed(
+        alloc,
+        def,
+        walk_body(alloc, how, callees, before, def, next)?,
+    )
 }
 
 // The functions in the order of the text.
-fn walk_defs(alloc: Global, defs: &[RawDef]) -> Result<Vec<Def>, TypeFault>
-    ensures { CheckAnswer (λ ds. map def_tree ds.items) result (walk_defs_of (map raw_def_tree defs.now) [] [] 1 (map raw_def_tree defs.now)) }
+fn walk_defs(alloc: Global, how: Linearity, defs: &[RawDef]) -> Result<Vec<Def>, TypeFault>
+    ensures { CheckAnswer (λ ds. map def_tree ds.items) result (walk_defs_of how (map raw_def_tree defs.now) [] [] 1 (map raw_def_tree defs.now)) }
 {
     let callees = Callees::new(alloc, defs)?;
-    let done = walk_each(alloc, &callees, defs);
+    let done = walk_each(alloc, how, &callees, defs);
     drop(callees);
     done
 }
 
 // The functions in the order of the text, where these are all that can be called.
-fn walk_each(alloc: Global, callees: &Callees, defs: &[RawDef]) -> Result<Vec<Def>, TypeFault>
+#[tactic(auto, using(crate::proofs::WalkSteps::fails_then, crate::proofs::WalkSteps::goes_on))]
+fn walk_each(
+    alloc: Global,
+    how: Linearity,
+    callees: &Callees,
+    defs: &[RawDef],
+) -> Result<Vec<Def>, TypeFault>
     requires { callees.now ≡ defs.now }
-    ensures { CheckAnswer (λ ds. map def_tree ds.items) result (walk_defs_of (map raw_def_tree defs.now) [] [] 1 (map raw_def_tree defs.now)) }
+    ensures { CheckAnswer (λ ds. map def_tree ds.items) result (walk_defs_of how (map raw_def_tree defs.now) [] [] 1 (map raw_def_tree defs.now)) }
 {
     let mut done = Vec::new(alloc);
     let mut next = 1;
     for i in 0..defs.len() {
-        let (def, after) = walk_def(alloc, callees, &defs[..i], &defs[i], next)?;
+        let (def, after) = walk_def(alloc, how, callees, &defs[..i], &defs[i], next)?;
         done.push(def)?;
         next = after;
     }

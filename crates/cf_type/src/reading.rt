@@ -1,9 +1,9 @@
 //! Expressions as parts of relations.
 ghost use Rattle.std.specs.Prelude.{◌≡◌, IfOk};
-ghost use Rattle.cf_tree.specs.Relation.{is_fixed as is_fixed_of};
 ghost use Rattle.cf_tree.specs.RelView.{rel_tree, term_tree, set_tree};
 ghost use Rattle.cf_tree.specs.RelTree.{rel_compare, rel_divides, rel_not, rel_and, rel_or, rel_subset, term_neg, term_abs, term_div, term_mod, term_card, term_add, term_sub, union_of, inter_of, diff_of};
 ghost use Rattle.cf_type.specs.FormView.{reading_of};
+ghost use Rattle.cf_program.specs.LateLinear.{is_fixed_below as is_fixed_below_of};
 ghost use Rattle.cf_program.specs.Reading.{relation as a_relation, term as a_term, set as a_set, first_nonlinear as first_nonlinear_of, earlier_nonlinear as earlier_nonlinear_of, not_linear_at as not_linear_at_of, on_relation, on_term, on_set, truth_reading, variable_reading, product_reading, sets_reading, compare_reading, binary_reading};
 
 use crate::form::Reading;
@@ -13,6 +13,14 @@ use cf_tree::memory::NoMemory;
 use cf_tree::raw::BinOp;
 use cf_tree::rel::{Rel, SetTerm, Term};
 use std::alloc::Global;
+
+/// An operation with two sides: its place, and how many of the outermost variables count as known.
+#[derive(Clone, Copy)]
+pub struct Operation {
+    pub op: BinOp,
+    pub place: Place,
+    pub known: usize,
+}
 
 /// Where the first form stands that is not linear.
 pub fn first_nonlinear(reading: &Reading) -> Option<Place>
@@ -149,42 +157,42 @@ pub fn of_card(alloc: Global, place: Place, part: Reading) -> Result<Reading, No
     }
 }
 
-// Whether a number form holds no variable, no card, no div and no mod.
-fn is_fixed(term: &Term) -> bool
-    ensures { result ≡ is_fixed_of (term_tree term.now) }
+// Whether a number form holds no card, no div, no mod, and no variable but of these outermost ones.
+fn is_fixed_below(known: usize, term: &Term) -> bool
+    ensures { result ≡ is_fixed_below_of known (term_tree term.now) }
 {
     match term {
         Term::Lit(_) => true,
-        Term::Var(_) => false,
+        Term::Var(x) => (*x as usize) < known,
         Term::Card(_) => false,
-        Term::Neg(a) => is_fixed(a),
-        Term::Add(a, b) => is_fixed(a) && is_fixed(b),
-        Term::Sub(a, b) => is_fixed(a) && is_fixed(b),
-        Term::Mul(a, b) => is_fixed(a) && is_fixed(b),
+        Term::Neg(a) => is_fixed_below(known, a),
+        Term::Add(a, b) => is_fixed_below(known, a) && is_fixed_below(known, b),
+        Term::Sub(a, b) => is_fixed_below(known, a) && is_fixed_below(known, b),
+        Term::Mul(a, b) => is_fixed_below(known, a) && is_fixed_below(known, b),
         Term::Div(_, _) => false,
         Term::Mod(_, _) => false,
-        Term::Abs(a) => is_fixed(a),
+        Term::Abs(a) => is_fixed_below(known, a),
     }
 }
 
 // The operation of two number forms.
 fn of_terms(
     alloc: Global,
-    op: BinOp,
-    place: Place,
+    operation: Operation,
     a: Box<Term>,
     b: Box<Term>,
 ) -> Result<Reading, NoMemory>
-    ensures { IfOk result (λ r. reading_of r ≡ binary_reading op place (a_term (term_tree a.value)) (a_term (term_tree b.value))) }
+    ensures { IfOk result (λ r. reading_of r ≡ binary_reading operation.known operation.op operation.place (a_term (term_tree a.value))
+        (a_term (term_tree b.value))) }
 {
-    match op {
+    match operation.op {
         BinOp::Add => Ok(Reading::Term(Box::new(alloc, Term::Add(a, b))?)),
         BinOp::Sub => Ok(Reading::Term(Box::new(alloc, Term::Sub(a, b))?)),
         BinOp::Mul => {
-            if is_fixed(&a) || is_fixed(&b) {
+            if is_fixed_below(operation.known, &a) || is_fixed_below(operation.known, &b) {
                 Ok(Reading::Term(Box::new(alloc, Term::Mul(a, b))?))
             } else {
-                Ok(Reading::NotLinear(place))
+                Ok(Reading::NotLinear(operation.place))
             }
         }
         BinOp::Compare(order) => Ok(Reading::Relation(Box::new(
@@ -195,36 +203,36 @@ fn of_terms(
                 right: b,
             },
         )?)),
-        BinOp::And => Ok(Reading::NotLinear(place)),
-        BinOp::Or => Ok(Reading::NotLinear(place)),
-        BinOp::Union => Ok(Reading::NotLinear(place)),
-        BinOp::Inter => Ok(Reading::NotLinear(place)),
-        BinOp::Diff => Ok(Reading::NotLinear(place)),
-        BinOp::Subset => Ok(Reading::NotLinear(place)),
+        BinOp::And => Ok(Reading::NotLinear(operation.place)),
+        BinOp::Or => Ok(Reading::NotLinear(operation.place)),
+        BinOp::Union => Ok(Reading::NotLinear(operation.place)),
+        BinOp::Inter => Ok(Reading::NotLinear(operation.place)),
+        BinOp::Diff => Ok(Reading::NotLinear(operation.place)),
+        BinOp::Subset => Ok(Reading::NotLinear(operation.place)),
     }
 }
 
 // The operation of two relations.
 fn of_relations(
     alloc: Global,
-    op: BinOp,
-    place: Place,
+    operation: Operation,
     a: Box<Rel>,
     b: Box<Rel>,
 ) -> Result<Reading, NoMemory>
-    ensures { IfOk result (λ r. reading_of r ≡ binary_reading op place (a_relation (rel_tree a.value)) (a_relation (rel_tree b.value))) }
+    ensures { IfOk result (λ r. reading_of r ≡ binary_reading operation.known operation.op operation.place (a_relation (rel_tree a.value))
+        (a_relation (rel_tree b.value))) }
 {
-    match op {
+    match operation.op {
         BinOp::And => Ok(Reading::Relation(Box::new(alloc, Rel::And(a, b))?)),
         BinOp::Or => Ok(Reading::Relation(Box::new(alloc, Rel::Or(a, b))?)),
-        BinOp::Add => Ok(Reading::NotLinear(place)),
-        BinOp::Sub => Ok(Reading::NotLinear(place)),
-        BinOp::Mul => Ok(Reading::NotLinear(place)),
-        BinOp::Compare(_) => Ok(Reading::NotLinear(place)),
-        BinOp::Union => Ok(Reading::NotLinear(place)),
-        BinOp::Inter => Ok(Reading::NotLinear(place)),
-        BinOp::Diff => Ok(Reading::NotLinear(place)),
-        BinOp::Subset => Ok(Reading::NotLinear(place)),
+        BinOp::Add => Ok(Reading::NotLinear(operation.place)),
+        BinOp::Sub => Ok(Reading::NotLinear(operation.place)),
+        BinOp::Mul => Ok(Reading::NotLinear(operation.place)),
+        BinOp::Compare(_) => Ok(Reading::NotLinear(operation.place)),
+        BinOp::Union => Ok(Reading::NotLinear(operation.place)),
+        BinOp::Inter => Ok(Reading::NotLinear(operation.place)),
+        BinOp::Diff => Ok(Reading::NotLinear(operation.place)),
+        BinOp::Subset => Ok(Reading::NotLinear(operation.place)),
     }
 }
 
@@ -251,24 +259,24 @@ fn of_compared_sets(
 // The operation of two set forms.
 fn of_sets(
     alloc: Global,
-    op: BinOp,
-    place: Place,
+    operation: Operation,
     a: Box<SetTerm>,
     b: Box<SetTerm>,
 ) -> Result<Reading, NoMemory>
-    ensures { IfOk result (λ r. reading_of r ≡ binary_reading op place (a_set (set_tree a.value)) (a_set (set_tree b.value))) }
+    ensures { IfOk result (λ r. reading_of r ≡ binary_reading operation.known operation.op operation.place (a_set (set_tree a.value))
+        (a_set (set_tree b.value))) }
 {
-    match op {
+    match operation.op {
         BinOp::Union => Ok(Reading::Set(Box::new(alloc, SetTerm::Union(a, b))?)),
         BinOp::Inter => Ok(Reading::Set(Box::new(alloc, SetTerm::Inter(a, b))?)),
         BinOp::Diff => Ok(Reading::Set(Box::new(alloc, SetTerm::Diff(a, b))?)),
         BinOp::Subset => Ok(Reading::Relation(Box::new(alloc, Rel::Subset(a, b))?)),
-        BinOp::Compare(order) => of_compared_sets(alloc, order, place, a, b),
-        BinOp::Add => Ok(Reading::NotLinear(place)),
-        BinOp::Sub => Ok(Reading::NotLinear(place)),
-        BinOp::Mul => Ok(Reading::NotLinear(place)),
-        BinOp::And => Ok(Reading::NotLinear(place)),
-        BinOp::Or => Ok(Reading::NotLinear(place)),
+        BinOp::Compare(order) => of_compared_sets(alloc, order, operation.place, a, b),
+        BinOp::Add => Ok(Reading::NotLinear(operation.place)),
+        BinOp::Sub => Ok(Reading::NotLinear(operation.place)),
+        BinOp::Mul => Ok(Reading::NotLinear(operation.place)),
+        BinOp::And => Ok(Reading::NotLinear(operation.place)),
+        BinOp::Or => Ok(Reading::NotLinear(operation.place)),
     }
 }
 
@@ -276,27 +284,26 @@ fn of_sets(
 #[tactic(auto, using(crate::proofs::ReadingLemmas::relation_and_term, crate::proofs::ReadingLemmas::relation_and_set))]
 fn on_left_relation(
     alloc: Global,
-    op: BinOp,
-    place: Place,
+    operation: Operation,
     a: Box<Rel>,
     right: Reading,
 ) -> Result<Reading, NoMemory>
-    ensures { IfOk result (λ r. reading_of r ≡ binary_reading op place (a_relation (rel_tree a.value)) (reading_of right)) }
+    ensures { IfOk result (λ r. reading_of r ≡ binary_reading operation.known operation.op operation.place (a_relation (rel_tree a.value)) (reading_of right)) }
 {
     match right {
-        Reading::Relation(b) => of_relations(alloc, op, place, a, b),
-        Reading::Term(_) => Ok(Reading::NotLinear(place)),
-        Reading::Set(_) => Ok(Reading::NotLinear(place)),
-        Reading::NotLinear(first) => match op {
-            BinOp::Add => Ok(Reading::NotLinear(place)),
-            BinOp::Sub => Ok(Reading::NotLinear(place)),
-            BinOp::Mul => Ok(Reading::NotLinear(place)),
+        Reading::Relation(b) => of_relations(alloc, operation, a, b),
+        Reading::Term(_) => Ok(Reading::NotLinear(operation.place)),
+        Reading::Set(_) => Ok(Reading::NotLinear(operation.place)),
+        Reading::NotLinear(first) => match operation.op {
+            BinOp::Add => Ok(Reading::NotLinear(operation.place)),
+            BinOp::Sub => Ok(Reading::NotLinear(operation.place)),
+            BinOp::Mul => Ok(Reading::NotLinear(operation.place)),
             BinOp::And => Ok(Reading::NotLinear(first)),
             BinOp::Or => Ok(Reading::NotLinear(first)),
-            BinOp::Union => Ok(Reading::NotLinear(place)),
-            BinOp::Inter => Ok(Reading::NotLinear(place)),
-            BinOp::Diff => Ok(Reading::NotLinear(place)),
-            BinOp::Subset => Ok(Reading::NotLinear(place)),
+            BinOp::Union => Ok(Reading::NotLinear(operation.place)),
+            BinOp::Inter => Ok(Reading::NotLinear(operation.place)),
+            BinOp::Diff => Ok(Reading::NotLinear(operation.place)),
+            BinOp::Subset => Ok(Reading::NotLinear(operation.place)),
             BinOp::Compare(_) => Ok(Reading::NotLinear(first)),
         },
     }
@@ -306,27 +313,26 @@ fn on_left_relation(
 #[tactic(auto, using(crate::proofs::ReadingLemmas::term_and_relation, crate::proofs::ReadingLemmas::term_and_set))]
 fn on_left_term(
     alloc: Global,
-    op: BinOp,
-    place: Place,
+    operation: Operation,
     a: Box<Term>,
     right: Reading,
 ) -> Result<Reading, NoMemory>
-    ensures { IfOk result (λ r. reading_of r ≡ binary_reading op place (a_term (term_tree a.value)) (reading_of right)) }
+    ensures { IfOk result (λ r. reading_of r ≡ binary_reading operation.known operation.op operation.place (a_term (term_tree a.value)) (reading_of right)) }
 {
     match right {
-        Reading::Relation(_) => Ok(Reading::NotLinear(place)),
-        Reading::Term(b) => of_terms(alloc, op, place, a, b),
-        Reading::Set(_) => Ok(Reading::NotLinear(place)),
-        Reading::NotLinear(first) => match op {
+        Reading::Relation(_) => Ok(Reading::NotLinear(operation.place)),
+        Reading::Term(b) => of_terms(alloc, operation, a, b),
+        Reading::Set(_) => Ok(Reading::NotLinear(operation.place)),
+        Reading::NotLinear(first) => match operation.op {
             BinOp::Add => Ok(Reading::NotLinear(first)),
             BinOp::Sub => Ok(Reading::NotLinear(first)),
             BinOp::Mul => Ok(Reading::NotLinear(first)),
-            BinOp::And => Ok(Reading::NotLinear(place)),
-            BinOp::Or => Ok(Reading::NotLinear(place)),
-            BinOp::Union => Ok(Reading::NotLinear(place)),
-            BinOp::Inter => Ok(Reading::NotLinear(place)),
-            BinOp::Diff => Ok(Reading::NotLinear(place)),
-            BinOp::Subset => Ok(Reading::NotLinear(place)),
+            BinOp::And => Ok(Reading::NotLinear(operation.place)),
+            BinOp::Or => Ok(Reading::NotLinear(operation.place)),
+            BinOp::Union => Ok(Reading::NotLinear(operation.place)),
+            BinOp::Inter => Ok(Reading::NotLinear(operation.place)),
+            BinOp::Diff => Ok(Reading::NotLinear(operation.place)),
+            BinOp::Subset => Ok(Reading::NotLinear(operation.place)),
             BinOp::Compare(_) => Ok(Reading::NotLinear(first)),
         },
     }
@@ -336,23 +342,22 @@ fn on_left_term(
 #[tactic(auto, using(crate::proofs::ReadingLemmas::set_and_relation, crate::proofs::ReadingLemmas::set_and_term))]
 fn on_left_set(
     alloc: Global,
-    op: BinOp,
-    place: Place,
+    operation: Operation,
     a: Box<SetTerm>,
     right: Reading,
 ) -> Result<Reading, NoMemory>
-    ensures { IfOk result (λ r. reading_of r ≡ binary_reading op place (a_set (set_tree a.value)) (reading_of right)) }
+    ensures { IfOk result (λ r. reading_of r ≡ binary_reading operation.known operation.op operation.place (a_set (set_tree a.value)) (reading_of right)) }
 {
     match right {
-        Reading::Relation(_) => Ok(Reading::NotLinear(place)),
-        Reading::Term(_) => Ok(Reading::NotLinear(place)),
-        Reading::Set(b) => of_sets(alloc, op, place, a, b),
-        Reading::NotLinear(first) => match op {
-            BinOp::Add => Ok(Reading::NotLinear(place)),
-            BinOp::Sub => Ok(Reading::NotLinear(place)),
-            BinOp::Mul => Ok(Reading::NotLinear(place)),
-            BinOp::And => Ok(Reading::NotLinear(place)),
-            BinOp::Or => Ok(Reading::NotLinear(place)),
+        Reading::Relation(_) => Ok(Reading::NotLinear(operation.place)),
+        Reading::Term(_) => Ok(Reading::NotLinear(operation.place)),
+        Reading::Set(b) => of_sets(alloc, operation, a, b),
+        Reading::NotLinear(first) => match operation.op {
+            BinOp::Add => Ok(Reading::NotLinear(operation.place)),
+            BinOp::Sub => Ok(Reading::NotLinear(operation.place)),
+            BinOp::Mul => Ok(Reading::NotLinear(operation.place)),
+            BinOp::And => Ok(Reading::NotLinear(operation.place)),
+            BinOp::Or => Ok(Reading::NotLinear(operation.place)),
             BinOp::Union => Ok(Reading::NotLinear(first)),
             BinOp::Inter => Ok(Reading::NotLinear(first)),
             BinOp::Diff => Ok(Reading::NotLinear(first)),
@@ -366,17 +371,16 @@ fn on_left_set(
 #[tactic(auto, using(crate::proofs::ReadingLemmas::bent_left))]
 pub fn of_binary(
     alloc: Global,
-    op: BinOp,
-    place: Place,
+    operation: Operation,
     left: Reading,
     right: Reading,
 ) -> Result<Reading, NoMemory>
-    ensures { IfOk result (λ r. reading_of r ≡ binary_reading op place (reading_of left) (reading_of right)) }
+    ensures { IfOk result (λ r. reading_of r ≡ binary_reading operation.known operation.op operation.place (reading_of left) (reading_of right)) }
 {
     match left {
-        Reading::Relation(a) => on_left_relation(alloc, op, place, a, right),
-        Reading::Term(a) => on_left_term(alloc, op, place, a, right),
-        Reading::Set(a) => on_left_set(alloc, op, place, a, right),
+        Reading::Relation(a) => on_left_relation(alloc, operation, a, right),
+        Reading::Term(a) => on_left_term(alloc, operation, a, right),
+        Reading::Set(a) => on_left_set(alloc, operation, a, right),
         Reading::NotLinear(first) => Ok(Reading::NotLinear(first)),
     }
 }

@@ -1,13 +1,12 @@
 //! The walk through an expression in the order of its text: what it stands for, or the first rule
 //! that it breaks.
 ghost use Rattle.std.specs.Prelude.{◌≡◌, ◌+◌, ◌-◌, ◌++◌, ◌∷◌, ◌==◌, [], length, map, take, OnOk, IfOk};
-ghost use Rattle.cf_tree.specs.DefView.{raw_def_tree};
 ghost use Rattle.cf_tree.specs.RawView.{raw_tree, raw_trees, raw_arm_tree, raw_arm_trees};
-ghost use Rattle.cf_type.specs.FormView.{form_of, forms_of, arms_of};
+ghost use Rattle.cf_type.specs.FormView.{form_of, forms_of, arms_of, context_of};
 ghost use Rattle.cf_program.specs.CheckAnswers.{CheckAnswer};
-ghost use Rattle.cf_program.specs.Names.{callee_from, repeated as repeated_of};
+ghost use Rattle.cf_program.specs.Names.{repeated as repeated_of};
 ghost use Rattle.cf_program.specs.declared.fault.TypeFault.TheVariants.{WrongCount};
-ghost use Rattle.cf_program.specs.Walk.{◌>>=◌ as chained, where_kept, where_no_fault, where_none_repeated, bound, matched, variables_of, after_arm, no_forms as no_forms_of, no_arms as no_arms_of, output_fault as output_fault_of, binary_form, if_form, let_form, choose_form, match_form, walk as walk_of, walk_all as walk_all_of, walk_arms as walk_arms_of, walk_arm as walk_arm_of, with_walked as with_walked_of};
+ghost use Rattle.cf_program.specs.Walk.{◌>>=◌ as chained, where_kept, where_no_fault, where_none_repeated, bound, matched, variables_of, after_arm, no_forms as no_forms_of, no_arms as no_arms_of, output_fault as output_fault_of, binary_form, if_form, let_form, choose_form, choose_part, match_form, in_relation, walk as walk_of, walk_all as walk_all_of, walk_arms as walk_arms_of, walk_arm as walk_arm_of, with_walked as with_walked_of};
 
 use crate::build;
 use crate::callees::Caller;
@@ -32,7 +31,8 @@ struct LetNames<'a> {
 #[cycle(walk)]
 #[tactic(auto, using(crate::proofs::WalkSteps::fails_then))]
 pub fn walk(caller: &Caller, scope: &mut Scope, next: u32, raw: &Raw) -> Result<Form, TypeFault>
-    ensures gives { CheckAnswer form_of result (walk_of (callee_from caller.now.number 0 (map raw_def_tree caller.now.callees.now)) scope.old next (raw_tree raw.now)) }
+    ensures gives { CheckAnswer form_of result
+        (walk_of (context_of caller.now) scope.old next (raw_tree raw.now)) }
     ensures kept { OnOk result (scope.new ≡ scope.old) }
 {
     let place = raw.place;
@@ -126,11 +126,13 @@ fn walk_right(
     left: Form,
     right: &Raw,
 ) -> Result<Form, TypeFault>
-    ensures gives { CheckAnswer form_of result (chained (walk_of (callee_from caller.now.number 0 (map raw_def_tree caller.now.callees.now)) scope.old left.next (raw_tree right.now)) (binary_form place op (form_of left))) }
+    ensures gives { CheckAnswer form_of result
+        (chained (walk_of (context_of caller.now) scope.old left.next (raw_tree right.now))
+        (binary_form (context_of caller.now).known place op (form_of left))) }
     ensures kept { OnOk result (scope.new ≡ scope.old) }
 {
     match walk(caller, scope, left.next, right) {
-        Ok(right) => build::binary(caller.alloc, place, op, left, right),
+        Ok(right) => build::binary(caller, place, op, left, right),
         Err(fault) => Err(without(left, fault)),
     }
 }
@@ -146,7 +148,9 @@ fn walk_no(
     yes: Form,
     no: &Raw,
 ) -> Result<Form, TypeFault>
-    ensures gives { CheckAnswer form_of result (chained (walk_of (callee_from caller.now.number 0 (map raw_def_tree caller.now.callees.now)) scope.old yes.next (raw_tree no.now)) (if_form place (form_of test) (form_of yes))) }
+    ensures gives { CheckAnswer form_of result
+        (chained (walk_of (context_of caller.now) scope.old yes.next (raw_tree no.now))
+        (if_form place (form_of test) (form_of yes))) }
     ensures kept { OnOk result (scope.new ≡ scope.old) }
 {
     match walk(caller, scope, yes.next, no) {
@@ -159,7 +163,8 @@ fn walk_no(
 #[cycle(walk)]
 #[tactic(auto, using(crate::proofs::WalkSteps::more_fails))]
 fn walk_all(caller: &Caller, scope: &mut Scope, next: u32, raws: &[Raw]) -> Result<Forms, TypeFault>
-    ensures gives { CheckAnswer forms_of result (walk_all_of (callee_from caller.now.number 0 (map raw_def_tree caller.now.callees.now)) scope.old (no_forms_of next) (raw_trees raws.now)) }
+    ensures gives { CheckAnswer forms_of result
+        (walk_all_of (context_of caller.now) scope.old (no_forms_of next) (raw_trees raws.now)) }
     ensures kept { OnOk result (scope.new ≡ scope.old) }
 {
     let mut done = build::no_forms(caller.alloc, next);
@@ -183,7 +188,12 @@ fn walk_let(
     value: Form,
     body: &Raw,
 ) -> Result<Form, TypeFault>
-    ensures gives { CheckAnswer form_of result (where_none_repeated (repeated_of [] names.entry.texts.now names.entry.places.now) (where_kept (length names.entry.texts.now == length value.bases.items) (WrongCount place) (chained (walk_of (callee_from caller.now.number 0 (map raw_def_tree caller.now.callees.now)) (scope.old ++ bound names.entry.texts.now names.entry.places.now value.bases.items) value.next (raw_tree body.now)) (let_form place (length names.entry.texts.now) (form_of value))))) }
+    ensures gives { CheckAnswer form_of result
+        (where_none_repeated (repeated_of [] names.entry.texts.now names.entry.places.now)
+        (where_kept (length names.entry.texts.now == length value.bases.items) (WrongCount place)
+        (chained (walk_of (context_of caller.now)
+        (scope.old ++ bound names.entry.texts.now names.entry.places.now value.bases.items) value.next (raw_tree body.now))
+        (let_form place (length names.entry.texts.now) (form_of value))))) }
     ensures kept { OnOk result (scope.new ≡ scope.old) }
 {
     match repeated(caller.alloc, names.texts, names.places) {
@@ -210,7 +220,7 @@ fn walk_let(
 
 // A `choose` of this number.
 #[cycle(walk)]
-#[tactic(auto, using(crate::proofs::WalkSteps::fails_then))]
+#[tactic(auto, using(crate::proofs::WalkSteps::fails_then, crate::proofs::WalkSteps::read_alike))]
 fn walk_choose(
     caller: &Caller,
     scope: &mut Scope,
@@ -219,15 +229,46 @@ fn walk_choose(
     outputs: &[Param],
     rel: &Raw,
 ) -> Result<Form, TypeFault>
-    ensures gives { CheckAnswer form_of result (where_no_fault (output_fault_of [] outputs.now) (chained (walk_of (callee_from caller.now.number 0 (map raw_def_tree caller.now.callees.now)) (scope.old ++ outputs.now) (number + 1) (raw_tree rel.now)) (choose_form place number scope.old outputs.now))) }
+    ensures gives { CheckAnswer form_of result
+        (where_no_fault (output_fault_of [] outputs.now)
+        (chained (chained (walk_of (in_relation (context_of caller.now) (length scope.old)) (scope.old ++ outputs.now) (number + 1) (raw_tree rel.now))
+        (choose_form place number scope.old outputs.now))
+        (λ f. chained (walk_of (context_of caller.now) (scope.old ++ outputs.now) (number + 1) (raw_tree rel.now)) (choose_part place f)))) }
     ensures kept { OnOk result (scope.new ≡ scope.old) }
 {
     if let Some(fault) = output_fault(caller.alloc, outputs)? {
         return Err(fault);
     }
     let next = build::following(number)?;
-    let rel = walk_inside(caller, scope, next, outputs, rel)?;
-    choose_in(caller.alloc, scope, place, number, outputs, rel)
+    let inner = caller.in_relation(scope.len());
+    let read = walk_inside(&inner, scope, next, outputs, rel)?;
+    let chosen = choose_in(caller.alloc, scope, place, number, outputs, read)?;
+    if inner.knows_as_many(caller) {
+        return Ok(chosen);
+    }
+    walk_part(caller, scope, place, next, outputs, rel, chosen)
+}
+
+// A `choose` as a part of the relation around it.
+#[cycle(walk)]
+#[tactic(auto, using(crate::proofs::WalkSteps::fails_then))]
+fn walk_part(
+    caller: &Caller,
+    scope: &mut Scope,
+    place: Place,
+    next: u32,
+    outputs: &[Param],
+    rel: &Raw,
+    chosen: Form,
+) -> Result<Form, TypeFault>
+    ensures gives { CheckAnswer form_of result
+        (chained (walk_of (context_of caller.now) (scope.old ++ outputs.now) next (raw_tree rel.now)) (choose_part place (form_of chosen))) }
+    ensures kept { OnOk result (scope.new ≡ scope.old) }
+{
+    match walk_inside(caller, scope, next, outputs, rel) {
+        Ok(inner) => Ok(build::part(place, chosen, inner)),
+        Err(fault) => Err(without(chosen, fault)),
+    }
 }
 
 // A part in which these variables are in scope too.
@@ -240,7 +281,8 @@ fn walk_inside(
     params: &[Param],
     raw: &Raw,
 ) -> Result<Form, TypeFault>
-    ensures gives { CheckAnswer form_of result (walk_of (callee_from caller.now.number 0 (map raw_def_tree caller.now.callees.now)) (scope.old ++ params.now) next (raw_tree raw.now)) }
+    ensures gives { CheckAnswer form_of result
+        (walk_of (context_of caller.now) (scope.old ++ params.now) next (raw_tree raw.now)) }
     ensures kept { OnOk result (scope.new ≡ scope.old) }
 {
     let size = scope.len();
@@ -276,7 +318,8 @@ fn walk_matched(
     number: u32,
     value: &Raw,
 ) -> Result<Form, TypeFault>
-    ensures gives { CheckAnswer form_of result (walk_of (callee_from caller.now.number 0 (map raw_def_tree caller.now.callees.now)) scope.old (number + 1) (raw_tree value.now)) }
+    ensures gives { CheckAnswer form_of result
+        (walk_of (context_of caller.now) scope.old (number + 1) (raw_tree value.now)) }
     ensures kept { OnOk result (scope.new ≡ scope.old) }
 {
     let next = build::following(number)?;
@@ -295,7 +338,9 @@ fn walk_match(
     // for the proof: behind a call that may end early, the measure of a slice would stay open
     arms: &Vec<RawArm>,
 ) -> Result<Form, TypeFault>
-    ensures gives { CheckAnswer form_of result (chained (walk_arms_of (callee_from caller.now.number 0 (map raw_def_tree caller.now.callees.now)) (scope.old ++ matched place ∷ []) (no_arms_of value.next) (raw_arm_trees arms.now.items)) (match_form place number (scope.old ++ matched place ∷ []) (form_of value))) }
+    ensures gives { CheckAnswer form_of result
+        (chained (walk_arms_of (context_of caller.now) (scope.old ++ matched place ∷ [])
+        (no_arms_of value.next) (raw_arm_trees arms.now.items)) (match_form place number (scope.old ++ matched place ∷ []) (form_of value))) }
     ensures kept { OnOk result (scope.new ≡ scope.old) }
 {
     match scope.enter_matched(caller.alloc, place) {
@@ -316,7 +361,8 @@ fn walk_arms(
     next: u32,
     arms: &[RawArm],
 ) -> Result<Arms, TypeFault>
-    ensures gives { CheckAnswer arms_of result (walk_arms_of (callee_from caller.now.number 0 (map raw_def_tree caller.now.callees.now)) scope.old (no_arms_of next) (raw_arm_trees arms.now)) }
+    ensures gives { CheckAnswer arms_of result
+        (walk_arms_of (context_of caller.now) scope.old (no_arms_of next) (raw_arm_trees arms.now)) }
     ensures kept { OnOk result (scope.new ≡ scope.old) }
 {
     let mut done = build::no_arms(caller.alloc, next);
@@ -332,7 +378,8 @@ fn walk_arms(
 // The body of an arm.
 #[cycle(walk)]
 fn walk_arm(caller: &Caller, scope: &mut Scope, next: u32, arm: &RawArm) -> Result<Form, TypeFault>
-    ensures gives { CheckAnswer form_of result (walk_arm_of (callee_from caller.now.number 0 (map raw_def_tree caller.now.callees.now)) scope.old next (raw_arm_tree arm.now)) }
+    ensures gives { CheckAnswer form_of result
+        (walk_arm_of (context_of caller.now) scope.old next (raw_arm_tree arm.now)) }
     ensures kept { OnOk result (scope.new ≡ scope.old) }
 {
     walk_body(caller, scope, next, &arm.parts, &arm.body)
@@ -348,7 +395,10 @@ fn walk_body(
     parts: &[Part],
     body: &Raw,
 ) -> Result<Form, TypeFault>
-    ensures gives { CheckAnswer form_of result (where_none_repeated (repeated_of [] (map (λ x. x.name) parts.now) (map (λ x. x.place) parts.now)) (walk_of (callee_from caller.now.number 0 (map raw_def_tree caller.now.callees.now)) (scope.old ++ variables_of parts.now) (after_arm next parts.now) (raw_tree body.now))) }
+    ensures gives { CheckAnswer form_of result
+        (where_none_repeated (repeated_of [] (map (λ x. x.name) parts.now) (map (λ x. x.place) parts.now))
+        (walk_of (context_of caller.now) (scope.old ++ variables_of parts.now) (after_arm next parts.now)
+        (raw_tree body.now))) }
     ensures kept { OnOk result (scope.new ≡ scope.old) }
 {
     if let Some(later) = repeated_part(caller.alloc, parts)? {

@@ -12,4 +12,5 @@ returns c =
     let named : c.args.name.now ≡ c.as_slice-bytes.result.now = search rules in
     let number : c.args.number ≡ c.in_ok-number.number = search rules in
     let same : c.in_ok-from_slice.field-0.items ≡ c.as_slice-bytes.result.now = search rules in
-    rw (named, number) (name_added c.args.numbers.now.entries c.insert.new.self.entries c.in_ok-from_slice.field-0 c.as_slice-bytes.result.now c.in_ok-number.number same c.if-contains_key.ensures c.in_ok-insert.ensures.entries)
+    rw (named, number) (name_added c.args.numbers.now.entries c.insert.new.self.entries c.in_ok-from_slice.field-0 c.as_slice-bytes.result.now
+    c.in_ok-number.number same c.if-contains_key.ensures c.in_ok-insert.ensures.entries)

@@ -5,5 +5,5 @@ use Rattle.cf_type.proofs.check.walk_each.Given as goal
 
 abbrev pub invariant-loop-i : goal.invariant-loop-i
 invariant-loop-i l =
-    walk_defs (map raw_def_tree l.defs) (map raw_def_tree (take l.i l.defs)) (map def_tree l.done.items) l.next (map raw_def_tree (drop l.i l.defs))
-    ≡ walk_defs (map raw_def_tree l.defs) [] [] 1 (map raw_def_tree l.defs)
+    walk_defs l.how (map raw_def_tree l.defs) (map raw_def_tree (take l.i l.defs)) (map def_tree l.done.items) l.next (map raw_def_tree (drop l.i l.defs))
+    ≡ walk_defs l.how (map raw_def_tree l.defs) [] [] 1 (map raw_def_tree l.defs)

@@ -8,12 +8,14 @@ use Rattle.cf_type.proofs.size.depth_fault.Goals as goal
 
 pub returns-then-depth-gt-DEPTH_LIMIT : goal.returns-then-depth-gt-DEPTH_LIMIT
 returns-then-depth-gt-DEPTH_LIMIT c =
-    measured_passes 200 Depth depth_in depth_of c.args.defs.now c.loop-def.def-index c.def-item.result c.loop-def.known.items c.deref.result.now c.depth-depth.result _
+    measured_passes 200 Depth depth_in depth_of c.args.defs.now c.loop-def.def-index c.def-item.result c.loop-def.known.items c.deref.result.now
+    c.depth-depth.result _
     depth_lowered c.loop-def-test.true c.def-item.is (cc) c.depth-depth.ensures (omega arith) c.loop-def.invariant
 
 pub loop-def-preserved : goal.loop-def-preserved
 loop-def-preserved c =
     let pushed : c.push.new.self.items ≡ c.loop-def.known.items ++ c.depth-depth.result ∷ [] = search rules in
     rw pushed
-    (measured_goes_on 200 Depth depth_in depth_of c.args.defs.now c.loop-def.def-index c.def-item.result c.loop-def.known.items c.deref.result.now c.depth-depth.result _
+    (measured_goes_on 200 Depth depth_in depth_of c.args.defs.now c.loop-def.def-index c.def-item.result c.loop-def.known.items c.deref.result.now
+    c.depth-depth.result _
     (omega arith) depth_lowered c.loop-def-test.true c.def-item.is (cc) c.depth-depth.ensures (omega arith) c.loop-def.invariant)

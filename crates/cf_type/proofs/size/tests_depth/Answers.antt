@@ -7,5 +7,8 @@ use Rattle.cf_type.proofs.size.tests_depth.Goals as goal
 
 pub loop-arm-preserved : goal.loop-arm-preserved
 loop-arm-preserved c =
-    let r : c.saturating_add-depth.result ≡ capped (1 + max c.loop-arm.depth (test_depth (match_arm_tree c.arm-item.result))) = omega arith in
-    (omega arith, tests_depth_next c.args.arms.now c.loop-arm.arm-index c.arm-item.result c.loop-arm.depth c.saturating_add-depth.result _ c.loop-arm-test.true c.arm-item.is r c.loop-arm.invariant.1)
+    let r : c.saturating_add-depth.result ≡ capped (1 + max c.loop-arm.depth (test_depth (match_arm_tree c.arm-item.result))) = omega arith in (
+      omega arith,
+      tests_depth_next c.args.arms.now c.loop-arm.arm-index c.arm-item.result c.loop-arm.depth c.saturating_add-depth.result _ c.loop-arm-test.true
+          c.arm-item.is r c.loop-arm.invariant.1,
+    )

@@ -1,9 +1,12 @@
-use Rattle.std.proofs.Common.{◌≡◌, ◌+◌, ◌∷◌, map, drop, sym, ap, ◌∙◌, subst, arith}
+use Rattle.std.proofs.Common.{◌≡◌, ◌+◌, ◌∷◌, drop, sym, ap, ◌∙◌, subst, arith, rules}
 use Rattle.std.proofs.lemmas.List.{drop_more}
-use Rattle.cf_tree.specs.DefView.{raw_def_tree}
-use Rattle.cf_type.specs.FormView.{form_of}
+use Rattle.cf_tree.specs.declared.raw.Raw.{the_lemmas as raw_lemmas}
+use Rattle.cf_tree.specs.declared.raw.RawNode.{the_lemmas as node_lemmas}
+use Rattle.cf_tree.specs.RawTree.{raw_choose}
+use Rattle.cf_tree.specs.RawView.{raw_tree}
+use Rattle.cf_type.specs.FormView.{form_of, context_of}
 use Rattle.cf_program.specs.CheckAnswers.{CheckAnswer}
-use Rattle.cf_program.specs.Names.{callee_from}
+use Rattle.cf_type.proofs.DefSteps.{choose_answer}
 use Rattle.cf_type.proofs.WalkSteps.{arm_body, arms_fail, arms_next}
 use Rattle.cf_type.proofs.walk.+walk.Goals as goal
 
@@ -12,7 +15,8 @@ walk_arms-returns-in-Err-clause-gives t c =
     let l = c.loop-arm in
     let xs = c.args.arms.now in
     let x = c.arm-item.result in
-    let here : drop l.arm-index xs ≡ x ∷ drop (l.arm-index + 1) xs = drop_more xs l.arm-index x (omega arith) ∙ ap (λ y. y ∷ drop (l.arm-index + 1) xs) (sym c.arm-item.is) in
+    let here : drop l.arm-index xs ≡ x ∷ drop (l.arm-index + 1) xs =
+    drop_more xs l.arm-index x (omega arith) ∙ ap (λ y. y ∷ drop (l.arm-index + 1) xs) (sym c.arm-item.is) in
     arms_fail _ _ _ _ xs l.arm-index x c.in-Err.fault _ _ c.without.ensures l.invariant.0 here c.in-Err.ensures.gives l.invariant.1
 
 pub walk_arms-loop-arm-preserved : goal.walk_arms-loop-arm-preserved
@@ -20,7 +24,8 @@ walk_arms-loop-arm-preserved t c =
     let l = c.loop-arm in
     let xs = c.args.arms.now in
     let x = c.arm-item.result in
-    let here : drop l.arm-index xs ≡ x ∷ drop (l.arm-index + 1) xs = drop_more xs l.arm-index x (omega arith) ∙ ap (λ y. y ∷ drop (l.arm-index + 1) xs) (sym c.arm-item.is) in
+    let here : drop l.arm-index xs ≡ x ∷ drop (l.arm-index + 1) xs =
+    drop_more xs l.arm-index x (omega arith) ∙ ap (λ y. y ∷ drop (l.arm-index + 1) xs) (sym c.arm-item.is) in
     let kept : c.walk_arm.new.scope ≡ l.scope = c.in-Ok.ensures.kept in (
       kept ∙ l.invariant.0,
       arms_next _ _ _ _ _ xs l.arm-index x _ _ l.invariant.0 here c.in-Ok.ensures.gives c.in_ok-done-in-Ok.ensures l.invariant.1,
@@ -28,5 +33,15 @@ walk_arms-loop-arm-preserved t c =
 
 pub walk_arm-returns-clause-gives : goal.walk_arm-returns-clause-gives
 walk_arm-returns-clause-gives t c =
-    let calls = callee_from c.args.caller.now.number 0 (map raw_def_tree c.args.caller.now.callees.now) in
-    subst (λ r. CheckAnswer form_of c.walk_body.result r) (sym (arm_body calls c.args.scope.now c.args.next c.args.arm.now c.deref.result.now c.deref.ensures.value)) c.walk_body.ensures.gives
+    subst (λ r. CheckAnswer form_of c.walk_body.result r)
+    (sym (arm_body (context_of c.args.caller.now) c.args.scope.now c.args.next c.args.arm.now c.deref.result.now c.deref.ensures.value))
+    c.walk_body.ensures.gives
+
+pub walk-returns-in-Choose-clause-gives : goal.walk-returns-in-Choose-clause-gives
+walk-returns-in-Choose-clause-gives t c =
+    let raw = c.args.raw.now in
+    let outputs = c.deref-in-Choose.result.now in
+    let rel = raw_tree c.deref-in-Choose-2.result.now in
+    let is : raw_tree raw ≡ raw_choose raw.place outputs rel = search (rules, raw_lemmas, node_lemmas) in
+    choose_answer (context_of c.args.caller.now) c.args.scope.now c.args.next raw.place outputs rel (raw_tree raw) c.walk_choose.result is
+    c.walk_choose.ensures.gives

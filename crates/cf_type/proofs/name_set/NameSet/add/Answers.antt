@@ -10,4 +10,5 @@ returns-clause-had c =
 pub returns-clause-added : goal.returns-clause-added
 returns-clause-added c =
     let named : c.args.name.now ≡ c.as_slice.result.now = search rules in
-    rw (← c.self.view_is, named) (keys_added (λ k. k.now) c.self.inside.names.keys c.insert.new.self.keys c.as_slice.result c.in_ok-insert.field-0 c.in_ok-insert.ensures.added c.in_ok-insert.ensures.keys)
+    rw (← c.self.view_is, named) (keys_added (λ k. k.now) c.self.inside.names.keys c.insert.new.self.keys c.as_slice.result c.in_ok-insert.field-0
+    c.in_ok-insert.ensures.added c.in_ok-insert.ensures.keys)

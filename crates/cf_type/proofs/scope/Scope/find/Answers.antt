@@ -10,4 +10,5 @@ returns-in-None c =
 pub returns-in-Some : goal.returns-in-Some
 returns-in-Some c =
     let named : c.args.name.now ≡ c.as_slice.result.now = search rules in
-    rw (← c.self.view_is, named) (found_in_scope c.self.inside.innermost.entries _ _ c.as_slice.result.now c.in-Some.found.now c.in-Some.ensures.value c.self.invariant)
+    rw (← c.self.view_is, named) (found_in_scope c.self.inside.innermost.entries _ _ c.as_slice.result.now c.in-Some.found.now c.in-Some.ensures.value
+    c.self.invariant)

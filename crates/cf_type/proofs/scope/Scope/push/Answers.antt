@@ -10,6 +10,8 @@ invariant_of-self-2 c =
     let pushed : c.push.new.self.items ≡ c.self.inside.bindings.items ++ binding ∷ [] = search rules in
     let named : c.in_ok-name.name.items ≡ c.args.param.name = search rules in
     let level : c.in_ok-level.level ≡ length (map (λ b. b.param) c.self.inside.bindings.items) = search rules in
-    let same : c.variable_at-variable.result ≡ record { level = length (map (λ b. b.param) c.self.inside.bindings.items); base = c.args.param.base } = c.variable_at-variable.ensures ∙ ap (λ l. record { level = l; base = c.args.param.base }) level in
+    let same : c.variable_at-variable.result ≡ record { level = length (map (λ b. b.param) c.self.inside.bindings.items); base = c.args.param.base } =
+    c.variable_at-variable.ensures ∙ ap (λ l. record { level = l; base = c.args.param.base }) level in
     let hides : c.find-hidden.result ≡ variable_of (map (λ b. b.param) c.self.inside.bindings.items) c.args.param.name = search rules in
-    rw pushed (scope_pushed c.self.inside.innermost.entries c.insert.new.self.entries c.in_ok-name.name c.self.inside.bindings.items binding c.variable_at-variable.result named same hides c.in_ok-insert.ensures.entries c.self.invariant)
+    rw pushed (scope_pushed c.self.inside.innermost.entries c.insert.new.self.entries c.in_ok-name.name c.self.inside.bindings.items binding
+    c.variable_at-variable.result named same hides c.in_ok-insert.ensures.entries c.self.invariant)
