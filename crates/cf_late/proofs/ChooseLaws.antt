@@ -23,7 +23,7 @@ use Rattle.cf_choose.proofs.ArmBuilderLemmas.{length_have}
 use Rattle.cf_choose.proofs.DefinedArms.{unrefused_solve, unrefused_typed}
 use Rattle.cf_growth.specs.Meeting.{AreSmall}
 use Rattle.cf_growth.proofs.MeetingLaws.{given_are_met}
-use Rattle.cf_late.specs.declared.outcome.LateOutcome.{LateOutcome}
+use Rattle.cf_late.specs.declared.outcome.LateOutcome.{LateOutcome as DeclaredLateOutcome}
 use Rattle.cf_late.specs.At.{rel_known}
 use Rattle.cf_late.specs.Fitting.{AreFit}
 use Rattle.cf_late.specs.LateChoose.{IsLateChoose}
@@ -78,7 +78,8 @@ module _ (scope outputs : List Base) (rel : RelTree) (env : List Value) (late : 
       by (Some r) s e = absurd (refused_not n r o e)
       by None s e =
           let u = known_unrefused s in
-          let c = solve_chosen n scope outputs known (arms_of (arms scope outputs known)) (unrefused_solve scope outputs known u).1 (unrefused_typed scope outputs known u) env have in
+          let c = solve_chosen n scope outputs known (arms_of (arms scope outputs known)) (unrefused_solve scope outputs known u).1
+          (unrefused_typed scope outputs known u) env have in
           let m = solve_comes (code_solve n (arms_of (arms scope outputs known))) env o e in
           chosen_alike n (Sol outputs known env) (Sol outputs rel env) o (known_solutions have) (subst (Chosen n (Sol outputs known env)) m c)
 
@@ -137,7 +138,9 @@ solved_code n scope outputs k s code of e = rw (of.same_scope, of.same_outputs, 
 solved_within : (scope outputs : List Base) (k : RelTree) (s : SolvedParts) → IsOf scope outputs k s → first_refusal scope outputs k ≡ None
 solved_within scope outputs k s of = rw (of.same_scope, of.same_outputs, of.same_relation) at of.solved.within
 
-pub choose_ran : (n : ℕ) (scope outputs : List Base) (rel k : RelTree) (env : List Value) (s : SolvedParts) (code : CodeTree) (r : Result LateOutcome NoMemory) →
+pub choose_ran : (n : ℕ) (scope outputs : List Base) (rel k : RelTree) (env : List Value) (s : SolvedParts) (code : CodeTree)
+    (r : Result DeclaredLateOutcome NoMemory)
+    →
     k ≡ rel_known (length scope) rel env → IsOf scope outputs k s → code ≡ code_solve n (arms_of (arms s.scope.items s.outputs.items (rel_tree s.rel))) →
     IfOk r (λ o. late_of o ≡ solve_run code env) → IfOk r (λ o. late_of o ≡ late_choose n scope outputs rel env)
 choose_ran n scope outputs rel k env s code (Ok o) e of c h =
@@ -154,10 +157,12 @@ solve_fit code env vs e = by (nat_le (peak code env) limit) refl e
     by true t q = given_fit code env vs (comes_once (means code env) (values vs) q) (leb-true (peak code env) limit t)
     by false t q = absurd (overflow_not (values vs) q)
 
-pub choose_fit : (n : ℕ) (scope outputs : List Base) (rel : RelTree) (env vs : List Value) → late_choose n scope outputs rel env ≡ comes_to (values vs) → AreFit vs
+pub choose_fit : (n : ℕ) (scope outputs : List Base) (rel : RelTree) (env vs : List Value) → late_choose n scope outputs rel env ≡ comes_to (values vs) →
+    AreFit vs
 choose_fit n scope outputs rel env vs e = by (first_refusal scope outputs (rel_known (length scope) rel env)) e
   where
-    by : (r : Option Refusal) → choose_run r n (code_solve n (arms_of (arms scope outputs (rel_known (length scope) rel env)))) env ≡ comes_to (values vs) → AreFit vs
+    by : (r : Option Refusal) → choose_run r n (code_solve n (arms_of (arms scope outputs (rel_known (length scope) rel env)))) env ≡ comes_to (values vs) →
+        AreFit vs
     by (Some r) q = absurd (refused_not n r (values vs) q)
     by None q = solve_fit (code_solve n (arms_of (arms scope outputs (rel_known (length scope) rel env)))) env vs q
 

@@ -5,7 +5,7 @@ use Rattle.cf_tree.specs.declared.base.Order.TheVariants.{Eq, Le}
 use Rattle.cf_tree.specs.RelTree.{RelTree, TermTree, SetTree, empty_set, set_var, union_of, rel_true, rel_false, rel_compare, rel_same_set, rel_other_set, rel_subset, rel_divides, rel_and, rel_or, rel_not, term_lit, term_var, term_card, term_neg, term_add, term_sub, term_mul, term_div, term_mod, term_abs}
 use Rattle.cf_tree.specs.Values.{Value, number, elements}
 use Rattle.cf_late.specs.At.{rel_known}
-use Rattle.cf_late.specs.LateLinear.{is_fixed_below, IsLateLinearTerm, IsLateLinear}
+use Rattle.cf_program.specs.LateLinear.{is_fixed_below, IsLateLinearTerm, IsLateLinear}
 
 -- a is 3, s is {1}, b is -2; x and y stand behind them
 abbrev env : List Value
@@ -50,7 +50,8 @@ known-sets_stay : known (term_card (union_of s (set_var 4))) ≡ is (term_card (
 known-sets_stay = refl
 
 known-parts : (known (term_neg a) ≡ is (term_neg three)) × (known (term_abs a) ≡ is (term_abs three)) × (known (term_add a b) ≡ is (term_add three minus_two))
-    × (known (term_sub a b) ≡ is (term_sub three minus_two)) × (known (term_mul a b) ≡ is (term_mul three minus_two)) × (known (term_mul a x) ≡ is (term_mul three x))
+    × (known (term_sub a b) ≡ is (term_sub three minus_two)) × (known (term_mul a b) ≡ is (term_mul three minus_two)) ×
+    (known (term_mul a x) ≡ is (term_mul three x))
     × (known (term_div a (pos 2)) ≡ is (term_div three (pos 2))) × (known (term_mod a (pos 2)) ≡ is (term_mod three (pos 2)))
 known-parts = (refl, refl, refl, refl, refl, refl, refl, refl)
 
@@ -58,10 +59,12 @@ known-sides : (rel_known 3 (rel_compare Le x b) env ≡ rel_compare Le x minus_t
 known-sides = (refl, refl)
 
 known-truth : (rel_known 3 rel_true env ≡ rel_true) × (rel_known 3 rel_false env ≡ rel_false) × (rel_known 3 (rel_not (is a)) env ≡ rel_not (is three))
-    × (rel_known 3 (rel_and (is a) (is b)) env ≡ rel_and (is three) (is minus_two)) × (rel_known 3 (rel_or (is a) (is b)) env ≡ rel_or (is three) (is minus_two))
+    × (rel_known 3 (rel_and (is a) (is b)) env ≡ rel_and (is three) (is minus_two)) ×
+    (rel_known 3 (rel_or (is a) (is b)) env ≡ rel_or (is three) (is minus_two))
 known-truth = (refl, refl, refl, refl, refl)
 
-known-set_relations : (rel_known 3 (rel_same_set s empty_set) env ≡ rel_same_set s empty_set) × (rel_known 3 (rel_other_set s empty_set) env ≡ rel_other_set s empty_set)
+known-set_relations : (rel_known 3 (rel_same_set s empty_set) env ≡ rel_same_set s empty_set) ×
+    (rel_known 3 (rel_other_set s empty_set) env ≡ rel_other_set s empty_set)
     × (rel_known 3 (rel_subset s empty_set) env ≡ rel_subset s empty_set)
 known-set_relations = (refl, refl, refl)
 

@@ -10,7 +10,7 @@ use Rattle.cf_tree.specs.RelTree.{TermTree, term_lit, term_var, term_card, term_
 use Rattle.cf_tree.specs.Values.{Value, number, number_of, value_at}
 use Rattle.cf_late.specs.At.{variable_known, term_known, rel_known}
 use Rattle.cf_late.specs.Fitting.{AreFit}
-use Rattle.cf_late.specs.LateLinear.{is_fixed_below, IsLateLinearTerm}
+use Rattle.cf_program.specs.LateLinear.{is_fixed_below, IsLateLinearTerm}
 use Rattle.cf_late.specs.Laws.{KnowingKeepsSolutions, KnowingKeepsTypes, KnowingIsLinear}
 
 -- a number of fit values, 0 where none stands
@@ -27,7 +27,8 @@ fit_append (v ∷ vs) ws h k = (h.0, fit_append vs ws h.1 k)
 variable_val : (x : ℕ) (env xs : List Value) → val (variable_known (length env) x env) (env ++ xs) ≡ number_of (value_at (env ++ xs) x)
 variable_val x env xs = by (nat_lt x (length env)) refl
   where
-    by : (b : Bool) → nat_lt x (length env) ≡ b → val (if b then term_lit (number_of (value_at env x)) else term_var x) (env ++ xs) ≡ number_of (value_at (env ++ xs) x)
+    by : (b : Bool) → nat_lt x (length env) ≡ b →
+        val (if b then term_lit (number_of (value_at env x)) else term_var x) (env ++ xs) ≡ number_of (value_at (env ++ xs) x)
     by true e = ap number_of (sym (get_or-append env xs (number (pos 0)) x (ltb-true x (length env) e)))
     by false e = refl
 

@@ -11,7 +11,7 @@ use Rattle.cf_tree.specs.declared.raw.Param.{Param}
 use Rattle.cf_tree.specs.CodeTree.{code_lit}
 use Rattle.cf_tree.specs.ExprTree.{ExprTree, expr_lit, expr_truth, expr_var, expr_set_of, expr_tuple, expr_neg, expr_not, expr_abs, expr_binary, expr_divides, expr_div, expr_mod, expr_card, expr_if, expr_call, expr_let, expr_choose, expr_match, exprs_of, match_arm, match_arms_of}
 use Rattle.cf_tree.specs.RelTree.{rel_and, rel_compare, set_var, term_add, term_card, term_mul, term_var}
-use Rattle.cf_tree.specs.Values.{Value, number, truth, elements, values, no_solution}
+use Rattle.cf_tree.specs.Values.{Value, number, truth, elements, no_solution}
 use Rattle.cf_linear.specs.declared.refusal.LimitKind.TheVariants.{Search}
 use Rattle.cf_linear.specs.declared.refusal.Refusal.TheVariants.{Past, Limit}
 use Rattle.cf_linear.specs.Arm.{arm}
@@ -19,7 +19,7 @@ use Rattle.cf_linear.specs.Cases.{disjuncts, case_count, system_of_case, first_s
 use Rattle.cf_linear.specs.Chooses.{arms, first_refused, refusal_by, limit}
 use Rattle.cf_linear.specs.Stages.{run, run_for, clean_stage, equation_stage, bound_stage, unknown_stage, row_stage, stage}
 use Rattle.cf_linear.specs.Steps.{clean, mix, factors_of, merge, merge_passes, merge_factor, last, pick, searched, dropped, searched_by, bound, bound_passes, bound_factor}
-use Rattle.cf_late.specs.LateRun.{Late, comes_to, overflow, refused, gives, solve_run, choose_run, late_run}
+use Rattle.cf_late.specs.LateRun.{LateOutcome, comes_to, overflow, refused, gives, solve_run, choose_run, late_run}
 
 abbrev param : Base → Param
 param b = record { place = record { line = 1; column = 1 }; name = codes "a"; base = b }
@@ -30,11 +30,11 @@ params bs = map param bs
 abbrev numbers : List ℤ → List Value
 numbers zs = map number zs
 
-abbrev none : ℕ → Late
+abbrev none : ℕ → LateOutcome
 none n = comes_to (no_solution n)
 
 -- what an expression comes to behind these functions
-abbrev runs : List ExprTree → ExprTree → List Value → Late
+abbrev runs : List ExprTree → ExprTree → List Value → LateOutcome
 runs before e env = late_run (before ++ e ∷ []) (length before) env
 
 -- 2^127 - 1, and one more
@@ -124,7 +124,9 @@ unfolding arms arm first_systems disjuncts system_of_case write_atom run run_for
 copies-of_set = refl
 
 -- a choose behind a let is entered with the value that the let bound
-behind-let : runs [] (expr_let 1 (expr_binary Sub (expr_var 0) (expr_lit (pos 1))) (expr_choose 1 (params (Int ∷ Int ∷ [])) (Int ∷ []) (rel_compare Eq (term_mul (term_var 1) (term_var 2)) (term_var 0)))) (numbers (pos 2 ∷ [])) ≡ gives (numbers (pos 2 ∷ []))
+behind-let : runs [] (expr_let 1 (expr_binary Sub (expr_var 0) (expr_lit (pos 1)))
+    (expr_choose 1 (params (Int ∷ Int ∷ [])) (Int ∷ []) (rel_compare Eq (term_mul (term_var 1) (term_var 2)) (term_var 0)))) (numbers (pos 2 ∷ [])) ≡ gives
+    (numbers (pos 2 ∷ []))
 unfolding arms arm first_systems disjuncts system_of_case write_atom run run_for stage clean_stage equation_stage bound_stage unknown_stage row_stage clean
     mix factors_of merge merge_passes merge_factor last pick searched dropped searched_by bound bound_passes bound_factor gcd_by factors_by parts_of limit
     refusal_by case_count written_passes first_refused
@@ -144,13 +146,15 @@ choose-runs : choose_run None 7 (code_lit (pos 1)) [] ≡ gives (numbers (pos 1 
 choose-runs = refl
 
 -- ---- the first part that gives no values decides
-refused-first : runs [] (expr_tuple (exprs_of (above ∷ expr_neg (expr_lit past) ∷ []))) (numbers (pos 1267650600228229401496703205376 ∷ pos 1267650600228229401496703205376 ∷ [])) ≡ refused 1 Past
+refused-first : runs [] (expr_tuple (exprs_of (above ∷ expr_neg (expr_lit past) ∷ [])))
+    (numbers (pos 1267650600228229401496703205376 ∷ pos 1267650600228229401496703205376 ∷ [])) ≡ refused 1 Past
 unfolding arms arm first_systems disjuncts system_of_case write_atom run run_for stage clean_stage equation_stage bound_stage unknown_stage row_stage clean
     mix factors_of merge merge_passes merge_factor last pick searched dropped searched_by bound bound_passes bound_factor gcd_by factors_by parts_of limit
     refusal_by case_count written_passes first_refused
 refused-first = refl
 
-overflow-first : runs [] (expr_tuple (exprs_of (expr_neg (expr_lit past) ∷ above ∷ []))) (numbers (pos 1267650600228229401496703205376 ∷ pos 1267650600228229401496703205376 ∷ [])) ≡ overflow
+overflow-first : runs [] (expr_tuple (exprs_of (expr_neg (expr_lit past) ∷ above ∷ [])))
+    (numbers (pos 1267650600228229401496703205376 ∷ pos 1267650600228229401496703205376 ∷ [])) ≡ overflow
 unfolding arms arm first_systems disjuncts system_of_case write_atom run run_for stage clean_stage equation_stage bound_stage unknown_stage row_stage clean
     mix factors_of merge merge_passes merge_factor last pick searched dropped searched_by bound bound_passes bound_factor gcd_by factors_by parts_of limit
     refusal_by case_count written_passes first_refused
@@ -278,11 +282,23 @@ if-true = refl
 if-false : runs [] (expr_if (expr_truth false) (expr_lit (pos 1)) passing) [] ≡ overflow
 if-false = refl
 
-let-of_pair : runs [] (expr_let 2 (expr_tuple (exprs_of (expr_lit (pos 1) ∷ expr_lit (pos 2) ∷ []))) (expr_binary Sub (expr_var 1) (expr_var 2))) (numbers (pos 9 ∷ [])) ≡ gives (numbers (negsuc 0 ∷ []))
+let-of_pair : runs [] (expr_let 2 (expr_tuple (exprs_of (expr_lit (pos 1) ∷ expr_lit (pos 2) ∷ []))) (expr_binary Sub (expr_var 1) (expr_var 2)))
+    (numbers (pos 9 ∷ [])) ≡ gives (numbers (negsuc 0 ∷ []))
 let-of_pair = refl
 
-call : runs (expr_binary Sub (expr_var 1) (expr_var 0) ∷ expr_call 0 (exprs_of (expr_lit (pos 3) ∷ expr_var 0 ∷ [])) ∷ []) (expr_call 1 (exprs_of (expr_lit (pos 5) ∷ []))) [] ≡ gives (numbers (pos 2 ∷ []))
+call : runs (expr_binary Sub (expr_var 1) (expr_var 0) ∷ expr_call 0 (exprs_of (expr_lit (pos 3) ∷ expr_var 0 ∷ [])) ∷ [])
+    (expr_call 1 (exprs_of (expr_lit (pos 5) ∷ []))) [] ≡ gives (numbers (pos 2 ∷ []))
 call = refl
+
+-- main need not stand last, and a function calls only those before it
+main-first : late_run (expr_lit (pos 1) ∷ expr_lit (pos 2) ∷ []) 0 [] ≡ gives (numbers (pos 1 ∷ []))
+main-first = refl
+
+call-itself : runs (expr_lit (pos 1) ∷ []) (expr_call 1 (exprs_of [])) [] ≡ gives []
+call-itself = refl
+
+call-stops : runs (expr_lit (pos 1) ∷ []) (expr_call 0 (exprs_of (passing ∷ []))) [] ≡ overflow
+call-stops = refl
 
 -- ---- matches: 2 * i then i + 100, 3 then 0, 6 * i + 3 * j + 1 then 7
 abbrev scope : List Param
@@ -307,6 +323,13 @@ unfolding arms arm first_systems disjuncts system_of_case write_atom run run_for
     refusal_by case_count written_passes first_refused
 match-negative = refl
 
+-- both the first and the last arm fit
+match-first_of_two : runs [] matched (numbers (pos 4 ∷ [])) ≡ gives (numbers (pos 102 ∷ []))
+unfolding arms arm first_systems disjuncts system_of_case write_atom run run_for stage clean_stage equation_stage bound_stage unknown_stage row_stage clean
+    mix factors_of merge merge_passes merge_factor last pick searched dropped searched_by bound bound_passes bound_factor gcd_by factors_by parts_of limit
+    refusal_by case_count written_passes first_refused
+match-first_of_two = refl
+
 match-constant : runs [] matched (numbers (pos 3 ∷ [])) ≡ gives (numbers (pos 3 ∷ []))
 unfolding gcd_by
 match-constant = refl
@@ -325,7 +348,8 @@ match-stops : runs [] (expr_match 1 scope (expr_neg (expr_lit past)) (match_arms
 match-stops = refl
 
 -- factors of 0 alone: the constant is the only number, and the variable is still picked
-match-zero_factor : runs [] (expr_match 1 scope (expr_var 0) (match_arms_of (match_arm 2 (pos 0 ∷ []) (pos 3) (expr_var 2) ∷ []))) (numbers (pos 3 ∷ [])) ≡ gives (numbers (pos 0 ∷ []))
+match-zero_factor : runs [] (expr_match 1 scope (expr_var 0) (match_arms_of (match_arm 2 (pos 0 ∷ []) (pos 3) (expr_var 2) ∷ []))) (numbers (pos 3 ∷ [])) ≡
+    gives (numbers (pos 0 ∷ []))
 unfolding arms arm first_systems disjuncts system_of_case write_atom run run_for stage clean_stage equation_stage bound_stage unknown_stage row_stage clean
     mix factors_of merge merge_passes merge_factor last pick searched dropped searched_by bound bound_passes bound_factor gcd_by factors_by parts_of limit
     refusal_by case_count written_passes first_refused

@@ -24,44 +24,44 @@ use Rattle.cf_match.specs.Classes.{class_of}
 use Rattle.cf_late.specs.At.{rel_known}
 
 -- an outcome, or a number past the limit, or the number of a choose that is refused with the first limit that it passes
-pub data Late : Type 0 where
-  comes_to : Outcome → Late
-  overflow : Late
-  refused : ℕ → Refusal → Late
+pub data LateOutcome : Type 0 where
+  comes_to : Outcome → LateOutcome
+  overflow : LateOutcome
+  refused : ℕ → Refusal → LateOutcome
 
-abbrev pub gives : List Value → Late
+abbrev pub gives : List Value → LateOutcome
 gives vs = comes_to (values vs)
 
 -- the first part that gives no values decides
-abbrev pub then_late : Late → (List Value → Late) → Late
+abbrev pub then_late : LateOutcome → (List Value → LateOutcome) → LateOutcome
 then_late (comes_to (values vs)) go = go vs
 then_late (comes_to (no_solution n)) go = comes_to (no_solution n)
 then_late overflow go = overflow
 then_late (refused n r) go = refused n r
 
 -- the value of an ordinary operation, which overflows past the limit
-abbrev pub ordinary : Value → Late
+abbrev pub ordinary : Value → LateOutcome
 ordinary (number z) = if nat_le (unsigned_abs z) limit then gives (number z ∷ []) else overflow
 ordinary (truth b) = gives (truth b ∷ [])
 ordinary (elements zs) = gives (elements zs ∷ [])
 
 -- goes on where the left side does not decide
-abbrev pub late_right : BinOp → Value → Late → Late
+abbrev pub late_right : BinOp → Value → LateOutcome → LateOutcome
 late_right And v right = if truth_of v then right else gives (truth false ∷ [])
 late_right Or v right = if truth_of v then gives (truth true ∷ []) else right
 late_right op v right = then_late right (λ ys. ordinary (operation op v (first_of ys)))
 
 -- ---- chooses
 -- the run of a `solve`, which overflows where a number met is past the limit
-abbrev pub solve_run : CodeTree → List Value → Late
+abbrev pub solve_run : CodeTree → List Value → LateOutcome
 solve_run code env = if nat_le (peak code env) limit then comes_to (means code env) else overflow
 
 -- choose number n over a relation without number variables in scope: it is refused with its first limit, or runs as the `solve` with the arms of its cases
-abbrev pub choose_run : Option Refusal → ℕ → CodeTree → List Value → Late
+abbrev pub choose_run : Option Refusal → ℕ → CodeTree → List Value → LateOutcome
 choose_run (Some r) n code env = refused n r
 choose_run None n code env = solve_run code env
 
-abbrev pub late_choose : ℕ → List Base → List Base → RelTree → List Value → Late
+abbrev pub late_choose : ℕ → List Base → List Base → RelTree → List Value → LateOutcome
 late_choose n scope outputs rel env =
     let known = rel_known (length scope) rel env in choose_run (first_refusal scope outputs known) n (code_solve n (arms_of (arms scope outputs known))) env
 
@@ -76,7 +76,7 @@ abbrev pub pattern_relation : ℕ → List ℤ → ℤ → RelTree
 pattern_relation x factors k = rel_compare Eq (term_var x) (pattern_term (suc x) factors k)
 
 -- the values of the variables of a pattern, which choose number m picks; the matched value stands last in the scope
-abbrev pub late_variables : ℕ → List Base → List ℤ → ℤ → List Value → Late
+abbrev pub late_variables : ℕ → List Base → List ℤ → ℤ → List Value → LateOutcome
 late_variables m scope [] k env = gives []
 late_variables m scope (f ∷ factors) k env =
     late_choose m scope (map (λ _. Int) (f ∷ factors)) (pattern_relation (length scope - 1) (f ∷ factors) k) env
@@ -84,7 +84,7 @@ late_variables m scope (f ∷ factors) k env =
 -- ---- expressions
 abbrev mutual
   -- what an expression comes to, where `calls` says what a call does
-  pub late_in : (ℕ → List Value → Late) → ExprTree → List Value → Late
+  pub late_in : (ℕ → List Value → LateOutcome) → ExprTree → List Value → LateOutcome
   late_in calls (expr_lit k) env = gives (number k ∷ [])
   late_in calls (expr_truth t) env = gives (truth t ∷ [])
   late_in calls (expr_var x) env = gives (value_at env x ∷ [])
@@ -106,12 +106,12 @@ abbrev mutual
       then_late (late_in calls a env) (λ xs. late_arms calls n (scope_of scope) arms (number_of (first_of xs)) (env ++ xs))
 
   -- the values of all, from left to right
-  pub late_all : (ℕ → List Value → Late) → ExprTrees → List Value → Late
+  pub late_all : (ℕ → List Value → LateOutcome) → ExprTrees → List Value → LateOutcome
   late_all calls no_exprs env = gives []
   late_all calls (expr_more e es) env = then_late (late_in calls e env) (λ xs. then_late (late_all calls es env) (λ ys. gives (xs ++ ys)))
 
   -- the first arm whose test holds of v, behind the values of its variables; match number n has no solution where no arm's does
-  pub late_arms : (ℕ → List Value → Late) → ℕ → List Base → MatchArmTrees → ℤ → List Value → Late
+  pub late_arms : (ℕ → List Value → LateOutcome) → ℕ → List Base → MatchArmTrees → ℤ → List Value → LateOutcome
   late_arms calls n scope no_match_arms v env = comes_to (no_solution n)
   late_arms calls n scope (match_arm_more (match_arm m factors k body) arms) v env =
       if is_in (class_of factors k) v
@@ -119,10 +119,10 @@ abbrev mutual
       else late_arms calls n scope arms v env
 
 -- a call of function number f, where the functions stand last first: each calls only those after it in the list
-abbrev pub late_call : List ExprTree → ℕ → List Value → Late
+abbrev pub late_call : List ExprTree → ℕ → List Value → LateOutcome
 late_call [] f xs = gives []
 late_call (body ∷ earlier) f xs = if f == length earlier then late_in (late_call earlier) body xs else late_call earlier f xs
 
 -- the main function of a program, whose functions stand in the order of the source
-abbrev pub late_run : List ExprTree → ℕ → List Value → Late
+abbrev pub late_run : List ExprTree → ℕ → List Value → LateOutcome
 late_run bodies main env = late_call (reverse bodies) main env

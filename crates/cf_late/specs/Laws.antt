@@ -8,7 +8,7 @@ use Rattle.cf_tree.specs.Values.{Value, Outcome, HaveBases}
 use Rattle.cf_late.specs.At.{rel_known}
 use Rattle.cf_late.specs.Fitting.{AreFit}
 use Rattle.cf_late.specs.LateChoose.{IsLateChoose}
-use Rattle.cf_late.specs.LateLinear.{IsLateLinear}
+use Rattle.cf_program.specs.LateLinear.{IsLateLinear}
 use Rattle.cf_late.specs.LateRun.{comes_to, late_choose}
 
 -- it has the same solutions there

@@ -1,7 +1,9 @@
+pub mod Answers
 pub mod At
 pub mod Fitting
 pub mod LateChoose
-pub mod LateLinear
 pub mod LateRun
 pub mod Laws
 pub mod Outcomes
+pub mod ProgramLaw
+pub mod Runnable

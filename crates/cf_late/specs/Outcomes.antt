@@ -8,19 +8,19 @@ use Rattle.cf_linear.specs.declared.refusal.Refusal.{Refusal}
 use Rattle.cf_linear.specs.declared.refusal.Refusal.TheVariants as refusal
 use Rattle.cf_eval.specs.Seen.{plains}
 use Rattle.cf_eval.specs.Texts.{outcome_text}
-use Rattle.cf_late.specs.declared.outcome.LateOutcome.{LateOutcome}
+use Rattle.cf_late.specs.declared.outcome.LateOutcome.{LateOutcome as DeclaredLateOutcome}
 use Rattle.cf_late.specs.declared.outcome.LateOutcome.TheVariants as outcome
 use Rattle.cf_late.specs.Fitting.{AreFit}
-use Rattle.cf_late.specs.LateRun.{Late, comes_to, overflow, refused}
+use Rattle.cf_late.specs.LateRun.{LateOutcome, comes_to, overflow, refused}
 
-abbrev pub late_of : LateOutcome → Late
+abbrev pub late_of : DeclaredLateOutcome → LateOutcome
 late_of (outcome.Values vs) = comes_to (values (plains vs.items))
 late_of (outcome.NoSolution n) = comes_to (no_solution n)
 late_of outcome.Overflow = overflow
 late_of (outcome.Refused n r) = refused n r
 
 -- values within the limit, where there are some
-abbrev pub IsFitOutcome : LateOutcome → Type 0
+abbrev pub IsFitOutcome : DeclaredLateOutcome → Type 0
 IsFitOutcome (outcome.Values vs) = AreFit (plains vs.items)
 IsFitOutcome (outcome.NoSolution n) = Unit {0}
 IsFitOutcome outcome.Overflow = Unit {0}
@@ -40,7 +40,7 @@ refusal_text n refusal.Past = concat (codes "choose " ∷ decimal n ∷ codes ":
 refusal_text n (refusal.Limit kind number) = concat (codes "choose " ∷ decimal n ∷ codes ": " ∷ kind_text kind ∷ codes " " ∷ decimal number ∷ [])
 
 -- the reply to a line
-abbrev pub late_text : Late → List ℕ
+abbrev pub late_text : LateOutcome → List ℕ
 late_text (comes_to o) = outcome_text o
 late_text overflow = codes "overflow"
 late_text (refused n r) = refusal_text n r

@@ -2,23 +2,14 @@
 ghost use Rattle.std.specs.Prelude.{◌≡◌, IfOk};
 ghost use Rattle.cf_tree.specs.RelView.{term_tree, rel_tree};
 ghost use Rattle.cf_tree.specs.Values.{number_of, value_at};
-ghost use Rattle.cf_eval.specs.Seen.{plain, plains};
+ghost use Rattle.cf_eval.specs.Seen.{plains};
 ghost use Rattle.cf_late.specs.At.{variable_known, term_known, rel_known};
 
+use crate::operate::number_in;
 use cf_eval::value::Value;
 use cf_tree::memory::NoMemory;
 use cf_tree::rel::{Rel, Term};
 use std::alloc::Global;
-
-fn number_in(value: &Value) -> i128
-    ensures { result ≡ number_of (plain value.now) }
-{
-    match value {
-        Value::Int(n) => *n,
-        Value::Truth(_) => 0,
-        Value::Elements(_) => 0,
-    }
-}
 
 // The number of level x, 0 where none stands there.
 fn number_at(x: u32, env: &[Value]) -> i128

@@ -28,7 +28,7 @@ use std::alloc::Global;
 /// # Errors
 /// `NoMemory` where memory ran out.
 #[tactic(auto, using(crate::proofs::ChooseLaws::choose_ran, crate::proofs::ChooseLaws::choose_refused))]
-pub fn run_choose(
+pub fn late_choose(
     alloc: Global,
     number: u32,
     scope: &[Base],

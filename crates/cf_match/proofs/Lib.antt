@@ -3,7 +3,7 @@ mod ClassLaws
 mod FormExamples
 mod FormLaws
 mod LoopSteps
-mod LoweredLaws
+pub mod LoweredLaws
 mod Lowering
 mod LoweringExamples
 mod MatchExamples
@@ -11,10 +11,10 @@ mod MatchLists
 mod Matches
 pub mod NoMatchLaws
 mod NumberLaws
-mod Outcomes
-mod Patterns
-mod ProgramLaws
+pub mod Outcomes
+pub mod Patterns
+pub mod ProgramLaws
 mod ProgramTypes
 mod Tests
 mod TypedLaws
-mod Variables
+pub mod Variables

@@ -65,14 +65,14 @@ parts_have : (takes : ℕ → List Base → List Base → Type 0) (es : ExprTree
 parts_have takes no_exprs scope b h = ([], refl)
 parts_have takes (expr_more e es) scope b h = let rest = parts_have takes es scope b h.1 in (b ∷ rest.0, (b, rest.0, refl, h.0, rest.1))
 
-end_level : (params : List Param) (scope : List Base) (env : List Value) → bases_of params ≡ scope ++ Int ∷ [] → HaveBases scope env →
+pub end_level : (params : List Param) (scope : List Base) (env : List Value) → bases_of params ≡ scope ++ Int ∷ [] → HaveBases scope env →
     length params - 1 ≡ length env
 end_level params scope env e h =
     let counted = length-map params (λ p. p.base) in
     let same : length (bases_of params) ≡ length (scope ++ Int ∷ []) = ap length e in
     omega (arith, counted, same, length-append scope (Int ∷ []), length_have scope env h)
 
-one_behind : (env : List Value) (v : Value) (x : ℕ) → x ≡ length env → length (env ++ v ∷ []) ≡ suc x
+pub one_behind : (env : List Value) (v : Value) (x : ℕ) → x ≡ length env → length (env ++ v ∷ []) ≡ suc x
 one_behind env v x e = omega (arith, e, length-append env (v ∷ []))
 
 module _ (takes : ℕ → List Base → List Base → Type 0) (calls after : ℕ → List Value → Outcome → Type 0)

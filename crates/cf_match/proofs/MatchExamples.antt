@@ -23,14 +23,16 @@ abbrev def : ExprTree → DefTree
 def body = record { name = codes "f"; params = []; results = Int ∷ []; body = body }
 
 -- `match (match 5 with { 3 then 5 }) with { 2 * i then (match ..) ; 2 * i - 4 * j + 1 then (match ..) }`
-nested : matches (expr_match 1 [] (only 2) (match_arms_of (match_arm 3 (pos 2 ∷ []) (pos 0) (only 4) ∷ match_arm 5 (pos 2 ∷ negsuc 3 ∷ []) (pos 1) (only 6) ∷ [])))
+nested : matches (expr_match 1 [] (only 2)
+    (match_arms_of (match_arm 3 (pos 2 ∷ []) (pos 0) (only 4) ∷ match_arm 5 (pos 2 ∷ negsuc 3 ∷ []) (pos 1) (only 6) ∷ [])))
     ≡ record { number = 1; arms = 3 ∷ 5 ∷ []; classes = Residue (pos 2) (pos 0) ∷ Residue (pos 2) (pos 1) ∷ [] } ∷ told 2 ∷ told 4 ∷ told 6 ∷ []
 unfolding gcd_by
 nested = refl
 
 -- `match 5 with { 6 * i then 5 ; 2 * i then 5 ; j then 5 }`, and `match 5 with { 2 * i then 5 ; 3 then 5 }`
 of_classes :
-    (matches (expr_match 1 [] k (match_arms_of (match_arm 2 (pos 6 ∷ []) (pos 0) k ∷ match_arm 3 (pos 2 ∷ []) (pos 0) k ∷ match_arm 4 (pos 1 ∷ []) (pos 0) k ∷ [])))
+    (matches (expr_match 1 [] k (match_arms_of
+    (match_arm 2 (pos 6 ∷ []) (pos 0) k ∷ match_arm 3 (pos 2 ∷ []) (pos 0) k ∷ match_arm 4 (pos 1 ∷ []) (pos 0) k ∷ [])))
     ≡ record { number = 1; arms = 2 ∷ 3 ∷ 4 ∷ []; classes = Residue (pos 6) (pos 0) ∷ Residue (pos 2) (pos 0) ∷ Residue (pos 1) (pos 0) ∷ [] } ∷ [])
     × (matches (expr_match 1 [] k (match_arms_of (match_arm 2 (pos 2 ∷ []) (pos 0) k ∷ match_arm 0 [] (pos 3) k ∷ [])))
     ≡ record { number = 1; arms = 2 ∷ 0 ∷ []; classes = Residue (pos 2) (pos 0) ∷ Point (pos 3) ∷ [] } ∷ [])
@@ -48,7 +50,8 @@ in_leaves : (matches k ≡ []) × (matches (expr_truth true) ≡ []) × (matches
 in_leaves = (refl, refl, refl, refl)
 
 in_one_part : (matches (expr_neg (only 1)) ≡ told 1 ∷ []) × (matches (expr_not (only 1)) ≡ told 1 ∷ []) × (matches (expr_abs (only 1)) ≡ told 1 ∷ [])
-    × (matches (expr_card (only 1)) ≡ told 1 ∷ []) × (matches (expr_divides (pos 3) (only 1)) ≡ told 1 ∷ []) × (matches (expr_div (only 1) (pos 3)) ≡ told 1 ∷ [])
+    × (matches (expr_card (only 1)) ≡ told 1 ∷ []) × (matches (expr_divides (pos 3) (only 1)) ≡ told 1 ∷ []) ×
+    (matches (expr_div (only 1) (pos 3)) ≡ told 1 ∷ [])
     × (matches (expr_mod (only 1) (pos 3)) ≡ told 1 ∷ [])
 unfolding gcd_by
 in_one_part = (refl, refl, refl, refl, refl, refl, refl)

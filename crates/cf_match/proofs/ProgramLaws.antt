@@ -58,7 +58,7 @@ takes_first (e ∷ es) d = pick_else _ _ (0 == length (es ++ d ∷ [])) (apart 0
   length-append es (d ∷ []),
 ))) (takes_first es d)
 
-takes_at : (ds : List DefTree) (k : ℕ) (d : DefTree) → slice_get ds k ≡ Some d → Takes (reverse ds) k (bases_of d.params) d.results
+pub takes_at : (ds : List DefTree) (k : ℕ) (d : DefTree) → slice_get ds k ≡ Some d → Takes (reverse ds) k (bases_of d.params) d.results
 takes_at [] k d e = cc
 takes_at (c ∷ ds) zero d e = let same : c ≡ d = cc in rw (reverse-append (c ∷ []) ds, ← same) (takes_first (reverse ds) c)
 takes_at (c ∷ ds) (suc k) d e = rw (reverse-append (c ∷ []) ds) (takes_later (reverse ds) c k (bases_of d.params) d.results (takes_at ds k d e))
@@ -67,7 +67,7 @@ takes_at (c ∷ ds) (suc k) d e = rw (reverse-append (c ∷ []) ds) (takes_later
 abbrev lows : List DefTree → List ExprTree
 lows ds = map lowered (bodies ds)
 
-one_test : (f n m : ℕ) (b : Bool) → n ≡ m → (f == n) ≡ b → (f == m) ≡ b
+pub one_test : (f n m : ℕ) (b : Bool) → n ≡ m → (f == n) ≡ b → (f == m) ≡ b
 one_test f n m b e h = subst (λ k. (f == k) ≡ b) e h
 
 on_either : (rs : List Base) (o : Outcome) (X Y : Type 0) (a : Bool) (X' Y' : Type 0) (c b : Bool) → a ≡ b → c ≡ b →
@@ -102,7 +102,7 @@ calls_agree (d ∷ earlier) t f ps rs h xs v o =
         (one_test f (length earlier) (length (lows earlier)) false (sym (length-map (bodies earlier) lowered ∙ length-map earlier (λ d. d.body))) e)
         (old g)
 
-bodies_turned : (ds : List DefTree) → bodies (reverse ds) ≡ reverse (bodies ds)
+pub bodies_turned : (ds : List DefTree) → bodies (reverse ds) ≡ reverse (bodies ds)
 bodies_turned [] = refl
 bodies_turned (d ∷ ds) =
     rw (reverse-append (d ∷ []) ds, reverse-append (d.body ∷ []) (bodies ds), map-append (λ d. d.body) (reverse ds) (d ∷ []), bodies_turned ds) refl

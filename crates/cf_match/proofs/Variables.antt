@@ -25,7 +25,7 @@ ints_have [] (i ∷ is) e = absurd (omega arith)
 ints_have (f ∷ factors) [] e = absurd (omega arith)
 ints_have (f ∷ factors) (i ∷ is) e = ((i, refl), ints_have factors is (omega arith))
 
-ints_are : (factors : List ℤ) (xs : List Value) → HaveBases (ints_of factors) xs → (is : List ℤ) × (length is ≡ length factors) × (xs ≡ map number is)
+pub ints_are : (factors : List ℤ) (xs : List Value) → HaveBases (ints_of factors) xs → (is : List ℤ) × (length is ≡ length factors) × (xs ≡ map number is)
 ints_are [] [] h = ([], refl, refl)
 ints_are [] (v ∷ xs) h = absurd h
 ints_are (f ∷ factors) [] h = absurd h
@@ -78,7 +78,7 @@ pattern_is y (f ∷ factors) k (i ∷ is) env e s =
     added_is (term_mul (term_lit f) (term_var y)) (suc y) factors k is env (omega arith) s.1
     ∙ first_part f (number_of (value_at env y)) i (pattern_value factors k is) s.0
 
-holds_is : (env : List Value) (x : ℕ) (z : ℤ) (factors : List ℤ) (k : ℤ) (is : List ℤ) → value_at env x ≡ number z → length env ≡ suc x →
+pub holds_is : (env : List Value) (x : ℕ) (z : ℤ) (factors : List ℤ) (k : ℤ) (is : List ℤ) → value_at env x ≡ number z → length env ≡ suc x →
     length is ≡ length factors → Holds (rel_compare Eq (term_var x) (pattern_term (suc x) factors k)) (env ++ map number is) ↔ (z ≡ pattern_value factors k is)
 holds_is env x z factors k is at level e =
     let left : number_of (value_at (env ++ map number is) x) ≡ z = ap number_of (value_at-early env (map number is) x (omega arith) ∙ at) in

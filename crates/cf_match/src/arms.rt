@@ -1,26 +1,26 @@
 //! The chooses and tests that a match stands for.
 #![tactic(auto, using(crate::proofs::FormLaws::forms))]
 
-ghost use Rattle.std.specs.Prelude.{◌≡◌, ◌-◌, suc, [], ◌∷◌, IfOk, map, length, reverse, All, MatchBool};
+ghost use Rattle.std.specs.Prelude.{◌≡◌, suc, [], ◌∷◌, IfOk, map, length, reverse, All, MatchBool};
 ghost use Rattle.cf_num.specs.Limit.{IsWithin};
 ghost use Rattle.cf_tree.specs.declared.base.Base.TheVariants as bases;
 ghost use Rattle.cf_tree.specs.declared.base.Order.TheVariants.{Eq};
 ghost use Rattle.cf_tree.specs.declared.raw.BinOp.TheVariants.{Or};
 ghost use Rattle.cf_tree.specs.ExprTree.{expr_binary, expr_choose, expr_if, expr_let};
 ghost use Rattle.cf_tree.specs.ExprView.{expr_tree, match_arm_tree, match_arm_trees};
-ghost use Rattle.cf_tree.specs.RelTree.{rel_false, rel_compare, term_lit, term_var, term_mul, term_add};
-ghost use Rattle.cf_tree.specs.RelView.{term_tree};
-ghost use Rattle.cf_program.specs.Lowered.{any_test, any_fits, added, pattern_term, unless_last, fitting};
+ghost use Rattle.cf_tree.specs.RelTree.{rel_false, rel_compare, term_var};
+ghost use Rattle.cf_program.specs.Lowered.{any_test, any_fits, pattern_term, unless_last, fitting};
 ghost use Rattle.cf_match.specs.Matches.{class_of_arm};
 ghost use Rattle.cf_match.specs.Forms.{class_test, fits_test, with_arm, picked_of, match_of};
 
 use crate::class::{Class, class_of};
+use crate::pattern::{last_level, numbers, pattern_relation};
 use cf_tree::base::{Base, Order};
 use cf_tree::copy::words::copy_params;
 use cf_tree::expr::{Expr, MatchArm};
 use cf_tree::memory::{NoMemory, without};
 use cf_tree::raw::{BinOp, Param};
-use cf_tree::rel::{Rel, Term};
+use cf_tree::rel::Rel;
 use std::alloc::Global;
 
 // A match whose value and bodies are lowered.
@@ -44,16 +44,6 @@ pub(crate) fn match_form(
         value,
         body,
     })
-}
-
-// The level of the last variable in scope.
-fn last_level(scope: &[Param]) -> Result<u32, NoMemory>
-    ensures { IfOk result (λ level. level ≡ length scope.now - 1) }
-{
-    match u32::try_from(scope.len().saturating_sub(1)) {
-        Ok(level) => Ok(level),
-        Err(_) => Err(NoMemory),
-    }
 }
 
 // The matched value, where an arm fits it; else the choose of the match's number, which has no solution.
@@ -202,99 +192,15 @@ fn chosen(alloc: Global, scope: &[Param], level: u32, arm: &MatchArm) -> Result<
     ensures { IfOk result (λ e. expr_tree e ≡ expr_choose arm.now.number scope.now (map (λ _. bases.Int) arm.now.factors.items)
         (rel_compare Eq (term_var level) (pattern_term (suc level) arm.now.factors.items arm.now.constant))) }
 {
-    let left = Box::new(alloc, Term::Var(level))?;
-    let pattern = pattern_term(alloc, next(level)?, &arm.factors, arm.constant)?;
+    let scope = copy_params(alloc, scope)?;
+    let outputs = numbers(alloc, &arm.factors)?;
+    let rel = pattern_relation(alloc, level, &arm.factors, arm.constant)?;
     Ok(Expr::Choose {
         number: arm.number,
-        scope: copy_params(alloc, scope)?,
-        outputs: numbers(alloc, &arm.factors)?,
-        rel: Rel::Compare {
-            order: Order::Eq,
-            left,
-            right: Box::new(alloc, pattern)?,
-        },
+        scope,
+        outputs,
+        rel,
     })
-}
-
-// A number for each factor.
-fn numbers(alloc: Global, factors: &[i128]) -> Result<Vec<Base>, NoMemory>
-    ensures { IfOk result (λ all. all.items ≡ map (λ _. bases.Int) factors.now) }
-{
-    let mut all = Vec::new(alloc);
-    for _factor in factors {
-        all.push(Base::Int)?;
-    }
-    Ok(all)
-}
-
-// The next level.
-fn next(level: u32) -> Result<u32, NoMemory>
-    ensures { IfOk result (λ n. n ≡ suc level) }
-{
-    match level.checked_add(1) {
-        Some(level) => Ok(level),
-        None => Err(NoMemory),
-    }
-}
-
-// The sum of a pattern whose variables have the levels from this one on.
-fn pattern_term(
-    alloc: Global,
-    level: u32,
-    factors: &[i128],
-    constant: i128,
-) -> Result<Term, NoMemory>
-    ensures { IfOk result (λ t. term_tree t ≡ pattern_term level factors.now constant) }
-{
-    let Some((factor, rest)) = factors.split_first() else {
-        return Ok(Term::Lit(constant));
-    };
-    let first = product(alloc, *factor, level)?;
-    added(alloc, first, next(level)?, rest, constant)
-}
-
-// A sum, then each factor times its variable, from this level on, then the constant.
-fn added(
-    alloc: Global,
-    sum: Term,
-    level: u32,
-    factors: &[i128],
-    constant: i128,
-) -> Result<Term, NoMemory>
-    ensures { IfOk result (λ t. term_tree t ≡ added (term_tree sum) level factors.now constant) }
-{
-    let mut sum = sum;
-    let mut level = level;
-    let mut rest = factors;
-    while let Some((factor, more)) = rest.split_first() {
-        sum = with_product(alloc, sum, *factor, level)?;
-        level = next(level)?;
-        rest = more;
-    }
-    plus(alloc, sum, Term::Lit(constant))
-}
-
-// A sum, then the factor times the variable of this level.
-fn with_product(alloc: Global, sum: Term, factor: i128, level: u32) -> Result<Term, NoMemory>
-    ensures { IfOk result (λ t. term_tree t ≡ term_add (term_tree sum) (term_mul (term_lit factor) (term_var level))) }
-{
-    match product(alloc, factor, level) {
-        Ok(more) => plus(alloc, sum, more),
-        Err(fault) => Err(without(sum, fault)),
-    }
-}
-
-fn plus(alloc: Global, a: Term, b: Term) -> Result<Term, NoMemory>
-    ensures { IfOk result (λ t. term_tree t ≡ term_add (term_tree a) (term_tree b)) }
-{
-    Ok(Term::Add(Box::new(alloc, a)?, Box::new(alloc, b)?))
-}
-
-fn product(alloc: Global, factor: i128, level: u32) -> Result<Term, NoMemory>
-    ensures { IfOk result (λ t. term_tree t ≡ term_mul (term_lit factor) (term_var level)) }
-{
-    let left = Box::new(alloc, Term::Lit(factor))?;
-    Ok(Term::Mul(left, Box::new(alloc, Term::Var(level))?))
 }
 
 // Whether any of the arms fits.

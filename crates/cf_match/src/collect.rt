@@ -105,7 +105,12 @@ fn collect_arm(alloc: Global, arm: &MatchArm, all: &mut Vec<MatchInfo>) -> Resul
 
 // What is told of a match.
 fn info(alloc: Global, number: u32, arms: &[MatchArm]) -> Result<MatchInfo, NoMemory>
-    ensures { IfOk result (λ m. match_tree m ≡ record { number = number; arms = numbers_of (match_arm_trees arms.now); classes = classes_of (match_arm_trees arms.now) }) }
+    ensures { IfOk result (λ m. match_tree m ≡ record {
+      number = number;
+      arms = numbers_of (match_arm_trees arms.now);
+      classes =
+          classes_of (match_arm_trees arms.now);
+    }) }
 {
     Ok(MatchInfo {
         number,

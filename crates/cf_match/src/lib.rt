@@ -6,6 +6,7 @@ pub mod class;
 mod collect;
 mod lower;
 pub mod lowered;
+pub mod pattern;
 
 ghost use Rattle.cf_match.specs.Laws.{LoweringKeepsOutcomes, LoweringKeepsTypes, LoweringLeavesNoMatch};
 

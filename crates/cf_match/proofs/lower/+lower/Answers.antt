@@ -20,14 +20,18 @@ pub lower_expr-returns-in_ok-bodies-in-Match : goal.lower_expr-returns-in_ok-bod
 lower_expr-returns-in_ok-bodies-in-Match t c =
     let m = c.in-Match in
     let bodies = c.in_ok-bodies-in-Match.bodies.items in
-    let same : expr_tree c.args.expr.now ≡ expr_match m.number m.scope.items (expr_tree m.of.value) (match_arm_trees m.arms.items) = search (rules, the_lemmas) in
+    let same : expr_tree c.args.expr.now ≡ expr_match m.number m.scope.items (expr_tree m.of.value) (match_arm_trees m.arms.items) =
+    search (rules, the_lemmas) in
     let value : expr_tree c.in_ok-of-in-Match.of.value ≡ lowered (expr_tree m.of.value) = search rules in
     let made : map expr_tree bodies ≡ bodies_lowered (match_arm_trees m.arms.items) = search rules in
     let form =
-    subst (λ s. IfOk c.match_form.result (λ e. expr_tree e ≡ match_of m.number s (expr_tree c.in_ok-of-in-Match.of.value) (match_arm_trees m.arms.items) (map expr_tree bodies)))
+    subst (λ s. IfOk c.match_form.result (λ e. expr_tree e ≡ match_of m.number s (expr_tree c.in_ok-of-in-Match.of.value) (match_arm_trees m.arms.items)
+    (map expr_tree bodies)))
     c.deref-in-Match-3.ensures.value
-    (subst (λ a. IfOk c.match_form.result (λ e. expr_tree e ≡ match_of m.number c.deref-in-Match-3.result.now (expr_tree c.in_ok-of-in-Match.of.value) (match_arm_trees a) (map expr_tree bodies)))
+    (subst (λ a. IfOk c.match_form.result (λ e. expr_tree e ≡ match_of m.number c.deref-in-Match-3.result.now (expr_tree c.in_ok-of-in-Match.of.value)
+    (match_arm_trees a) (map expr_tree bodies)))
     c.deref-in-Match-4.ensures.value c.match_form.ensures) in
     subst (λ v. IfOk c.match_form.result (λ e. expr_tree e ≡ lowered v)) (sym same)
-    (match_lowered c.match_form.result m.number m.scope.items (expr_tree m.of.value) (expr_tree c.in_ok-of-in-Match.of.value) (match_arm_trees m.arms.items) (map expr_tree bodies)
+    (match_lowered c.match_form.result m.number m.scope.items (expr_tree m.of.value) (expr_tree c.in_ok-of-in-Match.of.value) (match_arm_trees m.arms.items)
+    (map expr_tree bodies)
     value made form)

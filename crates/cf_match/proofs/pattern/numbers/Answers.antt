@@ -1,7 +1,7 @@
 use Rattle.std.proofs.Common.{[], ◌∷◌, ◌++◌, pos, arith, sym, ap, ◌∙◌}
 use Rattle.std.proofs.lemmas.List.{map_more}
 use Rattle.cf_tree.specs.declared.base.Base.TheVariants.{Int}
-use Rattle.cf_match.proofs.arms.numbers.Goals as goal
+use Rattle.cf_match.proofs.pattern.numbers.Goals as goal
 
 pub loop-factor-preserved : goal.loop-factor-preserved
 loop-factor-preserved c =

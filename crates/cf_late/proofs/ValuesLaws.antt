@@ -1,0 +1,41 @@
+-- Values within the limit.
+use Rattle.std.proofs.Common.{◌≡◌, ℕ, zero, suc, ◌<◌, List, [], ◌∷◌, ◌++◌, length, map, take, get_or, refl, sym, ap, ◌∙◌, subst, arith}
+use Rattle.std.proofs.lemmas.List.{map-append, take_at}
+use Rattle.std.proofs.lemmas.List.Elements.{All-nil, All-cons}
+use Rattle.cf_num.specs.Limit.{IsWithin}
+use Rattle.cf_tree.specs.Sets.{AreWithin}
+use Rattle.cf_tree.specs.Values.{Value, number_of}
+use Rattle.cf_eval.specs.declared.value.Value.{Value as RunValue}
+use Rattle.cf_eval.specs.Seen.{plain, plains}
+use Rattle.cf_late.specs.Fitting.{AreFit}
+use Rattle.cf_late.proofs.KnownLaws.{fit_append}
+
+pub fit_both : (xs ys : List RunValue) → AreFit (plains xs) → AreFit (plains ys) → AreFit (plains (xs ++ ys))
+fit_both xs ys h k = subst AreFit (sym (map-append plain xs ys)) (fit_append (plains xs) (plains ys) h k)
+
+pub fit_take : (n : ℕ) (xs : List RunValue) → AreFit (plains xs) → AreFit (plains (take n xs))
+fit_take zero xs h = tt
+fit_take (suc n) [] h = tt
+fit_take (suc n) (v ∷ xs) h = (h.0, fit_take n xs h.1)
+
+pub plains_take : (n : ℕ) (xs : List RunValue) → plains (take n xs) ≡ take n (plains xs)
+plains_take zero xs = refl
+plains_take (suc n) [] = refl
+plains_take (suc n) (v ∷ xs) = ap (λ vs. plain v ∷ vs) (plains_take n xs)
+
+pub plains_append : (xs ys : List RunValue) → plains (xs ++ ys) ≡ plains xs ++ plains ys
+plains_append xs ys = map-append plain xs ys
+
+-- a copy of a value that stands at a place
+pub copy_fit : (xs : List RunValue) (x : ℕ) (v w : RunValue) → AreFit (plains xs) → x < length xs → v ≡ get_or xs x v → w ≡ v → IsWithin (number_of (plain w))
+copy_fit [] x v w h l e same = absurd (omega (arith, l))
+copy_fit (u ∷ xs) zero v w h l e same = subst (λ y. IsWithin (number_of (plain y))) (sym (same ∙ e)) h.0
+copy_fit (u ∷ xs) (suc x) v w h l e same = copy_fit xs x v w h.1 (omega (arith, l)) e same
+
+pub numbers_within : (vs : List Value) → AreFit vs → AreWithin (map number_of vs)
+numbers_within [] h = All-nil IsWithin
+numbers_within (v ∷ vs) h = All-cons IsWithin (number_of v) (map number_of vs) h.0 (numbers_within vs h.1)
+
+-- the values behind the first ones are given up
+pub taken_back : (n : ℕ) (xs ys : List Value) → n ≡ length xs → take n (xs ++ ys) ≡ xs
+taken_back n xs ys e = take_at xs ys n (sym e)

@@ -1,0 +1,61 @@
+//! The arms of a match.
+ghost use Rattle.std.specs.Prelude.{◌≡◌, ◌-◌, map, length};
+ghost use Rattle.cf_num.specs.Limit.{IsWithin};
+ghost use Rattle.cf_tree.specs.declared.base.Base.TheVariants as bases;
+ghost use Rattle.cf_tree.specs.Allowed.{scope_of};
+ghost use Rattle.cf_tree.specs.ExprView.{match_arm_tree};
+ghost use Rattle.cf_late.specs.Answers.{LateAnswer, arm_fits};
+ghost use Rattle.cf_late.specs.LateChoose.{IsLateChoose};
+ghost use Rattle.cf_late.specs.LateRun.{is_in, late_variables, pattern_relation};
+ghost use Rattle.cf_late.specs.Runnable.{HasFitPattern};
+
+use crate::enter::enter;
+use crate::operate::remain;
+use crate::stop::Stop;
+use crate::values::Values;
+use cf_match::class::{Class, class_of};
+use cf_match::pattern::{last_level, numbers, pattern_relation};
+use cf_tree::expr::MatchArm;
+use cf_tree::raw::Param;
+use std::alloc::Global;
+
+// Whether the test of an arm holds of a number.
+pub(crate) fn fits(arm: &MatchArm, z: i128) -> bool
+    requires number { IsWithin z }
+    requires pattern { HasFitPattern (match_arm_tree arm.now) }
+    ensures { result ≡ arm_fits (match_arm_tree arm.now) z }
+{
+    is_in(class_of(&arm.factors, arm.constant), z)
+}
+
+// Whether a number is in a class.
+fn is_in(class: Class, z: i128) -> bool
+    requires { IsWithin z }
+    ensures { result ≡ is_in class z }
+{
+    match class {
+        Class::Point(c) => z == c,
+        Class::Residue { g, r } => remain(z, g) == r,
+    }
+}
+
+// The values of the variables of an arm, which its choose picks. The matched value stands last in
+// scope.
+pub(crate) fn variables(
+    alloc: Global,
+    scope: &[Param],
+    arm: &MatchArm,
+    env: &Values,
+) -> Result<Values, Stop>
+    requires late { IsLateChoose (scope_of scope.now) (map (λ _. bases.Int) arm.now.factors.items)
+        (pattern_relation (length (scope_of scope.now) - 1) arm.now.factors.items arm.now.constant) }
+    ensures { LateAnswer result (late_variables arm.now.number (scope_of scope.now) arm.now.factors.items arm.now.constant env.now) }
+{
+    if arm.factors.is_empty() {
+        return Ok(Values::none(alloc));
+    }
+    let outputs = numbers(alloc, &arm.factors)?;
+    let level = last_level(scope)?;
+    let rel = pattern_relation(alloc, level, &arm.factors, arm.constant)?;
+    enter(alloc, arm.number, scope, &outputs, &rel, env)
+}
