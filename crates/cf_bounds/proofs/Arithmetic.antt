@@ -40,7 +40,8 @@ upper_iff q m x h =
     (λ i. k.1 (let j = simp ring at i in omega (arith, ints)), λ i. let j = k.0 i in simp ring (omega (arith, ints)))
 
 -- the lowest x of a lower bound meets an upper bound, where one of the two coefficients is 1
-pub pair_meets : (p q l m : ℤ) → pos 0 <ℤ p → pos 0 <ℤ q → (p ≡ pos 1) ⊎ (q ≡ pos 1) → pos 0 ≤ℤ (q *ℤ l +ℤ p *ℤ m) → pos 0 ≤ℤ (neg_ℤ q *ℤ neg_ℤ (int_div_euclid l p) +ℤ m)
+pub pair_meets : (p q l m : ℤ) → pos 0 <ℤ p → pos 0 <ℤ q → (p ≡ pos 1) ⊎ (q ≡ pos 1) → pos 0 ≤ℤ (q *ℤ l +ℤ p *ℤ m) →
+    pos 0 ≤ℤ (neg_ℤ q *ℤ neg_ℤ (int_div_euclid l p) +ℤ m)
 pair_meets p q l m hp hq one h =
     ⊎_elim
     (λ e. let f : int_div_euclid l p ≡ l = rw e (int_div_euclid-one l) in let h' = rw e at h in rw f (simp ring (omega (arith, ints))))

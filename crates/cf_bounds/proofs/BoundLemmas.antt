@@ -33,9 +33,11 @@ made_row lo x lower s r h =
       rise = Rising-append lo s.next (s.next + 2) s.columns (s.next ∷ []) h.rise (omega arith, omega arith);
       unknown_rise = Rising-append lo s.next (s.next + 2) s.unknowns ((s.next + 1) ∷ []) h.unknown_rise (omega arith, omega arith);
       apart = λ c i j.
-          ⊎_elim (λ p. ⊎_elim (λ q. h.apart c p q) (λ q. let l = Rising-in lo s.next c s.columns h.rise p in ⊎_elim (λ (t : c ≡ s.next + 1). absurd (omega arith)) (λ t. absurd t) q) (In-append c s.unknowns ((s.next + 1) ∷ []) j))
+          ⊎_elim (λ p. ⊎_elim (λ q. h.apart c p q) (λ q. let l = Rising-in lo s.next c s.columns h.rise p in
+          ⊎_elim (λ (t : c ≡ s.next + 1). absurd (omega arith)) (λ t. absurd t) q) (In-append c s.unknowns ((s.next + 1) ∷ []) j))
           (λ p. ⊎_elim (λ (t : c ≡ s.next).
-          ⊎_elim (λ q. let l = Rising-in lo s.next c s.unknowns h.unknown_rise q in absurd (omega arith)) (λ q. ⊎_elim (λ (u : c ≡ s.next + 1). absurd (omega arith)) (λ u. absurd u) q) (In-append c s.unknowns ((s.next + 1) ∷ []) j))
+          ⊎_elim (λ q. let l = Rising-in lo s.next c s.unknowns h.unknown_rise q in absurd (omega arith))
+          (λ q. ⊎_elim (λ (u : c ≡ s.next + 1). absurd (omega arith)) (λ u. absurd u) q) (In-append c s.unknowns ((s.next + 1) ∷ []) j))
           (λ t. absurd t) p) (In-append c s.columns (s.next ∷ []) i);
     })
     (record { same = h.same; rise = h.rise; unknown_rise = h.unknown_rise; apart = h.apart })
@@ -75,8 +77,10 @@ searched_kinds m x lower f =
       below = λ c k. ⊎_elim (λ j. let b = f.below c j in omega arith) (λ j. (Rising-in m.next s.next c s.columns h.rise j).1) (In-append c m.known s.columns k);
       apart = λ c k l.
           ⊎_elim
-          (λ p. ⊎_elim (λ q. f.apart c p q) (λ q. let b = f.below c p in let r = Rising-in m.next s.next c s.unknowns h.unknown_rise q in absurd (omega arith)) (In-append c m.unknown s.unknowns l))
-          (λ p. ⊎_elim (λ q. let b = f.unknown_below c q in let r = Rising-in m.next s.next c s.columns h.rise p in absurd (omega arith)) (λ q. h.apart c p q) (In-append c m.unknown s.unknowns l))
+          (λ p. ⊎_elim (λ q. f.apart c p q) (λ q. let b = f.below c p in let r = Rising-in m.next s.next c s.unknowns h.unknown_rise q in absurd (omega arith))
+          (In-append c m.unknown s.unknowns l))
+          (λ p. ⊎_elim (λ q. let b = f.unknown_below c q in let r = Rising-in m.next s.next c s.columns h.rise p in absurd (omega arith)) (λ q. h.apart c p q)
+          (In-append c m.unknown s.unknowns l))
           (In-append c m.known s.columns k);
     }
 
@@ -161,12 +165,16 @@ all_rows Q f (r ∷ rows) = (f r, all_rows Q f rows)
 exact_side : (lower : Bool) (x : ℕ) (rows : List Row) → EachRow (one_side lower x) rows → AreExact x rows
 unfolding one_side
 exact_side true x rows h =
-    EachRow-with (Lower x) (one_side true x) (λ l. EachRow (IsExact x l) (uppers x rows)) (λ l hl o. all_rows (IsExact x l) (λ u. inl (o hl)) (uppers x rows)) (lowers x rows)
-    (EachRow-tested (Lower x) (λ r. is_positive (entry r x)) (λ r e. positive_so (entry r x) e) rows) (EachRow-filter (one_side true x) (λ r. is_positive (entry r x)) rows h)
+    EachRow-with (Lower x) (one_side true x) (λ l. EachRow (IsExact x l) (uppers x rows)) (λ l hl o. all_rows (IsExact x l) (λ u. inl (o hl)) (uppers x rows))
+    (lowers x rows)
+    (EachRow-tested (Lower x) (λ r. is_positive (entry r x)) (λ r e. positive_so (entry r x) e) rows)
+    (EachRow-filter (one_side true x) (λ r. is_positive (entry r x)) rows h)
 exact_side false x rows h =
     let ups = EachRow-with (Upper x) (one_side false x) (λ u. neg_ℤ (entry u x) ≡ pos 1) (λ u hu o. o hu) (uppers x rows)
-    (EachRow-tested (Upper x) (λ r. int_lt (entry r x) (pos 0)) (λ r e. negative_so (entry r x) e) rows) (EachRow-filter (one_side false x) (λ r. int_lt (entry r x) (pos 0)) rows h) in
-    all_rows (λ l. EachRow (IsExact x l) (uppers x rows)) (λ l. EachRow-weaker (λ u. neg_ℤ (entry u x) ≡ pos 1) (IsExact x l) (λ u e. inr e) (uppers x rows) ups) (lowers x rows)
+    (EachRow-tested (Upper x) (λ r. int_lt (entry r x) (pos 0)) (λ r e. negative_so (entry r x) e) rows)
+    (EachRow-filter (one_side false x) (λ r. int_lt (entry r x) (pos 0)) rows h) in
+    all_rows (λ l. EachRow (IsExact x l) (uppers x rows))
+    (λ l. EachRow-weaker (λ u. neg_ℤ (entry u x) ≡ pos 1) (IsExact x l) (λ u e. inr e) (uppers x rows) ups) (lowers x rows)
 
 search_sides : (m : System) (x : ℕ) (lower : Bool) → Formed m → In x m.unknown → Sides lower x (found_all x lower (no_found m) m.inequalities)
 search_sides m x lower f i = sides_all lower x m.inequalities (no_found m) (record { under = f.unknown_below x i; rows = tt; free = tt })
@@ -186,7 +194,9 @@ unfolding searched
 searched_in m x lower i = In-left x m.unknown (found_all x lower (no_found m) m.inequalities).unknowns i
 
 -- the search and the drop
-pub bound_step : (m : System) (x : ℕ) (lower : Bool) → Formed m → In x m.unknown → IsFree x m.equations → Owes m (then_answer (searched m x lower) (dropped (searched m x lower).system x))
+pub bound_step : (m : System) (x : ℕ) (lower : Bool) → Formed m → In x m.unknown → IsFree x m.equations →
+    Owes m (then_answer (searched m x lower) (dropped (searched m x lower).system x))
 bound_step m x lower f i none =
     step_then m (searched m x lower) (dropped (searched m x lower).system x) (searched_step m x lower f i)
-    (dropped_step (searched m x lower).system x (searched_kinds m x lower f) (searched_in m x lower i) (searched_free m x lower f i none) (searched_exact m x lower f i))
+    (dropped_step (searched m x lower).system x (searched_kinds m x lower f) (searched_in m x lower i) (searched_free m x lower f i none)
+    (searched_exact m x lower f i))

@@ -19,22 +19,26 @@ use Rattle.cf_bounds.specs.declared.cleaning.Tight.{Tight}
 use Rattle.cf_bounds.specs.CleanAnswers.{cleaned, tight_of}
 use Rattle.cf_bounds.specs.Sides.{divides_known, divided_by}
 use Rattle.cf_bounds.specs.Cleaning.{needs_of, tightened, joined}
+use Rattle.cf_bounds.specs.Unknowns.{HaveSame}
 use Rattle.cf_bounds.proofs.ListLemmas.{all_below}
 use Rattle.cf_bounds.proofs.OwesLemmas.{clean_step}
 use Rattle.cf_bounds.proofs.FormedAgain.{clean_formed}
+use Rattle.cf_bounds.proofs.UnknownLemmas.{held_same, tightened_same, needs_same}
 
-joined_is : (m : System) → joined m (filter (has_unknown m.unknown) m.equations) (tightened m) (needs_of m) ≡ clean m
+joined_is : (m : System) → joined m (filter (has_unknown m.unknown) m.equations) (tightened m.unknown m) (needs_of m.unknown m) ≡ clean m
 unfolding clean
 joined_is m =
     let zeros = filter (λ r. not (has_unknown m.unknown r)) m.equations in
     let nonnegs = filter (λ r. not (has_unknown m.unknown r)) m.inequalities in
-    let count : m.needs + length (needs_of m) ≡ m.needs + length zeros + length nonnegs =
+    let count : m.needs + length (needs_of m.unknown m) ≡ m.needs + length zeros + length nonnegs =
     omega (arith, length-append (map need_zero zeros) (map need_nonneg nonnegs), length-map zeros need_zero, length-map nonnegs need_nonneg) in
     rw count refl
 
-pub clean_is : (m : System) (a : Answer) (equations : List Row) (t : Tightened) (needs : List Step) →
-    equations ≡ filter (has_unknown m.unknown) m.equations → t ≡ tightened m → needs ≡ needs_of m → a ≡ joined m equations t needs → a ≡ clean m
-clean_is m a equations t needs e f g h = h ∙ rw (e, f, g) (joined_is m)
+pub clean_is : (m : System) (us vs : List ℕ) (a : Answer) (equations : List Row) (t : Tightened) (needs : List Step) → HaveSame us vs → vs ≡ m.unknown →
+    equations ≡ filter (has_unknown us) m.equations → t ≡ tightened us m → needs ≡ needs_of us m → a ≡ joined m equations t needs → a ≡ clean m
+clean_is m us vs a equations t needs s u e f g h =
+    let same = subst (λ ws. HaveSame us ws) u s in
+    h ∙ rw (e ∙ held_same us m.unknown same m.equations, f ∙ tightened_same us m.unknown same m, g ∙ needs_same us m.unknown same m) (joined_is m)
 
 pub steps_append : (xs ys : List DeclaredStep) → map step_of (xs ++ ys) ≡ map step_of xs ++ map step_of ys
 steps_append xs ys = map-append step_of xs ys
@@ -44,11 +48,15 @@ module _ (us : List ℕ) (n : ℕ) (r : Row) where
   is_unchanged : nat_le (common (unknown_part us r)) 1 ≡ true → tighten_row us n r ≡ (None, r)
   is_unchanged e = rw e refl
 
-  is_rounded : nat_le (common (unknown_part us r)) 1 ≡ false → divides_known (pos (common (unknown_part us r))) (known_part us r) ≡ true → tighten_row us n r ≡ (None, divided (common (unknown_part us r)) r)
+  is_rounded : nat_le (common (unknown_part us r)) 1 ≡ false → divides_known (pos (common (unknown_part us r))) (known_part us r) ≡ true →
+      tighten_row us n r ≡ (None, divided (common (unknown_part us r)) r)
   is_rounded e d = rw (e, d) refl
 
   is_floored : nat_le (common (unknown_part us r)) 1 ≡ false → divides_known (pos (common (unknown_part us r))) (known_part us r) ≡ false →
-      tighten_row us n r ≡ (Some (floor_of n (known_part us r) (pos (common (unknown_part us r)))), comb (pos 1) (divided (common (unknown_part us r)) (unknown_part us r)) (pos 1) (one_at n))
+      tighten_row us n r ≡ (
+        Some (floor_of n (known_part us r) (pos (common (unknown_part us r)))),
+        comb (pos 1) (divided (common (unknown_part us r)) (unknown_part us r)) (pos 1) (one_at n),
+      )
   is_floored e d = rw (e, d) refl
 
   module _ (g : ℤ) (res : Result Tight NoMemory) where
@@ -56,19 +64,24 @@ module _ (us : List ℕ) (n : ℕ) (r : Row) where
     Tightens t = IfOk res (λ x. tight_of x ≡ t)
 
     is_great : g ≡ pos (common (unknown_part us r)) → (g ≤ℤ pos 1 → ⊥) → nat_le (common (unknown_part us r)) 1 ≡ false
-    is_great e l = on_bool (nat_le (common (unknown_part us r)) 1) (λ f. absurd (l (let i = leb-true (common (unknown_part us r)) 1 f in omega (arith, ints)))) (λ f. f)
+    is_great e l = on_bool (nat_le (common (unknown_part us r)) 1) (λ f. absurd (l (let i = leb-true (common (unknown_part us r)) 1 f in omega (arith, ints))))
+        (λ f. f)
 
     pub unchanged_row : Tightens (None, r) → g ≡ pos (common (unknown_part us r)) → g ≤ℤ pos 1 → Tightens (tighten_row us n r)
     unchanged_row h e l = subst Tightens (sym (is_unchanged (le-leb (common (unknown_part us r)) 1 (omega (arith, ints))))) h
 
-    pub rounded_row : Tightens (None, divided_by g r) → g ≡ pos (common (unknown_part us r)) → (g ≤ℤ pos 1 → ⊥) → divides_known g (known_part us r) ≡ true → Tightens (tighten_row us n r)
+    pub rounded_row : Tightens (None, divided_by g r) → g ≡ pos (common (unknown_part us r)) → (g ≤ℤ pos 1 → ⊥) → divides_known g (known_part us r) ≡ true →
+        Tightens (tighten_row us n r)
     rounded_row h e l d =
-        subst Tightens (sym (is_rounded (is_great e l) (subst (λ z. divides_known z (known_part us r) ≡ true) e d))) (subst (λ z. Tightens (None, divided_by z r)) e h)
+        subst Tightens (sym (is_rounded (is_great e l) (subst (λ z. divides_known z (known_part us r) ≡ true) e d)))
+        (subst (λ z. Tightens (None, divided_by z r)) e h)
 
-    pub floored_row : (u k : Row) → Tightens (Some (floor_of n k g), comb (pos 1) (divided_by g u) (pos 1) (one_at n)) → u ≡ unknown_part us r → k ≡ known_part us r →
+    pub floored_row : (u k : Row) → Tightens (Some (floor_of n k g), comb (pos 1) (divided_by g u) (pos 1) (one_at n)) → u ≡ unknown_part us r →
+        k ≡ known_part us r →
         g ≡ pos (common (unknown_part us r)) → (g ≤ℤ pos 1 → ⊥) → divides_known g k ≡ false → Tightens (tighten_row us n r)
     floored_row u k h eu ek e l d =
-        subst Tightens (sym (is_floored (is_great e l) (subst (λ z. divides_known z (known_part us r) ≡ false) e (subst (λ y. divides_known g y ≡ false) ek d))))
+        subst Tightens (sym (is_floored (is_great e l)
+        (subst (λ z. divides_known z (known_part us r) ≡ false) e (subst (λ y. divides_known g y ≡ false) ek d))))
         (subst (λ z. Tightens (Some (floor_of n (known_part us r) z), comb (pos 1) (divided_by z (unknown_part us r)) (pos 1) (one_at n))) e
         (subst (λ y. Tightens (Some (floor_of n (known_part us r) g), comb (pos 1) (divided_by g y) (pos 1) (one_at n))) eu
         (subst (λ y. Tightens (Some (floor_of n y g), comb (pos 1) (divided_by g u) (pos 1) (one_at n))) ek h)))

@@ -118,16 +118,20 @@ abbrev Parted : ℕ → Row → Type 0
 Parted g [] = Unit {0}
 Parted g ((c, k) ∷ r) = ((c ≡ 0) ⊎ Divides (pos g) k) × Parted g r
 
-parted_from : (us : List ℕ) (g : ℕ) (r : Row) → 0 < g → EntriesDiv g (unknown_part us r) → list_all (λ (c, k). (c == 0) || divides_it g k) (known_part us r) ≡ true → Parted g r
+parted_from : (us : List ℕ) (g : ℕ) (r : Row) → 0 < g → EntriesDiv g (unknown_part us r) →
+    list_all (λ (c, k). (c == 0) || divides_it g k) (known_part us r) ≡ true → Parted g r
 parted_from us g [] h d e = tt
 parted_from us g ((c, k) ∷ r) h d e = by (has_column us c) (parted_from us g r h) d e
   where
     by : (b : Bool) → (EntriesDiv g (unknown_part us r) → list_all (λ (c, k). (c == 0) || divides_it g k) (known_part us r) ≡ true → Parted g r) →
-        EntriesDiv g (cond b ((c, k) ∷ unknown_part us r) (unknown_part us r)) → list_all (λ (c, k). (c == 0) || divides_it g k) (cond (not b) ((c, k) ∷ known_part us r) (known_part us r)) ≡ true → Parted g ((c, k) ∷ r)
+        EntriesDiv g (cond b ((c, k) ∷ unknown_part us r) (unknown_part us r)) →
+        list_all (λ (c, k). (c == 0) || divides_it g k) (cond (not b) ((c, k) ∷ known_part us r) (known_part us r)) ≡ true → Parted g ((c, k) ∷ r)
     by true again d e = (inr d.0, again d.1 e)
     by false again d e =
-        let a = and_parts ((c == 0) || divides_it g k) (list_all (λ (c, k). (c == 0) || divides_it g k) (known_part us r)) e in
-        (cond_both (c == 0) (pos 0) (pos 0) (λ _. (c ≡ 0) ⊎ Divides (pos g) k) (λ i. inl (eqb-true c 0 i)) (λ i. inr (divides_it-so g k h (rw i at a.0))), again d a.1)
+        let a = and_parts ((c == 0) || divides_it g k) (list_all (λ (c, k). (c == 0) || divides_it g k) (known_part us r)) e in (
+          cond_both (c == 0) (pos 0) (pos 0) (λ _. (c ≡ 0) ⊎ Divides (pos g) k) (λ i. inl (eqb-true c 0 i)) (λ i. inr (divides_it-so g k h (rw i at a.0))),
+          again d a.1,
+        )
 
 parted_above : (g c : ℕ) (r : Row) → Rises (suc c) r → Parted g r → EntriesDiv g r
 parted_above g c [] s p = tt
@@ -137,8 +141,16 @@ zero_sum : (f : ℤ) → f ≡ pos 0 → pos 0 ≡ pos 0 +ℤ f
 zero_sum f e = rw e refl
 
 -- with a column 0 of value 1, the divided row has the rounded value
-divided_row : (v : Values) (g : ℕ) (r : Row) → 0 < g → v 0 ≡ pos 1 → Rises 0 r → Parted g r → (u : ℤ) × (c : ℤ) × (value v r ≡ pos g *ℤ u +ℤ c) × (value v (divided g r) ≡ u +ℤ int_div_euclid c (pos g))
-divided_row v g [] h one s p = (pos 0, pos 0, omega (arith, ints), let f : int_div_euclid (pos 0) (pos g) ≡ pos 0 = int_div_euclid_once (pos 0) (pos g) (pos 0) (omega (arith, ints)) (omega (arith, ints)) (omega (arith, ints)) in zero_sum (int_div_euclid (pos 0) (pos g)) f)
+divided_row : (v : Values) (g : ℕ) (r : Row) → 0 < g → v 0 ≡ pos 1 → Rises 0 r → Parted g r →
+    (u : ℤ) × (c : ℤ) × (value v r ≡ pos g *ℤ u +ℤ c) × (value v (divided g r) ≡ u +ℤ int_div_euclid c (pos g))
+divided_row v g [] h one s p = (
+  pos 0,
+  pos 0,
+  omega (arith, ints),
+  let f : int_div_euclid (pos 0) (pos g) ≡ pos 0 =
+      int_div_euclid_once (pos 0) (pos g) (pos 0) (omega (arith, ints)) (omega (arith, ints)) (omega (arith, ints)) in
+      zero_sum (int_div_euclid (pos 0) (pos g)) f,
+)
 divided_row v g ((zero, k) ∷ r) h one s p =
     let e = value-divided v g r h (parted_above g 0 r s.2 p.1) in
     let a : k *ℤ pos 1 ≡ k = omega (arith, ints) in
@@ -147,7 +159,8 @@ divided_row v g ((zero, k) ∷ r) h one s p =
 divided_row v g ((suc c, k) ∷ r) h one s p =
     let d : Divides (pos g) k = ⊎_elim (λ (i : suc c ≡ 0). absurd (omega arith)) (λ e. e) p.0 in
     let e = value-divided v g ((suc c, k) ∷ r) h (d, parted_above g (suc c) r s.2 p.1) in
-    let f : int_div_euclid (pos 0) (pos g) ≡ pos 0 = int_div_euclid_once (pos 0) (pos g) (pos 0) (omega (arith, ints)) (omega (arith, ints)) (omega (arith, ints)) in
+    let f : int_div_euclid (pos 0) (pos g) ≡ pos 0 =
+    int_div_euclid_once (pos 0) (pos g) (pos 0) (omega (arith, ints)) (omega (arith, ints)) (omega (arith, ints)) in
     (value v (divided g ((suc c, k) ∷ r)), pos 0, sym e ∙ omega (arith, ints), rw f (omega (arith, ints)))
 
 -- ---- one inequality
@@ -169,7 +182,8 @@ with_floor us t r = record {
 }
 
 pub by_row : (P : Tightened → Type 0) (us : List ℕ) (t : Tightened) (r : Row) → P (with_kept t r) →
-    (0 < unknowns_of us r → list_all (λ (c, k). (c == 0) || divides_it (unknowns_of us r) k) (known_part us r) ≡ true → P (with_kept t (divided (unknowns_of us r) r))) →
+    (0 < unknowns_of us r → list_all (λ (c, k). (c == 0) || divides_it (unknowns_of us r) k) (known_part us r) ≡ true →
+    P (with_kept t (divided (unknowns_of us r) r))) →
     (0 < unknowns_of us r → P (with_floor us t r)) → P (then_tighten us t r)
 by_row P us t r f g h =
     let d = unknowns_of us r in
@@ -177,20 +191,25 @@ by_row P us t r f g h =
     let last : Option Step × Row = (if test then (None, divided d r) else (Some (floor_of t.next (known_part us r) (pos d)), floored us t.next r)) in
     cond_both (nat_le d 1) (None, r) last (λ y. P (next_tightened t y)) (λ _. f)
     (λ e. let i = leb-false d 1 e in
-    cond_both test (None, divided d r) (Some (floor_of t.next (known_part us r) (pos d)), floored us t.next r) (λ y. P (next_tightened t y)) (λ q. g (omega arith) q) (λ q. h (omega arith)))
+    cond_both test (None, divided d r) (Some (floor_of t.next (known_part us r) (pos d)), floored us t.next r) (λ y. P (next_tightened t y))
+    (λ q. g (omega arith) q) (λ q. h (omega arith)))
 
 -- the row's value in its parts
-parts_at : (v : Values) (us : List ℕ) (r : Row) → 0 < unknowns_of us r → value v r ≡ pos (unknowns_of us r) *ℤ value v (divided (unknowns_of us r) (unknown_part us r)) +ℤ value v (known_part us r)
-parts_at v us r h = value-parts v (λ (c, k). has_column us c) r ∙ rw (value-divided v (unknowns_of us r) (unknown_part us r) h (common-divides (unknown_part us r))) refl
+parts_at : (v : Values) (us : List ℕ) (r : Row) → 0 < unknowns_of us r →
+    value v r ≡ pos (unknowns_of us r) *ℤ value v (divided (unknowns_of us r) (unknown_part us r)) +ℤ value v (known_part us r)
+parts_at v us r h = value-parts v (λ (c, k). has_column us c) r ∙
+    rw (value-divided v (unknowns_of us r) (unknown_part us r) h (common-divides (unknown_part us r))) refl
 
 value-floored : (v : Values) (us : List ℕ) (n : ℕ) (r : Row) → value v (floored us n r) ≡ value v (divided (unknowns_of us r) (unknown_part us r)) +ℤ v n
-value-floored v us n r = value-comb v (pos 1) (divided (unknowns_of us r) (unknown_part us r)) (pos 1) ((n, pos 1) ∷ []) ∙ rw (one_z (v n)) (omega (arith, ints))
+value-floored v us n r = value-comb v (pos 1) (divided (unknowns_of us r) (unknown_part us r)) (pos 1) ((n, pos 1) ∷ []) ∙
+    rw (one_z (v n)) (omega (arith, ints))
 
 pub Over-divided : (Q : ℕ → Type 0) (g : ℕ) (r : Row) → Over Q r → Over Q (divided g r)
 Over-divided Q g [] h = tt
 Over-divided Q g ((c, k) ∷ r) h = Over-put Q c (int_div_euclid k (pos g)) (divided g r) h.0 (Over-divided Q g r h.1)
 
-divided_iff : (v : Values) (us : List ℕ) (r : Row) → v 0 ≡ pos 1 → Rises 0 r → 0 < unknowns_of us r → list_all (λ (c, k). (c == 0) || divides_it (unknowns_of us r) k) (known_part us r) ≡ true →
+divided_iff : (v : Values) (us : List ℕ) (r : Row) → v 0 ≡ pos 1 → Rises 0 r → 0 < unknowns_of us r →
+    list_all (λ (c, k). (c == 0) || divides_it (unknowns_of us r) k) (known_part us r) ≡ true →
     (IsNonneg v r → IsNonneg v (divided (unknowns_of us r) r)) × (IsNonneg v (divided (unknowns_of us r) r) → IsNonneg v r)
 divided_iff v us r one s h e =
     let g = unknowns_of us r in
@@ -232,10 +251,14 @@ floor_low us t r low b =
     let q : ℕ → Type 0 = λ c. c < n + 1 in
     let b' = Below-more n (n + 1) (omega arith) r b in
     record {
-      steps = StepsBelow-append (n + 1) t.steps (floor_of n (known_part us r) (pos (unknowns_of us r)) ∷ []) (StepsBelow-more n (n + 1) (omega arith) t.steps low.steps)
+      steps = StepsBelow-append (n + 1) t.steps (floor_of n (known_part us r) (pos (unknowns_of us r)) ∷ [])
+          (StepsBelow-more n (n + 1) (omega arith) t.steps low.steps)
           ((omega arith, Over-filter q (λ (c, k). not (has_column us c)) r b'), tt);
-      nonneg = EachRow-append (Below (n + 1)) t.rows (floored us n r ∷ []) (EachRow-below_more n (n + 1) (omega arith) t.rows low.nonneg)
-          (Over-comb q (pos 1) (divided (unknowns_of us r) (unknown_part us r)) (pos 1) ((n, pos 1) ∷ []) (Over-divided q (unknowns_of us r) (unknown_part us r) (Over-filter q (λ (c, k). has_column us c) r b')) (omega arith, tt), tt);
+      nonneg = EachRow-append (Below (n + 1)) t.rows (floored us n r ∷ []) (EachRow-below_more n (n + 1) (omega arith) t.rows low.nonneg) (
+        Over-comb q (pos 1) (divided (unknowns_of us r) (unknown_part us r)) (pos 1) ((n, pos 1) ∷ [])
+            (Over-divided q (unknowns_of us r) (unknown_part us r) (Over-filter q (λ (c, k). has_column us c) r b')) (omega arith, tt),
+        tt,
+      );
     }
 
 row_low : (us : List ℕ) (t : Tightened) (r : Row) → LowTight t → Below t.next r → (t.next ≤ (then_tighten us t r).next) × LowTight (then_tighten us t r)
@@ -247,7 +270,8 @@ row_low us t r low b =
 kept_forth : (t : Tightened) (r : Row) (v : Values) → Good v t → IsNonneg v r → (w : Values) × Same t.next v w × Good w (with_kept t r)
 kept_forth t r v good up = (v, (λ c l. refl), record { fits = good.fits; nonneg = EachRow-append (IsNonneg v) t.rows (r ∷ []) good.nonneg (up, tt) })
 
-row_forth : (us : List ℕ) (t : Tightened) (r : Row) (v : Values) → v 0 ≡ pos 1 → Rises 0 r → LowTight t → Below t.next r → Good v t → IsNonneg v r → (w : Values) × Same t.next v w × Good w (then_tighten us t r)
+row_forth : (us : List ℕ) (t : Tightened) (r : Row) (v : Values) → v 0 ≡ pos 1 → Rises 0 r → LowTight t → Below t.next r → Good v t → IsNonneg v r →
+    (w : Values) × Same t.next v w × Good w (then_tighten us t r)
 row_forth us t r v one s low b good up =
     by_row (λ x. (w : Values) × Same t.next v w × Good w x) us t r (kept_forth t r v good up)
     (λ h e. kept_forth t (divided (unknowns_of us r) r) v good ((divided_iff v us r one s h e).0 up))
@@ -265,7 +289,8 @@ row_forth us t r v one s low b good up =
       same,
       record {
         fits = AllFit-append w t.steps (floor_of n k (pos g) ∷ []) (AllFit-same n v w same t.steps low.steps good.fits) (f, tt);
-        nonneg = EachRow-append (IsNonneg w) t.rows (floored us n r ∷ []) (EachRow-same nonneg_value n v w same t.rows low.nonneg good.nonneg) ((floored_iff w us n r h f).0 up', tt);
+        nonneg = EachRow-append (IsNonneg w) t.rows (floored us n r ∷ []) (EachRow-same nonneg_value n v w same t.rows low.nonneg good.nonneg)
+            ((floored_iff w us n r h f).0 up', tt);
       },
     ))
 
@@ -284,7 +309,8 @@ row_back us t r v one s =
 abbrev pub tight : List ℕ → Tightened → List Row → Tightened
 tight us t rows = fold (then_tighten us) t rows
 
-pub all_low : (us : List ℕ) (rows : List Row) (t : Tightened) → LowTight t → EachRow (Below t.next) rows → (t.next ≤ (tight us t rows).next) × LowTight (tight us t rows)
+pub all_low : (us : List ℕ) (rows : List Row) (t : Tightened) → LowTight t → EachRow (Below t.next) rows →
+    (t.next ≤ (tight us t rows).next) × LowTight (tight us t rows)
 all_low us [] t low b = (omega arith, low)
 all_low us (r ∷ rows) t low b =
     let l = row_low us t r low b.0 in
@@ -293,7 +319,8 @@ all_low us (r ∷ rows) t low b =
     let le' = a.0 in
     (omega arith, a.1)
 
-all_forth : (us : List ℕ) (rows : List Row) (t : Tightened) (v : Values) → v 0 ≡ pos 1 → EachRow (Rises 0) rows → 0 < t.next → LowTight t → EachRow (Below t.next) rows → Good v t → EachRow (IsNonneg v) rows →
+all_forth : (us : List ℕ) (rows : List Row) (t : Tightened) (v : Values) → v 0 ≡ pos 1 → EachRow (Rises 0) rows → 0 < t.next → LowTight t →
+    EachRow (Below t.next) rows → Good v t → EachRow (IsNonneg v) rows →
     (w : Values) × Same t.next v w × Good w (tight us t rows)
 all_forth us [] t v one s p low b good up = (v, (λ c l. refl), good)
 all_forth us (r ∷ rows) t v one s p low b good up =
@@ -301,10 +328,12 @@ all_forth us (r ∷ rows) t v one s p low b good up =
     let l = row_low us t r low b.0 in
     let le = l.0 in
     let f = row_forth us t r v one s.0 low b.0 good up.0 in
-    let g = all_forth us rows u f.0 (sym (f.1 0 p) ∙ one) s.1 (omega arith) l.1 (EachRow-below_more t.next u.next le rows b.1) f.2 (EachRow-same nonneg_value t.next v f.0 f.1 rows b.1 up.1) in
+    let g = all_forth us rows u f.0 (sym (f.1 0 p) ∙ one) s.1 (omega arith) l.1 (EachRow-below_more t.next u.next le rows b.1) f.2
+    (EachRow-same nonneg_value t.next v f.0 f.1 rows b.1 up.1) in
     (g.0, Same-trans t.next u.next v f.0 g.0 le f.1 g.1, g.2)
 
-all_back : (us : List ℕ) (rows : List Row) (t : Tightened) (v : Values) → v 0 ≡ pos 1 → EachRow (Rises 0) rows → Good v (tight us t rows) → Good v t × EachRow (IsNonneg v) rows
+all_back : (us : List ℕ) (rows : List Row) (t : Tightened) (v : Values) → v 0 ≡ pos 1 → EachRow (Rises 0) rows → Good v (tight us t rows) →
+    Good v t × EachRow (IsNonneg v) rows
 all_back us [] t v one s good = (good, tt)
 all_back us (r ∷ rows) t v one s good =
     let b = all_back us rows (then_tighten us t r) v one s.1 good in
@@ -324,7 +353,8 @@ clean_keeps m low p rises =
     let t = tight us start rows in
     record {
       forth = λ v one h.
-          let f = all_forth us rows start v one (EachRow-filter (Rises 0) has m.inequalities rises) p (record { steps = tt; nonneg = tt }) (EachRow-filter (Below m.next) has m.inequalities low.nonneg)
+          let f = all_forth us rows start v one (EachRow-filter (Rises 0) has m.inequalities rises) p (record { steps = tt; nonneg = tt })
+          (EachRow-filter (Below m.next) has m.inequalities low.nonneg)
           (record { fits = tt; nonneg = tt }) (EachRow-filter (IsNonneg v) has m.inequalities h.nonneg) in
           let w = f.0 in
           let ze = EachRow-same zero_value m.next v w f.1 m.equations low.zero h.zero in
@@ -333,13 +363,16 @@ clean_keeps m low p rises =
             f.1,
             tt,
             AllFit-append w (map need_zero zeros ++ map need_nonneg nonnegs) t.steps
-                (AllFit-append w (map need_zero zeros) (map need_nonneg nonnegs) (zeros_fit w zeros (EachRow-filter (IsZero w) (λ r. not (has r)) m.equations ze)) (nonnegs_fit w nonnegs (EachRow-filter (IsNonneg w) (λ r. not (has r)) m.inequalities no))) f.2.fits,
+                (AllFit-append w (map need_zero zeros) (map need_nonneg nonnegs)
+                (zeros_fit w zeros (EachRow-filter (IsZero w) (λ r. not (has r)) m.equations ze))
+                (nonnegs_fit w nonnegs (EachRow-filter (IsNonneg w) (λ r. not (has r)) m.inequalities no))) f.2.fits,
             record { zero = EachRow-filter (IsZero w) has m.equations ze; nonneg = distinct_forth (IsNonneg w) [] t.rows f.2.nonneg },
           );
       back = λ v one _ fit h.
           let g = AllFit-split v (map need_zero zeros ++ map need_nonneg nonnegs) t.steps fit in
           let f = AllFit-split v (map need_zero zeros) (map need_nonneg nonnegs) g.0 in
-          let b = all_back us rows start v one (EachRow-filter (Rises 0) has m.inequalities rises) (record { fits = g.1; nonneg = distinct_back (IsNonneg v) [] t.rows tt h.nonneg }) in
+          let b = all_back us rows start v one (EachRow-filter (Rises 0) has m.inequalities rises)
+          (record { fits = g.1; nonneg = distinct_back (IsNonneg v) [] t.rows tt h.nonneg }) in
           record {
             zero = EachRow-unfilter (IsZero v) has m.equations (zeros_from v zeros f.0) h.zero;
             nonneg = EachRow-unfilter (IsNonneg v) has m.inequalities (nonnegs_from v nonnegs f.1) b.1;

@@ -16,12 +16,14 @@ use Rattle.cf_bounds.specs.Dropping.{dropped_answer, pairs_pass, with_rows}
 use Rattle.cf_bounds.proofs.OwesLemmas.{dropped_step}
 use Rattle.cf_bounds.proofs.FormedAgain.{dropped_formed}
 
-pub dropped_is : (m : System) (x : ℕ) (a : Answer) (low high rows : List Row) (w : How) → low ≡ side true x m.inequalities → high ≡ side false x m.inequalities →
+pub dropped_is : (m : System) (x : ℕ) (a : Answer) (low high rows : List Row) (w : How) → low ≡ side true x m.inequalities →
+    high ≡ side false x m.inequalities →
     rows ≡ free_of x m.inequalities ++ pairs_of x low high → w ≡ how_between x low high → a ≡ with_rows m x rows w → a ≡ dropped m x
 unfolding dropped
 dropped_is m x a low high rows w e f g h i = i ∙ rw (g, h, e, f) refl
 
-pub drop_passes_from : (m : System) (x : ℕ) (low high : List Row) (b : Bool) → pairs_pass x low high ≡ b → low ≡ side true x m.inequalities → high ≡ side false x m.inequalities → drop_passes m x ≡ b
+pub drop_passes_from : (m : System) (x : ℕ) (low high : List Row) (b : Bool) → pairs_pass x low high ≡ b → low ≡ side true x m.inequalities →
+    high ≡ side false x m.inequalities → drop_passes m x ≡ b
 unfolding pairs_pass
 drop_passes_from m x low high b h e f = rw (e, f) at h
 
@@ -30,19 +32,22 @@ pub drop_owes : (m : System) (x : ℕ) (r : Result Dropped RowFault) → Formed 
 drop_owes m x (Ok d) f i free exact e = subst (Owes m) (sym e) (dropped_step m x (kinds_from m f) i free exact)
 drop_owes m x (Err z) f i free exact e = tt
 
-pub drop_forms : (m : System) (x : ℕ) (r : Result Dropped RowFault) → Formed m → IsFree x m.equations → IfOk r (λ d. dropped_answer d ≡ dropped m x) → IfOk r (λ d. Formed (system_of d.system))
+pub drop_forms : (m : System) (x : ℕ) (r : Result Dropped RowFault) → Formed m → IsFree x m.equations → IfOk r (λ d. dropped_answer d ≡ dropped m x) →
+    IfOk r (λ d. Formed (system_of d.system))
 drop_forms m x (Ok d) f free e = subst Formed (sym (ap (λ a. a.system) e)) (dropped_formed m x f free)
 drop_forms m x (Err z) f free e = tt
 
 -- ---- one pair
 module _ (x : ℕ) (low high l m : Row) (a b : ℤ) (r : Result Row RowFault) where
-  pub pair_value : IfOk r (λ y. y ≡ comb a l b m) → l ≡ without x low → m ≡ without x high → a ≡ neg_ℤ (entry high x) → b ≡ entry low x → IfOk r (λ y. y ≡ pair_row x low high)
+  pub pair_value : IfOk r (λ y. y ≡ comb a l b m) → l ≡ without x low → m ≡ without x high → a ≡ neg_ℤ (entry high x) → b ≡ entry low x →
+      IfOk r (λ y. y ≡ pair_row x low high)
   pair_value h el em ea eb =
       subst (λ z. IfOk r (λ y. y ≡ comb (neg_ℤ (entry high x)) (without x low) (entry low x) z)) em
       (subst (λ z. IfOk r (λ y. y ≡ comb (neg_ℤ (entry high x)) (without x low) z m)) eb
       (subst (λ z. IfOk r (λ y. y ≡ comb (neg_ℤ (entry high x)) z b m)) el (subst (λ z. IfOk r (λ y. y ≡ comb z l b m)) ea h)))
 
-  pub pair_fits : IfOk r (λ y. comb_passes a l b m ≡ false) → l ≡ without x low → m ≡ without x high → a ≡ neg_ℤ (entry high x) → b ≡ entry low x → IfOk r (λ y. pair_passes x low high ≡ false)
+  pub pair_fits : IfOk r (λ y. comb_passes a l b m ≡ false) → l ≡ without x low → m ≡ without x high → a ≡ neg_ℤ (entry high x) → b ≡ entry low x →
+      IfOk r (λ y. pair_passes x low high ≡ false)
   pair_fits h el em ea eb =
       subst (λ z. IfOk r (λ y. comb_passes (neg_ℤ (entry high x)) (without x low) (entry low x) z ≡ false)) em
       (subst (λ z. IfOk r (λ y. comb_passes (neg_ℤ (entry high x)) (without x low) z m ≡ false)) eb

@@ -40,16 +40,20 @@ pair_holds : (v : Values) (x : ℕ) (l u : Row) → Lower x l → Upper x u → 
 pair_holds v x l u hl hu vl vu =
     let sl = value-split v x l in
     let su = value-split v x u in
-    rw (value-pair v x l u) (pair_from (entry l x) (neg_ℤ (entry u x)) (value v (without x l)) (value v (without x u)) (v x) hl (omega (arith, ints)) (omega (arith, ints)) (simp ring (omega (arith, ints))))
+    rw (value-pair v x l u) (pair_from (entry l x) (neg_ℤ (entry u x)) (value v (without x l)) (value v (without x u)) (v x) hl (omega (arith, ints))
+    (omega (arith, ints)) (simp ring (omega (arith, ints))))
 
-pairs_of_one : (v : Values) (x : ℕ) (l : Row) → Lower x l → IsNonneg v l → (high : List Row) → EachRow (Upper x) high → EachRow (IsNonneg v) high → EachRow (IsNonneg v) (map (λ u. pair_row x l u) high)
+pairs_of_one : (v : Values) (x : ℕ) (l : Row) → Lower x l → IsNonneg v l → (high : List Row) → EachRow (Upper x) high → EachRow (IsNonneg v) high →
+    EachRow (IsNonneg v) (map (λ u. pair_row x l u) high)
 pairs_of_one v x l hl vl [] hu vu = tt
 pairs_of_one v x l hl vl (u ∷ high) hu vu = (pair_holds v x l u hl hu.0 vl vu.0, pairs_of_one v x l hl vl high hu.1 vu.1)
 
-pairs_hold : (v : Values) (x : ℕ) (low high : List Row) → EachRow (Lower x) low → EachRow (Upper x) high → EachRow (IsNonneg v) low → EachRow (IsNonneg v) high → EachRow (IsNonneg v) (pairs_of x low high)
+pairs_hold : (v : Values) (x : ℕ) (low high : List Row) → EachRow (Lower x) low → EachRow (Upper x) high → EachRow (IsNonneg v) low →
+    EachRow (IsNonneg v) high → EachRow (IsNonneg v) (pairs_of x low high)
 pairs_hold v x [] high hl hu vl vu = tt
 pairs_hold v x (l ∷ low) high hl hu vl vu =
-    EachRow-append (IsNonneg v) (map (λ u. pair_row x l u) high) (pairs_of x low high) (pairs_of_one v x l hl.0 vl.0 high hu vu) (pairs_hold v x low high hl.1 hu vl.1 vu)
+    EachRow-append (IsNonneg v) (map (λ u. pair_row x l u) high) (pairs_of x low high) (pairs_of_one v x l hl.0 vl.0 high hu vu)
+    (pairs_hold v x low high hl.1 hu vl.1 vu)
 
 -- ---- a value between all bounds
 abbrev low_at : Values → ℕ → Row → ℤ
@@ -98,11 +102,13 @@ lower_at : (v : Values) (x : ℕ) (z : ℤ) (l : Row) → Lower x l → low_at v
 lower_at v x z l h k = let i = (lower_iff (entry l x) (value v (without x l)) z h).1 k in rw (value-update v x z l) (omega (arith, ints))
 
 upper_at : (v : Values) (x : ℕ) (z : ℤ) (u : Row) → Upper x u → z ≤ℤ high_at v x u → IsNonneg (update v x z) u
-upper_at v x z u h k = let i = simp ring at ((upper_iff (neg_ℤ (entry u x)) (value v (without x u)) z (omega (arith, ints))).1 k) in rw (value-update v x z u) (omega (arith, ints, mul_comm_z (entry u x) z))
+upper_at v x z u h k = let i = simp ring at ((upper_iff (neg_ℤ (entry u x)) (value v (without x u)) z (omega (arith, ints))).1 k) in
+    rw (value-update v x z u) (omega (arith, ints, mul_comm_z (entry u x) z))
 
 meets_at : (v : Values) (x : ℕ) (l u : Row) → Lower x l → Upper x u → IsExact x l u → IsNonneg v (pair_row x l u) → IsNonneg (update v x (low_at v x l)) u
 meets_at v x l u hl hu ex h =
-    let i = pair_meets (entry l x) (neg_ℤ (entry u x)) (value v (without x l)) (value v (without x u)) hl (omega (arith, ints)) ex (rw (value-pair v x l u) at h) in
+    let i = pair_meets (entry l x) (neg_ℤ (entry u x)) (value v (without x l)) (value v (without x u)) hl (omega (arith, ints)) ex
+    (rw (value-pair v x l u) at h) in
     let j = simp ring at i in
     rw (value-update v x (low_at v x l) u) (simp ring (omega (arith, ints)))
 
@@ -130,8 +136,10 @@ all_kinds : (Q : Row → Type 0) (x : ℕ) (rows : List Row) → EachRow Q (free
 all_kinds Q x [] f l u = tt
 all_kinds Q x (r ∷ rows) f l u = (
   ⊎_elim (λ e. first_of Q (is_zero (entry r x)) r (free_of x rows) e f)
-      (λ o. ⊎_elim (λ e. first_of Q (is_positive (entry r x)) r (lowers x rows) e l) (λ e. first_of Q (int_lt (entry r x) (pos 0)) r (uppers x rows) e u) o) (kind (entry r x)),
-  all_kinds Q x rows (rest_of Q (is_zero (entry r x)) r (free_of x rows) f) (rest_of Q (is_positive (entry r x)) r (lowers x rows) l) (rest_of Q (int_lt (entry r x) (pos 0)) r (uppers x rows) u),
+      (λ o. ⊎_elim (λ e. first_of Q (is_positive (entry r x)) r (lowers x rows) e l) (λ e. first_of Q (int_lt (entry r x) (pos 0)) r (uppers x rows) e u) o)
+      (kind (entry r x)),
+  all_kinds Q x rows (rest_of Q (is_zero (entry r x)) r (free_of x rows) f) (rest_of Q (is_positive (entry r x)) r (lowers x rows) l)
+      (rest_of Q (int_lt (entry r x) (pos 0)) r (uppers x rows) u),
 )
 
 -- ---- the step
@@ -139,7 +147,8 @@ module _ (v : Values) (x : ℕ) where
   abbrev best_value : List Row → List Row → ℤ
   best_value low high = how_value v (how_between x low high)
 
-  between : (low high : List Row) → EachRow (Lower x) low → EachRow (Upper x) high → EachRow (λ l. EachRow (IsExact x l) high) low → EachRow (IsNonneg v) (pairs_of x low high) →
+  between : (low high : List Row) → EachRow (Lower x) low → EachRow (Upper x) high → EachRow (λ l. EachRow (IsExact x l) high) low →
+      EachRow (IsNonneg v) (pairs_of x low high) →
       EachRow (IsNonneg (update v x (best_value low high))) low × EachRow (IsNonneg (update v x (best_value low high))) high
   between [] [] hl hu ex h = (tt, tt)
   between [] (u ∷ high) hl hu ex h =
@@ -155,11 +164,13 @@ module _ (v : Values) (x : ℕ) where
         top_is (λ y. EachRow (IsNonneg (update v x y)) high) v x (low_at v x l) low each.0 each.1,
       )
     where
-      meets_one : (l : Row) → Lower x l → (high : List Row) → EachRow (Upper x) high → EachRow (IsExact x l) high → EachRow (IsNonneg v) (map (λ u. pair_row x l u) high) → EachRow (IsNonneg (update v x (low_at v x l))) high
+      meets_one : (l : Row) → Lower x l → (high : List Row) → EachRow (Upper x) high → EachRow (IsExact x l) high →
+          EachRow (IsNonneg v) (map (λ u. pair_row x l u) high) → EachRow (IsNonneg (update v x (low_at v x l))) high
       meets_one l hl [] hu ex h = tt
       meets_one l hl (u ∷ high) hu ex h = (meets_at v x l u hl hu.0 ex.0 h.0, meets_one l hl high hu.1 ex.1 h.1)
 
-      meets_all : (low high : List Row) → EachRow (Lower x) low → EachRow (Upper x) high → EachRow (λ l. EachRow (IsExact x l) high) low → EachRow (IsNonneg v) (pairs_of x low high) → EachRow (λ l. EachRow (IsNonneg (update v x (low_at v x l))) high) low
+      meets_all : (low high : List Row) → EachRow (Lower x) low → EachRow (Upper x) high → EachRow (λ l. EachRow (IsExact x l) high) low →
+          EachRow (IsNonneg v) (pairs_of x low high) → EachRow (λ l. EachRow (IsNonneg (update v x (low_at v x l))) high) low
       meets_all [] high hl hu ex h = tt
       meets_all (l ∷ low) high hl hu ex h =
           let s = EachRow-split (IsNonneg v) (map (λ u. pair_row x l u) high) (pairs_of x low high) h in
@@ -170,7 +181,8 @@ equation_at v x z r k h =
     let s = rw k at (value-split v x r) in
     rw (value-update v x z r, k) (omega (arith, ints))
 
-pub dropped_keeps : (m : System) (x : ℕ) → IsFree x m.equations → EachRow (λ l. EachRow (IsExact x l) (uppers x m.inequalities)) (lowers x m.inequalities) → Keeps m (dropped m x)
+pub dropped_keeps : (m : System) (x : ℕ) → IsFree x m.equations → EachRow (λ l. EachRow (IsExact x l) (uppers x m.inequalities)) (lowers x m.inequalities) →
+    Keeps m (dropped m x)
 unfolding dropped
 dropped_keeps m x free ex =
     let rows = m.inequalities in
@@ -187,7 +199,8 @@ dropped_keeps m x free ex =
         record {
           zero = h.zero;
           nonneg = EachRow-append (IsNonneg v) (free_of x rows) (pairs_of x low high) (EachRow-filter (IsNonneg v) (λ r. is_zero (entry r x)) rows h.nonneg)
-              (pairs_hold v x low high hl hu (EachRow-filter (IsNonneg v) (λ r. is_positive (entry r x)) rows h.nonneg) (EachRow-filter (IsNonneg v) (λ r. int_lt (entry r x) (pos 0)) rows h.nonneg));
+              (pairs_hold v x low high hl hu (EachRow-filter (IsNonneg v) (λ r. is_positive (entry r x)) rows h.nonneg)
+              (EachRow-filter (IsNonneg v) (λ r. int_lt (entry r x) (pos 0)) rows h.nonneg));
         },
       );
       back = λ v _ _ _ h.
@@ -197,6 +210,8 @@ dropped_keeps m x free ex =
           let zeros = EachRow-tested (λ r. is_zero (entry r x) ≡ true) (λ r. is_zero (entry r x)) (λ r e. e) rows in
           record {
             zero = EachRow-with (λ r. entry r x ≡ pos 0) (IsZero v) (IsZero (update v x z)) (λ r k i. equation_at v x z r k i) m.equations free h.zero;
-            nonneg = all_kinds (IsNonneg (update v x z)) x rows (EachRow-with (λ r. is_zero (entry r x) ≡ true) (IsNonneg v) (IsNonneg (update v x z)) (λ r k i. free_at v x z r k i) (free_of x rows) zeros s.0) b.0 b.1;
+            nonneg = all_kinds (IsNonneg (update v x z)) x rows
+                (EachRow-with (λ r. is_zero (entry r x) ≡ true) (IsNonneg v) (IsNonneg (update v x z)) (λ r k i. free_at v x z r k i) (free_of x rows) zeros
+                s.0) b.0 b.1;
           };
     }

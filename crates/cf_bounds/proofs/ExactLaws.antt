@@ -54,7 +54,8 @@ fold_two x n (r ∷ rows) h l s e =
     let t = times_low n k h l s.0 in
     let t0 = t.0 in
     on_bool (nat_lt 1 k)
-    (λ g. let two = times_two n k h (ltb-true 1 k g) in let again = fold_low x (times_entry x n r) rows (omega (arith, t0)) t.1 s.1 in omega (arith, two, again))
+    (λ g. let two = times_two n k h (ltb-true 1 k g) in let again = fold_low x (times_entry x n r) rows (omega (arith, t0)) t.1 s.1 in
+    omega (arith, two, again))
     (λ g. fold_two x (times_entry x n r) rows (omega (arith, t0)) t.1 s.1 (rw g at e))
 
 some_low : (x : ℕ) (rows : List Row) → EachRow (HasEntry x) (lowers x rows)
@@ -79,14 +80,16 @@ all_rows Q f (r ∷ rows) = (f r, all_rows Q f rows)
 
 exact_low : (x : ℕ) (rows : List Row) → has_greater x (lowers x rows) ≡ false → AreExact x rows
 exact_low x rows e =
-    EachRow-with (Lower x) (λ r. unsigned_abs (entry r x) ≤ 1) (λ l. EachRow (IsExact x l) (uppers x rows)) (λ l p q. all_rows (IsExact x l) (λ u. inl (omega (arith, ints))) (uppers x rows)) (lowers x rows)
+    EachRow-with (Lower x) (λ r. unsigned_abs (entry r x) ≤ 1) (λ l. EachRow (IsExact x l) (uppers x rows))
+    (λ l p q. all_rows (IsExact x l) (λ u. inl (omega (arith, ints))) (uppers x rows)) (lowers x rows)
     (EachRow-tested (Lower x) (λ r. is_positive (entry r x)) (λ r h. positive_so (entry r x) h) rows) (none_greater x (lowers x rows) e)
 
 exact_high : (x : ℕ) (rows : List Row) → has_greater x (uppers x rows) ≡ false → AreExact x rows
 exact_high x rows e =
     let ups = EachRow-with (Upper x) (λ r. unsigned_abs (entry r x) ≤ 1) (λ u. neg_ℤ (entry u x) ≡ pos 1) (λ u p q. omega (arith, ints)) (uppers x rows)
     (EachRow-tested (Upper x) (λ r. int_lt (entry r x) (pos 0)) (λ r h. negative_so (entry r x) h) rows) (none_greater x (uppers x rows) e) in
-    all_rows (λ l. EachRow (IsExact x l) (uppers x rows)) (λ l. EachRow-weaker (λ u. neg_ℤ (entry u x) ≡ pos 1) (IsExact x l) (λ u i. inr i) (uppers x rows) ups) (lowers x rows)
+    all_rows (λ l. EachRow (IsExact x l) (uppers x rows))
+    (λ l. EachRow-weaker (λ u. neg_ℤ (entry u x) ≡ pos 1) (IsExact x l) (λ u i. inr i) (uppers x rows) ups) (lowers x rows)
 
 pick_at_exact : (rows : List Row) (x : ℕ) → (pick_at rows x).product ≤ 1 → AreExact x rows
 pick_at_exact rows x h = on_bool (has_greater x (lowers x rows) && has_greater x (uppers x rows))
@@ -94,7 +97,8 @@ pick_at_exact rows x h = on_bool (has_greater x (lowers x rows) && has_greater x
     let g = and_parts (has_greater x (lowers x rows)) (has_greater x (uppers x rows)) e in
     let least : min (product_of x (lowers x rows)) (product_of x (uppers x rows)) ≤ 1 = rw e at h in
     absurd (two_least (product_of x (lowers x rows)) (product_of x (uppers x rows))
-    (fold_two x 1 (lowers x rows) (omega arith) (omega arith) (some_low x rows) g.0) (fold_two x 1 (uppers x rows) (omega arith) (omega arith) (some_high x rows) g.1) least))
+    (fold_two x 1 (lowers x rows) (omega arith) (omega arith) (some_low x rows) g.0)
+    (fold_two x 1 (uppers x rows) (omega arith) (omega arith) (some_high x rows) g.1) least))
     (λ e. ⊎_elim (λ g. exact_low x rows g) (λ g. exact_high x rows g) (and_cases (has_greater x (lowers x rows)) (has_greater x (uppers x rows)) e))
 
 -- where the picked product is 1, no search is needed

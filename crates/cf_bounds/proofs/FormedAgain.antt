@@ -14,9 +14,12 @@ use Rattle.cf_bounds.proofs.CleanLemmas.{by_row, with_kept, unknowns_of, tight, 
 use Rattle.cf_bounds.proofs.OwesLemmas.{made_all}
 use Rattle.cf_bounds.proofs.PartLemmas.{Rises-divided}
 
-pairs_are : (P Q : Row → Type 0) (x : ℕ) → ((l u : Row) → Q l → Q u → P (comb (neg_ℤ (entry u x)) (without x l) (entry l x) (without x u))) → (low high : List Row) → EachRow Q low → EachRow Q high → EachRow P (pairs_of x low high)
+pairs_are : (P Q : Row → Type 0) (x : ℕ) → ((l u : Row) → Q l → Q u → P (comb (neg_ℤ (entry u x)) (without x l) (entry l x) (without x u))) →
+    (low high : List Row) → EachRow Q low → EachRow Q high → EachRow P (pairs_of x low high)
 pairs_are P Q x f [] high hl hu = tt
-pairs_are P Q x f (l ∷ low) high hl hu = EachRow-append P (map (λ u. comb (neg_ℤ (entry u x)) (without x l) (entry l x) (without x u)) high) (pairs_of x low high) (one high hu) (pairs_are P Q x f low high hl.1 hu)
+pairs_are P Q x f (l ∷ low) high hl hu =
+    EachRow-append P (map (λ u. comb (neg_ℤ (entry u x)) (without x l) (entry l x) (without x u)) high) (pairs_of x low high) (one high hu)
+    (pairs_are P Q x f low high hl.1 hu)
   where
     one : (high : List Row) → EachRow Q high → EachRow P (map (λ u. comb (neg_ℤ (entry u x)) (without x l) (entry l x) (without x u)) high)
     one [] h = tt
@@ -32,12 +35,14 @@ dropped_formed m x f free =
     let move : (c : ℕ) → C c → c ≢ x → D c = λ c q h. ⊎_elim (λ k. inl k) (λ k. inr (In-filter c x m.unknown k h)) q in
     let Canon : Row → Type 0 = λ r. Over C r × Rises 0 r in
     let bare : (r : Row) → Canon r → entry r x ≡ pos 0 → Over D r = λ r k e. Over-both C (λ c. c ≢ x) D move r k.0 (free_row 0 x r k.1 e) in
-    let canon : (rows : List Row) → EachRow (Over C) rows → EachRow (Rises 0) rows → EachRow Canon rows = λ rows o h. EachRow-with (Over C) (Rises 0) Canon (λ r a b. (a, b)) rows o h in
+    let canon : (rows : List Row) → EachRow (Over C) rows → EachRow (Rises 0) rows → EachRow Canon rows =
+    λ rows o h. EachRow-with (Over C) (Rises 0) Canon (λ r a b. (a, b)) rows o h in
     let zeros = EachRow-tested (λ r. entry r x ≡ pos 0) (λ r. is_zero (entry r x)) (λ r e. zero_from_is_zero (entry r x) e) rows in
     let ineq = canon rows f.nonneg f.nonneg_rise in
     let low = EachRow-filter Canon (λ r. is_positive (entry r x)) rows ineq in
     let high = EachRow-filter Canon (λ r. int_lt (entry r x) (pos 0)) rows ineq in
-    let part : (r : Row) → Over C r → Over D (without x r) = λ r o. Over-weaker (λ c. C c × (c ≢ x)) D (λ c q. move c q.0 q.1) (without x r) (Over-without C x r o) in
+    let part : (r : Row) → Over C r → Over D (without x r) =
+    λ r o. Over-weaker (λ c. C c × (c ≢ x)) D (λ c q. move c q.0 q.1) (without x r) (Over-without C x r o) in
     let less : (r : Row) → Rises 0 r → Rises 0 (without x r) = λ r h. Rises-without 0 x r h in
     record {
       constant = f.constant;
@@ -45,11 +50,15 @@ dropped_formed m x f free =
       unknown_below = λ c i. f.unknown_below c (In-unfilter c x m.unknown i);
       apart = λ c k i. f.apart c k (In-unfilter c x m.unknown i);
       zero = EachRow-with Canon (λ r. entry r x ≡ pos 0) (Over D) bare m.equations (canon m.equations f.zero f.zero_rise) free;
-      nonneg = EachRow-append (Over D) (free_of x rows) (pairs_of x (lowers x rows) (uppers x rows)) (EachRow-with Canon (λ r. entry r x ≡ pos 0) (Over D) bare (free_of x rows) (EachRow-filter Canon (λ r. is_zero (entry r x)) rows ineq) zeros)
-          (pairs_are (Over D) Canon x (λ l u a b. Over-comb D (neg_ℤ (entry u x)) (without x l) (entry l x) (without x u) (part l a.0) (part u b.0)) (lowers x rows) (uppers x rows) low high);
+      nonneg = EachRow-append (Over D) (free_of x rows) (pairs_of x (lowers x rows) (uppers x rows))
+          (EachRow-with Canon (λ r. entry r x ≡ pos 0) (Over D) bare (free_of x rows) (EachRow-filter Canon (λ r. is_zero (entry r x)) rows ineq) zeros)
+          (pairs_are (Over D) Canon x (λ l u a b. Over-comb D (neg_ℤ (entry u x)) (without x l) (entry l x) (without x u) (part l a.0) (part u b.0))
+          (lowers x rows) (uppers x rows) low high);
       zero_rise = f.zero_rise;
-      nonneg_rise = EachRow-append (Rises 0) (free_of x rows) (pairs_of x (lowers x rows) (uppers x rows)) (EachRow-filter (Rises 0) (λ r. is_zero (entry r x)) rows f.nonneg_rise)
-          (pairs_are (Rises 0) Canon x (λ l u a b. Rises-comb 0 (neg_ℤ (entry u x)) (without x l) (entry l x) (without x u) (less l a.1) (less u b.1)) (lowers x rows) (uppers x rows) low high);
+      nonneg_rise = EachRow-append (Rises 0) (free_of x rows) (pairs_of x (lowers x rows) (uppers x rows))
+          (EachRow-filter (Rises 0) (λ r. is_zero (entry r x)) rows f.nonneg_rise)
+          (pairs_are (Rises 0) Canon x (λ l u a b. Rises-comb 0 (neg_ℤ (entry u x)) (without x l) (entry l x) (without x u) (less l a.1) (less u b.1))
+          (lowers x rows) (uppers x rows) low high);
     }
 
 -- ---- Clean
@@ -64,7 +73,11 @@ shaped_row C us t r o h s =
     let D : ℕ → Type 0 = λ c. C c ⊎ In c t.made in
     let E : ℕ → Type 0 = λ c. C c ⊎ In c (t.made ++ (n ∷ [])) in
     let kept : (q : Row) → Over C q → Rises 0 q → Shaped C (with_kept t q) = λ q oq hq.
-    record { over = EachRow-append (Over D) t.rows (q ∷ []) s.over (Over-weaker C D (λ c k. inl k) q oq, tt); rise = EachRow-append (Rises 0) t.rows (q ∷ []) s.rise (hq, tt) } in
+    record {
+      over = EachRow-append (Over D) t.rows (q ∷ []) s.over (Over-weaker C D (λ c k. inl k) q oq, tt);
+      rise =
+          EachRow-append (Rises 0) t.rows (q ∷ []) s.rise (hq, tt);
+    } in
     by_row (Shaped C) us t r (kept r o h) (λ _ _. kept (divided g r) (Over-divided C g r o) (Rises-divided 0 g r h))
     (λ _.
     let u = divided g (unknown_part us r) in
@@ -72,15 +85,18 @@ shaped_row C us t r o h s =
     let hu = Rises-divided 0 g (unknown_part us r) (Rises-filter 0 (λ (c, k). has_column us c) r h) in
     record {
       over = EachRow-append (Over E) t.rows (comb (pos 1) u (pos 1) ((n, pos 1) ∷ []) ∷ [])
-          (EachRow-weaker (Over D) (Over E) (λ q oq. Over-weaker D E (λ c k. ⊎_elim (λ i. inl i) (λ i. inr (In-left c t.made (n ∷ []) i)) k) q oq) t.rows s.over)
+          (EachRow-weaker (Over D) (Over E) (λ q oq. Over-weaker D E (λ c k. ⊎_elim (λ i. inl i) (λ i. inr (In-left c t.made (n ∷ []) i)) k) q oq) t.rows
+          s.over)
           (Over-comb E (pos 1) u (pos 1) ((n, pos 1) ∷ []) ou (inr (In-right n t.made (n ∷ []) (inl refl)), tt), tt);
-      rise = EachRow-append (Rises 0) t.rows (comb (pos 1) u (pos 1) ((n, pos 1) ∷ []) ∷ []) s.rise (Rises-comb 0 (pos 1) u (pos 1) ((n, pos 1) ∷ []) hu (omega arith, one_some, tt), tt);
+      rise = EachRow-append (Rises 0) t.rows (comb (pos 1) u (pos 1) ((n, pos 1) ∷ []) ∷ []) s.rise
+          (Rises-comb 0 (pos 1) u (pos 1) ((n, pos 1) ∷ []) hu (omega arith, one_some, tt), tt);
     })
   where
     one_some : pos 1 ≢ pos 0
     one_some e = absurd (let i = ap unsigned_abs e in omega (arith, i))
 
-shaped_all : (C : ℕ → Type 0) (us : List ℕ) (rows : List Row) (t : Tightened) → EachRow (Over C) rows → EachRow (Rises 0) rows → Shaped C t → Shaped C (tight us t rows)
+shaped_all : (C : ℕ → Type 0) (us : List ℕ) (rows : List Row) (t : Tightened) → EachRow (Over C) rows → EachRow (Rises 0) rows → Shaped C t →
+    Shaped C (tight us t rows)
 shaped_all C us [] t o h s = s
 shaped_all C us (r ∷ rows) t o h s = shaped_all C us rows (then_tighten us t r) o.1 h.1 (shaped_row C us t r o.0 h.0 s)
 
@@ -103,10 +119,14 @@ clean_formed m f =
       constant = In-left 0 m.known t.made f.constant;
       below = λ c k. ⊎_elim (λ i. let b = f.below c i in omega arith) (λ i. (Rising-in m.next t.next c t.made ri i).1) (In-append c m.known t.made k);
       unknown_below = λ c i. let b = f.unknown_below c i in omega arith;
-      apart = λ c k i. ⊎_elim (λ p. f.apart c p i) (λ p. let b = f.unknown_below c i in let q = Rising-in m.next t.next c t.made ri p in absurd (omega arith)) (In-append c m.known t.made k);
-      zero = EachRow-weaker (Over (IsColumn m)) (Over N) (λ r q. Over-weaker (IsColumn m) N old r q) (filter (has_unknown us) m.equations) (EachRow-filter (Over (IsColumn m)) (has_unknown us) m.equations f.zero);
+      apart = λ c k i. ⊎_elim (λ p. f.apart c p i) (λ p. let b = f.unknown_below c i in let q = Rising-in m.next t.next c t.made ri p in absurd (omega arith))
+          (In-append c m.known t.made k);
+      zero = EachRow-weaker (Over (IsColumn m)) (Over N) (λ r q. Over-weaker (IsColumn m) N old r q) (filter (has_unknown us) m.equations)
+          (EachRow-filter (Over (IsColumn m)) (has_unknown us) m.equations f.zero);
       nonneg = distinct_forth (Over N) [] t.rows
-          (EachRow-weaker (Over (λ c. IsColumn m c ⊎ In c t.made)) (Over N) (λ r q. Over-weaker (λ c. IsColumn m c ⊎ In c t.made) N (λ c k. ⊎_elim (λ i. old c i) (λ i. inl (In-right c m.known t.made i)) k) r q) t.rows s.over);
+          (EachRow-weaker (Over (λ c. IsColumn m c ⊎ In c t.made)) (Over N)
+          (λ r q. Over-weaker (λ c. IsColumn m c ⊎ In c t.made) N (λ c k. ⊎_elim (λ i. old c i) (λ i. inl (In-right c m.known t.made i)) k) r q) t.rows
+          s.over);
       zero_rise = EachRow-filter (Rises 0) (has_unknown us) m.equations f.zero_rise;
       nonneg_rise = distinct_forth (Rises 0) [] t.rows s.rise;
     }

@@ -13,3 +13,4 @@ pub mod PickLaws
 pub mod SearchFormed
 pub mod SearchLaws
 pub mod SearchLemmas
+pub mod UnknownLemmas

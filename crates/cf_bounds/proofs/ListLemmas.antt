@@ -19,7 +19,8 @@ use Rattle.cf_bounds.specs.Sides.{divided_by}
 use Rattle.cf_bounds.proofs.PartLemmas.{AreBelow-divided, Rises-divided}
 
 -- one row more
-pub filter_step : (p : Row → Bool) (rows out next : List Row) (i : ℕ) (r : Row) (b : Bool) → i < length rows → r ≡ get_or rows i r → next ≡ out ++ cond b (r ∷ []) [] →
+pub filter_step : (p : Row → Bool) (rows out next : List Row) (i : ℕ) (r : Row) (b : Bool) → i < length rows → r ≡ get_or rows i r →
+    next ≡ out ++ cond b (r ∷ []) [] →
     b ≡ p r → out ≡ filter p (take i rows) → next ≡ filter p (take (i + 1) rows)
 filter_step p rows out next i r b h e n f inv =
     n ∙ ap (λ s. s ++ cond b (r ∷ []) []) inv ∙ ap (λ c. filter p (take i rows) ++ cond c (r ∷ []) []) f ∙
@@ -48,7 +49,8 @@ unfolding distinct_with
 distinct_end kept = append-nil kept
 
 last_first : (kept : List Row) (r : Row) (rows : List Row) → distinct_after (r ∷ kept) rows ≡ distinct_after (kept ++ (r ∷ [])) rows
-last_first kept r rows = distinct_same (r ∷ kept) (kept ++ (r ∷ [])) rows (λ q. swap q (same_row q r) (list_any (same_row q) kept) ∙ sym (any-append (same_row q) kept (r ∷ [])))
+last_first kept r rows = distinct_same (r ∷ kept) (kept ++ (r ∷ [])) rows
+    (λ q. swap q (same_row q r) (list_any (same_row q) kept) ∙ sym (any-append (same_row q) kept (r ∷ [])))
   where
     swap : (q : Row) (a b : Bool) → (a || b) ≡ (b || (a || false))
     swap q true true = refl
@@ -56,7 +58,8 @@ last_first kept r rows = distinct_same (r ∷ kept) (kept ++ (r ∷ [])) rows (�
     swap q false true = refl
     swap q false false = refl
 
-pub distinct_next : (kept rows : List Row) (r : Row) → distinct_with kept (r ∷ rows) ≡ distinct_with (kept ++ cond (not (list_any (same_row r) kept)) (r ∷ []) []) rows
+pub distinct_next : (kept rows : List Row) (r : Row) →
+    distinct_with kept (r ∷ rows) ≡ distinct_with (kept ++ cond (not (list_any (same_row r) kept)) (r ∷ []) []) rows
 unfolding distinct_with
 distinct_next kept rows r = on_bool (list_any (same_row r) kept)
     (λ e. rw (e, append-nil kept) refl)
@@ -65,7 +68,8 @@ distinct_next kept rows r = on_bool (list_any (same_row r) kept)
 next_row : (rows : List Row) (i : ℕ) (r : Row) → i < length rows → r ≡ get_or rows i r → drop i rows ≡ r ∷ drop (i + 1) rows
 next_row rows i r h e = rw (add-one, drop-cons rows i r) (ap (λ y. y ∷ drop (suc i) rows) (sym e))
 
-pub distinct_step : (rows kept next target : List Row) (i : ℕ) (r : Row) (b : Bool) → i < length rows → r ≡ get_or rows i r → next ≡ kept ++ cond b (r ∷ []) [] →
+pub distinct_step : (rows kept next target : List Row) (i : ℕ) (r : Row) (b : Bool) → i < length rows → r ≡ get_or rows i r →
+    next ≡ kept ++ cond b (r ∷ []) [] →
     b ≡ not (list_any (same_row r) kept) → distinct_with kept (drop i rows) ≡ target → distinct_with next (drop (i + 1) rows) ≡ target
 distinct_step rows kept next target i r b h e n f inv =
     ap (λ s. distinct_with s (drop (i + 1) rows)) (n ∙ ap (λ c. kept ++ cond c (r ∷ []) []) f) ∙ sym (distinct_next kept (drop (i + 1) rows) r) ∙

@@ -16,7 +16,8 @@ use Rattle.cf_bounds.proofs.CleanLemmas.{clean_keeps, by_row, with_kept, unknown
 
 pub dropped_step : (m : System) (x : ℕ) → Kinds m → In x m.unknown → IsFree x m.equations → AreExact x m.inequalities → Owes m (dropped m x)
 unfolding dropped
-dropped_step m x f i free ex = still m (dropped m x) f (dropped_keeps m x free ex) refl (omega arith) refl refl (one_kept m x (how_between x (lowers x m.inequalities) (uppers x m.inequalities)) f i)
+dropped_step m x f i free ex = still m (dropped m x) f (dropped_keeps m x free ex) refl (omega arith) refl refl
+    (one_kept m x (how_between x (lowers x m.inequalities) (uppers x m.inequalities)) f i)
 
 -- ---- Clean
 pub has-in : (c : ℕ) (us : List ℕ) → In c us → has_column us c ≡ true
@@ -45,21 +46,25 @@ pub record TightenedColumns (K : ℕ → Type 0) (lo : ℕ) (t : Tightened) : Ty
   pub rise : Rising lo t.next (let_columns t.steps)
   pub over : StepsOver K t.steps
 
-made_row : (K : ℕ → Type 0) (lo : ℕ) (us : List ℕ) (t : Tightened) (r : Row) → Over (λ c. K c ⊎ In c us) r → TightenedColumns K lo t → TightenedColumns K lo (then_tighten us t r)
+made_row : (K : ℕ → Type 0) (lo : ℕ) (us : List ℕ) (t : Tightened) (r : Row) → Over (λ c. K c ⊎ In c us) r → TightenedColumns K lo t →
+    TightenedColumns K lo (then_tighten us t r)
 made_row K lo us t r o h =
     by_row (TightenedColumns K lo) us t r (kept r) (λ _ _. kept _)
     (λ _.
     let m = floor_of t.next (known_part us r) (pos (unknowns_of us r)) in
     record {
       same = let_columns-append t.steps (m ∷ []) ∙ ap (λ x. x ++ (t.next ∷ [])) h.same;
-      rise = subst (λ x. Rising lo (t.next + 1) x) (sym (let_columns-append t.steps (m ∷ []))) (Rising-append lo t.next (t.next + 1) (let_columns t.steps) (t.next ∷ []) h.rise (omega arith, omega arith));
-      over = StepsOver-append K t.steps (m ∷ []) h.over (Over-weaker K (λ c. In c (let_columns t.steps) ⊎ K c) (λ c k. inr k) (known_part us r) (known_over K us r o), tt);
+      rise = subst (λ x. Rising lo (t.next + 1) x) (sym (let_columns-append t.steps (m ∷ [])))
+          (Rising-append lo t.next (t.next + 1) (let_columns t.steps) (t.next ∷ []) h.rise (omega arith, omega arith));
+      over = StepsOver-append K t.steps (m ∷ []) h.over
+          (Over-weaker K (λ c. In c (let_columns t.steps) ⊎ K c) (λ c k. inr k) (known_part us r) (known_over K us r o), tt);
     })
   where
     kept : (r : Row) → TightenedColumns K lo (with_kept t r)
     kept r = record { same = h.same; rise = h.rise; over = h.over }
 
-pub made_all : (K : ℕ → Type 0) (lo : ℕ) (us : List ℕ) (rows : List Row) (t : Tightened) → EachRow (Over (λ c. K c ⊎ In c us)) rows → TightenedColumns K lo t → TightenedColumns K lo (tight us t rows)
+pub made_all : (K : ℕ → Type 0) (lo : ℕ) (us : List ℕ) (rows : List Row) (t : Tightened) → EachRow (Over (λ c. K c ⊎ In c us)) rows → TightenedColumns K lo t →
+    TightenedColumns K lo (tight us t rows)
 made_all K lo us [] t o h = h
 made_all K lo us (r ∷ rows) t o h = made_all K lo us rows (then_tighten us t r) o.1 (made_row K lo us t r o.0 h)
 
@@ -86,18 +91,23 @@ clean_step m f =
     let nonnegs = filter (λ r. not (has_unknown us r)) m.inequalities in
     let start : Tightened = record { next = m.next; made = []; steps = []; rows = [] } in
     let t = tight us start (filter (has_unknown us) m.inequalities) in
-    let made = made_all K m.next us (filter (has_unknown us) m.inequalities) start (EachRow-filter (Over (IsColumn m)) (has_unknown us) m.inequalities f.nonneg) (record { same = refl; rise = omega arith; over = tt }) in
+    let made = made_all K m.next us (filter (has_unknown us) m.inequalities) start (EachRow-filter (Over (IsColumn m)) (has_unknown us) m.inequalities f.nonneg)
+    (record { same = refl; rise = omega arith; over = tt }) in
     let bare_rows : (rows : List Row) → EachRow (Over (IsColumn m)) rows → EachRow (Over K) (filter (λ r. not (has_unknown us r)) rows) = λ rows o.
-    EachRow-with (λ r. not (has_unknown us r) ≡ true) (Over (IsColumn m)) (Over K) (λ r e q. none_over K us r (not_true (has_unknown us r) e) q) (filter bare rows)
+    EachRow-with (λ r. not (has_unknown us r) ≡ true) (Over (IsColumn m)) (Over K) (λ r e q. none_over K us r (not_true (has_unknown us r) e) q)
+    (filter bare rows)
     (EachRow-tested (λ r. not (has_unknown us r) ≡ true) bare (λ r e. e) rows) (EachRow-filter (Over (IsColumn m)) bare rows o) in
     let zo = zeros_over K zeros (bare_rows m.equations f.zero) in
     let no = nonnegs_over K nonnegs (bare_rows m.inequalities f.nonneg) in
     let zn = map need_zero zeros ++ map need_nonneg nonnegs in
-    let lets_zn : let_columns (map need_zero zeros ++ map need_nonneg nonnegs) ≡ [] = let_columns-append (map need_zero zeros) (map need_nonneg nonnegs) ∙ rw (zo.1, no.1) refl in
+    let lets_zn : let_columns (map need_zero zeros ++ map need_nonneg nonnegs) ≡ [] =
+    let_columns-append (map need_zero zeros) (map need_nonneg nonnegs) ∙ rw (zo.1, no.1) refl in
     let lets_all : let_columns (zn ++ t.steps) ≡ let_columns t.steps = let_columns-append zn t.steps ∙ ap (λ x. x ++ let_columns t.steps) lets_zn in
-    let wide : (ms : List Step) → (d : ℕ → Type 0) → StepsOver K ms → StepsOver (λ c. d c ⊎ K c) ms = λ ms d o. StepsOver-weaker K (λ c. d c ⊎ K c) (λ c k. inr k) ms o in
+    let wide : (ms : List Step) → (d : ℕ → Type 0) → StepsOver K ms → StepsOver (λ c. d c ⊎ K c) ms =
+    λ ms d o. StepsOver-weaker K (λ c. d c ⊎ K c) (λ c k. inr k) ms o in
     let over : StepsOver K (zn ++ t.steps) = StepsOver-append K zn t.steps
-    (StepsOver-append K (map need_zero zeros) (map need_nonneg nonnegs) zo.0 (wide (map need_nonneg nonnegs) (λ c. In c (let_columns (map need_zero zeros))) no.0))
+    (StepsOver-append K (map need_zero zeros) (map need_nonneg nonnegs) zo.0
+    (wide (map need_nonneg nonnegs) (λ c. In c (let_columns (map need_zero zeros))) no.0))
     (wide t.steps (λ c. In c (let_columns zn)) made.over) in
     record {
       keeps = clean_keeps m (low_from m f) (f.below 0 f.constant) f.nonneg_rise;

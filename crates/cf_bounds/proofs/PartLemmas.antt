@@ -15,14 +15,16 @@ use Rattle.cf_linear.proofs.Joining.{AreBelow-take}
 use Rattle.cf_bounds.specs.Sides.{divides_known, divided_by}
 
 -- ---- what is left from a place on
-pub unknown_next : (us : List ℕ) (r : Row) (i : ℕ) → i < length r → has_unknown us (drop i r) ≡ (has_column us (get_or r i (0, pos 0)).0 || has_unknown us (drop (i + 1) r))
+pub unknown_next : (us : List ℕ) (r : Row) (i : ℕ) → i < length r →
+    has_unknown us (drop i r) ≡ (has_column us (get_or r i (0, pos 0)).0 || has_unknown us (drop (i + 1) r))
 unknown_next us r i h = rw (add-one, drop-cons r i (0, pos 0)) refl
 
 pub unknown_end : (us : List ℕ) (r : Row) (i : ℕ) → length r ≤ i → has_unknown us (drop i r) ≡ false
 unknown_end us r i h = rw (drop_of_length-le r h) refl
 
 pub divides_next : (g : ℤ) (r : Row) (i : ℕ) → i < length r →
-    divides_known g (drop i r) ≡ ((((get_or r i (0, pos 0)).0 == 0) || is_zero (int_rem_euclid (get_or r i (0, pos 0)).1 g)) && divides_known g (drop (i + 1) r))
+    divides_known g (drop i r) ≡ ((((get_or r i (0, pos 0)).0 == 0) || is_zero (int_rem_euclid (get_or r i (0, pos 0)).1 g)) && divides_known g
+    (drop (i + 1) r))
 divides_next g r i h = rw (add-one, drop-cons r i (0, pos 0)) refl
 
 pub divides_end : (g : ℤ) (r : Row) (i : ℕ) → length r ≤ i → divides_known g (drop i r) ≡ true
@@ -72,7 +74,8 @@ divided-append g ((c, k) ∷ r) s =
 pub AreBelow-divided : (n g : ℕ) (r : Row) → AreBelow n r → AreBelow n (divided g r)
 AreBelow-divided n g [] h = tt
 AreBelow-divided n g ((c, k) ∷ r) h =
-    cond_both (is_zero (int_div_euclid k (pos g))) (divided g r) ((c, int_div_euclid k (pos g)) ∷ divided g r) (λ y. AreBelow n y) (λ e. AreBelow-divided n g r h.1) (λ e. (h.0, AreBelow-divided n g r h.1))
+    cond_both (is_zero (int_div_euclid k (pos g))) (divided g r) ((c, int_div_euclid k (pos g)) ∷ divided g r) (λ y. AreBelow n y)
+    (λ e. AreBelow-divided n g r h.1) (λ e. (h.0, AreBelow-divided n g r h.1))
 
 size_is : (g : ℤ) → pos 0 <ℤ g → pos (unsigned_abs g) ≡ g
 size_is g h = omega (arith, ints)

@@ -19,7 +19,8 @@ picked_first rows [] h = absurd (omega arith)
 picked_first rows (x ∷ us) h = refl
 
 pub picked_next : (rows : List Row) (us : List ℕ) (i : ℕ) (c : Pick) → i < length us →
-    best c (map (pick_at rows) (drop i us)) ≡ best (if is_better (pick_at rows (get_or us i 0)) c then pick_at rows (get_or us i 0) else c) (map (pick_at rows) (drop (i + 1) us))
+    best c (map (pick_at rows) (drop i us)) ≡ best (if is_better (pick_at rows (get_or us i 0)) c then pick_at rows (get_or us i 0) else c)
+    (map (pick_at rows) (drop (i + 1) us))
 picked_next rows us i c h = rw (add-one, drop-cons us i 0) refl
 
 pub picked_end : (rows : List Row) (us : List ℕ) (i : ℕ) (c : Pick) → length us ≤ i → best c (map (pick_at rows) (drop i us)) ≡ c
@@ -57,7 +58,13 @@ product_next lower x n r rows = on_bool (is_side lower (entry r x)) (λ e. rw e 
 
 -- ---- one unknown
 pub pick_at_search : (x : ℕ) (rows : List Row) (c : Pick) → list_any (is_great true x) rows ≡ true → list_any (is_great false x) rows ≡ true →
-    c ≡ record { unknown = x; lower = nat_le (side_product true x 1 rows) (side_product false x 1 rows); product = min (side_product true x 1 rows) (side_product false x 1 rows); pairs = (pick_at rows x).pairs } → c ≡ pick_at rows x
+    c ≡ record {
+      unknown = x;
+      lower = nat_le (side_product true x 1 rows) (side_product false x 1 rows);
+      product =
+          min (side_product true x 1 rows) (side_product false x 1 rows);
+      pairs = (pick_at rows x).pairs;
+    } → c ≡ pick_at rows x
 pick_at_search x rows c e f g = g ∙ rw (sym (greater_side true x rows) ∙ e, sym (greater_side false x rows) ∙ f) refl
 
 pub pick_at_plain : (x : ℕ) (rows : List Row) (c : Pick) → (list_any (is_great true x) rows && list_any (is_great false x) rows) ≡ false →

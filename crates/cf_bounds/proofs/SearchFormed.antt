@@ -49,15 +49,18 @@ shaped_row C x lower s r cx o h g =
     let n = s.next in
     let t = found_new x lower s r in
     let E : ℕ → Type 0 = New C t in
-    let grow : (c : ℕ) → New C s c → E c = λ c q. ⊎_elim (λ i. inl i) (λ p. ⊎_elim (λ i. inr (inl (In-left c s.columns (n ∷ []) i))) (λ i. inr (inr (In-left c s.unknowns ((n + 1) ∷ []) i))) p) q in
+    let grow : (c : ℕ) → New C s c → E c = λ c q. ⊎_elim (λ i. inl i)
+    (λ p. ⊎_elim (λ i. inr (inl (In-left c s.columns (n ∷ []) i))) (λ i. inr (inr (In-left c s.unknowns ((n + 1) ∷ []) i))) p) q in
     let wide : (q : Row) → Over (New C s) q → Over E q = λ q w. Over-weaker (New C s) E grow q w in
     let k : E n = inr (inl (In-right n s.columns (n ∷ []) (inl refl))) in
     let u : E (n + 1) = inr (inr (In-right (n + 1) s.unknowns ((n + 1) ∷ []) (inl refl))) in
     let part : Over E (without x r) = Over-filter E (λ (c, k). not (c == x)) r (Over-weaker C E (λ c i. inl i) r o) in
     by_row (Shaped C) x lower s r
     (λ e. record {
-      zero = EachRow-append (Over E) s.equations (search_equation x lower n r ∷ []) (EachRow-weaker (Over (New C s)) (Over E) wide s.equations g.zero) (equation_over E lower x n r part k u, tt);
-      nonneg = EachRow-append (Over E) s.rows (search_bound x lower n ∷ []) (EachRow-weaker (Over (New C s)) (Over E) wide s.rows g.nonneg) (bound_over E lower x n (inl cx) u, tt);
+      zero = EachRow-append (Over E) s.equations (search_equation x lower n r ∷ []) (EachRow-weaker (Over (New C s)) (Over E) wide s.equations g.zero)
+          (equation_over E lower x n r part k u, tt);
+      nonneg = EachRow-append (Over E) s.rows (search_bound x lower n ∷ []) (EachRow-weaker (Over (New C s)) (Over E) wide s.rows g.nonneg)
+          (bound_over E lower x n (inl cx) u, tt);
       zero_rise = EachRow-append (Rises 0) s.equations (search_equation x lower n r ∷ []) g.zero_rise (equation_rise lower x n r (Rises-without 0 x r h), tt);
       nonneg_rise = EachRow-append (Rises 0) s.rows (search_bound x lower n ∷ []) g.nonneg_rise (bound_rise lower x n, tt);
     })
@@ -68,7 +71,8 @@ shaped_row C x lower s r cx o h g =
       nonneg_rise = EachRow-append (Rises 0) s.rows (r ∷ []) g.nonneg_rise (h, tt);
     })
 
-shaped_all : (C : ℕ → Type 0) (x : ℕ) (lower : Bool) (rows : List Row) (s : Found) → C x → EachRow (Over C) rows → EachRow (Rises 0) rows → Shaped C s → Shaped C (found_all x lower s rows)
+shaped_all : (C : ℕ → Type 0) (x : ℕ) (lower : Bool) (rows : List Row) (s : Found) → C x → EachRow (Over C) rows → EachRow (Rises 0) rows → Shaped C s →
+    Shaped C (found_all x lower s rows)
 shaped_all C x lower [] s cx o h g = g
 shaped_all C x lower (r ∷ rows) s cx o h g = shaped_all C x lower rows (found_row x lower s r) cx o.1 h.1 (shaped_row C x lower s r cx o.0 h.0 g)
 
@@ -79,16 +83,20 @@ searched_formed m x lower f i =
     let k = searched_kinds m x lower f in
     let d = made_all m.next x lower m.inequalities (no_found m) (record { same = refl; rise = omega arith; unknown_rise = omega arith; apart = λ c i j. i }) in
     let le = Rising-le m.next s.next s.columns d.rise in
-    let g = shaped_all (IsColumn m) x lower m.inequalities (no_found m) (inr i) f.nonneg f.nonneg_rise (record { zero = tt; nonneg = tt; zero_rise = tt; nonneg_rise = tt }) in
+    let g = shaped_all (IsColumn m) x lower m.inequalities (no_found m) (inr i) f.nonneg f.nonneg_rise
+    (record { zero = tt; nonneg = tt; zero_rise = tt; nonneg_rise = tt }) in
     let N : ℕ → Type 0 = λ c. In c (m.known ++ s.columns) ⊎ In c (m.unknown ++ s.unknowns) in
     let old : (c : ℕ) → IsColumn m c → N c = λ c q. ⊎_elim (λ i. inl (In-left c m.known s.columns i)) (λ i. inr (In-left c m.unknown s.unknowns i)) q in
-    let new : (c : ℕ) → New (IsColumn m) s c → N c = λ c q. ⊎_elim (λ i. old c i) (λ p. ⊎_elim (λ i. inl (In-right c m.known s.columns i)) (λ i. inr (In-right c m.unknown s.unknowns i)) p) q in
+    let new : (c : ℕ) → New (IsColumn m) s c → N c =
+    λ c q. ⊎_elim (λ i. old c i) (λ p. ⊎_elim (λ i. inl (In-right c m.known s.columns i)) (λ i. inr (In-right c m.unknown s.unknowns i)) p) q in
     record {
       constant = k.constant;
       below = k.below;
-      unknown_below = λ c q. ⊎_elim (λ p. let b = f.unknown_below c p in omega arith) (λ p. (Rising-in m.next s.next c s.unknowns d.unknown_rise p).1) (In-append c m.unknown s.unknowns q);
+      unknown_below = λ c q. ⊎_elim (λ p. let b = f.unknown_below c p in omega arith) (λ p. (Rising-in m.next s.next c s.unknowns d.unknown_rise p).1)
+          (In-append c m.unknown s.unknowns q);
       apart = k.apart;
-      zero = EachRow-append (Over N) m.equations s.equations (EachRow-weaker (Over (IsColumn m)) (Over N) (λ r w. Over-weaker (IsColumn m) N old r w) m.equations f.zero)
+      zero = EachRow-append (Over N) m.equations s.equations
+          (EachRow-weaker (Over (IsColumn m)) (Over N) (λ r w. Over-weaker (IsColumn m) N old r w) m.equations f.zero)
           (EachRow-weaker (Over (New (IsColumn m) s)) (Over N) (λ r w. Over-weaker (New (IsColumn m) s) N new r w) s.equations g.zero);
       nonneg = EachRow-weaker (Over (New (IsColumn m) s)) (Over N) (λ r w. Over-weaker (New (IsColumn m) s) N new r w) s.rows g.nonneg;
       zero_rise = EachRow-append (Rises 0) m.equations s.equations f.zero_rise g.zero_rise;

@@ -24,27 +24,33 @@ use Rattle.cf_bounds.proofs.SearchFormed.{searched_formed}
 pub search_below : (m : System) → Formed m → EachRow (AreBelow m.next) m.inequalities
 search_below m f = all_below m.next m.inequalities (low_from m f).nonneg
 
-pub searched_is : (m : System) (x : ℕ) (lower : Bool) (f : Found) (a : Answer) → f ≡ found_all x lower (found_from m.next) m.inequalities → a ≡ searched_as m f → a ≡ searched m x lower
+pub searched_is : (m : System) (x : ℕ) (lower : Bool) (f : Found) (a : Answer) → f ≡ found_all x lower (found_from m.next) m.inequalities →
+    a ≡ searched_as m f → a ≡ searched m x lower
 unfolding searched
 searched_is m x lower f a e g = g ∙ ap (searched_as m) e
 
-pub search_owes : (m : System) (x : ℕ) (lower : Bool) (r : Result Searched NoMemory) → Formed m → In x m.unknown → IfOk r (λ s. searched_answer s ≡ searched m x lower) → IfOk r (λ s. Owes m (searched_answer s))
+pub search_owes : (m : System) (x : ℕ) (lower : Bool) (r : Result Searched NoMemory) → Formed m → In x m.unknown →
+    IfOk r (λ s. searched_answer s ≡ searched m x lower) → IfOk r (λ s. Owes m (searched_answer s))
 search_owes m x lower (Ok s) f i e = subst (Owes m) (sym e) (searched_step m x lower f i)
 search_owes m x lower (Err z) f i e = tt
 
-pub search_once : (m : System) (x : ℕ) (lower : Bool) (r : Result Searched NoMemory) → Formed m → In x m.unknown → IfOk r (λ s. searched_answer s ≡ searched m x lower) → IfOk r (λ s. ContinuesOnce m (searched_answer s))
+pub search_once : (m : System) (x : ℕ) (lower : Bool) (r : Result Searched NoMemory) → Formed m → In x m.unknown →
+    IfOk r (λ s. searched_answer s ≡ searched m x lower) → IfOk r (λ s. ContinuesOnce m (searched_answer s))
 search_once m x lower (Ok s) f i e = subst (ContinuesOnce m) (sym e) (searched_one m x lower (low_from m f) (f.unknown_below x i))
 search_once m x lower (Err z) f i e = tt
 
-pub search_forms : (m : System) (x : ℕ) (lower : Bool) (r : Result Searched NoMemory) → Formed m → In x m.unknown → IfOk r (λ s. searched_answer s ≡ searched m x lower) → IfOk r (λ s. Formed (system_of s.system))
+pub search_forms : (m : System) (x : ℕ) (lower : Bool) (r : Result Searched NoMemory) → Formed m → In x m.unknown →
+    IfOk r (λ s. searched_answer s ≡ searched m x lower) → IfOk r (λ s. Formed (system_of s.system))
 search_forms m x lower (Ok s) f i e = subst Formed (sym (ap (λ a. a.system) e)) (searched_formed m x lower f i)
 search_forms m x lower (Err z) f i e = tt
 
-pub search_exact : (m : System) (x : ℕ) (lower : Bool) (r : Result Searched NoMemory) → Formed m → In x m.unknown → IfOk r (λ s. searched_answer s ≡ searched m x lower) → IfOk r (λ s. AreExact x (system_of s.system).inequalities)
+pub search_exact : (m : System) (x : ℕ) (lower : Bool) (r : Result Searched NoMemory) → Formed m → In x m.unknown →
+    IfOk r (λ s. searched_answer s ≡ searched m x lower) → IfOk r (λ s. AreExact x (system_of s.system).inequalities)
 search_exact m x lower (Ok s) f i e = subst (AreExact x) (sym (ap (λ a. a.system.inequalities) e)) (searched_exact m x lower f i)
 search_exact m x lower (Err z) f i e = tt
 
-pub search_free : (m : System) (x : ℕ) (lower : Bool) (r : Result Searched NoMemory) → Formed m → In x m.unknown → IfOk r (λ s. searched_answer s ≡ searched m x lower) →
+pub search_free : (m : System) (x : ℕ) (lower : Bool) (r : Result Searched NoMemory) → Formed m → In x m.unknown →
+    IfOk r (λ s. searched_answer s ≡ searched m x lower) →
     IfOk r (λ s. IsFree x m.equations → IsFree x (system_of s.system).equations)
 search_free m x lower (Ok s) f i e = λ free. subst (IsFree x) (sym (ap (λ a. a.system.equations) e)) (searched_free m x lower f i free)
 search_free m x lower (Err z) f i e = tt
@@ -53,13 +59,15 @@ search_free m x lower (Err z) f i e = tt
 one_some : pos 1 ≢ pos 0
 one_some e = absurd (let i = ap unsigned_abs e in omega (arith, i))
 
-coefficient : (lower : Bool) (x : ℕ) (r : Row) → searches x lower r ≡ true → neg_ℤ (pos (unsigned_abs (entry r x))) ≡ (if lower then neg_ℤ (entry r x) else entry r x)
+coefficient : (lower : Bool) (x : ℕ) (r : Row) → searches x lower r ≡ true →
+    neg_ℤ (pos (unsigned_abs (entry r x))) ≡ (if lower then neg_ℤ (entry r x) else entry r x)
 coefficient true x r e = ap neg_ℤ (sym (sided true x r e).1)
 coefficient false x r e = sym (sided false x r e).1
 
 -- the start, the search column and the new unknown
 pub equation_is : (x k : ℕ) (lower : Bool) (r : Row) → AreBelow k r → searches x lower r ≡ true →
-    search_equation x lower k r ≡ (equation_start x lower r ++ put k (if lower then pos 1 else negsuc 0) []) ++ put (k + 1) (if lower then neg_ℤ (entry r x) else entry r x) []
+    search_equation x lower k r ≡ (equation_start x lower r ++ put k (if lower then pos 1 else negsuc 0) []) ++ put (k + 1)
+    (if lower then neg_ℤ (entry r x) else entry r x) []
 equation_is x k lower r h e =
     let a : ℤ = if lower then pos 1 else negsuc 0 in
     let b : ℤ = if lower then neg_ℤ (entry r x) else entry r x in
@@ -85,10 +93,14 @@ AreBelow-comb n a ((c, k) ∷ r) h = add_below c (a *ℤ k) (comb a r (pos 0) []
 pub start_below : (x k : ℕ) (lower : Bool) (r : Row) → AreBelow k r → AreBelow k (equation_start x lower r)
 start_below x k lower r h = AreBelow-comb k (if lower then negsuc 0 else pos 1) (without x r) (AreBelow-without k x r h)
 
-pub second_below : (x k : ℕ) (lower : Bool) (r : Row) → AreBelow k r → AreBelow (k + 1) (equation_start x lower r ++ put k (if lower then pos 1 else negsuc 0) [])
+pub second_below : (x k : ℕ) (lower : Bool) (r : Row) → AreBelow k r →
+    AreBelow (k + 1) (equation_start x lower r ++ put k (if lower then pos 1 else negsuc 0) [])
 second_below x k lower r h =
-    AreBelow-append (k + 1) (equation_start x lower r) (put k (if lower then pos 1 else negsuc 0) []) (AreBelow-raise k (k + 1) (equation_start x lower r) (omega arith) (start_below x k lower r h)) (AreBelow-put k (k + 1) (if lower then pos 1 else negsuc 0) (omega arith))
+    AreBelow-append (k + 1) (equation_start x lower r) (put k (if lower then pos 1 else negsuc 0) [])
+    (AreBelow-raise k (k + 1) (equation_start x lower r) (omega arith) (start_below x k lower r h))
+    (AreBelow-put k (k + 1) (if lower then pos 1 else negsuc 0) (omega arith))
 
-pub found_from_parts : (x : ℕ) (lower : Bool) (s f : Found) (r equation rest : Row) (bound : ℕ) → f ≡ found_with s equation rest bound → equation ≡ search_equation x lower s.next r →
+pub found_from_parts : (x : ℕ) (lower : Bool) (s f : Found) (r equation rest : Row) (bound : ℕ) → f ≡ found_with s equation rest bound →
+    equation ≡ search_equation x lower s.next r →
     rest ≡ search_bound x lower s.next → bound ≡ unsigned_abs (entry r x) → searches x lower r ≡ true → f ≡ found_row x lower s r
 found_from_parts x lower s f r equation rest bound h e g k w = h ∙ rw (e, g, k, w) refl

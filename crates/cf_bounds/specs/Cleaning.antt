@@ -1,16 +1,17 @@
 -- What the private calls of `clean` answer.
-use Rattle.std.specs.Prelude.{◌+◌, List, [], ◌∷◌, ◌++◌, length, map, filter, not}
+use Rattle.std.specs.Prelude.{ℕ, ◌+◌, List, [], ◌∷◌, ◌++◌, length, map, filter, not}
 use Rattle.cf_linear.specs.Rows.{Row}
 use Rattle.cf_linear.specs.Systems.{System, Step, need_zero, need_nonneg, Answer}
 use Rattle.cf_linear.specs.Steps.{has_unknown, Tightened, tighten_all, distinct_after}
 
--- the needs of the equations without unknowns, and then of the inequalities
-abbrev pub needs_of : System → List Step
-needs_of m = map need_zero (filter (λ r. not (has_unknown m.unknown r)) m.equations) ++ map need_nonneg (filter (λ r. not (has_unknown m.unknown r)) m.inequalities)
+-- the needs of the equations without these unknowns, and then of the inequalities
+abbrev pub needs_of : List ℕ → System → List Step
+needs_of us m = map need_zero (filter (λ r. not (has_unknown us r)) m.equations) ++ map need_nonneg
+    (filter (λ r. not (has_unknown us r)) m.inequalities)
 
--- the inequalities that hold an unknown, tightened
-abbrev pub tightened : System → Tightened
-tightened m = tighten_all m.unknown m.next (filter (has_unknown m.unknown) m.inequalities)
+-- the inequalities that hold one of these unknowns, tightened
+abbrev pub tightened : List ℕ → System → Tightened
+tightened us m = tighten_all us m.next (filter (has_unknown us) m.inequalities)
 
 -- the new system of these parts
 abbrev pub joined : System → List Row → Tightened → List Step → Answer

@@ -21,7 +21,15 @@ pairs_pass x low high = list_any (λ l. list_any (pair_passes x l) high) low
 -- the system with these inequalities, without x, which is computed so
 abbrev pub with_rows : System → ℕ → List Row → How → Answer
 with_rows m x rows how = record {
-  system = record { known = m.known; unknown = filter (λ w. not (w == x)) m.unknown; next = m.next; equations = m.equations; inequalities = rows; needs = m.needs };
+  system = record {
+    known = m.known;
+    unknown = filter (λ w. not (w == x)) m.unknown;
+    next = m.next;
+    equations = m.equations;
+    inequalities = rows;
+    needs =
+        m.needs;
+  };
   steps = [];
   back = (x, how) ∷ [];
   bounds = [];

@@ -5,3 +5,4 @@ pub mod CleanAnswers
 pub mod Picking
 pub mod Searching
 pub mod Sides
+pub mod Unknowns

@@ -12,7 +12,15 @@ abbrev pub searched_answer : Searched → Answer
 searched_answer s = record { system = system_of s.system; steps = []; back = []; bounds = map bound_of s.bounds.items }
 
 abbrev pub found_of : SearchBuilder → Found
-found_of f = record { next = f.next; columns = f.columns.items; unknowns = f.unknowns.items; equations = f.equations.items; rows = f.rows.items; bounds = map bound_of f.bounds.items }
+found_of f = record {
+  next = f.next;
+  columns = f.columns.items;
+  unknowns = f.unknowns.items;
+  equations = f.equations.items;
+  rows = f.rows.items;
+  bounds =
+      map bound_of f.bounds.items;
+}
 
 -- nothing is found yet
 abbrev pub found_from : ℕ → Found

@@ -15,6 +15,7 @@ ghost use Rattle.cf_bounds.specs.Cleaning.{needs_of, tightened, joined, with_let
 use crate::parts::{
     add_copy, common, divided, divides_known, has_unknown, joined_columns, known_part, unknown_part,
 };
+use crate::unknowns::Unknowns;
 use cf_linear::row::Row;
 use cf_linear::system::{Step, System};
 use cf_tree::memory::NoMemory;
@@ -55,14 +56,14 @@ pub fn clean(alloc: Global, system: System) -> Result<Cleaned, NoMemory>
     cleaned_system(alloc, system)
 }
 
-#[tactic(auto, using(crate::proofs::CleanLaws::clean_is))]
 fn cleaned_system(alloc: Global, system: System) -> Result<Cleaned, NoMemory>
     requires { EachRow (AreBelow (system_of system).next) (system_of system).inequalities }
     ensures { IfOk result (λ c. cleaned c ≡ clean (system_of system)) }
 {
-    let needs = needs_of(alloc, &system)?;
-    let tight = tightened(alloc, &system)?;
-    let equations = with_unknowns(alloc, &system.unknown, &system.equations)?;
+    let unknown = Unknowns::of(alloc, &system.unknown)?;
+    let needs = needs_of(alloc, &unknown, &system)?;
+    let tight = tightened(alloc, &unknown, &system)?;
+    let equations = with_unknowns(alloc, &unknown, &system.equations)?;
     joined(alloc, system, equations, tight, needs)
 }
 
@@ -108,11 +109,11 @@ fn both_steps(first: Vec<Step>, second: Vec<Step>) -> Result<Vec<Step>, NoMemory
 
 // The needs of the equations without unknowns, and then of the inequalities.
 #[tactic(auto, using(crate::proofs::CleanLaws::steps_append))]
-fn needs_of(alloc: Global, system: &System) -> Result<Vec<Step>, NoMemory>
-    ensures { IfOk result (λ s. map step_of s.items ≡ needs_of (system_of system.now)) }
+fn needs_of(alloc: Global, unknown: &Unknowns, system: &System) -> Result<Vec<Step>, NoMemory>
+    ensures { IfOk result (λ s. map step_of s.items ≡ needs_of unknown.now (system_of system.now)) }
 {
-    let equations = bare_rows(alloc, &system.unknown, &system.equations)?;
-    let inequalities = bare_rows(alloc, &system.unknown, &system.inequalities)?;
+    let equations = bare_rows(alloc, unknown, &system.equations)?;
+    let inequalities = bare_rows(alloc, unknown, &system.inequalities)?;
     let zeros = zero_needs(alloc, &equations)?;
     let nonnegs = nonneg_needs(alloc, &inequalities)?;
     let steps = both_steps(zeros, nonnegs)?;
@@ -140,7 +141,7 @@ fn nonneg_needs(alloc: Global, rows: &[Row]) -> Result<Vec<Step>, NoMemory>
 }
 
 // The rows that hold an unknown.
-fn with_unknowns(alloc: Global, unknown: &[u32], rows: &[Row]) -> Result<Vec<Row>, NoMemory>
+fn with_unknowns(alloc: Global, unknown: &Unknowns, rows: &[Row]) -> Result<Vec<Row>, NoMemory>
     ensures { IfOk result (λ s. s.items ≡ filter (has_unknown unknown.now) rows.now) }
 {
     let mut out = Vec::new(alloc);
@@ -151,7 +152,7 @@ fn with_unknowns(alloc: Global, unknown: &[u32], rows: &[Row]) -> Result<Vec<Row
 }
 
 // The rows that hold none.
-fn bare_rows(alloc: Global, unknown: &[u32], rows: &[Row]) -> Result<Vec<Row>, NoMemory>
+fn bare_rows(alloc: Global, unknown: &Unknowns, rows: &[Row]) -> Result<Vec<Row>, NoMemory>
     ensures { IfOk result (λ s. s.items ≡ filter (λ r. not (has_unknown unknown.now r)) rows.now) }
 {
     let mut out = Vec::new(alloc);
@@ -182,17 +183,17 @@ fn has_row(row: &Row, rows: &[Row]) -> bool
 }
 
 // The inequalities that hold an unknown, tightened.
-fn tightened(alloc: Global, system: &System) -> Result<TightenedRows, NoMemory>
+fn tightened(alloc: Global, unknown: &Unknowns, system: &System) -> Result<TightenedRows, NoMemory>
     requires { EachRow (AreBelow (system_of system.now).next) (system_of system.now).inequalities }
-    ensures { IfOk result (λ t. tightened_of t ≡ tightened (system_of system.now)) }
+    ensures { IfOk result (λ t. tightened_of t ≡ tightened unknown.now (system_of system.now)) }
 {
-    let held = with_unknowns(alloc, &system.unknown, &system.inequalities)?;
-    tighten_all(alloc, &system.unknown, system.next, &held)
+    let held = with_unknowns(alloc, unknown, &system.inequalities)?;
+    tighten_all(alloc, unknown, system.next, &held)
 }
 
 fn tighten_all(
     alloc: Global,
-    unknown: &[u32],
+    unknown: &Unknowns,
     next: u32,
     rows: &[Row],
 ) -> Result<TightenedRows, NoMemory>
@@ -213,7 +214,7 @@ fn tighten_all(
 }
 
 // The row, tightened by the greatest common divisor of its unknowns' coefficients.
-fn tighten_row(alloc: Global, unknown: &[u32], next: u32, row: &Row) -> Result<Tight, NoMemory>
+fn tighten_row(alloc: Global, unknown: &Unknowns, next: u32, row: &Row) -> Result<Tight, NoMemory>
     requires { AreBelow next row.now }
     ensures { IfOk result (λ t. tight_of t ≡ tighten_row unknown.now next row.now) }
 {
@@ -225,7 +226,7 @@ fn tighten_row(alloc: Global, unknown: &[u32], next: u32, row: &Row) -> Result<T
 #[tactic(auto, using(crate::proofs::CleanLaws::unchanged_row, crate::proofs::CleanLaws::rounded_row, crate::proofs::CleanLaws::floored_row, crate::proofs::PartLemmas::part_below))]
 fn tighten_by(
     alloc: Global,
-    unknown: &[u32],
+    unknown: &Unknowns,
     next: u32,
     row: &Row,
     unknowns: &Row,

@@ -6,6 +6,7 @@ mod dropping;
 mod parts;
 mod searching;
 mod selection;
+mod unknowns;
 
 pub use crate::cleaning::{Cleaned, clean};
 pub use crate::dropping::{Dropped, drop_output};

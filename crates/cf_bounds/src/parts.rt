@@ -2,28 +2,22 @@
 ghost use Rattle.std.specs.Prelude.{◌≡◌, ◌<◌, ◌++◌, ◌∷◌, [], pos, ◌<ℤ◌, length, get_or, if◌then◌else◌, IfOk, OnOk};
 ghost use Rattle.cf_num.specs.Limit.{IsWithin};
 ghost use Rattle.cf_linear.specs.Rows.{AreBelow, IsRow};
-ghost use Rattle.cf_linear.specs.Steps.{has_column, has_unknown, unknown_part, known_part, common};
+ghost use Rattle.cf_linear.specs.Steps.{has_unknown, unknown_part, known_part, common};
 ghost use Rattle.cf_bounds.specs.Sides.{divides_known, divided_by};
 
+use crate::unknowns::Unknowns;
 use cf_linear::row::Row;
 use cf_num::{fdiv, gcd, modulo};
 use cf_tree::memory::NoMemory;
 use std::alloc::Global;
 
-// Whether the column is one of the unknowns.
-pub(crate) fn has_column(unknown: &[u32], column: u32) -> bool
-    ensures { result ≡ has_column unknown.now column }
-{
-    unknown.iter().any(|u| *u == column)
-}
-
 // Whether the row holds an unknown.
 #[tactic(auto, using(crate::proofs::PartLemmas::unknown_next, crate::proofs::PartLemmas::unknown_end))]
-pub(crate) fn has_unknown(unknown: &[u32], row: &Row) -> bool
+pub(crate) fn has_unknown(unknown: &Unknowns, row: &Row) -> bool
     ensures { result ≡ has_unknown unknown.now row.now }
 {
     for i in 0..row.len() {
-        if has_column(unknown, row.at(i).0) {
+        if unknown.has(row.at(i).0) {
             return true;
         }
     }
@@ -32,12 +26,12 @@ pub(crate) fn has_unknown(unknown: &[u32], row: &Row) -> bool
 
 // The unknowns of the row with their entries.
 #[tactic(auto, using(crate::proofs::PartLemmas::unknown_more, crate::proofs::PartLemmas::unknown_below))]
-pub(crate) fn unknown_part(alloc: Global, unknown: &[u32], row: &Row) -> Result<Row, NoMemory>
+pub(crate) fn unknown_part(alloc: Global, unknown: &Unknowns, row: &Row) -> Result<Row, NoMemory>
     ensures { IfOk result (λ r. r ≡ unknown_part unknown.now row.now) }
 {
     let mut out = Row::empty(alloc);
     for i in 0..row.len() {
-        let wanted = has_column(unknown, row.at(i).0);
+        let wanted = unknown.has(row.at(i).0);
         add_entry(&mut out, row, i, wanted)?;
     }
     Ok(out)
@@ -45,12 +39,12 @@ pub(crate) fn unknown_part(alloc: Global, unknown: &[u32], row: &Row) -> Result<
 
 // The other columns of the row with their entries.
 #[tactic(auto, using(crate::proofs::PartLemmas::known_more, crate::proofs::PartLemmas::known_below))]
-pub(crate) fn known_part(alloc: Global, unknown: &[u32], row: &Row) -> Result<Row, NoMemory>
+pub(crate) fn known_part(alloc: Global, unknown: &Unknowns, row: &Row) -> Result<Row, NoMemory>
     ensures { IfOk result (λ r. r ≡ known_part unknown.now row.now) }
 {
     let mut out = Row::empty(alloc);
     for i in 0..row.len() {
-        let wanted = !has_column(unknown, row.at(i).0);
+        let wanted = !unknown.has(row.at(i).0);
         add_entry(&mut out, row, i, wanted)?;
     }
     Ok(out)

@@ -36,13 +36,15 @@ binds_first : (bound : ℕ) (bs : List ℕ) (i stride : ℕ) (old new : List Val
     BindsAll (tuple_at bs (i % stride)) (old ++ (number (pos (i / stride)) ∷ [])) new → BindsAll (tuple_at (bound ∷ bs) i) old new
 binds_first bound bs i stride old new e h b =
     let low : i / count_below bs ≤ i = div-le_self i (count_below bs) in
-    binds_more (i / count_below bs) (tuple_at bs (i % count_below bs)) old new (omega arith) (rw (e, div_capped i (count_below bs) h, mod_capped i (count_below bs) h) at b)
+    binds_more (i / count_below bs) (tuple_at bs (i % count_below bs)) old new (omega arith)
+    (rw (e, div_capped i (count_below bs) h, mod_capped i (count_below bs) h) at b)
 
 -- what the walk binds from here on is bound by the whole walk
 pub record Binds (bounds : List ℕ) (index : ℕ) (old : List Value) (rest : List ℕ) (left : ℕ) (env : List Value) : Type 0 where
   pub binds : (new : List Value) → BindsAll (tuple_at rest left) env new → BindsAll (tuple_at bounds index) old new
 
-pub binds_next : (bounds : List ℕ) (index : ℕ) (old : List Value) (bound : ℕ) (bs : List ℕ) (left count : ℕ) (env next : List Value) → Binds bounds index old (bound ∷ bs) left env →
+pub binds_next : (bounds : List ℕ) (index : ℕ) (old : List Value) (bound : ℕ) (bs : List ℕ) (left count : ℕ) (env next : List Value) →
+    Binds bounds index old (bound ∷ bs) left env →
     count ≡ capped (count_below bs) → left < 2 ^ 64 - 1 → next ≡ env ++ (number (pos (left / count)) ∷ []) → Binds bounds index old bs (left % count) next
 binds_next bounds index old bound bs left count env next w e h n = record {
   binds = λ new b. w.binds new (binds_first bound bs left count env new e h (rw n at b));
@@ -53,7 +55,8 @@ below_some b zero i h = let z : b * zero ≡ zero = mul-zero b in omega arith
 below_some b (suc n) i h = omega arith
 
 -- what is left of the index lies below the bounds that are left
-pub next_in : (bound : ℕ) (bs : List ℕ) (left count : ℕ) → count ≡ capped (count_below bs) → left < 2 ^ 64 - 1 → left < count_below (bound ∷ bs) → left % count < count_below bs
+pub next_in : (bound : ℕ) (bs : List ℕ) (left count : ℕ) → count ≡ capped (count_below bs) → left < 2 ^ 64 - 1 → left < count_below (bound ∷ bs) →
+    left % count < count_below bs
 next_in bound bs left count e h l = rw (e, mod_capped left (count_below bs) h) (mod-lt left (below_some bound (count_below bs) left l))
 
 -- the elements of a set are within the limit

@@ -57,11 +57,13 @@ fresh_only false zs = tt
 
 sum_only : (cs : CodeTrees) (env : List Value) (z : ℤ) → Only IsNumber (sum_reached cs env z)
 sum_only no_codes env z = refl
-sum_only (code_more c cs) env z = then_only {A = ℤ} IsNumber (as_number (reached c env)) _ (λ x. then_only {A = ℤ} IsNumber (as_number (met (within (z +ℤ x)))) _ (λ s. sum_only cs env s))
+sum_only (code_more c cs) env z = then_only {A = ℤ} IsNumber (as_number (reached c env)) _
+    (λ x. then_only {A = ℤ} IsNumber (as_number (met (within (z +ℤ x)))) _ (λ s. sum_only cs env s))
 
 best_only : (better : ℤ → ℤ → ℤ) (cs : CodeTrees) (env : List Value) (z : Option ℤ) → Only IsNumber (best_reached better cs env z)
 best_only better no_codes env z = met_only (within (chosen z))
-best_only better (code_more c cs) env z = then_only {A = ℤ} IsNumber (as_number (reached c env)) _ (λ x. best_only better cs env (Some (choose_with better z x)))
+best_only better (code_more c cs) env z =
+    then_only {A = ℤ} IsNumber (as_number (reached c env)) _ (λ x. best_only better cs env (Some (choose_with better z x)))
 
 set_only : (cs : CodeTrees) (env : List Value) (zs : List ℤ) → Only IsElements (set_reached cs env zs)
 set_only no_codes env zs = refl
@@ -69,7 +71,8 @@ set_only (code_more c cs) env zs = then_only {A = ℤ} IsElements (as_number (re
 
 join_only : (join : List ℤ → List ℤ → List ℤ) (cs : CodeTrees) (env : List Value) (zs : Option (List ℤ)) → Only IsElements (join_reached join cs env zs)
 join_only join no_codes env zs = refl
-join_only join (code_more c cs) env zs = then_only {A = List ℤ} IsElements (as_set (reached c env)) _ (λ x. join_only join cs env (Some (joined_with join zs x)))
+join_only join (code_more c cs) env zs =
+    then_only {A = List ℤ} IsElements (as_set (reached c env)) _ (λ x. join_only join cs env (Some (joined_with join zs x)))
 
 number_only : (c : CodeTree) (env : List Value) → kind_of_tree c ≡ Number → Only IsNumber (reached c env)
 number_only (code_lit k) env h = met_only (within k)
@@ -78,8 +81,10 @@ number_only (code_var x) env h = cc
 number_only (code_set_of cs) env h = cc
 number_only (code_tuple cs) env h = cc
 number_only (code_sum cs) env h = sum_only cs env (pos 0)
-number_only (code_sub a b) env h = then_only {A = ℤ} IsNumber (as_number (reached a env)) _ (λ x. then_only {A = ℤ} IsNumber (as_number (reached b env)) _ (λ y. met_only (within (x -ℤ y))))
-number_only (code_mul a b) env h = then_only {A = ℤ} IsNumber (as_number (reached a env)) _ (λ x. then_only {A = ℤ} IsNumber (as_number (reached b env)) _ (λ y. met_only (within (x *ℤ y))))
+number_only (code_sub a b) env h = then_only {A = ℤ} IsNumber (as_number (reached a env)) _
+    (λ x. then_only {A = ℤ} IsNumber (as_number (reached b env)) _ (λ y. met_only (within (x -ℤ y))))
+number_only (code_mul a b) env h = then_only {A = ℤ} IsNumber (as_number (reached a env)) _
+    (λ x. then_only {A = ℤ} IsNumber (as_number (reached b env)) _ (λ y. met_only (within (x *ℤ y))))
 number_only (code_neg a) env h = then_only {A = ℤ} IsNumber (as_number (reached a env)) _ (λ x. met_only (within (neg_ℤ x)))
 number_only (code_div a k) env h = then_only {A = ℤ} IsNumber (as_number (reached a env)) _ (λ x. met_only (within (quotient x k)))
 number_only (code_mod a k) env h = then_only {A = ℤ} IsNumber (as_number (reached a env)) _ (λ x. met_only (within (remainder x k)))
@@ -115,7 +120,8 @@ truth_only (code_div a k) env h = cc
 truth_only (code_mod a k) env h = cc
 truth_only (code_min cs) env h = cc
 truth_only (code_max cs) env h = cc
-truth_only (code_compare o a b) env h = then_only {A = Value} IsTruth (as_first (reached a env)) _ (λ x. then_only {A = Value} IsTruth (as_first (reached b env)) _ (λ y. truth_is (compared o x y)))
+truth_only (code_compare o a b) env h = then_only {A = Value} IsTruth (as_first (reached a env)) _
+    (λ x. then_only {A = Value} IsTruth (as_first (reached b env)) _ (λ y. truth_is (compared o x y)))
 truth_only (code_divides k a) env h = then_only {A = ℤ} IsTruth (as_number (reached a env)) _ (λ x. truth_is (is_multiple k x))
 truth_only (code_and a b) env h = cc
 truth_only (code_or a b) env h = cc
@@ -123,7 +129,8 @@ truth_only (code_not a) env h = then_only {A = Bool} IsTruth (as_truth (reached 
 truth_only (code_union cs) env h = cc
 truth_only (code_inter cs) env h = cc
 truth_only (code_diff a b) env h = cc
-truth_only (code_subset a b) env h = then_only {A = List ℤ} IsTruth (as_set (reached a env)) _ (λ x. then_only {A = List ℤ} IsTruth (as_set (reached b env)) _ (λ y. truth_is (is_subset x y)))
+truth_only (code_subset a b) env h = then_only {A = List ℤ} IsTruth (as_set (reached a env)) _
+    (λ x. then_only {A = List ℤ} IsTruth (as_set (reached b env)) _ (λ y. truth_is (is_subset x y)))
 truth_only (code_card a) env h = cc
 truth_only (code_slice a b c) env h = cc
 truth_only (code_fresh a b) env h = cc
@@ -152,11 +159,17 @@ elements_only (code_or a b) env h = cc
 elements_only (code_not a) env h = cc
 elements_only (code_union cs) env h = join_only set_union cs env None
 elements_only (code_inter cs) env h = join_only set_inter cs env None
-elements_only (code_diff a b) env h = then_only {A = List ℤ} IsElements (as_set (reached a env)) _ (λ x. then_only {A = List ℤ} IsElements (as_set (reached b env)) _ (λ y. elements_is (set_diff x y)))
+elements_only (code_diff a b) env h = then_only {A = List ℤ} IsElements (as_set (reached a env)) _
+    (λ x. then_only {A = List ℤ} IsElements (as_set (reached b env)) _ (λ y. elements_is (set_diff x y)))
 elements_only (code_subset a b) env h = cc
 elements_only (code_card a) env h = cc
-elements_only (code_slice a b c) env h = then_only {A = List ℤ} IsElements (as_set (reached a env)) _ (λ x. then_only {A = ℤ} IsElements (as_number (reached b env)) _ (λ y. then_only {A = ℤ} IsElements (as_number (reached c env)) _ (λ z. elements_is (set_slice x (count_of y) (count_of z)))))
-elements_only (code_fresh a b) env h = then_only {A = List ℤ} IsElements (as_set (reached a env)) _ (λ x. then_only {A = ℤ} IsElements (as_number (reached b env)) _ (λ y. fresh_only (nat_le (greatest (set_fresh x (count_of y))) (2 ^ 127 - 1)) (set_fresh x (count_of y))))
+elements_only (code_slice a b c) env h =
+    then_only {A = List ℤ} IsElements (as_set (reached a env)) _
+    (λ x. then_only {A = ℤ} IsElements (as_number (reached b env)) _
+    (λ y. then_only {A = ℤ} IsElements (as_number (reached c env)) _ (λ z. elements_is (set_slice x (count_of y) (count_of z)))))
+elements_only (code_fresh a b) env h = then_only {A = List ℤ} IsElements (as_set (reached a env)) _
+    (λ x. then_only {A = ℤ} IsElements (as_number (reached b env)) _
+    (λ y. fresh_only (nat_le (greatest (set_fresh x (count_of y))) (2 ^ 127 - 1)) (set_fresh x (count_of y))))
 elements_only (code_if t a b) env h = cc
 elements_only (code_let first count a b) env h = cc
 elements_only (code_solve n arms) env h = cc
@@ -176,13 +189,15 @@ one_set (given vs) zs p e = let v : elements_of (first_of vs) ≡ zs = cc in ap 
 one_set (none_from n) zs p e = cc
 one_set past zs p e = cc
 
-pub number_ok : (c : CodeTree) (env : List Value) (z : ℤ) → kind_of_tree c ≡ Number → as_number (reached c env) ≡ given z → reached c env ≡ given (number z ∷ [])
+pub number_ok : (c : CodeTree) (env : List Value) (z : ℤ) → kind_of_tree c ≡ Number → as_number (reached c env) ≡ given z →
+    reached c env ≡ given (number z ∷ [])
 number_ok c env z k e = one_number (reached c env) z (number_only c env k) e
 
 pub truth_ok : (c : CodeTree) (env : List Value) (b : Bool) → kind_of_tree c ≡ Truth → as_truth (reached c env) ≡ given b → reached c env ≡ given (truth b ∷ [])
 truth_ok c env b k e = one_truth (reached c env) b (truth_only c env k) e
 
-pub set_ok : (c : CodeTree) (env : List Value) (zs : List ℤ) → kind_of_tree c ≡ Elements → as_set (reached c env) ≡ given zs → reached c env ≡ given (elements zs ∷ [])
+pub set_ok : (c : CodeTree) (env : List Value) (zs : List ℤ) → kind_of_tree c ≡ Elements → as_set (reached c env) ≡ given zs →
+    reached c env ≡ given (elements zs ∷ [])
 set_ok c env zs k e = one_set (reached c env) zs (elements_only c env k) e
 
 -- what stops the seen stops what is seen
@@ -225,7 +240,8 @@ compared_by Le k v w t h = refl
 compared_by Gt k v w t h = refl
 compared_by Ge k v w t h = refl
 
-compare_both : (o : Order) (k : Kind) (r s : Reached (List Value)) (x y : ℤ) → is_numeric o k ≡ true → (k ≡ Number → Only IsNumber r) → as_number r ≡ given x → as_number s ≡ given y →
+compare_both : (o : Order) (k : Kind) (r s : Reached (List Value)) (x y : ℤ) → is_numeric o k ≡ true → (k ≡ Number → Only IsNumber r) → as_number r ≡ given x →
+    as_number s ≡ given y →
     as_truth (then_reached (as_first r) (λ v. then_reached (as_first s) (λ w. gives_truth (compared o v w)))) ≡ given (compared o (number x) (number y))
 compare_both o k (given vs) (given ws) x y t h e f =
     let v : number_of (first_of vs) ≡ x = cc in
@@ -236,11 +252,13 @@ compare_both o k (given vs) past x y t h e f = cc
 compare_both o k (none_from n) s x y t h e f = cc
 compare_both o k past s x y t h e f = cc
 
-pub compare_ok : (o : Order) (a b : CodeTree) (env : List Value) (x y : ℤ) → is_numeric o (kind_of_tree a) ≡ true → as_number (reached a env) ≡ given x → as_number (reached b env) ≡ given y →
+pub compare_ok : (o : Order) (a b : CodeTree) (env : List Value) (x y : ℤ) → is_numeric o (kind_of_tree a) ≡ true → as_number (reached a env) ≡ given x →
+    as_number (reached b env) ≡ given y →
     as_truth (reached (code_compare o a b) env) ≡ given (compared o (number x) (number y))
 compare_ok o a b env x y t e f = compare_both o (kind_of_tree a) (reached a env) (reached b env) x y t (number_only a env) e f
 
-stop_first : (e : Stop) (r : Reached (List Value)) (go : Value → Reached (List Value)) → StopIs e (as_number r) → StopIs e (as_truth (then_reached (as_first r) go))
+stop_first : (e : Stop) (r : Reached (List Value)) (go : Value → Reached (List Value)) → StopIs e (as_number r) →
+    StopIs e (as_truth (then_reached (as_first r) go))
 stop_first NoMemory r go h = tt
 stop_first Past (given vs) go h = cc
 stop_first Past (none_from n) go h = cc
@@ -249,7 +267,8 @@ stop_first (Unsolved m) (given vs) go h = cc
 stop_first (Unsolved m) (none_from n) go h = cc
 stop_first (Unsolved m) past go h = cc
 
-pub compare_left : (e : Stop) (o : Order) (a b : CodeTree) (env : List Value) → StopIs e (as_number (reached a env)) → StopIs e (as_truth (reached (code_compare o a b) env))
+pub compare_left : (e : Stop) (o : Order) (a b : CodeTree) (env : List Value) → StopIs e (as_number (reached a env)) →
+    StopIs e (as_truth (reached (code_compare o a b) env))
 compare_left e o a b env h = stop_first e (reached a env) _ h
 
 stop_second : (e : Stop) (r s : Reached (List Value)) (x : ℤ) (go : Value → Value → Reached (List Value)) → as_number r ≡ given x → StopIs e (as_number s) →
@@ -258,11 +277,13 @@ stop_second e (given vs) s x go f h = stop_first e s (go (first_of vs)) h
 stop_second e (none_from n) s x go f h = cc
 stop_second e past s x go f h = cc
 
-pub compare_right : (e : Stop) (o : Order) (a b : CodeTree) (env : List Value) (x : ℤ) → as_number (reached a env) ≡ given x → StopIs e (as_number (reached b env)) → StopIs e (as_truth (reached (code_compare o a b) env))
+pub compare_right : (e : Stop) (o : Order) (a b : CodeTree) (env : List Value) (x : ℤ) → as_number (reached a env) ≡ given x →
+    StopIs e (as_number (reached b env)) → StopIs e (as_truth (reached (code_compare o a b) env))
 compare_right e o a b env x f h = stop_second e (reached a env) (reached b env) x _ f h
 
 -- a number that a form of numbers gives, appended
-pub more_number : {A : Type 0} (c : CodeTree) (env : List Value) (z : ℤ) (r : Result A Stop) (old new : List RunValue) → kind_of_tree c ≡ Number → as_number (reached c env) ≡ given z →
+pub more_number : {A : Type 0} (c : CodeTree) (env : List Value) (z : ℤ) (r : Result A Stop) (old new : List RunValue) → kind_of_tree c ≡ Number →
+    as_number (reached c env) ≡ given z →
     OnOk r (new ≡ old ++ (Int z ∷ [])) → IfErr r (λ e. e ≡ NoMemory) → MoreAnswer r (plains old) (plains new) (reached c env)
 more_number c env z (Ok u) old new k e ok err = (number z ∷ [], number_ok c env z k e, rw (ok, map-append) refl)
 more_number c env z (Err s) old new k e ok err = rw err tt

@@ -14,7 +14,8 @@ use Rattle.cf_eval.specs.Reading.{Read, is_before_comma, is_before_brace, after_
 use Rattle.cf_eval.proofs.NumberLemmas.{some_is, number_takes, number_again}
 use Rattle.cf_eval.proofs.ReadLemmas.{commas, commas_more, commas_last, commas_front}
 
-white_by : (b : ℕ) (s : List ℕ) (v : Bool) → is_space b ≡ v → (list_all is_space s ≡ true → AllAre is_space s) → (v && list_all is_space s) ≡ true → AllAre is_space (b ∷ s)
+white_by : (b : ℕ) (s : List ℕ) (v : Bool) → is_space b ≡ v → (list_all is_space s ≡ true → AllAre is_space s) → (v && list_all is_space s) ≡ true →
+    AllAre is_space (b ∷ s)
 white_by b s true w next e = (w, next e)
 white_by b s false w next e = cc
 
@@ -45,7 +46,8 @@ white_stops : (s : List ℕ) → AllAre is_space s → StopsAt is_digit s
 white_stops [] h = tt
 white_stops (c ∷ s) h = digit_white c h.0
 
-item_white : (limit : ℕ) (part : List ℕ) (z u : ℤ) (rest : List ℕ) (v : Bool) → list_all is_space rest ≡ v → (w : List ℕ) × (after_spaces part ≡ w ++ rest) × IsNumber limit w u → cond v (Some u) None ≡ Some z → IsItem limit part z
+item_white : (limit : ℕ) (part : List ℕ) (z u : ℤ) (rest : List ℕ) (v : Bool) → list_all is_space rest ≡ v →
+    (w : List ℕ) × (after_spaces part ≡ w ++ rest) × IsNumber limit w u → cond v (Some u) None ≡ Some z → IsItem limit part z
 item_white limit part z u rest false is t e = cc
 item_white limit part z u rest true is t e =
     record {
@@ -92,7 +94,8 @@ parts_by limit part parts done all (Some z) is next e =
     let r = next (done ++ z ∷ []) e in
     (z ∷ r.0, r.1 ∙ append_assoc done (z ∷ []) r.0, (item_by limit part z (number_at limit (after_spaces part)) refl is, r.2))
 
-parts_takes : (limit : ℕ) (parts : List (List ℕ)) (done all : List ℤ) → items_from limit parts done ≡ Some all → (zs : List ℤ) × (all ≡ done ++ zs) × AreParts limit parts zs
+parts_takes : (limit : ℕ) (parts : List (List ℕ)) (done all : List ℤ) → items_from limit parts done ≡ Some all →
+    (zs : List ℤ) × (all ≡ done ++ zs) × AreParts limit parts zs
 parts_takes limit [] done all e = ([], sym (some_is done all e) ∙ sym (append-nil done), tt)
 parts_takes limit (part ∷ parts) done all e = parts_by limit part parts done all (item_at limit part) refl (λ new. parts_takes limit parts new all) e
 
@@ -176,7 +179,8 @@ comma_parts limit part rest z h =
 
 last_part : (limit : ℕ) (part : List ℕ) (z : ℤ) → IsItem limit part z → commas part ≡ part ∷ []
 last_part limit part z h =
-    let len : prefix_len is_before_comma (part ++ []) ≡ length part = prefix_len-run is_before_comma part [] (item_all is_before_comma before_comma limit part z h, tt) in
+    let len : prefix_len is_before_comma (part ++ []) ≡ length part =
+    prefix_len-run is_before_comma part [] (item_all is_before_comma before_comma limit part z h, tt) in
     let same : prefix_len is_before_comma part ≡ length part = rw append-nil at len in
     commas_last part (length part) (sym same) (omega arith) ∙ rw (take_all (length part) part (omega arith)) refl
 
@@ -203,7 +207,8 @@ items_of : (limit : ℕ) (text : List ℕ) (zs : List ℤ) → AreParts limit (c
 items_of limit text [] h = absurd (no_parts limit text h)
 items_of limit text (z ∷ zs) h = by zs (cases_lt (prefix_len is_before_comma text) (length text)) h (λ t. items_of limit t zs)
   where
-    by : (ys : List ℤ) → (prefix_len is_before_comma text < length text) ⊎ (length text ≤ prefix_len is_before_comma text) → AreParts limit (commas text) (z ∷ ys) →
+    by : (ys : List ℤ) → (prefix_len is_before_comma text < length text) ⊎ (length text ≤ prefix_len is_before_comma text) →
+        AreParts limit (commas text) (z ∷ ys) →
         ((t : List ℕ) → AreParts limit (commas t) ys → AreItems limit t ys) → AreItems limit text (z ∷ ys)
     by [] (inl fits) g next =
         let p = rw (commas_more text (prefix_len is_before_comma text) refl fits) at g in
@@ -222,9 +227,11 @@ items_of limit text (z ∷ zs) h = by zs (cases_lt (prefix_len is_before_comma t
 pub body_again : (limit : ℕ) (body : List ℕ) (zs : List ℤ) → IsBody limit body zs → body_at limit body ≡ Some zs
 body_again limit body zs (inl h) = rw (all_white body h.0, h.1) refl
 body_again limit body zs (inr h) =
-    rw (false_from_ne_true (list_all is_space body) (λ e. items_show limit body zs h (white_all body e))) (parts_again limit (commas body) zs [] (parts_of limit body zs h))
+    rw (false_from_ne_true (list_all is_space body) (λ e. items_show limit body zs h (white_all body e)))
+    (parts_again limit (commas body) zs [] (parts_of limit body zs h))
 
-body_by : (limit : ℕ) (body : List ℕ) (zs : List ℤ) (v : Bool) → list_all is_space body ≡ v → cond v (Some []) (items_from limit (commas body) []) ≡ Some zs → IsBody limit body zs
+body_by : (limit : ℕ) (body : List ℕ) (zs : List ℤ) (v : Bool) → list_all is_space body ≡ v → cond v (Some []) (items_from limit (commas body) []) ≡ Some zs →
+    IsBody limit body zs
 body_by limit body zs true is e = inl (white_all body is, sym (some_is [] zs e))
 body_by limit body zs false is e =
     let r = parts_takes limit (commas body) [] zs e in

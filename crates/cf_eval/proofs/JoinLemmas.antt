@@ -17,7 +17,8 @@ join_more : {X : Type 0} (f : X → List ℕ) (c : ℕ) (xs : List X) (i : ℕ) 
 join_more f c [] i d fits = absurd (omega (arith, fits))
 join_more f c (x ∷ xs) zero d fits = refl
 join_more f c (x ∷ xs) (suc i) d fits =
-    rw (take_more (x ∷ xs) (suc i) d fits, map-append f (take i xs) (get_or xs i d ∷ []), take-nil {A = ℕ} i) (join_last c (f x) (map f (take i xs)) (f (get_or xs i d)))
+    rw (take_more (x ∷ xs) (suc i) d fits, map-append f (take i xs) (get_or xs i d ∷ []), take-nil {A = ℕ} i)
+    (join_last c (f x) (map f (take i xs)) (f (get_or xs i d)))
 
 -- a step of a loop that writes them
 pub joined_more : {X : Type 0} (f : X → List ℕ) (c : ℕ) (xs : List X) (i : ℕ) (d : X) (old now gapped new : List ℕ) → i < length xs →

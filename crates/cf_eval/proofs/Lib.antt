@@ -10,3 +10,4 @@ pub mod Reaching
 pub mod SetLists
 pub mod Tries
 pub mod FormLemmas
+pub mod UnionLemmas

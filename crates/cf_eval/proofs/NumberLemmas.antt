@@ -49,19 +49,29 @@ digits_by limit n minus text z rest (Some v) all some is e =
     }
 
 digits_some : (limit : ℕ) (minus : Bool) (text : List ℕ) (z : ℤ) (rest : List ℕ) (v : Bool) → eqb (prefix_len is_digit text) 0 ≡ v →
-    cond v None (digits_read limit minus (prefix_len is_digit text) text (at_most limit (digits_value (take (prefix_len is_digit text) text)))) ≡ Some (z, rest) → TakesDigits limit minus text z rest
+    cond v None (digits_read limit minus (prefix_len is_digit text) text (at_most limit (digits_value (take (prefix_len is_digit text) text)))) ≡ Some (z, rest)
+    → TakesDigits limit minus text z rest
 digits_some limit minus text z rest true is e = cc
 digits_some limit minus text z rest false is e =
-    digits_by limit (prefix_len is_digit text) minus text z rest (at_most limit (digits_value (take (prefix_len is_digit text) text))) ((run_of is_digit text).0)
+    digits_by limit (prefix_len is_digit text) minus text z rest (at_most limit (digits_value (take (prefix_len is_digit text) text)))
+    ((run_of is_digit text).0)
     (let n = length-prefix_len is_digit text in let h : 0 < prefix_len is_digit text = grind (arith, nat_tests) in omega arith) refl e
 
-pub digits_takes : (limit : ℕ) (minus : Bool) (text : List ℕ) (z : ℤ) (rest : List ℕ) → digits_at limit minus text ≡ Some (z, rest) → TakesDigits limit minus text z rest
+pub digits_takes : (limit : ℕ) (minus : Bool) (text : List ℕ) (z : ℤ) (rest : List ℕ) → digits_at limit minus text ≡ Some (z, rest) →
+    TakesDigits limit minus text z rest
 digits_takes limit minus text z rest e = digits_some limit minus text z rest (eqb (prefix_len is_digit text) 0) refl e
 
-pub digits_again : (limit : ℕ) (minus : Bool) (w rest : List ℕ) → IsNatural limit w → StopsAt is_digit rest → digits_at limit minus (w ++ rest) ≡ Some (signed minus (digits_value w), rest)
+pub digits_again : (limit : ℕ) (minus : Bool) (w rest : List ℕ) → IsNatural limit w → StopsAt is_digit rest →
+    digits_at limit minus (w ++ rest) ≡ Some (signed minus (digits_value w), rest)
 digits_again limit minus w rest h stops =
     let some : eqb (length w) 0 ≡ false = grind (arith, nat_tests, h.some) in
-    rw (prefix_len-run is_digit w rest (h.digits, stops), take_at w rest (length w) refl, at_most-fits limit (digits_value w) h.fits, some, drop_at w rest (length w) refl) refl
+    rw (
+      prefix_len-run is_digit w rest (h.digits, stops),
+      take_at w rest (length w) refl,
+      at_most-fits limit (digits_value w) h.fits,
+      some,
+      drop_at w rest (length w) refl,
+    ) refl
 
 pub number_again : (limit : ℕ) (w rest : List ℕ) (z : ℤ) → IsNumber limit w z → StopsAt is_digit rest → number_at limit (w ++ rest) ≡ Some (z, rest)
 number_again limit [] rest z h stops = absurd h
@@ -75,7 +85,8 @@ number_from : (limit : ℕ) (w : List ℕ) (z : ℤ) → IsNatural limit w → z
 number_from limit [] z n is = absurd (omega (arith, n.some))
 number_from limit (b ∷ w) z n is = inr (n, is)
 
-number_by : (limit : ℕ) (b : ℕ) (text : List ℕ) (z : ℤ) (rest : List ℕ) (v : Bool) → eqb b 45 ≡ v → cond v (digits_at limit true text) (digits_at limit false (b ∷ text)) ≡ Some (z, rest) →
+number_by : (limit : ℕ) (b : ℕ) (text : List ℕ) (z : ℤ) (rest : List ℕ) (v : Bool) → eqb b 45 ≡ v →
+    cond v (digits_at limit true text) (digits_at limit false (b ∷ text)) ≡ Some (z, rest) →
     (w : List ℕ) × (b ∷ text ≡ w ++ rest) × IsNumber limit w z
 number_by limit b text z rest true is e =
     let t = digits_takes limit true text z rest e in
@@ -84,6 +95,7 @@ number_by limit b text z rest false is e =
     let t = digits_takes limit false (b ∷ text) z rest e in
     (t.w, t.whole, number_from limit t.w z t.natural t.value)
 
-pub number_takes : (limit : ℕ) (text : List ℕ) (z : ℤ) (rest : List ℕ) → number_at limit text ≡ Some (z, rest) → (w : List ℕ) × (text ≡ w ++ rest) × IsNumber limit w z
+pub number_takes : (limit : ℕ) (text : List ℕ) (z : ℤ) (rest : List ℕ) → number_at limit text ≡ Some (z, rest) →
+    (w : List ℕ) × (text ≡ w ++ rest) × IsNumber limit w z
 number_takes limit [] z rest e = cc
 number_takes limit (b ∷ text) z rest e = number_by limit b text z rest (eqb b 45) refl e

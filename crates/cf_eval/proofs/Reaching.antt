@@ -23,7 +23,8 @@ none_cond false n go = refl
 
 bind_parts : {A B : Type 0} (g : Got A) (a : ℕ) (go : A → Path B) →
     reached_of (then_path (record { gives = g; peak = a }) go) ≡ then_reached (reached_of (record { gives = g; peak = a })) (λ x. reached_of (go x))
-bind_parts (got x) a go = max_test (2 ^ 127 - 1) a (go x).peak (reached_to (go x).gives) past ∙ sym (then_cond (nat_le a (2 ^ 127 - 1)) x (λ x. reached_of (go x)))
+bind_parts (got x) a go = max_test (2 ^ 127 - 1) a (go x).peak (reached_to (go x).gives) past ∙
+    sym (then_cond (nat_le a (2 ^ 127 - 1)) x (λ x. reached_of (go x)))
 bind_parts (none_at n) a go = none_cond (nat_le a (2 ^ 127 - 1)) n (λ x. reached_of (go x))
 
 then_same : {A B : Type 0} (r : Reached A) (f g : A → Reached B) → ((x : A) → f x ≡ g x) → then_reached r f ≡ then_reached r g
@@ -36,7 +37,8 @@ bind_is : {A B : Type 0} (p : Path A) (r : Reached A) (go : A → Path B) (to : 
 bind_is p r go to e h = bind_parts p.gives p.peak go ∙ ap (λ s. then_reached s (λ x. reached_of (go x))) e ∙ then_same r _ to h
 
 -- what is given is used through its first value, as f sees it
-seen_then : {A B : Type 0} (f : Value → A) (r : Reached (List Value)) (to : A → Reached B) → then_reached r (λ vs. to (f (first_of vs))) ≡ then_reached (seen f (as_first r)) to
+seen_then : {A B : Type 0} (f : Value → A) (r : Reached (List Value)) (to : A → Reached B) →
+    then_reached r (λ vs. to (f (first_of vs))) ≡ then_reached (seen f (as_first r)) to
 seen_then f (given vs) to = refl
 seen_then f (none_from n) to = refl
 seen_then f past to = refl
@@ -46,11 +48,13 @@ first_then (given vs) to = refl
 first_then (none_from n) to = refl
 first_then past to = refl
 
-seen_is : {A B : Type 0} (f : Value → A) (p : Path (List Value)) (r : Reached (List Value)) (go : A → Path B) (to : A → Reached B) → reached_of p ≡ r → ((z : A) → reached_of (go z) ≡ to z) →
+seen_is : {A B : Type 0} (f : Value → A) (p : Path (List Value)) (r : Reached (List Value)) (go : A → Path B) (to : A → Reached B) → reached_of p ≡ r →
+    ((z : A) → reached_of (go z) ≡ to z) →
     reached_of (then_path p (λ vs. go (f (first_of vs)))) ≡ then_reached (seen f (as_first r)) to
 seen_is f p r go to e h = bind_is p r _ (λ vs. to (f (first_of vs))) e (λ vs. h _) ∙ seen_then f r to
 
-value_is : {B : Type 0} (p : Path (List Value)) (r : Reached (List Value)) (go : Value → Path B) (to : Value → Reached B) → reached_of p ≡ r → ((v : Value) → reached_of (go v) ≡ to v) →
+value_is : {B : Type 0} (p : Path (List Value)) (r : Reached (List Value)) (go : Value → Path B) (to : Value → Reached B) → reached_of p ≡ r →
+    ((v : Value) → reached_of (go v) ≡ to v) →
     reached_of (then_path p (λ vs. go (first_of vs))) ≡ then_reached (as_first r) to
 value_is p r go to e h = bind_is p r _ (λ vs. to (first_of vs)) e (λ vs. h _) ∙ first_then r to
 
@@ -68,18 +72,21 @@ meets_value_is (elements zs) = refl
 
 meets_all_is : (ks : List ℕ) → reached_of (meets_all ks) ≡ met_all ks
 meets_all_is [] = refl
-meets_all_is (k ∷ ks) = bind_is (meets (pos k)) _ _ _ (meets_is (pos k)) (λ v. bind_is (meets_all ks) _ (λ vs. gives_only (v ++ vs)) _ (meets_all_is ks) (λ vs. refl))
+meets_all_is (k ∷ ks) = bind_is (meets (pos k)) _ _ _ (meets_is (pos k))
+    (λ v. bind_is (meets_all ks) _ (λ vs. gives_only (v ++ vs)) _ (meets_all_is ks) (λ vs. refl))
 
 if_is : {A : Type 0} (t : Bool) (p q : Path A) (r s : Reached A) → reached_of p ≡ r → reached_of q ≡ s → reached_of (cond t p q) ≡ cond t r s
 if_is true p q r s e f = e
 if_is false p q r s e f = f
 
-if_some_is : (o : Option (List Value)) (go : List Value → Path (Option (List Value))) (to : List Value → Reached (Option (List Value))) → ((env : List Value) → reached_of (go env) ≡ to env) →
+if_some_is : (o : Option (List Value)) (go : List Value → Path (Option (List Value))) (to : List Value → Reached (Option (List Value))) →
+    ((env : List Value) → reached_of (go env) ≡ to env) →
     reached_of (path_if_some o go) ≡ if_some o to
 if_some_is None go to h = refl
 if_some_is (Some env) go to h = h env
 
-or_later_is : (o : Option (List Value)) (p : Path (Option (List Value))) (r : Reached (Option (List Value))) → reached_of p ≡ r → reached_of (path_or_later o p) ≡ or_later o r
+or_later_is : (o : Option (List Value)) (p : Path (Option (List Value))) (r : Reached (Option (List Value))) → reached_of p ≡ r →
+    reached_of (path_or_later o p) ≡ or_later o r
 or_later_is None p r e = e
 or_later_is (Some vs) p r e = refl
 
@@ -87,7 +94,8 @@ or_none_is : (n : ℕ) (o : Option (List Value)) → reached_of (path_or_none n 
 or_none_is n None = refl
 or_none_is n (Some vs) = refl
 
-first_is : (n k : ℕ) (f : ℕ → Path (Option (List Value))) (g : ℕ → Reached (Option (List Value))) → ((i : ℕ) → reached_of (f i) ≡ g i) → reached_of (first_from n k f) ≡ first_reached n k g
+first_is : (n k : ℕ) (f : ℕ → Path (Option (List Value))) (g : ℕ → Reached (Option (List Value))) → ((i : ℕ) → reached_of (f i) ≡ g i) →
+    reached_of (first_from n k f) ≡ first_reached n k g
 first_is zero k f g h = refl
 first_is (suc n) k f g h = bind_is (f k) _ _ _ (h k) (λ found. or_later_is found _ _ (first_is n (suc k) f g h))
 
@@ -131,8 +139,10 @@ mutual
       (λ x. seen_is elements_of (path b env) _ (λ y. path_gives_truth (is_subset x y)) _ (reached_is b env) (λ y. refl))
   reached_is (code_card a) env = seen_is elements_of (path a env) _ (λ x. meets (pos (length x))) _ (reached_is a env) (λ x. meets_is (pos (length x)))
   reached_is (code_slice a b c) env =
-      seen_is elements_of (path a env) _ (λ x. then_path (path b env) (λ y. then_path (path c env) (λ z. path_gives_set (set_slice x (count_of (number_in y)) (count_of (number_in z)))))) _ (reached_is a env)
-      (λ x. seen_is number_of (path b env) _ (λ y. then_path (path c env) (λ z. path_gives_set (set_slice x (count_of y) (count_of (number_in z))))) _ (reached_is b env)
+      seen_is elements_of (path a env) _ (λ x. then_path (path b env)
+      (λ y. then_path (path c env) (λ z. path_gives_set (set_slice x (count_of (number_in y)) (count_of (number_in z)))))) _ (reached_is a env)
+      (λ x. seen_is number_of (path b env) _ (λ y. then_path (path c env) (λ z. path_gives_set (set_slice x (count_of y) (count_of (number_in z))))) _
+      (reached_is b env)
       (λ y. seen_is number_of (path c env) _ (λ z. path_gives_set (set_slice x (count_of y) (count_of z))) _ (reached_is c env) (λ z. refl)))
   reached_is (code_fresh a b) env =
       seen_is elements_of (path a env) _ (λ x. then_path (path b env) (λ y. meets_set (set_fresh x (count_of (number_in y))))) _ (reached_is a env)
@@ -148,7 +158,8 @@ mutual
 
   set_is : (cs : CodeTrees) (env : List Value) (done : List ℤ) → reached_of (set_path cs env done) ≡ set_reached cs env done
   set_is no_codes env done = refl
-  set_is (code_more c cs) env done = seen_is number_of (path c env) _ (λ x. set_path cs env (set_put x done)) _ (reached_is c env) (λ x. set_is cs env (set_put x done))
+  set_is (code_more c cs) env done = seen_is number_of (path c env) _ (λ x. set_path cs env (set_put x done)) _ (reached_is c env)
+      (λ x. set_is cs env (set_put x done))
 
   sum_is : (cs : CodeTrees) (env : List Value) (z : ℤ) → reached_of (sum_path cs env z) ≡ sum_reached cs env z
   sum_is no_codes env z = refl
@@ -159,12 +170,15 @@ mutual
   best_is : (better : ℤ → ℤ → ℤ) (cs : CodeTrees) (env : List Value) (z : Option ℤ) → reached_of (best_path better cs env z) ≡ best_reached better cs env z
   best_is better no_codes env z = meets_is (chosen z)
   best_is better (code_more c cs) env z =
-      seen_is number_of (path c env) _ (λ x. best_path better cs env (Some (choose_with better z x))) _ (reached_is c env) (λ x. best_is better cs env (Some (choose_with better z x)))
+      seen_is number_of (path c env) _ (λ x. best_path better cs env (Some (choose_with better z x))) _ (reached_is c env)
+      (λ x. best_is better cs env (Some (choose_with better z x)))
 
-  join_is : (join : List ℤ → List ℤ → List ℤ) (cs : CodeTrees) (env : List Value) (zs : Option (List ℤ)) → reached_of (join_path join cs env zs) ≡ join_reached join cs env zs
+  join_is : (join : List ℤ → List ℤ → List ℤ) (cs : CodeTrees) (env : List Value) (zs : Option (List ℤ)) →
+      reached_of (join_path join cs env zs) ≡ join_reached join cs env zs
   join_is join no_codes env zs = refl
   join_is join (code_more c cs) env zs =
-      seen_is elements_of (path c env) _ (λ x. join_path join cs env (Some (joined_with join zs x))) _ (reached_is c env) (λ x. join_is join cs env (Some (joined_with join zs x)))
+      seen_is elements_of (path c env) _ (λ x. join_path join cs env (Some (joined_with join zs x))) _ (reached_is c env)
+      (λ x. join_is join cs env (Some (joined_with join zs x)))
 
   items_is : (is : ItemTrees) (env : List Value) → reached_of (items_path is env) ≡ items_reached is env
   items_is no_items env = refl

@@ -19,7 +19,8 @@ commas_more rest n is fits =
     let h : prefix_len is_before_comma rest < length rest = omega arith in
     rw is (slice_split_first (λ b. eqb b 44) rest 0 h)
 
-commas_by : (v : Bool) (b : ℕ) (rest : List ℕ) → (length rest ≤ prefix_len is_before_comma rest → commas rest ≡ take (prefix_len is_before_comma rest) rest ∷ []) →
+commas_by : (v : Bool) (b : ℕ) (rest : List ℕ) →
+    (length rest ≤ prefix_len is_before_comma rest → commas rest ≡ take (prefix_len is_before_comma rest) rest ∷ []) →
     length (b ∷ rest) ≤ cond (not v) (1 + prefix_len is_before_comma rest) 0 →
     cond v ([] ∷ commas rest) (onto_first b (commas rest)) ≡ take (cond (not v) (1 + prefix_len is_before_comma rest) 0) (b ∷ rest) ∷ []
 commas_by true b rest next h = absurd (omega arith)
@@ -32,21 +33,25 @@ commas_none (b ∷ rest) h = commas_by (eqb b 44) b rest (commas_none rest) h
 pub commas_last : (rest : List ℕ) (n : ℕ) → n ≡ prefix_len is_before_comma rest → length rest ≤ n → commas rest ≡ take n rest ∷ []
 commas_last rest n is many = let h : length rest ≤ prefix_len is_before_comma rest = omega arith in rw is (commas_none rest h)
 
-pub commas_front : (rest : List ℕ) (n : ℕ) → n ≡ prefix_len is_before_comma rest → (n < length rest) ⊎ (length rest ≤ n) → (more : List (List ℕ)) × (commas rest ≡ take n rest ∷ more)
+pub commas_front : (rest : List ℕ) (n : ℕ) → n ≡ prefix_len is_before_comma rest → (n < length rest) ⊎ (length rest ≤ n) →
+    (more : List (List ℕ)) × (commas rest ≡ take n rest ∷ more)
 commas_front rest n is (inl h) = (commas (drop (n + 1) rest), commas_more rest n is h)
 commas_front rest n is (inr h) = ([], commas_last rest n is h)
 
 -- no number
-pub parts_none : (limit n : ℕ) (rest : List ℕ) (done : List ℤ) → n ≡ prefix_len is_before_comma rest → added done (item_at limit (take n rest)) ≡ None → items_from limit (commas rest) done ≡ None
+pub parts_none : (limit n : ℕ) (rest : List ℕ) (done : List ℤ) → n ≡ prefix_len is_before_comma rest → added done (item_at limit (take n rest)) ≡ None →
+    items_from limit (commas rest) done ≡ None
 parts_none limit n rest done is none =
     let f = commas_front rest n is (cases_lt n (length rest)) in
     rw (f.1, none) refl
 
-pub parts_last : (limit n : ℕ) (rest : List ℕ) (done new : List ℤ) → n ≡ prefix_len is_before_comma rest → length rest ≤ n → added done (item_at limit (take n rest)) ≡ Some new →
+pub parts_last : (limit n : ℕ) (rest : List ℕ) (done new : List ℤ) → n ≡ prefix_len is_before_comma rest → length rest ≤ n →
+    added done (item_at limit (take n rest)) ≡ Some new →
     items_from limit (commas rest) done ≡ Some new
 parts_last limit n rest done new is many some = rw (commas_last rest n is many, some) refl
 
-pub parts_more : (limit n : ℕ) (rest : List ℕ) (done new : List ℤ) → n ≡ prefix_len is_before_comma rest → n < length rest → added done (item_at limit (take n rest)) ≡ Some new →
+pub parts_more : (limit n : ℕ) (rest : List ℕ) (done new : List ℤ) → n ≡ prefix_len is_before_comma rest → n < length rest →
+    added done (item_at limit (take n rest)) ≡ Some new →
     items_from limit (commas rest) done ≡ items_from limit (commas (drop (n + 1) rest)) new
 parts_more limit n rest done new is fits some = rw (commas_more rest n is fits, some) refl
 

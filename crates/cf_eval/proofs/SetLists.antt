@@ -13,4 +13,5 @@ or_turned false false = refl
 
 pub set_of_more : (xs : List ℤ) (x : ℤ) → set_of (xs ++ x ∷ []) ≡ set_put x (set_of xs)
 set_of_more xs x = rising_ext _ _ (rising_set_of (xs ++ x ∷ [])) (rising_put x (set_of xs) (rising_set_of xs))
-    (λ z. has-set_of (xs ++ x ∷ []) z ∙ has-append xs (x ∷ []) z ∙ or_turned (has xs z) (int_eq x z) ∙ sym (has-put x (set_of xs) z ∙ rw (has-set_of xs z) refl))
+    (λ z. has-set_of (xs ++ x ∷ []) z ∙ has-append xs (x ∷ []) z ∙ or_turned (has xs z) (int_eq x z) ∙
+    sym (has-put x (set_of xs) z ∙ rw (has-set_of xs z) refl))

@@ -32,7 +32,11 @@ set_by limit text body behind v rest (Some zs) whole is e =
     let pair = some_is {A = Value × List ℕ} (elements (set_of zs), behind) (v, rest) e in
     let value : elements (set_of zs) ≡ v = ap (λ x. x.0) pair in
     let back : behind ≡ rest = ap (λ x. x.1) pair in
-    rw (← value, ← back) (123 ∷ (body ++ 125 ∷ []), ap (λ x. 123 ∷ x) (whole ∙ sym (append_assoc body (125 ∷ []) behind)), (body, zs, refl, body_takes limit body zs is, refl))
+    rw (← value, ← back) (
+      123 ∷ (body ++ 125 ∷ []),
+      ap (λ x. 123 ∷ x) (whole ∙ sym (append_assoc body (125 ∷ []) behind)),
+      (body, zs, refl, body_takes limit body zs is, refl),
+    )
 
 brace_is : (b : ℕ) → is_before_brace b ≡ false → b ≡ 125
 brace_is b e = grind (arith, nat_tests)
@@ -48,12 +52,14 @@ braces_by limit text v rest true is e =
     rw feed at (split_at_first (λ b. eqb b 125) text 0 fits) in
     set_by limit text (take (prefix_len is_before_brace text) text) (drop (prefix_len is_before_brace text + 1) text) v rest _ whole refl e
 
-open_by : (limit b : ℕ) (text : List ℕ) (v : Value) (rest : List ℕ) (t : Bool) → eqb b 123 ≡ t → cond t (braces_at limit (prefix_len is_before_brace text) text) None ≡ Some (v, rest) →
+open_by : (limit b : ℕ) (text : List ℕ) (v : Value) (rest : List ℕ) (t : Bool) → eqb b 123 ≡ t →
+    cond t (braces_at limit (prefix_len is_before_brace text) text) None ≡ Some (v, rest) →
     (w : List ℕ) × (b ∷ text ≡ w ++ rest) × IsValue limit base.Set w v
 open_by limit b text v rest false is e = cc
 open_by limit b text v rest true is e = rw (eqb-true b 123 is) (braces_by limit text v rest _ refl e)
 
-pub set_takes : (limit : ℕ) (text : List ℕ) (v : Value) (rest : List ℕ) → set_at limit text ≡ Some (v, rest) → (w : List ℕ) × (text ≡ w ++ rest) × IsValue limit base.Set w v
+pub set_takes : (limit : ℕ) (text : List ℕ) (v : Value) (rest : List ℕ) → set_at limit text ≡ Some (v, rest) →
+    (w : List ℕ) × (text ≡ w ++ rest) × IsValue limit base.Set w v
 set_takes limit [] v rest e = cc
 set_takes limit (b ∷ text) v rest e = open_by limit b text v rest (eqb b 123) refl e
 
@@ -61,10 +67,13 @@ pub set_again : (limit : ℕ) (w rest : List ℕ) (v : Value) → IsValue limit 
 set_again limit w rest (number z) h = absurd h
 set_again limit w rest (truth t) h = absurd h
 set_again limit w rest (elements es) h =
-    let at : prefix_len is_before_brace (h.0 ++ 125 ∷ rest) ≡ length h.0 = prefix_len-run is_before_brace h.0 (125 ∷ rest) (body_before_brace limit h.0 h.1 h.3, refl) in
-    let fits : nat_lt (length h.0) (length (h.0 ++ 125 ∷ rest)) ≡ true = lt-ltb (length h.0) (length (h.0 ++ 125 ∷ rest)) (omega (arith, length-append h.0 (125 ∷ rest))) in
+    let at : prefix_len is_before_brace (h.0 ++ 125 ∷ rest) ≡ length h.0 =
+    prefix_len-run is_before_brace h.0 (125 ∷ rest) (body_before_brace limit h.0 h.1 h.3, refl) in
+    let fits : nat_lt (length h.0) (length (h.0 ++ 125 ∷ rest)) ≡ true =
+    lt-ltb (length h.0) (length (h.0 ++ 125 ∷ rest)) (omega (arith, length-append h.0 (125 ∷ rest))) in
     let back : drop (length h.0 + 1) (h.0 ++ 125 ∷ rest) ≡ rest = drop-append-add h.0 (125 ∷ rest) 1 in
-    rw (h.2, append_assoc, at, fits, take_at h.0 (125 ∷ rest) (length h.0) refl, body_again limit h.0 h.1 h.3, h.4) (ap (λ x. Some (elements (set_of h.1), x)) back)
+    rw (h.2, append_assoc, at, fits, take_at h.0 (125 ∷ rest) (length h.0) refl, body_again limit h.0 h.1 h.3, h.4)
+    (ap (λ x. Some (elements (set_of h.1), x)) back)
 
 -- truth values
 starts_is : (p s : List ℕ) → starts_with nat_eq s p ≡ true → s ≡ p ++ drop (length p) s
@@ -88,12 +97,14 @@ false_by limit text v rest false is e = cc
 false_by limit text v rest true is e = truth_value limit false text (codes "false") v rest is refl e
 
 true_by : (limit : ℕ) (text : List ℕ) (v : Value) (rest : List ℕ) (t : Bool) → starts_with nat_eq text (codes "true") ≡ t →
-    cond {A = Read Value} t (Some (truth true, drop 4 text)) (cond {A = Read Value} (starts_with nat_eq text (codes "false")) (Some (truth false, drop 5 text)) None) ≡ Some (v, rest) →
+    cond {A = Read Value} t (Some (truth true, drop 4 text))
+    (cond {A = Read Value} (starts_with nat_eq text (codes "false")) (Some (truth false, drop 5 text)) None) ≡ Some (v, rest) →
     (w : List ℕ) × (text ≡ w ++ rest) × IsValue limit base.Bool w v
 true_by limit text v rest false is e = false_by limit text v rest (starts_with nat_eq text (codes "false")) refl e
 true_by limit text v rest true is e = truth_value limit true text (codes "true") v rest is refl e
 
-pub truth_takes : (limit : ℕ) (text : List ℕ) (v : Value) (rest : List ℕ) → truth_at text ≡ Some (v, rest) → (w : List ℕ) × (text ≡ w ++ rest) × IsValue limit base.Bool w v
+pub truth_takes : (limit : ℕ) (text : List ℕ) (v : Value) (rest : List ℕ) → truth_at text ≡ Some (v, rest) →
+    (w : List ℕ) × (text ≡ w ++ rest) × IsValue limit base.Bool w v
 truth_takes limit text v rest e = true_by limit text v rest (starts_with nat_eq text (codes "true")) refl e
 
 pub truth_again : (limit : ℕ) (w rest : List ℕ) (v : Value) → IsValue limit base.Bool w v → truth_at (w ++ rest) ≡ Some (v, rest)
@@ -102,7 +113,8 @@ truth_again limit w rest (elements z) h = absurd h
 truth_again limit w rest (truth true) h = rw h refl
 truth_again limit w rest (truth false) h = rw h refl
 
-number_read_takes : (limit : ℕ) (text : List ℕ) (v : Value) (rest : List ℕ) (o : Read ℤ) → number_at limit text ≡ o → number_read o ≡ Some (v, rest) → (w : List ℕ) × (text ≡ w ++ rest) × IsValue limit base.Int w v
+number_read_takes : (limit : ℕ) (text : List ℕ) (v : Value) (rest : List ℕ) (o : Read ℤ) → number_at limit text ≡ o → number_read o ≡ Some (v, rest) →
+    (w : List ℕ) × (text ≡ w ++ rest) × IsValue limit base.Int w v
 number_read_takes limit text v rest None is e = cc
 number_read_takes limit text v rest (Some (u, more)) is e =
     let pair = some_is {A = Value × List ℕ} (number u, more) (v, rest) e in
@@ -110,12 +122,14 @@ number_read_takes limit text v rest (Some (u, more)) is e =
     let behind : more ≡ rest = ap (λ x. x.1) pair in
     rw (← value, ← behind) (number_takes limit text u more is)
 
-pub value_takes : (limit : ℕ) (b : Base) (text : List ℕ) (v : Value) (rest : List ℕ) → value_at limit b text ≡ Some (v, rest) → (w : List ℕ) × (text ≡ w ++ rest) × IsValue limit b w v
+pub value_takes : (limit : ℕ) (b : Base) (text : List ℕ) (v : Value) (rest : List ℕ) → value_at limit b text ≡ Some (v, rest) →
+    (w : List ℕ) × (text ≡ w ++ rest) × IsValue limit b w v
 value_takes limit base.Int text v rest e = number_read_takes limit text v rest (number_at limit text) refl e
 value_takes limit base.Bool text v rest e = truth_takes limit text v rest e
 value_takes limit base.Set text v rest e = set_takes limit text v rest e
 
-pub value_again : (limit : ℕ) (b : Base) (w rest : List ℕ) (v : Value) → IsValue limit b w v → StopsAt is_digit rest → value_at limit b (w ++ rest) ≡ Some (v, rest)
+pub value_again : (limit : ℕ) (b : Base) (w rest : List ℕ) (v : Value) → IsValue limit b w v → StopsAt is_digit rest →
+    value_at limit b (w ++ rest) ≡ Some (v, rest)
 value_again limit base.Int w rest (number z) h stops = rw (number_again limit w rest z h stops) refl
 value_again limit base.Int w rest (truth t) h stops = absurd h
 value_again limit base.Int w rest (elements z) h stops = absurd h
@@ -153,7 +167,8 @@ not_white limit base.Set w rest (elements zs) h = rw h.2 refl
 not_white limit base.Set w rest (number t) h = absurd h
 not_white limit base.Set w rest (truth t) h = absurd h
 
-pub Spells-again : (limit : ℕ) (bases : List Base) (line : List ℕ) (vs done : List Value) → Spells limit bases line vs → values_from limit bases line done ≡ Some (done ++ vs)
+pub Spells-again : (limit : ℕ) (bases : List Base) (line : List ℕ) (vs done : List Value) → Spells limit bases line vs →
+    values_from limit bases line done ≡ Some (done ++ vs)
 Spells-again limit [] line [] done r = rw (all_white line r, append-nil) refl
 Spells-again limit [] line (v ∷ vs) done r = absurd r
 Spells-again limit (b ∷ bases) line [] done r = absurd r
@@ -168,15 +183,19 @@ end_by limit line done all false is e = cc
 end_by limit line done all true is e = ([], sym (some_is done all e) ∙ sym (append-nil done), white_all line is)
 
 more_by : (limit : ℕ) (b : Base) (bases : List Base) (line more : List ℕ) (done all : List Value) (v : Value) (t : Bool) → is_apart bases more ≡ t →
-    value_at limit b (after_spaces line) ≡ Some (v, more) → ((new : List Value) → values_from limit bases more new ≡ Some all → (vs : List Value) × (all ≡ new ++ vs) × Spells limit bases more vs) →
+    value_at limit b (after_spaces line) ≡ Some (v, more) →
+    ((new : List Value) → values_from limit bases more new ≡ Some all → (vs : List Value) × (all ≡ new ++ vs) × Spells limit bases more vs) →
     cond t (values_from limit bases more (done ++ v ∷ [])) None ≡ Some all → (vs : List Value) × (all ≡ done ++ vs) × Spells limit (b ∷ bases) line vs
 more_by limit b bases line more done all v false is read next e = cc
 more_by limit b bases line more done all v true is read next e =
     let r = next (done ++ v ∷ []) e in
     let t = value_takes limit b (after_spaces line) v more read in
     let whole : line ≡ take (prefix_len is_space line) line ++ (t.0 ++ more) =
-    sym (take-append-drop (prefix_len is_space line) line) ∙ ap (λ x. take (prefix_len is_space line) line ++ x) t.1 in
-    (v ∷ r.0, r.1 ∙ append_assoc done (v ∷ []) r.0, (take (prefix_len is_space line) line, t.0, more, whole, (run_of is_space line).0, t.2, apart_is bases more is, r.2))
+    sym (take-append-drop (prefix_len is_space line) line) ∙ ap (λ x. take (prefix_len is_space line) line ++ x) t.1 in (
+      v ∷ r.0,
+      r.1 ∙ append_assoc done (v ∷ []) r.0,
+      (take (prefix_len is_space line) line, t.0, more, whole, (run_of is_space line).0, t.2, apart_is bases more is, r.2),
+    )
 
 value_by : (limit : ℕ) (b : Base) (bases : List Base) (line : List ℕ) (done all : List Value) (o : Read Value) → value_at limit b (after_spaces line) ≡ o →
     ((more : List ℕ) (new : List Value) → values_from limit bases more new ≡ Some all → (vs : List Value) × (all ≡ new ++ vs) × Spells limit bases more vs) →
@@ -191,10 +210,12 @@ Spells-takes limit (b ∷ bases) line done all e =
     value_by limit b bases line done all (value_at limit b (after_spaces line)) refl (λ more new. Spells-takes limit bases more new all) e
 
 -- what a reader of lines tells, both ways
-reads_found : (limit : ℕ) (bases : List Base) (line : List ℕ) (vs : List Value) → values_from limit bases (without_return line) [] ≡ Some vs → SpellsValues limit bases line vs
+reads_found : (limit : ℕ) (bases : List Base) (line : List ℕ) (vs : List Value) → values_from limit bases (without_return line) [] ≡ Some vs →
+    SpellsValues limit bases line vs
 reads_found limit bases line vs e = let r = Spells-takes limit bases (without_return line) [] vs e in rw r.1 r.2
 
-reads_only : (limit : ℕ) (bases : List Base) (line : List ℕ) (vs : List Value) → SpellsValues limit bases line vs → values_from limit bases (without_return line) [] ≡ Some vs
+reads_only : (limit : ℕ) (bases : List Base) (line : List ℕ) (vs : List Value) → SpellsValues limit bases line vs →
+    values_from limit bases (without_return line) [] ≡ Some vs
 reads_only limit bases line vs r = Spells-again limit bases (without_return line) vs [] r
 
 pub tells_from : (limit : ℕ) (bases : List Base) (line : List ℕ) (r : Result (Vec RunValue Global) LineFault) →

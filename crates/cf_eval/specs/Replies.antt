@@ -21,7 +21,8 @@ pub data IsReply (line_limit limit : ℕ) (t : RawTarget) (line : List ℕ) : Li
 -- the replies to lines, each with a line feed
 abbrev pub AreReplies : ℕ → ℕ → RawTarget → List (List ℕ) → List ℕ → Type 0
 AreReplies line_limit limit t [] out = out ≡ []
-AreReplies line_limit limit t (line ∷ ls) out = (text : List ℕ) × (more : List ℕ) × (out ≡ text ++ 10 ∷ more) × IsReply line_limit limit t line text × AreReplies line_limit limit t ls more
+AreReplies line_limit limit t (line ∷ ls) out =
+    (text : List ℕ) × (more : List ℕ) × (out ≡ text ++ 10 ∷ more) × IsReply line_limit limit t line text × AreReplies line_limit limit t ls more
 
 -- the replies to all lines of an input
 abbrev pub Replies : ℕ → ℕ → RawTarget → List ℕ → List ℕ → Type 0

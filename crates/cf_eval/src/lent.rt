@@ -13,7 +13,7 @@ ghost use Rattle.cf_eval.specs.Reached.{as_first, as_set, gives_set, gives_truth
 ghost use Rattle.cf_eval.specs.RunAnswers.{seen_or_zero};
 ghost use Rattle.cf_eval.specs.Seen.{plains};
 
-use crate::operate::Join;
+use crate::joining::{Join, join_two};
 use crate::quick::known;
 use crate::value::Value;
 use cf_set::Set;
@@ -154,7 +154,8 @@ fn lent_pair(
     b: &Code,
     env: &[Value],
 ) -> Result<Option<Set>, NoMemory>
-    ensures { IfOk result (λ s. FindsSet s (join_reached (join_of how) (code_more (code_tree a.now) (code_more (code_tree b.now) no_codes)) (plains env.now) None)) }
+    ensures { IfOk result (λ s. FindsSet s (join_reached (join_of how) (code_more (code_tree a.now) (code_more (code_tree b.now) no_codes)) (plains env.now)
+        None)) }
 {
     match (a, b) {
         (Code::Var(x), Code::Var(y)) => {
@@ -178,15 +179,6 @@ fn join_in(
             alloc, how, s, t,
         )?)),
         _ => Ok(None),
-    }
-}
-
-fn join_two(alloc: Global, how: Join, s: &Set, t: &Set) -> Result<Set, NoMemory>
-    ensures { IfOk result (λ both. both ≡ join_of how s.now t.now) }
-{
-    match how {
-        Join::Union => s.union(alloc, t),
-        Join::Inter => s.inter(alloc, t),
     }
 }
 
@@ -214,7 +206,8 @@ fn slice_in(
     start: i64,
     size: i64,
 ) -> Result<Option<Set>, NoMemory>
-    ensures { IfOk result (λ s. FindsSet s (then_reached (as_set (met_value (seen_or_zero v.entry))) (λ x. gives_set (set_slice x (count_of start) (count_of size))))) }
+    ensures { IfOk result (λ s. FindsSet s (then_reached (as_set (met_value (seen_or_zero v.entry)))
+        (λ x. gives_set (set_slice x (count_of start) (count_of size))))) }
 {
     match v {
         Some(Value::Elements(s)) => {

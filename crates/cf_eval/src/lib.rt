@@ -4,6 +4,7 @@
 mod braces;
 pub mod fault;
 mod given;
+mod joining;
 mod kind;
 mod lent;
 pub mod line;

@@ -4,12 +4,12 @@ ghost use Rattle.cf_num.specs.Limit.{IsWithin, within};
 ghost use Rattle.cf_tree.specs.Numbers.{quotient, remainder, count_of};
 ghost use Rattle.cf_tree.specs.Sets.{AreWithin, set_fresh, set_of, set_put};
 ghost use Rattle.cf_tree.specs.Values.{number, number_of, truth_of, compared, same_value};
-ghost use Rattle.cf_tree.specs.Meaning.{choose_with, joined_with, joined};
+ghost use Rattle.cf_tree.specs.Meaning.{choose_with};
 ghost use Rattle.cf_eval.specs.Forms.{is_number_kind, is_numeric};
 ghost use Rattle.cf_eval.specs.Reached.{as_number, as_set, met as met_reached, met_set};
 ghost use Rattle.cf_eval.specs.Seen.{plain};
 ghost use Rattle.cf_eval.specs.RunAnswers.{NumberAnswer, SetAnswer};
-ghost use Rattle.cf_eval.specs.Choice.{better_of, join_of};
+ghost use Rattle.cf_eval.specs.Choice.{better_of};
 
 use crate::given::{Stop, met_number};
 use crate::kind::Kind;
@@ -24,13 +24,6 @@ use std::alloc::Global;
 pub enum Side {
     Least,
     Greatest,
-}
-
-// How sets are joined.
-#[derive(Clone, Copy, Debug, PartialEq, Eq)]
-pub enum Join {
-    Union,
-    Inter,
 }
 
 pub fn divide(x: i128, k: i128) -> i128
@@ -99,19 +92,6 @@ pub fn better(side: Side, most: Option<i128>, x: i128) -> i128
         (None, _) => x,
         (Some(z), Side::Least) => z.min(x),
         (Some(z), Side::Greatest) => z.max(x),
-    }
-}
-
-// What was joined so far, joined with one more set.
-pub fn join_more(alloc: Global, how: Join, so_far: Option<Set>, more: Set) -> Result<Set, NoMemory>
-    ensures { IfOk result (λ s. s ≡ joined_with (join_of how) so_far more) }
-{
-    match so_far {
-        None => Ok(more),
-        Some(s) => match how {
-            Join::Union => s.union(alloc, &more),
-            Join::Inter => s.inter(alloc, &more),
-        },
     }
 }
 

@@ -13,11 +13,12 @@ use crate::given::{
     Given, Stop, limited, met_copy, met_number, met_number_of, narrow_number, number, push_copy,
     push_met, push_narrow, set, truth,
 };
+use crate::joining::{Join, join_more, join_runs};
 use crate::kind::{Kind, kind_of};
 use crate::lent::lent_set;
 use crate::operate::{
-    Join, Side, better, compare, compare_numbers, divide, empty, fresh, join_more, numeric,
-    product, push_element, remain,
+    Side, better, compare, compare_numbers, divide, empty, fresh, numeric, product, push_element,
+    remain,
 };
 use crate::quick::{known, known_truth};
 use crate::search::{count_of, push_tuple};
@@ -554,15 +555,12 @@ fn eval_join(alloc: Global, how: Join, parts: &[Code], env: &mut Vec<Value>) -> 
     ensures told { SetAnswer result (as_set (join_reached (join_of how) (code_trees parts.now) (plains env.old.items) None)) }
     ensures kept { OnOk result (env.new.items ≡ env.old.items) }
 {
-    let mut joined: Option<Set> = None;
+    let mut runs = Vec::new(alloc);
     for i in 0..parts.len() {
         let more = eval_set(alloc, &parts[i], env)?;
-        joined = Some(join_more(alloc, how, joined, more)?);
+        join_more(alloc, how, &mut runs, more)?;
     }
-    match joined {
-        None => Ok(empty(alloc)?),
-        Some(s) => Ok(s),
-    }
+    Ok(join_runs(alloc, how, runs)?)
 }
 
 // What the first arm gives whose needs hold at some tuple.

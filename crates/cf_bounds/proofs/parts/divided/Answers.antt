@@ -9,5 +9,6 @@ loop-i-preserved c =
     let g = back c.args.g c.requires.g_in in
     let q = back c.fdiv.result c.fdiv.ensures.fits in
     let k = back c.at-column.result.1 c.at-column.ensures.fits in
-    let e = rw (c.loop-i.invariant, q, c.fdiv.ensures.value, k, ap (λ x. x.0) c.at-column.ensures.value, ap (λ x. x.1) c.at-column.ensures.value, g) at c.in_ok-append.ensures.value in
+    let e = rw (c.loop-i.invariant, q, c.fdiv.ensures.value, k, ap (λ x. x.0) c.at-column.ensures.value, ap (λ x. x.1) c.at-column.ensures.value, g) at
+    c.in_ok-append.ensures.value in
     rw g (e ∙ sym (divided_more c.args.g c.args.row.now c.loop-i.i c.requires.positive h))

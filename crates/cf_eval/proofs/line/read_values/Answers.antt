@@ -12,6 +12,7 @@ loop-i-preserved c =
     record {
       goes =
           rw (c.in_ok-push.ensures.items, map-append plain c.loop-i.out.items _)
-          (sym (values_more c.args.limit c.args.types.now c.loop-i.i _ c.loop-i.rest.now c.in_ok-v.more.now (plains c.loop-i.out.items) (plain c.in_ok-v.v) (omega arith) v (sym apart)) ∙ c.loop-i.invariant.goes);
+          (sym (values_more c.args.limit c.args.types.now c.loop-i.i _ c.loop-i.rest.now c.in_ok-v.more.now (plains c.loop-i.out.items) (plain c.in_ok-v.v)
+          (omega arith) v (sym apart)) ∙ c.loop-i.invariant.goes);
       fits = rw c.in_ok-push.ensures.items (All-push IsFit c.loop-i.out.items c.in_ok-v.v c.loop-i.invariant.fits c.in_ok-v.ensures.fits);
     }

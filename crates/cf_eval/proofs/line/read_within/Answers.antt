@@ -6,4 +6,5 @@ returns-clause-told c = tells_from c.args.limit c.args.types.now c.args.line.now
 
 pub returns-clause-bases : goal.returns-clause-bases
 returns-clause-bases c =
-    told-bases c.args.limit c.args.types.now c.args.line.now _ (tells_from c.args.limit c.args.types.now c.args.line.now _ (rw c.trimmed.ensures at c.read_values.ensures.values))
+    told-bases c.args.limit c.args.types.now c.args.line.now _
+    (tells_from c.args.limit c.args.types.now c.args.line.now _ (rw c.trimmed.ensures at c.read_values.ensures.values))

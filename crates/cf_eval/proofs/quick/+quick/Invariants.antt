@@ -10,4 +10,5 @@ invariant-sum_of-loop-i l = sum_reached (code_trees (drop l.i l.parts)) (plains 
 
 abbrev pub invariant-best_of-loop-i : goal.invariant-best_of-loop-i
 invariant-best_of-loop-i l =
-    best_reached (better_of l.side) (code_trees (drop l.i l.parts)) (plains l.env) l.best ≡ best_reached (better_of l.side) (code_trees l.parts) (plains l.env) None
+    best_reached (better_of l.side) (code_trees (drop l.i l.parts)) (plains l.env) l.best ≡ best_reached (better_of l.side) (code_trees l.parts) (plains l.env)
+    None

@@ -3,7 +3,7 @@ use Rattle.cf_tree.specs.Meaning.{count_below}
 use Rattle.cf_tree.specs.Sets.{AreWithin, set_of}
 use Rattle.cf_num.specs.Limit.{IsWithin}
 use Rattle.cf_tree.specs.CodeView.{code_trees, item_trees, arm_tree, arm_trees}
-use Rattle.cf_eval.specs.Choice.{better_of, join_of}
+use Rattle.cf_eval.specs.Choice.{better_of, join_of, runs_joined}
 use Rattle.cf_eval.specs.Reached.{all_reached, set_reached, sum_reached, best_reached, join_reached, items_reached, arms_reached, arm_reached, tries_reached, bounds_of}
 use Rattle.cf_eval.specs.Seen.{plains, IsFit}
 use Rattle.cf_eval.specs.RunAnswers.{Extends, capped}
@@ -31,12 +31,14 @@ abbrev pub invariant-eval_best-loop-i : goal.invariant-eval_best-loop-i
 invariant-eval_best-loop-i l =
     (l.env.items ≡ l.fn.env.items)
     × (IfSome l.best IsWithin)
-    × (best_reached (better_of l.side) (code_trees (drop l.i l.parts)) (plains l.env.items) l.best ≡ best_reached (better_of l.side) (code_trees l.parts) (plains l.env.items) None)
+    × (best_reached (better_of l.side) (code_trees (drop l.i l.parts)) (plains l.env.items) l.best ≡ best_reached (better_of l.side) (code_trees l.parts)
+    (plains l.env.items) None)
 
 abbrev pub invariant-eval_join-loop-i : goal.invariant-eval_join-loop-i
 invariant-eval_join-loop-i l =
     (l.env.items ≡ l.fn.env.items)
-    × (join_reached (join_of l.how) (code_trees (drop l.i l.parts)) (plains l.env.items) l.joined ≡ join_reached (join_of l.how) (code_trees l.parts) (plains l.env.items) None)
+    × (join_reached (join_of l.how) (code_trees (drop l.i l.parts)) (plains l.env.items) (runs_joined l.how l.runs.items) ≡ join_reached (join_of l.how) (code_trees l.parts)
+    (plains l.env.items) None)
 
 abbrev pub invariant-eval_arms-loop-i : goal.invariant-eval_arms-loop-i
 invariant-eval_arms-loop-i l =
@@ -52,4 +54,5 @@ abbrev pub invariant-eval_arm-loop-index : goal.invariant-eval_arm-loop-index
 invariant-eval_arm-loop-index l =
     (l.env.items ≡ l.fn.env.items)
     × (l.count ≡ capped (count_below (bounds_of (arm_tree l.arm))))
-    × (tries_reached (arm_tree l.arm) (plains l.env.items) (count_below (bounds_of (arm_tree l.arm)) - l.index) l.index ≡ arm_reached (arm_tree l.arm) (plains l.fn.env.items))
+    × (tries_reached (arm_tree l.arm) (plains l.env.items) (count_below (bounds_of (arm_tree l.arm)) - l.index) l.index ≡ arm_reached (arm_tree l.arm)
+    (plains l.fn.env.items))

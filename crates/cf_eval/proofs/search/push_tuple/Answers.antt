@@ -18,11 +18,14 @@ bounds-preserved c =
     let left = c.bounds.left in
     let count = c.count_behind-count.result in
     let low = mod-le left count in
-    let pushed : plains c.push_number.new.env.items ≡ plains c.bounds.env.items ++ (number (pos (left / count)) ∷ []) = rw (c.in_ok-push_number.ensures.ok, map-append) refl in
+    let pushed : plains c.push_number.new.env.items ≡ plains c.bounds.env.items ++ (number (pos (left / count)) ∷ []) =
+    rw (c.in_ok-push_number.ensures.ok, map-append) refl in
     record {
       count = c.count_behind-count.ensures;
-      left_in = next_in bound others left count c.count_behind-count.ensures c.bounds.invariant.left_low (rw c.in-Some.ensures.cases.0 at c.bounds.invariant.left_in);
+      left_in = next_in bound others left count c.count_behind-count.ensures c.bounds.invariant.left_low
+          (rw c.in-Some.ensures.cases.0 at c.bounds.invariant.left_in);
       left_low = omega arith;
       kept = extends_more c.args.env.now.items c.bounds.env.items _ c.push_number.new.env.items c.bounds.invariant.kept c.in_ok-push_number.ensures.ok;
-      binds = binds_next _ _ _ bound others left count _ _ (rw c.in-Some.ensures.cases.0 at c.bounds.invariant.binds) c.count_behind-count.ensures c.bounds.invariant.left_low pushed;
+      binds = binds_next _ _ _ bound others left count _ _ (rw c.in-Some.ensures.cases.0 at c.bounds.invariant.binds) c.count_behind-count.ensures
+          c.bounds.invariant.left_low pushed;
     }
