@@ -325,7 +325,8 @@ module _ (scope bases : List Base) (k : ArmBuilder) (m : IsMade scope k bases) w
       (how_computes bases k.names m.numbers w o s) m
       (λ e v a. how_agrees k.names e v a w o)
 
-pub wider_let : (Q : ℕ → Type 0) (names : ColumnLevels) (c level : ℕ) → ((d : ℕ) → Q d → HasName names d) → (d : ℕ) → (d ≡ c) ⊎ Q d → HasName ((c, level) ∷ names) d
+pub wider_let : (Q : ℕ → Type 0) (names : ColumnLevels) (c level : ℕ) → ((d : ℕ) → Q d → HasName names d) → (d : ℕ) → (d ≡ c) ⊎ Q d →
+    HasName ((c, level) ∷ names) d
 wider_let Q names c level f d (inl s) = inr (inl s)
 wider_let Q names c level f d (inr q) = elim (f d q) as (λ _. HasName ((c, level) ∷ names) d) [ inl z ↦ inl z | inr i ↦ inr (inr i) ]
 

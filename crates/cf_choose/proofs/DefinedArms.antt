@@ -42,11 +42,11 @@ how_written (row_how r) s d = s
 how_written (greatest bs) s d = pairs_written bs s d
 how_written (least bs) s d = pairs_written bs s d
 
-back_written : (ws : List (ℕ × How)) → BackSmall ws → BackDivides ws → BackWritten ws
+pub back_written : (ws : List (ℕ × How)) → BackSmall ws → BackDivides ws → BackWritten ws
 back_written [] s d = tt
 back_written ((x, w) ∷ ws) s d = (how_written w s.0 d.0, back_written ws s.1 d.1)
 
-steps_written : (ms : List Step) → StepsSmall ms → StepsDivide ms → StepsWritten ms
+pub steps_written : (ms : List Step) → StepsSmall ms → StepsDivide ms → StepsWritten ms
 steps_written [] s d = tt
 steps_written (floor_of c r g ∷ ms) s d = ((s.0.0, (d.0, s.0.1)), steps_written ms s.1 d.1)
 steps_written (need_nonneg r ∷ ms) s d = (s.0, steps_written ms s.1 d.1)

@@ -185,7 +185,8 @@ columns_fit l r n few s h =
     fit (length l.numbers) (length l.out_numbers) (rel_size r) (rel_quotients r) n (2 ^ length l.inputs) (2 ^ set_count l) s h (rel_quotients-le r)
     (pow_small (length l.inputs) (omega arith)) (pow_small (set_count l) few)
   where
-    fit : (a b s q n i j : ℕ) → n ≡ capped s → (a < LEVEL_LIMIT) × (b < LEVEL_LIMIT) × (n < LEVEL_LIMIT) → q ≤ s → i ≤ 64 → j ≤ 64 → a + i + b + j - 1 + q < 2 ^ 32
+    fit : (a b s q n i j : ℕ) → n ≡ capped s → (a < LEVEL_LIMIT) × (b < LEVEL_LIMIT) × (n < LEVEL_LIMIT) → q ≤ s → i ≤ 64 → j ≤ 64 →
+        a + i + b + j - 1 + q < 2 ^ 32
     fit a b s q n i j e h k x y = let u = h.0 in let v = h.1 in let w = h.2 in omega arith
 
 -- ---- the systems

@@ -18,8 +18,12 @@ use cf_tree::code::{Arm, Code, Item};
 use cf_tree::memory::NoMemory;
 use std::alloc::Global;
 
-// The arm of a case, with all that its elimination made.
-pub(crate) fn arm(
+/// The arm of a case, with the searches, lets and needs that its elimination made, in order, and how its
+/// unknowns are computed, in the order in which they are.
+///
+/// # Errors
+/// `NoMemory` where memory ran out.
+pub fn arm(
     alloc: Global,
     layout: &Layout,
     bounds: &[Search],
@@ -106,7 +110,8 @@ fn gives(
     requires room { first_free (plain_layout layout.now) < 2 ^ 32 }
     requires levels { sources.regions + 2 * 2 ^ length layout.now.inputs.items < 2 ^ 32 }
     requires last { layout.now.scope + (length layout.now.out_numbers.items + length layout.now.out_sets.items) < 2 ^ 32 }
-    ensures { IfOk result (λ cs. map code_tree cs.items ≡ map (output_code (plain_layout layout.now) names.now sources.regions sources.fresh) (range_with_len layout.now.scope (length layout.now.out_numbers.items + length layout.now.out_sets.items))) }
+    ensures { IfOk result (λ cs. map code_tree cs.items ≡ map (output_code (plain_layout layout.now) names.now sources.regions sources.fresh)
+        (range_with_len layout.now.scope (length layout.now.out_numbers.items + length layout.now.out_sets.items))) }
 {
     let mut codes = Vec::new(alloc);
     for i in 0..layout.out_numbers.len() + layout.out_sets.len() {

@@ -68,7 +68,8 @@ impl ArmBuilder {
     pub(crate) fn regions(&mut self, alloc: Global, layout: &Layout) -> Result<(), NoMemory>
         requires sets { set_count (plain_layout layout.now) ≤ MOST_SETS }
         requires room { first_free (plain_layout layout.now) < 2 ^ 32 }
-        ensures { OnOk result (SameBuilder (builder_of self.new) (fold (let_region (plain_layout layout.now)) (builder_of self.old) (masks (length layout.now.inputs.items)))) }
+        ensures { OnOk result (SameBuilder (builder_of self.new)
+            (fold (let_region (plain_layout layout.now)) (builder_of self.old) (masks (length layout.now.inputs.items)))) }
     {
         for mask in 1..layout.input_regions() {
             self.region(alloc, layout, mask)?;

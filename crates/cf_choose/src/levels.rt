@@ -13,7 +13,7 @@ use std::alloc::Global;
 
 /// Of variables in scope, of numbers among them, of outputs and of what an elimination makes there are
 /// fewer than this, so that levels and columns are numbers of 32 bits.
-pub(crate) const LEVEL_LIMIT: usize = 1 << 29;
+pub const LEVEL_LIMIT: usize = 1 << 29;
 
 // Whether the set form holds the variable.
 fn set_holds(x: u32, set: &SetTerm) -> bool
@@ -115,9 +115,13 @@ fn held(alloc: Global, levels: &[u32], rel: &Rel) -> Result<Vec<u32>, NoMemory>
     Ok(out)
 }
 
-// The levels of a choose: of the parameters those that occur in the relation, and of the outputs
-// all.
-pub(crate) fn layout(
+/// The levels of a choose, where the variables in scope have these bases by level and the outputs,
+/// behind them, those of `outputs`: of the parameters those that occur in the relation, and of the
+/// outputs all.
+///
+/// # Errors
+/// `NoMemory` where memory ran out.
+pub fn layout(
     alloc: Global,
     scope: &[Base],
     outputs: &[Base],

@@ -65,8 +65,11 @@ pub fn solve(
     }
 }
 
-// Whether the sets and the cases are within their limits.
-fn counts(layout: &Layout, rel: &Rel) -> Result<(), ChooseFault>
+/// Whether the sets and the cases are within their limits.
+///
+/// # Errors
+/// `Refused` exactly where the sets or else the cases pass their limit.
+pub fn counts(layout: &Layout, rel: &Rel) -> Result<(), ChooseFault>
     ensures { CountIs (case_refusal (plain_layout layout.now) (rel_tree rel.now)) result }
 {
     let sets = layout.inputs.len() as u64 + layout.out_sets.len() as u64;

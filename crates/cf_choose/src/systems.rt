@@ -20,8 +20,12 @@ use cf_linear::system::{Layout, System};
 use cf_tree::rel::Rel;
 use std::alloc::Global;
 
-// The first systems of the cases of the relation, in order.
-pub(crate) fn systems(alloc: Global, layout: &Layout, rel: &Rel) -> Result<Vec<System>, RowFault>
+/// The first systems of the cases of the relation, in order. Its layout is the choose's.
+///
+/// # Errors
+/// `Past` exactly where a written or guard row passes the limit of numbers, and `NoMemory` where memory
+/// ran out.
+pub fn systems(alloc: Global, layout: &Layout, rel: &Rel) -> Result<Vec<System>, RowFault>
     requires placed { IsPlacedRel (plain_layout layout.now) (rel_tree rel.now) }
     requires sets { set_count (plain_layout layout.now) ≤ MOST_SETS }
     requires few { case_count (negation_normal true (rel_tree rel.now)) ≤ MOST_CASES }

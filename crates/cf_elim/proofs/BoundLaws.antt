@@ -58,13 +58,16 @@ unfolding searched
 searched_unknown m x lower c i = In-left c m.unknown (found_all x lower (no_found m) m.inequalities).unknowns i
 
 -- ---- the stage
-pub search_out : (s : State) (c : Pick) (n : ℕ) → n ≡ fold times_bound s.tuples (searched_by s.system c).bounds → 1048576 < n → bound_stage limits s c ≡ ends (refused (Limit Search n))
+pub search_out : (s : State) (c : Pick) (n : ℕ) → n ≡ fold times_bound s.tuples (searched_by s.system c).bounds → 1048576 < n →
+    bound_stage limits s c ≡ ends (refused (Limit Search n))
 unfolding bound_stage
 search_out s c n e h = rw (← e, lt-ltb 1048576 n h) refl
 
 pub search_in : (s : State) (c : Pick) (n : ℕ) → n ≡ fold times_bound s.tuples (searched_by s.system c).bounds → n ≤ 1048576 →
-    bound_stage limits s c ≡ ends_or (first_count limits (dropped (searched_by s.system c).system c.unknown).system) (refused_if (drop_passes (searched_by s.system c).system c.unknown) Past
-    (goes (record { system = (bound s.system c).system; tuples = n; is_past_clean = false }) (record { answer = bound s.system c; factor = max 1 (bound_factor s.system c) })))
+    bound_stage limits s c ≡ ends_or (first_count limits (dropped (searched_by s.system c).system c.unknown).system)
+    (refused_if (drop_passes (searched_by s.system c).system c.unknown) Past
+    (goes (record { system = (bound s.system c).system; tuples = n; is_past_clean = false })
+    (record { answer = bound s.system c; factor = max 1 (bound_factor s.system c) })))
 unfolding bound_stage bound bound_passes
 search_in s c n e h = rw (← e, le-ltb 1048576 n h) refl
 
@@ -89,8 +92,10 @@ length-pairs x (l ∷ low) high =
     let again = length-pairs x low high in
     omega arith
 
-pub dropped_counts : (m : System) (x rows columns low high free : ℕ) → low ≡ length (lowers x m.inequalities) → high ≡ length (uppers x m.inequalities) → free ≡ length (free_of x m.inequalities) →
-    rows ≡ length m.equations + 0 + m.needs + free + low * high → columns ≡ length m.known + length (filter (λ w. not (w == x)) m.unknown) + 0 → CountsAre (dropped m x).system rows columns
+pub dropped_counts : (m : System) (x rows columns low high free : ℕ) → low ≡ length (lowers x m.inequalities) → high ≡ length (uppers x m.inequalities) →
+    free ≡ length (free_of x m.inequalities) →
+    rows ≡ length m.equations + 0 + m.needs + free + low * high → columns ≡ length m.known + length (filter (λ w. not (w == x)) m.unknown) + 0 →
+    CountsAre (dropped m x).system rows columns
 unfolding dropped
 dropped_counts m x rows columns low high free a b f e g =
     let p : low * high ≡ length (lowers x m.inequalities) * length (uppers x m.inequalities) = rw (a, b) refl in
@@ -99,7 +104,8 @@ dropped_counts m x rows columns low high free a b f e g =
     record { rows_are = omega arith; columns_are = omega arith }
 
 -- ---- what a search and a drop owe together
-pub drop_refused : (m : System) (x : ℕ) (r : Refusal) (g h : Stage) → DropRefused m x r → g ≡ ends_or (first_count limits (dropped m x).system) (refused_if (drop_passes m x) Past h) → g ≡ ends (refused r)
+pub drop_refused : (m : System) (x : ℕ) (r : Refusal) (g h : Stage) → DropRefused m x r →
+    g ≡ ends_or (first_count limits (dropped m x).system) (refused_if (drop_passes m x) Past h) → g ≡ ends (refused r)
 drop_refused m x r g h d e = ⊎_elim
     (λ p. e ∙ ap (λ o. ends_or o (refused_if (drop_passes m x) Past h)) p)
     (λ q. e ∙ rw (q.0, q.1, q.2) refl) d
@@ -111,7 +117,8 @@ bound_owes m c s d h k =
     let da = dropped_answer d in
     let e : then_answer sa da ≡ bound m c =
     ap (then_answer sa) k.is ∙ ap (λ (a : Answer). then_answer a (dropped a.system c.unknown)) h.is ∙ sym (bound_is m c) in
-    let i : record { system = system_of d.system; steps = []; back = back_of d.back ∷ []; bounds = map bound_of s.bounds.items } ≡ then_answer sa da = rw (append-nil (map bound_of s.bounds.items)) refl in
+    let i : record { system = system_of d.system; steps = []; back = back_of d.back ∷ []; bounds = map bound_of s.bounds.items } ≡ then_answer sa da =
+    rw (append-nil (map bound_of s.bounds.items)) refl in
     (i ∙ e, subst (λ a. Owes m a) e (step_then m sa da h.owes k.owes))
 
 -- ---- the picked unknown
@@ -120,14 +127,17 @@ pub record Picks (s : State) (c : Pick) (n : ℕ) : Type 0 where
   pub is : unknown_stage limits s s.system.unknown ≡ bound_stage limits s c
   pub tuples : n ≡ fold times_bound s.tuples (searched_by s.system c).bounds
 
-picks_first : (s : State) (x n : ℕ) (us : List ℕ) → s.system.unknown ≡ x ∷ us → s.tuples ≤ 2 ^ 64 - 1 → n ≡ min (s.tuples * (pick s.system.inequalities x us).product) (2 ^ 64 - 1) → Picks s (pick s.system.inequalities x us) n
+picks_first : (s : State) (x n : ℕ) (us : List ℕ) → s.system.unknown ≡ x ∷ us → s.tuples ≤ 2 ^ 64 - 1 →
+    n ≡ min (s.tuples * (pick s.system.inequalities x us).product) (2 ^ 64 - 1) → Picks s (pick s.system.inequalities x us) n
 unfolding unknown_stage
 picks_first s x n us e l t = record {
   is = rw e refl;
-  tuples = t ∙ sym (pick_is (λ c. fold times_bound s.tuples (searched_by s.system c).bounds ≡ min (s.tuples * c.product) (2 ^ 64 - 1)) s.system.inequalities x us (λ u i. tuples_are s.system u s.tuples l));
+  tuples = t ∙ sym (pick_is (λ c. fold times_bound s.tuples (searched_by s.system c).bounds ≡ min (s.tuples * c.product) (2 ^ 64 - 1)) s.system.inequalities x
+      us (λ u i. tuples_are s.system u s.tuples l));
 }
 
-pub picks : (s : State) (c : Pick) (n : ℕ) → 0 < length s.system.unknown → c ≡ picked s.system.inequalities s.system.unknown → s.tuples ≤ 2 ^ 64 - 1 → n ≡ min (s.tuples * c.product) (2 ^ 64 - 1) → Picks s c n
+pub picks : (s : State) (c : Pick) (n : ℕ) → 0 < length s.system.unknown → c ≡ picked s.system.inequalities s.system.unknown → s.tuples ≤ 2 ^ 64 - 1 →
+    n ≡ min (s.tuples * c.product) (2 ^ 64 - 1) → Picks s c n
 picks s c n h e l t = by s.system.unknown refl h
   where
     by : (us : List ℕ) → s.system.unknown ≡ us → 0 < length us → Picks s c n
@@ -155,7 +165,8 @@ picks_exact m c h e l = by m.unknown refl h
         subst (λ (z : Pick). AreExact z.unknown m.inequalities) (sym i) (pick_exact m.inequalities x us (subst (λ (z : Pick). z.product ≤ 1) i l))
 
 -- ---- the step
-pub bound_out : (s : State) (c : Pick) (n : ℕ) → Picks s c n → 1048576 < n → StageIs s (unknown_stage limits s s.system.unknown) (Err (Refused (Limit Search n)))
+pub bound_out : (s : State) (c : Pick) (n : ℕ) → Picks s c n → 1048576 < n →
+    StageIs s (unknown_stage limits s s.system.unknown) (Err (Refused (Limit Search n)))
 bound_out s c n p h = p.is ∙ search_out s c n p.tuples h
 
 left_is : (m : System) (c : Pick) (r : Searched) → IsSearched m c r → (searched_by m c).system ≡ system_of r.system
@@ -163,21 +174,29 @@ left_is m c r h = ap (λ (a : Answer). a.system) (sym h.is)
 
 -- the drop in the searched system
 search_left : (s : State) (c : Pick) (n : ℕ) (r : Searched) → Picks s c n → n ≤ 1048576 → IsSearched s.system c r →
-    unknown_stage limits s s.system.unknown ≡ ends_or (first_count limits (dropped (system_of r.system) c.unknown).system) (refused_if (drop_passes (system_of r.system) c.unknown) Past
-    (goes (record { system = (bound s.system c).system; tuples = n; is_past_clean = false }) (record { answer = bound s.system c; factor = max 1 (bound_factor s.system c) })))
+    unknown_stage limits s s.system.unknown ≡ ends_or (first_count limits (dropped (system_of r.system) c.unknown).system)
+    (refused_if (drop_passes (system_of r.system) c.unknown) Past
+    (goes (record { system = (bound s.system c).system; tuples = n; is_past_clean = false })
+    (record { answer = bound s.system c; factor = max 1 (bound_factor s.system c) })))
 search_left s c n r p l h =
     p.is ∙ search_in s c n p.tuples l ∙
-    ap (λ m. ends_or (first_count limits (dropped m c.unknown).system) (refused_if (drop_passes m c.unknown) Past (goes (record { system = (bound s.system c).system; tuples = n; is_past_clean = false }) (record { answer = bound s.system c; factor = max 1 (bound_factor s.system c) })))) (left_is s.system c r h)
+    ap (λ m. ends_or (first_count limits (dropped m c.unknown).system)
+    (refused_if (drop_passes m c.unknown) Past
+    (goes (record { system = (bound s.system c).system; tuples = n; is_past_clean = false })
+    (record { answer = bound s.system c; factor = max 1 (bound_factor s.system c) })))) (left_is s.system c r h)
 
-pub bound_refused : (s : State) (c : Pick) (n : ℕ) (r : Searched) (f : ElimFault) → Picks s c n → n ≤ 1048576 → IsSearched s.system c r → DropIs (system_of r.system) c.unknown (Err f) → StageIs s (unknown_stage limits s s.system.unknown) (Err f)
-bound_refused s c n r (Refused q) p l h d = drop_refused (system_of r.system) c.unknown q (unknown_stage limits s s.system.unknown) _ d (search_left s c n r p l h)
+pub bound_refused : (s : State) (c : Pick) (n : ℕ) (r : Searched) (f : ElimFault) → Picks s c n → n ≤ 1048576 → IsSearched s.system c r →
+    DropIs (system_of r.system) c.unknown (Err f) → StageIs s (unknown_stage limits s s.system.unknown) (Err f)
+bound_refused s c n r (Refused q) p l h d =
+    drop_refused (system_of r.system) c.unknown q (unknown_stage limits s s.system.unknown) _ d (search_left s c n r p l h)
 bound_refused s c n r NoMemory p l h d = tt
 
 pub dropped_differs : (m : System) (x : ℕ) → Differ m.unknown → Differ (dropped m x).system.unknown
 unfolding dropped
 dropped_differs m x h = Differ-filter (λ w. not (w == x)) m.unknown h
 
-pub bound_goes : (s : State) (c : Pick) (n : ℕ) (r : Searched) (d : Dropped) (q : Result DeclaredStage ElimFault) → Picks s c n → n ≤ 1048576 → IsSearched s.system c r → IsDropped (system_of r.system) c.unknown d →
+pub bound_goes : (s : State) (c : Pick) (n : ℕ) (r : Searched) (d : Dropped) (q : Result DeclaredStage ElimFault) → Picks s c n → n ≤ 1048576 →
+    IsSearched s.system c r → IsDropped (system_of r.system) c.unknown d →
     GoesDropped r.bounds.items d n q → StageIs s (unknown_stage limits s s.system.unknown) q
 bound_goes s c n r d (Ok (Goes t p)) k l h i g =
     let o = bound_owes s.system c r d h i in
@@ -186,25 +205,33 @@ bound_goes s c n r d (Ok (Goes t p)) k l h i g =
     (search_left s c n r k l h ∙ rw (i.within_counts, i.fits, g.1, g.2) refl)
     (rw (g.0, g.3, g.4, g.5) e)
     o.1
-    (subst (λ (x : Answer). IsReady x.system) e (record { formed = i.formed; differ = subst (λ (a : Answer). Differ a.system.unknown) (sym i.is) (dropped_differs (system_of r.system) c.unknown h.differ) }))
+    (subst (λ (x : Answer). IsReady x.system) e
+    (record {
+      formed = i.formed;
+      differ = subst (λ (a : Answer). Differ a.system.unknown) (sym i.is)
+          (dropped_differs (system_of r.system) c.unknown h.differ);
+    }))
     (λ b. let z : false ≡ true = sym g.2 ∙ b in absurd (true≢false (sym z)))
 bound_goes s c n r d (Ok Ends) k l h i g = absurd g
 bound_goes s c n r d (Err (Refused x)) k l h i g = absurd g
 bound_goes s c n r d (Err NoMemory) k l h i g = tt
 
-pub searched_goes : (r : Searched) (x n : ℕ) (d : Dropped) (q : Result DeclaredStage ElimFault) → IsDropped (system_of r.system) x d → GoesDropped r.bounds.items d n q → SearchedIs r x n q
+pub searched_goes : (r : Searched) (x n : ℕ) (d : Dropped) (q : Result DeclaredStage ElimFault) → IsDropped (system_of r.system) x d →
+    GoesDropped r.bounds.items d n q → SearchedIs r x n q
 searched_goes r x n d (Ok (Goes t p)) i g = (d, i, g)
 searched_goes r x n d (Ok Ends) i g = absurd g
 searched_goes r x n d (Err (Refused f)) i g = absurd g
 searched_goes r x n d (Err NoMemory) i g = tt
 
-pub bound_staged : (s : State) (c : Pick) (n : ℕ) (r : Searched) (q : Result DeclaredStage ElimFault) → Picks s c n → n ≤ 1048576 → IsSearched s.system c r → SearchedIs r c.unknown n q → StageIs s (unknown_stage limits s s.system.unknown) q
+pub bound_staged : (s : State) (c : Pick) (n : ℕ) (r : Searched) (q : Result DeclaredStage ElimFault) → Picks s c n → n ≤ 1048576 → IsSearched s.system c r →
+    SearchedIs r c.unknown n q → StageIs s (unknown_stage limits s s.system.unknown) q
 bound_staged s c n r (Ok (Goes t p)) k l h g = bound_goes s c n r g.0 (Ok (Goes t p)) k l h g.1 g.2
 bound_staged s c n r (Ok Ends) k l h g = absurd g
 bound_staged s c n r (Err f) k l h g = bound_refused s c n r f k l h g
 
 -- ---- what the search leaves
-pub plain_searched : (m : System) (c : Pick) (r : Searched) → IsReady m → m.equations ≡ [] → In c.unknown m.unknown → c.product ≤ 1 → AreExact c.unknown m.inequalities → system_of r.system ≡ m → r.bounds.items ≡ [] → IsSearched m c r
+pub plain_searched : (m : System) (c : Pick) (r : Searched) → IsReady m → m.equations ≡ [] → In c.unknown m.unknown → c.product ≤ 1 →
+    AreExact c.unknown m.inequalities → system_of r.system ≡ m → r.bounds.items ≡ [] → IsSearched m c r
 plain_searched m c r y e i l x f b = record {
   is = rw (f, b) (sym (plain_search m c l));
   owes = rw (f, b) (step_none m y.formed.constant y.formed.below);
@@ -215,8 +242,10 @@ plain_searched m c r y e i l x f b = record {
   exact = subst (λ (n : System). AreExact c.unknown n.inequalities) (sym f) x;
 }
 
-pub real_searched : (m : System) (c : Pick) (r : Result Searched NoRoom) → IsReady m → m.equations ≡ [] → In c.unknown m.unknown → 1 < c.product → IfOk r (λ s. searched_answer s ≡ searched m c.unknown c.lower) → IfOk r (λ s. Owes m (searched_answer s)) →
-    IfOk r (λ s. Formed (system_of s.system)) → IfOk r (λ s. AreExact c.unknown (system_of s.system).inequalities) → IfOk r (λ s. IsFree c.unknown m.equations → IsFree c.unknown (system_of s.system).equations) → IfOk r (λ s. IsSearched m c s)
+pub real_searched : (m : System) (c : Pick) (r : Result Searched NoRoom) → IsReady m → m.equations ≡ [] → In c.unknown m.unknown → 1 < c.product →
+    IfOk r (λ s. searched_answer s ≡ searched m c.unknown c.lower) → IfOk r (λ s. Owes m (searched_answer s)) →
+    IfOk r (λ s. Formed (system_of s.system)) → IfOk r (λ s. AreExact c.unknown (system_of s.system).inequalities) →
+    IfOk r (λ s. IsFree c.unknown m.equations → IsFree c.unknown (system_of s.system).equations) → IfOk r (λ s. IsSearched m c s)
 real_searched m c (Ok s) y e i l a o f x g = record {
   is = a ∙ sym (real_search m c l);
   owes = o;
@@ -229,16 +258,20 @@ real_searched m c (Ok s) y e i l a o f x g = record {
 real_searched m c (Err e) y n i l a o f x g = tt
 
 -- ---- the drop between its counts
-pub drop_out : (m : System) (x rows columns : ℕ) (f : ElimFault) → CountsAre (dropped m x).system rows columns → CountIs (count_refusal limits rows columns) (Err f) → DropIs m x (Err f)
+pub drop_out : (m : System) (x rows columns : ℕ) (f : ElimFault) → CountsAre (dropped m x).system rows columns →
+    CountIs (count_refusal limits rows columns) (Err f) → DropIs m x (Err f)
 drop_out m x rows columns (Refused r) h c = inl (sym (counts_refuse (dropped m x).system rows columns h) ∙ c)
 drop_out m x rows columns NoMemory h c = tt
 
-pub drop_past : (m : System) (x rows columns : ℕ) → CountsAre (dropped m x).system rows columns → count_refusal limits rows columns ≡ None → drop_passes m x ≡ true → DropIs m x (Err (Refused Past))
+pub drop_past : (m : System) (x rows columns : ℕ) → CountsAre (dropped m x).system rows columns → count_refusal limits rows columns ≡ None →
+    drop_passes m x ≡ true → DropIs m x (Err (Refused Past))
 drop_past m x rows columns h c p = inr (sym (counts_refuse (dropped m x).system rows columns h) ∙ c, p, refl)
 
-pub drop_on : (m : System) (x rows columns : ℕ) (d : Dropped) → CountsAre (dropped m x).system rows columns → count_refusal limits rows columns ≡ None → drop_passes m x ≡ false → dropped_answer d ≡ dropped m x →
+pub drop_on : (m : System) (x rows columns : ℕ) (d : Dropped) → CountsAre (dropped m x).system rows columns → count_refusal limits rows columns ≡ None →
+    drop_passes m x ≡ false → dropped_answer d ≡ dropped m x →
     Owes m (dropped_answer d) → Formed (system_of d.system) → IsDropped m x d
-drop_on m x rows columns d h c p e o f = record { within_counts = sym (counts_refuse (dropped m x).system rows columns h) ∙ c; fits = p; is = e; owes = o; formed = f }
+drop_on m x rows columns d h c p e o f =
+    record { within_counts = sym (counts_refuse (dropped m x).system rows columns h) ∙ c; fits = p; is = e; owes = o; formed = f }
 
 -- ---- counts of rows
 pub count_low : (x : ℕ) (rows : List Row) → count_by (λ r. is_positive (entry r x)) rows ≡ length (lowers x rows)

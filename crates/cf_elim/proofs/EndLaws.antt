@@ -42,7 +42,8 @@ use Rattle.cf_elim.proofs.BoundLaws.{searched_differs, dropped_differs, plain_se
 abbrev measure : ℕ → ℕ → ℕ → ℕ → ℕ → ℕ
 measure p u e f c = ((((1048577 - p) * 1001 + u) * 1001 + e) * 1001 + f) * 3 + c
 
-by_search : (p u e f c p' u' e' f' c' : ℕ) → 1 ≤ p → 2 * p ≤ p' → p' ≤ 1048576 → u' ≤ 1000 → e' ≤ 1000 → f' ≤ u' → c' ≤ 2 → measure p' u' e' f' c' < measure p u e f c
+by_search : (p u e f c p' u' e' f' c' : ℕ) → 1 ≤ p → 2 * p ≤ p' → p' ≤ 1048576 → u' ≤ 1000 → e' ≤ 1000 → f' ≤ u' → c' ≤ 2 →
+    measure p' u' e' f' c' < measure p u e f c
 by_search p u e f c p' u' e' f' c' a b d g h i j = omega arith
 
 by_unknown : (p u e f c p' u' e' f' c' : ℕ) → p' ≡ p → u' < u → u' ≤ 1000 → e' ≤ 1000 → f' ≤ u' → c' ≤ 2 → measure p' u' e' f' c' < measure p u e f c
@@ -74,12 +75,14 @@ abbrev need : Bool → List ℕ → List Row → ℕ
 need b us rows = if b then stuck us rows else 1
 
 abbrev height : State → ℕ
-height s = measure s.tuples (length s.system.unknown) (length s.system.equations) (held s.system.unknown s.system.equations) (need s.is_past_clean s.system.unknown s.system.equations)
+height s = measure s.tuples (length s.system.unknown) (length s.system.equations) (held s.system.unknown s.system.equations)
+    (need s.is_past_clean s.system.unknown s.system.equations)
 
 -- ---- parts of lists
 filter_short : {A : Type 0} (p : A → Bool) (xs : List A) → length (filter p xs) ≤ length xs
 filter_short p [] = omega arith
-filter_short p (x ∷ xs) = let i = filter_short p xs in cond_both (p x) (x ∷ filter p xs) (filter p xs) (λ ys. length ys ≤ suc (length xs)) (λ _. omega arith) (λ _. omega arith)
+filter_short p (x ∷ xs) = let i = filter_short p xs in
+    cond_both (p x) (x ∷ filter p xs) (filter p xs) (λ ys. length ys ≤ suc (length xs)) (λ _. omega arith) (λ _. omega arith)
 
 pub filter_all : {A : Type 0} (p : A → Bool) (xs : List A) → (length (filter p xs) < length xs) ⊎ (filter p xs ≡ xs)
 filter_all p [] = inr refl
@@ -124,7 +127,8 @@ over_any Q f ((c, k) ∷ e) = (f c, over_any Q f e)
 apart_all : (us : List ℕ) (e : Row) → Rises 0 e → ((u : ℕ) → In u us → entry e u ≡ pos 0) → Over (λ d. In d us → ⊥) e
 apart_all [] e h f = over_any (λ d. In d [] → ⊥) (λ c i. i) e
 apart_all (u ∷ us) e h f =
-    Over-both (λ d. d ≢ u) (λ d. In d us → ⊥) (λ d. In d (u ∷ us) → ⊥) (λ c n m i. ⊎_elim (λ q. n q) (λ j. m j) i) e (free_row 0 u e h (f u (inl refl))) (apart_all us e h (λ w i. f w (inr i)))
+    Over-both (λ d. d ≢ u) (λ d. In d us → ⊥) (λ d. In d (u ∷ us) → ⊥) (λ c n m i. ⊎_elim (λ q. n q) (λ j. m j) i) e (free_row 0 u e h (f u (inl refl)))
+    (apart_all us e h (λ w i. f w (inr i)))
 
 no_column : (us : List ℕ) (c : ℕ) → (In c us → ⊥) → has_column us c ≡ false
 no_column [] c h = refl
@@ -145,15 +149,18 @@ moved x u y v c = if (if c == y then v else c) == x then u else (if c == y then 
 abbrev moved_all : ℕ → ℕ → ℕ → ℕ → List ℕ → List ℕ
 moved_all x u y v us = replaced x u (replaced y v us)
 
-few_held : (x u y v : ℕ) (e e' : Row) (us : List ℕ) → ((c : ℕ) → In c us → is_zero (entry e c) ≡ true → is_zero (entry e' (moved x u y v c)) ≡ true) → length (present (moved_all x u y v us) e') ≤ length (present us e)
+few_held : (x u y v : ℕ) (e e' : Row) (us : List ℕ) → ((c : ℕ) → In c us → is_zero (entry e c) ≡ true → is_zero (entry e' (moved x u y v c)) ≡ true) →
+    length (present (moved_all x u y v us) e') ≤ length (present us e)
 few_held x u y v e e' [] h = omega arith
 few_held x u y v e e' (c ∷ us) h =
     let i = few_held x u y v e e' us (λ d j. h d (inr j)) in
     on_bool (is_zero (entry e c))
     (λ t. rw (t, h c (inl refl) t) i)
-    (λ t. rw t (cond_both (not (is_zero (entry e' (moved x u y v c)))) (moved x u y v c ∷ present (moved_all x u y v us) e') (present (moved_all x u y v us) e') (λ ys. length ys ≤ suc (length (present us e))) (λ _. omega arith) (λ _. omega arith)))
+    (λ t. rw t (cond_both (not (is_zero (entry e' (moved x u y v c)))) (moved x u y v c ∷ present (moved_all x u y v us) e') (present (moved_all x u y v us) e')
+    (λ ys. length ys ≤ suc (length (present us e))) (λ _. omega arith) (λ _. omega arith)))
 
-less_held : (x u y v : ℕ) (e e' : Row) (us : List ℕ) → ((c : ℕ) → In c us → is_zero (entry e c) ≡ true → is_zero (entry e' (moved x u y v c)) ≡ true) → In y us → is_zero (entry e y) ≡ false → is_zero (entry e' (moved x u y v y)) ≡ true →
+less_held : (x u y v : ℕ) (e e' : Row) (us : List ℕ) → ((c : ℕ) → In c us → is_zero (entry e c) ≡ true → is_zero (entry e' (moved x u y v c)) ≡ true) →
+    In y us → is_zero (entry e y) ≡ false → is_zero (entry e' (moved x u y v y)) ≡ true →
     length (present (moved_all x u y v us) e') < length (present us e)
 less_held x u y v e e' [] h i n z = absurd i
 less_held x u y v e e' (c ∷ us) h i n z = ⊎_elim
@@ -166,7 +173,8 @@ less_held x u y v e e' (c ∷ us) h i n z = ⊎_elim
     let a = less_held x u y v e e' us (λ d k. h d (inr k)) j n z in
     on_bool (is_zero (entry e c))
     (λ t. rw (t, h c (inl refl) t) a)
-    (λ t. rw t (cond_both (not (is_zero (entry e' (moved x u y v c)))) (moved x u y v c ∷ present (moved_all x u y v us) e') (present (moved_all x u y v us) e') (λ ys. length ys < suc (length (present us e))) (λ _. omega arith) (λ _. omega arith))))
+    (λ t. rw t (cond_both (not (is_zero (entry e' (moved x u y v c)))) (moved x u y v c ∷ present (moved_all x u y v us) e') (present (moved_all x u y v us) e')
+    (λ ys. length ys < suc (length (present us e))) (λ _. omega arith) (λ _. omega arith))))
     i
 
 entry_high : (n x : ℕ) (e : Row) → n ≤ x → Over (λ c. c < n) e → entry e x ≡ pos 0
@@ -175,13 +183,16 @@ entry_high n x ((c, k) ∷ e) l h = let i = h.0 in rw (ne_eqb c x (λ q. absurd 
 
 -- the entries of a row in which y gave way to s
 subst_other : (y : ℕ) (s e : Row) (c : ℕ) → c ≢ y → entry (subst_row y s e) c ≡ entry e c +ℤ entry e y *ℤ entry s c
-subst_other y s e c n = entry-comb c (pos 1) (without y e) (entry e y) s ∙ rw (entry-without y c e, ne_eqb y c (λ q. n (sym q))) (simp ring (omega (arith, ints)))
+subst_other y s e c n = entry-comb c (pos 1) (without y e) (entry e y) s ∙
+    rw (entry-without y c e, ne_eqb y c (λ q. n (sym q))) (simp ring (omega (arith, ints)))
 
 two_first : (a : ℤ) (u : ℕ) (b : ℤ) (c : ℕ) → c < u → entry (two_at a u b (u + 1)) c ≡ pos 0
-two_first a u b c l = entry-comb c a (one_at u) b (one_at (u + 1)) ∙ rw (ne_eqb u c (λ q. absurd (omega arith)), ne_eqb (u + 1) c (λ q. absurd (omega arith))) (omega (arith, ints))
+two_first a u b c l = entry-comb c a (one_at u) b (one_at (u + 1)) ∙
+    rw (ne_eqb u c (λ q. absurd (omega arith)), ne_eqb (u + 1) c (λ q. absurd (omega arith))) (omega (arith, ints))
 
 two_second : (a : ℤ) (u : ℕ) (b : ℤ) → entry (two_at a u b (u + 1)) (u + 1) ≡ b
-two_second a u b = entry-comb (u + 1) a (one_at u) b (one_at (u + 1)) ∙ rw (ne_eqb u (u + 1) (λ q. absurd (omega arith)), eq-eqb (u + 1) (u + 1) refl) (omega (arith, ints))
+two_second a u b = entry-comb (u + 1) a (one_at u) b (one_at (u + 1)) ∙
+    rw (ne_eqb u (u + 1) (λ q. absurd (omega arith)), eq-eqb (u + 1) (u + 1) refl) (omega (arith, ints))
 
 none_more : (z k : ℤ) → z +ℤ k *ℤ pos 0 ≡ z
 none_more z k = omega (arith, ints)
@@ -191,14 +202,17 @@ mixed x y u a b c d e = subst_row x (two_at a u b (u + 1)) (subst_row y (two_at 
 
 mixed_old : (x y u : ℕ) (a b c d : ℤ) (e : Row) (w : ℕ) → w < u → w ≢ x → w ≢ y → entry (mixed x y u a b c d e) w ≡ entry e w
 mixed_old x y u a b c d e w l n m =
-    subst_other x (two_at a u b (u + 1)) (subst_row y (two_at c u d (u + 1)) e) w n ∙ rw (two_first a u b w l) (none_more (entry (subst_row y (two_at c u d (u + 1)) e) w) (entry (subst_row y (two_at c u d (u + 1)) e) x)) ∙
+    subst_other x (two_at a u b (u + 1)) (subst_row y (two_at c u d (u + 1)) e) w n ∙
+    rw (two_first a u b w l) (none_more (entry (subst_row y (two_at c u d (u + 1)) e) w) (entry (subst_row y (two_at c u d (u + 1)) e) x)) ∙
     subst_other y (two_at c u d (u + 1)) e w m ∙ rw (two_first c u d w l) (none_more (entry e w) (entry e y))
 
-mixed_new : (x y u : ℕ) (a b c d : ℤ) (e : Row) → Over (λ c. c < u) e → x < u → y < u → x ≢ y → entry (mixed x y u a b c d e) (u + 1) ≡ entry e y *ℤ d +ℤ entry e x *ℤ b
+mixed_new : (x y u : ℕ) (a b c d : ℤ) (e : Row) → Over (λ c. c < u) e → x < u → y < u → x ≢ y →
+    entry (mixed x y u a b c d e) (u + 1) ≡ entry e y *ℤ d +ℤ entry e x *ℤ b
 mixed_new x y u a b c d e o lx ly n =
     let half = subst_row y (two_at c u d (u + 1)) e in
     let at_x : entry half x ≡ entry e x = subst_other y (two_at c u d (u + 1)) e x n ∙ rw (two_first c u d x lx) (none_more (entry e x) (entry e y)) in
-    let at_v : entry half (u + 1) ≡ pos 0 +ℤ entry e y *ℤ d = subst_other y (two_at c u d (u + 1)) e (u + 1) (λ q. absurd (omega arith)) ∙ rw (two_second c u d, entry_high u (u + 1) e (omega arith) o) refl in
+    let at_v : entry half (u + 1) ≡ pos 0 +ℤ entry e y *ℤ d =
+    subst_other y (two_at c u d (u + 1)) e (u + 1) (λ q. absurd (omega arith)) ∙ rw (two_second c u d, entry_high u (u + 1) e (omega arith) o) refl in
     subst_other x (two_at a u b (u + 1)) half (u + 1) (λ q. absurd (omega arith)) ∙ rw (two_second a u b, at_x, at_v) (simp ring (omega (arith, ints)))
 
 abs_divides : (g : ℕ) (a : ℤ) (y : ℕ) → g * y ≡ unsigned_abs a → Divides (pos g) a
@@ -238,7 +252,8 @@ moved_same x u y v c n m = rw (ne_eqb c y m, ne_eqb c x n) refl
 moved_new : (x u y v : ℕ) → v ≢ x → moved x u y v y ≡ v
 moved_new x u y v n = rw (eq-eqb y y refl, ne_eqb v x n) refl
 
-pub merge_held : (m : System) (e : Row) (rest : List Row) (x y : ℕ) → Formed m → m.equations ≡ e ∷ rest → Over (λ c. c < m.next) e → In x m.unknown → In y m.unknown → x ≢ y → entry e x ≢ pos 0 → entry e y ≢ pos 0 →
+pub merge_held : (m : System) (e : Row) (rest : List Row) (x y : ℕ) → Formed m → m.equations ≡ e ∷ rest → Over (λ c. c < m.next) e → In x m.unknown →
+    In y m.unknown → x ≢ y → entry e x ≢ pos 0 → entry e y ≢ pos 0 →
     held (merge m e x y).system.unknown (merge m e x y).system.equations < length (present m.unknown e)
 unfolding merge mix
 merge_held m e rest x y f eq o ix iy n ex ey =
@@ -253,7 +268,8 @@ merge_held m e rest x y f eq o ix iy n ex ey =
     let l = f.unknown_below c i in
     let nx : c ≢ x = λ q. ex (ap (λ (w : ℕ). entry e w) (sym q) ∙ zero_from_is_zero (entry e c) t) in
     let ny : c ≢ y = λ q. ey (ap (λ (w : ℕ). entry e w) (sym q) ∙ zero_from_is_zero (entry e c) t) in
-    subst (λ (w : ℕ). is_zero (entry e' w) ≡ true) (sym (moved_same x u y v c nx ny)) (zero_is (entry e' c) (mixed_old x y u p.s p.m p.t p.n e c l nx ny ∙ zero_from_is_zero (entry e c) t)))
+    subst (λ (w : ℕ). is_zero (entry e' w) ≡ true) (sym (moved_same x u y v c nx ny))
+    (zero_is (entry e' c) (mixed_old x y u p.s p.m p.t p.n e c l nx ny ∙ zero_from_is_zero (entry e c) t)))
     iy (not_zero (entry e y) ey)
     (subst (λ (w : ℕ). is_zero (entry e' w) ≡ true) (sym (moved_new x u y v (λ q. absurd (omega arith))))
     (zero_is (entry e' v) (mixed_new x y u p.s p.m p.t p.n e o lx ly n ∙ second_none (entry e x) (entry e y) ex ey))))
@@ -294,12 +310,14 @@ counts_few m e = on_bool (nat_lt 1000 (rows_of m))
 
 -- ---- Clean
 clean_less : (us : List ℕ) (rows : List Row) (p : ℕ) → length (filter (has_unknown us) rows) ≤ 1000 → length us ≤ 1000 →
-    measure p (length us) (length (filter (has_unknown us) rows)) (held us (filter (has_unknown us) rows)) (stuck us (filter (has_unknown us) rows)) < measure p (length us) (length rows) (held us rows) 1
+    measure p (length us) (length (filter (has_unknown us) rows)) (held us (filter (has_unknown us) rows)) (stuck us (filter (has_unknown us) rows)) < measure p
+    (length us) (length rows) (held us rows) 1
 clean_less us rows p le lu =
     let kept = filter (has_unknown us) rows in
     let z = stuck_none us kept (EachRow-tested (λ r. has_unknown us r ≡ true) (has_unknown us) (λ r e. e) rows) in
     ⊎_elim
-    (λ l. by_equation p (length us) (length rows) (held us rows) 1 (length us) (length kept) (held us kept) (stuck us kept) (omega arith) l lu (held_few us kept) (stuck_few us kept))
+    (λ l. by_equation p (length us) (length rows) (held us rows) 1 (length us) (length kept) (held us kept) (stuck us kept) (omega arith) l lu
+    (held_few us kept) (stuck_few us kept))
     (λ q.
     let y : stuck us rows ≡ 0 = subst (λ rs. stuck us rs ≡ 0) q z in
     rw q (by_need p (length us) (length rows) (held us rows) 1 (stuck us rows) (omega arith)))
@@ -313,7 +331,8 @@ pub clean_ready : (m : System) → IsReady m → IsReady (clean m).system
 clean_ready m r = record { formed = clean_formed m r.formed; differ = clean_differ m r.differ }
 
 cleaned_less : (m : System) (p : ℕ) → length (clean m).system.equations ≤ 1000 → length (clean m).system.unknown ≤ 1000 →
-    measure p (length (clean m).system.unknown) (length (clean m).system.equations) (held (clean m).system.unknown (clean m).system.equations) (stuck (clean m).system.unknown (clean m).system.equations) < measure p (length m.unknown) (length m.equations) (held m.unknown m.equations) 1
+    measure p (length (clean m).system.unknown) (length (clean m).system.equations) (held (clean m).system.unknown (clean m).system.equations)
+    (stuck (clean m).system.unknown (clean m).system.equations) < measure p (length m.unknown) (length m.equations) (held m.unknown m.equations) 1
 unfolding clean
 cleaned_less m p le lu = clean_less m.unknown m.equations p le lu
 
@@ -327,27 +346,32 @@ clean_falls s t a b c e =
 
 -- ---- an equation step
 -- an equation without an unknown: the same state, to be cleaned
-nothing_falls : (s : State) (e : Row) (rest : List Row) → Before s → s.is_past_clean ≡ true → s.system.equations ≡ e ∷ rest → present s.system.unknown e ≡ [] → Falls s (record { system = s.system; tuples = s.tuples; is_past_clean = false })
+nothing_falls : (s : State) (e : Row) (rest : List Row) → Before s → s.is_past_clean ≡ true → s.system.equations ≡ e ∷ rest → present s.system.unknown e ≡ [] →
+    Falls s (record { system = s.system; tuples = s.tuples; is_past_clean = false })
 nothing_falls s e rest b c q p =
     let rise = subst (λ rows. EachRow (Rises 0) rows) q b.ready.formed.zero_rise in
-    let z : stuck s.system.unknown s.system.equations ≡ 2 = subst (λ rows. stuck s.system.unknown rows ≡ 2) (sym q) (empty_stuck s.system.unknown e rest rise.0 p) in
+    let z : stuck s.system.unknown s.system.equations ≡ 2 =
+    subst (λ rows. stuck s.system.unknown rows ≡ 2) (sym q) (empty_stuck s.system.unknown e rest rise.0 p) in
     let i : need s.is_past_clean s.system.unknown s.system.equations ≡ 2 = rw c z in
     record {
       ready = b.ready;
       some = b.some;
       few = b.few;
-      less = by_need s.tuples (length s.system.unknown) (length s.system.equations) (held s.system.unknown s.system.equations) (need s.is_past_clean s.system.unknown s.system.equations) 1 (omega arith);
+      less = by_need s.tuples (length s.system.unknown) (length s.system.equations) (held s.system.unknown s.system.equations)
+          (need s.is_past_clean s.system.unknown s.system.equations) 1 (omega arith);
     }
 
 length-map_rows : (f : Row → Row) (rows : List Row) → length (map f rows) ≡ length rows
 length-map_rows f [] = refl
 length-map_rows f (r ∷ rows) = ap suc (length-map_rows f rows)
 
-pub last_lengths : (m : System) (e : Row) (rest : List Row) (u : ℕ) → (length (last m e rest u).system.equations ≡ length rest) × (length (last m e rest u).system.unknown ≤ length m.unknown)
+pub last_lengths : (m : System) (e : Row) (rest : List Row) (u : ℕ) →
+    (length (last m e rest u).system.equations ≡ length rest) × (length (last m e rest u).system.unknown ≤ length m.unknown)
 unfolding last
 last_lengths m e rest u = (length-map_rows _ rest, filter_short (λ w. not (w == u)) m.unknown)
 
-last_falls : (s : State) (e : Row) (rest : List Row) (u : ℕ) → Before s → s.system.equations ≡ e ∷ rest → present s.system.unknown e ≡ u ∷ [] → first_count limits (last s.system e rest u).system ≡ None →
+last_falls : (s : State) (e : Row) (rest : List Row) (u : ℕ) → Before s → s.system.equations ≡ e ∷ rest → present s.system.unknown e ≡ u ∷ [] →
+    first_count limits (last s.system e rest u).system ≡ None →
     Falls s (record { system = (last s.system e rest u).system; tuples = s.tuples; is_past_clean = false })
 last_falls s e rest u b q p n =
     let f = b.ready.formed in
@@ -358,10 +382,15 @@ last_falls s e rest u b q p n =
     let l = last_lengths s.system e rest u in
     let i : length s.system.equations ≡ suc (length rest) = ap length q in
     record {
-      ready = record { formed = last_formed s.system e rest u f q (only_unknown s.system e u over.0 rise.0 p); differ = last_differs s.system e rest u b.ready.differ };
+      ready = record {
+        formed = last_formed s.system e rest u f q (only_unknown s.system e u over.0 rise.0 p);
+        differ =
+            last_differs s.system e rest u b.ready.differ;
+      };
       some = b.some;
       few = b.few;
-      less = by_equation s.tuples (length s.system.unknown) (length s.system.equations) (held s.system.unknown s.system.equations) (need s.is_past_clean s.system.unknown s.system.equations)
+      less = by_equation s.tuples (length s.system.unknown) (length s.system.equations) (held s.system.unknown s.system.equations)
+          (need s.is_past_clean s.system.unknown s.system.equations)
           (length m.unknown) (length m.equations) (held m.unknown m.equations) 1 l.1 (omega (arith, l.0)) k.1 (held_few m.unknown m.equations) (omega arith);
     }
 
@@ -369,7 +398,8 @@ length-replaced : (x y : ℕ) (us : List ℕ) → length (replaced x y us) ≡ l
 length-replaced x y [] = refl
 length-replaced x y (u ∷ us) = ap suc (length-replaced x y us)
 
-pub merge_lengths : (m : System) (e : Row) (x y : ℕ) → (length (merge m e x y).system.unknown ≡ length m.unknown) × (length (merge m e x y).system.equations ≡ length m.equations)
+pub merge_lengths : (m : System) (e : Row) (x y : ℕ) →
+    (length (merge m e x y).system.unknown ≡ length m.unknown) × (length (merge m e x y).system.equations ≡ length m.equations)
 unfolding merge mix
 merge_lengths m e x y = (rw (length-replaced, length-replaced) refl, rw (length-map_rows, length-map_rows) refl)
 
@@ -377,7 +407,8 @@ pub merge_ready : (m : System) (e : Row) (x y : ℕ) → IsReady m → In x m.un
 unfolding merge
 merge_ready m e x y r ix iy n = record { formed = mix_formed m x y _ _ _ _ r.formed ix iy n; differ = mix_differs m x y _ _ _ _ r.formed r.differ }
 
-merge_falls : (s : State) (e : Row) (rest : List Row) (x y : ℕ) (us : List ℕ) → Before s → s.system.equations ≡ e ∷ rest → present s.system.unknown e ≡ x ∷ y ∷ us →
+merge_falls : (s : State) (e : Row) (rest : List Row) (x y : ℕ) (us : List ℕ) → Before s → s.system.equations ≡ e ∷ rest →
+    present s.system.unknown e ≡ x ∷ y ∷ us →
     Falls s (record { system = (merge s.system e x y).system; tuples = s.tuples; is_past_clean = true })
 merge_falls s e rest x y us b q p =
     let f = b.ready.formed in
@@ -395,11 +426,14 @@ merge_falls s e rest x y us b q p =
       ready = merge_ready s.system e x y b.ready ix.0 iy.0 n;
       some = b.some;
       few = b.few;
-      less = by_held s.tuples (length s.system.unknown) (length s.system.equations) (held s.system.unknown s.system.equations) (need s.is_past_clean s.system.unknown s.system.equations)
-          (length m.unknown) (length m.equations) (held m.unknown m.equations) (stuck m.unknown m.equations) l.0 l.1 (subst (λ k. held m.unknown m.equations < k) (sym i) h) (stuck_few m.unknown m.equations);
+      less = by_held s.tuples (length s.system.unknown) (length s.system.equations) (held s.system.unknown s.system.equations)
+          (need s.is_past_clean s.system.unknown s.system.equations)
+          (length m.unknown) (length m.equations) (held m.unknown m.equations) (stuck m.unknown m.equations) l.0 l.1
+          (subst (λ k. held m.unknown m.equations < k) (sym i) h) (stuck_few m.unknown m.equations);
     }
 
-equation_falls : (s t : State) (a : Taken) (e : Row) (rest : List Row) (us : List ℕ) → Before s → s.is_past_clean ≡ true → s.system.equations ≡ e ∷ rest → present s.system.unknown e ≡ us → equation_stage limits s e rest us ≡ goes t a → Falls s t
+equation_falls : (s t : State) (a : Taken) (e : Row) (rest : List Row) (us : List ℕ) → Before s → s.is_past_clean ≡ true → s.system.equations ≡ e ∷ rest →
+    present s.system.unknown e ≡ us → equation_stage limits s e rest us ≡ goes t a → Falls s t
 unfolding equation_stage
 equation_falls s t a e rest [] b c q p g = falls_at s _ t _ a g (nothing_falls s e rest b c q p)
 equation_falls s t a e rest (u ∷ []) b c q p g =
@@ -412,15 +446,20 @@ equation_falls s t a e rest (u ∷ w ∷ us) b c q p g =
 -- ---- a Bound step
 pub tuples_pick : (m : System) (x : ℕ) (us : List ℕ) (n : ℕ) → n ≤ 2 ^ 64 - 1 →
     fold times_bound n (searched_by m (pick m.inequalities x us)).bounds ≡ min (n * (pick m.inequalities x us).product) (2 ^ 64 - 1)
-tuples_pick m x us n l = pick_is (λ c. fold times_bound n (searched_by m c).bounds ≡ min (n * c.product) (2 ^ 64 - 1)) m.inequalities x us (λ u i. tuples_are m u n l)
+tuples_pick m x us n l = pick_is (λ c. fold times_bound n (searched_by m c).bounds ≡ min (n * c.product) (2 ^ 64 - 1)) m.inequalities x us
+    (λ u i. tuples_are m u n l)
 
-pub searched_ready : (m : System) (c : Pick) → IsReady m → In c.unknown m.unknown → m.equations ≡ [] → IsReady (searched_by m c).system × IsFree c.unknown (searched_by m c).system.equations
+pub searched_ready : (m : System) (c : Pick) → IsReady m → In c.unknown m.unknown → m.equations ≡ [] →
+    IsReady (searched_by m c).system × IsFree c.unknown (searched_by m c).system.equations
 unfolding searched_by
 searched_ready m c r i q =
     let free : IsFree c.unknown m.equations = subst (λ rows. IsFree c.unknown rows) (sym q) tt in
     let plain : Answer = record { system = m; steps = []; back = []; bounds = [] } in
     cond_both (nat_lt 1 c.product) (searched m c.unknown c.lower) plain (λ (a : Answer). IsReady a.system × IsFree c.unknown a.system.equations)
-    (λ _. (record { formed = searched_formed m c.unknown c.lower r.formed i; differ = searched_differs m c.unknown c.lower r.formed r.differ }, searched_free m c.unknown c.lower r.formed i free))
+    (λ _. (
+      record { formed = searched_formed m c.unknown c.lower r.formed i; differ = searched_differs m c.unknown c.lower r.formed r.differ },
+      searched_free m c.unknown c.lower r.formed i free,
+    ))
     (λ _. (r, free))
 
 dropped_ready : (m : System) (x : ℕ) → IsReady m → IsFree x m.equations → IsReady (dropped m x).system
@@ -445,8 +484,10 @@ plain_tuples m c n l = rw (plain_search m c l) refl
 pub doubled : (n p : ℕ) → 1 < p → min (n * p) (2 ^ 64 - 1) ≤ 1048576 → 2 * n ≤ min (n * p) (2 ^ 64 - 1)
 doubled n p h l = let k = mul-le n 2 n p (omega arith) h in omega arith
 
-bound_less : (s : State) (c : Pick) (n : ℕ) → Before s → In c.unknown s.system.unknown → n ≡ fold times_bound s.tuples (searched_by s.system c).bounds → n ≡ min (s.tuples * c.product) (2 ^ 64 - 1) → n ≤ 1048576 →
-    first_count limits (bound s.system c).system ≡ None → (1 ≤ n) × (height (record { system = (bound s.system c).system; tuples = n; is_past_clean = false }) < height s)
+bound_less : (s : State) (c : Pick) (n : ℕ) → Before s → In c.unknown s.system.unknown → n ≡ fold times_bound s.tuples (searched_by s.system c).bounds →
+    n ≡ min (s.tuples * c.product) (2 ^ 64 - 1) → n ≤ 1048576 →
+    first_count limits (bound s.system c).system ≡ None →
+    (1 ≤ n) × (height (record { system = (bound s.system c).system; tuples = n; is_past_clean = false }) < height s)
 bound_less s c n b i t d l k =
     let m = (bound s.system c).system in
     let few = counts_few m k in
@@ -455,18 +496,22 @@ bound_less s c n b i t d l k =
     (λ g.
     let two : 2 * s.tuples ≤ n = subst (λ z. 2 * s.tuples ≤ z) (sym d) (doubled s.tuples c.product (ltb-true 1 c.product g) (subst (λ z. z ≤ 1048576) d l)) in (
       omega arith,
-      by_search s.tuples (length s.system.unknown) (length s.system.equations) (held s.system.unknown s.system.equations) (need s.is_past_clean s.system.unknown s.system.equations)
+      by_search s.tuples (length s.system.unknown) (length s.system.equations) (held s.system.unknown s.system.equations)
+          (need s.is_past_clean s.system.unknown s.system.equations)
           n (length m.unknown) (length m.equations) (held m.unknown m.equations) 1 p two l few.1 few.0 (held_few m.unknown m.equations) (omega arith),
     ))
     (λ g.
     let one = ltb-false 1 c.product g in
     let same : n ≡ s.tuples = t ∙ plain_tuples s.system c s.tuples one in (
       omega arith,
-      by_unknown s.tuples (length s.system.unknown) (length s.system.equations) (held s.system.unknown s.system.equations) (need s.is_past_clean s.system.unknown s.system.equations)
-          n (length m.unknown) (length m.equations) (held m.unknown m.equations) 1 same (plain_short s.system c i one) few.1 few.0 (held_few m.unknown m.equations) (omega arith),
+      by_unknown s.tuples (length s.system.unknown) (length s.system.equations) (held s.system.unknown s.system.equations)
+          (need s.is_past_clean s.system.unknown s.system.equations)
+          n (length m.unknown) (length m.equations) (held m.unknown m.equations) 1 same (plain_short s.system c i one) few.1 few.0
+          (held_few m.unknown m.equations) (omega arith),
     ))
 
-bound_falls : (s t : State) (a : Taken) (c : Pick) → Before s → In c.unknown s.system.unknown → s.system.equations ≡ [] → fold times_bound s.tuples (searched_by s.system c).bounds ≡ min (s.tuples * c.product) (2 ^ 64 - 1) →
+bound_falls : (s t : State) (a : Taken) (c : Pick) → Before s → In c.unknown s.system.unknown → s.system.equations ≡ [] →
+    fold times_bound s.tuples (searched_by s.system c).bounds ≡ min (s.tuples * c.product) (2 ^ 64 - 1) →
     bound_stage limits s c ≡ goes t a → Falls s t
 unfolding bound_stage
 bound_falls s t a c b i q d g =
@@ -477,7 +522,8 @@ bound_falls s t a c b i q d g =
     let h = bound_less s c n b i refl d l y.0 in
     falls_at s _ t _ a (not_refused _ Past _ t a y.1).1 (record { ready = bound_ready s.system c b.ready i q; some = h.0; few = l; less = h.1 })
 
-unknown_falls : (s t : State) (a : Taken) (us : List ℕ) → Before s → s.system.equations ≡ [] → ((c : ℕ) → In c us → In c s.system.unknown) → unknown_stage limits s us ≡ goes t a → Falls s t
+unknown_falls : (s t : State) (a : Taken) (us : List ℕ) → Before s → s.system.equations ≡ [] → ((c : ℕ) → In c us → In c s.system.unknown) →
+    unknown_stage limits s us ≡ goes t a → Falls s t
 unfolding unknown_stage
 unknown_falls s t a [] b q i g = cc
 unknown_falls s t a (x ∷ us) b q i g =
@@ -486,7 +532,8 @@ unknown_falls s t a (x ∷ us) b q i g =
     bound_falls s t a c b (i c.unknown (pick_in s.system.inequalities x us)) q (tuples_pick s.system x us s.tuples (omega arith)) g
 
 -- ---- one stage
-row_falls : (s t : State) (a : Taken) (rows : List Row) → Before s → s.is_past_clean ≡ true → s.system.equations ≡ rows → row_stage limits s rows ≡ goes t a → Falls s t
+row_falls : (s t : State) (a : Taken) (rows : List Row) → Before s → s.is_past_clean ≡ true → s.system.equations ≡ rows → row_stage limits s rows ≡ goes t a →
+    Falls s t
 unfolding row_stage
 row_falls s t a [] b c q g = unknown_falls s t a s.system.unknown b q (λ w i. i) g
 row_falls s t a (e ∷ rest) b c q g = equation_falls s t a e rest (present s.system.unknown e) b c q refl g

@@ -34,11 +34,13 @@ count_out o NoMemory s g h e c = tt
 
 -- the step made the answer a, and a state of it
 pub goes_on : (m : System) (g : Stage) (t : DeclaredState) (p : StepOutput) (a : Answer) (f : ℕ) →
-    g ≡ goes (record { system = a.system; tuples = t.tuples; is_past_clean = t.is_past_clean }) (record { answer = a; factor = f }) → made_answer (system_of t.system) p ≡ a →
+    g ≡ goes (record { system = a.system; tuples = t.tuples; is_past_clean = t.is_past_clean }) (record { answer = a; factor = f }) →
+    made_answer (system_of t.system) p ≡ a →
     Owes m a → IsReady a.system → Settled (record { system = a.system; tuples = t.tuples; is_past_clean = t.is_past_clean }) → GoesOn m g t p
 goes_on m g t p a f is e o r st = record {
   factor = f;
-  is = subst (λ (x : Answer). g ≡ goes (record { system = x.system; tuples = t.tuples; is_past_clean = t.is_past_clean }) (record { answer = x; factor = f })) (sym e) is;
+  is = subst (λ (x : Answer). g ≡ goes (record { system = x.system; tuples = t.tuples; is_past_clean = t.is_past_clean }) (record { answer = x; factor = f }))
+      (sym e) is;
   owes = subst (λ x. Owes m x) (sym e) o;
   ready = subst (λ (x : Answer). IsReady x.system) (sym e) r;
   settled = subst (λ (x : Answer). Settled (record { system = x.system; tuples = t.tuples; is_past_clean = t.is_past_clean })) (sym e) st;
@@ -62,17 +64,20 @@ unfolding clean
 clean_unknown m = refl
 
 pub clean_goes : (s : State) → first_count limits s.system ≡ None → first_count limits (clean s.system).system ≡ None →
-    clean_stage limits s ≡ goes (record { system = (clean s.system).system; tuples = s.tuples; is_past_clean = true }) (record { answer = clean s.system; factor = max 1 (greatest_of (map let_norm (clean s.system).steps)) })
+    clean_stage limits s ≡ goes (record { system = (clean s.system).system; tuples = s.tuples; is_past_clean = true })
+    (record { answer = clean s.system; factor = max 1 (greatest_of (map let_norm (clean s.system).steps)) })
 unfolding clean_stage
 clean_goes s p q = rw (p, q) refl
 
 pub clean_first : (s : State) → clean_stage limits s ≡ ends_or (first_count limits s.system)
-    (within_counts limits false (record { system = (clean s.system).system; tuples = s.tuples; is_past_clean = true }) (record { answer = clean s.system; factor = max 1 (greatest_of (map let_norm (clean s.system).steps)) }))
+    (within_counts limits false (record { system = (clean s.system).system; tuples = s.tuples; is_past_clean = true })
+    (record { answer = clean s.system; factor = max 1 (greatest_of (map let_norm (clean s.system).steps)) }))
 unfolding clean_stage
 clean_first s = refl
 
 pub clean_second : (s : State) → first_count limits s.system ≡ None → clean_stage limits s ≡ ends_or (first_count limits (clean s.system).system)
-    (goes (record { system = (clean s.system).system; tuples = s.tuples; is_past_clean = true }) (record { answer = clean s.system; factor = max 1 (greatest_of (map let_norm (clean s.system).steps)) }))
+    (goes (record { system = (clean s.system).system; tuples = s.tuples; is_past_clean = true })
+    (record { answer = clean s.system; factor = max 1 (greatest_of (map let_norm (clean s.system).steps)) }))
 unfolding clean_stage
 clean_second s p = rw p refl
 
@@ -88,49 +93,61 @@ row_stage_first : (s : State) (r : Row) (rows : List Row) → s.system.equations
 unfolding row_stage
 row_stage_first s r rows e = rw e refl
 
-pub row_stage_is : (s : State) → 0 < length s.system.equations → row_stage limits s s.system.equations ≡ equation_stage limits s (first_of s.system) (rest_of s.system) (first_present s.system)
+pub row_stage_is : (s : State) → 0 < length s.system.equations →
+    row_stage limits s s.system.equations ≡ equation_stage limits s (first_of s.system) (rest_of s.system) (first_present s.system)
 row_stage_is s h = by s.system.equations refl h
   where
-    by : (rows : List Row) → s.system.equations ≡ rows → 0 < length rows → row_stage limits s s.system.equations ≡ equation_stage limits s (first_of s.system) (rest_of s.system) (first_present s.system)
+    by : (rows : List Row) → s.system.equations ≡ rows → 0 < length rows →
+        row_stage limits s s.system.equations ≡ equation_stage limits s (first_of s.system) (rest_of s.system) (first_present s.system)
     by [] e k = absurd (omega arith)
     by (r ∷ rows) e k = row_stage_first s r rows e
 
 nothing_stage : (s : State) → first_present s.system ≡ [] →
-    equation_stage limits s (first_of s.system) (rest_of s.system) (first_present s.system) ≡ goes (record { system = s.system; tuples = s.tuples; is_past_clean = false }) (record { answer = no_answer s.system; factor = 1 })
+    equation_stage limits s (first_of s.system) (rest_of s.system) (first_present s.system) ≡ goes
+    (record { system = s.system; tuples = s.tuples; is_past_clean = false }) (record { answer = no_answer s.system; factor = 1 })
 unfolding equation_stage
 nothing_stage s p = rw p refl
 
 -- no unknown: the state as it is, to be cleaned
 pub nothing_goes : (s : State) (t : DeclaredState) (p : StepOutput) → IsReady s.system → 0 < length s.system.equations → first_present s.system ≡ [] →
-    made_answer (system_of t.system) p ≡ no_answer s.system → t.tuples ≡ s.tuples → t.is_past_clean ≡ false → GoesOn s.system (row_stage limits s s.system.equations) t p
+    made_answer (system_of t.system) p ≡ no_answer s.system → t.tuples ≡ s.tuples → t.is_past_clean ≡ false →
+    GoesOn s.system (row_stage limits s s.system.equations) t p
 nothing_goes s t p r some n e i j =
     goes_on s.system (row_stage limits s s.system.equations) t p (no_answer s.system) 1
-    (row_stage_is s some ∙ nothing_stage s n ∙ rw (i, j) refl) e (step_none s.system r.formed.constant r.formed.below) r (λ c. let q : false ≡ true = sym j ∙ c in absurd (true≢false (sym q)))
+    (row_stage_is s some ∙ nothing_stage s n ∙ rw (i, j) refl) e (step_none s.system r.formed.constant r.formed.below) r
+    (λ c. let q : false ≡ true = sym j ∙ c in absurd (true≢false (sym q)))
 
 -- the step for the unknowns us of the first equation, once it is counted
 step_goes : (s : State) (b : Bool) (us : List ℕ) → us ≢ [] → CleanAfter us b → first_count limits (equation_answer s.system us).system ≡ None →
     equation_stage limits s (first_of s.system) (rest_of s.system) us ≡
     refused_if (equation_passes s.system us) Past
-    (goes (record { system = (equation_answer s.system us).system; tuples = s.tuples; is_past_clean = b }) (record { answer = equation_answer s.system us; factor = step_factor s.system us }))
+    (goes (record { system = (equation_answer s.system us).system; tuples = s.tuples; is_past_clean = b })
+    (record { answer = equation_answer s.system us; factor = step_factor s.system us }))
 unfolding equation_stage
 step_goes s b [] n c k = absurd (n refl)
 step_goes s b (u ∷ []) n c k = rw (k, c) refl
 step_goes s b (u ∷ w ∷ us) n c k = rw (k, c) refl
 
 -- and before it is
-pub end_first : (s : State) (u : ℕ) → first_present s.system ≡ u ∷ [] → (h : Stage) × (equation_stage limits s (first_of s.system) (rest_of s.system) (first_present s.system) ≡ ends_or (first_count limits (last s.system (first_of s.system) (rest_of s.system) u).system) h)
+pub end_first : (s : State) (u : ℕ) → first_present s.system ≡ u ∷ [] →
+    (h : Stage) × (equation_stage limits s (first_of s.system) (rest_of s.system) (first_present s.system) ≡ ends_or
+    (first_count limits (last s.system (first_of s.system) (rest_of s.system) u).system) h)
 unfolding equation_stage
 end_first s u p = (
   refused_if (last_passes s.system (first_of s.system) (rest_of s.system) u) Past
-      (goes (record { system = (last s.system (first_of s.system) (rest_of s.system) u).system; tuples = s.tuples; is_past_clean = false }) (record { answer = last s.system (first_of s.system) (rest_of s.system) u; factor = max 1 (norm (without u (first_of s.system))) })),
+      (goes (record { system = (last s.system (first_of s.system) (rest_of s.system) u).system; tuples = s.tuples; is_past_clean = false })
+      (record { answer = last s.system (first_of s.system) (rest_of s.system) u; factor = max 1 (norm (without u (first_of s.system))) })),
   rw p refl,
 )
 
-merge_first : (s : State) (u w : ℕ) (us : List ℕ) → first_present s.system ≡ u ∷ w ∷ us → (h : Stage) × (equation_stage limits s (first_of s.system) (rest_of s.system) (first_present s.system) ≡ ends_or (first_count limits (merge s.system (first_of s.system) u w).system) h)
+merge_first : (s : State) (u w : ℕ) (us : List ℕ) → first_present s.system ≡ u ∷ w ∷ us →
+    (h : Stage) × (equation_stage limits s (first_of s.system) (rest_of s.system) (first_present s.system) ≡ ends_or
+    (first_count limits (merge s.system (first_of s.system) u w).system) h)
 unfolding equation_stage
 merge_first s u w us p = (
   refused_if (merge_passes s.system (first_of s.system) u w) Past
-      (goes (record { system = (merge s.system (first_of s.system) u w).system; tuples = s.tuples; is_past_clean = true }) (record { answer = merge s.system (first_of s.system) u w; factor = merge_factor (first_of s.system) u w })),
+      (goes (record { system = (merge s.system (first_of s.system) u w).system; tuples = s.tuples; is_past_clean = true })
+      (record { answer = merge s.system (first_of s.system) u w; factor = merge_factor (first_of s.system) u w })),
   rw p refl,
 )
 
@@ -153,10 +170,12 @@ unfolding merge mix
 merge_some m e x y = rw (length-subst_all, length-subst_all) refl
 
 -- after an equation step no clean state is without equations
-settled_after : (m : System) (us : List ℕ) (n : ℕ) (b : Bool) → 0 < length m.equations → CleanAfter us b → Settled (record { system = (equation_answer m us).system; tuples = n; is_past_clean = b })
+settled_after : (m : System) (us : List ℕ) (n : ℕ) (b : Bool) → 0 < length m.equations → CleanAfter us b →
+    Settled (record { system = (equation_answer m us).system; tuples = n; is_past_clean = b })
 settled_after m [] n b h a = absurd a
 settled_after m (u ∷ []) n b h a = λ c. let q : false ≡ true = sym a ∙ c in absurd (true≢false (sym q))
-settled_after m (u ∷ w ∷ us) n b h a = λ c e. let q : length (merge m (first_of m) u w).system.equations ≡ 0 = ap length e in let r = merge_some m (first_of m) u w in absurd (omega arith)
+settled_after m (u ∷ w ∷ us) n b h a = λ c e. let q : length (merge m (first_of m) u w).system.equations ≡ 0 = ap length e in
+    let r = merge_some m (first_of m) u w in absurd (omega arith)
 
 pub reduced_on : (s : State) (b : Bool) (r : Reduced) (t : DeclaredStage) → 0 < length s.system.equations → first_present s.system ≢ [] →
     first_count limits (equation_answer s.system (first_present s.system)).system ≡ None → CleanAfter (first_present s.system) b →
@@ -164,7 +183,8 @@ pub reduced_on : (s : State) (b : Bool) (r : Reduced) (t : DeclaredStage) → 0 
     equation_passes s.system (first_present s.system) ≡ false → GoesTo r s.tuples b t →
     StageIs s (equation_stage limits s (first_of s.system) (rest_of s.system) (first_present s.system)) (Ok t)
 reduced_on s b r (Goes t p) some n k a e o f d q g =
-    goes_on s.system (equation_stage limits s (first_of s.system) (rest_of s.system) (first_present s.system)) t p (equation_answer s.system (first_present s.system)) (step_factor s.system (first_present s.system))
+    goes_on s.system (equation_stage limits s (first_of s.system) (rest_of s.system) (first_present s.system)) t p
+    (equation_answer s.system (first_present s.system)) (step_factor s.system (first_present s.system))
     (step_goes s b (first_present s.system) n a k ∙ rw (q, g.1, g.2) refl)
     (rw (g.0, g.3, g.4, g.5) e)
     (subst (λ x. Owes s.system x) e o)
@@ -172,12 +192,15 @@ reduced_on s b r (Goes t p) some n k a e o f d q g =
     (rw g.2 (settled_after s.system (first_present s.system) t.tuples b some a))
 reduced_on s b r Ends some n k a e o f d q g = absurd g
 
-pub reduced_past : (s : State) (b : Bool) → first_present s.system ≢ [] → first_count limits (equation_answer s.system (first_present s.system)).system ≡ None → CleanAfter (first_present s.system) b →
-    equation_passes s.system (first_present s.system) ≡ true → StageIs s (equation_stage limits s (first_of s.system) (rest_of s.system) (first_present s.system)) (Err (Refused Past))
+pub reduced_past : (s : State) (b : Bool) → first_present s.system ≢ [] → first_count limits (equation_answer s.system (first_present s.system)).system ≡ None →
+    CleanAfter (first_present s.system) b →
+    equation_passes s.system (first_present s.system) ≡ true →
+    StageIs s (equation_stage limits s (first_of s.system) (rest_of s.system) (first_present s.system)) (Err (Refused Past))
 reduced_past s b n k a q = step_goes s b (first_present s.system) n a k ∙ rw q refl
 
 -- ---- counts of an equation step
-pub last_counts : (m : System) (u rows columns made : ℕ) → made ≡ (if is_unit (entry (first_of m) u) then 0 else 1) → rows ≡ (length m.equations - 1) + length m.inequalities + m.needs + made →
+pub last_counts : (m : System) (u rows columns made : ℕ) → made ≡ (if is_unit (entry (first_of m) u) then 0 else 1) →
+    rows ≡ (length m.equations - 1) + length m.inequalities + m.needs + made →
     columns ≡ length m.known + length (filter (λ w. not (w == u)) m.unknown) + made → CountsAre (last m (first_of m) (rest_of m) u).system rows columns
 unfolding last
 last_counts m u rows columns made e f g = on_bool (is_unit (entry (first_of m) u))
@@ -198,17 +221,21 @@ last_counts m u rows columns made e f g = on_bool (is_unit (entry (first_of m) u
 pub counts_refuse : (m : System) (rows columns : ℕ) → CountsAre m rows columns → count_refusal limits rows columns ≡ first_count limits m
 counts_refuse m rows columns h = rw (h.rows_are, h.columns_are) refl
 
-pub end_out : (s : State) (u rows columns : ℕ) (f : ElimFault) → first_present s.system ≡ u ∷ [] → CountsAre (last s.system (first_of s.system) (rest_of s.system) u).system rows columns →
-    CountIs (count_refusal limits rows columns) (Err f) → StageIs s (equation_stage limits s (first_of s.system) (rest_of s.system) (first_present s.system)) (Err f)
+pub end_out : (s : State) (u rows columns : ℕ) (f : ElimFault) → first_present s.system ≡ u ∷ [] →
+    CountsAre (last s.system (first_of s.system) (rest_of s.system) u).system rows columns →
+    CountIs (count_refusal limits rows columns) (Err f) →
+    StageIs s (equation_stage limits s (first_of s.system) (rest_of s.system) (first_present s.system)) (Err f)
 end_out s u rows columns f p h c =
     let x = end_first s u p in
     count_out (count_refusal limits rows columns) f s (equation_stage limits s (first_of s.system) (rest_of s.system) (first_present s.system)) x.0
     (x.1 ∙ ap (λ o. ends_or o x.0) (sym (counts_refuse (last s.system (first_of s.system) (rest_of s.system) u).system rows columns h))) c
 
-pub end_counted : (m : System) (u rows columns : ℕ) → first_present m ≡ u ∷ [] → CountsAre (last m (first_of m) (rest_of m) u).system rows columns → count_refusal limits rows columns ≡ None →
+pub end_counted : (m : System) (u rows columns : ℕ) → first_present m ≡ u ∷ [] → CountsAre (last m (first_of m) (rest_of m) u).system rows columns →
+    count_refusal limits rows columns ≡ None →
     first_count limits (equation_answer m (first_present m)).system ≡ None
 end_counted m u rows columns p h c =
-    subst (λ us. first_count limits (equation_answer m us).system ≡ None) (sym p) (sym (counts_refuse (last m (first_of m) (rest_of m) u).system rows columns h) ∙ c)
+    subst (λ us. first_count limits (equation_answer m us).system ≡ None) (sym p)
+    (sym (counts_refuse (last m (first_of m) (rest_of m) u).system rows columns h) ∙ c)
 
 pub end_after : (m : System) (u : ℕ) → first_present m ≡ u ∷ [] → CleanAfter (first_present m) false
 end_after m u p = rw p refl
@@ -223,7 +250,8 @@ two_of (u ∷ []) h = absurd (omega arith)
 two_of (u ∷ w ∷ ws) h = (u, w, ws, refl)
 
 merge_count_same : (m : System) (e : Row) (x y : ℕ) → first_count limits (merge m e x y).system ≡ first_count limits m
-merge_count_same m e x y = let c = merge_counts m e x y in counts_refuse m (rows_of (merge m e x y).system) (columns_of (merge m e x y).system) (record { rows_are = c.0; columns_are = c.1 })
+merge_count_same m e x y = let c = merge_counts m e x y in
+    counts_refuse m (rows_of (merge m e x y).system) (columns_of (merge m e x y).system) (record { rows_are = c.0; columns_are = c.1 })
 
 pub merge_out : (s : State) (f : ElimFault) → 1 < length (first_present s.system) → CountIs (first_count limits s.system) (Err f) →
     StageIs s (equation_stage limits s (first_of s.system) (rest_of s.system) (first_present s.system)) (Err f)
@@ -233,7 +261,8 @@ merge_out s f h c =
     count_out (first_count limits s.system) f s (equation_stage limits s (first_of s.system) (rest_of s.system) (first_present s.system)) x.0
     (x.1 ∙ ap (λ o. ends_or o x.0) (merge_count_same s.system (first_of s.system) t.0 t.1)) c
 
-pub merge_counted : (m : System) → 1 < length (first_present m) → first_count limits m ≡ None → first_count limits (equation_answer m (first_present m)).system ≡ None
+pub merge_counted : (m : System) → 1 < length (first_present m) → first_count limits m ≡ None →
+    first_count limits (equation_answer m (first_present m)).system ≡ None
 merge_counted m h c =
     let t = two_of (first_present m) h in
     subst (λ us. first_count limits (equation_answer m us).system ≡ None) (sym t.3) (merge_count_same m (first_of m) t.0 t.1 ∙ c)
@@ -248,7 +277,8 @@ merge_holds m h q = let r : 1 < 0 = subst (λ (us : List ℕ). 1 < length us) q 
 pub clean_out : (s : State) (f : ElimFault) → CountIs (first_count limits s.system) (Err f) → StageIs s (clean_stage limits s) (Err f)
 clean_out s f c = count_out (first_count limits s.system) f s (clean_stage limits s) _ (clean_first s) c
 
-pub clean_staged : (s : State) (c : Cleaned) (r : Result DeclaredStage ElimFault) → IsReady s.system → first_count limits s.system ≡ None → cleaned c ≡ clean s.system → Owes s.system (cleaned c) → Formed (system_of c.system) →
+pub clean_staged : (s : State) (c : Cleaned) (r : Result DeclaredStage ElimFault) → IsReady s.system → first_count limits s.system ≡ None →
+    cleaned c ≡ clean s.system → Owes s.system (cleaned c) → Formed (system_of c.system) →
     CleanedIs c s.tuples r → StageIs s (clean_stage limits s) r
 clean_staged s c (Ok (Goes t p)) y k e o f g =
     goes_on s.system (clean_stage limits s) t p (clean s.system) (max 1 (greatest_of (map let_norm (clean s.system).steps)))
@@ -281,13 +311,18 @@ no_unknowns : (s : State) → s.system.unknown ≡ [] → unknown_stage limits s
 unfolding unknown_stage
 no_unknowns s e = rw e refl
 
-pub next_unclean : (m : System) (n : ℕ) (b : Bool) (r : Result DeclaredStage ElimFault) → b ≡ false → StageIs (before_clean m n) (clean_stage limits (before_clean m n)) r → StageIs (state m n b) (stage limits (state m n b)) r
-next_unclean m n b r e h = subst (λ x. StageIs (state m n x) (stage limits (state m n x)) r) (sym e) (subst (λ g. StageIs (before_clean m n) g r) (sym (stage_unclean m n)) h)
+pub next_unclean : (m : System) (n : ℕ) (b : Bool) (r : Result DeclaredStage ElimFault) → b ≡ false →
+    StageIs (before_clean m n) (clean_stage limits (before_clean m n)) r → StageIs (state m n b) (stage limits (state m n b)) r
+next_unclean m n b r e h = subst (λ x. StageIs (state m n x) (stage limits (state m n x)) r) (sym e)
+    (subst (λ g. StageIs (before_clean m n) g r) (sym (stage_unclean m n)) h)
 
-pub stage_rows : (m : System) (n : ℕ) (b : Bool) (r : Result DeclaredStage ElimFault) → b ≡ true → StageIs (past_clean m n) (row_stage limits (past_clean m n) m.equations) r → StageIs (state m n b) (stage limits (state m n b)) r
-stage_rows m n b r e h = subst (λ x. StageIs (state m n x) (stage limits (state m n x)) r) (sym e) (subst (λ g. StageIs (past_clean m n) g r) (sym (stage_cleaned m n)) h)
+pub stage_rows : (m : System) (n : ℕ) (b : Bool) (r : Result DeclaredStage ElimFault) → b ≡ true →
+    StageIs (past_clean m n) (row_stage limits (past_clean m n) m.equations) r → StageIs (state m n b) (stage limits (state m n b)) r
+stage_rows m n b r e h = subst (λ x. StageIs (state m n x) (stage limits (state m n x)) r) (sym e)
+    (subst (λ g. StageIs (past_clean m n) g r) (sym (stage_cleaned m n)) h)
 
-pub stage_unknowns : (m : System) (n : ℕ) (b : Bool) (r : Result DeclaredStage ElimFault) → b ≡ true → m.equations ≡ [] → StageIs (past_clean m n) (unknown_stage limits (past_clean m n) m.unknown) r → StageIs (state m n b) (stage limits (state m n b)) r
+pub stage_unknowns : (m : System) (n : ℕ) (b : Bool) (r : Result DeclaredStage ElimFault) → b ≡ true → m.equations ≡ [] →
+    StageIs (past_clean m n) (unknown_stage limits (past_clean m n) m.unknown) r → StageIs (state m n b) (stage limits (state m n b)) r
 stage_unknowns m n b r e q h = stage_rows m n b r e (subst (λ g. StageIs (past_clean m n) g r) (sym (no_rows (past_clean m n) q)) h)
 
 pub stage_ends : (m : System) (n : ℕ) (b : Bool) → b ≡ true → m.equations ≡ [] → m.unknown ≡ [] → IsEnd (state m n b) (stage limits (state m n b))

@@ -17,8 +17,12 @@ how_wider Q R f (least bs) o = pairs_wider Q R f bs o
 
 back_wider : (Q R : ℕ → Type 0) → ((c : ℕ) → Q c → R c) → (ws : List (ℕ × How)) → BackOver Q ws → BackOver R ws
 back_wider Q R f [] o = tt
-back_wider Q R f ((x, w) ∷ ws) o =
-    (o.0, how_wider Q R f w o.1, back_wider (λ d. (d ≡ x) ⊎ Q d) (λ d. (d ≡ x) ⊎ R d) (λ d h. elim h as (λ _. (d ≡ x) ⊎ R d) [ inl s ↦ inl s | inr q ↦ inr (f d q) ]) ws o.2)
+back_wider Q R f ((x, w) ∷ ws) o = (
+  o.0,
+  how_wider Q R f w o.1,
+  back_wider (λ d. (d ≡ x) ⊎ Q d) (λ d. (d ≡ x) ⊎ R d)
+      (λ d h. elim h as (λ _. (d ≡ x) ⊎ R d) [ inl s ↦ inl s | inr q ↦ inr (f d q) ]) ws o.2,
+)
 
 back_then : (Q : ℕ → Type 0) (vs ws : List (ℕ × How)) → BackOver Q vs → BackOver (λ d. In d (back_columns vs) ⊎ Q d) ws → BackOver Q (vs ++ ws)
 back_then Q [] ws o p = back_wider (λ d. In d [] ⊎ Q d) Q (λ d h. elim h as (λ _. Q d) [ inl e ↦ absurd e | inr q ↦ q ]) ws p
@@ -53,7 +57,8 @@ pub returns_then : (m : System) (a b : Answer) → Returns m a → Returns a.sys
 returns_then m a b r s = record {
   comes = record {
     over = back_then (λ c. In c b.system.known ⊎ In c b.system.unknown) b.back a.back s.comes.over
-        (back_wider (λ c. In c a.system.known ⊎ In c a.system.unknown) (λ c. In c (back_columns b.back) ⊎ (In c b.system.known ⊎ In c b.system.unknown)) (λ c h. left c h) a.back r.comes.over);
+        (back_wider (λ c. In c a.system.known ⊎ In c a.system.unknown) (λ c. In c (back_columns b.back) ⊎ (In c b.system.known ⊎ In c b.system.unknown))
+        (λ c h. left c h) a.back r.comes.over);
     covers = λ c i. covered c (r.comes.covers c i);
   };
   grows = λ c i. s.grows c (r.grows c i);
@@ -63,7 +68,8 @@ returns_then m a b r s = record {
   where
     left : (c : ℕ) → In c a.system.known ⊎ In c a.system.unknown → In c (back_columns b.back) ⊎ (In c b.system.known ⊎ In c b.system.unknown)
     left c (inl k) = inr (inl (s.grows c k))
-    left c (inr u) = elim (s.comes.covers c u) as (λ _. In c (back_columns b.back) ⊎ (In c b.system.known ⊎ In c b.system.unknown)) [ inl v ↦ inr (inr v) | inr i ↦ inl i ]
+    left c (inr u) = elim (s.comes.covers c u) as (λ _. In c (back_columns b.back) ⊎ (In c b.system.known ⊎ In c b.system.unknown))
+        [ inl v ↦ inr (inr v) | inr i ↦ inl i ]
 
     covered : (c : ℕ) → In c a.system.unknown ⊎ In c (back_columns a.back) → In c b.system.unknown ⊎ In c (back_columns (b.back ++ a.back))
     covered c (inl u) =

@@ -57,7 +57,8 @@ so_far_none m r = record {
   some = All-nil IsSome;
 }
 
-pub so_far_more : (m : System) (s t : State) (a b : Answer) (f n : ℕ) → SoFar m s a n → stage limits s ≡ goes t (record { answer = b; factor = f }) → b.system ≡ t.system →
+pub so_far_more : (m : System) (s t : State) (a b : Answer) (f n : ℕ) → SoFar m s a n → stage limits s ≡ goes t (record { answer = b; factor = f }) →
+    b.system ≡ t.system →
     Owes s.system b → IsReady t.system → Settled t → SoFar m t (then_answer a b) (n + 1)
 so_far_more m s t a b f n h p here o r st =
     let x : Taken = record { answer = b; factor = f } in
@@ -65,7 +66,8 @@ so_far_more m s t a b f n h p here o r st =
     record {
       taken = h.taken ++ (x ∷ []);
       count = length-append h.taken (x ∷ []) ∙ ap (λ k. k + 1) h.count;
-      made = ap (λ y. then_answer y b) h.made ∙ sym (whole-push m (map (λ t. t.answer) h.taken) b) ∙ ap (whole m) (sym (map-append (λ t. t.answer) h.taken (x ∷ [])));
+      made = ap (λ y. then_answer y b) h.made ∙ sym (whole-push m (map (λ t. t.answer) h.taken) b) ∙
+          ap (whole m) (sym (map-append (λ t. t.answer) h.taken (x ∷ [])));
       here = here;
       onward = λ ys e tr. subst (λ z. Trace limits (first_state m) z e) (sym (append_assoc h.taken (x ∷ []) ys)) (h.onward (x ∷ ys) e (more p tr));
       owes = step_then m a b h.owes (subst (λ z. Owes z b) (sym h.here) o);
@@ -90,7 +92,8 @@ so_far_end m s a n e h l p =
 -- at the end the case is solved
 pub so_far_solved : (m : System) (s : State) (a : Answer) (n : ℕ) (g : Stage) → SoFar m s a n → IsEnd s g → SolvedBy m a
 so_far_solved m s a n g h e =
-    solved_case m a h.owes (ap (λ (x : System). x.equations) h.here ∙ e.equations) (ap (λ (x : System). x.inequalities) h.here ∙ h.settled e.clean e.equations e.unknown)
+    solved_case m a h.owes (ap (λ (x : System). x.equations) h.here ∙ e.equations)
+    (ap (λ (x : System). x.inequalities) h.here ∙ h.settled e.clean e.equations e.unknown)
 
 -- and its searches have few tuples
 pub so_far_bounds : (m : System) (s : State) (a : Answer) (n : ℕ) → SoFar m s a n → AreBounds (bounds_of a.bounds)

@@ -41,7 +41,8 @@ count_some [] h = omega arith
 count_some (b ∷ bs) h = mul-pos (All-head IsSome b bs h) (count_some bs (All-tail IsSome b bs h))
 
 -- a product of bounds that stops at 2^64 - 1 and is small did not stop
-pub product_few : (limit : ℕ) → limit < 2 ^ 64 - 1 → (bs : List (ℕ × ℕ)) (n : ℕ) → 1 ≤ n → All IsSome (bounds_of bs) → fold times_bound n bs ≤ limit → n * count_below (bounds_of bs) ≤ limit
+pub product_few : (limit : ℕ) → limit < 2 ^ 64 - 1 → (bs : List (ℕ × ℕ)) (n : ℕ) → 1 ≤ n → All IsSome (bounds_of bs) → fold times_bound n bs ≤ limit →
+    n * count_below (bounds_of bs) ≤ limit
 product_few limit small [] n some h l = omega arith
 product_few limit small ((k, p) ∷ bs) n some h l =
     let q = All-head IsSome p (bounds_of bs) h in
@@ -62,7 +63,8 @@ are_bounds bs h l = let p = product_few 1048576 (omega arith) bs 1 (omega arith)
 
 pub some_then : (as_ bs : List (ℕ × ℕ)) → All IsSome (bounds_of as_) → All IsSome (bounds_of bs) → All IsSome (bounds_of (as_ ++ bs))
 some_then [] bs h k = k
-some_then ((c, p) ∷ as_) bs h k = All-cons IsSome p (bounds_of (as_ ++ bs)) (All-head IsSome p (bounds_of as_) h) (some_then as_ bs (All-tail IsSome p (bounds_of as_) h) k)
+some_then ((c, p) ∷ as_) bs h k = All-cons IsSome p (bounds_of (as_ ++ bs)) (All-head IsSome p (bounds_of as_) h)
+    (some_then as_ bs (All-tail IsSome p (bounds_of as_) h) k)
 
 -- ---- the bounds of a search
 and_left : (b c : Bool) → b && c ≡ true → b ≡ true
@@ -75,17 +77,19 @@ searches_some x lower r e = let h = ltb-true 1 (unsigned_abs (entry r x)) (and_l
 found_some : (x : ℕ) (lower : Bool) (rows : List Row) (s : Found) → All IsSome (bounds_of s.bounds) → All IsSome (bounds_of (found_all x lower s rows).bounds)
 found_some x lower [] s h = h
 found_some x lower (r ∷ rows) s h = found_some x lower rows (found_row x lower s r) (on_bool (searches x lower r)
-    (λ e. rw e (some_then s.bounds ((s.next, unsigned_abs (entry r x)) ∷ []) h (All-cons IsSome (unsigned_abs (entry r x)) [] (searches_some x lower r e) (All-nil IsSome))))
+    (λ e. rw e (some_then s.bounds ((s.next, unsigned_abs (entry r x)) ∷ []) h
+    (All-cons IsSome (unsigned_abs (entry r x)) [] (searches_some x lower r e) (All-nil IsSome))))
     (λ e. rw e h))
 
-searched_some : (m : System) (x : ℕ) (lower : Bool) → All IsSome (bounds_of (searched m x lower).bounds)
+pub searched_some : (m : System) (x : ℕ) (lower : Bool) → All IsSome (bounds_of (searched m x lower).bounds)
 unfolding searched
 searched_some m x lower = found_some x lower m.inequalities (no_found m) (All-nil IsSome)
 
 pub search_some : (m : System) (c : Pick) → All IsSome (bounds_of (searched_by m c).bounds)
 unfolding searched_by
 search_some m c =
-    cond_both (nat_lt 1 c.product) (searched m c.unknown c.lower) (record { system = m; steps = []; back = []; bounds = [] }) (λ (a : Answer). All IsSome (bounds_of a.bounds)) (λ _. searched_some m c.unknown c.lower) (λ _. All-nil IsSome)
+    cond_both (nat_lt 1 c.product) (searched m c.unknown c.lower) (record { system = m; steps = []; back = []; bounds = [] })
+    (λ (a : Answer). All IsSome (bounds_of a.bounds)) (λ _. searched_some m c.unknown c.lower) (λ _. All-nil IsSome)
 
 -- a Bound step has the bounds of its search
 pub bound_bounds : (m : System) (c : Pick) → (bound m c).bounds ≡ (searched_by m c).bounds

@@ -50,7 +50,8 @@ one_of false g h t a e = inr e
 says_at : (s u t : State) (x a : Taken) → goes u x ≡ goes t a → Says s u x.answer → Says s t a.answer
 says_at s u t x a e h = let q = goes_parts u t x a e in subst (λ (y : Taken). Says s t y.answer) q.1 (subst (λ y. Says s y x.answer) q.0 h)
 
-counted_at : (s u t : State) (x a : Taken) (o : Option Refusal) (b : Bool) → ends_or o (refused_if b Past (goes u x)) ≡ goes t a → Says s u x.answer → Says s t a.answer
+counted_at : (s u t : State) (x a : Taken) (o : Option Refusal) (b : Bool) → ends_or o (refused_if b Past (goes u x)) ≡ goes t a → Says s u x.answer →
+    Says s t a.answer
 counted_at s u t x a o b e h = says_at s u t x a (refused_goes b Past (goes u x) t a (ends_or_goes o (refused_if b Past (goes u x)) t a e)).1 h
 
 -- a step without a search
@@ -65,7 +66,8 @@ clean_bounds m = refl
 clean_says : (s t : State) (a : Taken) → clean_stage limits s ≡ goes t a → Says s t a.answer
 unfolding clean_stage
 clean_says s t a e =
-    says_at s _ t _ a (ends_or_goes (first_count limits (clean s.system).system) _ t a (ends_or_goes (first_count limits s.system) _ t a e)) (same_says s _ (clean s.system) (returns_clean s.system) (clean_bounds s.system) refl)
+    says_at s _ t _ a (ends_or_goes (first_count limits (clean s.system).system) _ t a (ends_or_goes (first_count limits s.system) _ t a e))
+    (same_says s _ (clean s.system) (returns_clean s.system) (clean_bounds s.system) refl)
 
 -- ---- an equation step
 last_bounds : (m : System) (e : Row) (rest : List Row) (u : ℕ) → (last m e rest u).bounds ≡ []
@@ -83,22 +85,26 @@ returns_merge m e u w f i j n = let p = factors_of (entry e u) (entry e w) in re
 not_zero : (k : ℤ) → k ≢ pos 0 → is_zero k ≡ false
 not_zero k n = on_bool (is_zero k) (λ t. absurd (n (zero_from_is_zero k t))) (λ f. f)
 
-equation_says : (s t : State) (a : Taken) (e : Row) (rest : List Row) (us : List ℕ) → IsReady s.system → Over (IsColumn s.system) e → ((c : ℕ) → In c us → In c s.system.unknown × (entry e c ≢ pos 0)) → Differ us →
+equation_says : (s t : State) (a : Taken) (e : Row) (rest : List Row) (us : List ℕ) → IsReady s.system → Over (IsColumn s.system) e →
+    ((c : ℕ) → In c us → In c s.system.unknown × (entry e c ≢ pos 0)) → Differ us →
     equation_stage limits s e rest us ≡ goes t a → Says s t a.answer
 unfolding equation_stage
 equation_says s t a e rest [] r o i d g = says_at s _ t _ a g (same_says s _ (no_answer s.system) (returns_none s.system) refl refl)
 equation_says s t a e rest (u ∷ []) r o i d g =
     let p = i u (inl refl) in
-    counted_at s _ t _ a _ _ g (same_says s _ (last s.system e rest u) (returns_last s.system e rest u r.formed o p.0 (not_zero (entry e u) p.1)) (last_bounds s.system e rest u) refl)
+    counted_at s _ t _ a _ _ g (same_says s _ (last s.system e rest u) (returns_last s.system e rest u r.formed o p.0 (not_zero (entry e u) p.1))
+    (last_bounds s.system e rest u) refl)
 equation_says s t a e rest (u ∷ w ∷ us) r o i d g =
     counted_at s _ t _ a _ _ g
-    (same_says s _ (merge s.system e u w) (returns_merge s.system e u w r.formed (i u (inl refl)).0 (i w (inr (inl refl))).0 (λ q. d.0 (inl q))) (merge_bounds s.system e u w) refl)
+    (same_says s _ (merge s.system e u w) (returns_merge s.system e u w r.formed (i u (inl refl)).0 (i w (inr (inl refl))).0 (λ q. d.0 (inl q)))
+    (merge_bounds s.system e u w) refl)
 
 -- ---- a Bound step
 search_formed : (m : System) (c : Pick) → Formed m → In c.unknown m.unknown → Formed (searched_by m c).system
 unfolding searched_by
 search_formed m c f i =
-    cond_both (nat_lt 1 c.product) (searched m c.unknown c.lower) (record { system = m; steps = []; back = []; bounds = [] }) (λ (a : Answer). Formed a.system) (λ _. searched_formed m c.unknown c.lower f i) (λ _. f)
+    cond_both (nat_lt 1 c.product) (searched m c.unknown c.lower) (record { system = m; steps = []; back = []; bounds = [] }) (λ (a : Answer). Formed a.system)
+    (λ _. searched_formed m c.unknown c.lower f i) (λ _. f)
 
 bound_says : (s t : State) (a : Taken) (c : Pick) → IsReady s.system → In c.unknown s.system.unknown → bound_stage limits s c ≡ goes t a → Says s t a.answer
 unfolding bound_stage
@@ -112,13 +118,16 @@ bound_says s t a c r i e =
       some = subst (λ bs. All IsSome (bounds_of bs)) (sym (bound_bounds s.system c)) (search_some s.system c);
     })
 
-unknown_says : (s t : State) (a : Taken) (us : List ℕ) → IsReady s.system → ((c : ℕ) → In c us → In c s.system.unknown) → unknown_stage limits s us ≡ goes t a → Says s t a.answer
+unknown_says : (s t : State) (a : Taken) (us : List ℕ) → IsReady s.system → ((c : ℕ) → In c us → In c s.system.unknown) → unknown_stage limits s us ≡ goes t a →
+    Says s t a.answer
 unfolding unknown_stage
 unknown_says s t a [] r i e = cc
-unknown_says s t a (x ∷ us) r i e = bound_says s t a (pick s.system.inequalities x us) r (i (pick s.system.inequalities x us).unknown (pick_in s.system.inequalities x us)) e
+unknown_says s t a (x ∷ us) r i e = bound_says s t a (pick s.system.inequalities x us) r
+    (i (pick s.system.inequalities x us).unknown (pick_in s.system.inequalities x us)) e
 
 -- ---- one stage
-row_says : (s t : State) (a : Taken) (rows : List Row) → IsReady s.system → EachRow (Over (IsColumn s.system)) rows → row_stage limits s rows ≡ goes t a → Says s t a.answer
+row_says : (s t : State) (a : Taken) (rows : List Row) → IsReady s.system → EachRow (Over (IsColumn s.system)) rows → row_stage limits s rows ≡ goes t a →
+    Says s t a.answer
 unfolding row_stage
 row_says s t a [] r o e = unknown_says s t a s.system.unknown r (λ c i. i) e
 row_says s t a (q ∷ rows) r o e =

@@ -107,7 +107,7 @@ tight_all : (lo : ℕ) (us : List ℕ) (rows : List Row) (t : Tightened) → Eac
 tight_all lo us [] t b p h = h
 tight_all lo us (r ∷ rows) t b p h = tight_all lo us rows (then_tighten us t r) b.1 p.1 (tight_one lo us t r b.0 p.0 h)
 
-clean_small : (m : System) → IsReady m → RowsSmall m → AnswerSmall (clean m)
+pub clean_small : (m : System) → IsReady m → RowsSmall m → AnswerSmall (clean m)
 unfolding clean
 clean_small m r h =
     let us = m.unknown in
@@ -129,7 +129,7 @@ clean_small m r h =
     }
 
 -- ---- an equation step
-last_small : (m : System) (e : Row) (rest : List Row) (u : ℕ) → RowsSmall m → m.equations ≡ e ∷ rest → last_passes m e rest u ≡ false →
+pub last_small : (m : System) (e : Row) (rest : List Row) (u : ℕ) → RowsSmall m → m.equations ≡ e ∷ rest → last_passes m e rest u ≡ false →
     AnswerSmall (last m e rest u)
 unfolding last
 last_small m e rest u h q p =
@@ -193,7 +193,7 @@ found_small : (lo x : ℕ) (lower : Bool) (rows : List Row) (s : Found) → x < 
 found_small lo x lower [] s lx b p h = h
 found_small lo x lower (r ∷ rows) s lx b p h = found_small lo x lower rows (found_row x lower s r) lx b.1 p.1 (found_one lo x lower s r lx b.0 p.0 h)
 
-searched_small : (m : System) (x : ℕ) (lower : Bool) → IsReady m → In x m.unknown → RowsSmall m → AnswerSmall (searched m x lower)
+pub searched_small : (m : System) (x : ℕ) (lower : Bool) → IsReady m → In x m.unknown → RowsSmall m → AnswerSmall (searched m x lower)
 unfolding searched
 searched_small m x lower r i h =
     let s = found_all x lower (no_found m) m.inequalities in
@@ -218,7 +218,7 @@ how_small x [] [] h k = (tt, tt)
 how_small x [] (u ∷ high) h k = pairs_of_small x (λ r. neg_ℤ (entry r x)) (u ∷ high) (λ r p. neg_within (entry r x) (entry-within r 0 x p.0 p.1)) k
 how_small x (l ∷ low) high h k = pairs_of_small x (λ r. entry r x) (l ∷ low) (λ r p. entry-within r 0 x p.0 p.1) h
 
-dropped_small : (m : System) (x : ℕ) → RowsSmall m → drop_passes m x ≡ false → AnswerSmall (dropped m x)
+pub dropped_small : (m : System) (x : ℕ) → RowsSmall m → drop_passes m x ≡ false → AnswerSmall (dropped m x)
 unfolding dropped
 dropped_small m x h p =
     let low = EachRow-filter IsRow (λ r. is_positive (entry r x)) m.inequalities h.nonneg in

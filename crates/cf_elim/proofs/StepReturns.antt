@@ -67,7 +67,8 @@ returns_clean m =
 -- ---- columns that are left
 over-without : (Q R : ℕ → Type 0) (x : ℕ) (r : Row) → ((c : ℕ) → Q c → (c ≡ x → ⊥) → R c) → Over Q r → Over R (without x r)
 over-without Q R x [] f o = tt
-over-without Q R x ((c, k) ∷ r) f o = on_bool (c == x) (λ e. rw e (over-without Q R x r f o.1)) (λ e. rw e (f c o.0 (eqb-false c x e), over-without Q R x r f o.1))
+over-without Q R x ((c, k) ∷ r) f o = on_bool (c == x) (λ e. rw e (over-without Q R x r f o.1))
+    (λ e. rw e (f c o.0 (eqb-false c x e), over-without Q R x r f o.1))
 
 pub some_unknown : (m : System) (x : ℕ) → Formed m → In x m.unknown → 1 ≤ x
 some_unknown m zero f i = absurd (f.apart 0 f.constant i)
@@ -87,12 +88,18 @@ some_entry (pos zero) e = absurd (cc)
 some_entry (pos (suc n)) e = omega (arith, ints)
 some_entry (negsuc n) e = omega (arith, ints)
 
-pub returns_last : (m : System) (e : Row) (rest : List Row) (u : ℕ) → Formed m → Over (IsColumn m) e → In u m.unknown → is_zero (entry e u) ≡ false → Returns m (last m e rest u)
+pub returns_last : (m : System) (e : Row) (rest : List Row) (u : ℕ) → Formed m → Over (IsColumn m) e → In u m.unknown → is_zero (entry e u) ≡ false →
+    Returns m (last m e rest u)
 unfolding last
 returns_last m e rest u f o i z = on_bool (is_unit (entry e u))
     (λ t. rw t (record {
       comes = record {
-        over = (some_unknown m u f i, Over-comb _ (neg_ℤ (entry e u)) (without u e) (pos 0) [] (over-without (IsColumn m) _ u e (λ c h n. left_column m.known m.unknown u c h n) o) tt, tt);
+        over = (
+          some_unknown m u f i,
+          Over-comb _ (neg_ℤ (entry e u)) (without u e) (pos 0) []
+              (over-without (IsColumn m) _ u e (λ c h n. left_column m.known m.unknown u c h n) o) tt,
+          tt,
+        );
         covers = λ c j. gone_or_left u c m.unknown j;
       };
       grows = λ c j. j;
@@ -100,7 +107,11 @@ returns_last m e rest u f o i z = on_bool (is_unit (entry e u))
       back = (tt, tt);
     }))
     (λ t. rw t (record {
-      comes = record { over = (some_unknown m u f i, (inl (In-right m.next m.known (m.next ∷ []) (inl refl)), tt), tt); covers = λ c j. gone_or_left u c m.unknown j };
+      comes = record {
+        over = (some_unknown m u f i, (inl (In-right m.next m.known (m.next ∷ []) (inl refl)), tt), tt);
+        covers =
+            λ c j. gone_or_left u c m.unknown j;
+      };
       grows = λ c j. In-left c m.known (m.next ∷ []) j;
       steps = (some_entry (entry e u) z, (some_entry (entry e u) z, tt));
       back = (tt, tt);
@@ -144,7 +155,8 @@ returns_mix m x y a b c d f i j n =
     }
 
 -- ---- the drop of an unknown
-pairs_over : (Q R : ℕ → Type 0) (x : ℕ) (k : Row → ℤ) (rows : List Row) → ((c : ℕ) → Q c → (c ≡ x → ⊥) → R c) → EachRow (Over Q) rows → PairsOver R (map (λ r. (without x r, k r)) rows)
+pairs_over : (Q R : ℕ → Type 0) (x : ℕ) (k : Row → ℤ) (rows : List Row) → ((c : ℕ) → Q c → (c ≡ x → ⊥) → R c) → EachRow (Over Q) rows →
+    PairsOver R (map (λ r. (without x r, k r)) rows)
 pairs_over Q R x k [] f o = tt
 pairs_over Q R x k (r ∷ rows) f o = (over-without Q R x r f o.0, pairs_over Q R x k rows f o.1)
 
@@ -156,12 +168,14 @@ high_divide : (x : ℕ) (rows : List Row) → EachRow (λ r. int_lt (entry r x) 
 high_divide x [] h = tt
 high_divide x (r ∷ rows) h = (let l = lt_is (entry r x) (pos 0) h.0 in omega (arith, ints), high_divide x rows h.1)
 
-how_over : (Q R : ℕ → Type 0) (x : ℕ) (low high : List Row) → ((c : ℕ) → Q c → (c ≡ x → ⊥) → R c) → EachRow (Over Q) low → EachRow (Over Q) high → HowOver R (how_between x low high)
+how_over : (Q R : ℕ → Type 0) (x : ℕ) (low high : List Row) → ((c : ℕ) → Q c → (c ≡ x → ⊥) → R c) → EachRow (Over Q) low → EachRow (Over Q) high →
+    HowOver R (how_between x low high)
 how_over Q R x [] [] f o p = tt
 how_over Q R x [] (u ∷ high) f o p = pairs_over Q R x (λ r. neg_ℤ (entry r x)) (u ∷ high) f p
 how_over Q R x (l ∷ low) high f o p = pairs_over Q R x (λ r. entry r x) (l ∷ low) f o
 
-how_divides : (x : ℕ) (low high : List Row) → EachRow (λ r. is_positive (entry r x) ≡ true) low → EachRow (λ r. int_lt (entry r x) (pos 0) ≡ true) high → HowDivides (how_between x low high)
+how_divides : (x : ℕ) (low high : List Row) → EachRow (λ r. is_positive (entry r x) ≡ true) low → EachRow (λ r. int_lt (entry r x) (pos 0) ≡ true) high →
+    HowDivides (how_between x low high)
 how_divides x [] [] o p = tt
 how_divides x [] (u ∷ high) o p = high_divide x (u ∷ high) p
 how_divides x (l ∷ low) high o p = low_divide x (l ∷ low) o
@@ -173,17 +187,23 @@ returns_dropped m x some o = record {
     over = (
       some,
       how_over (IsColumn m) _ x (lowers x m.inequalities) (uppers x m.inequalities) (λ c h n. left_column m.known m.unknown x c h n)
-          (EachRow-filter (Over (IsColumn m)) (λ r. is_positive (entry r x)) m.inequalities o) (EachRow-filter (Over (IsColumn m)) (λ r. int_lt (entry r x) (pos 0)) m.inequalities o),
+          (EachRow-filter (Over (IsColumn m)) (λ r. is_positive (entry r x)) m.inequalities o)
+          (EachRow-filter (Over (IsColumn m)) (λ r. int_lt (entry r x) (pos 0)) m.inequalities o),
       tt,
     );
     covers = λ c i. gone_or_left x c m.unknown i;
   };
   grows = λ c i. i;
   steps = tt;
-  back = (how_divides x (lowers x m.inequalities) (uppers x m.inequalities) (EachRow-tested (λ r. is_positive (entry r x) ≡ true) (λ r. is_positive (entry r x)) (λ r e. e) m.inequalities) (EachRow-tested (λ r. int_lt (entry r x) (pos 0) ≡ true) (λ r. int_lt (entry r x) (pos 0)) (λ r e. e) m.inequalities), tt);
+  back = (
+    how_divides x (lowers x m.inequalities) (uppers x m.inequalities)
+        (EachRow-tested (λ r. is_positive (entry r x) ≡ true) (λ r. is_positive (entry r x)) (λ r e. e) m.inequalities)
+        (EachRow-tested (λ r. int_lt (entry r x) (pos 0) ≡ true) (λ r. int_lt (entry r x) (pos 0)) (λ r e. e) m.inequalities),
+    tt,
+  );
 }
 
-returns_searched : (m : System) (x : ℕ) (lower : Bool) → Returns m (searched m x lower)
+pub returns_searched : (m : System) (x : ℕ) (lower : Bool) → Returns m (searched m x lower)
 unfolding searched
 returns_searched m x lower = record {
   comes = record { over = tt; covers = λ c i. inl (In-left c m.unknown _ i) };
@@ -195,8 +215,11 @@ returns_searched m x lower = record {
 returns_search : (m : System) (c : Pick) → Returns m (searched_by m c)
 unfolding searched_by
 returns_search m c =
-    cond_both (nat_lt 1 c.product) (searched m c.unknown c.lower) (record { system = m; steps = []; back = []; bounds = [] }) (λ a. Returns m a) (λ _. returns_searched m c.unknown c.lower) (λ _. returns_none m)
+    cond_both (nat_lt 1 c.product) (searched m c.unknown c.lower) (record { system = m; steps = []; back = []; bounds = [] }) (λ a. Returns m a)
+    (λ _. returns_searched m c.unknown c.lower) (λ _. returns_none m)
 
-pub returns_bound : (m : System) (c : Pick) → 1 ≤ c.unknown → EachRow (Over (IsColumn (searched_by m c).system)) (searched_by m c).system.inequalities → Returns m (bound m c)
+pub returns_bound : (m : System) (c : Pick) → 1 ≤ c.unknown → EachRow (Over (IsColumn (searched_by m c).system)) (searched_by m c).system.inequalities →
+    Returns m (bound m c)
 unfolding bound
-returns_bound m c some o = returns_then m (searched_by m c) (dropped (searched_by m c).system c.unknown) (returns_search m c) (returns_dropped (searched_by m c).system c.unknown some o)
+returns_bound m c some o = returns_then m (searched_by m c) (dropped (searched_by m c).system c.unknown) (returns_search m c)
+    (returns_dropped (searched_by m c).system c.unknown some o)

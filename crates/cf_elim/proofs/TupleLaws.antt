@@ -35,7 +35,8 @@ becomes_two : (x : ℕ) (rows : List Row) (n : ℕ) → EachRow (Some1 x) rows �
 becomes_two x [] n h l g = cc
 becomes_two x (r ∷ rows) n h l g = on_bool (nat_lt 1 (unsigned_abs (entry r x)))
     (λ p. stays_two x rows (times_entry x n r) h.1
-    (let k = ltb-true 1 (unsigned_abs (entry r x)) p in let m = times_low (unsigned_abs (entry r x)) n l in let c : unsigned_abs (entry r x) * n ≡ n * unsigned_abs (entry r x) = omega arith in omega arith))
+    (let k = ltb-true 1 (unsigned_abs (entry r x)) p in let m = times_low (unsigned_abs (entry r x)) n l in
+    let c : unsigned_abs (entry r x) * n ≡ n * unsigned_abs (entry r x) = omega arith in omega arith))
     (λ p. becomes_two x rows (times_entry x n r) h.1 (let k = times_low n (unsigned_abs (entry r x)) h.0 in omega arith) (rw p at g))
 
 -- ---- a coefficient of a bound
@@ -56,7 +57,8 @@ some_high : (x : ℕ) (rows : List Row) → EachRow (Some1 x) (uppers x rows)
 some_high x rows = EachRow-tested (Some1 x) (λ r. int_lt (entry r x) (pos 0)) (λ r e. high_some (entry r x) e) rows
 
 -- both sides have a coefficient above 1: so have both products
-both_two : (x : ℕ) (rows : List Row) → has_greater x (lowers x rows) && has_greater x (uppers x rows) ≡ true → (2 ≤ product_of x (lowers x rows)) × (2 ≤ product_of x (uppers x rows))
+both_two : (x : ℕ) (rows : List Row) → has_greater x (lowers x rows) && has_greater x (uppers x rows) ≡ true →
+    (2 ≤ product_of x (lowers x rows)) × (2 ≤ product_of x (uppers x rows))
 both_two x rows e =
     let p = and_true (has_greater x (lowers x rows)) (has_greater x (uppers x rows)) e in
     (becomes_two x (lowers x rows) 1 (some_low x rows) (omega arith) p.0, becomes_two x (uppers x rows) 1 (some_high x rows) (omega arith) p.1)
@@ -86,7 +88,8 @@ fold_product x (r ∷ rows) n h =
     let one = fold_product x rows (min (1 * e) top) (omega arith) in
     let i : 1 * e * p * n ≡ n * e * p = omega arith in
     let j : n * min (1 * e * p) top ≡ min (1 * e * p) top * n = omega arith in
-    again ∙ saturated top (n * e) p ∙ sym (ap (λ z. min (n * z) top) (one ∙ saturated top (1 * e) p) ∙ ap (λ z. min z top) j ∙ saturated top (1 * e * p) n ∙ ap (λ z. min z top) i)
+    again ∙ saturated top (n * e) p ∙ sym (ap (λ z. min (n * z) top) (one ∙ saturated top (1 * e) p) ∙ ap (λ z. min z top) j ∙ saturated top (1 * e * p) n ∙
+    ap (λ z. min z top) i)
 
 abbrev on_side : ℕ → Bool → Row → Bool
 on_side x lower r = if lower then is_positive (entry r x) else int_lt (entry r x) (pos 0)
@@ -98,7 +101,8 @@ on_side_some : (x : ℕ) (lower : Bool) (r : Row) → on_side x lower r ≡ true
 on_side_some x true r e = low_some (entry r x) e
 on_side_some x false r e = high_some (entry r x) e
 
-side_product : (x : ℕ) (lower : Bool) (rows : List Row) (n : ℕ) → n ≤ top → fold (next_tuples x lower) n rows ≡ fold (times_entry x) n (filter (on_side x lower) rows)
+side_product : (x : ℕ) (lower : Bool) (rows : List Row) (n : ℕ) → n ≤ top →
+    fold (next_tuples x lower) n rows ≡ fold (times_entry x) n (filter (on_side x lower) rows)
 side_product x lower [] n h = refl
 side_product x lower (r ∷ rows) n h = on_bool (on_side x lower r)
     (λ t. on_bool (nat_lt 1 (unsigned_abs (entry r x)))
@@ -114,7 +118,8 @@ side_product x lower (r ∷ rows) n h = on_bool (on_side x lower r)
     and_none true = refl
     and_none false = refl
 
-found_product : (t x : ℕ) (lower : Bool) (rows : List Row) (s : Found) → fold times_bound t (found_all x lower s rows).bounds ≡ fold (next_tuples x lower) (fold times_bound t s.bounds) rows
+found_product : (t x : ℕ) (lower : Bool) (rows : List Row) (s : Found) →
+    fold times_bound t (found_all x lower s rows).bounds ≡ fold (next_tuples x lower) (fold times_bound t s.bounds) rows
 found_product t x lower [] s = refl
 found_product t x lower (r ∷ rows) s =
     found_product t x lower rows (found_row x lower s r) ∙ ap (λ n. fold (next_tuples x lower) n rows)
@@ -127,7 +132,8 @@ side_is x rows t = rw t (on_bool (nat_le (product_of x (lowers x rows)) (product
     (λ l. let h = leb-true (product_of x (lowers x rows)) (product_of x (uppers x rows)) l in rw l (omega arith))
     (λ l. let h = leb-false (product_of x (lowers x rows)) (product_of x (uppers x rows)) l in rw l (omega arith)))
 
-pub tuples_are : (m : System) (x t : ℕ) → t ≤ top → fold times_bound t (searched_by m (pick_at m.inequalities x)).bounds ≡ min (t * (pick_at m.inequalities x).product) top
+pub tuples_are : (m : System) (x t : ℕ) → t ≤ top →
+    fold times_bound t (searched_by m (pick_at m.inequalities x)).bounds ≡ min (t * (pick_at m.inequalities x).product) top
 unfolding searched_by searched
 tuples_are m x t h =
     let rows = m.inequalities in
@@ -136,5 +142,6 @@ tuples_are m x t h =
     (λ b.
     let two = both_two x rows b in
     let g : nat_lt 1 c.product ≡ true = rw b (lt-ltb 1 (min (product_of x (lowers x rows)) (product_of x (uppers x rows))) (omega arith)) in
-    rw g (found_product t x c.lower rows (no_found m) ∙ side_product x c.lower rows t h ∙ fold_product x (filter (on_side x c.lower) rows) t h ∙ ap (λ p. min (t * p) top) (side_is x rows b)))
+    rw g (found_product t x c.lower rows (no_found m) ∙ side_product x c.lower rows t h ∙ fold_product x (filter (on_side x c.lower) rows) t h ∙
+    ap (λ p. min (t * p) top) (side_is x rows b)))
     (λ b. rw b (omega arith))

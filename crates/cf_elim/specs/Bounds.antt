@@ -40,7 +40,8 @@ pub record IsDropped (m : System) (x : ℕ) (d : Dropped) : Type 0 where
 
 -- a count passes its limit, or else a number does
 abbrev pub DropRefused : System → ℕ → Refusal → Type 0
-DropRefused m x r = (first_count limits (dropped m x).system ≡ Some r) ⊎ ((first_count limits (dropped m x).system ≡ None) × (drop_passes m x ≡ true) × (r ≡ Past))
+DropRefused m x r = (first_count limits (dropped m x).system ≡ Some r) ⊎
+    ((first_count limits (dropped m x).system ≡ None) × (drop_passes m x ≡ true) × (r ≡ Past))
 
 abbrev pub DropIs : System → ℕ → Result Dropped ElimFault → Type 0
 DropIs m x (Ok d) = IsDropped m x d

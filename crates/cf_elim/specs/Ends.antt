@@ -17,13 +17,15 @@ CleanAfter (u ∷ w ∷ us) b = b ≡ true
 
 -- on to what an equation step leaves
 abbrev pub GoesTo : Reduced → ℕ → Bool → Stage → Type 0
-GoesTo r tuples b (Goes t p) = (t.system ≡ r.system) × (t.tuples ≡ tuples) × (t.is_past_clean ≡ b) × (p.bounds.items ≡ []) × (p.steps ≡ r.steps) × (p.back ≡ r.back)
+GoesTo r tuples b (Goes t p) = (t.system ≡ r.system) × (t.tuples ≡ tuples) × (t.is_past_clean ≡ b) × (p.bounds.items ≡ []) × (p.steps ≡ r.steps) ×
+    (p.back ≡ r.back)
 GoesTo r tuples b Ends = ⊥
 
 -- on to what a Clean leaves, if its counts are within the limits
 abbrev pub CleanedIs : Cleaned → ℕ → Result Stage ElimFault → Type 0
 CleanedIs c n (Ok (Goes t p)) =
-    (first_count limits (system_of c.system) ≡ None) × (t.system ≡ c.system) × (t.tuples ≡ n) × (t.is_past_clean ≡ true) × (p.bounds.items ≡ []) × (p.steps ≡ c.steps) × (p.back.items ≡ [])
+    (first_count limits (system_of c.system) ≡ None) × (t.system ≡ c.system) × (t.tuples ≡ n) × (t.is_past_clean ≡ true) × (p.bounds.items ≡ []) ×
+    (p.steps ≡ c.steps) × (p.back.items ≡ [])
 CleanedIs c n (Ok Ends) = ⊥
 CleanedIs c n (Err (Refused r)) = first_count limits (system_of c.system) ≡ Some r
 CleanedIs c n (Err NoMemory) = Unit {0}

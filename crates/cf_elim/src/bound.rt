@@ -108,8 +108,13 @@ fn searched_by(alloc: Global, system: System, pick: &Pick) -> Result<Searched, N
     remainder_step(alloc, system, pick)
 }
 
-// The unknown x is dropped, once the counts that this leaves are within the limits.
-fn dropped_within(alloc: Global, system: System, x: u32) -> Result<Dropped, ElimFault>
+/// The system without the unknown x, which no equation holds and of whose bounds each pair has a
+/// coefficient 1 or -1, and how x is computed.
+///
+/// # Errors
+/// `Refused` exactly where the rows or else the columns that this leaves, or else a product or a sum
+/// that makes an entry of a new row, pass their limit, and `NoMemory` where memory ran out.
+pub fn dropped_within(alloc: Global, system: System, x: u32) -> Result<Dropped, ElimFault>
     requires formed { Formed (system_of system) }
     requires unknown { In x system.unknown.items }
     requires free { IsFree x system.equations.items }

@@ -8,15 +8,19 @@ use crate::fault::ElimFault;
 use cf_linear::refusal::{LimitKind, MOST_COLUMNS, MOST_ROWS, Refusal};
 use cf_linear::system::System;
 
-// How many rows and columns there are.
+/// How many rows and columns there are.
 #[derive(Clone, Copy)]
-pub(crate) struct Counts {
-    pub(crate) rows: u64,
-    pub(crate) columns: u64,
+pub struct Counts {
+    pub rows: u64,
+    pub columns: u64,
 }
 
-// Whether the rows and the columns of the system are within the limits.
-pub(crate) fn within_counts(system: &System) -> Result<(), ElimFault>
+/// Whether the rows and the columns of the system are within the limits.
+///
+/// # Errors
+/// `Refused` exactly where the rows or else the columns pass their limit, and `NoMemory` where there are
+/// 2^64 of them or more.
+pub fn within_counts(system: &System) -> Result<(), ElimFault>
     ensures { CountIs (first_count limits (system_of system.now)) result }
 {
     let rows = sum(
@@ -31,8 +35,11 @@ pub(crate) fn within_counts(system: &System) -> Result<(), ElimFault>
     }
 }
 
-// Whether as many rows and columns are within the limits.
-pub(crate) fn within(rows: u64, columns: u64) -> Result<(), ElimFault>
+/// Whether as many rows and columns are within the limits.
+///
+/// # Errors
+/// `Refused` exactly where the rows or else the columns pass their limit.
+pub fn within(rows: u64, columns: u64) -> Result<(), ElimFault>
     ensures { CountIs (count_refusal limits rows columns) result }
 {
     if rows > MOST_ROWS {

@@ -42,7 +42,9 @@ fn end_stage(alloc: Global, system: System, tuples: u64, u: u32) -> Result<Stage
     requires ready { IsReady (system_of system) }
     requires some { 0 < length system.equations.items }
     requires one { first_present (system_of system) ≡ u ∷ [] }
-    ensures { StageIs (past_clean (system_of system) tuples) (equation_stage limits (past_clean (system_of system) tuples) (first_of (system_of system)) (rest_of (system_of system)) (first_present (system_of system))) result }
+    ensures { StageIs (past_clean (system_of system) tuples)
+        (equation_stage limits (past_clean (system_of system) tuples) (first_of (system_of system)) (rest_of (system_of system))
+        (first_present (system_of system))) result }
 {
     let counts = match counts_after(&system, u) {
         Some(counts) => counts,
@@ -59,7 +61,9 @@ fn merge_stage(alloc: Global, system: System, tuples: u64) -> Result<Stage, Elim
     requires ready { IsReady (system_of system) }
     requires some { 0 < length system.equations.items }
     requires several { 1 < length (first_present (system_of system)) }
-    ensures { StageIs (past_clean (system_of system) tuples) (equation_stage limits (past_clean (system_of system) tuples) (first_of (system_of system)) (rest_of (system_of system)) (first_present (system_of system))) result }
+    ensures { StageIs (past_clean (system_of system) tuples)
+        (equation_stage limits (past_clean (system_of system) tuples) (first_of (system_of system)) (rest_of (system_of system))
+        (first_present (system_of system))) result }
 {
     match within_counts(&system) {
         Ok(()) => reduced_stage(alloc, system, tuples, true),
@@ -79,7 +83,9 @@ fn reduced_stage(
     requires holds { first_present (system_of system) ≢ [] }
     requires within_counts { first_count limits (equation_answer (system_of system) (first_present (system_of system))).system ≡ None }
     requires after { CleanAfter (first_present (system_of system)) is_past_clean }
-    ensures { StageIs (past_clean (system_of system) tuples) (equation_stage limits (past_clean (system_of system) tuples) (first_of (system_of system)) (rest_of (system_of system)) (first_present (system_of system))) result }
+    ensures { StageIs (past_clean (system_of system) tuples)
+        (equation_stage limits (past_clean (system_of system) tuples) (first_of (system_of system)) (rest_of (system_of system))
+        (first_present (system_of system))) result }
 {
     match step_first(alloc, system) {
         Ok(reduced) => Ok(goes(alloc, reduced, tuples, is_past_clean)),
@@ -105,10 +111,12 @@ fn goes(alloc: Global, reduced: Reduced, tuples: u64, is_past_clean: bool) -> St
     )
 }
 
-// The rows and columns that the end of the first equation, which has the one unknown u, leaves.
-fn counts_after(system: &System, u: u32) -> Option<Counts>
+/// The rows and columns that the end of the first equation, which has the one unknown u, leaves, or none
+/// where they are 2^64 or more.
+pub fn counts_after(system: &System, u: u32) -> Option<Counts>
     requires { 0 < length system.now.equations.items }
-    ensures { IfSome result (λ c. CountsAre (last (system_of system.now) (first_of (system_of system.now)) (rest_of (system_of system.now)) u).system c.rows c.columns) }
+    ensures { IfSome result (λ c. CountsAre (last (system_of system.now) (first_of (system_of system.now)) (rest_of (system_of system.now)) u).system c.rows
+        c.columns) }
 {
     let made = made_after(system, u);
     let rows = sum(

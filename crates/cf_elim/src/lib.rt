@@ -1,14 +1,14 @@
 //! The whole elimination of a system.
 #![tactic(auto)]
 
-mod bound;
+pub mod bound;
 mod case;
 mod clean;
-mod counts;
+pub mod counts;
 pub mod eliminate;
-mod equation;
+pub mod equation;
 pub mod fault;
 pub mod laws;
-mod output;
+pub mod output;
 pub mod solved;
 mod stage;

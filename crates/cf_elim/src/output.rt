@@ -5,17 +5,18 @@ use cf_linear::system::{Back, Search, Step};
 use cf_tree::memory::NoMemory;
 use std::alloc::Global;
 
-// What one step makes.
+/// What one step makes: search columns with their bounds, lets and needs in order, and how unknowns
+/// are computed, in the order in which they are.
 #[derive(Drop)]
-pub(crate) struct StepOutput {
-    pub(crate) bounds: Vec<Search>,
-    pub(crate) steps: Vec<Step>,
-    pub(crate) back: Vec<Back>,
+pub struct StepOutput {
+    pub bounds: Vec<Search>,
+    pub steps: Vec<Step>,
+    pub back: Vec<Back>,
 }
 
 impl StepOutput {
-    // Nothing.
-    pub(crate) fn none(alloc: Global) -> StepOutput
+    /// Nothing.
+    pub fn none(alloc: Global) -> StepOutput
         ensures bounds { result.bounds.items ≡ [] }
         ensures steps { result.steps.items ≡ [] }
         ensures back { result.back.items ≡ [] }
@@ -28,18 +29,18 @@ impl StepOutput {
     }
 }
 
-// What all steps so far make. The unknowns stand in the opposite order: the last step's are computed
-// first.
+/// What all steps so far make. The unknowns stand in the opposite order: the last step's are computed
+/// first.
 #[derive(Drop)]
-pub(crate) struct RunOutput {
-    pub(crate) bounds: Vec<Search>,
-    pub(crate) steps: Vec<Step>,
-    pub(crate) later: Vec<Back>,
+pub struct RunOutput {
+    pub bounds: Vec<Search>,
+    pub steps: Vec<Step>,
+    pub later: Vec<Back>,
 }
 
 impl RunOutput {
-    // Nothing.
-    pub(crate) fn none(alloc: Global) -> RunOutput
+    /// Nothing.
+    pub fn none(alloc: Global) -> RunOutput
         ensures bounds { result.bounds.items ≡ [] }
         ensures steps { result.steps.items ≡ [] }
         ensures later { result.later.items ≡ [] }
@@ -51,8 +52,11 @@ impl RunOutput {
         }
     }
 
-    // Adds what a step makes.
-    pub(crate) fn add(&mut self, made: StepOutput) -> Result<(), NoMemory>
+    /// Adds what a step makes.
+    ///
+    /// # Errors
+    /// `NoMemory` where memory ran out.
+    pub fn add(&mut self, made: StepOutput) -> Result<(), NoMemory>
         ensures bounds { OnOk result (self.new.bounds.items ≡ self.old.bounds.items ++ made.bounds.items) }
         ensures steps { OnOk result (self.new.steps.items ≡ self.old.steps.items ++ made.steps.items) }
         ensures later { OnOk result (self.new.later.items ≡ self.old.later.items ++ reverse made.back.items) }

@@ -29,10 +29,12 @@ pub mixed_fits : (x : ℕ) (r : Row) (y : ℕ) (s : Row) (rows half : List Row) 
     list_any (subst_passes x r) half ≡ false → list_any (mix_row_passes x r y s) rows ≡ false
 mixed_fits x r y s rows half p e q = let q' = rw e at q in mixed_any x r y s rows ∙ rw (p, q') refl
 
-pub mixed_past_first : (x : ℕ) (r : Row) (y : ℕ) (s : Row) (rows : List Row) → list_any (subst_passes y s) rows ≡ true → list_any (mix_row_passes x r y s) rows ≡ true
+pub mixed_past_first : (x : ℕ) (r : Row) (y : ℕ) (s : Row) (rows : List Row) → list_any (subst_passes y s) rows ≡ true →
+    list_any (mix_row_passes x r y s) rows ≡ true
 mixed_past_first x r y s rows p = mixed_any x r y s rows ∙ rw p refl
 
-pub mixed_past_second : (x : ℕ) (r : Row) (y : ℕ) (s : Row) (rows half : List Row) → half ≡ subst_all y s rows → list_any (subst_passes x r) half ≡ true → list_any (mix_row_passes x r y s) rows ≡ true
+pub mixed_past_second : (x : ℕ) (r : Row) (y : ℕ) (s : Row) (rows half : List Row) → half ≡ subst_all y s rows → list_any (subst_passes x r) half ≡ true →
+    list_any (mix_row_passes x r y s) rows ≡ true
 mixed_past_second x r y s rows half e q = let q' = rw e at q in mixed_any x r y s rows ∙ rw q' (or_true (list_any (subst_passes y s) rows))
   where
     or_true : (b : Bool) → (b || true) ≡ true

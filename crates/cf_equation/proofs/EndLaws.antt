@@ -26,7 +26,15 @@ IsLeast0 z = pos 0 ≤ℤ z
 abbrev pub gone : System → List Row → ℕ → Row → List ℕ → ℕ → ℕ → List Step → Answer
 gone m rest u s known next needs steps =
     record {
-      system = record { known = known; unknown = filter (λ w. not (w == u)) m.unknown; next = next; equations = subst_all u s rest; inequalities = subst_all u s m.inequalities; needs = needs };
+      system = record {
+        known = known;
+        unknown = filter (λ w. not (w == u)) m.unknown;
+        next = next;
+        equations = subst_all u s rest;
+        inequalities =
+            subst_all u s m.inequalities;
+        needs = needs;
+      };
       steps = steps;
       back = (u, row_how s) ∷ [];
       bounds = [];
@@ -40,7 +48,8 @@ update_own w u z e c = cond_both (c == u) z (w c) (λ y. y ≡ w c) (λ t. sym e
 abbrev Forward : System → Row → ℕ → Row → List Step → Type 0
 Forward m e u s steps = (v : Values) → value v e ≡ pos 0 → (w : Values) × Same m.next v w × AllFit w steps × (w u ≡ value w s)
 
-pub gone_reaches : (m : System) (e : Row) (rest : List Row) (u : ℕ) (s : Row) (known : List ℕ) (next needs : ℕ) (steps : List Step) → m.equations ≡ e ∷ rest → Low m →
+pub gone_reaches : (m : System) (e : Row) (rest : List Row) (u : ℕ) (s : Row) (known : List ℕ) (next needs : ℕ) (steps : List Step) → m.equations ≡ e ∷ rest →
+    Low m →
     Forward m e u s steps → Reaches m (gone m rest u s known next needs steps)
 gone_reaches m e rest u s known next needs steps eq low fwd v _ h =
     let zs = subst (λ rows. EachRow (IsZero v) rows) eq h.zero in
@@ -60,7 +69,8 @@ gone_reaches m e rest u s known next needs steps eq low fwd v _ h =
       λ c l. f.1 c l ∙ sym (update_own w u (value w s) f.3 c),
     )
 
-pub gone_keeps : (m : System) (e : Row) (rest : List Row) (u : ℕ) (s : Row) (known : List ℕ) (next needs : ℕ) (steps : List Step) → m.equations ≡ e ∷ rest → Low m →
+pub gone_keeps : (m : System) (e : Row) (rest : List Row) (u : ℕ) (s : Row) (known : List ℕ) (next needs : ℕ) (steps : List Step) → m.equations ≡ e ∷ rest →
+    Low m →
     Forward m e u s steps → ((v : Values) → AllFit v steps → value (update v u (value v s)) e ≡ pos 0) →
     Keeps m (gone m rest u s known next needs steps)
 gone_keeps m e rest u s known next needs steps eq low fwd bwd = record {
@@ -109,7 +119,8 @@ divides_from : (c u r : ℤ) → r +ℤ c *ℤ u ≡ pos 0 → c ≢ pos 0 → D
 divides_from (pos zero) u r e h = absurd (h refl)
 divides_from (pos (suc n)) u r e h =
     let i : r ≡ pos (suc n) *ℤ neg_ℤ u = simp ring (omega (arith, ints)) in
-    let f : int_div_euclid r (pos (suc n)) ≡ neg_ℤ u = int_div_euclid_once r (pos (suc n)) (neg_ℤ u) (omega (arith, ints)) (omega (arith, ints)) (omega (arith, ints)) in
+    let f : int_div_euclid r (pos (suc n)) ≡ neg_ℤ u =
+    int_div_euclid_once r (pos (suc n)) (neg_ℤ u) (omega (arith, ints)) (omega (arith, ints)) (omega (arith, ints)) in
     ((neg_ℤ u, i), rw (turn-pos n, f) (omega (arith, ints)))
 divides_from (negsuc n) u r e h =
     let i : r ≡ pos (suc n) *ℤ u = simp ring (omega (arith, ints)) in
@@ -119,10 +130,12 @@ divides_from (negsuc n) u r e h =
 divides_solves : (c r : ℤ) → c ≢ pos 0 → Divides (size c) r → r +ℤ c *ℤ (turn c *ℤ int_div_euclid r (size c)) ≡ pos 0
 divides_solves (pos zero) r h d = absurd (h refl)
 divides_solves (pos (suc n)) r h d =
-    let f : int_div_euclid r (pos (suc n)) ≡ d.0 = int_div_euclid_once r (pos (suc n)) d.0 (omega (arith, ints)) (omega (arith, ints, d.1)) (omega (arith, ints, d.1)) in
+    let f : int_div_euclid r (pos (suc n)) ≡ d.0 =
+    int_div_euclid_once r (pos (suc n)) d.0 (omega (arith, ints)) (omega (arith, ints, d.1)) (omega (arith, ints, d.1)) in
     rw (turn-pos n, f) (minus_z r (pos (suc n)) d.0 d.1)
 divides_solves (negsuc n) r h d =
-    let f : int_div_euclid r (pos (suc n)) ≡ d.0 = int_div_euclid_once r (pos (suc n)) d.0 (omega (arith, ints)) (omega (arith, ints, d.1)) (omega (arith, ints, d.1)) in
+    let f : int_div_euclid r (pos (suc n)) ≡ d.0 =
+    int_div_euclid_once r (pos (suc n)) d.0 (omega (arith, ints)) (omega (arith, ints, d.1)) (omega (arith, ints, d.1)) in
     rw f (plus_z r d.0 n d.1)
 
 abbrev pub unit_row : ℕ → Row → Row
@@ -157,12 +170,20 @@ unfolding last
 last-divided m e rest u h = rw h refl
 
 unit_forward : (m : System) (e : Row) (u : ℕ) → is_unit (entry e u) ≡ true → Forward m e u (unit_row u e) []
-unit_forward m e u h v z = (v, (λ c l. refl), tt, unit_is (entry e u) (v u) (value v (without u e)) h (sym (value-split v u e) ∙ z) ∙ sym (value-unit_row v u e))
+unit_forward m e u h v z = (
+  v,
+  (λ c l. refl),
+  tt,
+  unit_is (entry e u) (v u) (value v (without u e)) h (sym (value-split v u e) ∙ z) ∙
+      sym (value-unit_row v u e),
+)
 
-pub unit_reaches : (m : System) (e : Row) (rest : List Row) (u : ℕ) → m.equations ≡ e ∷ rest → Low m → is_unit (entry e u) ≡ true → Reaches m (unit_answer m e rest u)
+pub unit_reaches : (m : System) (e : Row) (rest : List Row) (u : ℕ) → m.equations ≡ e ∷ rest → Low m → is_unit (entry e u) ≡ true →
+    Reaches m (unit_answer m e rest u)
 unit_reaches m e rest u eq low h = gone_reaches m e rest u (unit_row u e) m.known m.next m.needs [] eq low (unit_forward m e u h)
 
-pub unit_keeps : (m : System) (e : Row) (rest : List Row) (u : ℕ) → m.equations ≡ e ∷ rest → Low m → is_unit (entry e u) ≡ true → Keeps m (unit_answer m e rest u)
+pub unit_keeps : (m : System) (e : Row) (rest : List Row) (u : ℕ) → m.equations ≡ e ∷ rest → Low m → is_unit (entry e u) ≡ true →
+    Keeps m (unit_answer m e rest u)
 unit_keeps m e rest u eq low h =
     gone_keeps m e rest u (unit_row u e) m.known m.next m.needs [] eq low (unit_forward m e u h)
     (λ v _. value-update v u (value v (unit_row u e)) e ∙ rw (value-unit_row v u e) (unit_solves (entry e u) (value v (without u e)) h))
@@ -185,13 +206,15 @@ divided_forward m e u b below h v z =
       sym (same u below) ∙ f.1 ∙ ap (λ y. turn c *ℤ y) (sym j) ∙ sym (value-turned_row w d u e),
     )
 
-pub divided_reaches : (m : System) (e : Row) (rest : List Row) (u : ℕ) → m.equations ≡ e ∷ rest → Low m → u < m.next → entry e u ≢ pos 0 → Reaches m (divided_answer m e rest u)
+pub divided_reaches : (m : System) (e : Row) (rest : List Row) (u : ℕ) → m.equations ≡ e ∷ rest → Low m → u < m.next → entry e u ≢ pos 0 →
+    Reaches m (divided_answer m e rest u)
 divided_reaches m e rest u eq low below h =
     let bs = subst (λ rows. EachRow (Below m.next) rows) eq low.zero in
     gone_reaches m e rest u (turned_row m.next u e) (m.known ++ (m.next ∷ [])) (m.next + 1) (m.needs + 1)
     (need_divides (size (entry e u)) (without u e) ∷ floor_of m.next (without u e) (size (entry e u)) ∷ []) eq low (divided_forward m e u bs.0 below h)
 
-pub divided_keeps : (m : System) (e : Row) (rest : List Row) (u : ℕ) → m.equations ≡ e ∷ rest → Low m → u < m.next → entry e u ≢ pos 0 → Keeps m (divided_answer m e rest u)
+pub divided_keeps : (m : System) (e : Row) (rest : List Row) (u : ℕ) → m.equations ≡ e ∷ rest → Low m → u < m.next → entry e u ≢ pos 0 →
+    Keeps m (divided_answer m e rest u)
 divided_keeps m e rest u eq low below h =
     let c = entry e u in
     let r = without u e in

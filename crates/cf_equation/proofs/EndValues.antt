@@ -16,7 +16,15 @@ use Rattle.cf_equation.specs.Ending.{IsLeft, IsSolution}
 
 pub last_is : (m : System) (u : ℕ) (s : Solution) (l : Left) → IsSolution m (entry (first_of m) u) (without u (first_of m)) s → IsLeft m u s.row l →
     last m (first_of m) (rest_of m) u ≡ record {
-      system = record { known = s.known.items; unknown = l.unknown.items; next = s.next; equations = l.equations.items; inequalities = l.inequalities.items; needs = s.needs };
+      system = record {
+        known = s.known.items;
+        unknown = l.unknown.items;
+        next = s.next;
+        equations = l.equations.items;
+        inequalities =
+            l.inequalities.items;
+        needs = s.needs;
+      };
       steps = map step_of s.steps.items;
       back = (u, row_how s.row) ∷ [];
       bounds = [];
@@ -39,6 +47,7 @@ unit_sum (negsuc n) e u h =
 pub unit_fine : (c : ℤ) (r : Row) → is_unit c ≡ true → IsRow r → comb_passes (neg_ℤ c) r (pos 0) [] ≡ false
 unit_fine c r u h = passes_nowhere (neg_ℤ c) r (pos 0) [] (λ x. unit_sum c (entry r x) u (entry-within r 0 x h.0 h.1))
 
-pub unit_solution : (m : System) (c : ℤ) (r : Row) (s : Solution) → is_unit c ≡ true → s.row ≡ comb (neg_ℤ c) r (pos 0) [] → s.known.items ≡ m.known → s.next ≡ m.next → s.needs ≡ m.needs →
+pub unit_solution : (m : System) (c : ℤ) (r : Row) (s : Solution) → is_unit c ≡ true → s.row ≡ comb (neg_ℤ c) r (pos 0) [] → s.known.items ≡ m.known →
+    s.next ≡ m.next → s.needs ≡ m.needs →
     map step_of s.steps.items ≡ [] → IsSolution m c r s
 unit_solution m c r s u a b n d e = record { row = rw u a; known = rw u b; next = rw u n; needs = rw u d; steps = rw u e }

@@ -32,7 +32,8 @@ merge_one a b s t g h e da db =
     let eb = simp ring at (ap (λ z. t *ℤ z) (exact_quotient b g h db)) in
     mul_cancel_z g (s *ℤ x +ℤ t *ℤ y) (pos 1) h (simp ring (omega (arith, ints)))
 
-pub parts_one : (a b : ℤ) → a ≢ pos 0 → b ≢ pos 0 → (parts_of a b).s *ℤ int_div_euclid a (parts_of a b).g +ℤ (parts_of a b).t *ℤ int_div_euclid b (parts_of a b).g ≡ pos 1
+pub parts_one : (a b : ℤ) → a ≢ pos 0 → b ≢ pos 0 →
+    (parts_of a b).s *ℤ int_div_euclid a (parts_of a b).g +ℤ (parts_of a b).t *ℤ int_div_euclid b (parts_of a b).g ≡ pos 1
 parts_one a b ha hb =
     let p = parts_of a b in
     let is = parts_of-is a b ha hb in

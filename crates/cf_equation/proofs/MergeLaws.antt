@@ -35,7 +35,8 @@ two_own w x y r s i j c =
     let one : (d : ℕ) → w1 d ≡ w d = update_own w x (value w r) i in
     update_own w1 y (value w1 s) (one y ∙ j ∙ sym (value_all w1 w one s)) c ∙ one c
 
-pub merge_reaches : (m : System) (e : Row) (x1 x2 : ℕ) → Low m → x1 < m.next → x2 < m.next → entry e x1 ≢ pos 0 → entry e x2 ≢ pos 0 → Reaches m (merge m e x1 x2)
+pub merge_reaches : (m : System) (e : Row) (x1 x2 : ℕ) → Low m → x1 < m.next → x2 < m.next → entry e x1 ≢ pos 0 → entry e x2 ≢ pos 0 →
+    Reaches m (merge m e x1 x2)
 unfolding merge mix factors_of
 merge_reaches m e x1 x2 low l1 l2 h1 h2 v _ h =
     let p = parts_of (entry e x1) (entry e x2) in
@@ -54,16 +55,20 @@ merge_reaches m e x1 x2 low l1 l2 h1 h2 v _ h =
     let same = Same-trans n (n + 1) v w1 w (omega arith) s1 s2 in
     let at1 : w n ≡ y = sym (s2 n (omega arith)) ∙ update-at v n y in
     let at2 : w (n + 1) ≡ z = update-at w1 (n + 1) z in
-    let i1 : w x1 ≡ value w r1 = sym (same x1 l1) ∙ sym (first_again a b p.s p.t (v x1) (v x2) one) ∙ sym (value-two_at w p.s (neg_ℤ b) n (n + 1) ∙ rw (at1, at2) (simp ring (omega (arith, ints)))) in
-    let i2 : w x2 ≡ value w r2 = sym (same x2 l2) ∙ sym (second_again a b p.s p.t (v x1) (v x2) one) ∙ sym (value-two_at w p.t a n (n + 1) ∙ rw (at1, at2) refl) in (
+    let i1 : w x1 ≡ value w r1 = sym (same x1 l1) ∙ sym (first_again a b p.s p.t (v x1) (v x2) one) ∙
+    sym (value-two_at w p.s (neg_ℤ b) n (n + 1) ∙ rw (at1, at2) (simp ring (omega (arith, ints)))) in
+    let i2 : w x2 ≡ value w r2 = sym (same x2 l2) ∙ sym (second_again a b p.s p.t (v x1) (v x2) one) ∙
+    sym (value-two_at w p.t a n (n + 1) ∙ rw (at1, at2) refl) in (
       w,
       (
         same,
         tt,
         tt,
         record {
-          zero = EachRow-subst IsNull w x1 r1 i1 (subst_all x2 r2 m.equations) (EachRow-subst IsNull w x2 r2 i2 m.equations (EachRow-same IsNull n v w same m.equations low.zero h.zero));
-          nonneg = EachRow-subst IsLeast0 w x1 r1 i1 (subst_all x2 r2 m.inequalities) (EachRow-subst IsLeast0 w x2 r2 i2 m.inequalities (EachRow-same IsLeast0 n v w same m.inequalities low.nonneg h.nonneg));
+          zero = EachRow-subst IsNull w x1 r1 i1 (subst_all x2 r2 m.equations)
+              (EachRow-subst IsNull w x2 r2 i2 m.equations (EachRow-same IsNull n v w same m.equations low.zero h.zero));
+          nonneg = EachRow-subst IsLeast0 w x1 r1 i1 (subst_all x2 r2 m.inequalities)
+              (EachRow-subst IsLeast0 w x2 r2 i2 m.inequalities (EachRow-same IsLeast0 n v w same m.inequalities low.nonneg h.nonneg));
         },
       ),
       λ c l. same c l ∙ sym (two_own w x1 x2 r1 r2 i1 i2 c),
@@ -87,11 +92,14 @@ merge_keeps m e x1 x2 low l1 l2 h1 h2 =
           };
     }
 
-pub merge_owes : (m : System) (e : Row) (x1 x2 : ℕ) → Formed m → In x1 m.unknown → In x2 m.unknown → entry e x1 ≢ pos 0 → entry e x2 ≢ pos 0 → Owes m (merge m e x1 x2)
+pub merge_owes : (m : System) (e : Row) (x1 x2 : ℕ) → Formed m → In x1 m.unknown → In x2 m.unknown → entry e x1 ≢ pos 0 → entry e x2 ≢ pos 0 →
+    Owes m (merge m e x1 x2)
 unfolding merge mix
 merge_owes m e x1 x2 f i1 i2 h1 h2 =
-    still m (merge m e x1 x2) (kinds_from m f) (merge_keeps m e x1 x2 (low_from m f) (f.unknown_below x1 i1) (f.unknown_below x2 i2) h1 h2) refl (omega arith) refl refl
-    (λ v c k. update-other (update v x1 _) x2 c _ (λ q. f.apart c k (subst (λ y. In y m.unknown) (sym q) i2)) ∙ update-other v x1 c _ (λ q. f.apart c k (subst (λ y. In y m.unknown) (sym q) i1)))
+    still m (merge m e x1 x2) (kinds_from m f) (merge_keeps m e x1 x2 (low_from m f) (f.unknown_below x1 i1) (f.unknown_below x2 i2) h1 h2) refl (omega arith)
+    refl refl
+    (λ v c k. update-other (update v x1 _) x2 c _ (λ q. f.apart c k (subst (λ y. In y m.unknown) (sym q) i2)) ∙
+    update-other v x1 c _ (λ q. f.apart c k (subst (λ y. In y m.unknown) (sym q) i1)))
 
 -- ---- a formed system again
 -- what is not x stays, and y stands where x stood
@@ -113,7 +121,8 @@ In-new x y (d ∷ us) i = ⊎_elim (λ (e : x ≡ d). inl (sym (new e))) (λ j. 
 pub In-unreplaced : (c x y : ℕ) (us : List ℕ) → In c (replaced x y us) → ((c ≡ y) × In x us) ⊎ In c us
 In-unreplaced c x y [] i = absurd i
 In-unreplaced c x y (d ∷ us) i =
-    ⊎_elim (λ (e : c ≡ (if d == x then y else d)). cond_both (d == x) y d (λ z. c ≡ z → ((c ≡ y) × In x (d ∷ us)) ⊎ In c (d ∷ us)) (λ t q. inl (q, inl (sym (eqb-true d x t)))) (λ t q. inr (inl q)) e)
+    ⊎_elim (λ (e : c ≡ (if d == x then y else d)). cond_both (d == x) y d (λ z. c ≡ z → ((c ≡ y) × In x (d ∷ us)) ⊎ In c (d ∷ us))
+    (λ t q. inl (q, inl (sym (eqb-true d x t)))) (λ t q. inr (inl q)) e)
     (λ j. ⊎_elim (λ q. inl (q.0, inr q.1)) (λ q. inr (inr q)) (In-unreplaced c x y us j)) i
 
 pub Differ-replaced : (x y : ℕ) (us : List ℕ) → (In y us → ⊥) → Differ us → Differ (replaced x y us)
@@ -159,7 +168,8 @@ mix_formed m x y a b c d f ix iy apart =
     record {
       constant = f.constant;
       below = λ w k. let l = f.below w k in omega arith;
-      unknown_below = λ w i. ⊎_elim (λ (e : w ≡ u). omega arith) (λ j. ⊎_elim (λ (e : w ≡ v). omega arith) (λ k. let l = f.unknown_below w k in omega arith) j) (back w i);
+      unknown_below = λ w i. ⊎_elim (λ (e : w ≡ u). omega arith) (λ j. ⊎_elim (λ (e : w ≡ v). omega arith) (λ k. let l = f.unknown_below w k in omega arith) j)
+          (back w i);
       apart = λ w k i.
           let l = f.below w k in
           ⊎_elim (λ (e : w ≡ u). absurd (omega arith)) (λ j. ⊎_elim (λ (e : w ≡ v). absurd (omega arith)) (λ q. f.apart w k q) j) (back w i);

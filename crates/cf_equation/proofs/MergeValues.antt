@@ -11,9 +11,18 @@ use Rattle.cf_equation.specs.declared.merge.MergeFactors.{MergeFactors}
 use Rattle.cf_equation.specs.Equations.{first_of}
 use Rattle.cf_equation.specs.Merging.{plain_factors, IsMixed}
 
-pub mix_is : (m : System) (x : ℕ) (r : Row) (y : ℕ) (s : Row) (l : Left) (a b c d : ℤ) → r ≡ two_at a m.next b (m.next + 1) → s ≡ two_at c m.next d (m.next + 1) → IsMixed m x r y s l →
+pub mix_is : (m : System) (x : ℕ) (r : Row) (y : ℕ) (s : Row) (l : Left) (a b c d : ℤ) → r ≡ two_at a m.next b (m.next + 1) →
+    s ≡ two_at c m.next d (m.next + 1) → IsMixed m x r y s l →
     mix m x y a b c d ≡ record {
-      system = record { known = m.known; unknown = l.unknown.items; next = m.next + 2; equations = l.equations.items; inequalities = l.inequalities.items; needs = m.needs };
+      system = record {
+        known = m.known;
+        unknown = l.unknown.items;
+        next = m.next + 2;
+        equations = l.equations.items;
+        inequalities =
+            l.inequalities.items;
+        needs = m.needs;
+      };
       steps = [];
       back = (x, row_how r) ∷ (y, row_how s) ∷ [];
       bounds = [];
@@ -26,10 +35,12 @@ pub factors_are : (a b : ℤ) (p : GcdParts) (m n x : ℤ) → p ≡ parts_of a 
 unfolding factors_of
 factors_are a b p m n x e f g h = rw (g, f, h, e) refl
 
-pub merge_is : (m : System) (x y : ℕ) (f : MergeFactors) → plain_factors f ≡ factors_of (entry (first_of m) x) (entry (first_of m) y) → mix m x y f.s f.m f.t f.n ≡ merge m (first_of m) x y
+pub merge_is : (m : System) (x y : ℕ) (f : MergeFactors) → plain_factors f ≡ factors_of (entry (first_of m) x) (entry (first_of m) y) →
+    mix m x y f.s f.m f.t f.n ≡ merge m (first_of m) x y
 unfolding merge
 merge_is m x y f e = ap (λ (g : Factors). mix m x y g.s g.m g.t g.n) e
 
-pub merge_passes_is : (m : System) (x y : ℕ) (f : MergeFactors) → plain_factors f ≡ factors_of (entry (first_of m) x) (entry (first_of m) y) → mix_passes m x y f.s f.m f.t f.n ≡ merge_passes m (first_of m) x y
+pub merge_passes_is : (m : System) (x y : ℕ) (f : MergeFactors) → plain_factors f ≡ factors_of (entry (first_of m) x) (entry (first_of m) y) →
+    mix_passes m x y f.s f.m f.t f.n ≡ merge_passes m (first_of m) x y
 unfolding merge_passes
 merge_passes_is m x y f e = ap (λ (g : Factors). mix_passes m x y g.s g.m g.t g.n) e

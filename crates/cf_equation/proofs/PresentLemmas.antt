@@ -30,9 +30,11 @@ several_from (y ∷ z ∷ us) u w e = (us, cc)
 pub present_skip : (us : List ℕ) (e : Row) (i : ℕ) → i < length us → entry e (get_or us i 0) ≡ pos 0 → present (drop i us) e ≡ present (drop (i + 1) us) e
 present_skip us e i h z = rw (add-one, drop-cons us i 0, z) refl
 
-pub present_found : (us : List ℕ) (e : Row) (i : ℕ) → i < length us → entry e (get_or us i 0) ≢ pos 0 → present (drop i us) e ≡ get_or us i 0 ∷ present (drop (i + 1) us) e
+pub present_found : (us : List ℕ) (e : Row) (i : ℕ) → i < length us → entry e (get_or us i 0) ≢ pos 0 →
+    present (drop i us) e ≡ get_or us i 0 ∷ present (drop (i + 1) us) e
 present_found us e i h z =
-    rw (add-one, drop-cons us i 0) (on_bool (is_zero (entry e (get_or us i 0))) (λ t. absurd (z (zero_from_is_zero (entry e (get_or us i 0)) t))) (λ t. rw t refl))
+    rw (add-one, drop-cons us i 0) (on_bool (is_zero (entry e (get_or us i 0))) (λ t. absurd (z (zero_from_is_zero (entry e (get_or us i 0)) t)))
+    (λ t. rw t refl))
 
 -- ---- what the step is for one unknown, and for several
 pub one_entry : (m : System) (u : ℕ) → first_present m ≡ u ∷ [] → entry (first_of m) u ≢ pos 0
@@ -44,11 +46,13 @@ first_entry m u w ws p = (In-present u m.unknown (first_of m) (subst (λ xs. In 
 pub second_entry : (m : System) (u w : ℕ) (ws : List ℕ) → first_present m ≡ u ∷ w ∷ ws → entry (first_of m) w ≢ pos 0
 second_entry m u w ws p = (In-present w m.unknown (first_of m) (subst (λ xs. In w xs) (sym p) (inr (inl refl)))).1
 
-pub one_owes : (m : System) (u : ℕ) (a : Answer) → Formed m → Differ m.unknown → 0 < length m.equations → first_present m ≡ u ∷ [] → a ≡ last m (first_of m) (rest_of m) u → StepOwes m a
+pub one_owes : (m : System) (u : ℕ) (a : Answer) → Formed m → Differ m.unknown → 0 < length m.equations → first_present m ≡ u ∷ [] →
+    a ≡ last m (first_of m) (rest_of m) u → StepOwes m a
 one_owes m u a f d s p e =
     subst (λ x. StepOwes m x) (sym e) (subst (λ us. StepOwes m (equation_answer m us)) p (step_owes m f d s (λ q. let r : [] ≡ u ∷ [] = sym q ∙ p in cc)))
 
-pub several_owes : (m : System) (u w : ℕ) (ws : List ℕ) (a : Answer) → Formed m → Differ m.unknown → 0 < length m.equations → first_present m ≡ u ∷ w ∷ ws → a ≡ merge m (first_of m) u w → StepOwes m a
+pub several_owes : (m : System) (u w : ℕ) (ws : List ℕ) (a : Answer) → Formed m → Differ m.unknown → 0 < length m.equations → first_present m ≡ u ∷ w ∷ ws →
+    a ≡ merge m (first_of m) u w → StepOwes m a
 several_owes m u w ws a f d s p e =
     subst (λ x. StepOwes m x) (sym e) (subst (λ us. StepOwes m (equation_answer m us)) p (step_owes m f d s (λ q. let r : [] ≡ u ∷ w ∷ ws = sym q ∙ p in cc)))
 

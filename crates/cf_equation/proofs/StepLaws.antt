@@ -23,11 +23,13 @@ abbrev pub OnlyUnknown : System → ℕ → Row → Type 0
 OnlyUnknown m u e = Over (λ c. In c m.known ⊎ (c ≡ u)) e
 
 -- ---- the last unknown
-divided_owes : (m : System) (e : Row) (rest : List Row) (u : ℕ) → Formed m → m.equations ≡ e ∷ rest → In u m.unknown → entry e u ≢ pos 0 → OnlyUnknown m u e → Owes m (divided_answer m e rest u)
+divided_owes : (m : System) (e : Row) (rest : List Row) (u : ℕ) → Formed m → m.equations ≡ e ∷ rest → In u m.unknown → entry e u ≢ pos 0 → OnlyUnknown m u e →
+    Owes m (divided_answer m e rest u)
 divided_owes m e rest u f eq i h alone =
     let r = without u e in
     let over : Over (λ c. In c m.known ⊎ In c []) r =
-    Over-weaker (λ c. (In c m.known ⊎ (c ≡ u)) × (c ≢ u)) (λ c. In c m.known ⊎ In c []) (λ c q. ⊎_elim (λ k. inl k) (λ j. absurd (q.1 j)) q.0) r (Over-without (λ c. In c m.known ⊎ (c ≡ u)) u e alone) in
+    Over-weaker (λ c. (In c m.known ⊎ (c ≡ u)) × (c ≢ u)) (λ c. In c m.known ⊎ In c []) (λ c q. ⊎_elim (λ k. inl k) (λ j. absurd (q.1 j)) q.0) r
+    (Over-without (λ c. In c m.known ⊎ (c ≡ u)) u e alone) in
     record {
       keeps = divided_keeps m e rest u eq (low_from m f) (f.unknown_below u i) h;
       constant = f.constant;
@@ -43,13 +45,17 @@ divided_owes m e rest u f eq i h alone =
       kept = one_kept m u (row_how (turned_row m.next u e)) (kinds_from m f) i;
     }
 
-pub last_owes : (m : System) (e : Row) (rest : List Row) (u : ℕ) → Formed m → m.equations ≡ e ∷ rest → In u m.unknown → entry e u ≢ pos 0 → OnlyUnknown m u e → Owes m (last m e rest u)
+pub last_owes : (m : System) (e : Row) (rest : List Row) (u : ℕ) → Formed m → m.equations ≡ e ∷ rest → In u m.unknown → entry e u ≢ pos 0 → OnlyUnknown m u e →
+    Owes m (last m e rest u)
 last_owes m e rest u f eq i h alone =
     cond_both (is_unit (entry e u)) (pos 0) (pos 0) (λ _. Owes m (last m e rest u))
-    (λ j. subst (λ a. Owes m a) (sym (last-unit m e rest u j)) (still m (unit_answer m e rest u) (kinds_from m f) (unit_keeps m e rest u eq (low_from m f) j) refl (omega arith) refl refl (one_kept m u (row_how (unit_row u e)) (kinds_from m f) i)))
+    (λ j. subst (λ a. Owes m a) (sym (last-unit m e rest u j))
+    (still m (unit_answer m e rest u) (kinds_from m f) (unit_keeps m e rest u eq (low_from m f) j) refl (omega arith) refl refl
+    (one_kept m u (row_how (unit_row u e)) (kinds_from m f) i)))
     (λ j. subst (λ a. Owes m a) (sym (last-divided m e rest u j)) (divided_owes m e rest u f eq i h alone))
 
-last_reaches : (m : System) (e : Row) (rest : List Row) (u : ℕ) → Formed m → m.equations ≡ e ∷ rest → In u m.unknown → entry e u ≢ pos 0 → Reaches m (last m e rest u)
+last_reaches : (m : System) (e : Row) (rest : List Row) (u : ℕ) → Formed m → m.equations ≡ e ∷ rest → In u m.unknown → entry e u ≢ pos 0 →
+    Reaches m (last m e rest u)
 last_reaches m e rest u f eq i h =
     cond_both (is_unit (entry e u)) (pos 0) (pos 0) (λ _. Reaches m (last m e rest u))
     (λ j. subst (Reaches m) (sym (last-unit m e rest u j)) (unit_reaches m e rest u eq (low_from m f) j))
@@ -63,7 +69,8 @@ unit_formed m e rest u f eq alone =
     let zr = subst (λ rows. EachRow (Rises 0) rows) eq f.zero_rise in
     let move : (c : ℕ) → IsColumn m c × (c ≢ u) → IsColumn n c = λ c q. ⊎_elim (λ k. inl k) (λ k. inr (In-filter c u m.unknown k q.1)) q.0 in
     let so : Over (IsColumn n) s = Over-comb (IsColumn n) (neg_ℤ (entry e u)) (without u e) (pos 0) []
-    (Over-weaker (λ c. (In c m.known ⊎ (c ≡ u)) × (c ≢ u)) (IsColumn n) (λ c q. ⊎_elim (λ k. inl k) (λ k. absurd (q.1 k)) q.0) (without u e) (Over-without (λ c. In c m.known ⊎ (c ≡ u)) u e alone)) tt in
+    (Over-weaker (λ c. (In c m.known ⊎ (c ≡ u)) × (c ≢ u)) (IsColumn n) (λ c q. ⊎_elim (λ k. inl k) (λ k. absurd (q.1 k)) q.0) (without u e)
+    (Over-without (λ c. In c m.known ⊎ (c ≡ u)) u e alone)) tt in
     let sr : Rises 0 s = Rises-comb 0 (neg_ℤ (entry e u)) (without u e) (pos 0) [] (Rises-filter 0 (λ (c, k). not (c == u)) e zr.0) tt in
     record {
       constant = f.constant;
@@ -92,12 +99,14 @@ divided_formed m e rest u f eq =
     let n = (divided_answer m e rest u).system in
     let zo = subst (λ rows. EachRow (Over (IsColumn m)) rows) eq f.zero in
     let zr = subst (λ rows. EachRow (Rises 0) rows) eq f.zero_rise in
-    let move : (c : ℕ) → IsColumn m c × (c ≢ u) → IsColumn n c = λ c q. ⊎_elim (λ k. inl (In-left c m.known (d ∷ []) k)) (λ k. inr (In-filter c u m.unknown k q.1)) q.0 in
+    let move : (c : ℕ) → IsColumn m c × (c ≢ u) → IsColumn n c =
+    λ c q. ⊎_elim (λ k. inl (In-left c m.known (d ∷ []) k)) (λ k. inr (In-filter c u m.unknown k q.1)) q.0 in
     let so : Over (IsColumn n) s = (inl (In-right d m.known (d ∷ []) (inl refl)), tt) in
     let sr : Rises 0 s = (omega arith, turn_some (entry e u), tt) in
     record {
       constant = In-left 0 m.known (d ∷ []) f.constant;
-      below = λ c k. ⊎_elim (λ j. let b = f.below c j in omega arith) (λ j. ⊎_elim (λ (q : c ≡ d). omega arith) (λ q. absurd q) j) (In-append c m.known (d ∷ []) k);
+      below = λ c k. ⊎_elim (λ j. let b = f.below c j in omega arith) (λ j. ⊎_elim (λ (q : c ≡ d). omega arith) (λ q. absurd q) j)
+          (In-append c m.known (d ∷ []) k);
       unknown_below = λ c i. let b = f.unknown_below c (In-unfilter c u m.unknown i) in omega arith;
       apart = λ c k i.
           let j = In-unfilter c u m.unknown i in
@@ -117,11 +126,13 @@ last_formed m e rest u f eq alone =
 
 pub Differ-filter : (p : ℕ → Bool) (us : List ℕ) → Differ us → Differ (filter p us)
 Differ-filter p [] h = tt
-Differ-filter p (c ∷ us) h = cond_both (p c) (c ∷ filter p us) (filter p us) (λ y. Differ y) (λ e. ((λ i. h.0 (In-any us i)), Differ-filter p us h.1)) (λ e. Differ-filter p us h.1)
+Differ-filter p (c ∷ us) h = cond_both (p c) (c ∷ filter p us) (filter p us) (λ y. Differ y) (λ e. ((λ i. h.0 (In-any us i)), Differ-filter p us h.1))
+    (λ e. Differ-filter p us h.1)
   where
     In-any : (ys : List ℕ) → In c (filter p ys) → In c ys
     In-any [] i = i
-    In-any (d ∷ ys) i = cond_both (p d) (d ∷ filter p ys) (filter p ys) (λ y. In c y → In c (d ∷ ys)) (λ e k. ⊎_elim (λ q. inl q) (λ q. inr (In-any ys q)) k) (λ e k. inr (In-any ys k)) i
+    In-any (d ∷ ys) i = cond_both (p d) (d ∷ filter p ys) (filter p ys) (λ y. In c y → In c (d ∷ ys)) (λ e k. ⊎_elim (λ q. inl q) (λ q. inr (In-any ys q)) k)
+        (λ e k. inr (In-any ys k)) i
 
 pub last_differs : (m : System) (e : Row) (rest : List Row) (u : ℕ) → Differ m.unknown → Differ (last m e rest u).system.unknown
 unfolding last
@@ -132,7 +143,8 @@ pub In-present : (c : ℕ) (us : List ℕ) (e : Row) → In c (present us e) →
 In-present c [] e = λ i. absurd i
 In-present c (u ∷ us) e =
     cond_both (not (is_zero (entry e u))) (u ∷ present us e) (present us e) (λ y. In c y → In c (u ∷ us) × (entry e c ≢ pos 0))
-    (λ t i. ⊎_elim (λ (q : c ≡ u). (inl q, λ z. some (entry e u) t (ap (λ (w : ℕ). entry e w) (sym q) ∙ z))) (λ q. let r = In-present c us e q in (inr r.0, r.1)) i)
+    (λ t i. ⊎_elim (λ (q : c ≡ u). (inl q, λ z. some (entry e u) t (ap (λ (w : ℕ). entry e w) (sym q) ∙ z))) (λ q. let r = In-present c us e q in
+    (inr r.0, r.1)) i)
     (λ t i. let r = In-present c us e i in (inr r.0, r.1))
   where
     some : (k : ℤ) → not (is_zero k) ≡ true → k ≡ pos 0 → ⊥
@@ -162,7 +174,8 @@ all_some c [] h = tt
 all_some c ((d, k) ∷ r) h = (
   (λ e. h.1 (sym (entry-head c d k r h) ∙ e)),
   Over-both (λ x. suc d ≤ x) (λ x. entry r x ≢ pos 0) (λ x. entry ((d, k) ∷ r) x ≢ pos 0)
-      (λ x l n e. let t : d == x ≡ false = ne_eqb d x (λ q. absurd (omega arith)) in n (plain (entry r x) (rw t at e))) r (all_high (suc d) r h.2) (all_some (suc d) r h.2),
+      (λ x l n e. let t : d == x ≡ false = ne_eqb d x (λ q. absurd (omega arith)) in n (plain (entry r x) (rw t at e))) r (all_high (suc d) r h.2)
+      (all_some (suc d) r h.2),
 )
   where
     plain : (z : ℤ) → pos 0 +ℤ z ≡ pos 0 → z ≡ pos 0

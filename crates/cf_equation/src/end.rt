@@ -175,7 +175,8 @@ fn left_after(alloc: Global, system: &System, u: u32, row: &Row) -> Result<Left,
     requires { 0 < length system.now.equations.items }
     ensures value { IfOk result (λ l. IsLeft (system_of system.now) u row.now l) }
     ensures fits { IfOk result (λ l. list_any (subst_passes u row.now) (rest_of (system_of system.now) ++ (system_of system.now).inequalities) ≡ false) }
-    ensures past { result ≡ Err RowFault.Past → list_any (subst_passes u row.now) (rest_of (system_of system.now) ++ (system_of system.now).inequalities) ≡ true }
+    ensures past { result ≡ Err RowFault.Past →
+        list_any (subst_passes u row.now) (rest_of (system_of system.now) ++ (system_of system.now).inequalities) ≡ true }
 {
     let equations = match subst_rows(alloc, &system.equations[1..], u, row) {
         Ok(rows) => rows,

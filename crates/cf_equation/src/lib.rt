@@ -2,7 +2,7 @@
 #![tactic(auto)]
 
 mod end;
-mod merge;
+pub mod merge;
 mod replace;
 pub mod step;
 pub mod unknowns;

@@ -18,13 +18,13 @@ use cf_num::{bezout, fdiv, neg};
 use cf_tree::memory::NoMemory;
 use std::alloc::Global;
 
-// `x = s * u + m * v` and `y = t * u + n * v`, for the new unknowns u and v.
+/// `x = s * u + m * v` and `y = t * u + n * v`, for the new unknowns u and v.
 #[derive(Clone, Copy)]
-pub(crate) struct MergeFactors {
-    s: i128,
-    m: i128,
-    t: i128,
-    n: i128,
+pub struct MergeFactors {
+    pub s: i128,
+    pub m: i128,
+    pub t: i128,
+    pub n: i128,
 }
 
 // The factors for two unknowns with coefficients a and b.
@@ -56,7 +56,7 @@ pub(crate) fn merge(alloc: Global, system: System, x: u32, y: u32) -> Result<Red
 {
     let a = first_entry(&system, x);
     let b = first_entry(&system, y);
-    merge_by(alloc, system, x, y, factors(a, b))
+    mix(alloc, system, x, y, factors(a, b))
 }
 
 // The entry of the first equation at the column.
@@ -68,8 +68,13 @@ fn first_entry(system: &System, x: u32) -> i128
     system.equations[0].entry(x)
 }
 
-// The system with two new unknowns in the places of x and y.
-fn merge_by(
+/// The system with two new unknowns, which these factors tell, in the places of x and y. The unknowns
+/// that went are x and then y, each with its row of new ones.
+///
+/// # Errors
+/// `Past` exactly where a product or a sum that makes an entry of a new row passes the limit of
+/// numbers, and `NoMemory` where memory ran out.
+pub fn mix(
     alloc: Global,
     system: System,
     x: u32,
@@ -118,7 +123,8 @@ fn mixed_left(
     requires { system.now.next + 1 < 2 ^ 32 }
     ensures value { IfOk result (λ l. IsMixed (system_of system.now) x first.now y second.now l) }
     ensures fits { IfOk result (λ l. list_any (mix_row_passes x first.now y second.now) (system.now.equations.items ++ system.now.inequalities.items) ≡ false) }
-    ensures past { result ≡ Err RowFault.Past → list_any (mix_row_passes x first.now y second.now) (system.now.equations.items ++ system.now.inequalities.items) ≡ true }
+    ensures past { result ≡ Err RowFault.Past →
+        list_any (mix_row_passes x first.now y second.now) (system.now.equations.items ++ system.now.inequalities.items) ≡ true }
 {
     let equations = match mixed(alloc, &system.equations, x, first, y, second) {
         Ok(rows) => rows,

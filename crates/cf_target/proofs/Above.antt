@@ -22,11 +22,13 @@ pub read_none : (n : ℕ) (ts : List Token) → n ≡ 0 → read n ts ≡ Err (l
 unfolding read refuse
 read_none n ts h = rw h refl
 
-pub arms_none : (part less : Reader CodeTree) (n : ℕ) (ts : List Token) → n ≡ 0 → all_arms part less n ts ≡ bind (must (is (Sign (codes "}")))) (λ p. pure []) ts
+pub arms_none : (part less : Reader CodeTree) (n : ℕ) (ts : List Token) → n ≡ 0 →
+    all_arms part less n ts ≡ bind (must (is (Sign (codes "}")))) (λ p. pure []) ts
 unfolding all_arms
 arms_none part less n ts h = rw h refl
 
-pub arms_above : (part less : Reader CodeTree) (n : ℕ) (ts : List Token) → 0 < n → all_arms part less n ts ≡ others_of snoc (arm_from part less n) (Word (codes "arm")) (Sign (codes "}")) [] ts
+pub arms_above : (part less : Reader CodeTree) (n : ℕ) (ts : List Token) → 0 < n →
+    all_arms part less n ts ≡ others_of snoc (arm_from part less n) (Word (codes "arm")) (Sign (codes "}")) [] ts
 unfolding all_arms
 arms_above part less zero ts h = absurd (omega arith)
 arms_above part less (suc n) ts h = refl
@@ -64,7 +66,9 @@ steps_fail part k done ts s us stops.NoMemory h g lt = tt
 steps_fail part k done ts s us (stops.TokensLeft n) h g lt = steps_err part k done ts s us n h g lt
 
 -- the next turn of the loop
-pub steps_next : (part : Reader CodeTree) (k j : ℕ) (done done' : List ItemTree) (ts : List Token) (s : Step) (us : List Token) (i : ItemTree) (vs : List Token) (whole : Got (List ItemTree)) →
-    at a_step ts ≡ Some (s, us) → item_of part s us ≡ Ok (i, vs) → k ≡ suc j → done' ≡ snoc done i → steps_of part k done ts ≡ whole → steps_of part j done' vs ≡ whole
+pub steps_next : (part : Reader CodeTree) (k j : ℕ) (done done' : List ItemTree) (ts : List Token) (s : Step) (us : List Token) (i : ItemTree) (vs : List Token)
+    (whole : Got (List ItemTree)) →
+    at a_step ts ≡ Some (s, us) → item_of part s us ≡ Ok (i, vs) → k ≡ suc j → done' ≡ snoc done i → steps_of part k done ts ≡ whole →
+    steps_of part j done' vs ≡ whole
 steps_next part k j done done' ts s us i vs whole h g e d w =
     ap (λ y. steps_of part j y vs) d ∙ sym (steps_go part k j done ts s us i vs h g e) ∙ w

@@ -32,12 +32,25 @@ spelled =
     (code_set_of no_codes, sign (codes "{") ∷ sign (codes "}") ∷ []) ∷
     (code_set_of (codes_of (code_var 1 ∷ code_lit (pos 2) ∷ [])), sign (codes "{") ∷ word (codes "v1") ∷ sign (codes ",") ∷ literal 2 ∷ sign (codes "}") ∷ []) ∷
     -- tuples
-    (code_tuple (codes_of (code_var 1 ∷ code_lit (pos 2) ∷ [])), sign (codes "(") ∷ word (codes "v1") ∷ sign (codes ",") ∷ literal 2 ∷ sign (codes ")") ∷ []) ∷
-    (code_tuple (codes_of (code_var 1 ∷ code_lit (pos 2) ∷ code_truth true ∷ [])), sign (codes "(") ∷ word (codes "v1") ∷ sign (codes ",") ∷ literal 2 ∷ sign (codes ",") ∷ word (codes "true") ∷ sign (codes ")") ∷ []) ∷
+    (code_tuple (codes_of (code_var 1 ∷ code_lit (pos 2) ∷ [])), sign (codes "(") ∷ word (codes "v1") ∷ sign (codes ",") ∷ literal 2 ∷ sign (codes ")") ∷ []) ∷ (
+      code_tuple (codes_of (code_var 1 ∷ code_lit (pos 2) ∷ code_truth true ∷ [])),
+      sign (codes "(") ∷ word (codes "v1") ∷ sign (codes ",") ∷ literal 2 ∷ sign
+          (codes ",") ∷ word (codes "true") ∷ sign (codes ")") ∷ [],
+    ) ∷
     -- operations of two parts or more
-    (code_sum (codes_of (code_var 1 ∷ code_lit (pos 2) ∷ code_var 3 ∷ [])), sign (codes "(") ∷ word (codes "v1") ∷ sign (codes "+") ∷ literal 2 ∷ sign (codes "+") ∷ word (codes "v3") ∷ sign (codes ")") ∷ []) ∷
-    (code_union (codes_of (code_var 1 ∷ code_var 2 ∷ [])), sign (codes "(") ∷ word (codes "v1") ∷ word (codes "union") ∷ word (codes "v2") ∷ sign (codes ")") ∷ []) ∷
-    (code_inter (codes_of (code_var 1 ∷ code_var 2 ∷ [])), sign (codes "(") ∷ word (codes "v1") ∷ word (codes "inter") ∷ word (codes "v2") ∷ sign (codes ")") ∷ []) ∷
+    (
+      code_sum (codes_of (code_var 1 ∷ code_lit (pos 2) ∷ code_var 3 ∷ [])),
+      sign (codes "(") ∷ word (codes "v1") ∷ sign (codes "+") ∷ literal 2 ∷ sign
+          (codes "+") ∷ word (codes "v3") ∷ sign (codes ")") ∷ [],
+    ) ∷ (
+      code_union (codes_of (code_var 1 ∷ code_var 2 ∷ [])),
+      sign (codes "(") ∷ word (codes "v1") ∷ word (codes "union") ∷ word (codes "v2") ∷ sign (codes ")") ∷
+          [],
+    ) ∷ (
+      code_inter (codes_of (code_var 1 ∷ code_var 2 ∷ [])),
+      sign (codes "(") ∷ word (codes "v1") ∷ word (codes "inter") ∷ word (codes "v2") ∷ sign (codes ")") ∷
+          [],
+    ) ∷
     -- operations of two parts
     (code_sub (code_var 1) (code_var 2), sign (codes "(") ∷ word (codes "v1") ∷ sign (codes "-") ∷ word (codes "v2") ∷ sign (codes ")") ∷ []) ∷
     (code_mul (code_var 1) (code_var 2), sign (codes "(") ∷ word (codes "v1") ∷ sign (codes "*") ∷ word (codes "v2") ∷ sign (codes ")") ∷ []) ∷
@@ -57,19 +70,49 @@ spelled =
     (code_not (code_var 1), word (codes "not") ∷ sign (codes "(") ∷ word (codes "v1") ∷ sign (codes ")") ∷ []) ∷
     (code_card (code_var 1), word (codes "card") ∷ sign (codes "(") ∷ word (codes "v1") ∷ sign (codes ")") ∷ []) ∷
     (code_div (code_var 1) (pos 2), word (codes "div") ∷ sign (codes "(") ∷ word (codes "v1") ∷ sign (codes ",") ∷ literal 2 ∷ sign (codes ")") ∷ []) ∷
-    (code_mod (code_var 1) (pos 2), word (codes "mod") ∷ sign (codes "(") ∷ word (codes "v1") ∷ sign (codes ",") ∷ literal 2 ∷ sign (codes ")") ∷ []) ∷
-    (code_min (codes_of (code_var 1 ∷ code_var 2 ∷ [])), word (codes "min") ∷ sign (codes "(") ∷ word (codes "v1") ∷ sign (codes ",") ∷ word (codes "v2") ∷ sign (codes ")") ∷ []) ∷
-    (code_max (codes_of (code_var 1 ∷ [])), word (codes "max") ∷ sign (codes "(") ∷ word (codes "v1") ∷ sign (codes ")") ∷ []) ∷
-    (code_slice (code_var 1) (code_var 2) (code_var 3), word (codes "slice") ∷ sign (codes "(") ∷ word (codes "v1") ∷ sign (codes ",") ∷ word (codes "v2") ∷ sign (codes ",") ∷ word (codes "v3") ∷ sign (codes ")") ∷ []) ∷
-    (code_fresh (code_var 1) (code_var 2), word (codes "fresh") ∷ sign (codes "(") ∷ word (codes "v1") ∷ sign (codes ",") ∷ word (codes "v2") ∷ sign (codes ")") ∷ []) ∷
+    (code_mod (code_var 1) (pos 2), word (codes "mod") ∷ sign (codes "(") ∷ word (codes "v1") ∷ sign (codes ",") ∷ literal 2 ∷ sign (codes ")") ∷ []) ∷ (
+      code_min (codes_of (code_var 1 ∷ code_var 2 ∷ [])),
+      word (codes "min") ∷ sign (codes "(") ∷ word (codes "v1") ∷ sign (codes ",") ∷ word (codes "v2") ∷ sign
+          (codes ")") ∷ [],
+    ) ∷
+    (code_max (codes_of (code_var 1 ∷ [])), word (codes "max") ∷ sign (codes "(") ∷ word (codes "v1") ∷ sign (codes ")") ∷ []) ∷ (
+      code_slice (code_var 1) (code_var 2) (code_var 3),
+      word (codes "slice") ∷ sign (codes "(") ∷ word (codes "v1") ∷ sign (codes ",") ∷ word (codes "v2") ∷
+          sign (codes ",") ∷ word (codes "v3") ∷ sign (codes ")") ∷ [],
+    ) ∷ (
+      code_fresh (code_var 1) (code_var 2),
+      word (codes "fresh") ∷ sign (codes "(") ∷ word (codes "v1") ∷ sign (codes ",") ∷ word (codes "v2") ∷ sign (codes ")")
+          ∷ [],
+    ) ∷
     -- forms with words inside
-    (code_if (code_var 1) (code_var 2) (code_var 3), sign (codes "(") ∷ word (codes "if") ∷ word (codes "v1") ∷ word (codes "then") ∷ word (codes "v2") ∷ word (codes "else") ∷ word (codes "v3") ∷ sign (codes ")") ∷ []) ∷
-    (code_let 4 1 (code_var 2) (code_var 4), sign (codes "(") ∷ word (codes "let") ∷ word (codes "v4") ∷ sign (codes "=") ∷ word (codes "v2") ∷ word (codes "in") ∷ word (codes "v4") ∷ sign (codes ")") ∷ []) ∷
-    (code_let 4 3 (code_var 2) (code_var 4), sign (codes "(") ∷ word (codes "let") ∷ sign (codes "(") ∷ word (codes "v4") ∷ sign (codes ",") ∷ word (codes "v5") ∷ sign (codes ",") ∷ word (codes "v6") ∷ sign (codes ")") ∷ sign (codes "=") ∷ word (codes "v2") ∷ word (codes "in") ∷ word (codes "v4") ∷ sign (codes ")") ∷ []) ∷
+    (
+      code_if (code_var 1) (code_var 2) (code_var 3),
+      sign (codes "(") ∷ word (codes "if") ∷ word (codes "v1") ∷ word (codes "then") ∷ word (codes "v2") ∷ word
+          (codes "else") ∷ word (codes "v3") ∷ sign (codes ")") ∷ [],
+    ) ∷ (
+      code_let 4 1 (code_var 2) (code_var 4),
+      sign (codes "(") ∷ word (codes "let") ∷ word (codes "v4") ∷ sign (codes "=") ∷ word (codes "v2") ∷ word
+          (codes "in") ∷ word (codes "v4") ∷ sign (codes ")") ∷ [],
+    ) ∷ (
+      code_let 4 3 (code_var 2) (code_var 4),
+      sign (codes "(") ∷ word (codes "let") ∷ sign (codes "(") ∷ word (codes "v4") ∷ sign (codes ",") ∷ word (codes "v5")
+          ∷ sign (codes ",") ∷ word (codes "v6") ∷ sign (codes ")") ∷ sign (codes "=") ∷ word (codes "v2") ∷ word (codes "in") ∷ word (codes "v4") ∷ sign
+          (codes ")") ∷ [],
+    ) ∷
     -- solves
-    (code_solve 2 no_arms, word (codes "solve") ∷ literal 2 ∷ sign (codes "{") ∷ sign (codes "}") ∷ []) ∷
-    (code_solve 1 (arms_of (arm_of [] no_items (codes_of (code_var 1 ∷ [])) ∷ [])), word (codes "solve") ∷ literal 1 ∷ sign (codes "{") ∷ word (codes "arm") ∷ sign (codes "[") ∷ sign (codes "]") ∷ sign (codes "{") ∷ word (codes "give") ∷ word (codes "v1") ∷ sign (codes "}") ∷ sign (codes "}") ∷ []) ∷
-    (code_solve 1 (arms_of (arm_of (4 ∷ 5 ∷ []) (items_of (let_item (code_var 0) ∷ need_item (code_var 1) ∷ [])) (codes_of (code_var 2 ∷ code_var 3 ∷ [])) ∷ [])), word (codes "solve") ∷ literal 1 ∷ sign (codes "{") ∷ word (codes "arm") ∷ sign (codes "[") ∷ literal 4 ∷ sign (codes ",") ∷ literal 5 ∷ sign (codes "]") ∷ sign (codes "{") ∷ word (codes "let") ∷ word (codes "v0") ∷ sign (codes ";") ∷ word (codes "need") ∷ word (codes "v1") ∷ sign (codes ";") ∷ word (codes "give") ∷ sign (codes "(") ∷ word (codes "v2") ∷ sign (codes ",") ∷ word (codes "v3") ∷ sign (codes ")") ∷ sign (codes "}") ∷ sign (codes "}") ∷ []) ∷
+    (code_solve 2 no_arms, word (codes "solve") ∷ literal 2 ∷ sign (codes "{") ∷ sign (codes "}") ∷ []) ∷ (
+      code_solve 1 (arms_of (arm_of [] no_items (codes_of (code_var 1 ∷ [])) ∷ [])),
+      word (codes "solve") ∷ literal 1 ∷ sign (codes "{") ∷ word (codes "arm") ∷
+          sign (codes "[") ∷ sign (codes "]") ∷ sign (codes "{") ∷ word (codes "give") ∷ word (codes "v1") ∷ sign (codes "}") ∷ sign (codes "}") ∷ [],
+    ) ∷ (
+      code_solve 1 (arms_of (arm_of (4 ∷ 5 ∷ []) (items_of (let_item (code_var 0) ∷ need_item (code_var 1) ∷ [])) (codes_of (code_var 2 ∷ code_var 3 ∷ [])) ∷
+          [])),
+      word (codes "solve") ∷ literal 1 ∷ sign (codes "{") ∷ word (codes "arm") ∷ sign (codes "[") ∷ literal 4 ∷ sign (codes ",") ∷ literal 5 ∷ sign
+          (codes "]") ∷ sign (codes "{") ∷ word (codes "let") ∷ word (codes "v0") ∷ sign (codes ";") ∷ word (codes "need") ∷ word (codes "v1") ∷ sign
+          (codes ";")
+          ∷ word (codes "give") ∷ sign (codes "(") ∷ word (codes "v2") ∷ sign (codes ",") ∷ word (codes "v3") ∷ sign (codes ")") ∷ sign (codes "}") ∷ sign
+          (codes "}") ∷ [],
+    ) ∷
     []
 
 spelled-read : map (λ x. read 3 x.1) spelled ≡ map (λ x. Ok (x.0, [])) spelled
@@ -94,18 +137,39 @@ refused =
     -- no minimum of none
     (1, word (codes "min") ∷ sign (codes "(") ∷ sign (codes ")") ∷ []) ∷
     -- the variables of a let rise by one
-    (7, sign (codes "(") ∷ word (codes "let") ∷ sign (codes "(") ∷ word (codes "v4") ∷ sign (codes ",") ∷ word (codes "v6") ∷ sign (codes ")") ∷ sign (codes "=") ∷ word (codes "v2") ∷ word (codes "in") ∷ word (codes "v4") ∷ sign (codes ")") ∷ []) ∷
-    (6, sign (codes "(") ∷ word (codes "let") ∷ sign (codes "(") ∷ word (codes "v4") ∷ sign (codes ")") ∷ sign (codes "=") ∷ word (codes "v2") ∷ word (codes "in") ∷ word (codes "v4") ∷ sign (codes ")") ∷ []) ∷
+    (
+      7,
+      sign (codes "(") ∷ word (codes "let") ∷ sign (codes "(") ∷ word (codes "v4") ∷ sign (codes ",") ∷ word (codes "v6") ∷ sign (codes ")") ∷ sign
+          (codes "=") ∷ word (codes "v2") ∷ word (codes "in") ∷ word (codes "v4") ∷ sign (codes ")") ∷ [],
+    ) ∷ (
+      6,
+      sign (codes "(") ∷ word (codes "let") ∷ sign (codes "(") ∷ word (codes "v4") ∷ sign (codes ")") ∷ sign (codes "=") ∷ word (codes "v2") ∷ word
+          (codes "in") ∷ word (codes "v4") ∷ sign (codes ")") ∷ [],
+    ) ∷
     -- numbers of chooses and bounds of searches are not 0
-    (3, word (codes "solve") ∷ literal 0 ∷ sign (codes "{") ∷ sign (codes "}") ∷ []) ∷
-    (7, word (codes "solve") ∷ literal 1 ∷ sign (codes "{") ∷ word (codes "arm") ∷ sign (codes "[") ∷ literal 0 ∷ sign (codes "]") ∷ sign (codes "{") ∷ word (codes "give") ∷ word (codes "v1") ∷ sign (codes "}") ∷ sign (codes "}") ∷ []) ∷
+    (3, word (codes "solve") ∷ literal 0 ∷ sign (codes "{") ∷ sign (codes "}") ∷ []) ∷ (
+      7,
+      word (codes "solve") ∷ literal 1 ∷ sign (codes "{") ∷ word (codes "arm") ∷ sign (codes "[") ∷ literal 0 ∷ sign (codes "]") ∷ sign (codes "{") ∷ word
+          (codes "give") ∷ word (codes "v1") ∷ sign (codes "}") ∷ sign (codes "}") ∷ [],
+    ) ∷
     -- one give is no tuple, and no arm gives nothing
-    (3, word (codes "solve") ∷ literal 1 ∷ sign (codes "{") ∷ word (codes "arm") ∷ sign (codes "[") ∷ sign (codes "]") ∷ sign (codes "{") ∷ word (codes "give") ∷ sign (codes "(") ∷ sign (codes ")") ∷ sign (codes "}") ∷ sign (codes "}") ∷ []) ∷
+    (
+      3,
+      word (codes "solve") ∷ literal 1 ∷ sign (codes "{") ∷ word (codes "arm") ∷ sign (codes "[") ∷ sign (codes "]") ∷ sign (codes "{") ∷ word (codes "give")
+          ∷ sign (codes "(") ∷ sign (codes ")") ∷ sign (codes "}") ∷ sign (codes "}") ∷ [],
+    ) ∷
     -- a token is missing at the end
     (0, word (codes "neg") ∷ sign (codes "(") ∷ word (codes "v1") ∷ []) ∷
     -- a code past the depth
-    (6, word (codes "neg") ∷ sign (codes "(") ∷ word (codes "neg") ∷ sign (codes "(") ∷ word (codes "neg") ∷ sign (codes "(") ∷ word (codes "v1") ∷ sign (codes ")") ∷ sign (codes ")") ∷ sign (codes ")") ∷ []) ∷
-    (7, sign (codes "(") ∷ word (codes "v1") ∷ sign (codes "+") ∷ sign (codes "(") ∷ word (codes "v2") ∷ sign (codes "+") ∷ sign (codes "(") ∷ word (codes "v3") ∷ sign (codes "+") ∷ word (codes "v4") ∷ sign (codes ")") ∷ sign (codes ")") ∷ sign (codes ")") ∷ []) ∷
+    (
+      6,
+      word (codes "neg") ∷ sign (codes "(") ∷ word (codes "neg") ∷ sign (codes "(") ∷ word (codes "neg") ∷ sign (codes "(") ∷ word (codes "v1") ∷ sign
+          (codes ")") ∷ sign (codes ")") ∷ sign (codes ")") ∷ [],
+    ) ∷ (
+      7,
+      sign (codes "(") ∷ word (codes "v1") ∷ sign (codes "+") ∷ sign (codes "(") ∷ word (codes "v2") ∷ sign (codes "+") ∷ sign (codes "(") ∷ word (codes "v3")
+          ∷ sign (codes "+") ∷ word (codes "v4") ∷ sign (codes ")") ∷ sign (codes ")") ∷ sign (codes ")") ∷ [],
+    ) ∷
     []
 
 refused-read : map (λ x. read 3 x.1) refused ≡ map (λ x. Err x.0) refused
@@ -116,14 +180,18 @@ refused-read = refl
 abbrev last_of_two : TargetTree
 last_of_two = record { params = Int ∷ Set ∷ []; results = Truth ∷ Int ∷ []; code = code_tuple (codes_of (code_truth true ∷ code_var 0 ∷ [])) }
 
-with-header : IsTarget last_of_two (word (codes "comfusy") ∷ literal 2 ∷ word (codes "main") ∷ sign (codes "(") ∷ word (codes "int") ∷ sign (codes ",") ∷ word (codes "set") ∷ sign (codes ")") ∷ sign (codes ":") ∷ sign (codes "(") ∷ word (codes "bool") ∷ sign (codes ",") ∷ word (codes "int") ∷ sign (codes ")") ∷ sign (codes "=") ∷ sign (codes "(") ∷ word (codes "true") ∷ sign (codes ",") ∷ word (codes "v0") ∷ sign (codes ")") ∷ [])
+with-header : IsTarget last_of_two (word (codes "comfusy") ∷ literal 2 ∷ word (codes "main") ∷ sign (codes "(") ∷ word (codes "int") ∷ sign (codes ",") ∷ word
+    (codes "set") ∷ sign (codes ")") ∷ sign (codes ":") ∷ sign (codes "(") ∷ word (codes "bool") ∷ sign (codes ",") ∷ word (codes "int") ∷ sign (codes ")") ∷
+    sign (codes "=") ∷ sign (codes "(") ∷ word (codes "true") ∷ sign (codes ",") ∷ word (codes "v0") ∷ sign (codes ")") ∷ [])
 unfolding bases_of body_of target_of at pure refuse must bind first deep at_end more_of others_of several_of one_or_tuple op_of results_of last_level with_digit variables_of all_variables vars_of bounds_of list_of elements_of one_of divided_of listed_of slice_of fresh_of if_of let_of operated_of divides_by behind_of inside_of item_of steps_of all_steps gives_of arm_from all_arms solve_of forms_of unless_zero word_of negative_of step read
 with-header = found_law _ last_of_two [] refl
 
-without-header : IsTarget (record { params = []; results = Int ∷ []; code = code_lit (pos 1) }) (word (codes "main") ∷ sign (codes "(") ∷ sign (codes ")") ∷ sign (codes ":") ∷ word (codes "int") ∷ sign (codes "=") ∷ literal 1 ∷ [])
+without-header : IsTarget (record { params = []; results = Int ∷ []; code = code_lit (pos 1) })
+    (word (codes "main") ∷ sign (codes "(") ∷ sign (codes ")") ∷ sign (codes ":") ∷ word (codes "int") ∷ sign (codes "=") ∷ literal 1 ∷ [])
 unfolding bases_of body_of target_of at pure refuse must bind first deep at_end more_of others_of several_of one_or_tuple op_of results_of last_level with_digit variables_of all_variables vars_of bounds_of list_of elements_of one_of divided_of listed_of slice_of fresh_of if_of let_of operated_of divides_by behind_of inside_of item_of steps_of all_steps gives_of arm_from all_arms solve_of forms_of unless_zero word_of negative_of step read
 without-header = found_law _ _ [] refl
 
-other-header : target_of 500 (word (codes "comfusy") ∷ literal 3 ∷ word (codes "main") ∷ sign (codes "(") ∷ sign (codes ")") ∷ sign (codes ":") ∷ word (codes "int") ∷ sign (codes "=") ∷ literal 1 ∷ []) ≡ Err 8
+other-header : target_of 500 (word (codes "comfusy") ∷ literal 3 ∷ word (codes "main") ∷ sign (codes "(") ∷ sign (codes ")") ∷ sign (codes ":") ∷ word
+    (codes "int") ∷ sign (codes "=") ∷ literal 1 ∷ []) ≡ Err 8
 unfolding bases_of body_of target_of at pure refuse must bind first deep at_end more_of others_of several_of one_or_tuple op_of results_of last_level with_digit variables_of all_variables vars_of bounds_of list_of elements_of one_of divided_of listed_of slice_of fresh_of if_of let_of operated_of divides_by behind_of inside_of item_of steps_of all_steps gives_of arm_from all_arms solve_of forms_of unless_zero word_of negative_of step read
 other-header = refl

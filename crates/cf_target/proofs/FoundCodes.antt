@@ -45,7 +45,8 @@ Finds part n = (ts : List Token) → Yields (Found n ts) (part ts)
 MoreVariables : ℕ → List Token → ℕ → List Token → Type 0
 MoreVariables last ts x us = (n : ℕ) × (x ≡ last + n) × SpellsMoreVariables (suc last) n ts us
 
-one_more : (last : ℕ) (ts a b : List Token) (x y : ℕ) (us : List Token) → Next (Sign (codes ",")) ts a → SpellsVariable x a b → x ≡ last + 1 → MoreVariables x b y us → MoreVariables last ts y us
+one_more : (last : ℕ) (ts a b : List Token) (x y : ℕ) (us : List Token) → Next (Sign (codes ",")) ts a → SpellsVariable x a b → x ≡ last + 1 →
+    MoreVariables x b y us → MoreVariables last ts y us
 unfolding MoreVariables
 one_more last ts a b x y us c v e' (n, f, w) =
     let e : x ≡ suc last = omega (arith, e') in
@@ -67,7 +68,8 @@ variables_yields (suc k) last ts =
 counted : (x y last n : ℕ) → y ≡ suc x → last ≡ y + n → last - x + 1 ≡ suc (suc n)
 counted x y last n e f = omega (arith, e, f)
 
-tuple_of_variables : (ts a b c d us : List Token) (x y last : ℕ) → Next (Sign (codes "(")) ts a → SpellsVariable x a b → Next (Sign (codes ",")) b c → SpellsVariable y c d → y ≡ x + 1 → MoreVariables y d last us →
+tuple_of_variables : (ts a b c d us : List Token) (x y last : ℕ) → Next (Sign (codes "(")) ts a → SpellsVariable x a b → Next (Sign (codes ",")) b c →
+    SpellsVariable y c d → y ≡ x + 1 → MoreVariables y d last us →
     SpellsVariables x (last - x + 1) ts us
 unfolding MoreVariables
 tuple_of_variables ts a b c d us x y last o v m w e' (n, f, r) =
@@ -79,7 +81,8 @@ pub vars_yields : (ts : List Token) → Yields (λ xs us. SpellsVariables xs.0 x
 unfolding vars_of all_variables
 vars_yields ts =
     first_yields _ _ _ ts
-    (λ p a o. bind_yields _ _ a (must_yields _ a) (λ x b v. bind_yields _ _ b (must_yields _ b) (λ q c m. bind_yields _ _ c (must_yields _ c) (λ y d w. let h = took_that (x + 1) c d y w in
+    (λ p a o. bind_yields _ _ a (must_yields _ a)
+    (λ x b v. bind_yields _ _ b (must_yields _ b) (λ q c m. bind_yields _ _ c (must_yields _ c) (λ y d w. let h = took_that (x + 1) c d y w in
     bind_yields _ _ d (variables_yields (length d) y d) (λ last us r.
     pure_yields _ us (tuple_of_variables ts a b c d us x y last (took_next _ ts a p o) (took_early a b x v) (took_next _ b c q m) h.0 h.1 r))))))
     (bind_yields _ _ ts (must_yields _ ts) (λ x us v. pure_yields (x, 1) us (took_variable ts us x v)))
@@ -93,7 +96,8 @@ unfolding bounds_of
 bounds_yields ts =
     first_yields _ _ _ ts (λ p a c. pure_yields [] a (took_next _ ts a p c))
     (widen (λ ns us w. some_bounds ts us ns w.0 (w.1 ∙ all_added w.0) w.2)
-    (several_yields snoc (must a_numeral) SpellsNumeral (Sign (codes ",")) (Sign (codes "]")) (λ ts. widen (λ n us w. took_numeral ts us n w) (must_yields a_numeral ts)) [] ts))
+    (several_yields snoc (must a_numeral) SpellsNumeral (Sign (codes ",")) (Sign (codes "]"))
+    (λ ts. widen (λ n us w. took_numeral ts us n w) (must_yields a_numeral ts)) [] ts))
 
 -- lists of codes
 
@@ -101,7 +105,8 @@ pub record OthersFound (n : ℕ) (separator close : TokenKind) (ts : List Token)
   pub deep : codes_depth (codes_of cs) ≤ n
   pub spelled : SpellsOthers (codes_of cs) separator close ts us
 
-others_found : (n : ℕ) (separator close : TokenKind) (cs : List CodeTree) (ts us : List Token) → Others (λ c ts us. Found n ts c us) separator close cs ts us → OthersFound n separator close ts cs us
+others_found : (n : ℕ) (separator close : TokenKind) (cs : List CodeTree) (ts us : List Token) → Others (λ c ts us. Found n ts c us) separator close cs ts us →
+    OthersFound n separator close ts cs us
 others_found n separator close [] ts us w = record { deep = omega arith; spelled = w }
 others_found n separator close (c ∷ cs) ts us (a, s, (b, f, o)) =
     let h = others_found n separator close cs b us o in record { deep = omega (arith, f.deep, h.deep); spelled = (a, s, (b, f.spelled, h.spelled)) }
@@ -115,12 +120,14 @@ pub record ListFound (n : ℕ) (separator close : TokenKind) (ts : List Token) (
   pub first_found : Found n ts head mid
   pub more : OthersFound n separator close mid others us
 
-list_found : (n : ℕ) (separator close : TokenKind) (ts us : List Token) (cs new : List CodeTree) → cs ≡ new → Several (λ c ts us. Found n ts c us) separator close new ts us → ListFound n separator close ts cs us
+list_found : (n : ℕ) (separator close : TokenKind) (ts us : List Token) (cs new : List CodeTree) → cs ≡ new →
+    Several (λ c ts us. Found n ts c us) separator close new ts us → ListFound n separator close ts cs us
 list_found n separator close ts us cs [] e w = absurd w
 list_found n separator close ts us cs (c ∷ new) e (a, f, o) =
     record { head = c; others = new; mid = a; all = e; first_found = f; more = others_found n separator close new a us o }
 
-pub list_yields : (part : Reader CodeTree) (n : ℕ) → Finds part n → (close : TokenKind) (ts : List Token) → Yields (ListFound n (Sign (codes ",")) close ts) (list_of part close ts)
+pub list_yields : (part : Reader CodeTree) (n : ℕ) → Finds part n → (close : TokenKind) (ts : List Token) →
+    Yields (ListFound n (Sign (codes ",")) close ts) (list_of part close ts)
 unfolding list_of Finds
 list_yields part n h close ts =
     widen (λ cs us w. list_found n (Sign (codes ",")) close ts us cs w.0 (w.1 ∙ all_added w.0) w.2)
@@ -133,12 +140,14 @@ list_spelled n separator close ts us cs l =
     subst (λ z. (codes_depth (codes_of z) ≤ n) × SpellsCodes (codes_of z) separator close ts us) (sym l.all)
     (omega (arith, l.first_found.deep, l.more.deep), (l.mid, l.first_found.spelled, l.more.spelled))
 
-set_found : (n : ℕ) (start ts us : List Token) (cs : List CodeTree) → Next (Sign (codes "{")) start ts → ListFound n (Sign (codes ",")) (Sign (codes "}")) ts cs us → Found (suc n) start (code_set_of (codes_of cs)) us
+set_found : (n : ℕ) (start ts us : List Token) (cs : List CodeTree) → Next (Sign (codes "{")) start ts →
+    ListFound n (Sign (codes ",")) (Sign (codes "}")) ts cs us → Found (suc n) start (code_set_of (codes_of cs)) us
 set_found n start ts us cs o l =
     subst (λ z. Found (suc n) start (code_set_of (codes_of z)) us) (sym l.all)
     (record { deep = omega (arith, l.first_found.deep, l.more.deep); spelled = (ts, o, (l.mid, l.first_found.spelled, l.more.spelled)) })
 
-elements_yields : (part : Reader CodeTree) (n : ℕ) → Finds part n → (start ts : List Token) → Next (Sign (codes "{")) start ts → Yields (λ cs us. Found (suc n) start (code_set_of (codes_of cs)) us) (elements_of part ts)
+elements_yields : (part : Reader CodeTree) (n : ℕ) → Finds part n → (start ts : List Token) → Next (Sign (codes "{")) start ts →
+    Yields (λ cs us. Found (suc n) start (code_set_of (codes_of cs)) us) (elements_of part ts)
 unfolding elements_of
 elements_yields part n h start ts o =
     first_yields _ _ _ ts (λ p a c. pure_yields [] a (record { deep = omega arith; spelled = (ts, o, took_next _ ts a p c) }))
@@ -146,52 +155,75 @@ elements_yields part n h start ts o =
 
 -- forms that begin with a word
 
-one_made : (n : ℕ) (u : Unary) (c : CodeTree) (start ts a b us : List Token) → Next (unary_kind u) start ts → Next (Sign (codes "(")) ts a → Found n a c b → Next (Sign (codes ")")) b us → Found (suc n) start (unary_tree u c) us
+one_made : (n : ℕ) (u : Unary) (c : CodeTree) (start ts a b us : List Token) → Next (unary_kind u) start ts → Next (Sign (codes "(")) ts a → Found n a c b →
+    Next (Sign (codes ")")) b us → Found (suc n) start (unary_tree u c) us
 one_made n Neg c start ts a b us w o f e = record { deep = omega (arith, f.deep); spelled = (ts, w, (a, o, (b, f.spelled, e))) }
 one_made n Not c start ts a b us w o f e = record { deep = omega (arith, f.deep); spelled = (ts, w, (a, o, (b, f.spelled, e))) }
 one_made n Card c start ts a b us w o f e = record { deep = omega (arith, f.deep); spelled = (ts, w, (a, o, (b, f.spelled, e))) }
 
-one_yields : (part : Reader CodeTree) (n : ℕ) → Finds part n → (start ts : List Token) (u : Unary) → Next (unary_kind u) start ts → Yields (λ c us. Found (suc n) start (unary_tree u c) us) (one_of part ts)
+one_yields : (part : Reader CodeTree) (n : ℕ) → Finds part n → (start ts : List Token) (u : Unary) → Next (unary_kind u) start ts →
+    Yields (λ c us. Found (suc n) start (unary_tree u c) us) (one_of part ts)
 unfolding one_of Finds
 one_yields part n h start ts u w =
     bind_yields _ _ ts (must_yields _ ts) (λ p a o. bind_yields _ _ a (h a) (λ c b f. bind_yields _ _ b (must_yields _ b) (λ q us e.
     pure_yields c us (one_made n u c start ts a b us w (took_next _ ts a p o) f (took_next _ b us q e)))))
 
-divided_made : (n : ℕ) (d : Division) (c : CodeTree) (k : ℤ) (q : Place) (start ts a b e f us : List Token) → Next (division_kind d) start ts → Next (Sign (codes "(")) ts a → Found n a c b → Next (Sign (codes ",")) b e →
+divided_made : (n : ℕ) (d : Division) (c : CodeTree) (k : ℤ) (q : Place) (start ts a b e f us : List Token) → Next (division_kind d) start ts →
+    Next (Sign (codes "(")) ts a → Found n a c b → Next (Sign (codes ",")) b e →
     FirstLiteral (pos 1) q k e f → Next (Sign (codes ")")) f us → Found (suc n) start (division_tree d c k) us
-divided_made n Div c k q start ts a b e f us w o g m l r = record { deep = omega (arith, g.deep); spelled = (ts, w, (a, o, (b, g.spelled, (e, m, (f, (q, l), r))))) }
-divided_made n Mod c k q start ts a b e f us w o g m l r = record { deep = omega (arith, g.deep); spelled = (ts, w, (a, o, (b, g.spelled, (e, m, (f, (q, l), r))))) }
+divided_made n Div c k q start ts a b e f us w o g m l r =
+    record { deep = omega (arith, g.deep); spelled = (ts, w, (a, o, (b, g.spelled, (e, m, (f, (q, l), r))))) }
+divided_made n Mod c k q start ts a b e f us w o g m l r =
+    record { deep = omega (arith, g.deep); spelled = (ts, w, (a, o, (b, g.spelled, (e, m, (f, (q, l), r))))) }
 
-divided_yields : (part : Reader CodeTree) (n : ℕ) → Finds part n → (start ts : List Token) (d : Division) → Next (division_kind d) start ts → Yields (λ x us. Found (suc n) start (division_tree d x.0 x.1) us) (divided_of part ts)
+divided_yields : (part : Reader CodeTree) (n : ℕ) → Finds part n → (start ts : List Token) (d : Division) → Next (division_kind d) start ts →
+    Yields (λ x us. Found (suc n) start (division_tree d x.0 x.1) us) (divided_of part ts)
 unfolding divided_of Finds
 divided_yields part n h start ts d w =
-    bind_yields _ _ ts (must_yields _ ts) (λ p a o. bind_yields _ _ a (h a) (λ c b g. bind_yields _ _ b (must_yields _ b) (λ q e m. bind_yields _ _ e (must_yields _ e) (λ k f l. bind_yields _ _ f (must_yields _ f) (λ r us s.
-    pure_yields (c, k.1) us (divided_made n d c k.1 k.0 start ts a b e f us w (took_next _ ts a p o) g (took_next _ b e q m) (took_literal (pos 1) e f k l) (took_next _ f us r s)))))))
+    bind_yields _ _ ts (must_yields _ ts) (λ p a o. bind_yields _ _ a (h a)
+    (λ c b g. bind_yields _ _ b (must_yields _ b) (λ q e m. bind_yields _ _ e (must_yields _ e) (λ k f l. bind_yields _ _ f (must_yields _ f) (λ r us s.
+    pure_yields (c, k.1) us (divided_made n d c k.1 k.0 start ts a b e f us w (took_next _ ts a p o) g (took_next _ b e q m) (took_literal (pos 1) e f k l)
+    (took_next _ f us r s)))))))
 
-listed_made : (n : ℕ) (x : Extreme) (cs : List CodeTree) (start ts a us : List Token) → Next (extreme_kind x) start ts → Next (Sign (codes "(")) ts a → ListFound n (Sign (codes ",")) (Sign (codes ")")) a cs us →
+listed_made : (n : ℕ) (x : Extreme) (cs : List CodeTree) (start ts a us : List Token) → Next (extreme_kind x) start ts → Next (Sign (codes "(")) ts a →
+    ListFound n (Sign (codes ",")) (Sign (codes ")")) a cs us →
     Found (suc n) start (extreme_tree x cs) us
 listed_made n Min cs start ts a us w o l = let h = list_spelled n _ _ a us cs l in record { deep = omega (arith, h.0); spelled = (ts, w, (a, o, h.1)) }
 listed_made n Max cs start ts a us w o l = let h = list_spelled n _ _ a us cs l in record { deep = omega (arith, h.0); spelled = (ts, w, (a, o, h.1)) }
 
-listed_yields : (part : Reader CodeTree) (n : ℕ) → Finds part n → (start ts : List Token) (x : Extreme) → Next (extreme_kind x) start ts → Yields (λ cs us. Found (suc n) start (extreme_tree x cs) us) (listed_of part ts)
+listed_yields : (part : Reader CodeTree) (n : ℕ) → Finds part n → (start ts : List Token) (x : Extreme) → Next (extreme_kind x) start ts →
+    Yields (λ cs us. Found (suc n) start (extreme_tree x cs) us) (listed_of part ts)
 unfolding listed_of
 listed_yields part n h start ts x w =
-    bind_yields _ _ ts (must_yields _ ts) (λ p a o. widen (λ cs us l. listed_made n x cs start ts a us w (took_next _ ts a p o) l) (list_yields part n h (Sign (codes ")")) a))
+    bind_yields _ _ ts (must_yields _ ts) (λ p a o. widen (λ cs us l. listed_made n x cs start ts a us w (took_next _ ts a p o) l)
+    (list_yields part n h (Sign (codes ")")) a))
 
-slice_yields : (part : Reader CodeTree) (n : ℕ) → Finds part n → (start ts : List Token) → Next (Word (codes "slice")) start ts → Yields (λ c us. Found (suc n) start c us) (slice_of part ts)
+slice_yields : (part : Reader CodeTree) (n : ℕ) → Finds part n → (start ts : List Token) → Next (Word (codes "slice")) start ts →
+    Yields (λ c us. Found (suc n) start c us) (slice_of part ts)
 unfolding slice_of Finds
 slice_yields part n h start ts w =
-    bind_yields _ _ ts (must_yields _ ts) (λ p a o. bind_yields _ _ a (h a) (λ c b f. bind_yields _ _ b (must_yields _ b) (λ q d m. bind_yields _ _ d (h d) (λ e g k. bind_yields _ _ g (must_yields _ g) (λ r i s.
+    bind_yields _ _ ts (must_yields _ ts) (λ p a o. bind_yields _ _ a (h a)
+    (λ c b f. bind_yields _ _ b (must_yields _ b) (λ q d m. bind_yields _ _ d (h d) (λ e g k. bind_yields _ _ g (must_yields _ g) (λ r i s.
     bind_yields _ _ i (h i) (λ j l t. bind_yields _ _ l (must_yields _ l) (λ u us v.
     pure_yields _ us (record {
       deep = omega (arith, f.deep, k.deep, t.deep);
-      spelled = (ts, w, (a, took_next _ ts a p o, (b, f.spelled, (d, took_next _ b d q m, (g, k.spelled, (i, took_next _ g i r s, (l, t.spelled, took_next _ l us u v)))))));
+      spelled = (
+        ts,
+        w,
+        (
+          a,
+          took_next _ ts a p o,
+          (b, f.spelled, (d, took_next _ b d q m, (g, k.spelled, (i, took_next _ g i r s, (l, t.spelled, took_next _ l us u v))))),
+        ),
+      );
     }))))))))
 
-fresh_yields : (part : Reader CodeTree) (n : ℕ) → Finds part n → (start ts : List Token) → Next (Word (codes "fresh")) start ts → Yields (λ c us. Found (suc n) start c us) (fresh_of part ts)
+fresh_yields : (part : Reader CodeTree) (n : ℕ) → Finds part n → (start ts : List Token) → Next (Word (codes "fresh")) start ts →
+    Yields (λ c us. Found (suc n) start c us) (fresh_of part ts)
 unfolding fresh_of Finds
 fresh_yields part n h start ts w =
-    bind_yields _ _ ts (must_yields _ ts) (λ p a o. bind_yields _ _ a (h a) (λ c b f. bind_yields _ _ b (must_yields _ b) (λ q d m. bind_yields _ _ d (h d) (λ e g k. bind_yields _ _ g (must_yields _ g) (λ r us s.
+    bind_yields _ _ ts (must_yields _ ts) (λ p a o. bind_yields _ _ a (h a)
+    (λ c b f. bind_yields _ _ b (must_yields _ b) (λ q d m. bind_yields _ _ d (h d) (λ e g k. bind_yields _ _ g (must_yields _ g) (λ r us s.
     pure_yields _ us (record {
       deep = omega (arith, f.deep, k.deep);
       spelled = (ts, w, (a, took_next _ ts a p o, (b, f.spelled, (d, took_next _ b d q m, (g, k.spelled, took_next _ g us r s)))));
@@ -214,13 +246,17 @@ One n start c us = Found n start c us × IsNoTuple c
 
 -- behind "(": a list of codes of depth at most m, or a code that is no tuple, with parts of depth at most n
 pub InsideFound : ℕ → ℕ → List Token → InsideTree → List Token → Type 0
-InsideFound m n ts (several cs) us = (codes_depth (codes_of cs) ≤ m) × (2 ≤ count (codes_of cs)) × SpellsCodes (codes_of cs) (Sign (codes ",")) (Sign (codes ")")) ts us
+InsideFound m n ts (several cs) us = (codes_depth (codes_of cs) ≤ m) × (2 ≤ count (codes_of cs)) ×
+    SpellsCodes (codes_of cs) (Sign (codes ",")) (Sign (codes ")")) ts us
 InsideFound m n ts (single c) us = (start : List Token) → Next (Sign (codes "(")) start ts → One (suc n) start c us
 
-if_yields : (part : Reader CodeTree) (n : ℕ) → Finds part n → (ts b : List Token) → Next (Word (codes "if")) ts b → Yields (λ c us. InsideFound n n ts (single c) us) (if_of part b)
+if_yields : (part : Reader CodeTree) (n : ℕ) → Finds part n → (ts b : List Token) → Next (Word (codes "if")) ts b →
+    Yields (λ c us. InsideFound n n ts (single c) us) (if_of part b)
 unfolding if_of Finds InsideFound
 if_yields part n h ts b w =
-    bind_yields _ _ b (h b) (λ t d f. bind_yields _ _ d (must_yields _ d) (λ p e o. bind_yields _ _ e (h e) (λ c g k. bind_yields _ _ g (must_yields _ g) (λ q i m. bind_yields _ _ i (h i) (λ j l r. bind_yields _ _ l (must_yields _ l) (λ s us u.
+    bind_yields _ _ b (h b) (λ t d f. bind_yields _ _ d (must_yields _ d)
+    (λ p e o. bind_yields _ _ e (h e) (λ c g k. bind_yields _ _ g (must_yields _ g)
+    (λ q i m. bind_yields _ _ i (h i) (λ j l r. bind_yields _ _ l (must_yields _ l) (λ s us u.
     pure_yields _ us (λ start v. (
       record {
         deep = omega (arith, f.deep, k.deep, r.deep);
@@ -229,10 +265,13 @@ if_yields part n h ts b w =
       tt,
     ))))))))
 
-let_yields : (part : Reader CodeTree) (n : ℕ) → Finds part n → (ts b : List Token) → Next (Word (codes "let")) ts b → Yields (λ c us. InsideFound n n ts (single c) us) (let_of part b)
+let_yields : (part : Reader CodeTree) (n : ℕ) → Finds part n → (ts b : List Token) → Next (Word (codes "let")) ts b →
+    Yields (λ c us. InsideFound n n ts (single c) us) (let_of part b)
 unfolding let_of Finds InsideFound
 let_yields part n h ts b w =
-    bind_yields _ _ b (vars_yields b) (λ xs d f. bind_yields _ _ d (must_yields _ d) (λ p e o. bind_yields _ _ e (h e) (λ c g k. bind_yields _ _ g (must_yields _ g) (λ q i m. bind_yields _ _ i (h i) (λ j l r. bind_yields _ _ l (must_yields _ l) (λ s us u.
+    bind_yields _ _ b (vars_yields b) (λ xs d f. bind_yields _ _ d (must_yields _ d)
+    (λ p e o. bind_yields _ _ e (h e) (λ c g k. bind_yields _ _ g (must_yields _ g)
+    (λ q i m. bind_yields _ _ i (h i) (λ j l r. bind_yields _ _ l (must_yields _ l) (λ s us u.
     pure_yields _ us (λ start v. (
       record {
         deep = omega (arith, k.deep, r.deep);
@@ -243,12 +282,15 @@ let_yields part n h ts b w =
 
 -- an operation and the parts behind it
 
-two_yields : (part : Reader CodeTree) (n : ℕ) → Finds part n → (c : CodeTree) (two : Two) (ts us vs : List Token) (k : TokenKind) → code_depth c ≤ n → SpellsCode c ts us → Next k us vs →
-    ((start : List Token) (d : CodeTree) (ws : List Token) → code_depth d ≤ n → Pair (SpellsCode c) k (SpellsCode d) start ws → One (suc n) start (two_tree two c d) ws) →
+two_yields : (part : Reader CodeTree) (n : ℕ) → Finds part n → (c : CodeTree) (two : Two) (ts us vs : List Token) (k : TokenKind) → code_depth c ≤ n →
+    SpellsCode c ts us → Next k us vs →
+    ((start : List Token) (d : CodeTree) (ws : List Token) → code_depth d ≤ n → Pair (SpellsCode c) k (SpellsCode d) start ws →
+    One (suc n) start (two_tree two c d) ws) →
     Yields (λ d ws. InsideFound n n ts (single d) ws) (bind part (λ d. bind (must (is (Sign (codes ")")))) (λ p. pure (two_tree two c d))) vs)
 unfolding Finds InsideFound
 two_yields part n h c two ts us vs k l s o made =
-    bind_yields _ _ vs (h vs) (λ d ws f. bind_yields _ _ ws (must_yields _ ws) (λ p xs q. pure_yields _ xs (λ start v. made start d xs f.deep (ts, v, (us, s, (vs, o, (ws, f.spelled, took_next _ ws xs p q)))))))
+    bind_yields _ _ vs (h vs) (λ d ws f. bind_yields _ _ ws (must_yields _ ws)
+    (λ p xs q. pure_yields _ xs (λ start v. made start d xs f.deep (ts, v, (us, s, (vs, o, (ws, f.spelled, took_next _ ws xs p q)))))))
 
 -- parts behind the first one and a separator
 record MoreFound (n : ℕ) (separator close : TokenKind) (c : CodeTree) (ts : List Token) (cs : List CodeTree) (us : List Token) : Type 0 where
@@ -256,7 +298,8 @@ record MoreFound (n : ℕ) (separator close : TokenKind) (c : CodeTree) (ts : Li
   long : 2 ≤ count (codes_of cs)
   spelled : SpellsCodes (codes_of cs) separator close ts us
 
-more_found : (n : ℕ) (separator close : TokenKind) (c : CodeTree) (ts us vs ws : List Token) (cs new : List CodeTree) → cs ≡ c ∷ new → code_depth c ≤ n → SpellsCode c ts us → Next separator us vs →
+more_found : (n : ℕ) (separator close : TokenKind) (c : CodeTree) (ts us vs ws : List Token) (cs new : List CodeTree) → cs ≡ c ∷ new → code_depth c ≤ n →
+    SpellsCode c ts us → Next separator us vs →
     Several (λ c ts us. Found n ts c us) separator close new vs ws → MoreFound n separator close c ts cs ws
 more_found n separator close c ts us vs ws cs [] e l s o w = absurd w
 more_found n separator close c ts us vs ws cs (d ∷ new) e l s o (a, f, w) =
@@ -264,37 +307,51 @@ more_found n separator close c ts us vs ws cs (d ∷ new) e l s o (a, f, w) =
     subst (λ z. MoreFound n separator close c ts z ws) (sym e)
     (record { deep = omega (arith, l, f.deep, h.deep); long = omega arith; spelled = (us, s, (vs, o, (a, f.spelled, h.spelled))) })
 
-more_yields : (part : Reader CodeTree) (n : ℕ) → Finds part n → (separator close : TokenKind) (c : CodeTree) (ts us vs : List Token) → code_depth c ≤ n → SpellsCode c ts us → Next separator us vs →
+more_yields : (part : Reader CodeTree) (n : ℕ) → Finds part n → (separator close : TokenKind) (c : CodeTree) (ts us vs : List Token) → code_depth c ≤ n →
+    SpellsCode c ts us → Next separator us vs →
     Yields (MoreFound n separator close c ts) (several_of snoc part separator close (c ∷ []) vs)
 unfolding Finds
 more_yields part n h separator close c ts us vs l s o =
     widen (λ cs ws w. more_found n separator close c ts us vs ws cs w.0 (w.1 ∙ added_snoc (c ∷ []) w.0) l s o w.2)
     (several_yields snoc part (λ c ts us. Found n ts c us) separator close h (c ∷ []) vs)
 
-many_made : (n : ℕ) (many : Many) (c : CodeTree) (ts : List Token) (cs : List CodeTree) (us start : List Token) → Next (Sign (codes "(")) start ts → MoreFound n (many_kind many) (Sign (codes ")")) c ts cs us → One (suc n) start (many_tree many cs) us
+many_made : (n : ℕ) (many : Many) (c : CodeTree) (ts : List Token) (cs : List CodeTree) (us start : List Token) → Next (Sign (codes "(")) start ts →
+    MoreFound n (many_kind many) (Sign (codes ")")) c ts cs us → One (suc n) start (many_tree many cs) us
 many_made n manies.Sum c ts cs us start o m = (record { deep = omega (arith, m.deep); spelled = (m.long, (ts, o, m.spelled)) }, tt)
 many_made n manies.Union c ts cs us start o m = (record { deep = omega (arith, m.deep); spelled = (m.long, (ts, o, m.spelled)) }, tt)
 many_made n manies.Inter c ts cs us start o m = (record { deep = omega (arith, m.deep); spelled = (m.long, (ts, o, m.spelled)) }, tt)
 
-many_yields : (part : Reader CodeTree) (n : ℕ) → Finds part n → (many : Many) (c : CodeTree) (ts us vs : List Token) → code_depth c ≤ n → SpellsCode c ts us → Next (many_kind many) us vs →
-    Yields (λ d ws. InsideFound n n ts (single d) ws) (bind (several_of snoc part (many_kind many) (Sign (codes ")")) (c ∷ [])) (λ cs. pure (many_tree many cs)) vs)
+many_yields : (part : Reader CodeTree) (n : ℕ) → Finds part n → (many : Many) (c : CodeTree) (ts us vs : List Token) → code_depth c ≤ n → SpellsCode c ts us →
+    Next (many_kind many) us vs →
+    Yields (λ d ws. InsideFound n n ts (single d) ws)
+    (bind (several_of snoc part (many_kind many) (Sign (codes ")")) (c ∷ [])) (λ cs. pure (many_tree many cs)) vs)
 unfolding InsideFound
 many_yields part n h many c ts us vs l s o =
-    bind_yields _ _ vs (more_yields part n h (many_kind many) (Sign (codes ")")) c ts us vs l s o) (λ cs ws m. pure_yields _ ws (λ start v. many_made n many c ts cs ws start v m))
+    bind_yields _ _ vs (more_yields part n h (many_kind many) (Sign (codes ")")) c ts us vs l s o)
+    (λ cs ws m. pure_yields _ ws (λ start v. many_made n many c ts cs ws start v m))
 
-operated_yields : (part : Reader CodeTree) (n : ℕ) → Finds part n → (c : CodeTree) (op : BinOp) (ts us vs : List Token) → code_depth c ≤ n → SpellsCode c ts us → Next (op_kind op) us vs →
+operated_yields : (part : Reader CodeTree) (n : ℕ) → Finds part n → (c : CodeTree) (op : BinOp) (ts us vs : List Token) → code_depth c ≤ n →
+    SpellsCode c ts us → Next (op_kind op) us vs →
     Yields (λ d ws. InsideFound n n ts (single d) ws) (operated_of part c (operation_of op) vs)
 unfolding operated_of
 operated_yields part n h c ops.Add ts us vs l s o = many_yields part n h manies.Sum c ts us vs l s o
 operated_yields part n h c ops.Union ts us vs l s o = many_yields part n h manies.Union c ts us vs l s o
 operated_yields part n h c ops.Inter ts us vs l s o = many_yields part n h manies.Inter c ts us vs l s o
-operated_yields part n h c ops.Sub ts us vs l s o = two_yields part n h c twos.Sub ts us vs (op_kind ops.Sub) l s o (λ start d ws i w. (record { deep = omega (arith, l, i); spelled = w }, tt))
-operated_yields part n h c ops.Mul ts us vs l s o = two_yields part n h c twos.Mul ts us vs (op_kind ops.Mul) l s o (λ start d ws i w. (record { deep = omega (arith, l, i); spelled = w }, tt))
-operated_yields part n h c ops.And ts us vs l s o = two_yields part n h c twos.And ts us vs (op_kind ops.And) l s o (λ start d ws i w. (record { deep = omega (arith, l, i); spelled = w }, tt))
-operated_yields part n h c ops.Or ts us vs l s o = two_yields part n h c twos.Or ts us vs (op_kind ops.Or) l s o (λ start d ws i w. (record { deep = omega (arith, l, i); spelled = w }, tt))
-operated_yields part n h c ops.Diff ts us vs l s o = two_yields part n h c twos.Diff ts us vs (op_kind ops.Diff) l s o (λ start d ws i w. (record { deep = omega (arith, l, i); spelled = w }, tt))
-operated_yields part n h c ops.Subset ts us vs l s o = two_yields part n h c twos.Subset ts us vs (op_kind ops.Subset) l s o (λ start d ws i w. (record { deep = omega (arith, l, i); spelled = w }, tt))
-operated_yields part n h c (ops.Compare order) ts us vs l s o = two_yields part n h c (twos.Compare order) ts us vs (op_kind (ops.Compare order)) l s o (λ start d ws i w. (record { deep = omega (arith, l, i); spelled = w }, tt))
+operated_yields part n h c ops.Sub ts us vs l s o =
+    two_yields part n h c twos.Sub ts us vs (op_kind ops.Sub) l s o (λ start d ws i w. (record { deep = omega (arith, l, i); spelled = w }, tt))
+operated_yields part n h c ops.Mul ts us vs l s o =
+    two_yields part n h c twos.Mul ts us vs (op_kind ops.Mul) l s o (λ start d ws i w. (record { deep = omega (arith, l, i); spelled = w }, tt))
+operated_yields part n h c ops.And ts us vs l s o =
+    two_yields part n h c twos.And ts us vs (op_kind ops.And) l s o (λ start d ws i w. (record { deep = omega (arith, l, i); spelled = w }, tt))
+operated_yields part n h c ops.Or ts us vs l s o =
+    two_yields part n h c twos.Or ts us vs (op_kind ops.Or) l s o (λ start d ws i w. (record { deep = omega (arith, l, i); spelled = w }, tt))
+operated_yields part n h c ops.Diff ts us vs l s o =
+    two_yields part n h c twos.Diff ts us vs (op_kind ops.Diff) l s o (λ start d ws i w. (record { deep = omega (arith, l, i); spelled = w }, tt))
+operated_yields part n h c ops.Subset ts us vs l s o =
+    two_yields part n h c twos.Subset ts us vs (op_kind ops.Subset) l s o (λ start d ws i w. (record { deep = omega (arith, l, i); spelled = w }, tt))
+operated_yields part n h c (ops.Compare order) ts us vs l s o =
+    two_yields part n h c (twos.Compare order) ts us vs (op_kind (ops.Compare order)) l s o
+    (λ start d ws i w. (record { deep = omega (arith, l, i); spelled = w }, tt))
 
 -- a number of at least 1 has no minus
 below : (k n : ℤ) → pos 1 ≤ℤ n → k ≡ neg_ℤ n → pos 1 ≤ℤ k → ⊥
@@ -306,14 +363,23 @@ divisor_found : (k : ℤ) (ts us : List Token) → pos 1 ≤ℤ k → SpellsNumb
 divisor_found k ts us h (inl (p, w)) = (p, (w.0, h))
 divisor_found k ts us h (inr (n, (a, m, (p, w)), e)) = absurd (below k n w.1 e h)
 
-divides_yields : (part : Reader CodeTree) (m n : ℕ) → Finds part n → (c : CodeTree) (k : ℤ) (ts us vs : List Token) → SpellsCode c ts us → DividesFound n c us k vs →
+divides_yields : (part : Reader CodeTree) (m n : ℕ) → Finds part n → (c : CodeTree) (k : ℤ) (ts us vs : List Token) → SpellsCode c ts us →
+    DividesFound n c us k vs →
     Yields (InsideFound m n ts) (bind part (λ d. bind (must (is (Sign (codes ")")))) (λ p. pure (single (code_divides k d)))) vs)
 unfolding Finds InsideFound
 divides_yields part m n h c k ts us vs s d =
     bind_yields _ _ vs (h vs) (λ e ws f. bind_yields _ _ ws (must_yields _ ws) (λ p xs q. pure_yields _ xs (λ start v. (
       record {
         deep = omega (arith, f.deep);
-        spelled = (ts, v, (us, divisor_found k ts us d.least (subst (λ z. SpellsCode z ts us) d.alone s), (vs, d.stands, (ws, f.spelled, took_next _ ws xs p q))));
+        spelled = (
+          ts,
+          v,
+          (
+            us,
+            divisor_found k ts us d.least (subst (λ z. SpellsCode z ts us) d.alone s),
+            (vs, d.stands, (ws, f.spelled, took_next _ ws xs p q)),
+          ),
+        );
       },
       tt,
     ))))
@@ -322,16 +388,19 @@ single_found : (m n : ℕ) (ts us : List Token) (c : CodeTree) → InsideFound n
 unfolding InsideFound
 single_found m n ts us c w = w
 
-several_found : (m n : ℕ) (ts us : List Token) (c : CodeTree) (cs : List CodeTree) → MoreFound m (Sign (codes ",")) (Sign (codes ")")) c ts cs us → InsideFound m n ts (several cs) us
+several_found : (m n : ℕ) (ts us : List Token) (c : CodeTree) (cs : List CodeTree) → MoreFound m (Sign (codes ",")) (Sign (codes ")")) c ts cs us →
+    InsideFound m n ts (several cs) us
 unfolding InsideFound
 several_found m n ts us c cs w = (w.deep, w.long, w.spelled)
 
-behind_yields : (head part : Reader CodeTree) (m n : ℕ) → Finds head m → Finds part n → (may : Bool) (c : CodeTree) (ts us : List Token) → code_depth c ≤ m → (may ≡ true → code_depth c ≤ n) → SpellsCode c ts us →
+behind_yields : (head part : Reader CodeTree) (m n : ℕ) → Finds head m → Finds part n → (may : Bool) (c : CodeTree) (ts us : List Token) → code_depth c ≤ m →
+    (may ≡ true → code_depth c ≤ n) → SpellsCode c ts us →
     Yields (InsideFound m n ts) (behind_of head part n may c us)
 unfolding behind_of
 behind_yields head part m n g h may c ts us l e s =
     first_yields _ _ _ us
-    (λ p vs o. bind_yields _ _ vs (more_yields head m g (Sign (codes ",")) (Sign (codes ")")) c ts us vs l s (took_next _ us vs p o)) (λ cs ws w. pure_yields (several cs) ws (several_found m n ts ws c cs w)))
+    (λ p vs o. bind_yields _ _ vs (more_yields head m g (Sign (codes ",")) (Sign (codes ")")) c ts us vs l s (took_next _ us vs p o))
+    (λ cs ws w. pure_yields (several cs) ws (several_found m n ts ws c cs w)))
     (first_yields _ _ _ us
     (λ op vs o. let t = took_operation may us vs op o in
     bind_yields _ _ vs (operated_yields part n h c op ts us vs (e t.0) s t.1) (λ d ws w. pure_yields (single d) ws (single_found m n ts ws d w)))
@@ -343,11 +412,14 @@ may_be : (a b : Bool) (m n d : ℕ) → (a ≡ true → m ≡ n) → (b ≡ true
 may_be true b m n d f g l e = let s : m ≡ n = f refl in omega (arith, l, s)
 may_be false b m n d f g l e = g e
 
-pub inside_yields : (head part : Reader CodeTree) (m n : ℕ) → Finds head m → Finds part n → (ts : List Token) → Yields (InsideFound m n ts) (inside_of head part m n ts)
+pub inside_yields : (head part : Reader CodeTree) (m n : ℕ) → Finds head m → Finds part n → (ts : List Token) →
+    Yields (InsideFound m n ts) (inside_of head part m n ts)
 unfolding inside_of Finds
 inside_yields head part m n g h ts =
-    deep_yields _ _ _ _ ts (λ p a w. bind_yields _ _ a (if_yields part n h ts a (took_next _ ts a p w)) (λ c us f. pure_yields (single c) us (single_found m n ts us c f)))
-    (deep_yields _ _ _ _ ts (λ p a w. bind_yields _ _ a (let_yields part n h ts a (took_next _ ts a p w)) (λ c us f. pure_yields (single c) us (single_found m n ts us c f)))
+    deep_yields _ _ _ _ ts (λ p a w. bind_yields _ _ a (if_yields part n h ts a (took_next _ ts a p w))
+    (λ c us f. pure_yields (single c) us (single_found m n ts us c f)))
+    (deep_yields _ _ _ _ ts (λ p a w. bind_yields _ _ a (let_yields part n h ts a (took_next _ ts a p w))
+    (λ c us f. pure_yields (single c) us (single_found m n ts us c f)))
     (bind_yields _ _ ts (g ts) (λ c us f. behind_yields head part m n g h (nat_eq m n || nat_le (code_depth c) n) c ts us f.deep
     (may_be (nat_eq m n) (nat_le (code_depth c) n) m n (code_depth c) (eqb-true m n) (leb-true (code_depth c) n) f.deep) f.spelled)))
 
@@ -369,9 +441,11 @@ item_made n Need c a b us f e = λ start w. (f.deep, (a, w, (b, f.spelled, e)))
 item_yields : (part : Reader CodeTree) (n : ℕ) → Finds part n → (s : Step) (a : List Token) → Yields (ItemFound n s a) (item_of part s a)
 unfolding item_of Finds
 item_yields part n h s a =
-    bind_yields _ _ a (h a) (λ c b f. bind_yields _ _ b (must_yields _ b) (λ p us e. pure_yields (step_tree s c) us (item_made n s c a b us f (took_next _ b us p e))))
+    bind_yields _ _ a (h a) (λ c b f. bind_yields _ _ b (must_yields _ b)
+    (λ p us e. pure_yields (step_tree s c) us (item_made n s c a b us f (took_next _ b us p e))))
 
-one_step : (n : ℕ) (s : Step) (i : ItemTree) (done : List ItemTree) (ts a b : List Token) (is : List ItemTree) (us : List Token) → Next (step_kind s) ts a → ItemFound n s a i b →
+one_step : (n : ℕ) (s : Step) (i : ItemTree) (done : List ItemTree) (ts a b : List Token) (is : List ItemTree) (us : List Token) → Next (step_kind s) ts a →
+    ItemFound n s a i b →
     StepsFound n (done ++ i ∷ []) b is us → StepsFound n done ts is us
 unfolding StepsFound ItemFound
 one_step n s i done ts a b is us w f (new, g, l, v) =
@@ -381,12 +455,14 @@ no_steps : (n : ℕ) (done : List ItemTree) (ts a : List Token) → Next (Word (
 unfolding StepsFound
 no_steps n done ts a w = ([], sym (append-nil done), omega arith, w)
 
-steps_yields : (part : Reader CodeTree) (n : ℕ) → Finds part n → (k : ℕ) (done : List ItemTree) (ts : List Token) → Yields (StepsFound n done ts) (steps_of part k done ts)
+steps_yields : (part : Reader CodeTree) (n : ℕ) → Finds part n → (k : ℕ) (done : List ItemTree) (ts : List Token) →
+    Yields (StepsFound n done ts) (steps_of part k done ts)
 unfolding steps_of
 steps_yields part n h zero done ts = faults 0
 steps_yields part n h (suc k) done ts =
     first_yields _ _ _ ts
-    (λ s a w. bind_yields _ _ a (item_yields part n h s a) (λ i b f. widen (λ is us v. one_step n s i done ts a b is us (took_step ts a s w) f v) (steps_yields part n h k (done ++ i ∷ []) b)))
+    (λ s a w. bind_yields _ _ a (item_yields part n h s a)
+    (λ i b f. widen (λ is us v. one_step n s i done ts a b is us (took_step ts a s w) f v) (steps_yields part n h k (done ++ i ∷ []) b)))
     (bind_yields _ _ ts (must_yields _ ts) (λ p a c. pure_yields done a (no_steps n done ts a (took_next _ ts a p c))))
 
 abbrev GivesFound : ℕ → List Token → List CodeTree → List Token → Type 0
@@ -395,13 +471,15 @@ GivesFound n ts cs us = (codes_depth (codes_of cs) ≤ n) × SpellsGives (codes_
 one_given : (n : ℕ) (ts us : List Token) (c : CodeTree) → One n ts c us → GivesFound n ts (c ∷ []) us
 one_given n ts us c (f, i) = let d : code_depth c ≤ n = f.deep in (omega (arith, d), (i, f.spelled))
 
-several_given : (n : ℕ) (start ts us : List Token) (cs : List CodeTree) → Next (Sign (codes "(")) start ts → codes_depth (codes_of cs) ≤ n → 2 ≤ count (codes_of cs) →
+several_given : (n : ℕ) (start ts us : List Token) (cs : List CodeTree) → Next (Sign (codes "(")) start ts → codes_depth (codes_of cs) ≤ n →
+    2 ≤ count (codes_of cs) →
     SpellsCodes (codes_of cs) (Sign (codes ",")) (Sign (codes ")")) ts us → GivesFound n start cs us
 several_given n start ts us [] o d l w = absurd w
 several_given n start ts us (c ∷ []) o d l w = absurd (omega (arith, l))
 several_given n start ts us (c ∷ e ∷ cs) o d l (a, s, w) = (d, (ts, o, (a, s, w)))
 
-given_found : (n m : ℕ) (start ts us : List Token) (x : InsideTree) → suc m ≡ n → Next (Sign (codes "(")) start ts → InsideFound n m ts x us → GivesFound n start (all_given x) us
+given_found : (n m : ℕ) (start ts us : List Token) (x : InsideTree) → suc m ≡ n → Next (Sign (codes "(")) start ts → InsideFound n m ts x us →
+    GivesFound n start (all_given x) us
 unfolding InsideFound
 given_found n m start ts us (several cs) e o (d, l, w) = several_given n start ts us cs o d l w
 given_found n m start ts us (single c) e o w = one_given n start us c (subst (λ z. One z start c us) e (w start o))
@@ -414,7 +492,8 @@ opened : (ts a : List Token) (o : Next (Sign (codes "(")) ts a) → at (is (Sign
 opened ts a o = at_is (Sign (codes "(")) ts a o.0 refl o.1
 
 none_on : {A B : Type 0} {Q : B → List Token → Type 0} (f : Test A) (g : A → Reader B) (r : Got B) (t : Token) (ts : List Token) (o : Option A) → f t ≡ o →
-    ((x : A) (us : List Token) → Took f (t ∷ ts) x us → Yields Q (g x us)) → (before ts o ≡ None → Yields Q r) → Yields Q (elim (before ts o) [ None ↦ r | Some a ↦ g a.0 a.1 ])
+    ((x : A) (us : List Token) → Took f (t ∷ ts) x us → Yields Q (g x us)) → (before ts o ≡ None → Yields Q r) →
+    Yields Q (elim (before ts o) [ None ↦ r | Some a ↦ g a.0 a.1 ])
 none_on f g r t ts None e h k = k refl
 none_on f g r t ts (Some x) e h k = h x ts (t, refl, e)
 
@@ -456,11 +535,14 @@ no_tuple (code_if t c d) ts us e s = tt
 no_tuple (code_let x n c d) ts us e s = tt
 no_tuple (code_solve n arms) ts us e s = tt
 
-all_yields : (part : Reader CodeTree) (n : ℕ) → Finds part n → (ts : List Token) → Yields (λ is us. (items_depth (items_of is) ≤ n) × SpellsItems (items_of is) ts us) (all_steps part ts)
+all_yields : (part : Reader CodeTree) (n : ℕ) → Finds part n → (ts : List Token) →
+    Yields (λ is us. (items_depth (items_of is) ≤ n) × SpellsItems (items_of is) ts us) (all_steps part ts)
 unfolding all_steps StepsFound
-all_yields part n h ts = widen (λ is us w. subst (λ z. (items_depth (items_of z) ≤ n) × SpellsItems (items_of z) ts us) (sym w.1) (w.2, w.3)) (steps_yields part n h (length ts) [] ts)
+all_yields part n h ts = widen (λ is us w. subst (λ z. (items_depth (items_of z) ≤ n) × SpellsItems (items_of z) ts us) (sym w.1) (w.2, w.3))
+    (steps_yields part n h (length ts) [] ts)
 
-gives_yields : (part less : Reader CodeTree) (n m : ℕ) → suc m ≡ n → Finds part n → Finds less m → (ts : List Token) → Yields (GivesFound n ts) (gives_of part less n ts)
+gives_yields : (part less : Reader CodeTree) (n m : ℕ) → suc m ≡ n → Finds part n → Finds less m → (ts : List Token) →
+    Yields (GivesFound n ts) (gives_of part less n ts)
 unfolding gives_of Finds
 gives_yields part less n m e g h ts =
     let same : m ≡ n - 1 = omega (arith, e) in
@@ -473,30 +555,42 @@ gives_yields part less n m e g h ts =
 ArmFound : ℕ → ArmTree → List Token → List Token → Type 0
 ArmFound n arm ts us = (start : List Token) → Next (Word (codes "arm")) start ts → (arm_depth arm ≤ n) × SpellsArm arm start us
 
-arm_yields : (part less : Reader CodeTree) (n m : ℕ) → suc m ≡ n → Finds part n → Finds less m → (ts : List Token) → Yields (λ arm us. ArmFound n arm ts us) (arm_from part less n ts)
+arm_yields : (part less : Reader CodeTree) (n m : ℕ) → suc m ≡ n → Finds part n → Finds less m → (ts : List Token) →
+    Yields (λ arm us. ArmFound n arm ts us) (arm_from part less n ts)
 unfolding arm_from all_steps ArmFound
 arm_yields part less n m e g h ts =
-    bind_yields _ _ ts (must_yields _ ts) (λ p b o. bind_yields _ _ b (bounds_yields b) (λ bounds c bs. bind_yields _ _ c (must_yields _ c) (λ q d i. bind_yields _ _ d (all_yields part n g d) (λ steps f is.
+    bind_yields _ _ ts (must_yields _ ts) (λ p b o. bind_yields _ _ b (bounds_yields b)
+    (λ bounds c bs. bind_yields _ _ c (must_yields _ c) (λ q d i. bind_yields _ _ d (all_yields part n g d) (λ steps f is.
     bind_yields _ _ f (gives_yields part less n m e g h f) (λ gives j gs. bind_yields _ _ j (must_yields _ j) (λ r us l.
-    pure_yields _ us (λ start w. (omega (arith, is.0, gs.0), (ts, w, (b, took_next _ ts b p o, (c, bs, (d, took_next _ c d q i, (f, is.1, (j, gs.1, took_next _ j us r l))))))))))))))
+    pure_yields _ us (λ start w. (
+      omega (arith, is.0, gs.0),
+      (ts, w, (b, took_next _ ts b p o, (c, bs, (d, took_next _ c d q i, (f, is.1, (j, gs.1, took_next _ j us r l)))))),
+    ))))))))
 
-arms_found : (n : ℕ) (arms : List ArmTree) (ts us : List Token) → Others (λ arm ts us. ArmFound n arm ts us) (Word (codes "arm")) (Sign (codes "}")) arms ts us → (arms_depth (arms_of arms) ≤ n) × SpellsArms (arms_of arms) ts us
+arms_found : (n : ℕ) (arms : List ArmTree) (ts us : List Token) →
+    Others (λ arm ts us. ArmFound n arm ts us) (Word (codes "arm")) (Sign (codes "}")) arms ts us →
+    (arms_depth (arms_of arms) ≤ n) × SpellsArms (arms_of arms) ts us
 unfolding ArmFound
 arms_found n [] ts us w = (omega arith, w)
 arms_found n (arm ∷ arms) ts us (a, s, (b, f, o)) = let g = f ts s in let h = arms_found n arms b us o in (omega (arith, g.0, h.0), (b, g.1, h.1))
 
-all_arms_yields : (part less : Reader CodeTree) (n : ℕ) → Finds part n → Finds less (n - 1) → (ts : List Token) → Yields (λ arms us. (arms_depth (arms_of arms) ≤ n) × SpellsArms (arms_of arms) ts us) (all_arms part less n ts)
+all_arms_yields : (part less : Reader CodeTree) (n : ℕ) → Finds part n → Finds less (n - 1) → (ts : List Token) →
+    Yields (λ arms us. (arms_depth (arms_of arms) ≤ n) × SpellsArms (arms_of arms) ts us) (all_arms part less n ts)
 unfolding all_arms
 all_arms_yields part less zero g h ts = bind_yields _ _ ts (must_yields _ ts) (λ p us c. pure_yields [] us (omega arith, took_next _ ts us p c))
 all_arms_yields part less (suc n) g h ts =
     let same : suc n - 1 ≡ n = omega arith in
-    widen (λ arms us w. subst (λ z. (arms_depth (arms_of z) ≤ suc n) × SpellsArms (arms_of z) ts us) (sym (w.1 ∙ all_added w.0)) (arms_found (suc n) w.0 ts us w.2))
-    (others_yields snoc (arm_from part less (suc n)) (λ arm ts us. ArmFound (suc n) arm ts us) (Word (codes "arm")) (Sign (codes "}")) (arm_yields part less (suc n) n refl g (subst (λ z. Finds less z) same h)) [] ts)
+    widen (λ arms us w. subst (λ z. (arms_depth (arms_of z) ≤ suc n) × SpellsArms (arms_of z) ts us) (sym (w.1 ∙ all_added w.0))
+    (arms_found (suc n) w.0 ts us w.2))
+    (others_yields snoc (arm_from part less (suc n)) (λ arm ts us. ArmFound (suc n) arm ts us) (Word (codes "arm")) (Sign (codes "}"))
+    (arm_yields part less (suc n) n refl g (subst (λ z. Finds less z) same h)) [] ts)
 
-solve_yields : (part less : Reader CodeTree) (n : ℕ) → Finds part n → Finds less (n - 1) → (start ts : List Token) → Next (Word (codes "solve")) start ts → Yields (Found (suc n) start) (solve_of part less n ts)
+solve_yields : (part less : Reader CodeTree) (n : ℕ) → Finds part n → Finds less (n - 1) → (start ts : List Token) → Next (Word (codes "solve")) start ts →
+    Yields (Found (suc n) start) (solve_of part less n ts)
 unfolding solve_of
 solve_yields part less n g h start ts w =
-    bind_yields _ _ ts (must_yields _ ts) (λ number a k. bind_yields _ _ a (must_yields _ a) (λ p b o. bind_yields _ _ b (all_arms_yields part less n g h b) (λ arms us s.
+    bind_yields _ _ ts (must_yields _ ts) (λ number a k. bind_yields _ _ a (must_yields _ a)
+    (λ p b o. bind_yields _ _ b (all_arms_yields part less n g h b) (λ arms us s.
     pure_yields _ us (record { deep = omega (arith, s.0); spelled = (ts, w, (a, took_numeral ts a number k, (b, took_next _ a b p o, s.1))) }))))
 
 unless_zero_yields : {A : Type 0} {P : A → List Token → Type 0} (n : ℕ) (r : Reader A) (ts : List Token) → Yields P (r ts) → Yields P (unless_zero n r ts)
@@ -507,9 +601,11 @@ unless_zero_yields (suc n) r ts h = h
 word_yields : (part less : Reader CodeTree) (n : ℕ) → Finds part n → Finds less (n - 1) → (ts : List Token) → Yields (Found (suc n) ts) (word_of part less n ts)
 unfolding word_of
 word_yields part less n g h ts =
-    first_yields _ _ _ ts (λ p a w. solve_yields part less n g h ts a (took_next _ ts a p w)) (unless_zero_yields n (forms_of part) ts (forms_yields part n g ts))
+    first_yields _ _ _ ts (λ p a w. solve_yields part less n g h ts a (took_next _ ts a p w))
+    (unless_zero_yields n (forms_of part) ts (forms_yields part n g ts))
 
-whole_found : (n : ℕ) (start ts us : List Token) (x : InsideTree) → Next (Sign (codes "(")) start ts → InsideFound n n ts x us → Found (suc n) start (whole x) us
+whole_found : (n : ℕ) (start ts us : List Token) (x : InsideTree) → Next (Sign (codes "(")) start ts → InsideFound n n ts x us →
+    Found (suc n) start (whole x) us
 unfolding InsideFound
 whole_found n start ts us (several cs) o (d, l, w) = record { deep = omega (arith, d); spelled = (l, (ts, o, w)) }
 whole_found n start ts us (single c) o w = (w start o).0
@@ -523,7 +619,8 @@ step_yields part less n g h ts =
     (first_yields _ _ _ ts (λ t a w. pure_yields _ a (record { deep = omega arith; spelled = (t.0, took_truth ts a t w) }))
     (first_yields _ _ _ ts (λ x a w. pure_yields _ a (record { deep = omega arith; spelled = took_variable ts a x w }))
     (first_yields _ _ _ ts (λ p a w. bind_yields _ _ a (elements_yields part n g ts a (took_next _ ts a p w)) (λ cs us f. pure_yields _ us f))
-    (deep_yields _ _ _ _ ts (λ p a w. bind_yields _ _ a (inside_yields part part n n g g a) (λ x us f. pure_yields _ us (whole_found n ts a us x (took_next _ ts a p w) f)))
+    (deep_yields _ _ _ _ ts (λ p a w. bind_yields _ _ a (inside_yields part part n n g g a)
+    (λ x us f. pure_yields _ us (whole_found n ts a us x (took_next _ ts a p w) f)))
     (word_yields part less n g h ts))))))
 
 pub read_found : (n : ℕ) → Finds (read n) n
@@ -531,4 +628,5 @@ unfolding read Finds
 read_found zero ts = refuse_yields ts
 read_found (suc zero) ts = step_yields refuse refuse 0 (λ us. refuse_yields us) (λ us. refuse_yields us) ts
 read_found (suc (suc n)) ts =
-    let same : n ≡ suc n - 1 = omega arith in step_yields (read (suc n)) (read n) (suc n) (read_found (suc n)) (subst (λ z. Finds (read n) z) same (read_found n)) ts
+    let same : n ≡ suc n - 1 = omega arith in
+    step_yields (read (suc n)) (read n) (suc n) (read_found (suc n)) (subst (λ z. Finds (read n) z) same (read_found n)) ts

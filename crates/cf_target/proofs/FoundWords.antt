@@ -47,11 +47,13 @@ step_kind Let = Word (codes "let")
 step_kind Need = Word (codes "need")
 
 -- a token that passed a test is of the kind that it tells
-took_kind : {A : Type 0} (f : Test A) (kind : A → TokenKind) → ((q : Place) (k : TokenKind) (x : A) → f (record { place = q; kind = k }) ≡ Some x → k ≡ kind x) →
+took_kind : {A : Type 0} (f : Test A) (kind : A → TokenKind) →
+    ((q : Place) (k : TokenKind) (x : A) → f (record { place = q; kind = k }) ≡ Some x → k ≡ kind x) →
     (ts us : List Token) (x : A) → Took f ts x us → Next (kind x) ts us
 took_kind f kind h ts us x (t, e, g) = (t.place, same_token t t.place (kind x) ts us e refl (h t.place t.kind x g))
 
-two_words : {A : Type 0} (kind : A → TokenKind) (x v w : List ℕ) (a b y : A) → kind a ≡ Word v → kind b ≡ Word w → cond (bytes_eq x v) (Some a) (cond (bytes_eq x w) (Some b) None) ≡ Some y → Word x ≡ kind y
+two_words : {A : Type 0} (kind : A → TokenKind) (x v w : List ℕ) (a b y : A) → kind a ≡ Word v → kind b ≡ Word w →
+    cond (bytes_eq x v) (Some a) (cond (bytes_eq x w) (Some b) None) ≡ Some y → Word x ≡ kind y
 two_words kind x v w a b y f g e = elim (if_else_some (bytes_eq x v) a y _ e) [
   | inl h ↦ ap Word (same_text x v h.0) ∙ sym f ∙ ap kind h.1
   | inr h ↦ let j = if_some (bytes_eq x w) b y h.1 in ap Word (same_text x w j.0) ∙ sym g ∙ ap kind j.1
@@ -190,7 +192,8 @@ lone_on (code_if t c d) k e = cc
 lone_on (code_let x n c d) k e = cc
 lone_on (code_solve n arms) k e = cc
 
-divisor_on : (n : ℕ) (o : Option ℤ) (q : Option Place) (k : ℤ) → divisor_of n o q ≡ Some k → (o ≡ Some k) × (1 ≤ n) × (pos 1 ≤ℤ k) × ((p : Place) × (q ≡ Some p))
+divisor_on : (n : ℕ) (o : Option ℤ) (q : Option Place) (k : ℤ) → divisor_of n o q ≡ Some k →
+    (o ≡ Some k) × (1 ≤ n) × (pos 1 ≤ℤ k) × ((p : Place) × (q ≡ Some p))
 divisor_on n None q k e = cc
 divisor_on n (Some j) None k e = cc
 divisor_on n (Some j) (Some p) k e =

@@ -16,7 +16,8 @@ all_true false b c x y e f g h = cc
 digit_reads : (n r : ℕ) → r < 10 → n * 10 + r < 2 ^ 32 → with_digit n (48 + r) ≡ Some (n * 10 + r)
 unfolding with_digit last_level
 digit_reads n r h l =
-    all_true _ _ _ _ _ (le-leb 48 (48 + r) (omega arith)) (le-leb (48 + r) 57 (omega (arith, h))) (le-leb (n * 10 + (48 + r - 48)) (2 ^ 32 - 1) (omega (arith, l))) (omega arith)
+    all_true _ _ _ _ _ (le-leb 48 (48 + r) (omega arith)) (le-leb (48 + r) 57 (omega (arith, h)))
+    (le-leb (n * 10 + (48 + r - 48)) (2 ^ 32 - 1) (omega (arith, l))) (omega arith)
 
 some_same : (x y : ℕ) → Some x ≡ Some y → x ≡ y
 some_same x y e = cc
@@ -73,7 +74,8 @@ level_more : (ds : List ℕ) (m c k : ℕ) → level_in ds ≡ Some m → 1 ≤ 
 level_more [] m c k e l g = cc
 level_more (d ∷ []) m c k e l g =
     let h = guarded (nat_eq d 48) (nat_le 1 0) (level_after 0 (d ∷ [])) m e in
-    unguarded (nat_eq d 48) (nat_le 1 1) (level_after 0 (d ∷ c ∷ [])) k (not_zero_on d m None (nat_eq d 48) (eqb-true d 48) l (one_on (with_digit 0 d) m h.0)) (after_more (d ∷ []) 0 m c k h.0 g)
+    unguarded (nat_eq d 48) (nat_le 1 1) (level_after 0 (d ∷ c ∷ [])) k (not_zero_on d m None (nat_eq d 48) (eqb-true d 48) l (one_on (with_digit 0 d) m h.0))
+    (after_more (d ∷ []) 0 m c k h.0 g)
   where
     one_on : (o : Option ℕ) (m : ℕ) → elim o [ None ↦ None | Some j ↦ Some j ] ≡ Some m → o ≡ Some m
     one_on None m e = cc
@@ -92,12 +94,15 @@ level_reads : (n : ℕ) → n < 2 ^ 32 → level_in (decimal n) ≡ Some n
 level_reads n h = decimal_by_steps (λ n ds. n < 2 ^ 32 → level_in ds ≡ Some n) one more n (omega (arith, h)) h
   where
     one : (n : ℕ) → n < 10 → n < 2 ^ 32 → level_in ((48 + n) ∷ []) ≡ Some n
-    one n l h = let same : 0 * 10 + n ≡ n = omega arith in alone (nat_eq (48 + n) 48) (level_after 0 ((48 + n) ∷ [])) n (ap (λ o. elim o [ None ↦ None | Some j ↦ Some j ]) (digit_reads 0 n l (omega (arith, l))) ∙ ap Some same)
+    one n l h = let same : 0 * 10 + n ≡ n = omega arith in
+        alone (nat_eq (48 + n) 48) (level_after 0 ((48 + n) ∷ [])) n
+        (ap (λ o. elim o [ None ↦ None | Some j ↦ Some j ]) (digit_reads 0 n l (omega (arith, l))) ∙ ap Some same)
 
     more : (n : ℕ) (ds : List ℕ) → 10 ≤ n → (n / 10 < 2 ^ 32 → level_in ds ≡ Some (n / 10)) → n < 2 ^ 32 → level_in (ds ++ (48 + n % 10) ∷ []) ≡ Some n
     more n ds l e h =
         let whole : n / 10 * 10 + n % 10 ≡ n = omega arith in
-        level_more ds (n / 10) (48 + n % 10) n (e (omega (arith, h))) (omega (arith, l)) (digit_reads (n / 10) (n % 10) (omega arith) (omega (arith, h, whole)) ∙ ap Some whole)
+        level_more ds (n / 10) (48 + n % 10) n (e (omega (arith, h))) (omega (arith, l))
+        (digit_reads (n / 10) (n % 10) (omega arith) (omega (arith, h, whole)) ∙ ap Some whole)
 
 pub name_reads : (n : ℕ) → n < 2 ^ 32 → level_of (level_name n) ≡ Some n
 name_reads n h = level_reads n h
@@ -141,7 +146,8 @@ not_zero : (d j : ℕ) → nat_eq d 48 ≡ false → Digit 0 d j → 1 ≤ j
 not_zero d zero f g = absurd (let s : d ≡ 48 = omega (arith, g.low, g.value) in clash (nat_eq d 48) (eq-eqb d 48 s) f)
 not_zero d (suc j) f g = omega arith
 
-many_found : (ds : List ℕ) (d x : ℕ) (o : Option ℕ) → with_digit 0 d ≡ o → nat_eq d 48 ≡ false → elim o [ None ↦ None | Some j ↦ level_after j ds ] ≡ Some x → LevelAnswer [] (d ∷ ds) x
+many_found : (ds : List ℕ) (d x : ℕ) (o : Option ℕ) → with_digit 0 d ≡ o → nat_eq d 48 ≡ false → elim o [ None ↦ None | Some j ↦ level_after j ds ] ≡ Some x →
+    LevelAnswer [] (d ∷ ds) x
 many_found ds d x None w f e = cc
 many_found ds d x (Some j) w f e =
     let g = digit_found 0 d j w in

@@ -14,8 +14,10 @@ use Rattle.cf_target.specs.Reading.{variables_of, all_variables, vars_of, bounds
 variables_local : {more other : List Token} (j k last : ℕ) → Local more other (variables_of j last) (variables_of k last)
 unfolding variables_of
 variables_local zero k last = end_local _
-variables_local (suc j) zero last = any_local (first_local _ (λ p. bind_local (must_local _) (λ x. variables_local j j x)) (bind_local (must_local _) (λ p. pure_local _)))
-variables_local (suc j) (suc k) last = first_local _ (λ p. bind_local (must_local _) (λ x. variables_local j k x)) (bind_local (must_local _) (λ p. pure_local _))
+variables_local (suc j) zero last = any_local
+    (first_local _ (λ p. bind_local (must_local _) (λ x. variables_local j j x)) (bind_local (must_local _) (λ p. pure_local _)))
+variables_local (suc j) (suc k) last = first_local _ (λ p. bind_local (must_local _) (λ x. variables_local j k x))
+    (bind_local (must_local _) (λ p. pure_local _))
 
 all_variables_local : {more other : List Token} (last : ℕ) → Local more other (all_variables last) (all_variables last)
 unfolding all_variables
@@ -27,14 +29,16 @@ all_variables_local {more} {other} last = record {
 pub vars_local : {more other : List Token} → Local more other vars_of vars_of
 unfolding vars_of
 vars_local =
-    first_local _ (λ p. bind_local (must_local _) (λ x. bind_local (must_local _) (λ q. bind_local (must_local _) (λ y. bind_local (all_variables_local y) (λ last. pure_local _)))))
+    first_local _ (λ p. bind_local (must_local _)
+    (λ x. bind_local (must_local _) (λ q. bind_local (must_local _) (λ y. bind_local (all_variables_local y) (λ last. pure_local _)))))
     (bind_local (must_local _) (λ x. pure_local _))
 
 pub bounds_local : {more other : List Token} → Local more other bounds_of bounds_of
 unfolding bounds_of
 bounds_local = first_local _ (λ p. pure_local _) (several_local _ _ _ _ (must_local _))
 
-list_local : {more other : List Token} {part : Reader CodeTree} (close : TokenKind) → Local more other part part → Local more other (list_of part close) (list_of part close)
+list_local : {more other : List Token} {part : Reader CodeTree} (close : TokenKind) → Local more other part part →
+    Local more other (list_of part close) (list_of part close)
 unfolding list_of
 list_local close h = several_local _ _ _ _ h
 
@@ -48,7 +52,8 @@ one_local h = bind_local (must_local _) (λ p. bind_local h (λ c. bind_local (m
 
 divided_local : {more other : List Token} {part : Reader CodeTree} → Local more other part part → Local more other (divided_of part) (divided_of part)
 unfolding divided_of
-divided_local h = bind_local (must_local _) (λ p. bind_local h (λ c. bind_local (must_local _) (λ q. bind_local (must_local _) (λ k. bind_local (must_local _) (λ r. pure_local _)))))
+divided_local h = bind_local (must_local _)
+    (λ p. bind_local h (λ c. bind_local (must_local _) (λ q. bind_local (must_local _) (λ k. bind_local (must_local _) (λ r. pure_local _)))))
 
 listed_local : {more other : List Token} {part : Reader CodeTree} → Local more other part part → Local more other (listed_of part) (listed_of part)
 unfolding listed_of
@@ -57,26 +62,33 @@ listed_local h = bind_local (must_local _) (λ p. list_local _ h)
 slice_local : {more other : List Token} {part : Reader CodeTree} → Local more other part part → Local more other (slice_of part) (slice_of part)
 unfolding slice_of
 slice_local h =
-    bind_local (must_local _) (λ p. bind_local h (λ c. bind_local (must_local _) (λ q. bind_local h (λ d. bind_local (must_local _) (λ r. bind_local h (λ e. bind_local (must_local _) (λ s. pure_local _)))))))
+    bind_local (must_local _) (λ p. bind_local h
+    (λ c. bind_local (must_local _) (λ q. bind_local h
+    (λ d. bind_local (must_local _) (λ r. bind_local h (λ e. bind_local (must_local _) (λ s. pure_local _)))))))
 
 fresh_local : {more other : List Token} {part : Reader CodeTree} → Local more other part part → Local more other (fresh_of part) (fresh_of part)
 unfolding fresh_of
-fresh_local h = bind_local (must_local _) (λ p. bind_local h (λ c. bind_local (must_local _) (λ q. bind_local h (λ d. bind_local (must_local _) (λ s. pure_local _)))))
+fresh_local h = bind_local (must_local _)
+    (λ p. bind_local h (λ c. bind_local (must_local _) (λ q. bind_local h (λ d. bind_local (must_local _) (λ s. pure_local _)))))
 
 if_local : {more other : List Token} {part : Reader CodeTree} → Local more other part part → Local more other (if_of part) (if_of part)
 unfolding if_of
-if_local h = bind_local h (λ t. bind_local (must_local _) (λ p. bind_local h (λ c. bind_local (must_local _) (λ q. bind_local h (λ d. bind_local (must_local _) (λ s. pure_local _))))))
+if_local h = bind_local h (λ t. bind_local (must_local _)
+    (λ p. bind_local h (λ c. bind_local (must_local _) (λ q. bind_local h (λ d. bind_local (must_local _) (λ s. pure_local _))))))
 
 let_local : {more other : List Token} {part : Reader CodeTree} → Local more other part part → Local more other (let_of part) (let_of part)
 unfolding let_of
-let_local h = bind_local vars_local (λ xs. bind_local (must_local _) (λ p. bind_local h (λ c. bind_local (must_local _) (λ q. bind_local h (λ d. bind_local (must_local _) (λ s. pure_local _))))))
+let_local h = bind_local vars_local (λ xs. bind_local (must_local _)
+    (λ p. bind_local h (λ c. bind_local (must_local _) (λ q. bind_local h (λ d. bind_local (must_local _) (λ s. pure_local _))))))
 
-operated_local : {more other : List Token} {part : Reader CodeTree} (c : CodeTree) (op : Operation) → Local more other part part → Local more other (operated_of part c op) (operated_of part c op)
+operated_local : {more other : List Token} {part : Reader CodeTree} (c : CodeTree) (op : Operation) → Local more other part part →
+    Local more other (operated_of part c op) (operated_of part c op)
 unfolding operated_of
 operated_local c (operations.Two two) h = bind_local h (λ d. bind_local (must_local _) (λ p. pure_local _))
 operated_local c (operations.Many many) h = bind_local (several_local _ _ _ _ h) (λ cs. pure_local _)
 
-behind_local : {more other : List Token} {head part : Reader CodeTree} (n : ℕ) (may : Bool) (c : CodeTree) → Local more other head head → Local more other part part →
+behind_local : {more other : List Token} {head part : Reader CodeTree} (n : ℕ) (may : Bool) (c : CodeTree) → Local more other head head →
+    Local more other part part →
     Local more other (behind_of head part n may c) (behind_of head part n may c)
 unfolding behind_of
 behind_local n may c g h =
@@ -85,7 +97,8 @@ behind_local n may c g h =
     first_local _ (λ k. bind_local h (λ d. bind_local (must_local _) (λ p. pure_local _))) (
     refuse_local)))
 
-inside_local : {more other : List Token} {head part : Reader CodeTree} (m n : ℕ) → Local more other head head → Local more other part part → Local more other (inside_of head part m n) (inside_of head part m n)
+inside_local : {more other : List Token} {head part : Reader CodeTree} (m n : ℕ) → Local more other head head → Local more other part part →
+    Local more other (inside_of head part m n) (inside_of head part m n)
 unfolding inside_of
 inside_local m n g h =
     deep_local _ _ (λ p. bind_local (if_local h) (λ c. pure_local _)) (
@@ -96,7 +109,8 @@ item_local : {more other : List Token} {part : Reader CodeTree} (s : Step) → L
 unfolding item_of
 item_local s h = bind_local h (λ c. bind_local (must_local _) (λ p. pure_local _))
 
-steps_local : {more other : List Token} {part : Reader CodeTree} (j k : ℕ) (done : List ItemTree) → Local more other part part → Local more other (steps_of part j done) (steps_of part k done)
+steps_local : {more other : List Token} {part : Reader CodeTree} (j k : ℕ) (done : List ItemTree) → Local more other part part →
+    Local more other (steps_of part j done) (steps_of part k done)
 unfolding steps_of
 steps_local zero k done h = end_local _
 steps_local (suc j) zero done h =
@@ -110,22 +124,27 @@ all_steps_local h = record {
   near = λ ts us n. (steps_local (length ts) (length us) [] h).near ts us n;
 }
 
-gives_local : {more other : List Token} {part less : Reader CodeTree} (n : ℕ) → Local more other part part → Local more other less less → Local more other (gives_of part less n) (gives_of part less n)
+gives_local : {more other : List Token} {part less : Reader CodeTree} (n : ℕ) → Local more other part part → Local more other less less →
+    Local more other (gives_of part less n) (gives_of part less n)
 unfolding gives_of
 gives_local n g h = first_local _ (λ p. bind_local (inside_local n _ g h) (λ x. pure_local _)) (bind_local g (λ c. pure_local _))
 
-pub arm_local : {more other : List Token} {part less : Reader CodeTree} (n : ℕ) → Local more other part part → Local more other less less → Local more other (arm_from part less n) (arm_from part less n)
+pub arm_local : {more other : List Token} {part less : Reader CodeTree} (n : ℕ) → Local more other part part → Local more other less less →
+    Local more other (arm_from part less n) (arm_from part less n)
 unfolding arm_from
 arm_local n g h =
-    bind_local (must_local _) (λ p. bind_local bounds_local (λ bounds. bind_local (must_local _) (λ q. bind_local (all_steps_local g) (λ steps. bind_local (gives_local n g h) (λ gives.
+    bind_local (must_local _) (λ p. bind_local bounds_local
+    (λ bounds. bind_local (must_local _) (λ q. bind_local (all_steps_local g) (λ steps. bind_local (gives_local n g h) (λ gives.
     bind_local (must_local _) (λ r. pure_local _))))))
 
-all_arms_local : {more other : List Token} {part less : Reader CodeTree} (n : ℕ) → Local more other part part → Local more other less less → Local more other (all_arms part less n) (all_arms part less n)
+all_arms_local : {more other : List Token} {part less : Reader CodeTree} (n : ℕ) → Local more other part part → Local more other less less →
+    Local more other (all_arms part less n) (all_arms part less n)
 unfolding all_arms
 all_arms_local zero g h = bind_local (must_local _) (λ p. pure_local _)
 all_arms_local (suc n) g h = others_local _ _ _ _ (arm_local (suc n) g h)
 
-solve_local : {more other : List Token} {part less : Reader CodeTree} (n : ℕ) → Local more other part part → Local more other less less → Local more other (solve_of part less n) (solve_of part less n)
+solve_local : {more other : List Token} {part less : Reader CodeTree} (n : ℕ) → Local more other part part → Local more other less less →
+    Local more other (solve_of part less n) (solve_of part less n)
 unfolding solve_of
 solve_local n g h = bind_local (must_local _) (λ x. bind_local (must_local _) (λ p. bind_local (all_arms_local n g h) (λ arms. pure_local _)))
 
@@ -144,11 +163,13 @@ unfolding unless_zero refuse
 unless_zero_local zero h = refuse_local
 unless_zero_local (suc n) h = h
 
-word_local : {more other : List Token} {part less : Reader CodeTree} (n : ℕ) → Local more other part part → Local more other less less → Local more other (word_of part less n) (word_of part less n)
+word_local : {more other : List Token} {part less : Reader CodeTree} (n : ℕ) → Local more other part part → Local more other less less →
+    Local more other (word_of part less n) (word_of part less n)
 unfolding word_of
 word_local n g h = first_local _ (λ p. solve_local n g h) (unless_zero_local n (forms_local g))
 
-step_local : {more other : List Token} {part less : Reader CodeTree} (n : ℕ) → Local more other part part → Local more other less less → Local more other (step part less n) (step part less n)
+step_local : {more other : List Token} {part less : Reader CodeTree} (n : ℕ) → Local more other part part → Local more other less less →
+    Local more other (step part less n) (step part less n)
 unfolding step negative_of
 step_local n g h =
     first_local _ (λ k. pure_local _) (

@@ -27,21 +27,23 @@ base_unclosed Int ts us w = at_not _ (base_kind Int) ts us w.0 refl w.1
 base_unclosed Truth ts us w = at_not _ (base_kind Truth) ts us w.0 refl w.1
 base_unclosed Set ts us w = at_not _ (base_kind Set) ts us w.0 refl w.1
 
-bases_are : (bs : List Base) (ts us : List Token) → SpellsBases bs ts us → bases_of ts ≡ Ok (bs, us)
+pub bases_are : (bs : List Base) (ts us : List Token) → SpellsBases bs ts us → bases_of ts ≡ Ok (bs, us)
 unfolding bases_of
 bases_are [] ts us w = first_is _ _ _ ts (at_is _ ts us w.0 refl w.1) (pure_is _ _ us refl)
 bases_are (b ∷ bs) ts us (a, i, o) =
     first_not _ _ _ ts (base_unclosed b ts a i)
-    (several_are snoc (must a_base) SpellsBase (Sign (codes ",")) (Sign (codes ")")) base_items (b ∷ bs) [] ts us (a, i, o) ∙ ap (λ (z : List Base). Ok (z, us)) (all_added (b ∷ bs)))
+    (several_are snoc (must a_base) SpellsBase (Sign (codes ",")) (Sign (codes ")")) base_items (b ∷ bs) [] ts us (a, i, o) ∙
+    ap (λ (z : List Base). Ok (z, us)) (all_added (b ∷ bs)))
 
-two_is : (ts us : List Token) (w : Next (Literal (pos 2)) ts us) → at a_two ts ≡ Some (w.0, us)
+pub two_is : (ts us : List Token) (w : Next (Literal (pos 2)) ts us) → at a_two ts ≡ Some (w.0, us)
 unfolding at
 two_is ts us w = ap (at a_two) w.1
 
 body_is : (limit : ℕ) (t : TargetTree) (ts : List Token) → SpellsMain t ts [] → code_depth t.code ≤ limit → body_of limit ts ≡ Ok (t, [])
 unfolding body_of at_end
 body_is limit t ts (b, m, (c, o, (d, bs, (e, s, (f, rs, (g, q, w)))))) l =
-    bind_is _ _ ts (next_is _ ts b refl m) (bind_is _ _ b (next_is _ b c refl o) (bind_is _ _ c (bases_are t.params c d bs) (bind_is _ _ d (next_is _ d e refl s)
+    bind_is _ _ ts (next_is _ ts b refl m) (bind_is _ _ b (next_is _ b c refl o)
+    (bind_is _ _ c (bases_are t.params c d bs) (bind_is _ _ d (next_is _ d e refl s)
     (bind_is _ _ e (results_are t.results e f rs) (bind_is _ _ f (next_is _ f g refl q) (bind_is _ _ g (read_reads limit t.code g [] l w) refl))))))
 
 target_is : (limit : ℕ) (t : TargetTree) (ts : List Token) → SpellsTarget limit t ts → target_of limit ts ≡ Ok (t, [])
@@ -68,14 +70,15 @@ none_from ts items n e f t w = not_both (target_of 500 ts) (t, []) n (ap (target
 
 -- the place of a fault
 
-bases_local : {more other : List Token} → Local more other bases_of bases_of
+pub bases_local : {more other : List Token} → Local more other bases_of bases_of
 unfolding bases_of
 bases_local = first_local _ (λ p. pure_local _) (several_local snoc _ _ [] (must_local _))
 
 body_local : {more other : List Token} (limit : ℕ) → Local more other (body_of limit) (body_of limit)
 unfolding body_of
 body_local {more} {other} limit =
-    bind_local (must_local _) (λ p. bind_local (must_local _) (λ q. bind_local bases_local (λ params. bind_local (must_local _) (λ r. bind_local results_local (λ results. bind_local (must_local _) (λ s.
+    bind_local (must_local _) (λ p. bind_local (must_local _)
+    (λ q. bind_local bases_local (λ params. bind_local (must_local _) (λ r. bind_local results_local (λ results. bind_local (must_local _) (λ s.
     bind_local (read_local more other limit) (λ code. at_end_local _ refuse_local)))))))
 
 target_local : {more other : List Token} (limit : ℕ) → Local more other (target_of limit) (target_of limit)

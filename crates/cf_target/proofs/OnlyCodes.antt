@@ -57,13 +57,15 @@ variable_is x ts us (l, (p, w)) = ap (at a_variable) w ∙ ap (λ o. before us o
 early_is : (x : ℕ) (ts us : List Token) → SpellsVariable x ts us → x + 1 < 2 ^ 32 → at an_early_variable ts ≡ Some (x, us)
 unfolding at last_level
 early_is x ts us (l, (p, w)) h =
-    ap (at an_early_variable) w ∙ ap (λ o. before us (if_before_last o)) (name_reads x l) ∙ ap (λ b. before us (cond b (Some x) None)) (le-leb (x + 1) (2 ^ 32 - 1) (omega (arith, h)))
+    ap (at an_early_variable) w ∙ ap (λ o. before us (if_before_last o)) (name_reads x l) ∙
+    ap (λ b. before us (cond b (Some x) None)) (le-leb (x + 1) (2 ^ 32 - 1) (omega (arith, h)))
 
 that_is : (x y : ℕ) (ts us : List Token) → y ≡ x → SpellsVariable x ts us → must (the_variable y) ts ≡ Ok (y, us)
 unfolding at
 that_is x y ts us e (l, (p, w)) =
     must_is (the_variable y) ts us y
-    (ap (at (the_variable y)) w ∙ ap (λ o. before us (if_same y o)) (name_reads x l) ∙ ap (λ (z : ℕ). before us (cond (nat_eq z y) (Some z) None)) (sym e) ∙ ap (λ b. before us (cond b (Some y) None)) (eq-eqb y y refl))
+    (ap (at (the_variable y)) w ∙ ap (λ o. before us (if_same y o)) (name_reads x l) ∙ ap (λ (z : ℕ). before us (cond (nat_eq z y) (Some z) None)) (sym e) ∙
+    ap (λ b. before us (cond b (Some y) None)) (eq-eqb y y refl))
 
 comma_is : (x : ℕ) (ts us : List Token) (p : Place) → x + 1 < 2 ^ 32 → First p (Sign (codes ",")) ts us → at (comma_after x) ts ≡ Some (p, us)
 unfolding at last_level
@@ -78,21 +80,24 @@ unfolding variables_of
 more_are zero x zero ts us l w = absurd (omega (arith, l, first_longer (Sign (codes ")")) ts us w.0 w.1))
 more_are zero x (suc n) ts us l (a, c, (b, v, r)) = absurd (omega (arith, l, first_longer (Sign (codes ",")) ts a c.0 c.1))
 more_are (suc k) x zero ts us l (p, w) =
-    let e : x ≡ x + 0 = omega arith in first_not _ _ _ ts (no_comma x ts us p w) (bind_is _ _ ts (next_is (Sign (codes ")")) ts us refl (p, w)) (pure_is x (x + 0) us e))
+    let e : x ≡ x + 0 = omega arith in first_not _ _ _ ts (no_comma x ts us p w)
+    (bind_is _ _ ts (next_is (Sign (codes ")")) ts us refl (p, w)) (pure_is x (x + 0) us e))
 more_are (suc k) x (suc n) ts us l (a, c, (b, v, r)) =
     let e : x + 1 + n ≡ x + suc n = omega arith in
     let f : x + 1 ≡ suc x = omega arith in
     let g : suc (suc x) ≡ suc (x + 1) = omega arith in
     first_is _ _ _ ts (comma_is x ts a c.0 (omega (arith, v.0)) c.1)
     (bind_is _ _ a (that_is (suc x) (x + 1) a b f v)
-    (more_are k (x + 1) n b us (omega (arith, l, first_longer (Sign (codes ",")) ts a c.0 c.1, first_longer (Word (level_name (suc x))) a b v.1.0 v.1.1)) (subst (λ z. SpellsMoreVariables z n b us) g r)
+    (more_are k (x + 1) n b us (omega (arith, l, first_longer (Sign (codes ",")) ts a c.0 c.1, first_longer (Word (level_name (suc x))) a b v.1.0 v.1.1))
+    (subst (λ z. SpellsMoreVariables z n b us) g r)
     ∙ ap (λ (z : ℕ). Ok (z, us)) e))
 
 vars_are : (x n : ℕ) (ts us : List Token) → SpellsVariables x n ts us → vars_of ts ≡ Ok ((x, n), us)
 unfolding vars_of all_variables
 vars_are x zero ts us w = absurd w
 vars_are x (suc zero) ts us v =
-    first_not _ _ _ ts (at_not (Sign (codes "(")) (Word (level_name x)) ts us v.1.0 refl v.1.1) (bind_is _ _ ts (must_is _ ts us x (variable_is x ts us v)) (pure_is _ _ us refl))
+    first_not _ _ _ ts (at_not (Sign (codes "(")) (Word (level_name x)) ts us v.1.0 refl v.1.1)
+    (bind_is _ _ ts (must_is _ ts us x (variable_is x ts us v)) (pure_is _ _ us refl))
 vars_are x (suc (suc n)) ts us (a, o, (b, v, (c, m, (d, w, r)))) =
     let e : x + 1 + n - x + 1 ≡ suc (suc n) = omega arith in
     let f : x + 1 ≡ suc x = omega arith in
@@ -110,14 +115,22 @@ numeral_is n ts us (i, (p, w)) =
     ap (at a_numeral) w ∙ ap (λ o. before us o) (both_true (nat_le 1 n) (nat_le n (2 ^ 32 - 1)) n (le-leb 1 n i.0) (le-leb n (2 ^ 32 - 1) (omega (arith, i.1))))
 
 numeral_items : Items (must a_numeral) SpellsNumeral (Sign (codes ",")) (Sign (codes "]"))
-numeral_items = record { reads = λ n ts us w e. must_is a_numeral ts us n (numeral_is n ts us w); within = must_within a_numeral; separates = refl; closes = refl; differs = refl }
+numeral_items = record {
+  reads = λ n ts us w e. must_is a_numeral ts us n (numeral_is n ts us w);
+  within = must_within a_numeral;
+  separates = refl;
+  closes =
+      refl;
+  differs = refl;
+}
 
 pub bounds_are : (ns : List ℕ) (ts us : List Token) → SpellsBounds ns ts us → bounds_of ts ≡ Ok (ns, us)
 unfolding bounds_of
 bounds_are [] ts us w = first_is _ _ _ ts (at_is (Sign (codes "]")) ts us w.0 refl w.1) (pure_is _ _ us refl)
 bounds_are (n ∷ ns) ts us (a, i, o) =
     first_not _ _ _ ts (at_not (Sign (codes "]")) (Literal (pos n)) ts a i.1.0 refl i.1.1)
-    (several_are snoc (must a_numeral) SpellsNumeral (Sign (codes ",")) (Sign (codes "]")) numeral_items (n ∷ ns) [] ts us (a, i, o) ∙ ap (λ (z : List ℕ). Ok (z, us)) (all_added (n ∷ ns)))
+    (several_are snoc (must a_numeral) SpellsNumeral (Sign (codes ",")) (Sign (codes "]")) numeral_items (n ∷ ns) [] ts us (a, i, o) ∙
+    ap (λ (z : List ℕ). Ok (z, us)) (all_added (n ∷ ns)))
 
 -- how codes begin
 
@@ -131,7 +144,8 @@ pub record Begins (ts : List Token) : Type 0 where
   pub no_let : same_kind kind (Word (codes "let")) ≡ false
   pub no_brace : same_kind kind (Sign (codes "}")) ≡ false
 
-begins_at : (k : TokenKind) (ts us : List Token) → same_kind k (Word (codes "if")) ≡ false → same_kind k (Word (codes "let")) ≡ false → same_kind k (Sign (codes "}")) ≡ false → Next k ts us → Begins ts
+begins_at : (k : TokenKind) (ts us : List Token) → same_kind k (Word (codes "if")) ≡ false → same_kind k (Word (codes "let")) ≡ false →
+    same_kind k (Sign (codes "}")) ≡ false → Next k ts us → Begins ts
 begins_at k ts us e f g (p, w) = record { kind = k; rest = us; place = p; stands = w; no_if = e; no_let = f; no_brace = g }
 
 truth_begins : (b : Bool) (ts us : List Token) → Next (truth_kind b) ts us → Begins ts
@@ -242,18 +256,24 @@ code_items : (n : ℕ) (part : Reader CodeTree) (separator close : TokenKind) �
 code_items n part separator close h e =
     record { reads = λ c ts us w z. h.reads c ts us w.0 w.1; within = h.within; separates = e.separates; closes = e.closes; differs = e.differs }
 
-as_others : (n : ℕ) (separator close : TokenKind) (cs : CodeTrees) (ts us : List Token) → codes_depth cs ≤ n → SpellsOthers cs separator close ts us → Others (IsItem n) separator close (listed cs) ts us
+as_others : (n : ℕ) (separator close : TokenKind) (cs : CodeTrees) (ts us : List Token) → codes_depth cs ≤ n → SpellsOthers cs separator close ts us →
+    Others (IsItem n) separator close (listed cs) ts us
 as_others n separator close no_codes ts us d w = w
-as_others n separator close (code_more c cs) ts us d (a, s, (b, w, o)) = (a, s, (b, (omega (arith, d), w), as_others n separator close cs b us (omega (arith, d)) o))
+as_others n separator close (code_more c cs) ts us d (a, s, (b, w, o)) =
+    (a, s, (b, (omega (arith, d), w), as_others n separator close cs b us (omega (arith, d)) o))
 
 -- code { separator code } close, behind codes that were read before
-codes_are : (n : ℕ) (part : Reader CodeTree) (separator close : TokenKind) → ReadsTo n part → Ends separator close → (done : List CodeTree) (c : CodeTree) (cs : CodeTrees) (ts mid us : List Token) →
-    code_depth c ≤ n → codes_depth cs ≤ n → SpellsCode c ts mid → SpellsOthers cs separator close mid us → several_of snoc part separator close done ts ≡ Ok (done ++ c ∷ listed cs, us)
+codes_are : (n : ℕ) (part : Reader CodeTree) (separator close : TokenKind) → ReadsTo n part → Ends separator close →
+    (done : List CodeTree) (c : CodeTree) (cs : CodeTrees) (ts mid us : List Token) →
+    code_depth c ≤ n → codes_depth cs ≤ n → SpellsCode c ts mid → SpellsOthers cs separator close mid us →
+    several_of snoc part separator close done ts ≡ Ok (done ++ c ∷ listed cs, us)
 codes_are n part separator close h e done c cs ts mid us d ds w o =
-    several_are snoc part (IsItem n) separator close (code_items n part separator close h e) (c ∷ listed cs) done ts us (mid, (d, w), as_others n separator close cs mid us ds o)
+    several_are snoc part (IsItem n) separator close (code_items n part separator close h e) (c ∷ listed cs) done ts us
+    (mid, (d, w), as_others n separator close cs mid us ds o)
     ∙ ap (λ (z : List CodeTree). Ok (z, us)) (added_snoc done (c ∷ listed cs))
 
-pub elements_are : (n : ℕ) (part : Reader CodeTree) → ReadsTo n part → (c : CodeTree) (cs : CodeTrees) (ts mid us : List Token) → code_depth c ≤ n → codes_depth cs ≤ n → SpellsCode c ts mid →
+pub elements_are : (n : ℕ) (part : Reader CodeTree) → ReadsTo n part → (c : CodeTree) (cs : CodeTrees) (ts mid us : List Token) → code_depth c ≤ n →
+    codes_depth cs ≤ n → SpellsCode c ts mid →
     SpellsOthers cs (Sign (codes ",")) (Sign (codes "}")) mid us → elements_of part ts ≡ Ok (c ∷ listed cs, us)
 unfolding elements_of list_of
 elements_are n part h c cs ts mid us d ds w o =
@@ -262,18 +282,22 @@ elements_are n part h c cs ts mid us d ds w o =
 
 -- forms that begin with a word
 
-one_is : (n : ℕ) (part : Reader CodeTree) → ReadsTo n part → (c : CodeTree) (ts a b us : List Token) → code_depth c ≤ n → Next (Sign (codes "(")) ts a → SpellsCode c a b → Next (Sign (codes ")")) b us → one_of part ts ≡ Ok (c, us)
+one_is : (n : ℕ) (part : Reader CodeTree) → ReadsTo n part → (c : CodeTree) (ts a b us : List Token) → code_depth c ≤ n → Next (Sign (codes "(")) ts a →
+    SpellsCode c a b → Next (Sign (codes ")")) b us → one_of part ts ≡ Ok (c, us)
 unfolding one_of
-one_is n part h c ts a b us d o w r = bind_is _ _ ts (next_is _ ts a refl o) (bind_is _ _ a (h.reads c a b d w) (bind_is _ _ b (next_is _ b us refl r) (pure_is _ _ us refl)))
+one_is n part h c ts a b us d o w r = bind_is _ _ ts (next_is _ ts a refl o)
+    (bind_is _ _ a (h.reads c a b d w) (bind_is _ _ b (next_is _ b us refl r) (pure_is _ _ us refl)))
 
-divided_is : (n : ℕ) (part : Reader CodeTree) → ReadsTo n part → (c : CodeTree) (k : ℤ) (ts a b e f us : List Token) → code_depth c ≤ n → Next (Sign (codes "(")) ts a → SpellsCode c a b → Next (Sign (codes ",")) b e →
+divided_is : (n : ℕ) (part : Reader CodeTree) → ReadsTo n part → (c : CodeTree) (k : ℤ) (ts a b e f us : List Token) → code_depth c ≤ n →
+    Next (Sign (codes "(")) ts a → SpellsCode c a b → Next (Sign (codes ",")) b e →
     SpellsDivisor k e f → Next (Sign (codes ")")) f us → divided_of part ts ≡ Ok ((c, k), us)
 unfolding divided_of
 divided_is n part h c k ts a b e f us d o w m v r =
     bind_is _ _ ts (next_is _ ts a refl o) (bind_is _ _ a (h.reads c a b d w) (bind_is _ _ b (next_is _ b e refl m)
     (bind_is _ _ e (must_is _ e f _ (literal_is (pos 1) e f v.0 k v.1)) (bind_is _ _ f (next_is _ f us refl r) (pure_is _ _ us refl)))))
 
-listed_is : (n : ℕ) (part : Reader CodeTree) → ReadsTo n part → (cs : CodeTrees) (ts a us : List Token) → codes_depth cs ≤ n → Next (Sign (codes "(")) ts a → SpellsCodes cs (Sign (codes ",")) (Sign (codes ")")) a us →
+listed_is : (n : ℕ) (part : Reader CodeTree) → ReadsTo n part → (cs : CodeTrees) (ts a us : List Token) → codes_depth cs ≤ n → Next (Sign (codes "(")) ts a →
+    SpellsCodes cs (Sign (codes ",")) (Sign (codes ")")) a us →
     listed_of part ts ≡ Ok (listed cs, us)
 unfolding listed_of list_of
 listed_is n part h no_codes ts a us d o w = absurd w
@@ -286,49 +310,66 @@ unless_is zero r ts l e = absurd (omega (arith, l))
 unless_is (suc n) r ts l e = e
 
 -- a word that is no name of a level, and no truth value
-pub word_step : (part less : Reader CodeTree) (n : ℕ) (w : List ℕ) (p : Place) (ts a : List Token) {y : Got CodeTree} → First p (Word w) ts a → a_truth (record { place = p; kind = Word w }) ≡ None → level_of w ≡ None →
+pub word_step : (part less : Reader CodeTree) (n : ℕ) (w : List ℕ) (p : Place) (ts a : List Token) {y : Got CodeTree} → First p (Word w) ts a →
+    a_truth (record { place = p; kind = Word w }) ≡ None → level_of w ≡ None →
     word_of part less n ts ≡ y → step part less n ts ≡ y
 unfolding step at
 word_step part less n w p ts a h t e x =
     first_not _ _ _ ts (no_literal p w ts a h) (first_not _ _ _ ts (at_not _ (Word w) ts a p refl h) (first_not _ _ _ ts (no_truth w p ts a t h)
-    (first_not _ _ _ ts (ap (at a_variable) h ∙ ap (λ o. before a o) e) (first_not _ _ _ ts (at_not _ (Word w) ts a p refl h) (deep_not _ _ _ _ ts (at_not _ (Word w) ts a p refl h) x)))))
+    (first_not _ _ _ ts (ap (at a_variable) h ∙ ap (λ o. before a o) e)
+    (first_not _ _ _ ts (at_not _ (Word w) ts a p refl h) (deep_not _ _ _ _ ts (at_not _ (Word w) ts a p refl h) x)))))
 
-pub form_step : (part less : Reader CodeTree) (n : ℕ) (w : List ℕ) (p : Place) (ts a : List Token) {y : Got CodeTree} → 1 ≤ n → First p (Word w) ts a → a_truth (record { place = p; kind = Word w }) ≡ None → level_of w ≡ None →
+pub form_step : (part less : Reader CodeTree) (n : ℕ) (w : List ℕ) (p : Place) (ts a : List Token) {y : Got CodeTree} → 1 ≤ n → First p (Word w) ts a →
+    a_truth (record { place = p; kind = Word w }) ≡ None → level_of w ≡ None →
     same_kind (Word w) (Word (codes "solve")) ≡ false → forms_of part ts ≡ y → step part less n ts ≡ y
 unfolding word_of
-form_step part less n w p ts a l h t e s x = word_step part less n w p ts a h t e (first_not _ _ _ ts (at_not _ (Word w) ts a p s h) (unless_is n (forms_of part) ts l x))
+form_step part less n w p ts a l h t e s x =
+    word_step part less n w p ts a h t e (first_not _ _ _ ts (at_not _ (Word w) ts a p s h) (unless_is n (forms_of part) ts l x))
 
-pub unary_is : (n : ℕ) (part : Reader CodeTree) → ReadsTo n part → (u : Unary) (c : CodeTree) (ts a b d us : List Token) → code_depth c ≤ n → at a_unary ts ≡ Some (u, a) → Next (Sign (codes "(")) a b → SpellsCode c b d → Next (Sign (codes ")")) d us →
+pub unary_is : (n : ℕ) (part : Reader CodeTree) → ReadsTo n part → (u : Unary) (c : CodeTree) (ts a b d us : List Token) → code_depth c ≤ n →
+    at a_unary ts ≡ Some (u, a) → Next (Sign (codes "(")) a b → SpellsCode c b d → Next (Sign (codes ")")) d us →
     forms_of part ts ≡ Ok (unary_tree u c, us)
 unfolding forms_of
 unary_is n part h u c ts a b d us l e o w r = first_is _ _ _ ts e (bind_is _ _ a (one_is n part h c a b d us l o w r) (pure_is _ _ us refl))
 
-pub division_is : (n : ℕ) (part : Reader CodeTree) → ReadsTo n part → (v : Division) (c : CodeTree) (k : ℤ) (ts a b d e f us : List Token) → code_depth c ≤ n → at a_unary ts ≡ None → at a_division ts ≡ Some (v, a) →
-    Next (Sign (codes "(")) a b → SpellsCode c b d → Next (Sign (codes ",")) d e → SpellsDivisor k e f → Next (Sign (codes ")")) f us → forms_of part ts ≡ Ok (division_tree v c k, us)
+pub division_is : (n : ℕ) (part : Reader CodeTree) → ReadsTo n part → (v : Division) (c : CodeTree) (k : ℤ) (ts a b d e f us : List Token) → code_depth c ≤ n →
+    at a_unary ts ≡ None → at a_division ts ≡ Some (v, a) →
+    Next (Sign (codes "(")) a b → SpellsCode c b d → Next (Sign (codes ",")) d e → SpellsDivisor k e f → Next (Sign (codes ")")) f us →
+    forms_of part ts ≡ Ok (division_tree v c k, us)
 unfolding forms_of
 division_is n part h v c k ts a b d e f us l u x o w m i r =
     first_not _ _ _ ts u (first_is _ _ _ ts x (bind_is _ _ a (divided_is n part h c k a b d e f us l o w m i r) (pure_is _ _ us refl)))
 
-pub extreme_is : (n : ℕ) (part : Reader CodeTree) → ReadsTo n part → (v : Extreme) (cs : CodeTrees) (ts a b us : List Token) → codes_depth cs ≤ n → at a_unary ts ≡ None → at a_division ts ≡ None → at an_extreme ts ≡ Some (v, a) →
+pub extreme_is : (n : ℕ) (part : Reader CodeTree) → ReadsTo n part → (v : Extreme) (cs : CodeTrees) (ts a b us : List Token) → codes_depth cs ≤ n →
+    at a_unary ts ≡ None → at a_division ts ≡ None → at an_extreme ts ≡ Some (v, a) →
     Next (Sign (codes "(")) a b → SpellsCodes cs (Sign (codes ",")) (Sign (codes ")")) b us → forms_of part ts ≡ Ok (extreme_tree v (listed cs), us)
 unfolding forms_of
 extreme_is n part h v cs ts a b us l u x y o w =
     first_not _ _ _ ts u (first_not _ _ _ ts x (first_is _ _ _ ts y (bind_is _ _ a (listed_is n part h cs a b us l o w) (pure_is _ _ us refl))))
 
-pub slice_is : (n : ℕ) (part : Reader CodeTree) → ReadsTo n part → (c d e : CodeTree) (ts a b f g i j k us : List Token) (p : Place) → code_depth c ≤ n → code_depth d ≤ n → code_depth e ≤ n → First p (Word (codes "slice")) ts a →
-    Next (Sign (codes "(")) a b → SpellsCode c b f → Next (Sign (codes ",")) f g → SpellsCode d g i → Next (Sign (codes ",")) i j → SpellsCode e j k → Next (Sign (codes ")")) k us → forms_of part ts ≡ Ok (code_slice c d e, us)
+pub slice_is : (n : ℕ) (part : Reader CodeTree) → ReadsTo n part → (c d e : CodeTree) (ts a b f g i j k us : List Token) (p : Place) → code_depth c ≤ n →
+    code_depth d ≤ n → code_depth e ≤ n → First p (Word (codes "slice")) ts a →
+    Next (Sign (codes "(")) a b → SpellsCode c b f → Next (Sign (codes ",")) f g → SpellsCode d g i → Next (Sign (codes ",")) i j → SpellsCode e j k →
+    Next (Sign (codes ")")) k us → forms_of part ts ≡ Ok (code_slice c d e, us)
 unfolding forms_of slice_of at
 slice_is n part h c d e ts a b f g i j k us p l m q s o w x v y u r =
-    first_not _ _ _ ts (ap (at a_unary) s) (first_not _ _ _ ts (ap (at a_division) s) (first_not _ _ _ ts (ap (at an_extreme) s) (first_is _ _ _ ts (at_is _ ts a p refl s)
-    (bind_is _ _ a (next_is _ a b refl o) (bind_is _ _ b (h.reads c b f l w) (bind_is _ _ f (next_is _ f g refl x) (bind_is _ _ g (h.reads d g i m v) (bind_is _ _ i (next_is _ i j refl y)
+    first_not _ _ _ ts (ap (at a_unary) s) (first_not _ _ _ ts (ap (at a_division) s)
+    (first_not _ _ _ ts (ap (at an_extreme) s) (first_is _ _ _ ts (at_is _ ts a p refl s)
+    (bind_is _ _ a (next_is _ a b refl o) (bind_is _ _ b (h.reads c b f l w)
+    (bind_is _ _ f (next_is _ f g refl x) (bind_is _ _ g (h.reads d g i m v) (bind_is _ _ i (next_is _ i j refl y)
     (bind_is _ _ j (h.reads e j k q u) (bind_is _ _ k (next_is _ k us refl r) (pure_is _ _ us refl)))))))))))
 
-pub fresh_is : (n : ℕ) (part : Reader CodeTree) → ReadsTo n part → (c d : CodeTree) (ts a b f g i us : List Token) (p : Place) → code_depth c ≤ n → code_depth d ≤ n → First p (Word (codes "fresh")) ts a →
-    Next (Sign (codes "(")) a b → SpellsCode c b f → Next (Sign (codes ",")) f g → SpellsCode d g i → Next (Sign (codes ")")) i us → forms_of part ts ≡ Ok (code_fresh c d, us)
+pub fresh_is : (n : ℕ) (part : Reader CodeTree) → ReadsTo n part → (c d : CodeTree) (ts a b f g i us : List Token) (p : Place) → code_depth c ≤ n →
+    code_depth d ≤ n → First p (Word (codes "fresh")) ts a →
+    Next (Sign (codes "(")) a b → SpellsCode c b f → Next (Sign (codes ",")) f g → SpellsCode d g i → Next (Sign (codes ")")) i us →
+    forms_of part ts ≡ Ok (code_fresh c d, us)
 unfolding forms_of fresh_of at
 fresh_is n part h c d ts a b f g i us p l m s o w x v r =
-    first_not _ _ _ ts (ap (at a_unary) s) (first_not _ _ _ ts (ap (at a_division) s) (first_not _ _ _ ts (ap (at an_extreme) s) (first_not _ _ _ ts (at_not _ (Word (codes "fresh")) ts a p refl s) (first_is _ _ _ ts (at_is _ ts a p refl s)
-    (bind_is _ _ a (next_is _ a b refl o) (bind_is _ _ b (h.reads c b f l w) (bind_is _ _ f (next_is _ f g refl x) (bind_is _ _ g (h.reads d g i m v) (bind_is _ _ i (next_is _ i us refl r) (pure_is _ _ us refl))))))))))
+    first_not _ _ _ ts (ap (at a_unary) s) (first_not _ _ _ ts (ap (at a_division) s)
+    (first_not _ _ _ ts (ap (at an_extreme) s)
+    (first_not _ _ _ ts (at_not _ (Word (codes "fresh")) ts a p refl s) (first_is _ _ _ ts (at_is _ ts a p refl s)
+    (bind_is _ _ a (next_is _ a b refl o) (bind_is _ _ b (h.reads c b f l w)
+    (bind_is _ _ f (next_is _ f g refl x) (bind_is _ _ g (h.reads d g i m v) (bind_is _ _ i (next_is _ i us refl r) (pure_is _ _ us refl))))))))))
 
 -- what stands in parentheses
 
@@ -344,9 +385,11 @@ not_worded : (head part : Reader CodeTree) (m n : ℕ) (c : CodeTree) (ts us : L
 unfolding inside_of
 not_worded head part m n c ts us w x =
     let b = begins c ts us w in
-    deep_not _ _ _ _ ts (at_not (Word (codes "if")) b.kind ts b.rest b.place b.no_if b.stands) (deep_not _ _ _ _ ts (at_not (Word (codes "let")) b.kind ts b.rest b.place b.no_let b.stands) x)
+    deep_not _ _ _ _ ts (at_not (Word (codes "if")) b.kind ts b.rest b.place b.no_if b.stands)
+    (deep_not _ _ _ _ ts (at_not (Word (codes "let")) b.kind ts b.rest b.place b.no_let b.stands) x)
 
-pub tuple_is : (head part : Reader CodeTree) (m n : ℕ) → Heads m n head part → (cs : CodeTrees) (ts us : List Token) → 2 ≤ count cs → codes_depth cs ≤ m → SpellsCodes cs (Sign (codes ",")) (Sign (codes ")")) ts us →
+pub tuple_is : (head part : Reader CodeTree) (m n : ℕ) → Heads m n head part → (cs : CodeTrees) (ts us : List Token) → 2 ≤ count cs → codes_depth cs ≤ m →
+    SpellsCodes cs (Sign (codes ",")) (Sign (codes ")")) ts us →
     inside_of head part m n ts ≡ Ok (several (listed cs), us)
 unfolding behind_of
 tuple_is head part m n h no_codes ts us l d w = absurd w
@@ -354,7 +397,8 @@ tuple_is head part m n h (code_more c no_codes) ts us l d w = absurd (omega (ari
 tuple_is head part m n h (code_more c (code_more e cs)) ts us l d (a, w, (b, s, (f, v, o))) =
     not_worded head part m n c ts a w (bind_is _ _ ts (h.heads.reads c ts a (omega (arith, d)) w)
     (first_is _ _ _ a (at_is (Sign (codes ",")) a b s.0 refl s.1)
-    (bind_is _ _ b (codes_are m head (Sign (codes ",")) (Sign (codes ")")) h.heads comma_paren (c ∷ []) e cs b f us (omega (arith, d)) (omega (arith, d)) v o) (pure_is _ _ us refl))))
+    (bind_is _ _ b (codes_are m head (Sign (codes ",")) (Sign (codes ")")) h.heads comma_paren (c ∷ []) e cs b f us (omega (arith, d)) (omega (arith, d)) v o)
+    (pure_is _ _ us refl))))
 
 op_no_comma : (op : BinOp) → same_kind (op_kind op) (Sign (codes ",")) ≡ false
 op_no_comma ops.Add = refl
@@ -379,10 +423,12 @@ or_true false b e = e
 
 operation_is : (may : Bool) (op : BinOp) (ts us : List Token) → may ≡ true → Next (op_kind op) ts us → at (an_operation may) ts ≡ Some (op, us)
 unfolding at
-operation_is may op ts us e (p, w) = ap (at (an_operation may)) w ∙ ap (λ b. before us (cond b (op_of (op_kind op)) None)) e ∙ ap (λ o. before us o) (op_again op)
+operation_is may op ts us e (p, w) = ap (at (an_operation may)) w ∙ ap (λ b. before us (cond b (op_of (op_kind op)) None)) e ∙
+    ap (λ o. before us o) (op_again op)
 
 -- an operation behind the first code
-operated : (head part : Reader CodeTree) (m n : ℕ) → Heads m n head part → (op : BinOp) (c d : CodeTree) (ts a b us : List Token) → code_depth c ≤ n → SpellsCode c ts a → Next (op_kind op) a b →
+operated : (head part : Reader CodeTree) (m n : ℕ) → Heads m n head part → (op : BinOp) (c d : CodeTree) (ts a b us : List Token) → code_depth c ≤ n →
+    SpellsCode c ts a → Next (op_kind op) a b →
     operated_of part c (operation_of op) b ≡ Ok (d, us) → inside_of head part m n ts ≡ Ok (single d, us)
 unfolding behind_of
 operated head part m n h op c d ts a b us l w o x =
@@ -391,14 +437,17 @@ operated head part m n h op c d ts a b us l w o x =
     (first_is _ _ _ a (operation_is _ op a b (or_true (nat_eq m n) (nat_le (code_depth c) n) (le-leb (code_depth c) n l)) o)
     (bind_is _ _ b x (pure_is _ _ us refl)))))
 
-two_is : (head part : Reader CodeTree) (m n : ℕ) → Heads m n head part → (op : BinOp) (two : Two) → operation_of op ≡ operations.Two two → (c d : CodeTree) (ts a b e us : List Token) → code_depth c ≤ n → code_depth d ≤ n →
-    SpellsCode c ts a → Next (op_kind op) a b → SpellsCode d b e → Next (Sign (codes ")")) e us → inside_of head part m n ts ≡ Ok (single (two_tree two c d), us)
+two_is : (head part : Reader CodeTree) (m n : ℕ) → Heads m n head part → (op : BinOp) (two : Two) → operation_of op ≡ operations.Two two →
+    (c d : CodeTree) (ts a b e us : List Token) → code_depth c ≤ n → code_depth d ≤ n →
+    SpellsCode c ts a → Next (op_kind op) a b → SpellsCode d b e → Next (Sign (codes ")")) e us →
+    inside_of head part m n ts ≡ Ok (single (two_tree two c d), us)
 unfolding operated_of
 two_is head part m n h op two f c d ts a b e us l k w o v r =
     operated head part m n h op c (two_tree two c d) ts a b us l w o
     (ap (λ z. operated_of part c z b) f ∙ bind_is _ _ b (h.parts.reads d b e k v) (bind_is _ _ e (next_is _ e us refl r) (pure_is _ _ us refl)))
 
-many_is : (head part : Reader CodeTree) (m n : ℕ) → Heads m n head part → (op : BinOp) (many : Many) → operation_of op ≡ operations.Many many → op_kind op ≡ many_kind many → (cs : CodeTrees) (ts us : List Token) → 2 ≤ count cs →
+many_is : (head part : Reader CodeTree) (m n : ℕ) → Heads m n head part → (op : BinOp) (many : Many) → operation_of op ≡ operations.Many many →
+    op_kind op ≡ many_kind many → (cs : CodeTrees) (ts us : List Token) → 2 ≤ count cs →
     codes_depth cs ≤ n → SpellsCodes cs (many_kind many) (Sign (codes ")")) ts us → inside_of head part m n ts ≡ Ok (single (many_tree many (listed cs)), us)
 unfolding operated_of
 many_is head part m n h op many f g no_codes ts us l d w = absurd w
@@ -406,7 +455,8 @@ many_is head part m n h op many f g (code_more c no_codes) ts us l d w = absurd 
 many_is head part m n h op many f g (code_more c (code_more e cs)) ts us l d (a, w, (b, s, (i, v, o))) =
     operated head part m n h op c (many_tree many (c ∷ e ∷ listed cs)) ts a b us (omega (arith, d)) w (subst (λ z. Next z a b) (sym g) s)
     (ap (λ z. operated_of part c z b) f
-    ∙ bind_is _ _ b (codes_are n part (many_kind many) (Sign (codes ")")) h.parts (many_paren many) (c ∷ []) e cs b i us (omega (arith, d)) (omega (arith, d)) v o) (pure_is _ _ us refl))
+    ∙ bind_is _ _ b (codes_are n part (many_kind many) (Sign (codes ")")) h.parts (many_paren many) (c ∷ []) e cs b i us (omega (arith, d)) (omega (arith, d)) v
+    o) (pure_is _ _ us refl))
 
 no_operation : (may : Bool) (ts us : List Token) (p : Place) → First p (Word (codes "divides")) ts us → at (an_operation may) ts ≡ None
 unfolding at op_of
@@ -423,7 +473,8 @@ at_least_none : (k : ℤ) → pos 1 ≤ℤ k → pos 0 ≤ℤ k
 at_least_none (pos n) h = le_z_yes (subst T (sym (le-leb 0 n (omega arith))) tt)
 at_least_none (negsuc n) h = absurd h.le
 
-multiple_is : (head part : Reader CodeTree) (m n : ℕ) → Heads m n head part → (k : ℤ) (d : CodeTree) (ts a b e us : List Token) → code_depth d ≤ n → SpellsDivisor k ts a → Next (Word (codes "divides")) a b → SpellsCode d b e →
+multiple_is : (head part : Reader CodeTree) (m n : ℕ) → Heads m n head part → (k : ℤ) (d : CodeTree) (ts a b e us : List Token) → code_depth d ≤ n →
+    SpellsDivisor k ts a → Next (Word (codes "divides")) a b → SpellsCode d b e →
     Next (Sign (codes ")")) e us → inside_of head part m n ts ≡ Ok (single (code_divides k d), us)
 unfolding behind_of
 multiple_is head part m n h k d ts a b e us l i o v r =
@@ -457,14 +508,30 @@ pub record Inside (head part : Reader CodeTree) (m n : ℕ) (c : CodeTree) (ts u
   pub opened : Next (Sign (codes "(")) ts behind
   pub reads : inside_of head part m n behind ≡ Ok (single c, us)
 
-pub bracketed : (head part : Reader CodeTree) (m n : ℕ) → Heads m n head part → (c : CodeTree) (ts us : List Token) → IsBracketed c → code_depth c ≤ suc n → SpellsCode c ts us → Inside head part m n c ts us
+pub bracketed : (head part : Reader CodeTree) (m n : ℕ) → Heads m n head part → (c : CodeTree) (ts us : List Token) → IsBracketed c → code_depth c ≤ suc n →
+    SpellsCode c ts us → Inside head part m n c ts us
 unfolding inside_of if_of let_of
 bracketed head part m n h (code_sum cs) ts us i d (l, (a, o, w)) =
-    record { behind = a; opened = o; reads = many_is head part m n h ops.Add manies.Sum refl refl cs a us l (omega (arith, d)) w ∙ ap (λ z. Ok (single (code_sum z), us)) (listed_again cs) }
+    record {
+      behind = a;
+      opened = o;
+      reads = many_is head part m n h ops.Add manies.Sum refl refl cs a us l (omega (arith, d)) w ∙
+          ap (λ z. Ok (single (code_sum z), us)) (listed_again cs);
+    }
 bracketed head part m n h (code_union cs) ts us i d (l, (a, o, w)) =
-    record { behind = a; opened = o; reads = many_is head part m n h ops.Union manies.Union refl refl cs a us l (omega (arith, d)) w ∙ ap (λ z. Ok (single (code_union z), us)) (listed_again cs) }
+    record {
+      behind = a;
+      opened = o;
+      reads = many_is head part m n h ops.Union manies.Union refl refl cs a us l (omega (arith, d)) w ∙
+          ap (λ z. Ok (single (code_union z), us)) (listed_again cs);
+    }
 bracketed head part m n h (code_inter cs) ts us i d (l, (a, o, w)) =
-    record { behind = a; opened = o; reads = many_is head part m n h ops.Inter manies.Inter refl refl cs a us l (omega (arith, d)) w ∙ ap (λ z. Ok (single (code_inter z), us)) (listed_again cs) }
+    record {
+      behind = a;
+      opened = o;
+      reads = many_is head part m n h ops.Inter manies.Inter refl refl cs a us l (omega (arith, d)) w ∙
+          ap (λ z. Ok (single (code_inter z), us)) (listed_again cs);
+    }
 bracketed head part m n h (code_sub c e) ts us i d (a, o, (b, w, (f, s, (g, v, r)))) =
     record { behind = a; opened = o; reads = two_is head part m n h ops.Sub twos.Sub refl c e a b f g us (omega (arith, d)) (omega (arith, d)) w s v r }
 bracketed head part m n h (code_mul c e) ts us i d (a, o, (b, w, (f, s, (g, v, r)))) =
@@ -478,7 +545,12 @@ bracketed head part m n h (code_and c e) ts us i d (a, o, (b, w, (f, s, (g, v, r
 bracketed head part m n h (code_or c e) ts us i d (a, o, (b, w, (f, s, (g, v, r)))) =
     record { behind = a; opened = o; reads = two_is head part m n h ops.Or twos.Or refl c e a b f g us (omega (arith, d)) (omega (arith, d)) w s v r }
 bracketed head part m n h (code_compare order c e) ts us i d (a, o, (b, w, (f, s, (g, v, r)))) =
-    record { behind = a; opened = o; reads = two_is head part m n h (ops.Compare order) (twos.Compare order) refl c e a b f g us (omega (arith, d)) (omega (arith, d)) w s v r }
+    record {
+      behind = a;
+      opened = o;
+      reads =
+          two_is head part m n h (ops.Compare order) (twos.Compare order) refl c e a b f g us (omega (arith, d)) (omega (arith, d)) w s v r;
+    }
 bracketed head part m n h (code_divides k e) ts us i d (a, o, (b, w, (f, s, (g, v, r)))) =
     record { behind = a; opened = o; reads = multiple_is head part m n h k e a b f g us (omega (arith, d)) w s v r }
 bracketed head part m n h (code_if t c e) ts us i d (a, o, (b, w, (f, x, (g, y, (j, z, (k, u, (l, v, s))))))) =
@@ -487,7 +559,8 @@ bracketed head part m n h (code_if t c e) ts us i d (a, o, (b, w, (f, x, (g, y, 
       opened = o;
       reads =
           deep_is _ _ _ _ a (omega (arith, d, depth_one c)) (at_is _ a b w.0 refl w.1)
-          (bind_is _ _ b (bind_is _ _ b (h.parts.reads t b f (omega (arith, d)) x) (bind_is _ _ f (next_is _ f g refl y) (bind_is _ _ g (h.parts.reads c g j (omega (arith, d)) z) (bind_is _ _ j (next_is _ j k refl u)
+          (bind_is _ _ b (bind_is _ _ b (h.parts.reads t b f (omega (arith, d)) x)
+          (bind_is _ _ f (next_is _ f g refl y) (bind_is _ _ g (h.parts.reads c g j (omega (arith, d)) z) (bind_is _ _ j (next_is _ j k refl u)
           (bind_is _ _ k (h.parts.reads e k l (omega (arith, d)) v) (bind_is _ _ l (next_is _ l us refl s) (pure_is _ _ us refl))))))) (pure_is _ _ us refl));
     }
 bracketed head part m n h (code_let q i c e) ts us ok d (a, o, (b, w, (f, x, (g, y, (j, z, (k, u, (l, v, s))))))) =
@@ -496,7 +569,8 @@ bracketed head part m n h (code_let q i c e) ts us ok d (a, o, (b, w, (f, x, (g,
       opened = o;
       reads =
           deep_not _ _ _ _ a (at_not _ (Word (codes "let")) a b w.0 refl w.1) (deep_is _ _ _ _ a (omega (arith, d, depth_one c)) (at_is _ a b w.0 refl w.1)
-          (bind_is _ _ b (bind_is _ _ b (vars_are q i b f x) (bind_is _ _ f (next_is _ f g refl y) (bind_is _ _ g (h.parts.reads c g j (omega (arith, d)) z) (bind_is _ _ j (next_is _ j k refl u)
+          (bind_is _ _ b (bind_is _ _ b (vars_are q i b f x)
+          (bind_is _ _ f (next_is _ f g refl y) (bind_is _ _ g (h.parts.reads c g j (omega (arith, d)) z) (bind_is _ _ j (next_is _ j k refl u)
           (bind_is _ _ k (h.parts.reads e k l (omega (arith, d)) v) (bind_is _ _ l (next_is _ l us refl s) (pure_is _ _ us refl))))))) (pure_is _ _ us refl)));
     }
 bracketed head part m n h (code_lit k) ts us i d w = absurd i

@@ -72,7 +72,8 @@ mutual
   code_keeps (code_mod c k) = behind (λ h. (h.1, h.0)) (skip (skip (both (code_keeps c) (skip (closed (next_literal_keeps (pos 1) k))))))
   code_keeps (code_min cs) = skip (skip (codes_keep cs _ _))
   code_keeps (code_max cs) = skip (skip (codes_keep cs _ _))
-  code_keeps (code_slice c d e) = behind (λ h. (h.0, h.1.0, h.1.1)) (skip (skip (both (code_keeps c) (skip (both (code_keeps d) (skip (closed (code_keeps e))))))))
+  code_keeps (code_slice c d e) = behind (λ h. (h.0, h.1.0, h.1.1))
+      (skip (skip (both (code_keeps c) (skip (both (code_keeps d) (skip (closed (code_keeps e))))))))
   code_keeps (code_fresh c d) = skip (skip (both (code_keeps c) (skip (closed (code_keeps d)))))
   code_keeps (code_if t c d) = behind (λ h. (h.0, h.1.0, h.1.1)) (skip (skip (both (code_keeps t) (skip (both (code_keeps c) (skip (closed (code_keeps d))))))))
   code_keeps (code_let first n c d) =
@@ -91,7 +92,8 @@ mutual
   arms_keep no_arms = one _
   arms_keep (arm_more (arm_of bounds is gs) arms) =
       behind (λ h. (h.0.0, h.0.1.0, h.0.1.1.0, h.0.1.1.1, h.1))
-      (both (skip (skip (both (any_keeps SpellsNumeral IsNumeral _ _ numeral_keeps bounds) (skip (both (items_keep is) (closed (gives_keep gs))))))) (arms_keep arms))
+      (both (skip (skip (both (any_keeps SpellsNumeral IsNumeral _ _ numeral_keeps bounds) (skip (both (items_keep is) (closed (gives_keep gs)))))))
+      (arms_keep arms))
 
   items_keep : (is : ItemTrees) → Keeps (SpellsItems is) (AreItemsSpelled is)
   items_keep no_items = one _
@@ -109,13 +111,14 @@ header_on : (ts us : List Token) → Small ts → SpellsHeader ts us → Unit {0
 header_on ts us s (inl e) = (tt, subst Small e s)
 header_on ts us s (inr w) = (skip (one _)).keeps ts us s w
 
-header_keeps : Keeps SpellsHeader (Unit {0})
+pub header_keeps : Keeps SpellsHeader (Unit {0})
 header_keeps = record { keeps = header_on }
 
-main_keeps : (t : RawTarget) → Keeps (SpellsMain (target_tree t)) ((1 ≤ length t.results.items) × IsSpelled (code_tree t.code))
+pub main_keeps : (t : RawTarget) → Keeps (SpellsMain (target_tree t)) ((1 ≤ length t.results.items) × IsSpelled (code_tree t.code))
 main_keeps t =
     behind (λ h. h.1)
-    (skip (skip (both (any_keeps SpellsBase (λ b. Unit {0}) _ _ base_keeps t.params.items) (skip (both (one_or_tuple_keeps SpellsBase base_keeps t.results.items) (skip (code_keeps (code_tree t.code))))))))
+    (skip (skip (both (any_keeps SpellsBase (λ b. Unit {0}) _ _ base_keeps t.params.items)
+    (skip (both (one_or_tuple_keeps SpellsBase base_keeps t.results.items) (skip (code_keeps (code_tree t.code))))))))
 
 pub spelled_law : (t : RawTarget) (ts : List Token) → AreWithin (2 ^ 127 - 1) ts → IsTarget (target_tree t) ts → HasSpelling t
 spelled_law t ts s w = let h = (both header_keeps (main_keeps t)).keeps ts [] s w.0 in (w.1, h.0.1.1, h.0.1.0)

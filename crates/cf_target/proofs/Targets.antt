@@ -29,12 +29,13 @@ some_bases : (ts us : List Token) (bs new : List Base) → bs ≡ new → Severa
 some_bases ts us bs [] e w = absurd w
 some_bases ts us bs (b ∷ new) e w = subst (λ z. SpellsBases z ts us) (sym e) w
 
-bases_yields : (ts : List Token) → Yields (λ bs us. SpellsBases bs ts us) (bases_of ts)
+pub bases_yields : (ts : List Token) → Yields (λ bs us. SpellsBases bs ts us) (bases_of ts)
 unfolding bases_of
 bases_yields ts =
     first_yields _ _ _ ts (λ p a c. pure_yields [] a (took_next _ ts a p c))
     (widen (λ bs us w. some_bases ts us bs w.0 (w.1 ∙ all_added w.0) w.2)
-    (several_yields snoc (must a_base) SpellsBase (Sign (codes ",")) (Sign (codes ")")) (λ ts. widen (λ b us w. took_base ts us b w) (must_yields a_base ts)) [] ts))
+    (several_yields snoc (must a_base) SpellsBase (Sign (codes ",")) (Sign (codes ")")) (λ ts. widen (λ b us w. took_base ts us b w) (must_yields a_base ts)) []
+    ts))
 
 just_two : (n : ℤ) → pos 2 ≤ℤ n → n ≤ℤ pos 2 → n ≡ pos 2
 just_two (pos m) l h =
@@ -53,7 +54,7 @@ two_on q (Literal n) p e = between (int_le (pos 2) n) (int_le n (pos 2)) (λ f g
 two_on q (Word x) p e = cc
 two_on q (Sign x) p e = cc
 
-took_two : (ts us : List Token) (p : Place) → Took a_two ts p us → Next (Literal (pos 2)) ts us
+pub took_two : (ts us : List Token) (p : Place) → Took a_two ts p us → Next (Literal (pos 2)) ts us
 took_two ts us p (t, e, f) = (t.place, same_token t t.place (Literal (pos 2)) ts us e refl (two_on t.place t.kind p f))
 
 end_yields : {P : TargetTree → List Token → Type 0} (x : TargetTree) (ts : List Token) → (ts ≡ [] → P x []) → Yields P (at_end x refuse ts)
@@ -64,14 +65,27 @@ end_yields x (t ∷ ts) h = refuse_yields (t ∷ ts)
 body_yields : (limit : ℕ) (start ts : List Token) → SpellsHeader start ts → Yields (λ t us. SpellsTarget limit t start) (body_of limit ts)
 unfolding body_of Finds
 body_yields limit start ts w =
-    bind_yields _ _ ts (must_yields _ ts) (λ p b m. bind_yields _ _ b (must_yields _ b) (λ q c o. bind_yields _ _ c (bases_yields c) (λ params d l. bind_yields _ _ d (must_yields _ d) (λ r e n.
+    bind_yields _ _ ts (must_yields _ ts) (λ p b m. bind_yields _ _ b (must_yields _ b)
+    (λ q c o. bind_yields _ _ c (bases_yields c) (λ params d l. bind_yields _ _ d (must_yields _ d) (λ r e n.
     bind_yields _ _ e (results_yields e) (λ results f k. bind_yields _ _ f (must_yields _ f) (λ s g i. bind_yields _ _ g (read_found limit g) (λ code us found.
-    end_yields _ us (λ h. ((ts, w, (b, took_next _ ts b p m, (c, took_next _ b c q o, (d, l, (e, took_next _ d e r n, (f, k, (g, took_next _ f g s i, subst (λ z. SpellsCode code g z) h found.spelled))))))), found.deep)))))))))
+    end_yields _ us (λ h. (
+      (
+        ts,
+        w,
+        (
+          b,
+          took_next _ ts b p m,
+          (c, took_next _ b c q o, (d, l, (e, took_next _ d e r n, (f, k, (g, took_next _ f g s i, subst (λ z. SpellsCode code g z) h found.spelled))))),
+        ),
+      ),
+      found.deep,
+    )))))))))
 
 target_yields : (limit : ℕ) (ts : List Token) → Yields (λ t us. SpellsTarget limit t ts) (target_of limit ts)
 unfolding target_of
 target_yields limit ts =
-    first_yields _ _ _ ts (λ p a c. bind_yields _ _ a (must_yields _ a) (λ q us t. body_yields limit ts us (inr (a, took_next _ ts a p c, took_two a us q t)))) (body_yields limit ts ts (inl refl))
+    first_yields _ _ _ ts (λ p a c. bind_yields _ _ a (must_yields _ a) (λ q us t. body_yields limit ts us (inr (a, took_next _ ts a p c, took_two a us q t))))
+    (body_yields limit ts ts (inl refl))
 
 pub found_law : (ts : List Token) (t : TargetTree) (us : List Token) → target_of 500 ts ≡ Ok (t, us) → IsTarget t ts
 found_law ts t us e = found_on (λ t. IsTarget t ts) (target_of 500 ts) t us (target_yields 500 ts) e

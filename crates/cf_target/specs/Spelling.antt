@@ -119,7 +119,8 @@ abbrev mutual
   -- arm = "arm" "[" [ literal { "," literal } ] "]" "{" { item } "give" code "}"
   pub SpellsArm : ArmTree → Form
   SpellsArm (arm_of bounds is gs) =
-      Next (Word (codes "arm")) ⨟ Next (Sign (codes "[")) ⨟ SpellsBounds bounds ⨟ Next (Sign (codes "{")) ⨟ SpellsItems is ⨟ SpellsGives gs ⨟ Next (Sign (codes "}"))
+      Next (Word (codes "arm")) ⨟ Next (Sign (codes "[")) ⨟ SpellsBounds bounds ⨟ Next (Sign (codes "{")) ⨟ SpellsItems is ⨟ SpellsGives gs ⨟ Next
+      (Sign (codes "}"))
 
   -- { item } "give"
   pub SpellsItems : ItemTrees → Form
@@ -148,7 +149,8 @@ SpellsHeader ts rest = (ts ≡ rest) ⊎ (Next (Word (codes "comfusy")) ⨟ Next
 -- "main" "(" [ base { "," base } ] ")" ":" results "=" code
 abbrev pub SpellsMain : TargetTree → Form
 SpellsMain t =
-    Next (Word (codes "main")) ⨟ Next (Sign (codes "(")) ⨟ SpellsBases t.params ⨟ Next (Sign (codes ":")) ⨟ OneOrTuple SpellsBase t.results ⨟ Next (Sign (codes "="))
+    Next (Word (codes "main")) ⨟ Next (Sign (codes "(")) ⨟ SpellsBases t.params ⨟ Next (Sign (codes ":")) ⨟ OneOrTuple SpellsBase t.results ⨟ Next
+    (Sign (codes "="))
     ⨟ SpellsCode t.code
 
 -- target = [ "comfusy" "2" ] "main" "(" [ base { "," base } ] ")" ":" results "=" code, up to the end, with a code of at most this depth

@@ -24,7 +24,10 @@ use cf_reader::words::truth;
 use cf_tree::code::{Arm, Code, Item};
 use std::alloc::Global;
 
-/// A code of depth at most `n`.
+/// The code of depth at most `n` with which the tokens begin, and the tokens after it.
+///
+/// # Errors
+/// `TokensLeft` where they begin with none, and `NoMemory`.
 #[cycle(code)]
 #[tactic(auto, using(crate::proofs::Above::read_above, crate::proofs::Above::read_none))]
 pub fn code(alloc: Global, n: u32, tokens: &[Token]) -> Result<(Code, &[Token]), Stop>
@@ -222,7 +225,8 @@ fn more<'a>(
     first: Vec<Code>,
     tokens: &'a [Token],
 ) -> Result<(Vec<Code>, &'a [Token]), Stop>
-    ensures { ReadAnswer (λ x. (map code_tree x.0.items, x.1.now)) result (others_of snoc (read n) (Sign (codes ",")) (Sign close.now) (map code_tree first.items) tokens.now) }
+    ensures { ReadAnswer (λ x. (map code_tree x.0.items, x.1.now)) result
+        (others_of snoc (read n) (Sign (codes ",")) (Sign close.now) (map code_tree first.items) tokens.now) }
 {
     let mut done = first;
     let mut rest = tokens;
@@ -253,7 +257,8 @@ fn more_parts(
     first: Vec<Code>,
     tokens: &[Token],
 ) -> Result<(Vec<Code>, &[Token]), Stop>
-    ensures { ReadAnswer (λ x. (map code_tree x.0.items, x.1.now)) result (others_of snoc (read n) (many_kind form) (Sign (codes ")")) (map code_tree first.items) tokens.now) }
+    ensures { ReadAnswer (λ x. (map code_tree x.0.items, x.1.now)) result
+        (others_of snoc (read n) (many_kind form) (Sign (codes ")")) (map code_tree first.items) tokens.now) }
 {
     let mut done = first;
     let mut rest = tokens;
@@ -421,7 +426,8 @@ fn arms(alloc: Global, n: u32, tokens: &[Token]) -> Result<(Vec<Arm>, &[Token]),
 #[tactic(auto, using(cf_reader::proofs::Steps::more_ends, cf_reader::proofs::Steps::more_goes, cf_reader::proofs::Steps::more_errs, cf_reader::proofs::Steps::more_closes, cf_reader::proofs::Steps::more_unclosed), unfolding(cf_reader::specs::Readers::others_of))]
 fn more_arms(alloc: Global, n: u32, tokens: &[Token]) -> Result<(Vec<Arm>, &[Token]), Stop>
     requires { 1 ≤ n }
-    ensures { ReadAnswer (λ x. (map arm_tree x.0.items, x.1.now)) result (others_of snoc (arm_from (read n) (read (n - 1)) n) (Word (codes "arm")) (Sign (codes "}")) [] tokens.now) }
+    ensures { ReadAnswer (λ x. (map arm_tree x.0.items, x.1.now)) result
+        (others_of snoc (arm_from (read n) (read (n - 1)) n) (Word (codes "arm")) (Sign (codes "}")) [] tokens.now) }
 {
     let mut done = Vec::new(alloc);
     let mut rest = tokens;

@@ -1,7 +1,7 @@
-//! Reads the target that a list of tokens spells.
+//! Reads the target that a list of tokens spells, and parts of a target that stand in other texts.
 #![tactic(auto)]
 
-mod code;
+pub mod code;
 mod form;
 mod inside;
 mod level;
@@ -10,4 +10,4 @@ mod number;
 mod part;
 mod source;
 
-pub use source::target;
+pub use source::{DEPTH_LIMIT, bases, expect_two, target};

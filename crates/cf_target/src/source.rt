@@ -21,12 +21,15 @@ use cf_tree::base::{Base, Place};
 use cf_tree::target::RawTarget;
 use std::alloc::Global;
 
-// The greatest depth of a target's code.
-const DEPTH_LIMIT: u32 = 500;
+/// The greatest depth of a target's code.
+pub const DEPTH_LIMIT: u32 = 500;
 
-// Bases, if any, up to the closing parenthesis.
+/// The bases up to the closing parenthesis, in order, and the tokens after it.
+///
+/// # Errors
+/// `TokensLeft` where the tokens begin with no such bases, and `NoMemory`.
 #[tactic(auto, unfolding(cf_reader::specs::Readers::first, cf_reader::specs::Readers::bind, cf_reader::specs::Readers::pure, cf_reader::specs::Readers::several_of, crate::specs::Targets::bases_of))]
-fn bases(alloc: Global, tokens: &[Token]) -> Result<(Vec<Base>, &[Token]), Stop>
+pub fn bases(alloc: Global, tokens: &[Token]) -> Result<(Vec<Base>, &[Token]), Stop>
     ensures { ReadAnswer (λ x. (x.0.items, x.1.now)) result (bases_of tokens.now) }
 {
     let mut all = Vec::new(alloc);
@@ -40,9 +43,12 @@ fn bases(alloc: Global, tokens: &[Token]) -> Result<(Vec<Base>, &[Token]), Stop>
     }
 }
 
-// The literal 2, which has to stand first, with its place, and the tokens after it.
+/// The place of the literal 2, which has to stand first, and the tokens after it.
+///
+/// # Errors
+/// `TokensLeft` where it does not.
 #[tactic(auto, unfolding(cf_reader::specs::Readers::must, cf_reader::specs::Readers::at))]
-fn expect_two(tokens: &[Token]) -> Result<(Place, &[Token]), Stop>
+pub fn expect_two(tokens: &[Token]) -> Result<(Place, &[Token]), Stop>
     ensures { ReadAnswer (λ x. (x.0, x.1.now)) result (must a_two tokens.now) }
 {
     let Some((t, rest)) = tokens.split_first() else {

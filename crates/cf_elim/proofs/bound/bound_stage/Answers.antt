@@ -10,7 +10,8 @@ returns-then-tuples-gt-MOST_TUPLES c =
     let s = past_clean (system_of c.args.system) c.args.tuples in
     let few : length c.args.system.inequalities.items < 2 ^ 32 = omega arith in
     let le : c.args.tuples ≤ 2 ^ 64 - 1 = omega (arith, c.ranges.tuples) in
-    let p = picks s (pick_of c.select-pick.result) c.saturating_mul-tuples.result c.requires.some (c.select-pick.ensures few) le c.saturating_mul-tuples.ensures in
+    let p = picks s (pick_of c.select-pick.result) c.saturating_mul-tuples.result c.requires.some (c.select-pick.ensures few) le c.saturating_mul-tuples.ensures
+    in
     bound_out s (pick_of c.select-pick.result) c.saturating_mul-tuples.result p (omega (arith, c.if-tuples-gt-MOST_TUPLES.true))
 
 pub searched_by-requires-clause-unknown : goal.searched_by-requires-clause-unknown
@@ -28,5 +29,7 @@ returns-in-Ok c =
     let s = past_clean (system_of c.args.system) c.args.tuples in
     let few : length c.args.system.inequalities.items < 2 ^ 32 = omega arith in
     let le : c.args.tuples ≤ 2 ^ 64 - 1 = omega (arith, c.ranges.tuples) in
-    let p = picks s (pick_of c.select-pick.result) c.saturating_mul-tuples.result c.requires.some (c.select-pick.ensures few) le c.saturating_mul-tuples.ensures in
-    bound_staged s (pick_of c.select-pick.result) c.saturating_mul-tuples.result c.in-Ok.searched c.searched_stage.result p (omega (arith, c.if-tuples-gt-MOST_TUPLES.false)) c.in-Ok.ensures c.searched_stage.ensures
+    let p = picks s (pick_of c.select-pick.result) c.saturating_mul-tuples.result c.requires.some (c.select-pick.ensures few) le c.saturating_mul-tuples.ensures
+    in
+    bound_staged s (pick_of c.select-pick.result) c.saturating_mul-tuples.result c.in-Ok.searched c.searched_stage.result p
+    (omega (arith, c.if-tuples-gt-MOST_TUPLES.false)) c.in-Ok.ensures c.searched_stage.ensures

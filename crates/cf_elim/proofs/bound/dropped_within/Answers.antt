@@ -10,8 +10,10 @@ pub returns-in-Ok-drop_output : goal.returns-in-Ok-drop_output
 returns-in-Ok-drop_output c =
     let o = c.in-Ok-drop_output in
     let e = o.ensures in
-    drop_on (system_of c.args.system) c.args.x c.in-Some.counts.rows c.in-Some.counts.columns o.dropped c.in-Some.ensures c.in-Ok.ensures e.fits e.next e.owes e.formed
+    drop_on (system_of c.args.system) c.args.x c.in-Some.counts.rows c.in-Some.counts.columns o.dropped c.in-Some.ensures c.in-Ok.ensures e.fits e.next e.owes
+    e.formed
 
 pub returns-in-Err-Past : goal.returns-in-Err-Past
 returns-in-Err-Past c =
-    drop_past (system_of c.args.system) c.args.x c.in-Some.counts.rows c.in-Some.counts.columns c.in-Some.ensures c.in-Ok.ensures (c.in-Err-Past.ensures.past (rw c.in-Err-Past.field-0-is refl))
+    drop_past (system_of c.args.system) c.args.x c.in-Some.counts.rows c.in-Some.counts.columns c.in-Some.ensures c.in-Ok.ensures
+    (c.in-Err-Past.ensures.past (rw c.in-Err-Past.field-0-is refl))

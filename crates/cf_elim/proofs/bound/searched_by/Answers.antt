@@ -8,7 +8,8 @@ pub returns-then-pick-le1 : goal.returns-then-pick-le1
 returns-then-pick-le1 c =
     let r = c.requires in
     let l : c.args.pick.now.product ≤ 1 = omega (arith, c.if-pick-le1.true) in
-    plain_searched (system_of c.args.system) (pick_of c.args.pick.now) (record { system = c.args.system; bounds = c.new.result }) r.ready r.none r.unknown l (r.exact l) refl c.new.ensures.items
+    plain_searched (system_of c.args.system) (pick_of c.args.pick.now) (record { system = c.args.system; bounds = c.new.result }) r.ready r.none r.unknown l
+    (r.exact l) refl c.new.ensures.items
 
 pub returns : goal.returns
 returns c =

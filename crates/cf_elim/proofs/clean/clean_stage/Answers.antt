@@ -9,4 +9,5 @@ returns-in-Err c = clean_out (before_clean (system_of c.args.system) c.args.tupl
 pub returns-in-Ok-clean : goal.returns-in-Ok-clean
 returns-in-Ok-clean c =
     let o = c.in-Ok-clean in
-    clean_staged (before_clean (system_of c.args.system) c.args.tuples) o.cleaned c.cleaned_stage.result c.requires c.in-Ok.ensures o.ensures.next o.ensures.owes o.ensures.formed c.cleaned_stage.ensures
+    clean_staged (before_clean (system_of c.args.system) c.args.tuples) o.cleaned c.cleaned_stage.result c.requires c.in-Ok.ensures o.ensures.next
+    o.ensures.owes o.ensures.formed c.cleaned_stage.ensures

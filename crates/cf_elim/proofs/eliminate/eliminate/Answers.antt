@@ -4,7 +4,8 @@ use Rattle.cf_elim.proofs.CaseLaws.{begins, steps_on, ends_case, ends_refused}
 use Rattle.cf_elim.proofs.eliminate.eliminate.Goals as goal
 
 pub loop-taken-init : goal.loop-taken-init
-loop-taken-init c = begins c.args.system c.none-whole.result (record { formed = c.requires.formed; differ = c.requires.differ }) c.none-whole.ensures.bounds c.none-whole.ensures.steps c.none-whole.ensures.later
+loop-taken-init c = begins c.args.system c.none-whole.result (record { formed = c.requires.formed; differ = c.requires.differ }) c.none-whole.ensures.bounds
+    c.none-whole.ensures.steps c.none-whole.ensures.later
 
 pub new-requires : goal.new-requires
 new-requires c =
@@ -12,7 +13,8 @@ new-requires c =
     let lt : l.taken < 2 ^ 64 = omega (arith, c.loop-taken-test.true) in
     let e = rw c.in-Ok-Ends.field-0-is at c.in-Ok-Ends.ensures in
     let p = c.parts_of.ensures in
-    ends_case (system_of c.args.system) l.current l.whole l.taken c.parts_of.result l.invariant lt e (ap system_of p.first ∙ c.in-Ok.ensures) p.bounds p.steps p.back
+    ends_case (system_of c.args.system) l.current l.whole l.taken c.parts_of.result l.invariant lt e (ap system_of p.first ∙ c.in-Ok.ensures) p.bounds p.steps
+    p.back
 
 pub returns-in-Err-next_stage-clause-end : goal.returns-in-Err-next_stage-clause-end
 returns-in-Err-next_stage-clause-end c =

@@ -15,4 +15,5 @@ reduced_stage-requires-clause-after c = end_after (system_of c.args.system) c.ar
 
 pub returns-in-Err : goal.returns-in-Err
 returns-in-Err c =
-    end_out (past_clean (system_of c.args.system) c.args.tuples) c.args.u c.in-Some.counts.rows c.in-Some.counts.columns c.in-Err.fault c.requires.one c.in-Some.ensures c.in-Err.ensures
+    end_out (past_clean (system_of c.args.system) c.args.tuples) c.args.u c.in-Some.counts.rows c.in-Some.counts.columns c.in-Err.fault c.requires.one
+    c.in-Some.ensures c.in-Err.ensures

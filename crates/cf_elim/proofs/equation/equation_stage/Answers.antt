@@ -10,7 +10,8 @@ pub returns-in-Nothing : goal.returns-in-Nothing
 returns-in-Nothing c =
     let s = past_clean (system_of c.args.system) c.args.tuples in
     let m = c.none.ensures in
-    nothing_goes s _ _ c.requires.ready c.requires.some (none_from (first_present (system_of c.args.system)) c.in-Nothing.ensures) (rw (m.bounds, m.steps, m.back) refl) refl refl
+    nothing_goes s _ _ c.requires.ready c.requires.some (none_from (first_present (system_of c.args.system)) c.in-Nothing.ensures)
+    (rw (m.bounds, m.steps, m.back) refl) refl refl
 
 pub end_stage-requires-clause-one : goal.end_stage-requires-clause-one
 end_stage-requires-clause-one c = one_from (first_present (system_of c.args.system)) c.in-One.u c.in-One.ensures

@@ -5,4 +5,5 @@ use Rattle.cf_equation.proofs.end.end.Goals as goal
 
 pub returns-in-Ok-clause-value : goal.returns-in-Ok-clause-value
 returns-in-Ok-clause-value c =
-    rw c.in_ok-one_row-in-Ok.ensures (sym (last_is (system_of c.args.system) c.args.u c.in_ok-solved.solved c.in-Ok.left c.in_ok-solved.ensures c.in-Ok.ensures.value))
+    rw c.in_ok-one_row-in-Ok.ensures (sym (last_is (system_of c.args.system) c.args.u c.in_ok-solved.solved c.in-Ok.left c.in_ok-solved.ensures
+    c.in-Ok.ensures.value))

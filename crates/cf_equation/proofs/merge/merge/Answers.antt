@@ -8,15 +8,31 @@ use Rattle.cf_equation.proofs.merge.merge.Goals as goal
 
 pub returns-clause-value : goal.returns-clause-value
 returns-clause-value c =
-    let e = rw (back c.first_entry-a.result c.first_entry-a.ensures.fits, back c.first_entry-b.result c.first_entry-b.ensures.fits, c.first_entry-a.ensures.value, c.first_entry-b.ensures.value) at c.factors.ensures.value in
-    subst (λ z. IfOk c.merge_by.result (λ r. reduced r ≡ z)) (merge_is (system_of c.args.system) c.args.x c.args.y c.factors.result e) c.merge_by.ensures.value
+    let e = rw (
+      back c.first_entry-a.result c.first_entry-a.ensures.fits,
+      back c.first_entry-b.result c.first_entry-b.ensures.fits,
+      c.first_entry-a.ensures.value,
+      c.first_entry-b.ensures.value,
+    ) at c.factors.ensures.value in
+    subst (λ z. IfOk c.mix.result (λ r. reduced r ≡ z)) (merge_is (system_of c.args.system) c.args.x c.args.y c.factors.result e) c.mix.ensures.value
 
 pub returns-clause-fits : goal.returns-clause-fits
 returns-clause-fits c =
-    let e = rw (back c.first_entry-a.result c.first_entry-a.ensures.fits, back c.first_entry-b.result c.first_entry-b.ensures.fits, c.first_entry-a.ensures.value, c.first_entry-b.ensures.value) at c.factors.ensures.value in
-    subst (λ z. IfOk c.merge_by.result (λ r. z ≡ false)) (merge_passes_is (system_of c.args.system) c.args.x c.args.y c.factors.result e) c.merge_by.ensures.fits
+    let e = rw (
+      back c.first_entry-a.result c.first_entry-a.ensures.fits,
+      back c.first_entry-b.result c.first_entry-b.ensures.fits,
+      c.first_entry-a.ensures.value,
+      c.first_entry-b.ensures.value,
+    ) at c.factors.ensures.value in
+    subst (λ z. IfOk c.mix.result (λ r. z ≡ false)) (merge_passes_is (system_of c.args.system) c.args.x c.args.y c.factors.result e)
+    c.mix.ensures.fits
 
 pub returns-clause-past : goal.returns-clause-past
 returns-clause-past c q =
-    let e = rw (back c.first_entry-a.result c.first_entry-a.ensures.fits, back c.first_entry-b.result c.first_entry-b.ensures.fits, c.first_entry-a.ensures.value, c.first_entry-b.ensures.value) at c.factors.ensures.value in
-    sym (merge_passes_is (system_of c.args.system) c.args.x c.args.y c.factors.result e) ∙ c.merge_by.ensures.past q
+    let e = rw (
+      back c.first_entry-a.result c.first_entry-a.ensures.fits,
+      back c.first_entry-b.result c.first_entry-b.ensures.fits,
+      c.first_entry-a.ensures.value,
+      c.first_entry-b.ensures.value,
+    ) at c.factors.ensures.value in
+    sym (merge_passes_is (system_of c.args.system) c.args.x c.args.y c.factors.result e) ∙ c.mix.ensures.past q

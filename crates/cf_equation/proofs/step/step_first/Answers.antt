@@ -66,18 +66,21 @@ returns-in-Several-clause-reaches c =
     let m = system_of c.args.system in
     let s = several_from (first_present m) c.in-Several.x c.in-Several.y c.in-Several.ensures in
     if_ok (λ r. reduced r ≡ merge m (first_of m) c.in-Several.x c.in-Several.y) (λ r. Reaches m (reduced r)) c.merge.result
-    (λ r e. (several_owes m c.in-Several.x c.in-Several.y s.0 (reduced r) c.requires.formed c.requires.differ c.requires.some s.1 e).reaches) c.merge.ensures.value
+    (λ r e. (several_owes m c.in-Several.x c.in-Several.y s.0 (reduced r) c.requires.formed c.requires.differ c.requires.some s.1 e).reaches)
+    c.merge.ensures.value
 
 pub returns-in-Several-clause-formed : goal.returns-in-Several-clause-formed
 returns-in-Several-clause-formed c =
     let m = system_of c.args.system in
     let s = several_from (first_present m) c.in-Several.x c.in-Several.y c.in-Several.ensures in
     if_ok (λ r. reduced r ≡ merge m (first_of m) c.in-Several.x c.in-Several.y) (λ r. Formed (system_of r.system)) c.merge.result
-    (λ r e. (several_owes m c.in-Several.x c.in-Several.y s.0 (reduced r) c.requires.formed c.requires.differ c.requires.some s.1 e).formed) c.merge.ensures.value
+    (λ r e. (several_owes m c.in-Several.x c.in-Several.y s.0 (reduced r) c.requires.formed c.requires.differ c.requires.some s.1 e).formed)
+    c.merge.ensures.value
 
 pub returns-in-Several-clause-differ : goal.returns-in-Several-clause-differ
 returns-in-Several-clause-differ c =
     let m = system_of c.args.system in
     let s = several_from (first_present m) c.in-Several.x c.in-Several.y c.in-Several.ensures in
     if_ok (λ r. reduced r ≡ merge m (first_of m) c.in-Several.x c.in-Several.y) (λ r. Differ r.system.unknown.items) c.merge.result
-    (λ r e. (several_owes m c.in-Several.x c.in-Several.y s.0 (reduced r) c.requires.formed c.requires.differ c.requires.some s.1 e).differ) c.merge.ensures.value
+    (λ r e. (several_owes m c.in-Several.x c.in-Several.y s.0 (reduced r) c.requires.formed c.requires.differ c.requires.some s.1 e).differ)
+    c.merge.ensures.value

@@ -15,7 +15,8 @@ more-returns-in_err-x-in-Some t c =
 
 pub more-loop-preserved : goal.more-loop-preserved
 more-loop-preserved t c =
-    more_next snoc (read c.args.n) _ _ _ _ _ _ _ _ _ _ _ _ c.in-Some.ensures c.in_ok-x-in-Some.ensures (omega arith) (ok_same _ _ _ refl c.in_ok-done-in-Some.ensures) c.loop.invariant
+    more_next snoc (read c.args.n) _ _ _ _ _ _ _ _ _ _ _ _ c.in-Some.ensures c.in_ok-x-in-Some.ensures (omega arith)
+    (ok_same _ _ _ refl c.in_ok-done-in-Some.ensures) c.loop.invariant
 
 pub more_parts-returns-in_err-x-in-Some : goal.more_parts-returns-in_err-x-in-Some
 unfolding others_of
@@ -25,17 +26,20 @@ more_parts-returns-in_err-x-in-Some t c =
 
 pub more_parts-loop-preserved : goal.more_parts-loop-preserved
 more_parts-loop-preserved t c =
-    more_next snoc (read c.args.n) _ _ _ _ _ _ _ _ _ _ _ _ c.in-Some.ensures c.in_ok-x-in-Some.ensures (omega arith) (ok_same _ _ _ refl c.in_ok-done-in-Some.ensures) c.loop.invariant
+    more_next snoc (read c.args.n) _ _ _ _ _ _ _ _ _ _ _ _ c.in-Some.ensures c.in_ok-x-in-Some.ensures (omega arith)
+    (ok_same _ _ _ refl c.in_ok-done-in-Some.ensures) c.loop.invariant
 
 pub more_arms-returns-in_err-x-in-Some : goal.more_arms-returns-in_err-x-in-Some
 unfolding others_of
 more_arms-returns-in_err-x-in-Some t c =
     let p = err_from_is_err_and c.from_residual.result c.from_residual.ensures.1 in
-    rw (p.1, p.2, ← c.loop.invariant) (more_fails snoc (arm_from (read c.args.n) (read (c.args.n - 1)) c.args.n) _ _ _ _ _ _ _ _ c.in-Some.ensures c.in_err-x-in-Some.ensures (omega arith))
+    rw (p.1, p.2, ← c.loop.invariant) (more_fails snoc (arm_from (read c.args.n) (read (c.args.n - 1)) c.args.n) _ _ _ _ _ _ _ _ c.in-Some.ensures
+    c.in_err-x-in-Some.ensures (omega arith))
 
 pub more_arms-loop-preserved : goal.more_arms-loop-preserved
 more_arms-loop-preserved t c =
-    more_next snoc (arm_from (read c.args.n) (read (c.args.n - 1)) c.args.n) _ _ _ _ _ _ _ _ _ _ _ _ c.in-Some.ensures c.in_ok-x-in-Some.ensures (omega arith) (ok_same _ _ _ refl c.in_ok-done-in-Some.ensures) c.loop.invariant
+    more_next snoc (arm_from (read c.args.n) (read (c.args.n - 1)) c.args.n) _ _ _ _ _ _ _ _ _ _ _ _ c.in-Some.ensures c.in_ok-x-in-Some.ensures (omega arith)
+    (ok_same _ _ _ refl c.in_ok-done-in-Some.ensures) c.loop.invariant
 
 pub steps-returns-in_err-x-in-Some : goal.steps-returns-in_err-x-in-Some
 unfolding all_steps
@@ -45,4 +49,5 @@ steps-returns-in_err-x-in-Some t c =
 
 pub steps-loop-preserved : goal.steps-loop-preserved
 steps-loop-preserved t c =
-    steps_next (read c.args.n) _ _ _ _ _ _ _ _ _ _ c.in-Some.ensures c.in_ok-x-in-Some.ensures (omega arith) (ok_same _ _ _ refl c.in_ok-done-in-Some.ensures) c.loop.invariant
+    steps_next (read c.args.n) _ _ _ _ _ _ _ _ _ _ c.in-Some.ensures c.in_ok-x-in-Some.ensures (omega arith) (ok_same _ _ _ refl c.in_ok-done-in-Some.ensures)
+    c.loop.invariant

@@ -96,7 +96,8 @@ invariant-more_parts-loop l =
 
 abbrev pub invariant-more_arms-loop : goal.invariant-more_arms-loop
 invariant-more_arms-loop l =
-    more_of snoc (arm_from (read l.n) (read (l.n - 1)) l.n) (Word (codes "arm")) (Sign (codes "}")) (length l.fn.tokens - l.counter) (map arm_tree l.done.items) l.rest
+    more_of snoc (arm_from (read l.n) (read (l.n - 1)) l.n) (Word (codes "arm")) (Sign (codes "}")) (length l.fn.tokens - l.counter) (map arm_tree l.done.items)
+    l.rest
     ≡ more_of snoc (arm_from (read l.n) (read (l.n - 1)) l.n) (Word (codes "arm")) (Sign (codes "}")) (length l.fn.tokens) [] l.fn.tokens
 
 abbrev pub invariant-steps-loop : goal.invariant-steps-loop

@@ -2,7 +2,7 @@ use Rattle.std.proofs.Common.{◌≡◌, ◌+◌, Result, Err, refl, sym, arith}
 use Rattle.cf_linear.specs.Views.{system_of}
 use Rattle.cf_linear.proofs.MapLemmas.{back}
 use Rattle.cf_equation.proofs.MergeValues.{mix_is}
-use Rattle.cf_equation.proofs.merge.merge_by.Goals as goal
+use Rattle.cf_equation.proofs.merge.mix.Goals as goal
 
 err_is : {A E : Type 0} {x y : E} → ◌≡◌ {A = Result A E} (Err x) (Err y) → x ≡ y
 err_is h = cc
