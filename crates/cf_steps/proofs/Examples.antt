@@ -1,5 +1,5 @@
 -- Worked examples of steps files: each production, and what is refused beside it.
-use Rattle.std.proofs.Common.{◌≡◌, ℕ, true, false, List, [], ◌∷◌, map, Ok, Err, refl, codes}
+use Rattle.std.proofs.Common.{◌≡◌, ℕ, ◌-◌, ◌^◌, true, false, List, [], ◌∷◌, map, Ok, Err, refl, codes, arith}
 use Rattle.std.specs.Prelude.{pos, negsuc}
 use Rattle.cf_lex.specs.declared.token.Token.{Token}
 use Rattle.cf_tree.specs.declared.base.Base.TheVariants.{Int}
@@ -14,6 +14,7 @@ use Rattle.cf_target.specs.Targets.{bases_of}
 use Rattle.cf_steps.specs.declared.act.Act.{Act}
 use Rattle.cf_steps.specs.declared.act.Act.TheVariants.{Clean, Mix, Last, Search, Drop}
 use Rattle.cf_steps.specs.Blocks.{BlockTree}
+use Rattle.cf_steps.specs.Spelled.{IsSpelledAct}
 use Rattle.cf_steps.specs.Spelling.{AreBlocks}
 use Rattle.cf_steps.specs.Reading.{factor_of, mix_of, search_of, act_of, ended_act, acts_of, all_acts, case_of, main_of, part_of, block_of, blocks_of}
 use Rattle.cf_steps.specs.Reading.{all_blocks}
@@ -103,3 +104,47 @@ broken = (
 broken-read : map (λ x. all_blocks 500 x.1) broken ≡ map (λ x. Err x.0) broken
 unfolding at pure refuse must bind first deep at_end more_of others_of several_of one_or_tuple results_of last_level with_digit bases_of step read factor_of mix_of search_of act_of ended_act acts_of all_acts case_of main_of part_of block_of blocks_of all_blocks
 broken-read = refl
+
+-- ---- what has a spelling: columns of 32 bits, and factors within the limit
+greatest-spelled : IsSpelledAct (Mix 4294967295 4294967295 (pos (2 ^ 127 - 1)) (negsuc (2 ^ 127 - 2)) (pos 0) (negsuc 0))
+greatest-spelled = (omega arith, omega arith, omega arith, omega arith, omega arith, omega arith)
+
+-- steps with a column or a factor that is one too great
+abbrev too_great : List Act
+too_great =
+    Mix 4294967296 0 (pos 0) (pos 0) (pos 0) (pos 0) ∷
+    Mix 0 4294967296 (pos 0) (pos 0) (pos 0) (pos 0) ∷
+    Mix 0 1 (pos (2 ^ 127)) (pos 0) (pos 0) (pos 0) ∷
+    Mix 0 1 (pos 0) (negsuc (2 ^ 127 - 1)) (pos 0) (pos 0) ∷
+    Mix 0 1 (pos 0) (pos 0) (pos (2 ^ 127)) (pos 0) ∷
+    Mix 0 1 (pos 0) (pos 0) (pos 0) (pos (2 ^ 127)) ∷
+    Last 4294967296 ∷
+    Search 4294967296 true ∷
+    Drop 4294967296 ∷
+    []
+
+NoneSpelled : List Act → Type 0
+NoneSpelled [] = Unit {0}
+NoneSpelled (act ∷ acts) = (IsSpelledAct act → ⊥) × NoneSpelled acts
+
+too-great-unspelled : NoneSpelled too_great
+unfolding NoneSpelled
+too-great-unspelled = (
+  λ h. omega (arith, h.0),
+  (
+    λ h. omega (arith, h.1),
+    (
+      λ h. omega (arith, h.2),
+      (
+        λ h. omega (arith, h.3),
+        (
+          λ h. omega (arith, h.4),
+          (
+            λ h. omega (arith, h.5),
+            (λ h. omega (arith, h), (λ h. omega (arith, h), (λ h. omega (arith, h), tt))),
+          ),
+        ),
+      ),
+    ),
+  ),
+)

@@ -1,5 +1,5 @@
 -- What is read is spelled.
-use Rattle.std.proofs.Common.{◌≡◌, ◌⊎◌, inl, inr, ℕ, zero, suc, ◌≤◌, ◌<◌, ◌-◌, ◌^◌, Bool, true, false, List, [], ◌∷◌, ◌++◌, length, Some, None, Ok, Err, refl}
+use Rattle.std.proofs.Common.{◌≡◌, inl, inr, ℕ, zero, suc, ◌≤◌, ◌<◌, ◌-◌, ◌^◌, Bool, true, false, List, [], ◌∷◌, ◌++◌, length, Some, Ok, refl}
 use Rattle.std.proofs.Common.{sym, ap, subst, ◌∙◌, arith, append_assoc}
 use Rattle.std.specs.Prelude.{ℤ, pos, negsuc, neg_ℤ, nat_le, codes}
 use Rattle.std.specs.Str.{bytes_eq}
@@ -8,22 +8,17 @@ use Rattle.std.proofs.lemmas.List.{append-nil}
 use Rattle.cf_lex.specs.declared.token.Token.{Token}
 use Rattle.cf_lex.specs.declared.token.TokenKind.{TokenKind}
 use Rattle.cf_lex.specs.declared.token.TokenKind.TheVariants.{Literal, Word, Sign}
-use Rattle.cf_tree.specs.declared.base.Base.{Base}
 use Rattle.cf_tree.specs.declared.base.Place.{Place}
-use Rattle.cf_tree.specs.DefView.{TargetTree}
-use Rattle.cf_reader.specs.Tokens.{Next, Several, Others}
-use Rattle.cf_reader.specs.Readers.{is, must, refuse, at_end, several_of, others_of, snoc}
-use Rattle.cf_reader.specs.Kinds.{SpellsBase, a_base}
+use Rattle.cf_reader.specs.Tokens.{Next}
+use Rattle.cf_reader.specs.Readers.{at_end, others_of, snoc}
 use Rattle.cf_reader.proofs.Yields.{Yields, yields, faults, Took, pure_yields, refuse_yields, widen, bind_yields, must_yields, first_yields, all_added}
-use Rattle.cf_reader.proofs.Yields.{if_some, if_else_some, same_token, same_text, in_order, took_next, took_literal, several_yields, others_yields}
-use Rattle.cf_reader.proofs.KindLaws.{took_base, results_yields}
+use Rattle.cf_reader.proofs.Yields.{if_some, if_else_some, same_token, same_text, took_next, took_literal, others_yields}
+use Rattle.cf_reader.proofs.KindLaws.{results_yields}
 use Rattle.cf_reader.proofs.Faults.{found_on}
 use Rattle.cf_target.specs.Levels.{last_level}
-use Rattle.cf_target.specs.Reading.{read}
-use Rattle.cf_target.specs.Spelling.{SpellsBases, SpellsHeader, SpellsCode}
-use Rattle.cf_target.specs.Targets.{bases_of, a_two}
+use Rattle.cf_target.specs.Spelling.{SpellsHeader}
 use Rattle.cf_target.proofs.FoundCodes.{Finds, read_found}
-use Rattle.cf_steps.proofs.Borrowed.{bases_yields, took_two}
+use Rattle.cf_target.proofs.Targets.{bases_yields, took_two}
 use Rattle.cf_steps.specs.declared.act.Act.{Act}
 use Rattle.cf_steps.specs.declared.act.Act.TheVariants.{Clean, Mix, Last, Search, Drop}
 use Rattle.cf_steps.specs.Blocks.{BlockTree}
@@ -211,3 +206,6 @@ all_blocks_yields limit ts = widen (λ bs us w. subst (λ z. SpellsBlocks limit 
 
 pub found_law : (ts : List Token) (bs : List BlockTree) (us : List Token) → all_blocks 500 ts ≡ Ok (bs, us) → AreBlocks bs ts
 found_law ts bs us e = found_on (λ bs. AreBlocks bs ts) (all_blocks 500 ts) bs us (all_blocks_yields 500 ts) e
+
+pub found_from : (ts items : List Token) (bs : List BlockTree) (us : List Token) → ts ≡ items → all_blocks 500 ts ≡ Ok (bs, us) → AreBlocks bs items
+found_from ts items bs us same e = subst (AreBlocks bs) same (found_law ts bs us e)

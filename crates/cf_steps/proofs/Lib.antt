@@ -1,4 +1,7 @@
-pub mod Borrowed
+pub mod Turns
 pub mod Found
 pub mod Only
+pub mod Spelled
+pub mod Printing
 pub mod Examples
+pub mod PrintedExamples

@@ -1,19 +1,18 @@
 -- What is spelled is read, at most one list of blocks is spelled, and where a fault stands.
-use Rattle.std.proofs.Common.{◌≡◌, ◌⊎◌, inl, inr, ℕ, zero, suc, ◌+◌, ◌-◌, ◌^◌, ◌≤◌, ◌<◌, Bool, true, false, List, [], ◌∷◌, ◌++◌, length, Some, None, Ok, Err}
-use Rattle.std.proofs.Common.{refl, sym, ap, subst, ◌∙◌, arith, append_assoc}
-use Rattle.std.specs.Prelude.{ℤ, pos, neg_ℤ, nat_le, codes}
+use Rattle.std.proofs.Common.{◌≡◌, inl, inr, ℕ, zero, suc, ◌-◌, ◌^◌, ◌≤◌, ◌<◌, Bool, true, false, List, [], ◌∷◌, ◌++◌, length, Some, None, Ok, Err}
+use Rattle.std.proofs.Common.{refl, sym, ap, ◌∙◌, arith, append_assoc}
+use Rattle.std.specs.Prelude.{ℤ, pos, nat_le, codes}
 use Rattle.std.proofs.lemmas.Bool.{le-leb}
 use Rattle.std.proofs.lemmas.List.{append-nil}
 use Rattle.cf_lex.specs.declared.token.Token.{Token}
-use Rattle.cf_lex.specs.declared.token.TokenKind.{TokenKind}
 use Rattle.cf_lex.specs.declared.token.TokenKind.TheVariants.{Literal, Word, Sign}
 use Rattle.cf_tree.specs.declared.base.Place.{Place}
 use Rattle.cf_tree.specs.DefView.{TargetTree}
 use Rattle.cf_tree.specs.CodeTree.{code_depth}
 use Rattle.cf_reader.specs.Tokens.{Next}
-use Rattle.cf_reader.specs.Readers.{Got, is, before, at, must, at_end, others_of, snoc}
+use Rattle.cf_reader.specs.Readers.{is, at, must, at_end, others_of, snoc}
 use Rattle.cf_reader.specs.Faults.{IsFaultPlace, IsFaultPlaceOf, place_with_left}
-use Rattle.cf_reader.proofs.Near.{Within, ok_in, Near, here, later, Local, pure_local, refuse_local, end_local, any_local, bind_local, first_local}
+use Rattle.cf_reader.proofs.Near.{Within, Local, pure_local, refuse_local, end_local, any_local, bind_local, first_local}
 use Rattle.cf_reader.proofs.Near.{must_local, others_local, at_end_local}
 use Rattle.cf_reader.proofs.Yields.{all_added}
 use Rattle.cf_reader.proofs.Exact.{bind_is, pure_is, must_is, first_is, first_not, at_is, at_not, next_is, literal_is, first_longer, left_over, Items}
@@ -21,11 +20,11 @@ use Rattle.cf_reader.proofs.Exact.{others_are}
 use Rattle.cf_reader.proofs.KindLaws.{sign_literal, results_are, results_local}
 use Rattle.cf_reader.proofs.Faults.{same_value, ReadsAll, fault_law as read_fault, exact_law as read_exact}
 use Rattle.cf_target.specs.Levels.{last_level}
-use Rattle.cf_target.specs.Reading.{read}
 use Rattle.cf_target.specs.Spelling.{SpellsMain}
 use Rattle.cf_target.specs.Targets.{a_two}
 use Rattle.cf_target.proofs.LocalReading.{read_local}
 use Rattle.cf_target.proofs.OnlyArms.{read_reads}
+use Rattle.cf_target.proofs.Only.{bases_are, two_is, bases_local}
 use Rattle.cf_steps.specs.declared.act.Act.{Act}
 use Rattle.cf_steps.specs.declared.act.Act.TheVariants.{Clean, Mix, Last, Search, Drop}
 use Rattle.cf_steps.specs.Blocks.{BlockTree}
@@ -34,7 +33,6 @@ use Rattle.cf_steps.specs.Spelling.{SpellsColumn, SpellsFactor, side_kind, Spell
 use Rattle.cf_steps.specs.Spelling.{SpellsBlocks, AreBlocks}
 use Rattle.cf_steps.specs.Reading.{a_column, a_side, factor_of, mix_of, search_of, act_of, ended_act, acts_of, all_acts, case_of, main_of, part_of, block_of}
 use Rattle.cf_steps.specs.Reading.{blocks_of, all_blocks}
-use Rattle.cf_steps.proofs.Borrowed.{bases_are, two_is, bases_local}
 
 -- ---- reading is local
 factor_local : {more other : List Token} → Local more other factor_of factor_of

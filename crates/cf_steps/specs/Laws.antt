@@ -1,25 +1,11 @@
--- What holds of the grammar of steps files.
-use Rattle.std.specs.Prelude.{◌≡◌, ℕ, List, [], Ok, Err}
-use Rattle.cf_lex.specs.declared.token.Token.{Token}
-use Rattle.cf_tree.specs.declared.base.Place.{Place}
-use Rattle.cf_reader.specs.Faults.{IsFaultPlace, place_with_left}
-use Rattle.cf_steps.specs.Answers.{SomeBlocks}
-use Rattle.cf_steps.specs.Blocks.{BlockTree}
-use Rattle.cf_steps.specs.Spelling.{AreBlocks}
-use Rattle.cf_steps.specs.Reading.{all_blocks}
+-- What holds of printed blocks.
+use Rattle.std.specs.Prelude.{List, map, All}
+use Rattle.cf_steps.specs.declared.block.Block.{Block}
+use Rattle.cf_steps.specs.Blocks.{block_tree}
+use Rattle.cf_steps.specs.Printed.{blocks_text}
+use Rattle.cf_steps.specs.ReadsBack.{ReadsBack}
+use Rattle.cf_steps.specs.Spelled.{IsSpelledBlock}
 
--- what is read is spelled
-abbrev pub ReadIsSpelled : Type 0
-ReadIsSpelled = (ts : List Token) (bs : List BlockTree) (us : List Token) → all_blocks 500 ts ≡ Ok (bs, us) → AreBlocks bs ts
-
--- what is spelled is read, to the end
-abbrev pub SpelledIsRead : Type 0
-SpelledIsRead = (ts : List Token) (bs : List BlockTree) → AreBlocks bs ts → all_blocks 500 ts ≡ Ok (bs, [])
-
--- the tokens spell at most one list of blocks
-abbrev pub SpellOnce : Type 0
-SpellOnce = (ts : List Token) (bs cs : List BlockTree) → AreBlocks bs ts → AreBlocks cs ts → bs ≡ cs
-
--- reading stops at a token up to and with which no blocks begin, or at the end
-abbrev pub StopsAtFault : Type 0
-StopsAtFault = (ts : List Token) (end : Place) (left : ℕ) → all_blocks 500 ts ≡ Err left → IsFaultPlace SomeBlocks ts end (place_with_left ts end left)
+-- the texts of blocks that have a spelling, one after the other, are read back to these blocks
+abbrev pub PrintedReadsBack : Type 0
+PrintedReadsBack = (bs : List Block) → All IsSpelledBlock bs → ReadsBack (map block_tree bs) (blocks_text bs)

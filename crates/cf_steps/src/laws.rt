@@ -1,13 +1,9 @@
-//! What holds of the grammar of steps files.
-ghost use Rattle.cf_steps.specs.Laws.{ReadIsSpelled, SpelledIsRead, SpellOnce, StopsAtFault};
+//! What holds of printed blocks.
+ghost use Rattle.cf_steps.specs.Laws.{PrintedReadsBack};
 
-/// The tokens of a steps file spell at most one list of blocks. Reading them from left to right gives
-/// it, and where they spell none, reading stops at a token up to and with which none begins, or at the
-/// end.
-#[tactic(auto, using(crate::proofs::Found::found_law, crate::proofs::Only::only_law, crate::proofs::Only::one_law, crate::proofs::Only::fault_law))]
-pub fn blocks_are_read()
-    ensures found { ReadIsSpelled }
-    ensures only { SpelledIsRead }
-    ensures one { SpellOnce }
-    ensures place { StopsAtFault }
+/// Where blocks have a spelling, the tokens of their printed forms, one after the other, spell these
+/// blocks and no others.
+#[tactic(auto, using(crate::proofs::Printing::blocks_read_back))]
+pub fn printed_blocks_are_read_back()
+    ensures { PrintedReadsBack }
 {}

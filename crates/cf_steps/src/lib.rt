@@ -4,3 +4,9 @@
 pub mod act;
 pub mod block;
 pub mod laws;
+mod number;
+pub mod print;
+mod source;
+mod step;
+
+pub use source::steps;

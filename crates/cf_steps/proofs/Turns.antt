@@ -1,0 +1,89 @@
+-- Reading steps and blocks, one at a time.
+use Rattle.std.proofs.Common.{◌≡◌, ◌==◌, Bool, false, ℕ, suc, zero, ◌<◌, List, [], ◌∷◌, ◌++◌, map, length, Some, None, Ok, Err, refl, sym, ap, ◌∙◌, arith}
+use Rattle.std.specs.Prelude.{codes}
+use Rattle.cf_lex.specs.declared.token.Token.{Token}
+use Rattle.cf_lex.specs.declared.token.TokenKind.TheVariants.{Sign}
+use Rattle.cf_tree.specs.declared.base.Place.{Place}
+use Rattle.cf_reader.specs.declared.stop.Stop.{Stop}
+use Rattle.cf_reader.specs.declared.stop.Stop.TheVariants as stops
+use Rattle.cf_reader.specs.Answers.{StopAnswer}
+use Rattle.cf_reader.specs.Readers.{Got, is, at, bind, pure, first, at_end, snoc}
+use Rattle.cf_steps.specs.declared.act.Act.{Act}
+use Rattle.cf_steps.specs.declared.block.Block.{Block}
+use Rattle.cf_steps.specs.Blocks.{BlockTree, block_tree}
+use Rattle.cf_steps.specs.Reading.{ended_act, acts_of, block_of, blocks_of}
+
+-- ---- steps
+pub acts_end : (k : ℕ) (done : List Act) (ts : List Token) → k ≡ 0 → acts_of k done ts ≡ Err 0
+unfolding acts_of
+acts_end k done ts h = rw h refl
+
+pub acts_close : (k : ℕ) (done : List Act) (ts : List Token) (p : Place) (us : List Token) → at (is (Sign (codes "}"))) ts ≡ Some (p, us) → 0 < k →
+    acts_of k done ts ≡ Ok (done, us)
+unfolding acts_of first pure
+acts_close zero done ts p us h l = absurd (omega arith)
+acts_close (suc k) done ts p us h l = rw (acts_of, first, h, pure) refl
+
+pub acts_go : (k j : ℕ) (done : List Act) (ts : List Token) (act : Act) (us : List Token) → at (is (Sign (codes "}"))) ts ≡ None →
+    ended_act ts ≡ Ok (act, us) → k ≡ suc j → acts_of k done ts ≡ acts_of j (snoc done act) us
+unfolding acts_of first bind
+acts_go k j done ts act us h g e = rw (e, acts_of, first, h, bind, g) refl
+
+pub acts_err : (k : ℕ) (done : List Act) (ts : List Token) (e : ℕ) → at (is (Sign (codes "}"))) ts ≡ None → ended_act ts ≡ Err e → 0 < k →
+    acts_of k done ts ≡ Err e
+unfolding acts_of first bind
+acts_err zero done ts e h g l = absurd (omega arith)
+acts_err (suc k) done ts e h g l = rw (acts_of, first, h, bind, g) refl
+
+pub acts_fail : (k : ℕ) (done : List Act) (ts : List Token) (e : Stop) → at (is (Sign (codes "}"))) ts ≡ None → StopAnswer e (ended_act ts) → 0 < k →
+    StopAnswer e (acts_of k done ts)
+acts_fail k done ts stops.NoMemory h g l = tt
+acts_fail k done ts (stops.TokensLeft n) h g l = acts_err k done ts n h g l
+
+-- the next turn of the loop
+pub acts_next : (k j : ℕ) (done done' : List Act) (ts : List Token) (act : Act) (us : List Token) (whole : Got (List Act)) →
+    at (is (Sign (codes "}"))) ts ≡ None → ended_act ts ≡ Ok (act, us) → k ≡ suc j → done' ≡ snoc done act → acts_of k done ts ≡ whole →
+    acts_of j done' us ≡ whole
+acts_next k j done done' ts act us whole h g e d w = ap (λ z. acts_of j z us) d ∙ sym (acts_go k j done ts act us h g e) ∙ w
+
+-- ---- blocks
+pub blocks_end : (limit k : ℕ) (done : List BlockTree) (ts : List Token) → length ts ≡ 0 → blocks_of limit k done ts ≡ Ok (done, ts)
+unfolding blocks_of at_end
+blocks_end limit zero done [] h = refl
+blocks_end limit (suc k) done [] h = refl
+blocks_end limit k done (t ∷ ts) h = absurd (omega (arith, h))
+
+pub blocks_stop : (limit k : ℕ) (done : List BlockTree) (ts : List Token) → k ≡ 0 → 0 < length ts → blocks_of limit k done ts ≡ Err 0
+unfolding blocks_of at_end
+blocks_stop limit zero done [] e h = absurd (omega (arith, h))
+blocks_stop limit zero done (t ∷ ts) e h = refl
+blocks_stop limit (suc k) done ts e h = absurd (omega (arith, e))
+
+pub blocks_go : (limit k j : ℕ) (done : List BlockTree) (ts : List Token) (b : BlockTree) (us : List Token) → block_of limit ts ≡ Ok (b, us) → k ≡ suc j →
+    0 < length ts → blocks_of limit k done ts ≡ blocks_of limit j (snoc done b) us
+unfolding blocks_of bind at_end
+blocks_go limit k j done [] b us g e h = absurd (omega (arith, h))
+blocks_go limit k j done (t ∷ ts) b us g e h = rw (e, blocks_of, at_end, bind, g) refl
+
+pub blocks_err : (limit k : ℕ) (done : List BlockTree) (ts : List Token) (e : ℕ) → block_of limit ts ≡ Err e → 0 < k → 0 < length ts →
+    blocks_of limit k done ts ≡ Err e
+unfolding blocks_of bind at_end
+blocks_err limit zero done ts e g l h = absurd (omega arith)
+blocks_err limit (suc k) done [] e g l h = absurd (omega (arith, h))
+blocks_err limit (suc k) done (t ∷ ts) e g l h = rw (blocks_of, at_end, bind, g) refl
+
+map_more : (xs : List Block) (x : Block) → map block_tree (xs ++ x ∷ []) ≡ snoc (map block_tree xs) (block_tree x)
+map_more [] x = refl
+map_more (y ∷ ys) x = ap (λ (zs : List BlockTree). block_tree y ∷ zs) (map_more ys x)
+
+-- the next turn of the loop
+pub blocks_next : (limit k j : ℕ) (done done' : List Block) (x : Block) (ts us : List Token) (whole : Got (List BlockTree)) →
+    block_of limit ts ≡ Ok (block_tree x, us) → k ≡ suc j → 0 < length ts → done' ≡ done ++ x ∷ [] →
+    blocks_of limit k (map block_tree done) ts ≡ whole → blocks_of limit j (map block_tree done') us ≡ whole
+blocks_next limit k j done done' x ts us whole g e h d w =
+    ap (λ (z : List Block). blocks_of limit j (map block_tree z) us) d ∙ ap (λ (z : List BlockTree). blocks_of limit j z us) (map_more done x)
+    ∙ sym (blocks_go limit k j (map block_tree done) ts (block_tree x) us g e h) ∙ w
+
+pub not_empty : (ts : List Token) (b : Bool) → b ≡ (length ts == 0) → b ≡ false → 0 < length ts
+not_empty [] b e f = cc
+not_empty (t ∷ ts) b e f = omega arith

@@ -1,0 +1,6 @@
+use Rattle.std.proofs.Common.{◌≡◌, ◌++◌, drop}
+use Rattle.cf_steps.specs.Printed.{acts_text}
+use Rattle.cf_steps.proofs.print.put_acts.Given as goal
+
+abbrev pub invariant-loop-act : goal.invariant-loop-act
+invariant-loop-act l = l.out.items ++ acts_text (drop l.act-index l.acts) ≡ l.fn.out.items ++ acts_text l.acts
