@@ -34,7 +34,8 @@ use Rattle.cf_choose.proofs.SystemLaws.{IsBegun, first_systems_begun}
 use Rattle.cf_steps.specs.declared.act.Act.{Act}
 use Rattle.cf_steps.specs.Blocks.{BlockTree}
 use Rattle.cf_cert.specs.Certifying.{QuestionTree, layout, eliminated, AreEliminated, target_with, Certifies}
-use Rattle.cf_cert.specs.Laws.{IsWithinAct, IsQuestion, MeansSolutions, CertifiedMeans}
+use Rattle.cf_cert.specs.Applying.{IsWithinAct}
+use Rattle.cf_cert.specs.Laws.{IsQuestion, MeansSolutions, CertifiedMeans}
 use Rattle.cf_cert.proofs.FollowLaws.{eliminated_solves}
 
 -- ---- arms of systems, one for each

@@ -15,6 +15,7 @@ use Rattle.cf_linear.proofs.SolvedLemmas.{solved_case, step_then, step_none}
 use Rattle.cf_cases.specs.Holding.{EachOf}
 use Rattle.cf_choose.specs.CaseArms.{IsWritable}
 use Rattle.cf_choose.specs.Eliminations.{IsEliminated}
+use Rattle.cf_choose.proofs.DefinedArms.{back_written, steps_written}
 use Rattle.cf_elim.specs.Returning.{Returns}
 use Rattle.cf_elim.specs.Stages.{IsReady}
 use Rattle.cf_elim.proofs.ReturnLaws.{returns_none, returns_then}
@@ -23,10 +24,8 @@ use Rattle.cf_elim.proofs.StageSmall.{StepsSmall, BackSmall, RowsSmall, steps_jo
 use Rattle.cf_steps.specs.declared.act.Act.{Act}
 use Rattle.cf_cert.specs.declared.verdict.Why.{Why}
 use Rattle.cf_cert.specs.declared.verdict.Why.TheVariants.{Left}
-use Rattle.cf_cert.specs.Applying.{Applied, apply}
+use Rattle.cf_cert.specs.Applying.{Applied, apply, IsWithinAct}
 use Rattle.cf_cert.specs.Certifying.{Followed, is_over, after_first, follow, unless_refused, eliminated}
-use Rattle.cf_cert.specs.Laws.{IsWithinAct}
-use Rattle.cf_cert.proofs.Borrowed.{back_written, steps_written}
 use Rattle.cf_cert.proofs.ApplyLaws.{Leads, applies}
 
 -- nothing is left, and what was made owes what a step does, has rows of the program, and few tuples

@@ -100,12 +100,21 @@ no_case_fault i (m ∷ ms) [] xs h = refl
 no_case_fault i (m ∷ ms) (acts ∷ cases) [] h = absurd h
 no_case_fault i (m ∷ ms) (acts ∷ cases) (x ∷ xs) h = rw h.0 (no_case_fault (i + 1) ms cases xs h.1)
 
-pub certified_without_fault : (q : QuestionTree) (b : BlockTree) → Certifies q b → fault_before_code q b ≡ None
+-- with the block's number, within the limits of the choose and with one list of steps for each case, only the steps have faults
+pub steps_alone : (q : QuestionTree) (b : BlockTree) → b.number ≡ q.number → case_refusal (layout q) q.rel ≡ None →
+    written_passes (layout q) (negation_normal true q.rel) ≡ false → length b.cases ≡ length (first_systems (layout q) q.rel) →
+    fault_before_code q b ≡ case_fault limits 1 (first_systems (layout q) q.rel) b.cases
 unfolding fault_before_code
-certified_without_fault q b c =
+steps_alone q b n c w l = rw (eq-eqb b.number q.number n, c, w, eq-eqb (length b.cases) (length (first_systems (layout q) q.rel)) l) refl
+
+pub passed_without_fault : (q : QuestionTree) (b : BlockTree) → Passed q b → fault_before_code q b ≡ None
+passed_without_fault q b p =
     let ms = first_systems (layout q) q.rel in
-    rw (eq-eqb b.number q.number c.number, c.counts, c.written, eq-eqb (length b.cases) (length ms) (same_length limits ms b.cases c.answers c.cases))
-    (no_case_fault 1 ms b.cases c.answers c.cases)
+    steps_alone q b p.number p.counts p.written (same_length limits ms b.cases p.answers p.cases) ∙ no_case_fault 1 ms b.cases p.answers p.cases
+
+pub certified_without_fault : (q : QuestionTree) (b : BlockTree) → Certifies q b → fault_before_code q b ≡ None
+certified_without_fault q b c = passed_without_fault q b
+    (record { number = c.number; counts = c.counts; written = c.written; answers = c.answers; cases = c.cases })
 
 -- ---- one verdict
 one_fault : (q : QuestionTree) (b : BlockTree) (f g : Fault) → IsFaultOf q b f → IsFaultOf q b g → f ≡ g

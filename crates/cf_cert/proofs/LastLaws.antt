@@ -39,7 +39,7 @@ module _ (m : System) (i : ℕ) (e : Row) (s : slice_get m.equations i ≡ Some 
   sat_back : (v : Values) → Sat front v → Sat m v
   sat_back v h = record { zero = from_front (IsZero v) m.equations i e s h.zero; nonneg = h.nonneg }
 
-  formed_front : Formed m → Formed front
+  pub formed_front : Formed m → Formed front
   formed_front f = record {
     constant = f.constant;
     below = f.below;

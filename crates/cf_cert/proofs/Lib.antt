@@ -1,11 +1,15 @@
 pub mod MixLaws
 pub mod LastLaws
-pub mod Borrowed
 pub mod ApplyLaws
+pub mod StepLaws
+pub mod WayLaws
 pub mod FollowLaws
+pub mod MarkLaws
+pub mod ArmsLaws
 pub mod CertifiedArms
 pub mod ApplyExamples
 pub mod CertificateExamples
 pub mod JudgeLaws
+pub mod VerdictLaws
 pub mod TraceLaws
 pub mod TraceExamples

@@ -124,7 +124,7 @@ pair_exact : (x : ℕ) (l u : Row) → IsExact x l u → not (is_unit (entry l x
 pair_exact x l u (inl e) = rw (one_unit (entry l x) e) refl
 pair_exact x l u (inr e) = on_bool (is_unit (entry l x)) (λ t. rw t refl) (λ t. rw (t, minus_unit (entry u x) e) refl)
 
-exact_not : (m : System) (x : ℕ) → AreExact x m.inequalities → has_inexact m x ≡ false
+exact_not : (m : System) (x : ℕ) → AreExact x m.inequalities → has_inexact m.inequalities x ≡ false
 exact_not m x h = outer (lowers x m.inequalities) h
   where
     inner : (l : Row) (high : List Row) → EachRow (IsExact x l) high → list_any (λ u. not (is_unit (entry l x) || is_unit (entry u x))) high ≡ false

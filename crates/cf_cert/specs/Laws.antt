@@ -1,6 +1,5 @@
 -- What a certificate promises.
 use Rattle.std.specs.Prelude.{◌≡◌, List, ◌++◌, All, None}
-use Rattle.cf_num.specs.Limit.{IsWithin}
 use Rattle.cf_tree.specs.Allowed.{Chosen}
 use Rattle.cf_tree.specs.Meaning.{means}
 use Rattle.cf_tree.specs.Relation.{IsTyped, IsLinear, Sol}
@@ -9,21 +8,14 @@ use Rattle.cf_cases.specs.Holding.{EachOf}
 use Rattle.cf_choose.specs.Laws.{IsUnrefused}
 use Rattle.cf_choose.specs.Solved.{IsOutput}
 use Rattle.cf_steps.specs.declared.act.Act.{Act}
-use Rattle.cf_steps.specs.declared.act.Act.TheVariants.{Clean, Mix, Last, Search, Drop}
 use Rattle.cf_steps.specs.Blocks.{BlockTree}
 use Rattle.cf_cert.specs.declared.verdict.Verdict.{Verdict}
+use Rattle.cf_cert.specs.Applying.{IsWithinAct}
 use Rattle.cf_cert.specs.Certifying.{QuestionTree, Certifies}
 use Rattle.cf_cert.specs.Judging.{fault_before_code, IsVerdict}
 use Rattle.cf_cert.specs.Tracing.{traced_block}
 
 -- each number of a Mix is within the limit
-abbrev pub IsWithinAct : Act → Type 0
-IsWithinAct Clean = Unit {0}
-IsWithinAct (Mix x y a b c d) = IsWithin a × IsWithin b × IsWithin c × IsWithin d
-IsWithinAct (Last e) = Unit {0}
-IsWithinAct (Search x lower) = Unit {0}
-IsWithinAct (Drop x) = Unit {0}
-
 abbrev pub AreWithinCases : List (List Act) → Type 0
 AreWithinCases cases = EachOf (λ acts. EachOf IsWithinAct acts) cases
 

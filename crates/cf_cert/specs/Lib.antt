@@ -1,5 +1,9 @@
 pub mod Applying
+pub mod Stepping
 pub mod Certifying
+pub mod Following
 pub mod Judging
 pub mod Tracing
 pub mod Laws
+pub mod Marks
+pub mod Verifying

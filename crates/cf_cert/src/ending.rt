@@ -1,0 +1,89 @@
+//! The end of an equation that stands anywhere.
+ghost use Rattle.std.specs.Prelude.{◌≡◌, ◌<◌, ◌∷◌, [], length, slice_get, IfOk};
+ghost use Rattle.cf_linear.specs.Stages.{limits};
+ghost use Rattle.cf_linear.specs.Views.{system_of};
+ghost use Rattle.cf_equation.specs.Equations.{first_of, rest_of, first_present};
+ghost use Rattle.cf_elim.specs.Stages.{IsReady};
+ghost use Rattle.cf_cert.specs.Applying.{last_at, last_of};
+ghost use Rattle.cf_cert.specs.Stepping.{ApplyIs, IsFront};
+
+use crate::next::{ApplyFault, Next, after_equation, refusal_of};
+use crate::verdict::Why;
+use cf_elim::counts::within;
+use cf_elim::equation::counts_after;
+use cf_equation::step::step_first;
+use cf_equation::unknowns::{Present, first_unknowns};
+use cf_linear::refusal::{Refusal, RowFault};
+use cf_linear::row::Row;
+use cf_linear::system::System;
+use cf_tree::memory::NoMemory;
+use std::alloc::Global;
+
+// The equation of that number is solved for its one unknown.
+pub(crate) fn end_equation(alloc: Global, system: System, index: u32) -> Result<Next, ApplyFault>
+    requires { IsReady (system_of system) }
+    ensures { ApplyIs (last_at limits (system_of system) index (slice_get system.equations.items index)) result }
+{
+    if index as usize >= system.equations.len() {
+        return Err(ApplyFault::Rejected(Why::Single));
+    }
+    match with_first(alloc, system, index as usize) {
+        Ok(front) => end_alone(alloc, front),
+        Err(_) => Err(ApplyFault::NoMemory),
+    }
+}
+
+// The system with the equation of that number before the others.
+fn with_first(alloc: Global, system: System, index: usize) -> Result<System, NoMemory>
+    requires { index < length system.equations.items }
+    ensures { IfOk result (λ s. IsFront (system_of system) index (system_of s)) }
+{
+    let mut rest = system.equations;
+    let first = rest.remove(index);
+    let mut equations = Vec::new(alloc);
+    equations.push(first)?;
+    equations.append(&mut rest)?;
+    Ok(System {
+        known: system.known,
+        unknown: system.unknown,
+        next: system.next,
+        equations,
+        inequalities: system.inequalities,
+        needs: system.needs,
+    })
+}
+
+// The first equation is solved, if it has one unknown.
+fn end_alone(alloc: Global, system: System) -> Result<Next, ApplyFault>
+    requires ready { IsReady (system_of system) }
+    requires some { 0 < length system.equations.items }
+    ensures { ApplyIs (last_of limits (system_of system) (first_of (system_of system)) (rest_of (system_of system)) (first_present (system_of system))) result }
+{
+    match first_unknowns(&system) {
+        Present::One(u) => end_counted(alloc, system, u),
+        Present::Nothing => Err(ApplyFault::Rejected(Why::Single)),
+        Present::Several(_, _) => Err(ApplyFault::Rejected(Why::Single)),
+    }
+}
+
+// The end of the first equation, which has the one unknown u, if its counts are within the limits.
+fn end_counted(alloc: Global, system: System, u: u32) -> Result<Next, ApplyFault>
+    requires ready { IsReady (system_of system) }
+    requires some { 0 < length system.equations.items }
+    requires one { first_present (system_of system) ≡ u ∷ [] }
+    ensures { ApplyIs (last_of limits (system_of system) (first_of (system_of system)) (rest_of (system_of system)) (u ∷ [])) result }
+{
+    let counts = match counts_after(&system, u) {
+        Some(counts) => counts,
+        None => return Err(ApplyFault::NoMemory),
+    };
+    match within(counts.rows, counts.columns) {
+        Ok(()) => {}
+        Err(fault) => return Err(refusal_of(fault)),
+    }
+    match step_first(alloc, system) {
+        Ok(reduced) => Ok(after_equation(alloc, reduced)),
+        Err(RowFault::Past) => Err(ApplyFault::Rejected(Why::Refused(Refusal::Past))),
+        Err(RowFault::NoMemory) => Err(ApplyFault::NoMemory),
+    }
+}

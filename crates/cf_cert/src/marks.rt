@@ -1,0 +1,384 @@
+//! Codes as lists of marks, by which they are compared.
+ghost use Rattle.std.specs.Prelude.{◌≡◌, ◌↔◌, ◌++◌, ◌∷◌, [], true, OnOk, IfOk};
+ghost use Rattle.cf_tree.specs.CodeTree.{code_solve};
+ghost use Rattle.cf_tree.specs.CodeView.{code_tree, code_trees, item_tree, item_trees, arm_tree, arm_trees};
+ghost use Rattle.cf_cert.specs.Marks.{code_marks, codes_marks, bounds_marks, item_marks, items_marks, arm_marks, arms_marks, numbers_of, plain_numbers};
+
+use cf_tree::base::Order;
+use cf_tree::code::{Arm, Code, Item};
+use cf_tree::memory::NoMemory;
+use std::alloc::Global;
+
+// A form of code with all that it holds but its parts, or what stands between parts.
+#[derive(Clone, Copy)]
+pub(crate) enum Mark {
+    Lit(i128),
+    Truth(bool),
+    Var(u32),
+    SetOf,
+    Tuple,
+    Sum,
+    Sub,
+    Mul,
+    Neg,
+    Div(i128),
+    Mod(i128),
+    Min,
+    Max,
+    Compare(Order),
+    Divides(i128),
+    And,
+    Or,
+    Not,
+    Union,
+    Inter,
+    Diff,
+    Subset,
+    Card,
+    Slice,
+    Fresh,
+    If,
+    Let(u32, u32),
+    Solve(u32),
+    /// Another bound of an arm.
+    Bound(u32),
+    /// Another let of an arm.
+    LetItem,
+    /// Another need of an arm.
+    NeedItem,
+    /// Another part or arm.
+    More,
+    /// The end of a list.
+    End,
+}
+
+// Whether the code is the `solve` of that number with these arms.
+pub(crate) fn is_solve(
+    alloc: Global,
+    code: &Code,
+    number: u32,
+    arms: &[Arm],
+) -> Result<bool, NoMemory>
+    ensures { IfOk result (λ b. (b ≡ true) ↔ (code_tree code.now ≡ code_solve number (arm_trees arms.now))) }
+{
+    let found = marks(alloc, code)?;
+    let made = solve_marks(alloc, number, arms)?;
+    Ok(same_marks(&found, &made))
+}
+
+// The marks of a `solve`.
+fn solve_marks(alloc: Global, number: u32, arms: &[Arm]) -> Result<Vec<Mark>, NoMemory>
+    ensures { IfOk result (λ v. v.items ≡ code_marks (code_solve number (arm_trees arms.now))) }
+{
+    let mut out = Vec::new(alloc);
+    out.push(Mark::Solve(number))?;
+    put_arms(&mut out, arms)?;
+    Ok(out)
+}
+
+// The marks of a code.
+fn marks(alloc: Global, code: &Code) -> Result<Vec<Mark>, NoMemory>
+    ensures { IfOk result (λ v. v.items ≡ code_marks (code_tree code.now)) }
+{
+    let mut out = Vec::new(alloc);
+    put_code(&mut out, code)?;
+    Ok(out)
+}
+
+// Whether both lists have the same marks.
+fn same_marks(left: &[Mark], right: &[Mark]) -> bool
+    ensures { (result ≡ true) ↔ (left.now ≡ right.now) }
+{
+    if left.len() != right.len() {
+        return false;
+    }
+    for i in 0..left.len() {
+        if !same_mark(left[i], right[i]) {
+            return false;
+        }
+    }
+    true
+}
+
+fn same_mark(left: Mark, right: Mark) -> bool
+    ensures { (result ≡ true) ↔ (left ≡ right) }
+{
+    let left = as_numbers(left);
+    let right = as_numbers(right);
+    same_numbers(&left, &right)
+}
+
+#[tactic(auto, using(crate::proofs::MarkLaws::other_form, crate::proofs::MarkLaws::other_literal, crate::proofs::MarkLaws::other_first, crate::proofs::MarkLaws::other_second, crate::proofs::MarkLaws::no_other))]
+fn same_numbers(left: &Numbers, right: &Numbers) -> bool
+    ensures { (result ≡ true) ↔ (plain_numbers left.now ≡ plain_numbers right.now) }
+{
+    if left.form != right.form {
+        return false;
+    }
+    if left.literal != right.literal {
+        return false;
+    }
+    if left.first != right.first {
+        return false;
+    }
+    if left.second != right.second {
+        return false;
+    }
+    true
+}
+
+// A mark as numbers: one for the form, a literal or divisor, and levels, counts or bounds.
+#[derive(Clone, Copy)]
+pub(crate) struct Numbers {
+    form: u32,
+    literal: i128,
+    first: u32,
+    second: u32,
+}
+
+fn as_numbers(mark: Mark) -> Numbers
+    ensures { plain_numbers result ≡ numbers_of mark }
+{
+    match mark {
+        Mark::Lit(k) => numbers_with(0, k, 0, 0),
+        Mark::Truth(true) => numbers_with(1, 0, 0, 0),
+        Mark::Truth(false) => numbers_with(2, 0, 0, 0),
+        Mark::Var(x) => numbers_with(3, 0, x, 0),
+        Mark::SetOf => numbers_with(4, 0, 0, 0),
+        Mark::Tuple => numbers_with(5, 0, 0, 0),
+        Mark::Sum => numbers_with(6, 0, 0, 0),
+        Mark::Sub => numbers_with(7, 0, 0, 0),
+        Mark::Mul => numbers_with(8, 0, 0, 0),
+        Mark::Neg => numbers_with(9, 0, 0, 0),
+        Mark::Div(k) => numbers_with(10, k, 0, 0),
+        Mark::Mod(k) => numbers_with(11, k, 0, 0),
+        Mark::Min => numbers_with(12, 0, 0, 0),
+        Mark::Max => numbers_with(13, 0, 0, 0),
+        Mark::Compare(Order::Eq) => numbers_with(14, 0, 0, 0),
+        Mark::Compare(Order::Ne) => numbers_with(15, 0, 0, 0),
+        Mark::Compare(Order::Lt) => numbers_with(16, 0, 0, 0),
+        Mark::Compare(Order::Le) => numbers_with(17, 0, 0, 0),
+        Mark::Compare(Order::Gt) => numbers_with(18, 0, 0, 0),
+        Mark::Compare(Order::Ge) => numbers_with(19, 0, 0, 0),
+        Mark::Divides(k) => numbers_with(20, k, 0, 0),
+        Mark::And => numbers_with(21, 0, 0, 0),
+        Mark::Or => numbers_with(22, 0, 0, 0),
+        Mark::Not => numbers_with(23, 0, 0, 0),
+        Mark::Union => numbers_with(24, 0, 0, 0),
+        Mark::Inter => numbers_with(25, 0, 0, 0),
+        Mark::Diff => numbers_with(26, 0, 0, 0),
+        Mark::Subset => numbers_with(27, 0, 0, 0),
+        Mark::Card => numbers_with(28, 0, 0, 0),
+        Mark::Slice => numbers_with(29, 0, 0, 0),
+        Mark::Fresh => numbers_with(30, 0, 0, 0),
+        Mark::If => numbers_with(31, 0, 0, 0),
+        Mark::Let(x, y) => numbers_with(32, 0, x, y),
+        Mark::Solve(x) => numbers_with(33, 0, x, 0),
+        Mark::Bound(x) => numbers_with(34, 0, x, 0),
+        Mark::LetItem => numbers_with(35, 0, 0, 0),
+        Mark::NeedItem => numbers_with(36, 0, 0, 0),
+        Mark::More => numbers_with(37, 0, 0, 0),
+        Mark::End => numbers_with(38, 0, 0, 0),
+    }
+}
+
+fn numbers_with(form: u32, literal: i128, first: u32, second: u32) -> Numbers
+    ensures form { result.form ≡ form }
+    ensures literal { result.literal ≡ literal }
+    ensures first { result.first ≡ first }
+    ensures second { result.second ≡ second }
+{
+    Numbers {
+        form,
+        literal,
+        first,
+        second,
+    }
+}
+
+// Puts the marks of a code at the end.
+#[cycle(put_code)]
+fn put_code(out: &mut Vec<Mark>, code: &Code) -> Result<(), NoMemory>
+    ensures { OnOk result (out.new.items ≡ out.old.items ++ code_marks (code_tree code.now)) }
+{
+    match code {
+        Code::Lit(k) => put_mark(out, Mark::Lit(*k)),
+        Code::Truth(t) => put_mark(out, Mark::Truth(*t)),
+        Code::Var(x) => put_mark(out, Mark::Var(*x)),
+        Code::SetOf(parts) => put_list(out, Mark::SetOf, parts),
+        Code::Tuple(parts) => put_list(out, Mark::Tuple, parts),
+        Code::Sum(parts) => put_list(out, Mark::Sum, parts),
+        Code::Sub(a, b) => {
+            put_one(out, Mark::Sub, a)?;
+            put_code(out, b)?;
+            Ok(())
+        }
+        Code::Mul(a, b) => {
+            put_one(out, Mark::Mul, a)?;
+            put_code(out, b)?;
+            Ok(())
+        }
+        Code::Neg(a) => put_one(out, Mark::Neg, a),
+        Code::Div { of, k } => put_one(out, Mark::Div(*k), of),
+        Code::Mod { of, k } => put_one(out, Mark::Mod(*k), of),
+        Code::Min(parts) => put_list(out, Mark::Min, parts),
+        Code::Max(parts) => put_list(out, Mark::Max, parts),
+        Code::Compare { order, left, right } => {
+            put_one(out, Mark::Compare(*order), left)?;
+            put_code(out, right)?;
+            Ok(())
+        }
+        Code::Divides { k, of } => put_one(out, Mark::Divides(*k), of),
+        Code::And(a, b) => {
+            put_one(out, Mark::And, a)?;
+            put_code(out, b)?;
+            Ok(())
+        }
+        Code::Or(a, b) => {
+            put_one(out, Mark::Or, a)?;
+            put_code(out, b)?;
+            Ok(())
+        }
+        Code::Not(a) => put_one(out, Mark::Not, a),
+        Code::Union(parts) => put_list(out, Mark::Union, parts),
+        Code::Inter(parts) => put_list(out, Mark::Inter, parts),
+        Code::Diff(a, b) => {
+            put_one(out, Mark::Diff, a)?;
+            put_code(out, b)?;
+            Ok(())
+        }
+        Code::Subset(a, b) => {
+            put_one(out, Mark::Subset, a)?;
+            put_code(out, b)?;
+            Ok(())
+        }
+        Code::Card(a) => put_one(out, Mark::Card, a),
+        Code::Slice { set, from, n } => {
+            put_one(out, Mark::Slice, set)?;
+            put_code(out, from)?;
+            put_code(out, n)?;
+            Ok(())
+        }
+        Code::Fresh { avoid, n } => {
+            put_one(out, Mark::Fresh, avoid)?;
+            put_code(out, n)?;
+            Ok(())
+        }
+        Code::If { test, yes, no } => {
+            put_one(out, Mark::If, test)?;
+            put_code(out, yes)?;
+            put_code(out, no)?;
+            Ok(())
+        }
+        Code::Let {
+            first,
+            count,
+            value,
+            body,
+        } => {
+            put_one(out, Mark::Let(*first, *count), value)?;
+            put_code(out, body)?;
+            Ok(())
+        }
+        Code::Solve { number, arms } => {
+            out.push(Mark::Solve(*number))?;
+            put_arms(out, arms)?;
+            Ok(())
+        }
+    }
+}
+
+fn put_mark(out: &mut Vec<Mark>, mark: Mark) -> Result<(), NoMemory>
+    ensures { OnOk result (out.new.items ≡ out.old.items ++ (mark ∷ [])) }
+{
+    out.push(mark)?;
+    Ok(())
+}
+
+// A mark and the code behind it.
+#[cycle(put_code)]
+fn put_one(out: &mut Vec<Mark>, mark: Mark, code: &Code) -> Result<(), NoMemory>
+    ensures { OnOk result (out.new.items ≡ out.old.items ++ (mark ∷ code_marks (code_tree code.now))) }
+{
+    out.push(mark)?;
+    put_code(out, code)?;
+    Ok(())
+}
+
+// A mark and the list of codes behind it.
+#[cycle(put_code)]
+fn put_list(out: &mut Vec<Mark>, mark: Mark, codes: &[Code]) -> Result<(), NoMemory>
+    ensures { OnOk result (out.new.items ≡ out.old.items ++ (mark ∷ codes_marks (code_trees codes.now))) }
+{
+    out.push(mark)?;
+    put_codes(out, codes)?;
+    Ok(())
+}
+
+// Codes, up to the end of their list.
+#[cycle(put_code)]
+fn put_codes(out: &mut Vec<Mark>, codes: &[Code]) -> Result<(), NoMemory>
+    ensures { OnOk result (out.new.items ≡ out.old.items ++ codes_marks (code_trees codes.now)) }
+{
+    for code in codes {
+        put_one(out, Mark::More, code)?;
+    }
+    out.push(Mark::End)?;
+    Ok(())
+}
+
+#[cycle(put_code)]
+fn put_item(out: &mut Vec<Mark>, item: &Item) -> Result<(), NoMemory>
+    ensures { OnOk result (out.new.items ≡ out.old.items ++ item_marks (item_tree item.now)) }
+{
+    match item {
+        Item::Let(code) => put_one(out, Mark::LetItem, code),
+        Item::Need(code) => put_one(out, Mark::NeedItem, code),
+    }
+}
+
+// Lets and needs, up to the end of their list.
+#[cycle(put_code)]
+fn put_items(out: &mut Vec<Mark>, items: &[Item]) -> Result<(), NoMemory>
+    ensures { OnOk result (out.new.items ≡ out.old.items ++ items_marks (item_trees items.now)) }
+{
+    for item in items {
+        put_item(out, item)?;
+    }
+    out.push(Mark::End)?;
+    Ok(())
+}
+
+#[cycle(put_code)]
+fn put_arm(out: &mut Vec<Mark>, arm: &Arm) -> Result<(), NoMemory>
+    ensures { OnOk result (out.new.items ≡ out.old.items ++ arm_marks (arm_tree arm.now)) }
+{
+    put_bounds(out, &arm.bounds)?;
+    put_items(out, &arm.items)?;
+    put_codes(out, &arm.gives)?;
+    Ok(())
+}
+
+// Arms, up to the end of their list.
+#[cycle(put_code)]
+fn put_arms(out: &mut Vec<Mark>, arms: &[Arm]) -> Result<(), NoMemory>
+    ensures { OnOk result (out.new.items ≡ out.old.items ++ arms_marks (arm_trees arms.now)) }
+{
+    for arm in arms {
+        out.push(Mark::More)?;
+        put_arm(out, arm)?;
+    }
+    out.push(Mark::End)?;
+    Ok(())
+}
+
+// Bounds, up to the end of their list.
+fn put_bounds(out: &mut Vec<Mark>, bounds: &[u32]) -> Result<(), NoMemory>
+    ensures { OnOk result (out.new.items ≡ out.old.items ++ bounds_marks bounds.now) }
+{
+    for bound in bounds {
+        out.push(Mark::Bound(*bound))?;
+    }
+    out.push(Mark::End)?;
+    Ok(())
+}

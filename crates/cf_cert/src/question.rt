@@ -1,0 +1,13 @@
+//! A choose whose block is checked.
+use cf_tree::base::Base;
+use cf_tree::rel::Rel;
+
+/// The number of a choose, the bases of the variables in its scope, by level, and of its outputs, and
+/// its relation.
+#[derive(Drop)]
+pub struct Question {
+    pub number: u32,
+    pub scope: Vec<Base>,
+    pub outputs: Vec<Base>,
+    pub rel: Rel,
+}
