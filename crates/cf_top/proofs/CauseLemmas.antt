@@ -33,7 +33,7 @@ data Cause {Tree : Type 0} (Is : Tree → List Token → Type 0) (Bad : Tree →
 tokens_agree : (text : List ℕ) (ts us : List Token) (p q : Place) (e d : Ending) → HasTokens text ts p e → HasTokens text us q d → (ts ≡ us) × (p ≡ q) × (e ≡ d)
 tokens_agree text ts us p q e d a b = LexesTo-once (2 ^ 127 - 1) text ts us p q e d a.1 b.1
 
-trees_agree : {Tree : Type 0} (Is : Tree → List Token → Type 0) → IsSingle Is → (text : List ℕ) (x y : Tree) → Spelled Is text x → Spelled Is text y → x ≡ y
+pub trees_agree : {Tree : Type 0} (Is : Tree → List Token → Type 0) → IsSingle Is → (text : List ℕ) (x y : Tree) → Spelled Is text x → Spelled Is text y → x ≡ y
 trees_agree Is one text x y s t =
     let same = tokens_agree text s.0 t.0 s.1 t.1 at_end at_end s.2 t.2 in
     one s.0 x y s.3 (subst (Is y) (sym same.0) t.3)

@@ -58,7 +58,8 @@ module _ (sample first second : Vec RunValue Global) where
   unfolding digits
   existence_past = refl
 
-  existence_limit : existence_line some_choose (existence.Undecided (Refused (refusal.Limit kind.Search 2097152))) ≡ codes "choose 7: existence undecided: Search 2097152\n"
+  existence_limit : existence_line some_choose (existence.Undecided (Refused (refusal.Limit kind.Search 2097152))) ≡ codes
+      "choose 7: existence undecided: Search 2097152\n"
   unfolding digits
   existence_limit = refl
 

@@ -112,7 +112,9 @@ file_does c name given before after e file none rose once = record {
 -- a fault that names no object
 inner_does : (c : Command) (name : List ℕ) (given : List Told) (before after : Outside) (text : List ℕ) (f : Fault) → names_of c ≡ name ∷ [] →
     AreTold (before.texts name) text →
-    Ends (record { command = c; files = text ∷ []; passes = given }) (streams_of before) (streams_of after) (Err f) → FileRead name before after → Untouched before after →
+    Ends (record { command = c; files = text ∷ []; given = given; passes = given }) (streams_of before) (streams_of after) (Err f) →
+    FileRead name before after →
+    Untouched before after →
     ((other : List ℕ) → after.file_faults other ≡ before.file_faults other) → (failed f ≡ Err fault.File → ⊥) → (failed f ≡ Err fault.Input → ⊥) →
     (failed f ≡ Err fault.Output → ⊥) → Does c given before after (Err f)
 inner_does c name given before after text f e told ends file none same not_file not_input not_out = record {
@@ -136,7 +138,8 @@ pub memory_does : (c : Command) (name : List ℕ) (given : List Told) (before af
     Untouched before after →
     ((other : List ℕ) → after.file_faults other ≡ before.file_faults other) → Does c given before after (Err fault.NoMemory)
 memory_does c name given before after e file none same =
-    inner_does c name given before after (left_of (before.texts name)) fault.NoMemory e (left_told (before.texts name)) (inr none.out) file none same (λ i. cc) (λ i. cc) (λ i. cc)
+    inner_does c name given before after (left_of (before.texts name)) fault.NoMemory e (left_told (before.texts name)) (inr none.out) file none same (λ i. cc)
+    (λ i. cc) (λ i. cc)
 
 -- a text that is too long
 long_text : (told : Option (List ℕ)) → IfSome told (λ text. text_limit < length text) → (text : List ℕ) × AreTold told text × (text_limit < length text)
@@ -157,7 +160,8 @@ pub long_does : (kind : CommandKind) (flags : Flags) (name : List ℕ) (given : 
     Does (command_on kind flags name) given before after (Err fault.TextTooLong)
 long_does kind flags name given before after long file none same =
     let text = long_text (before.texts name) long in
-    inner_does (command_on kind flags name) name given before after text.0 fault.TextTooLong (one_name kind flags name) text.1 (long_refused kind flags name text.0 text.2, none.out) file none same
+    inner_does (command_on kind flags name) name given before after text.0 fault.TextTooLong (one_name kind flags name) text.1
+    (long_refused kind flags name text.0 text.2, none.out) file none same
     (λ i. cc) (λ i. cc) (λ i. cc)
 
 -- the text that was read is the one that is told

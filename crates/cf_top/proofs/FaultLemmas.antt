@@ -7,7 +7,7 @@ use Rattle.cf_reader.specs.Readers.{Reader}
 use Rattle.cf_tree.specs.DefView.{RawDefTree}
 use Rattle.cf_target.specs.Spelling.{TargetTree}
 use Rattle.cf_words.specs.Commands.{Command, compile, run, pre, check, exec, gen}
-use Rattle.cf_top.specs.Refusals.{Causes, too_long, odd_byte, large_number, no_tree, bad_tree, IsBadProgram, broken, refused, IsBadTarget, untyped, IsRefusedSource, IsRefusedTarget, Refuses}
+use Rattle.cf_top.specs.Refusals.{Causes, too_long, odd_byte, large_number, no_tree, bad_tree, IsBadProgram, broken, refused, IsBadRun, bad, broken_late, IsBadTarget, untyped, IsRefusedSource, IsRefusedRun, IsRefusedTarget, Refuses}
 use Rattle.cf_top.specs.declared.fault.Fault.{Fault}
 use Rattle.cf_top.specs.declared.fault.Fault.TheVariants as fault
 
@@ -38,18 +38,25 @@ program_fault : (program : List RawDefTree) (f : Fault) → IsBadProgram program
 program_fault program f (broken e h) = tt
 program_fault program f (refused typed n r h b) = tt
 
+run_fault : (program : List RawDefTree) (f : Fault) → IsBadRun program f → IsTextFault f
+run_fault program f (bad g b other) = program_fault program g b
+run_fault program f (broken_late p e plain h) = tt
+
 target_fault : (t : TargetTree) (f : Fault) → IsBadTarget t f → IsTextFault f
 target_fault t f (untyped h) = tt
 
 source_text : (text : List ℕ) (f : Fault) → IsRefusedSource text f → IsTextFault f
 source_text text f h = caused _ _ _ program_fault text f h
 
+run_text : (text : List ℕ) (f : Fault) → IsRefusedRun text f → IsTextFault f
+run_text text f h = caused _ _ _ run_fault text f h
+
 target_text : (text : List ℕ) (f : Fault) → IsRefusedTarget text f → IsTextFault f
 target_text text f h = caused _ _ _ target_fault text f h
 
 pub refused_fault : (c : Command) (files : List (List ℕ)) (f : Fault) → Refuses c files f → IsTextFault f
 refused_fault (compile flags name) (text ∷ []) f h = source_text text f h
-refused_fault (run flags name) (text ∷ []) f h = source_text text f h
+refused_fault (run flags name) (text ∷ []) f h = run_text text f h
 refused_fault (pre name) (text ∷ []) f h = source_text text f h
 refused_fault (check name) (text ∷ []) f h = source_text text f h
 refused_fault (exec name) (text ∷ []) f h = target_text text f h
@@ -76,6 +83,10 @@ text_inner f h = tt
 pub source_inner : (text : List ℕ) (f : Fault) → IsRefusedSource text f ⊎ (f ≡ fault.NoMemory) → IsInner f
 source_inner text f (inl h) = text_inner f (source_text text f h)
 source_inner text f (inr e) = subst IsInner (sym e) tt
+
+pub run_inner : (text : List ℕ) (f : Fault) → IsRefusedRun text f ⊎ (f ≡ fault.NoMemory) → IsInner f
+run_inner text f (inl h) = text_inner f (run_text text f h)
+run_inner text f (inr e) = subst IsInner (sym e) tt
 
 pub target_inner : (text : List ℕ) (f : Fault) → IsRefusedTarget text f ⊎ (f ≡ fault.NoMemory) → IsInner f
 target_inner text f (inl h) = text_inner f (target_text text f h)

@@ -7,6 +7,8 @@ pub mod DoesLemmas
 mod Examples
 pub mod FaultLemmas
 pub mod FileLemmas
+mod LateExamples
+pub mod LateLemmas
 pub mod LoweredLemmas
 pub mod MatchClassLemmas
 pub mod OriginLemmas
@@ -17,6 +19,7 @@ pub mod PieceLemmas
 mod PreExamples
 pub mod PreLemmas
 pub mod ReplyLemmas
+pub mod RunLemmas
 pub mod SampleLemmas
 pub mod SourceLemmas
 pub mod SpelledLemmas

@@ -19,7 +19,8 @@ unmapped (info ∷ infos) h =
     All-cons (λ m. AreClasses m.classes.items) info infos (All-head HasClasses (match_tree info) (map match_tree infos) h)
     (unmapped infos (All-tail HasClasses (match_tree info) (map match_tree infos) h))
 
-pub told_classes : (defs : List DefTree) (main : ℕ) (infos : List MatchInfo) → IsTypedProgram defs main → IsPermutation (all_matches defs) (map match_tree infos) →
+pub told_classes : (defs : List DefTree) (main : ℕ) (infos : List MatchInfo) → IsTypedProgram defs main →
+    IsPermutation (all_matches defs) (map match_tree infos) →
     All (λ m. AreClasses m.classes.items) infos
 told_classes defs main infos h same =
     unmapped infos (All-permutation HasClasses (all_matches defs) (map match_tree infos) same (matches_have_classes defs main h))

@@ -48,7 +48,7 @@ value_fits base.Set w (number z) h = absurd h
 value_fits base.Set w (truth t) h = absurd h
 value_fits base.Set w (elements es) h = ((es, refl, rw h.4 (rising_set_of h.1)), none_within)
 
-values_fit : (bases : List Base) (text : List ℕ) (vs : List Value) → Spells limit bases text vs → HaveBases bases vs × AreSmall limit vs
+pub values_fit : (bases : List Base) (text : List ℕ) (vs : List Value) → Spells limit bases text vs → HaveBases bases vs × AreSmall limit vs
 values_fit [] text [] h = (tt, tt)
 values_fit [] text (v ∷ vs) h = absurd h
 values_fit (b ∷ bases) text [] h = absurd h
@@ -58,7 +58,7 @@ values_fit (b ∷ bases) text (v ∷ vs) h =
     ((first.0, more.0), (first.1, more.1))
 
 -- the target has the parameters of main
-parameters_at : (ds : List DefTree) (i : ℕ) (d : DefTree) → slice_get ds i ≡ Some d →
+pub parameters_at : (ds : List DefTree) (i : ℕ) (d : DefTree) → slice_get ds i ≡ Some d →
     get_or (map (λ e. bases_of e.params) ds) i [] ≡ bases_of d.params
 parameters_at [] i d e = cc
 parameters_at (c ∷ ds) zero d e = let same : c ≡ d = cc in rw same refl
@@ -162,7 +162,8 @@ within_added : (typed : TypedTree) (passes : ℕ) (t : RawTarget) (line : List �
     Read typed passes t line vs → peak (code_tree t.code) vs ≤ limit → Added typed passes line (outcome_number (Some (means (code_tree t.code) vs)))
 within_added typed passes t line vs e r within = record {
   reply = outcome_text (means (code_tree t.code) vs);
-  told = allows vs (means (code_tree t.code) vs) r.short r.spelled e (passes_of passes limit (peak (code_tree t.code) vs) within (λ none. r.runs.overflow none e)) r.allowed;
+  told = allows vs (means (code_tree t.code) vs) r.short r.spelled e
+      (passes_of passes limit (peak (code_tree t.code) vs) within (λ none. r.runs.overflow none e)) r.allowed;
   same = refl;
 }
 

@@ -22,7 +22,8 @@ rounding = record {
   names = codes "a" ∷ codes "b" ∷ [];
   scope = Int ∷ Int ∷ [];
   outputs = Int ∷ [];
-  relation = rel_and (rel_compare Le (term_var 0) (term_mul (term_lit (pos 2)) (term_var 2))) (rel_compare Le (term_mul (term_lit (pos 2)) (term_var 2)) (term_var 1));
+  relation = rel_and (rel_compare Le (term_var 0) (term_mul (term_lit (pos 2)) (term_var 2)))
+      (rel_compare Le (term_mul (term_lit (pos 2)) (term_var 2)) (term_var 1));
 }
 
 rounding_passes_no_limit : limit_of rounding ≡ None

@@ -16,12 +16,15 @@ use Rattle.cf_top.specs.Owed.{IsPreOf}
 -- the arms of a solved choose are those of the definition
 found_arms : (q : Question) (s : SolvedParts) → IsOf q.scope q.outputs q.relation s → arm_trees s.arms.items ≡ question_arms q
 found_arms q s h =
-    let same : arms s.scope.items s.outputs.items (rel_tree s.rel) ≡ arms q.scope q.outputs q.relation = rw (h.same_scope, h.same_outputs, h.same_relation) refl in
+    let same : arms s.scope.items s.outputs.items (rel_tree s.rel) ≡ arms q.scope q.outputs q.relation =
+    rw (h.same_scope, h.same_outputs, h.same_relation) refl in
     ap arms_of (h.solved.arms_are ∙ same)
 
 -- what is written for it
-pub pre_of : (q : Question) (s : SolvedChoose) (needs : ArmTrees) (old new printed : List ℕ) → IsSolved q s → needs ≡ all_needs (arm_trees s.solved.arms.items) →
-    IsPrecondition s.solved.scope.items s.solved.outputs.items (rel_tree s.solved.rel) needs → printed ≡ pre_text s.number s.names.items needs → new ≡ old ++ printed →
+pub pre_of : (q : Question) (s : SolvedChoose) (needs : ArmTrees) (old new printed : List ℕ) → IsSolved q s →
+    needs ≡ all_needs (arm_trees s.solved.arms.items) →
+    IsPrecondition s.solved.scope.items s.solved.outputs.items (rel_tree s.solved.rel) needs → printed ≡ pre_text s.number s.names.items needs →
+    new ≡ old ++ printed →
     (pre : List ℕ) × (new ≡ old ++ pre) × IsPreOf q pre
 pre_of q s needs old new printed h are holds is next =
     let of = h.solved in

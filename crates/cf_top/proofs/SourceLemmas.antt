@@ -16,6 +16,7 @@ use Rattle.cf_program.specs.declared.fault.TypeFault.{TypeFault}
 use Rattle.cf_program.specs.declared.fault.TypeFault.TheVariants as rule
 use Rattle.cf_program.proofs.Kept.{when_is}
 use Rattle.cf_program.proofs.ProgramLaws.{checked_typed}
+use Rattle.cf_build.specs.Built.{IsBuilt}
 use Rattle.cf_build.specs.Questions.{Question, all_questions, by_number, limit_of, IsFirstRefused}
 use Rattle.cf_build.proofs.QuestionLaws.{one_refusal}
 use Rattle.cf_build.proofs.NumberOrder.{ordered_same}
@@ -45,9 +46,10 @@ fails_so (rule.Depth k) r n h = h
 -- the numbers of its chooses differ
 source_distinct : (text : List ℕ) (program : List RawDefTree) (typed : TypedTree) → Spelled IsProgram text program → checked program ≡ Ok typed →
     IsDistinct nat_eq (all_numbers typed.defs)
-source_distinct text program typed s e = (when_is (checked program) typed (checked_typed program (spelled_program program s.0 s.3 (lexes-within s.2.1.1))) e).distinct
+source_distinct text program typed s e =
+    (when_is (checked program) typed (checked_typed program (spelled_program program s.0 s.3 (lexes-within s.2.1.1))) e).distinct
 
-bad_alike : (text : List ℕ) (program : List RawDefTree) (f g : Fault) → Spelled IsProgram text program → IsBadProgram program f → IsBadProgram program g →
+pub bad_alike : (text : List ℕ) (program : List RawDefTree) (f g : Fault) → Spelled IsProgram text program → IsBadProgram program f → IsBadProgram program g →
     fault_status f ≡ fault_status g
 bad_alike text program f g s (broken e h) (broken d i) = let same : e ≡ d = cc in ap rule_status same
 bad_alike text program f g s (broken e h) (refused typed n r i b) = cc
@@ -75,6 +77,11 @@ typed_unrefused : (text : List ℕ) (typed : TypedTree) (f : Fault) → IsTypedS
     IsRefusedSource text f → ⊥
 typed_unrefused text typed f s within h = unrefused IsProgram (program_of 200) IsBadProgram one_law text f s.0 (never_bad s.0 typed s.2 within) h s.1
 
+-- nor is one of which a target is built
+pub built_never_bad : (program : List RawDefTree) (typed : TypedTree) (passes : ℕ) (t : RawTarget) → checked program ≡ Ok typed →
+    IsBuilt typed.defs typed.main passes t → (f : Fault) → IsBadProgram program f → ⊥
+built_never_bad program typed passes t is built f b = never_bad program typed is (λ q m. (built.solved q m).within) f b
+
 pub compiled_unrefused : (passes : ℕ) (text : List ℕ) (t : RawTarget) (f : Fault) → Compiles passes text t → IsRefusedSource text f → ⊥
 compiled_unrefused passes text t f c h = typed_unrefused text c.0 f c.1 (λ q m. (c.2.solved q m).within) h
 
@@ -92,10 +99,13 @@ module _ (Is : Question → List ℕ → Type 0) (within : (q : Question) (text 
   written_unrefused text typed written f s owed h =
       let qs = all_questions typed.defs in
       typed_unrefused text typed f s
-      (λ q m. All-contains IsWithin (by_number qs) q (written_within (by_number qs) written owed) (Contains-permutation qs (by_number qs) q (ordered_same qs) m)) h
+      (λ q m. All-contains IsWithin (by_number qs) q (written_within (by_number qs) written owed)
+      (Contains-permutation qs (by_number qs) q (ordered_same qs) m)) h
 
-pub pres_unrefused : (text : List ℕ) (typed : TypedTree) (pres : List ℕ) (f : Fault) → IsTypedSource text typed → ArePres typed pres → IsRefusedSource text f → ⊥
+pub pres_unrefused : (text : List ℕ) (typed : TypedTree) (pres : List ℕ) (f : Fault) → IsTypedSource text typed → ArePres typed pres → IsRefusedSource text f →
+    ⊥
 pres_unrefused text typed pres f s owed h = written_unrefused IsPreOf (λ q t p. p.within) text typed pres f s owed h
 
-pub checks_unrefused : (text : List ℕ) (typed : TypedTree) (checks : List ℕ) (f : Fault) → IsTypedSource text typed → AreChecks typed checks → IsRefusedSource text f → ⊥
+pub checks_unrefused : (text : List ℕ) (typed : TypedTree) (checks : List ℕ) (f : Fault) → IsTypedSource text typed → AreChecks typed checks →
+    IsRefusedSource text f → ⊥
 checks_unrefused text typed checks f s owed h = written_unrefused (IsCheckOf (all_matches typed.defs)) (λ q t p. p.within) text typed checks f s owed h

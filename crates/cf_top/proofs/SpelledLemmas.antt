@@ -86,7 +86,8 @@ pattern_keeps parts constant = record { keeps = pattern_on parts constant }
 param_keeps : (x : Param) → Keeps (SpellsParam x) (Unit {0})
 param_keeps x = past (name_keeps x.place x.name) (skip (one _))
 
-as_many_names : (names : List (List ℕ)) (places : List Place) (xs : List (Place × List ℕ)) → names ≡ map (λ x. x.1) xs → places ≡ map (λ x. x.0) xs → 1 ≤ length xs →
+as_many_names : (names : List (List ℕ)) (places : List Place) (xs : List (Place × List ℕ)) → names ≡ map (λ x. x.1) xs → places ≡ map (λ x. x.0) xs →
+    1 ≤ length xs →
     (1 ≤ length names) × (length places ≡ length names)
 as_many_names names places xs e f some =
     let many : length names ≡ length xs = ap length e ∙ length-map xs (λ x. x.1) in

@@ -11,5 +11,5 @@ line_of_1 : sum_line (1 * 1) (gen_sum 1) ≡ codes "lines 1 sum -96\n"
 unfolding digits
 line_of_1 = refl
 
-pub owed_of_1 : (passes : List Told) (ls : List (List ℕ)) (text : List ℕ) → Owes (gen 1) [] passes ls text → text ≡ codes "lines 1 sum -96\n"
-owed_of_1 passes ls text o = sums_are 1 passes ls text (omega arith) (omega arith) o ∙ line_of_1
+pub owed_of_1 : (given passes : List Told) (ls : List (List ℕ)) (text : List ℕ) → Owes (gen 1) [] given passes ls text → text ≡ codes "lines 1 sum -96\n"
+owed_of_1 given passes ls text o = sums_are 1 given passes ls text (omega arith) (omega arith) o ∙ line_of_1

@@ -69,6 +69,7 @@ line_more t all rest line more sum next z is adds next_is h s a =
     subst (AddUp t (lines all)) (sym (+ℤ_assoc sum z s) ∙ ap (λ v. v +ℤ s) (sym next_is)) (h (z +ℤ s) here)
 
 -- no line more
-pub line_end : (t : RawTarget) (all rest : List ℕ) (sum : ℤ) → length rest ≤ 0 → ((s : ℤ) → AddUp t (lines rest) s → AddUp t (lines all) (sum +ℤ s)) → AddUp t (lines all) sum
+pub line_end : (t : RawTarget) (all rest : List ℕ) (sum : ℤ) → length rest ≤ 0 → ((s : ℤ) → AddUp t (lines rest) s → AddUp t (lines all) (sum +ℤ s)) →
+    AddUp t (lines all) sum
 line_end t all [] sum none h = subst (AddUp t (lines all)) (+ℤ_idr sum) (h (pos 0) refl)
 line_end t all (b ∷ rest) sum none h = absurd (omega (arith, none))

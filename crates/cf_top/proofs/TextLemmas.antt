@@ -16,12 +16,13 @@ use Rattle.cf_program.specs.CheckAnswers.{CheckFault}
 use Rattle.cf_build.specs.Questions.{all_questions, IsFirstRefused}
 use Rattle.cf_top.specs.Refusals.{no_tree, bad_tree, broken, refused, untyped, IsRefusedSource, IsRefusedTarget}
 use Rattle.cf_top.specs.Sources.{HasTokens, Spelled, IsTypedSource, IsTypedTree}
+use Rattle.cf_top.specs.Steps.{IsMisspelled}
 use Rattle.cf_top.specs.declared.fault.Fault.TheVariants as fault
 use Rattle.cf_top.proofs.SourceLemmas.{fails_so}
 
 pub no_source : (text : List ℕ) (ts : List Token) (end p : Place) → HasTokens text ts end at_end → ((x : List RawDefTree) → IsProgram x ts → ⊥) →
     IsFaultPlace SomeProgram ts end p →
-    IsFaultPlaceOf (program_of 200) ts end p → IsRefusedSource text (fault.Syntax p)
+    IsFaultPlaceOf (program_of 200) ts end p → IsMisspelled text (fault.Syntax p)
 no_source text ts end p h none dead exact = no_tree ts end p h none (record { dead = dead; exact = exact })
 
 pub no_target : (text : List ℕ) (ts : List Token) (end p : Place) → HasTokens text ts end at_end → ((x : TargetTree) → IsTarget x ts → ⊥) →

@@ -19,13 +19,14 @@ use Rattle.cf_top.specs.declared.fault.Fault.TheVariants as fault
 use Rattle.cf_top.specs.declared.status.Status.{Status}
 use Rattle.cf_top.specs.declared.status.Status.TheVariants.{Done, Usage, File, Input, Output, InputLong, NoMemory}
 use Rattle.cf_top.proofs.CountLemmas.{rose_once}
+use Rattle.cf_top.proofs.RunLemmas.{runs_alike, run_unrefused}
 use Rattle.cf_top.proofs.SourceLemmas.{sources_alike, compiled_unrefused, pres_unrefused, checks_unrefused}
 use Rattle.cf_top.proofs.TargetLemmas.{targets_alike, typed_unrefused}
 
 -- a command is refused for faults of one status
 refused_alike : (command : Command) (files : List (List ℕ)) (f g : Fault) → Refuses command files f → Refuses command files g → fault_status f ≡ fault_status g
 refused_alike (compile flags name) (text ∷ []) f g h i = sources_alike text f g h i
-refused_alike (run flags name) (text ∷ []) f g h i = sources_alike text f g h i
+refused_alike (run flags name) (text ∷ []) f g h i = runs_alike text f g h i
 refused_alike (pre name) (text ∷ []) f g h i = sources_alike text f g h i
 refused_alike (check name) (text ∷ []) f g h i = sources_alike text f g h i
 refused_alike (exec name) (text ∷ []) f g h i = targets_alike text f g h i
@@ -33,15 +34,16 @@ refused_alike (gen n) [] f g h i = sources_alike (gen_source n) f g h i
 refused_alike command files f g h i = absurd h
 
 -- a command that owes something is not refused
-owed_accepted : (command : Command) (files : List (List ℕ)) (passes : List Told) (ls : List (List ℕ)) (text : List ℕ) → Owes command files passes ls text →
+owed_accepted : (command : Command) (files : List (List ℕ)) (given passes : List Told) (ls : List (List ℕ)) (text : List ℕ) →
+    Owes command files given passes ls text →
     IsAccepted command files
-owed_accepted (compile flags name) (file ∷ []) passes ls text h = λ f r. compiled_unrefused (applied (compile flags name) passes) file h.0 f h.1 r
-owed_accepted (run flags name) (file ∷ []) passes ls text h = λ f r. compiled_unrefused (applied (run flags name) passes) file h.0 f h.1 r
-owed_accepted (pre name) (file ∷ []) passes ls text h = λ f r. pres_unrefused file h.0 text f h.1 h.2 r
-owed_accepted (check name) (file ∷ []) passes ls text h = λ f r. checks_unrefused file h.0 text f h.1 h.2 r
-owed_accepted (exec name) (file ∷ []) passes ls text h = λ f r. typed_unrefused file (target_tree h.0) f h.1 r
-owed_accepted (gen n) [] passes ls text h = λ f r. compiled_unrefused (applied (gen n) passes) (gen_source n) h.0 f h.1 r
-owed_accepted command files passes ls text h = absurd h
+owed_accepted (compile flags name) (file ∷ []) given passes ls text h = λ f r. compiled_unrefused (applied (compile flags name) passes) file h.0 f h.1 r
+owed_accepted (run flags name) (file ∷ []) given passes ls text h = λ f r. run_unrefused (applied (run flags name) passes) file given passes ls text f h r
+owed_accepted (pre name) (file ∷ []) given passes ls text h = λ f r. pres_unrefused file h.0 text f h.1 h.2 r
+owed_accepted (check name) (file ∷ []) given passes ls text h = λ f r. checks_unrefused file h.0 text f h.1 h.2 r
+owed_accepted (exec name) (file ∷ []) given passes ls text h = λ f r. typed_unrefused file (target_tree h.0) f h.1 r
+owed_accepted (gen n) [] given passes ls text h = λ f r. compiled_unrefused (applied (gen n) passes) (gen_source n) h.0 f h.1 r
+owed_accepted command files given passes ls text h = absurd h
 
 -- the texts are those that are told
 texts_same : (texts : List ℕ → Option (List ℕ)) (names files other : List (List ℕ)) → map texts names ≡ map Some files → AreTexts texts names other →
@@ -86,9 +88,10 @@ data Settled (command : Command) (files : List (List ℕ)) (input : Option (List
   finished : IsAccepted command files → (IsLong (reads_input command) input → ⊥) → status ≡ Done → Settled command files input status
   overlong : IsAccepted command files → (IsShort (reads_input command) input → ⊥) → status ≡ InputLong → Settled command files input status
 
-wrote_accepted : (job : Job) (before after : Streams) (Took : Option (List ℕ) → Option (List ℕ) → List ℕ → Type 0) (front : List ℕ) (ls : List (List ℕ)) (end : List ℕ) →
+wrote_accepted : (job : Job) (before after : Streams) (Took : Option (List ℕ) → Option (List ℕ) → List ℕ → Type 0) (front : List ℕ) (ls : List (List ℕ))
+    (end : List ℕ) →
     Wrote job before after Took front ls end → IsAccepted job.command job.files
-wrote_accepted job before after Took front ls end w = owed_accepted job.command job.files job.passes ls w.text w.owed
+wrote_accepted job before after Took front ls end w = owed_accepted job.command job.files job.given job.passes ls w.text w.owed
 
 settled_by : (job : Job) (before after : Streams) (status : Status) (answer : Result (Unit {0}) Fault) → Ends job before after answer →
     status ≡ status_of answer → (status ≡ File → ⊥) →
@@ -134,7 +137,13 @@ when_long command files input status (overlong b n is) a ni nout long = inl is
 
 completed : (command : Command) (files : List (List ℕ)) (input : Option (List ℕ)) (status : Status) → Settled command files input status →
     IsComplete command files input status
-completed command files input status s = record { refused = when_refused command files input status s; done = when_short command files input status s; too_long = when_long command files input status s }
+completed command files input status s =
+    record {
+      refused = when_refused command files input status s;
+      done = when_short command files input status s;
+      too_long =
+          when_long command files input status s;
+    }
 
 does_complete : (c : Command) (given : List Told) (before after : Outside) (status : Status) (answer : Result (Unit {0}) Fault) →
     Does c given before after answer → status ≡ status_of answer →
@@ -142,7 +151,8 @@ does_complete : (c : Command) (given : List Told) (before after : Outside) (stat
 does_complete c given before after status answer d is files told nf =
     let same : d.files ≡ files = texts_same before.texts (names_of c) files d.files told d.told in
     subst (λ v. IsComplete c v before.input status) same
-    (completed c d.files before.input status (settled_by (record { command = c; files = d.files; passes = d.passes }) (streams_of before) (streams_of after) status answer d.ends is nf))
+    (completed c d.files before.input status
+    (settled_by (record { command = c; files = d.files; given = given; passes = d.passes }) (streams_of before) (streams_of after) status answer d.ends is nf))
 
 pub completes : (command : Option Command) (given : List Told) (before after : Outside) (errors_before errors_after : Errors) (status : Status) →
     TopAnswer command given before after errors_before errors_after status → IfSome command (λ c. Completes c before status)

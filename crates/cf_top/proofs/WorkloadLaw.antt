@@ -52,4 +52,4 @@ sum_is n passes typed sum l h spelled is =
     (λ a near. workload_picks (coefficients n) typed.defs typed.main a (omega arith) (omega arith) near (coefficients_are n 1 n) w.0) is
 
 pub sums_are : SumsAreOfQuotients
-sums_are n passes ls text l h o = o.6 ∙ ap (sum_line (n * n)) (sum_is n (applied (gen n) passes) o.2 o.4 l h o.3 o.5)
+sums_are n given passes ls text l h o = o.6 ∙ ap (sum_line (n * n)) (sum_is n (applied (gen n) passes) o.2 o.4 l h o.3 o.5)

@@ -18,10 +18,11 @@ use Rattle.cf_tree.specs.Typing.{one}
 use Rattle.cf_tree.proofs.SetLemmas.{on_bool}
 use Rattle.cf_program.specs.declared.fault.TypeFault.{TypeFault}
 use Rattle.cf_program.specs.declared.fault.TypeFault.TheVariants.{DuplicateName, Mismatch, WrongCount, CallsLater}
+use Rattle.cf_program.specs.declared.linearity.Linearity.TheVariants.{Plain}
 use Rattle.cf_program.specs.Checked.{TypedTree, def_form, walk_def, walk_defs, main_from, sized, checked}
 use Rattle.cf_program.specs.Names.{Callee, bases_of, is_among, callee, callee_from}
 use Rattle.cf_program.specs.Reading.{Reading, relation, term, not_linear, not_linear_at, binary_reading}
-use Rattle.cf_program.specs.Walk.{◌>>=◌, where_kept, where_no_fault, Form, Forms, are_asked, sides_fit, side_of, binary_form, call_form, walk}
+use Rattle.cf_program.specs.Walk.{◌>>=◌, where_kept, where_no_fault, Form, Forms, are_asked, sides_fit, side_of, binary_form, call_form, Context, in_body, walk}
 use Rattle.cf_lex.specs.Digits.{digits_value}
 use Rattle.cf_emit.proofs.Numerals.{decimal_read}
 use Rattle.cf_top.proofs.WorkloadShapes.{Shape, IsName, IsLit, IsBoth, number_at, IsEqual, IsRelation, IsChoose, IsBody, function_name, IsCall, AreCalls, IsDef, AreDefs}
@@ -49,15 +50,19 @@ ok_is x y e = cc
 
 -- ---- the body of a function
 module _ (calls : List ℕ → Option Callee) where
+  abbrev context : Context
+  context = in_body Plain calls
+
   -- a form of one number, and of one truth value
   abbrev Number : List Param → ℕ → RawTree → ExprTree → Reading → Type 0
-  Number scope n t tree reading = walk calls scope n t ≡ Ok (record { bases = one Int; tree = tree; reading = reading; next = n })
+  Number scope n t tree reading = walk context scope n t ≡ Ok (record { bases = one Int; tree = tree; reading = reading; next = n })
 
   abbrev TruthIs : List Param → ℕ → RawTree → ExprTree → RelTree → Type 0
-  TruthIs scope n t tree rel = walk calls scope n t ≡ Ok (record { bases = one Truth; tree = tree; reading = relation rel; next = n })
+  TruthIs scope n t tree rel = walk context scope n t ≡ Ok (record { bases = one Truth; tree = tree; reading = relation rel; next = n })
 
-  both : (scope : List Param) (n : ℕ) (p : Place) (op : BinOp) (a b : RawTree) (f g : Form) → walk calls scope n a ≡ Ok f → walk calls scope f.next b ≡ Ok g →
-      walk calls scope n (raw_binary p op a b) ≡ binary_form p op f g
+  both : (scope : List Param) (n : ℕ) (p : Place) (op : BinOp) (a b : RawTree) (f g : Form) → walk context scope n a ≡ Ok f →
+      walk context scope f.next b ≡ Ok g →
+      walk context scope n (raw_binary p op a b) ≡ binary_form 0 p op f g
   both scope n p op a b f g e k = rw (e, k) refl
 
   module _ (a q r : Place) where
@@ -123,7 +128,7 @@ module _ (calls : List ℕ → Option Callee) where
 
   -- the choose
   choose_walks : (a : Place) (c n : ℕ) (t : RawTree) → IsChoose c t → (p : Place) ×
-      (walk calls (number_at a (codes "a") ∷ []) n t
+      (walk context (number_at a (codes "a") ∷ []) n t
       ≡ Ok (record {
         bases = Int ∷ Int ∷ [];
         tree = expr_choose n (number_at a (codes "a") ∷ []) (Int ∷ Int ∷ []) (function_rel c);
@@ -135,7 +140,7 @@ module _ (calls : List ℕ → Option Callee) where
 
   -- the body
   body_walks : (a : Place) (c n : ℕ) (t : RawTree) → IsBody c t → (p : Place) ×
-      (walk calls (number_at a (codes "a") ∷ []) n t
+      (walk context (number_at a (codes "a") ∷ []) n t
       ≡ Ok (record {
         bases = one Int;
         tree = expr_let 2 (expr_choose n (number_at a (codes "a") ∷ []) (Int ∷ Int ∷ []) (function_rel c)) (expr_binary Add (expr_var 1) (expr_var 2));
@@ -155,14 +160,14 @@ module _ (calls : List ℕ → Option Callee) where
   abbrev arguments : ℕ → Forms
   arguments n = record { bases = one Int ∷ []; trees = expr_var 0 ∷ []; first_nonlinear = None; next = n }
 
-  call_is : (a p q : Place) (x : List ℕ) (n : ℕ) → walk calls (number_at a (codes "a") ∷ []) n (raw_call p x (raw_more (raw_name q (codes "a")) no_raws))
+  call_is : (a p q : Place) (x : List ℕ) (n : ℕ) → walk context (number_at a (codes "a") ∷ []) n (raw_call p x (raw_more (raw_name q (codes "a")) no_raws))
       ≡ call_form p (calls x) (arguments n)
   call_is a p q x n = refl
 
-  call_walks : (a : Place) (i n : ℕ) (t : RawTree) (f : Form) → IsCall (i + 1) t → Finds i → walk calls (number_at a (codes "a") ∷ []) n t ≡ Ok f → f.tree
+  call_walks : (a : Place) (i n : ℕ) (t : RawTree) (f : Form) → IsCall (i + 1) t → Finds i → walk context (number_at a (codes "a") ∷ []) n t ≡ Ok f → f.tree
       ≡ call_of i
   call_walks a i n t f h found e =
-      let s : walk calls (number_at a (codes "a") ∷ []) n (raw_call h.0 (function_name (i + 1)) (raw_more (raw_name h.1 (codes "a")) no_raws)) ≡ Ok f =
+      let s : walk context (number_at a (codes "a") ∷ []) n (raw_call h.0 (function_name (i + 1)) (raw_more (raw_name h.1 (codes "a")) no_raws)) ≡ Ok f =
       rw h.2 at e in
       let k : call_form h.0 (Some found.0) (arguments n) ≡ Ok f = subst (λ o. call_form h.0 o (arguments n) ≡ Ok f) found.1 s in
       let made : Form = record { bases = found.0.results; tree = call_of found.0.number; reading = not_linear_at None h.0; next = n } in
@@ -170,17 +175,17 @@ module _ (calls : List ℕ → Option Callee) where
       (WrongCount h.0) (Mismatch h.0) (CallsLater h.0) (Ok made) f k in
       sym (ap (λ x. x.tree) {x = made} (ok_is made f g)) ∙ ap (λ j. call_of j) found.2
 
-  calls_walk : (a : Place) (m n : ℕ) (t : RawTree) (f : Form) → AreCalls m t → ((i : ℕ) → i ≤ m → Finds i) → walk calls (number_at a (codes "a") ∷ []) n t
+  calls_walk : (a : Place) (m n : ℕ) (t : RawTree) (f : Form) → AreCalls m t → ((i : ℕ) → i ≤ m → Finds i) → walk context (number_at a (codes "a") ∷ []) n t
       ≡ Ok f → f.tree ≡ calls_of m
   calls_walk a zero n t f h each e = call_walks a 0 n t f h (each 0 (omega arith)) e
   calls_walk a (suc m) n t f h each e =
-      let s : walk calls (number_at a (codes "a") ∷ []) n (raw_binary h.0 Add h.1 h.2) ≡ Ok f = rw h.5 at e in
-      let x = then_ok (walk calls (number_at a (codes "a") ∷ []) n h.1) _ f s in
-      let y = then_ok (walk calls (number_at a (codes "a") ∷ []) x.0.next h.2) _ f x.2 in
+      let s : walk context (number_at a (codes "a") ∷ []) n (raw_binary h.0 Add h.1 h.2) ≡ Ok f = rw h.5 at e in
+      let x = then_ok (walk context (number_at a (codes "a") ∷ []) n h.1) _ f s in
+      let y = then_ok (walk context (number_at a (codes "a") ∷ []) x.0.next h.2) _ f x.2 in
       let made : Form = record {
         bases = one Int;
         tree = expr_binary Add x.0.tree y.0.tree;
-        reading = binary_reading Add h.0 x.0.reading y.0.reading;
+        reading = binary_reading 0 Add h.0 x.0.reading y.0.reading;
         next = y.0.next;
       } in
       let g = kept_ok (sides_fit (side_of Add) x.0.bases y.0.bases) (Mismatch h.0) (Ok made) f y.2 in
@@ -237,19 +242,21 @@ module _ (m : ℕ) where
   abbrev def_of : Place → Place → List ℕ → RawTree → RawDefTree
   def_of p a x t = record { place = p; name = x; params = number_at a (codes "a") ∷ []; results = Int ∷ []; body = t }
 
-  def_goes : (all before : List RawDefTree) (n : ℕ) (p a : Place) (x : List ℕ) (t : RawTree) (r : DefTree × ℕ) → walk_def all before n (def_of p a x t) ≡ Ok r →
-      walk (callee_from (length before) 0 all) (number_at a (codes "a") ∷ []) n t >>= ended (def_of p a x t) ≡ Ok r
+  def_goes : (all before : List RawDefTree) (n : ℕ) (p a : Place) (x : List ℕ) (t : RawTree) (r : DefTree × ℕ) →
+      walk_def Plain all before n (def_of p a x t) ≡ Ok r →
+      walk (in_body Plain (callee_from (length before) 0 all)) (number_at a (codes "a") ∷ []) n t >>= ended (def_of p a x t) ≡ Ok r
   def_goes all before n p a x t r e =
-      kept_ok (not (is_among (map (λ f. f.name) before) x)) (DuplicateName p) (walk (callee_from (length before) 0 all) (number_at a (codes "a") ∷ []) n t >>=
+      kept_ok (not (is_among (map (λ f. f.name) before) x)) (DuplicateName p)
+      (walk (in_body Plain (callee_from (length before) 0 all)) (number_at a (codes "a") ∷ []) n t >>=
       ended (def_of p a x t)) r e
 
   def_ends : (d : RawDefTree) (f : Form) (r : DefTree × ℕ) → ended d f ≡ Ok r → r ≡ (def_form d f, f.next)
   def_ends d f r e = sym (ok_is (def_form d f, f.next) r (kept_ok (same_bases f.bases d.results) (Mismatch (place_of d.body)) (Ok (def_form d f, f.next)) r e))
 
-  def_walks : (all before : List RawDefTree) (n c : ℕ) (x : List ℕ) (d : RawDefTree) (r : DefTree × ℕ) → IsDef x (IsBody c) d → walk_def all before n d
+  def_walks : (all before : List RawDefTree) (n c : ℕ) (x : List ℕ) (d : RawDefTree) (r : DefTree × ℕ) → IsDef x (IsBody c) d → walk_def Plain all before n d
       ≡ Ok r → IsFunction c r.0.body × TakesOne r.0
   def_walks all before n c x d r h e =
-      let s = def_goes all before n h.0 h.1 x h.2 r (subst (λ y. walk_def all before n y ≡ Ok r) h.4 e) in
+      let s = def_goes all before n h.0 h.1 x h.2 r (subst (λ y. walk_def Plain all before n y ≡ Ok r) h.4 e) in
       let w = body_walks (callee_from (length before) 0 all) h.1 c n h.2 h.3 in
       let f : Form = record {
         bases = one Int;
@@ -261,27 +268,28 @@ module _ (m : ℕ) where
       ((n, number_at h.1 (codes "a") ∷ [], refl, ap (λ y. y.0.body) g), ap (λ y. bases_of y.0.params) g)
 
   main_walks : (all before : List RawDefTree) (n : ℕ) (d : RawDefTree) (r : DefTree × ℕ) → IsDef (codes "main") (AreCalls m) d →
-      ((i : ℕ) → i ≤ m → Finds (callee_from (length before) 0 all) i) → walk_def all before n d ≡ Ok r → (r.0.body ≡ calls_of m) × TakesOne r.0
+      ((i : ℕ) → i ≤ m → Finds (callee_from (length before) 0 all) i) → walk_def Plain all before n d ≡ Ok r → (r.0.body ≡ calls_of m) × TakesOne r.0
   main_walks all before n d r h each e =
-      let s = def_goes all before n h.0 h.1 (codes "main") h.2 r (subst (λ y. walk_def all before n y ≡ Ok r) h.4 e) in
-      let w = then_ok (walk (callee_from (length before) 0 all) (number_at h.1 (codes "a") ∷ []) n h.2) (ended (def_of h.0 h.1 (codes "main") h.2)) r s in
+      let s = def_goes all before n h.0 h.1 (codes "main") h.2 r (subst (λ y. walk_def Plain all before n y ≡ Ok r) h.4 e) in
+      let w = then_ok (walk (in_body Plain (callee_from (length before) 0 all)) (number_at h.1 (codes "a") ∷ []) n h.2)
+      (ended (def_of h.0 h.1 (codes "main") h.2)) r s in
       let g = def_ends (def_of h.0 h.1 (codes "main") h.2) w.0 r w.2 in (
         ap (λ y. y.0.body) g ∙ calls_walk (callee_from (length before) 0 all) h.1 m n h.2 w.0 h.3 each w.1,
         ap (λ y. bases_of y.0.params) g,
       )
 
   defs_walk : (all before : List RawDefTree) (done : List DefTree) (n k : ℕ) (cs : List ℕ) (ds : List RawDefTree) (defs : List DefTree) → AreDefs m k cs ds →
-      ((b : List RawDefTree) (i : ℕ) → i ≤ m → Finds (callee_from (length b) 0 all) i) → walk_defs all before done n ds ≡ Ok defs →
+      ((b : List RawDefTree) (i : ℕ) → i ≤ m → Finds (callee_from (length b) 0 all) i) → walk_defs Plain all before done n ds ≡ Ok defs →
       (gs : List DefTree) × (defs ≡ done ++ gs) × AreTyped cs gs
   defs_walk all before done n k [] [] defs are each e = absurd are
   defs_walk all before done n k (c ∷ cs) [] defs are each e = absurd are
   defs_walk all before done n k [] (d ∷ ds) defs are each e =
-      let s : walk_defs all before done n (d ∷ []) ≡ Ok defs = subst (λ ds'. walk_defs all before done n (d ∷ ds') ≡ Ok defs) are.1 e in
-      let r = then_ok (walk_def all before n d) (λ x. walk_defs all (before ++ d ∷ []) (done ++ x.0 ∷ []) x.1 []) defs s in
+      let s : walk_defs Plain all before done n (d ∷ []) ≡ Ok defs = subst (λ ds'. walk_defs Plain all before done n (d ∷ ds') ≡ Ok defs) are.1 e in
+      let r = then_ok (walk_def Plain all before n d) (λ x. walk_defs Plain all (before ++ d ∷ []) (done ++ x.0 ∷ []) x.1 []) defs s in
       let w = main_walks all before n d r.0 are.0 (each before) r.1 in
       (r.0.0 ∷ [], sym (ok_is (done ++ r.0.0 ∷ []) defs r.2), (w.0, w.1, refl))
   defs_walk all before done n k (c ∷ cs) (d ∷ ds) defs are each e =
-      let r = then_ok (walk_def all before n d) _ defs e in
+      let r = then_ok (walk_def Plain all before n d) _ defs e in
       let w = def_walks all before n c (function_name k) d r.0 are.0 r.1 in
       let more = defs_walk all (before ++ d ∷ []) (done ++ r.0.0 ∷ []) r.0.1 (k + 1) cs ds defs are.1 each r.2 in
       (r.0.0 ∷ more.0, more.1 ∙ append_assoc done (r.0.0 ∷ []) more.0, (w.0, w.1, more.2))
@@ -313,7 +321,7 @@ pub workload_typed : (cs : List ℕ) (ds : List RawDefTree) (typed : TypedTree) 
     IsWorkload cs (map (λ d. d.body) typed.defs) typed.main × (get_or (map (λ d. bases_of d.params) typed.defs) typed.main [] ≡ one Int)
 workload_typed cs ds typed l small are e =
     let m = length cs - 1 in
-    let r = then_ok (walk_defs ds [] [] 1 ds) _ typed e in
+    let r = then_ok (walk_defs Plain ds [] [] 1 ds) _ typed e in
     let each : (b : List RawDefTree) (i : ℕ) → i ≤ m → Finds (callee_from (length b) 0 ds) i = λ b i k.
     let f = found_at m (length b) 0 1 cs ds are (omega arith) i (omega arith) in
     let s : 1 + i ≡ i + 1 = omega arith in

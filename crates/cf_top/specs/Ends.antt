@@ -43,17 +43,19 @@ pub record Streams : Type 0 where
 abbrev pub streams_of : Outside → Streams
 streams_of o = record { input = o.input; out = o.out }
 
--- what there was to do: a command on files of these texts, with passes that tell this last
+-- what there was to do: a command on files of these texts, with passes that told this before, and tell this last
 pub record Job : Type 0 where
   pub command : Command
   pub files : List (List ℕ)
+  pub given : List Told
   pub passes : List Told
 
 -- so much of the input was read, and `out` took what is owed for these lines and then `end`, as far as Took says
-pub record Wrote (job : Job) (before after : Streams) (Took : Option (List ℕ) → Option (List ℕ) → List ℕ → Type 0) (front : List ℕ) (ls : List (List ℕ)) (end : List ℕ) : Type 0 where
+pub record Wrote (job : Job) (before after : Streams) (Took : Option (List ℕ) → Option (List ℕ) → List ℕ → Type 0) (front : List ℕ) (ls : List (List ℕ))
+    (end : List ℕ) : Type 0 where
   pub text : List ℕ
   pub read : Reads (reads_input job.command) before.input after.input front
-  pub owed : Owes job.command job.files job.passes ls text
+  pub owed : Owes job.command job.files job.given job.passes ls text
   pub took : Took before.out after.out (text ++ end)
 
 -- what a command that is done writes behind all else
@@ -64,17 +66,20 @@ closing_of job = closing job.command job.passes
 abbrev pub IsStopped : Job → Streams → Streams → Type 0
 IsStopped job before after =
     (front : List ℕ) × (rest : List ℕ) × AreTold after.input rest
-    × Wrote job before after TookPrefix front (answered_lines (input_for job.command (front ++ rest))) (behind_lines (input_for job.command (front ++ rest)) (closing_of job))
+    × Wrote job before after TookPrefix front (answered_lines (input_for job.command (front ++ rest)))
+    (behind_lines (input_for job.command (front ++ rest)) (closing_of job))
 
 -- Done: all was read, and all that is owed was written. The input failed: the lines were answered whose line feed was read. The input is too long: those
 -- were whose line feed stands within the limit. `out` failed, or memory ran out: a prefix was written of what is owed. The file failed, or is refused:
 -- nothing was written.
 abbrev pub Ends : Job → Streams → Streams → Result (Unit {0}) Fault → Type 0
 Ends job before after (Ok done) =
-    (front : List ℕ) × IsReadUp (reads_input job.command) after.input × (length front ≤ input_limit) × Wrote job before after Appends front (lines front) (closing_of job)
+    (front : List ℕ) × IsReadUp (reads_input job.command) after.input × (length front ≤ input_limit) × Wrote job before after Appends front (lines front)
+    (closing_of job)
 Ends job before after (Err fault.Input) =
     (front : List ℕ) × (reads_input job.command ≡ true) × (length front ≤ input_limit) × Wrote job before after Appends front (ended front) []
-Ends job before after (Err fault.InputTooLong) = (front : List ℕ) × (input_limit < length front) × Wrote job before after Appends front (ended (take input_limit front)) []
+Ends job before after (Err fault.InputTooLong) =
+    (front : List ℕ) × (input_limit < length front) × Wrote job before after Appends front (ended (take input_limit front)) []
 Ends job before after (Err fault.Output) = IsStopped job before after
 Ends job before after (Err fault.NoMemory) = IsStopped job before after ⊎ (after.out ≡ before.out)
 Ends job before after (Err fault.File) = after.out ≡ before.out
@@ -87,7 +92,7 @@ pub record Does (command : Command) (given : List Told) (before after : Outside)
   pub told : AreTexts before.texts (names_of command) files
   pub passes : List Told
   pub passed : ArePassed (calls_passes command) given passes
-  pub ends : Ends (record { command = command; files = files; passes = passes }) (streams_of before) (streams_of after) answer
+  pub ends : Ends (record { command = command; files = files; given = given; passes = passes }) (streams_of before) (streams_of after) answer
   pub blames : Blames (names_of command) before after answer
   pub frugal : IsFrugal (names_of command) before after
 

@@ -2,6 +2,7 @@ pub mod Checking
 pub mod Checks
 pub mod Commands
 pub mod Ends
+pub mod LateReplies
 pub mod Limits
 pub mod Outside
 pub mod Owed

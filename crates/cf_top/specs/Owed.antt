@@ -16,17 +16,20 @@ use Rattle.cf_emit.specs.ReadsBack.{ReadsBack}
 use Rattle.cf_eval.specs.Replies.{IsReply}
 use Rattle.cf_words.specs.Commands.{Command, compile, run, pre, check, exec, gen}
 use Rattle.cf_top.specs.Checks.{IsCheckOf}
+use Rattle.cf_top.specs.LateReplies.{IsLateReply, AreRunsAllowed}
 use Rattle.cf_top.specs.Passes.{Told, applied}
 use Rattle.cf_top.specs.Picked.{IsSourceReply, adds}
-use Rattle.cf_top.specs.Sources.{Compiles, IsTypedSource, IsTypedTarget}
+use Rattle.cf_top.specs.Sources.{Compiles, IsTypedSource, IsLateSource, IsTypedTarget}
 
--- what answers the lines of the input
+-- what answers the lines of the input: a target, or a late program
 pub data Answerer : Type 0 where
   by_target : RawTarget → Answerer
+  by_late : TypedTree → Answerer
 
 -- the reply to a line
 abbrev pub IsReplyBy : Answerer → List ℕ → List ℕ → Type 0
 IsReplyBy (by_target t) line reply = IsReply line_limit (2 ^ 127 - 1) t line reply
+IsReplyBy (by_late typed) line reply = IsLateReply typed line reply
 
 -- the replies to lines, each with a line feed, where Is says which text replies to a line
 abbrev pub AllReplied : (List ℕ → List ℕ → Type 0) → List (List ℕ) → List ℕ → Type 0
@@ -39,6 +42,14 @@ AreReplies a ls text = AllReplied (IsReplyBy a) ls text
 -- the replies that the program of a source picks, where so many passes have rewritten it
 abbrev pub ArePicked : ℕ → List ℕ → List (List ℕ) → List ℕ → Type 0
 ArePicked passes source ls text = (typed : TypedTree) × IsTypedSource source typed × AllReplied (IsSourceReply typed passes) ls text
+
+-- What `run` is to write on a source, with passes that told `given` before and tell `last`: the replies of the target that it is compiled to by so many
+-- passes, which its program picks; or the replies of its late program, with no pass called.
+pub data OwesRun (passes : ℕ) (source : List ℕ) (given last : List Told) (ls : List (List ℕ)) (text : List ℕ) : Type 0 where
+  compiled : (t : RawTarget) → Compiles passes source t → AreReplies (by_target t) ls text → ArePicked passes source ls text →
+      OwesRun passes source given last ls text
+  late : (typed : TypedTree) → IsLateSource source typed → AreReplies (by_late typed) ls text → AreRunsAllowed typed → last ≡ given →
+      OwesRun passes source given last ls text
 
 -- the printed target, which reads back to this target alone
 pub record IsPrinted (t : RawTarget) (text : List ℕ) : Type 0 where
@@ -74,16 +85,15 @@ IsSum typed passes (line ∷ ls) sum =
 abbrev pub sum_line : ℕ → ℤ → List ℕ
 sum_line count sum = concat (codes "lines " ∷ decimal count ∷ codes " sum " ∷ signed_decimal sum ∷ codes "\n" ∷ [])
 
--- What a command is to write on files of these texts, with passes that tell this, and these lines of the input. A source's replies are what it
--- picks. A workload has its own source and lines.
-abbrev pub Owes : Command → List (List ℕ) → List Told → List (List ℕ) → List ℕ → Type 0
-Owes (compile flags name) (file ∷ []) passes ls text = (t : RawTarget) × Compiles (applied (compile flags name) passes) file t × IsPrinted t text
-Owes (run flags name) (file ∷ []) passes ls text =
-    (t : RawTarget) × Compiles (applied (run flags name) passes) file t × AreReplies (by_target t) ls text × ArePicked (applied (run flags name) passes) file ls text
-Owes (pre name) (file ∷ []) passes ls text = (typed : TypedTree) × IsTypedSource file typed × ArePres typed text
-Owes (check name) (file ∷ []) passes ls text = (typed : TypedTree) × IsTypedSource file typed × AreChecks typed text
-Owes (exec name) (file ∷ []) passes ls text = (t : RawTarget) × IsTypedTarget file (target_tree t) × AreReplies (by_target t) ls text
-Owes (gen n) [] passes ls text =
-    (t : RawTarget) × Compiles (applied (gen n) passes) (gen_source n) t × (typed : TypedTree) × IsTypedSource (gen_source n) typed
-    × (sum : ℤ) × IsSum typed (applied (gen n) passes) (lines (gen_lines n)) sum × (text ≡ sum_line (n * n) sum)
-Owes command files passes ls text = ⊥
+-- What a command is to write on files of these texts, with passes that told `given` before and tell `last`, and these lines of the input. A source's
+-- replies are what it picks, or what its late program comes to. A workload has its own source and lines.
+abbrev pub Owes : Command → List (List ℕ) → List Told → List Told → List (List ℕ) → List ℕ → Type 0
+Owes (compile flags name) (file ∷ []) given last ls text = (t : RawTarget) × Compiles (applied (compile flags name) last) file t × IsPrinted t text
+Owes (run flags name) (file ∷ []) given last ls text = OwesRun (applied (run flags name) last) file given last ls text
+Owes (pre name) (file ∷ []) given last ls text = (typed : TypedTree) × IsTypedSource file typed × ArePres typed text
+Owes (check name) (file ∷ []) given last ls text = (typed : TypedTree) × IsTypedSource file typed × AreChecks typed text
+Owes (exec name) (file ∷ []) given last ls text = (t : RawTarget) × IsTypedTarget file (target_tree t) × AreReplies (by_target t) ls text
+Owes (gen n) [] given last ls text =
+    (t : RawTarget) × Compiles (applied (gen n) last) (gen_source n) t × (typed : TypedTree) × IsTypedSource (gen_source n) typed
+    × (sum : ℤ) × IsSum typed (applied (gen n) last) (lines (gen_lines n)) sum × (text ≡ sum_line (n * n) sum)
+Owes command files given last ls text = ⊥

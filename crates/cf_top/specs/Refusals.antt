@@ -10,8 +10,10 @@ use Rattle.cf_reader.specs.Readers.{Reader}
 use Rattle.cf_parse.specs.Programs.{IsProgram, program_of}
 use Rattle.cf_target.specs.Spelling.{TargetTree, IsTarget}
 use Rattle.cf_target.specs.Targets.{target_of}
-use Rattle.cf_program.specs.Checked.{TypedTree, checked}
+use Rattle.cf_program.specs.Checked.{TypedTree, checked, checked_by}
+use Rattle.cf_program.specs.declared.linearity.Linearity.TheVariants.{Late}
 use Rattle.cf_program.specs.declared.fault.TypeFault.{TypeFault}
+use Rattle.cf_program.specs.declared.fault.TypeFault.TheVariants.{NotLinear}
 use Rattle.cf_linear.specs.declared.refusal.Refusal.{Refusal}
 use Rattle.cf_build.specs.Questions.{all_questions, IsFirstRefused}
 use Rattle.cf_words.specs.Commands.{Command, compile, run, pre, check, exec, gen}
@@ -41,13 +43,22 @@ pub data IsBadProgram (program : List RawDefTree) : Fault → Type 0 where
   refused : (typed : TypedTree) (n : ℕ) (r : Refusal) → checked program ≡ Ok typed → IsFirstRefused (all_questions typed.defs) n r →
       IsBadProgram program (fault.Choose n r)
 
+-- for which faults `run` refuses it: where the first broken rule is that on linear relations, for the first rule that is broken where the numbers in
+-- scope of a choose are known
+pub data IsBadRun (program : List RawDefTree) : Fault → Type 0 where
+  bad : (f : Fault) → IsBadProgram program f → ((p : Place) → f ≡ fault.Rule (NotLinear p) → ⊥) → IsBadRun program f
+  broken_late : (p : Place) (e : TypeFault) → checked program ≡ Err (NotLinear p) → checked_by Late program ≡ Err e → IsBadRun program (fault.Rule e)
+
 -- for which fault a target is refused
 pub data IsBadTarget (t : TargetTree) : Fault → Type 0 where
   untyped : (IsTypedTree t → ⊥) → IsBadTarget t fault.BadTarget
 
--- the fault for which the text of a source is refused, and that of a target
+-- the fault for which the text of a source is refused, also by `run`, and that of a target
 abbrev pub IsRefusedSource : List ℕ → Fault → Type 0
 IsRefusedSource text f = Causes IsProgram (program_of 200) IsBadProgram text f
+
+abbrev pub IsRefusedRun : List ℕ → Fault → Type 0
+IsRefusedRun text f = Causes IsProgram (program_of 200) IsBadRun text f
 
 abbrev pub IsRefusedTarget : List ℕ → Fault → Type 0
 IsRefusedTarget text f = Causes IsTarget (target_of 500) IsBadTarget text f
@@ -55,7 +66,7 @@ IsRefusedTarget text f = Causes IsTarget (target_of 500) IsBadTarget text f
 -- the fault for which a command is refused on files of these texts, or on a source of its own
 abbrev pub Refuses : Command → List (List ℕ) → Fault → Type 0
 Refuses (compile flags name) (text ∷ []) f = IsRefusedSource text f
-Refuses (run flags name) (text ∷ []) f = IsRefusedSource text f
+Refuses (run flags name) (text ∷ []) f = IsRefusedRun text f
 Refuses (pre name) (text ∷ []) f = IsRefusedSource text f
 Refuses (check name) (text ∷ []) f = IsRefusedSource text f
 Refuses (exec name) (text ∷ []) f = IsRefusedTarget text f

@@ -1,5 +1,5 @@
 -- What a text spells, and the target that a source is compiled to.
-use Rattle.std.specs.Prelude.{◌≡◌, ℕ, ◌-◌, ◌^◌, ◌≤◌, List, length, Ok}
+use Rattle.std.specs.Prelude.{◌≡◌, ℕ, ◌-◌, ◌^◌, ◌≤◌, List, length, Ok, Err}
 use Rattle.cf_lex.specs.declared.token.Token.{Token}
 use Rattle.cf_lex.specs.Tokens.{LexesTo, Ending, at_end}
 use Rattle.cf_tree.specs.declared.base.Place.{Place}
@@ -8,7 +8,9 @@ use Rattle.cf_tree.specs.DefView.{RawDefTree}
 use Rattle.cf_tree.specs.Typing.{IsTypedCode}
 use Rattle.cf_parse.specs.Programs.{IsProgram}
 use Rattle.cf_target.specs.Spelling.{TargetTree, IsTarget}
-use Rattle.cf_program.specs.Checked.{TypedTree, checked}
+use Rattle.cf_program.specs.Checked.{TypedTree, checked, checked_by}
+use Rattle.cf_program.specs.declared.linearity.Linearity.TheVariants.{Late}
+use Rattle.cf_program.specs.declared.fault.TypeFault.TheVariants.{NotLinear}
 use Rattle.cf_build.specs.Built.{IsBuilt}
 use Rattle.cf_top.specs.Limits.{text_limit}
 
@@ -23,6 +25,14 @@ Spelled Is text x = (ts : List Token) × (end : Place) × HasTokens text ts end 
 -- the text spells a program in which no rule is broken; with levels in the place of names it is this one
 abbrev pub IsTypedSource : List ℕ → TypedTree → Type 0
 IsTypedSource text typed = (program : List RawDefTree) × Spelled IsProgram text program × (checked program ≡ Ok typed)
+
+-- a program whose first broken rule is that on linear relations, and which breaks none where the numbers in scope of a choose are known
+abbrev pub IsCheckedLate : List RawDefTree → TypedTree → Type 0
+IsCheckedLate program typed = (p : Place) × (checked program ≡ Err (NotLinear p)) × (checked_by Late program ≡ Ok typed)
+
+-- the text spells a late program; with levels in the place of names it is this one
+abbrev pub IsLateSource : List ℕ → TypedTree → Type 0
+IsLateSource text typed = (program : List RawDefTree) × Spelled IsProgram text program × IsCheckedLate program typed
 
 -- the text spells a program in which no rule is broken, and this target is built of it and rewritten by so many passes
 abbrev pub Compiles : ℕ → List ℕ → RawTarget → Type 0

@@ -12,6 +12,8 @@ use Rattle.cf_tree.specs.declared.target.RawTarget.{RawTarget}
 use Rattle.cf_tree.specs.CodeTree.{CodeTree}
 use Rattle.cf_tree.specs.CodeView.{code_tree}
 use Rattle.cf_tree.specs.Values.{Value, values, no_solution}
+use Rattle.cf_parse.specs.Programs.{IsProgram, program_of}
+use Rattle.cf_program.specs.Typed.{typed_tree}
 use Rattle.cf_eval.specs.Answers.{Answers}
 use Rattle.cf_eval.specs.Seen.{plains}
 use Rattle.cf_eval.specs.Spelling.{SpellsValues}
@@ -21,9 +23,12 @@ use Rattle.cf_words.specs.Commands.{Command}
 use Rattle.cf_top.specs.Commands.{calls_passes}
 use Rattle.cf_top.specs.Ends.{Streams, answered_lines, Ends}
 use Rattle.cf_top.specs.Outside.{AreTold}
-use Rattle.cf_top.specs.Owed.{Answerer, IsReplyBy, AreReplies}
+use Rattle.cf_top.specs.Owed.{Answerer, by_target, by_late, IsReplyBy, AreReplies, OwesRun}
 use Rattle.cf_top.specs.Passes.{Told, ArePassed}
 use Rattle.cf_top.specs.Picked.{outcome_number}
+use Rattle.cf_top.specs.Refusals.{Causes}
+use Rattle.cf_top.specs.declared.answerer.Answerer.{Answerer as DeclaredAnswerer}
+use Rattle.cf_top.specs.declared.answerer.Answerer.TheVariants as answerer
 use Rattle.cf_top.specs.declared.fault.Fault.{Fault}
 use Rattle.cf_top.specs.declared.fault.Fault.TheVariants as fault
 
@@ -31,6 +36,19 @@ use Rattle.cf_top.specs.declared.fault.Fault.TheVariants as fault
 abbrev pub IsVerdict : {A : Type 0} → (A → Type 0) → (Fault → Type 0) → Result A Fault → Type 0
 IsVerdict Good Refused (Ok x) = Good x
 IsVerdict Good Refused (Err f) = Refused f ⊎ (f ≡ fault.NoMemory)
+
+-- what answers lines, as the program keeps it
+abbrev pub answerer_of : DeclaredAnswerer → Answerer
+answerer_of (answerer.Target t) = by_target t
+answerer_of (answerer.Late l) = by_late (typed_tree l)
+
+-- its replies are what `run` owes on a source
+abbrev pub IsRunner : ℕ → List ℕ → List Told → List Told → Answerer → Type 0
+IsRunner passes source given last a = (ls : List (List ℕ)) (text : List ℕ) → AreReplies a ls text → OwesRun passes source given last ls text
+
+-- a source text is refused, whatever rules the program breaks that it spells
+abbrev pub IsMisspelled : List ℕ → Fault → Type 0
+IsMisspelled text f = Causes IsProgram (program_of 200) (λ x f. ⊥) text f
 
 -- the reply to a line as it is cut
 abbrev pub IsLineReply : Answerer → Line → List ℕ → Type 0
@@ -101,7 +119,7 @@ pub data RunsThrough (a : Answerer) (end : List ℕ) (left still_left old new : 
 pub record AnswersOn (command : Command) (given : List Told) (files : List (List ℕ)) (before after : Streams) (answer : Result (Unit {0}) Fault) : Type 0 where
   pub passes : List Told
   pub passed : ArePassed (calls_passes command) given passes
-  pub ends : Ends (record { command = command; files = files; passes = passes }) before after answer
+  pub ends : Ends (record { command = command; files = files; given = given; passes = passes }) before after answer
   pub frugal : TookFront (input_limit + 1) before.input after.input
   pub not_usage : answer ≡ Err fault.Usage → ⊥
   pub not_file : answer ≡ Err fault.File → ⊥

@@ -8,4 +8,5 @@ use Rattle.cf_top.specs.Passes.{Told}
 -- what `gen N` owes is the line with the sum of the quotients of each input by each coefficient, and of what these leave
 abbrev pub SumsAreOfQuotients : Type 0
 SumsAreOfQuotients =
-    (n : ℕ) (passes : List Told) (ls : List (List ℕ)) (text : List ℕ) → 1 ≤ n → n ≤ 100 → Owes (gen n) [] passes ls text → text ≡ sum_line (n * n) (gen_sum n)
+    (n : ℕ) (given passes : List Told) (ls : List (List ℕ)) (text : List ℕ) → 1 ≤ n → n ≤ 100 → Owes (gen n) [] given passes ls text →
+    text ≡ sum_line (n * n) (gen_sum n)

@@ -27,11 +27,12 @@ pub record IsTold (before after : Errors) (text : List ℕ) : Type 0 where
   pub whole : (after.faults ≡ one_more before.faults) ⊎ (Appends before.held after.held text × (after.faults ≡ before.faults))
 
 -- an answer to the words, with passes that told this before; its status and its line
-pub record TopAnswer (command : Option Command) (given : List Told) (before after : Outside) (errors_before errors_after : Errors) (status : Status) : Type 0 where
-  pub answer : Result (Unit {0}) Fault
-  pub is : status ≡ status_of answer
-  pub answers : Answers command given before after answer
-  pub told : IsTold errors_before errors_after (answer_line answer)
+pub record TopAnswer (command : Option Command) (given : List Told) (before after : Outside) (errors_before errors_after : Errors) (status : Status) : Type 0
+  where
+    pub answer : Result (Unit {0}) Fault
+    pub is : status ≡ status_of answer
+    pub answers : Answers command given before after answer
+    pub told : IsTold errors_before errors_after (answer_line answer)
 
 -- a status after which the input and `out` are as before
 abbrev pub IsEarly : Status → Type 0

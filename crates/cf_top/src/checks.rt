@@ -51,7 +51,8 @@ fn put_existence_line(
     levels: &[u32],
     answer: &ExistenceAnswer,
 ) -> Result<(), NoMemory>
-    ensures { OnOk result (text.new.items ≡ text.old.items ++ numbered_line choose.now.number (existence_text (names_at choose.now.names.items levels.now) answer.now)) }
+    ensures { OnOk result (text.new.items ≡ text.old.items ++ numbered_line choose.now.number
+        (existence_text (names_at choose.now.names.items levels.now) answer.now)) }
 {
     put_head(text, b"choose ".as_slice(), choose.number)?;
     put_existence(text, &choose.names, levels, answer)?;
@@ -65,7 +66,8 @@ fn put_uniqueness_line(
     levels: &[u32],
     answer: &UniquenessAnswer,
 ) -> Result<(), NoMemory>
-    ensures { OnOk result (text.new.items ≡ text.old.items ++ numbered_line choose.now.number (uniqueness_text (names_at choose.now.names.items levels.now) answer.now)) }
+    ensures { OnOk result (text.new.items ≡ text.old.items ++ numbered_line choose.now.number
+        (uniqueness_text (names_at choose.now.names.items levels.now) answer.now)) }
 {
     put_head(text, b"choose ".as_slice(), choose.number)?;
     put_uniqueness(text, &choose.names, levels, answer)?;
@@ -194,7 +196,8 @@ fn check_each(
     chooses: &[SolvedChoose],
 ) -> Result<Vec<u8>, NoMemory>
     requires { AreMatches matches.now.infos.now matches.now.arms.now }
-    ensures { IfOk result (λ text. (qs : List Question) → AreSolved qs chooses.now → AllWritten (IsCheckOf (map match_tree matches.now.infos.now)) qs text.items) }
+    ensures { IfOk result (λ text. (qs : List Question) → AreSolved qs chooses.now →
+        AllWritten (IsCheckOf (map match_tree matches.now.infos.now)) qs text.items) }
 {
     let mut text = Vec::new(alloc);
     for choose in chooses {

@@ -7,20 +7,20 @@ ghost use Rattle.cf_emit.specs.Printed.{target_text};
 ghost use Rattle.cf_emit.specs.ReadsBack.{ReadsBack};
 ghost use Rattle.cf_words.specs.Commands.{compile as the_compile, run as the_run, pre as the_pre, check as the_check, exec as the_exec};
 ghost use Rattle.cf_top.specs.Limits.{text_limit};
-ghost use Rattle.cf_top.specs.Owed.{by_target};
 ghost use Rattle.cf_top.specs.Passes.{Told, ArePassed, closing_lines};
-ghost use Rattle.cf_top.specs.Refusals.{IsRefusedSource};
+ghost use Rattle.cf_top.specs.Refusals.{IsRefusedSource, IsRefusedRun};
 ghost use Rattle.cf_top.specs.Sources.{Compiles};
 ghost use Rattle.cf_top.specs.Statuses.{status_of as the_status_of};
-ghost use Rattle.cf_top.specs.Steps.{IsVerdict, RunsThrough, AnswersOn};
+ghost use Rattle.cf_top.specs.Steps.{IsVerdict, IsRunner, answerer_of, RunsThrough, AnswersOn};
 ghost use Rattle.cf_top.specs.Top.{IsEarly};
 
 use crate::answer::write_text;
+use crate::answerer::Answerer;
 use crate::checks::checks;
 use crate::fault::Fault;
 use crate::input::answer_input;
 use crate::preconditions::preconditions;
-use crate::source::{compile, read_source};
+use crate::source::{compile, read_source, runner};
 use crate::tallies::{closing, put_closing};
 use crate::target::read_target;
 use cf_emit::print::print;
@@ -31,21 +31,21 @@ use cf_tree::target::Target;
 use cf_words::command::Flags;
 use std::alloc::Global;
 
-// Answers the input by a target, and writes `end` behind the replies.
+// Answers the input, and writes `end` behind the replies.
 fn answer_by<I: Source, O: Sink>(
     alloc: Global,
-    target: &Target,
+    answerer: &Answerer,
     end: &[u8],
     input: &mut I,
     out: &mut O,
 ) -> Result<(), Fault>
-    ensures through { RunsThrough (by_target target.now) end.now (I.left input.old) (I.left input.new) (O.held out.old) (O.held out.new) result }
+    ensures through { RunsThrough (answerer_of answerer.now) end.now (I.left input.old) (I.left input.new) (O.held out.old) (O.held out.new) result }
     ensures input { IsErrOf result Fault.Input → I.faults input.new ≡ one_more (I.faults input.old) }
     ensures input_same { ¬ IsErrOf result Fault.Input → I.faults input.new ≡ I.faults input.old }
     ensures output { IsErrOf result Fault.Output → O.faults out.new ≡ one_more (O.faults out.old) }
     ensures output_same { ¬ IsErrOf result Fault.Output → O.faults out.new ≡ O.faults out.old }
 {
-    match answer_input(alloc, target, input, out) {
+    match answer_input(alloc, answerer, input, out) {
         Ok(()) => write_text(out, end),
         Err(fault) => Err(fault),
     }
@@ -61,12 +61,35 @@ fn compiled(
     requires short { length text.now ≤ text_limit }
     requires place { length text.now < 2 ^ 32 - 1 }
     ensures verdict { IsVerdict (Compiles (if plain then 0 else length passes.old.items) text.now) (IsRefusedSource text.now) result }
-    ensures passed { ArePassed (not plain) (map (λ p. record { name = name p; tally = tally p }) passes.old.items) (map (λ p. record { name = name p; tally = tally p }) passes.new.items) }
+    ensures passed { ArePassed (not plain) (map (λ p. record { name = name p; tally = tally p }) passes.old.items)
+        (map (λ p. record { name = name p; tally = tally p }) passes.new.items) }
 {
     if plain {
         return compile(alloc, text, &mut Vec::new(alloc));
     }
     compile(alloc, text, passes)
+}
+
+// What answers the lines for `run` of a source text, where a target is rewritten by the passes, or by
+// none if it is to be plain.
+fn answerer(
+    alloc: Global,
+    plain: bool,
+    text: &[u8],
+    passes: &mut Vec<Box<dyn Pass>>,
+) -> Result<Answerer, Fault>
+    requires short { length text.now ≤ text_limit }
+    requires place { length text.now < 2 ^ 32 - 1 }
+    ensures verdict { IsVerdict (λ a. IsRunner (if plain then 0 else length passes.old.items) text.now
+        (map (λ p. record { name = name p; tally = tally p }) passes.old.items)
+        (map (λ p. record { name = name p; tally = tally p }) passes.new.items) (answerer_of a)) (IsRefusedRun text.now) result }
+    ensures passed { ArePassed (not plain) (map (λ p. record { name = name p; tally = tally p }) passes.old.items)
+        (map (λ p. record { name = name p; tally = tally p }) passes.new.items) }
+{
+    if plain {
+        return runner(alloc, text, &mut Vec::new(alloc));
+    }
+    runner(alloc, text, passes)
 }
 
 // The printed target, and what is written behind all else.
@@ -76,7 +99,8 @@ fn printed(
     stats: bool,
     passes: &[Box<dyn Pass>],
 ) -> Result<Vec<u8>, Fault>
-    ensures text { IfOk result (λ text. text.items ≡ target_text target.now ++ closing_lines stats (map (λ p. record { name = name p; tally = tally p }) passes.now)) }
+    ensures text { IfOk result (λ text. text.items ≡ target_text target.now ++ closing_lines stats
+        (map (λ p. record { name = name p; tally = tally p }) passes.now)) }
     ensures reads_back { IfOk result (λ text. HasSpelling target.now → ReadsBack (target_tree target.now) (target_text target.now)) }
     ensures fault { IfErr result (λ f. f ≡ Fault.NoMemory) }
 {
@@ -99,7 +123,8 @@ pub fn write_target<O: Sink>(
 ) -> Result<(), Fault>
     requires short { length text.now ≤ text_limit }
     requires place { length text.now < 2 ^ 32 - 1 }
-    ensures answers { (file : List ℕ) (input : Option (List ℕ)) → AnswersOn (the_compile flags file) (map (λ p. record { name = name p; tally = tally p }) passes.old.items) (text.now ∷ [])
+    ensures answers { (file : List ℕ) (input : Option (List ℕ)) →
+        AnswersOn (the_compile flags file) (map (λ p. record { name = name p; tally = tally p }) passes.old.items) (text.now ∷ [])
         (record { input = input; out = O.held out.old }) (record { input = input; out = O.held out.new }) result }
     ensures input { ¬ IsErrOf result Fault.Input }
     ensures output { IsErrOf result Fault.Output → O.faults out.new ≡ one_more (O.faults out.old) }
@@ -116,7 +141,7 @@ pub fn write_target<O: Sink>(
     }
 }
 
-/// Answers the input by the target that a source text is compiled to.
+/// Answers the input by the target that a source text is compiled to, or by its late program.
 pub fn run_source<I: Source, O: Sink>(
     alloc: Global,
     flags: Flags,
@@ -136,12 +161,12 @@ pub fn run_source<I: Source, O: Sink>(
     ensures unread { IsEarly (the_status_of result) → input.new ≡ input.old }
     ensures unwritten { IsEarly (the_status_of result) → out.new ≡ out.old }
 {
-    let target = match compiled(alloc, flags.plain, text, passes) {
-        Ok(target) => target,
+    let answerer = match answerer(alloc, flags.plain, text, passes) {
+        Ok(answerer) => answerer,
         Err(fault) => return Err(fault),
     };
     match closing(alloc, flags.stats, passes) {
-        Ok(end) => answer_by(alloc, &target, &end, input, out),
+        Ok(end) => answer_by(alloc, &answerer, &end, input, out),
         Err(fault) => Err(fault),
     }
 }
@@ -208,7 +233,7 @@ pub fn run_target<I: Source, O: Sink>(
     ensures unwritten { IsEarly (the_status_of result) → out.new ≡ out.old }
 {
     match read_target(alloc, text) {
-        Ok(target) => answer_by(alloc, &target, &[], input, out),
+        Ok(target) => answer_by(alloc, &Answerer::Target(target), &[], input, out),
         Err(fault) => Err(fault),
     }
 }

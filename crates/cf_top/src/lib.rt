@@ -2,10 +2,12 @@
 #![tactic(auto)]
 
 mod answer;
+mod answerer;
 mod checks;
 mod fault;
 mod file;
 mod input;
+mod late;
 mod limits;
 mod line;
 mod origin;

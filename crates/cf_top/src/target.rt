@@ -26,7 +26,8 @@ pub fn read_target(alloc: Global, text: &[u8]) -> Result<Target, Fault>
 }
 
 fn read_tokens(alloc: Global, list: &TokenList) -> Result<Target, Fault>
-    ensures { (text : List ℕ) → HasTokens text list.now.list.items list.now.end at_end → IsVerdict (λ t. IsTypedTarget text (target_tree t)) (IsRefusedTarget text) result }
+    ensures { (text : List ℕ) → HasTokens text list.now.list.items list.now.end at_end →
+        IsVerdict (λ t. IsTypedTarget text (target_tree t)) (IsRefusedTarget text) result }
 {
     match target(alloc, list) {
         Ok(raw) => check_read(alloc, raw),

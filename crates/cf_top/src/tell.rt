@@ -138,8 +138,10 @@ fn put_choose<E: Sink>(err: &mut E, number: u32, refusal: &Refusal) -> Result<()
 }
 
 fn put_usage<E: Sink>(err: &mut E) -> Result<(), Failed>
-    ensures all { OnOk result (Appends (E.held err.old) (E.held err.new) (words_line (codes "usage: comfusy compile|pre|check|run|exec|prove FILE, or comfusy verify FILE STEPS, or comfusy gen N"))) }
-    ensures prefix { TookPrefix (E.held err.old) (E.held err.new) (words_line (codes "usage: comfusy compile|pre|check|run|exec|prove FILE, or comfusy verify FILE STEPS, or comfusy gen N")) }
+    ensures all { OnOk result (Appends (E.held err.old) (E.held err.new)
+        (words_line (codes "usage: comfusy compile|pre|check|run|exec|prove FILE, or comfusy verify FILE STEPS, or comfusy gen N"))) }
+    ensures prefix { TookPrefix (E.held err.old) (E.held err.new)
+        (words_line (codes "usage: comfusy compile|pre|check|run|exec|prove FILE, or comfusy verify FILE STEPS, or comfusy gen N")) }
     ensures failed { OnErr result (E.faults err.new ≡ one_more (E.faults err.old)) }
     ensures same { OnOk result (E.faults err.new ≡ E.faults err.old) }
 {

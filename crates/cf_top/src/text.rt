@@ -2,8 +2,9 @@
 ghost use Rattle.std.specs.Prelude.{◌≡◌, ◌⊎◌, ◌≤◌, ◌<◌, ◌-◌, ◌^◌, List, ℕ, length, IfOk, IfErr};
 ghost use Rattle.cf_lex.specs.Tokens.{AreWithin, at_end};
 ghost use Rattle.cf_top.specs.Limits.{text_limit};
-ghost use Rattle.cf_top.specs.Refusals.{IsRefusedSource, IsRefusedTarget};
+ghost use Rattle.cf_top.specs.Refusals.{IsRefusedTarget};
 ghost use Rattle.cf_top.specs.Sources.{HasTokens};
+ghost use Rattle.cf_top.specs.Steps.{IsMisspelled};
 
 use crate::fault::Fault;
 use cf_lex::{LexFault, TokenList, tokens};
@@ -15,7 +16,7 @@ pub fn lexed(alloc: Global, text: &[u8]) -> Result<TokenList, Fault>
     requires place { length text.now < 2 ^ 32 - 1 }
     ensures tokens { IfOk result (λ list. HasTokens text.now list.list.items list.end at_end) }
     ensures within { IfOk result (λ list. AreWithin (2 ^ 127 - 1) list.list.items) }
-    ensures source { IfErr result (λ f. IsRefusedSource text.now f ⊎ (f ≡ Fault.NoMemory)) }
+    ensures source { IfErr result (λ f. IsMisspelled text.now f ⊎ (f ≡ Fault.NoMemory)) }
     ensures target { IfErr result (λ f. IsRefusedTarget text.now f ⊎ (f ≡ Fault.NoMemory)) }
 {
     match tokens(alloc, text) {

@@ -49,7 +49,8 @@ pub fn comfusy<F: Shelf, I: Source, O: Sink, E: Sink>(
     ensures usage { result ≡ Status.Usage → command_of (map string_bytes words.now) ≡ None }
     ensures no_command { command_of (map string_bytes words.now) ≡ None → (result ≡ Status.Usage) ⊎ (result ≡ Status.NoMemory) }
     ensures untouched { command_of (map string_bytes words.now) ≡ None → (shelf.new ≡ shelf.old) × (input.new ≡ input.old) × (out.new ≡ out.old) }
-    ensures file { result ≡ Status.File → IsSomeAnd (command_of (map string_bytes words.now)) (λ c. (name : List ℕ) × Contains (names_of c) name × Rose (F.faults shelf.old name) (F.faults shelf.new name)) }
+    ensures file { result ≡ Status.File → IsSomeAnd (command_of (map string_bytes words.now))
+        (λ c. (name : List ℕ) × Contains (names_of c) name × Rose (F.faults shelf.old name) (F.faults shelf.new name)) }
     ensures input { result ≡ Status.Input → Rose (I.faults input.old) (I.faults input.new) }
     ensures output { result ≡ Status.Output → Rose (O.faults out.old) (O.faults out.new) }
     // The status is that of the texts and the input, as far as they are told and no object failed, or memory ran out.
@@ -104,7 +105,8 @@ fn answer_file<F: Shelf, I: Source, O: Sink>(
     out: &mut O,
     passes: &mut Vec<Box<dyn Pass>>,
 ) -> Result<(), Fault>
-    ensures does { Does (command_on command.now.kind command.now.flags command.now.file.now) (map (λ p. record { name = name p; tally = tally p }) passes.old.items)
+    ensures does { Does (command_on command.now.kind command.now.flags command.now.file.now)
+        (map (λ p. record { name = name p; tally = tally p }) passes.old.items)
         (record { texts = F.text shelf.old; left = F.left shelf.old; input = I.left input.old; out = O.held out.old; fetches = F.fetches shelf.old; file_faults = F.faults shelf.old; input_faults = I.faults input.old; out_faults = O.faults out.old })
         (record { texts = F.text shelf.new; left = F.left shelf.new; input = I.left input.new; out = O.held out.new; fetches = F.fetches shelf.new; file_faults = F.faults shelf.new; input_faults = I.faults input.new; out_faults = O.faults out.new }) result }
     ensures usage { ¬ IsErrOf result Fault.Usage }
@@ -131,7 +133,8 @@ fn answer_text<I: Source, O: Sink>(
 ) -> Result<(), Fault>
     requires short { length text.now ≤ text_limit }
     requires small { length text.now < 2 ^ 31 }
-    ensures answers { AnswersOn (command_on command.now.kind command.now.flags command.now.file.now) (map (λ p. record { name = name p; tally = tally p }) passes.old.items) (text.now ∷ [])
+    ensures answers { AnswersOn (command_on command.now.kind command.now.flags command.now.file.now)
+        (map (λ p. record { name = name p; tally = tally p }) passes.old.items) (text.now ∷ [])
         (record { input = I.left input.old; out = O.held out.old }) (record { input = I.left input.new; out = O.held out.new }) result }
     ensures input { IsErrOf result Fault.Input → I.faults input.new ≡ one_more (I.faults input.old) }
     ensures input_same { ¬ IsErrOf result Fault.Input → I.faults input.new ≡ I.faults input.old }

@@ -34,7 +34,8 @@ fn compiled_workload(
 ) -> Result<Target, Fault>
     requires { (1 ≤ size) × (size ≤ 100) }
     ensures verdict { IsVerdict (Compiles (length passes.old.items) (gen_source size)) (IsRefusedSource (gen_source size)) result }
-    ensures passed { ArePassed true (map (λ p. record { name = name p; tally = tally p }) passes.old.items) (map (λ p. record { name = name p; tally = tally p }) passes.new.items) }
+    ensures passed { ArePassed true (map (λ p. record { name = name p; tally = tally p }) passes.old.items)
+        (map (λ p. record { name = name p; tally = tally p }) passes.new.items) }
 {
     let Ok(text) = source(alloc, size as u64) else {
         return Err(Fault::NoMemory);

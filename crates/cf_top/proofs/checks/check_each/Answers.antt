@@ -8,7 +8,8 @@ pub loop-choose-preserved : goal.loop-choose-preserved
 loop-choose-preserved c =
     let item : c.choose-item.result ≡ get_or c.args.chooses.now c.loop-choose.choose-index c.choose-item.result = search rules in
     let Is = IsCheckOf (map match_tree c.args.matches.now.infos.now) in
-    λ qs s. written_step Is qs c.args.chooses.now c.loop-choose.choose-index c.choose-item.result _ _ s (omega arith) item (c.loop-choose.invariant qs s) c.in_ok-check_number.ensures
+    λ qs s. written_step Is qs c.args.chooses.now c.loop-choose.choose-index c.choose-item.result _ _ s (omega arith) item (c.loop-choose.invariant qs s)
+    c.in_ok-check_number.ensures
 
 pub returns : goal.returns
 returns c =

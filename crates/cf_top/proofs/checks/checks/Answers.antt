@@ -6,4 +6,5 @@ use Rattle.cf_top.proofs.checks.checks.Goals as goal
 pub returns-in-Err-Choose : goal.returns-in-Err-Choose
 returns-in-Err-Choose c =
     let is = c.in-Err-Choose.field-0-is in
-    λ source s. inl (choose_refused source (typed_tree c.args.typed.now) c.in-Err-Choose.number c.in-Err-Choose.refusal s (rw is at c.in-Err-Choose.ensures.refused))
+    λ source s. inl (choose_refused source (typed_tree c.args.typed.now) c.in-Err-Choose.number c.in-Err-Choose.refusal s
+    (rw is at c.in-Err-Choose.ensures.refused))

@@ -29,4 +29,5 @@ returns-clause-input g c =
 
 pub returns-clause-output : goal.returns-clause-output
 returns-clause-output g c =
-    λ e. absurd (inner_output c.in-Err-checks.fault (source_inner c.args.text.now c.in-Err-checks.fault (c.in-Err-checks.ensures c.args.text.now c.in-Ok.ensures)) e)
+    λ e. absurd (inner_output c.in-Err-checks.fault
+    (source_inner c.args.text.now c.in-Err-checks.fault (c.in-Err-checks.ensures c.args.text.now c.in-Ok.ensures)) e)

@@ -25,8 +25,10 @@ returns-clause-answers g c =
 
 pub returns-clause-input : goal.returns-clause-input
 returns-clause-input g c =
-    λ e. inner_input c.in-Err-preconditions.fault (source_inner c.args.text.now c.in-Err-preconditions.fault (c.in-Err-preconditions.ensures c.args.text.now c.in-Ok.ensures)) e
+    λ e. inner_input c.in-Err-preconditions.fault
+    (source_inner c.args.text.now c.in-Err-preconditions.fault (c.in-Err-preconditions.ensures c.args.text.now c.in-Ok.ensures)) e
 
 pub returns-clause-output : goal.returns-clause-output
 returns-clause-output g c =
-    λ e. absurd (inner_output c.in-Err-preconditions.fault (source_inner c.args.text.now c.in-Err-preconditions.fault (c.in-Err-preconditions.ensures c.args.text.now c.in-Ok.ensures)) e)
+    λ e. absurd (inner_output c.in-Err-preconditions.fault
+    (source_inner c.args.text.now c.in-Err-preconditions.fault (c.in-Err-preconditions.ensures c.args.text.now c.in-Ok.ensures)) e)

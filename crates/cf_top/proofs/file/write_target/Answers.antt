@@ -1,4 +1,4 @@
-use Rattle.std.proofs.Common.{◌∙◌, refl, inr}
+use Rattle.std.proofs.Common.{◌∙◌, [], refl, inr}
 use Rattle.cf_top.proofs.AnswerLemmas.{stopped_answers, written_answers}
 use Rattle.cf_top.proofs.FaultLemmas.{source_inner, inner_input, inner_output}
 use Rattle.cf_top.proofs.FileLemmas.{applied_by, compile_owes}
@@ -16,8 +16,10 @@ returns-in-Err-clause-output g c = λ e. absurd (inner_output c.in-Err.fault (so
 pub returns-in-Ok-printed-clause-answers : goal.returns-in-Ok-printed-clause-answers
 returns-in-Ok-printed-clause-answers g c =
     λ file input. written_answers _ _ _ _ _ _ input _ _ _ refl c.in-Ok.ensures.passed
-    (compile_owes c.args.flags file _ _ _ _ c.in-Ok.ensures.verdict (applied_by _ c.args.flags.plain _ _ c.in-Ok.ensures.passed) c.in-Ok-printed.ensures.reads_back)
-    (c.deref-in-Ok-printed.ensures.value ∙ (rw c.deref.ensures.value at c.in-Ok-printed.ensures.text)) c.write_text.ensures.all c.write_text.ensures.prefix c.write_text.ensures.fault
+    (compile_owes c.args.flags file _ [] _ _ _ c.in-Ok.ensures.verdict (applied_by _ c.args.flags.plain _ _ c.in-Ok.ensures.passed)
+    c.in-Ok-printed.ensures.reads_back)
+    (c.deref-in-Ok-printed.ensures.value ∙ (rw c.deref.ensures.value at c.in-Ok-printed.ensures.text)) c.write_text.ensures.all c.write_text.ensures.prefix
+    c.write_text.ensures.fault
 
 pub returns-clause-answers : goal.returns-clause-answers
 returns-clause-answers g c = λ file input. stopped_answers _ _ _ _ _ _ c.in-Ok.ensures.passed (inr c.in-Err-printed.ensures.fault)

@@ -1,13 +1,13 @@
 use Rattle.std.proofs.Common.{◌≡◌, ◌-◌, ◌+◌, ◌≤◌}
-use Rattle.cf_top.specs.Owed.{by_target}
-use Rattle.cf_top.specs.Steps.{IsReadTo}
+use Rattle.cf_top.specs.Steps.{answerer_of, IsReadTo}
 use Rattle.cf_top.proofs.input.answer_input.Given as goal
 
 abbrev pub invariant-pieces : goal.invariant-pieces
 invariant-pieces g l = record {
   within : l.total ≤ l.limit + 1;
   fed : l.cutter.total ≡ l.total;
-  read : IsReadTo (by_target l.target) (g.I.Source.left l.fn.input) (g.I.Source.left l.input) l.cutter (g.O.Sink.held l.fn.out) (g.O.Sink.held l.out) l.total;
+  read : IsReadTo (answerer_of l.answerer) (g.I.Source.left l.fn.input) (g.I.Source.left l.input) l.cutter (g.O.Sink.held l.fn.out) (g.O.Sink.held l.out)
+      l.total;
   inputs : g.I.Source.faults l.input ≡ g.I.Source.faults l.fn.input;
   outs : g.O.Sink.faults l.out ≡ g.O.Sink.faults l.fn.out;
 }

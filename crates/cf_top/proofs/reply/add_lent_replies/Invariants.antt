@@ -3,14 +3,14 @@ use Rattle.cf_io.specs.Cut.{line_of}
 use Rattle.cf_io.specs.Limits.{line_limit}
 use Rattle.cf_io.specs.Lines.{ended}
 use Rattle.cf_io.specs.declared.line.Line.{Line}
-use Rattle.cf_top.specs.Owed.{by_target}
-use Rattle.cf_top.specs.Steps.{AreLineReplies}
+use Rattle.cf_top.specs.Steps.{answerer_of, AreLineReplies}
 use Rattle.cf_top.proofs.ReplyLemmas.{LentTo}
 use Rattle.cf_top.proofs.reply.add_lent_replies.Given as goal
 
 abbrev pub invariant-lines : goal.invariant-lines
 invariant-lines l =
-    (before : List Line) → AreLineReplies (by_target l.target) before l.fn.text.items → LentTo (by_target l.target) (before ++ map (line_of line_limit) (ended l.bytes)) l.rest l.text.items
+    (before : List Line) → AreLineReplies (answerer_of l.answerer) before l.fn.text.items →
+    LentTo (answerer_of l.answerer) (before ++ map (line_of line_limit) (ended l.bytes)) l.rest l.text.items
 
 abbrev pub decreases-lines : goal.decreases-lines
 decreases-lines l = length l.rest

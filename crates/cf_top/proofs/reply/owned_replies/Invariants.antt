@@ -1,9 +1,8 @@
 use Rattle.std.proofs.Common.{take}
-use Rattle.cf_top.specs.Owed.{by_target}
-use Rattle.cf_top.specs.Steps.{AreLineReplies}
+use Rattle.cf_top.specs.Steps.{answerer_of, AreLineReplies}
 use Rattle.cf_top.proofs.reply.owned_replies.Given as goal
 
 abbrev pub invariant-loop-line : goal.invariant-loop-line
 invariant-loop-line l = record {
-  replied : AreLineReplies (by_target l.target) (take l.line-index l.lines) l.text.items;
+  replied : AreLineReplies (answerer_of l.answerer) (take l.line-index l.lines) l.text.items;
 }

@@ -7,9 +7,6 @@ use Rattle.cf_top.proofs.source.compile.Goals as goal
 pub returns-in-Err-clause-tallies : goal.returns-in-Err-clause-tallies
 returns-in-Err-clause-tallies g c = none_fell _
 
-pub returns-in-Err-lower-clause-tallies : goal.returns-in-Err-lower-clause-tallies
-returns-in-Err-lower-clause-tallies g c = none_fell _
-
 pub returns-in-Err-Choose-clause-verdict : goal.returns-in-Err-Choose-clause-verdict
 returns-in-Err-Choose-clause-verdict g c =
     inl (choose_refused c.args.text.now (typed_tree c.in-Ok.typed) _ _ c.in-Ok.ensures (rw c.in-Err-Choose.field-0-is at c.in-Err-Choose.ensures.answer))

@@ -9,5 +9,6 @@ pub returns-in-Err-Syntax : goal.returns-in-Err-Syntax
 returns-in-Err-Syntax c =
     let is = c.in-Err-Syntax.field-0-is in
     λ text h. rw is
-    (inl (no_target text c.args.list.now.list.items c.args.list.now.end c.in-Err-Syntax.place h (rw is at c.in-Err-Syntax.ensures.only) (rw is at c.in-Err-Syntax.ensures.place)
+    (inl (no_target text c.args.list.now.list.items c.args.list.now.end c.in-Err-Syntax.place h (rw is at c.in-Err-Syntax.ensures.only)
+    (rw is at c.in-Err-Syntax.ensures.place)
     (rw is at c.in-Err-Syntax.ensures.exact)))

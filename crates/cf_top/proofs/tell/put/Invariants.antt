@@ -5,6 +5,7 @@ use Rattle.cf_top.proofs.tell.put.Given as goal
 
 abbrev pub invariant-loop-piece : goal.invariant-loop-piece
 invariant-loop-piece g l = record {
-  owes : Owes (flat_map (λ piece. piece.now) l.pieces) (g.E.Sink.held l.fn.err) (g.E.Sink.held l.err) (flat_map (λ piece. piece.now) (drop l.piece-index l.pieces));
+  owes : Owes (flat_map (λ piece. piece.now) l.pieces) (g.E.Sink.held l.fn.err) (g.E.Sink.held l.err)
+      (flat_map (λ piece. piece.now) (drop l.piece-index l.pieces));
   same : g.E.Sink.faults l.err ≡ g.E.Sink.faults l.fn.err;
 }

@@ -9,7 +9,8 @@ returns-in-Ok-clause-does g c =
     text_does _ c.args.command.now.file.now _ _ _ c.deref.result.now _ (one_name c.args.command.now.kind c.args.command.now.flags c.args.command.now.file.now)
     (subst (AreTold _) (sym same) (text_told _ _ c.in-Ok.ensures.whole)) c.answer_text.ensures.answers
     (record { fetched = c.in-Ok.ensures.asked; most = rw c.longest_text.ensures.is at c.in-Ok.ensures.most }) (c.in-Ok.ensures.same (λ e. cc))
-    (record { same = c.answer_text.ensures.input_same; rose = c.answer_text.ensures.input }) (record { same = c.answer_text.ensures.output_same; rose = c.answer_text.ensures.output })
+    (record { same = c.answer_text.ensures.input_same; rose = c.answer_text.ensures.input })
+    (record { same = c.answer_text.ensures.output_same; rose = c.answer_text.ensures.output })
 
 pub returns-in-Ok-clause-usage : goal.returns-in-Ok-clause-usage
 returns-in-Ok-clause-usage g c = λ e. c.answer_text.ensures.answers.not_usage e
@@ -24,7 +25,8 @@ returns-in-Err-Failed-clause-does g c =
 pub returns-in-Err-TooLong-clause-does : goal.returns-in-Err-TooLong-clause-does
 returns-in-Err-TooLong-clause-does g c =
     let is = c.in-Err-TooLong.field-0-is in
-    long_does c.args.command.now.kind c.args.command.now.flags c.args.command.now.file.now _ _ _ (rw c.longest_text.ensures.is at (c.in-Err-TooLong.ensures.long (rw is refl)))
+    long_does c.args.command.now.kind c.args.command.now.flags c.args.command.now.file.now _ _ _
+    (rw c.longest_text.ensures.is at (c.in-Err-TooLong.ensures.long (rw is refl)))
     (record { fetched = c.in-Err-TooLong.ensures.asked; most = rw c.longest_text.ensures.is at c.in-Err-TooLong.ensures.most })
     (record { input = refl; out = refl; input_faults = refl; out_faults = refl }) (c.in-Err-TooLong.ensures.same (λ e. cc))
 

@@ -17,4 +17,5 @@ returns-in-Err-NoMemory-clause-answers g c = nothing_answers _ _ _
 
 pub returns-in-Ok-OnFile-clause-unfetched : goal.returns-in-Ok-OnFile-clause-unfetched
 returns-in-Ok-OnFile-clause-unfetched g c =
-    rw (rw c.in-Ok-OnFile.field-0-is at c.in-Ok-OnFile.ensures.answer) (λ none. absurd (reads_a_file c.in-Ok-OnFile.command.kind c.in-Ok-OnFile.command.flags c.in-Ok-OnFile.command.file.now none))
+    rw (rw c.in-Ok-OnFile.field-0-is at c.in-Ok-OnFile.ensures.answer)
+    (λ none. absurd (reads_a_file c.in-Ok-OnFile.command.kind c.in-Ok-OnFile.command.flags c.in-Ok-OnFile.command.file.now none))

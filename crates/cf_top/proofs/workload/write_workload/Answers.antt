@@ -1,4 +1,4 @@
-use Rattle.std.proofs.Common.{◌∙◌, false, refl, sym, inr, append-nil}
+use Rattle.std.proofs.Common.{◌∙◌, [], false, refl, sym, inr, append-nil}
 use Rattle.cf_top.proofs.AnswerLemmas.{stopped_answers, written_answers}
 use Rattle.cf_top.proofs.FaultLemmas.{source_inner, inner_input, inner_output}
 use Rattle.cf_top.proofs.FileLemmas.{applied_by, workload_owes}
@@ -16,7 +16,8 @@ returns-in-Err-clause-output g c = λ e. absurd (inner_output c.in-Err.fault (so
 pub returns-in-Ok-summary-clause-answers : goal.returns-in-Ok-summary-clause-answers
 returns-in-Ok-summary-clause-answers g c =
     λ input. written_answers _ _ _ _ _ _ input _ _ _ refl c.in-Ok.ensures.passed
-    (workload_owes c.args.size _ _ _ _ _ c.in-Ok.ensures.verdict (applied_by _ false _ _ c.in-Ok.ensures.passed) c.in-Ok-summary.ensures.1 c.in-Ok-summary.ensures.2)
+    (workload_owes c.args.size [] _ _ _ _ _ c.in-Ok.ensures.verdict (applied_by _ false _ _ c.in-Ok.ensures.passed) c.in-Ok-summary.ensures.1
+    c.in-Ok-summary.ensures.2)
     (c.deref.ensures.value ∙ sym (append-nil _)) c.write_text.ensures.all c.write_text.ensures.prefix c.write_text.ensures.fault
 
 pub returns-clause-answers : goal.returns-clause-answers
