@@ -48,7 +48,8 @@ use Rattle.cf_build.proofs.SameCodes.{behind_same}
 use Rattle.cf_build.proofs.SolveLists.{solved_found}
 
 -- ---- the numbers of chooses
-both_numbers : (a b : ExprTree) → numbers a ≡ numbers_of (questions a) → numbers b ≡ numbers_of (questions b) → numbers a ++ numbers b ≡ numbers_of (questions a ++ questions b)
+both_numbers : (a b : ExprTree) → numbers a ≡ numbers_of (questions a) → numbers b ≡ numbers_of (questions b) →
+    numbers a ++ numbers b ≡ numbers_of (questions a ++ questions b)
 both_numbers a b e f = rw (map-append (λ q. q.number) (questions a) (questions b), e, f) refl
 
 mutual
@@ -67,7 +68,13 @@ mutual
   numbers_are (expr_mod a k) p = numbers_are a p
   numbers_are (expr_card a) p = numbers_are a p
   numbers_are (expr_if t a b) p =
-      rw (map-append (λ q. q.number) (questions t ++ questions a) (questions b), map-append (λ q. q.number) (questions t) (questions a), numbers_are t p.0, numbers_are a p.1, numbers_are b p.2) refl
+      rw (
+        map-append (λ q. q.number) (questions t ++ questions a) (questions b),
+        map-append (λ q. q.number) (questions t) (questions a),
+        numbers_are t p.0,
+        numbers_are a p.1,
+        numbers_are b p.2,
+      ) refl
   numbers_are (expr_call f es) p = all_numbers_are es p
   numbers_are (expr_let n a b) p = both_numbers a b (numbers_are a p.0) (numbers_are b p.1)
   numbers_are (expr_choose n params outputs rel) p = refl
@@ -80,7 +87,11 @@ mutual
 program_numbers : (ds : List DefTree) → All (λ d. HasNoMatch d.body) ds → all_numbers ds ≡ numbers_of (questions_of ds)
 program_numbers [] p = refl
 program_numbers (d ∷ ds) p =
-    rw (map-append (λ q. q.number) (questions d.body) (questions_of ds), numbers_are d.body (All-head (λ d. HasNoMatch d.body) d ds p), program_numbers ds (All-tail (λ d. HasNoMatch d.body) d ds p)) refl
+    rw (
+      map-append (λ q. q.number) (questions d.body) (questions_of ds),
+      numbers_are d.body (All-head (λ d. HasNoMatch d.body) d ds p),
+      program_numbers ds (All-tail (λ d. HasNoMatch d.body) d ds p),
+    ) refl
 
 pub questions_same : (ds : List DefTree) → All (λ d. HasNoMatch d.body) ds → all_questions ds ≡ questions_of ds
 questions_same [] p = refl
@@ -179,12 +190,14 @@ not_falling f (x ∷ xs) h i j d l m =
 asked_parts : (cs : List Choose) → All IsAsked (map question_of cs) → All (λ c. IsAsked (question_of c)) cs
 asked_parts [] h = All-nil (λ c. IsAsked (question_of c))
 asked_parts (c ∷ cs) h =
-    All-cons (λ c. IsAsked (question_of c)) c cs (All-head IsAsked (question_of c) (map question_of cs) h) (asked_parts cs (All-tail IsAsked (question_of c) (map question_of cs) h))
+    All-cons (λ c. IsAsked (question_of c)) c cs (All-head IsAsked (question_of c) (map question_of cs) h)
+    (asked_parts cs (All-tail IsAsked (question_of c) (map question_of cs) h))
 
 plain_trees : (ds : List Def) → All (λ d. HasNoMatch (expr_tree d.body)) ds → All (λ d. HasNoMatch d.body) (map def_tree ds)
 plain_trees [] h = All-nil (λ d. HasNoMatch d.body)
 plain_trees (d ∷ ds) h =
-    All-cons (λ d. HasNoMatch d.body) (def_tree d) (map def_tree ds) (All-head (λ d. HasNoMatch (expr_tree d.body)) d ds h) (plain_trees ds (All-tail (λ d. HasNoMatch (expr_tree d.body)) d ds h))
+    All-cons (λ d. HasNoMatch d.body) (def_tree d) (map def_tree ds) (All-head (λ d. HasNoMatch (expr_tree d.body)) d ds h)
+    (plain_trees ds (All-tail (λ d. HasNoMatch (expr_tree d.body)) d ds h))
 
 index_within : (ns : List ℕ) (f : ℕ) → All (λ n. n ≤ 200) ns → slice_index ns f ≤ 200
 index_within [] f h = omega arith
@@ -205,7 +218,8 @@ module _ (ds : List Def) (main : ℕ) (t : IsTypedProgram (map def_tree ds) main
   numbers_differ = rw (questions_same (map def_tree ds) plain) (rw (program_numbers (map def_tree ds) plain) at t.distinct)
 
   -- the chooses that were found, and the same in the order of their numbers
-  module _ (cs sorted : List Choose) (e : map question_of cs ≡ questions_of (map def_tree ds)) (m : IsPermutation cs sorted) (o : IsNonDecreasingBy (λ c. c.number) sorted) where
+  module _ (cs sorted : List Choose) (e : map question_of cs ≡ questions_of (map def_tree ds)) (m : IsPermutation cs sorted)
+      (o : IsNonDecreasingBy (λ c. c.number) sorted) where
     found : map question_of cs ≡ all_questions (map def_tree ds)
     found = e ∙ sym (questions_same (map def_tree ds) plain)
 
@@ -227,7 +241,8 @@ module _ (ds : List Def) (main : ℕ) (t : IsTypedProgram (map def_tree ds) main
     pub in_order_asked : All (λ c. IsAsked (question_of c)) sorted
     in_order_asked = All-permutation (λ c. IsAsked (question_of c)) cs sorted m (all_asked cs e)
 
-  module _ (ss : List (ℕ × CodeTree)) (s : AreCodes (by_number (all_questions (map def_tree ds))) ss) (codes : List CodeTree) (same : codes ≡ codes_behind (solved_in ss) [] (map def_tree ds)) (l : All HasLevels codes) where
+  module _ (ss : List (ℕ × CodeTree)) (s : AreCodes (by_number (all_questions (map def_tree ds))) ss) (codes : List CodeTree)
+      (same : codes ≡ codes_behind (solved_in ss) [] (map def_tree ds)) (l : All HasLevels codes) where
     solve : (q : Question) → Contains (all_questions (map def_tree ds)) q → IsSolveOf q (solved_in ss q)
     solve q c =
         let qs = all_questions (map def_tree ds) in
@@ -249,14 +264,16 @@ module _ (ds : List Def) (main : ℕ) (t : IsTypedProgram (map def_tree ds) main
         ∙ behind_same (solved_in ss) solve_of (map def_tree ds) [] (λ q m. (solve q (rw (questions_same (map def_tree ds) plain) m)).code)
         ∙ ap (λ xs. codes_behind solve_of [] xs) (sym (lowered_defs (map def_tree ds) plain)))
 
-    pub main_built : (d : DefTree) → slice_get (map def_tree ds) main ≡ Some d → (raw : RawTarget) → raw.params.items ≡ bases_of d.params → raw.results.items ≡ d.results → code_tree raw.code ≡ called codes main →
+    pub main_built : (d : DefTree) → slice_get (map def_tree ds) main ≡ Some d → (raw : RawTarget) → raw.params.items ≡ bases_of d.params →
+        raw.results.items ≡ d.results → code_tree raw.code ≡ called codes main →
         IsBuilt (map def_tree ds) main 0 raw
     main_built d e raw ps rs c =
         let takes = known.takes main d e in
         record {
           like_main = (d, e, ps, rs);
           unfolded = λ _. c ∙ is_unfolded;
-          rewritten = λ env h. subst (λ k. IsNoWorse (path (unfolded_code (map def_tree ds) main) env) (path k env)) (sym (c ∙ is_unfolded)) (worse_same (path (unfolded_code (map def_tree ds) main) env));
+          rewritten = λ env h. subst (λ k. IsNoWorse (path (unfolded_code (map def_tree ds) main) env) (path k env)) (sym (c ∙ is_unfolded))
+              (worse_same (path (unfolded_code (map def_tree ds) main) env));
           typed =
               subst (λ k. IsTypedCode k raw.params.items raw.results.items) (sym c)
               (subst (λ bs. IsTypedCode (called codes main) bs raw.results.items) (sym ps)
@@ -284,10 +301,18 @@ pub main_below : (ds : List Def) (main : ℕ) → IsTypedProgram (map def_tree d
 main_below ds main t = let h = t.has_main in omega (arith, slice_get_within (map def_tree ds) main h.0 h.1, length-map ds def_tree)
 
 -- the code of `main` among those of all functions
-module _ (ds : List Def) (main : ℕ) (t : IsTypedProgram (map def_tree ds) main) (p : All (λ d. HasNoMatch (expr_tree d.body)) ds) (ss : List (ℕ × CodeTree)) (s : AreCodes (by_number (all_questions (map def_tree ds))) ss)
+module _ (ds : List Def) (main : ℕ) (t : IsTypedProgram (map def_tree ds) main) (p : All (λ d. HasNoMatch (expr_tree d.body)) ds) (ss : List (ℕ × CodeTree))
+    (s : AreCodes (by_number (all_questions (map def_tree ds))) ss)
     (cs : List Code) (same : map code_tree cs ≡ codes_behind (solved_in ss) [] (map def_tree ds)) (l : All (λ c. HasLevels (code_tree c)) cs) where
   pub main_has_code : main < length cs
-  main_has_code = omega (arith, main_below ds main t, codes_length (solved_in ss) [] (map def_tree ds), ap length same, length-map cs code_tree, length-map ds def_tree)
+  main_has_code = omega (
+    arith,
+    main_below ds main t,
+    codes_length (solved_in ss) [] (map def_tree ds),
+    ap length same,
+    length-map cs code_tree,
+    length-map ds def_tree,
+  )
 
   module _ (c : Code) (here : c ≡ get_or cs main c) (d : Def) (there : d ≡ get_or ds main d) where
     code_is : called (map code_tree cs) main ≡ code_tree c
@@ -296,6 +321,7 @@ module _ (ds : List Def) (main : ℕ) (t : IsTypedProgram (map def_tree ds) main
     def_is : slice_get (map def_tree ds) main ≡ Some (def_tree d)
     def_is = slice_get-map def_tree ds main ∙ ap (λ o. option_map def_tree o) (slice_get_read ds (length ds) main d refl (main_below ds main t) there)
 
-    pub target_built : (raw : RawTarget) → (raw.params.items ≡ bases_of d.params.items) × (raw.results.items ≡ d.results.items) × (code_tree raw.code ≡ code_tree c) → IsBuilt (map def_tree ds) main 0 raw
+    pub target_built : (raw : RawTarget) → (raw.params.items ≡ bases_of d.params.items) × (raw.results.items ≡ d.results.items) ×
+        (code_tree raw.code ≡ code_tree c) → IsBuilt (map def_tree ds) main 0 raw
     target_built raw r =
         main_built ds main t p ss s (map code_tree cs) same (All-map HasLevels code_tree cs l) (def_tree d) def_is raw r.0 r.1 (r.2 ∙ sym code_is)

@@ -12,6 +12,7 @@ questions_push (d ∷ es) e = ap (λ qs. questions d ++ qs) (questions_push es e
 
 pub questions_of_push : (ds : List DefTree) (d : DefTree) → questions_of (ds ++ d ∷ []) ≡ questions_of ds ++ questions d.body
 questions_of_push [] d = append-nil (questions d.body)
-questions_of_push (c ∷ ds) d = ap (λ qs. questions c.body ++ qs) (questions_of_push ds d) ∙ sym (append_assoc (questions c.body) (questions_of ds) (questions d.body))
+questions_of_push (c ∷ ds) d = ap (λ qs. questions c.body ++ qs) (questions_of_push ds d) ∙
+    sym (append_assoc (questions c.body) (questions_of ds) (questions d.body))
 
 pub ruleset choose_lists = (questions_push, questions_of_push, append_assoc, append-nil, map-append)

@@ -8,7 +8,8 @@ use Rattle.cf_tree.specs.declared.code.Code.{Code}
 use Rattle.cf_build.specs.Codes.{joined_code, call_code, code_of, codes_of_all, called}
 use Rattle.cf_build.specs.Questions.{Question}
 
-pub codes_of_exprs : (calls : ℕ → CodeTree) (solves : Question → CodeTree) (n : ℕ) (es : List ExprTree) → codes_of (map (λ e. code_of calls solves n e) es) ≡ codes_of_all calls solves n (exprs_of es)
+pub codes_of_exprs : (calls : ℕ → CodeTree) (solves : Question → CodeTree) (n : ℕ) (es : List ExprTree) →
+    codes_of (map (λ e. code_of calls solves n e) es) ≡ codes_of_all calls solves n (exprs_of es)
 codes_of_exprs calls solves n [] = refl
 codes_of_exprs calls solves n (e ∷ es) = ap (λ cs. code_more (code_of calls solves n e) cs) (codes_of_exprs calls solves n es)
 
@@ -21,7 +22,8 @@ joined_tuple [] h = refl
 joined_tuple (c ∷ []) h = absurd (h refl)
 joined_tuple (c ∷ d ∷ codes) h = refl
 
-pub call_with : (n : ℕ) (args : List Code) (body : CodeTree) → length args ≢ 0 → call_code n (code_trees args) body ≡ code_let n (length args) (joined_code (code_trees args)) body
+pub call_with : (n : ℕ) (args : List Code) (body : CodeTree) → length args ≢ 0 →
+    call_code n (code_trees args) body ≡ code_let n (length args) (joined_code (code_trees args)) body
 call_with n [] body h = absurd (h refl)
 call_with n (c ∷ args) body h =
     ap (λ k. code_let n k (joined_code (code_trees (c ∷ args))) body) (count_codes (map code_tree (c ∷ args)) ∙ length-map (c ∷ args) code_tree)

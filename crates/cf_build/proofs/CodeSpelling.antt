@@ -70,8 +70,10 @@ module _ (calls : ℕ → CodeTree) (solves : Question → CodeTree) (depths : �
     depth_within (expr_if t a b) p s n =
         omega (
           arith,
-          depth_within t p.0 (λ q m. s q (Contains-append_left (questions t ++ questions a) (questions b) q (Contains-append_left (questions t) (questions a) q m))) n,
-          depth_within a p.1 (λ q m. s q (Contains-append_left (questions t ++ questions a) (questions b) q (Contains-append_right (questions t) (questions a) q m))) n,
+          depth_within t p.0 (λ q m. s q (Contains-append_left (questions t ++ questions a) (questions b) q
+              (Contains-append_left (questions t) (questions a) q m))) n,
+          depth_within a p.1 (λ q m. s q (Contains-append_left (questions t ++ questions a) (questions b) q
+              (Contains-append_right (questions t) (questions a) q m))) n,
           depth_within b p.2 (λ q m. s q (Contains-append_right (questions t ++ questions a) (questions b) q m)) n,
         )
     depth_within (expr_call f es) p s n =
@@ -87,7 +89,8 @@ module _ (calls : ℕ → CodeTree) (solves : Question → CodeTree) (depths : �
         omega (arith, solve_depth q (solves q) (s q (0, omega arith, refl)))
     depth_within (expr_match k params a arms) p s n = absurd p
 
-    depths_within : (es : ExprTrees) → HaveNoMatch es → AreSolves (questions_all es) → (n : ℕ) → codes_depth (codes_of_all calls solves n es) ≤ 2 * depth_all depths es + 16
+    depths_within : (es : ExprTrees) → HaveNoMatch es → AreSolves (questions_all es) → (n : ℕ) →
+        codes_depth (codes_of_all calls solves n es) ≤ 2 * depth_all depths es + 16
     depths_within no_exprs p s n = omega arith
     depths_within (expr_more a es) p s n =
         omega (
@@ -96,7 +99,8 @@ module _ (calls : ℕ → CodeTree) (solves : Question → CodeTree) (depths : �
           depths_within es p.1 (λ q m. s q (Contains-append_right (questions a) (questions_all es) q m)) n,
         )
 
-binary_spelled : (op : BinOp) (a b : CodeTree) → HasLevels (binary_code op a b) → (HasLevels a → IsSpelled a) → (HasLevels b → IsSpelled b) → IsSpelled (binary_code op a b)
+binary_spelled : (op : BinOp) (a b : CodeTree) → HasLevels (binary_code op a b) → (HasLevels a → IsSpelled a) → (HasLevels b → IsSpelled b) →
+    IsSpelled (binary_code op a b)
 binary_spelled Add a b l f g = (omega arith, (f l.0, (g l.1.0, tt)))
 binary_spelled Sub a b l f g = (f l.0, g l.1)
 binary_spelled Mul a b l f g = (f l.0, g l.1)
@@ -108,17 +112,20 @@ binary_spelled Diff a b l f g = (f l.0, g l.1)
 binary_spelled Subset a b l f g = (f l.0, g l.1)
 binary_spelled (Compare o) a b l f g = (f l.0, g l.1)
 
-call_spelled : (n : ℕ) (cs : CodeTrees) (body : CodeTree) → HasLevels (call_code n cs body) → (HaveLevels cs → AreSpelled cs) → (HasLevels body → IsSpelled body) → IsSpelled (call_code n cs body)
+call_spelled : (n : ℕ) (cs : CodeTrees) (body : CodeTree) → HasLevels (call_code n cs body) → (HaveLevels cs → AreSpelled cs) →
+    (HasLevels body → IsSpelled body) → IsSpelled (call_code n cs body)
 call_spelled n no_codes body l f g = g l
 call_spelled n (code_more c no_codes) body l f g = (omega arith, l.0, (f (l.1, tt)).0, g l.2)
 call_spelled n (code_more c (code_more d cs)) body l f g = (omega arith, l.0, (omega arith, f l.1), g l.2)
 
-module _ (calls : ℕ → CodeTree) (solves : Question → CodeTree) (takes : ℕ → List Base → List Base → Type 0) (calls_spelled : (f : ℕ) (ps rs : List Base) → takes f ps rs → IsSpelled (calls f)) where
+module _ (calls : ℕ → CodeTree) (solves : Question → CodeTree) (takes : ℕ → List Base → List Base → Type 0)
+    (calls_spelled : (f : ℕ) (ps rs : List Base) → takes f ps rs → IsSpelled (calls f)) where
   abbrev AreSolves_ : List Question → Type 0
   AreSolves_ qs = (q : Question) → Contains qs q → IsSolveOf q (solves q)
 
   mutual
-    pub spelled : (e : ExprTree) → HasNoMatch e → AreSolves_ (questions e) → (scope bs : List Base) → ExprHasBases takes e scope bs → (n : ℕ) → HasLevels (code_of calls solves n e) → IsSpelled (code_of calls solves n e)
+    pub spelled : (e : ExprTree) → HasNoMatch e → AreSolves_ (questions e) → (scope bs : List Base) → ExprHasBases takes e scope bs → (n : ℕ) →
+        HasLevels (code_of calls solves n e) → IsSpelled (code_of calls solves n e)
     spelled (expr_lit k) p s scope bs h n l = h.0
     spelled (expr_truth t) p s scope bs h n l = tt
     spelled (expr_var x) p s scope bs h n l = l
@@ -137,12 +144,15 @@ module _ (calls : ℕ → CodeTree) (solves : Question → CodeTree) (takes : �
     spelled (expr_mod a k) p s scope bs h n l = (h.0, spelled a p s scope _ h.1 n l)
     spelled (expr_card a) p s scope bs h n l = spelled a p s scope _ h.0 n l
     spelled (expr_if t a b) p s scope bs h n l = (
-      spelled t p.0 (λ q m. s q (Contains-append_left (questions t ++ questions a) (questions b) q (Contains-append_left (questions t) (questions a) q m))) scope _ h.0 n l.0,
-      spelled a p.1 (λ q m. s q (Contains-append_left (questions t ++ questions a) (questions b) q (Contains-append_right (questions t) (questions a) q m))) scope _ h.1 n l.1,
+      spelled t p.0 (λ q m. s q (Contains-append_left (questions t ++ questions a) (questions b) q (Contains-append_left (questions t) (questions a) q m)))
+          scope _ h.0 n l.0,
+      spelled a p.1 (λ q m. s q (Contains-append_left (questions t ++ questions a) (questions b) q (Contains-append_right (questions t) (questions a) q m)))
+          scope _ h.1 n l.1,
       spelled b p.2 (λ q m. s q (Contains-append_right (questions t ++ questions a) (questions b) q m)) scope _ h.2 n l.2,
     )
     spelled (expr_call f es) p s scope bs h n l =
-        call_spelled n (codes_of_all calls solves n es) (shifted n (calls f)) l (parts_spelled es p s scope h.0 h.2 n) (spelled_shifted n (calls f) (calls_spelled f h.0 bs h.1))
+        call_spelled n (codes_of_all calls solves n es) (shifted n (calls f)) l (parts_spelled es p s scope h.0 h.2 n)
+        (spelled_shifted n (calls f) (calls_spelled f h.0 bs h.1))
     spelled (expr_let k a b) p s scope bs h n l = (
       h.3,
       l.0,
@@ -153,14 +163,16 @@ module _ (calls : ℕ → CodeTree) (solves : Question → CodeTree) (takes : �
         (s (record { number = k; names = names_of params; scope = bases_of params; outputs = outputs; relation = rel }) (0, omega arith, refl)).spelled
     spelled (expr_match k params a arms) p s scope bs h n l = absurd p
 
-    all_spelled : (es : ExprTrees) → HaveNoMatch es → AreSolves_ (questions_all es) → (scope : List Base) (b : Base) → AllHave takes es scope b → (n : ℕ) → HaveLevels (codes_of_all calls solves n es) → AreSpelled (codes_of_all calls solves n es)
+    all_spelled : (es : ExprTrees) → HaveNoMatch es → AreSolves_ (questions_all es) → (scope : List Base) (b : Base) → AllHave takes es scope b → (n : ℕ) →
+        HaveLevels (codes_of_all calls solves n es) → AreSpelled (codes_of_all calls solves n es)
     all_spelled no_exprs p s scope b h n l = tt
     all_spelled (expr_more a es) p s scope b h n l = (
       spelled a p.0 (λ q m. s q (Contains-append_left (questions a) (questions_all es) q m)) scope _ h.0 n l.0,
       all_spelled es p.1 (λ q m. s q (Contains-append_right (questions a) (questions_all es) q m)) scope b h.1 n l.1,
     )
 
-    parts_spelled : (es : ExprTrees) → HaveNoMatch es → AreSolves_ (questions_all es) → (scope bs : List Base) → PartsHave takes es scope bs → (n : ℕ) → HaveLevels (codes_of_all calls solves n es) → AreSpelled (codes_of_all calls solves n es)
+    parts_spelled : (es : ExprTrees) → HaveNoMatch es → AreSolves_ (questions_all es) → (scope bs : List Base) → PartsHave takes es scope bs → (n : ℕ) →
+        HaveLevels (codes_of_all calls solves n es) → AreSpelled (codes_of_all calls solves n es)
     parts_spelled no_exprs p s scope bs h n l = tt
     parts_spelled (expr_more a es) p s scope bs h n l = (
       spelled a p.0 (λ q m. s q (Contains-append_left (questions a) (questions_all es) q m)) scope _ h.3 n l.0,

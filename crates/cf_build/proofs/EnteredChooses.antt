@@ -27,7 +27,8 @@ module _ (calls : ℕ → CodeTree) (solves : Question → CodeTree) (takes : �
   SolvedHere qs = (q : Question) → Contains qs q → IsSolveOf q (solves q)
 
   mutual
-    pub entered : (e : ExprTree) → HasNoMatch e → SolvedHere (questions e) → (scope bs : List Base) → ExprHasBases takes e scope bs → (env : List Value) (n : ℕ) →
+    pub entered : (e : ExprTree) → HasNoMatch e → SolvedHere (questions e) → (scope bs : List Base) → ExprHasBases takes e scope bs →
+        (env : List Value) (n : ℕ) →
         Around scope env n →
         IsFineIn picks enters e env
     entered (expr_lit k) p s scope bs h env n a = tt

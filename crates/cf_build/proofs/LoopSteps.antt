@@ -29,21 +29,25 @@ use Rattle.cf_build.proofs.SolveLists.{solved_push}
 map_at : {X Y : Type 0} (f : X → Y) (xs : List X) (i : ℕ) (x : X) → i < length xs → x ≡ get_or xs i x → map f (take (i + 1) xs) ≡ map f (take i xs) ++ f x ∷ []
 map_at f xs i x l e = map_more f xs i x l ∙ ap (λ y. map f (take i xs) ++ f y ∷ []) (sym e)
 
-pub expr_found : (es : List Expr) (i : ℕ) (e : Expr) (old now new : List Question) → i < length es → e ≡ get_or es i e → now ≡ old ++ questions_all (expr_trees (take i es)) → new ≡ now ++ questions (expr_tree e) →
+pub expr_found : (es : List Expr) (i : ℕ) (e : Expr) (old now new : List Question) → i < length es → e ≡ get_or es i e →
+    now ≡ old ++ questions_all (expr_trees (take i es)) → new ≡ now ++ questions (expr_tree e) →
     new ≡ old ++ questions_all (expr_trees (take (i + 1) es))
 expr_found es i e old now new l is h g =
     let one : questions_all (expr_trees (take (i + 1) es)) ≡ questions_all (expr_trees (take i es)) ++ questions (expr_tree e) =
     ap (λ ts. questions_all (exprs_of ts)) (map_at expr_tree es i e l is) ∙ questions_push (map expr_tree (take i es)) (expr_tree e) in
-    g ∙ ap (λ qs. qs ++ questions (expr_tree e)) h ∙ append_assoc old (questions_all (expr_trees (take i es))) (questions (expr_tree e)) ∙ ap (λ qs. old ++ qs) (sym one)
+    g ∙ ap (λ qs. qs ++ questions (expr_tree e)) h ∙ append_assoc old (questions_all (expr_trees (take i es))) (questions (expr_tree e)) ∙
+    ap (λ qs. old ++ qs) (sym one)
 
-pub def_found : (ds : List Def) (i : ℕ) (d : Def) (now new : List Question) → i < length ds → d ≡ get_or ds i d → now ≡ questions_of (map def_tree (take i ds)) → new ≡ now ++ questions (expr_tree d.body) →
+pub def_found : (ds : List Def) (i : ℕ) (d : Def) (now new : List Question) → i < length ds → d ≡ get_or ds i d →
+    now ≡ questions_of (map def_tree (take i ds)) → new ≡ now ++ questions (expr_tree d.body) →
     new ≡ questions_of (map def_tree (take (i + 1) ds))
 def_found ds i d now new l is h g =
     let one : questions_of (map def_tree (take (i + 1) ds)) ≡ questions_of (map def_tree (take i ds)) ++ questions (expr_tree d.body) =
     ap questions_of (map_at def_tree ds i d l is) ∙ questions_of_push (map def_tree (take i ds)) (def_tree d) in
     g ∙ ap (λ qs. qs ++ questions (expr_tree d.body)) h ∙ sym one
 
-pub solves_more : (cs : List Choose) (i : ℕ) (c : Choose) (old new : List SolvedChoose) (s : SolvedChoose) → i < length cs → c ≡ get_or cs i c → AreSolved (map question_of (take i cs)) old →
+pub solves_more : (cs : List Choose) (i : ℕ) (c : Choose) (old new : List SolvedChoose) (s : SolvedChoose) → i < length cs → c ≡ get_or cs i c →
+    AreSolved (map question_of (take i cs)) old →
     new ≡ old ++ s ∷ [] → IsSolved (question_of c) s → AreSolved (map question_of (take (i + 1) cs)) new
 solves_more cs i c old new s l is h n k = rw (map_at question_of cs i c l is, n) (solved_push (map question_of (take i cs)) old (question_of c) s h k)
 
@@ -63,25 +67,35 @@ pub none_behind : (es : List Expr) (i : ℕ) (e : Expr) → i < length es → e 
     HaveNoMatch (expr_trees (drop (i + 1) es))
 none_behind es i e l is h = (subst (λ xs. HaveNoMatch (expr_trees xs)) (from_here es i e l is) h).1
 
-pub behind_more : (solves : Question → CodeTree) (ds : List Def) (i : ℕ) (d : Def) (old new : List Code) (c : Code) (all : List CodeTree) → i < length ds → d ≡ get_or ds i d → new ≡ old ++ c ∷ [] →
-    code_tree c ≡ code_of (called (map code_tree old)) solves (length d.params.items) (expr_tree d.body) → codes_behind solves (map code_tree old) (map def_tree (drop i ds)) ≡ all →
+pub behind_more : (solves : Question → CodeTree) (ds : List Def) (i : ℕ) (d : Def) (old new : List Code) (c : Code) (all : List CodeTree) → i < length ds →
+    d ≡ get_or ds i d → new ≡ old ++ c ∷ [] →
+    code_tree c ≡ code_of (called (map code_tree old)) solves (length d.params.items) (expr_tree d.body) →
+    codes_behind solves (map code_tree old) (map def_tree (drop i ds)) ≡ all →
     codes_behind solves (map code_tree new) (map def_tree (drop (i + 1) ds)) ≡ all
 behind_more solves ds i d old new c all l is n e h =
     rw (n, map-append code_tree old (c ∷ []), e) (rw (from_here ds i d l is) at h)
 
-pub levels_more : (old new : List Code) (c : Code) → new ≡ old ++ c ∷ [] → All (λ x. HasLevels (code_tree x)) old → HasLevels (code_tree c) → All (λ x. HasLevels (code_tree x)) new
+pub levels_more : (old new : List Code) (c : Code) → new ≡ old ++ c ∷ [] → All (λ x. HasLevels (code_tree x)) old → HasLevels (code_tree c) →
+    All (λ x. HasLevels (code_tree x)) new
 levels_more old new c n h l = rw n (All-push (λ x. HasLevels (code_tree x)) old c h l)
 
 -- ---- the ends of loops
-pub codes_at_end : (by : ℕ) (cs done : List Code) (i : ℕ) → length cs ≤ i → map code_tree done ≡ map (λ c. shifted by c) (map code_tree (take i cs)) → code_trees done ≡ all_shifted by (code_trees cs)
+pub codes_at_end : (by : ℕ) (cs done : List Code) (i : ℕ) → length cs ≤ i → map code_tree done ≡ map (λ c. shifted by c) (map code_tree (take i cs)) →
+    code_trees done ≡ all_shifted by (code_trees cs)
 codes_at_end by cs done i l h = ap codes_of (h ∙ ap (λ xs. map (λ c. shifted by c) (map code_tree xs)) (take_all i cs l)) ∙ codes_shifted by (map code_tree cs)
 
-pub items_at_end : (by : ℕ) (is done : List Item) (i : ℕ) → length is ≤ i → map item_tree done ≡ map (λ c. item_shifted by c) (map item_tree (take i is)) → item_trees done ≡ items_shifted by (item_trees is)
-items_at_end by is done i l h = ap items_of (h ∙ ap (λ xs. map (λ c. item_shifted by c) (map item_tree xs)) (take_all i is l)) ∙ list_items_shifted by (map item_tree is)
+pub items_at_end : (by : ℕ) (is done : List Item) (i : ℕ) → length is ≤ i → map item_tree done ≡ map (λ c. item_shifted by c) (map item_tree (take i is)) →
+    item_trees done ≡ items_shifted by (item_trees is)
+items_at_end by is done i l h = ap items_of (h ∙ ap (λ xs. map (λ c. item_shifted by c) (map item_tree xs)) (take_all i is l)) ∙
+    list_items_shifted by (map item_tree is)
 
-pub arms_at_end : (by : ℕ) (arms done : List Arm) (i : ℕ) → length arms ≤ i → map arm_tree done ≡ map (λ a. arm_shifted by a) (map arm_tree (take i arms)) → arm_trees done ≡ arms_shifted by (arm_trees arms)
-arms_at_end by arms done i l h = ap arms_of (h ∙ ap (λ xs. map (λ a. arm_shifted by a) (map arm_tree xs)) (take_all i arms l)) ∙ list_arms_shifted by (map arm_tree arms)
+pub arms_at_end : (by : ℕ) (arms done : List Arm) (i : ℕ) → length arms ≤ i → map arm_tree done ≡ map (λ a. arm_shifted by a) (map arm_tree (take i arms)) →
+    arm_trees done ≡ arms_shifted by (arm_trees arms)
+arms_at_end by arms done i l h = ap arms_of (h ∙ ap (λ xs. map (λ a. arm_shifted by a) (map arm_tree xs)) (take_all i arms l)) ∙
+    list_arms_shifted by (map arm_tree arms)
 
-pub exprs_at_end : (calls : ℕ → CodeTree) (solves : Question → CodeTree) (n : ℕ) (es : List Expr) (done : List Code) (i : ℕ) → length es ≤ i → map code_tree done ≡ map (λ e. code_of calls solves n e) (map expr_tree (take i es)) →
+pub exprs_at_end : (calls : ℕ → CodeTree) (solves : Question → CodeTree) (n : ℕ) (es : List Expr) (done : List Code) (i : ℕ) → length es ≤ i →
+    map code_tree done ≡ map (λ e. code_of calls solves n e) (map expr_tree (take i es)) →
     code_trees done ≡ codes_of_all calls solves n (expr_trees es)
-exprs_at_end calls solves n es done i l h = ap codes_of (h ∙ ap (λ xs. map (λ e. code_of calls solves n e) (map expr_tree xs)) (take_all i es l)) ∙ codes_of_exprs calls solves n (map expr_tree es)
+exprs_at_end calls solves n es done i l h = ap codes_of (h ∙ ap (λ xs. map (λ e. code_of calls solves n e) (map expr_tree xs)) (take_all i es l)) ∙
+    codes_of_exprs calls solves n (map expr_tree es)

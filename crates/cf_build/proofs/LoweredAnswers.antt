@@ -37,7 +37,8 @@ same_bodies (d ∷ ds) = rw (lowered_again d.body, same_bodies ds) refl
 same_code : (ds : List DefTree) (main : ℕ) → unfolded_code (map lowered_def ds) main ≡ unfolded_code ds main
 same_code ds main = rw (defs_again ds) refl
 
-at_place : (ds : List DefTree) (k : ℕ) (e : DefTree) → slice_get (map lowered_def ds) k ≡ Some e → (d : DefTree) × (slice_get ds k ≡ Some d) × (lowered_def d ≡ e)
+at_place : (ds : List DefTree) (k : ℕ) (e : DefTree) → slice_get (map lowered_def ds) k ≡ Some e →
+    (d : DefTree) × (slice_get ds k ≡ Some d) × (lowered_def d ≡ e)
 at_place [] k e h = absurd cc
 at_place (d ∷ ds) zero e h = (d, refl, cc)
 at_place (d ∷ ds) (suc k) e h = at_place ds k e h
@@ -51,7 +52,8 @@ runs_kept ds main passes t env r = let same = same_bodies ds in record {
 }
 
 allowed_kept : (ds : List DefTree) (main : ℕ) → AllowTheSame ds (map lowered_def ds) → (d : DefTree) → slice_get ds main ≡ Some d →
-    (bs : List Base) (env : List Value) (o : Outcome) → bs ≡ bases_of d.params → HaveBases bs env → SourceAllows (map lowered_def ds) main env o → SourceAllows ds main env o
+    (bs : List Base) (env : List Value) (o : Outcome) → bs ≡ bases_of d.params → HaveBases bs env → SourceAllows (map lowered_def ds) main env o →
+    SourceAllows ds main env o
 allowed_kept ds main keeps d at bs env o same h a = (keeps main d at env (subst (λ cs. HaveBases cs env) same h) o).1 a
 
 built_kept : (ds : List DefTree) (main passes : ℕ) (t : RawTarget) → AllowTheSame ds (map lowered_def ds) →

@@ -67,7 +67,8 @@ sides_have None L R h = h
 strict_fine : {P R : Outcome → Type 0} (Q : Value → Value → Value) (bs cs ds : List Base) (g h : Got (List Value)) →
     P (outcome_of g) × Keeps bs (outcome_of g) → R (outcome_of h) × Keeps cs (outcome_of h) →
     ((xs ys : List Value) → HaveBases bs xs → HaveBases cs ys → HaveBases ds (Q (first_of xs) (first_of ys) ∷ [])) →
-    AllowedThen P (λ xs. AllowedThen R (λ ys. Gives (Q (first_of xs) (first_of ys)))) (outcome_of (then_gives g (λ xs. then_gives h (λ ys. got (Q (first_of xs) (first_of ys) ∷ [])))))
+    AllowedThen P (λ xs. AllowedThen R (λ ys. Gives (Q (first_of xs) (first_of ys))))
+    (outcome_of (then_gives g (λ xs. then_gives h (λ ys. got (Q (first_of xs) (first_of ys) ∷ [])))))
     × Keeps ds (outcome_of (then_gives g (λ xs. then_gives h (λ ys. got (Q (first_of xs) (first_of ys) ∷ [])))))
 strict_fine {R = R} Q bs cs ds g h p q k =
     then_fine bs ds g _ p (λ xs hx. then_fine {P = R} cs ds h _ q (λ ys hy. (refl, k xs ys hx hy)))
@@ -76,7 +77,8 @@ abbrev pub Fine : (Outcome → Type 0) → List Base → CodeTree → List Value
 Fine P bs c env = P (means c env) × Keeps bs (means c env)
 
 sum_gives : (a b : CodeTree) (env : List Value) →
-    (path (binary_code Add a b) env).gives ≡ then_gives (path a env).gives (λ xs. then_gives (path b env).gives (λ ys. got (number (number_of (first_of xs) +ℤ number_of (first_of ys)) ∷ [])))
+    (path (binary_code Add a b) env).gives ≡ then_gives (path a env).gives
+    (λ xs. then_gives (path b env).gives (λ ys. got (number (number_of (first_of xs) +ℤ number_of (first_of ys)) ∷ [])))
 sum_gives a b env = by (path a env).gives (path b env).gives
   where
     by : (g h : Got (List Value)) → then_gives g (λ xs. then_gives h (λ ys. got (number (pos 0 +ℤ number_of (first_of xs) +ℤ number_of (first_of ys)) ∷ [])))
@@ -128,10 +130,13 @@ module _ (P R : Outcome → Type 0) (a b : CodeTree) (env : List Value) where
   subset_fine : (c d : Base) → Fine P (c ∷ []) a env → Fine R (d ∷ []) b env → Fine (Sides Subset) (Truth ∷ []) (binary_code Subset a b) env
   subset_fine c d p q = strict_fine (operation Subset) (c ∷ []) (d ∷ []) (Truth ∷ []) (path a env).gives (path b env).gives p q (λ xs ys hx hy. ((_, refl), tt))
 
-  compare_fine : (o : Order) (c d : Base) → Fine P (c ∷ []) a env → Fine R (d ∷ []) b env → Fine (Sides (Compare o)) (Truth ∷ []) (binary_code (Compare o) a b) env
-  compare_fine o c d p q = strict_fine (operation (Compare o)) (c ∷ []) (d ∷ []) (Truth ∷ []) (path a env).gives (path b env).gives p q (λ xs ys hx hy. ((_, refl), tt))
+  compare_fine : (o : Order) (c d : Base) → Fine P (c ∷ []) a env → Fine R (d ∷ []) b env →
+      Fine (Sides (Compare o)) (Truth ∷ []) (binary_code (Compare o) a b) env
+  compare_fine o c d p q = strict_fine (operation (Compare o)) (c ∷ []) (d ∷ []) (Truth ∷ []) (path a env).gives (path b env).gives p q
+      (λ xs ys hx hy. ((_, refl), tt))
 
-  binary_fine : (op : BinOp) (A B : Base → Type 0) → ((c : Base) → A c → Fine P (c ∷ []) a env) → ((c : Base) → B c → Fine R (c ∷ []) b env) → AreSides (side_of op) A B →
+  binary_fine : (op : BinOp) (A B : Base → Type 0) → ((c : Base) → A c → Fine P (c ∷ []) a env) → ((c : Base) → B c → Fine R (c ∷ []) b env) →
+      AreSides (side_of op) A B →
       Fine (Sides op) (result_of op ∷ []) (binary_code op a b) env
   binary_fine Add A B p q h = sum_fine Int Int (p Int h.0) (q Int h.1)
   binary_fine Sub A B p q h = difference_fine Int Int (p Int h.0) (q Int h.1)
@@ -156,7 +161,8 @@ absolute_gives : (env : List Value) (n : ℕ) (z : ℤ) → n ≡ length env →
 absolute_gives env n z e = rw (value_at-end env (number z) n e) (ap (λ w. got (number w ∷ [])) (greater_is_absolute z))
 
 -- one code alone, or a tuple, gives what the codes give
-pub joined_gives : (c : CodeTree) (cs : CodeTrees) (env : List Value) → (path (joined_code (code_more c cs)) env).gives ≡ (all_path (code_more c cs) env []).gives
+pub joined_gives : (c : CodeTree) (cs : CodeTrees) (env : List Value) →
+    (path (joined_code (code_more c cs)) env).gives ≡ (all_path (code_more c cs) env []).gives
 joined_gives c no_codes env = by (path c env).gives
   where
     by : (g : Got (List Value)) → g ≡ then_gives g (λ xs. got ([] ++ xs))
@@ -169,7 +175,8 @@ module _ (calls : ℕ → CodeTree) (solves : Question → CodeTree) (takes : �
   abbrev Solved : List Question → Type 0
   Solved qs = (q : Question) → Contains qs q → IsSolveOf q (solves q)
 
-  choose_fine : (q : Question) (env : List Value) → HaveBases q.scope env → IsSolveOf q (solves q) → Fine (Chosen q.number (Sol q.outputs q.relation env)) q.outputs (solves q) env
+  choose_fine : (q : Question) (env : List Value) → HaveBases q.scope env → IsSolveOf q (solves q) →
+      Fine (Chosen q.number (Sol q.outputs q.relation env)) q.outputs (solves q) env
   choose_fine q env h s =
       let chosen : Chosen q.number (Sol q.outputs q.relation env) (means (solves q) env) =
       rw s.code (solve_chosen q.number q.scope q.outputs q.relation (question_arms q) s.solved.solves s.solved.typed env h) in
@@ -183,7 +190,8 @@ module _ (calls : ℕ → CodeTree) (solves : Question → CodeTree) (takes : �
 
   -- the values of arguments and then the called body
   call_fine : (f : ℕ) (es : ExprTrees) (ps rs : List Base) (env : List Value) (n : ℕ) → n ≡ length env → takes f ps rs →
-      AllowedAll allows es env (outcome_of (all_path (codes_of_all calls solves n es) env []).gives) × Keeps ps (outcome_of (all_path (codes_of_all calls solves n es) env []).gives) →
+      AllowedAll allows es env (outcome_of (all_path (codes_of_all calls solves n es) env []).gives) ×
+      Keeps ps (outcome_of (all_path (codes_of_all calls solves n es) env []).gives) →
       Fine (AllowedThen (AllowedAll allows es env) (allows f)) rs (call_code n (codes_of_all calls solves n es) (shifted n (calls f))) env
   call_fine f no_exprs ps rs env n e t r =
       let b = calls_fine f ps rs t [] r.1 in
@@ -194,7 +202,8 @@ module _ (calls : ℕ → CodeTree) (solves : Question → CodeTree) (takes : �
       (λ xs hx. rw (call_means n (calls f) env xs e) (calls_fine f ps rs t xs hx))
 
   mutual
-    pub fine : (e : ExprTree) → HasNoMatch e → Solved (questions e) → (scope bs : List Base) → ExprHasBases takes e scope bs → (env : List Value) → HaveBases scope env → (n : ℕ) → n ≡ length scope →
+    pub fine : (e : ExprTree) → HasNoMatch e → Solved (questions e) → (scope bs : List Base) → ExprHasBases takes e scope bs → (env : List Value) →
+        HaveBases scope env → (n : ℕ) → n ≡ length scope →
         Fine (AllowedIn allows e env) bs (code_of calls solves n e) env
     fine (expr_lit z) p s scope bs h env k n e = (refl, keeps_number bs z h.1)
     fine (expr_truth t) p s scope bs h env k n e = (refl, keeps_truth bs t h)
@@ -231,16 +240,20 @@ module _ (calls : ℕ → CodeTree) (solves : Question → CodeTree) (takes : �
         unary_fine (Set ∷ []) bs (path (code_of calls solves n a) env).gives (fine a p s scope (Set ∷ []) h.0 env k n e) (λ xs. keeps_number bs _ h.1)
     fine (expr_if t a b) p s scope bs h env k n e =
         then_fine (Truth ∷ []) bs (path (code_of calls solves n t) env).gives _
-        (fine t p.0 (λ q m. s q (Contains-append_left (questions t ++ questions a) (questions b) q (Contains-append_left (questions t) (questions a) q m))) scope (Truth ∷ []) h.0 env k n e) (λ xs hx.
+        (fine t p.0 (λ q m. s q (Contains-append_left (questions t ++ questions a) (questions b) q (Contains-append_left (questions t) (questions a) q m)))
+        scope (Truth ∷ []) h.0 env k n e) (λ xs hx.
         if_fine (truth_in xs) (AllowedIn allows a env) (AllowedIn allows b env) bs (path (code_of calls solves n a) env) (path (code_of calls solves n b) env)
-        (fine a p.1 (λ q m. s q (Contains-append_left (questions t ++ questions a) (questions b) q (Contains-append_right (questions t) (questions a) q m))) scope bs h.1 env k n e)
+        (fine a p.1 (λ q m. s q (Contains-append_left (questions t ++ questions a) (questions b) q (Contains-append_right (questions t) (questions a) q m)))
+        scope bs h.1 env k n e)
         (fine b p.2 (λ q m. s q (Contains-append_right (questions t ++ questions a) (questions b) q m)) scope bs h.2 env k n e))
     fine (expr_call f es) p s scope bs h env k n e =
-        call_fine f es h.0 bs env n (e ∙ sym (length_have scope env k)) h.1 (let r = all_fine es p s scope h.0 h.2 env k n e [] [] tt in (then_same (AllowedAll allows es env) _ r.0, r.1))
+        call_fine f es h.0 bs env n (e ∙ sym (length_have scope env k)) h.1 (let r = all_fine es p s scope h.0 h.2 env k n e [] [] tt in
+        (then_same (AllowedAll allows es env) _ r.0, r.1))
     fine (expr_let m a b) p s scope bs h env k n e =
         then_fine h.0 bs (path (code_of calls solves n a) env).gives _
         (fine a p.0 (λ q c. s q (Contains-append_left (questions a) (questions b) q c)) scope h.0 h.1 env k n e) (λ xs hx.
-        fine b p.1 (λ q c. s q (Contains-append_right (questions a) (questions b) q c)) (scope ++ h.0) bs h.4 (env ++ xs) (have_append scope h.0 env xs k hx) (n + m) (omega (arith, e, h.2, length-append scope h.0)))
+        fine b p.1 (λ q c. s q (Contains-append_right (questions a) (questions b) q c)) (scope ++ h.0) bs h.4 (env ++ xs) (have_append scope h.0 env xs k hx)
+        (n + m) (omega (arith, e, h.2, length-append scope h.0)))
     fine (expr_choose m params outputs rel) p s scope bs h env k n e =
         let q : Question = record { number = m; names = names_of params; scope = bases_of params; outputs = outputs; relation = rel } in
         let r = choose_fine q env (rw h.0 k) (s q (0, omega arith, refl)) in
@@ -248,7 +261,8 @@ module _ (calls : ℕ → CodeTree) (solves : Question → CodeTree) (takes : �
     fine (expr_match m params a arms) p s scope bs h env k n e = absurd p
 
     -- the values behind those that are done
-    pub all_fine : (es : ExprTrees) → HaveNoMatch es → Solved (questions_all es) → (scope bs : List Base) → PartsHave takes es scope bs → (env : List Value) → HaveBases scope env → (n : ℕ) → n ≡ length scope →
+    pub all_fine : (es : ExprTrees) → HaveNoMatch es → Solved (questions_all es) → (scope bs : List Base) → PartsHave takes es scope bs → (env : List Value) →
+        HaveBases scope env → (n : ℕ) → n ≡ length scope →
         (ds : List Base) (done : List Value) → HaveBases ds done →
         AllowedThen (AllowedAll allows es env) (λ ys o. o ≡ values (done ++ ys)) (outcome_of (all_path (codes_of_all calls solves n es) env done).gives)
         × Keeps (ds ++ bs) (outcome_of (all_path (codes_of_all calls solves n es) env done).gives)
@@ -256,19 +270,23 @@ module _ (calls : ℕ → CodeTree) (solves : Question → CodeTree) (takes : �
     all_fine (expr_more a es) p s scope bs h env k n e ds done d =
         more_fine (h.0 ∷ []) (ds ++ bs) (path (code_of calls solves n a) env).gives _
         (fine a p.0 (λ q c. s q (Contains-append_left (questions a) (questions_all es) q c)) scope (h.0 ∷ []) h.3 env k n e) (λ xs hx.
-        let r = all_fine es p.1 (λ q c. s q (Contains-append_right (questions a) (questions_all es) q c)) scope h.1 h.4 env k n e (ds ++ h.0 ∷ []) (done ++ xs) (have_append ds (h.0 ∷ []) done xs d hx) in (
+        let r = all_fine es p.1 (λ q c. s q (Contains-append_right (questions a) (questions_all es) q c)) scope h.1 h.4 env k n e (ds ++ h.0 ∷ []) (done ++ xs)
+        (have_append ds (h.0 ∷ []) done xs d hx) in (
           then_weaker _ r.0 (λ ys g. g ∙ ap values (append_assoc done xs ys)),
           keeps_same (ds ++ h.0 ∷ [] ++ h.1) (ds ++ bs) _ (append_assoc ds (h.0 ∷ []) h.1 ∙ ap (λ cs. ds ++ cs) (sym h.2)) r.1,
         ))
 
     -- the numbers put into those that are done
-    set_fine : (es : ExprTrees) → HaveNoMatch es → Solved (questions_all es) → (scope : List Base) → AllHave takes es scope Int → (env : List Value) → HaveBases scope env → (n : ℕ) → n ≡ length scope →
+    set_fine : (es : ExprTrees) → HaveNoMatch es → Solved (questions_all es) → (scope : List Base) → AllHave takes es scope Int → (env : List Value) →
+        HaveBases scope env → (n : ℕ) → n ≡ length scope →
         (done : List ℤ) → IsRising done →
-        AllowedThen (AllowedAll allows es env) (λ ys. Gives (elements (put_all (map number_of ys) done))) (outcome_of (set_path (codes_of_all calls solves n es) env done).gives)
+        AllowedThen (AllowedAll allows es env) (λ ys. Gives (elements (put_all (map number_of ys) done)))
+        (outcome_of (set_path (codes_of_all calls solves n es) env done).gives)
         × Keeps (Set ∷ []) (outcome_of (set_path (codes_of_all calls solves n es) env done).gives)
     set_fine no_exprs p s scope h env k n e done d = (goes_on [] refl refl, ((done, refl, d), tt))
     set_fine (expr_more a es) p s scope h env k n e done d =
         more_fine (Int ∷ []) (Set ∷ []) (path (code_of calls solves n a) env).gives _
         (fine a p.0 (λ q c. s q (Contains-append_left (questions a) (questions_all es) q c)) scope (Int ∷ []) h.0 env k n e) (λ xs hx.
         let z = number_alone xs hx in
-        rw z.1 (set_fine es p.1 (λ q c. s q (Contains-append_right (questions a) (questions_all es) q c)) scope h.1 env k n e (set_put z.0 done) (rising_put z.0 done d)))
+        rw z.1 (set_fine es p.1 (λ q c. s q (Contains-append_right (questions a) (questions_all es) q c)) scope h.1 env k n e (set_put z.0 done)
+        (rising_put z.0 done d)))

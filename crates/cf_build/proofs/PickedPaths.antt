@@ -462,7 +462,8 @@ module _ (calls : ℕ → CodeTree) (solves : Question → CodeTree) (takes : �
       (parts_keep es p s scope bs h env n a)
 
   -- and those for one expression
-  pub value_fit : (e : ExprTree) → HasNoMatch e → EachSolved (questions e) → (scope bs : List Base) → ExprHasBases takes e scope bs → (env : List Value) (n : ℕ) →
+  pub value_fit : (e : ExprTree) → HasNoMatch e → EachSolved (questions e) → (scope bs : List Base) → ExprHasBases takes e scope bs →
+      (env : List Value) (n : ℕ) →
       Around scope env n →
       (xs : List Value) → picked_in picks e env ≡ Some (values xs) → AreFit bs xs
   value_fit e p s scope bs h env n a =

@@ -74,7 +74,8 @@ numbered_one q d = record {
 }
 
 -- two chooses of two lists
-meet : (qs ps : List Question) (ns ms : List ℕ) → AreApart ns ms → AreOnce qs ns → AreOnce ps ms → (a b : Question) → Contains qs a ⊎ Contains ps a → Contains qs b ⊎ Contains ps b → a.number ≡ b.number → a ≡ b
+meet : (qs ps : List Question) (ns ms : List ℕ) → AreApart ns ms → AreOnce qs ns → AreOnce ps ms → (a b : Question) → Contains qs a ⊎ Contains ps a →
+    Contains qs b ⊎ Contains ps b → a.number ≡ b.number → a ≡ b
 meet qs ps ns ms r h k a b (inl c) (inl e) same = h.one a b c e same
 meet qs ps ns ms r h k a b (inl c) (inr e) same = absurd (r.apart b.number (subst (Contains ns) same (h.among a c)) (k.among b e))
 meet qs ps ns ms r h k a b (inr c) (inl e) same = absurd (r.apart a.number (subst (Contains ns) (sym same) (h.among b e)) (k.among a c))
@@ -130,7 +131,8 @@ numbered_arm : (m x : ℕ) (scope : List Param) (factors : List ℤ) (k : ℤ) (
 numbered_arm m x scope [] k body ns h = h
 numbered_arm m x scope (f ∷ factors) k body ns h = numbered_both _ (questions body) (m ∷ []) ns (numbered_one _) h
 
-numbered_unless : (t body rest : ExprTree) (arms : MatchArmTrees) (ns ms : List ℕ) → questions t ≡ [] → Numbered (questions body) ns → Numbered (questions rest) ms → Numbered (questions (unless_last t body arms rest)) (ns ++ ms)
+numbered_unless : (t body rest : ExprTree) (arms : MatchArmTrees) (ns ms : List ℕ) → questions t ≡ [] → Numbered (questions body) ns →
+    Numbered (questions rest) ms → Numbered (questions (unless_last t body arms rest)) (ns ++ ms)
 numbered_unless t body rest no_match_arms ns ms e f g =
     subst (λ qs. Numbered qs (ns ++ ms)) (append-nil (questions body)) (numbered_both (questions body) [] ns ms f (numbered_none ms))
 numbered_unless t body rest (match_arm_more arm arms) ns ms e f g = rw e (numbered_both (questions body) (questions rest) ns ms f g)
@@ -150,7 +152,8 @@ mutual
   numbered (expr_div a k) = numbered a
   numbered (expr_mod a k) = numbered a
   numbered (expr_card a) = numbered a
-  numbered (expr_if t a b) = numbered_both _ _ (numbers t ++ numbers a) (numbers b) (numbered_both _ _ (numbers t) (numbers a) (numbered t) (numbered a)) (numbered b)
+  numbered (expr_if t a b) = numbered_both _ _ (numbers t ++ numbers a) (numbers b) (numbered_both _ _ (numbers t) (numbers a) (numbered t) (numbered a))
+      (numbered b)
   numbered (expr_call f es) = all_numbered es
   numbered (expr_let n a b) = numbered_both _ _ (numbers a) (numbers b) (numbered a) (numbered b)
   numbered (expr_choose n scope outputs rel) = numbered_one _
@@ -159,7 +162,8 @@ mutual
       let whole : Question = record { number = n; names = names_of scope; scope = bases_of scope; outputs = Int ∷ []; relation = rel_false } in
       rw (fits_none x arms) (
       numbered_both _ _ (n ∷ numbers a) (numbers_arms arms)
-      (numbered_turned (whole ∷ []) (questions (lowered a)) (n ∷ numbers a) (numbered_both (whole ∷ []) _ (n ∷ []) (numbers a) (numbered_one whole) (numbered a)))
+      (numbered_turned (whole ∷ []) (questions (lowered a)) (n ∷ numbers a)
+      (numbered_both (whole ∷ []) _ (n ∷ []) (numbers a) (numbered_one whole) (numbered a)))
       (arms_numbered x scope arms)
       )
 
@@ -170,7 +174,8 @@ mutual
   arms_numbered : (x : ℕ) (scope : List Param) (arms : MatchArmTrees) → Numbered (questions (picked x scope arms)) (numbers_arms arms)
   arms_numbered x scope no_match_arms = numbered_none []
   arms_numbered x scope (match_arm_more (match_arm m factors k body) arms) =
-      numbered_unless (test x factors k) (with_variables m x scope factors k (lowered body)) (picked x scope arms) arms (arm_numbers m factors ++ numbers body) (numbers_arms arms)
+      numbered_unless (test x factors k) (with_variables m x scope factors k (lowered body)) (picked x scope arms) arms (arm_numbers m factors ++ numbers body)
+      (numbers_arms arms)
       (test_none x (divisor factors) k) (numbered_arm m x scope factors k (lowered body) (numbers body) (numbered body)) (arms_numbered x scope arms)
 
 program_numbered : (defs : List DefTree) → Numbered (all_questions defs) (all_numbers defs)
@@ -185,11 +190,13 @@ not_before qs n m r s h k less =
     let some : limit_of q.0 ≡ Some r = q.3 in cc
 
 -- one choose is the first that is refused, and one refusal is its
-pub one_refusal : (defs : List DefTree) (n m : ℕ) (r s : Refusal) → IsDistinct nat_eq (all_numbers defs) → IsFirstRefused (all_questions defs) n r → IsFirstRefused (all_questions defs) m s → r ≡ s
+pub one_refusal : (defs : List DefTree) (n m : ℕ) (r s : Refusal) → IsDistinct nat_eq (all_numbers defs) → IsFirstRefused (all_questions defs) n r →
+    IsFirstRefused (all_questions defs) m s → r ≡ s
 one_refusal defs n m r s d h k =
     let p = h.refused in
     let q = k.refused in
-    let same : p.0.number ≡ q.0.number = p.2 ∙ number n m (not_before (all_questions defs) n m r s h k) (not_before (all_questions defs) m n s r k h) ∙ sym q.2 in
+    let same : p.0.number ≡ q.0.number = p.2 ∙ number n m (not_before (all_questions defs) n m r s h k) (not_before (all_questions defs) m n s r k h) ∙
+    sym q.2 in
     let one : p.0 ≡ q.0 = (program_numbered defs d).one p.0 q.0 p.1 q.1 same in
     let left : limit_of p.0 ≡ Some r = p.3 in
     let right : limit_of q.0 ≡ Some s = q.3 in

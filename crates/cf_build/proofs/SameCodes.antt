@@ -50,7 +50,8 @@ module _ (s t : Question → CodeTree) where
             same_code b
                 (λ q m. h q (Contains-append_right (questions a) (questions b) q m)) (n + k),
           ) refl
-      same_code (expr_choose k params outputs rel) h n = h (record { number = k; names = names_of params; scope = bases_of params; outputs = outputs; relation = rel })
+      same_code (expr_choose k params outputs rel) h n =
+          h (record { number = k; names = names_of params; scope = bases_of params; outputs = outputs; relation = rel })
           (0, omega arith, refl)
       same_code (expr_match k params a arms) h n = refl
 

@@ -63,7 +63,8 @@ items_plain by (item_more (need_item c) is) h = (plain by c h.0, items_plain by 
 
 module _ (front : List Base) where
   mutual
-    pub has : (c : CodeTree) (scope : List Base) (asked : Option (List Base)) (bs : List Base) → HasBases c scope asked bs → HasBases (shifted (length front) c) (front ++ scope) asked bs
+    pub has : (c : CodeTree) (scope : List Base) (asked : Option (List Base)) (bs : List Base) → HasBases c scope asked bs →
+        HasBases (shifted (length front) c) (front ++ scope) asked bs
     has (code_lit k) scope asked bs h = h
     has (code_truth t) scope asked bs h = h
     has (code_var x) scope asked bs h = (h.0, rw (slice_get_behind front scope x) h.1, h.2)
@@ -103,14 +104,18 @@ module _ (front : List Base) where
     all_have no_codes scope b h = tt
     all_have (code_more c cs) scope b h = (has c scope _ _ h.0, all_have cs scope b h.1)
 
-    parts_have : (cs : CodeTrees) (scope : List Base) (asked : Option (List Base)) (bs : List Base) → PartsHave cs scope asked bs → PartsHave (all_shifted (length front) cs) (front ++ scope) asked bs
+    parts_have : (cs : CodeTrees) (scope : List Base) (asked : Option (List Base)) (bs : List Base) → PartsHave cs scope asked bs →
+        PartsHave (all_shifted (length front) cs) (front ++ scope) asked bs
     parts_have no_codes scope asked bs h = h
     parts_have (code_more c cs) scope asked bs h = (h.0, h.1, h.2, has c scope _ _ h.3, parts_have cs scope asked h.1 h.4)
 
-    items_have : (is : ItemTrees) (scope : List Base) (gs hs : CodeTrees) (bs : List Base) → ((inner : List Base) → PartsHave gs inner None bs → PartsHave hs (front ++ inner) None bs) →
-        ItemsHave is scope (λ inner. PartsHave gs inner None bs) → ItemsHave (items_shifted (length front) is) (front ++ scope) (λ inner. PartsHave hs inner None bs)
+    items_have : (is : ItemTrees) (scope : List Base) (gs hs : CodeTrees) (bs : List Base) →
+        ((inner : List Base) → PartsHave gs inner None bs → PartsHave hs (front ++ inner) None bs) →
+        ItemsHave is scope (λ inner. PartsHave gs inner None bs) →
+        ItemsHave (items_shifted (length front) is) (front ++ scope) (λ inner. PartsHave hs inner None bs)
     items_have no_items scope gs hs bs f h = f scope h
-    items_have (item_more (let_item c) is) scope gs hs bs f h = (h.0, has c scope None _ h.1, rw (append_assoc front scope (h.0 ∷ [])) (items_have is (scope ++ h.0 ∷ []) gs hs bs f h.2))
+    items_have (item_more (let_item c) is) scope gs hs bs f h =
+        (h.0, has c scope None _ h.1, rw (append_assoc front scope (h.0 ∷ [])) (items_have is (scope ++ h.0 ∷ []) gs hs bs f h.2))
     items_have (item_more (need_item c) is) scope gs hs bs f h = (has c scope _ _ h.0, items_have is scope gs hs bs f h.1)
 
     arms_have : (arms : ArmTrees) (scope bs : List Base) → ArmsHave arms scope bs → ArmsHave (arms_shifted (length front) arms) (front ++ scope) bs
@@ -125,5 +130,6 @@ module _ (front : List Base) where
     )
 
 -- code behind more variables has the bases that it has without them
-pub shifted_has : (front scope : List Base) (c : CodeTree) (asked : Option (List Base)) (bs : List Base) → HasBases c scope asked bs → HasBases (shifted (length front) c) (front ++ scope) asked bs
+pub shifted_has : (front scope : List Base) (c : CodeTree) (asked : Option (List Base)) (bs : List Base) → HasBases c scope asked bs →
+    HasBases (shifted (length front) c) (front ++ scope) asked bs
 shifted_has front scope c asked bs h = has front c scope asked bs h

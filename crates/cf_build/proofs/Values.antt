@@ -98,7 +98,8 @@ from_zero x y = omega (arith, ints)
 pub greater_is_absolute : (z : ℤ) → int_max z (neg_ℤ z) ≡ absolute z
 greater_is_absolute z = omega (arith, ints, clamps)
 
-pub then_weaker : {R : Outcome → Type 0} {S T : List Value → Outcome → Type 0} (o : Outcome) → AllowedThen R S o → ((ys : List Value) → S ys o → T ys o) → AllowedThen R T o
+pub then_weaker : {R : Outcome → Type 0} {S T : List Value → Outcome → Type 0} (o : Outcome) → AllowedThen R S o → ((ys : List Value) → S ys o → T ys o) →
+    AllowedThen R T o
 then_weaker o (goes_on ys r s) f = goes_on ys r (f ys s)
 then_weaker o (ends_at n r e) f = ends_at n r e
 

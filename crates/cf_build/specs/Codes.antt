@@ -78,7 +78,8 @@ abbrev mutual
   code_of calls solves n (expr_if t a b) = code_if (code_of calls solves n t) (code_of calls solves n a) (code_of calls solves n b)
   code_of calls solves n (expr_call f es) = call_code n (codes_of_all calls solves n es) (shifted n (calls f))
   code_of calls solves n (expr_let m a b) = code_let n m (code_of calls solves n a) (code_of calls solves (n + m) b)
-  code_of calls solves n (expr_choose m scope outputs rel) = solves (record { number = m; names = names_of scope; scope = bases_of scope; outputs = outputs; relation = rel })
+  code_of calls solves n (expr_choose m scope outputs rel) =
+      solves (record { number = m; names = names_of scope; scope = bases_of scope; outputs = outputs; relation = rel })
   code_of calls solves n (expr_match m scope a arms) = code_tuple no_codes
 
   pub codes_of_all : (ℕ → CodeTree) → (Question → CodeTree) → ℕ → ExprTrees → CodeTrees

@@ -99,7 +99,8 @@ fn main_target(alloc: Global, typed: &Typed, solves: &ChooseCodes) -> Result<Raw
 
 // The codes of functions, each behind its parameters.
 fn def_codes(alloc: Global, defs: &[Def], solves: &ChooseCodes) -> Result<Vec<Code>, NoMemory>
-    ensures codes { IfOk result (λ codes. map code_tree codes.items ≡ codes_behind (solved_in (map choose_code solves.now.codes.items)) [] (map def_tree defs.now)) }
+    ensures codes { IfOk result (λ codes. map code_tree codes.items ≡ codes_behind (solved_in (map choose_code solves.now.codes.items)) []
+        (map def_tree defs.now)) }
     ensures levels { IfOk result (λ codes. All (λ c. HasLevels (code_tree c)) codes.items) }
 {
     let mut codes = Vec::new(alloc);
@@ -116,7 +117,8 @@ fn def_code(
     codes: &[Code],
     solves: &ChooseCodes,
 ) -> Result<Code, NoMemory>
-    ensures code { IfOk result (λ c. code_tree c ≡ code_of (called (map code_tree codes.now)) (solved_in (map choose_code solves.now.codes.items)) (length def.now.params.items) (expr_tree def.now.body)) }
+    ensures code { IfOk result (λ c. code_tree c ≡ code_of (called (map code_tree codes.now)) (solved_in (map choose_code solves.now.codes.items))
+        (length def.now.params.items) (expr_tree def.now.body)) }
     ensures levels { IfOk result (λ c. HasLevels (code_tree c)) }
 {
     let Ok(arity) = u32::try_from(def.params.len()) else {
@@ -127,7 +129,8 @@ fn def_code(
 
 // The target with this code, and a function's parameters and results.
 fn target(alloc: Global, def: &Def, code: Code) -> Result<RawTarget, NoMemory>
-    ensures { IfOk result (λ t. (t.params.items ≡ bases_of def.now.params.items) × (t.results.items ≡ def.now.results.items) × (code_tree t.code ≡ code_tree code)) }
+    ensures { IfOk result (λ t. (t.params.items ≡ bases_of def.now.params.items) × (t.results.items ≡ def.now.results.items) ×
+        (code_tree t.code ≡ code_tree code)) }
 {
     let params = bases(alloc, &def.params)?;
     let results = Vec::from_slice(alloc, &def.results)?;

@@ -132,7 +132,14 @@ fn copied(
     outputs: &[Base],
     rel: &Rel,
 ) -> Result<Choose, NoMemory>
-    ensures { IfOk result (λ c. question_of c ≡ record { number = number; names = names_of scope.now; scope = bases_of scope.now; outputs = outputs.now; relation = rel_tree rel.now }) }
+    ensures { IfOk result (λ c. question_of c ≡ record {
+      number = number;
+      names = names_of scope.now;
+      scope = bases_of scope.now;
+      outputs =
+          outputs.now;
+      relation = rel_tree rel.now;
+    }) }
 {
     Ok(Choose {
         number,

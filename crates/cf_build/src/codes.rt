@@ -26,7 +26,8 @@ pub(crate) fn code(
     codes: &[Code],
     solves: &ChooseCodes,
 ) -> Result<Code, NoMemory>
-    ensures code { IfOk result (λ c. code_tree c ≡ code_of (called (map code_tree codes.now)) (solved_in (map choose_code solves.now.codes.items)) n (expr_tree expr.now)) }
+    ensures code { IfOk result (λ c. code_tree c ≡ code_of (called (map code_tree codes.now)) (solved_in (map choose_code solves.now.codes.items)) n
+        (expr_tree expr.now)) }
     ensures levels { IfOk result (λ c. HasLevels (code_tree c)) }
 {
     match expr {
@@ -89,7 +90,8 @@ fn boxed(
     codes: &[Code],
     solves: &ChooseCodes,
 ) -> Result<Box<Code>, NoMemory>
-    ensures code { IfOk result (λ c. code_tree c.value ≡ code_of (called (map code_tree codes.now)) (solved_in (map choose_code solves.now.codes.items)) n (expr_tree expr.now)) }
+    ensures code { IfOk result (λ c. code_tree c.value ≡ code_of (called (map code_tree codes.now)) (solved_in (map choose_code solves.now.codes.items)) n
+        (expr_tree expr.now)) }
     ensures levels { IfOk result (λ c. HasLevels (code_tree c.value)) }
 {
     Ok(Box::new(alloc, code(alloc, expr, n, codes, solves)?)?)
@@ -103,7 +105,8 @@ fn all(
     codes: &[Code],
     solves: &ChooseCodes,
 ) -> Result<Vec<Code>, NoMemory>
-    ensures code { IfOk result (λ cs. code_trees cs.items ≡ codes_of_all (called (map code_tree codes.now)) (solved_in (map choose_code solves.now.codes.items)) n (expr_trees exprs.now)) }
+    ensures code { IfOk result (λ cs. code_trees cs.items ≡ codes_of_all (called (map code_tree codes.now)) (solved_in (map choose_code solves.now.codes.items))
+        n (expr_trees exprs.now)) }
     ensures levels { IfOk result (λ cs. HaveLevels (code_trees cs.items)) }
 {
     let mut all = Vec::new(alloc);

@@ -38,7 +38,8 @@ pub(crate) fn add_compare(
     requires sets { set_count (plain_layout layout.now) ≤ MOST_SETS }
     requires above { first_free (plain_layout layout.now) ≤ builder.old.next }
     requires room { builder.old.next + quotient_count (term_tree left.now) + quotient_count (term_tree right.now) < 2 ^ 32 }
-    ensures gives { BuilderAnswer (with_case (plain_layout layout.now) (rows_of builder.old) (case_by (normal_atom (atom_compare order (term_tree left.now) (term_tree right.now))) index)) builder.new result }
+    ensures gives { BuilderAnswer (with_case (plain_layout layout.now) (rows_of builder.old)
+        (case_by (normal_atom (atom_compare order (term_tree left.now) (term_tree right.now))) index)) builder.new result }
     ensures next { IfOk result (λ _. builder.new.next ≡ builder.old.next + quotient_count (term_tree left.now) + quotient_count (term_tree right.now)) }
 {
     let signs = signs_of_two(builder.alloc, left, right, index / order_ways(order))?;
@@ -62,7 +63,8 @@ fn add_comparison(
     requires sets { set_count (plain_layout layout.now) ≤ MOST_SETS }
     requires above { first_free (plain_layout layout.now) ≤ builder.old.next }
     requires room { builder.old.next + quotient_count (term_tree left.now) + quotient_count (term_tree right.now) < 2 ^ 32 }
-    ensures gives { BuilderAnswer (rows_then (plain_layout layout.now) (rows_of builder.old) (atom_compare order (term_tree left.now) (term_tree right.now), signs.now)) builder.new result }
+    ensures gives { BuilderAnswer (rows_then (plain_layout layout.now) (rows_of builder.old)
+        (atom_compare order (term_tree left.now) (term_tree right.now), signs.now)) builder.new result }
     ensures next { IfOk result (λ _. builder.new.next ≡ builder.old.next + quotient_count (term_tree left.now) + quotient_count (term_tree right.now)) }
 {
     let used = abs_count(left)?;
@@ -89,7 +91,8 @@ fn add_second(
     requires sets { set_count (plain_layout layout.now) ≤ MOST_SETS }
     requires above { first_free (plain_layout layout.now) ≤ first.now.next }
     requires room { first.now.next + quotient_count (term_tree right.now) < 2 ^ 32 }
-    ensures gives { BuilderAnswer (with_comparison (rows_of builder.old) order first.now.row (map guard_of first.now.guards.items) (write (plain_layout layout.now) (term_tree right.now) signs.now first.now.next)) builder.new result }
+    ensures gives { BuilderAnswer (with_comparison (rows_of builder.old) order first.now.row (map guard_of first.now.guards.items)
+        (write (plain_layout layout.now) (term_tree right.now) signs.now first.now.next)) builder.new result }
     ensures next { IfOk result (λ _. builder.new.next ≡ first.now.next + quotient_count (term_tree right.now)) }
 {
     match row_of(builder.alloc, right, layout, signs, first.next) {
@@ -115,7 +118,8 @@ pub(crate) fn add_divides(
     requires sets { set_count (plain_layout layout.now) ≤ MOST_SETS }
     requires above { first_free (plain_layout layout.now) ≤ builder.old.next }
     requires room { builder.old.next + quotient_count (term_tree of.now) + 1 < 2 ^ 32 }
-    ensures gives { BuilderAnswer (with_case (plain_layout layout.now) (rows_of builder.old) (case_by (negation_normal holds (rel_divides k.now (term_tree of.now))) index)) builder.new result }
+    ensures gives { BuilderAnswer (with_case (plain_layout layout.now) (rows_of builder.old)
+        (case_by (negation_normal holds (rel_divides k.now (term_tree of.now))) index)) builder.new result }
     ensures next { IfOk result (λ _. builder.new.next ≡ builder.old.next + quotient_count (term_tree of.now) + 1) }
 {
     let signs = signs_of(builder.alloc, of, index)?;

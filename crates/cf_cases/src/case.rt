@@ -34,9 +34,12 @@ pub fn case_of(
     requires sets { set_count (plain_layout layout.now) ≤ MOST_SETS }
     requires index { index < case_count (negation_normal true (rel_tree counted.now)) }
     requires room { first_free (plain_layout layout.now) + rel_quotients (rel_tree counted.now) < 2 ^ 32 }
-    ensures system { IfOk result (λ s. system_of s ≡ system_of_case (plain_layout layout.now) (get_or (disjuncts (negation_normal true (rel_tree counted.now))) index [])) }
-    ensures fits { IfOk result (λ s. (case_rows (plain_layout layout.now) (get_or (disjuncts (negation_normal true (rel_tree counted.now))) index [])).passes ≡ false) }
-    ensures past { result ≡ Err RowFault.Past → (case_rows (plain_layout layout.now) (get_or (disjuncts (negation_normal true (rel_tree counted.now))) index [])).passes ≡ true }
+    ensures system { IfOk result (λ s. system_of s ≡ system_of_case (plain_layout layout.now)
+        (get_or (disjuncts (negation_normal true (rel_tree counted.now))) index [])) }
+    ensures fits { IfOk result (λ s. (case_rows (plain_layout layout.now) (get_or (disjuncts (negation_normal true (rel_tree counted.now))) index [])).passes ≡
+        false) }
+    ensures past { result ≡ Err RowFault.Past →
+        (case_rows (plain_layout layout.now) (get_or (disjuncts (negation_normal true (rel_tree counted.now))) index [])).passes ≡ true }
 {
     let mut builder = SystemBuilder {
         alloc,
@@ -115,7 +118,8 @@ fn add_case(
     requires sets { set_count (plain_layout layout.now) ≤ MOST_SETS }
     requires above { first_free (plain_layout layout.now) ≤ builder.old.next }
     requires room { builder.old.next + rel_quotients (rel_tree rel.now) < 2 ^ 32 }
-    ensures gives { BuilderAnswer (with_case (plain_layout layout.now) (rows_of builder.old) (case_by (negation_normal holds (rel_tree rel.now)) index)) builder.new result }
+    ensures gives { BuilderAnswer (with_case (plain_layout layout.now) (rows_of builder.old) (case_by (negation_normal holds (rel_tree rel.now)) index))
+        builder.new result }
     ensures more { IfOk result (λ _. builder.old.next ≤ builder.new.next) }
     ensures room { IfOk result (λ _. builder.new.next ≤ builder.old.next + rel_quotients (rel_tree rel.now)) }
 {
@@ -164,7 +168,8 @@ fn add_part(
     requires sets { set_count (plain_layout layout.now) ≤ MOST_SETS }
     requires above { first_free (plain_layout layout.now) ≤ builder.old.next }
     requires room { builder.old.next + rel_quotients (rel_tree rel.now) < 2 ^ 32 }
-    ensures gives { BuilderAnswer (with_case (plain_layout layout.now) (rows_of builder.old) (part_by (negation_normal holds (rel_tree rel.now)) index)) builder.new result }
+    ensures gives { BuilderAnswer (with_case (plain_layout layout.now) (rows_of builder.old) (part_by (negation_normal holds (rel_tree rel.now)) index))
+        builder.new result }
     ensures more { IfOk result (λ _. builder.old.next ≤ builder.new.next) }
     ensures room { IfOk result (λ _. builder.new.next ≤ builder.old.next + rel_quotients (rel_tree rel.now)) }
 {
@@ -192,7 +197,8 @@ fn parts_of(
     ensures right { right_in (count_tree counts.now) ≡ counts_of (negation_normal holds (rel_tree _b.now)) }
     ensures first { IsIndex (negation_normal holds (rel_tree _a.now)) result.0 }
     ensures second { IsIndex (negation_normal holds (rel_tree _b.now)) result.1 }
-    ensures whole { case_by (joined both (negation_normal holds (rel_tree _a.now)) (negation_normal holds (rel_tree _b.now))) index ≡ part_by (negation_normal holds (rel_tree _a.now)) result.0 ++ part_by (negation_normal holds (rel_tree _b.now)) result.1 }
+    ensures whole { case_by (joined both (negation_normal holds (rel_tree _a.now)) (negation_normal holds (rel_tree _b.now))) index ≡ part_by
+        (negation_normal holds (rel_tree _a.now)) result.0 ++ part_by (negation_normal holds (rel_tree _b.now)) result.1 }
 {
     split(both, counts.left().count(), counts.right().count(), index)
 }

@@ -37,7 +37,8 @@ pub(crate) fn add_apart(
 ) -> Result<(), RowFault>
     requires sets { set_count (plain_layout layout.now) ≤ MOST_SETS }
     requires room { first_free (plain_layout layout.now) < 2 ^ 32 }
-    ensures gives { BuilderAnswer (region_rows empty (rows_of builder.old) (plain_layout layout.now) (apart regions (plain_layout layout.now) (set_tree a.now) (set_tree b.now))) builder.new result }
+    ensures gives { BuilderAnswer (region_rows empty (rows_of builder.old) (plain_layout layout.now)
+        (apart regions (plain_layout layout.now) (set_tree a.now) (set_tree b.now))) builder.new result }
     ensures next { IfOk result (λ _. builder.new.next ≡ builder.old.next) }
 {
     let row = apart(builder.alloc, regions, a, b, layout)?;
@@ -156,7 +157,8 @@ pub(crate) fn add_counts(
 ) -> Result<(), NoMemory>
     requires sets { set_count (plain_layout layout.now) ≤ MOST_SETS }
     requires room { first_free (plain_layout layout.now) < 2 ^ 32 }
-    ensures { OnOk result (rows.new.items ≡ rows.old.items ++ map (λ m. put (region_column (plain_layout layout.now) m) (pos 1) []) (masks (set_count (plain_layout layout.now)))) }
+    ensures { OnOk result (rows.new.items ≡ rows.old.items ++ map (λ m. put (region_column (plain_layout layout.now) m) (pos 1) [])
+        (masks (set_count (plain_layout layout.now)))) }
 {
     for region in 1..layout.regions() {
         let row = Row::unit(alloc, layout.region_column(region), 1)?;

@@ -34,7 +34,8 @@ pub(crate) fn add_written(
 ) -> Result<(), RowFault>
     requires first { EachOf IsFine (map guard_of first.now.guards.items) }
     requires second { EachOf IsFine (map guard_of second.now.guards.items) }
-    ensures gives { BuilderAnswer (with_comparison (rows_of builder.old) order first.now.row (map guard_of first.now.guards.items) (written_as second.now.row (map guard_of second.now.guards.items) second.now.next)) builder.new result }
+    ensures gives { BuilderAnswer (with_comparison (rows_of builder.old) order first.now.row (map guard_of first.now.guards.items)
+        (written_as second.now.row (map guard_of second.now.guards.items) second.now.next)) builder.new result }
     ensures next { IfOk result (λ _. builder.new.next ≡ second.now.next) }
 {
     builder.next = second.next;
@@ -90,7 +91,8 @@ pub(crate) fn add_divided(
     requires guards { EachOf IsFine (map guard_of written.now.guards.items) }
     requires column { 1 ≤ written.now.next }
     requires room { written.now.next + 1 < 2 ^ 32 }
-    ensures gives { BuilderAnswer (rows_more (rows_of builder.old) (divided holds k.now (written_as written.now.row (map guard_of written.now.guards.items) written.now.next))) builder.new result }
+    ensures gives { BuilderAnswer (rows_more (rows_of builder.old)
+        (divided holds k.now (written_as written.now.row (map guard_of written.now.guards.items) written.now.next))) builder.new result }
     ensures next { IfOk result (λ _. builder.new.next ≡ written.now.next + 1) }
 {
     builder.next = written.next + 1;
@@ -127,7 +129,8 @@ fn add_between(
 ) -> Result<(), RowFault>
     requires divisor { IsDivisor k.now }
     requires column { 1 ≤ column }
-    ensures gives { BuilderAnswer (with_rows (rows_of builder.old) [] (plus (above_quotient column row.now k.now) (negsuc 0) ∷ below_quotient column row.now k.now ∷ [])) builder.new result }
+    ensures gives { BuilderAnswer (with_rows (rows_of builder.old) []
+        (plus (above_quotient column row.now k.now) (negsuc 0) ∷ below_quotient column row.now k.now ∷ [])) builder.new result }
     ensures next { IfOk result (λ _. builder.new.next ≡ builder.old.next) }
 {
     let above = above_one(builder.alloc, column, row, k)?;

@@ -10,14 +10,17 @@ use Rattle.cf_emit.specs.Printed.{line_end}
 use Rattle.cf_emit.proofs.Spans.{Spans, Says, then, white_before, white_behind, is_plain, word, spaced, Mark, opening, closing, opening_brace, closing_brace, opening_square, semicolon, comma}
 
 -- a part and then others
-pub joined_parts : {X Y : Form} (a m end : List ℕ) {rest : List ℕ} → Spans X (a ++ (m ++ end)) (m ++ end) → Spans Y (m ++ end) rest → Spans (X ⨟ Y) (a ++ m ++ end) rest
+pub joined_parts : {X Y : Form} (a m end : List ℕ) {rest : List ℕ} → Spans X (a ++ (m ++ end)) (m ++ end) → Spans Y (m ++ end) rest →
+    Spans (X ⨟ Y) (a ++ m ++ end) rest
 joined_parts a m end s t = simp append_assoc (then s t)
 
-pub first_part : {X Y : Form} (a m end : List ℕ) {rest : List ℕ} → Says X a → StopsAt is_in_word (m ++ end) → Spans Y (m ++ end) rest → Spans (X ⨟ Y) (a ++ m ++ end) rest
+pub first_part : {X Y : Form} (a m end : List ℕ) {rest : List ℕ} → Says X a → StopsAt is_in_word (m ++ end) → Spans Y (m ++ end) rest →
+    Spans (X ⨟ Y) (a ++ m ++ end) rest
 first_part a m end s stops t = joined_parts a m end (s (m ++ end) stops) t
 
 -- a separator, a part and then others
-pub next_part : {X Y : Form} {k : TokenKind} (o a m end : List ℕ) {rest : List ℕ} → Mark k o → Says X a → StopsAt is_in_word (m ++ end) → Spans Y (m ++ end) rest →
+pub next_part : {X Y : Form} {k : TokenKind} (o a m end : List ℕ) {rest : List ℕ} → Mark k o → Says X a → StopsAt is_in_word (m ++ end) →
+    Spans Y (m ++ end) rest →
     Spans (Next k ⨟ X ⨟ Y) (o ++ a ++ m ++ end) rest
 next_part o a m end mark s stops t = simp append_assoc (then (mark.gives (a ++ (m ++ end))) (then (s (m ++ end) stops) t))
 
@@ -49,7 +52,8 @@ gives_form {X = X} {Y = Y} a b m rest s t =
 pub pair_form : {X Y : Form} {k : TokenKind} (a o b : List ℕ) → Says X a → Mark k o → Says Y b → Says (Pair X k Y) (codes "(" ++ a ++ o ++ b ++ codes ")")
 pair_form a o b s mark t rest stops =
     let right : List ℕ = b ++ (codes ")" ++ rest) in
-    simp append_assoc (then (opening.gives (a ++ (o ++ right))) (then (s (o ++ right) (mark.begins right)) (then (mark.gives right) (then (t (codes ")" ++ rest) refl) (closing.gives rest)))))
+    simp append_assoc (then (opening.gives (a ++ (o ++ right)))
+    (then (s (o ++ right) (mark.begins right)) (then (mark.gives right) (then (t (codes ")" ++ rest) refl) (closing.gives rest)))))
 
 -- a word and "(", then what stands up to its ")"
 called : {X : Form} (w t : List ℕ) {rest : List ℕ} → is_plain w ≡ true → Spans X t rest → Spans (Called w X) (w ++ (codes "(" ++ t)) rest
@@ -61,13 +65,15 @@ before a t s n = then (s (codes ", " ++ t) refl) (then (comma.gives t) n)
 last : {X : Form} (a rest : List ℕ) → Says X a → Spans (Last X) (a ++ (codes ")" ++ rest)) rest
 last a rest s = then (s (codes ")" ++ rest) refl) (closing.gives rest)
 
-pub list_called : {X : Form} (w t rest : List ℕ) → is_plain w ≡ true → Spans X (t ++ (codes ")" ++ rest)) rest → Spans (Called w X) (w ++ codes "(" ++ t ++ codes ")" ++ rest) rest
+pub list_called : {X : Form} (w t rest : List ℕ) → is_plain w ≡ true → Spans X (t ++ (codes ")" ++ rest)) rest →
+    Spans (Called w X) (w ++ codes "(" ++ t ++ codes ")" ++ rest) rest
 list_called w t rest plain s = simp append_assoc (called w (t ++ (codes ")" ++ rest)) plain s)
 
 pub one_called : {X : Form} (w a : List ℕ) → is_plain w ≡ true → Says X a → Says (Called w (Last X)) (w ++ codes "(" ++ a ++ codes ")")
 one_called w a plain s rest stops = simp append_assoc (called w (a ++ (codes ")" ++ rest)) plain (last a rest s))
 
-pub two_called : {X Y : Form} (w a b : List ℕ) → is_plain w ≡ true → Says X a → Says Y b → Says (Called w (Before X (Last Y))) (w ++ codes "(" ++ a ++ codes ", " ++ b ++ codes ")")
+pub two_called : {X Y : Form} (w a b : List ℕ) → is_plain w ≡ true → Says X a → Says Y b →
+    Says (Called w (Before X (Last Y))) (w ++ codes "(" ++ a ++ codes ", " ++ b ++ codes ")")
 two_called w a b plain s t rest stops =
     let end : List ℕ = b ++ (codes ")" ++ rest) in
     simp append_assoc (called w (a ++ (codes ", " ++ end)) plain (before a end s (last b rest t)))
@@ -76,7 +82,8 @@ pub three_called : {X Y Z : Form} (w a b c : List ℕ) → is_plain w ≡ true �
     Says (Called w (Before X (Before Y (Last Z)))) (w ++ codes "(" ++ a ++ codes ", " ++ b ++ codes ", " ++ c ++ codes ")")
 three_called w a b c plain s t u rest stops =
     let end : List ℕ = c ++ (codes ")" ++ rest) in
-    simp append_assoc (called w (a ++ (codes ", " ++ (b ++ (codes ", " ++ end)))) plain (before a (b ++ (codes ", " ++ end)) s (before b end t (last c rest u))))
+    simp append_assoc (called w (a ++ (codes ", " ++ (b ++ (codes ", " ++ end)))) plain
+    (before a (b ++ (codes ", " ++ end)) s (before b end t (last c rest u))))
 
 -- "(" and a word, then three parts with an operation between each two, and ")"
 pub headed_form : {X Y Z : Form} {j k : TokenKind} (w a o b n c : List ℕ) → is_plain w ≡ true → Says X a → Mark j o → Says Y b → Mark k n → Says Z c →
@@ -85,7 +92,8 @@ pub headed_form : {X Y Z : Form} {j k : TokenKind} (w a o b n c : List ℕ) → 
 headed_form w a o b n c plain s first t second u rest stops =
     let third : List ℕ = c ++ (codes ")" ++ rest) in
     let right : List ℕ = b ++ (n ++ third) in
-    simp append_assoc (then (opening.gives (w ++ (codes " " ++ (a ++ (o ++ right))))) (then (spaced w (a ++ (o ++ right)) plain) (then (s (o ++ right) (first.begins right)) (then (first.gives right)
+    simp append_assoc (then (opening.gives (w ++ (codes " " ++ (a ++ (o ++ right)))))
+    (then (spaced w (a ++ (o ++ right)) plain) (then (s (o ++ right) (first.begins right)) (then (first.gives right)
     (then (t (n ++ third) (second.begins third)) (then (second.gives third) (then (u (codes ")" ++ rest) refl) (closing.gives rest))))))))
 
 -- an opening brace that ends its line
@@ -97,7 +105,8 @@ pub solve_form : {X Y : Form} (a m : List ℕ) → Says X a → ((rest : List �
     (codes "solve " ++ a ++ codes " {" ++ line_end ++ m ++ codes "}")
 solve_form a m s t rest stops =
     let arms : List ℕ = m ++ (codes "}" ++ rest) in
-    simp append_assoc (then (spaced (codes "solve") (a ++ (codes " {" ++ (line_end ++ arms))) refl) (then (s (codes " {" ++ (line_end ++ arms)) refl) (then (line_opened arms) (t rest))))
+    simp append_assoc (then (spaced (codes "solve") (a ++ (codes " {" ++ (line_end ++ arms))) refl)
+    (then (s (codes " {" ++ (line_end ++ arms)) refl) (then (line_opened arms) (t rest))))
 
 pub item_form : {X : Form} (w a rest : List ℕ) → is_plain w ≡ true → Says X a →
     Spans (Next (Word w) ⨟ X ⨟ Next (Sign (codes ";"))) (w ++ codes " " ++ a ++ codes ";" ++ line_end ++ rest) rest
@@ -105,7 +114,8 @@ item_form w a rest plain s =
     let end : List ℕ = codes ";" ++ (line_end ++ rest) in
     simp append_assoc (then (spaced w (a ++ end) plain) (then (s end refl) (white_behind 10 refl (semicolon.gives (10 ∷ rest)))))
 
-pub arm_form : {X Y Z : Form} (b i g rest : List ℕ) → ((end : List ℕ) → Spans X (b ++ (codes "]" ++ end)) end) → ((end : List ℕ) → Spans Y (i ++ (codes "give " ++ end)) end) → Says Z g →
+pub arm_form : {X Y Z : Form} (b i g rest : List ℕ) → ((end : List ℕ) → Spans X (b ++ (codes "]" ++ end)) end) →
+    ((end : List ℕ) → Spans Y (i ++ (codes "give " ++ end)) end) → Says Z g →
     Spans (Next (Word (codes "arm")) ⨟ Next (Sign (codes "[")) ⨟ X ⨟ Next (Sign (codes "{")) ⨟ Y ⨟ Z ⨟ Next (Sign (codes "}")))
     (codes "arm [" ++ b ++ codes "] {" ++ line_end ++ i ++ codes "give " ++ g ++ line_end ++ codes "}" ++ line_end ++ rest) rest
 arm_form b i g rest bounds items gives =

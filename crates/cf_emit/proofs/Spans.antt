@@ -13,7 +13,8 @@ use Rattle.cf_reader.specs.Tokens.{Form, ◌⨟◌, Next}
 
 -- From any place on, the text gives tokens that spell X and then the tokens of the rest.
 pub record Spans (X : Form) (text rest : List ℕ) : Type 0 where
-  pub spans : (p : Place) → (q : Place) × ((more : List Token) (e : Place) → Lexes (2 ^ 127 - 1) q rest more e [] → (ts : List Token) × Lexes (2 ^ 127 - 1) p text ts e [] × X ts more)
+  pub spans : (p : Place) → (q : Place) × ((more : List Token) (e : Place) → Lexes (2 ^ 127 - 1) q rest more e [] →
+      (ts : List Token) × Lexes (2 ^ 127 - 1) p text ts e [] × X ts more)
 
 -- w gives tokens that spell X, before any rest that does not go on with its last word
 abbrev pub Says : Form → List ℕ → Type 0
@@ -124,7 +125,11 @@ pub minus : Mark (Sign (codes "-")) (codes "-")
 minus = bare 45 (refl, refl, refl, refl) refl
 
 behind : {k : TokenKind} (w : List ℕ) → Mark k w → Mark k (w ++ codes " ")
-behind w m = record { begins = λ rest. simp append_assoc (m.begins (32 ∷ rest)); gives = λ rest. simp append_assoc (white_behind 32 refl (m.gives (32 ∷ rest))) }
+behind w m = record {
+  begins = λ rest. simp append_assoc (m.begins (32 ∷ rest));
+  gives =
+      λ rest. simp append_assoc (white_behind 32 refl (m.gives (32 ∷ rest)));
+}
 
 pub comma : Mark (Sign (codes ",")) (codes ", ")
 comma = behind (codes ",") (bare 44 (refl, refl, refl, refl) refl)
@@ -133,7 +138,11 @@ pub colon : Mark (Sign (codes ":")) (codes ": ")
 colon = behind (codes ":") (bare 58 (refl, refl, refl, refl) refl)
 
 pub spaced_sign : (w : List ℕ) → ((rest : List ℕ) → IsSign w (32 ∷ rest)) → Mark (Sign w) (codes " " ++ w ++ codes " ")
-spaced_sign w h = record { begins = λ rest. refl; gives = λ rest. simp append_assoc (white_before 32 refl (white_behind 32 refl (sign w (32 ∷ rest) (h rest)))) }
+spaced_sign w h = record {
+  begins = λ rest. refl;
+  gives =
+      λ rest. simp append_assoc (white_before 32 refl (white_behind 32 refl (sign w (32 ∷ rest) (h rest))));
+}
 
 pub spaced_word : (w : List ℕ) → is_plain w ≡ true → Mark (Word w) (codes " " ++ w ++ codes " ")
 spaced_word w h = record { begins = λ rest. refl; gives = λ rest. simp append_assoc (white_before 32 refl (spaced w rest h)) }

@@ -22,12 +22,15 @@ target_form p r c params results code =
     let value : List ℕ = c ++ line_end in
     let typed : List ℕ = r ++ (codes " = " ++ value) in
     let line : List ℕ = p ++ (codes ")" ++ (codes ": " ++ typed)) in
-    simp append_assoc (then (header_says (codes "main (" ++ line)) (then (spaced (codes "main") (codes "(" ++ line) refl) (then (opening.gives line) (then (params (codes ": " ++ typed))
-    (then (colon.gives typed) (then (results (codes " = " ++ value) (equals.begins value)) (then (equals.gives value) (white_behind 10 refl (code line_end refl)))))))))
+    simp append_assoc (then (header_says (codes "main (" ++ line))
+    (then (spaced (codes "main") (codes "(" ++ line) refl) (then (opening.gives line) (then (params (codes ": " ++ typed))
+    (then (colon.gives typed) (then (results (codes " = " ++ value) (equals.begins value))
+    (then (equals.gives value) (white_behind 10 refl (code line_end refl)))))))))
 
 reads_back : (t : RawTarget) → HasSpelling t → ReadsBack (target_tree t) (target_text t)
 reads_back t h =
-    let s = target_form (listed (map base_text t.params.items)) (results_text t.results.items) (code_text (code_tree t.code)) (params_say t.params.items) (results_say t.results.items h.2)
+    let s = target_form (listed (map base_text t.params.items)) (results_text t.results.items) (code_text (code_tree t.code)) (params_say t.params.items)
+    (results_say t.results.items h.2)
     (code_says (code_tree t.code) h.1) in
     let g = s.spans first_place in
     let x = g.1 [] g.0 none in

@@ -9,7 +9,8 @@ more_next x n i h =
     rw (e, f) refl
 
 -- a step of a loop that writes them
-pub more_step : (x n i : ℕ) (out mid new old : List ℕ) → i < n → out ++ more_variables (x + i) (n - i) ≡ old → mid ≡ out ++ codes ", " → new ≡ mid ++ variable_text (x + i) →
+pub more_step : (x n i : ℕ) (out mid new old : List ℕ) → i < n → out ++ more_variables (x + i) (n - i) ≡ old → mid ≡ out ++ codes ", " →
+    new ≡ mid ++ variable_text (x + i) →
     new ++ more_variables (x + (i + 1)) (n - (i + 1)) ≡ old
 more_step x n i out mid new old h inv e f =
     let rest : List ℕ = more_variables (x + (i + 1)) (n - (i + 1)) in
@@ -25,7 +26,8 @@ several x (suc (suc n)) h =
     rw (f, g) refl
 
 -- they are written one part after the other
-pub several_put : (x n : ℕ) (old a b m new : List ℕ) → 2 ≤ n → a ≡ old ++ codes "(" → b ≡ a ++ variable_text x → m ≡ b ++ more_variables (x + 1) (n - 1) → new ≡ m ++ codes ")" →
+pub several_put : (x n : ℕ) (old a b m new : List ℕ) → 2 ≤ n → a ≡ old ++ codes "(" → b ≡ a ++ variable_text x → m ≡ b ++ more_variables (x + 1) (n - 1) →
+    new ≡ m ++ codes ")" →
     new ≡ old ++ variables_text x n
 several_put x n old a b m new h ea eb em en =
     let joined : (v w : List ℕ) → (((old ++ codes "(") ++ v) ++ w) ++ codes ")" ≡ old ++ (codes "(" ++ v ++ w ++ codes ")") = λ v w. simp append_assoc refl in

@@ -46,7 +46,8 @@ no_divisor n h = omega (arith, ints)
 pub number_says : (k : ℤ) → IsWithin k → Says (SpellsNumber k) (signed_decimal k)
 number_says (pos n) fits rest stops = as_form (λ ts more h. inl (h.0, (h.1, not_negative n))) (literal_says n fits rest stops)
 number_says (negsuc n) fits rest stops =
-    as_form (λ ts more h. inr (pos (suc n), (h.0, h.1, (h.2.0, (h.2.1, positive n))), refl)) (then (minus.gives (decimal (suc n) ++ rest)) (literal_says (suc n) fits rest stops))
+    as_form (λ ts more h. inr (pos (suc n), (h.0, h.1, (h.2.0, (h.2.1, positive n))), refl))
+    (then (minus.gives (decimal (suc n) ++ rest)) (literal_says (suc n) fits rest stops))
 
 pub divisor_says : (k : ℤ) → IsDivisor k → Says (SpellsDivisor k) (signed_decimal k)
 divisor_says (pos n) d rest stops = as_form (λ ts more h. (h.0, (h.1, d.0))) (literal_says n d.1 rest stops)
@@ -73,7 +74,8 @@ variables_begin (suc n) x rest = refl
 more_variables_say : (n x : ℕ) → x + n ≤ 2 ^ 32 → (rest : List ℕ) → Spans (SpellsMoreVariables x n) (more_variables x n ++ (codes ")" ++ rest)) rest
 more_variables_say zero x h rest = closing.gives rest
 more_variables_say (suc n) x h rest =
-    next_part (codes ", ") (variable_text x) (more_variables (suc x) n) (codes ")" ++ rest) comma (variable_says x (omega arith)) (variables_begin n (suc x) rest)
+    next_part (codes ", ") (variable_text x) (more_variables (suc x) n) (codes ")" ++ rest) comma (variable_says x (omega arith))
+    (variables_begin n (suc x) rest)
     (more_variables_say n (suc x) (omega arith) rest)
 
 pub variables_say : (x n : ℕ) → 1 ≤ n → x + n ≤ 2 ^ 32 → Says (SpellsVariables x n) (variables_text x n)
@@ -108,12 +110,15 @@ others_say : {A : Type 0} (Item : A → Form) (text : A → List ℕ) {k : Token
     Spans (Others Item (Sign (codes ",")) k xs) (more_texts (map text xs) ++ (close ++ rest)) rest
 others_say Item text [] close rest all mark = mark.gives rest
 others_say Item text (x ∷ xs) close rest all mark =
-    next_part (codes ", ") (text x) (more_texts (map text xs)) (close ++ rest) comma all.0 (texts_begin (map text xs) close rest mark) (others_say Item text xs close rest all.1 mark)
+    next_part (codes ", ") (text x) (more_texts (map text xs)) (close ++ rest) comma all.0 (texts_begin (map text xs) close rest mark)
+    (others_say Item text xs close rest all.1 mark)
 
-several_say : {A : Type 0} (Item : A → Form) (text : A → List ℕ) {k : TokenKind} (x : A) (xs : List A) (close rest : List ℕ) → AllSay Item text (x ∷ xs) → Mark k close →
+several_say : {A : Type 0} (Item : A → Form) (text : A → List ℕ) {k : TokenKind} (x : A) (xs : List A) (close rest : List ℕ) → AllSay Item text (x ∷ xs) →
+    Mark k close →
     Spans (Several Item (Sign (codes ",")) k (x ∷ xs)) (listed (map text (x ∷ xs)) ++ (close ++ rest)) rest
 several_say Item text x xs close rest all mark =
-    first_part (text x) (more_texts (map text xs)) (close ++ rest) all.0 (texts_begin (map text xs) close rest mark) (others_say Item text xs close rest all.1 mark)
+    first_part (text x) (more_texts (map text xs)) (close ++ rest) all.0 (texts_begin (map text xs) close rest mark)
+    (others_say Item text xs close rest all.1 mark)
 
 numerals_say : (ns : List ℕ) → All IsNumeral ns → AllSay SpellsNumeral decimal ns
 numerals_say [] h = tt
@@ -145,4 +150,5 @@ results_say (b ∷ c ∷ bs) some rest stops =
 pub header_says : (rest : List ℕ) → Spans SpellsHeader (codes "comfusy 2" ++ (line_end ++ rest)) rest
 header_says rest =
     let two : AreDigitsOf 2 (codes "2") = record { some = omega arith; digits = (refl, tt); value = refl } in
-    as_form (λ ts more h. inr h) (then (spaced (codes "comfusy") (codes "2" ++ (line_end ++ rest)) refl) (white_behind 10 refl (digits_say 2 (codes "2") (omega arith) two (10 ∷ rest) refl)))
+    as_form (λ ts more h. inr h) (then (spaced (codes "comfusy") (codes "2" ++ (line_end ++ rest)) refl)
+    (white_behind 10 refl (digits_say 2 (codes "2") (omega arith) two (10 ∷ rest) refl)))

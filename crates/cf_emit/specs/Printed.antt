@@ -116,7 +116,8 @@ abbrev mutual
 
   pub arm_text : ArmTree → List ℕ
   arm_text (arm_of bounds is gs) =
-      codes "arm [" ++ listed (map decimal bounds) ++ codes "] {" ++ line_end ++ items_text is ++ codes "give " ++ gives_text gs ++ line_end ++ codes "}" ++ line_end
+      codes "arm [" ++ listed (map decimal bounds) ++ codes "] {" ++ line_end ++ items_text is ++ codes "give " ++ gives_text gs ++ line_end ++ codes "}" ++
+      line_end
 
   pub arms_text : ArmTrees → List ℕ
   arms_text no_arms = []

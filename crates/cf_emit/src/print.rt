@@ -37,7 +37,8 @@ fn put_target(out: &mut Vec<u8>, target: &Target) -> Result<(), NoMemory>
 
 // The header line, and main with its parameters.
 fn put_head(out: &mut Vec<u8>, params: &[Base]) -> Result<(), NoMemory>
-    ensures { OnOk result (out.new.items ≡ out.old.items ++ (codes "comfusy 2" ++ line_end ++ codes "main (" ++ listed (map base_text params.now) ++ codes "): ")) }
+    ensures { OnOk result (out.new.items ≡ out.old.items ++
+        (codes "comfusy 2" ++ line_end ++ codes "main (" ++ listed (map base_text params.now) ++ codes "): ")) }
 {
     out.extend_from_slice(b"comfusy 2\nmain (")?;
     put_bases(out, params)?;

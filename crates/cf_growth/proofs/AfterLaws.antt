@@ -14,7 +14,8 @@ use Rattle.cf_choose.proofs.ColumnNames.{wholes}
 use Rattle.cf_growth.specs.Growing.{LetsFit}
 use Rattle.cf_growth.proofs.ThenLaws.{value_over}
 
-lets_fit : (Q : ℕ → Type 0) (lo hi : ℕ) (s : Values) (ms : List Step) → Rising lo hi (let_columns ms) → ((c : ℕ) → Q c → In c (let_columns ms) → ⊥) → StepsOver Q ms → LetsFit (after_steps s ms) ms
+lets_fit : (Q : ℕ → Type 0) (lo hi : ℕ) (s : Values) (ms : List Step) → Rising lo hi (let_columns ms) → ((c : ℕ) → Q c → In c (let_columns ms) → ⊥) →
+    StepsOver Q ms → LetsFit (after_steps s ms) ms
 lets_fit Q lo hi s [] ri fresh o = tt
 lets_fit Q lo hi s (floor_of c r g ∷ ms) ri fresh o =
     let z = int_div_euclid (value s r) g in
@@ -24,14 +25,16 @@ lets_fit Q lo hi s (floor_of c r g ∷ ms) ri fresh o =
     let at : w c ≡ z = after_steps-other s1 ms c not_later ∙ update-at s c z in
     let same : (d : ℕ) → Q d → w d ≡ s d = λ d q. after_steps-other s1 ms d (λ i. fresh d q (inr i)) ∙ update-other s c d z (λ e. fresh d q (inl e)) in (
       at ∙ ap (λ y. int_div_euclid y g) (sym (value_over Q s w same r o.0)),
-      lets_fit (λ d. (d ≡ c) ⊎ Q d) (suc c) hi s1 ms ri.1 (λ d q i. ⊎_elim (λ (e : d ≡ c). not_later (subst (λ y. In y (let_columns ms)) e i)) (λ k. fresh d k (inr i)) q) o.1,
+      lets_fit (λ d. (d ≡ c) ⊎ Q d) (suc c) hi s1 ms ri.1
+          (λ d q i. ⊎_elim (λ (e : d ≡ c). not_later (subst (λ y. In y (let_columns ms)) e i)) (λ k. fresh d k (inr i)) q) o.1,
     )
 lets_fit Q lo hi s (need_nonneg r ∷ ms) ri fresh o = lets_fit Q lo hi s ms ri fresh o.1
 lets_fit Q lo hi s (need_zero r ∷ ms) ri fresh o = lets_fit Q lo hi s ms ri fresh o.1
 lets_fit Q lo hi s (need_divides g r ∷ ms) ri fresh o = lets_fit Q lo hi s ms ri fresh o.1
 
 -- each search value is that of a search column
-pub tuple_value : (lo hi : ℕ) (v : Values) (bs : List (ℕ × ℕ)) (ks : List ℕ) → Rising lo hi (search_columns bs) → IsBelow (bounds_of bs) ks → (k : ℕ) → In k ks →
+pub tuple_value : (lo hi : ℕ) (v : Values) (bs : List (ℕ × ℕ)) (ks : List ℕ) → Rising lo hi (search_columns bs) → IsBelow (bounds_of bs) ks → (k : ℕ) →
+    In k ks →
     (c : ℕ) × In c (search_columns bs) × (set_tuple v bs (wholes ks) c ≡ pos k)
 tuple_value lo hi v [] [] ri b k i = absurd i
 tuple_value lo hi v [] (j ∷ ks) ri b k i = absurd b
@@ -56,11 +59,13 @@ after_is m a st v ks inb =
     let s = set_tuple v a.bounds ks in
     let x = after_steps s a.steps in
     let fresh : (c : ℕ) → Q c → In c (let_columns a.steps) → ⊥ = λ c q i.
-    ⊎_elim (λ k. let b = st.below c k in let r = Rising-in m.next a.system.next c (let_columns a.steps) st.lets_rise i in absurd (omega arith)) (λ k. st.apart c k i) q in
+    ⊎_elim (λ k. let b = st.below c k in let r = Rising-in m.next a.system.next c (let_columns a.steps) st.lets_rise i in absurd (omega arith))
+    (λ k. st.apart c k i) q in
     let first : (c : ℕ) → Q c → x c ≡ s c = λ c q. after_steps-other s a.steps c (fresh c q) in
     record {
       within = Within-agree s x a.bounds (λ c i. sym (first c (inr i))) (tuple_within m.next a.system.next v a.bounds ks st.bounds_rise inb);
       lets = lets_fit Q m.next a.system.next s a.steps st.lets_rise fresh st.over;
-      same = λ c k. sym (first c (inl k) ∙ set_tuple-other v a.bounds ks c (λ i. let b = st.below c k in let r = Rising-in m.next a.system.next c (search_columns a.bounds) st.bounds_rise i in absurd (omega arith)));
+      same = λ c k. sym (first c (inl k) ∙ set_tuple-other v a.bounds ks c (λ i. let b = st.below c k in
+          let r = Rising-in m.next a.system.next c (search_columns a.bounds) st.bounds_rise i in absurd (omega arith)));
       first = first;
     }

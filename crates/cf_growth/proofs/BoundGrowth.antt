@@ -52,21 +52,26 @@ searching_row x g lower s r some h k =
     (λ _. record {
       under = omega arith;
       columns = λ c i. subst (λ cs. In c cs) (sym (search_columns-append s.bounds ((s.next, unsigned_abs (entry r x)) ∷ [])))
-          (⊎_elim (λ j. In-left c (search_columns s.bounds) (s.next ∷ []) (k.columns c j)) (λ j. In-right c (search_columns s.bounds) (s.next ∷ []) j) (In-append c s.columns (s.next ∷ []) i));
+          (⊎_elim (λ j. In-left c (search_columns s.bounds) (s.next ∷ []) (k.columns c j)) (λ j. In-right c (search_columns s.bounds) (s.next ∷ []) j)
+          (In-append c s.columns (s.next ∷ []) i));
       back = λ c i. ⊎_elim (λ j. In-left c s.columns (s.next ∷ []) (k.back c j)) (λ j. In-right c s.columns (s.next ∷ []) j)
-          (In-append c (search_columns s.bounds) (s.next ∷ []) (subst (λ cs. In c cs) (search_columns-append s.bounds ((s.next, unsigned_abs (entry r x)) ∷ [])) i));
-      rows = EachRow-append (IsSmall x g) s.rows (search_bound x lower s.next ∷ []) k.rows ((λ _. let e = search_norm x s.next lower (omega arith) in omega arith), tt);
+          (In-append c (search_columns s.bounds) (s.next ∷ [])
+          (subst (λ cs. In c cs) (search_columns-append s.bounds ((s.next, unsigned_abs (entry r x)) ∷ [])) i));
+      rows = EachRow-append (IsSmall x g) s.rows (search_bound x lower s.next ∷ []) k.rows
+          ((λ _. let e = search_norm x s.next lower (omega arith) in omega arith), tt);
     })
     (λ _. record { under = u; columns = k.columns; back = k.back; rows = EachRow-append (IsSmall x g) s.rows (r ∷ []) k.rows (h, tt) })
 
-searching_all : (x g : ℕ) (lower : Bool) (rows : List Row) (s : Found) → 1 ≤ g → EachRow (IsSmall x g) rows → Searching x g s → Searching x g (found_all x lower s rows)
+searching_all : (x g : ℕ) (lower : Bool) (rows : List Row) (s : Found) → 1 ≤ g → EachRow (IsSmall x g) rows → Searching x g s →
+    Searching x g (found_all x lower s rows)
 searching_all x g lower [] s some h k = k
 searching_all x g lower (r ∷ rows) s some h k = searching_all x g lower rows (found_row x lower s r) some h.1 (searching_row x g lower s r some h.0 k)
 
 searching_none : (m : System) (x g : ℕ) → x < m.next → Searching x g (no_found m)
 searching_none m x g l = record { under = l; columns = λ c i. i; back = λ c i. i; rows = tt }
 
-bounds_within : (v : Values) (bs : List (ℕ × ℕ)) (a s c : ℕ) → Within v bs → fold max a (map (λ (k, n). n) bs) ≤ s → In c (search_columns bs) → unsigned_abs (v c) ≤ s
+bounds_within : (v : Values) (bs : List (ℕ × ℕ)) (a s c : ℕ) → Within v bs → fold max a (map (λ (k, n). n) bs) ≤ s → In c (search_columns bs) →
+    unsigned_abs (v c) ≤ s
 bounds_within v [] a s c w l i = absurd i
 bounds_within v ((d, n) ∷ bs) a s c w l i =
     ⊎_elim (λ (e : c ≡ d).
@@ -77,7 +82,8 @@ bounds_within v ((d, n) ∷ bs) a s c w l i =
     let t : unsigned_abs (v d) ≤ n = omega (arith, ints) in
     omega arith) (λ j. bounds_within v bs (max a n) s c w.2 l j) i
 
-grows_searched : (m : System) (x s : ℕ) (lower : Bool) → x < m.next → 1 ≤ s → greatest_of (map (λ (k, n). n) (searched m x lower).bounds) ≤ s → Grows m (searched m x lower) s 1
+grows_searched : (m : System) (x s : ℕ) (lower : Bool) → x < m.next → 1 ≤ s → greatest_of (map (λ (k, n). n) (searched m x lower).bounds) ≤ s →
+    Grows m (searched m x lower) s 1
 unfolding searched
 grows_searched m x s lower lx some l =
     let t = found_all x lower (no_found m) m.inequalities in
@@ -99,16 +105,20 @@ grows_searched m x s lower lx some l =
       kept = λ v c i. refl;
     }
   where
-    columns_all : (rows : List Row) (s : Found) → ((c : ℕ) → In c s.columns → In c (search_columns s.bounds)) → ((c : ℕ) → In c (search_columns s.bounds) → In c s.columns) →
-        ((c : ℕ) → In c (found_all x lower s rows).columns → In c (search_columns (found_all x lower s rows).bounds)) × ((c : ℕ) → In c (search_columns (found_all x lower s rows).bounds) → In c (found_all x lower s rows).columns)
+    columns_all : (rows : List Row) (s : Found) → ((c : ℕ) → In c s.columns → In c (search_columns s.bounds)) →
+        ((c : ℕ) → In c (search_columns s.bounds) → In c s.columns) →
+        ((c : ℕ) → In c (found_all x lower s rows).columns → In c (search_columns (found_all x lower s rows).bounds)) ×
+        ((c : ℕ) → In c (search_columns (found_all x lower s rows).bounds) → In c (found_all x lower s rows).columns)
     columns_all [] s f g = (f, g)
     columns_all (r ∷ rows) s f g = columns_all rows (found_row x lower s r)
         (cond_both (searches x lower r) (found_new x lower s r) (found_kept s r) (λ (t : Found). (c : ℕ) → In c t.columns → In c (search_columns t.bounds))
         (λ _ c i. subst (λ cs. In c cs) (sym (search_columns-append s.bounds ((s.next, unsigned_abs (entry r x)) ∷ [])))
-        (⊎_elim (λ j. In-left c (search_columns s.bounds) (s.next ∷ []) (f c j)) (λ j. In-right c (search_columns s.bounds) (s.next ∷ []) j) (In-append c s.columns (s.next ∷ []) i))) (λ _. f))
+        (⊎_elim (λ j. In-left c (search_columns s.bounds) (s.next ∷ []) (f c j)) (λ j. In-right c (search_columns s.bounds) (s.next ∷ []) j)
+        (In-append c s.columns (s.next ∷ []) i))) (λ _. f))
         (cond_both (searches x lower r) (found_new x lower s r) (found_kept s r) (λ (t : Found). (c : ℕ) → In c (search_columns t.bounds) → In c t.columns)
         (λ _ c i. ⊎_elim (λ j. In-left c s.columns (s.next ∷ []) (g c j)) (λ j. In-right c s.columns (s.next ∷ []) j)
-        (In-append c (search_columns s.bounds) (s.next ∷ []) (subst (λ cs. In c cs) (search_columns-append s.bounds ((s.next, unsigned_abs (entry r x)) ∷ [])) i))) (λ _. g))
+        (In-append c (search_columns s.bounds) (s.next ∷ [])
+        (subst (λ cs. In c cs) (search_columns-append s.bounds ((s.next, unsigned_abs (entry r x)) ∷ [])) i))) (λ _. g))
 
 -- ---- the drop
 -- a bound's row without x is over columns that are left, and its norm is small
@@ -149,7 +159,8 @@ module _ (Q : ℕ → Type 0) (x g b : ℕ) (v : Values) (some : 1 ≤ b) (sg : 
   greatest_within z [] l o = l
   greatest_within z (r ∷ rows) l o =
       let i = quotient_within r o.0 in
-      greatest_within (int_max z (neg_ℤ (int_div_euclid (value v (without x r)) (k r)))) rows (max_within (g * b) z (int_div_euclid (value v (without x r)) (k r)) l i) o.1
+      greatest_within (int_max z (neg_ℤ (int_div_euclid (value v (without x r)) (k r)))) rows
+      (max_within (g * b) z (int_div_euclid (value v (without x r)) (k r)) l i) o.1
     where
       max_within : (n : ℕ) (z y : ℤ) → unsigned_abs z ≤ n → unsigned_abs y ≤ n → unsigned_abs (int_max z (neg_ℤ y)) ≤ n
       max_within n z y h k = omega (arith, ints, clamps)
@@ -167,28 +178,42 @@ module _ (Q : ℕ → Type 0) (x g b : ℕ) (v : Values) (some : 1 ≤ b) (sg : 
 neg_within : (n : ℕ) (z : ℤ) → unsigned_abs z ≤ n → unsigned_abs (neg_ℤ z) ≤ n
 neg_within n z h = omega (arith, ints)
 
-how_met : (Q : ℕ → Type 0) (x g b : ℕ) (v : Values) → 1 ≤ b → 1 ≤ g → IsBounded Q b v → (low high : List Row) → EachRow (IsBound Q x g) low → EachRow (IsBound Q x g) high →
+how_met : (Q : ℕ → Type 0) (x g b : ℕ) (v : Values) → 1 ≤ b → 1 ≤ g → IsBounded Q b v → (low high : List Row) → EachRow (IsBound Q x g) low →
+    EachRow (IsBound Q x g) high →
     HowWithin (g * b) v (how_between x low high) × (unsigned_abs (how_value v (how_between x low high)) ≤ g * b)
 how_met Q x g b v s sg h [] [] o p = (tt, omega arith)
 how_met Q x g b v s sg h [] (u ∷ high) o p =
-    let k = λ (r : Row). neg_ℤ (entry r x) in
-    (pairs_met Q x g b v s sg h k (u ∷ high) p, least_within Q x g b v s sg h k (int_div_euclid (value v (without x u)) (k u)) high (quotient_within Q x g b v s sg h k u p.0) p.1)
+    let k = λ (r : Row). neg_ℤ (entry r x) in (
+      pairs_met Q x g b v s sg h k (u ∷ high) p,
+      least_within Q x g b v s sg h k (int_div_euclid (value v (without x u)) (k u)) high
+          (quotient_within Q x g b v s sg h k u p.0) p.1,
+    )
 how_met Q x g b v s sg h (l ∷ low) high o p =
-    let k = λ (r : Row). entry r x in
-    (pairs_met Q x g b v s sg h k (l ∷ low) o, greatest_within Q x g b v s sg h k (neg_ℤ (int_div_euclid (value v (without x l)) (k l))) low (neg_within (g * b) (int_div_euclid (value v (without x l)) (k l)) (quotient_within Q x g b v s sg h k l o.0)) o.1)
+    let k = λ (r : Row). entry r x in (
+      pairs_met Q x g b v s sg h k (l ∷ low) o,
+      greatest_within Q x g b v s sg h k (neg_ℤ (int_div_euclid (value v (without x l)) (k l))) low
+          (neg_within (g * b) (int_div_euclid (value v (without x l)) (k l)) (quotient_within Q x g b v s sg h k l o.0)) o.1,
+    )
 
-grows_dropped : (m : System) (x g : ℕ) → Kinds m → In x m.unknown → EachRow (Over (IsColumn m)) m.inequalities → 1 ≤ g → EachRow (IsSmall x g) m.inequalities → Grows m (dropped m x) 1 g
+grows_dropped : (m : System) (x g : ℕ) → Kinds m → In x m.unknown → EachRow (Over (IsColumn m)) m.inequalities → 1 ≤ g → EachRow (IsSmall x g) m.inequalities →
+    Grows m (dropped m x) 1 g
 unfolding dropped
 grows_dropped m x g kinds i over sg small =
     let Q : ℕ → Type 0 = λ c. In c m.known ⊎ In c (filter (λ w. not (w == x)) m.unknown) in
     let all : EachRow (λ r. is_zero (entry r x) ≡ false → IsBound Q x g r) m.inequalities =
     EachRow-with (Over (IsColumn m)) (IsSmall x g) (λ r. is_zero (entry r x) ≡ false → IsBound Q x g r)
-    (λ r o s z. (Over-weaker (λ c. IsColumn m c × (c ≢ x)) Q (λ c q. ⊎_elim (λ j. inl j) (λ j. inr (In-filter c x m.unknown j q.1)) q.0) (without x r) (Over-without (IsColumn m) x r o), s z))
+    (λ r o s z. (
+      Over-weaker (λ c. IsColumn m c × (c ≢ x)) Q (λ c q. ⊎_elim (λ j. inl j) (λ j. inr (In-filter c x m.unknown j q.1)) q.0) (without x r)
+          (Over-without (IsColumn m) x r o),
+      s z,
+    ))
     m.inequalities over small in
     let low : EachRow (IsBound Q x g) (lowers x m.inequalities) = EachRow-kept (λ r. is_positive (entry r x)) (IsBound Q x g) m.inequalities
-    (EachRow-weaker (λ r. is_zero (entry r x) ≡ false → IsBound Q x g r) (λ r. is_positive (entry r x) ≡ true → IsBound Q x g r) (λ r f e. f (positive_some (entry r x) e)) m.inequalities all) in
+    (EachRow-weaker (λ r. is_zero (entry r x) ≡ false → IsBound Q x g r) (λ r. is_positive (entry r x) ≡ true → IsBound Q x g r)
+    (λ r f e. f (positive_some (entry r x) e)) m.inequalities all) in
     let high : EachRow (IsBound Q x g) (uppers x m.inequalities) = EachRow-kept (λ r. int_lt (entry r x) (pos 0)) (IsBound Q x g) m.inequalities
-    (EachRow-weaker (λ r. is_zero (entry r x) ≡ false → IsBound Q x g r) (λ r. int_lt (entry r x) (pos 0) ≡ true → IsBound Q x g r) (λ r f e. f (negative_some (entry r x) e)) m.inequalities all) in
+    (EachRow-weaker (λ r. is_zero (entry r x) ≡ false → IsBound Q x g r) (λ r. int_lt (entry r x) (pos 0) ≡ true → IsBound Q x g r)
+    (λ r f e. f (negative_some (entry r x) e)) m.inequalities all) in
     let w = how_between x (lowers x m.inequalities) (uppers x m.inequalities) in
     record {
       forth_some = omega arith;
@@ -212,38 +237,46 @@ search_factor m c = max 1 (greatest_of (map (λ (k, n). n) (searched_by m c).bou
 abbrev pub drop_norm : System → Pick → ℕ
 drop_norm m c = greatest_of (map (λ r. norm (without c.unknown r)) (filter (λ r. not (is_zero (entry r c.unknown))) m.inequalities))
 
-pub norms_small : (x a n : ℕ) (rows : List Row) → fold max a (map (λ r. norm (without x r)) (filter (λ r. not (is_zero (entry r x))) rows)) ≤ n → EachRow (IsSmall x n) rows
+pub norms_small : (x a n : ℕ) (rows : List Row) → fold max a (map (λ r. norm (without x r)) (filter (λ r. not (is_zero (entry r x))) rows)) ≤ n →
+    EachRow (IsSmall x n) rows
 norms_small x a n [] h = tt
 norms_small x a n (r ∷ rows) h = on_bool (is_zero (entry r x))
     (λ t. ((λ z. absurd (true≢false (sym t ∙ z))), norms_small x a n rows (rw t at h)))
     (λ f.
-    let k : fold max (max a (norm (without x r))) (map (λ r. norm (without x r)) (filter (λ r. not (is_zero (entry r x))) rows)) ≤ n = rw f at h in
-    ((λ _. let i = greatest-first (max a (norm (without x r))) (map (λ r. norm (without x r)) (filter (λ r. not (is_zero (entry r x))) rows)) in omega arith), norms_small x (max a (norm (without x r))) n rows k))
+    let k : fold max (max a (norm (without x r))) (map (λ r. norm (without x r)) (filter (λ r. not (is_zero (entry r x))) rows)) ≤ n = rw f at h in (
+      (λ _. let i = greatest-first (max a (norm (without x r))) (map (λ r. norm (without x r)) (filter (λ r. not (is_zero (entry r x))) rows)) in omega arith),
+      norms_small x (max a (norm (without x r))) n rows k,
+    ))
 
 pub small_first : (m : System) (c : Pick) → EachRow (IsSmall c.unknown (max 1 (drop_norm m c))) m.inequalities
 small_first m c = norms_small c.unknown 0 (max 1 (drop_norm m c)) m.inequalities (omega arith)
 
-small_searched : (m : System) (c : Pick) (g : ℕ) → 1 ≤ g → c.unknown < m.next → EachRow (IsSmall c.unknown g) m.inequalities → EachRow (IsSmall c.unknown g) (searched_by m c).system.inequalities
+small_searched : (m : System) (c : Pick) (g : ℕ) → 1 ≤ g → c.unknown < m.next → EachRow (IsSmall c.unknown g) m.inequalities →
+    EachRow (IsSmall c.unknown g) (searched_by m c).system.inequalities
 unfolding searched_by searched
 small_searched m c g s l h =
-    cond_both (nat_lt 1 c.product) (searched m c.unknown c.lower) (record { system = m; steps = []; back = []; bounds = [] }) (λ (a : Answer). EachRow (IsSmall c.unknown g) a.system.inequalities)
+    cond_both (nat_lt 1 c.product) (searched m c.unknown c.lower) (record { system = m; steps = []; back = []; bounds = [] })
+    (λ (a : Answer). EachRow (IsSmall c.unknown g) a.system.inequalities)
     (λ _. (searching_all c.unknown g c.lower m.inequalities (no_found m) s h (searching_none m c.unknown g l)).rows) (λ _. h)
 
 grows_search : (m : System) (c : Pick) → c.unknown < m.next → Grows m (searched_by m c) (search_factor m c) 1
 unfolding searched_by
 grows_search m c l =
-    cond_both (nat_lt 1 c.product) (searched m c.unknown c.lower) (record { system = m; steps = []; back = []; bounds = [] }) (λ (a : Answer). Grows m a (max 1 (greatest_of (map (λ (k, n). n) a.bounds))) 1)
+    cond_both (nat_lt 1 c.product) (searched m c.unknown c.lower) (record { system = m; steps = []; back = []; bounds = [] })
+    (λ (a : Answer). Grows m a (max 1 (greatest_of (map (λ (k, n). n) a.bounds))) 1)
     (λ _. grows_searched m c.unknown (max 1 (greatest_of (map (λ (k, n). n) (searched m c.unknown c.lower).bounds))) c.lower l (omega arith) (omega arith))
     (λ _. grows_none m)
 
 pub search_keeps : (m : System) (c : Pick) → In c.unknown m.unknown → In c.unknown (searched_by m c).system.unknown
 unfolding searched_by searched
 search_keeps m c i =
-    cond_both (nat_lt 1 c.product) (searched m c.unknown c.lower) (record { system = m; steps = []; back = []; bounds = [] }) (λ (a : Answer). In c.unknown a.system.unknown)
+    cond_both (nat_lt 1 c.product) (searched m c.unknown c.lower) (record { system = m; steps = []; back = []; bounds = [] })
+    (λ (a : Answer). In c.unknown a.system.unknown)
     (λ _. In-left c.unknown m.unknown (found_all c.unknown c.lower (no_found m) m.inequalities).unknowns i) (λ _. i)
 
 -- the search and the drop, where the system between them is formed
-pub grows_bound : (m : System) (c : Pick) → In c.unknown m.unknown → c.unknown < m.next → Kinds (searched_by m c).system → EachRow (Over (IsColumn (searched_by m c).system)) (searched_by m c).system.inequalities →
+pub grows_bound : (m : System) (c : Pick) → In c.unknown m.unknown → c.unknown < m.next → Kinds (searched_by m c).system →
+    EachRow (Over (IsColumn (searched_by m c).system)) (searched_by m c).system.inequalities →
     Grows m (bound m c) (search_factor m c) (max 1 (drop_norm m c))
 unfolding bound
 grows_bound m c i l kinds over =
@@ -253,4 +286,5 @@ grows_bound m c i l kinds over =
     let h = grows_then m s (dropped s.system c.unknown) (search_factor m c) 1 1 g (grows_search m c l) d in
     let e : search_factor m c * 1 ≡ search_factor m c = omega arith in
     let f : 1 * g ≡ g = omega arith in
-    subst (λ n. Grows m (then_answer s (dropped s.system c.unknown)) n g) e (subst (λ n. Grows m (then_answer s (dropped s.system c.unknown)) (search_factor m c * 1) n) f h)
+    subst (λ n. Grows m (then_answer s (dropped s.system c.unknown)) n g) e
+    (subst (λ n. Grows m (then_answer s (dropped s.system c.unknown)) (search_factor m c * 1) n) f h)

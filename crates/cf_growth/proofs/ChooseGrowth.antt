@@ -81,19 +81,22 @@ module _ (scope outputs : List Base) (rel : RelTree) where
       record {
         known = refl;
         unknown = λ x h. let c = output_column scope outputs rel x h in let p = c.1 in
-            subst (λ d. In d (range_with_len (known_count l) (n - known_count l))) (sym c.0) (In-range (known_count l) (n - known_count l) (known_count l + place x l.out_numbers) (omega arith) (omega arith));
+            subst (λ d. In d (range_with_len (known_count l) (n - known_count l))) (sym c.0)
+            (In-range (known_count l) (n - known_count l) (known_count l + place x l.out_numbers) (omega arith) (omega arith));
         regions = λ r x y. In-range (known_count l) (n - known_count l) (region_column l r) (omega arith) (omega arith);
         later = λ d i. let h = (range-In (known_count l) (n - known_count l) d i).0 in omega arith;
         differ = range_differs (known_count l) (n - known_count l);
       }
 
   -- ---- one case
-  case_met : (m : System) → Formed m → IsBegun l m → (run limits m).end ≡ solved → (env : List Value) → HaveBases scope env → IsNearPath (growth_of_case limits l m * (1 + parameters_size l env)) l env (arm_path (arm_of_case limits l m) env)
+  case_met : (m : System) → Formed m → IsBegun l m → (run limits m).end ≡ solved → (env : List Value) → HaveBases scope env →
+      IsNearPath (growth_of_case limits l m * (1 + parameters_size l env)) l env (arm_path (arm_of_case limits l m) env)
   unfolding growth_of_case
   case_met m f b c env have =
       let k = 1 + parameters_size l env in
       let r = run limits m in
-      let t : Trace limits (first_state m) r.taken solved = subst (λ x. Trace limits (first_state m) r.taken x) c (run_is_trace m (record { formed = f; differ = b.differ })) in
+      let t : Trace limits (first_state m) r.taken solved =
+      subst (λ x. Trace limits (first_state m) r.taken x) c (run_is_trace m (record { formed = f; differ = b.differ })) in
       let s = first_stands m f b.differ in
       let o = trace_owes (first_state m) r.taken solved t s in
       let d = trace_done limits (first_state m) r.taken solved t refl s in
@@ -113,16 +116,19 @@ module _ (scope outputs : List Base) (rel : RelTree) where
       let i = greatest-first (max a g) (map (growth_of_case limits l) (map (system_of_case l) cs)) in
       let p = case_met m f.0 (case_begun x) c.0 env have in
       let le : g ≤ n = omega arith in
-      then_fine (n * k) (AreNear (n * k) l env) (arm_path (arm_of_case limits l m) env) (arms_path (arms_of (map (arm_of_case limits l) (map (system_of_case l) cs))) env)
+      then_fine (n * k) (AreNear (n * k) l env) (arm_path (arm_of_case limits l m) env)
+      (arms_path (arms_of (map (arm_of_case limits l) (map (system_of_case l) cs))) env)
       (path_more (g * k) (n * k) (times_le g n k le) l env (arm_path (arm_of_case limits l m) env) p) (cases_met n cs f.1 c.1 env have (max a g) h)
 
   -- ---- the choose
   all_met : IsPlacedRel l rel → EachOf IsEnded (first_systems l rel) → (env : List Value) → HaveBases scope env →
-      IsNearPath (max 1 (greatest_of (map (growth_of_case limits l) (first_systems l rel))) * (1 + parameters_size l env)) l env (arms_path (arms_of (map (arm_of_case limits l) (first_systems l rel))) env)
+      IsNearPath (max 1 (greatest_of (map (growth_of_case limits l) (first_systems l rel))) * (1 + parameters_size l env)) l env
+      (arms_path (arms_of (map (arm_of_case limits l) (first_systems l rel))) env)
   unfolding first_systems
   all_met placed solves env have =
       let cs = disjuncts (negation_normal true rel) in
-      cases_met (max 1 (greatest_of (map (growth_of_case limits l) (map (system_of_case l) cs)))) cs (first_systems-formed rel l placed) solves env have 0 (omega arith)
+      cases_met (max 1 (greatest_of (map (growth_of_case limits l) (map (system_of_case l) cs)))) cs (first_systems-formed rel l placed) solves env have 0
+      (omega arith)
 
 -- ---- no limit refuses it
 none_left : (a b : Option Refusal) → or_else a b ≡ None → (a ≡ None) × (b ≡ None)

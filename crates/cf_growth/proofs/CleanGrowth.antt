@@ -52,7 +52,8 @@ tight_next : (Q : ℕ → Type 0) (t : Tightened) (p : Option Step × Row) → M
 tight_next Q t (None, r) k h = record { made = h.made; back = h.back; rows = h.rows }
 tight_next Q t (Some (floor_of c s g), r) k h = record {
   made = λ d i. subst (λ cs. In d cs) (sym (let_columns-append t.steps (floor_of c s g ∷ [])))
-      (⊎_elim (λ j. In-left d (let_columns t.steps) (c ∷ []) (h.made d j)) (λ j. In-right d (let_columns t.steps) (c ∷ []) (⊎_elim (λ e. inl (e ∙ sym k.0)) (λ e. absurd e) j)) (In-append d t.made (t.next ∷ []) i));
+      (⊎_elim (λ j. In-left d (let_columns t.steps) (c ∷ []) (h.made d j))
+      (λ j. In-right d (let_columns t.steps) (c ∷ []) (⊎_elim (λ e. inl (e ∙ sym k.0)) (λ e. absurd e) j)) (In-append d t.made (t.next ∷ []) i));
   back = λ d i. ⊎_elim (λ j. In-left d t.made (t.next ∷ []) (h.back d j)) (λ j. In-right d t.made (t.next ∷ []) (⊎_elim (λ e. inl (e ∙ k.0)) (λ e. absurd e) j))
       (In-append d (let_columns t.steps) (c ∷ []) (subst (λ cs. In d cs) (let_columns-append t.steps (floor_of c s g ∷ [])) i));
   rows = rows_append Q t.steps (floor_of c s g ∷ []) h.rows (k.1, tt);
@@ -61,9 +62,11 @@ tight_next Q t (Some (need_nonneg s), r) k h = absurd k
 tight_next Q t (Some (need_zero s), r) k h = absurd k
 tight_next Q t (Some (need_divides g s), r) k h = absurd k
 
-all_tight : (m : System) (rows : List Row) (t : Tightened) → EachRow (Over (IsColumn m)) rows → Tight (IsKnown m) t → Tight (IsKnown m) (fold (then_tighten m.unknown) t rows)
+all_tight : (m : System) (rows : List Row) (t : Tightened) → EachRow (Over (IsColumn m)) rows → Tight (IsKnown m) t →
+    Tight (IsKnown m) (fold (then_tighten m.unknown) t rows)
 all_tight m [] t o h = h
-all_tight m (r ∷ rows) t o h = all_tight m rows (then_tighten m.unknown t r) o.1 (tight_next (IsKnown m) t (tighten_row m.unknown t.next r) (tight_makes m t.next r o.0) h)
+all_tight m (r ∷ rows) t o h = all_tight m rows (then_tighten m.unknown t r) o.1
+    (tight_next (IsKnown m) t (tighten_row m.unknown t.next r) (tight_makes m t.next r o.0) h)
 
 -- ---- needs are no lets, and have no unknowns
 row_known : (m : System) (r : Row) → Over (IsColumn m) r → has_unknown m.unknown r ≡ false → Over (IsKnown m) r
@@ -112,7 +115,8 @@ grows_clean m f =
     let first : Tight (IsKnown m) start = record { made = λ c i. i; back = λ c i. i; rows = tt } in
     let h = all_tight m rows start (EachRow-filter (Over (IsColumn m)) (has_unknown m.unknown) m.inequalities f.nonneg) first in
     let of_rows : RowsIn (IsKnown m) ms = rows_append (IsKnown m) (map need_zero zeros ++ map need_nonneg nonnegs) t.steps
-    (rows_append (IsKnown m) (map need_zero zeros) (map need_nonneg nonnegs) (zero_rows (IsKnown m) zeros (rows_known m m.equations f.zero)) (nonneg_rows (IsKnown m) nonnegs (rows_known m m.inequalities f.nonneg))) h.rows in
+    (rows_append (IsKnown m) (map need_zero zeros) (map need_nonneg nonnegs) (zero_rows (IsKnown m) zeros (rows_known m m.equations f.zero))
+    (nonneg_rows (IsKnown m) nonnegs (rows_known m m.inequalities f.nonneg))) h.rows in
     let of = lets_of (IsKnown m) n 0 ms of_rows (omega arith) in
     let in_lets : (c : ℕ) → In c t.made → In c (let_columns ms) = λ c i. subst (λ cs. In c cs) (sym (all_columns zeros nonnegs t.steps)) (h.made c i) in
     let in_made : (c : ℕ) → In c (let_columns ms) → In c t.made = λ c i. h.back c (subst (λ cs. In c cs) (all_columns zeros nonnegs t.steps) i) in
@@ -130,6 +134,7 @@ grows_clean m f =
       back = λ v k b s w l h le hb. tt;
       stay = λ c i. In-left c m.known t.made i;
       searches = λ c i. absurd i;
-      over = over_from (IsKnown m) (λ c. In c (m.known ++ t.made)) (λ c i. In-left c m.known t.made i) ms (λ c i. In-right c m.known t.made (in_made c i)) of_rows;
+      over = over_from (IsKnown m) (λ c. In c (m.known ++ t.made)) (λ c i. In-left c m.known t.made i) ms (λ c i. In-right c m.known t.made (in_made c i))
+          of_rows;
       kept = λ v c i. refl;
     }

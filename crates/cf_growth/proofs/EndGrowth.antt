@@ -25,7 +25,8 @@ known_rest m u e o =
     (Over-without (λ c. In c m.known ⊎ (c ≡ u)) u e o)
 
 -- one unknown is set to a number that is bounded too
-pub one_stood : (known us : List ℕ) (x b : ℕ) (z : ℤ) (v : Values) → IsBounded (λ c. In c known ⊎ In c (filter (λ w. not (w == x)) us)) b v → unsigned_abs z ≤ b →
+pub one_stood : (known us : List ℕ) (x b : ℕ) (z : ℤ) (v : Values) → IsBounded (λ c. In c known ⊎ In c (filter (λ w. not (w == x)) us)) b v →
+    unsigned_abs z ≤ b →
     IsBounded (λ c. In c known ⊎ In c us) b (update v x z)
 one_stood known us x b z v h l c i =
     cond_both (c == x) z (v c) (λ y. unsigned_abs y ≤ b) (λ _. l)
@@ -40,7 +41,8 @@ one_times b = omega arith
 turn_norm : (d : ℕ) (t : Bool) → norm ((d, (if t then negsuc 0 else pos 1)) ∷ []) ≡ 1
 turn_norm d t = on_bool t (λ e. rw e refl) (λ e. rw e refl)
 
-pub grows_last : (m : System) (e : Row) (rest : List Row) (u : ℕ) → Formed m → In u m.unknown → IsLast m u e → Grows m (last m e rest u) (max 1 (norm (without u e))) 1
+pub grows_last : (m : System) (e : Row) (rest : List Row) (u : ℕ) → Formed m → In u m.unknown → IsLast m u e →
+    Grows m (last m e rest u) (max 1 (norm (without u e))) 1
 unfolding last
 grows_last m e rest u f i alone =
     let r = without u e in
@@ -53,7 +55,8 @@ grows_last m e rest u f i alone =
     let s = comb (neg_ℤ (entry e u)) r (pos 0) [] in
     let small : norm s ≤ norm r = norm-turned (neg_ℤ (entry e u)) r (unit_abs (entry e u) t) in
     let so : Over (IsKnown m) s = Over-comb (IsKnown m) (neg_ℤ (entry e u)) r (pos 0) [] over tt in
-    let least : (k b : ℕ) → n * k ≤ b → (norm s * k ≤ b) × (k ≤ b) = λ k b l. (let x = times_le (norm s) n k (omega arith) in omega arith, let y = times_more n k some in omega arith) in
+    let least : (k b : ℕ) → n * k ≤ b → (norm s * k ≤ b) × (k ≤ b) =
+    λ k b l. (let x = times_le (norm s) n k (omega arith) in omega arith, let y = times_more n k some in omega arith) in
     rw t (record {
       forth_some = omega arith;
       back_some = omega arith;
@@ -88,16 +91,21 @@ grows_last m e rest u f i alone =
           omega arith) (λ q. absurd q) p) (In-append c m.known (d ∷ []) j);
       lets = λ v k st w l h. (sums_bound (IsKnown m) k (n * k) v st h r over (times_more n k some) (times_le (norm r) n k most), tt);
       stood = λ v k b st w l h le hb.
-          let so : Over (λ c. In c (m.known ++ (d ∷ [])) ⊎ In c (filter (λ w. not (w == u)) m.unknown)) s = (inl (In-right d m.known (d ∷ []) (inl refl)), tt) in
+          let so : Over (λ c. In c (m.known ++ (d ∷ [])) ⊎ In c (filter (λ w. not (w == u)) m.unknown)) s =
+          (inl (In-right d m.known (d ∷ []) (inl refl)), tt) in
           let z = value_bound (λ c. In c (m.known ++ (d ∷ [])) ⊎ In c (filter (λ w. not (w == u)) m.unknown)) b v hb s so in
           let x : norm s * b ≡ 1 * b = ap (λ y. y * b) one in
           let o : unsigned_abs (value v s) ≤ b = omega arith in
           rw one_times (one_stood m.known m.unknown u b (value v s) v (λ c j. hb c (⊎_elim (λ p. inl (In-left c m.known (d ∷ []) p)) (λ p. inr p) j)) o);
       back = λ v k b st w l h le hb.
-          let so : Over (λ c. In c (m.known ++ (d ∷ [])) ⊎ In c (filter (λ w. not (w == u)) m.unknown)) s = (inl (In-right d m.known (d ∷ []) (inl refl)), tt) in
+          let so : Over (λ c. In c (m.known ++ (d ∷ [])) ⊎ In c (filter (λ w. not (w == u)) m.unknown)) s =
+          (inl (In-right d m.known (d ∷ []) (inl refl)), tt) in
           let x : norm s * b ≡ 1 * b = ap (λ y. y * b) one in
-          let y = times_more n k some in
-          (sums_bound (λ c. In c (m.known ++ (d ∷ [])) ⊎ In c (filter (λ w. not (w == u)) m.unknown)) b (1 * b) v (omega arith) hb s so (omega arith) (omega arith), tt);
+          let y = times_more n k some in (
+            sums_bound (λ c. In c (m.known ++ (d ∷ [])) ⊎ In c (filter (λ w. not (w == u)) m.unknown)) b (1 * b) v (omega arith) hb s so (omega arith)
+                (omega arith),
+            tt,
+          );
       stay = λ c j. In-left c m.known (d ∷ []) j;
       searches = λ c j. absurd j;
       over = (

@@ -54,9 +54,11 @@ one_of false g h e = inr e
 
 stage_end : (l : Limits) (s : State) → stage l s ≡ ends solved → s.system.unknown ≡ []
 unfolding stage
-stage_end l s e = ⊎_elim (λ p. row_end l s s.system.equations p) (λ p. absurd (clean_goes l s p)) (one_of s.is_past_clean (row_stage l s s.system.equations) (clean_stage l s) e)
+stage_end l s e = ⊎_elim (λ p. row_end l s s.system.equations p) (λ p. absurd (clean_goes l s p))
+    (one_of s.is_past_clean (row_stage l s s.system.equations) (clean_stage l s) e)
 
-pub trace_done : (l : Limits) (s : State) (taken : List Taken) (e : End) → Trace l s taken e → e ≡ solved → Stands s → (all_of s.system taken).system.unknown ≡ []
+pub trace_done : (l : Limits) (s : State) (taken : List Taken) (e : End) → Trace l s taken e → e ≡ solved → Stands s →
+    (all_of s.system taken).system.unknown ≡ []
 trace_done l s [] e (stop p) q h = stage_end l s (p ∙ ap ends q)
 trace_done l s (a ∷ taken) e (more {t = t} p k) q h =
     let y = stage_says l s t a h p in

@@ -36,7 +36,8 @@ LetsOf Q f (need_divides g r ∷ ms) = LetsOf Q f ms
 
 pub lets_of : (Q : ℕ → Type 0) (f a : ℕ) (ms : List Step) → RowsIn Q ms → fold max a (map let_norm ms) ≤ f → LetsOf Q f ms
 lets_of Q f a [] o h = tt
-lets_of Q f a (floor_of c r g ∷ ms) o h = (o.0, (let i = greatest-first (max a (norm r)) (map let_norm ms) in omega arith), lets_of Q f (max a (norm r)) ms o.1 h)
+lets_of Q f a (floor_of c r g ∷ ms) o h =
+    (o.0, (let i = greatest-first (max a (norm r)) (map let_norm ms) in omega arith), lets_of Q f (max a (norm r)) ms o.1 h)
 lets_of Q f a (need_nonneg r ∷ ms) o h = lets_of Q f (max a 0) ms o.1 h
 lets_of Q f a (need_zero r ∷ ms) o h = lets_of Q f (max a 0) ms o.1 h
 lets_of Q f a (need_divides g r ∷ ms) o h = lets_of Q f (max a 0) ms o.1 h
@@ -56,7 +57,8 @@ over_from Q R f (need_zero r ∷ ms) l o = (Over-weaker Q R f r o.0, over_from Q
 over_from Q R f (need_divides g r ∷ ms) l o = (Over-weaker Q R f r o.0, over_from Q R f ms l o.1)
 
 -- ---- what they are, and what is met in them
-pub lets_bound : (Q : ℕ → Type 0) (b f : ℕ) (v : Values) (ms : List Step) → IsBounded Q b v → LetsOf Q f ms → LetsFit v ms → (c : ℕ) → In c (let_columns ms) → unsigned_abs (v c) ≤ f * b
+pub lets_bound : (Q : ℕ → Type 0) (b f : ℕ) (v : Values) (ms : List Step) → IsBounded Q b v → LetsOf Q f ms → LetsFit v ms → (c : ℕ) → In c (let_columns ms) →
+    unsigned_abs (v c) ≤ f * b
 lets_bound Q b f v [] h o l c i = absurd i
 lets_bound Q b f v (floor_of d r g ∷ ms) h o l c i =
     ⊎_elim (λ (e : c ≡ d).
@@ -72,7 +74,8 @@ lets_bound Q b f v (need_divides g r ∷ ms) h o l c i = lets_bound Q b f v ms h
 
 pub lets_met : (Q : ℕ → Type 0) (b f : ℕ) (v : Values) (ms : List Step) → 1 ≤ b → 1 ≤ f → IsBounded Q b v → LetsOf Q f ms → LetsWithin (f * b) v ms
 lets_met Q b f v [] s sf h o = tt
-lets_met Q b f v (floor_of c r g ∷ ms) s sf h o = (sums_bound Q b (f * b) v s h r o.0 (times_more f b sf) (times_le (norm r) f b o.1), lets_met Q b f v ms s sf h o.2)
+lets_met Q b f v (floor_of c r g ∷ ms) s sf h o =
+    (sums_bound Q b (f * b) v s h r o.0 (times_more f b sf) (times_le (norm r) f b o.1), lets_met Q b f v ms s sf h o.2)
 lets_met Q b f v (need_nonneg r ∷ ms) s sf h o = lets_met Q b f v ms s sf h o
 lets_met Q b f v (need_zero r ∷ ms) s sf h o = lets_met Q b f v ms s sf h o
 lets_met Q b f v (need_divides g r ∷ ms) s sf h o = lets_met Q b f v ms s sf h o

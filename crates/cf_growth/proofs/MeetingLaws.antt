@@ -61,7 +61,8 @@ either_own false p q h k = k
 or_else_own : (p q : Path (Option (List Value))) → IsOwnFound p → IsOwnFound q → IsOwnFound (then_path p (λ found. or_later found q))
 or_else_own p q h k n l vs e = by p.gives p.peak (λ m. h n m) l e
   where
-    by : (g : Got (Option (List Value))) (m : ℕ) → (m ≤ n → (ws : List Value) → g ≡ got (Some ws) → AreSmall n ws) → then_peak m g (λ found. (or_later found q).peak) ≤ n → then_gives g (λ found. (or_later found q).gives) ≡ got (Some vs) → AreSmall n vs
+    by : (g : Got (Option (List Value))) (m : ℕ) → (m ≤ n → (ws : List Value) → g ≡ got (Some ws) → AreSmall n ws) →
+        then_peak m g (λ found. (or_later found q).peak) ≤ n → then_gives g (λ found. (or_later found q).gives) ≡ got (Some vs) → AreSmall n vs
     by (got None) m f l e = k n (omega arith) vs e
     by (got (Some ws)) m f l e = f (omega arith) vs e
     by (none_at x) m f l e = absurd (stop_not x (Some vs) e)
@@ -80,7 +81,8 @@ if_some_own (Some e) go h = h e
 some_own : (p : Path (List Value)) → IsOwn p → IsOwnFound (then_path p (λ vs. gives_only (Some vs)))
 some_own p h n l vs e = by p.gives p.peak (λ m. h n m) l e
   where
-    by : (g : Got (List Value)) (m : ℕ) → (m ≤ n → (ws : List Value) → g ≡ got ws → AreSmall n ws) → then_peak m g (λ vs. 0) ≤ n → then_gives g (λ ws. got (Some ws)) ≡ got (Some vs) → AreSmall n vs
+    by : (g : Got (List Value)) (m : ℕ) → (m ≤ n → (ws : List Value) → g ≡ got ws → AreSmall n ws) → then_peak m g (λ vs. 0) ≤ n →
+        then_gives g (λ ws. got (Some ws)) ≡ got (Some vs) → AreSmall n vs
     by (got ws) m f l e = f (omega arith) vs (ap got (some_once ws vs e))
     by (none_at x) m f l e = absurd (stop_not x (Some vs) e)
 
@@ -88,17 +90,20 @@ some_own p h n l vs e = by p.gives p.peak (λ m. h n m) l e
 solve_own : (id : ℕ) (p : Path (Option (List Value))) → IsOwnFound p → IsOwn (then_path p (λ found. or_none id found))
 solve_own id p h n l vs e = by p.gives p.peak (λ m. h n m) l e
   where
-    by : (g : Got (Option (List Value))) (m : ℕ) → (m ≤ n → (ws : List Value) → g ≡ got (Some ws) → AreSmall n ws) → then_peak m g (λ found. (or_none id found).peak) ≤ n → then_gives g (λ found. (or_none id found).gives) ≡ got vs → AreSmall n vs
+    by : (g : Got (Option (List Value))) (m : ℕ) → (m ≤ n → (ws : List Value) → g ≡ got (Some ws) → AreSmall n ws) →
+        then_peak m g (λ found. (or_none id found).peak) ≤ n → then_gives g (λ found. (or_none id found).gives) ≡ got vs → AreSmall n vs
     by (got None) m f l e = absurd (stop_not id vs e)
     by (got (Some ws)) m f l e = f (omega arith) vs (ap (λ xs. got (Some xs)) (same_got ws vs e))
     by (none_at x) m f l e = absurd (stop_not x vs e)
 
 -- several parts, of which each is so
-more_own : (n : ℕ) (p : Path (List Value)) (go : List Value → Path (List Value)) → IsOwn p → ((xs : List Value) → AreSmall n xs → (go xs).peak ≤ n → (vs : List Value) → (go xs).gives ≡ got vs → AreSmall n vs) →
+more_own : (n : ℕ) (p : Path (List Value)) (go : List Value → Path (List Value)) → IsOwn p →
+    ((xs : List Value) → AreSmall n xs → (go xs).peak ≤ n → (vs : List Value) → (go xs).gives ≡ got vs → AreSmall n vs) →
     (then_path p go).peak ≤ n → (vs : List Value) → (then_path p go).gives ≡ got vs → AreSmall n vs
 more_own n p go h k l vs e = by p.gives p.peak (λ m. h n m) l e
   where
-    by : (g : Got (List Value)) (m : ℕ) → (m ≤ n → (ws : List Value) → g ≡ got ws → AreSmall n ws) → then_peak m g (λ x. (go x).peak) ≤ n → then_gives g (λ x. (go x).gives) ≡ got vs → AreSmall n vs
+    by : (g : Got (List Value)) (m : ℕ) → (m ≤ n → (ws : List Value) → g ≡ got ws → AreSmall n ws) → then_peak m g (λ x. (go x).peak) ≤ n →
+        then_gives g (λ x. (go x).gives) ≡ got vs → AreSmall n vs
     by (got xs) m f l e = k xs (f (omega arith) xs refl) (omega arith) vs e
     by (none_at x) m f l e = absurd (stop_not x vs e)
 
@@ -124,8 +129,10 @@ mutual
   path_own (code_max cs) env = best_own _ cs env None
   path_own (code_compare o a b) env = then_own (path a env) _ (λ x. then_own (path b env) _ (λ y. truth_own _))
   path_own (code_divides k a) env = then_own (path a env) _ (λ x. truth_own _)
-  path_own (code_and a b) env = then_own (path a env) _ (λ x. either_own (truth_in x) (path b env) (gives_only (truth false ∷ [])) (path_own b env) (truth_own false))
-  path_own (code_or a b) env = then_own (path a env) _ (λ x. either_own (truth_in x) (gives_only (truth true ∷ [])) (path b env) (truth_own true) (path_own b env))
+  path_own (code_and a b) env = then_own (path a env) _
+      (λ x. either_own (truth_in x) (path b env) (gives_only (truth false ∷ [])) (path_own b env) (truth_own false))
+  path_own (code_or a b) env = then_own (path a env) _
+      (λ x. either_own (truth_in x) (gives_only (truth true ∷ [])) (path b env) (truth_own true) (path_own b env))
   path_own (code_not a) env = then_own (path a env) _ (λ x. truth_own _)
   path_own (code_union cs) env = join_own _ cs env None
   path_own (code_inter cs) env = join_own _ cs env None
@@ -138,20 +145,24 @@ mutual
   path_own (code_let first count a b) env = then_own (path a env) _ (λ x. path_own b (env ++ x))
   path_own (code_solve n arms) env = solve_own n (arms_path arms env) (arms_own arms env)
 
-  all_own : (cs : CodeTrees) (env done : List Value) (n : ℕ) → AreSmall n done → (all_path cs env done).peak ≤ n → (vs : List Value) → (all_path cs env done).gives ≡ got vs → AreSmall n vs
+  all_own : (cs : CodeTrees) (env done : List Value) (n : ℕ) → AreSmall n done → (all_path cs env done).peak ≤ n → (vs : List Value) →
+      (all_path cs env done).gives ≡ got vs → AreSmall n vs
   all_own no_codes env done n d l vs e = subst (AreSmall n) (same_got done vs e) d
   all_own (code_more c cs) env done n d l vs e =
-      more_own n (path c env) (λ xs. all_path cs env (done ++ xs)) (path_own c env) (λ xs s m ws q. all_own cs env (done ++ xs) n (small_append n done xs d s) m ws q) l vs e
+      more_own n (path c env) (λ xs. all_path cs env (done ++ xs)) (path_own c env)
+      (λ xs s m ws q. all_own cs env (done ++ xs) n (small_append n done xs d s) m ws q) l vs e
 
   set_own : (cs : CodeTrees) (env : List Value) (done : List ℤ) → IsOwn (set_path cs env done)
   set_own no_codes env done = set_only done 0
   set_own (code_more c cs) env done = then_own (path c env) _ (λ x. set_own cs env _)
 
-  sum_own : (cs : CodeTrees) (env : List Value) (z : ℤ) (n : ℕ) → unsigned_abs z ≤ n → (sum_path cs env z).peak ≤ n → (vs : List Value) → (sum_path cs env z).gives ≡ got vs → AreSmall n vs
+  sum_own : (cs : CodeTrees) (env : List Value) (z : ℤ) (n : ℕ) → unsigned_abs z ≤ n → (sum_path cs env z).peak ≤ n → (vs : List Value) →
+      (sum_path cs env z).gives ≡ got vs → AreSmall n vs
   sum_own no_codes env z n h l vs e = subst (AreSmall n) (same_got (number z ∷ []) vs e) (h, tt)
   sum_own (code_more c cs) env z n h l vs e =
       more_own n (path c env) (λ x. then_path (meets (z +ℤ number_in x)) (λ s. sum_path cs env (number_in s))) (path_own c env)
-      (λ xs s m ws q. more_own n (meets (z +ℤ number_in xs)) (λ s. sum_path cs env (number_in s)) (meets_own (z +ℤ number_in xs)) (λ ys t o us r. sum_own cs env (number_in ys) n (first_small n ys t) o us r) m ws q) l vs e
+      (λ xs s m ws q. more_own n (meets (z +ℤ number_in xs)) (λ s. sum_path cs env (number_in s)) (meets_own (z +ℤ number_in xs))
+      (λ ys t o us r. sum_own cs env (number_in ys) n (first_small n ys t) o us r) m ws q) l vs e
 
   best_own : (better : ℤ → ℤ → ℤ) (cs : CodeTrees) (env : List Value) (z : Option ℤ) → IsOwn (best_path better cs env z)
   best_own better no_codes env z = meets_own _

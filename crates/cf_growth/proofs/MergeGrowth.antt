@@ -16,7 +16,8 @@ use Rattle.cf_growth.proofs.NormLaws.{times_more, times_le, value_bound, sums_bo
 two_norm : (a : ℤ) (u : ℕ) (b : ℤ) (v : ℕ) → norm (two_at a u b v) ≤ unsigned_abs a + unsigned_abs b
 two_norm a u b v = let h = norm-comb a (one_at u) b (one_at v) in omega arith
 
-grows_mix : (m : System) (x y : ℕ) (a b c d : ℤ) → Formed m → In x m.unknown → In y m.unknown → (x ≡ y → ⊥) → 1 ≤ max (unsigned_abs a + unsigned_abs b) (unsigned_abs c + unsigned_abs d) →
+grows_mix : (m : System) (x y : ℕ) (a b c d : ℤ) → Formed m → In x m.unknown → In y m.unknown → (x ≡ y → ⊥) →
+    1 ≤ max (unsigned_abs a + unsigned_abs b) (unsigned_abs c + unsigned_abs d) →
     Grows m (mix m x y a b c d) 1 (max (unsigned_abs a + unsigned_abs b) (unsigned_abs c + unsigned_abs d))
 unfolding mix
 grows_mix m x y a b c d f i j apart some =
@@ -55,7 +56,8 @@ grows_mix m x y a b c d f i j apart some =
           cond_both (q == y) (value v1 s) (v1 q) (λ o. unsigned_abs o ≤ n * t) (λ _. omega arith)
           (λ e. cond_both (q == x) z (v q) (λ o. unsigned_abs o ≤ n * t) (λ _. omega arith)
           (λ g.
-          let o = hb q (⊎_elim (λ k. inl k) (λ k. inr (In-replaced x u q (replaced y w m.unknown) (In-replaced y w q m.unknown k (eqb-false q y e)) (eqb-false q x g))) p) in
+          let o = hb q (⊎_elim (λ k. inl k) (λ k. inr
+          (In-replaced x u q (replaced y w m.unknown) (In-replaced y w q m.unknown k (eqb-false q y e)) (eqb-false q x g))) p) in
           omega arith));
       back = λ v k t st wi l h le hb.
           let z = value v r in (
@@ -70,6 +72,7 @@ grows_mix m x y a b c d f i j apart some =
           update-other v x q (value v r) (λ e. f.apart q p (subst (λ o. In o m.unknown) (sym e) i));
     }
 
-pub grows_merge : (m : System) (e : Row) (x y : ℕ) → Formed m → In x m.unknown → In y m.unknown → (x ≡ y → ⊥) → 1 ≤ merge_factor e x y → Grows m (merge m e x y) 1 (merge_factor e x y)
+pub grows_merge : (m : System) (e : Row) (x y : ℕ) → Formed m → In x m.unknown → In y m.unknown → (x ≡ y → ⊥) → 1 ≤ merge_factor e x y →
+    Grows m (merge m e x y) 1 (merge_factor e x y)
 unfolding merge merge_factor
 grows_merge m e x y f i j apart some = let p = factors_of (entry e x) (entry e y) in grows_mix m x y p.s p.m p.t p.n f i j apart some

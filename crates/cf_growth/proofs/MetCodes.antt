@@ -40,7 +40,8 @@ lit_met n k e l = record { gives = refl; peak = l; size = l }
 pub var_met : (n x : ℕ) (e : List Value) (z : ℤ) → value_at e x ≡ number z → unsigned_abs z ≤ n → IsMet n (code_var x) e z
 var_met n x e z h l = record { gives = rw h refl; peak = rw h l; size = l }
 
-mul_met : (n x : ℕ) (k : ℤ) (e : List Value) (z : ℤ) → value_at e x ≡ number z → unsigned_abs k ≤ n → unsigned_abs z ≤ n → unsigned_abs (k *ℤ z) ≤ n → IsMet n (code_mul (code_lit k) (code_var x)) e (k *ℤ z)
+mul_met : (n x : ℕ) (k : ℤ) (e : List Value) (z : ℤ) → value_at e x ≡ number z → unsigned_abs k ≤ n → unsigned_abs z ≤ n → unsigned_abs (k *ℤ z) ≤ n →
+    IsMet n (code_mul (code_lit k) (code_var x)) e (k *ℤ z)
 mul_met n x k e z h l m p = record { gives = rw h refl; peak = rw h (omega arith); size = p }
 
 pub same_met : (n : ℕ) (c : CodeTree) (e : List Value) (y z : ℤ) → y ≡ z → IsMet n c e y → IsMet n c e z
@@ -65,7 +66,8 @@ div_met n c g e z d h =
     record { gives = rw (h.gives, q) refl; peak = rw (h.gives, q) (omega arith); size = omega arith }
 
 -- ---- the best of several numbers
-module _ (n : ℕ) (better : ℤ → ℤ → ℤ) (keeps : (x y : ℤ) → unsigned_abs x ≤ n → unsigned_abs y ≤ n → unsigned_abs (better x y) ≤ n) (f : Row × ℤ → CodeTree) (w : Row × ℤ → ℤ) (e : List Value) where
+module _ (n : ℕ) (better : ℤ → ℤ → ℤ) (keeps : (x y : ℤ) → unsigned_abs x ≤ n → unsigned_abs y ≤ n → unsigned_abs (better x y) ≤ n) (f : Row × ℤ → CodeTree)
+    (w : Row × ℤ → ℤ) (e : List Value) where
   abbrev pub AllMet : List (Row × ℤ) → Type 0
   AllMet [] = Unit {0}
   AllMet (b ∷ bs) = IsMet n (f b) e (w b) × AllMet bs
@@ -75,7 +77,8 @@ module _ (n : ℕ) (better : ℤ → ℤ → ℤ) (keeps : (x y : ℤ) → unsig
   chosen_within (Some z) x h l = keeps z x h l
 
   best_met : (bs : List (Row × ℤ)) (z : Option ℤ) → AllMet bs → unsigned_abs (chosen z) ≤ n →
-      ((best_path better (codes_of (map f bs)) e z).gives ≡ got (number (best_of better z (map w bs)) ∷ [])) × ((best_path better (codes_of (map f bs)) e z).peak ≤ n) × (unsigned_abs (best_of better z (map w bs)) ≤ n)
+      ((best_path better (codes_of (map f bs)) e z).gives ≡ got (number (best_of better z (map w bs)) ∷ [])) ×
+      ((best_path better (codes_of (map f bs)) e z).peak ≤ n) × (unsigned_abs (best_of better z (map w bs)) ≤ n)
   best_met [] z a l = (refl, l, l)
   best_met (b ∷ bs) z a l =
       let g = a.0.gives in
@@ -86,7 +89,8 @@ module _ (n : ℕ) (better : ℤ → ℤ → ℤ) (keeps : (x y : ℤ) → unsig
 
 -- ---- over names
 module _ (n : ℕ) (names : ColumnLevels) (e : List Value) (v : Values) (one : v 0 ≡ pos 1) (held : AreHeld names e v) where
-  pub entry_met : (c : ℕ) (k : ℤ) → HasName names c → unsigned_abs (v c) ≤ n → unsigned_abs k ≤ n → unsigned_abs (k *ℤ v c) ≤ n → IsMet n (entry_code names (c, k)) e (k *ℤ v c)
+  pub entry_met : (c : ℕ) (k : ℤ) → HasName names c → unsigned_abs (v c) ≤ n → unsigned_abs k ≤ n → unsigned_abs (k *ℤ v c) ≤ n →
+      IsMet n (entry_code names (c, k)) e (k *ℤ v c)
   entry_met c k h a b d = on_bool (c == 0)
       (λ t. rw t (same_met n (code_lit k) e k (k *ℤ v c) (let s : v c ≡ pos 1 = ap v (eqb-true c 0 t) ∙ one in rw s (omega (arith, ints))) (lit_met n k e b)))
       (λ t. rw t (by_name (named_unless t h)))
@@ -95,7 +99,8 @@ module _ (n : ℕ) (names : ColumnLevels) (e : List Value) (v : Values) (one : v
       named_unless t (inl z) = absurd (eqb-false c 0 t z)
       named_unless t (inr i) = i
 
-      by_name : In c (named names) → IsMet n (cond (int_eq k (pos 1)) (code_var (level_of names c)) (code_mul (code_lit k) (code_var (level_of names c)))) e (k *ℤ v c)
+      by_name : In c (named names) → IsMet n (cond (int_eq k (pos 1)) (code_var (level_of names c)) (code_mul (code_lit k) (code_var (level_of names c)))) e
+          (k *ℤ v c)
       by_name i =
           let x = level_of names c in
           let q = (held c i).0 in
@@ -107,7 +112,8 @@ module _ (n : ℕ) (names : ColumnLevels) (e : List Value) (v : Values) (one : v
           times_one s = rw s (omega (arith, ints))
 
   sums_met : (r : Row) (t : ℤ) → unsigned_abs t ≤ n → SumsWithin n v t r → Over (HasName names) r →
-      ((sum_path (codes_of (map (entry_code names) r)) e t).gives ≡ got (number (t +ℤ value v r) ∷ [])) × ((sum_path (codes_of (map (entry_code names) r)) e t).peak ≤ n) × (unsigned_abs (t +ℤ value v r) ≤ n)
+      ((sum_path (codes_of (map (entry_code names) r)) e t).gives ≡ got (number (t +ℤ value v r) ∷ [])) ×
+      ((sum_path (codes_of (map (entry_code names) r)) e t).peak ≤ n) × (unsigned_abs (t +ℤ value v r) ≤ n)
   sums_met [] t l s o =
       let z : t ≡ t +ℤ pos 0 = omega (arith, ints) in
       (ap (λ x. got (number x ∷ [])) z, omega arith, subst (λ x. unsigned_abs x ≤ n) z l)
@@ -134,9 +140,11 @@ module _ (n : ℕ) (names : ColumnLevels) (e : List Value) (v : Values) (one : v
   over_one : (p z : ℤ) → p ≡ pos 1 → int_div_euclid z p ≡ z
   over_one p z i = rw i (int_div_euclid-one z)
 
-  lower_met : (r : Row) (p : ℤ) → SumsWithin n v (pos 0) r → SumsWithin n v (pos 0) (negated r) → Over (HasName names) r → pos 1 ≤ℤ p → IsMet n (lower_code names (r, p)) e (neg_ℤ (int_div_euclid (value v r) p))
+  lower_met : (r : Row) (p : ℤ) → SumsWithin n v (pos 0) r → SumsWithin n v (pos 0) (negated r) → Over (HasName names) r → pos 1 ≤ℤ p →
+      IsMet n (lower_code names (r, p)) e (neg_ℤ (int_div_euclid (value v r) p))
   lower_met r p s t o d =
-      cond_both (int_eq p (pos 1)) (row_code names (negated r)) (code_neg (code_div (row_code names r) p)) (λ y. IsMet n y e (neg_ℤ (int_div_euclid (value v r) p)))
+      cond_both (int_eq p (pos 1)) (row_code names (negated r)) (code_neg (code_div (row_code names r) p))
+      (λ y. IsMet n y e (neg_ℤ (int_div_euclid (value v r) p)))
       (λ i. same_met n (row_code names (negated r)) e (value v (negated r)) (neg_ℤ (int_div_euclid (value v r) p)) (turned_is (eq_is p (pos 1) i))
       (row_met (negated r) t (Over-comb (HasName names) (negsuc 0) r (pos 0) [] o tt)))
       (λ _. neg_met n (code_div (row_code names r) p) e (int_div_euclid (value v r) p) (div_met n (row_code names r) p e (value v r) d (row_met r s o)))
@@ -144,7 +152,8 @@ module _ (n : ℕ) (names : ColumnLevels) (e : List Value) (v : Values) (one : v
       turned_is : p ≡ pos 1 → value v (negated r) ≡ neg_ℤ (int_div_euclid (value v r) p)
       turned_is i = rw (value-comb v (negsuc 0) r (pos 0) [], over_one p (value v r) i) (omega (arith, ints))
 
-  upper_met : (r : Row) (p : ℤ) → SumsWithin n v (pos 0) r → Over (HasName names) r → pos 1 ≤ℤ p → IsMet n (upper_code names (r, p)) e (int_div_euclid (value v r) p)
+  upper_met : (r : Row) (p : ℤ) → SumsWithin n v (pos 0) r → Over (HasName names) r → pos 1 ≤ℤ p →
+      IsMet n (upper_code names (r, p)) e (int_div_euclid (value v r) p)
   upper_met r p s o d =
       cond_both (int_eq p (pos 1)) (row_code names r) (code_div (row_code names r) p) (λ y. IsMet n y e (int_div_euclid (value v r) p))
       (λ i. same_met n (row_code names r) e (value v r) (int_div_euclid (value v r) p) (sym (over_one p (value v r) (eq_is p (pos 1) i))) (row_met r s o))
@@ -162,11 +171,13 @@ module _ (n : ℕ) (names : ColumnLevels) (e : List Value) (v : Values) (one : v
   abbrev high_value : Row × ℤ → ℤ
   high_value (r, p) = int_div_euclid (value v r) p
 
-  lows_met : (bs : List (Row × ℤ)) → PairsWithin n v bs → PairsOver (HasName names) bs → PairsDivide bs → AllMet n int_max max_within (lower_code names) low_value e bs
+  lows_met : (bs : List (Row × ℤ)) → PairsWithin n v bs → PairsOver (HasName names) bs → PairsDivide bs →
+      AllMet n int_max max_within (lower_code names) low_value e bs
   lows_met [] s o d = tt
   lows_met ((r, p) ∷ bs) s o d = (lower_met r p s.0 s.1 o.0 d.0, lows_met bs s.2 o.1 d.1)
 
-  highs_met : (bs : List (Row × ℤ)) → PairsWithin n v bs → PairsOver (HasName names) bs → PairsDivide bs → AllMet n int_min min_within (upper_code names) high_value e bs
+  highs_met : (bs : List (Row × ℤ)) → PairsWithin n v bs → PairsOver (HasName names) bs → PairsDivide bs →
+      AllMet n int_min min_within (upper_code names) high_value e bs
   highs_met [] s o d = tt
   highs_met ((r, p) ∷ bs) s o d = (upper_met r p s.0 o.0 d.0, highs_met bs s.2 o.1 d.1)
 

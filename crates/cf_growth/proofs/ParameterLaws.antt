@@ -27,7 +27,8 @@ use Rattle.cf_growth.proofs.SizeLaws.{number_size, size_in, level_in}
 pub In-unpassed : (x : ℕ) (p : ℕ → Bool) (xs : List ℕ) → In x (filter p xs) → In x xs
 In-unpassed x p [] i = i
 In-unpassed x p (y ∷ xs) i =
-    cond_both (p y) (y ∷ filter p xs) (filter p xs) (λ ys. In x ys → In x (y ∷ xs)) (λ _ j. ⊎_elim (λ e. inl e) (λ k. inr (In-unpassed x p xs k)) j) (λ _ j. inr (In-unpassed x p xs j)) i
+    cond_both (p y) (y ∷ filter p xs) (filter p xs) (λ ys. In x ys → In x (y ∷ xs)) (λ _ j. ⊎_elim (λ e. inl e) (λ k. inr (In-unpassed x p xs k)) j)
+    (λ _ j. inr (In-unpassed x p xs j)) i
 
 module _ (scope outputs : List Base) (rel : RelTree) where
   abbrev l : Layout
@@ -48,14 +49,17 @@ module _ (scope outputs : List Base) (rel : RelTree) where
       (omega arith, omega arith)
 
   -- a known column is the constant, that of a parameter, or the count of an input region
-  pub known_column : (c : ℕ) → c < known_count l → (c ≡ 0) ⊎ (In c (named (parameter_names l)) ⊎ ((m : ℕ) × (1 ≤ m) × (m < 2 ^ length l.inputs) × (input_column l m ≡ c)))
+  pub known_column : (c : ℕ) → c < known_count l →
+      (c ≡ 0) ⊎ (In c (named (parameter_names l)) ⊎ ((m : ℕ) × (1 ≤ m) × (m < 2 ^ length l.inputs) × (input_column l m ≡ c)))
   known_column zero h = inl refl
-  known_column (suc i) h = inr (on_bool (nat_le (suc i) (length l.numbers)) (λ t. inl (by_place (few t))) (λ t. let q = many t in inr (suc i - length l.numbers, q.0, q.1, q.2)))
+  known_column (suc i) h = inr (on_bool (nat_le (suc i) (length l.numbers)) (λ t. inl (by_place (few t))) (λ t. let q = many t in
+      inr (suc i - length l.numbers, q.0, q.1, q.2)))
     where
       few : nat_le (suc i) (length l.numbers) ≡ true → suc i ≤ length l.numbers
       few t = leb-true (suc i) (length l.numbers) t
 
-      many : nat_le (suc i) (length l.numbers) ≡ false → (1 ≤ suc i - length l.numbers) × (suc i - length l.numbers < 2 ^ length l.inputs) × (input_column l (suc i - length l.numbers) ≡ suc i)
+      many : nat_le (suc i) (length l.numbers) ≡ false →
+          (1 ≤ suc i - length l.numbers) × (suc i - length l.numbers < 2 ^ length l.inputs) × (input_column l (suc i - length l.numbers) ≡ suc i)
       many t = let g = leb-false (suc i) (length l.numbers) t in (omega arith, omega arith, omega arith)
 
       by_place : suc i ≤ length l.numbers → In (suc i) (named (parameter_names l))
@@ -66,13 +70,16 @@ module _ (scope outputs : List Base) (rel : RelTree) where
           subst (λ d. In d (named (parameter_names l))) e (parameter_named l x l.numbers j)
 
   -- a parameter's column and the level that it names
-  level_column : (c : ℕ) (xs : List ℕ) → In c (named (map (λ x. (number_column l x, x)) xs)) → number_column l (level_of (map (λ x. (number_column l x, x)) xs) c) ≡ c
+  level_column : (c : ℕ) (xs : List ℕ) → In c (named (map (λ x. (number_column l x, x)) xs)) →
+      number_column l (level_of (map (λ x. (number_column l x, x)) xs) c) ≡ c
   level_column c [] i = absurd i
   level_column c (y ∷ xs) i =
-      cond_both (number_column l y == c) y (level_of (map (λ x. (number_column l x, x)) xs) c) (λ z. number_column l z ≡ c) (λ t. eqb-true (number_column l y) c t)
+      cond_both (number_column l y == c) y (level_of (map (λ x. (number_column l x, x)) xs) c) (λ z. number_column l z ≡ c)
+      (λ t. eqb-true (number_column l y) c t)
       (λ t. level_column c xs (⊎_elim (λ e. absurd (eqb-false (number_column l y) c t (sym e))) (λ j. j) i))
 
-  pub parameter_value : (env : List Value) (c : ℕ) → In c (named (parameter_names l)) → known_values l env c ≡ number_of (value_at env (level_of (parameter_names l) c))
+  pub parameter_value : (env : List Value) (c : ℕ) → In c (named (parameter_names l)) →
+      known_values l env c ≡ number_of (value_at env (level_of (parameter_names l) c))
   parameter_value env c i =
       let x = level_of (parameter_names l) c in
       let j = level_in l c l.numbers i in

@@ -44,27 +44,34 @@ reach_none n [] js env h = absurd (some_not env h.0)
 reach_none n (i ∷ is) js env h = by (item_path i env).gives (item_path i env).peak (λ e k. reach_none n is js e k) h
   where
     by : (g : Got (Option (List Value))) (p : ℕ) → ((e : List Value) → Reaches n is e None → Reaches n (is ++ js) e None) →
-        (then_gives g (λ next. (if_some next (items_path (items_of is))).gives) ≡ got None) × (then_peak p g (λ next. (if_some next (items_path (items_of is))).peak) ≤ n) →
-        (then_gives g (λ next. (if_some next (items_path (items_of (is ++ js)))).gives) ≡ got None) × (then_peak p g (λ next. (if_some next (items_path (items_of (is ++ js)))).peak) ≤ n)
+        (then_gives g (λ next. (if_some next (items_path (items_of is))).gives) ≡ got None) ×
+        (then_peak p g (λ next. (if_some next (items_path (items_of is))).peak) ≤ n) →
+        (then_gives g (λ next. (if_some next (items_path (items_of (is ++ js)))).gives) ≡ got None) ×
+        (then_peak p g (λ next. (if_some next (items_path (items_of (is ++ js)))).peak) ≤ n)
     by (got None) p again h = h
     by (got (Some e)) p again h = let l = h.1 in let r = again e (h.0, omega arith) in let m = r.1 in (r.0, omega arith)
     by (none_at k) p again h = absurd (stop_not k None h.0)
 
-pub reach_some : (n : ℕ) (is js : List ItemTree) (env d : List Value) (o : Option (List Value)) → Reaches n is env (Some d) → Reaches n js d o → Reaches n (is ++ js) env o
+pub reach_some : (n : ℕ) (is js : List ItemTree) (env d : List Value) (o : Option (List Value)) → Reaches n is env (Some d) → Reaches n js d o →
+    Reaches n (is ++ js) env o
 reach_some n [] js env d o h k = subst (λ x. Reaches n js x o) (sym (some_once env d h.0)) k
 reach_some n (i ∷ is) js env d o h k = by (item_path i env).gives (item_path i env).peak (λ e l. reach_some n is js e d o l k) h
   where
     by : (g : Got (Option (List Value))) (p : ℕ) → ((e : List Value) → Reaches n is e (Some d) → Reaches n (is ++ js) e o) →
-        (then_gives g (λ next. (if_some next (items_path (items_of is))).gives) ≡ got (Some d)) × (then_peak p g (λ next. (if_some next (items_path (items_of is))).peak) ≤ n) →
-        (then_gives g (λ next. (if_some next (items_path (items_of (is ++ js)))).gives) ≡ got o) × (then_peak p g (λ next. (if_some next (items_path (items_of (is ++ js)))).peak) ≤ n)
+        (then_gives g (λ next. (if_some next (items_path (items_of is))).gives) ≡ got (Some d)) ×
+        (then_peak p g (λ next. (if_some next (items_path (items_of is))).peak) ≤ n) →
+        (then_gives g (λ next. (if_some next (items_path (items_of (is ++ js)))).gives) ≡ got o) ×
+        (then_peak p g (λ next. (if_some next (items_path (items_of (is ++ js)))).peak) ≤ n)
     by (got None) p again h = absurd (none_is_some d h.0)
     by (got (Some e)) p again h = let l = h.1 in let r = again e (h.0, omega arith) in let m = r.1 in (r.0, omega arith)
     by (none_at x) p again h = absurd (stop_not x (Some d) h.0)
 
-pub let_reaches : (n : ℕ) (c : CodeTree) (e : List Value) (x : Value) → (path c e).gives ≡ got (x ∷ []) → (path c e).peak ≤ n → Reaches n (let_item c ∷ []) e (Some (e ++ (x ∷ [])))
+pub let_reaches : (n : ℕ) (c : CodeTree) (e : List Value) (x : Value) → (path c e).gives ≡ got (x ∷ []) → (path c e).peak ≤ n →
+    Reaches n (let_item c ∷ []) e (Some (e ++ (x ∷ [])))
 let_reaches n c e x g p = (rw g refl, rw g (omega arith))
 
-need_reaches : (n : ℕ) (c : CodeTree) (e : List Value) (b : Bool) → (path c e).gives ≡ got (truth b ∷ []) → (path c e).peak ≤ n → Reaches n (need_item c ∷ []) e (cond b (Some e) None)
+need_reaches : (n : ℕ) (c : CodeTree) (e : List Value) (b : Bool) → (path c e).gives ≡ got (truth b ∷ []) → (path c e).peak ≤ n →
+    Reaches n (need_item c ∷ []) e (cond b (Some e) None)
 need_reaches n c e true g p = (rw g refl, rw g (omega arith))
 need_reaches n c e false g p = (rw g refl, rw g (omega arith))
 
@@ -94,22 +101,26 @@ value_at-beyond (v ∷ vs) (suc x) h = value_at-beyond vs x (omega arith)
 pub fine_number : (n : ℕ) (E : ℤ → Type 0) (z : ℤ) → unsigned_abs z ≤ n → IsFine n E (number z)
 fine_number n E z l = (l, λ y h. absurd (true≢false (sym h)))
 
-pub small_more : (n : ℕ) (E : ℤ → Type 0) (lo : ℕ) (e : List Value) (y : Value) → lo ≤ length e → ((x : ℕ) → lo ≤ x → IsFine n E (value_at e x)) → IsFine n E y →
+pub small_more : (n : ℕ) (E : ℤ → Type 0) (lo : ℕ) (e : List Value) (y : Value) → lo ≤ length e → ((x : ℕ) → lo ≤ x → IsFine n E (value_at e x)) →
+    IsFine n E y →
     (x : ℕ) → lo ≤ x → IsFine n E (value_at (e ++ (y ∷ [])) x)
 small_more n E lo e y long h l x i = ⊎_elim (λ q. subst (λ v. IsFine n E v) (sym (value_at-end e y x q)) l)
     (λ o. ⊎_elim (λ b. subst (λ v. IsFine n E v) (sym (value_at-early e (y ∷ []) x b)) (h x i)) (λ (b : length e < x). beyond b) o) (cases_order x (length e))
   where
     beyond : length e < x → IsFine n E (value_at (e ++ (y ∷ [])) x)
-    beyond b = subst (λ v. IsFine n E v) (sym (value_at-beyond (e ++ (y ∷ [])) x (omega (arith, length-append e (y ∷ []))))) (fine_number n E (pos 0) (omega arith))
+    beyond b = subst (λ v. IsFine n E v) (sym (value_at-beyond (e ++ (y ∷ [])) x (omega (arith, length-append e (y ∷ [])))))
+        (fine_number n E (pos 0) (omega arith))
 
 -- one more value, and the columns named before
-held_more : (names : ColumnLevels) (e : List Value) (v w : Values) (x : Value) → ((d : ℕ) → In d (named names) → w d ≡ v d) → AreHeld names e v → AreHeld names (e ++ (x ∷ [])) w
+held_more : (names : ColumnLevels) (e : List Value) (v w : Values) (x : Value) → ((d : ℕ) → In d (named names) → w d ≡ v d) → AreHeld names e v →
+    AreHeld names (e ++ (x ∷ [])) w
 held_more names e v w x same h d i =
     let p = h d i in
     let l = p.1 in
     (value_at-early e (x ∷ []) (level_of names d) l ∙ p.0 ∙ ap number (sym (same d i)), omega (arith, length-append e (x ∷ [])))
 
-held_let : (names : ColumnLevels) (e : List Value) (v w : Values) (c level : ℕ) (z : ℤ) → level ≡ length e → w c ≡ z → ((d : ℕ) → d ≢ c → w d ≡ v d) → AreHeld names e v → AreHeld ((c, level) ∷ names) (e ++ (number z ∷ [])) w
+held_let : (names : ColumnLevels) (e : List Value) (v w : Values) (c level : ℕ) (z : ℤ) → level ≡ length e → w c ≡ z → ((d : ℕ) → d ≢ c → w d ≡ v d) →
+    AreHeld names e v → AreHeld ((c, level) ∷ names) (e ++ (number z ∷ [])) w
 held_let names e v w c level z s at same h d i = on_bool (c == d)
     (λ t. rw t (value_at-end e (number z) level s ∙ ap number (sym at ∙ ap w (eqb-true c d t)), omega (arith, length-append e (number z ∷ []))))
     (λ t.
@@ -120,7 +131,8 @@ held_let names e v w c level z s at same h d i = on_bool (c == d)
     rw t (value_at-early e (number z ∷ []) (level_of names d) l ∙ p.0 ∙ ap number (sym (same d apart)), omega (arith, length-append e (number z ∷ []))))
 
 -- a number that is a column's
-pub let_at : (n : ℕ) (E : ℤ → Type 0) (k : ArmBuilder) (c : ℕ) (code : CodeTree) (base env e : List Value) (v w : Values) (z : ℤ) → At n E k base env e v → IsMet n code e z → w c ≡ z → ((d : ℕ) → d ≢ c → w d ≡ v d) →
+pub let_at : (n : ℕ) (E : ℤ → Type 0) (k : ArmBuilder) (c : ℕ) (code : CodeTree) (base env e : List Value) (v w : Values) (z : ℤ) → At n E k base env e v →
+    IsMet n code e z → w c ≡ z → ((d : ℕ) → d ≢ c → w d ≡ v d) →
     At n E (let_named k c code) base env (e ++ (number z ∷ [])) w
 let_at n E k c code base env e v w z h m at same =
     let l = h.level in
@@ -139,7 +151,8 @@ let_at n E k c code base env e v w z h m at same =
 abbrev pub with_let : ArmBuilder → CodeTree → ArmBuilder
 with_let k code = record { level = k.level + 1; names = k.names; items = k.items ++ (let_item code ∷ []) }
 
-pub set_at : (n : ℕ) (E : ℤ → Type 0) (k : ArmBuilder) (code : CodeTree) (base env e : List Value) (v : Values) (zs : List ℤ) → At n E k base env e v → (path code e).gives ≡ got (elements zs ∷ []) → (path code e).peak ≤ n → ((y : ℤ) → has zs y ≡ true → E y) →
+pub set_at : (n : ℕ) (E : ℤ → Type 0) (k : ArmBuilder) (code : CodeTree) (base env e : List Value) (v : Values) (zs : List ℤ) → At n E k base env e v →
+    (path code e).gives ≡ got (elements zs ∷ []) → (path code e).peak ≤ n → ((y : ℤ) → has zs y ≡ true → E y) →
     At n E (with_let k code) base env (e ++ (elements zs ∷ [])) v
 set_at n E k code base env e v zs h q p f =
     let l = h.level in
@@ -154,35 +167,54 @@ set_at n E k code base env e v zs h q p f =
       small = small_more n E (length base) e (elements zs) h.long h.small (omega arith, f);
     }
 
-pub let_comes : (n : ℕ) (E : ℤ → Type 0) (k : ArmBuilder) (c : ℕ) (code : CodeTree) (base env : List Value) (v w : Values) (z : ℤ) → Comes n E k base env v → ((e : List Value) → At n E k base env e v → IsMet n code e z) → w c ≡ z → ((d : ℕ) → d ≢ c → w d ≡ v d) →
+pub let_comes : (n : ℕ) (E : ℤ → Type 0) (k : ArmBuilder) (c : ℕ) (code : CodeTree) (base env : List Value) (v w : Values) (z : ℤ) → Comes n E k base env v →
+    ((e : List Value) → At n E k base env e v → IsMet n code e z) → w c ≡ z → ((d : ℕ) → d ≢ c → w d ≡ v d) →
     Comes n E (let_named k c code) base env w
 let_comes n E k c code base env v w z (inl h) met at same = inl (reach_none n k.items (let_item code ∷ []) env h)
 let_comes n E k c code base env v w z (inr (e, h)) met at same = inr (e ++ (number z ∷ []), let_at n E k c code base env e v w z h (met e h) at same)
 
-need_at : (n : ℕ) (E : ℤ → Type 0) (k : ArmBuilder) (code : CodeTree) (base env e : List Value) (v : Values) (b : Bool) → At n E k base env e v → Reaches n (need_item code ∷ []) e (cond b (Some e) None) → Comes n E (need k code) base env v
+need_at : (n : ℕ) (E : ℤ → Type 0) (k : ArmBuilder) (code : CodeTree) (base env e : List Value) (v : Values) (b : Bool) → At n E k base env e v →
+    Reaches n (need_item code ∷ []) e (cond b (Some e) None) → Comes n E (need k code) base env v
 need_at n E k code base env e v true h r =
-    inr (e, record { reach = reach_some n k.items (need_item code ∷ []) env e (Some e) h.reach r; level = h.level; held = h.held; long = h.long; early = h.early; small = h.small })
+    inr (
+      e,
+      record {
+        reach = reach_some n k.items (need_item code ∷ []) env e (Some e) h.reach r;
+        level = h.level;
+        held = h.held;
+        long = h.long;
+        early =
+            h.early;
+        small = h.small;
+      },
+    )
 need_at n E k code base env e v false h r = inl (reach_some n k.items (need_item code ∷ []) env e None h.reach r)
 
-need_comes : (n : ℕ) (E : ℤ → Type 0) (k : ArmBuilder) (code : CodeTree) (base env : List Value) (v : Values) → Comes n E k base env v → ((e : List Value) → At n E k base env e v → (b : Bool) × ((path code e).gives ≡ got (truth b ∷ [])) × ((path code e).peak ≤ n)) → Comes n E (need k code) base env v
+need_comes : (n : ℕ) (E : ℤ → Type 0) (k : ArmBuilder) (code : CodeTree) (base env : List Value) (v : Values) → Comes n E k base env v →
+    ((e : List Value) → At n E k base env e v → (b : Bool) × ((path code e).gives ≡ got (truth b ∷ [])) × ((path code e).peak ≤ n)) →
+    Comes n E (need k code) base env v
 need_comes n E k code base env v (inl h) met = inl (reach_none n k.items (need_item code ∷ []) env h)
 need_comes n E k code base env v (inr (e, h)) met = let m = met e h in need_at n E k code base env e v m.0 h (need_reaches n code e m.0 m.1 m.2)
 
 -- ---- lets and needs
-compare_met : (n : ℕ) (o : Order) (c : CodeTree) (e : List Value) (z : ℤ) → IsMet n c e z → (b : Bool) × ((path (code_compare o c (code_lit (pos 0))) e).gives ≡ got (truth b ∷ [])) × ((path (code_compare o c (code_lit (pos 0))) e).peak ≤ n)
+compare_met : (n : ℕ) (o : Order) (c : CodeTree) (e : List Value) (z : ℤ) → IsMet n c e z →
+    (b : Bool) × ((path (code_compare o c (code_lit (pos 0))) e).gives ≡ got (truth b ∷ [])) × ((path (code_compare o c (code_lit (pos 0))) e).peak ≤ n)
 compare_met n o c e z h = let p = h.peak in (compared o (number z) (number (pos 0)), rw h.gives refl, rw h.gives (omega arith))
 
-divides_met : (n : ℕ) (g : ℤ) (c : CodeTree) (e : List Value) (z : ℤ) → IsMet n c e z → (b : Bool) × ((path (code_divides g c) e).gives ≡ got (truth b ∷ [])) × ((path (code_divides g c) e).peak ≤ n)
+divides_met : (n : ℕ) (g : ℤ) (c : CodeTree) (e : List Value) (z : ℤ) → IsMet n c e z →
+    (b : Bool) × ((path (code_divides g c) e).gives ≡ got (truth b ∷ [])) × ((path (code_divides g c) e).peak ≤ n)
 divides_met n g c e z h = let p = h.peak in (is_multiple g z, rw h.gives refl, rw h.gives (omega arith))
 
-pub steps_come : (n : ℕ) (E : ℤ → Type 0) (base env : List Value) (v : Values) → v 0 ≡ pos 1 → (ms : List Step) (k : ArmBuilder) (Q : ℕ → Type 0) → Comes n E k base env v → ((c : ℕ) → Q c → HasName k.names c) → StepsOver Q ms → LetsFit v ms → LetsWithin n v ms →
+pub steps_come : (n : ℕ) (E : ℤ → Type 0) (base env : List Value) (v : Values) → v 0 ≡ pos 1 → (ms : List Step) (k : ArmBuilder) (Q : ℕ → Type 0) →
+    Comes n E k base env v → ((c : ℕ) → Q c → HasName k.names c) → StepsOver Q ms → LetsFit v ms → LetsWithin n v ms →
     NeedsWithin n v ms → StepsDivide ms → Comes n E (fold step_item k ms) base env v
 steps_come n E base env v one [] k Q h f o l w s d = h
 steps_come n E base env v one (floor_of c r g ∷ ms) k Q h f o l w s d =
     let j = step_item k (floor_of c r g) in
     let z = int_div_euclid (value v r) g in
     let next : Comes n E j base env v = let_comes n E k c (code_div (row_code k.names r) g) base env v v z h
-    (λ e a. div_met n (row_code k.names r) g e (value v r) d.0 (row_met n k.names e v one a.held r w.0 (Over-weaker Q (HasName k.names) f r o.0))) l.0 (λ x _. refl) in
+    (λ e a. div_met n (row_code k.names r) g e (value v r) d.0 (row_met n k.names e v one a.held r w.0 (Over-weaker Q (HasName k.names) f r o.0))) l.0
+    (λ x _. refl) in
     steps_come n E base env v one ms j (λ x. (x ≡ c) ⊎ Q x) next (wider_let Q k.names c k.level f) o.1 l.1 w.1 s d.1
 steps_come n E base env v one (need_nonneg r ∷ ms) k Q h f o l w s d =
     let j = step_item k (need_nonneg r) in
@@ -201,7 +233,8 @@ steps_come n E base env v one (need_divides g r ∷ ms) k Q h f o l w s d =
     steps_come n E base env v one ms j Q next f o.1 l w s.1 d.1
 
 -- ---- unknowns
-pub back_come : (n : ℕ) (E : ℤ → Type 0) (base env : List Value) (ws : List (ℕ × How)) (k : ArmBuilder) (v : Values) (Q : ℕ → Type 0) → v 0 ≡ pos 1 → Comes n E k base env v → ((c : ℕ) → Q c → HasName k.names c) → BackOver Q ws → WaysWithin n v ws → BackDivides ws →
+pub back_come : (n : ℕ) (E : ℤ → Type 0) (base env : List Value) (ws : List (ℕ × How)) (k : ArmBuilder) (v : Values) (Q : ℕ → Type 0) → v 0 ≡ pos 1 →
+    Comes n E k base env v → ((c : ℕ) → Q c → HasName k.names c) → BackOver Q ws → WaysWithin n v ws → BackDivides ws →
     Comes n E (fold back_item k ws) base env (after_back v ws)
 back_come n E base env [] k v Q one h f o w d = h
 back_come n E base env ((x, y) ∷ ws) k v Q one h f o w d =
@@ -210,7 +243,8 @@ back_come n E base env ((x, y) ∷ ws) k v Q one h f o w d =
     let u = update v x z in
     let next : Comes n E (back_item k (x, y)) base env u = let_comes n E k x (how_code k.names y) base env v u z h
     (λ e a. how_met n k.names e v one a.held y w.0 (how_wider Q (HasName k.names) f y o.1) d.0) (update-at v x z) (λ c a. update-other v x c z a) in
-    back_come n E base env ws (back_item k (x, y)) u (λ c. (c ≡ x) ⊎ Q c) (update-other v x 0 z (λ (q : 0 ≡ x). omega arith) ∙ one) next (wider_let Q k.names x k.level f) o.2 w.1 d.1
+    back_come n E base env ws (back_item k (x, y)) u (λ c. (c ≡ x) ⊎ Q c) (update-other v x 0 z (λ (q : 0 ≡ x). omega arith) ∙ one) next
+    (wider_let Q k.names x k.level f) o.2 w.1 d.1
 
 -- ---- the tuples of an arm
 -- nothing above n is met, and what is found is so
@@ -243,24 +277,29 @@ module _ (n : ℕ) (N : List Value → Type 0) where
   pub none_fine : IsFinePath n N (gives_only None)
   none_fine = record { peak = omega arith; gives = λ vs e. absurd (none_is_some vs e) }
 
-  first_fine : (total k : ℕ) (f : ℕ → Path (Option (List Value))) → ((i : ℕ) → k ≤ i → i < k + total → IsFinePath n N (f i)) → IsFinePath n N (first_from total k f)
+  first_fine : (total k : ℕ) (f : ℕ → Path (Option (List Value))) → ((i : ℕ) → k ≤ i → i < k + total → IsFinePath n N (f i)) →
+      IsFinePath n N (first_from total k f)
   first_fine zero k f h = none_fine
-  first_fine (suc t) k f h = then_fine (f k) (first_from t (suc k) f) (h k (omega arith) (omega arith)) (first_fine t (suc k) f (λ i l m. h i (omega arith) (omega arith)))
+  first_fine (suc t) k f h = then_fine (f k) (first_from t (suc k) f) (h k (omega arith) (omega arith))
+      (first_fine t (suc k) f (λ i l m. h i (omega arith) (omega arith)))
 
   -- what an arm gives after its items
   abbrev Given : CodeTrees → List Value → Type 0
   Given gs e = ((all_path gs e []).peak ≤ n) × ((vs : List Value) → (all_path gs e []).gives ≡ got vs → N vs)
 
-  gives_fine : (gs : CodeTrees) (o : Option (List Value)) → ((e : List Value) → o ≡ Some e → Given gs e) → IsFinePath n N (if_some o (λ e. then_path (all_path gs e []) (λ vs. gives_only (Some vs))))
+  gives_fine : (gs : CodeTrees) (o : Option (List Value)) → ((e : List Value) → o ≡ Some e → Given gs e) →
+      IsFinePath n N (if_some o (λ e. then_path (all_path gs e []) (λ vs. gives_only (Some vs))))
   gives_fine gs None h = none_fine
   gives_fine gs (Some e) h = let r = by (all_path gs e []).gives (all_path gs e []).peak (h e refl) in record { peak = r.0; gives = r.1 }
     where
-      by : (g : Got (List Value)) (p : ℕ) → (p ≤ n) × ((vs : List Value) → g ≡ got vs → N vs) → (then_peak p g (λ vs. 0) ≤ n) × ((vs : List Value) → then_gives g (λ xs. got (Some xs)) ≡ got (Some vs) → N vs)
+      by : (g : Got (List Value)) (p : ℕ) → (p ≤ n) × ((vs : List Value) → g ≡ got vs → N vs) →
+          (then_peak p g (λ vs. 0) ≤ n) × ((vs : List Value) → then_gives g (λ xs. got (Some xs)) ≡ got (Some vs) → N vs)
       by (got xs) p l = (let m = l.0 in omega arith, λ vs e. subst N (some_once xs vs e) (l.1 xs refl))
       by (none_at x) p l = (l.0, λ vs e. absurd (stop_not x (Some vs) e))
 
   pub arm_fine : (bounds : List ℕ) (is : List ItemTree) (gs : CodeTrees) (env : List Value) →
-      ((i : ℕ) → i < count_below bounds → ((k : ℕ) → In k (tuple_at bounds i) → k ≤ n) × ((o : Option (List Value)) × Reaches n is (with_tuple env (tuple_at bounds i)) o × ((e : List Value) → o ≡ Some e → Given gs e))) →
+      ((i : ℕ) → i < count_below bounds → ((k : ℕ) → In k (tuple_at bounds i) → k ≤ n) ×
+      ((o : Option (List Value)) × Reaches n is (with_tuple env (tuple_at bounds i)) o × ((e : List Value) → o ≡ Some e → Given gs e))) →
       IsFinePath n N (arm_path (arm_of bounds (items_of is) gs) env)
   arm_fine bounds is gs env h = first_fine (count_below bounds) 0 _ (λ i l m.
       let q = h i (omega arith) in
@@ -273,10 +312,13 @@ module _ (n : ℕ) (N : List Value → Type 0) where
       record { peak = rw (t.0, r.1.0) (omega arith); gives = rw (t.0, r.1.0) g.gives })
 
   -- the outcome of a solve
-  pub solve_fine : (id : ℕ) (arms : ArmTrees) (env : List Value) → IsFinePath n N (arms_path arms env) → (peak (code_solve id arms) env ≤ n) × ((vs : List Value) → means (code_solve id arms) env ≡ values vs → N vs)
+  pub solve_fine : (id : ℕ) (arms : ArmTrees) (env : List Value) → IsFinePath n N (arms_path arms env) →
+      (peak (code_solve id arms) env ≤ n) × ((vs : List Value) → means (code_solve id arms) env ≡ values vs → N vs)
   solve_fine id arms env h = by (arms_path arms env).gives (arms_path arms env).peak (h.peak, h.gives)
     where
-      by : (g : Got (Option (List Value))) (p : ℕ) → FineParts g p → (then_peak p g (λ found. (or_none id found).peak) ≤ n) × ((vs : List Value) → outcome_of (then_gives g (λ found. (or_none id found).gives)) ≡ values vs → N vs)
+      by : (g : Got (Option (List Value))) (p : ℕ) → FineParts g p →
+          (then_peak p g (λ found. (or_none id found).peak) ≤ n) ×
+          ((vs : List Value) → outcome_of (then_gives g (λ found. (or_none id found).gives)) ≡ values vs → N vs)
       by (got None) p l = (let m = l.0 in omega arith, λ vs e. absurd (cc))
       by (got (Some xs)) p l = (let m = l.0 in omega arith, λ vs e. let s : xs ≡ vs = cc in subst N s (l.1 xs refl))
       by (none_at x) p l = (l.0, λ vs e. absurd (cc))

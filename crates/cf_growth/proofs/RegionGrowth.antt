@@ -26,7 +26,8 @@ use Rattle.cf_growth.proofs.SetCodes.{IsSetMet, AllSets, set_var_met, inter_met,
 pub same_set : (xs ys : List ℤ) → got (elements xs ∷ []) ≡ got (elements ys ∷ []) → xs ≡ ys
 same_set xs ys e = cc
 
-pub vars_sets : (n len : ℕ) (E : ℤ → Type 0) (e : List Value) (xs : List ℕ) → ((x : ℕ) → In x xs → (zs : List ℤ) × (value_at e x ≡ elements zs) × (length zs ≤ len) × ((y : ℤ) → has zs y ≡ true → E y)) → AllSets n len E (vars xs) e
+pub vars_sets : (n len : ℕ) (E : ℤ → Type 0) (e : List Value) (xs : List ℕ) →
+    ((x : ℕ) → In x xs → (zs : List ℤ) × (value_at e x ≡ elements zs) × (length zs ≤ len) × ((y : ℤ) → has zs y ≡ true → E y)) → AllSets n len E (vars xs) e
 vars_sets n len E e [] h = tt
 vars_sets n len E e (x ∷ xs) h = let q = h x (inl refl) in (set_var_met n len E x e q.0 q.1 q.2 q.3, vars_sets n len E e xs (λ y i. h y (inr i)))
 
@@ -59,12 +60,17 @@ module _ (scope outputs : List Base) (rel : RelTree) (env : List Value) (have : 
   pub input_sets : (n : ℕ) (e : List Value) → Begins e → (xs : List ℕ) → ((x : ℕ) → In x xs → In x l.inputs) → AllSets n k (E n) (vars xs) e
   input_sets n e b xs f = vars_sets n k (E n) e xs (λ x i.
       let h = has-In x l.inputs (f x i) in
-      let q = inputs_held scope outputs rel env have x h in
-      (q.0, b x (input_early x h) ∙ q.1, input_small scope outputs rel env x q.0 (f x i) q.1, λ y j. inr (x, f x i, subst (λ v. has (elements_of v) y ≡ true) (sym q.1) j)))
+      let q = inputs_held scope outputs rel env have x h in (
+        q.0,
+        b x (input_early x h) ∙ q.1,
+        input_small scope outputs rel env x q.0 (f x i) q.1,
+        λ y j. inr (x, f x i, subst (λ v. has (elements_of v) y ≡ true) (sym q.1) j),
+      ))
 
   region_met : (n m : ℕ) (e : List Value) → Begins e → IsSetMet n k (E n) (region_code l m) e
   region_met n m e b =
-      diffs_met n k (E n) k (vars (sets_out l m)) (inter_of_all (vars (sets_in l m))) e (input_sets n e b (sets_out l m) (λ x i. In-unpassed x (λ x. not (bit (place x l.inputs) m)) l.inputs i))
+      diffs_met n k (E n) k (vars (sets_out l m)) (inter_of_all (vars (sets_in l m))) e
+      (input_sets n e b (sets_out l m) (λ x i. In-unpassed x (λ x. not (bit (place x l.inputs) m)) l.inputs i))
       (inter_met n k (E n) (vars (sets_in l m)) e (input_sets n e b (sets_in l m) (λ x i. In-unpassed x (λ x. bit (place x l.inputs) m) l.inputs i)))
 
   region_is : (m : ℕ) (e : List Value) → Begins e → 1 ≤ m → m < 2 ^ length l.inputs → (path (region_code l m) e).gives ≡ got (elements (region ins m) ∷ [])
@@ -79,7 +85,8 @@ module _ (scope outputs : List Base) (rel : RelTree) (env : List Value) (have : 
       omega arith
 
   -- n regions from mask a on
-  pub regions_at : (n many a : ℕ) (j : ArmBuilder) (e0 e : List Value) (v : Values) → k ≤ n → ((m : ℕ) → 1 ≤ m → m < 2 ^ length l.inputs → v (input_column l m) ≡ pos (count ins m)) → 1 ≤ a → a + many ≤ 2 ^ length l.inputs →
+  pub regions_at : (n many a : ℕ) (j : ArmBuilder) (e0 e : List Value) (v : Values) → k ≤ n →
+      ((m : ℕ) → 1 ≤ m → m < 2 ^ length l.inputs → v (input_column l m) ≡ pos (count ins m)) → 1 ≤ a → a + many ≤ 2 ^ length l.inputs →
       At n (E n) j env e0 e v → (d : List Value) × At n (E n) (fold (let_region l) j (range_with_len a many)) env e0 d v
   regions_at n zero a j e0 e v kn f x y h = (e, h)
   regions_at n (suc many) a j e0 e v kn f x y h =
@@ -92,6 +99,8 @@ module _ (scope outputs : List Base) (rel : RelTree) (env : List Value) (have : 
       let e1 = e ++ (elements r ∷ []) in
       let there : value_at e1 j.level ≡ elements r = value_at-end e (elements r) j.level h.level in
       let small = count_small a x (omega arith) in
-      let card : IsMet n (code_card (code_var j.level)) e1 (pos (length r)) = record { gives = rw there refl; peak = rw there (omega arith); size = omega arith } in
-      let two = let_at n (E n) (with_let j (region_code l a)) (input_column l a) (code_card (code_var j.level)) env e0 e1 v v (pos (length r)) one card (f a x (omega arith)) (λ d i. refl) in
+      let card : IsMet n (code_card (code_var j.level)) e1 (pos (length r)) =
+      record { gives = rw there refl; peak = rw there (omega arith); size = omega arith } in
+      let two = let_at n (E n) (with_let j (region_code l a)) (input_column l a) (code_card (code_var j.level)) env e0 e1 v v (pos (length r)) one card
+      (f a x (omega arith)) (λ d i. refl) in
       regions_at n many (a + 1) (let_region l j a) e0 (e1 ++ (number (pos (length r)) ∷ [])) v kn f (omega arith) (omega arith) two

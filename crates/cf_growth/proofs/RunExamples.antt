@@ -44,7 +44,8 @@ past = pos 170141183460469231731687303715884105728
 -- ---- chooses
 -- a <= 2 * x && 2 * x <= b
 abbrev rounding : RelTree
-rounding = rel_and (rel_compare Le (term_var 0) (term_mul (term_lit (pos 2)) (term_var 2))) (rel_compare Le (term_mul (term_lit (pos 2)) (term_var 2)) (term_var 1))
+rounding = rel_and (rel_compare Le (term_var 0) (term_mul (term_lit (pos 2)) (term_var 2)))
+    (rel_compare Le (term_mul (term_lit (pos 2)) (term_var 2)) (term_var 1))
 
 abbrev rounding_main : ExprTree
 rounding_main = expr_choose 1 (param Int ∷ param Int ∷ []) (Int ∷ []) rounding
@@ -71,7 +72,8 @@ unfolding arms arm first_systems disjuncts system_of_case write_atom run run_for
 rounding-reach = refl
 
 -- one more may pass
-rounding-reach_more : reach (Int ∷ Int ∷ []) (Int ∷ []) rounding (numbers (large ∷ pos 85070591730234615865843651857942052863 ∷ [])) ≡ 170141183460469231731687303715884105728
+rounding-reach_more : reach (Int ∷ Int ∷ []) (Int ∷ []) rounding (numbers (large ∷ pos 85070591730234615865843651857942052863 ∷ [])) ≡
+    170141183460469231731687303715884105728
 unfolding arms arm first_systems disjuncts system_of_case write_atom run run_for stage clean_stage equation_stage bound_stage unknown_stage row_stage clean mix factors_of merge merge_passes merge_factor last pick searched dropped searched_by bound bound_passes bound_factor gcd_by factors_by parts_of growth growth_of_case
 rounding-reach_more = refl
 
@@ -206,10 +208,12 @@ if-true = refl
 if-false : picks [] (expr_if (expr_truth false) (expr_lit (pos 1)) overflow) [] ≡ None
 if-false = refl
 
-let-of_pair : picks [] (expr_let 2 (expr_tuple (exprs_of (expr_lit (pos 1) ∷ expr_lit (pos 2) ∷ []))) (expr_binary Sub (expr_var 1) (expr_var 2))) (numbers (pos 9 ∷ [])) ≡ gives (numbers (negsuc 0 ∷ []))
+let-of_pair : picks [] (expr_let 2 (expr_tuple (exprs_of (expr_lit (pos 1) ∷ expr_lit (pos 2) ∷ []))) (expr_binary Sub (expr_var 1) (expr_var 2)))
+    (numbers (pos 9 ∷ [])) ≡ gives (numbers (negsuc 0 ∷ []))
 let-of_pair = refl
 
-call : picks (expr_binary Sub (expr_var 1) (expr_var 0) ∷ expr_call 0 (exprs_of (expr_lit (pos 3) ∷ expr_var 0 ∷ [])) ∷ []) (expr_call 1 (exprs_of (expr_lit (pos 5) ∷ []))) [] ≡ gives (numbers (pos 2 ∷ []))
+call : picks (expr_binary Sub (expr_var 1) (expr_var 0) ∷ expr_call 0 (exprs_of (expr_lit (pos 3) ∷ expr_var 0 ∷ [])) ∷ [])
+    (expr_call 1 (exprs_of (expr_lit (pos 5) ∷ []))) [] ≡ gives (numbers (pos 2 ∷ []))
 call = refl
 
 -- no number is both at least 1 and at most 0
@@ -243,4 +247,8 @@ let-may : MayOverflow (expr_let 1 (expr_var 0) (expr_binary Mul (expr_var 1) (ex
 let-may = inr (numbers (root ∷ []), refl, inr (numbers (root ∷ []), refl, inr (numbers (root ∷ []), refl, omega arith)))
 
 call-may : MayOverflow (square ∷ expr_call 0 (exprs_of (expr_lit root ∷ [])) ∷ []) 1 []
-call-may = inr (numbers (root ∷ []), goes_on (numbers (root ∷ [])) refl (goes_on [] refl refl), inr (numbers (root ∷ []), refl, inr (numbers (root ∷ []), refl, omega arith)))
+call-may = inr (
+  numbers (root ∷ []),
+  goes_on (numbers (root ∷ [])) refl (goes_on [] refl refl),
+  inr (numbers (root ∷ []), refl, inr (numbers (root ∷ []), refl, omega arith)),
+)

@@ -74,7 +74,8 @@ all_give n l env (c ∷ cs) e done h d =
     let q = again.0 in
     (rw h.0.1 (omega arith), rw h.0.1 again.1)
 
-map_give : (n : ℕ) (l : Layout) (env : List Value) (f : ℕ → CodeTree) (e : List Value) (xs : List ℕ) → ((x : ℕ) → (vs : List Value) × ((path (f x) e).gives ≡ got vs) × ((path (f x) e).peak ≤ n) × AreNear n l env vs) → AllGive n l env (map f xs) e
+map_give : (n : ℕ) (l : Layout) (env : List Value) (f : ℕ → CodeTree) (e : List Value) (xs : List ℕ) →
+    ((x : ℕ) → (vs : List Value) × ((path (f x) e).gives ≡ got vs) × ((path (f x) e).peak ≤ n) × AreNear n l env vs) → AllGive n l env (map f xs) e
 map_give n l env f e [] h = tt
 map_give n l env f e (x ∷ xs) h = (h x, map_give n l env f e xs h)
 
@@ -104,7 +105,8 @@ module _ (scope outputs : List Base) (rel : RelTree) (m : System) (a : Answer) w
       (regions : (r : ℕ) → 1 ≤ r → r < 2 ^ set_count l → In (region_column l r) m.unknown) (later : (c : ℕ) → In c m.unknown → 1 ≤ c)
       (owes : Owes m a) (comes : ComesBack m a) (done : a.system.unknown ≡ []) (steps_divide : StepsDivide a.steps) (back_divide : BackDivides a.back)
       (env : List Value) (have : HaveBases scope env) (n : ℕ)
-      (stays : (v : Values) → Within v a.bounds → LetsFit v a.steps → IsBounded (IsKnown m) (1 + parameters_size l env) v → StaysWithin l (1 + parameters_size l env) n m a v) where
+      (stays : (v : Values) → Within v a.bounds → LetsFit v a.steps → IsBounded (IsKnown m) (1 + parameters_size l env) v →
+      StaysWithin l (1 + parameters_size l env) n m a v) where
     abbrev k : ℕ
     k = 1 + parameters_size l env
 
@@ -151,9 +153,11 @@ module _ (scope outputs : List Base) (rel : RelTree) (m : System) (a : Answer) w
         let h = r.1 in
         ⊎_elim (λ z. inl z)
         (λ o. ⊎_elim (λ j. regions_keep l (masks (length l.inputs)) first c (inr (named-first c (parameter_names l) (search_names l.scope a.bounds) j)))
-        (λ q. subst (λ d. HasName regioned.names d) q.3 (regions_name l (masks (length l.inputs)) first q.0 (let x = q.1 in let y = q.2 in In-range 1 (2 ^ length l.inputs - 1) q.0 x (omega arith)))) o)
+        (λ q. subst (λ d. HasName regioned.names d) q.3
+        (regions_name l (masks (length l.inputs)) first q.0 (let x = q.1 in let y = q.2 in In-range 1 (2 ^ length l.inputs - 1) q.0 x (omega arith)))) o)
         (known_column scope outputs rel c (omega arith))
-    begins_named c (inr i) = regions_keep l (masks (length l.inputs)) first c (inr (named-second c (parameter_names l) (search_names l.scope a.bounds) (search_named l.scope c a.bounds i)))
+    begins_named c (inr i) = regions_keep l (masks (length l.inputs)) first c
+        (inr (named-second c (parameter_names l) (search_names l.scope a.bounds) (search_named l.scope c a.bounds i)))
 
     named_begins : (c : ℕ) → In c (named first.names) → (1 ≤ c) × Begins c
     named_begins c i = ⊎_elim (λ j. ((parameter_column scope outputs rel c j).0, inl (parameter_known c j)))
@@ -162,7 +166,8 @@ module _ (scope outputs : List Base) (rel : RelTree) (m : System) (a : Answer) w
         let r = rising_from m.next a.system.next c (search_columns a.bounds) owes.bounds_rise s in
         let o = next_some in
         (omega arith, inr s))
-        (In-append c (named (parameter_names l)) (named (search_names l.scope a.bounds)) (rw (named-append (parameter_names l) (search_names l.scope a.bounds)) at i))
+        (In-append c (named (parameter_names l)) (named (search_names l.scope a.bounds))
+        (rw (named-append (parameter_names l) (search_names l.scope a.bounds)) at i))
 
     known_named : (c : ℕ) → In c a.system.known ⊎ In c a.system.unknown → HasName middle.names c
     known_named c (inl i) = elim (owes.only c i) as (λ _. HasName middle.names c) [
@@ -174,7 +179,8 @@ module _ (scope outputs : List Base) (rel : RelTree) (m : System) (a : Answer) w
     unknown_named : (c : ℕ) → In c m.unknown → In c (named end.names)
     unknown_named c i =
         let s = later c i in
-        some_name s (elim (comes.covers c i) as (λ _. HasName end.names c) [ inl j ↦ absurd (subst (λ cs. In c cs) done j) | inr j ↦ back_named a.back middle c (inl j) ])
+        some_name s (elim (comes.covers c i) as (λ _. HasName end.names c)
+        [ inl j ↦ absurd (subst (λ cs. In c cs) done j) | inr j ↦ back_named a.back middle c (inl j) ])
       where
         some_name : 1 ≤ c → HasName end.names c → In c (named end.names)
         some_name s (inl z) = absurd (omega arith)
@@ -226,7 +232,8 @@ module _ (scope outputs : List Base) (rel : RelTree) (m : System) (a : Answer) w
           let s = b.0 in
           let z : c == 0 ≡ false = ne_eqb c 0 (λ q. omega arith) in
           let j = number_named start first.names c numbers i in
-          let g = search_agrees scope a.bounds (parameter_names l) (length scope) m.next a.system.next env (known_values l env) ks refl (parameter_numbers l scope l.numbers (number_levels scope outputs rel)) have early next_some owes.bounds_rise below
+          let g = search_agrees scope a.bounds (parameter_names l) (length scope) m.next a.system.next env (known_values l env) ks refl
+          (parameter_numbers l scope l.numbers (number_levels scope outputs rel)) have early next_some owes.bounds_rise below
           (parameters_agree scope outputs rel env) c (inr i) in
           let t : number_of (value_at e0 (level_of first.names c)) ≡ set_tuple (known_values l env) a.bounds (wholes ks) c = rw z at g in
           let y = slice_get_within start (level_of first.names c) Int j in
@@ -241,7 +248,8 @@ module _ (scope outputs : List Base) (rel : RelTree) (m : System) (a : Answer) w
           let s : unsigned_abs (v t.0) ≡ j = ap unsigned_abs e in
           omega arith
 
-      later_small : (vs : List Value) (js : List ℕ) → ((j : ℕ) → In j js → j ≤ n) → (x : ℕ) → length vs ≤ x → IsFine n E (value_at (vs ++ map (λ k. number (pos k)) js) x)
+      later_small : (vs : List Value) (js : List ℕ) → ((j : ℕ) → In j js → j ≤ n) → (x : ℕ) → length vs ≤ x →
+          IsFine n E (value_at (vs ++ map (λ k. number (pos k)) js) x)
       later_small [] [] h x i = fine_number n E (pos 0) (omega arith)
       later_small [] (j ∷ js) h zero i = fine_number n E (pos j) (h j (inl refl))
       later_small [] (j ∷ js) h (suc x) i = later_small [] js (λ y k. h y (inr k)) x (omega arith)
@@ -280,23 +288,33 @@ module _ (scope outputs : List Base) (rel : RelTree) (m : System) (a : Answer) w
           steps_come n E env e0 v one a.steps regioned Begins (inr (r.0, r.1)) begins_named owes.over is_after.lets within.lets within.needs steps_divide
 
       end_comes : Comes n E end env e0 w
-      end_comes = back_come n E env e0 a.back middle v (λ c. In c a.system.known ⊎ In c a.system.unknown) one middle_comes known_named comes.over within.back back_divide
+      end_comes = back_come n E env e0 a.back middle v (λ c. In c a.system.known ⊎ In c a.system.unknown) one middle_comes known_named comes.over within.back
+          back_divide
 
       -- ---- counts of regions
-      region_small : (e : List Value) → AreHeld end.names e w → (r : ℕ) → 1 ≤ r → r < 2 ^ set_count l → IsMet within.b (code_var (level_of end.names (region_column l r))) e (w (region_column l r))
+      region_small : (e : List Value) → AreHeld end.names e w → (r : ℕ) → 1 ≤ r → r < 2 ^ set_count l →
+          IsMet within.b (code_var (level_of end.names (region_column l r))) e (w (region_column l r))
       region_small e held r x y =
           let i = regions r x y in
-          var_met within.b (level_of end.names (region_column l r)) e (w (region_column l r)) (held (region_column l r) (unknown_named (region_column l r) i)).0 (within.stood (region_column l r) (inr i))
+          var_met within.b (level_of end.names (region_column l r)) e (w (region_column l r)) (held (region_column l r) (unknown_named (region_column l r) i)).0
+          (within.stood (region_column l r) (inr i))
 
       -- the sum of the counts of the masks q + 2^p * o for o below some number
-      sum_met : (e : List Value) → AreHeld end.names e w → (q many : ℕ) → ((o : ℕ) → o < many → q + 2 ^ length l.inputs * o < 2 ^ set_count l) → many * within.b ≤ n →
+      sum_met : (e : List Value) → AreHeld end.names e w → (q many : ℕ) → ((o : ℕ) → o < many → q + 2 ^ length l.inputs * o < 2 ^ set_count l) →
+          many * within.b ≤ n →
           (z : ℤ) × IsMet n (sum_of (earlier_counts l end.names q many)) e z × (unsigned_abs z ≤ many * within.b)
       sum_met e held q many f room =
           let code : ℕ → CodeTree = λ r. code_var (level_of end.names (region_column l r)) in
           let rs = filter (λ r. not (r == 0)) (map (λ o. q + 2 ^ length l.inputs * o) (range_with_len 0 many)) in
           let small : AreSmall code within.b rs e = each_earlier (IsSmallAt code within.b e) (λ o. q + 2 ^ length l.inputs * o) 0 many
-          (λ o i x. let h = region_small e held (q + 2 ^ length l.inputs * o) x (f o (omega arith)) in (w (region_column l (q + 2 ^ length l.inputs * o)), h.gives, h.peak, h.size)) in
-          let short : length rs ≤ many = omega (arith, short_filter (λ r. not (r == 0)) (map (λ o. q + 2 ^ length l.inputs * o) (range_with_len 0 many)), length-map (range_with_len 0 many) (λ o. q + 2 ^ length l.inputs * o), length-range_with_len 0 many) in
+          (λ o i x. let h = region_small e held (q + 2 ^ length l.inputs * o) x (f o (omega arith)) in
+          (w (region_column l (q + 2 ^ length l.inputs * o)), h.gives, h.peak, h.size)) in
+          let short : length rs ≤ many = omega (
+            arith,
+            short_filter (λ r. not (r == 0)) (map (λ o. q + 2 ^ length l.inputs * o) (range_with_len 0 many)),
+            length-map (range_with_len 0 many) (λ o. q + 2 ^ length l.inputs * o),
+            length-range_with_len 0 many,
+          ) in
           let t = times_le (length rs) many within.b short in
           let c = counts_met n within.b code rs e small b_within (omega arith) in
           let z = c.2 in
@@ -311,7 +329,8 @@ module _ (scope outputs : List Base) (rel : RelTree) (m : System) (a : Answer) w
           let r = within.room in
           omega arith
 
-      fresh_is : (e : List Value) → AreHeld end.names e w → ((x : ℕ) → x < length env → value_at e x ≡ value_at env x) → 0 < length l.out_sets → (t : ℕ) × IsSetMet n t E (fresh_code l end.names) e
+      fresh_is : (e : List Value) → AreHeld end.names e w → ((x : ℕ) → x < length env → value_at e x ≡ value_at env x) → 0 < length l.out_sets →
+          (t : ℕ) × IsSetMet n t E (fresh_code l end.names) e
       fresh_is e held b some =
           let p = length l.inputs in
           let q = length l.out_sets in
@@ -322,8 +341,11 @@ module _ (scope outputs : List Base) (rel : RelTree) (m : System) (a : Answer) w
           let sum = sum_met e held 0 (2 ^ q) (λ o i. rw (pow-add 2 p q) (below_product (2 ^ p) (2 ^ q) 0 o (pow_pos p) i)) (omega arith) in
           let kb = mul-le-mul_left p within.some in
           let same : length (vars l.inputs) * k ≡ p * k = ap (λ y. y * k) (length-map l.inputs (λ x. code_var x)) in
-          let z = sum.2 in
-          (2 ^ q * within.b, fresh_met n (length (vars l.inputs) * k) (2 ^ q * within.b) E (union_of_all (vars l.inputs)) (sum_of (earlier_counts l end.names 0 (2 ^ q))) e sum.0 (λ y i. inl i) ins sum.1 z (omega arith))
+          let z = sum.2 in (
+            2 ^ q * within.b,
+            fresh_met n (length (vars l.inputs) * k) (2 ^ q * within.b) E (union_of_all (vars l.inputs))
+                (sum_of (earlier_counts l end.names 0 (2 ^ q))) e sum.0 (λ y i. inl i) ins sum.1 z (omega arith),
+          )
 
       -- ---- pieces
       few_rows : (r : ℕ) → r < 2 ^ set_count l → r / 2 ^ length l.inputs * within.b ≤ n
@@ -340,7 +362,8 @@ module _ (scope outputs : List Base) (rel : RelTree) (m : System) (a : Answer) w
           let z = div-eq_of_lt lt in
           rw z (omega arith))
 
-      piece_met : (e : List Value) → AreHeld end.names e w → ((x : ℕ) → length env ≤ x → IsFine n E (value_at e x)) → (fresh : ℕ) → length env ≤ fresh → (r : ℕ) → 1 ≤ r → r < 2 ^ set_count l →
+      piece_met : (e : List Value) → AreHeld end.names e w → ((x : ℕ) → length env ≤ x → IsFine n E (value_at e x)) → (fresh : ℕ) → length env ≤ fresh →
+          (r : ℕ) → 1 ≤ r → r < 2 ^ set_count l →
           IsSetMet n within.b E (piece_code l end.names (region_level l a) fresh r) e
       piece_met e held small fresh long r x y =
           let p = length l.inputs in
@@ -351,11 +374,13 @@ module _ (scope outputs : List Base) (rel : RelTree) (m : System) (a : Answer) w
           let t = b_within in
           let c1 = count.peak in
           let c2 = count.size in
-          let big : IsMet n (code_var (level_of end.names (region_column l r))) e (w (region_column l r)) = record { gives = count.gives; peak = omega arith; size = omega arith } in
+          let big : IsMet n (code_var (level_of end.names (region_column l r))) e (w (region_column l r)) =
+          record { gives = count.gives; peak = omega arith; size = omega arith } in
           let sum = sum_met e held q many (λ o i. let o1 : o ≤ many = omega arith in let h = mul-le-mul_left (2 ^ p) o1 in omega arith) (few_rows r y) in
           let n1 = length_have scope env have in
           let at : length env ≤ cond (q == 0) fresh (region_level l a q) = on_bool (q == 0) (λ s. rw s long) (λ s. rw s (omega arith)) in
-          slice_met n within.b E (cond (q == 0) fresh (region_level l a q)) (sum_of (earlier_counts l end.names q many)) (code_var (level_of end.names (region_column l r))) e sum.0 (w (region_column l r))
+          slice_met n within.b E (cond (q == 0) fresh (region_level l a q)) (sum_of (earlier_counts l end.names q many))
+          (code_var (level_of end.names (region_column l r))) e sum.0 (w (region_column l r))
           (small (cond (q == 0) fresh (region_level l a q)) at) sum.1 big count.size
 
       few_pieces : (j : ℕ) (code : ℕ → CodeTree) → length (map code (filter (bit (length l.inputs + j)) (masks (set_count l)))) * within.b ≤ n
@@ -364,7 +389,9 @@ module _ (scope outputs : List Base) (rel : RelTree) (m : System) (a : Answer) w
           let rs = filter (bit (length l.inputs + j)) (masks (set_count l)) in
           let room = room_of (ltb-true 0 (length l.out_sets) t) in
           let s = pow_pos (set_count l) in
-          let short : length (map code rs) ≤ 2 ^ set_count l = omega (arith, length-map rs code, short_filter (bit (length l.inputs + j)) (masks (set_count l)), length-range_with_len 1 (2 ^ set_count l - 1)) in
+          let short : length (map code rs) ≤ 2 ^ set_count l =
+          omega (arith, length-map rs code, short_filter (bit (length l.inputs + j)) (masks (set_count l)), length-range_with_len 1 (2 ^ set_count l - 1))
+          in
           let x = times_le (length (map code rs)) (2 ^ set_count l) within.b short in
           omega arith)
           (λ t.
@@ -372,15 +399,18 @@ module _ (scope outputs : List Base) (rel : RelTree) (m : System) (a : Answer) w
           let s : set_count l ≡ length l.inputs = omega arith in
           let c = pow_pos (set_count l) in
           let none : filter (bit (length l.inputs + j)) (masks (set_count l)) ≡ [] = filter_none (bit (length l.inputs + j)) 1 (2 ^ set_count l - 1)
-          (λ r x y. bit_high (length l.inputs) j r ∙ ap (bit j) (div-eq_of_lt (subst (λ d. r < 2 ^ d) s (let z : r < 2 ^ set_count l = omega arith in z))) ∙ bit_zero j) in
+          (λ r x y. bit_high (length l.inputs) j r ∙ ap (bit j) (div-eq_of_lt (subst (λ d. r < 2 ^ d) s (let z : r < 2 ^ set_count l = omega arith in z))) ∙
+          bit_zero j) in
           rw none (omega arith))
 
-      set_met : (e : List Value) → AreHeld end.names e w → ((x : ℕ) → length env ≤ x → IsFine n E (value_at e x)) → (fresh : ℕ) → length env ≤ fresh → (j : ℕ) → IsSetMet n n E (set_code l end.names (region_level l a) fresh j) e
+      set_met : (e : List Value) → AreHeld end.names e w → ((x : ℕ) → length env ≤ x → IsFine n E (value_at e x)) → (fresh : ℕ) → length env ≤ fresh → (j : ℕ) →
+          IsSetMet n n E (set_code l end.names (region_level l a) fresh j) e
       set_met e held small fresh long j =
           let rs = filter (bit (length l.inputs + j)) (masks (set_count l)) in
           let code = piece_code l end.names (region_level l a) fresh in
           let s = pow_pos (set_count l) in
-          let each = each_passing (λ r. IsSetMet n within.b E (code r) e) (bit (length l.inputs + j)) 1 (2 ^ set_count l - 1) (λ r x y. piece_met e held small fresh long r x (omega arith)) in
+          let each = each_passing (λ r. IsSetMet n within.b E (code r) e) (bit (length l.inputs + j)) 1 (2 ^ set_count l - 1)
+          (λ r x y. piece_met e held small fresh long r x (omega arith)) in
           let u = union_met n within.b E (map code rs) e (each_set n within.b E code e rs each) in
           let f = few_pieces j code in
           let z = u.size in
@@ -393,17 +423,20 @@ module _ (scope outputs : List Base) (rel : RelTree) (m : System) (a : Answer) w
           let i = unknown x t in
           let h = within.stood (number_column l x) (inr i) in
           let b = b_within in
-          let g = var_met n (level_of end.names (number_column l x)) e (w (number_column l x)) (held (number_column l x) (unknown_named (number_column l x) i)).0 (omega arith) in
+          let g = var_met n (level_of end.names (number_column l x)) e (w (number_column l x))
+          (held (number_column l x) (unknown_named (number_column l x) i)).0 (omega arith) in
           rw t (number (w (number_column l x)) ∷ [], g.gives, g.peak, (g.size, tt)))
           (λ t. let s = set_met e held small end.level long (place x l.out_sets) in rw t (elements s.set ∷ [], s.gives, s.peak, ((s.size, s.kind), tt)))
 
       -- what is given is near, and nothing above n is met
       abbrev IsGiven : List Value → Type 0
-      IsGiven e = ((all_path (codes_of (gives l a end)) e []).peak ≤ n) × ((vs : List Value) → (all_path (codes_of (gives l a end)) e []).gives ≡ got vs → AreNear n l env vs)
+      IsGiven e = ((all_path (codes_of (gives l a end)) e []).peak ≤ n) ×
+          ((vs : List Value) → (all_path (codes_of (gives l a end)) e []).gives ≡ got vs → AreNear n l env vs)
 
       given_met : (e : List Value) → AreHeld end.names e w → ((x : ℕ) → length env ≤ x → IsFine n E (value_at e x)) → length env ≤ end.level → IsGiven e
       given_met e held small long =
-          all_give n l env (gives l a end) e [] (map_give n l env (give_code l a end) e (range_with_len l.scope (length l.out_numbers + length l.out_sets)) (give_met e held small long)) tt
+          all_give n l env (gives l a end) e [] (map_give n l env (give_code l a end) e (range_with_len l.scope (length l.out_numbers + length l.out_sets))
+          (give_met e held small long)) tt
 
       some_once : (e d : List Value) → Some e ≡ Some d → e ≡ d
       some_once e d h = cc
@@ -433,7 +466,8 @@ module _ (scope outputs : List Base) (rel : RelTree) (m : System) (a : Answer) w
           (Some e1, h1.reach, λ d q. subst IsGiven (some_once e1 d q) (given_met e1 h1.held h1.small (omega arith)))
 
       pub tuple_ends : Ends (with_fresh l end)
-      tuple_ends = on_bool (nat_lt 0 (length l.out_sets)) (λ t. rw t (fresh_ends (ltb-true 0 (length l.out_sets) t) end_comes)) (λ t. rw t (plain_ends end_comes))
+      tuple_ends = on_bool (nat_lt 0 (length l.out_sets)) (λ t. rw t (fresh_ends (ltb-true 0 (length l.out_sets) t) end_comes))
+          (λ t. rw t (plain_ends end_comes))
 
     pub set_arm_met : IsFinePath n (AreNear n l env) (arm_path (arm l a) env)
     unfolding arm

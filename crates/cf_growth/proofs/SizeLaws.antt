@@ -21,7 +21,8 @@ size_in x (y ∷ xs) env (inl e) = let s : size_of (value_at env x) ≡ size_of 
 size_in x (y ∷ xs) env (inr i) = let h = size_in x xs env i in omega arith
 
 -- a named column has the level of a parameter
-pub level_in : (l : Layout) (c : ℕ) (xs : List ℕ) → In c (named (map (λ x. (number_column l x, x)) xs)) → In (level_of (map (λ x. (number_column l x, x)) xs) c) xs
+pub level_in : (l : Layout) (c : ℕ) (xs : List ℕ) → In c (named (map (λ x. (number_column l x, x)) xs)) →
+    In (level_of (map (λ x. (number_column l x, x)) xs) c) xs
 level_in l c [] i = i
 level_in l c (y ∷ xs) i =
     cond_both (number_column l y == c) y (level_of (map (λ x. (number_column l x, x)) xs) c) (λ z. In z (y ∷ xs)) (λ _. inl refl)

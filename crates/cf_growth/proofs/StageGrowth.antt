@@ -74,7 +74,8 @@ merge_left : (m : System) (e d : Row) (rest : List Row) (x y : ℕ) → m.equati
 unfolding merge mix
 merge_left m e d rest x y h q = let p = rw h at q in absurd (cc)
 
-equation_says : (l : Limits) (s t : State) (a : Taken) (e : Row) (rest : List Row) (us : List ℕ) → Stands s → s.system.equations ≡ e ∷ rest → present s.system.unknown e ≡ us → equation_stage l s e rest us ≡ goes t a → Says s t a
+equation_says : (l : Limits) (s t : State) (a : Taken) (e : Row) (rest : List Row) (us : List ℕ) → Stands s → s.system.equations ≡ e ∷ rest →
+    present s.system.unknown e ≡ us → equation_stage l s e rest us ≡ goes t a → Says s t a
 unfolding equation_stage
 equation_says l s t a e rest [] h q p g = says_at s _ t _ a g (record {
   forth = 1;
@@ -95,7 +96,12 @@ equation_says l s t a e rest (u ∷ []) h q p g =
       grows = grows_last s.system e rest u h.formed i.0 only;
       within = omega arith;
       next = refl;
-      stands = record { formed = last_formed s.system e rest u h.formed q only; differ = last_differs s.system e rest u h.differ; tight = λ c. absurd (true≢false (sym c)) };
+      stands = record {
+        formed = last_formed s.system e rest u h.formed q only;
+        differ = last_differs s.system e rest u h.differ;
+        tight =
+            λ c. absurd (true≢false (sym c));
+      };
     })
 equation_says l s t a e rest (u ∷ w ∷ us) h q p g =
     let iu = In-present u s.system.unknown e (subst (λ xs. In u xs) (sym p) (inl refl)) in
@@ -108,7 +114,12 @@ equation_says l s t a e rest (u ∷ w ∷ us) h q p g =
       grows = grows_merge s.system e u w h.formed iu.0 iw.0 n (merge_some e u w iu.1 iw.1);
       within = omega arith;
       next = refl;
-      stands = record { formed = merge_formed s.system e u w h.formed iu.0 iw.0 n; differ = merge_differs s.system e u w h.formed h.differ; tight = λ _ z. absurd (merge_left s.system e e rest u w q z) };
+      stands = record {
+        formed = merge_formed s.system e u w h.formed iu.0 iw.0 n;
+        differ = merge_differs s.system e u w h.formed h.differ;
+        tight =
+            λ _ z. absurd (merge_left s.system e e rest u w q z);
+      };
     })
 
 -- ---- a Bound step
@@ -116,13 +127,15 @@ pub search_stands : (m : System) (c : Pick) → Formed m → Differ m.unknown �
     Formed (searched_by m c).system × Differ (searched_by m c).system.unknown × IsFree c.unknown (searched_by m c).system.equations
 search_stands m c f d i q = let h = searched_ready m c (record { formed = f; differ = d }) i q in (h.0.formed, h.0.differ, h.1)
 
-bound_stands : (m : System) (c : Pick) → Formed m → Differ m.unknown → In c.unknown m.unknown → m.equations ≡ [] → Formed (bound m c).system × Differ (bound m c).system.unknown
+bound_stands : (m : System) (c : Pick) → Formed m → Differ m.unknown → In c.unknown m.unknown → m.equations ≡ [] →
+    Formed (bound m c).system × Differ (bound m c).system.unknown
 unfolding bound
 bound_stands m c f d i q =
     let h = search_stands m c f d i q in
     (dropped_formed (searched_by m c).system c.unknown h.0 h.2, dropped_differs (searched_by m c).system c.unknown h.1)
 
-bound_says : (l : Limits) (s t : State) (a : Taken) (c : Pick) → Stands s → s.is_past_clean ≡ true → s.system.equations ≡ [] → In c.unknown s.system.unknown → bound_stage l s c ≡ goes t a → Says s t a
+bound_says : (l : Limits) (s t : State) (a : Taken) (c : Pick) → Stands s → s.is_past_clean ≡ true → s.system.equations ≡ [] → In c.unknown s.system.unknown →
+    bound_stage l s c ≡ goes t a → Says s t a
 unfolding bound_stage
 bound_says l s t a c h b q i e =
     let f = search_stands s.system c h.formed h.differ i q in
@@ -136,7 +149,8 @@ bound_says l s t a c h b q i e =
       stands = record { formed = k.0; differ = k.1; tight = λ z. absurd (true≢false (sym z)) };
     })
 
-unknown_says : (l : Limits) (s t : State) (a : Taken) (us : List ℕ) → Stands s → s.is_past_clean ≡ true → s.system.equations ≡ [] → ((c : ℕ) → In c us → In c s.system.unknown) → unknown_stage l s us ≡ goes t a → Says s t a
+unknown_says : (l : Limits) (s t : State) (a : Taken) (us : List ℕ) → Stands s → s.is_past_clean ≡ true → s.system.equations ≡ [] →
+    ((c : ℕ) → In c us → In c s.system.unknown) → unknown_stage l s us ≡ goes t a → Says s t a
 unfolding unknown_stage
 unknown_says l s t a [] h b q i e = cc
 unknown_says l s t a (x ∷ us) h b q i e =
@@ -144,7 +158,8 @@ unknown_says l s t a (x ∷ us) h b q i e =
     bound_says l s t a c h b q (i c.unknown (pick_in s.system.inequalities x us)) e
 
 -- ---- one stage
-row_says : (l : Limits) (s t : State) (a : Taken) (rows : List Row) → Stands s → s.is_past_clean ≡ true → s.system.equations ≡ rows → row_stage l s rows ≡ goes t a → Says s t a
+row_says : (l : Limits) (s t : State) (a : Taken) (rows : List Row) → Stands s → s.is_past_clean ≡ true → s.system.equations ≡ rows →
+    row_stage l s rows ≡ goes t a → Says s t a
 unfolding row_stage
 row_says l s t a [] h b q e = unknown_says l s t a s.system.unknown h b q (λ c i. i) e
 row_says l s t a (r ∷ rows) h b q e = equation_says l s t a r rows (present s.system.unknown r) h q refl e

@@ -148,7 +148,8 @@ module _ (m : System) (a b : Answer) (f g p q : ℕ) (ha : Grows m a f g) (hb : 
   first_back : (v : Values) (k : ℕ) → First v k → First (after_back v b.back) k
   first_back v k h c i = rw (stays v c (ha.stay c i)) (h c i)
 
-  middle_stood : (v : Values) (k n : ℕ) → 1 ≤ k → Within v both.bounds → LetsFit v both.steps → First v k → (f * p) * k ≤ n → IsBounded (IsColumn b.system) n v →
+  middle_stood : (v : Values) (k n : ℕ) → 1 ≤ k → Within v both.bounds → LetsFit v both.steps → First v k → (f * p) * k ≤ n →
+      IsBounded (IsColumn b.system) n v →
       IsBounded (IsColumn a.system) (q * n) (after_back v b.back)
   middle_stood v k n s w l h le hn =
       hb.stood v (f * k) n (some_middle k s) (Within-split v a.bounds b.bounds w).1 (lets_split v a.steps b.steps l).1 (middle v k s w l h) (after k n le).0 hn
@@ -167,7 +168,8 @@ module _ (m : System) (a b : Answer) (f g p q : ℕ) (ha : Grows m a f g) (hb : 
         let t = times_more p (f * k) hb.forth_some in
         lets_append ((f * p) * k) v a.steps b.steps
         (lets_more (f * k) ((f * p) * k) (omega arith) v a.steps (ha.lets v k s (Within-split v a.bounds b.bounds w).0 (lets_split v a.steps b.steps l).0 h))
-        (subst (λ n. LetsWithin n v b.steps) e (hb.lets v (f * k) (some_middle k s) (Within-split v a.bounds b.bounds w).1 (lets_split v a.steps b.steps l).1 (middle v k s w l h)));
+        (subst (λ n. LetsWithin n v b.steps) e (hb.lets v (f * k) (some_middle k s) (Within-split v a.bounds b.bounds w).1 (lets_split v a.steps b.steps l).1
+        (middle v k s w l h)));
     stood = λ v k n s w l h le hn.
         rw after_back-append (subst (λ t. IsBounded (IsColumn m) t (after_back (after_back v b.back) a.back)) (sym (mul_assoc g q n))
         (ha.stood (after_back v b.back) k (q * n) s (within_back v w) (lets_back v l) (first_back v k h) (enough k n le) (middle_stood v k n s w l h le hn)));
@@ -176,11 +178,13 @@ module _ (m : System) (a b : Answer) (f g p q : ℕ) (ha : Grows m a f g) (hb : 
         let t = times_more g (q * n) ha.back_some in
         back_append ((g * q) * n) v b.back a.back
         (back_more (q * n) ((g * q) * n) (omega arith) v b.back
-        (hb.back v (f * k) n (some_middle k s) (Within-split v a.bounds b.bounds w).1 (lets_split v a.steps b.steps l).1 (middle v k s w l h) (after k n le).0 hn))
+        (hb.back v (f * k) n (some_middle k s) (Within-split v a.bounds b.bounds w).1 (lets_split v a.steps b.steps l).1 (middle v k s w l h) (after k n le).0
+        hn))
         (subst (λ t. WaysWithin t (after_back v b.back) a.back) (sym e)
         (ha.back (after_back v b.back) k (q * n) s (within_back v w) (lets_back v l) (first_back v k h) (enough k n le) (middle_stood v k n s w l h le hn)));
     stay = λ c i. hb.stay c (ha.stay c i);
-    searches = λ c i. ⊎_elim (λ j. hb.stay c (ha.searches c j)) (λ j. hb.searches c j) (In-append c (search_columns a.bounds) (search_columns b.bounds) (subst (λ cs. In c cs) (search_columns-append a.bounds b.bounds) i));
+    searches = λ c i. ⊎_elim (λ j. hb.stay c (ha.searches c j)) (λ j. hb.searches c j)
+        (In-append c (search_columns a.bounds) (search_columns b.bounds) (subst (λ cs. In c cs) (search_columns-append a.bounds b.bounds) i));
     over = over_append (IsKnown b.system) a.steps b.steps (over_weaker (IsKnown a.system) (IsKnown b.system) (λ c i. hb.stay c i) a.steps ha.over) hb.over;
     kept = λ v c i. rw after_back-append (ha.kept (after_back v b.back) c i ∙ stays v c (ha.stay c i));
   }

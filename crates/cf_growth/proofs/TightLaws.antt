@@ -86,7 +86,8 @@ part_entry us x ((c, k) ∷ r) i =
 
 -- ---- common factors
 -- the norm of the unknowns' part without x is at most g times that of the divided row
-divided_norm : (us : List ℕ) (g x : ℕ) (r : Row) → 0 < g → EntriesDiv g (unknown_part us r) → norm (without x (unknown_part us r)) ≤ g * norm (without x (divided g r))
+divided_norm : (us : List ℕ) (g x : ℕ) (r : Row) → 0 < g → EntriesDiv g (unknown_part us r) →
+    norm (without x (unknown_part us r)) ≤ g * norm (without x (divided g r))
 divided_norm us g x [] h d = omega arith
 divided_norm us g x ((c, k) ∷ r) h d =
     let q = int_div_euclid k (pos g) in
@@ -186,13 +187,16 @@ tight_row us n r p o low =
     (λ t.
     let l = leb-false g 1 t in
     cond_both whole a b Says (λ _. divided_tight us g r (omega arith) p refl)
-    (λ _. new_tight us n (divided g (unknown_part us r)) (Over-divided (λ c. c < n) g (unknown_part us r) (Over-filter (λ c. c < n) (λ (c, k). has_column us c) r o)) low))
+    (λ _. new_tight us n (divided g (unknown_part us r))
+    (Over-divided (λ c. c < n) g (unknown_part us r) (Over-filter (λ c. c < n) (λ (c, k). has_column us c) r o)) low))
 
-tight_next : (us : List ℕ) (t : Tightened) (p : Option Step × Row) → EachRow (IsTight us) t.rows → IsTight us p.1 → EachRow (IsTight us) (next_tightened t p).rows × (t.next ≤ (next_tightened t p).next)
+tight_next : (us : List ℕ) (t : Tightened) (p : Option Step × Row) → EachRow (IsTight us) t.rows → IsTight us p.1 →
+    EachRow (IsTight us) (next_tightened t p).rows × (t.next ≤ (next_tightened t p).next)
 tight_next us t (None, r) h k = (EachRow-append (IsTight us) t.rows (r ∷ []) h (k, tt), omega arith)
 tight_next us t (Some m, r) h k = (EachRow-append (IsTight us) t.rows (r ∷ []) h (k, tt), omega arith)
 
-tight_all : (us : List ℕ) (n : ℕ) (rows : List Row) (t : Tightened) → n ≤ t.next → EachRow (Rises 0) rows → EachRow (Over (λ c. c < n)) rows → ((x : ℕ) → In x us → x < n) → EachRow (IsTight us) t.rows →
+tight_all : (us : List ℕ) (n : ℕ) (rows : List Row) (t : Tightened) → n ≤ t.next → EachRow (Rises 0) rows → EachRow (Over (λ c. c < n)) rows →
+    ((x : ℕ) → In x us → x < n) → EachRow (IsTight us) t.rows →
     EachRow (IsTight us) (fold (then_tighten us) t rows).rows
 tight_all us n [] t l p o low h = h
 tight_all us n (r ∷ rows) t l p o low h =
@@ -206,7 +210,9 @@ unfolding clean
 clean_tight m f =
     let rows = filter (has_unknown m.unknown) m.inequalities in
     let start : Tightened = record { next = m.next; made = []; steps = []; rows = [] } in
-    let o : EachRow (Over (λ c. c < m.next)) m.inequalities = EachRow-weaker (Over (IsColumn m)) (Over (λ c. c < m.next)) (λ r o. Over-weaker (IsColumn m) (λ c. c < m.next) (column_below m f) r o) m.inequalities f.nonneg in
+    let o : EachRow (Over (λ c. c < m.next)) m.inequalities =
+    EachRow-weaker (Over (IsColumn m)) (Over (λ c. c < m.next)) (λ r o. Over-weaker (IsColumn m) (λ c. c < m.next) (column_below m f) r o) m.inequalities
+    f.nonneg in
     distinct_forth (IsTight m.unknown) [] (fold (then_tighten m.unknown) start rows).rows
     (tight_all m.unknown m.next rows start (omega arith) (EachRow-filter (Rises 0) (has_unknown m.unknown) m.inequalities f.nonneg_rise)
     (EachRow-filter (Over (λ c. c < m.next)) (has_unknown m.unknown) m.inequalities o) (λ x i. f.unknown_below x i) tt)

@@ -35,7 +35,8 @@ pub record Together (m : System) (taken : List Taken) : Type 0 where
   pub grows : Grows m (all_of m taken) forth back
   pub within : forth * back ≤ product_of_all (map (λ a. a.factor) taken)
 
-together_more : (m n : System) (a : Taken) (f g : ℕ) (taken : List Taken) → Grows m a.answer f g → f * g ≤ a.factor → a.answer.system ≡ n → Together n taken → Together m (a ∷ taken)
+together_more : (m n : System) (a : Taken) (f g : ℕ) (taken : List Taken) → Grows m a.answer f g → f * g ≤ a.factor → a.answer.system ≡ n → Together n taken →
+    Together m (a ∷ taken)
 together_more m n a f g taken h l e k =
     let again = subst (λ (x : System). Together x taken) (sym e) k in
     record {
@@ -62,7 +63,8 @@ pub traces_grow : TracesGrow
 traces_grow l m taken f d t = let h = trace_together l (first_state m) taken solved t (first_stands m f d) in (h.forth, h.back, h.grows, h.within)
 
 -- ---- needs
-needs_met : (Q : ℕ → Type 0) (b n a last : ℕ) (v : Values) (ms : List Step) → 1 ≤ b → IsBounded Q b v → StepsIn Q ms → fold max a (map need_norm ms) ≤ last → b ≤ n → last * b ≤ n → NeedsWithin n v ms
+needs_met : (Q : ℕ → Type 0) (b n a last : ℕ) (v : Values) (ms : List Step) → 1 ≤ b → IsBounded Q b v → StepsIn Q ms → fold max a (map need_norm ms) ≤ last →
+    b ≤ n → last * b ≤ n → NeedsWithin n v ms
 needs_met Q b n a last v [] s h o l bn ln = tt
 needs_met Q b n a last v (floor_of c r g ∷ ms) s h o l bn ln = needs_met Q b n (max a 0) last v ms s h o.2 l bn ln
 needs_met Q b n a last v (need_nonneg r ∷ ms) s h o l bn ln =

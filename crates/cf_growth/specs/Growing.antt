@@ -66,9 +66,11 @@ pub record Grows (m : System) (a : Answer) (f g : ℕ) : Type 0 where
   pub back_some : 1 ≤ g
   pub known : (v : Values) (k : ℕ) → 1 ≤ k → Within v a.bounds → LetsFit v a.steps → IsBounded (IsKnown m) k v → IsBounded (IsKnown a.system) (f * k) v
   pub lets : (v : Values) (k : ℕ) → 1 ≤ k → Within v a.bounds → LetsFit v a.steps → IsBounded (IsKnown m) k v → LetsWithin (f * k) v a.steps
-  pub stood : (v : Values) (k b : ℕ) → 1 ≤ k → Within v a.bounds → LetsFit v a.steps → IsBounded (IsKnown m) k v → f * k ≤ b → IsBounded (IsColumn a.system) b v →
+  pub stood : (v : Values) (k b : ℕ) → 1 ≤ k → Within v a.bounds → LetsFit v a.steps → IsBounded (IsKnown m) k v → f * k ≤ b →
+      IsBounded (IsColumn a.system) b v →
       IsBounded (IsColumn m) (g * b) (after_back v a.back)
-  pub back : (v : Values) (k b : ℕ) → 1 ≤ k → Within v a.bounds → LetsFit v a.steps → IsBounded (IsKnown m) k v → f * k ≤ b → IsBounded (IsColumn a.system) b v →
+  pub back : (v : Values) (k b : ℕ) → 1 ≤ k → Within v a.bounds → LetsFit v a.steps → IsBounded (IsKnown m) k v → f * k ≤ b →
+      IsBounded (IsColumn a.system) b v →
       WaysWithin (g * b) v a.back
   pub stay : (c : ℕ) → IsKnown m c → IsKnown a.system c
   pub searches : (c : ℕ) → In c (search_columns a.bounds) → IsKnown a.system c

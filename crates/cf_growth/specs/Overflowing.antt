@@ -56,17 +56,23 @@ abbrev mutual
   OverIn near over (expr_var x) env = ⊥
   OverIn near over (expr_set_of es) env = OverAll near over es env
   OverIn near over (expr_tuple es) env = OverAll near over es env
-  OverIn near over (expr_neg a) env = OverIn near over a env ⊎ ((xs : List Value) × NearIn near a env (values xs) × Passes (number (neg_ℤ (number_of (first_of xs)))))
+  OverIn near over (expr_neg a) env = OverIn near over a env ⊎
+      ((xs : List Value) × NearIn near a env (values xs) × Passes (number (neg_ℤ (number_of (first_of xs)))))
   OverIn near over (expr_not a) env = OverIn near over a env
-  OverIn near over (expr_abs a) env = OverIn near over a env ⊎ ((xs : List Value) × NearIn near a env (values xs) × Passes (number (absolute (number_of (first_of xs)))))
+  OverIn near over (expr_abs a) env = OverIn near over a env ⊎
+      ((xs : List Value) × NearIn near a env (values xs) × Passes (number (absolute (number_of (first_of xs)))))
   OverIn near over (expr_binary op a b) env =
       OverIn near over a env ⊎ ((xs : List Value) × NearIn near a env (values xs) × RightPasses op (first_of xs) (NearIn near b env) (OverIn near over b env))
   OverIn near over (expr_divides k a) env = OverIn near over a env
-  OverIn near over (expr_div a k) env = OverIn near over a env ⊎ ((xs : List Value) × NearIn near a env (values xs) × Passes (number (quotient (number_of (first_of xs)) k)))
-  OverIn near over (expr_mod a k) env = OverIn near over a env ⊎ ((xs : List Value) × NearIn near a env (values xs) × Passes (number (remainder (number_of (first_of xs)) k)))
-  OverIn near over (expr_card a) env = OverIn near over a env ⊎ ((xs : List Value) × NearIn near a env (values xs) × Passes (number (pos (length (elements_of (first_of xs))))))
+  OverIn near over (expr_div a k) env = OverIn near over a env ⊎
+      ((xs : List Value) × NearIn near a env (values xs) × Passes (number (quotient (number_of (first_of xs)) k)))
+  OverIn near over (expr_mod a k) env = OverIn near over a env ⊎
+      ((xs : List Value) × NearIn near a env (values xs) × Passes (number (remainder (number_of (first_of xs)) k)))
+  OverIn near over (expr_card a) env = OverIn near over a env ⊎
+      ((xs : List Value) × NearIn near a env (values xs) × Passes (number (pos (length (elements_of (first_of xs))))))
   OverIn near over (expr_if t a b) env =
-      OverIn near over t env ⊎ ((xs : List Value) × NearIn near t env (values xs) × MatchBool (truth_of (first_of xs)) (OverIn near over a env) (OverIn near over b env))
+      OverIn near over t env ⊎ ((xs : List Value) × NearIn near t env (values xs) × MatchBool (truth_of (first_of xs)) (OverIn near over a env)
+      (OverIn near over b env))
   OverIn near over (expr_call f es) env = OverAll near over es env ⊎ ((xs : List Value) × NearAll near es env (values xs) × over f xs)
   OverIn near over (expr_let n a b) env = OverIn near over a env ⊎ ((xs : List Value) × NearIn near a env (values xs) × OverIn near over b (env ++ xs))
   OverIn near over (expr_choose n scope outputs rel) env = limit < reach (scope_of scope) outputs rel env
@@ -120,7 +126,8 @@ abbrev mutual
   picked_in calls (expr_div a k) env = then_picked (picked_in calls a env) (λ xs. ordinary (number (quotient (number_of (first_of xs)) k)))
   picked_in calls (expr_mod a k) env = then_picked (picked_in calls a env) (λ xs. ordinary (number (remainder (number_of (first_of xs)) k)))
   picked_in calls (expr_card a) env = then_picked (picked_in calls a env) (λ xs. ordinary (number (pos (length (elements_of (first_of xs))))))
-  picked_in calls (expr_if t a b) env = then_picked (picked_in calls t env) (λ xs. if truth_of (first_of xs) then picked_in calls a env else picked_in calls b env)
+  picked_in calls (expr_if t a b) env = then_picked (picked_in calls t env)
+      (λ xs. if truth_of (first_of xs) then picked_in calls a env else picked_in calls b env)
   picked_in calls (expr_call f es) env = then_picked (picked_all calls es env) (calls f)
   picked_in calls (expr_let n a b) env = then_picked (picked_in calls a env) (λ xs. picked_in calls b (env ++ xs))
   picked_in calls (expr_choose n scope outputs rel) env = picked_choose n (scope_of scope) outputs rel env
@@ -141,13 +148,15 @@ picked bodies main env = picked_call (reverse bodies) main env
 -- no number met in the solve passes the reach, and its outcome is allowed and near
 abbrev pub IsFineChoose : ℕ → List Base → List Base → RelTree → List Value → Type 0
 IsFineChoose n scope outputs rel env =
-    (peak (code_solve n (arms_of (arms scope outputs rel))) env ≤ reach scope outputs rel env) × NearChosen n scope outputs rel env (means (code_solve n (arms_of (arms scope outputs rel))) env)
+    (peak (code_solve n (arms_of (arms scope outputs rel))) env ≤ reach scope outputs rel env) ×
+    NearChosen n scope outputs rel env (means (code_solve n (arms_of (arms scope outputs rel))) env)
 
 -- a choose is so where its arms solve it
 abbrev pub ChoosesAreFine : Type 0
 ChoosesAreFine =
     (n : ℕ) (scope outputs : List Base) (rel : RelTree) → IsTyped (scope ++ outputs) rel → IsLinear rel → first_refusal scope outputs rel ≡ None →
-    Solves scope outputs rel (arms_of (arms scope outputs rel)) → ArmsHave (arms_of (arms scope outputs rel)) scope outputs → (env : List Value) → HaveBases scope env → IsFineChoose n scope outputs rel env
+    Solves scope outputs rel (arms_of (arms scope outputs rel)) → ArmsHave (arms_of (arms scope outputs rel)) scope outputs → (env : List Value) →
+    HaveBases scope env → IsFineChoose n scope outputs rel env
 
 abbrev mutual
   -- each choose is so in the environments in which it may be entered, and each call is one that `fine` says
@@ -167,7 +176,8 @@ abbrev mutual
   IsFineIn calls fine (expr_card a) env = IsFineIn calls fine a env
   IsFineIn calls fine (expr_if t a b) env = IsFineIn calls fine t env × IsFineIn calls fine a env × IsFineIn calls fine b env
   IsFineIn calls fine (expr_call f es) env = AreFineIn calls fine es env × ((xs : List Value) → picked_all calls es env ≡ Some (values xs) → fine f xs)
-  IsFineIn calls fine (expr_let n a b) env = IsFineIn calls fine a env × ((xs : List Value) → picked_in calls a env ≡ Some (values xs) → IsFineIn calls fine b (env ++ xs))
+  IsFineIn calls fine (expr_let n a b) env =
+      IsFineIn calls fine a env × ((xs : List Value) → picked_in calls a env ≡ Some (values xs) → IsFineIn calls fine b (env ++ xs))
   IsFineIn calls fine (expr_choose n scope outputs rel) env = IsFineChoose n (scope_of scope) outputs rel env
   IsFineIn calls fine (expr_match n scope a arms) env = ⊥
 

@@ -48,8 +48,10 @@ AreNear n l env (v ∷ vs) = IsNear n l env v × AreNear n l env vs
 -- no number met in the arms of a choose that no limit refuses passes its reach, and what they pick is near
 pub record StaysNear (id : ℕ) (scope outputs : List Base) (rel : RelTree) (env : List Value) : Type 0 where
   pub met : peak (code_solve id (arms_of (arms scope outputs rel))) env ≤ reach scope outputs rel env
-  pub picked : (xs : List Value) → means (code_solve id (arms_of (arms scope outputs rel))) env ≡ values xs → AreNear (reach scope outputs rel env) (layout_of scope outputs rel) env xs
+  pub picked : (xs : List Value) → means (code_solve id (arms_of (arms scope outputs rel))) env ≡ values xs →
+      AreNear (reach scope outputs rel env) (layout_of scope outputs rel) env xs
 
 abbrev pub ArmsWithinReach : Type 0
 ArmsWithinReach =
-    (id : ℕ) (scope outputs : List Base) (rel : RelTree) → IsTyped (scope ++ outputs) rel → IsLinear rel → limit scope outputs rel ≡ None → (env : List Value) → HaveBases scope env → StaysNear id scope outputs rel env
+    (id : ℕ) (scope outputs : List Base) (rel : RelTree) → IsTyped (scope ++ outputs) rel → IsLinear rel → limit scope outputs rel ≡ None → (env : List Value) →
+    HaveBases scope env → StaysNear id scope outputs rel env

@@ -64,6 +64,7 @@ pub record StaysWithin (levels : Layout) (k n : ℕ) (m : System) (a : Answer) (
 -- the needs hold or not
 abbrev pub CasesGrow : Type 0
 CasesGrow =
-    (l : Limits) (levels : Layout) (m : System) (taken : List Taken) → Formed m → Differ m.unknown → Trace l (first_state m) taken solved → (v : Values) (k : ℕ) → 1 ≤ k →
+    (l : Limits) (levels : Layout) (m : System) (taken : List Taken) → Formed m → Differ m.unknown → Trace l (first_state m) taken solved →
+    (v : Values) (k : ℕ) → 1 ≤ k →
     Within v (all_of m taken).bounds → LetsFit v (all_of m taken).steps → IsBounded (IsKnown m) k v →
     StaysWithin levels k (product_of_all (map (λ a. a.factor) taken) * last_factor levels (all_of m taken) * k) m (all_of m taken) v

@@ -13,17 +13,21 @@ use Rattle.cf_io.specs.declared.line.Line.{Line}
 
 pub rest_from-append : (line s t : List ℕ) → rest_from line (s ++ t) ≡ rest_from (rest_from line s) t
 rest_from-append line [] t = refl
-rest_from-append line (b ∷ s) t = elim (eqb b 10) as (λ v. cond v (rest_from [] (s ++ t)) (rest_from (line ++ b ∷ []) (s ++ t)) ≡ rest_from (cond v (rest_from [] s) (rest_from (line ++ b ∷ []) s)) t)
+rest_from-append line (b ∷ s) t = elim (eqb b 10) as
+    (λ v. cond v (rest_from [] (s ++ t)) (rest_from (line ++ b ∷ []) (s ++ t)) ≡ rest_from (cond v (rest_from [] s) (rest_from (line ++ b ∷ []) s)) t)
     [ true ↦ rest_from-append [] s t | false ↦ rest_from-append (line ++ b ∷ []) s t ]
 
 pub ended_from-append : (line s t : List ℕ) → ended_from line (s ++ t) ≡ ended_from line s ++ ended_from (rest_from line s) t
 ended_from-append line [] t = refl
-ended_from-append line (b ∷ s) t = elim (eqb b 10) as (λ v. cond v (line ∷ ended_from [] (s ++ t)) (ended_from (line ++ b ∷ []) (s ++ t)) ≡ cond v (line ∷ ended_from [] s) (ended_from (line ++ b ∷ []) s) ++ ended_from (cond v (rest_from [] s) (rest_from (line ++ b ∷ []) s)) t)
+ended_from-append line (b ∷ s) t = elim (eqb b 10) as
+    (λ v. cond v (line ∷ ended_from [] (s ++ t)) (ended_from (line ++ b ∷ []) (s ++ t)) ≡ cond v (line ∷ ended_from [] s) (ended_from (line ++ b ∷ []) s) ++
+    ended_from (cond v (rest_from [] s) (rest_from (line ++ b ∷ []) s)) t)
     [ true ↦ ap (λ x. line ∷ x) (ended_from-append [] s t) | false ↦ ended_from-append (line ++ b ∷ []) s t ]
 
 -- a line's bytes, then a line feed
 cut_by : (v : Bool) (line : List ℕ) (b : ℕ) (s : List ℕ) →
-    (prefix_len is_in_line s < length s → ended_from (line ++ b ∷ []) s ≡ ((line ++ b ∷ []) ++ take (prefix_len is_in_line s) s) ∷ ended_from [] (drop (prefix_len is_in_line s + 1) s)) →
+    (prefix_len is_in_line s < length s → ended_from (line ++ b ∷ []) s ≡ ((line ++ b ∷ []) ++ take (prefix_len is_in_line s) s) ∷ ended_from []
+    (drop (prefix_len is_in_line s + 1) s)) →
     cond (not v) (1 + prefix_len is_in_line s) 0 < length (b ∷ s) →
     cond v (line ∷ ended_from [] s) (ended_from (line ++ b ∷ []) s) ≡
     (line ++ take (cond (not v) (1 + prefix_len is_in_line s) 0) (b ∷ s)) ∷ ended_from [] (drop (cond (not v) (1 + prefix_len is_in_line s) 0 + 1) (b ∷ s))
@@ -74,7 +78,8 @@ lines_from line (b ∷ s) = by (eqb b 10) line b s (lines_from [] s) (lines_from
   where
     by : (v : Bool) (line : List ℕ) (b : ℕ) (s : List ℕ) → prepend [] (lines s) ≡ ended_from [] s ++ last_of (rest_from [] s) →
         prepend (line ++ b ∷ []) (lines s) ≡ ended_from (line ++ b ∷ []) s ++ last_of (rest_from (line ++ b ∷ []) s) →
-        prepend line (cond v ([] ∷ lines s) (onto_first b (lines s))) ≡ cond v (line ∷ ended_from [] s) (ended_from (line ++ b ∷ []) s) ++ last_of (cond v (rest_from [] s) (rest_from (line ++ b ∷ []) s))
+        prepend line (cond v ([] ∷ lines s) (onto_first b (lines s))) ≡ cond v (line ∷ ended_from [] s) (ended_from (line ++ b ∷ []) s) ++ last_of
+        (cond v (rest_from [] s) (rest_from (line ++ b ∷ []) s))
     by true line b s none some = rw append-nil (ap (λ x. line ∷ x) (sym (prepend_none (lines s)) ∙ none))
     by false line b s none some = prepend-onto line b (lines s) ∙ some
 
@@ -84,7 +89,8 @@ lines_split s = sym (prepend_none (lines s)) ∙ lines_from [] s
 -- how many lines end does not depend on the beginning of the first
 length-ended_from : (line other s : List ℕ) → length (ended_from line s) ≡ length (ended_from other s)
 length-ended_from line other [] = refl
-length-ended_from line other (b ∷ s) = elim (eqb b 10) as (λ v. length (cond v (line ∷ ended_from [] s) (ended_from (line ++ b ∷ []) s)) ≡ length (cond v (other ∷ ended_from [] s) (ended_from (other ++ b ∷ []) s)))
+length-ended_from line other (b ∷ s) = elim (eqb b 10) as
+    (λ v. length (cond v (line ∷ ended_from [] s) (ended_from (line ++ b ∷ []) s)) ≡ length (cond v (other ∷ ended_from [] s) (ended_from (other ++ b ∷ []) s)))
     [ true ↦ refl | false ↦ length-ended_from (line ++ b ∷ []) (other ++ b ∷ []) s ]
 
 feeds_by : (v : Bool) (b : ℕ) (s : List ℕ) →
@@ -165,7 +171,8 @@ line_none w rest n is few many =
     ended_from-none w rest h
 
 -- the same of the lines as they are told
-pub told_cut : (limit : ℕ) (w rest line more : List ℕ) (l : Line) (before : List Line) → ended_from w rest ≡ (w ++ line) ∷ ended_from [] more → l ≡ line_of limit (w ++ line) →
+pub told_cut : (limit : ℕ) (w rest line more : List ℕ) (l : Line) (before : List Line) → ended_from w rest ≡ (w ++ line) ∷ ended_from [] more →
+    l ≡ line_of limit (w ++ line) →
     (before ++ l ∷ []) ++ map (line_of limit) (ended_from [] more) ≡ before ++ map (line_of limit) (ended_from w rest)
 told_cut limit w rest line more l before cut is = rw (append_assoc, cut, is) refl
 

@@ -9,7 +9,8 @@ pub owes_all : (text : List ℕ) (a : Option (List ℕ)) → Owes text a a text
 owes_all text a = record { done = []; took = Appends-nil a; whole = refl }
 
 -- a piece was written
-pub owes_less : {text : List ℕ} {a b : Option (List ℕ)} (c : Option (List ℕ)) (piece rest : List ℕ) → Owes text a b (piece ++ rest) → Appends b c piece → Owes text a c rest
+pub owes_less : {text : List ℕ} {a b : Option (List ℕ)} (c : Option (List ℕ)) (piece rest : List ℕ) → Owes text a b (piece ++ rest) → Appends b c piece →
+    Owes text a c rest
 owes_less {text} {a} {b} c piece rest owes more = record {
   done = owes.done ++ piece;
   took = Appends-trans a b c owes.done piece owes.took more;
@@ -21,7 +22,8 @@ pub owes_same : {text : List ℕ} {a b : Option (List ℕ)} {rest other : List �
 owes_same same owes = rw same at owes
 
 -- a prefix of the next piece was written
-pub owes_prefix : {text : List ℕ} {a b : Option (List ℕ)} (c : Option (List ℕ)) (piece rest : List ℕ) → Owes text a b (piece ++ rest) → TookPrefix b c piece → TookPrefix a c text
+pub owes_prefix : {text : List ℕ} {a b : Option (List ℕ)} (c : Option (List ℕ)) (piece rest : List ℕ) → Owes text a b (piece ++ rest) → TookPrefix b c piece →
+    TookPrefix a c text
 owes_prefix {text} {a} {b} c piece rest owes took = (
   owes.done ++ took.0,
   took.1 ++ rest,

@@ -55,7 +55,16 @@ pub record ShelfState : Type 0 where
 
 abbrev pub shelf_of : MemShelf → ShelfState
 shelf_of s =
-    record { names = s.names.items; texts = s.texts.items; left = drop s.at (text_at s.texts.items s.place); fails = s.fails.items; calls = s.calls; faults = s.faults; fetches = s.fetches }
+    record {
+      names = s.names.items;
+      texts = s.texts.items;
+      left = drop s.at (text_at s.texts.items s.place);
+      fails = s.fails.items;
+      calls = s.calls;
+      faults =
+          s.faults;
+      fetches = s.fetches;
+    }
 
 -- after a read that failed
 abbrev pub shelf_failed : ShelfState → ShelfState

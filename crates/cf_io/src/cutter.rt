@@ -54,7 +54,8 @@ impl Cutter {
     pub fn feed(&mut self, piece: &[u8], lines: &mut Vec<Line>) -> Result<Fed, NoMemory>
         requires { self.old.total + length piece.now < 2 ^ 64 }
         ensures stands { OnOk result ((bytes : List ℕ) → Stands line_limit self.old bytes → Stands line_limit self.new (bytes ++ piece.now)) }
-        ensures lines { OnOk result ((bytes : List ℕ) → Stands line_limit self.old bytes → lines.new.items ≡ lines.old.items ++ new_lines line_limit input_limit bytes piece.now) }
+        ensures lines { OnOk result ((bytes : List ℕ) → Stands line_limit self.old bytes →
+            lines.new.items ≡ lines.old.items ++ new_lines line_limit input_limit bytes piece.now) }
         ensures total { OnOk result (self.new.total ≡ self.old.total + length piece.now) }
         ensures full { IfOk result (λ fed. (fed ≡ Fed.Full) ↔ (input_limit < self.old.total + length piece.now)) }
         ensures err { OnErr result ((self.new ≡ self.old) × (lines.new.items ≡ lines.old.items)) }
@@ -90,7 +91,8 @@ impl Cutter {
     ) -> Result<Fed, NoMemory>
         requires { self.old.total + length piece.now < 2 ^ 64 }
         ensures stands { OnOk result ((bytes : List ℕ) → Stands limit self.old bytes → Stands limit self.new (bytes ++ piece.now)) }
-        ensures lines { OnOk result ((bytes : List ℕ) → Stands limit self.old bytes → lines.new.items ≡ lines.old.items ++ new_lines limit input bytes piece.now) }
+        ensures lines { OnOk result ((bytes : List ℕ) → Stands limit self.old bytes →
+            lines.new.items ≡ lines.old.items ++ new_lines limit input bytes piece.now) }
         ensures total { OnOk result (self.new.total ≡ self.old.total + length piece.now) }
         ensures full { IfOk result (λ fed. (fed ≡ Fed.Full) ↔ (input < self.old.total + length piece.now)) }
         ensures err { OnErr result ((self.new ≡ self.old) × (lines.new.items ≡ lines.old.items)) }
@@ -175,7 +177,8 @@ impl Cutter {
     ///
     /// Where memory is wanted, the lines are as before.
     pub fn finish(self, lines: &mut Vec<Line>) -> Result<(), NoMemory>
-        ensures ok { OnOk result ((bytes : List ℕ) → Stands line_limit self bytes → lines.new.items ≡ lines.old.items ++ map (line_of line_limit) (last_of (rest_of bytes))) }
+        ensures ok { OnOk result ((bytes : List ℕ) → Stands line_limit self bytes →
+            lines.new.items ≡ lines.old.items ++ map (line_of line_limit) (last_of (rest_of bytes))) }
         ensures err { OnErr result (lines.new.items ≡ lines.old.items) }
     {
         finish_within(self, lines, longest_line())

@@ -240,7 +240,8 @@ impl<'a, R: Files> Shelf for FileShelf<'a, R> {
         ensures once { (other : List ℕ) → self.new.faults ≤ one_more self.old.faults }
         ensures asked { self.new.fetches ≡ self.old.fetches }
         // It gives the file's bytes, and after a fault the file has left what it had.
-        ensures file { IfSome self.old.file (λ before. IfSome self.new.file (λ after. ReadConsumes (R.File.remaining before) (R.File.remaining after) result into.new)) }
+        ensures file { IfSome self.old.file (λ before. IfSome self.new.file
+            (λ after. ReadConsumes (R.File.remaining before) (R.File.remaining after) result into.new)) }
         ensures opened { is_some self.new.file ≡ is_some self.old.file }
         ensures counted { OnErr result (self.new.faults ≡ one_more self.old.faults) }
     {

@@ -94,17 +94,20 @@ impl Shelf for MemShelf {
         ensures kept { OnErr result (Some (shelf_of self.new).left ≡ Some (shelf_of self.old).left) }
         ensures stays { OnErr result ((other : List ℕ) → Unit {0} ↔ Unit {0}) }
         ensures failed { IsErrOf result FetchFault.Failed → Rose (shelf_of self.old).faults (shelf_of self.new).faults }
-        ensures texts { (other : List ℕ) → text_under (shelf_of self.new).names (shelf_of self.new).texts other ≡ text_under (shelf_of self.old).names (shelf_of self.old).texts other }
+        ensures texts { (other : List ℕ) → text_under (shelf_of self.new).names (shelf_of self.new).texts other ≡ text_under (shelf_of self.old).names
+            (shelf_of self.old).texts other }
         ensures counts { (other : List ℕ) → (shelf_of self.old).faults ≤ (shelf_of self.new).faults }
         ensures last { (other : List ℕ) → (shelf_of self.new).faults < 2 ^ 64 }
         ensures same { ¬ IsErrOf result FetchFault.Failed → (other : List ℕ) → (shelf_of self.new).faults ≡ (shelf_of self.old).faults }
         ensures once { (other : List ℕ) → (shelf_of self.new).faults ≤ one_more (shelf_of self.old).faults }
         ensures asked { (shelf_of self.new).fetches ≡ one_more (shelf_of self.old).fetches }
         // It fails exactly where the call is listed or the name is not on the shelf, and never for want of memory.
-        ensures listed { IsErr result ↔ (Contains (shelf_of self.old).fails (shelf_of self.old).calls ⊎ IsNone (text_under (shelf_of self.old).names (shelf_of self.old).texts name.now)) }
+        ensures listed { IsErr result ↔ (Contains (shelf_of self.old).fails (shelf_of self.old).calls ⊎
+            IsNone (text_under (shelf_of self.old).names (shelf_of self.old).texts name.now)) }
         ensures refused { OnErr result (shelf_of self.new ≡ shelf_refused (shelf_of self.old)) }
         ensures fault { IfErr result (λ fault. fault ≡ FetchFault.Failed) }
-        ensures fetched { OnOk result (IfSome (text_under (shelf_of self.old).names (shelf_of self.old).texts name.now) (λ text. shelf_of self.new ≡ shelf_fetched (shelf_of self.old) text)) }
+        ensures fetched { OnOk result (IfSome (text_under (shelf_of self.old).names (shelf_of self.old).texts name.now)
+            (λ text. shelf_of self.new ≡ shelf_fetched (shelf_of self.old) text)) }
     {
         let number = self.calls;
         self.calls = self.calls.saturating_add(1);
@@ -133,7 +136,8 @@ impl Shelf for MemShelf {
         ensures nothing { ChangesNothing into.old result self.old self.new }
         ensures failed { OnErr result ((name : List ℕ) → Unit {0} → Rose (shelf_of self.old).faults (shelf_of self.new).faults) }
         ensures turned { (name : List ℕ) → Unit {0} ↔ Unit {0} }
-        ensures texts { (other : List ℕ) → text_under (shelf_of self.new).names (shelf_of self.new).texts other ≡ text_under (shelf_of self.old).names (shelf_of self.old).texts other }
+        ensures texts { (other : List ℕ) → text_under (shelf_of self.new).names (shelf_of self.new).texts other ≡ text_under (shelf_of self.old).names
+            (shelf_of self.old).texts other }
         ensures counts { (other : List ℕ) → (shelf_of self.old).faults ≤ (shelf_of self.new).faults }
         ensures last { (other : List ℕ) → (shelf_of self.new).faults < 2 ^ 64 }
         ensures same { OnOk result ((other : List ℕ) → (shelf_of self.new).faults ≡ (shelf_of self.old).faults) }

@@ -25,7 +25,8 @@ fn line_len(text: &[u8]) -> usize
 /// The first line that ends in the text, and what follows its line feed. It may go on from the
 /// beginning of a line.
 pub(crate) fn split_line(text: &[u8]) -> Option<(&[u8], &[u8])>
-    ensures lines { MatchOption result ((w : List ℕ) → ended_from w text.now ≡ []) (λ x. (w : List ℕ) → ended_from w text.now ≡ (w ++ x.0.now) ∷ ended_from [] x.1.now) }
+    ensures lines { MatchOption result ((w : List ℕ) → ended_from w text.now ≡ [])
+        (λ x. (w : List ℕ) → ended_from w text.now ≡ (w ++ x.0.now) ∷ ended_from [] x.1.now) }
     ensures size { IfSome result (λ x. length x.0.now + length x.1.now < length text.now) }
 {
     let n = line_len(text);

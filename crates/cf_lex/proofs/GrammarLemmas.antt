@@ -24,7 +24,8 @@ short_found a rest stops = cond_both (is_short_sign a) (Sign 1) Bad (IsFound (a 
 
 sign_found : (a : ℕ) (rest : List ℕ) → IsFound (a ∷ rest) (sign_of a rest)
 sign_found a [] = short_found a [] tt
-sign_found a (b ∷ rest) = cond_both (is_long_sign a b) (Sign 2) (cond (is_short_sign a) (Sign 1) Bad) (IsFound (a ∷ b ∷ rest)) (λ e. e) (λ e. short_found a (b ∷ rest) e)
+sign_found a (b ∷ rest) = cond_both (is_long_sign a b) (Sign 2) (cond (is_short_sign a) (Sign 1) Bad) (IsFound (a ∷ b ∷ rest)) (λ e. e)
+    (λ e. short_found a (b ∷ rest) e)
 
 pub front_found : (b : ℕ) (rest : List ℕ) → IsFound (b ∷ rest) (front_of b rest)
 front_found b rest =
@@ -41,13 +42,14 @@ short_other : (b : ℕ) → is_short_sign b ≡ true → is_other b ≡ true
 short_other b e = in_list is_other (codes "(){}[],:;=<>!+-*") b e refl
 
 long_other : (a b : ℕ) → is_long_sign a b ≡ true → is_other a ≡ true
-long_other a b e = elim (or_cases (eqb b 61 && list_any (λ c. eqb a c) (codes "=!<>") || eqb a 38 && eqb b 38) (eqb a 124 && eqb b 124) e) as (λ _. is_other a ≡ true) [
-  | inr h ↦ ap is_other (eqb-true a 124 (and_left (eqb a 124) (eqb b 124) h))
-  | inl h ↦ elim (or_cases (eqb b 61 && list_any (λ c. eqb a c) (codes "=!<>")) (eqb a 38 && eqb b 38) h) as (λ _. is_other a ≡ true) [
-    | inr g ↦ ap is_other (eqb-true a 38 (and_left (eqb a 38) (eqb b 38) g))
-    | inl g ↦ in_list is_other (codes "=!<>") a (and_right (eqb b 61) (list_any (λ c. eqb a c) (codes "=!<>")) g) refl
-  ]
-]
+long_other a b e = elim (or_cases (eqb b 61 && list_any (λ c. eqb a c) (codes "=!<>") || eqb a 38 && eqb b 38) (eqb a 124 && eqb b 124) e) as
+    (λ _. is_other a ≡ true) [
+      | inr h ↦ ap is_other (eqb-true a 124 (and_left (eqb a 124) (eqb b 124) h))
+      | inl h ↦ elim (or_cases (eqb b 61 && list_any (λ c. eqb a c) (codes "=!<>")) (eqb a 38 && eqb b 38) h) as (λ _. is_other a ≡ true) [
+        | inr g ↦ ap is_other (eqb-true a 38 (and_left (eqb a 38) (eqb b 38) g))
+        | inl g ↦ in_list is_other (codes "=!<>") a (and_right (eqb b 61) (list_any (λ c. eqb a c) (codes "=!<>")) g) refl
+      ]
+    ]
 
 last_of_four : {A : Type 0} (v w x y : Bool) (a b c d e : A) → (not v && not w && not x && not y) ≡ true → cond v a (cond w b (cond x c (cond y d e))) ≡ e
 last_of_four true w x y a b c d e h = cc

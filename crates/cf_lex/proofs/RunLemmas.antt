@@ -30,6 +30,7 @@ pub in_list : (p : ℕ → Bool) (cs : List ℕ) (b : ℕ) → list_any (λ c. e
 in_list p [] b any all = cc
 in_list p (c ∷ cs) b any all = by (eqb b c) refl (in_list p cs b) any
   where
-    by : (v : Bool) → eqb b c ≡ v → (list_any (λ c. eqb b c) cs ≡ true → list_all p cs ≡ true → p b ≡ true) → (v || list_any (λ c. eqb b c) cs) ≡ true → p b ≡ true
+    by : (v : Bool) → eqb b c ≡ v → (list_any (λ c. eqb b c) cs ≡ true → list_all p cs ≡ true → p b ≡ true) → (v || list_any (λ c. eqb b c) cs) ≡ true →
+        p b ≡ true
     by true e next h = ap p (eqb-true b c e) ∙ and_left (p c) (list_all p cs) all
     by false e next h = next h (and_right (p c) (list_all p cs) all)

@@ -29,10 +29,12 @@ IsStep limit text (stops past_limit) = (n : ℕ) × IsLiteral (take n text) (dro
 IsStep limit text (skips n) = IsPiece limit (take n text) None (drop n text)
 IsStep limit text (gives n k) = IsPiece limit (take n text) (Some k) (drop n text)
 
-literal_found : (limit : ℕ) (text : List ℕ) (n : ℕ) → IsLiteral (take n text) (drop n text) → IsStep limit text (literal_step n (at_most limit (digits_value (take n text))))
+literal_found : (limit : ℕ) (text : List ℕ) (n : ℕ) → IsLiteral (take n text) (drop n text) →
+    IsStep limit text (literal_step n (at_most limit (digits_value (take n text))))
 literal_found limit text n h = by (cases_lt limit (digits_value (take n text)))
   where
-    by : (limit < digits_value (take n text)) ⊎ (digits_value (take n text) ≤ limit) → IsStep limit text (literal_step n (at_most limit (digits_value (take n text))))
+    by : (limit < digits_value (take n text)) ⊎ (digits_value (take n text) ≤ limit) →
+        IsStep limit text (literal_step n (at_most limit (digits_value (take n text))))
     by (inl past) = rw (at_most-past limit (digits_value (take n text)) past) (n, h, past)
     by (inr fits) = rw (at_most-fits limit (digits_value (take n text)) fits) (h, fits, refl)
 
@@ -75,8 +77,10 @@ literal_is limit w rest h = some_of limit w rest _ h.0 (literal_front w rest h) 
 pub piece_is : (limit : ℕ) (w rest : List ℕ) (k : Option TokenKind) → IsPiece limit w k rest → step limit (w ++ rest) ≡ step_to (length w) k
 piece_is limit w rest None h = some_of limit w rest _ (blank_some w rest h) (blank_front w rest h)
 piece_is limit w rest (Some (kind.Literal z)) h = literal_is limit w rest h.0 ∙ rw (at_most-fits limit (digits_value w) h.1, h.2) refl
-piece_is limit w rest (Some (kind.Word t)) h = some_of limit w rest _ (word_some w rest h.0) (word_front w rest h.0) ∙ rw (take_at w rest (length w) refl, h.1) refl
-piece_is limit w rest (Some (kind.Sign t)) h = some_of limit w rest _ (sign_some w rest h.0) (sign_front w rest h.0) ∙ rw (take_at w rest (length w) refl, h.1) refl
+piece_is limit w rest (Some (kind.Word t)) h =
+    some_of limit w rest _ (word_some w rest h.0) (word_front w rest h.0) ∙ rw (take_at w rest (length w) refl, h.1) refl
+piece_is limit w rest (Some (kind.Sign t)) h =
+    some_of limit w rest _ (sign_some w rest h.0) (sign_front w rest h.0) ∙ rw (take_at w rest (length w) refl, h.1) refl
 
 literal_goes : (limit : ℕ) (n : ℕ) (v : Option ℕ) → literal_step n v ≡ stops bad_byte → ⊥
 literal_goes limit n (Some v) e = cc
@@ -112,7 +116,8 @@ ends_is limit text at_end h = rw h refl
 ends_is limit text bad_byte h = bad_by limit text h (step limit text) (step_found limit text)
 ends_is limit text past_limit h = rw h.2 (literal_is limit h.0 h.1 h.3 ∙ rw (at_most-past limit (digits_value h.0) h.4) refl)
 
-pub Lexes-from : {limit : ℕ} {p q : Place} {text : List ℕ} {ts : List Token} {e : Ending} → Scans limit p text ts q e → (left : List ℕ) × Lexes limit p text ts q left × Ends limit left e
+pub Lexes-from : {limit : ℕ} {p q : Place} {text : List ℕ} {ts : List Token} {e : Ending} → Scans limit p text ts q e →
+    (left : List ℕ) × Lexes limit p text ts q left × Ends limit left e
 Lexes-from {limit = limit} (stop {text = text} {e = e} a) = (text, none, ends_from limit text e a)
 Lexes-from {limit = limit} (skip {text = text} {n = n} a s) =
     let r = Lexes-from s in
@@ -122,16 +127,20 @@ Lexes-from {limit = limit} (token {text = text} {n = n} {k = k} a s) =
     (r.0, piece (take n text) (Some k) (sym (take-append-drop n text)) (subst (IsStep limit text) a (step_found limit text)) refl r.1, r.2)
 
 -- one piece more, by its bytes
-scan_piece : {limit : ℕ} {p q : Place} {rest : List ℕ} {ts : List Token} {e : Ending} (text w : List ℕ) (k : Option TokenKind) → text ≡ w ++ rest → IsPiece limit w k rest →
+scan_piece : {limit : ℕ} {p q : Place} {rest : List ℕ} {ts : List Token} {e : Ending} (text w : List ℕ) (k : Option TokenKind) → text ≡ w ++ rest →
+    IsPiece limit w k rest →
     Scans limit (place_after p w) rest ts q e → Scans limit p text (tokens_of p k ++ ts) q e
 scan_piece {limit = limit} {p = p} {q = q} {rest = rest} {ts = ts} {e = e} text w None is h s =
-    let t : Scans limit (place_after p (take (length w) (w ++ rest))) (drop (length w) (w ++ rest)) ts q e = rw (take_at w rest (length w) refl, drop_at w rest (length w) refl) s in
+    let t : Scans limit (place_after p (take (length w) (w ++ rest))) (drop (length w) (w ++ rest)) ts q e =
+    rw (take_at w rest (length w) refl, drop_at w rest (length w) refl) s in
     rw is (skip (piece_is limit w rest None h) t)
 scan_piece {limit = limit} {p = p} {q = q} {rest = rest} {ts = ts} {e = e} text w (Some k) is h s =
-    let t : Scans limit (place_after p (take (length w) (w ++ rest))) (drop (length w) (w ++ rest)) ts q e = rw (take_at w rest (length w) refl, drop_at w rest (length w) refl) s in
+    let t : Scans limit (place_after p (take (length w) (w ++ rest))) (drop (length w) (w ++ rest)) ts q e =
+    rw (take_at w rest (length w) refl, drop_at w rest (length w) refl) s in
     rw is (token (piece_is limit w rest (Some k) h) t)
 
-pub Scans-from : {limit : ℕ} {p q : Place} {text left : List ℕ} {ts : List Token} (e : Ending) → Lexes limit p text ts q left → Ends limit left e → Scans limit p text ts q e
+pub Scans-from : {limit : ℕ} {p q : Place} {text left : List ℕ} {ts : List Token} (e : Ending) → Lexes limit p text ts q left → Ends limit left e →
+    Scans limit p text ts q e
 Scans-from {limit = limit} e (none {text = text}) h = stop (ends_is limit text e h)
 Scans-from e (piece {text = text} w k is pc all_is s) h = rw all_is (scan_piece text w k is pc (Scans-from e s h))
 

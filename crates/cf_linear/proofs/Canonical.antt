@@ -46,7 +46,9 @@ pub row_ext : (c : ℕ) (r s : Row) → Rises c r → Rises c s → ((x : ℕ) �
 row_ext c [] [] p q h = refl
 row_ext c [] ((d, m) ∷ s) p q h = absurd (q.1 (sym (entry-head c d m s q) ∙ sym (h d)))
 row_ext c ((d, k) ∷ r) [] p q h = absurd (p.1 (sym (entry-head c d k r p) ∙ h d))
-row_ext c ((d, k) ∷ r) ((e, m) ∷ s) p q h = ⊎_elim (same (λ t i. row_ext (suc d) r s p.2 t i)) (λ o. ⊎_elim (λ l. absurd (p.1 (sym (entry-head c d k r p) ∙ h d ∙ entry-low e ((e, m) ∷ s) d (omega arith, q.1, q.2) l)))
+row_ext c ((d, k) ∷ r) ((e, m) ∷ s) p q h =
+    ⊎_elim (same (λ t i. row_ext (suc d) r s p.2 t i))
+    (λ o. ⊎_elim (λ l. absurd (p.1 (sym (entry-head c d k r p) ∙ h d ∙ entry-low e ((e, m) ∷ s) d (omega arith, q.1, q.2) l)))
     (λ l. absurd (q.1 (sym (entry-head c e m s q) ∙ sym (h e) ∙ entry-low d ((d, k) ∷ r) e (omega arith, p.1, p.2) l))) o) (cases_order d e)
   where
     same : (Rises (suc d) s → ((x : ℕ) → entry r x ≡ entry s x) → r ≡ s) → d ≡ e → (d, k) ∷ r ≡ (e, m) ∷ s

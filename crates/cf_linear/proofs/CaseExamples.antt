@@ -244,7 +244,8 @@ pub number_forms-first_systems : first_systems (layout_of (Int ∷ Int ∷ []) (
       next = 8;
       equations = (((1, pos 3) ∷ (2, negsuc 2) ∷ (3, negsuc 0) ∷ (4, pos 5) ∷ (6, pos 1) ∷ []) ∷ []);
       inequalities = (((3, pos 1) ∷ (5, negsuc 2) ∷ []) ∷ ((0, pos 2) ∷ (3, negsuc 0) ∷ (5, pos 3) ∷ []) ∷ ((3, pos 1) ∷ (5, negsuc 2) ∷ (6, negsuc 3) ∷ []) ∷
-          ((0, pos 3) ∷ (3, negsuc 0) ∷ (5, pos 3) ∷ (6, pos 4) ∷ []) ∷ ((3, pos 1) ∷ []) ∷ ((3, pos 1) ∷ (4, negsuc 0) ∷ []) ∷ ((1, pos 1) ∷ []) ∷ ((1, pos 1) ∷
+          ((0, pos 3) ∷ (3, negsuc 0) ∷ (5, pos 3) ∷ (6, pos 4) ∷ []) ∷ ((3, pos 1) ∷ []) ∷ ((3, pos 1) ∷ (4, negsuc 0) ∷ []) ∷ ((1, pos 1) ∷ []) ∷
+          ((1, pos 1) ∷
           (7, negsuc 1) ∷ []) ∷ ((0, pos 1) ∷ (1, negsuc 0) ∷ (7, pos 2) ∷ []) ∷ ((7, pos 1) ∷ []) ∷ ((0, negsuc 0) ∷ (3, negsuc 0) ∷ (4, pos 1) ∷ (7, pos 1) ∷
           []) ∷ []);
       needs = 0;
@@ -255,7 +256,8 @@ pub number_forms-first_systems : first_systems (layout_of (Int ∷ Int ∷ []) (
       next = 8;
       equations = (((1, pos 3) ∷ (2, negsuc 2) ∷ (3, negsuc 0) ∷ (4, pos 5) ∷ (6, pos 1) ∷ []) ∷ []);
       inequalities = (((3, pos 1) ∷ (5, negsuc 2) ∷ []) ∷ ((0, pos 2) ∷ (3, negsuc 0) ∷ (5, pos 3) ∷ []) ∷ ((3, pos 1) ∷ (5, negsuc 2) ∷ (6, negsuc 3) ∷ []) ∷
-          ((0, pos 3) ∷ (3, negsuc 0) ∷ (5, pos 3) ∷ (6, pos 4) ∷ []) ∷ ((3, pos 1) ∷ []) ∷ ((3, pos 1) ∷ (4, negsuc 0) ∷ []) ∷ ((1, pos 1) ∷ []) ∷ ((1, pos 1) ∷
+          ((0, pos 3) ∷ (3, negsuc 0) ∷ (5, pos 3) ∷ (6, pos 4) ∷ []) ∷ ((3, pos 1) ∷ []) ∷ ((3, pos 1) ∷ (4, negsuc 0) ∷ []) ∷ ((1, pos 1) ∷ []) ∷
+          ((1, pos 1) ∷
           (7, negsuc 1) ∷ []) ∷ ((0, pos 1) ∷ (1, negsuc 0) ∷ (7, pos 2) ∷ []) ∷ ((0, negsuc 0) ∷ (7, negsuc 0) ∷ []) ∷ ((0, negsuc 0) ∷ (3, negsuc 0) ∷ (
             4,
             pos
@@ -296,8 +298,10 @@ pub number_forms-first_systems : first_systems (layout_of (Int ∷ Int ∷ []) (
       next = 8;
       equations = (((1, pos 3) ∷ (2, negsuc 2) ∷ (3, negsuc 0) ∷ (4, pos 5) ∷ (6, pos 1) ∷ []) ∷ []);
       inequalities = (((3, pos 1) ∷ (5, negsuc 2) ∷ []) ∷ ((0, pos 2) ∷ (3, negsuc 0) ∷ (5, pos 3) ∷ []) ∷ ((3, pos 1) ∷ (5, negsuc 2) ∷ (6, negsuc 3) ∷ []) ∷
-          ((0, pos 3) ∷ (3, negsuc 0) ∷ (5, pos 3) ∷ (6, pos 4) ∷ []) ∷ ((3, pos 1) ∷ []) ∷ ((0, negsuc 0) ∷ (3, negsuc 0) ∷ (4, pos 1) ∷ []) ∷ ((1, pos 1) ∷ [])
-          ∷ ((1, pos 1) ∷ (7, negsuc 1) ∷ []) ∷ ((0, pos 1) ∷ (1, negsuc 0) ∷ (7, pos 2) ∷ []) ∷ ((7, pos 1) ∷ []) ∷ ((0, negsuc 0) ∷ (3, pos 1) ∷ (4, negsuc 0) ∷
+          ((0, pos 3) ∷ (3, negsuc 0) ∷ (5, pos 3) ∷ (6, pos 4) ∷ []) ∷ ((3, pos 1) ∷ []) ∷ ((0, negsuc 0) ∷ (3, negsuc 0) ∷ (4, pos 1) ∷ []) ∷
+          ((1, pos 1) ∷ [])
+          ∷ ((1, pos 1) ∷ (7, negsuc 1) ∷ []) ∷ ((0, pos 1) ∷ (1, negsuc 0) ∷ (7, pos 2) ∷ []) ∷ ((7, pos 1) ∷ []) ∷
+          ((0, negsuc 0) ∷ (3, pos 1) ∷ (4, negsuc 0) ∷
           (7, pos 1) ∷ []) ∷ []);
       needs = 0;
     } ∷
@@ -307,7 +311,8 @@ pub number_forms-first_systems : first_systems (layout_of (Int ∷ Int ∷ []) (
       next = 8;
       equations = (((1, pos 3) ∷ (2, negsuc 2) ∷ (3, negsuc 0) ∷ (4, pos 5) ∷ (6, pos 1) ∷ []) ∷ []);
       inequalities = (((3, pos 1) ∷ (5, negsuc 2) ∷ []) ∷ ((0, pos 2) ∷ (3, negsuc 0) ∷ (5, pos 3) ∷ []) ∷ ((3, pos 1) ∷ (5, negsuc 2) ∷ (6, negsuc 3) ∷ []) ∷
-          ((0, pos 3) ∷ (3, negsuc 0) ∷ (5, pos 3) ∷ (6, pos 4) ∷ []) ∷ ((3, pos 1) ∷ []) ∷ ((0, negsuc 0) ∷ (3, negsuc 0) ∷ (4, pos 1) ∷ []) ∷ ((1, pos 1) ∷ [])
+          ((0, pos 3) ∷ (3, negsuc 0) ∷ (5, pos 3) ∷ (6, pos 4) ∷ []) ∷ ((3, pos 1) ∷ []) ∷ ((0, negsuc 0) ∷ (3, negsuc 0) ∷ (4, pos 1) ∷ []) ∷
+          ((1, pos 1) ∷ [])
           ∷ ((1, pos 1) ∷ (7, negsuc 1) ∷ []) ∷ ((0, pos 1) ∷ (1, negsuc 0) ∷ (7, pos 2) ∷ []) ∷ ((0, negsuc 0) ∷ (7, negsuc 0) ∷ []) ∷ ((0, negsuc 0) ∷ (
             3,
             pos
@@ -348,7 +353,8 @@ pub number_forms-first_systems : first_systems (layout_of (Int ∷ Int ∷ []) (
       next = 8;
       equations = (((1, pos 3) ∷ (2, negsuc 2) ∷ (3, negsuc 0) ∷ (4, pos 5) ∷ (6, pos 1) ∷ []) ∷ []);
       inequalities = (((3, pos 1) ∷ (5, negsuc 2) ∷ []) ∷ ((0, pos 2) ∷ (3, negsuc 0) ∷ (5, pos 3) ∷ []) ∷ ((3, pos 1) ∷ (5, negsuc 2) ∷ (6, negsuc 3) ∷ []) ∷
-          ((0, pos 3) ∷ (3, negsuc 0) ∷ (5, pos 3) ∷ (6, pos 4) ∷ []) ∷ ((0, negsuc 0) ∷ (3, negsuc 0) ∷ []) ∷ ((3, negsuc 0) ∷ (4, negsuc 0) ∷ []) ∷ ((1, pos 1)
+          ((0, pos 3) ∷ (3, negsuc 0) ∷ (5, pos 3) ∷ (6, pos 4) ∷ []) ∷ ((0, negsuc 0) ∷ (3, negsuc 0) ∷ []) ∷ ((3, negsuc 0) ∷ (4, negsuc 0) ∷ []) ∷
+          ((1, pos 1)
           ∷ []) ∷ ((1, pos 1) ∷ (7, negsuc 1) ∷ []) ∷ ((0, pos 1) ∷ (1, negsuc 0) ∷ (7, pos 2) ∷ []) ∷ ((7, pos 1) ∷ []) ∷ ((0, negsuc 0) ∷ (3, pos 1) ∷ (
             4,
             pos
@@ -362,7 +368,8 @@ pub number_forms-first_systems : first_systems (layout_of (Int ∷ Int ∷ []) (
       next = 8;
       equations = (((1, pos 3) ∷ (2, negsuc 2) ∷ (3, negsuc 0) ∷ (4, pos 5) ∷ (6, pos 1) ∷ []) ∷ []);
       inequalities = (((3, pos 1) ∷ (5, negsuc 2) ∷ []) ∷ ((0, pos 2) ∷ (3, negsuc 0) ∷ (5, pos 3) ∷ []) ∷ ((3, pos 1) ∷ (5, negsuc 2) ∷ (6, negsuc 3) ∷ []) ∷
-          ((0, pos 3) ∷ (3, negsuc 0) ∷ (5, pos 3) ∷ (6, pos 4) ∷ []) ∷ ((0, negsuc 0) ∷ (3, negsuc 0) ∷ []) ∷ ((3, negsuc 0) ∷ (4, negsuc 0) ∷ []) ∷ ((1, pos 1)
+          ((0, pos 3) ∷ (3, negsuc 0) ∷ (5, pos 3) ∷ (6, pos 4) ∷ []) ∷ ((0, negsuc 0) ∷ (3, negsuc 0) ∷ []) ∷ ((3, negsuc 0) ∷ (4, negsuc 0) ∷ []) ∷
+          ((1, pos 1)
           ∷ []) ∷ ((1, pos 1) ∷ (7, negsuc 1) ∷ []) ∷ ((0, pos 1) ∷ (1, negsuc 0) ∷ (7, pos 2) ∷ []) ∷ ((0, negsuc 0) ∷ (7, negsuc 0) ∷ []) ∷ ((0, negsuc 0) ∷ (
             3,
             pos 1,

@@ -21,7 +21,8 @@ place-append x (y ∷ xs) ys h = on_bool (y == x) (λ e. rw e refl) (λ e. let k
 
 pub place-append_after : (x : ℕ) (xs ys : List ℕ) → length xs ≤ place x xs → place x (xs ++ ys) ≡ place x xs + place x ys
 place-append_after x [] ys h = omega arith
-place-append_after x (y ∷ xs) ys h = on_bool (y == x) (λ e. let k = rw e at h in absurd (omega arith)) (λ e. let k = rw e at h in rw (e, place-append_after x xs ys (omega arith)) (omega arith))
+place-append_after x (y ∷ xs) ys h = on_bool (y == x) (λ e. let k = rw e at h in absurd (omega arith)) (λ e. let k = rw e at h in
+    rw (e, place-append_after x xs ys (omega arith)) (omega arith))
 
 bit_shift : (i m : ℕ) → (m / 2 ^ i % 2 == 1) ≡ bit i m
 bit_shift zero m = let e : m / 2 ^ 0 ≡ m = omega arith in rw e refl

@@ -10,11 +10,13 @@ use Rattle.cf_linear.proofs.Canonical.{Rises-add_at, Rises-put, Rises-lower, row
 pub Rises-comb : (c : ℕ) (a : ℤ) (r : Row) (b : ℤ) (s : Row) → Rises c r → Rises c s → Rises c (comb a r b s)
 Rises-comb c a [] b [] p q = tt
 Rises-comb c a [] b ((d, m) ∷ s) p q = Rises-put c d (b *ℤ m) (comb a [] b s) q.0 (Rises-comb (suc d) a [] b s tt q.2)
-Rises-comb c a ((d, k) ∷ r) b s p q = Rises-add_at c d (a *ℤ k) (comb a r b s) p.0 (Rises-comb c a r b s (Rises-lower c (suc d) r (let l = p.0 in omega arith) p.2) q)
+Rises-comb c a ((d, k) ∷ r) b s p q = Rises-add_at c d (a *ℤ k) (comb a r b s) p.0
+    (Rises-comb c a r b s (Rises-lower c (suc d) r (let l = p.0 in omega arith) p.2) q)
 
 pub entry-put : (x c : ℕ) (k : ℤ) (r : Row) → entry (put c k r) x ≡ cond (c == x) k (pos 0) +ℤ entry r x
 entry-put x c k r = cond_both (is_zero k) r ((c, k) ∷ r) (λ y. entry y x ≡ cond (c == x) k (pos 0) +ℤ entry r x)
-    (λ e. rw (zero_from_is_zero k e) (cond_both (c == x) (pos 0) (pos 0) (λ z. entry r x ≡ z +ℤ entry r x) (λ _. omega (arith, ints)) (λ _. omega (arith, ints))))
+    (λ e. rw (zero_from_is_zero k e) (cond_both (c == x) (pos 0) (pos 0) (λ z. entry r x ≡ z +ℤ entry r x) (λ _. omega (arith, ints))
+    (λ _. omega (arith, ints))))
     (λ e. refl)
 
 pub Rises-without : (c x : ℕ) (r : Row) → Rises c r → Rises c (without x r)
@@ -26,7 +28,8 @@ Rises-without c x ((d, k) ∷ r) p = cond_both (not (d == x)) ((d, k) ∷ withou
 -- what is left after the least column
 pub Rises-after : (c : ℕ) (r : Row) → Rises c r → Rises (suc c) (without c r)
 Rises-after c [] p = tt
-Rises-after c ((d, k) ∷ r) p = cond_both (d == c) (without c r) ((d, k) ∷ without c r) (λ y. Rises (suc c) (cond (not (d == c)) ((d, k) ∷ without c r) (without c r)))
+Rises-after c ((d, k) ∷ r) p = cond_both (d == c) (without c r) ((d, k) ∷ without c r)
+    (λ y. Rises (suc c) (cond (not (d == c)) ((d, k) ∷ without c r) (without c r)))
     (λ e. rw e (Rises-without (suc c) c r (rw (eqb-true d c e) at p.2)))
     (λ e. rw e (let n = eqb-false d c e in let l = p.0 in omega arith, p.1, Rises-without (suc d) c r p.2))
 
@@ -47,11 +50,13 @@ pub comb-next : (c : ℕ) (a : ℤ) (r : Row) (b : ℤ) (s : Row) → Rises c r 
 comb-next c a r b s p q =
     row_ext c (comb a r b s) (put c (a *ℤ entry r c +ℤ b *ℤ entry s c) (comb a (without c r) b (without c s)))
     (Rises-comb c a r b s p q)
-    (Rises-put c c (a *ℤ entry r c +ℤ b *ℤ entry s c) (comb a (without c r) b (without c s)) (omega arith) (Rises-comb (suc c) a (without c r) b (without c s) (Rises-after c r p) (Rises-after c s q)))
+    (Rises-put c c (a *ℤ entry r c +ℤ b *ℤ entry s c) (comb a (without c r) b (without c s)) (omega arith)
+    (Rises-comb (suc c) a (without c r) b (without c s) (Rises-after c r p) (Rises-after c s q)))
     (λ x. entry-comb x a r b s ∙ sym (entry-put x c (a *ℤ entry r c +ℤ b *ℤ entry s c) (comb a (without c r) b (without c s)) ∙
     rw (entry-comb x a (without c r) b (without c s), entry-without c x r, entry-without c x s) (at x)))
   where
-    at : (x : ℕ) → cond (c == x) (a *ℤ entry r c +ℤ b *ℤ entry s c) (pos 0) +ℤ (a *ℤ cond (c == x) (pos 0) (entry r x) +ℤ b *ℤ cond (c == x) (pos 0) (entry s x)) ≡ a *ℤ entry r x +ℤ b *ℤ entry s x
+    at : (x : ℕ) → cond (c == x) (a *ℤ entry r c +ℤ b *ℤ entry s c) (pos 0) +ℤ
+        (a *ℤ cond (c == x) (pos 0) (entry r x) +ℤ b *ℤ cond (c == x) (pos 0) (entry s x)) ≡ a *ℤ entry r x +ℤ b *ℤ entry s x
     at x = on_bool (c == x)
         (λ e. rw (e, eqb-true c x e) (omega (arith, ints)))
         (λ e. rw e (omega (arith, ints)))

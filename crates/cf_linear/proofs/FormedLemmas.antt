@@ -37,7 +37,8 @@ pub one_kept : (m : System) (x : ℕ) (w : How) → Kinds m → In x m.unknown �
 one_kept m x w f i v c k = update-other v x c _ (λ e. f.apart c k (subst (λ y. In y m.unknown) (sym e) i))
 
 -- ---- a step that makes no column
-pub still : (m : System) (a : Answer) → Kinds m → Keeps m a → a.system.known ≡ m.known → m.next ≤ a.system.next → a.steps ≡ [] → a.bounds ≡ [] → ((v : Values) (c : ℕ) → In c m.known → after_back v a.back c ≡ v c) → Owes m a
+pub still : (m : System) (a : Answer) → Kinds m → Keeps m a → a.system.known ≡ m.known → m.next ≤ a.system.next → a.steps ≡ [] → a.bounds ≡ [] →
+    ((v : Values) (c : ℕ) → In c m.known → after_back v a.back c ≡ v c) → Owes m a
 still m a f keeps same le no_steps no_bounds kept = record {
   keeps = keeps;
   constant = f.constant;
@@ -54,10 +55,13 @@ still m a f keeps same le no_steps no_bounds kept = record {
 }
 
 -- rows after a replacement
-pub subst_over : (Q R : ℕ → Type 0) (x : ℕ) (s : Row) → ((c : ℕ) → Q c × (c ≢ x) → R c) → Over R s → (rows : List Row) → EachRow (Over Q) rows → EachRow (Over R) (subst_all x s rows)
+pub subst_over : (Q R : ℕ → Type 0) (x : ℕ) (s : Row) → ((c : ℕ) → Q c × (c ≢ x) → R c) → Over R s → (rows : List Row) → EachRow (Over Q) rows →
+    EachRow (Over R) (subst_all x s rows)
 subst_over Q R x s f o [] h = tt
-subst_over Q R x s f o (r ∷ rows) h =
-    (Over-comb R (pos 1) (without x r) (entry r x) s (Over-weaker (λ c. Q c × (c ≢ x)) R f (without x r) (Over-without Q x r h.0)) o, subst_over Q R x s f o rows h.1)
+subst_over Q R x s f o (r ∷ rows) h = (
+  Over-comb R (pos 1) (without x r) (entry r x) s (Over-weaker (λ c. Q c × (c ≢ x)) R f (without x r) (Over-without Q x r h.0)) o,
+  subst_over Q R x s f o rows h.1,
+)
 
 pub subst_rise : (x : ℕ) (s : Row) → Rises 0 s → (rows : List Row) → EachRow (Rises 0) rows → EachRow (Rises 0) (subst_all x s rows)
 subst_rise x s o [] h = tt

@@ -76,7 +76,8 @@ module _ (a : ℤ) (r : Row) (b : ℤ) (s : Row) (i j : ℕ) (out : Row) (c : �
   pub below_least : Joining a r b s i j out → IsLeast r i s j c → AreBelow c out
   below_least h l = AreBelow-raise h.n c out (least_from h l h) h.low
 
-  fine_at : {k m : ℤ} → (h : Joining a r b s i j out) → IsLeast r i s j c → sum_passes a k b m ≡ false → k ≡ entry r c → m ≡ entry s c → (x : ℕ) → x < suc c → passes_at a r b s x ≡ false
+  fine_at : {k m : ℤ} → (h : Joining a r b s i j out) → IsLeast r i s j c → sum_passes a k b m ≡ false → k ≡ entry r c → m ≡ entry s c → (x : ℕ) → x < suc c →
+      passes_at a r b s x ≡ false
   fine_at h l two e f x o = ⊎_elim
       (λ q. let t : sum_passes a (entry r c) b (entry s c) ≡ false = rw (e, f) at two in subst (λ (y : ℕ). passes_at a r b s y ≡ false) (sym q) t)
       (λ w. ⊎_elim (λ p. before p (cases_order x h.n)) (λ p. absurd (omega arith)) w) (cases_order x c)
@@ -104,17 +105,29 @@ module _ (a : ℤ) (r : Row) (b : ℤ) (s : Row) (i j : ℕ) (out : Row) (c : �
         s_rises = rw u.rest (Rises-after c (drop j s) l.second);
         r_high = λ x o. rw (t.rest, entry-without c x (drop i r), ne_eqb c x (λ q. omega arith)) (h.r_high x (omega arith));
         s_high = λ x o. rw (u.rest, entry-without c x (drop j s), ne_eqb c x (λ q. omega arith)) (h.s_high x (omega arith));
-        low = rw p (AreBelow-append (suc c) out (put c (a *ℤ k +ℤ b *ℤ m) []) (AreBelow-raise h.n (suc c) out (omega arith) h.low) (AreBelow-put c (a *ℤ k +ℤ b *ℤ m)));
+        low = rw p (AreBelow-append (suc c) out (put c (a *ℤ k +ℤ b *ℤ m) []) (AreBelow-raise h.n (suc c) out (omega arith) h.low)
+            (AreBelow-put c (a *ℤ k +ℤ b *ℤ m)));
         fine = λ x o. fine_at h l two rc sc x o;
-        same = rw (p, t.rest, u.rest, append_assoc, ← put-append c (a *ℤ k +ℤ b *ℤ m) (comb a (without c (drop i r)) b (without c (drop j s))), t.taken, u.taken, ← comb-next c a (drop i r) b (drop j s) l.first l.second) h.same;
+        same = rw (
+          p,
+          t.rest,
+          u.rest,
+          append_assoc,
+          ← put-append c (a *ℤ k +ℤ b *ℤ m) (comb a (without c (drop i r)) b (without c (drop j s))),
+          t.taken,
+          u.taken,
+          ← comb-next c a (drop i r) b (drop j s) l.first l.second,
+        ) h.same;
       }
 
-  pub joining_less : (k m : ℤ) (i2 j2 : ℕ) → i ≤ length r → j ≤ length s → IsLeast r i s j c → IsTaken r i c k i2 → IsTaken s j c m j2 → (length r - i2) + (length s - j2) < (length r - i) + (length s - j)
+  pub joining_less : (k m : ℤ) (i2 j2 : ℕ) → i ≤ length r → j ≤ length s → IsLeast r i s j c → IsTaken r i c k i2 → IsTaken s j c m j2 →
+      (length r - i2) + (length s - j2) < (length r - i) + (length s - j)
   joining_less k m i2 j2 x y l t u = ⊎_elim
       (λ o. let q = t.moved o.0 o.1 in let v = u.onward in let w = u.within in let o0 = o.0 in omega arith)
       (λ o. let q = u.moved o.0 o.1 in let v = t.onward in let w = t.within in let o0 = o.0 in omega arith) l.is_one
 
-  pub joining_past : (k m : ℤ) (i2 j2 : ℕ) → Joining a r b s i j out → IsLeast r i s j c → IsTaken r i c k i2 → IsTaken s j c m j2 → sum_passes a k b m ≡ true → comb_passes a r b s ≡ true
+  pub joining_past : (k m : ℤ) (i2 j2 : ℕ) → Joining a r b s i j out → IsLeast r i s j c → IsTaken r i c k i2 → IsTaken s j c m j2 → sum_passes a k b m ≡ true →
+      comb_passes a r b s ≡ true
   joining_past k m i2 j2 h l t u e =
       let from = least_from h l h in
       let rc : k ≡ entry r c = t.taken ∙ h.r_high c from in
@@ -122,7 +135,8 @@ module _ (a : ℤ) (r : Row) (b : ℤ) (s : Row) (i j : ℕ) (out : Row) (c : �
       let q : sum_passes a (entry r c) b (entry s c) ≡ true = rw (rc, sc) at e in
       passes_somewhere a r b s c q
 
-pub joining_done : (a : ℤ) (r : Row) (b : ℤ) (s : Row) (i j : ℕ) (out : Row) → Joining a r b s i j out → length r ≤ i → length s ≤ j → (out ≡ comb a r b s) × (comb_passes a r b s ≡ false)
+pub joining_done : (a : ℤ) (r : Row) (b : ℤ) (s : Row) (i j : ℕ) (out : Row) → Joining a r b s i j out → length r ≤ i → length s ≤ j →
+    (out ≡ comb a r b s) × (comb_passes a r b s ≡ false)
 joining_done a r b s i j out h p q =
     let same : out ++ [] ≡ comb a r b s = rw (drop_of_length-le r p, drop_of_length-le s q) at h.same in
     (sym (append_none out) ∙ same, passes_nowhere a r b s (λ x. at x (cases_order x h.n)))
@@ -160,6 +174,7 @@ pub value_next : (v : Values) (t : ℤ) (r : Row) (i : ℕ) → i < length r →
     value_from v t (drop i r) ≡ option_and_then (λ s. value_from v s (drop (i + 1) r)) (next_sum t (get_or r i (0, pos 0)).1 (v (get_or r i (0, pos 0)).0))
 value_next v t r i h = rw (add-one, drop-cons r i (0, pos 0)) refl
 
-pub value_step : (v : Values) (t n : ℤ) (r : Row) (i : ℕ) (o : Option ℤ) → i < length r → Some n ≡ next_sum t (get_or r i (0, pos 0)).1 (v (get_or r i (0, pos 0)).0) →
+pub value_step : (v : Values) (t n : ℤ) (r : Row) (i : ℕ) (o : Option ℤ) → i < length r →
+    Some n ≡ next_sum t (get_or r i (0, pos 0)).1 (v (get_or r i (0, pos 0)).0) →
     value_from v t (drop i r) ≡ o → value_from v n (drop (i + 1) r) ≡ o
 value_step v t n r i o h e p = let q = rw (← e) at (value_next v t r i h) in sym q ∙ p

@@ -46,14 +46,16 @@ EachRow-unfilter Q p [] h k = tt
 EachRow-unfilter Q p (x ∷ xs) h k = by (p x) (EachRow-unfilter Q p xs) h k
   where
     by : (b : Bool) → (EachRow Q (filter (λ r. not (p r)) xs) → EachRow Q (filter p xs) → EachRow Q xs) →
-        EachRow Q (cond (not b) (x ∷ filter (λ r. not (p r)) xs) (filter (λ r. not (p r)) xs)) → EachRow Q (cond b (x ∷ filter p xs) (filter p xs)) → EachRow Q (x ∷ xs)
+        EachRow Q (cond (not b) (x ∷ filter (λ r. not (p r)) xs) (filter (λ r. not (p r)) xs)) → EachRow Q (cond b (x ∷ filter p xs) (filter p xs)) →
+        EachRow Q (x ∷ xs)
     by true again h k = (k.0, again h k.1)
     by false again h k = (h.0, again h.1 k)
 
 -- each row of the filter has what the test says
 pub EachRow-tested : (Q : Row → Type 0) (p : Row → Bool) → ((r : Row) → p r ≡ true → Q r) → (rows : List Row) → EachRow Q (filter p rows)
 EachRow-tested Q p f [] = tt
-EachRow-tested Q p f (r ∷ rows) = cond_both (p r) (r ∷ filter p rows) (filter p rows) (λ ys. EachRow Q ys) (λ e. (f r e, EachRow-tested Q p f rows)) (λ e. EachRow-tested Q p f rows)
+EachRow-tested Q p f (r ∷ rows) = cond_both (p r) (r ∷ filter p rows) (filter p rows) (λ ys. EachRow Q ys) (λ e. (f r e, EachRow-tested Q p f rows))
+    (λ e. EachRow-tested Q p f rows)
 
 -- ---- the columns of a row
 pub Over-filter : (Q : ℕ → Type 0) (p : ℕ × ℤ → Bool) (r : Row) → Over Q r → Over Q (filter p r)
@@ -104,7 +106,8 @@ Rises-filter c p [] h = tt
 Rises-filter c p ((d, k) ∷ r) h =
     let again = Rises-filter (suc d) p r h.2 in
     let le = h.0 in
-    cond_both (p (d, k)) ((d, k) ∷ filter p r) (filter p r) (λ y. Rises c y) (λ e. (h.0, h.1, again)) (λ e. Rises-lower c (suc d) (filter p r) (omega arith) again)
+    cond_both (p (d, k)) ((d, k) ∷ filter p r) (filter p r) (λ y. Rises c y) (λ e. (h.0, h.1, again))
+    (λ e. Rises-lower c (suc d) (filter p r) (omega arith) again)
 
 -- a row with entry 0 at x does not hold x
 pub free_row : (c x : ℕ) (r : Row) → Rises c r → entry r x ≡ pos 0 → Over (λ d. d ≢ x) r

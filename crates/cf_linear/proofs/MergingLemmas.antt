@@ -31,7 +31,8 @@ pub taken_here : (r : Row) (i c : ℕ) → Rises c (drop i r) → i < length r �
 taken_here r i c p h e =
     let p' = rw (drop-cons r i (0, pos 0), ← e) at p in
     record {
-      taken = rw (drop-cons r i (0, pos 0), ← e) (sym (entry-head (get_or r i (0, pos 0)).0 (get_or r i (0, pos 0)).0 (get_or r i (0, pos 0)).1 (drop (suc i) r) p'));
+      taken = rw (drop-cons r i (0, pos 0), ← e)
+          (sym (entry-head (get_or r i (0, pos 0)).0 (get_or r i (0, pos 0)).0 (get_or r i (0, pos 0)).1 (drop (suc i) r) p'));
       rest = rw (add-one, drop-cons r i (0, pos 0), e, eq-eqb c c refl) (sym (without-low c (drop (suc i) r) (rw e at p'.2)));
       within = omega arith;
       onward = omega arith;
@@ -62,14 +63,16 @@ module _ (r : Row) (i : ℕ) (s : Row) (j : ℕ) where
   pub least_first : Rises 0 r → i < length r → length s ≤ j → IsLeast r i s j (get_or r i (0, pos 0)).0
   least_first p h l = record { first = Rises-drop r i 0 p h; second = rises_at_end _ j s l; is_one = inl (h, refl) }
 
-  pub least_is_second : Rises 0 r → Rises 0 s → i < length r → j < length s → (get_or s j (0, pos 0)).0 ≤ (get_or r i (0, pos 0)).0 → IsLeast r i s j (get_or s j (0, pos 0)).0
+  pub least_is_second : Rises 0 r → Rises 0 s → i < length r → j < length s → (get_or s j (0, pos 0)).0 ≤ (get_or r i (0, pos 0)).0 →
+      IsLeast r i s j (get_or s j (0, pos 0)).0
   least_is_second p q h k l = record {
     first = Rises-lower (get_or s j (0, pos 0)).0 (get_or r i (0, pos 0)).0 (drop i r) l (Rises-drop r i 0 p h);
     second = Rises-drop s j 0 q k;
     is_one = inr (k, refl);
   }
 
-  pub least_is_first : Rises 0 r → Rises 0 s → i < length r → j < length s → (get_or r i (0, pos 0)).0 ≤ (get_or s j (0, pos 0)).0 → IsLeast r i s j (get_or r i (0, pos 0)).0
+  pub least_is_first : Rises 0 r → Rises 0 s → i < length r → j < length s → (get_or r i (0, pos 0)).0 ≤ (get_or s j (0, pos 0)).0 →
+      IsLeast r i s j (get_or r i (0, pos 0)).0
   least_is_first p q h k l = record {
     first = Rises-drop r i 0 p h;
     second = Rises-lower (get_or r i (0, pos 0)).0 (get_or s j (0, pos 0)).0 (drop j s) l (Rises-drop s j 0 q k);

@@ -30,7 +30,8 @@ pub within_not : (z : ℤ) → IsWithin z → passes z ≡ false
 within_not z h = let e : nat_le (unsigned_abs z) (2 ^ 127 - 1) ≡ true = le-leb (unsigned_abs z) (2 ^ 127 - 1) h in rw e refl
 
 pub within_is : (z : ℤ) → passes z ≡ false → IsWithin z
-within_is z h = on_bool (nat_le (unsigned_abs z) (2 ^ 127 - 1)) (λ e. leb-true (unsigned_abs z) (2 ^ 127 - 1) e) (λ e. true_not_false {b = passes z} (rw e refl) h)
+within_is z h = on_bool (nat_le (unsigned_abs z) (2 ^ 127 - 1)) (λ e. leb-true (unsigned_abs z) (2 ^ 127 - 1) e)
+    (λ e. true_not_false {b = passes z} (rw e refl) h)
 
 pub entry-within : (r : Row) (n c : ℕ) → Rises n r → AreWithin r → IsWithin (entry r c)
 entry-within [] n c p w = omega arith
@@ -64,7 +65,8 @@ module _ (a : ℤ) (r : Row) (b : ℤ) (s : Row) (p : IsRow r) (q : IsRow s) whe
   sum_not h c = on_bool (passes_at a r b s c) (λ e. true_not_false (passes_somewhere a r b s c e) h) (λ e. e)
 
   pub comb_not : comb_passes a r b s ≡ false → row_passes (comb a r b s) ≡ false
-  comb_not h = row_not (comb a r b s) 0 (Rises-comb 0 a r b s p.0 q.0) (λ c. rw (entry-comb c a r b s) (last (passes (a *ℤ entry r c)) (passes (b *ℤ entry s c)) (passes (a *ℤ entry r c +ℤ b *ℤ entry s c)) (sum_not h c)))
+  comb_not h = row_not (comb a r b s) 0 (Rises-comb 0 a r b s p.0 q.0)
+      (λ c. rw (entry-comb c a r b s) (last (passes (a *ℤ entry r c)) (passes (b *ℤ entry s c)) (passes (a *ℤ entry r c +ℤ b *ℤ entry s c)) (sum_not h c)))
     where
       last : (x y z : Bool) → (x || y || z) ≡ false → z ≡ false
       last true y z e = cc
@@ -102,19 +104,22 @@ unit_within _ one z h = omega (arith, ints)
 unit_within _ minus_one z h = omega (arith, ints)
 
 pub only_units : (a : ℤ) (r : Row) (b : ℤ) (s : Row) → IsUnit a → IsUnit b → IsRow r → IsRow s → OnlySums a r b s
-only_units a r b s u v p q c = only_sum a (entry r c) b (entry s c) (unit_within a u (entry r c) (entry-within r 0 c p.0 p.1)) (unit_within b v (entry s c) (entry-within s 0 c q.0 q.1))
+only_units a r b s u v p q c = only_sum a (entry r c) b (entry s c) (unit_within a u (entry r c) (entry-within r 0 c p.0 p.1))
+    (unit_within b v (entry s c) (entry-within s 0 c q.0 q.1))
 
 column_times : (b : ℤ) (d c : ℕ) → IsWithin b → IsWithin (b *ℤ entry (put d (pos 1) []) c)
 column_times b d c h = on_bool (d == c) (λ e. rw e (omega (arith, ints))) (λ e. rw e (omega (arith, ints)))
 
 pub only_column : (a : ℤ) (r : Row) (b : ℤ) (d : ℕ) → IsUnit a → IsWithin b → IsRow r → OnlySums a r b (put d (pos 1) [])
-only_column a r b d u h p c = only_sum a (entry r c) b (entry (put d (pos 1) []) c) (unit_within a u (entry r c) (entry-within r 0 c p.0 p.1)) (column_times b d c h)
+only_column a r b d u h p c = only_sum a (entry r c) b (entry (put d (pos 1) []) c) (unit_within a u (entry r c) (entry-within r 0 c p.0 p.1))
+    (column_times b d c h)
 
 plus_none : (z : ℤ) → pos 1 *ℤ z +ℤ pos 1 *ℤ (pos 0 +ℤ pos 0) ≡ z
 plus_none z = omega (arith, ints)
 
 pub entry_plus : (h : Row) (n : ℤ) (x : ℕ) → entry (plus h n) (suc x) ≡ entry h (suc x)
-entry_plus h n x = entry-comb (suc x) (pos 1) h (pos 1) (constant_row n) ∙ rw (entry-put (suc x) 0 n [], ne_eqb 0 (suc x) (λ e. omega arith)) (plus_none (entry h (suc x)))
+entry_plus h n x = entry-comb (suc x) (pos 1) h (pos 1) (constant_row n) ∙
+    rw (entry-put (suc x) 0 n [], ne_eqb 0 (suc x) (λ e. omega arith)) (plus_none (entry h (suc x)))
 
 pub Rises-plus : (h : Row) (n : ℤ) → Rises 0 h → Rises 0 (plus h n)
 Rises-plus h n p = Rises-comb 0 (pos 1) h (pos 1) (constant_row n) p (Rises-put 0 0 n [] (omega arith) tt)
@@ -126,7 +131,8 @@ Rises-column : (c : ℕ) → Rises 0 (put c (pos 1) [])
 Rises-column c = Rises-put 0 c (pos 1) [] (omega arith) tt
 
 half_at_0 : (c : ℕ) (r : Row) (k : ℤ) → 1 ≤ c → IsRow r → passes (entry (comb (negsuc 0) r k (put c (pos 1) [])) 0) ≡ false
-half_at_0 c r k h p = rw (entry-comb 0 (negsuc 0) r k (put c (pos 1) []), ne_eqb c 0 (λ n. omega arith)) (within_not (negsuc 0 *ℤ entry r 0 +ℤ k *ℤ (pos 0 +ℤ pos 0)) (turned (entry r 0) k (entry-within r 0 0 p.0 p.1)))
+half_at_0 c r k h p = rw (entry-comb 0 (negsuc 0) r k (put c (pos 1) []), ne_eqb c 0 (λ n. omega arith))
+    (within_not (negsuc 0 *ℤ entry r 0 +ℤ k *ℤ (pos 0 +ℤ pos 0)) (turned (entry r 0) k (entry-within r 0 0 p.0 p.1)))
 
 pub not_above : (h : Row) (n : ℤ) → Rises 0 h → passes (entry h 0) ≡ false → row_passes (plus h n) ≡ false → row_passes h ≡ false
 not_above h n p z t = row_not h 0 p at
@@ -136,9 +142,11 @@ not_above h n p z t = row_not h 0 p at
     at (suc x) = rw (entry_plus h n x) at (entry_not (plus h n) 0 (suc x) (Rises-plus h n p) t)
 
 -- what is below a quotient, without the constant of the divisor, passes only where it passes with it
-pub half_past : (c : ℕ) (r : Row) (k n : ℤ) → 1 ≤ c → IsRow r → row_passes (comb (negsuc 0) r k (put c (pos 1) [])) ≡ true → row_passes (plus (comb (negsuc 0) r k (put c (pos 1) [])) n) ≡ true
+pub half_past : (c : ℕ) (r : Row) (k n : ℤ) → 1 ≤ c → IsRow r → row_passes (comb (negsuc 0) r k (put c (pos 1) [])) ≡ true →
+    row_passes (plus (comb (negsuc 0) r k (put c (pos 1) [])) n) ≡ true
 half_past c r k n h p e = on_bool (row_passes (plus (comb (negsuc 0) r k (put c (pos 1) [])) n)) (λ t. t)
-    (λ t. true_not_false e (not_above (comb (negsuc 0) r k (put c (pos 1) [])) n (Rises-comb 0 (negsuc 0) r k (put c (pos 1) []) p.0 (Rises-column c)) (half_at_0 c r k h p) t))
+    (λ t. true_not_false e (not_above (comb (negsuc 0) r k (put c (pos 1) [])) n (Rises-comb 0 (negsuc 0) r k (put c (pos 1) []) p.0 (Rises-column c))
+    (half_at_0 c r k h p) t))
 
 pub neg_within : (k : ℤ) → IsWithin k → IsWithin (neg_ℤ k)
 neg_within k h = omega (arith, ints)
@@ -149,7 +157,8 @@ less_within k p h = omega (arith, ints)
 -- the negated row of a row never passes
 pub negated_not : (r : Row) → IsRow r → row_passes (comb (negsuc 0) r (pos 0) []) ≡ false
 negated_not r p = row_not (comb (negsuc 0) r (pos 0) []) 0 (Rises-comb 0 (negsuc 0) r (pos 0) [] p.0 tt)
-    (λ c. rw (entry-comb c (negsuc 0) r (pos 0) []) (within_not (negsuc 0 *ℤ entry r c +ℤ pos 0 *ℤ pos 0) (let h : IsWithin (entry r c) = entry-within r 0 c p.0 p.1 in omega (arith, ints))))
+    (λ c. rw (entry-comb c (negsuc 0) r (pos 0) [])
+    (within_not (negsuc 0 *ℤ entry r c +ℤ pos 0 *ℤ pos 0) (let h : IsWithin (entry r c) = entry-within r 0 c p.0 p.1 in omega (arith, ints))))
 
 pub or_left : (a b : Bool) → a ≡ true → (a || b) ≡ true
 or_left a b e = rw e refl

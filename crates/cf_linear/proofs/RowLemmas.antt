@@ -32,7 +32,8 @@ value-comb v a ((c, k) ∷ r) b s = value-add_at v c (a *ℤ k) (comb a r b s) �
 -- an entry is a value
 pub entry_is_value : (c : ℕ) (r : Row) → entry r c ≡ value (λ d. cond (d == c) (pos 1) (pos 0)) r
 entry_is_value c [] = refl
-entry_is_value c ((d, k) ∷ r) = cond_both (d == c) (pos 1) (pos 0) (λ x. cond (d == c) k (pos 0) +ℤ entry r c ≡ k *ℤ x +ℤ value (λ d. cond (d == c) (pos 1) (pos 0)) r)
+entry_is_value c ((d, k) ∷ r) = cond_both (d == c) (pos 1) (pos 0)
+    (λ x. cond (d == c) k (pos 0) +ℤ entry r c ≡ k *ℤ x +ℤ value (λ d. cond (d == c) (pos 1) (pos 0)) r)
     (λ e. rw (e, entry_is_value c r) (omega (arith, ints))) (λ e. rw (e, entry_is_value c r) (omega (arith, ints)))
 
 pub entry-comb : (c : ℕ) (a : ℤ) (r : Row) (b : ℤ) (s : Row) → entry (comb a r b s) c ≡ a *ℤ entry r c +ℤ b *ℤ entry s c

@@ -45,7 +45,8 @@ tuple_in : (w : Values) (bs : List (ℕ × ℕ)) → Within w bs → InBounds bs
 tuple_in w [] h = tt
 tuple_in w ((c, n) ∷ bs) h = (h.0, h.1, tuple_in w bs h.2)
 
-tuple_agrees : (Q : ℕ → Type 0) (v w : Values) (bs : List (ℕ × ℕ)) → Agree Q v w → Agree (λ c. Q c ⊎ In c (search_columns bs)) (set_tuple v bs (tuple_of w bs)) w
+tuple_agrees : (Q : ℕ → Type 0) (v w : Values) (bs : List (ℕ × ℕ)) → Agree Q v w →
+    Agree (λ c. Q c ⊎ In c (search_columns bs)) (set_tuple v bs (tuple_of w bs)) w
 tuple_agrees Q v w [] h c q = ⊎_elim (λ k. h c k) (λ i. absurd i) q
 tuple_agrees Q v w ((d, n) ∷ bs) h c q =
     tuple_agrees (λ e. (e ≡ d) ⊎ Q e) (update v d (w d)) w bs (update-agree Q v w d (w d) h refl) c
@@ -60,7 +61,8 @@ after_steps-other s (need_nonneg r ∷ ms) d h = after_steps-other s ms d h
 after_steps-other s (need_zero r ∷ ms) d h = after_steps-other s ms d h
 after_steps-other s (need_divides g r ∷ ms) d h = after_steps-other s ms d h
 
-steps_fit : (Q : ℕ → Type 0) (lo hi : ℕ) (s : Values) (ms : List Step) → Rising lo hi (let_columns ms) → ((c : ℕ) → Q c → In c (let_columns ms) → ⊥) → StepsOver Q ms → NeedsHold s ms → AllFit (after_steps s ms) ms
+steps_fit : (Q : ℕ → Type 0) (lo hi : ℕ) (s : Values) (ms : List Step) → Rising lo hi (let_columns ms) → ((c : ℕ) → Q c → In c (let_columns ms) → ⊥) →
+    StepsOver Q ms → NeedsHold s ms → AllFit (after_steps s ms) ms
 steps_fit Q lo hi s [] ri fresh o h = tt
 steps_fit Q lo hi s (floor_of c r g ∷ ms) ri fresh o h =
     let z = int_div_euclid (value s r) g in
@@ -70,21 +72,27 @@ steps_fit Q lo hi s (floor_of c r g ∷ ms) ri fresh o h =
     let at : w c ≡ z = after_steps-other s1 ms c not_later ∙ update-at s c z in
     let ag : Agree Q s w = λ d q. sym (after_steps-other s1 ms d (λ i. fresh d q (inr i)) ∙ update-other s c d z (λ e. fresh d q (inl e))) in (
       at ∙ ap (λ y. int_div_euclid y g) (value-agree Q s w ag r o.0),
-      steps_fit (λ d. (d ≡ c) ⊎ Q d) (suc c) hi s1 ms ri.1 (λ d q i. ⊎_elim (λ (e : d ≡ c). not_later (subst (λ y. In y (let_columns ms)) e i)) (λ k. fresh d k (inr i)) q) o.1 h.1,
+      steps_fit (λ d. (d ≡ c) ⊎ Q d) (suc c) hi s1 ms ri.1
+          (λ d q i. ⊎_elim (λ (e : d ≡ c). not_later (subst (λ y. In y (let_columns ms)) e i)) (λ k. fresh d k (inr i)) q) o.1 h.1,
     )
-steps_fit Q lo hi s (need_nonneg r ∷ ms) ri fresh o h =
-    (subst (λ y. pos 0 ≤ℤ y) (value-agree Q s (after_steps s ms) (λ d q. sym (after_steps-other s ms d (fresh d q))) r o.0) h.0, steps_fit Q lo hi s ms ri fresh o.1 h.1)
+steps_fit Q lo hi s (need_nonneg r ∷ ms) ri fresh o h = (
+  subst (λ y. pos 0 ≤ℤ y) (value-agree Q s (after_steps s ms) (λ d q. sym (after_steps-other s ms d (fresh d q))) r o.0) h.0,
+  steps_fit Q lo hi s ms ri fresh o.1 h.1,
+)
 steps_fit Q lo hi s (need_zero r ∷ ms) ri fresh o h =
     (sym (value-agree Q s (after_steps s ms) (λ d q. sym (after_steps-other s ms d (fresh d q))) r o.0) ∙ h.0, steps_fit Q lo hi s ms ri fresh o.1 h.1)
-steps_fit Q lo hi s (need_divides g r ∷ ms) ri fresh o h =
-    (subst (λ y. Divides g y) (value-agree Q s (after_steps s ms) (λ d q. sym (after_steps-other s ms d (fresh d q))) r o.0) h.0, steps_fit Q lo hi s ms ri fresh o.1 h.1)
+steps_fit Q lo hi s (need_divides g r ∷ ms) ri fresh o h = (
+  subst (λ y. Divides g y) (value-agree Q s (after_steps s ms) (λ d q. sym (after_steps-other s ms d (fresh d q))) r o.0) h.0,
+  steps_fit Q lo hi s ms ri fresh o.1 h.1,
+)
 
 pub set_tuple-other : (v : Values) (bs : List (ℕ × ℕ)) (ks : List ℤ) (d : ℕ) → (In d (search_columns bs) → ⊥) → set_tuple v bs ks d ≡ v d
 set_tuple-other v [] ks d h = refl
 set_tuple-other v ((c, n) ∷ bs) [] d h = refl
 set_tuple-other v ((c, n) ∷ bs) (k ∷ ks) d h = set_tuple-other (update v c k) bs ks d (λ i. h (inr i)) ∙ update-other v c d k (λ e. h (inl e))
 
-pub tuple_within : (lo hi : ℕ) (v : Values) (bs : List (ℕ × ℕ)) (ks : List ℤ) → Rising lo hi (search_columns bs) → InBounds bs ks → Within (set_tuple v bs ks) bs
+pub tuple_within : (lo hi : ℕ) (v : Values) (bs : List (ℕ × ℕ)) (ks : List ℤ) → Rising lo hi (search_columns bs) → InBounds bs ks →
+    Within (set_tuple v bs ks) bs
 tuple_within lo hi v [] ks ri h = tt
 tuple_within lo hi v ((c, n) ∷ bs) [] ri h = absurd h
 tuple_within lo hi v ((c, n) ∷ bs) (k ∷ ks) ri h =
@@ -105,19 +113,27 @@ solved_case m a st no_e no_i =
       meets = λ v one w same h.
           let f = st.keeps.forth w (sym (same 0 st.constant) ∙ one) h in
           let x = f.0 in
-          let ag : Agree (λ c. In c m.known) v x = λ c i. same c i ∙ f.1 c (st.below c i) in
-          (tuple_of x a.bounds, tuple_in x a.bounds f.2, steps_hold Q (set_tuple v a.bounds (tuple_of x a.bounds)) x a.steps (tuple_agrees (λ c. In c m.known) v x a.bounds ag) st.over f.3);
+          let ag : Agree (λ c. In c m.known) v x = λ c i. same c i ∙ f.1 c (st.below c i) in (
+            tuple_of x a.bounds,
+            tuple_in x a.bounds f.2,
+            steps_hold Q (set_tuple v a.bounds (tuple_of x a.bounds)) x a.steps
+                (tuple_agrees (λ c. In c m.known) v x a.bounds ag) st.over f.3,
+          );
       found = λ v one ks inb needs.
           let s = set_tuple v a.bounds ks in
           let x = after_steps s a.steps in
           let fresh : (c : ℕ) → Q c → In c (let_columns a.steps) → ⊥ = λ c q i.
-          ⊎_elim (λ k. let b = st.below c k in let r = Rising-in m.next a.system.next c (let_columns a.steps) st.lets_rise i in absurd (omega arith)) (λ k. st.apart c k i) q in
+          ⊎_elim (λ k. let b = st.below c k in let r = Rising-in m.next a.system.next c (let_columns a.steps) st.lets_rise i in absurd (omega arith))
+          (λ k. st.apart c k i) q in
           let fit = steps_fit Q m.next a.system.next s a.steps st.lets_rise fresh st.over needs in
-          let wi = Within-agree s x a.bounds (λ c i. sym (after_steps-other s a.steps c (fresh c (inr i)))) (tuple_within m.next a.system.next v a.bounds ks st.bounds_rise inb) in
+          let wi = Within-agree s x a.bounds (λ c i. sym (after_steps-other s a.steps c (fresh c (inr i))))
+          (tuple_within m.next a.system.next v a.bounds ks st.bounds_rise inb) in
           let same : SameKnown m v x = λ c k. sym (after_steps-other s a.steps c (fresh c (inl k)) ∙
-          set_tuple-other v a.bounds ks c (λ i. let b = st.below c k in let r = Rising-in m.next a.system.next c (search_columns a.bounds) st.bounds_rise i in absurd (omega arith))) in (
+          set_tuple-other v a.bounds ks c (λ i. let b = st.below c k in let r = Rising-in m.next a.system.next c (search_columns a.bounds) st.bounds_rise i in
+          absurd (omega arith))) in (
             (λ c k. same c k ∙ sym (st.kept x c k)),
-            st.keeps.back x (sym (same 0 st.constant) ∙ one) wi fit (record { zero = subst (λ rows. EachRow (IsZero x) rows) (sym no_e) tt; nonneg = subst (λ rows. EachRow (IsNonneg x) rows) (sym no_i) tt }),
+            st.keeps.back x (sym (same 0 st.constant) ∙ one) wi fit
+                (record { zero = subst (λ rows. EachRow (IsZero x) rows) (sym no_e) tt; nonneg = subst (λ rows. EachRow (IsNonneg x) rows) (sym no_i) tt }),
           );
     }
 
@@ -143,15 +159,18 @@ StepsOver-append Q (need_zero r ∷ ms) ns h k = (h.0, StepsOver-append Q ms ns 
 StepsOver-append Q (need_divides g r ∷ ms) ns h k = (h.0, StepsOver-append Q ms ns h.1 k)
 
 -- steps fit where the values agree on their search_columns
-AllFit-agree : (R Q : ℕ → Type 0) (v w : Values) → Agree R v w → ((c : ℕ) → Q c → R c) → (ms : List Step) → StepsOver Q ms → ((c : ℕ) → In c (let_columns ms) → R c) → AllFit v ms → AllFit w ms
+AllFit-agree : (R Q : ℕ → Type 0) (v w : Values) → Agree R v w → ((c : ℕ) → Q c → R c) → (ms : List Step) → StepsOver Q ms →
+    ((c : ℕ) → In c (let_columns ms) → R c) → AllFit v ms → AllFit w ms
 AllFit-agree R Q v w a f [] o l h = tt
 AllFit-agree R Q v w a f (floor_of c r g ∷ ms) o l h = (
   sym (a c (l c (inl refl))) ∙ h.0 ∙ ap (λ y. int_div_euclid y g) (value-agree R v w a r (Over-weaker Q R f r o.0)),
   AllFit-agree R (λ d. (d ≡ c) ⊎ Q d) v w a (λ d q. ⊎_elim (λ (e : d ≡ c). l d (inl e)) (λ k. f d k) q) ms o.1 (λ d i. l d (inr i)) h.1,
 )
-AllFit-agree R Q v w a f (need_nonneg r ∷ ms) o l h = (subst (λ y. pos 0 ≤ℤ y) (value-agree R v w a r (Over-weaker Q R f r o.0)) h.0, AllFit-agree R Q v w a f ms o.1 l h.1)
+AllFit-agree R Q v w a f (need_nonneg r ∷ ms) o l h =
+    (subst (λ y. pos 0 ≤ℤ y) (value-agree R v w a r (Over-weaker Q R f r o.0)) h.0, AllFit-agree R Q v w a f ms o.1 l h.1)
 AllFit-agree R Q v w a f (need_zero r ∷ ms) o l h = (sym (value-agree R v w a r (Over-weaker Q R f r o.0)) ∙ h.0, AllFit-agree R Q v w a f ms o.1 l h.1)
-AllFit-agree R Q v w a f (need_divides g r ∷ ms) o l h = (subst (λ y. Divides g y) (value-agree R v w a r (Over-weaker Q R f r o.0)) h.0, AllFit-agree R Q v w a f ms o.1 l h.1)
+AllFit-agree R Q v w a f (need_divides g r ∷ ms) o l h =
+    (subst (λ y. Divides g y) (value-agree R v w a r (Over-weaker Q R f r o.0)) h.0, AllFit-agree R Q v w a f ms o.1 l h.1)
 
 pub after_back-append : (v : Values) (xs ys : List (ℕ × How)) → after_back v (xs ++ ys) ≡ after_back (after_back v xs) ys
 after_back-append v [] ys = refl
@@ -163,12 +182,18 @@ step_then m a b s t =
     let Q : ℕ → Type 0 = λ c. In c m.known ⊎ In c (search_columns a.bounds) in
     let into : (c : ℕ) → Q c → R c = λ c q. ⊎_elim (λ k. s.grows c k) (λ k. s.bound_known c k) q in
     let le : m.next ≤ a.system.next = Rising-le m.next a.system.next (search_columns a.bounds) s.bounds_rise in
-    let left_bound : (c : ℕ) → In c (search_columns a.bounds) → In c (search_columns (a.bounds ++ b.bounds)) = λ c i. subst (λ x. In c x) (sym (search_columns-append a.bounds b.bounds)) (In-left c (search_columns a.bounds) (search_columns b.bounds) i) in
-    let right_bound : (c : ℕ) → In c (search_columns b.bounds) → In c (search_columns (a.bounds ++ b.bounds)) = λ c i. subst (λ x. In c x) (sym (search_columns-append a.bounds b.bounds)) (In-right c (search_columns a.bounds) (search_columns b.bounds) i) in
-    let left_let : (c : ℕ) → In c (let_columns a.steps) → In c (let_columns (a.steps ++ b.steps)) = λ c i. subst (λ x. In c x) (sym (let_columns-append a.steps b.steps)) (In-left c (let_columns a.steps) (let_columns b.steps) i) in
-    let right_let : (c : ℕ) → In c (let_columns b.steps) → In c (let_columns (a.steps ++ b.steps)) = λ c i. subst (λ x. In c x) (sym (let_columns-append a.steps b.steps)) (In-right c (let_columns a.steps) (let_columns b.steps) i) in
-    let some_bound : (c : ℕ) → In c (search_columns (a.bounds ++ b.bounds)) → In c (search_columns a.bounds) ⊎ In c (search_columns b.bounds) = λ c i. In-append c (search_columns a.bounds) (search_columns b.bounds) (subst (λ x. In c x) (search_columns-append a.bounds b.bounds) i) in
-    let some_let : (c : ℕ) → In c (let_columns (a.steps ++ b.steps)) → In c (let_columns a.steps) ⊎ In c (let_columns b.steps) = λ c i. In-append c (let_columns a.steps) (let_columns b.steps) (subst (λ x. In c x) (let_columns-append a.steps b.steps) i) in
+    let left_bound : (c : ℕ) → In c (search_columns a.bounds) → In c (search_columns (a.bounds ++ b.bounds)) =
+    λ c i. subst (λ x. In c x) (sym (search_columns-append a.bounds b.bounds)) (In-left c (search_columns a.bounds) (search_columns b.bounds) i) in
+    let right_bound : (c : ℕ) → In c (search_columns b.bounds) → In c (search_columns (a.bounds ++ b.bounds)) =
+    λ c i. subst (λ x. In c x) (sym (search_columns-append a.bounds b.bounds)) (In-right c (search_columns a.bounds) (search_columns b.bounds) i) in
+    let left_let : (c : ℕ) → In c (let_columns a.steps) → In c (let_columns (a.steps ++ b.steps)) =
+    λ c i. subst (λ x. In c x) (sym (let_columns-append a.steps b.steps)) (In-left c (let_columns a.steps) (let_columns b.steps) i) in
+    let right_let : (c : ℕ) → In c (let_columns b.steps) → In c (let_columns (a.steps ++ b.steps)) =
+    λ c i. subst (λ x. In c x) (sym (let_columns-append a.steps b.steps)) (In-right c (let_columns a.steps) (let_columns b.steps) i) in
+    let some_bound : (c : ℕ) → In c (search_columns (a.bounds ++ b.bounds)) → In c (search_columns a.bounds) ⊎ In c (search_columns b.bounds) =
+    λ c i. In-append c (search_columns a.bounds) (search_columns b.bounds) (subst (λ x. In c x) (search_columns-append a.bounds b.bounds) i) in
+    let some_let : (c : ℕ) → In c (let_columns (a.steps ++ b.steps)) → In c (let_columns a.steps) ⊎ In c (let_columns b.steps) =
+    λ c i. In-append c (let_columns a.steps) (let_columns b.steps) (subst (λ x. In c x) (let_columns-append a.steps b.steps) i) in
     let Q2 : ℕ → Type 0 = λ c. In c m.known ⊎ In c (search_columns (a.bounds ++ b.bounds)) in
     let wide : (c : ℕ) → Q c → Q2 c = λ c q. ⊎_elim (λ k. inl k) (λ k. inr (left_bound c k)) q in
     let later : (c : ℕ) → In c a.system.known ⊎ In c (search_columns b.bounds) → In c (let_columns a.steps) ⊎ Q2 c = λ c q.
@@ -201,12 +226,17 @@ step_then m a b s t =
       bound_known = λ c i. ⊎_elim (λ j. t.grows c (s.bound_known c j)) (λ j. t.bound_known c j) (some_bound c i);
       let_known = λ c i. ⊎_elim (λ j. t.grows c (s.let_known c j)) (λ j. t.let_known c j) (some_let c i);
       only = λ c k. ⊎_elim (λ i. inl (right_let c i)) (λ q. ⊎_elim (λ i. inl (left_let c i)) (λ i. inr i) (later c q)) (t.only c k);
-      over = StepsOver-append Q2 a.steps b.steps (StepsOver-weaker Q Q2 wide a.steps s.over) (StepsOver-weaker (λ c. In c a.system.known ⊎ In c (search_columns b.bounds)) (λ c. In c (let_columns a.steps) ⊎ Q2 c) later b.steps t.over);
-      bounds_rise = subst (λ x. Rising m.next b.system.next x) (sym (search_columns-append a.bounds b.bounds)) (Rising-append m.next a.system.next b.system.next (search_columns a.bounds) (search_columns b.bounds) s.bounds_rise t.bounds_rise);
-      lets_rise = subst (λ x. Rising m.next b.system.next x) (sym (let_columns-append a.steps b.steps)) (Rising-append m.next a.system.next b.system.next (let_columns a.steps) (let_columns b.steps) s.lets_rise t.lets_rise);
+      over = StepsOver-append Q2 a.steps b.steps (StepsOver-weaker Q Q2 wide a.steps s.over)
+          (StepsOver-weaker (λ c. In c a.system.known ⊎ In c (search_columns b.bounds)) (λ c. In c (let_columns a.steps) ⊎ Q2 c) later b.steps t.over);
+      bounds_rise = subst (λ x. Rising m.next b.system.next x) (sym (search_columns-append a.bounds b.bounds))
+          (Rising-append m.next a.system.next b.system.next (search_columns a.bounds) (search_columns b.bounds) s.bounds_rise t.bounds_rise);
+      lets_rise = subst (λ x. Rising m.next b.system.next x) (sym (let_columns-append a.steps b.steps))
+          (Rising-append m.next a.system.next b.system.next (let_columns a.steps) (let_columns b.steps) s.lets_rise t.lets_rise);
       apart = λ c i j. ⊎_elim
-          (λ p. ⊎_elim (λ q. s.apart c p q) (λ q. ranges c (Rising-in m.next a.system.next c (search_columns a.bounds) s.bounds_rise p) (Rising-in a.system.next b.system.next c (let_columns b.steps) t.lets_rise q)) (some_let c j))
-          (λ p. ⊎_elim (λ q. ranges c (Rising-in m.next a.system.next c (let_columns a.steps) s.lets_rise q) (Rising-in a.system.next b.system.next c (search_columns b.bounds) t.bounds_rise p)) (λ q. t.apart c p q) (some_let c j))
+          (λ p. ⊎_elim (λ q. s.apart c p q) (λ q. ranges c (Rising-in m.next a.system.next c (search_columns a.bounds) s.bounds_rise p)
+          (Rising-in a.system.next b.system.next c (let_columns b.steps) t.lets_rise q)) (some_let c j))
+          (λ p. ⊎_elim (λ q. ranges c (Rising-in m.next a.system.next c (let_columns a.steps) s.lets_rise q)
+          (Rising-in a.system.next b.system.next c (search_columns b.bounds) t.bounds_rise p)) (λ q. t.apart c p q) (some_let c j))
           (some_bound c i);
       kept = λ v c k. ap (λ f. f c) (after_back-append v b.back a.back) ∙ s.kept (after_back v b.back) c k ∙ t.kept v c (s.grows c k);
     }
@@ -231,7 +261,8 @@ step_none m zero_in below = record {
 }
 
 -- ---- a trace, from states of the kind Good
-module _ (l : Limits) (Good : State → Type 0) (constant : (s : State) → Good s → In 0 s.system.known) (below : (s : State) → Good s → (c : ℕ) → In c s.system.known → c < s.system.next)
+module _ (l : Limits) (Good : State → Type 0) (constant : (s : State) → Good s → In 0 s.system.known)
+    (below : (s : State) → Good s → (c : ℕ) → In c s.system.known → c < s.system.next)
     (at_end : (s : State) → Good s → stage l s ≡ ends solved → (s.system.equations ≡ []) × (s.system.inequalities ≡ []))
     (owes : (s t : State) (a : Taken) → Good s → stage l s ≡ goes t a → (t.system ≡ a.answer.system) × Good t × Owes s.system a.answer) where
   abbrev Ended : System → Answer → Type 0

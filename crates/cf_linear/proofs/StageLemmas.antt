@@ -3,7 +3,8 @@ use Rattle.std.proofs.Common.{◌≡◌, ℕ, zero, suc, ◌<◌, ◌+◌, List,
 use Rattle.cf_linear.specs.Stages.{Limits, State, End, Taken, Trace, stop, more, run_for, run_more}
 
 -- a trace of fewer than n steps is what n steps run through
-pub run-trace : {l : Limits} {s : State} {as_ : List Taken} {e : End} → Trace l s as_ e → (n : ℕ) → length as_ < n → run_for n l s ≡ record { taken = as_; end = e }
+pub run-trace : {l : Limits} {s : State} {as_ : List Taken} {e : End} → Trace l s as_ e → (n : ℕ) → length as_ < n →
+    run_for n l s ≡ record { taken = as_; end = e }
 unfolding run_for
 run-trace t zero h = absurd (omega arith)
 run-trace (stop p) (suc n) h = rw (p, run_for) refl

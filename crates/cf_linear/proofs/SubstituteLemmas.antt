@@ -30,7 +30,8 @@ without_gone r x i p h n =
     let c = (get_or r i (0, pos 0)).0 in
     let k = (get_or r i (0, pos 0)).1 in
     ap (without x) (take_put r 0 i p h) ∙ without-append x (take i r) (put c k []) ∙
-    ap (λ y. without x (take i r) ++ y) (cond_both (is_zero k) [] ((c, k) ∷ []) (λ y. without x y ≡ []) (λ e. refl) (λ e. rw (eq-eqb c x n) refl)) ∙ append-nil (without x (take i r))
+    ap (λ y. without x (take i r) ++ y) (cond_both (is_zero k) [] ((c, k) ∷ []) (λ y. without x y ≡ []) (λ e. refl) (λ e. rw (eq-eqb c x n) refl)) ∙
+    append-nil (without x (take i r))
 
 -- two entries in rising order
 pub two_entries : (a : ℤ) (u : ℕ) (b : ℤ) (v : ℕ) → u < v → two_at a u b v ≡ put u a [] ++ put v b []
@@ -39,7 +40,8 @@ two_entries a u b v h =
     let j : b *ℤ pos 1 ≡ b = omega (arith, ints) in
     rw (i, j) (cond_both (is_zero b) [] ((v, b) ∷ []) (λ y. add_at u a y ≡ put u a [] ++ y)
     (λ e. sym (append-nil (put u a [])))
-    (λ e. rw (lt-ltb u v h) (cond_both (is_zero a) ((v, b) ∷ []) ((u, a) ∷ (v, b) ∷ []) (λ y. y ≡ put u a [] ++ ((v, b) ∷ [])) (λ i. rw i refl) (λ i. rw i refl))))
+    (λ e. rw (lt-ltb u v h) (cond_both (is_zero a) ((v, b) ∷ []) ((u, a) ∷ (v, b) ∷ []) (λ y. y ≡ put u a [] ++ ((v, b) ∷ [])) (λ i. rw i refl)
+    (λ i. rw i refl))))
 
 pub AreBelow-put : (u v : ℕ) (a : ℤ) → u < v → AreBelow v (put u a [])
 AreBelow-put u v a h = cond_both (is_zero a) [] ((u, a) ∷ []) (λ y. AreBelow v y) (λ e. tt) (λ e. (h, tt))

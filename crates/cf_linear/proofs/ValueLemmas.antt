@@ -47,17 +47,20 @@ pub Same-trans : (n p : ℕ) (u v w : Values) → n ≤ p → Same n u v → Sam
 Same-trans n p u v w h s t c l = s c l ∙ t c (omega arith)
 
 -- rows with a row in the place of x
-pub EachRow-subst : (P : ℤ → Type 0) (v : Values) (x : ℕ) (s : Row) → v x ≡ value v s → (rows : List Row) → EachRow (λ r. P (value v r)) rows → EachRow (λ r. P (value v r)) (subst_all x s rows)
+pub EachRow-subst : (P : ℤ → Type 0) (v : Values) (x : ℕ) (s : Row) → v x ≡ value v s → (rows : List Row) → EachRow (λ r. P (value v r)) rows →
+    EachRow (λ r. P (value v r)) (subst_all x s rows)
 EachRow-subst P v x s e [] h = tt
 EachRow-subst P v x s e (r ∷ rows) h =
     let i : value v (subst_row x s r) ≡ value v r = value-comb v (pos 1) (without x r) (entry r x) s ∙ rw (← e, value-split v x r) (omega (arith, ints)) in
     (subst P (sym i) h.0, EachRow-subst P v x s e rows h.1)
 
-pub EachRow-unsubst : (P : ℤ → Type 0) (v : Values) (x : ℕ) (s : Row) (rows : List Row) → EachRow (λ r. P (value v r)) (subst_all x s rows) → EachRow (λ r. P (value (update v x (value v s)) r)) rows
+pub EachRow-unsubst : (P : ℤ → Type 0) (v : Values) (x : ℕ) (s : Row) (rows : List Row) → EachRow (λ r. P (value v r)) (subst_all x s rows) →
+    EachRow (λ r. P (value (update v x (value v s)) r)) rows
 EachRow-unsubst P v x s [] h = tt
 EachRow-unsubst P v x s (r ∷ rows) h = (subst P (value-subst_row v x s r) h.0, EachRow-unsubst P v x s rows h.1)
 
-pub EachRow-same : (P : ℤ → Type 0) (n : ℕ) (v w : Values) → Same n v w → (rows : List Row) → EachRow (Below n) rows → EachRow (λ r. P (value v r)) rows → EachRow (λ r. P (value w r)) rows
+pub EachRow-same : (P : ℤ → Type 0) (n : ℕ) (v w : Values) → Same n v w → (rows : List Row) → EachRow (Below n) rows → EachRow (λ r. P (value v r)) rows →
+    EachRow (λ r. P (value w r)) rows
 EachRow-same P n v w s [] b h = tt
 EachRow-same P n v w s (r ∷ rows) b h = (subst P (value-same n v w s r b.0) h.0, EachRow-same P n v w s rows b.1 h.1)
 
@@ -84,7 +87,8 @@ StepsBelow n (m ∷ ms) = StepBelow n m × StepsBelow n ms
 
 pub AllFit-same : (n : ℕ) (v w : Values) → Same n v w → (ms : List Step) → StepsBelow n ms → AllFit v ms → AllFit w ms
 AllFit-same n v w s [] b h = tt
-AllFit-same n v w s (floor_of c r g ∷ ms) b h = (sym (s c b.0.0) ∙ h.0 ∙ ap (λ y. int_div_euclid y g) (value-same n v w s r b.0.1), AllFit-same n v w s ms b.1 h.1)
+AllFit-same n v w s (floor_of c r g ∷ ms) b h =
+    (sym (s c b.0.0) ∙ h.0 ∙ ap (λ y. int_div_euclid y g) (value-same n v w s r b.0.1), AllFit-same n v w s ms b.1 h.1)
 AllFit-same n v w s (need_nonneg r ∷ ms) b h = (subst (λ y. pos 0 ≤ℤ y) (value-same n v w s r b.0) h.0, AllFit-same n v w s ms b.1 h.1)
 AllFit-same n v w s (need_zero r ∷ ms) b h = (sym (value-same n v w s r b.0) ∙ h.0, AllFit-same n v w s ms b.1 h.1)
 AllFit-same n v w s (need_divides g r ∷ ms) b h = (subst (λ y. Divides g y) (value-same n v w s r b.0) h.0, AllFit-same n v w s ms b.1 h.1)

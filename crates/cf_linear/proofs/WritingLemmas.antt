@@ -34,17 +34,20 @@ pub next_positive : (l : Layout) (t : TermTree) (ss : List Bool) (q n : ℕ) →
 next_positive l t ss q n h e = omega (arith, write-next l t ss q, pow_pos (length l.inputs), pow_pos (set_count l))
 
 -- ---- forms made of written parts
-pub leaf_gives : (r : Row) (ss : List Bool) (b : List GuardTree) (next used : ℕ) (y : Result Part RowFault) → PartAnswer r next used y → WrittenAnswer (alone r (drop used ss) next) ss b b y
+pub leaf_gives : (r : Row) (ss : List Bool) (b : List GuardTree) (next used : ℕ) (y : Result Part RowFault) → PartAnswer r next used y →
+    WrittenAnswer (alone r (drop used ss) next) ss b b y
 leaf_gives r ss b next used (Ok p) g = record { row_is = g.0; guards_are = sym (append-nil b); next_is = g.1; left = rw g.2 refl; fits = g.3 }
 leaf_gives r ss b next used (Err Past) g = g
 leaf_gives r ss b next used (Err NoMemory) g = tt
 
 module _ (w : WrittenTree) (ss : List Bool) (b0 b1 : List GuardTree) (x : Row) (n u : ℕ) (q : IsPart w ss b0 b1 x n u) where
   pub two_gives : (f : Row → Row → Row) (v : List Bool → ℕ → WrittenTree) (b2 : List GuardTree) (x2 : Row) (n2 u2 : ℕ) (y : Result Part RowFault) →
-      IsPart (v (drop u ss) n) ss b1 b2 x2 n2 u2 → PartAnswer (f x x2) n2 u2 y → WrittenAnswer (from_two w (v w.signs w.next) (f w.row (v w.signs w.next).row)) ss b0 b2 y
+      IsPart (v (drop u ss) n) ss b1 b2 x2 n2 u2 → PartAnswer (f x x2) n2 u2 y →
+      WrittenAnswer (from_two w (v w.signs w.next) (f w.row (v w.signs w.next).row)) ss b0 b2 y
   two_gives f v b2 x2 n2 u2 y p g = both (v w.signs w.next) (rw (q.left, q.next_is) at p) y g
     where
-      both : (t : WrittenTree) → IsPart t ss b1 b2 x2 n2 u2 → (y : Result Part RowFault) → PartAnswer (f x x2) n2 u2 y → WrittenAnswer (from_two w t (f w.row t.row)) ss b0 b2 y
+      both : (t : WrittenTree) → IsPart t ss b1 b2 x2 n2 u2 → (y : Result Part RowFault) → PartAnswer (f x x2) n2 u2 y →
+          WrittenAnswer (from_two w t (f w.row t.row)) ss b0 b2 y
       both t p (Ok z) g = record {
         row_is = g.0 ∙ rw (← q.row_is, ← p.row_is) refl;
         guards_are = p.guards_are ∙ rw (q.guards_are, append_assoc) refl;
@@ -55,7 +58,8 @@ module _ (w : WrittenTree) (ss : List Bool) (b0 b1 : List GuardTree) (x : Row) (
       both t p (Err Past) g = rw (q.fits, p.fits, ← q.row_is, ← p.row_is) g
       both t p (Err NoMemory) g = tt
 
-  pub divided_gives : (f : ℕ → Row → Row) (k : ℤ) (b2 : List GuardTree) (y : Result Part RowFault) → DividedAnswer (f n x) n x k u b1 b2 y → WrittenAnswer (with_quotient w k (f w.next w.row)) ss b0 b2 y
+  pub divided_gives : (f : ℕ → Row → Row) (k : ℤ) (b2 : List GuardTree) (y : Result Part RowFault) → DividedAnswer (f n x) n x k u b1 b2 y →
+      WrittenAnswer (with_quotient w k (f w.next w.row)) ss b0 b2 y
   divided_gives f k b2 (Ok p) g = record {
     row_is = g.0 ∙ rw (← q.row_is, ← q.next_is) refl;
     guards_are = g.4 ∙ rw (q.guards_are, append_assoc, ← q.row_is, ← q.next_is) refl;

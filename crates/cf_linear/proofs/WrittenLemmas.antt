@@ -85,12 +85,14 @@ mod_is z k q = simp ring (omega (arith, ints))
 constant_is : (v : Values) → v 0 ≡ pos 1 → (r : Row) (x : ℤ) → IsConstant r → value v r ≡ x → entry r 0 ≡ x
 constant_is v one r x p e = let c : value v r ≡ entry r 0 *ℤ pos 1 = rw one at (p.is v) in sym (mul_one (entry r 0)) ∙ sym c ∙ e
 
-product-value : (v : Values) → v 0 ≡ pos 1 → (b : Bool) (r s : Row) (x y : ℤ) → value v r ≡ x → value v s ≡ y → (b ≡ true → IsConstant r) → (b ≡ false → IsConstant s) →
+product-value : (v : Values) → v 0 ≡ pos 1 → (b : Bool) (r s : Row) (x y : ℤ) → value v r ≡ x → value v s ≡ y → (b ≡ true → IsConstant r) →
+    (b ≡ false → IsConstant s) →
     value v (product_by b r s) ≡ x *ℤ y
 product-value v one true r s x y e f p q = value-times v (entry r 0) s ∙ rw (constant_is v one r x (p refl) e, f) refl
 product-value v one false r s x y e f p q = value-times v (entry s 0) r ∙ rw (constant_is v one s y (q refl) f, e) (omega (arith, ints))
 
-signed-value : (v : Values) → v 0 ≡ pos 1 → (b : Bool) (w : WrittenTree) (z : ℤ) → (GuardsHold v w.guards → value v w.row ≡ z) → GuardsHold v (signed_by b w).guards →
+signed-value : (v : Values) → v 0 ≡ pos 1 → (b : Bool) (w : WrittenTree) (z : ℤ) → (GuardsHold v w.guards → value v w.row ≡ z) →
+    GuardsHold v (signed_by b w).guards →
     value v (signed_by b w).row ≡ absolute z
 signed-value v one true w z e g =
     let h = GuardsHold-append v w.guards (sign_guard (plus (comb (negsuc 0) w.row (pos 0) []) (negsuc 0)) ∷ []) g in
@@ -129,7 +131,8 @@ write-value l v one (term_mul a b) ss q p g =
     let w = write l a ss q in
     let u = write l b w.signs w.next in
     let h = GuardsHold-append v w.guards u.guards g in
-    product-value v one (is_fixed a) w.row u.row (val_at l v a) (val_at l v b) (write-value l v one a ss q p.0 h.0) (write-value l v one b w.signs w.next p.1 h.1)
+    product-value v one (is_fixed a) w.row u.row (val_at l v a) (val_at l v b) (write-value l v one a ss q p.0 h.0)
+    (write-value l v one b w.signs w.next p.1 h.1)
     (λ e. constant-fixed l a ss q e) (λ e. constant-fixed l b w.signs w.next (other_side (is_fixed a) (is_fixed b) p.2 e))
 write-value l v one (term_div a k) ss q p g =
     let w = write l a ss q in
@@ -140,7 +143,8 @@ write-value l v one (term_mod a k) ss q p g =
     let h = GuardsHold-append v w.guards (quotient_guard w.next w.row k ∷ []) g in
     let x = write-value l v one a ss q p h.0 in
     let f : value v (put w.next (pos 1) []) ≡ quotient (val_at l v a) k = value-put v w.next (pos 1) [] ∙ one_z (v w.next) ∙ h.1.0 ∙ ap (λ z. quotient z k) x in
-    value-comb v (pos 1) w.row (neg_ℤ k) (put w.next (pos 1) []) ∙ ap (λ z. pos 1 *ℤ z +ℤ neg_ℤ k *ℤ value v (put w.next (pos 1) [])) x ∙ ap (λ y. pos 1 *ℤ val_at l v a +ℤ neg_ℤ k *ℤ y) f ∙ mod_is (val_at l v a) k (quotient (val_at l v a) k)
+    value-comb v (pos 1) w.row (neg_ℤ k) (put w.next (pos 1) []) ∙ ap (λ z. pos 1 *ℤ z +ℤ neg_ℤ k *ℤ value v (put w.next (pos 1) [])) x ∙
+    ap (λ y. pos 1 *ℤ val_at l v a +ℤ neg_ℤ k *ℤ y) f ∙ mod_is (val_at l v a) k (quotient (val_at l v a) k)
 write-value l v one (term_abs a) ss q p g =
     let w = write l a ss q in
     signed-value v one (first_sign w.signs) w (val_at l v a) (λ h. write-value l v one a ss q p h) g

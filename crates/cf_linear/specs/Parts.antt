@@ -45,13 +45,15 @@ PartAnswer r next used (Err e) = IsRowFault (row_passes r) e
 -- a part of the row f c r, after the guard of the quotient of r in column c was added
 abbrev pub DividedAnswer : Row → ℕ → Row → ℤ → ℕ → List GuardTree → List GuardTree → Result Part RowFault → Type 0
 DividedAnswer y c r k used before after (Ok p) =
-    (p.row ≡ y) × (p.next ≡ c + 1) × (p.used ≡ used) × ((row_passes (above_quotient c r k) || row_passes (below_quotient c r k)) ≡ false) × (after ≡ before ++ (quotient_guard c r k ∷ []))
+    (p.row ≡ y) × (p.next ≡ c + 1) × (p.used ≡ used) × ((row_passes (above_quotient c r k) || row_passes (below_quotient c r k)) ≡ false) ×
+    (after ≡ before ++ (quotient_guard c r k ∷ []))
 DividedAnswer y c r k used before after (Err e) = IsRowFault (row_passes (above_quotient c r k) || row_passes (below_quotient c r k)) e
 
 -- the row of the remainder, after the guard of the quotient in column c was added
 abbrev pub QuotientAnswer : ℕ → Row → ℤ → List GuardTree → List GuardTree → Result Row RowFault → Type 0
 QuotientAnswer c r k before after (Ok x) =
-    (x ≡ above_quotient c r k) × ((row_passes (above_quotient c r k) || row_passes (below_quotient c r k)) ≡ false) × (after ≡ before ++ (quotient_guard c r k ∷ []))
+    (x ≡ above_quotient c r k) × ((row_passes (above_quotient c r k) || row_passes (below_quotient c r k)) ≡ false) ×
+    (after ≡ before ++ (quotient_guard c r k ∷ []))
 QuotientAnswer c r k before after (Err e) = IsRowFault (row_passes (above_quotient c r k) || row_passes (below_quotient c r k)) e
 
 -- the guard g was added, or Past where b
@@ -70,11 +72,13 @@ bare r = record { row = r; guards = []; next = 0; signs = []; passes = false }
 
 -- the row with its sign, true being minus, after the guard of the sign was added
 abbrev pub SignedAnswer : Bool → Row → List GuardTree → List GuardTree → Result Row RowFault → Type 0
-SignedAnswer b r before after (Ok x) = (x ≡ (signed_by b (bare r)).row) × ((signed_by b (bare r)).passes ≡ false) × (after ≡ before ++ (signed_by b (bare r)).guards)
+SignedAnswer b r before after (Ok x) = (x ≡ (signed_by b (bare r)).row) × ((signed_by b (bare r)).passes ≡ false) ×
+    (after ≡ before ++ (signed_by b (bare r)).guards)
 SignedAnswer b r before after (Err e) = IsRowFault (signed_by b (bare r)).passes e
 
 -- the same of a part, with the first of the signs that are left
 abbrev pub AbsoluteAnswer : List Bool → List Bool → Row → ℕ → List GuardTree → List GuardTree → Result Part RowFault → Type 0
 AbsoluteAnswer rest signs r next before after (Ok p) =
-    (p.row ≡ (signed_by (first_sign rest) (bare r)).row) × (p.next ≡ next) × (drop p.used signs ≡ other_signs rest) × ((signed_by (first_sign rest) (bare r)).passes ≡ false) × (after ≡ before ++ (signed_by (first_sign rest) (bare r)).guards)
+    (p.row ≡ (signed_by (first_sign rest) (bare r)).row) × (p.next ≡ next) × (drop p.used signs ≡ other_signs rest) ×
+    ((signed_by (first_sign rest) (bare r)).passes ≡ false) × (after ≡ before ++ (signed_by (first_sign rest) (bare r)).guards)
 AbsoluteAnswer rest signs r next before after (Err e) = IsRowFault (signed_by (first_sign rest) (bare r)).passes e

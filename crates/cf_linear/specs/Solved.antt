@@ -90,6 +90,7 @@ SameKnown m v w = (c : ℕ) → In c m.known → v c ≡ w c
 
 -- some tuple meets the needs where some unknowns satisfy the system, and at each tuple that meets them the way back gives such unknowns
 pub record SolvedBy (m : System) (a : Answer) : Type 0 where
-  pub meets : (v : Values) → v 0 ≡ pos 1 → (w : Values) → SameKnown m v w → Sat m w → (ks : List ℤ) × InBounds a.bounds ks × NeedsHold (set_tuple v a.bounds ks) a.steps
+  pub meets : (v : Values) → v 0 ≡ pos 1 → (w : Values) → SameKnown m v w → Sat m w →
+      (ks : List ℤ) × InBounds a.bounds ks × NeedsHold (set_tuple v a.bounds ks) a.steps
   pub found : (v : Values) → v 0 ≡ pos 1 → (ks : List ℤ) → InBounds a.bounds ks → NeedsHold (set_tuple v a.bounds ks) a.steps →
       SameKnown m v (after_back (after a v ks) a.back) × Sat m (after_back (after a v ks) a.back)

@@ -62,7 +62,8 @@ clean_stage l s =
 
 -- a Merge of the first two unknowns of the first equation, or its end; where it has no unknown, a Clean comes first
 unfoldable pub equation_stage : Limits → State → Row → List Row → List ℕ → Stage
-equation_stage l s e rest [] = goes (record { system = s.system; tuples = s.tuples; is_past_clean = false }) (record { answer = no_answer s.system; factor = 1 })
+equation_stage l s e rest [] = goes (record { system = s.system; tuples = s.tuples; is_past_clean = false })
+    (record { answer = no_answer s.system; factor = 1 })
 equation_stage l s e rest (u ∷ []) =
     let a = last s.system e rest u in
     within_counts l (last_passes s.system e rest u) (record { system = a.system; tuples = s.tuples; is_past_clean = false })

@@ -125,7 +125,8 @@ mix m x y a b c d =
 
 abbrev pub mix_passes : System → ℕ → ℕ → ℤ → ℤ → ℤ → ℤ → Bool
 mix_passes m x y a b c d =
-    list_any (λ r. subst_passes y (two_at c m.next d (m.next + 1)) r || subst_passes x (two_at a m.next b (m.next + 1)) (subst_row y (two_at c m.next d (m.next + 1)) r)) (m.equations ++ m.inequalities)
+    list_any (λ r. subst_passes y (two_at c m.next d (m.next + 1)) r || subst_passes x (two_at a m.next b (m.next + 1))
+    (subst_row y (two_at c m.next d (m.next + 1)) r)) (m.equations ++ m.inequalities)
 
 -- the factors of a Merge of two unknowns with coefficients a and b: x1 = s * u - (b / g) * v and x2 = t * u + (a / g) * v
 pub record Factors : Type 0 where
@@ -271,7 +272,15 @@ no_found m = record { next = m.next; columns = []; unknowns = []; equations = []
 
 abbrev pub searched_as : System → Found → Answer
 searched_as m s = record {
-  system = record { known = m.known ++ s.columns; unknown = m.unknown ++ s.unknowns; next = s.next; equations = m.equations ++ s.equations; inequalities = s.rows; needs = m.needs };
+  system = record {
+    known = m.known ++ s.columns;
+    unknown = m.unknown ++ s.unknowns;
+    next = s.next;
+    equations = m.equations ++ s.equations;
+    inequalities =
+        s.rows;
+    needs = m.needs;
+  };
   steps = [];
   back = [];
   bounds = s.bounds;

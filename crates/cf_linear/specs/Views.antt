@@ -18,7 +18,15 @@ abbrev pub plain_layout : DeclaredLayout → Layout
 plain_layout l = record { scope = l.scope; numbers = l.numbers.items; inputs = l.inputs.items; out_numbers = l.out_numbers.items; out_sets = l.out_sets.items }
 
 abbrev pub system_of : DeclaredSystem → System
-system_of s = record { known = s.known.items; unknown = s.unknown.items; next = s.next; equations = s.equations.items; inequalities = s.inequalities.items; needs = s.needs }
+system_of s = record {
+  known = s.known.items;
+  unknown = s.unknown.items;
+  next = s.next;
+  equations = s.equations.items;
+  inequalities =
+      s.inequalities.items;
+  needs = s.needs;
+}
 
 abbrev pub step_of : DeclaredStep → Step
 step_of (Let c r g) = floor_of c r g

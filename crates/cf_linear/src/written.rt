@@ -54,7 +54,8 @@ pub fn row_of(
     ensures row { IfOk result (λ w. w.row ≡ (write (plain_layout layout.now) (term_tree term.now) signs.now next).row) }
     ensures guards { IfOk result (λ w. map guard_of w.guards.items ≡ (write (plain_layout layout.now) (term_tree term.now) signs.now next).guards) }
     ensures next { IfOk result (λ w. w.next ≡ (write (plain_layout layout.now) (term_tree term.now) signs.now next).next) }
-    ensures value { IfOk result (λ w. (v : Values) → v 0 ≡ pos 1 → GuardsHold v (map guard_of w.guards.items) → value v w.row ≡ val_at (plain_layout layout.now) v (term_tree term.now)) }
+    ensures value { IfOk result (λ w. (v : Values) → v 0 ≡ pos 1 → GuardsHold v (map guard_of w.guards.items) →
+        value v w.row ≡ val_at (plain_layout layout.now) v (term_tree term.now)) }
     ensures fits { IfOk result (λ w. (write (plain_layout layout.now) (term_tree term.now) signs.now next).passes ≡ false) }
     ensures past { result ≡ Err RowFault.Past → (write (plain_layout layout.now) (term_tree term.now) signs.now next).passes ≡ true }
 {
@@ -123,7 +124,8 @@ fn part_of(
     requires sets { set_count (plain_layout layout.now) ≤ MOST_SETS }
     requires above { first_free (plain_layout layout.now) ≤ next }
     requires room { next + quotient_count (term_tree term.now) < 2 ^ 32 }
-    ensures gives { WrittenAnswer (write (plain_layout layout.now) (term_tree term.now) (drop used signs.now) next) signs.now (map guard_of guards.old.items) (map guard_of guards.new.items) result }
+    ensures gives { WrittenAnswer (write (plain_layout layout.now) (term_tree term.now) (drop used signs.now) next) signs.now (map guard_of guards.old.items)
+        (map guard_of guards.new.items) result }
     ensures next { IfOk result (λ p. p.next ≡ next + quotient_count (term_tree term.now)) }
 {
     match term {
@@ -281,7 +283,8 @@ fn remainder_of(
     requires column { 1 ≤ part.next }
     requires room { part.next + 1 < 2 ^ 32 }
     requires divisor { IsDivisor k.now }
-    ensures { DividedAnswer (above_quotient part.next part.row k.now) part.next part.row k.now part.used (map guard_of guards.old.items) (map guard_of guards.new.items) result }
+    ensures { DividedAnswer (above_quotient part.next part.row k.now) part.next part.row k.now part.used (map guard_of guards.old.items)
+        (map guard_of guards.new.items) result }
 {
     let (column, used) = (part.next, part.used);
     let row = add_quotient(alloc, guards, column, part.row, k)?;
@@ -377,7 +380,8 @@ fn add_sign(alloc: Global, guards: &mut Vec<Guard>, minus: bool, row: Row) -> Re
 
 // Adds the guard of a minus, and gives the row back, which has the sign.
 fn add_minus(alloc: Global, guards: &mut Vec<Guard>, row: Row) -> Result<Row, RowFault>
-    ensures { BackAnswer row (row_passes (plus row (negsuc 0))) (sign_guard (plus row (negsuc 0))) (map guard_of guards.old.items) (map guard_of guards.new.items) result }
+    ensures { BackAnswer row (row_passes (plus row (negsuc 0))) (sign_guard (plus row (negsuc 0))) (map guard_of guards.old.items)
+        (map guard_of guards.new.items) result }
 {
     match add_less(alloc, guards, &row) {
         Ok(()) => Ok(row),
@@ -387,7 +391,8 @@ fn add_minus(alloc: Global, guards: &mut Vec<Guard>, row: Row) -> Result<Row, Ro
 
 // Adds the guard that the row is at least 1.
 fn add_less(alloc: Global, guards: &mut Vec<Guard>, row: &Row) -> Result<(), RowFault>
-    ensures { GuardAnswer (row_passes (plus row.now (negsuc 0))) (sign_guard (plus row.now (negsuc 0))) (map guard_of guards.old.items) (map guard_of guards.new.items) result }
+    ensures { GuardAnswer (row_passes (plus row.now (negsuc 0))) (sign_guard (plus row.now (negsuc 0))) (map guard_of guards.old.items)
+        (map guard_of guards.new.items) result }
 {
     let guard = plus(alloc, row, -1)?;
     guards.push(Guard::Sign(guard))?;

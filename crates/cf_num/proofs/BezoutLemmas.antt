@@ -47,7 +47,8 @@ module _ (a b x u n v m : ℕ) (g s t : ℤ) (gx : g ≡ pos x) (b_some : 1 ≤ 
       let q : m * x ≡ a = omega (arith, h.a_is) in
       let k = some_part n x b p b_some in
       let e : x + v * b ≡ n * a = rw un at h.signs.0 in
-      IsBezout-from a b x n m u v p q h.some (inl h.signs.0) g s t gx (rw (s_is, t_is) (simp ring (omega (arith, ints, crossed a b x n m p q)))) (omega (arith, ints)) (omega (arith, ints))
+      IsBezout-from a b x n m u v p q h.some (inl h.signs.0) g s t gx (rw (s_is, t_is) (simp ring (omega (arith, ints, crossed a b x n m p q))))
+      (omega (arith, ints)) (omega (arith, ints))
 
   pub even_part : Step a b true x 0 u n v m → u ≢ n → s ≡ pos u → t ≡ pos 0 -ℤ pos v → IsBezout (pos a) (pos b) (record { g = g; s = s; t = t })
   even_part h un s_is t_is =
@@ -73,7 +74,8 @@ module _ (a b x u n v m : ℕ) (g s t : ℤ) (gx : g ≡ pos x) (b_some : 1 ≤ 
       let k = some_part n x b p b_some in
       let o = low_order u n 0 x k h.order in
       let e = h.signs.0 in
-      IsBezout-from a b x n m u v p q h.some (inr e) g s t gx (rw (s_is, t_is) (simp ring (omega (arith, ints, crossed a b x n m p q)))) (omega (arith, ints)) (omega (arith, ints))
+      IsBezout-from a b x n m u v p q h.some (inr e) g s t gx (rw (s_is, t_is) (simp ring (omega (arith, ints, crossed a b x n m p q)))) (omega (arith, ints))
+      (omega (arith, ints))
 
 -- the last of Euclid's numbers is at most b
 pub last_low : (a b : ℕ) (even : Bool) (x y u n v m : ℕ) → 1 ≤ b → y ≡ 0 → Step a b even x y u n v m → x ≤ b

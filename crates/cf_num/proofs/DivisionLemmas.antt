@@ -10,8 +10,10 @@ use Rattle.cf_num.proofs.Orders.{mul-le_z, le_or_lt_z, lt-mul_cancel_z}
 
 -- `int_div_euclid a k`, for k at least 1, is the one n with n * k <= a < n * k + k
 pub int_div_euclid-bounds : (a k : ℤ) → pos 0 <ℤ k → ((k *ℤ int_div_euclid a k) ≤ℤ a) × (a <ℤ (k *ℤ int_div_euclid a k +ℤ k))
-int_div_euclid-bounds (pos a) (pos k) h = let p : 0 < k = omega (arith, ints) in (omega (arith, ints, div-add-mod a k), omega (arith, ints, mod-lt a p, div-add-mod a k))
-int_div_euclid-bounds (negsuc a) (pos k) h = let p : 0 < k = omega (arith, ints) in (omega (arith, ints, mod-lt a p, div-add-mod a k), omega (arith, ints, div-add-mod a k))
+int_div_euclid-bounds (pos a) (pos k) h = let p : 0 < k = omega (arith, ints) in
+    (omega (arith, ints, div-add-mod a k), omega (arith, ints, mod-lt a p, div-add-mod a k))
+int_div_euclid-bounds (negsuc a) (pos k) h = let p : 0 < k = omega (arith, ints) in
+    (omega (arith, ints, mod-lt a p, div-add-mod a k), omega (arith, ints, div-add-mod a k))
 int_div_euclid-bounds a (negsuc k) h = absurd (omega (arith, ints))
 
 -- n is at most the quotient exactly where n * k is at most a

@@ -82,9 +82,11 @@ int_div_euclid-negsuc (negsuc a) n = refl
 -- the quotient of a multiple
 pub int_div_euclid-multiple : (b t : ℤ) → b ≢ pos 0 → int_div_euclid (b *ℤ t) b ≡ t
 int_div_euclid-multiple (pos zero) t h = absurd (h refl)
-int_div_euclid-multiple (pos (suc n)) t h = int_div_euclid_once (pos (suc n) *ℤ t) (pos (suc n)) t (omega (arith, ints)) (omega (arith, ints)) (omega (arith, ints))
+int_div_euclid-multiple (pos (suc n)) t h =
+    int_div_euclid_once (pos (suc n) *ℤ t) (pos (suc n)) t (omega (arith, ints)) (omega (arith, ints)) (omega (arith, ints))
 int_div_euclid-multiple (negsuc n) t h =
-    let q = int_div_euclid_once (negsuc n *ℤ t) (pos (suc n)) (neg_ℤ t) (omega (arith, ints)) (simp ring (omega (arith, ints))) (simp ring (omega (arith, ints))) in
+    let q = int_div_euclid_once (negsuc n *ℤ t) (pos (suc n)) (neg_ℤ t) (omega (arith, ints)) (simp ring (omega (arith, ints)))
+    (simp ring (omega (arith, ints))) in
     int_div_euclid-negsuc (negsuc n *ℤ t) n ∙ ap neg_ℤ q ∙ omega (arith, ints)
 
 -- what a division by a positive number leaves
@@ -120,8 +122,10 @@ some_factor (suc n) (suc g) b e h = (omega arith, omega arith)
 below : (s n g y : ℤ) → pos 0 <ℤ g → n *ℤ g ≡ y → s <ℤ n → (s *ℤ g) <ℤ y
 below s n g y h e k = let l = mul-lt_z g s n h k in omega (arith, ints, mul_comm_z g s, mul_comm_z g n)
 
-parts_from : (a b : ℤ) (g : ℕ) (u v : ℤ) → a ≢ pos 0 → b ≢ pos 0 → IsGcd (unsigned_abs a) (unsigned_abs b) g → u *ℤ pos (unsigned_abs a) +ℤ v *ℤ pos (unsigned_abs b) ≡ pos g →
-    (s : ℤ) → s ≡ int_rem_euclid (sign_of a *ℤ u) (pos (unsigned_abs b / g)) → IsBezout a b (record { g = pos g; s = s; t = int_div_euclid (pos g -ℤ s *ℤ a) b })
+parts_from : (a b : ℤ) (g : ℕ) (u v : ℤ) → a ≢ pos 0 → b ≢ pos 0 → IsGcd (unsigned_abs a) (unsigned_abs b) g →
+    u *ℤ pos (unsigned_abs a) +ℤ v *ℤ pos (unsigned_abs b) ≡ pos g →
+    (s : ℤ) → s ≡ int_rem_euclid (sign_of a *ℤ u) (pos (unsigned_abs b / g)) →
+    IsBezout a b (record { g = pos g; s = s; t = int_div_euclid (pos g -ℤ s *ℤ a) b })
 parts_from a b g u v h k d e s s_is =
     let n = unsigned_abs b / g in
     let m = unsigned_abs a / g in
@@ -134,7 +138,8 @@ parts_from a b g u v h k d e s s_is =
     let bounds = int_div_euclid-bounds z (pos n) (omega (arith, ints)) in
     let t = sign_of b *ℤ (v +ℤ q *ℤ (sign_of a *ℤ pos m)) in
     let eq : pos g -ℤ (z -ℤ pos n *ℤ q) *ℤ a ≡ b *ℤ t =
-    algebra a b u v (sign_of a) (sign_of b) q (pos n) (pos m) (pos g) (pos (unsigned_abs a)) (pos (unsigned_abs b)) (sign_times a).0 (sign_times a).1 (sym (sign_times b).0) (ap pos en) (ap pos em) e in
+    algebra a b u v (sign_of a) (sign_of b) q (pos n) (pos m) (pos g) (pos (unsigned_abs a)) (pos (unsigned_abs b)) (sign_times a).0 (sign_times a).1
+    (sym (sign_times b).0) (ap pos en) (ap pos em) e in
     let eq_s : pos g -ℤ s *ℤ a ≡ b *ℤ t = ap (λ x. pos g -ℤ x *ℤ a) r ∙ eq in
     let t_is : int_div_euclid (pos g -ℤ s *ℤ a) b ≡ t = ap (λ x. int_div_euclid x b) eq_s ∙ int_div_euclid-multiple b t k in
     record {
@@ -153,7 +158,8 @@ parts_of-is a b h k =
     parts_from a b (gcd_of x y) (factors_by y x y).0 (factors_by y x y).1 h k (gcd_of-is x y) (factors_by-is y x y (omega arith)) _ refl
 
 -- a factor t with n * t = g - s * a is at most a in absolute value
-size_of_second : (a x n g s t : ℤ) → pos 0 <ℤ n → pos 0 <ℤ g → g ≤ℤ x → neg_ℤ x ≤ℤ a → a ≤ℤ x → pos 0 ≤ℤ s → s <ℤ n → n *ℤ t ≡ g -ℤ s *ℤ a → (neg_ℤ x ≤ℤ t) × (t ≤ℤ x)
+size_of_second : (a x n g s t : ℤ) → pos 0 <ℤ n → pos 0 <ℤ g → g ≤ℤ x → neg_ℤ x ≤ℤ a → a ≤ℤ x → pos 0 ≤ℤ s → s <ℤ n → n *ℤ t ≡ g -ℤ s *ℤ a →
+    (neg_ℤ x ≤ℤ t) × (t ≤ℤ x)
 size_of_second a x n g s t some g_low g_high a_low a_high low high e =
     let l1 = simp ring at (mul-le_z s (neg_ℤ x) a low a_low) in
     let l2 = mul-le_z s a x low a_high in
@@ -182,7 +188,8 @@ t_within a b p h k i =
     let e = i.sum in
     let f = simp ring at (ap (λ z. p.t *ℤ z) sb.1) in
     let eq : pos (unsigned_abs b) *ℤ (sign_of b *ℤ p.t) ≡ p.g -ℤ p.s *ℤ a = simp ring (omega (arith, ints)) in
-    let r = size_of_second a (pos (unsigned_abs a)) (pos (unsigned_abs b)) p.g p.s (sign_of b *ℤ p.t) (omega (arith, ints)) i.positive d.0 (omega (arith, ints)) (omega (arith, ints)) i.low d.1 eq in
+    let r = size_of_second a (pos (unsigned_abs a)) (pos (unsigned_abs b)) p.g p.s (sign_of b *ℤ p.t) (omega (arith, ints)) i.positive d.0 (omega (arith, ints))
+    (omega (arith, ints)) i.low d.1 eq in
     same_size b p.t r
   where
     same_size : (b t : ℤ) → (neg_ℤ (pos (unsigned_abs a)) ≤ℤ (sign_of b *ℤ t)) × ((sign_of b *ℤ t) ≤ℤ pos (unsigned_abs a)) → unsigned_abs t ≤ unsigned_abs a

@@ -10,7 +10,8 @@ below_from_IsGcd zero zero g m h p q = let e = eq-zero_of_zero-dvd (h.2 0 (dvd-z
 below_from_IsGcd (suc a) b g m h p q = let e = le_of_dvd (let z : 0 < suc a = omega arith in z) h.0 in omega arith
 below_from_IsGcd zero (suc b) g m h p q = let e = le_of_dvd (let z : 0 < suc b = omega arith in z) h.1 in omega arith
 
-signs-step : (even : Bool) (a b x y q r u0 u1 v0 v1 : ℕ) → y * q + r ≡ x → Signs even a b x y u0 u1 v0 v1 → Signs (not even) a b y r u1 (u0 + q * u1) v1 (v0 + q * v1)
+signs-step : (even : Bool) (a b x y q r u0 u1 v0 v1 : ℕ) → y * q + r ≡ x → Signs even a b x y u0 u1 v0 v1 →
+    Signs (not even) a b y r u1 (u0 + q * u1) v1 (v0 + q * v1)
 signs-step true a b x y q r u0 u1 v0 v1 e h = (h.1, omega (arith, h.0, ap (λ z. z * q) h.1))
 signs-step false a b x y q r u0 u1 v0 v1 e h = (h.1, omega (arith, h.0, ap (λ z. z * q) h.1))
 
@@ -18,7 +19,8 @@ order-step : (x y q r u0 u1 : ℕ) → y * q + r ≡ x → r < y → ((u0 ≤ u1
 order-step x y zero r u0 u1 e s h = ⊎_elim (λ p. absurd (omega arith)) (λ p. inl (omega arith)) h
 order-step x y (suc q) r u0 u1 e s h = inl (omega arith)
 
-pub Step-next : (a b : ℕ) (even : Bool) (x y u0 u1 v0 v1 : ℕ) → 0 < y → Step a b even x y u0 u1 v0 v1 → Step a b (not even) y (x % y) u1 (u0 + x / y * u1) v1 (v0 + x / y * v1)
+pub Step-next : (a b : ℕ) (even : Bool) (x y u0 u1 v0 v1 : ℕ) → 0 < y → Step a b even x y u0 u1 v0 v1 →
+    Step a b (not even) y (x % y) u1 (u0 + x / y * u1) v1 (v0 + x / y * v1)
 Step-next a b even x y u0 u1 v0 v1 p h =
     let d = div-add-mod x y in
     let s = mod-lt x p in

@@ -38,7 +38,8 @@ t_low a b p ha hb i =
     let sb = mul-le_z (pos a) p.s (pos b) (omega (arith, ints)) (omega (arith, ints)) in
     let up : p.t ≤ℤ pos 1 = le-mul_cancel_z (pos b) p.t (pos 1) (omega (arith, ints)) (omega (arith, ints, mul_comm_z p.t (pos b), mul_comm_z p.s (pos a))) in
     let pg = i.positive in
-    let down : neg_ℤ (pos a) ≤ℤ p.t = le-mul_cancel_z (pos b) (neg_ℤ (pos a)) p.t (omega (arith, ints)) (simp ring (omega (arith, ints, mul_comm_z p.t (pos b), mul_comm_z p.s (pos a), mul_comm_z (pos a) (pos b)))) in
+    let down : neg_ℤ (pos a) ≤ℤ p.t = le-mul_cancel_z (pos b) (neg_ℤ (pos a)) p.t (omega (arith, ints))
+    (simp ring (omega (arith, ints, mul_comm_z p.t (pos b), mul_comm_z p.s (pos a), mul_comm_z (pos a) (pos b)))) in
     (omega (arith, ints), up)
 
 abs-neg : (a : ℤ) → unsigned_abs (neg_ℤ a) ≡ unsigned_abs a
@@ -46,7 +47,8 @@ abs-neg (pos zero) = refl
 abs-neg (pos (suc n)) = refl
 abs-neg (negsuc n) = refl
 
-module _ (a b : ℕ) (p : Positive) (a_some : 1 ≤ a) (b_some : 1 ≤ b) (i : IsBezout (pos a) (pos b) p.parts) (n_is : p.n *ℤ p.parts.g ≡ pos b) (m_is : p.m *ℤ p.parts.g ≡ pos a) where
+module _ (a b : ℕ) (p : Positive) (a_some : 1 ≤ a) (b_some : 1 ≤ b) (i : IsBezout (pos a) (pos b) p.parts) (n_is : p.n *ℤ p.parts.g ≡ pos b)
+    (m_is : p.m *ℤ p.parts.g ≡ pos a) where
   pub s_high : p.parts.s <ℤ p.n
   s_high = let h = i.high in lt-mul_cancel_z p.parts.g p.parts.s p.n i.positive (omega (arith, ints, mul_comm_z p.parts.s p.parts.g, mul_comm_z p.n p.parts.g))
 
@@ -66,7 +68,8 @@ module _ (a b : ℕ) (p : Positive) (a_some : 1 ≤ a) (b_some : 1 ≤ b) (i : I
       omega (arith, ints)
 
   pub turned_is : IsBezout (neg_ℤ (pos a)) (pos b) (first_turned_of true p)
-  turned_is = cond_both (unsigned_abs p.parts.s == 0) p.parts (record { g = p.parts.g; s = p.n -ℤ p.parts.s; t = p.parts.t +ℤ p.m }) (λ x. IsBezout (neg_ℤ (pos a)) (pos b) x)
+  turned_is = cond_both (unsigned_abs p.parts.s == 0) p.parts (record { g = p.parts.g; s = p.n -ℤ p.parts.s; t = p.parts.t +ℤ p.m })
+      (λ x. IsBezout (neg_ℤ (pos a)) (pos b) x)
       (λ e. let z = eqb-true (unsigned_abs p.parts.s) 0 e in let sum = i.sum in
       let s0 : p.parts.s ≡ pos 0 = omega (arith, ints) in
       record {
@@ -98,7 +101,8 @@ second_is a b p t i e =
       divisor = rw (abs-neg (pos b)) i.divisor;
     }
 
-pub turned_value : (turned : Bool) (p : Positive) (g s t : ℤ) → turned ≡ true → p.parts.s ≢ pos 0 → g ≡ p.parts.g → s ≡ p.n -ℤ p.parts.s → t ≡ p.parts.t +ℤ p.m →
+pub turned_value : (turned : Bool) (p : Positive) (g s t : ℤ) → turned ≡ true → p.parts.s ≢ pos 0 → g ≡ p.parts.g → s ≡ p.n -ℤ p.parts.s →
+    t ≡ p.parts.t +ℤ p.m →
     ◌≡◌ {A = GcdParts} (record { g = g; s = s; t = t }) (first_turned_of turned p)
 turned_value turned p g s t e n eg es et =
     rw (e, eg, es, et) (cond_both (unsigned_abs p.parts.s == 0) p.parts (record { g = p.parts.g; s = p.n -ℤ p.parts.s; t = p.parts.t +ℤ p.m })
@@ -106,7 +110,8 @@ turned_value turned p g s t e n eg es et =
     (λ h. absurd (n (let z = eqb-true (unsigned_abs p.parts.s) 0 h in omega (arith, ints)))) (λ h. refl))
 
 -- what `first_turned` asks
-pub small_is : (a b : ℕ) (p : Positive) → 1 ≤ a → 1 ≤ b → a < 2 ^ 127 → b < 2 ^ 127 → IsBezout (pos a) (pos b) p.parts → p.n *ℤ p.parts.g ≡ pos b → p.m *ℤ p.parts.g ≡ pos a → FirstSmall p
+pub small_is : (a b : ℕ) (p : Positive) → 1 ≤ a → 1 ≤ b → a < 2 ^ 127 → b < 2 ^ 127 → IsBezout (pos a) (pos b) p.parts → p.n *ℤ p.parts.g ≡ pos b →
+    p.m *ℤ p.parts.g ≡ pos a → FirstSmall p
 small_is a b p ha hb la lb i n_is m_is =
     let h = s_high a b p ha hb i n_is m_is in
     let g = i.positive in
@@ -131,12 +136,15 @@ small_is a b p ha hb la lb i n_is m_is =
 pub signed_first : (a : ℤ) (x b : ℕ) (t : Bool) (p : Positive) → x ≡ unsigned_abs a → 1 ≤ x → 1 ≤ b → (t ≡ true → a <ℤ pos 0) → (t ≡ false → pos 0 ≤ℤ a) →
     IsBezout (pos x) (pos b) p.parts → p.n *ℤ p.parts.g ≡ pos b → p.m *ℤ p.parts.g ≡ pos x → IsBezout a (pos b) (first_turned_of t p)
 signed_first a x b false p e h k f g i n_is m_is = let l = g refl in let same : pos x ≡ a = omega (arith, ints) in rw (← same) i
-signed_first a x b true p e h k f g i n_is m_is = let l = f refl in let same : neg_ℤ (pos x) ≡ a = omega (arith, ints) in rw (← same) (turned_is x b p h k i n_is m_is)
+signed_first a x b true p e h k f g i n_is m_is = let l = f refl in let same : neg_ℤ (pos x) ≡ a = omega (arith, ints) in
+    rw (← same) (turned_is x b p h k i n_is m_is)
 
-pub signed_second : (a b : ℤ) (y : ℕ) (p : GcdParts) (g s t : ℤ) → y ≡ unsigned_abs b → b <ℤ pos 0 → IsBezout a (pos y) p → g ≡ p.g → s ≡ p.s → t ≡ neg_ℤ p.t → IsBezout a b (record { g = g; s = s; t = t })
+pub signed_second : (a b : ℤ) (y : ℕ) (p : GcdParts) (g s t : ℤ) → y ≡ unsigned_abs b → b <ℤ pos 0 → IsBezout a (pos y) p → g ≡ p.g → s ≡ p.s → t ≡ neg_ℤ p.t →
+    IsBezout a b (record { g = g; s = s; t = t })
 signed_second a b y p g s t e l i eg es et = let same : neg_ℤ (pos y) ≡ b = omega (arith, ints) in rw (← same, eg, es) (second_is a y p t i et)
 
-pub turned_t_low : (turned : Bool) (a b : ℕ) (p : Positive) → 1 ≤ a → 1 ≤ b → IsBezout (pos a) (pos b) p.parts → p.n *ℤ p.parts.g ≡ pos b → p.m *ℤ p.parts.g ≡ pos a → pos 0 ≤ℤ ((first_turned_of turned p).t +ℤ pos a)
+pub turned_t_low : (turned : Bool) (a b : ℕ) (p : Positive) → 1 ≤ a → 1 ≤ b → IsBezout (pos a) (pos b) p.parts → p.n *ℤ p.parts.g ≡ pos b →
+    p.m *ℤ p.parts.g ≡ pos a → pos 0 ≤ℤ ((first_turned_of turned p).t +ℤ pos a)
 turned_t_low false a b p ha hb i n_is m_is = (t_low a b p.parts ha hb i).0
 turned_t_low true a b p ha hb i n_is m_is =
     let l = (t_low a b p.parts ha hb i).0 in

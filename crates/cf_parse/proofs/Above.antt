@@ -18,7 +18,8 @@ pub read_none : (n : ℕ) (tier : Tier) (ts : List Token) → n ≡ 0 → read n
 unfolding read
 read_none n tier ts h = rw h refl
 
-pub chain_stops : (part : Parts) (tier : Tier) (n k : ℕ) (left : RawTree) (ts : List Token) → at (next_op tier n (raw_depth left)) ts ≡ None → chain_of part tier n k left ts ≡ Ok (left, ts)
+pub chain_stops : (part : Parts) (tier : Tier) (n k : ℕ) (left : RawTree) (ts : List Token) → at (next_op tier n (raw_depth left)) ts ≡ None →
+    chain_of part tier n k left ts ≡ Ok (left, ts)
 unfolding chain_of pure first
 chain_stops part tier n zero left ts h = refl
 chain_stops part tier n (suc k) left ts h = rw (chain_of, first, h, pure) refl
@@ -27,7 +28,8 @@ pub chain_ends : (part : Parts) (tier : Tier) (n k : ℕ) (left : RawTree) (ts :
 unfolding chain_of pure
 chain_ends part tier n k left ts h = rw h refl
 
-pub chain_goes : (part : Parts) (tier : Tier) (n k j : ℕ) (left : RawTree) (ts : List Token) (p : Place) (op : BinOp) (us : List Token) (r : RawTree) (vs : List Token) →
+pub chain_goes : (part : Parts) (tier : Tier) (n k j : ℕ) (left : RawTree) (ts : List Token) (p : Place) (op : BinOp) (us : List Token) (r : RawTree)
+    (vs : List Token) →
     at (next_op tier n (raw_depth left)) ts ≡ Some ((p, op), us) → part (under tier) us ≡ Ok (r, vs) → k ≡ suc j →
     chain_of part tier n k left ts ≡ chain_of part tier n j (raw_binary p op left r) vs
 unfolding chain_of first bind

@@ -67,8 +67,12 @@ pub record OpFound (tier : Tier) (n d : ℕ) (ts : List Token) (o : Place × Bin
 op_at_on : (tier : Tier) (p : Place) (o : Option BinOp) (x : Place × BinOp) → op_at tier p o ≡ Some x → (o ≡ Some x.1) × (p ≡ x.0) × (op_tier x.1 ≡ tier)
 op_at_on tier p None x e = cc
 op_at_on tier p (Some op) x e =
-    let h = if_some (nat_eq (rank (op_tier op)) (rank tier)) (p, op) x e in
-    (ap (λ z. Some z.1) h.1, ap (λ z. z.0) h.1, subst (λ z. op_tier z ≡ tier) (ap (λ z. z.1) h.1) (same_rank (op_tier op) tier (eqb-true (rank (op_tier op)) (rank tier) h.0)))
+    let h = if_some (nat_eq (rank (op_tier op)) (rank tier)) (p, op) x e in (
+      ap (λ z. Some z.1) h.1,
+      ap (λ z. z.0) h.1,
+      subst (λ z. op_tier z ≡ tier) (ap (λ z. z.1) h.1)
+          (same_rank (op_tier op) tier (eqb-true (rank (op_tier op)) (rank tier) h.0)),
+    )
 
 next_on : (b : Bool) (o : Option (Place × BinOp)) (x : Place × BinOp) → cond b o None ≡ Some x → (b ≡ true) × (o ≡ Some x)
 next_on true o x e = (refl, e)
@@ -113,7 +117,8 @@ cond_on : (b : Bool) (o : Option (Place × ℤ)) (k : Place × ℤ) → cond b o
 cond_on true o k e = (refl, e)
 cond_on false o k e = cc
 
-factor_on : (n : ℕ) (o : Option (Place × ℤ)) (q : Option Place) (k : Place × ℤ) → factor_of n o q ≡ Some k → (o ≡ Some k) × (1 ≤ n) × (pos 1 ≤ℤ k.1) × ((p : Place) × (q ≡ Some p))
+factor_on : (n : ℕ) (o : Option (Place × ℤ)) (q : Option Place) (k : Place × ℤ) → factor_of n o q ≡ Some k →
+    (o ≡ Some k) × (1 ≤ n) × (pos 1 ≤ℤ k.1) × ((p : Place) × (q ≡ Some p))
 factor_on n None q k e = cc
 factor_on n (Some j) None k e = cc
 factor_on n (Some j) (Some p) k e =
@@ -135,7 +140,8 @@ param_yields ts =
     bind_yields _ _ ts (must_yields _ ts) (λ x a n. bind_yields _ _ a (must_yields _ a) (λ p b c. bind_yields _ _ b (must_yields _ b) (λ base us d.
     pure_yields _ us (a, took_name ts a x n, (b, took_next _ a b p c, took_base b us base d)))))
 
-added_names : (xs : List (List ℕ)) (qs : List Place) (new : List (Place × List ℕ)) → added named (xs, qs) new ≡ (xs ++ map (λ x. x.1) new, qs ++ map (λ x. x.0) new)
+added_names : (xs : List (List ℕ)) (qs : List Place) (new : List (Place × List ℕ)) →
+    added named (xs, qs) new ≡ (xs ++ map (λ x. x.1) new, qs ++ map (λ x. x.0) new)
 added_names xs qs [] = ap (λ (ys : List (List ℕ)). (ys, qs)) (sym (append-nil xs)) ∙ ap (λ (ys : List Place). (xs ++ [], ys)) (sym (append-nil qs))
 added_names xs qs (x ∷ new) =
     added_names (xs ++ x.1 ∷ []) (qs ++ x.0 ∷ []) new
@@ -151,9 +157,11 @@ name_yields ts = widen (λ x us w. took_name ts us x w) (must_yields a_name ts)
 pub names_yields : (ts : List Token) → Yields (λ y us. SpellsNames y.0 y.1 ts us) (names_of ts)
 unfolding names_of
 names_yields ts =
-    widen (λ y us w. let e = w.1 ∙ all_names w.0 in (w.0, ap (λ z. z.0) e, ap (λ z. z.1) e, w.2)) (one_or_tuple_yields named (must a_name) SpellsName ([], []) name_yields ts)
+    widen (λ y us w. let e = w.1 ∙ all_names w.0 in (w.0, ap (λ z. z.0) e, ap (λ z. z.1) e, w.2))
+    (one_or_tuple_yields named (must a_name) SpellsName ([], []) name_yields ts)
 
-pub params_yields : (ts : List Token) → Yields (λ y us. Several SpellsParam (Sign (codes ",")) (Sign (codes ")")) y ts us) (several_of snoc param_of (Sign (codes ",")) (Sign (codes ")")) [] ts)
+pub params_yields : (ts : List Token) → Yields (λ y us. Several SpellsParam (Sign (codes ",")) (Sign (codes ")")) y ts us)
+    (several_of snoc param_of (Sign (codes ",")) (Sign (codes ")")) [] ts)
 params_yields ts =
     widen (λ y us w. subst (λ z. Several SpellsParam (Sign (codes ",")) (Sign (codes ")")) z ts us) (sym (w.1 ∙ all_added w.0)) w.2)
     (several_yields snoc param_of SpellsParam (Sign (codes ",")) (Sign (codes ")")) param_yields [] ts)
@@ -170,7 +178,8 @@ unfolding term_of
 term_yields minus ts =
     first_yields _ _ _ ts
     (λ k a n. first_yields _ _ _ a
-    (λ p b s. bind_yields _ _ b (must_yields _ b) (λ x us w. pure_yields _ us (inr (k.1, (a, (k.0, took_literal (pos 0) ts a k n), (b, took_next _ a b p s, took_name b us x w)), refl))))
+    (λ p b s. bind_yields _ _ b (must_yields _ b)
+    (λ x us w. pure_yields _ us (inr (k.1, (a, (k.0, took_literal (pos 0) ts a k n), (b, took_next _ a b p s, took_name b us x w)), refl))))
     (pure_yields _ a (k.1, (k.0, took_literal (pos 0) ts a k n), refl)))
     (bind_yields _ _ ts (must_yields _ ts) (λ x us w. pure_yields _ us (inl (took_name ts us x w, refl))))
 
@@ -180,12 +189,15 @@ pub record TermsFound (minus : Bool) (done : List Part) (ts : List Token) (y : P
   pub all : y.0 ≡ done ++ new
   pub spelled : SpellsSigned minus new y.1 ts us
 
-behind : (minus sign : Bool) (done : List Part) (ts a b us : List Token) (x : Part) (y : Pattern) → SpellsPart minus x ts a → Next (plus_or_minus sign) a b → (new : List Part) → y.0 ≡ (done ++ x ∷ []) ++ new →
+behind : (minus sign : Bool) (done : List Part) (ts a b us : List Token) (x : Part) (y : Pattern) → SpellsPart minus x ts a → Next (plus_or_minus sign) a b →
+    (new : List Part) → y.0 ≡ (done ++ x ∷ []) ++ new →
     SpellsSigned sign new y.1 b us → TermsFound minus done ts y us
 behind minus sign done ts a b us x y w n [] e s = record { new = x ∷ []; all = e ∙ append-nil (done ++ x ∷ []); spelled = (a, w, inr (sign, (b, n, s))) }
-behind minus sign done ts a b us x y w n (z ∷ zs) e s = record { new = x ∷ z ∷ zs; all = e ∙ append_assoc done (x ∷ []) (z ∷ zs); spelled = (a, w, (sign, (b, n, s))) }
+behind minus sign done ts a b us x y w n (z ∷ zs) e s =
+    record { new = x ∷ z ∷ zs; all = e ∙ append_assoc done (x ∷ []) (z ∷ zs); spelled = (a, w, (sign, (b, n, s))) }
 
-term_case : {Q : Pattern → List Token → Type 0} (minus : Bool) (ts a : List Token) (f : ℤ → Reader Pattern) (g : Part → Reader Pattern) (term : Term) → SpellsTerm minus term ts a →
+term_case : {Q : Pattern → List Token → Type 0} (minus : Bool) (ts a : List Token) (f : ℤ → Reader Pattern) (g : Part → Reader Pattern) (term : Term) →
+    SpellsTerm minus term ts a →
     ((k : ℤ) → SpellsConstant minus k ts a → Yields Q (f k a)) → ((x : Part) → SpellsPart minus x ts a → Yields Q (g x a)) → Yields Q (by_term term f g a)
 term_case minus ts a f g (the_constant k) w h i = h k w
 term_case minus ts a f g (a_part x) w h i = i x w
@@ -196,14 +208,16 @@ terms_yields zero minus done ts = faults 0
 terms_yields (suc k) minus done ts = bind_yields _ _ ts (term_yields minus ts) (λ term a w. term_case minus ts a _ _ term w
     (λ n v. pure_yields (done, n) a (record { new = []; all = sym (append-nil done); spelled = v }))
     (λ x v. first_yields _ _ _ a
-    (λ sign b n. widen (λ y us more. behind minus sign done ts a b us x y v (took_sign a b sign n) more.new more.all more.spelled) (terms_yields k sign (done ++ x ∷ []) b))
+    (λ sign b n. widen (λ y us more. behind minus sign done ts a b us x y v (took_sign a b sign n) more.new more.all more.spelled)
+    (terms_yields k sign (done ++ x ∷ []) b))
     (pure_yields (done ++ x ∷ [], pos 0) a (record { new = x ∷ []; all = refl; spelled = (a, v, inl (refl, refl)) }))))
 
 pub pattern_yields : (ts : List Token) → Yields (λ y us. SpellsPattern y.0 y.1 ts us) (pattern_of ts)
 unfolding pattern_of all_terms
 pattern_yields ts =
     first_yields _ _ _ ts
-    (λ p a n. widen (λ y us w. inr (a, took_next _ ts a p n, subst (λ z. SpellsSigned true z y.1 a us) (sym w.all) w.spelled)) (terms_yields (length a) true [] a))
+    (λ p a n. widen (λ y us w. inr (a, took_next _ ts a p n, subst (λ z. SpellsSigned true z y.1 a us) (sym w.all) w.spelled))
+    (terms_yields (length a) true [] a))
     (widen (λ y us w. inl (subst (λ z. SpellsSigned false z y.1 ts us) (sym w.all) w.spelled)) (terms_yields (length ts) false [] ts))
 
 -- expressions
@@ -218,7 +232,8 @@ pub record Found (n : ℕ) (tier : Tier) (ts : List Token) (t : RawTree) (us : L
 unfoldable pub Finds : Parts → ℕ → Type 0
 Finds part n = (tier : Tier) (ts : List Token) → Yields (Found n tier ts) (part tier ts)
 
-others_spelled : (n : ℕ) (close : TokenKind) (es : List RawTree) (ts us : List Token) → Others (λ t ts us. Found n Whole ts t us) (Sign (codes ",")) close es ts us →
+others_spelled : (n : ℕ) (close : TokenKind) (es : List RawTree) (ts us : List Token) →
+    Others (λ t ts us. Found n Whole ts t us) (Sign (codes ",")) close es ts us →
     (raws_depth (raws_of es) ≤ n) × SpellsOthers (raws_of es) close ts us
 others_spelled n close [] ts us w = (omega arith, w)
 others_spelled n close (e ∷ es) ts us (a, c, (b, f, o)) = let h = others_spelled n close es b us o in (omega (arith, f.deep, h.0), (a, c, (b, f.spelled, h.1)))
@@ -234,10 +249,12 @@ pub record ListFound (n : ℕ) (close : TokenKind) (ts : List Token) (es : List 
   pub spelled : Spells head ts mid
   pub more : SpellsOthers (raws_of others) close mid us
 
-several_found : (n : ℕ) (close : TokenKind) (ts us : List Token) (y new : List RawTree) → y ≡ new → Several (λ t ts us. Found n Whole ts t us) (Sign (codes ",")) close new ts us → ListFound n close ts y us
+several_found : (n : ℕ) (close : TokenKind) (ts us : List Token) (y new : List RawTree) → y ≡ new →
+    Several (λ t ts us. Found n Whole ts t us) (Sign (codes ",")) close new ts us → ListFound n close ts y us
 several_found n close ts us y [] e w = absurd w
 several_found n close ts us y (t ∷ new) e (a, f, o) =
-    let h = others_spelled n close new a us o in record { head = t; others = new; mid = a; all = e; deep = f.deep; deep_others = h.0; spelled = f.spelled; more = h.1 }
+    let h = others_spelled n close new a us o in
+    record { head = t; others = new; mid = a; all = e; deep = f.deep; deep_others = h.0; spelled = f.spelled; more = h.1 }
 
 pub list_yields : (part : Parts) (n : ℕ) → Finds part n → (close : TokenKind) (ts : List Token) → Yields (ListFound n close ts) (list_of part close ts)
 unfolding list_of Finds
@@ -252,18 +269,22 @@ ItemsFound n close ts es us = (raws_depth (raws_of es) ≤ n) × SpellsItems (ra
 list_items : (n : ℕ) (close : TokenKind) (ts us : List Token) (es : List RawTree) → ListFound n close ts es us → ItemsFound n close ts es us
 list_items n close ts us es w = subst (λ z. ItemsFound n close ts z us) (sym w.all) (omega (arith, w.deep, w.deep_others), (w.mid, w.spelled, w.more))
 
-pub items_yields : (part : Parts) (n : ℕ) → Finds part n → (close : TokenKind) (ts : List Token) → Yields (λ es us. ItemsFound n close ts es us) (items_of part close ts)
+pub items_yields : (part : Parts) (n : ℕ) → Finds part n → (close : TokenKind) (ts : List Token) →
+    Yields (λ es us. ItemsFound n close ts es us) (items_of part close ts)
 unfolding items_of
 items_yields part n h close ts =
-    first_yields _ _ _ ts (λ p a c. pure_yields [] a (omega arith, took_next close ts a p c)) (widen (λ es us w. list_items n close ts us es w) (list_yields part n h close ts))
+    first_yields _ _ _ ts (λ p a c. pure_yields [] a (omega arith, took_next close ts a p c))
+    (widen (λ es us w. list_items n close ts us es w) (list_yields part n h close ts))
 
 -- trees in parentheses, by how many they are
-group_found : (n : ℕ) (p : Place) (ts b mid : List Token) (e : RawTree) (others : List RawTree) (us : List Token) → First p (Sign (codes "(")) ts b → raw_depth e ≤ n → raws_depth (raws_of others) ≤ n →
+group_found : (n : ℕ) (p : Place) (ts b mid : List Token) (e : RawTree) (others : List RawTree) (us : List Token) → First p (Sign (codes "(")) ts b →
+    raw_depth e ≤ n → raws_depth (raws_of others) ≤ n →
     Spells e b mid → SpellsOthers (raws_of others) (Sign (codes ")")) mid us → Found (suc n) Unary ts (grouped p (e ∷ others)) us
 group_found n p ts b mid e [] us w d ds s more = record { fits = omega arith; deep = omega (arith, d); spelled = (b, w, (mid, s, more)) }
 group_found n p ts b mid e (f ∷ fs) us w d ds s more = record { fits = omega arith; deep = omega (arith, d, ds); spelled = (b, w, (mid, s, more)) }
 
-grouped_found : (n : ℕ) (p : Place) (ts a : List Token) (es : List RawTree) (us : List Token) → First p (Sign (codes "(")) ts a → ListFound n (Sign (codes ")")) a es us → Found (suc n) Unary ts (grouped p es) us
+grouped_found : (n : ℕ) (p : Place) (ts a : List Token) (es : List RawTree) (us : List Token) → First p (Sign (codes "(")) ts a →
+    ListFound n (Sign (codes ")")) a es us → Found (suc n) Unary ts (grouped p es) us
 grouped_found n p ts a es us w l =
     subst (λ z. Found (suc n) Unary ts (grouped p z) us) (sym l.all) (group_found n p ts a l.mid l.head l.others us w l.deep l.deep_others l.spelled l.more)
 
@@ -280,16 +301,30 @@ inside_yields part n h ts =
 -- "(" expr "," literal ")"
 abbrev DividedFound : ℕ → List Token → RawTree × ℤ → List Token → Type 0
 DividedFound n ts e us =
-    (a b c d : List Token) × Next (Sign (codes "(")) ts a × Spells e.0 a b × Next (Sign (codes ",")) b c × ((q : Place) × FirstLiteral (pos 1) q e.1 c d) × Next (Sign (codes ")")) d us × (raw_depth e.0 ≤ n)
+    (a b c d : List Token) × Next (Sign (codes "(")) ts a × Spells e.0 a b × Next (Sign (codes ",")) b c × ((q : Place) × FirstLiteral (pos 1) q e.1 c d) ×
+    Next (Sign (codes ")")) d us × (raw_depth e.0 ≤ n)
 
 divided_yields : (part : Parts) (n : ℕ) → Finds part n → (ts : List Token) → Yields (λ e us. DividedFound n ts e us) (divided_of part ts)
 unfolding divided_of Finds
 divided_yields part n h ts =
-    bind_yields _ _ ts (must_yields _ ts) (λ p a o. bind_yields _ _ a (h Whole a) (λ e b f. bind_yields _ _ b (must_yields _ b) (λ q c m. bind_yields _ _ c (must_yields _ c) (λ k d l.
+    bind_yields _ _ ts (must_yields _ ts) (λ p a o. bind_yields _ _ a (h Whole a)
+    (λ e b f. bind_yields _ _ b (must_yields _ b) (λ q c m. bind_yields _ _ c (must_yields _ c) (λ k d l.
     bind_yields _ _ d (must_yields _ d) (λ r us s.
-    pure_yields (e, k.1) us (a, b, c, d, took_next _ ts a p o, f.spelled, took_next _ b c q m, (k.0, took_literal (pos 1) c d k l), took_next _ d us r s, f.deep))))))
+    pure_yields (e, k.1) us (
+      a,
+      b,
+      c,
+      d,
+      took_next _ ts a p o,
+      f.spelled,
+      took_next _ b c q m,
+      (k.0, took_literal (pos 1) c d k l),
+      took_next _ d us r s,
+      f.deep,
+    ))))))
 
-call_found : (n : ℕ) (ts a b us : List Token) (x : Place × List ℕ) (es : List RawTree) → FirstName x.0 x.1 ts a → Next (Sign (codes "(")) a b → ItemsFound n (Sign (codes ")")) b es us →
+call_found : (n : ℕ) (ts a b us : List Token) (x : Place × List ℕ) (es : List RawTree) → FirstName x.0 x.1 ts a → Next (Sign (codes "(")) a b →
+    ItemsFound n (Sign (codes ")")) b es us →
     Found (suc n) Unary ts (raw_call x.0 x.1 (raws_of es)) us
 call_found n ts a b us x es w o i = record { fits = omega arith; deep = omega (arith, i.0); spelled = (a, w, (b, o, i.1)) }
 
@@ -297,36 +332,48 @@ named_yields : (part : Parts) (n : ℕ) → Finds part n → (ts : List Token) �
 unfolding named_of
 named_yields part n h ts =
     bind_yields _ _ ts (must_yields _ ts) (λ x a w. first_yields _ _ _ a
-    (λ p b o. bind_yields _ _ b (items_yields part n h (Sign (codes ")")) b) (λ es us i. pure_yields _ us (call_found n ts a b us x es (took_name ts a x w) (took_next _ a b p o) i)))
+    (λ p b o. bind_yields _ _ b (items_yields part n h (Sign (codes ")")) b)
+    (λ es us i. pure_yields _ us (call_found n ts a b us x es (took_name ts a x w) (took_next _ a b p o) i)))
     (pure_yields _ a (record { fits = omega arith; deep = omega arith; spelled = took_name ts a x w })))
 
-card_found : (n : ℕ) (p : Place) (ts a : List Token) (e : RawTree) (us : List Token) → First p (Word (codes "card")) ts a → InsideFound n a e us → Found (suc n) Unary ts (raw_card p e) us
+card_found : (n : ℕ) (p : Place) (ts a : List Token) (e : RawTree) (us : List Token) → First p (Word (codes "card")) ts a → InsideFound n a e us →
+    Found (suc n) Unary ts (raw_card p e) us
 card_found n p ts a e us w (b, c, o, s, cl, d) = record { fits = omega arith; deep = omega (arith, d); spelled = (a, w, (b, o, (c, s, cl))) }
 
-abs_found : (n : ℕ) (p : Place) (ts a : List Token) (e : RawTree) (us : List Token) → First p (Word (codes "abs")) ts a → InsideFound n a e us → Found (suc n) Unary ts (raw_abs p e) us
+abs_found : (n : ℕ) (p : Place) (ts a : List Token) (e : RawTree) (us : List Token) → First p (Word (codes "abs")) ts a → InsideFound n a e us →
+    Found (suc n) Unary ts (raw_abs p e) us
 abs_found n p ts a e us w (b, c, o, s, cl, d) = record { fits = omega arith; deep = omega (arith, d); spelled = (a, w, (b, o, (c, s, cl))) }
 
-div_found : (n : ℕ) (p : Place) (ts a : List Token) (e : RawTree × ℤ) (us : List Token) → First p (Word (codes "div")) ts a → DividedFound n a e us → Found (suc n) Unary ts (raw_div p e.0 e.1) us
-div_found n p ts a e us w (b, c, d, f, o, s, m, l, cl, i) = record { fits = omega arith; deep = omega (arith, i); spelled = (a, w, (b, o, (c, s, (d, m, (f, l, cl))))) }
+div_found : (n : ℕ) (p : Place) (ts a : List Token) (e : RawTree × ℤ) (us : List Token) → First p (Word (codes "div")) ts a → DividedFound n a e us →
+    Found (suc n) Unary ts (raw_div p e.0 e.1) us
+div_found n p ts a e us w (b, c, d, f, o, s, m, l, cl, i) =
+    record { fits = omega arith; deep = omega (arith, i); spelled = (a, w, (b, o, (c, s, (d, m, (f, l, cl))))) }
 
-mod_found : (n : ℕ) (p : Place) (ts a : List Token) (e : RawTree × ℤ) (us : List Token) → First p (Word (codes "mod")) ts a → DividedFound n a e us → Found (suc n) Unary ts (raw_mod p e.0 e.1) us
-mod_found n p ts a e us w (b, c, d, f, o, s, m, l, cl, i) = record { fits = omega arith; deep = omega (arith, i); spelled = (a, w, (b, o, (c, s, (d, m, (f, l, cl))))) }
+mod_found : (n : ℕ) (p : Place) (ts a : List Token) (e : RawTree × ℤ) (us : List Token) → First p (Word (codes "mod")) ts a → DividedFound n a e us →
+    Found (suc n) Unary ts (raw_mod p e.0 e.1) us
+mod_found n p ts a e us w (b, c, d, f, o, s, m, l, cl, i) =
+    record { fits = omega arith; deep = omega (arith, i); spelled = (a, w, (b, o, (c, s, (d, m, (f, l, cl))))) }
 
 word_yields : (part : Parts) (n : ℕ) → Finds part n → (ts : List Token) → Yields (Found (suc n) Unary ts) (word_of part n ts)
 unfolding word_of
 word_yields part n h ts =
     first_yields _ _ _ ts (λ t a w. pure_yields _ a (record { fits = omega arith; deep = omega arith; spelled = took_truth ts a t w }))
-    (deep_yields _ _ _ _ ts (λ p a w. bind_yields _ _ a (inside_yields part n h a) (λ e us i. pure_yields _ us (card_found n p ts a e us (took_is _ ts a p w) i)))
-    (deep_yields _ _ _ _ ts (λ p a w. bind_yields _ _ a (inside_yields part n h a) (λ e us i. pure_yields _ us (abs_found n p ts a e us (took_is _ ts a p w) i)))
-    (deep_yields _ _ _ _ ts (λ p a w. bind_yields _ _ a (divided_yields part n h a) (λ e us i. pure_yields _ us (div_found n p ts a e us (took_is _ ts a p w) i)))
-    (deep_yields _ _ _ _ ts (λ p a w. bind_yields _ _ a (divided_yields part n h a) (λ e us i. pure_yields _ us (mod_found n p ts a e us (took_is _ ts a p w) i)))
+    (deep_yields _ _ _ _ ts (λ p a w. bind_yields _ _ a (inside_yields part n h a)
+    (λ e us i. pure_yields _ us (card_found n p ts a e us (took_is _ ts a p w) i)))
+    (deep_yields _ _ _ _ ts (λ p a w. bind_yields _ _ a (inside_yields part n h a)
+    (λ e us i. pure_yields _ us (abs_found n p ts a e us (took_is _ ts a p w) i)))
+    (deep_yields _ _ _ _ ts (λ p a w. bind_yields _ _ a (divided_yields part n h a)
+    (λ e us i. pure_yields _ us (div_found n p ts a e us (took_is _ ts a p w) i)))
+    (deep_yields _ _ _ _ ts (λ p a w. bind_yields _ _ a (divided_yields part n h a)
+    (λ e us i. pure_yields _ us (mod_found n p ts a e us (took_is _ ts a p w) i)))
     (named_yields part n h ts)))))
 
 atom_yields : (part : Parts) (n : ℕ) → Finds part n → (ts : List Token) → Yields (Found (suc n) Unary ts) (atom_of part n ts)
 unfolding atom_of
 atom_yields part n h ts =
     first_yields _ _ _ ts (λ k a w. pure_yields _ a (record { fits = omega arith; deep = omega arith; spelled = took_literal (pos 0) ts a k w }))
-    (deep_yields _ _ _ _ ts (λ p a w. bind_yields _ _ a (list_yields part n h (Sign (codes ")")) a) (λ es us l. pure_yields _ us (grouped_found n p ts a es us (took_is _ ts a p w) l)))
+    (deep_yields _ _ _ _ ts (λ p a w. bind_yields _ _ a (list_yields part n h (Sign (codes ")")) a)
+    (λ es us l. pure_yields _ us (grouped_found n p ts a es us (took_is _ ts a p w) l)))
     (first_yields _ _ _ ts (λ p a w. bind_yields _ _ a (items_yields part n h (Sign (codes "}")) a) (λ es us i.
     pure_yields _ us (record { fits = omega arith; deep = omega (arith, i.0); spelled = (a, took_is _ ts a p w, i.1) })))
     (word_yields part n h ts)))
@@ -334,8 +381,10 @@ atom_yields part n h ts =
 unary_yields : (part : Parts) (n : ℕ) → Finds part n → (ts : List Token) → Yields (Found (suc n) Unary ts) (unary_of part n ts)
 unfolding unary_of Finds
 unary_yields part n h ts =
-    deep_yields _ _ _ _ ts (λ p a w. bind_yields _ _ a (h Unary a) (λ e us f. pure_yields _ us (record { fits = omega arith; deep = omega (arith, f.deep); spelled = (a, took_is _ ts a p w, (f.fits, f.spelled)) })))
-    (deep_yields _ _ _ _ ts (λ p a w. bind_yields _ _ a (h Unary a) (λ e us f. pure_yields _ us (record { fits = omega arith; deep = omega (arith, f.deep); spelled = (a, took_is _ ts a p w, (f.fits, f.spelled)) })))
+    deep_yields _ _ _ _ ts (λ p a w. bind_yields _ _ a (h Unary a)
+    (λ e us f. pure_yields _ us (record { fits = omega arith; deep = omega (arith, f.deep); spelled = (a, took_is _ ts a p w, (f.fits, f.spelled)) })))
+    (deep_yields _ _ _ _ ts (λ p a w. bind_yields _ _ a (h Unary a)
+    (λ e us f. pure_yields _ us (record { fits = omega arith; deep = omega (arith, f.deep); spelled = (a, took_is _ ts a p w, (f.fits, f.spelled)) })))
     (atom_yields part n h ts))
 
 left_is : (tier : Tier) → 1 ≤ rank tier → (rank tier ≡ 3 → ⊥) → left_tier tier ≡ tier
@@ -353,7 +402,11 @@ made_op : (n : ℕ) (tier : Tier) (left : RawTree) (start ts : List Token) (o : 
 made_op n tier left start ts o b right us fit spelled op found = record {
   fits = let e : rank (op_tier o.1) ≡ rank tier = ap rank op.at_tier in omega (arith, e);
   deep = omega (arith, op.small, found.deep);
-  spelled = (ts, (subst (λ l. Fits (left_tier l) left) (sym op.at_tier) fit, spelled), (b, op.stands, (subst (λ l. Fits (under l) right) (sym op.at_tier) found.fits, found.spelled)));
+  spelled = (
+    ts,
+    (subst (λ l. Fits (left_tier l) left) (sym op.at_tier) fit, spelled),
+    (b, op.stands, (subst (λ l. Fits (under l) right) (sym op.at_tier) found.fits, found.spelled)),
+  );
 }
 
 chain_yields : (part : Parts) (n : ℕ) → Finds part n → (tier : Tier) → left_tier tier ≡ tier → (k : ℕ) (left : RawTree) (start ts : List Token) →
@@ -369,9 +422,11 @@ chain_yields part n h tier i (suc k) left start ts w =
 out : (n : ℕ) (inner outer : Tier) (ts : List Token) (t : RawTree) (us : List Token) → rank outer ≤ rank inner → Found n inner ts t us → Found n outer ts t us
 out n inner outer ts t us h found = record { fits = omega (arith, h, found.fits); deep = found.deep; spelled = found.spelled }
 
-chained : (part : Parts) (n : ℕ) → Finds part n → (inner tier : Tier) → left_tier tier ≡ tier → (first : Reader RawTree) (ts : List Token) → rank tier ≤ rank inner →
+chained : (part : Parts) (n : ℕ) → Finds part n → (inner tier : Tier) → left_tier tier ≡ tier → (first : Reader RawTree) (ts : List Token) →
+    rank tier ≤ rank inner →
     Yields (Found (suc n) inner ts) (first ts) → Yields (Found (suc n) tier ts) (bind first (λ e. chain_of part tier n n e) ts)
-chained part n h inner tier i first ts e w = bind_yields _ _ ts w (λ left us f. chain_yields part n h tier i n left ts us (out (suc n) inner tier ts left us e f))
+chained part n h inner tier i first ts e w =
+    bind_yields _ _ ts w (λ left us f. chain_yields part n h tier i n left ts us (out (suc n) inner tier ts left us e f))
 
 muls_yields : (part : Parts) (n : ℕ) → Finds part n → (ts : List Token) → Yields (Found (suc n) Muls ts) (muls_of part n ts)
 unfolding muls_of
@@ -381,7 +436,8 @@ sums_yields : (part : Parts) (n : ℕ) → Finds part n → (ts : List Token) �
 unfolding sums_of
 sums_yields part n h ts = chained part n h Muls Sums refl (muls_of part n) ts (omega arith) (muls_yields part n h ts)
 
-divides_found : (n : ℕ) (left : RawTree) (start ts a : List Token) (k : Place × ℤ) (e : RawTree) (us : List Token) → Spells left start ts → DividesFound n left ts k a → Found n Sums a e us →
+divides_found : (n : ℕ) (left : RawTree) (start ts a : List Token) (k : Place × ℤ) (e : RawTree) (us : List Token) → Spells left start ts →
+    DividesFound n left ts k a → Found n Sums a e us →
     Found (suc n) Cmps start (raw_divides k.0 k.1 e) us
 divides_found n left start ts a k e us s d f = record {
   fits = omega arith;
@@ -389,11 +445,14 @@ divides_found n left start ts a k e us s d f = record {
   spelled = (ts, ((subst (λ t. Spells t start ts) d.alone s).0, d.least), (a, d.stands, (f.fits, f.spelled)));
 }
 
-compared_yields : (part : Parts) (n : ℕ) → Finds part n → (left : RawTree) (start ts : List Token) → Found (suc n) Sums start left ts → Yields (Found (suc n) Cmps start) (compared_of part n left ts)
+compared_yields : (part : Parts) (n : ℕ) → Finds part n → (left : RawTree) (start ts : List Token) → Found (suc n) Sums start left ts →
+    Yields (Found (suc n) Cmps start) (compared_of part n left ts)
 unfolding compared_of Finds
 compared_yields part n h left start ts w =
-    first_yields _ _ _ ts (λ o b t. bind_yields _ _ b (h Sums b) (λ right us f. pure_yields _ us (made_op n Cmps left start ts o b right us w.fits w.spelled (took_op Cmps n (raw_depth left) ts b o t) f)))
-    (first_yields _ _ _ ts (λ k a t. bind_yields _ _ a (h Sums a) (λ e us f. pure_yields _ us (divides_found n left start ts a k e us w.spelled (took_divides n left ts a k t) f)))
+    first_yields _ _ _ ts (λ o b t. bind_yields _ _ b (h Sums b)
+    (λ right us f. pure_yields _ us (made_op n Cmps left start ts o b right us w.fits w.spelled (took_op Cmps n (raw_depth left) ts b o t) f)))
+    (first_yields _ _ _ ts (λ k a t. bind_yields _ _ a (h Sums a)
+    (λ e us f. pure_yields _ us (divides_found n left start ts a k e us w.spelled (took_divides n left ts a k t) f)))
     (pure_yields left ts (out (suc n) Sums Cmps start left ts (omega arith) w)))
 
 cmps_yields : (part : Parts) (n : ℕ) → Finds part n → (ts : List Token) → Yields (Found (suc n) Cmps ts) (cmps_of part n ts)
@@ -408,30 +467,36 @@ ors_yields : (part : Parts) (n : ℕ) → Finds part n → (ts : List Token) →
 unfolding ors_of
 ors_yields part n h ts = chained part n h Ands Ors refl (ands_of part n) ts (omega arith) (ands_yields part n h ts)
 
-let_yields : (part : Parts) (n : ℕ) → Finds part n → (p : Place) (start ts : List Token) → First p (Word (codes "let")) start ts → Yields (Found (suc n) Whole start) (let_of part p ts)
+let_yields : (part : Parts) (n : ℕ) → Finds part n → (p : Place) (start ts : List Token) → First p (Word (codes "let")) start ts →
+    Yields (Found (suc n) Whole start) (let_of part p ts)
 unfolding let_of Finds
 let_yields part n h p start ts w =
-    bind_yields _ _ ts (names_yields ts) (λ xs a x. bind_yields _ _ a (must_yields _ a) (λ q b m. bind_yields _ _ b (h Whole b) (λ e c f. bind_yields _ _ c (must_yields _ c) (λ r d i.
+    bind_yields _ _ ts (names_yields ts) (λ xs a x. bind_yields _ _ a (must_yields _ a)
+    (λ q b m. bind_yields _ _ b (h Whole b) (λ e c f. bind_yields _ _ c (must_yields _ c) (λ r d i.
     bind_yields _ _ d (h Whole d) (λ g us k. pure_yields _ us (record {
       fits = omega arith;
       deep = omega (arith, f.deep, k.deep);
       spelled = (ts, w, (a, x, (b, took_next _ a b q m, (c, f.spelled, (d, took_next _ c d r i, k.spelled)))));
     }))))))
 
-if_yields : (part : Parts) (n : ℕ) → Finds part n → (p : Place) (start ts : List Token) → First p (Word (codes "if")) start ts → Yields (Found (suc n) Whole start) (if_of part p ts)
+if_yields : (part : Parts) (n : ℕ) → Finds part n → (p : Place) (start ts : List Token) → First p (Word (codes "if")) start ts →
+    Yields (Found (suc n) Whole start) (if_of part p ts)
 unfolding if_of Finds
 if_yields part n h p start ts w =
-    bind_yields _ _ ts (h Whole ts) (λ e a f. bind_yields _ _ a (must_yields _ a) (λ q b m. bind_yields _ _ b (h Whole b) (λ g c i. bind_yields _ _ c (must_yields _ c) (λ r d j.
+    bind_yields _ _ ts (h Whole ts) (λ e a f. bind_yields _ _ a (must_yields _ a)
+    (λ q b m. bind_yields _ _ b (h Whole b) (λ g c i. bind_yields _ _ c (must_yields _ c) (λ r d j.
     bind_yields _ _ d (h Whole d) (λ k us l. pure_yields _ us (record {
       fits = omega arith;
       deep = omega (arith, f.deep, i.deep, l.deep);
       spelled = (ts, w, (a, f.spelled, (b, took_next _ a b q m, (c, i.spelled, (d, took_next _ c d r j, l.spelled)))));
     }))))))
 
-choose_yields : (part : Parts) (n : ℕ) → Finds part n → (p : Place) (start ts : List Token) → First p (Word (codes "choose")) start ts → Yields (Found (suc n) Whole start) (choose_of part p ts)
+choose_yields : (part : Parts) (n : ℕ) → Finds part n → (p : Place) (start ts : List Token) → First p (Word (codes "choose")) start ts →
+    Yields (Found (suc n) Whole start) (choose_of part p ts)
 unfolding choose_of Finds
 choose_yields part n h p start ts w =
-    bind_yields _ _ ts (must_yields _ ts) (λ q a o. bind_yields _ _ a (params_yields a) (λ outputs b l. bind_yields _ _ b (must_yields _ b) (λ r c m. bind_yields _ _ c (h Ors c) (λ e us f.
+    bind_yields _ _ ts (must_yields _ ts) (λ q a o. bind_yields _ _ a (params_yields a)
+    (λ outputs b l. bind_yields _ _ b (must_yields _ b) (λ r c m. bind_yields _ _ c (h Ors c) (λ e us f.
     pure_yields _ us (record {
       fits = omega arith;
       deep = omega (arith, f.deep);
@@ -474,7 +539,8 @@ arms_spelled : (n : ℕ) (arms : List RawArmTree) (ts us : List Token) → Other
 arms_spelled n [] ts us w = (omega arith, w)
 arms_spelled n (x ∷ arms) ts us (a, c, (b, f, o)) = let h = arms_spelled n arms b us o in (omega (arith, f.0, h.0), (a, c, (b, f.1, h.1)))
 
-match_found : (n : ℕ) (p : Place) (start ts a b c us : List Token) (e : RawTree) (y new : List RawArmTree) → First p (Word (codes "match")) start ts → Found n Whole ts e a →
+match_found : (n : ℕ) (p : Place) (start ts a b c us : List Token) (e : RawTree) (y new : List RawArmTree) → First p (Word (codes "match")) start ts →
+    Found n Whole ts e a →
     Next (Word (codes "with")) a b → Next (Sign (codes "{")) b c → y ≡ new → Several (ArmFound n) (Sign (codes ";")) (Sign (codes "}")) new c us →
     Found (suc n) Whole start (raw_match p e (raw_arms_of y)) us
 match_found n p start ts a b c us e y [] w f i o same l = absurd l
@@ -483,7 +549,8 @@ match_found n p start ts a b c us e y (arm ∷ arms) w f i o same (d, g, more) =
     subst (λ z. Found (suc n) Whole start (raw_match p e (raw_arms_of z)) us) (sym same)
     (record { fits = omega arith; deep = omega (arith, f.deep, g.0, h.0); spelled = (ts, w, (a, f.spelled, (b, i, (c, o, (d, g.1, h.1))))) })
 
-match_yields : (part : Parts) (n : ℕ) → Finds part n → (p : Place) (start ts : List Token) → First p (Word (codes "match")) start ts → Yields (Found (suc n) Whole start) (match_of part p ts)
+match_yields : (part : Parts) (n : ℕ) → Finds part n → (p : Place) (start ts : List Token) → First p (Word (codes "match")) start ts →
+    Yields (Found (suc n) Whole start) (match_of part p ts)
 unfolding match_of Finds
 match_yields part n h p start ts w =
     bind_yields _ _ ts (h Whole ts) (λ e a f. bind_yields _ _ a (must_yields _ a) (λ q b m. bind_yields _ _ b (must_yields _ b) (λ r c o.

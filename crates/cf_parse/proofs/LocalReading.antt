@@ -31,7 +31,8 @@ unfolding term_of
 term_local minus =
     first_local _ (λ k. first_local _ (λ p. bind_local (must_local _) (λ x. pure_local _)) (pure_local _)) (bind_local (must_local _) (λ x. pure_local _))
 
-by_term_local : {more other : List Token} {f f' : ℤ → Reader Pattern} {g g' : Part → Reader Pattern} (term : Term) → ((k : ℤ) → Local more other (f k) (f' k)) → ((x : Part) → Local more other (g x) (g' x)) →
+by_term_local : {more other : List Token} {f f' : ℤ → Reader Pattern} {g g' : Part → Reader Pattern} (term : Term) → ((k : ℤ) → Local more other (f k) (f' k)) →
+    ((x : Part) → Local more other (g x) (g' x)) →
     Local more other (by_term term f g) (by_term term f' g')
 by_term_local (the_constant k) h i = h k
 by_term_local (a_part x) h i = i x
@@ -40,7 +41,8 @@ terms_local : {more other : List Token} (j k : ℕ) (minus : Bool) (done : List 
 unfolding terms_of
 terms_local zero k minus done = end_local _
 terms_local (suc j) zero minus done =
-    any_local (bind_local (term_local minus) (λ term. by_term_local term (λ k. pure_local _) (λ x. first_local _ (λ sign. terms_local j j sign _) (pure_local _))))
+    any_local (bind_local (term_local minus)
+    (λ term. by_term_local term (λ k. pure_local _) (λ x. first_local _ (λ sign. terms_local j j sign _) (pure_local _))))
 terms_local (suc j) (suc k) minus done =
     bind_local (term_local minus) (λ term. by_term_local term (λ k. pure_local _) (λ x. first_local _ (λ sign. terms_local j k sign _) (pure_local _)))
 
@@ -59,16 +61,19 @@ pattern_local = first_local _ (λ p. all_terms_local _) (all_terms_local _)
 unfoldable pub LocalParts : List Token → List Token → Parts → Type 0
 LocalParts more other part = (tier : Tier) → Local more other (part tier) (part tier)
 
-chain_local : {more other : List Token} (part : Parts) → LocalParts more other part → (tier : Tier) (n k : ℕ) (left : RawTree) → Local more other (chain_of part tier n k left) (chain_of part tier n k left)
+chain_local : {more other : List Token} (part : Parts) → LocalParts more other part → (tier : Tier) (n k : ℕ) (left : RawTree) →
+    Local more other (chain_of part tier n k left) (chain_of part tier n k left)
 unfolding chain_of LocalParts
 chain_local part h tier n zero left = pure_local _
 chain_local part h tier n (suc k) left = first_local _ (λ o. bind_local (h _) (λ right. chain_local part h tier n k _)) (pure_local _)
 
-list_local : {more other : List Token} (part : Parts) → LocalParts more other part → (close : TokenKind) → Local more other (list_of part close) (list_of part close)
+list_local : {more other : List Token} (part : Parts) → LocalParts more other part → (close : TokenKind) →
+    Local more other (list_of part close) (list_of part close)
 unfolding list_of LocalParts
 list_local part h close = several_local _ _ _ _ (h _)
 
-items_local : {more other : List Token} (part : Parts) → LocalParts more other part → (close : TokenKind) → Local more other (items_of part close) (items_of part close)
+items_local : {more other : List Token} (part : Parts) → LocalParts more other part → (close : TokenKind) →
+    Local more other (items_of part close) (items_of part close)
 unfolding items_of
 items_local part h close = first_local _ (λ p. pure_local _) (list_local part h close)
 
@@ -78,7 +83,8 @@ inside_local part h = bind_local (must_local _) (λ p. bind_local (h _) (λ e. b
 
 divided_local : {more other : List Token} (part : Parts) → LocalParts more other part → Local more other (divided_of part) (divided_of part)
 unfolding divided_of LocalParts
-divided_local part h = bind_local (must_local _) (λ p. bind_local (h _) (λ e. bind_local (must_local _) (λ q. bind_local (must_local _) (λ k. bind_local (must_local _) (λ r. pure_local _)))))
+divided_local part h = bind_local (must_local _)
+    (λ p. bind_local (h _) (λ e. bind_local (must_local _) (λ q. bind_local (must_local _) (λ k. bind_local (must_local _) (λ r. pure_local _)))))
 
 named_local : {more other : List Token} (part : Parts) → LocalParts more other part → Local more other (named_of part) (named_of part)
 unfolding named_of
@@ -132,15 +138,18 @@ ors_local part h n = bind_local (ands_local part h n) (λ e. chain_local part h 
 
 let_local : {more other : List Token} (part : Parts) → LocalParts more other part → (p : Place) → Local more other (let_of part p) (let_of part p)
 unfolding let_of LocalParts
-let_local part h p = bind_local names_local (λ xs. bind_local (must_local _) (λ q. bind_local (h _) (λ e. bind_local (must_local _) (λ r. bind_local (h _) (λ f. pure_local _)))))
+let_local part h p = bind_local names_local
+    (λ xs. bind_local (must_local _) (λ q. bind_local (h _) (λ e. bind_local (must_local _) (λ r. bind_local (h _) (λ f. pure_local _)))))
 
 if_local : {more other : List Token} (part : Parts) → LocalParts more other part → (p : Place) → Local more other (if_of part p) (if_of part p)
 unfolding if_of LocalParts
-if_local part h p = bind_local (h _) (λ e. bind_local (must_local _) (λ q. bind_local (h _) (λ f. bind_local (must_local _) (λ r. bind_local (h _) (λ g. pure_local _)))))
+if_local part h p = bind_local (h _) (λ e. bind_local (must_local _)
+    (λ q. bind_local (h _) (λ f. bind_local (must_local _) (λ r. bind_local (h _) (λ g. pure_local _)))))
 
 choose_local : {more other : List Token} (part : Parts) → LocalParts more other part → (p : Place) → Local more other (choose_of part p) (choose_of part p)
 unfolding choose_of LocalParts
-choose_local part h p = bind_local (must_local _) (λ q. bind_local (several_local _ _ _ _ param_local) (λ xs. bind_local (must_local _) (λ r. bind_local (h _) (λ e. pure_local _))))
+choose_local part h p = bind_local (must_local _)
+    (λ q. bind_local (several_local _ _ _ _ param_local) (λ xs. bind_local (must_local _) (λ r. bind_local (h _) (λ e. pure_local _))))
 
 pub arm_local : {more other : List Token} (part : Parts) → LocalParts more other part → Local more other (arm_of part) (arm_of part)
 unfolding arm_of LocalParts
@@ -148,7 +157,8 @@ arm_local part h = bind_local pattern_local (λ x. bind_local (must_local _) (λ
 
 match_local : {more other : List Token} (part : Parts) → LocalParts more other part → (p : Place) → Local more other (match_of part p) (match_of part p)
 unfolding match_of LocalParts
-match_local part h p = bind_local (h _) (λ e. bind_local (must_local _) (λ q. bind_local (must_local _) (λ r. bind_local (several_local _ _ _ _ (arm_local part h)) (λ arms. pure_local _))))
+match_local part h p = bind_local (h _) (λ e. bind_local (must_local _)
+    (λ q. bind_local (must_local _) (λ r. bind_local (several_local _ _ _ _ (arm_local part h)) (λ arms. pure_local _))))
 
 whole_local : {more other : List Token} (part : Parts) → LocalParts more other part → (n : ℕ) → Local more other (whole_of part n) (whole_of part n)
 unfolding whole_of
@@ -159,7 +169,8 @@ whole_local part h n =
     deep_local _ _ (λ p. match_local part h p) (
     ors_local part h n))))
 
-step_local : {more other : List Token} (part : Parts) → LocalParts more other part → (n : ℕ) (tier : Tier) → Local more other (step part n tier) (step part n tier)
+step_local : {more other : List Token} (part : Parts) → LocalParts more other part → (n : ℕ) (tier : Tier) →
+    Local more other (step part n tier) (step part n tier)
 unfolding step
 step_local part h n Whole = whole_local part h n
 step_local part h n Ors = ors_local part h n

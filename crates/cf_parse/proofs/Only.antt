@@ -43,7 +43,12 @@ unfolding at
 stops_end tier = record { call = refl; divides = λ h. refl; ops = λ inner n d h. refl }
 
 pub stops_in : (tier outer : Tier) (ts : List Token) → rank outer ≤ rank tier → Stops outer ts → Stops tier ts
-stops_in tier outer ts e s = record { call = s.call; divides = λ h. s.divides (omega (arith, e, h)); ops = λ inner n d h. s.ops inner n d (omega (arith, e, h)) }
+stops_in tier outer ts e s = record {
+  call = s.call;
+  divides = λ h. s.divides (omega (arith, e, h));
+  ops =
+      λ inner n d h. s.ops inner n d (omega (arith, e, h));
+}
 
 -- a token that ends an expression
 pub record Closes (k : TokenKind) : Type 0 where
@@ -94,7 +99,8 @@ same_both false o = refl
 
 not_next : (inner : Tier) (n d : ℕ) (k : TokenKind) (ts us : List Token) (p : Place) → op_of k ≡ None → First p k ts us → at (next_op inner n d) ts ≡ None
 unfolding at next_op
-not_next inner n d k ts us p e w = ap (at (next_op inner n d)) w ∙ ap (λ o. before us (cond (nat_le d n) (op_at inner p o) None)) e ∙ ap (λ o. before us o) (same_both (nat_le d n) None)
+not_next inner n d k ts us p e w = ap (at (next_op inner n d)) w ∙ ap (λ o. before us (cond (nat_le d n) (op_at inner p o) None)) e ∙
+    ap (λ o. before us o) (same_both (nat_le d n) None)
 
 pub stops_at : (tier : Tier) (k : TokenKind) (ts us : List Token) → Closes k → Next k ts us → Stops tier ts
 stops_at tier k ts us c (p, w) = record {
@@ -143,7 +149,8 @@ false_from false h = refl
 
 not_op_at : (inner : Tier) (p : Place) (op : BinOp) → rank (op_tier op) < rank inner → op_at inner p (Some op) ≡ None
 not_op_at inner p op h =
-    ap (λ b. cond b (Some (p, op)) None) (false_from (nat_eq (rank (op_tier op)) (rank inner)) (λ e. let s : rank (op_tier op) ≡ rank inner = eqb-true (rank (op_tier op)) (rank inner) e in omega (arith, h, s)))
+    ap (λ b. cond b (Some (p, op)) None) (false_from (nat_eq (rank (op_tier op)) (rank inner))
+    (λ e. let s : rank (op_tier op) ≡ rank inner = eqb-true (rank (op_tier op)) (rank inner) e in omega (arith, h, s)))
 
 under_more : (op : BinOp) → rank (op_tier op) < rank (under (op_tier op))
 under_more Add = omega arith
@@ -162,7 +169,8 @@ under_more (Compare Le) = omega arith
 under_more (Compare Gt) = omega arith
 under_more (Compare Ge) = omega arith
 
-not_inner : (inner : Tier) (n d : ℕ) (op : BinOp) (p : Place) (ts us : List Token) → rank (op_tier op) < rank inner → First p (op_kind op) ts us → at (next_op inner n d) ts ≡ None
+not_inner : (inner : Tier) (n d : ℕ) (op : BinOp) (p : Place) (ts us : List Token) → rank (op_tier op) < rank inner → First p (op_kind op) ts us →
+    at (next_op inner n d) ts ≡ None
 unfolding at next_op
 not_inner inner n d op p ts us h w =
     ap (at (next_op inner n d)) w ∙ ap (λ o. before us (cond (nat_le d n) (op_at inner p o) None)) (op_again op)
@@ -189,13 +197,23 @@ op_is n d op p ts us h w =
 pub param_is : (x : Param) (ts us : List Token) → SpellsParam x ts us → param_of ts ≡ Ok (x, us)
 unfolding param_of
 param_is x ts us (a, n, (b, c, d)) =
-    bind_is _ _ ts (must_is _ ts a _ (name_is ts a x.place x.name n)) (bind_is _ _ a (next_is _ a b refl c) (bind_is _ _ b (must_is _ b us _ (base_is x.base b us d)) (pure_is _ x us refl)))
+    bind_is _ _ ts (must_is _ ts a _ (name_is ts a x.place x.name n))
+    (bind_is _ _ a (next_is _ a b refl c) (bind_is _ _ b (must_is _ b us _ (base_is x.base b us d)) (pure_is _ x us refl)))
 
 param_items : Items param_of SpellsParam (Sign (codes ",")) (Sign (codes ")"))
-param_items = record { reads = λ x ts us w e. param_is x ts us w; within = λ ts. (param_local {more = []} {other = []}).within ts (length ts) (omega arith); separates = refl; closes = refl; differs = refl }
+param_items = record {
+  reads = λ x ts us w e. param_is x ts us w;
+  within =
+      λ ts. (param_local {more = []} {other = []}).within ts (length ts) (omega arith);
+  separates = refl;
+  closes = refl;
+  differs = refl;
+}
 
-pub params_are : (xs : List Param) (ts rest : List Token) → Several SpellsParam (Sign (codes ",")) (Sign (codes ")")) xs ts rest → several_of snoc param_of (Sign (codes ",")) (Sign (codes ")")) [] ts ≡ Ok (xs, rest)
-params_are xs ts rest w = several_are snoc param_of SpellsParam (Sign (codes ",")) (Sign (codes ")")) param_items xs [] ts rest w ∙ ap (λ (z : List Param). Ok (z, rest)) (all_added xs)
+pub params_are : (xs : List Param) (ts rest : List Token) → Several SpellsParam (Sign (codes ",")) (Sign (codes ")")) xs ts rest →
+    several_of snoc param_of (Sign (codes ",")) (Sign (codes ")")) [] ts ≡ Ok (xs, rest)
+params_are xs ts rest w = several_are snoc param_of SpellsParam (Sign (codes ",")) (Sign (codes ")")) param_items xs [] ts rest w ∙
+    ap (λ (z : List Param). Ok (z, rest)) (all_added xs)
 
 name_reads : (x : Place × List ℕ) (ts us : List Token) → SpellsName x ts us → must a_name ts ≡ Ok (x, us)
 name_reads x ts us w = must_is a_name ts us x (name_is ts us x.0 x.1 w)
@@ -206,8 +224,10 @@ name_items = record { reads = λ x ts us w e. name_reads x ts us w; within = mus
 names_are : (names : List (List ℕ)) (places : List Place) (ts rest : List Token) → SpellsNames names places ts rest → names_of ts ≡ Ok ((names, places), rest)
 unfolding names_of
 names_are names places ts rest (xs, e, f, w) =
-    one_or_tuple_is named (must a_name) SpellsName ([], []) name_items name_reads (λ x ts us n. at_not (Sign (codes "(")) (Word x.1) ts us x.0 refl n.0) xs ts rest w
-    ∙ ap (λ (z : Names). Ok (z, rest)) (all_names xs) ∙ ap (λ (z : List (List ℕ)). Ok ((z, map (λ x. x.0) xs), rest)) (sym e) ∙ ap (λ (z : List Place). Ok ((names, z), rest)) (sym f)
+    one_or_tuple_is named (must a_name) SpellsName ([], []) name_items name_reads (λ x ts us n. at_not (Sign (codes "(")) (Word x.1) ts us x.0 refl n.0) xs ts
+    rest w
+    ∙ ap (λ (z : Names). Ok (z, rest)) (all_names xs) ∙ ap (λ (z : List (List ℕ)). Ok ((z, map (λ x. x.0) xs), rest)) (sym e) ∙
+    ap (λ (z : List Place). Ok ((names, z), rest)) (sym f)
 
 -- patterns, before the word then
 
@@ -224,15 +244,19 @@ part_is : (minus : Bool) (x : Part) (ts us : List Token) → SpellsPart minus x 
 unfolding term_of
 part_is minus x ts us (inl (n, f)) =
     first_not _ _ _ ts (no_literal x.place x.name ts us n.0)
-    (bind_is _ _ ts (must_is _ ts us _ (name_is ts us x.place x.name n)) (pure_is _ (a_part x) us (ap (λ z. a_part (record { place = x.place; factor = z; name = x.name })) (sym f))))
+    (bind_is _ _ ts (must_is _ ts us _ (name_is ts us x.place x.name n))
+    (pure_is _ (a_part x) us (ap (λ z. a_part (record { place = x.place; factor = z; name = x.name })) (sym f))))
 part_is minus x ts us (inr (n, (a, (p, l), (b, s, m)), f)) =
     first_is _ _ _ ts (literal_is (pos 0) ts a p n l)
     (first_is _ _ _ a (at_is _ a b s.0 refl s.1)
-    (bind_is _ _ b (must_is _ b us _ (name_is b us x.place x.name m)) (pure_is _ (a_part x) us (ap (λ z. a_part (record { place = x.place; factor = z; name = x.name })) (sym f)))))
+    (bind_is _ _ b (must_is _ b us _ (name_is b us x.place x.name m))
+    (pure_is _ (a_part x) us (ap (λ z. a_part (record { place = x.place; factor = z; name = x.name })) (sym f)))))
 
-constant_is : (minus : Bool) (c : ℤ) (ts us : List Token) → SpellsConstant minus c ts us → at (is (Sign (codes "*"))) us ≡ None → term_of minus ts ≡ Ok (the_constant c, us)
+constant_is : (minus : Bool) (c : ℤ) (ts us : List Token) → SpellsConstant minus c ts us → at (is (Sign (codes "*"))) us ≡ None →
+    term_of minus ts ≡ Ok (the_constant c, us)
 unfolding term_of
-constant_is minus c ts us (n, (p, l), e) s = first_is _ _ _ ts (literal_is (pos 0) ts us p n l) (first_not _ _ _ us s (pure_is _ (the_constant c) us (ap the_constant (sym e))))
+constant_is minus c ts us (n, (p, l), e) s =
+    first_is _ _ _ ts (literal_is (pos 0) ts us p n l) (first_not _ _ _ us s (pure_is _ (the_constant c) us (ap the_constant (sym e))))
 
 part_longer : (minus : Bool) (x : Part) (ts us : List Token) → SpellsPart minus x ts us → length us < length ts
 part_longer minus x ts us (inl (n, f)) = omega (arith, first_longer (Word x.name) ts us x.place n.0)
@@ -256,7 +280,8 @@ terms_are (suc k) minus done [] c ts rest w z l =
     bind_is _ _ ts (constant_is minus c ts rest w z.times) (pure_is _ _ rest (ap (λ (y : List Part). (y, c)) (sym (append-nil done))))
 terms_are (suc k) minus done (x ∷ []) c ts rest (a, p, inl (e, f)) z l =
     bind_is _ _ ts (part_is minus x ts a p)
-    (first_not _ _ _ a (ap (at a_sign) e ∙ z.sign) (pure_is _ _ a refl ∙ ap (λ (us : List Token). Ok ((done ++ x ∷ [], pos 0), us)) e ∙ ap (λ y. Ok ((done ++ x ∷ [], y), rest)) (sym f)))
+    (first_not _ _ _ a (ap (at a_sign) e ∙ z.sign)
+    (pure_is _ _ a refl ∙ ap (λ (us : List Token). Ok ((done ++ x ∷ [], pos 0), us)) e ∙ ap (λ y. Ok ((done ++ x ∷ [], y), rest)) (sym f)))
 terms_are (suc k) minus done (x ∷ []) c ts rest (a, p, inr (sign, (b, n, w))) z l =
     bind_is _ _ ts (part_is minus x ts a p)
     (first_is _ _ _ a (sign_is sign a b n)
@@ -278,7 +303,8 @@ signed_start minus (x ∷ parts) c ts rest w = part_start minus x ts w.0 w.1
 
 pattern_is : (parts : List Part) (c : ℤ) (ts rest : List Token) → SpellsPattern parts c ts rest → Ended rest → pattern_of ts ≡ Ok ((parts, c), rest)
 unfolding pattern_of all_terms
-pattern_is parts c ts rest (inl w) z = first_not _ _ _ ts (signed_start false parts c ts rest w) (terms_are (length ts) false [] parts c ts rest w z (omega arith))
+pattern_is parts c ts rest (inl w) z = first_not _ _ _ ts (signed_start false parts c ts rest w)
+    (terms_are (length ts) false [] parts c ts rest w z (omega arith))
 pattern_is parts c ts rest (inr (a, n, w)) z = first_is _ _ _ ts (at_is _ ts a n.0 refl n.1) (terms_are (length a) true [] parts c a rest w z (omega arith))
 
 -- how expressions begin
@@ -304,7 +330,8 @@ pub record Outside (k : TokenKind) : Type 0 where
   pub chooses : same_kind (Word (codes "choose")) k ≡ false
   pub matches : same_kind (Word (codes "match")) k ≡ false
 
-truth_other : (k : TokenKind) → same_kind (Word (codes "true")) k ≡ false → same_kind (Word (codes "false")) k ≡ false → (b : Bool) → same_kind (truth_kind b) k ≡ false
+truth_other : (k : TokenKind) → same_kind (Word (codes "true")) k ≡ false → same_kind (Word (codes "false")) k ≡ false → (b : Bool) →
+    same_kind (truth_kind b) k ≡ false
 truth_other k e f true = e
 truth_other k e f false = f
 
@@ -343,28 +370,106 @@ left_inner (Compare Gt) = omega arith
 left_inner (Compare Ge) = omega arith
 
 pub paren_unstarted : Unstarted (Sign (codes ")"))
-paren_unstarted = record { name = λ x h. refl; literal = λ n. refl; truth = truth_other (Sign (codes ")")) refl refl; paren = refl; brace = refl; minus = refl; bang = refl; card = refl; abs = refl; div = refl; modulo = refl }
+paren_unstarted = record {
+  name = λ x h. refl;
+  literal = λ n. refl;
+  truth = truth_other (Sign (codes ")")) refl refl;
+  paren = refl;
+  brace = refl;
+  minus =
+      refl;
+  bang = refl;
+  card = refl;
+  abs = refl;
+  div = refl;
+  modulo = refl;
+}
 
 pub paren_outside : Outside (Sign (codes ")"))
 paren_outside = record { lets = refl; ifs = refl; chooses = refl; matches = refl }
 
 pub brace_unstarted : Unstarted (Sign (codes "}"))
-brace_unstarted = record { name = λ x h. refl; literal = λ n. refl; truth = truth_other (Sign (codes "}")) refl refl; paren = refl; brace = refl; minus = refl; bang = refl; card = refl; abs = refl; div = refl; modulo = refl }
+brace_unstarted = record {
+  name = λ x h. refl;
+  literal = λ n. refl;
+  truth = truth_other (Sign (codes "}")) refl refl;
+  paren = refl;
+  brace = refl;
+  minus =
+      refl;
+  bang = refl;
+  card = refl;
+  abs = refl;
+  div = refl;
+  modulo = refl;
+}
 
 pub brace_outside : Outside (Sign (codes "}"))
 brace_outside = record { lets = refl; ifs = refl; chooses = refl; matches = refl }
 
 let_unstarted : Unstarted (Word (codes "let"))
-let_unstarted = record { name = λ x h. name_differs x (codes "let") h refl; literal = λ n. refl; truth = truth_other (Word (codes "let")) refl refl; paren = refl; brace = refl; minus = refl; bang = refl; card = refl; abs = refl; div = refl; modulo = refl }
+let_unstarted = record {
+  name = λ x h. name_differs x (codes "let") h refl;
+  literal = λ n. refl;
+  truth = truth_other (Word (codes "let")) refl refl;
+  paren =
+      refl;
+  brace = refl;
+  minus = refl;
+  bang = refl;
+  card = refl;
+  abs = refl;
+  div = refl;
+  modulo = refl;
+}
 
 if_unstarted : Unstarted (Word (codes "if"))
-if_unstarted = record { name = λ x h. name_differs x (codes "if") h refl; literal = λ n. refl; truth = truth_other (Word (codes "if")) refl refl; paren = refl; brace = refl; minus = refl; bang = refl; card = refl; abs = refl; div = refl; modulo = refl }
+if_unstarted = record {
+  name = λ x h. name_differs x (codes "if") h refl;
+  literal = λ n. refl;
+  truth = truth_other (Word (codes "if")) refl refl;
+  paren =
+      refl;
+  brace = refl;
+  minus = refl;
+  bang = refl;
+  card = refl;
+  abs = refl;
+  div = refl;
+  modulo = refl;
+}
 
 choose_unstarted : Unstarted (Word (codes "choose"))
-choose_unstarted = record { name = λ x h. name_differs x (codes "choose") h refl; literal = λ n. refl; truth = truth_other (Word (codes "choose")) refl refl; paren = refl; brace = refl; minus = refl; bang = refl; card = refl; abs = refl; div = refl; modulo = refl }
+choose_unstarted = record {
+  name = λ x h. name_differs x (codes "choose") h refl;
+  literal = λ n. refl;
+  truth =
+      truth_other (Word (codes "choose")) refl refl;
+  paren = refl;
+  brace = refl;
+  minus = refl;
+  bang = refl;
+  card = refl;
+  abs = refl;
+  div = refl;
+  modulo = refl;
+}
 
 match_unstarted : Unstarted (Word (codes "match"))
-match_unstarted = record { name = λ x h. name_differs x (codes "match") h refl; literal = λ n. refl; truth = truth_other (Word (codes "match")) refl refl; paren = refl; brace = refl; minus = refl; bang = refl; card = refl; abs = refl; div = refl; modulo = refl }
+match_unstarted = record {
+  name = λ x h. name_differs x (codes "match") h refl;
+  literal = λ n. refl;
+  truth =
+      truth_other (Word (codes "match")) refl refl;
+  paren = refl;
+  brace = refl;
+  minus = refl;
+  bang = refl;
+  card = refl;
+  abs = refl;
+  div = refl;
+  modulo = refl;
+}
 
 pub starts : (k : TokenKind) → Unstarted k → (t : RawTree) (ts rest : List Token) → Outside k ⊎ Fits Ors t → Spells t ts rest → at (is k) ts ≡ None
 starts k u (raw_lit p n) ts rest f w = at_not k (Literal n) ts rest p (u.literal n) w.0
@@ -416,7 +521,8 @@ arm_items_again (raw_arm_more a arms) = ap (raw_arm_more a) (arm_items_again arm
 
 -- trees of depth at most n are read by the readers of parts, which leave no more tokens than they are given
 unfoldable pub OnlyReads : Parts → ℕ → Type 0
-OnlyReads part n = (tier : Tier) (t : RawTree) (ts rest : List Token) → Fits tier t → raw_depth t ≤ n → Spells t ts rest → Stops tier rest → part tier ts ≡ Ok (t, rest)
+OnlyReads part n = (tier : Tier) (t : RawTree) (ts rest : List Token) → Fits tier t → raw_depth t ≤ n → Spells t ts rest → Stops tier rest →
+    part tier ts ≡ Ok (t, rest)
 
 unfoldable pub Shrinks : Parts → Type 0
 Shrinks part = (tier : Tier) (ts : List Token) → Within (length ts) (part tier ts)
@@ -441,7 +547,8 @@ ends_stop : (separator close : TokenKind) (us : List Token) → Closes separator
 ends_stop separator close us s c (rest, inl n) = stops_at Whole separator us rest s n
 ends_stop separator close us s c (rest, inr n) = stops_at Whole close us rest c n
 
-tree_items : (part : Parts) (n : ℕ) → OnlyReads part n → Shrinks part → (close : TokenKind) → ListEnd close → Items (part Whole) (Deep n) (Sign (codes ",")) close
+tree_items : (part : Parts) (n : ℕ) → OnlyReads part n → Shrinks part → (close : TokenKind) → ListEnd close →
+    Items (part Whole) (Deep n) (Sign (codes ",")) close
 unfolding OnlyReads Shrinks
 tree_items part n h sh close c = record {
   reads = λ t ts us w e. h Whole t ts us (omega arith) w.0 w.1 (ends_stop (Sign (codes ",")) close us comma_closes c.closes e);
@@ -451,49 +558,60 @@ tree_items part n h sh close c = record {
   differs = c.no_comma;
 }
 
-deep_others : (n : ℕ) (close : TokenKind) (es : RawTrees) (ts rest : List Token) → raws_depth es ≤ n → SpellsOthers es close ts rest → Others (Deep n) (Sign (codes ",")) close (items es) ts rest
+deep_others : (n : ℕ) (close : TokenKind) (es : RawTrees) (ts rest : List Token) → raws_depth es ≤ n → SpellsOthers es close ts rest →
+    Others (Deep n) (Sign (codes ",")) close (items es) ts rest
 unfolding items
 deep_others n close no_raws ts rest d w = w
 deep_others n close (raw_more e es) ts rest d (a, c, (b, s, o)) = (a, c, (b, (omega (arith, d), s), deep_others n close es b rest (omega (arith, d)) o))
 
-list_is : (part : Parts) (n : ℕ) → OnlyReads part n → Shrinks part → (close : TokenKind) → ListEnd close → (e : RawTree) (es : RawTrees) (ts mid rest : List Token) → raw_depth e ≤ n → raws_depth es ≤ n → Spells e ts mid → SpellsOthers es close mid rest →
+list_is : (part : Parts) (n : ℕ) → OnlyReads part n → Shrinks part → (close : TokenKind) → ListEnd close →
+    (e : RawTree) (es : RawTrees) (ts mid rest : List Token) → raw_depth e ≤ n → raws_depth es ≤ n → Spells e ts mid → SpellsOthers es close mid rest →
     list_of part close ts ≡ Ok (e ∷ items es, rest)
 unfolding list_of
 list_is part n h sh close c e es ts mid rest d ds w ws =
-    several_are snoc (part Whole) (Deep n) (Sign (codes ",")) close (tree_items part n h sh close c) (e ∷ items es) [] ts rest (mid, (d, w), deep_others n close es mid rest ds ws)
+    several_are snoc (part Whole) (Deep n) (Sign (codes ",")) close (tree_items part n h sh close c) (e ∷ items es) [] ts rest
+    (mid, (d, w), deep_others n close es mid rest ds ws)
     ∙ ap (λ (z : List RawTree). Ok (z, rest)) (all_added (e ∷ items es))
 
-items_are : (part : Parts) (n : ℕ) → OnlyReads part n → Shrinks part → (close : TokenKind) → ListEnd close → (es : RawTrees) (ts rest : List Token) → raws_depth es ≤ n → SpellsItems es close ts rest →
+items_are : (part : Parts) (n : ℕ) → OnlyReads part n → Shrinks part → (close : TokenKind) → ListEnd close → (es : RawTrees) (ts rest : List Token) →
+    raws_depth es ≤ n → SpellsItems es close ts rest →
     items_of part close ts ≡ Ok (items es, rest)
 unfolding items_of items
 items_are part n h sh close c no_raws ts rest d w = first_is _ _ _ ts (at_is close ts rest w.0 c.closes.self w.1) (pure_is _ _ rest refl)
 items_are part n h sh close c (raw_more e es) ts rest d (a, s, o) =
-    first_not _ _ _ ts (starts close c.unstarted e ts a (inl c.outside) s) (list_is part n h sh close c e es ts a rest (omega (arith, d)) (omega (arith, d)) s o)
+    first_not _ _ _ ts (starts close c.unstarted e ts a (inl c.outside) s)
+    (list_is part n h sh close c e es ts a rest (omega (arith, d)) (omega (arith, d)) s o)
 
 -- forms of the innermost tier
 
 -- a name stands first
 name_first : (part : Parts) (n : ℕ) (p : Place) (x : List ℕ) (ts us : List Token) (y : Got RawTree) → FirstName p x ts us →
-    first (is (Sign (codes "("))) (λ q. bind (items_of part (Sign (codes ")"))) (λ es. pure (raw_call p x (raws_of es)))) (pure (raw_name p x)) us ≡ y → unary_of part n ts ≡ y
+    first (is (Sign (codes "("))) (λ q. bind (items_of part (Sign (codes ")"))) (λ es. pure (raw_call p x (raws_of es)))) (pure (raw_name p x)) us ≡ y →
+    unary_of part n ts ≡ y
 unfolding unary_of atom_of word_of named_of
 name_first part n p x ts us y w e =
     deep_not _ _ _ _ ts (at_not _ (Word x) ts us p refl w.0) (deep_not _ _ _ _ ts (at_not _ (Word x) ts us p refl w.0)
-    (first_not _ _ _ ts (no_literal p x ts us w.0) (deep_not _ _ _ _ ts (at_not _ (Word x) ts us p refl w.0) (first_not _ _ _ ts (at_not _ (Word x) ts us p refl w.0)
+    (first_not _ _ _ ts (no_literal p x ts us w.0)
+    (deep_not _ _ _ _ ts (at_not _ (Word x) ts us p refl w.0) (first_not _ _ _ ts (at_not _ (Word x) ts us p refl w.0)
     (first_not _ _ _ ts (names_true x w.1 p ts us w.0)
     (deep_not _ _ _ _ ts (name_not (codes "card") ts us p x refl w) (deep_not _ _ _ _ ts (name_not (codes "abs") ts us p x refl w)
     (deep_not _ _ _ _ ts (name_not (codes "div") ts us p x refl w) (deep_not _ _ _ _ ts (name_not (codes "mod") ts us p x refl w)
     (bind_is _ _ ts (must_is _ ts us _ (name_is ts us p x w)) e))))))))))
 
-inside_is : (part : Parts) (n : ℕ) → OnlyReads part n → (e : RawTree) (ts a b us : List Token) → raw_depth e ≤ n → Next (Sign (codes "(")) ts a → Spells e a b → Next (Sign (codes ")")) b us → inside_of part ts ≡ Ok (e, us)
+inside_is : (part : Parts) (n : ℕ) → OnlyReads part n → (e : RawTree) (ts a b us : List Token) → raw_depth e ≤ n → Next (Sign (codes "(")) ts a → Spells e a b →
+    Next (Sign (codes ")")) b us → inside_of part ts ≡ Ok (e, us)
 unfolding inside_of OnlyReads
 inside_is part n h e ts a b us d o s c =
-    bind_is _ _ ts (next_is _ ts a refl o) (bind_is _ _ a (h Whole e a b (omega arith) d s (stops_at Whole (Sign (codes ")")) b us paren_closes c)) (bind_is _ _ b (next_is _ b us refl c) (pure_is _ _ us refl)))
+    bind_is _ _ ts (next_is _ ts a refl o) (bind_is _ _ a (h Whole e a b (omega arith) d s (stops_at Whole (Sign (codes ")")) b us paren_closes c))
+    (bind_is _ _ b (next_is _ b us refl c) (pure_is _ _ us refl)))
 
-divided_is : (part : Parts) (n : ℕ) → OnlyReads part n → (e : RawTree) (k : ℤ) (q : Place) (ts a b c d us : List Token) → raw_depth e ≤ n → Next (Sign (codes "(")) ts a → Spells e a b → Next (Sign (codes ",")) b c →
+divided_is : (part : Parts) (n : ℕ) → OnlyReads part n → (e : RawTree) (k : ℤ) (q : Place) (ts a b c d us : List Token) → raw_depth e ≤ n →
+    Next (Sign (codes "(")) ts a → Spells e a b → Next (Sign (codes ",")) b c →
     FirstLiteral (pos 1) q k c d → Next (Sign (codes ")")) d us → divided_of part ts ≡ Ok ((e, k), us)
 unfolding divided_of OnlyReads
 divided_is part n h e k q ts a b c d us l o s m w r =
-    bind_is _ _ ts (next_is _ ts a refl o) (bind_is _ _ a (h Whole e a b (omega arith) l s (stops_at Whole (Sign (codes ",")) b c comma_closes m)) (bind_is _ _ b (next_is _ b c refl m)
+    bind_is _ _ ts (next_is _ ts a refl o) (bind_is _ _ a (h Whole e a b (omega arith) l s (stops_at Whole (Sign (codes ",")) b c comma_closes m))
+    (bind_is _ _ b (next_is _ b c refl m)
     (bind_is _ _ c (must_is _ c d _ (literal_is (pos 1) c d q k w)) (bind_is _ _ d (next_is _ d us refl r) (pure_is _ _ us refl)))))
 
 op_outer : (op : BinOp) → rank (op_tier op) ≤ 5
@@ -514,38 +632,46 @@ op_outer (Compare Gt) = omega arith
 op_outer (Compare Ge) = omega arith
 
 -- a reserved word or a sign stands first, with a form that needs parts
-minus_first : (part : Parts) (n : ℕ) (p : Place) (ts a : List Token) (y : Got RawTree) → First p (Sign (codes "-")) ts a → 1 ≤ n → bind (part Unary) (λ e. pure (raw_neg p e)) a ≡ y → unary_of part n ts ≡ y
+minus_first : (part : Parts) (n : ℕ) (p : Place) (ts a : List Token) (y : Got RawTree) → First p (Sign (codes "-")) ts a → 1 ≤ n →
+    bind (part Unary) (λ e. pure (raw_neg p e)) a ≡ y → unary_of part n ts ≡ y
 unfolding unary_of
 minus_first part n p ts a y w l e = deep_is _ _ _ _ ts l (at_is _ ts a p refl w) e
 
-bang_first : (part : Parts) (n : ℕ) (p : Place) (ts a : List Token) (y : Got RawTree) → First p (Sign (codes "!")) ts a → 1 ≤ n → bind (part Unary) (λ e. pure (raw_not p e)) a ≡ y → unary_of part n ts ≡ y
+bang_first : (part : Parts) (n : ℕ) (p : Place) (ts a : List Token) (y : Got RawTree) → First p (Sign (codes "!")) ts a → 1 ≤ n →
+    bind (part Unary) (λ e. pure (raw_not p e)) a ≡ y → unary_of part n ts ≡ y
 unfolding unary_of
 bang_first part n p ts a y w l e = deep_not _ _ _ _ ts (at_not _ (Sign (codes "!")) ts a p refl w) (deep_is _ _ _ _ ts l (at_is _ ts a p refl w) e)
 
 -- neither of these signs stands first
-atom_first : (part : Parts) (n : ℕ) (k : TokenKind) (p : Place) (ts a : List Token) (y : Got RawTree) → First p k ts a → same_kind k (Sign (codes "-")) ≡ false → same_kind k (Sign (codes "!")) ≡ false →
+atom_first : (part : Parts) (n : ℕ) (k : TokenKind) (p : Place) (ts a : List Token) (y : Got RawTree) → First p k ts a →
+    same_kind k (Sign (codes "-")) ≡ false → same_kind k (Sign (codes "!")) ≡ false →
     atom_of part n ts ≡ y → unary_of part n ts ≡ y
 unfolding unary_of
 atom_first part n k p ts a y w e f g = deep_not _ _ _ _ ts (at_not _ k ts a p e w) (deep_not _ _ _ _ ts (at_not _ k ts a p f w) g)
 
-word_first : (part : Parts) (n : ℕ) (x : List ℕ) (p : Place) (ts a : List Token) (y : Got RawTree) → First p (Word x) ts a → word_of part n ts ≡ y → unary_of part n ts ≡ y
+word_first : (part : Parts) (n : ℕ) (x : List ℕ) (p : Place) (ts a : List Token) (y : Got RawTree) → First p (Word x) ts a → word_of part n ts ≡ y →
+    unary_of part n ts ≡ y
 unfolding atom_of
 word_first part n x p ts a y w e = atom_first part n (Word x) p ts a y w refl refl
-    (first_not _ _ _ ts (no_literal p x ts a w) (deep_not _ _ _ _ ts (at_not _ (Word x) ts a p refl w) (first_not _ _ _ ts (at_not _ (Word x) ts a p refl w) e)))
+    (first_not _ _ _ ts (no_literal p x ts a w)
+    (deep_not _ _ _ _ ts (at_not _ (Word x) ts a p refl w) (first_not _ _ _ ts (at_not _ (Word x) ts a p refl w) e)))
 
-unary_is : (part : Parts) (n : ℕ) → OnlyReads part n → Shrinks part → (t : RawTree) (ts rest : List Token) → Fits Unary t → raw_depth t ≤ suc n → Spells t ts rest → Stops Unary rest → unary_of part n ts ≡ Ok (t, rest)
+unary_is : (part : Parts) (n : ℕ) → OnlyReads part n → Shrinks part → (t : RawTree) (ts rest : List Token) → Fits Unary t → raw_depth t ≤ suc n →
+    Spells t ts rest → Stops Unary rest → unary_of part n ts ≡ Ok (t, rest)
 unfolding OnlyReads atom_of word_of items
 unary_is part n h sh (raw_lit p k) ts rest f d w s =
     atom_first part n (Literal k) p ts rest _ w.0 refl refl (first_is _ _ _ ts (literal_is (pos 0) ts rest p k w) (pure_is _ _ rest refl))
 unary_is part n h sh (raw_truth p b) ts rest f d w s =
     atom_first part n (truth_kind b) p ts rest _ w (truth_sign b (codes "-")) (truth_sign b (codes "!"))
-    (first_not _ _ _ ts (truth_literal b p ts rest w) (deep_not _ _ _ _ ts (truth_not b _ refl refl p ts rest w) (first_not _ _ _ ts (truth_not b _ refl refl p ts rest w)
+    (first_not _ _ _ ts (truth_literal b p ts rest w)
+    (deep_not _ _ _ _ ts (truth_not b _ refl refl p ts rest w) (first_not _ _ _ ts (truth_not b _ refl refl p ts rest w)
     (first_is _ _ _ ts (truth_is b p ts rest w) (pure_is _ _ rest refl)))))
 unary_is part n h sh (raw_name p x) ts rest f d w s = name_first part n p x ts rest _ w (first_not _ _ _ rest s.call (pure_is _ _ rest refl))
 unary_is part n h sh (raw_set_of p es) ts rest f d (a, w, i) s =
     atom_first part n (Sign (codes "{")) p ts a _ w refl refl
     (first_not _ _ _ ts (sign_literal _ p ts a w) (deep_not _ _ _ _ ts (at_not _ (Sign (codes "{")) ts a p refl w) (first_is _ _ _ ts (at_is _ ts a p refl w)
-    (bind_is _ _ a (items_are part n h sh (Sign (codes "}")) brace_end es a rest (omega (arith, d)) i) (pure_is _ _ rest (ap (raw_set_of p) (items_again es)))))))
+    (bind_is _ _ a (items_are part n h sh (Sign (codes "}")) brace_end es a rest (omega (arith, d)) i)
+    (pure_is _ _ rest (ap (raw_set_of p) (items_again es)))))))
 unary_is part n h sh (raw_group p e) ts rest f d (a, w, (b, i, c)) s =
     atom_first part n (Sign (codes "(")) p ts a _ w refl refl
     (first_not _ _ _ ts (sign_literal _ p ts a w) (deep_is _ _ _ _ ts (omega (arith, d, deep_one e)) (at_is _ ts a p refl w)
@@ -562,7 +688,8 @@ unary_is part n h sh (raw_neg p e) ts rest f d (a, w, (i, g)) s =
 unary_is part n h sh (raw_not p e) ts rest f d (a, w, (i, g)) s =
     bang_first part n p ts a _ w (omega (arith, d, deep_one e)) (bind_is _ _ a (h Unary e a rest i (omega (arith, d)) g s) (pure_is _ _ rest refl))
 unary_is part n h sh (raw_card p e) ts rest f d (a, w, (b, o, (c, i, z))) s =
-    word_first part n (codes "card") p ts a _ w (first_not _ _ _ ts (no_truth _ p ts a refl w) (deep_is _ _ _ _ ts (omega (arith, d, deep_one e)) (at_is _ ts a p refl w)
+    word_first part n (codes "card") p ts a _ w
+    (first_not _ _ _ ts (no_truth _ p ts a refl w) (deep_is _ _ _ _ ts (omega (arith, d, deep_one e)) (at_is _ ts a p refl w)
     (bind_is _ _ a (inside_is part n h e a b c rest (omega (arith, d)) o i z) (pure_is _ _ rest refl))))
 unary_is part n h sh (raw_abs p e) ts rest f d (a, w, (b, o, (c, i, z))) s =
     word_first part n (codes "abs") p ts a _ w (first_not _ _ _ ts (no_truth _ p ts a refl w) (deep_not _ _ _ _ ts (at_not _ (Word (codes "abs")) ts a p refl w)
@@ -597,7 +724,8 @@ record Arrived (part : Parts) (n : ℕ) (tier : Tier) (t : RawTree) (rest : List
 
 -- the next inner tier's reader
 abbrev pub FirstReads : ℕ → Tier → Reader RawTree → Type 0
-FirstReads n tier inner = (t : RawTree) (ts rest : List Token) → Fits (under tier) t → raw_depth t ≤ suc n → Spells t ts rest → Stops (under tier) rest → inner ts ≡ Ok (t, rest)
+FirstReads n tier inner = (t : RawTree) (ts rest : List Token) → Fits (under tier) t → raw_depth t ≤ suc n → Spells t ts rest → Stops (under tier) rest →
+    inner ts ≡ Ok (t, rest)
 
 -- a tier whose operations form chains
 data Chains : Tier → Type 0 where
@@ -656,13 +784,15 @@ predecessor : (k : ℕ) → 1 ≤ k → (j : ℕ) × (k ≡ suc j)
 predecessor zero h = absurd (omega (arith, h))
 predecessor (suc k) h = (k, refl)
 
-arrive_next : (part : Parts) (n : ℕ) → OnlyReads part n → (tier : Tier) (p : Place) (op : BinOp) (e g : RawTree) (a b rest : List Token) (got : Got RawTree) → op_tier op ≡ tier →
+arrive_next : (part : Parts) (n : ℕ) → OnlyReads part n → (tier : Tier) (p : Place) (op : BinOp) (e g : RawTree) (a b rest : List Token) (got : Got RawTree) →
+    op_tier op ≡ tier →
     1 + max (raw_depth e) (raw_depth g) ≤ suc n → First p (op_kind op) a b → Fits (under tier) g → Spells g b rest → Stops (under tier) rest →
     Arrived part n tier e a got → Arrived part n tier (raw_binary p op e g) rest got
 unfolding OnlyReads
 arrive_next part n h tier p op e g a b rest got is_at d w fit s z arrived =
     let j : (j : ℕ) × (arrived.left ≡ suc j) = predecessor arrived.left (omega (arith, arrived.enough, d)) in
-    let o : at (next_op tier n (raw_depth e)) a ≡ Some ((p, op), b) = subst (λ l. at (next_op l n (raw_depth e)) a ≡ Some ((p, op), b)) is_at (op_is n (raw_depth e) op p a b (omega (arith, d)) w) in
+    let o : at (next_op tier n (raw_depth e)) a ≡ Some ((p, op), b) =
+    subst (λ l. at (next_op l n (raw_depth e)) a ≡ Some ((p, op), b)) is_at (op_is n (raw_depth e) op p a b (omega (arith, d)) w) in
     record {
       left = j.0;
       enough = omega (arith, arrived.enough, j.1, d);
@@ -679,19 +809,32 @@ divides_inside _ muls_chain h = absurd (omega (arith, h))
 chain_arrives : (part : Parts) (n : ℕ) → OnlyReads part n → (tier : Tier) → Chains tier → (inner : Reader RawTree) → FirstReads n tier inner →
     (t : RawTree) (ts rest : List Token) → Fits tier t → raw_depth t ≤ suc n → Spells t ts rest → Stops (under tier) rest →
     Arrived part n tier t rest (bind inner (λ e. chain_of part tier n n e) ts)
-chain_arrives part n h tier c inner reads (raw_lit p k) ts rest f d w s = arrive_first part n tier (raw_lit p k) inner ts rest (reads (raw_lit p k) ts rest (inner_unary tier) d w s)
-chain_arrives part n h tier c inner reads (raw_truth p b) ts rest f d w s = arrive_first part n tier (raw_truth p b) inner ts rest (reads (raw_truth p b) ts rest (inner_unary tier) d w s)
-chain_arrives part n h tier c inner reads (raw_name p x) ts rest f d w s = arrive_first part n tier (raw_name p x) inner ts rest (reads (raw_name p x) ts rest (inner_unary tier) d w s)
-chain_arrives part n h tier c inner reads (raw_set_of p es) ts rest f d w s = arrive_first part n tier (raw_set_of p es) inner ts rest (reads (raw_set_of p es) ts rest (inner_unary tier) d w s)
-chain_arrives part n h tier c inner reads (raw_group p e) ts rest f d w s = arrive_first part n tier (raw_group p e) inner ts rest (reads (raw_group p e) ts rest (inner_unary tier) d w s)
-chain_arrives part n h tier c inner reads (raw_tuple p es) ts rest f d w s = arrive_first part n tier (raw_tuple p es) inner ts rest (reads (raw_tuple p es) ts rest (inner_unary tier) d w s)
-chain_arrives part n h tier c inner reads (raw_neg p e) ts rest f d w s = arrive_first part n tier (raw_neg p e) inner ts rest (reads (raw_neg p e) ts rest (inner_unary tier) d w s)
-chain_arrives part n h tier c inner reads (raw_not p e) ts rest f d w s = arrive_first part n tier (raw_not p e) inner ts rest (reads (raw_not p e) ts rest (inner_unary tier) d w s)
-chain_arrives part n h tier c inner reads (raw_abs p e) ts rest f d w s = arrive_first part n tier (raw_abs p e) inner ts rest (reads (raw_abs p e) ts rest (inner_unary tier) d w s)
-chain_arrives part n h tier c inner reads (raw_div p e k) ts rest f d w s = arrive_first part n tier (raw_div p e k) inner ts rest (reads (raw_div p e k) ts rest (inner_unary tier) d w s)
-chain_arrives part n h tier c inner reads (raw_mod p e k) ts rest f d w s = arrive_first part n tier (raw_mod p e k) inner ts rest (reads (raw_mod p e k) ts rest (inner_unary tier) d w s)
-chain_arrives part n h tier c inner reads (raw_card p e) ts rest f d w s = arrive_first part n tier (raw_card p e) inner ts rest (reads (raw_card p e) ts rest (inner_unary tier) d w s)
-chain_arrives part n h tier c inner reads (raw_call p x es) ts rest f d w s = arrive_first part n tier (raw_call p x es) inner ts rest (reads (raw_call p x es) ts rest (inner_unary tier) d w s)
+chain_arrives part n h tier c inner reads (raw_lit p k) ts rest f d w s =
+    arrive_first part n tier (raw_lit p k) inner ts rest (reads (raw_lit p k) ts rest (inner_unary tier) d w s)
+chain_arrives part n h tier c inner reads (raw_truth p b) ts rest f d w s =
+    arrive_first part n tier (raw_truth p b) inner ts rest (reads (raw_truth p b) ts rest (inner_unary tier) d w s)
+chain_arrives part n h tier c inner reads (raw_name p x) ts rest f d w s =
+    arrive_first part n tier (raw_name p x) inner ts rest (reads (raw_name p x) ts rest (inner_unary tier) d w s)
+chain_arrives part n h tier c inner reads (raw_set_of p es) ts rest f d w s =
+    arrive_first part n tier (raw_set_of p es) inner ts rest (reads (raw_set_of p es) ts rest (inner_unary tier) d w s)
+chain_arrives part n h tier c inner reads (raw_group p e) ts rest f d w s =
+    arrive_first part n tier (raw_group p e) inner ts rest (reads (raw_group p e) ts rest (inner_unary tier) d w s)
+chain_arrives part n h tier c inner reads (raw_tuple p es) ts rest f d w s =
+    arrive_first part n tier (raw_tuple p es) inner ts rest (reads (raw_tuple p es) ts rest (inner_unary tier) d w s)
+chain_arrives part n h tier c inner reads (raw_neg p e) ts rest f d w s =
+    arrive_first part n tier (raw_neg p e) inner ts rest (reads (raw_neg p e) ts rest (inner_unary tier) d w s)
+chain_arrives part n h tier c inner reads (raw_not p e) ts rest f d w s =
+    arrive_first part n tier (raw_not p e) inner ts rest (reads (raw_not p e) ts rest (inner_unary tier) d w s)
+chain_arrives part n h tier c inner reads (raw_abs p e) ts rest f d w s =
+    arrive_first part n tier (raw_abs p e) inner ts rest (reads (raw_abs p e) ts rest (inner_unary tier) d w s)
+chain_arrives part n h tier c inner reads (raw_div p e k) ts rest f d w s =
+    arrive_first part n tier (raw_div p e k) inner ts rest (reads (raw_div p e k) ts rest (inner_unary tier) d w s)
+chain_arrives part n h tier c inner reads (raw_mod p e k) ts rest f d w s =
+    arrive_first part n tier (raw_mod p e k) inner ts rest (reads (raw_mod p e k) ts rest (inner_unary tier) d w s)
+chain_arrives part n h tier c inner reads (raw_card p e) ts rest f d w s =
+    arrive_first part n tier (raw_card p e) inner ts rest (reads (raw_card p e) ts rest (inner_unary tier) d w s)
+chain_arrives part n h tier c inner reads (raw_call p x es) ts rest f d w s =
+    arrive_first part n tier (raw_call p x es) inner ts rest (reads (raw_call p x es) ts rest (inner_unary tier) d w s)
 chain_arrives part n h tier c inner reads (raw_binary p op e g) ts rest f d w s =
     elim (split_op tier op c f) [
       | inl at_tier ↦ arrive_next part n h tier p op e g w.0 w.2.0 rest (bind inner (λ e. chain_of part tier n n e) ts) at_tier d w.2.1
@@ -711,20 +854,24 @@ chain_only : (part : Parts) (n : ℕ) → OnlyReads part n → (tier : Tier) →
     (t : RawTree) (ts rest : List Token) → Fits tier t → raw_depth t ≤ suc n → Spells t ts rest → Stops tier rest →
     bind inner (λ e. chain_of part tier n n e) ts ≡ Ok (t, rest)
 chain_only part n h tier c inner reads t ts rest f d w s =
-    let arrived : Arrived part n tier t rest (bind inner (λ e. chain_of part tier n n e) ts) = chain_arrives part n h tier c inner reads t ts rest f d w (stops_in (under tier) tier rest (inner_rank tier) s) in
+    let arrived : Arrived part n tier t rest (bind inner (λ e. chain_of part tier n n e) ts) =
+    chain_arrives part n h tier c inner reads t ts rest f d w (stops_in (under tier) tier rest (inner_rank tier) s) in
     arrived.same ∙ chain_stops part tier n arrived.left t rest (s.ops tier n (raw_depth t) (omega arith))
 
-muls_is : (part : Parts) (n : ℕ) → OnlyReads part n → Shrinks part → (t : RawTree) (ts rest : List Token) → Fits Muls t → raw_depth t ≤ suc n → Spells t ts rest → Stops Muls rest → muls_of part n ts ≡ Ok (t, rest)
+muls_is : (part : Parts) (n : ℕ) → OnlyReads part n → Shrinks part → (t : RawTree) (ts rest : List Token) → Fits Muls t → raw_depth t ≤ suc n →
+    Spells t ts rest → Stops Muls rest → muls_of part n ts ≡ Ok (t, rest)
 unfolding muls_of
 muls_is part n h sh t ts rest f d w s = chain_only part n h Muls muls_chain (unary_of part n) (unary_is part n h sh) t ts rest f d w s
 
-sums_is : (part : Parts) (n : ℕ) → OnlyReads part n → Shrinks part → (t : RawTree) (ts rest : List Token) → Fits Sums t → raw_depth t ≤ suc n → Spells t ts rest → Stops Sums rest → sums_of part n ts ≡ Ok (t, rest)
+sums_is : (part : Parts) (n : ℕ) → OnlyReads part n → Shrinks part → (t : RawTree) (ts rest : List Token) → Fits Sums t → raw_depth t ≤ suc n →
+    Spells t ts rest → Stops Sums rest → sums_of part n ts ≡ Ok (t, rest)
 unfolding sums_of
 sums_is part n h sh t ts rest f d w s = chain_only part n h Sums sums_chain (muls_of part n) (muls_is part n h sh) t ts rest f d w s
 
 -- one comparison, or divides
 
-not_divides_on : (n : ℕ) (left : RawTree) (t : Token) (us : List Token) (o : Option Place) (l : Option (Place × ℤ)) → before us o ≡ None → before us (factor_of n l o) ≡ None
+not_divides_on : (n : ℕ) (left : RawTree) (t : Token) (us : List Token) (o : Option Place) (l : Option (Place × ℤ)) → before us o ≡ None →
+    before us (factor_of n l o) ≡ None
 not_divides_on n left t us None None e = refl
 not_divides_on n left t us None (Some k) e = refl
 not_divides_on n left t us (Some p) l e = cc
@@ -737,7 +884,8 @@ not_divides n left (t ∷ ts) e = not_divides_on n left t ts (is (Word (codes "d
 divides_on : (n : ℕ) (k : Place × ℤ) (q : Place) → 1 ≤ n → pos 1 ≤ℤ k.1 → factor_of n (Some k) (Some q) ≡ Some k
 divides_on n k q l e = ap (λ b. cond b (cond (nat_le 1 n) (Some k) None) None) (le_yes (pos 1) k.1 e) ∙ ap (λ b. cond b (Some k) None) (le-leb 1 n l)
 
-divides_is : (n : ℕ) (p : Place) (k : ℤ) (ts us : List Token) → 1 ≤ n → pos 1 ≤ℤ k → Next (Word (codes "divides")) ts us → at (divides_by n (raw_lit p k)) ts ≡ Some ((p, k), us)
+divides_is : (n : ℕ) (p : Place) (k : ℤ) (ts us : List Token) → 1 ≤ n → pos 1 ≤ℤ k → Next (Word (codes "divides")) ts us →
+    at (divides_by n (raw_lit p k)) ts ≡ Some ((p, k), us)
 unfolding at divides_by
 divides_is n p k ts us l e (q, w) = ap (at (divides_by n (raw_lit p k))) w ∙ ap (λ o. before us o) (divides_on n (p, k) q l e)
 
@@ -759,21 +907,28 @@ divides_stops ts us (p, w) = record {
   ops = λ inner n d h. not_next inner n d (Word (codes "divides")) ts us p divides_no_op w;
 }
 
-cmps_inner : (part : Parts) (n : ℕ) → OnlyReads part n → Shrinks part → (t : RawTree) (ts rest : List Token) → Fits Sums t → raw_depth t ≤ suc n → Spells t ts rest → Stops Cmps rest → cmps_of part n ts ≡ Ok (t, rest)
+cmps_inner : (part : Parts) (n : ℕ) → OnlyReads part n → Shrinks part → (t : RawTree) (ts rest : List Token) → Fits Sums t → raw_depth t ≤ suc n →
+    Spells t ts rest → Stops Cmps rest → cmps_of part n ts ≡ Ok (t, rest)
 unfolding cmps_of compared_of
 cmps_inner part n h sh t ts rest f d w s =
     bind_is _ _ ts (sums_is part n h sh t ts rest f d w (stops_in Sums Cmps rest (omega arith) s))
-    (first_not _ _ _ rest (s.ops Cmps n (raw_depth t) (omega arith)) (first_not _ _ _ rest (not_divides n t rest (s.divides (omega arith))) (pure_is _ _ rest refl)))
+    (first_not _ _ _ rest (s.ops Cmps n (raw_depth t) (omega arith))
+    (first_not _ _ _ rest (not_divides n t rest (s.divides (omega arith))) (pure_is _ _ rest refl)))
 
-compare_is : (part : Parts) (n : ℕ) → OnlyReads part n → Shrinks part → (p : Place) (op : BinOp) (e g : RawTree) (ts a b rest : List Token) → op_tier op ≡ Cmps → Fits (left_tier (op_tier op)) e → Fits (under (op_tier op)) g →
-    1 + max (raw_depth e) (raw_depth g) ≤ suc n → Spells e ts a → First p (op_kind op) a b → Spells g b rest → Stops Cmps rest → cmps_of part n ts ≡ Ok (raw_binary p op e g, rest)
+compare_is : (part : Parts) (n : ℕ) → OnlyReads part n → Shrinks part → (p : Place) (op : BinOp) (e g : RawTree) (ts a b rest : List Token) →
+    op_tier op ≡ Cmps → Fits (left_tier (op_tier op)) e → Fits (under (op_tier op)) g →
+    1 + max (raw_depth e) (raw_depth g) ≤ suc n → Spells e ts a → First p (op_kind op) a b → Spells g b rest → Stops Cmps rest →
+    cmps_of part n ts ≡ Ok (raw_binary p op e g, rest)
 unfolding cmps_of compared_of OnlyReads
 compare_is part n h sh p op e g ts a b rest is_at f i d w o v s =
-    bind_is _ _ ts (sums_is part n h sh e ts a (subst (λ l. Fits (left_tier l) e) is_at f) (omega (arith, d)) w (stops_op op Sums p a b (let r : rank (op_tier op) ≡ 3 = ap rank is_at in omega (arith, r)) o))
+    bind_is _ _ ts (sums_is part n h sh e ts a (subst (λ l. Fits (left_tier l) e) is_at f) (omega (arith, d)) w
+    (stops_op op Sums p a b (let r : rank (op_tier op) ≡ 3 = ap rank is_at in omega (arith, r)) o))
     (first_is _ _ _ a (subst (λ l. at (next_op l n (raw_depth e)) a ≡ Some ((p, op), b)) is_at (op_is n (raw_depth e) op p a b (omega (arith, d)) o))
-    (bind_is _ _ b (h Sums g b rest (subst (λ l. Fits (under l) g) is_at i) (omega (arith, d)) v (stops_in Sums Cmps rest (omega arith) s)) (pure_is _ _ rest refl)))
+    (bind_is _ _ b (h Sums g b rest (subst (λ l. Fits (under l) g) is_at i) (omega (arith, d)) v (stops_in Sums Cmps rest (omega arith) s))
+    (pure_is _ _ rest refl)))
 
-cmps_is : (part : Parts) (n : ℕ) → OnlyReads part n → Shrinks part → (t : RawTree) (ts rest : List Token) → Fits Cmps t → raw_depth t ≤ suc n → Spells t ts rest → Stops Cmps rest → cmps_of part n ts ≡ Ok (t, rest)
+cmps_is : (part : Parts) (n : ℕ) → OnlyReads part n → Shrinks part → (t : RawTree) (ts rest : List Token) → Fits Cmps t → raw_depth t ≤ suc n →
+    Spells t ts rest → Stops Cmps rest → cmps_of part n ts ≡ Ok (t, rest)
 unfolding cmps_of compared_of OnlyReads
 cmps_is part n h sh (raw_lit p k) ts rest f d w s = cmps_inner part n h sh (raw_lit p k) ts rest (omega arith) d w s
 cmps_is part n h sh (raw_truth p b) ts rest f d w s = cmps_inner part n h sh (raw_truth p b) ts rest (omega arith) d w s
@@ -802,34 +957,41 @@ cmps_is part n h sh (raw_let p xs qs e g) ts rest f d w s = absurd (omega (arith
 cmps_is part n h sh (raw_choose p ps e) ts rest f d w s = absurd (omega (arith, f))
 cmps_is part n h sh (raw_match p e arms) ts rest f d w s = absurd (omega (arith, f))
 
-ands_is : (part : Parts) (n : ℕ) → OnlyReads part n → Shrinks part → (t : RawTree) (ts rest : List Token) → Fits Ands t → raw_depth t ≤ suc n → Spells t ts rest → Stops Ands rest → ands_of part n ts ≡ Ok (t, rest)
+ands_is : (part : Parts) (n : ℕ) → OnlyReads part n → Shrinks part → (t : RawTree) (ts rest : List Token) → Fits Ands t → raw_depth t ≤ suc n →
+    Spells t ts rest → Stops Ands rest → ands_of part n ts ≡ Ok (t, rest)
 unfolding ands_of
 ands_is part n h sh t ts rest f d w s = chain_only part n h Ands ands_chain (cmps_of part n) (cmps_is part n h sh) t ts rest f d w s
 
-ors_is : (part : Parts) (n : ℕ) → OnlyReads part n → Shrinks part → (t : RawTree) (ts rest : List Token) → Fits Ors t → raw_depth t ≤ suc n → Spells t ts rest → Stops Ors rest → ors_of part n ts ≡ Ok (t, rest)
+ors_is : (part : Parts) (n : ℕ) → OnlyReads part n → Shrinks part → (t : RawTree) (ts rest : List Token) → Fits Ors t → raw_depth t ≤ suc n → Spells t ts rest →
+    Stops Ors rest → ors_of part n ts ≡ Ok (t, rest)
 unfolding ors_of
 ors_is part n h sh t ts rest f d w s = chain_only part n h Ors ors_chain (ands_of part n) (ands_is part n h sh) t ts rest f d w s
 
 -- forms of the outermost tier
 
-let_is : (part : Parts) (n : ℕ) → OnlyReads part n → (p : Place) (xs : List (List ℕ)) (qs : List Place) (e g : RawTree) (ts rest : List Token) → raw_depth (raw_let p xs qs e g) ≤ suc n → Spells (raw_let p xs qs e g) ts rest → Stops Whole rest →
+let_is : (part : Parts) (n : ℕ) → OnlyReads part n → (p : Place) (xs : List (List ℕ)) (qs : List Place) (e g : RawTree) (ts rest : List Token) →
+    raw_depth (raw_let p xs qs e g) ≤ suc n → Spells (raw_let p xs qs e g) ts rest → Stops Whole rest →
     whole_of part n ts ≡ Ok (raw_let p xs qs e g, rest)
 unfolding whole_of let_of OnlyReads
 let_is part n h p xs qs e g ts rest d (a, w, (b, x, (c, m, (i, v, (j, k, u))))) s =
     deep_is _ _ _ _ ts (omega (arith, d, deep_one e)) (at_is _ ts a p refl w)
-    (bind_is _ _ a (names_are xs qs a b x) (bind_is _ _ b (next_is _ b c refl m) (bind_is _ _ c (h Whole e c i (omega arith) (omega (arith, d)) v (stops_at Whole (Word (codes "in")) i j in_closes k))
+    (bind_is _ _ a (names_are xs qs a b x) (bind_is _ _ b (next_is _ b c refl m)
+    (bind_is _ _ c (h Whole e c i (omega arith) (omega (arith, d)) v (stops_at Whole (Word (codes "in")) i j in_closes k))
     (bind_is _ _ i (next_is _ i j refl k) (bind_is _ _ j (h Whole g j rest (omega arith) (omega (arith, d)) u s) (pure_is _ _ rest refl))))))
 
-if_is : (part : Parts) (n : ℕ) → OnlyReads part n → (p : Place) (e f g : RawTree) (ts rest : List Token) → raw_depth (raw_if p e f g) ≤ suc n → Spells (raw_if p e f g) ts rest → Stops Whole rest →
+if_is : (part : Parts) (n : ℕ) → OnlyReads part n → (p : Place) (e f g : RawTree) (ts rest : List Token) → raw_depth (raw_if p e f g) ≤ suc n →
+    Spells (raw_if p e f g) ts rest → Stops Whole rest →
     whole_of part n ts ≡ Ok (raw_if p e f g, rest)
 unfolding whole_of if_of OnlyReads
 if_is part n h p e f g ts rest d (a, w, (b, x, (c, m, (i, v, (j, k, u))))) s =
     deep_not _ _ _ _ ts (at_not _ (Word (codes "if")) ts a p refl w) (deep_is _ _ _ _ ts (omega (arith, d, deep_one e)) (at_is _ ts a p refl w)
-    (bind_is _ _ a (h Whole e a b (omega arith) (omega (arith, d)) x (stops_at Whole (Word (codes "then")) b c then_closes m)) (bind_is _ _ b (next_is _ b c refl m)
+    (bind_is _ _ a (h Whole e a b (omega arith) (omega (arith, d)) x (stops_at Whole (Word (codes "then")) b c then_closes m))
+    (bind_is _ _ b (next_is _ b c refl m)
     (bind_is _ _ c (h Whole f c i (omega arith) (omega (arith, d)) v (stops_at Whole (Word (codes "else")) i j else_closes k))
     (bind_is _ _ i (next_is _ i j refl k) (bind_is _ _ j (h Whole g j rest (omega arith) (omega (arith, d)) u s) (pure_is _ _ rest refl)))))))
 
-choose_is : (part : Parts) (n : ℕ) → OnlyReads part n → (p : Place) (ps : List Param) (e : RawTree) (ts rest : List Token) → raw_depth (raw_choose p ps e) ≤ suc n → Spells (raw_choose p ps e) ts rest → Stops Whole rest →
+choose_is : (part : Parts) (n : ℕ) → OnlyReads part n → (p : Place) (ps : List Param) (e : RawTree) (ts rest : List Token) →
+    raw_depth (raw_choose p ps e) ≤ suc n → Spells (raw_choose p ps e) ts rest → Stops Whole rest →
     whole_of part n ts ≡ Ok (raw_choose p ps e, rest)
 unfolding whole_of choose_of OnlyReads
 choose_is part n h p ps e ts rest d (a, w, (b, o, (c, l, (i, m, (f, u))))) s =
@@ -844,12 +1006,15 @@ DeepArm n arm ts us = (raw_arm_depth arm ≤ n) × SpellsArm arm ts us
 then_ends : (ts us : List Token) → Next (Word (codes "then")) ts us → Ended ts
 then_ends ts us (p, w) = record { sign = no_sign (Word (codes "then")) ts us p refl w; times = at_not _ (Word (codes "then")) ts us p refl w }
 
-arm_is : (part : Parts) (n : ℕ) → OnlyReads part n → (arm : RawArmTree) (ts us : List Token) → DeepArm n arm ts us → Stops Whole us → arm_of part ts ≡ Ok (arm, us)
+arm_is : (part : Parts) (n : ℕ) → OnlyReads part n → (arm : RawArmTree) (ts us : List Token) → DeepArm n arm ts us → Stops Whole us →
+    arm_of part ts ≡ Ok (arm, us)
 unfolding arm_of OnlyReads
 arm_is part n h (raw_arm parts c e) ts us (d, (a, y, (b, m, v))) s =
-    bind_is _ _ ts (pattern_is parts c ts a y (then_ends a b m)) (bind_is _ _ a (next_is _ a b refl m) (bind_is _ _ b (h Whole e b us (omega arith) (omega (arith, d)) v s) (pure_is _ _ us refl)))
+    bind_is _ _ ts (pattern_is parts c ts a y (then_ends a b m))
+    (bind_is _ _ a (next_is _ a b refl m) (bind_is _ _ b (h Whole e b us (omega arith) (omega (arith, d)) v s) (pure_is _ _ us refl)))
 
-arm_list : (part : Parts) (n : ℕ) → OnlyReads part n → ((ts : List Token) → Within (length ts) (arm_of part ts)) → Items (arm_of part) (DeepArm n) (Sign (codes ";")) (Sign (codes "}"))
+arm_list : (part : Parts) (n : ℕ) → OnlyReads part n → ((ts : List Token) → Within (length ts) (arm_of part ts)) →
+    Items (arm_of part) (DeepArm n) (Sign (codes ";")) (Sign (codes "}"))
 arm_list part n h within = record {
   reads = λ arm ts us w e. arm_is part n h arm ts us w (ends_stop (Sign (codes ";")) (Sign (codes "}")) us semicolon_closes brace_closes e);
   within = within;
@@ -858,28 +1023,38 @@ arm_list part n h within = record {
   differs = refl;
 }
 
-deep_arms : (n : ℕ) (arms : RawArmTrees) (ts rest : List Token) → raw_arms_depth arms ≤ n → SpellsArms arms ts rest → Others (DeepArm n) (Sign (codes ";")) (Sign (codes "}")) (arm_items arms) ts rest
+deep_arms : (n : ℕ) (arms : RawArmTrees) (ts rest : List Token) → raw_arms_depth arms ≤ n → SpellsArms arms ts rest →
+    Others (DeepArm n) (Sign (codes ";")) (Sign (codes "}")) (arm_items arms) ts rest
 unfolding arm_items
 deep_arms n no_raw_arms ts rest d w = w
 deep_arms n (raw_arm_more arm arms) ts rest d (a, c, (b, s, o)) = (a, c, (b, (omega (arith, d), s), deep_arms n arms b rest (omega (arith, d)) o))
 
-match_is : (part : Parts) (n : ℕ) → OnlyReads part n → ((ts : List Token) → Within (length ts) (arm_of part ts)) → (p : Place) (e : RawTree) (arm : RawArmTree) (arms : RawArmTrees) (ts rest : List Token) →
-    raw_depth (raw_match p e (raw_arm_more arm arms)) ≤ suc n → Spells (raw_match p e (raw_arm_more arm arms)) ts rest → Stops Whole rest → whole_of part n ts ≡ Ok (raw_match p e (raw_arm_more arm arms), rest)
+match_is : (part : Parts) (n : ℕ) → OnlyReads part n → ((ts : List Token) → Within (length ts) (arm_of part ts)) →
+    (p : Place) (e : RawTree) (arm : RawArmTree) (arms : RawArmTrees) (ts rest : List Token) →
+    raw_depth (raw_match p e (raw_arm_more arm arms)) ≤ suc n → Spells (raw_match p e (raw_arm_more arm arms)) ts rest → Stops Whole rest →
+    whole_of part n ts ≡ Ok (raw_match p e (raw_arm_more arm arms), rest)
 unfolding whole_of match_of OnlyReads
 match_is part n h within p e arm arms ts rest d (a, w, (b, x, (c, m, (i, o, (j, v, u))))) s =
-    deep_not _ _ _ _ ts (at_not _ (Word (codes "match")) ts a p refl w) (deep_not _ _ _ _ ts (at_not _ (Word (codes "match")) ts a p refl w) (deep_not _ _ _ _ ts (at_not _ (Word (codes "match")) ts a p refl w)
+    deep_not _ _ _ _ ts (at_not _ (Word (codes "match")) ts a p refl w)
+    (deep_not _ _ _ _ ts (at_not _ (Word (codes "match")) ts a p refl w) (deep_not _ _ _ _ ts (at_not _ (Word (codes "match")) ts a p refl w)
     (deep_is _ _ _ _ ts (omega (arith, d, deep_one e)) (at_is _ ts a p refl w)
-    (bind_is _ _ a (h Whole e a b (omega arith) (omega (arith, d)) x (stops_at Whole (Word (codes "with")) b c with_closes m)) (bind_is _ _ b (next_is _ b c refl m) (bind_is _ _ c (next_is _ c i refl o)
-    (bind_is _ _ i (several_are snoc (arm_of part) (DeepArm n) (Sign (codes ";")) (Sign (codes "}")) (arm_list part n h within) (arm ∷ arm_items arms) [] i rest (j, (omega (arith, d), v), deep_arms n arms j rest (omega (arith, d)) u))
-    (pure_is _ _ rest (ap (λ z. raw_match p e (raw_arms_of z)) (all_added (arm ∷ arm_items arms)) ∙ ap (λ z. raw_match p e (raw_arm_more arm z)) (arm_items_again arms))))))))))
+    (bind_is _ _ a (h Whole e a b (omega arith) (omega (arith, d)) x (stops_at Whole (Word (codes "with")) b c with_closes m))
+    (bind_is _ _ b (next_is _ b c refl m) (bind_is _ _ c (next_is _ c i refl o)
+    (bind_is _ _ i (several_are snoc (arm_of part) (DeepArm n) (Sign (codes ";")) (Sign (codes "}")) (arm_list part n h within) (arm ∷ arm_items arms) [] i rest
+    (j, (omega (arith, d), v), deep_arms n arms j rest (omega (arith, d)) u))
+    (pure_is _ _ rest (ap (λ z. raw_match p e (raw_arms_of z)) (all_added (arm ∷ arm_items arms)) ∙
+    ap (λ z. raw_match p e (raw_arm_more arm z)) (arm_items_again arms))))))))))
 
-inner_is : (part : Parts) (n : ℕ) → OnlyReads part n → Shrinks part → (t : RawTree) (ts rest : List Token) → Fits Ors t → raw_depth t ≤ suc n → Spells t ts rest → Stops Whole rest → whole_of part n ts ≡ Ok (t, rest)
+inner_is : (part : Parts) (n : ℕ) → OnlyReads part n → Shrinks part → (t : RawTree) (ts rest : List Token) → Fits Ors t → raw_depth t ≤ suc n →
+    Spells t ts rest → Stops Whole rest → whole_of part n ts ≡ Ok (t, rest)
 unfolding whole_of
 inner_is part n h sh t ts rest f d w s =
-    deep_not _ _ _ _ ts (starts _ let_unstarted t ts rest (inr f) w) (deep_not _ _ _ _ ts (starts _ if_unstarted t ts rest (inr f) w) (deep_not _ _ _ _ ts (starts _ choose_unstarted t ts rest (inr f) w)
+    deep_not _ _ _ _ ts (starts _ let_unstarted t ts rest (inr f) w)
+    (deep_not _ _ _ _ ts (starts _ if_unstarted t ts rest (inr f) w) (deep_not _ _ _ _ ts (starts _ choose_unstarted t ts rest (inr f) w)
     (deep_not _ _ _ _ ts (starts _ match_unstarted t ts rest (inr f) w) (ors_is part n h sh t ts rest f d w (stops_in Ors Whole rest (omega arith) s)))))
 
-whole_is : (part : Parts) (n : ℕ) → OnlyReads part n → Shrinks part → ((ts : List Token) → Within (length ts) (arm_of part ts)) → (t : RawTree) (ts rest : List Token) → raw_depth t ≤ suc n → Spells t ts rest → Stops Whole rest → whole_of part n ts ≡ Ok (t, rest)
+whole_is : (part : Parts) (n : ℕ) → OnlyReads part n → Shrinks part → ((ts : List Token) → Within (length ts) (arm_of part ts)) →
+    (t : RawTree) (ts rest : List Token) → raw_depth t ≤ suc n → Spells t ts rest → Stops Whole rest → whole_of part n ts ≡ Ok (t, rest)
 whole_is part n h sh i (raw_lit p k) ts rest d w s = inner_is part n h sh (raw_lit p k) ts rest (omega arith) d w s
 whole_is part n h sh i (raw_truth p b) ts rest d w s = inner_is part n h sh (raw_truth p b) ts rest (omega arith) d w s
 whole_is part n h sh i (raw_name p x) ts rest d w s = inner_is part n h sh (raw_name p x) ts rest (omega arith) d w s
@@ -901,7 +1076,9 @@ whole_is part n h sh i (raw_choose p ps e) ts rest d w s = choose_is part n h p 
 whole_is part n h sh i (raw_match p e no_raw_arms) ts rest d w s = absurd w
 whole_is part n h sh i (raw_match p e (raw_arm_more arm arms)) ts rest d w s = match_is part n h i p e arm arms ts rest d w s
 
-step_is : (part : Parts) (n : ℕ) → OnlyReads part n → Shrinks part → ((ts : List Token) → Within (length ts) (arm_of part ts)) → (tier : Tier) (t : RawTree) (ts rest : List Token) → Fits tier t → raw_depth t ≤ suc n → Spells t ts rest → Stops tier rest → step part n tier ts ≡ Ok (t, rest)
+step_is : (part : Parts) (n : ℕ) → OnlyReads part n → Shrinks part → ((ts : List Token) → Within (length ts) (arm_of part ts)) →
+    (tier : Tier) (t : RawTree) (ts rest : List Token) → Fits tier t → raw_depth t ≤ suc n → Spells t ts rest → Stops tier rest →
+    step part n tier ts ≡ Ok (t, rest)
 unfolding step
 step_is part n h sh i Whole t ts rest f d w s = whole_is part n h sh i t ts rest d w s
 step_is part n h sh i Ors t ts rest f d w s = ors_is part n h sh t ts rest f d w s

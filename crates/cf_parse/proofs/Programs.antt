@@ -35,15 +35,30 @@ maybe_params_yields ts = first_yields _ _ _ ts (λ p a c. pure_yields [] a (took
 def_yields : (limit : ℕ) (ts : List Token) → Yields (λ d us. SpellsDef limit d ts us) (def_of limit ts)
 unfolding def_of def_from Finds
 def_yields limit ts =
-    bind_yields _ _ ts (must_yields _ ts) (λ p a w. bind_yields _ _ a (must_yields _ a) (λ x b n. bind_yields _ _ b (must_yields _ b) (λ q c o. bind_yields _ _ c (maybe_params_yields c) (λ params e l.
-    bind_yields _ _ e (must_yields _ e) (λ r f m. bind_yields _ _ f (results_yields f) (λ results g k. bind_yields _ _ g (must_yields _ g) (λ s h i. bind_yields _ _ h (read_found limit Whole h) (λ t us found.
-    pure_yields _ us (a, took_is _ ts a p w, (b, (x.0, took_name a b x n), (c, took_next _ b c q o, (e, l, (f, took_next _ e f r m, (g, k, (h, took_next _ g h s i, (found.deep, found.spelled))))))))))))))))
+    bind_yields _ _ ts (must_yields _ ts) (λ p a w. bind_yields _ _ a (must_yields _ a)
+    (λ x b n. bind_yields _ _ b (must_yields _ b) (λ q c o. bind_yields _ _ c (maybe_params_yields c) (λ params e l.
+    bind_yields _ _ e (must_yields _ e) (λ r f m. bind_yields _ _ f (results_yields f)
+    (λ results g k. bind_yields _ _ g (must_yields _ g) (λ s h i. bind_yields _ _ h (read_found limit Whole h) (λ t us found.
+    pure_yields _ us (
+      a,
+      took_is _ ts a p w,
+      (
+        b,
+        (x.0, took_name a b x n),
+        (
+          c,
+          took_next _ b c q o,
+          (e, l, (f, took_next _ e f r m, (g, k, (h, took_next _ g h s i, (found.deep, found.spelled))))),
+        ),
+      ),
+    )))))))))
 
 -- functions behind those read before
 abbrev DefsFound : ℕ → List RawDefTree → List Token → List RawDefTree → List Token → Type 0
 DefsFound limit done ts ds us = (new : List RawDefTree) × (ds ≡ done ++ new) × SpellsDefs limit new ts
 
-one_more : (limit : ℕ) (done : List RawDefTree) (ts a : List Token) (d : RawDefTree) (ds : List RawDefTree) (us : List Token) → SpellsDef limit d ts a → DefsFound limit (done ++ d ∷ []) a ds us → DefsFound limit done ts ds us
+one_more : (limit : ℕ) (done : List RawDefTree) (ts a : List Token) (d : RawDefTree) (ds : List RawDefTree) (us : List Token) → SpellsDef limit d ts a →
+    DefsFound limit (done ++ d ∷ []) a ds us → DefsFound limit done ts ds us
 one_more limit done ts a d ds us w (new, e, s) = (d ∷ new, e ∙ append_assoc done (d ∷ []) new, (a, w, s))
 
 defs_yields : (limit k : ℕ) (done : List RawDefTree) (ts : List Token) → Yields (DefsFound limit done ts) (defs_of limit k done ts)
@@ -52,12 +67,14 @@ defs_yields limit zero done [] = yields done [] ([], sym (append-nil done), refl
 defs_yields limit zero done (t ∷ ts) = faults 0
 defs_yields limit (suc k) done [] = yields done [] ([], sym (append-nil done), refl)
 defs_yields limit (suc k) done (t ∷ ts) =
-    bind_yields _ _ (t ∷ ts) (def_yields limit (t ∷ ts)) (λ d a w. widen (λ ds us s. one_more limit done (t ∷ ts) a d ds us w s) (defs_yields limit k (done ++ d ∷ []) a))
+    bind_yields _ _ (t ∷ ts) (def_yields limit (t ∷ ts))
+    (λ d a w. widen (λ ds us s. one_more limit done (t ∷ ts) a d ds us w s) (defs_yields limit k (done ++ d ∷ []) a))
 
 program_yields : (limit : ℕ) (ts : List Token) → Yields (λ ds us. SpellsProgram limit ds ts) (program_of limit ts)
 unfolding program_of all_defs
 program_yields limit ts =
-    bind_yields _ _ ts (def_yields limit ts) (λ d a w. widen (λ ds us s. subst (λ z. SpellsProgram limit z ts) (sym s.1) (a, w, s.2)) (defs_yields limit (length a) (d ∷ []) a))
+    bind_yields _ _ ts (def_yields limit ts)
+    (λ d a w. widen (λ ds us s. subst (λ z. SpellsProgram limit z ts) (sym s.1) (a, w, s.2)) (defs_yields limit (length a) (d ∷ []) a))
 
 pub found_law : (ts : List Token) (ds : List RawDefTree) (us : List Token) → program_of 200 ts ≡ Ok (ds, us) → IsProgram ds ts
 found_law ts ds us e = found_on (λ ds. IsProgram ds ts) (program_of 200 ts) ds us (program_yields 200 ts) e
@@ -75,8 +92,10 @@ maybe_params_are (x ∷ xs) ts rest w = first_not _ _ _ ts (at_not _ (Word x.nam
 def_from_is : (limit : ℕ) (d : RawDefTree) (ts us : List Token) → (w : SpellsDef limit d ts us) → Stops Whole us → def_from limit d.place w.0 ≡ Ok (d, us)
 unfolding def_from OnlyReads
 def_from_is limit d ts us (a, w, (b, (q, n), (c, o, (e, l, (f, m, (g, k, (h, i, (z, s)))))))) stops =
-    bind_is _ _ a (must_is _ a b _ (name_is a b q d.name n)) (bind_is _ _ b (next_is _ b c refl o) (bind_is _ _ c (maybe_params_are d.params c e l) (bind_is _ _ e (next_is _ e f refl m)
-    (bind_is _ _ f (results_are d.results f g k) (bind_is _ _ g (next_is _ g h refl i) (bind_is _ _ h (read_only limit Whole d.body h us (omega arith) z s stops) (pure_is _ d us refl)))))))
+    bind_is _ _ a (must_is _ a b _ (name_is a b q d.name n))
+    (bind_is _ _ b (next_is _ b c refl o) (bind_is _ _ c (maybe_params_are d.params c e l) (bind_is _ _ e (next_is _ e f refl m)
+    (bind_is _ _ f (results_are d.results f g k)
+    (bind_is _ _ g (next_is _ g h refl i) (bind_is _ _ h (read_only limit Whole d.body h us (omega arith) z s stops) (pure_is _ d us refl)))))))
 
 def_is : (limit : ℕ) (d : RawDefTree) (ts us : List Token) → SpellsDef limit d ts us → Stops Whole us → def_of limit ts ≡ Ok (d, us)
 unfolding def_of
@@ -85,12 +104,18 @@ def_is limit d ts us w stops = bind_is _ _ ts (must_is _ ts w.0 _ (at_is _ ts w.
 def_from_local : {more other : List Token} (limit : ℕ) (p : Place) → Local more other (def_from limit p) (def_from limit p)
 unfolding def_from LocalParts
 def_from_local limit p =
-    bind_local (must_local _) (λ x. bind_local (must_local _) (λ q. bind_local params_local (λ params. bind_local (must_local _) (λ r. bind_local results_local (λ results. bind_local (must_local _) (λ s.
+    bind_local (must_local _) (λ x. bind_local (must_local _)
+    (λ q. bind_local params_local (λ params. bind_local (must_local _) (λ r. bind_local results_local (λ results. bind_local (must_local _) (λ s.
     bind_local (read_local _ _ limit Whole) (λ t. pure_local _)))))))
 
 def_shorter : (limit : ℕ) (d : RawDefTree) (ts us : List Token) → SpellsDef limit d ts us → Stops Whole us → suc (length us) ≤ length ts
 def_shorter limit d ts us w stops =
-    omega (arith, first_longer (Word (codes "def")) ts w.0 d.place w.1, left_over (length w.0) (def_from limit d.place w.0) d us (def_from_is limit d ts us w stops) ((def_from_local {more = []} {other = []} limit d.place).within w.0 (length w.0) (omega arith)))
+    omega (
+      arith,
+      first_longer (Word (codes "def")) ts w.0 d.place w.1,
+      left_over (length w.0) (def_from limit d.place w.0) d us
+          (def_from_is limit d ts us w stops) ((def_from_local {more = []} {other = []} limit d.place).within w.0 (length w.0) (omega arith)),
+    )
 
 defs_stop : (limit : ℕ) (ds : List RawDefTree) (ts : List Token) → SpellsDefs limit ds ts → Stops Whole ts
 defs_stop limit [] ts e = subst (λ us. Stops Whole us) (sym e) (stops_end Whole)
@@ -105,12 +130,14 @@ defs_are limit (suc k) done (d ∷ ds) ts (a, w, s) l =
     let stops : Stops Whole a = defs_stop limit ds a s in
     ap (defs_of limit (suc k) done) w.1
     ∙ bind_is (def_of limit) (λ d. defs_of limit k (snoc done d)) _ (ap (def_of limit) (sym w.1) ∙ def_is limit d ts a w stops)
-    (defs_are limit k (done ++ d ∷ []) ds a s (omega (arith, l, def_shorter limit d ts a w stops)) ∙ ap (λ (z : List RawDefTree). Ok (z, [])) (append_assoc done (d ∷ []) ds))
+    (defs_are limit k (done ++ d ∷ []) ds a s (omega (arith, l, def_shorter limit d ts a w stops)) ∙
+    ap (λ (z : List RawDefTree). Ok (z, [])) (append_assoc done (d ∷ []) ds))
 
 program_is : (limit : ℕ) (ds : List RawDefTree) (ts : List Token) → SpellsProgram limit ds ts → program_of limit ts ≡ Ok (ds, [])
 unfolding program_of all_defs
 program_is limit [] ts w = absurd w
-program_is limit (d ∷ ds) ts (a, w, s) = bind_is _ _ ts (def_is limit d ts a w (defs_stop limit ds a s)) (defs_are limit (length a) (d ∷ []) ds a s (omega arith))
+program_is limit (d ∷ ds) ts (a, w, s) =
+    bind_is _ _ ts (def_is limit d ts a w (defs_stop limit ds a s)) (defs_are limit (length a) (d ∷ []) ds a s (omega arith))
 
 pub only_law : (ts : List Token) (ds : List RawDefTree) → IsProgram ds ts → program_of 200 ts ≡ Ok (ds, [])
 only_law ts ds w = program_is 200 ds ts w

@@ -36,6 +36,7 @@ unfolding terms_of bind
 terms_err zero minus done ts e g lt = absurd (omega arith)
 terms_err (suc k) minus done ts e g lt = rw (terms_of, bind, g) refl
 
-pub terms_fail : (k : ℕ) (minus : Bool) (done : List Part) (ts : List Token) (e : Stop) → StopAnswer e (term_of minus ts) → 0 < k → StopAnswer e (terms_of k minus done ts)
+pub terms_fail : (k : ℕ) (minus : Bool) (done : List Part) (ts : List Token) (e : Stop) → StopAnswer e (term_of minus ts) → 0 < k →
+    StopAnswer e (terms_of k minus done ts)
 terms_fail k minus done ts stops.NoMemory g lt = tt
 terms_fail k minus done ts (stops.TokensLeft n) g lt = terms_err k minus done ts n g lt

@@ -23,7 +23,8 @@ SpellsParams xs = AnyNumber SpellsParam (Sign (codes ",")) (Sign (codes ")")) xs
 -- def = "def" name "(" [ param { "," param } ] ")" ":" results "=" expr, with a body of at most this depth
 abbrev pub SpellsDef : ℕ → RawDefTree → Form
 SpellsDef limit d =
-    First d.place (Word (codes "def")) ⨟ NextName d.name ⨟ Next (Sign (codes "(")) ⨟ SpellsParams d.params ⨟ Next (Sign (codes ":")) ⨟ OneOrTuple SpellsBase d.results
+    First d.place (Word (codes "def")) ⨟ NextName d.name ⨟ Next (Sign (codes "(")) ⨟ SpellsParams d.params ⨟ Next (Sign (codes ":")) ⨟ OneOrTuple SpellsBase
+    d.results
     ⨟ Next (Sign (codes "=")) ⨟ If (raw_depth d.body ≤ limit) (Spells d.body)
 
 -- { def }, up to the end

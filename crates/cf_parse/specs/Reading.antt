@@ -95,7 +95,8 @@ names_of = one_or_tuple named (must a_name) ([], [])
 unfoldable pub term_of : Bool → Reader Term
 term_of minus =
     first (a_literal (pos 0)) (λ k.
-    first (is (Sign (codes "*"))) (λ p. must a_name >>= λ x. pure (a_part (record { place = x.0; factor = signed minus k.1; name = x.1 }))) (pure (the_constant (signed minus k.1))))
+    first (is (Sign (codes "*"))) (λ p. must a_name >>= λ x. pure (a_part (record { place = x.0; factor = signed minus k.1; name = x.1 })))
+    (pure (the_constant (signed minus k.1))))
     (must a_name >>= λ x. pure (a_part (record { place = x.0; factor = signed minus (pos 1); name = x.1 })))
 
 -- the parts of a pattern and its constant

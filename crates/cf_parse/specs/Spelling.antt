@@ -156,7 +156,8 @@ abbrev mutual
   Spells (raw_let p names places e f) =
       First p (Word (codes "let")) ⨟ SpellsNames names places ⨟ Next (Sign (codes "=")) ⨟ Spells e ⨟ Next (Word (codes "in")) ⨟ Spells f
   Spells (raw_choose p outputs e) =
-      First p (Word (codes "choose")) ⨟ Next (Sign (codes "(")) ⨟ Several SpellsParam (Sign (codes ",")) (Sign (codes ")")) outputs ⨟ Next (Word (codes "where"))
+      First p (Word (codes "choose")) ⨟ Next (Sign (codes "(")) ⨟ Several SpellsParam (Sign (codes ",")) (Sign (codes ")")) outputs ⨟ Next
+      (Word (codes "where"))
       ⨟ If (Fits Ors e) (Spells e)
   Spells (raw_match p e no_raw_arms) = Nothing
   Spells (raw_match p e (raw_arm_more arm arms)) =

@@ -124,7 +124,8 @@ pub fn read_names(alloc: Global, tokens: &[Token]) -> Result<(Names, &[Token]), 
 
 #[tactic(auto, using(cf_reader::proofs::Steps::more_ends, cf_reader::proofs::Steps::more_goes, cf_reader::proofs::Steps::more_errs, cf_reader::proofs::Steps::more_closes, cf_reader::proofs::Steps::more_unclosed), unfolding(cf_reader::specs::Readers::others_of))]
 fn more_names(alloc: Global, first: Names, tokens: &[Token]) -> Result<(Names, &[Token]), Stop>
-    ensures { ReadAnswer (λ x. ((x.0.names.items, x.0.places.items), x.1.now)) result (others_of named (must a_name) (Sign (codes ",")) (Sign (codes ")")) (first.names.items, first.places.items) tokens.now) }
+    ensures { ReadAnswer (λ x. ((x.0.names.items, x.0.places.items), x.1.now)) result
+        (others_of named (must a_name) (Sign (codes ",")) (Sign (codes ")")) (first.names.items, first.places.items) tokens.now) }
 {
     let mut done = first;
     let mut rest = tokens;

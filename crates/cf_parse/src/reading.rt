@@ -207,7 +207,8 @@ fn more_arms(
     requires small { n < 2 ^ 30 }
     requires some { 1 ≤ n }
     requires first_in { first.depth ≤ n }
-    ensures value { ReadAnswer (λ x. (map raw_arm_tree x.0.arms.items, x.1.now)) result (others_of snoc (arm_of (read_at n)) (Sign (codes ";")) (Sign (codes "}")) (map raw_arm_tree first.arms.items) tokens.now) }
+    ensures value { ReadAnswer (λ x. (map raw_arm_tree x.0.arms.items, x.1.now)) result
+        (others_of snoc (arm_of (read_at n)) (Sign (codes ";")) (Sign (codes "}")) (map raw_arm_tree first.arms.items) tokens.now) }
     ensures deep { IfOk result (λ x. x.0.depth ≤ n) }
 {
     let mut done = first;
@@ -540,7 +541,8 @@ fn more<'a>(
 ) -> Result<(MeasuredList, &'a [Token]), Stop>
     requires small { n < 2 ^ 30 }
     requires first_in { first.depth ≤ n }
-    ensures value { ReadAnswer (λ x. (map raw_tree x.0.trees.items, x.1.now)) result (others_of snoc (read_at n Whole) (Sign (codes ",")) (Sign close.now) (map raw_tree first.trees.items) tokens.now) }
+    ensures value { ReadAnswer (λ x. (map raw_tree x.0.trees.items, x.1.now)) result
+        (others_of snoc (read_at n Whole) (Sign (codes ",")) (Sign close.now) (map raw_tree first.trees.items) tokens.now) }
     ensures deep { IfOk result (λ x. x.0.depth ≤ n) }
 {
     let mut done = first;

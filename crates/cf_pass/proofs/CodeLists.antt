@@ -98,42 +98,49 @@ pub set_run : (n : ℕ) (cs ds : CodeTrees) → AllImprove n cs ds → (scope : 
 set_run n no_codes no_codes h scope b l t env e done = same_way _
 set_run n no_codes (code_more d ds) h scope b l t env e done = absurd h
 set_run n (code_more c cs) no_codes h scope b l t env e done = absurd h
-set_run n (code_more c cs) (code_more d ds) h scope b l t env e done = then_any _ _ _ _ (h.0.runs scope (ask b) (one b) env l t.0 e) (λ x. set_run n cs ds h.1 scope b l t.1 env e _)
+set_run n (code_more c cs) (code_more d ds) h scope b l t env e done =
+    then_any _ _ _ _ (h.0.runs scope (ask b) (one b) env l t.0 e) (λ x. set_run n cs ds h.1 scope b l t.1 env e _)
 
 pub sum_run : (n : ℕ) (cs ds : CodeTrees) → AllImprove n cs ds → (scope : List Base) → (b : Base) → (l : length scope ≡ n) → (t : AllHave cs scope b) →
     (env : List Value) → (e : HaveBases scope env) → (z : ℤ) → IsNoWorse (sum_path cs env z) (sum_path ds env z)
 sum_run n no_codes no_codes h scope b l t env e z = same_way _
 sum_run n no_codes (code_more d ds) h scope b l t env e z = absurd h
 sum_run n (code_more c cs) no_codes h scope b l t env e z = absurd h
-sum_run n (code_more c cs) (code_more d ds) h scope b l t env e z = then_any _ _ _ _ (h.0.runs scope (ask b) (one b) env l t.0 e) (λ x. then_any _ _ _ _ (same_way (meets (z +ℤ number_in x))) (λ s. sum_run n cs ds h.1 scope b l t.1 env e (number_in s)))
+sum_run n (code_more c cs) (code_more d ds) h scope b l t env e z =
+    then_any _ _ _ _ (h.0.runs scope (ask b) (one b) env l t.0 e)
+    (λ x. then_any _ _ _ _ (same_way (meets (z +ℤ number_in x))) (λ s. sum_run n cs ds h.1 scope b l t.1 env e (number_in s)))
 
 pub min_run : (n : ℕ) (cs ds : CodeTrees) → AllImprove n cs ds → (scope : List Base) → (b : Base) → (l : length scope ≡ n) → (t : AllHave cs scope b) →
     (env : List Value) → (e : HaveBases scope env) → (z : Option ℤ) → IsNoWorse (best_path int_min cs env z) (best_path int_min ds env z)
 min_run n no_codes no_codes h scope b l t env e z = same_way _
 min_run n no_codes (code_more d ds) h scope b l t env e z = absurd h
 min_run n (code_more c cs) no_codes h scope b l t env e z = absurd h
-min_run n (code_more c cs) (code_more d ds) h scope b l t env e z = then_any _ _ _ _ (h.0.runs scope (ask b) (one b) env l t.0 e) (λ x. min_run n cs ds h.1 scope b l t.1 env e _)
+min_run n (code_more c cs) (code_more d ds) h scope b l t env e z =
+    then_any _ _ _ _ (h.0.runs scope (ask b) (one b) env l t.0 e) (λ x. min_run n cs ds h.1 scope b l t.1 env e _)
 
 pub max_run : (n : ℕ) (cs ds : CodeTrees) → AllImprove n cs ds → (scope : List Base) → (b : Base) → (l : length scope ≡ n) → (t : AllHave cs scope b) →
     (env : List Value) → (e : HaveBases scope env) → (z : Option ℤ) → IsNoWorse (best_path int_max cs env z) (best_path int_max ds env z)
 max_run n no_codes no_codes h scope b l t env e z = same_way _
 max_run n no_codes (code_more d ds) h scope b l t env e z = absurd h
 max_run n (code_more c cs) no_codes h scope b l t env e z = absurd h
-max_run n (code_more c cs) (code_more d ds) h scope b l t env e z = then_any _ _ _ _ (h.0.runs scope (ask b) (one b) env l t.0 e) (λ x. max_run n cs ds h.1 scope b l t.1 env e _)
+max_run n (code_more c cs) (code_more d ds) h scope b l t env e z =
+    then_any _ _ _ _ (h.0.runs scope (ask b) (one b) env l t.0 e) (λ x. max_run n cs ds h.1 scope b l t.1 env e _)
 
 pub union_run : (n : ℕ) (cs ds : CodeTrees) → AllImprove n cs ds → (scope : List Base) → (b : Base) → (l : length scope ≡ n) → (t : AllHave cs scope b) →
     (env : List Value) → (e : HaveBases scope env) → (zs : Option (List ℤ)) → IsNoWorse (join_path set_union cs env zs) (join_path set_union ds env zs)
 union_run n no_codes no_codes h scope b l t env e zs = same_way _
 union_run n no_codes (code_more d ds) h scope b l t env e zs = absurd h
 union_run n (code_more c cs) no_codes h scope b l t env e zs = absurd h
-union_run n (code_more c cs) (code_more d ds) h scope b l t env e zs = then_any _ _ _ _ (h.0.runs scope (ask b) (one b) env l t.0 e) (λ x. union_run n cs ds h.1 scope b l t.1 env e _)
+union_run n (code_more c cs) (code_more d ds) h scope b l t env e zs =
+    then_any _ _ _ _ (h.0.runs scope (ask b) (one b) env l t.0 e) (λ x. union_run n cs ds h.1 scope b l t.1 env e _)
 
 pub inter_run : (n : ℕ) (cs ds : CodeTrees) → AllImprove n cs ds → (scope : List Base) → (b : Base) → (l : length scope ≡ n) → (t : AllHave cs scope b) →
     (env : List Value) → (e : HaveBases scope env) → (zs : Option (List ℤ)) → IsNoWorse (join_path set_inter cs env zs) (join_path set_inter ds env zs)
 inter_run n no_codes no_codes h scope b l t env e zs = same_way _
 inter_run n no_codes (code_more d ds) h scope b l t env e zs = absurd h
 inter_run n (code_more c cs) no_codes h scope b l t env e zs = absurd h
-inter_run n (code_more c cs) (code_more d ds) h scope b l t env e zs = then_any _ _ _ _ (h.0.runs scope (ask b) (one b) env l t.0 e) (λ x. inter_run n cs ds h.1 scope b l t.1 env e _)
+inter_run n (code_more c cs) (code_more d ds) h scope b l t env e zs =
+    then_any _ _ _ _ (h.0.runs scope (ask b) (one b) env l t.0 e) (λ x. inter_run n cs ds h.1 scope b l t.1 env e _)
 
 -- ---- the forms over lists
 module _ (n : ℕ) (cs ds : CodeTrees) (h : AllImprove n cs ds) where

@@ -174,7 +174,8 @@ module _ (n : ℕ) (a a' b b' : CodeTree) (h : Improves n a a') (k : Improves n 
   pub improves_and : Improves n (code_and a b) (code_and a' b')
   improves_and = record {
     typed = λ scope asked bs l t. (h.typed scope (ask Truth) (one Truth) l t.0, k.typed scope (ask Truth) (one Truth) l t.1, t.2);
-    runs = λ scope asked bs env l t e. then_any _ _ _ _ (h.runs scope (ask Truth) (one Truth) env l t.0 e) (λ x. either_better (truth_in x) _ _ _ _ (k.runs scope (ask Truth) (one Truth) env l t.1 e) (same_way _));
+    runs = λ scope asked bs env l t e. then_any _ _ _ _ (h.runs scope (ask Truth) (one Truth) env l t.0 e)
+        (λ x. either_better (truth_in x) _ _ _ _ (k.runs scope (ask Truth) (one Truth) env l t.1 e) (same_way _));
     size = omega (arith, h.size, k.size);
     deep = omega (arith, h.deep, k.deep);
     lacks = λ x l u. (h.lacks x l u.0, k.lacks x l u.1);
@@ -186,7 +187,8 @@ module _ (n : ℕ) (a a' b b' : CodeTree) (h : Improves n a a') (k : Improves n 
   pub improves_or : Improves n (code_or a b) (code_or a' b')
   improves_or = record {
     typed = λ scope asked bs l t. (h.typed scope (ask Truth) (one Truth) l t.0, k.typed scope (ask Truth) (one Truth) l t.1, t.2);
-    runs = λ scope asked bs env l t e. then_any _ _ _ _ (h.runs scope (ask Truth) (one Truth) env l t.0 e) (λ x. either_better (truth_in x) _ _ _ _ (same_way _) (k.runs scope (ask Truth) (one Truth) env l t.1 e));
+    runs = λ scope asked bs env l t e. then_any _ _ _ _ (h.runs scope (ask Truth) (one Truth) env l t.0 e)
+        (λ x. either_better (truth_in x) _ _ _ _ (same_way _) (k.runs scope (ask Truth) (one Truth) env l t.1 e));
     size = omega (arith, h.size, k.size);
     deep = omega (arith, h.deep, k.deep);
     lacks = λ x l u. (h.lacks x l u.0, k.lacks x l u.1);
@@ -211,7 +213,12 @@ module _ (n : ℕ) (a a' b b' : CodeTree) (h : Improves n a a') (k : Improves n 
 module _ (n : ℕ) (a a' b b' c c' : CodeTree) (h : Improves n a a') (k : Improves n b b') (m : Improves n c c') where
   pub improves_slice : Improves n (code_slice a b c) (code_slice a' b' c')
   improves_slice = record {
-    typed = λ scope asked bs l t. (h.typed scope (ask Set) (one Set) l t.0, k.typed scope (ask Int) (one Int) l t.1, m.typed scope (ask Int) (one Int) l t.2, t.3);
+    typed = λ scope asked bs l t. (
+      h.typed scope (ask Set) (one Set) l t.0,
+      k.typed scope (ask Int) (one Int) l t.1,
+      m.typed scope (ask Int) (one Int) l t.2,
+      t.3,
+    );
     runs = λ scope asked bs env l t e. then_any _ _ _ _ (h.runs scope (ask Set) (one Set) env l t.0 e)
         (λ x. then_two _ _ _ _ _ (k.runs scope (ask Int) (one Int) env l t.1 e) (m.runs scope (ask Int) (one Int) env l t.2 e));
     size = omega (arith, h.size, k.size, m.size);

@@ -9,7 +9,8 @@ use Rattle.cf_pass.specs.Passes.{is_name_byte, IsPassName}
 name_of_a_pass : IsPassName (codes "drop-needs2")
 name_of_a_pass = (omega arith, omega arith, refl)
 
-not_in_a_name : (list_all is_name_byte (codes "Fold") ≡ false) × (list_all is_name_byte (codes "drop needs") ≡ false) × (list_all is_name_byte (codes "a_b") ≡ false)
+not_in_a_name : (list_all is_name_byte (codes "Fold") ≡ false) × (list_all is_name_byte (codes "drop needs") ≡ false) ×
+    (list_all is_name_byte (codes "a_b") ≡ false)
 not_in_a_name = (refl, refl, refl)
 
 no_empty_name : IsPassName [] → ⊥

@@ -173,9 +173,11 @@ mutual
   sound (code_compare o a b) scope asked bs env h e = then_any _ (path a env).gives _ (λ x. then_any _ (path b env).gives _ (λ y. truth_has bs _ h.4.0))
   sound (code_subset a b) scope asked bs env h e = then_any _ (path a env).gives _ (λ x. then_any _ (path b env).gives _ (λ y. truth_has bs _ h.2.0))
   sound (code_and a b) scope asked bs env h e =
-      rw h.2.0 (then_any _ (path a env).gives _ (λ x. either _ (truth_in x) _ _ (sound b scope (ask Truth) (one Truth) env h.1 e) (truth_has (one Truth) _ refl)))
+      rw h.2.0 (then_any _ (path a env).gives _
+      (λ x. either _ (truth_in x) _ _ (sound b scope (ask Truth) (one Truth) env h.1 e) (truth_has (one Truth) _ refl)))
   sound (code_or a b) scope asked bs env h e =
-      rw h.2.0 (then_any _ (path a env).gives _ (λ x. either _ (truth_in x) _ _ (truth_has (one Truth) _ refl) (sound b scope (ask Truth) (one Truth) env h.1 e)))
+      rw h.2.0 (then_any _ (path a env).gives _
+      (λ x. either _ (truth_in x) _ _ (truth_has (one Truth) _ refl) (sound b scope (ask Truth) (one Truth) env h.1 e)))
   sound (code_union cs) scope asked bs env h e = rw h.2.0 (union_sound cs scope env None h.1 e tt)
   sound (code_inter cs) scope asked bs env h e = rw h.2.0 (inter_sound cs scope env None h.1 e tt)
   sound (code_diff a b) scope asked bs env h e =
@@ -183,8 +185,12 @@ mutual
       (λ x hx. then_any _ (path b env).gives _ (λ y. set_has bs (set_diff (set_in x) (set_in y)) h.2.0 (rising_filter _ (set_in x) (given_rises x hx))))
   sound (code_slice a b c) scope asked bs env h e =
       then_given _ _ (sound a scope (ask Set) (one Set) env h.0 e)
-      (λ x hx. then_any _ (path b env).gives _ (λ y. then_any _ (path c env).gives _ (λ z. set_has bs (set_slice (set_in x) (count_of (number_in y)) (count_of (number_in z))) h.3.0 (rising_take (count_of (number_in z)) _ (rising_drop (count_of (number_in y)) (set_in x) (given_rises x hx))))))
-  sound (code_fresh a b) scope asked bs env h e = then_any _ (path a env).gives _ (λ x. then_any _ (path b env).gives _ (λ y. set_has bs (set_fresh (set_in x) (count_of (number_in y))) h.2.0 (rising_fresh (set_in x) (count_of (number_in y)))))
+      (λ x hx. then_any _ (path b env).gives _
+      (λ y. then_any _ (path c env).gives _ (λ z. set_has bs (set_slice (set_in x) (count_of (number_in y)) (count_of (number_in z))) h.3.0
+      (rising_take (count_of (number_in z)) _ (rising_drop (count_of (number_in y)) (set_in x) (given_rises x hx))))))
+  sound (code_fresh a b) scope asked bs env h e =
+      then_any _ (path a env).gives _ (λ x. then_any _ (path b env).gives _
+      (λ y. set_has bs (set_fresh (set_in x) (count_of (number_in y))) h.2.0 (rising_fresh (set_in x) (count_of (number_in y)))))
   sound (code_if t a b) scope asked bs env h e =
       then_any _ (path t env).gives _ (λ x. either _ (truth_in x) _ _ (sound a scope asked bs env h.1 e) (sound b scope asked bs env h.2 e))
   sound (code_let first n a b) scope asked bs env h e =
@@ -204,7 +210,8 @@ mutual
   set_sound : (cs : CodeTrees) (scope : List Base) (env : List Value) (done : List ℤ) → AllHave cs scope Int → HaveBases scope env → IsRising done →
       GivesOnly (HaveBases (one Set)) (set_path cs env done).gives
   set_sound no_codes scope env done h e r = set_has (one Set) done refl r
-  set_sound (code_more c cs) scope env done h e r = then_any _ (path c env).gives _ (λ x. set_sound cs scope env (set_put (number_in x) done) h.1 e (rising_put (number_in x) done r))
+  set_sound (code_more c cs) scope env done h e r =
+      then_any _ (path c env).gives _ (λ x. set_sound cs scope env (set_put (number_in x) done) h.1 e (rising_put (number_in x) done r))
 
   sum_sound : (cs : CodeTrees) (env : List Value) (z : ℤ) → GivesOnly (HaveBases (one Int)) (sum_path cs env z).gives
   sum_sound no_codes env z = number_has (one Int) z refl
@@ -236,12 +243,15 @@ mutual
       then_given _ _
       (then_given (HoldsIfSome (HaveBases (scope ++ one h.0))) _ (sound c scope None (one h.0) env h.1 e)
       (λ xs hx. given _ (have_append scope (one h.0) env xs e hx)))
-      (λ o ho. if_some_given (HaveBases (scope ++ one h.0)) (HoldsIfSome (Reaches (λ inner. PartsHave gs inner None bs) (length scope + suc (count_lets is)))) o _ tt ho
+      (λ o ho. if_some_given (HaveBases (scope ++ one h.0)) (HoldsIfSome (Reaches (λ inner. PartsHave gs inner None bs) (length scope + suc (count_lets is)))) o
+      _ tt ho
       (λ env' e'. let n : length (scope ++ one h.0) + count_lets is ≡ length scope + suc (count_lets is) = omega (arith, length-append scope (one h.0)) in
-      subst (λ m. GivesOnly (HoldsIfSome (Reaches (λ inner. PartsHave gs inner None bs) m)) (items_path is env').gives) n (items_sound is (scope ++ one h.0) gs bs env' h.2 e')))
+      subst (λ m. GivesOnly (HoldsIfSome (Reaches (λ inner. PartsHave gs inner None bs) m)) (items_path is env').gives) n
+      (items_sound is (scope ++ one h.0) gs bs env' h.2 e')))
   items_sound (item_more (need_item c) is) scope gs bs env h e =
       then_given _ _ (then_any (HoldsIfSome (HaveBases scope)) (path c env).gives _ (λ x. given _ (env_or_none (HaveBases scope) (truth_in x) env e)))
-      (λ o ho. if_some_given (HaveBases scope) (HoldsIfSome (Reaches (λ inner. PartsHave gs inner None bs) (length scope + count_lets is))) o _ tt ho (λ env' e'. items_sound is scope gs bs env' h.1 e'))
+      (λ o ho. if_some_given (HaveBases scope) (HoldsIfSome (Reaches (λ inner. PartsHave gs inner None bs) (length scope + count_lets is))) o _ tt ho
+      (λ env' e'. items_sound is scope gs bs env' h.1 e'))
 
   pub arms_sound : (arms : ArmTrees) (scope : List Base) (bs : List Base) (env : List Value) → ArmsHave arms scope bs → HaveBases scope env →
       GivesOnly (Found bs) (arms_path arms env).gives

@@ -27,7 +27,8 @@ both_count = refl
 behind_a_let : rewritten levelled 2 (code_let 2 3 zero_lit zero_lit) ≡ code_let 2 3 (code_var 2) (code_var 5)
 behind_a_let = refl
 
-in_an_arm : rewritten levelled 1 (code_solve 7 (arms_of (arm_of (2 ∷ 3 ∷ []) (items_of (let_item zero_lit ∷ need_item zero_lit ∷ [])) (codes_of (zero_lit ∷ [])) ∷ [])))
+in_an_arm : rewritten levelled 1 (code_solve 7
+    (arms_of (arm_of (2 ∷ 3 ∷ []) (items_of (let_item zero_lit ∷ need_item zero_lit ∷ [])) (codes_of (zero_lit ∷ [])) ∷ [])))
     ≡ code_solve 7 (arms_of (arm_of (2 ∷ 3 ∷ []) (items_of (let_item (code_var 3) ∷ need_item (code_var 4) ∷ [])) (codes_of (code_var 4 ∷ [])) ∷ []))
 in_an_arm = refl
 

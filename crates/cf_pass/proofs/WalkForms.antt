@@ -44,7 +44,8 @@ module _ (made : ℕ → CodeTree → CodeTree) (units : ℕ → CodeTree → �
         exact = λ k. let h = r.exact k in (h.0, h.1 ∙ sym w.code, h.2 ∙ ap (λ m. capped (t + m)) (sym w.sum));
       })
 
-  pub leaf : {t t' : ℕ} {X Y : Type 0} (old form new : CodeTree) → old ≡ form → rewritten made n form ≡ made n form → units_of made units n form ≡ units n form →
+  pub leaf : {t t' : ℕ} {X Y : Type 0} (old form new : CodeTree) → old ≡ form → rewritten made n form ≡ made n form →
+      units_of made units n form ≡ units n form →
       OfForm old new t t' X Y → OfCode old new t t' X Y
   leaf {t = t} {t' = t'} {X = X} {Y = Y} old form new e a b q =
       let r = subst (λ o. OfForm o new t t' X Y) e q in
@@ -106,7 +107,8 @@ module _ (made : ℕ → CodeTree → CodeTree) (units : ℕ → CodeTree → �
       Walk (Improves (n + bound) b b') (b' ≡ rewritten made (n + bound) b) (units_of made units (n + bound) b) t' t'' Y Z → OfForm mid new t'' r Z W →
       mid ≡ code_let first bound a' b' → old ≡ code_let first bound a b → OfCode old new t r X W
   over_binding first bound old a a' b b' mid new p p' q f e =
-      by_parts old (code_let first bound a b) mid (code_let first bound a' b') (code_let first bound (rewritten made n a) (rewritten made (n + bound) b)) new e f
+      by_parts old (code_let first bound a b) mid (code_let first bound a' b') (code_let first bound (rewritten made n a) (rewritten made (n + bound) b)) new e
+      f
       (record { code = refl; sum = refl }) (λ h. improves_let n first bound a a' b b' h.0 h.1) (λ s. ap₂ (code_let first bound) s.0 s.1) (then_part p p') q
 
   pub neg_over : IsOverOne code_neg
@@ -200,7 +202,8 @@ module _ (made : ℕ → CodeTree → CodeTree) (units : ℕ → CodeTree → �
   pub at_level : {t t' : ℕ} {X Y : Type 0} (m n : ℕ) (old new : CodeTree) → m ≡ n → OfCode made units m old new t t' X Y → OfCode made units n old new t t' X Y
   at_level {t = t} {t' = t'} {X = X} {Y = Y} m n old new e p = subst (λ k. OfCode made units k old new t t' X Y) e p
 
-  pub list_at : {t t' : ℕ} {X Y : Type 0} (m n : ℕ) (olds news : CodeTrees) → m ≡ n → OfList made units m olds news t t' X Y → OfList made units n olds news t t' X Y
+  pub list_at : {t t' : ℕ} {X Y : Type 0} (m n : ℕ) (olds news : CodeTrees) → m ≡ n → OfList made units m olds news t t' X Y →
+      OfList made units n olds news t t' X Y
   list_at {t = t} {t' = t'} {X = X} {Y = Y} m n olds news e p = subst (λ k. OfList made units k olds news t t' X Y) e p
 
   abbrev pub OfItem : (n : ℕ) (old new : ItemTree) (t t' : ℕ) (X Y : Type 0) → Type 0
@@ -234,7 +237,8 @@ module _ (made : ℕ → CodeTree → CodeTree) (units : ℕ → CodeTree → �
   OfArm n old new t t' X Y = Walk (ArmImproves n old new) (new ≡ arm_rewritten made n old) (units_of_arm made units n old) t t' X Y
 
   pub of_arm : {t t' t'' : ℕ} {X Y Z : Type 0} (n : ℕ) (old new : ArmTree) (bounds : List ℕ) (is js : ItemTrees) (gs hs : CodeTrees) →
-      Walk (ItemsImprove (n + length bounds) is js) (js ≡ items_rewritten made (n + length bounds) is) (units_of_items made units (n + length bounds) is) t t' X Y →
+      Walk (ItemsImprove (n + length bounds) is js) (js ≡ items_rewritten made (n + length bounds) is) (units_of_items made units (n + length bounds) is) t t' X
+      Y →
       OfList made units (n + length bounds + count_lets is) gs hs t' t'' Y Z → old ≡ arm_of bounds is gs → new ≡ arm_of bounds js hs → OfArm n old new t t'' X Z
   of_arm {t = t} {t' = t'} {t'' = t''} {X = X} {Y = Y} {Z = Z} n old new bounds is js gs hs p q e f =
       let r = then_part p q in

@@ -108,7 +108,8 @@ module _ (made : ℕ → CodeTree → CodeTree) (units : ℕ → CodeTree → �
   codes_all n (code_more c cs) [] h = absurd h
   codes_all n (code_more c cs) (y ∷ xs) h = ap (code_more (rewritten made n c)) (codes_all n cs xs h.1)
 
-  codes_sum : (n : ℕ) (cs : CodeTrees) (xs : List Code) → AllImprove n cs (code_trees xs) → codes_units made units n (length xs) cs ≡ units_of_all made units n cs
+  codes_sum : (n : ℕ) (cs : CodeTrees) (xs : List Code) → AllImprove n cs (code_trees xs) →
+      codes_units made units n (length xs) cs ≡ units_of_all made units n cs
   codes_sum n no_codes [] h = refl
   codes_sum n no_codes (y ∷ xs) h = absurd h
   codes_sum n (code_more c cs) [] h = absurd h
@@ -123,7 +124,8 @@ module _ (made : ℕ → CodeTree → CodeTree) (units : ℕ → CodeTree → �
       (units_of made units n (code_tree (get_or xs i d))) t' t'' Y Z →
       Walk (AllImprove n cs (code_trees (set xs i x))) (code_trees (set xs i x) ≡ codes_to made n (i + 1) cs) (codes_units made units n (i + 1) cs) t t'' X Z
   codes_next {X = X} {Y = Y} {Z = Z} {t = t} {t' = t'} {t'' = t''} n cs xs i d x l p q =
-      subst (λ j. Walk (AllImprove n cs (code_trees (set xs i x))) (code_trees (set xs i x) ≡ codes_to made n j cs) (codes_units made units n j cs) t t'' X Z) (next i)
+      subst (λ j. Walk (AllImprove n cs (code_trees (set xs i x))) (code_trees (set xs i x) ≡ codes_to made n j cs) (codes_units made units n j cs) t t'' X Z)
+      (next i)
       (record {
         better = codes_step n cs xs i d x p.better l q.better;
         tally = omega (arith, p.tally, q.tally);
@@ -194,8 +196,11 @@ items_step n no_items (y ∷ xs) k d x h l e = absurd h
 items_step n (item_more i is) (y ∷ xs) zero d x h l e =
     let same : n + 0 ≡ n = omega arith in
     (item_on n i (item_tree y) (item_tree x) h.0 (subst (λ o. ItemImproves o (item_tree y) (item_tree x)) same e), h.1)
-items_step n (item_more i is) (y ∷ xs) (suc k) d x h l e =
-    (h.0, items_step (behind_item i n) is xs k d x h.1 (omega arith) (subst (λ o. ItemImproves o (item_tree (get_or xs k d)) (item_tree x)) (one_behind n k i is) e))
+items_step n (item_more i is) (y ∷ xs) (suc k) d x h l e = (
+  h.0,
+  items_step (behind_item i n) is xs k d x h.1 (omega arith)
+      (subst (λ o. ItemImproves o (item_tree (get_or xs k d)) (item_tree x)) (one_behind n k i is) e),
+)
 
 level_next : (n : ℕ) (is : ItemTrees) (xs : List Item) (k : ℕ) (d : Item) → ItemsImprove n is (item_trees xs) → k < length xs →
     behind_item (item_tree (get_or xs k d)) (n + lets_to k is) ≡ n + lets_to (suc k) is
@@ -206,7 +211,8 @@ level_next n (item_more i is) (y ∷ xs) zero d h l =
     let none : behind_item i n + 0 ≡ behind_item i n = omega arith in
     ap (behind_item (item_tree y)) same ∙ same_behind n n i (item_tree y) h.0 ∙ sym (one_behind n zero i is ∙ none)
 level_next n (item_more i is) (y ∷ xs) (suc k) d h l =
-    ap (behind_item (item_tree (get_or xs k d))) (one_behind n k i is) ∙ level_next (behind_item i n) is xs k d h.1 (omega arith) ∙ sym (one_behind n (suc k) i is)
+    ap (behind_item (item_tree (get_or xs k d))) (one_behind n k i is) ∙ level_next (behind_item i n) is xs k d h.1 (omega arith) ∙
+    sym (one_behind n (suc k) i is)
 
 lets_all : (n : ℕ) (is : ItemTrees) (xs : List Item) → ItemsImprove n is (item_trees xs) → lets_to (length xs) is ≡ count_lets is
 lets_all n no_items [] h = refl
@@ -227,7 +233,8 @@ module _ (made : ℕ → CodeTree → CodeTree) (units : ℕ → CodeTree → �
       ap₂ item_more (h ∙ ap (λ m. item_rewritten made m (item_tree y)) same ∙ ap (item_rewritten made n) p.0) p.1
   items_on n (item_more i is) (y ∷ xs) (suc k) d x e l h =
       let p = first_item (item_tree y) (item_rewritten made n i) (item_trees xs) (items_to made (behind_item i n) k is) e in
-      ap₂ item_more p.0 (items_on (behind_item i n) is xs k d x p.1 (omega arith) (h ∙ ap (λ m. item_rewritten made m (item_tree (get_or xs k d))) (one_behind n k i is)))
+      ap₂ item_more p.0 (items_on (behind_item i n) is xs k d x p.1 (omega arith)
+      (h ∙ ap (λ m. item_rewritten made m (item_tree (get_or xs k d))) (one_behind n k i is)))
 
   items_more : (n : ℕ) (is : ItemTrees) (xs : List Item) (k : ℕ) (d : Item) → item_trees xs ≡ items_to made n k is → k < length xs →
       items_units made units n (suc k) is ≡ items_units made units n k is + units_of_item made units (n + lets_to k is) (item_tree (get_or xs k d))
@@ -237,7 +244,8 @@ module _ (made : ℕ → CodeTree → CodeTree) (units : ℕ → CodeTree → �
   items_more n (item_more i is) (y ∷ xs) zero d e l =
       let p = first_item (item_tree y) i (item_trees xs) is e in
       let same : n + 0 ≡ n = omega arith in
-      let s : units_of_item made units (n + 0) (item_tree y) ≡ units_of_item made units n i = ap (λ m. units_of_item made units m (item_tree y)) same ∙ ap (units_of_item made units n) p.0 in
+      let s : units_of_item made units (n + 0) (item_tree y) ≡ units_of_item made units n i =
+      ap (λ m. units_of_item made units m (item_tree y)) same ∙ ap (units_of_item made units n) p.0 in
       omega (arith, s)
   items_more n (item_more i is) (y ∷ xs) (suc k) d e l =
       let p = first_item (item_tree y) (item_rewritten made n i) (item_trees xs) (items_to made (behind_item i n) k is) e in
@@ -250,7 +258,8 @@ module _ (made : ℕ → CodeTree → CodeTree) (units : ℕ → CodeTree → �
   items_all n (item_more i is) [] h = absurd h
   items_all n (item_more i is) (y ∷ xs) h = ap (item_more (item_rewritten made n i)) (items_all (behind_item i n) is xs h.1)
 
-  items_sum : (n : ℕ) (is : ItemTrees) (xs : List Item) → ItemsImprove n is (item_trees xs) → items_units made units n (length xs) is ≡ units_of_items made units n is
+  items_sum : (n : ℕ) (is : ItemTrees) (xs : List Item) → ItemsImprove n is (item_trees xs) →
+      items_units made units n (length xs) is ≡ units_of_items made units n is
   items_sum n no_items [] h = refl
   items_sum n no_items (y ∷ xs) h = absurd h
   items_sum n (item_more i is) [] h = absurd h
@@ -259,7 +268,8 @@ module _ (made : ℕ → CodeTree → CodeTree) (units : ℕ → CodeTree → �
   pub items_begin : {X : Type 0} {t : ℕ} (n : ℕ) (is js : ItemTrees) → js ≡ is → Walk (ItemsImprove n is js) (js ≡ is) 0 t t X X
   items_begin n is js e = record { better = subst (ItemsImprove n is) (sym e) (items_self n is); tally = omega arith; exact = λ k. (k, e, omega arith) }
 
-  pub items_next : {X Y Z : Type 0} {t t' t'' : ℕ} {E : Type 0} (n : ℕ) (is : ItemTrees) (xs : List Item) (k : ℕ) (d x : Item) (r : Result ℕ E) → k < length xs →
+  pub items_next : {X Y Z : Type 0} {t t' t'' : ℕ} {E : Type 0} (n : ℕ) (is : ItemTrees) (xs : List Item) (k : ℕ) (d x : Item) (r : Result ℕ E) →
+      k < length xs →
       Walk (ItemsImprove n is (item_trees xs)) (item_trees xs ≡ items_to made n k is) (items_units made units n k is) t t' X Y →
       Walk (ItemImproves (n + lets_to k is) (item_tree (get_or xs k d)) (item_tree x))
       (item_tree x ≡ item_rewritten made (n + lets_to k is) (item_tree (get_or xs k d)))
@@ -370,7 +380,8 @@ module _ (made : ℕ → CodeTree → CodeTree) (units : ℕ → CodeTree → �
       (units_of_arm made units n (arm_tree (get_or xs i d))) t' t'' Y Z →
       Walk (ArmsImprove n cs (arm_trees (set xs i x))) (arm_trees (set xs i x) ≡ arms_to made n (i + 1) cs) (arms_units made units n (i + 1) cs) t t'' X Z
   arms_next {X = X} {Y = Y} {Z = Z} {t = t} {t' = t'} {t'' = t''} n cs xs i d x l p q =
-      subst (λ j. Walk (ArmsImprove n cs (arm_trees (set xs i x))) (arm_trees (set xs i x) ≡ arms_to made n j cs) (arms_units made units n j cs) t t'' X Z) (next i)
+      subst (λ j. Walk (ArmsImprove n cs (arm_trees (set xs i x))) (arm_trees (set xs i x) ≡ arms_to made n j cs) (arms_units made units n j cs) t t'' X Z)
+      (next i)
       (record {
         better = arms_step n cs xs i d x p.better l q.better;
         tally = omega (arith, p.tally, q.tally);

@@ -72,7 +72,8 @@ impl Pass for DropArms {
         ensures tally { self.old.arms.tally ≤ self.new.arms.tally }
         ensures turns { self.new.turns ≡ capped (self.old.turns + 1) }
         ensures made { OnOk result (code_tree code.new ≡ rewritten (λ n c. without_arms c) outside (code_tree code.old)) }
-        ensures units { OnOk result (self.new.arms.tally ≡ capped (self.old.arms.tally + units_of (λ n c. without_arms c) (λ n c. dead_at c) outside (code_tree code.old))) }
+        ensures units { OnOk result (self.new.arms.tally ≡ capped
+            (self.old.arms.tally + units_of (λ n c. without_arms c) (λ n c. dead_at c) outside (code_tree code.old))) }
     {
         self.turns = self.turns.saturating_add(1);
         rewrite_arms(alloc, &mut self.arms, outside, code)

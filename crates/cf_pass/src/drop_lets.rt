@@ -72,7 +72,8 @@ impl Pass for DropLets {
         ensures tally { self.old.lets.tally ≤ self.new.lets.tally }
         ensures turns { self.new.turns ≡ capped (self.old.turns + 1) }
         ensures made { OnOk result (code_tree code.new ≡ rewritten (λ n c. drop_lets_form n c) outside (code_tree code.old)) }
-        ensures units { OnOk result (self.new.lets.tally ≡ capped (self.old.lets.tally + units_of (λ n c. drop_lets_form n c) (λ n c. drop_lets_units n c) outside (code_tree code.old))) }
+        ensures units { OnOk result (self.new.lets.tally ≡ capped
+            (self.old.lets.tally + units_of (λ n c. drop_lets_form n c) (λ n c. drop_lets_units n c) outside (code_tree code.old))) }
     {
         self.turns = self.turns.saturating_add(1);
         rewrite_lets(alloc, &mut self.lets, outside, code)
@@ -89,7 +90,8 @@ fn rewrite_lets(
     ensures improves { Improves outside (code_tree code.old) (code_tree code.new) }
     ensures tally { lets.old.tally ≤ lets.new.tally }
     ensures code { OnOk result (code_tree code.new ≡ rewritten (λ n c. drop_lets_form n c) outside (code_tree code.old)) }
-    ensures units { OnOk result (lets.new.tally ≡ capped (lets.old.tally + units_of (λ n c. drop_lets_form n c) (λ n c. drop_lets_units n c) outside (code_tree code.old))) }
+    ensures units { OnOk result (lets.new.tally ≡ capped
+        (lets.old.tally + units_of (λ n c. drop_lets_form n c) (λ n c. drop_lets_units n c) outside (code_tree code.old))) }
 {
     rewrite_each(alloc, lets, outside, code)
 }

@@ -71,7 +71,8 @@ impl Pass for DropNeeds {
         ensures tally { self.old.needs.tally ≤ self.new.needs.tally }
         ensures turns { self.new.turns ≡ capped (self.old.turns + 1) }
         ensures made { OnOk result (code_tree code.new ≡ rewritten (λ n c. without_needs c) outside (code_tree code.old)) }
-        ensures units { OnOk result (self.new.needs.tally ≡ capped (self.old.needs.tally + units_of (λ n c. without_needs c) (λ n c. needs_at c) outside (code_tree code.old))) }
+        ensures units { OnOk result (self.new.needs.tally ≡ capped
+            (self.old.needs.tally + units_of (λ n c. without_needs c) (λ n c. needs_at c) outside (code_tree code.old))) }
     {
         self.turns = self.turns.saturating_add(1);
         rewrite_needs(alloc, &mut self.needs, outside, code)
@@ -88,7 +89,8 @@ fn rewrite_needs(
     ensures improves { Improves outside (code_tree code.old) (code_tree code.new) }
     ensures tally { needs.old.tally ≤ needs.new.tally }
     ensures code { OnOk result (code_tree code.new ≡ rewritten (λ n c. without_needs c) outside (code_tree code.old)) }
-    ensures units { OnOk result (needs.new.tally ≡ capped (needs.old.tally + units_of (λ n c. without_needs c) (λ n c. needs_at c) outside (code_tree code.old))) }
+    ensures units { OnOk result (needs.new.tally ≡ capped
+        (needs.old.tally + units_of (λ n c. without_needs c) (λ n c. needs_at c) outside (code_tree code.old))) }
 {
     rewrite_each(alloc, needs, outside, code)
 }

@@ -73,7 +73,8 @@ impl Pass for Fold {
         ensures tally { self.old.forms.tally ≤ self.new.forms.tally }
         ensures turns { self.new.turns ≡ capped (self.old.turns + 1) }
         ensures made { OnOk result (code_tree code.new ≡ rewritten (λ n c. fold_form c) outside (code_tree code.old)) }
-        ensures units { OnOk result (self.new.forms.tally ≡ capped (self.old.forms.tally + units_of (λ n c. fold_form c) (λ n c. fold_units c) outside (code_tree code.old))) }
+        ensures units { OnOk result (self.new.forms.tally ≡ capped
+            (self.old.forms.tally + units_of (λ n c. fold_form c) (λ n c. fold_units c) outside (code_tree code.old))) }
     {
         self.turns = self.turns.saturating_add(1);
         rewrite_forms(alloc, &mut self.forms, outside, code)

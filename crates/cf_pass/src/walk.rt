@@ -265,7 +265,8 @@ fn walk_gives<R: Rule>(
     level: Result<u32, NoMemory>,
     codes: &mut Vec<Code>,
 ) -> Result<(), NoMemory>
-    ensures { (n : ℕ) → GivesWalked R.made R.units n (code_trees codes.old.items) (code_trees codes.new.items) (R.tally rule.old) (R.tally rule.new) level result }
+    ensures { (n : ℕ) → GivesWalked R.made R.units n (code_trees codes.old.items) (code_trees codes.new.items) (R.tally rule.old) (R.tally rule.new) level
+        result }
 {
     match level {
         Ok(outside) => walk_all(alloc, rule, outside, Ok(()), codes),
@@ -306,7 +307,8 @@ fn walk_items<R: Rule>(
     level: Result<u32, NoMemory>,
     items: &mut Vec<Item>,
 ) -> Result<u32, NoMemory>
-    ensures { (n : ℕ) → ItemsWalked R.made R.units n (item_trees items.old.items) (item_trees items.new.items) (R.tally rule.old) (R.tally rule.new) level result }
+    ensures { (n : ℕ) → ItemsWalked R.made R.units n (item_trees items.old.items) (item_trees items.new.items) (R.tally rule.old) (R.tally rule.new) level
+        result }
 {
     let mut level = level;
     for item in items.iter_mut() {

@@ -13,10 +13,12 @@ use Rattle.cf_reader.specs.Readers.{Got, Reader, Test, same_kind, before, is, a_
 use Rattle.cf_reader.proofs.Near.{Within, ok_in, err_in, must_local}
 use Rattle.cf_reader.proofs.Yields.{added}
 
-bound_is : {A B : Type 0} (f : A → Reader B) (r : Got A) (x : A) (us : List Token) (y : Got B) → r ≡ Ok (x, us) → f x us ≡ y → elim r [ Ok a ↦ f a.0 a.1 | Err e ↦ Err e ] ≡ y
+bound_is : {A B : Type 0} (f : A → Reader B) (r : Got A) (x : A) (us : List Token) (y : Got B) → r ≡ Ok (x, us) → f x us ≡ y →
+    elim r [ Ok a ↦ f a.0 a.1 | Err e ↦ Err e ] ≡ y
 bound_is f r x us y e g = ap (λ r. elim r [ Ok a ↦ f a.0 a.1 | Err e ↦ Err e ]) e ∙ g
 
-pub bind_is : {A B : Type 0} (r : Reader A) (f : A → Reader B) (ts : List Token) {x : A} {us : List Token} {y : Got B} → r ts ≡ Ok (x, us) → f x us ≡ y → bind r f ts ≡ y
+pub bind_is : {A B : Type 0} (r : Reader A) (f : A → Reader B) (ts : List Token) {x : A} {us : List Token} {y : Got B} → r ts ≡ Ok (x, us) → f x us ≡ y →
+    bind r f ts ≡ y
 unfolding bind
 bind_is r f ts {x} {us} {y} e g = bound_is f (r ts) x us y e g
 
@@ -28,7 +30,8 @@ pub must_is : {A : Type 0} (f : Test A) (ts us : List Token) (x : A) → at f ts
 unfolding must
 must_is f ts us x e = ap (λ o. elim o [ None ↦ Err (length ts) | Some a ↦ Ok a ]) e
 
-pub first_is : {A B : Type 0} (f : Test A) (g : A → Reader B) (r : Reader B) (ts : List Token) {x : A} {us : List Token} {y : Got B} → at f ts ≡ Some (x, us) → g x us ≡ y → first f g r ts ≡ y
+pub first_is : {A B : Type 0} (f : Test A) (g : A → Reader B) (r : Reader B) (ts : List Token) {x : A} {us : List Token} {y : Got B} → at f ts ≡ Some (x, us) →
+    g x us ≡ y → first f g r ts ≡ y
 unfolding first
 first_is f g r ts e h = ap (λ o. elim o [ None ↦ r ts | Some a ↦ g a.0 a.1 ]) e ∙ h
 
@@ -40,11 +43,14 @@ deeper : {B : Type 0} (n : ℕ) (e r y : Got B) → 1 ≤ n → r ≡ y → elim
 deeper zero e r y l h = absurd (omega (arith, l))
 deeper (suc n) e r y l h = h
 
-pub deep_is : {A B : Type 0} (n : ℕ) (f : Test A) (g : A → Reader B) (r : Reader B) (ts : List Token) {x : A} {us : List Token} {y : Got B} → 1 ≤ n → at f ts ≡ Some (x, us) → g x us ≡ y → deep n f g r ts ≡ y
+pub deep_is : {A B : Type 0} (n : ℕ) (f : Test A) (g : A → Reader B) (r : Reader B) (ts : List Token) {x : A} {us : List Token} {y : Got B} → 1 ≤ n →
+    at f ts ≡ Some (x, us) → g x us ≡ y → deep n f g r ts ≡ y
 unfolding deep
-deep_is n f g r ts {x} {us} {y} l e h = ap (λ o. elim o [ None ↦ r ts | Some a ↦ elim n [ zero ↦ Err (length ts) | suc m ↦ g a.0 a.1 ] ]) e ∙ deeper n (Err (length ts)) (g x us) y l h
+deep_is n f g r ts {x} {us} {y} l e h = ap (λ o. elim o [ None ↦ r ts | Some a ↦ elim n [ zero ↦ Err (length ts) | suc m ↦ g a.0 a.1 ] ]) e ∙
+    deeper n (Err (length ts)) (g x us) y l h
 
-pub deep_not : {A B : Type 0} (n : ℕ) (f : Test A) (g : A → Reader B) (r : Reader B) (ts : List Token) {y : Got B} → at f ts ≡ None → r ts ≡ y → deep n f g r ts ≡ y
+pub deep_not : {A B : Type 0} (n : ℕ) (f : Test A) (g : A → Reader B) (r : Reader B) (ts : List Token) {y : Got B} → at f ts ≡ None → r ts ≡ y →
+    deep n f g r ts ≡ y
 unfolding deep
 deep_not n f g r ts e h = ap (λ o. elim o [ None ↦ r ts | Some a ↦ elim n [ zero ↦ Err (length ts) | suc m ↦ g a.0 a.1 ] ]) e ∙ h
 
@@ -67,7 +73,8 @@ false_from false h = refl
 
 -- a name is no reserved word
 pub name_differs : (x w : List ℕ) → is_reserved x ≡ false → is_reserved w ≡ true → bytes_eq x w ≡ false
-name_differs x w e r = false_from (bytes_eq x w) (λ h. let s : x ≡ w = (bytes_eq-Decides x w).0 h in let t : is_reserved x ≡ true = ap (λ y. is_reserved y) s ∙ r in clash (is_reserved x) e t)
+name_differs x w e r = false_from (bytes_eq x w) (λ h. let s : x ≡ w = (bytes_eq-Decides x w).0 h in
+    let t : is_reserved x ≡ true = ap (λ y. is_reserved y) s ∙ r in clash (is_reserved x) e t)
   where
     clash : (b : Bool) → b ≡ false → b ≡ true → ⊥
     clash b f t = cc
@@ -97,7 +104,8 @@ first_longer k ts us p e = ap (λ ts. length ts) e
 abbrev pub Ends : TokenKind → TokenKind → List Token → Type 0
 Ends separator close us = (rest : List Token) × (Next separator us rest ⊎ Next close us rest)
 
-others_end : {A : Type 0} (Item : A → List Token → List Token → Type 0) (separator close : TokenKind) (xs : List A) (ts rest : List Token) → Others Item separator close xs ts rest → Ends separator close ts
+others_end : {A : Type 0} (Item : A → List Token → List Token → Type 0) (separator close : TokenKind) (xs : List A) (ts rest : List Token) →
+    Others Item separator close xs ts rest → Ends separator close ts
 others_end Item separator close [] ts rest w = (rest, inr w)
 others_end Item separator close (x ∷ xs) ts rest w = (w.0, inl w.1)
 
@@ -118,8 +126,10 @@ pub record Items {A : Type 0} (item : Reader A) (Item : A → List Token → Lis
   pub closes : same_kind close close ≡ true
   pub differs : same_kind close separator ≡ false
 
-pub more_is : {A B : Type 0} (add : B → A → B) (item : Reader A) (Item : A → List Token → List Token → Type 0) (separator close : TokenKind) → Items item Item separator close →
-    (xs : List A) (k : ℕ) (done : B) (ts rest : List Token) → Others Item separator close xs ts rest → length ts ≤ k → more_of add item separator close k done ts ≡ Ok (added add done xs, rest)
+pub more_is : {A B : Type 0} (add : B → A → B) (item : Reader A) (Item : A → List Token → List Token → Type 0) (separator close : TokenKind) →
+    Items item Item separator close →
+    (xs : List A) (k : ℕ) (done : B) (ts rest : List Token) → Others Item separator close xs ts rest → length ts ≤ k →
+    more_of add item separator close k done ts ≡ Ok (added add done xs, rest)
 unfolding more_of
 more_is add item Item separator close h [] zero done ts rest w l = absurd (omega (arith, l, first_longer close ts rest w.0 w.1))
 more_is add item Item separator close h (x ∷ xs) zero done ts rest w l = absurd (omega (arith, l, first_longer separator ts w.0 w.1.0 w.1.1))
@@ -128,15 +138,20 @@ more_is add item Item separator close h [] (suc k) done ts rest w l =
 more_is add item Item separator close h (x ∷ xs) (suc k) done ts rest (a, n, (b, i, o)) l =
     let e : item a ≡ Ok (x, b) = h.reads x a b i (others_end Item separator close xs b rest o) in
     first_is _ _ _ ts (at_is separator ts a n.0 h.separates n.1)
-    (bind_is _ _ a e (more_is add item Item separator close h xs k (add done x) b rest o (omega (arith, l, first_longer separator ts a n.0 n.1, left_over (length a) (item a) x b e (h.within a)))))
+    (bind_is _ _ a e (more_is add item Item separator close h xs k (add done x) b rest o
+    (omega (arith, l, first_longer separator ts a n.0 n.1, left_over (length a) (item a) x b e (h.within a)))))
 
-pub others_are : {A B : Type 0} (add : B → A → B) (item : Reader A) (Item : A → List Token → List Token → Type 0) (separator close : TokenKind) → Items item Item separator close →
-    (xs : List A) (done : B) (ts rest : List Token) → Others Item separator close xs ts rest → others_of add item separator close done ts ≡ Ok (added add done xs, rest)
+pub others_are : {A B : Type 0} (add : B → A → B) (item : Reader A) (Item : A → List Token → List Token → Type 0) (separator close : TokenKind) →
+    Items item Item separator close →
+    (xs : List A) (done : B) (ts rest : List Token) → Others Item separator close xs ts rest →
+    others_of add item separator close done ts ≡ Ok (added add done xs, rest)
 unfolding others_of
 others_are add item Item separator close h xs done ts rest w = more_is add item Item separator close h xs (length ts) done ts rest w (omega arith)
 
-pub several_are : {A B : Type 0} (add : B → A → B) (item : Reader A) (Item : A → List Token → List Token → Type 0) (separator close : TokenKind) → Items item Item separator close →
-    (xs : List A) (done : B) (ts rest : List Token) → Several Item separator close xs ts rest → several_of add item separator close done ts ≡ Ok (added add done xs, rest)
+pub several_are : {A B : Type 0} (add : B → A → B) (item : Reader A) (Item : A → List Token → List Token → Type 0) (separator close : TokenKind) →
+    Items item Item separator close →
+    (xs : List A) (done : B) (ts rest : List Token) → Several Item separator close xs ts rest →
+    several_of add item separator close done ts ≡ Ok (added add done xs, rest)
 unfolding several_of
 several_are add item Item separator close h [] done ts rest w = absurd w
 several_are add item Item separator close h (x ∷ xs) done ts rest (a, i, o) =
@@ -145,12 +160,15 @@ several_are add item Item separator close h (x ∷ xs) done ts rest (a, i, o) =
 pub must_within : {A : Type 0} (f : Test A) (ts : List Token) → Within (length ts) (must f ts)
 must_within f ts = (must_local {more = []} {other = []} f).within ts (length ts) (omega arith)
 
-pub one_or_tuple_is : {A B : Type 0} (add : B → A → B) (item : Reader A) (Item : A → List Token → List Token → Type 0) (none : B) → Items item Item (Sign (codes ",")) (Sign (codes ")")) →
-    ((x : A) (ts us : List Token) → Item x ts us → item ts ≡ Ok (x, us)) → ((x : A) (ts us : List Token) → Item x ts us → at (is (Sign (codes "("))) ts ≡ None) →
+pub one_or_tuple_is : {A B : Type 0} (add : B → A → B) (item : Reader A) (Item : A → List Token → List Token → Type 0) (none : B) →
+    Items item Item (Sign (codes ",")) (Sign (codes ")")) →
+    ((x : A) (ts us : List Token) → Item x ts us → item ts ≡ Ok (x, us)) →
+    ((x : A) (ts us : List Token) → Item x ts us → at (is (Sign (codes "("))) ts ≡ None) →
     (xs : List A) (ts rest : List Token) → OneOrTuple Item xs ts rest → one_or_tuple add item none ts ≡ Ok (added add none xs, rest)
 unfolding one_or_tuple
 one_or_tuple_is add item Item none h g u [] ts rest w = absurd w
 one_or_tuple_is add item Item none h g u (x ∷ []) ts rest w = first_not _ _ _ ts (u x ts rest w) (bind_is _ _ ts (g x ts rest w) (pure_is _ _ rest refl))
 one_or_tuple_is add item Item none h g u (x ∷ y ∷ xs) ts rest (a, o, (b, i, (c, n, (d, j, more)))) =
     first_is _ _ _ ts (at_is _ ts a o.0 refl o.1)
-    (bind_is _ _ a (g x a b i) (bind_is _ _ b (next_is _ b c refl n) (bind_is _ _ c (g y c d j) (others_are add item Item (Sign (codes ",")) (Sign (codes ")")) h xs (add (add none x) y) d rest more))))
+    (bind_is _ _ a (g x a b i) (bind_is _ _ b (next_is _ b c refl n)
+    (bind_is _ _ c (g y c d j) (others_are add item Item (Sign (codes ",")) (Sign (codes ")")) h xs (add (add none x) y) d rest more))))

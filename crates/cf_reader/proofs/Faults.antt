@@ -25,7 +25,8 @@ pub within_err : {A : Type 0} (m e : ℕ) (r : Got A) → Within m r → r ≡ E
 within_err m e _ (ok_in x ts h) q = cc
 within_err m e _ (err_in d h) q = let same : d ≡ e = cc in omega (arith, h, same)
 
-refuse : {A : Type 0} (more other : List Token) (y : A) (us : List Token) (r s : Got A) → Alike more other r s → r ≡ Err (suc (length more)) → s ≡ Ok (y, us) → ⊥
+refuse : {A : Type 0} (more other : List Token) (y : A) (us : List Token) (r s : Got A) → Alike more other r s → r ≡ Err (suc (length more)) → s ≡ Ok (y, us) →
+    ⊥
 refuse more other y us _ _ (both x vs ws n) p q = cc
 refuse more other y us _ _ (past r s w) p q = absurd (omega (arith, within_err (length more) (suc (length more)) r w p))
 refuse more other y us _ _ (refused r e) p q = cc
@@ -42,19 +43,23 @@ dead : {A : Type 0} (Spelled : List Token → Type 0) (r : Reader A) → ((more 
     (front : List Token) (t : Token) (more : List Token) → r (front ++ t ∷ more) ≡ Err (suc (length more)) → IsDead Spelled front t
 dead Spelled r local all front t more e other w =
     let h = all (front ++ t ∷ other) w in
-    refuse more other h.0 h.1 (r (front ++ t ∷ more)) (r (front ++ t ∷ other)) ((local more other).near (front ++ t ∷ more) (front ++ t ∷ other) (near front t more other)) e h.2
+    refuse more other h.0 h.1 (r (front ++ t ∷ more)) (r (front ++ t ∷ other))
+    ((local more other).near (front ++ t ∷ more) (front ++ t ∷ other) (near front t more other)) e h.2
 
 fault_on : {A : Type 0} (Spelled : List Token → Type 0) (r : Reader A) → ((more other : List Token) → Local more other r r) → ReadsAll Spelled r →
-    (ts : List Token) (end : Place) (e : ℕ) (front d : List Token) → ts ≡ front ++ d → length d ≡ e → r ts ≡ Err e → IsFaultPlace Spelled ts end (front_place d end)
+    (ts : List Token) (end : Place) (e : ℕ) (front d : List Token) → ts ≡ front ++ d → length d ≡ e → r ts ≡ Err e →
+    IsFaultPlace Spelled ts end (front_place d end)
 fault_on Spelled r local all ts end e front [] same l p = inl refl
-fault_on Spelled r local all ts end e front (t ∷ more) same l p = inr (front, t, more, same, refl, dead Spelled r local all front t more (ap r (sym same) ∙ p ∙ ap Err (sym l)))
+fault_on Spelled r local all ts end e front (t ∷ more) same l p =
+    inr (front, t, more, same, refl, dead Spelled r local all front t more (ap r (sym same) ∙ p ∙ ap Err (sym l)))
 
 pub fault_law : {A : Type 0} (Spelled : List Token → Type 0) (r : Reader A) → ((more other : List Token) → Local more other r r) → ReadsAll Spelled r →
     (ts : List Token) (end : Place) (e : ℕ) → r ts ≡ Err e → IsFaultPlace Spelled ts end (place_with_left ts end e)
 unfolding place_with_left
 fault_law Spelled r local all ts end e p =
     fault_on Spelled r local all ts end e (take (length ts - e) ts) (drop (length ts - e) ts) (sym (take-append-drop (length ts - e) ts))
-    (let small : e ≤ length ts = within_err (length ts) e (r ts) ((local [] []).within ts (length ts) (omega arith)) p in omega (arith, length-drop (length ts - e) ts)) p
+    (let small : e ≤ length ts = within_err (length ts) e (r ts) ((local [] []).within ts (length ts) (omega arith)) p in
+    omega (arith, length-drop (length ts - e) ts)) p
 
 pub exact_law : {A : Type 0} (r : Reader A) (ts : List Token) (end : Place) (e : ℕ) → r ts ≡ Err e → IsFaultPlaceOf r ts end (place_with_left ts end e)
 exact_law r ts end e p = record { left = e; stops = p; stands = refl }

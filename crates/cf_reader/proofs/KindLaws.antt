@@ -59,7 +59,8 @@ base_unopened Set ts us w = at_not (Sign (codes "(")) (base_kind Set) ts us w.0 
 
 pub results_are : (bs : List Base) (ts rest : List Token) → OneOrTuple SpellsBase bs ts rest → results_of ts ≡ Ok (bs, rest)
 unfolding results_of
-results_are bs ts rest w = one_or_tuple_is snoc (must a_base) SpellsBase [] base_items base_reads base_unopened bs ts rest w ∙ ap (λ (z : List Base). Ok (z, rest)) (all_added bs)
+results_are bs ts rest w = one_or_tuple_is snoc (must a_base) SpellsBase [] base_items base_reads base_unopened bs ts rest w ∙
+    ap (λ (z : List Base). Ok (z, rest)) (all_added bs)
 
 pub truth_on : (q : Place) (k : TokenKind) (x : Place × Bool) → a_truth (record { place = q; kind = k }) ≡ Some x → (q ≡ x.0) × (k ≡ truth_kind x.1)
 truth_on q (Word y) x e = elim (if_else_some (bytes_eq y (codes "true")) _ x _ e) [
@@ -85,7 +86,8 @@ unfolding at
 truth_is true p ts us w = ap (at a_truth) w
 truth_is false p ts us w = ap (at a_truth) w
 
-pub truth_not : (b : Bool) (k : TokenKind) → same_kind (Word (codes "true")) k ≡ false → same_kind (Word (codes "false")) k ≡ false → (p : Place) (ts us : List Token) → First p (truth_kind b) ts us → at (is k) ts ≡ None
+pub truth_not : (b : Bool) (k : TokenKind) → same_kind (Word (codes "true")) k ≡ false → same_kind (Word (codes "false")) k ≡ false →
+    (p : Place) (ts us : List Token) → First p (truth_kind b) ts us → at (is k) ts ≡ None
 truth_not true k e f p ts us w = at_not k (truth_kind true) ts us p e w
 truth_not false k e f p ts us w = at_not k (truth_kind false) ts us p f w
 
@@ -100,9 +102,11 @@ truth_literal false p ts us w = no_literal p (codes "false") ts us w
 pub names_true : (x : List ℕ) → is_reserved x ≡ false → (p : Place) (ts us : List Token) → First p (Word x) ts us → at a_truth ts ≡ None
 unfolding at
 names_true x r p ts us w =
-    ap (at a_truth) w ∙ ap (λ b. before us (cond b (Some (p, true)) (cond (bytes_eq x (codes "false")) (Some (p, false)) None))) (name_differs x (codes "true") r refl)
+    ap (at a_truth) w ∙ ap (λ b. before us (cond b (Some (p, true)) (cond (bytes_eq x (codes "false")) (Some (p, false)) None)))
+    (name_differs x (codes "true") r refl)
     ∙ ap (λ b. before us (cond b (Some (p, false)) None)) (name_differs x (codes "false") r refl)
 
-pub no_truth : (x : List ℕ) (p : Place) (ts a : List Token) → a_truth (record { place = p; kind = Word x }) ≡ None → First p (Word x) ts a → at a_truth ts ≡ None
+pub no_truth : (x : List ℕ) (p : Place) (ts a : List Token) → a_truth (record { place = p; kind = Word x }) ≡ None → First p (Word x) ts a →
+    at a_truth ts ≡ None
 unfolding at
 no_truth x p ts a e w = ap (at a_truth) w ∙ ap (λ o. before a o) e

@@ -47,13 +47,15 @@ bound_within : {A B : Type 0} (m : ℕ) (got : Got A) (f : A → Reader B) → W
 bound_within m _ f (ok_in x ts l) h = h x ts l
 bound_within m _ f (err_in e l) h = err_in e l
 
-bound_near : {A B : Type 0} (more other : List Token) (got got' : Got A) (f g : A → Reader B) → Alike more other got got' → ((x : A) → Local more other (f x) (g x)) →
+bound_near : {A B : Type 0} (more other : List Token) (got got' : Got A) (f g : A → Reader B) → Alike more other got got' →
+    ((x : A) → Local more other (f x) (g x)) →
     Alike more other (elim got [ Ok a ↦ f a.0 a.1 | Err e ↦ Err e ]) (elim got' [ Ok a ↦ g a.0 a.1 | Err e ↦ Err e ])
 bound_near more other _ _ f g (both x ts us n) h = (h x).near ts us n
 bound_near more other _ _ f g (past r s w) h = past _ _ (bound_within (length more) r f w (λ x ts l. (h x).within ts (length more) l))
 bound_near more other _ _ f g (refused r e) h = refused _ e
 
-pub bind_local : {A B : Type 0} {more other : List Token} {r s : Reader A} {f g : A → Reader B} → Local more other r s → ((x : A) → Local more other (f x) (g x)) →
+pub bind_local : {A B : Type 0} {more other : List Token} {r s : Reader A} {f g : A → Reader B} → Local more other r s →
+    ((x : A) → Local more other (f x) (g x)) →
     Local more other (bind r f) (bind s g)
 unfolding bind
 bind_local {more} {other} {r} {s} {f} {g} w h = record {
@@ -81,15 +83,18 @@ first_on : {A B : Type 0} (more other : List Token) (g h : A → Reader B) (ts u
 first_on more other g h ts us None r s i k = k
 first_on more other g h ts us (Some x) r s i k = i x
 
-first_near : {A B : Type 0} (more other : List Token) (f : Test A) (g h : A → Reader B) (r s : Reader B) → ((x : A) → Local more other (g x) (h x)) → Local more other r s →
+first_near : {A B : Type 0} (more other : List Token) (f : Test A) (g h : A → Reader B) (r s : Reader B) → ((x : A) → Local more other (g x) (h x)) →
+    Local more other r s →
     (ts us : List Token) → Near more other ts us → Alike more other (first f g r ts) (first f h s us)
 unfolding first at
 first_near more other f g h r s i k _ _ (here t) =
-    first_on more other g h more other (f t) (r (t ∷ more)) (s (t ∷ other)) (λ x. past (g x more) (h x other) ((i x).within more (length more) (omega arith))) (k.near (t ∷ more) (t ∷ other) (here t))
+    first_on more other g h more other (f t) (r (t ∷ more)) (s (t ∷ other)) (λ x. past (g x more) (h x other) ((i x).within more (length more) (omega arith)))
+    (k.near (t ∷ more) (t ∷ other) (here t))
 first_near more other f g h r s i k _ _ (later t ts us n) =
     first_on more other g h ts us (f t) (r (t ∷ ts)) (s (t ∷ us)) (λ x. (i x).near ts us n) (k.near (t ∷ ts) (t ∷ us) (later t ts us n))
 
-pub first_local : {A B : Type 0} {more other : List Token} {g h : A → Reader B} {r s : Reader B} (f : Test A) → ((x : A) → Local more other (g x) (h x)) → Local more other r s →
+pub first_local : {A B : Type 0} {more other : List Token} {g h : A → Reader B} {r s : Reader B} (f : Test A) → ((x : A) → Local more other (g x) (h x)) →
+    Local more other r s →
     Local more other (first f g r) (first f h s)
 first_local {more} {other} {g} {h} {r} {s} f i k = record {
   within = λ ts m l. first_within f g r ts m l (λ x us j. (i x).within us m j) (k.within ts m l);
@@ -117,15 +122,18 @@ deep_on more other n g h ts us None r s i k = k
 deep_on more other zero g h ts us (Some x) r s i k = refused _ (suc (length us))
 deep_on more other (suc j) g h ts us (Some x) r s i k = i x
 
-deep_near : {A B : Type 0} (more other : List Token) (n : ℕ) (f : Test A) (g h : A → Reader B) (r s : Reader B) → ((x : A) → Local more other (g x) (h x)) → Local more other r s →
+deep_near : {A B : Type 0} (more other : List Token) (n : ℕ) (f : Test A) (g h : A → Reader B) (r s : Reader B) → ((x : A) → Local more other (g x) (h x)) →
+    Local more other r s →
     (ts us : List Token) → Near more other ts us → Alike more other (deep n f g r ts) (deep n f h s us)
 unfolding deep at
 deep_near more other n f g h r s i k _ _ (here t) =
-    deep_on more other n g h more other (f t) (r (t ∷ more)) (s (t ∷ other)) (λ x. past (g x more) (h x other) ((i x).within more (length more) (omega arith))) (k.near (t ∷ more) (t ∷ other) (here t))
+    deep_on more other n g h more other (f t) (r (t ∷ more)) (s (t ∷ other)) (λ x. past (g x more) (h x other) ((i x).within more (length more) (omega arith)))
+    (k.near (t ∷ more) (t ∷ other) (here t))
 deep_near more other n f g h r s i k _ _ (later t ts us j) =
     deep_on more other n g h ts us (f t) (r (t ∷ ts)) (s (t ∷ us)) (λ x. (i x).near ts us j) (k.near (t ∷ ts) (t ∷ us) (later t ts us j))
 
-pub deep_local : {A B : Type 0} {more other : List Token} {g h : A → Reader B} {r s : Reader B} (n : ℕ) (f : Test A) → ((x : A) → Local more other (g x) (h x)) → Local more other r s →
+pub deep_local : {A B : Type 0} {more other : List Token} {g h : A → Reader B} {r s : Reader B} (n : ℕ) (f : Test A) →
+    ((x : A) → Local more other (g x) (h x)) → Local more other r s →
     Local more other (deep n f g r) (deep n f h s)
 deep_local {more} {other} {g} {h} {r} {s} n f i k = record {
   within = λ ts m l. deep_within n f g r ts m l (λ x us j. (i x).within us m j) (k.within ts m l);
@@ -161,7 +169,8 @@ unfolding at_end
 at_end_within x r [] m l w = ok_in x [] l
 at_end_within x r (t ∷ ts) m l w = w
 
-at_end_near : {A : Type 0} (more other : List Token) (x : A) (r s : Reader A) (ts us : List Token) → Near more other ts us → Alike more other (r ts) (s us) → Alike more other (at_end x r ts) (at_end x s us)
+at_end_near : {A : Type 0} (more other : List Token) (x : A) (r s : Reader A) (ts us : List Token) → Near more other ts us → Alike more other (r ts) (s us) →
+    Alike more other (at_end x r ts) (at_end x s us)
 unfolding at_end
 at_end_near more other x r s _ _ (here t) w = w
 at_end_near more other x r s _ _ (later t ts us n) w = w
@@ -173,16 +182,19 @@ at_end_local {more} {other} {r} {s} x h = record {
 }
 
 -- with any fuel on either side
-pub more_local : {A B : Type 0} {more other : List Token} (snoc : B → A → B) {item item' : Reader A} (separator close : TokenKind) (j k : ℕ) (done : B) → Local more other item item' →
+pub more_local : {A B : Type 0} {more other : List Token} (snoc : B → A → B) {item item' : Reader A} (separator close : TokenKind) (j k : ℕ) (done : B) →
+    Local more other item item' →
     Local more other (more_of snoc item separator close j done) (more_of snoc item' separator close k done)
 unfolding more_of
 more_local snoc separator close zero k done h = end_local _
 more_local snoc separator close (suc j) zero done h =
-    any_local (first_local _ (λ p. bind_local h (λ x. more_local snoc separator close j j (snoc done x) h)) (bind_local (must_local (is close)) (λ p. pure_local done)))
+    any_local (first_local _ (λ p. bind_local h (λ x. more_local snoc separator close j j (snoc done x) h))
+    (bind_local (must_local (is close)) (λ p. pure_local done)))
 more_local snoc separator close (suc j) (suc k) done h =
     first_local _ (λ p. bind_local h (λ x. more_local snoc separator close j k (snoc done x) h)) (bind_local (must_local (is close)) (λ p. pure_local done))
 
-pub others_local : {A B : Type 0} {more other : List Token} (snoc : B → A → B) {item item' : Reader A} (separator close : TokenKind) (done : B) → Local more other item item' →
+pub others_local : {A B : Type 0} {more other : List Token} (snoc : B → A → B) {item item' : Reader A} (separator close : TokenKind) (done : B) →
+    Local more other item item' →
     Local more other (others_of snoc item separator close done) (others_of snoc item' separator close done)
 unfolding others_of
 others_local snoc separator close done h = record {
@@ -190,12 +202,14 @@ others_local snoc separator close done h = record {
   near = λ ts us n. (more_local snoc separator close (length ts) (length us) done h).near ts us n;
 }
 
-pub several_local : {A B : Type 0} {more other : List Token} (snoc : B → A → B) {item item' : Reader A} (separator close : TokenKind) (done : B) → Local more other item item' →
+pub several_local : {A B : Type 0} {more other : List Token} (snoc : B → A → B) {item item' : Reader A} (separator close : TokenKind) (done : B) →
+    Local more other item item' →
     Local more other (several_of snoc item separator close done) (several_of snoc item' separator close done)
 unfolding several_of
 several_local snoc separator close done h = bind_local h (λ x. others_local snoc separator close (snoc done x) h)
 
-pub one_or_tuple_local : {A B : Type 0} {more other : List Token} (add : B → A → B) {item item' : Reader A} (none : B) → Local more other item item' → Local more other (one_or_tuple add item none) (one_or_tuple add item' none)
+pub one_or_tuple_local : {A B : Type 0} {more other : List Token} (add : B → A → B) {item item' : Reader A} (none : B) → Local more other item item' →
+    Local more other (one_or_tuple add item none) (one_or_tuple add item' none)
 unfolding one_or_tuple
 one_or_tuple_local add none h =
     first_local _ (λ p. bind_local h (λ x. bind_local (must_local _) (λ q. bind_local h (λ y. others_local add _ _ _ h)))) (bind_local h (λ x. pure_local _))

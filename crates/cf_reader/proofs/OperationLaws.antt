@@ -10,7 +10,8 @@ use Rattle.cf_reader.specs.Operations.{op_kind, op_of}
 use Rattle.cf_reader.proofs.Yields.{if_else_some, same_text}
 
 -- one more alternative of a list of words or signs
-alternative : (k : List ℕ → TokenKind) (y word : List ℕ) (here op : BinOp) (o : Option BinOp) → k word ≡ op_kind here → cond (bytes_eq y word) (Some here) o ≡ Some op →
+alternative : (k : List ℕ → TokenKind) (y word : List ℕ) (here op : BinOp) (o : Option BinOp) → k word ≡ op_kind here →
+    cond (bytes_eq y word) (Some here) o ≡ Some op →
     (o ≡ Some op → k y ≡ op_kind op) → k y ≡ op_kind op
 alternative k y word here op o s e g = elim (if_else_some (bytes_eq y word) here op o e) [
   | inl h ↦ ap k (same_text y word h.0) ∙ s ∙ ap op_kind h.1
@@ -23,11 +24,15 @@ no_more k y op e = cc
 pub op_on : (k : TokenKind) (op : BinOp) → op_of k ≡ Some op → k ≡ op_kind op
 unfolding op_of
 op_on (Word y) op e =
-    alternative Word y _ Union op _ refl e (λ e. alternative Word y _ Diff op _ refl e (λ e. alternative Word y _ Inter op _ refl e (λ e. alternative Word y _ Subset op _ refl e (no_more Word y op))))
+    alternative Word y _ Union op _ refl e (λ e. alternative Word y _ Diff op _ refl e
+    (λ e. alternative Word y _ Inter op _ refl e (λ e. alternative Word y _ Subset op _ refl e (no_more Word y op))))
 op_on (Sign y) op e =
-    alternative Sign y _ Or op _ refl e (λ e. alternative Sign y _ And op _ refl e (λ e. alternative Sign y _ Add op _ refl e (λ e. alternative Sign y _ Sub op _ refl e (λ e.
-    alternative Sign y _ Mul op _ refl e (λ e. alternative Sign y _ (Compare Eq) op _ refl e (λ e. alternative Sign y _ (Compare Ne) op _ refl e (λ e. alternative Sign y _ (Compare Lt) op _ refl e (λ e.
-    alternative Sign y _ (Compare Le) op _ refl e (λ e. alternative Sign y _ (Compare Gt) op _ refl e (λ e. alternative Sign y _ (Compare Ge) op _ refl e (no_more Sign y op)))))))))))
+    alternative Sign y _ Or op _ refl e (λ e. alternative Sign y _ And op _ refl e
+    (λ e. alternative Sign y _ Add op _ refl e (λ e. alternative Sign y _ Sub op _ refl e (λ e.
+    alternative Sign y _ Mul op _ refl e (λ e. alternative Sign y _ (Compare Eq) op _ refl e
+    (λ e. alternative Sign y _ (Compare Ne) op _ refl e (λ e. alternative Sign y _ (Compare Lt) op _ refl e (λ e.
+    alternative Sign y _ (Compare Le) op _ refl e
+    (λ e. alternative Sign y _ (Compare Gt) op _ refl e (λ e. alternative Sign y _ (Compare Ge) op _ refl e (no_more Sign y op)))))))))))
 op_on (Literal n) op e = cc
 
 pub op_again : (op : BinOp) → op_of (op_kind op) ≡ Some op

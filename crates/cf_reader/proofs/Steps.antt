@@ -17,20 +17,23 @@ pub more_ends : {A B : Type 0} (add : B → A → B) (item : Reader A) (separato
 unfolding more_of
 more_ends add item separator close k done ts h = rw h refl
 
-pub more_goes : {A B : Type 0} (add : B → A → B) (item : Reader A) (separator close : TokenKind) (k j : ℕ) (done : B) (ts : List Token) (p : Place) (us : List Token) (x : A) (vs : List Token) →
+pub more_goes : {A B : Type 0} (add : B → A → B) (item : Reader A) (separator close : TokenKind) (k j : ℕ) (done : B) (ts : List Token) (p : Place)
+    (us : List Token) (x : A) (vs : List Token) →
     at (is separator) ts ≡ Some (p, us) → item us ≡ Ok (x, vs) → k ≡ suc j →
     more_of add item separator close k done ts ≡ more_of add item separator close j (add done x) vs
 unfolding more_of first bind
 more_goes add item separator close k j done ts p us x vs h g e = rw (e, more_of, first, h, bind, g) refl
 
-pub more_errs : {A B : Type 0} (add : B → A → B) (item : Reader A) (separator close : TokenKind) (k : ℕ) (done : B) (ts : List Token) (p : Place) (us : List Token) (e : ℕ) →
+pub more_errs : {A B : Type 0} (add : B → A → B) (item : Reader A) (separator close : TokenKind) (k : ℕ) (done : B) (ts : List Token) (p : Place)
+    (us : List Token) (e : ℕ) →
     at (is separator) ts ≡ Some (p, us) → item us ≡ Err e → 0 < k →
     more_of add item separator close k done ts ≡ Err e
 unfolding more_of first bind
 more_errs add item separator close zero done ts p us e h g lt = absurd (omega arith)
 more_errs add item separator close (suc k) done ts p us e h g lt = rw (more_of, first, h, bind, g) refl
 
-pub more_closes : {A B : Type 0} (add : B → A → B) (item : Reader A) (separator close : TokenKind) (k : ℕ) (done : B) (ts : List Token) (p : Place) (us : List Token) →
+pub more_closes : {A B : Type 0} (add : B → A → B) (item : Reader A) (separator close : TokenKind) (k : ℕ) (done : B) (ts : List Token) (p : Place)
+    (us : List Token) →
     at (is separator) ts ≡ None → must (is close) ts ≡ Ok (p, us) → 0 < k →
     more_of add item separator close k done ts ≡ Ok (done, us)
 unfolding more_of first bind pure
@@ -44,13 +47,15 @@ unfolding more_of first bind
 more_unclosed add item separator close zero done ts e h g lt = absurd (omega arith)
 more_unclosed add item separator close (suc k) done ts e h g lt = rw (more_of, first, h, bind, g) refl
 
-pub more_fails : {A B : Type 0} (add : B → A → B) (item : Reader A) (separator close : TokenKind) (k : ℕ) (done : B) (ts : List Token) (p : Place) (us : List Token) (e : Stop) →
+pub more_fails : {A B : Type 0} (add : B → A → B) (item : Reader A) (separator close : TokenKind) (k : ℕ) (done : B) (ts : List Token) (p : Place)
+    (us : List Token) (e : Stop) →
     at (is separator) ts ≡ Some (p, us) → StopAnswer e (item us) → 0 < k → StopAnswer e (more_of add item separator close k done ts)
 more_fails add item separator close k done ts p us stops.NoMemory h g lt = tt
 more_fails add item separator close k done ts p us (stops.TokensLeft n) h g lt = more_errs add item separator close k done ts p us n h g lt
 
 -- the next turn of a loop
-pub more_next : {A B : Type 0} (add : B → A → B) (item : Reader A) (separator close : TokenKind) (k j : ℕ) (done done' : B) (ts : List Token) (p : Place) (us : List Token) (x : A) (vs : List Token) (whole : Got B) →
+pub more_next : {A B : Type 0} (add : B → A → B) (item : Reader A) (separator close : TokenKind) (k j : ℕ) (done done' : B) (ts : List Token) (p : Place)
+    (us : List Token) (x : A) (vs : List Token) (whole : Got B) →
     at (is separator) ts ≡ Some (p, us) → item us ≡ Ok (x, vs) → k ≡ suc j → done' ≡ add done x → more_of add item separator close k done ts ≡ whole →
     more_of add item separator close j done' vs ≡ whole
 more_next add item separator close k j done done' ts p us x vs whole h g e d w =

@@ -33,12 +33,14 @@ pub widen : {A : Type 0} {P Q : A → List Token → Type 0} {r : Got A} → ((x
 widen g (yields x ts p) = yields x ts (g x ts p)
 widen g (faults e) = faults e
 
-bound_yields : {A B : Type 0} {P : A → List Token → Type 0} {Q : B → List Token → Type 0} (r : Got A) (f : A → Reader B) → Yields P r → ((x : A) (us : List Token) → P x us → Yields Q (f x us)) →
+bound_yields : {A B : Type 0} {P : A → List Token → Type 0} {Q : B → List Token → Type 0} (r : Got A) (f : A → Reader B) → Yields P r →
+    ((x : A) (us : List Token) → P x us → Yields Q (f x us)) →
     Yields Q (elim r [ Ok a ↦ f a.0 a.1 | Err e ↦ Err e ])
 bound_yields _ f (yields x us p) g = g x us p
 bound_yields _ f (faults e) g = faults e
 
-pub bind_yields : {A B : Type 0} {P : A → List Token → Type 0} {Q : B → List Token → Type 0} (r : Reader A) (f : A → Reader B) (ts : List Token) → Yields P (r ts) →
+pub bind_yields : {A B : Type 0} {P : A → List Token → Type 0} {Q : B → List Token → Type 0} (r : Reader A) (f : A → Reader B) (ts : List Token) →
+    Yields P (r ts) →
     ((x : A) (us : List Token) → P x us → Yields Q (f x us)) → Yields Q (bind r f ts)
 unfolding bind
 bind_yields r f ts p g = bound_yields (r ts) f p g
@@ -65,7 +67,8 @@ unfolding first at
 first_yields f g r [] h k = k
 first_yields f g r (t ∷ ts) h k = first_on f g (r (t ∷ ts)) t ts (f t) refl h k
 
-deep_on : {A B : Type 0} {Q : B → List Token → Type 0} (n : ℕ) (f : Test A) (g : A → Reader B) (r : Got B) (t : Token) (ts : List Token) (o : Option A) → f t ≡ o →
+deep_on : {A B : Type 0} {Q : B → List Token → Type 0} (n : ℕ) (f : Test A) (g : A → Reader B) (r : Got B) (t : Token) (ts : List Token) (o : Option A) →
+    f t ≡ o →
     ((x : A) (us : List Token) → Took f (t ∷ ts) x us → Yields Q (g x us)) → Yields Q r →
     Yields Q (elim (before ts o) [ None ↦ r | Some a ↦ elim n [ zero ↦ Err (suc (length ts)) | suc j ↦ g a.0 a.1 ] ])
 deep_on n f g r t ts None e h k = k
@@ -117,7 +120,8 @@ if_not_some true x y e = cc
 if_not_some false x y e = (refl, cc)
 
 pub same_token : (t : Token) (p : Place) (k : TokenKind) (ts us : List Token) → ts ≡ t ∷ us → t.place ≡ p → t.kind ≡ k → First p k ts us
-same_token t p k ts us e f g = e ∙ ap (λ (q : Place). record { place = q; kind = t.kind } ∷ us) f ∙ ap (λ (l : TokenKind). record { place = p; kind = l } ∷ us) g
+same_token t p k ts us e f g = e ∙ ap (λ (q : Place). record { place = q; kind = t.kind } ∷ us) f ∙
+    ap (λ (l : TokenKind). record { place = p; kind = l } ∷ us) g
 
 pub took_is : (k : TokenKind) (ts us : List Token) (p : Place) → Took (is k) ts p us → First p k ts us
 took_is k ts us p (t, e, f) = let h = if_some (same_kind t.kind k) t.place p f in same_token t p k ts us e h.1 (same_true t.kind k h.0)
@@ -125,8 +129,10 @@ took_is k ts us p (t, e, f) = let h = if_some (same_kind t.kind k) t.place p f i
 pub took_next : (k : TokenKind) (ts us : List Token) (p : Place) → Took (is k) ts p us → Next k ts us
 took_next k ts us p w = (p, took_is k ts us p w)
 
-name_on : (q : Place) (k : TokenKind) (x : Place × List ℕ) → a_name (record { place = q; kind = k }) ≡ Some x → (q ≡ x.0) × (k ≡ Word x.1) × (is_reserved x.1 ≡ false)
-name_on q (Word y) x e = let h = if_not_some (is_reserved y) (q, y) x e in (ap (λ z. z.0) h.1, ap (λ z. Word z.1) h.1, subst (λ z. is_reserved z ≡ false) (ap (λ z. z.1) h.1) h.0)
+name_on : (q : Place) (k : TokenKind) (x : Place × List ℕ) → a_name (record { place = q; kind = k }) ≡ Some x →
+    (q ≡ x.0) × (k ≡ Word x.1) × (is_reserved x.1 ≡ false)
+name_on q (Word y) x e = let h = if_not_some (is_reserved y) (q, y) x e in
+    (ap (λ z. z.0) h.1, ap (λ z. Word z.1) h.1, subst (λ z. is_reserved z ≡ false) (ap (λ z. z.1) h.1) h.0)
 name_on q (Sign y) x e = cc
 name_on q (Literal n) x e = cc
 
@@ -136,9 +142,11 @@ took_name ts us x (t, e, f) = let h = name_on t.place t.kind x f in (same_token 
 pub in_order : (a b : ℤ) → int_le a b ≡ true → a ≤ℤ b
 in_order a b e = le_z_yes (subst T (sym e) tt)
 
-literal_on : (least : ℤ) (q : Place) (k : TokenKind) (x : Place × ℤ) → a_literal least (record { place = q; kind = k }) ≡ Some x → (q ≡ x.0) × (k ≡ Literal x.1) × (least ≤ℤ x.1)
+literal_on : (least : ℤ) (q : Place) (k : TokenKind) (x : Place × ℤ) → a_literal least (record { place = q; kind = k }) ≡ Some x →
+    (q ≡ x.0) × (k ≡ Literal x.1) × (least ≤ℤ x.1)
 literal_on least q (Literal n) x e =
-    let h = if_some (int_le least n) (q, n) x e in (ap (λ z. z.0) h.1, ap (λ z. Literal z.1) h.1, subst (λ z. least ≤ℤ z) (ap (λ z. z.1) h.1) (in_order least n h.0))
+    let h = if_some (int_le least n) (q, n) x e in
+    (ap (λ z. z.0) h.1, ap (λ z. Literal z.1) h.1, subst (λ z. least ≤ℤ z) (ap (λ z. z.1) h.1) (in_order least n h.0))
 literal_on least q (Word y) x e = cc
 literal_on least q (Sign y) x e = cc
 
@@ -147,7 +155,8 @@ took_literal least ts us x (t, e, f) = let h = literal_on least t.place t.kind x
 
 -- lists of items
 
-next_item : {A B : Type 0} (add : B → A → B) (Item : A → List Token → List Token → Type 0) (separator close : TokenKind) (done : B) (ts a b : List Token) (x : A) (y : B) (us : List Token) →
+next_item : {A B : Type 0} (add : B → A → B) (Item : A → List Token → List Token → Type 0) (separator close : TokenKind) (done : B) (ts a b : List Token)
+    (x : A) (y : B) (us : List Token) →
     Next separator ts a → Item x a b → (new : List A) × (y ≡ added add (add done x) new) × Others Item separator close new b us →
     (new : List A) × (y ≡ added add done new) × Others Item separator close new ts us
 next_item add Item separator close done ts a b x y us n i (new, e, o) = (x ∷ new, e, (a, n, (b, i, o)))
@@ -179,7 +188,8 @@ several_yields add item Item separator close h done ts =
 pub same_text : (x y : List ℕ) → bytes_eq x y ≡ true → x ≡ y
 same_text x y h = (bytes_eq-Decides x y).0 h
 
-tuple_found : {A : Type 0} (Item : A → List Token → List Token → Type 0) (ts a b c d us : List Token) (x y : A) (new : List A) → Next (Sign (codes "(")) ts a → Item x a b → Next (Sign (codes ",")) b c → Item y c d →
+tuple_found : {A : Type 0} (Item : A → List Token → List Token → Type 0) (ts a b c d us : List Token) (x y : A) (new : List A) → Next (Sign (codes "(")) ts a →
+    Item x a b → Next (Sign (codes ",")) b c → Item y c d →
     Others Item (Sign (codes ",")) (Sign (codes ")")) new d us → OneOrTuple Item (x ∷ y ∷ new) ts us
 tuple_found Item ts a b c d us x y new o i n j more = (a, o, (b, i, (c, n, (d, j, more))))
 

@@ -35,7 +35,8 @@ SpellsBase base = Next (base_kind base)
 
 abbrev pub a_base : Test Base
 a_base t = elim t.kind [
-  | Word x ↦ if bytes_eq x (codes "int") then Some Int else if bytes_eq x (codes "bool") then Some BoolBase else if bytes_eq x (codes "set") then Some Set else None
+  | Word x ↦ if bytes_eq x (codes "int") then Some Int else if bytes_eq x (codes "bool") then Some BoolBase else if bytes_eq x (codes "set") then Some Set else
+      None
   | Literal n ↦ None
   | Sign x ↦ None
 ]

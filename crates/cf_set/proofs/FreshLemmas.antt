@@ -43,17 +43,21 @@ from_count (pos n) m l = omega (arith, ints)
 from_count (negsuc n) m l = omega arith
 
 -- one more number is tried
-diff_there : (xs : List ℤ) (k : ℕ) → has xs (pos k) ≡ true → set_diff (map (λ k. pos k) (range_with_len 0 (k + 1))) xs ≡ set_diff (map (λ k. pos k) (range_with_len 0 k)) xs
+diff_there : (xs : List ℤ) (k : ℕ) → has xs (pos k) ≡ true →
+    set_diff (map (λ k. pos k) (range_with_len 0 (k + 1))) xs ≡ set_diff (map (λ k. pos k) (range_with_len 0 k)) xs
 diff_there xs k e =
     let p : ℤ → Bool = λ x. not (has xs x) in
     let last : filter p (pos k ∷ []) ≡ [] = rw e refl in
-    ap (filter p) (map-range_with_len_more (λ k. pos k) 0 k k (omega arith)) ∙ (filter-append p (map (λ k. pos k) (range_with_len 0 k)) (pos k ∷ []) ∙ rw last (append-nil (filter p (map (λ k. pos k) (range_with_len 0 k)))))
+    ap (filter p) (map-range_with_len_more (λ k. pos k) 0 k k (omega arith)) ∙
+    (filter-append p (map (λ k. pos k) (range_with_len 0 k)) (pos k ∷ []) ∙ rw last (append-nil (filter p (map (λ k. pos k) (range_with_len 0 k)))))
 
-diff_new : (xs : List ℤ) (k : ℕ) → has xs (pos k) ≡ false → set_diff (map (λ k. pos k) (range_with_len 0 (k + 1))) xs ≡ set_diff (map (λ k. pos k) (range_with_len 0 k)) xs ++ pos k ∷ []
+diff_new : (xs : List ℤ) (k : ℕ) → has xs (pos k) ≡ false →
+    set_diff (map (λ k. pos k) (range_with_len 0 (k + 1))) xs ≡ set_diff (map (λ k. pos k) (range_with_len 0 k)) xs ++ pos k ∷ []
 diff_new xs k e =
     let p : ℤ → Bool = λ x. not (has xs x) in
     let last : filter p (pos k ∷ []) ≡ pos k ∷ [] = rw e refl in
-    ap (filter p) (map-range_with_len_more (λ k. pos k) 0 k k (omega arith)) ∙ (filter-append p (map (λ k. pos k) (range_with_len 0 k)) (pos k ∷ []) ∙ rw last refl)
+    ap (filter p) (map-range_with_len_more (λ k. pos k) 0 k k (omega arith)) ∙
+    (filter-append p (map (λ k. pos k) (range_with_len 0 k)) (pos k ∷ []) ∙ rw last refl)
 
 pub picking_start : (n : ℤ) (xs : List ℤ) → IsRising xs → Picking n xs xs (pos 0) []
 picking_start n xs r = record {
@@ -78,7 +82,8 @@ pub some_first : (rest : List ℤ) (x : ℤ) → (cmp_first rest x ≡ Greater �
 some_first [] x h = absurd (h refl)
 some_first (y ∷ ys) x h = omega arith
 
-pub picking_skip : (n : ℤ) (xs rest : List ℤ) (next : ℤ) (out : List ℤ) → Picking n xs rest next out → cmp_first rest next ≡ Less → Picking n xs (drop 1 rest) next out
+pub picking_skip : (n : ℤ) (xs rest : List ℤ) (next : ℤ) (out : List ℤ) → Picking n xs rest next out → cmp_first rest next ≡ Less →
+    Picking n xs (drop 1 rest) next out
 picking_skip n xs [] next out h e = absurd (cc)
 picking_skip n xs (y ∷ ys) next out h e =
     let l = less_is y next e in
@@ -90,7 +95,8 @@ picking_skip n xs (y ∷ ys) next out h e =
       size = h.size;
     }
 
-pub picking_avoid : (n : ℤ) (xs rest : List ℤ) (next : ℤ) (out : List ℤ) → Picking n xs rest next out → cmp_first rest next ≡ Equal → Picking n xs (drop 1 rest) (next +ℤ pos 1) out
+pub picking_avoid : (n : ℤ) (xs rest : List ℤ) (next : ℤ) (out : List ℤ) → Picking n xs rest next out → cmp_first rest next ≡ Equal →
+    Picking n xs (drop 1 rest) (next +ℤ pos 1) out
 picking_avoid n xs [] next out h e = absurd (cc)
 picking_avoid n xs (y ∷ ys) (negsuc k) out h e = absurd (let l = h.low in omega (arith, ints))
 picking_avoid n xs (y ∷ ys) (pos k) out h e =
@@ -108,7 +114,8 @@ not_first : (rest : List ℤ) (x : ℤ) → IsRising rest → cmp_first rest x �
 not_first [] x r e = refl
 not_first (y ∷ ys) x r e = let l = greater_is y x e in above_not x (y ∷ ys) (l, above_less x y ys (omega (arith, ints)) r.0)
 
-pub picking_take : (n : ℤ) (xs rest : List ℤ) (next : ℤ) (out : List ℤ) → Picking n xs rest next out → cmp_first rest next ≡ Greater → pos (length out) <ℤ n → Picking n xs rest (next +ℤ pos 1) (out ++ next ∷ [])
+pub picking_take : (n : ℤ) (xs rest : List ℤ) (next : ℤ) (out : List ℤ) → Picking n xs rest next out → cmp_first rest next ≡ Greater → pos (length out) <ℤ n →
+    Picking n xs rest (next +ℤ pos 1) (out ++ next ∷ [])
 picking_take n xs rest (negsuc k) out h e m = absurd (let l = h.low in omega (arith, ints))
 picking_take n xs rest (pos k) out h e m =
     let there : has xs (pos k) ≡ false = sym (h.left (pos k) (omega (arith, ints))) ∙ not_first rest (pos k) h.rising e in
@@ -134,16 +141,23 @@ picking_bound n xs rest (negsuc k) out r h = absurd (let l = h.low in omega (ari
 picking_bound n xs rest (pos k) out r h = let b = length-picked xs k r in let e = ap length h.picked in omega (arith, ints)
 
 -- more numbers tried give more picked after these
-picked_more : (xs : List ℤ) (k d : ℕ) → (rest : List ℤ) × (set_diff (map (λ k. pos k) (range_with_len 0 (k + d))) xs ≡ set_diff (map (λ k. pos k) (range_with_len 0 k)) xs ++ rest)
+picked_more : (xs : List ℤ) (k d : ℕ) → (rest : List ℤ) ×
+    (set_diff (map (λ k. pos k) (range_with_len 0 (k + d))) xs ≡ set_diff (map (λ k. pos k) (range_with_len 0 k)) xs ++ rest)
 picked_more xs k zero = let e : k + 0 ≡ k = omega arith in ([], rw e (sym (append-nil (set_diff (map (λ k. pos k) (range_with_len 0 k)) xs))))
 picked_more xs k (suc d) =
     let e : k + suc d ≡ (k + d) + 1 = omega arith in
     let again = picked_more xs k d in
     on_bool (has xs (pos (k + d)))
     (λ f. (again.0, rw e (diff_there xs (k + d) f ∙ again.1)))
-    (λ f. (again.0 ++ pos (k + d) ∷ [], rw e (diff_new xs (k + d) f ∙ (ap (λ l. l ++ pos (k + d) ∷ []) again.1 ∙ append_assoc (set_diff (map (λ k. pos k) (range_with_len 0 k)) xs) again.0 (pos (k + d) ∷ [])))))
+    (λ f. (
+      again.0 ++ pos (k + d) ∷ [],
+      rw e
+          (diff_new xs (k + d) f ∙ (ap (λ l. l ++ pos (k + d) ∷ []) again.1 ∙
+          append_assoc (set_diff (map (λ k. pos k) (range_with_len 0 k)) xs) again.0 (pos (k + d) ∷ []))),
+    ))
 
-pub picking_done : (n : ℤ) (xs rest : List ℤ) (next : ℤ) (out : List ℤ) → IsRising xs → Picking n xs rest next out → n ≤ℤ pos (length out) → out ≡ set_fresh xs (count_of n)
+pub picking_done : (n : ℤ) (xs rest : List ℤ) (next : ℤ) (out : List ℤ) → IsRising xs → Picking n xs rest next out → n ≤ℤ pos (length out) →
+    out ≡ set_fresh xs (count_of n)
 picking_done n xs rest (negsuc k) out r h l = absurd (let m = h.low in omega (arith, ints))
 picking_done n xs rest (pos k) out r h l =
     let m = h.size in
@@ -154,9 +168,11 @@ picking_done n xs rest (pos k) out r h l =
     let d = (count_of n + length xs) - k in
     let whole : k + d ≡ count_of n + length xs = omega arith in
     let more = picked_more xs k d in
-    let split : set_diff (map (λ k. pos k) (range_with_len 0 (count_of n + length xs))) xs ≡ out ++ more.0 = ap (λ j. set_diff (map (λ k. pos k) (range_with_len 0 j)) xs) (sym whole) ∙ (more.1 ∙ ap (λ l. l ++ more.0) (sym h.picked)) in
+    let split : set_diff (map (λ k. pos k) (range_with_len 0 (count_of n + length xs))) xs ≡ out ++ more.0 =
+    ap (λ j. set_diff (map (λ k. pos k) (range_with_len 0 j)) xs) (sym whole) ∙ (more.1 ∙ ap (λ l. l ++ more.0) (sym h.picked)) in
     sym (ap (take (count_of n)) split ∙ (ap (λ j. take j (out ++ more.0)) (sym long) ∙ take-append_seam out more.0))
 
 -- fresh numbers beside lists of lengths that fit are within the limit
 pub within_fresh : (xs : List ℤ) (n : ℕ) → n + length xs ≤ 2 ^ 127 → AreWithin (set_fresh xs n)
-within_fresh xs n l = All-from_members IsWithin (set_fresh xs n) (λ z e. let w = fresh_within xs n z e in let low = w.0 in let high = w.1 in omega (arith, ints))
+within_fresh xs n l = All-from_members IsWithin (set_fresh xs n) (λ z e. let w = fresh_within xs n z e in let low = w.0 in let high = w.1 in
+    omega (arith, ints))

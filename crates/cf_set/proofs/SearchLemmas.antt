@@ -22,7 +22,8 @@ below_or_not k i = on_bool (ltb k i) (λ e. inl (ltb-true k i e)) (λ e. inr (lt
 less_or_same : (a b : ℕ) → a ≤ b → (a < b) ⊎ (a ≡ b)
 less_or_same a b l = ⊎_elim inl (λ m. inr (omega arith)) (below_or_not a b)
 
-pub is_ok-searched : (xs : List ℤ) (x : ℤ) (r : Result ℕ ℕ) → IsRising xs → IsSearchInRange r (length xs) → IsBinarySearchResult (λ y. int_cmp y x) xs r → is_ok r ≡ has xs x
+pub is_ok-searched : (xs : List ℤ) (x : ℤ) (r : Result ℕ ℕ) → IsRising xs → IsSearchInRange r (length xs) → IsBinarySearchResult (λ y. int_cmp y x) xs r →
+    is_ok r ≡ has xs x
 is_ok-searched xs x (Ok i) r l h =
     let same : get_or xs i x ≡ x = eq_is (get_or xs i x) x (ap is_eq (h x)) in
     sym (ap (has xs) (sym same) ∙ has-get_or xs i x l)

@@ -59,7 +59,8 @@ dedup_rises (x ∷ xs) s = rising_dedup x xs s
 
 -- a permutation has the same members
 member_moved : (xs ys : List ℤ) (z : ℤ) → IsPermutation xs ys → has ys z ≡ true → has xs z ≡ true
-member_moved xs ys z p e = member_from_All (λ y. has xs y ≡ true) ys (All-permutation (λ y. has xs y ≡ true) xs ys p (All-from_members (λ y. has xs y ≡ true) xs (λ y f. f))) z e
+member_moved xs ys z p e = member_from_All (λ y. has xs y ≡ true) ys
+    (All-permutation (λ y. has xs y ≡ true) xs ys p (All-from_members (λ y. has xs y ≡ true) xs (λ y f. f))) z e
 
 pub has-permutation : (xs ys : List ℤ) (z : ℤ) → IsPermutation xs ys → has ys z ≡ has xs z
 has-permutation xs ys z p = on_bool (has ys z) (λ e. e ∙ sym (member_moved xs ys z p e))

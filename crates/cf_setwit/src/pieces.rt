@@ -74,7 +74,8 @@ fn pieces(
     requires room { first_free (plain_layout layout.now) < 2 ^ 32 }
     requires levels { sources.regions + 2 * (2 ^ length layout.now.inputs.items - 1) < 2 ^ 32 }
     requires masks { All (λ m. m < 2 ^ set_count (plain_layout layout.now)) masks.now }
-    ensures { IfOk result (λ cs. map code_tree cs.items ≡ map (piece_code (plain_layout layout.now) names.now (level_from sources.regions) sources.fresh) masks.now) }
+    ensures { IfOk result (λ cs. map code_tree cs.items ≡ map (piece_code (plain_layout layout.now) names.now (level_from sources.regions) sources.fresh)
+        masks.now) }
 {
     let mut pieces = Vec::new(alloc);
     for mask in masks {

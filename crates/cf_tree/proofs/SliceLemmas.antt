@@ -111,7 +111,8 @@ fresh_within xs n y e =
 pub range_has : (a n : ℕ) (y : ℤ) → pos a ≤ℤ y → y <ℤ pos (a + n) → has (map (λ k. pos k) (range_with_len a n)) y ≡ true
 range_has a zero y l m = absurd (omega (arith, ints))
 range_has a (suc n) y l m = on_bool (int_eq (pos a) y) (λ e. has-same (pos a) (map (λ k. pos k) (range_with_len (a + 1) n)) y e)
-    (λ e. has-other (pos a) (map (λ k. pos k) (range_with_len (a + 1) n)) y e ∙ range_has (a + 1) n y (let d = eq_differs (pos a) y e in omega (arith, ints)) (omega (arith, ints)))
+    (λ e. has-other (pos a) (map (λ k. pos k) (range_with_len (a + 1) n)) y e ∙
+    range_has (a + 1) n y (let d = eq_differs (pos a) y e in omega (arith, ints)) (omega (arith, ints)))
 
 -- the first elements of a rising list hold what is less than one of them
 take_below : (n : ℕ) (xs : List ℤ) (y z : ℤ) → IsRising xs → has xs y ≡ true → y <ℤ z → has (take n xs) z ≡ true → has (take n xs) y ≡ true

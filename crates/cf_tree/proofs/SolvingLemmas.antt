@@ -31,7 +31,8 @@ pub got_either : {A : Type 0} (b : Bool) (p q : Path A) → IsGot p.gives → Is
 got_either true p q s t = s
 got_either false p q s t = t
 
-pub got_if_some : (o : Option (List Value)) (go : List Value → Path (Option (List Value))) → ((e : List Value) → IsGot (go e).gives) → IsGot (if_some o go).gives
+pub got_if_some : (o : Option (List Value)) (go : List Value → Path (Option (List Value))) → ((e : List Value) → IsGot (go e).gives) →
+    IsGot (if_some o go).gives
 got_if_some None go f = is_got _
 got_if_some (Some e) go f = f e
 
@@ -60,11 +61,13 @@ mutual
   got_path (code_diff a b) env s = got_then _ (got_path a env s.0) (λ x. got_then _ (got_path b env s.1) (λ y. is_got _))
   got_path (code_subset a b) env s = got_then _ (got_path a env s.0) (λ x. got_then _ (got_path b env s.1) (λ y. is_got _))
   got_path (code_fresh a b) env s = got_then _ (got_path a env s.0) (λ x. got_then _ (got_path b env s.1) (λ y. is_got _))
-  got_path (code_and a b) env s = got_then _ (got_path a env s.0) (λ x. got_either (truth_in x) (path b env) (gives_truth false) (got_path b env s.1) (is_got _))
+  got_path (code_and a b) env s = got_then _ (got_path a env s.0)
+      (λ x. got_either (truth_in x) (path b env) (gives_truth false) (got_path b env s.1) (is_got _))
   got_path (code_or a b) env s = got_then _ (got_path a env s.0) (λ x. got_either (truth_in x) (gives_truth true) (path b env) (is_got _) (got_path b env s.1))
   got_path (code_slice a b c) env s =
       got_then _ (got_path a env s.0) (λ x. got_then _ (got_path b env s.1) (λ y. got_then _ (got_path c env s.2) (λ z. is_got _)))
-  got_path (code_if t a b) env s = got_then _ (got_path t env s.0) (λ x. got_either (truth_in x) (path a env) (path b env) (got_path a env s.1) (got_path b env s.2))
+  got_path (code_if t a b) env s = got_then _ (got_path t env s.0)
+      (λ x. got_either (truth_in x) (path a env) (path b env) (got_path a env s.1) (got_path b env s.2))
   got_path (code_let first n a b) env s = got_then _ (got_path a env s.0) (λ x. got_path b (env ++ x) s.1)
   got_path (code_solve n arms) env s = absurd s
 
@@ -85,15 +88,18 @@ mutual
   got_best better (code_more c cs) env z s =
       got_then _ (got_path c env s.0) (λ x. got_best better cs env (Some (choose_with better z (number_in x))) s.1)
 
-  pub got_join : (join : List ℤ → List ℤ → List ℤ) (cs : CodeTrees) (env : List Value) (zs : Option (List ℤ)) → HaveNoSolve cs → IsGot (join_path join cs env zs).gives
+  pub got_join : (join : List ℤ → List ℤ → List ℤ) (cs : CodeTrees) (env : List Value) (zs : Option (List ℤ)) → HaveNoSolve cs →
+      IsGot (join_path join cs env zs).gives
   got_join join no_codes env zs s = is_got _
   got_join join (code_more c cs) env zs s =
       got_then _ (got_path c env s.0) (λ x. got_join join cs env (Some (joined_with join zs (set_in x))) s.1)
 
 pub got_items : (is : ItemTrees) (env : List Value) → ItemsHaveNoSolve is → IsGot (items_path is env).gives
 got_items no_items env s = is_got _
-got_items (item_more (let_item c) is) env s = got_then _ (got_then _ (got_path c env s.0) (λ x. is_got _)) (λ o. got_if_some o (items_path is) (λ e. got_items is e s.1))
-got_items (item_more (need_item c) is) env s = got_then _ (got_then _ (got_path c env s.0) (λ x. is_got _)) (λ o. got_if_some o (items_path is) (λ e. got_items is e s.1))
+got_items (item_more (let_item c) is) env s =
+    got_then _ (got_then _ (got_path c env s.0) (λ x. is_got _)) (λ o. got_if_some o (items_path is) (λ e. got_items is e s.1))
+got_items (item_more (need_item c) is) env s =
+    got_then _ (got_then _ (got_path c env s.0) (λ x. is_got _)) (λ o. got_if_some o (items_path is) (λ e. got_items is e s.1))
 
 pub got_is : {A : Type 0} (g : Got A) → IsGot g → (x : A) × (g ≡ got x)
 got_is g (is_got x) = (x, refl)

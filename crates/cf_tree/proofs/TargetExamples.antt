@@ -192,7 +192,8 @@ inter-of = refl
 slice-of : means (code_slice (code_var 0) (code_lit (pos 1)) (code_lit (pos 5))) (elements three ∷ []) ≡ values (elements (pos 1 ∷ pos 8 ∷ []) ∷ [])
 slice-of = refl
 
-slice-from_below_0 : means (code_slice (code_var 0) (code_lit (negsuc 3)) (code_lit (pos 2))) (elements three ∷ []) ≡ values (elements (negsuc 4 ∷ pos 1 ∷ []) ∷ [])
+slice-from_below_0 : means (code_slice (code_var 0) (code_lit (negsuc 3)) (code_lit (pos 2))) (elements three ∷ []) ≡ values
+    (elements (negsuc 4 ∷ pos 1 ∷ []) ∷ [])
 slice-from_below_0 = refl
 
 fresh-beside : means (code_fresh (code_var 0) (code_lit (pos 2))) (elements (pos 0 ∷ pos 2 ∷ []) ∷ []) ≡ values (elements (pos 1 ∷ pos 3 ∷ []) ∷ [])

@@ -70,7 +70,8 @@ tuple_before : (bounds : List ℕ) (i j : ℕ) → i < j → j < count_below bou
 tuple_before [] i j l h = omega arith
 tuple_before (b ∷ bs) i j l h =
     let some = factor_some j b (count_below bs) h in
-    elim (split_order i j (count_below bs) some l) as (λ _. IsBefore (tuple_at (b ∷ bs) i) (tuple_at (b ∷ bs) j)) [ inl s ↦ inl s | inr s ↦ inr (s.0, tuple_before bs (i % count_below bs) (j % count_below bs) s.1 (mod-lt j some)) ]
+    elim (split_order i j (count_below bs) some l) as (λ _. IsBefore (tuple_at (b ∷ bs) i) (tuple_at (b ∷ bs) j))
+    [ inl s ↦ inl s | inr s ↦ inr (s.0, tuple_before bs (i % count_below bs) (j % count_below bs) s.1 (mod-lt j some)) ]
 
 pub tuples_numbered : (bounds : List ℕ) → AreNumbered bounds
 tuples_numbered bounds =

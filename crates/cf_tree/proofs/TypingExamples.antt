@@ -36,14 +36,23 @@ let-at_wrong_level : (bs : List Base) → IsTypedCode (code_let 0 1 (code_lit (p
 let-at_wrong_level bs s = let e = s.2 in omega (arith, e)
 
 -- an arm with one search, which takes the next level, a let and a need
-arm-typed : IsTypedCode (code_solve 1 (arms_of (arm_of (3 ∷ []) (items_of (let_item (code_var 0) ∷ need_item (code_compare Lt (code_var 1) (code_var 2)) ∷ [])) (codes_of (code_var 2 ∷ [])) ∷ []))) (Int ∷ []) (Int ∷ [])
+arm-typed : IsTypedCode (code_solve 1 (arms_of
+    (arm_of (3 ∷ []) (items_of (let_item (code_var 0) ∷ need_item (code_compare Lt (code_var 1) (code_var 2)) ∷ [])) (codes_of (code_var 2 ∷ [])) ∷ [])))
+    (Int ∷ []) (Int ∷ [])
 arm-typed = (
   refl,
   (
     (All-cons (λ b. 1 ≤ b) 3 [] (omega arith) (All-nil (λ b. 1 ≤ b)), omega arith),
     (tt, ((tt, tt), tt)),
     (tt, tt),
-    (Int, (Int, refl, (refl, tt)), ((Int, refl, (Int, refl, (refl, refl)), (Int, refl, (refl, refl)), (refl, refl)), (Int, [], refl, (Int, refl, (refl, tt)), refl))),
+    (
+      Int,
+      (Int, refl, (refl, tt)),
+      (
+        (Int, refl, (Int, refl, (refl, refl)), (Int, refl, (refl, refl)), (refl, refl)),
+        (Int, [], refl, (Int, refl, (refl, tt)), refl),
+      ),
+    ),
     tt,
   ),
 )

@@ -121,7 +121,8 @@ abbrev mutual
   HasBases (code_diff a b) scope asked bs = HasBases a scope (ask Set) (one Set) × HasBases b scope (ask Set) (one Set) × IsOne Set asked bs
   HasBases (code_subset a b) scope asked bs = HasBases a scope (ask Set) (one Set) × HasBases b scope (ask Set) (one Set) × IsOne Bool asked bs
   HasBases (code_card a) scope asked bs = HasBases a scope (ask Set) (one Set) × IsOne Int asked bs
-  HasBases (code_slice a b c) scope asked bs = HasBases a scope (ask Set) (one Set) × HasBases b scope (ask Int) (one Int) × HasBases c scope (ask Int) (one Int) × IsOne Set asked bs
+  HasBases (code_slice a b c) scope asked bs =
+      HasBases a scope (ask Set) (one Set) × HasBases b scope (ask Int) (one Int) × HasBases c scope (ask Int) (one Int) × IsOne Set asked bs
   HasBases (code_fresh a b) scope asked bs = HasBases a scope (ask Set) (one Set) × HasBases b scope (ask Int) (one Int) × IsOne Set asked bs
   HasBases (code_if t a b) scope asked bs = HasBases t scope (ask Bool) (one Bool) × HasBases a scope asked bs × HasBases b scope asked bs
   HasBases (code_let first n a b) scope asked bs =

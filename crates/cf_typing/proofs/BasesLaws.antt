@@ -48,7 +48,8 @@ abbrev Finds : CodeTree → List Base → Option (List Base) → Type 0
 Finds c scope asked = (bs : List Base) → bases_of c scope asked ≡ Some bs → HasBases c scope asked bs
 
 -- what is found where these bases are asked
-asked_has : (c : CodeTree) (scope asked : List Base) → Finds c scope (Some asked) → IsFound (bases_of c scope (Some asked)) → HasBases c scope (Some asked) asked
+asked_has : (c : CodeTree) (scope asked : List Base) → Finds c scope (Some asked) → IsFound (bases_of c scope (Some asked)) →
+    HasBases c scope (Some asked) asked
 asked_has c scope asked f h =
     let k : HasBases c scope (Some asked) h.0 = f h.0 h.1 in
     subst (λ bs. HasBases c scope (Some asked) bs) (sym (meets c scope (Some asked) h.0 k)) k
@@ -66,7 +67,8 @@ parts_alone : (cs : CodeTrees) (scope bs : List Base) → (rest : List Base) × 
 parts_alone cs scope bs p = subst (λ rest. PartsHave cs scope None rest) (sym p.1) p.2
 
 arm_both : (bounds : List ℕ) (is : ItemTrees) (gs : CodeTrees) (scope bs : List Base) → arm_bases (arm_of bounds is gs) scope ≡ Some bs →
-    ((inner : List Base) → items_scope is (scope ++ map (λ _. Int) bounds) ≡ Some inner → PartsHave gs inner None bs → ItemsHave is (scope ++ map (λ _. Int) bounds) (λ inner. PartsHave gs inner None bs)) →
+    ((inner : List Base) → items_scope is (scope ++ map (λ _. Int) bounds) ≡ Some inner → PartsHave gs inner None bs →
+    ItemsHave is (scope ++ map (λ _. Int) bounds) (λ inner. PartsHave gs inner None bs)) →
     ((inner : List Base) → parts_of gs inner [] ≡ Some bs → PartsHave gs inner None bs) →
     AreBounds bounds × ItemsHaveNoSolve is × HaveNoSolve gs × ItemsHave is (scope ++ map (λ _. Int) bounds) (λ inner. PartsHave gs inner None bs)
 arm_both bounds is gs scope bs e items parts =
@@ -78,7 +80,8 @@ arm_both bounds is gs scope bs e items parts =
 if_both : (t a b : CodeTree) (scope : List Base) (bs : List Base) → bases_of (code_if t a b) scope None ≡ Some bs →
     IsFound (bases_of t scope (ask Truth)) × (bases_of a scope None ≡ Some bs) × (bases_of b scope None ≡ Some bs)
 if_both t a b scope bs e =
-    let p = after_both (bases_of t scope (ask Truth)) (then_found (bases_of a scope None) (λ cs. after_found (again cs (bases_of b scope None)) (Some cs))) bs e in
+    let p = after_both (bases_of t scope (ask Truth)) (then_found (bases_of a scope None) (λ cs. after_found (again cs (bases_of b scope None)) (Some cs))) bs e
+    in
     let q = then_both (bases_of a scope None) (λ cs. after_found (again cs (bases_of b scope None)) (Some cs)) bs p.1 in
     let r = after_both (again q.0 (bases_of b scope None)) (Some q.0) bs q.2 in
     (p.0, q.1 ∙ r.1, again_both q.0 (bases_of b scope None) r.0 ∙ r.1)
@@ -98,8 +101,11 @@ mutual
       let p = after_both (at_least 2 cs) (after_found (as_many cs asked) (after_found (parts_have cs scope asked) (Some asked))) bs e in
       let q = after_both (as_many cs asked) (after_found (parts_have cs scope asked) (Some asked)) bs p.1 in
       let r = after_both (parts_have cs scope asked) (Some asked) bs q.1 in
-      let same : asked ≡ bs = cc r.1 in
-      (at_least_both 2 cs p.0, subst (λ rest. PartsHave cs scope (Some asked) rest) same (parts_asked cs scope asked asked r.0 (as_many_both cs asked q.0)), same)
+      let same : asked ≡ bs = cc r.1 in (
+        at_least_both 2 cs p.0,
+        subst (λ rest. PartsHave cs scope (Some asked) rest) same (parts_asked cs scope asked asked r.0 (as_many_both cs asked q.0)),
+        same,
+      )
   found (code_sum cs) scope asked bs e =
       let p = after_two_both asked Int bs (at_least 2 cs) (all_have cs scope Int) e in (at_least_both 2 cs p.0, all_found cs scope Int p.1, p.2)
   found (code_sub a b) scope asked bs e =
@@ -111,9 +117,11 @@ mutual
   found (code_neg a) scope asked bs e =
       let p = after_one_both asked Int bs (bases_of a scope (ask Int)) e in (asked_has a scope (one Int) (found a scope (ask Int)) p.0, p.1)
   found (code_div a k) scope asked bs e =
-      let p = after_two_both asked Int bs (divides k) (bases_of a scope (ask Int)) e in (divides_both k p.0, asked_has a scope (one Int) (found a scope (ask Int)) p.1, p.2)
+      let p = after_two_both asked Int bs (divides k) (bases_of a scope (ask Int)) e in
+      (divides_both k p.0, asked_has a scope (one Int) (found a scope (ask Int)) p.1, p.2)
   found (code_mod a k) scope asked bs e =
-      let p = after_two_both asked Int bs (divides k) (bases_of a scope (ask Int)) e in (divides_both k p.0, asked_has a scope (one Int) (found a scope (ask Int)) p.1, p.2)
+      let p = after_two_both asked Int bs (divides k) (bases_of a scope (ask Int)) e in
+      (divides_both k p.0, asked_has a scope (one Int) (found a scope (ask Int)) p.1, p.2)
   found (code_min cs) scope asked bs e =
       let p = after_two_both asked Int bs (at_least 1 cs) (all_have cs scope Int) e in (at_least_both 1 cs p.0, all_found cs scope Int p.1, p.2)
   found (code_max cs) scope asked bs e =
@@ -123,7 +131,8 @@ mutual
       let k : HasBases a scope (side o) (one p.0) = found a scope (side o) (one p.0) p.1 in
       (p.0, meets a scope (side o) (one p.0) k, k, found b scope (side o) (one p.0) p.2, p.3)
   found (code_divides k a) scope asked bs e =
-      let p = after_two_both asked Truth bs (divides k) (bases_of a scope (ask Int)) e in (divides_both k p.0, asked_has a scope (one Int) (found a scope (ask Int)) p.1, p.2)
+      let p = after_two_both asked Truth bs (divides k) (bases_of a scope (ask Int)) e in
+      (divides_both k p.0, asked_has a scope (one Int) (found a scope (ask Int)) p.1, p.2)
   found (code_and a b) scope asked bs e =
       let p = after_two_both asked Truth bs (bases_of a scope (ask Truth)) (bases_of b scope (ask Truth)) e in
       (asked_has a scope (one Truth) (found a scope (ask Truth)) p.0, asked_has b scope (one Truth) (found b scope (ask Truth)) p.1, p.2)
@@ -145,8 +154,12 @@ mutual
   found (code_card a) scope asked bs e =
       let p = after_one_both asked Int bs (bases_of a scope (ask Set)) e in (asked_has a scope (one Set) (found a scope (ask Set)) p.0, p.1)
   found (code_slice a b c) scope asked bs e =
-      let p = after_three_both asked Set bs (bases_of a scope (ask Set)) (bases_of b scope (ask Int)) (bases_of c scope (ask Int)) e in
-      (asked_has a scope (one Set) (found a scope (ask Set)) p.0, asked_has b scope (one Int) (found b scope (ask Int)) p.1, asked_has c scope (one Int) (found c scope (ask Int)) p.2, p.3)
+      let p = after_three_both asked Set bs (bases_of a scope (ask Set)) (bases_of b scope (ask Int)) (bases_of c scope (ask Int)) e in (
+        asked_has a scope (one Set) (found a scope (ask Set)) p.0,
+        asked_has b scope (one Int) (found b scope (ask Int)) p.1,
+        asked_has c scope (one Int) (found c scope (ask Int)) p.2,
+        p.3,
+      )
   found (code_fresh a b) scope asked bs e =
       let p = after_two_both asked Set bs (bases_of a scope (ask Set)) (bases_of b scope (ask Int)) e in
       (asked_has a scope (one Set) (found a scope (ask Set)) p.0, asked_has b scope (one Int) (found b scope (ask Int)) p.1, p.2)
@@ -155,8 +168,12 @@ mutual
   found (code_if t a b) scope (Some asked) bs e =
       let p = after_both (bases_of t scope (ask Truth)) (after_found (bases_of a scope (Some asked)) (bases_of b scope (Some asked))) bs e in
       let q = after_both (bases_of a scope (Some asked)) (bases_of b scope (Some asked)) bs p.1 in
-      let k : HasBases b scope (Some asked) bs = found b scope (Some asked) bs q.1 in
-      (asked_has t scope (one Truth) (found t scope (ask Truth)) p.0, subst (λ cs. HasBases a scope (Some asked) cs) (meets b scope (Some asked) bs k) (asked_has a scope asked (found a scope (Some asked)) q.0), k)
+      let k : HasBases b scope (Some asked) bs = found b scope (Some asked) bs q.1 in (
+        asked_has t scope (one Truth) (found t scope (ask Truth)) p.0,
+        subst (λ cs. HasBases a scope (Some asked) cs) (meets b scope (Some asked) bs k)
+            (asked_has a scope asked (found a scope (Some asked)) q.0),
+        k,
+      )
   found (code_let first n a b) scope asked bs e =
       let p = then_both (bound first n (length scope) (bases_of a scope None)) (λ vs. bases_of b (scope ++ vs) asked) bs e in
       let q = bound_both first n (length scope) (bases_of a scope None) p.0 p.1 in
@@ -167,7 +184,8 @@ mutual
       let q = then_both (arm_bases (arm_of bounds is gs) scope) (λ cs. after_found (arms_give arms scope cs) (Some cs)) bs p.0 in
       let r = after_both (arms_give arms scope q.0) (Some q.0) bs q.2 in
       let same : q.0 ≡ bs = cc r.1 in
-      let k = arm_both bounds is gs scope bs (q.1 ∙ r.1) (λ inner i h. items_found is gs bs (scope ++ map (λ _. Int) bounds) inner i h) (λ inner h. parts_alone gs inner bs (parts_found gs inner [] bs h)) in
+      let k = arm_both bounds is gs scope bs (q.1 ∙ r.1) (λ inner i h. items_found is gs bs (scope ++ map (λ _. Int) bounds) inner i h)
+      (λ inner h. parts_alone gs inner bs (parts_found gs inner [] bs h)) in
       (p.1, (k.0, k.1, k.2, k.3, subst (λ cs. ArmsHave arms scope cs) same (arms_found arms scope q.0 r.0)))
 
   all_found : (cs : CodeTrees) (scope : List Base) (b : Base) → IsFound (all_have cs scope b) → AllHave cs scope b
@@ -176,7 +194,8 @@ mutual
       let p = after_both (bases_of c scope (ask b)) (all_have cs scope b) h.0 h.1 in
       (asked_has c scope (one b) (found c scope (ask b)) p.0, all_found cs scope b (h.0, p.1))
 
-  parts_found : (cs : CodeTrees) (scope before bs : List Base) → parts_of cs scope before ≡ Some bs → (rest : List Base) × (bs ≡ before ++ rest) × PartsHave cs scope None rest
+  parts_found : (cs : CodeTrees) (scope before bs : List Base) → parts_of cs scope before ≡ Some bs →
+      (rest : List Base) × (bs ≡ before ++ rest) × PartsHave cs scope None rest
   parts_found no_codes scope before bs e = ([], none_more before bs (cc e), refl)
   parts_found (code_more c cs) scope before bs e =
       let p = then_both (then_found (bases_of c scope None) single) (λ b. parts_of cs scope (before ++ one b)) bs e in
@@ -191,13 +210,18 @@ mutual
       let p = after_both (bases_of c scope (ask b)) (parts_have cs scope bs) h.0 h.1 in
       (b, bs, refl, asked_has c scope (one b) (found c scope (ask b)) p.0, parts_asked cs scope whole bs (h.0, p.1) (omega (arith, e)))
 
-  items_found : (is : ItemTrees) (gs : CodeTrees) (bs scope inner : List Base) → items_scope is scope ≡ Some inner → PartsHave gs inner None bs → ItemsHave is scope (λ inner. PartsHave gs inner None bs)
+  items_found : (is : ItemTrees) (gs : CodeTrees) (bs scope inner : List Base) → items_scope is scope ≡ Some inner → PartsHave gs inner None bs →
+      ItemsHave is scope (λ inner. PartsHave gs inner None bs)
   items_found no_items gs bs scope inner e h = let same : scope ≡ inner = cc e in subst (λ s. PartsHave gs s None bs) (sym same) h
   items_found (item_more (let_item c) is) gs bs scope inner e h =
       let p = then_both (then_found (then_found (bases_of c scope None) single) (λ b. Some (scope ++ one b))) (λ next. items_scope is next) inner e in
       let q = then_both (then_found (bases_of c scope None) single) (λ b. Some (scope ++ one b)) p.0 p.1 in
-      let same : scope ++ one q.0 ≡ p.0 = cc q.2 in
-      (q.0, found c scope None (one q.0) (single_both (bases_of c scope None) q.0 q.1), items_found is gs bs (scope ++ one q.0) inner (ap (items_scope is) same ∙ p.2) h)
+      let same : scope ++ one q.0 ≡ p.0 = cc q.2 in (
+        q.0,
+        found c scope None (one q.0) (single_both (bases_of c scope None) q.0 q.1),
+        items_found is gs bs (scope ++ one q.0) inner
+            (ap (items_scope is) same ∙ p.2) h,
+      )
   items_found (item_more (need_item c) is) gs bs scope inner e h =
       let p = then_both (after_found (bases_of c scope (ask Truth)) (Some scope)) (λ next. items_scope is next) inner e in
       let q = after_both (bases_of c scope (ask Truth)) (Some scope) p.0 p.1 in
@@ -208,5 +232,6 @@ mutual
   arms_found no_arms scope bs h = tt
   arms_found (arm_more (arm_of bounds is gs) arms) scope bs h =
       let p = after_both (again bs (arm_bases (arm_of bounds is gs) scope)) (arms_give arms scope bs) h.0 h.1 in
-      let k = arm_both bounds is gs scope bs (again_both bs (arm_bases (arm_of bounds is gs) scope) p.0) (λ inner i h. items_found is gs bs (scope ++ map (λ _. Int) bounds) inner i h) (λ inner h. parts_alone gs inner bs (parts_found gs inner [] bs h)) in
+      let k = arm_both bounds is gs scope bs (again_both bs (arm_bases (arm_of bounds is gs) scope) p.0)
+      (λ inner i h. items_found is gs bs (scope ++ map (λ _. Int) bounds) inner i h) (λ inner h. parts_alone gs inner bs (parts_found gs inner [] bs h)) in
       (k.0, k.1, k.2, k.3, arms_found arms scope bs (h.0, p.1))

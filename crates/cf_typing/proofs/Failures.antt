@@ -12,16 +12,19 @@ pub not_zero : (n : ℕ) → false ≡ (n == 0) → 0 < n
 not_zero zero h = cc
 not_zero (suc n) h = omega arith
 
-by_arms : (arms : List Arm) (e : TargetFault) (asked found : Option (List Base)) → 0 < length arms → TypingFault e found → TypingFault e (solved (arm_trees arms) asked found)
+by_arms : (arms : List Arm) (e : TargetFault) (asked found : Option (List Base)) → 0 < length arms → TypingFault e found →
+    TypingFault e (solved (arm_trees arms) asked found)
 by_arms [] e asked found h f = absurd (omega (arith, h))
 by_arms (a ∷ arms) faults.NoMemory asked found h f = tt
 by_arms (a ∷ arms) faults.BadTarget None found h f = f
 by_arms (a ∷ arms) faults.BadTarget (Some asked) found h f = rw f refl
 
 -- a solve with arms fails as its arms do
-pub solved_fails : (arms lent : List Arm) (scope : List Base) (e : TargetFault) (asked : Option (List Base)) → lent ≡ arms → 0 < length arms → TypingFault e (arms_bases (arm_trees lent) scope) →
+pub solved_fails : (arms lent : List Arm) (scope : List Base) (e : TargetFault) (asked : Option (List Base)) → lent ≡ arms → 0 < length arms →
+    TypingFault e (arms_bases (arm_trees lent) scope) →
     TypingFault e (solved (arm_trees arms) asked (arms_bases (arm_trees arms) scope))
-solved_fails arms lent scope e asked same h f = by_arms arms e asked (arms_bases (arm_trees arms) scope) h (subst (λ xs. TypingFault e (arms_bases (arm_trees xs) scope)) same f)
+solved_fails arms lent scope e asked same h f =
+    by_arms arms e asked (arms_bases (arm_trees arms) scope) h (subst (λ xs. TypingFault e (arms_bases (arm_trees xs) scope)) same f)
 
 -- where something is found, nothing is refused
 pub refused : {A : Type 0} (e : TargetFault) (found : Option A) (x : A) → TypingFault e found → e ≡ faults.BadTarget → found ≡ Some x → ⊥

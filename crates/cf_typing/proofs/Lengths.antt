@@ -51,8 +51,10 @@ abbrev number : ℕ → Base
 number b = Int
 
 -- one more number in scope
-pub number_step : (bs : List ℕ) (i : ℕ) (old mid new : List Base) → i < length bs → mid ≡ old ++ map (λ _. Int) (take i bs) → new ≡ mid ++ Int ∷ [] → new ≡ old ++ map (λ _. Int) (take (i + 1) bs)
+pub number_step : (bs : List ℕ) (i : ℕ) (old mid new : List Base) → i < length bs → mid ≡ old ++ map (λ _. Int) (take i bs) → new ≡ mid ++ Int ∷ [] →
+    new ≡ old ++ map (λ _. Int) (take (i + 1) bs)
 number_step bs i old mid new h inv e =
-    let next : map number (take (i + 1) bs) ≡ map number (take i bs) ++ Int ∷ [] = ap (map number) (take_more bs i 0 h) ∙ map-append number (take i bs) (get_or bs i 0 ∷ []) in
+    let next : map number (take (i + 1) bs) ≡ map number (take i bs) ++ Int ∷ [] =
+    ap (map number) (take_more bs i 0 h) ∙ map-append number (take i bs) (get_or bs i 0 ∷ []) in
     let joined : (a b c : List Base) → (a ++ b) ++ c ≡ a ++ (b ++ c) = λ a b c. simp append_assoc in
     e ∙ ap (λ (xs : List Base). xs ++ Int ∷ []) inv ∙ joined old (map number (take i bs)) (Int ∷ []) ∙ sym (ap (λ (xs : List Base). old ++ xs) next)

@@ -99,9 +99,11 @@ mutual
   none_has (code_diff a b) h = both_true (has_no_solve a) (has_no_solve b) (none_has a h.0) (none_has b h.1)
   none_has (code_subset a b) h = both_true (has_no_solve a) (has_no_solve b) (none_has a h.0) (none_has b h.1)
   none_has (code_card a) h = none_has a h
-  none_has (code_slice a b c) h = both_true (has_no_solve a) (has_no_solve b && has_no_solve c) (none_has a h.0) (both_true (has_no_solve b) (has_no_solve c) (none_has b h.1) (none_has c h.2))
+  none_has (code_slice a b c) h = both_true (has_no_solve a) (has_no_solve b && has_no_solve c) (none_has a h.0)
+      (both_true (has_no_solve b) (has_no_solve c) (none_has b h.1) (none_has c h.2))
   none_has (code_fresh a b) h = both_true (has_no_solve a) (has_no_solve b) (none_has a h.0) (none_has b h.1)
-  none_has (code_if a b c) h = both_true (has_no_solve a) (has_no_solve b && has_no_solve c) (none_has a h.0) (both_true (has_no_solve b) (has_no_solve c) (none_has b h.1) (none_has c h.2))
+  none_has (code_if a b c) h = both_true (has_no_solve a) (has_no_solve b && has_no_solve c) (none_has a h.0)
+      (both_true (has_no_solve b) (has_no_solve c) (none_has b h.1) (none_has c h.2))
   none_has (code_let first n a b) h = both_true (has_no_solve a) (has_no_solve b) (none_has a h.0) (none_has b h.1)
   none_has (code_solve n arms) h = absurd h
 
@@ -117,14 +119,16 @@ none_items_have : (is : ItemTrees) → ItemsHaveNoSolve is → items_have_no_sol
 none_items_have no_items h = refl
 none_items_have (item_more i is) h = both_true (item_has_no_solve i) (items_have_no_solve is) (none_item_has i h.0) (none_items_have is h.1)
 
-pub plain_both : (bounds : List ℕ) (is : ItemTrees) (gs : CodeTrees) → IsFound (plain (arm_of bounds is gs)) → AreBounds bounds × ItemsHaveNoSolve is × HaveNoSolve gs
+pub plain_both : (bounds : List ℕ) (is : ItemTrees) (gs : CodeTrees) → IsFound (plain (arm_of bounds is gs)) →
+    AreBounds bounds × ItemsHaveNoSolve is × HaveNoSolve gs
 plain_both bounds is gs h =
     let t = true_both (is_plain (arm_of bounds is gs)) done h.0 h.1 in
     let p = both (are_bounds bounds) (items_have_no_solve is && have_no_solve gs) t.0 in
     let q = both (items_have_no_solve is) (have_no_solve gs) p.1 in
     (bounds_both bounds p.0, items_have_none is q.0, have_none gs q.1)
 
-pub plain_is : (bounds : List ℕ) (is : ItemTrees) (gs : CodeTrees) → AreBounds bounds → ItemsHaveNoSolve is → HaveNoSolve gs → IsFound (plain (arm_of bounds is gs))
+pub plain_is : (bounds : List ℕ) (is : ItemTrees) (gs : CodeTrees) → AreBounds bounds → ItemsHaveNoSolve is → HaveNoSolve gs →
+    IsFound (plain (arm_of bounds is gs))
 plain_is bounds is gs b i g =
     true_done (is_plain (arm_of bounds is gs))
     (both_true (are_bounds bounds) (items_have_no_solve is && have_no_solve gs) (bounds_is bounds b)

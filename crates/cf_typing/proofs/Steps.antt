@@ -58,7 +58,8 @@ one_both b asked bs e = let p = placed_both asked (Some (one b)) bs e in (sym (s
 pub one_is : (b : Base) (asked : Option (List Base)) (bs : List Base) → IsOne b asked bs → placed asked (Some (one b)) ≡ Some bs
 one_is b asked bs h = placed_is asked (Some (one b)) bs (ap Some (sym h.0)) h.1
 
-pub variable_both : (asked : Option (List Base)) (o : Option Base) (bs : List Base) → placed asked (alone o) ≡ Some bs → (b : Base) × (o ≡ Some b) × IsOne b asked bs
+pub variable_both : (asked : Option (List Base)) (o : Option Base) (bs : List Base) → placed asked (alone o) ≡ Some bs →
+    (b : Base) × (o ≡ Some b) × IsOne b asked bs
 variable_both asked None bs e = let p = placed_both asked None bs e in let q : None ≡ Some bs = p.0 in cc
 variable_both asked (Some b) bs e = (b, refl, one_both b asked bs e)
 
@@ -72,14 +73,16 @@ module _ (asked : Option (List Base)) (b : Base) (bs : List Base) where
       let q = after_both r (Some (one b)) bs p.0 in
       (q.0, (sym (some_is (one b) bs q.1), p.1))
 
-  pub after_two_both : {A B : Type 0} (r : Option A) (s : Option B) → placed asked (after_found r (after_found s (Some (one b)))) ≡ Some bs → IsFound r × IsFound s × IsOne b asked bs
+  pub after_two_both : {A B : Type 0} (r : Option A) (s : Option B) → placed asked (after_found r (after_found s (Some (one b)))) ≡ Some bs →
+      IsFound r × IsFound s × IsOne b asked bs
   after_two_both r s e =
       let p = placed_both asked (after_found r (after_found s (Some (one b)))) bs e in
       let q = after_both r (after_found s (Some (one b))) bs p.0 in
       let t = after_both s (Some (one b)) bs q.1 in
       (q.0, t.0, (sym (some_is (one b) bs t.1), p.1))
 
-  pub after_three_both : {A B C : Type 0} (r : Option A) (s : Option B) (u : Option C) → placed asked (after_found r (after_found s (after_found u (Some (one b))))) ≡ Some bs → IsFound r × IsFound s × IsFound u × IsOne b asked bs
+  pub after_three_both : {A B C : Type 0} (r : Option A) (s : Option B) (u : Option C) →
+      placed asked (after_found r (after_found s (after_found u (Some (one b))))) ≡ Some bs → IsFound r × IsFound s × IsFound u × IsOne b asked bs
   after_three_both r s u e =
       let p = placed_both asked (after_found r (after_found s (after_found u (Some (one b))))) bs e in
       let q = after_both r (after_found s (after_found u (Some (one b)))) bs p.0 in
@@ -90,10 +93,12 @@ module _ (asked : Option (List Base)) (b : Base) (bs : List Base) where
   pub after_one_is : {A : Type 0} (r : Option A) → IsFound r → IsOne b asked bs → placed asked (after_found r (Some (one b))) ≡ Some bs
   after_one_is r f h = rw f.1 (one_is b asked bs h)
 
-  pub after_two_is : {A B : Type 0} (r : Option A) (s : Option B) → IsFound r → IsFound s → IsOne b asked bs → placed asked (after_found r (after_found s (Some (one b)))) ≡ Some bs
+  pub after_two_is : {A B : Type 0} (r : Option A) (s : Option B) → IsFound r → IsFound s → IsOne b asked bs →
+      placed asked (after_found r (after_found s (Some (one b)))) ≡ Some bs
   after_two_is r s f g h = rw (f.1, g.1) (one_is b asked bs h)
 
-  pub after_three_is : {A B C : Type 0} (r : Option A) (s : Option B) (u : Option C) → IsFound r → IsFound s → IsFound u → IsOne b asked bs → placed asked (after_found r (after_found s (after_found u (Some (one b))))) ≡ Some bs
+  pub after_three_is : {A B C : Type 0} (r : Option A) (s : Option B) (u : Option C) → IsFound r → IsFound s → IsFound u → IsOne b asked bs →
+      placed asked (after_found r (after_found s (after_found u (Some (one b))))) ≡ Some bs
   after_three_is r s u f g k h = rw (f.1, g.1, k.1) (one_is b asked bs h)
 
 pub single_both : (found : Option (List Base)) (b : Base) → then_found found single ≡ Some b → found ≡ Some (one b)
@@ -112,7 +117,8 @@ sides_both (Some x) (Some y) bs e =
     let p = true_both (same_base x y) (Some (one Truth)) bs e in
     (x, refl, ap Some (sym (same_base_is x y p.0)), sym (some_is (one Truth) bs p.1))
 
-pub compared_both : (asked left right : Option (List Base)) (bs : List Base) → placed asked (compared (then_found left single) (then_found right single)) ≡ Some bs →
+pub compared_both : (asked left right : Option (List Base)) (bs : List Base) →
+    placed asked (compared (then_found left single) (then_found right single)) ≡ Some bs →
     (c : Base) × (left ≡ Some (one c)) × (right ≡ Some (one c)) × IsOne Truth asked bs
 compared_both asked left right bs e =
     let p = placed_both asked (compared (then_found left single) (then_found right single)) bs e in
@@ -130,7 +136,8 @@ again_both bs (Some cs) h = ap Some (sym (same_bases_is bs cs (true_both (same_b
 pub again_is : (bs : List Base) (found : Option (List Base)) → found ≡ Some bs → IsFound (again bs found)
 again_is bs found e = (tt, rw (e, same_bases_self bs) refl)
 
-pub bound_both : (first n size : ℕ) (found : Option (List Base)) (vs : List Base) → bound first n size found ≡ Some vs → (found ≡ Some vs) × (first ≡ size) × (n ≡ length vs)
+pub bound_both : (first n size : ℕ) (found : Option (List Base)) (vs : List Base) → bound first n size found ≡ Some vs →
+    (found ≡ Some vs) × (first ≡ size) × (n ≡ length vs)
 bound_both first n size None vs e = cc
 bound_both first n size (Some bs) vs e =
     let p = true_both (nat_eq first size && nat_eq n (length bs)) (Some bs) vs e in
@@ -138,7 +145,8 @@ bound_both first n size (Some bs) vs e =
     let same : bs ≡ vs = some_is bs vs p.1 in
     (p.1, eqb-true first size q.0, subst (λ us. n ≡ length us) same (eqb-true n (length bs) q.1))
 
-pub bound_is : (first n size : ℕ) (found : Option (List Base)) (vs : List Base) → found ≡ Some vs → first ≡ size → n ≡ length vs → bound first n size found ≡ Some vs
+pub bound_is : (first n size : ℕ) (found : Option (List Base)) (vs : List Base) → found ≡ Some vs → first ≡ size → n ≡ length vs →
+    bound first n size found ≡ Some vs
 bound_is first n size found vs e f g = rw (e, eq-eqb first size f, eq-eqb n (length vs) g) refl
 
 pub at_least_both : (n : ℕ) (cs : CodeTrees) → IsFound (at_least n cs) → n ≤ count cs

@@ -137,7 +137,8 @@ abbrev mutual
   bases_of (code_var x) scope asked = placed asked (alone (slice_get scope x))
   bases_of (code_set_of cs) scope asked = placed asked (after_found (at_least 0 cs) (after_found (all_have cs scope Int) (Some (one Set))))
   bases_of (code_tuple cs) scope None = after_found (at_least 2 cs) (parts_of cs scope [])
-  bases_of (code_tuple cs) scope (Some asked) = after_found (at_least 2 cs) (after_found (as_many cs asked) (after_found (parts_have cs scope asked) (Some asked)))
+  bases_of (code_tuple cs) scope (Some asked) =
+      after_found (at_least 2 cs) (after_found (as_many cs asked) (after_found (parts_have cs scope asked) (Some asked)))
   bases_of (code_sum cs) scope asked = placed asked (after_found (at_least 2 cs) (after_found (all_have cs scope Int) (Some (one Int))))
   bases_of (code_sub a b) scope asked = placed asked (after_found (bases_of a scope (ask Int)) (after_found (bases_of b scope (ask Int)) (Some (one Int))))
   bases_of (code_mul a b) scope asked = placed asked (after_found (bases_of a scope (ask Int)) (after_found (bases_of b scope (ask Int)) (Some (one Int))))
@@ -146,9 +147,11 @@ abbrev mutual
   bases_of (code_mod a k) scope asked = placed asked (after_found (divides k) (after_found (bases_of a scope (ask Int)) (Some (one Int))))
   bases_of (code_min cs) scope asked = placed asked (after_found (at_least 1 cs) (after_found (all_have cs scope Int) (Some (one Int))))
   bases_of (code_max cs) scope asked = placed asked (after_found (at_least 1 cs) (after_found (all_have cs scope Int) (Some (one Int))))
-  bases_of (code_compare o a b) scope asked = placed asked (compared (then_found (bases_of a scope (side o)) single) (then_found (bases_of b scope (side o)) single))
+  bases_of (code_compare o a b) scope asked =
+      placed asked (compared (then_found (bases_of a scope (side o)) single) (then_found (bases_of b scope (side o)) single))
   bases_of (code_divides k a) scope asked = placed asked (after_found (divides k) (after_found (bases_of a scope (ask Int)) (Some (one Truth))))
-  bases_of (code_and a b) scope asked = placed asked (after_found (bases_of a scope (ask Truth)) (after_found (bases_of b scope (ask Truth)) (Some (one Truth))))
+  bases_of (code_and a b) scope asked = placed asked
+      (after_found (bases_of a scope (ask Truth)) (after_found (bases_of b scope (ask Truth)) (Some (one Truth))))
   bases_of (code_or a b) scope asked = placed asked (after_found (bases_of a scope (ask Truth)) (after_found (bases_of b scope (ask Truth)) (Some (one Truth))))
   bases_of (code_not a) scope asked = placed asked (after_found (bases_of a scope (ask Truth)) (Some (one Truth)))
   bases_of (code_union cs) scope asked = placed asked (after_found (at_least 2 cs) (after_found (all_have cs scope Set) (Some (one Set))))
@@ -157,10 +160,13 @@ abbrev mutual
   bases_of (code_subset a b) scope asked = placed asked (after_found (bases_of a scope (ask Set)) (after_found (bases_of b scope (ask Set)) (Some (one Truth))))
   bases_of (code_card a) scope asked = placed asked (after_found (bases_of a scope (ask Set)) (Some (one Int)))
   bases_of (code_slice a b c) scope asked =
-      placed asked (after_found (bases_of a scope (ask Set)) (after_found (bases_of b scope (ask Int)) (after_found (bases_of c scope (ask Int)) (Some (one Set)))))
+      placed asked (after_found (bases_of a scope (ask Set))
+      (after_found (bases_of b scope (ask Int)) (after_found (bases_of c scope (ask Int)) (Some (one Set)))))
   bases_of (code_fresh a b) scope asked = placed asked (after_found (bases_of a scope (ask Set)) (after_found (bases_of b scope (ask Int)) (Some (one Set))))
-  bases_of (code_if t a b) scope None = after_found (bases_of t scope (ask Truth)) (then_found (bases_of a scope None) (λ bs. after_found (again bs (bases_of b scope None)) (Some bs)))
-  bases_of (code_if t a b) scope (Some asked) = after_found (bases_of t scope (ask Truth)) (after_found (bases_of a scope (Some asked)) (bases_of b scope (Some asked)))
+  bases_of (code_if t a b) scope None = after_found (bases_of t scope (ask Truth))
+      (then_found (bases_of a scope None) (λ bs. after_found (again bs (bases_of b scope None)) (Some bs)))
+  bases_of (code_if t a b) scope (Some asked) =
+      after_found (bases_of t scope (ask Truth)) (after_found (bases_of a scope (Some asked)) (bases_of b scope (Some asked)))
   bases_of (code_let first n a b) scope asked = then_found (bound first n (length scope) (bases_of a scope None)) (λ vs. bases_of b (scope ++ vs) asked)
   bases_of (code_solve n arms) scope asked = solved arms asked (arms_bases arms scope)
 
@@ -196,7 +202,8 @@ abbrev mutual
   -- the bases that all arms give
   pub arms_bases : ArmTrees → List Base → Option (List Base)
   arms_bases no_arms scope = None
-  arms_bases (arm_more a arms) scope = then_found (after_found (plain a) (inner_bases a (scope ++ searches a))) (λ bs. after_found (arms_give arms scope bs) (Some bs))
+  arms_bases (arm_more a arms) scope = then_found (after_found (plain a) (inner_bases a (scope ++ searches a)))
+      (λ bs. after_found (arms_give arms scope bs) (Some bs))
 
   pub arms_give : ArmTrees → List Base → List Base → Option (Unit {0})
   arms_give no_arms scope bs = done

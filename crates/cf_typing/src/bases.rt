@@ -199,7 +199,8 @@ fn infer_divided(
     k: &i128,
     base: Base,
 ) -> Result<Vec<Base>, TargetFault>
-    ensures told { BasesAnswer result (after_found (divides_of k.now) (after_found (bases_of (code_tree part.now) scope.old.items (ask Base.Int)) (Some (one_of base)))) }
+    ensures told { BasesAnswer result (after_found (divides_of k.now)
+        (after_found (bases_of (code_tree part.now) scope.old.items (ask Base.Int)) (Some (one_of base)))) }
     ensures kept { OnOk result (scope.new.items ≡ scope.old.items) }
 {
     divides(k)?;
@@ -217,7 +218,8 @@ fn infer_list(
     asked: Base,
     base: Base,
 ) -> Result<Vec<Base>, TargetFault>
-    ensures told { BasesAnswer result (after_found (at_least least (code_trees parts.now.items)) (after_found (all_have (code_trees parts.now.items) scope.old.items asked) (Some (one_of base)))) }
+    ensures told { BasesAnswer result (after_found (at_least least (code_trees parts.now.items))
+        (after_found (all_have (code_trees parts.now.items) scope.old.items asked) (Some (one_of base)))) }
     ensures kept { OnOk result (scope.new.items ≡ scope.old.items) }
 {
     are_at_least(least, parts)?;
@@ -294,7 +296,10 @@ fn check_tuple(
     parts: &Vec<Code>,
     asked: &[Base],
 ) -> Result<(), TargetFault>
-    ensures told { AskedAnswer asked.now result (after_found (at_least 2 (code_trees parts.now.items)) (after_found (as_many (code_trees parts.now.items) asked.now) (after_found (parts_have (code_trees parts.now.items) scope.old.items asked.now) (Some asked.now)))) }
+    ensures told { AskedAnswer asked.now result
+        (after_found (at_least 2 (code_trees parts.now.items))
+        (after_found (as_many (code_trees parts.now.items) asked.now)
+        (after_found (parts_have (code_trees parts.now.items) scope.old.items asked.now) (Some asked.now)))) }
     ensures kept { OnOk result (scope.new.items ≡ scope.old.items) }
 {
     are_at_least(2, parts)?;

@@ -136,11 +136,13 @@ module _ (scope outputs : List Base) (rel : RelTree) (u : IsUnrefused scope outp
       all_kept (first_systems l rel) (first_systems_begun l rel placed) (firsts_small l rel placed none.written) (ends_solved (first_systems l rel) none.ends)
 
   pub solutions_meet : (env : List Value) → HaveBases scope env →
-      ((xs : List Value) × Sol outputs rel env xs) ↔ SomeOf (MeetsAt (known_values (layout_of scope outputs rel) env)) (first_systems (layout_of scope outputs rel) rel)
+      ((xs : List Value) × Sol outputs rel env xs) ↔ SomeOf (MeetsAt (known_values (layout_of scope outputs rel) env))
+      (first_systems (layout_of scope outputs rel) rel)
   solutions_meet env have =
       let l = layout_of scope outputs rel in
       let v = known_values l env in
       let c = solved_by_counts scope outputs rel u.typed u.linear (are_outputs outputs u.are_outputs) env have in (
         λ h. some_meets v refl (λ w. Sol outputs rel env (outputs_from l env w)) (first_systems l rel) cases_kept (c.0 h),
-        λ h. let f = some_found v refl (λ w. Sol outputs rel env (outputs_from l env w)) (first_systems l rel) cases_kept c.1 h in (outputs_from l env f.0, f.1),
+        λ h. let f = some_found v refl (λ w. Sol outputs rel env (outputs_from l env w)) (first_systems l rel) cases_kept c.1 h in
+            (outputs_from l env f.0, f.1),
       )

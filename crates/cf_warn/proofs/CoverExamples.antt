@@ -118,7 +118,10 @@ doubles-cover =
     (question_none (none_outputs (one Int) (one Int) (covered doubles)) (none (one Int) (one Int) (covered doubles)) 1 doubles-question doubles-run) in (
       (
         doubles-solved,
-        (record { few = subst (λ n. n ≤ MOST_TUPLES) (sym doubles-tuples) (omega arith); clear = record { within = doubles-limit; fits = doubles-peak } }, exist),
+        (
+          record { few = subst (λ n. n ≤ MOST_TUPLES) (sym doubles-tuples) (omega arith); clear = record { within = doubles-limit; fits = doubles-peak } },
+          exist,
+        ),
       ),
       every_number doubles doubles-are exist,
     )

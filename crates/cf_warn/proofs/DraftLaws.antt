@@ -39,18 +39,34 @@ steps_said d (floor_of c r g ∷ ms) =
     let l = s.level in
     record {
       level = omega arith;
-      says = s.says ∙ append_assoc d.says (let_says (row_form d.forms r) g (term_var d.level)) (lets_say (with_form d.forms c (term_var d.level)) (d.level + 1) ms);
+      says = s.says ∙ append_assoc d.says (let_says (row_form d.forms r) g (term_var d.level))
+          (lets_say (with_form d.forms c (term_var d.level)) (d.level + 1) ms);
       fails = s.fails;
     }
 steps_said d (need_nonneg r ∷ ms) =
     let s = steps_said (step_written d (need_nonneg r)) ms in
-    record { level = s.level; says = s.says; fails = s.fails ∙ append_assoc d.fails (rel_not (is_nonneg (row_form d.forms r)) ∷ []) (needs_fail d.forms d.level ms) }
+    record {
+      level = s.level;
+      says = s.says;
+      fails =
+          s.fails ∙ append_assoc d.fails (rel_not (is_nonneg (row_form d.forms r)) ∷ []) (needs_fail d.forms d.level ms);
+    }
 steps_said d (need_zero r ∷ ms) =
     let s = steps_said (step_written d (need_zero r)) ms in
-    record { level = s.level; says = s.says; fails = s.fails ∙ append_assoc d.fails (rel_not (rel_compare Eq (row_form d.forms r) (term_lit (pos 0))) ∷ []) (needs_fail d.forms d.level ms) }
+    record {
+      level = s.level;
+      says = s.says;
+      fails =
+          s.fails ∙ append_assoc d.fails (rel_not (rel_compare Eq (row_form d.forms r) (term_lit (pos 0))) ∷ []) (needs_fail d.forms d.level ms);
+    }
 steps_said d (need_divides g r ∷ ms) =
     let s = steps_said (step_written d (need_divides g r)) ms in
-    record { level = s.level; says = s.says; fails = s.fails ∙ append_assoc d.fails (rel_not (rel_divides g (row_form d.forms r)) ∷ []) (needs_fail d.forms d.level ms) }
+    record {
+      level = s.level;
+      says = s.says;
+      fails =
+          s.fails ∙ append_assoc d.fails (rel_not (rel_divides g (row_form d.forms r)) ∷ []) (needs_fail d.forms d.level ms);
+    }
 
 -- ---- turns
 turns_say_append : (first : Forms) (n : ℕ) (ts us : List Turn) → turns_say first n (ts ++ us) ≡ turns_say first n ts ++ turns_say first (n + lets_in ts) us

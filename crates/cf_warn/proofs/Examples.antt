@@ -41,11 +41,13 @@ forms-at : rel_at (level_in 4 (1 ∷ 3 ∷ []) 5)
     (rel_or (rel_not (rel_divides (pos 2) (term_neg (term_add (term_var 1) (term_sub (term_var 4) (term_mul (term_lit (pos 3)) (term_var 5)))))))
     (rel_and (rel_compare Ge (term_div (term_mod (term_abs (term_var 4)) (pos 5)) (pos 7)) (term_card (union_of (set_var 3) empty_set)))
     (rel_or (rel_and rel_true rel_false)
-    (rel_and (rel_same_set (set_var 3) (inter_of (set_var 6) (set_var 3))) (rel_and (rel_other_set (diff_of (set_var 6) (set_var 3)) empty_set) (rel_subset (set_var 6) (set_var 3)))))))
+    (rel_and (rel_same_set (set_var 3) (inter_of (set_var 6) (set_var 3)))
+    (rel_and (rel_other_set (diff_of (set_var 6) (set_var 3)) empty_set) (rel_subset (set_var 6) (set_var 3)))))))
     ≡ rel_or (rel_not (rel_divides (pos 2) (term_neg (term_add (term_var 0) (term_sub (term_var 7) (term_mul (term_lit (pos 3)) (term_var 8)))))))
     (rel_and (rel_compare Ge (term_div (term_mod (term_abs (term_var 7)) (pos 5)) (pos 7)) (term_card (union_of (set_var 1) empty_set)))
     (rel_or (rel_and rel_true rel_false)
-    (rel_and (rel_same_set (set_var 1) (inter_of (set_var 9) (set_var 1))) (rel_and (rel_other_set (diff_of (set_var 9) (set_var 1)) empty_set) (rel_subset (set_var 9) (set_var 1))))))
+    (rel_and (rel_same_set (set_var 1) (inter_of (set_var 9) (set_var 1)))
+    (rel_and (rel_other_set (diff_of (set_var 9) (set_var 1)) empty_set) (rel_subset (set_var 9) (set_var 1))))))
 forms-at = refl
 
 -- ---- one number: outputs are unique
@@ -53,7 +55,8 @@ abbrev pub three : RelTree
 three = rel_compare Eq (term_var 0) (term_lit (pos 3))
 
 three-twice : twice [] (Int ∷ []) three ≡
-    rel_and (rel_compare Eq (term_var 0) (term_lit (pos 3))) (rel_and (rel_compare Eq (term_var 1) (term_lit (pos 3))) (rel_compare Ne (term_var 0) (term_var 1)))
+    rel_and (rel_compare Eq (term_var 0) (term_lit (pos 3)))
+    (rel_and (rel_compare Eq (term_var 1) (term_lit (pos 3))) (rel_compare Ne (term_var 0) (term_var 1)))
 three-twice = refl
 
 pub three-limit : limit [] (twice_outputs [] (Int ∷ []) three) (twice [] (Int ∷ []) three) ≡ None

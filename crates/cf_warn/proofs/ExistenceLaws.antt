@@ -38,7 +38,8 @@ use Rattle.cf_warn.proofs.VerdictLaws.{have_split}
 
 module _ (scope outputs : List Base) (rel : RelTree) (u : IsUnrefused scope outputs rel) where
   -- an outcome that the choose allows is a solution, where it is not impossible that there is one
-  chosen_exists : (env : List Value) (o : Outcome) → Chosen 1 (Sol outputs rel env) o → (((xs : List Value) → Sol outputs rel env xs → ⊥) → ⊥) → (xs : List Value) × Sol outputs rel env xs
+  chosen_exists : (env : List Value) (o : Outcome) → Chosen 1 (Sol outputs rel env) o → (((xs : List Value) → Sol outputs rel env xs → ⊥) → ⊥) →
+      (xs : List Value) × Sol outputs rel env xs
   chosen_exists env (values xs) c h = (xs, c)
   chosen_exists env (no_solution n) c h = absurd (h c.1)
 
@@ -46,7 +47,8 @@ module _ (scope outputs : List Base) (rel : RelTree) (u : IsUnrefused scope outp
   pub always : ((vs : List Value) → Sol (none_outputs scope outputs rel) (none scope outputs rel) [] vs → ⊥) → AreAlways scope outputs rel
   always unsolved env have =
       chosen_exists env (means (code_solve 1 (arms_of (arms scope outputs rel))) env)
-      (solve_chosen 1 scope outputs rel (arms_of (arms scope outputs rel)) (unrefused_solve scope outputs rel u).1 (unrefused_typed scope outputs rel u) env have)
+      (solve_chosen 1 scope outputs rel (arms_of (arms scope outputs rel)) (unrefused_solve scope outputs rel u).1 (unrefused_typed scope outputs rel u) env
+      have)
       (λ h. let s = unsolved_none scope outputs rel u env have h in unsolved (map (value_at env) (parameters scope rel) ++ s.0) s.1)
 
   -- a solution of the question: no outputs exist at its sample
@@ -78,7 +80,8 @@ module _ (scope outputs : List Base) (rel : RelTree) (u : IsUnrefused scope outp
       omega arith
 
   -- what the first values of the run say
-  pub missing_verdict : (n : ℕ) (vs : List RunValue) (r : Result ExistenceAnswer NoMemory) → n ≡ length (parameters scope rel) → tuple_count scope outputs rel ≤ MOST_TUPLES →
+  pub missing_verdict : (n : ℕ) (vs : List RunValue) (r : Result ExistenceAnswer NoMemory) → n ≡ length (parameters scope rel) →
+      tuple_count scope outputs rel ≤ MOST_TUPLES →
       IsClear bases question × (means (question_code bases question) [] ≡ values (plains vs)) × Sol bases question [] (plains vs) →
       IfOk r (IsMissingOf n vs) → IfOk r (IsExistence scope outputs rel)
   missing_verdict n vs (Err e) same few s t = tt

@@ -32,7 +32,8 @@ module _ {A : Type 0} (join : A → A → A) (empty : A) where
       (halves_same m n (drop (length (p ∷ q ∷ ps) / 2) (p ∷ q ∷ ps)) (back_fits m p q ps h) (back_fits n p q ps k))
 
   -- two or more parts are their two halves
-  pub halves_two : (ps : List A) → 2 ≤ length ps → halves join empty ps ≡ join (halves join empty (take (length ps / 2) ps)) (halves join empty (drop (length ps / 2) ps))
+  pub halves_two : (ps : List A) → 2 ≤ length ps →
+      halves join empty ps ≡ join (halves join empty (take (length ps / 2) ps)) (halves join empty (drop (length ps / 2) ps))
   halves_two [] h = absurd (omega arith)
   halves_two (p ∷ []) h = absurd (omega arith)
   halves_two (p ∷ q ∷ ps) h =

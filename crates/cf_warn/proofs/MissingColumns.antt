@@ -67,7 +67,8 @@ module _ (q : List Value) (to : ℕ → ℕ) where
   abbrev seen : ℕ → List ℤ
   seen x = elements_of (value_at q (to x))
 
-  inters_members : (s : SetTree) (xs : List ℕ) → members (fold (λ a b. inter_of a b) s (map (λ x. set_var (to x)) xs)) q ≡ fold set_inter (members s q) (map seen xs)
+  inters_members : (s : SetTree) (xs : List ℕ) →
+      members (fold (λ a b. inter_of a b) s (map (λ x. set_var (to x)) xs)) q ≡ fold set_inter (members s q) (map seen xs)
   inters_members s [] = refl
   inters_members s (x ∷ xs) = inters_members (inter_of s (set_var (to x))) xs
 
@@ -75,7 +76,8 @@ module _ (q : List Value) (to : ℕ → ℕ) where
   all_members [] = refl
   all_members (x ∷ xs) = inters_members (set_var (to x)) xs
 
-  diffs_members : (s : SetTree) (xs : List ℕ) → members (fold (λ a b. diff_of a b) s (map (λ x. set_var (to x)) xs)) q ≡ fold set_diff (members s q) (map seen xs)
+  diffs_members : (s : SetTree) (xs : List ℕ) →
+      members (fold (λ a b. diff_of a b) s (map (λ x. set_var (to x)) xs)) q ≡ fold set_diff (members s q) (map seen xs)
   diffs_members s [] = refl
   diffs_members s (x ∷ xs) = diffs_members (diff_of s (set_var (to x))) xs
 
@@ -101,11 +103,13 @@ map_twice f g (x ∷ xs) = ap (λ ys. f (g x) ∷ ys) (map_twice f g xs)
 passes_filter : (p : ℕ → Bool) (xs : List ℕ) (x : ℕ) → has_level (filter p xs) x ≡ true → p x ≡ true
 passes_filter p xs x h = on_bool (p x) (λ e. e) (λ e. let k : false ≡ true = sym (not_filtered p xs x e) ∙ h in absurd (cc))
 
-pub number_parameter : (scope outputs : List Base) (rel : RelTree) (x : ℕ) → has_level (layout_of scope outputs rel).numbers x ≡ true → has_level (parameters scope rel) x ≡ true
+pub number_parameter : (scope outputs : List Base) (rel : RelTree) (x : ℕ) → has_level (layout_of scope outputs rel).numbers x ≡ true →
+    has_level (parameters scope rel) x ≡ true
 number_parameter scope outputs rel x h =
     has_parameter scope rel x ((is_layout scope outputs rel).numbers x h) (passes_filter (λ y. rel_holds y rel) (levels_with is_number 0 scope) x h)
 
-pub input_parameter : (scope outputs : List Base) (rel : RelTree) (x : ℕ) → has_level (layout_of scope outputs rel).inputs x ≡ true → has_level (parameters scope rel) x ≡ true
+pub input_parameter : (scope outputs : List Base) (rel : RelTree) (x : ℕ) → has_level (layout_of scope outputs rel).inputs x ≡ true →
+    has_level (parameters scope rel) x ≡ true
 input_parameter scope outputs rel x h =
     has_parameter scope rel x ((is_layout scope outputs rel).inputs x h) (passes_filter (λ y. rel_holds y rel) (levels_with is_set 0 scope) x h)
 
@@ -156,6 +160,7 @@ module _ (scope outputs : List Base) (rel : RelTree) (env lets : List Value) (ha
       (map-append at ns cs
       ∙ ap₂ (λ xs ys. xs ++ ys)
       (map_twice at (λ x. term_var (to x)) l.numbers
-      ∙ same_each (λ x. number_of (value_at question (to x))) (λ x. number_of (value_at env x)) l.numbers (λ x h. ap number_of (parameter_at x (number_parameter scope outputs rel x h))))
+      ∙ same_each (λ x. number_of (value_at question (to x))) (λ x. number_of (value_at env x)) l.numbers
+      (λ x h. ap number_of (parameter_at x (number_parameter scope outputs rel x h))))
       (map_twice at (λ m. term_card (region_form l to m)) (masks (length l.inputs))
       ∙ same_range (λ m. val (term_card (region_form l to m)) question) (λ m. pos (count (sets_at env l.inputs) m)) 1 (2 ^ length l.inputs - 1) count_is))

@@ -58,14 +58,16 @@ module _ (scope outputs : List Base) (rel : RelTree) (u : IsUnrefused scope outp
         meets_none known (first_systems l rel) fails ((solutions_meet scope outputs rel u env have).0 (xs, s))
 
     -- where no outputs exist, the question has a solution
-    pub unsolved_none : ((xs : List Value) → Sol outputs rel env xs → ⊥) → (lets : List Value) × Sol (none_outputs scope outputs rel) (none scope outputs rel) [] (sample ++ lets)
+    pub unsolved_none : ((xs : List Value) → Sol outputs rel env xs → ⊥) →
+        (lets : List Value) × Sol (none_outputs scope outputs rel) (none scope outputs rel) [] (sample ++ lets)
     unsolved_none h =
         let ts = turns cases in
         let lets = turn_values known ts in
         let fails = (all_fail known cases).1
         (none_meets known (first_systems l rel) (λ s. let x = (solutions_meet scope outputs rel u env have).1 s in h x.0 x.1)) in
         let behind : Stand (sample ++ lets) (length params) lets =
-        subst (λ vs. Stand (sample ++ vs) (length params) lets) (append-nil lets) (stand_behind sample lets [] (length params) (length-map params (value_at env))) in (
+        subst (λ vs. Stand (sample ++ vs) (length params) lets) (append-nil lets)
+        (stand_behind sample lets [] (length params) (length-map params (value_at env))) in (
           lets,
           (
             have_append (parameter_bases scope rel) (replicate (lets_in ts) Int) sample lets (have_sample scope rel env have) (turn_values_are known ts),

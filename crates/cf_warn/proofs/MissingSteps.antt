@@ -127,8 +127,11 @@ module _ (q : List Value) where
   lets_forth forms v n (floor_of c r g ∷ ms) agree one d l h =
       let e : number_of (value_at q n) ≡ int_div_euclid (value v r) g =
       let_forth (row_form forms r) g (term_var n) d.0 (h.0, (h.1.0, tt)) ∙ ap (λ z. int_div_euclid z g) (row_value forms v agree one r) in
-      let z = int_div_euclid (value v r) g in
-      (e, lets_forth (with_form forms c (term_var n)) (update v c z) (n + 1) ms (agree_with forms v c (term_var n) z agree e) (still_one v c z one l.0) d.1 l.1 h.1.1)
+      let z = int_div_euclid (value v r) g in (
+        e,
+        lets_forth (with_form forms c (term_var n)) (update v c z) (n + 1) ms (agree_with forms v c (term_var n) z agree e) (still_one v c z one l.0) d.1 l.1
+            h.1.1,
+      )
   lets_forth forms v n (need_nonneg r ∷ ms) agree one d l h = lets_forth forms v n ms agree one d.1 l h
   lets_forth forms v n (need_zero r ∷ ms) agree one d l h = lets_forth forms v n ms agree one d.1 l h
   lets_forth forms v n (need_divides g r ∷ ms) agree one d l h = lets_forth forms v n ms agree one d.1 l h
@@ -138,8 +141,14 @@ module _ (q : List Value) where
   lets_back forms v n [] agree one d l h = tt
   lets_back forms v n (floor_of c r g ∷ ms) agree one d l h =
       let z = int_div_euclid (value v r) g in
-      let b = let_back (row_form forms r) g (term_var n) d.0 (h.0 ∙ ap (λ y. int_div_euclid y g) (sym (row_value forms v agree one r))) in
-      (b.0, (b.1.0, lets_back (with_form forms c (term_var n)) (update v c z) (n + 1) ms (agree_with forms v c (term_var n) z agree h.0) (still_one v c z one l.0) d.1 l.1 h.1))
+      let b = let_back (row_form forms r) g (term_var n) d.0 (h.0 ∙ ap (λ y. int_div_euclid y g) (sym (row_value forms v agree one r))) in (
+        b.0,
+        (
+          b.1.0,
+          lets_back (with_form forms c (term_var n)) (update v c z) (n + 1) ms (agree_with forms v c (term_var n) z agree h.0)
+              (still_one v c z one l.0) d.1 l.1 h.1,
+        ),
+      )
   lets_back forms v n (need_nonneg r ∷ ms) agree one d l h = lets_back forms v n ms agree one d.1 l h
   lets_back forms v n (need_zero r ∷ ms) agree one d l h = lets_back forms v n ms agree one d.1 l h
   lets_back forms v n (need_divides g r ∷ ms) agree one d l h = lets_back forms v n ms agree one d.1 l h
@@ -150,7 +159,8 @@ module _ (q : List Value) where
   fails_forth forms v n [] agree one l at h k = h
   fails_forth forms v n (floor_of c r g ∷ ms) agree one l at h k =
       let z = int_div_euclid (value v r) g in
-      fails_forth (with_form forms c (term_var n)) (update v c z) (n + 1) ms (agree_with forms v c (term_var n) z agree at.0) (still_one v c z one l.0) l.1 at.1 h k.1
+      fails_forth (with_form forms c (term_var n)) (update v c z) (n + 1) ms (agree_with forms v c (term_var n) z agree at.0) (still_one v c z one l.0) l.1 at.1
+      h k.1
   fails_forth forms v n (need_nonneg r ∷ ms) agree one l at h k = elim h [
     | inl f ↦ f (rw (row_value forms v agree one r) k.0)
     | inr f ↦ fails_forth forms v n ms agree one l at f k.1
@@ -164,12 +174,14 @@ module _ (q : List Value) where
     | inr f ↦ fails_forth forms v n ms agree one l at f k.1
   ]
 
-  fails_back : (forms : Forms) (v : Values) (n : ℕ) (ms : List Step) → Agree forms v → v 0 ≡ pos 1 → StepsDivide ms → AreLater (let_columns ms) → LetsAt n v ms →
+  fails_back : (forms : Forms) (v : Values) (n : ℕ) (ms : List Step) → Agree forms v → v 0 ≡ pos 1 → StepsDivide ms → AreLater (let_columns ms) →
+      LetsAt n v ms →
       (NeedsHold v ms → ⊥) → SomeOf (λ s. Holds s q) (needs_fail forms n ms)
   fails_back forms v n [] agree one d l at h = h tt
   fails_back forms v n (floor_of c r g ∷ ms) agree one d l at h =
       let z = int_div_euclid (value v r) g in
-      fails_back (with_form forms c (term_var n)) (update v c z) (n + 1) ms (agree_with forms v c (term_var n) z agree at.0) (still_one v c z one l.0) d.1 l.1 at.1
+      fails_back (with_form forms c (term_var n)) (update v c z) (n + 1) ms (agree_with forms v c (term_var n) z agree at.0) (still_one v c z one l.0) d.1 l.1
+      at.1
       (λ k. h (tt, k))
   fails_back forms v n (need_nonneg r ∷ ms) agree one d l at h = elim (decide-compares Ge (value v r) (pos 0)) [
     | yes p ↦ inr (fails_back forms v n ms agree one d.1 l at (λ k. h (p, k)))
@@ -195,10 +207,12 @@ module _ (q : List Value) where
             let s = each-split P (lets_say forms n ms) (last ∷ []) h in
             let at = lets_forth forms v n ms agree one d l s.0 in
             (at, fails_forth forms v n ms agree one l at (some.0 s.1.0)),
-        λ h. each-append P (lets_say forms n ms) (last ∷ []) (lets_back forms v n ms agree one d l h.0) (some.1 (fails_back forms v n ms agree one d l h.0 h.1), tt),
+        λ h. each-append P (lets_say forms n ms) (last ∷ []) (lets_back forms v n ms agree one d l h.0)
+            (some.1 (fails_back forms v n ms agree one d l h.0 h.1), tt),
       )
 
-  pub search_agrees : (forms : Forms) (v : Values) (bs : List (ℕ × ℕ)) (ks : List ℕ) → Agree forms v → Agree (search_forms forms bs ks) (set_tuple v bs (map pos ks))
+  pub search_agrees : (forms : Forms) (v : Values) (bs : List (ℕ × ℕ)) (ks : List ℕ) → Agree forms v →
+      Agree (search_forms forms bs ks) (set_tuple v bs (map pos ks))
   search_agrees forms v [] ks agree = agree
   search_agrees forms v ((c, b) ∷ bs) [] agree = agree
   search_agrees forms v ((c, b) ∷ bs) (k ∷ ks) agree =

@@ -72,7 +72,8 @@ module _ (v : Values) where
       let r = (tuples_numbered (bounds_of a)).reached p.0 p.1 in
       let z : 0 + r.0 ≡ r.0 = omega arith in
       let f : FailsAt v a (map pos (tuple_at (bounds_of a) r.0)) =
-      subst (λ i. FailsAt v a (map pos (tuple_at (bounds_of a) i))) z (range_item (Fails v) (λ i. (a, tuple_at (bounds_of a) i)) 0 (count_below (bounds_of a)) r.0 r.1 h) in
+      subst (λ i. FailsAt v a (map pos (tuple_at (bounds_of a) i))) z
+      (range_item (Fails v) (λ i. (a, tuple_at (bounds_of a) i)) 0 (count_below (bounds_of a)) r.0 r.1 h) in
       f (subst (λ js. NeedsHold (set_tuple v a.bounds js) a.steps) (sym (ap (map pos) r.2 ∙ p.2)) needs)
 
   fails_each : (a : Answer) → FailsAlways v a → EachOf (Fails v) (turns_of a)
@@ -127,7 +128,8 @@ module _ (v : Values) where
   turn_values_are ((a, ks) ∷ ts) =
       let w = set_tuple v a.bounds (map pos ks) in
       subst (λ bs. HaveBases bs (let_values w a.steps ++ turn_values ts)) (replicate_more (let_count a) (lets_in ts))
-      (have_append (replicate (let_count a) Int) (replicate (lets_in ts) Int) (let_values w a.steps) (turn_values ts) (let_values_are w a.steps) (turn_values_are ts))
+      (have_append (replicate (let_count a) Int) (replicate (lets_in ts) Int) (let_values w a.steps) (turn_values ts) (let_values_are w a.steps)
+      (turn_values_are ts))
 
   -- ---- in an environment
   module _ (q : List Value) where
@@ -173,7 +175,8 @@ module _ (v : Values) where
     turns_hold forms n ((a, ks) ∷ ts) agree one t =
         let first = search_forms forms a.bounds ks in
         let w = set_tuple v a.bounds (map pos ks) in
-        let here = tuple_holds q first w n a.steps (search_agrees q forms v a.bounds ks agree) (search_one q v a.bounds (map pos ks) one t.0.searches) t.0.divide t.0.lets in
+        let here = tuple_holds q first w n a.steps (search_agrees q forms v a.bounds ks agree) (search_one q v a.bounds (map pos ks) one t.0.searches)
+        t.0.divide t.0.lets in
         let more = turns_hold forms (n + let_count a) ts agree one t.1 in (
           λ h. let s = each-split (λ s. Holds s q) (tuple_says first n a.steps) (turns_say forms (n + let_count a) ts) h in (here.0 s.0, more.0 s.1),
           λ h. each-append (λ s. Holds s q) (tuple_says first n a.steps) (turns_say forms (n + let_count a) ts) (here.1 h.0) (more.1 h.1),

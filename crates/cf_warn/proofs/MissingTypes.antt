@@ -112,7 +112,8 @@ module _ (bases : List Base) where
 
   row_fits : (forms : Forms) (r : Row) → FitForms forms → AreWithin r → FitTerm (row_form forms r)
   row_fits forms r f w =
-      halves_keep (λ a b. term_add a b) (term_lit (pos 0)) FitTerm (omega arith, tt) (λ a b p q. ((p.0, q.0), (p.1, q.1))) (map (entry_form forms) r) (entries_fit forms r f w)
+      halves_keep (λ a b. term_add a b) (term_lit (pos 0)) FitTerm (omega arith, tt) (λ a b p q. ((p.0, q.0), (p.1, q.1))) (map (entry_form forms) r)
+      (entries_fit forms r f w)
 
   zero_fits : IsWithin (pos 0)
   zero_fits = omega arith
@@ -120,7 +121,8 @@ module _ (bases : List Base) where
   one_fits : IsWithin (pos 1)
   one_fits = omega arith
 
-  lets_fit : (forms : Forms) (n : ℕ) (ms : List Step) → FitForms forms → StepsSmall ms → NumbersFrom n (length (let_columns ms)) → EachOf FitRel (lets_say forms n ms)
+  lets_fit : (forms : Forms) (n : ℕ) (ms : List Step) → FitForms forms → StepsSmall ms → NumbersFrom n (length (let_columns ms)) →
+      EachOf FitRel (lets_say forms n ms)
   lets_fit forms n [] f s h = tt
   lets_fit forms n (floor_of c r g ∷ ms) f s h =
       let v : FitTerm (term_var n) = (h n (omega arith) (omega arith), tt) in
@@ -136,7 +138,8 @@ module _ (bases : List Base) where
   lets_fit forms n (need_zero r ∷ ms) f s h = lets_fit forms n ms f s.1 h
   lets_fit forms n (need_divides g r ∷ ms) f s h = lets_fit forms n ms f s.1 h
 
-  needs_fit : (forms : Forms) (n : ℕ) (ms : List Step) → FitForms forms → StepsSmall ms → StepsDivide ms → NumbersFrom n (length (let_columns ms)) → EachOf FitRel (needs_fail forms n ms)
+  needs_fit : (forms : Forms) (n : ℕ) (ms : List Step) → FitForms forms → StepsSmall ms → StepsDivide ms → NumbersFrom n (length (let_columns ms)) →
+      EachOf FitRel (needs_fail forms n ms)
   needs_fit forms n [] f s d h = tt
   needs_fit forms n (floor_of c r g ∷ ms) f s d h =
       let v : FitTerm (term_var n) = (h n (omega arith) (omega arith), tt) in
@@ -145,10 +148,13 @@ module _ (bases : List Base) where
   needs_fit forms n (need_zero r ∷ ms) f s d h = let t = row_fits forms r f s.0.1 in (((t.0, zero_fits), (t.1, tt)), needs_fit forms n ms f s.1 d.1 h)
   needs_fit forms n (need_divides g r ∷ ms) f s d h = let t = row_fits forms r f s.0.0.1 in ((((d.0, s.0.1), t.0), t.1), needs_fit forms n ms f s.1 d.1 h)
 
-  tuple_fits : (forms : Forms) (n : ℕ) (ms : List Step) → FitForms forms → StepsSmall ms → StepsDivide ms → NumbersFrom n (length (let_columns ms)) → EachOf FitRel (tuple_says forms n ms)
+  tuple_fits : (forms : Forms) (n : ℕ) (ms : List Step) → FitForms forms → StepsSmall ms → StepsDivide ms → NumbersFrom n (length (let_columns ms)) →
+      EachOf FitRel (tuple_says forms n ms)
   tuple_fits forms n ms f s d h =
-      each-append FitRel (lets_say forms n ms) (halves (λ a b. rel_or a b) rel_false (needs_fail forms n ms) ∷ []) (lets_fit forms n ms f s h)
-      (halves_keep (λ a b. rel_or a b) rel_false FitRel (tt, tt) (λ a b p q. ((p.0, q.0), (p.1, q.1))) (needs_fail forms n ms) (needs_fit forms n ms f s d h), tt)
+      each-append FitRel (lets_say forms n ms) (halves (λ a b. rel_or a b) rel_false (needs_fail forms n ms) ∷ []) (lets_fit forms n ms f s h) (
+        halves_keep (λ a b. rel_or a b) rel_false FitRel (tt, tt) (λ a b p q. ((p.0, q.0), (p.1, q.1))) (needs_fail forms n ms) (needs_fit forms n ms f s d h),
+        tt,
+      )
 
   search_fits : (forms : Forms) (bs : List (ℕ × ℕ)) (ks : List ℕ) → FitForms forms → EachOf (λ k. k < 1048576) ks → FitForms (search_forms forms bs ks)
   search_fits forms [] ks f w = f
@@ -157,7 +163,8 @@ module _ (bases : List Base) where
       let l = w.0 in
       search_fits (with_form forms c (term_lit (pos k))) bs ks (with_fits forms c (term_lit (pos k)) f (omega arith, tt)) w.1
 
-  pub turns_say_fit : (forms : Forms) (n : ℕ) (ts : List Turn) → FitForms forms → EachOf Fits ts → NumbersFrom n (lets_in ts) → EachOf FitRel (turns_say forms n ts)
+  pub turns_say_fit : (forms : Forms) (n : ℕ) (ts : List Turn) → FitForms forms → EachOf Fits ts → NumbersFrom n (lets_in ts) →
+      EachOf FitRel (turns_say forms n ts)
   turns_say_fit forms n [] f s h = tt
   turns_say_fit forms n ((a, ks) ∷ ts) f s h =
       each-append FitRel (tuple_says (search_forms forms a.bounds ks) n a.steps) (turns_say forms (n + let_count a) ts)
@@ -174,7 +181,8 @@ module _ (bases : List Base) where
     abbrev IsSetAt : ℕ → Type 0
     IsSetAt x = slice_get bases (to x) ≡ Some Set
 
-    inters_typed : (s : SetTree) (xs : List ℕ) → IsTypedSet bases s → EachOf IsSetAt xs → IsTypedSet bases (fold (λ a b. inter_of a b) s (map (λ x. set_var (to x)) xs))
+    inters_typed : (s : SetTree) (xs : List ℕ) → IsTypedSet bases s → EachOf IsSetAt xs →
+        IsTypedSet bases (fold (λ a b. inter_of a b) s (map (λ x. set_var (to x)) xs))
     inters_typed s [] t h = t
     inters_typed s (x ∷ xs) t h = inters_typed (inter_of s (set_var (to x))) xs (t, h.0) h.1
 
@@ -182,11 +190,13 @@ module _ (bases : List Base) where
     all_typed [] h = tt
     all_typed (x ∷ xs) h = inters_typed (set_var (to x)) xs h.0 h.1
 
-    diffs_typed : (s : SetTree) (xs : List ℕ) → IsTypedSet bases s → EachOf IsSetAt xs → IsTypedSet bases (fold (λ a b. diff_of a b) s (map (λ x. set_var (to x)) xs))
+    diffs_typed : (s : SetTree) (xs : List ℕ) → IsTypedSet bases s → EachOf IsSetAt xs →
+        IsTypedSet bases (fold (λ a b. diff_of a b) s (map (λ x. set_var (to x)) xs))
     diffs_typed s [] t h = t
     diffs_typed s (x ∷ xs) t h = diffs_typed (diff_of s (set_var (to x))) xs (t, h.0) h.1
 
-    module _ (l : Layout) (numbers : (x : ℕ) → has_level l.numbers x ≡ true → slice_get bases (to x) ≡ Some Int) (inputs : (x : ℕ) → has_level l.inputs x ≡ true → IsSetAt x) where
+    module _ (l : Layout) (numbers : (x : ℕ) → has_level l.numbers x ≡ true → slice_get bases (to x) ≡ Some Int)
+        (inputs : (x : ℕ) → has_level l.inputs x ≡ true → IsSetAt x) where
       region_typed : (m : ℕ) → IsTypedSet bases (region_form l to m)
       region_typed m =
           diffs_typed (inter_of_all (map (λ x. set_var (to x)) (sets_in l m))) (sets_out l m)
@@ -255,7 +265,8 @@ module _ (scope outputs : List Base) (rel : RelTree) (u : IsUnrefused scope outp
 
   input_at : (x : ℕ) → has_level (layout_of scope outputs rel).inputs x ≡ true → slice_get bases (place x params) ≡ Some Set
   input_at x h =
-      parameter_base x Set (input_parameter scope outputs rel x h) (subst (λ bs. slice_get bs x ≡ Some Set) (append-nil scope) (inputs_typed scope outputs rel [] x h))
+      parameter_base x Set (input_parameter scope outputs rel x h)
+      (subst (λ bs. slice_get bs x ≡ Some Set) (append-nil scope) (inputs_typed scope outputs rel [] x h))
 
   none_fits : FitRel bases (none scope outputs rel)
   none_fits =
@@ -264,7 +275,8 @@ module _ (scope outputs : List Base) (rel : RelTree) (u : IsUnrefused scope outp
       let n = length-map params (base_at scope) in
       each_first bases (turns_say (first_forms l (λ x. place x params)) (length params) ts)
       (turns_say_fit bases (first_forms l (λ x. place x params)) (length params) ts (first_fit bases (λ x. place x params) l number_at input_at)
-      (cases_fit (first_systems l rel) (cases_kept scope outputs rel u)) (λ x a b. numbers_behind (parameter_bases scope rel) (lets_in ts) x (omega arith) (omega arith)))
+      (cases_fit (first_systems l rel) (cases_kept scope outputs rel u))
+      (λ x a b. numbers_behind (parameter_bases scope rel) (lets_in ts) x (omega arith) (omega arith)))
 
   pub none_typed : IsTyped (none_outputs scope outputs rel) (none scope outputs rel)
   none_typed = none_fits.0
@@ -275,4 +287,5 @@ module _ (scope outputs : List Base) (rel : RelTree) (u : IsUnrefused scope outp
   pub none_are_outputs : All IsOutput (none_outputs scope outputs rel)
   none_are_outputs =
       let ts = turns (traced scope outputs rel) in
-      All-append IsOutput (parameter_bases scope rel) (replicate (lets_in ts) Int) (parameters_are_outputs scope outputs rel u.typed u.are_outputs) (all_int (lets_in ts))
+      All-append IsOutput (parameter_bases scope rel) (replicate (lets_in ts) Int) (parameters_are_outputs scope outputs rel u.typed u.are_outputs)
+      (all_int (lets_in ts))

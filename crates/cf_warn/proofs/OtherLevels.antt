@@ -34,11 +34,14 @@ module _ (to : ℕ → ℕ) (env other : List Value) where
   members-at empty_set h = refl
   members-at (set_var x) h = ap elements_of (h x (itself x))
   members-at (union_of a b) h =
-      ap₂ set_union (members-at a (λ x k. h x (on_left (set_holds x a) (set_holds x b) k))) (members-at b (λ x k. h x (on_right (set_holds x a) (set_holds x b) k)))
+      ap₂ set_union (members-at a (λ x k. h x (on_left (set_holds x a) (set_holds x b) k)))
+      (members-at b (λ x k. h x (on_right (set_holds x a) (set_holds x b) k)))
   members-at (inter_of a b) h =
-      ap₂ set_inter (members-at a (λ x k. h x (on_left (set_holds x a) (set_holds x b) k))) (members-at b (λ x k. h x (on_right (set_holds x a) (set_holds x b) k)))
+      ap₂ set_inter (members-at a (λ x k. h x (on_left (set_holds x a) (set_holds x b) k)))
+      (members-at b (λ x k. h x (on_right (set_holds x a) (set_holds x b) k)))
   members-at (diff_of a b) h =
-      ap₂ set_diff (members-at a (λ x k. h x (on_left (set_holds x a) (set_holds x b) k))) (members-at b (λ x k. h x (on_right (set_holds x a) (set_holds x b) k)))
+      ap₂ set_diff (members-at a (λ x k. h x (on_left (set_holds x a) (set_holds x b) k)))
+      (members-at b (λ x k. h x (on_right (set_holds x a) (set_holds x b) k)))
 
   val-at : (t : TermTree) → ((x : ℕ) → term_holds x t ≡ true → value_at other (to x) ≡ value_at env x) → val (term_at to t) other ≡ val t env
   val-at (term_lit n) h = refl
@@ -46,11 +49,14 @@ module _ (to : ℕ → ℕ) (env other : List Value) where
   val-at (term_card s) h = ap (λ zs. pos (length zs)) (members-at s h)
   val-at (term_neg a) h = ap neg_ℤ (val-at a h)
   val-at (term_add a b) h =
-      ap₂ (λ y z. y +ℤ z) (val-at a (λ x k. h x (on_left (term_holds x a) (term_holds x b) k))) (val-at b (λ x k. h x (on_right (term_holds x a) (term_holds x b) k)))
+      ap₂ (λ y z. y +ℤ z) (val-at a (λ x k. h x (on_left (term_holds x a) (term_holds x b) k)))
+      (val-at b (λ x k. h x (on_right (term_holds x a) (term_holds x b) k)))
   val-at (term_sub a b) h =
-      ap₂ (λ y z. y -ℤ z) (val-at a (λ x k. h x (on_left (term_holds x a) (term_holds x b) k))) (val-at b (λ x k. h x (on_right (term_holds x a) (term_holds x b) k)))
+      ap₂ (λ y z. y -ℤ z) (val-at a (λ x k. h x (on_left (term_holds x a) (term_holds x b) k)))
+      (val-at b (λ x k. h x (on_right (term_holds x a) (term_holds x b) k)))
   val-at (term_mul a b) h =
-      ap₂ (λ y z. y *ℤ z) (val-at a (λ x k. h x (on_left (term_holds x a) (term_holds x b) k))) (val-at b (λ x k. h x (on_right (term_holds x a) (term_holds x b) k)))
+      ap₂ (λ y z. y *ℤ z) (val-at a (λ x k. h x (on_left (term_holds x a) (term_holds x b) k)))
+      (val-at b (λ x k. h x (on_right (term_holds x a) (term_holds x b) k)))
   val-at (term_div a k) h = ap (λ z. quotient z k) (val-at a h)
   val-at (term_mod a k) h = ap (λ z. remainder z k) (val-at a h)
   val-at (term_abs a) h = ap absolute (val-at a h)
@@ -68,7 +74,8 @@ module _ (to : ℕ → ℕ) (env other : List Value) where
       same_two (λ xs ys. xs ≢ ys) (members (set_at to a) other) (members a env) (members (set_at to b) other) (members b env)
       (members-at a (λ x k. h x (on_left (set_holds x a) (set_holds x b) k))) (members-at b (λ x k. h x (on_right (set_holds x a) (set_holds x b) k)))
   holds-at (rel_subset a b) h =
-      same_two (λ xs ys. (x : ℤ) → has xs x ≡ true → has ys x ≡ true) (members (set_at to a) other) (members a env) (members (set_at to b) other) (members b env)
+      same_two (λ xs ys. (x : ℤ) → has xs x ≡ true → has ys x ≡ true) (members (set_at to a) other) (members a env) (members (set_at to b) other)
+      (members b env)
       (members-at a (λ x k. h x (on_left (set_holds x a) (set_holds x b) k))) (members-at b (λ x k. h x (on_right (set_holds x a) (set_holds x b) k)))
   holds-at (rel_divides k t) h = same_one (λ z. (q : ℤ) × (z ≡ k *ℤ q)) (val (term_at to t) other) (val t env) (val-at t h)
   holds-at (rel_and a b) h =
@@ -83,27 +90,44 @@ module _ (to : ℕ → ℕ) (env other : List Value) where
 
 -- ---- types, where each variable that occurs has one base
 module _ (to : ℕ → ℕ) (scope other : List Base) where
-  typed_set-at : (s : SetTree) → ((x : ℕ) → set_holds x s ≡ true → slice_get other (to x) ≡ slice_get scope x) → IsTypedSet scope s → IsTypedSet other (set_at to s)
+  typed_set-at : (s : SetTree) → ((x : ℕ) → set_holds x s ≡ true → slice_get other (to x) ≡ slice_get scope x) → IsTypedSet scope s →
+      IsTypedSet other (set_at to s)
   typed_set-at empty_set h t = tt
   typed_set-at (set_var x) h t = h x (itself x) ∙ t
-  typed_set-at (union_of a b) h t =
-      (typed_set-at a (λ x k. h x (on_left (set_holds x a) (set_holds x b) k)) t.0, typed_set-at b (λ x k. h x (on_right (set_holds x a) (set_holds x b) k)) t.1)
-  typed_set-at (inter_of a b) h t =
-      (typed_set-at a (λ x k. h x (on_left (set_holds x a) (set_holds x b) k)) t.0, typed_set-at b (λ x k. h x (on_right (set_holds x a) (set_holds x b) k)) t.1)
-  typed_set-at (diff_of a b) h t =
-      (typed_set-at a (λ x k. h x (on_left (set_holds x a) (set_holds x b) k)) t.0, typed_set-at b (λ x k. h x (on_right (set_holds x a) (set_holds x b) k)) t.1)
+  typed_set-at (union_of a b) h t = (
+    typed_set-at a (λ x k. h x (on_left (set_holds x a) (set_holds x b) k)) t.0,
+    typed_set-at b (λ x k. h x (on_right (set_holds x a) (set_holds x b) k))
+        t.1,
+  )
+  typed_set-at (inter_of a b) h t = (
+    typed_set-at a (λ x k. h x (on_left (set_holds x a) (set_holds x b) k)) t.0,
+    typed_set-at b (λ x k. h x (on_right (set_holds x a) (set_holds x b) k))
+        t.1,
+  )
+  typed_set-at (diff_of a b) h t = (
+    typed_set-at a (λ x k. h x (on_left (set_holds x a) (set_holds x b) k)) t.0,
+    typed_set-at b (λ x k. h x (on_right (set_holds x a) (set_holds x b) k))
+        t.1,
+  )
 
-  typed_term-at : (t : TermTree) → ((x : ℕ) → term_holds x t ≡ true → slice_get other (to x) ≡ slice_get scope x) → IsTypedTerm scope t → IsTypedTerm other (term_at to t)
+  typed_term-at : (t : TermTree) → ((x : ℕ) → term_holds x t ≡ true → slice_get other (to x) ≡ slice_get scope x) → IsTypedTerm scope t →
+      IsTypedTerm other (term_at to t)
   typed_term-at (term_lit n) h t = t
   typed_term-at (term_var x) h t = h x (itself x) ∙ t
   typed_term-at (term_card s) h t = typed_set-at s h t
   typed_term-at (term_neg a) h t = typed_term-at a h t
-  typed_term-at (term_add a b) h t =
-      (typed_term-at a (λ x k. h x (on_left (term_holds x a) (term_holds x b) k)) t.0, typed_term-at b (λ x k. h x (on_right (term_holds x a) (term_holds x b) k)) t.1)
-  typed_term-at (term_sub a b) h t =
-      (typed_term-at a (λ x k. h x (on_left (term_holds x a) (term_holds x b) k)) t.0, typed_term-at b (λ x k. h x (on_right (term_holds x a) (term_holds x b) k)) t.1)
-  typed_term-at (term_mul a b) h t =
-      (typed_term-at a (λ x k. h x (on_left (term_holds x a) (term_holds x b) k)) t.0, typed_term-at b (λ x k. h x (on_right (term_holds x a) (term_holds x b) k)) t.1)
+  typed_term-at (term_add a b) h t = (
+    typed_term-at a (λ x k. h x (on_left (term_holds x a) (term_holds x b) k)) t.0,
+    typed_term-at b (λ x k. h x (on_right (term_holds x a) (term_holds x b) k)) t.1,
+  )
+  typed_term-at (term_sub a b) h t = (
+    typed_term-at a (λ x k. h x (on_left (term_holds x a) (term_holds x b) k)) t.0,
+    typed_term-at b (λ x k. h x (on_right (term_holds x a) (term_holds x b) k)) t.1,
+  )
+  typed_term-at (term_mul a b) h t = (
+    typed_term-at a (λ x k. h x (on_left (term_holds x a) (term_holds x b) k)) t.0,
+    typed_term-at b (λ x k. h x (on_right (term_holds x a) (term_holds x b) k)) t.1,
+  )
   typed_term-at (term_div a k) h t = (typed_term-at a h t.0, t.1)
   typed_term-at (term_mod a k) h t = (typed_term-at a h t.0, t.1)
   typed_term-at (term_abs a) h t = typed_term-at a h t
@@ -111,14 +135,25 @@ module _ (to : ℕ → ℕ) (scope other : List Base) where
   pub typed-at : (r : RelTree) → ((x : ℕ) → rel_holds x r ≡ true → slice_get other (to x) ≡ slice_get scope x) → IsTyped scope r → IsTyped other (rel_at to r)
   typed-at rel_true h t = tt
   typed-at rel_false h t = tt
-  typed-at (rel_compare o a b) h t =
-      (typed_term-at a (λ x k. h x (on_left (term_holds x a) (term_holds x b) k)) t.0, typed_term-at b (λ x k. h x (on_right (term_holds x a) (term_holds x b) k)) t.1)
-  typed-at (rel_same_set a b) h t =
-      (typed_set-at a (λ x k. h x (on_left (set_holds x a) (set_holds x b) k)) t.0, typed_set-at b (λ x k. h x (on_right (set_holds x a) (set_holds x b) k)) t.1)
-  typed-at (rel_other_set a b) h t =
-      (typed_set-at a (λ x k. h x (on_left (set_holds x a) (set_holds x b) k)) t.0, typed_set-at b (λ x k. h x (on_right (set_holds x a) (set_holds x b) k)) t.1)
-  typed-at (rel_subset a b) h t =
-      (typed_set-at a (λ x k. h x (on_left (set_holds x a) (set_holds x b) k)) t.0, typed_set-at b (λ x k. h x (on_right (set_holds x a) (set_holds x b) k)) t.1)
+  typed-at (rel_compare o a b) h t = (
+    typed_term-at a (λ x k. h x (on_left (term_holds x a) (term_holds x b) k)) t.0,
+    typed_term-at b (λ x k. h x (on_right (term_holds x a) (term_holds x b) k)) t.1,
+  )
+  typed-at (rel_same_set a b) h t = (
+    typed_set-at a (λ x k. h x (on_left (set_holds x a) (set_holds x b) k)) t.0,
+    typed_set-at b (λ x k. h x (on_right (set_holds x a) (set_holds x b) k))
+        t.1,
+  )
+  typed-at (rel_other_set a b) h t = (
+    typed_set-at a (λ x k. h x (on_left (set_holds x a) (set_holds x b) k)) t.0,
+    typed_set-at b (λ x k. h x (on_right (set_holds x a) (set_holds x b) k))
+        t.1,
+  )
+  typed-at (rel_subset a b) h t = (
+    typed_set-at a (λ x k. h x (on_left (set_holds x a) (set_holds x b) k)) t.0,
+    typed_set-at b (λ x k. h x (on_right (set_holds x a) (set_holds x b) k))
+        t.1,
+  )
   typed-at (rel_divides k u) h t = (t.0, typed_term-at u h t.1)
   typed-at (rel_and a b) h t =
       (typed-at a (λ x k. h x (on_left (rel_holds x a) (rel_holds x b) k)) t.0, typed-at b (λ x k. h x (on_right (rel_holds x a) (rel_holds x b) k)) t.1)

@@ -118,7 +118,8 @@ place_decides x xs = elim (cases_lt (place x xs) (length xs)) [
   | inr l ↦ le-ltb (place x xs) (length xs) l ∙ sym (has_not x xs l)
 ]
 
-added : (out next rest whole : List ℕ) (x : ℕ) (p t : Bool) → t ≡ p → next ≡ out ++ cond t (x ∷ []) [] → out ++ cond p (x ∷ rest) rest ≡ whole → next ++ rest ≡ whole
+added : (out next rest whole : List ℕ) (x : ℕ) (p t : Bool) → t ≡ p → next ≡ out ++ cond t (x ∷ []) [] → out ++ cond p (x ∷ rest) rest ≡ whole →
+    next ++ rest ≡ whole
 added out next rest whole x true true e n h = rw (n, append_assoc out (x ∷ []) rest) h
 added out next rest whole x false false e n h = rw (n, append-nil out) h
 added out next rest whole x true false e n h = absurd (cc)
@@ -152,21 +153,24 @@ module _ (scope outputs : List Base) (rel : RelTree) where
       (λ e. ap₂ (λ a b. a || b) (not_filtered q numbers x e) (not_filtered q sets x e) ∙ sym e)
 
   -- the parameters by the layout
-  pub parameters_are : (l : Layout) → IsTyped (scope ++ outputs) rel → l ≡ layout_of scope outputs rel → filter (is_parameter l) (range_with_len 0 l.scope) ≡ parameters scope rel
+  pub parameters_are : (l : Layout) → IsTyped (scope ++ outputs) rel → l ≡ layout_of scope outputs rel →
+      filter (is_parameter l) (range_with_len 0 l.scope) ≡ parameters scope rel
   parameters_are l typed e =
       ap (λ k. filter (is_parameter k) (range_with_len 0 k.scope)) e
       ∙ filter_same (is_parameter (layout_of scope outputs rel)) (λ x. rel_holds x rel) 0 (length scope) (λ x k h. occurs typed x (omega arith))
 
 -- a variable that occurs is a parameter
 pub has_parameter : (scope : List Base) (rel : RelTree) (x : ℕ) → x < length scope → rel_holds x rel ≡ true → has_level (parameters scope rel) x ≡ true
-has_parameter scope rel x l e = has_filtered (λ y. rel_holds y rel) (range_with_len 0 (length scope)) x (has_range 0 (length scope) x (omega arith) (omega arith)) e
+has_parameter scope rel x l e = has_filtered (λ y. rel_holds y rel) (range_with_len 0 (length scope)) x
+    (has_range 0 (length scope) x (omega arith) (omega arith)) e
 
 -- what each level that passes has
 pub each_filtered : (P : ℕ → Type 0) (q : ℕ → Bool) (a n : ℕ) → ((x : ℕ) → x < a + n → q x ≡ true → P x) → EachOf P (filter q (range_with_len a n))
 each_filtered P q a zero h = tt
 each_filtered P q a (suc n) h =
     let more = each_filtered P q (a + 1) n (λ x k e. h x (omega arith) e) in
-    cond_both (q a) (a ∷ filter q (range_with_len (a + 1) n)) (filter q (range_with_len (a + 1) n)) (λ xs. EachOf P xs) (λ e. (h a (omega arith) e, more)) (λ _. more)
+    cond_both (q a) (a ∷ filter q (range_with_len (a + 1) n)) (filter q (range_with_len (a + 1) n)) (λ xs. EachOf P xs) (λ e. (h a (omega arith) e, more))
+    (λ _. more)
 
 -- ---- levels in a question
 -- a list of what the parameters have, of other things, of what the outputs have, and of more: what stands there at the level of a variable

@@ -47,4 +47,5 @@ region_is l to m inside others common region i o c r =
     let outs = filter (is_beside Outside l.inputs m) l.inputs in
     r ∙ ap (λ ys. fold (both_sets Diff) common (map (λ x. set_var x) ys)) o
     ∙ ap (λ ss. fold (both_sets Diff) common ss) (variables to outs)
-    ∙ ap (λ s. fold (both_sets Diff) s (map (λ x. set_var (to x)) outs)) (c ∙ ap (λ ys. inter_of_all (map (λ x. set_var x) ys)) i ∙ ap inter_of_all (variables to ins))
+    ∙ ap (λ s. fold (both_sets Diff) s (map (λ x. set_var (to x)) outs))
+    (c ∙ ap (λ ys. inter_of_all (map (λ x. set_var x) ys)) i ∙ ap inter_of_all (variables to ins))

@@ -28,7 +28,8 @@ has_default Int = (pos 0, refl)
 has_default Truth = (false, refl)
 has_default Set = ([], refl, tt)
 
-have_listed : (bs : List Base) (n : ℕ) (f : ℕ → Value) → ((i : ℕ) → i < length bs → HasBase (base_at bs i) (f (n + i))) → HaveBases bs (map f (range_with_len n (length bs)))
+have_listed : (bs : List Base) (n : ℕ) (f : ℕ → Value) → ((i : ℕ) → i < length bs → HasBase (base_at bs i) (f (n + i))) →
+    HaveBases bs (map f (range_with_len n (length bs)))
 have_listed [] n f h = tt
 have_listed (b ∷ bs) n f h =
     let z : n + 0 ≡ n = omega arith in (
@@ -57,7 +58,8 @@ module _ (scope : List Base) (rel : RelTree) (sample : List Value) (have : HaveB
 
   has_value : (x : ℕ) → HasBase (base_at scope x) (value_of x)
   has_value x =
-      cond_both (has_level (parameters scope rel) x) (value_at sample (place x (parameters scope rel))) (default (base_at scope x)) (λ v. HasBase (base_at scope x) v)
+      cond_both (has_level (parameters scope rel) x) (value_at sample (place x (parameters scope rel))) (default (base_at scope x))
+      (λ v. HasBase (base_at scope x) v)
       (λ h.
       let p = place_within x (parameters scope rel) h in
       let l = length-map (parameters scope rel) (base_at scope) in
@@ -74,8 +76,15 @@ module _ (scope : List Base) (rel : RelTree) (sample : List Value) (have : HaveB
       let size = length_have (parameter_bases scope rel) sample have ∙ length-map (parameters scope rel) (base_at scope) in
       let same : map (value_at env) (parameters scope rel) ≡ sample =
       same_each (value_at env) (λ x. value_at sample (place x (parameters scope rel))) (parameters scope rel)
-      (λ x h. get_or-map-range_with_len value_of 0 (length scope) x x (number (pos 0)) (each_has (λ y. y < length scope) (parameters scope rel) x (each_within scope rel) h) (omega arith)
+      (λ x h. get_or-map-range_with_len value_of 0 (length scope) x x (number (pos 0))
+      (each_has (λ y. y < length scope) (parameters scope rel) x (each_within scope rel) h) (omega arith)
       ∙ value_when x h)
       ∙ by_places (value_at sample) 0 (parameters scope rel) (up_filter (λ x. rel_holds x rel) 0 (range_with_len 0 (length scope)) (up_range 0 (length scope)))
-      ∙ listed_again sample (length (parameters scope rel)) size in
-      (env, record { bases = have_listed scope 0 value_of (λ i l. let z : i ≡ 0 + i = omega arith in subst (λ x. HasBase (base_at scope i) (value_of x)) z (has_value i)); same = same })
+      ∙ listed_again sample (length (parameters scope rel)) size in (
+        env,
+        record {
+          bases = have_listed scope 0 value_of (λ i l. let z : i ≡ 0 + i = omega arith in
+              subst (λ x. HasBase (base_at scope i) (value_of x)) z (has_value i));
+          same = same;
+        },
+      )

@@ -15,7 +15,8 @@ use Rattle.cf_warn.specs.Missing.{bounds_of, tuple_count}
 use Rattle.cf_warn.specs.Writing.{bounds_in, counted}
 
 -- one case more
-fold_next : {A : Type 0} (f : ℕ → A → ℕ) (n : ℕ) (xs : List A) (i : ℕ) (x : A) → slice_get xs i ≡ Some x → fold f n (take (i + 1) xs) ≡ f (fold f n (take i xs)) x
+fold_next : {A : Type 0} (f : ℕ → A → ℕ) (n : ℕ) (xs : List A) (i : ℕ) (x : A) → slice_get xs i ≡ Some x →
+    fold f n (take (i + 1) xs) ≡ f (fold f n (take i xs)) x
 fold_next f n [] i x e = absurd (cc)
 fold_next f n (y ∷ xs) zero x e = let k : y ≡ x = cc in ap (f n) k
 fold_next f n (y ∷ xs) (suc i) x e =
@@ -42,13 +43,15 @@ next_bound total next whole s rest left e n t =
     ap (λ k. k * count_below (bounds_in left)) n ∙ times_assoc total s.bound (count_below (bounds_in left))
     ∙ ap (λ bs. total * count_below (bounds_in bs)) (sym e) ∙ t
 
-pub next_case : (bounds : List (List (ℕ × ℕ))) (i total count : ℕ) (bs : List Search) → slice_get bounds i ≡ Some (map bound_of bs) → count ≡ count_below (bounds_in bs) →
+pub next_case : (bounds : List (List (ℕ × ℕ))) (i total count : ℕ) (bs : List Search) → slice_get bounds i ≡ Some (map bound_of bs) →
+    count ≡ count_below (bounds_in bs) →
     total ≡ counted (take i bounds) → total + count ≡ counted (take (i + 1) bounds)
 next_case bounds i total count bs e c t =
     rw (t, c) (ap (λ ks. counted (take i bounds) + count_below ks) (sym (plain_bounds bs))
     ∙ sym (fold_next (λ n b. n + count_below (map (λ (d, k). k) b)) 0 bounds i (map bound_of bs) e))
 
-counted_is : (n : ℕ) (ms : List System) → fold (λ k b. k + count_below (map (λ (c, j). j) b)) n (map (λ m. (made m).bounds) ms) ≡ fold (λ k a. k + count_below (bounds_of a)) n (map made ms)
+counted_is : (n : ℕ) (ms : List System) →
+    fold (λ k b. k + count_below (map (λ (c, j). j) b)) n (map (λ m. (made m).bounds) ms) ≡ fold (λ k a. k + count_below (bounds_of a)) n (map made ms)
 counted_is n [] = refl
 counted_is n (m ∷ ms) = counted_is (n + count_below (bounds_of (made m))) ms
 

@@ -54,7 +54,8 @@ module _ (env : List Value) where
   differ Truth v w x y p q h e = h (ap number_of (p ∙ e ∙ sym q))
   differ Set v w x y p q h e = h (ap elements_of (p ∙ e ∙ sym q))
 
-  same_or_other : (b : Base) (v w : Value) (x y : ℕ) → IsOutput b → HasBase b v → HasBase b w → value_at env x ≡ v → value_at env y ≡ w → (v ≡ w) ⊎ Holds (other b x y) env
+  same_or_other : (b : Base) (v w : Value) (x y : ℕ) → IsOutput b → HasBase b v → HasBase b w → value_at env x ≡ v → value_at env y ≡ w →
+      (v ≡ w) ⊎ Holds (other b x y) env
   same_or_other Int v w x y o h k p q = on_bool (int_eq h.0 k.0)
       (λ t. inl (h.1 ∙ ap number (eq_is h.0 k.0 t) ∙ sym k.1))
       (λ t. inr (λ e. eq_differs h.0 k.0 t (sym (ap number_of (p ∙ h.1)) ∙ e ∙ ap number_of (q ∙ k.1))))
@@ -83,7 +84,8 @@ module _ (env : List Value) where
   same_or_others (b ∷ bs) (v ∷ vs) [] x y o h k p q = absurd k
   same_or_others (b ∷ bs) (v ∷ vs) (w ∷ ws) x y o h k p q =
       elim (same_or_other b v w x y (All-head IsOutput b bs o) h.0 k.0 (value_is x v p.0) (value_is y w q.0)) [
-        | inl e ↦ elim (same_or_others bs vs ws (x + 1) (y + 1) (All-tail IsOutput b bs o) h.1 k.1 p.1 q.1) [ inl f ↦ inl (ap₂ (λ a as_. a ∷ as_) e f) | inr s ↦ inr (inr s) ]
+        | inl e ↦ elim (same_or_others bs vs ws (x + 1) (y + 1) (All-tail IsOutput b bs o) h.1 k.1 p.1 q.1)
+            [ inl f ↦ inl (ap₂ (λ a as_. a ∷ as_) e f) | inr s ↦ inr (inr s) ]
         | inr s ↦ inr (inl s)
       ]
 
@@ -123,7 +125,8 @@ have_at (b ∷ scope) [] x h l = absurd h
 have_at (b ∷ scope) (v ∷ env) zero h l = h.0
 have_at (b ∷ scope) (v ∷ env) (suc x) h l = have_at scope env x h.1 (omega arith)
 
-have_each : (scope : List Base) (env : List Value) → HaveBases scope env → (xs : List ℕ) → EachOf (λ x. x < length scope) xs → HaveBases (map (base_at scope) xs) (map (value_at env) xs)
+have_each : (scope : List Base) (env : List Value) → HaveBases scope env → (xs : List ℕ) → EachOf (λ x. x < length scope) xs →
+    HaveBases (map (base_at scope) xs) (map (value_at env) xs)
 have_each scope env h [] l = tt
 have_each scope env h (x ∷ xs) l = (have_at scope env x h l.0, have_each scope env h xs l.1)
 
@@ -134,7 +137,8 @@ pub parameters_within : (scope : List Base) (rel : RelTree) → All (λ x. x < l
 parameters_within scope rel = all_from_each (λ x. x < length scope) (parameters scope rel) (each_within scope rel)
 
 -- the values of the parameters have their bases
-pub have_sample : (scope : List Base) (rel : RelTree) (env : List Value) → HaveBases scope env → HaveBases (parameter_bases scope rel) (map (value_at env) (parameters scope rel))
+pub have_sample : (scope : List Base) (rel : RelTree) (env : List Value) → HaveBases scope env →
+    HaveBases (parameter_bases scope rel) (map (value_at env) (parameters scope rel))
 have_sample scope rel env h = have_each scope env h (parameters scope rel) (each_within scope rel)
 
 value_from : (u w : List Value) (i j : ℕ) → slice_get u i ≡ slice_get w j → value_at u i ≡ value_at w j
@@ -159,9 +163,12 @@ module _ (scope outputs : List Base) (rel : RelTree) (typed : IsTyped (scope ++ 
 
   typed_second : IsTyped (twice_outputs scope outputs rel) (rel_at (level_in (length scope) (parameters scope rel) (length outputs)) rel)
   typed_second =
-      subst (λ bs. IsTyped (parameter_bases scope rel ++ (outputs ++ bs)) (rel_at (level_in (length scope) (parameters scope rel) (length outputs)) rel)) (append-nil outputs)
-      (typed-at (level_in (length scope) (parameters scope rel) (length outputs)) (scope ++ outputs) (parameter_bases scope rel ++ (outputs ++ (outputs ++ []))) rel
-      (λ x e. at_level Int scope outputs outputs [] (parameters scope rel) (length scope) (length outputs) x refl (λ l. has_parameter scope rel x l e) (within x e) refl) typed)
+      subst (λ bs. IsTyped (parameter_bases scope rel ++ (outputs ++ bs)) (rel_at (level_in (length scope) (parameters scope rel) (length outputs)) rel))
+      (append-nil outputs)
+      (typed-at (level_in (length scope) (parameters scope rel) (length outputs)) (scope ++ outputs) (parameter_bases scope rel ++ (outputs ++ (outputs ++ [])))
+      rel
+      (λ x e. at_level Int scope outputs outputs [] (parameters scope rel) (length scope) (length outputs) x refl (λ l. has_parameter scope rel x l e)
+      (within x e) refl) typed)
 
   copy_behind : {A : Type 0} (front xs ys : List A) (n : ℕ) → length front + length xs ≡ n → Stand (front ++ (xs ++ ys)) n ys
   copy_behind front xs ys n e =
@@ -169,10 +176,12 @@ module _ (scope outputs : List Base) (rel : RelTree) (typed : IsTyped (scope ++ 
       let l = length-append front xs in
       subst (λ zs. Stand zs n ys) s (stand_behind (front ++ xs) ys [] n (omega arith))
 
-  typed_third : IsTyped (twice_outputs scope outputs rel) (halves rel_or rel_false (others outputs (length (parameters scope rel)) (length (parameters scope rel) + length outputs)))
+  typed_third : IsTyped (twice_outputs scope outputs rel)
+      (halves rel_or rel_false (others outputs (length (parameters scope rel)) (length (parameters scope rel) + length outputs)))
   typed_third =
       let l = length-params in
-      halves_keep rel_or rel_false (IsTyped (twice_outputs scope outputs rel)) tt (λ a b p q. (p, q)) (others outputs (length (parameters scope rel)) (length (parameters scope rel) + length outputs))
+      halves_keep rel_or rel_false (IsTyped (twice_outputs scope outputs rel)) tt (λ a b p q. (p, q))
+      (others outputs (length (parameters scope rel)) (length (parameters scope rel) + length outputs))
       (typed_others (twice_outputs scope outputs rel) outputs (length (parameters scope rel)) (length (parameters scope rel) + length outputs) are_outputs
       (stand_behind (parameter_bases scope rel) outputs outputs (length (parameters scope rel)) l)
       (copy_behind (parameter_bases scope rel) outputs outputs (length (parameters scope rel) + length outputs) (omega arith)))
@@ -185,7 +194,8 @@ module _ (scope outputs : List Base) (rel : RelTree) (typed : IsTyped (scope ++ 
     linear-at (level_in (length scope) (parameters scope rel) 0) rel linear,
     (
       linear-at (level_in (length scope) (parameters scope rel) (length outputs)) rel linear,
-      halves_keep rel_or rel_false IsLinear tt (λ a b p q. (p, q)) (others outputs (length (parameters scope rel)) (length (parameters scope rel) + length outputs))
+      halves_keep rel_or rel_false IsLinear tt (λ a b p q. (p, q))
+          (others outputs (length (parameters scope rel)) (length (parameters scope rel) + length outputs))
           (linear_others outputs (length (parameters scope rel)) (length (parameters scope rel) + length outputs)),
     ),
   )
@@ -205,24 +215,31 @@ module _ (scope outputs : List Base) (rel : RelTree) (typed : IsTyped (scope ++ 
 
   -- ---- the question holds at two different solutions at one sample
   module _ (env xs ys : List Value) (have : HaveBases scope env) (first : HaveBases outputs xs) (second : HaveBases outputs ys) where
-    first_holds : Holds (rel_at (level_in (length scope) (parameters scope rel) 0) rel) (map (value_at env) (parameters scope rel) ++ (xs ++ ys)) ↔ Holds rel (env ++ xs)
+    first_holds : Holds (rel_at (level_in (length scope) (parameters scope rel) 0) rel) (map (value_at env) (parameters scope rel) ++ (xs ++ ys)) ↔ Holds rel
+        (env ++ xs)
     first_holds =
         let n = length_have scope env have in
         let k = length_have outputs xs first in
         holds-at (level_in (length scope) (parameters scope rel) 0) (env ++ xs) (map (value_at env) (parameters scope rel) ++ (xs ++ ys)) rel
         (λ x e. value_from (map (value_at env) (parameters scope rel) ++ (xs ++ ys)) (env ++ xs) (level_in (length scope) (parameters scope rel) 0 x) x
-        (at_level (number (pos 0)) env [] xs ys (parameters scope rel) (length scope) 0 x n (λ l. has_parameter scope rel x l e) (let w = within x e in omega arith) refl))
+        (at_level (number (pos 0)) env [] xs ys (parameters scope rel) (length scope) 0 x n (λ l. has_parameter scope rel x l e) (let w = within x e in
+        omega arith) refl))
 
-    second_holds : Holds (rel_at (level_in (length scope) (parameters scope rel) (length outputs)) rel) (map (value_at env) (parameters scope rel) ++ (xs ++ ys)) ↔ Holds rel (env ++ ys)
+    second_holds : Holds (rel_at (level_in (length scope) (parameters scope rel) (length outputs)) rel)
+        (map (value_at env) (parameters scope rel) ++ (xs ++ ys)) ↔ Holds rel (env ++ ys)
     second_holds =
         let n = length_have scope env have in
         let k = length_have outputs xs first in
         let j = length_have outputs ys second in
         let s : ys ++ [] ≡ ys = append-nil ys in
-        subst (λ zs. Holds (rel_at (level_in (length scope) (parameters scope rel) (length outputs)) rel) (map (value_at env) (parameters scope rel) ++ (xs ++ zs)) ↔ Holds rel (env ++ ys)) s
-        (holds-at (level_in (length scope) (parameters scope rel) (length outputs)) (env ++ ys) (map (value_at env) (parameters scope rel) ++ (xs ++ (ys ++ []))) rel
-        (λ x e. value_from (map (value_at env) (parameters scope rel) ++ (xs ++ (ys ++ []))) (env ++ ys) (level_in (length scope) (parameters scope rel) (length outputs) x) x
-        (at_level (number (pos 0)) env xs ys [] (parameters scope rel) (length scope) (length outputs) x n (λ l. has_parameter scope rel x l e) (let w = within x e in omega arith) k)))
+        subst (λ zs. Holds (rel_at (level_in (length scope) (parameters scope rel) (length outputs)) rel)
+        (map (value_at env) (parameters scope rel) ++ (xs ++ zs)) ↔ Holds rel (env ++ ys)) s
+        (holds-at (level_in (length scope) (parameters scope rel) (length outputs)) (env ++ ys)
+        (map (value_at env) (parameters scope rel) ++ (xs ++ (ys ++ []))) rel
+        (λ x e. value_from (map (value_at env) (parameters scope rel) ++ (xs ++ (ys ++ []))) (env ++ ys)
+        (level_in (length scope) (parameters scope rel) (length outputs) x) x
+        (at_level (number (pos 0)) env xs ys [] (parameters scope rel) (length scope) (length outputs) x n (λ l. has_parameter scope rel x l e)
+        (let w = within x e in omega arith) k)))
 
     pub twice_solved : Holds (twice scope outputs rel) (map (value_at env) (parameters scope rel) ++ (xs ++ ys)) → Holds rel (env ++ xs) × Holds rel (env ++ ys)
     twice_solved h = (first_holds.0 h.0, second_holds.0 h.1.0)
@@ -238,7 +255,13 @@ module _ (scope outputs : List Base) (rel : RelTree) (typed : IsTyped (scope ++ 
         (stand_behind (map (value_at env) (parameters scope rel)) xs ys n l)
         (copy_behind (map (value_at env) (parameters scope rel)) xs ys (n + length outputs) (omega arith))) [
           | inl e ↦ inl e
-          | inr s ↦ inr (first_holds.1 p, (second_holds.1 q, (some_halves (map (value_at env) (parameters scope rel) ++ (xs ++ ys)) (others outputs n (n + length outputs))).1 s))
+          | inr s ↦ inr (
+            first_holds.1 p,
+            (
+              second_holds.1 q,
+              (some_halves (map (value_at env) (parameters scope rel) ++ (xs ++ ys)) (others outputs n (n + length outputs))).1 s,
+            ),
+          )
         ]
 
   -- a solution of the question has two different lists of outputs

@@ -45,7 +45,8 @@ three-peak = refl
 three-verdict : IsUniqueness [] (Int ∷ []) three Unique
 three-verdict = (
   record { within = three-limit; fits = subst (λ n. n ≤ 2 ^ 127 - 1) (sym three-peak) (omega arith) },
-  unique [] (Int ∷ []) three (refl, omega arith) one_output (question_none (twice_outputs [] (Int ∷ []) three) (twice [] (Int ∷ []) three) 1 three-unrefused three-run),
+  unique [] (Int ∷ []) three (refl, omega arith) one_output
+      (question_none (twice_outputs [] (Int ∷ []) three) (twice [] (Int ∷ []) three) 1 three-unrefused three-run),
 )
 
 -- ---- from -1 on there are -1 and 0

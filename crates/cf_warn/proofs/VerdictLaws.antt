@@ -32,14 +32,16 @@ pub question_chosen : (outputs : List Base) (rel : RelTree) → IsUnrefused [] o
 question_chosen outputs rel u =
     solve_chosen 1 [] outputs rel (arms_of (arms [] outputs rel)) (unrefused_solve [] outputs rel u).1 (unrefused_typed [] outputs rel u) [] tt
 
-pub question_solution : (outputs : List Base) (rel : RelTree) (vs : List Value) → IsUnrefused [] outputs rel → means (question_code outputs rel) [] ≡ values vs → Sol outputs rel [] vs
+pub question_solution : (outputs : List Base) (rel : RelTree) (vs : List Value) → IsUnrefused [] outputs rel →
+    means (question_code outputs rel) [] ≡ values vs → Sol outputs rel [] vs
 question_solution outputs rel vs u e = subst (Chosen 1 (Sol outputs rel [])) e (question_chosen outputs rel u)
 
 pub question_none : (outputs : List Base) (rel : RelTree) (n : ℕ) → IsUnrefused [] outputs rel → means (question_code outputs rel) [] ≡ no_solution n →
     (vs : List Value) → Sol outputs rel [] vs → ⊥
 question_none outputs rel n u e = (subst (Chosen 1 (Sol outputs rel [])) e (question_chosen outputs rel u)).1
 
-pub solution_asked : (outputs : List Base) (rel : RelTree) (code : CodeTree) (vs : List RunValue) → IsUnrefused [] outputs rel → code ≡ question_code outputs rel →
+pub solution_asked : (outputs : List Base) (rel : RelTree) (code : CodeTree) (vs : List RunValue) → IsUnrefused [] outputs rel →
+    code ≡ question_code outputs rel →
     means code [] ≡ values (plains vs) → peak code [] ≤ 2 ^ 127 - 1 →
     IsClear outputs rel × (means (question_code outputs rel) [] ≡ values (plains vs)) × Sol outputs rel [] (plains vs)
 solution_asked outputs rel code vs u same m p =
@@ -60,7 +62,8 @@ have_split [] cs (v ∷ vs) ws e h = absurd (omega arith)
 have_split (b ∷ bs) cs [] ws e h = absurd (omega arith)
 have_split (b ∷ bs) cs (v ∷ vs) ws e h = let r = have_split bs cs vs ws (omega arith) h.1 in ((h.0, r.0), r.1)
 
-plains_cut : (n k : ℕ) (vs sample first second : List RunValue) → IsCut n k vs sample first second → plains vs ≡ plains sample ++ (plains first ++ plains second)
+plains_cut : (n k : ℕ) (vs sample first second : List RunValue) → IsCut n k vs sample first second →
+    plains vs ≡ plains sample ++ (plains first ++ plains second)
 plains_cut n k vs sample first second c =
     ap plains c.whole ∙ map-append plain sample (first ++ second) ∙ ap (λ ws. plains sample ++ ws) (map-append plain first second)
 
@@ -124,6 +127,10 @@ module _ (scope outputs : List Base) (rel : RelTree) (typed : IsTyped (scope ++ 
       IfOk r (IsTwoOf n k vs) → IfOk r (IsUniqueness scope outputs rel)
   two_verdict n k vs (Err e) same long s t = tt
   two_verdict n k vs (Ok Unique) same long s t = absurd t
-  two_verdict n k vs (Ok (Two sample first second)) same long s t =
-      (s.0, s.1 ∙ ap (λ ws. values ws) (plains_cut n k vs sample.items first.items second.items t), two n k vs sample.items first.items second.items same long t s.2)
+  two_verdict n k vs (Ok (Two sample first second)) same long s t = (
+    s.0,
+    s.1 ∙ ap (λ ws. values ws) (plains_cut n k vs sample.items first.items second.items t),
+    two n k vs sample.items first.items second.items same long t
+        s.2,
+  )
   two_verdict n k vs (Ok (Undecided d)) same long s t = absurd t

@@ -60,7 +60,8 @@ abbrev pub IsUniqueness : List Base → List Base → RelTree → UniquenessAnsw
 IsUniqueness scope outputs rel Unique = IsClear (twice_outputs scope outputs rel) (twice scope outputs rel) × AreUnique scope outputs rel
 IsUniqueness scope outputs rel (Two sample first second) =
     IsClear (twice_outputs scope outputs rel) (twice scope outputs rel)
-    × (means (question_code (twice_outputs scope outputs rel) (twice scope outputs rel)) [] ≡ values (plains sample.items ++ (plains first.items ++ plains second.items)))
+    × (means (question_code (twice_outputs scope outputs rel) (twice scope outputs rel)) [] ≡ values
+    (plains sample.items ++ (plains first.items ++ plains second.items)))
     × AreTwo scope outputs rel (plains sample.items) (plains first.items) (plains second.items)
 IsUniqueness scope outputs rel (Undecided d) = IsDoubt (twice_outputs scope outputs rel) (twice scope outputs rel) d
 

@@ -59,7 +59,8 @@ fn many(tuples: u64) -> Doubt
 // What the question answers.
 fn ask_written(alloc: Global, solved: &Solved, params: &[u32]) -> Result<Asked, NoMemory>
     requires { params.now ≡ parameters solved.now.scope.items (rel_tree solved.now.rel) }
-    ensures { IfOk result (IsAsked (none_outputs solved.now.scope.items solved.now.outputs.items (rel_tree solved.now.rel)) (none solved.now.scope.items solved.now.outputs.items (rel_tree solved.now.rel))) }
+    ensures { IfOk result (IsAsked (none_outputs solved.now.scope.items solved.now.outputs.items (rel_tree solved.now.rel))
+        (none solved.now.scope.items solved.now.outputs.items (rel_tree solved.now.rel))) }
 {
     let question = none(alloc, solved, params)?;
     match ask_none(alloc, solved, &question.outputs, &question.rel) {
@@ -73,8 +74,10 @@ fn ask_written(alloc: Global, solved: &Solved, params: &[u32]) -> Result<Asked, 
 fn ask_none(alloc: Global, solved: &Solved, outputs: &[Base], rel: &Rel) -> Result<Asked, NoMemory>
     requires outputs { outputs.now ≡ none_outputs solved.now.scope.items solved.now.outputs.items (rel_tree solved.now.rel) }
     requires rel { rel_tree rel.now ≡ none solved.now.scope.items solved.now.outputs.items (rel_tree solved.now.rel) }
-    ensures { IfOk result (IsAsked (none_outputs solved.now.scope.items solved.now.outputs.items (rel_tree solved.now.rel)) (none solved.now.scope.items solved.now.outputs.items (rel_tree solved.now.rel))) }
+    ensures { IfOk result (IsAsked (none_outputs solved.now.scope.items solved.now.outputs.items (rel_tree solved.now.rel))
+        (none solved.now.scope.items solved.now.outputs.items (rel_tree solved.now.rel))) }
 {
+    // for the proof: the outputs are named by the clauses
     let _ = solved.outputs();
     ask(alloc, outputs, rel)
 }
@@ -84,9 +87,11 @@ fn ask_none(alloc: Global, solved: &Solved, outputs: &[Base], rel: &Rel) -> Resu
 fn answer(solved: &Solved, count: usize, asked: Asked) -> Result<ExistenceAnswer, NoMemory>
     requires count { count ≡ length (parameters solved.now.scope.items (rel_tree solved.now.rel)) }
     requires few { tuple_count solved.now.scope.items solved.now.outputs.items (rel_tree solved.now.rel) ≤ MOST_TUPLES }
-    requires asked { IsAsked (none_outputs solved.now.scope.items solved.now.outputs.items (rel_tree solved.now.rel)) (none solved.now.scope.items solved.now.outputs.items (rel_tree solved.now.rel)) asked }
+    requires asked { IsAsked (none_outputs solved.now.scope.items solved.now.outputs.items (rel_tree solved.now.rel))
+        (none solved.now.scope.items solved.now.outputs.items (rel_tree solved.now.rel)) asked }
     ensures { IfOk result (IsExistence solved.now.scope.items solved.now.outputs.items (rel_tree solved.now.rel)) }
 {
+    // for the proof: the outputs are named by the clauses
     let _ = solved.outputs();
     match asked {
         Asked::Solution(values) => missing(values, count),

@@ -37,7 +37,8 @@ pub(crate) fn none(alloc: Global, solved: &Solved, params: &[u32]) -> Result<Que
 fn written(alloc: Global, solved: &Solved, params: &[u32]) -> Result<Draft, NoMemory>
     requires { params.now ≡ parameters solved.now.scope.items (rel_tree solved.now.rel) }
     ensures says { IfOk result (λ d. map rel_tree d.says.items ≡ all_say solved.now.scope.items solved.now.outputs.items (rel_tree solved.now.rel)) }
-    ensures level { IfOk result (λ d. d.level ≡ length params.now + lets_in (turns (traced solved.now.scope.items solved.now.outputs.items (rel_tree solved.now.rel)))) }
+    ensures level { IfOk result (λ d. d.level ≡ length params.now + lets_in
+        (turns (traced solved.now.scope.items solved.now.outputs.items (rel_tree solved.now.rel)))) }
 {
     let level = narrow(params.len())?;
     let first = first_forms(alloc, solved.layout(), params)?;

@@ -65,7 +65,8 @@ fn push_counts(
     params: &[u32],
 ) -> Result<(), NoMemory>
     requires { set_count (plain_layout layout.now) ≤ MOST_SETS }
-    ensures { OnOk result (map term_tree first.new.items ≡ map term_tree first.old.items ++ map (λ m. term_card (region_form (plain_layout layout.now) (λ x. place x params.now) m)) (masks (length layout.now.inputs.items))) }
+    ensures { OnOk result (map term_tree first.new.items ≡ map term_tree first.old.items ++ map
+        (λ m. term_card (region_form (plain_layout layout.now) (λ x. place x params.now) m)) (masks (length layout.now.inputs.items))) }
 {
     for mask in 1..layout.input_regions() {
         first.push(count(alloc, layout, params, mask)?)?;

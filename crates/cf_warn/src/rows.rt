@@ -92,7 +92,9 @@ pub(crate) fn high(
     g: i128,
     level: u32,
 ) -> Result<Rel, NoMemory>
-    ensures { IfOk result (λ r. rel_tree r ≡ is_nonneg (term_sub (term_add (term_add (term_neg (row_form (forms_of forms.now) row.now)) (term_mul (term_lit g) (term_var level))) (term_lit g)) (term_lit (pos 1)))) }
+    ensures { IfOk result (λ r. rel_tree r ≡ is_nonneg
+        (term_sub (term_add (term_add (term_neg (row_form (forms_of forms.now) row.now)) (term_mul (term_lit g) (term_var level))) (term_lit g))
+        (term_lit (pos 1)))) }
 {
     let value = negated(alloc, row_form(alloc, forms, row)?)?;
     let product = times(alloc, g, Term::Var(level))?;

@@ -31,7 +31,8 @@ pub fn uniqueness(alloc: Global, solved: &Solved) -> Result<UniquenessAnswer, No
 // What the question answers.
 fn ask_twice(alloc: Global, solved: &Solved, params: Vec<u32>) -> Result<Asked, NoMemory>
     requires { params.items ≡ parameters solved.now.scope.items (rel_tree solved.now.rel) }
-    ensures { IfOk result (IsAsked (twice_outputs solved.now.scope.items solved.now.outputs.items (rel_tree solved.now.rel)) (twice solved.now.scope.items solved.now.outputs.items (rel_tree solved.now.rel))) }
+    ensures { IfOk result (IsAsked (twice_outputs solved.now.scope.items solved.now.outputs.items (rel_tree solved.now.rel))
+        (twice solved.now.scope.items solved.now.outputs.items (rel_tree solved.now.rel))) }
 {
     let outputs = twice_outputs(alloc, solved, &params)?;
     let rel = twice(alloc, solved, params)?;
@@ -44,7 +45,8 @@ fn ask_twice(alloc: Global, solved: &Solved, params: Vec<u32>) -> Result<Asked, 
 // The verdict, where the question answers this.
 fn answer(solved: &Solved, count: usize, asked: Asked) -> Result<UniquenessAnswer, NoMemory>
     requires count { count ≡ length (parameters solved.now.scope.items (rel_tree solved.now.rel)) }
-    requires asked { IsAsked (twice_outputs solved.now.scope.items solved.now.outputs.items (rel_tree solved.now.rel)) (twice solved.now.scope.items solved.now.outputs.items (rel_tree solved.now.rel)) asked }
+    requires asked { IsAsked (twice_outputs solved.now.scope.items solved.now.outputs.items (rel_tree solved.now.rel))
+        (twice solved.now.scope.items solved.now.outputs.items (rel_tree solved.now.rel)) asked }
     ensures { IfOk result (IsUniqueness solved.now.scope.items solved.now.outputs.items (rel_tree solved.now.rel)) }
 {
     let outputs = solved.outputs().len();

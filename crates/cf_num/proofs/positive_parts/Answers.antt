@@ -28,14 +28,18 @@ returns-then-u-n-clause-n c =
     let k = Step-bounds _ _ _ _ _ _ _ _ _ c.last_step-last.ensures in
     let g_low = last_low _ _ _ _ _ _ _ _ _ c.requires.b_low refl c.last_step-last.ensures in
     let e = c.last_step-last.ensures.b_is in
-    rw (c.with_factors.ensures.n_is, c.with_factors.ensures.parts) (times_is c.last_step-last.result.n c.last_step-last.result.g c.args.b (to_z w128 c.last_step-last.result.n) (to_z w128 c.last_step-last.result.g) (omega (arith, ints)) (omega (arith, ints)) (omega arith))
+    rw (c.with_factors.ensures.n_is, c.with_factors.ensures.parts)
+    (times_is c.last_step-last.result.n c.last_step-last.result.g c.args.b (to_z w128 c.last_step-last.result.n) (to_z w128 c.last_step-last.result.g)
+    (omega (arith, ints)) (omega (arith, ints)) (omega arith))
 
 pub returns-then-u-n-clause-m : goal.returns-then-u-n-clause-m
 returns-then-u-n-clause-m c =
     let k = Step-bounds _ _ _ _ _ _ _ _ _ c.last_step-last.ensures in
     let g_low = last_low _ _ _ _ _ _ _ _ _ c.requires.b_low refl c.last_step-last.ensures in
     let e = c.last_step-last.ensures.a_is in
-    rw (c.with_factors.ensures.m_is, c.with_factors.ensures.parts) (times_is c.last_step-last.result.m c.last_step-last.result.g c.args.a (to_z w128 c.last_step-last.result.m) (to_z w128 c.last_step-last.result.g) (omega (arith, ints)) (omega (arith, ints)) (omega arith))
+    rw (c.with_factors.ensures.m_is, c.with_factors.ensures.parts)
+    (times_is c.last_step-last.result.m c.last_step-last.result.g c.args.a (to_z w128 c.last_step-last.result.m) (to_z w128 c.last_step-last.result.g)
+    (omega (arith, ints)) (omega (arith, ints)) (omega arith))
 
 pub returns-else-u-n-clause-parts : goal.returns-else-u-n-clause-parts
 returns-else-u-n-clause-parts c =
@@ -51,14 +55,18 @@ returns-else-u-n-clause-n c =
     let k = Step-bounds _ _ _ _ _ _ _ _ _ c.last_step-last.ensures in
     let g_low = last_low _ _ _ _ _ _ _ _ _ c.requires.b_low refl c.last_step-last.ensures in
     let e = c.last_step-last.ensures.b_is in
-    rw (c.with_factors-else-u-n.ensures.n_is, c.with_factors-else-u-n.ensures.parts) (times_is c.last_step-last.result.n c.last_step-last.result.g c.args.b (to_z w128 c.last_step-last.result.n) (to_z w128 c.last_step-last.result.g) (omega (arith, ints)) (omega (arith, ints)) (omega arith))
+    rw (c.with_factors-else-u-n.ensures.n_is, c.with_factors-else-u-n.ensures.parts)
+    (times_is c.last_step-last.result.n c.last_step-last.result.g c.args.b (to_z w128 c.last_step-last.result.n) (to_z w128 c.last_step-last.result.g)
+    (omega (arith, ints)) (omega (arith, ints)) (omega arith))
 
 pub returns-else-u-n-clause-m : goal.returns-else-u-n-clause-m
 returns-else-u-n-clause-m c =
     let k = Step-bounds _ _ _ _ _ _ _ _ _ c.last_step-last.ensures in
     let g_low = last_low _ _ _ _ _ _ _ _ _ c.requires.b_low refl c.last_step-last.ensures in
     let e = c.last_step-last.ensures.a_is in
-    rw (c.with_factors-else-u-n.ensures.m_is, c.with_factors-else-u-n.ensures.parts) (times_is c.last_step-last.result.m c.last_step-last.result.g c.args.a (to_z w128 c.last_step-last.result.m) (to_z w128 c.last_step-last.result.g) (omega (arith, ints)) (omega (arith, ints)) (omega arith))
+    rw (c.with_factors-else-u-n.ensures.m_is, c.with_factors-else-u-n.ensures.parts)
+    (times_is c.last_step-last.result.m c.last_step-last.result.g c.args.a (to_z w128 c.last_step-last.result.m) (to_z w128 c.last_step-last.result.g)
+    (omega (arith, ints)) (omega (arith, ints)) (omega arith))
 
 pub returns-then-u-eq0-clause-parts : goal.returns-then-u-eq0-clause-parts
 returns-then-u-eq0-clause-parts c =
@@ -74,14 +82,18 @@ returns-then-u-eq0-clause-n c =
     let k = Step-bounds _ _ _ _ _ _ _ _ _ c.last_step-last.ensures in
     let g_low = last_low _ _ _ _ _ _ _ _ _ c.requires.b_low refl c.last_step-last.ensures in
     let e = c.last_step-last.ensures.b_is in
-    rw (c.with_factors-then-u-eq0.ensures.n_is, c.with_factors-then-u-eq0.ensures.parts) (times_is c.last_step-last.result.n c.last_step-last.result.g c.args.b (to_z w128 c.last_step-last.result.n) (to_z w128 c.last_step-last.result.g) (omega (arith, ints)) (omega (arith, ints)) (omega arith))
+    rw (c.with_factors-then-u-eq0.ensures.n_is, c.with_factors-then-u-eq0.ensures.parts)
+    (times_is c.last_step-last.result.n c.last_step-last.result.g c.args.b (to_z w128 c.last_step-last.result.n) (to_z w128 c.last_step-last.result.g)
+    (omega (arith, ints)) (omega (arith, ints)) (omega arith))
 
 pub returns-then-u-eq0-clause-m : goal.returns-then-u-eq0-clause-m
 returns-then-u-eq0-clause-m c =
     let k = Step-bounds _ _ _ _ _ _ _ _ _ c.last_step-last.ensures in
     let g_low = last_low _ _ _ _ _ _ _ _ _ c.requires.b_low refl c.last_step-last.ensures in
     let e = c.last_step-last.ensures.a_is in
-    rw (c.with_factors-then-u-eq0.ensures.m_is, c.with_factors-then-u-eq0.ensures.parts) (times_is c.last_step-last.result.m c.last_step-last.result.g c.args.a (to_z w128 c.last_step-last.result.m) (to_z w128 c.last_step-last.result.g) (omega (arith, ints)) (omega (arith, ints)) (omega arith))
+    rw (c.with_factors-then-u-eq0.ensures.m_is, c.with_factors-then-u-eq0.ensures.parts)
+    (times_is c.last_step-last.result.m c.last_step-last.result.g c.args.a (to_z w128 c.last_step-last.result.m) (to_z w128 c.last_step-last.result.g)
+    (omega (arith, ints)) (omega (arith, ints)) (omega arith))
 
 pub returns-else-u-eq0-clause-parts : goal.returns-else-u-eq0-clause-parts
 returns-else-u-eq0-clause-parts c =
@@ -97,11 +109,15 @@ returns-else-u-eq0-clause-n c =
     let k = Step-bounds _ _ _ _ _ _ _ _ _ c.last_step-last.ensures in
     let g_low = last_low _ _ _ _ _ _ _ _ _ c.requires.b_low refl c.last_step-last.ensures in
     let e = c.last_step-last.ensures.b_is in
-    rw (c.with_factors-else-u-eq0.ensures.n_is, c.with_factors-else-u-eq0.ensures.parts) (times_is c.last_step-last.result.n c.last_step-last.result.g c.args.b (to_z w128 c.last_step-last.result.n) (to_z w128 c.last_step-last.result.g) (omega (arith, ints)) (omega (arith, ints)) (omega arith))
+    rw (c.with_factors-else-u-eq0.ensures.n_is, c.with_factors-else-u-eq0.ensures.parts)
+    (times_is c.last_step-last.result.n c.last_step-last.result.g c.args.b (to_z w128 c.last_step-last.result.n) (to_z w128 c.last_step-last.result.g)
+    (omega (arith, ints)) (omega (arith, ints)) (omega arith))
 
 pub returns-else-u-eq0-clause-m : goal.returns-else-u-eq0-clause-m
 returns-else-u-eq0-clause-m c =
     let k = Step-bounds _ _ _ _ _ _ _ _ _ c.last_step-last.ensures in
     let g_low = last_low _ _ _ _ _ _ _ _ _ c.requires.b_low refl c.last_step-last.ensures in
     let e = c.last_step-last.ensures.a_is in
-    rw (c.with_factors-else-u-eq0.ensures.m_is, c.with_factors-else-u-eq0.ensures.parts) (times_is c.last_step-last.result.m c.last_step-last.result.g c.args.a (to_z w128 c.last_step-last.result.m) (to_z w128 c.last_step-last.result.g) (omega (arith, ints)) (omega (arith, ints)) (omega arith))
+    rw (c.with_factors-else-u-eq0.ensures.m_is, c.with_factors-else-u-eq0.ensures.parts)
+    (times_is c.last_step-last.result.m c.last_step-last.result.g c.args.a (to_z w128 c.last_step-last.result.m) (to_z w128 c.last_step-last.result.g)
+    (omega (arith, ints)) (omega (arith, ints)) (omega arith))

@@ -7,5 +7,6 @@ use Rattle.cf_build.proofs.codes.+code.Given as goal
 
 abbrev pub invariant-all-loop-expr : goal.invariant-all-loop-expr
 invariant-all-loop-expr l =
-    (map code_tree l.all.items ≡ map (λ e. code_of (called (map code_tree l.codes)) (solved_in (map choose_code l.solves.codes.items)) l.n e) (map expr_tree (take l.expr-index l.exprs)))
+    (map code_tree l.all.items ≡ map (λ e. code_of (called (map code_tree l.codes)) (solved_in (map choose_code l.solves.codes.items)) l.n e)
+    (map expr_tree (take l.expr-index l.exprs)))
     × All (λ c. HasLevels (code_tree c)) l.all.items

@@ -18,5 +18,6 @@ returns-clause-target g c =
       params = refl;
       results = refl;
       untouched = c.rewrite_by_each.ensures.untouched;
-      better = subst (λ n. Improves n (code_tree c.args.raw.code) (code_tree c.rewrite_by_each.new.code)) (sym c.requires.outside) c.rewrite_by_each.ensures.code;
+      better = subst (λ n. Improves n (code_tree c.args.raw.code) (code_tree c.rewrite_by_each.new.code)) (sym c.requires.outside)
+          c.rewrite_by_each.ensures.code;
     })

@@ -9,7 +9,8 @@ invariant-shift_all-loop-code l =
 
 abbrev pub invariant-shift_items-loop-item : goal.invariant-shift_items-loop-item
 invariant-shift_items-loop-item l =
-    (map item_tree l.all.items ≡ map (λ i. item_shifted l.by i) (map item_tree (take l.item-index l.items))) × All (λ i. ItemHasLevels (item_tree i)) l.all.items
+    (map item_tree l.all.items ≡ map (λ i. item_shifted l.by i) (map item_tree (take l.item-index l.items))) ×
+    All (λ i. ItemHasLevels (item_tree i)) l.all.items
 
 abbrev pub invariant-shift_arms-loop-arm : goal.invariant-shift_arms-loop-arm
 invariant-shift_arms-loop-arm l =

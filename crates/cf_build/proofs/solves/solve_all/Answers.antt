@@ -16,7 +16,8 @@ pub returns : goal.returns
 returns c =
     let qs = all_questions (map def_tree c.args.typed.now.defs.items) in
     let same : map question_of c.deref.result.now ≡ by_number qs = ap (λ xs. map question_of xs) c.deref.ensures.value ∙ c.in_ok-chooses.ensures.questions in
-    let rising : IsRising (map question_of c.deref.result.now) = subst (λ xs. IsRising (map question_of xs)) (sym c.deref.ensures.value) c.in_ok-chooses.ensures.rising in
+    let rising : IsRising (map question_of c.deref.result.now) =
+    subst (λ xs. IsRising (map question_of xs)) (sym c.deref.ensures.value) c.in_ok-chooses.ensures.rising in
     record {
       solved = subst (λ ps. IfOk c.solve_each.result (λ ss. AreSolved ps ss.items)) same c.solve_each.ensures.solved;
       refused =

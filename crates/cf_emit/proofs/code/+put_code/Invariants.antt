@@ -4,7 +4,8 @@ use Rattle.cf_emit.specs.Printed.{arms_text, items_text, more_codes}
 use Rattle.cf_emit.proofs.code.+put_code.Given as goal
 
 abbrev pub invariant-put_more-loop-i : goal.invariant-put_more-loop-i
-invariant-put_more-loop-i l = l.out.items ++ more_codes l.separator (code_trees (drop l.i l.codes)) ≡ l.fn.out.items ++ more_codes l.separator (code_trees (drop 1 l.codes))
+invariant-put_more-loop-i l = l.out.items ++ more_codes l.separator (code_trees (drop l.i l.codes)) ≡ l.fn.out.items ++ more_codes l.separator
+    (code_trees (drop 1 l.codes))
 
 abbrev pub invariant-put_items-loop-item : goal.invariant-put_items-loop-item
 invariant-put_items-loop-item l = l.out.items ++ items_text (item_trees (drop l.item-index l.items)) ≡ l.fn.out.items ++ items_text (item_trees l.items)

@@ -4,7 +4,8 @@ use Rattle.cf_io.proofs.segments.first_ended.Goals as goal
 
 pub returns-in_ok-push-in-Some-clause-lines : goal.returns-in_ok-push-in-Some-clause-lines
 returns-in_ok-push-in-Some-clause-lines c = λ w k.
-    rw c.in_ok-push-in-Some.ensures.items (told_cut c.args.limit w c.args.piece.now c.in-Some.line.now c.in-Some.rest.now _ c.args.out.now.items (c.in-Some.ensures.lines w) (c.in_ok-line_text-in-Some.ensures w k))
+    rw c.in_ok-push-in-Some.ensures.items (told_cut c.args.limit w c.args.piece.now c.in-Some.line.now c.in-Some.rest.now _ c.args.out.now.items
+    (c.in-Some.ensures.lines w) (c.in_ok-line_text-in-Some.ensures w k))
 
 pub returns-in-None-clause-lines : goal.returns-in-None-clause-lines
 returns-in-None-clause-lines c = λ w k. rw (c.in-None.ensures.lines w) refl

@@ -10,6 +10,7 @@ use Rattle.cf_linear.proofs.columns.region_row.Given as goal
 abbrev pub invariant-loop-mask : goal.invariant-loop-mask
 invariant-loop-mask l = record {
   low : AreBelow (region_column (plain_layout l.layout) l.mask) l.out;
-  same : l.out ++ map (λ m. (region_column (plain_layout l.layout) m, pos 1)) (filter (covers (plain_layout l.layout) (set_tree l.set)) (range_with_len l.mask (l.end - l.mask)))
+  same : l.out ++ map (λ m. (region_column (plain_layout l.layout) m, pos 1))
+      (filter (covers (plain_layout l.layout) (set_tree l.set)) (range_with_len l.mask (l.end - l.mask)))
       ≡ region_row (plain_layout l.layout) (covers (plain_layout l.layout) (set_tree l.set));
 }

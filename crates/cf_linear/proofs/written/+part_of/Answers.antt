@@ -19,14 +19,16 @@ returns-in-Ok-clause-gives t c =
     let l = plain_layout c.args.layout.now in
     let p = rw c.deref-in-Add.ensures at c.in_ok-left-in-Add.ensures.gives in
     let q = rw (c.deref-in-Add-2.ensures, c.in-Ok.is) at c.part_of-in-Add-2.ensures.gives in
-    rw c.in-Add.is (two_gives _ _ _ _ _ _ _ p (λ x y. comb (pos 1) x (pos 1) y) (λ ss n. write l (term_tree c.in-Add.b.value) ss n) _ _ _ _ c.sum_of.result q c.sum_of.ensures)
+    rw c.in-Add.is (two_gives _ _ _ _ _ _ _ p (λ x y. comb (pos 1) x (pos 1) y) (λ ss n. write l (term_tree c.in-Add.b.value) ss n) _ _ _ _ c.sum_of.result q
+    c.sum_of.ensures)
 
 pub returns-in-Ok-part_of-clause-gives : goal.returns-in-Ok-part_of-clause-gives
 returns-in-Ok-part_of-clause-gives t c =
     let l = plain_layout c.args.layout.now in
     let p = rw c.deref-in-Sub.ensures at c.in_ok-left-in-Sub.ensures.gives in
     let q = rw (c.deref-in-Sub-2.ensures, c.in-Ok-part_of.is) at c.part_of-in-Sub-2.ensures.gives in
-    rw c.in-Sub.is (two_gives _ _ _ _ _ _ _ p (λ x y. comb (pos 1) x (negsuc 0) y) (λ ss n. write l (term_tree c.in-Sub.b.value) ss n) _ _ _ _ c.difference_of.result q c.difference_of.ensures)
+    rw c.in-Sub.is (two_gives _ _ _ _ _ _ _ p (λ x y. comb (pos 1) x (negsuc 0) y) (λ ss n. write l (term_tree c.in-Sub.b.value) ss n) _ _ _ _
+    c.difference_of.result q c.difference_of.ensures)
 
 pub returns-in-Ok-part_of-2-clause-gives : goal.returns-in-Ok-part_of-2-clause-gives
 returns-in-Ok-part_of-2-clause-gives t c =
@@ -34,7 +36,8 @@ returns-in-Ok-part_of-2-clause-gives t c =
     let p = rw c.deref-in-Mul.ensures at c.in_ok-left-in-Mul.ensures.gives in
     let q = rw (c.deref-in-Mul-2.ensures, c.in-Ok-part_of-2.is) at c.part_of-in-Mul-2.ensures.gives in
     let g = rw (c.is_fixed.ensures, c.deref-in-Ok-part_of-2.ensures) at c.product_of.ensures in
-    rw c.in-Mul.is (two_gives _ _ _ _ _ _ _ p (λ x y. product_by (is_fixed (term_tree c.in-Mul.a.value)) x y) (λ ss n. write l (term_tree c.in-Mul.b.value) ss n) _ _ _ _ c.product_of.result q g)
+    rw c.in-Mul.is (two_gives _ _ _ _ _ _ _ p (λ x y. product_by (is_fixed (term_tree c.in-Mul.a.value)) x y)
+    (λ ss n. write l (term_tree c.in-Mul.b.value) ss n) _ _ _ _ c.product_of.result q g)
 
 pub returns-in_ok-part-in-Div-clause-gives : goal.returns-in_ok-part-in-Div-clause-gives
 returns-in_ok-part-in-Div-clause-gives t c =

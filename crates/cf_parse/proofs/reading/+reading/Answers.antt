@@ -18,14 +18,16 @@ more-loop-preserved t c =
     let e_deep = c.in_ok-e-in-Some.ensures.deep in
     let before = c.loop.invariant.0 in (
       omega (arith, deep, e_deep, before),
-      more_next snoc (read c.args.n Whole) _ _ _ _ _ _ _ _ _ _ _ _ c.in-Some.ensures c.in_ok-e-in-Some.ensures.value (omega arith) (ok_same _ _ _ refl c.in_ok-done-in-Some.ensures.value) c.loop.invariant.1,
+      more_next snoc (read c.args.n Whole) _ _ _ _ _ _ _ _ _ _ _ _ c.in-Some.ensures c.in_ok-e-in-Some.ensures.value (omega arith)
+          (ok_same _ _ _ refl c.in_ok-done-in-Some.ensures.value) c.loop.invariant.1,
     )
 
 pub more_arms-returns-in_err-x-in-Some-clause-value : goal.more_arms-returns-in_err-x-in-Some-clause-value
 unfolding others_of
 more_arms-returns-in_err-x-in-Some-clause-value t c =
     let p = err_from_is_err_and c.from_residual.result c.from_residual.ensures.1 in
-    rw (p.1, p.2, ← c.loop.invariant.1) (more_fails snoc (arm_of (read c.args.n)) _ _ _ _ _ _ _ _ c.in-Some.ensures c.in_err-x-in-Some.ensures.value (omega arith))
+    rw (p.1, p.2, ← c.loop.invariant.1) (more_fails snoc (arm_of (read c.args.n)) _ _ _ _ _ _ _ _ c.in-Some.ensures c.in_err-x-in-Some.ensures.value
+    (omega arith))
 
 pub more_arms-loop-preserved : goal.more_arms-loop-preserved
 more_arms-loop-preserved t c =
@@ -33,5 +35,6 @@ more_arms-loop-preserved t c =
     let e_deep = c.in_ok-x-in-Some.ensures.deep in
     let before = c.loop.invariant.0 in (
       omega (arith, deep, e_deep, before),
-      more_next snoc (arm_of (read c.args.n)) _ _ _ _ _ _ _ _ _ _ _ _ c.in-Some.ensures c.in_ok-x-in-Some.ensures.value (omega arith) (ok_same _ _ _ refl c.in_ok-done-in-Some.ensures.value) c.loop.invariant.1,
+      more_next snoc (arm_of (read c.args.n)) _ _ _ _ _ _ _ _ _ _ _ _ c.in-Some.ensures c.in_ok-x-in-Some.ensures.value (omega arith)
+          (ok_same _ _ _ refl c.in_ok-done-in-Some.ensures.value) c.loop.invariant.1,
     )

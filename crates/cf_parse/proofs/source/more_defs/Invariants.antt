@@ -5,4 +5,5 @@ use Rattle.cf_parse.proofs.source.more_defs.Given as goal
 
 abbrev pub invariant-loop : goal.invariant-loop
 invariant-loop l =
-    defs_of l.limit (length l.fn.tokens - l.counter) (map raw_def_tree l.done.items) l.rest ≡ defs_of l.limit (length l.fn.tokens) (map raw_def_tree l.fn.first.items) l.fn.tokens
+    defs_of l.limit (length l.fn.tokens - l.counter) (map raw_def_tree l.done.items) l.rest ≡ defs_of l.limit (length l.fn.tokens)
+    (map raw_def_tree l.fn.first.items) l.fn.tokens

@@ -9,7 +9,15 @@ overflow_sub-result c =
     let before : c.len-before.result ≡ length c.args.arms.now.items = search rules in
     let after : c.len.result ≡ length c.keep_live.new.arms.items = search rules in
     let left = ap arm_count c.keep_live.ensures in
-    omega (arith, before, after, left, as_many_arms c.args.arms.now.items, as_many_arms c.keep_live.new.arms.items, left_fewer (arm_trees c.args.arms.now.items))
+    omega (
+      arith,
+      before,
+      after,
+      left,
+      as_many_arms c.args.arms.now.items,
+      as_many_arms c.keep_live.new.arms.items,
+      left_fewer (arm_trees c.args.arms.now.items),
+    )
 
 pub returns-clause-removed : goal.returns-clause-removed
 returns-clause-removed c =

@@ -9,7 +9,8 @@ pub loop-arm-preserved : goal.loop-arm-preserved
 loop-arm-preserved c =
     let inside : c.loop-arm.arm-index < length c.loop-arm.arm-items = omega (arith, c.loop-arm-test.true) in
     let next : suc c.loop-arm.arm-index ≡ c.loop-arm.arm-index + 1 = omega arith in
-    let a = arms_on _ c.loop-arm.arm-items c.loop-arm.arm-index c.arm-item.result c.drop_in_arm.new.arm c.loop-arm.invariant.arms inside c.drop_in_arm.ensures.arm in
+    let a = arms_on _ c.loop-arm.arm-items c.loop-arm.arm-index c.arm-item.result c.drop_in_arm.new.arm c.loop-arm.invariant.arms inside
+    c.drop_in_arm.ensures.arm in
     let n = needs_on _ c.loop-arm.arm-items c.loop-arm.arm-index c.arm-item.result c.loop-arm.invariant.arms inside in
     let s : c.saturating_add-removed.result ≡ capped (c.loop-arm.removed + c.drop_in_arm.result) = search rules in
     let r : c.saturating_add-removed.result ≡ capped (needs_to (suc c.loop-arm.arm-index) (arm_trees c.args.arms.now.items)) =
@@ -24,11 +25,13 @@ returns-clause-arms c =
     let at_end : c.loop-arm.arm-index ≡ length c.loop-arm.arm-items = omega (arith, c.loop-arm-test.false, c.loop-arm.auto.arm-index-end) in
     let as_long : length c.loop-arm.arm-items ≡ length c.args.arms.now.items = search rules in
     let whole = all_taken c.loop-arm.arm-items c.args.arms.now.items as_long in
-    let all = arms_all _ c.loop-arm.arm-items (subst (λ i. arm_trees c.loop-arm.arm-items ≡ arms_to i (arm_trees c.args.arms.now.items)) at_end c.loop-arm.invariant.arms) in
+    let all = arms_all _ c.loop-arm.arm-items
+    (subst (λ i. arm_trees c.loop-arm.arm-items ≡ arms_to i (arm_trees c.args.arms.now.items)) at_end c.loop-arm.invariant.arms) in
     search (rules, whole, all)
 
 pub returns-clause-removed : goal.returns-clause-removed
 returns-clause-removed c =
     let at_end : c.loop-arm.arm-index ≡ length c.loop-arm.arm-items = omega (arith, c.loop-arm-test.false, c.loop-arm.auto.arm-index-end) in
-    let all = needs_all _ c.loop-arm.arm-items (subst (λ i. arm_trees c.loop-arm.arm-items ≡ arms_to i (arm_trees c.args.arms.now.items)) at_end c.loop-arm.invariant.arms) in
+    let all = needs_all _ c.loop-arm.arm-items
+    (subst (λ i. arm_trees c.loop-arm.arm-items ≡ arms_to i (arm_trees c.args.arms.now.items)) at_end c.loop-arm.invariant.arms) in
     c.loop-arm.invariant.removed ∙ ap (λ i. capped (needs_to i (arm_trees c.args.arms.now.items))) at_end ∙ ap capped all

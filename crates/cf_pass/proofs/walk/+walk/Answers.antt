@@ -14,97 +14,116 @@ use Rattle.cf_pass.proofs.walk.+walk.Goals as goal
 
 pub walk-returns-in-Let : goal.walk-returns-in-Let
 walk-returns-in-Let g t c =
-    over_binding g.R.Rule.made g.R.Rule.units c.args.outside _ _ _ _ _ _ _ _ _ c.walk-so_far.ensures c.walk_behind-so_far.ensures c.finish.ensures (let_tree _ _ _ _)
+    over_binding g.R.Rule.made g.R.Rule.units c.args.outside _ _ _ _ _ _ _ _ _ c.walk-so_far.ensures c.walk_behind-so_far.ensures c.finish.ensures
+    (let_tree _ _ _ _)
     (search (rules, the_lemmas))
 
 pub walk-returns-in-Solve : goal.walk-returns-in-Solve
 walk-returns-in-Solve g t c =
-    over_arms g.R.Rule.made g.R.Rule.units c.args.outside c.in-Solve.number _ _ _ _ _ c.walk_arms-so_far.ensures c.finish-in-Solve.ensures (search (rules, the_lemmas))
+    over_arms g.R.Rule.made g.R.Rule.units c.args.outside c.in-Solve.number _ _ _ _ _ c.walk_arms-so_far.ensures c.finish-in-Solve.ensures
+    (search (rules, the_lemmas))
     (search (rules, the_lemmas))
 
 pub walk-returns-in-SetOf : goal.walk-returns-in-SetOf
 walk-returns-in-SetOf g t c =
-    over_list g.R.Rule.made g.R.Rule.units c.args.outside code_set_of (set_of_over g.R.Rule.made g.R.Rule.units c.args.outside) _ _ _ _ _ c.walk_all-so_far.ensures c.finish-in-SetOf.ensures
+    over_list g.R.Rule.made g.R.Rule.units c.args.outside code_set_of (set_of_over g.R.Rule.made g.R.Rule.units c.args.outside) _ _ _ _ _
+    c.walk_all-so_far.ensures c.finish-in-SetOf.ensures
     (search (rules, the_lemmas)) (search (rules, the_lemmas))
 
 pub walk-returns-in-Tuple : goal.walk-returns-in-Tuple
 walk-returns-in-Tuple g t c =
-    over_list g.R.Rule.made g.R.Rule.units c.args.outside code_tuple (tuple_over g.R.Rule.made g.R.Rule.units c.args.outside) _ _ _ _ _ c.walk_all-so_far-in-Tuple.ensures c.finish-in-Tuple.ensures
+    over_list g.R.Rule.made g.R.Rule.units c.args.outside code_tuple (tuple_over g.R.Rule.made g.R.Rule.units c.args.outside) _ _ _ _ _
+    c.walk_all-so_far-in-Tuple.ensures c.finish-in-Tuple.ensures
     (search (rules, the_lemmas)) (search (rules, the_lemmas))
 
 pub walk-returns-in-Sum : goal.walk-returns-in-Sum
 walk-returns-in-Sum g t c =
-    over_list g.R.Rule.made g.R.Rule.units c.args.outside code_sum (sum_over g.R.Rule.made g.R.Rule.units c.args.outside) _ _ _ _ _ c.walk_all-so_far-in-Sum.ensures c.finish-in-Sum.ensures
+    over_list g.R.Rule.made g.R.Rule.units c.args.outside code_sum (sum_over g.R.Rule.made g.R.Rule.units c.args.outside) _ _ _ _ _
+    c.walk_all-so_far-in-Sum.ensures c.finish-in-Sum.ensures
     (search (rules, the_lemmas)) (search (rules, the_lemmas))
 
 pub walk-returns-in-Min : goal.walk-returns-in-Min
 walk-returns-in-Min g t c =
-    over_list g.R.Rule.made g.R.Rule.units c.args.outside code_min (min_over g.R.Rule.made g.R.Rule.units c.args.outside) _ _ _ _ _ c.walk_all-so_far-in-Min.ensures c.finish-in-Min.ensures
+    over_list g.R.Rule.made g.R.Rule.units c.args.outside code_min (min_over g.R.Rule.made g.R.Rule.units c.args.outside) _ _ _ _ _
+    c.walk_all-so_far-in-Min.ensures c.finish-in-Min.ensures
     (search (rules, the_lemmas)) (search (rules, the_lemmas))
 
 pub walk-returns-in-Max : goal.walk-returns-in-Max
 walk-returns-in-Max g t c =
-    over_list g.R.Rule.made g.R.Rule.units c.args.outside code_max (max_over g.R.Rule.made g.R.Rule.units c.args.outside) _ _ _ _ _ c.walk_all-so_far-in-Max.ensures c.finish-in-Max.ensures
+    over_list g.R.Rule.made g.R.Rule.units c.args.outside code_max (max_over g.R.Rule.made g.R.Rule.units c.args.outside) _ _ _ _ _
+    c.walk_all-so_far-in-Max.ensures c.finish-in-Max.ensures
     (search (rules, the_lemmas)) (search (rules, the_lemmas))
 
 pub walk-returns-in-Union : goal.walk-returns-in-Union
 walk-returns-in-Union g t c =
-    over_list g.R.Rule.made g.R.Rule.units c.args.outside code_union (union_over g.R.Rule.made g.R.Rule.units c.args.outside) _ _ _ _ _ c.walk_all-so_far-in-Union.ensures c.finish-in-Union.ensures
+    over_list g.R.Rule.made g.R.Rule.units c.args.outside code_union (union_over g.R.Rule.made g.R.Rule.units c.args.outside) _ _ _ _ _
+    c.walk_all-so_far-in-Union.ensures c.finish-in-Union.ensures
     (search (rules, the_lemmas)) (search (rules, the_lemmas))
 
 pub walk-returns-in-Inter : goal.walk-returns-in-Inter
 walk-returns-in-Inter g t c =
-    over_list g.R.Rule.made g.R.Rule.units c.args.outside code_inter (inter_over g.R.Rule.made g.R.Rule.units c.args.outside) _ _ _ _ _ c.walk_all-so_far-in-Inter.ensures c.finish-in-Inter.ensures
+    over_list g.R.Rule.made g.R.Rule.units c.args.outside code_inter (inter_over g.R.Rule.made g.R.Rule.units c.args.outside) _ _ _ _ _
+    c.walk_all-so_far-in-Inter.ensures c.finish-in-Inter.ensures
     (search (rules, the_lemmas)) (search (rules, the_lemmas))
 
 pub walk-returns-in-Sub : goal.walk-returns-in-Sub
 walk-returns-in-Sub g t c =
-    over_two g.R.Rule.made g.R.Rule.units c.args.outside code_sub (sub_over g.R.Rule.made g.R.Rule.units c.args.outside) _ _ _ _ _ _ _ c.walk-so_far-in-Sub.ensures c.walk-so_far-in-Sub-2.ensures
+    over_two g.R.Rule.made g.R.Rule.units c.args.outside code_sub (sub_over g.R.Rule.made g.R.Rule.units c.args.outside) _ _ _ _ _ _ _
+    c.walk-so_far-in-Sub.ensures c.walk-so_far-in-Sub-2.ensures
     c.finish-in-Sub.ensures (sub_tree _ _) (search (rules, the_lemmas))
 
 pub walk-returns-in-Mul : goal.walk-returns-in-Mul
 walk-returns-in-Mul g t c =
-    over_two g.R.Rule.made g.R.Rule.units c.args.outside code_mul (mul_over g.R.Rule.made g.R.Rule.units c.args.outside) _ _ _ _ _ _ _ c.walk-so_far-in-Mul.ensures c.walk-so_far-in-Mul-2.ensures
+    over_two g.R.Rule.made g.R.Rule.units c.args.outside code_mul (mul_over g.R.Rule.made g.R.Rule.units c.args.outside) _ _ _ _ _ _ _
+    c.walk-so_far-in-Mul.ensures c.walk-so_far-in-Mul-2.ensures
     c.finish-in-Mul.ensures (mul_tree _ _) (search (rules, the_lemmas))
 
 pub walk-returns-in-Diff : goal.walk-returns-in-Diff
 walk-returns-in-Diff g t c =
-    over_two g.R.Rule.made g.R.Rule.units c.args.outside code_diff (diff_over g.R.Rule.made g.R.Rule.units c.args.outside) _ _ _ _ _ _ _ c.walk-so_far-in-Diff.ensures c.walk-so_far-in-Diff-2.ensures
+    over_two g.R.Rule.made g.R.Rule.units c.args.outside code_diff (diff_over g.R.Rule.made g.R.Rule.units c.args.outside) _ _ _ _ _ _ _
+    c.walk-so_far-in-Diff.ensures c.walk-so_far-in-Diff-2.ensures
     c.finish-in-Diff.ensures (diff_tree _ _) (search (rules, the_lemmas))
 
 pub walk-returns-in-Subset : goal.walk-returns-in-Subset
 walk-returns-in-Subset g t c =
-    over_two g.R.Rule.made g.R.Rule.units c.args.outside code_subset (subset_over g.R.Rule.made g.R.Rule.units c.args.outside) _ _ _ _ _ _ _ c.walk-so_far-in-Subset.ensures c.walk-so_far-in-Subset-2.ensures
+    over_two g.R.Rule.made g.R.Rule.units c.args.outside code_subset (subset_over g.R.Rule.made g.R.Rule.units c.args.outside) _ _ _ _ _ _ _
+    c.walk-so_far-in-Subset.ensures c.walk-so_far-in-Subset-2.ensures
     c.finish-in-Subset.ensures (subset_tree _ _) (search (rules, the_lemmas))
 
 pub walk-returns-in-Fresh : goal.walk-returns-in-Fresh
 walk-returns-in-Fresh g t c =
-    over_two g.R.Rule.made g.R.Rule.units c.args.outside code_fresh (fresh_over g.R.Rule.made g.R.Rule.units c.args.outside) _ _ _ _ _ _ _ c.walk-so_far-in-Fresh.ensures c.walk-so_far-in-Fresh-2.ensures
+    over_two g.R.Rule.made g.R.Rule.units c.args.outside code_fresh (fresh_over g.R.Rule.made g.R.Rule.units c.args.outside) _ _ _ _ _ _ _
+    c.walk-so_far-in-Fresh.ensures c.walk-so_far-in-Fresh-2.ensures
     c.finish-in-Fresh.ensures (fresh_tree _ _) (search (rules, the_lemmas))
 
 pub walk-returns-in-And : goal.walk-returns-in-And
 walk-returns-in-And g t c =
-    over_two g.R.Rule.made g.R.Rule.units c.args.outside code_and (and_over g.R.Rule.made g.R.Rule.units c.args.outside) _ _ _ _ _ _ _ c.walk-so_far-in-And.ensures c.walk-so_far-in-And-2.ensures
+    over_two g.R.Rule.made g.R.Rule.units c.args.outside code_and (and_over g.R.Rule.made g.R.Rule.units c.args.outside) _ _ _ _ _ _ _
+    c.walk-so_far-in-And.ensures c.walk-so_far-in-And-2.ensures
     c.finish-in-And.ensures (and_tree _ _) (search (rules, the_lemmas))
 
 pub walk-returns-in-Or : goal.walk-returns-in-Or
 walk-returns-in-Or g t c =
-    over_two g.R.Rule.made g.R.Rule.units c.args.outside code_or (or_over g.R.Rule.made g.R.Rule.units c.args.outside) _ _ _ _ _ _ _ c.walk-so_far-in-Or.ensures c.walk-so_far-in-Or-2.ensures
+    over_two g.R.Rule.made g.R.Rule.units c.args.outside code_or (or_over g.R.Rule.made g.R.Rule.units c.args.outside) _ _ _ _ _ _ _ c.walk-so_far-in-Or.ensures
+    c.walk-so_far-in-Or-2.ensures
     c.finish-in-Or.ensures (or_tree _ _) (search (rules, the_lemmas))
 
 pub walk-returns-in-Neg : goal.walk-returns-in-Neg
 walk-returns-in-Neg g t c =
-    over_one g.R.Rule.made g.R.Rule.units c.args.outside code_neg (neg_over g.R.Rule.made g.R.Rule.units c.args.outside) _ _ _ _ _ c.walk_part-so_far.ensures c.finish-in-Neg.ensures
+    over_one g.R.Rule.made g.R.Rule.units c.args.outside code_neg (neg_over g.R.Rule.made g.R.Rule.units c.args.outside) _ _ _ _ _ c.walk_part-so_far.ensures
+    c.finish-in-Neg.ensures
     (search (rules, the_lemmas)) (search (rules, the_lemmas))
 
 pub walk-returns-in-Not : goal.walk-returns-in-Not
 walk-returns-in-Not g t c =
-    over_one g.R.Rule.made g.R.Rule.units c.args.outside code_not (not_over g.R.Rule.made g.R.Rule.units c.args.outside) _ _ _ _ _ c.walk_part-so_far-in-Not.ensures c.finish-in-Not.ensures
+    over_one g.R.Rule.made g.R.Rule.units c.args.outside code_not (not_over g.R.Rule.made g.R.Rule.units c.args.outside) _ _ _ _ _
+    c.walk_part-so_far-in-Not.ensures c.finish-in-Not.ensures
     (search (rules, the_lemmas)) (search (rules, the_lemmas))
 
 pub walk-returns-in-Card : goal.walk-returns-in-Card
 walk-returns-in-Card g t c =
-    over_one g.R.Rule.made g.R.Rule.units c.args.outside code_card (card_over g.R.Rule.made g.R.Rule.units c.args.outside) _ _ _ _ _ c.walk_part-so_far-in-Card.ensures c.finish-in-Card.ensures
+    over_one g.R.Rule.made g.R.Rule.units c.args.outside code_card (card_over g.R.Rule.made g.R.Rule.units c.args.outside) _ _ _ _ _
+    c.walk_part-so_far-in-Card.ensures c.finish-in-Card.ensures
     (search (rules, the_lemmas)) (search (rules, the_lemmas))
 
 pub walk-returns-in-Div : goal.walk-returns-in-Div
@@ -132,25 +151,31 @@ walk-returns-in-Slice g t c =
     let part1 = ap code_tree (c.deref_mut-in-Slice.ensures.value ∙ ap (λ b. b.value) c.in-Slice.set-is) in
     let part2 = ap code_tree (c.deref_mut-in-Slice-2.ensures.value ∙ ap (λ b. b.value) c.in-Slice.from-is) in
     let part3 = ap code_tree (c.deref_mut-in-Slice-3.ensures.value ∙ ap (λ b. b.value) c.in-Slice.n-is) in
-    over_three g.R.Rule.made g.R.Rule.units c.args.outside code_slice (slice_over g.R.Rule.made g.R.Rule.units c.args.outside) _ _ _ _ _ _ _ _ _ c.walk-so_far-in-Slice.ensures c.walk-so_far-in-Slice-2.ensures
-    c.walk-so_far-in-Slice-3.ensures c.finish-in-Slice.ensures (slice_tree _ _ _) (ap code_tree c.in-Slice.is ∙ slice_tree _ _ _ ∙ sym (three_same code_slice part1 part2 part3))
+    over_three g.R.Rule.made g.R.Rule.units c.args.outside code_slice (slice_over g.R.Rule.made g.R.Rule.units c.args.outside) _ _ _ _ _ _ _ _ _
+    c.walk-so_far-in-Slice.ensures c.walk-so_far-in-Slice-2.ensures
+    c.walk-so_far-in-Slice-3.ensures c.finish-in-Slice.ensures (slice_tree _ _ _)
+    (ap code_tree c.in-Slice.is ∙ slice_tree _ _ _ ∙ sym (three_same code_slice part1 part2 part3))
 
 pub walk-returns-in-If : goal.walk-returns-in-If
 walk-returns-in-If g t c =
     let part1 = ap code_tree (c.deref_mut-in-If.ensures.value ∙ ap (λ b. b.value) c.in-If.test-is) in
     let part2 = ap code_tree (c.deref_mut-in-If-2.ensures.value ∙ ap (λ b. b.value) c.in-If.yes-is) in
     let part3 = ap code_tree (c.deref_mut-in-If-3.ensures.value ∙ ap (λ b. b.value) c.in-If.no-is) in
-    over_three g.R.Rule.made g.R.Rule.units c.args.outside code_if (if_over g.R.Rule.made g.R.Rule.units c.args.outside) _ _ _ _ _ _ _ _ _ c.walk-so_far-in-If.ensures c.walk-so_far-in-If-2.ensures
+    over_three g.R.Rule.made g.R.Rule.units c.args.outside code_if (if_over g.R.Rule.made g.R.Rule.units c.args.outside) _ _ _ _ _ _ _ _ _
+    c.walk-so_far-in-If.ensures c.walk-so_far-in-If-2.ensures
     c.walk-so_far-in-If-3.ensures c.finish-in-If.ensures (if_tree _ _ _) (ap code_tree c.in-If.is ∙ if_tree _ _ _ ∙ sym (three_same code_if part1 part2 part3))
 
 pub walk-returns-in-Lit : goal.walk-returns-in-Lit
-walk-returns-in-Lit g t c = leaf g.R.Rule.made g.R.Rule.units c.args.outside _ (code_lit c.in-Lit.field-0) _ (search (rules, the_lemmas)) refl refl c.finish-in-Lit.ensures
+walk-returns-in-Lit g t c = leaf g.R.Rule.made g.R.Rule.units c.args.outside _ (code_lit c.in-Lit.field-0) _ (search (rules, the_lemmas)) refl refl
+    c.finish-in-Lit.ensures
 
 pub walk-returns-in-Truth : goal.walk-returns-in-Truth
-walk-returns-in-Truth g t c = leaf g.R.Rule.made g.R.Rule.units c.args.outside _ (code_truth c.in-Truth.field-0) _ (search (rules, the_lemmas)) refl refl c.finish-in-Truth.ensures
+walk-returns-in-Truth g t c = leaf g.R.Rule.made g.R.Rule.units c.args.outside _ (code_truth c.in-Truth.field-0) _ (search (rules, the_lemmas)) refl refl
+    c.finish-in-Truth.ensures
 
 pub walk-returns-in-Var : goal.walk-returns-in-Var
-walk-returns-in-Var g t c = leaf g.R.Rule.made g.R.Rule.units c.args.outside _ (code_var c.in-Var.field-0) _ (search (rules, the_lemmas)) refl refl c.finish-in-Var.ensures
+walk-returns-in-Var g t c = leaf g.R.Rule.made g.R.Rule.units c.args.outside _ (code_var c.in-Var.field-0) _ (search (rules, the_lemmas)) refl refl
+    c.finish-in-Var.ensures
 
 pub walk_all-loop-code-init : goal.walk_all-loop-code-init
 walk_all-loop-code-init g t c = (codes_begin g.R.Rule.made g.R.Rule.units c.args.outside _ _ (search rules), same_begin _ _ _ (search rules))
@@ -222,14 +247,16 @@ walk_gives-returns-in-Err g t c = λ n e. stays (all_self _ _) no_start
 pub walk_item-returns-in-Let : goal.walk_item-returns-in-Let
 walk_item-returns-in-Let g t c = λ n e.
     let before : IsOk c.args.level = search rules in (
-      of_let g.R.Rule.made g.R.Rule.units _ n _ _ _ _ c.walk-so_far.ensures (search (rules, the_lemmas)) (search (rules, the_lemmas)) (search rules) (λ k. before) (ok_before c.behind.result c.behind.ensures.before),
+      of_let g.R.Rule.made g.R.Rule.units _ n _ _ _ _ c.walk-so_far.ensures (search (rules, the_lemmas)) (search (rules, the_lemmas)) (search rules)
+          (λ k. before) (ok_before c.behind.result c.behind.ensures.before),
       if_ok_same c.behind.result _ _ c.behind.ensures.level (search (rules, the_lemmas, arith)),
     )
 
 pub walk_item-returns-in-Need : goal.walk_item-returns-in-Need
 walk_item-returns-in-Need g t c = λ n e.
     let before : IsOk c.args.level = search rules in (
-      of_need g.R.Rule.made g.R.Rule.units _ n _ _ _ _ c.walk-so_far-in-Need.ensures (search (rules, the_lemmas)) (search (rules, the_lemmas)) (search rules) (λ k. before) (ok_before c.behind-in-Need.result c.behind-in-Need.ensures.before),
+      of_need g.R.Rule.made g.R.Rule.units _ n _ _ _ _ c.walk-so_far-in-Need.ensures (search (rules, the_lemmas)) (search (rules, the_lemmas)) (search rules)
+          (λ k. before) (ok_before c.behind-in-Need.result c.behind-in-Need.ensures.before),
       if_ok_same c.behind-in-Need.result _ _ c.behind-in-Need.ensures.level (search (rules, the_lemmas, arith)),
     )
 
@@ -241,19 +268,24 @@ walk_arm-returns g t c =
     let p = c.walk_items-level.ensures (c.args.outside + length c.args.arm.now.bounds.items)
     (if_ok_same c.behind_bounds-level.result _ _ c.behind_bounds-level.ensures.level (search rules)) in
     let q = c.walk_gives.ensures _ p.1 in
-    of_arm g.R.Rule.made g.R.Rule.units c.args.outside _ _ _ _ _ _ _ (from_start (ok_before c.behind_bounds-level.result c.behind_bounds-level.ensures.before) p.0) q (search (rules, the_lemmas)) (search (rules, the_lemmas))
+    of_arm g.R.Rule.made g.R.Rule.units c.args.outside _ _ _ _ _ _ _
+    (from_start (ok_before c.behind_bounds-level.result c.behind_bounds-level.ensures.before) p.0) q (search (rules, the_lemmas))
+    (search (rules, the_lemmas))
 
 pub walk_all-walk-so_far-requires : goal.walk_all-walk-so_far-requires
 walk_all-walk-so_far-requires g t c =
-    let same : get_or c.loop-code.code-items c.loop-code.code-index c.code-item.result ≡ get_or c.args.codes.now.items c.loop-code.code-index c.code-item.result = c.loop-code.invariant.1 _ _ (omega arith) in
+    let same : get_or c.loop-code.code-items c.loop-code.code-index c.code-item.result ≡ get_or c.args.codes.now.items c.loop-code.code-index c.code-item.result
+    = c.loop-code.invariant.1 _ _ (omega arith) in
     search (rules, the_lemmas, same)
 
 pub walk_items-walk_item-level-requires : goal.walk_items-walk_item-level-requires
 walk_items-walk_item-level-requires g t c =
-    let same : get_or c.loop-item.item-items c.loop-item.item-index c.item-item.result ≡ get_or c.args.items.now.items c.loop-item.item-index c.item-item.result = c.loop-item.invariant.0 _ _ (omega arith) in
+    let same : get_or c.loop-item.item-items c.loop-item.item-index c.item-item.result ≡ get_or c.args.items.now.items c.loop-item.item-index c.item-item.result
+    = c.loop-item.invariant.0 _ _ (omega arith) in
     search (rules, the_lemmas, same)
 
 pub walk_arms-walk_arm-so_far-requires : goal.walk_arms-walk_arm-so_far-requires
 walk_arms-walk_arm-so_far-requires g t c =
-    let same : get_or c.loop-arm.arm-items c.loop-arm.arm-index c.arm-item.result ≡ get_or c.args.arms.now.items c.loop-arm.arm-index c.arm-item.result = c.loop-arm.invariant.1 _ _ (omega arith) in
+    let same : get_or c.loop-arm.arm-items c.loop-arm.arm-index c.arm-item.result ≡ get_or c.args.arms.now.items c.loop-arm.arm-index c.arm-item.result =
+    c.loop-arm.invariant.1 _ _ (omega arith) in
     search (rules, the_lemmas, same)

@@ -12,4 +12,5 @@ returns-in_err-x-in-Some c =
     rw (p.1, p.2, ← c.loop.invariant) (more_fails snoc (must a_base) _ _ _ _ _ _ _ _ c.in-Some.ensures c.in_err-x-in-Some.ensures (omega arith))
 
 pub loop-preserved : goal.loop-preserved
-loop-preserved c = more_next snoc (must a_base) _ _ _ _ _ _ _ _ _ _ _ _ c.in-Some.ensures c.in_ok-x-in-Some.ensures (omega arith) (search rules) c.loop.invariant
+loop-preserved c = more_next snoc (must a_base) _ _ _ _ _ _ _ _ _ _ _ _ c.in-Some.ensures c.in_ok-x-in-Some.ensures (omega arith) (search rules)
+    c.loop.invariant

@@ -7,7 +7,10 @@ use Rattle.cf_set.proofs.Set.diff.Goals as goal
 pub invariant_of-result : goal.invariant_of-result
 invariant_of-result c =
     let e : c.in_ok-diff.field-0.items ≡ set_diff c.self.inside.items.items c.other.inside.items.items = search rules in
-    rw e (rising_filter (λ x. not (has c.other.inside.items.items x)) c.self.inside.items.items c.self.invariant.0, within_filter (λ x. not (has c.other.inside.items.items x)) c.self.inside.items.items c.self.invariant.1)
+    rw e (
+      rising_filter (λ x. not (has c.other.inside.items.items x)) c.self.inside.items.items c.self.invariant.0,
+      within_filter (λ x. not (has c.other.inside.items.items x)) c.self.inside.items.items c.self.invariant.1,
+    )
 
 pub returns-clause-members : goal.returns-clause-members
 returns-clause-members c x =

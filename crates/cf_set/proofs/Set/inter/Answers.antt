@@ -7,7 +7,11 @@ use Rattle.cf_set.proofs.Set.inter.Goals as goal
 pub invariant_of-result : goal.invariant_of-result
 invariant_of-result c =
     let e : c.in_ok-inter.field-0.items ≡ set_inter c.self.inside.items.items c.other.inside.items.items = search rules in
-    rw e (rising_filter (has c.other.inside.items.items) c.self.inside.items.items c.self.invariant.0, within_filter (has c.other.inside.items.items) c.self.inside.items.items c.self.invariant.1)
+    rw e (
+      rising_filter (has c.other.inside.items.items) c.self.inside.items.items c.self.invariant.0,
+      within_filter (has c.other.inside.items.items)
+          c.self.inside.items.items c.self.invariant.1,
+    )
 
 pub returns-clause-members : goal.returns-clause-members
 returns-clause-members c x =

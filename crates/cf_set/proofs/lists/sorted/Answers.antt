@@ -7,4 +7,5 @@ use Rattle.cf_set.proofs.lists.sorted.Goals as goal
 pub returns : goal.returns
 returns c =
     dedup_is int_eq c.sort_unstable.new.self.items c.dedup.new.self.items c.dedup.ensures.filtered
-    ∙ dedup-sorted c.args.items.now c.sort_unstable.new.self.items (rw c.in_ok-all.ensures.items at c.sort_unstable.ensures.permutation) c.sort_unstable.ensures.sorted
+    ∙ dedup-sorted c.args.items.now c.sort_unstable.new.self.items (rw c.in_ok-all.ensures.items at c.sort_unstable.ensures.permutation)
+    c.sort_unstable.ensures.sorted

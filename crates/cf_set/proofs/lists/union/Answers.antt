@@ -4,13 +4,16 @@ use Rattle.cf_set.proofs.lists.union.Goals.{then-loop-i-test+else-j-b, else-loop
 use Rattle.cf_set.proofs.lists.union.Goals as goal
 
 pub loop-i-preserved-then-a-i : goal.loop-i-preserved-then-a-i
-loop-i-preserved-then-a-i c = pushed_first _ _ _ _ _ _ c.requires.a_within c.requires.b_within c.loop-i.invariant c.loop-i-test.true c.if-j-b.true c.if-a-i.true c.in_ok-push.ensures.items
+loop-i-preserved-then-a-i c = pushed_first _ _ _ _ _ _ c.requires.a_within c.requires.b_within c.loop-i.invariant c.loop-i-test.true c.if-j-b.true c.if-a-i.true
+    c.in_ok-push.ensures.items
 
 pub loop-i-preserved-then-b-j : goal.loop-i-preserved-then-b-j
-loop-i-preserved-then-b-j c = pushed_second _ _ _ _ _ _ c.requires.a_within c.requires.b_within c.loop-i.invariant c.loop-i-test.true c.if-j-b.true c.if-b-j.true c.in_ok-push-2.ensures.items
+loop-i-preserved-then-b-j c = pushed_second _ _ _ _ _ _ c.requires.a_within c.requires.b_within c.loop-i.invariant c.loop-i-test.true c.if-j-b.true
+    c.if-b-j.true c.in_ok-push-2.ensures.items
 
 pub loop-i-preserved : goal.loop-i-preserved
-loop-i-preserved c = pushed_both _ _ _ _ _ _ c.requires.a_within c.requires.b_within c.loop-i.invariant c.loop-i-test.true c.if-j-b.true c.if-a-i.false c.if-b-j.false c.in_ok-push-3.ensures.items
+loop-i-preserved c = pushed_both _ _ _ _ _ _ c.requires.a_within c.requires.b_within c.loop-i.invariant c.loop-i-test.true c.if-j-b.true c.if-a-i.false
+    c.if-b-j.false c.in_ok-push-3.ensures.items
 
 pub returns : goal.returns
 returns c =

@@ -8,4 +8,5 @@ pub check_solve-returns-in_err-bases-clause-told : goal.check_solve-returns-in_e
 check_solve-returns-in_err-bases-clause-told t c =
     let p = err_from_is_err_and c.from_residual.result c.from_residual.ensures.1 in
     let some : 0 < length c.args.arms.now.items = first_of (omega (arith, not_zero _ c.if-is_empty.ensures), grind (arith, nat_tests, c.if-is_empty.ensures)) in
-    rw (p.1, p.2) (solved_fails c.args.arms.now.items c.deref.result.now c.args.scope.now.items _ (Some c.args.asked.now) c.deref.ensures.value some c.in_err-bases.ensures.told)
+    rw (p.1, p.2) (solved_fails c.args.arms.now.items c.deref.result.now c.args.scope.now.items _ (Some c.args.asked.now) c.deref.ensures.value some
+    c.in_err-bases.ensures.told)

@@ -13,7 +13,8 @@ pub first_forms-requires : goal.first_forms-requires
 first_forms-requires c =
     let p = c.args.solved.now in
     let s = c.layout.ensures.solved in
-    let u : IsUnrefused p.scope.items p.outputs.items (rel_tree p.rel) = record { typed = s.typed; linear = s.linear; are_outputs = s.are_outputs; within = s.within } in
+    let u : IsUnrefused p.scope.items p.outputs.items (rel_tree p.rel) =
+    record { typed = s.typed; linear = s.linear; are_outputs = s.are_outputs; within = s.within } in
     subst (λ l. set_count l ≤ MOST_SETS) (sym c.layout.ensures.levels) (sets_few p.scope.items p.outputs.items (rel_tree p.rel) u)
 
 pub returns-clause-says : goal.returns-clause-says

@@ -8,4 +8,5 @@ pub returns : goal.returns
 returns c =
     let s = c.args.solved.now in
     subst (λ xs. IfOk c.listed.result (λ v. v.items ≡ xs))
-    (parameters_are s.scope.items s.outputs.items (rel_tree s.rel) (plain_layout c.layout.result.now) c.layout.ensures.solved.typed c.layout.ensures.levels) c.listed.ensures
+    (parameters_are s.scope.items s.outputs.items (rel_tree s.rel) (plain_layout c.layout.result.now) c.layout.ensures.solved.typed c.layout.ensures.levels)
+    c.listed.ensures

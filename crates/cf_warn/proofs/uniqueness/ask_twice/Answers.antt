@@ -6,7 +6,8 @@ pub ask-requires-clause-typed : goal.ask-requires-clause-typed
 ask-requires-clause-typed c =
     let p = c.args.solved.now in
     let s = c.twice_outputs.ensures.solved in
-    rw (c.deref-2.ensures.value, c.in_ok-outputs.ensures.bases, c.in_ok-rel.ensures) (twice_typed p.scope.items p.outputs.items (rel_tree p.rel) s.typed s.are_outputs)
+    rw (c.deref-2.ensures.value, c.in_ok-outputs.ensures.bases, c.in_ok-rel.ensures)
+    (twice_typed p.scope.items p.outputs.items (rel_tree p.rel) s.typed s.are_outputs)
 
 pub ask-requires-clause-linear : goal.ask-requires-clause-linear
 ask-requires-clause-linear c =

@@ -5,7 +5,8 @@ use Rattle.cf_linear.proofs.row.Row.take_at.Goals as goal
 
 pub returns-then-first-column-clause-taken : goal.returns-then-first-column-clause-taken
 returns-then-first-column-clause-taken c =
-    let h = taken_here c.args.self.now c.args.i c.args.column c.requires.rising (omega (arith, c.len.ensures.len)) (sym (ap (λ x. x.0) c.at-first.ensures.value) ∙ c.if-first-column.true) in
+    let h = taken_here c.args.self.now c.args.i c.args.column c.requires.rising (omega (arith, c.len.ensures.len))
+    (sym (ap (λ x. x.0) c.at-first.ensures.value) ∙ c.if-first-column.true) in
     rw (back c.at-first.result.1 c.at-first.ensures.fits, ap (λ x. x.1) c.at-first.ensures.value) h
 
 pub returns-else-first-column-clause-taken : goal.returns-else-first-column-clause-taken

@@ -8,7 +8,8 @@ use Rattle.cf_linear.proofs.row.Row.without.Goals.{then-d-column+in_ok-append, e
 pub append-requires-clause-after : goal.append-requires-clause-after
 append-requires-clause-after c =
     let h : c.loop-i.i < length c.args.self.now = omega (arith, c.len-i-end.ensures.len) in
-    rw (ap (λ x. x.0) c.at-d.ensures.value, c.loop-i.invariant) (AreBelow-without _ c.args.column _ (AreBelow-take c.args.self.now 0 c.loop-i.i c.len-i-end.ensures.is_row.0 h))
+    rw (ap (λ x. x.0) c.at-d.ensures.value, c.loop-i.invariant)
+    (AreBelow-without _ c.args.column _ (AreBelow-take c.args.self.now 0 c.loop-i.i c.len-i-end.ensures.is_row.0 h))
 
 pub loop-i-preserved : goal.loop-i-preserved
 loop-i-preserved c =
@@ -17,7 +18,8 @@ loop-i-preserved c =
     elim c.if-d-column.branch [
       | then-d-column+in_ok-append w ↦
           let n : (get_or c.args.self.now c.loop-i.i (0, pos 0)).0 ≢ c.args.column = λ q. w.if-d-column.true (ap (λ x. x.0) c.at-d.ensures.value ∙ q) in
-          let e = rw (back c.at-d.result.1 c.at-d.ensures.fits, c.loop-i.invariant, ap (λ x. x.0) c.at-d.ensures.value, ap (λ x. x.1) c.at-d.ensures.value) at w.in_ok-append.ensures.value in
+          let e = rw (back c.at-d.result.1 c.at-d.ensures.fits, c.loop-i.invariant, ap (λ x. x.0) c.at-d.ensures.value, ap (λ x. x.1) c.at-d.ensures.value) at
+          w.in_ok-append.ensures.value in
           w.out-is ∙ e ∙ sym (without_kept c.args.self.now c.args.column c.loop-i.i p h n)
       | else-d-column w ↦
           let n : (get_or c.args.self.now c.loop-i.i (0, pos 0)).0 ≡ c.args.column = sym (ap (λ x. x.0) c.at-d.ensures.value) ∙ w.if-d-column.false in
