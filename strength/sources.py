@@ -1,5 +1,6 @@
 """Random sources, input lines and targets. All that is drawn comes from one random.Random, so a seed gives the same again."""
 
+import re
 from dataclasses import dataclass
 
 MAX = 2**127 - 1
@@ -157,8 +158,13 @@ class Relations(Drawer):
         with_sets = self.chance(35)
         pairs = [(name, self.one(("int", "set")) if with_sets else "int") for name in names]
         params = tuple((name, "bool" if self.chance(4) else base) for name, base in pairs[outputs:])
-        relation = self.relation(list(params) + pairs[:outputs], random.randrange(1, 6))
+        relation = self.relation_of(params, tuple(pairs[:outputs]), random.randrange(1, 6))
         return Chosen(params, tuple(pairs[:outputs]), relation)
+
+    def relation_of(self, scope, outputs, parts):
+        """A relation of so many atoms over variables in scope and outputs, which may hide some."""
+        visible = dict(scope) | dict(outputs)
+        return self.relation(list(visible.items()), parts)
 
 
 class Sources(Relations):
@@ -272,8 +278,7 @@ class Sources(Relations):
 
     def choose(self, results, scope):
         outputs = tuple(zip(self.names(len(results)), results))
-        visible = dict(scope) | dict(outputs)
-        return f"choose ({listed(outputs)}) where {self.relation(list(visible.items()), self.random.randrange(1, 5))}"
+        return f"choose ({listed(outputs)}) where {self.relation_of(scope, outputs, self.random.randrange(1, 5))}"
 
     def match(self, base, scope, depth):
         arms = " ; ".join(self.arm(base, scope, depth) for _ in range(self.random.randrange(1, 5)))
@@ -289,6 +294,33 @@ class Sources(Relations):
         return f"{pattern} then {self.whole(base, tuple(scope) + tuple((name, 'int') for name in names), depth - 1)}"
 
 
+class LateSources(Sources):
+    """Draws sources in which numbers in scope multiply what is chosen, and lines of mostly small numbers."""
+
+    COEFFICIENTS = ("{0}",) * 6 + ("({0} + %d)", "({0} - {1})", "{0} * {1}", "abs({0})", "-{0}", "2 * {0}")
+
+    def __init__(self, random):
+        super().__init__(random)
+        self.known = ()
+
+    def relation_of(self, scope, outputs, parts):
+        hidden = dict(outputs)
+        self.known = tuple(name for name, base in dict(scope).items() if base == "int" and name not in hidden)
+        return super().relation_of(scope, outputs, parts)
+
+    def part(self, numbers, sets, depth):
+        if not self.known or not self.chance(45):
+            return super().part(numbers, sets, depth)
+        coefficient = self.one(self.COEFFICIENTS).format(self.one(self.known), self.one(self.known))
+        coefficient = coefficient % self.factor() if "%d" in coefficient else coefficient
+        if depth > 0 and self.chance(20):
+            return f"{coefficient} * ({self.term(numbers, sets, depth - 1)})"
+        return f"{coefficient} * {self.one(numbers)}" if self.chance(80) else f"{self.one(numbers)} * {coefficient}"
+
+    def value(self, base):
+        return str(self.random.randrange(-12, 13)) if base == "int" and self.chance(85) else super().value(base)
+
+
 class Mutants(Drawer):
     """Draws texts that are near to a good one."""
 
@@ -302,6 +334,21 @@ class Mutants(Drawer):
         for _ in range(self.one((1, 1, 2, 3, 8))):
             text = self.changed(text)
         return text
+
+    def line_mutant(self, text):
+        """The text with one line taken away, doubled, moved, or with another first number."""
+        lines = text.splitlines(keepends=True)
+        at, to = (self.random.randrange(len(lines)) for _ in range(2))
+        draw = self.random.randrange(4)
+        if draw == 0:
+            del lines[at]
+        elif draw == 1:
+            lines.insert(to, lines[at])
+        elif draw == 2:
+            lines.insert(to, lines.pop(at))
+        else:
+            lines[at] = re.sub(rb"\d+", b"%d" % self.random.randrange(9), lines[at], count=1)
+        return b"".join(lines)
 
     def changed(self, text):
         """The text with one piece taken away, doubled, moved, or put in."""

@@ -149,17 +149,19 @@ class Shim:
 
 @dataclass(frozen=True)
 class Worked:
-    """A run whose answer is known: its words, the file that they name, and the input. A target that it compiles is tried on the lines."""
+    """A run whose answer is known: its words, the files that they name, and the input. A target that it compiles is tried on the lines."""
 
     name: str
     words: tuple
     source: bytes
     input: bytes = b""
     lines: bytes = b""
+    steps: bytes = b""
 
     def lay(self, bench):
-        """Puts its file and its input where the program runs."""
+        """Puts its files and its input where the program runs."""
         bench.put("file", self.source)
+        bench.put("steps", self.steps)
         bench.put("input", self.input)
 
 
@@ -177,10 +179,26 @@ SPLIT = (
 )
 SETS = b"{}\n{3,1,2,1}\n{5}\n{-4,0,7}\n{1,2,3,4,5,6}\n"
 MATCH = b"def main(a: int): int = match a with { 2 * i then i ; 4 * i + 1 then -i }\n"
+PRODUCT = b"def main(a: int, b: int): int = choose (x: int) where a * x == b\n"
+ROUNDING_STEPS = b"""choose 1 { case { search 3 lower; drop 3; last 0; clean; } }
+main (int, int): int = solve 1 {
+arm [2] {
+need (2 divides (v0 + v2));
+let div((v0 + v2), 2);
+need ((v1 + (-2 * v3)) >= 0);
+let v3;
+let v4;
+give v5
+}
+}
+"""
 
 
 def worked_runs():
-    """The worked runs: seconds, a set that is split, remainders, a match, a target, and a workload, by each command that takes them."""
+    """The worked runs, by each command that takes them.
+
+    They are seconds, a set that is split, remainders, a match, a target, a workload, a product of an input, and steps.
+    """
     sources = {
         "seconds": (example("seconds.cf"), example("seconds.in")),
         "splitting": (SPLIT, SETS),
@@ -196,7 +214,11 @@ def worked_runs():
     runs.append(Worked("run seconds --plain --stats", ("run", "file", "--plain", "--stats"), *sources["seconds"]))
     runs.append(Worked("exec seconds", ("exec", "file"), case("exec-seconds", "file"), case("exec-seconds", "input")))
     runs.append(Worked("exec remainders", ("exec", "file"), case("exec-remainders", "file"), case("exec-remainders", "input")))
+    runs.append(Worked("run combination", ("run", "file"), example("combination.cf"), example("combination.in")))
     runs.append(Worked("gen 1", ("gen", "1"), b""))
+    runs.append(Worked("run product", ("run", "file"), PRODUCT, b"3 12\n3 10\n0 5\n-4 12\n"))
+    runs.append(Worked("prove remainders", ("prove", "file"), sources["remainders"][0]))
+    runs.append(Worked("verify rounding", ("verify", "file", "steps"), example("even.cf"), steps=ROUNDING_STEPS))
     return runs
 
 
