@@ -112,9 +112,16 @@ static void split(void) {
     part(items + (kept + 1) / 2, kept / 2);
 }
 
+static void product(void) {
+    num a = number(), b = number();
+    if (a ? b % a : b) return text("no solution at choose 1");
+    put(a ? b / a : 0);
+}
+
 int main(int count, char **words) {
     static const struct { const char *name; void (*answer)(void); } jobs[] = {
-        {"seconds", seconds}, {"rounding", rounding}, {"sum", sum}, {"search", search}, {"calls", calls}, {"split", split}};
+        {"seconds", seconds}, {"rounding", rounding}, {"sum", sum}, {"search", search}, {"calls", calls}, {"split", split},
+        {"product", product}};
     char *line = NULL;
     size_t room = 0;
     for (size_t i = 0; count > 1 && i < sizeof jobs / sizeof *jobs; i++) {
