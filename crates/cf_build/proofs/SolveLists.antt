@@ -58,18 +58,21 @@ refused_later q qs n r e h = record {
     before q qs n e f p (zero, m, same) l = rw (← same) e
     before q qs n e f p (suc k, m, same) l = f p (k, omega (arith, m), same) l
 
--- where the numbers rise, the first that is met behind solved ones is the first that is refused
-refused_at : (cs : List Choose) (i : ℕ) (c : Choose) (ss : List SolvedChoose) (r : Refusal) → IsRising (map question_of cs) → i < length cs →
-    c ≡ get_or cs i c → AreSolved (map question_of (take i cs)) ss →
-    limit_of (question_of c) ≡ Some r → IsFirstRefused (map question_of cs) c.number r
-refused_at [] i c ss r up l is h e = absurd (omega (arith, l))
-refused_at (d ∷ cs) zero c ss r up l is h e =
+abbrev pub IsWithin : Question → Type 0
+IsWithin q = limit_of q ≡ None
+
+-- where the numbers rise, the first that is met behind chooses that pass no limit is the first that is refused
+refused_at : (cs : List Choose) (i : ℕ) (c : Choose) (r : Refusal) → IsRising (map question_of cs) → i < length cs → c ≡ get_or cs i c →
+    All IsWithin (map question_of (take i cs)) → limit_of (question_of c) ≡ Some r → IsFirstRefused (map question_of cs) c.number r
+refused_at [] i c r up l is h e = absurd (omega (arith, l))
+refused_at (d ∷ cs) zero c r up l is h e =
     let same : c ≡ d = is in
     subst (λ x. IsFirstRefused (map question_of (d ∷ cs)) x.number r) (sym same)
     (refused_here (question_of d) (map question_of cs) r up.0 (subst (λ x. limit_of (question_of x) ≡ Some r) same e))
-refused_at (d ∷ cs) (suc i) c [] r up l is h e = absurd h
-refused_at (d ∷ cs) (suc i) c (s ∷ ss) r up l is h e =
-    refused_later (question_of d) (map question_of cs) c.number r (solved_limit (question_of d) s h.0) (refused_at cs i c ss r up.1 (omega (arith, l)) is h.1 e)
+refused_at (d ∷ cs) (suc i) c r up l is h e =
+    let earlier = map question_of (take i cs) in
+    refused_later (question_of d) (map question_of cs) c.number r (All-head IsWithin (question_of d) earlier h)
+    (refused_at cs i c r up.1 (omega (arith, l)) is (All-tail IsWithin (question_of d) earlier h) e)
 
 pub refused_alone : (q : Question) (r : Refusal) → limit_of q ≡ Some r → IsFirstRefused (q ∷ []) q.number r
 refused_alone q r e = refused_here q [] r (All-nil (λ p. q.number < p.number)) e
@@ -78,13 +81,23 @@ alone : (q p : Question) (n : ℕ) (r : Refusal) → Contains (q ∷ []) p → p
 alone q p n r (zero, l, e) f g = rw e (f, g)
 alone q p n r (suc k, l, e) f g = absurd (omega (arith, l))
 
-pub fault_at : (cs : List Choose) (i : ℕ) (c : Choose) (ss : List SolvedChoose) (fault : BuildFault) → IsRising (map question_of cs) → i < length cs →
-    c ≡ get_or cs i c → AreSolved (map question_of (take i cs)) ss → FaultAnswer (question_of c ∷ []) fault → FaultAnswer (map question_of cs) fault
-fault_at cs i c ss (faults.Choose n r) up l is h f =
+pub fault_behind : (cs : List Choose) (i : ℕ) (c : Choose) (fault : BuildFault) → IsRising (map question_of cs) → i < length cs → c ≡ get_or cs i c →
+    All IsWithin (map question_of (take i cs)) → FaultAnswer (question_of c ∷ []) fault → FaultAnswer (map question_of cs) fault
+fault_behind cs i c (faults.Choose n r) up l is h f =
     let p = f.refused in
     let one = alone (question_of c) p.0 n r p.1 p.2 p.3 in
-    subst (λ m. IsFirstRefused (map question_of cs) m r) one.0 (refused_at cs i c ss r up l is h one.1)
-fault_at cs i c ss faults.NoMemory up l is h f = tt
+    subst (λ m. IsFirstRefused (map question_of cs) m r) one.0 (refused_at cs i c r up l is h one.1)
+fault_behind cs i c faults.NoMemory up l is h f = tt
+
+solved_within : (qs : List Question) (ss : List SolvedChoose) → AreSolved qs ss → All IsWithin qs
+solved_within [] [] h = All-nil IsWithin
+solved_within [] (s ∷ ss) h = absurd h
+solved_within (q ∷ qs) [] h = absurd h
+solved_within (q ∷ qs) (s ∷ ss) h = All-cons IsWithin q qs (solved_limit q s h.0) (solved_within qs ss h.1)
+
+pub fault_at : (cs : List Choose) (i : ℕ) (c : Choose) (ss : List SolvedChoose) (fault : BuildFault) → IsRising (map question_of cs) → i < length cs →
+    c ≡ get_or cs i c → AreSolved (map question_of (take i cs)) ss → FaultAnswer (question_of c ∷ []) fault → FaultAnswer (map question_of cs) fault
+fault_at cs i c ss fault up l is h f = fault_behind cs i c fault up l is (solved_within (map question_of (take i cs)) ss h) f
 
 -- the first in the order of the numbers is the first in any order
 refused_in_order : (qs : List Question) (n : ℕ) (r : Refusal) → IsFirstRefused (by_number qs) n r → IsFirstRefused qs n r

@@ -19,19 +19,19 @@ use cf_tree::raw::Param;
 use cf_tree::rel::Rel;
 use std::alloc::Global;
 
-// A choose: its number, the names of the variables in scope, their bases and those of the outputs,
-// and its relation.
+/// A choose: its number, the names of the variables in scope, their bases and those of the outputs,
+/// and its relation.
 #[derive(Drop)]
-pub(crate) struct Choose {
-    pub(crate) number: u32,
-    pub(crate) names: Vec<Text>,
-    pub(crate) scope: Vec<Base>,
-    pub(crate) outputs: Vec<Base>,
-    pub(crate) rel: Rel,
+pub struct Choose {
+    pub number: u32,
+    pub names: Vec<Text>,
+    pub scope: Vec<Base>,
+    pub outputs: Vec<Base>,
+    pub rel: Rel,
 }
 
-// The chooses of a program in the order of their numbers.
-pub(crate) fn numbered(alloc: Global, typed: &Typed) -> Result<Vec<Choose>, NoMemory>
+/// The chooses of a program without matches in the order of their numbers.
+pub fn numbered(alloc: Global, typed: &Typed) -> Result<Vec<Choose>, NoMemory>
     requires { All (λ d. HasNoMatch (expr_tree d.body)) typed.now.defs.items }
     ensures questions { IfOk result (λ chooses. map question_of chooses.items ≡ by_number (all_questions (map def_tree typed.now.defs.items))) }
     ensures asked { IfOk result (λ chooses. All (λ c. IsAsked (question_of c)) chooses.items) }

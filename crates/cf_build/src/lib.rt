@@ -3,7 +3,7 @@
 
 pub mod build;
 mod choose_codes;
-mod chooses;
+pub mod chooses;
 mod codes;
 pub mod fault;
 mod rewrite;

@@ -16,6 +16,7 @@ use Rattle.cf_elim.specs.declared.fault.ElimFault.TheVariants.{Refused as ElimRe
 use Rattle.cf_elim.specs.declared.output.RunOutput.{RunOutput}
 use Rattle.cf_elim.specs.declared.output.StepOutput.{StepOutput}
 use Rattle.cf_elim.specs.Stages.{IsReady, made_answer, whole_answer, CountIs}
+use Rattle.cf_elim.proofs.CaseLaws.{whole_none, whole_more}
 use Rattle.cf_steps.specs.declared.act.Act.{Act}
 use Rattle.cf_cert.specs.declared.follow.Way.{Way}
 use Rattle.cf_cert.specs.declared.follow.CaseFault.{CaseFault}
@@ -31,24 +32,6 @@ use Rattle.cf_cert.specs.Stepping.{fault_of}
 use Rattle.cf_cert.proofs.ApplyLaws.{ready_after}
 
 -- ---- what all steps make
-whole_none : (m : System) (w : RunOutput) → w.bounds.items ≡ [] → w.steps.items ≡ [] → w.later.items ≡ [] → whole_answer m w ≡ no_answer m
-whole_none m w b s l = rw (b, s, l) refl
-
-whole_more : (m n : System) (v w : RunOutput) (p : StepOutput) → w.bounds.items ≡ v.bounds.items ++ p.bounds.items →
-    w.steps.items ≡ v.steps.items ++ p.steps.items → w.later.items ≡ v.later.items ++ reverse p.back.items →
-    whole_answer n w ≡ then_answer (whole_answer m v) (made_answer n p)
-whole_more m n v w p b s l =
-    rw (
-      b,
-      s,
-      l,
-      map-append bound_of v.bounds.items p.bounds.items,
-      map-append step_of v.steps.items p.steps.items,
-      reverse-append v.later.items (reverse p.back.items),
-      reverse-reverse p.back.items,
-      map-append back_of p.back.items (reverse v.later.items),
-    ) refl
-
 -- one step more
 pub advanced : (v w : Way) (x : Next) (act : Act) → IsReady (system_of v.system) →
     apply limits v.tuples (system_of v.system) act ≡ Ok (made_answer (system_of x.system) x.made) → IsAdded v.whole v.tuples x w →

@@ -5,5 +5,6 @@ pub mod Following
 pub mod Judging
 pub mod Tracing
 pub mod Laws
+pub mod Proving
 pub mod Marks
 pub mod Verifying

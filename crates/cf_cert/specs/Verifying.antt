@@ -20,7 +20,7 @@ use Rattle.cf_choose.specs.declared.fault.ChooseFault.TheVariants.{Refused as Ch
 use Rattle.cf_choose.specs.declared.levels.TheConstants.{LEVEL_LIMIT}
 use Rattle.cf_choose.specs.Eliminations.{case_refusal}
 use Rattle.cf_steps.specs.declared.act.Act.{Act}
-use Rattle.cf_steps.specs.Blocks.{BlockTree}
+use Rattle.cf_steps.specs.Blocks.{BlockTree, block_acts}
 use Rattle.cf_cert.specs.declared.fault.JudgeFault.{JudgeFault}
 use Rattle.cf_cert.specs.declared.fault.JudgeFault.TheVariants.{Rejected, NoMemory}
 use Rattle.cf_cert.specs.declared.follow.CaseFault.{CaseFault}
@@ -41,10 +41,6 @@ question_tree q = record { number = q.number; scope = q.scope.items; outputs = q
 -- the target of the choose with that code
 abbrev pub target_of : QuestionTree → CodeTree → TargetTree
 target_of q code = record { params = q.scope; results = q.outputs; code = code }
-
--- all steps of a block
-abbrev pub block_acts : BlockTree → List Act
-block_acts b = flat_map (λ acts. acts) b.cases
 
 -- each case has so few steps
 abbrev pub HasFewActs : BlockTree → Type 0

@@ -22,10 +22,10 @@ use Rattle.cf_elim.specs.Stages.{state_of, made_answer, whole_answer, IsReady, G
 use Rattle.cf_elim.proofs.RunLaws.{SoFar, so_far_none, so_far_more, so_far_end, so_far_solved, so_far_bounds}
 use Rattle.cf_elim.proofs.SearchLaws.{bounds_of}
 
-whole_none : (m : System) (w : RunOutput) → w.bounds.items ≡ [] → w.steps.items ≡ [] → w.later.items ≡ [] → whole_answer m w ≡ no_answer m
+pub whole_none : (m : System) (w : RunOutput) → w.bounds.items ≡ [] → w.steps.items ≡ [] → w.later.items ≡ [] → whole_answer m w ≡ no_answer m
 whole_none m w b s l = rw (b, s, l) refl
 
-whole_more : (m n : System) (v w : RunOutput) (p : StepOutput) → w.bounds.items ≡ v.bounds.items ++ p.bounds.items →
+pub whole_more : (m n : System) (v w : RunOutput) (p : StepOutput) → w.bounds.items ≡ v.bounds.items ++ p.bounds.items →
     w.steps.items ≡ v.steps.items ++ p.steps.items → w.later.items ≡ v.later.items ++ reverse p.back.items →
     whole_answer n w ≡ then_answer (whole_answer m v) (made_answer n p)
 whole_more m n v w p b s l =

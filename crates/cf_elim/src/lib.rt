@@ -11,4 +11,4 @@ pub mod fault;
 pub mod laws;
 pub mod output;
 pub mod solved;
-mod stage;
+pub mod stage;

@@ -11,23 +11,28 @@ use crate::output::StepOutput;
 use cf_linear::system::System;
 use std::alloc::Global;
 
-// A system on its way, the number of search tuples so far, and whether the next step is not a Clean.
+/// A system on its way, the number of search tuples so far, and whether the next step is not a Clean.
 #[derive(Drop)]
-pub(crate) struct State {
-    pub(crate) system: System,
-    pub(crate) tuples: u64,
-    pub(crate) is_past_clean: bool,
+pub struct State {
+    pub system: System,
+    pub tuples: u64,
+    pub is_past_clean: bool,
 }
 
-// The next system with what the step made, or the end.
+/// The next state with what the step made, or the end.
 #[derive(Drop)]
-pub(crate) enum Stage {
+pub enum Stage {
     Goes(State, StepOutput),
     Ends,
 }
 
-// The next step: a Clean, an equation step while an equation is left, or a Bound step while an unknown is.
-pub(crate) fn next_stage(alloc: Global, current: State) -> Result<Stage, ElimFault>
+/// The next step: a Clean, an equation step while an equation is left, or a Bound step while an unknown
+/// is. The system's rows have forms and its unknowns are all different.
+///
+/// # Errors
+/// `Refused` exactly where the step passes a limit, with the first one, and `NoMemory` where memory ran
+/// out.
+pub fn next_stage(alloc: Global, current: State) -> Result<Stage, ElimFault>
     requires { IsReady (system_of current.system) }
     ensures { StageIs (state_of current) (stage limits (state_of current)) result }
 {

@@ -4,4 +4,5 @@ pub mod Only
 pub mod Spelled
 pub mod Printing
 pub mod Examples
+pub mod Few
 pub mod PrintedExamples

@@ -143,7 +143,7 @@ unfolding search_of
 search_is x lower ts a us wx ws = bind_is _ _ ts (must_column x ts a wx) (bind_is _ _ a (must_is a_side a us lower (side_is lower a us ws))
     (pure_is _ _ us refl))
 
-act_is : (act : Act) (ts us : List Token) → SpellsAct act ts us → act_of ts ≡ Ok (act, us)
+pub act_is : (act : Act) (ts us : List Token) → SpellsAct act ts us → act_of ts ≡ Ok (act, us)
 unfolding act_of
 act_is Clean ts us w = first_is _ _ _ ts (at_is (Word (codes "clean")) ts us w.0 refl w.1) (pure_is _ _ us refl)
 act_is (Mix x y a b c d) ts us (t1, n, (t2, wx, (t3, wy, (t4, wa, (t5, wb, (t6, wc, wd)))))) =
@@ -177,7 +177,7 @@ act_open (Last e) ts us (t1, n, w) = at_not _ (Word (codes "last")) ts t1 n.0 re
 act_open (Search x lower) ts us (t1, n, w) = at_not _ (Word (codes "search")) ts t1 n.0 refl n.1
 act_open (Drop x) ts us (t1, n, w) = at_not _ (Word (codes "drop")) ts t1 n.0 refl n.1
 
-act_within : (ts : List Token) → Within (length ts) (act_of ts)
+pub act_within : (ts : List Token) → Within (length ts) (act_of ts)
 act_within ts = (act_local {more = []} {other = []}).within ts (length ts) (omega arith)
 
 acts_are : (acts : List Act) (fuel : ℕ) (done : List Act) (ts us : List Token) → SpellsActs acts ts us → length ts ≤ fuel →
@@ -223,7 +223,7 @@ main_is limit t ts us (b, m, (c, o, (d, bs, (e, s, (f, rs, (g, q, w)))))) l =
     (bind_is _ _ e (results_are t.results e f rs) (bind_is _ _ f (next_is _ f g refl q) (bind_is _ _ g (read_reads limit t.code g us l w)
     (pure_is _ _ us refl)))))))
 
-part_is : (limit : ℕ) (t : TargetTree) (ts us : List Token) → SpellsPart limit t ts us → part_of limit ts ≡ Ok (t, us)
+pub part_is : (limit : ℕ) (t : TargetTree) (ts us : List Token) → SpellsPart limit t ts us → part_of limit ts ≡ Ok (t, us)
 unfolding part_of
 part_is limit t ts us (l, (a, inl h, w)) =
     first_not _ _ _ ts (at_not _ (Word (codes "main")) ts w.0 w.1.0 refl (h ∙ w.1.1)) (ap (main_of limit) h ∙ main_is limit t a us w l)
@@ -237,7 +237,7 @@ block_is limit b ts us (t1, w, (t2, n, (t3, o, (t4, c, t)))) =
     (cases_are b.cases t3 t4 c)
     (bind_is _ _ t4 (part_is limit b.target t4 us t) (pure_is _ _ us refl)))))
 
-part_within : (limit : ℕ) (ts : List Token) → Within (length ts) (part_of limit ts)
+pub part_within : (limit : ℕ) (ts : List Token) → Within (length ts) (part_of limit ts)
 part_within limit ts = (part_local {more = []} {other = []} limit).within ts (length ts) (omega arith)
 
 cases_within : (ts : List Token) → Within (length ts) (others_of snoc case_of (Word (codes "case")) (Sign (codes "}")) [] ts)

@@ -1,5 +1,6 @@
 -- The plain forms of blocks.
 use Rattle.std.specs.Prelude.{ℕ, List, map}
+use Rattle.std.specs.List.{flat_map}
 use Rattle.cf_tree.specs.DefView.{TargetTree, target_tree}
 use Rattle.cf_steps.specs.declared.act.Act.{Act}
 use Rattle.cf_steps.specs.declared.block.Block.{Block}
@@ -16,3 +17,7 @@ block_tree b = record { number = b.number; cases = map (λ c. c.items) b.cases.i
 
 abbrev pub block_trees : Blocks → List BlockTree
 block_trees bs = map block_tree bs.list.items
+
+-- all steps of a block
+abbrev pub block_acts : BlockTree → List Act
+block_acts b = flat_map (λ acts. acts) b.cases

@@ -1,5 +1,5 @@
 //! Reads steps files.
-ghost use Rattle.std.specs.Prelude.{◌≡◌, ◌-◌, ◌^◌, [], List, codes, map, Ok, IfOk, IfErr};
+ghost use Rattle.std.specs.Prelude.{◌≡◌, ◌≤◌, ◌-◌, ◌^◌, [], List, codes, length, map, flat_map, Ok, IfOk, IfErr};
 ghost use Rattle.cf_lex.specs.Tokens.{AreWithin};
 ghost use Rattle.cf_lex.specs.declared.token.TokenKind.TheVariants.{Word, Sign};
 ghost use Rattle.cf_tree.specs.DefView.{target_tree};
@@ -7,7 +7,7 @@ ghost use Rattle.cf_reader.specs.Answers.{ReadAnswer};
 ghost use Rattle.cf_reader.specs.Faults.{IsFault, IsFaultOf};
 ghost use Rattle.cf_reader.specs.Readers.{others_of, snoc};
 ghost use Rattle.cf_steps.specs.Answers.{SomeBlocks, BlocksAnswer};
-ghost use Rattle.cf_steps.specs.Blocks.{BlockTree, block_tree, block_trees};
+ghost use Rattle.cf_steps.specs.Blocks.{BlockTree, block_acts, block_tree, block_trees};
 ghost use Rattle.cf_steps.specs.Reading.{case_of, main_of, part_of, block_of, all_blocks};
 ghost use Rattle.cf_steps.specs.Spelled.{HaveSpelling};
 ghost use Rattle.cf_steps.specs.Spelling.{AreBlocks};
@@ -157,6 +157,8 @@ pub fn steps(alloc: Global, tokens: &TokenList) -> Result<Blocks, ParseFault>
     ensures place { IfErr result (λ e. IsFault SomeBlocks tokens.now.list.items tokens.now.end e) }
     // It is the place at which reading from left to right stops.
     ensures exact { IfErr result (λ e. IsFaultOf (all_blocks 500) tokens.now.list.items tokens.now.end e) }
+    // Each step has a token of its own.
+    ensures few { IfOk result (λ x. length (flat_map block_acts (block_trees x)) ≤ length tokens.now.list.items) }
     // Where the literals are within the limit, the blocks have a spelling, so that they can be printed and read again.
     ensures spelled { AreWithin (2 ^ 127 - 1) tokens.now.list.items → IfOk result (λ x. HaveSpelling x) }
 {

@@ -29,11 +29,11 @@ settled_to s kinds rows =
 
 module _ (name : Text) where
   first_operand : (x : ℕ) (xs : List ℕ) (e : (x == 45) ≡ false) (rows : List Row) → turn_fault (flagged name) [] (at rows None 1) (x ∷ xs) ≡ []
-  first_operand x xs e rows = operand_turn x xs e (flagged name) [] rows None 1 refl
+  first_operand x xs e rows = operand_turn x xs e (flagged name) [] (at rows None 1).held 1 refl
 
   next_operand : (x : ℕ) (xs : List ℕ) (e : (x == 45) ≡ false) (rows : List Row) (last : Option Text)
       → turn_fault (flagged name) [] (at rows last 2) (x ∷ xs) ≡ UnknownArgument ∷ []
-  next_operand x xs e rows last = operand_turn x xs e (flagged name) [] rows last 2 refl
+  next_operand x xs e rows last = operand_turn x xs e (flagged name) [] (at rows last 2).held 2 refl
 
   plain_turn : (rows : List Row) (position : ℕ) → has_row (codes "plain") rows ≡ false
       → turn_fault (flagged name) [] (at rows None position) (codes "--plain") ≡ []
@@ -87,14 +87,15 @@ module _ (name : Text) where
     stats_settles_turn = rw unused (ap (λ rs. turn_fault (flagged name) [] (at rs None 2) (codes "--stats")) settled_rows_are)
 
     settled_before : (us : List Use)
-        → found_from (flagged name) (at rows (Some o) 2) (words_of us) ≡ found_from (flagged name) (at (rows ++ operand_row o ∷ []) None 2) (words_of us)
+        → found_from said (flagged name) (at rows (Some o) 2) (words_of us) ≡ found_from said (flagged name) (at (rows ++ operand_row o ∷ []) None 2)
+        (words_of us)
     unfolding walk_fault
     settled_before [] = ap₂ (settled_to (flagged name)) settles settled_rows_are
-    settled_before (plain ∷ us) = ap₂ (after_turn (flagged name) (words_of us)) plain_settles_turn plain_settles_walk
-    settled_before (stats ∷ us) = ap₂ (after_turn (flagged name) (words_of us)) stats_settles_turn stats_settles_walk
+    settled_before (plain ∷ us) = ap₂ (after_turn said (flagged name) (words_of us)) plain_settles_turn plain_settles_walk
+    settled_before (stats ∷ us) = ap₂ (after_turn said (flagged name) (words_of us)) stats_settles_turn stats_settles_walk
     settled_before (operand x xs e ∷ us) =
-        fails (flagged name) (at rows (Some o) 2) (x ∷ xs) (words_of us) UnknownArgument [] (next_operand x xs e rows (Some o))
-        ∙ sym (fails (flagged name) (at (rows ++ operand_row o ∷ []) None 2) (x ∷ xs) (words_of us) UnknownArgument []
+        fails said (flagged name) (at rows (Some o) 2) (x ∷ xs) (words_of us) UnknownArgument [] (next_operand x xs e rows (Some o))
+        ∙ sym (fails said (flagged name) (at (rows ++ operand_row o ∷ []) None 2) (x ∷ xs) (words_of us) UnknownArgument []
         (next_operand x xs e (rows ++ operand_row o ∷ []) None))
 
 abbrev plain_rule : Rule
@@ -104,7 +105,7 @@ abbrev stats_rule : Rule
 stats_rule = with_index 1 (filled (flag (codes "stats")))
 
 abbrev operand_rule : Rule
-operand_rule = with_index 1 (filled the_operand)
+operand_rule = with_index 1 (filled (the_operand (codes "operand")))
 
 abbrev default_row : Text → Row
 default_row id = row_of_values id AsWritten DefaultValue (codes "false" ∷ [])
@@ -183,7 +184,7 @@ module _ (name : Text) where
       ∙ cond_same (has_row (codes "operand") (with_default then stats_rule)) (with_default then stats_rule) ∙ flag_default (codes "stats") s then stats_then
 
   ends : (p s : Bool) (o : Option Text) (rows : List Row) (position : ℕ) → Tells p s o rows
-      → found_from (flagged name) (at rows None position) [] ≡ asked_behind p s o []
+      → found_from said (flagged name) (at rows None position) [] ≡ asked_behind p s o []
   unfolding walk_fault
   ends p s o rows position h =
       let end = with_flag_default (codes "stats") s (with_flag_default (codes "plain") p rows) in
@@ -238,12 +239,12 @@ module _ (name : Text) where
   unused_flag id rows none = has_row_is id rows ∙ ap (λ r. is_some r) none
 
   flags_go : (us : List Use) (p s : Bool) (o : Option Text) (rows : List Row) → Tells p s o rows → AreOnce p s (words_of us)
-      → found_from (flagged name) (at rows None (place_of o)) (words_of us) ≡ asked_behind p s o (words_of us)
+      → found_from said (flagged name) (at rows None (place_of o)) (words_of us) ≡ asked_behind p s o (words_of us)
   flags_go [] p s o rows h once = ends name p s o rows (place_of o) h
   flags_go (plain ∷ us) true s o rows h once = absurd (true≢false once.plain)
   flags_go (plain ∷ us) false s o rows h once =
       let more = rows ++ flag_row (codes "plain") ∷ [] in
-      passes (flagged name) (at rows None (place_of o)) (at more None (place_of o)) (codes "--plain") (words_of us)
+      passes said (flagged name) (at rows None (place_of o)) (at more None (place_of o)) (codes "--plain") (words_of us)
       (plain_turn name rows (place_of o) (unused_flag (codes "plain") rows h.plain)) (plain_walk name rows (place_of o) h.plain)
       ∙ flags_go us true s o more
       (record {
@@ -254,7 +255,7 @@ module _ (name : Text) where
   flags_go (stats ∷ us) p true o rows h once = absurd (true≢false once.stats)
   flags_go (stats ∷ us) p false o rows h once =
       let more = rows ++ flag_row (codes "stats") ∷ [] in
-      passes (flagged name) (at rows None (place_of o)) (at more None (place_of o)) (codes "--stats") (words_of us)
+      passes said (flagged name) (at rows None (place_of o)) (at more None (place_of o)) (codes "--stats") (words_of us)
       (stats_turn name rows (place_of o) (unused_flag (codes "stats") rows h.stats)) (stats_walk name rows (place_of o) h.stats)
       ∙ flags_go us p true o more
       (record {
@@ -265,8 +266,8 @@ module _ (name : Text) where
   flags_go (operand x xs e ∷ us) p s None rows h once =
       let word = x ∷ xs in
       let more = rows ++ operand_row word ∷ [] in
-      passes (flagged name) (at rows None 1) (at rows (Some word) 2) word (words_of us) (first_operand name x xs e rows)
-      (operand_walk x xs e (flagged name) rows 1)
+      passes said (flagged name) (at rows None 1) (at rows (Some word) 2) word (words_of us) (first_operand name x xs e rows)
+      (operand_walk x xs e (flagged name) (at rows None 1).held 1)
       ∙ settled_before name word rows h.operand us
       ∙ flags_go us p s (Some word) more
       (record {
@@ -276,10 +277,10 @@ module _ (name : Text) where
       }) (once_behind x xs e p s (words_of us) once)
       ∙ sym (first_asked x xs e p s (words_of us))
   flags_go (operand x xs e ∷ us) p s (Some o) rows h once =
-      fails (flagged name) (at rows None 2) (x ∷ xs) (words_of us) UnknownArgument [] (next_operand name x xs e rows None)
+      fails said (flagged name) (at rows None 2) (x ∷ xs) (words_of us) UnknownArgument [] (next_operand name x xs e rows None)
       ∙ sym (next_asked x xs e p s o (words_of us))
 
   pub flags_found_are : (us : List Use) → stands_twice (codes "--plain") (words_of us) ≡ false → stands_twice (codes "--stats") (words_of us) ≡ false
-      → found_in (flagged name) (words_of us) ≡ option_map (λ o. (flags_in (words_of us), o)) (only (operands (words_of us)))
+      → found_in said (flagged name) (words_of us) ≡ option_map (λ o. (flags_in (words_of us), o)) (only (operands (words_of us)))
   flags_found_are us plain_once stats_once =
       flags_go us false false None [] (record { plain = refl; stats = refl; operand = refl }) (record { plain = plain_once; stats = stats_once })

@@ -12,14 +12,15 @@ use Rattle.clap.specs.Kinds.{Kinds, or_else}
 use Rattle.clap.specs.Simple.{Shape, built, entered, names_of}
 use Rattle.clap.specs.Walk.{Row, Text, Walk, first_of, finished, idle, nothing_held, rows_after, settled, subcommand_met, walk_from, walked}
 use Rattle.clap.specs.declared.error.kind.ErrorKind.TheVariants.{InvalidSubcommand, UnknownArgument}
-use Rattle.cf_words.specs.Commands.{Command, compile as the_compile, run as the_run, pre as the_pre, check as the_check, exec as the_exec, gen as the_gen}
-use Rattle.cf_words.specs.Grammar.{clap_command, command_found, flags_found, found_unless, grammar}
-use Rattle.cf_words.specs.Words.{command_for, command_in, flags_in, is_flag, is_operand, may_be_read, only, operands, size_of, stands, stands_twice}
+use Rattle.cf_words.specs.Commands.{Command, compile as the_compile, run as the_run, pre as the_pre, check as the_check, exec as the_exec, prove as the_prove, gen as the_gen}
+use Rattle.cf_words.specs.Grammar.{clap_command, command_found, flags_found, found_unless, grammar, verify_found}
+use Rattle.cf_words.specs.Words.{command_for, command_in, flags_in, is_flag, is_operand, may_be_read, only, operands, size_of, stands, stands_twice, verify_for}
 use Rattle.cf_words.specs.declared.command.Flags.{Flags}
 use Rattle.cf_words.proofs.Uses.{Use, words_of, not_plain, not_stats, uses_of, plain, stats, operand}
 use Rattle.cf_words.proofs.LevelLaws.{said, found_in, at, operand_turn, cond_same}
 use Rattle.cf_words.proofs.FlaggedLaws.{flagged, flags_found_are}
 use Rattle.cf_words.proofs.BareLaws.{bare, bare_found_are, no_flags}
+use Rattle.cf_words.proofs.PairedLaws.{paired, paired_found_are}
 
 pub data Verb : Type 0 where
   compile : Verb
@@ -27,6 +28,8 @@ pub data Verb : Type 0 where
   pre : Verb
   check : Verb
   exec : Verb
+  prove : Verb
+  verify : Verb
   gen : Verb
 
 abbrev verb_word : Verb → Text
@@ -35,15 +38,9 @@ verb_word run = codes "run"
 verb_word pre = codes "pre"
 verb_word check = codes "check"
 verb_word exec = codes "exec"
+verb_word prove = codes "prove"
+verb_word verify = codes "verify"
 verb_word gen = codes "gen"
-
-abbrev shape_of : Verb → Shape
-shape_of compile = flagged (codes "compile")
-shape_of run = flagged (codes "run")
-shape_of pre = bare (codes "pre")
-shape_of check = bare (codes "check")
-shape_of exec = bare (codes "exec")
-shape_of gen = bare (codes "gen")
 
 abbrev kinds_behind_top : Walk → Bool → Kinds
 kinds_behind_top w has_subcommand =
@@ -73,10 +70,37 @@ with_flags : (name : Text) (f : Flags) (o : Option Text)
 with_flags name f None = refl
 with_flags name f (Some o) = refl
 
+-- what is asked by a subcommand with this shape and one operand, and by `verify`
+abbrev asked_of_one : Shape → Text → List Text → Option Command
+asked_of_one shape name words = option_and_then (command_with name) (found_in said shape words)
+
+abbrev asked_of : Verb → List Text → Option Command
+asked_of compile words = asked_of_one (flagged (codes "compile")) (codes "compile") words
+asked_of run words = asked_of_one (flagged (codes "run")) (codes "run") words
+asked_of pre words = asked_of_one (bare (codes "pre")) (codes "pre") words
+asked_of check words = asked_of_one (bare (codes "check")) (codes "check") words
+asked_of exec words = asked_of_one (bare (codes "exec")) (codes "exec") words
+asked_of prove words = asked_of_one (bare (codes "prove")) (codes "prove") words
+asked_of verify words = found_in verify_found (paired (codes "verify")) words
+asked_of gen words = asked_of_one (bare (codes "gen")) (codes "gen") words
+
+abbrev kinds_in : Shape → List Text → Kinds
+kinds_in s words = level_fault s [] nothing_held words false []
+
 level_asks : (name : Text) (kinds : Kinds) (rows : List Row)
-    → found_unless (or_else kinds []) (command_found (Some (name, rows))) ≡ option_and_then (command_with name) (found_unless kinds (said rows))
+    → found_unless (or_else kinds []) (option_and_then (command_for name (flags_found rows)) (first_of (codes "operand") rows))
+    ≡ option_and_then (command_with name) (found_unless kinds (said rows))
 level_asks name [] rows = sym (with_flags name (flags_found rows) (first_of (codes "operand") rows))
 level_asks name (kind ∷ kinds) rows = refl
+
+level_verifies : (kinds : Kinds) (rows : List Row) → found_unless (or_else kinds []) (verify_found rows) ≡ found_unless kinds (verify_found rows)
+level_verifies [] rows = refl
+level_verifies (kind ∷ kinds) rows = refl
+
+asks_one : (shape : Shape) (name : Text) (words : List Text)
+    → found_unless (or_else (kinds_in shape words) []) (option_and_then (command_for name (flags_found (rows_after shape.rules [] words)))
+    (first_of (codes "operand") (rows_after shape.rules [] words))) ≡ asked_of_one shape name words
+asks_one shape name words = level_asks name (kinds_in shape words) (rows_after shape.rules [] words)
 
 -- the words behind a subcommand are left to it
 entering : (v : Verb) (words : List Text) → clap_command (verb_word v ∷ words) ≡ top_command [] (stopped_at (verb_word v) words)
@@ -91,19 +115,23 @@ entering check words = ap₂ top_command (stopped_fault (built grammar).top (nam
     (sym (walk_stopped (built grammar).top.rules (names_of (built grammar)) start (codes "check") [] words))
 entering exec words = ap₂ top_command (stopped_fault (built grammar).top (names_of (built grammar)) start (codes "exec", []) words)
     (sym (walk_stopped (built grammar).top.rules (names_of (built grammar)) start (codes "exec") [] words))
+entering prove words = ap₂ top_command (stopped_fault (built grammar).top (names_of (built grammar)) start (codes "prove", []) words)
+    (sym (walk_stopped (built grammar).top.rules (names_of (built grammar)) start (codes "prove") [] words))
+entering verify words = ap₂ top_command (stopped_fault (built grammar).top (names_of (built grammar)) start (codes "verify", []) words)
+    (sym (walk_stopped (built grammar).top.rules (names_of (built grammar)) start (codes "verify") [] words))
 entering gen words = ap₂ top_command (stopped_fault (built grammar).top (names_of (built grammar)) start (codes "gen", []) words)
     (sym (walk_stopped (built grammar).top.rules (names_of (built grammar)) start (codes "gen") [] words))
 
-entered_is : (v : Verb) (words : List Text)
-    → top_command [] (stopped_at (verb_word v) words) ≡ option_and_then (command_with (verb_word v)) (found_in (shape_of v) words)
+entered_is : (v : Verb) (words : List Text) → top_command [] (stopped_at (verb_word v) words) ≡ asked_of v words
 unfolding clap_on_literals
-entered_is compile words = level_asks (codes "compile") (level_fault (shape_of compile) [] nothing_held words false [])
-    (rows_after (shape_of compile).rules [] words)
-entered_is run words = level_asks (codes "run") (level_fault (shape_of run) [] nothing_held words false []) (rows_after (shape_of run).rules [] words)
-entered_is pre words = level_asks (codes "pre") (level_fault (shape_of pre) [] nothing_held words false []) (rows_after (shape_of pre).rules [] words)
-entered_is check words = level_asks (codes "check") (level_fault (shape_of check) [] nothing_held words false []) (rows_after (shape_of check).rules [] words)
-entered_is exec words = level_asks (codes "exec") (level_fault (shape_of exec) [] nothing_held words false []) (rows_after (shape_of exec).rules [] words)
-entered_is gen words = level_asks (codes "gen") (level_fault (shape_of gen) [] nothing_held words false []) (rows_after (shape_of gen).rules [] words)
+entered_is compile words = asks_one (flagged (codes "compile")) (codes "compile") words
+entered_is run words = asks_one (flagged (codes "run")) (codes "run") words
+entered_is pre words = asks_one (bare (codes "pre")) (codes "pre") words
+entered_is check words = asks_one (bare (codes "check")) (codes "check") words
+entered_is exec words = asks_one (bare (codes "exec")) (codes "exec") words
+entered_is prove words = asks_one (bare (codes "prove")) (codes "prove") words
+entered_is verify words = level_verifies (kinds_in (paired (codes "verify")) words) (rows_after (paired (codes "verify")).rules [] words)
+entered_is gen words = asks_one (bare (codes "gen")) (codes "gen") words
 
 -- a flag leaves a command without flags nothing
 without_flags : (b : Bool) (name : Text) (o : Option Text)
@@ -115,7 +143,7 @@ without_flags false name (Some o) = refl
 
 module _ (us : List Use) (plain_once : stands_twice (codes "--plain") (words_of us) ≡ false)
     (stats_once : stands_twice (codes "--stats") (words_of us) ≡ false) where
-  asked_is : (v : Verb) → option_and_then (command_with (verb_word v)) (found_in (shape_of v) (words_of us)) ≡ command_in (verb_word v ∷ words_of us)
+  asked_is : (v : Verb) → asked_of v (words_of us) ≡ command_in (verb_word v ∷ words_of us)
   asked_is compile =
       ap (option_and_then (command_with (codes "compile"))) (flags_found_are (codes "compile") us plain_once stats_once)
       ∙ with_flags (codes "compile") (flags_in (words_of us)) (only (operands (words_of us)))
@@ -131,6 +159,10 @@ module _ (us : List Use) (plain_once : stands_twice (codes "--plain") (words_of 
   asked_is exec =
       ap (option_and_then (command_with (codes "exec"))) (bare_found_are (codes "exec") us)
       ∙ without_flags (stands (codes "--plain") (words_of us) || stands (codes "--stats") (words_of us)) (codes "exec") (only (operands (words_of us)))
+  asked_is prove =
+      ap (option_and_then (command_with (codes "prove"))) (bare_found_are (codes "prove") us)
+      ∙ without_flags (stands (codes "--plain") (words_of us) || stands (codes "--stats") (words_of us)) (codes "prove") (only (operands (words_of us)))
+  asked_is verify = paired_found_are (codes "verify") us
   asked_is gen =
       ap (option_and_then (command_with (codes "gen"))) (bare_found_are (codes "gen") us)
       ∙ without_flags (stands (codes "--plain") (words_of us) || stands (codes "--stats") (words_of us)) (codes "gen") (only (operands (words_of us)))
@@ -138,13 +170,15 @@ module _ (us : List Use) (plain_once : stands_twice (codes "--plain") (words_of 
   verb_first : (v : Verb) → clap_command (verb_word v ∷ words_of us) ≡ command_in (verb_word v ∷ words_of us)
   verb_first v = entering v (words_of us) ∙ entered_is v (words_of us) ∙ asked_is v
 
--- the word is none of the six
+-- the word is no verb
 record IsOther (w : Text) : Type 0 where
   compile : (bytes_eq (codes "compile") w ≡ false) × (bytes_eq w (codes "compile") ≡ false)
   run : (bytes_eq (codes "run") w ≡ false) × (bytes_eq w (codes "run") ≡ false)
   pre : (bytes_eq (codes "pre") w ≡ false) × (bytes_eq w (codes "pre") ≡ false)
   check : (bytes_eq (codes "check") w ≡ false) × (bytes_eq w (codes "check") ≡ false)
   exec : (bytes_eq (codes "exec") w ≡ false) × (bytes_eq w (codes "exec") ≡ false)
+  prove : (bytes_eq (codes "prove") w ≡ false) × (bytes_eq w (codes "prove") ≡ false)
+  verify : (bytes_eq (codes "verify") w ≡ false) × (bytes_eq w (codes "verify") ≡ false)
   gen : (bytes_eq (codes "gen") w ≡ false) × (bytes_eq w (codes "gen") ≡ false)
 
 data Named (w : Text) : Type 0 where
@@ -162,17 +196,33 @@ apart a w = go (bytes_eq a w) refl (bytes_eq w a) refl
 named : (w : Text) → Named w
 named w = elim (apart (codes "compile") w) [
   | inl is ↦ verb compile is
-  | inr c ↦ elim (apart (codes "run") w) [
+  | inr not_compile ↦ elim (apart (codes "run") w) [
     | inl is ↦ verb run is
-    | inr r ↦ elim (apart (codes "pre") w) [
+    | inr not_run ↦ elim (apart (codes "pre") w) [
       | inl is ↦ verb pre is
-      | inr p ↦ elim (apart (codes "check") w) [
+      | inr not_pre ↦ elim (apart (codes "check") w) [
         | inl is ↦ verb check is
-        | inr k ↦ elim (apart (codes "exec") w) [
+        | inr not_check ↦ elim (apart (codes "exec") w) [
           | inl is ↦ verb exec is
-          | inr e ↦ elim (apart (codes "gen") w) [
-            | inl is ↦ verb gen is
-            | inr g ↦ other (record { compile = c; run = r; pre = p; check = k; exec = e; gen = g })
+          | inr not_exec ↦ elim (apart (codes "prove") w) [
+            | inl is ↦ verb prove is
+            | inr not_prove ↦ elim (apart (codes "verify") w) [
+              | inl is ↦ verb verify is
+              | inr not_verify ↦ elim (apart (codes "gen") w) [
+                | inl is ↦ verb gen is
+                | inr not_gen ↦ other
+                    (record {
+                      compile = not_compile;
+                      run = not_run;
+                      pre = not_pre;
+                      check = not_check;
+                      exec = not_exec;
+                      prove = not_prove;
+                      verify = not_verify;
+                      gen = not_gen;
+                    })
+              ]
+            ]
           ]
         ]
       ]
@@ -188,8 +238,15 @@ other_asks_none : (f : Flags) (word : Text) → IsOther word → (x : Text) → 
 other_asks_none f word h x =
     (λ i. cond (h.compile.1 i) (Some (the_compile f x)) (cond (h.run.1 i) (Some (the_run f x)) (cond (f.plain || f.stats) None
     (cond (h.pre.1 i) (Some (the_pre x)) (cond (h.check.1 i) (Some (the_check x)) (cond (h.exec.1 i) (Some (the_exec x))
-    (cond (h.gen.1 i) (option_map the_gen (size_of x)) None)))))))
+    (cond (h.prove.1 i) (Some (the_prove x)) (cond (h.gen.1 i) (option_map the_gen (size_of x)) None))))))))
     ∙ cond_same (f.plain || f.stats) None
+
+-- behind such a word nothing is asked
+other_in : (w : Text) (words : List Text) → IsOther w → command_in (w ∷ words) ≡ None
+other_in w words h =
+    let f = flags_in words in
+    ap (λ b. cond b (verify_for f (operands words)) (option_and_then (command_for w f) (only (operands words)))) h.verify.1
+    ∙ none_then (command_for w f) (only (operands words)) (other_asks_none f w h)
 
 abbrev hit : Text → Option (Text × List Text)
 hit name = Some (name, [])
@@ -199,11 +256,12 @@ no_subcommand : (w : Text) → IsOther w → subcommand_met (names_of (built gra
 no_subcommand w h =
     λ i. option_map (λ s. s.0) (cond (h.compile.0 i || false) (hit (codes "compile")) (cond (h.run.0 i || false) (hit (codes "run"))
     (cond (h.pre.0 i || false) (hit (codes "pre")) (cond (h.check.0 i || false) (hit (codes "check")) (cond (h.exec.0 i || false) (hit (codes "exec"))
-    (cond (h.gen.0 i || false) (hit (codes "gen")) None))))))
+    (cond (h.prove.0 i || false) (hit (codes "prove")) (cond (h.verify.0 i || false) (hit (codes "verify")) (cond (h.gen.0 i || false) (hit (codes "gen"))
+    None))))))))
 
 stray : (x : ℕ) (xs : List ℕ) (e : (x == 45) ≡ false) → IsOther (x ∷ xs)
     → turn_fault (built grammar).top (names_of (built grammar)) (at [] None 1) (x ∷ xs) ≡ UnknownArgument ∷ InvalidSubcommand ∷ []
-stray x xs e h = operand_turn x xs e (built grammar).top (names_of (built grammar)) [] None 1 (no_subcommand (x ∷ xs) h)
+stray x xs e h = operand_turn x xs e (built grammar).top (names_of (built grammar)) (at [] None 1).held 1 (no_subcommand (x ∷ xs) h)
 
 abbrev top_turn : List Text → Kinds → Walk → Option Command
 top_turn words turn w =
@@ -223,7 +281,7 @@ all_first us w (verb v is) x xs e here plain_once stats_once =
     subst (λ y. clap_command (y ∷ words_of us) ≡ command_in (y ∷ words_of us)) is (verb_first us plain_once stats_once v)
 all_first us w (other h) x xs e here plain_once stats_once =
     subst (λ y. clap_command (y ∷ words_of us) ≡ None) here (other_first x xs e (words_of us) (subst IsOther (sym here) h))
-    ∙ sym (none_then (command_for w (flags_in (words_of us))) (only (operands (words_of us))) (other_asks_none (flags_in (words_of us)) w h))
+    ∙ sym (other_in w (words_of us) h)
 
 uses_go : (us : List Use) → stands_twice (codes "--plain") (words_of us) ≡ false → stands_twice (codes "--stats") (words_of us) ≡ false
     → clap_command (words_of us) ≡ command_in (words_of us)

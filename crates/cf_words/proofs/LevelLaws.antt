@@ -1,5 +1,5 @@
 -- One more word of clap's walk behind a subcommand.
-use Rattle.std.proofs.Common.{◌≡◌, ◌∙◌, ◌==◌, ℕ, Bool, true, false, cond, refl, sym, ap, ap₂, List, [], ◌∷◌, fold, Option, Some, None, option_map, codes, bytes_eq}
+use Rattle.std.proofs.Common.{◌≡◌, ◌∙◌, ◌||◌, ◌==◌, ℕ, Bool, true, false, cond, refl, sym, ap, ap₂, List, [], ◌∷◌, fold, Option, Some, None, option_map, codes, bytes_eq}
 use Rattle.std.specs.Option.{option_map_or}
 use Rattle.clap.proofs.FaultLemmas.{turn_is}
 use Rattle.clap.proofs.WalkLemmas.{walked_is}
@@ -27,44 +27,48 @@ kinds_behind s end =
     or_else (settle_fault s.rules s.args_override_self end)
     (or_else (defaults_fault (settled s.rules end).rows s.rules) (check_fault s (finished s.rules end) false))
 
-abbrev pub found_from : Shape → Walk → List Text → Option (Flags × Text)
-found_from s w words =
-    found_unless (or_else (walk_fault s [] w words) (kinds_behind s (end_of s w words))) (said (finished s.rules (end_of s w words)))
+-- what `say` finds in the rows of a level, from a walk on, and from nothing; and one more word that passes, and one that does not
+module _ {X : Type 0} (say : List Row → Option X) where
+  abbrev pub found_from : Shape → Walk → List Text → Option X
+  found_from s w words =
+      found_unless (or_else (walk_fault s [] w words) (kinds_behind s (end_of s w words))) (say (finished s.rules (end_of s w words)))
 
--- the flags and the operand that clap finds behind the name of a subcommand
-abbrev pub found_in : Shape → List Text → Option (Flags × Text)
-found_in s words = found_unless (level_fault s [] nothing_held words false []) (said (rows_after s.rules [] words))
+  abbrev pub found_in : Shape → List Text → Option X
+  found_in s words = found_unless (level_fault s [] nothing_held words false []) (say (rows_after s.rules [] words))
 
--- one more word that passes, and one that does not
-abbrev pub after_turn : Shape → List Text → Kinds → Walk → Option (Flags × Text)
-after_turn s words turn w =
-    found_unless (or_else (or_else turn (walk_fault s [] w words)) (kinds_behind s (end_of s w words))) (said (finished s.rules (end_of s w words)))
+  abbrev pub after_turn : Shape → List Text → Kinds → Walk → Option X
+  after_turn s words turn w =
+      found_unless (or_else (or_else turn (walk_fault s [] w words)) (kinds_behind s (end_of s w words))) (say (finished s.rules (end_of s w words)))
 
-pub passes : (s : Shape) (w after : Walk) (word : Text) (words : List Text) → turn_fault s [] w word ≡ [] → walked s.rules [] w word ≡ after
-    → found_from s w (word ∷ words) ≡ found_from s after words
-unfolding walk_fault
-passes s w after word words passed is = ap₂ (after_turn s words) passed is
+  pub passes : (s : Shape) (w after : Walk) (word : Text) (words : List Text) → turn_fault s [] w word ≡ [] → walked s.rules [] w word ≡ after
+      → found_from s w (word ∷ words) ≡ found_from s after words
+  unfolding walk_fault
+  passes s w after word words passed is = ap₂ (after_turn s words) passed is
 
-pub fails : (s : Shape) (w : Walk) (word : Text) (words : List Text) (kind : _) (kinds : Kinds) → turn_fault s [] w word ≡ kind ∷ kinds
-    → found_from s w (word ∷ words) ≡ None
-unfolding walk_fault
-fails s w word words kind kinds failed = ap (λ turn. after_turn s words turn (walked s.rules [] w word)) failed
+  pub fails : (s : Shape) (w : Walk) (word : Text) (words : List Text) (kind : _) (kinds : Kinds) → turn_fault s [] w word ≡ kind ∷ kinds
+      → found_from s w (word ∷ words) ≡ None
+  unfolding walk_fault
+  fails s w word words kind kinds failed = ap (λ turn. after_turn s words turn (walked s.rules [] w word)) failed
 
--- the rows so far, and the operand if it is the last word
+-- the walk between two words of a level
+abbrev pub between : Held → ℕ → Walk
+between held position = record { held = held; waiting = idle; position = position; is_trailing = false; stopped = None }
+
+-- the rows so far, and the last word if the argument of this id has it
+abbrev pub held_with : Text → List Row → Option Text → Held
+held_with id rows last = record { rows = rows; pending = option_map (λ o. (id, o ∷ [])) last; skip = 0 }
+
 abbrev pub at : List Row → Option Text → ℕ → Walk
-at rows last position = record {
-  held = record { rows = rows; pending = option_map (λ o. (codes "operand", o ∷ [])) last; skip = 0 };
-  waiting = idle;
-  position = position;
-  is_trailing = false;
-  stopped = None;
-}
+at rows last position = between (held_with (codes "operand") rows last) position
 
 abbrev pub flag_row : Text → Row
 flag_row id = row_of_values id AsWritten CommandLine (codes "true" ∷ [])
 
+abbrev pub row_with : Text → Text → Row
+row_with id o = row_of_values id AsWritten CommandLine (o ∷ [])
+
 abbrev pub operand_row : Text → Row
-operand_row o = row_of_values (codes "operand") AsWritten CommandLine (o ∷ [])
+operand_row o = row_with (codes "operand") o
 
 -- an operand is no flag
 module _ (x : ℕ) (xs : List ℕ) (e : (x == 45) ≡ false) where
@@ -90,16 +94,15 @@ module _ (x : ℕ) (xs : List ℕ) (e : (x == 45) ≡ false) where
       ∙ ap₂ (λ dashes long. cond dashes [] (flag_word_fault s.rules s.args_override_self long (x ∷ xs) h)) no_dashes no_long
       ∙ ap (λ short. option_map_or (λ flags. bundle_fault s.rules s.args_override_self flags h) short []) no_short
 
-  pub operand_turn : (s : Shape) (names : Names) (rows : List Row) (last : Option Text) (position : ℕ) → subcommand_met names idle (x ∷ xs) ≡ None
-      → turn_fault s names (at rows last position) (x ∷ xs) ≡ step_fault s position (at rows last position).held value
-  operand_turn s names rows last position none =
-      let w = at rows last position in
-      sym (turn_is s names w (x ∷ xs) w.held value (sym (operand_met s.rules names position w.held none)) (operand_fits s names w.held none))
+  pub operand_turn : (s : Shape) (names : Names) (h : Held) (position : ℕ) → subcommand_met names idle (x ∷ xs) ≡ None
+      → turn_fault s names (between h position) (x ∷ xs) ≡ step_fault s position h value
+  operand_turn s names h position none =
+      sym (turn_is s names (between h position) (x ∷ xs) h value (sym (operand_met s.rules names position h none)) (operand_fits s names h none))
 
-  pub operand_walk : (s : Shape) (rows : List Row) (position : ℕ)
-      → walked s.rules [] (at rows None position) (x ∷ xs) ≡ after_step s.rules (x ∷ xs) (at rows None position) (at rows None position).held value
-  operand_walk s rows position =
-      let w = at rows None position in sym (walked_is s.rules [] w (x ∷ xs) w.held value (sym (operand_met s.rules [] position w.held refl)))
+  pub operand_walk : (s : Shape) (h : Held) (position : ℕ)
+      → walked s.rules [] (between h position) (x ∷ xs) ≡ after_step s.rules (x ∷ xs) (between h position) h value
+  operand_walk s h position =
+      sym (walked_is s.rules [] (between h position) (x ∷ xs) h value (sym (operand_met s.rules [] position h refl)))
 
 -- the operand that came before, if one came, and those that come
 abbrev pub given_or : Option Text → List Text → List Text
@@ -109,3 +112,7 @@ given_or (Some o) words = o ∷ words
 pub cond_same : {X : Type 0} (b : Bool) (x : X) → cond b x x ≡ x
 cond_same true x = refl
 cond_same false x = refl
+
+pub or_true : (b : Bool) → (b || true) ≡ true
+or_true true = refl
+or_true false = refl

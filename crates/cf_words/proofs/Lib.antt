@@ -4,6 +4,7 @@ pub mod Uses
 pub mod LevelLaws
 pub mod FlaggedLaws
 pub mod BareLaws
+pub mod PairedLaws
 pub mod GrammarLaws
 pub mod FoundLemmas
 pub mod SizeLemmas

@@ -1,7 +1,7 @@
 -- Worked examples of the command that words are.
 use Rattle.std.proofs.Common.{◌≡◌, refl, true, false, [], ◌∷◌, Some, None, codes}
 use Rattle.std.specs.Fmt.{digits}
-use Rattle.cf_words.specs.Commands.{compile, run, pre, check, exec, gen}
+use Rattle.cf_words.specs.Commands.{compile, run, pre, check, exec, prove, verify, gen}
 use Rattle.cf_words.specs.Words.{command_of, most_size}
 
 no_flags : command_of (codes "run" ∷ codes "a" ∷ []) ≡ Some (run (record { plain = false; stats = false }) (codes "a"))
@@ -75,6 +75,45 @@ pre_file = refl
 
 check_file : command_of (codes "check" ∷ codes "a" ∷ []) ≡ Some (check (codes "a"))
 check_file = refl
+
+prove_file : command_of (codes "prove" ∷ codes "a" ∷ []) ≡ Some (prove (codes "a"))
+prove_file = refl
+
+prove_two_files : command_of (codes "prove" ∷ codes "a" ∷ codes "b" ∷ []) ≡ None
+prove_two_files = refl
+
+prove_nothing : command_of (codes "prove" ∷ []) ≡ None
+prove_nothing = refl
+
+flag_of_prove : command_of (codes "prove" ∷ codes "a" ∷ codes "--plain" ∷ []) ≡ None
+flag_of_prove = refl
+
+verify_files : command_of (codes "verify" ∷ codes "a" ∷ codes "b" ∷ []) ≡ Some (verify (codes "a") (codes "b"))
+verify_files = refl
+
+verify_one_file : command_of (codes "verify" ∷ codes "a" ∷ []) ≡ None
+verify_one_file = refl
+
+verify_three_files : command_of (codes "verify" ∷ codes "a" ∷ codes "b" ∷ codes "c" ∷ []) ≡ None
+verify_three_files = refl
+
+verify_nothing : command_of (codes "verify" ∷ []) ≡ None
+verify_nothing = refl
+
+plain_of_verify : command_of (codes "verify" ∷ codes "--plain" ∷ codes "a" ∷ codes "b" ∷ []) ≡ None
+plain_of_verify = refl
+
+stats_of_verify : command_of (codes "verify" ∷ codes "a" ∷ codes "b" ∷ codes "--stats" ∷ []) ≡ None
+stats_of_verify = refl
+
+flag_between_files : command_of (codes "verify" ∷ codes "a" ∷ codes "--stats" ∷ codes "b" ∷ []) ≡ None
+flag_between_files = refl
+
+empty_steps_name : command_of (codes "verify" ∷ codes "a" ∷ [] ∷ []) ≡ None
+empty_steps_name = refl
+
+files_named_verify : command_of (codes "verify" ∷ codes "verify" ∷ codes "verify" ∷ []) ≡ Some (verify (codes "verify") (codes "verify"))
+files_named_verify = refl
 
 file_named_run : command_of (codes "run" ∷ codes "run" ∷ []) ≡ Some (run (record { plain = false; stats = false }) (codes "run"))
 file_named_run = refl

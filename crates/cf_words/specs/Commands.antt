@@ -1,9 +1,9 @@
--- The commands. Words that ask to prove or verify are not read yet.
+-- The commands.
 use Rattle.std.specs.Prelude.{◌≤◌, ⊤, ℕ, List}
 use Rattle.cf_words.specs.declared.command.Command as declared
-use Rattle.cf_words.specs.declared.command.Command.TheVariants.{OnFile, Gen}
+use Rattle.cf_words.specs.declared.command.Command.TheVariants.{OnFile, Verify, Gen}
 use Rattle.cf_words.specs.declared.command.CommandKind.{CommandKind}
-use Rattle.cf_words.specs.declared.command.CommandKind.TheVariants.{Compile, Run, Pre, Check, Exec}
+use Rattle.cf_words.specs.declared.command.CommandKind.TheVariants.{Compile, Run, Pre, Check, Exec, Prove}
 use Rattle.cf_words.specs.declared.command.Flags.{Flags}
 
 pub data Command : Type 0 where
@@ -23,13 +23,16 @@ command_on Run flags file = run flags file
 command_on Pre flags file = pre file
 command_on Check flags file = check file
 command_on Exec flags file = exec file
+command_on Prove flags file = prove file
 
 -- a command of the program, without where its words lie in memory
 abbrev pub plain_command : declared.Command → Command
 plain_command (OnFile c) = command_on c.kind c.flags c.file.now
+plain_command (Verify file steps) = verify file.now steps.now
 plain_command (Gen n) = gen n
 
 -- a workload has a size from 1 to 100
 abbrev pub HasSize : declared.Command → Type 0
 HasSize (OnFile c) = ⊤
+HasSize (Verify file steps) = ⊤
 HasSize (Gen n) = (1 ≤ n) × (n ≤ 100)

@@ -1,7 +1,7 @@
 -- The words of the command line, and the command that they are.
 use Rattle.std.specs.Prelude.{◌≡◌, ⊤, ℕ, List, [], ◌∷◌, Bool, false, not, ◌&&◌, ◌||◌, ◌==◌, if◌then◌else◌, Option, Some, None, option_map, option_and_then, find, filter, codes, decimal, bytes_eq, Result, Ok, Err}
 use Rattle.std.specs.List.{list_all, list_any, range_with_len}
-use Rattle.cf_words.specs.Commands.{Command, compile, run, pre, check, exec, gen, plain_command}
+use Rattle.cf_words.specs.Commands.{Command, compile, run, pre, check, exec, prove, verify, gen, plain_command}
 use Rattle.cf_words.specs.declared.command.Command as declared
 use Rattle.cf_words.specs.declared.command.Flags.{Flags}
 use Rattle.cf_words.specs.declared.fault.WordsFault.{WordsFault}
@@ -45,6 +45,7 @@ command_for first flags operand =
     else if bytes_eq first (codes "pre") then Some (pre operand)
     else if bytes_eq first (codes "check") then Some (check operand)
     else if bytes_eq first (codes "exec") then Some (exec operand)
+    else if bytes_eq first (codes "prove") then Some (prove operand)
     else if bytes_eq first (codes "gen") then option_map gen (size_of operand)
     else None
 
@@ -61,10 +62,17 @@ abbrev pub only : List (List ℕ) → Option (List ℕ)
 only (operand ∷ []) = Some operand
 only operands = None
 
--- behind the first word stand one operand and flags
+-- the command `verify`, which takes two operands and no flag
+abbrev pub verify_for : Flags → List (List ℕ) → Option Command
+verify_for flags (file ∷ steps ∷ []) = if flags.plain || flags.stats then None else Some (verify file steps)
+verify_for flags operands = None
+
+-- behind the first word stand flags and one operand, or two behind `verify`
 abbrev pub command_in : List (List ℕ) → Option Command
 command_in [] = None
-command_in (first ∷ words) = option_and_then (command_for first (flags_in words)) (only (operands words))
+command_in (first ∷ words) =
+    if bytes_eq first (codes "verify") then verify_for (flags_in words) (operands words)
+    else option_and_then (command_for first (flags_in words)) (only (operands words))
 
 -- the command that the words are; none where they are no command
 abbrev pub command_of : List (List ℕ) → Option Command

@@ -14,6 +14,9 @@ pub enum CommandKind {
     Check,
     /// The file holds a target text. The input is answered by it.
     Exec,
+    /// The file holds a source text. The steps of the elimination of each choose, and the choose's own
+    /// target, are written.
+    Prove,
 }
 
 /// What is asked of the passes.
@@ -38,6 +41,8 @@ pub struct FileCommand<'a> {
 pub enum Command<'a> {
     /// Something is done with a file.
     OnFile(FileCommand<'a>),
+    /// The steps in the second file are checked against the source text in the first.
+    Verify { file: &'a str, steps: &'a str },
     /// The workload of this size, from 1 to 100, is made, compiled and run.
     Gen(u32),
 }

@@ -1,8 +1,8 @@
 //! What `clap` is told of the words: one level of subcommands, no help and no version.
-ghost use Rattle.std.specs.Prelude.{◌≡◌, IfOk, false};
+ghost use Rattle.std.specs.Prelude.{◌≡◌, IfOk, false, codes};
 ghost use Rattle.clap.specs.declared.builder.command.Command.TheViews.{out-Command};
 ghost use Rattle.clap.specs.Words.{app_of, rule_of, with_subcommand as adds_subcommand};
-ghost use Rattle.cf_words.specs.Grammar.{bare_subcommand, flag as the_flag, flagged_subcommand, grammar as the_grammar, operand as the_operand, program as the_program};
+ghost use Rattle.cf_words.specs.Grammar.{bare_subcommand, flag as the_flag, flagged_subcommand, grammar as the_grammar, operand as the_operand, paired_subcommand, program as the_program};
 
 use cf_tree::memory::without;
 use clap::{Arg, ArgAction, Command};
@@ -12,12 +12,30 @@ use std::alloc::{AllocError, Global};
 pub(crate) fn grammar<'a>(alloc: Global) -> Result<Command<'a>, AllocError>
     ensures { IfOk result (λ c. app_of c ≡ the_grammar) }
 {
-    let compiling = with_flags(alloc, program(alloc), "compile")?;
-    let running = with_flags(alloc, compiling, "run")?;
+    let running = with_compiling(alloc, program(alloc))?;
     let telling = without_flags(alloc, running, "pre")?;
     let checking = without_flags(alloc, telling, "check")?;
     let executing = without_flags(alloc, checking, "exec")?;
-    without_flags(alloc, executing, "gen")
+    let verifying = with_certificates(alloc, executing)?;
+    without_flags(alloc, verifying, "gen")
+}
+
+// The program with `compile` and `run`, which take flags.
+fn with_compiling<'a>(alloc: Global, program: Command<'a>) -> Result<Command<'a>, AllocError>
+    ensures { IfOk result (λ c. app_of c ≡ adds_subcommand (adds_subcommand (app_of program.entry) (flagged_subcommand (codes "compile")).top)
+        (flagged_subcommand (codes "run")).top) }
+{
+    let compiling = with_flags(alloc, program, "compile")?;
+    with_flags(alloc, compiling, "run")
+}
+
+// The program with `prove` and `verify`.
+fn with_certificates<'a>(alloc: Global, program: Command<'a>) -> Result<Command<'a>, AllocError>
+    ensures { IfOk result (λ c. app_of c ≡ adds_subcommand (adds_subcommand (app_of program.entry) (bare_subcommand (codes "prove")).top)
+        (paired_subcommand (codes "verify")).top) }
+{
+    let proving = without_flags(alloc, program, "prove")?;
+    with_pair(alloc, proving, "verify")
 }
 
 fn program<'a>(alloc: Global) -> Command<'a>
@@ -58,19 +76,41 @@ fn without_flags<'a>(
     }
 }
 
+// The program with one more subcommand, which takes two operands and no flag.
+fn with_pair<'a>(
+    alloc: Global,
+    program: Command<'a>,
+    name: &'a str,
+) -> Result<Command<'a>, AllocError>
+    ensures { IfOk result (λ c. app_of c ≡ adds_subcommand (app_of program.entry) (paired_subcommand name.entry.now).top) }
+{
+    match paired(alloc, name) {
+        Ok(subcommand) => program.subcommand(subcommand),
+        Err(fault) => Err(without(program, fault)),
+    }
+}
+
 fn flagged<'a>(alloc: Global, name: &'a str) -> Result<Command<'a>, AllocError>
     ensures { IfOk result (λ c. (app_of c ≡ flagged_subcommand name.entry.now) × ((out-Command c).has_globals ≡ false)) }
 {
     Command::new(alloc, name)
         .arg(flag(alloc, "plain"))?
         .arg(flag(alloc, "stats"))?
-        .arg(operand(alloc))
+        .arg(operand(alloc, "operand"))
 }
 
 fn bare<'a>(alloc: Global, name: &'a str) -> Result<Command<'a>, AllocError>
     ensures { IfOk result (λ c. (app_of c ≡ bare_subcommand name.entry.now) × ((out-Command c).has_globals ≡ false)) }
 {
-    Command::new(alloc, name).arg(operand(alloc))
+    Command::new(alloc, name).arg(operand(alloc, "operand"))
+}
+
+fn paired<'a>(alloc: Global, name: &'a str) -> Result<Command<'a>, AllocError>
+    ensures { IfOk result (λ c. (app_of c ≡ paired_subcommand name.entry.now) × ((out-Command c).has_globals ≡ false)) }
+{
+    Command::new(alloc, name)
+        .arg(operand(alloc, "file"))?
+        .arg(operand(alloc, "steps"))
 }
 
 fn flag<'a>(alloc: Global, name: &'a str) -> Arg<'a>
@@ -79,8 +119,8 @@ fn flag<'a>(alloc: Global, name: &'a str) -> Arg<'a>
     Arg::new(alloc, name).long(name).action(ArgAction::SetTrue)
 }
 
-fn operand<'a>(alloc: Global) -> Arg<'a>
-    ensures { (rule_of result ≡ the_operand) × (result.global ≡ false) }
+fn operand<'a>(alloc: Global, name: &'a str) -> Arg<'a>
+    ensures { (rule_of result ≡ the_operand name.entry.now) × (result.global ≡ false) }
 {
-    Arg::new(alloc, "operand").required(true)
+    Arg::new(alloc, name).required(true)
 }

@@ -2,7 +2,7 @@
 ghost use Rattle.std.specs.Prelude.{◌≡◌, map, string_bytes, Some, IfSome, option_map};
 ghost use Rattle.clap.specs.Words.{found_of, rows_of, subcommand_rows_of};
 ghost use Rattle.cf_words.specs.Commands.{HasSize, plain_command};
-ghost use Rattle.cf_words.specs.Grammar.{MatchesAnswer, clap_command, command_found as the_command_found, flags_found as the_flags_found, is_set as the_is_set};
+ghost use Rattle.cf_words.specs.Grammar.{MatchesAnswer, clap_command, command_found as the_command_found, flags_found as the_flags_found, is_set as the_is_set, verify_found as the_verify_found};
 ghost use Rattle.cf_words.specs.Words.{command_for as the_command_for};
 
 use crate::command::{Command, CommandKind, FileCommand, Flags};
@@ -44,8 +44,21 @@ fn command_behind<'a>(name: &str, found: &ArgMatches<'a>) -> Option<Command<'a>>
     ensures command { option_map plain_command result ≡ the_command_found (Some (name.now, rows_of (found_of found.now))) }
     ensures size { IfSome result HasSize }
 {
+    if name == "verify" {
+        return verify_found(found);
+    }
     let operand = found.get_str("operand")?;
     command_for(name, flags_found(found), operand)
+}
+
+// The command `verify` on the two operands that were found.
+fn verify_found<'a>(found: &ArgMatches<'a>) -> Option<Command<'a>>
+    ensures command { option_map plain_command result ≡ the_verify_found (rows_of (found_of found.now)) }
+    ensures size { IfSome result HasSize }
+{
+    let file = found.get_str("file")?;
+    let steps = found.get_str("steps")?;
+    Some(Command::Verify { file, steps })
 }
 
 fn flags_found(found: &ArgMatches<'_>) -> Flags
@@ -83,6 +96,8 @@ fn command_for<'a>(first: &str, flags: Flags, operand: &'a str) -> Option<Comman
         Some(on_file(CommandKind::Check, flags, operand))
     } else if first == "exec" {
         Some(on_file(CommandKind::Exec, flags, operand))
+    } else if first == "prove" {
+        Some(on_file(CommandKind::Prove, flags, operand))
     } else if first == "gen" {
         Some(Command::Gen(size_of(operand)?))
     } else {
