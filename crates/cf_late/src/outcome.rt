@@ -5,7 +5,7 @@ use cf_linear::refusal::Refusal;
 /// What a program gives on some values whose chooses are eliminated where they are entered.
 #[derive(Drop)]
 pub enum LateOutcome {
-    /// One value for each result of its main function.
+    /// The values of its main function.
     Values(Vec<Value>),
     /// The number of the choose that has no solution.
     NoSolution(u32),

@@ -47,7 +47,8 @@ fn joined(alloc: Global, pieces: &[&[u8]]) -> Result<Vec<u8>, NoMemory>
     Ok(text)
 }
 
-fn kind_text(kind: &LimitKind) -> &'static [u8]
+/// The name of what a limit counts.
+pub fn kind_text(kind: &LimitKind) -> &'static [u8]
     ensures { result.now ≡ the_kind_text kind.now }
 {
     match kind {
