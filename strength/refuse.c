@@ -3,6 +3,8 @@
 //
 //   SHIM_PAGE=FILE        the file of the counts, of at least the size of `struct page`
 //   SHIM_REFUSE=N|N-      the Nth allocation is refused, or all from the Nth on
+//   SHIM_SWEEP=K:FILE     in children, of which FILE tells, each Kth allocation from the first on is refused, alone and with all behind it; the run itself
+//                         goes on as if nothing were. It needs SHIM_PAGE, and both outputs as files that can be read
 //   SHIM_FAIL=N|N-:HOW    the Nth call fails, or also all behind it that are of its kind and descriptor. HOW is an error's number, or `one`, which moves one
 //                         byte, or `none`, which moves none
 //   SHIM_PIECE=N          each read and each write moves at most N bytes
@@ -11,20 +13,24 @@
 #define _GNU_SOURCE
 #include <errno.h>
 #include <fcntl.h>
+#include <signal.h>
 #include <stdarg.h>
 #include <stdatomic.h>
 #include <stdint.h>
 #include <stdlib.h>
 #include <string.h>
 #include <sys/mman.h>
+#include <sys/prctl.h>
+#include <sys/sendfile.h>
 #include <sys/syscall.h>
+#include <sys/wait.h>
 #include <unistd.h>
 
 extern void *__libc_malloc(size_t);
 extern void *__libc_calloc(size_t, size_t);
 extern void *__libc_realloc(void *, size_t);
 
-enum { MOST_CALLS = 65536 };
+enum { MOST_CALLS = 65536, MOST_DESCRIPTORS = 64, MOST_SECONDS = 600 };
 
 // One call as it was asked: 'o', 'r' or 'w', with the descriptor, the bytes asked for and the answer (an error's number below 0).
 struct call {
@@ -50,6 +56,22 @@ struct span {
   uint64_t last;
 };
 
+// How a child ended in which these allocations were refused. What it wrote stands behind this: `out` bytes, and `err` bytes of the standard error.
+struct end {
+  struct span refused;
+  int64_t status;
+  int64_t calls;
+  int64_t out;
+  int64_t err;
+};
+
+// What a child shares with its parent: the page, and of each open file the place in it, so that an output ends there. It is -1 where no file is open.
+struct shared {
+  uint64_t allocations;
+  uint64_t calls;
+  off_t places[MOST_DESCRIPTORS];
+};
+
 enum { ERROR, ONE, NONE };
 
 static struct span refused;
@@ -57,6 +79,9 @@ static struct span failing;
 static int how;
 static int error;
 static size_t piece;
+// Each `step`th allocation is tried, and `ends` tells of the children; there is no sweep where `step` is 0, as in a child.
+static uint64_t step;
+static int ends;
 
 static int is_within(struct span span, uint64_t n) {
   return span.first != 0 && span.first <= n && n <= span.last;
@@ -101,6 +126,19 @@ static void open_page(const char *name) {
   page->calls = 0;
 }
 
+// The file of the ends is kept away from the descriptors that the program uses. The sweep ends with the script that asked for it.
+static void read_sweep(const char *word) {
+  char *name;
+  uint64_t every = strtoull(word, &name, 10);
+  if (*name == ':') name++;
+  int file = syscall(SYS_openat, AT_FDCWD, name, O_WRONLY | O_CREAT | O_TRUNC | O_CLOEXEC, 0600);
+  ends = fcntl(file, F_DUPFD_CLOEXEC, MOST_DESCRIPTORS);
+  if (ends < 0) abort();
+  close(file);
+  prctl(PR_SET_PDEATHSIG, SIGKILL);
+  step = every;
+}
+
 // What was asked before this, as the program's start is made ready, is not counted.
 __attribute__((constructor)) static void start(void) {
   const char *rest;
@@ -109,11 +147,62 @@ __attribute__((constructor)) static void start(void) {
   if ((word = getenv("SHIM_REFUSE"))) refused = read_span(word, &rest);
   if ((word = getenv("SHIM_FAIL"))) read_failure(word);
   if ((word = getenv("SHIM_PIECE"))) piece = strtoull(word, NULL, 10);
+  if ((word = getenv("SHIM_SWEEP"))) read_sweep(word);
+}
+
+static void copy_to_ends(int descriptor, off_t size) {
+  off_t at = 0;
+  while (at < size) {
+    if (sendfile(ends, descriptor, &at, size - at) <= 0) abort();
+  }
+}
+
+static void note_end(struct span span, int status) {
+  struct end end = {span, status, page->calls, lseek(STDOUT_FILENO, 0, SEEK_END), lseek(STDERR_FILENO, 0, SEEK_END)};
+  if (syscall(SYS_write, ends, &end, sizeof end) != sizeof end) abort();
+  copy_to_ends(STDOUT_FILENO, end.out);
+  copy_to_ends(STDERR_FILENO, end.err);
+}
+
+static struct shared now_shared(void) {
+  struct shared shared = {.allocations = page->allocations, .calls = page->calls};
+  for (int i = 0; i < MOST_DESCRIPTORS; i++) shared.places[i] = lseek(i, 0, SEEK_CUR);
+  return shared;
+}
+
+static void put_back(const struct shared *shared) {
+  page->allocations = shared->allocations;
+  page->calls = shared->calls;
+  for (int i = 0; i < MOST_DESCRIPTORS; i++) {
+    if (shared->places[i] >= 0) lseek(i, shared->places[i], SEEK_SET);
+  }
+  if (ftruncate(STDOUT_FILENO, shared->places[STDOUT_FILENO]) || ftruncate(STDERR_FILENO, shared->places[STDERR_FILENO])) abort();
+}
+
+// Goes on in a child where these allocations are refused, and when that has ended in this process, as if there had been no child.
+static void try_refused(struct span span) {
+  int status;
+  int before = errno;
+  struct shared shared = now_shared();
+  pid_t child = fork();
+  if (child == 0) {
+    step = 0;
+    refused = span;
+    alarm(MOST_SECONDS);
+  } else {
+    if (child < 0 || waitpid(child, &status, 0) != child) abort();
+    note_end(span, status);
+    put_back(&shared);
+  }
+  errno = before;
 }
 
 static int is_refused(void) {
-  page->allocations++;
-  if (!is_within(refused, page->allocations)) return 0;
+  uint64_t n = ++page->allocations;
+  int is_tried = step && (n - 1) % step == 0;
+  if (is_tried) try_refused((struct span){n, n});
+  if (is_tried && step) try_refused((struct span){n, UINT64_MAX});
+  if (!is_within(refused, n)) return 0;
   errno = ENOMEM;
   return 1;
 }

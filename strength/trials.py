@@ -71,16 +71,16 @@ class Bench:
         """Writes a file of the folder."""
         (self.folder / name).write_bytes(text)
 
-    def run(self, words, environment=None, most=-1):
-        """Runs the program on these words; the file `input` is its standard input. One that takes too long is killed.
+    def run(self, words, environment=None, most=-1, seconds=MOST_SECONDS):
+        """Runs the program on these words; the file `input` is its standard input. One that takes longer is killed, unless `seconds` is None.
 
         Of what it wrote, at most so many bytes are kept; the files `out` and `err` hold all.
         """
-        with open(self.folder / "input", "rb") as given, open(self.folder / "out", "wb") as out, open(self.folder / "err", "wb") as err:
+        with open(self.folder / "input", "rb") as given, open(self.folder / "out", "w+b") as out, open(self.folder / "err", "w+b") as err:
             child = subprocess.Popen(
                 [self.program, *words], stdin=given, stdout=out, stderr=err, cwd=self.folder, env=environment, close_fds=False
             )
-            end = threading.Timer(MOST_SECONDS, child.kill)
+            end = threading.Timer(seconds, child.kill)
             end.start()
             _, status, used = os.wait4(child.pid, 0)
             end.cancel()
@@ -112,11 +112,21 @@ class Call:
     answer: int
 
 
+@dataclass(frozen=True)
+class Refused:
+    """A run in which allocations were refused, as `3` or `3-`: how it ended, and how many calls it made."""
+
+    which: str
+    ended: Ended
+    calls: int
+
+
 class Shim:
     """The C code beneath the program, which refuses allocations, lets calls fail, and counts both."""
 
     MOST_CALLS = 65536
     KINDS = {"o": "open", "r": "read", "w": "write"}
+    END = struct.Struct("QQqqqq")
 
     def __init__(self, bench):
         self.bench = bench
@@ -124,12 +134,25 @@ class Shim:
         subprocess.run(["cc", "-O2", "-shared", "-fPIC", "-o", self.library, ROOT / "strength/refuse.c"], check=True)
         self.page = bench.folder / "page"
         self.page.write_bytes(bytes(16 + 32 * self.MOST_CALLS))
+        self.ends = bench.folder / "ends"
 
-    def run(self, words, **asked):
+    def run(self, words, seconds=MOST_SECONDS, **asked):
         """Runs the program over the shim. What is asked are the words of its environment, as `refuse='3-'`."""
         environment = {f"SHIM_{name.upper()}": str(value) for name, value in asked.items() if value is not None}
         environment |= {"LD_PRELOAD": str(self.library), "SHIM_PAGE": str(self.page)}
-        return self.bench.run(words, environment)
+        return self.bench.run(words, environment, seconds=seconds)
+
+    def sweep(self, words, every):
+        """Runs the program once, and from each `every`th of its allocations on also in children, where that one is refused, alone and with all behind it."""
+        return self.run(words, seconds=None, sweep=f"{every}:{self.ends}")
+
+    def refused(self):
+        """The children of the last sweep, in order."""
+        with open(self.ends, "rb") as ends:
+            while head := ends.read(self.END.size):
+                first, last, status, calls, out, err = self.END.unpack(head)
+                which = f"{first}" if first == last else f"{first}-"
+                yield Refused(which, Ended(os.waitstatus_to_exitcode(status), ends.read(out), ends.read(err), 0, 0), calls)
 
     def allocations(self):
         """How many allocations the last run asked for."""
