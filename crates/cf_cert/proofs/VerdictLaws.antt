@@ -25,7 +25,7 @@ use Rattle.cf_choose.specs.declared.fault.ChooseFault.{ChooseFault}
 use Rattle.cf_choose.specs.declared.fault.ChooseFault.TheVariants.{Refused as ChooseRefused, NoMemory as ChooseNoMemory}
 use Rattle.cf_choose.specs.Eliminations.{case_refusal, CountIs}
 use Rattle.cf_steps.specs.declared.act.Act.{Act}
-use Rattle.cf_steps.specs.Blocks.{BlockTree}
+use Rattle.cf_steps.specs.Blocks.{BlockTree, block_acts}
 use Rattle.cf_cert.specs.declared.fault.JudgeFault.{JudgeFault}
 use Rattle.cf_cert.specs.declared.fault.JudgeFault.TheVariants.{Rejected as JudgeRejected, NoMemory as JudgeNoMemory}
 use Rattle.cf_cert.specs.declared.follow.TheConstants.{MOST_STEPS}
@@ -36,7 +36,7 @@ use Rattle.cf_cert.specs.declared.verdict.Why.TheVariants.{Blocks, Code, Refused
 use Rattle.cf_cert.specs.Certifying.{QuestionTree, layout, target_with, Certifies}
 use Rattle.cf_cert.specs.Judging.{Fault, case_fault, fault_before_code, IsFaultOf, IsVerdict}
 use Rattle.cf_cert.specs.Laws.{AreWithinCases, IsQuestion}
-use Rattle.cf_cert.specs.Verifying.{target_of, HasFewActs, block_acts, HaveFewSteps, EachMeans, AreArmsOf, ArmsIs, JudgeIs, IsPlaced, IsCounted, IsArmed, CodeIs, RejectedIs, PlaceIs, RestIs}
+use Rattle.cf_cert.specs.Verifying.{target_of, HasFewActs, HaveFewSteps, EachMeans, AreArmsOf, ArmsIs, JudgeIs, IsPlaced, IsCounted, IsArmed, CodeIs, RejectedIs, PlaceIs, RestIs}
 use Rattle.cf_cert.specs.Verifying.{whole_refusal}
 use Rattle.cf_cert.proofs.CertifiedArms.{certified_means}
 use Rattle.cf_cert.proofs.JudgeLaws.{Passed, steps_alone, passed_without_fault, passed_certifies, code_differs}
