@@ -29,10 +29,10 @@ abbrev rounding : RelTree
 rounding = rel_and (rel_compare Le (term_var 0) (term_mul (term_lit (pos 2)) (term_var 2))) (rel_compare Le (term_mul (term_lit (pos 2)) (term_var 2))
     (term_var 1))
 
-abbrev question : QuestionTree
+abbrev pub question : QuestionTree
 question = record { number = 1; scope = Int ∷ Int ∷ []; outputs = Int ∷ []; rel = rounding }
 
-abbrev block : List (List Act) → ArmTree → BlockTree
+abbrev pub block : List (List Act) → ArmTree → BlockTree
 block cases a = record { number = 1; cases = cases; target = record { params = Int ∷ Int ∷ []; results = Int ∷ []; code = code_solve 1 (arms_of (a ∷ [])) } }
 
 -- what the steps make
@@ -44,7 +44,7 @@ abbrev answers : QuestionTree → List Act → List Answer
 answers q acts = map (λ m. made_by m (eliminated limits m acts)) (first_systems (layout q) q.rel)
 
 -- ---- the steps of the trace
-abbrev rounded : ArmTree
+abbrev pub rounded : ArmTree
 rounded = arm_of [] (items_of (
     let_item (code_div (code_mul (code_lit (negsuc 0)) (code_var 0)) (pos 2)) ∷
     let_item (code_div (code_var 1) (pos 2)) ∷

@@ -13,3 +13,5 @@ pub mod JudgeLaws
 pub mod VerdictLaws
 pub mod TraceLaws
 pub mod TraceExamples
+pub mod ActLaws
+pub mod ProveLaws

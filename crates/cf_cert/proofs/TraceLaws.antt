@@ -427,11 +427,11 @@ unfolding row_stage
 row_carries s t a [] r q g = unknown_carries s t a s.system.unknown r q (λ w i. i) g
 row_carries s t a (e ∷ rest) r q g = equation_carries s t a e rest (present s.system.unknown e) r q refl g
 
-past_acts : (s : State) → s.is_past_clean ≡ true → acts_at s ≡ row_acts s.system s.system.equations
+pub past_acts : (s : State) → s.is_past_clean ≡ true → acts_at s ≡ row_acts s.system s.system.equations
 unfolding acts_at
 past_acts s e = rw e refl
 
-clean_acts : (s : State) → s.is_past_clean ≡ false → acts_at s ≡ Clean ∷ []
+pub clean_acts : (s : State) → s.is_past_clean ≡ false → acts_at s ≡ Clean ∷ []
 unfolding acts_at
 clean_acts s e = rw e refl
 
@@ -450,7 +450,7 @@ ends_follow : (i n : ℕ) (m : System) → is_over m ≡ true → follow limits 
 unfolding follow
 ends_follow i n m o = rw o refl
 
-ends_acts : (s : State) (n : ℕ) (e : End) → stage limits s ≡ ends e → acts_for (suc n) limits s ≡ []
+pub ends_acts : (s : State) (n : ℕ) (e : End) → stage limits s ≡ ends e → acts_for (suc n) limits s ≡ []
 unfolding acts_for
 ends_acts s n e p = rw (p, acts_for) refl
 
@@ -459,7 +459,7 @@ unfolding Makes
 ends_makes s n h p i = ap (λ acts. follow limits i s.tuples s.system acts) (ends_acts s n solved p)
     ∙ ends_follow i s.tuples s.system (over_end s h (stage_ends_solved s p))
 
-goes_acts : (s t : State) (a : Taken) (n : ℕ) → stage limits s ≡ goes t a → acts_for (suc n) limits s ≡ acts_at s ++ acts_for n limits t
+pub goes_acts : (s t : State) (a : Taken) (n : ℕ) → stage limits s ≡ goes t a → acts_for (suc n) limits s ≡ acts_at s ++ acts_for n limits t
 unfolding acts_for
 goes_acts s t a n p = rw (p, acts_for) refl
 
@@ -509,23 +509,23 @@ end_solved : (e : End) (o : Option Refusal) → or_else (refusal_of e) o ≡ Non
 end_solved solved o h = (refl, h)
 end_solved (refused r) o h = cc
 
-ends_solved : (ms : List System) → first_refused limits ms ≡ None → EachOf (λ m. (run limits m).end ≡ solved) ms
+pub ends_solved : (ms : List System) → first_refused limits ms ≡ None → EachOf (λ m. (run limits m).end ≡ solved) ms
 unfolding first_refused
 ends_solved [] h = tt
 ends_solved (m ∷ ms) h = let e = end_solved (run limits m).end (first_refused limits ms) h in (e.0, ends_solved ms e.1)
 
 -- what no limit says of the counts, of the written rows, and of the eliminations
-record NoneRefused (l : Layout) (rel : RelTree) : Type 0 where
-  counts : case_refusal l rel ≡ None
-  written : written_passes l (negation_normal true rel) ≡ false
-  ends : first_refused limits (first_systems l rel) ≡ None
+pub record NoneRefused (l : Layout) (rel : RelTree) : Type 0 where
+  pub counts : case_refusal l rel ≡ None
+  pub written : written_passes l (negation_normal true rel) ≡ false
+  pub ends : first_refused limits (first_systems l rel) ≡ None
 
 later_none : (l : Layout) (rel : RelTree) → case_refusal l rel ≡ None → later_refusal l rel ≡ None → NoneRefused l rel
 later_none l rel c e = on_bool (written_passes l (negation_normal true rel))
     (λ t. let k : Some Past ≡ None = rw t at e in cc)
     (λ t. record { counts = c; written = t; ends = rw t at e })
 
-none_refused : (scope outputs : List Base) (rel : RelTree) → limit scope outputs rel ≡ None → NoneRefused (layout_of scope outputs rel) rel
+pub none_refused : (scope outputs : List Base) (rel : RelTree) → limit scope outputs rel ≡ None → NoneRefused (layout_of scope outputs rel) rel
 none_refused scope outputs rel e = by (case_refusal (layout_of scope outputs rel) rel) refl
   where
     by : (o : Option Refusal) → case_refusal (layout_of scope outputs rel) rel ≡ o → NoneRefused (layout_of scope outputs rel) rel

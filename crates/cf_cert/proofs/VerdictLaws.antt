@@ -97,16 +97,22 @@ module _ (q : QuestionTree) (b : BlockTree) (l : Layout) (h : IsCounted q b l) w
     }
 
 -- a choose within the limit of cases has few first systems
+pub few_counts : (l : Layout) (rel : RelTree) → case_refusal l rel ≡ None → case_count (negation_normal true rel) ≤ MOST_CASES
+few_counts l rel e =
+    let n = case_count (negation_normal true rel) in
+    on_bool (nat_lt choose_limits.sets (set_count l))
+    (λ t. let q = rw t at e in absurd (cc))
+    (λ t. on_bool (nat_lt choose_limits.cases n)
+    (λ u. let q = rw (t, u) at e in absurd (cc))
+    (λ u. ltb-false choose_limits.cases n u))
+
 pub few_cases : (l : Layout) (rel : RelTree) → case_refusal l rel ≡ None → length (first_systems l rel) ≤ MOST_CASES
 unfolding first_systems
 few_cases l rel e =
     let n = case_count (negation_normal true rel) in
     let k : length (first_systems l rel) ≡ n = length-map (disjuncts (negation_normal true rel)) (system_of_case l) ∙ length-cases (negation_normal true rel) in
-    on_bool (nat_lt choose_limits.sets (set_count l))
-    (λ t. let q = rw t at e in absurd (cc))
-    (λ t. on_bool (nat_lt choose_limits.cases n)
-    (λ u. let q = rw (t, u) at e in absurd (cc))
-    (λ u. let m = ltb-false choose_limits.cases n u in omega arith))
+    let m = few_counts l rel e in
+    omega arith
 
 -- ---- the code
 module _ (q : QuestionTree) (b : BlockTree) (arms : List Arm) (h : IsArmed q b arms) where

@@ -9,6 +9,7 @@ use Rattle.cf_choose.specs.Laws.{IsUnrefused}
 use Rattle.cf_choose.specs.Solved.{IsOutput}
 use Rattle.cf_steps.specs.declared.act.Act.{Act}
 use Rattle.cf_steps.specs.Blocks.{BlockTree}
+use Rattle.cf_steps.specs.Spelled.{AreSpelledCases}
 use Rattle.cf_cert.specs.declared.verdict.Verdict.{Verdict}
 use Rattle.cf_cert.specs.Applying.{IsWithinAct}
 use Rattle.cf_cert.specs.Certifying.{QuestionTree, Certifies}
@@ -18,6 +19,10 @@ use Rattle.cf_cert.specs.Tracing.{traced_block}
 -- each number of a Mix is within the limit
 abbrev pub AreWithinCases : List (List Act) → Type 0
 AreWithinCases cases = EachOf (λ acts. EachOf IsWithinAct acts) cases
+
+-- what a steps file spells is within the limit
+abbrev pub SpelledIsWithin : Type 0
+SpelledIsWithin = (cases : List (List Act)) → AreSpelledCases cases → AreWithinCases cases
 
 -- a typed and linear relation whose outputs are numbers or sets
 pub record IsQuestion (q : QuestionTree) : Type 0 where

@@ -1,3 +1,4 @@
+pub mod Acting
 pub mod Applying
 pub mod Stepping
 pub mod Certifying
