@@ -1,12 +1,11 @@
 -- A target that was built keeps what it promises.
-use Rattle.std.proofs.Common.{◌≡◌, ℕ, zero, suc, ◌+◌, ◌≤◌, ◌<◌, Some, List, [], ◌∷◌, ◌++◌, length, map, reverse, slice_get, slice_index, get_or, nat_eq, All, Contains, refl, sym, ap, ◌∙◌, subst, arith, length-append}
+use Rattle.std.proofs.Common.{◌≡◌, ℕ, zero, suc, ◌+◌, ◌≤◌, ◌<◌, Some, List, [], ◌∷◌, ◌++◌, length, map, reverse, slice_get, slice_index, get_or, nat_eq, All, Contains, refl, sym, ap, ◌∙◌, subst, arith}
 use Rattle.std.specs.List.{IsDistinct}
 use Rattle.std.specs.List.Sorted.{IsPermutation, IsNonDecreasing, IsNonDecreasingBy}
 use Rattle.std.proofs.lemmas.List.{reverse-append, map-append, length-map, get_or-map}
 use Rattle.std.proofs.lemmas.List.Sorted.{IsPermutation-map, All-permutation}
-use Rattle.std.proofs.lemmas.Option.{slice_get_within, slice_get_read, slice_get-map}
-use Rattle.std.specs.Option.{option_map}
-use Rattle.std.proofs.lemmas.List.Elements.{All-nil, All-cons, All-head, All-tail, All-append, All-pop, All-weaker, All-map}
+use Rattle.std.proofs.lemmas.Option.{slice_get_within}
+use Rattle.std.proofs.lemmas.List.Elements.{All-nil, All-cons, All-head, All-tail, All-append, All-pop, All-weaker}
 use Rattle.cf_tree.specs.declared.base.Base.{Base}
 use Rattle.cf_tree.specs.declared.base.Base.TheVariants.{Int, Bool as Truth, Set}
 use Rattle.cf_tree.specs.declared.code.Code.{Code}
@@ -30,13 +29,13 @@ use Rattle.cf_program.specs.Walk.{side_of}
 use Rattle.cf_build.specs.declared.chooses.Choose.{Choose}
 use Rattle.cf_program.specs.Lowered.{lowered_def}
 use Rattle.cf_build.specs.Built.{IsBuilt, unfolded_code}
-use Rattle.cf_build.specs.Codes.{called, code_of, codes_behind, solved_in}
+use Rattle.cf_build.specs.Codes.{called, codes_behind, solved_in}
 use Rattle.cf_build.specs.Runs.{lowered_bodies}
 use Rattle.cf_build.specs.Questions.{Question, questions, questions_all, all_questions, by_number, solve_of}
 use Rattle.cf_build.specs.Shifted.{HasLevels}
 use Rattle.cf_program.specs.NoMatch.{HasNoMatch, HaveNoMatch}
 use Rattle.cf_build.specs.Solves.{question_of, questions_of, IsAsked, IsRising, AreCodes, IsSolveOf}
-use Rattle.cf_build.proofs.CodeLists.{called_is}
+use Rattle.cf_build.proofs.CallLists.{def_at}
 use Rattle.cf_build.proofs.Meanings.{sides_have}
 use Rattle.cf_build.proofs.NumberOrder.{numbers_of, ordered_distinct, ordered_has, sorted_ordered, sorted_rises}
 use Rattle.cf_build.proofs.PickedPaths.{AreFit}
@@ -242,14 +241,14 @@ module _ (ds : List Def) (main : ℕ) (t : IsTypedProgram (map def_tree ds) main
     in_order_asked = All-permutation (λ c. IsAsked (question_of c)) cs sorted m (all_asked cs e)
 
   module _ (ss : List (ℕ × CodeTree)) (s : AreCodes (by_number (all_questions (map def_tree ds))) ss) (codes : List CodeTree)
-      (same : codes ≡ codes_behind (solved_in ss) [] (map def_tree ds)) (l : All HasLevels codes) where
+      (same : codes ≡ codes_behind (solved_in ss) [] (map def_tree ds)) where
     solve : (q : Question) → Contains (all_questions (map def_tree ds)) q → IsSolveOf q (solved_in ss q)
     solve q c =
         let qs = all_questions (map def_tree ds) in
         solved_found (by_number qs) ss s (ordered_distinct qs numbers_differ) q (ordered_has qs q c)
 
     known : Knows (map def_tree ds) (reverse (map def_tree ds)) codes (depths (map def_tree ds))
-    known = rw same (program_known (solved_in ss) (map def_tree ds) t.typed plain solve (rw same at l))
+    known = rw same (program_known (solved_in ss) (map def_tree ds) t.typed plain solve)
 
     main_typed : (d : DefTree) → slice_get (map def_tree ds) main ≡ Some d → IsTypedCode (called codes main) (bases_of d.params) d.results
     main_typed d e = known.typed main (bases_of d.params) d.results (known.takes main d e) (Some d.results) refl
@@ -265,9 +264,9 @@ module _ (ds : List Def) (main : ℕ) (t : IsTypedProgram (map def_tree ds) main
         ∙ ap (λ xs. codes_behind solve_of [] xs) (sym (lowered_defs (map def_tree ds) plain)))
 
     pub main_built : (d : DefTree) → slice_get (map def_tree ds) main ≡ Some d → (raw : RawTarget) → raw.params.items ≡ bases_of d.params →
-        raw.results.items ≡ d.results → code_tree raw.code ≡ called codes main →
+        raw.results.items ≡ d.results → code_tree raw.code ≡ called codes main → HasLevels (called codes main) →
         IsBuilt (map def_tree ds) main 0 raw
-    main_built d e raw ps rs c =
+    main_built d e raw ps rs c l =
         let takes = known.takes main d e in
         record {
           like_main = (d, e, ps, rs);
@@ -280,7 +279,7 @@ module _ (ds : List Def) (main : ℕ) (t : IsTypedProgram (map def_tree ds) main
               (subst (λ bs. IsTypedCode (called codes main) (bases_of d.params) bs) (sym rs) (main_typed d e)));
           spelled = rw (c, rs) (
             omega (arith, known.shallow main, index_within (depths (map def_tree ds)) main t.shallow),
-            known.spelled main (bases_of d.params) d.results takes,
+            known.spelled main (bases_of d.params) d.results takes l,
             known.several main (bases_of d.params) d.results takes,
           );
           solved = λ q m. let h = solve q m in subst (λ c. IsSolveOf q c) h.code h;
@@ -291,37 +290,16 @@ module _ (ds : List Def) (main : ℕ) (t : IsTypedProgram (map def_tree ds) main
           allowed = λ env h. rw (c, ← map_reverse (map def_tree ds)) (known.fine main (bases_of d.params) d.results takes env (rw ps at h)).0;
         }
 
-pub codes_length : (solves : Question → CodeTree) (known : List CodeTree) (ds : List DefTree) → length (codes_behind solves known ds) ≡ length known + length ds
-codes_length solves known [] = omega arith
-codes_length solves known (d ∷ ds) =
-    let c = code_of (called known) solves (length d.params) d.body in
-    omega (arith, codes_length solves (known ++ c ∷ []) ds, length-append known (c ∷ []))
-
 pub main_below : (ds : List Def) (main : ℕ) → IsTypedProgram (map def_tree ds) main → main < length ds
 main_below ds main t = let h = t.has_main in omega (arith, slice_get_within (map def_tree ds) main h.0 h.1, length-map ds def_tree)
 
--- the code of `main` among those of all functions
+-- the target with the code of `main`
 module _ (ds : List Def) (main : ℕ) (t : IsTypedProgram (map def_tree ds) main) (p : All (λ d. HasNoMatch (expr_tree d.body)) ds) (ss : List (ℕ × CodeTree))
-    (s : AreCodes (by_number (all_questions (map def_tree ds))) ss)
-    (cs : List Code) (same : map code_tree cs ≡ codes_behind (solved_in ss) [] (map def_tree ds)) (l : All (λ c. HasLevels (code_tree c)) cs) where
-  pub main_has_code : main < length cs
-  main_has_code = omega (
-    arith,
-    main_below ds main t,
-    codes_length (solved_in ss) [] (map def_tree ds),
-    ap length same,
-    length-map cs code_tree,
-    length-map ds def_tree,
-  )
-
-  module _ (c : Code) (here : c ≡ get_or cs main c) (d : Def) (there : d ≡ get_or ds main d) where
-    code_is : called (map code_tree cs) main ≡ code_tree c
-    code_is = called_is cs main c (slice_get_read cs (length cs) main c refl main_has_code here)
-
-    def_is : slice_get (map def_tree ds) main ≡ Some (def_tree d)
-    def_is = slice_get-map def_tree ds main ∙ ap (λ o. option_map def_tree o) (slice_get_read ds (length ds) main d refl (main_below ds main t) there)
-
-    pub target_built : (raw : RawTarget) → (raw.params.items ≡ bases_of d.params.items) × (raw.results.items ≡ d.results.items) ×
-        (code_tree raw.code ≡ code_tree c) → IsBuilt (map def_tree ds) main 0 raw
-    target_built raw r =
-        main_built ds main t p ss s (map code_tree cs) same (All-map HasLevels code_tree cs l) (def_tree d) def_is raw r.0 r.1 (r.2 ∙ sym code_is)
+    (s : AreCodes (by_number (all_questions (map def_tree ds))) ss) (c : Code)
+    (is : code_tree c ≡ called (codes_behind (solved_in ss) [] (map def_tree ds)) main) (l : HasLevels (code_tree c)) (d : Def)
+    (there : d ≡ get_or ds main d) where
+  pub target_built : (raw : RawTarget) → (raw.params.items ≡ bases_of d.params.items) × (raw.results.items ≡ d.results.items) ×
+      (code_tree raw.code ≡ code_tree c) → IsBuilt (map def_tree ds) main 0 raw
+  target_built raw r =
+      main_built ds main t p ss s (codes_behind (solved_in ss) [] (map def_tree ds)) refl (def_tree d) (def_at ds main d (main_below ds main t) there) raw
+      r.0 r.1 (r.2 ∙ is) (subst (λ k. HasLevels k) is l)

@@ -1,5 +1,5 @@
 -- Lists of codes of expressions, and calls.
-use Rattle.std.proofs.Common.{◌≡◌, ◌≢◌, ◌≤◌, ℕ, zero, suc, List, [], ◌∷◌, map, length, slice_get, Some, refl, ap, ◌∙◌, arith}
+use Rattle.std.proofs.Common.{◌≡◌, ◌≢◌, ◌<◌, ◌≤◌, ℕ, zero, suc, List, [], ◌∷◌, ◌++◌, map, length, slice_get, Some, refl, ap, ◌∙◌, arith}
 use Rattle.std.proofs.lemmas.List.{length-map}
 use Rattle.cf_tree.specs.CodeTree.{CodeTree, code_tuple, code_let, no_codes, code_more, codes_of, count}
 use Rattle.cf_tree.specs.CodeView.{code_tree, code_trees}
@@ -37,6 +37,23 @@ pub called_none : (codes : List Code) (f : ℕ) → length codes ≤ f → calle
 called_none [] f h = refl
 called_none (d ∷ codes) zero h = absurd (omega (arith, h))
 called_none (d ∷ codes) (suc f) h = called_none codes f (omega (arith, h))
+
+-- ---- one code more behind others
+pub called_old : (known : List CodeTree) (c : CodeTree) (f : ℕ) → f < length known → called (known ++ c ∷ []) f ≡ called known f
+called_old [] c f h = absurd (omega (arith, h))
+called_old (k ∷ known) c zero h = refl
+called_old (k ∷ known) c (suc f) h = called_old known c f (omega (arith, h))
+
+pub called_new : (known : List CodeTree) (c : CodeTree) (f : ℕ) → f ≡ length known → called (known ++ c ∷ []) f ≡ c
+called_new [] c zero e = refl
+called_new [] c (suc f) e = absurd (omega (arith, e))
+called_new (k ∷ known) c zero e = absurd (omega (arith, e))
+called_new (k ∷ known) c (suc f) e = called_new known c f (omega (arith, e))
+
+pub called_past : (known : List CodeTree) (f : ℕ) → length known ≤ f → called known f ≡ code_tuple no_codes
+called_past [] f h = refl
+called_past (k ∷ known) zero h = absurd (omega (arith, h))
+called_past (k ∷ known) (suc f) h = called_past known f (omega (arith, h))
 
 pub let_same : (n k l : ℕ) (a b c d : CodeTree) → k ≡ l → a ≡ b → c ≡ d → code_let n k a c ≡ code_let n l b d
 let_same n k l a b c d e f g = rw (e, f, g) refl

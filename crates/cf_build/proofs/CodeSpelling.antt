@@ -19,6 +19,7 @@ use Rattle.cf_program.specs.NoMatch.{HasNoMatch, HaveNoMatch}
 use Rattle.cf_build.specs.Solves.{IsSolveOf}
 use Rattle.cf_build.proofs.CodeTyping.{parts_count}
 use Rattle.cf_build.proofs.Meanings.{sides_have}
+use Rattle.cf_build.proofs.ShiftedLevels.{levels_before}
 use Rattle.cf_build.proofs.ShiftedSpelling.{depth_same, spelled_shifted}
 
 binary_depth : (op : BinOp) (a b : CodeTree) → code_depth (binary_code op a b) ≤ 1 + max (code_depth a) (code_depth b)
@@ -119,7 +120,7 @@ call_spelled n (code_more c no_codes) body l f g = (omega arith, l.0, (f (l.1, t
 call_spelled n (code_more c (code_more d cs)) body l f g = (omega arith, l.0, (omega arith, f l.1), g l.2)
 
 module _ (calls : ℕ → CodeTree) (solves : Question → CodeTree) (takes : ℕ → List Base → List Base → Type 0)
-    (calls_spelled : (f : ℕ) (ps rs : List Base) → takes f ps rs → IsSpelled (calls f)) where
+    (calls_spelled : (f : ℕ) (ps rs : List Base) → takes f ps rs → HasLevels (calls f) → IsSpelled (calls f)) where
   abbrev AreSolves_ : List Question → Type 0
   AreSolves_ qs = (q : Question) → Contains qs q → IsSolveOf q (solves q)
 
@@ -152,7 +153,7 @@ module _ (calls : ℕ → CodeTree) (solves : Question → CodeTree) (takes : �
     )
     spelled (expr_call f es) p s scope bs h n l =
         call_spelled n (codes_of_all calls solves n es) (shifted n (calls f)) l (parts_spelled es p s scope h.0 h.2 n)
-        (spelled_shifted n (calls f) (calls_spelled f h.0 bs h.1))
+        (λ m. spelled_shifted n (calls f) (calls_spelled f h.0 bs h.1 (levels_before n (calls f) m)) m)
     spelled (expr_let k a b) p s scope bs h n l = (
       h.3,
       l.0,

@@ -1,10 +1,14 @@
 pub mod Building
+pub mod CallExamples
+pub mod CallLists
 pub mod ChooseLists
 pub mod CodeLists
 pub mod CodeOrder
 pub mod CodeSpelling
 pub mod CodeTyping
 pub mod EnteredChooses
+pub mod KeptCodes
+pub mod LastCallers
 pub mod LoopSteps
 pub mod LoweredAnswers
 pub mod Meanings
@@ -18,6 +22,7 @@ pub mod Rewriting
 pub mod Runs
 pub mod SameCodes
 pub mod ShiftLists
+pub mod ShiftedLevels
 pub mod ShiftedNone
 pub mod ShiftedPaths
 pub mod ShiftedSpelling

@@ -2,8 +2,7 @@
 use Rattle.std.proofs.Common.{◌≡◌, ℕ, suc, ◌+◌, ◌<◌, ◌≤◌, List, [], ◌∷◌, ◌++◌, length, map, take, drop, get_or, All, sym, ap, ◌∙◌, subst}
 use Rattle.std.proofs.Math.Numerals.{add-one}
 use Rattle.std.proofs.Math.Seq.{drop-cons}
-use Rattle.std.proofs.lemmas.List.{append_assoc, map-append, map_more, take_all}
-use Rattle.std.proofs.lemmas.List.Elements.{All-more, All-push}
+use Rattle.std.proofs.lemmas.List.{append_assoc, map_more, take_all}
 use Rattle.cf_tree.specs.CodeTree.{CodeTree, codes_of, items_of, arms_of}
 use Rattle.cf_tree.specs.CodeView.{code_tree, item_tree, arm_tree, code_trees, item_trees, arm_trees}
 use Rattle.cf_tree.specs.DefView.{def_tree}
@@ -17,9 +16,9 @@ use Rattle.cf_tree.specs.declared.expr.Expr.{Expr}
 use Rattle.cf_program.specs.NoMatch.{HasNoMatch, HaveNoMatch}
 use Rattle.cf_build.specs.declared.chooses.Choose.{Choose}
 use Rattle.cf_build.specs.declared.solves.SolvedChoose.{SolvedChoose}
-use Rattle.cf_build.specs.Codes.{code_of, codes_of_all, called, codes_behind}
+use Rattle.cf_build.specs.Codes.{code_of, codes_of_all}
 use Rattle.cf_build.specs.Questions.{Question, questions, questions_all}
-use Rattle.cf_build.specs.Shifted.{shifted, all_shifted, item_shifted, items_shifted, arm_shifted, arms_shifted, HasLevels}
+use Rattle.cf_build.specs.Shifted.{shifted, all_shifted, item_shifted, items_shifted, arm_shifted, arms_shifted}
 use Rattle.cf_build.specs.Solves.{question_of, questions_of, AreSolved, IsSolved}
 use Rattle.cf_build.proofs.CodeLists.{codes_of_exprs}
 use Rattle.cf_build.proofs.ShiftLists.{codes_shifted, list_items_shifted, list_arms_shifted}
@@ -66,18 +65,6 @@ none_at es i e l is h = (subst (λ xs. HaveNoMatch (expr_trees xs)) (from_here e
 pub none_behind : (es : List Expr) (i : ℕ) (e : Expr) → i < length es → e ≡ get_or es i e → HaveNoMatch (expr_trees (drop i es)) →
     HaveNoMatch (expr_trees (drop (i + 1) es))
 none_behind es i e l is h = (subst (λ xs. HaveNoMatch (expr_trees xs)) (from_here es i e l is) h).1
-
-pub behind_more : (solves : Question → CodeTree) (ds : List Def) (i : ℕ) (d : Def) (old new : List Code) (c : Code) (all : List CodeTree) → i < length ds →
-    d ≡ get_or ds i d → new ≡ old ++ c ∷ [] →
-    code_tree c ≡ code_of (called (map code_tree old)) solves (length d.params.items) (expr_tree d.body) →
-    codes_behind solves (map code_tree old) (map def_tree (drop i ds)) ≡ all →
-    codes_behind solves (map code_tree new) (map def_tree (drop (i + 1) ds)) ≡ all
-behind_more solves ds i d old new c all l is n e h =
-    rw (n, map-append code_tree old (c ∷ []), e) (rw (from_here ds i d l is) at h)
-
-pub levels_more : (old new : List Code) (c : Code) → new ≡ old ++ c ∷ [] → All (λ x. HasLevels (code_tree x)) old → HasLevels (code_tree c) →
-    All (λ x. HasLevels (code_tree x)) new
-levels_more old new c n h l = rw n (All-push (λ x. HasLevels (code_tree x)) old c h l)
 
 -- ---- the ends of loops
 pub codes_at_end : (by : ℕ) (cs done : List Code) (i : ℕ) → length cs ≤ i → map code_tree done ≡ map (λ c. shifted by c) (map code_tree (take i cs)) →

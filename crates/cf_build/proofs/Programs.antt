@@ -1,13 +1,13 @@
 -- The codes of the functions of a program.
-use Rattle.std.proofs.Common.{◌≡◌, ℕ, zero, suc, ◌+◌, ◌*◌, ◌≤◌, ◌<◌, ◌==◌, Bool, true, false, Option, Some, List, [], ◌∷◌, ◌++◌, length, map, reverse, slice_get, slice_index, All, MatchBool, Contains, ◌⊎◌, inl, inr, refl, sym, ap, ◌∙◌, subst, arith, length-append}
+use Rattle.std.proofs.Common.{◌≡◌, ℕ, zero, suc, ◌+◌, ◌*◌, ◌≤◌, ◌<◌, ◌==◌, Bool, true, false, Option, Some, List, [], ◌∷◌, ◌++◌, length, map, reverse, slice_get, slice_index, All, MatchBool, Contains, ◌⊎◌, inl, inr, refl, sym, ◌∙◌, subst, arith, length-append}
 use Rattle.std.specs.Prelude.{if◌then◌else◌}
 use Rattle.std.proofs.lemmas.Bool.{eqb-true, eq-eqb, cases_order}
 use Rattle.std.proofs.lemmas.Bool.Decides.{nat_tests}
 use Rattle.std.proofs.lemmas.List.{append_assoc, append-nil, reverse-append, map-append, length-map}
-use Rattle.std.proofs.lemmas.List.Elements.{All-head, All-tail, All-pop, Contains-append_left, Contains-append_right}
+use Rattle.std.proofs.lemmas.List.Elements.{All-head, All-tail, Contains-append_left, Contains-append_right}
 use Rattle.cf_tree.specs.declared.base.Base.{Base}
 use Rattle.cf_tree.specs.Allowed.{AllowedIn, AllowedCall}
-use Rattle.cf_tree.specs.CodeTree.{CodeTree, code_tuple, no_codes, code_depth}
+use Rattle.cf_tree.specs.CodeTree.{CodeTree, code_depth}
 use Rattle.cf_tree.specs.DefView.{DefTree}
 use Rattle.cf_tree.specs.ExprTree.{ExprTree}
 use Rattle.cf_tree.specs.Meaning.{means, path}
@@ -25,6 +25,7 @@ use Rattle.cf_build.specs.Shifted.{HasLevels}
 use Rattle.cf_program.specs.NoMatch.{HasNoMatch}
 use Rattle.cf_match.proofs.NoMatchLaws.{lowered_same}
 use Rattle.cf_build.specs.Solves.{IsSolveOf}
+use Rattle.cf_build.proofs.CodeLists.{called_old, called_new, called_past}
 use Rattle.cf_build.proofs.CodeSpelling.{depth_within, spelled}
 use Rattle.cf_build.proofs.CodeTyping.{typed}
 use Rattle.cf_build.proofs.EnteredChooses.{entered}
@@ -43,22 +44,6 @@ pick_else X Y false e y = y
 
 apart : (m n : ℕ) → m < n → (m == n) ≡ false
 apart m n h = grind (arith, nat_tests)
-
-called_old : (known : List CodeTree) (c : CodeTree) (f : ℕ) → f < length known → called (known ++ c ∷ []) f ≡ called known f
-called_old [] c f h = absurd (omega (arith, h))
-called_old (k ∷ known) c zero h = refl
-called_old (k ∷ known) c (suc f) h = called_old known c f (omega (arith, h))
-
-called_new : (known : List CodeTree) (c : CodeTree) (f : ℕ) → f ≡ length known → called (known ++ c ∷ []) f ≡ c
-called_new [] c zero e = refl
-called_new [] c (suc f) e = absurd (omega (arith, e))
-called_new (k ∷ known) c zero e = absurd (omega (arith, e))
-called_new (k ∷ known) c (suc f) e = called_new known c f (omega (arith, e))
-
-called_past : (known : List CodeTree) (f : ℕ) → length known ≤ f → called known f ≡ code_tuple no_codes
-called_past [] f h = refl
-called_past (k ∷ known) zero h = absurd (omega (arith, h))
-called_past (k ∷ known) (suc f) h = called_past known f (omega (arith, h))
 
 index_old : (ns : List ℕ) (n f : ℕ) → f < length ns → slice_index (ns ++ n ∷ []) f ≡ slice_index ns f
 index_old [] n f h = absurd (omega (arith, h))
@@ -154,7 +139,7 @@ pub record Knows (done earlier : List DefTree) (known : List CodeTree) (deep : L
   pub defs : length done ≡ length earlier
   pub several : (f : ℕ) (ps rs : List Base) → Takes earlier f ps rs → 1 ≤ length rs
   pub typed : (f : ℕ) (ps rs : List Base) → Takes earlier f ps rs → (asked : Option (List Base)) → Meets asked rs → CodeHas (called known f) ps asked rs
-  pub spelled : (f : ℕ) (ps rs : List Base) → Takes earlier f ps rs → IsSpelled (called known f)
+  pub spelled : (f : ℕ) (ps rs : List Base) → Takes earlier f ps rs → HasLevels (called known f) → IsSpelled (called known f)
   pub fine : (f : ℕ) (ps rs : List Base) → Takes earlier f ps rs → (xs : List Value) → HaveBases ps xs →
       AllowedCall (bodies earlier) f xs (means (called known f) xs) × Keeps rs (means (called known f) xs)
   pub picked : (f : ℕ) (ps rs : List Base) → Takes earlier f ps rs → (xs : List Value) → AreFit ps xs →
@@ -171,7 +156,7 @@ knows_none = record {
   defs = refl;
   several = λ f ps rs t. absurd t;
   typed = λ f ps rs t. absurd t;
-  spelled = λ f ps rs t. absurd t;
+  spelled = λ f ps rs t l. absurd t;
   fine = λ f ps rs t. absurd t;
   picked = λ f ps rs t. absurd t;
   entered = λ f ps rs t. absurd t;
@@ -187,131 +172,119 @@ module _ (solves : Question → CodeTree) (done earlier : List DefTree) (known :
     abbrev depth : ℕ
     depth = depth_in (λ f. slice_index deep f) d.body
 
-    module _ (h : IsTypedDef earlier d) (p : HasNoMatch d.body) (s : (q : Question) → Contains (questions d.body) q → IsSolveOf q (solves q))
-        (l : HasLevels code)
-      where
-        arity : length d.params ≡ length (bases_of d.params)
-        arity = sym (length-map d.params (λ x. x.base))
+    module _ (h : IsTypedDef earlier d) (p : HasNoMatch d.body) (s : (q : Question) → Contains (questions d.body) q → IsSolveOf q (solves q)) where
+      arity : length d.params ≡ length (bases_of d.params)
+      arity = sym (length-map d.params (λ x. x.base))
 
-        typed_next : (f : ℕ) (ps rs : List Base) → IsTaken d earlier f ps rs → (asked : Option (List Base)) → Meets asked rs →
-            CodeHas (called (known ++ code ∷ []) f) ps asked rs
-        typed_next f ps rs (new e a b) asked m =
-            rw (called_new known code f (e ∙ sym k.codes), a, b)
-            (typed (called known) solves (Takes earlier) k.typed d.body p s (bases_of d.params) d.results h.1 asked (rw b at m) (length d.params) arity)
-        typed_next f ps rs (old less t) asked m = rw (called_old known code f (rw k.codes less)) (k.typed f ps rs t asked m)
+      typed_next : (f : ℕ) (ps rs : List Base) → IsTaken d earlier f ps rs → (asked : Option (List Base)) → Meets asked rs →
+          CodeHas (called (known ++ code ∷ []) f) ps asked rs
+      typed_next f ps rs (new e a b) asked m =
+          rw (called_new known code f (e ∙ sym k.codes), a, b)
+          (typed (called known) solves (Takes earlier) k.typed d.body p s (bases_of d.params) d.results h.1 asked (rw b at m) (length d.params) arity)
+      typed_next f ps rs (old less t) asked m = rw (called_old known code f (rw k.codes less)) (k.typed f ps rs t asked m)
 
-        spelled_next : (f : ℕ) (ps rs : List Base) → IsTaken d earlier f ps rs → IsSpelled (called (known ++ code ∷ []) f)
-        spelled_next f ps rs (new e a b) =
-            rw (called_new known code f (e ∙ sym k.codes))
-            (spelled (called known) solves (Takes earlier) k.spelled d.body p s (bases_of d.params) d.results h.1 (length d.params) l)
-        spelled_next f ps rs (old less t) = rw (called_old known code f (rw k.codes less)) (k.spelled f ps rs t)
+      spelled_next : (f : ℕ) (ps rs : List Base) → IsTaken d earlier f ps rs → HasLevels (called (known ++ code ∷ []) f) →
+          IsSpelled (called (known ++ code ∷ []) f)
+      spelled_next f ps rs (new e a b) l =
+          let is : called (known ++ code ∷ []) f ≡ code = called_new known code f (e ∙ sym k.codes) in
+          subst (λ c. IsSpelled c) (sym is)
+          (spelled (called known) solves (Takes earlier) k.spelled d.body p s (bases_of d.params) d.results h.1 (length d.params)
+          (subst (λ c. HasLevels c) is l))
+      spelled_next f ps rs (old less t) l =
+          let is : called (known ++ code ∷ []) f ≡ called known f = called_old known code f (omega (arith, less, k.codes)) in
+          subst (λ c. IsSpelled c) (sym is) (k.spelled f ps rs t (subst (λ c. HasLevels c) is l))
 
-        fine_next : (f : ℕ) (ps rs : List Base) → IsTaken d earlier f ps rs → (xs : List Value) → HaveBases ps xs →
-            AllowedCall (bodies (d ∷ earlier)) f xs (means (called (known ++ code ∷ []) f) xs) × Keeps rs (means (called (known ++ code ∷ []) f) xs)
-        fine_next f ps rs (new e a b) xs x =
-            let r = fine (called known) solves (Takes earlier) (AllowedCall (bodies earlier)) k.fine d.body p s (bases_of d.params) d.results h.1 xs (rw a at x)
-            (length d.params) arity in
-            rw (called_new known code f (e ∙ sym k.codes), b) (allows_new d earlier f xs (means code xs) e r.0, r.1)
-        fine_next f ps rs (old less t) xs x =
-            let r = k.fine f ps rs t xs x in
-            rw (called_old known code f (rw k.codes less)) (allows_old d earlier f xs (means (called known f) xs) less r.0, r.1)
+      fine_next : (f : ℕ) (ps rs : List Base) → IsTaken d earlier f ps rs → (xs : List Value) → HaveBases ps xs →
+          AllowedCall (bodies (d ∷ earlier)) f xs (means (called (known ++ code ∷ []) f) xs) × Keeps rs (means (called (known ++ code ∷ []) f) xs)
+      fine_next f ps rs (new e a b) xs x =
+          let r = fine (called known) solves (Takes earlier) (AllowedCall (bodies earlier)) k.fine d.body p s (bases_of d.params) d.results h.1 xs (rw a at x)
+          (length d.params) arity in
+          rw (called_new known code f (e ∙ sym k.codes), b) (allows_new d earlier f xs (means code xs) e r.0, r.1)
+      fine_next f ps rs (old less t) xs x =
+          let r = k.fine f ps rs t xs x in
+          rw (called_old known code f (rw k.codes less)) (allows_old d earlier f xs (means (called known f) xs) less r.0, r.1)
 
-        around : (f : ℕ) (ps : List Base) (xs : List Value) → ps ≡ bases_of d.params → AreFit ps xs → Around (bases_of d.params) xs (length d.params)
-        around f ps xs a x = record { bases = subst (λ bs. HaveBases bs xs) a x.bases; small = x.small; level = arity }
+      around : (f : ℕ) (ps : List Base) (xs : List Value) → ps ≡ bases_of d.params → AreFit ps xs → Around (bases_of d.params) xs (length d.params)
+      around f ps xs a x = record { bases = subst (λ bs. HaveBases bs xs) a x.bases; small = x.small; level = arity }
 
-        picked_next : (f : ℕ) (ps rs : List Base) → IsTaken d earlier f ps rs → (xs : List Value) → AreFit ps xs →
-            IsPickedBy (picked_call (bodies (d ∷ earlier)) f xs) (path (called (known ++ code ∷ []) f) xs)
-        picked_next f ps rs (new e a b) xs x =
-            subst (λ o. IsPickedBy o (path (called (known ++ code ∷ []) f) xs)) (sym (picks_new d earlier f xs e))
-            (subst (λ c. IsPickedBy (picked_in (picked_call (bodies earlier)) d.body xs) (path c xs)) (sym (called_new known code f (e ∙ sym k.codes)))
-            (picked_by (called known) solves (Takes earlier) (AllowedCall (bodies earlier)) (picked_call (bodies earlier)) k.fine k.picked d.body p s
-            (bases_of d.params) d.results h.1 xs (length d.params) (around f ps xs a x)))
-        picked_next f ps rs (old less t) xs x =
-            subst (λ o. IsPickedBy o (path (called (known ++ code ∷ []) f) xs)) (sym (picks_old d earlier f xs less))
-            (subst (λ c. IsPickedBy (picked_call (bodies earlier) f xs) (path c xs)) (sym (called_old known code f (rw k.codes less)))
-            (k.picked f ps rs t xs x))
+      picked_next : (f : ℕ) (ps rs : List Base) → IsTaken d earlier f ps rs → (xs : List Value) → AreFit ps xs →
+          IsPickedBy (picked_call (bodies (d ∷ earlier)) f xs) (path (called (known ++ code ∷ []) f) xs)
+      picked_next f ps rs (new e a b) xs x =
+          subst (λ o. IsPickedBy o (path (called (known ++ code ∷ []) f) xs)) (sym (picks_new d earlier f xs e))
+          (subst (λ c. IsPickedBy (picked_in (picked_call (bodies earlier)) d.body xs) (path c xs)) (sym (called_new known code f (e ∙ sym k.codes)))
+          (picked_by (called known) solves (Takes earlier) (AllowedCall (bodies earlier)) (picked_call (bodies earlier)) k.fine k.picked d.body p s
+          (bases_of d.params) d.results h.1 xs (length d.params) (around f ps xs a x)))
+      picked_next f ps rs (old less t) xs x =
+          subst (λ o. IsPickedBy o (path (called (known ++ code ∷ []) f) xs)) (sym (picks_old d earlier f xs less))
+          (subst (λ c. IsPickedBy (picked_call (bodies earlier) f xs) (path c xs)) (sym (called_old known code f (rw k.codes less)))
+          (k.picked f ps rs t xs x))
 
-        entered_next : (f : ℕ) (ps rs : List Base) → IsTaken d earlier f ps rs → (xs : List Value) → AreFit ps xs → IsFineCall (bodies (d ∷ earlier)) f xs
-        entered_next f ps rs (new e a b) xs x =
-            enters_new d earlier f xs e
-            (entered (called known) solves (Takes earlier) (AllowedCall (bodies earlier)) (picked_call (bodies earlier)) (IsFineCall (bodies earlier)) k.fine
-            k.picked k.entered d.body p s (bases_of d.params) d.results h.1 xs (length d.params) (around f ps xs a x))
-        entered_next f ps rs (old less t) xs x = enters_old d earlier f xs less (k.entered f ps rs t xs x)
+      entered_next : (f : ℕ) (ps rs : List Base) → IsTaken d earlier f ps rs → (xs : List Value) → AreFit ps xs → IsFineCall (bodies (d ∷ earlier)) f xs
+      entered_next f ps rs (new e a b) xs x =
+          enters_new d earlier f xs e
+          (entered (called known) solves (Takes earlier) (AllowedCall (bodies earlier)) (picked_call (bodies earlier)) (IsFineCall (bodies earlier)) k.fine
+          k.picked k.entered d.body p s (bases_of d.params) d.results h.1 xs (length d.params) (around f ps xs a x))
+      entered_next f ps rs (old less t) xs x = enters_old d earlier f xs less (k.entered f ps rs t xs x)
 
-        shallow_next : (f : ℕ) → code_depth (called (known ++ code ∷ []) f) ≤ 2 * slice_index (deep ++ depth ∷ []) f + 16
-        shallow_next f =
-            elim (cases_order (length known) f) as (λ _. code_depth (called (known ++ code ∷ []) f) ≤ 2 * slice_index (deep ++ depth ∷ []) f + 16) [
-              | inl same ↦
-                  rw (called_new known code f (sym same), index_new deep depth f (sym same ∙ k.codes ∙ sym k.depths))
-                  (depth_within (called known) solves (λ f. slice_index deep f) k.shallow d.body p s (length d.params))
-              | inr s ↦
-                  elim s as (λ _. code_depth (called (known ++ code ∷ []) f) ≤ 2 * slice_index (deep ++ depth ∷ []) f + 16) [
-                    | inl more ↦ rw (called_past (known ++ code ∷ []) f (omega (arith, length-append known (code ∷ []), more))) (omega arith)
-                    | inr less ↦ rw (called_old known code f less, index_old deep depth f (omega (arith, less, k.codes, k.depths))) (k.shallow f)
-                  ]
-            ]
+      shallow_next : (f : ℕ) → code_depth (called (known ++ code ∷ []) f) ≤ 2 * slice_index (deep ++ depth ∷ []) f + 16
+      shallow_next f =
+          elim (cases_order (length known) f) as (λ _. code_depth (called (known ++ code ∷ []) f) ≤ 2 * slice_index (deep ++ depth ∷ []) f + 16) [
+            | inl same ↦
+                rw (called_new known code f (sym same), index_new deep depth f (sym same ∙ k.codes ∙ sym k.depths))
+                (depth_within (called known) solves (λ f. slice_index deep f) k.shallow d.body p s (length d.params))
+            | inr s ↦
+                elim s as (λ _. code_depth (called (known ++ code ∷ []) f) ≤ 2 * slice_index (deep ++ depth ∷ []) f + 16) [
+                  | inl more ↦ rw (called_past (known ++ code ∷ []) f (omega (arith, length-append known (code ∷ []), more))) (omega arith)
+                  | inr less ↦ rw (called_old known code f less, index_old deep depth f (omega (arith, less, k.codes, k.depths))) (k.shallow f)
+                ]
+          ]
 
-        takes_next : (f : ℕ) (e : DefTree) → slice_get (done ++ d ∷ []) f ≡ Some e → Takes (d ∷ earlier) f (bases_of e.params) e.results
-        takes_next f e g =
-            elim (get_last done d f e g) as (λ _. Takes (d ∷ earlier) f (bases_of e.params) e.results) [
-              | inl p ↦ rw (← p.1) (takes_here d earlier f (p.0 ∙ k.defs))
-              | inr p ↦ takes_before d earlier f (bases_of e.params) e.results (omega (arith, p.0, k.defs)) (k.takes f e p.1)
-            ]
+      takes_next : (f : ℕ) (e : DefTree) → slice_get (done ++ d ∷ []) f ≡ Some e → Takes (d ∷ earlier) f (bases_of e.params) e.results
+      takes_next f e g =
+          elim (get_last done d f e g) as (λ _. Takes (d ∷ earlier) f (bases_of e.params) e.results) [
+            | inl p ↦ rw (← p.1) (takes_here d earlier f (p.0 ∙ k.defs))
+            | inr p ↦ takes_before d earlier f (bases_of e.params) e.results (omega (arith, p.0, k.defs)) (k.takes f e p.1)
+          ]
 
-        several_next : (f : ℕ) (ps rs : List Base) → IsTaken d earlier f ps rs → 1 ≤ length rs
-        several_next f ps rs (new e a b) = rw b h.0
-        several_next f ps rs (old less t) = k.several f ps rs t
+      several_next : (f : ℕ) (ps rs : List Base) → IsTaken d earlier f ps rs → 1 ≤ length rs
+      several_next f ps rs (new e a b) = rw b h.0
+      several_next f ps rs (old less t) = k.several f ps rs t
 
-        pub knows_next : Knows (done ++ d ∷ []) (d ∷ earlier) (known ++ code ∷ []) (deep ++ depth ∷ [])
-        knows_next = record {
-          codes = omega (arith, k.codes, length-append known (code ∷ []));
-          depths = omega (arith, k.depths, length-append deep (depth ∷ []));
-          defs = omega (arith, k.defs, length-append done (d ∷ []));
-          several = λ f ps rs t. several_next f ps rs (taken d earlier f ps rs t);
-          typed = λ f ps rs t. typed_next f ps rs (taken d earlier f ps rs t);
-          spelled = λ f ps rs t. spelled_next f ps rs (taken d earlier f ps rs t);
-          fine = λ f ps rs t. fine_next f ps rs (taken d earlier f ps rs t);
-          picked = λ f ps rs t. picked_next f ps rs (taken d earlier f ps rs t);
-          entered = λ f ps rs t. entered_next f ps rs (taken d earlier f ps rs t);
-          shallow = shallow_next;
-          takes = takes_next;
-        }
+      pub knows_next : Knows (done ++ d ∷ []) (d ∷ earlier) (known ++ code ∷ []) (deep ++ depth ∷ [])
+      knows_next = record {
+        codes = omega (arith, k.codes, length-append known (code ∷ []));
+        depths = omega (arith, k.depths, length-append deep (depth ∷ []));
+        defs = omega (arith, k.defs, length-append done (d ∷ []));
+        several = λ f ps rs t. several_next f ps rs (taken d earlier f ps rs t);
+        typed = λ f ps rs t. typed_next f ps rs (taken d earlier f ps rs t);
+        spelled = λ f ps rs t l. spelled_next f ps rs (taken d earlier f ps rs t) l;
+        fine = λ f ps rs t. fine_next f ps rs (taken d earlier f ps rs t);
+        picked = λ f ps rs t. picked_next f ps rs (taken d earlier f ps rs t);
+        entered = λ f ps rs t. entered_next f ps rs (taken d earlier f ps rs t);
+        shallow = shallow_next;
+        takes = takes_next;
+      }
 
 -- ---- all functions
 typed_tail : (ds earlier : List DefTree) → AreTypedDefs (ds ++ earlier) → AreTypedDefs earlier
 typed_tail [] earlier h = h
 typed_tail (d ∷ ds) earlier h = typed_tail ds earlier h.1
 
-behind_keeps : (P : CodeTree → Type 0) (solves : Question → CodeTree) (ds : List DefTree) (known : List CodeTree) → All P (codes_behind solves known ds) →
-    All P known
-behind_keeps P solves [] known h = h
-behind_keeps P solves (d ∷ ds) known h =
-    let c = code_of (called known) solves (length d.params) d.body in
-    (All-pop P (known ++ c ∷ []) known (Some c) refl (behind_keeps P solves ds (known ++ c ∷ []) h)).0
-
-behind_first : (P : CodeTree → Type 0) (solves : Question → CodeTree) (d : DefTree) (ds : List DefTree) (known : List CodeTree) →
-    All P (codes_behind solves known (d ∷ ds)) →
-    P (code_of (called known) solves (length d.params) d.body)
-behind_first P solves d ds known h =
-    let c = code_of (called known) solves (length d.params) d.body in
-    (All-pop P (known ++ c ∷ []) known (Some c) refl (behind_keeps P solves ds (known ++ c ∷ []) h)).1
-
 pub all_known : (solves : Question → CodeTree) (ds done earlier : List DefTree) (known : List CodeTree) (deep : List ℕ) → Knows done earlier known deep →
     AreTypedDefs (reverse ds ++ earlier) → All (λ d. HasNoMatch d.body) ds →
-    ((q : Question) → Contains (all_questions ds) q → IsSolveOf q (solves q)) → All HasLevels (codes_behind solves known ds) →
+    ((q : Question) → Contains (all_questions ds) q → IsSolveOf q (solves q)) →
     Knows (done ++ ds) (reverse ds ++ earlier) (codes_behind solves known ds) (deep ++ measured depth_in deep ds)
-all_known solves [] done earlier known deep k t p s l = rw (append-nil done, append-nil deep) k
-all_known solves (d ∷ ds) done earlier known deep k t p s l =
+all_known solves [] done earlier known deep k t p s = rw (append-nil done, append-nil deep) k
+all_known solves (d ∷ ds) done earlier known deep k t p s =
     let q = All-head (λ d. HasNoMatch d.body) d ds p in
     let c = code_of (called known) solves (length d.params) d.body in
     let n = depth_in (λ f. slice_index deep f) d.body in
     let turned : reverse (d ∷ ds) ++ earlier ≡ reverse ds ++ d ∷ earlier = rw (reverse-append (d ∷ []) ds) (append_assoc (reverse ds) (d ∷ []) earlier) in
     let rest : AreTypedDefs (reverse ds ++ d ∷ earlier) = rw turned at t in
     let next = knows_next solves done earlier known deep k d (typed_tail (reverse ds) (d ∷ earlier) rest).0 q
-    (λ x m. s x (Contains-append_left (questions (lowered d.body)) (all_questions ds) x (rw (lowered_same d.body q) m)))
-    (behind_first HasLevels solves d ds known l) in
+    (λ x m. s x (Contains-append_left (questions (lowered d.body)) (all_questions ds) x (rw (lowered_same d.body q) m))) in
     let all = all_known solves ds (done ++ d ∷ []) (d ∷ earlier) (known ++ c ∷ []) (deep ++ n ∷ []) next rest (All-tail (λ d. HasNoMatch d.body) d ds p)
-    (λ x m. s x (Contains-append_right (questions (lowered d.body)) (all_questions ds) x m)) l in
+    (λ x m. s x (Contains-append_right (questions (lowered d.body)) (all_questions ds) x m)) in
     let depths_are : deep ++ measured depth_in deep (d ∷ ds) ≡ (deep ++ n ∷ []) ++ measured depth_in (deep ++ n ∷ []) ds =
     rw (lowered_same d.body q) (sym (append_assoc deep (n ∷ []) (measured depth_in (deep ++ n ∷ []) ds))) in
     rw (← append_assoc done (d ∷ []) ds, turned, depths_are) all
@@ -324,7 +297,7 @@ map_reverse (d ∷ ds) =
 -- what is known of a whole program
 pub program_known : (solves : Question → CodeTree) (defs : List DefTree) → AreTypedDefs (reverse defs) → All (λ d. HasNoMatch d.body) defs →
     ((q : Question) → Contains (all_questions defs) q → IsSolveOf q (solves q)) →
-    All HasLevels (codes_behind solves [] defs) → Knows defs (reverse defs) (codes_behind solves [] defs) (depths defs)
-program_known solves defs t p s l =
+    Knows defs (reverse defs) (codes_behind solves [] defs) (depths defs)
+program_known solves defs t p s =
     subst (λ earlier. Knows defs earlier (codes_behind solves [] defs) (depths defs)) (append-nil (reverse defs))
-    (all_known solves defs [] [] [] [] knows_none (rw (append-nil (reverse defs)) t) p s l)
+    (all_known solves defs [] [] [] [] knows_none (rw (append-nil (reverse defs)) t) p s)

@@ -1,4 +1,5 @@
 pub mod Built
+pub mod Calls
 pub mod Codes
 pub mod Lowering
 pub mod Questions

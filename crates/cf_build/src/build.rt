@@ -1,5 +1,5 @@
 //! Building a target.
-ghost use Rattle.std.specs.Prelude.{◌≡◌, ◌+◌, [], IfOk, IfErr, map, length, All};
+ghost use Rattle.std.specs.Prelude.{◌≡◌, ◌+◌, IfOk, IfErr, map, length, All};
 ghost use Rattle.std.specs.List.Sorted.{IsStrictlyIncreasing};
 ghost use Rattle.cf_tree.specs.CodeView.{code_tree};
 ghost use Rattle.cf_tree.specs.DefView.{def_tree};
@@ -8,16 +8,15 @@ ghost use Rattle.cf_tree.specs.RelSize.{capped};
 ghost use Rattle.cf_pass.specs.Passes.{NoneFell};
 ghost use Rattle.cf_program.specs.Names.{bases_of};
 ghost use Rattle.cf_build.specs.Built.{BuildAnswer, IsBuilt};
-ghost use Rattle.cf_build.specs.Codes.{called, choose_code, code_of, codes_behind, solved_in};
+ghost use Rattle.cf_build.specs.Codes.{choose_code};
 ghost use Rattle.cf_build.specs.Questions.{all_questions, by_number};
-ghost use Rattle.cf_build.specs.Shifted.{HasLevels};
 ghost use Rattle.cf_program.specs.NoMatch.{HasNoMatch};
 ghost use Rattle.cf_build.specs.Solves.{AreCodes, AreSolved};
 
 use crate::choose_codes::{ChooseCodes, choose_codes};
 use crate::chooses::bases;
-use crate::codes::code;
 use crate::fault::BuildFault;
+use crate::main_code::main_code;
 use crate::rewrite::rewritten;
 use crate::solves::{SolvedChoose, solve_all};
 use cf_pass::Pass;
@@ -91,40 +90,9 @@ fn main_target(alloc: Global, typed: &Typed, solves: &ChooseCodes) -> Result<Raw
     requires solved { AreCodes (by_number (all_questions (map def_tree typed.now.defs.items))) (map choose_code solves.now.codes.items) }
     ensures { IfOk result (IsBuilt (map def_tree typed.now.defs.items) typed.now.main 0) }
 {
-    let mut codes = def_codes(alloc, typed.defs(), solves)?;
-    let main = typed.main() as usize;
-    let code = codes.swap_remove(main);
-    target(alloc, &typed.defs()[main], code)
-}
-
-// The codes of functions, each behind its parameters.
-fn def_codes(alloc: Global, defs: &[Def], solves: &ChooseCodes) -> Result<Vec<Code>, NoMemory>
-    ensures codes { IfOk result (λ codes. map code_tree codes.items ≡ codes_behind (solved_in (map choose_code solves.now.codes.items)) []
-        (map def_tree defs.now)) }
-    ensures levels { IfOk result (λ codes. All (λ c. HasLevels (code_tree c)) codes.items) }
-{
-    let mut codes = Vec::new(alloc);
-    for def in defs {
-        codes.push(def_code(alloc, def, &codes, solves)?)?;
-    }
-    Ok(codes)
-}
-
-// The code of a function behind its parameters.
-fn def_code(
-    alloc: Global,
-    def: &Def,
-    codes: &[Code],
-    solves: &ChooseCodes,
-) -> Result<Code, NoMemory>
-    ensures code { IfOk result (λ c. code_tree c ≡ code_of (called (map code_tree codes.now)) (solved_in (map choose_code solves.now.codes.items))
-        (length def.now.params.items) (expr_tree def.now.body)) }
-    ensures levels { IfOk result (λ c. HasLevels (code_tree c)) }
-{
-    let Ok(arity) = u32::try_from(def.params.len()) else {
-        return Err(NoMemory);
-    };
-    code(alloc, &def.body, arity, codes, solves)
+    let main = typed.main();
+    let code = main_code(alloc, typed.defs(), main, solves)?;
+    target(alloc, &typed.defs()[main as usize], code)
 }
 
 // The target with this code, and a function's parameters and results.
