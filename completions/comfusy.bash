@@ -3,11 +3,12 @@ _comfusy() {
   local word=${COMP_WORDS[COMP_CWORD]} command=${COMP_WORDS[1]} kind=cf
   COMPREPLY=()
   if [ "$COMP_CWORD" = 1 ]; then
-    mapfile -t COMPREPLY < <(compgen -W 'compile pre check run exec gen' -- "$word")
+    mapfile -t COMPREPLY < <(compgen -W 'compile pre check run exec prove verify gen' -- "$word")
   elif [[ $word == -* ]]; then
     if [[ $command == compile || $command == run ]]; then mapfile -t COMPREPLY < <(compgen -W '--plain --stats' -- "$word"); fi
   elif [ "$command" != gen ]; then
     [ "$command" != exec ] || kind=target
+    [[ $command != verify || $COMP_CWORD = 2 ]] || kind=steps
     mapfile -t COMPREPLY < <(compgen -f -X "!*.$kind" -- "$word"; compgen -d -- "$word")
     compopt -o filenames 2>/dev/null
   fi

@@ -203,18 +203,6 @@ SPLIT = (
 SETS = b"{}\n{3,1,2,1}\n{5}\n{-4,0,7}\n{1,2,3,4,5,6}\n"
 MATCH = b"def main(a: int): int = match a with { 2 * i then i ; 4 * i + 1 then -i }\n"
 PRODUCT = b"def main(a: int, b: int): int = choose (x: int) where a * x == b\n"
-ROUNDING_STEPS = b"""choose 1 { case { search 3 lower; drop 3; last 0; clean; } }
-main (int, int): int = solve 1 {
-arm [2] {
-need (2 divides (v0 + v2));
-let div((v0 + v2), 2);
-need ((v1 + (-2 * v3)) >= 0);
-let v3;
-let v4;
-give v5
-}
-}
-"""
 
 
 def worked_runs():
@@ -240,8 +228,10 @@ def worked_runs():
     runs.append(Worked("run combination", ("run", "file"), example("combination.cf"), example("combination.in")))
     runs.append(Worked("gen 1", ("gen", "1"), b""))
     runs.append(Worked("run product", ("run", "file"), PRODUCT, b"3 12\n3 10\n0 5\n-4 12\n"))
+    runs.append(Worked("prove seconds", ("prove", "file"), sources["seconds"][0]))
     runs.append(Worked("prove remainders", ("prove", "file"), sources["remainders"][0]))
-    runs.append(Worked("verify rounding", ("verify", "file", "steps"), example("even.cf"), steps=ROUNDING_STEPS))
+    runs.append(Worked("verify seconds", ("verify", "file", "steps"), sources["seconds"][0], steps=example("seconds.steps")))
+    runs.append(Worked("verify rounding", ("verify", "file", "steps"), example("even.cf"), steps=example("steps/other.steps")))
     return runs
 
 

@@ -1,1 +1,1 @@
-autocmd BufNewFile,BufRead *.cf,*.target setfiletype comfusy
+autocmd BufNewFile,BufRead *.cf,*.target,*.steps setfiletype comfusy

@@ -1,4 +1,4 @@
-" Vim syntax file for Comfusy: sources (*.cf) and compiled programs (*.target).
+" Vim syntax file for Comfusy: sources (*.cf), compiled programs (*.target) and steps (*.steps).
 if exists('b:current_syntax')
   finish
 endif
