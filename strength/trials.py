@@ -17,8 +17,6 @@ PROGRAM = ROOT / "crates/comfusy/out/comfusy"
 GIB = 1 << 30
 MOST_SECONDS = 600
 
-USAGE = b"usage: comfusy compile|pre|check|run|exec|prove FILE, or comfusy verify FILE STEPS, or comfusy gen N\n"
-
 
 @dataclass(frozen=True)
 class Ended:
@@ -233,8 +231,3 @@ def worked_runs():
     runs.append(Worked("verify seconds", ("verify", "file", "steps"), sources["seconds"][0], steps=example("seconds.steps")))
     runs.append(Worked("verify rounding", ("verify", "file", "steps"), example("even.cf"), steps=example("steps/other.steps")))
     return runs
-
-
-def is_built(ended):
-    """Whether the command is built: one that is not answers with the usage line."""
-    return ended.err != USAGE
