@@ -33,8 +33,8 @@ pub(crate) fn main_code(
     def_code(alloc, &defs[main as usize], &codes, solves)
 }
 
-// The codes of the functions that main calls, each at its number. At the numbers of others before
-// main stands no code.
+// The codes of the functions that main calls, each at its number. At the numbers of the others
+// before main stand empty tuples.
 fn kept_codes(
     alloc: Global,
     defs: &[Def],
@@ -60,8 +60,8 @@ fn kept_codes(
     Ok(codes)
 }
 
-// Adds the code of function `number`, if a later one calls it, or else none; and gives up the codes
-// of the functions that it is the last to call.
+// Adds the code of function `number`, if a later one calls it, or else an empty tuple; and gives up
+// the codes of the functions that it is the last to call.
 fn add_code(
     alloc: Global,
     def: &Def,

@@ -1,5 +1,4 @@
 use Rattle.std.proofs.Common.{map, arith}
-use Rattle.cf_tree.specs.CodeView.{code_tree}
 use Rattle.cf_build.specs.Codes.{choose_code, solved_in}
 use Rattle.cf_build.proofs.KeptCodes.{kept_more}
 use Rattle.cf_build.proofs.main_code.kept_codes.Goals as goal
