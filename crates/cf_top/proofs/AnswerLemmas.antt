@@ -22,7 +22,7 @@ use Rattle.cf_top.proofs.StepLemmas.{left_of, left_told, end_told, short_answere
 
 -- ---- a text that is refused, or for which memory ran out
 
-refused_ends : (job : Job) (before after : Streams) (f : Fault) → IsTextFault f → Refuses job.command job.files f → after.out ≡ before.out →
+pub refused_ends : (job : Job) (before after : Streams) (f : Fault) → IsTextFault f → Refuses job.command job.files f → after.out ≡ before.out →
     Ends job before after (Err f)
 refused_ends job before after fault.Usage h r e = absurd h
 refused_ends job before after fault.File h r e = absurd h

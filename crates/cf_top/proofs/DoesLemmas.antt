@@ -14,10 +14,12 @@ use Rattle.cf_top.specs.Outside.{Outside, AreTold, AreTexts, Counts, IsFrugal}
 use Rattle.cf_top.specs.Passes.{Told}
 use Rattle.cf_top.specs.Refusals.{too_long, Refuses}
 use Rattle.cf_top.specs.Steps.{AnswersOn}
+use Rattle.cf_top.specs.Top.{IsInOrder}
+use Rattle.cf_top.specs.declared.status.Status.{Status}
 use Rattle.cf_top.specs.declared.fault.Fault.{Fault}
 use Rattle.cf_top.specs.declared.fault.Fault.TheVariants as fault
 use Rattle.cf_words.specs.declared.command.CommandKind.{CommandKind}
-use Rattle.cf_words.specs.declared.command.CommandKind.TheVariants.{Compile, Run, Pre, Check, Exec}
+use Rattle.cf_words.specs.declared.command.CommandKind.TheVariants.{Compile, Run, Pre, Check, Exec, Prove}
 use Rattle.cf_words.specs.declared.command.Flags.{Flags}
 use Rattle.cf_top.proofs.CountLemmas.{one_fault}
 use Rattle.cf_top.proofs.FaultLemmas.{failed}
@@ -31,6 +33,7 @@ one_name Run flags name = refl
 one_name Pre flags name = refl
 one_name Check flags name = refl
 one_name Exec flags name = refl
+one_name Prove flags name = refl
 
 pub reads_a_file : (kind : CommandKind) (flags : Flags) (name : List ℕ) → names_of (command_on kind flags name) ≡ [] → ⊥
 reads_a_file kind flags name none = let one : names_of (command_on kind flags name) ≡ name ∷ [] = one_name kind flags name in cc
@@ -66,10 +69,10 @@ pub record Untouched (before after : Outside) : Type 0 where
   pub input_faults : after.input_faults ≡ before.input_faults
   pub out_faults : after.out_faults ≡ before.out_faults
 
-nothing_read : (left still_left : Option (List ℕ)) → still_left ≡ left → TookFront (input_limit + 1) left still_left
+pub nothing_read : (left still_left : Option (List ℕ)) → still_left ≡ left → TookFront (input_limit + 1) left still_left
 nothing_read left still_left is = rw is ([], omega arith, Consumes-nil left)
 
-no_fault : {failed : Type 0} (old new : ℕ) → (failed → ⊥) → new ≡ old → Counts failed old new
+pub no_fault : {failed : Type 0} (old new : ℕ) → (failed → ⊥) → new ≡ old → Counts failed old new
 no_fault old new never is = record { same = λ _. is; rose = λ h. absurd (never h) }
 
 -- a file was read, and its text answered
@@ -142,7 +145,7 @@ memory_does c name given before after e file none same =
     (λ i. cc) (λ i. cc)
 
 -- a text that is too long
-long_text : (told : Option (List ℕ)) → IfSome told (λ text. text_limit < length text) → (text : List ℕ) × AreTold told text × (text_limit < length text)
+pub long_text : (told : Option (List ℕ)) → IfSome told (λ text. text_limit < length text) → (text : List ℕ) × AreTold told text × (text_limit < length text)
 long_text None h = (replicate (text_limit + 1) 0, tt, rw length-replicate (omega arith))
 long_text (Some text) h = (text, refl, h)
 
@@ -153,6 +156,7 @@ long_refused Run flags name text h = too_long h
 long_refused Pre flags name text h = too_long h
 long_refused Check flags name text h = too_long h
 long_refused Exec flags name text h = too_long h
+long_refused Prove flags name text h = too_long h
 
 pub long_does : (kind : CommandKind) (flags : Flags) (name : List ℕ) (given : List Told) (before after : Outside) →
     IfSome (before.texts name) (λ text. text_limit < length text) →
@@ -212,3 +216,17 @@ nothing_answers (Some c) given before =
       };
       frugal = record { fetches = omega arith; file = inl refl; input = nothing_read before.input before.input refl };
     }
+
+-- a command on one file, and a workload, read no second one
+pub file_in_order : (kind : CommandKind) (flags : Flags) (name : List ℕ) (before after : Outside) (status : Status) →
+    IsInOrder (command_on kind flags name) before after status
+file_in_order Compile flags name before after status = tt
+file_in_order Run flags name before after status = tt
+file_in_order Pre flags name before after status = tt
+file_in_order Check flags name before after status = tt
+file_in_order Exec flags name before after status = tt
+file_in_order Prove flags name before after status = tt
+
+pub order_of : (command : Option Command) (before after : Outside) (known status : Status) → status ≡ known →
+    IfSome command (λ c. IsInOrder c before after known) → IfSome command (λ c. IsInOrder c before after status)
+order_of command before after known status is h = subst (λ s. IfSome command (λ c. IsInOrder c before after s)) (sym is) h

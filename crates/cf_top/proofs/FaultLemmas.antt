@@ -6,8 +6,8 @@ use Rattle.cf_lex.specs.declared.token.Token.{Token}
 use Rattle.cf_reader.specs.Readers.{Reader}
 use Rattle.cf_tree.specs.DefView.{RawDefTree}
 use Rattle.cf_target.specs.Spelling.{TargetTree}
-use Rattle.cf_words.specs.Commands.{Command, compile, run, pre, check, exec, gen}
-use Rattle.cf_top.specs.Refusals.{Causes, too_long, odd_byte, large_number, no_tree, bad_tree, IsBadProgram, broken, refused, IsBadRun, bad, broken_late, IsBadTarget, untyped, IsRefusedSource, IsRefusedRun, IsRefusedTarget, Refuses}
+use Rattle.cf_words.specs.Commands.{Command, compile, run, pre, check, exec, prove, verify, gen}
+use Rattle.cf_top.specs.Refusals.{Causes, too_long, odd_byte, large_number, no_tree, bad_tree, IsBadProgram, broken, refused, IsBadRun, bad, broken_late, IsBadTarget, untyped, IsRefusedSource, IsRefusedRun, IsRefusedTarget, IsBroken, broken_rule, IsUnverified, bad_source, bad_steps, bad_blocks, Refuses}
 use Rattle.cf_top.specs.declared.fault.Fault.{Fault}
 use Rattle.cf_top.specs.declared.fault.Fault.TheVariants as fault
 
@@ -23,6 +23,8 @@ IsTextFault (fault.Syntax p) = Unit {0}
 IsTextFault (fault.Rule e) = Unit {0}
 IsTextFault (fault.Choose n r) = Unit {0}
 IsTextFault fault.BadTarget = Unit {0}
+IsTextFault (fault.Steps e) = Unit {0}
+IsTextFault (fault.Rejected n i j w) = Unit {0}
 IsTextFault f = ⊥
 
 caused : {Tree : Type 0} (Is : Tree → List Token → Type 0) (read : Reader Tree) (Bad : Tree → Fault → Type 0) →
@@ -54,12 +56,22 @@ run_text text f h = caused _ _ _ run_fault text f h
 target_text : (text : List ℕ) (f : Fault) → IsRefusedTarget text f → IsTextFault f
 target_text text f h = caused _ _ _ target_fault text f h
 
+broken_fault : (program : List RawDefTree) (f : Fault) → IsBroken program f → IsTextFault f
+broken_fault program f (broken_rule e h) = tt
+
+verify_fault : (source steps : List ℕ) (f : Fault) → IsUnverified source steps f → IsTextFault f
+verify_fault source steps f (bad_source g h) = caused _ _ _ broken_fault source f h
+verify_fault source steps f (bad_steps typed e s h) = tt
+verify_fault source steps f (bad_blocks typed bs n i j w s b v) = tt
+
 pub refused_fault : (c : Command) (files : List (List ℕ)) (f : Fault) → Refuses c files f → IsTextFault f
 refused_fault (compile flags name) (text ∷ []) f h = source_text text f h
 refused_fault (run flags name) (text ∷ []) f h = run_text text f h
 refused_fault (pre name) (text ∷ []) f h = source_text text f h
 refused_fault (check name) (text ∷ []) f h = source_text text f h
 refused_fault (exec name) (text ∷ []) f h = target_text text f h
+refused_fault (prove name) (text ∷ []) f h = source_text text f h
+refused_fault (verify name other) (source ∷ steps ∷ []) f h = verify_fault source steps f h
 refused_fault (gen n) [] f h = source_text (gen_source n) f h
 refused_fault c files f h = absurd h
 

@@ -1,5 +1,9 @@
 pub mod AnswerLemmas
+pub mod AskedLemmas
+pub mod BlockLemmas
 pub mod CauseLemmas
+mod CertificateExamples
+pub mod CertificateLemmas
 mod CheckExamples
 pub mod CheckLemmas
 pub mod CountLemmas
@@ -30,6 +34,7 @@ pub mod SumLemmas
 pub mod TargetLemmas
 pub mod TextLemmas
 pub mod VerdictLemmas
+pub mod VerifyLemmas
 pub mod WorkloadLaw
 pub mod WorkloadPicks
 pub mod WorkloadShapes

@@ -16,7 +16,7 @@ use Rattle.cf_build.specs.Questions.{Question, limit_of, question_arms, solve_of
 use Rattle.cf_emit.specs.Printed.{code_text, pre_text}
 
 -- the x whose double lies between a and b
-abbrev rounding : Question
+abbrev pub rounding : Question
 rounding = record {
   number = 1;
   names = codes "a" ∷ codes "b" ∷ [];

@@ -1,8 +1,6 @@
 -- Why `run` refuses a source text, and what answers its lines where it does not.
-use Rattle.std.proofs.Common.{◌≡◌, ap, subst, refl, inl, inr, sym, ℕ, List, Some, Option}
-use Rattle.std.specs.Prelude.{◌⊎◌, slice_get, Result, Ok, Err}
-use Rattle.cf_num.specs.Limit.{limit}
-use Rattle.cf_lex.proofs.LexesLemmas.{lexes-within}
+use Rattle.std.proofs.Common.{◌≡◌, ap, refl, inl, inr, ℕ, List}
+use Rattle.std.specs.Prelude.{◌⊎◌, Result, Ok, Err}
 use Rattle.cf_linear.specs.declared.refusal.Refusal.{Refusal}
 use Rattle.cf_parse.specs.Programs.{IsProgram, program_of}
 use Rattle.cf_parse.proofs.Programs.{one_law}
@@ -16,7 +14,6 @@ use Rattle.cf_program.specs.declared.fault.TypeFault.TheVariants as rule
 use Rattle.cf_program.proofs.Kept.{when_is}
 use Rattle.cf_program.proofs.ProgramLaws.{checked_good}
 use Rattle.cf_tree.specs.DefView.{RawDefTree}
-use Rattle.cf_tree.specs.Values.{Value}
 use Rattle.cf_tree.specs.declared.base.Place.{Place}
 use Rattle.cf_tree.specs.declared.target.RawTarget.{RawTarget}
 use Rattle.cf_build.specs.Built.{IsBuilt}
@@ -27,8 +24,8 @@ use Rattle.cf_top.specs.LateReplies.{AreRunsAllowed}
 use Rattle.cf_top.specs.Owed.{by_target, by_late, OwesRun, compiled, late}
 use Rattle.cf_top.specs.Passes.{Told}
 use Rattle.cf_top.specs.Picked.{main_bases}
-use Rattle.cf_top.specs.Refusals.{Causes, too_long, odd_byte, large_number, no_tree, bad_tree, IsBadProgram, broken, refused, IsBadRun, bad, broken_late, IsRefusedRun}
-use Rattle.cf_top.specs.Sources.{Spelled, IsTypedSource, IsCheckedLate, IsLateSource, Compiles}
+use Rattle.cf_top.specs.Refusals.{Causes, bad_tree, IsBadProgram, broken, refused, IsBadRun, bad, broken_late, IsRefusedRun}
+use Rattle.cf_top.specs.Sources.{Spelled, IsTypedSource, IsCheckedLate}
 use Rattle.cf_top.specs.Statuses.{rule_status, fault_status}
 use Rattle.cf_top.specs.Steps.{IsVerdict, IsMisspelled, IsRunner, answerer_of}
 use Rattle.cf_top.specs.declared.answerer.Answerer.{Answerer as DeclaredAnswerer}
@@ -38,14 +35,11 @@ use Rattle.cf_top.proofs.CauseLemmas.{alike, unrefused}
 use Rattle.cf_top.proofs.LateLemmas.{main_types}
 use Rattle.cf_top.proofs.PickedLemmas.{replies_picked, values_fit}
 use Rattle.cf_top.proofs.SourceLemmas.{bad_alike, built_never_bad, fails_so}
+use Rattle.cf_top.proofs.TextLemmas.{caused_too}
 
 -- a text that is misspelled is refused, whatever rules there are
 pub misspelled : (Bad : List RawDefTree → Fault → Type 0) (text : List ℕ) (f : Fault) → IsMisspelled text f → Causes IsProgram (program_of 200) Bad text f
-misspelled Bad text f (too_long h) = too_long h
-misspelled Bad text f (odd_byte ts p h) = odd_byte ts p h
-misspelled Bad text f (large_number ts p h) = large_number ts p h
-misspelled Bad text f (no_tree ts end p h none place) = no_tree ts end p h none place
-misspelled Bad text f (bad_tree x g s b) = absurd b
+misspelled Bad text f h = caused_too IsProgram (program_of 200) (λ x g. ⊥) Bad (λ x g b. absurd b) text f h
 
 pub misspelled_or : (Bad : List RawDefTree → Fault → Type 0) (text : List ℕ) (f : Fault) → IsMisspelled text f ⊎ (f ≡ fault.NoMemory) →
     Causes IsProgram (program_of 200) Bad text f ⊎ (f ≡ fault.NoMemory)

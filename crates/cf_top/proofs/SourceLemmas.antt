@@ -72,7 +72,7 @@ never_bad program typed is within f (refused other n r h b) =
     let none : limit_of q.0 ≡ None = within q.0 (subst (λ v. Contains (all_questions v.defs) q.0) same q.1) in
     let some : limit_of q.0 ≡ Some r = q.3 in cc
 
-typed_unrefused : (text : List ℕ) (typed : TypedTree) (f : Fault) → IsTypedSource text typed →
+pub typed_unrefused : (text : List ℕ) (typed : TypedTree) (f : Fault) → IsTypedSource text typed →
     ((q : Question) → Contains (all_questions typed.defs) q → limit_of q ≡ None) →
     IsRefusedSource text f → ⊥
 typed_unrefused text typed f s within h = unrefused IsProgram (program_of 200) IsBadProgram one_law text f s.0 (never_bad s.0 typed s.2 within) h s.1

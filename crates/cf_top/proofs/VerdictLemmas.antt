@@ -5,7 +5,7 @@ use Rattle.cf_gen.specs.Workload.{gen_source}
 use Rattle.cf_io.specs.Causes.{Rose}
 use Rattle.cf_io.specs.Limits.{input_limit}
 use Rattle.cf_target.specs.Spelling.{target_tree}
-use Rattle.cf_words.specs.Commands.{Command, compile, run, pre, check, exec, gen}
+use Rattle.cf_words.specs.Commands.{Command, compile, run, pre, check, exec, prove, verify, gen}
 use Rattle.cf_top.specs.Commands.{names_of, reads_input}
 use Rattle.cf_top.specs.Ends.{Streams, streams_of, Job, Reads, IsReadUp, Wrote, Ends, Does, Answers}
 use Rattle.cf_top.specs.Outside.{Outside, AreTold, AreTexts}
@@ -18,6 +18,7 @@ use Rattle.cf_top.specs.declared.fault.Fault.{Fault}
 use Rattle.cf_top.specs.declared.fault.Fault.TheVariants as fault
 use Rattle.cf_top.specs.declared.status.Status.{Status}
 use Rattle.cf_top.specs.declared.status.Status.TheVariants.{Done, Usage, File, Input, Output, InputLong, NoMemory}
+use Rattle.cf_top.proofs.CertificateLemmas.{verify_alike, verify_unrefused, proofs_unrefused}
 use Rattle.cf_top.proofs.CountLemmas.{rose_once}
 use Rattle.cf_top.proofs.RunLemmas.{runs_alike, run_unrefused}
 use Rattle.cf_top.proofs.SourceLemmas.{sources_alike, compiled_unrefused, pres_unrefused, checks_unrefused}
@@ -30,6 +31,8 @@ refused_alike (run flags name) (text ∷ []) f g h i = runs_alike text f g h i
 refused_alike (pre name) (text ∷ []) f g h i = sources_alike text f g h i
 refused_alike (check name) (text ∷ []) f g h i = sources_alike text f g h i
 refused_alike (exec name) (text ∷ []) f g h i = targets_alike text f g h i
+refused_alike (prove name) (text ∷ []) f g h i = sources_alike text f g h i
+refused_alike (verify name other) (source ∷ steps ∷ []) f g h i = verify_alike source steps f g h i
 refused_alike (gen n) [] f g h i = sources_alike (gen_source n) f g h i
 refused_alike command files f g h i = absurd h
 
@@ -42,6 +45,8 @@ owed_accepted (run flags name) (file ∷ []) given passes ls text h = λ f r. ru
 owed_accepted (pre name) (file ∷ []) given passes ls text h = λ f r. pres_unrefused file h.0 text f h.1 h.2 r
 owed_accepted (check name) (file ∷ []) given passes ls text h = λ f r. checks_unrefused file h.0 text f h.1 h.2 r
 owed_accepted (exec name) (file ∷ []) given passes ls text h = λ f r. typed_unrefused file (target_tree h.0) f h.1 r
+owed_accepted (prove name) (file ∷ []) given passes ls text h = λ f r. proofs_unrefused file h.0 text f h.1 h.2 r
+owed_accepted (verify name other) (source ∷ steps ∷ []) given passes ls text h = λ f r. verify_unrefused source steps h.0 f h.1 h.2 r
 owed_accepted (gen n) [] given passes ls text h = λ f r. compiled_unrefused (applied (gen n) passes) (gen_source n) h.0 f h.1 r
 owed_accepted command files given passes ls text h = absurd h
 

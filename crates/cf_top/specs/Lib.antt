@@ -1,3 +1,4 @@
+pub mod Certificates
 pub mod Checking
 pub mod Checks
 pub mod Commands
@@ -15,3 +16,4 @@ pub mod Steps
 pub mod Sums
 pub mod Texts
 pub mod Top
+pub mod Verifying

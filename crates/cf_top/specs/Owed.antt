@@ -1,5 +1,5 @@
 -- What a command is to write, in all.
-use Rattle.std.specs.Prelude.{◌≡◌, ℕ, ◌-◌, ◌*◌, ◌^◌, ℤ, pos, ◌+ℤ◌, List, [], ◌∷◌, ◌++◌, None, codes, decimal}
+use Rattle.std.specs.Prelude.{◌≡◌, ℕ, ◌-◌, ◌*◌, ◌^◌, ℤ, pos, ◌+ℤ◌, List, [], ◌∷◌, ◌++◌, flat_map, None, codes, decimal}
 use Rattle.std.specs.List.{concat}
 use Rattle.std.specs.Fmt.{signed_decimal}
 use Rattle.cf_gen.specs.Workload.{gen_source, gen_lines}
@@ -14,7 +14,8 @@ use Rattle.cf_build.specs.Questions.{Question, all_questions, by_number, limit_o
 use Rattle.cf_emit.specs.Printed.{target_text, pre_text}
 use Rattle.cf_emit.specs.ReadsBack.{ReadsBack}
 use Rattle.cf_eval.specs.Replies.{IsReply}
-use Rattle.cf_words.specs.Commands.{Command, compile, run, pre, check, exec, gen}
+use Rattle.cf_words.specs.Commands.{Command, compile, run, pre, check, exec, prove, verify, gen}
+use Rattle.cf_top.specs.Certificates.{asked_in, AreProofs, AreVerified, verified_line}
 use Rattle.cf_top.specs.Checks.{IsCheckOf}
 use Rattle.cf_top.specs.LateReplies.{IsLateReply, AreRunsAllowed}
 use Rattle.cf_top.specs.Passes.{Told, applied}
@@ -93,6 +94,9 @@ Owes (run flags name) (file ∷ []) given last ls text = OwesRun (applied (run f
 Owes (pre name) (file ∷ []) given last ls text = (typed : TypedTree) × IsTypedSource file typed × ArePres typed text
 Owes (check name) (file ∷ []) given last ls text = (typed : TypedTree) × IsTypedSource file typed × AreChecks typed text
 Owes (exec name) (file ∷ []) given last ls text = (t : RawTarget) × IsTypedTarget file (target_tree t) × AreReplies (by_target t) ls text
+Owes (prove name) (file ∷ []) given last ls text = (typed : TypedTree) × IsTypedSource file typed × AreProofs (asked_in typed) text
+Owes (verify name steps_name) (source ∷ steps ∷ []) given last ls text =
+    (typed : TypedTree) × IsTypedSource source typed × AreVerified (asked_in typed) steps × (text ≡ flat_map verified_line (asked_in typed))
 Owes (gen n) [] given last ls text =
     (t : RawTarget) × Compiles (applied (gen n) last) (gen_source n) t × (typed : TypedTree) × IsTypedSource (gen_source n) typed
     × (sum : ℤ) × IsSum typed (applied (gen n) last) (lines (gen_lines n)) sum × (text ≡ sum_line (n * n) sum)

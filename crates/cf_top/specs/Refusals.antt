@@ -1,5 +1,5 @@
 -- Why the text of a file is refused.
-use Rattle.std.specs.Prelude.{◌≡◌, ℕ, ◌<◌, List, [], ◌∷◌, length, Ok, Err}
+use Rattle.std.specs.Prelude.{◌≡◌, ℕ, ◌<◌, List, [], ◌∷◌, length, map, Ok, Err}
 use Rattle.cf_gen.specs.Workload.{gen_source}
 use Rattle.cf_lex.specs.declared.token.Token.{Token}
 use Rattle.cf_lex.specs.Tokens.{bad_byte, past_limit, at_end}
@@ -16,11 +16,20 @@ use Rattle.cf_program.specs.declared.fault.TypeFault.{TypeFault}
 use Rattle.cf_program.specs.declared.fault.TypeFault.TheVariants.{NotLinear}
 use Rattle.cf_linear.specs.declared.refusal.Refusal.{Refusal}
 use Rattle.cf_build.specs.Questions.{all_questions, IsFirstRefused}
-use Rattle.cf_words.specs.Commands.{Command, compile, run, pre, check, exec, gen}
+use Rattle.cf_steps.specs.Blocks.{BlockTree}
+use Rattle.cf_steps.specs.Reading.{all_blocks}
+use Rattle.cf_steps.specs.Spelling.{AreBlocks}
+use Rattle.cf_cert.specs.Judging.{IsVerdict}
+use Rattle.cf_cert.specs.declared.verdict.Verdict.TheVariants.{Rejected}
+use Rattle.cf_cert.specs.declared.verdict.Why.{Why}
+use Rattle.cf_words.specs.Commands.{Command, compile, run, pre, check, exec, prove, verify, gen}
+use Rattle.cf_top.specs.Certificates.{asked, asked_in}
 use Rattle.cf_top.specs.Limits.{text_limit}
-use Rattle.cf_top.specs.Sources.{HasTokens, Spelled, IsTypedTree}
+use Rattle.cf_top.specs.Sources.{HasTokens, Spelled, IsTypedSource, IsTypedTree}
 use Rattle.cf_top.specs.declared.fault.Fault.{Fault}
 use Rattle.cf_top.specs.declared.fault.Fault.TheVariants as fault
+use Rattle.cf_top.specs.declared.fault.StepsFault.{StepsFault}
+use Rattle.cf_top.specs.declared.fault.StepsFault.TheVariants as steps_fault
 
 -- The place of a syntax fault: no tree begins with the tokens up to and with the one that stands there, or it is the end; and it is the place at which
 -- reading from left to right stops.
@@ -63,6 +72,31 @@ IsRefusedRun text f = Causes IsProgram (program_of 200) IsBadRun text f
 abbrev pub IsRefusedTarget : List ℕ → Fault → Type 0
 IsRefusedTarget text f = Causes IsTarget (target_of 500) IsBadTarget text f
 
+-- ---- verify
+-- a program whose chooses are not solved is refused for its first broken rule alone
+pub data IsBroken (program : List RawDefTree) : Fault → Type 0 where
+  broken_rule : (e : TypeFault) → checked program ≡ Err e → IsBroken program (fault.Rule e)
+
+abbrev pub IsBrokenSource : List ℕ → Fault → Type 0
+IsBrokenSource text f = Causes IsProgram (program_of 200) IsBroken text f
+
+-- the fault of a steps file's text, as one of a text
+abbrev pub text_fault : StepsFault → Fault
+text_fault steps_fault.TooLong = fault.TextTooLong
+text_fault (steps_fault.BadByte p) = fault.BadByte p
+text_fault (steps_fault.NumberPast p) = fault.NumberPast p
+text_fault (steps_fault.Syntax p) = fault.Syntax p
+
+abbrev pub IsRefusedSteps : List ℕ → StepsFault → Type 0
+IsRefusedSteps text e = Causes AreBlocks (all_blocks 500) (λ bs f. ⊥) text (text_fault e)
+
+-- Why steps are not accepted for a source: the source is refused, whatever the steps are; or their text is; or there is a first fault in their blocks.
+pub data IsUnverified (source steps : List ℕ) : Fault → Type 0 where
+  bad_source : (f : Fault) → IsBrokenSource source f → IsUnverified source steps f
+  bad_steps : (typed : TypedTree) (e : StepsFault) → IsTypedSource source typed → IsRefusedSteps steps e → IsUnverified source steps (fault.Steps e)
+  bad_blocks : (typed : TypedTree) (bs : List BlockTree) (n i j : ℕ) (w : Why) → IsTypedSource source typed → Spelled AreBlocks steps bs →
+      IsVerdict (map asked (asked_in typed)) bs (Rejected n i j w) → IsUnverified source steps (fault.Rejected n i j w)
+
 -- the fault for which a command is refused on files of these texts, or on a source of its own
 abbrev pub Refuses : Command → List (List ℕ) → Fault → Type 0
 Refuses (compile flags name) (text ∷ []) f = IsRefusedSource text f
@@ -70,6 +104,8 @@ Refuses (run flags name) (text ∷ []) f = IsRefusedRun text f
 Refuses (pre name) (text ∷ []) f = IsRefusedSource text f
 Refuses (check name) (text ∷ []) f = IsRefusedSource text f
 Refuses (exec name) (text ∷ []) f = IsRefusedTarget text f
+Refuses (prove name) (text ∷ []) f = IsRefusedSource text f
+Refuses (verify name steps_name) (source ∷ steps ∷ []) f = IsUnverified source steps f
 Refuses (gen n) [] f = IsRefusedSource (gen_source n) f
 Refuses command files f = ⊥
 

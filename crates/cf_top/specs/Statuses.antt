@@ -7,7 +7,7 @@ use Rattle.cf_program.specs.declared.fault.TypeFault.TheVariants as rule
 use Rattle.cf_top.specs.declared.fault.Fault.{Fault}
 use Rattle.cf_top.specs.declared.fault.Fault.TheVariants as fault
 use Rattle.cf_top.specs.declared.status.Status.{Status}
-use Rattle.cf_top.specs.declared.status.Status.TheVariants.{Done, Usage, File, Input, Output, Text, Types, NotLinear, Past, Limit, InputLong, NoMemory}
+use Rattle.cf_top.specs.declared.status.Status.TheVariants.{Done, Usage, File, Input, Output, Text, Types, NotLinear, Past, Limit, InputLong, NoMemory, Rejected}
 
 abbrev pub code_of : Status → ℕ
 code_of Done = 0
@@ -22,6 +22,7 @@ code_of Past = 9
 code_of Limit = 10
 code_of InputLong = 11
 code_of NoMemory = 12
+code_of Rejected = 13
 
 abbrev pub refusal_status : Refusal → Status
 refusal_status refusal.Past = Past
@@ -49,6 +50,8 @@ fault_status (fault.Syntax p) = Text
 fault_status (fault.Rule e) = rule_status e
 fault_status (fault.Choose n r) = refusal_status r
 fault_status fault.BadTarget = Types
+fault_status (fault.Steps e) = Text
+fault_status (fault.Rejected n i j w) = Rejected
 fault_status fault.Input = Input
 fault_status fault.Output = Output
 fault_status fault.InputTooLong = InputLong

@@ -2,33 +2,32 @@
 use Rattle.std.specs.Prelude.{ℕ, List, [], ◌∷◌, codes, decimal, Result, Ok, Err}
 use Rattle.std.specs.List.{concat}
 use Rattle.cf_tree.specs.declared.base.Place.{Place}
-use Rattle.cf_linear.specs.declared.refusal.LimitKind.{LimitKind}
-use Rattle.cf_linear.specs.declared.refusal.LimitKind.TheVariants as kind
 use Rattle.cf_linear.specs.declared.refusal.Refusal.{Refusal}
 use Rattle.cf_linear.specs.declared.refusal.Refusal.TheVariants as refusal
 use Rattle.cf_program.specs.declared.fault.TypeFault.{TypeFault}
 use Rattle.cf_program.specs.declared.fault.TypeFault.TheVariants as rule
+use Rattle.cf_late.specs.Outcomes.{kind_text}
+use Rattle.cf_cert.specs.declared.verdict.Why.{Why}
+use Rattle.cf_cert.specs.declared.verdict.Why.TheVariants as why
 use Rattle.cf_top.specs.declared.fault.Fault.{Fault}
 use Rattle.cf_top.specs.declared.fault.Fault.TheVariants as fault
+use Rattle.cf_top.specs.declared.fault.StepsFault.{StepsFault}
+use Rattle.cf_top.specs.declared.fault.StepsFault.TheVariants as steps_fault
 
 -- Each line ends with a line feed.
 abbrev pub words_line : List ℕ → List ℕ
 words_line words = concat (words ∷ codes "\n" ∷ [])
 
 -- words about a place of the text
+abbrev pub place_line_behind : List ℕ → Place → List ℕ → List ℕ
+place_line_behind head p words = concat (head ∷ decimal p.line ∷ codes " column " ∷ decimal p.column ∷ codes ": " ∷ words ∷ codes "\n" ∷ [])
+
 abbrev pub place_line : Place → List ℕ → List ℕ
-place_line p words = concat (codes "line " ∷ decimal p.line ∷ codes " column " ∷ decimal p.column ∷ codes ": " ∷ words ∷ codes "\n" ∷ [])
+place_line p words = place_line_behind (codes "line ") p words
 
 -- a name and a number
 abbrev pub count_line : List ℕ → ℕ → List ℕ
 count_line name n = concat (name ∷ codes " " ∷ decimal n ∷ codes "\n" ∷ [])
-
-abbrev pub kind_text : LimitKind → List ℕ
-kind_text kind.Sets = codes "Sets"
-kind_text kind.Cases = codes "Cases"
-kind_text kind.Rows = codes "Rows"
-kind_text kind.Columns = codes "Columns"
-kind_text kind.Search = codes "Search"
 
 -- words about a choose
 abbrev pub numbered_line : ℕ → List ℕ → List ℕ
@@ -58,6 +57,33 @@ rule_line (rule.Weight n) = count_line (codes "Weight") n
 rule_line (rule.Depth n) = count_line (codes "Depth") n
 rule_line rule.NoMemory = words_line (codes "no memory")
 
+-- why a steps file's text is refused
+abbrev pub steps_line : StepsFault → List ℕ
+steps_line steps_fault.TooLong = words_line (codes "steps text too long")
+steps_line (steps_fault.BadByte p) = place_line_behind (codes "steps line ") p (codes "bad byte")
+steps_line (steps_fault.NumberPast p) = place_line_behind (codes "steps line ") p (codes "number past limit")
+steps_line (steps_fault.Syntax p) = place_line_behind (codes "steps line ") p (codes "syntax")
+
+-- why steps are rejected
+abbrev pub why_text : Why → List ℕ
+why_text why.Unknown = codes "not an unknown"
+why_text why.Factor = codes "not invertible"
+why_text why.Single = codes "not one unknown"
+why_text why.Held = codes "held by an equation"
+why_text why.Exact = codes "pair without coefficient 1"
+why_text why.Left = codes "not finished"
+why_text why.Blocks = codes "wrong blocks"
+why_text why.Code = codes "code differs"
+why_text (why.Refused r) = refusal_text r
+
+-- the steps of choose n are rejected at this case and this step
+abbrev pub rejected_words_line : ℕ → ℕ → ℕ → List ℕ → List ℕ
+rejected_words_line n i j words =
+    concat (codes "choose " ∷ decimal n ∷ codes ": rejected at case " ∷ decimal i ∷ codes " step " ∷ decimal j ∷ codes ": " ∷ words ∷ codes "\n" ∷ [])
+
+abbrev pub rejected_line : ℕ → ℕ → ℕ → Why → List ℕ
+rejected_line n i j w = rejected_words_line n i j (why_text w)
+
 abbrev pub fault_line : Fault → List ℕ
 fault_line fault.Usage = words_line (codes "usage: comfusy compile|pre|check|run|exec|prove FILE, or comfusy verify FILE STEPS, or comfusy gen N")
 fault_line fault.File = words_line (codes "cannot read file")
@@ -68,6 +94,8 @@ fault_line (fault.Syntax p) = place_line p (codes "syntax")
 fault_line (fault.Rule e) = rule_line e
 fault_line (fault.Choose n r) = choose_line n r
 fault_line fault.BadTarget = words_line (codes "target not well typed")
+fault_line (fault.Steps e) = steps_line e
+fault_line (fault.Rejected n i j w) = rejected_line n i j w
 fault_line fault.Input = words_line (codes "cannot read input")
 fault_line fault.Output = words_line (codes "cannot write output")
 fault_line fault.InputTooLong = words_line (codes "input too long")

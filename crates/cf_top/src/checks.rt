@@ -35,8 +35,8 @@ use cf_warn::uniqueness::uniqueness;
 use cf_write::put_number;
 use std::alloc::Global;
 
-// Adds the front of a line.
-fn put_head(text: &mut Vec<u8>, what: &[u8], number: u32) -> Result<(), NoMemory>
+/// Adds the front of a line about a choose or a match.
+pub fn put_head(text: &mut Vec<u8>, what: &[u8], number: u32) -> Result<(), NoMemory>
     ensures { OnOk result (text.new.items ≡ text.old.items ++ concat (what.now ∷ decimal number ∷ codes ": " ∷ [])) }
 {
     text.extend_from_slice(what)?;

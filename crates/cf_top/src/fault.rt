@@ -1,7 +1,17 @@
 //! Why a call did not do what its words ask.
+use cf_cert::verdict::Why;
 use cf_linear::refusal::Refusal;
 use cf_program::fault::TypeFault;
 use cf_tree::base::Place;
+
+/// Why the text of a steps file is refused.
+#[derive(Clone, Copy, Debug, PartialEq, Eq)]
+pub enum StepsFault {
+    TooLong,
+    BadByte(Place),
+    NumberPast(Place),
+    Syntax(Place),
+}
 
 /// Why a call did not do what its words ask.
 #[derive(Clone, Copy, Debug, PartialEq, Eq)]
@@ -17,9 +27,21 @@ pub enum Fault {
     /// The first rule that the program breaks.
     Rule(TypeFault),
     /// The first choose that is refused.
-    Choose { number: u32, refusal: Refusal },
+    Choose {
+        number: u32,
+        refusal: Refusal,
+    },
     /// The target that the file spells is not well typed.
     BadTarget,
+    /// The text of the steps file is refused.
+    Steps(StepsFault),
+    /// The first fault of the steps: its choose, its case and its step, and why.
+    Rejected {
+        number: u32,
+        case: u32,
+        step: u32,
+        why: Why,
+    },
     /// The input was not read.
     Input,
     /// A reply was not written.

@@ -14,7 +14,7 @@ ghost use Rattle.cf_parse.specs.Programs.{IsProgram};
 ghost use Rattle.cf_build.specs.Built.{BuildAnswer};
 ghost use Rattle.cf_top.specs.Limits.{text_limit};
 ghost use Rattle.cf_top.specs.Passes.{Told};
-ghost use Rattle.cf_top.specs.Refusals.{IsRefusedSource, IsRefusedRun};
+ghost use Rattle.cf_top.specs.Refusals.{IsBrokenSource, IsRefusedSource, IsRefusedRun};
 ghost use Rattle.cf_top.specs.Sources.{HasTokens, Spelled, IsTypedSource, Compiles};
 ghost use Rattle.cf_top.specs.Steps.{IsVerdict, IsMisspelled, IsRunner, answerer_of};
 
@@ -35,11 +35,11 @@ use cf_tree::target::Target;
 use cf_type::check::{check, check_late};
 use std::alloc::Global;
 
-/// The program that a source text spells, or why the text is refused.
+/// The program that a source text spells, or why the text is refused, whatever its chooses are.
 pub fn read_source(alloc: Global, text: &[u8]) -> Result<Typed, Fault>
     requires short { length text.now ≤ text_limit }
     requires place { length text.now < 2 ^ 32 - 1 }
-    ensures { IsVerdict (λ x. IsTypedSource text.now (typed_tree x)) (IsRefusedSource text.now) result }
+    ensures { IsVerdict (λ x. IsTypedSource text.now (typed_tree x)) (IsBrokenSource text.now) result }
 {
     match parsed(alloc, text) {
         Ok(program) => check_program(alloc, &program),
@@ -74,7 +74,7 @@ fn parse(alloc: Global, list: &TokenList) -> Result<Program, Fault>
 fn check_program(alloc: Global, program: &Program) -> Result<Typed, Fault>
     requires { IsSpelledProgram (program_tree program.now) }
     ensures { (text : List ℕ) → Spelled IsProgram text (program_tree program.now) →
-        IsVerdict (λ x. IsTypedSource text (typed_tree x)) (IsRefusedSource text) result }
+        IsVerdict (λ x. IsTypedSource text (typed_tree x)) (IsBrokenSource text) result }
 {
     match check(alloc, program) {
         Ok(typed) => Ok(typed),
@@ -84,6 +84,7 @@ fn check_program(alloc: Global, program: &Program) -> Result<Typed, Fault>
 }
 
 /// The target that a source text is compiled to by these passes, or why the text is refused.
+#[tactic(auto, using(crate::proofs::TextLemmas::broken_refused))]
 pub fn compile(alloc: Global, text: &[u8], passes: &mut Vec<Box<dyn Pass>>) -> Result<Target, Fault>
     requires short { length text.now ≤ text_limit }
     requires place { length text.now < 2 ^ 32 - 1 }

@@ -30,6 +30,8 @@ pub enum Status {
     /// The input is too long.
     InputLong,
     NoMemory,
+    /// The steps of an elimination are not accepted.
+    Rejected,
 }
 
 impl Status {
@@ -50,6 +52,7 @@ impl Status {
             Status::Limit => 10,
             Status::InputLong => 11,
             Status::NoMemory => 12,
+            Status::Rejected => 13,
         }
     }
 }
@@ -93,6 +96,8 @@ fn fault_status(fault: &Fault) -> Status
         Fault::Rule(fault) => rule_status(fault),
         Fault::Choose { refusal, .. } => refusal_status(refusal),
         Fault::BadTarget => Status::Types,
+        Fault::Steps(_) => Status::Text,
+        Fault::Rejected { .. } => Status::Rejected,
         Fault::Input => Status::Input,
         Fault::Output => Status::Output,
         Fault::InputTooLong => Status::InputLong,

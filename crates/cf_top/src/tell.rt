@@ -3,11 +3,13 @@ ghost use Rattle.std.specs.Prelude.{◌≡◌, codes, flat_map, OnOk, OnErr};
 ghost use Rattle.std.specs.Io.KnownBytes.{Appends};
 ghost use Rattle.cf_io.specs.Bytes.{TookPrefix};
 ghost use Rattle.cf_io.specs.Causes.{one_more};
-ghost use Rattle.cf_top.specs.Texts.{words_line, place_line, count_line, kind_text as the_kind_text, numbered_line, choose_line, rule_line, fault_line, answer_line};
+ghost use Rattle.cf_top.specs.Texts.{words_line, place_line, place_line_behind, count_line, numbered_line, choose_line, rule_line, steps_line, rejected_line, rejected_words_line, refusal_text, fault_line, answer_line};
 ghost use Rattle.cf_linear.specs.declared.refusal.Refusal.TheVariants as refusals;
 
-use crate::fault::Fault;
+use crate::fault::{Fault, StepsFault};
+use cf_cert::verdict::Why;
 use cf_io::{Failed, Sink, write_all};
+use cf_late::reply::kind_text;
 use cf_linear::refusal::{LimitKind, Refusal};
 use cf_program::fault::TypeFault;
 use cf_tree::base::Place;
@@ -36,16 +38,22 @@ fn put_words<E: Sink>(err: &mut E, words: &[u8]) -> Result<(), Failed>
     put(err, &[words, b"\n".as_slice()])
 }
 
-fn put_place<E: Sink>(err: &mut E, place: &Place, words: &[u8]) -> Result<(), Failed>
-    ensures all { OnOk result (Appends (E.held err.old) (E.held err.new) (place_line place.now words.now)) }
-    ensures prefix { TookPrefix (E.held err.old) (E.held err.new) (place_line place.now words.now) }
+// Words about a place of a text, behind the head of the line.
+fn put_place_behind<E: Sink>(
+    err: &mut E,
+    head: &[u8],
+    place: &Place,
+    words: &[u8],
+) -> Result<(), Failed>
+    ensures all { OnOk result (Appends (E.held err.old) (E.held err.new) (place_line_behind head.now place.now words.now)) }
+    ensures prefix { TookPrefix (E.held err.old) (E.held err.new) (place_line_behind head.now place.now words.now) }
     ensures failed { OnErr result (E.faults err.new ≡ one_more (E.faults err.old)) }
     ensures same { OnOk result (E.faults err.new ≡ E.faults err.old) }
 {
     let mut line = Buffer::new();
     let mut column = Buffer::new();
     let pieces = [
-        b"line ".as_slice(),
+        head,
         line.format(place.line).as_bytes(),
         b" column ".as_slice(),
         column.format(place.column).as_bytes(),
@@ -54,6 +62,24 @@ fn put_place<E: Sink>(err: &mut E, place: &Place, words: &[u8]) -> Result<(), Fa
         b"\n".as_slice(),
     ];
     put(err, &pieces)
+}
+
+fn put_place<E: Sink>(err: &mut E, place: &Place, words: &[u8]) -> Result<(), Failed>
+    ensures all { OnOk result (Appends (E.held err.old) (E.held err.new) (place_line place.now words.now)) }
+    ensures prefix { TookPrefix (E.held err.old) (E.held err.new) (place_line place.now words.now) }
+    ensures failed { OnErr result (E.faults err.new ≡ one_more (E.faults err.old)) }
+    ensures same { OnOk result (E.faults err.new ≡ E.faults err.old) }
+{
+    put_place_behind(err, b"line ".as_slice(), place, words)
+}
+
+fn put_steps_place<E: Sink>(err: &mut E, place: &Place, words: &[u8]) -> Result<(), Failed>
+    ensures all { OnOk result (Appends (E.held err.old) (E.held err.new) (place_line_behind (codes "steps line ") place.now words.now)) }
+    ensures prefix { TookPrefix (E.held err.old) (E.held err.new) (place_line_behind (codes "steps line ") place.now words.now) }
+    ensures failed { OnErr result (E.faults err.new ≡ one_more (E.faults err.old)) }
+    ensures same { OnOk result (E.faults err.new ≡ E.faults err.old) }
+{
+    put_place_behind(err, b"steps line ".as_slice(), place, words)
 }
 
 fn put_count<E: Sink>(err: &mut E, name: &[u8], count: u64) -> Result<(), Failed>
@@ -70,19 +96,6 @@ fn put_count<E: Sink>(err: &mut E, name: &[u8], count: u64) -> Result<(), Failed
         b"\n".as_slice(),
     ];
     put(err, &pieces)
-}
-
-/// The name of a limit.
-pub fn kind_text(kind: &LimitKind) -> &'static [u8]
-    ensures { result.now ≡ the_kind_text kind.now }
-{
-    match kind {
-        LimitKind::Sets => b"Sets".as_slice(),
-        LimitKind::Cases => b"Cases".as_slice(),
-        LimitKind::Rows => b"Rows".as_slice(),
-        LimitKind::Columns => b"Columns".as_slice(),
-        LimitKind::Search => b"Search".as_slice(),
-    }
 }
 
 fn put_numbered<E: Sink>(err: &mut E, number: u32, words: &[u8]) -> Result<(), Failed>
@@ -171,6 +184,123 @@ fn put_rule<E: Sink>(err: &mut E, fault: &TypeFault) -> Result<(), Failed>
     }
 }
 
+fn put_steps<E: Sink>(err: &mut E, fault: &StepsFault) -> Result<(), Failed>
+    ensures all { OnOk result (Appends (E.held err.old) (E.held err.new) (steps_line fault.now)) }
+    ensures prefix { TookPrefix (E.held err.old) (E.held err.new) (steps_line fault.now) }
+    ensures failed { OnErr result (E.faults err.new ≡ one_more (E.faults err.old)) }
+    ensures same { OnOk result (E.faults err.new ≡ E.faults err.old) }
+{
+    match fault {
+        StepsFault::TooLong => put_words(err, b"steps text too long".as_slice()),
+        StepsFault::BadByte(place) => put_steps_place(err, place, b"bad byte".as_slice()),
+        StepsFault::NumberPast(place) => {
+            put_steps_place(err, place, b"number past limit".as_slice())
+        }
+        StepsFault::Syntax(place) => put_steps_place(err, place, b"syntax".as_slice()),
+    }
+}
+
+// A choose, a case and a step at which steps are rejected.
+#[derive(Clone, Copy)]
+struct StepPlace {
+    number: u32,
+    case: u32,
+    step: u32,
+}
+
+fn put_rejected_words<E: Sink>(err: &mut E, at: &StepPlace, words: &[u8]) -> Result<(), Failed>
+    ensures all { OnOk result (Appends (E.held err.old) (E.held err.new) (rejected_words_line at.now.number at.now.case at.now.step words.now)) }
+    ensures prefix { TookPrefix (E.held err.old) (E.held err.new) (rejected_words_line at.now.number at.now.case at.now.step words.now) }
+    ensures failed { OnErr result (E.faults err.new ≡ one_more (E.faults err.old)) }
+    ensures same { OnOk result (E.faults err.new ≡ E.faults err.old) }
+{
+    let mut choose = Buffer::new();
+    let mut case = Buffer::new();
+    let mut step = Buffer::new();
+    let pieces = [
+        b"choose ".as_slice(),
+        choose.format(at.number).as_bytes(),
+        b": rejected at case ".as_slice(),
+        case.format(at.case).as_bytes(),
+        b" step ".as_slice(),
+        step.format(at.step).as_bytes(),
+        b": ".as_slice(),
+        words,
+        b"\n".as_slice(),
+    ];
+    put(err, &pieces)
+}
+
+fn put_rejected_limit<E: Sink>(
+    err: &mut E,
+    at: &StepPlace,
+    kind: &LimitKind,
+    count: u64,
+) -> Result<(), Failed>
+    ensures all { OnOk result (Appends (E.held err.old) (E.held err.new)
+        (rejected_words_line at.now.number at.now.case at.now.step (refusal_text (refusals.Limit kind.now count)))) }
+    ensures prefix { TookPrefix (E.held err.old) (E.held err.new)
+        (rejected_words_line at.now.number at.now.case at.now.step (refusal_text (refusals.Limit kind.now count))) }
+    ensures failed { OnErr result (E.faults err.new ≡ one_more (E.faults err.old)) }
+    ensures same { OnOk result (E.faults err.new ≡ E.faults err.old) }
+{
+    let mut choose = Buffer::new();
+    let mut case = Buffer::new();
+    let mut step = Buffer::new();
+    let mut limit = Buffer::new();
+    let pieces = [
+        b"choose ".as_slice(),
+        choose.format(at.number).as_bytes(),
+        b": rejected at case ".as_slice(),
+        case.format(at.case).as_bytes(),
+        b" step ".as_slice(),
+        step.format(at.step).as_bytes(),
+        b": ".as_slice(),
+        kind_text(kind),
+        b" ".as_slice(),
+        limit.format(count).as_bytes(),
+        b"\n".as_slice(),
+    ];
+    put(err, &pieces)
+}
+
+fn put_rejected_refusal<E: Sink>(
+    err: &mut E,
+    at: &StepPlace,
+    refusal: &Refusal,
+) -> Result<(), Failed>
+    ensures all { OnOk result (Appends (E.held err.old) (E.held err.new)
+        (rejected_words_line at.now.number at.now.case at.now.step (refusal_text refusal.now))) }
+    ensures prefix { TookPrefix (E.held err.old) (E.held err.new)
+        (rejected_words_line at.now.number at.now.case at.now.step (refusal_text refusal.now)) }
+    ensures failed { OnErr result (E.faults err.new ≡ one_more (E.faults err.old)) }
+    ensures same { OnOk result (E.faults err.new ≡ E.faults err.old) }
+{
+    match refusal {
+        Refusal::Past => put_rejected_words(err, at, b"coefficient past 128 bits".as_slice()),
+        Refusal::Limit { kind, number } => put_rejected_limit(err, at, kind, *number),
+    }
+}
+
+fn put_rejected<E: Sink>(err: &mut E, at: &StepPlace, why: &Why) -> Result<(), Failed>
+    ensures all { OnOk result (Appends (E.held err.old) (E.held err.new) (rejected_line at.now.number at.now.case at.now.step why.now)) }
+    ensures prefix { TookPrefix (E.held err.old) (E.held err.new) (rejected_line at.now.number at.now.case at.now.step why.now) }
+    ensures failed { OnErr result (E.faults err.new ≡ one_more (E.faults err.old)) }
+    ensures same { OnOk result (E.faults err.new ≡ E.faults err.old) }
+{
+    match why {
+        Why::Unknown => put_rejected_words(err, at, b"not an unknown".as_slice()),
+        Why::Factor => put_rejected_words(err, at, b"not invertible".as_slice()),
+        Why::Single => put_rejected_words(err, at, b"not one unknown".as_slice()),
+        Why::Held => put_rejected_words(err, at, b"held by an equation".as_slice()),
+        Why::Exact => put_rejected_words(err, at, b"pair without coefficient 1".as_slice()),
+        Why::Left => put_rejected_words(err, at, b"not finished".as_slice()),
+        Why::Blocks => put_rejected_words(err, at, b"wrong blocks".as_slice()),
+        Why::Code => put_rejected_words(err, at, b"code differs".as_slice()),
+        Why::Refused(refusal) => put_rejected_refusal(err, at, refusal),
+    }
+}
+
 fn put_fault<E: Sink>(err: &mut E, fault: &Fault) -> Result<(), Failed>
     ensures all { OnOk result (Appends (E.held err.old) (E.held err.new) (fault_line fault.now)) }
     ensures prefix { TookPrefix (E.held err.old) (E.held err.new) (fault_line fault.now) }
@@ -187,6 +317,20 @@ fn put_fault<E: Sink>(err: &mut E, fault: &Fault) -> Result<(), Failed>
         Fault::Rule(fault) => put_rule(err, fault),
         Fault::Choose { number, refusal } => put_choose(err, *number, refusal),
         Fault::BadTarget => put_words(err, b"target not well typed".as_slice()),
+        Fault::Steps(fault) => put_steps(err, fault),
+        Fault::Rejected {
+            number,
+            case,
+            step,
+            why,
+        } => {
+            let at = StepPlace {
+                number: *number,
+                case: *case,
+                step: *step,
+            };
+            put_rejected(err, &at, why)
+        }
         Fault::Input => put_words(err, b"cannot read input".as_slice()),
         Fault::Output => put_words(err, b"cannot write output".as_slice()),
         Fault::InputTooLong => put_words(err, b"input too long".as_slice()),

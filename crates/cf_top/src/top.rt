@@ -9,15 +9,17 @@ ghost use Rattle.cf_top.specs.Limits.{text_limit};
 ghost use Rattle.cf_top.specs.Outside.{Outside};
 ghost use Rattle.cf_top.specs.Statuses.{status_of as the_status_of};
 ghost use Rattle.cf_top.specs.Steps.{AnswersOn};
-ghost use Rattle.cf_top.specs.Top.{Errors, IsEarly, Completes, TopAnswer};
+ghost use Rattle.cf_top.specs.Top.{Errors, IsEarly, IsInOrder, Completes, TopAnswer};
 ghost use Rattle.cf_words.specs.Commands.{command_on};
 ghost use Rattle.cf_words.specs.Words.{command_of};
 
 use crate::fault::Fault;
 use crate::file::{run_source, run_target, write_checks, write_preconditions, write_target};
 use crate::limits::longest_text;
+use crate::prove::write_blocks;
 use crate::status::{Status, status_of};
 use crate::tell::tell;
+use crate::verify::verify_files;
 use crate::workload::write_workload;
 use cf_io::{ReadFault, Shelf, Sink, Source, read_text};
 use cf_pass::Pass;
@@ -62,6 +64,10 @@ pub fn comfusy<F: Shelf, I: Source, O: Sink, E: Sink>(
     // A command that reads no file leaves the shelf.
     ensures unfetched { IfSome (command_of (map string_bytes words.now)) (λ c. names_of c ≡ [] → shelf.new ≡ shelf.old) }
     ensures unwritten { IsEarly result → out.new ≡ out.old }
+    // A steps file is read only behind a source in which no rule is broken.
+    ensures order { IfSome (command_of (map string_bytes words.now)) (λ c. IsInOrder c
+        (record { texts = F.text shelf.old; left = F.left shelf.old; input = I.left input.old; out = O.held out.old; fetches = F.fetches shelf.old; file_faults = F.faults shelf.old; input_faults = I.faults input.old; out_faults = O.faults out.old })
+        (record { texts = F.text shelf.new; left = F.left shelf.new; input = I.left input.new; out = O.held out.new; fetches = F.fetches shelf.new; file_faults = F.faults shelf.new; input_faults = I.faults input.new; out_faults = O.faults out.new }) result) }
 {
     let mut passes = passes;
     let answer = answer_words(alloc, words, shelf, input, out, &mut passes);
@@ -87,9 +93,13 @@ fn answer_words<F: Shelf, I: Source, O: Sink>(
     ensures unasked { IfSome (command_of (map string_bytes words.now)) (λ c. reads_input c ≡ false → input.new ≡ input.old) }
     ensures unfetched { IfSome (command_of (map string_bytes words.now)) (λ c. names_of c ≡ [] → shelf.new ≡ shelf.old) }
     ensures unwritten { IsEarly (the_status_of result) → out.new ≡ out.old }
+    ensures order { IfSome (command_of (map string_bytes words.now)) (λ c. IsInOrder c
+        (record { texts = F.text shelf.old; left = F.left shelf.old; input = I.left input.old; out = O.held out.old; fetches = F.fetches shelf.old; file_faults = F.faults shelf.old; input_faults = I.faults input.old; out_faults = O.faults out.old })
+        (record { texts = F.text shelf.new; left = F.left shelf.new; input = I.left input.new; out = O.held out.new; fetches = F.fetches shelf.new; file_faults = F.faults shelf.new; input_faults = I.faults input.new; out_faults = O.faults out.new }) (the_status_of result)) }
 {
     match parse(alloc, words) {
         Ok(Command::OnFile(command)) => answer_file(alloc, &command, shelf, input, out, passes),
+        Ok(Command::Verify { file, steps }) => verify_files(alloc, file, steps, shelf, out),
         Ok(Command::Gen(size)) => write_workload(alloc, size, out, passes),
         Err(WordsFault::Usage) => Err(Fault::Usage),
         Err(WordsFault::NoMemory) => Err(Fault::NoMemory),
@@ -151,5 +161,6 @@ fn answer_text<I: Source, O: Sink>(
         CommandKind::Pre => write_preconditions(alloc, text, out),
         CommandKind::Check => write_checks(alloc, text, out),
         CommandKind::Exec => run_target(alloc, text, input, out),
+        CommandKind::Prove => write_blocks(alloc, text, out),
     }
 }

@@ -5,9 +5,9 @@ ghost use Rattle.cf_linear.specs.declared.refusal.Refusal.TheVariants as refusal
 ghost use Rattle.cf_top.specs.Checks.{cover_text, doubt_text, existence_text, names_at, sample_text, setting_text, uniqueness_text};
 ghost use Rattle.cf_top.specs.Texts.{refusal_text};
 
-use crate::tell::kind_text;
 use cf_eval::reply::{put_value, put_values};
 use cf_eval::value::Value;
+use cf_late::reply::kind_text;
 use cf_linear::refusal::{LimitKind, Refusal};
 use cf_tree::base::Text;
 use cf_tree::memory::NoMemory;

@@ -1,17 +1,18 @@
 use Rattle.std.proofs.Common.{◌∙◌, refl, sym, append-nil}
 use Rattle.cf_program.specs.Typed.{typed_tree}
 use Rattle.cf_top.proofs.AnswerLemmas.{stopped_answers, written_answers}
+use Rattle.cf_top.proofs.TextLemmas.{broken_refused}
 use Rattle.cf_top.proofs.FaultLemmas.{source_inner, inner_input, inner_output}
 use Rattle.cf_top.proofs.file.write_checks.Goals as goal
 
 pub returns-in-Err-clause-answers : goal.returns-in-Err-clause-answers
-returns-in-Err-clause-answers g c = λ file given input. stopped_answers _ given given _ _ _ refl c.in-Err.ensures
+returns-in-Err-clause-answers g c = λ file given input. stopped_answers _ given given _ _ _ refl (broken_refused _ _ c.in-Err.ensures)
 
 pub returns-in-Err-clause-input : goal.returns-in-Err-clause-input
-returns-in-Err-clause-input g c = λ e. inner_input c.in-Err.fault (source_inner _ c.in-Err.fault c.in-Err.ensures) e
+returns-in-Err-clause-input g c = λ e. inner_input c.in-Err.fault (source_inner _ c.in-Err.fault (broken_refused _ _ c.in-Err.ensures)) e
 
 pub returns-in-Err-clause-output : goal.returns-in-Err-clause-output
-returns-in-Err-clause-output g c = λ e. absurd (inner_output c.in-Err.fault (source_inner _ c.in-Err.fault c.in-Err.ensures) e)
+returns-in-Err-clause-output g c = λ e. absurd (inner_output c.in-Err.fault (source_inner _ c.in-Err.fault (broken_refused _ _ c.in-Err.ensures)) e)
 
 pub returns-in-Ok-checks-clause-answers : goal.returns-in-Ok-checks-clause-answers
 returns-in-Ok-checks-clause-answers g c =

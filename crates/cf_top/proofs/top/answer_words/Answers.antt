@@ -1,5 +1,5 @@
 use Rattle.std.proofs.Common.{refl}
-use Rattle.cf_top.proofs.DoesLemmas.{workload_does, nothing_answers, reads_a_file}
+use Rattle.cf_top.proofs.DoesLemmas.{workload_does, nothing_answers, reads_a_file, file_in_order}
 use Rattle.cf_top.proofs.top.answer_words.Goals as goal
 
 pub returns-in-Ok-Gen-clause-answers : goal.returns-in-Ok-Gen-clause-answers
@@ -19,3 +19,21 @@ pub returns-in-Ok-OnFile-clause-unfetched : goal.returns-in-Ok-OnFile-clause-unf
 returns-in-Ok-OnFile-clause-unfetched g c =
     rw (rw c.in-Ok-OnFile.field-0-is at c.in-Ok-OnFile.ensures.answer)
     (λ none. absurd (reads_a_file c.in-Ok-OnFile.command.kind c.in-Ok-OnFile.command.flags c.in-Ok-OnFile.command.file.now none))
+
+pub returns-in-Ok-Verify-clause-answers : goal.returns-in-Ok-Verify-clause-answers
+returns-in-Ok-Verify-clause-answers g c =
+    rw (rw c.in-Ok-Verify.field-0-is at c.in-Ok-Verify.ensures.answer)
+    (c.verify_files.ensures.does _ (g.I.Source.left c.args.input.now) (g.I.Source.faults c.args.input.now))
+
+pub returns-in-Ok-Verify-clause-order : goal.returns-in-Ok-Verify-clause-order
+returns-in-Ok-Verify-clause-order g c =
+    rw (rw c.in-Ok-Verify.field-0-is at c.in-Ok-Verify.ensures.answer)
+    (c.verify_files.ensures.order (g.I.Source.left c.args.input.now) (g.I.Source.faults c.args.input.now))
+
+pub returns-in-Ok-OnFile-clause-order : goal.returns-in-Ok-OnFile-clause-order
+returns-in-Ok-OnFile-clause-order g c =
+    rw (rw c.in-Ok-OnFile.field-0-is at c.in-Ok-OnFile.ensures.answer)
+    (file_in_order c.in-Ok-OnFile.command.kind c.in-Ok-OnFile.command.flags c.in-Ok-OnFile.command.file.now _ _ _)
+
+pub returns-in-Ok-Gen-clause-order : goal.returns-in-Ok-Gen-clause-order
+returns-in-Ok-Gen-clause-order g c = rw (rw c.in-Ok-Gen.field-0-is at c.in-Ok-Gen.ensures.answer) tt

@@ -1,5 +1,6 @@
 use Rattle.std.proofs.Common.{◌∙◌, sym, subst}
 use Rattle.cf_top.specs.Top.{IsEarly}
+use Rattle.cf_top.proofs.DoesLemmas.{order_of}
 use Rattle.cf_top.proofs.VerdictLemmas.{completes, no_command, file_rose, input_rose, out_rose, told_or_rose}
 use Rattle.cf_top.proofs.StatusLemmas.{is_usage, is_file, is_input, is_output}
 use Rattle.cf_top.proofs.top.comfusy.Goals as goal
@@ -47,3 +48,6 @@ returns-clause-unasked g c = c.answer_words-answer.ensures.unasked
 
 pub returns-clause-unfetched : goal.returns-clause-unfetched
 returns-clause-unfetched g c = c.answer_words-answer.ensures.unfetched
+
+pub returns-clause-order : goal.returns-clause-order
+returns-clause-order g c = order_of _ _ _ _ _ c.status_of.ensures c.answer_words-answer.ensures.order
