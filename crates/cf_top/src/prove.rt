@@ -70,9 +70,9 @@ fn prove_each(alloc: Global, chooses: &[Choose]) -> Result<Vec<u8>, BuildFault>
     Ok(text)
 }
 
-/// The printed blocks of the chooses of a program in the order of their numbers, or the choose for
-/// which it is refused.
-pub fn blocks(alloc: Global, typed: &Typed) -> Result<Vec<u8>, Fault>
+// The printed blocks of the chooses of a program in the order of their numbers, or the choose for
+// which it is refused.
+fn blocks(alloc: Global, typed: &Typed) -> Result<Vec<u8>, Fault>
     ensures { (source : List ℕ) → IsTypedSource source (typed_tree typed.now) →
         IsVerdict (λ text. AreProofs (asked_in (typed_tree typed.now)) text.items) (IsRefusedSource source) result }
 {

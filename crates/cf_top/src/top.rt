@@ -28,7 +28,7 @@ use cf_words::fault::WordsFault;
 use cf_words::parse::parse;
 use std::alloc::Global;
 
-/// Does all that the program does: it reads the words, the file and the input, and writes what the
+/// Does all that the program does: it reads the words, the files and the input, and writes what the
 /// command is to write. What a refusal writes goes to `err`.
 ///
 /// `words` are those behind the program's name. `passes` rewrite what is compiled, each once and in
