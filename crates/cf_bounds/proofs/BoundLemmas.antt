@@ -53,17 +53,19 @@ searched_step m x lower f i =
     let h = made_all m.next x lower m.inequalities (no_found m) (record { same = refl; rise = omega arith; unknown_rise = omega arith; apart = λ c i j. i }) in
     record {
       keeps = searched_keeps m x lower (low_from m f) (f.unknown_below x i);
-      constant = f.constant;
-      below = f.below;
-      grows = λ c k. In-left c m.known s.columns k;
-      bound_known = λ c k. In-right c m.known s.columns (subst (λ y. In c y) h.same k);
-      let_known = λ c k. absurd k;
-      only = λ c k. ⊎_elim (λ j. inr (inl j)) (λ j. inr (inr (subst (λ y. In c y) (sym h.same) j))) (In-append c m.known s.columns k);
-      over = tt;
-      bounds_rise = subst (λ y. Rising m.next s.next y) (sym h.same) h.rise;
-      lets_rise = Rising-le m.next s.next s.columns h.rise;
-      apart = λ c k l. l;
       kept = λ v c k. refl;
+      columns = record {
+        constant = f.constant;
+        below = f.below;
+        grows = λ c k. In-left c m.known s.columns k;
+        bound_known = λ c k. In-right c m.known s.columns (subst (λ y. In c y) h.same k);
+        let_known = λ c k. absurd k;
+        only = λ c k. ⊎_elim (λ j. inr (inl j)) (λ j. inr (inr (subst (λ y. In c y) (sym h.same) j))) (In-append c m.known s.columns k);
+        over = tt;
+        bounds_rise = subst (λ y. Rising m.next s.next y) (sym h.same) h.rise;
+        lets_rise = Rising-le m.next s.next s.columns h.rise;
+        apart = λ c k l. l;
+      };
     }
 
 pub searched_kinds : (m : System) (x : ℕ) (lower : Bool) → Formed m → Kinds (searched m x lower).system

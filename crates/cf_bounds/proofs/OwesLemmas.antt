@@ -111,15 +111,17 @@ clean_step m f =
     (wide t.steps (λ c. In c (let_columns zn)) made.over) in
     record {
       keeps = clean_keeps m (low_from m f) (f.below 0 f.constant) f.nonneg_rise;
-      constant = f.constant;
-      below = f.below;
-      grows = λ c k. In-left c m.known t.made k;
-      bound_known = λ c i. absurd i;
-      let_known = λ c i. In-right c m.known t.made (subst (λ x. In c x) (lets_all ∙ made.same) i);
-      only = λ c k. ⊎_elim (λ i. inr (inl i)) (λ i. inl (subst (λ x. In c x) (sym (lets_all ∙ made.same)) i)) (In-append c m.known t.made k);
-      over = StepsOver-weaker K N (λ c k. inl k) (zn ++ t.steps) over;
-      bounds_rise = (let q = Rising-le m.next t.next (let_columns t.steps) made.rise in q);
-      lets_rise = subst (λ x. Rising m.next t.next x) (sym lets_all) made.rise;
-      apart = λ c i j. i;
       kept = λ v c k. refl;
+      columns = record {
+        constant = f.constant;
+        below = f.below;
+        grows = λ c k. In-left c m.known t.made k;
+        bound_known = λ c i. absurd i;
+        let_known = λ c i. In-right c m.known t.made (subst (λ x. In c x) (lets_all ∙ made.same) i);
+        only = λ c k. ⊎_elim (λ i. inr (inl i)) (λ i. inl (subst (λ x. In c x) (sym (lets_all ∙ made.same)) i)) (In-append c m.known t.made k);
+        over = StepsOver-weaker K N (λ c k. inl k) (zn ++ t.steps) over;
+        bounds_rise = (let q = Rising-le m.next t.next (let_columns t.steps) made.rise in q);
+        lets_rise = subst (λ x. Rising m.next t.next x) (sym lets_all) made.rise;
+        apart = λ c i j. i;
+      };
     }

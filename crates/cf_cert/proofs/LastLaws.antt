@@ -60,17 +60,19 @@ module _ (m : System) (i : ℕ) (e : Row) (s : slice_get m.equations i ≡ Some 
       forth = λ v one h. o.keeps.forth v one (sat_front v h);
       back = λ v one w f h. sat_back _ (o.keeps.back v one w f h);
     };
-    constant = o.constant;
-    below = o.below;
-    grows = o.grows;
-    bound_known = o.bound_known;
-    let_known = o.let_known;
-    only = o.only;
-    over = o.over;
-    bounds_rise = o.bounds_rise;
-    lets_rise = o.lets_rise;
-    apart = o.apart;
     kept = o.kept;
+    columns = record {
+      constant = o.columns.constant;
+      below = o.columns.below;
+      grows = o.columns.grows;
+      bound_known = o.columns.bound_known;
+      let_known = o.columns.let_known;
+      only = o.columns.only;
+      over = o.columns.over;
+      bounds_rise = o.columns.bounds_rise;
+      lets_rise = o.columns.lets_rise;
+      apart = o.columns.apart;
+    };
   }
 
   pub last_front : (u : ℕ) → last front e rest u ≡ last m e rest u

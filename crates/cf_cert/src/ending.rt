@@ -81,7 +81,7 @@ fn end_counted(alloc: Global, system: System, u: u32) -> Result<Next, ApplyFault
         Ok(()) => {}
         Err(fault) => return Err(refusal_of(fault)),
     }
-    match step_first(alloc, system) {
+    match step_first(alloc, system, Present::One(u)) {
         Ok(reduced) => Ok(after_equation(alloc, reduced)),
         Err(RowFault::Past) => Err(ApplyFault::Rejected(Why::Refused(Refusal::Past))),
         Err(RowFault::NoMemory) => Err(ApplyFault::NoMemory),

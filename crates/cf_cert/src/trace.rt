@@ -1,13 +1,10 @@
 //! The steps of the trace of a system.
 ghost use Rattle.std.specs.Prelude.{◌≡◌, ◌≢◌, ◌<◌, ◌∷◌, [], length, pos, IfOk, OnOk};
-ghost use Rattle.cf_num.specs.Limit.{IsWithin};
 ghost use Rattle.cf_linear.specs.Rows.{entry};
 ghost use Rattle.cf_linear.specs.Stages.{run, limits, solved};
-ghost use Rattle.cf_linear.specs.Steps.{factors_of};
 ghost use Rattle.cf_linear.specs.Views.{system_of};
 ghost use Rattle.cf_bounds.specs.Picking.{pick_of};
 ghost use Rattle.cf_equation.specs.Equations.{first_of, first_present};
-ghost use Rattle.cf_equation.specs.Merging.{plain_factors, WithinFactors};
 ghost use Rattle.cf_elim.specs.Stages.{IsReady, state_of};
 ghost use Rattle.cf_steps.specs.Spelled.{IsSpelledAct};
 ghost use Rattle.cf_cert.specs.Acting.{AreAdded, IsMerge, IsTraceOf};
@@ -16,10 +13,9 @@ ghost use Rattle.cf_cert.specs.Tracing.{equation_acts, unknown_acts, bound_acts,
 use cf_bounds::{Pick, select};
 use cf_elim::fault::ElimFault;
 use cf_elim::stage::{Stage, State, next_stage};
-use cf_equation::merge::MergeFactors;
+use cf_equation::merge::factors;
 use cf_equation::unknowns::{Present, first_unknowns};
 use cf_linear::system::System;
-use cf_num::{bezout, fdiv, neg};
 use cf_steps::act::Act;
 use cf_tree::memory::NoMemory;
 use std::alloc::Global;
@@ -98,24 +94,6 @@ fn merge(system: &System, x: u32, y: u32) -> Act
         b: factors.m,
         c: factors.t,
         d: factors.n,
-    }
-}
-
-// The factors for two unknowns with coefficients a and b.
-fn factors(a: i128, b: i128) -> MergeFactors
-    requires a_in { IsWithin a }
-    requires b_in { IsWithin b }
-    requires a_some { a ≢ pos 0 }
-    requires b_some { b ≢ pos 0 }
-    ensures value { plain_factors result ≡ factors_of a b }
-    ensures fits { WithinFactors result }
-{
-    let parts = bezout(a, b);
-    MergeFactors {
-        s: parts.s,
-        m: neg(fdiv(b, parts.g)),
-        t: parts.t,
-        n: fdiv(a, parts.g),
     }
 }
 

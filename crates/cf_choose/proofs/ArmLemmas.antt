@@ -165,10 +165,10 @@ module _ (scope outputs : List Base) (rel : RelTree) (outs : AreOutputs outputs)
     length_from = omega (arith, length-append start (pairs regions), length-pairs regions)
 
     next_some : 1 ≤ m.next
-    next_some = let h = owes.below 0 owes.constant in omega arith
+    next_some = let h = owes.columns.below 0 owes.columns.constant in omega arith
 
     known_early : (c : ℕ) → c < known_count l → c < m.next
-    known_early c h = owes.below c (rw opens.known (In-range 0 (known_count l) c (omega arith) (omega arith)))
+    known_early c h = owes.columns.below c (rw opens.known (In-range 0 (known_count l) c (omega arith) (omega arith)))
 
     parameter_early : (d : ℕ) → In d (named (parameter_names l)) → (1 ≤ d) × (d < known_count l)
     parameter_early d i =
@@ -222,16 +222,16 @@ module _ (scope outputs : List Base) (rel : RelTree) (outs : AreOutputs outputs)
     begins_named c (inr i) = first_named c (named-second c (parameter_names l) (search_names l.scope a.bounds) (search_named l.scope c a.bounds i))
 
     lets_some : (c : ℕ) → In c (let_columns a.steps) → 1 ≤ c
-    lets_some c i = let h = rising_from m.next a.system.next c (let_columns a.steps) owes.lets_rise i in let s = next_some in omega arith
+    lets_some c i = let h = rising_from m.next a.system.next c (let_columns a.steps) owes.columns.lets_rise i in let s = next_some in omega arith
 
     parted_level : parted.level ≡ length scope + length a.bounds + 2 * regions
     parted_level = made_parted.level ∙ length_from ∙ omega (arith, length_start)
 
     steps_go : Continues start from parted middle (λ v. StepsHold v a.steps) (λ v. after_steps v a.steps)
-    steps_go = steps_continue start from a.steps parted Begins made_parted writable.steps owes.over begins_named lets_some
+    steps_go = steps_continue start from a.steps parted Begins made_parted writable.steps owes.columns.over begins_named lets_some
 
     left_named : (c : ℕ) → In c a.system.known ⊎ In c a.system.unknown → HasName middle.names c
-    left_named c (inl i) = elim (owes.only c i) as (λ _. HasName middle.names c) [
+    left_named c (inl i) = elim (owes.columns.only c i) as (λ _. HasName middle.names c) [
       | inl j ↦ steps_named a.steps parted c (inl j)
       | inr j ↦ steps_named a.steps parted c (inr (begins_named c j))
     ]
@@ -358,11 +358,11 @@ module _ (scope outputs : List Base) (rel : RelTree) (outs : AreOutputs outputs)
           let long : length tuple ≡ length a.bounds = length-map ks (λ k. number (pos k)) ∙ below_length bounds ks below ∙ length-map a.bounds (λ (c, p). p) in
           ap (λ ss. number_of (value_at (at_start ++ region_values ss (masks (length l.inputs))) (level_of parted.names c))) (same_sets env tuple have)
           ∙ (parameters_known scope outputs rel a.bounds env tuple have long).1 c x y
-          ∙ sym (tuple_before (known_values l env) a.bounds (wholes ks) m.next a.system.next c owes.bounds_rise (known_early c y))
+          ∙ sym (tuple_before (known_values l env) a.bounds (wholes ks) m.next a.system.next c owes.columns.bounds_rise (known_early c y))
 
       search_value : (c : ℕ) → In c (search_columns a.bounds) → number_of (value_at (parted_at env ks) (level_of parted.names c)) ≡ values c
       search_value c i =
-          let late = rising_from m.next a.system.next c (search_columns a.bounds) owes.bounds_rise i in
+          let late = rising_from m.next a.system.next c (search_columns a.bounds) owes.columns.bounds_rise i in
           let s = next_some in
           let other : level_of parted.names c ≡ level_of first.names c =
           lets.others c (λ n x y e. let k = known_early (input_column l n) (omega arith) in omega arith) in
@@ -372,7 +372,7 @@ module _ (scope outputs : List Base) (rel : RelTree) (outs : AreOutputs outputs)
           let given =
           search_agrees scope a.bounds (parameter_names l) (length scope) m.next a.system.next env (seen (parameter_names l) env) ks refl
           (parameter_numbers l scope l.numbers (number_levels scope outputs rel)) have early s
-          owes.bounds_rise below (λ d k. refl) in
+          owes.columns.bounds_rise below (λ d k. refl) in
           let there : number_of (value_at at_start (level_of first.names c)) ≡ set_tuple (seen (parameter_names l) env) a.bounds (wholes ks) c =
           rw z at (given c (inr n)) in
           ap (λ x. number_of (value_at (parted_at env ks) x)) other
@@ -392,7 +392,7 @@ module _ (scope outputs : List Base) (rel : RelTree) (outs : AreOutputs outputs)
       seen_first c (inl i) = let e = parameter_early c i in seen_known c e.0 e.1
       seen_first c (inr i) =
           let j = named_search l.scope c a.bounds i in
-          let late = rising_from m.next a.system.next c (search_columns a.bounds) owes.bounds_rise j in
+          let late = rising_from m.next a.system.next c (search_columns a.bounds) owes.columns.bounds_rise j in
           let s = next_some in
           seen_as c (omega arith) (search_value c j)
 
@@ -403,7 +403,7 @@ module _ (scope outputs : List Base) (rel : RelTree) (outs : AreOutputs outputs)
           (rw (named-append (parameter_names l) (search_names l.scope a.bounds)) at i))
 
       zero_agrees : pos 1 ≡ values 0
-      zero_agrees = sym (tuple_before (known_values l env) a.bounds (wholes ks) m.next a.system.next 0 owes.bounds_rise next_some)
+      zero_agrees = sym (tuple_before (known_values l env) a.bounds (wholes ks) m.next a.system.next 0 owes.columns.bounds_rise next_some)
 
       parted_agrees : Agrees parted.names (parted_at env ks) values
       parted_agrees c (inl z) = subst (λ d. seen parted.names (parted_at env ks) d ≡ values d) (sym z) zero_agrees
@@ -445,7 +445,7 @@ module _ (scope outputs : List Base) (rel : RelTree) (outs : AreOutputs outputs)
         let r = b.3 (set_tuple (known_values l env) a.bounds (wholes ks)) (rw same (parted_agrees env ks have below)) in
         let g = solved.found (known_values l env) refl (wholes ks) (in_bounds a.bounds ks below) r.0.0 in
         let w : Values = after_back (after a (known_values l env) (wholes ks)) a.back in
-        let counts = opens.counts w (sym (g.0 0 owes.constant)) g.1 in
+        let counts = opens.counts w (sym (g.0 0 owes.columns.constant)) g.1 in
         let have_end = all_go.made.have (with_tuple env ks) f.0 s f.1 in
         let held_end = counts_held f.0 w (have_end, r.1) counts in
         let grown : f.0 ≡ parted_at env ks ++ b.2.0 = b.2.1 ∙ ap (λ d. d ++ b.2.0) same in

@@ -4,7 +4,7 @@ ghost use Rattle.cf_linear.specs.Stages.{row_stage, equation_stage, first_count,
 ghost use Rattle.cf_linear.specs.Rows.{entry};
 ghost use Rattle.cf_linear.specs.Views.{system_of};
 ghost use Rattle.cf_linear.specs.Steps.{last, is_unit};
-ghost use Rattle.cf_equation.specs.Equations.{first_of, rest_of, first_present, equation_answer};
+ghost use Rattle.cf_equation.specs.Equations.{first_of, rest_of, present_of, first_present, equation_answer};
 ghost use Rattle.cf_elim.specs.Stages.{StageIs, IsReady, past_clean, CountsAre};
 ghost use Rattle.cf_elim.specs.Ends.{CleanAfter, GoesTo};
 
@@ -23,7 +23,8 @@ pub(crate) fn equation_stage(alloc: Global, system: System, tuples: u64) -> Resu
     requires some { 0 < length system.equations.items }
     ensures { StageIs (past_clean (system_of system) tuples) (row_stage limits (past_clean (system_of system) tuples) system.equations.items) result }
 {
-    match first_unknowns(&system) {
+    let found = first_unknowns(&system);
+    match found {
         Present::Nothing => Ok(Stage::Goes(
             State {
                 system,
@@ -33,7 +34,7 @@ pub(crate) fn equation_stage(alloc: Global, system: System, tuples: u64) -> Resu
             StepOutput::none(alloc),
         )),
         Present::One(u) => end_stage(alloc, system, tuples, u),
-        Present::Several(_, _) => merge_stage(alloc, system, tuples),
+        Present::Several(_, _) => merge_stage(alloc, system, tuples, found),
     }
 }
 
@@ -51,35 +52,44 @@ fn end_stage(alloc: Global, system: System, tuples: u64, u: u32) -> Result<Stage
         None => return Err(ElimFault::NoMemory),
     };
     match within(counts.rows, counts.columns) {
-        Ok(()) => reduced_stage(alloc, system, tuples, false),
+        Ok(()) => reduced_stage(alloc, system, Present::One(u), tuples, false),
         Err(fault) => Err(fault),
     }
 }
 
-// A Merge of the first two unknowns of the first equation. It leaves as many rows and columns.
-fn merge_stage(alloc: Global, system: System, tuples: u64) -> Result<Stage, ElimFault>
+// A Merge of the first two unknowns of the first equation, which were found. It leaves as many rows
+// and columns.
+fn merge_stage(
+    alloc: Global,
+    system: System,
+    tuples: u64,
+    found: Present,
+) -> Result<Stage, ElimFault>
     requires ready { IsReady (system_of system) }
     requires some { 0 < length system.equations.items }
+    requires found { found ≡ present_of (first_present (system_of system)) }
     requires several { 1 < length (first_present (system_of system)) }
     ensures { StageIs (past_clean (system_of system) tuples)
         (equation_stage limits (past_clean (system_of system) tuples) (first_of (system_of system)) (rest_of (system_of system))
         (first_present (system_of system))) result }
 {
     match within_counts(&system) {
-        Ok(()) => reduced_stage(alloc, system, tuples, true),
+        Ok(()) => reduced_stage(alloc, system, found, tuples, true),
         Err(fault) => Err(fault),
     }
 }
 
-// The equation step, once its counts are within the limits.
+// The equation step with the unknowns that were found, once its counts are within the limits.
 fn reduced_stage(
     alloc: Global,
     system: System,
+    found: Present,
     tuples: u64,
     is_past_clean: bool,
 ) -> Result<Stage, ElimFault>
     requires ready { IsReady (system_of system) }
     requires some { 0 < length system.equations.items }
+    requires found { found ≡ present_of (first_present (system_of system)) }
     requires holds { first_present (system_of system) ≢ [] }
     requires within_counts { first_count limits (equation_answer (system_of system) (first_present (system_of system))).system ≡ None }
     requires after { CleanAfter (first_present (system_of system)) is_past_clean }
@@ -87,7 +97,7 @@ fn reduced_stage(
         (equation_stage limits (past_clean (system_of system) tuples) (first_of (system_of system)) (rest_of (system_of system))
         (first_present (system_of system))) result }
 {
-    match step_first(alloc, system) {
+    match step_first(alloc, system, found) {
         Ok(reduced) => Ok(goes(alloc, reduced, tuples, is_past_clean)),
         Err(RowFault::Past) => Err(ElimFault::Refused(Refusal::Past)),
         Err(RowFault::NoMemory) => Err(ElimFault::NoMemory),

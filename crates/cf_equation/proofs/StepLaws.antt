@@ -32,17 +32,19 @@ divided_owes m e rest u f eq i h alone =
     (Over-without (λ c. In c m.known ⊎ (c ≡ u)) u e alone) in
     record {
       keeps = divided_keeps m e rest u eq (low_from m f) (f.unknown_below u i) h;
-      constant = f.constant;
-      below = f.below;
-      grows = λ c k. In-left c m.known (m.next ∷ []) k;
-      bound_known = λ c j. absurd j;
-      let_known = λ c j. In-right c m.known (m.next ∷ []) j;
-      only = λ c k. ⊎_elim (λ j. inr (inl j)) (λ j. inl j) (In-append c m.known (m.next ∷ []) k);
-      over = (over, (over, tt));
-      bounds_rise = omega arith;
-      lets_rise = (omega arith, omega arith);
-      apart = λ c j l. absurd j;
       kept = one_kept m u (row_how (turned_row m.next u e)) (kinds_from m f) i;
+      columns = record {
+        constant = f.constant;
+        below = f.below;
+        grows = λ c k. In-left c m.known (m.next ∷ []) k;
+        bound_known = λ c j. absurd j;
+        let_known = λ c j. In-right c m.known (m.next ∷ []) j;
+        only = λ c k. ⊎_elim (λ j. inr (inl j)) (λ j. inl j) (In-append c m.known (m.next ∷ []) k);
+        over = (over, (over, tt));
+        bounds_rise = omega arith;
+        lets_rise = (omega arith, omega arith);
+        apart = λ c j l. absurd j;
+      };
     }
 
 pub last_owes : (m : System) (e : Row) (rest : List Row) (u : ℕ) → Formed m → m.equations ≡ e ∷ rest → In u m.unknown → entry e u ≢ pos 0 → OnlyUnknown m u e →

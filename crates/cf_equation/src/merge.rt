@@ -27,8 +27,9 @@ pub struct MergeFactors {
     pub n: i128,
 }
 
-// The factors for two unknowns with coefficients a and b.
-fn factors(a: i128, b: i128) -> MergeFactors
+/// The factors of a Merge of two unknowns with coefficients a and b, which are within the limit and
+/// not 0.
+pub fn factors(a: i128, b: i128) -> MergeFactors
     requires a_in { IsWithin a }
     requires b_in { IsWithin b }
     requires a_some { a ≢ pos 0 }

@@ -3,11 +3,11 @@ ghost use Rattle.std.specs.Prelude.{◌≡◌, ◌≢◌, ◌<◌, [], true, fal
 ghost use Rattle.cf_linear.specs.Keep.{Formed, Reaches};
 ghost use Rattle.cf_linear.specs.Solved.{Owes};
 ghost use Rattle.cf_linear.specs.Views.{system_of};
-ghost use Rattle.cf_equation.specs.Equations.{Differ, reduced, first_present, equation_answer, equation_passes};
+ghost use Rattle.cf_equation.specs.Equations.{Differ, reduced, present_of, first_present, equation_answer, equation_passes};
 
 use crate::end::end;
 use crate::merge::merge;
-use crate::unknowns::{Present, first_unknowns};
+use crate::unknowns::Present;
 use cf_linear::refusal::RowFault;
 use cf_linear::system::{Back, Step, System};
 use std::alloc::Global;
@@ -21,13 +21,14 @@ pub struct Reduced {
     pub back: Vec<Back>,
 }
 
-/// A Merge of the first two unknowns of the first equation, or its end where it has one. The first
-/// equation holds an unknown, and the unknowns are all different. Past exactly where a product or a
-/// sum that makes an entry of a new row passes the limit.
-pub fn step_first(alloc: Global, system: System) -> Result<Reduced, RowFault>
+/// A Merge of the first two unknowns of the first equation, or its end where it has one. `found` are
+/// its first unknowns; there is one at least, and the unknowns are all different. Past exactly where
+/// a product or a sum that makes an entry of a new row passes the limit.
+pub fn step_first(alloc: Global, system: System, found: Present) -> Result<Reduced, RowFault>
     requires formed { Formed (system_of system) }
     requires differ { Differ system.unknown.items }
     requires some { 0 < length system.equations.items }
+    requires found { found ≡ present_of (first_present (system_of system)) }
     requires holds { first_present (system_of system) ≢ [] }
     ensures next { IfOk result (λ r. reduced r ≡ equation_answer (system_of system) (first_present (system_of system))) }
     ensures owes { IfOk result (λ r. Owes (system_of system) (reduced r)) }
@@ -37,7 +38,7 @@ pub fn step_first(alloc: Global, system: System) -> Result<Reduced, RowFault>
     ensures fits { IfOk result (λ r. equation_passes (system_of system) (first_present (system_of system)) ≡ false) }
     ensures past { result ≡ Err RowFault.Past → equation_passes (system_of system) (first_present (system_of system)) ≡ true }
 {
-    match first_unknowns(&system) {
+    match found {
         Present::Nothing => unreachable!(),
         Present::One(u) => end(alloc, system, u),
         Present::Several(x, y) => merge(alloc, system, x, y),

@@ -9,7 +9,7 @@ mod kind;
 mod lent;
 pub mod line;
 mod number;
-mod operate;
+pub mod operate;
 mod quick;
 pub mod reply;
 pub mod run;

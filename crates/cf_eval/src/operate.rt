@@ -1,4 +1,4 @@
-// The operations of target code on values.
+//! The operations of target code on values.
 ghost use Rattle.std.specs.Prelude.{◌≡◌, [], ◌*ℤ◌, Some, IfErr, IfOk, IfSome, OnOk, not};
 ghost use Rattle.cf_num.specs.Limit.{IsWithin, within};
 ghost use Rattle.cf_tree.specs.Numbers.{quotient, remainder, count_of};
@@ -21,11 +21,12 @@ use std::alloc::Global;
 
 // Which of some numbers is taken.
 #[derive(Clone, Copy, Debug, PartialEq, Eq)]
-pub enum Side {
+pub(crate) enum Side {
     Least,
     Greatest,
 }
 
+/// The quotient of a number within the limit by `k`, rounded down; 0 where `k` is not positive.
 pub fn divide(x: i128, k: i128) -> i128
     requires { IsWithin x }
     ensures value { result ≡ quotient x k }
@@ -34,6 +35,7 @@ pub fn divide(x: i128, k: i128) -> i128
     if k > 0 { cf_num::fdiv(x, k) } else { 0 }
 }
 
+/// The remainder of a number within the limit by `k`; the number itself where `k` is not positive.
 pub fn remain(x: i128, k: i128) -> i128
     requires { IsWithin x }
     ensures value { result ≡ remainder x k }
@@ -44,7 +46,7 @@ pub fn remain(x: i128, k: i128) -> i128
 
 // The product of two numbers of 64 bits, which no limit stops.
 #[inline(always)]
-pub fn narrow_product(x: i64, y: i64) -> i128
+pub(crate) fn narrow_product(x: i64, y: i64) -> i128
     ensures exact { result ≡ x *ℤ y }
     ensures value { within (x *ℤ y) ≡ Some result }
     ensures fits { IsWithin result }
@@ -66,7 +68,7 @@ fn wide_product(a: i128, b: i128) -> Result<i128, Stop>
 
 // The product, met. Most numbers have 64 bits, and take one machine instruction.
 #[inline(always)]
-pub fn product(a: i128, b: i128) -> Result<i128, Stop>
+pub(crate) fn product(a: i128, b: i128) -> Result<i128, Stop>
     requires a_in { IsWithin a }
     requires b_in { IsWithin b }
     ensures told { NumberAnswer result (as_number (met_reached (within (a *ℤ b)))) }
@@ -82,7 +84,7 @@ pub fn product(a: i128, b: i128) -> Result<i128, Stop>
 }
 
 // The better of what was chosen so far and x.
-pub fn better(side: Side, most: Option<i128>, x: i128) -> i128
+pub(crate) fn better(side: Side, most: Option<i128>, x: i128) -> i128
     requires most_in { IfSome most IsWithin }
     requires x_in { IsWithin x }
     ensures value { result ≡ choose_with (better_of side) most x }
@@ -96,7 +98,7 @@ pub fn better(side: Side, most: Option<i128>, x: i128) -> i128
 }
 
 // One more element of a set form.
-pub fn push_element(x: i128, items: &mut Vec<i128>) -> Result<(), Stop>
+pub(crate) fn push_element(x: i128, items: &mut Vec<i128>) -> Result<(), Stop>
     requires x_in { IsWithin x }
     requires within { AreWithin items.old.items }
     ensures value { OnOk result (set_of items.new.items ≡ set_put x (set_of items.old.items)) }
@@ -107,20 +109,21 @@ pub fn push_element(x: i128, items: &mut Vec<i128>) -> Result<(), Stop>
     Ok(())
 }
 
-pub fn empty(alloc: Global) -> Result<Set, NoMemory>
+pub(crate) fn empty(alloc: Global) -> Result<Set, NoMemory>
     ensures { IfOk result (λ s. s ≡ []) }
 {
     Set::from_list(alloc, &[])
 }
 
 // The n least numbers from 0 upwards that are not in the set, each of them met.
-pub fn fresh(alloc: Global, avoid: &Set, n: i128) -> Result<Set, Stop>
+pub(crate) fn fresh(alloc: Global, avoid: &Set, n: i128) -> Result<Set, Stop>
     ensures told { SetAnswer result (as_set (met_set (set_fresh avoid.now (count_of n)))) }
 {
     Ok(Set::fresh(alloc, avoid, n)?)
 }
 
-fn number_in(v: &Value) -> i128
+/// The number, 0 for another value.
+pub fn number_in(v: &Value) -> i128
     ensures { result ≡ number_of (plain v.now) }
 {
     match v {
@@ -129,7 +132,8 @@ fn number_in(v: &Value) -> i128
     }
 }
 
-fn truth_in(v: &Value) -> bool
+/// The truth, false for another value.
+pub fn truth_in(v: &Value) -> bool
     ensures { result ≡ truth_of (plain v.now) }
 {
     match v {
@@ -152,6 +156,7 @@ fn same(v: &Value, w: &Value) -> bool
     }
 }
 
+/// Whether the order holds between two values of one base; only numbers are less or greater.
 pub fn compare(order: Order, v: &Value, w: &Value) -> bool
     ensures { result ≡ compared order (plain v.now) (plain w.now) }
 {
@@ -177,7 +182,7 @@ fn is_number(kind: Kind) -> bool
 }
 
 // Whether a comparison is that of the numbers of its sides, where the left side is of that kind.
-pub fn numeric(order: Order, left: Kind) -> bool
+pub(crate) fn numeric(order: Order, left: Kind) -> bool
     ensures { result ≡ is_numeric order left }
 {
     match order {
@@ -190,7 +195,7 @@ pub fn numeric(order: Order, left: Kind) -> bool
     }
 }
 
-pub fn compare_numbers(order: Order, x: i128, y: i128) -> bool
+pub(crate) fn compare_numbers(order: Order, x: i128, y: i128) -> bool
     ensures { result ≡ compared order (number x) (number y) }
 {
     match order {

@@ -59,13 +59,13 @@ after_is m a st v ks inb =
     let s = set_tuple v a.bounds ks in
     let x = after_steps s a.steps in
     let fresh : (c : ℕ) → Q c → In c (let_columns a.steps) → ⊥ = λ c q i.
-    ⊎_elim (λ k. let b = st.below c k in let r = Rising-in m.next a.system.next c (let_columns a.steps) st.lets_rise i in absurd (omega arith))
-    (λ k. st.apart c k i) q in
+    ⊎_elim (λ k. let b = st.columns.below c k in let r = Rising-in m.next a.system.next c (let_columns a.steps) st.columns.lets_rise i in absurd (omega arith))
+    (λ k. st.columns.apart c k i) q in
     let first : (c : ℕ) → Q c → x c ≡ s c = λ c q. after_steps-other s a.steps c (fresh c q) in
     record {
-      within = Within-agree s x a.bounds (λ c i. sym (first c (inr i))) (tuple_within m.next a.system.next v a.bounds ks st.bounds_rise inb);
-      lets = lets_fit Q m.next a.system.next s a.steps st.lets_rise fresh st.over;
-      same = λ c k. sym (first c (inl k) ∙ set_tuple-other v a.bounds ks c (λ i. let b = st.below c k in
-          let r = Rising-in m.next a.system.next c (search_columns a.bounds) st.bounds_rise i in absurd (omega arith)));
+      within = Within-agree s x a.bounds (λ c i. sym (first c (inr i))) (tuple_within m.next a.system.next v a.bounds ks st.columns.bounds_rise inb);
+      lets = lets_fit Q m.next a.system.next s a.steps st.columns.lets_rise fresh st.columns.over;
+      same = λ c k. sym (first c (inl k) ∙ set_tuple-other v a.bounds ks c (λ i. let b = st.columns.below c k in
+          let r = Rising-in m.next a.system.next c (search_columns a.bounds) st.columns.bounds_rise i in absurd (omega arith)));
       first = first;
     }

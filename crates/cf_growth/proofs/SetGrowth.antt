@@ -132,13 +132,13 @@ module _ (scope outputs : List Base) (rel : RelTree) (m : System) (a : Answer) w
     end = fold back_item middle a.back
 
     next_some : 1 ≤ m.next
-    next_some = let h = owes.below 0 owes.constant in omega arith
+    next_some = let h = owes.columns.below 0 owes.columns.constant in omega arith
 
     parameter_known : (d : ℕ) → In d (named (parameter_names l)) → In d m.known
     parameter_known d i = let h = parameter_column scope outputs rel d i in let p = h.1 in rw known (In-range 0 (known_count l) d (omega arith) (omega arith))
 
     early : AreEarlier m.next (parameter_names l)
-    early d i = owes.below d (parameter_known d i)
+    early d i = owes.columns.below d (parameter_known d i)
 
     numbers : AreNumbers start first.names
     numbers = search_numbers scope a.bounds (parameter_names l) (length scope) refl (parameter_numbers l scope l.numbers (number_levels scope outputs rel))
@@ -163,14 +163,14 @@ module _ (scope outputs : List Base) (rel : RelTree) (m : System) (a : Answer) w
     named_begins c i = ⊎_elim (λ j. ((parameter_column scope outputs rel c j).0, inl (parameter_known c j)))
         (λ j.
         let s = named_search l.scope c a.bounds j in
-        let r = rising_from m.next a.system.next c (search_columns a.bounds) owes.bounds_rise s in
+        let r = rising_from m.next a.system.next c (search_columns a.bounds) owes.columns.bounds_rise s in
         let o = next_some in
         (omega arith, inr s))
         (In-append c (named (parameter_names l)) (named (search_names l.scope a.bounds))
         (rw (named-append (parameter_names l) (search_names l.scope a.bounds)) at i))
 
     known_named : (c : ℕ) → In c a.system.known ⊎ In c a.system.unknown → HasName middle.names c
-    known_named c (inl i) = elim (owes.only c i) as (λ _. HasName middle.names c) [
+    known_named c (inl i) = elim (owes.columns.only c i) as (λ _. HasName middle.names c) [
       | inl j ↦ steps_named a.steps regioned c (inl j)
       | inr j ↦ steps_named a.steps regioned c (inr (begins_named c j))
     ]
@@ -218,7 +218,7 @@ module _ (scope outputs : List Base) (rel : RelTree) (m : System) (a : Answer) w
       within = stays v is_after.within is_after.lets (λ c i. subst (λ z. unsigned_abs z ≤ k) (is_after.same c i) (known_small c i))
 
       one : v 0 ≡ pos 1
-      one = sym (is_after.same 0 owes.constant)
+      one = sym (is_after.same 0 owes.columns.constant)
 
       start_have : HaveBases start e0
       start_have = search_have scope bounds ks env have below
@@ -233,7 +233,7 @@ module _ (scope outputs : List Base) (rel : RelTree) (m : System) (a : Answer) w
           let z : c == 0 ≡ false = ne_eqb c 0 (λ q. omega arith) in
           let j = number_named start first.names c numbers i in
           let g = search_agrees scope a.bounds (parameter_names l) (length scope) m.next a.system.next env (known_values l env) ks refl
-          (parameter_numbers l scope l.numbers (number_levels scope outputs rel)) have early next_some owes.bounds_rise below
+          (parameter_numbers l scope l.numbers (number_levels scope outputs rel)) have early next_some owes.columns.bounds_rise below
           (parameters_agree scope outputs rel env) c (inr i) in
           let t : number_of (value_at e0 (level_of first.names c)) ≡ set_tuple (known_values l env) a.bounds (wholes ks) c = rw z at g in
           let y = slice_get_within start (level_of first.names c) Int j in
@@ -242,8 +242,8 @@ module _ (scope outputs : List Base) (rel : RelTree) (m : System) (a : Answer) w
 
       pub tuple_small : (j : ℕ) → In j ks → j ≤ n
       tuple_small j i =
-          let t = tuple_value m.next a.system.next (known_values l env) a.bounds ks owes.bounds_rise below j i in
-          let h = within.known t.0 (owes.bound_known t.0 t.1) in
+          let t = tuple_value m.next a.system.next (known_values l env) a.bounds ks owes.columns.bounds_rise below j i in
+          let h = within.known t.0 (owes.columns.bound_known t.0 t.1) in
           let e : v t.0 ≡ pos j = is_after.first t.0 (inr t.1) ∙ t.2 in
           let s : unsigned_abs (v t.0) ≡ j = ap unsigned_abs e in
           omega arith
@@ -285,7 +285,7 @@ module _ (scope outputs : List Base) (rel : RelTree) (m : System) (a : Answer) w
       middle_comes =
           let s = pow_pos (length l.inputs) in
           let r = regions_at scope outputs rel env have n (2 ^ length l.inputs - 1) 1 first e0 e0 v k_within counts_are (omega arith) (omega arith) first_at in
-          steps_come n E env e0 v one a.steps regioned Begins (inr (r.0, r.1)) begins_named owes.over is_after.lets within.lets within.needs steps_divide
+          steps_come n E env e0 v one a.steps regioned Begins (inr (r.0, r.1)) begins_named owes.columns.over is_after.lets within.lets within.needs steps_divide
 
       end_comes : Comes n E end env e0 w
       end_comes = back_come n E env e0 a.back middle v (λ c. In c a.system.known ⊎ In c a.system.unknown) one middle_comes known_named comes.over within.back

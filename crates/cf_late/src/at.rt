@@ -5,7 +5,7 @@ ghost use Rattle.cf_tree.specs.Values.{number_of, value_at};
 ghost use Rattle.cf_eval.specs.Seen.{plains};
 ghost use Rattle.cf_late.specs.At.{variable_known, term_known, rel_known};
 
-use crate::operate::number_in;
+use cf_eval::operate::number_in;
 use cf_eval::value::Value;
 use cf_tree::memory::NoMemory;
 use cf_tree::rel::{Rel, Term};

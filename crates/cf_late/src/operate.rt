@@ -4,9 +4,9 @@ ghost use Rattle.cf_num.specs.Limit.{IsWithin};
 ghost use Rattle.cf_tree.specs.Allowed.{operation};
 ghost use Rattle.cf_tree.specs.declared.raw.BinOp.TheVariants.{Union, Inter, Diff, Subset};
 ghost use Rattle.cf_tree.specs.ExprView.{expr_tree};
-ghost use Rattle.cf_tree.specs.Numbers.{quotient, remainder, absolute};
+ghost use Rattle.cf_tree.specs.Numbers.{absolute};
 ghost use Rattle.cf_tree.specs.Sets.{AreWithin, set_of as the_set_of};
-ghost use Rattle.cf_tree.specs.Values.{number as a_number, truth as a_truth, elements as a_set, number_of, truth_of, elements_of, first_of, compared, same_value};
+ghost use Rattle.cf_tree.specs.Values.{number as a_number, truth as a_truth, elements as a_set, number_of, elements_of, first_of};
 ghost use Rattle.cf_eval.specs.Seen.{plain, plains};
 ghost use Rattle.cf_late.specs.Answers.{LateAnswer, met as met_late, one_part, decided_by, joined_by};
 ghost use Rattle.cf_late.specs.Fitting.{AreFit};
@@ -14,34 +14,13 @@ ghost use Rattle.cf_late.specs.LateRun.{gives, ordinary};
 
 use crate::stop::Stop;
 use crate::values::Values;
+use cf_eval::operate::{compare, divide, number_in, remain, truth_in};
 use cf_eval::value::Value;
 use cf_set::Set;
-use cf_tree::base::Order;
 use cf_tree::expr::Expr;
 use cf_tree::memory::NoMemory;
 use cf_tree::raw::BinOp;
 use std::alloc::Global;
-
-// The number, 0 for another value.
-pub(crate) fn number_in(value: &Value) -> i128
-    ensures { result ≡ number_of (plain value.now) }
-{
-    match value {
-        Value::Int(z) => *z,
-        Value::Truth(_) => 0,
-        Value::Elements(_) => 0,
-    }
-}
-
-fn truth_in(value: &Value) -> bool
-    ensures { result ≡ truth_of (plain value.now) }
-{
-    match value {
-        Value::Truth(b) => *b,
-        Value::Int(_) => false,
-        Value::Elements(_) => false,
-    }
-}
 
 fn set_in(alloc: Global, value: Value) -> Result<Set, NoMemory>
     ensures { IfOk result (λ s. s ≡ elements_of (plain value)) }
@@ -91,22 +70,6 @@ pub(crate) fn set(alloc: Global, s: Set) -> Result<Values, Stop>
     ensures { LateAnswer result (gives (a_set s ∷ [])) }
 {
     Ok(Values::one(alloc, Value::Elements(s))?)
-}
-
-fn divide(z: i128, k: i128) -> i128
-    requires { IsWithin z }
-    ensures value { result ≡ quotient z k }
-    ensures fits { IsWithin result }
-{
-    if k > 0 { cf_num::fdiv(z, k) } else { 0 }
-}
-
-pub(crate) fn remain(z: i128, k: i128) -> i128
-    requires { IsWithin z }
-    ensures value { result ≡ remainder z k }
-    ensures fits { IsWithin result }
-{
-    if k > 0 { cf_num::modulo(z, k) } else { z }
 }
 
 fn size_of(z: i128) -> i128
@@ -198,33 +161,6 @@ fn subset(alloc: Global, v: Value, w: Value) -> Result<Values, Stop>
     let s = set_in(alloc, v)?;
     let t = set_in(alloc, w)?;
     truth(alloc, s.subset(&t))
-}
-
-// Whether two values of one base are the same.
-fn same(v: &Value, w: &Value) -> bool
-    ensures { result ≡ same_value (plain v.now) (plain w.now) }
-{
-    match v {
-        Value::Int(x) => *x == number_in(w),
-        Value::Truth(b) => *b == truth_in(w),
-        Value::Elements(s) => match w {
-            Value::Elements(t) => s.same(t),
-            Value::Int(_) | Value::Truth(_) => s.card() == 0,
-        },
-    }
-}
-
-fn compare(order: Order, v: &Value, w: &Value) -> bool
-    ensures { result ≡ compared order (plain v.now) (plain w.now) }
-{
-    match order {
-        Order::Eq => same(v, w),
-        Order::Ne => !same(v, w),
-        Order::Lt => number_in(v) < number_in(w),
-        Order::Le => number_in(v) <= number_in(w),
-        Order::Gt => number_in(v) > number_in(w),
-        Order::Ge => number_in(v) >= number_in(w),
-    }
 }
 
 // The set of the numbers of these values.

@@ -10,9 +10,9 @@ ghost use Rattle.cf_late.specs.LateRun.{is_in, late_variables, pattern_relation}
 ghost use Rattle.cf_late.specs.Runnable.{HasFitPattern};
 
 use crate::enter::enter;
-use crate::operate::remain;
 use crate::stop::Stop;
 use crate::values::Values;
+use cf_eval::operate::remain;
 use cf_match::class::{Class, class_of};
 use cf_match::pattern::{last_level, numbers, pattern_relation};
 use cf_tree::expr::MatchArm;

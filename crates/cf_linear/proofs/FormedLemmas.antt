@@ -41,17 +41,19 @@ pub still : (m : System) (a : Answer) → Kinds m → Keeps m a → a.system.kno
     ((v : Values) (c : ℕ) → In c m.known → after_back v a.back c ≡ v c) → Owes m a
 still m a f keeps same le no_steps no_bounds kept = record {
   keeps = keeps;
-  constant = f.constant;
-  below = f.below;
-  grows = λ c k. subst (λ ks. In c ks) (sym same) k;
-  bound_known = λ c i. absurd (subst (λ bs. In c (search_columns bs)) no_bounds i);
-  let_known = λ c i. absurd (subst (λ ms. In c (let_columns ms)) no_steps i);
-  only = λ c k. inr (inl (subst (λ ks. In c ks) same k));
-  over = subst (λ ms. StepsOver (λ c. In c m.known ⊎ In c (search_columns a.bounds)) ms) (sym no_steps) tt;
-  bounds_rise = subst (λ bs. Rising m.next a.system.next (search_columns bs)) (sym no_bounds) le;
-  lets_rise = subst (λ ms. Rising m.next a.system.next (let_columns ms)) (sym no_steps) le;
-  apart = λ c i j. subst (λ bs. In c (search_columns bs)) no_bounds i;
   kept = kept;
+  columns = record {
+    constant = f.constant;
+    below = f.below;
+    grows = λ c k. subst (λ ks. In c ks) (sym same) k;
+    bound_known = λ c i. absurd (subst (λ bs. In c (search_columns bs)) no_bounds i);
+    let_known = λ c i. absurd (subst (λ ms. In c (let_columns ms)) no_steps i);
+    only = λ c k. inr (inl (subst (λ ks. In c ks) same k));
+    over = subst (λ ms. StepsOver (λ c. In c m.known ⊎ In c (search_columns a.bounds)) ms) (sym no_steps) tt;
+    bounds_rise = subst (λ bs. Rising m.next a.system.next (search_columns bs)) (sym no_bounds) le;
+    lets_rise = subst (λ ms. Rising m.next a.system.next (let_columns ms)) (sym no_steps) le;
+    apart = λ c i j. subst (λ bs. In c (search_columns bs)) no_bounds i;
+  };
 }
 
 -- rows after a replacement

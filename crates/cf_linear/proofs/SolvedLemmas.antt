@@ -111,28 +111,28 @@ solved_case m a st no_e no_i =
     let Q : ℕ → Type 0 = λ c. In c m.known ⊎ In c (search_columns a.bounds) in
     record {
       meets = λ v one w same h.
-          let f = st.keeps.forth w (sym (same 0 st.constant) ∙ one) h in
+          let f = st.keeps.forth w (sym (same 0 st.columns.constant) ∙ one) h in
           let x = f.0 in
-          let ag : Agree (λ c. In c m.known) v x = λ c i. same c i ∙ f.1 c (st.below c i) in (
+          let ag : Agree (λ c. In c m.known) v x = λ c i. same c i ∙ f.1 c (st.columns.below c i) in (
             tuple_of x a.bounds,
             tuple_in x a.bounds f.2,
             steps_hold Q (set_tuple v a.bounds (tuple_of x a.bounds)) x a.steps
-                (tuple_agrees (λ c. In c m.known) v x a.bounds ag) st.over f.3,
+                (tuple_agrees (λ c. In c m.known) v x a.bounds ag) st.columns.over f.3,
           );
       found = λ v one ks inb needs.
           let s = set_tuple v a.bounds ks in
           let x = after_steps s a.steps in
           let fresh : (c : ℕ) → Q c → In c (let_columns a.steps) → ⊥ = λ c q i.
-          ⊎_elim (λ k. let b = st.below c k in let r = Rising-in m.next a.system.next c (let_columns a.steps) st.lets_rise i in absurd (omega arith))
-          (λ k. st.apart c k i) q in
-          let fit = steps_fit Q m.next a.system.next s a.steps st.lets_rise fresh st.over needs in
+          ⊎_elim (λ k. let b = st.columns.below c k in let r = Rising-in m.next a.system.next c (let_columns a.steps) st.columns.lets_rise i in absurd (omega arith))
+          (λ k. st.columns.apart c k i) q in
+          let fit = steps_fit Q m.next a.system.next s a.steps st.columns.lets_rise fresh st.columns.over needs in
           let wi = Within-agree s x a.bounds (λ c i. sym (after_steps-other s a.steps c (fresh c (inr i))))
-          (tuple_within m.next a.system.next v a.bounds ks st.bounds_rise inb) in
+          (tuple_within m.next a.system.next v a.bounds ks st.columns.bounds_rise inb) in
           let same : SameKnown m v x = λ c k. sym (after_steps-other s a.steps c (fresh c (inl k)) ∙
-          set_tuple-other v a.bounds ks c (λ i. let b = st.below c k in let r = Rising-in m.next a.system.next c (search_columns a.bounds) st.bounds_rise i in
+          set_tuple-other v a.bounds ks c (λ i. let b = st.columns.below c k in let r = Rising-in m.next a.system.next c (search_columns a.bounds) st.columns.bounds_rise i in
           absurd (omega arith))) in (
             (λ c k. same c k ∙ sym (st.kept x c k)),
-            st.keeps.back x (sym (same 0 st.constant) ∙ one) wi fit
+            st.keeps.back x (sym (same 0 st.columns.constant) ∙ one) wi fit
                 (record { zero = subst (λ rows. EachRow (IsZero x) rows) (sym no_e) tt; nonneg = subst (λ rows. EachRow (IsNonneg x) rows) (sym no_i) tt }),
           );
     }
@@ -180,8 +180,8 @@ pub step_then : (m : System) (a b : Answer) → Owes m a → Owes a.system b →
 step_then m a b s t =
     let R : ℕ → Type 0 = λ c. In c a.system.known in
     let Q : ℕ → Type 0 = λ c. In c m.known ⊎ In c (search_columns a.bounds) in
-    let into : (c : ℕ) → Q c → R c = λ c q. ⊎_elim (λ k. s.grows c k) (λ k. s.bound_known c k) q in
-    let le : m.next ≤ a.system.next = Rising-le m.next a.system.next (search_columns a.bounds) s.bounds_rise in
+    let into : (c : ℕ) → Q c → R c = λ c q. ⊎_elim (λ k. s.columns.grows c k) (λ k. s.columns.bound_known c k) q in
+    let le : m.next ≤ a.system.next = Rising-le m.next a.system.next (search_columns a.bounds) s.columns.bounds_rise in
     let left_bound : (c : ℕ) → In c (search_columns a.bounds) → In c (search_columns (a.bounds ++ b.bounds)) =
     λ c i. subst (λ x. In c x) (sym (search_columns-append a.bounds b.bounds)) (In-left c (search_columns a.bounds) (search_columns b.bounds) i) in
     let right_bound : (c : ℕ) → In c (search_columns b.bounds) → In c (search_columns (a.bounds ++ b.bounds)) =
@@ -197,17 +197,17 @@ step_then m a b s t =
     let Q2 : ℕ → Type 0 = λ c. In c m.known ⊎ In c (search_columns (a.bounds ++ b.bounds)) in
     let wide : (c : ℕ) → Q c → Q2 c = λ c q. ⊎_elim (λ k. inl k) (λ k. inr (left_bound c k)) q in
     let later : (c : ℕ) → In c a.system.known ⊎ In c (search_columns b.bounds) → In c (let_columns a.steps) ⊎ Q2 c = λ c q.
-    ⊎_elim (λ k. ⊎_elim (λ i. inl i) (λ i. inr (wide c i)) (s.only c k)) (λ k. inr (inr (right_bound c k))) q in
+    ⊎_elim (λ k. ⊎_elim (λ i. inl i) (λ i. inr (wide c i)) (s.columns.only c k)) (λ k. inr (inr (right_bound c k))) q in
     record {
       keeps = record {
         forth = λ v one h.
             let f = s.keeps.forth v one h in
-            let g = t.keeps.forth f.0 (sym (f.1 0 (s.below 0 s.constant)) ∙ one) f.4 in
-            let ag : Agree R f.0 g.0 = λ c k. g.1 c (t.below c k) in (
+            let g = t.keeps.forth f.0 (sym (f.1 0 (s.columns.below 0 s.columns.constant)) ∙ one) f.4 in
+            let ag : Agree R f.0 g.0 = λ c k. g.1 c (t.columns.below c k) in (
               g.0,
               Same-trans m.next a.system.next v f.0 g.0 le f.1 g.1,
-              Within-append g.0 a.bounds b.bounds (Within-agree f.0 g.0 a.bounds (λ c i. ag c (s.bound_known c i)) f.2) g.2,
-              AllFit-append g.0 a.steps b.steps (AllFit-agree R Q f.0 g.0 ag into a.steps s.over s.let_known f.3) g.3,
+              Within-append g.0 a.bounds b.bounds (Within-agree f.0 g.0 a.bounds (λ c i. ag c (s.columns.bound_known c i)) f.2) g.2,
+              AllFit-append g.0 a.steps b.steps (AllFit-agree R Q f.0 g.0 ag into a.steps s.columns.over s.columns.let_known f.3) g.3,
               g.4,
             );
         back = λ v one wi fit h.
@@ -216,29 +216,31 @@ step_then m a b s t =
             let x = after_back v b.back in
             let ag : Agree R v x = λ c k. sym (t.kept v c k) in
             let mid = t.keeps.back v one ws.1 fs.1 h in
-            let old = s.keeps.back x (t.kept v 0 (s.grows 0 s.constant) ∙ one) (Within-agree v x a.bounds (λ c i. ag c (s.bound_known c i)) ws.0)
-            (AllFit-agree R Q v x ag into a.steps s.over s.let_known fs.0) mid in
+            let old = s.keeps.back x (t.kept v 0 (s.columns.grows 0 s.columns.constant) ∙ one) (Within-agree v x a.bounds (λ c i. ag c (s.columns.bound_known c i)) ws.0)
+            (AllFit-agree R Q v x ag into a.steps s.columns.over s.columns.let_known fs.0) mid in
             subst (λ y. Sat m y) (sym (after_back-append v b.back a.back)) old;
       };
-      constant = s.constant;
-      below = s.below;
-      grows = λ c k. t.grows c (s.grows c k);
-      bound_known = λ c i. ⊎_elim (λ j. t.grows c (s.bound_known c j)) (λ j. t.bound_known c j) (some_bound c i);
-      let_known = λ c i. ⊎_elim (λ j. t.grows c (s.let_known c j)) (λ j. t.let_known c j) (some_let c i);
-      only = λ c k. ⊎_elim (λ i. inl (right_let c i)) (λ q. ⊎_elim (λ i. inl (left_let c i)) (λ i. inr i) (later c q)) (t.only c k);
-      over = StepsOver-append Q2 a.steps b.steps (StepsOver-weaker Q Q2 wide a.steps s.over)
-          (StepsOver-weaker (λ c. In c a.system.known ⊎ In c (search_columns b.bounds)) (λ c. In c (let_columns a.steps) ⊎ Q2 c) later b.steps t.over);
-      bounds_rise = subst (λ x. Rising m.next b.system.next x) (sym (search_columns-append a.bounds b.bounds))
-          (Rising-append m.next a.system.next b.system.next (search_columns a.bounds) (search_columns b.bounds) s.bounds_rise t.bounds_rise);
-      lets_rise = subst (λ x. Rising m.next b.system.next x) (sym (let_columns-append a.steps b.steps))
-          (Rising-append m.next a.system.next b.system.next (let_columns a.steps) (let_columns b.steps) s.lets_rise t.lets_rise);
-      apart = λ c i j. ⊎_elim
-          (λ p. ⊎_elim (λ q. s.apart c p q) (λ q. ranges c (Rising-in m.next a.system.next c (search_columns a.bounds) s.bounds_rise p)
-          (Rising-in a.system.next b.system.next c (let_columns b.steps) t.lets_rise q)) (some_let c j))
-          (λ p. ⊎_elim (λ q. ranges c (Rising-in m.next a.system.next c (let_columns a.steps) s.lets_rise q)
-          (Rising-in a.system.next b.system.next c (search_columns b.bounds) t.bounds_rise p)) (λ q. t.apart c p q) (some_let c j))
-          (some_bound c i);
-      kept = λ v c k. ap (λ f. f c) (after_back-append v b.back a.back) ∙ s.kept (after_back v b.back) c k ∙ t.kept v c (s.grows c k);
+      kept = λ v c k. ap (λ f. f c) (after_back-append v b.back a.back) ∙ s.kept (after_back v b.back) c k ∙ t.kept v c (s.columns.grows c k);
+      columns = record {
+        constant = s.columns.constant;
+        below = s.columns.below;
+        grows = λ c k. t.columns.grows c (s.columns.grows c k);
+        bound_known = λ c i. ⊎_elim (λ j. t.columns.grows c (s.columns.bound_known c j)) (λ j. t.columns.bound_known c j) (some_bound c i);
+        let_known = λ c i. ⊎_elim (λ j. t.columns.grows c (s.columns.let_known c j)) (λ j. t.columns.let_known c j) (some_let c i);
+        only = λ c k. ⊎_elim (λ i. inl (right_let c i)) (λ q. ⊎_elim (λ i. inl (left_let c i)) (λ i. inr i) (later c q)) (t.columns.only c k);
+        over = StepsOver-append Q2 a.steps b.steps (StepsOver-weaker Q Q2 wide a.steps s.columns.over)
+            (StepsOver-weaker (λ c. In c a.system.known ⊎ In c (search_columns b.bounds)) (λ c. In c (let_columns a.steps) ⊎ Q2 c) later b.steps t.columns.over);
+        bounds_rise = subst (λ x. Rising m.next b.system.next x) (sym (search_columns-append a.bounds b.bounds))
+            (Rising-append m.next a.system.next b.system.next (search_columns a.bounds) (search_columns b.bounds) s.columns.bounds_rise t.columns.bounds_rise);
+        lets_rise = subst (λ x. Rising m.next b.system.next x) (sym (let_columns-append a.steps b.steps))
+            (Rising-append m.next a.system.next b.system.next (let_columns a.steps) (let_columns b.steps) s.columns.lets_rise t.columns.lets_rise);
+        apart = λ c i j. ⊎_elim
+            (λ p. ⊎_elim (λ q. s.columns.apart c p q) (λ q. ranges c (Rising-in m.next a.system.next c (search_columns a.bounds) s.columns.bounds_rise p)
+            (Rising-in a.system.next b.system.next c (let_columns b.steps) t.columns.lets_rise q)) (some_let c j))
+            (λ p. ⊎_elim (λ q. ranges c (Rising-in m.next a.system.next c (let_columns a.steps) s.columns.lets_rise q)
+            (Rising-in a.system.next b.system.next c (search_columns b.bounds) t.columns.bounds_rise p)) (λ q. t.columns.apart c p q) (some_let c j))
+            (some_bound c i);
+      };
     }
   where
     ranges : (c : ℕ) → (m.next ≤ c) × (c < a.system.next) → (a.system.next ≤ c) × (c < b.system.next) → ⊥
@@ -247,17 +249,19 @@ step_then m a b s t =
 pub step_none : (m : System) → In 0 m.known → ((c : ℕ) → In c m.known → c < m.next) → Owes m (no_answer m)
 step_none m zero_in below = record {
   keeps = record { forth = λ v one h. (v, (λ c l. refl), tt, tt, h); back = λ v one _ _ h. h };
-  constant = zero_in;
-  below = below;
-  grows = λ c k. k;
-  bound_known = λ c i. absurd i;
-  let_known = λ c i. absurd i;
-  only = λ c k. inr (inl k);
-  over = tt;
-  bounds_rise = omega arith;
-  lets_rise = omega arith;
-  apart = λ c i j. absurd i;
   kept = λ v c k. refl;
+  columns = record {
+    constant = zero_in;
+    below = below;
+    grows = λ c k. k;
+    bound_known = λ c i. absurd i;
+    let_known = λ c i. absurd i;
+    only = λ c k. inr (inl k);
+    over = tt;
+    bounds_rise = omega arith;
+    lets_rise = omega arith;
+    apart = λ c i j. absurd i;
+  };
 }
 
 -- ---- a trace, from states of the kind Good

@@ -31,9 +31,8 @@ StepsOver Q (need_nonneg r ∷ ms) = Over Q r × StepsOver Q ms
 StepsOver Q (need_zero r ∷ ms) = Over Q r × StepsOver Q ms
 StepsOver Q (need_divides g r ∷ ms) = Over Q r × StepsOver Q ms
 
--- what one step owes, and several steps as one too
-pub record Owes (m : System) (a : Answer) : Type 0 where
-  pub keeps : Keeps m a
+-- where the columns of a step come from, and that each is new
+pub record OwesColumns (m : System) (a : Answer) : Type 0 where
   pub constant : In 0 m.known
   pub below : (c : ℕ) → In c m.known → c < m.next
   pub grows : (c : ℕ) → In c m.known → In c a.system.known
@@ -44,7 +43,12 @@ pub record Owes (m : System) (a : Answer) : Type 0 where
   pub bounds_rise : Rising m.next a.system.next (search_columns a.bounds)
   pub lets_rise : Rising m.next a.system.next (let_columns a.steps)
   pub apart : (c : ℕ) → In c (search_columns a.bounds) → In c (let_columns a.steps) → ⊥
+
+-- what one step owes, and several steps as one too: it keeps the solutions, and the way back leaves the known columns
+pub record Owes (m : System) (a : Answer) : Type 0 where
+  pub keeps : Keeps m a
   pub kept : (v : Values) (c : ℕ) → In c m.known → after_back v a.back c ≡ v c
+  pub columns : OwesColumns m a
 
 -- ---- one after the other: a tuple of search values, then lets and needs, then the unknowns
 -- a let sets its new column

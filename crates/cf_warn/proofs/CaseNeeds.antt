@@ -47,13 +47,13 @@ pub record IsKept (m : System) : Type 0 where
 kept : (m : System) → IsReady m → RowsSmall m → (run limits m).end ≡ solved → IsKept m
 kept m r h e =
     let s = run_solved m r e in
-    let first = s.owes.below 0 s.owes.constant in
+    let first = s.owes.columns.below 0 s.owes.columns.constant in
     record {
       solves = s.solves;
       trace = record {
         divide = s.returns.steps;
-        lets = rising_later m.next (made m).system.next (let_columns (made m).steps) (omega arith) s.owes.lets_rise;
-        searches = rising_later m.next (made m).system.next (search_columns (made m).bounds) (omega arith) s.owes.bounds_rise;
+        lets = rising_later m.next (made m).system.next (let_columns (made m).steps) (omega arith) s.owes.columns.lets_rise;
+        searches = rising_later m.next (made m).system.next (search_columns (made m).bounds) (omega arith) s.owes.columns.bounds_rise;
       };
       small = (run_small m r h).steps;
       bounds = s.bounds;

@@ -14,6 +14,9 @@ returns-in-Err c =
     subst (λ f. ApplyIs (last_of limits m (first_of m) (rest_of m) (c.args.u ∷ [])) (Err f)) (sym c.refusal_of.ensures)
     (end_counts m (first_of m) (rest_of m) c.args.u c.in-Some.counts.rows c.in-Some.counts.columns c.in-Err.fault c.in-Some.ensures c.in-Err.ensures)
 
+pub step_first-requires-clause-found : goal.step_first-requires-clause-found
+step_first-requires-clause-found c = rw c.requires.one refl
+
 pub step_first-requires-clause-holds : goal.step_first-requires-clause-holds
 step_first-requires-clause-holds c = end_some (system_of c.args.system) c.args.u c.requires.one
 

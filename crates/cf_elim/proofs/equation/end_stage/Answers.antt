@@ -1,7 +1,11 @@
+use Rattle.std.proofs.Common.{refl}
 use Rattle.cf_linear.specs.Views.{system_of}
 use Rattle.cf_elim.specs.Stages.{past_clean}
 use Rattle.cf_elim.proofs.NextStageLaws.{end_out, end_counted, end_after, end_some}
 use Rattle.cf_elim.proofs.equation.end_stage.Goals as goal
+
+pub reduced_stage-requires-clause-found : goal.reduced_stage-requires-clause-found
+reduced_stage-requires-clause-found c = rw c.requires.one refl
 
 pub reduced_stage-requires-clause-holds : goal.reduced_stage-requires-clause-holds
 reduced_stage-requires-clause-holds c = end_some (system_of c.args.system) c.args.u c.requires.one

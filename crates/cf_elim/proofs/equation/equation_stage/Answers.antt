@@ -1,4 +1,4 @@
-use Rattle.std.proofs.Common.{sym, subst, refl, arith}
+use Rattle.std.proofs.Common.{◌∙◌, sym, subst, refl, arith}
 use Rattle.cf_linear.specs.Views.{system_of}
 use Rattle.cf_equation.specs.Equations.{first_present}
 use Rattle.cf_equation.proofs.PresentLemmas.{none_from, one_from, several_from}
@@ -10,11 +10,11 @@ pub returns-in-Nothing : goal.returns-in-Nothing
 returns-in-Nothing c =
     let s = past_clean (system_of c.args.system) c.args.tuples in
     let m = c.none.ensures in
-    nothing_goes s _ _ c.requires.ready c.requires.some (none_from (first_present (system_of c.args.system)) c.in-Nothing.ensures)
+    nothing_goes s _ _ c.requires.ready c.requires.some (none_from (first_present (system_of c.args.system)) (sym c.in-Nothing.is ∙ c.first_unknowns-found.ensures))
     (rw (m.bounds, m.steps, m.back) refl) refl refl
 
 pub end_stage-requires-clause-one : goal.end_stage-requires-clause-one
-end_stage-requires-clause-one c = one_from (first_present (system_of c.args.system)) c.in-One.u c.in-One.ensures
+end_stage-requires-clause-one c = one_from (first_present (system_of c.args.system)) c.in-One.u (sym c.in-One.is ∙ c.first_unknowns-found.ensures)
 
 pub returns-in-One : goal.returns-in-One
 returns-in-One c =
@@ -23,7 +23,7 @@ returns-in-One c =
 
 pub merge_stage-requires-clause-several : goal.merge_stage-requires-clause-several
 merge_stage-requires-clause-several c =
-    let s = several_from (first_present (system_of c.args.system)) c.in-Several.field-0 c.in-Several.field-1 c.in-Several.ensures in
+    let s = several_from (first_present (system_of c.args.system)) c.in-Several.field-0 c.in-Several.field-1 (sym c.in-Several.is ∙ c.first_unknowns-found.ensures) in
     rw s.1 (omega arith)
 
 pub returns-in-Several : goal.returns-in-Several
