@@ -27,19 +27,24 @@ Read A = Option (A × List ℕ)
 abbrev pub after_spaces : List ℕ → List ℕ
 after_spaces text = drop (prefix_len is_space text) text
 
-abbrev pub digits_read : ℕ → Bool → ℕ → List ℕ → Option ℕ → Read ℤ
-digits_read limit minus n text None = None
-digits_read limit minus n text (Some v) = Some ((if minus then neg_ℤ (pos v) else pos v), drop n text)
+abbrev pub digits_read : ℕ → List ℕ → Option ℕ → Read ℤ
+digits_read n text None = None
+digits_read n text (Some v) = Some (pos v, drop n text)
 
 -- the longest run of digits
-abbrev pub digits_at : ℕ → Bool → List ℕ → Read ℤ
-digits_at limit minus text =
+abbrev pub digits_at : ℕ → List ℕ → Read ℤ
+digits_at limit text =
     if prefix_len is_digit text == 0 then None
-    else digits_read limit minus (prefix_len is_digit text) text (at_most limit (digits_value (take (prefix_len is_digit text) text)))
+    else digits_read (prefix_len is_digit text) text (at_most limit (digits_value (take (prefix_len is_digit text) text)))
 
+abbrev pub negated : Read ℤ → Read ℤ
+negated None = None
+negated (Some x) = Some (neg_ℤ x.0, x.1)
+
+-- digits, or their negative behind "-"
 abbrev pub number_at : ℕ → List ℕ → Read ℤ
 number_at limit [] = None
-number_at limit (b ∷ text) = if b == 45 then digits_at limit true text else digits_at limit false (b ∷ text)
+number_at limit (b ∷ text) = if b == 45 then negated (digits_at limit text) else digits_at limit (b ∷ text)
 
 -- spaces, a number and spaces
 abbrev pub item_rest : Read ℤ → Option ℤ

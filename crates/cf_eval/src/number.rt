@@ -1,8 +1,8 @@
 //! Numbers on a line.
-ghost use Rattle.std.specs.Prelude.{◌≡◌, ◌^◌, ◌<◌, true, false, IfSome};
+ghost use Rattle.std.specs.Prelude.{◌≡◌, ◌^◌, ◌<◌, IfSome};
 ghost use Rattle.cf_lex.specs.Digits.{at_most, digits_value};
 ghost use Rattle.cf_num.specs.Limit.{IsWithin};
-ghost use Rattle.cf_eval.specs.Reading.{digits_at, number_at, item_at, NumberRead};
+ghost use Rattle.cf_eval.specs.Reading.{digits_at, negated, number_at, item_at, NumberRead};
 
 use crate::runs::{after_spaces, is_blank};
 use cf_lex::digits::{digits_len, literal};
@@ -35,9 +35,10 @@ fn value(digits: &[u8], limit: u128) -> Option<u128>
     }
 }
 
-fn digits(text: &[u8], minus: bool, limit: u128) -> Option<(i128, &[u8])>
+// The value of the digits at the front of a text, and the rest.
+fn digits(text: &[u8], limit: u128) -> Option<(i128, &[u8])>
     requires { limit < 2 ^ 127 }
-    ensures value { NumberRead result (digits_at limit minus text.now) }
+    ensures value { NumberRead result (digits_at limit text.now) }
     ensures fits { IfSome result (λ x. IsWithin x.0) }
 {
     let n = digits_len(text);
@@ -45,7 +46,19 @@ fn digits(text: &[u8], minus: bool, limit: u128) -> Option<(i128, &[u8])>
         return None;
     }
     let v = value(&text[..n], limit)? as i128;
-    Some((if minus { -v } else { v }, &text[n..]))
+    Some((v, &text[n..]))
+}
+
+// The negative of the value of the digits at the front of a text, and the rest.
+fn negative(text: &[u8], limit: u128) -> Option<(i128, &[u8])>
+    requires { limit < 2 ^ 127 }
+    ensures value { NumberRead result (negated (digits_at limit text.now)) }
+    ensures fits { IfSome result (λ x. IsWithin x.0) }
+{
+    match digits(text, limit) {
+        None => None,
+        Some((v, rest)) => Some((-v, rest)),
+    }
 }
 
 /// The number at the front of a text, and the rest.
@@ -56,8 +69,8 @@ pub(crate) fn number(text: &[u8], limit: u128) -> Option<(i128, &[u8])>
 {
     match text {
         [] => None,
-        [b'-', rest @ ..] => digits(rest, true, limit),
-        _ => digits(text, false, limit),
+        [b'-', rest @ ..] => negative(rest, limit),
+        _ => digits(text, limit),
     }
 }
 
