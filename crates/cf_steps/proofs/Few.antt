@@ -1,15 +1,17 @@
 -- Each step has a token of its own, so tokens spell no more steps than they are.
-use Rattle.std.proofs.Common.{◌≡◌, ℕ, ◌+◌, ◌≤◌, List, [], ◌∷◌, length, length-append, arith}
+use Rattle.std.proofs.Common.{ℕ, ◌+◌, ◌≤◌, List, [], ◌∷◌, length, length-append, arith}
 use Rattle.std.specs.Prelude.{pos, codes}
 use Rattle.std.specs.List.{flat_map}
 use Rattle.cf_lex.specs.declared.token.Token.{Token}
 use Rattle.cf_lex.specs.declared.token.TokenKind.TheVariants.{Literal, Word, Sign}
 use Rattle.cf_reader.proofs.Exact.{first_longer, left_over}
+use Rattle.cf_target.specs.Targets.{part_of}
+use Rattle.cf_target.proofs.Only.{part_is}
 use Rattle.cf_steps.specs.declared.act.Act.{Act}
 use Rattle.cf_steps.specs.Blocks.{BlockTree, block_acts}
-use Rattle.cf_steps.specs.Reading.{act_of, part_of}
+use Rattle.cf_steps.specs.Reading.{act_of}
 use Rattle.cf_steps.specs.Spelling.{SpellsActs, SpellsCases, SpellsBlock, SpellsBlocks, AreBlocks}
-use Rattle.cf_steps.proofs.Only.{act_is, act_within, part_is, part_within}
+use Rattle.cf_steps.proofs.Only.{act_is, act_within, part_within}
 
 few_acts : (acts : List Act) (ts us : List Token) → SpellsActs acts ts us → length acts + length us ≤ length ts
 few_acts [] ts us w = omega (arith, first_longer (Sign (codes "}")) ts us w.0 w.1)

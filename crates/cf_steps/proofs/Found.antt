@@ -13,18 +13,15 @@ use Rattle.cf_reader.specs.Tokens.{Next}
 use Rattle.cf_reader.specs.Readers.{at_end, others_of, snoc}
 use Rattle.cf_reader.proofs.Yields.{Yields, yields, faults, Took, pure_yields, refuse_yields, widen, bind_yields, must_yields, first_yields, all_added}
 use Rattle.cf_reader.proofs.Yields.{if_some, if_else_some, same_token, same_text, took_next, took_literal, others_yields}
-use Rattle.cf_reader.proofs.KindLaws.{results_yields}
 use Rattle.cf_reader.proofs.Faults.{found_on}
 use Rattle.cf_target.specs.Levels.{last_level}
-use Rattle.cf_target.specs.Spelling.{SpellsHeader}
-use Rattle.cf_target.proofs.FoundCodes.{Finds, read_found}
-use Rattle.cf_target.proofs.Targets.{bases_yields, took_two}
+use Rattle.cf_target.proofs.Targets.{part_yields}
 use Rattle.cf_steps.specs.declared.act.Act.{Act}
 use Rattle.cf_steps.specs.declared.act.Act.TheVariants.{Clean, Mix, Last, Search, Drop}
 use Rattle.cf_steps.specs.Blocks.{BlockTree}
-use Rattle.cf_steps.specs.Spelling.{SpellsColumn, SpellsFactor, side_kind, SpellsAct, SpellsActs, SpellsCase, SpellsCases, SpellsPart, SpellsBlock}
+use Rattle.cf_steps.specs.Spelling.{SpellsColumn, SpellsFactor, side_kind, SpellsAct, SpellsActs, SpellsCase, SpellsCases, SpellsBlock}
 use Rattle.cf_steps.specs.Spelling.{SpellsBlocks, AreBlocks}
-use Rattle.cf_steps.specs.Reading.{column_of, a_column, a_side, factor_of, mix_of, search_of, act_of, ended_act, acts_of, all_acts, case_of, main_of, part_of}
+use Rattle.cf_steps.specs.Reading.{column_of, a_column, a_side, factor_of, mix_of, search_of, act_of, ended_act, acts_of, all_acts, case_of}
 use Rattle.cf_steps.specs.Reading.{block_of, blocks_of, all_blocks}
 
 -- ---- tokens
@@ -130,47 +127,6 @@ cases_yields ts =
     (others_yields snoc case_of SpellsCase (Word (codes "case")) (Sign (codes "}")) case_yields [] ts)
 
 -- ---- blocks
-main_yields : (limit : ℕ) (start ts : List Token) → SpellsHeader start ts → Yields (λ t us. SpellsPart limit t start us) (main_of limit ts)
-unfolding main_of Finds
-main_yields limit start ts w =
-    bind_yields _ _ ts (must_yields _ ts) (λ p b m. bind_yields _ _ b (must_yields _ b) (λ q c o. bind_yields _ _ c (bases_yields c)
-    (λ params d l. bind_yields _ _ d (must_yields _ d) (λ r e n.
-    bind_yields _ _ e (results_yields e) (λ results f k. bind_yields _ _ f (must_yields _ f) (λ s g i. bind_yields _ _ g (read_found limit g) (λ code us found.
-    pure_yields _ us (
-      found.deep,
-      (
-        ts,
-        w,
-        (
-          b,
-          took_next _ ts b p m,
-          (
-            c,
-            took_next _ b c q o,
-            (
-              d,
-              l,
-              (
-                e,
-                took_next _ d e r n,
-                (
-                  f,
-                  k,
-                  (g, took_next _ f g s i, found.spelled),
-                ),
-              ),
-            ),
-          ),
-        ),
-      ),
-    ))))))))
-
-part_yields : (limit : ℕ) (ts : List Token) → Yields (λ t us. SpellsPart limit t ts us) (part_of limit ts)
-unfolding part_of
-part_yields limit ts =
-    first_yields _ _ _ ts (λ p a c. bind_yields _ _ a (must_yields _ a) (λ q us t. main_yields limit ts us (inr
-    (a, took_next _ ts a p c, took_two a us q t)))) (main_yields limit ts ts (inl refl))
-
 block_yields : (limit : ℕ) (ts : List Token) → Yields (λ b us. SpellsBlock limit b ts us) (block_of limit ts)
 unfolding block_of
 block_yields limit ts =

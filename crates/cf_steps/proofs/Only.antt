@@ -7,8 +7,6 @@ use Rattle.std.proofs.lemmas.List.{append-nil}
 use Rattle.cf_lex.specs.declared.token.Token.{Token}
 use Rattle.cf_lex.specs.declared.token.TokenKind.TheVariants.{Literal, Word, Sign}
 use Rattle.cf_tree.specs.declared.base.Place.{Place}
-use Rattle.cf_tree.specs.DefView.{TargetTree}
-use Rattle.cf_tree.specs.CodeTree.{code_depth}
 use Rattle.cf_reader.specs.Tokens.{Next}
 use Rattle.cf_reader.specs.Readers.{is, at, must, at_end, others_of, snoc}
 use Rattle.cf_reader.specs.Faults.{IsFaultPlace, IsFaultPlaceOf, place_with_left}
@@ -17,21 +15,18 @@ use Rattle.cf_reader.proofs.Near.{must_local, others_local, at_end_local}
 use Rattle.cf_reader.proofs.Yields.{all_added}
 use Rattle.cf_reader.proofs.Exact.{bind_is, pure_is, must_is, first_is, first_not, at_is, at_not, next_is, literal_is, first_longer, left_over, Items}
 use Rattle.cf_reader.proofs.Exact.{others_are}
-use Rattle.cf_reader.proofs.KindLaws.{sign_literal, results_are, results_local}
+use Rattle.cf_reader.proofs.KindLaws.{sign_literal}
 use Rattle.cf_reader.proofs.Faults.{same_value, ReadsAll, fault_law as read_fault, exact_law as read_exact}
 use Rattle.cf_target.specs.Levels.{last_level}
-use Rattle.cf_target.specs.Spelling.{SpellsMain}
-use Rattle.cf_target.specs.Targets.{a_two}
-use Rattle.cf_target.proofs.LocalReading.{read_local}
-use Rattle.cf_target.proofs.OnlyArms.{read_reads}
-use Rattle.cf_target.proofs.Only.{bases_are, two_is, bases_local}
+use Rattle.cf_target.specs.Targets.{part_of}
+use Rattle.cf_target.proofs.Only.{part_is, part_local}
 use Rattle.cf_steps.specs.declared.act.Act.{Act}
 use Rattle.cf_steps.specs.declared.act.Act.TheVariants.{Clean, Mix, Last, Search, Drop}
 use Rattle.cf_steps.specs.Blocks.{BlockTree}
 use Rattle.cf_steps.specs.Answers.{SomeBlocks}
-use Rattle.cf_steps.specs.Spelling.{SpellsColumn, SpellsFactor, side_kind, SpellsAct, SpellsActs, SpellsCase, SpellsCases, SpellsPart, SpellsBlock}
+use Rattle.cf_steps.specs.Spelling.{SpellsColumn, SpellsFactor, side_kind, SpellsAct, SpellsActs, SpellsCase, SpellsCases, SpellsBlock}
 use Rattle.cf_steps.specs.Spelling.{SpellsBlocks, AreBlocks}
-use Rattle.cf_steps.specs.Reading.{a_column, a_side, factor_of, mix_of, search_of, act_of, ended_act, acts_of, all_acts, case_of, main_of, part_of, block_of}
+use Rattle.cf_steps.specs.Reading.{a_column, a_side, factor_of, mix_of, search_of, act_of, ended_act, acts_of, all_acts, case_of, block_of}
 use Rattle.cf_steps.specs.Reading.{blocks_of, all_blocks}
 
 -- ---- reading is local
@@ -75,17 +70,6 @@ all_acts_local {more} {other} = record {
 case_local : {more other : List Token} → Local more other case_of case_of
 unfolding case_of
 case_local = bind_local (must_local _) (λ p. all_acts_local)
-
-main_local : {more other : List Token} (limit : ℕ) → Local more other (main_of limit) (main_of limit)
-unfolding main_of
-main_local {more} {other} limit =
-    bind_local (must_local _) (λ p. bind_local (must_local _) (λ q. bind_local bases_local (λ params. bind_local (must_local _)
-    (λ r. bind_local results_local (λ results. bind_local (must_local _) (λ s.
-    bind_local (read_local more other limit) (λ code. pure_local _)))))))
-
-part_local : {more other : List Token} (limit : ℕ) → Local more other (part_of limit) (part_of limit)
-unfolding part_of
-part_local limit = first_local _ (λ p. bind_local (must_local _) (λ q. main_local limit)) (main_local limit)
 
 block_local : {more other : List Token} (limit : ℕ) → Local more other (block_of limit) (block_of limit)
 unfolding block_of
@@ -214,21 +198,6 @@ cases_are : (cases : List (List Act)) (ts us : List Token) → SpellsCases cases
 cases_are cases ts us w =
     others_are snoc case_of SpellsCase (Word (codes "case")) (Sign (codes "}")) case_items cases [] ts us w
     ∙ ap (λ (z : List (List Act)). Ok (z, us)) (all_added cases)
-
-main_is : (limit : ℕ) (t : TargetTree) (ts us : List Token) → SpellsMain t ts us → code_depth t.code ≤ limit → main_of limit ts ≡ Ok (t, us)
-unfolding main_of
-main_is limit t ts us (b, m, (c, o, (d, bs, (e, s, (f, rs, (g, q, w)))))) l =
-    bind_is _ _ ts (next_is _ ts b refl m) (bind_is _ _ b (next_is _ b c refl o) (bind_is _ _ c (bases_are t.params c d bs) (bind_is _ _ d
-    (next_is _ d e refl s)
-    (bind_is _ _ e (results_are t.results e f rs) (bind_is _ _ f (next_is _ f g refl q) (bind_is _ _ g (read_reads limit t.code g us l w)
-    (pure_is _ _ us refl)))))))
-
-pub part_is : (limit : ℕ) (t : TargetTree) (ts us : List Token) → SpellsPart limit t ts us → part_of limit ts ≡ Ok (t, us)
-unfolding part_of
-part_is limit t ts us (l, (a, inl h, w)) =
-    first_not _ _ _ ts (at_not _ (Word (codes "main")) ts w.0 w.1.0 refl (h ∙ w.1.1)) (ap (main_of limit) h ∙ main_is limit t a us w l)
-part_is limit t ts us (l, (a, inr (x, n, two), w)) =
-    first_is _ _ _ ts (at_is _ ts x n.0 refl n.1) (bind_is _ _ x (must_is a_two x a two.0 (two_is x a two)) (main_is limit t a us w l))
 
 block_is : (limit : ℕ) (b : BlockTree) (ts us : List Token) → SpellsBlock limit b ts us → block_of limit ts ≡ Ok (b, us)
 unfolding block_of

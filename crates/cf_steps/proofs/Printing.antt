@@ -15,7 +15,7 @@ use Rattle.cf_tree.specs.CodeView.{code_tree}
 use Rattle.cf_tree.specs.DefView.{target_tree}
 use Rattle.cf_tree.specs.Spelled.{HasSpelling}
 use Rattle.cf_reader.specs.Tokens.{Form, ◌⨟◌, Next}
-use Rattle.cf_target.specs.Spelling.{SpellsNumber, SpellsHeader}
+use Rattle.cf_target.specs.Spelling.{SpellsNumber, SpellsHeader, SpellsPart}
 use Rattle.cf_emit.specs.Printed.{line_end, base_text, listed, results_text, code_text, target_text}
 use Rattle.cf_emit.proofs.Spans.{Spans, Says, then, as_form, white_before, white_behind, is_plain, word, spaced, opening, opening_brace, closing_brace, semicolon, colon}
 use Rattle.cf_emit.proofs.Words.{number_says, params_say, results_say, header_says}
@@ -27,7 +27,7 @@ use Rattle.cf_steps.specs.Blocks.{BlockTree, block_tree}
 use Rattle.cf_steps.specs.Printed.{side_text, act_text, acts_text, cases_text, block_text, blocks_text}
 use Rattle.cf_steps.specs.ReadsBack.{ReadsBack}
 use Rattle.cf_steps.specs.Spelled.{IsColumn, IsSpelledAct, AreSpelledCases, IsSpelledBlock}
-use Rattle.cf_steps.specs.Spelling.{SpellsColumn, SpellsFactor, side_kind, SpellsAct, SpellsActs, SpellsCases, SpellsPart, SpellsBlock, AreBlocks}
+use Rattle.cf_steps.specs.Spelling.{SpellsColumn, SpellsFactor, side_kind, SpellsAct, SpellsActs, SpellsCases, SpellsBlock, AreBlocks}
 use Rattle.cf_steps.proofs.Only.{one_law}
 
 -- ---- numbers

@@ -15,7 +15,7 @@ use Rattle.cf_steps.specs.declared.act.Act.TheVariants.{Clean, Mix, Last, Search
 use Rattle.cf_steps.specs.declared.block.Block.{Block}
 use Rattle.cf_steps.specs.Blocks.{block_tree}
 use Rattle.cf_steps.specs.Spelled.{IsColumn, IsSpelledAct, AreSpelledCases, IsSpelledBlock}
-use Rattle.cf_steps.specs.Spelling.{SpellsColumn, SpellsFactor, SpellsAct, SpellsActs, SpellsCase, SpellsCases, SpellsPart, SpellsBlock, SpellsBlocks, AreBlocks}
+use Rattle.cf_steps.specs.Spelling.{SpellsColumn, SpellsFactor, SpellsAct, SpellsActs, SpellsCase, SpellsCases, SpellsBlock, SpellsBlocks, AreBlocks}
 
 -- ---- steps
 column_keeps : (n : ℕ) → Keeps (SpellsColumn n) (IsColumn n)

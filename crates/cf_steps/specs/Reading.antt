@@ -3,12 +3,9 @@ use Rattle.std.specs.Prelude.{ℕ, zero, suc, ℤ, pos, negsuc, neg_ℤ, nat_le,
 use Rattle.std.specs.Prelude.{codes, if◌then◌else◌}
 use Rattle.std.specs.Str.{bytes_eq}
 use Rattle.cf_lex.specs.declared.token.TokenKind.TheVariants.{Literal, Word, Sign}
-use Rattle.cf_tree.specs.DefView.{TargetTree}
 use Rattle.cf_reader.specs.Readers.{Reader, Test, is, a_literal, pure, refuse, must, ◌>>=◌, first, at_end, others_of, snoc}
-use Rattle.cf_reader.specs.Kinds.{results_of}
 use Rattle.cf_target.specs.Levels.{last_level}
-use Rattle.cf_target.specs.Reading.{read}
-use Rattle.cf_target.specs.Targets.{bases_of, a_two}
+use Rattle.cf_target.specs.Targets.{part_of}
 use Rattle.cf_steps.specs.declared.act.Act.{Act}
 use Rattle.cf_steps.specs.declared.act.Act.TheVariants.{Clean, Mix, Last, Search, Drop}
 use Rattle.cf_steps.specs.Blocks.{BlockTree}
@@ -76,21 +73,6 @@ unfoldable pub case_of : Reader (List Act)
 case_of = must (is (Sign (codes "{"))) >>= λ p. all_acts
 
 -- ---- blocks
--- a target behind its header, up to a rest
-unfoldable pub main_of : ℕ → Reader TargetTree
-main_of limit = do
-  _ ← must (is (Word (codes "main")))
-  _ ← must (is (Sign (codes "(")))
-  params ← bases_of
-  _ ← must (is (Sign (codes ":")))
-  results ← results_of
-  _ ← must (is (Sign (codes "=")))
-  code ← read limit
-  pure (record { params = params; results = results; code = code })
-
-unfoldable pub part_of : ℕ → Reader TargetTree
-part_of limit = first (is (Word (codes "comfusy"))) (λ p. must a_two >>= λ q. main_of limit) (main_of limit)
-
 -- "choose" literal "{" { "case" case } "}" target
 unfoldable pub block_of : ℕ → Reader BlockTree
 block_of limit = do

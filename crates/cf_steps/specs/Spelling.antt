@@ -1,12 +1,10 @@
 -- Which tokens spell the blocks of a steps file.
-use Rattle.std.specs.Prelude.{◌≡◌, ◌≤◌, ◌<◌, ◌^◌, ◌⊎◌, ℕ, ℤ, pos, neg_ℤ, Bool, true, false, List, [], ◌∷◌, codes}
+use Rattle.std.specs.Prelude.{◌≡◌, ◌<◌, ◌^◌, ◌⊎◌, ℕ, ℤ, pos, neg_ℤ, Bool, true, false, List, [], ◌∷◌, codes}
 use Rattle.cf_lex.specs.declared.token.Token.{Token}
 use Rattle.cf_lex.specs.declared.token.TokenKind.{TokenKind}
 use Rattle.cf_lex.specs.declared.token.TokenKind.TheVariants.{Literal, Word, Sign}
-use Rattle.cf_tree.specs.CodeTree.{code_depth}
-use Rattle.cf_tree.specs.DefView.{TargetTree}
 use Rattle.cf_reader.specs.Tokens.{Form, ◌⨟◌, If, Next, NextLiteral, Others}
-use Rattle.cf_target.specs.Spelling.{SpellsHeader, SpellsMain}
+use Rattle.cf_target.specs.Spelling.{SpellsPart}
 use Rattle.cf_steps.specs.declared.act.Act.{Act}
 use Rattle.cf_steps.specs.declared.act.Act.TheVariants.{Clean, Mix, Last, Search, Drop}
 use Rattle.cf_steps.specs.Blocks.{BlockTree}
@@ -43,10 +41,6 @@ SpellsCase acts = Next (Sign (codes "{")) ⨟ SpellsActs acts
 -- { "case" case } "}"
 abbrev pub SpellsCases : List (List Act) → Form
 SpellsCases cases = Others SpellsCase (Word (codes "case")) (Sign (codes "}")) cases
-
--- a target whose code has at most this depth, up to a rest
-abbrev pub SpellsPart : ℕ → TargetTree → Form
-SpellsPart limit t = If (code_depth t.code ≤ limit) (SpellsHeader ⨟ SpellsMain t)
 
 -- "choose" literal "{" { case } "}" target
 abbrev pub SpellsBlock : ℕ → BlockTree → Form

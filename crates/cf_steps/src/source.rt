@@ -2,13 +2,12 @@
 ghost use Rattle.std.specs.Prelude.{◌≡◌, ◌≤◌, ◌-◌, ◌^◌, [], List, codes, length, map, flat_map, Ok, IfOk, IfErr};
 ghost use Rattle.cf_lex.specs.Tokens.{AreWithin};
 ghost use Rattle.cf_lex.specs.declared.token.TokenKind.TheVariants.{Word, Sign};
-ghost use Rattle.cf_tree.specs.DefView.{target_tree};
 ghost use Rattle.cf_reader.specs.Answers.{ReadAnswer};
 ghost use Rattle.cf_reader.specs.Faults.{IsFault, IsFaultOf};
 ghost use Rattle.cf_reader.specs.Readers.{others_of, snoc};
 ghost use Rattle.cf_steps.specs.Answers.{SomeBlocks, BlocksAnswer};
 ghost use Rattle.cf_steps.specs.Blocks.{BlockTree, block_acts, block_tree, block_trees};
-ghost use Rattle.cf_steps.specs.Reading.{case_of, main_of, part_of, block_of, all_blocks};
+ghost use Rattle.cf_steps.specs.Reading.{case_of, block_of, all_blocks};
 ghost use Rattle.cf_steps.specs.Spelled.{HaveSpelling};
 ghost use Rattle.cf_steps.specs.Spelling.{AreBlocks};
 
@@ -18,13 +17,10 @@ use crate::number::expect_column;
 use crate::step::case;
 use cf_lex::{Token, TokenList};
 use cf_reader::fault::ParseFault;
-use cf_reader::lists::results;
 use cf_reader::places::place_at;
 use cf_reader::stop::Stop;
 use cf_reader::tokens::{after_word, expect_sign, expect_word};
-use cf_target::code::code;
-use cf_target::{DEPTH_LIMIT, bases, expect_two};
-use cf_tree::target::RawTarget;
+use cf_target::{DEPTH_LIMIT, target_part};
 use std::alloc::Global;
 
 // The cases with one more.
@@ -61,44 +57,6 @@ fn cases(alloc: Global, tokens: &[Token]) -> Result<(Vec<Vec<Act>>, &[Token]), S
     Err(Stop::TokensLeft(0))
 }
 
-// A target behind its header, with a code of depth at most `limit`.
-#[tactic(auto, unfolding(cf_reader::specs::Readers::bind, cf_reader::specs::Readers::pure, crate::specs::Reading::main_of))]
-fn headless_target(
-    alloc: Global,
-    limit: u32,
-    tokens: &[Token],
-) -> Result<(RawTarget, &[Token]), Stop>
-    ensures { ReadAnswer (λ x. (target_tree x.0, x.1.now)) result (main_of limit tokens.now) }
-{
-    let (_, rest) = expect_word("main", tokens)?;
-    let (_, rest) = expect_sign("(", rest)?;
-    let (params, rest) = bases(alloc, rest)?;
-    let (_, rest) = expect_sign(":", rest)?;
-    let (results, rest) = results(alloc, rest)?;
-    let (_, rest) = expect_sign("=", rest)?;
-    let (code, rest) = code(alloc, limit, rest)?;
-    let target = RawTarget {
-        params,
-        results,
-        code,
-    };
-    Ok((target, rest))
-}
-
-// A target with a code of depth at most `limit`.
-#[tactic(auto, unfolding(cf_reader::specs::Readers::first, cf_reader::specs::Readers::bind, crate::specs::Reading::part_of))]
-fn target(alloc: Global, limit: u32, tokens: &[Token]) -> Result<(RawTarget, &[Token]), Stop>
-    ensures { ReadAnswer (λ x. (target_tree x.0, x.1.now)) result (part_of limit tokens.now) }
-{
-    match after_word("comfusy", tokens) {
-        Some((_, rest)) => {
-            let (_, rest) = expect_two(rest)?;
-            headless_target(alloc, limit, rest)
-        }
-        None => headless_target(alloc, limit, tokens),
-    }
-}
-
 // A block whose target has a code of depth at most `limit`.
 #[tactic(auto, unfolding(cf_reader::specs::Readers::bind, cf_reader::specs::Readers::pure, crate::specs::Reading::block_of))]
 fn block(alloc: Global, limit: u32, tokens: &[Token]) -> Result<(Block, &[Token]), Stop>
@@ -108,7 +66,7 @@ fn block(alloc: Global, limit: u32, tokens: &[Token]) -> Result<(Block, &[Token]
     let (number, rest) = expect_column(rest)?;
     let (_, rest) = expect_sign("{", rest)?;
     let (cases, rest) = cases(alloc, rest)?;
-    let (target, rest) = target(alloc, limit, rest)?;
+    let (target, rest) = target_part(alloc, limit, rest)?;
     let block = Block {
         number,
         cases,

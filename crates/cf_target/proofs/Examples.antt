@@ -1,5 +1,5 @@
 -- Worked examples of target texts: each production, and what is refused beside it.
-use Rattle.std.proofs.Common.{◌≡◌, ℕ, Bool, true, false, List, [], ◌∷◌, map, Ok, Err, refl, codes}
+use Rattle.std.proofs.Common.{◌≡◌, ℕ, true, false, List, [], ◌∷◌, map, Ok, Err, refl, codes}
 use Rattle.std.specs.Prelude.{pos, negsuc}
 use Rattle.cf_lex.specs.declared.token.Token.{Token}
 use Rattle.cf_tree.specs.declared.base.Base.TheVariants.{Int, Bool as Truth, Set}
@@ -12,7 +12,7 @@ use Rattle.cf_reader.proofs.Sample.{word, sign, literal}
 use Rattle.cf_target.specs.Levels.{last_level, with_digit}
 use Rattle.cf_target.specs.Reading.{variables_of, all_variables, vars_of, bounds_of, list_of, elements_of, one_of, divided_of, listed_of, slice_of, fresh_of, if_of, let_of, operated_of, divides_by, behind_of, inside_of, item_of, steps_of, all_steps, gives_of, arm_from, all_arms, solve_of, forms_of, unless_zero, word_of, negative_of, step, read}
 use Rattle.cf_target.specs.Spelling.{TargetTree, IsTarget}
-use Rattle.cf_target.specs.Targets.{bases_of, body_of, target_of}
+use Rattle.cf_target.specs.Targets.{bases_of, main_of, part_of, target_of}
 use Rattle.cf_target.proofs.Targets.{found_law}
 
 -- codes and their tokens
@@ -183,15 +183,15 @@ last_of_two = record { params = Int ∷ Set ∷ []; results = Truth ∷ Int ∷ 
 with-header : IsTarget last_of_two (word (codes "comfusy") ∷ literal 2 ∷ word (codes "main") ∷ sign (codes "(") ∷ word (codes "int") ∷ sign (codes ",") ∷ word
     (codes "set") ∷ sign (codes ")") ∷ sign (codes ":") ∷ sign (codes "(") ∷ word (codes "bool") ∷ sign (codes ",") ∷ word (codes "int") ∷ sign (codes ")") ∷
     sign (codes "=") ∷ sign (codes "(") ∷ word (codes "true") ∷ sign (codes ",") ∷ word (codes "v0") ∷ sign (codes ")") ∷ [])
-unfolding bases_of body_of target_of at pure refuse must bind first deep at_end more_of others_of several_of one_or_tuple op_of results_of last_level with_digit variables_of all_variables vars_of bounds_of list_of elements_of one_of divided_of listed_of slice_of fresh_of if_of let_of operated_of divides_by behind_of inside_of item_of steps_of all_steps gives_of arm_from all_arms solve_of forms_of unless_zero word_of negative_of step read
+unfolding bases_of main_of part_of target_of at pure refuse must bind first deep at_end more_of others_of several_of one_or_tuple op_of results_of last_level with_digit variables_of all_variables vars_of bounds_of list_of elements_of one_of divided_of listed_of slice_of fresh_of if_of let_of operated_of divides_by behind_of inside_of item_of steps_of all_steps gives_of arm_from all_arms solve_of forms_of unless_zero word_of negative_of step read
 with-header = found_law _ last_of_two [] refl
 
 without-header : IsTarget (record { params = []; results = Int ∷ []; code = code_lit (pos 1) })
     (word (codes "main") ∷ sign (codes "(") ∷ sign (codes ")") ∷ sign (codes ":") ∷ word (codes "int") ∷ sign (codes "=") ∷ literal 1 ∷ [])
-unfolding bases_of body_of target_of at pure refuse must bind first deep at_end more_of others_of several_of one_or_tuple op_of results_of last_level with_digit variables_of all_variables vars_of bounds_of list_of elements_of one_of divided_of listed_of slice_of fresh_of if_of let_of operated_of divides_by behind_of inside_of item_of steps_of all_steps gives_of arm_from all_arms solve_of forms_of unless_zero word_of negative_of step read
+unfolding bases_of main_of part_of target_of at pure refuse must bind first deep at_end more_of others_of several_of one_or_tuple op_of results_of last_level with_digit variables_of all_variables vars_of bounds_of list_of elements_of one_of divided_of listed_of slice_of fresh_of if_of let_of operated_of divides_by behind_of inside_of item_of steps_of all_steps gives_of arm_from all_arms solve_of forms_of unless_zero word_of negative_of step read
 without-header = found_law _ _ [] refl
 
 other-header : target_of 500 (word (codes "comfusy") ∷ literal 3 ∷ word (codes "main") ∷ sign (codes "(") ∷ sign (codes ")") ∷ sign (codes ":") ∷ word
     (codes "int") ∷ sign (codes "=") ∷ literal 1 ∷ []) ≡ Err 8
-unfolding bases_of body_of target_of at pure refuse must bind first deep at_end more_of others_of several_of one_or_tuple op_of results_of last_level with_digit variables_of all_variables vars_of bounds_of list_of elements_of one_of divided_of listed_of slice_of fresh_of if_of let_of operated_of divides_by behind_of inside_of item_of steps_of all_steps gives_of arm_from all_arms solve_of forms_of unless_zero word_of negative_of step read
+unfolding bases_of main_of part_of target_of at pure refuse must bind first deep at_end more_of others_of several_of one_or_tuple op_of results_of last_level with_digit variables_of all_variables vars_of bounds_of list_of elements_of one_of divided_of listed_of slice_of fresh_of if_of let_of operated_of divides_by behind_of inside_of item_of steps_of all_steps gives_of arm_from all_arms solve_of forms_of unless_zero word_of negative_of step read
 other-header = refl

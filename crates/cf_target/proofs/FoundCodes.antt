@@ -1,19 +1,19 @@
 -- What is read is spelled by the tokens that it took.
-use Rattle.std.proofs.Common.{◌≡◌, inl, inr, ℕ, zero, suc, ◌+◌, ◌-◌, ◌≤◌, ◌<◌, ◌||◌, Bool, true, false, List, [], ◌∷◌, ◌++◌, length, Option, Some, None, Ok, Err, nat_le, max, refl, sym, ap, subst, ◌∙◌, append_assoc, append-nil, arith}
+use Rattle.std.proofs.Common.{◌≡◌, inl, inr, ℕ, zero, suc, ◌+◌, ◌-◌, ◌≤◌, ◌||◌, Bool, true, false, List, [], ◌∷◌, ◌++◌, length, Option, Some, None, nat_le, refl, sym, subst, ◌∙◌, append_assoc, append-nil, arith}
 use Rattle.std.specs.Prelude.{ℤ, pos, negsuc, neg_ℤ, ◌≤ℤ◌, nat_eq, codes}
 use Rattle.std.proofs.lemmas.Bool.{eqb-true, leb-true}
 use Rattle.cf_lex.specs.declared.token.Token.{Token}
 use Rattle.cf_lex.specs.declared.token.TokenKind.{TokenKind}
-use Rattle.cf_lex.specs.declared.token.TokenKind.TheVariants.{Literal, Word, Sign}
+use Rattle.cf_lex.specs.declared.token.TokenKind.TheVariants.{Word, Sign}
 use Rattle.cf_tree.specs.declared.base.Place.{Place}
 use Rattle.cf_tree.specs.declared.raw.BinOp.{BinOp}
 use Rattle.cf_tree.specs.declared.raw.BinOp.TheVariants as ops
-use Rattle.cf_tree.specs.CodeTree.{CodeTree, code_lit, code_truth, code_var, code_set_of, code_tuple, code_sum, code_sub, code_mul, code_neg, code_div, code_mod, code_min, code_max, code_compare, code_divides, code_and, code_or, code_not, code_union, code_inter, code_diff, code_subset, code_card, code_slice, code_fresh, code_if, code_let, code_solve, ItemTree, ArmTree, arm_of, codes_of, items_of, arms_of, count, code_depth, codes_depth, item_depth, items_depth, arm_depth, arms_depth}
+use Rattle.cf_tree.specs.CodeTree.{CodeTree, code_lit, code_truth, code_var, code_set_of, code_tuple, code_sum, code_sub, code_mul, code_neg, code_div, code_mod, code_min, code_max, code_compare, code_divides, code_and, code_or, code_not, code_union, code_inter, code_diff, code_subset, code_card, code_slice, code_fresh, code_if, code_let, code_solve, ItemTree, ArmTree, codes_of, items_of, arms_of, count, code_depth, codes_depth, item_depth, items_depth, arm_depth, arms_depth}
 use Rattle.cf_tree.specs.Spelled.{IsNoTuple}
-use Rattle.cf_reader.specs.Tokens.{First, Next, FirstLiteral, Others, Several}
-use Rattle.cf_reader.specs.Readers.{Got, Reader, Test, before, is, a_literal, at, pure, refuse, must, bind, first, others_of, several_of, snoc}
+use Rattle.cf_reader.specs.Tokens.{Next, FirstLiteral, Others, Several}
+use Rattle.cf_reader.specs.Readers.{Got, Reader, Test, before, is, at, pure, refuse, must, bind, first, several_of, snoc}
 use Rattle.cf_reader.specs.Operations.{op_kind}
-use Rattle.cf_reader.proofs.Yields.{Yields, yields, faults, Took, pure_yields, refuse_yields, widen, bind_yields, must_yields, first_yields, deep_yields, added, added_snoc, all_added, took_next, took_literal, others_yields, several_yields}
+use Rattle.cf_reader.proofs.Yields.{Yields, faults, Took, pure_yields, refuse_yields, widen, bind_yields, must_yields, first_yields, deep_yields, added_snoc, all_added, took_next, took_literal, others_yields, several_yields}
 use Rattle.cf_reader.proofs.Exact.{at_is}
 use Rattle.cf_reader.proofs.KindLaws.{took_truth}
 use Rattle.cf_target.specs.declared.form.Unary.{Unary}

@@ -1,6 +1,5 @@
 -- The readers of the grammar are local.
 use Rattle.std.proofs.Common.{ℕ, suc, zero, Bool, List, [], length}
-use Rattle.std.specs.Prelude.{codes}
 use Rattle.cf_lex.specs.declared.token.Token.{Token}
 use Rattle.cf_lex.specs.declared.token.TokenKind.{TokenKind}
 use Rattle.cf_tree.specs.CodeTree.{CodeTree, ItemTree}

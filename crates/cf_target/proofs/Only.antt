@@ -8,7 +8,7 @@ use Rattle.cf_tree.specs.declared.base.Base.TheVariants.{Int, Bool as Truth, Set
 use Rattle.cf_tree.specs.declared.base.Place.{Place}
 use Rattle.cf_tree.specs.CodeTree.{code_depth}
 use Rattle.cf_reader.specs.Tokens.{Next}
-use Rattle.cf_reader.specs.Readers.{Got, is, at, must, at_end, refuse, snoc}
+use Rattle.cf_reader.specs.Readers.{Got, is, at, must, at_end, snoc}
 use Rattle.cf_reader.specs.Kinds.{SpellsBase, base_kind, a_base}
 use Rattle.cf_reader.specs.Faults.{IsFaultPlace, IsFaultPlaceOf, place_with_left}
 use Rattle.cf_reader.proofs.Near.{Local, pure_local, refuse_local, bind_local, first_local, must_local, several_local, at_end_local}
@@ -16,9 +16,9 @@ use Rattle.cf_reader.proofs.Yields.{all_added}
 use Rattle.cf_reader.proofs.Exact.{bind_is, pure_is, must_is, first_is, first_not, at_is, at_not, next_is, several_are}
 use Rattle.cf_reader.proofs.KindLaws.{base_items, results_are, results_local}
 use Rattle.cf_reader.proofs.Faults.{same_value, ReadsAll, fault_law as read_fault, exact_law as read_exact}
-use Rattle.cf_target.specs.Spelling.{TargetTree, SpellsBases, SpellsMain, SpellsTarget, IsTarget}
+use Rattle.cf_target.specs.Spelling.{TargetTree, SpellsBases, SpellsMain, SpellsPart, SpellsTarget, IsTarget}
 use Rattle.cf_target.specs.Reading.{read}
-use Rattle.cf_target.specs.Targets.{SomeTarget, bases_of, a_two, body_of, target_of}
+use Rattle.cf_target.specs.Targets.{SomeTarget, bases_of, a_two, main_of, part_of, target_of}
 use Rattle.cf_target.proofs.LocalReading.{read_local}
 use Rattle.cf_target.proofs.OnlyArms.{read_reads}
 
@@ -27,7 +27,7 @@ base_unclosed Int ts us w = at_not _ (base_kind Int) ts us w.0 refl w.1
 base_unclosed Truth ts us w = at_not _ (base_kind Truth) ts us w.0 refl w.1
 base_unclosed Set ts us w = at_not _ (base_kind Set) ts us w.0 refl w.1
 
-pub bases_are : (bs : List Base) (ts us : List Token) → SpellsBases bs ts us → bases_of ts ≡ Ok (bs, us)
+bases_are : (bs : List Base) (ts us : List Token) → SpellsBases bs ts us → bases_of ts ≡ Ok (bs, us)
 unfolding bases_of
 bases_are [] ts us w = first_is _ _ _ ts (at_is _ ts us w.0 refl w.1) (pure_is _ _ us refl)
 bases_are (b ∷ bs) ts us (a, i, o) =
@@ -35,23 +35,28 @@ bases_are (b ∷ bs) ts us (a, i, o) =
     (several_are snoc (must a_base) SpellsBase (Sign (codes ",")) (Sign (codes ")")) base_items (b ∷ bs) [] ts us (a, i, o) ∙
     ap (λ (z : List Base). Ok (z, us)) (all_added (b ∷ bs)))
 
-pub two_is : (ts us : List Token) (w : Next (Literal (pos 2)) ts us) → at a_two ts ≡ Some (w.0, us)
+two_is : (ts us : List Token) (w : Next (Literal (pos 2)) ts us) → at a_two ts ≡ Some (w.0, us)
 unfolding at
 two_is ts us w = ap (at a_two) w.1
 
-body_is : (limit : ℕ) (t : TargetTree) (ts : List Token) → SpellsMain t ts [] → code_depth t.code ≤ limit → body_of limit ts ≡ Ok (t, [])
-unfolding body_of at_end
-body_is limit t ts (b, m, (c, o, (d, bs, (e, s, (f, rs, (g, q, w)))))) l =
-    bind_is _ _ ts (next_is _ ts b refl m) (bind_is _ _ b (next_is _ b c refl o)
-    (bind_is _ _ c (bases_are t.params c d bs) (bind_is _ _ d (next_is _ d e refl s)
-    (bind_is _ _ e (results_are t.results e f rs) (bind_is _ _ f (next_is _ f g refl q) (bind_is _ _ g (read_reads limit t.code g [] l w) refl))))))
+main_is : (limit : ℕ) (t : TargetTree) (ts us : List Token) → SpellsMain t ts us → code_depth t.code ≤ limit → main_of limit ts ≡ Ok (t, us)
+unfolding main_of
+main_is limit t ts us (b, m, (c, o, (d, bs, (e, s, (f, rs, (g, q, w)))))) l =
+    bind_is _ _ ts (next_is _ ts b refl m) (bind_is _ _ b (next_is _ b c refl o) (bind_is _ _ c (bases_are t.params c d bs) (bind_is _ _ d
+    (next_is _ d e refl s)
+    (bind_is _ _ e (results_are t.results e f rs) (bind_is _ _ f (next_is _ f g refl q) (bind_is _ _ g (read_reads limit t.code g us l w)
+    (pure_is _ _ us refl)))))))
+
+pub part_is : (limit : ℕ) (t : TargetTree) (ts us : List Token) → SpellsPart limit t ts us → part_of limit ts ≡ Ok (t, us)
+unfolding part_of
+part_is limit t ts us (l, (a, inl h, w)) =
+    first_not _ _ _ ts (at_not _ (Word (codes "main")) ts w.0 w.1.0 refl (h ∙ w.1.1)) (ap (main_of limit) h ∙ main_is limit t a us w l)
+part_is limit t ts us (l, (a, inr (x, n, two), w)) =
+    first_is _ _ _ ts (at_is _ ts x n.0 refl n.1) (bind_is _ _ x (must_is a_two x a two.0 (two_is x a two)) (main_is limit t a us w l))
 
 target_is : (limit : ℕ) (t : TargetTree) (ts : List Token) → SpellsTarget limit t ts → target_of limit ts ≡ Ok (t, [])
-unfolding target_of
-target_is limit t ts ((a, inl h, w), l) =
-    first_not _ _ _ ts (at_not _ (Word (codes "main")) ts w.0 w.1.0 refl (h ∙ w.1.1)) (ap (body_of limit) h ∙ body_is limit t a w l)
-target_is limit t ts ((a, inr (x, n, two), w), l) =
-    first_is _ _ _ ts (at_is _ ts x n.0 refl n.1) (bind_is _ _ x (must_is a_two x a two.0 (two_is x a two)) (body_is limit t a w l))
+unfolding target_of at_end
+target_is limit t ts w = bind_is _ _ ts (part_is limit t ts [] (w.1, w.0)) refl
 
 pub only_law : (ts : List Token) (t : TargetTree) → IsTarget t ts → target_of 500 ts ≡ Ok (t, [])
 only_law ts t w = target_is 500 t ts w
@@ -70,20 +75,24 @@ none_from ts items n e f t w = not_both (target_of 500 ts) (t, []) n (ap (target
 
 -- the place of a fault
 
-pub bases_local : {more other : List Token} → Local more other bases_of bases_of
+bases_local : {more other : List Token} → Local more other bases_of bases_of
 unfolding bases_of
 bases_local = first_local _ (λ p. pure_local _) (several_local snoc _ _ [] (must_local _))
 
-body_local : {more other : List Token} (limit : ℕ) → Local more other (body_of limit) (body_of limit)
-unfolding body_of
-body_local {more} {other} limit =
-    bind_local (must_local _) (λ p. bind_local (must_local _)
-    (λ q. bind_local bases_local (λ params. bind_local (must_local _) (λ r. bind_local results_local (λ results. bind_local (must_local _) (λ s.
-    bind_local (read_local more other limit) (λ code. at_end_local _ refuse_local)))))))
+main_local : {more other : List Token} (limit : ℕ) → Local more other (main_of limit) (main_of limit)
+unfolding main_of
+main_local {more} {other} limit =
+    bind_local (must_local _) (λ p. bind_local (must_local _) (λ q. bind_local bases_local (λ params. bind_local (must_local _)
+    (λ r. bind_local results_local (λ results. bind_local (must_local _) (λ s.
+    bind_local (read_local more other limit) (λ code. pure_local _)))))))
+
+pub part_local : {more other : List Token} (limit : ℕ) → Local more other (part_of limit) (part_of limit)
+unfolding part_of
+part_local limit = first_local _ (λ p. bind_local (must_local _) (λ q. main_local limit)) (main_local limit)
 
 target_local : {more other : List Token} (limit : ℕ) → Local more other (target_of limit) (target_of limit)
 unfolding target_of
-target_local limit = first_local _ (λ p. bind_local (must_local _) (λ q. body_local limit)) (body_local limit)
+target_local limit = bind_local (part_local limit) (λ t. at_end_local t refuse_local)
 
 all_read : ReadsAll SomeTarget (target_of 500)
 all_read ts (t, w) = (t, [], only_law ts t w)

@@ -1,14 +1,14 @@
 -- What is spelled is read: arms, and the step of the budget.
-use Rattle.std.proofs.Common.{◌≡◌, ◌⊎◌, inl, inr, ℕ, zero, suc, ◌+◌, ◌-◌, ◌≤◌, ◌<◌, Bool, true, false, List, [], ◌∷◌, ◌++◌, length, Option, Some, None, Ok, Err, max, refl, sym, ap, subst, ◌∙◌, append_assoc, cond, arith}
-use Rattle.std.specs.Prelude.{ℤ, pos, neg_ℤ, codes}
+use Rattle.std.proofs.Common.{◌≡◌, ◌⊎◌, inl, inr, ℕ, zero, suc, ◌+◌, ◌-◌, ◌≤◌, Bool, true, false, List, [], ◌∷◌, length, None, Ok, max, refl, sym, ap, subst, ◌∙◌, arith}
+use Rattle.std.specs.Prelude.{ℤ, pos, codes}
 use Rattle.cf_lex.specs.declared.token.Token.{Token}
 use Rattle.cf_lex.specs.declared.token.TokenKind.{TokenKind}
 use Rattle.cf_lex.specs.declared.token.TokenKind.TheVariants.{Literal, Word, Sign}
 use Rattle.cf_tree.specs.declared.base.Place.{Place}
 use Rattle.cf_tree.specs.CodeTree.{CodeTree, code_lit, code_truth, code_var, code_set_of, code_tuple, code_sum, code_sub, code_mul, code_neg, code_div, code_mod, code_min, code_max, code_compare, code_divides, code_and, code_or, code_not, code_union, code_inter, code_diff, code_subset, code_card, code_slice, code_fresh, code_if, code_let, code_solve, CodeTrees, no_codes, code_more, ItemTree, let_item, need_item, ItemTrees, no_items, item_more, ArmTree, arm_of, ArmTrees, no_arms, arm_more, codes_of, items_of, arms_of, count, code_depth, codes_depth, item_depth, items_depth, arm_depth, arms_depth}
 use Rattle.cf_tree.specs.Spelled.{IsNoTuple}
-use Rattle.cf_reader.specs.Tokens.{◌⨟◌, First, Next, FirstLiteral, Others}
-use Rattle.cf_reader.specs.Readers.{Got, Reader, same_kind, before, is, a_literal, at, pure, refuse, must, bind, first, others_of, snoc}
+use Rattle.cf_reader.specs.Tokens.{◌⨟◌, First, Next, Others}
+use Rattle.cf_reader.specs.Readers.{Got, Reader, is, at, refuse, snoc}
 use Rattle.cf_reader.specs.Kinds.{truth_kind, a_truth}
 use Rattle.cf_reader.proofs.Exact.{bind_is, pure_is, must_is, first_is, first_not, deep_is, at_is, at_not, next_is, literal_is, first_longer, Items, others_are, left_over}
 use Rattle.cf_reader.proofs.Near.{Within, refuse_local}
@@ -17,12 +17,10 @@ use Rattle.cf_reader.proofs.Yields.{added, all_added}
 use Rattle.cf_target.specs.declared.form.Unary.TheVariants.{Neg, Not, Card}
 use Rattle.cf_target.specs.declared.form.Division.TheVariants.{Div, Mod}
 use Rattle.cf_target.specs.declared.form.Extreme.TheVariants.{Min, Max}
-use Rattle.cf_target.specs.declared.form.Step.{Step}
-use Rattle.cf_target.specs.declared.form.Step.TheVariants.{Let, Need}
-use Rattle.cf_target.specs.Spelling.{level_name, SpellsVariable, SpellsNumber, SpellsNumeral, SpellsBounds, SpellsCode, SpellsCodes, SpellsOthers, SpellsArms, SpellsArm, SpellsItems, SpellsItem, SpellsGives}
-use Rattle.cf_target.specs.Reading.{a_step, step_tree, a_numeral, a_variable, elements_of, InsideTree, several, single, inside_of, whole, all_given, item_of, steps_of, all_steps, gives_of, arm_from, all_arms, solve_of, forms_of, word_of, negative_of, step, read}
+use Rattle.cf_target.specs.Spelling.{level_name, SpellsVariable, SpellsNumber, SpellsNumeral, SpellsBounds, SpellsCode, SpellsCodes, SpellsArms, SpellsItems, SpellsItem, SpellsGives}
+use Rattle.cf_target.specs.Reading.{a_step, a_variable, elements_of, InsideTree, several, single, inside_of, whole, item_of, steps_of, all_steps, gives_of, arm_from, all_arms, solve_of, word_of, negative_of, step, read}
 use Rattle.cf_target.proofs.LocalReading.{arm_local, read_local}
-use Rattle.cf_target.proofs.OnlyCodes.{variable_is, numeral_is, bounds_are, Begins, begins, depth_one, ReadsTo, listed, listed_again, elements_are, word_step, form_step, unary_is, division_is, extreme_is, slice_is, fresh_is, Heads, tuple_is, IsBracketed, Inside, bracketed}
+use Rattle.cf_target.proofs.OnlyCodes.{variable_is, numeral_is, bounds_are, depth_one, ReadsTo, listed, listed_again, elements_are, word_step, form_step, unary_is, division_is, extreme_is, slice_is, fresh_is, Heads, tuple_is, IsBracketed, bracketed}
 
 -- what an arm gives
 

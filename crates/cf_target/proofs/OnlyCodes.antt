@@ -1,43 +1,37 @@
 -- What is spelled is read.
-use Rattle.std.proofs.Common.{◌≡◌, ◌⊎◌, inl, inr, ℕ, zero, suc, ◌+◌, ◌-◌, ◌≤◌, ◌<◌, ◌^◌, ◌||◌, Bool, true, false, List, [], ◌∷◌, ◌++◌, length, Option, Some, None, Ok, Err, nat_le, max, refl, sym, ap, subst, ◌∙◌, cond, T, arith}
-use Rattle.std.specs.Prelude.{ℤ, pos, negsuc, neg_ℤ, ◌≤ℤ◌, int_le, nat_eq, ◌&&◌, codes}
+use Rattle.std.proofs.Common.{◌≡◌, inl, inr, ℕ, zero, suc, ◌+◌, ◌-◌, ◌≤◌, ◌<◌, ◌^◌, ◌||◌, Bool, true, false, List, [], ◌∷◌, ◌++◌, length, Option, Some, None, Ok, nat_le, max, refl, sym, ap, subst, ◌∙◌, cond, T, arith}
+use Rattle.std.specs.Prelude.{ℤ, pos, negsuc, ◌≤ℤ◌, nat_eq, ◌&&◌, codes}
 use Rattle.std.specs.Int.Signed.{le_z_yes}
 use Rattle.std.proofs.lemmas.Bool.{eq-eqb, le-leb}
 use Rattle.cf_lex.specs.declared.token.Token.{Token}
 use Rattle.cf_lex.specs.declared.token.TokenKind.{TokenKind}
 use Rattle.cf_lex.specs.declared.token.TokenKind.TheVariants.{Literal, Word, Sign}
 use Rattle.cf_tree.specs.declared.base.Place.{Place}
-use Rattle.cf_tree.specs.declared.base.Order.{Order}
 use Rattle.cf_tree.specs.declared.base.Order.TheVariants.{Eq, Ne, Lt, Le, Gt, Ge}
 use Rattle.cf_tree.specs.declared.raw.BinOp.{BinOp}
 use Rattle.cf_tree.specs.declared.raw.BinOp.TheVariants as ops
-use Rattle.cf_tree.specs.CodeTree.{CodeTree, code_lit, code_truth, code_var, code_set_of, code_tuple, code_sum, code_sub, code_mul, code_neg, code_div, code_mod, code_min, code_max, code_compare, code_divides, code_and, code_or, code_not, code_union, code_inter, code_diff, code_subset, code_card, code_slice, code_fresh, code_if, code_let, code_solve, CodeTrees, no_codes, code_more, ItemTree, let_item, need_item, ItemTrees, no_items, item_more, ArmTree, arm_of, ArmTrees, no_arms, arm_more, codes_of, items_of, arms_of, count, code_depth, codes_depth, item_depth, items_depth, arm_depth, arms_depth}
-use Rattle.cf_tree.specs.Spelled.{IsNumeral, IsNoTuple}
-use Rattle.cf_reader.specs.Tokens.{First, Next, FirstLiteral, Others, Several}
-use Rattle.cf_reader.specs.Readers.{Got, Reader, same_kind, before, is, a_literal, at, pure, refuse, must, bind, first, several_of, others_of, snoc}
-use Rattle.cf_reader.specs.Kinds.{truth_kind, order_kind, a_truth}
+use Rattle.cf_tree.specs.CodeTree.{CodeTree, code_lit, code_truth, code_var, code_set_of, code_tuple, code_sum, code_sub, code_mul, code_neg, code_div, code_mod, code_min, code_max, code_compare, code_divides, code_and, code_or, code_not, code_union, code_inter, code_diff, code_subset, code_card, code_slice, code_fresh, code_if, code_let, code_solve, CodeTrees, no_codes, code_more, codes_of, count, code_depth, codes_depth}
+use Rattle.cf_reader.specs.Tokens.{First, Next, Others}
+use Rattle.cf_reader.specs.Readers.{Got, Reader, same_kind, before, is, at, must, bind, first, several_of, snoc}
+use Rattle.cf_reader.specs.Kinds.{truth_kind, a_truth}
 use Rattle.cf_reader.specs.Operations.{op_kind, op_of}
-use Rattle.cf_reader.proofs.Exact.{bind_is, pure_is, must_is, first_is, first_not, deep_is, deep_not, at_is, at_not, next_is, le_yes, literal_is, first_longer, Items, others_are, several_are, must_within}
+use Rattle.cf_reader.proofs.Exact.{bind_is, pure_is, must_is, first_is, first_not, deep_is, deep_not, at_is, at_not, next_is, le_yes, literal_is, first_longer, Items, several_are, must_within}
 use Rattle.cf_reader.proofs.Near.{Within}
-use Rattle.cf_reader.proofs.KindLaws.{no_literal, sign_literal, truth_is, truth_sign, truth_literal, no_truth}
+use Rattle.cf_reader.proofs.KindLaws.{no_literal, no_truth}
 use Rattle.cf_reader.proofs.OperationLaws.{op_again}
-use Rattle.cf_reader.proofs.Yields.{added, added_snoc, all_added}
+use Rattle.cf_reader.proofs.Yields.{added_snoc, all_added}
 use Rattle.cf_target.specs.declared.form.Unary.{Unary}
-use Rattle.cf_target.specs.declared.form.Unary.TheVariants.{Neg, Not, Card}
 use Rattle.cf_target.specs.declared.form.Division.{Division}
-use Rattle.cf_target.specs.declared.form.Division.TheVariants.{Div, Mod}
 use Rattle.cf_target.specs.declared.form.Extreme.{Extreme}
-use Rattle.cf_target.specs.declared.form.Extreme.TheVariants.{Min, Max}
 use Rattle.cf_target.specs.declared.form.Many.{Many}
 use Rattle.cf_target.specs.declared.form.Many.TheVariants as manies
 use Rattle.cf_target.specs.declared.form.Two.{Two}
 use Rattle.cf_target.specs.declared.form.Two.TheVariants as twos
 use Rattle.cf_target.specs.declared.form.Operation.TheVariants as operations
 use Rattle.cf_target.specs.Levels.{last_level, level_of}
-use Rattle.cf_target.specs.Spelling.{level_name, SpellsVariable, SpellsMoreVariables, SpellsVariables, SpellsNumber, SpellsDivisor, SpellsNumeral, SpellsBounds, SpellsCode, SpellsCodes, SpellsOthers, SpellsArms, SpellsArm, SpellsItems, SpellsItem, SpellsGives}
-use Rattle.cf_target.specs.Reading.{a_unary, unary_tree, a_division, division_tree, an_extreme, extreme_tree, a_step, operation_of, many_kind, many_tree, two_tree, a_numeral, numeral_of, a_variable, if_before_last, an_early_variable, if_same, the_variable, comma_after, variables_of, all_variables, vars_of, bounds_of, list_of, elements_of, one_of, divided_of, listed_of, slice_of, fresh_of, if_of, let_of, operated_of, InsideTree, several, single, an_operation, divisor_of, divides_by, behind_of, inside_of, whole, all_given, steps_of, all_steps, gives_of, arm_from, all_arms, solve_of, forms_of, unless_zero, word_of, negative_of, step, read}
+use Rattle.cf_target.specs.Spelling.{level_name, SpellsVariable, SpellsMoreVariables, SpellsVariables, SpellsDivisor, SpellsNumeral, SpellsBounds, SpellsCode, SpellsCodes, SpellsOthers}
+use Rattle.cf_target.specs.Reading.{a_unary, unary_tree, a_division, division_tree, an_extreme, extreme_tree, operation_of, many_kind, many_tree, two_tree, a_numeral, a_variable, if_before_last, an_early_variable, if_same, the_variable, comma_after, variables_of, all_variables, vars_of, bounds_of, list_of, elements_of, one_of, divided_of, listed_of, slice_of, fresh_of, if_of, let_of, operated_of, InsideTree, several, single, an_operation, divisor_of, divides_by, behind_of, inside_of, forms_of, unless_zero, word_of, step, read}
 use Rattle.cf_target.proofs.LevelLaws.{name_reads}
-use Rattle.cf_target.proofs.LocalReading.{read_local}
 
 same_both : {A : Type 0} (b : Bool) (o : Option A) → cond b o o ≡ o
 same_both true o = refl

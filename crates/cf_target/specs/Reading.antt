@@ -1,7 +1,6 @@
 -- Reading codes from left to right.
 use Rattle.std.specs.Prelude.{ℕ, zero, suc, ◌+◌, ◌-◌, ℤ, pos, negsuc, neg_ℤ, int_le, nat_le, nat_eq, ◌&&◌, ◌||◌, Bool, List, [], ◌∷◌, length, map, Option, Some, None, Err, codes, if◌then◌else◌}
 use Rattle.std.specs.Str.{bytes_eq}
-use Rattle.cf_lex.specs.declared.token.Token.{Token}
 use Rattle.cf_lex.specs.declared.token.TokenKind.{TokenKind}
 use Rattle.cf_lex.specs.declared.token.TokenKind.TheVariants.{Literal, Word, Sign}
 use Rattle.cf_tree.specs.declared.base.Place.{Place}

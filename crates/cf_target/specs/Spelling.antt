@@ -3,7 +3,6 @@ use Rattle.std.specs.Prelude.{◌≡◌, ◌≤◌, ◌<◌, ◌^◌, ◌⊎◌,
 use Rattle.cf_lex.specs.declared.token.Token.{Token}
 use Rattle.cf_lex.specs.declared.token.TokenKind.{TokenKind}
 use Rattle.cf_lex.specs.declared.token.TokenKind.TheVariants.{Literal, Word, Sign}
-use Rattle.cf_tree.specs.declared.base.Place.{Place}
 use Rattle.cf_tree.specs.declared.base.Base.{Base}
 use Rattle.cf_tree.specs.CodeTree.{CodeTree, code_lit, code_truth, code_var, code_set_of, code_tuple, code_sum, code_sub, code_mul, code_neg, code_div, code_mod, code_min, code_max, code_compare, code_divides, code_and, code_or, code_not, code_union, code_inter, code_diff, code_subset, code_card, code_slice, code_fresh, code_if, code_let, code_solve, CodeTrees, no_codes, code_more, ItemTree, let_item, need_item, ItemTrees, no_items, item_more, ArmTree, arm_of, ArmTrees, no_arms, arm_more, count, code_depth}
 use Rattle.cf_tree.specs.Spelled.{IsNumeral, IsNoTuple}
@@ -152,6 +151,10 @@ SpellsMain t =
     Next (Word (codes "main")) ⨟ Next (Sign (codes "(")) ⨟ SpellsBases t.params ⨟ Next (Sign (codes ":")) ⨟ OneOrTuple SpellsBase t.results ⨟ Next
     (Sign (codes "="))
     ⨟ SpellsCode t.code
+
+-- a target whose code has at most this depth, up to a rest
+abbrev pub SpellsPart : ℕ → TargetTree → Form
+SpellsPart limit t = If (code_depth t.code ≤ limit) (SpellsHeader ⨟ SpellsMain t)
 
 -- target = [ "comfusy" "2" ] "main" "(" [ base { "," base } ] ")" ":" results "=" code, up to the end, with a code of at most this depth
 abbrev pub SpellsTarget : ℕ → TargetTree → List Token → Type 0

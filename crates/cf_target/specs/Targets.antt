@@ -1,5 +1,5 @@
 -- Reading targets, and what the reader of a target answers.
-use Rattle.std.specs.Prelude.{◌≡◌, ℕ, pos, int_le, List, [], Option, Some, None, Result, Ok, Err, codes, if◌then◌else◌}
+use Rattle.std.specs.Prelude.{◌≡◌, ℕ, pos, int_le, List, [], Some, None, Result, Ok, Err, codes, if◌then◌else◌}
 use Rattle.cf_lex.specs.declared.token.Token.{Token}
 use Rattle.cf_lex.specs.declared.token.TokenKind.TheVariants.{Literal, Word, Sign}
 use Rattle.cf_tree.specs.declared.base.Base.{Base}
@@ -34,9 +34,9 @@ a_two t = elim t.kind [
   | Sign x ↦ None
 ]
 
--- behind the header, up to the end
-unfoldable pub body_of : ℕ → Reader TargetTree
-body_of limit = do
+-- a target behind its header, up to a rest
+unfoldable pub main_of : ℕ → Reader TargetTree
+main_of limit = do
   _ ← must (is (Word (codes "main")))
   _ ← must (is (Sign (codes "(")))
   params ← bases_of
@@ -44,8 +44,12 @@ body_of limit = do
   results ← results_of
   _ ← must (is (Sign (codes "=")))
   code ← read limit
-  at_end (record { params = params; results = results; code = code }) refuse
+  pure (record { params = params; results = results; code = code })
+
+-- a target with or without a header, up to a rest
+unfoldable pub part_of : ℕ → Reader TargetTree
+part_of limit = first (is (Word (codes "comfusy"))) (λ p. must a_two >>= λ q. main_of limit) (main_of limit)
 
 -- the whole of the tokens
 unfoldable pub target_of : ℕ → Reader TargetTree
-target_of limit = first (is (Word (codes "comfusy"))) (λ p. must a_two >>= λ q. body_of limit) (body_of limit)
+target_of limit = part_of limit >>= λ t. at_end t refuse

@@ -1,7 +1,7 @@
-//! Reads the target that a list of tokens spells, and parts of a target that stand in other texts.
+//! Reads the target that a list of tokens spells, and targets that stand in other texts.
 #![tactic(auto)]
 
-pub mod code;
+mod code;
 mod form;
 mod inside;
 mod level;
@@ -10,4 +10,4 @@ mod number;
 mod part;
 mod source;
 
-pub use source::{DEPTH_LIMIT, bases, expect_two, target};
+pub use source::{DEPTH_LIMIT, target, target_part};

@@ -2,11 +2,11 @@
 ghost use Rattle.std.specs.Prelude.{◌≡◌, ◌-◌, ◌^◌, IfOk, IfErr};
 ghost use Rattle.cf_lex.specs.Tokens.{AreWithin};
 ghost use Rattle.cf_tree.specs.Spelled.{HasSpelling};
-ghost use Rattle.cf_reader.specs.Answers.{ReadAnswer, FirstAnswer};
-ghost use Rattle.cf_reader.specs.Readers.{at, must, at_end, refuse};
+ghost use Rattle.cf_reader.specs.Answers.{ReadAnswer};
+ghost use Rattle.cf_reader.specs.Readers.{must, at_end, refuse};
 ghost use Rattle.cf_reader.specs.Faults.{IsFault, IsFaultOf};
 ghost use Rattle.cf_target.specs.Spelling.{TargetTree, target_tree, IsTarget};
-ghost use Rattle.cf_target.specs.Targets.{SomeTarget, TargetAnswer, a_two, bases_of, body_of, target_of};
+ghost use Rattle.cf_target.specs.Targets.{SomeTarget, TargetAnswer, a_two, bases_of, main_of, part_of, target_of};
 
 use crate::code::code;
 use crate::node::without;
@@ -24,12 +24,9 @@ use std::alloc::Global;
 /// The greatest depth of a target's code.
 pub const DEPTH_LIMIT: u32 = 500;
 
-/// The bases up to the closing parenthesis, in order, and the tokens after it.
-///
-/// # Errors
-/// `TokensLeft` where the tokens begin with no such bases, and `NoMemory`.
+// The bases up to the closing parenthesis, in order, and the tokens after it.
 #[tactic(auto, unfolding(cf_reader::specs::Readers::first, cf_reader::specs::Readers::bind, cf_reader::specs::Readers::pure, cf_reader::specs::Readers::several_of, crate::specs::Targets::bases_of))]
-pub fn bases(alloc: Global, tokens: &[Token]) -> Result<(Vec<Base>, &[Token]), Stop>
+fn bases(alloc: Global, tokens: &[Token]) -> Result<(Vec<Base>, &[Token]), Stop>
     ensures { ReadAnswer (λ x. (x.0.items, x.1.now)) result (bases_of tokens.now) }
 {
     let mut all = Vec::new(alloc);
@@ -43,12 +40,9 @@ pub fn bases(alloc: Global, tokens: &[Token]) -> Result<(Vec<Base>, &[Token]), S
     }
 }
 
-/// The place of the literal 2, which has to stand first, and the tokens after it.
-///
-/// # Errors
-/// `TokensLeft` where it does not.
+// The place of the literal 2, which has to stand first, and the tokens after it.
 #[tactic(auto, unfolding(cf_reader::specs::Readers::must, cf_reader::specs::Readers::at))]
-pub fn expect_two(tokens: &[Token]) -> Result<(Place, &[Token]), Stop>
+fn expect_two(tokens: &[Token]) -> Result<(Place, &[Token]), Stop>
     ensures { ReadAnswer (λ x. (x.0, x.1.now)) result (must a_two tokens.now) }
 {
     let Some((t, rest)) = tokens.split_first() else {
@@ -68,21 +62,10 @@ pub fn expect_two(tokens: &[Token]) -> Result<(Place, &[Token]), Stop>
     }
 }
 
-// The target, where no tokens are left.
-#[tactic(auto, unfolding(cf_reader::specs::Readers::refuse, cf_reader::specs::Readers::at_end))]
-fn ended(target: RawTarget, rest: &[Token]) -> Result<(RawTarget, &[Token]), Stop>
-    ensures { ReadAnswer (λ x. (target_tree x.0, x.1.now)) result (at_end (target_tree target) refuse rest.now) }
-{
-    match rest.split_first() {
-        None => Ok((target, rest)),
-        Some(_) => Err(without(target, Stop::TokensLeft(rest.len()))),
-    }
-}
-
-// A target behind its header, with a code of depth at most `limit`, up to the end.
-#[tactic(auto, unfolding(cf_reader::specs::Readers::bind, crate::specs::Targets::body_of))]
-fn body(alloc: Global, limit: u32, tokens: &[Token]) -> Result<(RawTarget, &[Token]), Stop>
-    ensures { ReadAnswer (λ x. (target_tree x.0, x.1.now)) result (body_of limit tokens.now) }
+// A target behind its header, with a code of depth at most `limit`, and the tokens after it.
+#[tactic(auto, unfolding(cf_reader::specs::Readers::bind, cf_reader::specs::Readers::pure, crate::specs::Targets::main_of))]
+fn headless_part(alloc: Global, limit: u32, tokens: &[Token]) -> Result<(RawTarget, &[Token]), Stop>
+    ensures { ReadAnswer (λ x. (target_tree x.0, x.1.now)) result (main_of limit tokens.now) }
 {
     let (_, rest) = expect_word("main", tokens)?;
     let (_, rest) = expect_sign("(", rest)?;
@@ -96,21 +79,49 @@ fn body(alloc: Global, limit: u32, tokens: &[Token]) -> Result<(RawTarget, &[Tok
         results,
         code,
     };
-    ended(target, rest)
+    Ok((target, rest))
 }
 
-// A target with a code of depth at most `limit`.
-#[tactic(auto, unfolding(cf_reader::specs::Readers::first, cf_reader::specs::Readers::bind, crate::specs::Targets::target_of))]
-fn whole(alloc: Global, limit: u32, tokens: &[Token]) -> Result<(RawTarget, &[Token]), Stop>
-    ensures { ReadAnswer (λ x. (target_tree x.0, x.1.now)) result (target_of limit tokens.now) }
+/// The target with which the tokens begin, whose code has a depth of at most `limit`, and the tokens
+/// after it.
+///
+/// # Errors
+/// `TokensLeft` where the tokens begin with no such target, and `NoMemory`.
+#[tactic(auto, unfolding(cf_reader::specs::Readers::first, cf_reader::specs::Readers::bind, crate::specs::Targets::part_of))]
+pub fn target_part(
+    alloc: Global,
+    limit: u32,
+    tokens: &[Token],
+) -> Result<(RawTarget, &[Token]), Stop>
+    ensures { ReadAnswer (λ x. (target_tree x.0, x.1.now)) result (part_of limit tokens.now) }
 {
     match after_word("comfusy", tokens) {
         Some((_, rest)) => {
             let (_, rest) = expect_two(rest)?;
-            body(alloc, limit, rest)
+            headless_part(alloc, limit, rest)
         }
-        None => body(alloc, limit, tokens),
+        None => headless_part(alloc, limit, tokens),
     }
+}
+
+// The target, where no tokens are left.
+#[tactic(auto, unfolding(cf_reader::specs::Readers::refuse, cf_reader::specs::Readers::at_end))]
+fn ended(target: RawTarget, rest: &[Token]) -> Result<(RawTarget, &[Token]), Stop>
+    ensures { ReadAnswer (λ x. (target_tree x.0, x.1.now)) result (at_end (target_tree target) refuse rest.now) }
+{
+    match rest.split_first() {
+        None => Ok((target, rest)),
+        Some(_) => Err(without(target, Stop::TokensLeft(rest.len()))),
+    }
+}
+
+// A target up to the end, with a code of depth at most `limit`.
+#[tactic(auto, unfolding(cf_reader::specs::Readers::bind, crate::specs::Targets::target_of))]
+fn whole(alloc: Global, limit: u32, tokens: &[Token]) -> Result<(RawTarget, &[Token]), Stop>
+    ensures { ReadAnswer (λ x. (target_tree x.0, x.1.now)) result (target_of limit tokens.now) }
+{
+    let (target, rest) = target_part(alloc, limit, tokens)?;
+    ended(target, rest)
 }
 
 /// The one target that the tokens spell.
