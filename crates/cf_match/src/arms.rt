@@ -6,7 +6,7 @@ ghost use Rattle.cf_num.specs.Limit.{IsWithin};
 ghost use Rattle.cf_tree.specs.declared.base.Base.TheVariants as bases;
 ghost use Rattle.cf_tree.specs.declared.base.Order.TheVariants.{Eq};
 ghost use Rattle.cf_tree.specs.declared.raw.BinOp.TheVariants.{Or};
-ghost use Rattle.cf_tree.specs.ExprTree.{expr_binary, expr_choose, expr_if, expr_let};
+ghost use Rattle.cf_tree.specs.ExprTree.{expr_lit, expr_tuple, expr_binary, expr_choose, expr_if, expr_let, no_exprs};
 ghost use Rattle.cf_tree.specs.ExprView.{expr_tree, match_arm_tree, match_arm_trees};
 ghost use Rattle.cf_tree.specs.RelTree.{rel_false, rel_compare, term_var};
 ghost use Rattle.cf_program.specs.Lowered.{any_test, any_fits, pattern_term, unless_last, fitting};
@@ -18,7 +18,7 @@ use crate::pattern::{last_level, numbers, pattern_relation};
 use cf_tree::base::{Base, Order};
 use cf_tree::copy::words::copy_params;
 use cf_tree::expr::{Expr, MatchArm};
-use cf_tree::memory::{NoMemory, without};
+use cf_tree::memory::NoMemory;
 use cf_tree::raw::{BinOp, Param};
 use cf_tree::rel::Rel;
 use std::alloc::Global;
@@ -37,7 +37,7 @@ pub(crate) fn match_form(
     let level = last_level(scope)?;
     let mut bodies = bodies;
     bodies.reverse();
-    let body = Box::new(alloc, picked(alloc, scope, level, arms, &mut bodies)?)?;
+    let body = picked(alloc, scope, level, arms, &mut bodies)?;
     let value = Box::new(alloc, fitting(alloc, number, scope, level, of, arms)?)?;
     Ok(Expr::Let {
         count: 1,
@@ -57,7 +57,7 @@ fn fitting(
 ) -> Result<Expr, NoMemory>
     ensures { IfOk result (λ e. expr_tree e ≡ fitting number level scope.now (expr_tree of.value) (match_arm_trees arms.now)) }
 {
-    let test = Box::new(alloc, any_fits(alloc, level, arms)?)?;
+    let test = any_fits(alloc, level, arms)?;
     let yes = Box::new(alloc, Expr::Var(level))?;
     let no = Box::new(alloc, unfit(alloc, number, scope)?)?;
     Ok(Expr::Let {
@@ -88,19 +88,25 @@ fn picked(
     level: u32,
     arms: &[MatchArm],
     bodies: &mut Vec<Expr>,
-) -> Result<Expr, NoMemory>
-    ensures { IfOk result (λ e. expr_tree e ≡ picked_of level scope.now (match_arm_trees arms.now) (map expr_tree (reverse bodies.old.items))) }
+) -> Result<Box<Expr>, NoMemory>
+    ensures { IfOk result (λ e. expr_tree e.value ≡ picked_of level scope.now (match_arm_trees arms.now) (map expr_tree (reverse bodies.old.items))) }
 {
     let Some((arm, rest)) = arms.split_first() else {
-        return Ok(Expr::Tuple(Vec::new(alloc)));
+        return nothing(alloc);
     };
     let Some(body) = bodies.pop() else {
-        return Ok(Expr::Tuple(Vec::new(alloc)));
+        return nothing(alloc);
     };
-    match picked(alloc, scope, level, rest, bodies) {
-        Ok(other) => first_picked(alloc, scope, level, arm, body, rest, other),
-        Err(fault) => Err(without(body, fault)),
-    }
+    let body = Box::new(alloc, body)?;
+    let other = picked(alloc, scope, level, rest, bodies)?;
+    first_picked(alloc, scope, level, arm, body, rest, other)
+}
+
+// No values.
+fn nothing(alloc: Global) -> Result<Box<Expr>, NoMemory>
+    ensures { IfOk result (λ e. expr_tree e.value ≡ expr_tuple no_exprs) }
+{
+    Ok(Box::new(alloc, Expr::Tuple(Vec::new(alloc)))?)
 }
 
 // An arm with this body where it fits, and else the rest.
@@ -109,17 +115,15 @@ fn first_picked(
     scope: &[Param],
     level: u32,
     arm: &MatchArm,
-    body: Expr,
+    body: Box<Expr>,
     arms: &[MatchArm],
-    other: Expr,
-) -> Result<Expr, NoMemory>
-    ensures { IfOk result (λ e. expr_tree e ≡ unless_last (fits_test level (match_arm_tree arm.now))
-        (with_arm level scope.now (match_arm_tree arm.now) (expr_tree body)) (match_arm_trees arms.now) (expr_tree other)) }
+    other: Box<Expr>,
+) -> Result<Box<Expr>, NoMemory>
+    ensures { IfOk result (λ e. expr_tree e.value ≡ unless_last (fits_test level (match_arm_tree arm.now))
+        (with_arm level scope.now (match_arm_tree arm.now) (expr_tree body.value)) (match_arm_trees arms.now) (expr_tree other.value)) }
 {
-    match with_variables(alloc, scope, level, arm, body) {
-        Ok(body) => unless_last(alloc, level, arm, body, arms, other),
-        Err(fault) => Err(without(other, fault)),
-    }
+    let body = with_variables(alloc, scope, level, arm, body)?;
+    unless_last(alloc, level, arm, body, arms, other)
 }
 
 // The body of an arm where it fits, and else the rest; the last arm needs no test.
@@ -127,31 +131,30 @@ fn unless_last(
     alloc: Global,
     level: u32,
     arm: &MatchArm,
-    body: Expr,
+    body: Box<Expr>,
     arms: &[MatchArm],
-    other: Expr,
-) -> Result<Expr, NoMemory>
-    ensures { IfOk result (λ e. expr_tree e ≡ unless_last (fits_test level (match_arm_tree arm.now)) (expr_tree body)
-        (match_arm_trees arms.now) (expr_tree other)) }
+    other: Box<Expr>,
+) -> Result<Box<Expr>, NoMemory>
+    ensures { IfOk result (λ e. expr_tree e.value ≡ unless_last (fits_test level (match_arm_tree arm.now)) (expr_tree body.value)
+        (match_arm_trees arms.now) (expr_tree other.value)) }
 {
     let Some((_next, _more)) = arms.split_first() else {
         return Ok(body);
     };
-    match test(alloc, level, arm) {
-        Ok(test) => branches(alloc, test, body, other),
-        Err(fault) => Err(without((body, other), fault)),
-    }
+    let test = test(alloc, level, arm)?;
+    branches(alloc, test, body, other)
 }
 
 // The one where the test holds, and else the other.
-fn branches(alloc: Global, test: Expr, yes: Expr, no: Expr) -> Result<Expr, NoMemory>
-    ensures { IfOk result (λ e. expr_tree e ≡ expr_if (expr_tree test) (expr_tree yes) (expr_tree no)) }
+fn branches(
+    alloc: Global,
+    test: Box<Expr>,
+    yes: Box<Expr>,
+    no: Box<Expr>,
+) -> Result<Box<Expr>, NoMemory>
+    ensures { IfOk result (λ e. expr_tree e.value ≡ expr_if (expr_tree test.value) (expr_tree yes.value) (expr_tree no.value)) }
 {
-    Ok(Expr::If {
-        test: Box::new(alloc, test)?,
-        yes: Box::new(alloc, yes)?,
-        no: Box::new(alloc, no)?,
-    })
+    Ok(Box::new(alloc, Expr::If { test, yes, no })?)
 }
 
 // The body of an arm, behind the choose of its variables.
@@ -160,63 +163,68 @@ fn with_variables(
     scope: &[Param],
     level: u32,
     arm: &MatchArm,
-    body: Expr,
-) -> Result<Expr, NoMemory>
-    ensures { IfOk result (λ e. expr_tree e ≡ with_arm level scope.now (match_arm_tree arm.now) (expr_tree body)) }
+    body: Box<Expr>,
+) -> Result<Box<Expr>, NoMemory>
+    ensures { IfOk result (λ e. expr_tree e.value ≡ with_arm level scope.now (match_arm_tree arm.now) (expr_tree body.value)) }
 {
     if arm.factors.is_empty() {
         return Ok(body);
     }
-    match chosen(alloc, scope, level, arm) {
-        Ok(value) => bound(alloc, &arm.factors, value, body),
-        Err(fault) => Err(without(body, fault)),
-    }
+    let value = chosen(alloc, scope, level, arm)?;
+    bound(alloc, &arm.factors, value, body)
 }
 
 // The body behind the variables of these factors, which have the parts of the value.
-fn bound(alloc: Global, factors: &[i128], value: Expr, body: Expr) -> Result<Expr, NoMemory>
-    ensures { IfOk result (λ e. expr_tree e ≡ expr_let (length factors.now) (expr_tree value) (expr_tree body)) }
+fn bound(
+    alloc: Global,
+    factors: &[i128],
+    value: Box<Expr>,
+    body: Box<Expr>,
+) -> Result<Box<Expr>, NoMemory>
+    ensures { IfOk result (λ e. expr_tree e.value ≡ expr_let (length factors.now) (expr_tree value.value) (expr_tree body.value)) }
 {
-    match u32::try_from(factors.len()) {
-        Ok(count) => Ok(Expr::Let {
-            count,
-            value: Box::new(alloc, value)?,
-            body: Box::new(alloc, body)?,
-        }),
-        Err(_) => Err(NoMemory),
-    }
+    let Ok(count) = u32::try_from(factors.len()) else {
+        return Err(NoMemory);
+    };
+    Ok(Box::new(alloc, Expr::Let { count, value, body })?)
 }
 
 // The choose of the variables of an arm.
-fn chosen(alloc: Global, scope: &[Param], level: u32, arm: &MatchArm) -> Result<Expr, NoMemory>
-    ensures { IfOk result (λ e. expr_tree e ≡ expr_choose arm.now.number scope.now (map (λ _. bases.Int) arm.now.factors.items)
+fn chosen(alloc: Global, scope: &[Param], level: u32, arm: &MatchArm) -> Result<Box<Expr>, NoMemory>
+    ensures { IfOk result (λ e. expr_tree e.value ≡ expr_choose arm.now.number scope.now (map (λ _. bases.Int) arm.now.factors.items)
         (rel_compare Eq (term_var level) (pattern_term (suc level) arm.now.factors.items arm.now.constant))) }
 {
     let scope = copy_params(alloc, scope)?;
     let outputs = numbers(alloc, &arm.factors)?;
     let rel = pattern_relation(alloc, level, &arm.factors, arm.constant)?;
-    Ok(Expr::Choose {
+    let choose = Expr::Choose {
         number: arm.number,
         scope,
         outputs,
         rel,
-    })
+    };
+    Ok(Box::new(alloc, choose)?)
 }
 
 // Whether any of the arms fits.
-fn any_fits(alloc: Global, level: u32, arms: &[MatchArm]) -> Result<Expr, NoMemory>
-    ensures { IfOk result (λ e. expr_tree e ≡ any_fits level (match_arm_trees arms.now)) }
+fn any_fits(alloc: Global, level: u32, arms: &[MatchArm]) -> Result<Box<Expr>, NoMemory>
+    ensures { IfOk result (λ e. expr_tree e.value ≡ any_fits level (match_arm_trees arms.now)) }
 {
     let Some((arm, rest)) = arms.split_first() else {
-        return Ok(Expr::Truth(false));
+        return Ok(Box::new(alloc, Expr::Truth(false))?);
     };
     let first = test(alloc, level, arm)?;
     any_test(alloc, level, first, rest)
 }
 
 // Whether any of the arms fits, with the tests before on the left.
-fn any_test(alloc: Global, level: u32, before: Expr, arms: &[MatchArm]) -> Result<Expr, NoMemory>
-    ensures { IfOk result (λ e. expr_tree e ≡ any_test level (expr_tree before) (match_arm_trees arms.now)) }
+fn any_test(
+    alloc: Global,
+    level: u32,
+    before: Box<Expr>,
+    arms: &[MatchArm],
+) -> Result<Box<Expr>, NoMemory>
+    ensures { IfOk result (λ e. expr_tree e.value ≡ any_test level (expr_tree before.value) (match_arm_trees arms.now)) }
 {
     let mut tests = before;
     let mut rest = arms;
@@ -228,44 +236,55 @@ fn any_test(alloc: Global, level: u32, before: Expr, arms: &[MatchArm]) -> Resul
 }
 
 // Whether the test before holds or the arm fits.
-fn or_test(alloc: Global, level: u32, before: Expr, arm: &MatchArm) -> Result<Expr, NoMemory>
-    ensures { IfOk result (λ e. expr_tree e ≡ expr_binary Or (expr_tree before) (fits_test level (match_arm_tree arm.now))) }
+fn or_test(
+    alloc: Global,
+    level: u32,
+    before: Box<Expr>,
+    arm: &MatchArm,
+) -> Result<Box<Expr>, NoMemory>
+    ensures { IfOk result (λ e. expr_tree e.value ≡ expr_binary Or (expr_tree before.value) (fits_test level (match_arm_tree arm.now))) }
 {
-    match test(alloc, level, arm) {
-        Ok(test) => binary(alloc, BinOp::Or, before, test),
-        Err(fault) => Err(without(before, fault)),
-    }
+    let test = test(alloc, level, arm)?;
+    binary(alloc, BinOp::Or, before, test)
 }
 
-fn binary(alloc: Global, op: BinOp, a: Expr, b: Expr) -> Result<Expr, NoMemory>
-    ensures { IfOk result (λ e. expr_tree e ≡ expr_binary op (expr_tree a) (expr_tree b)) }
+fn binary(
+    alloc: Global,
+    op: BinOp,
+    left: Box<Expr>,
+    right: Box<Expr>,
+) -> Result<Box<Expr>, NoMemory>
+    ensures { IfOk result (λ e. expr_tree e.value ≡ expr_binary op (expr_tree left.value) (expr_tree right.value)) }
 {
-    Ok(Expr::Binary {
-        op,
-        left: Box::new(alloc, a)?,
-        right: Box::new(alloc, b)?,
-    })
+    Ok(Box::new(alloc, Expr::Binary { op, left, right })?)
 }
 
 // The test whether an arm fits the number of that level.
-fn test(alloc: Global, level: u32, arm: &MatchArm) -> Result<Expr, NoMemory>
-    ensures { IfOk result (λ e. expr_tree e ≡ fits_test level (match_arm_tree arm.now)) }
+fn test(alloc: Global, level: u32, arm: &MatchArm) -> Result<Box<Expr>, NoMemory>
+    ensures { IfOk result (λ e. expr_tree e.value ≡ fits_test level (match_arm_tree arm.now)) }
 {
     class_test(alloc, level, arm_class(arm)?)
 }
 
 // The test whether the number of that level is in a class.
-fn class_test(alloc: Global, level: u32, class: Class) -> Result<Expr, NoMemory>
-    ensures { IfOk result (λ e. expr_tree e ≡ class_test level class) }
+fn class_test(alloc: Global, level: u32, class: Class) -> Result<Box<Expr>, NoMemory>
+    ensures { IfOk result (λ e. expr_tree e.value ≡ class_test level class) }
 {
     let equal = BinOp::Compare(Order::Eq);
+    let number = Box::new(alloc, Expr::Var(level))?;
     match class {
-        Class::Point(c) => binary(alloc, equal, Expr::Var(level), Expr::Lit(c)),
+        Class::Point(c) => binary(alloc, equal, number, literal(alloc, c)?),
         Class::Residue { g, r } => {
-            let of = Box::new(alloc, Expr::Var(level))?;
-            binary(alloc, equal, Expr::Mod { of, k: g }, Expr::Lit(r))
+            let rest = Box::new(alloc, Expr::Mod { of: number, k: g })?;
+            binary(alloc, equal, rest, literal(alloc, r)?)
         }
     }
+}
+
+fn literal(alloc: Global, k: i128) -> Result<Box<Expr>, NoMemory>
+    ensures { IfOk result (λ e. expr_tree e.value ≡ expr_lit k) }
+{
+    Ok(Box::new(alloc, Expr::Lit(k))?)
 }
 
 /// The class of an arm.

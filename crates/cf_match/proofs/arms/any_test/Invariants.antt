@@ -5,7 +5,7 @@ use Rattle.cf_match.proofs.arms.any_test.Given as goal
 
 abbrev pub invariant-loop-arm : goal.invariant-loop-arm
 invariant-loop-arm l =
-    any_test l.level (expr_tree l.tests) (match_arm_trees l.rest) ≡ any_test l.level (expr_tree l.fn.before) (match_arm_trees l.arms)
+    any_test l.level (expr_tree l.tests.value) (match_arm_trees l.rest) ≡ any_test l.level (expr_tree l.fn.before.value) (match_arm_trees l.arms)
 
 abbrev pub decreases-loop-arm : goal.decreases-loop-arm
 decreases-loop-arm l = length l.rest
