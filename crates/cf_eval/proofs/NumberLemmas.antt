@@ -94,8 +94,8 @@ number_by : (limit : ℕ) (b : ℕ) (text : List ℕ) (z : ℤ) (rest : List ℕ
     (w : List ℕ) × (b ∷ text ≡ w ++ rest) × IsNumber limit w z
 number_by limit b text z rest true is e =
     let d = negated_takes limit text z rest (digits_at limit text) refl e in
-    let t = d.1.1 in
-    (b ∷ t.w, ap (λ x. b ∷ x) t.whole, inl (eqb-true b 45 is, t.natural, d.1.0 ∙ ap neg_ℤ t.value))
+    let t = d.2 in
+    (b ∷ t.w, ap (λ x. b ∷ x) t.whole, inl (eqb-true b 45 is, t.natural, d.1 ∙ ap neg_ℤ t.value))
 number_by limit b text z rest false is e =
     let t = digits_takes limit (b ∷ text) z rest e in
     (t.w, t.whole, number_from limit t.w z t.natural t.value)
