@@ -10,6 +10,7 @@ use Rattle.cf_tree.specs.DefView.{target_tree}
 use Rattle.cf_tree.specs.Spelled.{HasSpelling}
 use Rattle.cf_reader.proofs.Keeps.{Small, Keeps, behind, both, given, one, skip, next_literal_keeps, others_keep}
 use Rattle.cf_target.proofs.Spelled.{header_keeps, main_keeps}
+use Rattle.cf_target.specs.Spelling.{SpellsPart}
 use Rattle.cf_steps.specs.declared.act.Act.{Act}
 use Rattle.cf_steps.specs.declared.act.Act.TheVariants.{Clean, Mix, Last, Search, Drop}
 use Rattle.cf_steps.specs.declared.block.Block.{Block}
