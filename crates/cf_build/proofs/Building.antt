@@ -1,5 +1,5 @@
 -- A target that was built keeps what it promises.
-use Rattle.std.proofs.Common.{◌≡◌, ℕ, zero, suc, ◌+◌, ◌≤◌, ◌<◌, Some, List, [], ◌∷◌, ◌++◌, length, map, reverse, slice_get, slice_index, get_or, nat_eq, All, Contains, refl, sym, ap, ◌∙◌, subst, arith}
+use Rattle.std.proofs.Common.{◌≡◌, ℕ, zero, suc, ◌≤◌, ◌<◌, Some, List, [], ◌∷◌, ◌++◌, length, map, reverse, slice_get, slice_index, get_or, nat_eq, All, Contains, refl, sym, ap, ◌∙◌, subst, arith}
 use Rattle.std.specs.List.{IsDistinct}
 use Rattle.std.specs.List.Sorted.{IsPermutation, IsNonDecreasing, IsNonDecreasingBy}
 use Rattle.std.proofs.lemmas.List.{reverse-append, map-append, length-map, get_or-map}
@@ -35,7 +35,7 @@ use Rattle.cf_build.specs.Questions.{Question, questions, questions_all, all_que
 use Rattle.cf_build.specs.Shifted.{HasLevels}
 use Rattle.cf_program.specs.NoMatch.{HasNoMatch, HaveNoMatch}
 use Rattle.cf_build.specs.Solves.{question_of, questions_of, IsAsked, IsRising, AreCodes, IsSolveOf}
-use Rattle.cf_build.proofs.CallLists.{def_at}
+use Rattle.cf_build.proofs.CalledCodes.{def_at}
 use Rattle.cf_build.proofs.Meanings.{sides_have}
 use Rattle.cf_build.proofs.NumberOrder.{numbers_of, ordered_distinct, ordered_has, sorted_ordered, sorted_rises}
 use Rattle.cf_build.proofs.PickedPaths.{AreFit}

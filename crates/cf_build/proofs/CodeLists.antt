@@ -1,17 +1,23 @@
 -- Lists of codes of expressions, and calls.
-use Rattle.std.proofs.Common.{◌≡◌, ◌≢◌, ◌<◌, ◌≤◌, ℕ, zero, suc, List, [], ◌∷◌, ◌++◌, map, length, slice_get, Some, refl, ap, ◌∙◌, arith}
+use Rattle.std.proofs.Common.{◌≡◌, ◌≢◌, ℕ, zero, suc, ◌+◌, ◌<◌, ◌≤◌, List, [], ◌∷◌, ◌++◌, map, length, refl, sym, ap, ap₂, ◌∙◌, arith}
 use Rattle.std.proofs.lemmas.List.{length-map}
-use Rattle.cf_tree.specs.CodeTree.{CodeTree, code_tuple, code_let, no_codes, code_more, codes_of, count}
+use Rattle.cf_tree.specs.CodeTree.{CodeTree, code_tuple, code_let, CodeTrees, no_codes, code_more, codes_of, count}
 use Rattle.cf_tree.specs.CodeView.{code_tree, code_trees}
-use Rattle.cf_tree.specs.ExprTree.{ExprTree, exprs_of}
+use Rattle.cf_tree.specs.DefView.{DefTree}
+use Rattle.cf_tree.specs.ExprTree.{ExprTree, ExprTrees, exprs_of, expr_binary, expr_call}
 use Rattle.cf_tree.specs.declared.code.Code.{Code}
-use Rattle.cf_build.specs.Codes.{joined_code, call_code, code_of, codes_of_all, called}
+use Rattle.cf_tree.specs.declared.raw.BinOp.{BinOp}
+use Rattle.cf_tree.specs.declared.raw.BinOp.TheVariants.{Add, Sub, Mul, And, Or, Union, Inter, Diff, Subset, Compare}
+use Rattle.cf_build.specs.Codes.{binary_code, joined_code, call_code, code_of, codes_of_all, called, codes_behind, code_among, codes_among, solved_in}
 use Rattle.cf_build.specs.Questions.{Question}
+use Rattle.cf_build.specs.Shifted.{shifted, all_shifted}
+use Rattle.cf_build.proofs.ShiftedTwice.{shifted_twice}
+use Rattle.cf_build.proofs.ShiftedTyping.{count_shifted}
 
-pub codes_of_exprs : (calls : ℕ → CodeTree) (solves : Question → CodeTree) (n : ℕ) (es : List ExprTree) →
-    codes_of (map (λ e. code_of calls solves n e) es) ≡ codes_of_all calls solves n (exprs_of es)
-codes_of_exprs calls solves n [] = refl
-codes_of_exprs calls solves n (e ∷ es) = ap (λ cs. code_more (code_of calls solves n e) cs) (codes_of_exprs calls solves n es)
+pub codes_of_exprs : (calls : ℕ → CodeTree) (solves : Question → CodeTree) (by n : ℕ) (es : List ExprTree) →
+    codes_of (map (λ e. shifted by (code_of calls solves n e)) es) ≡ all_shifted by (codes_of_all calls solves n (exprs_of es))
+codes_of_exprs calls solves by n [] = refl
+codes_of_exprs calls solves by n (e ∷ es) = ap (λ cs. code_more (shifted by (code_of calls solves n e)) cs) (codes_of_exprs calls solves by n es)
 
 pub count_codes : (cs : List CodeTree) → count (codes_of cs) ≡ length cs
 count_codes [] = refl
@@ -27,16 +33,6 @@ pub call_with : (n : ℕ) (args : List Code) (body : CodeTree) → length args �
 call_with n [] body h = absurd (h refl)
 call_with n (c ∷ args) body h =
     ap (λ k. code_let n k (joined_code (code_trees (c ∷ args))) body) (count_codes (map code_tree (c ∷ args)) ∙ length-map (c ∷ args) code_tree)
-
-pub called_is : (codes : List Code) (f : ℕ) (c : Code) → slice_get codes f ≡ Some c → called (map code_tree codes) f ≡ code_tree c
-called_is [] f c h = cc
-called_is (d ∷ codes) zero c h = let same : d ≡ c = cc in ap code_tree same
-called_is (d ∷ codes) (suc f) c h = called_is codes f c h
-
-pub called_none : (codes : List Code) (f : ℕ) → length codes ≤ f → called (map code_tree codes) f ≡ code_tuple no_codes
-called_none [] f h = refl
-called_none (d ∷ codes) zero h = absurd (omega (arith, h))
-called_none (d ∷ codes) (suc f) h = called_none codes f (omega (arith, h))
 
 -- ---- one code more behind others
 pub called_old : (known : List CodeTree) (c : CodeTree) (f : ℕ) → f < length known → called (known ++ c ∷ []) f ≡ called known f
@@ -58,4 +54,41 @@ called_past (k ∷ known) (suc f) h = called_past known f (omega (arith, h))
 pub let_same : (n k l : ℕ) (a b c d : CodeTree) → k ≡ l → a ≡ b → c ≡ d → code_let n k a c ≡ code_let n l b d
 let_same n k l a b c d e f g = rw (e, f, g) refl
 
-pub ruleset code_lists = (joined_tuple, call_with, called_is, called_none)
+-- ---- behind more variables
+binary_shifted : (by : ℕ) (op : BinOp) (a b : CodeTree) → shifted by (binary_code op a b) ≡ binary_code op (shifted by a) (shifted by b)
+binary_shifted by Add a b = refl
+binary_shifted by Sub a b = refl
+binary_shifted by Mul a b = refl
+binary_shifted by And a b = refl
+binary_shifted by Or a b = refl
+binary_shifted by Union a b = refl
+binary_shifted by Inter a b = refl
+binary_shifted by Diff a b = refl
+binary_shifted by Subset a b = refl
+binary_shifted by (Compare order) a b = refl
+
+joined_shifted : (by : ℕ) (cs : CodeTrees) → shifted by (joined_code cs) ≡ joined_code (all_shifted by cs)
+joined_shifted by no_codes = refl
+joined_shifted by (code_more c no_codes) = refl
+joined_shifted by (code_more c (code_more d cs)) = refl
+
+call_shifted : (by n : ℕ) (cs : CodeTrees) (body : CodeTree) →
+    shifted by (call_code n cs (shifted n body)) ≡ call_code (by + n) (all_shifted by cs) (shifted (by + n) body)
+call_shifted by n no_codes body = shifted_twice by n body
+call_shifted by n (code_more c cs) body =
+    rw (joined_shifted by (code_more c cs), shifted_twice by n body, count_shifted by (code_more c cs)) refl
+
+module _ (solves : List (ℕ × CodeTree)) (before : List DefTree) (by n : ℕ) where
+  -- an operation over the codes of its sides
+  pub binary_among : (op : BinOp) (a b e : ExprTree) (x y c : CodeTree) → e ≡ expr_binary op a b → x ≡ code_among solves before by n a →
+      y ≡ code_among solves before by n b → c ≡ binary_code op x y → c ≡ code_among solves before by n e
+  binary_among op a b e x y c is left right h =
+      h ∙ ap₂ (λ l r. binary_code op l r) left right ∙ sym (binary_shifted by op _ _) ∙ ap (λ d. code_among solves before by n d) (sym is)
+
+  -- a call over the codes of its arguments and of the called body
+  pub call_among : (f first : ℕ) (es : ExprTrees) (e : ExprTree) (args : CodeTrees) (body c : CodeTree) → e ≡ expr_call f es → first ≡ by + n →
+      args ≡ codes_among solves before by n es → body ≡ shifted (by + n) (called (codes_behind (solved_in solves) [] before) f) →
+      c ≡ call_code first args body → c ≡ code_among solves before by n e
+  call_among f first es e args body c is k a b h =
+      h ∙ ap (λ m. call_code m args body) k ∙ ap₂ (λ x y. call_code (by + n) x y) a b ∙ sym (call_shifted by n _ _)
+      ∙ ap (λ d. code_among solves before by n d) (sym is)

@@ -1,14 +1,11 @@
 pub mod Building
-pub mod CallExamples
-pub mod CallLists
+pub mod CalledCodes
 pub mod ChooseLists
 pub mod CodeLists
 pub mod CodeOrder
 pub mod CodeSpelling
 pub mod CodeTyping
 pub mod EnteredChooses
-pub mod KeptCodes
-pub mod LastCallers
 pub mod LoopSteps
 pub mod LoweredAnswers
 pub mod Meanings
@@ -26,6 +23,7 @@ pub mod ShiftedLevels
 pub mod ShiftedNone
 pub mod ShiftedPaths
 pub mod ShiftedSpelling
+pub mod ShiftedTwice
 pub mod ShiftedTyping
 pub mod SolveLists
 pub mod Values

@@ -81,8 +81,9 @@ pub arms_at_end : (by : ℕ) (arms done : List Arm) (i : ℕ) → length arms �
 arms_at_end by arms done i l h = ap arms_of (h ∙ ap (λ xs. map (λ a. arm_shifted by a) (map arm_tree xs)) (take_all i arms l)) ∙
     list_arms_shifted by (map arm_tree arms)
 
-pub exprs_at_end : (calls : ℕ → CodeTree) (solves : Question → CodeTree) (n : ℕ) (es : List Expr) (done : List Code) (i : ℕ) → length es ≤ i →
-    map code_tree done ≡ map (λ e. code_of calls solves n e) (map expr_tree (take i es)) →
-    code_trees done ≡ codes_of_all calls solves n (expr_trees es)
-exprs_at_end calls solves n es done i l h = ap codes_of (h ∙ ap (λ xs. map (λ e. code_of calls solves n e) (map expr_tree xs)) (take_all i es l)) ∙
-    codes_of_exprs calls solves n (map expr_tree es)
+pub exprs_at_end : (calls : ℕ → CodeTree) (solves : Question → CodeTree) (by n : ℕ) (es : List Expr) (done : List Code) (i : ℕ) → length es ≤ i →
+    map code_tree done ≡ map (λ e. shifted by (code_of calls solves n e)) (map expr_tree (take i es)) →
+    code_trees done ≡ all_shifted by (codes_of_all calls solves n (expr_trees es))
+exprs_at_end calls solves by n es done i l h =
+    ap codes_of (h ∙ ap (λ xs. map (λ e. shifted by (code_of calls solves n e)) (map expr_tree xs)) (take_all i es l))
+    ∙ codes_of_exprs calls solves by n (map expr_tree es)

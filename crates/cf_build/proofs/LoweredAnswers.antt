@@ -1,5 +1,5 @@
 -- What is built for a lowered program is built for the program.
-use Rattle.std.proofs.Common.{◌≡◌, ℕ, zero, suc, List, [], ◌∷◌, map, slice_get, Some, Result, Ok, Err, refl, sym, ap, ◌∙◌, subst, Contains}
+use Rattle.std.proofs.Common.{◌≡◌, ℕ, zero, suc, List, [], ◌∷◌, map, slice_get, Some, Ok, Err, refl, sym, ap, ◌∙◌, subst, Contains}
 use Rattle.cf_tree.specs.declared.base.Base.{Base}
 use Rattle.cf_tree.specs.declared.target.RawTarget.{RawTarget}
 use Rattle.cf_tree.specs.CodeView.{code_tree}
@@ -12,10 +12,8 @@ use Rattle.cf_program.specs.Names.{bases_of}
 use Rattle.cf_match.specs.Laws.{AllowTheSame}
 use Rattle.cf_growth.specs.Overflowing.{picked, MayOverflow}
 use Rattle.cf_match.proofs.NoMatchLaws.{lowered_again}
-use Rattle.cf_build.specs.declared.fault.BuildFault.{BuildFault}
-use Rattle.cf_build.specs.Built.{SourceAllows, IsBuilt, BuildAnswer, unfolded_code}
+use Rattle.cf_build.specs.Built.{SourceAllows, IsBuilt, unfolded_code}
 use Rattle.cf_build.specs.Lowering.{LoweringKeepsQuestions, LoweringKeepsAnswers}
-use Rattle.cf_build.specs.Questions.{all_questions}
 use Rattle.cf_build.specs.Runs.{RunsAsPicked, lowered_bodies}
 use Rattle.cf_build.specs.Solves.{FaultAnswer}
 

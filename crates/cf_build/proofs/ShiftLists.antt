@@ -31,5 +31,3 @@ items_have_levels (i ∷ is) h = (All-head (λ i. ItemHasLevels (item_tree i)) i
 pub arms_have_levels : (arms : List Arm) → All (λ a. ArmHasLevels (arm_tree a)) arms → ArmsHaveLevels (arm_trees arms)
 arms_have_levels [] h = tt
 arms_have_levels (a ∷ arms) h = (All-head (λ a. ArmHasLevels (arm_tree a)) a arms h, arms_have_levels arms (All-tail (λ a. ArmHasLevels (arm_tree a)) a arms h))
-
-pub ruleset shift_lists = (codes_shifted, list_items_shifted, list_arms_shifted, codes_have_levels, items_have_levels, arms_have_levels)

@@ -12,7 +12,7 @@ use Rattle.cf_build.specs.declared.choose_codes.ChooseCode.{ChooseCode}
 use Rattle.cf_build.specs.declared.solves.SolvedChoose.{SolvedChoose}
 use Rattle.cf_program.specs.Names.{bases_of, names_of}
 use Rattle.cf_build.specs.Questions.{Question}
-use Rattle.cf_build.specs.Shifted.{shifted}
+use Rattle.cf_build.specs.Shifted.{shifted, all_shifted}
 
 abbrev pub two : CodeTree → CodeTree → CodeTrees
 two a b = code_more a (code_more b no_codes)
@@ -115,3 +115,10 @@ solved_in ss q = numbered ss q.number
 abbrev pub codes_behind : (Question → CodeTree) → List CodeTree → List DefTree → List CodeTree
 codes_behind solves known [] = known
 codes_behind solves known (d ∷ ds) = codes_behind solves (known ++ code_of (called known) solves (length d.params) d.body ∷ []) ds
+
+-- the code of an expression behind n variables of its function and `by` of the callers, where these functions stand before its own
+abbrev pub code_among : List (ℕ × CodeTree) → List DefTree → ℕ → ℕ → ExprTree → CodeTree
+code_among solves before by n e = shifted by (code_of (called (codes_behind (solved_in solves) [] before)) (solved_in solves) n e)
+
+abbrev pub codes_among : List (ℕ × CodeTree) → List DefTree → ℕ → ℕ → ExprTrees → CodeTrees
+codes_among solves before by n es = all_shifted by (codes_of_all (called (codes_behind (solved_in solves) [] before)) (solved_in solves) n es)

@@ -1,5 +1,4 @@
 pub mod Built
-pub mod Calls
 pub mod Codes
 pub mod Lowering
 pub mod Questions

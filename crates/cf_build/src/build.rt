@@ -15,8 +15,8 @@ ghost use Rattle.cf_build.specs.Solves.{AreCodes, AreSolved};
 
 use crate::choose_codes::{ChooseCodes, choose_codes};
 use crate::chooses::bases;
+use crate::codes::main_code;
 use crate::fault::BuildFault;
-use crate::main_code::main_code;
 use crate::rewrite::rewritten;
 use crate::solves::{SolvedChoose, solve_all};
 use cf_pass::Pass;

@@ -1,41 +1,63 @@
-//! The code of source expressions.
-#![tactic(auto, using(crate::proofs::CodeLists::code_lists))]
+//! The code of source expressions, in which calls are unfolded.
 
 ghost use Rattle.std.specs.Prelude.{◌≡◌, ◌+◌, ◌<◌, ◌^◌, ◌∷◌, [], IfOk, map, length};
 ghost use Rattle.cf_tree.specs.CodeTree.{code_max, code_neg, code_var};
 ghost use Rattle.cf_tree.specs.CodeView.{code_tree, code_trees};
+ghost use Rattle.cf_tree.specs.DefView.{def_tree};
 ghost use Rattle.cf_tree.specs.ExprView.{expr_tree, expr_trees};
-ghost use Rattle.cf_build.specs.Codes.{two, over_list, over_one, binary_code, joined_code, call_code, code_of, codes_of_all, called, choose_code, numbered, solved_in};
+ghost use Rattle.cf_build.specs.Codes.{two, over_list, over_one, binary_code, joined_code, call_code, called, choose_code, code_among, codes_among, codes_behind, numbered, solved_in};
 ghost use Rattle.cf_build.specs.Shifted.{shifted, HasLevels, HaveLevels};
 
 use crate::choose_codes::ChooseCodes;
-use crate::shift::{copy, level_sum, shift};
+use crate::shift::{first_level, level_sum, shift};
 use cf_tree::code::Code;
-use cf_tree::expr::Expr;
+use cf_tree::expr::{Def, Expr};
 use cf_tree::memory::NoMemory;
 use cf_tree::raw::BinOp;
 use std::alloc::Global;
 
-// The code of an expression behind n variables, where the codes of the functions before and of all
-// chooses are known.
-#[cycle(code)]
-pub(crate) fn code(
+// What the expressions of a function stand among: the functions before it, the codes of all
+// chooses, and how many variables of the callers stand before its own.
+#[derive(Drop)]
+struct Around<'a> {
     alloc: Global,
-    expr: &Expr,
-    n: u32,
-    codes: &[Code],
+    before: &'a [Def],
+    solves: &'a ChooseCodes,
+    by: u32,
+}
+
+// The code of main behind its parameters.
+pub(crate) fn main_code(
+    alloc: Global,
+    defs: &[Def],
+    main: u32,
     solves: &ChooseCodes,
 ) -> Result<Code, NoMemory>
-    ensures code { IfOk result (λ c. code_tree c ≡ code_of (called (map code_tree codes.now)) (solved_in (map choose_code solves.now.codes.items)) n
-        (expr_tree expr.now)) }
+    ensures code { IfOk result (λ c. code_tree c ≡ called (codes_behind (solved_in (map choose_code solves.now.codes.items)) [] (map def_tree defs.now)) main) }
+    ensures levels { IfOk result (λ c. HasLevels (code_tree c)) }
+{
+    let around = Around {
+        alloc,
+        before: defs,
+        solves,
+        by: 0,
+    };
+    callee(&around, main, 0)
+}
+
+// The code of an expression behind n variables of its function.
+#[cycle(code)]
+fn code(around: &Around, expr: &Expr, n: u32) -> Result<Code, NoMemory>
+    ensures code { IfOk result (λ c. code_tree c ≡ code_among (map choose_code around.now.solves.now.codes.items) (map def_tree around.now.before.now)
+        around.now.by n (expr_tree expr.now)) }
     ensures levels { IfOk result (λ c. HasLevels (code_tree c)) }
 {
     match expr {
         Expr::Lit(k) => Ok(Code::Lit(*k)),
         Expr::Truth(t) => Ok(Code::Truth(*t)),
-        Expr::Var(x) => Ok(Code::Var(*x)),
+        Expr::Var(x) => Ok(Code::Var(level_sum(around.by, *x)?)),
         Expr::SetOf(parts) | Expr::Tuple(parts) => {
-            let parts = all(alloc, parts, n, codes, solves)?;
+            let parts = all(around, parts, n)?;
             Ok(over_list(expr, parts))
         }
         Expr::Neg(a)
@@ -44,76 +66,100 @@ pub(crate) fn code(
         | Expr::Divides { of: a, .. }
         | Expr::Div { of: a, .. }
         | Expr::Mod { of: a, .. } => {
-            let part = boxed(alloc, a, n, codes, solves)?;
+            let part = boxed(around, a, n)?;
             Ok(over_one(expr, part))
         }
-        Expr::Abs(a) => Ok(Code::Let {
-            first: n,
-            count: 1,
-            value: boxed(alloc, a, n, codes, solves)?,
-            body: greater(alloc, n)?,
-        }),
+        Expr::Abs(a) => {
+            let first = level_sum(around.by, n)?;
+            Ok(Code::Let {
+                first,
+                count: 1,
+                value: boxed(around, a, n)?,
+                body: greater(around.alloc, first)?,
+            })
+        }
         Expr::Binary { op, left, right } => binary(
-            alloc,
+            around.alloc,
             *op,
-            boxed(alloc, left, n, codes, solves)?,
-            boxed(alloc, right, n, codes, solves)?,
+            boxed(around, left, n)?,
+            boxed(around, right, n)?,
         ),
         Expr::If { test, yes, no } => Ok(Code::If {
-            test: boxed(alloc, test, n, codes, solves)?,
-            yes: boxed(alloc, yes, n, codes, solves)?,
-            no: boxed(alloc, no, n, codes, solves)?,
+            test: boxed(around, test, n)?,
+            yes: boxed(around, yes, n)?,
+            no: boxed(around, no, n)?,
         }),
         Expr::Call { def, args } => call(
-            alloc,
-            n,
-            all(alloc, args, n, codes, solves)?,
-            callee(alloc, codes, *def, n)?,
+            around.alloc,
+            level_sum(around.by, n)?,
+            all(around, args, n)?,
+            callee(around, *def, n)?,
         ),
         Expr::Let { count, value, body } => Ok(Code::Let {
-            first: n,
+            first: first_level(around.by, n, *count)?,
             count: *count,
-            value: boxed(alloc, value, n, codes, solves)?,
-            body: boxed(alloc, body, level_sum(n, *count)?, codes, solves)?,
+            value: boxed(around, value, n)?,
+            body: boxed(around, body, level_sum(n, *count)?)?,
         }),
-        Expr::Choose { number, .. } => solve_numbered(alloc, solves, *number),
+        Expr::Choose { number, .. } => {
+            solve_numbered(around.alloc, around.solves, *number, around.by)
+        }
         // for the proof: no match stands in a program that is built
-        Expr::Match { .. } => Ok(Code::Tuple(Vec::new(alloc))),
+        Expr::Match { .. } => Ok(Code::Tuple(Vec::new(around.alloc))),
     }
 }
 
 #[cycle(code)]
-fn boxed(
-    alloc: Global,
-    expr: &Expr,
-    n: u32,
-    codes: &[Code],
-    solves: &ChooseCodes,
-) -> Result<Box<Code>, NoMemory>
-    ensures code { IfOk result (λ c. code_tree c.value ≡ code_of (called (map code_tree codes.now)) (solved_in (map choose_code solves.now.codes.items)) n
-        (expr_tree expr.now)) }
+fn boxed(around: &Around, expr: &Expr, n: u32) -> Result<Box<Code>, NoMemory>
+    ensures code { IfOk result (λ c. code_tree c.value ≡ code_among (map choose_code around.now.solves.now.codes.items) (map def_tree around.now.before.now)
+        around.now.by n (expr_tree expr.now)) }
     ensures levels { IfOk result (λ c. HasLevels (code_tree c.value)) }
 {
-    Ok(Box::new(alloc, code(alloc, expr, n, codes, solves)?)?)
+    Ok(Box::new(around.alloc, code(around, expr, n)?)?)
 }
 
 #[cycle(code)]
-fn all(
-    alloc: Global,
-    exprs: &[Expr],
-    n: u32,
-    codes: &[Code],
-    solves: &ChooseCodes,
-) -> Result<Vec<Code>, NoMemory>
-    ensures code { IfOk result (λ cs. code_trees cs.items ≡ codes_of_all (called (map code_tree codes.now)) (solved_in (map choose_code solves.now.codes.items))
-        n (expr_trees exprs.now)) }
+fn all(around: &Around, exprs: &[Expr], n: u32) -> Result<Vec<Code>, NoMemory>
+    ensures code { IfOk result (λ cs. code_trees cs.items ≡ codes_among (map choose_code around.now.solves.now.codes.items) (map def_tree around.now.before.now)
+        around.now.by n (expr_trees exprs.now)) }
     ensures levels { IfOk result (λ cs. HaveLevels (code_trees cs.items)) }
 {
-    let mut all = Vec::new(alloc);
+    let mut all = Vec::new(around.alloc);
     for expr in exprs {
-        all.push(code(alloc, expr, n, codes, solves)?)?;
+        all.push(code(around, expr, n)?)?;
     }
     Ok(all)
+}
+
+// The body of function number `number`, called behind n variables.
+#[cycle(code)]
+fn callee(around: &Around, number: u32, n: u32) -> Result<Code, NoMemory>
+    ensures code { IfOk result (λ c. code_tree c ≡ shifted (around.now.by + n)
+        (called (codes_behind (solved_in (map choose_code around.now.solves.now.codes.items)) [] (map def_tree around.now.before.now)) number)) }
+    ensures levels { IfOk result (λ c. HasLevels (code_tree c)) }
+{
+    match around.before.get(number as usize) {
+        Some(def) => {
+            let inside = Around {
+                alloc: around.alloc,
+                before: &around.before[..number as usize],
+                solves: around.solves,
+                by: level_sum(around.by, n)?,
+            };
+            code(&inside, &def.body, arity(def)?)
+        }
+        None => Ok(Code::Tuple(Vec::new(around.alloc))),
+    }
+}
+
+// How many parameters the function has.
+fn arity(def: &Def) -> Result<u32, NoMemory>
+    ensures { IfOk result (λ n. n ≡ length def.now.params.items) }
+{
+    match u32::try_from(def.params.len()) {
+        Ok(n) => Ok(n),
+        Err(_) => Err(NoMemory),
+    }
 }
 
 // The code of a set of these codes, or of a tuple.
@@ -189,17 +235,6 @@ fn binary(alloc: Global, op: BinOp, a: Box<Code>, b: Box<Code>) -> Result<Code, 
     }
 }
 
-// The body of function number `def` behind n variables.
-fn callee(alloc: Global, codes: &[Code], def: u32, n: u32) -> Result<Code, NoMemory>
-    ensures code { IfOk result (λ c. code_tree c ≡ shifted n (called (map code_tree codes.now) def)) }
-    ensures levels { IfOk result (λ c. HasLevels (code_tree c)) }
-{
-    match codes.get(def as usize) {
-        Some(body) => shift(alloc, body, n),
-        None => Ok(Code::Tuple(Vec::new(alloc))),
-    }
-}
-
 // A called body, whose arguments take the levels from n on.
 fn call(alloc: Global, n: u32, args: Vec<Code>, body: Code) -> Result<Code, NoMemory>
     requires args { HaveLevels (code_trees args.items) }
@@ -247,13 +282,18 @@ fn joined(mut codes: Vec<Code>) -> Code
     }
 }
 
-// A copy of the code of choose number `number`.
-fn solve_numbered(alloc: Global, solves: &ChooseCodes, number: u32) -> Result<Code, NoMemory>
-    ensures code { IfOk result (λ c. code_tree c ≡ numbered (map choose_code solves.now.codes.items) number) }
+// The code of choose number `number` behind `by` variables.
+fn solve_numbered(
+    alloc: Global,
+    solves: &ChooseCodes,
+    number: u32,
+    by: u32,
+) -> Result<Code, NoMemory>
+    ensures code { IfOk result (λ c. code_tree c ≡ shifted by (numbered (map choose_code solves.now.codes.items) number)) }
     ensures levels { IfOk result (λ c. HasLevels (code_tree c)) }
 {
     match solves.find(number) {
-        Some(code) => copy(alloc, code),
+        Some(code) => shift(alloc, code, by),
         None => Ok(Code::Tuple(Vec::new(alloc))),
     }
 }

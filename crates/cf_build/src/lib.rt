@@ -2,12 +2,10 @@
 #![tactic(auto)]
 
 pub mod build;
-mod calls;
 mod choose_codes;
 pub mod chooses;
 mod codes;
 pub mod fault;
-mod main_code;
 mod rewrite;
 mod shift;
 pub mod solves;

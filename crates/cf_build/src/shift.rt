@@ -102,14 +102,6 @@ pub(crate) fn shift(alloc: Global, code: &Code, by: u32) -> Result<Code, NoMemor
     }
 }
 
-// A copy of the code, whose levels fit.
-pub(crate) fn copy(alloc: Global, code: &Code) -> Result<Code, NoMemory>
-    ensures code { IfOk result (λ new. code_tree new ≡ code_tree code.now) }
-    ensures levels { IfOk result (λ new. HasLevels (code_tree new)) }
-{
-    shift(alloc, code, 0)
-}
-
 // The form of the code behind `by` more variables, over a list of its parts behind them.
 fn over_list(code: &Code, by: u32, parts: Vec<Code>) -> Code
     requires parts { IsCodeOverList (shifted by (code_tree code.now)) (code_trees parts.items) }
@@ -195,7 +187,7 @@ fn over_three(code: &Code, by: u32, a: Box<Code>, b: Box<Code>, c: Box<Code>) ->
 }
 
 // The first level of a let behind `by` more variables, where the let's last level fits too.
-fn first_level(by: u32, first: u32, count: u32) -> Result<u32, NoMemory>
+pub(crate) fn first_level(by: u32, first: u32, count: u32) -> Result<u32, NoMemory>
     ensures { IfOk result (λ n. (n ≡ by + first) × (n + count < 2 ^ 32)) }
 {
     let n = level_sum(by, first)?;

@@ -6,9 +6,6 @@ use Rattle.cf_build.specs.Codes.{called, choose_code, codes_behind, solved_in}
 use Rattle.cf_build.proofs.Building.{main_below, target_built}
 use Rattle.cf_build.proofs.build.main_target.Goals as goal
 
-pub main_code-requires : goal.main_code-requires
-main_code-requires c = rw (c.defs.ensures.value, c.main-main.ensures.value) (main_below c.args.typed.now.defs.items c.args.typed.now.main c.defs.ensures.typed)
-
 pub bounds-defs-main : goal.bounds-defs-main
 bounds-defs-main c = rw (c.defs-2.ensures.value, c.main-main.ensures.value) (main_below c.args.typed.now.defs.items c.args.typed.now.main c.defs.ensures.typed)
 
