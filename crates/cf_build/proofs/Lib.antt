@@ -1,4 +1,5 @@
 pub mod Building
+pub mod CallExamples
 pub mod CalledCodes
 pub mod ChooseLists
 pub mod CodeLists
