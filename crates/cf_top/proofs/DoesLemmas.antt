@@ -1,30 +1,27 @@
 -- From reading a file to what the command does.
-use Rattle.std.proofs.Common.{◌≡◌, inl, inr, sym, subst, refl, ℕ, ◌<◌, ◌≤◌, ◌+◌, List, [], ◌∷◌, replicate, length, Option, Some, None, arith, rules}
-use Rattle.std.proofs.lemmas.List.{length-replicate}
+use Rattle.std.proofs.Common.{◌≡◌, inl, inr, sym, subst, refl, ℕ, ◌<◌, ◌≤◌, ◌+◌, List, [], ◌∷◌, length, Option, Some, None, arith, rules}
 use Rattle.std.specs.Prelude.{◌⊎◌, Result, Err, IfSome, Contains}
-use Rattle.std.proofs.KnownBytes.{Consumes-nil}
 use Rattle.cf_io.specs.Bytes.{TookFront}
 use Rattle.cf_io.specs.Causes.{Rose, one_more}
 use Rattle.cf_io.specs.Limits.{input_limit}
 use Rattle.cf_words.specs.Commands.{Command, command_on, gen}
-use Rattle.cf_top.specs.Commands.{names_of, calls_passes}
-use Rattle.cf_top.specs.Ends.{streams_of, Ends, Does, Answers}
-use Rattle.cf_top.specs.Limits.{text_limit}
-use Rattle.cf_top.specs.Outside.{Outside, AreTold, AreTexts, Counts, IsFrugal}
-use Rattle.cf_top.specs.Passes.{Told}
-use Rattle.cf_top.specs.Refusals.{too_long, Refuses}
-use Rattle.cf_top.specs.Steps.{AnswersOn}
-use Rattle.cf_top.specs.Top.{IsInOrder}
-use Rattle.cf_top.specs.declared.status.Status.{Status}
-use Rattle.cf_top.specs.declared.fault.Fault.{Fault}
-use Rattle.cf_top.specs.declared.fault.Fault.TheVariants as fault
+use Rattle.cf_answer.specs.Commands.{names_of, calls_passes}
+use Rattle.cf_answer.specs.Ends.{streams_of, Ends, Does, Answers, AnswersOn, IsInOrder}
+use Rattle.cf_answer.specs.Limits.{text_limit}
+use Rattle.cf_answer.specs.Outside.{Outside, AreTold, AreTexts, Counts, IsFrugal}
+use Rattle.cf_answer.specs.Passes.{Told}
+use Rattle.cf_answer.specs.Refusals.{too_long, Refuses}
+use Rattle.cf_answer.specs.declared.status.Status.{Status}
+use Rattle.cf_answer.specs.declared.fault.Fault.{Fault}
+use Rattle.cf_answer.specs.declared.fault.Fault.TheVariants as fault
 use Rattle.cf_words.specs.declared.command.CommandKind.{CommandKind}
 use Rattle.cf_words.specs.declared.command.CommandKind.TheVariants.{Compile, Run, Pre, Check, Exec, Prove}
 use Rattle.cf_words.specs.declared.command.Flags.{Flags}
-use Rattle.cf_top.proofs.CountLemmas.{one_fault}
-use Rattle.cf_top.proofs.FaultLemmas.{failed}
-use Rattle.cf_top.proofs.PassLemmas.{unpassed}
-use Rattle.cf_top.proofs.StepLemmas.{left_of, left_told}
+use Rattle.cf_answer.proofs.CountLemmas.{one_fault}
+use Rattle.cf_answer.proofs.FaultLemmas.{failed}
+use Rattle.cf_answer.proofs.OutsideLemmas.{Untouched, nothing_read, no_fault, long_text}
+use Rattle.cf_answer.proofs.PassLemmas.{unpassed}
+use Rattle.cf_answer.proofs.StepLemmas.{left_of, left_told}
 
 -- a command on one file
 pub one_name : (kind : CommandKind) (flags : Flags) (name : List ℕ) → names_of (command_on kind flags name) ≡ name ∷ []
@@ -61,19 +58,6 @@ frugal c name before after e file input = record {
   file = elim file.most [ inl same ↦ inl same | inr took ↦ inr (name, has_name c name e, took) ];
   input = input;
 }
-
--- nothing was read of the input and nothing written
-pub record Untouched (before after : Outside) : Type 0 where
-  pub input : after.input ≡ before.input
-  pub out : after.out ≡ before.out
-  pub input_faults : after.input_faults ≡ before.input_faults
-  pub out_faults : after.out_faults ≡ before.out_faults
-
-pub nothing_read : (left still_left : Option (List ℕ)) → still_left ≡ left → TookFront (input_limit + 1) left still_left
-nothing_read left still_left is = rw is ([], omega arith, Consumes-nil left)
-
-pub no_fault : {failed : Type 0} (old new : ℕ) → (failed → ⊥) → new ≡ old → Counts failed old new
-no_fault old new never is = record { same = λ _. is; rose = λ h. absurd (never h) }
 
 -- a file was read, and its text answered
 pub text_does : (c : Command) (name : List ℕ) (given : List Told) (before after : Outside) (text : List ℕ) (answer : Result (Unit {0}) Fault) →
@@ -145,10 +129,6 @@ memory_does c name given before after e file none same =
     (λ i. cc) (λ i. cc)
 
 -- a text that is too long
-pub long_text : (told : Option (List ℕ)) → IfSome told (λ text. text_limit < length text) → (text : List ℕ) × AreTold told text × (text_limit < length text)
-long_text None h = (replicate (text_limit + 1) 0, tt, rw length-replicate (omega arith))
-long_text (Some text) h = (text, refl, h)
-
 long_refused : (kind : CommandKind) (flags : Flags) (name text : List ℕ) → text_limit < length text →
     Refuses (command_on kind flags name) (text ∷ []) fault.TextTooLong
 long_refused Compile flags name text h = too_long h
@@ -167,11 +147,6 @@ long_does kind flags name given before after long file none same =
     inner_does (command_on kind flags name) name given before after text.0 fault.TextTooLong (one_name kind flags name) text.1
     (long_refused kind flags name text.0 text.2, none.out) file none same
     (λ i. cc) (λ i. cc) (λ i. cc)
-
--- the text that was read is the one that is told
-pub text_told : (told : Option (List ℕ)) (text : List ℕ) → IfSome told (λ t. text ≡ t) → AreTold told text
-text_told None text h = tt
-text_told (Some t) text h = sym h
 
 -- a workload reads no file and no input
 pub workload_does : (n : ℕ) (given : List Told) (before after : Outside) (answer : Result (Unit {0}) Fault) →

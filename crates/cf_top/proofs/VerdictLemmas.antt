@@ -1,54 +1,22 @@
 -- How a call ends where nothing outside failed.
 use Rattle.std.proofs.Common.{◌≡◌, ◌∙◌, inl, inr, sym, ap, subst, refl, ℕ, ◌≤◌, ◌<◌, Bool, true, false, List, [], ◌∷◌, ◌++◌, length, map, Option, Some, None, arith, append-nil, length-append}
 use Rattle.std.specs.Prelude.{◌⊎◌, Result, Ok, Err, IfSome, IsSomeAnd, OnOk, OnErr, Contains}
-use Rattle.cf_gen.specs.Workload.{gen_source}
 use Rattle.cf_io.specs.Causes.{Rose}
 use Rattle.cf_io.specs.Limits.{input_limit}
-use Rattle.cf_target.specs.Spelling.{target_tree}
-use Rattle.cf_words.specs.Commands.{Command, compile, run, pre, check, exec, prove, verify, gen}
-use Rattle.cf_top.specs.Commands.{names_of, reads_input}
-use Rattle.cf_top.specs.Ends.{Streams, streams_of, Job, Reads, IsReadUp, Wrote, Ends, Does, Answers}
-use Rattle.cf_top.specs.Outside.{Outside, AreTold, AreTexts}
-use Rattle.cf_top.specs.Owed.{Owes}
-use Rattle.cf_top.specs.Passes.{Told, applied}
-use Rattle.cf_top.specs.Refusals.{Refuses, IsAccepted}
-use Rattle.cf_top.specs.Statuses.{fault_status, status_of}
+use Rattle.cf_words.specs.Commands.{Command}
+use Rattle.cf_answer.specs.Commands.{names_of, reads_input}
+use Rattle.cf_answer.specs.Ends.{Streams, streams_of, Job, Reads, IsReadUp, Wrote, Ends, Does, Answers}
+use Rattle.cf_answer.specs.Outside.{Outside, AreTold, AreTexts}
+use Rattle.cf_answer.specs.Passes.{Told}
+use Rattle.cf_answer.specs.Refusals.{Refuses, IsAccepted}
+use Rattle.cf_answer.specs.Statuses.{fault_status, status_of}
 use Rattle.cf_top.specs.Top.{Errors, IsShort, IsLong, IsComplete, Completes, TopAnswer}
-use Rattle.cf_top.specs.declared.fault.Fault.{Fault}
-use Rattle.cf_top.specs.declared.fault.Fault.TheVariants as fault
-use Rattle.cf_top.specs.declared.status.Status.{Status}
-use Rattle.cf_top.specs.declared.status.Status.TheVariants.{Done, Usage, File, Input, Output, InputLong, NoMemory}
-use Rattle.cf_top.proofs.CertificateLemmas.{verify_alike, verify_unrefused, proofs_unrefused}
-use Rattle.cf_top.proofs.CountLemmas.{rose_once}
-use Rattle.cf_top.proofs.RunLemmas.{runs_alike, run_unrefused}
-use Rattle.cf_top.proofs.SourceLemmas.{sources_alike, compiled_unrefused, pres_unrefused, checks_unrefused}
-use Rattle.cf_top.proofs.TargetLemmas.{targets_alike, typed_unrefused}
-
--- a command is refused for faults of one status
-refused_alike : (command : Command) (files : List (List ℕ)) (f g : Fault) → Refuses command files f → Refuses command files g → fault_status f ≡ fault_status g
-refused_alike (compile flags name) (text ∷ []) f g h i = sources_alike text f g h i
-refused_alike (run flags name) (text ∷ []) f g h i = runs_alike text f g h i
-refused_alike (pre name) (text ∷ []) f g h i = sources_alike text f g h i
-refused_alike (check name) (text ∷ []) f g h i = sources_alike text f g h i
-refused_alike (exec name) (text ∷ []) f g h i = targets_alike text f g h i
-refused_alike (prove name) (text ∷ []) f g h i = sources_alike text f g h i
-refused_alike (verify name other) (source ∷ steps ∷ []) f g h i = verify_alike source steps f g h i
-refused_alike (gen n) [] f g h i = sources_alike (gen_source n) f g h i
-refused_alike command files f g h i = absurd h
-
--- a command that owes something is not refused
-owed_accepted : (command : Command) (files : List (List ℕ)) (given passes : List Told) (ls : List (List ℕ)) (text : List ℕ) →
-    Owes command files given passes ls text →
-    IsAccepted command files
-owed_accepted (compile flags name) (file ∷ []) given passes ls text h = λ f r. compiled_unrefused (applied (compile flags name) passes) file h.0 f h.1 r
-owed_accepted (run flags name) (file ∷ []) given passes ls text h = λ f r. run_unrefused (applied (run flags name) passes) file given passes ls text f h r
-owed_accepted (pre name) (file ∷ []) given passes ls text h = λ f r. pres_unrefused file h.0 text f h.1 h.2 r
-owed_accepted (check name) (file ∷ []) given passes ls text h = λ f r. checks_unrefused file h.0 text f h.1 h.2 r
-owed_accepted (exec name) (file ∷ []) given passes ls text h = λ f r. typed_unrefused file (target_tree h.0) f h.1 r
-owed_accepted (prove name) (file ∷ []) given passes ls text h = λ f r. proofs_unrefused file h.0 text f h.1 h.2 r
-owed_accepted (verify name other) (source ∷ steps ∷ []) given passes ls text h = λ f r. verify_unrefused source steps h.0 f h.1 h.2 r
-owed_accepted (gen n) [] given passes ls text h = λ f r. compiled_unrefused (applied (gen n) passes) (gen_source n) h.0 f h.1 r
-owed_accepted command files given passes ls text h = absurd h
+use Rattle.cf_answer.specs.declared.fault.Fault.{Fault}
+use Rattle.cf_answer.specs.declared.fault.Fault.TheVariants as fault
+use Rattle.cf_answer.specs.declared.status.Status.{Status}
+use Rattle.cf_answer.specs.declared.status.Status.TheVariants.{Done, Usage, File, Input, Output, InputLong, NoMemory}
+use Rattle.cf_answer.proofs.CountLemmas.{rose_once}
+use Rattle.cf_answer.proofs.OwedLemmas.{refused_alike, owed_accepted}
 
 -- the texts are those that are told
 texts_same : (texts : List ℕ → Option (List ℕ)) (names files other : List (List ℕ)) → map texts names ≡ map Some files → AreTexts texts names other →

@@ -1,20 +1,20 @@
 -- What the top call answers and tells.
-use Rattle.std.specs.Prelude.{◌≡◌, ◌⊎◌, ◌≤◌, ◌<◌, ◌+◌, ℕ, Bool, true, false, List, length, map, Option, Some, Result}
+use Rattle.std.specs.Prelude.{◌≡◌, ◌⊎◌, ◌≤◌, ◌<◌, ℕ, Bool, true, false, List, length, map, Option, Some, Result}
 use Rattle.std.specs.Io.KnownBytes.{Appends}
 use Rattle.cf_io.specs.Bytes.{TookPrefix}
-use Rattle.cf_io.specs.Causes.{Rose, one_more}
+use Rattle.cf_io.specs.Causes.{one_more}
 use Rattle.cf_io.specs.Limits.{input_limit}
-use Rattle.cf_words.specs.Commands.{Command, verify}
-use Rattle.cf_top.specs.Commands.{names_of, reads_input}
-use Rattle.cf_top.specs.Ends.{Answers}
-use Rattle.cf_top.specs.Outside.{Outside}
-use Rattle.cf_top.specs.Passes.{Told}
-use Rattle.cf_top.specs.Refusals.{IsBrokenSource, Refuses, IsAccepted}
-use Rattle.cf_top.specs.Statuses.{fault_status, status_of}
-use Rattle.cf_top.specs.Texts.{answer_line}
-use Rattle.cf_top.specs.declared.fault.Fault.{Fault}
-use Rattle.cf_top.specs.declared.status.Status.{Status}
-use Rattle.cf_top.specs.declared.status.Status.TheVariants.{Done, Usage, File, Input, Output, Text, Types, NotLinear, Past, Limit, InputLong, NoMemory, Rejected}
+use Rattle.cf_words.specs.Commands.{Command}
+use Rattle.cf_answer.specs.Commands.{names_of, reads_input}
+use Rattle.cf_answer.specs.Ends.{Answers}
+use Rattle.cf_answer.specs.Outside.{Outside}
+use Rattle.cf_answer.specs.Passes.{Told}
+use Rattle.cf_answer.specs.Refusals.{Refuses, IsAccepted}
+use Rattle.cf_answer.specs.Statuses.{fault_status, status_of}
+use Rattle.cf_answer.specs.Texts.{answer_line}
+use Rattle.cf_answer.specs.declared.fault.Fault.{Fault}
+use Rattle.cf_answer.specs.declared.status.Status.{Status}
+use Rattle.cf_answer.specs.declared.status.Status.TheVariants.{Done, File, Input, Output, InputLong, NoMemory}
 
 -- what a sink of errors tells, and its count of faults
 pub record Errors : Type 0 where
@@ -33,18 +33,6 @@ pub record TopAnswer (command : Option Command) (given : List Told) (before afte
     pub is : status ≡ status_of answer
     pub answers : Answers command given before after answer
     pub told : IsTold errors_before errors_after (answer_line answer)
-
--- a status after which the input and `out` are as before
-abbrev pub IsEarly : Status → Type 0
-IsEarly Usage = Unit {0}
-IsEarly File = Unit {0}
-IsEarly Text = Unit {0}
-IsEarly Types = Unit {0}
-IsEarly NotLinear = Unit {0}
-IsEarly Past = Unit {0}
-IsEarly Limit = Unit {0}
-IsEarly Rejected = Unit {0}
-IsEarly status = ⊥
 
 -- an input that is read is told, and within the limit; told, and past it
 abbrev pub IsShort : Bool → Option (List ℕ) → Type 0
@@ -68,11 +56,3 @@ pub record IsComplete (command : Command) (files : List (List ℕ)) (input : Opt
 abbrev pub Completes : Command → Outside → Status → Type 0
 Completes command before status =
     (files : List (List ℕ)) → map before.texts (names_of command) ≡ map Some files → (status ≡ File → ⊥) → IsComplete command files before.input status
-
--- A source that is told and refused is the one file that `verify` fetches, and the one that may fail: the steps file is read only behind a source in which
--- no rule is broken.
-abbrev pub IsInOrder : Command → Outside → Outside → Status → Type 0
-IsInOrder (verify file steps) before after status =
-    (source : List ℕ) (f : Fault) → before.texts file ≡ Some source → IsBrokenSource source f →
-    (after.fetches ≤ before.fetches + 1) × (status ≡ File → Rose (before.file_faults file) (after.file_faults file))
-IsInOrder command before after status = Unit {0}

@@ -1,29 +1,23 @@
 //! The top call.
-ghost use Rattle.std.specs.Prelude.{◌≡◌, ◌⊎◌, ◌↔◌, ◌≤◌, ◌<◌, ◌+◌, ◌-◌, ◌^◌, ℕ, List, [], ◌∷◌, false, length, map, string_bytes, Option, None, Some, IfSome, IsSomeAnd, IsErrOf, Contains};
-ghost use Rattle.cf_io.specs.Bytes.{TookPrefix, TookFront};
-ghost use Rattle.cf_io.specs.Causes.{Rose, one_more};
-ghost use Rattle.cf_io.specs.Limits.{input_limit};
-ghost use Rattle.cf_top.specs.Commands.{names_of, reads_input};
-ghost use Rattle.cf_top.specs.Ends.{Answers, Does};
-ghost use Rattle.cf_top.specs.Limits.{text_limit};
-ghost use Rattle.cf_top.specs.Outside.{Outside};
-ghost use Rattle.cf_top.specs.Statuses.{status_of as the_status_of};
-ghost use Rattle.cf_top.specs.Steps.{AnswersOn};
-ghost use Rattle.cf_top.specs.Top.{Errors, IsEarly, IsInOrder, Completes, TopAnswer};
+ghost use Rattle.std.specs.Prelude.{◌≡◌, ◌⊎◌, ℕ, List, [], false, map, string_bytes, None, IfSome, IsSomeAnd, IsErrOf, Contains};
+ghost use Rattle.cf_io.specs.Causes.{Rose};
+ghost use Rattle.cf_answer.specs.Commands.{names_of, reads_input};
+ghost use Rattle.cf_answer.specs.Ends.{Answers, Does, IsInOrder};
+ghost use Rattle.cf_answer.specs.Statuses.{status_of as the_status_of, IsEarly};
+ghost use Rattle.cf_top.specs.Top.{Completes, TopAnswer};
 ghost use Rattle.cf_words.specs.Commands.{command_on};
 ghost use Rattle.cf_words.specs.Words.{command_of};
 
-use crate::fault::Fault;
-use crate::file::{run_source, run_target, write_checks, write_preconditions, write_target};
-use crate::limits::longest_text;
-use crate::prove::write_blocks;
-use crate::status::{Status, status_of};
-use crate::tell::tell;
-use crate::verify::verify_files;
-use crate::workload::write_workload;
+use cf_answer::fault::Fault;
+use cf_answer::file::answer_text;
+use cf_answer::limits::longest_text;
+use cf_answer::status::{Status, status_of};
+use cf_answer::tell::tell;
+use cf_answer::verify::verify_files;
+use cf_answer::workload::write_workload;
 use cf_io::{ReadFault, Shelf, Sink, Source, read_text};
 use cf_pass::Pass;
-use cf_words::command::{Command, CommandKind, FileCommand};
+use cf_words::command::{Command, FileCommand};
 use cf_words::fault::WordsFault;
 use cf_words::parse::parse;
 use std::alloc::Global;
@@ -129,38 +123,5 @@ fn answer_file<F: Shelf, I: Source, O: Sink>(
         Err(ReadFault::Failed) => Err(Fault::File),
         Err(ReadFault::TooLong) => Err(Fault::TextTooLong),
         Err(ReadFault::NoMemory) => Err(Fault::NoMemory),
-    }
-}
-
-// Does with the text of a file what the command asks.
-fn answer_text<I: Source, O: Sink>(
-    alloc: Global,
-    command: &FileCommand<'_>,
-    text: &[u8],
-    input: &mut I,
-    out: &mut O,
-    passes: &mut Vec<Box<dyn Pass>>,
-) -> Result<(), Fault>
-    requires short { length text.now ≤ text_limit }
-    requires small { length text.now < 2 ^ 31 }
-    ensures answers { AnswersOn (command_on command.now.kind command.now.flags command.now.file.now)
-        (map (λ p. record { name = name p; tally = tally p }) passes.old.items) (text.now ∷ [])
-        (record { input = I.left input.old; out = O.held out.old }) (record { input = I.left input.new; out = O.held out.new }) result }
-    ensures input { IsErrOf result Fault.Input → I.faults input.new ≡ one_more (I.faults input.old) }
-    ensures input_same { ¬ IsErrOf result Fault.Input → I.faults input.new ≡ I.faults input.old }
-    ensures output { IsErrOf result Fault.Output → O.faults out.new ≡ one_more (O.faults out.old) }
-    ensures output_same { ¬ IsErrOf result Fault.Output → O.faults out.new ≡ O.faults out.old }
-    ensures unread { IsEarly (the_status_of result) → input.new ≡ input.old }
-    ensures unasked { reads_input (command_on command.now.kind command.now.flags command.now.file.now) ≡ false → input.new ≡ input.old }
-    ensures unwritten { IsEarly (the_status_of result) → out.new ≡ out.old }
-{
-    let flags = command.flags;
-    match command.kind {
-        CommandKind::Compile => write_target(alloc, flags, text, out, passes),
-        CommandKind::Run => run_source(alloc, flags, text, input, out, passes),
-        CommandKind::Pre => write_preconditions(alloc, text, out),
-        CommandKind::Check => write_checks(alloc, text, out),
-        CommandKind::Exec => run_target(alloc, text, input, out),
-        CommandKind::Prove => write_blocks(alloc, text, out),
     }
 }

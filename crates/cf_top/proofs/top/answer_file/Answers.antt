@@ -1,6 +1,7 @@
 use Rattle.std.proofs.Common.{◌≡◌, refl, subst, sym, rules}
-use Rattle.cf_top.specs.Outside.{AreTold}
-use Rattle.cf_top.proofs.DoesLemmas.{one_name, text_does, file_does, memory_does, long_does, text_told}
+use Rattle.cf_answer.specs.Outside.{AreTold}
+use Rattle.cf_answer.proofs.OutsideLemmas.{text_told}
+use Rattle.cf_top.proofs.DoesLemmas.{one_name, text_does, file_does, memory_does, long_does}
 use Rattle.cf_top.proofs.top.answer_file.Goals as goal
 
 pub returns-in-Ok-clause-does : goal.returns-in-Ok-clause-does

@@ -1,8 +1,8 @@
 use Rattle.std.proofs.Common.{◌∙◌, sym, subst}
-use Rattle.cf_top.specs.Top.{IsEarly}
+use Rattle.cf_answer.specs.Statuses.{IsEarly}
+use Rattle.cf_answer.proofs.StatusLemmas.{is_usage, is_file, is_input, is_output}
 use Rattle.cf_top.proofs.DoesLemmas.{order_of}
 use Rattle.cf_top.proofs.VerdictLemmas.{completes, no_command, file_rose, input_rose, out_rose, told_or_rose}
-use Rattle.cf_top.proofs.StatusLemmas.{is_usage, is_file, is_input, is_output}
 use Rattle.cf_top.proofs.top.comfusy.Goals as goal
 
 pub returns-clause-tells : goal.returns-clause-tells

@@ -1,0 +1,109 @@
+-- The printed blocks of chooses, one by one.
+use Rattle.std.proofs.Common.{◌≡◌, ◌∙◌, sym, ap, subst, refl, ℕ, ◌+◌, ◌-◌, ◌^◌, ◌<◌, ◌≤◌, List, [], ◌∷◌, ◌++◌, length, map, take, get_or, All, append_assoc, flat_map, Ok, arith}
+use Rattle.std.proofs.lemmas.List.{take_more, take_all, map-append}
+use Rattle.std.proofs.lemmas.List.Elements.{All-nil, All-cons, All-head, All-tail}
+use Rattle.cf_lex.specs.declared.token.TokenList.{TokenList}
+use Rattle.cf_lex.specs.Tokens.{at_end}
+use Rattle.cf_lex.proofs.LexesLemmas.{answer-count}
+use Rattle.cf_linear.specs.declared.refusal.Refusal.{Refusal}
+use Rattle.cf_program.specs.Checked.{TypedTree}
+use Rattle.cf_cases.specs.Holding.{EachOf}
+use Rattle.cf_build.specs.Questions.{Question, all_questions, IsFirstRefused}
+use Rattle.cf_build.specs.Solves.{question_of}
+use Rattle.cf_build.specs.declared.chooses.Choose.{Choose}
+use Rattle.cf_build.specs.declared.fault.BuildFault.TheVariants as faults
+use Rattle.cf_build.proofs.SolveLists.{fault_in_order}
+use Rattle.cf_steps.specs.Printed.{block_text, blocks_text}
+use Rattle.cf_steps.specs.Blocks.{BlockTree, block_acts, block_tree}
+use Rattle.cf_steps.specs.Spelled.{IsSpelledBlock}
+use Rattle.cf_steps.specs.declared.block.Block.{Block}
+use Rattle.cf_steps.proofs.Printing.{blocks_read_back}
+use Rattle.cf_cert.specs.Laws.{AreWithinCases}
+use Rattle.cf_cert.specs.Proving.{IsProved}
+use Rattle.cf_cert.specs.Verifying.{HaveFewSteps}
+use Rattle.cf_cert.proofs.ProveLaws.{spelled_within as cases_within}
+use Rattle.cf_answer.specs.Limits.{text_limit}
+use Rattle.cf_answer.specs.Certificates.{asked, asked_in, OneForEach, IsTraced, AreProofs}
+use Rattle.cf_answer.specs.Refusals.{IsRefusedSource}
+use Rattle.cf_answer.specs.Sources.{HasTokens, IsTypedSource}
+use Rattle.cf_answer.specs.declared.fault.Fault.TheVariants as fault
+use Rattle.cf_answer.specs.Verifying.{AddsBlock, ArePut}
+use Rattle.cf_answer.proofs.CertificateLemmas.{IsWithin, traced_within}
+use Rattle.cf_answer.proofs.TextLemmas.{choose_refused}
+
+pub none_put : ArePut [] []
+none_put = ([], tt, All-nil IsSpelledBlock, refl)
+
+blocks_more : (bs : List Block) (b : Block) → blocks_text (bs ++ b ∷ []) ≡ blocks_text bs ++ blocks_text (b ∷ [])
+blocks_more [] b = refl
+blocks_more (c ∷ bs) b =
+    let first = block_text c.number (block_tree c).cases c.target in
+    ap (λ more. first ++ more) (blocks_more bs b) ∙ sym (append_assoc first (blocks_text bs) (blocks_text (b ∷ [])))
+
+traced_more : (qs : List Question) (bs : List Block) (q : Question) (b : Block) → OneForEach IsTraced qs bs → IsTraced q b →
+    OneForEach IsTraced (qs ++ q ∷ []) (bs ++ b ∷ [])
+traced_more [] [] q b h t = (t, tt)
+traced_more [] (c ∷ bs) q b h t = absurd h
+traced_more (p ∷ qs) [] q b h t = absurd h
+traced_more (p ∷ qs) (c ∷ bs) q b h t = (h.0, traced_more qs bs q b h.1 t)
+
+spelled_more : (bs : List Block) (b : Block) → All IsSpelledBlock bs → IsSpelledBlock b → All IsSpelledBlock (bs ++ b ∷ [])
+spelled_more [] b h s = All-cons IsSpelledBlock b [] s h
+spelled_more (c ∷ bs) b h s =
+    All-cons IsSpelledBlock c (bs ++ b ∷ []) (All-head IsSpelledBlock c bs h) (spelled_more bs b (All-tail IsSpelledBlock c bs h) s)
+
+-- the printed block that a proof of the choose gives
+pub proved_adds : (q : Question) (proved text new : List ℕ) → IsProved (asked q) proved → new ≡ text ++ proved → AddsBlock q text new
+proved_adds q proved text new h is = (
+  h.block,
+  record { within = h.within; is = h.is; proves = record { certifies = h.certifies; means = h.means } },
+  h.spelled,
+  is ∙ ap (λ more. text ++ more) h.printed,
+)
+
+-- the first choose that is refused as a fault of its source
+pub block_refused : (source : List ℕ) (typed : TypedTree) (qs : List Question) (n : ℕ) (r : Refusal) → qs ≡ asked_in typed → IsTypedSource source typed →
+    IsFirstRefused qs n r → IsRefusedSource source (fault.Choose n r)
+block_refused source typed qs n r are s h =
+    let first : IsFirstRefused (asked_in typed) n r = subst (λ ps. IsFirstRefused ps n r) are h in
+    choose_refused source typed n r s (fault_in_order (all_questions typed.defs) (faults.Choose n r) first)
+
+-- one more choose
+pub put_more : (cs : List Choose) (i : ℕ) (c : Choose) (text new : List ℕ) → i < length cs → c ≡ get_or cs i c → ArePut (map question_of (take i cs)) text →
+    AddsBlock (question_of c) text new → ArePut (map question_of (take (i + 1) cs)) new
+put_more cs i c text new lt is (bs, traced, spelled, same) (b, t, s, next) =
+    let chooses : take (i + 1) cs ≡ take i cs ++ c ∷ [] = take_more cs i c lt ∙ ap (λ x. take i cs ++ x ∷ []) (sym is) in
+    let asked : map question_of (take (i + 1) cs) ≡ map question_of (take i cs) ++ question_of c ∷ [] =
+    ap (map question_of) chooses ∙ map-append question_of (take i cs) (c ∷ []) in
+    subst (λ qs. ArePut qs new) (sym asked) (
+      bs ++ b ∷ [],
+      traced_more (map question_of (take i cs)) bs (question_of c) b traced t,
+      spelled_more bs b spelled s,
+      next ∙ ap (λ x. x ++ blocks_text (b ∷ [])) same ∙ sym (blocks_more bs b),
+    )
+
+-- those before it pass no limit
+pub put_within : (qs : List Question) (text : List ℕ) → ArePut qs text → All IsWithin qs
+put_within qs text (bs, traced, spelled, same) = traced_within qs bs traced
+
+-- all
+pub put_all : (cs : List Choose) (i : ℕ) (text : List ℕ) → length cs ≤ i → ArePut (map question_of (take i cs)) text → AreProofs (map question_of cs) text
+put_all cs i text few h =
+    let whole : ArePut (map question_of cs) text = subst (λ ds. ArePut (map question_of ds) text) (take_all i cs few) h in
+    let bs = whole.0 in
+    (bs, whole.1, whole.3, rw whole.3 (blocks_read_back bs whole.2))
+
+-- ---- blocks that are read
+-- the numbers of blocks that have a spelling are within the limit
+pub spelled_within : (bs : List Block) → All IsSpelledBlock bs → EachOf (λ b. AreWithinCases b.cases) (map block_tree bs)
+spelled_within [] h = tt
+spelled_within (b ∷ bs) h =
+    let first : IsSpelledBlock b = All-head IsSpelledBlock b bs h in
+    (cases_within (block_tree b).cases first.cases, spelled_within bs (All-tail IsSpelledBlock b bs h))
+
+-- a text has at most as many tokens as bytes, so that few steps stand in it
+pub few_steps : (bs : List BlockTree) (text : List ℕ) (list : TokenList) → length (flat_map block_acts bs) ≤ length list.list.items →
+    HasTokens text list.list.items list.end at_end → HaveFewSteps bs
+unfolding text_limit
+few_steps bs text list few h =
+    let tokens : length list.list.items ≤ length text = answer-count (2 ^ 127 - 1) text (Ok list) h.1 in omega (arith, few, tokens, h.0)

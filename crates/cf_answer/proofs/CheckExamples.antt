@@ -1,0 +1,158 @@
+-- Worked examples of the lines of `check`.
+use Rattle.std.proofs.Common.{◌≡◌, ap, refl, ℕ, zero, suc, pos, negsuc, List, [], ◌∷◌, Vec, Global, arith, codes}
+use Rattle.std.specs.Fmt.{digits}
+use Rattle.std.specs.Prelude.{Contains}
+use Rattle.cf_tree.specs.declared.base.Base.TheVariants.{Int, Set}
+use Rattle.cf_tree.specs.declared.base.Order.TheVariants.{Eq}
+use Rattle.cf_tree.specs.RelTree.{term_lit, term_var, term_add, term_mul, set_var, rel_false, rel_compare, rel_subset, rel_and}
+use Rattle.cf_linear.specs.declared.refusal.LimitKind.TheVariants as kind
+use Rattle.cf_linear.specs.declared.refusal.Refusal.TheVariants as refusal
+use Rattle.cf_match.specs.Matches.{MatchTree}
+use Rattle.cf_match.specs.declared.class.Class.TheVariants.{Point, Residue}
+use Rattle.cf_build.specs.Questions.{Question}
+use Rattle.cf_eval.specs.declared.value.Value.{Value as RunValue}
+use Rattle.cf_eval.specs.declared.value.Value.TheVariants as ran
+use Rattle.cf_warn.specs.declared.answer.Doubt.TheVariants.{Refused, Overflow}
+use Rattle.cf_warn.specs.declared.answer.ExistenceAnswer.TheVariants as existence
+use Rattle.cf_warn.specs.declared.answer.UniquenessAnswer.TheVariants as uniqueness
+use Rattle.cf_warn.specs.declared.covers.Cover.TheVariants as cover
+use Rattle.cf_warn.specs.Covers.{IsCover}
+use Rattle.cf_warn.specs.Verdicts.{IsExistence, IsUniqueness}
+use Rattle.cf_answer.specs.Checks.{existence_line, uniqueness_line, cover_line, IsOwn, AreLines, of_choose, of_arm, of_match}
+
+-- choose 7, where p, s and a are in scope, and the relation speaks of a and s
+abbrev some_choose : Question
+some_choose = record {
+  number = 7;
+  names = codes "p" ∷ codes "s" ∷ codes "a" ∷ [];
+  scope = Int ∷ Set ∷ Int ∷ [];
+  outputs = Int ∷ Set ∷ [];
+  relation = rel_and (rel_compare Eq (term_var 3) (term_var 2)) (rel_subset (set_var 4) (set_var 1));
+}
+
+-- choose 12, which speaks of no variable in scope
+abbrev without_parameters : Question
+without_parameters = record {
+  number = 12;
+  names = codes "p" ∷ [];
+  scope = Int ∷ [];
+  outputs = Int ∷ [];
+  relation = rel_compare Eq (term_var 1) (term_var 1);
+}
+
+module _ (sample first second : Vec RunValue Global) where
+  always : existence_line some_choose existence.Always ≡ codes "choose 7: outputs always\n"
+  unfolding digits
+  always = refl
+
+  missing : sample.items ≡ ran.Elements (negsuc 0 ∷ pos 4 ∷ []) ∷ ran.Int (pos 5) ∷ [] →
+      existence_line some_choose (existence.Missing sample) ≡ codes "choose 7: no outputs for s = {-1,4}, a = 5\n"
+  unfolding digits
+  missing e = rw e refl
+
+  missing_everywhere : sample.items ≡ [] → existence_line without_parameters (existence.Missing sample) ≡ codes "choose 12: no outputs\n"
+  unfolding digits
+  missing_everywhere e = rw e refl
+
+  existence_past : existence_line some_choose (existence.Undecided (Refused refusal.Past)) ≡ codes "choose 7: existence undecided: coefficient past 128 bits\n"
+  unfolding digits
+  existence_past = refl
+
+  existence_limit : existence_line some_choose (existence.Undecided (Refused (refusal.Limit kind.Search 2097152))) ≡ codes
+      "choose 7: existence undecided: Search 2097152\n"
+  unfolding digits
+  existence_limit = refl
+
+  unique : uniqueness_line some_choose uniqueness.Unique ≡ codes "choose 7: outputs unique\n"
+  unfolding digits
+  unique = refl
+
+  two : sample.items ≡ ran.Elements [] ∷ ran.Int (pos 1) ∷ [] → first.items ≡ ran.Int (pos 0) ∷ ran.Elements [] ∷ [] →
+      second.items ≡ ran.Int (pos 1) ∷ ran.Elements (pos 2 ∷ []) ∷ [] →
+      uniqueness_line some_choose (uniqueness.Two sample first second) ≡ codes "choose 7: two outputs for s = {}, a = 1: 0 {} and 1 {2}\n"
+  unfolding digits
+  two e f g = rw (e, f, g) refl
+
+  two_everywhere : sample.items ≡ [] → first.items ≡ ran.Int (negsuc 0) ∷ [] → second.items ≡ ran.Int (pos 0) ∷ [] →
+      uniqueness_line without_parameters (uniqueness.Two sample first second) ≡ codes "choose 12: two outputs: -1 and 0\n"
+  unfolding digits
+  two_everywhere e f g = rw (e, f, g) refl
+
+  uniqueness_overflow : uniqueness_line some_choose (uniqueness.Undecided Overflow) ≡ codes "choose 7: uniqueness undecided: overflow\n"
+  unfolding digits
+  uniqueness_overflow = refl
+
+covered : cover_line 2 cover.All ≡ codes "match 2: covers all numbers\n"
+unfolding digits
+covered = refl
+
+misses : cover_line 2 (cover.Misses (pos 5)) ≡ codes "match 2: misses 5\n"
+unfolding digits
+misses = refl
+
+coverage_limit : cover_line 2 (cover.Undecided (Refused (refusal.Limit kind.Cases 2048))) ≡ codes "match 2: coverage undecided: Cases 2048\n"
+unfolding digits
+coverage_limit = refl
+
+-- match 1, whose first arm has the number 2, and whose second one has no variable
+abbrev one_match : List MatchTree
+one_match = record { number = 1; arms = 2 ∷ 0 ∷ []; classes = Residue (pos 2) (pos 0) ∷ Point (pos 3) ∷ [] } ∷ []
+
+-- the only match
+only : (m : MatchTree) → Contains one_match m → m ≡ record { number = 1; arms = 2 ∷ 0 ∷ []; classes = Residue (pos 2) (pos 0) ∷ Point (pos 3) ∷ [] }
+only m (zero, lt, is) = cc
+only m (suc k, lt, is) = absurd (omega (arith, lt))
+
+there : Contains one_match (record { number = 1; arms = 2 ∷ 0 ∷ []; classes = Residue (pos 2) (pos 0) ∷ Point (pos 3) ∷ [] })
+there = (0, omega arith, refl)
+
+a_match_is_no_choose : IsOwn one_match 1 → ⊥
+a_match_is_no_choose h = (h _ there).0 refl
+
+an_arm_is_no_choose : IsOwn one_match 2 → ⊥
+an_arm_is_no_choose h = (h _ there).1 (0, omega arith, refl)
+
+three_is_a_choose : IsOwn one_match 3
+three_is_a_choose m c = (λ e. no_match (ap (λ v. v.number) (only m c)) e, λ a. no_arm (ap (λ v. v.arms) (only m c)) a)
+  where
+    no_match : m.number ≡ 1 → m.number ≡ 3 → ⊥
+    no_match e f = omega (arith, e, f)
+
+    no_arm : m.arms ≡ 2 ∷ 0 ∷ [] → Contains m.arms 3 → ⊥
+    no_arm e a = not_three (rw e at a)
+      where
+        not_three : Contains {X = ℕ} (2 ∷ 0 ∷ []) 3 → ⊥
+        not_three (zero, lt, is) = omega (arith, is)
+        not_three (suc zero, lt, is) = omega (arith, is)
+        not_three (suc (suc k), lt, is) = omega (arith, lt)
+
+-- ---- the lines of each kind of number, where these verdicts hold
+-- choose 2 is the one of the first arm: `match == 2 * i + 0`
+abbrev of_first_arm : Question
+of_first_arm = record {
+  number = 2;
+  names = codes "a" ∷ codes "match" ∷ [];
+  scope = Int ∷ Int ∷ [];
+  outputs = Int ∷ [];
+  relation = rel_compare Eq (term_var 1) (term_add (term_mul (term_lit (pos 2)) (term_var 2)) (term_lit (pos 0)));
+}
+
+-- choose 1 is the one that stands for a number that no arm fits
+abbrev of_no_arm : Question
+of_no_arm = record { number = 1; names = codes "a" ∷ codes "match" ∷ []; scope = Int ∷ Int ∷ []; outputs = Int ∷ []; relation = rel_false }
+
+two_lines : IsOwn one_match 7 → IsExistence some_choose.scope some_choose.outputs some_choose.relation existence.Always →
+    IsUniqueness some_choose.scope some_choose.outputs some_choose.relation uniqueness.Unique →
+    AreLines one_match some_choose (codes "choose 7: outputs always\nchoose 7: outputs unique\n")
+unfolding digits
+two_lines own e u = of_choose own existence.Always uniqueness.Unique e u
+
+one_line_of_an_arm : IsUniqueness of_first_arm.scope of_first_arm.outputs of_first_arm.relation (uniqueness.Undecided Overflow) →
+    AreLines one_match of_first_arm (codes "choose 2: uniqueness undecided: overflow\n")
+unfolding digits
+one_line_of_an_arm u = of_arm _ there (0, omega arith, refl) (uniqueness.Undecided Overflow) u
+
+one_line_of_a_match : IsCover (Residue (pos 2) (pos 0) ∷ Point (pos 3) ∷ []) (cover.Misses (pos 5)) →
+    AreLines one_match of_no_arm (codes "match 1: misses 5\n")
+unfolding digits
+one_line_of_a_match c = of_match _ there refl (cover.Misses (pos 5)) c

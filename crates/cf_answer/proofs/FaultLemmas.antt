@@ -1,0 +1,111 @@
+-- The faults of a text.
+use Rattle.std.proofs.Common.{◌≡◌, inl, inr, sym, subst, ℕ, List, [], ◌∷◌}
+use Rattle.std.specs.Prelude.{◌⊎◌, Result, Err}
+use Rattle.cf_gen.specs.Workload.{gen_source}
+use Rattle.cf_lex.specs.declared.token.Token.{Token}
+use Rattle.cf_reader.specs.Readers.{Reader}
+use Rattle.cf_tree.specs.DefView.{RawDefTree}
+use Rattle.cf_target.specs.Spelling.{TargetTree}
+use Rattle.cf_words.specs.Commands.{Command, compile, run, pre, check, exec, prove, verify, gen}
+use Rattle.cf_answer.specs.Refusals.{Causes, too_long, odd_byte, large_number, no_tree, bad_tree, IsBadProgram, broken, refused, IsBadRun, bad, broken_late, IsBadTarget, untyped, IsRefusedSource, IsRefusedRun, IsRefusedTarget, IsBroken, broken_rule, IsUnverified, bad_source, bad_steps, bad_blocks, Refuses}
+use Rattle.cf_answer.specs.declared.fault.Fault.{Fault}
+use Rattle.cf_answer.specs.declared.fault.Fault.TheVariants as fault
+
+abbrev pub failed : Fault → Result (Unit {0}) Fault
+failed f = Err f
+
+-- a fault for which a text is refused
+abbrev pub IsTextFault : Fault → Type 0
+IsTextFault fault.TextTooLong = Unit {0}
+IsTextFault (fault.BadByte p) = Unit {0}
+IsTextFault (fault.NumberPast p) = Unit {0}
+IsTextFault (fault.Syntax p) = Unit {0}
+IsTextFault (fault.Rule e) = Unit {0}
+IsTextFault (fault.Choose n r) = Unit {0}
+IsTextFault fault.BadTarget = Unit {0}
+IsTextFault (fault.Steps e) = Unit {0}
+IsTextFault (fault.Rejected n i j w) = Unit {0}
+IsTextFault f = ⊥
+
+caused : {Tree : Type 0} (Is : Tree → List Token → Type 0) (read : Reader Tree) (Bad : Tree → Fault → Type 0) →
+    ((x : Tree) (f : Fault) → Bad x f → IsTextFault f) →
+    (text : List ℕ) (f : Fault) → Causes Is read Bad text f → IsTextFault f
+caused Is read Bad by text f (too_long h) = tt
+caused Is read Bad by text f (odd_byte ts p h) = tt
+caused Is read Bad by text f (large_number ts p h) = tt
+caused Is read Bad by text f (no_tree ts end p h none place) = tt
+caused Is read Bad by text f (bad_tree x g s b) = by x g b
+
+program_fault : (program : List RawDefTree) (f : Fault) → IsBadProgram program f → IsTextFault f
+program_fault program f (broken e h) = tt
+program_fault program f (refused typed n r h b) = tt
+
+run_fault : (program : List RawDefTree) (f : Fault) → IsBadRun program f → IsTextFault f
+run_fault program f (bad g b other) = program_fault program g b
+run_fault program f (broken_late p e plain h) = tt
+
+target_fault : (t : TargetTree) (f : Fault) → IsBadTarget t f → IsTextFault f
+target_fault t f (untyped h) = tt
+
+source_text : (text : List ℕ) (f : Fault) → IsRefusedSource text f → IsTextFault f
+source_text text f h = caused _ _ _ program_fault text f h
+
+run_text : (text : List ℕ) (f : Fault) → IsRefusedRun text f → IsTextFault f
+run_text text f h = caused _ _ _ run_fault text f h
+
+target_text : (text : List ℕ) (f : Fault) → IsRefusedTarget text f → IsTextFault f
+target_text text f h = caused _ _ _ target_fault text f h
+
+broken_fault : (program : List RawDefTree) (f : Fault) → IsBroken program f → IsTextFault f
+broken_fault program f (broken_rule e h) = tt
+
+verify_fault : (source steps : List ℕ) (f : Fault) → IsUnverified source steps f → IsTextFault f
+verify_fault source steps f (bad_source g h) = caused _ _ _ broken_fault source f h
+verify_fault source steps f (bad_steps typed e s h) = tt
+verify_fault source steps f (bad_blocks typed bs n i j w s b v) = tt
+
+pub refused_fault : (c : Command) (files : List (List ℕ)) (f : Fault) → Refuses c files f → IsTextFault f
+refused_fault (compile flags name) (text ∷ []) f h = source_text text f h
+refused_fault (run flags name) (text ∷ []) f h = run_text text f h
+refused_fault (pre name) (text ∷ []) f h = source_text text f h
+refused_fault (check name) (text ∷ []) f h = source_text text f h
+refused_fault (exec name) (text ∷ []) f h = target_text text f h
+refused_fault (prove name) (text ∷ []) f h = source_text text f h
+refused_fault (verify name other) (source ∷ steps ∷ []) f h = verify_fault source steps f h
+refused_fault (gen n) [] f h = source_text (gen_source n) f h
+refused_fault c files f h = absurd h
+
+-- a source that is refused, or for which memory ran out, names no object outside
+abbrev pub IsInner : Fault → Type 0
+IsInner fault.Usage = ⊥
+IsInner fault.File = ⊥
+IsInner fault.Input = ⊥
+IsInner fault.Output = ⊥
+IsInner fault.InputTooLong = ⊥
+IsInner f = Unit {0}
+
+text_inner : (f : Fault) → IsTextFault f → IsInner f
+text_inner fault.Usage h = h
+text_inner fault.File h = h
+text_inner fault.Input h = h
+text_inner fault.Output h = h
+text_inner fault.InputTooLong h = h
+text_inner f h = tt
+
+pub source_inner : (text : List ℕ) (f : Fault) → IsRefusedSource text f ⊎ (f ≡ fault.NoMemory) → IsInner f
+source_inner text f (inl h) = text_inner f (source_text text f h)
+source_inner text f (inr e) = subst IsInner (sym e) tt
+
+pub run_inner : (text : List ℕ) (f : Fault) → IsRefusedRun text f ⊎ (f ≡ fault.NoMemory) → IsInner f
+run_inner text f (inl h) = text_inner f (run_text text f h)
+run_inner text f (inr e) = subst IsInner (sym e) tt
+
+pub target_inner : (text : List ℕ) (f : Fault) → IsRefusedTarget text f ⊎ (f ≡ fault.NoMemory) → IsInner f
+target_inner text f (inl h) = text_inner f (target_text text f h)
+target_inner text f (inr e) = subst IsInner (sym e) tt
+
+pub inner_input : (f : Fault) → IsInner f → failed f ≡ Err fault.Input → ⊥
+inner_input f h e = let same : f ≡ fault.Input = cc in subst IsInner same h
+
+pub inner_output : (f : Fault) → IsInner f → failed f ≡ Err fault.Output → ⊥
+inner_output f h e = let same : f ≡ fault.Output = cc in subst IsInner same h

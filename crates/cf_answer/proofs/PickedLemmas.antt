@@ -1,0 +1,212 @@
+-- The replies of the target that a source is compiled to are what the source picks.
+use Rattle.std.proofs.Common.{◌≡◌, ◌∙◌, sym, ap, subst, refl, ℕ, zero, suc, ◌-◌, ◌^◌, ◌<◌, ◌≤◌, length, ◌⊎◌, ℤ, pos, ◌+ℤ◌, codes, List, [], ◌∷◌, map, get_or, slice_get, Option, Some, None, inl, inr, arith}
+use Rattle.cf_num.specs.Limit.{limit, IsWithin}
+use Rattle.cf_io.specs.Limits.{line_limit}
+use Rattle.cf_lex.specs.Digits.{digits_value}
+use Rattle.cf_tree.specs.declared.base.Base.{Base}
+use Rattle.cf_tree.specs.declared.base.Base.TheVariants as base
+use Rattle.cf_tree.specs.declared.target.RawTarget.{RawTarget}
+use Rattle.std.proofs.lemmas.Bool.{cases_lt}
+use Rattle.cf_tree.specs.CodeView.{code_tree}
+use Rattle.cf_tree.specs.Meaning.{means, peak}
+use Rattle.cf_tree.specs.DefView.{DefTree}
+use Rattle.cf_tree.specs.Values.{Value, number, truth, elements, Outcome, values, no_solution, number_of, HasBase, HaveBases}
+use Rattle.cf_tree.proofs.RisingLemmas.{rising_set_of}
+use Rattle.cf_program.specs.Checked.{TypedTree}
+use Rattle.cf_program.specs.Names.{bases_of}
+use Rattle.cf_growth.specs.Meeting.{AreSmall}
+use Rattle.cf_build.specs.Built.{IsBuilt, SourceAllows}
+use Rattle.cf_build.specs.Runs.{RunsAsPicked}
+use Rattle.cf_eval.specs.Replies.{meaning_text, IsReply, too_long, bad_input, meaning}
+use Rattle.cf_eval.specs.Spelling.{without_return, IsNumber, IsValue, Spells, SpellsValues}
+use Rattle.cf_eval.specs.Texts.{outcome_text}
+use Rattle.cf_eval.specs.Answers.{Answers}
+use Rattle.cf_eval.specs.Seen.{plains}
+use Rattle.cf_eval.specs.declared.value.Outcome.{Outcome as RunOutcome}
+use Rattle.cf_eval.specs.declared.value.Outcome.TheVariants.{Values, NoSolution, Overflow}
+use Rattle.cf_answer.specs.Owed.{by_target, IsReplyBy, AllReplied, AreReplies, ArePicked, IsSum}
+use Rattle.cf_answer.specs.Picked.{main_bases, main_picks, picked_text, IsSourceReply, too_long as source_too_long, bad_input as source_bad_input, picks, allows, outcome_number, adds}
+use Rattle.cf_answer.specs.Sources.{Compiles}
+use Rattle.cf_answer.specs.Steps.{run_number, LineAdds, long_line, odd_line, read_line, AddUp}
+use Rattle.cf_answer.proofs.ReplyLemmas.{within_text, overflow_text}
+use Rattle.cf_answer.proofs.SpelledLemmas.{neg_within, none_within}
+
+-- what a line spells has its bases and is small
+number_fits : (w : List ℕ) (z : ℤ) → IsNumber limit w z → IsWithin z
+number_fits [] z h = absurd h
+number_fits (b ∷ w) z (inl h) = subst IsWithin (sym h.2) (neg_within (pos (digits_value w)) h.1.fits)
+number_fits (b ∷ w) z (inr h) = subst IsWithin (sym h.1) h.0.fits
+
+value_fits : (b : Base) (w : List ℕ) (v : Value) → IsValue limit b w v → HasBase b v × IsWithin (number_of v)
+value_fits base.Int w (number z) h = ((z, refl), number_fits w z h)
+value_fits base.Int w (truth t) h = absurd h
+value_fits base.Int w (elements es) h = absurd h
+value_fits base.Bool w (number z) h = absurd h
+value_fits base.Bool w (truth t) h = ((t, refl), none_within)
+value_fits base.Bool w (elements es) h = absurd h
+value_fits base.Set w (number z) h = absurd h
+value_fits base.Set w (truth t) h = absurd h
+value_fits base.Set w (elements es) h = ((es, refl, rw h.4 (rising_set_of h.1)), none_within)
+
+pub values_fit : (bases : List Base) (text : List ℕ) (vs : List Value) → Spells limit bases text vs → HaveBases bases vs × AreSmall limit vs
+values_fit [] text [] h = (tt, tt)
+values_fit [] text (v ∷ vs) h = absurd h
+values_fit (b ∷ bases) text [] h = absurd h
+values_fit (b ∷ bases) text (v ∷ vs) h =
+    let first = value_fits b h.1 v h.5 in
+    let more = values_fit bases h.2 vs h.7 in
+    ((first.0, more.0), (first.1, more.1))
+
+-- the target has the parameters of main
+pub parameters_at : (ds : List DefTree) (i : ℕ) (d : DefTree) → slice_get ds i ≡ Some d →
+    get_or (map (λ e. bases_of e.params) ds) i [] ≡ bases_of d.params
+parameters_at [] i d e = cc
+parameters_at (c ∷ ds) zero d e = let same : c ≡ d = cc in rw same refl
+parameters_at (c ∷ ds) (suc i) d e = parameters_at ds i d e
+
+same_parameters : (typed : TypedTree) (passes : ℕ) (t : RawTarget) → IsBuilt typed.defs typed.main passes t → t.params.items ≡ main_bases typed
+same_parameters typed passes t h = let like = h.like_main in like.2 ∙ sym (parameters_at typed.defs typed.main like.0 like.1)
+
+-- the text of what is picked is that of the meaning
+picked_text_of : (typed : TypedTree) (passes : ℕ) (t : RawTarget) (vs : List Value) (o : Outcome) → main_picks typed vs ≡ Some o →
+    RunsAsPicked typed.defs typed.main passes (code_tree t.code) vs → picked_text (Some o) ≡ meaning_text (2 ^ 127 - 1) t vs
+picked_text_of typed passes t vs o e h =
+    let runs = h.outcome o e in within_text (2 ^ 127 - 1) t vs (outcome_text o) runs.0 (ap outcome_text (sym runs.1))
+
+-- what is known of values that a line spells
+record Read (typed : TypedTree) (passes : ℕ) (t : RawTarget) (line : List ℕ) (vs : List Value) : Type 0 where
+  short : length line ≤ line_limit
+  spelled : SpellsValues limit (main_bases typed) line vs
+  allowed : SourceAllows typed.defs typed.main vs (means (code_tree t.code) vs)
+  runs : RunsAsPicked typed.defs typed.main passes (code_tree t.code) vs
+
+-- main picks overflow: the target overflows, or it has an outcome that is allowed, and there are passes
+overflows : (typed : TypedTree) (passes : ℕ) (t : RawTarget) (line : List ℕ) (vs : List Value) → main_picks typed vs ≡ None → Read typed passes t line vs →
+    (limit < peak (code_tree t.code) vs) ⊎ (peak (code_tree t.code) vs ≤ limit) → IsSourceReply typed passes line (meaning_text (2 ^ 127 - 1) t vs)
+overflows typed passes t line vs e r (inl past) =
+    subst (IsSourceReply typed passes line) (ap picked_text e ∙ overflow_text (2 ^ 127 - 1) t vs past) (picks vs r.short r.spelled (λ _. r.runs.near past))
+overflows typed passes t line vs e r (inr within) =
+    subst (IsSourceReply typed passes line) (within_text (2 ^ 127 - 1) t vs (outcome_text (means (code_tree t.code) vs)) within refl)
+    (allows vs (means (code_tree t.code) vs) r.short r.spelled e (some_pass passes (λ none. r.runs.overflow none e)) r.allowed)
+  where
+    some_pass : (n : ℕ) → (n ≡ 0 → limit < peak (code_tree t.code) vs) → 1 ≤ n
+    some_pass zero h = absurd (omega (arith, within, h refl))
+    some_pass (suc n) h = omega arith
+
+reply_to : (typed : TypedTree) (passes : ℕ) (t : RawTarget) (line : List ℕ) (vs : List Value) (p : Option Outcome) → main_picks typed vs ≡ p →
+    Read typed passes t line vs →
+    IsSourceReply typed passes line (meaning_text (2 ^ 127 - 1) t vs)
+reply_to typed passes t line vs (Some o) e r =
+    subst (IsSourceReply typed passes line) (ap picked_text e ∙ picked_text_of typed passes t vs o e r.runs) (picks vs r.short r.spelled (λ none. cc))
+reply_to typed passes t line vs None e r = overflows typed passes t line vs e r (cases_lt limit (peak (code_tree t.code) vs))
+
+picked_reply : (typed : TypedTree) (passes : ℕ) (t : RawTarget) → IsBuilt typed.defs typed.main passes t → (line reply : List ℕ) →
+    IsReply line_limit (2 ^ 127 - 1) t line reply → IsSourceReply typed passes line reply
+picked_reply typed passes t h line reply (too_long long) = source_too_long long
+picked_reply typed passes t h line reply (bad_input short none) =
+    source_bad_input short (λ vs r. none vs (subst (λ bs. SpellsValues limit bs line vs) (sym (same_parameters typed passes t h)) r))
+picked_reply typed passes t h line reply (meaning vs short r) =
+    let fit = values_fit t.params.items (without_return line) vs r in
+    reply_to typed passes t line vs (main_picks typed vs) refl (record {
+      short = short;
+      spelled = subst (λ bs. SpellsValues limit bs line vs) (same_parameters typed passes t h) r;
+      allowed = h.allowed vs fit.0;
+      runs = h.runs vs fit.0 fit.1;
+    })
+
+-- the same of all lines
+all_replied : (P Q : List ℕ → List ℕ → Type 0) → ((line reply : List ℕ) → P line reply → Q line reply) → (ls : List (List ℕ)) (text : List ℕ) →
+    AllReplied P ls text → AllReplied Q ls text
+all_replied P Q by [] text h = h
+all_replied P Q by (line ∷ ls) text h = (h.0, h.1, h.2, by line h.0 h.3, all_replied P Q by ls h.1 h.4)
+
+pub replies_picked : (passes : ℕ) (file : List ℕ) (t : RawTarget) (ls : List (List ℕ)) (text : List ℕ) → Compiles passes file t →
+    AreReplies (by_target t) ls text →
+    ArePicked passes file ls text
+replies_picked passes file t ls text h replies =
+    (h.0, h.1, all_replied (IsReplyBy (by_target t)) (IsSourceReply h.0 passes) (picked_reply h.0 passes t h.2) ls text replies)
+
+-- what a run adds is what the reply to the line adds that the source picks
+record Added (typed : TypedTree) (passes : ℕ) (line : List ℕ) (z : ℤ) : Type 0 where
+  reply : List ℕ
+  told : IsSourceReply typed passes line reply
+  same : z ≡ adds typed passes line reply told
+
+never_both : {A : Type 0} (most high : ℕ) → most < high → high ≤ most → A
+never_both most high past within = absurd (omega (arith, past, within))
+
+passes_of : (passes most high : ℕ) → high ≤ most → (passes ≡ 0 → most < high) → 1 ≤ passes
+passes_of zero most high within past = never_both most high (past refl) within
+passes_of (suc n) most high within past = omega arith
+
+-- main picks an outcome
+some_added : (typed : TypedTree) (passes : ℕ) (t : RawTarget) (line : List ℕ) (vs : List Value) (o : Outcome) → main_picks typed vs ≡ Some o →
+    Read typed passes t line vs → Added typed passes line (outcome_number (Some o))
+some_added typed passes t line vs o e r = record {
+  reply = picked_text (main_picks typed vs);
+  told = picks vs r.short r.spelled (λ none. cc);
+  same = ap outcome_number (sym e);
+}
+
+-- main picks overflow, and so the target does
+past_added : (typed : TypedTree) (passes : ℕ) (t : RawTarget) (line : List ℕ) (vs : List Value) → main_picks typed vs ≡ None → Read typed passes t line vs →
+    limit < peak (code_tree t.code) vs → Added typed passes line (pos 0)
+past_added typed passes t line vs e r past = record {
+  reply = picked_text (main_picks typed vs);
+  told = picks vs r.short r.spelled (λ _. r.runs.near past);
+  same = ap outcome_number (sym e);
+}
+
+-- main picks overflow, and the target does not
+within_added : (typed : TypedTree) (passes : ℕ) (t : RawTarget) (line : List ℕ) (vs : List Value) → main_picks typed vs ≡ None →
+    Read typed passes t line vs → peak (code_tree t.code) vs ≤ limit → Added typed passes line (outcome_number (Some (means (code_tree t.code) vs)))
+within_added typed passes t line vs e r within = record {
+  reply = outcome_text (means (code_tree t.code) vs);
+  told = allows vs (means (code_tree t.code) vs) r.short r.spelled e
+      (passes_of passes limit (peak (code_tree t.code) vs) within (λ none. r.runs.overflow none e)) r.allowed;
+  same = refl;
+}
+
+-- the target means an outcome and meets no number past the limit
+meant_added : (typed : TypedTree) (passes : ℕ) (t : RawTarget) (line : List ℕ) (vs : List Value) (o : Outcome) (p : Option Outcome) → main_picks typed vs ≡ p →
+    Read typed passes t line vs → means (code_tree t.code) vs ≡ o → peak (code_tree t.code) vs ≤ limit → Added typed passes line (outcome_number (Some o))
+meant_added typed passes t line vs o (Some q) e r same within =
+    let picked : q ≡ o = sym (r.runs.outcome q e).1 ∙ same in
+    subst (λ v. Added typed passes line (outcome_number (Some v))) picked (some_added typed passes t line vs q e r)
+meant_added typed passes t line vs o None e r same within =
+    subst (λ v. Added typed passes line (outcome_number (Some v))) same (within_added typed passes t line vs e r within)
+
+overflow_added : (typed : TypedTree) (passes : ℕ) (t : RawTarget) (line : List ℕ) (vs : List Value) (p : Option Outcome) → main_picks typed vs ≡ p →
+    Read typed passes t line vs → limit < peak (code_tree t.code) vs → Added typed passes line (pos 0)
+overflow_added typed passes t line vs (Some q) e r past = never_both limit (peak (code_tree t.code) vs) past (r.runs.outcome q e).0
+overflow_added typed passes t line vs None e r past = past_added typed passes t line vs e r past
+
+run_added : (typed : TypedTree) (passes : ℕ) (t : RawTarget) (line : List ℕ) (vs : List Value) (o : RunOutcome) → Read typed passes t line vs →
+    Answers (code_tree t.code) vs o → Added typed passes line (run_number o)
+run_added typed passes t line vs (Values given) r a = meant_added typed passes t line vs (values (plains given.items)) (main_picks typed vs) refl r a.0 a.1
+run_added typed passes t line vs (NoSolution n) r a = meant_added typed passes t line vs (no_solution n) (main_picks typed vs) refl r a.0 a.1
+run_added typed passes t line vs Overflow r a = overflow_added typed passes t line vs (main_picks typed vs) refl r a
+
+line_added : (typed : TypedTree) (passes : ℕ) (t : RawTarget) → IsBuilt typed.defs typed.main passes t → (line : List ℕ) (z : ℤ) → LineAdds t line z →
+    Added typed passes line z
+line_added typed passes t h line z (long_line long is) = record { reply = codes "line too long"; told = source_too_long long; same = is }
+line_added typed passes t h line z (odd_line short none is) = record {
+  reply = codes "bad input";
+  told = source_bad_input short (λ vs r. none vs (subst (λ bs. SpellsValues limit bs line vs) (sym (same_parameters typed passes t h)) r));
+  same = is;
+}
+line_added typed passes t h line z (read_line vs short r by) =
+    let fit = values_fit t.params.items (without_return line) vs r in
+    subst (Added typed passes line) (sym by.is) (run_added typed passes t line vs by.outcome (record {
+      short = short;
+      spelled = subst (λ bs. SpellsValues limit bs line vs) (same_parameters typed passes t h) r;
+      allowed = h.allowed vs fit.0;
+      runs = h.runs vs fit.0 fit.1;
+    }) by.answers)
+
+pub sum_picked : (typed : TypedTree) (passes : ℕ) (t : RawTarget) → IsBuilt typed.defs typed.main passes t → (ls : List (List ℕ)) (sum : ℤ) → AddUp t ls sum →
+    IsSum typed passes ls sum
+sum_picked typed passes t h [] sum a = a
+sum_picked typed passes t h (line ∷ ls) sum a =
+    let first = line_added typed passes t h line a.0 a.3 in
+    (first.reply, first.told, a.1, a.2 ∙ ap (λ z. z +ℤ a.1) first.same, sum_picked typed passes t h ls a.1 a.4)

@@ -1,0 +1,134 @@
+-- Why `run` refuses a source text, and what answers its lines where it does not.
+use Rattle.std.proofs.Common.{◌≡◌, ap, refl, inl, inr, ℕ, List}
+use Rattle.std.specs.Prelude.{◌⊎◌, Result, Ok, Err}
+use Rattle.cf_linear.specs.declared.refusal.Refusal.{Refusal}
+use Rattle.cf_parse.specs.Programs.{IsProgram, program_of}
+use Rattle.cf_parse.proofs.Programs.{one_law}
+use Rattle.cf_program.specs.CheckAnswers.{CheckFault}
+use Rattle.cf_program.specs.Checked.{TypedTree, checked, checked_by}
+use Rattle.cf_program.specs.Source.{IsSpelledProgram}
+use Rattle.cf_program.specs.TypedProgram.{IsLateProgram}
+use Rattle.cf_program.specs.declared.linearity.Linearity.TheVariants.{Late}
+use Rattle.cf_program.specs.declared.fault.TypeFault.{TypeFault}
+use Rattle.cf_program.specs.declared.fault.TypeFault.TheVariants as rule
+use Rattle.cf_program.proofs.Kept.{when_is}
+use Rattle.cf_program.proofs.ProgramLaws.{checked_good}
+use Rattle.cf_tree.specs.DefView.{RawDefTree}
+use Rattle.cf_tree.specs.declared.base.Place.{Place}
+use Rattle.cf_tree.specs.declared.target.RawTarget.{RawTarget}
+use Rattle.cf_build.specs.Built.{IsBuilt}
+use Rattle.cf_build.specs.Questions.{all_questions, IsFirstRefused}
+use Rattle.cf_eval.specs.Spelling.{without_return}
+use Rattle.cf_late.proofs.AllowedLaws.{late_runs_are_allowed}
+use Rattle.cf_answer.specs.LateReplies.{AreRunsAllowed}
+use Rattle.cf_answer.specs.Owed.{by_target, by_late, OwesRun, compiled, late}
+use Rattle.cf_answer.specs.Passes.{Told}
+use Rattle.cf_answer.specs.Picked.{main_bases}
+use Rattle.cf_answer.specs.Refusals.{Causes, bad_tree, IsBadProgram, broken, refused, IsBadRun, bad, broken_late, IsRefusedRun}
+use Rattle.cf_answer.specs.Sources.{Spelled, IsTypedSource, IsCheckedLate}
+use Rattle.cf_answer.specs.Statuses.{rule_status, fault_status}
+use Rattle.cf_answer.specs.Steps.{IsVerdict, IsMisspelled, IsRunner, answerer_of}
+use Rattle.cf_answer.specs.declared.answerer.Answerer.{Answerer as DeclaredAnswerer}
+use Rattle.cf_answer.specs.declared.fault.Fault.{Fault}
+use Rattle.cf_answer.specs.declared.fault.Fault.TheVariants as fault
+use Rattle.cf_answer.proofs.CauseLemmas.{alike, unrefused}
+use Rattle.cf_answer.proofs.LateLemmas.{main_types}
+use Rattle.cf_answer.proofs.PickedLemmas.{replies_picked, values_fit}
+use Rattle.cf_answer.proofs.SourceLemmas.{bad_alike, built_never_bad, fails_so}
+use Rattle.cf_answer.proofs.TextLemmas.{caused_too}
+
+-- a text that is misspelled is refused, whatever rules there are
+pub misspelled : (Bad : List RawDefTree → Fault → Type 0) (text : List ℕ) (f : Fault) → IsMisspelled text f → Causes IsProgram (program_of 200) Bad text f
+misspelled Bad text f h = caused_too IsProgram (program_of 200) (λ x g. ⊥) Bad (λ x g b. absurd b) text f h
+
+pub misspelled_or : (Bad : List RawDefTree → Fault → Type 0) (text : List ℕ) (f : Fault) → IsMisspelled text f ⊎ (f ≡ fault.NoMemory) →
+    Causes IsProgram (program_of 200) Bad text f ⊎ (f ≡ fault.NoMemory)
+misspelled_or Bad text f (inl h) = inl (misspelled Bad text f h)
+misspelled_or Bad text f (inr e) = inr e
+
+-- ---- the refusals of `run` have one status
+
+-- a program whose first broken rule is that on linear relations is refused for no other fault but that
+only_late : {A : Type 0} (program : List RawDefTree) (p : Place) (f : Fault) → checked program ≡ Err (rule.NotLinear p) → IsBadProgram program f →
+    ((q : Place) → f ≡ fault.Rule (rule.NotLinear q) → ⊥) → A
+only_late program p f e (broken d h) other = let same : d ≡ rule.NotLinear p = cc in absurd (other p (ap fault.Rule same))
+only_late program p f e (refused typed n r h b) other = absurd (cc)
+
+bad_run_alike : (text : List ℕ) (program : List RawDefTree) (f g : Fault) → Spelled IsProgram text program → IsBadRun program f → IsBadRun program g →
+    fault_status f ≡ fault_status g
+bad_run_alike text program f g s (bad h a n) (bad i b m) = bad_alike text program h i s a b
+bad_run_alike text program f g s (bad h a n) (broken_late p e plain i) = only_late program p h plain a n
+bad_run_alike text program f g s (broken_late p e plain h) (bad i b m) = only_late program p i plain b m
+bad_run_alike text program f g s (broken_late p e plain h) (broken_late q d other i) = let same : e ≡ d = cc in ap rule_status same
+
+pub runs_alike : (text : List ℕ) (f g : Fault) → IsRefusedRun text f → IsRefusedRun text g → fault_status f ≡ fault_status g
+runs_alike text f g h i = alike IsProgram (program_of 200) IsBadRun one_law text (bad_run_alike text) f g h i
+
+-- ---- a source that `run` answers is not refused
+
+-- a program of which a target is built
+built_run : (program : List RawDefTree) (typed : TypedTree) (passes : ℕ) (t : RawTarget) → checked program ≡ Ok typed →
+    IsBuilt typed.defs typed.main passes t → (f : Fault) → IsBadRun program f → ⊥
+built_run program typed passes t is built f (bad g b n) = built_never_bad program typed passes t is built g b
+built_run program typed passes t is built f (broken_late p e plain h) = cc
+
+-- a late program
+pub late_run_kept : (program : List RawDefTree) (typed : TypedTree) → IsCheckedLate program typed → (f : Fault) → IsBadRun program f → ⊥
+late_run_kept program typed c f (bad g b n) = only_late program c.0 g c.1 b n
+late_run_kept program typed c f (broken_late p e plain h) = let kept : checked_by Late program ≡ Ok typed = c.2 in cc
+
+pub run_unrefused : (passes : ℕ) (source : List ℕ) (given last : List Told) (ls : List (List ℕ)) (text : List ℕ) (f : Fault) →
+    OwesRun passes source given last ls text → IsRefusedRun source f → ⊥
+run_unrefused passes source given last ls text f (compiled t c replies picked) r =
+    unrefused IsProgram (program_of 200) IsBadRun one_law source f c.1.0 (built_run c.1.0 c.0 passes t c.1.2 c.2) r c.1.1
+run_unrefused passes source given last ls text f (late typed s replies allowed same) r =
+    unrefused IsProgram (program_of 200) IsBadRun one_law source f s.0 (late_run_kept s.0 typed s.2) r s.1
+
+-- ---- what answers the lines
+
+-- a target
+pub target_runs : (text : List ℕ) (typed : TypedTree) (passes : ℕ) (t : RawTarget) (given last : List Told) → IsTypedSource text typed →
+    IsBuilt typed.defs typed.main passes t → IsRunner passes text given last (by_target t)
+target_runs text typed passes t given last s built =
+    λ ls replies r. compiled t (typed, s, built) r (replies_picked passes text t ls replies (typed, s, built) r)
+
+-- a late program
+runs_allowed : (program : List RawDefTree) (typed : TypedTree) → IsSpelledProgram program → checked_by Late program ≡ Ok typed → AreRunsAllowed typed
+runs_allowed program typed s is =
+    let kept : IsLateProgram typed.defs typed.main = when_is (checked_by Late program) typed (checked_good Late program s) is in
+    λ line vs spelled.
+    let fit = values_fit (main_bases typed) (without_return line) vs spelled in
+    late_runs_are_allowed typed.defs typed.main kept vs (main_types typed vs kept fit.0) fit.1
+
+pub late_runs_on : (text : List ℕ) (program : List RawDefTree) (typed : TypedTree) (p : Place) (passes : ℕ) (given : List Told) →
+    Spelled IsProgram text program →
+    IsSpelledProgram program → checked program ≡ Err (rule.NotLinear p) → checked_by Late program ≡ Ok typed → IsRunner passes text given given (by_late typed)
+late_runs_on text program typed p passes given s numbers plain is =
+    λ ls replies r. late typed (program, s, (p, plain, is)) r (runs_allowed program typed numbers is) refl
+
+-- where no pass is called, all passes tell what they told
+owes_unpassed : (source : List ℕ) (none last given : List Told) (ls : List (List ℕ)) (text : List ℕ) → OwesRun 0 source none last ls text →
+    OwesRun 0 source given given ls text
+owes_unpassed source none last given ls text (compiled t c replies picked) = compiled t c replies picked
+owes_unpassed source none last given ls text (late typed s replies allowed same) = late typed s replies allowed refl
+
+pub unpassed_verdict : (source : List ℕ) (none last given : List Told) (r : Result DeclaredAnswerer Fault) →
+    IsVerdict (λ a. IsRunner 0 source none last (answerer_of a)) (IsRefusedRun source) r →
+    IsVerdict (λ a. IsRunner 0 source given given (answerer_of a)) (IsRefusedRun source) r
+unpassed_verdict source none last given (Ok a) v = λ ls text replies. owes_unpassed source none last given ls text (v ls text replies)
+unpassed_verdict source none last given (Err f) v = v
+
+-- ---- why it is refused
+pub run_broken : (text : List ℕ) (program : List RawDefTree) (e : TypeFault) → (e ≡ rule.NoMemory → ⊥) → ((p : Place) → e ≡ rule.NotLinear p → ⊥) →
+    CheckFault {Y = TypedTree} e (checked program) → Spelled IsProgram text program → IsRefusedRun text (fault.Rule e)
+run_broken text program e n other h s =
+    bad_tree program (fault.Rule e) s (bad (fault.Rule e) (broken e (fails_so e (checked program) n h)) (λ p same. other p cc))
+
+pub late_broken : (text : List ℕ) (program : List RawDefTree) (p : Place) (e : TypeFault) → (e ≡ rule.NoMemory → ⊥) → checked program ≡ Err (rule.NotLinear p) →
+    CheckFault {Y = TypedTree} e (checked_by Late program) → Spelled IsProgram text program → IsRefusedRun text (fault.Rule e)
+late_broken text program p e n plain h s =
+    bad_tree program (fault.Rule e) s (broken_late p e plain (fails_so e (checked_by Late program) n h))
+
+pub run_choose_refused : (text : List ℕ) (typed : TypedTree) (n : ℕ) (r : Refusal) → IsTypedSource text typed → IsFirstRefused (all_questions typed.defs) n r →
+    IsRefusedRun text (fault.Choose n r)
+run_choose_refused text typed n r s h = bad_tree s.0 (fault.Choose n r) s.1 (bad (fault.Choose n r) (refused typed n r s.2 h) (λ p e. cc))

@@ -1,0 +1,50 @@
+-- What the numbers of chooses are of, and what is added for each; for the contracts within the crate.
+use Rattle.std.specs.Prelude.{◌≡◌, ℕ, List, ◌++◌, flat_map, All, Contains}
+use Rattle.std.specs.List.Sorted.{IsNonDecreasingBy, IsPermutation}
+use Rattle.cf_tree.specs.RelView.{rel_tree}
+use Rattle.cf_match.specs.Matches.{MatchTree, match_tree}
+use Rattle.cf_match.specs.declared.class.Class.{Class}
+use Rattle.cf_match.specs.declared.lowered.MatchInfo.{MatchInfo}
+use Rattle.cf_build.specs.Questions.{Question}
+use Rattle.cf_build.specs.Solves.{IsSolved}
+use Rattle.cf_build.specs.declared.solves.SolvedChoose.{SolvedChoose}
+use Rattle.cf_warn.specs.Covers.{AreClasses, IsCover}
+use Rattle.cf_warn.specs.Verdicts.{IsExistence, IsUniqueness}
+use Rattle.cf_warn.specs.declared.answer.ExistenceAnswer.{ExistenceAnswer}
+use Rattle.cf_warn.specs.declared.answer.UniquenessAnswer.{UniquenessAnswer}
+use Rattle.cf_warn.specs.declared.covers.Cover.{Cover}
+use Rattle.cf_answer.specs.Checks.{IsMatch, IsArm, IsOwn, IsCheckOf, cover_line, existence_text, names_at, uniqueness_text}
+use Rattle.cf_answer.specs.Texts.{numbered_line}
+use Rattle.cf_answer.specs.declared.origin.Origin.{Origin}
+use Rattle.cf_answer.specs.declared.origin.Origin.TheVariants.{Choose, Arm, Match}
+
+-- the matches are in the order of their numbers, each has classes, and these are the numbers of their arms, rising
+pub record AreMatches (infos : List MatchInfo) (arms : List ℕ) : Type 0 where
+  pub in_order : IsNonDecreasingBy (λ m. m.number) infos
+  pub classes : All (λ m. AreClasses m.classes.items) infos
+  pub arms_in_order : IsNonDecreasingBy (λ n. n) arms
+  pub arms_are : IsPermutation (flat_map (λ m. m.arms.items) infos) arms
+
+-- what a number is of, for these matches
+abbrev pub IsOrigin : List MatchTree → ℕ → Origin → Type 0
+IsOrigin matches n Choose = IsOwn matches n
+IsOrigin matches n Arm = (m : MatchTree) × Contains matches m × IsArm m n
+IsOrigin matches n (Match info) = Contains matches (match_tree info.now) × IsMatch (match_tree info.now) n × AreClasses info.now.classes.items
+
+-- the line of a verdict on this choose, whose parameters have these levels, was added to the text
+abbrev pub AddsExistence : SolvedChoose → List ℕ → List ℕ → List ℕ → Type 0
+AddsExistence s levels old new =
+    (e : ExistenceAnswer) × IsExistence s.solved.scope.items s.solved.outputs.items (rel_tree s.solved.rel) e
+    × (new ≡ old ++ numbered_line s.number (existence_text (names_at s.names.items levels) e))
+
+abbrev pub AddsUniqueness : SolvedChoose → List ℕ → List ℕ → List ℕ → Type 0
+AddsUniqueness s levels old new =
+    (u : UniquenessAnswer) × IsUniqueness s.solved.scope.items s.solved.outputs.items (rel_tree s.solved.rel) u
+    × (new ≡ old ++ numbered_line s.number (uniqueness_text (names_at s.names.items levels) u))
+
+abbrev pub AddsCover : ℕ → List Class → List ℕ → List ℕ → Type 0
+AddsCover n classes old new = (c : Cover) × IsCover classes c × (new ≡ old ++ cover_line n c)
+
+-- the lines of a choose were added
+abbrev pub AddsCheck : List MatchTree → SolvedChoose → List ℕ → List ℕ → Type 0
+AddsCheck matches s old new = (q : Question) → IsSolved q s → (more : List ℕ) × (new ≡ old ++ more) × IsCheckOf matches q more

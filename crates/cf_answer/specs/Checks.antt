@@ -1,0 +1,100 @@
+-- What `check` writes of the chooses of a program.
+use Rattle.std.specs.Prelude.{◌≡◌, ℕ, List, [], ◌∷◌, ◌++◌, map, get_or, codes, decimal, None, Contains}
+use Rattle.std.specs.List.{concat}
+use Rattle.std.specs.Fmt.{signed_decimal}
+use Rattle.cf_tree.specs.Values.{Value}
+use Rattle.cf_match.specs.Matches.{MatchTree}
+use Rattle.cf_build.specs.Questions.{Question, limit_of}
+use Rattle.cf_eval.specs.Seen.{plains}
+use Rattle.cf_eval.specs.Texts.{value_text, values_text}
+use Rattle.cf_warn.specs.Covers.{IsCover}
+use Rattle.cf_warn.specs.Questions.{parameters}
+use Rattle.cf_warn.specs.Verdicts.{IsExistence, IsUniqueness}
+use Rattle.cf_warn.specs.declared.answer.Doubt.{Doubt}
+use Rattle.cf_warn.specs.declared.answer.Doubt.TheVariants.{Refused, Overflow}
+use Rattle.cf_warn.specs.declared.answer.ExistenceAnswer.{ExistenceAnswer}
+use Rattle.cf_warn.specs.declared.answer.ExistenceAnswer.TheVariants as existence
+use Rattle.cf_warn.specs.declared.answer.UniquenessAnswer.{UniquenessAnswer}
+use Rattle.cf_warn.specs.declared.answer.UniquenessAnswer.TheVariants as uniqueness
+use Rattle.cf_warn.specs.declared.covers.Cover.{Cover}
+use Rattle.cf_warn.specs.declared.covers.Cover.TheVariants as cover
+use Rattle.cf_answer.specs.Texts.{numbered_line, refusal_text}
+
+-- ---- verdicts
+-- why a question is not decided
+abbrev pub doubt_text : Doubt → List ℕ
+doubt_text (Refused r) = refusal_text r
+doubt_text Overflow = codes "overflow"
+
+-- the names of these levels
+abbrev pub names_at : List (List ℕ) → List ℕ → List (List ℕ)
+names_at names levels = map (λ x. get_or names x []) levels
+
+-- a name with its value, and `before` before it
+abbrev pub setting_text : List ℕ → List ℕ → Value → List ℕ
+setting_text before name v = concat (before ∷ name ∷ codes " = " ∷ value_text v ∷ [])
+
+-- each name with its value, and `before` before the first
+abbrev pub settings_text : List ℕ → List (List ℕ) → List Value → List ℕ
+settings_text before names [] = []
+settings_text before [] vs = []
+settings_text before (name ∷ names) (v ∷ vs) = setting_text before name v ++ settings_text (codes ", ") names vs
+
+-- the values of the parameters with these names; nothing where there are none
+abbrev pub sample_text : List (List ℕ) → List Value → List ℕ
+sample_text names vs = settings_text (codes " for ") names vs
+
+abbrev pub existence_text : List (List ℕ) → ExistenceAnswer → List ℕ
+existence_text names existence.Always = codes "outputs always"
+existence_text names (existence.Missing sample) = concat (codes "no outputs" ∷ sample_text names (plains sample.items) ∷ [])
+existence_text names (existence.Undecided d) = concat (codes "existence undecided: " ∷ doubt_text d ∷ [])
+
+abbrev pub uniqueness_text : List (List ℕ) → UniquenessAnswer → List ℕ
+uniqueness_text names uniqueness.Unique = codes "outputs unique"
+uniqueness_text names (uniqueness.Two sample first second) =
+    concat (codes "two outputs" ∷ sample_text names (plains sample.items) ∷ codes ": " ∷ values_text (plains first.items) ∷ codes " and " ∷
+    values_text (plains second.items) ∷ [])
+uniqueness_text names (uniqueness.Undecided d) = concat (codes "uniqueness undecided: " ∷ doubt_text d ∷ [])
+
+abbrev pub cover_text : Cover → List ℕ
+cover_text cover.All = codes "covers all numbers"
+cover_text (cover.Misses z) = concat (codes "misses " ∷ signed_decimal z ∷ [])
+cover_text (cover.Undecided d) = concat (codes "coverage undecided: " ∷ doubt_text d ∷ [])
+
+-- ---- lines
+abbrev pub parameter_names : Question → List (List ℕ)
+parameter_names q = names_at q.names (parameters q.scope q.relation)
+
+abbrev pub existence_line : Question → ExistenceAnswer → List ℕ
+existence_line q e = numbered_line q.number (existence_text (parameter_names q) e)
+
+abbrev pub uniqueness_line : Question → UniquenessAnswer → List ℕ
+uniqueness_line q u = numbered_line q.number (uniqueness_text (parameter_names q) u)
+
+abbrev pub cover_line : ℕ → Cover → List ℕ
+cover_line n c = concat (codes "match " ∷ decimal n ∷ codes ": " ∷ cover_text c ∷ codes "\n" ∷ [])
+
+-- it is the number of a match
+abbrev pub IsMatch : MatchTree → ℕ → Type 0
+IsMatch m n = m.number ≡ n
+
+-- it is the number of one of its arms
+abbrev pub IsArm : MatchTree → ℕ → Type 0
+IsArm m n = Contains m.arms n
+
+-- it is the number of none of these matches, and of none of their arms
+abbrev pub IsOwn : List MatchTree → ℕ → Type 0
+IsOwn matches n = (m : MatchTree) → Contains matches m → (IsMatch m n → ⊥) × (IsArm m n → ⊥)
+
+-- The lines of a choose, by what its number is of: a choose of the source, an arm of one of these matches, or one of the matches.
+pub data AreLines (matches : List MatchTree) (q : Question) : List ℕ → Type 0 where
+  of_choose : IsOwn matches q.number → (e : ExistenceAnswer) → (u : UniquenessAnswer) → IsExistence q.scope q.outputs q.relation e →
+      IsUniqueness q.scope q.outputs q.relation u → AreLines matches q (existence_line q e ++ uniqueness_line q u)
+  of_arm : (m : MatchTree) → Contains matches m → IsArm m q.number → (u : UniquenessAnswer) → IsUniqueness q.scope q.outputs q.relation u →
+      AreLines matches q (uniqueness_line q u)
+  of_match : (m : MatchTree) → Contains matches m → IsMatch m q.number → (c : Cover) → IsCover m.classes c → AreLines matches q (cover_line q.number c)
+
+-- a choose passes no limit, and these are its lines
+pub record IsCheckOf (matches : List MatchTree) (q : Question) (text : List ℕ) : Type 0 where
+  pub within : limit_of q ≡ None
+  pub lines : AreLines matches q text

@@ -1,0 +1,114 @@
+-- Why the text of a file is refused.
+use Rattle.std.specs.Prelude.{◌≡◌, ℕ, ◌<◌, List, [], ◌∷◌, length, map, Ok, Err}
+use Rattle.cf_gen.specs.Workload.{gen_source}
+use Rattle.cf_lex.specs.declared.token.Token.{Token}
+use Rattle.cf_lex.specs.Tokens.{bad_byte, past_limit, at_end}
+use Rattle.cf_tree.specs.declared.base.Place.{Place}
+use Rattle.cf_tree.specs.DefView.{RawDefTree}
+use Rattle.cf_reader.specs.Faults.{IsFaultPlace, IsFaultPlaceOf}
+use Rattle.cf_reader.specs.Readers.{Reader}
+use Rattle.cf_parse.specs.Programs.{IsProgram, program_of}
+use Rattle.cf_target.specs.Spelling.{TargetTree, IsTarget}
+use Rattle.cf_target.specs.Targets.{target_of}
+use Rattle.cf_program.specs.Checked.{TypedTree, checked, checked_by}
+use Rattle.cf_program.specs.declared.linearity.Linearity.TheVariants.{Late}
+use Rattle.cf_program.specs.declared.fault.TypeFault.{TypeFault}
+use Rattle.cf_program.specs.declared.fault.TypeFault.TheVariants.{NotLinear}
+use Rattle.cf_linear.specs.declared.refusal.Refusal.{Refusal}
+use Rattle.cf_build.specs.Questions.{all_questions, IsFirstRefused}
+use Rattle.cf_steps.specs.Blocks.{BlockTree}
+use Rattle.cf_steps.specs.Reading.{all_blocks}
+use Rattle.cf_steps.specs.Spelling.{AreBlocks}
+use Rattle.cf_cert.specs.Judging.{IsVerdict}
+use Rattle.cf_cert.specs.declared.verdict.Verdict.TheVariants.{Rejected}
+use Rattle.cf_cert.specs.declared.verdict.Why.{Why}
+use Rattle.cf_words.specs.Commands.{Command, compile, run, pre, check, exec, prove, verify, gen}
+use Rattle.cf_answer.specs.Certificates.{asked, asked_in}
+use Rattle.cf_answer.specs.Limits.{text_limit}
+use Rattle.cf_answer.specs.Sources.{HasTokens, Spelled, IsTypedSource, IsTypedTree}
+use Rattle.cf_answer.specs.declared.fault.Fault.{Fault}
+use Rattle.cf_answer.specs.declared.fault.Fault.TheVariants as fault
+use Rattle.cf_answer.specs.declared.fault.StepsFault.{StepsFault}
+use Rattle.cf_answer.specs.declared.fault.StepsFault.TheVariants as steps_fault
+
+-- The place of a syntax fault: no tree begins with the tokens up to and with the one that stands there, or it is the end; and it is the place at which
+-- reading from left to right stops.
+pub record IsSyntaxPlace {Tree : Type 0} (Is : Tree → List Token → Type 0) (read : Reader Tree) (ts : List Token) (end p : Place) : Type 0 where
+  pub dead : IsFaultPlace (λ us. (x : Tree) × Is x us) ts end p
+  pub exact : IsFaultPlaceOf read ts end p
+
+-- Why a text is refused, whatever its tokens are to spell: Is says which tokens spell a tree, `read` reads it, and Bad says for which faults it is refused.
+pub data Causes {Tree : Type 0} (Is : Tree → List Token → Type 0) (read : Reader Tree) (Bad : Tree → Fault → Type 0) (text : List ℕ) : Fault → Type 0 where
+  too_long : text_limit < length text → Causes Is read Bad text fault.TextTooLong
+  odd_byte : (ts : List Token) (p : Place) → HasTokens text ts p bad_byte → Causes Is read Bad text (fault.BadByte p)
+  large_number : (ts : List Token) (p : Place) → HasTokens text ts p past_limit → Causes Is read Bad text (fault.NumberPast p)
+  no_tree : (ts : List Token) (end p : Place) → HasTokens text ts end at_end → ((x : Tree) → Is x ts → ⊥) → IsSyntaxPlace Is read ts end p →
+      Causes Is read Bad text (fault.Syntax p)
+  bad_tree : (x : Tree) (f : Fault) → Spelled Is text x → Bad x f → Causes Is read Bad text f
+
+-- for which faults a program is refused: its first broken rule, or its first choose that is refused
+pub data IsBadProgram (program : List RawDefTree) : Fault → Type 0 where
+  broken : (e : TypeFault) → checked program ≡ Err e → IsBadProgram program (fault.Rule e)
+  refused : (typed : TypedTree) (n : ℕ) (r : Refusal) → checked program ≡ Ok typed → IsFirstRefused (all_questions typed.defs) n r →
+      IsBadProgram program (fault.Choose n r)
+
+-- for which faults `run` refuses it: where the first broken rule is that on linear relations, for the first rule that is broken where the numbers in
+-- scope of a choose are known
+pub data IsBadRun (program : List RawDefTree) : Fault → Type 0 where
+  bad : (f : Fault) → IsBadProgram program f → ((p : Place) → f ≡ fault.Rule (NotLinear p) → ⊥) → IsBadRun program f
+  broken_late : (p : Place) (e : TypeFault) → checked program ≡ Err (NotLinear p) → checked_by Late program ≡ Err e → IsBadRun program (fault.Rule e)
+
+-- for which fault a target is refused
+pub data IsBadTarget (t : TargetTree) : Fault → Type 0 where
+  untyped : (IsTypedTree t → ⊥) → IsBadTarget t fault.BadTarget
+
+-- the fault for which the text of a source is refused, also by `run`, and that of a target
+abbrev pub IsRefusedSource : List ℕ → Fault → Type 0
+IsRefusedSource text f = Causes IsProgram (program_of 200) IsBadProgram text f
+
+abbrev pub IsRefusedRun : List ℕ → Fault → Type 0
+IsRefusedRun text f = Causes IsProgram (program_of 200) IsBadRun text f
+
+abbrev pub IsRefusedTarget : List ℕ → Fault → Type 0
+IsRefusedTarget text f = Causes IsTarget (target_of 500) IsBadTarget text f
+
+-- ---- verify
+-- a program whose chooses are not solved is refused for its first broken rule alone
+pub data IsBroken (program : List RawDefTree) : Fault → Type 0 where
+  broken_rule : (e : TypeFault) → checked program ≡ Err e → IsBroken program (fault.Rule e)
+
+abbrev pub IsBrokenSource : List ℕ → Fault → Type 0
+IsBrokenSource text f = Causes IsProgram (program_of 200) IsBroken text f
+
+-- the fault of a steps file's text, as one of a text
+abbrev pub text_fault : StepsFault → Fault
+text_fault steps_fault.TooLong = fault.TextTooLong
+text_fault (steps_fault.BadByte p) = fault.BadByte p
+text_fault (steps_fault.NumberPast p) = fault.NumberPast p
+text_fault (steps_fault.Syntax p) = fault.Syntax p
+
+abbrev pub IsRefusedSteps : List ℕ → StepsFault → Type 0
+IsRefusedSteps text e = Causes AreBlocks (all_blocks 500) (λ bs f. ⊥) text (text_fault e)
+
+-- Why steps are not accepted for a source: the source is refused, whatever the steps are; or their text is; or there is a first fault in their blocks.
+pub data IsUnverified (source steps : List ℕ) : Fault → Type 0 where
+  bad_source : (f : Fault) → IsBrokenSource source f → IsUnverified source steps f
+  bad_steps : (typed : TypedTree) (e : StepsFault) → IsTypedSource source typed → IsRefusedSteps steps e → IsUnverified source steps (fault.Steps e)
+  bad_blocks : (typed : TypedTree) (bs : List BlockTree) (n i j : ℕ) (w : Why) → IsTypedSource source typed → Spelled AreBlocks steps bs →
+      IsVerdict (map asked (asked_in typed)) bs (Rejected n i j w) → IsUnverified source steps (fault.Rejected n i j w)
+
+-- the fault for which a command is refused on files of these texts, or on a source of its own
+abbrev pub Refuses : Command → List (List ℕ) → Fault → Type 0
+Refuses (compile flags name) (text ∷ []) f = IsRefusedSource text f
+Refuses (run flags name) (text ∷ []) f = IsRefusedRun text f
+Refuses (pre name) (text ∷ []) f = IsRefusedSource text f
+Refuses (check name) (text ∷ []) f = IsRefusedSource text f
+Refuses (exec name) (text ∷ []) f = IsRefusedTarget text f
+Refuses (prove name) (text ∷ []) f = IsRefusedSource text f
+Refuses (verify name steps_name) (source ∷ steps ∷ []) f = IsUnverified source steps f
+Refuses (gen n) [] f = IsRefusedSource (gen_source n) f
+Refuses command files f = ⊥
+
+-- nothing but want of memory refuses it
+abbrev pub IsAccepted : Command → List (List ℕ) → Type 0
+IsAccepted command files = (f : Fault) → Refuses command files f → ⊥

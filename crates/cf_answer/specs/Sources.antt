@@ -1,0 +1,47 @@
+-- What a text spells, and the target that a source is compiled to.
+use Rattle.std.specs.Prelude.{◌≡◌, ℕ, ◌-◌, ◌^◌, ◌≤◌, List, length, Ok, Err}
+use Rattle.cf_lex.specs.declared.token.Token.{Token}
+use Rattle.cf_lex.specs.Tokens.{LexesTo, Ending, at_end}
+use Rattle.cf_tree.specs.declared.base.Place.{Place}
+use Rattle.cf_tree.specs.declared.target.RawTarget.{RawTarget}
+use Rattle.cf_tree.specs.DefView.{RawDefTree}
+use Rattle.cf_tree.specs.Typing.{IsTypedCode}
+use Rattle.cf_parse.specs.Programs.{IsProgram}
+use Rattle.cf_target.specs.Spelling.{TargetTree, IsTarget}
+use Rattle.cf_program.specs.Checked.{TypedTree, checked, checked_by}
+use Rattle.cf_program.specs.declared.linearity.Linearity.TheVariants.{Late}
+use Rattle.cf_program.specs.declared.fault.TypeFault.TheVariants.{NotLinear}
+use Rattle.cf_build.specs.Built.{IsBuilt}
+use Rattle.cf_answer.specs.Limits.{text_limit}
+
+-- the text is not too long, and has these tokens up to its end or its first fault, which is at this place
+abbrev pub HasTokens : List ℕ → List Token → Place → Ending → Type 0
+HasTokens text ts p ending = (length text ≤ text_limit) × LexesTo (2 ^ 127 - 1) text ts p ending
+
+-- the text spells this tree, where Is says which tokens spell a tree
+abbrev pub Spelled : {Tree : Type 0} → (Tree → List Token → Type 0) → List ℕ → Tree → Type 0
+Spelled Is text x = (ts : List Token) × (end : Place) × HasTokens text ts end at_end × Is x ts
+
+-- the text spells a program in which no rule is broken; with levels in the place of names it is this one
+abbrev pub IsTypedSource : List ℕ → TypedTree → Type 0
+IsTypedSource text typed = (program : List RawDefTree) × Spelled IsProgram text program × (checked program ≡ Ok typed)
+
+-- a program whose first broken rule is that on linear relations, and which breaks none where the numbers in scope of a choose are known
+abbrev pub IsCheckedLate : List RawDefTree → TypedTree → Type 0
+IsCheckedLate program typed = (p : Place) × (checked program ≡ Err (NotLinear p)) × (checked_by Late program ≡ Ok typed)
+
+-- the text spells a late program; with levels in the place of names it is this one
+abbrev pub IsLateSource : List ℕ → TypedTree → Type 0
+IsLateSource text typed = (program : List RawDefTree) × Spelled IsProgram text program × IsCheckedLate program typed
+
+-- the text spells a program in which no rule is broken, and this target is built of it and rewritten by so many passes
+abbrev pub Compiles : ℕ → List ℕ → RawTarget → Type 0
+Compiles passes text t = (typed : TypedTree) × IsTypedSource text typed × IsBuilt typed.defs typed.main passes t
+
+-- the whole code of the target asks for its results
+abbrev pub IsTypedTree : TargetTree → Type 0
+IsTypedTree t = IsTypedCode t.code t.params t.results
+
+-- the text spells this target, and it is well typed
+abbrev pub IsTypedTarget : List ℕ → TargetTree → Type 0
+IsTypedTarget text t = Spelled IsTarget text t × IsTypedTree t

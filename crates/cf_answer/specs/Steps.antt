@@ -1,0 +1,140 @@
+-- How far an input was answered; for the contracts within the crate.
+use Rattle.std.specs.Prelude.{◌≡◌, ◌⊎◌, ◌≤◌, ◌<◌, ◌+◌, ℕ, suc, ℤ, pos, ◌+ℤ◌, List, [], ◌∷◌, ◌++◌, take, length, codes, if◌then◌else◌, Option, Some, None, Result, Ok, Err}
+use Rattle.std.specs.Io.KnownBytes.{Appends, Consumes, IsAtEnd}
+use Rattle.cf_io.specs.Bytes.{TookPrefix}
+use Rattle.cf_io.specs.Cut.{CutterState, Stands, told}
+use Rattle.cf_io.specs.Limits.{line_limit, input_limit}
+use Rattle.cf_io.specs.Lines.{is_feed, lines, ended}
+use Rattle.cf_io.specs.declared.line.Line.{Line}
+use Rattle.cf_io.specs.declared.line.Line.TheVariants.{Text, TooLong}
+use Rattle.cf_num.specs.Limit.{limit}
+use Rattle.cf_tree.specs.declared.target.RawTarget.{RawTarget}
+use Rattle.cf_tree.specs.CodeTree.{CodeTree}
+use Rattle.cf_tree.specs.CodeView.{code_tree}
+use Rattle.cf_tree.specs.Values.{Value, values, no_solution}
+use Rattle.cf_parse.specs.Programs.{IsProgram, program_of}
+use Rattle.cf_program.specs.Typed.{typed_tree}
+use Rattle.cf_eval.specs.Answers.{Answers}
+use Rattle.cf_eval.specs.Seen.{plains}
+use Rattle.cf_eval.specs.Spelling.{SpellsValues}
+use Rattle.cf_eval.specs.declared.value.Outcome.{Outcome as RunOutcome}
+use Rattle.cf_eval.specs.declared.value.Outcome.TheVariants.{Values, NoSolution, Overflow}
+use Rattle.cf_answer.specs.Ends.{answered_lines}
+use Rattle.cf_answer.specs.Outside.{AreTold}
+use Rattle.cf_answer.specs.Owed.{Answerer, by_target, by_late, IsReplyBy, AreReplies, OwesRun}
+use Rattle.cf_answer.specs.Passes.{Told}
+use Rattle.cf_answer.specs.Picked.{outcome_number}
+use Rattle.cf_answer.specs.Refusals.{Causes}
+use Rattle.cf_answer.specs.declared.answerer.Answerer.{Answerer as DeclaredAnswerer}
+use Rattle.cf_answer.specs.declared.answerer.Answerer.TheVariants as answerer
+use Rattle.cf_answer.specs.declared.fault.Fault.{Fault}
+use Rattle.cf_answer.specs.declared.fault.Fault.TheVariants as fault
+
+-- what is made of a text, where Good says what it may be; or a fault for which Refused says that the text is refused; or want of memory
+abbrev pub IsVerdict : {A : Type 0} → (A → Type 0) → (Fault → Type 0) → Result A Fault → Type 0
+IsVerdict Good Refused (Ok x) = Good x
+IsVerdict Good Refused (Err f) = Refused f ⊎ (f ≡ fault.NoMemory)
+
+-- what answers lines, as the program keeps it
+abbrev pub answerer_of : DeclaredAnswerer → Answerer
+answerer_of (answerer.Target t) = by_target t
+answerer_of (answerer.Late l) = by_late (typed_tree l)
+
+-- its replies are what `run` owes on a source
+abbrev pub IsRunner : ℕ → List ℕ → List Told → List Told → Answerer → Type 0
+IsRunner passes source given last a = (ls : List (List ℕ)) (text : List ℕ) → AreReplies a ls text → OwesRun passes source given last ls text
+
+-- a source text is refused, whatever rules the program breaks that it spells
+abbrev pub IsMisspelled : List ℕ → Fault → Type 0
+IsMisspelled text f = Causes IsProgram (program_of 200) (λ x f. ⊥) text f
+
+-- the reply to a line as it is cut
+abbrev pub IsLineReply : Answerer → Line → List ℕ → Type 0
+IsLineReply a (Text bytes) reply = length bytes ≤ line_limit → IsReplyBy a bytes reply
+IsLineReply a TooLong reply = reply ≡ codes "line too long"
+
+abbrev pub AreLineReplies : Answerer → List Line → List ℕ → Type 0
+AreLineReplies a [] text = text ≡ []
+AreLineReplies a (l ∷ ls) text = (reply : List ℕ) × (more : List ℕ) × (text ≡ reply ++ 10 ∷ more) × IsLineReply a l reply × AreLineReplies a ls more
+
+-- it took the replies to these lines
+abbrev pub TookLines : Answerer → List Line → Option (List ℕ) → Option (List ℕ) → Type 0
+TookLines a ls old new = (text : List ℕ) × AreLineReplies a ls text × Appends old new text
+
+-- it took a prefix of them
+abbrev pub TookSomeLines : Answerer → List Line → Option (List ℕ) → Option (List ℕ) → Type 0
+TookSomeLines a ls old new = (text : List ℕ) × AreLineReplies a ls text × TookPrefix old new text
+
+-- the same of lines that are not cut
+abbrev pub TookReplies : Answerer → List (List ℕ) → Option (List ℕ) → Option (List ℕ) → Type 0
+TookReplies a ls old new = (text : List ℕ) × AreReplies a ls text × Appends old new text
+
+abbrev pub TookSome : Answerer → List (List ℕ) → Option (List ℕ) → Option (List ℕ) → Type 0
+TookSome a ls old new = (text : List ℕ) × AreReplies a ls text × TookPrefix old new text
+
+-- the cutter stands for these bytes, and the lines that it told of them are answered
+pub record IsAnswered (a : Answerer) (cutter : CutterState) (bytes : List ℕ) (old new : Option (List ℕ)) : Type 0 where
+  pub stands : Stands line_limit cutter bytes
+  pub took : TookLines a (told line_limit input_limit bytes) old new
+
+-- a fault of writing, or want of memory
+abbrev pub IsOutFault : Fault → Type 0
+IsOutFault f = (f ≡ fault.Output) ⊎ (f ≡ fault.NoMemory)
+
+-- so many bytes were read, and their lines are answered
+pub record IsReadTo (a : Answerer) (left still_left : Option (List ℕ)) (cutter : CutterState) (old new : Option (List ℕ)) (total : ℕ) : Type 0 where
+  pub bytes : List ℕ
+  pub read : Consumes left still_left bytes
+  pub total_is : total ≡ length bytes
+  pub answered : IsAnswered a cutter bytes old new
+
+-- what answering an input does, of which `front` was read and `left` is left; the sink held `old` before and holds `new` behind it
+abbrev pub Runs : Answerer → List ℕ → Option (List ℕ) → Option (List ℕ) → Option (List ℕ) → Result (Unit {0}) Fault → Type 0
+Runs a front left old new (Ok done) = IsAtEnd left × (length front ≤ input_limit) × TookReplies a (lines front) old new
+Runs a front left old new (Err fault.InputTooLong) = (input_limit < length front) × TookReplies a (ended (take input_limit front)) old new
+Runs a front left old new (Err fault.Input) = (length front ≤ input_limit) × TookReplies a (ended front) old new
+Runs a front left old new (Err fault.Output) = (rest : List ℕ) × AreTold left rest × TookSome a (answered_lines (front ++ rest)) old new
+Runs a front left old new (Err fault.NoMemory) = (rest : List ℕ) × AreTold left rest × TookSome a (answered_lines (front ++ rest)) old new
+Runs a front left old new (Err f) = ⊥
+
+-- the same of an input that may be told, of which at most one byte more than the limit is read
+pub record RunsOn (a : Answerer) (left still_left old new : Option (List ℕ)) (answer : Result (Unit {0}) Fault) : Type 0 where
+  pub front : List ℕ
+  pub read : Consumes left still_left front
+  pub most : length front ≤ input_limit + 1
+  pub runs : Runs a front still_left old new answer
+
+-- what answering an input and then writing `end` does
+pub data RunsThrough (a : Answerer) (end : List ℕ) (left still_left old new : Option (List ℕ)) (answer : Result (Unit {0}) Fault) : Type 0 where
+  cut : (f : Fault) → answer ≡ Err f → RunsOn a left still_left old new (Err f) → RunsThrough a end left still_left old new answer
+  part : (mid : Option (List ℕ)) (f : Fault) → RunsOn a left still_left old mid (Ok tt) → answer ≡ Err f → IsOutFault f → TookPrefix mid new end →
+      RunsThrough a end left still_left old new answer
+  whole : (mid : Option (List ℕ)) → RunsOn a left still_left old mid (Ok tt) → answer ≡ Ok tt → Appends mid new end →
+      RunsThrough a end left still_left old new answer
+
+-- how many bytes stand before the first line feed, or how many there are
+abbrev pub first_size : List ℕ → ℕ
+first_size [] = 0
+first_size (b ∷ bytes) = if is_feed b then 0 else suc (first_size bytes)
+
+-- what the outcome of a run adds to a sum
+abbrev pub run_number : RunOutcome → ℤ
+run_number (Values vs) = outcome_number (Some (values (plains vs.items)))
+run_number (NoSolution n) = outcome_number (Some (no_solution n))
+run_number Overflow = outcome_number None
+
+-- a run of the code on these values comes to an outcome that adds this
+pub record ComesTo (code : CodeTree) (vs : List Value) (z : ℤ) : Type 0 where
+  pub outcome : RunOutcome
+  pub answers : Answers code vs outcome
+  pub is : z ≡ run_number outcome
+
+-- what the reply of a target to a line adds to a sum
+pub data LineAdds (t : RawTarget) (line : List ℕ) (z : ℤ) : Type 0 where
+  long_line : line_limit < length line → z ≡ pos 0 → LineAdds t line z
+  odd_line : length line ≤ line_limit → ((vs : List Value) → SpellsValues limit t.params.items line vs → ⊥) → z ≡ pos 0 → LineAdds t line z
+  read_line : (vs : List Value) → length line ≤ line_limit → SpellsValues limit t.params.items line vs → ComesTo (code_tree t.code) vs z → LineAdds t line z
+
+abbrev pub AddUp : RawTarget → List (List ℕ) → ℤ → Type 0
+AddUp t [] sum = sum ≡ pos 0
+AddUp t (line ∷ ls) sum = (z : ℤ) × (rest : ℤ) × (sum ≡ z +ℤ rest) × LineAdds t line z × AddUp t ls rest

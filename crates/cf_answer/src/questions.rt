@@ -1,0 +1,81 @@
+//! The chooses of a program, as its certificates speak of them.
+ghost use Rattle.std.specs.Prelude.{◌≡◌, ◌≤◌, ◌<◌, ◌-◌, ◌^◌, All, IfOk, length, map};
+ghost use Rattle.cf_build.specs.Solves.{question_of, IsAsked, IsRising};
+ghost use Rattle.cf_cert.specs.Verifying.{question_tree};
+ghost use Rattle.cf_program.specs.Typed.{typed_tree};
+ghost use Rattle.cf_answer.specs.Certificates.{asked, asked_in};
+ghost use Rattle.cf_answer.specs.Limits.{text_limit};
+ghost use Rattle.cf_answer.specs.Refusals.{IsBrokenSource};
+ghost use Rattle.cf_answer.specs.Steps.{IsVerdict};
+ghost use Rattle.cf_answer.specs.Verifying.{AreAskedBy, AreAskedIn};
+
+use crate::fault::Fault;
+use crate::source::read_source;
+use cf_build::chooses::{Choose, numbered};
+use cf_cert::question::Question;
+use cf_match::lowered::lower;
+use cf_program::typed::Typed;
+use cf_tree::memory::NoMemory;
+use std::alloc::Global;
+
+/// The chooses of a program in the order of their numbers, its matches as the chooses that they stand
+/// for.
+pub fn numbered_chooses(alloc: Global, typed: &Typed) -> Result<Vec<Choose>, NoMemory>
+    ensures chooses { IfOk result (λ cs. map question_of cs.items ≡ asked_in (typed_tree typed.now)) }
+    ensures asked { IfOk result (λ cs. All (λ c. IsAsked (question_of c)) cs.items) }
+    ensures rising { IfOk result (λ cs. IsRising (map question_of cs.items)) }
+{
+    match lower(alloc, typed) {
+        Ok(lowered) => numbered(alloc, lowered.typed()),
+        Err(NoMemory) => Err(NoMemory),
+    }
+}
+
+// The choose without the names of its scope.
+fn question(alloc: Global, choose: &Choose) -> Result<Question, NoMemory>
+    ensures { IfOk result (λ q. question_tree q ≡ asked (question_of choose.now)) }
+{
+    Ok(Question {
+        number: choose.number,
+        scope: Vec::from_slice(alloc, &choose.scope)?,
+        outputs: Vec::from_slice(alloc, &choose.outputs)?,
+        rel: choose.rel.try_copy(alloc)?,
+    })
+}
+
+// These chooses in order, without the names of their scopes.
+fn questions_of(alloc: Global, chooses: &[Choose]) -> Result<Vec<Question>, NoMemory>
+    ensures { IfOk result (λ qs. map question_tree qs.items ≡ map asked (map question_of chooses.now)) }
+{
+    let mut questions = Vec::new(alloc);
+    for choose in chooses {
+        questions.push(question(alloc, choose)?)?;
+    }
+    Ok(questions)
+}
+
+// The chooses of a program in the order of their numbers.
+fn questions(alloc: Global, typed: &Typed) -> Result<Vec<Question>, NoMemory>
+    ensures { IfOk result (λ qs. AreAskedBy (typed_tree typed.now) (map question_tree qs.items)) }
+{
+    match numbered_chooses(alloc, typed) {
+        Ok(chooses) => questions_of(alloc, &chooses),
+        Err(NoMemory) => Err(NoMemory),
+    }
+}
+
+/// The chooses of the program that a source text spells, in the order of their numbers, or why the
+/// text is refused, whatever its chooses are.
+pub fn read_questions(alloc: Global, text: &[u8]) -> Result<Vec<Question>, Fault>
+    requires short { length text.now ≤ text_limit }
+    requires place { length text.now < 2 ^ 32 - 1 }
+    ensures { IsVerdict (λ qs. AreAskedIn text.now (map question_tree qs.items)) (IsBrokenSource text.now) result }
+{
+    match read_source(alloc, text) {
+        Ok(typed) => match questions(alloc, &typed) {
+            Ok(questions) => Ok(questions),
+            Err(NoMemory) => Err(Fault::NoMemory),
+        },
+        Err(fault) => Err(fault),
+    }
+}

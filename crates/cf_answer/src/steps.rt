@@ -1,0 +1,53 @@
+//! From the text of a steps file to its blocks.
+ghost use Rattle.std.specs.Prelude.{◌≡◌, ◌⊎◌, ◌≤◌, ◌<◌, ◌-◌, ◌^◌, List, ℕ, length, IfOk, IfErr};
+ghost use Rattle.cf_lex.specs.Tokens.{AreWithin, at_end};
+ghost use Rattle.cf_steps.specs.Blocks.{block_trees};
+ghost use Rattle.cf_answer.specs.Limits.{text_limit};
+ghost use Rattle.cf_answer.specs.Sources.{HasTokens};
+ghost use Rattle.cf_answer.specs.Steps.{IsVerdict};
+ghost use Rattle.cf_answer.specs.Verifying.{AreMisspelled, AreReadFrom};
+
+use crate::fault::{Fault, StepsFault};
+use cf_lex::{LexFault, TokenList, tokens};
+use cf_parse::ParseFault;
+use cf_steps::block::Blocks;
+use cf_steps::steps;
+use std::alloc::Global;
+
+// The tokens of the text of a steps file.
+fn lexed_steps(alloc: Global, text: &[u8]) -> Result<TokenList, Fault>
+    requires short { length text.now ≤ text_limit }
+    requires place { length text.now < 2 ^ 32 - 1 }
+    ensures tokens { IfOk result (λ list. HasTokens text.now list.list.items list.end at_end) }
+    ensures within { IfOk result (λ list. AreWithin (2 ^ 127 - 1) list.list.items) }
+    ensures fault { IfErr result (λ f. AreMisspelled text.now f ⊎ (f ≡ Fault.NoMemory)) }
+{
+    match tokens(alloc, text) {
+        Ok(list) => Ok(list),
+        Err(LexFault::BadByte(place)) => Err(Fault::Steps(StepsFault::BadByte(place))),
+        Err(LexFault::NumberPast(place)) => Err(Fault::Steps(StepsFault::NumberPast(place))),
+        Err(LexFault::NoMemory) => Err(Fault::NoMemory),
+    }
+}
+
+fn read_blocks(alloc: Global, list: &TokenList) -> Result<Blocks, Fault>
+    requires { AreWithin (2 ^ 127 - 1) list.now.list.items }
+    ensures { (text : List ℕ) → HasTokens text list.now.list.items list.now.end at_end →
+        IsVerdict (λ bs. AreReadFrom text (block_trees bs)) (AreMisspelled text) result }
+{
+    match steps(alloc, list) {
+        Ok(found) => Ok(found),
+        Err(ParseFault::Syntax(place)) => Err(Fault::Steps(StepsFault::Syntax(place))),
+        Err(ParseFault::NoMemory) => Err(Fault::NoMemory),
+    }
+}
+
+/// The blocks that the text of a steps file spells, or why the text is refused.
+pub fn read_steps(alloc: Global, text: &[u8]) -> Result<Blocks, Fault>
+    requires short { length text.now ≤ text_limit }
+    requires place { length text.now < 2 ^ 32 - 1 }
+    ensures { IsVerdict (λ bs. AreReadFrom text.now (block_trees bs)) (AreMisspelled text.now) result }
+{
+    let list = lexed_steps(alloc, text)?;
+    read_blocks(alloc, &list)
+}
