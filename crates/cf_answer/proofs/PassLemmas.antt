@@ -1,9 +1,7 @@
 -- What the passes tell.
-use Rattle.std.proofs.Common.{◌≡◌, ◌∙◌, sym, ap, subst, refl, ℕ, ◌+◌, ◌<◌, Bool, true, false, List, [], ◌∷◌, ◌++◌, map, take, get_or, length, flat_map, arith, append_assoc, append-nil}
-use Rattle.std.proofs.lemmas.List.{take_more, map-append}
-use Rattle.std.proofs.lemmas.Grind.{flat_map-append}
+use Rattle.std.proofs.Common.{◌≡◌, ◌∙◌, sym, ap, subst, refl, ℕ, Bool, true, false, List, [], ◌∷◌, map, arith}
 use Rattle.cf_pass.specs.Passes.{NoneFell}
-use Rattle.cf_answer.specs.Passes.{Told, HaveWorked, ArePassed, tally_line}
+use Rattle.cf_answer.specs.Passes.{Told, HaveWorked, ArePassed}
 
 -- no number of a list falls where it stays
 pub none_fell : (ns : List ℕ) → NoneFell ns ns
@@ -41,21 +39,3 @@ worked name tally old new names tallies = (
   subst (λ ns. NoneFell ns (map tally_of (map (told_by name tally) new))) (sym (told_tallies name tally old))
       (subst (NoneFell (map tally old)) (sym (told_tallies name tally new)) tallies),
 )
-
--- the lines of one more pass
-pub tallies_next : {P : Type 0} (tell : P → Told) (ps : List P) (i : ℕ) (d : P) (old text new : List ℕ) → i < length ps →
-    text ≡ old ++ flat_map tally_line (map tell (take i ps)) → new ≡ text ++ tally_line (tell (get_or ps i d)) →
-    new ≡ old ++ flat_map tally_line (map tell (take (i + 1) ps))
-tallies_next tell ps i d old text new lt is next =
-    let front = take i ps in
-    let x = get_or ps i d in
-    let one : flat_map tally_line (tell x ∷ []) ≡ tally_line (tell x) = append-nil (tally_line (tell x)) in
-    let more : flat_map tally_line (map tell (take (i + 1) ps)) ≡ flat_map tally_line (map tell front) ++ tally_line (tell x) =
-    ap (λ qs. flat_map tally_line (map tell qs)) (take_more ps i d lt)
-    ∙ ap (flat_map tally_line) (map-append tell front (x ∷ []))
-    ∙ flat_map-append tally_line (map tell front) (tell x ∷ [])
-    ∙ ap (λ s. flat_map tally_line (map tell front) ++ s) one in
-    next
-    ∙ ap (λ s. s ++ tally_line (tell x)) is
-    ∙ append_assoc old (flat_map tally_line (map tell front)) (tally_line (tell x))
-    ∙ ap (λ s. old ++ s) (sym more)

@@ -19,13 +19,10 @@ use Rattle.cf_tree.specs.Values.{Value}
 use Rattle.cf_program.specs.Checked.{TypedTree}
 use Rattle.cf_num.specs.Limit.{limit as greatest}
 use Rattle.cf_late.specs.Outcomes.{late_text}
-use Rattle.cf_eval.specs.Answers.{Answers}
 use Rattle.cf_eval.specs.Reading.{values_from}
 use Rattle.cf_eval.specs.Replies.{meaning_text, IsReply, too_long, bad_input, meaning}
 use Rattle.cf_eval.specs.Spelling.{SpellsValues, without_return}
-use Rattle.cf_eval.specs.Texts.{outcome_text, reply_text}
-use Rattle.cf_eval.specs.declared.value.Outcome.{Outcome}
-use Rattle.cf_eval.specs.declared.value.Outcome.TheVariants.{Values, NoSolution, Overflow}
+use Rattle.cf_eval.specs.Texts.{outcome_text}
 use Rattle.cf_eval.proofs.SpellLemmas.{Spells-again, Spells-takes}
 use Rattle.cf_answer.specs.LateReplies.{main_comes, IsLateReply, too_long as late_too_long, bad_input as late_bad_input, comes}
 use Rattle.cf_answer.specs.Owed.{Answerer, by_target, by_late, IsReplyBy, AreReplies}
@@ -41,12 +38,6 @@ within_text limit t vs text h same =
 pub overflow_text : (limit : ℕ) (t : RawTarget) (vs : List Value) → limit < peak (code_tree t.code) vs → codes "overflow" ≡ meaning_text limit t vs
 overflow_text limit t vs h =
     let test : nat_le (peak (code_tree t.code) vs) limit ≡ false = grind (arith, nat_tests) in rw test refl
-
-pub answers_text : (t : RawTarget) (vs : List Value) (outcome : Outcome) (text : List ℕ) → Answers (code_tree t.code) vs outcome → text ≡ reply_text outcome →
-    text ≡ meaning_text (2 ^ 127 - 1) t vs
-answers_text t vs (Values given) text a same = within_text _ t vs text a.1 (same ∙ ap outcome_text (sym a.0))
-answers_text t vs (NoSolution n) text a same = within_text _ t vs text a.1 (same ∙ ap outcome_text (sym a.0))
-answers_text t vs Overflow text a same = same ∙ overflow_text _ t vs a
 
 -- a line spells values, or it spells none
 reads_by : (limit : ℕ) (bases : List Base) (line : List ℕ) (o : Option (List Value)) → values_from limit bases (without_return line) [] ≡ o →

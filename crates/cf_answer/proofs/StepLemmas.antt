@@ -205,10 +205,6 @@ pub on_ok : {A B : Type 0} (answer : Result (Unit {0}) Fault) → OnOk answer A 
 on_ok (Ok done) a go = go a
 on_ok (Err f) a go = tt
 
-pub on_err : {B : Type 0} (answer : Result (Unit {0}) Fault) → B → OnErr answer B
-on_err (Ok done) b = tt
-on_err (Err f) b = b
-
 pub runs_end : (t : Answerer) (left mid still_left : Option (List ℕ)) (cutter : CutterState) (old now new : Option (List ℕ)) (total : ℕ)
     (answer : Result (Unit {0}) Fault) → IsReadTo t left mid cutter old now total → total ≤ input_limit →
     Consumes mid still_left [] → IsAtEnd still_left →
