@@ -1,5 +1,5 @@
 -- A program that tokens spell has the numbers and the lengths that the rules ask for.
-use Rattle.std.proofs.Common.{◌≡◌, zero, suc, negsuc, ◌≤◌, ◌-◌, ◌^◌, ℕ, ℤ, pos, Bool, true, false, List, [], ◌∷◌, length, map, All, sym, ap, subst, arith, inl, inr, ◌∙◌}
+use Rattle.std.proofs.Common.{◌≡◌, zero, suc, negsuc, ◌≤◌, ◌-◌, ◌^◌, ℕ, ℤ, pos, List, [], ◌∷◌, length, map, All, sym, ap, subst, arith, inl, inr, ◌∙◌}
 use Rattle.std.specs.Prelude.{neg_ℤ}
 use Rattle.std.proofs.lemmas.List.{length-map}
 use Rattle.std.proofs.lemmas.List.Elements.{All-nil, All-cons}
@@ -14,6 +14,8 @@ use Rattle.cf_lex.specs.declared.token.Token.{Token}
 use Rattle.cf_lex.specs.declared.token.TokenKind.{TokenKind}
 use Rattle.cf_reader.proofs.Keeps.{Small, Keeps, behind, both, past, inside, never, first_keeps, one, skip, closed, name_keeps, next_name_keeps, literal_keeps, next_literal_keeps, any_keeps, several_keep, one_or_tuple_keeps, base_keeps}
 use Rattle.cf_reader.specs.Kinds.{SpellsBase}
+use Rattle.cf_parse.specs.declared.sign.TermSign.{TermSign}
+use Rattle.cf_parse.specs.declared.sign.TermSign.TheVariants.{Plus, Minus}
 use Rattle.cf_parse.specs.Spelling.{SpellsParam, SpellsName, SpellsNames, signed, SpellsPart, SpellsConstant, SpellsTerms, SpellsSigned, SpellsPattern, Spells, SpellsItems, SpellsOthers, SpellsArm, SpellsArms}
 use Rattle.cf_parse.specs.Programs.{SpellsDef, SpellsDefs, IsProgram}
 use Rattle.cf_program.specs.Source.{IsSpelledRaw, AreSpelledRaws, AreSpelledArms, IsSpelledDef, IsSpelledProgram}
@@ -25,9 +27,9 @@ neg_within (pos zero) h = h
 neg_within (pos (suc n)) h = h
 neg_within (negsuc n) h = h
 
-signed_within : (minus : Bool) (n : ℤ) → IsWithin n → IsWithin (signed minus n)
-signed_within true n h = neg_within n h
-signed_within false n h = h
+signed_within : (sign : TermSign) (n : ℤ) → IsWithin n → IsWithin (signed sign n)
+signed_within Plus n h = h
+signed_within Minus n h = neg_within n h
 
 one_within : IsWithin (pos 1)
 one_within = omega arith
@@ -35,20 +37,20 @@ one_within = omega arith
 pub none_within : IsWithin (pos 0)
 none_within = omega arith
 
-part_on : (minus : Bool) (x : Part) (ts us : List Token) → Small ts → SpellsPart minus x ts us → IsWithin x.factor × Small us
-part_on minus x ts us s (inl h) = (rw h.1 (signed_within minus (pos 1) one_within), ((name_keeps x.place x.name).keeps ts us s h.0).1)
-part_on minus x ts us s (inr h) =
+part_on : (sign : TermSign) (x : Part) (ts us : List Token) → Small ts → SpellsPart sign x ts us → IsWithin x.factor × Small us
+part_on sign x ts us s (inl h) = (rw h.1 (signed_within sign (pos 1) one_within), ((name_keeps x.place x.name).keeps ts us s h.0).1)
+part_on sign x ts us s (inr h) =
     let l = (both (next_literal_keeps (pos 0) h.0) (skip (name_keeps x.place x.name))).keeps ts us s h.1 in
-    (rw h.2 (signed_within minus h.0 l.0.0.1), l.1)
+    (rw h.2 (signed_within sign h.0 l.0.0.1), l.1)
 
-part_keeps : (minus : Bool) (x : Part) → Keeps (SpellsPart minus x) (IsWithin x.factor)
-part_keeps minus x = record { keeps = part_on minus x }
+part_keeps : (sign : TermSign) (x : Part) → Keeps (SpellsPart sign x) (IsWithin x.factor)
+part_keeps sign x = record { keeps = part_on sign x }
 
-constant_keeps : (minus : Bool) (constant : ℤ) → Keeps (SpellsConstant minus constant) (IsWithin constant)
-constant_keeps minus constant = record {
+constant_keeps : (sign : TermSign) (constant : ℤ) → Keeps (SpellsConstant sign constant) (IsWithin constant)
+constant_keeps sign constant = record {
   keeps = λ ts us s h.
       let l = (next_literal_keeps (pos 0) h.0).keeps ts us s h.1 in
-      (rw h.2 (signed_within minus h.0 l.0.1), l.1);
+      (rw h.2 (signed_within sign h.0 l.0.1), l.1);
 }
 
 abbrev FactorFine : Part → Type 0
@@ -70,13 +72,13 @@ terms_on (x ∷ xs) constant ts us s h =
 terms_keep : (parts : List Part) (constant : ℤ) → Keeps (SpellsTerms parts constant) (PatternFine parts constant)
 terms_keep parts constant = record { keeps = terms_on parts constant }
 
-signed_keeps : (minus : Bool) (parts : List Part) (constant : ℤ) → Keeps (SpellsSigned minus parts constant) (PatternFine parts constant)
-signed_keeps minus [] constant = behind (λ c. (All-nil FactorFine, c)) (constant_keeps minus constant)
-signed_keeps minus (x ∷ xs) constant = behind (λ k. (All-cons FactorFine x xs k.0 k.1.0, k.1.1)) (both (part_keeps minus x) (terms_keep xs constant))
+signed_keeps : (sign : TermSign) (parts : List Part) (constant : ℤ) → Keeps (SpellsSigned sign parts constant) (PatternFine parts constant)
+signed_keeps sign [] constant = behind (λ c. (All-nil FactorFine, c)) (constant_keeps sign constant)
+signed_keeps sign (x ∷ xs) constant = behind (λ k. (All-cons FactorFine x xs k.0 k.1.0, k.1.1)) (both (part_keeps sign x) (terms_keep xs constant))
 
 pattern_on : (parts : List Part) (constant : ℤ) (ts us : List Token) → Small ts → SpellsPattern parts constant ts us → PatternFine parts constant × Small us
-pattern_on parts constant ts us s (inl h) = (signed_keeps false parts constant).keeps ts us s h
-pattern_on parts constant ts us s (inr h) = (skip (signed_keeps true parts constant)).keeps ts us s h
+pattern_on parts constant ts us s (inl h) = (signed_keeps Plus parts constant).keeps ts us s h
+pattern_on parts constant ts us s (inr h) = (skip (signed_keeps Minus parts constant)).keeps ts us s h
 
 pattern_keeps : (parts : List Part) (constant : ℤ) → Keeps (SpellsPattern parts constant) (PatternFine parts constant)
 pattern_keeps parts constant = record { keeps = pattern_on parts constant }

@@ -16,6 +16,8 @@ use Rattle.cf_reader.proofs.KindLaws.{took_base, took_truth}
 use Rattle.cf_reader.proofs.Yields.{Yields, faults, Took, pure_yields, widen, bind_yields, must_yields, first_yields, deep_yields, added, all_added, if_some, if_else_some, same_token, took_is, took_next, took_name, in_order, took_literal, several_yields, same_text, one_or_tuple_yields}
 use Rattle.cf_reader.specs.Operations.{op_kind, op_of}
 use Rattle.cf_reader.proofs.OperationLaws.{op_on}
+use Rattle.cf_parse.specs.declared.sign.TermSign.{TermSign}
+use Rattle.cf_parse.specs.declared.sign.TermSign.TheVariants.{Plus, Minus}
 use Rattle.cf_parse.specs.declared.tier.Tier.{Tier}
 use Rattle.cf_parse.specs.declared.tier.Tier.TheVariants.{Whole, Ors, Ands, Cmps, Sums, Muls, Unary}
 use Rattle.cf_parse.specs.declared.pattern.Term.{Term}
@@ -25,7 +27,7 @@ use Rattle.cf_parse.specs.Reading.{a_sign, op_at, next_op, lone_literal, factor_
 
 -- the tests of the grammar's words and signs
 
-sign_on : (q : Place) (k : TokenKind) (x : Bool) → a_sign (record { place = q; kind = k }) ≡ Some x → k ≡ plus_or_minus x
+sign_on : (q : Place) (k : TokenKind) (x : TermSign) → a_sign (record { place = q; kind = k }) ≡ Some x → k ≡ plus_or_minus x
 sign_on q (Sign y) x e = elim (if_else_some (bytes_eq y (codes "+")) _ x _ e) [
   | inl h ↦ ap Sign (same_text y _ h.0) ∙ ap plus_or_minus h.1
   | inr h ↦ let j = if_some (bytes_eq y (codes "-")) _ x h.1 in ap Sign (same_text y _ j.0) ∙ ap plus_or_minus j.1
@@ -33,7 +35,7 @@ sign_on q (Sign y) x e = elim (if_else_some (bytes_eq y (codes "+")) _ x _ e) [
 sign_on q (Word y) x e = cc
 sign_on q (Literal n) x e = cc
 
-pub took_sign : (ts us : List Token) (x : Bool) → Took a_sign ts x us → Next (plus_or_minus x) ts us
+pub took_sign : (ts us : List Token) (x : TermSign) → Took a_sign ts x us → Next (plus_or_minus x) ts us
 took_sign ts us x (t, e, f) = (t.place, same_token t t.place (plus_or_minus x) ts us e refl (sign_on t.place t.kind x f))
 
 rank_tier : ℕ → Tier
@@ -168,14 +170,14 @@ params_yields ts =
 
 -- patterns
 
--- a term behind a minus or a plus
-abbrev SpellsTerm : Bool → Term → List Token → List Token → Type 0
-SpellsTerm minus (a_part x) ts us = SpellsPart minus x ts us
-SpellsTerm minus (the_constant k) ts us = SpellsConstant minus k ts us
+-- a term behind a plus or a minus
+abbrev SpellsTerm : TermSign → Term → List Token → List Token → Type 0
+SpellsTerm sign (a_part x) ts us = SpellsPart sign x ts us
+SpellsTerm sign (the_constant k) ts us = SpellsConstant sign k ts us
 
-pub term_yields : (minus : Bool) (ts : List Token) → Yields (λ x us. SpellsTerm minus x ts us) (term_of minus ts)
+pub term_yields : (sign : TermSign) (ts : List Token) → Yields (λ x us. SpellsTerm sign x ts us) (term_of sign ts)
 unfolding term_of
-term_yields minus ts =
+term_yields sign ts =
     first_yields _ _ _ ts
     (λ k a n. first_yields _ _ _ a
     (λ p b s. bind_yields _ _ b (must_yields _ b)
@@ -184,41 +186,41 @@ term_yields minus ts =
     (bind_yields _ _ ts (must_yields _ ts) (λ x us w. pure_yields _ us (inl (took_name ts us x w, refl))))
 
 -- terms behind a sign, with the parts read before
-pub record TermsFound (minus : Bool) (done : List Part) (ts : List Token) (y : Pattern) (us : List Token) : Type 0 where
+pub record TermsFound (sign : TermSign) (done : List Part) (ts : List Token) (y : Pattern) (us : List Token) : Type 0 where
   pub new : List Part
   pub all : y.0 ≡ done ++ new
-  pub spelled : SpellsSigned minus new y.1 ts us
+  pub spelled : SpellsSigned sign new y.1 ts us
 
-behind : (minus sign : Bool) (done : List Part) (ts a b us : List Token) (x : Part) (y : Pattern) → SpellsPart minus x ts a → Next (plus_or_minus sign) a b →
+behind : (sign next : TermSign) (done : List Part) (ts a b us : List Token) (x : Part) (y : Pattern) → SpellsPart sign x ts a → Next (plus_or_minus next) a b →
     (new : List Part) → y.0 ≡ (done ++ x ∷ []) ++ new →
-    SpellsSigned sign new y.1 b us → TermsFound minus done ts y us
-behind minus sign done ts a b us x y w n [] e s = record { new = x ∷ []; all = e ∙ append-nil (done ++ x ∷ []); spelled = (a, w, inr (sign, (b, n, s))) }
-behind minus sign done ts a b us x y w n (z ∷ zs) e s =
-    record { new = x ∷ z ∷ zs; all = e ∙ append_assoc done (x ∷ []) (z ∷ zs); spelled = (a, w, (sign, (b, n, s))) }
+    SpellsSigned next new y.1 b us → TermsFound sign done ts y us
+behind sign next done ts a b us x y w n [] e s = record { new = x ∷ []; all = e ∙ append-nil (done ++ x ∷ []); spelled = (a, w, inr (next, (b, n, s))) }
+behind sign next done ts a b us x y w n (z ∷ zs) e s =
+    record { new = x ∷ z ∷ zs; all = e ∙ append_assoc done (x ∷ []) (z ∷ zs); spelled = (a, w, (next, (b, n, s))) }
 
-term_case : {Q : Pattern → List Token → Type 0} (minus : Bool) (ts a : List Token) (f : ℤ → Reader Pattern) (g : Part → Reader Pattern) (term : Term) →
-    SpellsTerm minus term ts a →
-    ((k : ℤ) → SpellsConstant minus k ts a → Yields Q (f k a)) → ((x : Part) → SpellsPart minus x ts a → Yields Q (g x a)) → Yields Q (by_term term f g a)
-term_case minus ts a f g (the_constant k) w h i = h k w
-term_case minus ts a f g (a_part x) w h i = i x w
+term_case : {Q : Pattern → List Token → Type 0} (sign : TermSign) (ts a : List Token) (f : ℤ → Reader Pattern) (g : Part → Reader Pattern) (term : Term) →
+    SpellsTerm sign term ts a →
+    ((k : ℤ) → SpellsConstant sign k ts a → Yields Q (f k a)) → ((x : Part) → SpellsPart sign x ts a → Yields Q (g x a)) → Yields Q (by_term term f g a)
+term_case sign ts a f g (the_constant k) w h i = h k w
+term_case sign ts a f g (a_part x) w h i = i x w
 
-terms_yields : (k : ℕ) (minus : Bool) (done : List Part) (ts : List Token) → Yields (TermsFound minus done ts) (terms_of k minus done ts)
+terms_yields : (k : ℕ) (sign : TermSign) (done : List Part) (ts : List Token) → Yields (TermsFound sign done ts) (terms_of k sign done ts)
 unfolding terms_of
-terms_yields zero minus done ts = faults 0
-terms_yields (suc k) minus done ts = bind_yields _ _ ts (term_yields minus ts) (λ term a w. term_case minus ts a _ _ term w
+terms_yields zero sign done ts = faults 0
+terms_yields (suc k) sign done ts = bind_yields _ _ ts (term_yields sign ts) (λ term a w. term_case sign ts a _ _ term w
     (λ n v. pure_yields (done, n) a (record { new = []; all = sym (append-nil done); spelled = v }))
     (λ x v. first_yields _ _ _ a
-    (λ sign b n. widen (λ y us more. behind minus sign done ts a b us x y v (took_sign a b sign n) more.new more.all more.spelled)
-    (terms_yields k sign (done ++ x ∷ []) b))
+    (λ next b n. widen (λ y us more. behind sign next done ts a b us x y v (took_sign a b next n) more.new more.all more.spelled)
+    (terms_yields k next (done ++ x ∷ []) b))
     (pure_yields (done ++ x ∷ [], pos 0) a (record { new = x ∷ []; all = refl; spelled = (a, v, inl (refl, refl)) }))))
 
 pub pattern_yields : (ts : List Token) → Yields (λ y us. SpellsPattern y.0 y.1 ts us) (pattern_of ts)
 unfolding pattern_of all_terms
 pattern_yields ts =
     first_yields _ _ _ ts
-    (λ p a n. widen (λ y us w. inr (a, took_next _ ts a p n, subst (λ z. SpellsSigned true z y.1 a us) (sym w.all) w.spelled))
-    (terms_yields (length a) true [] a))
-    (widen (λ y us w. inl (subst (λ z. SpellsSigned false z y.1 ts us) (sym w.all) w.spelled)) (terms_yields (length ts) false [] ts))
+    (λ p a n. widen (λ y us w. inr (a, took_next _ ts a p n, subst (λ z. SpellsSigned Minus z y.1 a us) (sym w.all) w.spelled))
+    (terms_yields (length a) Minus [] a))
+    (widen (λ y us w. inl (subst (λ z. SpellsSigned Plus z y.1 ts us) (sym w.all) w.spelled)) (terms_yields (length ts) Plus [] ts))
 
 -- expressions
 

@@ -1,5 +1,5 @@
 -- The readers of the grammar are local.
-use Rattle.std.proofs.Common.{ℕ, suc, zero, Bool, List, [], length}
+use Rattle.std.proofs.Common.{ℕ, suc, zero, List, [], length}
 use Rattle.std.specs.Prelude.{ℤ}
 use Rattle.cf_lex.specs.declared.token.Token.{Token}
 use Rattle.cf_lex.specs.declared.token.TokenKind.{TokenKind}
@@ -12,6 +12,7 @@ use Rattle.cf_parse.specs.declared.tier.Tier.{Tier}
 use Rattle.cf_parse.specs.declared.tier.Tier.TheVariants.{Whole, Ors, Ands, Cmps, Sums, Muls, Unary}
 use Rattle.cf_parse.specs.declared.pattern.Term.{Term}
 use Rattle.cf_parse.specs.declared.pattern.Term.TheVariants.{Part as a_part, Constant as the_constant}
+use Rattle.cf_parse.specs.declared.sign.TermSign.{TermSign}
 use Rattle.cf_parse.specs.Reading.{param_of, params_of, named, names_of, term_of, Pattern, by_term, terms_of, all_terms, pattern_of, Parts, chain_of, list_of, items_of, inside_of, divided_of, named_of, word_of, atom_of, unary_of, muls_of, sums_of, compared_of, cmps_of, ands_of, ors_of, let_of, if_of, choose_of, arm_of, match_of, whole_of, step, read}
 
 pub param_local : {more other : List Token} → Local more other param_of param_of
@@ -26,9 +27,9 @@ pub names_local : {more other : List Token} → Local more other names_of names_
 unfolding names_of
 names_local = one_or_tuple_local named _ (must_local _)
 
-pub term_local : {more other : List Token} (minus : Bool) → Local more other (term_of minus) (term_of minus)
+pub term_local : {more other : List Token} (sign : TermSign) → Local more other (term_of sign) (term_of sign)
 unfolding term_of
-term_local minus =
+term_local sign =
     first_local _ (λ k. first_local _ (λ p. bind_local (must_local _) (λ x. pure_local _)) (pure_local _)) (bind_local (must_local _) (λ x. pure_local _))
 
 by_term_local : {more other : List Token} {f f' : ℤ → Reader Pattern} {g g' : Part → Reader Pattern} (term : Term) → ((k : ℤ) → Local more other (f k) (f' k)) →
@@ -37,20 +38,20 @@ by_term_local : {more other : List Token} {f f' : ℤ → Reader Pattern} {g g' 
 by_term_local (the_constant k) h i = h k
 by_term_local (a_part x) h i = i x
 
-terms_local : {more other : List Token} (j k : ℕ) (minus : Bool) (done : List Part) → Local more other (terms_of j minus done) (terms_of k minus done)
+terms_local : {more other : List Token} (j k : ℕ) (sign : TermSign) (done : List Part) → Local more other (terms_of j sign done) (terms_of k sign done)
 unfolding terms_of
-terms_local zero k minus done = end_local _
-terms_local (suc j) zero minus done =
-    any_local (bind_local (term_local minus)
-    (λ term. by_term_local term (λ k. pure_local _) (λ x. first_local _ (λ sign. terms_local j j sign _) (pure_local _))))
-terms_local (suc j) (suc k) minus done =
-    bind_local (term_local minus) (λ term. by_term_local term (λ k. pure_local _) (λ x. first_local _ (λ sign. terms_local j k sign _) (pure_local _)))
+terms_local zero k sign done = end_local _
+terms_local (suc j) zero sign done =
+    any_local (bind_local (term_local sign)
+    (λ term. by_term_local term (λ k. pure_local _) (λ x. first_local _ (λ next. terms_local j j next _) (pure_local _))))
+terms_local (suc j) (suc k) sign done =
+    bind_local (term_local sign) (λ term. by_term_local term (λ k. pure_local _) (λ x. first_local _ (λ next. terms_local j k next _) (pure_local _)))
 
-all_terms_local : {more other : List Token} (minus : Bool) → Local more other (all_terms minus) (all_terms minus)
+all_terms_local : {more other : List Token} (sign : TermSign) → Local more other (all_terms sign) (all_terms sign)
 unfolding all_terms
-all_terms_local {more} {other} minus = record {
-  within = λ ts m l. (terms_local {more = more} {other = other} (length ts) (length ts) minus []).within ts m l;
-  near = λ ts us n. (terms_local {more = more} {other = other} (length ts) (length us) minus []).near ts us n;
+all_terms_local {more} {other} sign = record {
+  within = λ ts m l. (terms_local {more = more} {other = other} (length ts) (length ts) sign []).within ts m l;
+  near = λ ts us n. (terms_local {more = more} {other = other} (length ts) (length us) sign []).near ts us n;
 }
 
 pub pattern_local : {more other : List Token} → Local more other pattern_of pattern_of

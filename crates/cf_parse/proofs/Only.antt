@@ -23,6 +23,8 @@ use Rattle.cf_reader.proofs.KindLaws.{base_is, no_literal, sign_literal, truth_i
 use Rattle.cf_reader.proofs.Yields.{all_added}
 use Rattle.cf_reader.specs.Operations.{op_kind, op_of}
 use Rattle.cf_reader.proofs.OperationLaws.{op_again}
+use Rattle.cf_parse.specs.declared.sign.TermSign.{TermSign}
+use Rattle.cf_parse.specs.declared.sign.TermSign.TheVariants.{Plus, Minus}
 use Rattle.cf_parse.specs.declared.tier.Tier.{Tier}
 use Rattle.cf_parse.specs.declared.tier.Tier.TheVariants.{Whole, Ors, Ands, Cmps, Sums, Muls, Unary}
 use Rattle.cf_parse.specs.declared.pattern.Term.TheVariants.{Part as a_part, Constant as the_constant}
@@ -231,81 +233,81 @@ names_are names places ts rest (xs, e, f, w) =
 
 -- patterns, before the word then
 
-sign_is : (minus : Bool) (ts us : List Token) → Next (plus_or_minus minus) ts us → at a_sign ts ≡ Some (minus, us)
+sign_is : (sign : TermSign) (ts us : List Token) → Next (plus_or_minus sign) ts us → at a_sign ts ≡ Some (sign, us)
 unfolding at
-sign_is true ts us n = ap (at a_sign) n.1
-sign_is false ts us n = ap (at a_sign) n.1
+sign_is Plus ts us n = ap (at a_sign) n.1
+sign_is Minus ts us n = ap (at a_sign) n.1
 
 no_sign : (k : TokenKind) (ts us : List Token) (p : Place) → a_sign (record { place = p; kind = k }) ≡ None → First p k ts us → at a_sign ts ≡ None
 unfolding at
 no_sign k ts us p e w = ap (at a_sign) w ∙ ap (λ o. before us o) e
 
-part_is : (minus : Bool) (x : Part) (ts us : List Token) → SpellsPart minus x ts us → term_of minus ts ≡ Ok (a_part x, us)
+part_is : (sign : TermSign) (x : Part) (ts us : List Token) → SpellsPart sign x ts us → term_of sign ts ≡ Ok (a_part x, us)
 unfolding term_of
-part_is minus x ts us (inl (n, f)) =
+part_is sign x ts us (inl (n, f)) =
     first_not _ _ _ ts (no_literal x.place x.name ts us n.0)
     (bind_is _ _ ts (must_is _ ts us _ (name_is ts us x.place x.name n))
     (pure_is _ (a_part x) us (ap (λ z. a_part (record { place = x.place; factor = z; name = x.name })) (sym f))))
-part_is minus x ts us (inr (n, (a, (p, l), (b, s, m)), f)) =
+part_is sign x ts us (inr (n, (a, (p, l), (b, s, m)), f)) =
     first_is _ _ _ ts (literal_is (pos 0) ts a p n l)
     (first_is _ _ _ a (at_is _ a b s.0 refl s.1)
     (bind_is _ _ b (must_is _ b us _ (name_is b us x.place x.name m))
     (pure_is _ (a_part x) us (ap (λ z. a_part (record { place = x.place; factor = z; name = x.name })) (sym f)))))
 
-constant_is : (minus : Bool) (c : ℤ) (ts us : List Token) → SpellsConstant minus c ts us → at (is (Sign (codes "*"))) us ≡ None →
-    term_of minus ts ≡ Ok (the_constant c, us)
+constant_is : (sign : TermSign) (c : ℤ) (ts us : List Token) → SpellsConstant sign c ts us → at (is (Sign (codes "*"))) us ≡ None →
+    term_of sign ts ≡ Ok (the_constant c, us)
 unfolding term_of
-constant_is minus c ts us (n, (p, l), e) s =
+constant_is sign c ts us (n, (p, l), e) s =
     first_is _ _ _ ts (literal_is (pos 0) ts us p n l) (first_not _ _ _ us s (pure_is _ (the_constant c) us (ap the_constant (sym e))))
 
-part_longer : (minus : Bool) (x : Part) (ts us : List Token) → SpellsPart minus x ts us → length us < length ts
-part_longer minus x ts us (inl (n, f)) = omega (arith, first_longer (Word x.name) ts us x.place n.0)
-part_longer minus x ts us (inr (n, (a, (p, l), (b, s, m)), f)) =
+part_longer : (sign : TermSign) (x : Part) (ts us : List Token) → SpellsPart sign x ts us → length us < length ts
+part_longer sign x ts us (inl (n, f)) = omega (arith, first_longer (Word x.name) ts us x.place n.0)
+part_longer sign x ts us (inr (n, (a, (p, l), (b, s, m)), f)) =
     omega (arith, first_longer (Literal n) ts a p l.0, first_longer (Sign (codes "*")) a b s.0 s.1, first_longer (Word x.name) b us x.place m.0)
 
-constant_longer : (minus : Bool) (c : ℤ) (ts us : List Token) → SpellsConstant minus c ts us → length us < length ts
-constant_longer minus c ts us (n, (p, l), e) = omega (arith, first_longer (Literal n) ts us p l.0)
+constant_longer : (sign : TermSign) (c : ℤ) (ts us : List Token) → SpellsConstant sign c ts us → length us < length ts
+constant_longer sign c ts us (n, (p, l), e) = omega (arith, first_longer (Literal n) ts us p l.0)
 
 -- what stands behind a pattern goes on with none
 pub record Ended (ts : List Token) : Type 0 where
   pub sign : at a_sign ts ≡ None
   pub times : at (is (Sign (codes "*"))) ts ≡ None
 
-terms_are : (k : ℕ) (minus : Bool) (done parts : List Part) (c : ℤ) (ts rest : List Token) → SpellsSigned minus parts c ts rest → Ended rest → length ts ≤ k →
-    terms_of k minus done ts ≡ Ok ((done ++ parts, c), rest)
+terms_are : (k : ℕ) (sign : TermSign) (done parts : List Part) (c : ℤ) (ts rest : List Token) → SpellsSigned sign parts c ts rest → Ended rest → length ts ≤ k →
+    terms_of k sign done ts ≡ Ok ((done ++ parts, c), rest)
 unfolding terms_of
-terms_are zero minus done [] c ts rest w z l = absurd (omega (arith, l, constant_longer minus c ts rest w))
-terms_are zero minus done (x ∷ parts) c ts rest w z l = absurd (omega (arith, l, part_longer minus x ts w.0 w.1))
-terms_are (suc k) minus done [] c ts rest w z l =
-    bind_is _ _ ts (constant_is minus c ts rest w z.times) (pure_is _ _ rest (ap (λ (y : List Part). (y, c)) (sym (append-nil done))))
-terms_are (suc k) minus done (x ∷ []) c ts rest (a, p, inl (e, f)) z l =
-    bind_is _ _ ts (part_is minus x ts a p)
+terms_are zero sign done [] c ts rest w z l = absurd (omega (arith, l, constant_longer sign c ts rest w))
+terms_are zero sign done (x ∷ parts) c ts rest w z l = absurd (omega (arith, l, part_longer sign x ts w.0 w.1))
+terms_are (suc k) sign done [] c ts rest w z l =
+    bind_is _ _ ts (constant_is sign c ts rest w z.times) (pure_is _ _ rest (ap (λ (y : List Part). (y, c)) (sym (append-nil done))))
+terms_are (suc k) sign done (x ∷ []) c ts rest (a, p, inl (e, f)) z l =
+    bind_is _ _ ts (part_is sign x ts a p)
     (first_not _ _ _ a (ap (at a_sign) e ∙ z.sign)
     (pure_is _ _ a refl ∙ ap (λ (us : List Token). Ok ((done ++ x ∷ [], pos 0), us)) e ∙ ap (λ y. Ok ((done ++ x ∷ [], y), rest)) (sym f)))
-terms_are (suc k) minus done (x ∷ []) c ts rest (a, p, inr (sign, (b, n, w))) z l =
-    bind_is _ _ ts (part_is minus x ts a p)
-    (first_is _ _ _ a (sign_is sign a b n)
-    (terms_are k sign (done ++ x ∷ []) [] c b rest w z (omega (arith, l, part_longer minus x ts a p, first_longer (plus_or_minus sign) a b n.0 n.1))
+terms_are (suc k) sign done (x ∷ []) c ts rest (a, p, inr (next, (b, n, w))) z l =
+    bind_is _ _ ts (part_is sign x ts a p)
+    (first_is _ _ _ a (sign_is next a b n)
+    (terms_are k next (done ++ x ∷ []) [] c b rest w z (omega (arith, l, part_longer sign x ts a p, first_longer (plus_or_minus next) a b n.0 n.1))
     ∙ ap (λ (y : List Part). Ok ((y, c), rest)) (append-nil (done ++ x ∷ []))))
-terms_are (suc k) minus done (x ∷ y ∷ parts) c ts rest (a, p, (sign, (b, n, w))) z l =
-    bind_is _ _ ts (part_is minus x ts a p)
-    (first_is _ _ _ a (sign_is sign a b n)
-    (terms_are k sign (done ++ x ∷ []) (y ∷ parts) c b rest w z (omega (arith, l, part_longer minus x ts a p, first_longer (plus_or_minus sign) a b n.0 n.1))
+terms_are (suc k) sign done (x ∷ y ∷ parts) c ts rest (a, p, (next, (b, n, w))) z l =
+    bind_is _ _ ts (part_is sign x ts a p)
+    (first_is _ _ _ a (sign_is next a b n)
+    (terms_are k next (done ++ x ∷ []) (y ∷ parts) c b rest w z (omega (arith, l, part_longer sign x ts a p, first_longer (plus_or_minus next) a b n.0 n.1))
     ∙ ap (λ (y : List Part). Ok ((y, c), rest)) (append_assoc done (x ∷ []) (y ∷ parts))))
 
-part_start : (minus : Bool) (x : Part) (ts us : List Token) → SpellsPart minus x ts us → at (is (Sign (codes "-"))) ts ≡ None
-part_start minus x ts us (inl (n, f)) = at_not _ (Word x.name) ts us x.place refl n.0
-part_start minus x ts us (inr (n, (a, (p, l), (b, s, m)), f)) = at_not _ (Literal n) ts a p refl l.0
+part_start : (sign : TermSign) (x : Part) (ts us : List Token) → SpellsPart sign x ts us → at (is (Sign (codes "-"))) ts ≡ None
+part_start sign x ts us (inl (n, f)) = at_not _ (Word x.name) ts us x.place refl n.0
+part_start sign x ts us (inr (n, (a, (p, l), (b, s, m)), f)) = at_not _ (Literal n) ts a p refl l.0
 
-signed_start : (minus : Bool) (parts : List Part) (c : ℤ) (ts rest : List Token) → SpellsSigned minus parts c ts rest → at (is (Sign (codes "-"))) ts ≡ None
-signed_start minus [] c ts rest (n, (p, l), e) = at_not _ (Literal n) ts rest p refl l.0
-signed_start minus (x ∷ parts) c ts rest w = part_start minus x ts w.0 w.1
+signed_start : (sign : TermSign) (parts : List Part) (c : ℤ) (ts rest : List Token) → SpellsSigned sign parts c ts rest → at (is (Sign (codes "-"))) ts ≡ None
+signed_start sign [] c ts rest (n, (p, l), e) = at_not _ (Literal n) ts rest p refl l.0
+signed_start sign (x ∷ parts) c ts rest w = part_start sign x ts w.0 w.1
 
 pattern_is : (parts : List Part) (c : ℤ) (ts rest : List Token) → SpellsPattern parts c ts rest → Ended rest → pattern_of ts ≡ Ok ((parts, c), rest)
 unfolding pattern_of all_terms
-pattern_is parts c ts rest (inl w) z = first_not _ _ _ ts (signed_start false parts c ts rest w)
-    (terms_are (length ts) false [] parts c ts rest w z (omega arith))
-pattern_is parts c ts rest (inr (a, n, w)) z = first_is _ _ _ ts (at_is _ ts a n.0 refl n.1) (terms_are (length a) true [] parts c a rest w z (omega arith))
+pattern_is parts c ts rest (inl w) z = first_not _ _ _ ts (signed_start Plus parts c ts rest w)
+    (terms_are (length ts) Plus [] parts c ts rest w z (omega arith))
+pattern_is parts c ts rest (inr (a, n, w)) z = first_is _ _ _ ts (at_is _ ts a n.0 refl n.1) (terms_are (length a) Minus [] parts c a rest w z (omega arith))
 
 -- how expressions begin
 

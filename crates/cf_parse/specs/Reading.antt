@@ -1,30 +1,28 @@
 -- Reading expressions from left to right.
-use Rattle.std.specs.Prelude.{ℕ, zero, suc, ℤ, pos, int_le, nat_le, nat_eq, Bool, true, false, List, [], ◌∷◌, ◌++◌, length, Option, Some, None, Err, codes, if◌then◌else◌}
+use Rattle.std.specs.Prelude.{ℕ, zero, suc, ℤ, pos, int_le, nat_le, nat_eq, List, [], ◌∷◌, length, Option, Some, None, Err, codes, if◌then◌else◌}
 use Rattle.std.specs.Str.{bytes_eq}
 use Rattle.cf_lex.specs.declared.token.TokenKind.{TokenKind}
 use Rattle.cf_lex.specs.declared.token.TokenKind.TheVariants.{Literal, Word, Sign}
 use Rattle.cf_tree.specs.declared.base.Place.{Place}
-use Rattle.cf_tree.specs.declared.base.Base.{Base}
-use Rattle.cf_tree.specs.declared.base.Base.TheVariants.{Int, Bool as BoolBase, Set}
-use Rattle.cf_tree.specs.declared.base.Order.TheVariants.{Eq, Ne, Lt, Le, Gt, Ge}
 use Rattle.cf_tree.specs.declared.raw.BinOp.{BinOp}
-use Rattle.cf_tree.specs.declared.raw.BinOp.TheVariants.{Add, Sub, Mul, And, Or, Union, Inter, Diff, Subset, Compare}
 use Rattle.cf_tree.specs.declared.raw.Param.{Param}
 use Rattle.cf_tree.specs.declared.raw.Part.{Part}
 use Rattle.cf_tree.specs.RawTree.{RawTree, raw_lit, raw_truth, raw_name, raw_set_of, raw_group, raw_tuple, raw_neg, raw_not, raw_abs, raw_binary, raw_divides, raw_div, raw_mod, raw_card, raw_call, raw_if, raw_let, raw_choose, raw_match, RawArmTree, raw_arm, no_raws, raws_of, raw_arms_of, raw_depth}
 use Rattle.cf_reader.specs.Readers.{Reader, Test, is, a_name, a_literal, pure, must, ◌>>=◌, first, deep, several_of, snoc, one_or_tuple}
 use Rattle.cf_reader.specs.Kinds.{a_base, a_truth}
 use Rattle.cf_reader.specs.Operations.{op_of}
+use Rattle.cf_parse.specs.declared.sign.TermSign.{TermSign}
+use Rattle.cf_parse.specs.declared.sign.TermSign.TheVariants.{Plus, Minus}
 use Rattle.cf_parse.specs.declared.tier.Tier.{Tier}
 use Rattle.cf_parse.specs.declared.tier.Tier.TheVariants.{Whole, Ors, Ands, Cmps, Sums, Muls, Unary}
 use Rattle.cf_parse.specs.declared.pattern.Term.{Term}
 use Rattle.cf_parse.specs.declared.pattern.Term.TheVariants.{Part as a_part, Constant as the_constant}
 use Rattle.cf_parse.specs.Spelling.{rank, under, op_tier, signed}
 
--- a plus or a minus: true for a minus
-abbrev pub a_sign : Test Bool
+-- a plus or a minus
+abbrev pub a_sign : Test TermSign
 a_sign t = elim t.kind [
-  | Sign x ↦ if bytes_eq x (codes "+") then Some false else if bytes_eq x (codes "-") then Some true else None
+  | Sign x ↦ if bytes_eq x (codes "+") then Some Plus else if bytes_eq x (codes "-") then Some Minus else None
   | Literal n ↦ None
   | Word x ↦ None
 ]
@@ -92,12 +90,12 @@ unfoldable pub names_of : Reader Names
 names_of = one_or_tuple named (must a_name) ([], [])
 
 -- part = [ literal "*" ] name, behind a plus or a minus; or the constant, which is the last term
-unfoldable pub term_of : Bool → Reader Term
-term_of minus =
+unfoldable pub term_of : TermSign → Reader Term
+term_of sign =
     first (a_literal (pos 0)) (λ k.
-    first (is (Sign (codes "*"))) (λ p. must a_name >>= λ x. pure (a_part (record { place = x.0; factor = signed minus k.1; name = x.1 })))
-    (pure (the_constant (signed minus k.1))))
-    (must a_name >>= λ x. pure (a_part (record { place = x.0; factor = signed minus (pos 1); name = x.1 })))
+    first (is (Sign (codes "*"))) (λ p. must a_name >>= λ x. pure (a_part (record { place = x.0; factor = signed sign k.1; name = x.1 })))
+    (pure (the_constant (signed sign k.1))))
+    (must a_name >>= λ x. pure (a_part (record { place = x.0; factor = signed sign (pos 1); name = x.1 })))
 
 -- the parts of a pattern and its constant
 abbrev pub Pattern : Type 0
@@ -108,16 +106,16 @@ by_term (the_constant k) f g = f k
 by_term (a_part x) f g = g x
 
 -- terms from here on, behind a sign and the parts read before
-unfoldable pub terms_of : ℕ → Bool → List Part → Reader Pattern
-terms_of zero minus done = λ ts. Err 0
-terms_of (suc fuel) minus done = term_of minus >>= λ term.
-    by_term term (λ k. pure (done, k)) (λ x. first a_sign (λ sign. terms_of fuel sign (snoc done x)) (pure (snoc done x, pos 0)))
+unfoldable pub terms_of : ℕ → TermSign → List Part → Reader Pattern
+terms_of zero sign done = λ ts. Err 0
+terms_of (suc fuel) sign done = term_of sign >>= λ term.
+    by_term term (λ k. pure (done, k)) (λ x. first a_sign (λ next. terms_of fuel next (snoc done x)) (pure (snoc done x, pos 0)))
 
-unfoldable pub all_terms : Bool → Reader Pattern
-all_terms minus ts = terms_of (length ts) minus [] ts
+unfoldable pub all_terms : TermSign → Reader Pattern
+all_terms sign ts = terms_of (length ts) sign [] ts
 
 unfoldable pub pattern_of : Reader Pattern
-pattern_of = first (is (Sign (codes "-"))) (λ p. all_terms true) (all_terms false)
+pattern_of = first (is (Sign (codes "-"))) (λ p. all_terms Minus) (all_terms Plus)
 
 -- readers of parts
 abbrev pub Parts : Type 0

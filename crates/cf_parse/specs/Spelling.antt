@@ -1,5 +1,5 @@
 -- Which tokens spell an expression: the grammar, by cases on the tree.
-use Rattle.std.specs.Prelude.{◌≡◌, ◌≤◌, ◌⊎◌, ℕ, ℤ, pos, neg_ℤ, Bool, true, false, List, [], ◌∷◌, map, codes}
+use Rattle.std.specs.Prelude.{◌≡◌, ◌≤◌, ◌⊎◌, ℕ, ℤ, pos, neg_ℤ, List, [], ◌∷◌, map, codes}
 use Rattle.cf_lex.specs.declared.token.TokenKind.{TokenKind}
 use Rattle.cf_lex.specs.declared.token.TokenKind.TheVariants.{Word, Sign}
 use Rattle.cf_tree.specs.declared.base.Place.{Place}
@@ -11,6 +11,8 @@ use Rattle.cf_tree.specs.RawTree.{RawTree, raw_lit, raw_truth, raw_name, raw_set
 use Rattle.cf_reader.specs.Tokens.{Form, ◌⨟◌, Nothing, If, First, Next, FirstName, FirstLiteral, NextLiteral, Several, OneOrTuple}
 use Rattle.cf_reader.specs.Kinds.{base_kind, truth_kind}
 use Rattle.cf_reader.specs.Operations.{op_kind}
+use Rattle.cf_parse.specs.declared.sign.TermSign.{TermSign}
+use Rattle.cf_parse.specs.declared.sign.TermSign.TheVariants.{Plus, Minus}
 use Rattle.cf_parse.specs.declared.tier.Tier.{Tier}
 use Rattle.cf_parse.specs.declared.tier.Tier.TheVariants.{Whole, Ors, Ands, Cmps, Sums, Muls, Unary}
 
@@ -95,40 +97,40 @@ abbrev pub SpellsNames : List (List ℕ) → List Place → Form
 SpellsNames names places ts rest =
     (xs : List (Place × List ℕ)) × (names ≡ map (λ x. x.1) xs) × (places ≡ map (λ x. x.0) xs) × OneOrTuple SpellsName xs ts rest
 
--- the number with a minus before it, or as it is
-abbrev pub signed : Bool → ℤ → ℤ
-signed true n = neg_ℤ n
-signed false n = n
+-- the number as the sign before it makes it
+abbrev pub signed : TermSign → ℤ → ℤ
+signed Plus n = n
+signed Minus n = neg_ℤ n
 
-abbrev pub plus_or_minus : Bool → TokenKind
-plus_or_minus true = Sign (codes "-")
-plus_or_minus false = Sign (codes "+")
+abbrev pub plus_or_minus : TermSign → TokenKind
+plus_or_minus Plus = Sign (codes "+")
+plus_or_minus Minus = Sign (codes "-")
 
 -- part = [ literal "*" ] name, behind a plus or a minus
-abbrev pub SpellsPart : Bool → Part → Form
-SpellsPart minus x ts rest =
-    (FirstName x.place x.name ts rest × (x.factor ≡ signed minus (pos 1)))
-    ⊎ ((n : ℤ) × (NextLiteral (pos 0) n ⨟ Next (Sign (codes "*")) ⨟ FirstName x.place x.name) ts rest × (x.factor ≡ signed minus n))
+abbrev pub SpellsPart : TermSign → Part → Form
+SpellsPart sign x ts rest =
+    (FirstName x.place x.name ts rest × (x.factor ≡ signed sign (pos 1)))
+    ⊎ ((n : ℤ) × (NextLiteral (pos 0) n ⨟ Next (Sign (codes "*")) ⨟ FirstName x.place x.name) ts rest × (x.factor ≡ signed sign n))
 
 -- the constant, behind a plus or a minus
-abbrev pub SpellsConstant : Bool → ℤ → Form
-SpellsConstant minus constant ts rest = (n : ℤ) × NextLiteral (pos 0) n ts rest × (constant ≡ signed minus n)
+abbrev pub SpellsConstant : TermSign → ℤ → Form
+SpellsConstant sign constant ts rest = (n : ℤ) × NextLiteral (pos 0) n ts rest × (constant ≡ signed sign n)
 
 -- { ("+" | "-") part } [ ("+" | "-") literal ]
 abbrev pub SpellsTerms : List Part → ℤ → Form
 SpellsTerms [] constant ts rest =
-    ((ts ≡ rest) × (constant ≡ pos 0)) ⊎ ((minus : Bool) × (Next (plus_or_minus minus) ⨟ SpellsConstant minus constant) ts rest)
-SpellsTerms (x ∷ xs) constant ts rest = (minus : Bool) × (Next (plus_or_minus minus) ⨟ SpellsPart minus x ⨟ SpellsTerms xs constant) ts rest
+    ((ts ≡ rest) × (constant ≡ pos 0)) ⊎ ((sign : TermSign) × (Next (plus_or_minus sign) ⨟ SpellsConstant sign constant) ts rest)
+SpellsTerms (x ∷ xs) constant ts rest = (sign : TermSign) × (Next (plus_or_minus sign) ⨟ SpellsPart sign x ⨟ SpellsTerms xs constant) ts rest
 
 -- a pattern behind its first sign, if it has one
-abbrev pub SpellsSigned : Bool → List Part → ℤ → Form
-SpellsSigned minus [] constant = SpellsConstant minus constant
-SpellsSigned minus (x ∷ xs) constant = SpellsPart minus x ⨟ SpellsTerms xs constant
+abbrev pub SpellsSigned : TermSign → List Part → ℤ → Form
+SpellsSigned sign [] constant = SpellsConstant sign constant
+SpellsSigned sign (x ∷ xs) constant = SpellsPart sign x ⨟ SpellsTerms xs constant
 
 -- pattern = [ "-" ] part { ("+" | "-") part } [ ("+" | "-") literal ] | [ "-" ] literal
 abbrev pub SpellsPattern : List Part → ℤ → Form
 SpellsPattern parts constant ts rest =
-    SpellsSigned false parts constant ts rest ⊎ (Next (Sign (codes "-")) ⨟ SpellsSigned true parts constant) ts rest
+    SpellsSigned Plus parts constant ts rest ⊎ (Next (Sign (codes "-")) ⨟ SpellsSigned Minus parts constant) ts rest
 
 abbrev mutual
   -- the tree is spelled by the tokens up to the rest

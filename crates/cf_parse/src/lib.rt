@@ -6,6 +6,7 @@ mod measured;
 mod node;
 mod pattern;
 mod reading;
+mod sign;
 mod source;
 mod tier;
 mod words;

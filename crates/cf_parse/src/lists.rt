@@ -1,5 +1,5 @@
 //! Parameters and names.
-ghost use Rattle.std.specs.Prelude.{◌≡◌, ◌∷◌, [], length, codes, Ok};
+ghost use Rattle.std.specs.Prelude.{◌≡◌, [], codes, Ok};
 ghost use Rattle.cf_lex.specs.declared.token.TokenKind.TheVariants.{Sign};
 ghost use Rattle.cf_reader.specs.Answers.{ReadAnswer};
 ghost use Rattle.cf_reader.specs.Readers.{must, a_name, snoc, others_of, several_of};

@@ -1,5 +1,5 @@
 //! Makes trees of their parts.
-ghost use Rattle.std.specs.Prelude.{◌≡◌, ◌≤◌, ◌<◌, ◌+◌, ◌^◌, ◌∷◌, ◌++◌, [], IfOk, Ok, map, max};
+ghost use Rattle.std.specs.Prelude.{◌≡◌, ◌<◌, ◌+◌, ◌^◌, ◌∷◌, ◌++◌, [], IfOk, Ok, map, max};
 ghost use Rattle.cf_tree.specs.RawTree.{raw_lit, raw_truth, raw_name, raw_set_of, raw_neg, raw_not, raw_abs, raw_binary, raw_divides, raw_div, raw_mod, raw_card, raw_call, raw_if, raw_let, raw_choose, raw_match, raw_arm, raws_of, raw_arms_of};
 ghost use Rattle.cf_tree.specs.RawView.{raw_tree, raw_arm_tree};
 ghost use Rattle.cf_reader.specs.Answers.{ReadAnswer};

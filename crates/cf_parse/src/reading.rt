@@ -1,5 +1,5 @@
 //! Reads expressions.
-ghost use Rattle.std.specs.Prelude.{◌≡◌, ◌≤◌, ◌<◌, ◌+◌, ◌^◌, IfOk, map, codes, length};
+ghost use Rattle.std.specs.Prelude.{◌≤◌, ◌<◌, ◌+◌, ◌^◌, IfOk, map, codes};
 ghost use Rattle.cf_lex.specs.declared.token.TokenKind.TheVariants.{Sign};
 ghost use Rattle.cf_parse.specs.declared.tier.Tier.TheVariants.{Whole};
 ghost use Rattle.cf_tree.specs.RawView.{raw_tree, raw_arm_tree};

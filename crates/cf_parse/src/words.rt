@@ -1,35 +1,17 @@
-//! Words and signs of expressions that stand first.
+//! Operations that stand first, and their tiers.
 ghost use Rattle.std.specs.Prelude.{◌≡◌, ◌≤◌, IfSome};
 ghost use Rattle.cf_tree.specs.RawView.{raw_tree};
 ghost use Rattle.cf_reader.specs.Answers.{FirstAnswer};
 ghost use Rattle.cf_reader.specs.Readers.{at};
 ghost use Rattle.cf_parse.specs.Spelling.{under as under_of, op_tier as op_tier_of, rank as rank_of};
-ghost use Rattle.cf_parse.specs.Reading.{a_sign, next_op as next_op_of, lone_literal as lone_literal_of, divides_by as divides_by_of};
+ghost use Rattle.cf_parse.specs.Reading.{next_op as next_op_of, lone_literal as lone_literal_of, divides_by as divides_by_of};
 
 use crate::tier::Tier;
-use cf_lex::{Token, TokenKind};
+use cf_lex::Token;
 use cf_reader::operations::operation;
 use cf_reader::tokens::after_word;
 use cf_tree::base::Place;
 use cf_tree::raw::{BinOp, Raw, RawNode};
-
-/// Whether a minus stands first, or a plus, and the tokens after it.
-#[tactic(auto, unfolding(cf_reader::specs::Readers::at))]
-pub fn plus_or_minus(tokens: &[Token]) -> Option<(bool, &[Token])>
-    ensures { FirstAnswer (λ x. (x.0, x.1.now)) result (at a_sign tokens.now) }
-{
-    let (t, rest) = tokens.split_first()?;
-    let TokenKind::Sign(sign) = &t.kind else {
-        return None;
-    };
-    if sign.bytes.as_slice() == b"+".as_slice() {
-        Some((false, rest))
-    } else if sign.bytes.as_slice() == b"-".as_slice() {
-        Some((true, rest))
-    } else {
-        None
-    }
-}
 
 /// The tier next inside.
 pub fn under(tier: Tier) -> Tier
