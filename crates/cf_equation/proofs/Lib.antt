@@ -2,6 +2,7 @@ pub mod AnyLemmas
 pub mod EndLaws
 pub mod EndValues
 pub mod FactorLaws
+pub mod KeptLaws
 pub mod MergeLaws
 pub mod MergeValues
 pub mod PresentLemmas

@@ -6,29 +6,15 @@ use Rattle.cf_num.specs.Parts.{parts_of}
 use Rattle.cf_linear.specs.Rows.{Row, entry}
 use Rattle.cf_linear.specs.Systems.{System, row_how}
 use Rattle.cf_linear.specs.Steps.{mix, mix_passes, merge, merge_passes, two_at, Factors, factors_of}
-use Rattle.cf_equation.specs.declared.replace.Left.{Left}
 use Rattle.cf_equation.specs.declared.merge.MergeFactors.{MergeFactors}
 use Rattle.cf_equation.specs.Equations.{first_of}
-use Rattle.cf_equation.specs.Merging.{plain_factors, IsMixed}
+use Rattle.cf_equation.specs.Merging.{plain_factors, mixed_system}
 
-pub mix_is : (m : System) (x : ℕ) (r : Row) (y : ℕ) (s : Row) (l : Left) (a b c d : ℤ) → r ≡ two_at a m.next b (m.next + 1) →
-    s ≡ two_at c m.next d (m.next + 1) → IsMixed m x r y s l →
-    mix m x y a b c d ≡ record {
-      system = record {
-        known = m.known;
-        unknown = l.unknown.items;
-        next = m.next + 2;
-        equations = l.equations.items;
-        inequalities =
-            l.inequalities.items;
-        needs = m.needs;
-      };
-      steps = [];
-      back = (x, row_how r) ∷ (y, row_how s) ∷ [];
-      bounds = [];
-    }
+pub mix_is : (m : System) (x : ℕ) (r : Row) (y : ℕ) (s : Row) (t : System) (a b c d : ℤ) → r ≡ two_at a m.next b (m.next + 1) →
+    s ≡ two_at c m.next d (m.next + 1) → t ≡ mixed_system m x r y s →
+    mix m x y a b c d ≡ record { system = t; steps = []; back = (x, row_how r) ∷ (y, row_how s) ∷ []; bounds = [] }
 unfolding mix
-mix_is m x r y s l a b c d e f h = rw (h.unknown, h.equations, h.inequalities, e, f) refl
+mix_is m x r y s t a b c d e f h = rw (h, e, f) refl
 
 pub factors_are : (a b : ℤ) (p : GcdParts) (m n x : ℤ) → p ≡ parts_of a b → x ≡ int_div_euclid b p.g → m ≡ neg_ℤ x → n ≡ int_div_euclid a p.g →
     plain_factors (record { s = p.s; m = m; t = p.t; n = n }) ≡ factors_of a b

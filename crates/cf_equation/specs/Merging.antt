@@ -1,10 +1,9 @@
 -- What the private calls of a Merge do.
-use Rattle.std.specs.Prelude.{◌≡◌, ℕ, ◌+◌, Bool, ◌||◌}
+use Rattle.std.specs.Prelude.{ℕ, ◌+◌, Bool, ◌||◌}
 use Rattle.cf_num.specs.Limit.{IsWithin}
 use Rattle.cf_linear.specs.Rows.{Row, subst_row, subst_passes}
 use Rattle.cf_linear.specs.Systems.{System}
 use Rattle.cf_linear.specs.Steps.{Factors, subst_all, replaced}
-use Rattle.cf_equation.specs.declared.replace.Left.{Left}
 use Rattle.cf_equation.specs.declared.merge.MergeFactors.{MergeFactors}
 
 abbrev pub plain_factors : MergeFactors → Factors
@@ -21,7 +20,12 @@ abbrev pub mix_row_passes : ℕ → Row → ℕ → Row → Row → Bool
 mix_row_passes x r y s e = subst_passes y s e || subst_passes x r (subst_row y s e)
 
 -- the first new column stands in the place of x and the second in that of y, and so do the rows r and s
-pub record IsMixed (m : System) (x : ℕ) (r : Row) (y : ℕ) (s : Row) (l : Left) : Type 0 where
-  pub unknown : l.unknown.items ≡ replaced x m.next (replaced y (m.next + 1) m.unknown)
-  pub equations : l.equations.items ≡ subst_all x r (subst_all y s m.equations)
-  pub inequalities : l.inequalities.items ≡ subst_all x r (subst_all y s m.inequalities)
+abbrev pub mixed_system : System → ℕ → Row → ℕ → Row → System
+mixed_system m x r y s = record {
+  known = m.known;
+  unknown = replaced x m.next (replaced y (m.next + 1) m.unknown);
+  next = m.next + 2;
+  equations = subst_all x r (subst_all y s m.equations);
+  inequalities = subst_all x r (subst_all y s m.inequalities);
+  needs = m.needs;
+}

@@ -1,5 +1,5 @@
 //! The end of an equation: its one unknown is computed.
-ghost use Rattle.std.specs.Prelude.{◌≡◌, ◌<◌, ◌∷◌, ◌++◌, List, [], pos, negsuc, neg_ℤ, if◌then◌else◌, not, ◌==◌, filter, true, false, unsigned_abs, length, map, Err, IfOk};
+ghost use Rattle.std.specs.Prelude.{◌≡◌, ◌<◌, ◌∷◌, ◌++◌, List, [], pos, negsuc, neg_ℤ, if◌then◌else◌, not, ◌==◌, filter, true, false, unsigned_abs, length, map, drop, Err, IfOk};
 ghost use Rattle.std.specs.List.{list_any};
 ghost use Rattle.cf_num.specs.Limit.{IsWithin};
 ghost use Rattle.cf_linear.specs.Rows.{entry, without, comb, subst_passes};
@@ -36,7 +36,7 @@ pub(crate) fn end(alloc: Global, system: System, u: u32) -> Result<Reduced, RowF
     ensures past { result ≡ Err RowFault.Past → last_passes (system_of system) (first_of (system_of system)) (rest_of (system_of system)) u ≡ true }
 {
     let solved = solved_for(alloc, &system, u)?;
-    match left_after(alloc, &system, u, &solved.row) {
+    match left_after(alloc, system, u, &solved.row) {
         Ok(left) => Ok(Reduced {
             system: System {
                 known: solved.known,
@@ -171,18 +171,19 @@ fn one_row(alloc: Global, u: u32, row: Row) -> Result<Vec<Back>, NoMemory>
 
 // What is left of the system with the row in the place of u, without its first equation.
 #[tactic(auto, using(crate::proofs::AnyLemmas::either_false, crate::proofs::AnyLemmas::left_true, crate::proofs::AnyLemmas::right_true))]
-fn left_after(alloc: Global, system: &System, u: u32, row: &Row) -> Result<Left, RowFault>
-    requires { 0 < length system.now.equations.items }
-    ensures value { IfOk result (λ l. IsLeft (system_of system.now) u row.now l) }
-    ensures fits { IfOk result (λ l. list_any (subst_passes u row.now) (rest_of (system_of system.now) ++ (system_of system.now).inequalities) ≡ false) }
+fn left_after(alloc: Global, system: System, u: u32, row: &Row) -> Result<Left, RowFault>
+    requires { 0 < length system.equations.items }
+    ensures value { IfOk result (λ l. IsLeft (system_of system) u row.now l) }
+    ensures fits { IfOk result (λ l. list_any (subst_passes u row.now) (rest_of (system_of system) ++ (system_of system).inequalities) ≡ false) }
     ensures past { result ≡ Err RowFault.Past →
-        list_any (subst_passes u row.now) (rest_of (system_of system.now) ++ (system_of system.now).inequalities) ≡ true }
+        list_any (subst_passes u row.now) (rest_of (system_of system) ++ (system_of system).inequalities) ≡ true }
 {
-    let equations = match subst_rows(alloc, &system.equations[1..], u, row) {
+    let rest = without_first(system.equations);
+    let equations = match subst_rows(alloc, rest, u, row) {
         Ok(rows) => rows,
         Err(fault) => return Err(fault),
     };
-    let inequalities = match subst_rows(alloc, &system.inequalities, u, row) {
+    let inequalities = match subst_rows(alloc, system.inequalities, u, row) {
         Ok(rows) => rows,
         Err(fault) => return Err(fault),
     };
@@ -191,6 +192,16 @@ fn left_after(alloc: Global, system: &System, u: u32, row: &Row) -> Result<Left,
         equations,
         inequalities,
     })
+}
+
+// The rows but the first.
+fn without_first(rows: Vec<Row>) -> Vec<Row>
+    requires { 0 < length rows.items }
+    ensures { result.items ≡ drop 1 rows.items }
+{
+    let mut rest = rows;
+    rest.remove(0);
+    rest
 }
 
 // The columns but u.

@@ -7,9 +7,9 @@ ghost use Rattle.cf_linear.specs.Systems.{row_how};
 ghost use Rattle.cf_linear.specs.Steps.{subst_all, replaced, mix, mix_passes, factors_of, merge, merge_passes};
 ghost use Rattle.cf_linear.specs.Views.{system_of, back_of};
 ghost use Rattle.cf_equation.specs.Equations.{reduced, first_of};
-ghost use Rattle.cf_equation.specs.Merging.{plain_factors, mix_row_passes, WithinFactors, IsMixed};
+ghost use Rattle.cf_equation.specs.Merging.{plain_factors, mix_row_passes, mixed_system, WithinFactors};
 
-use crate::replace::{Left, subst_rows};
+use crate::replace::subst_rows;
 use crate::step::Reduced;
 use cf_linear::refusal::RowFault;
 use cf_linear::row::Row;
@@ -88,22 +88,14 @@ pub fn mix(
     ensures past { result ≡ Err RowFault.Past → mix_passes (system_of system) x y f.s f.m f.t f.n ≡ true }
 {
     let u = system.next;
-    let next = match u.checked_add(2) {
-        Some(next) => next,
-        None => return Err(RowFault::NoMemory),
-    };
+    if u.checked_add(2).is_none() {
+        return Err(RowFault::NoMemory);
+    }
     let first = Row::two_at(alloc, f.s, u, f.m, u + 1)?;
     let second = Row::two_at(alloc, f.t, u, f.n, u + 1)?;
-    match mixed_left(alloc, &system, x, &first, y, &second) {
-        Ok(left) => Ok(Reduced {
-            system: System {
-                known: system.known,
-                unknown: left.unknown,
-                next,
-                equations: left.equations,
-                inequalities: left.inequalities,
-                needs: system.needs,
-            },
+    match mixed_system(alloc, system, x, &first, y, &second) {
+        Ok(system) => Ok(Reduced {
+            system,
             steps: Vec::new(alloc),
             back: two_rows(alloc, x, first, y, second)?,
         }),
@@ -111,35 +103,38 @@ pub fn mix(
     }
 }
 
-// What is left of the system with `second` in the place of y and then `first` in the place of x.
+// The system with `second` in the place of y and then `first` in the place of x.
 #[tactic(auto, using(crate::proofs::AnyLemmas::either_false, crate::proofs::AnyLemmas::left_true, crate::proofs::AnyLemmas::right_true))]
-fn mixed_left(
+fn mixed_system(
     alloc: Global,
-    system: &System,
+    system: System,
     x: u32,
     first: &Row,
     y: u32,
     second: &Row,
-) -> Result<Left, RowFault>
-    requires { system.now.next + 1 < 2 ^ 32 }
-    ensures value { IfOk result (λ l. IsMixed (system_of system.now) x first.now y second.now l) }
-    ensures fits { IfOk result (λ l. list_any (mix_row_passes x first.now y second.now) (system.now.equations.items ++ system.now.inequalities.items) ≡ false) }
+) -> Result<System, RowFault>
+    requires { system.next + 2 < 2 ^ 32 }
+    ensures value { IfOk result (λ s. system_of s ≡ mixed_system (system_of system) x first.now y second.now) }
+    ensures fits { IfOk result (λ s. list_any (mix_row_passes x first.now y second.now) (system.equations.items ++ system.inequalities.items) ≡ false) }
     ensures past { result ≡ Err RowFault.Past →
-        list_any (mix_row_passes x first.now y second.now) (system.now.equations.items ++ system.now.inequalities.items) ≡ true }
+        list_any (mix_row_passes x first.now y second.now) (system.equations.items ++ system.inequalities.items) ≡ true }
 {
-    let equations = match mixed(alloc, &system.equations, x, first, y, second) {
+    let equations = match mixed(alloc, system.equations, x, first, y, second) {
         Ok(rows) => rows,
         Err(fault) => return Err(fault),
     };
-    let inequalities = match mixed(alloc, &system.inequalities, x, first, y, second) {
+    let inequalities = match mixed(alloc, system.inequalities, x, first, y, second) {
         Ok(rows) => rows,
         Err(fault) => return Err(fault),
     };
     let half = replaced(alloc, &system.unknown, y, system.next + 1)?;
-    Ok(Left {
+    Ok(System {
+        known: system.known,
         unknown: replaced(alloc, &half, x, system.next)?,
+        next: system.next + 2,
         equations,
         inequalities,
+        needs: system.needs,
     })
 }
 
@@ -147,18 +142,18 @@ fn mixed_left(
 #[tactic(auto, using(crate::proofs::AnyLemmas::mixed_fits, crate::proofs::AnyLemmas::mixed_past_first, crate::proofs::AnyLemmas::mixed_past_second))]
 fn mixed(
     alloc: Global,
-    rows: &[Row],
+    rows: Vec<Row>,
     x: u32,
     first: &Row,
     y: u32,
     second: &Row,
 ) -> Result<Vec<Row>, RowFault>
-    ensures value { IfOk result (λ v. v.items ≡ subst_all x first.now (subst_all y second.now rows.now)) }
-    ensures fits { IfOk result (λ v. list_any (mix_row_passes x first.now y second.now) rows.now ≡ false) }
-    ensures past { result ≡ Err RowFault.Past → list_any (mix_row_passes x first.now y second.now) rows.now ≡ true }
+    ensures value { IfOk result (λ v. v.items ≡ subst_all x first.now (subst_all y second.now rows.items)) }
+    ensures fits { IfOk result (λ v. list_any (mix_row_passes x first.now y second.now) rows.items ≡ false) }
+    ensures past { result ≡ Err RowFault.Past → list_any (mix_row_passes x first.now y second.now) rows.items ≡ true }
 {
     match subst_rows(alloc, rows, y, second) {
-        Ok(half) => subst_rows(alloc, &half, x, first),
+        Ok(half) => subst_rows(alloc, half, x, first),
         Err(fault) => Err(fault),
     }
 }

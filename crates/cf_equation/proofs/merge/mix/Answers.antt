@@ -1,4 +1,4 @@
-use Rattle.std.proofs.Common.{◌≡◌, ◌+◌, Result, Err, refl, sym, arith}
+use Rattle.std.proofs.Common.{◌≡◌, Result, Err, refl, sym}
 use Rattle.cf_linear.specs.Views.{system_of}
 use Rattle.cf_linear.proofs.MapLemmas.{back}
 use Rattle.cf_equation.proofs.MergeValues.{mix_is}
@@ -11,11 +11,11 @@ pub returns-in_ok-two_rows-in-Ok-clause-value : goal.returns-in_ok-two_rows-in-O
 returns-in_ok-two_rows-in-Ok-clause-value c =
     let f = c.args.f in
     let w = c.requires.within in
-    let e : c.in-Some.next ≡ c.args.system.next + 2 = omega (arith, c.in-Some.ensures) in
     let r = rw (back f.s w.s, back f.m w.m) at c.in_ok-first.ensures in
     let s = rw (back f.t w.t, back f.n w.n) at c.in_ok-second.ensures in
-    rw (e, c.new.ensures.items, c.in_ok-two_rows-in-Ok.ensures)
-    (sym (mix_is (system_of c.args.system) c.args.x c.in_ok-first.first c.args.y c.in_ok-second.second c.in-Ok.left f.s f.m f.t f.n r s c.in-Ok.ensures.value))
+    rw (c.new.ensures.items, c.in_ok-two_rows-in-Ok.ensures)
+    (sym (mix_is (system_of c.args.system) c.args.x c.in_ok-first.first c.args.y c.in_ok-second.second (system_of c.in-Ok.system) f.s f.m f.t f.n r s
+    c.in-Ok.ensures.value))
 
 pub returns-in_ok-two_rows-in-Ok-clause-fits : goal.returns-in_ok-two_rows-in-Ok-clause-fits
 returns-in_ok-two_rows-in-Ok-clause-fits c =
