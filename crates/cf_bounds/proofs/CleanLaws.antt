@@ -8,17 +8,18 @@ use Rattle.cf_tree.specs.declared.memory.NoMemory.{NoMemory}
 use Rattle.cf_linear.specs.declared.system.Step.{Step as DeclaredStep}
 use Rattle.cf_linear.specs.Rows.{Row, AreBelow, comb}
 use Rattle.cf_linear.specs.Systems.{System, EachRow, Step, floor_of, need_zero, need_nonneg, Answer}
-use Rattle.cf_linear.specs.Steps.{has_unknown, unknown_part, known_part, common, divided, one_at, tighten_row, Tightened, clean}
+use Rattle.cf_linear.specs.Steps.{has_unknown, unknown_part, known_part, common, divided, one_at, tighten_row, Tightened, tighten_all, clean}
 use Rattle.cf_linear.specs.Keep.{Formed}
 use Rattle.cf_linear.specs.Solved.{Owes}
 use Rattle.cf_linear.specs.Views.{system_of, step_of}
 use Rattle.cf_linear.proofs.BoolLemmas.{on_bool}
 use Rattle.cf_linear.proofs.FormedLemmas.{low_from}
+use Rattle.cf_linear.proofs.KindLemmas.{EachRow-filter}
 use Rattle.cf_bounds.specs.declared.cleaning.Cleaned.{Cleaned}
 use Rattle.cf_bounds.specs.declared.cleaning.Tight.{Tight}
 use Rattle.cf_bounds.specs.CleanAnswers.{cleaned, tight_of}
 use Rattle.cf_bounds.specs.Sides.{divides_known, divided_by}
-use Rattle.cf_bounds.specs.Cleaning.{needs_of, tightened, joined}
+use Rattle.cf_bounds.specs.Cleaning.{needs_of, tightened, held_of, joined}
 use Rattle.cf_bounds.specs.Unknowns.{HaveSame}
 use Rattle.cf_bounds.proofs.ListLemmas.{all_below}
 use Rattle.cf_bounds.proofs.OwesLemmas.{clean_step}
@@ -34,11 +35,23 @@ joined_is m =
     omega (arith, length-append (map need_zero zeros) (map need_nonneg nonnegs), length-map zeros need_zero, length-map nonnegs need_nonneg) in
     rw count refl
 
-pub clean_is : (m : System) (us vs : List ℕ) (a : Answer) (equations : List Row) (t : Tightened) (needs : List Step) → HaveSame us vs → vs ≡ m.unknown →
-    equations ≡ filter (has_unknown us) m.equations → t ≡ tightened us m → needs ≡ needs_of us m → a ≡ joined m equations t needs → a ≡ clean m
-clean_is m us vs a equations t needs s u e f g h =
-    let same = subst (λ ws. HaveSame us ws) u s in
-    h ∙ rw (e ∙ held_same us m.unknown same m.equations, f ∙ tightened_same us m.unknown same m, g ∙ needs_same us m.unknown same m) (joined_is m)
+pub clean_is : (m : System) (us vs : List ℕ) (h : System) (a : Answer) (needs : List Step) → HaveSame us vs → vs ≡ m.unknown → h ≡ held_of us m →
+    needs ≡ needs_of us m → a ≡ joined h h.equations (tighten_all us h.next h.inequalities) needs → a ≡ clean m
+clean_is m us vs h a needs s u e n f =
+    f ∙ ap (λ k. joined k k.equations (tighten_all us k.next k.inequalities) needs) e ∙
+    parts (filter (has_unknown us) m.equations) (tightened us m) (held_same us m.unknown same m.equations) (tightened_same us m.unknown same m)
+    (n ∙ needs_same us m.unknown same m)
+  where
+    same : HaveSame us m.unknown
+    same = subst (λ ws. HaveSame us ws) u s
+
+    parts : (equations : List Row) (t : Tightened) → equations ≡ filter (has_unknown m.unknown) m.equations → t ≡ tightened m.unknown m →
+        needs ≡ needs_of m.unknown m → joined m equations t needs ≡ clean m
+    parts equations t d g k = rw (d, g, k) (joined_is m)
+
+-- each row that is held is below the next column
+pub held_below : (us : List ℕ) (m h : System) → h ≡ held_of us m → EachRow (AreBelow m.next) m.inequalities → EachRow (AreBelow h.next) h.inequalities
+held_below us m h e b = subst (λ k. EachRow (AreBelow k.next) k.inequalities) (sym e) (EachRow-filter (AreBelow m.next) (has_unknown us) m.inequalities b)
 
 pub steps_append : (xs ys : List DeclaredStep) → map step_of (xs ++ ys) ≡ map step_of xs ++ map step_of ys
 steps_append xs ys = map-append step_of xs ys

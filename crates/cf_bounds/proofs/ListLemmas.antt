@@ -1,11 +1,10 @@
 -- The loops over lists of rows.
-use Rattle.std.proofs.Common.{◌≡◌, ◌≢◌, ℕ, suc, ◌<◌, ℤ, pos, ◌+ℤ◌, ◌*ℤ◌, List, [], ◌∷◌, ◌++◌, Bool, true, false, cond, ◌||◌, ◌==◌, refl, sym, ◌∙◌, ap, arith, append_assoc, not, zero, ◌≤◌, ◌+◌, get_or, length, drop, take, drop-cons, add-one, subst}
+use Rattle.std.proofs.Common.{◌≡◌, ◌≢◌, ℕ, suc, ◌<◌, ℤ, pos, ◌+ℤ◌, ◌*ℤ◌, List, [], ◌∷◌, ◌++◌, Bool, true, false, cond, ◌||◌, ◌==◌, refl, sym, ◌∙◌, ap, arith, append_assoc, not, zero, ◌≤◌, ◌+◌, get_or, length, take, subst, reverse}
 use Rattle.std.specs.Prelude.{filter, unsigned_abs, nat_lt}
 use Rattle.std.specs.List.{list_any}
 use Rattle.std.proofs.lemmas.Int.{ints}
 use Rattle.std.proofs.lemmas.Bool.{cond_both, lt-ltb}
-use Rattle.std.proofs.lemmas.List.{append-nil}
-use Rattle.std.proofs.Math.ListN.{drop_of_length-le}
+use Rattle.std.proofs.lemmas.List.{append-nil, reverse-append, reverse-reverse}
 use Rattle.std.proofs.lemmas.List.Elements.{filter_more}
 use Rattle.cf_linear.specs.Rows.{Row, AreBelow, IsRow, Rises, same_row, is_zero, put, add_at, comb}
 use Rattle.cf_linear.specs.Systems.{EachRow}
@@ -17,6 +16,31 @@ use Rattle.cf_linear.proofs.Joining.{AreBelow-raise}
 use Rattle.cf_linear.proofs.MapLemmas.{put_nonzero}
 use Rattle.cf_bounds.specs.Sides.{divided_by}
 use Rattle.cf_bounds.proofs.PartLemmas.{AreBelow-divided, Rises-divided}
+
+-- of rows that are taken from the end, the last is the next
+pub last_next : (before left : List Row) (r : Row) → before ≡ left ++ (r ∷ []) → reverse before ≡ r ∷ reverse left
+last_next before left r e = ap reverse e ∙ reverse-append left (r ∷ [])
+
+pub all_left : (rows left : List Row) → left ≡ reverse rows → reverse left ≡ rows
+all_left rows left e = ap reverse e ∙ reverse-reverse rows
+
+-- the next row goes to those of the test, or to the others
+module _ (p : Row → Bool) (before left : List Row) (r : Row) (b : Bool) (e : before ≡ left ++ (r ∷ [])) (f : b ≡ p r) where
+  pub to_held : (out next target : List Row) → next ≡ out ++ cond b (r ∷ []) [] → out ++ filter p (reverse before) ≡ target →
+      next ++ filter p (reverse left) ≡ target
+  to_held out next target n inv =
+      ap (λ s. s ++ filter p (reverse left)) (n ∙ ap (λ c. out ++ cond c (r ∷ []) []) f) ∙ append_assoc out (cond (p r) (r ∷ []) []) (filter p (reverse left)) ∙
+      ap (λ s. out ++ s) (cond_both (p r) (r ∷ []) [] (λ y. y ++ filter p (reverse left) ≡ filter p (r ∷ reverse left)) (λ g. rw g refl) (λ g. rw g refl)) ∙
+      ap (λ s. out ++ filter p s) (sym (last_next before left r e)) ∙ inv
+
+  pub to_bare : (out next target : List Row) → next ≡ out ++ cond b [] (r ∷ []) → out ++ filter (λ q. not (p q)) (reverse before) ≡ target →
+      next ++ filter (λ q. not (p q)) (reverse left) ≡ target
+  to_bare out next target n inv =
+      ap (λ s. s ++ filter (λ q. not (p q)) (reverse left)) (n ∙ ap (λ c. out ++ cond c [] (r ∷ [])) f) ∙
+      append_assoc out (cond (p r) [] (r ∷ [])) (filter (λ q. not (p q)) (reverse left)) ∙
+      ap (λ s. out ++ s) (cond_both (p r) [] (r ∷ []) (λ y. y ++ filter (λ q. not (p q)) (reverse left) ≡ filter (λ q. not (p q)) (r ∷ reverse left))
+      (λ g. rw g refl) (λ g. rw g refl)) ∙
+      ap (λ s. out ++ filter (λ q. not (p q)) s) (sym (last_next before left r e)) ∙ inv
 
 -- one row more
 pub filter_step : (p : Row → Bool) (rows out next : List Row) (i : ℕ) (r : Row) (b : Bool) → i < length rows → r ≡ get_or rows i r →
@@ -40,9 +64,9 @@ distinct_same s t (r ∷ rows) h =
 pub distinct_with : List Row → List Row → List Row
 distinct_with kept rows = kept ++ distinct_after kept rows
 
-pub distinct_start : (rows : List Row) → distinct_with [] rows ≡ distinct_after [] rows
+pub distinct_start : (rows left kept : List Row) → left ≡ reverse rows → kept ≡ [] → distinct_with kept (reverse left) ≡ distinct_after [] rows
 unfolding distinct_with
-distinct_start rows = refl
+distinct_start rows left kept e f = rw (f, all_left rows left e) refl
 
 pub distinct_end : (kept : List Row) → distinct_with kept [] ≡ kept
 unfolding distinct_with
@@ -65,18 +89,18 @@ distinct_next kept rows r = on_bool (list_any (same_row r) kept)
     (λ e. rw (e, append-nil kept) refl)
     (λ e. rw (e, last_first kept r rows) (sym (append_assoc kept (r ∷ []) (distinct_after (kept ++ (r ∷ [])) rows))))
 
-next_row : (rows : List Row) (i : ℕ) (r : Row) → i < length rows → r ≡ get_or rows i r → drop i rows ≡ r ∷ drop (i + 1) rows
-next_row rows i r h e = rw (add-one, drop-cons rows i r) (ap (λ y. y ∷ drop (suc i) rows) (sym e))
+pub distinct_step : (before left kept next target : List Row) (r : Row) (b : Bool) → before ≡ left ++ (r ∷ []) → next ≡ kept ++ cond b (r ∷ []) [] →
+    b ≡ not (list_any (same_row r) kept) → distinct_with kept (reverse before) ≡ target → distinct_with next (reverse left) ≡ target
+distinct_step before left kept next target r b e n f inv =
+    ap (λ s. distinct_with s (reverse left)) (n ∙ ap (λ c. kept ++ cond c (r ∷ []) []) f) ∙ sym (distinct_next kept (reverse left) r) ∙
+    ap (distinct_with kept) (sym (last_next before left r e)) ∙ inv
 
-pub distinct_step : (rows kept next target : List Row) (i : ℕ) (r : Row) (b : Bool) → i < length rows → r ≡ get_or rows i r →
-    next ≡ kept ++ cond b (r ∷ []) [] →
-    b ≡ not (list_any (same_row r) kept) → distinct_with kept (drop i rows) ≡ target → distinct_with next (drop (i + 1) rows) ≡ target
-distinct_step rows kept next target i r b h e n f inv =
-    ap (λ s. distinct_with s (drop (i + 1) rows)) (n ∙ ap (λ c. kept ++ cond c (r ∷ []) []) f) ∙ sym (distinct_next kept (drop (i + 1) rows) r) ∙
-    ap (distinct_with kept) (sym (next_row rows i r h e)) ∙ inv
+pub distinct_done : (left kept target : List Row) → left ≡ [] → distinct_with kept (reverse left) ≡ target → kept ≡ target
+distinct_done left kept target e inv = sym (distinct_end kept) ∙ ap (λ s. distinct_with kept (reverse s)) (sym e) ∙ inv
 
-pub distinct_done : (rows kept target : List Row) (i : ℕ) → length rows ≤ i → distinct_with kept (drop i rows) ≡ target → kept ≡ target
-distinct_done rows kept target i h inv = sym (distinct_end kept) ∙ ap (distinct_with kept) (sym (drop_of_length-le rows h)) ∙ inv
+-- the next row is below a later column too
+pub next_below : (n k : ℕ) (before left : List Row) (r : Row) → before ≡ left ++ (r ∷ []) → n ≤ k → EachRow (AreBelow n) (reverse before) → AreBelow k r
+next_below n k before left r e h b = AreBelow-raise n k r h (subst (EachRow (AreBelow n)) (last_next before left r e) b).0
 
 -- each row is below a later column too
 pub each_below : (n k i : ℕ) (rows : List Row) (r : Row) → EachRow (AreBelow n) rows → i < length rows → r ≡ get_or rows i r → n ≤ k → AreBelow k r

@@ -30,11 +30,16 @@ divides_next g r i h = rw (add-one, drop-cons r i (0, pos 0)) refl
 pub divides_end : (g : ℤ) (r : Row) (i : ℕ) → length r ≤ i → divides_known g (drop i r) ≡ true
 divides_end g r i h = rw (drop_of_length-le r h) refl
 
-pub common_next : (r : Row) (i : ℕ) → i < length r → common (drop i r) ≡ gcd_of (unsigned_abs (get_or r i (0, pos 0)).1) (common (drop (i + 1) r))
-common_next r i h = rw (add-one, drop-cons r i (0, pos 0)) refl
+pub common_more : (us : List ℕ) (r : Row) (i : ℕ) → i < length r → has_column us (get_or r i (0, pos 0)).0 ≡ true →
+    common (unknown_part us (drop i r)) ≡ gcd_of (unsigned_abs (get_or r i (0, pos 0)).1) (common (unknown_part us (drop (i + 1) r)))
+common_more us r i h e = rw (add-one, drop-cons r i (0, pos 0), e) refl
 
-pub common_end : (r : Row) (i : ℕ) → length r ≤ i → common (drop i r) ≡ 0
-common_end r i h = rw (drop_of_length-le r h) refl
+pub common_same : (us : List ℕ) (r : Row) (i : ℕ) → i < length r → has_column us (get_or r i (0, pos 0)).0 ≡ false →
+    common (unknown_part us (drop i r)) ≡ common (unknown_part us (drop (i + 1) r))
+common_same us r i h e = rw (add-one, drop-cons r i (0, pos 0), e) refl
+
+pub common_end : (us : List ℕ) (r : Row) (i : ℕ) → length r ≤ i → common (unknown_part us (drop i r)) ≡ 0
+common_end us r i h = rw (drop_of_length-le r h) refl
 
 -- ---- the entries up to a place
 take_next : (r : Row) (i : ℕ) → i < length r → take (i + 1) r ≡ take i r ++ (get_or r i (0, pos 0) ∷ [])

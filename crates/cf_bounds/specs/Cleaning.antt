@@ -13,6 +13,17 @@ needs_of us m = map need_zero (filter (λ r. not (has_unknown us r)) m.equations
 abbrev pub tightened : List ℕ → System → Tightened
 tightened us m = tighten_all us m.next (filter (has_unknown us) m.inequalities)
 
+-- the system with its rows that hold one of these unknowns
+abbrev pub held_of : List ℕ → System → System
+held_of us m = record {
+  known = m.known;
+  unknown = m.unknown;
+  next = m.next;
+  equations = filter (has_unknown us) m.equations;
+  inequalities = filter (has_unknown us) m.inequalities;
+  needs = m.needs;
+}
+
 -- the new system of these parts
 abbrev pub joined : System → List Row → Tightened → List Step → Answer
 joined m equations t needs = record {

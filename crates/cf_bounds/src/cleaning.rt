@@ -1,5 +1,5 @@
 //! Clean: rows without unknowns become needs, the inequalities are tightened, and equal ones are dropped.
-ghost use Rattle.std.specs.Prelude.{◌≡◌, ◌≤◌, ◌++◌, pos, ◌<ℤ◌, Option, Some, None, map, filter, not, [], IfOk, OnOk};
+ghost use Rattle.std.specs.Prelude.{◌≡◌, ◌≤◌, ◌++◌, ◌∷◌, if◌then◌else◌, pos, ◌<ℤ◌, Option, Some, None, map, filter, not, [], IfOk, OnOk};
 ghost use Rattle.std.specs.List.{list_any};
 ghost use Rattle.cf_num.specs.Limit.{IsWithin};
 ghost use Rattle.cf_linear.specs.Rows.{AreBelow, same_row, comb};
@@ -10,10 +10,10 @@ ghost use Rattle.cf_linear.specs.Solved.{Owes};
 ghost use Rattle.cf_linear.specs.Views.{system_of, step_of};
 ghost use Rattle.cf_bounds.specs.Sides.{divided_by};
 ghost use Rattle.cf_bounds.specs.CleanAnswers.{cleaned, tight_of, tightened_of};
-ghost use Rattle.cf_bounds.specs.Cleaning.{needs_of, tightened, joined, with_let};
+ghost use Rattle.cf_bounds.specs.Cleaning.{held_of, joined, with_let};
 
 use crate::parts::{
-    add_copy, common, divided, divides_known, has_unknown, joined_columns, known_part, unknown_part,
+    common, divided, divides_known, has_unknown, joined_columns, known_part, unknown_part,
 };
 use crate::unknowns::Unknowns;
 use cf_linear::row::Row;
@@ -26,6 +26,21 @@ use std::alloc::Global;
 pub struct Cleaned {
     pub system: System,
     pub steps: Vec<Step>,
+}
+
+// A system whose rows all hold an unknown, and the equations and inequalities that hold none.
+#[derive(Drop)]
+pub(crate) struct PartedSystem {
+    pub(crate) held: System,
+    pub(crate) zeros: Vec<Row>,
+    pub(crate) nonnegs: Vec<Row>,
+}
+
+// Rows that hold an unknown, and the others.
+#[derive(Drop)]
+pub(crate) struct PartedRows {
+    pub(crate) held: Vec<Row>,
+    pub(crate) bare: Vec<Row>,
 }
 
 // A row after the tightening, with the let of its new column where it got one.
@@ -61,36 +76,94 @@ fn cleaned_system(alloc: Global, system: System) -> Result<Cleaned, NoMemory>
     ensures { IfOk result (λ c. cleaned c ≡ clean (system_of system)) }
 {
     let unknown = Unknowns::of(alloc, &system.unknown)?;
-    let needs = needs_of(alloc, &unknown, &system)?;
-    let tight = tightened(alloc, &unknown, &system)?;
-    let equations = with_unknowns(alloc, &unknown, &system.equations)?;
-    joined(alloc, system, equations, tight, needs)
+    let parted = parted_system(alloc, &unknown, system)?;
+    let needs = needs_of(alloc, parted.zeros, parted.nonnegs)?;
+    joined(alloc, &unknown, parted.held, needs)
 }
 
-// The new system, and the needs and then the lets.
+// The system with its rows that hold an unknown, and the others.
+fn parted_system(
+    alloc: Global,
+    unknown: &Unknowns,
+    system: System,
+) -> Result<PartedSystem, NoMemory>
+    ensures held { IfOk result (λ p. system_of p.held ≡ held_of unknown.now (system_of system)) }
+    ensures zeros { IfOk result (λ p. p.zeros.items ≡ filter (λ r. not (has_unknown unknown.now r)) system.equations.items) }
+    ensures nonnegs { IfOk result (λ p. p.nonnegs.items ≡ filter (λ r. not (has_unknown unknown.now r)) system.inequalities.items) }
+{
+    let equations = parted(alloc, unknown, system.equations)?;
+    let inequalities = parted(alloc, unknown, system.inequalities)?;
+    Ok(PartedSystem {
+        held: System {
+            known: system.known,
+            unknown: system.unknown,
+            next: system.next,
+            equations: equations.held,
+            inequalities: inequalities.held,
+            needs: system.needs,
+        },
+        zeros: equations.bare,
+        nonnegs: inequalities.bare,
+    })
+}
+
+fn parted(alloc: Global, unknown: &Unknowns, rows: Vec<Row>) -> Result<PartedRows, NoMemory>
+    ensures held { IfOk result (λ p. p.held.items ≡ filter (has_unknown unknown.now) rows.items) }
+    ensures bare { IfOk result (λ p. p.bare.items ≡ filter (λ r. not (has_unknown unknown.now r)) rows.items) }
+{
+    let mut left = rows;
+    left.reverse();
+    let mut held = Vec::new(alloc);
+    let mut bare = Vec::new(alloc);
+    while let Some(row) = left.pop() {
+        let holds = has_unknown(unknown, &row);
+        add_to_one(&mut held, &mut bare, row, holds)?;
+    }
+    Ok(PartedRows { held, bare })
+}
+
+// Adds the row to the first rows if they are its place, and to the others if not.
+fn add_to_one(
+    first: &mut Vec<Row>,
+    others: &mut Vec<Row>,
+    row: Row,
+    is_first: bool,
+) -> Result<(), NoMemory>
+    ensures first { OnOk result (first.new.items ≡ first.old.items ++ (if is_first then row ∷ [] else [])) }
+    ensures others { OnOk result (others.new.items ≡ others.old.items ++ (if is_first then [] else row ∷ [])) }
+{
+    if is_first {
+        first.push(row)?;
+    } else {
+        others.push(row)?;
+    }
+    Ok(())
+}
+
+// The new system of rows that hold an unknown, and the needs and then the lets.
 fn joined(
     alloc: Global,
+    unknown: &Unknowns,
     system: System,
-    equations: Vec<Row>,
-    tight: TightenedRows,
     needs: Vec<Step>,
 ) -> Result<Cleaned, NoMemory>
-    ensures { IfOk result (λ c. cleaned c ≡ joined (system_of system) equations.items (tightened_of tight) (map step_of needs.items)) }
+    requires { EachRow (AreBelow system.next) system.inequalities.items }
+    ensures { IfOk result (λ c. cleaned c ≡ joined (system_of system) system.equations.items
+        (tighten_all unknown.now system.next system.inequalities.items) (map step_of needs.items)) }
 {
     let Some(count) = system.needs.checked_add(needs.len() as u64) else {
         return Err(NoMemory);
     };
-    let inequalities = distinct(alloc, &tight.rows)?;
+    let tight = tighten_all(alloc, unknown, system.next, system.inequalities)?;
+    let inequalities = distinct(alloc, tight.rows)?;
     let known = joined_columns(system.known, &tight.made)?;
     let steps = both_steps(needs, tight.steps)?;
-    let next = tight.next;
-    let unknown = system.unknown;
     Ok(Cleaned {
         system: System {
             known,
-            unknown,
-            next,
-            equations,
+            unknown: system.unknown,
+            next: tight.next,
+            equations: system.equations,
             inequalities,
             needs: count,
         },
@@ -109,70 +182,61 @@ fn both_steps(first: Vec<Step>, second: Vec<Step>) -> Result<Vec<Step>, NoMemory
 
 // The needs of the equations without unknowns, and then of the inequalities.
 #[tactic(auto, using(crate::proofs::CleanLaws::steps_append))]
-fn needs_of(alloc: Global, unknown: &Unknowns, system: &System) -> Result<Vec<Step>, NoMemory>
-    ensures { IfOk result (λ s. map step_of s.items ≡ needs_of unknown.now (system_of system.now)) }
+fn needs_of(alloc: Global, zeros: Vec<Row>, nonnegs: Vec<Row>) -> Result<Vec<Step>, NoMemory>
+    ensures { IfOk result (λ s. map step_of s.items ≡ map need_zero zeros.items ++ map need_nonneg nonnegs.items) }
 {
-    let equations = bare_rows(alloc, unknown, &system.equations)?;
-    let inequalities = bare_rows(alloc, unknown, &system.inequalities)?;
-    let zeros = zero_needs(alloc, &equations)?;
-    let nonnegs = nonneg_needs(alloc, &inequalities)?;
-    let steps = both_steps(zeros, nonnegs)?;
+    let first = zero_needs(alloc, zeros)?;
+    let second = nonneg_needs(alloc, nonnegs)?;
+    let steps = both_steps(first, second)?;
     Ok(steps)
 }
 
-fn zero_needs(alloc: Global, rows: &[Row]) -> Result<Vec<Step>, NoMemory>
-    ensures { IfOk result (λ s. map step_of s.items ≡ map need_zero rows.now) }
+fn zero_needs(alloc: Global, rows: Vec<Row>) -> Result<Vec<Step>, NoMemory>
+    ensures { IfOk result (λ s. map step_of s.items ≡ map need_zero rows.items) }
 {
+    let mut left = rows;
+    left.reverse();
     let mut out = Vec::new(alloc);
-    for row in rows {
-        out.push(Step::NeedZero(row.try_copy(alloc)?))?;
+    while let Some(row) = left.pop() {
+        out.push(Step::NeedZero(row))?;
     }
     Ok(out)
 }
 
-fn nonneg_needs(alloc: Global, rows: &[Row]) -> Result<Vec<Step>, NoMemory>
-    ensures { IfOk result (λ s. map step_of s.items ≡ map need_nonneg rows.now) }
+fn nonneg_needs(alloc: Global, rows: Vec<Row>) -> Result<Vec<Step>, NoMemory>
+    ensures { IfOk result (λ s. map step_of s.items ≡ map need_nonneg rows.items) }
 {
+    let mut left = rows;
+    left.reverse();
     let mut out = Vec::new(alloc);
-    for row in rows {
-        out.push(Step::NeedNonneg(row.try_copy(alloc)?))?;
-    }
-    Ok(out)
-}
-
-// The rows that hold an unknown.
-fn with_unknowns(alloc: Global, unknown: &Unknowns, rows: &[Row]) -> Result<Vec<Row>, NoMemory>
-    ensures { IfOk result (λ s. s.items ≡ filter (has_unknown unknown.now) rows.now) }
-{
-    let mut out = Vec::new(alloc);
-    for row in rows {
-        add_copy(alloc, &mut out, row, has_unknown(unknown, row))?;
-    }
-    Ok(out)
-}
-
-// The rows that hold none.
-fn bare_rows(alloc: Global, unknown: &Unknowns, rows: &[Row]) -> Result<Vec<Row>, NoMemory>
-    ensures { IfOk result (λ s. s.items ≡ filter (λ r. not (has_unknown unknown.now r)) rows.now) }
-{
-    let mut out = Vec::new(alloc);
-    for row in rows {
-        add_copy(alloc, &mut out, row, !has_unknown(unknown, row))?;
+    while let Some(row) = left.pop() {
+        out.push(Step::NeedNonneg(row))?;
     }
     Ok(out)
 }
 
 // The rows without those that are equal to an earlier one.
-#[tactic(auto, using(crate::proofs::ListLemmas::distinct_start))]
-fn distinct(alloc: Global, rows: &[Row]) -> Result<Vec<Row>, NoMemory>
-    ensures { IfOk result (λ s. s.items ≡ distinct_after [] rows.now) }
+fn distinct(alloc: Global, rows: Vec<Row>) -> Result<Vec<Row>, NoMemory>
+    ensures { IfOk result (λ s. s.items ≡ distinct_after [] rows.items) }
 {
+    let mut left = rows;
+    left.reverse();
     let mut out: Vec<Row> = Vec::new(alloc);
-    for row in rows {
-        let is_new = !has_row(row, &out);
-        add_copy(alloc, &mut out, row, is_new)?;
+    while let Some(row) = left.pop() {
+        let is_new = !has_row(&row, &out);
+        add_row(&mut out, row, is_new)?;
     }
     Ok(out)
+}
+
+// Adds the row to the end, if it is wanted.
+fn add_row(out: &mut Vec<Row>, row: Row, wanted: bool) -> Result<(), NoMemory>
+    ensures { OnOk result (out.new.items ≡ out.old.items ++ (if wanted then row ∷ [] else [])) }
+{
+    if wanted {
+        out.push(row)?;
+    }
+    Ok(())
 }
 
 // Whether the row is one of the rows.
@@ -182,77 +246,66 @@ fn has_row(row: &Row, rows: &[Row]) -> bool
     rows.iter().any(|r| row.same(r))
 }
 
-// The inequalities that hold an unknown, tightened.
-fn tightened(alloc: Global, unknown: &Unknowns, system: &System) -> Result<TightenedRows, NoMemory>
-    requires { EachRow (AreBelow (system_of system.now).next) (system_of system.now).inequalities }
-    ensures { IfOk result (λ t. tightened_of t ≡ tightened unknown.now (system_of system.now)) }
-{
-    let held = with_unknowns(alloc, unknown, &system.inequalities)?;
-    tighten_all(alloc, unknown, system.next, &held)
-}
-
+// The rows, tightened.
 fn tighten_all(
     alloc: Global,
     unknown: &Unknowns,
     next: u32,
-    rows: &[Row],
+    rows: Vec<Row>,
 ) -> Result<TightenedRows, NoMemory>
-    requires { EachRow (AreBelow next) rows.now }
-    ensures { IfOk result (λ t. tightened_of t ≡ tighten_all unknown.now next rows.now) }
+    requires { EachRow (AreBelow next) rows.items }
+    ensures { IfOk result (λ t. tightened_of t ≡ tighten_all unknown.now next rows.items) }
 {
+    let mut left = rows;
+    left.reverse();
     let mut all = TightenedRows {
         next,
         made: Vec::new(alloc),
         steps: Vec::new(alloc),
         rows: Vec::new(alloc),
     };
-    for row in rows {
+    while let Some(row) = left.pop() {
         let tight = tighten_row(alloc, unknown, all.next, row)?;
         all.add(tight)?;
     }
     Ok(all)
 }
 
-// The row, tightened by the greatest common divisor of its unknowns' coefficients.
-fn tighten_row(alloc: Global, unknown: &Unknowns, next: u32, row: &Row) -> Result<Tight, NoMemory>
-    requires { AreBelow next row.now }
-    ensures { IfOk result (λ t. tight_of t ≡ tighten_row unknown.now next row.now) }
+// The row, tightened by the greatest common divisor of its unknowns' coefficients. A row with the
+// divisor 1 stays as it is.
+#[tactic(auto, using(crate::proofs::CleanLaws::unchanged_row))]
+fn tighten_row(alloc: Global, unknown: &Unknowns, next: u32, row: Row) -> Result<Tight, NoMemory>
+    requires { AreBelow next row }
+    ensures { IfOk result (λ t. tight_of t ≡ tighten_row unknown.now next row) }
 {
-    let unknowns = unknown_part(alloc, unknown, row)?;
-    tighten_by(alloc, unknown, next, row, &unknowns, common(&unknowns))
+    let g = common(unknown, &row);
+    if g <= 1 {
+        return Ok(Tight { step: None, row });
+    }
+    tighten_by(alloc, unknown, next, &row, g)
 }
 
-// The same with the unknowns of the row, and their divisor.
-#[tactic(auto, using(crate::proofs::CleanLaws::unchanged_row, crate::proofs::CleanLaws::rounded_row, crate::proofs::CleanLaws::floored_row, crate::proofs::PartLemmas::part_below))]
+// The same by a divisor above 1.
+#[tactic(auto, using(crate::proofs::CleanLaws::rounded_row, crate::proofs::CleanLaws::floored_row, crate::proofs::PartLemmas::part_below))]
 fn tighten_by(
     alloc: Global,
     unknown: &Unknowns,
     next: u32,
     row: &Row,
-    unknowns: &Row,
     g: i128,
 ) -> Result<Tight, NoMemory>
-    requires parts { unknowns.now ≡ unknown_part unknown.now row.now }
-    requires divisor { g ≡ pos (common unknowns.now) }
+    requires divisor { g ≡ pos (common (unknown_part unknown.now row.now)) }
+    requires great { pos 1 <ℤ g }
     requires below { AreBelow next row.now }
     requires g_in { IsWithin g }
     ensures { IfOk result (λ t. tight_of t ≡ tighten_row unknown.now next row.now) }
 {
-    if g <= 1 {
-        return unchanged(alloc, row);
-    }
     let known = known_part(alloc, unknown, row)?;
     if divides_known(&known, g) {
         return rounded(alloc, row, g);
     }
-    floored(alloc, unknowns, known, g, next)
-}
-
-fn unchanged(alloc: Global, row: &Row) -> Result<Tight, NoMemory>
-    ensures { IfOk result (λ t. tight_of t ≡ (None, row.now)) }
-{
-    let row = row.try_copy(alloc)?;
-    Ok(Tight { step: None, row })
+    let unknowns = unknown_part(alloc, unknown, row)?;
+    floored(alloc, &unknowns, known, g, next)
 }
 
 // The row, divided and rounded down.

@@ -1,5 +1,5 @@
 //! Parts of rows: what holds unknowns, common divisors and quotients.
-ghost use Rattle.std.specs.Prelude.{◌≡◌, ◌<◌, ◌++◌, ◌∷◌, [], pos, ◌<ℤ◌, length, get_or, if◌then◌else◌, IfOk, OnOk};
+ghost use Rattle.std.specs.Prelude.{◌≡◌, ◌<◌, ◌++◌, ◌∷◌, [], pos, ◌<ℤ◌, length, get_or, drop, ◌+◌, if◌then◌else◌, IfOk, OnOk};
 ghost use Rattle.cf_num.specs.Limit.{IsWithin};
 ghost use Rattle.cf_linear.specs.Rows.{AreBelow, IsRow};
 ghost use Rattle.cf_linear.specs.Steps.{has_unknown, unknown_part, known_part, common};
@@ -50,19 +50,32 @@ pub(crate) fn known_part(alloc: Global, unknown: &Unknowns, row: &Row) -> Result
     Ok(out)
 }
 
-// The greatest common divisor of the entries.
-#[tactic(auto, using(crate::proofs::PartLemmas::common_next, crate::proofs::PartLemmas::common_end))]
-pub(crate) fn common(row: &Row) -> i128
-    ensures value { result ≡ pos (common row.now) }
+// The greatest common divisor of the unknowns' entries.
+#[tactic(auto, using(crate::proofs::PartLemmas::common_end))]
+pub(crate) fn common(unknown: &Unknowns, row: &Row) -> i128
+    ensures value { result ≡ pos (common (unknown_part unknown.now row.now)) }
     ensures fits { IsWithin result }
 {
     let mut g = 0;
     let mut i = row.len();
     while i > 0 {
         i -= 1;
-        g = gcd(row.at(i).1, g);
+        g = common_from(unknown, row, i, g);
     }
     g
+}
+
+// The same of the entries from the place on, `g` being that of the later ones.
+#[tactic(auto, using(crate::proofs::PartLemmas::common_more, crate::proofs::PartLemmas::common_same))]
+fn common_from(unknown: &Unknowns, row: &Row, i: usize, g: i128) -> i128
+    requires place { i < length row.now }
+    requires g_in { IsWithin g }
+    requires later { g ≡ pos (common (unknown_part unknown.now (drop (i + 1) row.now))) }
+    ensures value { result ≡ pos (common (unknown_part unknown.now (drop i row.now))) }
+    ensures fits { IsWithin result }
+{
+    let (column, k) = row.at(i);
+    if unknown.has(column) { gcd(k, g) } else { g }
 }
 
 // Whether `g` divides each entry but the constant.

@@ -1,7 +1,10 @@
-use Rattle.std.proofs.Common.{◌≡◌, take, map}
+use Rattle.std.proofs.Common.{◌≡◌, ◌++◌, map, length, reverse}
 use Rattle.cf_linear.specs.Systems.{need_zero}
 use Rattle.cf_linear.specs.Views.{step_of}
 use Rattle.cf_bounds.proofs.cleaning.zero_needs.Given as goal
 
 abbrev pub invariant-loop-row : goal.invariant-loop-row
-invariant-loop-row l = map step_of l.out.items ≡ map need_zero (take l.row-index l.rows)
+invariant-loop-row l = map step_of l.out.items ++ map need_zero (reverse l.left.items) ≡ map need_zero l.fn.rows.items
+
+abbrev pub decreases-loop-row : goal.decreases-loop-row
+decreases-loop-row l = length l.left.items
