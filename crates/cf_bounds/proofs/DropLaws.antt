@@ -12,15 +12,15 @@ use Rattle.cf_linear.proofs.FormedLemmas.{kinds_from}
 use Rattle.cf_bounds.specs.declared.dropping.Dropped.{Dropped}
 use Rattle.cf_bounds.specs.Exact.{IsFree, AreExact}
 use Rattle.cf_bounds.specs.Sides.{side}
-use Rattle.cf_bounds.specs.Dropping.{dropped_answer, pairs_pass, with_rows}
+use Rattle.cf_bounds.specs.Dropping.{rest_of, dropped_answer, pairs_pass, with_rows}
 use Rattle.cf_bounds.proofs.OwesLemmas.{dropped_step}
 use Rattle.cf_bounds.proofs.FormedAgain.{dropped_formed}
 
-pub dropped_is : (m : System) (x : ℕ) (a : Answer) (low high rows : List Row) (w : How) → low ≡ side true x m.inequalities →
-    high ≡ side false x m.inequalities →
-    rows ≡ free_of x m.inequalities ++ pairs_of x low high → w ≡ how_between x low high → a ≡ with_rows m x rows w → a ≡ dropped m x
+pub dropped_is : (m r : System) (x : ℕ) (a : Answer) (all low high rows : List Row) (w : How) → r ≡ rest_of m → all ≡ m.inequalities →
+    low ≡ side true x all → high ≡ side false x all →
+    rows ≡ free_of x all ++ pairs_of x low high → w ≡ how_between x low high → a ≡ with_rows r x rows w → a ≡ dropped m x
 unfolding dropped
-dropped_is m x a low high rows w e f g h i = i ∙ rw (g, h, e, f) refl
+dropped_is m r x a all low high rows w d k e f g h i = i ∙ rw (d, g, h, e, f, k) refl
 
 pub drop_passes_from : (m : System) (x : ℕ) (low high : List Row) (b : Bool) → pairs_pass x low high ≡ b → low ≡ side true x m.inequalities →
     high ≡ side false x m.inequalities → drop_passes m x ≡ b

@@ -1,5 +1,5 @@
 -- The loops over lists of rows.
-use Rattle.std.proofs.Common.{◌≡◌, ◌≢◌, ℕ, suc, ◌<◌, ℤ, pos, ◌+ℤ◌, ◌*ℤ◌, List, [], ◌∷◌, ◌++◌, Bool, true, false, cond, ◌||◌, ◌==◌, refl, sym, ◌∙◌, ap, arith, append_assoc, not, zero, ◌≤◌, ◌+◌, get_or, length, take, subst, reverse}
+use Rattle.std.proofs.Common.{◌≡◌, ◌≢◌, ℕ, suc, ◌<◌, ℤ, pos, ◌+ℤ◌, ◌*ℤ◌, List, [], ◌∷◌, ◌++◌, Bool, true, false, cond, ◌||◌, ◌==◌, refl, sym, ◌∙◌, ap, arith, append_assoc, not, ◌≤◌, ◌+◌, get_or, length, take, subst, reverse}
 use Rattle.std.specs.Prelude.{filter, unsigned_abs, nat_lt}
 use Rattle.std.specs.List.{list_any}
 use Rattle.std.proofs.lemmas.Int.{ints}
@@ -101,12 +101,6 @@ distinct_done left kept target e inv = sym (distinct_end kept) ∙ ap (λ s. dis
 -- the next row is below a later column too
 pub next_below : (n k : ℕ) (before left : List Row) (r : Row) → before ≡ left ++ (r ∷ []) → n ≤ k → EachRow (AreBelow n) (reverse before) → AreBelow k r
 next_below n k before left r e h b = AreBelow-raise n k r h (subst (EachRow (AreBelow n)) (last_next before left r e) b).0
-
--- each row is below a later column too
-pub each_below : (n k i : ℕ) (rows : List Row) (r : Row) → EachRow (AreBelow n) rows → i < length rows → r ≡ get_or rows i r → n ≤ k → AreBelow k r
-each_below n k i [] r h l e m = absurd (omega arith)
-each_below n k zero (q ∷ rows) r h l e m = subst (AreBelow k) (sym e) (AreBelow-raise n k q m h.0)
-each_below n k (suc i) (q ∷ rows) r h l e m = each_below n k i rows r h.1 (omega arith) e m
 
 -- ---- a new last column
 pub are_below : (n : ℕ) (r : Row) → Over (λ c. c < n) r → AreBelow n r

@@ -1,5 +1,5 @@
 -- The answer of the search, of its parts.
-use Rattle.std.proofs.Common.{◌≡◌, ◌≢◌, ℕ, ◌+◌, ◌<◌, ℤ, pos, negsuc, neg_ℤ, ◌+ℤ◌, ◌*ℤ◌, [], ◌∷◌, ◌++◌, Bool, true, false, ◌==◌, Result, Ok, Err, refl, sym, ◌∙◌, ap, arith, subst, append_assoc}
+use Rattle.std.proofs.Common.{◌≡◌, ◌≢◌, ℕ, ◌+◌, ◌<◌, ℤ, pos, negsuc, neg_ℤ, ◌+ℤ◌, ◌*ℤ◌, [], ◌∷◌, ◌++◌, List, Bool, true, false, ◌==◌, Result, Ok, Err, refl, sym, ◌∙◌, ap, arith, subst, append_assoc}
 use Rattle.std.specs.Prelude.{IfOk, unsigned_abs, nat_lt, if◌then◌else◌}
 use Rattle.std.proofs.lemmas.Bool.{cond_both}
 use Rattle.cf_tree.specs.declared.memory.NoMemory.{NoMemory}
@@ -15,6 +15,7 @@ use Rattle.cf_linear.proofs.SubstituteLemmas.{AreBelow-without, two_entries, Are
 use Rattle.cf_linear.proofs.FormedLemmas.{low_from}
 use Rattle.cf_bounds.specs.declared.searching.Searched.{Searched}
 use Rattle.cf_bounds.specs.Exact.{IsFree, AreExact}
+use Rattle.cf_bounds.specs.Dropping.{rest_of}
 use Rattle.cf_bounds.specs.Searching.{searched_answer, found_from, found_with, equation_start}
 use Rattle.cf_bounds.proofs.ListLemmas.{all_below, comb_before}
 use Rattle.cf_bounds.proofs.SearchLemmas.{sided, searched_one}
@@ -24,10 +25,10 @@ use Rattle.cf_bounds.proofs.SearchFormed.{searched_formed}
 pub search_below : (m : System) → Formed m → EachRow (AreBelow m.next) m.inequalities
 search_below m f = all_below m.next m.inequalities (low_from m f).nonneg
 
-pub searched_is : (m : System) (x : ℕ) (lower : Bool) (f : Found) (a : Answer) → f ≡ found_all x lower (found_from m.next) m.inequalities →
-    a ≡ searched_as m f → a ≡ searched m x lower
+pub searched_is : (m r : System) (rows : List Row) (x : ℕ) (lower : Bool) (f : Found) (a : Answer) → r ≡ rest_of m → rows ≡ m.inequalities →
+    f ≡ found_all x lower (found_from r.next) rows → a ≡ searched_as r f → a ≡ searched m x lower
 unfolding searched
-searched_is m x lower f a e g = g ∙ ap (searched_as m) e
+searched_is m r rows x lower f a d k e g = g ∙ rw (e, d, k) refl
 
 pub search_owes : (m : System) (x : ℕ) (lower : Bool) (r : Result Searched NoMemory) → Formed m → In x m.unknown →
     IfOk r (λ s. searched_answer s ≡ searched m x lower) → IfOk r (λ s. Owes m (searched_answer s))

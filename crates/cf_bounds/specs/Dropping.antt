@@ -14,6 +14,10 @@ dropped_answer d = record { system = system_of d.system; steps = []; back = back
 abbrev pub bound_pair : Divided → Row × ℤ
 bound_pair b = (b.row, b.k)
 
+-- the system without its inequalities
+abbrev pub rest_of : System → System
+rest_of m = record { known = m.known; unknown = m.unknown; next = m.next; equations = m.equations; inequalities = []; needs = m.needs }
+
 -- whether a pair passes the limit
 unfoldable pub pairs_pass : ℕ → List Row → List Row → Bool
 pairs_pass x low high = list_any (λ l. list_any (pair_passes x l) high) low

@@ -13,7 +13,7 @@ ghost use Rattle.cf_bounds.specs.CleanAnswers.{cleaned, tight_of, tightened_of};
 ghost use Rattle.cf_bounds.specs.Cleaning.{held_of, joined, with_let};
 
 use crate::parts::{
-    common, divided, divides_known, has_unknown, joined_columns, known_part, unknown_part,
+    add_row, common, divided, divides_known, has_unknown, joined_columns, known_part, unknown_part,
 };
 use crate::unknowns::Unknowns;
 use cf_linear::row::Row;
@@ -227,16 +227,6 @@ fn distinct(alloc: Global, rows: Vec<Row>) -> Result<Vec<Row>, NoMemory>
         add_row(&mut out, row, is_new)?;
     }
     Ok(out)
-}
-
-// Adds the row to the end, if it is wanted.
-fn add_row(out: &mut Vec<Row>, row: Row, wanted: bool) -> Result<(), NoMemory>
-    ensures { OnOk result (out.new.items ≡ out.old.items ++ (if wanted then row ∷ [] else [])) }
-{
-    if wanted {
-        out.push(row)?;
-    }
-    Ok(())
 }
 
 // Whether the row is one of the rows.

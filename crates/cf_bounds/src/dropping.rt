@@ -10,7 +10,7 @@ ghost use Rattle.cf_bounds.specs.Exact.{IsFree, AreExact};
 ghost use Rattle.cf_bounds.specs.Sides.{side};
 ghost use Rattle.cf_bounds.specs.Dropping.{dropped_answer, bound_pair, pairs_pass, with_rows};
 
-use crate::parts::add_copy;
+use crate::parts::{add_copy, add_row, split_system};
 use crate::selection::is_side;
 use cf_linear::refusal::RowFault;
 use cf_linear::row::Row;
@@ -49,10 +49,11 @@ fn dropped_system(alloc: Global, system: System, unknown: u32) -> Result<Dropped
     ensures fits { IfOk result (λ d. drop_passes (system_of system) unknown ≡ false) }
     ensures past { result ≡ Err RowFault.Past → drop_passes (system_of system) unknown ≡ true }
 {
-    let low = side(alloc, &system.inequalities, unknown, true)?;
-    let high = side(alloc, &system.inequalities, unknown, false)?;
-    match left_rows(alloc, &system.inequalities, unknown, &low, &high) {
-        Ok(rows) => Ok(with_left(alloc, system, unknown, &low, &high, rows)?),
+    let (rest, rows) = split_system(alloc, system);
+    let low = side(alloc, &rows, unknown, true)?;
+    let high = side(alloc, &rows, unknown, false)?;
+    match left_rows(alloc, rows, unknown, &low, &high) {
+        Ok(rows) => Ok(with_left(alloc, rest, unknown, &low, &high, rows)?),
         Err(fault) => Err(fault),
     }
 }
@@ -122,12 +123,15 @@ fn side(alloc: Global, rows: &[Row], unknown: u32, lower: bool) -> Result<Vec<Ro
 }
 
 // The rows that do not hold the unknown.
-fn free_rows(alloc: Global, rows: &[Row], unknown: u32) -> Result<Vec<Row>, NoMemory>
-    ensures { IfOk result (λ s. s.items ≡ free_of unknown rows.now) }
+fn free_rows(alloc: Global, rows: Vec<Row>, unknown: u32) -> Result<Vec<Row>, NoMemory>
+    ensures { IfOk result (λ s. s.items ≡ free_of unknown rows.items) }
 {
+    let mut left = rows;
+    left.reverse();
     let mut out = Vec::new(alloc);
-    for row in rows {
-        add_copy(alloc, &mut out, row, row.entry(unknown) == 0)?;
+    while let Some(row) = left.pop() {
+        let is_free = row.entry(unknown) == 0;
+        add_row(&mut out, row, is_free)?;
     }
     Ok(out)
 }
@@ -136,12 +140,12 @@ fn free_rows(alloc: Global, rows: &[Row], unknown: u32) -> Result<Vec<Row>, NoMe
 #[tactic(auto, unfolding(crate::specs::Dropping::pairs_pass))]
 fn left_rows(
     alloc: Global,
-    rows: &[Row],
+    rows: Vec<Row>,
     unknown: u32,
     low: &[Row],
     high: &[Row],
 ) -> Result<Vec<Row>, RowFault>
-    ensures value { IfOk result (λ s. s.items ≡ free_of unknown rows.now ++ pairs_of unknown low.now high.now) }
+    ensures value { IfOk result (λ s. s.items ≡ free_of unknown rows.items ++ pairs_of unknown low.now high.now) }
     ensures fits { IfOk result (λ s. pairs_pass unknown low.now high.now ≡ false) }
     ensures past { result ≡ Err RowFault.Past → pairs_pass unknown low.now high.now ≡ true }
 {

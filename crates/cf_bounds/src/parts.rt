@@ -3,10 +3,13 @@ ghost use Rattle.std.specs.Prelude.{◌≡◌, ◌<◌, ◌++◌, ◌∷◌, [],
 ghost use Rattle.cf_num.specs.Limit.{IsWithin};
 ghost use Rattle.cf_linear.specs.Rows.{AreBelow, IsRow};
 ghost use Rattle.cf_linear.specs.Steps.{has_unknown, unknown_part, known_part, common};
+ghost use Rattle.cf_linear.specs.Views.{system_of};
 ghost use Rattle.cf_bounds.specs.Sides.{divides_known, divided_by};
+ghost use Rattle.cf_bounds.specs.Dropping.{rest_of};
 
 use crate::unknowns::Unknowns;
 use cf_linear::row::Row;
+use cf_linear::system::System;
 use cf_num::{fdiv, gcd, modulo};
 use cf_tree::memory::NoMemory;
 use std::alloc::Global;
@@ -127,6 +130,33 @@ pub(crate) fn joined_rows(first: Vec<Row>, second: Vec<Row>) -> Result<Vec<Row>,
     let mut more = second;
     all.append(&mut more)?;
     Ok(all)
+}
+
+// The system without its inequalities, and these.
+pub(crate) fn split_system(alloc: Global, system: System) -> (System, Vec<Row>)
+    ensures rest { system_of result.0 ≡ rest_of (system_of system) }
+    ensures next { result.0.next ≡ system.next }
+    ensures rows { result.1.items ≡ system.inequalities.items }
+{
+    let rest = System {
+        known: system.known,
+        unknown: system.unknown,
+        next: system.next,
+        equations: system.equations,
+        inequalities: Vec::new(alloc),
+        needs: system.needs,
+    };
+    (rest, system.inequalities)
+}
+
+// Adds the row to the end, if it is wanted.
+pub(crate) fn add_row(out: &mut Vec<Row>, row: Row, wanted: bool) -> Result<(), NoMemory>
+    ensures { OnOk result (out.new.items ≡ out.old.items ++ (if wanted then row ∷ [] else [])) }
+{
+    if wanted {
+        out.push(row)?;
+    }
+    Ok(())
 }
 
 // Adds a copy of the row to the end, if it is wanted.

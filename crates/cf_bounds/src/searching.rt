@@ -10,7 +10,7 @@ ghost use Rattle.cf_linear.specs.Views.{system_of};
 ghost use Rattle.cf_bounds.specs.Exact.{IsFree, AreExact};
 ghost use Rattle.cf_bounds.specs.Searching.{searched_answer, found_of, found_from, found_with, equation_start, is_searched};
 
-use crate::parts::{add_copy, joined_columns, joined_rows};
+use crate::parts::{joined_columns, joined_rows, split_system};
 use crate::selection::{Pick, is_side};
 use cf_linear::row::Row;
 use cf_linear::system::{Search, System};
@@ -63,8 +63,9 @@ fn searched_system(
     requires column { unknown < (system_of system).next }
     ensures { IfOk result (λ s. searched_answer s ≡ searched (system_of system) unknown lower) }
 {
-    let found = find_all(alloc, &system.inequalities, system.next, unknown, lower)?;
-    with_found(system, found)
+    let (rest, rows) = split_system(alloc, system);
+    let found = find_all(alloc, rows, rest.next, unknown, lower)?;
+    with_found(rest, found)
 }
 
 // The system with what the search found.
@@ -90,15 +91,17 @@ fn with_found(system: System, found: SearchBuilder) -> Result<Searched, NoMemory
 // The search over the rows.
 fn find_all(
     alloc: Global,
-    rows: &[Row],
+    rows: Vec<Row>,
     next: u32,
     unknown: u32,
     lower: bool,
 ) -> Result<SearchBuilder, NoMemory>
-    requires rows { EachRow (AreBelow next) rows.now }
+    requires rows { EachRow (AreBelow next) rows.items }
     requires column { unknown < next }
-    ensures { IfOk result (λ f. found_of f ≡ found_all unknown lower (found_from next) rows.now) }
+    ensures { IfOk result (λ f. found_of f ≡ found_all unknown lower (found_from next) rows.items) }
 {
+    let mut left = rows;
+    left.reverse();
     let mut found = SearchBuilder {
         next,
         columns: Vec::new(alloc),
@@ -107,7 +110,7 @@ fn find_all(
         rows: Vec::new(alloc),
         bounds: Vec::new(alloc),
     };
-    for row in rows {
+    while let Some(row) = left.pop() {
         found.add(alloc, unknown, lower, row)?;
     }
     Ok(found)
@@ -194,16 +197,16 @@ fn search_bound(alloc: Global, unknown: u32, lower: bool, column: u32) -> Result
 
 impl SearchBuilder {
     // Adds a row, or what takes its place.
-    fn add(&mut self, alloc: Global, unknown: u32, lower: bool, row: &Row) -> Result<(), NoMemory>
-        requires below { AreBelow self.old.next row.now }
+    fn add(&mut self, alloc: Global, unknown: u32, lower: bool, row: Row) -> Result<(), NoMemory>
+        requires below { AreBelow self.old.next row }
         requires column { unknown < self.old.next }
-        ensures value { OnOk result (found_of self.new ≡ found_row unknown lower (found_of self.old) row.now) }
+        ensures value { OnOk result (found_of self.new ≡ found_row unknown lower (found_of self.old) row) }
         ensures grown { OnOk result (self.old.next ≤ self.new.next) }
     {
         if searches(lower, row.entry(unknown)) {
-            self.add_search(alloc, unknown, lower, row)
+            self.add_search(alloc, unknown, lower, &row)
         } else {
-            self.rows.push(row.try_copy(alloc)?)?;
+            self.rows.push(row)?;
             Ok(())
         }
     }
