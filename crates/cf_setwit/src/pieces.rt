@@ -36,8 +36,10 @@ pub fn fresh_code(alloc: Global, layout: &Layout, names: &ColumnLevels) -> Resul
     ensures { IfOk result (λ c. code_tree c ≡ fresh_code (plain_layout layout.now) names.now) }
 {
     let inputs = union_of_all(variables(alloc, &layout.inputs)?);
+    let inputs = Box::new(alloc, inputs)?;
     let n = sum_of_earlier(alloc, layout, names, 0, output_masks(layout))?;
-    numbers_outside(alloc, inputs, n)
+    let n = Box::new(alloc, n)?;
+    Ok(numbers_outside(inputs, n))
 }
 
 /// Output set `j`, counted from 0: the pieces of all regions that lie in it, in rising order of
@@ -106,8 +108,10 @@ pub fn piece_code(
     let input = mask % layout.input_regions();
     let earlier = mask / layout.input_regions();
     let from = sum_of_earlier(alloc, layout, names, input, earlier)?;
-    let n = count_of(layout, names, mask);
-    slice(alloc, source_level(sources, input), from, n)
+    let from = Box::new(alloc, from)?;
+    let n = Box::new(alloc, count_of(layout, names, mask))?;
+    let set = Box::new(alloc, Code::Var(source_level(sources, input)))?;
+    Ok(slice(set, from, n))
 }
 
 /// The sum of the counts of the regions that lie in exactly the input sets of the mask and have
@@ -162,23 +166,16 @@ fn source_level(sources: Sources, mask: u32) -> u32
     }
 }
 
-// The elements of the set with the level at `n` places from `from` on.
-fn slice(alloc: Global, level: u32, from: Code, n: Code) -> Result<Code, NoMemory>
-    ensures { IfOk result (λ c. code_tree c ≡ code_slice (code_var level) (code_tree from) (code_tree n)) }
+// The elements of the set at `n` places from `from` on.
+fn slice(set: Box<Code>, from: Box<Code>, n: Box<Code>) -> Code
+    ensures { code_tree result ≡ code_slice (code_tree set.value) (code_tree from.value) (code_tree n.value) }
 {
-    Ok(Code::Slice {
-        set: Box::new(alloc, Code::Var(level))?,
-        from: Box::new(alloc, from)?,
-        n: Box::new(alloc, n)?,
-    })
+    Code::Slice { set, from, n }
 }
 
 // The `n` least numbers outside the set.
-fn numbers_outside(alloc: Global, set: Code, n: Code) -> Result<Code, NoMemory>
-    ensures { IfOk result (λ c. code_tree c ≡ code_fresh (code_tree set) (code_tree n)) }
+fn numbers_outside(set: Box<Code>, n: Box<Code>) -> Code
+    ensures { code_tree result ≡ code_fresh (code_tree set.value) (code_tree n.value) }
 {
-    Ok(Code::Fresh {
-        avoid: Box::new(alloc, set)?,
-        n: Box::new(alloc, n)?,
-    })
+    Code::Fresh { avoid: set, n }
 }
