@@ -4,6 +4,7 @@ pub mod Fitting
 pub mod LateChoose
 pub mod LateRun
 pub mod Laws
+pub mod OtherParts
 pub mod Outcomes
 pub mod ProgramLaw
 pub mod Runnable

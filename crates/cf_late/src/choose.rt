@@ -42,8 +42,10 @@ pub fn late_choose(
     ensures fit { IfOk result IsFitOutcome }
 {
     let known = known(alloc, scope, outputs, rel, values)?;
-    match solve(alloc, scope, outputs, &known) {
-        Ok(solved) => run(alloc, &solved.into_code(number), values),
+    let solved = solve(alloc, scope, outputs, &known);
+    drop(known);
+    match solved {
+        Ok(solved) => run(alloc, solved.into_code(number), values),
         Err(ChooseFault::Refused(refusal)) => Ok(LateOutcome::Refused { number, refusal }),
         Err(ChooseFault::NoMemory) => Err(NoMemory),
     }
@@ -68,11 +70,13 @@ fn known(
 
 // The run of the `solve` of a choose.
 #[tactic(auto, using(crate::proofs::ChooseLaws::ran, crate::proofs::ChooseLaws::ran_past, crate::proofs::ChooseLaws::given_fit))]
-fn run(alloc: Global, code: &Code, values: &[Value]) -> Result<LateOutcome, NoMemory>
-    ensures comes { IfOk result (λ o. late_of o ≡ solve_run (code_tree code.now) (plains values.now)) }
+fn run(alloc: Global, code: Code, values: &[Value]) -> Result<LateOutcome, NoMemory>
+    ensures comes { IfOk result (λ o. late_of o ≡ solve_run (code_tree code) (plains values.now)) }
     ensures fit { IfOk result IsFitOutcome }
 {
-    match run_code(alloc, code, values)? {
+    let outcome = run_code(alloc, &code, values);
+    drop(code);
+    match outcome? {
         Outcome::Values(given) => Ok(LateOutcome::Values(given)),
         Outcome::NoSolution(n) => Ok(LateOutcome::NoSolution(n)),
         Outcome::Overflow => Ok(LateOutcome::Overflow),
