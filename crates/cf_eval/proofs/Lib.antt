@@ -1,4 +1,5 @@
 pub mod NumberLemmas
+pub mod NarrowLemmas
 pub mod ReadLemmas
 pub mod ItemLemmas
 pub mod SpellLemmas
