@@ -3,13 +3,13 @@ ghost use Rattle.std.specs.Prelude.{◌≡◌, ◌+◌, map, true, false, Some, 
 ghost use Rattle.cf_tree.specs.ExprView.{expr_tree};
 ghost use Rattle.cf_tree.specs.RelView.{rel_tree};
 ghost use Rattle.cf_tree.specs.DefView.{raw_def_tree};
-ghost use Rattle.cf_tree.specs.ExprTree.{expr_lit, expr_truth, expr_neg, expr_not, expr_abs, expr_div, expr_mod, expr_divides, expr_card};
+ghost use Rattle.cf_tree.specs.ExprTree.{exprs_of, expr_call, expr_lit, expr_truth, expr_neg, expr_not, expr_abs, expr_div, expr_mod, expr_divides, expr_card};
 ghost use Rattle.cf_tree.specs.RelTree.{term_lit, term_neg, term_abs, term_div, term_mod, term_card, rel_not, rel_divides};
 ghost use Rattle.cf_tree.specs.declared.base.Base.TheVariants.{Int as int, Bool as truth_base, Set as set_base};
 ghost use Rattle.cf_type.specs.FormView.{form_of, forms_of, arms_of, reading_of, callee_seen, context_of};
 ghost use Rattle.cf_program.specs.CheckAnswers.{CheckAnswer};
 ghost use Rattle.cf_program.specs.Names.{bases_of};
-ghost use Rattle.cf_program.specs.Reading.{relation as a_relation, term as a_term, on_relation, on_term, on_set, truth_reading};
+ghost use Rattle.cf_program.specs.Reading.{relation as a_relation, term as a_term, on_relation, on_term, on_set, truth_reading, not_linear_at as not_linear_at_of};
 ghost use Rattle.cf_program.specs.Walk.{is_one, form as form_is, no_forms as no_forms_of, with_form as with_form_of, no_arms as no_arms_of, with_arm as with_arm_of, variable_form, unary_form, binary_form, set_reading as set_reading_of, set_form, tuple_form, call_form, if_form, let_form, choose_form, choose_part, match_form, linear as linear_of, arm_number, after_arm};
 ghost use Rattle.cf_tree.specs.Typing.{one as one_base};
 
@@ -309,6 +309,39 @@ pub fn call(caller: &Caller, place: Place, name: &Text, args: Forms) -> Result<F
     }
 }
 
+// The call of the function of that number, which has these results.
+fn called(
+    alloc: Global,
+    place: Place,
+    number: u32,
+    results: &[Base],
+    args: Forms,
+) -> Result<Form, TypeFault>
+    ensures { CheckAnswer form_of result (form_is results.now (expr_call number (exprs_of (forms_of args).trees))
+        (not_linear_at_of (forms_of args).first_nonlinear place) (forms_of args).next) }
+{
+    let Forms {
+        bases,
+        trees,
+        first_nonlinear,
+        next,
+    } = args;
+    drop(bases);
+    let tree = Box::new(
+        alloc,
+        Expr::Call {
+            def: number,
+            args: trees,
+        },
+    )?;
+    Ok(Form {
+        bases: Vec::from_slice(alloc, results)?,
+        tree,
+        reading: reading::not_linear_at(first_nonlinear, place),
+        next,
+    })
+}
+
 // The call of this function.
 fn call_of(
     alloc: Global,
@@ -332,26 +365,7 @@ fn call_of(
         drop(args);
         return Err(TypeFault::CallsLater(place));
     }
-    let Forms {
-        bases,
-        trees,
-        first_nonlinear,
-        next,
-    } = args;
-    drop(bases);
-    let tree = Box::new(
-        alloc,
-        Expr::Call {
-            def: number,
-            args: trees,
-        },
-    )?;
-    Ok(Form {
-        bases: Vec::from_slice(alloc, &def.results)?,
-        tree,
-        reading: reading::not_linear_at(first_nonlinear, place),
-        next,
-    })
+    called(alloc, place, number, &def.results, args)
 }
 
 /// The tree alone.

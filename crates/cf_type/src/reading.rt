@@ -175,6 +175,23 @@ fn is_fixed_below(known: usize, term: &Term) -> bool
     }
 }
 
+// The product of two number forms.
+fn of_product(
+    alloc: Global,
+    operation: Operation,
+    a: Box<Term>,
+    b: Box<Term>,
+) -> Result<Reading, NoMemory>
+    ensures { IfOk result (λ r. reading_of r ≡ product_reading operation.known operation.place (term_tree a.value) (term_tree b.value)) }
+{
+    if is_fixed_below(operation.known, &a) || is_fixed_below(operation.known, &b) {
+        return Ok(Reading::Term(Box::new(alloc, Term::Mul(a, b))?));
+    }
+    drop(a);
+    drop(b);
+    Ok(Reading::NotLinear(operation.place))
+}
+
 // The operation of two number forms.
 fn of_terms(
     alloc: Global,
@@ -188,13 +205,7 @@ fn of_terms(
     match operation.op {
         BinOp::Add => Ok(Reading::Term(Box::new(alloc, Term::Add(a, b))?)),
         BinOp::Sub => Ok(Reading::Term(Box::new(alloc, Term::Sub(a, b))?)),
-        BinOp::Mul => {
-            if is_fixed_below(operation.known, &a) || is_fixed_below(operation.known, &b) {
-                Ok(Reading::Term(Box::new(alloc, Term::Mul(a, b))?))
-            } else {
-                Ok(Reading::NotLinear(operation.place))
-            }
-        }
+        BinOp::Mul => of_product(alloc, operation, a, b),
         BinOp::Compare(order) => Ok(Reading::Relation(Box::new(
             alloc,
             Rel::Compare {
@@ -203,12 +214,11 @@ fn of_terms(
                 right: b,
             },
         )?)),
-        BinOp::And => Ok(Reading::NotLinear(operation.place)),
-        BinOp::Or => Ok(Reading::NotLinear(operation.place)),
-        BinOp::Union => Ok(Reading::NotLinear(operation.place)),
-        BinOp::Inter => Ok(Reading::NotLinear(operation.place)),
-        BinOp::Diff => Ok(Reading::NotLinear(operation.place)),
-        BinOp::Subset => Ok(Reading::NotLinear(operation.place)),
+        BinOp::And | BinOp::Or | BinOp::Union | BinOp::Inter | BinOp::Diff | BinOp::Subset => {
+            drop(a);
+            drop(b);
+            Ok(Reading::NotLinear(operation.place))
+        }
     }
 }
 
@@ -225,14 +235,22 @@ fn of_relations(
     match operation.op {
         BinOp::And => Ok(Reading::Relation(Box::new(alloc, Rel::And(a, b))?)),
         BinOp::Or => Ok(Reading::Relation(Box::new(alloc, Rel::Or(a, b))?)),
-        BinOp::Add => Ok(Reading::NotLinear(operation.place)),
-        BinOp::Sub => Ok(Reading::NotLinear(operation.place)),
-        BinOp::Mul => Ok(Reading::NotLinear(operation.place)),
-        BinOp::Compare(_) => Ok(Reading::NotLinear(operation.place)),
-        BinOp::Union => Ok(Reading::NotLinear(operation.place)),
-        BinOp::Inter => Ok(Reading::NotLinear(operation.place)),
-        BinOp::Diff => Ok(Reading::NotLinear(operation.place)),
-        BinOp::Subset => Ok(Reading::NotLinear(operation.place)),
+        BinOp::Add
+        | BinOp::Sub
+        | BinOp::Mul
+        | BinOp::Union
+        | BinOp::Inter
+        | BinOp::Diff
+        | BinOp::Subset => {
+            drop(a);
+            drop(b);
+            Ok(Reading::NotLinear(operation.place))
+        }
+        BinOp::Compare(_) => {
+            drop(a);
+            drop(b);
+            Ok(Reading::NotLinear(operation.place))
+        }
     }
 }
 
@@ -249,10 +267,11 @@ fn of_compared_sets(
     match order {
         Order::Eq => Ok(Reading::Relation(Box::new(alloc, Rel::SameSet(a, b))?)),
         Order::Ne => Ok(Reading::Relation(Box::new(alloc, Rel::OtherSet(a, b))?)),
-        Order::Lt => Ok(Reading::NotLinear(place)),
-        Order::Le => Ok(Reading::NotLinear(place)),
-        Order::Gt => Ok(Reading::NotLinear(place)),
-        Order::Ge => Ok(Reading::NotLinear(place)),
+        Order::Lt | Order::Le | Order::Gt | Order::Ge => {
+            drop(a);
+            drop(b);
+            Ok(Reading::NotLinear(place))
+        }
     }
 }
 
@@ -272,11 +291,11 @@ fn of_sets(
         BinOp::Diff => Ok(Reading::Set(Box::new(alloc, SetTerm::Diff(a, b))?)),
         BinOp::Subset => Ok(Reading::Relation(Box::new(alloc, Rel::Subset(a, b))?)),
         BinOp::Compare(order) => of_compared_sets(alloc, order, operation.place, a, b),
-        BinOp::Add => Ok(Reading::NotLinear(operation.place)),
-        BinOp::Sub => Ok(Reading::NotLinear(operation.place)),
-        BinOp::Mul => Ok(Reading::NotLinear(operation.place)),
-        BinOp::And => Ok(Reading::NotLinear(operation.place)),
-        BinOp::Or => Ok(Reading::NotLinear(operation.place)),
+        BinOp::Add | BinOp::Sub | BinOp::Mul | BinOp::And | BinOp::Or => {
+            drop(a);
+            drop(b);
+            Ok(Reading::NotLinear(operation.place))
+        }
     }
 }
 
@@ -292,20 +311,30 @@ fn on_left_relation(
 {
     match right {
         Reading::Relation(b) => of_relations(alloc, operation, a, b),
-        Reading::Term(_) => Ok(Reading::NotLinear(operation.place)),
-        Reading::Set(_) => Ok(Reading::NotLinear(operation.place)),
-        Reading::NotLinear(first) => match operation.op {
-            BinOp::Add => Ok(Reading::NotLinear(operation.place)),
-            BinOp::Sub => Ok(Reading::NotLinear(operation.place)),
-            BinOp::Mul => Ok(Reading::NotLinear(operation.place)),
-            BinOp::And => Ok(Reading::NotLinear(first)),
-            BinOp::Or => Ok(Reading::NotLinear(first)),
-            BinOp::Union => Ok(Reading::NotLinear(operation.place)),
-            BinOp::Inter => Ok(Reading::NotLinear(operation.place)),
-            BinOp::Diff => Ok(Reading::NotLinear(operation.place)),
-            BinOp::Subset => Ok(Reading::NotLinear(operation.place)),
-            BinOp::Compare(_) => Ok(Reading::NotLinear(first)),
-        },
+        Reading::Term(b) => {
+            drop(a);
+            drop(b);
+            Ok(Reading::NotLinear(operation.place))
+        }
+        Reading::Set(b) => {
+            drop(a);
+            drop(b);
+            Ok(Reading::NotLinear(operation.place))
+        }
+        Reading::NotLinear(first) => {
+            drop(a);
+            match operation.op {
+                BinOp::Add
+                | BinOp::Sub
+                | BinOp::Mul
+                | BinOp::Union
+                | BinOp::Inter
+                | BinOp::Diff
+                | BinOp::Subset => Ok(Reading::NotLinear(operation.place)),
+                BinOp::And | BinOp::Or => Ok(Reading::NotLinear(first)),
+                BinOp::Compare(_) => Ok(Reading::NotLinear(first)),
+            }
+        }
     }
 }
 
@@ -320,21 +349,30 @@ fn on_left_term(
     ensures { IfOk result (λ r. reading_of r ≡ binary_reading operation.known operation.op operation.place (a_term (term_tree a.value)) (reading_of right)) }
 {
     match right {
-        Reading::Relation(_) => Ok(Reading::NotLinear(operation.place)),
+        Reading::Relation(b) => {
+            drop(a);
+            drop(b);
+            Ok(Reading::NotLinear(operation.place))
+        }
         Reading::Term(b) => of_terms(alloc, operation, a, b),
-        Reading::Set(_) => Ok(Reading::NotLinear(operation.place)),
-        Reading::NotLinear(first) => match operation.op {
-            BinOp::Add => Ok(Reading::NotLinear(first)),
-            BinOp::Sub => Ok(Reading::NotLinear(first)),
-            BinOp::Mul => Ok(Reading::NotLinear(first)),
-            BinOp::And => Ok(Reading::NotLinear(operation.place)),
-            BinOp::Or => Ok(Reading::NotLinear(operation.place)),
-            BinOp::Union => Ok(Reading::NotLinear(operation.place)),
-            BinOp::Inter => Ok(Reading::NotLinear(operation.place)),
-            BinOp::Diff => Ok(Reading::NotLinear(operation.place)),
-            BinOp::Subset => Ok(Reading::NotLinear(operation.place)),
-            BinOp::Compare(_) => Ok(Reading::NotLinear(first)),
-        },
+        Reading::Set(b) => {
+            drop(a);
+            drop(b);
+            Ok(Reading::NotLinear(operation.place))
+        }
+        Reading::NotLinear(first) => {
+            drop(a);
+            match operation.op {
+                BinOp::And
+                | BinOp::Or
+                | BinOp::Union
+                | BinOp::Inter
+                | BinOp::Diff
+                | BinOp::Subset => Ok(Reading::NotLinear(operation.place)),
+                BinOp::Add | BinOp::Sub | BinOp::Mul => Ok(Reading::NotLinear(first)),
+                BinOp::Compare(_) => Ok(Reading::NotLinear(first)),
+            }
+        }
     }
 }
 
@@ -349,21 +387,29 @@ fn on_left_set(
     ensures { IfOk result (λ r. reading_of r ≡ binary_reading operation.known operation.op operation.place (a_set (set_tree a.value)) (reading_of right)) }
 {
     match right {
-        Reading::Relation(_) => Ok(Reading::NotLinear(operation.place)),
-        Reading::Term(_) => Ok(Reading::NotLinear(operation.place)),
+        Reading::Relation(b) => {
+            drop(a);
+            drop(b);
+            Ok(Reading::NotLinear(operation.place))
+        }
+        Reading::Term(b) => {
+            drop(a);
+            drop(b);
+            Ok(Reading::NotLinear(operation.place))
+        }
         Reading::Set(b) => of_sets(alloc, operation, a, b),
-        Reading::NotLinear(first) => match operation.op {
-            BinOp::Add => Ok(Reading::NotLinear(operation.place)),
-            BinOp::Sub => Ok(Reading::NotLinear(operation.place)),
-            BinOp::Mul => Ok(Reading::NotLinear(operation.place)),
-            BinOp::And => Ok(Reading::NotLinear(operation.place)),
-            BinOp::Or => Ok(Reading::NotLinear(operation.place)),
-            BinOp::Union => Ok(Reading::NotLinear(first)),
-            BinOp::Inter => Ok(Reading::NotLinear(first)),
-            BinOp::Diff => Ok(Reading::NotLinear(first)),
-            BinOp::Subset => Ok(Reading::NotLinear(first)),
-            BinOp::Compare(_) => Ok(Reading::NotLinear(first)),
-        },
+        Reading::NotLinear(first) => {
+            drop(a);
+            match operation.op {
+                BinOp::Add | BinOp::Sub | BinOp::Mul | BinOp::And | BinOp::Or => Ok(
+                    Reading::NotLinear(operation.place),
+                ),
+                BinOp::Union | BinOp::Inter | BinOp::Diff | BinOp::Subset => Ok(Reading::NotLinear(
+                    first,
+                )),
+                BinOp::Compare(_) => Ok(Reading::NotLinear(first)),
+            }
+        }
     }
 }
 
@@ -381,6 +427,9 @@ pub fn of_binary(
         Reading::Relation(a) => on_left_relation(alloc, operation, a, right),
         Reading::Term(a) => on_left_term(alloc, operation, a, right),
         Reading::Set(a) => on_left_set(alloc, operation, a, right),
-        Reading::NotLinear(first) => Ok(Reading::NotLinear(first)),
+        Reading::NotLinear(first) => {
+            drop(right);
+            Ok(Reading::NotLinear(first))
+        }
     }
 }
