@@ -29,6 +29,11 @@ module _ (made : ℕ → CodeTree → CodeTree) (units : ℕ → CodeTree → �
   Walked c d start end before behind =
       Walk (Improves n c d) (d ≡ rewritten made n c) (units_of made units n c) start end (IsOk before) (IsOk behind)
 
+  -- a form whose parts are walked: once the form itself is, the whole is
+  abbrev pub PartsWalked : CodeTree → CodeTree → ℕ → ℕ → Outcome → Outcome → Type 0
+  PartsWalked c d start middle before between = (e : CodeTree) (end : ℕ) (behind : Outcome) →
+      FormWalked d e middle end between behind → Walked c e start end before behind
+
   abbrev pub AllWalked : CodeTrees → CodeTrees → ℕ → ℕ → Outcome → Outcome → Type 0
   AllWalked cs ds start end before behind =
       Walk (AllImprove n cs ds) (ds ≡ all_rewritten made n cs) (units_of_all made units n cs) start end (IsOk before) (IsOk behind)

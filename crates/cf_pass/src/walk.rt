@@ -4,7 +4,7 @@ ghost use Rattle.cf_tree.specs.CodeView.{code_tree, item_tree, arm_tree, code_tr
 ghost use Rattle.cf_tree.specs.RelSize.{capped};
 ghost use Rattle.cf_pass.specs.Improves.{Improves};
 ghost use Rattle.cf_pass.specs.Rewritten.{rewritten, units_of};
-ghost use Rattle.cf_pass.specs.Walked.{FormWalked, Walked, AllWalked, GivesWalked, ItemWalked, ItemsWalked, ArmWalked, ArmsWalked};
+ghost use Rattle.cf_pass.specs.Walked.{FormWalked, Walked, PartsWalked, AllWalked, GivesWalked, ItemWalked, ItemsWalked, ArmWalked, ArmsWalked};
 
 use crate::rule::Rule;
 use cf_tree::code::{Arm, Code, Item};
@@ -72,7 +72,7 @@ fn finish<R: Rule>(
     }
 }
 
-// for the proof: no way ends early where parts are rewritten, and the form itself stands last in each arm
+// The parts of the form, and then the form itself.
 #[cycle(walk)]
 fn walk<R: Rule>(
     alloc: Global,
@@ -83,6 +83,21 @@ fn walk<R: Rule>(
 ) -> Result<(), NoMemory>
     ensures { Walked R.made R.units outside (code_tree code.old) (code_tree code.new) (R.tally rule.old) (R.tally rule.new) so_far result }
 {
+    let so_far = walk_parts(alloc, rule, outside, so_far, code);
+    finish(alloc, rule, outside, so_far, code)
+}
+
+// for the proof: no way ends early where parts are rewritten
+#[cycle(walk)]
+fn walk_parts<R: Rule>(
+    alloc: Global,
+    rule: &mut R,
+    outside: u32,
+    so_far: Result<(), NoMemory>,
+    code: &mut Code,
+) -> Result<(), NoMemory>
+    ensures { PartsWalked R.made R.units outside (code_tree code.old) (code_tree code.new) (R.tally rule.old) (R.tally rule.new) so_far result }
+{
     match code {
         Code::Let {
             count,
@@ -91,120 +106,67 @@ fn walk<R: Rule>(
             ..
         } => {
             let so_far = walk(alloc, rule, outside, so_far, value);
-            let so_far = walk_behind(alloc, rule, outside, *count, so_far, body);
-            finish(alloc, rule, outside, so_far, code)
+            walk_behind(alloc, rule, outside, *count, so_far, body)
         }
-        Code::Solve { arms, .. } => {
-            let so_far = walk_arms(alloc, rule, outside, so_far, arms);
-            finish(alloc, rule, outside, so_far, code)
-        }
-        Code::SetOf(parts) => {
-            let so_far = walk_all(alloc, rule, outside, so_far, parts);
-            finish(alloc, rule, outside, so_far, code)
-        }
-        Code::Tuple(parts) => {
-            let so_far = walk_all(alloc, rule, outside, so_far, parts);
-            finish(alloc, rule, outside, so_far, code)
-        }
-        Code::Sum(parts) => {
-            let so_far = walk_all(alloc, rule, outside, so_far, parts);
-            finish(alloc, rule, outside, so_far, code)
-        }
+        Code::Solve { arms, .. } => walk_arms(alloc, rule, outside, so_far, arms),
+        Code::SetOf(parts) => walk_all(alloc, rule, outside, so_far, parts),
+        Code::Tuple(parts) => walk_all(alloc, rule, outside, so_far, parts),
+        Code::Sum(parts) => walk_all(alloc, rule, outside, so_far, parts),
         Code::Sub(a, b) => {
             let so_far = walk(alloc, rule, outside, so_far, a);
-            let so_far = walk(alloc, rule, outside, so_far, b);
-            finish(alloc, rule, outside, so_far, code)
+            walk(alloc, rule, outside, so_far, b)
         }
         Code::Mul(a, b) => {
             let so_far = walk(alloc, rule, outside, so_far, a);
-            let so_far = walk(alloc, rule, outside, so_far, b);
-            finish(alloc, rule, outside, so_far, code)
+            walk(alloc, rule, outside, so_far, b)
         }
-        Code::Neg(a) => {
-            let so_far = walk_part(alloc, rule, outside, so_far, a);
-            finish(alloc, rule, outside, so_far, code)
-        }
-        Code::Div { of, .. } => {
-            let so_far = walk_part(alloc, rule, outside, so_far, of);
-            finish(alloc, rule, outside, so_far, code)
-        }
-        Code::Mod { of, .. } => {
-            let so_far = walk_part(alloc, rule, outside, so_far, of);
-            finish(alloc, rule, outside, so_far, code)
-        }
-        Code::Min(parts) => {
-            let so_far = walk_all(alloc, rule, outside, so_far, parts);
-            finish(alloc, rule, outside, so_far, code)
-        }
-        Code::Max(parts) => {
-            let so_far = walk_all(alloc, rule, outside, so_far, parts);
-            finish(alloc, rule, outside, so_far, code)
-        }
+        Code::Neg(a) => walk_part(alloc, rule, outside, so_far, a),
+        Code::Div { of, .. } => walk_part(alloc, rule, outside, so_far, of),
+        Code::Mod { of, .. } => walk_part(alloc, rule, outside, so_far, of),
+        Code::Min(parts) => walk_all(alloc, rule, outside, so_far, parts),
+        Code::Max(parts) => walk_all(alloc, rule, outside, so_far, parts),
         Code::Compare { left, right, .. } => {
             let so_far = walk(alloc, rule, outside, so_far, left);
-            let so_far = walk(alloc, rule, outside, so_far, right);
-            finish(alloc, rule, outside, so_far, code)
+            walk(alloc, rule, outside, so_far, right)
         }
-        Code::Divides { of, .. } => {
-            let so_far = walk_part(alloc, rule, outside, so_far, of);
-            finish(alloc, rule, outside, so_far, code)
-        }
+        Code::Divides { of, .. } => walk_part(alloc, rule, outside, so_far, of),
         Code::And(a, b) => {
             let so_far = walk(alloc, rule, outside, so_far, a);
-            let so_far = walk(alloc, rule, outside, so_far, b);
-            finish(alloc, rule, outside, so_far, code)
+            walk(alloc, rule, outside, so_far, b)
         }
         Code::Or(a, b) => {
             let so_far = walk(alloc, rule, outside, so_far, a);
-            let so_far = walk(alloc, rule, outside, so_far, b);
-            finish(alloc, rule, outside, so_far, code)
+            walk(alloc, rule, outside, so_far, b)
         }
-        Code::Not(a) => {
-            let so_far = walk_part(alloc, rule, outside, so_far, a);
-            finish(alloc, rule, outside, so_far, code)
-        }
-        Code::Union(parts) => {
-            let so_far = walk_all(alloc, rule, outside, so_far, parts);
-            finish(alloc, rule, outside, so_far, code)
-        }
-        Code::Inter(parts) => {
-            let so_far = walk_all(alloc, rule, outside, so_far, parts);
-            finish(alloc, rule, outside, so_far, code)
-        }
+        Code::Not(a) => walk_part(alloc, rule, outside, so_far, a),
+        Code::Union(parts) => walk_all(alloc, rule, outside, so_far, parts),
+        Code::Inter(parts) => walk_all(alloc, rule, outside, so_far, parts),
         Code::Diff(a, b) => {
             let so_far = walk(alloc, rule, outside, so_far, a);
-            let so_far = walk(alloc, rule, outside, so_far, b);
-            finish(alloc, rule, outside, so_far, code)
+            walk(alloc, rule, outside, so_far, b)
         }
         Code::Subset(a, b) => {
             let so_far = walk(alloc, rule, outside, so_far, a);
-            let so_far = walk(alloc, rule, outside, so_far, b);
-            finish(alloc, rule, outside, so_far, code)
+            walk(alloc, rule, outside, so_far, b)
         }
-        Code::Card(a) => {
-            let so_far = walk_part(alloc, rule, outside, so_far, a);
-            finish(alloc, rule, outside, so_far, code)
-        }
+        Code::Card(a) => walk_part(alloc, rule, outside, so_far, a),
         Code::Slice { set, from, n } => {
             let so_far = walk(alloc, rule, outside, so_far, set);
             let so_far = walk(alloc, rule, outside, so_far, from);
-            let so_far = walk(alloc, rule, outside, so_far, n);
-            finish(alloc, rule, outside, so_far, code)
+            walk(alloc, rule, outside, so_far, n)
         }
         Code::Fresh { avoid, n } => {
             let so_far = walk(alloc, rule, outside, so_far, avoid);
-            let so_far = walk(alloc, rule, outside, so_far, n);
-            finish(alloc, rule, outside, so_far, code)
+            walk(alloc, rule, outside, so_far, n)
         }
         Code::If { test, yes, no } => {
             let so_far = walk(alloc, rule, outside, so_far, test);
             let so_far = walk(alloc, rule, outside, so_far, yes);
-            let so_far = walk(alloc, rule, outside, so_far, no);
-            finish(alloc, rule, outside, so_far, code)
+            walk(alloc, rule, outside, so_far, no)
         }
-        Code::Lit(_) => finish(alloc, rule, outside, so_far, code),
-        Code::Truth(_) => finish(alloc, rule, outside, so_far, code),
-        Code::Var(_) => finish(alloc, rule, outside, so_far, code),
+        Code::Lit(_) => so_far,
+        Code::Truth(_) => so_far,
+        Code::Var(_) => so_far,
     }
 }
 

@@ -12,170 +12,173 @@ use Rattle.cf_pass.proofs.WalkSteps.{stays, from_start, no_start, if_ok_same, ok
 use Rattle.cf_pass.proofs.WalkLists.{codes_begin, codes_next, codes_end, items_begin, items_next, items_end, arms_begin, arms_next, arms_end}
 use Rattle.cf_pass.proofs.walk.+walk.Goals as goal
 
-pub walk-returns-in-Let : goal.walk-returns-in-Let
-walk-returns-in-Let g t c =
-    over_binding g.R.Rule.made g.R.Rule.units c.args.outside _ _ _ _ _ _ _ _ _ c.walk-so_far.ensures c.walk_behind-so_far.ensures c.finish.ensures
+pub walk-returns : goal.walk-returns
+walk-returns g t c = c.walk_parts-so_far.ensures _ _ _ c.finish.ensures
+
+pub walk_parts-returns-in-Let : goal.walk_parts-returns-in-Let
+walk_parts-returns-in-Let g t c = λ e end behind form.
+    over_binding g.R.Rule.made g.R.Rule.units c.args.outside _ _ _ _ _ _ _ _ _ c.walk-so_far.ensures c.walk_behind.ensures form
     (let_tree _ _ _ _)
     (search (rules, the_lemmas))
 
-pub walk-returns-in-Solve : goal.walk-returns-in-Solve
-walk-returns-in-Solve g t c =
-    over_arms g.R.Rule.made g.R.Rule.units c.args.outside c.in-Solve.number _ _ _ _ _ c.walk_arms-so_far.ensures c.finish-in-Solve.ensures
+pub walk_parts-returns-in-Solve : goal.walk_parts-returns-in-Solve
+walk_parts-returns-in-Solve g t c = λ e end behind form.
+    over_arms g.R.Rule.made g.R.Rule.units c.args.outside c.in-Solve.number _ _ _ _ _ c.walk_arms.ensures form
     (search (rules, the_lemmas))
     (search (rules, the_lemmas))
 
-pub walk-returns-in-SetOf : goal.walk-returns-in-SetOf
-walk-returns-in-SetOf g t c =
+pub walk_parts-returns-in-SetOf : goal.walk_parts-returns-in-SetOf
+walk_parts-returns-in-SetOf g t c = λ e end behind form.
     over_list g.R.Rule.made g.R.Rule.units c.args.outside code_set_of (set_of_over g.R.Rule.made g.R.Rule.units c.args.outside) _ _ _ _ _
-    c.walk_all-so_far.ensures c.finish-in-SetOf.ensures
+    c.walk_all.ensures form
     (search (rules, the_lemmas)) (search (rules, the_lemmas))
 
-pub walk-returns-in-Tuple : goal.walk-returns-in-Tuple
-walk-returns-in-Tuple g t c =
+pub walk_parts-returns-in-Tuple : goal.walk_parts-returns-in-Tuple
+walk_parts-returns-in-Tuple g t c = λ e end behind form.
     over_list g.R.Rule.made g.R.Rule.units c.args.outside code_tuple (tuple_over g.R.Rule.made g.R.Rule.units c.args.outside) _ _ _ _ _
-    c.walk_all-so_far-in-Tuple.ensures c.finish-in-Tuple.ensures
+    c.walk_all-in-Tuple.ensures form
     (search (rules, the_lemmas)) (search (rules, the_lemmas))
 
-pub walk-returns-in-Sum : goal.walk-returns-in-Sum
-walk-returns-in-Sum g t c =
+pub walk_parts-returns-in-Sum : goal.walk_parts-returns-in-Sum
+walk_parts-returns-in-Sum g t c = λ e end behind form.
     over_list g.R.Rule.made g.R.Rule.units c.args.outside code_sum (sum_over g.R.Rule.made g.R.Rule.units c.args.outside) _ _ _ _ _
-    c.walk_all-so_far-in-Sum.ensures c.finish-in-Sum.ensures
+    c.walk_all-in-Sum.ensures form
     (search (rules, the_lemmas)) (search (rules, the_lemmas))
 
-pub walk-returns-in-Min : goal.walk-returns-in-Min
-walk-returns-in-Min g t c =
+pub walk_parts-returns-in-Min : goal.walk_parts-returns-in-Min
+walk_parts-returns-in-Min g t c = λ e end behind form.
     over_list g.R.Rule.made g.R.Rule.units c.args.outside code_min (min_over g.R.Rule.made g.R.Rule.units c.args.outside) _ _ _ _ _
-    c.walk_all-so_far-in-Min.ensures c.finish-in-Min.ensures
+    c.walk_all-in-Min.ensures form
     (search (rules, the_lemmas)) (search (rules, the_lemmas))
 
-pub walk-returns-in-Max : goal.walk-returns-in-Max
-walk-returns-in-Max g t c =
+pub walk_parts-returns-in-Max : goal.walk_parts-returns-in-Max
+walk_parts-returns-in-Max g t c = λ e end behind form.
     over_list g.R.Rule.made g.R.Rule.units c.args.outside code_max (max_over g.R.Rule.made g.R.Rule.units c.args.outside) _ _ _ _ _
-    c.walk_all-so_far-in-Max.ensures c.finish-in-Max.ensures
+    c.walk_all-in-Max.ensures form
     (search (rules, the_lemmas)) (search (rules, the_lemmas))
 
-pub walk-returns-in-Union : goal.walk-returns-in-Union
-walk-returns-in-Union g t c =
+pub walk_parts-returns-in-Union : goal.walk_parts-returns-in-Union
+walk_parts-returns-in-Union g t c = λ e end behind form.
     over_list g.R.Rule.made g.R.Rule.units c.args.outside code_union (union_over g.R.Rule.made g.R.Rule.units c.args.outside) _ _ _ _ _
-    c.walk_all-so_far-in-Union.ensures c.finish-in-Union.ensures
+    c.walk_all-in-Union.ensures form
     (search (rules, the_lemmas)) (search (rules, the_lemmas))
 
-pub walk-returns-in-Inter : goal.walk-returns-in-Inter
-walk-returns-in-Inter g t c =
+pub walk_parts-returns-in-Inter : goal.walk_parts-returns-in-Inter
+walk_parts-returns-in-Inter g t c = λ e end behind form.
     over_list g.R.Rule.made g.R.Rule.units c.args.outside code_inter (inter_over g.R.Rule.made g.R.Rule.units c.args.outside) _ _ _ _ _
-    c.walk_all-so_far-in-Inter.ensures c.finish-in-Inter.ensures
+    c.walk_all-in-Inter.ensures form
     (search (rules, the_lemmas)) (search (rules, the_lemmas))
 
-pub walk-returns-in-Sub : goal.walk-returns-in-Sub
-walk-returns-in-Sub g t c =
+pub walk_parts-returns-in-Sub : goal.walk_parts-returns-in-Sub
+walk_parts-returns-in-Sub g t c = λ e end behind form.
     over_two g.R.Rule.made g.R.Rule.units c.args.outside code_sub (sub_over g.R.Rule.made g.R.Rule.units c.args.outside) _ _ _ _ _ _ _
-    c.walk-so_far-in-Sub.ensures c.walk-so_far-in-Sub-2.ensures
-    c.finish-in-Sub.ensures (sub_tree _ _) (search (rules, the_lemmas))
+    c.walk-so_far-in-Sub.ensures c.walk.ensures
+    form (sub_tree _ _) (search (rules, the_lemmas))
 
-pub walk-returns-in-Mul : goal.walk-returns-in-Mul
-walk-returns-in-Mul g t c =
+pub walk_parts-returns-in-Mul : goal.walk_parts-returns-in-Mul
+walk_parts-returns-in-Mul g t c = λ e end behind form.
     over_two g.R.Rule.made g.R.Rule.units c.args.outside code_mul (mul_over g.R.Rule.made g.R.Rule.units c.args.outside) _ _ _ _ _ _ _
-    c.walk-so_far-in-Mul.ensures c.walk-so_far-in-Mul-2.ensures
-    c.finish-in-Mul.ensures (mul_tree _ _) (search (rules, the_lemmas))
+    c.walk-so_far-in-Mul.ensures c.walk-in-Mul.ensures
+    form (mul_tree _ _) (search (rules, the_lemmas))
 
-pub walk-returns-in-Diff : goal.walk-returns-in-Diff
-walk-returns-in-Diff g t c =
+pub walk_parts-returns-in-Diff : goal.walk_parts-returns-in-Diff
+walk_parts-returns-in-Diff g t c = λ e end behind form.
     over_two g.R.Rule.made g.R.Rule.units c.args.outside code_diff (diff_over g.R.Rule.made g.R.Rule.units c.args.outside) _ _ _ _ _ _ _
-    c.walk-so_far-in-Diff.ensures c.walk-so_far-in-Diff-2.ensures
-    c.finish-in-Diff.ensures (diff_tree _ _) (search (rules, the_lemmas))
+    c.walk-so_far-in-Diff.ensures c.walk-in-Diff.ensures
+    form (diff_tree _ _) (search (rules, the_lemmas))
 
-pub walk-returns-in-Subset : goal.walk-returns-in-Subset
-walk-returns-in-Subset g t c =
+pub walk_parts-returns-in-Subset : goal.walk_parts-returns-in-Subset
+walk_parts-returns-in-Subset g t c = λ e end behind form.
     over_two g.R.Rule.made g.R.Rule.units c.args.outside code_subset (subset_over g.R.Rule.made g.R.Rule.units c.args.outside) _ _ _ _ _ _ _
-    c.walk-so_far-in-Subset.ensures c.walk-so_far-in-Subset-2.ensures
-    c.finish-in-Subset.ensures (subset_tree _ _) (search (rules, the_lemmas))
+    c.walk-so_far-in-Subset.ensures c.walk-in-Subset.ensures
+    form (subset_tree _ _) (search (rules, the_lemmas))
 
-pub walk-returns-in-Fresh : goal.walk-returns-in-Fresh
-walk-returns-in-Fresh g t c =
+pub walk_parts-returns-in-Fresh : goal.walk_parts-returns-in-Fresh
+walk_parts-returns-in-Fresh g t c = λ e end behind form.
     over_two g.R.Rule.made g.R.Rule.units c.args.outside code_fresh (fresh_over g.R.Rule.made g.R.Rule.units c.args.outside) _ _ _ _ _ _ _
-    c.walk-so_far-in-Fresh.ensures c.walk-so_far-in-Fresh-2.ensures
-    c.finish-in-Fresh.ensures (fresh_tree _ _) (search (rules, the_lemmas))
+    c.walk-so_far-in-Fresh.ensures c.walk-in-Fresh.ensures
+    form (fresh_tree _ _) (search (rules, the_lemmas))
 
-pub walk-returns-in-And : goal.walk-returns-in-And
-walk-returns-in-And g t c =
+pub walk_parts-returns-in-And : goal.walk_parts-returns-in-And
+walk_parts-returns-in-And g t c = λ e end behind form.
     over_two g.R.Rule.made g.R.Rule.units c.args.outside code_and (and_over g.R.Rule.made g.R.Rule.units c.args.outside) _ _ _ _ _ _ _
-    c.walk-so_far-in-And.ensures c.walk-so_far-in-And-2.ensures
-    c.finish-in-And.ensures (and_tree _ _) (search (rules, the_lemmas))
+    c.walk-so_far-in-And.ensures c.walk-in-And.ensures
+    form (and_tree _ _) (search (rules, the_lemmas))
 
-pub walk-returns-in-Or : goal.walk-returns-in-Or
-walk-returns-in-Or g t c =
+pub walk_parts-returns-in-Or : goal.walk_parts-returns-in-Or
+walk_parts-returns-in-Or g t c = λ e end behind form.
     over_two g.R.Rule.made g.R.Rule.units c.args.outside code_or (or_over g.R.Rule.made g.R.Rule.units c.args.outside) _ _ _ _ _ _ _ c.walk-so_far-in-Or.ensures
-    c.walk-so_far-in-Or-2.ensures
-    c.finish-in-Or.ensures (or_tree _ _) (search (rules, the_lemmas))
+    c.walk-in-Or.ensures
+    form (or_tree _ _) (search (rules, the_lemmas))
 
-pub walk-returns-in-Neg : goal.walk-returns-in-Neg
-walk-returns-in-Neg g t c =
-    over_one g.R.Rule.made g.R.Rule.units c.args.outside code_neg (neg_over g.R.Rule.made g.R.Rule.units c.args.outside) _ _ _ _ _ c.walk_part-so_far.ensures
-    c.finish-in-Neg.ensures
+pub walk_parts-returns-in-Neg : goal.walk_parts-returns-in-Neg
+walk_parts-returns-in-Neg g t c = λ e end behind form.
+    over_one g.R.Rule.made g.R.Rule.units c.args.outside code_neg (neg_over g.R.Rule.made g.R.Rule.units c.args.outside) _ _ _ _ _ c.walk_part.ensures
+    form
     (search (rules, the_lemmas)) (search (rules, the_lemmas))
 
-pub walk-returns-in-Not : goal.walk-returns-in-Not
-walk-returns-in-Not g t c =
+pub walk_parts-returns-in-Not : goal.walk_parts-returns-in-Not
+walk_parts-returns-in-Not g t c = λ e end behind form.
     over_one g.R.Rule.made g.R.Rule.units c.args.outside code_not (not_over g.R.Rule.made g.R.Rule.units c.args.outside) _ _ _ _ _
-    c.walk_part-so_far-in-Not.ensures c.finish-in-Not.ensures
+    c.walk_part-in-Not.ensures form
     (search (rules, the_lemmas)) (search (rules, the_lemmas))
 
-pub walk-returns-in-Card : goal.walk-returns-in-Card
-walk-returns-in-Card g t c =
+pub walk_parts-returns-in-Card : goal.walk_parts-returns-in-Card
+walk_parts-returns-in-Card g t c = λ e end behind form.
     over_one g.R.Rule.made g.R.Rule.units c.args.outside code_card (card_over g.R.Rule.made g.R.Rule.units c.args.outside) _ _ _ _ _
-    c.walk_part-so_far-in-Card.ensures c.finish-in-Card.ensures
+    c.walk_part-in-Card.ensures form
     (search (rules, the_lemmas)) (search (rules, the_lemmas))
 
-pub walk-returns-in-Div : goal.walk-returns-in-Div
-walk-returns-in-Div g t c =
-    over_div g.R.Rule.made g.R.Rule.units c.args.outside c.in-Div.k _ _ _ _ _ c.walk_part-so_far-in-Div.ensures c.finish-in-Div.ensures
+pub walk_parts-returns-in-Div : goal.walk_parts-returns-in-Div
+walk_parts-returns-in-Div g t c = λ e end behind form.
+    over_div g.R.Rule.made g.R.Rule.units c.args.outside c.in-Div.k _ _ _ _ _ c.walk_part-in-Div.ensures form
     (search (rules, the_lemmas)) (search (rules, the_lemmas))
 
-pub walk-returns-in-Mod : goal.walk-returns-in-Mod
-walk-returns-in-Mod g t c =
-    over_mod g.R.Rule.made g.R.Rule.units c.args.outside c.in-Mod.k _ _ _ _ _ c.walk_part-so_far-in-Mod.ensures c.finish-in-Mod.ensures
+pub walk_parts-returns-in-Mod : goal.walk_parts-returns-in-Mod
+walk_parts-returns-in-Mod g t c = λ e end behind form.
+    over_mod g.R.Rule.made g.R.Rule.units c.args.outside c.in-Mod.k _ _ _ _ _ c.walk_part-in-Mod.ensures form
     (search (rules, the_lemmas)) (search (rules, the_lemmas))
 
-pub walk-returns-in-Divides : goal.walk-returns-in-Divides
-walk-returns-in-Divides g t c =
-    over_divides g.R.Rule.made g.R.Rule.units c.args.outside c.in-Divides.k _ _ _ _ _ c.walk_part-so_far-in-Divides.ensures c.finish-in-Divides.ensures
+pub walk_parts-returns-in-Divides : goal.walk_parts-returns-in-Divides
+walk_parts-returns-in-Divides g t c = λ e end behind form.
+    over_divides g.R.Rule.made g.R.Rule.units c.args.outside c.in-Divides.k _ _ _ _ _ c.walk_part-in-Divides.ensures form
     (search (rules, the_lemmas)) (search (rules, the_lemmas))
 
-pub walk-returns-in-Compare : goal.walk-returns-in-Compare
-walk-returns-in-Compare g t c =
-    over_compare g.R.Rule.made g.R.Rule.units c.args.outside _ _ _ _ _ _ _ _ c.walk-so_far-in-Compare.ensures c.walk-so_far-in-Compare-2.ensures
-    c.finish-in-Compare.ensures (compare_tree _ _ _) (search (rules, the_lemmas))
+pub walk_parts-returns-in-Compare : goal.walk_parts-returns-in-Compare
+walk_parts-returns-in-Compare g t c = λ e end behind form.
+    over_compare g.R.Rule.made g.R.Rule.units c.args.outside _ _ _ _ _ _ _ _ c.walk-so_far-in-Compare.ensures c.walk-in-Compare.ensures
+    form (compare_tree _ _ _) (search (rules, the_lemmas))
 
-pub walk-returns-in-Slice : goal.walk-returns-in-Slice
-walk-returns-in-Slice g t c =
+pub walk_parts-returns-in-Slice : goal.walk_parts-returns-in-Slice
+walk_parts-returns-in-Slice g t c = λ e end behind form.
     let part1 = ap code_tree (c.deref_mut-in-Slice.ensures.value ∙ ap (λ b. b.value) c.in-Slice.set-is) in
     let part2 = ap code_tree (c.deref_mut-in-Slice-2.ensures.value ∙ ap (λ b. b.value) c.in-Slice.from-is) in
     let part3 = ap code_tree (c.deref_mut-in-Slice-3.ensures.value ∙ ap (λ b. b.value) c.in-Slice.n-is) in
     over_three g.R.Rule.made g.R.Rule.units c.args.outside code_slice (slice_over g.R.Rule.made g.R.Rule.units c.args.outside) _ _ _ _ _ _ _ _ _
     c.walk-so_far-in-Slice.ensures c.walk-so_far-in-Slice-2.ensures
-    c.walk-so_far-in-Slice-3.ensures c.finish-in-Slice.ensures (slice_tree _ _ _)
+    c.walk-in-Slice.ensures form (slice_tree _ _ _)
     (ap code_tree c.in-Slice.is ∙ slice_tree _ _ _ ∙ sym (three_same code_slice part1 part2 part3))
 
-pub walk-returns-in-If : goal.walk-returns-in-If
-walk-returns-in-If g t c =
+pub walk_parts-returns-in-If : goal.walk_parts-returns-in-If
+walk_parts-returns-in-If g t c = λ e end behind form.
     let part1 = ap code_tree (c.deref_mut-in-If.ensures.value ∙ ap (λ b. b.value) c.in-If.test-is) in
     let part2 = ap code_tree (c.deref_mut-in-If-2.ensures.value ∙ ap (λ b. b.value) c.in-If.yes-is) in
     let part3 = ap code_tree (c.deref_mut-in-If-3.ensures.value ∙ ap (λ b. b.value) c.in-If.no-is) in
     over_three g.R.Rule.made g.R.Rule.units c.args.outside code_if (if_over g.R.Rule.made g.R.Rule.units c.args.outside) _ _ _ _ _ _ _ _ _
     c.walk-so_far-in-If.ensures c.walk-so_far-in-If-2.ensures
-    c.walk-so_far-in-If-3.ensures c.finish-in-If.ensures (if_tree _ _ _) (ap code_tree c.in-If.is ∙ if_tree _ _ _ ∙ sym (three_same code_if part1 part2 part3))
+    c.walk-in-If.ensures form (if_tree _ _ _) (ap code_tree c.in-If.is ∙ if_tree _ _ _ ∙ sym (three_same code_if part1 part2 part3))
 
-pub walk-returns-in-Lit : goal.walk-returns-in-Lit
-walk-returns-in-Lit g t c = leaf g.R.Rule.made g.R.Rule.units c.args.outside _ (code_lit c.in-Lit.field-0) _ (search (rules, the_lemmas)) refl refl
-    c.finish-in-Lit.ensures
+pub walk_parts-returns-in-Lit : goal.walk_parts-returns-in-Lit
+walk_parts-returns-in-Lit g t c = λ e end behind form. leaf g.R.Rule.made g.R.Rule.units c.args.outside _ (code_lit c.in-Lit.field-0) _ (search (rules, the_lemmas)) refl refl
+    form
 
-pub walk-returns-in-Truth : goal.walk-returns-in-Truth
-walk-returns-in-Truth g t c = leaf g.R.Rule.made g.R.Rule.units c.args.outside _ (code_truth c.in-Truth.field-0) _ (search (rules, the_lemmas)) refl refl
-    c.finish-in-Truth.ensures
+pub walk_parts-returns-in-Truth : goal.walk_parts-returns-in-Truth
+walk_parts-returns-in-Truth g t c = λ e end behind form. leaf g.R.Rule.made g.R.Rule.units c.args.outside _ (code_truth c.in-Truth.field-0) _ (search (rules, the_lemmas)) refl refl
+    form
 
-pub walk-returns-in-Var : goal.walk-returns-in-Var
-walk-returns-in-Var g t c = leaf g.R.Rule.made g.R.Rule.units c.args.outside _ (code_var c.in-Var.field-0) _ (search (rules, the_lemmas)) refl refl
-    c.finish-in-Var.ensures
+pub walk_parts-returns-in-Var : goal.walk_parts-returns-in-Var
+walk_parts-returns-in-Var g t c = λ e end behind form. leaf g.R.Rule.made g.R.Rule.units c.args.outside _ (code_var c.in-Var.field-0) _ (search (rules, the_lemmas)) refl refl
+    form
 
 pub walk_all-loop-code-init : goal.walk_all-loop-code-init
 walk_all-loop-code-init g t c = (codes_begin g.R.Rule.made g.R.Rule.units c.args.outside _ _ (search rules), same_begin _ _ _ (search rules))
