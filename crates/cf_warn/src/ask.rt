@@ -16,7 +16,7 @@ use cf_eval::run::run_code;
 use cf_eval::value::{Outcome, Value};
 use cf_tree::base::Base;
 use cf_tree::code::Code;
-use cf_tree::memory::NoMemory;
+use cf_tree::memory::{NoMemory, without};
 use cf_tree::rel::Rel;
 use std::alloc::Global;
 
@@ -36,7 +36,11 @@ pub(crate) fn ask(alloc: Global, outputs: &[Base], rel: &Rel) -> Result<Asked, N
     ensures { IfOk result (IsAsked outputs.now (rel_tree rel.now)) }
 {
     match solve(alloc, &[], outputs, rel) {
-        Ok(solved) => run(alloc, outputs, rel, &question(solved)),
+        Ok(solved) => {
+            let code = question(solved);
+            let asked = run(alloc, outputs, rel, &code);
+            without(code, asked)
+        }
         Err(ChooseFault::Refused(refusal)) => Ok(Asked::Undecided(Doubt::Refused(refusal))),
         Err(ChooseFault::NoMemory) => Err(NoMemory),
     }

@@ -3,7 +3,7 @@ ghost use Rattle.std.specs.Prelude.{ℤ, ◌≡◌, [], ◌∷◌, IfOk};
 ghost use Rattle.std.specs.List.{fold};
 ghost use Rattle.cf_tree.specs.declared.base.Base.TheVariants as bases;
 ghost use Rattle.cf_tree.specs.declared.base.Order.TheVariants.{Eq};
-ghost use Rattle.cf_tree.specs.RelTree.{rel_and, rel_compare, term_lit};
+ghost use Rattle.cf_tree.specs.RelTree.{rel_compare, rel_divides, term_lit, term_sub, term_var};
 ghost use Rattle.cf_tree.specs.RelView.{rel_tree, term_tree};
 ghost use Rattle.cf_tree.specs.Typing.{one};
 ghost use Rattle.cf_choose.specs.Solved.{IsOf};
@@ -49,8 +49,21 @@ pub fn covers(alloc: Global, classes: &[Class]) -> Result<Cover, NoMemory>
     ensures { IfOk result (IsCover classes.now) }
 {
     let rel = covered(alloc, classes)?;
-    match solve(alloc, &[Base::Int], &[Base::Int], &rel) {
-        Ok(solved) => decided(alloc, classes, &without(rel, solved)),
+    let cover = of_question(alloc, classes, &rel);
+    without(rel, cover)
+}
+
+// What the question tells of the classes.
+fn of_question(alloc: Global, classes: &[Class], rel: &Rel) -> Result<Cover, NoMemory>
+    requires classes { AreClasses classes.now }
+    requires rel { rel_tree rel.now ≡ covered classes.now }
+    ensures { IfOk result (IsCover classes.now) }
+{
+    match solve(alloc, &[Base::Int], &[Base::Int], rel) {
+        Ok(solved) => {
+            let cover = decided(alloc, classes, &solved);
+            without(solved, cover)
+        }
         Err(ChooseFault::Refused(refusal)) => Ok(Cover::Undecided(Doubt::Refused(refusal))),
         Err(ChooseFault::NoMemory) => Err(NoMemory),
     }
@@ -60,27 +73,26 @@ pub fn covers(alloc: Global, classes: &[Class]) -> Result<Cover, NoMemory>
 fn covered(alloc: Global, classes: &[Class]) -> Result<Rel, NoMemory>
     ensures { IfOk result (λ rel. rel_tree rel ≡ covered classes.now) }
 {
-    let some = in_some(alloc, classes)?;
-    match equal(alloc, Term::Var(1), 0) {
-        Ok(zero) => and(alloc, zero, some),
-        Err(fault) => Err(without(some, fault)),
+    let zero = equal(alloc, 1, 0)?;
+    match in_some(alloc, classes) {
+        Ok(some) => Ok(Rel::And(zero, some)),
+        Err(fault) => Err(without(zero, fault)),
     }
 }
 
 // That the number of level 0 is in one of the classes.
-fn in_some(alloc: Global, classes: &[Class]) -> Result<Rel, NoMemory>
-    ensures { IfOk result (λ rel. rel_tree rel ≡ in_some classes.now) }
+fn in_some(alloc: Global, classes: &[Class]) -> Result<Box<Rel>, NoMemory>
+    ensures { IfOk result (λ rel. rel_tree rel.value ≡ in_some classes.now) }
 {
-    let Some((class, rest)) = classes.split_first() else {
-        return Ok(Rel::False);
-    };
-    let first = in_class(alloc, *class)?;
-    or_in_some(alloc, first, rest)
+    match classes.split_first() {
+        Some((class, rest)) => or_in_some(alloc, in_class(alloc, *class)?, rest),
+        None => Ok(Box::new(alloc, Rel::False)?),
+    }
 }
 
 // That the relation before holds, or that the number is in one of the classes.
-fn or_in_some(alloc: Global, before: Rel, classes: &[Class]) -> Result<Rel, NoMemory>
-    ensures { IfOk result (λ rel. rel_tree rel ≡ fold or_in_class (rel_tree before) classes.now) }
+fn or_in_some(alloc: Global, before: Box<Rel>, classes: &[Class]) -> Result<Box<Rel>, NoMemory>
+    ensures { IfOk result (λ rel. rel_tree rel.value ≡ fold or_in_class (rel_tree before.value) classes.now) }
 {
     let mut some = before;
     let mut rest = classes;
@@ -92,47 +104,50 @@ fn or_in_some(alloc: Global, before: Rel, classes: &[Class]) -> Result<Rel, NoMe
 }
 
 // That the relation before holds, or that the number is in the class.
-fn or_in_class(alloc: Global, before: Rel, class: Class) -> Result<Rel, NoMemory>
-    ensures { IfOk result (λ rel. rel_tree rel ≡ or_in_class (rel_tree before) class) }
+fn or_in_class(alloc: Global, before: Box<Rel>, class: Class) -> Result<Box<Rel>, NoMemory>
+    ensures { IfOk result (λ rel. rel_tree rel.value ≡ or_in_class (rel_tree before.value) class) }
 {
     match in_class(alloc, class) {
-        Ok(test) => Ok(Rel::Or(Box::new(alloc, before)?, Box::new(alloc, test)?)),
+        Ok(test) => Ok(Box::new(alloc, Rel::Or(before, test))?),
         Err(fault) => Err(without(before, fault)),
     }
 }
 
 // That the number is in the class.
-fn in_class(alloc: Global, class: Class) -> Result<Rel, NoMemory>
-    ensures { IfOk result (λ rel. rel_tree rel ≡ in_class class) }
+fn in_class(alloc: Global, class: Class) -> Result<Box<Rel>, NoMemory>
+    ensures { IfOk result (λ rel. rel_tree rel.value ≡ in_class class) }
 {
     match class {
-        Class::Point(c) => equal(alloc, Term::Var(0), c),
-        Class::Residue { g, r } => {
-            let number = Box::new(alloc, Term::Var(0))?;
-            let left = Box::new(alloc, Term::Lit(r))?;
-            let of = Box::new(alloc, Term::Sub(number, left))?;
-            Ok(Rel::Divides { k: g, of })
-        }
+        Class::Point(c) => equal(alloc, 0, c),
+        Class::Residue { g, r } => leaves(alloc, g, r),
     }
 }
 
-// That the number form is this number.
-fn equal(alloc: Global, left: Term, n: i128) -> Result<Rel, NoMemory>
-    ensures { IfOk result (λ rel. rel_tree rel ≡ rel_compare Eq (term_tree left) (term_lit n)) }
+// That the number leaves the remainder.
+fn leaves(alloc: Global, g: i128, r: i128) -> Result<Box<Rel>, NoMemory>
+    ensures { IfOk result (λ rel. rel_tree rel.value ≡ rel_divides g (term_sub (term_var 0) (term_lit r))) }
 {
-    let left = Box::new(alloc, left)?;
-    let right = Box::new(alloc, Term::Lit(n))?;
-    Ok(Rel::Compare {
-        order: Order::Eq,
-        left,
-        right,
-    })
+    let (number, left) = sides(alloc, 0, r)?;
+    let of = Box::new(alloc, Term::Sub(number, left))?;
+    Ok(Box::new(alloc, Rel::Divides { k: g, of })?)
 }
 
-fn and(alloc: Global, a: Rel, b: Rel) -> Result<Rel, NoMemory>
-    ensures { IfOk result (λ rel. rel_tree rel ≡ rel_and (rel_tree a) (rel_tree b)) }
+// That the number of the level is this number.
+fn equal(alloc: Global, level: u32, n: i128) -> Result<Box<Rel>, NoMemory>
+    ensures { IfOk result (λ rel. rel_tree rel.value ≡ rel_compare Eq (term_var level) (term_lit n)) }
 {
-    Ok(Rel::And(Box::new(alloc, a)?, Box::new(alloc, b)?))
+    let (left, right) = sides(alloc, level, n)?;
+    let order = Order::Eq;
+    Ok(Box::new(alloc, Rel::Compare { order, left, right })?)
+}
+
+// The number of the level, and this number.
+fn sides(alloc: Global, level: u32, n: i128) -> Result<(Box<Term>, Box<Term>), NoMemory>
+    ensures { IfOk result (λ sides. (term_tree sides.0.value ≡ term_var level) × (term_tree sides.1.value ≡ term_lit n)) }
+{
+    let left = Box::new(alloc, Term::Var(level))?;
+    let right = Box::new(alloc, Term::Lit(n))?;
+    Ok((left, right))
 }
 
 // The verdict on the solved question.

@@ -63,10 +63,8 @@ fn ask_written(alloc: Global, solved: &Solved, params: &[u32]) -> Result<Asked, 
         (none solved.now.scope.items solved.now.outputs.items (rel_tree solved.now.rel))) }
 {
     let question = none(alloc, solved, params)?;
-    match ask_none(alloc, solved, &question.outputs, &question.rel) {
-        Ok(asked) => Ok(asked),
-        Err(fault) => Err(without(question, fault)),
-    }
+    let asked = ask_none(alloc, solved, &question.outputs, &question.rel);
+    without(question, asked)
 }
 
 // What the written question answers.

@@ -5,7 +5,7 @@ use Rattle.cf_warn.specs.Covers.{or_in_class}
 use Rattle.cf_warn.proofs.covers.or_in_some.Given as goal
 
 abbrev pub invariant-loop-class : goal.invariant-loop-class
-invariant-loop-class l = fold or_in_class (rel_tree l.some) l.rest ≡ fold or_in_class (rel_tree l.fn.before) l.classes
+invariant-loop-class l = fold or_in_class (rel_tree l.some.value) l.rest ≡ fold or_in_class (rel_tree l.fn.before.value) l.classes
 
 abbrev pub decreases-loop-class : goal.decreases-loop-class
 decreases-loop-class l = length l.rest
