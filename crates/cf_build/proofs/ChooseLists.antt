@@ -15,4 +15,4 @@ questions_of_push [] d = append-nil (questions d.body)
 questions_of_push (c ∷ ds) d = ap (λ qs. questions c.body ++ qs) (questions_of_push ds d) ∙
     sym (append_assoc (questions c.body) (questions_of ds) (questions d.body))
 
-pub ruleset choose_lists = (questions_push, questions_of_push, append_assoc, append-nil, map-append)
+pub ruleset choose_lists = (append_assoc, append-nil, map-append)

@@ -23,7 +23,7 @@ use cf_pass::Pass;
 use cf_program::typed::Typed;
 use cf_tree::code::Code;
 use cf_tree::expr::Def;
-use cf_tree::memory::NoMemory;
+use cf_tree::memory::{NoMemory, without};
 use cf_tree::target::{RawTarget, Target};
 use std::alloc::Global;
 
@@ -100,8 +100,12 @@ fn target(alloc: Global, def: &Def, code: Code) -> Result<RawTarget, NoMemory>
     ensures { IfOk result (λ t. (t.params.items ≡ bases_of def.now.params.items) × (t.results.items ≡ def.now.results.items) ×
         (code_tree t.code ≡ code_tree code)) }
 {
-    let params = bases(alloc, &def.params)?;
-    let results = Vec::from_slice(alloc, &def.results)?;
+    let Ok(params) = bases(alloc, &def.params) else {
+        return Err(without(code, NoMemory));
+    };
+    let Ok(results) = Vec::from_slice(alloc, &def.results) else {
+        return Err(without(code, NoMemory));
+    };
     Ok(RawTarget {
         params,
         results,

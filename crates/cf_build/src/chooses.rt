@@ -1,8 +1,7 @@
 //! The chooses of a program.
-#![tactic(auto, using(crate::proofs::ChooseLists::choose_lists))]
-
 ghost use Rattle.std.specs.Prelude.{◌≡◌, ◌++◌, IfOk, OnOk, map, All};
 ghost use Rattle.cf_tree.specs.DefView.{def_tree};
+ghost use Rattle.cf_tree.specs.ExprTree.{expr_choose};
 ghost use Rattle.cf_tree.specs.ExprView.{expr_tree, expr_trees};
 ghost use Rattle.cf_tree.specs.RelView.{rel_tree};
 ghost use Rattle.cf_program.specs.NoMatch.{HasNoMatch, HaveNoMatch};
@@ -64,6 +63,7 @@ fn collect(alloc: Global, defs: &[Def]) -> Result<Vec<Choose>, NoMemory>
 
 // The chooses of the expression, behind those found before.
 #[cycle(collect)]
+#[tactic(auto, using(crate::proofs::ChooseLists::choose_lists))]
 fn collect_expr(alloc: Global, expr: &Expr, chooses: &mut Vec<Choose>) -> Result<(), NoMemory>
     requires no_match { HasNoMatch (expr_tree expr.now) }
     ensures { OnOk result (map question_of chooses.new.items ≡ map question_of chooses.old.items ++ questions (expr_tree expr.now)) }
@@ -105,10 +105,7 @@ fn collect_expr(alloc: Global, expr: &Expr, chooses: &mut Vec<Choose>) -> Result
             scope,
             outputs,
             rel,
-        } => {
-            chooses.push(copied(alloc, *number, scope, outputs, rel)?)?;
-            Ok(())
-        }
+        } => add(alloc, *number, scope, outputs, rel, chooses),
         Expr::Match { .. } => unreachable!(),
     }
 }
@@ -122,6 +119,23 @@ fn collect_all(alloc: Global, exprs: &[Expr], chooses: &mut Vec<Choose>) -> Resu
     for expr in exprs {
         collect_expr(alloc, expr, chooses)?;
     }
+    Ok(())
+}
+
+// Puts a copy of a choose behind those found before.
+#[tactic(auto, using(crate::proofs::ChooseLists::choose_lists))]
+fn add(
+    alloc: Global,
+    number: u32,
+    scope: &[Param],
+    outputs: &[Base],
+    rel: &Rel,
+    chooses: &mut Vec<Choose>,
+) -> Result<(), NoMemory>
+    ensures { OnOk result (map question_of chooses.new.items ≡ map question_of chooses.old.items ++
+        questions (expr_choose number scope.now outputs.now (rel_tree rel.now))) }
+{
+    chooses.push(copied(alloc, number, scope, outputs, rel)?)?;
     Ok(())
 }
 

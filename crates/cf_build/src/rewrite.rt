@@ -9,7 +9,7 @@ ghost use Rattle.cf_build.specs.Rewritten.{IsRewritten};
 
 use cf_pass::Pass;
 use cf_tree::code::Code;
-use cf_tree::memory::NoMemory;
+use cf_tree::memory::{NoMemory, without};
 use cf_tree::target::{RawTarget, Target};
 use std::alloc::Global;
 
@@ -28,7 +28,7 @@ pub(crate) fn rewritten(
     ensures no_turn { IfErr result (λ _. map (λ p. turns p) passes.new.items ≡ map (λ p. turns p) passes.old.items) }
 {
     let Ok(outside) = u32::try_from(raw.params.len()) else {
-        return Err(NoMemory);
+        return Err(without(raw, NoMemory));
     };
     Ok(rewritten_behind(alloc, outside, raw, passes))
 }

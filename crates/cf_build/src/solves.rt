@@ -16,7 +16,7 @@ use cf_choose::solve::solve;
 use cf_choose::solved::Solved;
 use cf_program::typed::Typed;
 use cf_tree::base::Text;
-use cf_tree::memory::NoMemory;
+use cf_tree::memory::{NoMemory, without};
 use std::alloc::Global;
 
 /// A solved choose of a program: its number, the names of the variables in scope by level, and its
@@ -90,8 +90,10 @@ fn named(alloc: Global, choose: &Choose, solved: Solved) -> Result<SolvedChoose,
     requires solved { IsOf choose.now.scope.items choose.now.outputs.items (rel_tree choose.now.rel) solved }
     ensures { QuestionAnswer (question_of choose.now) result }
 {
-    let names = copies(alloc, &choose.names)?;
-    Ok(numbered_choose(choose.number, names, solved))
+    match copies(alloc, &choose.names) {
+        Ok(names) => Ok(numbered_choose(choose.number, names, solved)),
+        Err(_) => Err(without(solved, ChooseFault::NoMemory)),
+    }
 }
 
 // A solved choose of that number.
