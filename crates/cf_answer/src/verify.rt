@@ -1,5 +1,5 @@
 //! Checking the steps of a file against a source.
-ghost use Rattle.std.specs.Prelude.{◌≡◌, ◌≤◌, ◌<◌, ◌+◌, ◌-◌, ◌^◌, ◌++◌, ◌∷◌, [], codes, List, ℕ, Option, length, map, flat_map, IfOk, IfErr, OnOk, IsErrOf};
+ghost use Rattle.std.specs.Prelude.{◌≡◌, ◌≤◌, ◌<◌, ◌-◌, ◌^◌, ◌++◌, ◌∷◌, [], codes, List, ℕ, Option, length, map, flat_map, IfOk, IfErr, OnOk, IsErrOf};
 ghost use Rattle.cf_io.specs.Causes.{one_more};
 ghost use Rattle.cf_cases.specs.Holding.{EachOf};
 ghost use Rattle.cf_cert.specs.Laws.{IsQuestion};
