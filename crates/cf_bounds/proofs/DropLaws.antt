@@ -12,11 +12,11 @@ use Rattle.cf_linear.proofs.FormedLemmas.{kinds_from}
 use Rattle.cf_bounds.specs.declared.dropping.Dropped.{Dropped}
 use Rattle.cf_bounds.specs.Exact.{IsFree, AreExact}
 use Rattle.cf_bounds.specs.Sides.{side}
-use Rattle.cf_bounds.specs.Dropping.{rest_of, dropped_answer, pairs_pass, with_rows}
+use Rattle.cf_bounds.specs.Dropping.{without_inequalities, dropped_answer, pairs_pass, with_rows}
 use Rattle.cf_bounds.proofs.OwesLemmas.{dropped_step}
 use Rattle.cf_bounds.proofs.FormedAgain.{dropped_formed}
 
-pub dropped_is : (m r : System) (x : ℕ) (a : Answer) (all low high rows : List Row) (w : How) → r ≡ rest_of m → all ≡ m.inequalities →
+pub dropped_is : (m r : System) (x : ℕ) (a : Answer) (all low high rows : List Row) (w : How) → r ≡ without_inequalities m → all ≡ m.inequalities →
     low ≡ side true x all → high ≡ side false x all →
     rows ≡ free_of x all ++ pairs_of x low high → w ≡ how_between x low high → a ≡ with_rows r x rows w → a ≡ dropped m x
 unfolding dropped

@@ -124,9 +124,9 @@ kind (pos zero) = inl refl
 kind (pos (suc n)) = inr (inl (lt-ltb 0 (suc n) (omega arith)))
 kind (negsuc n) = inr (inr refl)
 
-rest_of : (Q : Row → Type 0) (b : Bool) (r : Row) (rows : List Row) → EachRow Q (cond b (r ∷ rows) rows) → EachRow Q rows
-rest_of Q true r rows h = h.1
-rest_of Q false r rows h = h
+each_of_rest : (Q : Row → Type 0) (b : Bool) (r : Row) (rows : List Row) → EachRow Q (cond b (r ∷ rows) rows) → EachRow Q rows
+each_of_rest Q true r rows h = h.1
+each_of_rest Q false r rows h = h
 
 first_of : (Q : Row → Type 0) (b : Bool) (r : Row) (rows : List Row) → b ≡ true → EachRow Q (cond b (r ∷ rows) rows) → Q r
 first_of Q true r rows e h = h.0
@@ -138,8 +138,8 @@ all_kinds Q x (r ∷ rows) f l u = (
   ⊎_elim (λ e. first_of Q (is_zero (entry r x)) r (free_of x rows) e f)
       (λ o. ⊎_elim (λ e. first_of Q (is_positive (entry r x)) r (lowers x rows) e l) (λ e. first_of Q (int_lt (entry r x) (pos 0)) r (uppers x rows) e u) o)
       (kind (entry r x)),
-  all_kinds Q x rows (rest_of Q (is_zero (entry r x)) r (free_of x rows) f) (rest_of Q (is_positive (entry r x)) r (lowers x rows) l)
-      (rest_of Q (int_lt (entry r x) (pos 0)) r (uppers x rows) u),
+  all_kinds Q x rows (each_of_rest Q (is_zero (entry r x)) r (free_of x rows) f) (each_of_rest Q (is_positive (entry r x)) r (lowers x rows) l)
+      (each_of_rest Q (int_lt (entry r x) (pos 0)) r (uppers x rows) u),
 )
 
 -- ---- the step

@@ -15,7 +15,7 @@ use Rattle.cf_linear.proofs.SubstituteLemmas.{AreBelow-without, two_entries, Are
 use Rattle.cf_linear.proofs.FormedLemmas.{low_from}
 use Rattle.cf_bounds.specs.declared.searching.Searched.{Searched}
 use Rattle.cf_bounds.specs.Exact.{IsFree, AreExact}
-use Rattle.cf_bounds.specs.Dropping.{rest_of}
+use Rattle.cf_bounds.specs.Dropping.{without_inequalities}
 use Rattle.cf_bounds.specs.Searching.{searched_answer, found_from, found_with, equation_start}
 use Rattle.cf_bounds.proofs.ListLemmas.{all_below, comb_before}
 use Rattle.cf_bounds.proofs.SearchLemmas.{sided, searched_one}
@@ -25,7 +25,7 @@ use Rattle.cf_bounds.proofs.SearchFormed.{searched_formed}
 pub search_below : (m : System) → Formed m → EachRow (AreBelow m.next) m.inequalities
 search_below m f = all_below m.next m.inequalities (low_from m f).nonneg
 
-pub searched_is : (m r : System) (rows : List Row) (x : ℕ) (lower : Bool) (f : Found) (a : Answer) → r ≡ rest_of m → rows ≡ m.inequalities →
+pub searched_is : (m r : System) (rows : List Row) (x : ℕ) (lower : Bool) (f : Found) (a : Answer) → r ≡ without_inequalities m → rows ≡ m.inequalities →
     f ≡ found_all x lower (found_from r.next) rows → a ≡ searched_as r f → a ≡ searched m x lower
 unfolding searched
 searched_is m r rows x lower f a d k e g = g ∙ rw (e, d, k) refl

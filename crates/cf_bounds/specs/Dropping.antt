@@ -15,8 +15,8 @@ abbrev pub bound_pair : Divided → Row × ℤ
 bound_pair b = (b.row, b.k)
 
 -- the system without its inequalities
-abbrev pub rest_of : System → System
-rest_of m = record { known = m.known; unknown = m.unknown; next = m.next; equations = m.equations; inequalities = []; needs = m.needs }
+abbrev pub without_inequalities : System → System
+without_inequalities m = record { known = m.known; unknown = m.unknown; next = m.next; equations = m.equations; inequalities = []; needs = m.needs }
 
 -- whether a pair passes the limit
 unfoldable pub pairs_pass : ℕ → List Row → List Row → Bool

@@ -5,7 +5,7 @@ ghost use Rattle.cf_linear.specs.Rows.{AreBelow, IsRow};
 ghost use Rattle.cf_linear.specs.Steps.{has_unknown, unknown_part, known_part, common};
 ghost use Rattle.cf_linear.specs.Views.{system_of};
 ghost use Rattle.cf_bounds.specs.Sides.{divides_known, divided_by};
-ghost use Rattle.cf_bounds.specs.Dropping.{rest_of};
+ghost use Rattle.cf_bounds.specs.Dropping.{without_inequalities};
 
 use crate::unknowns::Unknowns;
 use cf_linear::row::Row;
@@ -134,7 +134,7 @@ pub(crate) fn joined_rows(first: Vec<Row>, second: Vec<Row>) -> Result<Vec<Row>,
 
 // The system without its inequalities, and these.
 pub(crate) fn split_system(alloc: Global, system: System) -> (System, Vec<Row>)
-    ensures rest { system_of result.0 ≡ rest_of (system_of system) }
+    ensures rest { system_of result.0 ≡ without_inequalities (system_of system) }
     ensures next { result.0.next ≡ system.next }
     ensures rows { result.1.items ≡ system.inequalities.items }
 {

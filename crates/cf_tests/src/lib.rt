@@ -10,6 +10,8 @@ mod faults;
 #[cfg(test)]
 mod interrupted;
 #[cfg(test)]
+mod numbers;
+#[cfg(test)]
 mod objects;
 #[cfg(test)]
 mod outside;
@@ -17,8 +19,6 @@ mod outside;
 mod passes;
 #[cfg(test)]
 mod printing;
-#[cfg(test)]
-mod streaming;
 #[cfg(test)]
 mod texts;
 #[cfg(test)]

@@ -1,11 +1,10 @@
 //! Objects outside for tests.
 ghost use Rattle.std.specs.Prelude.{◌≤◌, ◌<◌, ◌^◌, length};
 
-use cf_io::{Failed, MemShelf, Sink, Source};
+use cf_io::{Failed, MemShelf, Source};
 use cf_tree::base::{Bytes, Text};
 use cf_tree::memory::NoMemory;
 use std::alloc::Global;
-use std::cell::Cell;
 
 /// The program that picks a number whose double lies between two inputs.
 pub const ROUNDING: &str =
@@ -91,98 +90,5 @@ impl<'a> Source for Dripping<'a> {
                 Ok(copied(&[*first], into))
             }
         }
-    }
-}
-
-/// A sink that tells a cell how many bytes it took.
-#[derive(Drop)]
-pub struct Telling<'a> {
-    bytes: Vec<u8>,
-    taken: &'a Cell<usize>,
-    faults: u64,
-    ghost counted: { faults < 2 ^ 64 },
-}
-
-impl<'a> Telling<'a> {
-    pub fn new(alloc: Global, taken: &'a Cell<usize>) -> Telling<'a> {
-        Telling {
-            bytes: Vec::new(alloc),
-            taken,
-            faults: 0,
-        }
-    }
-
-    pub fn held(&self) -> &[u8] {
-        &self.bytes
-    }
-}
-
-impl<'a> Sink for Telling<'a> {
-    ghost use Rattle.std.specs.Prelude.{None};
-
-    ghost held = { λ s. None };
-
-    ghost faults = { λ s. s.faults };
-
-    fn write(&mut self, from: &[u8]) -> Result<usize, Failed> {
-        if from.is_empty() {
-            return Ok(0);
-        }
-        if self.bytes.extend_from_slice(from).is_err() {
-            self.faults = self.faults.saturating_add(1);
-            return Err(Failed);
-        }
-        self.taken.set(self.bytes.len());
-        Ok(from.len())
-    }
-}
-
-/// A source of two pieces. The second fails where the sink has taken no byte by then.
-#[derive(Drop)]
-pub struct Waiting<'a> {
-    first: &'a [u8],
-    second: &'a [u8],
-    reads: u64,
-    taken: &'a Cell<usize>,
-    faults: u64,
-    ghost counted: { faults < 2 ^ 64 },
-}
-
-impl<'a> Waiting<'a> {
-    pub fn new(first: &'a [u8], second: &'a [u8], taken: &'a Cell<usize>) -> Waiting<'a> {
-        Waiting {
-            first,
-            second,
-            reads: 0,
-            taken,
-            faults: 0,
-        }
-    }
-}
-
-impl<'a> Source for Waiting<'a> {
-    ghost use Rattle.std.specs.Prelude.{None};
-
-    ghost left = { λ s. None };
-
-    ghost faults = { λ s. s.faults };
-
-    fn read(&mut self, into: &mut [u8]) -> Result<usize, Failed> {
-        if into.is_empty() {
-            return Ok(0);
-        }
-        let number = self.reads;
-        self.reads = self.reads.saturating_add(1);
-        if number == 0 {
-            return Ok(copied(self.first, into));
-        }
-        if number > 1 {
-            return Ok(0);
-        }
-        if self.taken.get() == 0 {
-            self.faults = self.faults.saturating_add(1);
-            return Err(Failed);
-        }
-        Ok(copied(self.second, into))
     }
 }
