@@ -1,11 +1,9 @@
 //! A pass that finds no memory ends nothing: what it did stands, and the next one runs.
 ghost use Rattle.std.specs.Prelude.{◌≡◌, codes};
 
-use crate::objects::{SECONDS, shelf_of, words};
-use cf_io::{MemSink, MemSource};
+use crate::objects::{Call, NONE, SECONDS, ended};
 use cf_pass::{DropNeeds, Fold, Pass};
-use cf_top::{Status, comfusy};
-use cf_tree::base::Bytes;
+use cf_top::Status;
 use cf_tree::code::Code;
 use cf_tree::memory::NoMemory;
 use std::alloc::Global;
@@ -66,25 +64,19 @@ give (v10, v11, v9)
 #[test]
 fn a_pass_that_finds_no_memory_ends_nothing(rt: HostRuntime) -> Result<(), Fail> {
     let alloc = rt.alloc();
-    let mut words = words(alloc, "compile")?;
-    words.push(String::from_str(alloc, "--stats")?)?;
+    let call = Call {
+        command: "compile",
+        flags: &["--stats"],
+        text: SECONDS,
+        input: "",
+        faults: NONE,
+    };
     let mut passes: Vec<Box<dyn Pass>> = Vec::new(alloc);
     passes.push(Box::new(alloc, Faint { inner: Fold::new() })?)?;
     passes.push(Box::new(alloc, DropNeeds::new())?)?;
-    let mut shelf = shelf_of(alloc, SECONDS.as_bytes(), &[])?;
-    let mut input = MemSource::new(
-        Bytes {
-            bytes: Vec::new(alloc),
-        },
-        Vec::new(alloc),
-    );
-    let mut out = MemSink::new(alloc, 1000, Vec::new(alloc))?;
-    let mut err = MemSink::new(alloc, 100, Vec::new(alloc))?;
-    let status = comfusy(
-        alloc, &words, &mut shelf, &mut input, &mut out, &mut err, passes,
-    );
-    assert_eq!(rt; status, Status::Done);
-    assert_eq!(rt; out.held(), COMPILED.as_bytes());
-    assert_eq!(rt; err.held(), b"".as_slice());
+    let seen = ended(alloc, &call, passes)?;
+    assert_eq!(rt; seen.status, Status::Done);
+    assert_eq!(rt; seen.out.as_slice(), COMPILED.as_bytes());
+    assert_eq!(rt; seen.err.as_slice(), b"".as_slice());
     Ok(())
 }

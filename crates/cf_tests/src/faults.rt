@@ -1,63 +1,20 @@
 //! Each call of an object outside fails in turn.
-use crate::objects::{Dripping, REPLIES, ROUNDING, shelf_of, words};
-use cf_io::MemSink;
-use cf_top::{Status, comfusy};
+use crate::objects::{Call, Ending, Faults, NONE, REPLIES, ROUNDING, ended};
+use cf_top::Status;
 use cf_tree::memory::NoMemory;
 use std::alloc::Global;
 use std::test::Fail;
 
-const LINES: &str = "3 4\n3 3\n";
-
-// No call fails.
-const NEVER: u64 = 1000;
-
-/// How a call ended, and what the sinks held then.
-#[derive(Drop)]
-struct Ending {
-    status: Status,
-    out: Vec<u8>,
-    err: Vec<u8>,
-}
-
-/// Which calls of the objects are to fail, and how much the sink of replies has room for.
-#[derive(Clone, Copy)]
-struct Faults<'a> {
-    shelf: &'a [u64],
-    input: u64,
-    out: &'a [u64],
-    room: usize,
-    err: &'a [u64],
-}
-
-const NONE: Faults<'static> = Faults {
-    shelf: &[],
-    input: NEVER,
-    out: &[],
-    room: 100,
-    err: &[],
-};
-
-// Runs a program on the two lines.
-fn seen(alloc: Global, program: &str, faults: &Faults) -> Result<Ending, NoMemory> {
-    let words = words(alloc, "run")?;
-    let mut shelf = shelf_of(alloc, program.as_bytes(), faults.shelf)?;
-    let mut input = Dripping::new(LINES.as_bytes(), faults.input);
-    let mut out = MemSink::new(alloc, faults.room, faults.out.to_vec(alloc)?)?;
-    let mut err = MemSink::new(alloc, 100, faults.err.to_vec(alloc)?)?;
-    let status = comfusy(
-        alloc,
-        &words,
-        &mut shelf,
-        &mut input,
-        &mut out,
-        &mut err,
-        Vec::new(alloc),
-    );
-    Ok(Ending {
-        status,
-        out: out.held().to_vec(alloc)?,
-        err: err.held().to_vec(alloc)?,
-    })
+// How `run` of a program on two lines ends, where these calls fail.
+fn seen(alloc: Global, text: &str, faults: &Faults) -> Result<Ending, NoMemory> {
+    let call = Call {
+        command: "run",
+        flags: &[],
+        text,
+        input: "3 4\n3 3\n",
+        faults: *faults,
+    };
+    ended(alloc, &call, Vec::new(alloc))
 }
 
 #[test]

@@ -20,6 +20,4 @@ mod passes;
 #[cfg(test)]
 mod printing;
 #[cfg(test)]
-mod texts;
-#[cfg(test)]
 mod unreached;

@@ -1,11 +1,9 @@
 //! Passes that the caller hands in: each is called where it is asked for, and dropped once.
 ghost use Rattle.std.specs.Prelude.{◌≡◌, ◌<◌, ◌^◌, codes};
 
-use crate::objects::{ROUNDING, shelf_of, words};
-use cf_io::{MemSink, MemSource};
+use crate::objects::{Call, Faults, NONE, ROUNDING, ended};
 use cf_pass::Pass;
-use cf_top::{Status, comfusy};
-use cf_tree::base::Bytes;
+use cf_top::Status;
 use cf_tree::code::Code;
 use cf_tree::memory::NoMemory;
 use std::alloc::Global;
@@ -60,45 +58,20 @@ impl Pass for Counted {
     }
 }
 
-/// A command with its flags on a text, with one pass.
-#[derive(Clone, Copy)]
-struct Call<'a> {
-    command: &'a str,
-    flags: &'a [&'a str],
-    text: &'a str,
-    shelf_fails: &'a [u64],
-    room: usize,
-}
-
 const COMPILE: Call<'static> = Call {
     command: "compile",
     flags: &[],
     text: ROUNDING,
-    shelf_fails: &[],
-    room: 1000,
+    input: "",
+    faults: NONE,
 };
 
 // How the call ends, with a pass that tells what it sees.
-fn ended(alloc: Global, call: &Call, seen: &Rc<Seen>) -> Result<Status, NoMemory> {
-    let mut words = words(alloc, call.command)?;
-    for flag in call.flags {
-        words.push(String::from_str(alloc, *flag)?)?;
-    }
-    let mut passes: Vec<Box<dyn Pass>> = Vec::new(alloc);
+fn seen_by(alloc: Global, call: &Call, seen: &Rc<Seen>) -> Result<Status, NoMemory> {
     let seen = seen.clone()?;
+    let mut passes: Vec<Box<dyn Pass>> = Vec::new(alloc);
     passes.push(Box::new(alloc, Counted { turns: 0, seen })?)?;
-    let mut shelf = shelf_of(alloc, call.text.as_bytes(), call.shelf_fails)?;
-    let mut input = MemSource::new(
-        Bytes {
-            bytes: Vec::new(alloc),
-        },
-        Vec::new(alloc),
-    );
-    let mut out = MemSink::new(alloc, call.room, Vec::new(alloc))?;
-    let mut err = MemSink::new(alloc, 100, Vec::new(alloc))?;
-    Ok(comfusy(
-        alloc, &words, &mut shelf, &mut input, &mut out, &mut err, passes,
-    ))
+    Ok(ended(alloc, call, passes)?.status)
 }
 
 // Nothing was seen yet.
@@ -126,14 +99,17 @@ fn each_pass_is_dropped_once(rt: HostRuntime) -> Result<(), Fail> {
         (
             Status::File,
             Call {
-                shelf_fails: &[0],
+                faults: Faults {
+                    shelf: &[0],
+                    ..NONE
+                },
                 ..COMPILE
             },
         ),
         (
             Status::Output,
             Call {
-                room: 10,
+                faults: Faults { room: 10, ..NONE },
                 ..COMPILE
             },
         ),
@@ -155,7 +131,7 @@ fn each_pass_is_dropped_once(rt: HostRuntime) -> Result<(), Fail> {
     let alloc = rt.alloc();
     for (wanted, call) in calls {
         let seen = nothing_seen(alloc)?;
-        assert_eq!(rt; ended(alloc, &call, &seen)?, wanted);
+        assert_eq!(rt; seen_by(alloc, &call, &seen)?, wanted);
         assert_eq!(rt; seen.drops.get(), 1);
     }
     Ok(())
@@ -214,7 +190,7 @@ fn a_pass_is_called_once_where_it_is_asked_for(rt: HostRuntime) -> Result<(), Fa
     let alloc = rt.alloc();
     for (wanted, call) in calls {
         let seen = nothing_seen(alloc)?;
-        assert_eq!(rt; ended(alloc, &call, &seen)?, Status::Done);
+        assert_eq!(rt; seen_by(alloc, &call, &seen)?, Status::Done);
         assert_eq!(rt; seen.calls.get(), wanted);
     }
     Ok(())
