@@ -1,9 +1,9 @@
 -- The plain tree of a form whose parts were changed in place.
-use Rattle.std.proofs.Common.{◌≡◌, ℕ, ℤ, ap₂, rules}
+use Rattle.std.proofs.Common.{◌≡◌, ℕ, ℤ, rules}
 use Rattle.cf_tree.specs.declared.base.Order.{Order}
 use Rattle.cf_tree.specs.declared.code.Code.{the_lemmas}
 use Rattle.cf_tree.specs.declared.code.Code.TheViews.{Sub, Mul, Neg, Div, Mod, Compare, Divides, And, Or, Not, Diff, Subset, Card, Slice, Fresh, If, Code::Let}
-use Rattle.cf_tree.specs.CodeTree.{CodeTree, code_sub, code_mul, code_neg, code_div, code_mod, code_compare, code_divides, code_and, code_or, code_not, code_diff, code_subset, code_card, code_slice, code_fresh, code_if, code_let}
+use Rattle.cf_tree.specs.CodeTree.{code_sub, code_mul, code_neg, code_div, code_mod, code_compare, code_divides, code_and, code_or, code_not, code_diff, code_subset, code_card, code_slice, code_fresh, code_if, code_let}
 use Rattle.cf_tree.specs.CodeView.{code_tree}
 
 pub sub_tree : (a b : _) → code_tree (Sub a b) ≡ code_sub (code_tree a.value) (code_tree b.value)
@@ -56,6 +56,3 @@ if_tree a b c = search (rules, the_lemmas)
 
 pub let_tree : (first bound : ℕ) (a b : _) → code_tree (Code::Let first bound a b) ≡ code_let first bound (code_tree a.value) (code_tree b.value)
 let_tree first bound a b = search (rules, the_lemmas)
-
-pub three_same : (form : CodeTree → CodeTree → CodeTree → CodeTree) {a a' b b' c c' : CodeTree} → a ≡ a' → b ≡ b' → c ≡ c' → form a b c ≡ form a' b' c'
-three_same form e f h = ap₂ (λ g z. g z) (ap₂ form e f) h

@@ -1,7 +1,6 @@
 //! Arms whose needs can never hold, which are removed.
-ghost use Rattle.std.specs.Prelude.{◌≡◌, ◌-◌, ℕ};
+ghost use Rattle.std.specs.Prelude.{◌≡◌, ◌-◌};
 ghost use Rattle.cf_tree.specs.CodeView.{code_tree, item_tree, arm_tree, item_trees, arm_trees};
-ghost use Rattle.cf_pass.specs.Improves.{Improves};
 ghost use Rattle.cf_pass.specs.DropArms.{never_holds, some_never, is_dead, all_dead, live_arms, arms_left, without_arms, arm_count, dead_at};
 
 use cf_tree::code::{Arm, Code, Item};
@@ -9,14 +8,6 @@ use cf_tree::code::{Arm, Code, Item};
 /// Removes each arm of a solve that holds an item `need false`, and answers how many it removed. Where every arm
 /// holds one, the first arm stays. Another form stays, and so do the parts of a form.
 pub(crate) fn drop_arms(code: &mut Code) -> u64
-    ensures code { code_tree code.new ≡ without_arms (code_tree code.old) }
-    ensures improves { (outside : ℕ) → Improves outside (code_tree code.old) (code_tree code.new) }
-    ensures removed { result ≡ dead_at (code_tree code.old) }
-{
-    drop_in_code(code)
-}
-
-fn drop_in_code(code: &mut Code) -> u64
     ensures code { code_tree code.new ≡ without_arms (code_tree code.old) }
     ensures removed { result ≡ dead_at (code_tree code.old) }
 {

@@ -114,58 +114,26 @@ fn lower(fall: &Fall, code: &mut Code)
         Code::SetOf(parts) => lower_all(fall, parts),
         Code::Tuple(parts) => lower_all(fall, parts),
         Code::Sum(parts) => lower_all(fall, parts),
-        Code::Sub(a, b) => {
-            lower_part(fall, a);
-            lower_part(fall, b);
-        }
-        Code::Mul(a, b) => {
-            lower_part(fall, a);
-            lower_part(fall, b);
-        }
+        Code::Sub(a, b) => lower_two(fall, a, b),
+        Code::Mul(a, b) => lower_two(fall, a, b),
         Code::Neg(a) => lower_part(fall, a),
         Code::Div { of, .. } => lower_part(fall, of),
         Code::Mod { of, .. } => lower_part(fall, of),
         Code::Min(parts) => lower_all(fall, parts),
         Code::Max(parts) => lower_all(fall, parts),
-        Code::Compare { left, right, .. } => {
-            lower_part(fall, left);
-            lower_part(fall, right);
-        }
+        Code::Compare { left, right, .. } => lower_two(fall, left, right),
         Code::Divides { of, .. } => lower_part(fall, of),
-        Code::And(a, b) => {
-            lower_part(fall, a);
-            lower_part(fall, b);
-        }
-        Code::Or(a, b) => {
-            lower_part(fall, a);
-            lower_part(fall, b);
-        }
+        Code::And(a, b) => lower_two(fall, a, b),
+        Code::Or(a, b) => lower_two(fall, a, b),
         Code::Not(a) => lower_part(fall, a),
         Code::Union(parts) => lower_all(fall, parts),
         Code::Inter(parts) => lower_all(fall, parts),
-        Code::Diff(a, b) => {
-            lower_part(fall, a);
-            lower_part(fall, b);
-        }
-        Code::Subset(a, b) => {
-            lower_part(fall, a);
-            lower_part(fall, b);
-        }
+        Code::Diff(a, b) => lower_two(fall, a, b),
+        Code::Subset(a, b) => lower_two(fall, a, b),
         Code::Card(a) => lower_part(fall, a),
-        Code::Slice { set, from, n } => {
-            lower_part(fall, set);
-            lower_part(fall, from);
-            lower_part(fall, n);
-        }
-        Code::Fresh { avoid, n } => {
-            lower_part(fall, avoid);
-            lower_part(fall, n);
-        }
-        Code::If { test, yes, no } => {
-            lower_part(fall, test);
-            lower_part(fall, yes);
-            lower_part(fall, no);
-        }
+        Code::Slice { set, from, n } => lower_three(fall, set, from, n),
+        Code::Fresh { avoid, n } => lower_two(fall, avoid, n),
+        Code::If { test, yes, no } => lower_three(fall, test, yes, no),
         Code::Let {
             first,
             value,
@@ -173,17 +141,37 @@ fn lower(fall: &Fall, code: &mut Code)
             ..
         } => {
             lower_level(fall, first);
-            lower_part(fall, value);
-            lower_part(fall, body);
+            lower_two(fall, value, body);
         }
     }
 }
 
+// for the proof: the parts of a form are lent with their boxes
 #[cycle(lower)]
 fn lower_part(fall: &Fall, part: &mut Box<Code>)
     ensures { code_tree part.new.value ≡ moved (lowered fall.now.first fall.now.gone.items fall.now.dropped) (code_tree part.old.value) }
 {
     lower(fall, part);
+}
+
+#[cycle(lower)]
+fn lower_two(fall: &Fall, a: &mut Box<Code>, b: &mut Box<Code>)
+    ensures a { code_tree a.new.value ≡ moved (lowered fall.now.first fall.now.gone.items fall.now.dropped) (code_tree a.old.value) }
+    ensures b { code_tree b.new.value ≡ moved (lowered fall.now.first fall.now.gone.items fall.now.dropped) (code_tree b.old.value) }
+{
+    lower(fall, a);
+    lower(fall, b);
+}
+
+#[cycle(lower)]
+fn lower_three(fall: &Fall, a: &mut Box<Code>, b: &mut Box<Code>, c: &mut Box<Code>)
+    ensures a { code_tree a.new.value ≡ moved (lowered fall.now.first fall.now.gone.items fall.now.dropped) (code_tree a.old.value) }
+    ensures b { code_tree b.new.value ≡ moved (lowered fall.now.first fall.now.gone.items fall.now.dropped) (code_tree b.old.value) }
+    ensures c { code_tree c.new.value ≡ moved (lowered fall.now.first fall.now.gone.items fall.now.dropped) (code_tree c.old.value) }
+{
+    lower(fall, a);
+    lower(fall, b);
+    lower(fall, c);
 }
 
 #[cycle(lower)]

@@ -117,9 +117,16 @@ fn put_value(code: &mut Code) -> u64
 {
     match folded(code) {
         Some(value) => {
-            *code = value.code();
+            put(code, value.code());
             1
         }
         None => 0,
     }
+}
+
+// for the proof: what stood in the place is dropped by one call
+fn put<T: Drop>(place: &mut T, value: T)
+    ensures { place.new ≡ value }
+{
+    *place = value;
 }

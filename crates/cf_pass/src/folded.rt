@@ -5,7 +5,7 @@ ghost use Rattle.cf_tree.specs.CodeView.{code_tree, code_trees};
 ghost use Rattle.cf_tree.specs.Meaning.{choose_with, chosen};
 ghost use Rattle.cf_tree.specs.Numbers.{quotient, remainder};
 ghost use Rattle.cf_pass.specs.Folding.{folded_value};
-ghost use Rattle.cf_pass.specs.Literals.{values_of, IsMet, then_some, better_of, of_two, difference_of, product_of, negated_of, quotient_of, remainder_of, comparison_of, multiple_of, conjunction_of, disjunction_of, negation_of, sum_of, best_of, form_value};
+ghost use Rattle.cf_pass.specs.Literals.{values_of, met_value, IsMet, then_some, better_of, of_two, difference_of, product_of, negated_of, quotient_of, remainder_of, comparison_of, multiple_of, conjunction_of, disjunction_of, negation_of, sum_of, best_of, form_value};
 
 use crate::literal::{Literal, Side, compare, limited_literal, met_literal, read_literal};
 use cf_tree::base::Order;
@@ -24,22 +24,18 @@ fn value(code: &Code) -> Option<Literal>
 {
     match code {
         Code::Sum(parts) => sum(parts),
-        Code::Sub(a, b) => difference(met_literal(a), met_literal(b)),
-        Code::Mul(a, b) => product(met_literal(a), met_literal(b)),
-        Code::Neg(a) => negated(met_literal(a)),
-        Code::Div { of, k } => divided(met_literal(of), *k),
-        Code::Mod { of, k } => remaining(met_literal(of), *k),
+        Code::Sub(a, b) => difference(met_part(a), met_part(b)),
+        Code::Mul(a, b) => product(met_part(a), met_part(b)),
+        Code::Neg(a) => negated(met_part(a)),
+        Code::Div { of, k } => divided(met_part(of), *k),
+        Code::Mod { of, k } => remaining(met_part(of), *k),
         Code::Min(parts) => best(Side::Least, parts),
         Code::Max(parts) => best(Side::Greatest, parts),
-        Code::Compare { order, left, right } => comparison(
-            *order,
-            met_literal(left),
-            met_literal(right),
-        ),
-        Code::Divides { k, of } => multiple(met_literal(of), *k),
-        Code::And(a, b) => conjunction(met_literal(a), read_literal(b)),
-        Code::Or(a, b) => disjunction(met_literal(a), read_literal(b)),
-        Code::Not(a) => negation(met_literal(a)),
+        Code::Compare { order, left, right } => comparison(*order, met_part(left), met_part(right)),
+        Code::Divides { k, of } => multiple(met_part(of), *k),
+        Code::And(a, b) => conjunction(met_part(a), read_literal(b)),
+        Code::Or(a, b) => disjunction(met_part(a), read_literal(b)),
+        Code::Not(a) => negation(met_part(a)),
         Code::Lit(_)
         | Code::Truth(_)
         | Code::Var(_)
@@ -56,6 +52,14 @@ fn value(code: &Code) -> Option<Literal>
         | Code::Let { .. }
         | Code::Solve { .. } => None,
     }
+}
+
+// for the proof: a part is read with its box
+fn met_part(part: &Box<Code>) -> Option<Literal>
+    ensures value { values_of result ≡ met_value (code_tree part.now.value) }
+    ensures fits { IsMet result }
+{
+    met_literal(part)
 }
 
 fn difference(v: Option<Literal>, w: Option<Literal>) -> Option<Literal>

@@ -10,14 +10,14 @@ use cf_tree::base::Order;
 use cf_tree::code::Code;
 
 // What a literal gives.
-#[derive(Clone, Copy, Debug, PartialEq, Eq)]
+#[derive(Clone, Copy)]
 pub enum Literal {
     Number(i128),
     Truth(bool),
 }
 
 // Which of some numbers is taken.
-#[derive(Clone, Copy, Debug, PartialEq, Eq)]
+#[derive(Clone, Copy)]
 pub enum Side {
     Least,
     Greatest,

@@ -1,8 +1,7 @@
 //! Needs `true`, which are removed.
-ghost use Rattle.std.specs.Prelude.{◌≡◌, ℕ};
+ghost use Rattle.std.specs.Prelude.{◌≡◌};
 ghost use Rattle.cf_tree.specs.CodeView.{code_tree, item_tree, arm_tree, item_trees, arm_trees};
 ghost use Rattle.cf_tree.specs.RelSize.{capped};
-ghost use Rattle.cf_pass.specs.Improves.{Improves};
 ghost use Rattle.cf_pass.specs.DropNeeds.{always_holds, other_items, arm_without, arms_without, without_needs, needs_in, needs_in_arm, needs_in_arms, needs_at};
 
 use cf_tree::code::{Arm, Code, Item};
@@ -10,14 +9,6 @@ use cf_tree::code::{Arm, Code, Item};
 /// Removes each item `need true` of a solve, and answers how many it removed, at most `2^64 - 1`.
 /// Another form stays, and so do the parts of a form.
 pub(crate) fn drop_needs(code: &mut Code) -> u64
-    ensures code { code_tree code.new ≡ without_needs (code_tree code.old) }
-    ensures improves { (outside : ℕ) → Improves outside (code_tree code.old) (code_tree code.new) }
-    ensures removed { result ≡ capped (needs_at (code_tree code.old)) }
-{
-    drop_in_code(code)
-}
-
-fn drop_in_code(code: &mut Code) -> u64
     ensures code { code_tree code.new ≡ without_needs (code_tree code.old) }
     ensures removed { result ≡ capped (needs_at (code_tree code.old)) }
 {

@@ -2,7 +2,6 @@
 ghost use Rattle.std.specs.Prelude.{◌≡◌, ◌≤◌, ◌+◌, ◌-◌, ℕ, [], length, vec_capacity, IfOk, OnOk, OnErr, IsOk};
 ghost use Rattle.cf_tree.specs.CodeView.{code_tree, arm_tree, arm_trees, item_trees, code_trees};
 ghost use Rattle.cf_tree.specs.RelSize.{capped};
-ghost use Rattle.cf_pass.specs.Improves.{Improves};
 ghost use Rattle.cf_pass.specs.Lets.{lets_dropped, item_count, arm_dropped, arms_dropped, drop_lets_form, arm_gone, arms_gone, drop_lets_units};
 ghost use Rattle.cf_pass.specs.LetSteps.{lets_stay, settled, removed_from, dropped_to, form_to};
 
@@ -19,14 +18,6 @@ use std::alloc::Global;
 /// # Errors
 /// Want of memory. What was removed from earlier arms stays removed.
 pub(crate) fn drop_lets(alloc: Global, outside: u32, code: &mut Code) -> Result<u64, NoMemory>
-    ensures improves { Improves outside (code_tree code.old) (code_tree code.new) }
-    ensures code { OnOk result (code_tree code.new ≡ drop_lets_form outside (code_tree code.old)) }
-    ensures removed { IfOk result (λ n. n ≡ capped (drop_lets_units outside (code_tree code.old))) }
-{
-    drop_in_code(alloc, outside, code)
-}
-
-fn drop_in_code(alloc: Global, outside: u32, code: &mut Code) -> Result<u64, NoMemory>
     ensures partly { (i : ℕ) × (code_tree code.new ≡ form_to outside i (code_tree code.old)) }
     ensures code { OnOk result (code_tree code.new ≡ drop_lets_form outside (code_tree code.old)) }
     ensures removed { IfOk result (λ n. n ≡ capped (drop_lets_units outside (code_tree code.old))) }

@@ -4,7 +4,7 @@ ghost use Rattle.cf_tree.specs.CodeView.{code_tree, item_tree, arm_tree, code_tr
 ghost use Rattle.cf_tree.specs.RelSize.{capped};
 ghost use Rattle.cf_pass.specs.Improves.{Improves};
 ghost use Rattle.cf_pass.specs.Rewritten.{rewritten, units_of};
-ghost use Rattle.cf_pass.specs.Walked.{FormWalked, Walked, PartsWalked, AllWalked, GivesWalked, ItemWalked, ItemsWalked, ArmWalked, ArmsWalked};
+ghost use Rattle.cf_pass.specs.Walked.{Outcome, FormWalked, Walked, PartsWalked, AllWalked, GivesWalked, ItemWalked, ItemsWalked, ArmWalked, ArmsWalked};
 
 use crate::rule::Rule;
 use cf_tree::code::{Arm, Code, Item};
@@ -105,72 +105,40 @@ fn walk_parts<R: Rule>(
             body,
             ..
         } => {
-            let so_far = walk(alloc, rule, outside, so_far, value);
+            let so_far = walk_part(alloc, rule, outside, so_far, value);
             walk_behind(alloc, rule, outside, *count, so_far, body)
         }
         Code::Solve { arms, .. } => walk_arms(alloc, rule, outside, so_far, arms),
         Code::SetOf(parts) => walk_all(alloc, rule, outside, so_far, parts),
         Code::Tuple(parts) => walk_all(alloc, rule, outside, so_far, parts),
         Code::Sum(parts) => walk_all(alloc, rule, outside, so_far, parts),
-        Code::Sub(a, b) => {
-            let so_far = walk(alloc, rule, outside, so_far, a);
-            walk(alloc, rule, outside, so_far, b)
-        }
-        Code::Mul(a, b) => {
-            let so_far = walk(alloc, rule, outside, so_far, a);
-            walk(alloc, rule, outside, so_far, b)
-        }
+        Code::Sub(a, b) => walk_two(alloc, rule, outside, so_far, a, b),
+        Code::Mul(a, b) => walk_two(alloc, rule, outside, so_far, a, b),
         Code::Neg(a) => walk_part(alloc, rule, outside, so_far, a),
         Code::Div { of, .. } => walk_part(alloc, rule, outside, so_far, of),
         Code::Mod { of, .. } => walk_part(alloc, rule, outside, so_far, of),
         Code::Min(parts) => walk_all(alloc, rule, outside, so_far, parts),
         Code::Max(parts) => walk_all(alloc, rule, outside, so_far, parts),
-        Code::Compare { left, right, .. } => {
-            let so_far = walk(alloc, rule, outside, so_far, left);
-            walk(alloc, rule, outside, so_far, right)
-        }
+        Code::Compare { left, right, .. } => walk_two(alloc, rule, outside, so_far, left, right),
         Code::Divides { of, .. } => walk_part(alloc, rule, outside, so_far, of),
-        Code::And(a, b) => {
-            let so_far = walk(alloc, rule, outside, so_far, a);
-            walk(alloc, rule, outside, so_far, b)
-        }
-        Code::Or(a, b) => {
-            let so_far = walk(alloc, rule, outside, so_far, a);
-            walk(alloc, rule, outside, so_far, b)
-        }
+        Code::And(a, b) => walk_two(alloc, rule, outside, so_far, a, b),
+        Code::Or(a, b) => walk_two(alloc, rule, outside, so_far, a, b),
         Code::Not(a) => walk_part(alloc, rule, outside, so_far, a),
         Code::Union(parts) => walk_all(alloc, rule, outside, so_far, parts),
         Code::Inter(parts) => walk_all(alloc, rule, outside, so_far, parts),
-        Code::Diff(a, b) => {
-            let so_far = walk(alloc, rule, outside, so_far, a);
-            walk(alloc, rule, outside, so_far, b)
-        }
-        Code::Subset(a, b) => {
-            let so_far = walk(alloc, rule, outside, so_far, a);
-            walk(alloc, rule, outside, so_far, b)
-        }
+        Code::Diff(a, b) => walk_two(alloc, rule, outside, so_far, a, b),
+        Code::Subset(a, b) => walk_two(alloc, rule, outside, so_far, a, b),
         Code::Card(a) => walk_part(alloc, rule, outside, so_far, a),
-        Code::Slice { set, from, n } => {
-            let so_far = walk(alloc, rule, outside, so_far, set);
-            let so_far = walk(alloc, rule, outside, so_far, from);
-            walk(alloc, rule, outside, so_far, n)
-        }
-        Code::Fresh { avoid, n } => {
-            let so_far = walk(alloc, rule, outside, so_far, avoid);
-            walk(alloc, rule, outside, so_far, n)
-        }
-        Code::If { test, yes, no } => {
-            let so_far = walk(alloc, rule, outside, so_far, test);
-            let so_far = walk(alloc, rule, outside, so_far, yes);
-            walk(alloc, rule, outside, so_far, no)
-        }
+        Code::Slice { set, from, n } => walk_three(alloc, rule, outside, so_far, set, from, n),
+        Code::Fresh { avoid, n } => walk_two(alloc, rule, outside, so_far, avoid, n),
+        Code::If { test, yes, no } => walk_three(alloc, rule, outside, so_far, test, yes, no),
         Code::Lit(_) => so_far,
         Code::Truth(_) => so_far,
         Code::Var(_) => so_far,
     }
 }
 
-// for the proof: the only part of a form is lent with its box
+// for the proof: the parts of a form are lent with their boxes
 #[cycle(walk)]
 fn walk_part<R: Rule>(
     alloc: Global,
@@ -184,6 +152,45 @@ fn walk_part<R: Rule>(
     walk(alloc, rule, outside, so_far, part)
 }
 
+// Two parts, the first of them first.
+#[cycle(walk)]
+fn walk_two<R: Rule>(
+    alloc: Global,
+    rule: &mut R,
+    outside: u32,
+    so_far: Result<(), NoMemory>,
+    a: &mut Box<Code>,
+    b: &mut Box<Code>,
+) -> Result<(), NoMemory>
+    ensures { (middle : ℕ) × (between : Outcome)
+        × Walked R.made R.units outside (code_tree a.old.value) (code_tree a.new.value) (R.tally rule.old) middle so_far between
+        × Walked R.made R.units outside (code_tree b.old.value) (code_tree b.new.value) middle (R.tally rule.new) between result }
+{
+    let so_far = walk_part(alloc, rule, outside, so_far, a);
+    walk_part(alloc, rule, outside, so_far, b)
+}
+
+// Three parts, the first of them first.
+#[cycle(walk)]
+fn walk_three<R: Rule>(
+    alloc: Global,
+    rule: &mut R,
+    outside: u32,
+    so_far: Result<(), NoMemory>,
+    a: &mut Box<Code>,
+    b: &mut Box<Code>,
+    c: &mut Box<Code>,
+) -> Result<(), NoMemory>
+    ensures { (first : ℕ) × (second : ℕ) × (behind_a : Outcome) × (behind_b : Outcome)
+        × Walked R.made R.units outside (code_tree a.old.value) (code_tree a.new.value) (R.tally rule.old) first so_far behind_a
+        × Walked R.made R.units outside (code_tree b.old.value) (code_tree b.new.value) first second behind_a behind_b
+        × Walked R.made R.units outside (code_tree c.old.value) (code_tree c.new.value) second (R.tally rule.new) behind_b result }
+{
+    let so_far = walk_part(alloc, rule, outside, so_far, a);
+    let so_far = walk_part(alloc, rule, outside, so_far, b);
+    walk_part(alloc, rule, outside, so_far, c)
+}
+
 // The same behind `more` further variables.
 #[cycle(walk)]
 fn walk_behind<R: Rule>(
@@ -192,12 +199,12 @@ fn walk_behind<R: Rule>(
     outside: u32,
     more: u32,
     so_far: Result<(), NoMemory>,
-    code: &mut Code,
+    part: &mut Box<Code>,
 ) -> Result<(), NoMemory>
-    ensures { Walked R.made R.units (outside + more) (code_tree code.old) (code_tree code.new) (R.tally rule.old) (R.tally rule.new) so_far result }
+    ensures { Walked R.made R.units (outside + more) (code_tree part.old.value) (code_tree part.new.value) (R.tally rule.old) (R.tally rule.new) so_far result }
 {
     match behind(so_far, outside, more) {
-        Ok(level) => walk(alloc, rule, level, Ok(()), code),
+        Ok(level) => walk_part(alloc, rule, level, Ok(()), part),
         Err(fault) => Err(fault),
     }
 }

@@ -1,11 +1,10 @@
-use Rattle.std.proofs.Common.{◌≡◌, ◌+◌, length, get_or, IsOk, refl, sym, ap, ◌∙◌, rules, arith}
+use Rattle.std.proofs.Common.{◌≡◌, ◌+◌, length, IsOk, refl, rules, arith}
 use Rattle.cf_tree.specs.declared.code.Code.{the_lemmas}
 use Rattle.cf_tree.specs.CodeTree.{code_set_of, code_tuple, code_sum, code_sub, code_mul, code_neg, code_min, code_max, code_and, code_or, code_not, code_union, code_inter, code_diff, code_subset, code_card, code_slice, code_fresh, code_if, code_lit, code_truth, code_var}
-use Rattle.cf_tree.specs.CodeView.{code_tree}
-use Rattle.cf_pass.proofs.FormTrees.{sub_tree, mul_tree, compare_tree, and_tree, or_tree, diff_tree, subset_tree, slice_tree, fresh_tree, if_tree, let_tree, three_same}
+use Rattle.cf_pass.proofs.FormTrees.{sub_tree, mul_tree, compare_tree, and_tree, or_tree, diff_tree, subset_tree, slice_tree, fresh_tree, if_tree, let_tree}
 use Rattle.cf_pass.proofs.CodeLists.{all_self}
 use Rattle.cf_pass.proofs.Forms.{improves_self}
-use Rattle.cf_pass.proofs.LoopSteps.{item_self, all_taken, same_begin, same_next}
+use Rattle.cf_pass.proofs.LoopSteps.{item_self, all_taken}
 use Rattle.cf_pass.proofs.WalkForms.{over_one, over_two, over_three, over_list, over_arms, over_binding, over_div, over_mod, over_divides, over_compare, leaf, at_level, list_at, of_let, of_need, of_arm}
 use Rattle.cf_pass.proofs.WalkForms.{set_of_over, tuple_over, sum_over, min_over, max_over, union_over, inter_over, neg_over, not_over, card_over, sub_over, mul_over, diff_over, subset_over, fresh_over, and_over, or_over, slice_over, if_over}
 use Rattle.cf_pass.proofs.WalkSteps.{stays, from_start, no_start, if_ok_same, ok_before}
@@ -17,7 +16,7 @@ walk-returns g t c = c.walk_parts-so_far.ensures _ _ _ c.finish.ensures
 
 pub walk_parts-returns-in-Let : goal.walk_parts-returns-in-Let
 walk_parts-returns-in-Let g t c = λ e end behind form.
-    over_binding g.R.Rule.made g.R.Rule.units c.args.outside _ _ _ _ _ _ _ _ _ c.walk-so_far.ensures c.walk_behind.ensures form
+    over_binding g.R.Rule.made g.R.Rule.units c.args.outside _ _ _ _ _ _ _ _ _ c.walk_part-so_far.ensures c.walk_behind.ensures form
     (let_tree _ _ _ _)
     (search (rules, the_lemmas))
 
@@ -71,45 +70,45 @@ walk_parts-returns-in-Inter g t c = λ e end behind form.
 
 pub walk_parts-returns-in-Sub : goal.walk_parts-returns-in-Sub
 walk_parts-returns-in-Sub g t c = λ e end behind form.
+    let p = c.walk_two.ensures in
     over_two g.R.Rule.made g.R.Rule.units c.args.outside code_sub (sub_over g.R.Rule.made g.R.Rule.units c.args.outside) _ _ _ _ _ _ _
-    c.walk-so_far-in-Sub.ensures c.walk.ensures
-    form (sub_tree _ _) (search (rules, the_lemmas))
+    p.2 p.3 form (sub_tree _ _) (search (rules, the_lemmas))
 
 pub walk_parts-returns-in-Mul : goal.walk_parts-returns-in-Mul
 walk_parts-returns-in-Mul g t c = λ e end behind form.
+    let p = c.walk_two-in-Mul.ensures in
     over_two g.R.Rule.made g.R.Rule.units c.args.outside code_mul (mul_over g.R.Rule.made g.R.Rule.units c.args.outside) _ _ _ _ _ _ _
-    c.walk-so_far-in-Mul.ensures c.walk-in-Mul.ensures
-    form (mul_tree _ _) (search (rules, the_lemmas))
+    p.2 p.3 form (mul_tree _ _) (search (rules, the_lemmas))
 
 pub walk_parts-returns-in-Diff : goal.walk_parts-returns-in-Diff
 walk_parts-returns-in-Diff g t c = λ e end behind form.
+    let p = c.walk_two-in-Diff.ensures in
     over_two g.R.Rule.made g.R.Rule.units c.args.outside code_diff (diff_over g.R.Rule.made g.R.Rule.units c.args.outside) _ _ _ _ _ _ _
-    c.walk-so_far-in-Diff.ensures c.walk-in-Diff.ensures
-    form (diff_tree _ _) (search (rules, the_lemmas))
+    p.2 p.3 form (diff_tree _ _) (search (rules, the_lemmas))
 
 pub walk_parts-returns-in-Subset : goal.walk_parts-returns-in-Subset
 walk_parts-returns-in-Subset g t c = λ e end behind form.
+    let p = c.walk_two-in-Subset.ensures in
     over_two g.R.Rule.made g.R.Rule.units c.args.outside code_subset (subset_over g.R.Rule.made g.R.Rule.units c.args.outside) _ _ _ _ _ _ _
-    c.walk-so_far-in-Subset.ensures c.walk-in-Subset.ensures
-    form (subset_tree _ _) (search (rules, the_lemmas))
+    p.2 p.3 form (subset_tree _ _) (search (rules, the_lemmas))
 
 pub walk_parts-returns-in-Fresh : goal.walk_parts-returns-in-Fresh
 walk_parts-returns-in-Fresh g t c = λ e end behind form.
+    let p = c.walk_two-in-Fresh.ensures in
     over_two g.R.Rule.made g.R.Rule.units c.args.outside code_fresh (fresh_over g.R.Rule.made g.R.Rule.units c.args.outside) _ _ _ _ _ _ _
-    c.walk-so_far-in-Fresh.ensures c.walk-in-Fresh.ensures
-    form (fresh_tree _ _) (search (rules, the_lemmas))
+    p.2 p.3 form (fresh_tree _ _) (search (rules, the_lemmas))
 
 pub walk_parts-returns-in-And : goal.walk_parts-returns-in-And
 walk_parts-returns-in-And g t c = λ e end behind form.
+    let p = c.walk_two-in-And.ensures in
     over_two g.R.Rule.made g.R.Rule.units c.args.outside code_and (and_over g.R.Rule.made g.R.Rule.units c.args.outside) _ _ _ _ _ _ _
-    c.walk-so_far-in-And.ensures c.walk-in-And.ensures
-    form (and_tree _ _) (search (rules, the_lemmas))
+    p.2 p.3 form (and_tree _ _) (search (rules, the_lemmas))
 
 pub walk_parts-returns-in-Or : goal.walk_parts-returns-in-Or
 walk_parts-returns-in-Or g t c = λ e end behind form.
-    over_two g.R.Rule.made g.R.Rule.units c.args.outside code_or (or_over g.R.Rule.made g.R.Rule.units c.args.outside) _ _ _ _ _ _ _ c.walk-so_far-in-Or.ensures
-    c.walk-in-Or.ensures
-    form (or_tree _ _) (search (rules, the_lemmas))
+    let p = c.walk_two-in-Or.ensures in
+    over_two g.R.Rule.made g.R.Rule.units c.args.outside code_or (or_over g.R.Rule.made g.R.Rule.units c.args.outside) _ _ _ _ _ _ _ p.2 p.3 form (or_tree _ _)
+    (search (rules, the_lemmas))
 
 pub walk_parts-returns-in-Neg : goal.walk_parts-returns-in-Neg
 walk_parts-returns-in-Neg g t c = λ e end behind form.
@@ -146,47 +145,49 @@ walk_parts-returns-in-Divides g t c = λ e end behind form.
 
 pub walk_parts-returns-in-Compare : goal.walk_parts-returns-in-Compare
 walk_parts-returns-in-Compare g t c = λ e end behind form.
-    over_compare g.R.Rule.made g.R.Rule.units c.args.outside _ _ _ _ _ _ _ _ c.walk-so_far-in-Compare.ensures c.walk-in-Compare.ensures
-    form (compare_tree _ _ _) (search (rules, the_lemmas))
+    let p = c.walk_two-in-Compare.ensures in
+    over_compare g.R.Rule.made g.R.Rule.units c.args.outside _ _ _ _ _ _ _ _ p.2 p.3 form (compare_tree _ _ _) (search (rules, the_lemmas))
 
 pub walk_parts-returns-in-Slice : goal.walk_parts-returns-in-Slice
 walk_parts-returns-in-Slice g t c = λ e end behind form.
-    let part1 = ap code_tree (c.deref_mut-in-Slice.ensures.value ∙ ap (λ b. b.value) c.in-Slice.set-is) in
-    let part2 = ap code_tree (c.deref_mut-in-Slice-2.ensures.value ∙ ap (λ b. b.value) c.in-Slice.from-is) in
-    let part3 = ap code_tree (c.deref_mut-in-Slice-3.ensures.value ∙ ap (λ b. b.value) c.in-Slice.n-is) in
+    let p = c.walk_three.ensures in
     over_three g.R.Rule.made g.R.Rule.units c.args.outside code_slice (slice_over g.R.Rule.made g.R.Rule.units c.args.outside) _ _ _ _ _ _ _ _ _
-    c.walk-so_far-in-Slice.ensures c.walk-so_far-in-Slice-2.ensures
-    c.walk-in-Slice.ensures form (slice_tree _ _ _)
-    (ap code_tree c.in-Slice.is ∙ slice_tree _ _ _ ∙ sym (three_same code_slice part1 part2 part3))
+    p.4 p.5 p.6 form (slice_tree _ _ _) (search (rules, the_lemmas))
 
 pub walk_parts-returns-in-If : goal.walk_parts-returns-in-If
 walk_parts-returns-in-If g t c = λ e end behind form.
-    let part1 = ap code_tree (c.deref_mut-in-If.ensures.value ∙ ap (λ b. b.value) c.in-If.test-is) in
-    let part2 = ap code_tree (c.deref_mut-in-If-2.ensures.value ∙ ap (λ b. b.value) c.in-If.yes-is) in
-    let part3 = ap code_tree (c.deref_mut-in-If-3.ensures.value ∙ ap (λ b. b.value) c.in-If.no-is) in
+    let p = c.walk_three-in-If.ensures in
     over_three g.R.Rule.made g.R.Rule.units c.args.outside code_if (if_over g.R.Rule.made g.R.Rule.units c.args.outside) _ _ _ _ _ _ _ _ _
-    c.walk-so_far-in-If.ensures c.walk-so_far-in-If-2.ensures
-    c.walk-in-If.ensures form (if_tree _ _ _) (ap code_tree c.in-If.is ∙ if_tree _ _ _ ∙ sym (three_same code_if part1 part2 part3))
+    p.4 p.5 p.6 form (if_tree _ _ _) (search (rules, the_lemmas))
 
 pub walk_parts-returns-in-Lit : goal.walk_parts-returns-in-Lit
-walk_parts-returns-in-Lit g t c = λ e end behind form. leaf g.R.Rule.made g.R.Rule.units c.args.outside _ (code_lit c.in-Lit.field-0) _ (search (rules, the_lemmas)) refl refl
+walk_parts-returns-in-Lit g t c = λ e end behind form. leaf g.R.Rule.made g.R.Rule.units c.args.outside _ (code_lit c.in-Lit.field-0) _
+    (search (rules, the_lemmas)) refl refl
     form
 
 pub walk_parts-returns-in-Truth : goal.walk_parts-returns-in-Truth
-walk_parts-returns-in-Truth g t c = λ e end behind form. leaf g.R.Rule.made g.R.Rule.units c.args.outside _ (code_truth c.in-Truth.field-0) _ (search (rules, the_lemmas)) refl refl
+walk_parts-returns-in-Truth g t c = λ e end behind form. leaf g.R.Rule.made g.R.Rule.units c.args.outside _ (code_truth c.in-Truth.field-0) _
+    (search (rules, the_lemmas)) refl refl
     form
 
 pub walk_parts-returns-in-Var : goal.walk_parts-returns-in-Var
-walk_parts-returns-in-Var g t c = λ e end behind form. leaf g.R.Rule.made g.R.Rule.units c.args.outside _ (code_var c.in-Var.field-0) _ (search (rules, the_lemmas)) refl refl
+walk_parts-returns-in-Var g t c = λ e end behind form. leaf g.R.Rule.made g.R.Rule.units c.args.outside _ (code_var c.in-Var.field-0) _
+    (search (rules, the_lemmas)) refl refl
     form
 
+pub walk_two-returns : goal.walk_two-returns
+walk_two-returns g t c = (_, _, c.walk_part-so_far.ensures, c.walk_part.ensures)
+
+pub walk_three-returns : goal.walk_three-returns
+walk_three-returns g t c = (_, _, _, _, c.walk_part-so_far.ensures, c.walk_part-so_far-2.ensures, c.walk_part.ensures)
+
 pub walk_all-loop-code-init : goal.walk_all-loop-code-init
-walk_all-loop-code-init g t c = (codes_begin g.R.Rule.made g.R.Rule.units c.args.outside _ _ (search rules), same_begin _ _ _ (search rules))
+walk_all-loop-code-init g t c = (codes_begin g.R.Rule.made g.R.Rule.units c.args.outside _ _ (search rules), search rules)
 
 pub walk_all-loop-code-preserved : goal.walk_all-loop-code-preserved
 walk_all-loop-code-preserved g t c = (
   codes_next g.R.Rule.made g.R.Rule.units c.args.outside _ _ _ _ _ (omega (arith, c.loop-code-test.true)) c.loop-code.invariant.0 c.walk-so_far.ensures,
-  same_next _ _ _ _ c.loop-code.invariant.1,
+  search rules,
 )
 
 pub walk_all-returns : goal.walk_all-returns
@@ -198,11 +199,11 @@ walk_all-returns g t c =
 
 pub walk_items-loop-item-init : goal.walk_items-loop-item-init
 walk_items-loop-item-init g t c =
-    (same_begin _ _ _ (search rules), λ n e. (items_begin g.R.Rule.made g.R.Rule.units n _ _ (search rules), if_ok_same c.args.level _ _ e (omega arith)))
+    (search rules, λ n e. (items_begin g.R.Rule.made g.R.Rule.units n _ _ (search rules), if_ok_same c.args.level _ _ e (omega arith)))
 
 pub walk_items-loop-item-preserved : goal.walk_items-loop-item-preserved
 walk_items-loop-item-preserved g t c = (
-  same_next _ _ _ _ c.loop-item.invariant.0,
+  search rules,
   λ n e.
       let p = c.loop-item.invariant.1 n e in
       items_next g.R.Rule.made g.R.Rule.units n _ _ _ _ _ _ (omega (arith, c.loop-item-test.true)) p.0 (c.walk_item-level.ensures _ p.1),
@@ -216,12 +217,12 @@ walk_items-returns g t c = λ n e.
     items_end g.R.Rule.made g.R.Rule.units n _ _ _ _ _ at_end (search (rules, whole)) (c.loop-item.invariant.1 n e)
 
 pub walk_arms-loop-arm-init : goal.walk_arms-loop-arm-init
-walk_arms-loop-arm-init g t c = (arms_begin g.R.Rule.made g.R.Rule.units c.args.outside _ _ (search rules), same_begin _ _ _ (search rules))
+walk_arms-loop-arm-init g t c = (arms_begin g.R.Rule.made g.R.Rule.units c.args.outside _ _ (search rules), search rules)
 
 pub walk_arms-loop-arm-preserved : goal.walk_arms-loop-arm-preserved
 walk_arms-loop-arm-preserved g t c = (
   arms_next g.R.Rule.made g.R.Rule.units c.args.outside _ _ _ _ _ (omega (arith, c.loop-arm-test.true)) c.loop-arm.invariant.0 c.walk_arm-so_far.ensures,
-  same_next _ _ _ _ c.loop-arm.invariant.1,
+  search rules,
 )
 
 pub walk_arms-returns : goal.walk_arms-returns
@@ -234,7 +235,7 @@ walk_arms-returns g t c =
 pub walk_behind-returns-in-Ok : goal.walk_behind-returns-in-Ok
 walk_behind-returns-in-Ok g t c =
     let before : IsOk c.args.so_far = search rules in
-    from_start (λ k. before) (at_level g.R.Rule.made g.R.Rule.units _ _ _ _ (search rules) c.walk.ensures)
+    from_start (λ k. before) (at_level g.R.Rule.made g.R.Rule.units _ _ _ _ (search rules) c.walk_part.ensures)
 
 pub walk_behind-returns-in-Err : goal.walk_behind-returns-in-Err
 walk_behind-returns-in-Err g t c = stays (improves_self _ _) no_start
@@ -274,21 +275,3 @@ walk_arm-returns g t c =
     of_arm g.R.Rule.made g.R.Rule.units c.args.outside _ _ _ _ _ _ _
     (from_start (ok_before c.behind_bounds-level.result c.behind_bounds-level.ensures.before) p.0) q (search (rules, the_lemmas))
     (search (rules, the_lemmas))
-
-pub walk_all-walk-so_far-requires : goal.walk_all-walk-so_far-requires
-walk_all-walk-so_far-requires g t c =
-    let same : get_or c.loop-code.code-items c.loop-code.code-index c.code-item.result ≡ get_or c.args.codes.now.items c.loop-code.code-index c.code-item.result
-    = c.loop-code.invariant.1 _ _ (omega arith) in
-    search (rules, the_lemmas, same)
-
-pub walk_items-walk_item-level-requires : goal.walk_items-walk_item-level-requires
-walk_items-walk_item-level-requires g t c =
-    let same : get_or c.loop-item.item-items c.loop-item.item-index c.item-item.result ≡ get_or c.args.items.now.items c.loop-item.item-index c.item-item.result
-    = c.loop-item.invariant.0 _ _ (omega arith) in
-    search (rules, the_lemmas, same)
-
-pub walk_arms-walk_arm-so_far-requires : goal.walk_arms-walk_arm-so_far-requires
-walk_arms-walk_arm-so_far-requires g t c =
-    let same : get_or c.loop-arm.arm-items c.loop-arm.arm-index c.arm-item.result ≡ get_or c.args.arms.now.items c.loop-arm.arm-index c.arm-item.result =
-    c.loop-arm.invariant.1 _ _ (omega arith) in
-    search (rules, the_lemmas, same)
