@@ -281,6 +281,12 @@ pub compare_right : (e : Stop) (o : Order) (a b : CodeTree) (env : List Value) (
     StopIs e (as_number (reached b env)) → StopIs e (as_truth (reached (code_compare o a b) env))
 compare_right e o a b env x f h = stop_second e (reached a env) (reached b env) x _ f h
 
+-- values that are appended
+pub more_items : {A : Type 0} (r : Result A Stop) (old new items : List RunValue) → OnOk r (new ≡ old ++ items) → IfErr r (λ e. e ≡ NoMemory) →
+    MoreAnswer r (plains old) (plains new) (given (plains items))
+more_items (Ok u) old new items ok err = (plains items, refl, rw (ok, map-append) refl)
+more_items (Err s) old new items ok err = rw err tt
+
 -- a number that a form of numbers gives, appended
 pub more_number : {A : Type 0} (c : CodeTree) (env : List Value) (z : ℤ) (r : Result A Stop) (old new : List RunValue) → kind_of_tree c ≡ Number →
     as_number (reached c env) ≡ given z →

@@ -1,8 +1,8 @@
 //! Sets on a line.
 ghost use Rattle.std.specs.Prelude.{◌≡◌, ◌+◌, ◌^◌, ◌<◌, ◌≤◌, [], ◌==◌, length, All, OnOk, IfOk};
-ghost use Rattle.std.specs.List.{slice_split};
+ghost use Rattle.std.specs.List.{prefix_len, slice_split};
 ghost use Rattle.cf_num.specs.Limit.{IsWithin};
-ghost use Rattle.cf_eval.specs.Reading.{added, item_at, items_from, body_at, set_at, ReadAnswer};
+ghost use Rattle.cf_eval.specs.Reading.{added, item_at, items_from, body_at, braces_at, is_before_brace, set_at, set_read, ReadAnswer};
 ghost use Rattle.cf_eval.specs.Seen.{plain, IsFit};
 
 use crate::fault::LineFault;
@@ -56,6 +56,36 @@ fn body(alloc: Global, text: &[u8], limit: u128) -> Result<Vec<i128>, LineFault>
     }
 }
 
+// The set whose elements stand in the text, and the rest.
+fn elements<'a>(
+    alloc: Global,
+    text: &[u8],
+    rest: &'a [u8],
+    limit: u128,
+) -> Result<(Value, &'a [u8]), LineFault>
+    requires { limit < 2 ^ 127 }
+    ensures value { ReadAnswer (λ x. (plain x.0, x.1.now)) result (set_read rest.now (body_at limit text.now)) }
+    ensures fits { IfOk result (λ x. IsFit x.0) }
+{
+    let items = body(alloc, text, limit)?;
+    let set = Set::from_list(alloc, &items)?;
+    Ok((Value::Elements(set), rest))
+}
+
+// The set whose elements stand in a text up to its closing brace, and the rest.
+fn closed(alloc: Global, text: &[u8], limit: u128) -> Result<(Value, &[u8]), LineFault>
+    requires { limit < 2 ^ 127 }
+    ensures value { ReadAnswer (λ x. (plain x.0, x.1.now)) result (braces_at limit (prefix_len is_before_brace text.now) text.now) }
+    ensures fits { IfOk result (λ x. IsFit x.0) }
+{
+    let n = brace_at(text);
+    if n < text.len() {
+        elements(alloc, &text[..n], behind(text, n), limit)
+    } else {
+        Err(LineFault::BadInput)
+    }
+}
+
 /// The set at the front of a text, and the rest.
 pub(crate) fn set(alloc: Global, text: &[u8], limit: u128) -> Result<(Value, &[u8]), LineFault>
     requires { limit < 2 ^ 127 }
@@ -63,15 +93,7 @@ pub(crate) fn set(alloc: Global, text: &[u8], limit: u128) -> Result<(Value, &[u
     ensures fits { IfOk result (λ x. IsFit x.0) }
 {
     match text {
-        [b'{', inside @ ..] => {
-            let n = brace_at(inside);
-            if inside.len() <= n {
-                return Err(LineFault::BadInput);
-            }
-            let items = body(alloc, &inside[..n], limit)?;
-            let set = Set::from_list(alloc, &items)?;
-            Ok((Value::Elements(set), behind(inside, n)))
-        }
+        [b'{', inside @ ..] => closed(alloc, inside, limit),
         _ => Err(LineFault::BadInput),
     }
 }

@@ -12,7 +12,7 @@ use cf_tree::memory::NoMemory;
 use std::alloc::{AllocError, AllocFailed, Global};
 
 // Why a run stops with no values: no memory, a number past the limit, or no solution at a choose.
-#[derive(Clone, Copy, Debug, PartialEq, Eq)]
+#[derive(Clone, Copy)]
 pub enum Stop {
     NoMemory,
     Past,
@@ -181,8 +181,19 @@ fn push_other(alloc: Global, v: Option<&Value>, all: &mut Vec<Value>) -> Result<
     ensures told { MoreAnswer result (plains all.old.items) (plains all.new.items) (met_value (seen_or_zero v.entry)) }
     ensures fit { OnOk result (All IsFit all.old.items → All IsFit all.new.items) }
 {
-    let given = met_copy(alloc, v)?;
-    given.append_to(all)
+    let more = met_copy(alloc, v)?;
+    push_given(more, all)
+}
+
+// Appends what a code gives.
+#[tactic(auto, using(crate::proofs::FormLemmas::more_items))]
+pub fn push_given(more: Given, all: &mut Vec<Value>) -> Result<(), Stop>
+    requires { IsGivenFit more }
+    ensures told { MoreAnswer result (plains all.old.items) (plains all.new.items) (given (plains (given_items more))) }
+    ensures fit { OnOk result (All IsFit all.old.items → All IsFit all.new.items) }
+    ensures kept { OnOk result (Extends all.old.items all.new.items) }
+{
+    more.append_to(all)
 }
 
 impl Given {

@@ -10,7 +10,7 @@ use cf_tree::memory::NoMemory;
 use std::alloc::Global;
 
 // How sets are joined.
-#[derive(Clone, Copy, Debug, PartialEq, Eq)]
+#[derive(Clone, Copy)]
 pub enum Join {
     Union,
     Inter,

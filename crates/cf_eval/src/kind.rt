@@ -6,7 +6,7 @@ ghost use Rattle.cf_eval.specs.Forms.{kind_of_tree};
 use cf_tree::code::Code;
 
 // A number, a truth value or a set, whatever its parts give; or what the parts or the values decide.
-#[derive(Clone, Copy, Debug, PartialEq, Eq)]
+#[derive(Clone, Copy)]
 pub enum Kind {
     Number,
     Truth,

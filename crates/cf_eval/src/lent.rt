@@ -1,15 +1,15 @@
 // Sets that variables hold, used where they stand and not copied. Each call answers none where a
 // part is no variable that holds a set.
-ghost use Rattle.std.specs.Prelude.{◌≡◌, length, pos, None, IfOk};
+ghost use Rattle.std.specs.Prelude.{◌≡◌, ◌∷◌, [], pos, None, IfOk, IfSome};
 ghost use Rattle.cf_num.specs.Limit.{within};
 ghost use Rattle.cf_tree.specs.CodeTree.{code_card, code_compare, code_diff, code_slice, code_subset, code_more, no_codes};
 ghost use Rattle.cf_tree.specs.CodeView.{code_tree, code_trees};
-ghost use Rattle.cf_tree.specs.Sets.{is_subset, set_diff, set_slice};
+ghost use Rattle.cf_tree.specs.Sets.{set_slice};
 ghost use Rattle.cf_tree.specs.Numbers.{count_of};
-ghost use Rattle.cf_tree.specs.Values.{compared};
+ghost use Rattle.cf_tree.specs.Values.{compared, elements};
 ghost use Rattle.cf_eval.specs.Choice.{join_of};
 ghost use Rattle.cf_eval.specs.Quick.{Finds, FindsTruth, FindsSet};
-ghost use Rattle.cf_eval.specs.Reached.{as_first, as_set, gives_set, gives_truth, join_reached, met as met_reached, met_value, reached, then_reached};
+ghost use Rattle.cf_eval.specs.Reached.{given, join_reached, met as met_reached, reached};
 ghost use Rattle.cf_eval.specs.RunAnswers.{seen_or_zero};
 ghost use Rattle.cf_eval.specs.Seen.{plains};
 
@@ -22,23 +22,33 @@ use cf_tree::code::Code;
 use cf_tree::memory::NoMemory;
 use std::alloc::Global;
 
+// The set that a variable holds.
+fn lent<'a>(code: &Code, env: &'a [Value]) -> Option<&'a Set>
+    ensures { IfSome result (λ s. reached (code_tree code.now) (plains env.now) ≡ given (elements s.now ∷ [])) }
+{
+    match code {
+        Code::Var(x) => set_in(env.get(*x as usize)),
+        _ => None,
+    }
+}
+
+fn set_in(v: Option<&Value>) -> Option<&Set>
+    ensures { IfSome result (λ s. seen_or_zero v.entry ≡ elements s.now) }
+{
+    match v {
+        Some(Value::Elements(s)) => Some(s),
+        _ => None,
+    }
+}
+
 // How many elements the set has.
 #[inline(never)]
 pub fn lent_card(code: &Code, env: &[Value]) -> Option<i64>
     ensures { Finds result (reached (code_card (code_tree code.now)) (plains env.now)) }
 {
-    match code {
-        Code::Var(x) => card_in(env.get(*x as usize)),
-        _ => None,
-    }
-}
-
-fn card_in(v: Option<&Value>) -> Option<i64>
-    ensures { Finds result (then_reached (as_set (met_value (seen_or_zero v.entry))) (λ zs. met_reached (within (pos (length zs))))) }
-{
-    match v {
-        Some(Value::Elements(s)) => narrow_card(s.card()),
-        _ => None,
+    match lent(code, env) {
+        Some(s) => narrow_card(s.card()),
+        None => None,
     }
 }
 
@@ -56,18 +66,8 @@ fn narrow_card(n: u64) -> Option<i64>
 pub fn lent_subset(a: &Code, b: &Code, env: &[Value]) -> Option<bool>
     ensures { FindsTruth result (reached (code_subset (code_tree a.now) (code_tree b.now)) (plains env.now)) }
 {
-    match (a, b) {
-        (Code::Var(x), Code::Var(y)) => subset_in(env.get(*x as usize), env.get(*y as usize)),
-        _ => None,
-    }
-}
-
-fn subset_in(v: Option<&Value>, w: Option<&Value>) -> Option<bool>
-    ensures { FindsTruth result (then_reached (as_set (met_value (seen_or_zero v.entry))) (λ x.
-        then_reached (as_set (met_value (seen_or_zero w.entry))) (λ y. gives_truth (is_subset x y)))) }
-{
-    match (v, w) {
-        (Some(Value::Elements(s)), Some(Value::Elements(t))) => Some(s.subset(t)),
+    match (lent(a, env), lent(b, env)) {
+        (Some(s), Some(t)) => Some(s.subset(t)),
         _ => None,
     }
 }
@@ -77,22 +77,19 @@ fn subset_in(v: Option<&Value>, w: Option<&Value>) -> Option<bool>
 pub fn lent_order(order: Order, a: &Code, b: &Code, env: &[Value]) -> Option<bool>
     ensures { FindsTruth result (reached (code_compare order (code_tree a.now) (code_tree b.now)) (plains env.now)) }
 {
-    match (a, b) {
-        (Code::Var(x), Code::Var(y)) => {
-            order_in(order, env.get(*x as usize), env.get(*y as usize))
-        }
+    match (lent(a, env), lent(b, env)) {
+        (Some(s), Some(t)) => order_of(order, s, t),
         _ => None,
     }
 }
 
-fn order_in(order: Order, v: Option<&Value>, w: Option<&Value>) -> Option<bool>
-    ensures { FindsTruth result (then_reached (as_first (met_value (seen_or_zero v.entry))) (λ x.
-        then_reached (as_first (met_value (seen_or_zero w.entry))) (λ y. gives_truth (compared order x y)))) }
+fn order_of(order: Order, s: &Set, t: &Set) -> Option<bool>
+    ensures { IfSome result (λ b. b ≡ compared order (elements s.now) (elements t.now)) }
 {
-    match (order, v, w) {
-        (Order::Eq, Some(Value::Elements(s)), Some(Value::Elements(t))) => Some(s.same(t)),
-        (Order::Ne, Some(Value::Elements(s)), Some(Value::Elements(t))) => Some(!s.same(t)),
-        _ => None,
+    match order {
+        Order::Eq => Some(s.same(t)),
+        Order::Ne => Some(!s.same(t)),
+        Order::Lt | Order::Le | Order::Gt | Order::Ge => None,
     }
 }
 
@@ -114,20 +111,8 @@ pub fn lent_set(alloc: Global, code: &Code, env: &[Value]) -> Result<Option<Set>
 fn lent_diff(alloc: Global, a: &Code, b: &Code, env: &[Value]) -> Result<Option<Set>, NoMemory>
     ensures { IfOk result (λ s. FindsSet s (reached (code_diff (code_tree a.now) (code_tree b.now)) (plains env.now))) }
 {
-    match (a, b) {
-        (Code::Var(x), Code::Var(y)) => {
-            diff_in(alloc, env.get(*x as usize), env.get(*y as usize))
-        }
-        _ => Ok(None),
-    }
-}
-
-fn diff_in(alloc: Global, v: Option<&Value>, w: Option<&Value>) -> Result<Option<Set>, NoMemory>
-    ensures { IfOk result (λ s. FindsSet s (then_reached (as_set (met_value (seen_or_zero v.entry))) (λ x.
-        then_reached (as_set (met_value (seen_or_zero w.entry))) (λ y. gives_set (set_diff x y))))) }
-{
-    match (v, w) {
-        (Some(Value::Elements(s)), Some(Value::Elements(t))) => Ok(Some(s.diff(alloc, t)?)),
+    match (lent(a, env), lent(b, env)) {
+        (Some(s), Some(t)) => Ok(Some(s.diff(alloc, t)?)),
         _ => Ok(None),
     }
 }
@@ -157,27 +142,8 @@ fn lent_pair(
     ensures { IfOk result (λ s. FindsSet s (join_reached (join_of how) (code_more (code_tree a.now) (code_more (code_tree b.now) no_codes)) (plains env.now)
         None)) }
 {
-    match (a, b) {
-        (Code::Var(x), Code::Var(y)) => {
-            join_in(alloc, how, env.get(*x as usize), env.get(*y as usize))
-        }
-        _ => Ok(None),
-    }
-}
-
-fn join_in(
-    alloc: Global,
-    how: Join,
-    v: Option<&Value>,
-    w: Option<&Value>,
-) -> Result<Option<Set>, NoMemory>
-    ensures { IfOk result (λ s. FindsSet s (then_reached (as_set (met_value (seen_or_zero v.entry))) (λ x.
-        then_reached (as_set (met_value (seen_or_zero w.entry))) (λ y. gives_set (join_of how x y))))) }
-{
-    match (v, w) {
-        (Some(Value::Elements(s)), Some(Value::Elements(t))) => Ok(Some(join_two(
-            alloc, how, s, t,
-        )?)),
+    match (lent(a, env), lent(b, env)) {
+        (Some(s), Some(t)) => Ok(Some(join_two(alloc, how, s, t)?)),
         _ => Ok(None),
     }
 }
@@ -192,27 +158,14 @@ fn lent_slice(
 ) -> Result<Option<Set>, NoMemory>
     ensures { IfOk result (λ s. FindsSet s (reached (code_slice (code_tree set.now) (code_tree from.now) (code_tree n.now)) (plains env.now))) }
 {
-    match (set, known(from, env), known(n, env)) {
-        (Code::Var(x), Some(start), Some(size)) => {
-            slice_in(alloc, env.get(*x as usize), start, size)
-        }
+    match (lent(set, env), known(from, env), known(n, env)) {
+        (Some(s), Some(start), Some(size)) => Ok(Some(slice_of(alloc, s, start, size)?)),
         _ => Ok(None),
     }
 }
 
-fn slice_in(
-    alloc: Global,
-    v: Option<&Value>,
-    start: i64,
-    size: i64,
-) -> Result<Option<Set>, NoMemory>
-    ensures { IfOk result (λ s. FindsSet s (then_reached (as_set (met_value (seen_or_zero v.entry)))
-        (λ x. gives_set (set_slice x (count_of start) (count_of size))))) }
+fn slice_of(alloc: Global, s: &Set, start: i64, size: i64) -> Result<Set, NoMemory>
+    ensures { IfOk result (λ t. t ≡ set_slice s.now (count_of start) (count_of size)) }
 {
-    match v {
-        Some(Value::Elements(s)) => {
-            Ok(Some(s.slice(alloc, i128::from(start), i128::from(size))?))
-        }
-        _ => Ok(None),
-    }
+    s.slice(alloc, i128::from(start), i128::from(size))
 }

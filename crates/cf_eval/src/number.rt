@@ -1,5 +1,5 @@
 //! Numbers on a line.
-ghost use Rattle.std.specs.Prelude.{◌≡◌, ◌^◌, ◌<◌, IfSome};
+ghost use Rattle.std.specs.Prelude.{◌≡◌, ◌+◌, ◌*◌, ◌-◌, ◌^◌, ◌<◌, IfSome};
 ghost use Rattle.cf_lex.specs.Digits.{at_most, digits_value};
 ghost use Rattle.cf_num.specs.Limit.{IsWithin};
 ghost use Rattle.cf_eval.specs.Reading.{digits_at, negated, number_at, item_at, NumberRead};
@@ -7,14 +7,21 @@ ghost use Rattle.cf_eval.specs.Reading.{digits_at, negated, number_at, item_at, 
 use crate::runs::{after_spaces, is_blank};
 use cf_lex::digits::{digits_len, literal};
 
+// The value with one more digit, where it has 64 bits.
+#[inline(always)]
+fn with_digit(n: u64, b: u8) -> Option<u64>
+    ensures { IfSome result (λ m. m ≡ n * 10 + (b - 48)) }
+{
+    n.checked_mul(10)?.checked_add(u64::from(b.saturating_sub(b'0')))
+}
+
 // The value of a run of digits, where it has 64 bits.
 fn narrow(digits: &[u8]) -> Option<u64>
     ensures { IfSome result (λ n. n ≡ digits_value digits.now) }
 {
     let mut n = 0u64;
     for b in digits {
-        let d = u64::from(b.saturating_sub(b'0'));
-        n = n.checked_mul(10)?.checked_add(d)?;
+        n = with_digit(n, *b)?;
     }
     Some(n)
 }

@@ -2,12 +2,12 @@
 ghost use Rattle.std.specs.Prelude.{◌≡◌, [], ◌*ℤ◌, Some, IfErr, IfOk, IfSome, OnOk, not};
 ghost use Rattle.cf_num.specs.Limit.{IsWithin, within};
 ghost use Rattle.cf_tree.specs.Numbers.{quotient, remainder, count_of};
-ghost use Rattle.cf_tree.specs.Sets.{AreWithin, set_fresh, set_of, set_put};
-ghost use Rattle.cf_tree.specs.Values.{number, number_of, truth_of, compared, same_value};
+ghost use Rattle.cf_tree.specs.Sets.{AreWithin, set_diff, set_fresh, set_of, set_put, set_slice};
+ghost use Rattle.cf_tree.specs.Values.{number, number_of, truth_of, elements_of, compared, same_value};
 ghost use Rattle.cf_tree.specs.Meaning.{choose_with};
 ghost use Rattle.cf_eval.specs.Forms.{is_number_kind, is_numeric};
-ghost use Rattle.cf_eval.specs.Reached.{as_number, as_set, met as met_reached, met_set};
-ghost use Rattle.cf_eval.specs.Seen.{plain};
+ghost use Rattle.cf_eval.specs.Reached.{given, as_number, as_set, met as met_reached, met_set};
+ghost use Rattle.cf_eval.specs.Seen.{plain, IsFit};
 ghost use Rattle.cf_eval.specs.RunAnswers.{NumberAnswer, SetAnswer};
 ghost use Rattle.cf_eval.specs.Choice.{better_of};
 
@@ -20,7 +20,7 @@ use cf_tree::memory::NoMemory;
 use std::alloc::Global;
 
 // Which of some numbers is taken.
-#[derive(Clone, Copy, Debug, PartialEq, Eq)]
+#[derive(Clone, Copy)]
 pub(crate) enum Side {
     Least,
     Greatest,
@@ -122,6 +122,20 @@ pub(crate) fn fresh(alloc: Global, avoid: &Set, n: i128) -> Result<Set, Stop>
     Ok(Set::fresh(alloc, avoid, n)?)
 }
 
+// The elements of the first set that are not in the second, of sets that are given up.
+pub(crate) fn difference(alloc: Global, s: Set, t: Set) -> Result<Set, Stop>
+    ensures { SetAnswer result (given (set_diff s t)) }
+{
+    Ok(s.diff(alloc, &t)?)
+}
+
+// Some elements of a set that is given up.
+pub(crate) fn part(alloc: Global, s: Set, from: i128, n: i128) -> Result<Set, Stop>
+    ensures { SetAnswer result (given (set_slice s (count_of from) (count_of n))) }
+{
+    Ok(s.slice(alloc, from, n)?)
+}
+
 /// The number, 0 for another value.
 pub fn number_in(v: &Value) -> i128
     ensures { result ≡ number_of (plain v.now) }
@@ -139,6 +153,35 @@ pub fn truth_in(v: &Value) -> bool
     match v {
         Value::Truth(b) => *b,
         _ => false,
+    }
+}
+
+// The number of a value that is given up, 0 for another value.
+pub(crate) fn into_number(v: Value) -> i128
+    requires { IsFit v }
+    ensures value { result ≡ number_of (plain v) }
+    ensures fits { IsWithin result }
+{
+    match v {
+        Value::Int(z) => z,
+        Value::Truth(_) | Value::Elements(_) => 0,
+    }
+}
+
+// The truth of a value that is given up, false for another value.
+pub(crate) fn into_truth(v: Value) -> bool
+    ensures { result ≡ truth_of (plain v) }
+{
+    truth_in(&v)
+}
+
+// The set of a value that is given up, the empty set for another value.
+pub(crate) fn into_set(alloc: Global, v: Value) -> Result<Set, Stop>
+    ensures { SetAnswer result (given (elements_of (plain v))) }
+{
+    match v {
+        Value::Elements(s) => Ok(s),
+        Value::Int(_) | Value::Truth(_) => Ok(empty(alloc)?),
     }
 }
 
@@ -168,6 +211,13 @@ pub fn compare(order: Order, v: &Value, w: &Value) -> bool
         Order::Gt => number_in(v) > number_in(w),
         Order::Ge => number_in(v) >= number_in(w),
     }
+}
+
+// The same of values that are given up.
+pub(crate) fn compare_given(order: Order, v: Value, w: Value) -> bool
+    ensures { result ≡ compared order (plain v) (plain w) }
+{
+    compare(order, &v, &w)
 }
 
 fn is_number(kind: Kind) -> bool

@@ -8,7 +8,7 @@ ghost use Rattle.cf_tree.specs.Meaning.{choose_with, chosen};
 ghost use Rattle.cf_tree.specs.Numbers.{quotient, remainder, is_multiple};
 ghost use Rattle.cf_eval.specs.Choice.{better_of};
 ghost use Rattle.cf_eval.specs.Quick.{Finds, FindsTruth, Packs};
-ghost use Rattle.cf_eval.specs.Reached.{met as met_reached, met_value, reached, sum_reached, best_reached};
+ghost use Rattle.cf_eval.specs.Reached.{as_number, met as met_reached, met_value, reached, then_reached, sum_reached, best_reached};
 ghost use Rattle.cf_eval.specs.RunAnswers.{seen_or_zero};
 ghost use Rattle.cf_eval.specs.Seen.{plains};
 
@@ -56,23 +56,54 @@ fn found(code: &Code, env: &[Value]) -> Option<i64>
 {
     match code {
         Code::Sum(parts) => sum_of(parts, env),
-        Code::Sub(a, b) => {
-            let x = known(a, env)?;
-            let y = known(b, env)?;
-            minus(x, y)
-        }
-        Code::Mul(a, b) => {
-            let x = known(a, env)?;
-            let y = known(b, env)?;
-            times(x, y)
-        }
-        Code::Neg(a) => negated(known(a, env)?),
-        Code::Div { of, k } => divided(known(of, env)?, *k),
-        Code::Mod { of, k } => rest_of(known(of, env)?, *k),
+        Code::Sub(a, b) => match known(a, env) {
+            Some(x) => known_minus(x, b, env),
+            None => None,
+        },
+        Code::Mul(a, b) => match known(a, env) {
+            Some(x) => known_times(x, b, env),
+            None => None,
+        },
+        Code::Neg(a) => match known(a, env) {
+            Some(x) => negated(x),
+            None => None,
+        },
+        Code::Div { of, k } => match known(of, env) {
+            Some(x) => divided(x, *k),
+            None => None,
+        },
+        Code::Mod { of, k } => match known(of, env) {
+            Some(x) => rest_of(x, *k),
+            None => None,
+        },
         Code::Min(parts) => best_of(Side::Least, parts, env),
         Code::Max(parts) => best_of(Side::Greatest, parts, env),
         Code::Card(a) => lent_card(a, env),
         _ => None,
+    }
+}
+
+// The difference of x and the number that the code gives.
+#[cycle(quick)]
+#[inline(always)]
+fn known_minus(x: i64, code: &Code, env: &[Value]) -> Option<i64>
+    ensures { Finds result (then_reached (as_number (reached (code_tree code.now) (plains env.now))) (λ y. met_reached (within (x -ℤ y)))) }
+{
+    match known(code, env) {
+        Some(y) => minus(x, y),
+        None => None,
+    }
+}
+
+// The product of x and the number that the code gives.
+#[cycle(quick)]
+#[inline(always)]
+fn known_times(x: i64, code: &Code, env: &[Value]) -> Option<i64>
+    ensures { Finds result (then_reached (as_number (reached (code_tree code.now) (plains env.now))) (λ y. met_reached (within (x *ℤ y)))) }
+{
+    match known(code, env) {
+        Some(y) => times(x, y),
+        None => None,
     }
 }
 
@@ -214,10 +245,19 @@ fn is_multiple_of(k: i128, x: i64) -> bool
 fn better_narrow(side: Side, most: Option<i64>, x: i64) -> i64
     ensures { result ≡ choose_with (better_of side) most x }
 {
-    match (most, side) {
-        (None, _) => x,
-        (Some(z), Side::Least) => z.min(x),
-        (Some(z), Side::Greatest) => z.max(x),
+    match most {
+        None => x,
+        Some(z) => better_of_two(side, z, x),
+    }
+}
+
+#[inline(always)]
+fn better_of_two(side: Side, z: i64, x: i64) -> i64
+    ensures { result ≡ better_of side z x }
+{
+    match side {
+        Side::Least => z.min(x),
+        Side::Greatest => z.max(x),
     }
 }
 

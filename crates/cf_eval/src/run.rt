@@ -1,24 +1,25 @@
 //! Runs target code.
 ghost use Rattle.std.specs.Prelude.{◌≡◌, [], None, IfOk, OnOk, All, pos};
 ghost use Rattle.cf_num.specs.Limit.{IsWithin};
-ghost use Rattle.cf_tree.specs.Sets.{is_subset};
+ghost use Rattle.cf_tree.specs.Numbers.{count_of};
+ghost use Rattle.cf_tree.specs.Sets.{is_subset, set_diff, set_fresh};
 ghost use Rattle.cf_tree.specs.CodeView.{code_tree, item_tree, arm_tree, code_trees, item_trees, arm_trees};
 ghost use Rattle.cf_eval.specs.Answers.{Answers};
 ghost use Rattle.cf_eval.specs.Choice.{better_of, join_of};
-ghost use Rattle.cf_eval.specs.Reached.{reached, seen, as_first, as_number, as_truth, as_set, all_reached, set_reached, sum_reached, best_reached, join_reached, items_reached, item_reached, try_reached, arm_reached, arms_reached, or_none, then_reached};
+ghost use Rattle.cf_eval.specs.Reached.{reached, seen, as_first, as_number, as_truth, as_set, all_reached, set_reached, sum_reached, best_reached, join_reached, items_reached, item_reached, try_reached, arm_reached, arms_reached, gives_set, met_set, or_none, then_reached};
 ghost use Rattle.cf_eval.specs.Seen.{plains, IsFit};
 ghost use Rattle.cf_eval.specs.RunAnswers.{RunAnswer, ValuesAnswer, ValueAnswer, NumberAnswer, TruthAnswer, SetAnswer, FoundAnswer, ItemsAnswer, MoreAnswer, Extends, IsGivenFit, IsFoundFit};
 
 use crate::given::{
     Given, Stop, limited, met_copy, met_number, met_number_of, narrow_number, number, push_copy,
-    push_met, push_narrow, set, truth,
+    push_given, push_met, push_narrow, set, truth,
 };
 use crate::joining::{Join, join_more, join_runs};
 use crate::kind::{Kind, kind_of};
 use crate::lent::lent_set;
 use crate::operate::{
-    Side, better, compare, compare_numbers, divide, empty, fresh, numeric, product, push_element,
-    remain,
+    Side, better, compare_given, compare_numbers, difference, divide, fresh, into_number, into_set,
+    into_truth, numeric, part, product, push_element, remain,
 };
 use crate::quick::{known, known_truth};
 use crate::search::{count_of, push_tuple};
@@ -138,11 +139,7 @@ fn other_number(alloc: Global, code: &Code, env: &mut Vec<Value>) -> Result<i128
     ensures fit { IfOk result IsWithin }
     ensures kept { OnOk result (env.new.items ≡ env.old.items) }
 {
-    match eval_first(alloc, code, env)? {
-        Value::Int(z) => Ok(z),
-        Value::Truth(_) => Ok(0),
-        Value::Elements(_) => Ok(0),
-    }
+    Ok(into_number(eval_first(alloc, code, env)?))
 }
 
 #[cycle(eval)]
@@ -199,11 +196,7 @@ fn first_truth(alloc: Global, code: &Code, env: &mut Vec<Value>) -> Result<bool,
     ensures told { TruthAnswer result (as_truth (reached (code_tree code.now) (plains env.old.items))) }
     ensures kept { OnOk result (env.new.items ≡ env.old.items) }
 {
-    match eval_first(alloc, code, env)? {
-        Value::Truth(b) => Ok(b),
-        Value::Int(_) => Ok(false),
-        Value::Elements(_) => Ok(false),
-    }
+    Ok(into_truth(eval_first(alloc, code, env)?))
 }
 
 #[cycle(eval)]
@@ -223,11 +216,8 @@ fn other_set(alloc: Global, code: &Code, env: &mut Vec<Value>) -> Result<Set, St
     ensures told { SetAnswer result (as_set (reached (code_tree code.now) (plains env.old.items))) }
     ensures kept { OnOk result (env.new.items ≡ env.old.items) }
 {
-    match eval_first(alloc, code, env)? {
-        Value::Elements(s) => Ok(s),
-        Value::Int(_) => Ok(empty(alloc)?),
-        Value::Truth(_) => Ok(empty(alloc)?),
-    }
+    let v = eval_first(alloc, code, env)?;
+    into_set(alloc, v)
 }
 
 // The number that a form of numbers gives. No other form is passed to it.
@@ -241,6 +231,24 @@ fn count(alloc: Global, code: &Code, env: &mut Vec<Value>) -> Result<i128, Stop>
     match code {
         Code::Lit(k) => met_number(limited(*k)),
         Code::Sum(parts) => eval_sum(alloc, parts, env),
+        Code::Sub(_, _) | Code::Mul(_, _) => count_two(alloc, code, env),
+        Code::Neg(_) | Code::Div { .. } | Code::Mod { .. } => count_one(alloc, code, env),
+        Code::Min(parts) => eval_best(alloc, Side::Least, parts, env),
+        Code::Max(parts) => eval_best(alloc, Side::Greatest, parts, env),
+        Code::Card(a) => Ok(i128::from(eval_set(alloc, a, env)?.card())),
+        _ => Err(Stop::NoMemory),
+    }
+}
+
+// The same of the forms over two numbers.
+#[cycle(eval)]
+#[inline(always)]
+fn count_two(alloc: Global, code: &Code, env: &mut Vec<Value>) -> Result<i128, Stop>
+    ensures told { NumberAnswer result (as_number (reached (code_tree code.now) (plains env.old.items))) }
+    ensures fit { IfOk result IsWithin }
+    ensures kept { OnOk result (env.new.items ≡ env.old.items) }
+{
+    match code {
         Code::Sub(a, b) => {
             let x = eval_number(alloc, a, env)?;
             let y = eval_number(alloc, b, env)?;
@@ -251,12 +259,22 @@ fn count(alloc: Global, code: &Code, env: &mut Vec<Value>) -> Result<i128, Stop>
             let y = eval_number(alloc, b, env)?;
             product(x, y)
         }
+        _ => Err(Stop::NoMemory),
+    }
+}
+
+// The same of the forms over one number.
+#[cycle(eval)]
+#[inline(always)]
+fn count_one(alloc: Global, code: &Code, env: &mut Vec<Value>) -> Result<i128, Stop>
+    ensures told { NumberAnswer result (as_number (reached (code_tree code.now) (plains env.old.items))) }
+    ensures fit { IfOk result IsWithin }
+    ensures kept { OnOk result (env.new.items ≡ env.old.items) }
+{
+    match code {
         Code::Neg(a) => Ok(cf_num::neg(eval_number(alloc, a, env)?)),
         Code::Div { of, k } => Ok(divide(eval_number(alloc, of, env)?, *k)),
         Code::Mod { of, k } => Ok(remain(eval_number(alloc, of, env)?, *k)),
-        Code::Min(parts) => eval_best(alloc, Side::Least, parts, env),
-        Code::Max(parts) => eval_best(alloc, Side::Greatest, parts, env),
-        Code::Card(a) => Ok(i128::from(eval_set(alloc, a, env)?.card())),
         _ => Err(Stop::NoMemory),
     }
 }
@@ -264,22 +282,13 @@ fn count(alloc: Global, code: &Code, env: &mut Vec<Value>) -> Result<i128, Stop>
 // The truth value that a form of truth values gives. No other form is passed to it.
 #[cycle(eval)]
 #[inline(never)]
-#[tactic(auto, using(crate::proofs::FormLemmas::compare_ok, crate::proofs::FormLemmas::compare_left, crate::proofs::FormLemmas::compare_right))]
 fn test(alloc: Global, code: &Code, env: &mut Vec<Value>) -> Result<bool, Stop>
     ensures told { TruthAnswer result (as_truth (reached (code_tree code.now) (plains env.old.items))) }
     ensures kept { OnOk result (env.new.items ≡ env.old.items) }
 {
     match code {
         Code::Truth(t) => Ok(*t),
-        Code::Compare { order, left, right } => {
-            if numeric(*order, kind_of(left)) {
-                let x = eval_number(alloc, left, env)?;
-                let y = eval_number(alloc, right, env)?;
-                Ok(compare_numbers(*order, x, y))
-            } else {
-                compare_values(alloc, code, env)
-            }
-        }
+        Code::Compare { .. } => test_order(alloc, code, env),
         Code::Divides { k, of } => Ok(remain(eval_number(alloc, of, env)?, *k) == 0),
         Code::Not(a) => Ok(!eval_truth(alloc, a, env)?),
         Code::Subset(a, b) => {
@@ -290,7 +299,29 @@ fn test(alloc: Global, code: &Code, env: &mut Vec<Value>) -> Result<bool, Stop>
     }
 }
 
-// How the values of a comparison stand to each other. No other form is passed to it.
+// How the sides of a comparison stand to each other. No other form is passed to it.
+#[cycle(eval)]
+#[inline(always)]
+#[tactic(auto, using(crate::proofs::FormLemmas::compare_ok, crate::proofs::FormLemmas::compare_left, crate::proofs::FormLemmas::compare_right))]
+fn test_order(alloc: Global, code: &Code, env: &mut Vec<Value>) -> Result<bool, Stop>
+    ensures told { TruthAnswer result (as_truth (reached (code_tree code.now) (plains env.old.items))) }
+    ensures kept { OnOk result (env.new.items ≡ env.old.items) }
+{
+    match code {
+        Code::Compare { order, left, right } => {
+            if numeric(*order, kind_of(left)) {
+                let x = eval_number(alloc, left, env)?;
+                let y = eval_number(alloc, right, env)?;
+                Ok(compare_numbers(*order, x, y))
+            } else {
+                compare_values(alloc, code, env)
+            }
+        }
+        _ => Err(Stop::NoMemory),
+    }
+}
+
+// The same by the values of the sides. No other form is passed to it.
 #[cycle(eval)]
 #[inline(never)]
 fn compare_values(alloc: Global, code: &Code, env: &mut Vec<Value>) -> Result<bool, Stop>
@@ -301,7 +332,7 @@ fn compare_values(alloc: Global, code: &Code, env: &mut Vec<Value>) -> Result<bo
         Code::Compare { order, left, right } => {
             let v = eval_first(alloc, left, env)?;
             let w = eval_first(alloc, right, env)?;
-            Ok(compare(*order, &v, &w))
+            Ok(compare_given(*order, v, w))
         }
         _ => Err(Stop::NoMemory),
     }
@@ -343,22 +374,55 @@ fn made_set(alloc: Global, code: &Code, env: &mut Vec<Value>) -> Result<Set, Sto
         Code::Inter(parts) => eval_join(alloc, Join::Inter, parts, env),
         Code::Diff(a, b) => {
             let s = eval_set(alloc, a, env)?;
-            let t = eval_set(alloc, b, env)?;
-            Ok(s.diff(alloc, &t)?)
+            made_difference(alloc, s, b, env)
         }
+        Code::Slice { .. } => made_part(alloc, code, env),
+        Code::Fresh { avoid, n } => {
+            let s = eval_set(alloc, avoid, env)?;
+            made_fresh(alloc, s, n, env)
+        }
+        _ => Err(Stop::NoMemory),
+    }
+}
+
+// The elements of the set that are not in the one that the code gives.
+#[cycle(eval)]
+#[inline(always)]
+fn made_difference(alloc: Global, s: Set, code: &Code, env: &mut Vec<Value>) -> Result<Set, Stop>
+    ensures told { SetAnswer result (as_set (then_reached (as_set (reached (code_tree code.now) (plains env.old.items))) (λ y. gives_set (set_diff s y)))) }
+    ensures kept { OnOk result (env.new.items ≡ env.old.items) }
+{
+    let t = eval_set(alloc, code, env)?;
+    difference(alloc, s, t)
+}
+
+// Some elements of a set, in rising order. No form but a slice is passed to it.
+#[cycle(eval)]
+#[inline(always)]
+fn made_part(alloc: Global, code: &Code, env: &mut Vec<Value>) -> Result<Set, Stop>
+    ensures told { SetAnswer result (as_set (reached (code_tree code.now) (plains env.old.items))) }
+    ensures kept { OnOk result (env.new.items ≡ env.old.items) }
+{
+    match code {
         Code::Slice { set: of, from, n } => {
             let s = eval_set(alloc, of, env)?;
             let start = eval_number(alloc, from, env)?;
             let size = eval_number(alloc, n, env)?;
-            Ok(s.slice(alloc, start, size)?)
-        }
-        Code::Fresh { avoid, n } => {
-            let s = eval_set(alloc, avoid, env)?;
-            let size = eval_number(alloc, n, env)?;
-            fresh(alloc, &s, size)
+            part(alloc, s, start, size)
         }
         _ => Err(Stop::NoMemory),
     }
+}
+
+// As many numbers that are not in the set as the code gives.
+#[cycle(eval)]
+#[inline(always)]
+fn made_fresh(alloc: Global, s: Set, code: &Code, env: &mut Vec<Value>) -> Result<Set, Stop>
+    ensures told { SetAnswer result (as_set (then_reached (as_number (reached (code_tree code.now) (plains env.old.items))) (λ y. met_set (set_fresh s (count_of y))))) }
+    ensures kept { OnOk result (env.new.items ≡ env.old.items) }
+{
+    let size = eval_number(alloc, code, env)?;
+    fresh(alloc, &s, size)
 }
 
 // What the forms give whose parts or values decide what they give. No other form is passed to it.
@@ -372,6 +436,22 @@ fn choose(alloc: Global, code: &Code, env: &mut Vec<Value>) -> Result<Given, Sto
     match code {
         Code::Var(x) => met_copy(alloc, env.get(*x as usize)),
         Code::Tuple(parts) => Ok(Given::Several(eval_all(alloc, parts, env)?)),
+        Code::And(_, _) | Code::Or(_, _) | Code::If { .. } => choose_by_truth(alloc, code, env),
+        Code::Let { .. } => eval_let(alloc, code, env),
+        Code::Solve { number, arms } => eval_solve(alloc, *number, arms, env),
+        _ => Err(Stop::NoMemory),
+    }
+}
+
+// What the forms give that go on by a truth value. No other form is passed to it.
+#[cycle(eval)]
+#[inline(always)]
+fn choose_by_truth(alloc: Global, code: &Code, env: &mut Vec<Value>) -> Result<Given, Stop>
+    ensures told { RunAnswer result (reached (code_tree code.now) (plains env.old.items)) }
+    ensures fit { IfOk result IsGivenFit }
+    ensures kept { OnOk result (env.new.items ≡ env.old.items) }
+{
+    match code {
         Code::And(a, b) => {
             if eval_truth(alloc, a, env)? {
                 eval(alloc, b, env)
@@ -393,6 +473,19 @@ fn choose(alloc: Global, code: &Code, env: &mut Vec<Value>) -> Result<Given, Sto
                 eval(alloc, no, env)
             }
         }
+        _ => Err(Stop::NoMemory),
+    }
+}
+
+// What a let gives, with its value bound meanwhile. No other form is passed to it.
+#[cycle(eval)]
+#[inline(always)]
+fn eval_let(alloc: Global, code: &Code, env: &mut Vec<Value>) -> Result<Given, Stop>
+    ensures told { RunAnswer result (reached (code_tree code.now) (plains env.old.items)) }
+    ensures fit { IfOk result IsGivenFit }
+    ensures kept { OnOk result (env.new.items ≡ env.old.items) }
+{
+    match code {
         Code::Let { value, body, .. } => {
             let size = env.len();
             let bound = eval(alloc, value, env)?;
@@ -401,7 +494,6 @@ fn choose(alloc: Global, code: &Code, env: &mut Vec<Value>) -> Result<Given, Sto
             env.truncate(size);
             Ok(given)
         }
-        Code::Solve { number, arms } => eval_solve(alloc, *number, arms, env),
         _ => Err(Stop::NoMemory),
     }
 }
@@ -503,7 +595,7 @@ fn add_given(
     ensures kept { OnOk result (env.new.items ≡ env.old.items) }
 {
     let more = eval(alloc, code, env)?;
-    more.append_to(all)
+    push_given(more, all)
 }
 
 #[cycle(eval)]
@@ -683,7 +775,7 @@ fn bind_other(alloc: Global, code: &Code, env: &mut Vec<Value>) -> Result<(), St
     match code {
         Code::Var(x) => {
             let more = met_copy(alloc, env.get(*x as usize))?;
-            more.append_to(env)
+            push_given(more, env)
         }
         _ => bind_given(alloc, code, env),
     }
@@ -696,5 +788,5 @@ fn bind_given(alloc: Global, code: &Code, env: &mut Vec<Value>) -> Result<(), St
     ensures kept { OnOk result (Extends env.old.items env.new.items) }
 {
     let more = eval(alloc, code, env)?;
-    more.append_to(env)
+    push_given(more, env)
 }

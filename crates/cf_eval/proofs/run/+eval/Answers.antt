@@ -56,8 +56,8 @@ bind_exact-returns-in_ok-z-in-Number-clause-told t c =
     more_number (code_tree c.args.code.now) (plains c.args.env.now.items) c.in_ok-z-in-Number.z c.push_met.result c.args.env.now.items c.push_met.new.all.items
     (sym c.in-Number.ensures) c.in_ok-z-in-Number.ensures.told ok c.push_met.ensures.err
 
-pub test-returns-in_ok-y-in-Compare-clause-told : goal.test-returns-in_ok-y-in-Compare-clause-told
-test-returns-in_ok-y-in-Compare-clause-told t c =
+pub test_order-returns-in_ok-y-in-Compare-clause-told : goal.test_order-returns-in_ok-y-in-Compare-clause-told
+test_order-returns-in_ok-y-in-Compare-clause-told t c =
     let left = code_tree c.in-Compare.left.value in
     let right = code_tree c.in-Compare.right.value in
     let env = plains c.args.env.now.items in
