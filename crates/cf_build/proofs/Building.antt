@@ -40,8 +40,8 @@ use Rattle.cf_build.proofs.Meanings.{sides_have}
 use Rattle.cf_build.proofs.NumberOrder.{numbers_of, ordered_distinct, ordered_has, sorted_ordered, sorted_rises}
 use Rattle.cf_build.proofs.PickedPaths.{AreFit}
 use Rattle.cf_match.proofs.NoMatchLaws.{lowered_same}
+use Rattle.cf_pass.proofs.Ways.{same_way}
 use Rattle.cf_build.proofs.Programs.{Knows, bodies, program_known, map_reverse}
-use Rattle.cf_build.proofs.Rewriting.{worse_same}
 use Rattle.cf_build.proofs.Runs.{runs_as_picked, bodies_lowered}
 use Rattle.cf_build.proofs.SameCodes.{behind_same}
 use Rattle.cf_build.proofs.SolveLists.{solved_found}
@@ -272,7 +272,7 @@ module _ (ds : List Def) (main : ℕ) (t : IsTypedProgram (map def_tree ds) main
           like_main = (d, e, ps, rs);
           unfolded = λ _. c ∙ is_unfolded;
           rewritten = λ env h. subst (λ k. IsNoWorse (path (unfolded_code (map def_tree ds) main) env) (path k env)) (sym (c ∙ is_unfolded))
-              (worse_same (path (unfolded_code (map def_tree ds) main) env));
+              (same_way (path (unfolded_code (map def_tree ds) main) env));
           typed =
               subst (λ k. IsTypedCode k raw.params.items raw.results.items) (sym c)
               (subst (λ bs. IsTypedCode (called codes main) bs raw.results.items) (sym ps)

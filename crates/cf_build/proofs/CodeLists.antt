@@ -1,5 +1,5 @@
 -- Lists of codes of expressions, and calls.
-use Rattle.std.proofs.Common.{◌≡◌, ◌≢◌, ℕ, zero, suc, ◌+◌, ◌<◌, ◌≤◌, List, [], ◌∷◌, ◌++◌, map, length, refl, sym, ap, ap₂, ◌∙◌, arith}
+use Rattle.std.proofs.Common.{◌≡◌, ◌≢◌, ℕ, zero, suc, ◌+◌, ◌<◌, ◌≤◌, List, [], ◌∷◌, ◌++◌, map, length, Result, Ok, Err, IfOk, refl, sym, ap, ap₂, ◌∙◌, arith}
 use Rattle.std.proofs.lemmas.List.{length-map}
 use Rattle.cf_tree.specs.CodeTree.{CodeTree, code_tuple, code_let, CodeTrees, no_codes, code_more, codes_of, count}
 use Rattle.cf_tree.specs.CodeView.{code_tree, code_trees}
@@ -92,3 +92,8 @@ module _ (solves : List (ℕ × CodeTree)) (before : List DefTree) (by n : ℕ) 
   call_among f first es e args body c is k a b h =
       h ∙ ap (λ m. call_code m args body) k ∙ ap₂ (λ x y. call_code (by + n) x y) a b ∙ sym (call_shifted by n _ _)
       ∙ ap (λ d. code_among solves before by n d) (sym is)
+
+-- what is said of an answer in two clauses
+pub both_hold : {A E : Type 0} (r : Result A E) (P Q : A → Type 0) → IfOk r P → IfOk r Q → IfOk r (λ x. P x × Q x)
+both_hold (Ok x) P Q h k = (h, k)
+both_hold (Err e) P Q h k = tt

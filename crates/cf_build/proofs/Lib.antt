@@ -12,7 +12,6 @@ pub mod LoweredAnswers
 pub mod Meanings
 pub mod NumberOrder
 pub mod OrderExamples
-pub mod PassLists
 pub mod PickedPaths
 pub mod Programs
 pub mod QuestionLaws

@@ -1,40 +1,18 @@
 -- A built target stays one where passes rewrite it.
 use Rattle.std.proofs.Common.{◌≡◌, ℕ, ◌≤◌, List, length, Some, refl, sym, ap, ◌∙◌, subst, arith}
 use Rattle.cf_num.specs.Limit.{limit}
-use Rattle.cf_tree.specs.CodeTree.{CodeTree}
 use Rattle.cf_tree.specs.CodeView.{code_tree}
 use Rattle.cf_tree.specs.DefView.{DefTree}
-use Rattle.cf_tree.specs.Meaning.{Path, path, means, peak, outcome_of}
+use Rattle.cf_tree.specs.Meaning.{path, means, peak, outcome_of}
 use Rattle.cf_tree.specs.Typing.{IsTypedCode}
 use Rattle.cf_tree.specs.Values.{Value, HaveBases}
 use Rattle.cf_tree.specs.declared.target.RawTarget.{RawTarget}
-use Rattle.cf_pass.specs.Improves.{Improves, IsNoWorse}
+use Rattle.cf_pass.specs.Improves.{IsNoWorse}
 use Rattle.cf_growth.specs.Meeting.{AreSmall}
+use Rattle.cf_rewrite.specs.Rewritten.{IsRewritten}
 use Rattle.cf_build.specs.Built.{IsBuilt, SourceAllows}
-use Rattle.cf_build.specs.Rewritten.{IsRewritten}
 use Rattle.cf_build.specs.Runs.{RunsAsPicked}
 
--- ---- one pass after the other
-pub worse_same : {A : Type 0} (p : Path A) → IsNoWorse p p
-worse_same p = record { gives = refl; peak = omega arith }
-
-worse_then : {A : Type 0} (p q r : Path A) → IsNoWorse p q → IsNoWorse q r → IsNoWorse p r
-worse_then p q r h k = record { gives = k.gives ∙ h.gives; peak = omega (arith, h.peak, k.peak) }
-
-pub improves_then : (outside : ℕ) (c d e : CodeTree) → Improves outside c d → Improves outside d e → Improves outside c e
-improves_then outside c d e f g = record {
-  typed = λ scope asked bs s h. g.typed scope asked bs s (f.typed scope asked bs s h);
-  runs = λ scope asked bs env s h k.
-      worse_then (path c env) (path d env) (path e env) (f.runs scope asked bs env s h k) (g.runs scope asked bs env s (f.typed scope asked bs s h) k);
-  size = omega (arith, f.size, g.size);
-  deep = omega (arith, f.deep, g.deep);
-  lacks = λ x l h. g.lacks x l (f.lacks x l h);
-  spelled = λ h. g.spelled (f.spelled h);
-  no_solve = λ h. g.no_solve (f.no_solve h);
-  no_tuple = λ h. g.no_tuple (f.no_tuple h);
-}
-
--- ---- the target
 module _ (defs : List DefTree) (main passes : ℕ) (before after : RawTarget) (b : IsBuilt defs main 0 before) (r : IsRewritten passes before after) where
   no_worse : (env : List Value) → HaveBases after.params.items env → IsNoWorse (path (code_tree before.code) env) (path (code_tree after.code) env)
   no_worse env h =

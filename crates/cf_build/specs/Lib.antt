@@ -2,7 +2,6 @@ pub mod Built
 pub mod Codes
 pub mod Lowering
 pub mod Questions
-pub mod Rewritten
 pub mod Runs
 pub mod Shifted
 pub mod Solves

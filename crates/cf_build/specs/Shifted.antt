@@ -1,5 +1,5 @@
 -- Code whose levels are greater, and whose levels fit 32 bits.
-use Rattle.std.specs.Prelude.{ℕ, ◌+◌, ◌^◌, ◌<◌, ◌≤◌}
+use Rattle.std.specs.Prelude.{ℕ, ◌+◌, ◌^◌, ◌<◌, ◌≤◌, ◌≡◌}
 use Rattle.cf_tree.specs.CodeTree.{CodeTree, code_lit, code_truth, code_var, code_set_of, code_tuple, code_sum, code_sub, code_mul, code_neg, code_div, code_mod, code_min, code_max, code_compare, code_divides, code_and, code_or, code_not, code_union, code_inter, code_diff, code_subset, code_card, code_slice, code_fresh, code_if, code_let, code_solve, CodeTrees, no_codes, code_more, ItemTree, let_item, need_item, ItemTrees, no_items, item_more, ArmTree, arm_of, ArmTrees, no_arms, arm_more}
 
 -- the same code behind so many more variables
@@ -108,3 +108,22 @@ abbrev mutual
 abbrev pub IsNoLet : CodeTree → Type 0
 IsNoLet (code_let first n a b) = ⊥
 IsNoLet _ = Unit {0}
+
+-- the second code is the first, and its levels fit
+abbrev pub IsLevelled : CodeTree → CodeTree → Type 0
+IsLevelled c d = (d ≡ c) × HasLevels d
+
+abbrev pub AreLevelled : CodeTrees → CodeTrees → Type 0
+AreLevelled cs ds = (ds ≡ cs) × HaveLevels ds
+
+abbrev pub ItemIsLevelled : ItemTree → ItemTree → Type 0
+ItemIsLevelled i j = (j ≡ i) × ItemHasLevels j
+
+abbrev pub ItemsAreLevelled : ItemTrees → ItemTrees → Type 0
+ItemsAreLevelled is js = (js ≡ is) × ItemsHaveLevels js
+
+abbrev pub ArmIsLevelled : ArmTree → ArmTree → Type 0
+ArmIsLevelled a b = (b ≡ a) × ArmHasLevels b
+
+abbrev pub ArmsAreLevelled : ArmTrees → ArmTrees → Type 0
+ArmsAreLevelled arms brms = (brms ≡ arms) × ArmsHaveLevels brms

@@ -17,10 +17,10 @@ use crate::choose_codes::{ChooseCodes, choose_codes};
 use crate::chooses::bases;
 use crate::codes::main_code;
 use crate::fault::BuildFault;
-use crate::rewrite::rewritten;
 use crate::solves::{SolvedChoose, solve_all};
 use cf_pass::Pass;
 use cf_program::typed::Typed;
+use cf_rewrite::rewritten;
 use cf_tree::code::Code;
 use cf_tree::expr::Def;
 use cf_tree::memory::{NoMemory, without};
@@ -33,7 +33,7 @@ use std::alloc::Global;
 ///
 /// # Errors
 /// The refused choose with the least number, with the first limit that it passes; or want of memory.
-#[tactic(auto, using(crate::proofs::PassLists::none_fell))]
+#[tactic(auto, using(cf_rewrite::proofs::PassLists::none_fell))]
 pub fn build(
     alloc: Global,
     typed: &Typed,
@@ -53,7 +53,7 @@ pub fn build(
 }
 
 // The target, where all chooses are solved.
-#[tactic(auto, using(crate::proofs::PassLists::none_fell))]
+#[tactic(auto, using(cf_rewrite::proofs::PassLists::none_fell))]
 fn built(
     alloc: Global,
     typed: &Typed,

@@ -6,7 +6,7 @@ ghost use Rattle.cf_tree.specs.CodeView.{code_tree, code_trees};
 ghost use Rattle.cf_tree.specs.DefView.{def_tree};
 ghost use Rattle.cf_tree.specs.ExprView.{expr_tree, expr_trees};
 ghost use Rattle.cf_build.specs.Codes.{two, over_list, over_one, binary_code, joined_code, call_code, called, choose_code, code_among, codes_among, codes_behind, numbered, solved_in};
-ghost use Rattle.cf_build.specs.Shifted.{shifted, HasLevels, HaveLevels};
+ghost use Rattle.cf_build.specs.Shifted.{shifted, HasLevels, HaveLevels, IsLevelled, AreLevelled};
 
 use crate::choose_codes::ChooseCodes;
 use crate::shift::{first_level, level_sum, shift};
@@ -48,9 +48,8 @@ pub(crate) fn main_code(
 // The code of an expression behind n variables of its function.
 #[cycle(code)]
 fn code(around: &Around, expr: &Expr, n: u32) -> Result<Code, NoMemory>
-    ensures code { IfOk result (λ c. code_tree c ≡ code_among (map choose_code around.now.solves.now.codes.items) (map def_tree around.now.before.now)
-        around.now.by n (expr_tree expr.now)) }
-    ensures levels { IfOk result (λ c. HasLevels (code_tree c)) }
+    ensures { IfOk result (λ c. IsLevelled (code_among (map choose_code around.now.solves.now.codes.items) (map def_tree around.now.before.now)
+        around.now.by n (expr_tree expr.now)) (code_tree c)) }
 {
     match expr {
         Expr::Lit(k) => Ok(Code::Lit(*k)),
@@ -111,18 +110,16 @@ fn code(around: &Around, expr: &Expr, n: u32) -> Result<Code, NoMemory>
 
 #[cycle(code)]
 fn boxed(around: &Around, expr: &Expr, n: u32) -> Result<Box<Code>, NoMemory>
-    ensures code { IfOk result (λ c. code_tree c.value ≡ code_among (map choose_code around.now.solves.now.codes.items) (map def_tree around.now.before.now)
-        around.now.by n (expr_tree expr.now)) }
-    ensures levels { IfOk result (λ c. HasLevels (code_tree c.value)) }
+    ensures { IfOk result (λ c. IsLevelled (code_among (map choose_code around.now.solves.now.codes.items) (map def_tree around.now.before.now)
+        around.now.by n (expr_tree expr.now)) (code_tree c.value)) }
 {
     Ok(Box::new(around.alloc, code(around, expr, n)?)?)
 }
 
 #[cycle(code)]
 fn all(around: &Around, exprs: &[Expr], n: u32) -> Result<Vec<Code>, NoMemory>
-    ensures code { IfOk result (λ cs. code_trees cs.items ≡ codes_among (map choose_code around.now.solves.now.codes.items) (map def_tree around.now.before.now)
-        around.now.by n (expr_trees exprs.now)) }
-    ensures levels { IfOk result (λ cs. HaveLevels (code_trees cs.items)) }
+    ensures { IfOk result (λ cs. AreLevelled (codes_among (map choose_code around.now.solves.now.codes.items) (map def_tree around.now.before.now)
+        around.now.by n (expr_trees exprs.now)) (code_trees cs.items)) }
 {
     let mut all = Vec::new(around.alloc);
     for expr in exprs {
@@ -134,9 +131,8 @@ fn all(around: &Around, exprs: &[Expr], n: u32) -> Result<Vec<Code>, NoMemory>
 // The body of function number `number`, called behind n variables.
 #[cycle(code)]
 fn callee(around: &Around, number: u32, n: u32) -> Result<Code, NoMemory>
-    ensures code { IfOk result (λ c. code_tree c ≡ shifted (around.now.by + n)
-        (called (codes_behind (solved_in (map choose_code around.now.solves.now.codes.items)) [] (map def_tree around.now.before.now)) number)) }
-    ensures levels { IfOk result (λ c. HasLevels (code_tree c)) }
+    ensures { IfOk result (λ c. IsLevelled (shifted (around.now.by + n)
+        (called (codes_behind (solved_in (map choose_code around.now.solves.now.codes.items)) [] (map def_tree around.now.before.now)) number)) (code_tree c)) }
 {
     match around.before.get(number as usize) {
         Some(def) => {
@@ -165,8 +161,7 @@ fn arity(def: &Def) -> Result<u32, NoMemory>
 // The code of a set of these codes, or of a tuple.
 fn over_list(expr: &Expr, parts: Vec<Code>) -> Code
     requires { HaveLevels (code_trees parts.items) }
-    ensures code { code_tree result ≡ over_list (expr_tree expr.now) (code_trees parts.items) }
-    ensures levels { HasLevels (code_tree result) }
+    ensures { IsLevelled (over_list (expr_tree expr.now) (code_trees parts.items)) (code_tree result) }
 {
     match expr {
         Expr::SetOf(_) => Code::SetOf(parts),
@@ -177,8 +172,7 @@ fn over_list(expr: &Expr, parts: Vec<Code>) -> Code
 // The code of a form with one part, which has this code.
 fn over_one(expr: &Expr, a: Box<Code>) -> Code
     requires { HasLevels (code_tree a.value) }
-    ensures code { code_tree result ≡ over_one (expr_tree expr.now) (code_tree a.value) }
-    ensures levels { HasLevels (code_tree result) }
+    ensures { IsLevelled (over_one (expr_tree expr.now) (code_tree a.value)) (code_tree result) }
 {
     match expr {
         Expr::Neg(_) => Code::Neg(a),
@@ -193,8 +187,7 @@ fn over_one(expr: &Expr, a: Box<Code>) -> Code
 
 // The greater of the number of level n and its negative.
 fn greater(alloc: Global, n: u32) -> Result<Box<Code>, NoMemory>
-    ensures code { IfOk result (λ c. code_tree c.value ≡ code_max (two (code_var n) (code_neg (code_var n)))) }
-    ensures levels { IfOk result (λ c. HasLevels (code_tree c.value)) }
+    ensures { IfOk result (λ c. IsLevelled (code_max (two (code_var n) (code_neg (code_var n)))) (code_tree c.value)) }
 {
     let negative = Code::Neg(Box::new(alloc, Code::Var(n))?);
     let parts = pair(alloc, Code::Var(n), negative)?;
@@ -214,8 +207,7 @@ fn pair<T: Drop>(alloc: Global, a: T, b: T) -> Result<Vec<T>, NoMemory>
 fn binary(alloc: Global, op: BinOp, a: Box<Code>, b: Box<Code>) -> Result<Code, NoMemory>
     requires left { HasLevels (code_tree a.value) }
     requires right { HasLevels (code_tree b.value) }
-    ensures code { IfOk result (λ c. code_tree c ≡ binary_code op (code_tree a.value) (code_tree b.value)) }
-    ensures levels { IfOk result (λ c. HasLevels (code_tree c)) }
+    ensures { IfOk result (λ c. IsLevelled (binary_code op (code_tree a.value) (code_tree b.value)) (code_tree c)) }
 {
     match op {
         BinOp::Add => Ok(Code::Sum(pair(alloc, Box::into_inner(a), Box::into_inner(b))?)),
@@ -289,8 +281,7 @@ fn solve_numbered(
     number: u32,
     by: u32,
 ) -> Result<Code, NoMemory>
-    ensures code { IfOk result (λ c. code_tree c ≡ shifted by (numbered (map choose_code solves.now.codes.items) number)) }
-    ensures levels { IfOk result (λ c. HasLevels (code_tree c)) }
+    ensures { IfOk result (λ c. IsLevelled (shifted by (numbered (map choose_code solves.now.codes.items) number)) (code_tree c)) }
 {
     match solves.find(number) {
         Some(code) => shift(alloc, code, by),

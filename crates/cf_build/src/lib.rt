@@ -6,7 +6,6 @@ mod choose_codes;
 pub mod chooses;
 mod codes;
 pub mod fault;
-mod rewrite;
 mod shift;
 pub mod solves;
 

@@ -2,7 +2,7 @@
 ghost use Rattle.std.specs.Prelude.{◌≡◌, ◌+◌, ◌<◌, ◌^◌, IfOk};
 ghost use Rattle.cf_tree.specs.CodeView.{code_tree, item_tree, arm_tree, code_trees, item_trees, arm_trees};
 ghost use Rattle.cf_tree.specs.SameParts.{IsCodeOverList, IsCodeOverOne, IsCodeOverTwo, IsCodeOverThree};
-ghost use Rattle.cf_build.specs.Shifted.{IsNoLet, shifted, all_shifted, item_shifted, items_shifted, arm_shifted, arms_shifted, HasLevels, HaveLevels, ItemHasLevels, ItemsHaveLevels, ArmHasLevels, ArmsHaveLevels};
+ghost use Rattle.cf_build.specs.Shifted.{IsNoLet, shifted, all_shifted, item_shifted, items_shifted, arm_shifted, arms_shifted, HasLevels, HaveLevels, IsLevelled, AreLevelled, ItemIsLevelled, ItemsAreLevelled, ArmIsLevelled, ArmsAreLevelled};
 
 use cf_tree::code::{Arm, Code, Item};
 use cf_tree::memory::NoMemory;
@@ -21,8 +21,7 @@ pub(crate) fn level_sum(a: u32, b: u32) -> Result<u32, NoMemory>
 // A copy of the code behind `by` more variables.
 #[cycle(shift)]
 pub(crate) fn shift(alloc: Global, code: &Code, by: u32) -> Result<Code, NoMemory>
-    ensures code { IfOk result (λ new. code_tree new ≡ shifted by (code_tree code.now)) }
-    ensures levels { IfOk result (λ new. HasLevels (code_tree new)) }
+    ensures { IfOk result (λ new. IsLevelled (shifted by (code_tree code.now)) (code_tree new)) }
 {
     match code {
         Code::Lit(k) => Ok(Code::Lit(*k)),
@@ -106,8 +105,7 @@ pub(crate) fn shift(alloc: Global, code: &Code, by: u32) -> Result<Code, NoMemor
 fn over_list(code: &Code, by: u32, parts: Vec<Code>) -> Code
     requires parts { IsCodeOverList (shifted by (code_tree code.now)) (code_trees parts.items) }
     requires levels { HaveLevels (code_trees parts.items) }
-    ensures code { code_tree result ≡ shifted by (code_tree code.now) }
-    ensures levels { HasLevels (code_tree result) }
+    ensures { IsLevelled (shifted by (code_tree code.now)) (code_tree result) }
 {
     match code {
         Code::SetOf(_) => Code::SetOf(parts),
@@ -125,8 +123,7 @@ fn over_list(code: &Code, by: u32, parts: Vec<Code>) -> Code
 fn over_one(code: &Code, by: u32, a: Box<Code>) -> Code
     requires part { IsCodeOverOne (shifted by (code_tree code.now)) (code_tree a.value) }
     requires levels { HasLevels (code_tree a.value) }
-    ensures code { code_tree result ≡ shifted by (code_tree code.now) }
-    ensures levels { HasLevels (code_tree result) }
+    ensures { IsLevelled (shifted by (code_tree code.now)) (code_tree result) }
 {
     match code {
         Code::Neg(_) => Code::Neg(a),
@@ -144,8 +141,7 @@ fn over_two(code: &Code, by: u32, a: Box<Code>, b: Box<Code>) -> Code
     requires parts { IsCodeOverTwo (shifted by (code_tree code.now)) (code_tree a.value) (code_tree b.value) }
     requires no_let { IsNoLet (code_tree code.now) }
     requires levels { HasLevels (code_tree a.value) × HasLevels (code_tree b.value) }
-    ensures code { code_tree result ≡ shifted by (code_tree code.now) }
-    ensures levels { HasLevels (code_tree result) }
+    ensures { IsLevelled (shifted by (code_tree code.now)) (code_tree result) }
 {
     match code {
         Code::Sub(_, _) => Code::Sub(a, b),
@@ -168,8 +164,7 @@ fn over_two(code: &Code, by: u32, a: Box<Code>, b: Box<Code>) -> Code
 fn over_three(code: &Code, by: u32, a: Box<Code>, b: Box<Code>, c: Box<Code>) -> Code
     requires parts { IsCodeOverThree (shifted by (code_tree code.now)) (code_tree a.value) (code_tree b.value) (code_tree c.value) }
     requires levels { HasLevels (code_tree a.value) × HasLevels (code_tree b.value) × HasLevels (code_tree c.value) }
-    ensures code { code_tree result ≡ shifted by (code_tree code.now) }
-    ensures levels { HasLevels (code_tree result) }
+    ensures { IsLevelled (shifted by (code_tree code.now)) (code_tree result) }
 {
     match code {
         Code::Slice { .. } => Code::Slice {
@@ -197,16 +192,14 @@ pub(crate) fn first_level(by: u32, first: u32, count: u32) -> Result<u32, NoMemo
 
 #[cycle(shift)]
 fn boxed(alloc: Global, code: &Code, by: u32) -> Result<Box<Code>, NoMemory>
-    ensures code { IfOk result (λ new. code_tree new.value ≡ shifted by (code_tree code.now)) }
-    ensures levels { IfOk result (λ new. HasLevels (code_tree new.value)) }
+    ensures { IfOk result (λ new. IsLevelled (shifted by (code_tree code.now)) (code_tree new.value)) }
 {
     Ok(Box::new(alloc, shift(alloc, code, by)?)?)
 }
 
 #[cycle(shift)]
 fn shift_all(alloc: Global, codes: &[Code], by: u32) -> Result<Vec<Code>, NoMemory>
-    ensures code { IfOk result (λ new. code_trees new.items ≡ all_shifted by (code_trees codes.now)) }
-    ensures levels { IfOk result (λ new. HaveLevels (code_trees new.items)) }
+    ensures { IfOk result (λ new. AreLevelled (all_shifted by (code_trees codes.now)) (code_trees new.items)) }
 {
     let mut all = Vec::new(alloc);
     for code in codes {
@@ -217,8 +210,7 @@ fn shift_all(alloc: Global, codes: &[Code], by: u32) -> Result<Vec<Code>, NoMemo
 
 #[cycle(shift)]
 fn shift_item(alloc: Global, item: &Item, by: u32) -> Result<Item, NoMemory>
-    ensures code { IfOk result (λ new. item_tree new ≡ item_shifted by (item_tree item.now)) }
-    ensures levels { IfOk result (λ new. ItemHasLevels (item_tree new)) }
+    ensures { IfOk result (λ new. ItemIsLevelled (item_shifted by (item_tree item.now)) (item_tree new)) }
 {
     match item {
         Item::Let(code) => Ok(Item::Let(shift(alloc, code, by)?)),
@@ -228,8 +220,7 @@ fn shift_item(alloc: Global, item: &Item, by: u32) -> Result<Item, NoMemory>
 
 #[cycle(shift)]
 fn shift_items(alloc: Global, items: &[Item], by: u32) -> Result<Vec<Item>, NoMemory>
-    ensures code { IfOk result (λ new. item_trees new.items ≡ items_shifted by (item_trees items.now)) }
-    ensures levels { IfOk result (λ new. ItemsHaveLevels (item_trees new.items)) }
+    ensures { IfOk result (λ new. ItemsAreLevelled (items_shifted by (item_trees items.now)) (item_trees new.items)) }
 {
     let mut all = Vec::new(alloc);
     for item in items {
@@ -240,8 +231,7 @@ fn shift_items(alloc: Global, items: &[Item], by: u32) -> Result<Vec<Item>, NoMe
 
 #[cycle(shift)]
 fn shift_arm(alloc: Global, arm: &Arm, by: u32) -> Result<Arm, NoMemory>
-    ensures code { IfOk result (λ new. arm_tree new ≡ arm_shifted by (arm_tree arm.now)) }
-    ensures levels { IfOk result (λ new. ArmHasLevels (arm_tree new)) }
+    ensures { IfOk result (λ new. ArmIsLevelled (arm_shifted by (arm_tree arm.now)) (arm_tree new)) }
 {
     Ok(Arm {
         bounds: Vec::from_slice(alloc, &arm.bounds)?,
@@ -252,8 +242,7 @@ fn shift_arm(alloc: Global, arm: &Arm, by: u32) -> Result<Arm, NoMemory>
 
 #[cycle(shift)]
 fn shift_arms(alloc: Global, arms: &[Arm], by: u32) -> Result<Vec<Arm>, NoMemory>
-    ensures code { IfOk result (λ new. arm_trees new.items ≡ arms_shifted by (arm_trees arms.now)) }
-    ensures levels { IfOk result (λ new. ArmsHaveLevels (arm_trees new.items)) }
+    ensures { IfOk result (λ new. ArmsAreLevelled (arms_shifted by (arm_trees arms.now)) (arm_trees new.items)) }
 {
     let mut all = Vec::new(alloc);
     for arm in arms {

@@ -8,4 +8,4 @@ use Rattle.cf_build.proofs.codes.main_code.Goals as goal
 pub returns-clause-code : goal.returns-clause-code
 returns-clause-code c =
     let codes = codes_behind (solved_in (map choose_code c.args.solves.now.codes.items)) [] (map def_tree c.args.defs.now) in
-    IfOk-weaker c.callee.result _ _ (λ code h. h ∙ shifted_none (called codes c.args.main)) c.callee.ensures.code
+    IfOk-weaker c.callee.result _ _ (λ code h. h.0 ∙ shifted_none (called codes c.args.main)) c.callee.ensures

@@ -1,8 +1,8 @@
 use Rattle.std.proofs.Common.{◌≡◌}
 use Rattle.cf_tree.specs.CodeView.{code_tree}
 use Rattle.cf_pass.specs.Improves.{Improves}
-use Rattle.cf_build.proofs.PassLists.{AreUnder}
-use Rattle.cf_build.proofs.rewrite.rewrite_by_each.Given as goal
+use Rattle.cf_rewrite.proofs.PassLists.{AreUnder}
+use Rattle.cf_rewrite.proofs.rewrite.rewrite_by_each.Given as goal
 
 abbrev pub invariant-loop-pass : goal.invariant-loop-pass
 invariant-loop-pass g l =

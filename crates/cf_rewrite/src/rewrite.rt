@@ -5,7 +5,7 @@ ghost use Rattle.cf_tree.specs.RelSize.{capped};
 ghost use Rattle.cf_tree.specs.Typing.{IsWellTyped};
 ghost use Rattle.cf_pass.specs.Improves.{Improves, IsTypedBehind};
 ghost use Rattle.cf_pass.specs.Passes.{NoneFell};
-ghost use Rattle.cf_build.specs.Rewritten.{IsRewritten};
+ghost use Rattle.cf_rewrite.specs.Rewritten.{IsRewritten};
 
 use cf_pass::Pass;
 use cf_tree::code::Code;
@@ -13,9 +13,13 @@ use cf_tree::memory::{NoMemory, without};
 use cf_tree::target::{RawTarget, Target};
 use std::alloc::Global;
 
-// The target whose code each pass has rewritten once, in order.
+/// The target whose code each pass has rewritten once, in order. Where a pass finds no memory, the code
+/// stands as it left it, and the next one runs.
+///
+/// # Errors
+/// Want of memory, before any pass is called: there are more parameters than 32 bits count.
 #[tactic(auto, using(crate::proofs::PassLists::none_fell))]
-pub(crate) fn rewritten(
+pub fn rewritten(
     alloc: Global,
     raw: RawTarget,
     passes: &mut Vec<Box<dyn Pass>>,

@@ -1,7 +1,7 @@
 use Rattle.std.proofs.Common.{Some, refl, sym, subst}
 use Rattle.cf_tree.specs.CodeView.{code_tree}
 use Rattle.cf_pass.specs.Improves.{Improves}
-use Rattle.cf_build.proofs.rewrite.rewritten_behind.Goals as goal
+use Rattle.cf_rewrite.proofs.rewrite.rewritten_behind.Goals as goal
 
 pub rewrite_by_each-requires : goal.rewrite_by_each-requires
 rewrite_by_each-requires g c = (c.args.raw.params.items, c.args.raw.results.items, c.requires.outside, c.requires.typed)

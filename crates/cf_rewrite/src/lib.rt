@@ -1,0 +1,6 @@
+//! Targets that are rewritten by passes.
+#![tactic(auto)]
+
+mod rewrite;
+
+pub use rewrite::rewritten;
