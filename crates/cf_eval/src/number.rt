@@ -12,7 +12,8 @@ use cf_lex::digits::{digits_len, literal};
 fn with_digit(n: u64, b: u8) -> Option<u64>
     ensures { IfSome result (λ m. m ≡ n * 10 + (b - 48)) }
 {
-    n.checked_mul(10)?.checked_add(u64::from(b.saturating_sub(b'0')))
+    n.checked_mul(10)?
+        .checked_add(u64::from(b.saturating_sub(b'0')))
 }
 
 // The value of a run of digits, where it has 64 bits.

@@ -60,11 +60,7 @@ pub struct Ending {
 }
 
 /// How a call with these passes ends.
-pub fn ended(
-    alloc: Global,
-    call: &Call,
-    passes: Vec<Box<dyn Pass>>,
-) -> Result<Ending, NoMemory> {
+pub fn ended(alloc: Global, call: &Call, passes: Vec<Box<dyn Pass>>) -> Result<Ending, NoMemory> {
     let words = words(alloc, call.command, call.flags)?;
     let mut shelf = shelf_of(alloc, call.text.as_bytes(), call.faults.shelf)?;
     let mut input = Dripping::new(call.input.as_bytes(), call.faults.input);
