@@ -13,8 +13,6 @@ pub mod laws;
 mod marks;
 mod mixing;
 pub mod next;
-pub mod prove;
 pub mod question;
-mod trace;
 pub mod verdict;
 pub mod verify;
