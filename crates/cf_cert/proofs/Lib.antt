@@ -4,7 +4,6 @@ pub mod ApplyLaws
 pub mod StepLaws
 pub mod WayLaws
 pub mod FollowLaws
-pub mod MarkLaws
 pub mod ArmsLaws
 pub mod CertifiedArms
 pub mod SpelledLaws

@@ -4,5 +4,4 @@ pub mod Certifying
 pub mod Following
 pub mod Judging
 pub mod Laws
-pub mod Marks
 pub mod Verifying

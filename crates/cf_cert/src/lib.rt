@@ -10,7 +10,6 @@ mod fault;
 pub mod follow;
 mod judge;
 pub mod laws;
-mod marks;
 mod mixing;
 pub mod next;
 pub mod question;

@@ -2,7 +2,7 @@
 ghost use Rattle.std.specs.Prelude.{◌≡◌, ◌↔◌, ◌++◌, ◌∷◌, [], true, OnOk, IfOk};
 ghost use Rattle.cf_tree.specs.CodeTree.{code_solve};
 ghost use Rattle.cf_tree.specs.CodeView.{code_tree, code_trees, item_tree, item_trees, arm_tree, arm_trees};
-ghost use Rattle.cf_cert.specs.Marks.{code_marks, codes_marks, bounds_marks, item_marks, items_marks, arm_marks, arms_marks, numbers_of, plain_numbers};
+ghost use Rattle.cf_marks.specs.Marks.{code_marks, parts_marks, codes_marks, bounds_marks, item_marks, items_marks, arm_marks, arms_marks, numbers_of, plain_numbers};
 
 use cf_tree::base::Order;
 use cf_tree::code::{Arm, Code, Item};
@@ -52,8 +52,11 @@ pub(crate) enum Mark {
     End,
 }
 
-// Whether the code is the `solve` of that number with these arms.
-pub(crate) fn is_solve(
+/// Whether the code is the `solve` of that number with these arms.
+///
+/// # Errors
+/// `NoMemory` where memory ran out.
+pub fn is_solve(
     alloc: Global,
     code: &Code,
     number: u32,
@@ -61,28 +64,20 @@ pub(crate) fn is_solve(
 ) -> Result<bool, NoMemory>
     ensures { IfOk result (λ b. (b ≡ true) ↔ (code_tree code.now ≡ code_solve number (arm_trees arms.now))) }
 {
-    let found = marks(alloc, code)?;
-    let made = solve_marks(alloc, number, arms)?;
+    let mut found = Vec::new(alloc);
+    put_code(&mut found, code)?;
+    let mut made = Vec::new(alloc);
+    put_solve(&mut made, number, arms)?;
     Ok(same_marks(&found, &made))
 }
 
-// The marks of a `solve`.
-fn solve_marks(alloc: Global, number: u32, arms: &[Arm]) -> Result<Vec<Mark>, NoMemory>
-    ensures { IfOk result (λ v. v.items ≡ code_marks (code_solve number (arm_trees arms.now))) }
+// Puts the marks of a `solve` at the end.
+fn put_solve(out: &mut Vec<Mark>, number: u32, arms: &[Arm]) -> Result<(), NoMemory>
+    ensures { OnOk result (out.new.items ≡ out.old.items ++ code_marks (code_solve number (arm_trees arms.now))) }
 {
-    let mut out = Vec::new(alloc);
     out.push(Mark::Solve(number))?;
-    put_arms(&mut out, arms)?;
-    Ok(out)
-}
-
-// The marks of a code.
-fn marks(alloc: Global, code: &Code) -> Result<Vec<Mark>, NoMemory>
-    ensures { IfOk result (λ v. v.items ≡ code_marks (code_tree code.now)) }
-{
-    let mut out = Vec::new(alloc);
-    put_code(&mut out, code)?;
-    Ok(out)
+    put_arms(out, arms)?;
+    Ok(())
 }
 
 // Whether both lists have the same marks.
@@ -196,103 +191,110 @@ fn numbers_with(form: u32, literal: i128, first: u32, second: u32) -> Numbers
     }
 }
 
+// The mark before those of a code's parts.
+fn head_mark(code: &Code) -> Mark
+    ensures { code_marks (code_tree code.now) ≡ result ∷ parts_marks (code_tree code.now) }
+{
+    match code {
+        Code::Lit(k) => Mark::Lit(*k),
+        Code::Truth(t) => Mark::Truth(*t),
+        Code::Var(x) => Mark::Var(*x),
+        Code::SetOf(_) => Mark::SetOf,
+        Code::Tuple(_) => Mark::Tuple,
+        Code::Sum(_) => Mark::Sum,
+        Code::Sub(_, _) => Mark::Sub,
+        Code::Mul(_, _) => Mark::Mul,
+        Code::Neg(_) => Mark::Neg,
+        Code::Div { k, .. } => Mark::Div(*k),
+        Code::Mod { k, .. } => Mark::Mod(*k),
+        Code::Min(_) => Mark::Min,
+        Code::Max(_) => Mark::Max,
+        Code::Compare { order, .. } => Mark::Compare(*order),
+        Code::Divides { k, .. } => Mark::Divides(*k),
+        Code::And(_, _) => Mark::And,
+        Code::Or(_, _) => Mark::Or,
+        Code::Not(_) => Mark::Not,
+        Code::Union(_) => Mark::Union,
+        Code::Inter(_) => Mark::Inter,
+        Code::Diff(_, _) => Mark::Diff,
+        Code::Subset(_, _) => Mark::Subset,
+        Code::Card(_) => Mark::Card,
+        Code::Slice { .. } => Mark::Slice,
+        Code::Fresh { .. } => Mark::Fresh,
+        Code::If { .. } => Mark::If,
+        Code::Let { first, count, .. } => Mark::Let(*first, *count),
+        Code::Solve { number, .. } => Mark::Solve(*number),
+    }
+}
+
 // Puts the marks of a code at the end.
 #[cycle(put_code)]
 fn put_code(out: &mut Vec<Mark>, code: &Code) -> Result<(), NoMemory>
     ensures { OnOk result (out.new.items ≡ out.old.items ++ code_marks (code_tree code.now)) }
 {
-    match code {
-        Code::Lit(k) => put_mark(out, Mark::Lit(*k)),
-        Code::Truth(t) => put_mark(out, Mark::Truth(*t)),
-        Code::Var(x) => put_mark(out, Mark::Var(*x)),
-        Code::SetOf(parts) => put_list(out, Mark::SetOf, parts),
-        Code::Tuple(parts) => put_list(out, Mark::Tuple, parts),
-        Code::Sum(parts) => put_list(out, Mark::Sum, parts),
-        Code::Sub(a, b) => {
-            put_one(out, Mark::Sub, a)?;
-            put_code(out, b)?;
-            Ok(())
-        }
-        Code::Mul(a, b) => {
-            put_one(out, Mark::Mul, a)?;
-            put_code(out, b)?;
-            Ok(())
-        }
-        Code::Neg(a) => put_one(out, Mark::Neg, a),
-        Code::Div { of, k } => put_one(out, Mark::Div(*k), of),
-        Code::Mod { of, k } => put_one(out, Mark::Mod(*k), of),
-        Code::Min(parts) => put_list(out, Mark::Min, parts),
-        Code::Max(parts) => put_list(out, Mark::Max, parts),
-        Code::Compare { order, left, right } => {
-            put_one(out, Mark::Compare(*order), left)?;
-            put_code(out, right)?;
-            Ok(())
-        }
-        Code::Divides { k, of } => put_one(out, Mark::Divides(*k), of),
-        Code::And(a, b) => {
-            put_one(out, Mark::And, a)?;
-            put_code(out, b)?;
-            Ok(())
-        }
-        Code::Or(a, b) => {
-            put_one(out, Mark::Or, a)?;
-            put_code(out, b)?;
-            Ok(())
-        }
-        Code::Not(a) => put_one(out, Mark::Not, a),
-        Code::Union(parts) => put_list(out, Mark::Union, parts),
-        Code::Inter(parts) => put_list(out, Mark::Inter, parts),
-        Code::Diff(a, b) => {
-            put_one(out, Mark::Diff, a)?;
-            put_code(out, b)?;
-            Ok(())
-        }
-        Code::Subset(a, b) => {
-            put_one(out, Mark::Subset, a)?;
-            put_code(out, b)?;
-            Ok(())
-        }
-        Code::Card(a) => put_one(out, Mark::Card, a),
-        Code::Slice { set, from, n } => {
-            put_one(out, Mark::Slice, set)?;
-            put_code(out, from)?;
-            put_code(out, n)?;
-            Ok(())
-        }
-        Code::Fresh { avoid, n } => {
-            put_one(out, Mark::Fresh, avoid)?;
-            put_code(out, n)?;
-            Ok(())
-        }
-        Code::If { test, yes, no } => {
-            put_one(out, Mark::If, test)?;
-            put_code(out, yes)?;
-            put_code(out, no)?;
-            Ok(())
-        }
-        Code::Let {
-            first,
-            count,
-            value,
-            body,
-        } => {
-            put_one(out, Mark::Let(*first, *count), value)?;
-            put_code(out, body)?;
-            Ok(())
-        }
-        Code::Solve { number, arms } => {
-            out.push(Mark::Solve(*number))?;
-            put_arms(out, arms)?;
-            Ok(())
-        }
-    }
+    out.push(head_mark(code))?;
+    put_parts(out, code)?;
+    Ok(())
 }
 
-fn put_mark(out: &mut Vec<Mark>, mark: Mark) -> Result<(), NoMemory>
-    ensures { OnOk result (out.new.items ≡ out.old.items ++ (mark ∷ [])) }
+// Puts the marks of a code's parts at the end.
+#[cycle(put_code)]
+fn put_parts(out: &mut Vec<Mark>, code: &Code) -> Result<(), NoMemory>
+    ensures { OnOk result (out.new.items ≡ out.old.items ++ parts_marks (code_tree code.now)) }
 {
-    out.push(mark)?;
-    Ok(())
+    match code {
+        Code::Lit(_) | Code::Truth(_) | Code::Var(_) => Ok(()),
+        Code::SetOf(parts)
+        | Code::Tuple(parts)
+        | Code::Sum(parts)
+        | Code::Min(parts)
+        | Code::Max(parts)
+        | Code::Union(parts)
+        | Code::Inter(parts) => put_codes(out, parts),
+        Code::Neg(a)
+        | Code::Not(a)
+        | Code::Card(a)
+        | Code::Div { of: a, .. }
+        | Code::Mod { of: a, .. }
+        | Code::Divides { of: a, .. } => put_code(out, a),
+        Code::Sub(a, b)
+        | Code::Mul(a, b)
+        | Code::And(a, b)
+        | Code::Or(a, b)
+        | Code::Diff(a, b)
+        | Code::Subset(a, b)
+        | Code::Compare {
+            left: a,
+            right: b,
+            ..
+        }
+        | Code::Fresh { avoid: a, n: b }
+        | Code::Let {
+            value: a,
+            body: b,
+            ..
+        } => {
+            put_code(out, a)?;
+            put_code(out, b)?;
+            Ok(())
+        }
+        Code::Slice {
+            set: a,
+            from: b,
+            n: c,
+        }
+        | Code::If {
+            test: a,
+            yes: b,
+            no: c,
+        } => {
+            put_code(out, a)?;
+            put_code(out, b)?;
+            put_code(out, c)?;
+            Ok(())
+        }
+        Code::Solve { arms, .. } => put_arms(out, arms),
+    }
 }
 
 // A mark and the code behind it.
@@ -302,16 +304,6 @@ fn put_one(out: &mut Vec<Mark>, mark: Mark, code: &Code) -> Result<(), NoMemory>
 {
     out.push(mark)?;
     put_code(out, code)?;
-    Ok(())
-}
-
-// A mark and the list of codes behind it.
-#[cycle(put_code)]
-fn put_list(out: &mut Vec<Mark>, mark: Mark, codes: &[Code]) -> Result<(), NoMemory>
-    ensures { OnOk result (out.new.items ≡ out.old.items ++ (mark ∷ codes_marks (code_trees codes.now))) }
-{
-    out.push(mark)?;
-    put_codes(out, codes)?;
     Ok(())
 }
 

@@ -1,10 +1,10 @@
 -- Codes as lists of marks: each form has a mark before its parts, and a list ends with a mark.
-use Rattle.std.specs.Prelude.{ℕ, ℤ, pos, true, false, List, [], ◌∷◌, ◌++◌}
+use Rattle.std.specs.Prelude.{ℕ, ℤ, pos, true, false, List, [], ◌∷◌, ◌++◌, drop}
 use Rattle.cf_tree.specs.CodeTree.{CodeTree, code_lit, code_truth, code_var, code_set_of, code_tuple, code_sum, code_sub, code_mul, code_neg, code_div, code_mod, code_min, code_max, code_compare, code_divides, code_and, code_or, code_not, code_union, code_inter, code_diff, code_subset, code_card, code_slice, code_fresh, code_if, code_let, code_solve, CodeTrees, no_codes, code_more, ItemTree, let_item, need_item, ItemTrees, no_items, item_more, ArmTree, arm_of, ArmTrees, no_arms, arm_more}
 use Rattle.cf_tree.specs.declared.base.Order.TheVariants.{Eq, Ne, Lt, Le, Gt, Ge}
-use Rattle.cf_cert.specs.declared.marks.Mark.{Mark}
-use Rattle.cf_cert.specs.declared.marks.Numbers.{Numbers}
-use Rattle.cf_cert.specs.declared.marks.Mark.TheVariants.{Lit, Truth, Var, SetOf, Tuple, Sum, Sub, Mul, Neg, Div, Mod, Min, Max, Compare, Divides, And, Or, Not, Union, Inter, Diff, Subset, Card, Slice, Fresh, If, Let, Solve, Bound, LetItem, NeedItem, More, End}
+use Rattle.cf_marks.specs.declared.marks.Mark.{Mark}
+use Rattle.cf_marks.specs.declared.marks.Numbers.{Numbers}
+use Rattle.cf_marks.specs.declared.marks.Mark.TheVariants.{Lit, Truth, Var, SetOf, Tuple, Sum, Sub, Mul, Neg, Div, Mod, Min, Max, Compare, Divides, And, Or, Not, Union, Inter, Diff, Subset, Card, Slice, Fresh, If, Let, Solve, Bound, LetItem, NeedItem, More, End}
 
 abbrev pub bounds_marks : List ℕ → List Mark
 bounds_marks [] = End ∷ []
@@ -59,6 +59,10 @@ abbrev mutual
   pub arms_marks : ArmTrees → List Mark
   arms_marks no_arms = End ∷ []
   arms_marks (arm_more a arms) = More ∷ (arm_marks a ++ arms_marks arms)
+
+-- the marks behind the first one of a code
+abbrev pub parts_marks : CodeTree → List Mark
+parts_marks c = drop 1 (code_marks c)
 
 -- ---- marks as numbers, by which they are compared
 -- a number for the form, a literal or divisor, and levels, counts or bounds

@@ -1,6 +1,6 @@
-use Rattle.cf_cert.specs.Marks.{plain_numbers}
-use Rattle.cf_cert.proofs.MarkLaws.{numbers_decide}
-use Rattle.cf_cert.proofs.marks.same_mark.Goals as goal
+use Rattle.cf_marks.specs.Marks.{plain_numbers}
+use Rattle.cf_marks.proofs.MarkLaws.{numbers_decide}
+use Rattle.cf_marks.proofs.marks.same_mark.Goals as goal
 
 pub returns : goal.returns
 returns c =

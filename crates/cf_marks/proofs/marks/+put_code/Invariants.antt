@@ -1,7 +1,7 @@
 use Rattle.std.proofs.Common.{◌≡◌, ◌++◌, drop}
 use Rattle.cf_tree.specs.CodeView.{arm_trees, code_trees, item_trees}
-use Rattle.cf_cert.specs.Marks.{arms_marks, items_marks, codes_marks}
-use Rattle.cf_cert.proofs.marks.+put_code.Given as goal
+use Rattle.cf_marks.specs.Marks.{arms_marks, items_marks, codes_marks}
+use Rattle.cf_marks.proofs.marks.+put_code.Given as goal
 
 abbrev pub invariant-put_codes-loop-code : goal.invariant-put_codes-loop-code
 invariant-put_codes-loop-code l = l.out.items ++ codes_marks (code_trees (drop l.code-index l.codes)) ≡ l.fn.out.items ++ codes_marks (code_trees l.codes)
