@@ -1,5 +1,5 @@
 -- The steps of traces on worked examples: each is computed.
-use Rattle.std.proofs.Common.{◌≡◌, pos, negsuc, refl, List, [], ◌∷◌, map, true}
+use Rattle.std.proofs.Common.{◌≡◌, pos, negsuc, refl, [], ◌∷◌, map, true}
 use Rattle.cf_num.specs.Divisors.{gcd_by, factors_by}
 use Rattle.cf_num.specs.Parts.{parts_of}
 use Rattle.cf_tree.specs.declared.base.Base.TheVariants.{Int}

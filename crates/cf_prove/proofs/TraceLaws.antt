@@ -1,8 +1,8 @@
 -- The steps of a trace that ends solved are followed, and make what the trace makes.
-use Rattle.std.proofs.Common.{◌≡◌, ◌≢◌, ℕ, zero, suc, ◌+◌, ◌-◌, ◌*◌, ◌^◌, ◌<◌, ◌≤◌, ◌==◌, ◌/◌, ℤ, pos, negsuc, neg_ℤ, ◌+ℤ◌, ◌-ℤ◌, ◌*ℤ◌, List, [], ◌∷◌, ◌++◌}
-use Rattle.std.proofs.Common.{length, take, drop, map, Bool, true, false, not, ◌&&◌, ◌||◌, Option, Some, None, Result, Ok, Err, refl, sym, ◌∙◌, ap, arith}
+use Rattle.std.proofs.Common.{◌≡◌, ◌≢◌, ℕ, zero, suc, ◌+◌, ◌-◌, ◌*◌, ◌^◌, ◌<◌, ◌≤◌, ◌/◌, ℤ, pos, negsuc, neg_ℤ, ◌+ℤ◌, ◌-ℤ◌, ◌*ℤ◌, List, [], ◌∷◌, ◌++◌}
+use Rattle.std.proofs.Common.{length, take, drop, map, Bool, true, false, not, ◌||◌, Option, Some, None, Ok, Err, refl, sym, ◌∙◌, ap, arith}
 use Rattle.std.proofs.Common.{subst, ◌⊎◌, inl, inr, ⊎_elim, append_assoc}
-use Rattle.std.specs.Prelude.{nat_lt, nat_le, unsigned_abs, ◌<ℤ◌, slice_get}
+use Rattle.std.specs.Prelude.{nat_lt, unsigned_abs, ◌<ℤ◌, slice_get}
 use Rattle.std.specs.Int.{int_div_euclid}
 use Rattle.std.specs.List.{list_any, fold}
 use Rattle.std.proofs.lemmas.Int.{ints, unsigned_abs-mul}
@@ -17,27 +17,25 @@ use Rattle.cf_num.proofs.Ring.{ring}
 use Rattle.cf_linear.specs.Relations.{Divides}
 use Rattle.cf_tree.specs.declared.base.Base.{Base}
 use Rattle.cf_tree.specs.CodeTree.{arms_of, code_solve}
-use Rattle.cf_tree.specs.DefView.{TargetTree}
 use Rattle.cf_tree.specs.RelTree.{RelTree}
 use Rattle.cf_linear.specs.Arm.{arm}
 use Rattle.cf_linear.specs.Cases.{negation_normal, first_systems, written_passes}
 use Rattle.cf_linear.specs.Chooses.{made_of, arm_of_case, arms, refusal_of, or_else, first_refused, limit}
 use Rattle.cf_linear.specs.Layout.{Layout, layout_of}
 use Rattle.cf_linear.specs.declared.refusal.Refusal.{Refusal}
-use Rattle.cf_linear.specs.declared.refusal.Refusal.TheVariants.{Past, Limit}
-use Rattle.cf_linear.specs.declared.refusal.LimitKind.TheVariants.{Search as SearchKind}
-use Rattle.cf_linear.specs.Rows.{Row, entry, is_zero, passes, sum_passes, passes_at, comb_passes, subst_row, subst_passes, without}
+use Rattle.cf_linear.specs.declared.refusal.Refusal.TheVariants.{Past}
+use Rattle.cf_linear.specs.Rows.{Row, entry, is_zero, passes, passes_at, comb_passes, subst_row, subst_passes, without}
 use Rattle.cf_linear.specs.Systems.{System, EachRow, Answer, no_answer, then_answer, whole}
 use Rattle.cf_linear.specs.Keep.{In}
 use Rattle.cf_linear.specs.Steps.{has_column, present, is_unit, two_at, one_at, lowers, uppers, clean, mix, mix_passes, factors_of, merge, merge_passes, last}
 use Rattle.cf_linear.specs.Steps.{last_passes, Pick, pick, searched, searched_by, dropped, drop_passes, bound, bound_passes}
-use Rattle.cf_linear.specs.Stages.{limits, State, End, solved, refused, run, Taken, Stage, ends, goes, stage, first_count, times_bound, clean_stage}
+use Rattle.cf_linear.specs.Stages.{limits, State, End, solved, refused, run, Taken, ends, goes, stage, first_count, times_bound, clean_stage}
 use Rattle.cf_linear.specs.Stages.{equation_stage, row_stage, unknown_stage, bound_stage, Trace, stop, more, first_state}
 use Rattle.cf_linear.proofs.BoolLemmas.{on_bool}
 use Rattle.cf_linear.proofs.CombLemmas.{entry-without}
 use Rattle.cf_linear.proofs.Joining.{passes_somewhere}
 use Rattle.cf_linear.proofs.PassingLemmas.{or_false, within_is, within_not}
-use Rattle.cf_linear.proofs.RowLemmas.{zero_from_is_zero, entry-comb}
+use Rattle.cf_linear.proofs.RowLemmas.{entry-comb}
 use Rattle.cf_equation.specs.Equations.{Differ}
 use Rattle.cf_equation.proofs.FactorLaws.{exact_quotient, parts_one}
 use Rattle.cf_equation.proofs.StepLaws.{Differ-filter, In-present}
@@ -48,7 +46,6 @@ use Rattle.cf_bounds.proofs.OwesLemmas.{has-in}
 use Rattle.cf_cases.specs.Holding.{EachOf}
 use Rattle.cf_cases.proofs.PlacedLaws.{placed-rel}
 use Rattle.cf_choose.specs.Eliminations.{case_refusal, later_refusal}
-use Rattle.cf_choose.specs.Laws.{IsUnrefused}
 use Rattle.cf_choose.proofs.CaseLemmas.{refused_by_count, refused_later}
 use Rattle.cf_choose.proofs.SystemLaws.{IsBegun, first_systems_begun}
 use Rattle.cf_elim.specs.Stages.{IsReady, IsEnd, Settled}
@@ -58,10 +55,9 @@ use Rattle.cf_elim.proofs.StageLaws.{goes_parts}
 use Rattle.cf_elim.proofs.StageOwes.{stage_leads}
 use Rattle.cf_steps.specs.declared.act.Act.{Act}
 use Rattle.cf_steps.specs.declared.act.Act.TheVariants.{Clean, Mix, Last, Search, Drop}
-use Rattle.cf_cert.specs.declared.verdict.Why.{Why}
-use Rattle.cf_cert.specs.declared.verdict.Why.TheVariants.{Unknown, Factor, Single, Held, Exact, Refused}
-use Rattle.cf_cert.specs.Applying.{Applied, rejected_if, refused_by, is_held, has_inexact, determinant, determinant_passes, last_of, last_at, apply}
-use Rattle.cf_cert.specs.Certifying.{QuestionTree, layout, Followed, after_first, is_over, follow, eliminated, AreEliminated}
+use Rattle.cf_cert.specs.declared.verdict.Why.TheVariants.{Single}
+use Rattle.cf_cert.specs.Applying.{Applied, is_held, has_inexact, determinant, determinant_passes, last_of, last_at, apply}
+use Rattle.cf_cert.specs.Certifying.{layout, after_first, is_over, follow, eliminated, AreEliminated}
 use Rattle.cf_prove.specs.Laws.{TracedCertifies}
 use Rattle.cf_prove.specs.Tracing.{equation_acts, bound_acts, unknown_acts, row_acts, acts_at, acts_for, traced}
 
