@@ -1,13 +1,12 @@
 -- Codes with the same marks are the same.
-use Rattle.std.proofs.Common.{◌≡◌, ◌≢◌, ◌==◌, ◌↔◌, ℕ, ℤ, Bool, true, false, List, [], ◌∷◌, ◌++◌, refl, sym, ◌∙◌, ap, ap₂, subst, append_assoc}
+use Rattle.std.proofs.Common.{◌≡◌, ◌≢◌, ◌==◌, ◌↔◌, ℕ, Bool, true, false, List, [], ◌∷◌, ◌++◌, refl, sym, ◌∙◌, ap, ap₂, subst, append_assoc}
 use Rattle.std.proofs.lemmas.List.{append-nil}
 use Rattle.std.specs.Prelude.{if◌then◌else◌}
-use Rattle.cf_tree.specs.declared.base.Order.{Order}
 use Rattle.cf_tree.specs.declared.base.Order.TheVariants.{Eq, Ne, Lt, Le, Gt, Ge}
-use Rattle.cf_tree.specs.CodeTree.{CodeTree, code_lit, code_truth, code_var, code_set_of, code_tuple, code_sum, code_sub, code_mul, code_neg, code_div, code_mod, code_min, code_max, code_compare, code_divides, code_and, code_or, code_not, code_union, code_inter, code_diff, code_subset, code_card, code_slice, code_fresh, code_if, code_let, code_solve, CodeTrees, no_codes, code_more, ItemTree, let_item, need_item, ItemTrees, no_items, item_more, ArmTree, arm_of, ArmTrees, no_arms, arm_more}
+use Rattle.cf_tree.specs.CodeTree.{CodeTree, code_lit, code_truth, code_var, code_set_of, code_tuple, code_sum, code_sub, code_mul, code_neg, code_div, code_mod, code_min, code_max, code_compare, code_divides, code_and, code_or, code_not, code_union, code_inter, code_diff, code_subset, code_card, code_slice, code_fresh, code_if, code_let, code_solve, CodeTrees, no_codes, code_more, let_item, need_item, ItemTrees, no_items, item_more, arm_of, ArmTrees, no_arms, arm_more}
 use Rattle.cf_marks.specs.declared.marks.Mark.{Mark}
 use Rattle.cf_marks.specs.declared.marks.Mark.TheVariants.{Lit, Truth, Var, SetOf, Tuple, Sum, Sub, Mul, Neg, Div, Mod, Min, Max, Compare, Divides, And, Or, Not, Union, Inter, Diff, Subset, Card, Slice, Fresh, If, Let, Solve, Bound, LetItem, NeedItem, More, End}
-use Rattle.cf_marks.specs.Marks.{MarkNumbers, numbers_of, bounds_marks, code_marks, codes_marks, item_marks, items_marks, arm_marks, arms_marks}
+use Rattle.cf_marks.specs.Marks.{MarkNumbers, numbers_of, bounds_marks, code_marks, codes_marks, items_marks, arms_marks}
 
 -- ---- what begins with a mark, where s stands behind it
 abbrev Leaf : CodeTree → CodeTree → List Mark → List Mark → Type 0

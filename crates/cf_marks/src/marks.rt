@@ -64,28 +64,20 @@ pub fn is_solve(
 ) -> Result<bool, NoMemory>
     ensures { IfOk result (λ b. (b ≡ true) ↔ (code_tree code.now ≡ code_solve number (arm_trees arms.now))) }
 {
-    let found = marks(alloc, code)?;
-    let made = solve_marks(alloc, number, arms)?;
+    let mut found = Vec::new(alloc);
+    put_code(&mut found, code)?;
+    let mut made = Vec::new(alloc);
+    put_solve(&mut made, number, arms)?;
     Ok(same_marks(&found, &made))
 }
 
-// The marks of a `solve`.
-fn solve_marks(alloc: Global, number: u32, arms: &[Arm]) -> Result<Vec<Mark>, NoMemory>
-    ensures { IfOk result (λ v. v.items ≡ code_marks (code_solve number (arm_trees arms.now))) }
+// Puts the marks of a `solve` at the end.
+fn put_solve(out: &mut Vec<Mark>, number: u32, arms: &[Arm]) -> Result<(), NoMemory>
+    ensures { OnOk result (out.new.items ≡ out.old.items ++ code_marks (code_solve number (arm_trees arms.now))) }
 {
-    let mut out = Vec::new(alloc);
     out.push(Mark::Solve(number))?;
-    put_arms(&mut out, arms)?;
-    Ok(out)
-}
-
-// The marks of a code.
-fn marks(alloc: Global, code: &Code) -> Result<Vec<Mark>, NoMemory>
-    ensures { IfOk result (λ v. v.items ≡ code_marks (code_tree code.now)) }
-{
-    let mut out = Vec::new(alloc);
-    put_code(&mut out, code)?;
-    Ok(out)
+    put_arms(out, arms)?;
+    Ok(())
 }
 
 // Whether both lists have the same marks.
