@@ -56,12 +56,7 @@ pub(crate) enum Mark {
 ///
 /// # Errors
 /// `NoMemory` where memory ran out.
-pub fn is_solve(
-    alloc: Global,
-    code: &Code,
-    number: u32,
-    arms: &[Arm],
-) -> Result<bool, NoMemory>
+pub fn is_solve(alloc: Global, code: &Code, number: u32, arms: &[Arm]) -> Result<bool, NoMemory>
     ensures { IfOk result (λ b. (b ≡ true) ↔ (code_tree code.now ≡ code_solve number (arm_trees arms.now))) }
 {
     let mut found = Vec::new(alloc);

@@ -1,4 +1,4 @@
-use Rattle.std.proofs.Common.{◌≡◌, ◌∙◌, ◌++◌, [], ap}
+use Rattle.std.proofs.Common.{◌∙◌, ◌++◌, ap}
 use Rattle.cf_tree.specs.CodeTree.{code_solve}
 use Rattle.cf_tree.specs.CodeView.{code_tree, arm_trees}
 use Rattle.cf_marks.specs.Marks.{code_marks}
