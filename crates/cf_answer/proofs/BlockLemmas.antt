@@ -19,9 +19,9 @@ use Rattle.cf_steps.specs.Spelled.{IsSpelledBlock}
 use Rattle.cf_steps.specs.declared.block.Block.{Block}
 use Rattle.cf_steps.proofs.Printing.{blocks_read_back}
 use Rattle.cf_cert.specs.Laws.{AreWithinCases}
-use Rattle.cf_cert.specs.Proving.{IsProved}
 use Rattle.cf_cert.specs.Verifying.{HaveFewSteps}
-use Rattle.cf_cert.proofs.ProveLaws.{spelled_within as cases_within}
+use Rattle.cf_cert.proofs.SpelledLaws.{spelled_within as cases_within}
+use Rattle.cf_prove.specs.Proving.{IsProved}
 use Rattle.cf_answer.specs.Limits.{text_limit}
 use Rattle.cf_answer.specs.Certificates.{asked, asked_in, OneForEach, IsTraced, AreProofs}
 use Rattle.cf_answer.specs.Refusals.{IsRefusedSource}

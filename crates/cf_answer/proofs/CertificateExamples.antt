@@ -12,8 +12,8 @@ use Rattle.cf_linear.specs.Steps.{clean, pick, searched, dropped, searched_by, b
 use Rattle.cf_build.specs.Questions.{solve_of}
 use Rattle.cf_emit.specs.Printed.{code_text}
 use Rattle.cf_steps.specs.Printed.{cases_text}
-use Rattle.cf_cert.specs.Tracing.{traced, traced_block, acts_for, acts_at}
 use Rattle.cf_cert.specs.declared.verdict.Why.TheVariants as why
+use Rattle.cf_prove.specs.Tracing.{traced, traced_block, acts_for, acts_at}
 use Rattle.cf_answer.specs.Certificates.{asked, verified_line}
 use Rattle.cf_answer.specs.Statuses.{code_of, status_of}
 use Rattle.cf_answer.specs.Texts.{answer_line}

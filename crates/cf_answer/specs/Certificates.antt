@@ -9,7 +9,7 @@ use Rattle.cf_steps.specs.Spelling.{AreBlocks}
 use Rattle.cf_steps.specs.declared.block.Block.{Block}
 use Rattle.cf_cert.specs.Certifying.{QuestionTree, Certifies}
 use Rattle.cf_cert.specs.Laws.{MeansSolutions}
-use Rattle.cf_cert.specs.Tracing.{traced_block}
+use Rattle.cf_prove.specs.Tracing.{traced_block}
 use Rattle.cf_answer.specs.Sources.{Spelled}
 use Rattle.cf_answer.specs.Texts.{numbered_line}
 

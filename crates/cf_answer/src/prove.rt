@@ -20,10 +20,10 @@ use crate::questions::numbered_chooses;
 use crate::source::read_source;
 use cf_build::chooses::Choose;
 use cf_build::fault::BuildFault;
-use cf_cert::prove::prove;
 use cf_choose::fault::ChooseFault;
 use cf_io::Sink;
 use cf_program::typed::Typed;
+use cf_prove::prove::prove;
 use cf_tree::memory::NoMemory;
 use std::alloc::Global;
 

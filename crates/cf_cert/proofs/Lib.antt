@@ -4,14 +4,10 @@ pub mod ApplyLaws
 pub mod StepLaws
 pub mod WayLaws
 pub mod FollowLaws
-pub mod MarkLaws
 pub mod ArmsLaws
 pub mod CertifiedArms
+pub mod SpelledLaws
 pub mod ApplyExamples
 pub mod CertificateExamples
 pub mod JudgeLaws
 pub mod VerdictLaws
-pub mod TraceLaws
-pub mod TraceExamples
-pub mod ActLaws
-pub mod ProveLaws

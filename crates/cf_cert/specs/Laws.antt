@@ -5,7 +5,6 @@ use Rattle.cf_tree.specs.Meaning.{means}
 use Rattle.cf_tree.specs.Relation.{IsTyped, IsLinear, Sol}
 use Rattle.cf_tree.specs.Values.{Value, HaveBases}
 use Rattle.cf_cases.specs.Holding.{EachOf}
-use Rattle.cf_choose.specs.Laws.{IsUnrefused}
 use Rattle.cf_choose.specs.Solved.{IsOutput}
 use Rattle.cf_steps.specs.declared.act.Act.{Act}
 use Rattle.cf_steps.specs.Blocks.{BlockTree}
@@ -14,7 +13,6 @@ use Rattle.cf_cert.specs.declared.verdict.Verdict.{Verdict}
 use Rattle.cf_cert.specs.Applying.{IsWithinAct}
 use Rattle.cf_cert.specs.Certifying.{QuestionTree, Certifies}
 use Rattle.cf_cert.specs.Judging.{fault_before_code, IsVerdict}
-use Rattle.cf_cert.specs.Tracing.{traced_block}
 
 -- each number of a Mix is within the limit
 abbrev pub AreWithinCases : List (List Act) → Type 0
@@ -37,10 +35,6 @@ MeansSolutions q b = (env : List Value) → HaveBases q.scope env → Chosen q.n
 -- a block that certifies a choose does so
 abbrev pub CertifiedMeans : Type 0
 CertifiedMeans = (q : QuestionTree) (b : BlockTree) → IsQuestion q → AreWithinCases b.cases → Certifies q b → MeansSolutions q b
-
--- the steps of the traces certify each choose that no limit refuses
-abbrev pub TracedCertifies : Type 0
-TracedCertifies = (q : QuestionTree) → IsUnrefused q.scope q.outputs q.rel → Certifies q (traced_block q)
 
 -- a block that certifies a choose has no fault before its code
 abbrev pub CertifiedWithoutFault : Type 0

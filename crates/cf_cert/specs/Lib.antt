@@ -1,11 +1,7 @@
-pub mod Acting
 pub mod Applying
 pub mod Stepping
 pub mod Certifying
 pub mod Following
 pub mod Judging
-pub mod Tracing
 pub mod Laws
-pub mod Proving
-pub mod Marks
 pub mod Verifying

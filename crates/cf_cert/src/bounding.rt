@@ -34,7 +34,10 @@ pub(crate) fn search_side(
     ensures { ApplyIs (search_applied limits tuples (system_of system) x lower) result }
 {
     match unheld_fault(&system, x) {
-        Some(why) => return Err(ApplyFault::Rejected(why)),
+        Some(why) => {
+            drop(system);
+            return Err(ApplyFault::Rejected(why));
+        }
         None => {}
     }
     // the search looks at the unknown and the side alone
@@ -56,6 +59,7 @@ fn few_tuples(alloc: Global, searched: Searched, tuples: u64) -> Result<Next, Ap
 {
     let tuples = tuples_with(tuples, &searched.bounds);
     if tuples > MOST_TUPLES {
+        drop(searched);
         return Err(ApplyFault::Rejected(Why::Refused(Refusal::Limit {
             kind: LimitKind::Search,
             number: tuples,
@@ -88,10 +92,14 @@ pub(crate) fn drop_unknown(alloc: Global, system: System, x: u32) -> Result<Next
     ensures { ApplyIs (drop_applied limits (system_of system) x) result }
 {
     match unheld_fault(&system, x) {
-        Some(why) => return Err(ApplyFault::Rejected(why)),
+        Some(why) => {
+            drop(system);
+            return Err(ApplyFault::Rejected(why));
+        }
         None => {}
     }
     if has_inexact(&system.inequalities, x) {
+        drop(system);
         return Err(ApplyFault::Rejected(Why::Exact));
     }
     match dropped_within(alloc, system, x) {

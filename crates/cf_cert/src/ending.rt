@@ -25,6 +25,7 @@ pub(crate) fn end_equation(alloc: Global, system: System, index: u32) -> Result<
     ensures { ApplyIs (last_at limits (system_of system) index (slice_get system.equations.items index)) result }
 {
     if index as usize >= system.equations.len() {
+        drop(system);
         return Err(ApplyFault::Rejected(Why::Single));
     }
     match with_first(alloc, system, index as usize) {
@@ -75,11 +76,17 @@ fn end_counted(alloc: Global, system: System, u: u32) -> Result<Next, ApplyFault
 {
     let counts = match counts_after(&system, u) {
         Some(counts) => counts,
-        None => return Err(ApplyFault::NoMemory),
+        None => {
+            drop(system);
+            return Err(ApplyFault::NoMemory);
+        }
     };
     match within(counts.rows, counts.columns) {
         Ok(()) => {}
-        Err(fault) => return Err(refusal_of(fault)),
+        Err(fault) => {
+            drop(system);
+            return Err(refusal_of(fault));
+        }
     }
     match step_first(alloc, system, Present::One(u)) {
         Ok(reduced) => Ok(after_equation(alloc, reduced)),

@@ -132,6 +132,7 @@ fn ended(way: Way, step: u32) -> Result<StepOutput, CaseFault>
     ensures { CaseIs (end_of way step) result }
 {
     if !is_over(&way.system) {
+        drop(way);
         return Err(CaseFault::Rejected {
             step,
             why: Why::Left,

@@ -10,7 +10,6 @@ ghost use Rattle.cf_cert.specs.Verifying.{question_tree, target_of, HasFewActs, 
 
 use crate::arms::arms;
 use crate::fault::{JudgeFault, whole, whole_refusal};
-use crate::marks::is_solve;
 use crate::question::Question;
 use crate::verdict::Why;
 use cf_choose::levels::{LEVEL_LIMIT, layout};
@@ -18,6 +17,7 @@ use cf_choose::solve::counts;
 use cf_choose::systems::systems;
 use cf_linear::refusal::{Refusal, RowFault};
 use cf_linear::system::Layout;
+use cf_marks::is_solve;
 use cf_steps::block::Block;
 use cf_tree::base::Base;
 use cf_tree::code::Arm;

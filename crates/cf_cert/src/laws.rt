@@ -1,15 +1,14 @@
 //! What a certificate promises.
-ghost use Rattle.cf_cert.specs.Laws.{CertifiedMeans, CertifiedWithoutFault, OneVerdict, SpelledIsWithin, TracedCertifies};
+ghost use Rattle.cf_cert.specs.Laws.{CertifiedMeans, CertifiedWithoutFault, OneVerdict, SpelledIsWithin};
 
 /// The target of a block that certifies a choose means, in each environment of the choose's scope,
 /// values that satisfy its relation, or that there are none exactly where there are none. Such a block
-/// has no fault, and blocks have one verdict. The steps of the traces of a choose that no limit refuses
-/// certify it. The numbers of steps that a steps file spells are within the limit of numbers.
-#[tactic(auto, using(crate::proofs::CertifiedArms::certified_means, crate::proofs::JudgeLaws::certified_without_fault, crate::proofs::JudgeLaws::one_verdict, crate::proofs::ProveLaws::spelled_within))]
+/// has no fault, and blocks have one verdict. The numbers of steps that a steps file spells are within
+/// the limit of numbers.
+#[tactic(auto, using(crate::proofs::CertifiedArms::certified_means, crate::proofs::JudgeLaws::certified_without_fault, crate::proofs::JudgeLaws::one_verdict, crate::proofs::SpelledLaws::spelled_within))]
 pub fn certificates_hold()
     ensures means { CertifiedMeans }
     ensures faultless { CertifiedWithoutFault }
     ensures one { OneVerdict }
-    ensures traced { TracedCertifies }
     ensures spelled { SpelledIsWithin }
 {}

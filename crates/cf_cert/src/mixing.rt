@@ -27,13 +27,18 @@ pub(crate) fn mix_unknowns(
     ensures { ApplyIs (mix_applied (system_of system) x y factors.s factors.m factors.t factors.n) result }
 {
     if are_not_two(&system.unknown, x, y) {
+        drop(system);
         return Err(ApplyFault::Rejected(Why::Unknown));
     }
     let determinant = match determinant(factors) {
         Some(determinant) => determinant,
-        None => return Err(ApplyFault::Rejected(Why::Refused(Refusal::Past))),
+        None => {
+            drop(system);
+            return Err(ApplyFault::Rejected(Why::Refused(Refusal::Past)));
+        }
     };
     if !is_unit(&determinant) {
+        drop(system);
         return Err(ApplyFault::Rejected(Why::Factor));
     }
     mixed(alloc, system, x, y, factors)

@@ -1,0 +1,6 @@
+//! Codes compared.
+#![tactic(auto)]
+
+mod marks;
+
+pub use marks::is_solve;

@@ -1,0 +1,4 @@
+pub mod TraceLaws
+pub mod TraceExamples
+pub mod ActLaws
+pub mod ProveLaws

@@ -1,0 +1,4 @@
+pub mod Acting
+pub mod Tracing
+pub mod Laws
+pub mod Proving
