@@ -14,8 +14,7 @@ use cf_tree::memory::NoMemory;
 use cf_tree::rel::{Rel, SetTerm, Term};
 use std::alloc::Global;
 
-/// The bases of the outputs of the question whether solutions are the only ones: those of the
-/// parameters, of the outputs and of a copy of them.
+/// The bases of the outputs of `twice`: those of the parameters, of the outputs and of a copy of them.
 ///
 /// # Errors
 /// `NoMemory` where memory ran out.
@@ -34,7 +33,8 @@ pub fn twice_outputs(
     Ok(bases)
 }
 
-/// That question: the relation for the outputs, the relation for the copy, and that some output differs.
+/// The question whether solutions are the only ones: the relation for the outputs, the relation for
+/// a copy of them, and that some output differs.
 ///
 /// # Errors
 /// `NoMemory` where memory ran out, or a level does not fit in 32 bits.
