@@ -8,7 +8,8 @@ use Rattle.cf_match.specs.declared.lowered.MatchInfo.{MatchInfo}
 use Rattle.cf_build.specs.Questions.{Question}
 use Rattle.cf_build.specs.Solves.{IsSolved}
 use Rattle.cf_build.specs.declared.solves.SolvedChoose.{SolvedChoose}
-use Rattle.cf_warn.specs.Covers.{AreClasses, IsCover}
+use Rattle.cf_question.specs.Classes.{AreClasses}
+use Rattle.cf_warn.specs.Covers.{IsCover}
 use Rattle.cf_warn.specs.Verdicts.{IsExistence, IsUniqueness}
 use Rattle.cf_warn.specs.declared.answer.ExistenceAnswer.{ExistenceAnswer}
 use Rattle.cf_warn.specs.declared.answer.UniquenessAnswer.{UniquenessAnswer}

@@ -7,8 +7,8 @@ use Rattle.cf_match.specs.Matches.{MatchTree}
 use Rattle.cf_build.specs.Questions.{Question, limit_of}
 use Rattle.cf_eval.specs.Seen.{plains}
 use Rattle.cf_eval.specs.Texts.{value_text, values_text}
+use Rattle.cf_question.specs.Questions.{parameters}
 use Rattle.cf_warn.specs.Covers.{IsCover}
-use Rattle.cf_warn.specs.Questions.{parameters}
 use Rattle.cf_warn.specs.Verdicts.{IsExistence, IsUniqueness}
 use Rattle.cf_warn.specs.declared.answer.Doubt.{Doubt}
 use Rattle.cf_warn.specs.declared.answer.Doubt.TheVariants.{Refused, Overflow}

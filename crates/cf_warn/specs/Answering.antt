@@ -7,13 +7,14 @@ use Rattle.cf_tree.specs.RelTree.{RelTree}
 use Rattle.cf_tree.specs.Values.{Value as PlainValue, values}
 use Rattle.cf_eval.specs.declared.value.Value.{Value}
 use Rattle.cf_eval.specs.Seen.{plains}
+use Rattle.cf_question.specs.Solutions.{question_code}
 use Rattle.cf_warn.specs.declared.answer.UniquenessAnswer.{UniquenessAnswer}
 use Rattle.cf_warn.specs.declared.answer.UniquenessAnswer.TheVariants.{Unique, Two, Undecided}
 use Rattle.cf_warn.specs.declared.answer.ExistenceAnswer.{ExistenceAnswer}
 use Rattle.cf_warn.specs.declared.answer.ExistenceAnswer.TheVariants.{Always, Missing, Undecided as UndecidedExistence}
 use Rattle.cf_warn.specs.declared.ask.Asked.{Asked}
 use Rattle.cf_warn.specs.declared.ask.Asked.TheVariants as asked
-use Rattle.cf_warn.specs.Verdicts.{question_code, IsClear, IsDoubt}
+use Rattle.cf_warn.specs.Verdicts.{IsClear, IsDoubt}
 
 -- what the question's run gives is a solution of it, or it has none, or it is in doubt
 abbrev pub IsAsked : List Base → RelTree → Asked → Type 0

@@ -5,7 +5,7 @@ ghost use Rattle.cf_tree.specs.RelView.{rel_tree};
 ghost use Rattle.cf_tree.specs.Relation.{IsTyped, IsLinear};
 ghost use Rattle.cf_choose.specs.Laws.{IsUnrefused};
 ghost use Rattle.cf_choose.specs.Solved.{IsOutput};
-ghost use Rattle.cf_warn.specs.Verdicts.{question_code};
+ghost use Rattle.cf_question.specs.Solutions.{question_code};
 ghost use Rattle.cf_warn.specs.Answering.{IsAsked};
 
 use crate::answer::Doubt;

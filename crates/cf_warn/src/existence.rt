@@ -1,9 +1,9 @@
 //! Whether a choose has outputs for every choice of its parameters.
 ghost use Rattle.std.specs.Prelude.{◌≡◌, ◌≤◌, IfOk, length};
 ghost use Rattle.cf_tree.specs.RelView.{rel_tree};
+ghost use Rattle.cf_question.specs.Missing.{none, none_outputs, tuple_count};
+ghost use Rattle.cf_question.specs.Questions.{parameters};
 ghost use Rattle.cf_warn.specs.Answering.{IsAsked, IsMissingOf};
-ghost use Rattle.cf_warn.specs.Missing.{none, none_outputs, tuple_count};
-ghost use Rattle.cf_warn.specs.Questions.{parameters};
 ghost use Rattle.cf_linear.specs.declared.refusal.LimitKind.TheVariants.{Search};
 ghost use Rattle.cf_linear.specs.declared.refusal.Refusal.TheVariants.{Limit};
 ghost use Rattle.cf_warn.specs.declared.answer.Doubt.TheVariants.{Refused};
@@ -12,12 +12,12 @@ ghost use Rattle.cf_warn.specs.Verdicts.{IsExistence};
 
 use crate::answer::{Doubt, ExistenceAnswer};
 use crate::ask::{Asked, ask};
-use crate::none::none;
-use crate::parameters::parameters;
-use crate::tuples::tuple_count;
 use cf_choose::solved::Solved;
 use cf_eval::value::Value;
 use cf_linear::refusal::{LimitKind, Refusal};
+use cf_question::none::none;
+use cf_question::parameters::parameters;
+use cf_question::tuples::tuple_count;
 use cf_tree::base::Base;
 use cf_tree::memory::{NoMemory, without};
 use cf_tree::rel::Rel;

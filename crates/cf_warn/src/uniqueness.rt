@@ -1,16 +1,16 @@
 //! Whether the outputs of a choose are the only ones.
 ghost use Rattle.std.specs.Prelude.{◌≡◌, ◌+◌, ◌≤◌, IfOk, length};
 ghost use Rattle.cf_tree.specs.RelView.{rel_tree};
-ghost use Rattle.cf_warn.specs.Questions.{parameters, twice, twice_outputs};
+ghost use Rattle.cf_question.specs.Questions.{parameters, twice, twice_outputs};
 ghost use Rattle.cf_warn.specs.Verdicts.{IsUniqueness};
 ghost use Rattle.cf_warn.specs.Answering.{IsAsked, IsTwoOf};
 
 use crate::answer::UniquenessAnswer;
 use crate::ask::{Asked, ask};
-use crate::parameters::parameters;
-use crate::twice::{twice, twice_outputs};
 use cf_choose::solved::Solved;
 use cf_eval::value::Value;
+use cf_question::parameters::parameters;
+use cf_question::twice::{twice, twice_outputs};
 use cf_tree::memory::{NoMemory, without};
 use std::alloc::Global;
 

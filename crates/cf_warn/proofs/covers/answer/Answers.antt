@@ -2,9 +2,11 @@ use Rattle.std.proofs.Common.{sym, ap, ◌∙◌, subst}
 use Rattle.cf_tree.specs.declared.base.Base.TheVariants.{Int}
 use Rattle.cf_tree.specs.Typing.{one}
 use Rattle.cf_eval.specs.Seen.{plains}
-use Rattle.cf_warn.specs.Covers.{IsCover, covered}
-use Rattle.cf_warn.specs.Verdicts.{AreMissing}
-use Rattle.cf_warn.proofs.CoverLaws.{every_number, no_class, sample_number}
+use Rattle.cf_question.specs.Classes.{covered}
+use Rattle.cf_question.specs.Solutions.{AreMissing}
+use Rattle.cf_question.proofs.ClassLaws.{every_number, no_class}
+use Rattle.cf_warn.specs.Covers.{IsCover}
+use Rattle.cf_warn.proofs.CoverLaws.{sample_number}
 use Rattle.cf_warn.proofs.covers.answer.Goals as goal
 
 pub missed-requires : goal.missed-requires

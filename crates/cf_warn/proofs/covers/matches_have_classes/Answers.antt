@@ -1,4 +1,4 @@
-use Rattle.cf_warn.proofs.MatchClasses.{matches_have_classes}
+use Rattle.cf_question.proofs.MatchClasses.{matches_have_classes}
 use Rattle.cf_warn.proofs.covers.matches_have_classes.Goals as goal
 
 pub returns : goal.returns

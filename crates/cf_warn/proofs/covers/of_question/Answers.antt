@@ -1,4 +1,4 @@
-use Rattle.cf_warn.proofs.CoverLaws.{covered_typed, covered_linear}
+use Rattle.cf_question.proofs.ClassLaws.{covered_typed, covered_linear}
 use Rattle.cf_warn.proofs.covers.of_question.Goals as goal
 
 pub solve-requires-clause-typed : goal.solve-requires-clause-typed

@@ -1,6 +1,7 @@
 use Rattle.std.proofs.Common.{length, ap, arith}
 use Rattle.cf_tree.specs.RelView.{rel_tree}
-use Rattle.cf_warn.proofs.VerdictLaws.{unique, two_verdict, values_long}
+use Rattle.cf_question.proofs.SolutionLaws.{unique}
+use Rattle.cf_warn.proofs.VerdictLaws.{two_verdict, values_long}
 use Rattle.cf_warn.proofs.uniqueness.answer.Goals as goal
 
 pub two-requires : goal.two-requires

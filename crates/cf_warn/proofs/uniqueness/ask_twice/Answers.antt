@@ -1,5 +1,5 @@
 use Rattle.cf_tree.specs.RelView.{rel_tree}
-use Rattle.cf_warn.proofs.TwiceLaws.{twice_typed, twice_linear, twice_are_outputs}
+use Rattle.cf_question.proofs.TwiceLaws.{twice_typed, twice_linear, twice_are_outputs}
 use Rattle.cf_warn.proofs.uniqueness.ask_twice.Goals as goal
 
 pub ask-requires-clause-typed : goal.ask-requires-clause-typed

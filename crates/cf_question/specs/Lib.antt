@@ -1,0 +1,5 @@
+pub mod Questions
+pub mod Missing
+pub mod Classes
+pub mod Solutions
+pub mod Writing
