@@ -1,5 +1,5 @@
 //! The forms of expressions, made of their parts.
-ghost use Rattle.std.specs.Prelude.{◌≡◌, ◌+◌, ℕ, map, true, false, Some, Ok, IfOk, IfErr, OnOk};
+ghost use Rattle.std.specs.Prelude.{◌≡◌, ◌+◌, ◌++◌, ◌∷◌, [], ℕ, map, true, false, Some, Ok, IfOk, IfErr, OnOk};
 ghost use Rattle.cf_tree.specs.ExprView.{expr_tree, match_arm_tree};
 ghost use Rattle.cf_tree.specs.RelView.{rel_tree};
 ghost use Rattle.cf_tree.specs.DefView.{raw_def_tree};
@@ -28,12 +28,25 @@ use cf_tree::raw::{BinOp, Param, Part, Raw, RawDef, RawNode};
 use cf_tree::rel::{Rel, SetTerm, Term};
 use std::alloc::Global;
 
-// The one base, and the tree in a box.
-fn one_and_tree(alloc: Global, base: Base, tree: Expr) -> Result<(Vec<Base>, Box<Expr>), NoMemory>
-    ensures { IfOk result (λ r. (r.0.items ≡ one_base base) × (expr_tree r.1.value ≡ expr_tree tree)) }
+// The expression of these bases, this tree and this reading.
+fn boxed(
+    alloc: Global,
+    bases: Vec<Base>,
+    tree: Expr,
+    reading: Reading,
+    next: u32,
+) -> Result<Form, TypeFault>
+    ensures { CheckAnswer form_of result (form_is bases.items (expr_tree tree) (reading_of reading) next) }
 {
-    let tree = Box::new(alloc, tree)?;
-    Ok((bases::one(alloc, base)?, tree))
+    match Box::new(alloc, tree) {
+        Ok(tree) => Ok(Form {
+            bases,
+            tree,
+            reading,
+            next,
+        }),
+        Err(_) => Err(without(bases, without(reading, TypeFault::NoMemory))),
+    }
 }
 
 // The expression of this tree and reading, which has one base.
@@ -46,14 +59,9 @@ fn made(
 ) -> Result<Form, TypeFault>
     ensures { CheckAnswer form_of result (form_is (one_base base) (expr_tree tree) (reading_of reading) next) }
 {
-    match one_and_tree(alloc, base, tree) {
-        Ok((bases, tree)) => Ok(Form {
-            bases,
-            tree,
-            reading,
-            next,
-        }),
-        Err(_) => Err(without(reading, TypeFault::NoMemory)),
+    match bases::one(alloc, base) {
+        Ok(bases) => boxed(alloc, bases, tree, reading, next),
+        Err(_) => Err(without(tree, without(reading, TypeFault::NoMemory))),
     }
 }
 
@@ -141,13 +149,13 @@ pub fn tuple(alloc: Global, place: Place, parts: Forms) -> Result<Form, TypeFaul
     } = parts;
     let all = bases::joined(alloc, &bases);
     drop(bases);
-    let tree = Box::new(alloc, Expr::Tuple(trees))?;
-    Ok(Form {
-        bases: all?,
-        tree,
-        reading: reading::not_linear_at(first_nonlinear, place),
-        next,
-    })
+    match all {
+        Ok(all) => {
+            let reading = reading::not_linear_at(first_nonlinear, place);
+            boxed(alloc, all, Expr::Tuple(trees), reading, next)
+        }
+        Err(_) => Err(without(trees, TypeFault::NoMemory)),
+    }
 }
 
 // What stands under an operator, without its bases.
@@ -367,19 +375,17 @@ fn called(
         next,
     } = args;
     drop(bases);
-    let tree = Box::new(
-        alloc,
-        Expr::Call {
-            def: number,
-            args: trees,
-        },
-    )?;
-    Ok(Form {
-        bases: Vec::from_slice(alloc, results)?,
-        tree,
-        reading: reading::not_linear_at(first_nonlinear, place),
-        next,
-    })
+    match Vec::from_slice(alloc, results) {
+        Ok(results) => {
+            let tree = Expr::Call {
+                def: number,
+                args: trees,
+            };
+            let reading = reading::not_linear_at(first_nonlinear, place);
+            boxed(alloc, results, tree, reading, next)
+        }
+        Err(_) => Err(without(trees, TypeFault::NoMemory)),
+    }
 }
 
 // Why these arguments are not those of a call of this function.
@@ -466,13 +472,8 @@ pub fn choice(
         next: _,
     } = yes;
     drop(reading);
-    let tree = Box::new(alloc, Expr::If { test, yes, no })?;
-    Ok(Form {
-        bases,
-        tree,
-        reading: reading::not_linear_at(first_nonlinear, place),
-        next,
-    })
+    let reading = reading::not_linear_at(first_nonlinear, place);
+    boxed(alloc, bases, Expr::If { test, yes, no }, reading, next)
 }
 
 /// A number of names or functions.
@@ -517,13 +518,9 @@ fn bound(
         next,
     } = body;
     drop(reading);
-    let tree = Box::new(alloc, Expr::Let { count, value, body })?;
-    Ok(Form {
-        bases,
-        tree,
-        reading: reading::not_linear_at(first_nonlinear, place),
-        next,
-    })
+    let tree = Expr::Let { count, value, body };
+    let reading = reading::not_linear_at(first_nonlinear, place);
+    boxed(alloc, bases, tree, reading, next)
 }
 
 /// A `let` of so many names.
@@ -655,34 +652,35 @@ pub fn no_forms(alloc: Global, next: u32) -> Forms
     }
 }
 
-// Adds an expression.
-fn add_form(forms: &mut Forms, form: Form) -> Result<(), NoMemory>
-    ensures { OnOk result (forms_of forms.new ≡ with_form_of (forms_of forms.old) (form_of form)) }
-{
-    let Form {
-        bases,
-        tree,
-        reading,
-        next,
-    } = form;
-    let first = reading::first_nonlinear(&reading);
-    drop(reading);
-    forms.bases.push(bases)?;
-    forms.trees.push(Box::into_inner(tree))?;
-    forms.first_nonlinear = reading::earlier_nonlinear(forms.first_nonlinear, first);
-    forms.next = next;
-    Ok(())
-}
-
 /// These expressions and one more.
 pub fn with_form(before: Forms, form: Form) -> Result<Forms, NoMemory>
     ensures { IfOk result (λ fs. forms_of fs ≡ with_form_of (forms_of before) (form_of form)) }
 {
-    let mut forms = before;
-    match add_form(&mut forms, form) {
-        Ok(()) => Ok(forms),
-        Err(fault) => Err(without(forms, fault)),
-    }
+    let Forms {
+        mut bases,
+        mut trees,
+        first_nonlinear,
+        next: _,
+    } = before;
+    let Form {
+        bases: own,
+        tree,
+        reading,
+        next,
+    } = form;
+    let first_nonlinear = reading::earlier_nonlinear(
+        first_nonlinear,
+        reading::first_nonlinear(&reading),
+    );
+    drop(reading);
+    bases.push(own)?;
+    trees.push(Box::into_inner(tree))?;
+    Ok(Forms {
+        bases,
+        trees,
+        first_nonlinear,
+        next,
+    })
 }
 
 /// No arms, before those that are numbered from `next` on.
@@ -715,13 +713,21 @@ pub fn after_arm_number(next: u32, parts: &[Part]) -> Result<u32, NoMemory>
     }
 }
 
+// Adds the factor of a part of a pattern.
+fn push_factor(factors: &mut Vec<i128>, part: &Part) -> Result<(), NoMemory>
+    ensures { OnOk result (factors.new.items ≡ factors.old.items ++ part.now.factor ∷ []) }
+{
+    factors.push(part.factor)?;
+    Ok(())
+}
+
 // The factors of a pattern.
 fn factors_of(alloc: Global, parts: &[Part]) -> Result<Vec<i128>, NoMemory>
     ensures { IfOk result (λ fs. fs.items ≡ map (λ x. x.factor) parts.now) }
 {
     let mut all = Vec::new(alloc);
     for part in parts {
-        all.push(part.factor)?;
+        push_factor(&mut all, part)?;
     }
     Ok(all)
 }
@@ -826,11 +832,8 @@ pub fn matching(
         of: bare(value),
         arms: trees,
     };
-    let tree = Box::new(alloc, tree)?;
-    Ok(Form {
-        bases: all?,
-        tree,
-        reading: reading::not_linear_at(first, place),
-        next,
-    })
+    match all {
+        Ok(all) => boxed(alloc, all, tree, reading::not_linear_at(first, place), next),
+        Err(_) => Err(without(tree, TypeFault::NoMemory)),
+    }
 }
