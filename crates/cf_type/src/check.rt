@@ -93,7 +93,6 @@ fn walk_in(caller: &Caller, scope: &mut Scope, def: &RawDef, next: u32) -> Resul
 }
 
 // The body of a function behind these.
-#[tactic(auto, using(crate::proofs::CheckLemmas::walked_in))]
 fn walk_body(
     alloc: Global,
     how: Linearity,
