@@ -1,4 +1,4 @@
-use Rattle.std.proofs.Common.{◌≡◌, ◌++◌, [], length, map, rules, ap, ◌∙◌, subst}
+use Rattle.std.proofs.Common.{◌≡◌, ◌++◌, length, map, rules, ap, ◌∙◌, subst}
 use Rattle.cf_tree.specs.DefView.{raw_def_tree}
 use Rattle.cf_tree.specs.RawView.{raw_tree}
 use Rattle.cf_program.specs.CheckAnswers.{CheckAnswer}
