@@ -1,16 +1,18 @@
 //! The forms of expressions, made of their parts.
-ghost use Rattle.std.specs.Prelude.{◌≡◌, ◌+◌, map, true, false, Some, Ok, IfOk, IfErr};
-ghost use Rattle.cf_tree.specs.ExprView.{expr_tree};
+ghost use Rattle.std.specs.Prelude.{◌≡◌, ◌+◌, ◌++◌, ◌∷◌, [], ℕ, map, true, false, Some, Ok, IfOk, IfErr, OnOk};
+ghost use Rattle.cf_tree.specs.ExprView.{expr_tree, match_arm_tree};
 ghost use Rattle.cf_tree.specs.RelView.{rel_tree};
 ghost use Rattle.cf_tree.specs.DefView.{raw_def_tree};
-ghost use Rattle.cf_tree.specs.ExprTree.{exprs_of, expr_call, expr_lit, expr_truth, expr_neg, expr_not, expr_abs, expr_div, expr_mod, expr_divides, expr_card};
+ghost use Rattle.cf_tree.specs.ExprTree.{exprs_of, match_arm, expr_call, expr_choose, expr_lit, expr_truth, expr_neg, expr_not, expr_abs, expr_div, expr_mod, expr_divides, expr_card};
 ghost use Rattle.cf_tree.specs.RelTree.{term_lit, term_neg, term_abs, term_div, term_mod, term_card, rel_not, rel_divides};
 ghost use Rattle.cf_tree.specs.declared.base.Base.TheVariants.{Int as int, Bool as truth_base, Set as set_base};
+ghost use Rattle.cf_tree.specs.RawView.{raw_tree};
+ghost use Rattle.cf_type.specs.FormParts.{over_one as over_one_of, over_row as over_row_of};
 ghost use Rattle.cf_type.specs.FormView.{form_of, forms_of, arms_of, reading_of, callee_seen, context_of};
 ghost use Rattle.cf_program.specs.CheckAnswers.{CheckAnswer};
 ghost use Rattle.cf_program.specs.Names.{bases_of};
 ghost use Rattle.cf_program.specs.Reading.{relation as a_relation, term as a_term, on_relation, on_term, on_set, truth_reading, not_linear_at as not_linear_at_of};
-ghost use Rattle.cf_program.specs.Walk.{is_one, form as form_is, no_forms as no_forms_of, with_form as with_form_of, no_arms as no_arms_of, with_arm as with_arm_of, variable_form, unary_form, binary_form, set_reading as set_reading_of, set_form, tuple_form, call_form, if_form, let_form, choose_form, choose_part, match_form, linear as linear_of, arm_number, after_arm};
+ghost use Rattle.cf_program.specs.Walk.{where_no_fault, is_one, form as form_is, no_forms as no_forms_of, with_form as with_form_of, no_arms as no_arms_of, with_arm as with_arm_of, variable_form, unary_form, binary_form, set_reading as set_reading_of, set_form, tuple_form, call_form, if_form, let_form, choose_form, choose_part, match_form, linear as linear_of, arm_number, after_arm};
 ghost use Rattle.cf_tree.specs.Typing.{one as one_base};
 
 use crate::callees::Caller;
@@ -21,10 +23,31 @@ use cf_program::fault::TypeFault;
 use cf_program::variable::Variable;
 use cf_tree::base::{Base, Place, Text, same_bases};
 use cf_tree::expr::{Expr, MatchArm};
-use cf_tree::memory::NoMemory;
-use cf_tree::raw::{BinOp, Param, Part, RawDef};
+use cf_tree::memory::{NoMemory, without};
+use cf_tree::raw::{BinOp, Param, Part, Raw, RawDef, RawNode};
 use cf_tree::rel::{Rel, SetTerm, Term};
 use std::alloc::Global;
+
+// The expression of these bases, this tree and this reading.
+fn boxed(
+    alloc: Global,
+    bases: Vec<Base>,
+    tree: Expr,
+    reading: Reading,
+    next: u32,
+) -> Result<Form, TypeFault>
+    ensures { CheckAnswer form_of result (form_is bases.items (expr_tree tree) (reading_of reading) next) }
+{
+    match Box::new(alloc, tree) {
+        Ok(tree) => Ok(Form {
+            bases,
+            tree,
+            reading,
+            next,
+        }),
+        Err(_) => Err(without(bases, without(reading, TypeFault::NoMemory))),
+    }
+}
 
 // The expression of this tree and reading, which has one base.
 fn made(
@@ -36,13 +59,10 @@ fn made(
 ) -> Result<Form, TypeFault>
     ensures { CheckAnswer form_of result (form_is (one_base base) (expr_tree tree) (reading_of reading) next) }
 {
-    let tree = Box::new(alloc, tree)?;
-    Ok(Form {
-        bases: bases::one(alloc, base)?,
-        tree,
-        reading,
-        next,
-    })
+    match bases::one(alloc, base) {
+        Ok(bases) => boxed(alloc, bases, tree, reading, next),
+        Err(_) => Err(without(tree, without(reading, TypeFault::NoMemory))),
+    }
 }
 
 /// A literal.
@@ -129,13 +149,13 @@ pub fn tuple(alloc: Global, place: Place, parts: Forms) -> Result<Form, TypeFaul
     } = parts;
     let all = bases::joined(alloc, &bases);
     drop(bases);
-    let tree = Box::new(alloc, Expr::Tuple(trees))?;
-    Ok(Form {
-        bases: all?,
-        tree,
-        reading: reading::not_linear_at(first_nonlinear, place),
-        next,
-    })
+    match all {
+        Ok(all) => {
+            let reading = reading::not_linear_at(first_nonlinear, place);
+            boxed(alloc, all, Expr::Tuple(trees), reading, next)
+        }
+        Err(_) => Err(without(trees, TypeFault::NoMemory)),
+    }
 }
 
 // What stands under an operator, without its bases.
@@ -252,6 +272,34 @@ pub fn card(alloc: Global, place: Place, part: Form) -> Result<Form, TypeFault>
     made(alloc, Base::Int, Expr::Card(part.tree), reading, part.next)
 }
 
+/// The form with this one part; a group is its part.
+pub fn over_one(alloc: Global, raw: &Raw, part: Form) -> Result<Form, TypeFault>
+    ensures { CheckAnswer form_of result (over_one_of (raw_tree raw.now) (form_of part)) }
+{
+    let place = raw.place;
+    match &raw.node {
+        RawNode::Neg(_) => neg(alloc, place, part),
+        RawNode::Not(_) => not(alloc, place, part),
+        RawNode::Abs(_) => abs(alloc, place, part),
+        RawNode::Divides { k, .. } => divides(alloc, place, *k, part),
+        RawNode::Div { k, .. } => div(alloc, place, part, *k),
+        RawNode::Mod { k, .. } => modulo(alloc, place, part, *k),
+        RawNode::Card(_) => card(alloc, place, part),
+        _ => Ok(part),
+    }
+}
+
+/// The form with these parts in a row: a set, a call or a tuple.
+pub fn over_row(caller: &Caller, raw: &Raw, parts: Forms) -> Result<Form, TypeFault>
+    ensures { CheckAnswer form_of result (over_row_of (context_of caller.now) raw.now.place (raw_tree raw.now) (forms_of parts)) }
+{
+    match &raw.node {
+        RawNode::SetOf(_) => set(caller.alloc, raw.place, parts),
+        RawNode::Call { name, .. } => call(caller, raw.place, name, parts),
+        _ => tuple(caller.alloc, raw.place, parts),
+    }
+}
+
 /// An operation with two sides.
 #[tactic(auto, unfolding(crate::specs::FormView::context_of))]
 pub fn binary(
@@ -327,19 +375,35 @@ fn called(
         next,
     } = args;
     drop(bases);
-    let tree = Box::new(
-        alloc,
-        Expr::Call {
-            def: number,
-            args: trees,
-        },
-    )?;
-    Ok(Form {
-        bases: Vec::from_slice(alloc, results)?,
-        tree,
-        reading: reading::not_linear_at(first_nonlinear, place),
-        next,
-    })
+    match Vec::from_slice(alloc, results) {
+        Ok(results) => {
+            let tree = Expr::Call {
+                def: number,
+                args: trees,
+            };
+            let reading = reading::not_linear_at(first_nonlinear, place);
+            boxed(alloc, results, tree, reading, next)
+        }
+        Err(_) => Err(without(trees, TypeFault::NoMemory)),
+    }
+}
+
+// Why these arguments are not those of a call of this function.
+fn call_fault(place: Place, def: &RawDef, is_earlier: bool, args: &Forms) -> Option<TypeFault>
+    ensures { (number : ℕ) → call_form place (Some (callee_seen number (raw_def_tree def.now) is_earlier)) (forms_of args.now) ≡
+        where_no_fault result (form_is def.now.results.items (expr_call number (exprs_of (forms_of args.now).trees))
+        (not_linear_at_of (forms_of args.now).first_nonlinear place) (forms_of args.now).next) }
+{
+    if args.bases.len() != def.params.len() {
+        return Some(TypeFault::WrongCount(place));
+    }
+    if !bases::are_asked(&args.bases, &def.params) {
+        return Some(TypeFault::Mismatch(place));
+    }
+    if !is_earlier {
+        return Some(TypeFault::CallsLater(place));
+    }
+    None
 }
 
 // The call of this function.
@@ -353,19 +417,10 @@ fn call_of(
 ) -> Result<Form, TypeFault>
     ensures { CheckAnswer form_of result (call_form place (Some (callee_seen number (raw_def_tree def.now) is_earlier)) (forms_of args)) }
 {
-    if args.bases.len() != def.params.len() {
-        drop(args);
-        return Err(TypeFault::WrongCount(place));
+    match call_fault(place, def, is_earlier, &args) {
+        None => called(alloc, place, number, &def.results, args),
+        Some(fault) => Err(without(args, fault)),
     }
-    if !bases::are_asked(&args.bases, &def.params) {
-        drop(args);
-        return Err(TypeFault::Mismatch(place));
-    }
-    if !is_earlier {
-        drop(args);
-        return Err(TypeFault::CallsLater(place));
-    }
-    called(alloc, place, number, &def.results, args)
 }
 
 /// The tree alone.
@@ -417,13 +472,8 @@ pub fn choice(
         next: _,
     } = yes;
     drop(reading);
-    let tree = Box::new(alloc, Expr::If { test, yes, no })?;
-    Ok(Form {
-        bases,
-        tree,
-        reading: reading::not_linear_at(first_nonlinear, place),
-        next,
-    })
+    let reading = reading::not_linear_at(first_nonlinear, place);
+    boxed(alloc, bases, Expr::If { test, yes, no }, reading, next)
 }
 
 /// A number of names or functions.
@@ -446,24 +496,16 @@ pub fn following(n: u32) -> Result<u32, NoMemory>
     }
 }
 
-/// A `let` of so many names.
-pub fn binding(
+// A `let` of so many names.
+fn bound(
     alloc: Global,
     place: Place,
-    count: usize,
+    count: u32,
     value: Form,
     body: Form,
 ) -> Result<Form, TypeFault>
     ensures { CheckAnswer form_of result (let_form place count (form_of value) (form_of body)) }
 {
-    let count = match to_u32(count) {
-        Ok(count) => count,
-        Err(fault) => {
-            drop(value);
-            drop(body);
-            return Err(TypeFault::from(fault));
-        }
-    };
     let first_nonlinear = reading::earlier_nonlinear(
         reading::first_nonlinear(&value.reading),
         reading::first_nonlinear(&body.reading),
@@ -476,13 +518,25 @@ pub fn binding(
         next,
     } = body;
     drop(reading);
-    let tree = Box::new(alloc, Expr::Let { count, value, body })?;
-    Ok(Form {
-        bases,
-        tree,
-        reading: reading::not_linear_at(first_nonlinear, place),
-        next,
-    })
+    let tree = Expr::Let { count, value, body };
+    let reading = reading::not_linear_at(first_nonlinear, place);
+    boxed(alloc, bases, tree, reading, next)
+}
+
+/// A `let` of so many names.
+pub fn binding(
+    alloc: Global,
+    place: Place,
+    count: usize,
+    value: Form,
+    body: Form,
+) -> Result<Form, TypeFault>
+    ensures { CheckAnswer form_of result (let_form place count (form_of value) (form_of body)) }
+{
+    match to_u32(count) {
+        Ok(count) => bound(alloc, place, count, value, body),
+        Err(_) => Err(without(value, without(body, TypeFault::NoMemory))),
+    }
 }
 
 // The relation that was read, where it is linear.
@@ -491,8 +545,8 @@ fn linear(place: Place, reading: Reading) -> Result<Box<Rel>, TypeFault>
 {
     match reading {
         Reading::Relation(rel) => Ok(rel),
-        Reading::Term(_) => Err(TypeFault::NotLinear(place)),
-        Reading::Set(_) => Err(TypeFault::NotLinear(place)),
+        Reading::Term(t) => Err(without(t, TypeFault::NotLinear(place))),
+        Reading::Set(s) => Err(without(s, TypeFault::NotLinear(place))),
         Reading::NotLinear(first) => Err(TypeFault::NotLinear(first)),
     }
 }
@@ -508,6 +562,28 @@ fn output_bases(alloc: Global, outputs: &[Param]) -> Result<Vec<Base>, NoMemory>
     Ok(all)
 }
 
+// The `choose` of that number and these outputs over a linear relation, and the bases of its outputs.
+fn choose_tree(
+    alloc: Global,
+    number: u32,
+    scope: Vec<Param>,
+    outputs: &[Param],
+    rel: Box<Rel>,
+) -> Result<(Vec<Base>, Box<Expr>), NoMemory>
+    ensures { IfOk result (λ r. (r.0.items ≡ bases_of outputs.now) ×
+        (expr_tree r.1.value ≡ expr_choose number scope.items (bases_of outputs.now) (rel_tree rel.value))) }
+{
+    let bases = output_bases(alloc, outputs)?;
+    let outputs = output_bases(alloc, outputs)?;
+    let tree = Expr::Choose {
+        number,
+        scope,
+        outputs,
+        rel: Box::into_inner(rel),
+    };
+    Ok((bases, Box::new(alloc, tree)?))
+}
+
 /// The `choose` of that number and these outputs, where `scope` holds the variables in scope.
 pub fn choose(
     alloc: Global,
@@ -519,36 +595,27 @@ pub fn choose(
 ) -> Result<Form, TypeFault>
     ensures { CheckAnswer form_of result (choose_form place number scope.items outputs.now (form_of rel)) }
 {
-    if !bases::is_one(Base::Bool, &rel.bases) {
-        drop(rel);
-        return Err(TypeFault::Mismatch(place));
-    }
-    let Form {
-        bases,
+    let Operand {
         tree,
         reading,
         next,
-    } = rel;
-    drop(bases);
+    } = match operand_at(place, Base::Bool, rel) {
+        Ok(rel) => rel,
+        Err(fault) => return Err(without(scope, fault)),
+    };
     drop(tree);
-    let rel = linear(place, reading)?;
-    let bases = output_bases(alloc, outputs)?;
-    let outputs = output_bases(alloc, outputs)?;
-    let tree = Box::new(
-        alloc,
-        Expr::Choose {
-            number,
-            scope,
-            outputs,
-            rel: Box::into_inner(rel),
-        },
-    )?;
-    Ok(Form {
-        bases,
-        tree,
-        reading: Reading::NotLinear(place),
-        next,
-    })
+    match linear(place, reading) {
+        Ok(rel) => {
+            let (bases, tree) = choose_tree(alloc, number, scope, outputs, rel)?;
+            Ok(Form {
+                bases,
+                tree,
+                reading: Reading::NotLinear(place),
+                next,
+            })
+        }
+        Err(fault) => Err(without(scope, fault)),
+    }
 }
 
 /// The `choose` as a part of the relation around it, where its own relation was read as a part of
@@ -646,15 +713,71 @@ pub fn after_arm_number(next: u32, parts: &[Part]) -> Result<u32, NoMemory>
     }
 }
 
+// Adds the factor of a part of a pattern.
+fn push_factor(factors: &mut Vec<i128>, part: &Part) -> Result<(), NoMemory>
+    ensures { OnOk result (factors.new.items ≡ factors.old.items ++ part.now.factor ∷ []) }
+{
+    factors.push(part.factor)?;
+    Ok(())
+}
+
 // The factors of a pattern.
 fn factors_of(alloc: Global, parts: &[Part]) -> Result<Vec<i128>, NoMemory>
     ensures { IfOk result (λ fs. fs.items ≡ map (λ x. x.factor) parts.now) }
 {
     let mut all = Vec::new(alloc);
     for part in parts {
-        all.push(part.factor)?;
+        push_factor(&mut all, part)?;
     }
     Ok(all)
+}
+
+// The arm of that pattern and body.
+fn arm_of(
+    alloc: Global,
+    number: u32,
+    parts: &[Part],
+    constant: i128,
+    body: Box<Expr>,
+) -> Result<MatchArm, NoMemory>
+    ensures { IfOk result (λ arm. match_arm_tree arm ≡ match_arm number (map (λ x. x.factor) parts.now) constant (expr_tree body.value)) }
+{
+    match factors_of(alloc, parts) {
+        Ok(factors) => Ok(MatchArm {
+            number,
+            factors,
+            constant,
+            body: Box::into_inner(body),
+        }),
+        Err(fault) => Err(without(body, fault)),
+    }
+}
+
+// Adds an arm of that pattern and body.
+fn add_arm(
+    alloc: Global,
+    arms: &mut Arms,
+    parts: &[Part],
+    constant: i128,
+    body: Form,
+) -> Result<(), NoMemory>
+    ensures { OnOk result (arms_of arms.new ≡ with_arm_of (arms_of arms.old) parts.now constant (form_of body)) }
+{
+    let Form {
+        bases,
+        tree,
+        reading,
+        next,
+    } = body;
+    let first = reading::first_nonlinear(&reading);
+    drop(reading);
+    arms.bases.push(bases)?;
+    let number = number_of(arms.next, parts);
+    arms.trees
+        .push(arm_of(alloc, number, parts, constant, tree)?)?;
+    arms.first_nonlinear = reading::earlier_nonlinear(arms.first_nonlinear, first);
+    arms.next = next;
+    Ok(())
 }
 
 /// These arms and one more, of that pattern and body.
@@ -667,38 +790,11 @@ pub fn with_arm(
 ) -> Result<Arms, NoMemory>
     ensures { IfOk result (λ arms. arms_of arms ≡ with_arm_of (arms_of before) parts.now constant (form_of body)) }
 {
-    let Arms {
-        mut bases,
-        mut trees,
-        first_nonlinear,
-        next,
-    } = before;
-    let number = number_of(next, parts);
-    let Form {
-        bases: own,
-        tree,
-        reading,
-        next,
-    } = body;
-    let first_nonlinear = reading::earlier_nonlinear(
-        first_nonlinear,
-        reading::first_nonlinear(&reading),
-    );
-    drop(reading);
-    bases.push(own)?;
-    let factors = factors_of(alloc, parts)?;
-    trees.push(MatchArm {
-        number,
-        factors,
-        constant,
-        body: Box::into_inner(tree),
-    })?;
-    Ok(Arms {
-        bases,
-        trees,
-        first_nonlinear,
-        next,
-    })
+    let mut arms = before;
+    match add_arm(alloc, &mut arms, parts, constant, body) {
+        Ok(()) => Ok(arms),
+        Err(fault) => Err(without(arms, fault)),
+    }
 }
 
 /// The `match` of that number, where `scope` holds the variables in scope and last the matched value.
@@ -736,11 +832,8 @@ pub fn matching(
         of: bare(value),
         arms: trees,
     };
-    let tree = Box::new(alloc, tree)?;
-    Ok(Form {
-        bases: all?,
-        tree,
-        reading: reading::not_linear_at(first, place),
-        next,
-    })
+    match all {
+        Ok(all) => boxed(alloc, all, tree, reading::not_linear_at(first, place), next),
+        Err(_) => Err(without(tree, TypeFault::NoMemory)),
+    }
 }

@@ -5,12 +5,12 @@ ghost use Rattle.cf_type.specs.FormView.{callee_seen, context_of};
 ghost use Rattle.cf_program.specs.CheckAnswers.{Shows};
 ghost use Rattle.cf_program.specs.Names.{callee_from, is_among};
 ghost use Rattle.cf_program.specs.Walk.{in_body, in_relation as in_relation_of};
-ghost use Rattle.cf_type.specs.Numbers.{shown, with_name};
+ghost use Rattle.cf_type.specs.Numbers.{shown, with_name, with_names, names_of_defs};
 
 use crate::build::to_u32;
 use cf_program::linearity::Linearity;
 use cf_tree::base::Text;
-use cf_tree::memory::NoMemory;
+use cf_tree::memory::{NoMemory, without};
 use cf_tree::raw::RawDef;
 use indexmap::IndexMap;
 use std::alloc::Global;
@@ -109,16 +109,30 @@ fn add(
     Ok(())
 }
 
+// Gives the names of these functions their numbers.
+fn add_all(
+    alloc: Global,
+    numbers: &mut IndexMap<Vec<u8>, u32>,
+    defs: &[RawDef],
+) -> Result<(), NoMemory>
+    ensures { OnOk result (shown numbers.new.entries ≡ with_names (shown numbers.old.entries) 0 (names_of_defs defs.now)) }
+{
+    for i in 0..defs.len() {
+        add(alloc, numbers, &defs[i].name, i)?;
+    }
+    Ok(())
+}
+
 impl<'a> Callees<'a> {
     /// These functions.
     pub fn new(alloc: Global, defs: &'a [RawDef]) -> Result<Callees<'a>, NoMemory>
         ensures { IfOk result (λ c. c ≡ defs.now) }
     {
         let mut numbers = IndexMap::new(alloc);
-        for i in 0..defs.len() {
-            add(alloc, &mut numbers, &defs[i].name, i)?;
+        match add_all(alloc, &mut numbers, defs) {
+            Ok(()) => Ok(Callees { defs, numbers }),
+            Err(fault) => Err(without(numbers, fault)),
         }
-        Ok(Callees { defs, numbers })
     }
 
     /// The first function of a name: its number, itself, and whether it stands before the caller.

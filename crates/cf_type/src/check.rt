@@ -1,12 +1,12 @@
 //! The rules over a program.
-ghost use Rattle.std.specs.Prelude.{◌≡◌, ℕ, [], length, map, take, codes, Ok, IfOk, OnOk};
+ghost use Rattle.std.specs.Prelude.{◌≡◌, ◌++◌, ℕ, [], length, map, take, codes, Ok, IfOk, OnOk};
 ghost use Rattle.std.specs.Str.{bytes_eq};
 ghost use Rattle.cf_tree.specs.DefView.{program_tree, raw_def_tree, def_tree, DefTree};
 ghost use Rattle.cf_tree.specs.RawTree.{place_of};
 ghost use Rattle.cf_tree.specs.RawView.{raw_tree};
 ghost use Rattle.cf_program.specs.Checked.{checked, checked_by, walk_def as walk_def_of, walk_defs as walk_defs_of, main_from, def_form};
 ghost use Rattle.cf_program.specs.declared.fault.TypeFault.TheVariants.{Mismatch};
-ghost use Rattle.cf_type.specs.FormView.{form_of};
+ghost use Rattle.cf_type.specs.FormView.{form_of, context_of};
 ghost use Rattle.cf_program.specs.DistinctNames.{IsDistinctlyNamed};
 ghost use Rattle.cf_program.specs.CheckAnswers.{CheckAnswer};
 ghost use Rattle.cf_program.specs.Names.{callee_from};
@@ -84,8 +84,15 @@ fn check_by(alloc: Global, how: Linearity, program: &Program) -> Result<TypedDef
     Ok(TypedDefs { defs, main })
 }
 
+// The body of a function, in this scope with its parameters.
+fn walk_in(caller: &Caller, scope: &mut Scope, def: &RawDef, next: u32) -> Result<Form, TypeFault>
+    ensures { CheckAnswer form_of result (walk_of (context_of caller.now) (scope.old ++ def.now.params.items) next (raw_tree def.now.body)) }
+{
+    scope.enter(caller.alloc, &def.params)?;
+    walk(caller, scope, next, &def.body)
+}
+
 // The body of a function behind these.
-#[tactic(auto, using(crate::proofs::CheckLemmas::walked_in))]
 fn walk_body(
     alloc: Global,
     how: Linearity,
@@ -100,10 +107,11 @@ fn walk_body(
     match u32::try_from(before.len()) {
         Err(_) => Err(TypeFault::NoMemory),
         Ok(number) => {
-            let mut scope = Scope::new(alloc);
-            scope.enter(alloc, &def.params)?;
             let caller = Caller::new(alloc, callees, number, how);
-            walk(&caller, &mut scope, next, &def.body)
+            let mut scope = Scope::new(alloc);
+            let walked = walk_in(&caller, &mut scope, def, next);
+            drop(scope);
+            walked
         }
     }
 }

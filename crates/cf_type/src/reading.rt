@@ -4,12 +4,12 @@ ghost use Rattle.cf_tree.specs.RelView.{rel_tree, term_tree, set_tree};
 ghost use Rattle.cf_tree.specs.RelTree.{rel_compare, rel_divides, rel_not, rel_and, rel_or, rel_subset, term_neg, term_abs, term_div, term_mod, term_card, term_add, term_sub, union_of, inter_of, diff_of};
 ghost use Rattle.cf_type.specs.FormView.{reading_of};
 ghost use Rattle.cf_program.specs.LateLinear.{is_fixed_below as is_fixed_below_of};
-ghost use Rattle.cf_program.specs.Reading.{relation as a_relation, term as a_term, set as a_set, first_nonlinear as first_nonlinear_of, earlier_nonlinear as earlier_nonlinear_of, not_linear_at as not_linear_at_of, on_relation, on_term, on_set, truth_reading, variable_reading, product_reading, sets_reading, compare_reading, binary_reading};
+ghost use Rattle.cf_program.specs.Reading.{relation as a_relation, term as a_term, set as a_set, not_linear, first_nonlinear as first_nonlinear_of, earlier_nonlinear as earlier_nonlinear_of, not_linear_at as not_linear_at_of, on_relation, on_term, on_set, truth_reading, variable_reading, product_reading, sets_reading, compare_reading, binary_reading};
 
 use crate::form::Reading;
 use cf_program::variable::Variable;
 use cf_tree::base::{Base, Order, Place};
-use cf_tree::memory::NoMemory;
+use cf_tree::memory::{NoMemory, without};
 use cf_tree::raw::BinOp;
 use cf_tree::rel::{Rel, SetTerm, Term};
 use std::alloc::Global;
@@ -54,12 +54,33 @@ pub fn not_linear_at(first: Option<Place>, place: Place) -> Reading
     }
 }
 
+// A relation.
+fn relation(alloc: Global, rel: Rel) -> Result<Reading, NoMemory>
+    ensures { IfOk result (λ r. reading_of r ≡ a_relation (rel_tree rel)) }
+{
+    Ok(Reading::Relation(Box::new(alloc, rel)?))
+}
+
+// A number form.
+fn term(alloc: Global, term: Term) -> Result<Reading, NoMemory>
+    ensures { IfOk result (λ r. reading_of r ≡ a_term (term_tree term)) }
+{
+    Ok(Reading::Term(Box::new(alloc, term)?))
+}
+
+// A set form.
+fn set(alloc: Global, set: SetTerm) -> Result<Reading, NoMemory>
+    ensures { IfOk result (λ r. reading_of r ≡ a_set (set_tree set)) }
+{
+    Ok(Reading::Set(Box::new(alloc, set)?))
+}
+
 /// A truth value.
 pub fn of_truth(alloc: Global, truth: bool) -> Result<Reading, NoMemory>
     ensures { IfOk result (λ r. reading_of r ≡ truth_reading truth) }
 {
     let rel = if truth { Rel::True } else { Rel::False };
-    Ok(Reading::Relation(Box::new(alloc, rel)?))
+    relation(alloc, rel)
 }
 
 /// A variable.
@@ -67,9 +88,9 @@ pub fn of_variable(alloc: Global, place: Place, variable: Variable) -> Result<Re
     ensures { IfOk result (λ r. reading_of r ≡ variable_reading place variable.base variable.level) }
 {
     match variable.base {
-        Base::Int => Ok(Reading::Term(Box::new(alloc, Term::Var(variable.level))?)),
+        Base::Int => term(alloc, Term::Var(variable.level)),
         Base::Bool => Ok(Reading::NotLinear(place)),
-        Base::Set => Ok(Reading::Set(Box::new(alloc, SetTerm::Var(variable.level))?)),
+        Base::Set => set(alloc, SetTerm::Var(variable.level)),
     }
 }
 
@@ -78,9 +99,9 @@ pub fn of_not(alloc: Global, place: Place, part: Reading) -> Result<Reading, NoM
     ensures { IfOk result (λ r. reading_of r ≡ on_relation (λ a. a_relation (rel_not a)) place (reading_of part)) }
 {
     match part {
-        Reading::Relation(a) => Ok(Reading::Relation(Box::new(alloc, Rel::Not(a))?)),
-        Reading::Term(_) => Ok(Reading::NotLinear(place)),
-        Reading::Set(_) => Ok(Reading::NotLinear(place)),
+        Reading::Relation(a) => relation(alloc, Rel::Not(a)),
+        Reading::Term(t) => Ok(without(t, Reading::NotLinear(place))),
+        Reading::Set(s) => Ok(without(s, Reading::NotLinear(place))),
         Reading::NotLinear(first) => Ok(Reading::NotLinear(first)),
     }
 }
@@ -90,9 +111,9 @@ pub fn of_neg(alloc: Global, place: Place, part: Reading) -> Result<Reading, NoM
     ensures { IfOk result (λ r. reading_of r ≡ on_term (λ t. a_term (term_neg t)) place (reading_of part)) }
 {
     match part {
-        Reading::Relation(_) => Ok(Reading::NotLinear(place)),
-        Reading::Term(t) => Ok(Reading::Term(Box::new(alloc, Term::Neg(t))?)),
-        Reading::Set(_) => Ok(Reading::NotLinear(place)),
+        Reading::Relation(a) => Ok(without(a, Reading::NotLinear(place))),
+        Reading::Term(t) => term(alloc, Term::Neg(t)),
+        Reading::Set(s) => Ok(without(s, Reading::NotLinear(place))),
         Reading::NotLinear(first) => Ok(Reading::NotLinear(first)),
     }
 }
@@ -102,9 +123,9 @@ pub fn of_abs(alloc: Global, place: Place, part: Reading) -> Result<Reading, NoM
     ensures { IfOk result (λ r. reading_of r ≡ on_term (λ t. a_term (term_abs t)) place (reading_of part)) }
 {
     match part {
-        Reading::Relation(_) => Ok(Reading::NotLinear(place)),
-        Reading::Term(t) => Ok(Reading::Term(Box::new(alloc, Term::Abs(t))?)),
-        Reading::Set(_) => Ok(Reading::NotLinear(place)),
+        Reading::Relation(a) => Ok(without(a, Reading::NotLinear(place))),
+        Reading::Term(t) => term(alloc, Term::Abs(t)),
+        Reading::Set(s) => Ok(without(s, Reading::NotLinear(place))),
         Reading::NotLinear(first) => Ok(Reading::NotLinear(first)),
     }
 }
@@ -114,9 +135,9 @@ pub fn of_div(alloc: Global, place: Place, part: Reading, k: i128) -> Result<Rea
     ensures { IfOk result (λ r. reading_of r ≡ on_term (λ t. a_term (term_div t k)) place (reading_of part)) }
 {
     match part {
-        Reading::Relation(_) => Ok(Reading::NotLinear(place)),
-        Reading::Term(t) => Ok(Reading::Term(Box::new(alloc, Term::Div(t, k))?)),
-        Reading::Set(_) => Ok(Reading::NotLinear(place)),
+        Reading::Relation(a) => Ok(without(a, Reading::NotLinear(place))),
+        Reading::Term(t) => term(alloc, Term::Div(t, k)),
+        Reading::Set(s) => Ok(without(s, Reading::NotLinear(place))),
         Reading::NotLinear(first) => Ok(Reading::NotLinear(first)),
     }
 }
@@ -126,9 +147,9 @@ pub fn of_mod(alloc: Global, place: Place, part: Reading, k: i128) -> Result<Rea
     ensures { IfOk result (λ r. reading_of r ≡ on_term (λ t. a_term (term_mod t k)) place (reading_of part)) }
 {
     match part {
-        Reading::Relation(_) => Ok(Reading::NotLinear(place)),
-        Reading::Term(t) => Ok(Reading::Term(Box::new(alloc, Term::Mod(t, k))?)),
-        Reading::Set(_) => Ok(Reading::NotLinear(place)),
+        Reading::Relation(a) => Ok(without(a, Reading::NotLinear(place))),
+        Reading::Term(t) => term(alloc, Term::Mod(t, k)),
+        Reading::Set(s) => Ok(without(s, Reading::NotLinear(place))),
         Reading::NotLinear(first) => Ok(Reading::NotLinear(first)),
     }
 }
@@ -138,9 +159,9 @@ pub fn of_divides(alloc: Global, place: Place, k: i128, part: Reading) -> Result
     ensures { IfOk result (λ r. reading_of r ≡ on_term (λ t. a_relation (rel_divides k t)) place (reading_of part)) }
 {
     match part {
-        Reading::Relation(_) => Ok(Reading::NotLinear(place)),
-        Reading::Term(t) => Ok(Reading::Relation(Box::new(alloc, Rel::Divides { k, of: t })?)),
-        Reading::Set(_) => Ok(Reading::NotLinear(place)),
+        Reading::Relation(a) => Ok(without(a, Reading::NotLinear(place))),
+        Reading::Term(t) => relation(alloc, Rel::Divides { k, of: t }),
+        Reading::Set(s) => Ok(without(s, Reading::NotLinear(place))),
         Reading::NotLinear(first) => Ok(Reading::NotLinear(first)),
     }
 }
@@ -150,11 +171,18 @@ pub fn of_card(alloc: Global, place: Place, part: Reading) -> Result<Reading, No
     ensures { IfOk result (λ r. reading_of r ≡ on_set (λ s. a_term (term_card s)) place (reading_of part)) }
 {
     match part {
-        Reading::Relation(_) => Ok(Reading::NotLinear(place)),
-        Reading::Term(_) => Ok(Reading::NotLinear(place)),
-        Reading::Set(s) => Ok(Reading::Term(Box::new(alloc, Term::Card(s))?)),
+        Reading::Relation(a) => Ok(without(a, Reading::NotLinear(place))),
+        Reading::Term(t) => Ok(without(t, Reading::NotLinear(place))),
+        Reading::Set(s) => term(alloc, Term::Card(s)),
         Reading::NotLinear(first) => Ok(Reading::NotLinear(first)),
     }
+}
+
+// The reading of an operation that is not linear at this place; its parts are given up.
+fn bent<A: Drop, B: Drop>(_left: A, _right: B, place: Place) -> Reading
+    ensures { reading_of result ≡ not_linear place }
+{
+    Reading::NotLinear(place)
 }
 
 // Whether a number form holds no card, no div, no mod, and no variable but of these outermost ones.
@@ -185,11 +213,9 @@ fn of_product(
     ensures { IfOk result (λ r. reading_of r ≡ product_reading operation.known operation.place (term_tree a.value) (term_tree b.value)) }
 {
     if is_fixed_below(operation.known, &a) || is_fixed_below(operation.known, &b) {
-        return Ok(Reading::Term(Box::new(alloc, Term::Mul(a, b))?));
+        return term(alloc, Term::Mul(a, b));
     }
-    drop(a);
-    drop(b);
-    Ok(Reading::NotLinear(operation.place))
+    Ok(bent(a, b, operation.place))
 }
 
 // The operation of two number forms.
@@ -203,22 +229,20 @@ fn of_terms(
         (a_term (term_tree b.value))) }
 {
     match operation.op {
-        BinOp::Add => Ok(Reading::Term(Box::new(alloc, Term::Add(a, b))?)),
-        BinOp::Sub => Ok(Reading::Term(Box::new(alloc, Term::Sub(a, b))?)),
+        BinOp::Add => term(alloc, Term::Add(a, b)),
+        BinOp::Sub => term(alloc, Term::Sub(a, b)),
         BinOp::Mul => of_product(alloc, operation, a, b),
-        BinOp::Compare(order) => Ok(Reading::Relation(Box::new(
+        BinOp::Compare(order) => relation(
             alloc,
             Rel::Compare {
                 order,
                 left: a,
                 right: b,
             },
-        )?)),
-        BinOp::And | BinOp::Or | BinOp::Union | BinOp::Inter | BinOp::Diff | BinOp::Subset => {
-            drop(a);
-            drop(b);
-            Ok(Reading::NotLinear(operation.place))
-        }
+        ),
+        BinOp::And | BinOp::Or | BinOp::Union | BinOp::Inter | BinOp::Diff | BinOp::Subset => Ok(
+            bent(a, b, operation.place),
+        ),
     }
 }
 
@@ -233,24 +257,16 @@ fn of_relations(
         (a_relation (rel_tree b.value))) }
 {
     match operation.op {
-        BinOp::And => Ok(Reading::Relation(Box::new(alloc, Rel::And(a, b))?)),
-        BinOp::Or => Ok(Reading::Relation(Box::new(alloc, Rel::Or(a, b))?)),
+        BinOp::And => relation(alloc, Rel::And(a, b)),
+        BinOp::Or => relation(alloc, Rel::Or(a, b)),
         BinOp::Add
         | BinOp::Sub
         | BinOp::Mul
         | BinOp::Union
         | BinOp::Inter
         | BinOp::Diff
-        | BinOp::Subset => {
-            drop(a);
-            drop(b);
-            Ok(Reading::NotLinear(operation.place))
-        }
-        BinOp::Compare(_) => {
-            drop(a);
-            drop(b);
-            Ok(Reading::NotLinear(operation.place))
-        }
+        | BinOp::Subset => Ok(bent(a, b, operation.place)),
+        BinOp::Compare(_) => Ok(bent(a, b, operation.place)),
     }
 }
 
@@ -265,13 +281,9 @@ fn of_compared_sets(
     ensures { IfOk result (λ r. reading_of r ≡ sets_reading order place (set_tree a.value) (set_tree b.value)) }
 {
     match order {
-        Order::Eq => Ok(Reading::Relation(Box::new(alloc, Rel::SameSet(a, b))?)),
-        Order::Ne => Ok(Reading::Relation(Box::new(alloc, Rel::OtherSet(a, b))?)),
-        Order::Lt | Order::Le | Order::Gt | Order::Ge => {
-            drop(a);
-            drop(b);
-            Ok(Reading::NotLinear(place))
-        }
+        Order::Eq => relation(alloc, Rel::SameSet(a, b)),
+        Order::Ne => relation(alloc, Rel::OtherSet(a, b)),
+        Order::Lt | Order::Le | Order::Gt | Order::Ge => Ok(bent(a, b, place)),
     }
 }
 
@@ -286,16 +298,16 @@ fn of_sets(
         (a_set (set_tree b.value))) }
 {
     match operation.op {
-        BinOp::Union => Ok(Reading::Set(Box::new(alloc, SetTerm::Union(a, b))?)),
-        BinOp::Inter => Ok(Reading::Set(Box::new(alloc, SetTerm::Inter(a, b))?)),
-        BinOp::Diff => Ok(Reading::Set(Box::new(alloc, SetTerm::Diff(a, b))?)),
-        BinOp::Subset => Ok(Reading::Relation(Box::new(alloc, Rel::Subset(a, b))?)),
+        BinOp::Union => set(alloc, SetTerm::Union(a, b)),
+        BinOp::Inter => set(alloc, SetTerm::Inter(a, b)),
+        BinOp::Diff => set(alloc, SetTerm::Diff(a, b)),
+        BinOp::Subset => relation(alloc, Rel::Subset(a, b)),
         BinOp::Compare(order) => of_compared_sets(alloc, order, operation.place, a, b),
-        BinOp::Add | BinOp::Sub | BinOp::Mul | BinOp::And | BinOp::Or => {
-            drop(a);
-            drop(b);
-            Ok(Reading::NotLinear(operation.place))
-        }
+        BinOp::Add | BinOp::Sub | BinOp::Mul | BinOp::And | BinOp::Or => Ok(bent(
+            a,
+            b,
+            operation.place,
+        )),
     }
 }
 
@@ -311,16 +323,8 @@ fn on_left_relation(
 {
     match right {
         Reading::Relation(b) => of_relations(alloc, operation, a, b),
-        Reading::Term(b) => {
-            drop(a);
-            drop(b);
-            Ok(Reading::NotLinear(operation.place))
-        }
-        Reading::Set(b) => {
-            drop(a);
-            drop(b);
-            Ok(Reading::NotLinear(operation.place))
-        }
+        Reading::Term(b) => Ok(bent(a, b, operation.place)),
+        Reading::Set(b) => Ok(bent(a, b, operation.place)),
         Reading::NotLinear(first) => {
             drop(a);
             match operation.op {
@@ -349,17 +353,9 @@ fn on_left_term(
     ensures { IfOk result (λ r. reading_of r ≡ binary_reading operation.known operation.op operation.place (a_term (term_tree a.value)) (reading_of right)) }
 {
     match right {
-        Reading::Relation(b) => {
-            drop(a);
-            drop(b);
-            Ok(Reading::NotLinear(operation.place))
-        }
+        Reading::Relation(b) => Ok(bent(a, b, operation.place)),
         Reading::Term(b) => of_terms(alloc, operation, a, b),
-        Reading::Set(b) => {
-            drop(a);
-            drop(b);
-            Ok(Reading::NotLinear(operation.place))
-        }
+        Reading::Set(b) => Ok(bent(a, b, operation.place)),
         Reading::NotLinear(first) => {
             drop(a);
             match operation.op {
@@ -387,16 +383,8 @@ fn on_left_set(
     ensures { IfOk result (λ r. reading_of r ≡ binary_reading operation.known operation.op operation.place (a_set (set_tree a.value)) (reading_of right)) }
 {
     match right {
-        Reading::Relation(b) => {
-            drop(a);
-            drop(b);
-            Ok(Reading::NotLinear(operation.place))
-        }
-        Reading::Term(b) => {
-            drop(a);
-            drop(b);
-            Ok(Reading::NotLinear(operation.place))
-        }
+        Reading::Relation(b) => Ok(bent(a, b, operation.place)),
+        Reading::Term(b) => Ok(bent(a, b, operation.place)),
         Reading::Set(b) => of_sets(alloc, operation, a, b),
         Reading::NotLinear(first) => {
             drop(a);

@@ -212,24 +212,31 @@ fn weight(calls: &[u64], expr: &Expr) -> u64
     match expr {
         Expr::Lit(_) | Expr::Truth(_) | Expr::Var(_) => 1,
         Expr::SetOf(parts) | Expr::Tuple(parts) => weight_all(calls, parts).saturating_add(1),
-        Expr::Neg(a) | Expr::Not(a) | Expr::Abs(a) | Expr::Card(a) => {
-            weight(calls, a).saturating_add(1)
+        Expr::Neg(a)
+        | Expr::Not(a)
+        | Expr::Abs(a)
+        | Expr::Card(a)
+        | Expr::Divides { of: a, .. }
+        | Expr::Div { of: a, .. }
+        | Expr::Mod { of: a, .. } => weight(calls, a).saturating_add(1),
+        Expr::Binary {
+            left: a,
+            right: b,
+            ..
         }
-        Expr::Binary { left, right, .. } => weight(calls, left)
-            .saturating_add(weight(calls, right))
+        | Expr::Let {
+            value: a,
+            body: b,
+            ..
+        } => weight(calls, a)
+            .saturating_add(weight(calls, b))
             .saturating_add(1),
-        Expr::Divides { of, .. } | Expr::Div { of, .. } | Expr::Mod { of, .. } => {
-            weight(calls, of).saturating_add(1)
-        }
         Expr::If { test, yes, no } => weight(calls, test)
             .saturating_add(weight(calls, yes))
             .saturating_add(weight(calls, no))
             .saturating_add(1),
         Expr::Call { def, args } => weight_all(calls, args)
             .saturating_add(of_callee(calls, *def))
-            .saturating_add(1),
-        Expr::Let { value, body, .. } => weight(calls, value)
-            .saturating_add(weight(calls, body))
             .saturating_add(1),
         Expr::Choose { rel, .. } => rel.size().saturating_add(1),
         Expr::Match { of, arms, .. } => weight(calls, of)
@@ -278,24 +285,29 @@ fn depth(calls: &[u64], expr: &Expr) -> u64
     match expr {
         Expr::Lit(_) | Expr::Truth(_) | Expr::Var(_) => 1,
         Expr::SetOf(parts) | Expr::Tuple(parts) => depth_all(calls, parts).saturating_add(1),
-        Expr::Neg(a) | Expr::Not(a) | Expr::Abs(a) | Expr::Card(a) => {
-            depth(calls, a).saturating_add(1)
+        Expr::Neg(a)
+        | Expr::Not(a)
+        | Expr::Abs(a)
+        | Expr::Card(a)
+        | Expr::Divides { of: a, .. }
+        | Expr::Div { of: a, .. }
+        | Expr::Mod { of: a, .. } => depth(calls, a).saturating_add(1),
+        Expr::Binary {
+            left: a,
+            right: b,
+            ..
         }
-        Expr::Binary { left, right, .. } => depth(calls, left)
-            .max(depth(calls, right))
-            .saturating_add(1),
-        Expr::Divides { of, .. } | Expr::Div { of, .. } | Expr::Mod { of, .. } => {
-            depth(calls, of).saturating_add(1)
-        }
+        | Expr::Let {
+            value: a,
+            body: b,
+            ..
+        } => depth(calls, a).max(depth(calls, b)).saturating_add(1),
         Expr::If { test, yes, no } => depth(calls, test)
             .max(depth(calls, yes))
             .max(depth(calls, no))
             .saturating_add(1),
         Expr::Call { def, args } => depth_all(calls, args)
             .max(of_callee(calls, *def))
-            .saturating_add(1),
-        Expr::Let { value, body, .. } => depth(calls, value)
-            .max(depth(calls, body))
             .saturating_add(1),
         Expr::Choose { rel, .. } => rel.depth().saturating_add(1),
         Expr::Match { of, arms, .. } => fitting_depth(depth(calls, of), arms)

@@ -40,50 +40,24 @@ pub fn walk(caller: &Caller, scope: &mut Scope, next: u32, raw: &Raw) -> Result<
         RawNode::Lit(k) => build::literal(caller.alloc, *k, next),
         RawNode::Truth(t) => build::truth(caller.alloc, *t, next),
         RawNode::Name(name) => build::variable(caller.alloc, place, next, scope.find(name)),
-        RawNode::SetOf(parts) => {
+        RawNode::SetOf(parts) | RawNode::Tuple(parts) | RawNode::Call { args: parts, .. } => {
             let parts = walk_all(caller, scope, next, parts)?;
-            build::set(caller.alloc, place, parts)
+            build::over_row(caller, raw, parts)
         }
         RawNode::Group(a) => walk(caller, scope, next, a),
-        RawNode::Tuple(parts) => {
-            let parts = walk_all(caller, scope, next, parts)?;
-            build::tuple(caller.alloc, place, parts)
-        }
-        RawNode::Neg(a) => {
+        RawNode::Neg(a)
+        | RawNode::Not(a)
+        | RawNode::Abs(a)
+        | RawNode::Card(a)
+        | RawNode::Divides { of: a, .. }
+        | RawNode::Div { of: a, .. }
+        | RawNode::Mod { of: a, .. } => {
             let a = walk(caller, scope, next, a)?;
-            build::neg(caller.alloc, place, a)
-        }
-        RawNode::Not(a) => {
-            let a = walk(caller, scope, next, a)?;
-            build::not(caller.alloc, place, a)
-        }
-        RawNode::Abs(a) => {
-            let a = walk(caller, scope, next, a)?;
-            build::abs(caller.alloc, place, a)
+            build::over_one(caller.alloc, raw, a)
         }
         RawNode::Binary { op, left, right } => {
             let left = walk(caller, scope, next, left)?;
             walk_right(caller, scope, place, *op, left, right)
-        }
-        RawNode::Divides { k, of } => {
-            let of = walk(caller, scope, next, of)?;
-            build::divides(caller.alloc, place, *k, of)
-        }
-        RawNode::Div { of, k } => {
-            let of = walk(caller, scope, next, of)?;
-            build::div(caller.alloc, place, of, *k)
-        }
-        RawNode::Mod { of, k } => {
-            let of = walk(caller, scope, next, of)?;
-            build::modulo(caller.alloc, place, of, *k)
-        }
-        RawNode::Card(a) => {
-            let a = walk(caller, scope, next, a)?;
-            build::card(caller.alloc, place, a)
-        }
-        RawNode::Call { name, args } => {
-            let args = walk_all(caller, scope, next, args)?;
-            build::call(caller, place, name, args)
         }
         RawNode::If { test, yes, no } => {
             let test = walk(caller, scope, next, test)?;
