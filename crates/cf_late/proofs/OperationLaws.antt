@@ -4,7 +4,8 @@ use Rattle.std.specs.Prelude.{Bool, true, false, nat_le, unsigned_abs, if◌then
 use Rattle.std.proofs.lemmas.Bool.{leb-false}
 use Rattle.cf_num.specs.Limit.{limit, IsWithin}
 use Rattle.cf_tree.specs.Values.{number}
-use Rattle.cf_late.specs.LateRun.{gives, overflow, ordinary}
+use Rattle.cf_known.specs.ChooseRun.{gives, overflow}
+use Rattle.cf_late.specs.LateRun.{ordinary}
 
 pub ordinary_within : (z : ℤ) → IsWithin z → ordinary (number z) ≡ gives (number z ∷ [])
 ordinary_within z h = by (nat_le (unsigned_abs z) limit) refl

@@ -11,9 +11,10 @@ use Rattle.cf_tree.specs.Numbers.{quotient, remainder, is_multiple, absolute}
 use Rattle.cf_tree.specs.Values.{Value, number, truth, no_solution, number_of, truth_of, elements_of, first_of}
 use Rattle.cf_match.specs.Classes.{class_of}
 use Rattle.cf_match.specs.Laws.{bodies}
+use Rattle.cf_known.specs.ChooseRun.{LateOutcome, comes_to, overflow, refused, gives}
 use Rattle.cf_late.specs.declared.stop.Stop.{Stop}
 use Rattle.cf_late.specs.declared.stop.Stop.TheVariants as stop
-use Rattle.cf_late.specs.LateRun.{LateOutcome, comes_to, overflow, refused, gives, then_late, ordinary, is_in, late_variables, late_in, late_call}
+use Rattle.cf_late.specs.LateRun.{then_late, ordinary, is_in, late_variables, late_in, late_call}
 
 -- why it stopped, if not for want of memory
 abbrev pub StopIs : Stop → LateOutcome → Type 0

@@ -8,9 +8,10 @@ ghost use Rattle.cf_tree.specs.Numbers.{absolute};
 ghost use Rattle.cf_tree.specs.Sets.{AreWithin, set_of as the_set_of};
 ghost use Rattle.cf_tree.specs.Values.{number as a_number, truth as a_truth, elements as a_set, number_of, elements_of, first_of};
 ghost use Rattle.cf_eval.specs.Seen.{plain, plains};
+ghost use Rattle.cf_known.specs.ChooseRun.{gives};
+ghost use Rattle.cf_known.specs.Fitting.{AreFit};
 ghost use Rattle.cf_late.specs.Answers.{LateAnswer, met as met_late, one_part, decided_by, joined_by};
-ghost use Rattle.cf_late.specs.Fitting.{AreFit};
-ghost use Rattle.cf_late.specs.LateRun.{gives, ordinary};
+ghost use Rattle.cf_late.specs.LateRun.{ordinary};
 
 use crate::stop::Stop;
 use crate::values::Values;

@@ -5,7 +5,7 @@ ghost use Rattle.std.specs.Prelude.{◌≡◌, ◌++◌, ◌∷◌, [], length, 
 ghost use Rattle.cf_num.specs.Limit.{IsWithin};
 ghost use Rattle.cf_tree.specs.Values.{number_of, truth_of, value_at, first_of};
 ghost use Rattle.cf_eval.specs.Seen.{plain, plains};
-ghost use Rattle.cf_late.specs.Fitting.{AreFit};
+ghost use Rattle.cf_known.specs.Fitting.{AreFit};
 
 use cf_eval::value::Value;
 use cf_tree::memory::NoMemory;
@@ -26,7 +26,7 @@ impl Model for Values {
     ghost Value = { List PlainValue };
 
     ghost use Rattle.cf_eval.specs.Seen.{plains};
-    ghost use Rattle.cf_late.specs.Fitting.{AreFit};
+    ghost use Rattle.cf_known.specs.Fitting.{AreFit};
 
     ghost view = { λ v. plains v.items.items };
 
