@@ -57,5 +57,7 @@ pub(crate) fn variables(
     let outputs = numbers(alloc, &arm.factors)?;
     let level = last_level(scope)?;
     let rel = pattern_relation(alloc, level, &arm.factors, arm.constant)?;
-    enter(alloc, arm.number, scope, &outputs, &rel, env)
+    let values = enter(alloc, arm.number, scope, &outputs, &rel, env);
+    drop(rel);
+    values
 }
