@@ -125,8 +125,10 @@ fn over_sets(alloc: Global, op: BinOp, left: Values, right: Values) -> Result<Va
 {
     let s = set_in(alloc, left)?;
     let t = set_in(alloc, right)?;
-    let value = value_over_sets(alloc, op, &s, &t)?;
-    Ok(Values::one(alloc, value)?)
+    let value = value_over_sets(alloc, op, &s, &t);
+    drop(s);
+    drop(t);
+    Ok(Values::one(alloc, value?)?)
 }
 
 // Whether the order holds between two values.
