@@ -24,7 +24,7 @@ use Rattle.cf_linear.specs.Steps.{clean, mix, factors_of, merge, merge_passes, m
 use Rattle.cf_eval.specs.Reading.{values_from}
 use Rattle.cf_eval.specs.Spelling.{without_return, SpellsValues}
 use Rattle.cf_eval.proofs.SpellLemmas.{Spells-takes}
-use Rattle.cf_late.specs.Outcomes.{late_text}
+use Rattle.cf_late.specs.Texts.{late_text}
 use Rattle.cf_parse.specs.Programs.{IsProgram}
 use Rattle.cf_parse.proofs.Programs.{one_law}
 use Rattle.cf_program.specs.Checked.{TypedTree, checked}

@@ -13,7 +13,7 @@ use Rattle.cf_program.specs.Checked.{TypedTree}
 use Rattle.cf_program.specs.Names.{bases_of}
 use Rattle.cf_program.specs.TypedProgram.{IsLateProgram}
 use Rattle.cf_eval.specs.Spelling.{SpellsValues}
-use Rattle.cf_late.specs.Outcomes.{late_text}
+use Rattle.cf_late.specs.Texts.{late_text}
 use Rattle.cf_late.specs.ProgramLaw.{HaveMainTypes}
 use Rattle.cf_answer.specs.LateReplies.{main_comes, IsLateReply, bad_input, comes}
 use Rattle.cf_answer.specs.Picked.{main_bases}

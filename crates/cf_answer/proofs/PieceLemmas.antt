@@ -4,7 +4,7 @@ use Rattle.std.specs.List.{concat}
 use Rattle.std.specs.Prelude.{decimal}
 use Rattle.cf_linear.specs.declared.refusal.LimitKind.{LimitKind}
 use Rattle.cf_linear.specs.declared.refusal.Refusal.TheVariants.{Limit}
-use Rattle.cf_late.specs.Outcomes.{kind_text}
+use Rattle.cf_late.specs.Texts.{kind_text}
 use Rattle.cf_answer.specs.Texts.{refusal_text, rejected_words_line}
 
 pub pieces_from : {X : Type 0} (f : X → List ℕ) (xs : List X) (i : ℕ) (d : X) → i < length xs →

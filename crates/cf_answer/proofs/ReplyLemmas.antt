@@ -18,7 +18,7 @@ use Rattle.cf_tree.specs.Meaning.{means, peak}
 use Rattle.cf_tree.specs.Values.{Value}
 use Rattle.cf_program.specs.Checked.{TypedTree}
 use Rattle.cf_num.specs.Limit.{limit as greatest}
-use Rattle.cf_late.specs.Outcomes.{late_text}
+use Rattle.cf_late.specs.Texts.{late_text}
 use Rattle.cf_eval.specs.Reading.{values_from}
 use Rattle.cf_eval.specs.Replies.{meaning_text, IsReply, too_long, bad_input, meaning}
 use Rattle.cf_eval.specs.Spelling.{SpellsValues, without_return}

@@ -6,7 +6,7 @@ use Rattle.cf_linear.specs.declared.refusal.Refusal.{Refusal}
 use Rattle.cf_linear.specs.declared.refusal.Refusal.TheVariants as refusal
 use Rattle.cf_program.specs.declared.fault.TypeFault.{TypeFault}
 use Rattle.cf_program.specs.declared.fault.TypeFault.TheVariants as rule
-use Rattle.cf_late.specs.Outcomes.{kind_text}
+use Rattle.cf_late.specs.Texts.{kind_text}
 use Rattle.cf_cert.specs.declared.verdict.Why.{Why}
 use Rattle.cf_cert.specs.declared.verdict.Why.TheVariants as why
 use Rattle.cf_answer.specs.declared.fault.Fault.{Fault}

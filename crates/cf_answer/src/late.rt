@@ -3,8 +3,8 @@ ghost use Rattle.std.specs.Prelude.{◌≡◌, ◌≤◌, ◌++◌, List, ℕ, l
 ghost use Rattle.cf_io.specs.Limits.{line_limit};
 ghost use Rattle.cf_tree.specs.DefView.{def_tree};
 ghost use Rattle.cf_eval.specs.Seen.{plains};
-ghost use Rattle.cf_late.specs.Fitting.{AreFit};
-ghost use Rattle.cf_late.specs.Outcomes.{late_text};
+ghost use Rattle.cf_known.specs.Fitting.{AreFit};
+ghost use Rattle.cf_late.specs.Texts.{late_text};
 ghost use Rattle.cf_late.specs.ProgramLaw.{HaveMainTypes};
 ghost use Rattle.cf_program.specs.Names.{bases_of};
 ghost use Rattle.cf_program.specs.Typed.{typed_tree, IsLateTyped};

@@ -30,13 +30,15 @@ use Rattle.cf_match.proofs.Patterns.{fits_by, fits, fits_some, fits_none}
 use Rattle.cf_match.proofs.Variables.{ints_of, ints_are, ints_have, holds_is, value_at-end}
 use Rattle.cf_match.proofs.LoweredLaws.{one_behind}
 use Rattle.cf_match.proofs.ProgramLaws.{takes_at, bodies_turned, one_test}
-use Rattle.cf_late.specs.Fitting.{AreFit}
-use Rattle.cf_late.specs.LateChoose.{IsLateChoose}
-use Rattle.cf_late.specs.LateRun.{LateOutcome, comes_to, overflow, refused, gives, then_late, ordinary, late_right, late_choose, is_in, pattern_relation, late_variables, late_in, late_all, late_arms, late_call}
+use Rattle.cf_known.specs.ChooseRun.{LateOutcome, comes_to, overflow, refused, gives, late_choose}
+use Rattle.cf_known.specs.Fitting.{AreFit}
+use Rattle.cf_known.specs.LateChoose.{IsLateChoose}
+use Rattle.cf_known.proofs.ChooseLaws.{choose_allowed, choose_fit}
+use Rattle.cf_known.proofs.KnownLaws.{fit_at}
+use Rattle.cf_late.specs.LateRun.{then_late, ordinary, late_right, is_in, pattern_relation, late_variables, late_in, late_all, late_arms, late_call}
 use Rattle.cf_late.specs.ProgramLaw.{LateRunsAreAllowed}
-use Rattle.cf_late.proofs.ChooseLaws.{choose_allowed, choose_fit}
-use Rattle.cf_late.proofs.KnownLaws.{fit_at, fit_append}
 use Rattle.cf_late.proofs.RunnableLaws.{EndsWithInt, ends_with_int, pattern_choose, outputs_too}
+use Rattle.cf_late.proofs.ValuesLaws.{fit_append}
 
 -- values have these bases, are within the limit and allowed; a want of a solution is allowed
 abbrev pub Fine : List Base → (Outcome → Type 0) → LateOutcome → Type 0

@@ -10,8 +10,9 @@ use Rattle.cf_tree.specs.ExprTree.{ExprTree}
 use Rattle.cf_tree.specs.ExprView.{expr_tree}
 use Rattle.cf_tree.specs.Values.{Value}
 use Rattle.cf_match.specs.Laws.{bodies}
+use Rattle.cf_known.specs.ChooseRun.{gives}
 use Rattle.cf_late.specs.Answers.{calls_in}
-use Rattle.cf_late.specs.LateRun.{gives, late_in, late_call, late_run}
+use Rattle.cf_late.specs.LateRun.{late_in, late_call, late_run}
 
 -- ---- depths
 abbrev pub depths : List Def → ℕ

@@ -9,10 +9,11 @@ use Rattle.cf_tree.specs.declared.expr.Expr.{Expr}
 use Rattle.cf_tree.specs.ExprTree.{MatchArmTree, match_arm, MatchArmTrees, match_arm_more}
 use Rattle.cf_tree.specs.ExprView.{expr_tree, expr_trees}
 use Rattle.cf_tree.specs.Values.{Value, values, no_solution, truth, truth_of}
+use Rattle.cf_known.specs.ChooseRun.{LateOutcome, comes_to, overflow, refused, gives}
 use Rattle.cf_late.specs.declared.stop.Stop.{Stop}
 use Rattle.cf_late.specs.declared.stop.Stop.TheVariants as stop
 use Rattle.cf_late.specs.Answers.{StopIs, LateAnswer, decided_by, joined_by, arm_fits, arm_taken}
-use Rattle.cf_late.specs.LateRun.{LateOutcome, comes_to, overflow, refused, gives, then_late, late_right, late_in, late_all, late_arms}
+use Rattle.cf_late.specs.LateRun.{then_late, late_right, late_in, late_all, late_arms}
 
 -- a part that stops, stops the whole
 pub stop_then : (e : Stop) (r : LateOutcome) (go : List Value → LateOutcome) → StopIs e r → StopIs e (then_late r go)

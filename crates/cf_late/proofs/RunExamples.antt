@@ -1,6 +1,6 @@
 -- What late programs come to: each form, each way to end, and chooses whose coefficients are inputs.
 use Rattle.std.proofs.Common.{◌≡◌, ℕ, ℤ, pos, negsuc, List, [], ◌∷◌, ◌++◌, length, map, refl}
-use Rattle.std.specs.Prelude.{true, false, codes, Some, None}
+use Rattle.std.specs.Prelude.{true, false, codes}
 use Rattle.cf_num.specs.Divisors.{gcd_by, factors_by}
 use Rattle.cf_num.specs.Parts.{parts_of}
 use Rattle.cf_tree.specs.declared.base.Base.{Base}
@@ -8,7 +8,6 @@ use Rattle.cf_tree.specs.declared.base.Base.TheVariants.{Int, Set}
 use Rattle.cf_tree.specs.declared.base.Order.TheVariants.{Eq, Le}
 use Rattle.cf_tree.specs.declared.raw.BinOp.TheVariants.{Add, Sub, Mul, And, Or, Union, Inter, Diff, Subset, Compare}
 use Rattle.cf_tree.specs.declared.raw.Param.{Param}
-use Rattle.cf_tree.specs.CodeTree.{code_lit}
 use Rattle.cf_tree.specs.ExprTree.{ExprTree, expr_lit, expr_truth, expr_var, expr_set_of, expr_tuple, expr_neg, expr_not, expr_abs, expr_binary, expr_divides, expr_div, expr_mod, expr_card, expr_if, expr_call, expr_let, expr_choose, expr_match, exprs_of, match_arm, match_arms_of}
 use Rattle.cf_tree.specs.RelTree.{rel_and, rel_compare, set_var, term_add, term_card, term_mul, term_var}
 use Rattle.cf_tree.specs.Values.{Value, number, truth, elements, no_solution}
@@ -19,7 +18,8 @@ use Rattle.cf_linear.specs.Cases.{disjuncts, case_count, system_of_case, first_s
 use Rattle.cf_linear.specs.Chooses.{arms, first_refused, refusal_by, limit}
 use Rattle.cf_linear.specs.Stages.{run, run_for, clean_stage, equation_stage, bound_stage, unknown_stage, row_stage, stage}
 use Rattle.cf_linear.specs.Steps.{clean, mix, factors_of, merge, merge_passes, merge_factor, last, pick, searched, dropped, searched_by, bound, bound_passes, bound_factor}
-use Rattle.cf_late.specs.LateRun.{LateOutcome, comes_to, overflow, refused, gives, solve_run, choose_run, late_run}
+use Rattle.cf_known.specs.ChooseRun.{LateOutcome, comes_to, overflow, refused, gives}
+use Rattle.cf_late.specs.LateRun.{late_run}
 
 abbrev param : Base → Param
 param b = record { place = record { line = 1; column = 1 }; name = codes "a"; base = b }
@@ -131,19 +131,6 @@ unfolding arms arm first_systems disjuncts system_of_case write_atom run run_for
     mix factors_of merge merge_passes merge_factor last pick searched dropped searched_by bound bound_passes bound_factor gcd_by factors_by parts_of limit
     refusal_by case_count written_passes first_refused
 behind-let = refl
-
--- ---- how a solve ends
-solve-values : solve_run (code_lit greatest) [] ≡ gives (numbers (greatest ∷ []))
-solve-values = refl
-
-solve-past : solve_run (code_lit past) [] ≡ overflow
-solve-past = refl
-
-choose-refused : choose_run (Some (Limit Search 5)) 7 (code_lit (pos 1)) [] ≡ refused 7 (Limit Search 5)
-choose-refused = refl
-
-choose-runs : choose_run None 7 (code_lit (pos 1)) [] ≡ gives (numbers (pos 1 ∷ []))
-choose-runs = refl
 
 -- ---- the first part that gives no values decides
 refused-first : runs [] (expr_tuple (exprs_of (above ∷ expr_neg (expr_lit past) ∷ [])))

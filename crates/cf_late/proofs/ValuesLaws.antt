@@ -7,8 +7,11 @@ use Rattle.cf_tree.specs.Sets.{AreWithin}
 use Rattle.cf_tree.specs.Values.{Value, number_of}
 use Rattle.cf_eval.specs.declared.value.Value.{Value as RunValue}
 use Rattle.cf_eval.specs.Seen.{plain, plains}
-use Rattle.cf_late.specs.Fitting.{AreFit}
-use Rattle.cf_late.proofs.KnownLaws.{fit_append}
+use Rattle.cf_known.specs.Fitting.{AreFit}
+
+pub fit_append : (vs ws : List Value) → AreFit vs → AreFit ws → AreFit (vs ++ ws)
+fit_append [] ws h k = k
+fit_append (v ∷ vs) ws h k = (h.0, fit_append vs ws h.1 k)
 
 pub fit_both : (xs ys : List RunValue) → AreFit (plains xs) → AreFit (plains ys) → AreFit (plains (xs ++ ys))
 fit_both xs ys h k = subst AreFit (sym (map-append plain xs ys)) (fit_append (plains xs) (plains ys) h k)

@@ -1,19 +1,21 @@
 -- What the parts of a run answer.
-use Rattle.std.specs.Prelude.{ℕ, ◌≡◌, ℤ, pos, neg_ℤ, not, Bool, true, false, if◌then◌else◌, List, [], ◌∷◌, ◌++◌, length, map, reverse, take, Option, Some, None, Result, Ok, Err}
+use Rattle.std.specs.Prelude.{ℕ, ◌≡◌, ℤ, ◌+ℤ◌, ◌-ℤ◌, ◌*ℤ◌, pos, neg_ℤ, not, Bool, true, false, if◌then◌else◌, List, [], ◌∷◌, ◌++◌, length, map, reverse, take, Option, Some, None, Result, Ok, Err}
 use Rattle.cf_tree.specs.declared.base.Base.{Base}
 use Rattle.cf_tree.specs.declared.raw.BinOp.{BinOp}
-use Rattle.cf_tree.specs.declared.raw.BinOp.TheVariants.{And, Or}
+use Rattle.cf_tree.specs.declared.raw.BinOp.TheVariants.{Add, Sub, And, Or, Union, Inter, Diff}
 use Rattle.cf_tree.specs.declared.expr.Def.{Def}
 use Rattle.cf_tree.specs.Allowed.{operation}
 use Rattle.cf_tree.specs.DefView.{def_tree}
 use Rattle.cf_tree.specs.ExprTree.{ExprTree, expr_neg, expr_not, expr_abs, expr_divides, expr_div, expr_mod, MatchArmTree, match_arm}
 use Rattle.cf_tree.specs.Numbers.{quotient, remainder, is_multiple, absolute}
-use Rattle.cf_tree.specs.Values.{Value, number, truth, no_solution, number_of, truth_of, elements_of, first_of}
+use Rattle.cf_tree.specs.Sets.{set_union, set_inter, set_diff, is_subset}
+use Rattle.cf_tree.specs.Values.{Value, number, truth, elements, no_solution, number_of, truth_of, elements_of, first_of}
 use Rattle.cf_match.specs.Classes.{class_of}
 use Rattle.cf_match.specs.Laws.{bodies}
+use Rattle.cf_known.specs.ChooseRun.{LateOutcome, comes_to, overflow, refused, gives}
 use Rattle.cf_late.specs.declared.stop.Stop.{Stop}
 use Rattle.cf_late.specs.declared.stop.Stop.TheVariants as stop
-use Rattle.cf_late.specs.LateRun.{LateOutcome, comes_to, overflow, refused, gives, then_late, ordinary, is_in, late_variables, late_in, late_call}
+use Rattle.cf_late.specs.LateRun.{then_late, ordinary, is_in, late_variables, late_in, late_call}
 
 -- why it stopped, if not for want of memory
 abbrev pub StopIs : Stop → LateOutcome → Type 0
@@ -39,6 +41,19 @@ one_part (expr_divides k a) v = truth (is_multiple k (number_of v))
 one_part (expr_div a k) v = number (quotient (number_of v) k)
 one_part (expr_mod a k) v = number (remainder (number_of v) k)
 one_part _ v = number (pos (length (elements_of v)))
+
+-- the number of an operation on two numbers
+abbrev pub of_numbers : BinOp → ℤ → ℤ → ℤ
+of_numbers Add x y = x +ℤ y
+of_numbers Sub x y = x -ℤ y
+of_numbers op x y = x *ℤ y
+
+-- the value of an operation on two sets
+abbrev pub of_sets : BinOp → List ℤ → List ℤ → Value
+of_sets Union xs ys = elements (set_union xs ys)
+of_sets Inter xs ys = elements (set_inter xs ys)
+of_sets Diff xs ys = elements (set_diff xs ys)
+of_sets op xs ys = truth (is_subset xs ys)
 
 -- a number, or none where it is past the limit
 abbrev pub met : Option ℤ → LateOutcome

@@ -1,5 +1,5 @@
 -- What a program comes to whose chooses are eliminated where they are entered, on the numbers of their environments.
-use Rattle.std.specs.Prelude.{ℕ, suc, ◌-◌, ◌==◌, ℤ, pos, neg_ℤ, unsigned_abs, nat_le, Bool, true, false, not, List, [], ◌∷◌, ◌++◌, length, map, reverse, Option, Some, None, if◌then◌else◌}
+use Rattle.std.specs.Prelude.{ℕ, suc, ◌-◌, ◌==◌, ℤ, pos, neg_ℤ, unsigned_abs, nat_le, Bool, true, false, not, List, [], ◌∷◌, ◌++◌, length, map, reverse, if◌then◌else◌}
 use Rattle.std.specs.Ordering.{int_eq}
 use Rattle.cf_num.specs.Limit.{limit}
 use Rattle.cf_tree.specs.declared.base.Base.{Base}
@@ -8,29 +8,16 @@ use Rattle.cf_tree.specs.declared.base.Order.TheVariants.{Eq}
 use Rattle.cf_tree.specs.declared.raw.BinOp.{BinOp}
 use Rattle.cf_tree.specs.declared.raw.BinOp.TheVariants.{And, Or}
 use Rattle.cf_tree.specs.Allowed.{operation, scope_of}
-use Rattle.cf_tree.specs.CodeTree.{CodeTree, code_solve, arms_of}
 use Rattle.cf_tree.specs.ExprTree.{ExprTree, expr_lit, expr_truth, expr_var, expr_set_of, expr_tuple, expr_neg, expr_not, expr_abs, expr_binary, expr_divides, expr_div, expr_mod, expr_card, expr_if, expr_call, expr_let, expr_choose, expr_match, ExprTrees, no_exprs, expr_more, match_arm, MatchArmTrees, no_match_arms, match_arm_more}
-use Rattle.cf_tree.specs.Meaning.{means, peak}
 use Rattle.cf_tree.specs.Numbers.{quotient, remainder, is_multiple, absolute}
 use Rattle.cf_tree.specs.RelTree.{RelTree, rel_compare, term_var}
 use Rattle.cf_tree.specs.Sets.{set_of}
-use Rattle.cf_tree.specs.Values.{Value, number, truth, elements, Outcome, values, no_solution, number_of, truth_of, elements_of, value_at, first_of}
+use Rattle.cf_tree.specs.Values.{Value, number, truth, elements, values, no_solution, number_of, truth_of, elements_of, value_at, first_of}
 use Rattle.cf_program.specs.Lowered.{pattern_term}
-use Rattle.cf_linear.specs.declared.refusal.Refusal.{Refusal}
-use Rattle.cf_linear.specs.Chooses.{arms, limit as first_refusal}
 use Rattle.cf_match.specs.declared.class.Class.{Class}
 use Rattle.cf_match.specs.declared.class.Class.TheVariants.{Point, Residue}
 use Rattle.cf_match.specs.Classes.{class_of}
-use Rattle.cf_late.specs.At.{rel_known}
-
--- an outcome, or a number past the limit, or the number of a choose that is refused with the first limit that it passes
-pub data LateOutcome : Type 0 where
-  comes_to : Outcome → LateOutcome
-  overflow : LateOutcome
-  refused : ℕ → Refusal → LateOutcome
-
-abbrev pub gives : List Value → LateOutcome
-gives vs = comes_to (values vs)
+use Rattle.cf_known.specs.ChooseRun.{LateOutcome, comes_to, overflow, refused, gives, late_choose}
 
 -- the first part that gives no values decides
 abbrev pub then_late : LateOutcome → (List Value → LateOutcome) → LateOutcome
@@ -50,20 +37,6 @@ abbrev pub late_right : BinOp → Value → LateOutcome → LateOutcome
 late_right And v right = if truth_of v then right else gives (truth false ∷ [])
 late_right Or v right = if truth_of v then gives (truth true ∷ []) else right
 late_right op v right = then_late right (λ ys. ordinary (operation op v (first_of ys)))
-
--- ---- chooses
--- the run of a `solve`, which overflows where a number met is past the limit
-abbrev pub solve_run : CodeTree → List Value → LateOutcome
-solve_run code env = if nat_le (peak code env) limit then comes_to (means code env) else overflow
-
--- choose number n over a relation without number variables in scope: it is refused with its first limit, or runs as the `solve` with the arms of its cases
-abbrev pub choose_run : Option Refusal → ℕ → CodeTree → List Value → LateOutcome
-choose_run (Some r) n code env = refused n r
-choose_run None n code env = solve_run code env
-
-abbrev pub late_choose : ℕ → List Base → List Base → RelTree → List Value → LateOutcome
-late_choose n scope outputs rel env =
-    let known = rel_known (length scope) rel env in choose_run (first_refusal scope outputs known) n (code_solve n (arms_of (arms scope outputs known))) env
 
 -- ---- matches
 -- the test of a class

@@ -1,10 +1,5 @@
 pub mod Answers
-pub mod At
-pub mod Fitting
-pub mod LateChoose
 pub mod LateRun
-pub mod Laws
-pub mod OtherParts
-pub mod Outcomes
 pub mod ProgramLaw
 pub mod Runnable
+pub mod Texts

@@ -5,7 +5,7 @@ use Rattle.cf_tree.specs.declared.base.Base.{Base}
 use Rattle.cf_tree.specs.declared.base.Base.TheVariants.{Int}
 use Rattle.cf_tree.specs.Allowed.{scope_of}
 use Rattle.cf_tree.specs.ExprTree.{ExprTree, expr_lit, expr_truth, expr_var, expr_set_of, expr_tuple, expr_neg, expr_not, expr_abs, expr_binary, expr_divides, expr_div, expr_mod, expr_card, expr_if, expr_call, expr_let, expr_choose, expr_match, ExprTrees, no_exprs, expr_more, MatchArmTree, match_arm, MatchArmTrees, no_match_arms, match_arm_more}
-use Rattle.cf_late.specs.LateChoose.{IsLateChoose}
+use Rattle.cf_known.specs.LateChoose.{IsLateChoose}
 use Rattle.cf_late.specs.LateRun.{pattern_relation}
 
 -- the numbers of its pattern are within the limit

@@ -2,14 +2,14 @@
 ghost use Rattle.std.specs.Prelude.{◌≡◌, IfOk};
 ghost use Rattle.cf_tree.specs.Allowed.{scope_of};
 ghost use Rattle.cf_tree.specs.RelView.{rel_tree};
+ghost use Rattle.cf_known.specs.ChooseRun.{late_choose};
+ghost use Rattle.cf_known.specs.LateChoose.{IsLateChoose};
 ghost use Rattle.cf_late.specs.Answers.{LateAnswer};
-ghost use Rattle.cf_late.specs.LateChoose.{IsLateChoose};
-ghost use Rattle.cf_late.specs.LateRun.{late_choose};
 
-use crate::choose::late_choose;
-use crate::outcome::LateOutcome;
 use crate::stop::Stop;
 use crate::values::Values;
+use cf_known::choose::late_choose;
+use cf_known::outcome::LateOutcome;
 use cf_tree::base::Base;
 use cf_tree::memory::NoMemory;
 use cf_tree::raw::Param;

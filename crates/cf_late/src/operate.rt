@@ -1,48 +1,38 @@
 //! The ordinary operations on values.
-ghost use Rattle.std.specs.Prelude.{◌≡◌, [], ◌∷◌, pos, length, map, IfOk, IfSome, not};
-ghost use Rattle.cf_num.specs.Limit.{IsWithin};
-ghost use Rattle.cf_tree.specs.Allowed.{operation};
-ghost use Rattle.cf_tree.specs.declared.raw.BinOp.TheVariants.{Union, Inter, Diff, Subset};
+ghost use Rattle.std.specs.Prelude.{◌≡◌, ◌∷◌, [], map, IfOk, IfSome};
+ghost use Rattle.cf_num.specs.Limit.{IsWithin, within};
 ghost use Rattle.cf_tree.specs.ExprView.{expr_tree};
 ghost use Rattle.cf_tree.specs.Numbers.{absolute};
 ghost use Rattle.cf_tree.specs.Sets.{AreWithin, set_of as the_set_of};
-ghost use Rattle.cf_tree.specs.Values.{number as a_number, truth as a_truth, elements as a_set, number_of, elements_of, first_of};
+ghost use Rattle.cf_tree.specs.Values.{number as a_number, truth as a_truth, elements as a_set, number_of, elements_of, first_of, compared};
 ghost use Rattle.cf_eval.specs.Seen.{plain, plains};
-ghost use Rattle.cf_late.specs.Answers.{LateAnswer, met as met_late, one_part, decided_by, joined_by};
-ghost use Rattle.cf_late.specs.Fitting.{AreFit};
-ghost use Rattle.cf_late.specs.LateRun.{gives, ordinary};
+ghost use Rattle.cf_known.specs.ChooseRun.{gives};
+ghost use Rattle.cf_known.specs.Fitting.{AreFit};
+ghost use Rattle.cf_late.specs.Answers.{LateAnswer, met as met_late, of_numbers, of_sets, one_part, decided_by, joined_by};
+ghost use Rattle.cf_late.specs.LateRun.{ordinary};
 
 use crate::stop::Stop;
 use crate::values::Values;
-use cf_eval::operate::{compare, divide, number_in, remain, truth_in};
+use cf_eval::operate::{compare, divide, number_in, remain};
 use cf_eval::value::Value;
 use cf_set::Set;
+use cf_tree::base::Order;
 use cf_tree::expr::Expr;
 use cf_tree::memory::NoMemory;
 use cf_tree::raw::BinOp;
 use std::alloc::Global;
 
-fn set_in(alloc: Global, value: Value) -> Result<Set, NoMemory>
-    ensures { IfOk result (λ s. s ≡ elements_of (plain value)) }
+fn set_in(alloc: Global, values: Values) -> Result<Set, NoMemory>
+    ensures { IfOk result (λ s. s ≡ elements_of (first_of values)) }
 {
-    match value {
+    match values.first() {
         Value::Elements(set) => Ok(set),
-        Value::Int(_) => Set::from_list(alloc, &[]),
-        Value::Truth(_) => Set::from_list(alloc, &[]),
+        Value::Int(_) | Value::Truth(_) => Set::from_list(alloc, &[]),
     }
 }
 
-// A number within the limit, as the value of an operation.
-#[tactic(auto, using(crate::proofs::OperationLaws::ordinary_within))]
-pub(crate) fn number(alloc: Global, z: i128) -> Result<Values, Stop>
-    requires { IsWithin z }
-    ensures { LateAnswer result (ordinary (a_number z)) }
-{
-    Ok(Values::one(alloc, Value::Int(z))?)
-}
-
 // A number, or none where it is past the limit.
-pub(crate) fn met(alloc: Global, z: Option<i128>) -> Result<Values, Stop>
+fn met(alloc: Global, z: Option<i128>) -> Result<Values, Stop>
     requires { IfSome z IsWithin }
     ensures { LateAnswer result (met_late z) }
 {
@@ -66,12 +56,6 @@ pub(crate) fn truth(alloc: Global, b: bool) -> Result<Values, Stop>
     Ok(Values::one(alloc, Value::Truth(b))?)
 }
 
-pub(crate) fn set(alloc: Global, s: Set) -> Result<Values, Stop>
-    ensures { LateAnswer result (gives (a_set s ∷ [])) }
-{
-    Ok(Values::one(alloc, Value::Elements(s))?)
-}
-
 fn size_of(z: i128) -> i128
     requires { IsWithin z }
     ensures value { result ≡ absolute z }
@@ -80,87 +64,83 @@ fn size_of(z: i128) -> i128
     if z < 0 { cf_num::neg(z) } else { z }
 }
 
-fn card(value: &Value) -> i128
-    ensures value { result ≡ pos (length (elements_of (plain value.now))) }
-    ensures fits { IsWithin result }
+// The value of a form over one part, of which these are the values.
+fn value_over_one(form: &Expr, part: &Values) -> Value
+    ensures value { plain result ≡ one_part (expr_tree form.now) (first_of part.now) }
+    ensures fit { IsWithin (number_of (plain result)) }
 {
-    match value {
-        Value::Elements(set) => i128::from(set.card()),
-        Value::Int(_) => 0,
-        Value::Truth(_) => 0,
+    match form {
+        Expr::Neg(_) => Value::Int(cf_num::neg(part.number())),
+        Expr::Not(_) => Value::Truth(!part.truth()),
+        Expr::Abs(_) => Value::Int(size_of(part.number())),
+        Expr::Divides { k, .. } => Value::Truth(remain(part.number(), *k) == 0),
+        Expr::Div { k, .. } => Value::Int(divide(part.number(), *k)),
+        Expr::Mod { k, .. } => Value::Int(remain(part.number(), *k)),
+        _ => Value::Int(part.card()),
     }
 }
 
 // A form over one part, of which these are the values.
+#[tactic(auto, using(crate::proofs::OperationLaws::ordinary_fit))]
 pub(crate) fn over_one(alloc: Global, form: &Expr, part: Values) -> Result<Values, Stop>
     ensures { LateAnswer result (ordinary (one_part (expr_tree form.now) (first_of part))) }
 {
-    let v = part.first();
-    match form {
-        Expr::Neg(_) => number(alloc, cf_num::neg(number_in(&v))),
-        Expr::Not(_) => truth(alloc, !truth_in(&v)),
-        Expr::Abs(_) => number(alloc, size_of(number_in(&v))),
-        Expr::Divides { k, .. } => truth(alloc, remain(number_in(&v), *k) == 0),
-        Expr::Div { k, .. } => number(alloc, divide(number_in(&v), *k)),
-        Expr::Mod { k, .. } => number(alloc, remain(number_in(&v), *k)),
-        _ => number(alloc, card(&v)),
+    let value = value_over_one(form, &part);
+    drop(part);
+    Ok(Values::one(alloc, value)?)
+}
+
+// The sum, the difference or the product of the numbers of two values, none where it is past the
+// limit.
+fn number_over_two(op: BinOp, left: Values, right: Values) -> Option<i128>
+    ensures value { result ≡ within (of_numbers op (number_of (first_of left)) (number_of (first_of right))) }
+    ensures fit { IfSome result IsWithin }
+{
+    let x = left.number();
+    let y = right.number();
+    match op {
+        BinOp::Add => cf_num::add(x, y),
+        BinOp::Sub => cf_num::sub(x, y),
+        _ => cf_num::mul(x, y),
     }
 }
 
-// The value of an operation with two sides other than && and ||.
-pub(crate) fn over_two(
-    alloc: Global,
-    op: BinOp,
-    left: Values,
-    right: Values,
-) -> Result<Values, Stop>
-    ensures { LateAnswer result (ordinary (operation op (first_of left) (first_of right))) }
+// The value of an operation on two sets.
+fn value_over_sets(alloc: Global, op: BinOp, s: &Set, t: &Set) -> Result<Value, NoMemory>
+    ensures value { IfOk result (λ v. plain v ≡ of_sets op s.now t.now) }
+    ensures fit { IfOk result (λ v. IsWithin (number_of (plain v))) }
+{
+    match op {
+        BinOp::Union => Ok(Value::Elements(s.union(alloc, t)?)),
+        BinOp::Inter => Ok(Value::Elements(s.inter(alloc, t)?)),
+        BinOp::Diff => Ok(Value::Elements(s.diff(alloc, t)?)),
+        _ => Ok(Value::Truth(s.subset(t))),
+    }
+}
+
+// An operation on the sets of two values.
+#[tactic(auto, using(crate::proofs::OperationLaws::ordinary_fit))]
+fn over_sets(alloc: Global, op: BinOp, left: Values, right: Values) -> Result<Values, Stop>
+    ensures { LateAnswer result (ordinary (of_sets op (elements_of (first_of left)) (elements_of (first_of right)))) }
+{
+    let s = set_in(alloc, left)?;
+    let t = set_in(alloc, right)?;
+    let value = value_over_sets(alloc, op, &s, &t);
+    drop(s);
+    drop(t);
+    Ok(Values::one(alloc, value?)?)
+}
+
+// Whether the order holds between two values.
+fn compares(order: Order, left: Values, right: Values) -> bool
+    ensures { result ≡ compared order (first_of left) (first_of right) }
 {
     let v = left.first();
     let w = right.first();
-    match op {
-        BinOp::Add => met(alloc, cf_num::add(number_in(&v), number_in(&w))),
-        BinOp::Sub => met(alloc, cf_num::sub(number_in(&v), number_in(&w))),
-        BinOp::Mul => met(alloc, cf_num::mul(number_in(&v), number_in(&w))),
-        BinOp::And | BinOp::Or => Ok(Values::one(alloc, w)?),
-        BinOp::Union => union(alloc, v, w),
-        BinOp::Inter => inter(alloc, v, w),
-        BinOp::Diff => diff(alloc, v, w),
-        BinOp::Subset => subset(alloc, v, w),
-        BinOp::Compare(order) => truth(alloc, compare(order, &v, &w)),
-    }
-}
-
-fn union(alloc: Global, v: Value, w: Value) -> Result<Values, Stop>
-    ensures { LateAnswer result (ordinary (operation Union (plain v) (plain w))) }
-{
-    let s = set_in(alloc, v)?;
-    let t = set_in(alloc, w)?;
-    set(alloc, s.union(alloc, &t)?)
-}
-
-fn inter(alloc: Global, v: Value, w: Value) -> Result<Values, Stop>
-    ensures { LateAnswer result (ordinary (operation Inter (plain v) (plain w))) }
-{
-    let s = set_in(alloc, v)?;
-    let t = set_in(alloc, w)?;
-    set(alloc, s.inter(alloc, &t)?)
-}
-
-fn diff(alloc: Global, v: Value, w: Value) -> Result<Values, Stop>
-    ensures { LateAnswer result (ordinary (operation Diff (plain v) (plain w))) }
-{
-    let s = set_in(alloc, v)?;
-    let t = set_in(alloc, w)?;
-    set(alloc, s.diff(alloc, &t)?)
-}
-
-fn subset(alloc: Global, v: Value, w: Value) -> Result<Values, Stop>
-    ensures { LateAnswer result (ordinary (operation Subset (plain v) (plain w))) }
-{
-    let s = set_in(alloc, v)?;
-    let t = set_in(alloc, w)?;
-    truth(alloc, s.subset(&t))
+    let holds = compare(order, &v, &w);
+    drop(v);
+    drop(w);
+    holds
 }
 
 // The set of the numbers of these values.
@@ -168,7 +148,8 @@ pub(crate) fn set_of(alloc: Global, values: Values) -> Result<Values, Stop>
     ensures { LateAnswer result (gives (a_set (the_set_of (map number_of values)) ∷ [])) }
 {
     let numbers = numbers_in(alloc, values.items())?;
-    set(alloc, Set::from_list(alloc, &numbers)?)
+    let set = Set::from_list(alloc, &numbers)?;
+    Ok(Values::one(alloc, Value::Elements(set))?)
 }
 
 fn numbers_in(alloc: Global, values: &[Value]) -> Result<Vec<i128>, NoMemory>
@@ -200,6 +181,10 @@ pub(crate) fn joined(alloc: Global, op: BinOp, left: Values, right: Values) -> R
 {
     match op {
         BinOp::And | BinOp::Or => Ok(right),
-        _ => over_two(alloc, op, left, right),
+        BinOp::Add | BinOp::Sub | BinOp::Mul => met(alloc, number_over_two(op, left, right)),
+        BinOp::Union | BinOp::Inter | BinOp::Diff | BinOp::Subset => {
+            over_sets(alloc, op, left, right)
+        }
+        BinOp::Compare(order) => truth(alloc, compares(order, left, right)),
     }
 }

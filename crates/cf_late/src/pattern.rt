@@ -4,8 +4,8 @@ ghost use Rattle.cf_num.specs.Limit.{IsWithin};
 ghost use Rattle.cf_tree.specs.declared.base.Base.TheVariants as bases;
 ghost use Rattle.cf_tree.specs.Allowed.{scope_of};
 ghost use Rattle.cf_tree.specs.ExprView.{match_arm_tree};
+ghost use Rattle.cf_known.specs.LateChoose.{IsLateChoose};
 ghost use Rattle.cf_late.specs.Answers.{LateAnswer, arm_fits};
-ghost use Rattle.cf_late.specs.LateChoose.{IsLateChoose};
 ghost use Rattle.cf_late.specs.LateRun.{is_in, late_variables, pattern_relation};
 ghost use Rattle.cf_late.specs.Runnable.{HasFitPattern};
 
@@ -57,5 +57,7 @@ pub(crate) fn variables(
     let outputs = numbers(alloc, &arm.factors)?;
     let level = last_level(scope)?;
     let rel = pattern_relation(alloc, level, &arm.factors, arm.constant)?;
-    enter(alloc, arm.number, scope, &outputs, &rel, env)
+    let values = enter(alloc, arm.number, scope, &outputs, &rel, env);
+    drop(rel);
+    values
 }

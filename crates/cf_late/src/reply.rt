@@ -2,11 +2,12 @@
 ghost use Rattle.std.specs.Prelude.{◌≡◌, IfOk, flat_map};
 ghost use Rattle.cf_eval.specs.Seen.{plains};
 ghost use Rattle.cf_eval.specs.Texts.{values_text};
-ghost use Rattle.cf_late.specs.Outcomes.{late_of, late_text, kind_text as the_kind_text, refusal_text};
+ghost use Rattle.cf_known.specs.Outcomes.{late_of};
+ghost use Rattle.cf_late.specs.Texts.{late_text, kind_text as the_kind_text, refusal_text};
 
-use crate::outcome::LateOutcome;
 use cf_eval::reply::{put_values, reply};
 use cf_eval::value::{Outcome, Value};
+use cf_known::outcome::LateOutcome;
 use cf_linear::refusal::{LimitKind, Refusal};
 use cf_tree::memory::NoMemory;
 use itoa::Buffer;

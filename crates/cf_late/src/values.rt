@@ -1,11 +1,11 @@
 //! Lists of values, whose numbers are within the limit.
 #![tactic(auto, using(crate::proofs::ValuesLaws::fit_both, crate::proofs::ValuesLaws::fit_take, crate::proofs::ValuesLaws::plains_take, crate::proofs::ValuesLaws::plains_append))]
 
-ghost use Rattle.std.specs.Prelude.{◌≡◌, ◌++◌, ◌∷◌, [], length, take, IfOk, OnOk};
+ghost use Rattle.std.specs.Prelude.{◌≡◌, ◌++◌, ◌∷◌, [], pos, length, take, IfOk, OnOk};
 ghost use Rattle.cf_num.specs.Limit.{IsWithin};
-ghost use Rattle.cf_tree.specs.Values.{number_of, truth_of, value_at, first_of};
+ghost use Rattle.cf_tree.specs.Values.{number_of, truth_of, elements_of, value_at, first_of};
 ghost use Rattle.cf_eval.specs.Seen.{plain, plains};
-ghost use Rattle.cf_late.specs.Fitting.{AreFit};
+ghost use Rattle.cf_known.specs.Fitting.{AreFit};
 
 use cf_eval::value::Value;
 use cf_tree::memory::NoMemory;
@@ -26,7 +26,7 @@ impl Model for Values {
     ghost Value = { List PlainValue };
 
     ghost use Rattle.cf_eval.specs.Seen.{plains};
-    ghost use Rattle.cf_late.specs.Fitting.{AreFit};
+    ghost use Rattle.cf_known.specs.Fitting.{AreFit};
 
     ghost view = { λ v. plains v.items.items };
 
@@ -125,6 +125,17 @@ impl Values {
     {
         match self.items.first() {
             Some(Value::Int(z)) => *z,
+            _ => 0,
+        }
+    }
+
+    // The number of elements of the first set, 0 where the first value is none.
+    pub(crate) fn card(&self) -> i128
+        ensures value { result ≡ pos (length (elements_of (first_of self.now))) }
+        ensures fit { IsWithin result }
+    {
+        match self.items.first() {
+            Some(Value::Elements(set)) => i128::from(set.card()),
             _ => 0,
         }
     }

@@ -1,6 +1,6 @@
 use Rattle.std.proofs.Common.{◌≡◌, ◌<◌, ◌≤◌, length, slice_get, Some, arith, sym, subst}
+use Rattle.cf_known.specs.ChooseRun.{gives}
 use Rattle.cf_late.specs.Answers.{LateAnswer, calls_in}
-use Rattle.cf_late.specs.LateRun.{gives}
 use Rattle.cf_late.proofs.Calls.{call_is, call_missing, call_falls, stands_at}
 use Rattle.cf_late.proofs.RunnableLaws.{body_runnable}
 use Rattle.cf_late.proofs.eval.+eval.Goals as goal

@@ -1,8 +1,9 @@
 use Rattle.std.proofs.Common.{◌≡◌, ◌+◌, ◌*◌, ◌++◌, take, drop}
 use Rattle.cf_tree.specs.Allowed.{scope_of}
 use Rattle.cf_tree.specs.ExprView.{expr_trees, match_arm_trees}
+use Rattle.cf_known.specs.ChooseRun.{gives}
 use Rattle.cf_late.specs.Answers.{calls_in}
-use Rattle.cf_late.specs.LateRun.{gives, then_late, late_all, late_arms}
+use Rattle.cf_late.specs.LateRun.{then_late, late_all, late_arms}
 use Rattle.cf_late.specs.Runnable.{AreRunnable, AreRunnableArms}
 use Rattle.cf_late.proofs.Calls.{depths}
 use Rattle.cf_late.proofs.eval.+eval.Given as goal

@@ -23,14 +23,14 @@ use Rattle.cf_choose.proofs.ArmBuilderLemmas.{length_have}
 use Rattle.cf_choose.proofs.DefinedArms.{unrefused_solve, unrefused_typed}
 use Rattle.cf_growth.specs.Meeting.{AreSmall}
 use Rattle.cf_growth.proofs.MeetingLaws.{given_are_met}
-use Rattle.cf_late.specs.declared.outcome.LateOutcome.{LateOutcome as DeclaredLateOutcome}
-use Rattle.cf_late.specs.At.{rel_known}
-use Rattle.cf_late.specs.Fitting.{AreFit}
-use Rattle.cf_late.specs.LateChoose.{IsLateChoose}
-use Rattle.cf_late.specs.Laws.{LateChoosesAreAllowed}
-use Rattle.cf_late.specs.LateRun.{comes_to, overflow, refused, solve_run, choose_run, late_choose}
-use Rattle.cf_late.specs.Outcomes.{late_of}
-use Rattle.cf_late.proofs.KnownLaws.{knowing_keeps_solutions, knowing_keeps_types, knowing_is_linear}
+use Rattle.cf_known.specs.declared.outcome.LateOutcome.{LateOutcome as DeclaredLateOutcome}
+use Rattle.cf_known.specs.At.{rel_known}
+use Rattle.cf_known.specs.ChooseRun.{comes_to, overflow, refused, solve_run, choose_run, late_choose}
+use Rattle.cf_known.specs.Fitting.{AreFit}
+use Rattle.cf_known.specs.LateChoose.{IsLateChoose}
+use Rattle.cf_known.specs.Laws.{LateChoosesAreAllowed}
+use Rattle.cf_known.specs.Outcomes.{late_of}
+use Rattle.cf_known.proofs.KnownLaws.{knowing_keeps_solutions, knowing_keeps_types, knowing_is_linear}
 
 -- ---- how a run ends
 refused_not : (n : ℕ) (r : Refusal) (o : Outcome) → refused n r ≡ comes_to o → ⊥

@@ -5,11 +5,11 @@ use Rattle.cf_tree.specs.Allowed.{Chosen}
 use Rattle.cf_tree.specs.Relation.{Sol, IsTyped, IsLinear}
 use Rattle.cf_tree.specs.RelTree.{RelTree}
 use Rattle.cf_tree.specs.Values.{Value, Outcome, HaveBases}
-use Rattle.cf_late.specs.At.{rel_known}
-use Rattle.cf_late.specs.Fitting.{AreFit}
-use Rattle.cf_late.specs.LateChoose.{IsLateChoose}
+use Rattle.cf_known.specs.At.{rel_known}
+use Rattle.cf_known.specs.Fitting.{AreFit}
+use Rattle.cf_known.specs.LateChoose.{IsLateChoose}
 use Rattle.cf_program.specs.LateLinear.{IsLateLinear}
-use Rattle.cf_late.specs.LateRun.{comes_to, late_choose}
+use Rattle.cf_known.specs.ChooseRun.{comes_to, late_choose}
 
 -- it has the same solutions there
 abbrev pub KnowingKeepsSolutions : Type 0

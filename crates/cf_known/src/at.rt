@@ -4,8 +4,8 @@ ghost use Rattle.cf_tree.specs.RelTree.{rel_compare};
 ghost use Rattle.cf_tree.specs.RelView.{term_tree, rel_tree};
 ghost use Rattle.cf_tree.specs.Values.{number_of, value_at};
 ghost use Rattle.cf_eval.specs.Seen.{plains};
-ghost use Rattle.cf_late.specs.At.{variable_known, term_known, rel_known};
-ghost use Rattle.cf_late.specs.OtherParts.{term_over_one, term_over_two, rel_over_two};
+ghost use Rattle.cf_known.specs.At.{variable_known, term_known, rel_known};
+ghost use Rattle.cf_known.specs.OtherParts.{term_over_one, term_over_two, rel_over_two};
 
 use cf_eval::operate::number_in;
 use cf_eval::value::Value;

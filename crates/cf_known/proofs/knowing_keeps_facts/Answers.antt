@@ -1,5 +1,5 @@
-use Rattle.cf_late.proofs.KnownLaws.{knowing_keeps_solutions, knowing_keeps_types, knowing_is_linear}
-use Rattle.cf_late.proofs.knowing_keeps_facts.Goals as goal
+use Rattle.cf_known.proofs.KnownLaws.{knowing_keeps_solutions, knowing_keeps_types, knowing_is_linear}
+use Rattle.cf_known.proofs.knowing_keeps_facts.Goals as goal
 
 pub returns-clause-solutions : goal.returns-clause-solutions
 returns-clause-solutions c = knowing_keeps_solutions

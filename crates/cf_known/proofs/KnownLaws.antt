@@ -8,20 +8,16 @@ use Rattle.cf_tree.specs.declared.base.Base.{Base}
 use Rattle.cf_tree.specs.Relation.{val, Holds, is_fixed, IsLinearTerm, IsTypedTerm, IsTyped}
 use Rattle.cf_tree.specs.RelTree.{TermTree, term_lit, term_var, term_card, term_neg, term_add, term_sub, term_mul, term_div, term_mod, term_abs, RelTree, rel_true, rel_false, rel_compare, rel_same_set, rel_other_set, rel_subset, rel_divides, rel_and, rel_or, rel_not}
 use Rattle.cf_tree.specs.Values.{Value, number, number_of, value_at}
-use Rattle.cf_late.specs.At.{variable_known, term_known, rel_known}
-use Rattle.cf_late.specs.Fitting.{AreFit}
+use Rattle.cf_known.specs.At.{variable_known, term_known, rel_known}
+use Rattle.cf_known.specs.Fitting.{AreFit}
 use Rattle.cf_program.specs.LateLinear.{is_fixed_below, IsLateLinearTerm}
-use Rattle.cf_late.specs.Laws.{KnowingKeepsSolutions, KnowingKeepsTypes, KnowingIsLinear}
+use Rattle.cf_known.specs.Laws.{KnowingKeepsSolutions, KnowingKeepsTypes, KnowingIsLinear}
 
 -- a number of fit values, 0 where none stands
 pub fit_at : (vs : List Value) (x : ℕ) → AreFit vs → IsWithin (number_of (value_at vs x))
 fit_at [] x h = omega arith
 fit_at (v ∷ vs) zero h = h.0
 fit_at (v ∷ vs) (suc x) h = fit_at vs x h.1
-
-pub fit_append : (vs ws : List Value) → AreFit vs → AreFit ws → AreFit (vs ++ ws)
-fit_append [] ws h k = k
-fit_append (v ∷ vs) ws h k = (h.0, fit_append vs ws h.1 k)
 
 -- ---- solutions
 variable_val : (x : ℕ) (env xs : List Value) → val (variable_known (length env) x env) (env ++ xs) ≡ number_of (value_at (env ++ xs) x)

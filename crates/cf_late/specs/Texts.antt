@@ -1,32 +1,13 @@
--- What the program's outcomes of a late program stand for, and their texts.
+-- The texts of what late programs come to.
 use Rattle.std.specs.Prelude.{ℕ, List, [], ◌∷◌, codes, decimal}
 use Rattle.std.specs.List.{concat}
-use Rattle.cf_tree.specs.Values.{values, no_solution}
 use Rattle.cf_linear.specs.declared.refusal.LimitKind.{LimitKind}
 use Rattle.cf_linear.specs.declared.refusal.LimitKind.TheVariants as kind
 use Rattle.cf_linear.specs.declared.refusal.Refusal.{Refusal}
 use Rattle.cf_linear.specs.declared.refusal.Refusal.TheVariants as refusal
-use Rattle.cf_eval.specs.Seen.{plains}
 use Rattle.cf_eval.specs.Texts.{outcome_text}
-use Rattle.cf_late.specs.declared.outcome.LateOutcome.{LateOutcome as DeclaredLateOutcome}
-use Rattle.cf_late.specs.declared.outcome.LateOutcome.TheVariants as outcome
-use Rattle.cf_late.specs.Fitting.{AreFit}
-use Rattle.cf_late.specs.LateRun.{LateOutcome, comes_to, overflow, refused}
+use Rattle.cf_known.specs.ChooseRun.{LateOutcome, comes_to, overflow, refused}
 
-abbrev pub late_of : DeclaredLateOutcome → LateOutcome
-late_of (outcome.Values vs) = comes_to (values (plains vs.items))
-late_of (outcome.NoSolution n) = comes_to (no_solution n)
-late_of outcome.Overflow = overflow
-late_of (outcome.Refused n r) = refused n r
-
--- values within the limit, where there are some
-abbrev pub IsFitOutcome : DeclaredLateOutcome → Type 0
-IsFitOutcome (outcome.Values vs) = AreFit (plains vs.items)
-IsFitOutcome (outcome.NoSolution n) = Unit {0}
-IsFitOutcome outcome.Overflow = Unit {0}
-IsFitOutcome (outcome.Refused n r) = Unit {0}
-
--- ---- texts
 abbrev pub kind_text : LimitKind → List ℕ
 kind_text kind.Sets = codes "Sets"
 kind_text kind.Cases = codes "Cases"

@@ -4,7 +4,7 @@ use Rattle.std.specs.Prelude.{true, false}
 use Rattle.cf_tree.specs.declared.base.Order.TheVariants.{Eq, Le}
 use Rattle.cf_tree.specs.RelTree.{RelTree, TermTree, SetTree, empty_set, set_var, union_of, rel_true, rel_false, rel_compare, rel_same_set, rel_other_set, rel_subset, rel_divides, rel_and, rel_or, rel_not, term_lit, term_var, term_card, term_neg, term_add, term_sub, term_mul, term_div, term_mod, term_abs}
 use Rattle.cf_tree.specs.Values.{Value, number, elements}
-use Rattle.cf_late.specs.At.{rel_known}
+use Rattle.cf_known.specs.At.{rel_known}
 use Rattle.cf_program.specs.LateLinear.{is_fixed_below, IsLateLinearTerm, IsLateLinear}
 
 -- a is 3, s is {1}, b is -2; x and y stand behind them

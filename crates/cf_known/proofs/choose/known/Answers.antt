@@ -1,7 +1,7 @@
 use Rattle.cf_tree.specs.RelView.{rel_tree}
 use Rattle.cf_eval.specs.Seen.{plains}
-use Rattle.cf_late.proofs.ChooseLaws.{known_typed, known_linear}
-use Rattle.cf_late.proofs.choose.known.Goals as goal
+use Rattle.cf_known.proofs.ChooseLaws.{known_typed, known_linear}
+use Rattle.cf_known.proofs.choose.known.Goals as goal
 
 pub returns-clause-typed : goal.returns-clause-typed
 returns-clause-typed c =

@@ -4,11 +4,11 @@ ghost use Rattle.cf_tree.specs.CodeView.{code_tree};
 ghost use Rattle.cf_tree.specs.Relation.{IsTyped, IsLinear};
 ghost use Rattle.cf_tree.specs.RelView.{rel_tree};
 ghost use Rattle.cf_eval.specs.Seen.{plains};
-ghost use Rattle.cf_late.specs.At.{rel_known};
-ghost use Rattle.cf_late.specs.Fitting.{AreFit};
-ghost use Rattle.cf_late.specs.LateChoose.{IsLateChoose};
-ghost use Rattle.cf_late.specs.LateRun.{solve_run, late_choose};
-ghost use Rattle.cf_late.specs.Outcomes.{late_of, IsFitOutcome};
+ghost use Rattle.cf_known.specs.At.{rel_known};
+ghost use Rattle.cf_known.specs.ChooseRun.{solve_run, late_choose};
+ghost use Rattle.cf_known.specs.Fitting.{AreFit};
+ghost use Rattle.cf_known.specs.LateChoose.{IsLateChoose};
+ghost use Rattle.cf_known.specs.Outcomes.{late_of, IsFitOutcome};
 
 use crate::at::rel_at;
 use crate::outcome::LateOutcome;

@@ -1,0 +1,4 @@
+pub mod ChooseLaws
+pub mod KnownLaws
+mod ChooseExamples
+mod KnownExamples
