@@ -45,8 +45,10 @@ fn answer_next<I: Source, O: Sink>(
         Ok(count) => count,
         Err(Failed) => return Err(Fault::Input),
     };
-    answer_piece(alloc, answerer, cutter, &piece[..count], out)?;
-    Ok(count)
+    match answer_piece(alloc, answerer, cutter, &piece[..count], out) {
+        Ok(()) => Ok(count),
+        Err(fault) => Err(fault),
+    }
 }
 
 /// Reads the input to its end, its fault or one byte past its limit. The lines that a piece ends are
@@ -70,7 +72,17 @@ pub fn answer_input<I: Source, O: Sink>(
     let mut total = 0usize;
     'pieces: while total <= limit {
         let room = (limit + 1 - total).min(PIECE);
-        let count = answer_next(alloc, answerer, &mut cutter, input, out, &mut piece[..room])?;
+        let count = match answer_next(
+            alloc,
+            answerer,
+            &mut cutter,
+            input,
+            out,
+            &mut piece[..room],
+        ) {
+            Ok(count) => count,
+            Err(fault) => return Err(fault),
+        };
         if count == 0 {
             return answer_rest(alloc, answerer, cutter, out);
         }
