@@ -129,9 +129,9 @@ fn each_pass_is_dropped_once(rt: HostRuntime) -> Result<(), Fail> {
         ),
     ];
     let alloc = rt.alloc();
-    for (wanted, call) in calls {
+    for (wanted, call) in calls.iter() {
         let seen = nothing_seen(alloc)?;
-        assert_eq!(rt; seen_by(alloc, &call, &seen)?, wanted);
+        assert_eq!(rt; seen_by(alloc, call, &seen)?, *wanted);
         assert_eq!(rt; seen.drops.get(), 1);
     }
     Ok(())
@@ -188,10 +188,10 @@ fn a_pass_is_called_once_where_it_is_asked_for(rt: HostRuntime) -> Result<(), Fa
         ),
     ];
     let alloc = rt.alloc();
-    for (wanted, call) in calls {
+    for (wanted, call) in calls.iter() {
         let seen = nothing_seen(alloc)?;
-        assert_eq!(rt; seen_by(alloc, &call, &seen)?, Status::Done);
-        assert_eq!(rt; seen.calls.get(), wanted);
+        assert_eq!(rt; seen_by(alloc, call, &seen)?, Status::Done);
+        assert_eq!(rt; seen.calls.get(), *wanted);
     }
     Ok(())
 }
