@@ -75,8 +75,6 @@ fn a_pass_that_finds_no_memory_ends_nothing(rt: HostRuntime) -> Result<(), Fail>
     passes.push(Box::new(alloc, Faint { inner: Fold::new() })?)?;
     passes.push(Box::new(alloc, DropNeeds::new())?)?;
     let seen = ended(alloc, &call, passes)?;
-    assert_eq!(rt; seen.status, Status::Done);
-    assert_eq!(rt; seen.out.as_slice(), COMPILED.as_bytes());
-    assert_eq!(rt; seen.err.as_slice(), b"".as_slice());
+    assert!(rt; seen.is(Status::Done, COMPILED.as_bytes(), b""));
     Ok(())
 }

@@ -59,6 +59,13 @@ pub struct Ending {
     pub err: Vec<u8>,
 }
 
+impl Ending {
+    /// Whether the call ended so, with these bytes in the sinks.
+    pub fn is(&self, status: Status, out: &[u8], err: &[u8]) -> bool {
+        self.status == status && self.out.as_slice() == out && self.err.as_slice() == err
+    }
+}
+
 /// How a call with these passes ends.
 pub fn ended(alloc: Global, call: &Call, passes: Vec<Box<dyn Pass>>) -> Result<Ending, NoMemory> {
     let words = words(alloc, call.command, call.flags)?;
