@@ -1,25 +1,15 @@
 -- The pieces of a line that are still to be written.
-use Rattle.std.proofs.Common.{◌≡◌, ◌∙◌, ap, sym, ℕ, ◌+◌, ◌<◌, ◌≤◌, List, [], ◌∷◌, ◌++◌, length, drop, get_or, flat_map, add-one, append-nil, append_assoc, codes, drop-cons, drop_of_length-le, refl}
+use Rattle.std.proofs.Common.{◌≡◌, ◌∙◌, ap, sym, ℕ, ◌+◌, ◌<◌, List, [], ◌∷◌, ◌++◌, length, drop, get_or, flat_map, add-one, append-nil, append_assoc, codes, drop-cons, refl}
 use Rattle.std.specs.List.{concat}
-use Rattle.std.specs.Prelude.{decimal, Option, Result}
+use Rattle.std.specs.Prelude.{decimal}
 use Rattle.cf_linear.specs.declared.refusal.LimitKind.{LimitKind}
 use Rattle.cf_linear.specs.declared.refusal.Refusal.TheVariants.{Limit}
 use Rattle.cf_late.specs.Texts.{kind_text}
-use Rattle.cf_answer.specs.Puts.{Puts}
 use Rattle.cf_answer.specs.Texts.{refusal_text, rejected_words_line}
 
 pub pieces_from : {X : Type 0} (f : X → List ℕ) (xs : List X) (i : ℕ) (d : X) → i < length xs →
     flat_map f (drop i xs) ≡ f (get_or xs i d) ++ flat_map f (drop (i + 1) xs)
 pieces_from f xs i d lt = rw (add-one, drop-cons xs i d lt) refl
-
--- at the end none is left
-pub pieces_none : {X : Type 0} (f : X → List ℕ) (xs : List X) (i : ℕ) → length xs ≤ i → flat_map f (drop i xs) ≡ []
-pieces_none f xs i le = rw (drop_of_length-le xs {i = i} le) refl
-
--- what was put, told otherwise
-pub puts_same : {E : Type 0} {text other : List ℕ} {old new : Option (List ℕ)} {before after : ℕ} {result : Result (Unit {0}) E} → text ≡ other →
-    Puts text old new before after result → Puts other old new before after result
-puts_same same puts = rw same at puts
 
 -- the words of a limit, and the end of the line behind them
 limit_end : (kind number : List ℕ) → kind ++ (32 ∷ (number ++ (10 ∷ []))) ≡ (kind ++ (32 ∷ (number ++ []))) ++ (10 ∷ [])

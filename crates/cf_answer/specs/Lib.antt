@@ -9,7 +9,6 @@ pub mod Outside
 pub mod Owed
 pub mod Passes
 pub mod Picked
-pub mod Puts
 pub mod Refusals
 pub mod Sources
 pub mod Statuses

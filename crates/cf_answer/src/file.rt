@@ -138,14 +138,8 @@ fn write_target<O: Sink>(
         Err(fault) => return Err(fault),
     };
     match printed(alloc, &target, flags.stats, passes) {
-        Ok(text) => {
-            drop(target);
-            write_text(out, &text)
-        }
-        Err(fault) => {
-            drop(target);
-            Err(fault)
-        }
+        Ok(text) => write_text(out, &text),
+        Err(fault) => Err(fault),
     }
 }
 
@@ -174,15 +168,8 @@ fn run_source<I: Source, O: Sink>(
         Err(fault) => return Err(fault),
     };
     match closing(alloc, flags.stats, passes) {
-        Ok(end) => {
-            let answer = answer_by(alloc, &answerer, &end, input, out);
-            drop(answerer);
-            answer
-        }
-        Err(fault) => {
-            drop(answerer);
-            Err(fault)
-        }
+        Ok(end) => answer_by(alloc, &answerer, &end, input, out),
+        Err(fault) => Err(fault),
     }
 }
 
@@ -248,12 +235,7 @@ fn run_target<I: Source, O: Sink>(
     ensures unwritten { IsEarly (the_status_of result) → out.new ≡ out.old }
 {
     match read_target(alloc, text) {
-        Ok(target) => {
-            let answerer = Answerer::Target(target);
-            let answer = answer_by(alloc, &answerer, &[], input, out);
-            drop(answerer);
-            answer
-        }
+        Ok(target) => answer_by(alloc, &Answerer::Target(target), &[], input, out),
         Err(fault) => Err(fault),
     }
 }

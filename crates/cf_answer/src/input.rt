@@ -45,10 +45,8 @@ fn answer_next<I: Source, O: Sink>(
         Ok(count) => count,
         Err(Failed) => return Err(Fault::Input),
     };
-    match answer_piece(alloc, answerer, cutter, &piece[..count], out) {
-        Ok(()) => Ok(count),
-        Err(fault) => Err(fault),
-    }
+    answer_piece(alloc, answerer, cutter, &piece[..count], out)?;
+    Ok(count)
 }
 
 /// Reads the input to its end, its fault or one byte past its limit. The lines that a piece ends are
@@ -72,17 +70,7 @@ pub fn answer_input<I: Source, O: Sink>(
     let mut total = 0usize;
     'pieces: while total <= limit {
         let room = (limit + 1 - total).min(PIECE);
-        let count = match answer_next(
-            alloc,
-            answerer,
-            &mut cutter,
-            input,
-            out,
-            &mut piece[..room],
-        ) {
-            Ok(count) => count,
-            Err(fault) => return Err(fault),
-        };
+        let count = answer_next(alloc, answerer, &mut cutter, input, out, &mut piece[..room])?;
         if count == 0 {
             return answer_rest(alloc, answerer, cutter, out);
         }

@@ -3,7 +3,6 @@ ghost use Rattle.std.specs.Prelude.{◌≡◌, codes, flat_map, OnOk, OnErr};
 ghost use Rattle.std.specs.Io.KnownBytes.{Appends};
 ghost use Rattle.cf_io.specs.Bytes.{TookPrefix};
 ghost use Rattle.cf_io.specs.Causes.{one_more};
-ghost use Rattle.cf_answer.specs.Puts.{Puts};
 ghost use Rattle.cf_answer.specs.Texts.{words_line, place_line, place_line_behind, count_line, numbered_line, choose_line, rule_line, steps_line, rejected_line, rejected_words_line, refusal_text, fault_line, answer_line};
 ghost use Rattle.cf_linear.specs.declared.refusal.Refusal.TheVariants as refusals;
 
@@ -19,19 +18,22 @@ use itoa::Buffer;
 // Writes the pieces of a line, one after the other.
 #[tactic(auto, using(crate::proofs::CountLemmas::one_fault))]
 fn put<E: Sink>(err: &mut E, pieces: &[&[u8]]) -> Result<(), Failed>
-    ensures { Puts (flat_map (λ piece. piece.now) pieces.now) (E.held err.old) (E.held err.new) (E.faults err.old) (E.faults err.new) result }
+    ensures all { OnOk result (Appends (E.held err.old) (E.held err.new) (flat_map (λ piece. piece.now) pieces.now)) }
+    ensures prefix { TookPrefix (E.held err.old) (E.held err.new) (flat_map (λ piece. piece.now) pieces.now) }
+    ensures failed { OnErr result (E.faults err.new ≡ one_more (E.faults err.old)) }
+    ensures same { OnOk result (E.faults err.new ≡ E.faults err.old) }
 {
     for piece in pieces {
-        match write_all(err, piece) {
-            Ok(()) => {}
-            Err(fault) => return Err(fault),
-        }
+        write_all(err, piece)?;
     }
     Ok(())
 }
 
 fn put_words<E: Sink>(err: &mut E, words: &[u8]) -> Result<(), Failed>
-    ensures { Puts (words_line words.now) (E.held err.old) (E.held err.new) (E.faults err.old) (E.faults err.new) result }
+    ensures all { OnOk result (Appends (E.held err.old) (E.held err.new) (words_line words.now)) }
+    ensures prefix { TookPrefix (E.held err.old) (E.held err.new) (words_line words.now) }
+    ensures failed { OnErr result (E.faults err.new ≡ one_more (E.faults err.old)) }
+    ensures same { OnOk result (E.faults err.new ≡ E.faults err.old) }
 {
     put(err, &[words, b"\n".as_slice()])
 }
@@ -43,7 +45,10 @@ fn put_place_behind<E: Sink>(
     place: &Place,
     words: &[u8],
 ) -> Result<(), Failed>
-    ensures { Puts (place_line_behind head.now place.now words.now) (E.held err.old) (E.held err.new) (E.faults err.old) (E.faults err.new) result }
+    ensures all { OnOk result (Appends (E.held err.old) (E.held err.new) (place_line_behind head.now place.now words.now)) }
+    ensures prefix { TookPrefix (E.held err.old) (E.held err.new) (place_line_behind head.now place.now words.now) }
+    ensures failed { OnErr result (E.faults err.new ≡ one_more (E.faults err.old)) }
+    ensures same { OnOk result (E.faults err.new ≡ E.faults err.old) }
 {
     let mut line = Buffer::new();
     let mut column = Buffer::new();
@@ -60,19 +65,28 @@ fn put_place_behind<E: Sink>(
 }
 
 fn put_place<E: Sink>(err: &mut E, place: &Place, words: &[u8]) -> Result<(), Failed>
-    ensures { Puts (place_line place.now words.now) (E.held err.old) (E.held err.new) (E.faults err.old) (E.faults err.new) result }
+    ensures all { OnOk result (Appends (E.held err.old) (E.held err.new) (place_line place.now words.now)) }
+    ensures prefix { TookPrefix (E.held err.old) (E.held err.new) (place_line place.now words.now) }
+    ensures failed { OnErr result (E.faults err.new ≡ one_more (E.faults err.old)) }
+    ensures same { OnOk result (E.faults err.new ≡ E.faults err.old) }
 {
-    put_place_behind(err, b"line ", place, words)
+    put_place_behind(err, b"line ".as_slice(), place, words)
 }
 
 fn put_steps_place<E: Sink>(err: &mut E, place: &Place, words: &[u8]) -> Result<(), Failed>
-    ensures { Puts (place_line_behind (codes "steps line ") place.now words.now) (E.held err.old) (E.held err.new) (E.faults err.old) (E.faults err.new) result }
+    ensures all { OnOk result (Appends (E.held err.old) (E.held err.new) (place_line_behind (codes "steps line ") place.now words.now)) }
+    ensures prefix { TookPrefix (E.held err.old) (E.held err.new) (place_line_behind (codes "steps line ") place.now words.now) }
+    ensures failed { OnErr result (E.faults err.new ≡ one_more (E.faults err.old)) }
+    ensures same { OnOk result (E.faults err.new ≡ E.faults err.old) }
 {
-    put_place_behind(err, b"steps line ", place, words)
+    put_place_behind(err, b"steps line ".as_slice(), place, words)
 }
 
 fn put_count<E: Sink>(err: &mut E, name: &[u8], count: u64) -> Result<(), Failed>
-    ensures { Puts (count_line name.now count) (E.held err.old) (E.held err.new) (E.faults err.old) (E.faults err.new) result }
+    ensures all { OnOk result (Appends (E.held err.old) (E.held err.new) (count_line name.now count)) }
+    ensures prefix { TookPrefix (E.held err.old) (E.held err.new) (count_line name.now count) }
+    ensures failed { OnErr result (E.faults err.new ≡ one_more (E.faults err.old)) }
+    ensures same { OnOk result (E.faults err.new ≡ E.faults err.old) }
 {
     let mut number = Buffer::new();
     let pieces = [
@@ -85,7 +99,10 @@ fn put_count<E: Sink>(err: &mut E, name: &[u8], count: u64) -> Result<(), Failed
 }
 
 fn put_numbered<E: Sink>(err: &mut E, number: u32, words: &[u8]) -> Result<(), Failed>
-    ensures { Puts (numbered_line number words.now) (E.held err.old) (E.held err.new) (E.faults err.old) (E.faults err.new) result }
+    ensures all { OnOk result (Appends (E.held err.old) (E.held err.new) (numbered_line number words.now)) }
+    ensures prefix { TookPrefix (E.held err.old) (E.held err.new) (numbered_line number words.now) }
+    ensures failed { OnErr result (E.faults err.new ≡ one_more (E.faults err.old)) }
+    ensures same { OnOk result (E.faults err.new ≡ E.faults err.old) }
 {
     let mut choose = Buffer::new();
     let pieces = [
@@ -99,7 +116,10 @@ fn put_numbered<E: Sink>(err: &mut E, number: u32, words: &[u8]) -> Result<(), F
 }
 
 fn put_limit<E: Sink>(err: &mut E, number: u32, kind: &LimitKind, count: u64) -> Result<(), Failed>
-    ensures { Puts (choose_line number (refusals.Limit kind.now count)) (E.held err.old) (E.held err.new) (E.faults err.old) (E.faults err.new) result }
+    ensures all { OnOk result (Appends (E.held err.old) (E.held err.new) (choose_line number (refusals.Limit kind.now count))) }
+    ensures prefix { TookPrefix (E.held err.old) (E.held err.new) (choose_line number (refusals.Limit kind.now count)) }
+    ensures failed { OnErr result (E.faults err.new ≡ one_more (E.faults err.old)) }
+    ensures same { OnOk result (E.faults err.new ≡ E.faults err.old) }
 {
     let mut choose = Buffer::new();
     let mut limit = Buffer::new();
@@ -116,10 +136,13 @@ fn put_limit<E: Sink>(err: &mut E, number: u32, kind: &LimitKind, count: u64) ->
 }
 
 fn put_choose<E: Sink>(err: &mut E, number: u32, refusal: &Refusal) -> Result<(), Failed>
-    ensures { Puts (choose_line number refusal.now) (E.held err.old) (E.held err.new) (E.faults err.old) (E.faults err.new) result }
+    ensures all { OnOk result (Appends (E.held err.old) (E.held err.new) (choose_line number refusal.now)) }
+    ensures prefix { TookPrefix (E.held err.old) (E.held err.new) (choose_line number refusal.now) }
+    ensures failed { OnErr result (E.faults err.new ≡ one_more (E.faults err.old)) }
+    ensures same { OnOk result (E.faults err.new ≡ E.faults err.old) }
 {
     match refusal {
-        Refusal::Past => put_numbered(err, number, b"coefficient past 128 bits"),
+        Refusal::Past => put_numbered(err, number, b"coefficient past 128 bits".as_slice()),
         Refusal::Limit {
             kind,
             number: count,
@@ -128,39 +151,52 @@ fn put_choose<E: Sink>(err: &mut E, number: u32, refusal: &Refusal) -> Result<()
 }
 
 fn put_usage<E: Sink>(err: &mut E) -> Result<(), Failed>
-    ensures { Puts (words_line (codes "usage: comfusy compile|pre|check|run|exec|prove FILE, or comfusy verify FILE STEPS, or comfusy gen N")) (E.held err.old) (E.held err.new) (E.faults err.old) (E.faults err.new) result }
+    ensures all { OnOk result (Appends (E.held err.old) (E.held err.new)
+        (words_line (codes "usage: comfusy compile|pre|check|run|exec|prove FILE, or comfusy verify FILE STEPS, or comfusy gen N"))) }
+    ensures prefix { TookPrefix (E.held err.old) (E.held err.new)
+        (words_line (codes "usage: comfusy compile|pre|check|run|exec|prove FILE, or comfusy verify FILE STEPS, or comfusy gen N")) }
+    ensures failed { OnErr result (E.faults err.new ≡ one_more (E.faults err.old)) }
+    ensures same { OnOk result (E.faults err.new ≡ E.faults err.old) }
 {
     put_words(
         err,
-        b"usage: comfusy compile|pre|check|run|exec|prove FILE, or comfusy verify FILE STEPS, or comfusy gen N",
+        b"usage: comfusy compile|pre|check|run|exec|prove FILE, or comfusy verify FILE STEPS, or comfusy gen N".as_slice(),
     )
 }
 
 fn put_rule<E: Sink>(err: &mut E, fault: &TypeFault) -> Result<(), Failed>
-    ensures { Puts (rule_line fault.now) (E.held err.old) (E.held err.new) (E.faults err.old) (E.faults err.new) result }
+    ensures all { OnOk result (Appends (E.held err.old) (E.held err.new) (rule_line fault.now)) }
+    ensures prefix { TookPrefix (E.held err.old) (E.held err.new) (rule_line fault.now) }
+    ensures failed { OnErr result (E.faults err.new ≡ one_more (E.faults err.old)) }
+    ensures same { OnOk result (E.faults err.new ≡ E.faults err.old) }
 {
     match fault {
-        TypeFault::UnknownName(place) => put_place(err, place, b"unknown name"),
-        TypeFault::DuplicateName(place) => put_place(err, place, b"duplicate name"),
-        TypeFault::WrongCount(place) => put_place(err, place, b"wrong count"),
-        TypeFault::Mismatch(place) => put_place(err, place, b"type mismatch"),
-        TypeFault::CallsLater(place) => put_place(err, place, b"calls later function"),
-        TypeFault::NoMain => put_words(err, b"no main"),
-        TypeFault::NotLinear(place) => put_place(err, place, b"not linear"),
-        TypeFault::Weight(count) => put_count(err, b"Weight", *count),
-        TypeFault::Depth(count) => put_count(err, b"Depth", *count),
-        TypeFault::NoMemory => put_words(err, b"no memory"),
+        TypeFault::UnknownName(place) => put_place(err, place, b"unknown name".as_slice()),
+        TypeFault::DuplicateName(place) => put_place(err, place, b"duplicate name".as_slice()),
+        TypeFault::WrongCount(place) => put_place(err, place, b"wrong count".as_slice()),
+        TypeFault::Mismatch(place) => put_place(err, place, b"type mismatch".as_slice()),
+        TypeFault::CallsLater(place) => put_place(err, place, b"calls later function".as_slice()),
+        TypeFault::NoMain => put_words(err, b"no main".as_slice()),
+        TypeFault::NotLinear(place) => put_place(err, place, b"not linear".as_slice()),
+        TypeFault::Weight(count) => put_count(err, b"Weight".as_slice(), *count),
+        TypeFault::Depth(count) => put_count(err, b"Depth".as_slice(), *count),
+        TypeFault::NoMemory => put_words(err, b"no memory".as_slice()),
     }
 }
 
 fn put_steps<E: Sink>(err: &mut E, fault: &StepsFault) -> Result<(), Failed>
-    ensures { Puts (steps_line fault.now) (E.held err.old) (E.held err.new) (E.faults err.old) (E.faults err.new) result }
+    ensures all { OnOk result (Appends (E.held err.old) (E.held err.new) (steps_line fault.now)) }
+    ensures prefix { TookPrefix (E.held err.old) (E.held err.new) (steps_line fault.now) }
+    ensures failed { OnErr result (E.faults err.new ≡ one_more (E.faults err.old)) }
+    ensures same { OnOk result (E.faults err.new ≡ E.faults err.old) }
 {
     match fault {
-        StepsFault::TooLong => put_words(err, b"steps text too long"),
-        StepsFault::BadByte(place) => put_steps_place(err, place, b"bad byte"),
-        StepsFault::NumberPast(place) => { put_steps_place(err, place, b"number past limit") }
-        StepsFault::Syntax(place) => put_steps_place(err, place, b"syntax"),
+        StepsFault::TooLong => put_words(err, b"steps text too long".as_slice()),
+        StepsFault::BadByte(place) => put_steps_place(err, place, b"bad byte".as_slice()),
+        StepsFault::NumberPast(place) => {
+            put_steps_place(err, place, b"number past limit".as_slice())
+        }
+        StepsFault::Syntax(place) => put_steps_place(err, place, b"syntax".as_slice()),
     }
 }
 
@@ -173,7 +209,10 @@ struct StepPlace {
 }
 
 fn put_rejected_words<E: Sink>(err: &mut E, at: &StepPlace, words: &[u8]) -> Result<(), Failed>
-    ensures { Puts (rejected_words_line at.now.number at.now.case at.now.step words.now) (E.held err.old) (E.held err.new) (E.faults err.old) (E.faults err.new) result }
+    ensures all { OnOk result (Appends (E.held err.old) (E.held err.new) (rejected_words_line at.now.number at.now.case at.now.step words.now)) }
+    ensures prefix { TookPrefix (E.held err.old) (E.held err.new) (rejected_words_line at.now.number at.now.case at.now.step words.now) }
+    ensures failed { OnErr result (E.faults err.new ≡ one_more (E.faults err.old)) }
+    ensures same { OnOk result (E.faults err.new ≡ E.faults err.old) }
 {
     let mut choose = Buffer::new();
     let mut case = Buffer::new();
@@ -198,7 +237,12 @@ fn put_rejected_limit<E: Sink>(
     kind: &LimitKind,
     count: u64,
 ) -> Result<(), Failed>
-    ensures { Puts (rejected_words_line at.now.number at.now.case at.now.step (refusal_text (refusals.Limit kind.now count))) (E.held err.old) (E.held err.new) (E.faults err.old) (E.faults err.new) result }
+    ensures all { OnOk result (Appends (E.held err.old) (E.held err.new)
+        (rejected_words_line at.now.number at.now.case at.now.step (refusal_text (refusals.Limit kind.now count)))) }
+    ensures prefix { TookPrefix (E.held err.old) (E.held err.new)
+        (rejected_words_line at.now.number at.now.case at.now.step (refusal_text (refusals.Limit kind.now count))) }
+    ensures failed { OnErr result (E.faults err.new ≡ one_more (E.faults err.old)) }
+    ensures same { OnOk result (E.faults err.new ≡ E.faults err.old) }
 {
     let mut choose = Buffer::new();
     let mut case = Buffer::new();
@@ -225,43 +269,54 @@ fn put_rejected_refusal<E: Sink>(
     at: &StepPlace,
     refusal: &Refusal,
 ) -> Result<(), Failed>
-    ensures { Puts (rejected_words_line at.now.number at.now.case at.now.step (refusal_text refusal.now)) (E.held err.old) (E.held err.new) (E.faults err.old) (E.faults err.new) result }
+    ensures all { OnOk result (Appends (E.held err.old) (E.held err.new)
+        (rejected_words_line at.now.number at.now.case at.now.step (refusal_text refusal.now))) }
+    ensures prefix { TookPrefix (E.held err.old) (E.held err.new)
+        (rejected_words_line at.now.number at.now.case at.now.step (refusal_text refusal.now)) }
+    ensures failed { OnErr result (E.faults err.new ≡ one_more (E.faults err.old)) }
+    ensures same { OnOk result (E.faults err.new ≡ E.faults err.old) }
 {
     match refusal {
-        Refusal::Past => put_rejected_words(err, at, b"coefficient past 128 bits"),
+        Refusal::Past => put_rejected_words(err, at, b"coefficient past 128 bits".as_slice()),
         Refusal::Limit { kind, number } => put_rejected_limit(err, at, kind, *number),
     }
 }
 
 fn put_rejected<E: Sink>(err: &mut E, at: &StepPlace, why: &Why) -> Result<(), Failed>
-    ensures { Puts (rejected_line at.now.number at.now.case at.now.step why.now) (E.held err.old) (E.held err.new) (E.faults err.old) (E.faults err.new) result }
+    ensures all { OnOk result (Appends (E.held err.old) (E.held err.new) (rejected_line at.now.number at.now.case at.now.step why.now)) }
+    ensures prefix { TookPrefix (E.held err.old) (E.held err.new) (rejected_line at.now.number at.now.case at.now.step why.now) }
+    ensures failed { OnErr result (E.faults err.new ≡ one_more (E.faults err.old)) }
+    ensures same { OnOk result (E.faults err.new ≡ E.faults err.old) }
 {
     match why {
-        Why::Unknown => put_rejected_words(err, at, b"not an unknown"),
-        Why::Factor => put_rejected_words(err, at, b"not invertible"),
-        Why::Single => put_rejected_words(err, at, b"not one unknown"),
-        Why::Held => put_rejected_words(err, at, b"held by an equation"),
-        Why::Exact => put_rejected_words(err, at, b"pair without coefficient 1"),
-        Why::Left => put_rejected_words(err, at, b"not finished"),
-        Why::Blocks => put_rejected_words(err, at, b"wrong blocks"),
-        Why::Code => put_rejected_words(err, at, b"code differs"),
+        Why::Unknown => put_rejected_words(err, at, b"not an unknown".as_slice()),
+        Why::Factor => put_rejected_words(err, at, b"not invertible".as_slice()),
+        Why::Single => put_rejected_words(err, at, b"not one unknown".as_slice()),
+        Why::Held => put_rejected_words(err, at, b"held by an equation".as_slice()),
+        Why::Exact => put_rejected_words(err, at, b"pair without coefficient 1".as_slice()),
+        Why::Left => put_rejected_words(err, at, b"not finished".as_slice()),
+        Why::Blocks => put_rejected_words(err, at, b"wrong blocks".as_slice()),
+        Why::Code => put_rejected_words(err, at, b"code differs".as_slice()),
         Why::Refused(refusal) => put_rejected_refusal(err, at, refusal),
     }
 }
 
 fn put_fault<E: Sink>(err: &mut E, fault: &Fault) -> Result<(), Failed>
-    ensures { Puts (fault_line fault.now) (E.held err.old) (E.held err.new) (E.faults err.old) (E.faults err.new) result }
+    ensures all { OnOk result (Appends (E.held err.old) (E.held err.new) (fault_line fault.now)) }
+    ensures prefix { TookPrefix (E.held err.old) (E.held err.new) (fault_line fault.now) }
+    ensures failed { OnErr result (E.faults err.new ≡ one_more (E.faults err.old)) }
+    ensures same { OnOk result (E.faults err.new ≡ E.faults err.old) }
 {
     match fault {
         Fault::Usage => put_usage(err),
-        Fault::File => put_words(err, b"cannot read file"),
-        Fault::TextTooLong => put_words(err, b"text too long"),
-        Fault::BadByte(place) => put_place(err, place, b"bad byte"),
-        Fault::NumberPast(place) => put_place(err, place, b"number past limit"),
-        Fault::Syntax(place) => put_place(err, place, b"syntax"),
+        Fault::File => put_words(err, b"cannot read file".as_slice()),
+        Fault::TextTooLong => put_words(err, b"text too long".as_slice()),
+        Fault::BadByte(place) => put_place(err, place, b"bad byte".as_slice()),
+        Fault::NumberPast(place) => put_place(err, place, b"number past limit".as_slice()),
+        Fault::Syntax(place) => put_place(err, place, b"syntax".as_slice()),
         Fault::Rule(fault) => put_rule(err, fault),
         Fault::Choose { number, refusal } => put_choose(err, *number, refusal),
-        Fault::BadTarget => put_words(err, b"target not well typed"),
+        Fault::BadTarget => put_words(err, b"target not well typed".as_slice()),
         Fault::Steps(fault) => put_steps(err, fault),
         Fault::Rejected {
             number,
@@ -276,10 +331,10 @@ fn put_fault<E: Sink>(err: &mut E, fault: &Fault) -> Result<(), Failed>
             };
             put_rejected(err, &at, why)
         }
-        Fault::Input => put_words(err, b"cannot read input"),
-        Fault::Output => put_words(err, b"cannot write output"),
-        Fault::InputTooLong => put_words(err, b"input too long"),
-        Fault::NoMemory => put_words(err, b"no memory"),
+        Fault::Input => put_words(err, b"cannot read input".as_slice()),
+        Fault::Output => put_words(err, b"cannot write output".as_slice()),
+        Fault::InputTooLong => put_words(err, b"input too long".as_slice()),
+        Fault::NoMemory => put_words(err, b"no memory".as_slice()),
     }
 }
 

@@ -1,5 +1,6 @@
 use Rattle.std.proofs.Common.{arith, rules}
 use Rattle.std.proofs.lemmas.Grind.{common_steps}
+use Rattle.std.proofs.lemmas.Result.{err_from_is_err_and}
 use Rattle.cf_answer.specs.Steps.{answerer_of}
 use Rattle.cf_answer.proofs.StepLemmas.{runs_input, stopped_next}
 use Rattle.cf_answer.proofs.input.answer_next.Goals as goal
@@ -8,7 +9,9 @@ pub returns-in-Err-clause-fault : goal.returns-in-Err-clause-fault
 returns-in-Err-clause-fault g c = λ left old total r few. runs_input (answerer_of c.args.answerer.now) left _ _ _ old _ total r
     (omega (arith, few, c.requires.some)) c.in-Err.ensures.bytes
 
-pub returns-in-Err-answer_piece-clause-fault : goal.returns-in-Err-answer_piece-clause-fault
-returns-in-Err-answer_piece-clause-fault g c = λ left old total r most.
+pub returns-in_err-answer_piece-clause-fault : goal.returns-in_err-answer_piece-clause-fault
+returns-in_err-answer_piece-clause-fault g c =
+    let p = err_from_is_err_and c.from_residual.result c.from_residual.ensures.1 in
+    rw (p.1, p.2) (λ left old total r most.
     stopped_next (answerer_of c.args.answerer.now) _ _ _ _ _ _ _ _ c.in-Ok.ensures.bytes.0 (first_of (search rules, grind (arith, common_steps)))
-    c.in-Err-answer_piece.ensures.fault c.in-Err-answer_piece.ensures.some left old total r most
+    c.in_err-answer_piece.ensures.fault c.in_err-answer_piece.ensures.some left old total r most)

@@ -1,9 +1,11 @@
-use Rattle.cf_answer.proofs.PieceLemmas.{puts_same, rejected_limit}
+use Rattle.std.proofs.Common.{subst}
+use Rattle.cf_io.specs.Bytes.{TookPrefix}
+use Rattle.cf_answer.proofs.PieceLemmas.{rejected_limit}
 use Rattle.cf_answer.proofs.tell.put_rejected_limit.Goals as goal
 
-pub returns : goal.returns
-returns g c =
-    puts_same (rejected_limit c.args.at.now.number c.args.at.now.case c.args.at.now.step c.args.kind.now c.args.count)
+pub returns-clause-prefix : goal.returns-clause-prefix
+returns-clause-prefix g c =
+    subst (TookPrefix _ _) (rejected_limit c.args.at.now.number c.args.at.now.case c.args.at.now.step c.args.kind.now c.args.count)
     (rw (
       c.as_slice.ensures,
       c.as_bytes.ensures.value,
@@ -20,4 +22,4 @@ returns g c =
       c.as_bytes-4.ensures.value,
       c.format-4.ensures.text,
       c.as_slice-6.ensures,
-    ) at c.put.ensures)
+    ) at c.put.ensures.prefix)

@@ -1,7 +1,7 @@
 use Rattle.cf_answer.proofs.tell.put_rejected_words.Goals as goal
 
-pub returns : goal.returns
-returns g c =
+pub returns-clause-prefix : goal.returns-clause-prefix
+returns-clause-prefix g c =
     rw (
       c.as_slice.ensures,
       c.as_bytes.ensures.value,
@@ -14,4 +14,4 @@ returns g c =
       c.format-3.ensures.text,
       c.as_slice-4.ensures,
       c.as_slice-5.ensures,
-    ) at c.put.ensures
+    ) at c.put.ensures.prefix
