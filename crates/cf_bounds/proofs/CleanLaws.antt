@@ -15,12 +15,12 @@ use Rattle.cf_linear.specs.Views.{system_of, step_of}
 use Rattle.cf_linear.proofs.BoolLemmas.{on_bool}
 use Rattle.cf_linear.proofs.FormedLemmas.{low_from}
 use Rattle.cf_linear.proofs.KindLemmas.{EachRow-filter}
+use Rattle.cf_parts.specs.Parts.{divides_known, divided_by}
+use Rattle.cf_parts.specs.Unknowns.{HaveSame}
 use Rattle.cf_bounds.specs.declared.cleaning.Cleaned.{Cleaned}
 use Rattle.cf_bounds.specs.declared.cleaning.Tight.{Tight}
 use Rattle.cf_bounds.specs.CleanAnswers.{cleaned, tight_of}
-use Rattle.cf_bounds.specs.Sides.{divides_known, divided_by}
 use Rattle.cf_bounds.specs.Cleaning.{needs_of, tightened, held_of, joined}
-use Rattle.cf_bounds.specs.Unknowns.{HaveSame}
 use Rattle.cf_bounds.proofs.ListLemmas.{all_below}
 use Rattle.cf_bounds.proofs.OwesLemmas.{clean_step}
 use Rattle.cf_bounds.proofs.FormedAgain.{clean_formed}

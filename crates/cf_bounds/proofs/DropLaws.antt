@@ -1,10 +1,10 @@
 -- The answer of a drop, of its parts.
-use Rattle.std.proofs.Common.{◌≡◌, ℕ, ℤ, neg_ℤ, ◌++◌, List, Bool, true, false, Result, Ok, Err, refl, sym, ◌∙◌, ap, subst}
+use Rattle.std.proofs.Common.{◌≡◌, ℕ, ◌++◌, List, Bool, true, false, Result, Ok, Err, refl, sym, ◌∙◌, ap, subst}
 use Rattle.std.specs.Prelude.{IfOk}
 use Rattle.cf_linear.specs.declared.refusal.RowFault.{RowFault}
-use Rattle.cf_linear.specs.Rows.{Row, entry, comb, comb_passes, without}
+use Rattle.cf_linear.specs.Rows.{Row}
 use Rattle.cf_linear.specs.Systems.{System, How, Answer}
-use Rattle.cf_linear.specs.Steps.{free_of, pair_row, pair_passes, pairs_of, how_between, dropped, drop_passes}
+use Rattle.cf_linear.specs.Steps.{free_of, pairs_of, how_between, dropped, drop_passes}
 use Rattle.cf_linear.specs.Keep.{In, Formed}
 use Rattle.cf_linear.specs.Solved.{Owes}
 use Rattle.cf_linear.specs.Views.{system_of}
@@ -36,19 +36,3 @@ pub drop_forms : (m : System) (x : ℕ) (r : Result Dropped RowFault) → Formed
     IfOk r (λ d. Formed (system_of d.system))
 drop_forms m x (Ok d) f free e = subst Formed (sym (ap (λ a. a.system) e)) (dropped_formed m x f free)
 drop_forms m x (Err z) f free e = tt
-
--- ---- one pair
-module _ (x : ℕ) (low high l m : Row) (a b : ℤ) (r : Result Row RowFault) where
-  pub pair_value : IfOk r (λ y. y ≡ comb a l b m) → l ≡ without x low → m ≡ without x high → a ≡ neg_ℤ (entry high x) → b ≡ entry low x →
-      IfOk r (λ y. y ≡ pair_row x low high)
-  pair_value h el em ea eb =
-      subst (λ z. IfOk r (λ y. y ≡ comb (neg_ℤ (entry high x)) (without x low) (entry low x) z)) em
-      (subst (λ z. IfOk r (λ y. y ≡ comb (neg_ℤ (entry high x)) (without x low) z m)) eb
-      (subst (λ z. IfOk r (λ y. y ≡ comb (neg_ℤ (entry high x)) z b m)) el (subst (λ z. IfOk r (λ y. y ≡ comb z l b m)) ea h)))
-
-  pub pair_fits : IfOk r (λ y. comb_passes a l b m ≡ false) → l ≡ without x low → m ≡ without x high → a ≡ neg_ℤ (entry high x) → b ≡ entry low x →
-      IfOk r (λ y. pair_passes x low high ≡ false)
-  pair_fits h el em ea eb =
-      subst (λ z. IfOk r (λ y. comb_passes (neg_ℤ (entry high x)) (without x low) (entry low x) z ≡ false)) em
-      (subst (λ z. IfOk r (λ y. comb_passes (neg_ℤ (entry high x)) (without x low) z m ≡ false)) eb
-      (subst (λ z. IfOk r (λ y. comb_passes (neg_ℤ (entry high x)) z b m ≡ false)) el (subst (λ z. IfOk r (λ y. comb_passes z l b m ≡ false)) ea h)))

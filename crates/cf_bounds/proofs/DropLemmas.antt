@@ -4,7 +4,7 @@ use Rattle.std.specs.Prelude.{◌≤ℤ◌, ◌<ℤ◌, map, int_lt}
 use Rattle.std.specs.List.{fold}
 use Rattle.std.specs.Int.{int_div_euclid, int_max, int_min}
 use Rattle.std.proofs.lemmas.Int.{ints, clamps}
-use Rattle.std.proofs.lemmas.Bool.{cond_both, ltb-true, lt-ltb}
+use Rattle.std.proofs.lemmas.Bool.{cond_both, lt-ltb}
 use Rattle.cf_num.proofs.Ring.{ring, mul_comm_z}
 use Rattle.cf_linear.specs.Rows.{Row, Values, entry, value, is_zero, without}
 use Rattle.cf_linear.specs.Systems.{System, EachRow}
@@ -13,6 +13,7 @@ use Rattle.cf_linear.specs.Keep.{Keeps, update, how_value}
 use Rattle.cf_linear.proofs.RowLemmas.{value-comb, zero_from_is_zero}
 use Rattle.cf_linear.proofs.KindLemmas.{IsZero, IsNonneg, EachRow-append, EachRow-split, EachRow-filter, EachRow-with, EachRow-tested}
 use Rattle.cf_linear.proofs.ValueLemmas.{value-split, value-update}
+use Rattle.cf_parts.proofs.SideLemmas.{positive_so, negative_so}
 use Rattle.cf_bounds.specs.Exact.{IsExact, IsFree}
 use Rattle.cf_bounds.proofs.Arithmetic.{pair_from, lower_iff, upper_iff, pair_meets}
 
@@ -22,15 +23,6 @@ Lower x r = pos 0 <ℤ entry r x
 
 abbrev pub Upper : ℕ → Row → Type 0
 Upper x r = entry r x <ℤ pos 0
-
-pub positive_so : (k : ℤ) → is_positive k ≡ true → pos 0 <ℤ k
-positive_so (pos zero) e = cc e
-positive_so (pos (suc n)) e = omega (arith, ints)
-positive_so (negsuc n) e = cc e
-
-pub negative_so : (k : ℤ) → int_lt k (pos 0) ≡ true → k <ℤ pos 0
-negative_so (pos n) e = absurd (let h = ltb-true n 0 e in omega arith)
-negative_so (negsuc n) e = omega (arith, ints)
 
 value-pair : (v : Values) (x : ℕ) (l u : Row) → value v (pair_row x l u) ≡ neg_ℤ (entry u x) *ℤ value v (without x l) +ℤ entry l x *ℤ value v (without x u)
 value-pair v x l u = value-comb v (neg_ℤ (entry u x)) (without x l) (entry l x) (without x u)

@@ -11,9 +11,10 @@ use Rattle.cf_linear.specs.Steps.{Pick, pick_at, is_better, best, pick, has_grea
 use Rattle.cf_linear.specs.Keep.{In}
 use Rattle.cf_linear.proofs.BoolLemmas.{on_bool}
 use Rattle.cf_linear.proofs.KindLemmas.{EachRow-tested, EachRow-with, EachRow-weaker}
+use Rattle.cf_parts.proofs.SideLemmas.{positive_so, negative_so}
 use Rattle.cf_bounds.specs.Exact.{IsExact, AreExact}
 use Rattle.cf_bounds.specs.Sides.{times_entry}
-use Rattle.cf_bounds.proofs.DropLemmas.{Lower, Upper, positive_so, negative_so}
+use Rattle.cf_bounds.proofs.DropLemmas.{Lower, Upper}
 
 best_is : (P : Pick → Type 0) (rows : List Row) (us : List ℕ) (c : Pick) → P c → ((u : ℕ) → In u us → P (pick_at rows u)) → P (best c (map (pick_at rows) us))
 best_is P rows [] c h k = h

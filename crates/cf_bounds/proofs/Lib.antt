@@ -8,7 +8,6 @@ pub mod ExactLaws
 pub mod FormedAgain
 pub mod ListLemmas
 pub mod OwesLemmas
-pub mod PartLemmas
 pub mod PickLaws
 pub mod SearchFormed
 pub mod SearchLaws

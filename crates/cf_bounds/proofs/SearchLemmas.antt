@@ -1,19 +1,19 @@
 -- The search over remainders keeps the solutions, each at one tuple.
 use Rattle.std.proofs.Common.{◌≡◌, ℕ, ◌<◌, ◌≤◌, ◌+◌, ℤ, pos, negsuc, neg_ℤ, ◌+ℤ◌, ◌-ℤ◌, ◌*ℤ◌, List, [], ◌∷◌, ◌++◌, Bool, true, false, not, ◌==◌, refl, sym, ◌∙◌, ap, arith, subst}
-use Rattle.std.specs.Prelude.{◌≤ℤ◌, ◌<ℤ◌, int_lt, unsigned_abs, nat_lt}
+use Rattle.std.specs.Prelude.{◌≤ℤ◌, ◌<ℤ◌, unsigned_abs}
 use Rattle.std.proofs.lemmas.Int.{ints}
-use Rattle.std.proofs.lemmas.Bool.{cond_both, ltb-true, and_parts, eqb-true, eqb-false}
+use Rattle.std.proofs.lemmas.Bool.{cond_both, eqb-true, eqb-false}
 use Rattle.cf_num.proofs.Ring.{ring}
 use Rattle.cf_linear.specs.Rows.{Row, Values, entry, value, without}
 use Rattle.cf_linear.specs.Systems.{System, EachRow, Sat}
-use Rattle.cf_linear.specs.Steps.{is_positive, one_at, two_at, Found, searches, search_equation, search_bound, found_row, found_all, no_found, searched}
+use Rattle.cf_linear.specs.Steps.{one_at, two_at, Found, searches, search_equation, search_bound, found_row, found_all, no_found, searched}
 use Rattle.cf_linear.specs.Keep.{Same, Keeps, Continues, ContinuesOnce, Within, update}
 use Rattle.cf_linear.proofs.RowLemmas.{value-comb}
 use Rattle.cf_linear.proofs.KindLemmas.{IsZero, IsNonneg, Below, EachRow-append, EachRow-split, EachRow-below_more, Below-more, Over-comb, Over-filter}
 use Rattle.cf_linear.proofs.ValueLemmas.{EachRow-same, one_z, value-same, value-split, update-at, update-same, Same-trans, Within-append, Within-split}
 use Rattle.cf_linear.proofs.FormedLemmas.{Low}
+use Rattle.cf_parts.proofs.SideLemmas.{Sided, sided}
 use Rattle.cf_bounds.proofs.Arithmetic.{search_from, search_back, search_once, zero_value, nonneg_value}
-use Rattle.cf_bounds.proofs.DropLemmas.{positive_so, negative_so}
 
 abbrev pub BoundsBelow : ℕ → List (ℕ × ℕ) → Type 0
 BoundsBelow n [] = Unit {0}
@@ -111,21 +111,6 @@ placed_from : (lower : Bool) (w : Values) (x k : ℕ) (r : Row) → IsZero w (se
     Placed lower (pos (unsigned_abs (entry r x))) (value w (without x r)) (w x) (w k) (w (k + 1))
 placed_from true w x k r e b = (sym (equation_low w x k r) ∙ e, subst (λ y. pos 0 ≤ℤ y) (bound_low w x k) b)
 placed_from false w x k r e b = (sym (equation_high w x k r) ∙ e, subst (λ y. pos 0 ≤ℤ y) (bound_high w x k) b)
-
--- the coefficient, by the side
-abbrev Sided : Bool → ℤ → Type 0
-Sided true c = c ≡ pos (unsigned_abs c)
-Sided false c = c ≡ neg_ℤ (pos (unsigned_abs c))
-
-pub sided : (lower : Bool) (x : ℕ) (r : Row) → searches x lower r ≡ true → (1 < unsigned_abs (entry r x)) × Sided lower (entry r x)
-sided true x r e =
-    let h = and_parts (nat_lt 1 (unsigned_abs (entry r x))) (is_positive (entry r x)) e in
-    let p = positive_so (entry r x) h.1 in
-    (ltb-true 1 (unsigned_abs (entry r x)) h.0, omega (arith, ints))
-sided false x r e =
-    let h = and_parts (nat_lt 1 (unsigned_abs (entry r x))) (int_lt (entry r x) (pos 0)) e in
-    let p = negative_so (entry r x) h.1 in
-    (ltb-true 1 (unsigned_abs (entry r x)) h.0, omega (arith, ints))
 
 turned : (p l k n : ℤ) → neg_ℤ l +ℤ k -ℤ p *ℤ n ≡ pos 0 → l -ℤ k -ℤ p *ℤ neg_ℤ n ≡ pos 0
 turned p l k n e = simp ring (omega (arith, ints))

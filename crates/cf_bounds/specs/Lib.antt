@@ -5,4 +5,3 @@ pub mod CleanAnswers
 pub mod Picking
 pub mod Searching
 pub mod Sides
-pub mod Unknowns

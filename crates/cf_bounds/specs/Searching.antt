@@ -1,8 +1,8 @@
 -- What `remainder_step` and its private calls answer.
-use Rattle.std.specs.Prelude.{ℕ, ◌+◌, ◌∷◌, ◌++◌, ℤ, pos, negsuc, unsigned_abs, nat_lt, ◌&&◌, map, [], Bool, if◌then◌else◌}
+use Rattle.std.specs.Prelude.{ℕ, ◌+◌, ◌∷◌, ◌++◌, ℤ, unsigned_abs, nat_lt, ◌&&◌, map, [], Bool}
 use Rattle.cf_bounds.specs.declared.searching.Searched.{Searched}
 use Rattle.cf_bounds.specs.declared.searching.SearchBuilder.{SearchBuilder}
-use Rattle.cf_linear.specs.Rows.{Row, comb, without}
+use Rattle.cf_linear.specs.Rows.{Row}
 use Rattle.cf_linear.specs.Systems.{Answer}
 use Rattle.cf_linear.specs.Steps.{Found}
 use Rattle.cf_linear.specs.Views.{system_of, bound_of}
@@ -40,7 +40,3 @@ found_with s equation rest bound = record {
 -- a coefficient above 1 of a bound on the side
 abbrev pub is_searched : Bool → ℤ → Bool
 is_searched lower k = nat_lt 1 (unsigned_abs k) && is_side lower k
-
--- the rest of the bound, with the other signs for a lower one
-abbrev pub equation_start : ℕ → Bool → Row → Row
-equation_start x lower r = comb (if lower then negsuc 0 else pos 1) (without x r) (pos 0) []

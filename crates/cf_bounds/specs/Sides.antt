@@ -1,9 +1,8 @@
 -- The bounds of an unknown on one side.
-use Rattle.std.specs.Prelude.{ℕ, ◌*◌, ◌-◌, ◌^◌, ℤ, pos, int_lt, unsigned_abs, min, nat_lt, Bool, ◌&&◌, ◌||◌, ◌==◌, List, filter, if◌then◌else◌}
-use Rattle.std.specs.List.{fold, list_all}
-use Rattle.std.specs.Int.{int_rem_euclid}
-use Rattle.cf_linear.specs.Rows.{Row, entry, is_zero}
-use Rattle.cf_linear.specs.Steps.{is_positive, divided}
+use Rattle.std.specs.Prelude.{ℕ, ◌*◌, ◌-◌, ◌^◌, ℤ, pos, int_lt, unsigned_abs, min, nat_lt, Bool, ◌&&◌, List, filter, if◌then◌else◌}
+use Rattle.std.specs.List.{fold}
+use Rattle.cf_linear.specs.Rows.{Row, entry}
+use Rattle.cf_linear.specs.Steps.{is_positive}
 
 -- a coefficient of a lower bound, or of an upper one
 abbrev pub is_side : Bool → ℤ → Bool
@@ -19,14 +18,6 @@ is_great lower x r = is_side lower (entry r x) && nat_lt 1 (unsigned_abs (entry 
 -- a product that stops at 2^64 - 1
 abbrev pub times_entry : ℕ → ℕ → Row → ℕ
 times_entry x n r = min (n * unsigned_abs (entry r x)) (2 ^ 64 - 1)
-
--- whether g, above 0, divides each entry but that of column 0
-abbrev pub divides_known : ℤ → Row → Bool
-divides_known g r = list_all (λ (c, k). (c == 0) || is_zero (int_rem_euclid k g)) r
-
--- each entry divided by g, above 0, and rounded down
-abbrev pub divided_by : ℤ → Row → Row
-divided_by g r = divided (unsigned_abs g) r
 
 -- n times the coefficients of x on the side
 abbrev pub side_product : Bool → ℕ → ℕ → List Row → ℕ

@@ -1,5 +1,5 @@
 //! The drop of an unknown that no equation holds.
-ghost use Rattle.std.specs.Prelude.{◌≡◌, ◌++◌, ◌∷◌, [], pos, neg_ℤ, not, ◌==◌, map, filter, true, false, Err, IfOk, OnOk};
+ghost use Rattle.std.specs.Prelude.{◌≡◌, ◌++◌, neg_ℤ, map, true, false, Err, IfOk, OnOk};
 ghost use Rattle.std.specs.List.{list_any};
 ghost use Rattle.cf_linear.specs.Rows.{entry, without};
 ghost use Rattle.cf_linear.specs.Steps.{free_of, pair_row, pair_passes, pairs_of, how_between, dropped, drop_passes};
@@ -10,12 +10,13 @@ ghost use Rattle.cf_bounds.specs.Exact.{IsFree, AreExact};
 ghost use Rattle.cf_bounds.specs.Sides.{side};
 ghost use Rattle.cf_bounds.specs.Dropping.{dropped_answer, bound_pair, pairs_pass, with_rows};
 
-use crate::parts::{add_copy, add_row, split_system};
+use crate::lists::{add_copy, add_row, split_system};
 use crate::selection::is_side;
 use cf_linear::refusal::RowFault;
 use cf_linear::row::Row;
 use cf_linear::system::{Back, Divided, How, System};
 use cf_num::neg;
+use cf_parts::others;
 use cf_tree::memory::NoMemory;
 use std::alloc::Global;
 
@@ -96,19 +97,6 @@ fn with_rows(
         },
         back: Back { unknown, how },
     })
-}
-
-// The other unknowns.
-fn others(alloc: Global, unknowns: &[u32], unknown: u32) -> Result<Vec<u32>, NoMemory>
-    ensures { IfOk result (λ s. s.items ≡ filter (λ w. not (w == unknown)) unknowns.now) }
-{
-    let mut out = Vec::new(alloc);
-    for w in unknowns {
-        if *w != unknown {
-            out.push(*w)?;
-        }
-    }
-    Ok(out)
 }
 
 // The bounds of the unknown on the side.
@@ -199,7 +187,6 @@ fn add_pairs_of(
 }
 
 // `q * l + p * m` for a lower bound `p * x + l >= 0` and an upper bound `-q * x + m >= 0`.
-#[tactic(auto, using(crate::proofs::DropLaws::pair_value, crate::proofs::DropLaws::pair_fits))]
 fn pair(alloc: Global, unknown: u32, low: &Row, high: &Row) -> Result<Row, RowFault>
     ensures value { IfOk result (λ r. r ≡ pair_row unknown low.now high.now) }
     ensures fits { IfOk result (λ r. pair_passes unknown low.now high.now ≡ false) }

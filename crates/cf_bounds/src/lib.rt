@@ -3,10 +3,9 @@
 
 mod cleaning;
 mod dropping;
-mod parts;
+mod lists;
 mod searching;
 mod selection;
-mod unknowns;
 
 pub use crate::cleaning::{Cleaned, clean};
 pub use crate::dropping::{Dropped, drop_output};

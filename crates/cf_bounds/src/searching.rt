@@ -1,20 +1,19 @@
 //! The search over the remainders of a side's bounds.
-ghost use Rattle.std.specs.Prelude.{◌≡◌, ◌<◌, ◌≤◌, ◌+◌, ◌^◌, pos, negsuc, neg_ℤ, unsigned_abs, if◌then◌else◌, true, IfOk, OnOk};
-ghost use Rattle.cf_num.specs.Limit.{IsWithin};
+ghost use Rattle.std.specs.Prelude.{◌≡◌, ◌<◌, ◌≤◌, ◌+◌, unsigned_abs, true, IfOk, OnOk};
 ghost use Rattle.cf_linear.specs.Rows.{AreBelow};
 ghost use Rattle.cf_linear.specs.Systems.{EachRow};
-ghost use Rattle.cf_linear.specs.Steps.{searches, search_equation, search_bound, found_row, found_all, searched_as, searched};
+ghost use Rattle.cf_linear.specs.Steps.{searches, found_row, found_all, searched_as, searched};
 ghost use Rattle.cf_linear.specs.Keep.{In, Formed, ContinuesOnce};
 ghost use Rattle.cf_linear.specs.Solved.{Owes};
 ghost use Rattle.cf_linear.specs.Views.{system_of};
 ghost use Rattle.cf_bounds.specs.Exact.{IsFree, AreExact};
-ghost use Rattle.cf_bounds.specs.Searching.{searched_answer, found_of, found_from, found_with, equation_start, is_searched};
+ghost use Rattle.cf_bounds.specs.Searching.{searched_answer, found_of, found_from, found_with, is_searched};
 
-use crate::parts::{joined_columns, joined_rows, split_system};
+use crate::lists::{joined_columns, joined_rows, split_system};
 use crate::selection::{Pick, is_side};
 use cf_linear::row::Row;
 use cf_linear::system::{Search, System};
-use cf_num::neg;
+use cf_parts::{search_bound, search_column, search_equation};
 use cf_tree::memory::NoMemory;
 use std::alloc::Global;
 
@@ -123,78 +122,6 @@ fn searches(lower: bool, k: i128) -> bool
     k.unsigned_abs() > 1 && is_side(lower, k)
 }
 
-// The size of the coefficient; a search with one of more than 32 bits is past its limit, and gets no memory.
-fn size(k: i128) -> Result<u32, NoMemory>
-    ensures { IfOk result (λ n. n ≡ unsigned_abs k) }
-{
-    let size = k.unsigned_abs();
-    if size > u32::MAX as u128 {
-        Err(NoMemory)
-    } else {
-        Ok(size as u32)
-    }
-}
-
-// `-l + k - p * n` for a lower bound `p * x + l >= 0`, and `m - k - q * n` for an upper bound `-q * x + m >= 0`,
-// k being the column and n the next one.
-#[tactic(auto, using(crate::proofs::SearchLaws::start_below))]
-fn search_equation(
-    alloc: Global,
-    unknown: u32,
-    lower: bool,
-    column: u32,
-    row: &Row,
-) -> Result<Row, NoMemory>
-    requires below { AreBelow column row.now }
-    requires room { column + 1 < 2 ^ 32 }
-    requires wanted { searches unknown lower row.now ≡ true }
-    ensures { IfOk result (λ r. r ≡ search_equation unknown lower column row.now) }
-{
-    let k = row.entry(unknown);
-    let mut out = equation_start(alloc, unknown, lower, row)?;
-    out.append(column, side_sign(lower))?;
-    out.append(column + 1, side_coefficient(lower, k))?;
-    Ok(out)
-}
-
-fn side_sign(lower: bool) -> i128
-    ensures value { result ≡ (if lower then pos 1 else negsuc 0) }
-    ensures fits { IsWithin result }
-{
-    if lower { 1 } else { -1 }
-}
-
-// The coefficient, with the other sign for a lower bound.
-fn side_coefficient(lower: bool, k: i128) -> i128
-    requires { IsWithin k }
-    ensures value { result ≡ (if lower then neg_ℤ k else k) }
-    ensures fits { IsWithin result }
-{
-    if lower { neg(k) } else { k }
-}
-
-// The rest of the bound, with the other signs for a lower one.
-#[tactic(auto, using(crate::proofs::ListLemmas::comb_first))]
-fn equation_start(alloc: Global, unknown: u32, lower: bool, row: &Row) -> Result<Row, NoMemory>
-    ensures { IfOk result (λ r. r ≡ equation_start unknown lower row.now) }
-{
-    let rest = row.without(alloc, unknown)?;
-    if lower { rest.negated(alloc) } else { Ok(rest) }
-}
-
-// `x - n` for a lower bound, and `-x + n` for an upper one.
-fn search_bound(alloc: Global, unknown: u32, lower: bool, column: u32) -> Result<Row, NoMemory>
-    requires after { unknown < column }
-    requires room { column + 1 < 2 ^ 32 }
-    ensures { IfOk result (λ r. r ≡ search_bound unknown lower column) }
-{
-    if lower {
-        Row::two_at(alloc, 1, unknown, -1, column + 1)
-    } else {
-        Row::two_at(alloc, -1, unknown, 1, column + 1)
-    }
-}
-
 impl SearchBuilder {
     // Adds a row, or what takes its place.
     fn add(&mut self, alloc: Global, unknown: u32, lower: bool, row: Row) -> Result<(), NoMemory>
@@ -230,17 +157,24 @@ impl SearchBuilder {
         let Some(next) = column.checked_add(2) else {
             return Err(NoMemory);
         };
-        let bound = size(row.entry(unknown))?;
+        let search = search_column(column, row.entry(unknown))?;
         let equation = search_equation(alloc, unknown, lower, column, row)?;
         let rest = search_bound(alloc, unknown, lower, column)?;
-        self.extend(next, equation, rest, bound)?;
+        self.extend(next, equation, rest, search)?;
         Ok(())
     }
 
     // Adds the next column and unknown with these.
-    fn extend(&mut self, next: u32, equation: Row, rest: Row, bound: u32) -> Result<(), NoMemory>
-        requires { next ≡ self.old.next + 2 }
-        ensures value { OnOk result (found_of self.new ≡ found_with (found_of self.old) equation rest bound) }
+    fn extend(
+        &mut self,
+        next: u32,
+        equation: Row,
+        rest: Row,
+        search: Search,
+    ) -> Result<(), NoMemory>
+        requires next { next ≡ self.old.next + 2 }
+        requires column { search.column ≡ self.old.next }
+        ensures value { OnOk result (found_of self.new ≡ found_with (found_of self.old) equation rest search.bound) }
         ensures grown { OnOk result (self.old.next ≤ self.new.next) }
     {
         let column = self.next;
@@ -248,7 +182,7 @@ impl SearchBuilder {
         self.rows.push(rest)?;
         self.columns.push(column)?;
         self.unknowns.push(column + 1)?;
-        self.bounds.push(Search { column, bound })?;
+        self.bounds.push(search)?;
         self.next = next;
         Ok(())
     }

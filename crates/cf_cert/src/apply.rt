@@ -11,8 +11,8 @@ use crate::cleaning::clean_rows;
 use crate::ending::end_equation;
 use crate::mixing::mix_unknowns;
 use crate::next::{ApplyFault, Next};
-use cf_equation::merge::MergeFactors;
 use cf_linear::system::System;
+use cf_parts::MergeFactors;
 use cf_steps::act::Act;
 use std::alloc::Global;
 

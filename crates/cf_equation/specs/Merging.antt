@@ -1,19 +1,8 @@
 -- What the private calls of a Merge do.
-use Rattle.std.specs.Prelude.{ℕ, ◌+◌, Bool, ◌||◌}
-use Rattle.cf_num.specs.Limit.{IsWithin}
+use Rattle.std.specs.Prelude.{ℕ, ◌+◌, Bool, ◌||◌, List, [], ◌∷◌}
 use Rattle.cf_linear.specs.Rows.{Row, subst_row, subst_passes}
-use Rattle.cf_linear.specs.Systems.{System}
-use Rattle.cf_linear.specs.Steps.{Factors, subst_all, replaced}
-use Rattle.cf_equation.specs.declared.merge.MergeFactors.{MergeFactors}
-
-abbrev pub plain_factors : MergeFactors → Factors
-plain_factors f = record { s = f.s; m = f.m; t = f.t; n = f.n }
-
-pub record WithinFactors (f : MergeFactors) : Type 0 where
-  pub s : IsWithin f.s
-  pub m : IsWithin f.m
-  pub t : IsWithin f.t
-  pub n : IsWithin f.n
+use Rattle.cf_linear.specs.Systems.{System, How, row_how, Answer}
+use Rattle.cf_linear.specs.Steps.{subst_all, replaced}
 
 -- whether a row passes the limit as the row s comes in the place of y, and then the row r in the place of x
 abbrev pub mix_row_passes : ℕ → Row → ℕ → Row → Row → Bool
@@ -29,3 +18,11 @@ mixed_system m x r y s = record {
   inequalities = subst_all x r (subst_all y s m.inequalities);
   needs = m.needs;
 }
+
+-- the system, where the unknowns are computed so
+abbrev pub with_back : System → List (ℕ × How) → Answer
+with_back m back = record { system = m; steps = []; back = back; bounds = [] }
+
+-- the mixed system, where x and y are computed by the rows r and s
+abbrev pub mixed_answer : System → ℕ → Row → ℕ → Row → Answer
+mixed_answer m x r y s = with_back (mixed_system m x r y s) ((x, row_how r) ∷ (y, row_how s) ∷ [])

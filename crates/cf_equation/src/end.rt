@@ -1,11 +1,11 @@
 //! The end of an equation: its one unknown is computed.
-ghost use Rattle.std.specs.Prelude.{◌≡◌, ◌<◌, ◌∷◌, ◌++◌, List, [], pos, negsuc, neg_ℤ, if◌then◌else◌, not, ◌==◌, filter, true, false, unsigned_abs, length, map, drop, Err, IfOk};
+ghost use Rattle.std.specs.Prelude.{◌≡◌, ◌<◌, ◌∷◌, ◌++◌, List, [], pos, neg_ℤ, true, false, length, map, drop, Err, IfOk};
 ghost use Rattle.std.specs.List.{list_any};
 ghost use Rattle.cf_num.specs.Limit.{IsWithin};
 ghost use Rattle.cf_linear.specs.Rows.{entry, without, comb, subst_passes};
-ghost use Rattle.cf_linear.specs.Systems.{row_how, need_divides, floor_of};
-ghost use Rattle.cf_linear.specs.Steps.{is_unit, is_positive, last, last_passes};
-ghost use Rattle.cf_linear.specs.Views.{system_of, step_of, back_of};
+ghost use Rattle.cf_linear.specs.Systems.{row_how};
+ghost use Rattle.cf_linear.specs.Steps.{is_unit, last, last_passes};
+ghost use Rattle.cf_linear.specs.Views.{system_of, back_of};
 ghost use Rattle.cf_equation.specs.Equations.{reduced, first_of, rest_of};
 ghost use Rattle.cf_equation.specs.Ending.{IsLeft, IsSolution};
 
@@ -15,6 +15,7 @@ use cf_linear::refusal::RowFault;
 use cf_linear::row::Row;
 use cf_linear::system::{Back, How, Step, System};
 use cf_num::neg;
+use cf_parts::{division, others, size_of};
 use cf_tree::memory::NoMemory;
 use std::alloc::Global;
 
@@ -122,39 +123,31 @@ fn divided_solution(
     let column = system.next;
     let (next, needs) = match (column.checked_add(1), system.needs.checked_add(1)) {
         (Some(next), Some(needs)) => (next, needs),
-        _ => return Err(NoMemory),
+        _ => {
+            drop(known);
+            drop(rest);
+            return Err(NoMemory);
+        }
     };
-    let mut known = known;
-    known.push(column)?;
     let (size, sign) = size_of(c);
+    let steps = division(alloc, column, rest, size)?;
+    let known = with_column(known, column)?;
     Ok(Solution {
         row: Row::unit(alloc, column, sign)?,
         known,
         next,
         needs,
-        steps: division(alloc, column, rest, size)?,
+        steps,
     })
 }
 
-// The size of a coefficient, and the sign of the column that its unknown is.
-fn size_of(c: i128) -> (i128, i128)
-    requires { IsWithin c }
-    ensures size { result.0 ≡ pos (unsigned_abs c) }
-    ensures sign { result.1 ≡ (if is_positive c then negsuc 0 else pos 1) }
-    ensures sign_in { IsWithin result.1 }
+// The columns, and this one at the end.
+fn with_column(columns: Vec<u32>, column: u32) -> Result<Vec<u32>, NoMemory>
+    ensures { IfOk result (λ v. v.items ≡ columns.items ++ (column ∷ [])) }
 {
-    if c > 0 { (c, -1) } else { (neg(c), 1) }
-}
-
-// The need that the number divides the row, and the let of the quotient.
-fn division(alloc: Global, column: u32, row: Row, size: i128) -> Result<Vec<Step>, NoMemory>
-    ensures { IfOk result (λ v. map step_of v.items ≡ (need_divides size row ∷ floor_of column row size ∷ [])) }
-{
-    let copy = row.try_copy(alloc)?;
-    let mut steps = Vec::new(alloc);
-    steps.push(Step::NeedDivides(size, copy))?;
-    steps.push(Step::Let(column, row, size))?;
-    Ok(steps)
+    let mut all = columns;
+    all.push(column)?;
+    Ok(all)
 }
 
 // The unknown with the row that it is.
@@ -202,17 +195,4 @@ fn without_first(rows: Vec<Row>) -> Vec<Row>
     let mut rest = rows;
     rest.remove(0);
     rest
-}
-
-// The columns but u.
-fn others(alloc: Global, columns: &[u32], u: u32) -> Result<Vec<u32>, NoMemory>
-    ensures { IfOk result (λ v. v.items ≡ filter (λ w. not (w == u)) columns.now) }
-{
-    let mut out = Vec::new(alloc);
-    for c in columns {
-        if *c != u {
-            out.push(*c)?;
-        }
-    }
-    Ok(out)
 }

@@ -4,46 +4,26 @@ ghost use Rattle.std.specs.List.{list_any};
 ghost use Rattle.cf_num.specs.Limit.{IsWithin};
 ghost use Rattle.cf_linear.specs.Rows.{entry};
 ghost use Rattle.cf_linear.specs.Systems.{row_how};
-ghost use Rattle.cf_linear.specs.Steps.{subst_all, replaced, mix, mix_passes, factors_of, merge, merge_passes};
+ghost use Rattle.cf_linear.specs.Steps.{two_at, subst_all, replaced, mix, mix_passes, merge, merge_passes};
 ghost use Rattle.cf_linear.specs.Views.{system_of, back_of};
 ghost use Rattle.cf_equation.specs.Equations.{reduced, first_of};
-ghost use Rattle.cf_equation.specs.Merging.{plain_factors, mix_row_passes, mixed_system, WithinFactors};
+ghost use Rattle.cf_parts.specs.Merging.{WithinFactors};
+ghost use Rattle.cf_equation.specs.Merging.{mix_row_passes, mixed_system, mixed_answer, with_back};
 
 use crate::replace::subst_rows;
 use crate::step::Reduced;
 use cf_linear::refusal::RowFault;
 use cf_linear::row::Row;
 use cf_linear::system::{Back, How, System};
-use cf_num::{bezout, fdiv, neg};
+use cf_parts::{MergeFactors, factors};
 use cf_tree::memory::NoMemory;
 use std::alloc::Global;
 
-/// `x = s * u + m * v` and `y = t * u + n * v`, for the new unknowns u and v.
-#[derive(Clone, Copy)]
-pub struct MergeFactors {
-    pub s: i128,
-    pub m: i128,
-    pub t: i128,
-    pub n: i128,
-}
-
-/// The factors of a Merge of two unknowns with coefficients a and b, which are within the limit and
-/// not 0.
-pub fn factors(a: i128, b: i128) -> MergeFactors
-    requires a_in { IsWithin a }
-    requires b_in { IsWithin b }
-    requires a_some { a ≢ pos 0 }
-    requires b_some { b ≢ pos 0 }
-    ensures value { plain_factors result ≡ factors_of a b }
-    ensures fits { WithinFactors result }
-{
-    let parts = bezout(a, b);
-    MergeFactors {
-        s: parts.s,
-        m: neg(fdiv(b, parts.g)),
-        t: parts.t,
-        n: fdiv(a, parts.g),
-    }
+// The rows of two unknowns that go.
+#[derive(Drop)]
+pub(crate) struct NewRows {
+    pub(crate) first: Row,
+    pub(crate) second: Row,
 }
 
 // Two new unknowns, of which the first equation holds the first alone, take the places of x and y.
@@ -89,17 +69,76 @@ pub fn mix(
 {
     let u = system.next;
     if u.checked_add(2).is_none() {
+        drop(system);
         return Err(RowFault::NoMemory);
     }
+    match new_rows(alloc, u, f) {
+        Ok(rows) => mixed_by(alloc, system, x, y, rows),
+        Err(NoMemory) => {
+            drop(system);
+            Err(RowFault::NoMemory)
+        }
+    }
+}
+
+// The rows of the two unknowns that go, u being the first new one.
+fn new_rows(alloc: Global, u: u32, f: MergeFactors) -> Result<NewRows, NoMemory>
+    requires room { u + 2 < 2 ^ 32 }
+    requires within { WithinFactors f }
+    ensures { IfOk result (λ r. (r.first ≡ two_at f.s u f.m (u + 1)) × (r.second ≡ two_at f.t u f.n (u + 1))) }
+{
     let first = Row::two_at(alloc, f.s, u, f.m, u + 1)?;
     let second = Row::two_at(alloc, f.t, u, f.n, u + 1)?;
+    Ok(NewRows { first, second })
+}
+
+// The system with the rows in the places of x and y, which are computed by them.
+fn mixed_by(
+    alloc: Global,
+    system: System,
+    x: u32,
+    y: u32,
+    rows: NewRows,
+) -> Result<Reduced, RowFault>
+    requires { system.next + 2 < 2 ^ 32 }
+    ensures value { IfOk result (λ r. reduced r ≡ mixed_answer (system_of system) x rows.first y rows.second) }
+    ensures fits { IfOk result (λ r. list_any (mix_row_passes x rows.first y rows.second) (system.equations.items ++ system.inequalities.items) ≡ false) }
+    ensures past { result ≡ Err RowFault.Past →
+        list_any (mix_row_passes x rows.first y rows.second) (system.equations.items ++ system.inequalities.items) ≡ true }
+{
+    let NewRows { first, second } = rows;
     match mixed_system(alloc, system, x, &first, y, &second) {
-        Ok(system) => Ok(Reduced {
+        Ok(system) => returned(alloc, system, x, first, y, second),
+        Err(fault) => {
+            drop(first);
+            drop(second);
+            Err(fault)
+        }
+    }
+}
+
+// The system, where x and y are computed by these rows.
+fn returned(
+    alloc: Global,
+    system: System,
+    x: u32,
+    first: Row,
+    y: u32,
+    second: Row,
+) -> Result<Reduced, RowFault>
+    ensures value { IfOk result (λ r. reduced r ≡ with_back (system_of system) ((x, row_how first) ∷ (y, row_how second) ∷ [])) }
+    ensures fits { result ≢ Err RowFault.Past }
+{
+    match two_rows(alloc, x, first, y, second) {
+        Ok(back) => Ok(Reduced {
             system,
             steps: Vec::new(alloc),
-            back: two_rows(alloc, x, first, y, second)?,
+            back,
         }),
-        Err(fault) => Err(fault),
+        Err(NoMemory) => {
+            drop(system);
+            Err(RowFault::NoMemory)
+        }
     }
 }
 

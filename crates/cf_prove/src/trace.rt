@@ -13,9 +13,9 @@ ghost use Rattle.cf_prove.specs.Tracing.{equation_acts, unknown_acts, bound_acts
 use cf_bounds::{Pick, select};
 use cf_elim::fault::ElimFault;
 use cf_elim::stage::{Stage, State, next_stage};
-use cf_equation::merge::factors;
 use cf_equation::unknowns::{Present, first_unknowns};
 use cf_linear::system::System;
+use cf_parts::factors;
 use cf_steps::act::Act;
 use cf_tree::memory::NoMemory;
 use std::alloc::Global;

@@ -1,34 +1,19 @@
-use Rattle.std.proofs.Common.{◌≡◌, Result, Err, refl, sym}
+use Rattle.std.proofs.Common.{◌≡◌, subst, sym}
+use Rattle.std.specs.Prelude.{IfOk}
 use Rattle.cf_linear.specs.Views.{system_of}
-use Rattle.cf_linear.proofs.MapLemmas.{back}
+use Rattle.cf_equation.specs.Equations.{reduced}
 use Rattle.cf_equation.proofs.MergeValues.{mix_is}
 use Rattle.cf_equation.proofs.merge.mix.Goals as goal
 
-err_is : {A E : Type 0} {x y : E} → ◌≡◌ {A = Result A E} (Err x) (Err y) → x ≡ y
-err_is h = cc
-
-pub returns-in_ok-two_rows-in-Ok-clause-value : goal.returns-in_ok-two_rows-in-Ok-clause-value
-returns-in_ok-two_rows-in-Ok-clause-value c =
+pub returns-in-Ok-clause-value : goal.returns-in-Ok-clause-value
+returns-in-Ok-clause-value c =
     let f = c.args.f in
-    let w = c.requires.within in
-    let r = rw (back f.s w.s, back f.m w.m) at c.in_ok-first.ensures in
-    let s = rw (back f.t w.t, back f.n w.n) at c.in_ok-second.ensures in
-    rw (c.new.ensures.items, c.in_ok-two_rows-in-Ok.ensures)
-    (sym (mix_is (system_of c.args.system) c.args.x c.in_ok-first.first c.args.y c.in_ok-second.second (system_of c.in-Ok.system) f.s f.m f.t f.n r s
-    c.in-Ok.ensures.value))
+    let e = c.in-Ok.ensures in
+    subst (λ z. IfOk c.mixed_by.result (λ r. reduced r ≡ z))
+    (sym (mix_is (system_of c.args.system) c.args.x c.in-Ok.rows.first c.args.y c.in-Ok.rows.second f.s f.m f.t f.n e.0 e.1)) c.mixed_by.ensures.value
 
-pub returns-in_ok-two_rows-in-Ok-clause-fits : goal.returns-in_ok-two_rows-in-Ok-clause-fits
-returns-in_ok-two_rows-in-Ok-clause-fits c =
-    let f = c.args.f in
-    let w = c.requires.within in
-    let r = rw (back f.s w.s, back f.m w.m) at c.in_ok-first.ensures in
-    let s = rw (back f.t w.t, back f.n w.n) at c.in_ok-second.ensures in
-    rw (r, s) at c.in-Ok.ensures.fits
+pub returns-in-Ok-clause-fits : goal.returns-in-Ok-clause-fits
+returns-in-Ok-clause-fits c = rw (c.in-Ok.ensures.0, c.in-Ok.ensures.1) at c.mixed_by.ensures.fits
 
-pub returns-in-Err-clause-past : goal.returns-in-Err-clause-past
-returns-in-Err-clause-past c q =
-    let f = c.args.f in
-    let w = c.requires.within in
-    let r = rw (back f.s w.s, back f.m w.m) at c.in_ok-first.ensures in
-    let s = rw (back f.t w.t, back f.n w.n) at c.in_ok-second.ensures in
-    rw (r, s) at (c.in-Err.ensures.past (rw (err_is q) refl))
+pub returns-in-Ok-clause-past : goal.returns-in-Ok-clause-past
+returns-in-Ok-clause-past c q = rw (c.in-Ok.ensures.0, c.in-Ok.ensures.1) at (c.mixed_by.ensures.past q)

@@ -1,0 +1,4 @@
+pub mod Merging
+pub mod Parts
+pub mod Searching
+pub mod Unknowns
