@@ -2,6 +2,7 @@
 ghost use Rattle.std.specs.Prelude.{◌≡◌, ◌<◌, ◌++◌, length, map, drop, OnOk, codes, decimal};
 ghost use Rattle.std.specs.Fmt.{signed_decimal};
 ghost use Rattle.cf_tree.specs.CodeView.{code_tree, code_trees, item_tree, item_trees, arm_tree, arm_trees};
+ghost use Rattle.cf_emit.specs.Between.{between_text};
 ghost use Rattle.cf_emit.specs.Printed.{line_end, listed, variables_text, code_text, codes_text, more_codes, item_text, items_text, gives_text, arm_text, arms_text};
 
 use crate::list::put_bounds;
@@ -22,47 +23,29 @@ pub(crate) fn put_code(out: &mut Vec<u8>, code: &Code) -> Result<(), NoMemory>
         Code::SetOf(parts) => put_list(out, b"{", b", ", parts, b"}"),
         Code::Tuple(parts) => put_list(out, b"(", b", ", parts, b")"),
         Code::Sum(parts) => put_list(out, b"(", b" + ", parts, b")"),
-        Code::Sub(a, b) => {
-            put_part(out, b"(", a)?;
-            put_last(out, b" - ", b)
-        }
-        Code::Mul(a, b) => {
-            put_part(out, b"(", a)?;
-            put_last(out, b" * ", b)
+        Code::Sub(left, right)
+        | Code::Mul(left, right)
+        | Code::And(left, right)
+        | Code::Or(left, right)
+        | Code::Diff(left, right)
+        | Code::Subset(left, right)
+        | Code::Compare { left, right, .. } => {
+            put_part(out, b"(", left)?;
+            put_between(out, code)?;
+            put_last(out, b"", right)
         }
         Code::Neg(a) => put_last(out, b"neg(", a),
         Code::Div { of, k } => put_quotient(out, b"div(", of, k),
         Code::Mod { of, k } => put_quotient(out, b"mod(", of, k),
         Code::Min(parts) => put_list(out, b"min(", b", ", parts, b")"),
         Code::Max(parts) => put_list(out, b"max(", b", ", parts, b")"),
-        Code::Compare { order, left, right } => {
-            put_part(out, b"(", left)?;
-            put_order(out, *order)?;
-            put_last(out, b"", right)
-        }
         Code::Divides { k, of } => {
             put_divisor(out, k)?;
             put_last(out, b" divides ", of)
         }
-        Code::And(a, b) => {
-            put_part(out, b"(", a)?;
-            put_last(out, b" && ", b)
-        }
-        Code::Or(a, b) => {
-            put_part(out, b"(", a)?;
-            put_last(out, b" || ", b)
-        }
         Code::Not(a) => put_last(out, b"not(", a),
         Code::Union(parts) => put_list(out, b"(", b" union ", parts, b")"),
         Code::Inter(parts) => put_list(out, b"(", b" inter ", parts, b")"),
-        Code::Diff(a, b) => {
-            put_part(out, b"(", a)?;
-            put_last(out, b" diff ", b)
-        }
-        Code::Subset(a, b) => {
-            put_part(out, b"(", a)?;
-            put_last(out, b" subset ", b)
-        }
         Code::Card(a) => put_last(out, b"card(", a),
         Code::Slice { set, from, n } => {
             put_part(out, b"slice(", set)?;
@@ -227,6 +210,23 @@ pub(crate) fn put_searches(out: &mut Vec<u8>, bounds: &[u32]) -> Result<(), NoMe
     out.extend_from_slice(b"arm [")?;
     put_bounds(out, bounds)?;
     out.extend_from_slice(b"] {\n")?;
+    Ok(())
+}
+
+// What stands between the two parts of an operation.
+fn put_between(out: &mut Vec<u8>, code: &Code) -> Result<(), NoMemory>
+    ensures { OnOk result (out.new.items ≡ out.old.items ++ between_text (code_tree code.now)) }
+{
+    match code {
+        Code::Sub(_, _) => out.extend_from_slice(b" - ")?,
+        Code::Mul(_, _) => out.extend_from_slice(b" * ")?,
+        Code::And(_, _) => out.extend_from_slice(b" && ")?,
+        Code::Or(_, _) => out.extend_from_slice(b" || ")?,
+        Code::Diff(_, _) => out.extend_from_slice(b" diff ")?,
+        Code::Subset(_, _) => out.extend_from_slice(b" subset ")?,
+        Code::Compare { order, .. } => put_order(out, *order)?,
+        _ => {}
+    }
     Ok(())
 }
 

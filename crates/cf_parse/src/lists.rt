@@ -31,18 +31,25 @@ fn param(alloc: Global, tokens: &[Token]) -> Result<(Param, &[Token]), Stop>
     Ok((Param { place, name, base }, rest))
 }
 
+// The parameters with one more.
+fn with_param(params: Vec<Param>, param: Param) -> Result<Vec<Param>, Stop>
+    ensures { ReadAnswer (λ x. x.items) result (Ok (snoc params.items param)) }
+{
+    let mut all = params;
+    all.push(param)?;
+    Ok(all)
+}
+
 /// One parameter or more, up to the closing parenthesis.
 #[tactic(auto, unfolding(cf_reader::specs::Readers::bind, cf_reader::specs::Readers::several_of))]
 pub fn params(alloc: Global, tokens: &[Token]) -> Result<(Vec<Param>, &[Token]), Stop>
     ensures { ReadAnswer (λ x. (x.0.items, x.1.now)) result (several_of snoc param_of (Sign (codes ",")) (Sign (codes ")")) [] tokens.now) }
 {
     let (first, rest) = param(alloc, tokens)?;
-    let mut params = Vec::new(alloc);
-    params.push(first)?;
-    more_params(alloc, params, rest)
+    more_params(alloc, with_param(Vec::new(alloc), first)?, rest)
 }
 
-#[tactic(auto, using(cf_reader::proofs::Steps::more_ends, cf_reader::proofs::Steps::more_goes, cf_reader::proofs::Steps::more_errs, cf_reader::proofs::Steps::more_closes, cf_reader::proofs::Steps::more_unclosed), unfolding(cf_reader::specs::Readers::others_of))]
+#[tactic(auto, unfolding(cf_reader::specs::Readers::others_of))]
 fn more_params(
     alloc: Global,
     first: Vec<Param>,
@@ -56,7 +63,7 @@ fn more_params(
         match after_sign(",", rest) {
             Some((_, behind)) => {
                 let (x, behind) = param(alloc, behind)?;
-                done.push(x)?;
+                done = with_param(done, x)?;
                 rest = behind;
             }
             None => {
@@ -122,7 +129,7 @@ pub fn read_names(alloc: Global, tokens: &[Token]) -> Result<(Names, &[Token]), 
     }
 }
 
-#[tactic(auto, using(cf_reader::proofs::Steps::more_ends, cf_reader::proofs::Steps::more_goes, cf_reader::proofs::Steps::more_errs, cf_reader::proofs::Steps::more_closes, cf_reader::proofs::Steps::more_unclosed), unfolding(cf_reader::specs::Readers::others_of))]
+#[tactic(auto, unfolding(cf_reader::specs::Readers::others_of))]
 fn more_names(alloc: Global, first: Names, tokens: &[Token]) -> Result<(Names, &[Token]), Stop>
     ensures { ReadAnswer (λ x. ((x.0.names.items, x.0.places.items), x.1.now)) result
         (others_of named (must a_name) (Sign (codes ",")) (Sign (codes ")")) (first.names.items, first.places.items) tokens.now) }

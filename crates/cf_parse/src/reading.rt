@@ -197,7 +197,7 @@ fn arm(alloc: Global, n: u32, tokens: &[Token]) -> Result<(MeasuredArm, &[Token]
 
 // More arms, up to the closing brace.
 #[cycle(reading)]
-#[tactic(auto, using(cf_reader::proofs::Steps::more_ends, cf_reader::proofs::Steps::more_goes, cf_reader::proofs::Steps::more_errs, cf_reader::proofs::Steps::more_closes, cf_reader::proofs::Steps::more_unclosed), unfolding(cf_reader::specs::Readers::others_of))]
+#[tactic(auto, unfolding(cf_reader::specs::Readers::others_of))]
 fn more_arms(
     alloc: Global,
     n: u32,
@@ -531,7 +531,7 @@ fn list<'a>(
 
 // More expressions, up to the closing sign.
 #[cycle(reading)]
-#[tactic(auto, using(cf_reader::proofs::Steps::more_ends, cf_reader::proofs::Steps::more_goes, cf_reader::proofs::Steps::more_errs, cf_reader::proofs::Steps::more_closes, cf_reader::proofs::Steps::more_unclosed), unfolding(cf_reader::specs::Readers::others_of))]
+#[tactic(auto, unfolding(cf_reader::specs::Readers::others_of))]
 fn more<'a>(
     alloc: Global,
     n: u32,

@@ -1,7 +1,7 @@
 //! Tiers of the grammar.
 
 /// How tightly a form binds, from the loosest to the tightest.
-#[derive(Clone, Copy, Debug, PartialEq, Eq)]
+#[derive(Clone, Copy)]
 pub enum Tier {
     /// Any expression.
     Whole,

@@ -60,6 +60,11 @@ unfolding steps_of first bind
 steps_unclosed part zero done ts e h g lt = absurd (omega arith)
 steps_unclosed part (suc k) done ts e h g lt = rw (steps_of, first, h, bind, g) refl
 
+pub steps_open : (part : Reader CodeTree) (k : ℕ) (done : List ItemTree) (ts : List Token) (e : Stop) →
+    at a_step ts ≡ None → StopAnswer e (must (is (Word (codes "give"))) ts) → 0 < k → StopAnswer e (steps_of part k done ts)
+steps_open part k done ts stops.NoMemory h g lt = tt
+steps_open part k done ts (stops.TokensLeft n) h g lt = steps_unclosed part k done ts n h g lt
+
 pub steps_fail : (part : Reader CodeTree) (k : ℕ) (done : List ItemTree) (ts : List Token) (s : Step) (us : List Token) (e : Stop) →
     at a_step ts ≡ Some (s, us) → StopAnswer e (item_of part s us) → 0 < k → StopAnswer e (steps_of part k done ts)
 steps_fail part k done ts s us stops.NoMemory h g lt = tt

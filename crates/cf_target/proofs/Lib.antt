@@ -1,4 +1,5 @@
 pub mod Above
+pub mod Loops
 pub mod VariableSteps
 pub mod LevelLaws
 pub mod LocalReading

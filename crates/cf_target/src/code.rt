@@ -1,20 +1,20 @@
 //! Reads codes.
 ghost use Rattle.std.specs.Prelude.{◌≡◌, ◌≤◌, ◌<◌, ◌-◌, ◌^◌, ◌∷◌, [], ◌||◌, nat_eq, nat_le, map, codes, length};
 ghost use Rattle.cf_lex.specs.declared.token.TokenKind.TheVariants.{Word, Sign};
-ghost use Rattle.cf_tree.specs.CodeTree.{code_depth};
+ghost use Rattle.cf_tree.specs.CodeTree.{code_depth, code_divides};
 ghost use Rattle.cf_tree.specs.CodeView.{code_tree, item_tree, arm_tree};
 ghost use Rattle.cf_reader.specs.Answers.{ReadAnswer};
-ghost use Rattle.cf_reader.specs.Readers.{snoc, others_of};
-ghost use Rattle.cf_target.specs.Reading.{many_kind, list_of, elements_of, one_of, divided_of, listed_of, slice_of, fresh_of, if_of, let_of, operated_of, forms_of, behind_of, inside_tree, inside_of, item_of, all_steps, gives_of, arm_from, all_arms, solve_of, word_of, step as step_of, read};
+ghost use Rattle.cf_reader.specs.Readers.{bind, is, must, pure, snoc, others_of, several_of};
+ghost use Rattle.cf_target.specs.Reading.{many_kind, list_of, elements_of, one_of, divided_of, listed_of, slice_of, fresh_of, if_of, let_of, operated_of, forms_of, behind_of, single as single_of, inside_tree, inside_of, item_of, all_steps, gives_of, arm_from, all_arms, solve_of, word_of, step as step_of, read};
 
 use crate::form::{
     Many, Operation, Step, after_division, after_extreme, after_many, after_operator, after_step,
     after_unary, parts,
 };
-use crate::inside::{Inside, given, one, several, single, whole};
+use crate::inside::{Inside, given, one, pair, several, single, whole};
 use crate::node;
 use crate::number::{bounds, expect_numeral, read_variables, variable};
-use crate::part::{divides_by, may_operate, negative, with_arm, with_code, with_item};
+use crate::part::{closed, divides_by, may_operate, negative, with_arm, with_code, with_item};
 use cf_lex::Token;
 use cf_reader::stop::Stop;
 use cf_reader::tokens::{
@@ -170,8 +170,7 @@ fn slice(alloc: Global, n: u32, tokens: &[Token]) -> Result<(Code, &[Token]), St
     let (from, rest) = boxed(alloc, n, rest)?;
     let (_, rest) = expect_sign(",", rest)?;
     let (count, rest) = boxed(alloc, n, rest)?;
-    let (_, rest) = expect_sign(")", rest)?;
-    Ok((node::slice(set, from, count), rest))
+    closed(node::slice(set, from, count), rest)
 }
 
 // Behind the word `fresh`.
@@ -184,8 +183,7 @@ fn fresh(alloc: Global, n: u32, tokens: &[Token]) -> Result<(Code, &[Token]), St
     let (avoid, rest) = boxed(alloc, n, rest)?;
     let (_, rest) = expect_sign(",", rest)?;
     let (count, rest) = boxed(alloc, n, rest)?;
-    let (_, rest) = expect_sign(")", rest)?;
-    Ok((node::fresh(avoid, count), rest))
+    closed(node::fresh(avoid, count), rest)
 }
 
 // Elements, if any, up to the closing brace.
@@ -217,7 +215,7 @@ fn list<'a>(
 
 // More codes, each behind a comma, up to the closing sign.
 #[cycle(code)]
-#[tactic(auto, using(cf_reader::proofs::Steps::more_ends, cf_reader::proofs::Steps::more_goes, cf_reader::proofs::Steps::more_errs, cf_reader::proofs::Steps::more_closes, cf_reader::proofs::Steps::more_unclosed), unfolding(cf_reader::specs::Readers::others_of))]
+#[tactic(auto, unfolding(cf_reader::specs::Readers::others_of))]
 fn more<'a>(
     alloc: Global,
     n: u32,
@@ -249,7 +247,7 @@ fn more<'a>(
 
 // More parts of an operation, up to the closing parenthesis.
 #[cycle(code)]
-#[tactic(auto, using(cf_reader::proofs::Steps::more_ends, cf_reader::proofs::Steps::more_goes, cf_reader::proofs::Steps::more_errs, cf_reader::proofs::Steps::more_closes, cf_reader::proofs::Steps::more_unclosed), unfolding(cf_reader::specs::Readers::others_of))]
+#[tactic(auto, unfolding(cf_reader::specs::Readers::others_of))]
 fn more_parts(
     alloc: Global,
     n: u32,
@@ -308,7 +306,7 @@ fn inside(alloc: Global, m: u32, n: u32, tokens: &[Token]) -> Result<(Inside, &[
 
 // Behind an opening parenthesis and the first part; `may` says whether an operation may follow.
 #[cycle(code)]
-#[tactic(auto, unfolding(cf_reader::specs::Readers::first, cf_reader::specs::Readers::refuse, cf_reader::specs::Readers::bind, cf_reader::specs::Readers::pure, cf_reader::specs::Readers::several_of, crate::specs::Reading::behind_of))]
+#[tactic(auto, unfolding(cf_reader::specs::Readers::first, cf_reader::specs::Readers::refuse, cf_reader::specs::Readers::bind, cf_reader::specs::Readers::pure, crate::specs::Reading::behind_of))]
 fn behind(
     alloc: Global,
     m: u32,
@@ -321,9 +319,7 @@ fn behind(
     ensures { ReadAnswer (λ x. (inside_tree x.0, x.1.now)) result (behind_of (read m) (read n) n may (code_tree first.value) tokens.now) }
 {
     if let Some((_, rest)) = after_sign(",", tokens) {
-        let codes = one(alloc, Box::into_inner(first))?;
-        let (second, rest) = code(alloc, m, rest)?;
-        let (codes, rest) = more(alloc, m, ")", with_code(codes, second)?, rest)?;
+        let (codes, rest) = behind_comma(alloc, m, first, rest)?;
         return Ok((several(codes), rest));
     }
     if let Some((op, rest)) = after_operator(may, tokens) {
@@ -331,16 +327,48 @@ fn behind(
         return Ok((single(c), rest));
     }
     if let Some((k, rest)) = divides_by(n, &first, tokens) {
-        let (of, rest) = boxed(alloc, n, rest)?;
-        let (_, rest) = expect_sign(")", rest)?;
-        return Ok((single(node::divides(k, of)), rest));
+        drop(first);
+        return behind_divides(alloc, n, k, rest);
     }
     Err(Stop::TokensLeft(tokens.len()))
 }
 
+// Behind the first part and a comma.
+#[cycle(code)]
+#[tactic(auto, unfolding(cf_reader::specs::Readers::bind, cf_reader::specs::Readers::several_of))]
+fn behind_comma(
+    alloc: Global,
+    n: u32,
+    first: Box<Code>,
+    tokens: &[Token],
+) -> Result<(Vec<Code>, &[Token]), Stop>
+    ensures { ReadAnswer (λ x. (map code_tree x.0.items, x.1.now)) result
+        (several_of snoc (read n) (Sign (codes ",")) (Sign (codes ")")) (code_tree first.value ∷ []) tokens.now) }
+{
+    let (second, rest) = code(alloc, n, tokens)?;
+    more(alloc, n, ")", pair(alloc, first, second)?, rest)
+}
+
+// Behind a literal and the word `divides`.
+#[cycle(code)]
+#[tactic(auto, unfolding(cf_reader::specs::Readers::bind, cf_reader::specs::Readers::pure))]
+fn behind_divides(
+    alloc: Global,
+    n: u32,
+    k: i128,
+    tokens: &[Token],
+) -> Result<(Inside, &[Token]), Stop>
+    ensures { ReadAnswer (λ x. (inside_tree x.0, x.1.now)) result
+        (bind (read n) (λ c. bind (must (is (Sign (codes ")")))) (λ p. pure (single_of (code_divides k c)))) tokens.now) }
+{
+    let (of, rest) = boxed(alloc, n, tokens)?;
+    let (_, rest) = expect_sign(")", rest)?;
+    Ok((single(node::divides(k, of)), rest))
+}
+
 // Behind the first part and an operation.
 #[cycle(code)]
-#[tactic(auto, unfolding(cf_reader::specs::Readers::bind, cf_reader::specs::Readers::pure, cf_reader::specs::Readers::several_of, crate::specs::Reading::operated_of))]
+#[tactic(auto, unfolding(cf_reader::specs::Readers::bind, cf_reader::specs::Readers::pure, crate::specs::Reading::operated_of))]
 fn operated(
     alloc: Global,
     n: u32,
@@ -353,17 +381,30 @@ fn operated(
     match operation {
         Operation::Two(form) => {
             let (second, rest) = boxed(alloc, n, tokens)?;
-            let (_, rest) = expect_sign(")", rest)?;
-            Ok((node::two(form, first, second), rest))
+            closed(node::two(form, first, second), rest)
         }
         Operation::Many(form) => {
-            let codes = one(alloc, Box::into_inner(first))?;
-            let (second, rest) = code(alloc, n, tokens)?;
-            let codes = with_code(codes, second)?;
-            let (codes, rest) = more_parts(alloc, n, form, codes, rest)?;
+            let (codes, rest) = operands(alloc, n, form, first, tokens)?;
             Ok((node::many(form, codes), rest))
         }
     }
+}
+
+// Behind the first part and an operation of two parts or more.
+#[cycle(code)]
+#[tactic(auto, unfolding(cf_reader::specs::Readers::bind, cf_reader::specs::Readers::several_of))]
+fn operands(
+    alloc: Global,
+    n: u32,
+    form: Many,
+    first: Box<Code>,
+    tokens: &[Token],
+) -> Result<(Vec<Code>, &[Token]), Stop>
+    ensures { ReadAnswer (λ x. (map code_tree x.0.items, x.1.now)) result
+        (several_of snoc (read n) (many_kind form) (Sign (codes ")")) (code_tree first.value ∷ []) tokens.now) }
+{
+    let (second, rest) = code(alloc, n, tokens)?;
+    more_parts(alloc, n, form, pair(alloc, first, second)?, rest)
 }
 
 // Behind `(if`.
@@ -377,8 +418,7 @@ fn if_else(alloc: Global, n: u32, tokens: &[Token]) -> Result<(Code, &[Token]), 
     let (yes, rest) = boxed(alloc, n, rest)?;
     let (_, rest) = expect_word("else", rest)?;
     let (no, rest) = boxed(alloc, n, rest)?;
-    let (_, rest) = expect_sign(")", rest)?;
-    Ok((node::if_else(test, yes, no), rest))
+    closed(node::if_else(test, yes, no), rest)
 }
 
 // Behind `(let`.
@@ -392,8 +432,7 @@ fn let_in(alloc: Global, n: u32, tokens: &[Token]) -> Result<(Code, &[Token]), S
     let (value, rest) = boxed(alloc, n, rest)?;
     let (_, rest) = expect_word("in", rest)?;
     let (body, rest) = boxed(alloc, n, rest)?;
-    let (_, rest) = expect_sign(")", rest)?;
-    Ok((node::let_in(bound, value, body), rest))
+    closed(node::let_in(bound, value, body), rest)
 }
 
 // Behind the word `solve`.
@@ -423,7 +462,7 @@ fn arms(alloc: Global, n: u32, tokens: &[Token]) -> Result<(Vec<Arm>, &[Token]),
 
 // Arms, if any, up to the closing brace, where there may be some.
 #[cycle(code)]
-#[tactic(auto, using(cf_reader::proofs::Steps::more_ends, cf_reader::proofs::Steps::more_goes, cf_reader::proofs::Steps::more_errs, cf_reader::proofs::Steps::more_closes, cf_reader::proofs::Steps::more_unclosed), unfolding(cf_reader::specs::Readers::others_of))]
+#[tactic(auto, unfolding(cf_reader::specs::Readers::others_of))]
 fn more_arms(alloc: Global, n: u32, tokens: &[Token]) -> Result<(Vec<Arm>, &[Token]), Stop>
     requires { 1 ≤ n }
     ensures { ReadAnswer (λ x. (map arm_tree x.0.items, x.1.now)) result
@@ -466,7 +505,7 @@ fn arm(alloc: Global, n: u32, tokens: &[Token]) -> Result<(Arm, &[Token]), Stop>
 
 // The steps of an arm, up to the word `give`.
 #[cycle(code)]
-#[tactic(auto, using(crate::proofs::Above::steps_end, crate::proofs::Above::steps_go, crate::proofs::Above::steps_err, crate::proofs::Above::steps_close, crate::proofs::Above::steps_unclosed), unfolding(crate::specs::Reading::all_steps))]
+#[tactic(auto, unfolding(crate::specs::Reading::all_steps))]
 fn steps(alloc: Global, n: u32, tokens: &[Token]) -> Result<(Vec<Item>, &[Token]), Stop>
     ensures { ReadAnswer (λ x. (map item_tree x.0.items, x.1.now)) result (all_steps (read n) tokens.now) }
 {

@@ -1,5 +1,6 @@
 //! Forms of code that one word or sign tells.
 ghost use Rattle.std.specs.Prelude.{◌≡◌};
+ghost use Rattle.std.specs.Str.{bytes_eq};
 ghost use Rattle.cf_reader.specs.Answers.{FirstAnswer};
 ghost use Rattle.cf_reader.specs.Readers.{at, is};
 ghost use Rattle.cf_target.specs.Reading.{a_unary, a_division, an_extreme, a_step, an_operation, operation_of, many_kind};
@@ -7,7 +8,7 @@ ghost use Rattle.cf_target.specs.Reading.{a_unary, a_division, an_extreme, a_ste
 use cf_lex::{Token, TokenKind};
 use cf_reader::operations::operation;
 use cf_reader::tokens::{after_sign, after_word};
-use cf_tree::base::{Order, Place};
+use cf_tree::base::{Order, Place, Text};
 use cf_tree::raw::BinOp;
 
 /// Forms of one part.
@@ -66,6 +67,13 @@ pub enum Operation {
     Two(Two),
 }
 
+// Whether a word is this one.
+fn is_word(expected: &str, word: &Text) -> bool
+    ensures { result ≡ bytes_eq word.now expected.now }
+{
+    word.bytes.as_slice() == expected.as_bytes()
+}
+
 /// The form of one part whose word stands first, and the tokens after it.
 #[tactic(auto, unfolding(cf_reader::specs::Readers::at))]
 pub fn after_unary(tokens: &[Token]) -> Option<(Unary, &[Token])>
@@ -75,11 +83,11 @@ pub fn after_unary(tokens: &[Token]) -> Option<(Unary, &[Token])>
     let TokenKind::Word(word) = &t.kind else {
         return None;
     };
-    if word.bytes.as_slice() == b"neg".as_slice() {
+    if is_word("neg", word) {
         Some((Unary::Neg, rest))
-    } else if word.bytes.as_slice() == b"not".as_slice() {
+    } else if is_word("not", word) {
         Some((Unary::Not, rest))
-    } else if word.bytes.as_slice() == b"card".as_slice() {
+    } else if is_word("card", word) {
         Some((Unary::Card, rest))
     } else {
         None
@@ -95,9 +103,9 @@ pub fn after_division(tokens: &[Token]) -> Option<(Division, &[Token])>
     let TokenKind::Word(word) = &t.kind else {
         return None;
     };
-    if word.bytes.as_slice() == b"div".as_slice() {
+    if is_word("div", word) {
         Some((Division::Div, rest))
-    } else if word.bytes.as_slice() == b"mod".as_slice() {
+    } else if is_word("mod", word) {
         Some((Division::Mod, rest))
     } else {
         None
@@ -113,9 +121,9 @@ pub fn after_extreme(tokens: &[Token]) -> Option<(Extreme, &[Token])>
     let TokenKind::Word(word) = &t.kind else {
         return None;
     };
-    if word.bytes.as_slice() == b"min".as_slice() {
+    if is_word("min", word) {
         Some((Extreme::Min, rest))
-    } else if word.bytes.as_slice() == b"max".as_slice() {
+    } else if is_word("max", word) {
         Some((Extreme::Max, rest))
     } else {
         None
@@ -131,9 +139,9 @@ pub fn after_step(tokens: &[Token]) -> Option<(Step, &[Token])>
     let TokenKind::Word(word) = &t.kind else {
         return None;
     };
-    if word.bytes.as_slice() == b"let".as_slice() {
+    if is_word("let", word) {
         Some((Step::Let, rest))
-    } else if word.bytes.as_slice() == b"need".as_slice() {
+    } else if is_word("need", word) {
         Some((Step::Need, rest))
     } else {
         None

@@ -4,6 +4,8 @@ ghost use Rattle.cf_tree.specs.CodeView.{code_tree};
 ghost use Rattle.cf_target.specs.Reading.{several as several_of, single as single_of, inside_tree, whole as whole_of, all_given};
 ghost use Rattle.cf_reader.specs.Answers.{ReadAnswer};
 
+use crate::node::without;
+use crate::part::with_code;
 use cf_reader::stop::Stop;
 use cf_tree::code::Code;
 use std::alloc::Global;
@@ -56,4 +58,14 @@ pub fn one(alloc: Global, code: Code) -> Result<Vec<Code>, Stop>
     let mut codes = Vec::new(alloc);
     codes.push(code)?;
     Ok(codes)
+}
+
+/// A list of two codes.
+pub fn pair(alloc: Global, first: Box<Code>, second: Code) -> Result<Vec<Code>, Stop>
+    ensures { ReadAnswer (λ x. map code_tree x.items) result (Ok (code_tree first.value ∷ code_tree second ∷ [])) }
+{
+    match one(alloc, Box::into_inner(first)) {
+        Ok(codes) => with_code(codes, second),
+        Err(stop) => Err(without(second, stop)),
+    }
 }

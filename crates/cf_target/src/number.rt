@@ -2,7 +2,7 @@
 ghost use Rattle.std.specs.Prelude.{◌≡◌, ℕ, ◌<◌, ◌≤◌, ◌^◌, ◌-◌, ◌+◌, codes, Ok, IfOk, IfSome};
 ghost use Rattle.cf_lex.specs.declared.token.TokenKind.TheVariants.{Sign};
 ghost use Rattle.cf_reader.specs.Answers.{ReadAnswer, FirstAnswer};
-ghost use Rattle.cf_reader.specs.Readers.{at, must, snoc, others_of};
+ghost use Rattle.cf_reader.specs.Readers.{at, bind, is, must, pure, snoc, others_of};
 ghost use Rattle.cf_target.specs.Levels.{last_level};
 ghost use Rattle.cf_target.specs.Reading.{numeral_of, a_numeral, a_variable, an_early_variable, the_variable, comma_after as comma_after_of, all_variables, vars_of, bounds_of};
 
@@ -155,6 +155,20 @@ fn variables_between(first: u32, last: u32) -> Result<Variables, Stop>
     }
 }
 
+// Two variables or more that rise by 1, behind the first of them, up to the closing parenthesis.
+#[tactic(auto, unfolding(cf_reader::specs::Readers::bind, cf_reader::specs::Readers::pure))]
+fn variables_from(first: u32, tokens: &[Token]) -> Result<(Variables, &[Token]), Stop>
+    requires { first < 2 ^ 32 - 1 }
+    ensures { ReadAnswer (λ x. ((x.0.first, x.0.count), x.1.now)) result
+        (bind (must (is (Sign (codes ",")))) (λ p. bind (must (the_variable (first + 1))) (λ y.
+        bind {B = ℕ × ℕ} (all_variables y) (λ last. pure (first, last - first + 1)))) tokens.now) }
+{
+    let (_, rest) = expect_sign(",", tokens)?;
+    let (second, rest) = expect_level(first + 1, rest)?;
+    let (last, rest) = more_variables(second, rest)?;
+    Ok((variables_between(first, last)?, rest))
+}
+
 /// A variable, or two or more in parentheses that rise by 1.
 #[tactic(auto, unfolding(cf_reader::specs::Readers::first, cf_reader::specs::Readers::bind, cf_reader::specs::Readers::pure, crate::specs::Reading::vars_of))]
 pub fn read_variables(tokens: &[Token]) -> Result<(Variables, &[Token]), Stop>
@@ -163,10 +177,7 @@ pub fn read_variables(tokens: &[Token]) -> Result<(Variables, &[Token]), Stop>
     match after_sign("(", tokens) {
         Some((_, rest)) => {
             let (first, rest) = expect_early_variable(rest)?;
-            let (_, rest) = expect_sign(",", rest)?;
-            let (second, rest) = expect_level(first + 1, rest)?;
-            let (last, rest) = more_variables(second, rest)?;
-            Ok((variables_between(first, last)?, rest))
+            variables_from(first, rest)
         }
         None => {
             let (first, rest) = expect_variable(tokens)?;
@@ -175,8 +186,17 @@ pub fn read_variables(tokens: &[Token]) -> Result<(Variables, &[Token]), Stop>
     }
 }
 
+// The bounds with one more.
+fn with_bound(bounds: Vec<u32>, bound: u32) -> Result<Vec<u32>, Stop>
+    ensures { ReadAnswer (λ x. x.items) result (Ok (snoc bounds.items bound)) }
+{
+    let mut all = bounds;
+    all.push(bound)?;
+    Ok(all)
+}
+
 // More bounds, each behind a comma, up to the closing bracket.
-#[tactic(auto, using(cf_reader::proofs::Steps::more_ends, cf_reader::proofs::Steps::more_goes, cf_reader::proofs::Steps::more_errs, cf_reader::proofs::Steps::more_closes, cf_reader::proofs::Steps::more_unclosed), unfolding(cf_reader::specs::Readers::others_of))]
+#[tactic(auto, unfolding(cf_reader::specs::Readers::others_of))]
 fn more_bounds(first: Vec<u32>, tokens: &[Token]) -> Result<(Vec<u32>, &[Token]), Stop>
     ensures { ReadAnswer (λ x. (x.0.items, x.1.now)) result (others_of snoc (must a_numeral) (Sign (codes ",")) (Sign (codes "]")) first.items tokens.now) }
 {
@@ -186,7 +206,7 @@ fn more_bounds(first: Vec<u32>, tokens: &[Token]) -> Result<(Vec<u32>, &[Token])
         match after_sign(",", rest) {
             Some((_, behind)) => {
                 let (x, behind) = expect_numeral(behind)?;
-                done.push(x)?;
+                done = with_bound(done, x)?;
                 rest = behind;
             }
             None => {
@@ -204,13 +224,11 @@ fn more_bounds(first: Vec<u32>, tokens: &[Token]) -> Result<(Vec<u32>, &[Token])
 pub fn bounds(alloc: Global, tokens: &[Token]) -> Result<(Vec<u32>, &[Token]), Stop>
     ensures { ReadAnswer (λ x. (x.0.items, x.1.now)) result (bounds_of tokens.now) }
 {
-    let mut all = Vec::new(alloc);
     match after_sign("]", tokens) {
-        Some((_, rest)) => Ok((all, rest)),
+        Some((_, rest)) => Ok((Vec::new(alloc), rest)),
         None => {
             let (x, rest) = expect_numeral(tokens)?;
-            all.push(x)?;
-            more_bounds(all, rest)
+            more_bounds(with_bound(Vec::new(alloc), x)?, rest)
         }
     }
 }

@@ -1,15 +1,16 @@
 //! Parts of codes.
-ghost use Rattle.std.specs.Prelude.{◌≡◌, ◌∷◌, [], map, nat_eq, nat_le, ◌||◌, neg_ℤ, ◌≤ℤ◌, pos, Ok};
+ghost use Rattle.std.specs.Prelude.{◌≡◌, ◌∷◌, [], map, codes, nat_eq, nat_le, ◌||◌, neg_ℤ, ◌≤ℤ◌, pos, Ok};
+ghost use Rattle.cf_lex.specs.declared.token.TokenKind.TheVariants.{Sign};
 ghost use Rattle.cf_tree.specs.CodeTree.{code_depth};
 ghost use Rattle.cf_tree.specs.CodeView.{code_tree, item_tree, arm_tree};
 ghost use Rattle.cf_reader.specs.Answers.{ReadAnswer, FirstAnswer};
-ghost use Rattle.cf_reader.specs.Readers.{at, snoc};
+ghost use Rattle.cf_reader.specs.Readers.{at, bind, is, must, pure, snoc};
 ghost use Rattle.cf_target.specs.Reading.{lone_literal as lone_literal_of, divides_by as divides_by_of, negative_of};
 
 use crate::node;
 use cf_lex::Token;
 use cf_reader::stop::Stop;
-use cf_reader::tokens::{after_word, expect_literal};
+use cf_reader::tokens::{after_word, expect_literal, expect_sign};
 use cf_tree::code::{Arm, Code, Item};
 
 // Whether the depth of a code is at most `n`.
@@ -67,6 +68,17 @@ pub fn negative(tokens: &[Token]) -> Result<(Code, &[Token]), Stop>
 {
     let ((_, k), rest) = expect_literal(1, tokens)?;
     Ok((node::literal(negated(&k)), rest))
+}
+
+/// The code, where a closing parenthesis stands behind it, and the tokens after it.
+#[tactic(auto, unfolding(cf_reader::specs::Readers::bind, cf_reader::specs::Readers::pure))]
+pub fn closed(code: Code, tokens: &[Token]) -> Result<(Code, &[Token]), Stop>
+    ensures { ReadAnswer (λ x. (code_tree x.0, x.1.now)) result (bind (must (is (Sign (codes ")")))) (λ p. pure (code_tree code)) tokens.now) }
+{
+    match expect_sign(")", tokens) {
+        Ok((_, rest)) => Ok((code, rest)),
+        Err(stop) => Err(node::without(code, stop)),
+    }
 }
 
 /// The codes with one more.

@@ -29,11 +29,11 @@ pub const DEPTH_LIMIT: u32 = 500;
 fn bases(alloc: Global, tokens: &[Token]) -> Result<(Vec<Base>, &[Token]), Stop>
     ensures { ReadAnswer (λ x. (x.0.items, x.1.now)) result (bases_of tokens.now) }
 {
-    let mut all = Vec::new(alloc);
     match after_sign(")", tokens) {
-        Some((_, rest)) => Ok((all, rest)),
+        Some((_, rest)) => Ok((Vec::new(alloc), rest)),
         None => {
             let (x, rest) = expect_base(tokens)?;
+            let mut all = Vec::new(alloc);
             all.push(x)?;
             more_bases(all, rest)
         }

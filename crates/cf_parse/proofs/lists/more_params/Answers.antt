@@ -1,9 +1,30 @@
-use Rattle.std.proofs.Common.{rules, arith}
+use Rattle.std.proofs.Common.{refl, sym, ◌∙◌, arith}
 use Rattle.std.proofs.lemmas.Result.{err_from_is_err_and}
 use Rattle.cf_reader.specs.Readers.{others_of, snoc}
-use Rattle.cf_reader.proofs.Steps.{more_fails, more_next}
+use Rattle.cf_target.proofs.Loops.{more_open, out_of_memory}
+use Rattle.cf_reader.proofs.Steps.{more_closes, more_ends, more_fails, more_next, ok_same}
 use Rattle.cf_parse.specs.Reading.{param_of}
 use Rattle.cf_parse.proofs.lists.more_params.Goals as goal
+
+pub returns-in-None : goal.returns-in-None
+unfolding others_of
+returns-in-None c =
+    sym c.loop.invariant ∙ more_closes snoc param_of _ _ _ _ _ _ _ c.in-None.ensures c.in_ok-behind-in-None.ensures (omega arith)
+
+pub returns-in_err-behind-in-None : goal.returns-in_err-behind-in-None
+unfolding others_of
+returns-in_err-behind-in-None c =
+    let p = err_from_is_err_and c.from_residual-in_err-behind-in-None.result c.from_residual-in_err-behind-in-None.ensures.1 in
+    rw (p.1, p.2, ← c.loop.invariant) (more_open snoc param_of _ _ _ _ _ _ c.in-None.ensures c.in_err-behind-in-None.ensures (omega arith))
+
+pub returns-in_err-done-in-Some : goal.returns-in_err-done-in-Some
+returns-in_err-done-in-Some c =
+    let p = err_from_is_err_and c.from_residual-in_err-done-in-Some.result c.from_residual-in_err-done-in-Some.ensures.1 in
+    rw (p.1, p.2) (out_of_memory _ _ _ c.in_err-done-in-Some.ensures)
+
+pub returns : goal.returns
+unfolding others_of
+returns c = sym c.loop.invariant ∙ more_ends snoc param_of _ _ _ _ _ (omega arith)
 
 pub returns-in_err-x-in-Some : goal.returns-in_err-x-in-Some
 unfolding others_of
@@ -12,4 +33,5 @@ returns-in_err-x-in-Some c =
     rw (p.1, p.2, ← c.loop.invariant) (more_fails snoc param_of _ _ _ _ _ _ _ _ c.in-Some.ensures c.in_err-x-in-Some.ensures (omega arith))
 
 pub loop-preserved : goal.loop-preserved
-loop-preserved c = more_next snoc param_of _ _ _ _ _ _ _ _ _ _ _ _ c.in-Some.ensures c.in_ok-x-in-Some.ensures (omega arith) (search rules) c.loop.invariant
+loop-preserved c = more_next snoc param_of _ _ _ _ _ _ _ _ _ _ _ _ c.in-Some.ensures c.in_ok-x-in-Some.ensures (omega arith)
+    (ok_same _ _ _ refl c.in_ok-done-in-Some.ensures) c.loop.invariant

@@ -1,10 +1,31 @@
-use Rattle.std.proofs.Common.{refl, arith}
+use Rattle.std.proofs.Common.{refl, sym, ◌∙◌, arith}
 use Rattle.std.proofs.lemmas.Result.{err_from_is_err_and}
 use Rattle.cf_reader.specs.Readers.{others_of, snoc}
-use Rattle.cf_reader.proofs.Steps.{more_fails, more_next, ok_same}
+use Rattle.cf_reader.proofs.Steps.{more_closes, more_ends, more_fails, more_next, ok_same}
+use Rattle.cf_target.proofs.Loops.{more_open, out_of_memory}
 use Rattle.cf_parse.specs.declared.tier.Tier.TheVariants.{Whole}
 use Rattle.cf_parse.specs.Reading.{arm_of, read}
 use Rattle.cf_parse.proofs.reading.+reading.Goals as goal
+
+pub more-returns-in-None-clause-value : goal.more-returns-in-None-clause-value
+unfolding others_of
+more-returns-in-None-clause-value t c =
+    sym c.loop.invariant.1 ∙ more_closes snoc (read c.args.n Whole) _ _ _ _ _ _ _ c.in-None.ensures c.in_ok-behind-in-None.ensures (omega arith)
+
+pub more-returns-in_err-behind-in-None-clause-value : goal.more-returns-in_err-behind-in-None-clause-value
+unfolding others_of
+more-returns-in_err-behind-in-None-clause-value t c =
+    let p = err_from_is_err_and c.from_residual-in_err-behind-in-None.result c.from_residual-in_err-behind-in-None.ensures.1 in
+    rw (p.1, p.2, ← c.loop.invariant.1) (more_open snoc (read c.args.n Whole) _ _ _ _ _ _ c.in-None.ensures c.in_err-behind-in-None.ensures (omega arith))
+
+pub more-returns-in_err-done-in-Some-clause-value : goal.more-returns-in_err-done-in-Some-clause-value
+more-returns-in_err-done-in-Some-clause-value t c =
+    let p = err_from_is_err_and c.from_residual-in_err-done-in-Some.result c.from_residual-in_err-done-in-Some.ensures.1 in
+    rw (p.1, p.2) (out_of_memory _ _ _ c.in_err-done-in-Some.ensures.value)
+
+pub more-returns-clause-value : goal.more-returns-clause-value
+unfolding others_of
+more-returns-clause-value t c = sym c.loop.invariant.1 ∙ more_ends snoc (read c.args.n Whole) _ _ _ _ _ (omega arith)
 
 pub more-returns-in_err-e-in-Some-clause-value : goal.more-returns-in_err-e-in-Some-clause-value
 unfolding others_of
@@ -21,6 +42,26 @@ more-loop-preserved t c =
       more_next snoc (read c.args.n Whole) _ _ _ _ _ _ _ _ _ _ _ _ c.in-Some.ensures c.in_ok-e-in-Some.ensures.value (omega arith)
           (ok_same _ _ _ refl c.in_ok-done-in-Some.ensures.value) c.loop.invariant.1,
     )
+
+pub more_arms-returns-in-None-clause-value : goal.more_arms-returns-in-None-clause-value
+unfolding others_of
+more_arms-returns-in-None-clause-value t c =
+    sym c.loop.invariant.1 ∙ more_closes snoc (arm_of (read c.args.n)) _ _ _ _ _ _ _ c.in-None.ensures c.in_ok-behind-in-None.ensures (omega arith)
+
+pub more_arms-returns-in_err-behind-in-None-clause-value : goal.more_arms-returns-in_err-behind-in-None-clause-value
+unfolding others_of
+more_arms-returns-in_err-behind-in-None-clause-value t c =
+    let p = err_from_is_err_and c.from_residual-in_err-behind-in-None.result c.from_residual-in_err-behind-in-None.ensures.1 in
+    rw (p.1, p.2, ← c.loop.invariant.1) (more_open snoc (arm_of (read c.args.n)) _ _ _ _ _ _ c.in-None.ensures c.in_err-behind-in-None.ensures (omega arith))
+
+pub more_arms-returns-in_err-done-in-Some-clause-value : goal.more_arms-returns-in_err-done-in-Some-clause-value
+more_arms-returns-in_err-done-in-Some-clause-value t c =
+    let p = err_from_is_err_and c.from_residual-in_err-done-in-Some.result c.from_residual-in_err-done-in-Some.ensures.1 in
+    rw (p.1, p.2) (out_of_memory _ _ _ c.in_err-done-in-Some.ensures.value)
+
+pub more_arms-returns-clause-value : goal.more_arms-returns-clause-value
+unfolding others_of
+more_arms-returns-clause-value t c = sym c.loop.invariant.1 ∙ more_ends snoc (arm_of (read c.args.n)) _ _ _ _ _ (omega arith)
 
 pub more_arms-returns-in_err-x-in-Some-clause-value : goal.more_arms-returns-in_err-x-in-Some-clause-value
 unfolding others_of

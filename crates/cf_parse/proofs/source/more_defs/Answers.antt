@@ -1,6 +1,15 @@
 use Rattle.std.proofs.Common.{rules, ◌-◌, ◌+◌, length, arith}
-use Rattle.cf_parse.proofs.Defs.{defs_next, not_empty}
+use Rattle.std.proofs.lemmas.Result.{err_from_is_err_and}
+use Rattle.cf_parse.specs.Programs.{all_defs}
+use Rattle.cf_parse.proofs.Defs.{defs_fail, defs_next, not_empty}
 use Rattle.cf_parse.proofs.source.more_defs.Goals as goal
+
+pub returns-in_err-x : goal.returns-in_err-x
+unfolding all_defs
+returns-in_err-x c =
+    let p = err_from_is_err_and c.from_residual.result c.from_residual.ensures.1 in
+    rw (p.1, p.2, ← c.loop.invariant) (defs_fail c.args.limit _ _ _ _ c.in_err-x.ensures (omega arith)
+    (not_empty c.loop.rest.now _ c.is_empty.ensures c.if-is_empty.false))
 
 pub loop-preserved : goal.loop-preserved
 loop-preserved c =

@@ -42,6 +42,15 @@ decreases-inside l = 32 * l.m + 10
 abbrev pub decreases-behind : goal.decreases-behind
 decreases-behind l = 32 * l.m + 9
 
+abbrev pub decreases-behind_comma : goal.decreases-behind_comma
+decreases-behind_comma l = 32 * l.n + 2
+
+abbrev pub decreases-behind_divides : goal.decreases-behind_divides
+decreases-behind_divides l = 32 * l.n + 2
+
+abbrev pub decreases-operands : goal.decreases-operands
+decreases-operands l = 32 * l.n + 2
+
 abbrev pub decreases-operated : goal.decreases-operated
 decreases-operated l = 32 * l.n + 3
 
