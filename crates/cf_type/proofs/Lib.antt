@@ -1,6 +1,7 @@
 mod CheckLemmas
 mod CountedLaws
 mod DivisorLaws
+mod Loops
 mod NameLemmas
 mod NumberLemmas
 mod ReadingLemmas

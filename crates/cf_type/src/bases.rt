@@ -118,22 +118,12 @@ fn side(op: BinOp) -> Option<Base>
     ensures { result ≡ side_base op }
 {
     match op {
-        BinOp::Add => Some(Base::Int),
-        BinOp::Sub => Some(Base::Int),
-        BinOp::Mul => Some(Base::Int),
-        BinOp::And => Some(Base::Bool),
-        BinOp::Or => Some(Base::Bool),
-        BinOp::Union => Some(Base::Set),
-        BinOp::Inter => Some(Base::Set),
-        BinOp::Diff => Some(Base::Set),
-        BinOp::Subset => Some(Base::Set),
+        BinOp::Add | BinOp::Sub | BinOp::Mul => Some(Base::Int),
+        BinOp::And | BinOp::Or => Some(Base::Bool),
+        BinOp::Union | BinOp::Inter | BinOp::Diff | BinOp::Subset => Some(Base::Set),
         BinOp::Compare(order) => match order {
-            Order::Eq => None,
-            Order::Ne => None,
-            Order::Lt => Some(Base::Int),
-            Order::Le => Some(Base::Int),
-            Order::Gt => Some(Base::Int),
-            Order::Ge => Some(Base::Int),
+            Order::Eq | Order::Ne => None,
+            Order::Lt | Order::Le | Order::Gt | Order::Ge => Some(Base::Int),
         },
     }
 }
@@ -153,15 +143,9 @@ pub fn result_of(op: BinOp) -> Base
     ensures { result ≡ result_base op }
 {
     match op {
-        BinOp::Add => Base::Int,
-        BinOp::Sub => Base::Int,
-        BinOp::Mul => Base::Int,
-        BinOp::And => Base::Bool,
-        BinOp::Or => Base::Bool,
-        BinOp::Union => Base::Set,
-        BinOp::Inter => Base::Set,
-        BinOp::Diff => Base::Set,
-        BinOp::Subset => Base::Bool,
+        BinOp::Add | BinOp::Sub | BinOp::Mul => Base::Int,
+        BinOp::And | BinOp::Or | BinOp::Subset => Base::Bool,
+        BinOp::Union | BinOp::Inter | BinOp::Diff => Base::Set,
         BinOp::Compare(_) => Base::Bool,
     }
 }

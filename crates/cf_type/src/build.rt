@@ -17,6 +17,7 @@ ghost use Rattle.cf_tree.specs.Typing.{one as one_base};
 
 use crate::callees::Caller;
 use crate::form::{Arms, Form, Forms, Reading};
+use crate::memory::{in_box, push};
 use crate::reading::Operation;
 use crate::{bases, reading};
 use cf_program::fault::TypeFault;
@@ -38,7 +39,7 @@ fn boxed(
 ) -> Result<Form, TypeFault>
     ensures { CheckAnswer form_of result (form_is bases.items (expr_tree tree) (reading_of reading) next) }
 {
-    match Box::new(alloc, tree) {
+    match in_box(alloc, tree) {
         Ok(tree) => Ok(Form {
             bases,
             tree,
@@ -69,7 +70,7 @@ fn made(
 pub fn literal(alloc: Global, k: i128, next: u32) -> Result<Form, TypeFault>
     ensures { CheckAnswer form_of result (form_is (one_base int) (expr_lit k) (a_term (term_lit k)) next) }
 {
-    let reading = Reading::Term(Box::new(alloc, Term::Lit(k))?);
+    let reading = Reading::Term(in_box(alloc, Term::Lit(k))?);
     made(alloc, Base::Int, Expr::Lit(k), reading, next)
 }
 
@@ -109,7 +110,7 @@ fn set_reading(
     ensures { IfOk result (λ r. reading_of r ≡ set_reading_of place first_nonlinear (map expr_tree trees.now)) }
 {
     match trees.split_first() {
-        None => Ok(Reading::Set(Box::new(alloc, SetTerm::Empty)?)),
+        None => Ok(Reading::Set(in_box(alloc, SetTerm::Empty)?)),
         Some(_) => Ok(reading::not_linear_at(first_nonlinear, place)),
     }
 }
@@ -674,7 +675,7 @@ pub fn with_form(before: Forms, form: Form) -> Result<Forms, NoMemory>
     );
     drop(reading);
     bases.push(own)?;
-    trees.push(Box::into_inner(tree))?;
+    push(&mut trees, Box::into_inner(tree))?;
     Ok(Forms {
         bases,
         trees,
@@ -753,6 +754,22 @@ fn arm_of(
     }
 }
 
+// Adds the arm of that pattern and body to trees.
+fn push_arm(
+    alloc: Global,
+    trees: &mut Vec<MatchArm>,
+    number: u32,
+    parts: &[Part],
+    constant: i128,
+    body: Box<Expr>,
+) -> Result<(), NoMemory>
+    ensures { OnOk result (map match_arm_tree trees.new.items ≡ map match_arm_tree trees.old.items
+        ++ match_arm number (map (λ x. x.factor) parts.now) constant (expr_tree body.value) ∷ []) }
+{
+    let arm = arm_of(alloc, number, parts, constant, body)?;
+    push(trees, arm)
+}
+
 // Adds an arm of that pattern and body.
 fn add_arm(
     alloc: Global,
@@ -773,8 +790,7 @@ fn add_arm(
     drop(reading);
     arms.bases.push(bases)?;
     let number = number_of(arms.next, parts);
-    arms.trees
-        .push(arm_of(alloc, number, parts, constant, tree)?)?;
+    push_arm(alloc, &mut arms.trees, number, parts, constant, tree)?;
     arms.first_nonlinear = reading::earlier_nonlinear(arms.first_nonlinear, first);
     arms.next = next;
     Ok(())

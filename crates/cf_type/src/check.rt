@@ -4,7 +4,7 @@ ghost use Rattle.std.specs.Str.{bytes_eq};
 ghost use Rattle.cf_tree.specs.DefView.{program_tree, raw_def_tree, def_tree, DefTree};
 ghost use Rattle.cf_tree.specs.RawTree.{place_of};
 ghost use Rattle.cf_tree.specs.RawView.{raw_tree};
-ghost use Rattle.cf_program.specs.Checked.{checked, checked_by, walk_def as walk_def_of, walk_defs as walk_defs_of, main_from, def_form};
+ghost use Rattle.cf_program.specs.Checked.{checked, checked_by, walk_def as walk_def_of, walk_defs as walk_defs_of, main_from, sized, TypedTree, def_form};
 ghost use Rattle.cf_program.specs.declared.fault.TypeFault.TheVariants.{Mismatch};
 ghost use Rattle.cf_type.specs.FormView.{form_of, context_of};
 ghost use Rattle.cf_program.specs.DistinctNames.{IsDistinctlyNamed};
@@ -20,6 +20,7 @@ ghost use Rattle.cf_program.specs.Walk.{where_kept, in_body, walk as walk_of};
 use crate::build::bare;
 use crate::callees::{Callees, Caller};
 use crate::form::Form;
+use crate::memory::push;
 use crate::names::repeated_param;
 use crate::scope::Scope;
 use crate::size;
@@ -30,7 +31,7 @@ use cf_program::typed::{Late, Typed, TypedDefs};
 use cf_tree::base::{Text, same_bases};
 use cf_tree::copy::words::copy_params;
 use cf_tree::expr::Def;
-use cf_tree::memory::NoMemory;
+use cf_tree::memory::{NoMemory, without};
 use cf_tree::raw::{Program, RawDef};
 use std::alloc::Global;
 
@@ -71,17 +72,29 @@ fn check_by(alloc: Global, how: Linearity, program: &Program) -> Result<TypedDef
     ensures typed { IfOk result (λ t. IsProgramBy (IsLinearBy how) (map def_tree t.defs.items) t.main) }
 {
     let defs = walk_defs(alloc, how, &program.defs)?;
-    let main = match find_main(&program.defs)? {
+    match main_of(alloc, &program.defs, &defs) {
+        Ok(main) => Ok(TypedDefs { defs, main }),
+        Err(fault) => Err(without(defs, fault)),
+    }
+}
+
+// The number of `main` among the functions of these trees, where no tree is too large.
+#[tactic(auto, using(crate::proofs::CheckLemmas::fails_is))]
+fn main_of(alloc: Global, defs: &[RawDef], trees: &[Def]) -> Result<u32, TypeFault>
+    ensures { CheckAnswer {Y = TypedTree} (λ main. record { defs = map def_tree trees.now; main = main }) result
+        (sized (map def_tree trees.now) (main_from 0 (map raw_def_tree defs.now))) }
+{
+    let main = match find_main(defs)? {
         None => return Err(TypeFault::NoMain),
         Some(main) => main,
     };
-    if let Some(fault) = size::weight_fault(alloc, &defs)? {
+    if let Some(fault) = size::weight_fault(alloc, trees)? {
         return Err(fault);
     }
-    if let Some(fault) = size::depth_fault(alloc, &defs)? {
+    if let Some(fault) = size::depth_fault(alloc, trees)? {
         return Err(fault);
     }
-    Ok(TypedDefs { defs, main })
+    Ok(main)
 }
 
 // The body of a function, in this scope with its parameters.
@@ -198,7 +211,7 @@ fn walk_each(
     let mut next = 1;
     for i in 0..defs.len() {
         let (def, after) = walk_def(alloc, how, callees, &defs[..i], &defs[i], next)?;
-        done.push(def)?;
+        push(&mut done, def)?;
         next = after;
     }
     Ok(done)

@@ -6,6 +6,7 @@ mod build;
 mod callees;
 pub mod check;
 mod form;
+mod memory;
 mod name_set;
 mod names;
 mod reading;

@@ -192,14 +192,11 @@ fn is_fixed_below(known: usize, term: &Term) -> bool
     match term {
         Term::Lit(_) => true,
         Term::Var(x) => (*x as usize) < known,
-        Term::Card(_) => false,
-        Term::Neg(a) => is_fixed_below(known, a),
-        Term::Add(a, b) => is_fixed_below(known, a) && is_fixed_below(known, b),
-        Term::Sub(a, b) => is_fixed_below(known, a) && is_fixed_below(known, b),
-        Term::Mul(a, b) => is_fixed_below(known, a) && is_fixed_below(known, b),
-        Term::Div(_, _) => false,
-        Term::Mod(_, _) => false,
-        Term::Abs(a) => is_fixed_below(known, a),
+        Term::Neg(a) | Term::Abs(a) => is_fixed_below(known, a),
+        Term::Add(a, b) | Term::Sub(a, b) | Term::Mul(a, b) => {
+            is_fixed_below(known, a) && is_fixed_below(known, b)
+        }
+        Term::Card(_) | Term::Div(_, _) | Term::Mod(_, _) => false,
     }
 }
 

@@ -111,18 +111,39 @@ impl Scope {
         params_of(alloc, &self.bindings)
     }
 
+    // What the table has for a parameter once it is bound: its name, and the variable that it is.
+    fn entry(&self, alloc: Global, param: &Param) -> Result<(Vec<u8>, Variable), NoMemory>
+        ensures { IfOk result (λ e. (e.0.items ≡ param.now.name) × (e.1 ≡ record { level = length self.now; base = param.now.base })) }
+    {
+        let level = to_u32(self.len())?;
+        let name = Vec::from_slice(alloc, param.name.bytes.as_slice())?;
+        Ok((name, variable_at(level, param)))
+    }
+
     // Binds one more variable.
     fn push(&mut self, alloc: Global, param: Param) -> Result<(), NoMemory>
         ensures { OnOk result (self.new ≡ self.old ++ param ∷ []) }
     {
         let hidden = self.find(&param.name);
-        let level = to_u32(self.len())?;
-        let variable = variable_at(level, &param);
-        let name = Vec::from_slice(alloc, param.name.bytes.as_slice())?;
+        let (name, variable) = self.entry(alloc, &param)?;
         self.bindings.reserve(1)?;
         self.innermost.insert(name, Some(variable))?;
         self.bindings.push(Binding { param, hidden })?;
         Ok(())
+    }
+
+    // Binds a name, copied.
+    fn push_named(
+        &mut self,
+        alloc: Global,
+        place: Place,
+        name: &Text,
+        base: Base,
+    ) -> Result<(), NoMemory>
+        ensures { OnOk result (self.new ≡ self.old ++ record { place = place; name = name.now; base = base } ∷ []) }
+    {
+        let name = name.try_copy(alloc)?;
+        self.push(alloc, Param { place, name, base })
     }
 
     /// Binds parameters or outputs.
@@ -140,14 +161,7 @@ impl Scope {
         ensures { OnOk result (self.new ≡ self.old ++ variables_of parts.now) }
     {
         for part in parts {
-            self.push(
-                alloc,
-                Param {
-                    place: part.place,
-                    name: part.name.try_copy(alloc)?,
-                    base: Base::Int,
-                },
-            )?;
+            self.push_named(alloc, part.place, &part.name, Base::Int)?;
         }
         Ok(())
     }
@@ -184,14 +198,7 @@ impl Scope {
                 Some((place, more)) => match later_bases.split_first() {
                     None => return Ok(()),
                     Some((base, rest)) => {
-                        self.push(
-                            alloc,
-                            Param {
-                                place: *place,
-                                name: name.try_copy(alloc)?,
-                                base: *base,
-                            },
-                        )?;
+                        self.push_named(alloc, *place, name, *base)?;
                         later_places = more;
                         later_bases = rest;
                     }

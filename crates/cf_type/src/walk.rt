@@ -31,18 +31,21 @@ struct LetNames<'a> {
 #[cycle(walk)]
 #[tactic(auto, using(crate::proofs::WalkSteps::fails_then))]
 pub fn walk(caller: &Caller, scope: &mut Scope, next: u32, raw: &Raw) -> Result<Form, TypeFault>
-    ensures gives { CheckAnswer form_of result
-        (walk_of (context_of caller.now) scope.old next (raw_tree raw.now)) }
-    ensures kept { OnOk result (scope.new ≡ scope.old) }
+    ensures { CheckAnswer form_of result
+        (walk_of (context_of caller.now) scope.old next (raw_tree raw.now))
+        × OnOk result (scope.new ≡ scope.old) }
 {
     let place = raw.place;
+    // for the proof: a `match` is one call where a `?` is three
     match &raw.node {
         RawNode::Lit(k) => build::literal(caller.alloc, *k, next),
         RawNode::Truth(t) => build::truth(caller.alloc, *t, next),
         RawNode::Name(name) => build::variable(caller.alloc, place, next, scope.find(name)),
         RawNode::SetOf(parts) | RawNode::Tuple(parts) | RawNode::Call { args: parts, .. } => {
-            let parts = walk_all(caller, scope, next, parts)?;
-            build::over_row(caller, raw, parts)
+            match walk_all(caller, scope, next, parts) {
+                Ok(parts) => build::over_row(caller, raw, parts),
+                Err(fault) => Err(fault),
+            }
         }
         RawNode::Group(a) => walk(caller, scope, next, a),
         RawNode::Neg(a)
@@ -51,41 +54,43 @@ pub fn walk(caller: &Caller, scope: &mut Scope, next: u32, raw: &Raw) -> Result<
         | RawNode::Card(a)
         | RawNode::Divides { of: a, .. }
         | RawNode::Div { of: a, .. }
-        | RawNode::Mod { of: a, .. } => {
-            let a = walk(caller, scope, next, a)?;
-            build::over_one(caller.alloc, raw, a)
-        }
-        RawNode::Binary { op, left, right } => {
-            let left = walk(caller, scope, next, left)?;
-            walk_right(caller, scope, place, *op, left, right)
-        }
-        RawNode::If { test, yes, no } => {
-            let test = walk(caller, scope, next, test)?;
-            match walk(caller, scope, test.next, yes) {
+        | RawNode::Mod { of: a, .. } => match walk(caller, scope, next, a) {
+            Ok(a) => build::over_one(caller.alloc, raw, a),
+            Err(fault) => Err(fault),
+        },
+        RawNode::Binary { op, left, right } => match walk(caller, scope, next, left) {
+            Ok(left) => walk_right(caller, scope, place, *op, left, right),
+            Err(fault) => Err(fault),
+        },
+        RawNode::If { test, yes, no } => match walk(caller, scope, next, test) {
+            Ok(test) => match walk(caller, scope, test.next, yes) {
                 Ok(yes) => walk_no(caller, scope, place, test, yes, no),
                 Err(fault) => Err(without(test, fault)),
-            }
-        }
+            },
+            Err(fault) => Err(fault),
+        },
         RawNode::Let {
             names,
             places,
             value,
             body,
-        } => {
-            let value = walk(caller, scope, next, value)?;
-            let names = LetNames {
-                texts: names.as_slice(),
-                places: places.as_slice(),
-            };
-            walk_let(caller, scope, place, names, value, body)
-        }
+        } => match walk(caller, scope, next, value) {
+            Ok(value) => {
+                let names = LetNames {
+                    texts: names.as_slice(),
+                    places: places.as_slice(),
+                };
+                walk_let(caller, scope, place, names, value, body)
+            }
+            Err(fault) => Err(fault),
+        },
         RawNode::Choose { outputs, rel } => {
             walk_choose(caller, scope, place, next, outputs, rel)
         }
-        RawNode::Match { of, arms } => {
-            let of = walk_matched(caller, scope, next, of)?;
-            walk_match(caller, scope, place, next, of, arms)
-        }
+        RawNode::Match { of, arms } => match walk_matched(caller, scope, next, of) {
+            Ok(of) => walk_match(caller, scope, place, next, of, arms),
+            Err(fault) => Err(fault),
+        },
     }
 }
 
@@ -100,10 +105,10 @@ fn walk_right(
     left: Form,
     right: &Raw,
 ) -> Result<Form, TypeFault>
-    ensures gives { CheckAnswer form_of result
+    ensures { CheckAnswer form_of result
         (chained (walk_of (context_of caller.now) scope.old left.next (raw_tree right.now))
-        (binary_form (context_of caller.now).known place op (form_of left))) }
-    ensures kept { OnOk result (scope.new ≡ scope.old) }
+        (binary_form (context_of caller.now).known place op (form_of left)))
+        × OnOk result (scope.new ≡ scope.old) }
 {
     match walk(caller, scope, left.next, right) {
         Ok(right) => build::binary(caller, place, op, left, right),
@@ -122,10 +127,10 @@ fn walk_no(
     yes: Form,
     no: &Raw,
 ) -> Result<Form, TypeFault>
-    ensures gives { CheckAnswer form_of result
+    ensures { CheckAnswer form_of result
         (chained (walk_of (context_of caller.now) scope.old yes.next (raw_tree no.now))
-        (if_form place (form_of test) (form_of yes))) }
-    ensures kept { OnOk result (scope.new ≡ scope.old) }
+        (if_form place (form_of test) (form_of yes)))
+        × OnOk result (scope.new ≡ scope.old) }
 {
     match walk(caller, scope, yes.next, no) {
         Ok(no) => build::choice(caller.alloc, place, test, yes, no),
@@ -137,9 +142,9 @@ fn walk_no(
 #[cycle(walk)]
 #[tactic(auto, using(crate::proofs::WalkSteps::more_fails))]
 fn walk_all(caller: &Caller, scope: &mut Scope, next: u32, raws: &[Raw]) -> Result<Forms, TypeFault>
-    ensures gives { CheckAnswer forms_of result
-        (walk_all_of (context_of caller.now) scope.old (no_forms_of next) (raw_trees raws.now)) }
-    ensures kept { OnOk result (scope.new ≡ scope.old) }
+    ensures { CheckAnswer forms_of result
+        (walk_all_of (context_of caller.now) scope.old (no_forms_of next) (raw_trees raws.now))
+        × OnOk result (scope.new ≡ scope.old) }
 {
     let mut done = build::no_forms(caller.alloc, next);
     for raw in raws {
@@ -153,7 +158,6 @@ fn walk_all(caller: &Caller, scope: &mut Scope, next: u32, raws: &[Raw]) -> Resu
 
 // A `let` whose value was walked.
 #[cycle(walk)]
-#[tactic(auto, using(crate::proofs::WalkSteps::fails_then, crate::proofs::WalkSteps::left_again))]
 fn walk_let(
     caller: &Caller,
     scope: &mut Scope,
@@ -162,13 +166,13 @@ fn walk_let(
     value: Form,
     body: &Raw,
 ) -> Result<Form, TypeFault>
-    ensures gives { CheckAnswer form_of result
+    ensures { CheckAnswer form_of result
         (where_none_repeated (repeated_of [] names.entry.texts.now names.entry.places.now)
         (where_kept (length names.entry.texts.now == length value.bases.items) (WrongCount place)
         (chained (walk_of (context_of caller.now)
         (scope.old ++ bound names.entry.texts.now names.entry.places.now value.bases.items) value.next (raw_tree body.now))
-        (let_form place (length names.entry.texts.now) (form_of value))))) }
-    ensures kept { OnOk result (scope.new ≡ scope.old) }
+        (let_form place (length names.entry.texts.now) (form_of value)))))
+        × OnOk result (scope.new ≡ scope.old) }
 {
     match repeated(caller.alloc, names.texts, names.places) {
         Ok(None) => (),
@@ -178,6 +182,26 @@ fn walk_let(
     if names.texts.len() != value.bases.len() {
         return Err(without(value, TypeFault::WrongCount(place)));
     }
+    walk_bound(caller, scope, place, names, value, body)
+}
+
+// A `let` of as many different names as its value has parts.
+#[cycle(walk)]
+#[tactic(auto, using(crate::proofs::WalkSteps::fails_then, crate::proofs::WalkSteps::left_again))]
+fn walk_bound(
+    caller: &Caller,
+    scope: &mut Scope,
+    place: Place,
+    names: LetNames,
+    value: Form,
+    body: &Raw,
+) -> Result<Form, TypeFault>
+    ensures { CheckAnswer form_of result
+        (chained (walk_of (context_of caller.now)
+        (scope.old ++ bound names.entry.texts.now names.entry.places.now value.bases.items) value.next (raw_tree body.now))
+        (let_form place (length names.entry.texts.now) (form_of value)))
+        × OnOk result (scope.new ≡ scope.old) }
+{
     let size = scope.len();
     match scope.bind(caller.alloc, names.texts, names.places, &value.bases) {
         Ok(()) => (),
@@ -194,7 +218,6 @@ fn walk_let(
 
 // A `choose` of this number.
 #[cycle(walk)]
-#[tactic(auto, using(crate::proofs::WalkSteps::fails_then, crate::proofs::WalkSteps::read_alike))]
 fn walk_choose(
     caller: &Caller,
     scope: &mut Scope,
@@ -203,16 +226,36 @@ fn walk_choose(
     outputs: &[Param],
     rel: &Raw,
 ) -> Result<Form, TypeFault>
-    ensures gives { CheckAnswer form_of result
+    ensures { CheckAnswer form_of result
         (where_no_fault (output_fault_of [] outputs.now)
         (chained (chained (walk_of (in_relation (context_of caller.now) (length scope.old)) (scope.old ++ outputs.now) (number + 1) (raw_tree rel.now))
         (choose_form place number scope.old outputs.now))
-        (λ f. chained (walk_of (context_of caller.now) (scope.old ++ outputs.now) (number + 1) (raw_tree rel.now)) (choose_part place f)))) }
-    ensures kept { OnOk result (scope.new ≡ scope.old) }
+        (λ f. chained (walk_of (context_of caller.now) (scope.old ++ outputs.now) (number + 1) (raw_tree rel.now)) (choose_part place f))))
+        × OnOk result (scope.new ≡ scope.old) }
 {
     if let Some(fault) = output_fault(caller.alloc, outputs)? {
         return Err(fault);
     }
+    walk_chosen(caller, scope, place, number, outputs, rel)
+}
+
+// A `choose` of this number, whose outputs may stand so.
+#[cycle(walk)]
+#[tactic(auto, using(crate::proofs::WalkSteps::fails_then, crate::proofs::WalkSteps::read_alike))]
+fn walk_chosen(
+    caller: &Caller,
+    scope: &mut Scope,
+    place: Place,
+    number: u32,
+    outputs: &[Param],
+    rel: &Raw,
+) -> Result<Form, TypeFault>
+    ensures { CheckAnswer form_of result
+        (chained (chained (walk_of (in_relation (context_of caller.now) (length scope.old)) (scope.old ++ outputs.now) (number + 1) (raw_tree rel.now))
+        (choose_form place number scope.old outputs.now))
+        (λ f. chained (walk_of (context_of caller.now) (scope.old ++ outputs.now) (number + 1) (raw_tree rel.now)) (choose_part place f)))
+        × OnOk result (scope.new ≡ scope.old) }
+{
     let next = build::following(number)?;
     let inner = caller.in_relation(scope.len());
     let read = walk_inside(&inner, scope, next, outputs, rel)?;
@@ -235,9 +278,9 @@ fn walk_part(
     rel: &Raw,
     chosen: Form,
 ) -> Result<Form, TypeFault>
-    ensures gives { CheckAnswer form_of result
-        (chained (walk_of (context_of caller.now) (scope.old ++ outputs.now) next (raw_tree rel.now)) (choose_part place (form_of chosen))) }
-    ensures kept { OnOk result (scope.new ≡ scope.old) }
+    ensures { CheckAnswer form_of result
+        (chained (walk_of (context_of caller.now) (scope.old ++ outputs.now) next (raw_tree rel.now)) (choose_part place (form_of chosen)))
+        × OnOk result (scope.new ≡ scope.old) }
 {
     match walk_inside(caller, scope, next, outputs, rel) {
         Ok(inner) => Ok(build::part(place, chosen, inner)),
@@ -255,9 +298,9 @@ fn walk_inside(
     params: &[Param],
     raw: &Raw,
 ) -> Result<Form, TypeFault>
-    ensures gives { CheckAnswer form_of result
-        (walk_of (context_of caller.now) (scope.old ++ params.now) next (raw_tree raw.now)) }
-    ensures kept { OnOk result (scope.new ≡ scope.old) }
+    ensures { CheckAnswer form_of result
+        (walk_of (context_of caller.now) (scope.old ++ params.now) next (raw_tree raw.now))
+        × OnOk result (scope.new ≡ scope.old) }
 {
     let size = scope.len();
     scope.enter(caller.alloc, params)?;
@@ -292,9 +335,9 @@ fn walk_matched(
     number: u32,
     value: &Raw,
 ) -> Result<Form, TypeFault>
-    ensures gives { CheckAnswer form_of result
-        (walk_of (context_of caller.now) scope.old (number + 1) (raw_tree value.now)) }
-    ensures kept { OnOk result (scope.new ≡ scope.old) }
+    ensures { CheckAnswer form_of result
+        (walk_of (context_of caller.now) scope.old (number + 1) (raw_tree value.now))
+        × OnOk result (scope.new ≡ scope.old) }
 {
     let next = build::following(number)?;
     walk(caller, scope, next, value)
@@ -312,10 +355,10 @@ fn walk_match(
     // for the proof: behind a call that may end early, the measure of a slice would stay open
     arms: &Vec<RawArm>,
 ) -> Result<Form, TypeFault>
-    ensures gives { CheckAnswer form_of result
+    ensures { CheckAnswer form_of result
         (chained (walk_arms_of (context_of caller.now) (scope.old ++ matched place ∷ [])
-        (no_arms_of value.next) (raw_arm_trees arms.now.items)) (match_form place number (scope.old ++ matched place ∷ []) (form_of value))) }
-    ensures kept { OnOk result (scope.new ≡ scope.old) }
+        (no_arms_of value.next) (raw_arm_trees arms.now.items)) (match_form place number (scope.old ++ matched place ∷ []) (form_of value)))
+        × OnOk result (scope.new ≡ scope.old) }
 {
     match scope.enter_matched(caller.alloc, place) {
         Ok(()) => (),
@@ -335,9 +378,9 @@ fn walk_arms(
     next: u32,
     arms: &[RawArm],
 ) -> Result<Arms, TypeFault>
-    ensures gives { CheckAnswer arms_of result
-        (walk_arms_of (context_of caller.now) scope.old (no_arms_of next) (raw_arm_trees arms.now)) }
-    ensures kept { OnOk result (scope.new ≡ scope.old) }
+    ensures { CheckAnswer arms_of result
+        (walk_arms_of (context_of caller.now) scope.old (no_arms_of next) (raw_arm_trees arms.now))
+        × OnOk result (scope.new ≡ scope.old) }
 {
     let mut done = build::no_arms(caller.alloc, next);
     for arm in arms {
@@ -352,16 +395,15 @@ fn walk_arms(
 // The body of an arm.
 #[cycle(walk)]
 fn walk_arm(caller: &Caller, scope: &mut Scope, next: u32, arm: &RawArm) -> Result<Form, TypeFault>
-    ensures gives { CheckAnswer form_of result
-        (walk_arm_of (context_of caller.now) scope.old next (raw_arm_tree arm.now)) }
-    ensures kept { OnOk result (scope.new ≡ scope.old) }
+    ensures { CheckAnswer form_of result
+        (walk_arm_of (context_of caller.now) scope.old next (raw_arm_tree arm.now))
+        × OnOk result (scope.new ≡ scope.old) }
 {
     walk_body(caller, scope, next, &arm.parts, &arm.body)
 }
 
 // The body of an arm whose pattern has these variables.
 #[cycle(walk)]
-#[tactic(auto, using(crate::proofs::WalkSteps::fails_then, crate::proofs::WalkSteps::left_again))]
 fn walk_body(
     caller: &Caller,
     scope: &mut Scope,
@@ -369,18 +411,35 @@ fn walk_body(
     parts: &[Part],
     body: &Raw,
 ) -> Result<Form, TypeFault>
-    ensures gives { CheckAnswer form_of result
+    ensures { CheckAnswer form_of result
         (where_none_repeated (repeated_of [] (map (λ x. x.name) parts.now) (map (λ x. x.place) parts.now))
         (walk_of (context_of caller.now) (scope.old ++ variables_of parts.now) (after_arm next parts.now)
-        (raw_tree body.now))) }
-    ensures kept { OnOk result (scope.new ≡ scope.old) }
+        (raw_tree body.now)))
+        × OnOk result (scope.new ≡ scope.old) }
 {
     if let Some(later) = repeated_part(caller.alloc, parts)? {
         return Err(TypeFault::DuplicateName(later));
     }
+    let next = build::after_arm_number(next, parts)?;
+    walk_behind(caller, scope, next, parts, body)
+}
+
+// A body in which the variables of a pattern are in scope too.
+#[cycle(walk)]
+#[tactic(auto, using(crate::proofs::WalkSteps::fails_then, crate::proofs::WalkSteps::left_again))]
+fn walk_behind(
+    caller: &Caller,
+    scope: &mut Scope,
+    next: u32,
+    parts: &[Part],
+    body: &Raw,
+) -> Result<Form, TypeFault>
+    ensures { CheckAnswer form_of result
+        (walk_of (context_of caller.now) (scope.old ++ variables_of parts.now) next (raw_tree body.now))
+        × OnOk result (scope.new ≡ scope.old) }
+{
     let size = scope.len();
     scope.enter_parts(caller.alloc, parts)?;
-    let next = build::after_arm_number(next, parts)?;
     let body = walk(caller, scope, next, body)?;
     scope.leave(size);
     Ok(body)

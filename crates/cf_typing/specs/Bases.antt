@@ -130,6 +130,35 @@ abbrev pub solved : ArmTrees → Option (List Base) → Option (List Base) → O
 solved no_arms asked found = asked
 solved (arm_more a arms) asked found = placed asked found
 
+-- the base of a form that has the same one at each place
+abbrev pub own_base : CodeTree → Base
+own_base (code_truth t) = Truth
+own_base (code_set_of cs) = Set
+own_base (code_compare o a b) = Truth
+own_base (code_divides k a) = Truth
+own_base (code_and a b) = Truth
+own_base (code_or a b) = Truth
+own_base (code_not a) = Truth
+own_base (code_union cs) = Set
+own_base (code_inter cs) = Set
+own_base (code_diff a b) = Set
+own_base (code_subset a b) = Truth
+own_base (code_slice a b c) = Set
+own_base (code_fresh a b) = Set
+own_base _ = Int
+
+-- the base that such a form asks of each part
+abbrev pub part_base : CodeTree → Base
+part_base (code_and a b) = Truth
+part_base (code_or a b) = Truth
+part_base (code_not a) = Truth
+part_base (code_union cs) = Set
+part_base (code_inter cs) = Set
+part_base (code_diff a b) = Set
+part_base (code_subset a b) = Set
+part_base (code_card a) = Set
+part_base _ = Int
+
 abbrev mutual
   pub bases_of : CodeTree → List Base → Option (List Base) → Option (List Base)
   bases_of (code_lit k) scope asked = placed asked (Some (one Int))

@@ -8,8 +8,8 @@ ghost use Rattle.cf_typing.specs.TypingAnswers.{BasesAnswer, BaseAnswer, DoneAns
 
 use crate::fault::TargetFault;
 use crate::form::{
-    agree, are_as_many, are_at_least, bound, compared, divides, meet, one, push_searches, single,
-    variable,
+    agree, are_as_many, are_at_least, bound, compared, divides, meet, one, own_base, part_base,
+    push_searches, single, variable,
 };
 use cf_tree::base::{Base, Order};
 use cf_tree::code::{Arm, Code, Item};
@@ -18,45 +18,35 @@ use std::alloc::Global;
 // The bases of a code at a place that asks none, under these bases of the variables in scope.
 #[cycle(infer)]
 fn infer(alloc: Global, scope: &mut Vec<Base>, code: &Code) -> Result<Vec<Base>, TargetFault>
-    ensures told { BasesAnswer result (bases_of (code_tree code.now) scope.old.items None) }
-    ensures kept { OnOk result (scope.new.items ≡ scope.old.items) }
+    ensures { BasesAnswer result (bases_of (code_tree code.now) scope.old.items None)
+        × OnOk result (scope.new.items ≡ scope.old.items) }
 {
     match code {
-        Code::Lit(_) => one(alloc, Base::Int),
-        Code::Truth(_) => one(alloc, Base::Bool),
+        Code::Lit(_) | Code::Truth(_) => one(alloc, own_base(code)),
         Code::Var(level) => variable(alloc, scope, *level),
-        Code::SetOf(parts) => infer_list(alloc, scope, parts, 0, Base::Int, Base::Set),
         Code::Tuple(parts) => infer_tuple(alloc, scope, parts),
-        Code::Sum(parts) => infer_list(alloc, scope, parts, 2, Base::Int, Base::Int),
+        Code::SetOf(parts) => infer_list(alloc, scope, parts, 0, Base::Int, Base::Set),
         Code::Min(parts) | Code::Max(parts) => {
             infer_list(alloc, scope, parts, 1, Base::Int, Base::Int)
         }
-        Code::Union(parts) | Code::Inter(parts) => {
-            infer_list(alloc, scope, parts, 2, Base::Set, Base::Set)
+        Code::Sum(parts) | Code::Union(parts) | Code::Inter(parts) => {
+            infer_list(alloc, scope, parts, 2, part_base(code), own_base(code))
         }
-        Code::Sub(a, b) | Code::Mul(a, b) => {
-            check_one(alloc, scope, a, Base::Int)?;
-            infer_last(alloc, scope, b, Base::Int, Base::Int)
+        Code::Neg(a) | Code::Not(a) | Code::Card(a) => {
+            infer_last(alloc, scope, a, part_base(code), own_base(code))
         }
-        Code::And(a, b) | Code::Or(a, b) => {
-            check_one(alloc, scope, a, Base::Bool)?;
-            infer_last(alloc, scope, b, Base::Bool, Base::Bool)
+        Code::Div { of, k } | Code::Mod { of, k } | Code::Divides { k, of } => {
+            infer_divided(alloc, scope, of, k, own_base(code))
         }
-        Code::Diff(a, b) => {
-            check_one(alloc, scope, a, Base::Set)?;
-            infer_last(alloc, scope, b, Base::Set, Base::Set)
+        Code::Sub(a, b)
+        | Code::Mul(a, b)
+        | Code::And(a, b)
+        | Code::Or(a, b)
+        | Code::Diff(a, b)
+        | Code::Subset(a, b) => {
+            check_one(alloc, scope, a, part_base(code))?;
+            infer_last(alloc, scope, b, part_base(code), own_base(code))
         }
-        Code::Subset(a, b) => {
-            check_one(alloc, scope, a, Base::Set)?;
-            infer_last(alloc, scope, b, Base::Set, Base::Bool)
-        }
-        Code::Neg(a) => infer_last(alloc, scope, a, Base::Int, Base::Int),
-        Code::Not(a) => infer_last(alloc, scope, a, Base::Bool, Base::Bool),
-        Code::Card(a) => infer_last(alloc, scope, a, Base::Set, Base::Int),
-        Code::Div { of, k } | Code::Mod { of, k } => {
-            infer_divided(alloc, scope, of, k, Base::Int)
-        }
-        Code::Divides { k, of } => infer_divided(alloc, scope, of, k, Base::Bool),
         Code::Compare { order, left, right } => {
             let left = infer_side(alloc, scope, *order, left)?;
             let right = infer_side(alloc, scope, *order, right)?;
@@ -74,8 +64,7 @@ fn infer(alloc: Global, scope: &mut Vec<Base>, code: &Code) -> Result<Vec<Base>,
         Code::If { test, yes, no } => {
             check_one(alloc, scope, test, Base::Bool)?;
             let bases = infer(alloc, scope, yes)?;
-            check_again(alloc, scope, no, &bases)?;
-            Ok(bases)
+            infer_again(alloc, scope, no, bases)
         }
         Code::Let {
             first,
@@ -98,8 +87,8 @@ pub fn check(
     code: &Code,
     asked: &[Base],
 ) -> Result<(), TargetFault>
-    ensures told { AskedAnswer asked.now result (bases_of (code_tree code.now) scope.old.items (Some asked.now)) }
-    ensures kept { OnOk result (scope.new.items ≡ scope.old.items) }
+    ensures { AskedAnswer asked.now result (bases_of (code_tree code.now) scope.old.items (Some asked.now))
+        × OnOk result (scope.new.items ≡ scope.old.items) }
 {
     match code {
         Code::Tuple(parts) => check_tuple(alloc, scope, parts, asked),
@@ -118,30 +107,7 @@ pub fn check(
             check_inside(alloc, scope, &vars, body, asked)
         }
         Code::Solve { arms, .. } => check_solve(alloc, scope, arms, asked),
-        Code::Lit(_)
-        | Code::Truth(_)
-        | Code::Var(_)
-        | Code::SetOf(_)
-        | Code::Sum(_)
-        | Code::Sub(..)
-        | Code::Mul(..)
-        | Code::Neg(_)
-        | Code::Div { .. }
-        | Code::Mod { .. }
-        | Code::Min(_)
-        | Code::Max(_)
-        | Code::Compare { .. }
-        | Code::Divides { .. }
-        | Code::And(..)
-        | Code::Or(..)
-        | Code::Not(_)
-        | Code::Union(_)
-        | Code::Inter(_)
-        | Code::Diff(..)
-        | Code::Subset(..)
-        | Code::Card(_)
-        | Code::Slice { .. }
-        | Code::Fresh { .. } => check_found(alloc, scope, code, asked),
+        _ => check_found(alloc, scope, code, asked),
     }
 }
 
@@ -153,8 +119,8 @@ fn check_found(
     code: &Code,
     asked: &[Base],
 ) -> Result<(), TargetFault>
-    ensures told { AskedAnswer asked.now result (placed (Some asked.now) (bases_of (code_tree code.now) scope.old.items None)) }
-    ensures kept { OnOk result (scope.new.items ≡ scope.old.items) }
+    ensures { AskedAnswer asked.now result (placed (Some asked.now) (bases_of (code_tree code.now) scope.old.items None))
+        × OnOk result (scope.new.items ≡ scope.old.items) }
 {
     let bases = infer(alloc, scope, code)?;
     meet(&bases, asked)
@@ -168,8 +134,8 @@ fn check_one(
     code: &Code,
     base: Base,
 ) -> Result<(), TargetFault>
-    ensures told { AskedAnswer (one_of base) result (bases_of (code_tree code.now) scope.old.items (ask base)) }
-    ensures kept { OnOk result (scope.new.items ≡ scope.old.items) }
+    ensures { AskedAnswer (one_of base) result (bases_of (code_tree code.now) scope.old.items (ask base))
+        × OnOk result (scope.new.items ≡ scope.old.items) }
 {
     check(alloc, scope, code, &[base])
 }
@@ -183,8 +149,8 @@ fn infer_last(
     asked: Base,
     base: Base,
 ) -> Result<Vec<Base>, TargetFault>
-    ensures told { BasesAnswer result (after_found (bases_of (code_tree part.now) scope.old.items (ask asked)) (Some (one_of base))) }
-    ensures kept { OnOk result (scope.new.items ≡ scope.old.items) }
+    ensures { BasesAnswer result (after_found (bases_of (code_tree part.now) scope.old.items (ask asked)) (Some (one_of base)))
+        × OnOk result (scope.new.items ≡ scope.old.items) }
 {
     check_one(alloc, scope, part, asked)?;
     one(alloc, base)
@@ -199,9 +165,9 @@ fn infer_divided(
     k: &i128,
     base: Base,
 ) -> Result<Vec<Base>, TargetFault>
-    ensures told { BasesAnswer result (after_found (divides_of k.now)
-        (after_found (bases_of (code_tree part.now) scope.old.items (ask Base.Int)) (Some (one_of base)))) }
-    ensures kept { OnOk result (scope.new.items ≡ scope.old.items) }
+    ensures { BasesAnswer result (after_found (divides_of k.now)
+        (after_found (bases_of (code_tree part.now) scope.old.items (ask Base.Int)) (Some (one_of base))))
+        × OnOk result (scope.new.items ≡ scope.old.items) }
 {
     divides(k)?;
     infer_last(alloc, scope, part, Base::Int, base)
@@ -218,9 +184,9 @@ fn infer_list(
     asked: Base,
     base: Base,
 ) -> Result<Vec<Base>, TargetFault>
-    ensures told { BasesAnswer result (after_found (at_least least (code_trees parts.now.items))
-        (after_found (all_have (code_trees parts.now.items) scope.old.items asked) (Some (one_of base)))) }
-    ensures kept { OnOk result (scope.new.items ≡ scope.old.items) }
+    ensures { BasesAnswer result (after_found (at_least least (code_trees parts.now.items))
+        (after_found (all_have (code_trees parts.now.items) scope.old.items asked) (Some (one_of base))))
+        × OnOk result (scope.new.items ≡ scope.old.items) }
 {
     are_at_least(least, parts)?;
     check_all(alloc, scope, parts, asked)?;
@@ -235,8 +201,8 @@ fn check_all(
     codes: &[Code],
     base: Base,
 ) -> Result<(), TargetFault>
-    ensures told { DoneAnswer result (all_have (code_trees codes.now) scope.old.items base) }
-    ensures kept { OnOk result (scope.new.items ≡ scope.old.items) }
+    ensures { DoneAnswer result (all_have (code_trees codes.now) scope.old.items base)
+        × OnOk result (scope.new.items ≡ scope.old.items) }
 {
     for i in 0..codes.len() {
         check_one(alloc, scope, &codes[i], base)?;
@@ -252,8 +218,8 @@ fn infer_tuple(
     // for the proof: behind a call that may end early, the measure of a slice would stay open
     parts: &Vec<Code>,
 ) -> Result<Vec<Base>, TargetFault>
-    ensures told { BasesAnswer result (after_found (at_least 2 (code_trees parts.now.items)) (parts_of (code_trees parts.now.items) scope.old.items [])) }
-    ensures kept { OnOk result (scope.new.items ≡ scope.old.items) }
+    ensures { BasesAnswer result (after_found (at_least 2 (code_trees parts.now.items)) (parts_of (code_trees parts.now.items) scope.old.items []))
+        × OnOk result (scope.new.items ≡ scope.old.items) }
 {
     are_at_least(2, parts)?;
     infer_parts(alloc, scope, parts)
@@ -266,8 +232,8 @@ fn infer_parts(
     scope: &mut Vec<Base>,
     parts: &[Code],
 ) -> Result<Vec<Base>, TargetFault>
-    ensures told { BasesAnswer result (parts_of (code_trees parts.now) scope.old.items []) }
-    ensures kept { OnOk result (scope.new.items ≡ scope.old.items) }
+    ensures { BasesAnswer result (parts_of (code_trees parts.now) scope.old.items [])
+        × OnOk result (scope.new.items ≡ scope.old.items) }
 {
     let mut bases = Vec::new(alloc);
     for i in 0..parts.len() {
@@ -280,8 +246,8 @@ fn infer_parts(
 // The one base of a code at a place that asks none.
 #[cycle(infer)]
 fn infer_one(alloc: Global, scope: &mut Vec<Base>, code: &Code) -> Result<Base, TargetFault>
-    ensures told { BaseAnswer result (then_found (bases_of (code_tree code.now) scope.old.items None) single_of) }
-    ensures kept { OnOk result (scope.new.items ≡ scope.old.items) }
+    ensures { BaseAnswer result (then_found (bases_of (code_tree code.now) scope.old.items None) single_of)
+        × OnOk result (scope.new.items ≡ scope.old.items) }
 {
     let bases = infer(alloc, scope, code)?;
     single(&bases)
@@ -296,11 +262,11 @@ fn check_tuple(
     parts: &Vec<Code>,
     asked: &[Base],
 ) -> Result<(), TargetFault>
-    ensures told { AskedAnswer asked.now result
+    ensures { AskedAnswer asked.now result
         (after_found (at_least 2 (code_trees parts.now.items))
         (after_found (as_many (code_trees parts.now.items) asked.now)
-        (after_found (parts_have (code_trees parts.now.items) scope.old.items asked.now) (Some asked.now)))) }
-    ensures kept { OnOk result (scope.new.items ≡ scope.old.items) }
+        (after_found (parts_have (code_trees parts.now.items) scope.old.items asked.now) (Some asked.now))))
+        × OnOk result (scope.new.items ≡ scope.old.items) }
 {
     are_at_least(2, parts)?;
     are_as_many(parts, asked)?;
@@ -317,8 +283,8 @@ fn check_parts(
     asked: &[Base],
 ) -> Result<(), TargetFault>
     requires { length parts.now ≡ length asked.now }
-    ensures told { DoneAnswer result (parts_have (code_trees parts.now) scope.old.items asked.now) }
-    ensures kept { OnOk result (scope.new.items ≡ scope.old.items) }
+    ensures { DoneAnswer result (parts_have (code_trees parts.now) scope.old.items asked.now)
+        × OnOk result (scope.new.items ≡ scope.old.items) }
 {
     for i in 0..parts.len() {
         check_one(alloc, scope, &parts[i], asked[i])?;
@@ -334,8 +300,8 @@ fn infer_side(
     order: Order,
     code: &Code,
 ) -> Result<Base, TargetFault>
-    ensures told { BaseAnswer result (then_found (bases_of (code_tree code.now) scope.old.items (side_of order)) single_of) }
-    ensures kept { OnOk result (scope.new.items ≡ scope.old.items) }
+    ensures { BaseAnswer result (then_found (bases_of (code_tree code.now) scope.old.items (side_of order)) single_of)
+        × OnOk result (scope.new.items ≡ scope.old.items) }
 {
     match order {
         Order::Eq | Order::Ne => infer_one(alloc, scope, code),
@@ -346,19 +312,20 @@ fn infer_side(
     }
 }
 
-// Whether a code has these bases at a place that asks none.
+// These bases, where a code has them too at a place that asks none.
 #[cycle(infer)]
-fn check_again(
+fn infer_again(
     alloc: Global,
     scope: &mut Vec<Base>,
     code: &Code,
-    bases: &[Base],
-) -> Result<(), TargetFault>
-    ensures told { DoneAnswer result (again bases.now (bases_of (code_tree code.now) scope.old.items None)) }
-    ensures kept { OnOk result (scope.new.items ≡ scope.old.items) }
+    bases: Vec<Base>,
+) -> Result<Vec<Base>, TargetFault>
+    ensures { BasesAnswer result (after_found (again bases.items (bases_of (code_tree code.now) scope.old.items None)) (Some bases.items))
+        × OnOk result (scope.new.items ≡ scope.old.items) }
 {
     let others = infer(alloc, scope, code)?;
-    agree(bases, &others)
+    agree(&bases, &others)?;
+    Ok(bases)
 }
 
 // The bases of the value of a `let` that binds so many variables from this level on.
@@ -370,8 +337,8 @@ fn infer_bound(
     count: u32,
     value: &Code,
 ) -> Result<Vec<Base>, TargetFault>
-    ensures told { BasesAnswer result (bound_of first count (length scope.old.items) (bases_of (code_tree value.now) scope.old.items None)) }
-    ensures kept { OnOk result (scope.new.items ≡ scope.old.items) }
+    ensures { BasesAnswer result (bound_of first count (length scope.old.items) (bases_of (code_tree value.now) scope.old.items None))
+        × OnOk result (scope.new.items ≡ scope.old.items) }
 {
     let bases = infer(alloc, scope, value)?;
     bound(scope, first, count, bases)
@@ -385,8 +352,8 @@ fn infer_inside(
     vars: &[Base],
     code: &Code,
 ) -> Result<Vec<Base>, TargetFault>
-    ensures told { BasesAnswer result (bases_of (code_tree code.now) (scope.old.items ++ vars.now) None) }
-    ensures kept { OnOk result (scope.new.items ≡ scope.old.items) }
+    ensures { BasesAnswer result (bases_of (code_tree code.now) (scope.old.items ++ vars.now) None)
+        × OnOk result (scope.new.items ≡ scope.old.items) }
 {
     let size = scope.len();
     scope.extend_from_slice(vars)?;
@@ -404,8 +371,8 @@ fn check_inside(
     code: &Code,
     asked: &[Base],
 ) -> Result<(), TargetFault>
-    ensures told { AskedAnswer asked.now result (bases_of (code_tree code.now) (scope.old.items ++ vars.now) (Some asked.now)) }
-    ensures kept { OnOk result (scope.new.items ≡ scope.old.items) }
+    ensures { AskedAnswer asked.now result (bases_of (code_tree code.now) (scope.old.items ++ vars.now) (Some asked.now))
+        × OnOk result (scope.new.items ≡ scope.old.items) }
 {
     let size = scope.len();
     scope.extend_from_slice(vars)?;
@@ -422,8 +389,8 @@ fn infer_solve(
     // for the proof: behind a call that may end early, the measure of a slice would stay open
     arms: &Vec<Arm>,
 ) -> Result<Vec<Base>, TargetFault>
-    ensures told { BasesAnswer result (solved (arm_trees arms.now.items) None (arms_bases (arm_trees arms.now.items) scope.old.items)) }
-    ensures kept { OnOk result (scope.new.items ≡ scope.old.items) }
+    ensures { BasesAnswer result (solved (arm_trees arms.now.items) None (arms_bases (arm_trees arms.now.items) scope.old.items))
+        × OnOk result (scope.new.items ≡ scope.old.items) }
 {
     if arms.is_empty() {
         return Err(TargetFault::BadTarget);
@@ -440,8 +407,8 @@ fn check_solve(
     arms: &Vec<Arm>,
     asked: &[Base],
 ) -> Result<(), TargetFault>
-    ensures told { AskedAnswer asked.now result (solved (arm_trees arms.now.items) (Some asked.now) (arms_bases (arm_trees arms.now.items) scope.old.items)) }
-    ensures kept { OnOk result (scope.new.items ≡ scope.old.items) }
+    ensures { AskedAnswer asked.now result (solved (arm_trees arms.now.items) (Some asked.now) (arms_bases (arm_trees arms.now.items) scope.old.items))
+        × OnOk result (scope.new.items ≡ scope.old.items) }
 {
     if arms.is_empty() {
         return Ok(());
@@ -454,8 +421,8 @@ fn check_solve(
 #[cycle(infer)]
 fn infer_arms(alloc: Global, scope: &mut Vec<Base>, arms: &[Arm]) -> Result<Vec<Base>, TargetFault>
     requires { 0 < length arms.now }
-    ensures told { BasesAnswer result (arms_bases (arm_trees arms.now) scope.old.items) }
-    ensures kept { OnOk result (scope.new.items ≡ scope.old.items) }
+    ensures { BasesAnswer result (arms_bases (arm_trees arms.now) scope.old.items)
+        × OnOk result (scope.new.items ≡ scope.old.items) }
 {
     let bases = infer_arm(alloc, scope, &arms[0])?;
     check_others(alloc, scope, arms, &bases)?;
@@ -471,8 +438,8 @@ fn check_others(
     bases: &[Base],
 ) -> Result<(), TargetFault>
     requires { 0 < length arms.now }
-    ensures told { DoneAnswer result (arms_give (arm_trees (drop 1 arms.now)) scope.old.items bases.now) }
-    ensures kept { OnOk result (scope.new.items ≡ scope.old.items) }
+    ensures { DoneAnswer result (arms_give (arm_trees (drop 1 arms.now)) scope.old.items bases.now)
+        × OnOk result (scope.new.items ≡ scope.old.items) }
 {
     for i in 1..arms.len() {
         check_arm(alloc, scope, &arms[i], bases)?;
@@ -488,8 +455,8 @@ fn check_arm(
     arm: &Arm,
     bases: &[Base],
 ) -> Result<(), TargetFault>
-    ensures told { DoneAnswer result (again bases.now (arm_bases (arm_tree arm.now) scope.old.items)) }
-    ensures kept { OnOk result (scope.new.items ≡ scope.old.items) }
+    ensures { DoneAnswer result (again bases.now (arm_bases (arm_tree arm.now) scope.old.items))
+        × OnOk result (scope.new.items ≡ scope.old.items) }
 {
     let others = infer_arm(alloc, scope, arm)?;
     agree(bases, &others)
@@ -498,8 +465,8 @@ fn check_arm(
 // The bases that an arm gives.
 #[cycle(infer)]
 fn infer_arm(alloc: Global, scope: &mut Vec<Base>, arm: &Arm) -> Result<Vec<Base>, TargetFault>
-    ensures told { BasesAnswer result (arm_bases (arm_tree arm.now) scope.old.items) }
-    ensures kept { OnOk result (scope.new.items ≡ scope.old.items) }
+    ensures { BasesAnswer result (arm_bases (arm_tree arm.now) scope.old.items)
+        × OnOk result (scope.new.items ≡ scope.old.items) }
 {
     let size = scope.len();
     push_searches(scope, arm)?;
@@ -511,8 +478,8 @@ fn infer_arm(alloc: Global, scope: &mut Vec<Base>, arm: &Arm) -> Result<Vec<Base
 // The bases that an arm gives where its searches are in scope. Its lets stay in scope.
 #[cycle(infer)]
 fn infer_gives(alloc: Global, scope: &mut Vec<Base>, arm: &Arm) -> Result<Vec<Base>, TargetFault>
-    ensures told { BasesAnswer result (inner_bases (arm_tree arm.now) scope.old.items) }
-    ensures kept { OnOk result (Extends scope.old.items scope.new.items) }
+    ensures { BasesAnswer result (inner_bases (arm_tree arm.now) scope.old.items)
+        × OnOk result (Extends scope.old.items scope.new.items) }
 {
     check_items(alloc, scope, &arm.items)?;
     infer_parts(alloc, scope, &arm.gives)
@@ -521,8 +488,8 @@ fn infer_gives(alloc: Global, scope: &mut Vec<Base>, arm: &Arm) -> Result<Vec<Ba
 // Whether the items of an arm are well typed. Their lets come into scope.
 #[cycle(infer)]
 fn check_items(alloc: Global, scope: &mut Vec<Base>, items: &[Item]) -> Result<(), TargetFault>
-    ensures told { ScopeAnswer scope.new.items result (items_scope (item_trees items.now) scope.old.items) }
-    ensures kept { OnOk result (Extends scope.old.items scope.new.items) }
+    ensures { ScopeAnswer scope.new.items result (items_scope (item_trees items.now) scope.old.items)
+        × OnOk result (Extends scope.old.items scope.new.items) }
 {
     for i in 0..items.len() {
         check_item(alloc, scope, &items[i])?;
@@ -532,8 +499,8 @@ fn check_items(alloc: Global, scope: &mut Vec<Base>, items: &[Item]) -> Result<(
 
 #[cycle(infer)]
 fn check_item(alloc: Global, scope: &mut Vec<Base>, item: &Item) -> Result<(), TargetFault>
-    ensures told { ScopeAnswer scope.new.items result (item_scope (item_tree item.now) scope.old.items) }
-    ensures kept { OnOk result (Extends scope.old.items scope.new.items) }
+    ensures { ScopeAnswer scope.new.items result (item_scope (item_tree item.now) scope.old.items)
+        × OnOk result (Extends scope.old.items scope.new.items) }
 {
     match item {
         Item::Let(code) => {

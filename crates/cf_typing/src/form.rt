@@ -4,7 +4,7 @@ ghost use Rattle.std.specs.Prelude.{◌≡◌, ◌++◌, Some, length, map, slic
 ghost use Rattle.cf_tree.specs.declared.base.Base.TheVariants.{Int};
 ghost use Rattle.cf_tree.specs.CodeView.{code_tree, code_trees, item_tree, item_trees, arm_tree};
 ghost use Rattle.cf_tree.specs.Typing.{one as one_of};
-ghost use Rattle.cf_typing.specs.Bases.{alone, single as single_of, placed, where_true as where_true_of, done, compared as compared_of, again, bound as bound_of, at_least, as_many, divides as divides_of, are_bounds as are_bounds_of, has_no_solve as has_no_solve_of, have_no_solve as have_no_solve_of, item_has_no_solve as item_has_no_solve_of, items_have_no_solve as items_have_no_solve_of, is_plain as is_plain_of, plain, searches};
+ghost use Rattle.cf_typing.specs.Bases.{alone, single as single_of, placed, where_true as where_true_of, done, compared as compared_of, again, bound as bound_of, at_least, as_many, divides as divides_of, are_bounds as are_bounds_of, own_base as own_base_of, part_base as part_base_of, has_no_solve as has_no_solve_of, have_no_solve as have_no_solve_of, item_has_no_solve as item_has_no_solve_of, items_have_no_solve as items_have_no_solve_of, is_plain as is_plain_of, plain, searches};
 ghost use Rattle.cf_typing.specs.TypingAnswers.{BaseAnswer, BasesAnswer, DoneAnswer, AskedAnswer};
 
 use crate::fault::TargetFault;
@@ -33,6 +33,41 @@ pub fn one(alloc: Global, base: Base) -> Result<Vec<Base>, TargetFault>
     let mut bases = Vec::new(alloc);
     bases.push(base)?;
     Ok(bases)
+}
+
+/// The base of a form that has the same one at each place.
+pub fn own_base(code: &Code) -> Base
+    ensures { result ≡ own_base_of (code_tree code.now) }
+{
+    match code {
+        Code::Truth(_)
+        | Code::Compare { .. }
+        | Code::Divides { .. }
+        | Code::And(..)
+        | Code::Or(..)
+        | Code::Not(_)
+        | Code::Subset(..) => Base::Bool,
+        Code::SetOf(_)
+        | Code::Union(_)
+        | Code::Inter(_)
+        | Code::Diff(..)
+        | Code::Slice { .. }
+        | Code::Fresh { .. } => Base::Set,
+        _ => Base::Int,
+    }
+}
+
+/// The base that such a form asks of each part.
+pub fn part_base(code: &Code) -> Base
+    ensures { result ≡ part_base_of (code_tree code.now) }
+{
+    match code {
+        Code::And(..) | Code::Or(..) | Code::Not(_) => Base::Bool,
+        Code::Union(_) | Code::Inter(_) | Code::Diff(..) | Code::Subset(..) | Code::Card(_) => {
+            Base::Set
+        }
+        _ => Base::Int,
+    }
 }
 
 /// The base, where it is alone.
@@ -197,19 +232,39 @@ fn has_no_solve(code: &Code) -> bool
         | Code::Max(parts)
         | Code::Union(parts)
         | Code::Inter(parts) => have_no_solve(parts),
+        Code::Neg(a)
+        | Code::Not(a)
+        | Code::Card(a)
+        | Code::Div { of: a, .. }
+        | Code::Mod { of: a, .. }
+        | Code::Divides { of: a, .. } => has_no_solve(a),
         Code::Sub(a, b)
         | Code::Mul(a, b)
         | Code::And(a, b)
         | Code::Or(a, b)
         | Code::Diff(a, b)
-        | Code::Subset(a, b) => has_no_solve(a) && has_no_solve(b),
-        Code::Neg(a) | Code::Not(a) | Code::Card(a) => has_no_solve(a),
-        Code::Div { of, .. } | Code::Mod { of, .. } | Code::Divides { of, .. } => has_no_solve(of),
-        Code::Compare { left, right, .. } => has_no_solve(left) && has_no_solve(right),
-        Code::Slice { set, from, n } => has_no_solve(set) && has_no_solve(from) && has_no_solve(n),
-        Code::Fresh { avoid, n } => has_no_solve(avoid) && has_no_solve(n),
-        Code::If { test, yes, no } => has_no_solve(test) && has_no_solve(yes) && has_no_solve(no),
-        Code::Let { value, body, .. } => has_no_solve(value) && has_no_solve(body),
+        | Code::Subset(a, b)
+        | Code::Compare {
+            left: a,
+            right: b,
+            ..
+        }
+        | Code::Fresh { avoid: a, n: b }
+        | Code::Let {
+            value: a,
+            body: b,
+            ..
+        } => has_no_solve(a) && has_no_solve(b),
+        Code::Slice {
+            set: a,
+            from: b,
+            n: c,
+        }
+        | Code::If {
+            test: a,
+            yes: b,
+            no: c,
+        } => has_no_solve(a) && has_no_solve(b) && has_no_solve(c),
         Code::Solve { .. } => false,
     }
 }

@@ -30,7 +30,7 @@ loop-i-preserved c =
     let told : walk_def c.args.how (map raw_def_tree defs) (map raw_def_tree (take l.i defs)) l.next (raw_def_tree x) ≡ Ok (d, c.in_ok-def.after) =
     subst (λ cs. walk_def c.args.how (map raw_def_tree cs) (map raw_def_tree (take l.i defs)) l.next (raw_def_tree x) ≡ Ok (d, c.in_ok-def.after))
     c.requires c.in_ok-def.ensures in
-    let made : map def_tree c.push.new.self.items ≡ map def_tree l.done.items ++ d ∷ [] =
-    ap (map def_tree) c.in_ok-push.ensures.items ∙ map-append def_tree l.done.items (c.in_ok-def.def ∷ []) in
+    let made : map def_tree c.push.new.all.items ≡ map def_tree l.done.items ++ d ∷ [] =
+    ap (map def_tree) c.in_ok-push.ensures ∙ map-append def_tree l.done.items (c.in_ok-def.def ∷ []) in
     defs_go_on c.args.how defs l.i x (map def_tree l.done.items) l.next (walk_defs c.args.how (map raw_def_tree defs) [] [] 1 (map raw_def_tree defs)) within
-    c.index-defs-i.is l.invariant d c.in_ok-def.after (map def_tree c.push.new.self.items) told made
+    c.index-defs-i.is l.invariant d c.in_ok-def.after (map def_tree c.push.new.all.items) told made

@@ -10,14 +10,14 @@ use Rattle.cf_type.proofs.DefSteps.{choose_answer}
 use Rattle.cf_type.proofs.WalkSteps.{arm_body, arms_fail, arms_next}
 use Rattle.cf_type.proofs.walk.+walk.Goals as goal
 
-pub walk_arms-returns-in-Err-clause-gives : goal.walk_arms-returns-in-Err-clause-gives
-walk_arms-returns-in-Err-clause-gives t c =
+pub walk_arms-returns-in-Err : goal.walk_arms-returns-in-Err
+walk_arms-returns-in-Err t c =
     let l = c.loop-arm in
     let xs = c.args.arms.now in
     let x = c.arm-item.result in
     let here : drop l.arm-index xs ≡ x ∷ drop (l.arm-index + 1) xs =
     drop_more xs l.arm-index x (omega arith) ∙ ap (λ y. y ∷ drop (l.arm-index + 1) xs) (sym c.arm-item.is) in
-    arms_fail _ _ _ _ xs l.arm-index x c.in-Err.fault _ _ c.without.ensures l.invariant.0 here c.in-Err.ensures.gives l.invariant.1
+    (arms_fail _ _ _ _ xs l.arm-index x c.in-Err.fault _ _ c.without.ensures l.invariant.0 here c.in-Err.ensures.0 l.invariant.1, tt)
 
 pub walk_arms-loop-arm-preserved : goal.walk_arms-loop-arm-preserved
 walk_arms-loop-arm-preserved t c =
@@ -26,22 +26,26 @@ walk_arms-loop-arm-preserved t c =
     let x = c.arm-item.result in
     let here : drop l.arm-index xs ≡ x ∷ drop (l.arm-index + 1) xs =
     drop_more xs l.arm-index x (omega arith) ∙ ap (λ y. y ∷ drop (l.arm-index + 1) xs) (sym c.arm-item.is) in
-    let kept : c.walk_arm.new.scope ≡ l.scope = c.in-Ok.ensures.kept in (
+    let kept : c.walk_arm.new.scope ≡ l.scope = c.in-Ok.ensures.1 in (
       kept ∙ l.invariant.0,
-      arms_next _ _ _ _ _ xs l.arm-index x _ _ l.invariant.0 here c.in-Ok.ensures.gives c.in_ok-done-in-Ok.ensures l.invariant.1,
+      arms_next _ _ _ _ _ xs l.arm-index x _ _ l.invariant.0 here c.in-Ok.ensures.0 c.in_ok-done-in-Ok.ensures l.invariant.1,
     )
 
-pub walk_arm-returns-clause-gives : goal.walk_arm-returns-clause-gives
-walk_arm-returns-clause-gives t c =
-    subst (λ r. CheckAnswer form_of c.walk_body.result r)
-    (sym (arm_body (context_of c.args.caller.now) c.args.scope.now c.args.next c.args.arm.now c.deref.result.now c.deref.ensures.value))
-    c.walk_body.ensures.gives
+pub walk_arm-returns : goal.walk_arm-returns
+walk_arm-returns t c = (
+  subst (λ r. CheckAnswer form_of c.walk_body.result r)
+      (sym (arm_body (context_of c.args.caller.now) c.args.scope.now c.args.next c.args.arm.now c.deref.result.now c.deref.ensures.value))
+      c.walk_body.ensures.0,
+  c.walk_body.ensures.1,
+)
 
-pub walk-returns-in-Choose-clause-gives : goal.walk-returns-in-Choose-clause-gives
-walk-returns-in-Choose-clause-gives t c =
+pub walk-returns-in-Choose : goal.walk-returns-in-Choose
+walk-returns-in-Choose t c =
     let raw = c.args.raw.now in
     let outputs = c.deref-in-Choose.result.now in
     let rel = raw_tree c.deref-in-Choose-2.result.now in
-    let is : raw_tree raw ≡ raw_choose raw.place outputs rel = search (rules, raw_lemmas, node_lemmas) in
-    choose_answer (context_of c.args.caller.now) c.args.scope.now c.args.next raw.place outputs rel (raw_tree raw) c.walk_choose.result is
-    c.walk_choose.ensures.gives
+    let is : raw_tree raw ≡ raw_choose raw.place outputs rel = search (rules, raw_lemmas, node_lemmas) in (
+      choose_answer (context_of c.args.caller.now) c.args.scope.now c.args.next raw.place outputs rel (raw_tree raw) c.walk_choose.result is
+          c.walk_choose.ensures.0,
+      c.walk_choose.ensures.1,
+    )

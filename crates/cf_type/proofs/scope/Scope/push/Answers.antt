@@ -1,4 +1,4 @@
-use Rattle.std.proofs.Common.{◌≡◌, ◌++◌, ◌∷◌, [], length, map, ap, ◌∙◌, rules}
+use Rattle.std.proofs.Common.{◌≡◌, ◌++◌, ◌∷◌, [], length, map, rules}
 use Rattle.cf_program.specs.Names.{variable_of}
 use Rattle.cf_type.specs.declared.scope.Binding.{Binding}
 use Rattle.cf_type.proofs.ScopedLemmas.{scope_pushed}
@@ -9,9 +9,7 @@ invariant_of-self-2 c =
     let binding : Binding = record { param = c.args.param; hidden = c.find-hidden.result } in
     let pushed : c.push.new.self.items ≡ c.self.inside.bindings.items ++ binding ∷ [] = search rules in
     let named : c.in_ok-name.name.items ≡ c.args.param.name = search rules in
-    let level : c.in_ok-level.level ≡ length (map (λ b. b.param) c.self.inside.bindings.items) = search rules in
-    let same : c.variable_at-variable.result ≡ record { level = length (map (λ b. b.param) c.self.inside.bindings.items); base = c.args.param.base } =
-    c.variable_at-variable.ensures ∙ ap (λ l. record { level = l; base = c.args.param.base }) level in
+    let same : c.in_ok-name.variable ≡ record { level = length (map (λ b. b.param) c.self.inside.bindings.items); base = c.args.param.base } = search rules in
     let hides : c.find-hidden.result ≡ variable_of (map (λ b. b.param) c.self.inside.bindings.items) c.args.param.name = search rules in
     rw pushed (scope_pushed c.self.inside.innermost.entries c.insert.new.self.entries c.in_ok-name.name c.self.inside.bindings.items binding
-    c.variable_at-variable.result named same hides c.in_ok-insert.ensures.entries c.self.invariant)
+    c.in_ok-name.variable named same hides c.in_ok-insert.ensures.entries c.self.invariant)
