@@ -1,4 +1,4 @@
-//! The codes of rows, of bounds and of ways.
+//! The codes of rows, of bounds and of ways back.
 ghost use Rattle.std.specs.Prelude.{◌≡◌, ◌<◌, pos, map, length, get_or, IfOk};
 ghost use Rattle.cf_num.specs.Limit.{IsWithin};
 ghost use Rattle.cf_tree.specs.CodeTree.{code_lit, code_div, code_compare, code_divides};
@@ -6,7 +6,7 @@ ghost use Rattle.cf_tree.specs.CodeView.{code_tree};
 ghost use Rattle.cf_linear.specs.Arm.{entry_code, row_code, lower_code, upper_code, greatest_code, least_code, how_code, negated};
 ghost use Rattle.cf_linear.specs.Rows.{IsRow};
 ghost use Rattle.cf_linear.specs.Views.{how_of};
-ghost use Rattle.cf_choose.specs.ArmBuilders.{pair_of, Fits, PairsFit, HowFits};
+ghost use Rattle.cf_codes.specs.Fitting.{pair_of, Fits, PairsFit, HowFits};
 
 use cf_linear::row::Row;
 use cf_linear::system::{Divided, How};
@@ -61,8 +61,11 @@ fn least_of(codes: Vec<Code>) -> Code
     }
 }
 
-// The sum of the entries.
-pub(crate) fn row_code(alloc: Global, names: &ColumnLevels, row: &Row) -> Result<Code, NoMemory>
+/// The sum of the entries of the row, over the levels of its columns.
+///
+/// # Errors
+/// `NoMemory` where memory ran out.
+pub fn row_code(alloc: Global, names: &ColumnLevels, row: &Row) -> Result<Code, NoMemory>
     ensures code { IfOk result (λ c. code_tree c ≡ row_code names.now row.now) }
     ensures is_row { IsRow row.now }
 {
@@ -75,8 +78,11 @@ pub(crate) fn row_code(alloc: Global, names: &ColumnLevels, row: &Row) -> Result
     Ok(sum_of(parts))
 }
 
-// The row divided by the number and rounded down.
-pub(crate) fn quotient_code(
+/// The row divided by the number and rounded down.
+///
+/// # Errors
+/// `NoMemory` where memory ran out.
+pub fn quotient_code(
     alloc: Global,
     names: &ColumnLevels,
     row: &Row,
@@ -92,8 +98,11 @@ pub(crate) fn quotient_code(
     })
 }
 
-// Whether the row is at least 0, or 0.
-pub(crate) fn need_code(
+/// Whether the row is so to 0 as the order says.
+///
+/// # Errors
+/// `NoMemory` where memory ran out.
+pub fn need_code(
     alloc: Global,
     names: &ColumnLevels,
     order: Order,
@@ -110,8 +119,11 @@ pub(crate) fn need_code(
     })
 }
 
-// Whether the number divides the row.
-pub(crate) fn divides_code(
+/// Whether the number divides the row.
+///
+/// # Errors
+/// `NoMemory` where memory ran out.
+pub fn divides_code(
     alloc: Global,
     names: &ColumnLevels,
     k: i128,
@@ -192,8 +204,12 @@ fn upper_codes(
     Ok(parts)
 }
 
-// How an unknown is computed.
-pub(crate) fn how_code(alloc: Global, names: &ColumnLevels, how: &How) -> Result<Code, NoMemory>
+/// The code that computes an unknown: its row, the greatest of its lower bounds, or the least of its
+/// upper ones.
+///
+/// # Errors
+/// `NoMemory` where memory ran out.
+pub fn how_code(alloc: Global, names: &ColumnLevels, how: &How) -> Result<Code, NoMemory>
     ensures code { IfOk result (λ c. code_tree c ≡ how_code names.now (how_of how.now)) }
     ensures fits { IfOk result (λ _. HowFits (how_of how.now)) }
 {

@@ -1,6 +1,6 @@
 use Rattle.cf_linear.specs.Arm.{upper_code}
-use Rattle.cf_choose.proofs.StepLemmas.{pairs_more, codes_more}
-use Rattle.cf_choose.proofs.codes.upper_codes.Goals as goal
+use Rattle.cf_codes.proofs.BoundLemmas.{pairs_more, codes_more}
+use Rattle.cf_codes.proofs.codes.upper_codes.Goals as goal
 
 pub loop-bound-preserved : goal.loop-bound-preserved
 loop-bound-preserved c = record {

@@ -1,5 +1,5 @@
 use Rattle.cf_linear.proofs.MapLemmas.{back, within_from_get}
-use Rattle.cf_choose.proofs.codes.entry_at.Goals as goal
+use Rattle.cf_codes.proofs.codes.entry_at.Goals as goal
 
 pub returns-clause-fits : goal.returns-clause-fits
 returns-clause-fits c =

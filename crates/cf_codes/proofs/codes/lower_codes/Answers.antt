@@ -1,6 +1,6 @@
 use Rattle.cf_linear.specs.Arm.{lower_code}
-use Rattle.cf_choose.proofs.StepLemmas.{pairs_more, codes_more}
-use Rattle.cf_choose.proofs.codes.lower_codes.Goals as goal
+use Rattle.cf_codes.proofs.BoundLemmas.{pairs_more, codes_more}
+use Rattle.cf_codes.proofs.codes.lower_codes.Goals as goal
 
 pub loop-bound-preserved : goal.loop-bound-preserved
 loop-bound-preserved c = record {
