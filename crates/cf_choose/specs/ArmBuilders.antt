@@ -1,11 +1,11 @@
 -- What the parts of an arm stand for while they are made.
 use Rattle.std.specs.Prelude.{◌≡◌, ℕ, ◌+◌, ◌<◌, ◌≤◌, true, false, List, [], ◌∷◌, ◌++◌, map, length, if◌then◌else◌}
-use Rattle.cf_tree.specs.CodeTree.{CodeTree, code_var, let_item}
+use Rattle.cf_tree.specs.CodeTree.{CodeTree, ItemTree, code_var, let_item, codes_of, items_of, arm_of}
 use Rattle.cf_tree.specs.CodeView.{item_tree}
 use Rattle.cf_linear.specs.declared.system.Step.{Step as DeclaredStep}
 use Rattle.cf_linear.specs.declared.system.Back.{Back}
 use Rattle.cf_linear.specs.declared.system.Search.{Search}
-use Rattle.cf_linear.specs.Arm.{ColumnLevels, level_of, ArmBuilder, set_code}
+use Rattle.cf_linear.specs.Arm.{ColumnLevels, level_of, ArmBuilder, begun, arm, set_code}
 use Rattle.cf_linear.specs.Layout.{Layout, place, has_level, number_column}
 use Rattle.cf_linear.specs.Systems.{System, Answer, Step, floor_of, need_nonneg, need_zero, need_divides, How}
 use Rattle.cf_linear.specs.Rows.{IsRow}
@@ -37,6 +37,12 @@ no_system = record { known = []; unknown = []; next = 0; equations = []; inequal
 -- all that an elimination makes, but for the last system
 abbrev pub answer_of : List Search → List DeclaredStep → List Back → Answer
 answer_of bounds steps back = record { system = no_system; steps = map step_of steps; back = map back_of back; bounds = map bound_of bounds }
+
+-- of the arm that began with some searches: all its items, and its outputs
+abbrev pub IsBuilt : Layout → List DeclaredStep → List Back → ArmBuilder → List ItemTree → List CodeTree → Type 0
+IsBuilt l steps back begins items gives = (bounds : List Search) → SameBuilder begins (begun l (map bound_of bounds)) →
+    begins.level ≡ l.scope + length bounds →
+    arm_of (map (λ s. s.bound) bounds) (items_of items) (codes_of gives) ≡ arm l (answer_of bounds steps back)
 
 -- ---- outputs
 -- each level of an output is that of a number or of a set, and not of both
