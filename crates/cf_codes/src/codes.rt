@@ -1,6 +1,5 @@
 //! The codes of rows, of bounds and of ways back.
-ghost use Rattle.std.specs.Prelude.{◌≡◌, ◌<◌, pos, map, length, get_or, IfOk};
-ghost use Rattle.cf_num.specs.Limit.{IsWithin};
+ghost use Rattle.std.specs.Prelude.{◌≡◌, pos, map, IfOk};
 ghost use Rattle.cf_tree.specs.CodeTree.{code_lit, code_div, code_compare, code_divides};
 ghost use Rattle.cf_tree.specs.CodeView.{code_tree};
 ghost use Rattle.cf_linear.specs.Arm.{entry_code, row_code, lower_code, upper_code, greatest_code, least_code, how_code, negated};
@@ -69,10 +68,9 @@ pub fn row_code(alloc: Global, names: &ColumnLevels, row: &Row) -> Result<Code, 
     ensures code { IfOk result (λ c. code_tree c ≡ row_code names.now row.now) }
     ensures is_row { IsRow row.now }
 {
-    let n = size(row);
     let mut parts = Vec::new(alloc);
-    for i in 0..n {
-        let (column, k) = entry_at(row, i);
+    for i in 0..row.len() {
+        let (column, k) = row.at(i);
         parts.push(entry_code(alloc, names, column, k)?)?;
     }
     Ok(sum_of(parts))
@@ -139,14 +137,14 @@ pub fn divides_code(
     })
 }
 
-// The row with its signs turned.
-fn negated(alloc: Global, row: &Row) -> Result<Row, NoMemory>
-    ensures { IfOk result (λ r. r ≡ negated row.now) }
+// The sum of the entries with their signs turned.
+fn turned_code(alloc: Global, names: &ColumnLevels, row: &Row) -> Result<Code, NoMemory>
+    ensures code { IfOk result (λ c. code_tree c ≡ row_code names.now (negated row.now)) }
+    ensures is_row { IsRow row.now }
 {
-    match row.combine(alloc, -1, &Row::empty(alloc), 0) {
-        Ok(row) => Ok(row),
-        Err(_) => Err(NoMemory),
-    }
+    let _size = row.len();
+    let turned = row.negated(alloc)?;
+    row_code(alloc, names, &turned)
 }
 
 // The least number that meets a lower bound.
@@ -154,10 +152,8 @@ fn lower_code(alloc: Global, names: &ColumnLevels, bound: &Divided) -> Result<Co
     ensures code { IfOk result (λ c. code_tree c ≡ lower_code names.now (pair_of bound.now)) }
     ensures fits { Fits bound.now.row bound.now.k }
 {
-    let _size = size(&bound.row);
     if bound.k == 1 {
-        let negated = negated(alloc, &bound.row)?;
-        return row_code(alloc, names, &negated);
+        return turned_code(alloc, names, &bound.row);
     }
     let quotient = quotient_code(alloc, names, &bound.row, bound.k)?;
     Ok(Code::Neg(Box::new(alloc, quotient)?))
@@ -217,25 +213,5 @@ pub fn how_code(alloc: Global, names: &ColumnLevels, how: &How) -> Result<Code, 
         How::Row(row) => row_code(alloc, names, row),
         How::Greatest(bounds) => Ok(greatest_of(lower_codes(alloc, names, bounds)?)),
         How::Least(bounds) => Ok(least_of(upper_codes(alloc, names, bounds)?)),
-    }
-}
-
-// How many entries the row has.
-fn size(row: &Row) -> usize
-    ensures value { result ≡ length row.now }
-    ensures is_row { IsRow row.now }
-{
-    row.entries().len()
-}
-
-// The entry at a place of the list.
-fn entry_at(row: &Row, i: usize) -> (u32, i128)
-    requires { i < length row.now }
-    ensures value { result ≡ get_or row.now i (0, pos 0) }
-    ensures fits { IsWithin result.1 }
-{
-    match row.entries().get_index(i) {
-        Some((column, k)) => (*column, *k),
-        None => unreachable!(),
     }
 }
