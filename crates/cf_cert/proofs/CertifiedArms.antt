@@ -30,7 +30,7 @@ use Rattle.cf_choose.proofs.ArmLemmas.{solved_arm}
 use Rattle.cf_choose.proofs.CaseLemmas.{few_sets}
 use Rattle.cf_choose.proofs.ChooseLevels.{IsFirst, each_first, are_outputs}
 use Rattle.cf_choose.proofs.FirstRows.{firsts_small}
-use Rattle.cf_choose.proofs.SystemLaws.{IsBegun, first_systems_begun}
+use Rattle.cf_systems.proofs.SystemLaws.{IsBegun, first_systems_begun}
 use Rattle.cf_steps.specs.declared.act.Act.{Act}
 use Rattle.cf_steps.specs.Blocks.{BlockTree}
 use Rattle.cf_cert.specs.Certifying.{QuestionTree, layout, eliminated, AreEliminated, target_with, Certifies}

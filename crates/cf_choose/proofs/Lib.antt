@@ -17,7 +17,6 @@ pub mod RowCodes
 pub mod SameLemmas
 pub mod SomeCases
 pub mod StepLemmas
-pub mod SystemLaws
 pub mod TurnedRows
 pub mod FirstRows
 pub mod DefinedArms

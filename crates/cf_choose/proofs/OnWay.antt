@@ -20,6 +20,7 @@ use Rattle.cf_linear.specs.Views.{system_of, plain_layout}
 use Rattle.cf_cases.specs.Holding.{EachOf}
 use Rattle.cf_cases.proofs.Quantifiers.{each-append}
 use Rattle.cf_elim.specs.declared.solved.CaseParts.{CaseParts}
+use Rattle.cf_codes.proofs.BoundLemmas.{map_more}
 use Rattle.cf_choose.specs.declared.fault.ChooseFault.{ChooseFault}
 use Rattle.cf_choose.specs.declared.fault.ChooseFault.TheVariants.{Refused, NoMemory}
 use Rattle.cf_choose.specs.declared.solve.Eliminated.{Eliminated}
@@ -31,7 +32,6 @@ use Rattle.cf_choose.specs.Solving.{IsEliminatedBy}
 use Rattle.cf_choose.proofs.CaseLemmas.{all_solved, few_sets, no_limit, refused_by_count, refused_here, refused_after, refused_later}
 use Rattle.cf_choose.proofs.ChooseLevels.{are_outputs, has_outputs}
 use Rattle.cf_choose.proofs.DoneLemmas.{rest_of, rest_more}
-use Rattle.cf_choose.proofs.StepLemmas.{map_more}
 
 -- what is left of all cases, behind those that are eliminated
 pub record IsOnWay (all : List System) (left : List DeclaredSystem) (cases : List CaseParts) : Type 0 where

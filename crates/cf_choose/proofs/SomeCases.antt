@@ -1,28 +1,16 @@
 -- A relation has a case, and so a solved choose has an arm.
-use Rattle.std.proofs.Common.{true, List, [], ◌∷◌, inl, map, ◌≤◌, length, arith}
+use Rattle.std.proofs.Common.{true, List, [], ◌∷◌, map}
 use Rattle.cf_tree.specs.CodeTree.{ArmTree, arms_of}
 use Rattle.cf_tree.specs.RelTree.{RelTree}
-use Rattle.cf_linear.specs.Cases.{Normal, negation_normal, disjuncts, system_of_case, first_systems}
+use Rattle.cf_linear.specs.Cases.{negation_normal, disjuncts, system_of_case, first_systems}
 use Rattle.cf_linear.specs.Layout.{Layout}
 use Rattle.cf_linear.specs.Systems.{System}
-use Rattle.cf_cases.specs.Holding.{SomeOf}
 use Rattle.cf_cases.proofs.Quantifiers.{some-map}
-use Rattle.cf_cases.proofs.PickLaws.{length-cases, count_positive}
+use Rattle.cf_systems.proofs.SystemLaws.{HasItem, some_case}
 use Rattle.cf_choose.specs.Solved.{HasArms}
-
--- the list has an item
-abbrev pub HasItem : {A : Type 0} → List A → Type 0
-HasItem xs = SomeOf (λ _. Unit {0}) xs
 
 mapped : {A B : Type 0} (f : A → B) (xs : List A) → HasItem xs → HasItem (map f xs)
 mapped f xs h = some-map (λ _. Unit {0}) f xs h
-
-has_item : {A : Type 0} (xs : List A) → 1 ≤ length xs → HasItem xs
-has_item [] h = absurd (omega arith)
-has_item (x ∷ xs) h = inl tt
-
-pub some_case : (p : Normal) → HasItem (disjuncts p)
-some_case p = has_item (disjuncts p) (omega (arith, length-cases p, count_positive p))
 
 arms_from : (ts : List ArmTree) → HasItem ts → HasArms (arms_of ts)
 arms_from [] h = absurd h

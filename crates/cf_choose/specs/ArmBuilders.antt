@@ -1,22 +1,18 @@
 -- What the parts of an arm stand for while they are made.
-use Rattle.std.specs.Prelude.{◌≡◌, ℕ, ◌+◌, ◌<◌, ◌≤◌, ◌≤ℤ◌, ℤ, pos, true, false, List, [], ◌∷◌, ◌++◌, map, length, if◌then◌else◌}
-use Rattle.cf_num.specs.Limit.{IsWithin}
-use Rattle.cf_tree.specs.CodeTree.{CodeTree, code_var, let_item}
+use Rattle.std.specs.Prelude.{◌≡◌, ℕ, ◌+◌, ◌<◌, ◌≤◌, true, false, List, [], ◌∷◌, ◌++◌, map, length, if◌then◌else◌}
+use Rattle.cf_tree.specs.CodeTree.{CodeTree, ItemTree, code_var, let_item, codes_of, items_of, arm_of}
 use Rattle.cf_tree.specs.CodeView.{item_tree}
-use Rattle.cf_linear.specs.declared.system.Divided.{Divided}
 use Rattle.cf_linear.specs.declared.system.Step.{Step as DeclaredStep}
 use Rattle.cf_linear.specs.declared.system.Back.{Back}
 use Rattle.cf_linear.specs.declared.system.Search.{Search}
-use Rattle.cf_linear.specs.Arm.{ColumnLevels, level_of, ArmBuilder, set_code}
+use Rattle.cf_linear.specs.Arm.{ColumnLevels, level_of, ArmBuilder, begun, arm, set_code}
 use Rattle.cf_linear.specs.Layout.{Layout, place, has_level, number_column}
-use Rattle.cf_linear.specs.Systems.{System, Answer, Step, floor_of, need_nonneg, need_zero, need_divides, How, row_how, greatest, least}
-use Rattle.cf_linear.specs.Rows.{Row, IsRow}
+use Rattle.cf_linear.specs.Systems.{System, Answer, Step, floor_of, need_nonneg, need_zero, need_divides, How}
+use Rattle.cf_linear.specs.Rows.{IsRow}
 use Rattle.cf_linear.specs.Views.{step_of, back_of, bound_of}
 use Rattle.cf_setwit.specs.Sources.{level_from}
+use Rattle.cf_codes.specs.Fitting.{Fits, HowFits}
 use Rattle.cf_choose.specs.declared.arm_builder.ArmBuilder.{ArmBuilder as DeclaredArmBuilder}
-
-abbrev pub pair_of : Divided → Row × ℤ
-pair_of b = (b.row, b.k)
 
 -- the same levels of columns
 abbrev pub SameColumnLevels : ColumnLevels → ColumnLevels → Type 0
@@ -42,6 +38,12 @@ no_system = record { known = []; unknown = []; next = 0; equations = []; inequal
 abbrev pub answer_of : List Search → List DeclaredStep → List Back → Answer
 answer_of bounds steps back = record { system = no_system; steps = map step_of steps; back = map back_of back; bounds = map bound_of bounds }
 
+-- of the arm that began with some searches: all its items, and its outputs
+abbrev pub IsBuilt : Layout → List DeclaredStep → List Back → ArmBuilder → List ItemTree → List CodeTree → Type 0
+IsBuilt l steps back begins items gives = (bounds : List Search) → SameBuilder begins (begun l (map bound_of bounds)) →
+    begins.level ≡ l.scope + length bounds →
+    arm_of (map (λ s. s.bound) bounds) (items_of items) (codes_of gives) ≡ arm l (answer_of bounds steps back)
+
 -- ---- outputs
 -- each level of an output is that of a number or of a set, and not of both
 pub record HasOutputs (l : Layout) : Type 0 where
@@ -56,18 +58,6 @@ output_code l names first fresh x =
     else set_code l names (level_from first) fresh (place x l.out_sets))
 
 -- ---- rows of the program, and numbers of it
-abbrev pub Fits : Row → ℤ → Type 0
-Fits r k = IsRow r × (pos 1 ≤ℤ k → IsWithin k)
-
-abbrev pub PairsFit : List (Row × ℤ) → Type 0
-PairsFit [] = Unit {0}
-PairsFit ((r, k) ∷ bs) = Fits r k × PairsFit bs
-
-abbrev pub HowFits : How → Type 0
-HowFits (row_how r) = IsRow r
-HowFits (greatest bs) = PairsFit bs
-HowFits (least bs) = PairsFit bs
-
 abbrev pub BackFits : List (ℕ × How) → Type 0
 BackFits [] = Unit {0}
 BackFits ((x, w) ∷ ws) = HowFits w × BackFits ws

@@ -9,10 +9,7 @@ use Rattle.cf_linear.specs.declared.refusal.TheConstants.{MOST_SETS}
 use Rattle.cf_linear.specs.declared.refusal.LimitKind.TheVariants.{Sets, Cases}
 use Rattle.cf_linear.specs.declared.refusal.Refusal.{Refusal}
 use Rattle.cf_linear.specs.declared.refusal.Refusal.TheVariants.{Past, Limit}
-use Rattle.cf_linear.specs.declared.refusal.RowFault.{RowFault}
-use Rattle.cf_linear.specs.declared.refusal.RowFault.TheVariants.{Past as PastLimit, NoMemory as NoRoom}
 use Rattle.cf_linear.specs.declared.system.Layout.{Layout as DeclaredLayout}
-use Rattle.cf_linear.specs.declared.system.System.{System as DeclaredSystem}
 use Rattle.cf_linear.specs.Systems.{System, Answer}
 use Rattle.cf_linear.specs.Keep.{Formed}
 use Rattle.cf_linear.specs.Solved.{Owes, SolvedBy}
@@ -21,7 +18,7 @@ use Rattle.cf_linear.specs.Layout.{Layout, set_count}
 use Rattle.cf_linear.specs.Cases.{negation_normal, first_systems, case_count, written_passes}
 use Rattle.cf_linear.specs.Chooses.{made_of, arm_of_case, choose_limits, first_refused}
 use Rattle.cf_linear.specs.Views.{system_of, step_of, bound_of}
-use Rattle.cf_choose.specs.declared.levels.TheConstants.{LEVEL_LIMIT}
+use Rattle.cf_systems.specs.declared.systems.TheConstants.{LEVEL_LIMIT}
 use Rattle.cf_choose.specs.declared.fault.ChooseFault.{ChooseFault}
 use Rattle.cf_choose.specs.declared.fault.ChooseFault.TheVariants.{Refused, NoMemory}
 use Rattle.cf_choose.specs.CaseArms.{IsWritable, HasFewLevels}
@@ -100,12 +97,6 @@ pub record AreArmsFor (l : Layout) (cases : List CaseParts) (arms : List Arm) : 
   pub trees : map arm_tree arms ≡ map (λ c. arm_of_case limits l (first_of c)) cases
 
 -- ---- a relation whose counts are within the limits
--- the first systems of all cases, or Past exactly where a written or guard row passes the limit
-abbrev pub SystemsAre : Layout → RelTree → Result (Vec DeclaredSystem Global) RowFault → Type 0
-SystemsAre l rel (Ok systems) = (written_passes l (negation_normal true rel) ≡ false) × (map system_of systems.items ≡ first_systems l rel)
-SystemsAre l rel (Err PastLimit) = written_passes l (negation_normal true rel) ≡ true
-SystemsAre l rel (Err NoRoom) = Unit {0}
-
 -- the refusal for a row past the limit, or else the first one of the eliminations
 abbrev pub later_refusal : Layout → RelTree → Option Refusal
 later_refusal l rel = (if written_passes l (negation_normal true rel) then Some Past else first_refused limits (first_systems l rel))

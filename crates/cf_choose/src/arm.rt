@@ -7,7 +7,7 @@ ghost use Rattle.cf_linear.specs.declared.refusal.TheConstants.{MOST_SETS};
 ghost use Rattle.cf_linear.specs.Arm.{begun, search_names, first_names, arm};
 ghost use Rattle.cf_linear.specs.Layout.{set_count, first_free};
 ghost use Rattle.cf_linear.specs.Views.{plain_layout, step_of, back_of, bound_of};
-ghost use Rattle.cf_choose.specs.ArmBuilders.{builder_of, SameBuilder, SameColumnLevels, answer_of, StepsFit, BackFits, output_code, HasOutputs};
+ghost use Rattle.cf_choose.specs.ArmBuilders.{builder_of, SameBuilder, SameColumnLevels, answer_of, IsBuilt, StepsFit, BackFits, output_code, HasOutputs};
 
 use crate::arm_builder::ArmBuilder;
 use cf_linear::columns::{number_column, place};
@@ -40,6 +40,28 @@ pub fn arm(
     ensures back { IfOk result (λ _. BackFits (map back_of back.now)) }
 {
     let mut builder = start(alloc, layout, bounds)?;
+    let gives = build(alloc, layout, steps, back, &mut builder)?;
+    Ok(with_bounds(alloc, bounds, builder.items, gives)?)
+}
+
+// The lets and needs of the arm, and its outputs.
+fn build(
+    alloc: Global,
+    layout: &Layout,
+    steps: &[Step],
+    back: &[Back],
+    builder: &mut ArmBuilder,
+) -> Result<Vec<Code>, NoMemory>
+    requires outputs { HasOutputs (plain_layout layout.now) }
+    requires sets { set_count (plain_layout layout.now) ≤ MOST_SETS }
+    requires room { first_free (plain_layout layout.now) < 2 ^ 32 }
+    requires levels { builder.old.level + 2 * 2 ^ length layout.now.inputs.items < 2 ^ 32 }
+    requires last { layout.now.scope + (length layout.now.out_numbers.items + length layout.now.out_sets.items) < 2 ^ 32 }
+    ensures built { IfOk result (λ gives. IsBuilt (plain_layout layout.now) steps.now back.now (builder_of builder.old) (map item_tree builder.new.items.items)
+        (map code_tree gives.items)) }
+    ensures steps { IfOk result (λ _. StepsFit (map step_of steps.now)) }
+    ensures back { IfOk result (λ _. BackFits (map back_of back.now)) }
+{
     let regions = builder.level;
     builder.regions(alloc, layout)?;
     builder.steps(alloc, steps)?;
@@ -47,8 +69,7 @@ pub fn arm(
     let fresh = builder.level;
     let gives = gives(alloc, layout, &builder.names, Sources { regions, fresh })?;
     builder.fresh(alloc, layout)?;
-    let bounds = bounds_of(alloc, bounds)?;
-    Ok(with_parts(bounds, builder.items, gives))
+    Ok(gives)
 }
 
 // No items yet.
@@ -154,6 +175,19 @@ fn bounds_of(alloc: Global, bounds: &[Search]) -> Result<Vec<u32>, NoMemory>
         all.push(search.bound)?;
     }
     Ok(all)
+}
+
+// The arm with these parts and the bounds of the searches.
+fn with_bounds(
+    alloc: Global,
+    bounds: &[Search],
+    items: Vec<Item>,
+    gives: Vec<Code>,
+) -> Result<Arm, NoMemory>
+    ensures { IfOk result (λ a. arm_tree a ≡ arm_of (map (λ s. s.bound) bounds.now) (items_of (map item_tree items.items)) (codes_of (map code_tree gives.items))) }
+{
+    let bounds = bounds_of(alloc, bounds)?;
+    Ok(with_parts(bounds, items, gives))
 }
 
 fn with_parts(bounds: Vec<u32>, items: Vec<Item>, gives: Vec<Code>) -> Arm

@@ -8,7 +8,7 @@ ghost use Rattle.cf_linear.specs.Layout.{masks, set_count, first_free};
 ghost use Rattle.cf_linear.specs.Views.{plain_layout, step_of, back_of};
 ghost use Rattle.cf_choose.specs.ArmBuilders.{builder_of, let_alone, SameBuilder, StepFits, StepsFit, BackFits};
 
-use crate::codes::{divides_code, how_code, need_code, quotient_code};
+use cf_codes::codes::{divides_code, how_code, need_code, quotient_code};
 use cf_linear::system::{Back, Layout, Step};
 use cf_setwit::names::ColumnLevels;
 use cf_setwit::pieces::fresh_code;

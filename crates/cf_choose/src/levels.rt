@@ -11,10 +11,6 @@ use cf_tree::memory::NoMemory;
 use cf_tree::rel::{Rel, SetTerm, Term};
 use std::alloc::Global;
 
-/// Of variables in scope, of numbers among them, of outputs and of what an elimination makes there are
-/// fewer than this, so that levels and columns are numbers of 32 bits.
-pub const LEVEL_LIMIT: usize = 1 << 29;
-
 // Whether the set form holds the variable.
 fn set_holds(x: u32, set: &SetTerm) -> bool
     ensures { result ≡ set_holds x (set_tree set.now) }

@@ -4,11 +4,9 @@
 pub mod arm;
 mod arm_builder;
 mod cases;
-mod codes;
 pub mod fault;
 pub mod laws;
 pub mod levels;
 mod needs;
 pub mod solve;
 pub mod solved;
-pub mod systems;

@@ -9,12 +9,13 @@ ghost use Rattle.cf_choose.specs.Solving.{IsEliminatedBy};
 
 use crate::cases::{arms, cases};
 use crate::fault::ChooseFault;
-use crate::levels::{LEVEL_LIMIT, layout};
+use crate::levels::layout;
 use crate::solved::{Solved, SolvedParts};
 use cf_cases::count::count;
 use cf_elim::solved::SolvedCase;
 use cf_linear::refusal::{LimitKind, MOST_CASES, MOST_SETS, Refusal};
 use cf_linear::system::Layout;
+use cf_systems::systems::LEVEL_LIMIT;
 use cf_tree::base::Base;
 use cf_tree::code::Arm;
 use cf_tree::memory::NoMemory;

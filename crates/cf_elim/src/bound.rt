@@ -28,11 +28,13 @@ pub(crate) fn bound_stage(alloc: Global, system: System, tuples: u64) -> Result<
     ensures { StageIs (past_clean (system_of system) tuples) (unknown_stage limits (past_clean (system_of system) tuples) system.unknown.items) result }
 {
     if system.inequalities.len() > u32::MAX as usize {
+        drop(system);
         return Err(ElimFault::NoMemory);
     }
     let pick = select(&system);
     let tuples = tuples.saturating_mul(pick.product);
     if tuples > MOST_TUPLES {
+        drop(system);
         return Err(ElimFault::Refused(Refusal::Limit {
             kind: LimitKind::Search,
             number: tuples,
@@ -87,7 +89,11 @@ fn goes(
                 back,
             },
         )),
-        Err(_) => Err(ElimFault::NoMemory),
+        Err(_) => {
+            drop(dropped.system);
+            drop(bounds);
+            Err(ElimFault::NoMemory)
+        }
     }
 }
 
@@ -123,11 +129,17 @@ pub fn dropped_within(alloc: Global, system: System, x: u32) -> Result<Dropped, 
 {
     let counts = match counts_after(&system, x) {
         Some(counts) => counts,
-        None => return Err(ElimFault::NoMemory),
+        None => {
+            drop(system);
+            return Err(ElimFault::NoMemory);
+        }
     };
     match within(counts.rows, counts.columns) {
         Ok(()) => {}
-        Err(fault) => return Err(fault),
+        Err(fault) => {
+            drop(system);
+            return Err(fault);
+        }
     }
     match drop_output(alloc, system, x) {
         Ok(dropped) => Ok(dropped),

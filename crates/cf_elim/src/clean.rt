@@ -18,7 +18,10 @@ pub(crate) fn clean_stage(alloc: Global, system: System, tuples: u64) -> Result<
 {
     match within_counts(&system) {
         Ok(()) => {}
-        Err(fault) => return Err(fault),
+        Err(fault) => {
+            drop(system);
+            return Err(fault);
+        }
     }
     match clean(alloc, system) {
         Ok(cleaned) => cleaned_stage(alloc, cleaned, tuples),
@@ -43,6 +46,9 @@ fn cleaned_stage(alloc: Global, cleaned: Cleaned, tuples: u64) -> Result<Stage, 
                 back: Vec::new(alloc),
             },
         )),
-        Err(fault) => Err(fault),
+        Err(fault) => {
+            drop(cleaned);
+            Err(fault)
+        }
     }
 }

@@ -37,12 +37,24 @@ pub fn eliminate(alloc: Global, system: System) -> Result<SolvedCase, ElimFault>
             Ok(Stage::Goes(next, made)) => {
                 match whole.add(made) {
                     Ok(()) => current = next,
-                    Err(_) => return Err(ElimFault::NoMemory),
+                    Err(_) => {
+                        drop(next);
+                        drop(whole);
+                        drop(first);
+                        return Err(ElimFault::NoMemory);
+                    }
                 }
             }
             Ok(Stage::Ends) => return Ok(SolvedCase::new(parts_of(first, whole))),
-            Err(fault) => return Err(fault),
+            Err(fault) => {
+                drop(whole);
+                drop(first);
+                return Err(fault);
+            }
         }
     }
+    drop(current);
+    drop(whole);
+    drop(first);
     Err(ElimFault::NoMemory)
 }

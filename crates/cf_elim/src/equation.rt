@@ -49,11 +49,17 @@ fn end_stage(alloc: Global, system: System, tuples: u64, u: u32) -> Result<Stage
 {
     let counts = match counts_after(&system, u) {
         Some(counts) => counts,
-        None => return Err(ElimFault::NoMemory),
+        None => {
+            drop(system);
+            return Err(ElimFault::NoMemory);
+        }
     };
     match within(counts.rows, counts.columns) {
         Ok(()) => reduced_stage(alloc, system, Present::One(u), tuples, false),
-        Err(fault) => Err(fault),
+        Err(fault) => {
+            drop(system);
+            Err(fault)
+        }
     }
 }
 
@@ -75,7 +81,10 @@ fn merge_stage(
 {
     match within_counts(&system) {
         Ok(()) => reduced_stage(alloc, system, found, tuples, true),
-        Err(fault) => Err(fault),
+        Err(fault) => {
+            drop(system);
+            Err(fault)
+        }
     }
 }
 

@@ -63,6 +63,15 @@ impl RunOutput {
     {
         let mut made = made;
         made.back.reverse();
+        self.append(&mut made)
+    }
+
+    // Adds these lists.
+    fn append(&mut self, made: &mut StepOutput) -> Result<(), NoMemory>
+        ensures bounds { OnOk result (self.new.bounds.items ≡ self.old.bounds.items ++ made.old.bounds.items) }
+        ensures steps { OnOk result (self.new.steps.items ≡ self.old.steps.items ++ made.old.steps.items) }
+        ensures later { OnOk result (self.new.later.items ≡ self.old.later.items ++ made.old.back.items) }
+    {
         self.bounds.append(&mut made.bounds)?;
         self.steps.append(&mut made.steps)?;
         self.later.append(&mut made.back)?;

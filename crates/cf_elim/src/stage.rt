@@ -48,6 +48,7 @@ pub fn next_stage(alloc: Global, current: State) -> Result<Stage, ElimFault>
         return equation_stage(alloc, system, tuples);
     }
     if system.unknown.is_empty() {
+        drop(system);
         return Ok(Stage::Ends);
     }
     bound_stage(alloc, system, tuples)

@@ -24,7 +24,7 @@ use Rattle.cf_cases.proofs.AgreeLaws.{first_systems-formed}
 use Rattle.cf_cases.proofs.FormedLaws.{In-range, range-In, case-next}
 use Rattle.cf_cases.proofs.PlacedLaws.{placed-rel}
 use Rattle.cf_choose.proofs.ChooseLevels.{output_column}
-use Rattle.cf_choose.proofs.SystemLaws.{range_differs}
+use Rattle.cf_systems.proofs.SystemLaws.{range_differs}
 use Rattle.cf_growth.specs.Reaching.{parameters_size, IsNearElement, IsNear, AreNear, ArmsWithinReach}
 use Rattle.cf_growth.specs.Tracing.{all_of}
 use Rattle.cf_growth.proofs.EndLaws.{trace_done, cases_grow}

@@ -47,7 +47,7 @@ use Rattle.cf_cases.specs.Holding.{EachOf}
 use Rattle.cf_cases.proofs.PlacedLaws.{placed-rel}
 use Rattle.cf_choose.specs.Eliminations.{case_refusal, later_refusal}
 use Rattle.cf_choose.proofs.CaseLemmas.{refused_by_count, refused_later}
-use Rattle.cf_choose.proofs.SystemLaws.{IsBegun, first_systems_begun}
+use Rattle.cf_systems.proofs.SystemLaws.{IsBegun, first_systems_begun}
 use Rattle.cf_elim.specs.Stages.{IsReady, IsEnd, Settled}
 use Rattle.cf_elim.proofs.EndLaws.{one_of, count_passed, not_refused, run_is_trace, run_is_short}
 use Rattle.cf_elim.proofs.StageEnds.{stage_ends_solved}

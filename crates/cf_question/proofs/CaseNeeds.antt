@@ -29,7 +29,7 @@ use Rattle.cf_choose.specs.Laws.{IsUnrefused}
 use Rattle.cf_choose.proofs.CaseLemmas.{few_sets, refused_by_count, refused_later}
 use Rattle.cf_choose.proofs.ChooseLevels.{are_outputs}
 use Rattle.cf_choose.proofs.FirstRows.{firsts_small}
-use Rattle.cf_choose.proofs.SystemLaws.{IsBegun, first_systems_begun}
+use Rattle.cf_systems.proofs.SystemLaws.{IsBegun, first_systems_begun}
 use Rattle.cf_question.specs.Missing.{bounds_of}
 use Rattle.cf_question.proofs.MissingTurns.{IsTrace, FailsAlways, rising_later}
 

@@ -23,6 +23,12 @@ without_more start region next xs i h r n =
       ← r,
     ) n
 
+-- one code more, made of the next number
+pub mapped_more : (f : ℕ → CodeTree) (xs : List ℕ) (i : ℕ) (out next : List Code) (code : Code) → i < length xs → next ≡ out ++ (code ∷ []) →
+    code_tree code ≡ f (get_or xs i 0) → map code_tree out ≡ map f (take i xs) → map code_tree next ≡ map f (take (i + 1) xs)
+mapped_more f xs i out next code h n c v =
+    rw (n, map-append code_tree out (code ∷ []), take_more xs i 0 h, map-append f (take i xs) (get_or xs i 0 ∷ []), c, v) refl
+
 -- ---- counts
 pushed : (f : ℕ → CodeTree) (out next : List Code) (code : Code) (ms : List ℕ) (r : ℕ) (t : Bool) → next ≡ out ++ cond t (code ∷ []) [] →
     code_tree code ≡ f r → map code_tree out ≡ map f ms →

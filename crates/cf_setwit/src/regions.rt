@@ -37,7 +37,7 @@ pub fn region_code(alloc: Global, layout: &Layout, mask: u32) -> Result<Code, No
 pub fn size_code(alloc: Global, level: u32) -> Result<Code, NoMemory>
     ensures { IfOk result (λ c. code_tree c ≡ code_card (code_var level)) }
 {
-    Ok(Code::Card(Box::new(alloc, Code::Var(level))?))
+    Ok(Code::Card(Box::new(alloc, variable(level))?))
 }
 
 // The variables with the levels.
@@ -46,9 +46,16 @@ pub(crate) fn variables(alloc: Global, levels: &[u32]) -> Result<Vec<Code>, NoMe
 {
     let mut codes = Vec::new(alloc);
     for level in levels {
-        codes.push(Code::Var(*level))?;
+        codes.push(variable(*level))?;
     }
     Ok(codes)
+}
+
+// The variable with the level.
+fn variable(level: u32) -> Code
+    ensures { code_tree result ≡ code_var level }
+{
+    Code::Var(level)
 }
 
 // The set without the elements of the sets with the levels.
@@ -67,6 +74,6 @@ fn without(alloc: Global, set: Code, level: u32) -> Result<Code, NoMemory>
     ensures { IfOk result (λ c. code_tree c ≡ code_diff (code_tree set) (code_var level)) }
 {
     let set = Box::new(alloc, set)?;
-    let other = Box::new(alloc, Code::Var(level))?;
+    let other = Box::new(alloc, variable(level))?;
     Ok(Code::Diff(set, other))
 }

@@ -1,12 +1,11 @@
-//! The codes of rows, of bounds and of ways.
-ghost use Rattle.std.specs.Prelude.{◌≡◌, ◌<◌, pos, map, length, get_or, IfOk};
-ghost use Rattle.cf_num.specs.Limit.{IsWithin};
+//! The codes of rows, of bounds and of ways back.
+ghost use Rattle.std.specs.Prelude.{◌≡◌, pos, map, IfOk};
 ghost use Rattle.cf_tree.specs.CodeTree.{code_lit, code_div, code_compare, code_divides};
 ghost use Rattle.cf_tree.specs.CodeView.{code_tree};
 ghost use Rattle.cf_linear.specs.Arm.{entry_code, row_code, lower_code, upper_code, greatest_code, least_code, how_code, negated};
 ghost use Rattle.cf_linear.specs.Rows.{IsRow};
 ghost use Rattle.cf_linear.specs.Views.{how_of};
-ghost use Rattle.cf_choose.specs.ArmBuilders.{pair_of, Fits, PairsFit, HowFits};
+ghost use Rattle.cf_codes.specs.Fitting.{pair_of, Fits, PairsFit, HowFits};
 
 use cf_linear::row::Row;
 use cf_linear::system::{Divided, How};
@@ -61,22 +60,27 @@ fn least_of(codes: Vec<Code>) -> Code
     }
 }
 
-// The sum of the entries.
-pub(crate) fn row_code(alloc: Global, names: &ColumnLevels, row: &Row) -> Result<Code, NoMemory>
+/// The sum of the entries of the row, over the levels of its columns.
+///
+/// # Errors
+/// `NoMemory` where memory ran out.
+pub fn row_code(alloc: Global, names: &ColumnLevels, row: &Row) -> Result<Code, NoMemory>
     ensures code { IfOk result (λ c. code_tree c ≡ row_code names.now row.now) }
     ensures is_row { IsRow row.now }
 {
-    let n = size(row);
     let mut parts = Vec::new(alloc);
-    for i in 0..n {
-        let (column, k) = entry_at(row, i);
+    for i in 0..row.len() {
+        let (column, k) = row.at(i);
         parts.push(entry_code(alloc, names, column, k)?)?;
     }
     Ok(sum_of(parts))
 }
 
-// The row divided by the number and rounded down.
-pub(crate) fn quotient_code(
+/// The row divided by the number and rounded down.
+///
+/// # Errors
+/// `NoMemory` where memory ran out.
+pub fn quotient_code(
     alloc: Global,
     names: &ColumnLevels,
     row: &Row,
@@ -92,8 +96,11 @@ pub(crate) fn quotient_code(
     })
 }
 
-// Whether the row is at least 0, or 0.
-pub(crate) fn need_code(
+/// Whether the row is so to 0 as the order says.
+///
+/// # Errors
+/// `NoMemory` where memory ran out.
+pub fn need_code(
     alloc: Global,
     names: &ColumnLevels,
     order: Order,
@@ -110,8 +117,11 @@ pub(crate) fn need_code(
     })
 }
 
-// Whether the number divides the row.
-pub(crate) fn divides_code(
+/// Whether the number divides the row.
+///
+/// # Errors
+/// `NoMemory` where memory ran out.
+pub fn divides_code(
     alloc: Global,
     names: &ColumnLevels,
     k: i128,
@@ -127,14 +137,14 @@ pub(crate) fn divides_code(
     })
 }
 
-// The row with its signs turned.
-fn negated(alloc: Global, row: &Row) -> Result<Row, NoMemory>
-    ensures { IfOk result (λ r. r ≡ negated row.now) }
+// The sum of the entries with their signs turned.
+fn turned_code(alloc: Global, names: &ColumnLevels, row: &Row) -> Result<Code, NoMemory>
+    ensures code { IfOk result (λ c. code_tree c ≡ row_code names.now (negated row.now)) }
+    ensures is_row { IsRow row.now }
 {
-    match row.combine(alloc, -1, &Row::empty(alloc), 0) {
-        Ok(row) => Ok(row),
-        Err(_) => Err(NoMemory),
-    }
+    let _size = row.len();
+    let turned = row.negated(alloc)?;
+    row_code(alloc, names, &turned)
 }
 
 // The least number that meets a lower bound.
@@ -142,10 +152,8 @@ fn lower_code(alloc: Global, names: &ColumnLevels, bound: &Divided) -> Result<Co
     ensures code { IfOk result (λ c. code_tree c ≡ lower_code names.now (pair_of bound.now)) }
     ensures fits { Fits bound.now.row bound.now.k }
 {
-    let _size = size(&bound.row);
     if bound.k == 1 {
-        let negated = negated(alloc, &bound.row)?;
-        return row_code(alloc, names, &negated);
+        return turned_code(alloc, names, &bound.row);
     }
     let quotient = quotient_code(alloc, names, &bound.row, bound.k)?;
     Ok(Code::Neg(Box::new(alloc, quotient)?))
@@ -192,8 +200,12 @@ fn upper_codes(
     Ok(parts)
 }
 
-// How an unknown is computed.
-pub(crate) fn how_code(alloc: Global, names: &ColumnLevels, how: &How) -> Result<Code, NoMemory>
+/// The code that computes an unknown: its row, the greatest of its lower bounds, or the least of its
+/// upper ones.
+///
+/// # Errors
+/// `NoMemory` where memory ran out.
+pub fn how_code(alloc: Global, names: &ColumnLevels, how: &How) -> Result<Code, NoMemory>
     ensures code { IfOk result (λ c. code_tree c ≡ how_code names.now (how_of how.now)) }
     ensures fits { IfOk result (λ _. HowFits (how_of how.now)) }
 {
@@ -201,25 +213,5 @@ pub(crate) fn how_code(alloc: Global, names: &ColumnLevels, how: &How) -> Result
         How::Row(row) => row_code(alloc, names, row),
         How::Greatest(bounds) => Ok(greatest_of(lower_codes(alloc, names, bounds)?)),
         How::Least(bounds) => Ok(least_of(upper_codes(alloc, names, bounds)?)),
-    }
-}
-
-// How many entries the row has.
-fn size(row: &Row) -> usize
-    ensures value { result ≡ length row.now }
-    ensures is_row { IsRow row.now }
-{
-    row.entries().len()
-}
-
-// The entry at a place of the list.
-fn entry_at(row: &Row, i: usize) -> (u32, i128)
-    requires { i < length row.now }
-    ensures value { result ≡ get_or row.now i (0, pos 0) }
-    ensures fits { IsWithin result.1 }
-{
-    match row.entries().get_index(i) {
-        Some((column, k)) => (*column, *k),
-        None => unreachable!(),
     }
 }

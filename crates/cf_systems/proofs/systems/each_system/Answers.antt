@@ -1,8 +1,8 @@
 use Rattle.std.proofs.Common.{arith}
 use Rattle.cf_tree.specs.RelView.{rel_tree}
 use Rattle.cf_linear.specs.Views.{plain_layout}
-use Rattle.cf_choose.proofs.SystemLaws.{one_more, systems_are, systems_begun, fault_is, index_below, index_past}
-use Rattle.cf_choose.proofs.systems.each_system.Goals as goal
+use Rattle.cf_systems.proofs.SystemLaws.{one_more, systems_are, systems_begun, fault_is, index_below, index_past}
+use Rattle.cf_systems.proofs.systems.each_system.Goals as goal
 
 pub loop-index-preserved : goal.loop-index-preserved
 loop-index-preserved c =

@@ -9,16 +9,19 @@ ghost use Rattle.cf_linear.specs.Views.{plain_layout, system_of};
 ghost use Rattle.cf_equation.specs.Equations.{Differ};
 ghost use Rattle.cf_cases.specs.SystemBuilders.{rel_quotients};
 ghost use Rattle.cf_cases.specs.Holding.{IsPlacedRel, EachOf};
-ghost use Rattle.cf_choose.specs.declared.levels.TheConstants.{LEVEL_LIMIT};
-ghost use Rattle.cf_choose.specs.Eliminations.{SystemsAre};
+ghost use Rattle.cf_systems.specs.declared.systems.TheConstants.{LEVEL_LIMIT};
+ghost use Rattle.cf_systems.specs.FirstSystems.{SystemsAre};
 
-use crate::levels::LEVEL_LIMIT;
 use cf_cases::case::case_of;
 use cf_cases::count::CountedRel;
 use cf_linear::refusal::RowFault;
 use cf_linear::system::{Layout, System};
 use cf_tree::rel::Rel;
 use std::alloc::Global;
+
+/// Of variables in scope, of numbers among them, of outputs and of what an elimination makes there are
+/// fewer than this, so that levels and columns are numbers of 32 bits.
+pub const LEVEL_LIMIT: usize = 1 << 29;
 
 /// The first systems of the cases of the relation, in order. Its layout is the choose's.
 ///

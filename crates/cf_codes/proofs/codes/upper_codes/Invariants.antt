@@ -1,8 +1,8 @@
 use Rattle.std.proofs.Common.{◌≡◌, map, take}
 use Rattle.cf_tree.specs.CodeView.{code_tree}
 use Rattle.cf_linear.specs.Arm.{upper_code}
-use Rattle.cf_choose.specs.ArmBuilders.{pair_of, PairsFit}
-use Rattle.cf_choose.proofs.codes.upper_codes.Given as goal
+use Rattle.cf_codes.specs.Fitting.{pair_of, PairsFit}
+use Rattle.cf_codes.proofs.codes.upper_codes.Given as goal
 
 abbrev pub invariant-loop-bound : goal.invariant-loop-bound
 invariant-loop-bound l = record {

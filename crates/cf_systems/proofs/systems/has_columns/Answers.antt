@@ -1,8 +1,8 @@
 use Rattle.std.proofs.Common.{arith}
 use Rattle.cf_tree.specs.RelView.{rel_tree}
 use Rattle.cf_linear.specs.Views.{plain_layout}
-use Rattle.cf_choose.proofs.SystemLaws.{columns_fit}
-use Rattle.cf_choose.proofs.systems.has_columns.Goals as goal
+use Rattle.cf_systems.proofs.SystemLaws.{columns_fit}
+use Rattle.cf_systems.proofs.systems.has_columns.Goals as goal
 
 pub returns : goal.returns
 returns c h =

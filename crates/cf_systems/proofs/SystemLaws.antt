@@ -22,15 +22,26 @@ use Rattle.cf_linear.specs.Views.{system_of}
 use Rattle.cf_linear.specs.Cases.{Signed, Normal, negation_normal, normal_atom, normal_and, normal_or, atom_cases, disjuncts, case_count, AtomRows}
 use Rattle.cf_linear.specs.Cases.{write_atom, no_rows, rows_then, case_rows, system_of_case, first_systems, written_passes}
 use Rattle.cf_equation.specs.Equations.{Differ}
-use Rattle.cf_cases.specs.Holding.{EachOf, CaseFits, IsPlacedRel}
+use Rattle.cf_cases.specs.Holding.{EachOf, SomeOf, CaseFits, IsPlacedRel}
 use Rattle.cf_cases.specs.SystemBuilders.{rel_quotients}
 use Rattle.cf_cases.proofs.AgreeLaws.{first_systems-formed}
 use Rattle.cf_cases.proofs.SystemLaws.{atom-next, cases-fit}
-use Rattle.cf_cases.proofs.PickLaws.{length-cases}
-use Rattle.cf_choose.specs.declared.levels.TheConstants.{LEVEL_LIMIT}
-use Rattle.cf_choose.specs.Eliminations.{SystemsAre}
+use Rattle.cf_cases.proofs.PickLaws.{length-cases, count_positive}
 use Rattle.cf_cases.proofs.MovedRows.{passes-same}
-use Rattle.cf_choose.proofs.SomeCases.{HasItem, some_case}
+use Rattle.cf_systems.specs.declared.systems.TheConstants.{LEVEL_LIMIT}
+use Rattle.cf_systems.specs.FirstSystems.{SystemsAre}
+
+-- ---- cases
+-- the list has an item
+abbrev pub HasItem : {A : Type 0} → List A → Type 0
+HasItem xs = SomeOf (λ _. Unit {0}) xs
+
+has_item : {A : Type 0} (xs : List A) → 1 ≤ length xs → HasItem xs
+has_item [] h = absurd (omega arith)
+has_item (x ∷ xs) h = inl tt
+
+pub some_case : (p : Normal) → HasItem (disjuncts p)
+some_case p = has_item (disjuncts p) (omega (arith, length-cases p, count_positive p))
 
 -- ---- rows of a case that pass the limit
 -- whether a row of the atom passes the limit from the first free column on

@@ -1,0 +1,4 @@
+//! The first systems of the cases of a relation.
+#![tactic(auto)]
+
+pub mod systems;
