@@ -32,7 +32,7 @@ pub fn results(alloc: Global, tokens: &[Token]) -> Result<(Vec<Base>, &[Token]),
 }
 
 /// More bases, each behind a comma, up to the closing parenthesis.
-#[tactic(auto, using(crate::proofs::Steps::more_ends, crate::proofs::Steps::more_closes, crate::proofs::Steps::more_unclosed), unfolding(crate::specs::Readers::others_of))]
+#[tactic(auto, unfolding(crate::specs::Readers::others_of))]
 pub fn more_bases(first: Vec<Base>, tokens: &[Token]) -> Result<(Vec<Base>, &[Token]), Stop>
     ensures { ReadAnswer (λ x. (x.0.items, x.1.now)) result (others_of snoc (must a_base) (Sign (codes ",")) (Sign (codes ")")) first.items tokens.now) }
 {
