@@ -1,12 +1,14 @@
 -- The steps of a reader of lines.
-use Rattle.std.proofs.Common.{◌≡◌, ◌⊎◌, inl, inr, ℕ, ℤ, ◌+◌, ◌<◌, ◌≤◌, Bool, true, false, cond, List, [], ◌∷◌, ◌++◌, length, take, drop, refl, arith, eqb, not, Some, None, get_or, one-add}
-use Rattle.std.specs.List.{prefix_len, slice_split, onto_first}
+use Rattle.std.proofs.Common.{◌≡◌, ◌⊎◌, inl, inr, ℕ, ℤ, ◌+◌, ◌<◌, ◌≤◌, Bool, true, false, cond, List, [], ◌∷◌, ◌++◌, length, take, drop, refl, arith, eqb, not, Some, None, get_or, one-add, if◌then◌else◌}
+use Rattle.std.specs.List.{list_all, prefix_len, slice_split, onto_first}
+use Rattle.std.proofs.Math.ListN.{drop_of_length-le}
 use Rattle.std.proofs.lemmas.List.{drop_more}
 use Rattle.std.proofs.lemmas.List.Splits.{slice_split_first}
 use Rattle.std.proofs.lemmas.Bool.{cases_lt}
 use Rattle.cf_eval.specs.Reading.{is_before_comma, items_from, item_at, added, ReadFault, values_from, value_at, after_spaces, is_apart}
 use Rattle.cf_tree.specs.declared.base.Base.{Base}
 use Rattle.cf_tree.specs.Values.{Value}
+use Rattle.cf_eval.specs.Spelling.{is_space}
 use Rattle.cf_eval.specs.declared.fault.LineFault.{LineFault}
 use Rattle.cf_eval.specs.declared.fault.LineFault.TheVariants as fault
 
@@ -65,3 +67,18 @@ pub values_more : (limit : ℕ) (types : List Base) (i : ℕ) (d : Base) (text m
     value_at limit (get_or types i d) (after_spaces text) ≡ Some (v, more) → is_apart (drop (i + 1) types) more ≡ true →
     values_from limit (drop i types) text done ≡ values_from limit (drop (i + 1) types) more (done ++ v ∷ [])
 values_more limit types i d text more done v fits some apart = rw (drop_more types i d fits, some, apart) refl
+
+-- the ends of such a reader
+module _ (limit : ℕ) (types : List Base) (i : ℕ) (text : List ℕ) (done : List Value) where
+  pub values_stop : (d : Base) (e : LineFault) → i < length types → ReadFault e (value_at limit (get_or types i d) (after_spaces text)) →
+      ReadFault e (values_from limit (drop i types) text done)
+  values_stop d fault.BadInput fits none = rw (drop_more types i d fits, none) refl
+  values_stop d fault.NoMemory fits none = tt
+
+  pub values_joined : (d : Base) (more : List ℕ) (v : Value) → i < length types → value_at limit (get_or types i d) (after_spaces text) ≡ Some (v, more) →
+      is_apart (drop (i + 1) types) more ≡ false → values_from limit (drop i types) text done ≡ None
+  values_joined d more v fits some joined = rw (drop_more types i d fits, some, joined) refl
+
+  pub values_end : (blank : Bool) → length types ≤ i → list_all is_space text ≡ blank →
+      values_from limit (drop i types) text done ≡ (if blank then Some done else None)
+  values_end blank le e = rw (drop_of_length-le types {i = i} le, e) refl

@@ -83,8 +83,7 @@ fn copy_values(alloc: Global, values: &[Value]) -> Result<Vec<Value>, NoMemory>
 #[tactic(auto, using(crate::proofs::FormLemmas::number_ok, crate::proofs::FormLemmas::truth_ok, crate::proofs::FormLemmas::set_ok, crate::proofs::FormLemmas::number_stop, crate::proofs::FormLemmas::truth_stop, crate::proofs::FormLemmas::set_stop))]
 fn eval(alloc: Global, code: &Code, env: &mut Vec<Value>) -> Result<Given, Stop>
     ensures told { RunAnswer result (reached (code_tree code.now) (plains env.old.items)) }
-    ensures fit { IfOk result IsGivenFit }
-    ensures kept { OnOk result (env.new.items ≡ env.old.items) }
+    ensures kept { IfOk result (λ v. IsGivenFit v × (env.new.items ≡ env.old.items)) }
 {
     match kind_of(code) {
         Kind::Number => match known(code, env) {
@@ -100,8 +99,7 @@ fn eval(alloc: Global, code: &Code, env: &mut Vec<Value>) -> Result<Given, Stop>
 #[cycle(eval)]
 fn eval_first(alloc: Global, code: &Code, env: &mut Vec<Value>) -> Result<Value, Stop>
     ensures told { ValueAnswer result (as_first (reached (code_tree code.now) (plains env.old.items))) }
-    ensures fit { IfOk result IsFit }
-    ensures kept { OnOk result (env.new.items ≡ env.old.items) }
+    ensures kept { IfOk result (λ v. IsFit v × (env.new.items ≡ env.old.items)) }
 {
     Ok(eval(alloc, code, env)?.first())
 }
@@ -110,8 +108,7 @@ fn eval_first(alloc: Global, code: &Code, env: &mut Vec<Value>) -> Result<Value,
 #[inline(always)]
 fn eval_number(alloc: Global, code: &Code, env: &mut Vec<Value>) -> Result<i128, Stop>
     ensures told { NumberAnswer result (as_number (reached (code_tree code.now) (plains env.old.items))) }
-    ensures fit { IfOk result IsWithin }
-    ensures kept { OnOk result (env.new.items ≡ env.old.items) }
+    ensures kept { IfOk result (λ v. IsWithin v × (env.new.items ≡ env.old.items)) }
 {
     match code {
         Code::Lit(k) => met_number(limited(*k)),
@@ -123,8 +120,7 @@ fn eval_number(alloc: Global, code: &Code, env: &mut Vec<Value>) -> Result<i128,
 #[cycle(eval)]
 fn eval_count(alloc: Global, code: &Code, env: &mut Vec<Value>) -> Result<i128, Stop>
     ensures told { NumberAnswer result (as_number (reached (code_tree code.now) (plains env.old.items))) }
-    ensures fit { IfOk result IsWithin }
-    ensures kept { OnOk result (env.new.items ≡ env.old.items) }
+    ensures kept { IfOk result (λ v. IsWithin v × (env.new.items ≡ env.old.items)) }
 {
     match kind_of(code) {
         Kind::Number => count(alloc, code, env),
@@ -136,8 +132,7 @@ fn eval_count(alloc: Global, code: &Code, env: &mut Vec<Value>) -> Result<i128, 
 #[inline(never)]
 fn other_number(alloc: Global, code: &Code, env: &mut Vec<Value>) -> Result<i128, Stop>
     ensures told { NumberAnswer result (as_number (reached (code_tree code.now) (plains env.old.items))) }
-    ensures fit { IfOk result IsWithin }
-    ensures kept { OnOk result (env.new.items ≡ env.old.items) }
+    ensures kept { IfOk result (λ v. IsWithin v × (env.new.items ≡ env.old.items)) }
 {
     Ok(into_number(eval_first(alloc, code, env)?))
 }
@@ -225,8 +220,7 @@ fn other_set(alloc: Global, code: &Code, env: &mut Vec<Value>) -> Result<Set, St
 #[inline(never)]
 fn count(alloc: Global, code: &Code, env: &mut Vec<Value>) -> Result<i128, Stop>
     ensures told { NumberAnswer result (as_number (reached (code_tree code.now) (plains env.old.items))) }
-    ensures fit { IfOk result IsWithin }
-    ensures kept { OnOk result (env.new.items ≡ env.old.items) }
+    ensures kept { IfOk result (λ v. IsWithin v × (env.new.items ≡ env.old.items)) }
 {
     match code {
         Code::Lit(k) => met_number(limited(*k)),
@@ -245,8 +239,7 @@ fn count(alloc: Global, code: &Code, env: &mut Vec<Value>) -> Result<i128, Stop>
 #[inline(always)]
 fn count_two(alloc: Global, code: &Code, env: &mut Vec<Value>) -> Result<i128, Stop>
     ensures told { NumberAnswer result (as_number (reached (code_tree code.now) (plains env.old.items))) }
-    ensures fit { IfOk result IsWithin }
-    ensures kept { OnOk result (env.new.items ≡ env.old.items) }
+    ensures kept { IfOk result (λ v. IsWithin v × (env.new.items ≡ env.old.items)) }
 {
     match code {
         Code::Sub(a, b) => {
@@ -268,8 +261,7 @@ fn count_two(alloc: Global, code: &Code, env: &mut Vec<Value>) -> Result<i128, S
 #[inline(always)]
 fn count_one(alloc: Global, code: &Code, env: &mut Vec<Value>) -> Result<i128, Stop>
     ensures told { NumberAnswer result (as_number (reached (code_tree code.now) (plains env.old.items))) }
-    ensures fit { IfOk result IsWithin }
-    ensures kept { OnOk result (env.new.items ≡ env.old.items) }
+    ensures kept { IfOk result (λ v. IsWithin v × (env.new.items ≡ env.old.items)) }
 {
     match code {
         Code::Neg(a) => Ok(cf_num::neg(eval_number(alloc, a, env)?)),
@@ -430,8 +422,7 @@ fn made_fresh(alloc: Global, s: Set, code: &Code, env: &mut Vec<Value>) -> Resul
 #[inline(never)]
 fn choose(alloc: Global, code: &Code, env: &mut Vec<Value>) -> Result<Given, Stop>
     ensures told { RunAnswer result (reached (code_tree code.now) (plains env.old.items)) }
-    ensures fit { IfOk result IsGivenFit }
-    ensures kept { OnOk result (env.new.items ≡ env.old.items) }
+    ensures kept { IfOk result (λ v. IsGivenFit v × (env.new.items ≡ env.old.items)) }
 {
     match code {
         Code::Var(x) => met_copy(alloc, env.get(*x as usize)),
@@ -448,8 +439,7 @@ fn choose(alloc: Global, code: &Code, env: &mut Vec<Value>) -> Result<Given, Sto
 #[inline(always)]
 fn choose_by_truth(alloc: Global, code: &Code, env: &mut Vec<Value>) -> Result<Given, Stop>
     ensures told { RunAnswer result (reached (code_tree code.now) (plains env.old.items)) }
-    ensures fit { IfOk result IsGivenFit }
-    ensures kept { OnOk result (env.new.items ≡ env.old.items) }
+    ensures kept { IfOk result (λ v. IsGivenFit v × (env.new.items ≡ env.old.items)) }
 {
     match code {
         Code::And(a, b) => {
@@ -482,8 +472,7 @@ fn choose_by_truth(alloc: Global, code: &Code, env: &mut Vec<Value>) -> Result<G
 #[inline(always)]
 fn eval_let(alloc: Global, code: &Code, env: &mut Vec<Value>) -> Result<Given, Stop>
     ensures told { RunAnswer result (reached (code_tree code.now) (plains env.old.items)) }
-    ensures fit { IfOk result IsGivenFit }
-    ensures kept { OnOk result (env.new.items ≡ env.old.items) }
+    ensures kept { IfOk result (λ v. IsGivenFit v × (env.new.items ≡ env.old.items)) }
 {
     match code {
         Code::Let { value, body, .. } => {
@@ -502,8 +491,7 @@ fn eval_let(alloc: Global, code: &Code, env: &mut Vec<Value>) -> Result<Given, S
 #[inline(never)]
 fn eval_solve(alloc: Global, number: u32, arms: &[Arm], env: &mut Vec<Value>) -> Result<Given, Stop>
     ensures told { RunAnswer result (then_reached (arms_reached (arm_trees arms.now) (plains env.old.items)) (or_none number)) }
-    ensures fit { IfOk result IsGivenFit }
-    ensures kept { OnOk result (env.new.items ≡ env.old.items) }
+    ensures kept { IfOk result (λ v. IsGivenFit v × (env.new.items ≡ env.old.items)) }
 {
     match eval_arms(alloc, arms, env)? {
         None => Err(Stop::Unsolved(number)),
@@ -515,8 +503,7 @@ fn eval_solve(alloc: Global, number: u32, arms: &[Arm], env: &mut Vec<Value>) ->
 #[cycle(eval)]
 fn eval_all(alloc: Global, parts: &[Code], env: &mut Vec<Value>) -> Result<Vec<Value>, Stop>
     ensures told { ValuesAnswer result (all_reached (code_trees parts.now) (plains env.old.items) []) }
-    ensures fit { IfOk result (λ vs. All IsFit vs.items) }
-    ensures kept { OnOk result (env.new.items ≡ env.old.items) }
+    ensures kept { IfOk result (λ v. All IsFit v.items × (env.new.items ≡ env.old.items)) }
 {
     let mut all = Vec::with_capacity(alloc, parts.len())?;
     for i in 0..parts.len() {
@@ -534,8 +521,7 @@ fn add_part(
     all: &mut Vec<Value>,
 ) -> Result<(), Stop>
     ensures told { MoreAnswer result (plains all.old.items) (plains all.new.items) (reached (code_tree code.now) (plains env.old.items)) }
-    ensures fit { OnOk result (All IsFit all.old.items → All IsFit all.new.items) }
-    ensures kept { OnOk result (env.new.items ≡ env.old.items) }
+    ensures kept { OnOk result ((All IsFit all.old.items → All IsFit all.new.items) × (env.new.items ≡ env.old.items)) }
 {
     match known(code, env) {
         Some(z) => push_narrow(z, all),
@@ -553,8 +539,7 @@ fn add_exact(
     all: &mut Vec<Value>,
 ) -> Result<(), Stop>
     ensures told { MoreAnswer result (plains all.old.items) (plains all.new.items) (reached (code_tree code.now) (plains env.old.items)) }
-    ensures fit { OnOk result (All IsFit all.old.items → All IsFit all.new.items) }
-    ensures kept { OnOk result (env.new.items ≡ env.old.items) }
+    ensures kept { OnOk result ((All IsFit all.old.items → All IsFit all.new.items) × (env.new.items ≡ env.old.items)) }
 {
     match kind_of(code) {
         Kind::Number => {
@@ -573,8 +558,7 @@ fn add_other(
     all: &mut Vec<Value>,
 ) -> Result<(), Stop>
     ensures told { MoreAnswer result (plains all.old.items) (plains all.new.items) (reached (code_tree code.now) (plains env.old.items)) }
-    ensures fit { OnOk result (All IsFit all.old.items → All IsFit all.new.items) }
-    ensures kept { OnOk result (env.new.items ≡ env.old.items) }
+    ensures kept { OnOk result ((All IsFit all.old.items → All IsFit all.new.items) × (env.new.items ≡ env.old.items)) }
 {
     match code {
         Code::Var(x) => push_copy(alloc, env.get(*x as usize), all),
@@ -591,8 +575,7 @@ fn add_given(
     all: &mut Vec<Value>,
 ) -> Result<(), Stop>
     ensures told { MoreAnswer result (plains all.old.items) (plains all.new.items) (reached (code_tree code.now) (plains env.old.items)) }
-    ensures fit { OnOk result (All IsFit all.old.items → All IsFit all.new.items) }
-    ensures kept { OnOk result (env.new.items ≡ env.old.items) }
+    ensures kept { OnOk result ((All IsFit all.old.items → All IsFit all.new.items) × (env.new.items ≡ env.old.items)) }
 {
     let more = eval(alloc, code, env)?;
     push_given(more, all)
@@ -614,8 +597,7 @@ fn eval_set_of(alloc: Global, parts: &[Code], env: &mut Vec<Value>) -> Result<Se
 #[cycle(eval)]
 fn eval_sum(alloc: Global, parts: &[Code], env: &mut Vec<Value>) -> Result<i128, Stop>
     ensures told { NumberAnswer result (as_number (sum_reached (code_trees parts.now) (plains env.old.items) (pos 0))) }
-    ensures fit { IfOk result IsWithin }
-    ensures kept { OnOk result (env.new.items ≡ env.old.items) }
+    ensures kept { IfOk result (λ v. IsWithin v × (env.new.items ≡ env.old.items)) }
 {
     let mut total: i128 = 0;
     for i in 0..parts.len() {
@@ -631,8 +613,7 @@ fn eval_sum(alloc: Global, parts: &[Code], env: &mut Vec<Value>) -> Result<i128,
 #[cycle(eval)]
 fn eval_best(alloc: Global, side: Side, parts: &[Code], env: &mut Vec<Value>) -> Result<i128, Stop>
     ensures told { NumberAnswer result (as_number (best_reached (better_of side) (code_trees parts.now) (plains env.old.items) None)) }
-    ensures fit { IfOk result IsWithin }
-    ensures kept { OnOk result (env.new.items ≡ env.old.items) }
+    ensures kept { IfOk result (λ v. IsWithin v × (env.new.items ≡ env.old.items)) }
 {
     let mut best: Option<i128> = None;
     for i in 0..parts.len() {
@@ -659,8 +640,7 @@ fn eval_join(alloc: Global, how: Join, parts: &[Code], env: &mut Vec<Value>) -> 
 #[cycle(eval)]
 fn eval_arms(alloc: Global, arms: &[Arm], env: &mut Vec<Value>) -> Result<Option<Vec<Value>>, Stop>
     ensures told { FoundAnswer result (arms_reached (arm_trees arms.now) (plains env.old.items)) }
-    ensures fit { IfOk result IsFoundFit }
-    ensures kept { OnOk result (env.new.items ≡ env.old.items) }
+    ensures kept { IfOk result (λ v. IsFoundFit v × (env.new.items ≡ env.old.items)) }
 {
     for i in 0..arms.len() {
         let found = eval_arm(alloc, &arms[i], env)?;
@@ -676,8 +656,7 @@ fn eval_arms(alloc: Global, arms: &[Arm], env: &mut Vec<Value>) -> Result<Option
 #[cycle(eval)]
 fn eval_arm(alloc: Global, arm: &Arm, env: &mut Vec<Value>) -> Result<Option<Vec<Value>>, Stop>
     ensures told { FoundAnswer result (arm_reached (arm_tree arm.now) (plains env.old.items)) }
-    ensures fit { IfOk result IsFoundFit }
-    ensures kept { OnOk result (env.new.items ≡ env.old.items) }
+    ensures kept { IfOk result (λ v. IsFoundFit v × (env.new.items ≡ env.old.items)) }
 {
     let size = env.len();
     let count = count_of(&arm.bounds);
@@ -700,8 +679,7 @@ fn eval_arm(alloc: Global, arm: &Arm, env: &mut Vec<Value>) -> Result<Option<Vec
 #[cycle(eval)]
 fn try_arm(alloc: Global, arm: &Arm, env: &mut Vec<Value>) -> Result<Option<Vec<Value>>, Stop>
     ensures told { FoundAnswer result (try_reached (arm_tree arm.now) (plains env.old.items)) }
-    ensures fit { IfOk result IsFoundFit }
-    ensures kept { OnOk result (Extends env.old.items env.new.items) }
+    ensures kept { IfOk result (λ v. IsFoundFit v × Extends env.old.items env.new.items) }
 {
     if !run_items(alloc, &arm.items, env)? {
         return Ok(None);

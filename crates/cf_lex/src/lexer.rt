@@ -2,7 +2,8 @@
 ghost use Rattle.std.specs.Prelude.{◌≡◌, ℕ, List, ◌+◌, ◌-◌, ◌^◌, ◌<◌, ◌≤◌, length, ◌∷◌, ◌++◌, [], OnOk, IfOk};
 ghost use Rattle.cf_lex.specs.Places.{place_after};
 ghost use Rattle.cf_lex.specs.Tokens.{TokensAnswer, IsAnswer, LexesTo, Ending, AreWithin, tokens_of};
-ghost use Rattle.cf_lex.specs.Steps.{NextIs, ScanAnswer};
+ghost use Rattle.cf_lex.specs.Front.{IsWithin};
+ghost use Rattle.cf_lex.specs.Steps.{NextIs, ScanAnswer, step, step_of};
 ghost use Rattle.cf_lex.specs.declared.token.Token.{Token};
 ghost use Rattle.cf_tree.specs.declared.base.Place.{Place};
 
@@ -59,11 +60,27 @@ fn take_piece(alloc: Global, place: Place, text: &[u8], limit: u128) -> Result<T
     requires short { length text.now < 2 ^ 32 }
     requires limit { limit < 2 ^ 127 }
     ensures is { NextIs limit place text.now result }
-    ensures size { IfOk result (λ n. n.size ≤ length text.now) }
-    ensures moves { IfOk result (λ n. 0 < n.size) }
+    ensures size { IfOk result (λ n. (0 < n.size) × (n.size ≤ length text.now)) }
 {
-    let first = text[0];
-    match front(first, &text[1..]) {
+    let piece = front(text[0], &text[1..]);
+    take_found(alloc, place, piece, text, limit)
+}
+
+// The token that the piece at the front of a text is.
+fn take_found(
+    alloc: Global,
+    place: Place,
+    piece: Piece,
+    text: &[u8],
+    limit: u128,
+) -> Result<Taken, LexFault>
+    requires limit { limit < 2 ^ 127 }
+    requires size { IsWithin (length text.now) piece }
+    requires step { step limit text.now ≡ step_of limit text.now piece }
+    ensures is { NextIs limit place text.now result }
+    ensures size { IfOk result (λ n. (0 < n.size) × (n.size ≤ length text.now)) }
+{
+    match piece {
         Piece::Bad => Err(LexFault::BadByte(place)),
         Piece::Skip(size) => Ok(Taken { size, kind: None }),
         Piece::Literal(size) => match literal(&text[..size], limit) {

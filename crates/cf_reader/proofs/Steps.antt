@@ -53,6 +53,11 @@ pub more_fails : {A B : Type 0} (add : B → A → B) (item : Reader A) (separat
 more_fails add item separator close k done ts p us stops.NoMemory h g lt = tt
 more_fails add item separator close k done ts p us (stops.TokensLeft n) h g lt = more_errs add item separator close k done ts p us n h g lt
 
+pub more_stops : {A B : Type 0} (add : B → A → B) (item : Reader A) (separator close : TokenKind) (k : ℕ) (done : B) (ts : List Token) (e : Stop) →
+    at (is separator) ts ≡ None → StopAnswer e (must (is close) ts) → 0 < k → StopAnswer e (more_of add item separator close k done ts)
+more_stops add item separator close k done ts stops.NoMemory h g lt = tt
+more_stops add item separator close k done ts (stops.TokensLeft n) h g lt = more_unclosed add item separator close k done ts n h g lt
+
 -- the next turn of a loop
 pub more_next : {A B : Type 0} (add : B → A → B) (item : Reader A) (separator close : TokenKind) (k j : ℕ) (done done' : B) (ts : List Token) (p : Place)
     (us : List Token) (x : A) (vs : List Token) (whole : Got B) →

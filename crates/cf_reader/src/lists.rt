@@ -17,26 +17,22 @@ use std::alloc::Global;
 pub fn results(alloc: Global, tokens: &[Token]) -> Result<(Vec<Base>, &[Token]), Stop>
     ensures { ReadAnswer (λ x. (x.0.items, x.1.now)) result (results_of tokens.now) }
 {
-    let mut all = Vec::new(alloc);
     match after_sign("(", tokens) {
         Some((_, rest)) => {
             let (x, rest) = expect_base(rest)?;
             let (_, rest) = expect_sign(",", rest)?;
             let (y, rest) = expect_base(rest)?;
-            all.push(x)?;
-            all.push(y)?;
-            more_bases(all, rest)
+            more_bases(Vec::from_slice(alloc, &[x, y])?, rest)
         }
         None => {
             let (x, rest) = expect_base(tokens)?;
-            all.push(x)?;
-            Ok((all, rest))
+            Ok((Vec::from_slice(alloc, &[x])?, rest))
         }
     }
 }
 
 /// More bases, each behind a comma, up to the closing parenthesis.
-#[tactic(auto, using(crate::proofs::Steps::more_ends, crate::proofs::Steps::more_goes, crate::proofs::Steps::more_errs, crate::proofs::Steps::more_closes, crate::proofs::Steps::more_unclosed), unfolding(crate::specs::Readers::others_of))]
+#[tactic(auto, unfolding(crate::specs::Readers::others_of))]
 pub fn more_bases(first: Vec<Base>, tokens: &[Token]) -> Result<(Vec<Base>, &[Token]), Stop>
     ensures { ReadAnswer (λ x. (x.0.items, x.1.now)) result (others_of snoc (must a_base) (Sign (codes ",")) (Sign (codes ")")) first.items tokens.now) }
 {

@@ -2,6 +2,7 @@
 ghost use Rattle.std.specs.Prelude.{◌≡◌};
 ghost use Rattle.cf_reader.specs.Operations.{word_op as word_op_of, compare_op as compare_op_of, sign_op as sign_op_of, op_of};
 
+use crate::tokens::spells;
 use cf_lex::TokenKind;
 use cf_tree::base::Order;
 use cf_tree::raw::BinOp;
@@ -9,13 +10,13 @@ use cf_tree::raw::BinOp;
 fn word_op(word: &[u8]) -> Option<BinOp>
     ensures { result ≡ word_op_of word.now }
 {
-    if word == b"union".as_slice() {
+    if spells(word, "union") {
         Some(BinOp::Union)
-    } else if word == b"diff".as_slice() {
+    } else if spells(word, "diff") {
         Some(BinOp::Diff)
-    } else if word == b"inter".as_slice() {
+    } else if spells(word, "inter") {
         Some(BinOp::Inter)
-    } else if word == b"subset".as_slice() {
+    } else if spells(word, "subset") {
         Some(BinOp::Subset)
     } else {
         None
@@ -25,17 +26,17 @@ fn word_op(word: &[u8]) -> Option<BinOp>
 fn compare_op(sign: &[u8]) -> Option<BinOp>
     ensures { result ≡ compare_op_of sign.now }
 {
-    if sign == b"==".as_slice() {
+    if spells(sign, "==") {
         Some(BinOp::Compare(Order::Eq))
-    } else if sign == b"!=".as_slice() {
+    } else if spells(sign, "!=") {
         Some(BinOp::Compare(Order::Ne))
-    } else if sign == b"<".as_slice() {
+    } else if spells(sign, "<") {
         Some(BinOp::Compare(Order::Lt))
-    } else if sign == b"<=".as_slice() {
+    } else if spells(sign, "<=") {
         Some(BinOp::Compare(Order::Le))
-    } else if sign == b">".as_slice() {
+    } else if spells(sign, ">") {
         Some(BinOp::Compare(Order::Gt))
-    } else if sign == b">=".as_slice() {
+    } else if spells(sign, ">=") {
         Some(BinOp::Compare(Order::Ge))
     } else {
         None
@@ -45,15 +46,15 @@ fn compare_op(sign: &[u8]) -> Option<BinOp>
 fn sign_op(sign: &[u8]) -> Option<BinOp>
     ensures { result ≡ sign_op_of sign.now }
 {
-    if sign == b"||".as_slice() {
+    if spells(sign, "||") {
         Some(BinOp::Or)
-    } else if sign == b"&&".as_slice() {
+    } else if spells(sign, "&&") {
         Some(BinOp::And)
-    } else if sign == b"+".as_slice() {
+    } else if spells(sign, "+") {
         Some(BinOp::Add)
-    } else if sign == b"-".as_slice() {
+    } else if spells(sign, "-") {
         Some(BinOp::Sub)
-    } else if sign == b"*".as_slice() {
+    } else if spells(sign, "*") {
         Some(BinOp::Mul)
     } else {
         compare_op(sign)

@@ -12,6 +12,13 @@ use cf_lex::{Token, TokenKind};
 use cf_tree::base::{Place, Text};
 use std::alloc::Global;
 
+// Whether a word or sign is this text.
+pub(crate) fn spells(word: &[u8], text: &str) -> bool
+    ensures { result ≡ bytes_eq word.now text.now }
+{
+    word == text.as_bytes()
+}
+
 /// The place of the sign `sign`, if it stands first, and the tokens after it.
 #[tactic(auto, unfolding(crate::specs::Readers::at))]
 pub fn after_sign<'a>(sign: &str, tokens: &'a [Token]) -> Option<(Place, &'a [Token])>
@@ -45,7 +52,7 @@ fn is_sign(sign: &str, kind: &TokenKind) -> bool
     match kind {
         TokenKind::Literal(_) => false,
         TokenKind::Word(_) => false,
-        TokenKind::Sign(s) => s.bytes.as_slice() == sign.as_bytes(),
+        TokenKind::Sign(s) => spells(&s.bytes, sign),
     }
 }
 
@@ -55,7 +62,7 @@ fn is_word(word: &str, kind: &TokenKind) -> bool
 {
     match kind {
         TokenKind::Literal(_) => false,
-        TokenKind::Word(w) => w.bytes.as_slice() == word.as_bytes(),
+        TokenKind::Word(w) => spells(&w.bytes, word),
         TokenKind::Sign(_) => false,
     }
 }
@@ -126,52 +133,52 @@ fn is_reserved(word: &[u8]) -> bool
 fn is_reserved_early(word: &[u8]) -> bool
     ensures { result ≡ list_any (λ r. bytes_eq word.now r) (take 12 reserved_words) }
 {
-    word == b"def".as_slice()
-        || word == b"let".as_slice()
-        || word == b"in".as_slice()
-        || word == b"if".as_slice()
-        || word == b"then".as_slice()
-        || word == b"else".as_slice()
-        || word == b"choose".as_slice()
-        || word == b"where".as_slice()
-        || word == b"int".as_slice()
-        || word == b"bool".as_slice()
-        || word == b"set".as_slice()
-        || word == b"true".as_slice()
+    spells(word, "def")
+        || spells(word, "let")
+        || spells(word, "in")
+        || spells(word, "if")
+        || spells(word, "then")
+        || spells(word, "else")
+        || spells(word, "choose")
+        || spells(word, "where")
+        || spells(word, "int")
+        || spells(word, "bool")
+        || spells(word, "set")
+        || spells(word, "true")
 }
 
 // Whether a word is one of the next twelve reserved words.
 fn is_reserved_amid(word: &[u8]) -> bool
     ensures { result ≡ list_any (λ r. bytes_eq word.now r) (take 12 (drop 12 reserved_words)) }
 {
-    word == b"false".as_slice()
-        || word == b"union".as_slice()
-        || word == b"inter".as_slice()
-        || word == b"diff".as_slice()
-        || word == b"subset".as_slice()
-        || word == b"divides".as_slice()
-        || word == b"card".as_slice()
-        || word == b"div".as_slice()
-        || word == b"mod".as_slice()
-        || word == b"solve".as_slice()
-        || word == b"arm".as_slice()
-        || word == b"need".as_slice()
+    spells(word, "false")
+        || spells(word, "union")
+        || spells(word, "inter")
+        || spells(word, "diff")
+        || spells(word, "subset")
+        || spells(word, "divides")
+        || spells(word, "card")
+        || spells(word, "div")
+        || spells(word, "mod")
+        || spells(word, "solve")
+        || spells(word, "arm")
+        || spells(word, "need")
 }
 
 // Whether a word is one of the last ten reserved words.
 fn is_reserved_late(word: &[u8]) -> bool
     ensures { result ≡ list_any (λ r. bytes_eq word.now r) (drop 24 reserved_words) }
 {
-    word == b"give".as_slice()
-        || word == b"min".as_slice()
-        || word == b"max".as_slice()
-        || word == b"slice".as_slice()
-        || word == b"fresh".as_slice()
-        || word == b"neg".as_slice()
-        || word == b"not".as_slice()
-        || word == b"abs".as_slice()
-        || word == b"match".as_slice()
-        || word == b"with".as_slice()
+    spells(word, "give")
+        || spells(word, "min")
+        || spells(word, "max")
+        || spells(word, "slice")
+        || spells(word, "fresh")
+        || spells(word, "neg")
+        || spells(word, "not")
+        || spells(word, "abs")
+        || spells(word, "match")
+        || spells(word, "with")
 }
 
 /// A name that has to stand first, with its place, and the tokens after it.

@@ -5,6 +5,7 @@ ghost use Rattle.cf_reader.specs.Readers.{at, must};
 ghost use Rattle.cf_reader.specs.Kinds.{a_base, a_truth};
 
 use crate::stop::Stop;
+use crate::tokens::spells;
 use cf_lex::{Token, TokenKind};
 use cf_tree::base::{Base, Place};
 
@@ -19,11 +20,11 @@ pub fn expect_base(tokens: &[Token]) -> Result<(Base, &[Token]), Stop>
     let TokenKind::Word(word) = &t.kind else {
         return Err(Stop::TokensLeft(tokens.len()));
     };
-    if word.bytes.as_slice() == b"int".as_slice() {
+    if spells(&word.bytes, "int") {
         Ok((Base::Int, rest))
-    } else if word.bytes.as_slice() == b"bool".as_slice() {
+    } else if spells(&word.bytes, "bool") {
         Ok((Base::Bool, rest))
-    } else if word.bytes.as_slice() == b"set".as_slice() {
+    } else if spells(&word.bytes, "set") {
         Ok((Base::Set, rest))
     } else {
         Err(Stop::TokensLeft(tokens.len()))
@@ -39,9 +40,9 @@ pub fn truth(tokens: &[Token]) -> Option<((Place, bool), &[Token])>
     let TokenKind::Word(word) = &t.kind else {
         return None;
     };
-    if word.bytes.as_slice() == b"true".as_slice() {
+    if spells(&word.bytes, "true") {
         Some(((t.place, true), rest))
-    } else if word.bytes.as_slice() == b"false".as_slice() {
+    } else if spells(&word.bytes, "false") {
         Some(((t.place, false), rest))
     } else {
         None

@@ -107,7 +107,7 @@ impl Set {
     pub fn has(&self, x: i128) -> bool
         ensures { result ≡ has self.now x }
     {
-        lists::has(&self.items, x)
+        lists::has(&self.items, &x)
     }
 
     /// Whether each element of this set is one of the other.

@@ -1,5 +1,5 @@
 // Strictly rising lists of numbers.
-ghost use Rattle.std.specs.Prelude.{◌≡◌, ◌<◌, ◌≤◌, min, drop, length, ◌∷◌, [], ◌++◌, ◌^◌, IfOk, OnOk, pos};
+ghost use Rattle.std.specs.Prelude.{◌≡◌, ◌<◌, ◌≤◌, min, drop, length, ◌∷◌, [], ◌++◌, ◌^◌, cond, IfOk, OnOk, pos};
 ghost use Rattle.cf_set.specs.Fresh.{cmp_first};
 ghost use Rattle.cf_tree.specs.Numbers.{count_of};
 ghost use Rattle.cf_tree.specs.Values.{same_list};
@@ -19,11 +19,11 @@ pub fn sorted(alloc: Global, items: &[i128]) -> Result<Vec<i128>, NoMemory>
     Ok(all)
 }
 
-pub fn has(items: &[i128], x: i128) -> bool
+pub fn has(items: &[i128], x: &i128) -> bool
     requires { IsRising items.now }
-    ensures { result ≡ has items.now x }
+    ensures { result ≡ has items.now x.now }
 {
-    items.binary_search(&x).is_ok()
+    items.binary_search(x).is_ok()
 }
 
 pub fn union(alloc: Global, a: &[i128], b: &[i128]) -> Result<Vec<i128>, NoMemory>
@@ -54,15 +54,24 @@ pub fn union(alloc: Global, a: &[i128], b: &[i128]) -> Result<Vec<i128>, NoMemor
     Ok(out)
 }
 
+// Adds the number where it is wanted.
+fn push_if(out: &mut Vec<i128>, x: &i128, wanted: bool) -> Result<(), NoMemory>
+    ensures { OnOk result (out.new.items ≡ out.old.items ++ cond wanted (x.now ∷ []) []) }
+{
+    if wanted {
+        out.push(*x)?;
+    }
+    Ok(())
+}
+
 pub fn inter(alloc: Global, a: &[i128], b: &[i128]) -> Result<Vec<i128>, NoMemory>
     requires { IsRising b.now }
     ensures { IfOk result (λ v. v.items ≡ set_inter a.now b.now) }
 {
     let mut out = Vec::new(alloc);
     for x in a {
-        if has(b, *x) {
-            out.push(*x)?;
-        }
+        let wanted = has(b, x);
+        push_if(&mut out, x, wanted)?;
     }
     Ok(out)
 }
@@ -73,9 +82,8 @@ pub fn diff(alloc: Global, a: &[i128], b: &[i128]) -> Result<Vec<i128>, NoMemory
 {
     let mut out = Vec::new(alloc);
     for x in a {
-        if !has(b, *x) {
-            out.push(*x)?;
-        }
+        let wanted = !has(b, x);
+        push_if(&mut out, x, wanted)?;
     }
     Ok(out)
 }
@@ -107,7 +115,7 @@ pub fn subset(a: &[i128], b: &[i128]) -> bool
     ensures { result ≡ is_subset a.now b.now }
 {
     for x in a {
-        if !has(b, *x) {
+        if !has(b, x) {
             return false;
         }
     }

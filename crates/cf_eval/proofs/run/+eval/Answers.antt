@@ -36,7 +36,7 @@ eval_arm-loop-index-preserved t c =
     let low = below_capped n c.loop-index.index (rw c.loop-index.invariant.1 at c.loop-index-test.true) in
     let b = binds_tree c.args.arm.now _ _ _ _ c.deref-in-loop-index.ensures.value c.in_ok-push_tuple.ensures.bound in
     let same = cut c.loop-index.env.items _ _ c.truncate.new.self.items c.len-size.result
-    (c.len-size.ensures ∙ c.args.env.now.ok.0 ∙ ap length (sym c.loop-index.invariant.0)) c.in_ok-push_tuple.ensures.ok c.in_ok-found.ensures.kept
+    (c.len-size.ensures ∙ c.args.env.now.ok.0 ∙ ap length (sym c.loop-index.invariant.0)) c.in_ok-push_tuple.ensures.ok c.in_ok-found.ensures.kept.1
     c.truncate.ensures.items in (
       same ∙ c.loop-index.invariant.0,
       c.loop-index.invariant.1,

@@ -2,7 +2,7 @@ use Rattle.std.proofs.Common.{rules, arith}
 use Rattle.std.proofs.lemmas.Result.{err_from_is_err_and}
 use Rattle.cf_reader.specs.Readers.{must, snoc, others_of}
 use Rattle.cf_reader.specs.Kinds.{a_base}
-use Rattle.cf_reader.proofs.Steps.{more_fails, more_next}
+use Rattle.cf_reader.proofs.Steps.{more_closes, more_ends, more_fails, more_next, more_stops}
 use Rattle.cf_reader.proofs.lists.more_bases.Goals as goal
 
 pub returns-in_err-x-in-Some : goal.returns-in_err-x-in-Some
@@ -14,3 +14,18 @@ returns-in_err-x-in-Some c =
 pub loop-preserved : goal.loop-preserved
 loop-preserved c = more_next snoc (must a_base) _ _ _ _ _ _ _ _ _ _ _ _ c.in-Some.ensures c.in_ok-x-in-Some.ensures (omega arith) (search rules)
     c.loop.invariant
+
+pub returns-in_err-behind-in-None : goal.returns-in_err-behind-in-None
+unfolding others_of
+returns-in_err-behind-in-None c =
+    let p = err_from_is_err_and c.from_residual-in_err-behind-in-None.result c.from_residual-in_err-behind-in-None.ensures.1 in
+    rw (p.1, p.2, ← c.loop.invariant) (more_stops snoc (must a_base) _ _ _ _ _ _ c.in-None.ensures c.in_err-behind-in-None.ensures (omega arith))
+
+pub returns-in-None : goal.returns-in-None
+unfolding others_of
+returns-in-None c =
+    rw (← c.loop.invariant) (more_closes snoc (must a_base) _ _ _ _ _ _ _ c.in-None.ensures c.in_ok-behind-in-None.ensures (omega arith))
+
+pub returns : goal.returns
+unfolding others_of
+returns c = rw (← c.loop.invariant) (more_ends snoc (must a_base) _ _ _ _ _ (omega arith))

@@ -1,6 +1,6 @@
-use Rattle.std.proofs.Common.{◌≡◌, ◌++◌, drop}
+use Rattle.std.proofs.Common.{◌≡◌, take}
 use Rattle.cf_tree.specs.Sets.{set_inter}
 use Rattle.cf_set.proofs.lists.inter.Given as goal
 
 abbrev pub invariant-loop-x : goal.invariant-loop-x
-invariant-loop-x l = l.out.items ++ set_inter (drop l.x-index l.a) l.b ≡ set_inter l.a l.b
+invariant-loop-x l = l.out.items ≡ set_inter (take l.x-index l.a) l.b

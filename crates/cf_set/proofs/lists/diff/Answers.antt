@@ -1,0 +1,9 @@
+use Rattle.std.proofs.Common.{sym, pos, not}
+use Rattle.std.proofs.lemmas.List.Elements.{filter_more}
+use Rattle.cf_tree.specs.Sets.{has}
+use Rattle.cf_set.proofs.lists.diff.Goals as goal
+
+pub loop-x-preserved : goal.loop-x-preserved
+loop-x-preserved c =
+    rw (c.in_ok-push_if.ensures, c.has-wanted.ensures, c.loop-x.invariant)
+    (sym (filter_more (λ x. not (has c.args.b.now x)) c.args.a.now c.loop-x.x-index (pos 0) c.loop-x-test.true))
