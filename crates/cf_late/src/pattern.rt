@@ -40,6 +40,7 @@ fn is_in(class: Class, z: i128) -> bool
     }
 }
 
+// for the proof: `==` on the numbers that a `match` holds is dear to show
 fn are_same(x: i128, y: i128) -> bool
     ensures { result ≡ int_eq x y }
 {

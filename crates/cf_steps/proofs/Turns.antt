@@ -27,12 +27,12 @@ unfolding acts_of first pure
 acts_close zero done ts p us h l = absurd (omega arith)
 acts_close (suc k) done ts p us h l = rw (acts_of, first, h, pure) refl
 
-pub acts_go : (k j : ℕ) (done : List Act) (ts : List Token) (act : Act) (us : List Token) → at (is (Sign (codes "}"))) ts ≡ None →
+acts_go : (k j : ℕ) (done : List Act) (ts : List Token) (act : Act) (us : List Token) → at (is (Sign (codes "}"))) ts ≡ None →
     ended_act ts ≡ Ok (act, us) → k ≡ suc j → acts_of k done ts ≡ acts_of j (snoc done act) us
 unfolding acts_of first bind
 acts_go k j done ts act us h g e = rw (e, acts_of, first, h, bind, g) refl
 
-pub acts_err : (k : ℕ) (done : List Act) (ts : List Token) (e : ℕ) → at (is (Sign (codes "}"))) ts ≡ None → ended_act ts ≡ Err e → 0 < k →
+acts_err : (k : ℕ) (done : List Act) (ts : List Token) (e : ℕ) → at (is (Sign (codes "}"))) ts ≡ None → ended_act ts ≡ Err e → 0 < k →
     acts_of k done ts ≡ Err e
 unfolding acts_of first bind
 acts_err zero done ts e h g l = absurd (omega arith)
@@ -74,13 +74,13 @@ blocks_stop limit zero done [] e h = absurd (omega (arith, h))
 blocks_stop limit zero done (t ∷ ts) e h = refl
 blocks_stop limit (suc k) done ts e h = absurd (omega (arith, e))
 
-pub blocks_go : (limit k j : ℕ) (done : List BlockTree) (ts : List Token) (b : BlockTree) (us : List Token) → block_of limit ts ≡ Ok (b, us) → k ≡ suc j →
+blocks_go : (limit k j : ℕ) (done : List BlockTree) (ts : List Token) (b : BlockTree) (us : List Token) → block_of limit ts ≡ Ok (b, us) → k ≡ suc j →
     0 < length ts → blocks_of limit k done ts ≡ blocks_of limit j (snoc done b) us
 unfolding blocks_of bind at_end
 blocks_go limit k j done [] b us g e h = absurd (omega (arith, h))
 blocks_go limit k j done (t ∷ ts) b us g e h = rw (e, blocks_of, at_end, bind, g) refl
 
-pub blocks_err : (limit k : ℕ) (done : List BlockTree) (ts : List Token) (e : ℕ) → block_of limit ts ≡ Err e → 0 < k → 0 < length ts →
+blocks_err : (limit k : ℕ) (done : List BlockTree) (ts : List Token) (e : ℕ) → block_of limit ts ≡ Err e → 0 < k → 0 < length ts →
     blocks_of limit k done ts ≡ Err e
 unfolding blocks_of bind at_end
 blocks_err limit zero done ts e g l h = absurd (omega arith)
