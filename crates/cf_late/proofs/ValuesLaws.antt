@@ -1,6 +1,6 @@
 -- Values within the limit.
-use Rattle.std.proofs.Common.{◌≡◌, ℕ, zero, suc, ◌<◌, List, [], ◌∷◌, ◌++◌, length, map, take, get_or, refl, sym, ap, ◌∙◌, subst, arith}
-use Rattle.std.proofs.lemmas.List.{map-append, take_at}
+use Rattle.std.proofs.Common.{◌≡◌, ℕ, zero, suc, ◌<◌, ◌≤◌, ◌+◌, ℤ, List, [], ◌∷◌, ◌++◌, length, map, take, get_or, refl, sym, ap, ◌∙◌, subst, arith}
+use Rattle.std.proofs.lemmas.List.{map-append, take_all, take_at, take_more}
 use Rattle.std.proofs.lemmas.List.Elements.{All-nil, All-cons}
 use Rattle.cf_num.specs.Limit.{IsWithin}
 use Rattle.cf_tree.specs.Sets.{AreWithin}
@@ -38,6 +38,21 @@ copy_fit (u ∷ xs) (suc x) v w h l e same = copy_fit xs x v w h.1 (omega (arith
 pub numbers_within : (vs : List Value) → AreFit vs → AreWithin (map number_of vs)
 numbers_within [] h = All-nil IsWithin
 numbers_within (v ∷ vs) h = All-cons IsWithin (number_of v) (map number_of vs) h.0 (numbers_within vs h.1)
+
+-- the numbers of the first values, with that of the next one
+pub numbers_next : (values : List RunValue) (i : ℕ) (v : RunValue) (z : ℤ) (before after : List ℤ) → i < length values → v ≡ get_or values i v →
+    z ≡ number_of (plain v) → after ≡ before ++ z ∷ [] → before ≡ map number_of (plains (take i values)) → after ≡ map number_of (plains (take (i + 1) values))
+numbers_next values i v z before after few is number put so_far =
+    let first = take i values in
+    let next = get_or values i v ∷ [] in
+    put ∙ ap (λ ns. ns ++ z ∷ []) so_far ∙ ap (λ n. map number_of (plains first) ++ n ∷ []) (number ∙ ap (λ w. number_of (plain w)) is)
+    ∙ sym (ap (λ vs. map number_of (plains vs)) (take_more values i v few) ∙ ap (map number_of) (plains_append first next)
+    ∙ map-append number_of (plains first) (plains next))
+
+-- and at the end those of all
+pub numbers_all : (values : List RunValue) (i : ℕ) (numbers : List ℤ) → length values ≤ i → numbers ≡ map number_of (plains (take i values)) →
+    numbers ≡ map number_of (plains values)
+numbers_all values i numbers past so_far = so_far ∙ ap (λ vs. map number_of (plains vs)) (take_all i values past)
 
 -- the values behind the first ones are given up
 pub taken_back : (n : ℕ) (xs ys : List Value) → n ≡ length xs → take n (xs ++ ys) ≡ xs

@@ -1,5 +1,6 @@
 //! The arms of a match.
 ghost use Rattle.std.specs.Prelude.{◌≡◌, ◌-◌, map, length};
+ghost use Rattle.std.specs.Ordering.{int_eq};
 ghost use Rattle.cf_num.specs.Limit.{IsWithin};
 ghost use Rattle.cf_tree.specs.declared.base.Base.TheVariants as bases;
 ghost use Rattle.cf_tree.specs.Allowed.{scope_of};
@@ -34,9 +35,16 @@ fn is_in(class: Class, z: i128) -> bool
     ensures { result ≡ is_in class z }
 {
     match class {
-        Class::Point(c) => z == c,
-        Class::Residue { g, r } => remain(z, g) == r,
+        Class::Point(c) => are_same(z, c),
+        Class::Residue { g, r } => are_same(remain(z, g), r),
     }
+}
+
+// for the proof: `==` on the numbers that a `match` holds is dear to show
+fn are_same(x: i128, y: i128) -> bool
+    ensures { result ≡ int_eq x y }
+{
+    x == y
 }
 
 // The values of the variables of an arm, which its choose picks. The matched value stands last in

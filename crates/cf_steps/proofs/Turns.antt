@@ -1,13 +1,16 @@
 -- Reading steps and blocks, one at a time.
-use Rattle.std.proofs.Common.{◌≡◌, ◌==◌, Bool, false, ℕ, suc, zero, ◌<◌, List, [], ◌∷◌, ◌++◌, map, length, Some, None, Ok, Err, refl, sym, ap, ◌∙◌, arith}
+use Rattle.std.proofs.Common.{◌≡◌, ◌==◌, Bool, true, false, ℕ, suc, zero, ◌<◌, List, [], ◌∷◌, ◌++◌, map, length, Some, None, Ok, Err, refl, sym, ap, ◌∙◌, arith}
 use Rattle.std.specs.Prelude.{codes}
+use borrow.Author.Tests.{eqb-true}
 use Rattle.cf_lex.specs.declared.token.Token.{Token}
+use Rattle.cf_lex.specs.declared.token.TokenKind.{TokenKind}
 use Rattle.cf_lex.specs.declared.token.TokenKind.TheVariants.{Sign}
 use Rattle.cf_tree.specs.declared.base.Place.{Place}
 use Rattle.cf_reader.specs.declared.stop.Stop.{Stop}
 use Rattle.cf_reader.specs.declared.stop.Stop.TheVariants as stops
 use Rattle.cf_reader.specs.Answers.{StopAnswer}
-use Rattle.cf_reader.specs.Readers.{Got, is, at, bind, pure, first, at_end, snoc}
+use Rattle.cf_reader.specs.Readers.{Got, Reader, is, at, bind, pure, first, must, more_of, at_end, snoc}
+use Rattle.cf_reader.proofs.Steps.{more_unclosed}
 use Rattle.cf_steps.specs.declared.act.Act.{Act}
 use Rattle.cf_steps.specs.declared.block.Block.{Block}
 use Rattle.cf_steps.specs.Blocks.{BlockTree, block_tree}
@@ -24,12 +27,12 @@ unfolding acts_of first pure
 acts_close zero done ts p us h l = absurd (omega arith)
 acts_close (suc k) done ts p us h l = rw (acts_of, first, h, pure) refl
 
-pub acts_go : (k j : ℕ) (done : List Act) (ts : List Token) (act : Act) (us : List Token) → at (is (Sign (codes "}"))) ts ≡ None →
+acts_go : (k j : ℕ) (done : List Act) (ts : List Token) (act : Act) (us : List Token) → at (is (Sign (codes "}"))) ts ≡ None →
     ended_act ts ≡ Ok (act, us) → k ≡ suc j → acts_of k done ts ≡ acts_of j (snoc done act) us
 unfolding acts_of first bind
 acts_go k j done ts act us h g e = rw (e, acts_of, first, h, bind, g) refl
 
-pub acts_err : (k : ℕ) (done : List Act) (ts : List Token) (e : ℕ) → at (is (Sign (codes "}"))) ts ≡ None → ended_act ts ≡ Err e → 0 < k →
+acts_err : (k : ℕ) (done : List Act) (ts : List Token) (e : ℕ) → at (is (Sign (codes "}"))) ts ≡ None → ended_act ts ≡ Err e → 0 < k →
     acts_of k done ts ≡ Err e
 unfolding acts_of first bind
 acts_err zero done ts e h g l = absurd (omega arith)
@@ -46,6 +49,18 @@ pub acts_next : (k j : ℕ) (done done' : List Act) (ts : List Token) (act : Act
     acts_of j done' us ≡ whole
 acts_next k j done done' ts act us whole h g e d w = ap (λ z. acts_of j z us) d ∙ sym (acts_go k j done ts act us h g e) ∙ w
 
+-- ---- cases
+-- a list that is not closed
+pub unclosed_fails : {A B : Type 0} (add : B → A → B) (item : Reader A) (separator close : TokenKind) (k : ℕ) (done : B) (ts : List Token) (e : Stop) →
+    at (is separator) ts ≡ None → StopAnswer e (must (is close) ts) → 0 < k → StopAnswer e (more_of add item separator close k done ts)
+unclosed_fails add item separator close k done ts stops.NoMemory h g l = tt
+unclosed_fails add item separator close k done ts (stops.TokensLeft n) h g l = more_unclosed add item separator close k done ts n h g l
+
+-- what stops though it was to read something wants memory
+pub only_memory : {Y Z : Type 0} (e : Stop) (y : Y) (read : Got Z) → StopAnswer {Y = Y} e (Ok y) → StopAnswer e read
+only_memory stops.NoMemory y read h = tt
+only_memory (stops.TokensLeft n) y read h = cc h
+
 -- ---- blocks
 pub blocks_end : (limit k : ℕ) (done : List BlockTree) (ts : List Token) → length ts ≡ 0 → blocks_of limit k done ts ≡ Ok (done, ts)
 unfolding blocks_of at_end
@@ -59,18 +74,23 @@ blocks_stop limit zero done [] e h = absurd (omega (arith, h))
 blocks_stop limit zero done (t ∷ ts) e h = refl
 blocks_stop limit (suc k) done ts e h = absurd (omega (arith, e))
 
-pub blocks_go : (limit k j : ℕ) (done : List BlockTree) (ts : List Token) (b : BlockTree) (us : List Token) → block_of limit ts ≡ Ok (b, us) → k ≡ suc j →
+blocks_go : (limit k j : ℕ) (done : List BlockTree) (ts : List Token) (b : BlockTree) (us : List Token) → block_of limit ts ≡ Ok (b, us) → k ≡ suc j →
     0 < length ts → blocks_of limit k done ts ≡ blocks_of limit j (snoc done b) us
 unfolding blocks_of bind at_end
 blocks_go limit k j done [] b us g e h = absurd (omega (arith, h))
 blocks_go limit k j done (t ∷ ts) b us g e h = rw (e, blocks_of, at_end, bind, g) refl
 
-pub blocks_err : (limit k : ℕ) (done : List BlockTree) (ts : List Token) (e : ℕ) → block_of limit ts ≡ Err e → 0 < k → 0 < length ts →
+blocks_err : (limit k : ℕ) (done : List BlockTree) (ts : List Token) (e : ℕ) → block_of limit ts ≡ Err e → 0 < k → 0 < length ts →
     blocks_of limit k done ts ≡ Err e
 unfolding blocks_of bind at_end
 blocks_err limit zero done ts e g l h = absurd (omega arith)
 blocks_err limit (suc k) done [] e g l h = absurd (omega (arith, h))
 blocks_err limit (suc k) done (t ∷ ts) e g l h = rw (blocks_of, at_end, bind, g) refl
+
+pub blocks_fail : (limit k : ℕ) (done : List BlockTree) (ts : List Token) (e : Stop) → StopAnswer e (block_of limit ts) → 0 < k → 0 < length ts →
+    StopAnswer e (blocks_of limit k done ts)
+blocks_fail limit k done ts stops.NoMemory g l h = tt
+blocks_fail limit k done ts (stops.TokensLeft n) g l h = blocks_err limit k done ts n g l h
 
 map_more : (xs : List Block) (x : Block) → map block_tree (xs ++ x ∷ []) ≡ snoc (map block_tree xs) (block_tree x)
 map_more [] x = refl
@@ -83,6 +103,9 @@ pub blocks_next : (limit k j : ℕ) (done done' : List Block) (x : Block) (ts us
 blocks_next limit k j done done' x ts us whole g e h d w =
     ap (λ (z : List Block). blocks_of limit j (map block_tree z) us) d ∙ ap (λ (z : List BlockTree). blocks_of limit j z us) (map_more done x)
     ∙ sym (blocks_go limit k j (map block_tree done) ts (block_tree x) us g e h) ∙ w
+
+pub empty : (ts : List Token) (b : Bool) → b ≡ (length ts == 0) → b ≡ true → length ts ≡ 0
+empty ts b e f = eqb-true (length ts) 0 (sym e ∙ f)
 
 pub not_empty : (ts : List Token) (b : Bool) → b ≡ (length ts == 0) → b ≡ false → 0 < length ts
 not_empty [] b e f = cc

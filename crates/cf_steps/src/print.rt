@@ -111,7 +111,6 @@ fn put_steps(out: &mut Vec<u8>, number: u32, cases: &[Vec<Act>]) -> Result<(), N
 ///
 /// # Errors
 /// `NoMemory` where memory ran out.
-#[tactic(auto, using(crate::proofs::Printing::block_reads_back))]
 pub fn print_block(
     alloc: Global,
     number: u32,

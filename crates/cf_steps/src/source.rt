@@ -33,7 +33,7 @@ fn with_case(cases: Vec<Vec<Act>>, case: Vec<Act>) -> Result<Vec<Vec<Act>>, Stop
 }
 
 // The cases up to the closing brace.
-#[tactic(auto, using(cf_reader::proofs::Steps::more_ends, cf_reader::proofs::Steps::more_goes, cf_reader::proofs::Steps::more_errs, cf_reader::proofs::Steps::more_closes, cf_reader::proofs::Steps::more_unclosed), unfolding(cf_reader::specs::Readers::others_of))]
+#[tactic(auto, unfolding(cf_reader::specs::Readers::others_of))]
 fn cases(alloc: Global, tokens: &[Token]) -> Result<(Vec<Vec<Act>>, &[Token]), Stop>
     ensures { ReadAnswer (λ x. (map (λ c. c.items) x.0.items, x.1.now)) result
         (others_of snoc case_of (Word (codes "case")) (Sign (codes "}")) [] tokens.now) }
@@ -76,7 +76,7 @@ fn block(alloc: Global, limit: u32, tokens: &[Token]) -> Result<(Block, &[Token]
 }
 
 // The blocks up to the end, whose targets have codes of depth at most `limit`.
-#[tactic(auto, using(crate::proofs::Turns::blocks_end, crate::proofs::Turns::blocks_stop, crate::proofs::Turns::blocks_go, crate::proofs::Turns::blocks_err), unfolding(crate::specs::Reading::all_blocks))]
+#[tactic(auto, unfolding(crate::specs::Reading::all_blocks))]
 fn blocks(alloc: Global, limit: u32, tokens: &[Token]) -> Result<(Vec<Block>, &[Token]), Stop>
     ensures { ReadAnswer (λ x. (map block_tree x.0.items, x.1.now)) result (all_blocks limit tokens.now) }
 {

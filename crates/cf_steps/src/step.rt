@@ -70,7 +70,7 @@ fn act_with_end(tokens: &[Token]) -> Result<(Act, &[Token]), Stop>
 }
 
 // The steps up to the closing brace.
-#[tactic(auto, using(crate::proofs::Turns::acts_end, crate::proofs::Turns::acts_close, crate::proofs::Turns::acts_go, crate::proofs::Turns::acts_err), unfolding(crate::specs::Reading::all_acts))]
+#[tactic(auto, unfolding(crate::specs::Reading::all_acts))]
 fn acts(alloc: Global, tokens: &[Token]) -> Result<(Vec<Act>, &[Token]), Stop>
     ensures { ReadAnswer (λ x. (x.0.items, x.1.now)) result (all_acts tokens.now) }
 {

@@ -1,7 +1,7 @@
 //! What `clap` is told of the words: one level of subcommands, no help and no version.
 ghost use Rattle.std.specs.Prelude.{◌≡◌, IfOk, false, codes};
 ghost use Rattle.clap.specs.declared.builder.command.Command.TheViews.{out-Command};
-ghost use Rattle.clap.specs.Words.{app_of, rule_of, with_subcommand as adds_subcommand};
+ghost use Rattle.clap.specs.Words.{app_of, rule_of, with_rule as adds_rule, with_subcommand as adds_subcommand};
 ghost use Rattle.cf_words.specs.Grammar.{bare_subcommand, flag as the_flag, flagged_subcommand, grammar as the_grammar, operand as the_operand, paired_subcommand, program as the_program};
 
 use cf_tree::memory::without;
@@ -93,24 +93,52 @@ fn with_pair<'a>(
 fn flagged<'a>(alloc: Global, name: &'a str) -> Result<Command<'a>, AllocError>
     ensures { IfOk result (λ c. (app_of c ≡ flagged_subcommand name.entry.now) × ((out-Command c).has_globals ≡ false)) }
 {
-    Command::new(alloc, name)
-        .arg(flag(alloc, "plain"))?
-        .arg(flag(alloc, "stats"))?
-        .arg(operand(alloc, "operand"))
+    match with_flag(alloc, Command::new(alloc, name), "plain") {
+        Ok(plain) => match with_flag(alloc, plain, "stats") {
+            Ok(both) => with_operand(alloc, both, "operand"),
+            Err(fault) => Err(fault),
+        },
+        Err(fault) => Err(fault),
+    }
 }
 
 fn bare<'a>(alloc: Global, name: &'a str) -> Result<Command<'a>, AllocError>
     ensures { IfOk result (λ c. (app_of c ≡ bare_subcommand name.entry.now) × ((out-Command c).has_globals ≡ false)) }
 {
-    Command::new(alloc, name).arg(operand(alloc, "operand"))
+    with_operand(alloc, Command::new(alloc, name), "operand")
 }
 
 fn paired<'a>(alloc: Global, name: &'a str) -> Result<Command<'a>, AllocError>
     ensures { IfOk result (λ c. (app_of c ≡ paired_subcommand name.entry.now) × ((out-Command c).has_globals ≡ false)) }
 {
-    Command::new(alloc, name)
-        .arg(operand(alloc, "file"))?
-        .arg(operand(alloc, "steps"))
+    match with_operand(alloc, Command::new(alloc, name), "file") {
+        Ok(one) => with_operand(alloc, one, "steps"),
+        Err(fault) => Err(fault),
+    }
+}
+
+// The command with one more flag.
+fn with_flag<'a>(
+    alloc: Global,
+    command: Command<'a>,
+    name: &'a str,
+) -> Result<Command<'a>, AllocError>
+    requires { (out-Command command).has_globals ≡ false }
+    ensures { IfOk result (λ c. (app_of c ≡ adds_rule (app_of command.entry) (the_flag name.entry.now)) × ((out-Command c).has_globals ≡ false)) }
+{
+    command.arg(flag(alloc, name))
+}
+
+// The command with one more operand.
+fn with_operand<'a>(
+    alloc: Global,
+    command: Command<'a>,
+    name: &'a str,
+) -> Result<Command<'a>, AllocError>
+    requires { (out-Command command).has_globals ≡ false }
+    ensures { IfOk result (λ c. (app_of c ≡ adds_rule (app_of command.entry) (the_operand name.entry.now)) × ((out-Command c).has_globals ≡ false)) }
+{
+    command.arg(operand(alloc, name))
 }
 
 fn flag<'a>(alloc: Global, name: &'a str) -> Arg<'a>
