@@ -43,10 +43,14 @@ pub(crate) fn add_apart(
 {
     let row = apart(builder.alloc, regions, a, b, layout)?;
     if empty {
-        add_columns(builder.alloc, &row, &mut builder.equations)?;
+        let added = add_columns(builder.alloc, &row, &mut builder.equations);
+        drop(row);
+        added?;
         Ok(())
     } else {
-        add_positive(&row, builder)
+        let added = add_positive(&row, builder);
+        drop(row);
+        added
     }
 }
 

@@ -48,9 +48,9 @@ pub(crate) fn abs_count(term: &Term) -> Result<usize, NoMemory>
     match term {
         Term::Lit(_) | Term::Var(_) | Term::Card(_) => Ok(0),
         Term::Neg(a) | Term::Div(a, _) | Term::Mod(a, _) => abs_count(a),
-        Term::Add(a, b) => total(abs_count(a)?, abs_count(b)?),
-        Term::Sub(a, b) => total(abs_count(a)?, abs_count(b)?),
-        Term::Mul(a, b) => total(abs_count(a)?, abs_count(b)?),
+        Term::Add(a, b) | Term::Sub(a, b) | Term::Mul(a, b) => {
+            total(abs_count(a)?, abs_count(b)?)
+        }
         Term::Abs(a) => total(abs_count(a)?, 1),
     }
 }

@@ -55,28 +55,42 @@ fn add_compared(
     ensures next { IfOk result (λ _. builder.new.next ≡ builder.old.next) }
 {
     match order {
-        Order::Eq => {
-            let row = subtracted(builder.alloc, left, right)?;
-            builder.equations.push(row)?;
-        }
-        Order::Ne => {}
-        Order::Lt => {
-            let row = less_one(builder.alloc, right, left)?;
-            builder.inequalities.push(row)?;
-        }
-        Order::Le => {
-            let row = subtracted(builder.alloc, right, left)?;
-            builder.inequalities.push(row)?;
-        }
-        Order::Gt => {
-            let row = less_one(builder.alloc, left, right)?;
-            builder.inequalities.push(row)?;
-        }
-        Order::Ge => {
-            let row = subtracted(builder.alloc, left, right)?;
-            builder.inequalities.push(row)?;
-        }
+        Order::Eq => add_equal(left, right, builder),
+        Order::Ne => Ok(()),
+        Order::Lt => add_less(right, left, builder),
+        Order::Le => add_difference(right, left, builder),
+        Order::Gt => add_less(left, right, builder),
+        Order::Ge => add_difference(left, right, builder),
     }
+}
+
+// Adds the equation of the difference of two rows.
+fn add_equal(left: &Row, right: &Row, builder: &mut SystemBuilder) -> Result<(), RowFault>
+    ensures gives { BuilderAnswer (with_rows (rows_of builder.old) (less left.now right.now ∷ []) []) builder.new result }
+    ensures next { IfOk result (λ _. builder.new.next ≡ builder.old.next) }
+{
+    let row = subtracted(builder.alloc, left, right)?;
+    builder.equations.push(row)?;
+    Ok(())
+}
+
+// Adds the inequality of the difference of two rows.
+fn add_difference(left: &Row, right: &Row, builder: &mut SystemBuilder) -> Result<(), RowFault>
+    ensures gives { BuilderAnswer (with_rows (rows_of builder.old) [] (less left.now right.now ∷ [])) builder.new result }
+    ensures next { IfOk result (λ _. builder.new.next ≡ builder.old.next) }
+{
+    let row = subtracted(builder.alloc, left, right)?;
+    builder.inequalities.push(row)?;
+    Ok(())
+}
+
+// Adds the inequality of the difference of two rows, less 1.
+fn add_less(left: &Row, right: &Row, builder: &mut SystemBuilder) -> Result<(), RowFault>
+    ensures gives { BuilderAnswer (with_rows (rows_of builder.old) [] (plus (less left.now right.now) (negsuc 0) ∷ [])) builder.new result }
+    ensures next { IfOk result (λ _. builder.new.next ≡ builder.old.next) }
+{
+    let row = less_one(builder.alloc, left, right)?;
+    builder.inequalities.push(row)?;
     Ok(())
 }
 
@@ -193,8 +207,8 @@ fn add_guard(guard: &Guard, builder: &mut SystemBuilder) -> Result<(), NoMemory>
         }
         Guard::Quotient { column, of, k } => {
             let above = fitting(above_quotient(builder.alloc, *column, of, k))?;
-            let below = fitting(below_quotient(builder.alloc, *column, of, k))?;
             builder.inequalities.push(above)?;
+            let below = fitting(below_quotient(builder.alloc, *column, of, k))?;
             builder.inequalities.push(below)?;
         }
     }

@@ -1,9 +1,10 @@
 //! The question whether a choose has two solutions.
 ghost use Rattle.std.specs.Prelude.{◌≡◌, IfOk, map};
-ghost use Rattle.cf_tree.specs.RelTree.{rel_or, rel_false};
+ghost use Rattle.cf_tree.specs.RelTree.{rel_and, rel_or, rel_false};
 ghost use Rattle.cf_tree.specs.RelView.{rel_tree};
 ghost use Rattle.cf_choose.specs.Solved.{IsSolved};
-ghost use Rattle.cf_question.specs.Questions.{halves, other, others, parameters, twice, twice_outputs};
+ghost use Rattle.cf_question.specs.Questions.{halves, level_in, other, others, parameters, rel_at, twice, twice_outputs};
+ghost use Rattle.cf_question.specs.Writing.{level_of};
 
 use crate::halves::{Join, joined};
 use crate::levels::{Levels, narrow, sum};
@@ -47,9 +48,24 @@ pub fn twice(alloc: Global, solved: &Solved, params: Vec<u32>) -> Result<Rel, No
         params,
         gap: 0,
     };
-    let first = levels.boxed_rel(alloc, solved.relation())?;
+    with_copy(alloc, solved.relation(), &mut levels, outputs, differ)
+}
+
+// The relation over these levels, the relation for a copy of so many outputs, and that some output
+// differs.
+fn with_copy(
+    alloc: Global,
+    rel: &Rel,
+    levels: &mut Levels,
+    outputs: u32,
+    differ: Box<Rel>,
+) -> Result<Rel, NoMemory>
+    ensures { IfOk result (λ both. rel_tree both ≡ rel_and (rel_at (level_of levels.old) (rel_tree rel.now))
+        (rel_and (rel_at (level_in levels.old.scope levels.old.params.items outputs) (rel_tree rel.now)) (rel_tree differ.value))) }
+{
+    let first = levels.boxed_rel(alloc, rel)?;
     levels.gap = outputs;
-    let second = levels.boxed_rel(alloc, solved.relation())?;
+    let second = levels.boxed_rel(alloc, rel)?;
     let copy = Box::new(alloc, Rel::And(second, differ))?;
     Ok(Rel::And(first, copy))
 }

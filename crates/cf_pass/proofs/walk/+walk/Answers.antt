@@ -17,7 +17,7 @@ walk-returns g t c = c.walk_parts-so_far.ensures _ _ _ c.finish.ensures
 pub walk_parts-returns-in-Let : goal.walk_parts-returns-in-Let
 walk_parts-returns-in-Let g t c = λ e end behind form.
     over_binding g.R.Rule.made g.R.Rule.units c.args.outside _ _ _ _ _ _ _ _ _ c.walk_part-so_far.ensures c.walk_behind.ensures form
-    (let_tree _ _ _ _)
+    (let_tree _ _ c.walk_part-so_far.new.part c.walk_behind.new.part)
     (search (rules, the_lemmas))
 
 pub walk_parts-returns-in-Solve : goal.walk_parts-returns-in-Solve
@@ -72,42 +72,42 @@ pub walk_parts-returns-in-Sub : goal.walk_parts-returns-in-Sub
 walk_parts-returns-in-Sub g t c = λ e end behind form.
     let p = c.walk_two.ensures in
     over_two g.R.Rule.made g.R.Rule.units c.args.outside code_sub (sub_over g.R.Rule.made g.R.Rule.units c.args.outside) _ _ _ _ _ _ _
-    p.2 p.3 form (sub_tree _ _) (search (rules, the_lemmas))
+    p.2 p.3 form (sub_tree c.walk_two.new.a c.walk_two.new.b) (search (rules, the_lemmas))
 
 pub walk_parts-returns-in-Mul : goal.walk_parts-returns-in-Mul
 walk_parts-returns-in-Mul g t c = λ e end behind form.
     let p = c.walk_two-in-Mul.ensures in
     over_two g.R.Rule.made g.R.Rule.units c.args.outside code_mul (mul_over g.R.Rule.made g.R.Rule.units c.args.outside) _ _ _ _ _ _ _
-    p.2 p.3 form (mul_tree _ _) (search (rules, the_lemmas))
+    p.2 p.3 form (mul_tree c.walk_two-in-Mul.new.a c.walk_two-in-Mul.new.b) (search (rules, the_lemmas))
 
 pub walk_parts-returns-in-Diff : goal.walk_parts-returns-in-Diff
 walk_parts-returns-in-Diff g t c = λ e end behind form.
     let p = c.walk_two-in-Diff.ensures in
     over_two g.R.Rule.made g.R.Rule.units c.args.outside code_diff (diff_over g.R.Rule.made g.R.Rule.units c.args.outside) _ _ _ _ _ _ _
-    p.2 p.3 form (diff_tree _ _) (search (rules, the_lemmas))
+    p.2 p.3 form (diff_tree c.walk_two-in-Diff.new.a c.walk_two-in-Diff.new.b) (search (rules, the_lemmas))
 
 pub walk_parts-returns-in-Subset : goal.walk_parts-returns-in-Subset
 walk_parts-returns-in-Subset g t c = λ e end behind form.
     let p = c.walk_two-in-Subset.ensures in
     over_two g.R.Rule.made g.R.Rule.units c.args.outside code_subset (subset_over g.R.Rule.made g.R.Rule.units c.args.outside) _ _ _ _ _ _ _
-    p.2 p.3 form (subset_tree _ _) (search (rules, the_lemmas))
+    p.2 p.3 form (subset_tree c.walk_two-in-Subset.new.a c.walk_two-in-Subset.new.b) (search (rules, the_lemmas))
 
 pub walk_parts-returns-in-Fresh : goal.walk_parts-returns-in-Fresh
 walk_parts-returns-in-Fresh g t c = λ e end behind form.
     let p = c.walk_two-in-Fresh.ensures in
     over_two g.R.Rule.made g.R.Rule.units c.args.outside code_fresh (fresh_over g.R.Rule.made g.R.Rule.units c.args.outside) _ _ _ _ _ _ _
-    p.2 p.3 form (fresh_tree _ _) (search (rules, the_lemmas))
+    p.2 p.3 form (fresh_tree c.walk_two-in-Fresh.new.a c.walk_two-in-Fresh.new.b) (search (rules, the_lemmas))
 
 pub walk_parts-returns-in-And : goal.walk_parts-returns-in-And
 walk_parts-returns-in-And g t c = λ e end behind form.
     let p = c.walk_two-in-And.ensures in
     over_two g.R.Rule.made g.R.Rule.units c.args.outside code_and (and_over g.R.Rule.made g.R.Rule.units c.args.outside) _ _ _ _ _ _ _
-    p.2 p.3 form (and_tree _ _) (search (rules, the_lemmas))
+    p.2 p.3 form (and_tree c.walk_two-in-And.new.a c.walk_two-in-And.new.b) (search (rules, the_lemmas))
 
 pub walk_parts-returns-in-Or : goal.walk_parts-returns-in-Or
 walk_parts-returns-in-Or g t c = λ e end behind form.
     let p = c.walk_two-in-Or.ensures in
-    over_two g.R.Rule.made g.R.Rule.units c.args.outside code_or (or_over g.R.Rule.made g.R.Rule.units c.args.outside) _ _ _ _ _ _ _ p.2 p.3 form (or_tree _ _)
+    over_two g.R.Rule.made g.R.Rule.units c.args.outside code_or (or_over g.R.Rule.made g.R.Rule.units c.args.outside) _ _ _ _ _ _ _ p.2 p.3 form (or_tree c.walk_two-in-Or.new.a c.walk_two-in-Or.new.b)
     (search (rules, the_lemmas))
 
 pub walk_parts-returns-in-Neg : goal.walk_parts-returns-in-Neg
@@ -146,19 +146,19 @@ walk_parts-returns-in-Divides g t c = λ e end behind form.
 pub walk_parts-returns-in-Compare : goal.walk_parts-returns-in-Compare
 walk_parts-returns-in-Compare g t c = λ e end behind form.
     let p = c.walk_two-in-Compare.ensures in
-    over_compare g.R.Rule.made g.R.Rule.units c.args.outside _ _ _ _ _ _ _ _ p.2 p.3 form (compare_tree _ _ _) (search (rules, the_lemmas))
+    over_compare g.R.Rule.made g.R.Rule.units c.args.outside _ _ _ _ _ _ _ _ p.2 p.3 form (compare_tree _ c.walk_two-in-Compare.new.a c.walk_two-in-Compare.new.b) (search (rules, the_lemmas))
 
 pub walk_parts-returns-in-Slice : goal.walk_parts-returns-in-Slice
 walk_parts-returns-in-Slice g t c = λ e end behind form.
     let p = c.walk_three.ensures in
     over_three g.R.Rule.made g.R.Rule.units c.args.outside code_slice (slice_over g.R.Rule.made g.R.Rule.units c.args.outside) _ _ _ _ _ _ _ _ _
-    p.4 p.5 p.6 form (slice_tree _ _ _) (search (rules, the_lemmas))
+    p.4 p.5 p.6 form (slice_tree c.walk_three.new.a c.walk_three.new.b c.walk_three.new.c) (search (rules, the_lemmas))
 
 pub walk_parts-returns-in-If : goal.walk_parts-returns-in-If
 walk_parts-returns-in-If g t c = λ e end behind form.
     let p = c.walk_three-in-If.ensures in
     over_three g.R.Rule.made g.R.Rule.units c.args.outside code_if (if_over g.R.Rule.made g.R.Rule.units c.args.outside) _ _ _ _ _ _ _ _ _
-    p.4 p.5 p.6 form (if_tree _ _ _) (search (rules, the_lemmas))
+    p.4 p.5 p.6 form (if_tree c.walk_three-in-If.new.a c.walk_three-in-If.new.b c.walk_three-in-If.new.c) (search (rules, the_lemmas))
 
 pub walk_parts-returns-in-Lit : goal.walk_parts-returns-in-Lit
 walk_parts-returns-in-Lit g t c = λ e end behind form. leaf g.R.Rule.made g.R.Rule.units c.args.outside _ (code_lit c.in-Lit.field-0) _
