@@ -5,6 +5,7 @@ pub mod Commands
 pub mod Ends
 pub mod LateReplies
 pub mod Limits
+pub mod Lines
 pub mod Outside
 pub mod Owed
 pub mod Passes

@@ -5,7 +5,7 @@ use cf_program::fault::TypeFault;
 use cf_tree::base::Place;
 
 /// Why the text of a steps file is refused.
-#[derive(Clone, Copy, Debug, PartialEq, Eq)]
+#[derive(Clone, Copy, Debug)]
 pub enum StepsFault {
     TooLong,
     BadByte(Place),
@@ -14,7 +14,7 @@ pub enum StepsFault {
 }
 
 /// Why a call did not do what its words ask.
-#[derive(Clone, Copy, Debug, PartialEq, Eq)]
+#[derive(Clone, Copy, Debug)]
 pub enum Fault {
     /// The words are no command.
     Usage,

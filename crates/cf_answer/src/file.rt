@@ -137,7 +137,9 @@ fn write_target<O: Sink>(
         Ok(target) => target,
         Err(fault) => return Err(fault),
     };
-    match printed(alloc, &target, flags.stats, passes) {
+    let text = printed(alloc, &target, flags.stats, passes);
+    drop(target);
+    match text {
         Ok(text) => write_text(out, &text),
         Err(fault) => Err(fault),
     }

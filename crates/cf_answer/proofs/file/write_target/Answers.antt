@@ -13,13 +13,13 @@ returns-in-Err-clause-input g c = λ e. inner_input c.in-Err.fault (source_inner
 pub returns-in-Err-clause-output : goal.returns-in-Err-clause-output
 returns-in-Err-clause-output g c = λ e. absurd (inner_output c.in-Err.fault (source_inner _ c.in-Err.fault c.in-Err.ensures.verdict) e)
 
-pub returns-in-Ok-printed-clause-answers : goal.returns-in-Ok-printed-clause-answers
-returns-in-Ok-printed-clause-answers g c =
+pub returns-in-Ok-text-clause-answers : goal.returns-in-Ok-text-clause-answers
+returns-in-Ok-text-clause-answers g c =
     λ file input. written_answers _ _ _ _ _ _ input _ _ _ refl c.in-Ok.ensures.passed
     (compile_owes c.args.flags file _ [] _ _ _ c.in-Ok.ensures.verdict (applied_by _ c.args.flags.plain _ _ c.in-Ok.ensures.passed)
-    c.in-Ok-printed.ensures.reads_back)
-    (c.deref-in-Ok-printed.ensures.value ∙ (rw c.deref.ensures.value at c.in-Ok-printed.ensures.text)) c.write_text.ensures.all c.write_text.ensures.prefix
+    c.in-Ok-text.ensures.reads_back)
+    (c.deref-in-Ok-text.ensures.value ∙ (rw c.deref.ensures.value at c.in-Ok-text.ensures.text)) c.write_text.ensures.all c.write_text.ensures.prefix
     c.write_text.ensures.fault
 
-pub returns-clause-answers : goal.returns-clause-answers
-returns-clause-answers g c = λ file input. stopped_answers _ _ _ _ _ _ c.in-Ok.ensures.passed (inr c.in-Err-printed.ensures.fault)
+pub returns-in-Err-text-clause-answers : goal.returns-in-Err-text-clause-answers
+returns-in-Err-text-clause-answers g c = λ file input. stopped_answers _ _ _ _ _ _ c.in-Ok.ensures.passed (inr c.in-Err-text.ensures.fault)

@@ -1,11 +1,13 @@
 use Rattle.std.proofs.Common.{subst}
-use Rattle.cf_io.specs.Bytes.{TookPrefix}
+use Rattle.cf_answer.specs.Lines.{Puts}
 use Rattle.cf_answer.proofs.PieceLemmas.{rejected_limit}
 use Rattle.cf_answer.proofs.tell.put_rejected_limit.Goals as goal
 
-pub returns-clause-prefix : goal.returns-clause-prefix
-returns-clause-prefix g c =
-    subst (TookPrefix _ _) (rejected_limit c.args.at.now.number c.args.at.now.case c.args.at.now.step c.args.kind.now c.args.count)
+pub returns : goal.returns
+returns g c =
+    subst (λ line. Puts line (g.E.Sink.held c.args.err.now) (g.E.Sink.held c.put_pieces.new.err) (g.E.Sink.faults c.args.err.now)
+    (g.E.Sink.faults c.put_pieces.new.err) c.put_pieces.result)
+    (rejected_limit c.args.at.now.number c.args.at.now.case c.args.at.now.step c.args.kind.now c.args.count)
     (rw (
       c.as_slice.ensures,
       c.as_bytes.ensures.value,
@@ -22,4 +24,4 @@ returns-clause-prefix g c =
       c.as_bytes-4.ensures.value,
       c.format-4.ensures.text,
       c.as_slice-6.ensures,
-    ) at c.put.ensures.prefix)
+    ) at c.put_pieces.ensures)

@@ -1,7 +1,0 @@
-use Rattle.cf_answer.proofs.tell.put_choose.Goals as goal
-
-pub returns-in-Past-clause-all : goal.returns-in-Past-clause-all
-returns-in-Past-clause-all g c = rw c.in-Past.is (rw c.as_slice.ensures at c.put_numbered.ensures.all)
-
-pub returns-in-Past-clause-prefix : goal.returns-in-Past-clause-prefix
-returns-in-Past-clause-prefix g c = rw c.in-Past.is (rw c.as_slice.ensures at c.put_numbered.ensures.prefix)
