@@ -66,6 +66,25 @@ const COMPILE: Call<'static> = Call {
     faults: NONE,
 };
 
+// How the call ends, with a pass that tells what it sees.
+fn seen_by(alloc: Global, call: &Call, seen: &Rc<Seen>) -> Result<Status, NoMemory> {
+    let seen = seen.clone()?;
+    let mut passes: Vec<Box<dyn Pass>> = Vec::new(alloc);
+    passes.push(Box::new(alloc, Counted { turns: 0, seen })?)?;
+    Ok(ended(alloc, call, passes)?.status)
+}
+
+// Nothing was seen yet.
+fn nothing_seen(alloc: Global) -> Result<Rc<Seen>, NoMemory> {
+    Ok(Rc::new(
+        alloc,
+        Seen {
+            calls: Cell::new(0),
+            drops: Cell::new(0),
+        },
+    )?)
+}
+
 /// A call, how it is to end, and how often its pass is to be called.
 #[derive(Clone, Copy)]
 struct Case {
