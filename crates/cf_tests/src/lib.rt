@@ -14,8 +14,6 @@ mod numbers;
 #[cfg(test)]
 mod objects;
 #[cfg(test)]
-mod outside;
-#[cfg(test)]
 mod passes;
 #[cfg(test)]
 mod printing;

@@ -85,113 +85,125 @@ fn nothing_seen(alloc: Global) -> Result<Rc<Seen>, NoMemory> {
     )?)
 }
 
-#[test]
-fn each_pass_is_dropped_once(rt: HostRuntime) -> Result<(), Fail> {
-    let calls = [
-        (Status::Done, COMPILE),
-        (
-            Status::Usage,
-            Call {
-                command: "compiled",
-                ..COMPILE
-            },
-        ),
-        (
-            Status::File,
-            Call {
-                faults: Faults {
-                    shelf: &[0],
-                    ..NONE
-                },
-                ..COMPILE
-            },
-        ),
-        (
-            Status::Output,
-            Call {
-                faults: Faults { room: 10, ..NONE },
-                ..COMPILE
-            },
-        ),
-        (
-            Status::Text,
-            Call {
-                text: "def",
-                ..COMPILE
-            },
-        ),
-        (
-            Status::Types,
-            Call {
-                text: "def main(a: int): int = b",
-                ..COMPILE
-            },
-        ),
-    ];
-    let alloc = rt.alloc();
-    for (wanted, call) in calls.iter() {
-        let seen = nothing_seen(alloc)?;
-        assert_eq!(rt; seen_by(alloc, call, &seen)?, *wanted);
-        assert_eq!(rt; seen.drops.get(), 1);
-    }
-    Ok(())
+/// A call, how it is to end, and how often its pass is to be called.
+#[derive(Clone, Copy)]
+struct Case {
+    status: Status,
+    calls: u64,
+    call: Call<'static>,
 }
 
+/// A command that ends well and does not call its pass.
+const UNCALLED: Case = Case {
+    status: Status::Done,
+    calls: 0,
+    call: COMPILE,
+};
+
+const CASES: [Case; 12] = [
+    Case {
+        calls: 1,
+        ..UNCALLED
+    },
+    Case {
+        call: Call {
+            flags: &["--plain"],
+            ..COMPILE
+        },
+        ..UNCALLED
+    },
+    Case {
+        calls: 1,
+        call: Call {
+            command: "run",
+            flags: &["--stats"],
+            ..COMPILE
+        },
+        ..UNCALLED
+    },
+    Case {
+        call: Call {
+            command: "run",
+            flags: &["--stats", "--plain"],
+            ..COMPILE
+        },
+        ..UNCALLED
+    },
+    Case {
+        call: Call {
+            command: "pre",
+            ..COMPILE
+        },
+        ..UNCALLED
+    },
+    Case {
+        call: Call {
+            command: "check",
+            ..COMPILE
+        },
+        ..UNCALLED
+    },
+    Case {
+        call: Call {
+            command: "exec",
+            text: "main (int): int = v0",
+            ..COMPILE
+        },
+        ..UNCALLED
+    },
+    Case {
+        status: Status::Usage,
+        call: Call {
+            command: "compiled",
+            ..COMPILE
+        },
+        ..UNCALLED
+    },
+    Case {
+        status: Status::File,
+        call: Call {
+            faults: Faults {
+                shelf: &[0],
+                ..NONE
+            },
+            ..COMPILE
+        },
+        ..UNCALLED
+    },
+    Case {
+        status: Status::Output,
+        calls: 1,
+        call: Call {
+            faults: Faults { room: 10, ..NONE },
+            ..COMPILE
+        },
+    },
+    Case {
+        status: Status::Text,
+        call: Call {
+            text: "def",
+            ..COMPILE
+        },
+        ..UNCALLED
+    },
+    Case {
+        status: Status::Types,
+        call: Call {
+            text: "def main(a: int): int = b",
+            ..COMPILE
+        },
+        ..UNCALLED
+    },
+];
+
 #[test]
-fn a_pass_is_called_once_where_it_is_asked_for(rt: HostRuntime) -> Result<(), Fail> {
-    let calls = [
-        (1, COMPILE),
-        (
-            0,
-            Call {
-                flags: &["--plain"],
-                ..COMPILE
-            },
-        ),
-        (
-            1,
-            Call {
-                command: "run",
-                flags: &["--stats"],
-                ..COMPILE
-            },
-        ),
-        (
-            0,
-            Call {
-                command: "run",
-                flags: &["--stats", "--plain"],
-                ..COMPILE
-            },
-        ),
-        (
-            0,
-            Call {
-                command: "pre",
-                ..COMPILE
-            },
-        ),
-        (
-            0,
-            Call {
-                command: "check",
-                ..COMPILE
-            },
-        ),
-        (
-            0,
-            Call {
-                command: "exec",
-                text: "main (int): int = v0",
-                ..COMPILE
-            },
-        ),
-    ];
-    let alloc = rt.alloc();
-    for (wanted, call) in calls.iter() {
-        let seen = nothing_seen(alloc)?;
-        assert_eq!(rt; seen_by(alloc, call, &seen)?, Status::Done);
-        assert_eq!(rt; seen.calls.get(), *wanted);
+fn each_pass_is_called_where_it_is_asked_for_and_dropped_once(rt: HostRuntime) -> Result<(), Fail> {
+    for case in &CASES {
+        let seen = nothing_seen(rt.alloc())?;
+        let status = seen_by(rt.alloc(), &case.call, &seen)?;
+        assert!(rt;
+            status == case.status && seen.calls.get() == case.calls && seen.drops.get() == 1
+        );
     }
     Ok(())
 }
