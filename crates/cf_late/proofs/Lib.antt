@@ -1,6 +1,7 @@
 pub mod AllowedLaws
 pub mod Calls
 pub mod Evaluation
+pub mod Loops
 pub mod OperationLaws
 pub mod RunnableLaws
 pub mod ValuesLaws

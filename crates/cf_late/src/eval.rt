@@ -32,17 +32,18 @@ pub(crate) struct Caller<'a> {
 #[cycle(eval)]
 pub(crate) fn eval(caller: &Caller, expr: &Expr, env: &mut Values) -> Result<Values, Stop>
     requires runnable { IsRunnable (expr_tree expr.now) }
-    ensures told { LateAnswer result (late_in (calls_in caller.now.number caller.now.late.now.defs.items) (expr_tree expr.now) env.old) }
-    ensures kept { OnOk result (env.new ≡ env.old) }
+    ensures { LateAnswer result (late_in (calls_in caller.now.number caller.now.late.now.defs.items) (expr_tree expr.now) env.old)
+        × OnOk result (env.new ≡ env.old) }
 {
+    // for the proof: a `match` is one call where a `?` is three
     match expr {
         Expr::Lit(k) => literal(caller.alloc, *k),
         Expr::Truth(t) => truth(caller.alloc, *t),
         Expr::Var(x) => Ok(env.value_at(caller.alloc, *x)?),
-        Expr::SetOf(parts) => {
-            let values = all(caller, parts, env)?;
-            set_of(caller.alloc, values)
-        }
+        Expr::SetOf(parts) => match all(caller, parts, env) {
+            Ok(values) => set_of(caller.alloc, values),
+            Err(stop) => Err(stop),
+        },
         Expr::Tuple(parts) => all(caller, parts, env),
         Expr::Neg(a)
         | Expr::Not(a)
@@ -50,14 +51,14 @@ pub(crate) fn eval(caller: &Caller, expr: &Expr, env: &mut Values) -> Result<Val
         | Expr::Card(a)
         | Expr::Divides { of: a, .. }
         | Expr::Div { of: a, .. }
-        | Expr::Mod { of: a, .. } => {
-            let part = eval(caller, a, env)?;
-            over_one(caller.alloc, expr, part)
-        }
-        Expr::Binary { op, left, right } => {
-            let first = eval(caller, left, env)?;
-            binary(caller, *op, first, right, env)
-        }
+        | Expr::Mod { of: a, .. } => match eval(caller, a, env) {
+            Ok(part) => over_one(caller.alloc, expr, part),
+            Err(stop) => Err(stop),
+        },
+        Expr::Binary { op, left, right } => match eval(caller, left, env) {
+            Ok(first) => binary(caller, *op, first, right, env),
+            Err(stop) => Err(stop),
+        },
         Expr::If { test, yes, no } => {
             let holds = eval(caller, test, env)?.truth();
             if holds {
@@ -66,14 +67,14 @@ pub(crate) fn eval(caller: &Caller, expr: &Expr, env: &mut Values) -> Result<Val
                 eval(caller, no, env)
             }
         }
-        Expr::Call { def, args } => {
-            let args = all(caller, args, env)?;
-            call(caller, *def, args)
-        }
-        Expr::Let { value, body, .. } => {
-            let parts = eval(caller, value, env)?;
-            behind(caller, parts, body, env)
-        }
+        Expr::Call { def, args } => match all(caller, args, env) {
+            Ok(args) => call(caller, *def, args),
+            Err(stop) => Err(stop),
+        },
+        Expr::Let { value, body, .. } => match eval(caller, value, env) {
+            Ok(parts) => behind(caller, parts, body, env),
+            Err(stop) => Err(stop),
+        },
         Expr::Choose {
             number,
             scope,
@@ -85,20 +86,20 @@ pub(crate) fn eval(caller: &Caller, expr: &Expr, env: &mut Values) -> Result<Val
             scope,
             of,
             arms,
-        } => {
-            let value = eval(caller, of, env)?;
-            matched(caller, *number, scope, value, arms, env)
-        }
+        } => match eval(caller, of, env) {
+            Ok(value) => matched(caller, *number, scope, value, arms, env),
+            Err(stop) => Err(stop),
+        },
     }
 }
 
 // The values of all, from left to right.
 #[cycle(eval)]
-#[tactic(auto, using(crate::proofs::Evaluation::all_start, crate::proofs::Evaluation::all_next, crate::proofs::Evaluation::all_stop, crate::proofs::Evaluation::all_end))]
+#[tactic(auto, using(crate::proofs::Evaluation::all_start))]
 fn all(caller: &Caller, parts: &[Expr], env: &mut Values) -> Result<Values, Stop>
     requires runnable { AreRunnable (expr_trees parts.now) }
-    ensures told { LateAnswer result (late_all (calls_in caller.now.number caller.now.late.now.defs.items) (expr_trees parts.now) env.old) }
-    ensures kept { OnOk result (env.new ≡ env.old) }
+    ensures { LateAnswer result (late_all (calls_in caller.now.number caller.now.late.now.defs.items) (expr_trees parts.now) env.old)
+        × OnOk result (env.new ≡ env.old) }
 {
     let mut values = Values::none(caller.alloc);
     for i in 0..parts.len() {
@@ -121,9 +122,9 @@ fn binary(
     env: &mut Values,
 ) -> Result<Values, Stop>
     requires runnable { IsRunnable (expr_tree right.now) }
-    ensures told { LateAnswer result (late_right op (first_of first)
-        (late_in (calls_in caller.now.number caller.now.late.now.defs.items) (expr_tree right.now) env.old)) }
-    ensures kept { OnOk result (env.new ≡ env.old) }
+    ensures { LateAnswer result (late_right op (first_of first)
+        (late_in (calls_in caller.now.number caller.now.late.now.defs.items) (expr_tree right.now) env.old))
+        × OnOk result (env.new ≡ env.old) }
 {
     match decided(op, &first) {
         Some(value) => truth(caller.alloc, value),
@@ -162,8 +163,8 @@ fn call(caller: &Caller, f: u32, args: Values) -> Result<Values, Stop>
 #[tactic(auto, using(crate::proofs::Evaluation::stop_then, crate::proofs::ValuesLaws::taken_back))]
 fn behind(caller: &Caller, values: Values, body: &Expr, env: &mut Values) -> Result<Values, Stop>
     requires runnable { IsRunnable (expr_tree body.now) }
-    ensures told { LateAnswer result (late_in (calls_in caller.now.number caller.now.late.now.defs.items) (expr_tree body.now) (env.old ++ values)) }
-    ensures kept { OnOk result (env.new ≡ env.old) }
+    ensures { LateAnswer result (late_in (calls_in caller.now.number caller.now.late.now.defs.items) (expr_tree body.now) (env.old ++ values))
+        × OnOk result (env.new ≡ env.old) }
 {
     let size = env.len();
     env.append(values)?;
@@ -184,9 +185,9 @@ fn matched(
     env: &mut Values,
 ) -> Result<Values, Stop>
     requires runnable { AreRunnableArms (scope_of scope.now) (match_arm_trees arms.now) }
-    ensures told { LateAnswer result (late_arms (calls_in caller.now.number caller.now.late.now.defs.items) number (scope_of scope.now)
-        (match_arm_trees arms.now) (number_of (first_of value)) (env.old ++ value)) }
-    ensures kept { OnOk result (env.new ≡ env.old) }
+    ensures { LateAnswer result (late_arms (calls_in caller.now.number caller.now.late.now.defs.items) number (scope_of scope.now)
+        (match_arm_trees arms.now) (number_of (first_of value)) (env.old ++ value))
+        × OnOk result (env.new ≡ env.old) }
 {
     let size = env.len();
     let z = value.number();
@@ -209,9 +210,9 @@ fn first_arm(
 ) -> Result<Values, Stop>
     requires runnable { AreRunnableArms (scope_of scope.now) (match_arm_trees arms.now) }
     requires fit { IsWithin z }
-    ensures told { LateAnswer result (late_arms (calls_in caller.now.number caller.now.late.now.defs.items) number (scope_of scope.now)
-        (match_arm_trees arms.now) z env.old) }
-    ensures kept { OnOk result (env.new ≡ env.old) }
+    ensures { LateAnswer result (late_arms (calls_in caller.now.number caller.now.late.now.defs.items) number (scope_of scope.now)
+        (match_arm_trees arms.now) z env.old)
+        × OnOk result (env.new ≡ env.old) }
 {
     for i in 0..arms.len() {
         if fits(&arms[i], z) {
@@ -225,9 +226,9 @@ fn first_arm(
 #[cycle(eval)]
 fn taken(caller: &Caller, scope: &[Param], arm: &MatchArm, env: &mut Values) -> Result<Values, Stop>
     requires runnable { IsRunnableArm (scope_of scope.now) (match_arm_tree arm.now) }
-    ensures told { LateAnswer result (arm_taken (calls_in caller.now.number caller.now.late.now.defs.items) (scope_of scope.now)
-        (match_arm_tree arm.now) env.old) }
-    ensures kept { OnOk result (env.new ≡ env.old) }
+    ensures { LateAnswer result (arm_taken (calls_in caller.now.number caller.now.late.now.defs.items) (scope_of scope.now)
+        (match_arm_tree arm.now) env.old)
+        × OnOk result (env.new ≡ env.old) }
 {
     let values = variables(caller.alloc, scope, arm, env)?;
     behind(caller, values, &arm.body, env)

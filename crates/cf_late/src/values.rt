@@ -162,7 +162,8 @@ fn copies(alloc: Global, values: &[Value]) -> Result<Vec<Value>, NoMemory>
 {
     let mut copies = Vec::with_capacity(alloc, values.len())?;
     for value in values {
-        copies.push(value.try_copy(alloc)?)?;
+        let copy = value.try_copy(alloc)?;
+        copies.push(copy)?;
     }
     Ok(copies)
 }

@@ -1,7 +1,9 @@
-use Rattle.std.proofs.Common.{◌≡◌, ◌<◌, ◌≤◌, length, slice_get, Some, arith, sym, subst}
+use Rattle.std.proofs.Common.{◌≡◌, ◌<◌, ◌≤◌, ◌+◌, ◌∷◌, drop, length, slice_get, Some, arith, sym, ap, ◌∙◌, subst}
+use Rattle.std.proofs.lemmas.List.{drop_more}
 use Rattle.cf_known.specs.ChooseRun.{gives}
 use Rattle.cf_late.specs.Answers.{LateAnswer, calls_in}
 use Rattle.cf_late.proofs.Calls.{call_is, call_missing, call_falls, stands_at}
+use Rattle.cf_late.proofs.Loops.{part_gives, part_stops, parts_end}
 use Rattle.cf_late.proofs.RunnableLaws.{body_runnable}
 use Rattle.cf_late.proofs.eval.+eval.Goals as goal
 
@@ -29,4 +31,33 @@ call-returns-in-Some t c =
     let before : c.args.f < c.args.caller.now.number = omega (arith, c.if-f-caller.false) in
     let at = subst (λ ds. slice_get ds c.args.f ≡ Some c.in-Some.def.now) c.defs.ensures.value
     (stands_at c.defs.result.now c.args.f c.in-Some.def.now found.3.0 found.1) in
-    subst (LateAnswer c.eval.result) (sym (call_is defs c.args.caller.now.number c.args.f c.in-Some.def.now c.args.args at before)) c.eval.ensures.told
+    subst (LateAnswer c.eval.result) (sym (call_is defs c.args.caller.now.number c.args.f c.in-Some.def.now c.args.args at before)) c.eval.ensures.0
+
+pub all-loop-i-preserved : goal.all-loop-i-preserved
+all-loop-i-preserved t c =
+    let l = c.loop-i in
+    let parts = c.args.parts.now in
+    let x = c.index-parts-i.result in
+    let here : drop l.i parts ≡ x ∷ drop (l.i + 1) parts =
+    drop_more parts l.i x c.loop-i-test.true ∙ ap (λ y. y ∷ drop (l.i + 1) parts) (sym c.index-parts-i.is) in
+    part_gives (calls_in c.args.caller.now.number c.args.caller.now.late.now.defs.items) parts _ l.i _ _ l.invariant x _ _ _ here c.in-Ok.ensures.1
+    c.in-Ok.ensures.0 c.in_ok-append-in-Ok.ensures
+
+pub all-returns-in-Err : goal.all-returns-in-Err
+all-returns-in-Err t c =
+    let l = c.loop-i in
+    let parts = c.args.parts.now in
+    let x = c.index-parts-i.result in
+    let here : drop l.i parts ≡ x ∷ drop (l.i + 1) parts =
+    drop_more parts l.i x c.loop-i-test.true ∙ ap (λ y. y ∷ drop (l.i + 1) parts) (sym c.index-parts-i.is) in (
+      part_stops (calls_in c.args.caller.now.number c.args.caller.now.late.now.defs.items) parts _ l.i _ _ l.invariant x c.in-Err.stop _ here
+          c.without.ensures c.in-Err.ensures.0,
+      tt,
+    )
+
+pub all-returns : goal.all-returns
+all-returns t c =
+    let l = c.loop-i in (
+      parts_end (calls_in c.args.caller.now.number c.args.caller.now.late.now.defs.items) c.args.parts.now _ l.i _ _ l.invariant (omega (arith, c.loop-i-test.false)),
+      l.invariant.0,
+    )

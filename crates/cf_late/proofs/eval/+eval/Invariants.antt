@@ -1,11 +1,11 @@
-use Rattle.std.proofs.Common.{◌≡◌, ◌+◌, ◌*◌, ◌++◌, take, drop}
+use Rattle.std.proofs.Common.{◌≡◌, ◌+◌, ◌*◌, take, drop}
 use Rattle.cf_tree.specs.Allowed.{scope_of}
-use Rattle.cf_tree.specs.ExprView.{expr_trees, match_arm_trees}
-use Rattle.cf_known.specs.ChooseRun.{gives}
+use Rattle.cf_tree.specs.ExprView.{match_arm_trees}
 use Rattle.cf_late.specs.Answers.{calls_in}
-use Rattle.cf_late.specs.LateRun.{then_late, late_all, late_arms}
-use Rattle.cf_late.specs.Runnable.{AreRunnable, AreRunnableArms}
+use Rattle.cf_late.specs.LateRun.{late_arms}
+use Rattle.cf_late.specs.Runnable.{AreRunnableArms}
 use Rattle.cf_late.proofs.Calls.{depths}
+use Rattle.cf_late.proofs.Loops.{PartsAhead}
 use Rattle.cf_late.proofs.eval.+eval.Given as goal
 
 abbrev pub decreases-eval : goal.decreases-eval
@@ -33,11 +33,7 @@ abbrev pub decreases-call : goal.decreases-call
 decreases-call l = 8 * depths (take l.caller.now.number l.caller.now.late.now.defs.items) + 1
 
 abbrev pub invariant-all-loop-i : goal.invariant-all-loop-i
-invariant-all-loop-i l =
-    (l.env ≡ l.fn.env)
-    × AreRunnable (expr_trees (drop l.i l.parts))
-    × (then_late (late_all (calls_in l.caller.number l.caller.late.now.defs.items) (expr_trees (drop l.i l.parts)) l.env) (λ ys. gives (l.values ++ ys))
-    ≡ late_all (calls_in l.caller.number l.caller.late.now.defs.items) (expr_trees l.parts) l.fn.env)
+invariant-all-loop-i l = PartsAhead (calls_in l.caller.number l.caller.late.now.defs.items) l.parts l.fn.env l.i l.env l.values
 
 abbrev pub invariant-first_arm-loop-i : goal.invariant-first_arm-loop-i
 invariant-first_arm-loop-i l =

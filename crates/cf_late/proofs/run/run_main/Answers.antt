@@ -20,4 +20,4 @@ returns c =
     let d = c.index-defs-main.result in
     let stands = subst (λ ds. main < length ds) (sym c.defs.ensures.value) c.requires.stands in
     let at = subst (λ ds. slice_get ds main ≡ Some (get_or defs main d)) c.defs.ensures.value (stands_or defs main d stands) in
-    subst (LateAnswer c.eval.result) (sym (run_is c.args.late.now.defs.items main (get_or defs main d) c.args.env at c.requires.stands)) c.eval.ensures.told
+    subst (LateAnswer c.eval.result) (sym (run_is c.args.late.now.defs.items main (get_or defs main d) c.args.env at c.requires.stands)) c.eval.ensures.0
