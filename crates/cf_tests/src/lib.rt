@@ -10,8 +10,6 @@ mod faults;
 #[cfg(test)]
 mod interrupted;
 #[cfg(test)]
-mod numbers;
-#[cfg(test)]
 mod objects;
 #[cfg(test)]
 mod passes;
