@@ -104,11 +104,6 @@ abbrev mutual
   ArmsHaveLevels no_arms = Unit {0}
   ArmsHaveLevels (arm_more a arms) = ArmHasLevels a × ArmsHaveLevels arms
 
--- a code that is no let
-abbrev pub IsNoLet : CodeTree → Type 0
-IsNoLet (code_let first n a b) = ⊥
-IsNoLet _ = Unit {0}
-
 -- the second code is the first, and its levels fit
 abbrev pub IsLevelled : CodeTree → CodeTree → Type 0
 IsLevelled c d = (d ≡ c) × HasLevels d

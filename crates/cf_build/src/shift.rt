@@ -1,8 +1,7 @@
 //! Code behind more variables.
 ghost use Rattle.std.specs.Prelude.{◌≡◌, ◌+◌, ◌<◌, ◌^◌, IfOk};
 ghost use Rattle.cf_tree.specs.CodeView.{code_tree, item_tree, arm_tree, code_trees, item_trees, arm_trees};
-ghost use Rattle.cf_tree.specs.SameParts.{IsCodeOverList, IsCodeOverOne, IsCodeOverTwo, IsCodeOverThree};
-ghost use Rattle.cf_build.specs.Shifted.{IsNoLet, shifted, all_shifted, item_shifted, items_shifted, arm_shifted, arms_shifted, HasLevels, HaveLevels, IsLevelled, AreLevelled, ItemIsLevelled, ItemsAreLevelled, ArmIsLevelled, ArmsAreLevelled};
+ghost use Rattle.cf_build.specs.Shifted.{shifted, all_shifted, item_shifted, items_shifted, arm_shifted, arms_shifted, HasLevels, HaveLevels, IsLevelled, AreLevelled, ItemIsLevelled, ItemsAreLevelled, ArmIsLevelled, ArmsAreLevelled};
 
 use cf_tree::code::{Arm, Code, Item};
 use cf_tree::memory::NoMemory;
@@ -35,7 +34,7 @@ pub(crate) fn shift(alloc: Global, code: &Code, by: u32) -> Result<Code, NoMemor
         | Code::Union(parts)
         | Code::Inter(parts) => {
             let parts = shift_all(alloc, parts, by)?;
-            Ok(over_list(code, by, parts))
+            Ok(code.over_list(parts))
         }
         Code::Neg(a)
         | Code::Not(a)
@@ -44,7 +43,7 @@ pub(crate) fn shift(alloc: Global, code: &Code, by: u32) -> Result<Code, NoMemor
         | Code::Mod { of: a, .. }
         | Code::Divides { of: a, .. } => {
             let part = boxed(alloc, a, by)?;
-            Ok(over_one(code, by, part))
+            Ok(code.over_one(part))
         }
         Code::Sub(a, b)
         | Code::Mul(a, b)
@@ -60,7 +59,7 @@ pub(crate) fn shift(alloc: Global, code: &Code, by: u32) -> Result<Code, NoMemor
         | Code::Fresh { avoid: a, n: b } => {
             let first = boxed(alloc, a, by)?;
             let second = boxed(alloc, b, by)?;
-            Ok(over_two(code, by, first, second))
+            Ok(code.over_two(first, second))
         }
         Code::Slice {
             set: a,
@@ -75,7 +74,7 @@ pub(crate) fn shift(alloc: Global, code: &Code, by: u32) -> Result<Code, NoMemor
             let first = boxed(alloc, a, by)?;
             let second = boxed(alloc, b, by)?;
             let third = boxed(alloc, c, by)?;
-            Ok(over_three(code, by, first, second, third))
+            Ok(code.over_three(first, second, third))
         }
         Code::Let {
             first,
@@ -98,86 +97,6 @@ pub(crate) fn shift(alloc: Global, code: &Code, by: u32) -> Result<Code, NoMemor
             number: *number,
             arms: shift_arms(alloc, arms, by)?,
         }),
-    }
-}
-
-// The form of the code behind `by` more variables, over a list of its parts behind them.
-fn over_list(code: &Code, by: u32, parts: Vec<Code>) -> Code
-    requires parts { IsCodeOverList (shifted by (code_tree code.now)) (code_trees parts.items) }
-    requires levels { HaveLevels (code_trees parts.items) }
-    ensures { IsLevelled (shifted by (code_tree code.now)) (code_tree result) }
-{
-    match code {
-        Code::SetOf(_) => Code::SetOf(parts),
-        Code::Tuple(_) => Code::Tuple(parts),
-        Code::Sum(_) => Code::Sum(parts),
-        Code::Min(_) => Code::Min(parts),
-        Code::Max(_) => Code::Max(parts),
-        Code::Union(_) => Code::Union(parts),
-        Code::Inter(_) => Code::Inter(parts),
-        _ => unreachable!(),
-    }
-}
-
-// The same over one part.
-fn over_one(code: &Code, by: u32, a: Box<Code>) -> Code
-    requires part { IsCodeOverOne (shifted by (code_tree code.now)) (code_tree a.value) }
-    requires levels { HasLevels (code_tree a.value) }
-    ensures { IsLevelled (shifted by (code_tree code.now)) (code_tree result) }
-{
-    match code {
-        Code::Neg(_) => Code::Neg(a),
-        Code::Not(_) => Code::Not(a),
-        Code::Card(_) => Code::Card(a),
-        Code::Div { k, .. } => Code::Div { of: a, k: *k },
-        Code::Mod { k, .. } => Code::Mod { of: a, k: *k },
-        Code::Divides { k, .. } => Code::Divides { k: *k, of: a },
-        _ => unreachable!(),
-    }
-}
-
-// The same over two parts.
-fn over_two(code: &Code, by: u32, a: Box<Code>, b: Box<Code>) -> Code
-    requires parts { IsCodeOverTwo (shifted by (code_tree code.now)) (code_tree a.value) (code_tree b.value) }
-    requires no_let { IsNoLet (code_tree code.now) }
-    requires levels { HasLevels (code_tree a.value) × HasLevels (code_tree b.value) }
-    ensures { IsLevelled (shifted by (code_tree code.now)) (code_tree result) }
-{
-    match code {
-        Code::Sub(_, _) => Code::Sub(a, b),
-        Code::Mul(_, _) => Code::Mul(a, b),
-        Code::And(_, _) => Code::And(a, b),
-        Code::Or(_, _) => Code::Or(a, b),
-        Code::Diff(_, _) => Code::Diff(a, b),
-        Code::Subset(_, _) => Code::Subset(a, b),
-        Code::Compare { order, .. } => Code::Compare {
-            order: *order,
-            left: a,
-            right: b,
-        },
-        Code::Fresh { .. } => Code::Fresh { avoid: a, n: b },
-        _ => unreachable!(),
-    }
-}
-
-// The same over three parts.
-fn over_three(code: &Code, by: u32, a: Box<Code>, b: Box<Code>, c: Box<Code>) -> Code
-    requires parts { IsCodeOverThree (shifted by (code_tree code.now)) (code_tree a.value) (code_tree b.value) (code_tree c.value) }
-    requires levels { HasLevels (code_tree a.value) × HasLevels (code_tree b.value) × HasLevels (code_tree c.value) }
-    ensures { IsLevelled (shifted by (code_tree code.now)) (code_tree result) }
-{
-    match code {
-        Code::Slice { .. } => Code::Slice {
-            set: a,
-            from: b,
-            n: c,
-        },
-        Code::If { .. } => Code::If {
-            test: a,
-            yes: b,
-            no: c,
-        },
-        _ => unreachable!(),
     }
 }
 

@@ -2,6 +2,7 @@ mod AllowedExamples
 pub mod BaseLemmas
 mod CodeTypingExamples
 mod MeaningExamples
+mod OverPartsExamples
 mod RelationExamples
 pub mod RisingLemmas
 pub mod SetLemmas

@@ -7,6 +7,7 @@ pub mod ExprTree
 pub mod ExprView
 pub mod Meaning
 pub mod Numbers
+pub mod OverParts
 pub mod RawTree
 pub mod RawView
 pub mod RelSize

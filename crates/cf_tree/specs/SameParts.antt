@@ -3,47 +3,6 @@ use Rattle.std.specs.Prelude.{◌≡◌}
 use Rattle.cf_tree.specs.RelTree.{SetTree, union_of, inter_of, diff_of, TermTree, term_neg, term_add, term_sub, term_mul, term_div, term_mod, term_abs, RelTree, rel_same_set, rel_other_set, rel_subset, rel_and, rel_or}
 use Rattle.cf_tree.specs.ExprTree.{ExprTree, expr_set_of, expr_tuple, expr_neg, expr_not, expr_abs, expr_divides, expr_div, expr_mod, expr_card, expr_call, expr_binary, expr_let, ExprTrees}
 use Rattle.cf_tree.specs.RawTree.{RawTree, raw_set_of, raw_tuple, raw_group, raw_neg, raw_not, raw_abs, raw_divides, raw_div, raw_mod, raw_card, RawTrees}
-use Rattle.cf_tree.specs.CodeTree.{CodeTree, code_set_of, code_tuple, code_sum, code_sub, code_mul, code_neg, code_div, code_mod, code_min, code_max, code_compare, code_divides, code_and, code_or, code_not, code_union, code_inter, code_diff, code_subset, code_card, code_slice, code_fresh, code_if, code_let, CodeTrees}
-
--- a form over a list
-abbrev pub IsCodeOverList : CodeTree → CodeTrees → Type 0
-IsCodeOverList (code_set_of own) cs = cs ≡ own
-IsCodeOverList (code_tuple own) cs = cs ≡ own
-IsCodeOverList (code_sum own) cs = cs ≡ own
-IsCodeOverList (code_min own) cs = cs ≡ own
-IsCodeOverList (code_max own) cs = cs ≡ own
-IsCodeOverList (code_union own) cs = cs ≡ own
-IsCodeOverList (code_inter own) cs = cs ≡ own
-IsCodeOverList _ cs = ⊥
-
--- a form with one part
-abbrev pub IsCodeOverOne : CodeTree → CodeTree → Type 0
-IsCodeOverOne (code_neg a) c = c ≡ a
-IsCodeOverOne (code_div a k) c = c ≡ a
-IsCodeOverOne (code_mod a k) c = c ≡ a
-IsCodeOverOne (code_divides k a) c = c ≡ a
-IsCodeOverOne (code_not a) c = c ≡ a
-IsCodeOverOne (code_card a) c = c ≡ a
-IsCodeOverOne _ c = ⊥
-
--- a form with two parts
-abbrev pub IsCodeOverTwo : CodeTree → CodeTree → CodeTree → Type 0
-IsCodeOverTwo (code_sub a b) c d = (c ≡ a) × (d ≡ b)
-IsCodeOverTwo (code_mul a b) c d = (c ≡ a) × (d ≡ b)
-IsCodeOverTwo (code_compare o a b) c d = (c ≡ a) × (d ≡ b)
-IsCodeOverTwo (code_and a b) c d = (c ≡ a) × (d ≡ b)
-IsCodeOverTwo (code_or a b) c d = (c ≡ a) × (d ≡ b)
-IsCodeOverTwo (code_diff a b) c d = (c ≡ a) × (d ≡ b)
-IsCodeOverTwo (code_subset a b) c d = (c ≡ a) × (d ≡ b)
-IsCodeOverTwo (code_fresh a b) c d = (c ≡ a) × (d ≡ b)
-IsCodeOverTwo (code_let n n' a b) c d = (c ≡ a) × (d ≡ b)
-IsCodeOverTwo _ c d = ⊥
-
--- a form with three parts
-abbrev pub IsCodeOverThree : CodeTree → CodeTree → CodeTree → CodeTree → Type 0
-IsCodeOverThree (code_slice a b c) d e f = (d ≡ a) × (e ≡ b) × (f ≡ c)
-IsCodeOverThree (code_if a b c) d e f = (d ≡ a) × (e ≡ b) × (f ≡ c)
-IsCodeOverThree _ d e f = ⊥
 
 -- an operation of two set forms
 abbrev pub IsSetOverTwo : SetTree → SetTree → SetTree → Type 0

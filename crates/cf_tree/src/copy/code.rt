@@ -1,7 +1,7 @@
 //! Copies of target code.
 ghost use Rattle.std.specs.Prelude.{◌≡◌, IfOk, map};
 ghost use Rattle.cf_tree.specs.CodeView.{code_tree, code_trees, item_tree, arm_tree};
-ghost use Rattle.cf_tree.specs.SameParts.{IsCodeOverList, IsCodeOverOne, IsCodeOverTwo, IsCodeOverThree};
+ghost use Rattle.cf_tree.specs.OverParts.{over_list, HasList, over_one, HasOnePart, over_two, HasTwoParts, over_three, HasThreeParts};
 
 use crate::code::{Arm, Code, Item};
 use crate::memory::NoMemory;
@@ -89,10 +89,10 @@ impl Code {
         Ok(Box::new(alloc, self.try_copy(alloc)?)?)
     }
 
-    // The same form over a list of parts equal to its own.
-    fn over_list(&self, parts: Vec<Code>) -> Code
-        requires { IsCodeOverList (code_tree self.now) (code_trees parts.items) }
-        ensures { code_tree result ≡ code_tree self.now }
+    /// The same form over another list of parts.
+    pub fn over_list(&self, parts: Vec<Code>) -> Code
+        requires { HasList (code_tree self.now) }
+        ensures { code_tree result ≡ over_list (code_tree self.now) (code_trees parts.items) }
     {
         match self {
             Code::SetOf(_) => Code::SetOf(parts),
@@ -106,10 +106,10 @@ impl Code {
         }
     }
 
-    // The same form over a part equal to its own.
-    fn over_one(&self, a: Box<Code>) -> Code
-        requires { IsCodeOverOne (code_tree self.now) (code_tree a.value) }
-        ensures { code_tree result ≡ code_tree self.now }
+    /// The same form over another part.
+    pub fn over_one(&self, a: Box<Code>) -> Code
+        requires { HasOnePart (code_tree self.now) }
+        ensures { code_tree result ≡ over_one (code_tree self.now) (code_tree a.value) }
     {
         match self {
             Code::Neg(_) => Code::Neg(a),
@@ -122,10 +122,10 @@ impl Code {
         }
     }
 
-    // The same form over two parts equal to its own.
-    fn over_two(&self, a: Box<Code>, b: Box<Code>) -> Code
-        requires { IsCodeOverTwo (code_tree self.now) (code_tree a.value) (code_tree b.value) }
-        ensures { code_tree result ≡ code_tree self.now }
+    /// The same form over two other parts.
+    pub fn over_two(&self, a: Box<Code>, b: Box<Code>) -> Code
+        requires { HasTwoParts (code_tree self.now) }
+        ensures { code_tree result ≡ over_two (code_tree self.now) (code_tree a.value) (code_tree b.value) }
     {
         match self {
             Code::Sub(_, _) => Code::Sub(a, b),
@@ -150,10 +150,10 @@ impl Code {
         }
     }
 
-    // The same form over three parts equal to its own.
-    fn over_three(&self, a: Box<Code>, b: Box<Code>, c: Box<Code>) -> Code
-        requires { IsCodeOverThree (code_tree self.now) (code_tree a.value) (code_tree b.value) (code_tree c.value) }
-        ensures { code_tree result ≡ code_tree self.now }
+    /// The same form over three other parts.
+    pub fn over_three(&self, a: Box<Code>, b: Box<Code>, c: Box<Code>) -> Code
+        requires { HasThreeParts (code_tree self.now) }
+        ensures { code_tree result ≡ over_three (code_tree self.now) (code_tree a.value) (code_tree b.value) (code_tree c.value) }
     {
         match self {
             Code::Slice { .. } => Code::Slice {
