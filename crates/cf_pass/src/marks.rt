@@ -12,10 +12,10 @@ use std::alloc::Global;
 pub(crate) fn lets_that_stay(
     alloc: Global,
     first: usize,
-    items: &Vec<Item>,
-    gives: &Vec<Code>,
+    items: &[Item],
+    gives: &[Code],
 ) -> Result<Vec<bool>, NoMemory>
-    ensures { IfOk result (λ stay. stay.items ≡ lets_stay first (item_trees items.now.items) (code_trees gives.now.items)) }
+    ensures { IfOk result (λ stay. stay.items ≡ lets_stay first (item_trees items.now) (code_trees gives.now)) }
 {
     let count = count_lets(items);
     let mut used = Vec::new(alloc);
@@ -153,8 +153,8 @@ fn mark(first: usize, known: usize, code: &Code, used: &mut Vec<bool>)
 }
 
 #[cycle(mark)]
-fn mark_all(first: usize, known: usize, codes: &Vec<Code>, used: &mut Vec<bool>)
-    ensures { used.new.items ≡ all_marked first known (code_trees codes.now.items) used.old.items }
+fn mark_all(first: usize, known: usize, codes: &[Code], used: &mut Vec<bool>)
+    ensures { used.new.items ≡ all_marked first known (code_trees codes.now) used.old.items }
 {
     for code in codes {
         mark(first, known, code, used);
