@@ -1,12 +1,8 @@
 -- What the passes tell.
-use Rattle.std.proofs.Common.{◌≡◌, ◌∙◌, sym, ap, subst, refl, ℕ, Bool, true, false, List, [], ◌∷◌, map, arith}
+use Rattle.std.proofs.Common.{◌≡◌, ◌∙◌, sym, ap, subst, refl, ℕ, Bool, true, false, List, [], ◌∷◌, map}
 use Rattle.cf_pass.specs.Passes.{NoneFell}
+use Rattle.cf_pass.proofs.Tallies.{none_fell}
 use Rattle.cf_answer.specs.Passes.{Told, HaveWorked, ArePassed}
-
--- no number of a list falls where it stays
-pub none_fell : (ns : List ℕ) → NoneFell ns ns
-none_fell [] = tt
-none_fell (n ∷ ns) = (omega arith, none_fell ns)
 
 -- passes that are not called tell what they told
 pub unpassed : (called : Bool) (given : List Told) → ArePassed called given given

@@ -28,12 +28,13 @@ use cf_tree::target::{RawTarget, Target};
 use std::alloc::Global;
 
 /// The target of a program without matches: main's body, with its calls unfolded, and each choose
-/// replaced by the `solve` with the arms of its cases, and then rewritten once by each pass, in order. Every choose of every function is solved, called or not. Where a pass finds no memory, its
-/// code stands, and the next one runs.
+/// replaced by the `solve` with the arms of its cases, and then rewritten once by each pass, in
+/// order. Every choose of every function is solved, called or not. Where a pass finds no memory,
+/// its code stands, and the next one runs.
 ///
 /// # Errors
 /// The refused choose with the least number, with the first limit that it passes; or want of memory.
-#[tactic(auto, using(cf_rewrite::proofs::PassLists::none_fell))]
+#[tactic(auto, using(cf_pass::proofs::Tallies::none_fell))]
 pub fn build(
     alloc: Global,
     typed: &Typed,
@@ -53,7 +54,7 @@ pub fn build(
 }
 
 // The target, where all chooses are solved.
-#[tactic(auto, using(cf_rewrite::proofs::PassLists::none_fell))]
+#[tactic(auto, using(cf_pass::proofs::Tallies::none_fell))]
 fn built(
     alloc: Global,
     typed: &Typed,

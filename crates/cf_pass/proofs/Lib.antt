@@ -23,6 +23,7 @@ pub mod NeedsArms
 pub mod NeedsLaws
 pub mod NeedsLists
 pub mod Sound
+pub mod Tallies
 mod WalkExamples
 pub mod WalkForms
 pub mod WalkLists

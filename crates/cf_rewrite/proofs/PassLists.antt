@@ -7,10 +7,6 @@ use Rattle.std.proofs.lemmas.List.{append-nil, take_more, take_more_set, take_al
 use Rattle.cf_tree.specs.RelSize.{capped}
 use Rattle.cf_pass.specs.Passes.{NoneFell}
 
-pub none_fell : (ns : List ℕ) → NoneFell ns ns
-none_fell [] = tt
-none_fell (n ∷ ns) = (omega arith, none_fell ns)
-
 -- what becomes of a pass that is called once
 pub record HasTurned {X : Type 0} (named : X → List ℕ) (tallied turned : X → ℕ) (old new : X) : Type 0 where
   pub name : named new ≡ named old

@@ -18,7 +18,7 @@ use std::alloc::Global;
 ///
 /// # Errors
 /// Want of memory, before any pass is called: there are more parameters than 32 bits count.
-#[tactic(auto, using(crate::proofs::PassLists::none_fell))]
+#[tactic(auto, using(cf_pass::proofs::Tallies::none_fell))]
 pub fn rewritten(
     alloc: Global,
     raw: RawTarget,

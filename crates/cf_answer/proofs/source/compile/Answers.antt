@@ -1,6 +1,6 @@
 use Rattle.std.proofs.Common.{inl}
 use Rattle.cf_program.specs.Typed.{typed_tree}
-use Rattle.cf_answer.proofs.PassLemmas.{none_fell}
+use Rattle.cf_pass.proofs.Tallies.{none_fell}
 use Rattle.cf_answer.proofs.TextLemmas.{choose_refused}
 use Rattle.cf_answer.proofs.source.compile.Goals as goal
 

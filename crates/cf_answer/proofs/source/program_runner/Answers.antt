@@ -1,6 +1,6 @@
 use Rattle.std.proofs.Common.{inl, rules}
 use Rattle.cf_tree.specs.DefView.{program_tree}
-use Rattle.cf_answer.proofs.PassLemmas.{none_fell}
+use Rattle.cf_pass.proofs.Tallies.{none_fell}
 use Rattle.cf_answer.proofs.RunLemmas.{run_broken}
 use Rattle.cf_answer.proofs.source.program_runner.Goals as goal
 

@@ -1,5 +1,5 @@
 use Rattle.cf_answer.specs.Refusals.{IsBadRun}
-use Rattle.cf_answer.proofs.PassLemmas.{none_fell}
+use Rattle.cf_pass.proofs.Tallies.{none_fell}
 use Rattle.cf_answer.proofs.RunLemmas.{misspelled_or}
 use Rattle.cf_answer.proofs.source.runner.Goals as goal
 
