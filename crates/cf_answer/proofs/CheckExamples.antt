@@ -15,7 +15,7 @@ use Rattle.cf_eval.specs.declared.value.Value.TheVariants as ran
 use Rattle.cf_warn.specs.declared.answer.Doubt.TheVariants.{Refused, Overflow}
 use Rattle.cf_warn.specs.declared.answer.ExistenceAnswer.TheVariants as existence
 use Rattle.cf_warn.specs.declared.answer.UniquenessAnswer.TheVariants as uniqueness
-use Rattle.cf_warn.specs.declared.covers.Cover.TheVariants as cover
+use Rattle.cf_warn.specs.declared.coverage.Cover.TheVariants as cover
 use Rattle.cf_warn.specs.Covers.{IsCover}
 use Rattle.cf_warn.specs.Verdicts.{IsExistence, IsUniqueness}
 use Rattle.cf_answer.specs.Checks.{existence_line, uniqueness_line, cover_line, IsOwn, AreLines, of_choose, of_arm, of_match}

@@ -11,7 +11,7 @@ use Rattle.cf_match.specs.declared.lowered.MatchInfo.{MatchInfo}
 use Rattle.cf_build.specs.Questions.{Question, all_questions, by_number, limit_of}
 use Rattle.cf_build.specs.Solves.{IsSolved, AreSolved}
 use Rattle.cf_build.specs.declared.solves.SolvedChoose.{SolvedChoose}
-use Rattle.cf_question.specs.Questions.{parameters}
+use Rattle.cf_warn.specs.Questions.{parameters}
 use Rattle.cf_warn.specs.Verdicts.{IsExistence, IsUniqueness}
 use Rattle.cf_warn.specs.declared.answer.ExistenceAnswer.{ExistenceAnswer}
 use Rattle.cf_warn.specs.declared.answer.UniquenessAnswer.{UniquenessAnswer}

@@ -10,7 +10,7 @@ use Rattle.cf_tree.specs.declared.expr.Def.{Def}
 use Rattle.cf_tree.specs.DefView.{def_tree}
 use Rattle.cf_tree.specs.Values.{Value, HaveBases}
 use Rattle.cf_program.specs.Checked.{TypedTree}
-use Rattle.cf_program.specs.Names.{bases_of}
+use Rattle.cf_tree.specs.Params.{bases_of}
 use Rattle.cf_program.specs.TypedProgram.{IsLateProgram}
 use Rattle.cf_eval.specs.Spelling.{SpellsValues}
 use Rattle.cf_late.specs.Texts.{late_text}

@@ -7,8 +7,8 @@ use Rattle.cf_tree.specs.DefView.{DefTree}
 use Rattle.cf_program.specs.TypedProgram.{IsTypedProgram}
 use Rattle.cf_match.specs.Matches.{MatchTree, match_tree, all_matches}
 use Rattle.cf_match.specs.declared.lowered.MatchInfo.{MatchInfo}
-use Rattle.cf_question.specs.Classes.{AreClasses}
-use Rattle.cf_question.proofs.MatchClasses.{matches_have_classes}
+use Rattle.cf_warn.specs.Classes.{AreClasses}
+use Rattle.cf_warn.proofs.MatchClasses.{matches_have_classes}
 
 abbrev HasClasses : MatchTree → Type 0
 HasClasses m = AreClasses m.classes

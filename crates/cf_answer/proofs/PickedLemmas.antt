@@ -13,7 +13,7 @@ use Rattle.cf_tree.specs.DefView.{DefTree}
 use Rattle.cf_tree.specs.Values.{Value, number, truth, elements, Outcome, values, no_solution, number_of, HasBase, HaveBases}
 use Rattle.cf_tree.proofs.RisingLemmas.{rising_set_of}
 use Rattle.cf_program.specs.Checked.{TypedTree}
-use Rattle.cf_program.specs.Names.{bases_of}
+use Rattle.cf_tree.specs.Params.{bases_of}
 use Rattle.cf_growth.specs.Meeting.{AreSmall}
 use Rattle.cf_build.specs.Built.{IsBuilt, SourceAllows}
 use Rattle.cf_build.specs.Runs.{RunsAsPicked}

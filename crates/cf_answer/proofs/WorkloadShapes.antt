@@ -6,7 +6,7 @@ use Rattle.cf_tree.specs.declared.base.Place.{Place}
 use Rattle.cf_tree.specs.declared.raw.BinOp.{BinOp}
 use Rattle.cf_tree.specs.declared.raw.BinOp.TheVariants.{Add, Mul, And, Compare}
 use Rattle.cf_tree.specs.declared.raw.Param.{Param}
-use Rattle.cf_tree.specs.Allowed.{scope_of}
+use Rattle.cf_tree.specs.Params.{bases_of}
 use Rattle.cf_tree.specs.DefView.{RawDefTree}
 use Rattle.cf_tree.specs.ExprTree.{ExprTree, expr_var, expr_binary, expr_call, expr_let, expr_choose, no_exprs, expr_more}
 use Rattle.cf_tree.specs.RawTree.{RawTree, raw_lit, raw_name, raw_binary, raw_call, raw_let, raw_choose, no_raws, raw_more}
@@ -86,7 +86,7 @@ function_rel c =
 -- let (q, r) = the choose of that relation in q + r, whatever number and names the choose has
 abbrev pub IsFunction : ℕ → ExprTree → Type 0
 IsFunction c body =
-    (n : ℕ) × (scope : List Param) × (scope_of scope ≡ Int ∷ [])
+    (n : ℕ) × (scope : List Param) × (bases_of scope ≡ Int ∷ [])
     × (body ≡ expr_let 2 (expr_choose n scope (Int ∷ Int ∷ []) (function_rel c)) (expr_binary Add (expr_var 1) (expr_var 2)))
 
 -- functions with these coefficients

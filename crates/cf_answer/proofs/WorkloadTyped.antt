@@ -20,7 +20,8 @@ use Rattle.cf_program.specs.declared.fault.TypeFault.{TypeFault}
 use Rattle.cf_program.specs.declared.fault.TypeFault.TheVariants.{DuplicateName, Mismatch, WrongCount, CallsLater}
 use Rattle.cf_program.specs.declared.linearity.Linearity.TheVariants.{Plain}
 use Rattle.cf_program.specs.Checked.{TypedTree, def_form, walk_def, walk_defs, main_from, sized, checked}
-use Rattle.cf_program.specs.Names.{Callee, bases_of, is_among, callee, callee_from}
+use Rattle.cf_program.specs.Names.{Callee, is_among, callee, callee_from}
+use Rattle.cf_tree.specs.Params.{bases_of}
 use Rattle.cf_program.specs.Reading.{Reading, relation, term, not_linear, not_linear_at, binary_reading}
 use Rattle.cf_program.specs.Walk.{◌>>=◌, where_kept, where_no_fault, Form, Forms, are_asked, sides_fit, side_of, binary_form, call_form, Context, in_body, walk}
 use Rattle.cf_lex.specs.Digits.{digits_value}

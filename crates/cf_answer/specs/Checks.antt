@@ -7,7 +7,7 @@ use Rattle.cf_match.specs.Matches.{MatchTree}
 use Rattle.cf_build.specs.Questions.{Question, limit_of}
 use Rattle.cf_eval.specs.Seen.{plains}
 use Rattle.cf_eval.specs.Texts.{value_text, values_text}
-use Rattle.cf_question.specs.Questions.{parameters}
+use Rattle.cf_warn.specs.Questions.{parameters}
 use Rattle.cf_warn.specs.Covers.{IsCover}
 use Rattle.cf_warn.specs.Verdicts.{IsExistence, IsUniqueness}
 use Rattle.cf_warn.specs.declared.answer.Doubt.{Doubt}
@@ -16,8 +16,8 @@ use Rattle.cf_warn.specs.declared.answer.ExistenceAnswer.{ExistenceAnswer}
 use Rattle.cf_warn.specs.declared.answer.ExistenceAnswer.TheVariants as existence
 use Rattle.cf_warn.specs.declared.answer.UniquenessAnswer.{UniquenessAnswer}
 use Rattle.cf_warn.specs.declared.answer.UniquenessAnswer.TheVariants as uniqueness
-use Rattle.cf_warn.specs.declared.covers.Cover.{Cover}
-use Rattle.cf_warn.specs.declared.covers.Cover.TheVariants as cover
+use Rattle.cf_warn.specs.declared.coverage.Cover.{Cover}
+use Rattle.cf_warn.specs.declared.coverage.Cover.TheVariants as cover
 use Rattle.cf_answer.specs.Texts.{numbered_line, refusal_text}
 
 -- ---- verdicts

@@ -6,7 +6,7 @@ use Rattle.cf_tree.specs.Values.{Value}
 use Rattle.cf_program.specs.Checked.{TypedTree}
 use Rattle.cf_match.specs.Laws.{bodies}
 use Rattle.cf_eval.specs.Spelling.{SpellsValues}
-use Rattle.cf_known.specs.ChooseRun.{LateOutcome}
+use Rattle.cf_late.specs.ChooseRun.{LateOutcome}
 use Rattle.cf_late.specs.LateRun.{late_run}
 use Rattle.cf_late.specs.Texts.{late_text}
 use Rattle.cf_late.specs.ProgramLaw.{IsAllowedIn}

@@ -5,7 +5,7 @@ use Rattle.cf_io.specs.Limits.{line_limit}
 use Rattle.cf_tree.specs.declared.base.Base.{Base}
 use Rattle.cf_tree.specs.Values.{Value, Outcome, values, number_of}
 use Rattle.cf_program.specs.Checked.{TypedTree}
-use Rattle.cf_program.specs.Names.{bases_of}
+use Rattle.cf_tree.specs.Params.{bases_of}
 use Rattle.cf_growth.specs.Overflowing.{picked, MayOverflow}
 use Rattle.cf_build.specs.Built.{SourceAllows}
 use Rattle.cf_build.specs.Runs.{lowered_bodies}

@@ -1,6 +1,6 @@
 //! What answers the lines of an input.
-use cf_program::typed::Late;
-use cf_tree::target::Target;
+use cf_program::Late;
+use cf_tree::Target;
 
 /// What answers the lines of an input.
 #[derive(Drop)]

@@ -1,8 +1,8 @@
 //! Why a call did not do what its words ask.
-use cf_cert::verdict::Why;
-use cf_linear::refusal::Refusal;
-use cf_program::fault::TypeFault;
-use cf_tree::base::Place;
+use cf_cert::Why;
+use cf_linear::Refusal;
+use cf_program::TypeFault;
+use cf_tree::Place;
 
 /// Why the text of a steps file is refused.
 #[derive(Clone, Copy, Debug)]

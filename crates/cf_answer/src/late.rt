@@ -3,36 +3,20 @@ ghost use Rattle.std.specs.Prelude.{◌≡◌, ◌≤◌, ◌++◌, List, ℕ, l
 ghost use Rattle.cf_io.specs.Limits.{line_limit};
 ghost use Rattle.cf_tree.specs.DefView.{def_tree};
 ghost use Rattle.cf_eval.specs.Seen.{plains};
-ghost use Rattle.cf_known.specs.Fitting.{AreFit};
+ghost use Rattle.cf_late.specs.Fitting.{AreFit};
 ghost use Rattle.cf_late.specs.Texts.{late_text};
 ghost use Rattle.cf_late.specs.ProgramLaw.{HaveMainTypes};
-ghost use Rattle.cf_program.specs.Names.{bases_of};
+ghost use Rattle.cf_tree.specs.Params.{bases_of};
 ghost use Rattle.cf_program.specs.Typed.{typed_tree, IsLateTyped};
 ghost use Rattle.cf_answer.specs.LateReplies.{main_comes};
 ghost use Rattle.cf_answer.specs.Owed.{by_late, IsReplyBy};
 ghost use Rattle.cf_answer.specs.Picked.{main_bases};
 
-use cf_eval::fault::LineFault;
-use cf_eval::line::read_line;
-use cf_eval::value::Value;
-use cf_late::reply::late_reply;
-use cf_late::run::run_late;
-use cf_program::typed::Late;
-use cf_tree::base::Base;
-use cf_tree::memory::NoMemory;
-use cf_tree::raw::Param;
+use cf_eval::{LineFault, Value, read_line};
+use cf_late::{late_reply, run_late};
+use cf_program::Late;
+use cf_tree::{Base, NoMemory, Param, bases};
 use std::alloc::Global;
-
-// The bases of parameters.
-fn bases(alloc: Global, params: &[Param]) -> Result<Vec<Base>, NoMemory>
-    ensures { IfOk result (λ bases. bases.items ≡ bases_of params.now) }
-{
-    let mut bases = Vec::new(alloc);
-    for param in params {
-        bases.push(param.base)?;
-    }
-    Ok(bases)
-}
 
 // The bases of the parameters of main.
 fn parameters(alloc: Global, late: &Late) -> Result<Vec<Base>, NoMemory>

@@ -11,11 +11,11 @@ ghost use Rattle.cf_answer.specs.Verifying.{AreAskedBy, AreAskedIn};
 
 use crate::fault::Fault;
 use crate::source::read_source;
-use cf_build::chooses::{Choose, numbered};
-use cf_cert::question::Question;
-use cf_match::lowered::lower;
-use cf_program::typed::Typed;
-use cf_tree::memory::NoMemory;
+use cf_build::{Choose, numbered};
+use cf_cert::Question;
+use cf_match::lower;
+use cf_program::Typed;
+use cf_tree::NoMemory;
 use std::alloc::Global;
 
 /// The chooses of a program in the order of their numbers, its matches as the chooses that they stand

@@ -11,14 +11,9 @@ ghost use Rattle.cf_answer.specs.Steps.{answerer_of, IsLineReply, AreLineReplies
 
 use crate::answerer::Answerer;
 use crate::late::add_late_reply;
-use cf_eval::fault::LineFault;
-use cf_eval::line::read_line;
-use cf_eval::reply::put_reply;
-use cf_eval::run::run_on;
-use cf_eval::value::Value;
+use cf_eval::{LineFault, Value, put_reply, read_line, run_on};
 use cf_io::{Line, first_line, longest_line};
-use cf_tree::memory::NoMemory;
-use cf_tree::target::Target;
+use cf_tree::{NoMemory, Target};
 use std::alloc::Global;
 
 // Adds the text of what the target means on these values.

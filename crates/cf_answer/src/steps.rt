@@ -10,8 +10,7 @@ ghost use Rattle.cf_answer.specs.Verifying.{AreMisspelled, AreReadFrom};
 use crate::fault::{Fault, StepsFault};
 use cf_lex::{LexFault, TokenList, tokens};
 use cf_parse::ParseFault;
-use cf_steps::block::Blocks;
-use cf_steps::steps;
+use cf_steps::{Blocks, steps};
 use std::alloc::Global;
 
 // The tokens of the text of a steps file.

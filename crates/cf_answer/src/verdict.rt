@@ -5,15 +5,11 @@ ghost use Rattle.cf_linear.specs.declared.refusal.Refusal.TheVariants as refusal
 ghost use Rattle.cf_answer.specs.Checks.{cover_text, doubt_text, existence_text, names_at, sample_text, setting_text, uniqueness_text};
 ghost use Rattle.cf_answer.specs.Texts.{refusal_text};
 
-use cf_eval::reply::{put_value, put_values};
-use cf_eval::value::Value;
-use cf_late::reply::kind_text;
-use cf_linear::refusal::{LimitKind, Refusal};
-use cf_tree::base::Text;
-use cf_tree::memory::NoMemory;
-use cf_warn::answer::{Doubt, ExistenceAnswer, UniquenessAnswer};
-use cf_warn::covers::Cover;
-use cf_write::put_number;
+use cf_eval::{Value, put_value, put_values};
+use cf_late::kind_text;
+use cf_linear::{LimitKind, Refusal};
+use cf_tree::{NoMemory, Text, put_number};
+use cf_warn::{Cover, Doubt, ExistenceAnswer, UniquenessAnswer};
 
 fn put_limit(text: &mut Vec<u8>, kind: &LimitKind, number: u64) -> Result<(), NoMemory>
     ensures { OnOk result (text.new.items ≡ text.old.items ++ refusal_text (refusals.Limit kind.now number)) }

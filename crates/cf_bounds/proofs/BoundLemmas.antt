@@ -13,7 +13,7 @@ use Rattle.cf_linear.proofs.CombLemmas.{entry-without}
 use Rattle.cf_linear.proofs.KindLemmas.{EachRow-append, EachRow-with, EachRow-weaker, EachRow-filter, EachRow-tested, search_columns-append, Rising-append, Rising-in, Rising-le, In-append, In-left, In-right}
 use Rattle.cf_linear.proofs.SolvedLemmas.{step_then}
 use Rattle.cf_linear.proofs.FormedLemmas.{Kinds, low_from}
-use Rattle.cf_parts.proofs.SideLemmas.{positive_so, negative_so}
+use Rattle.cf_linear.proofs.SideLemmas.{positive_so, negative_so}
 use Rattle.cf_bounds.specs.Exact.{IsExact, IsFree, AreExact}
 use Rattle.cf_bounds.proofs.SearchLemmas.{by_row, found_new, found_kept, searched_keeps}
 use Rattle.cf_bounds.proofs.DropLemmas.{Lower, Upper}

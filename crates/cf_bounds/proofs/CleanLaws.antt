@@ -15,8 +15,8 @@ use Rattle.cf_linear.specs.Views.{system_of, step_of}
 use Rattle.cf_linear.proofs.BoolLemmas.{on_bool}
 use Rattle.cf_linear.proofs.FormedLemmas.{low_from}
 use Rattle.cf_linear.proofs.KindLemmas.{EachRow-filter}
-use Rattle.cf_parts.specs.Parts.{divides_known, divided_by}
-use Rattle.cf_parts.specs.Unknowns.{HaveSame}
+use Rattle.cf_linear.specs.RowParts.{divides_known, divided_by}
+use Rattle.cf_linear.specs.Unknowns.{HaveSame}
 use Rattle.cf_bounds.specs.declared.cleaning.Cleaned.{Cleaned}
 use Rattle.cf_bounds.specs.declared.cleaning.Tight.{Tight}
 use Rattle.cf_bounds.specs.CleanAnswers.{cleaned, tight_of}

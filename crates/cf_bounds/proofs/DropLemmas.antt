@@ -13,7 +13,7 @@ use Rattle.cf_linear.specs.Keep.{Keeps, update, how_value}
 use Rattle.cf_linear.proofs.RowLemmas.{value-comb, zero_from_is_zero}
 use Rattle.cf_linear.proofs.KindLemmas.{IsZero, IsNonneg, EachRow-append, EachRow-split, EachRow-filter, EachRow-with, EachRow-tested}
 use Rattle.cf_linear.proofs.ValueLemmas.{value-split, value-update}
-use Rattle.cf_parts.proofs.SideLemmas.{positive_so, negative_so}
+use Rattle.cf_linear.proofs.SideLemmas.{positive_so, negative_so}
 use Rattle.cf_bounds.specs.Exact.{IsExact, IsFree}
 use Rattle.cf_bounds.proofs.Arithmetic.{pair_from, lower_iff, upper_iff, pair_meets}
 

@@ -11,7 +11,7 @@ use Rattle.cf_linear.specs.Steps.{Pick, pick_at, is_better, best, pick, has_grea
 use Rattle.cf_linear.specs.Keep.{In}
 use Rattle.cf_linear.proofs.BoolLemmas.{on_bool}
 use Rattle.cf_linear.proofs.KindLemmas.{EachRow-tested, EachRow-with, EachRow-weaker}
-use Rattle.cf_parts.proofs.SideLemmas.{positive_so, negative_so}
+use Rattle.cf_linear.proofs.SideLemmas.{positive_so, negative_so}
 use Rattle.cf_bounds.specs.Exact.{IsExact, AreExact}
 use Rattle.cf_bounds.specs.Sides.{times_entry}
 use Rattle.cf_bounds.proofs.DropLemmas.{Lower, Upper}

@@ -9,7 +9,7 @@ use Rattle.cf_linear.specs.Solved.{Rising}
 use Rattle.cf_linear.proofs.RowLemmas.{zero_from_is_zero}
 use Rattle.cf_linear.proofs.CombLemmas.{Rises-comb, Rises-without}
 use Rattle.cf_linear.proofs.KindLemmas.{EachRow-append, EachRow-filter, EachRow-weaker, EachRow-with, EachRow-tested, Over-weaker, Over-comb, Over-filter, Over-both, Over-without, Rises-filter, free_row, In-append, In-left, In-right, In-filter, In-unfilter, Rising-le, Rising-in}
-use Rattle.cf_parts.proofs.PartLemmas.{Rises-divided}
+use Rattle.cf_linear.proofs.PartLemmas.{Rises-divided}
 use Rattle.cf_bounds.specs.Exact.{IsFree}
 use Rattle.cf_bounds.proofs.CleanLemmas.{by_row, with_kept, unknowns_of, tight, distinct_forth, Over-divided}
 use Rattle.cf_bounds.proofs.OwesLemmas.{made_all}

@@ -12,7 +12,7 @@ use Rattle.cf_linear.proofs.RowLemmas.{value-comb}
 use Rattle.cf_linear.proofs.KindLemmas.{IsZero, IsNonneg, Below, EachRow-append, EachRow-split, EachRow-below_more, Below-more, Over-comb, Over-filter}
 use Rattle.cf_linear.proofs.ValueLemmas.{EachRow-same, one_z, value-same, value-split, update-at, update-same, Same-trans, Within-append, Within-split}
 use Rattle.cf_linear.proofs.FormedLemmas.{Low}
-use Rattle.cf_parts.proofs.SideLemmas.{Sided, sided}
+use Rattle.cf_linear.proofs.SideLemmas.{Sided, sided}
 use Rattle.cf_bounds.proofs.Arithmetic.{search_from, search_back, search_once, zero_value, nonneg_value}
 
 abbrev pub BoundsBelow : ℕ → List (ℕ × ℕ) → Type 0

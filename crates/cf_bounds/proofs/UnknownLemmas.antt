@@ -6,7 +6,7 @@ use Rattle.std.proofs.lemmas.List.Elements.{filter_agree}
 use Rattle.cf_linear.specs.Rows.{Row}
 use Rattle.cf_linear.specs.Systems.{System, need_zero, need_nonneg}
 use Rattle.cf_linear.specs.Steps.{has_column, has_unknown, unknown_part, known_part, tighten_row, Tightened, next_tightened, then_tighten, tighten_all}
-use Rattle.cf_parts.specs.Unknowns.{HaveSame}
+use Rattle.cf_linear.specs.Unknowns.{HaveSame}
 use Rattle.cf_bounds.specs.Cleaning.{needs_of, tightened}
 
 module _ (us vs : List ℕ) (s : HaveSame us vs) where

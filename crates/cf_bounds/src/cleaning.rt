@@ -8,15 +8,16 @@ ghost use Rattle.cf_linear.specs.Steps.{has_unknown, unknown_part, common, tight
 ghost use Rattle.cf_linear.specs.Keep.{Formed};
 ghost use Rattle.cf_linear.specs.Solved.{Owes};
 ghost use Rattle.cf_linear.specs.Views.{system_of, step_of};
-ghost use Rattle.cf_parts.specs.Parts.{divided_by};
+ghost use Rattle.cf_linear.specs.RowParts.{divided_by};
 ghost use Rattle.cf_bounds.specs.CleanAnswers.{cleaned, tight_of, tightened_of};
 ghost use Rattle.cf_bounds.specs.Cleaning.{held_of, joined, with_let};
 
 use crate::lists::{add_row, joined_columns};
-use cf_linear::row::Row;
-use cf_linear::system::{Step, System};
-use cf_parts::{Unknowns, common, divided, divides_known, has_unknown, known_part, unknown_part};
-use cf_tree::memory::NoMemory;
+use cf_linear::{
+    Row, Step, System, Unknowns, common, divided, divides_known, has_unknown, known_part,
+    unknown_part,
+};
+use cf_tree::NoMemory;
 use std::alloc::Global;
 
 /// A cleaned system, with the needs and lets that were made of it, in order.
@@ -274,7 +275,7 @@ fn tighten_row(alloc: Global, unknown: &Unknowns, next: u32, row: Row) -> Result
 }
 
 // The same by a divisor above 1.
-#[tactic(auto, using(crate::proofs::CleanLaws::rounded_row, crate::proofs::CleanLaws::floored_row, cf_parts::proofs::PartLemmas::part_below))]
+#[tactic(auto, using(crate::proofs::CleanLaws::rounded_row, crate::proofs::CleanLaws::floored_row, cf_linear::proofs::PartLemmas::part_below))]
 fn tighten_by(
     alloc: Global,
     unknown: &Unknowns,
@@ -307,7 +308,7 @@ fn rounded(alloc: Global, row: &Row, g: i128) -> Result<Tight, NoMemory>
 }
 
 // The unknowns, divided, and the new column, which holds the known part divided and rounded down.
-#[tactic(auto, using(cf_parts::proofs::ColumnLemmas::floored_is, cf_parts::proofs::ColumnLemmas::divided_low))]
+#[tactic(auto, using(cf_linear::proofs::PartColumns::floored_is, cf_linear::proofs::PartColumns::divided_low))]
 fn floored(alloc: Global, unknowns: &Row, known: Row, g: i128, next: u32) -> Result<Tight, NoMemory>
     requires below { AreBelow next unknowns.now }
     requires g_in { IsWithin g }

@@ -4,6 +4,7 @@ ghost use Rattle.std.specs.List.{list_any};
 ghost use Rattle.cf_linear.specs.Rows.{entry, without};
 ghost use Rattle.cf_linear.specs.Steps.{free_of, pair_row, pair_passes, pairs_of, how_between, dropped, drop_passes};
 ghost use Rattle.cf_linear.specs.Keep.{In, Formed};
+ghost use Rattle.cf_linear.specs.Sides.{is_lower};
 ghost use Rattle.cf_linear.specs.Solved.{Owes};
 ghost use Rattle.cf_linear.specs.Views.{system_of, how_of};
 ghost use Rattle.cf_bounds.specs.Exact.{IsFree, AreExact};
@@ -11,13 +12,9 @@ ghost use Rattle.cf_bounds.specs.Sides.{side};
 ghost use Rattle.cf_bounds.specs.Dropping.{dropped_answer, bound_pair, pairs_pass, with_rows};
 
 use crate::lists::{add_copy, add_row, split_system};
-use crate::selection::is_side;
-use cf_linear::refusal::RowFault;
-use cf_linear::row::Row;
-use cf_linear::system::{Back, Divided, How, System};
+use cf_linear::{Back, Divided, How, Row, RowFault, Side, System, others};
 use cf_num::neg;
-use cf_parts::others;
-use cf_tree::memory::NoMemory;
+use cf_tree::NoMemory;
 use std::alloc::Global;
 
 /// The system without the unknown, and how that is computed.
@@ -51,8 +48,8 @@ fn dropped_system(alloc: Global, system: System, unknown: u32) -> Result<Dropped
     ensures past { result ≡ Err RowFault.Past → drop_passes (system_of system) unknown ≡ true }
 {
     let (rest, rows) = split_system(alloc, system);
-    let low = side(alloc, &rows, unknown, true)?;
-    let high = side(alloc, &rows, unknown, false)?;
+    let low = side(alloc, &rows, unknown, Side::Lower)?;
+    let high = side(alloc, &rows, unknown, Side::Upper)?;
     match left_rows(alloc, rows, unknown, &low, &high) {
         Ok(rows) => Ok(with_left(alloc, rest, unknown, &low, &high, rows)?),
         Err(fault) => Err(fault),
@@ -100,12 +97,12 @@ fn with_rows(
 }
 
 // The bounds of the unknown on the side.
-fn side(alloc: Global, rows: &[Row], unknown: u32, lower: bool) -> Result<Vec<Row>, NoMemory>
-    ensures { IfOk result (λ s. s.items ≡ side lower unknown rows.now) }
+fn side(alloc: Global, rows: &[Row], unknown: u32, of: Side) -> Result<Vec<Row>, NoMemory>
+    ensures { IfOk result (λ s. s.items ≡ side (is_lower of) unknown rows.now) }
 {
     let mut out = Vec::new(alloc);
     for row in rows {
-        add_copy(alloc, &mut out, row, is_side(lower, row.entry(unknown)))?;
+        add_copy(alloc, &mut out, row, of.has(row.entry(unknown)))?;
     }
     Ok(out)
 }

@@ -3,9 +3,8 @@ ghost use Rattle.std.specs.Prelude.{◌≡◌, ◌++◌, ◌∷◌, [], if◌the
 ghost use Rattle.cf_linear.specs.Views.{system_of};
 ghost use Rattle.cf_bounds.specs.Dropping.{without_inequalities};
 
-use cf_linear::row::Row;
-use cf_linear::system::System;
-use cf_tree::memory::NoMemory;
+use cf_linear::{Row, System};
+use cf_tree::NoMemory;
 use std::alloc::Global;
 
 // The first columns and then the second.

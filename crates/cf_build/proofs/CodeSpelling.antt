@@ -8,9 +8,9 @@ use Rattle.cf_tree.specs.declared.raw.BinOp.TheVariants.{Add, Sub, Mul, And, Or,
 use Rattle.cf_tree.specs.CodeTree.{CodeTree, CodeTrees, no_codes, code_more, code_depth, codes_depth}
 use Rattle.cf_tree.specs.ExprTree.{ExprTree, expr_lit, expr_truth, expr_var, expr_set_of, expr_tuple, expr_neg, expr_not, expr_abs, expr_binary, expr_divides, expr_div, expr_mod, expr_card, expr_if, expr_call, expr_let, expr_choose, expr_match, ExprTrees, no_exprs, expr_more}
 use Rattle.cf_tree.specs.Spelled.{IsSpelled, AreSpelled}
-use Rattle.cf_program.specs.Names.{bases_of, names_of}
+use Rattle.cf_tree.specs.Params.{bases_of, names_of}
 use Rattle.cf_program.specs.Size.{depth_in, depth_all}
-use Rattle.cf_program.specs.TypedProgram.{ExprHasBases, AllHave, PartsHave}
+use Rattle.cf_program.proofs.PlainTypes.{ExprHasBases, AllHave, PartsHave}
 use Rattle.cf_program.specs.Walk.{side_of}
 use Rattle.cf_build.specs.Codes.{binary_code, call_code, code_of, codes_of_all}
 use Rattle.cf_build.specs.Questions.{Question, questions, questions_all}

@@ -7,8 +7,8 @@ use Rattle.cf_tree.specs.CodeTree.{CodeTree}
 use Rattle.cf_tree.specs.ExprTree.{ExprTree, expr_lit, expr_truth, expr_var, expr_set_of, expr_tuple, expr_neg, expr_not, expr_abs, expr_binary, expr_divides, expr_div, expr_mod, expr_card, expr_if, expr_call, expr_let, expr_choose, expr_match, ExprTrees, no_exprs, expr_more}
 use Rattle.cf_tree.specs.Meaning.{path}
 use Rattle.cf_tree.specs.Values.{Value, Outcome, HaveBases}
-use Rattle.cf_program.specs.Names.{bases_of, names_of}
-use Rattle.cf_program.specs.TypedProgram.{ExprHasBases, AllHave, PartsHave}
+use Rattle.cf_tree.specs.Params.{bases_of, names_of}
+use Rattle.cf_program.proofs.PlainTypes.{ExprHasBases, AllHave, PartsHave}
 use Rattle.cf_program.specs.Walk.{side_of}
 use Rattle.cf_growth.specs.Overflowing.{IsFineIn, AreFineIn}
 use Rattle.cf_growth.proofs.FineLaws.{chooses_are_fine}

@@ -1,4 +1,4 @@
-pub mod Building
+pub mod BuiltLaws
 pub mod CallExamples
 pub mod CalledCodes
 pub mod ChooseLists
@@ -27,3 +27,4 @@ pub mod ShiftedTwice
 pub mod ShiftedTyping
 pub mod SolveLists
 pub mod Values
+pub mod PassLists

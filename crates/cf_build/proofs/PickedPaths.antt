@@ -19,8 +19,8 @@ use Rattle.cf_tree.specs.Sets.{set_of, set_put}
 use Rattle.cf_tree.specs.Values.{Value, number, truth, elements, Outcome, values, no_solution, number_of, value_at, first_of, HaveBases}
 use Rattle.cf_linear.proofs.BoolLemmas.{on_bool}
 use Rattle.cf_choose.proofs.ArmBuilderLemmas.{length_have}
-use Rattle.cf_program.specs.Names.{bases_of, names_of}
-use Rattle.cf_program.specs.TypedProgram.{ExprHasBases, AllHave, PartsHave}
+use Rattle.cf_tree.specs.Params.{bases_of, names_of}
+use Rattle.cf_program.proofs.PlainTypes.{ExprHasBases, AllHave, PartsHave}
 use Rattle.cf_program.specs.Walk.{side_of}
 use Rattle.cf_growth.specs.Meeting.{AreSmall}
 use Rattle.cf_growth.specs.Overflowing.{then_picked, ordinary, picked_right, picked_in, picked_all}

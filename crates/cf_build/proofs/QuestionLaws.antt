@@ -12,7 +12,7 @@ use Rattle.cf_tree.specs.ExprTree.{ExprTree, expr_lit, expr_truth, expr_var, exp
 use Rattle.cf_tree.specs.RelTree.{rel_false}
 use Rattle.cf_linear.specs.declared.refusal.Refusal.{Refusal}
 use Rattle.cf_program.specs.Lowered.{divisor, test_by, test, with_variables, any_test, any_fits, unless_last, lowered, all_lowered, picked}
-use Rattle.cf_program.specs.Names.{bases_of, names_of}
+use Rattle.cf_tree.specs.Params.{bases_of, names_of}
 use Rattle.cf_program.specs.TypedProgram.{arm_numbers, numbers, numbers_all, numbers_arms, all_numbers}
 use Rattle.cf_build.specs.Questions.{Question, questions, questions_all, all_questions, limit_of, IsFirstRefused}
 

@@ -4,7 +4,7 @@ use Rattle.std.proofs.lemmas.List.Elements.{Contains-append_left, Contains-appen
 use Rattle.cf_tree.specs.CodeTree.{CodeTree, code_set_of, code_tuple, code_neg, code_not, code_div, code_mod, code_divides, code_card}
 use Rattle.cf_tree.specs.DefView.{DefTree}
 use Rattle.cf_tree.specs.ExprTree.{ExprTree, expr_lit, expr_truth, expr_var, expr_set_of, expr_tuple, expr_neg, expr_not, expr_abs, expr_binary, expr_divides, expr_div, expr_mod, expr_card, expr_if, expr_call, expr_let, expr_choose, expr_match, ExprTrees, no_exprs, expr_more}
-use Rattle.cf_program.specs.Names.{bases_of, names_of}
+use Rattle.cf_tree.specs.Params.{bases_of, names_of}
 use Rattle.cf_build.specs.Codes.{absolute_code, call_code, code_of, codes_of_all, called, codes_behind}
 use Rattle.cf_build.specs.Questions.{Question, questions, questions_all}
 use Rattle.cf_build.specs.Shifted.{shifted}

@@ -10,7 +10,7 @@ use Rattle.cf_tree.specs.RelView.{rel_tree}
 use Rattle.cf_linear.specs.Chooses.{arms}
 use Rattle.cf_build.specs.declared.choose_codes.ChooseCode.{ChooseCode}
 use Rattle.cf_build.specs.declared.solves.SolvedChoose.{SolvedChoose}
-use Rattle.cf_program.specs.Names.{bases_of, names_of}
+use Rattle.cf_tree.specs.Params.{bases_of, names_of}
 use Rattle.cf_build.specs.Questions.{Question}
 use Rattle.cf_build.specs.Shifted.{shifted, all_shifted}
 

@@ -5,3 +5,4 @@ pub mod Questions
 pub mod Runs
 pub mod Shifted
 pub mod Solves
+pub mod Rewritten

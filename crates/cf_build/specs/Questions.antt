@@ -6,7 +6,7 @@ use Rattle.cf_tree.specs.CodeTree.{CodeTree, ArmTrees, code_solve, arms_of}
 use Rattle.cf_tree.specs.ExprTree.{ExprTree, expr_lit, expr_truth, expr_var, expr_set_of, expr_tuple, expr_neg, expr_not, expr_abs, expr_binary, expr_divides, expr_div, expr_mod, expr_card, expr_if, expr_call, expr_let, expr_choose, expr_match, ExprTrees, no_exprs, expr_more, match_arm, MatchArmTrees, no_match_arms, match_arm_more}
 use Rattle.cf_tree.specs.RelTree.{RelTree}
 use Rattle.cf_program.specs.Lowered.{lowered}
-use Rattle.cf_program.specs.Names.{bases_of, names_of}
+use Rattle.cf_tree.specs.Params.{bases_of, names_of}
 use Rattle.cf_linear.specs.declared.refusal.Refusal.{Refusal}
 use Rattle.cf_linear.specs.Chooses.{arms, limit}
 

@@ -6,8 +6,7 @@ ghost use Rattle.cf_tree.specs.CodeView.{code_tree};
 ghost use Rattle.cf_build.specs.Codes.{choose_code, numbered, or_nothing, solve_code};
 
 use crate::solves::SolvedChoose;
-use cf_tree::code::Code;
-use cf_tree::memory::NoMemory;
+use cf_tree::{Code, NoMemory};
 use std::alloc::Global;
 
 // The `solve` of a choose, and its number.

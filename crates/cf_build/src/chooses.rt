@@ -5,17 +5,13 @@ ghost use Rattle.cf_tree.specs.ExprTree.{expr_choose};
 ghost use Rattle.cf_tree.specs.ExprView.{expr_tree, expr_trees};
 ghost use Rattle.cf_tree.specs.RelView.{rel_tree};
 ghost use Rattle.cf_program.specs.NoMatch.{HasNoMatch, HaveNoMatch};
-ghost use Rattle.cf_program.specs.Names.{bases_of, names_of};
+ghost use Rattle.cf_tree.specs.Params.{bases_of, names_of};
 ghost use Rattle.cf_build.specs.Questions.{questions, questions_all, all_questions, by_number};
 ghost use Rattle.cf_build.specs.Solves.{question_of, questions_of, IsAsked, IsRising};
 ghost use Rattle.std.specs.List.Sorted.{IsNonDecreasingBy, IsPermutation};
 
-use cf_program::typed::Typed;
-use cf_tree::base::{Base, Text};
-use cf_tree::expr::{Def, Expr};
-use cf_tree::memory::NoMemory;
-use cf_tree::raw::Param;
-use cf_tree::rel::Rel;
+use cf_program::Typed;
+use cf_tree::{Base, Def, Expr, NoMemory, Param, Rel, Text, bases};
 use std::alloc::Global;
 
 /// A choose: its number, the names of the variables in scope, their bases and those of the outputs,
@@ -173,15 +169,4 @@ fn names(alloc: Global, params: &[Param]) -> Result<Vec<Text>, NoMemory>
         names.push(param.name.try_copy(alloc)?)?;
     }
     Ok(names)
-}
-
-// The bases of parameters.
-pub(crate) fn bases(alloc: Global, params: &[Param]) -> Result<Vec<Base>, NoMemory>
-    ensures { IfOk result (λ bases. bases.items ≡ bases_of params.now) }
-{
-    let mut bases = Vec::new(alloc);
-    for param in params {
-        bases.push(param.base)?;
-    }
-    Ok(bases)
 }

@@ -9,11 +9,8 @@ ghost use Rattle.cf_build.specs.Codes.{two, over_list, over_one, binary_code, jo
 ghost use Rattle.cf_build.specs.Shifted.{shifted, HasLevels, HaveLevels, IsLevelled, AreLevelled};
 
 use crate::choose_codes::ChooseCodes;
-use crate::shift::{first_level, level_sum, shift};
-use cf_tree::code::Code;
-use cf_tree::expr::{Def, Expr};
-use cf_tree::memory::NoMemory;
-use cf_tree::raw::BinOp;
+use crate::shift::{first_level, shift};
+use cf_tree::{BinOp, Code, Def, Expr, NoMemory, add_u32, to_u32};
 use std::alloc::Global;
 
 // What the expressions of a function stand among: the functions before it, the codes of all
@@ -54,7 +51,7 @@ fn code(around: &Around, expr: &Expr, n: u32) -> Result<Code, NoMemory>
     match expr {
         Expr::Lit(k) => Ok(Code::Lit(*k)),
         Expr::Truth(t) => Ok(Code::Truth(*t)),
-        Expr::Var(x) => Ok(Code::Var(level_sum(around.by, *x)?)),
+        Expr::Var(x) => Ok(Code::Var(add_u32(around.by, *x)?)),
         Expr::SetOf(parts) | Expr::Tuple(parts) => {
             let parts = all(around, parts, n)?;
             Ok(over_list(expr, parts))
@@ -69,7 +66,7 @@ fn code(around: &Around, expr: &Expr, n: u32) -> Result<Code, NoMemory>
             Ok(over_one(expr, part))
         }
         Expr::Abs(a) => {
-            let first = level_sum(around.by, n)?;
+            let first = add_u32(around.by, n)?;
             Ok(Code::Let {
                 first,
                 count: 1,
@@ -90,7 +87,7 @@ fn code(around: &Around, expr: &Expr, n: u32) -> Result<Code, NoMemory>
         }),
         Expr::Call { def, args } => call(
             around.alloc,
-            level_sum(around.by, n)?,
+            add_u32(around.by, n)?,
             all(around, args, n)?,
             callee(around, *def, n)?,
         ),
@@ -98,7 +95,7 @@ fn code(around: &Around, expr: &Expr, n: u32) -> Result<Code, NoMemory>
             first: first_level(around.by, n, *count)?,
             count: *count,
             value: boxed(around, value, n)?,
-            body: boxed(around, body, level_sum(n, *count)?)?,
+            body: boxed(around, body, add_u32(n, *count)?)?,
         }),
         Expr::Choose { number, .. } => {
             solve_numbered(around.alloc, around.solves, *number, around.by)
@@ -140,7 +137,7 @@ fn callee(around: &Around, number: u32, n: u32) -> Result<Code, NoMemory>
                 alloc: around.alloc,
                 before: &around.before[..number as usize],
                 solves: around.solves,
-                by: level_sum(around.by, n)?,
+                by: add_u32(around.by, n)?,
             };
             code(&inside, &def.body, arity(def)?)
         }
@@ -148,14 +145,11 @@ fn callee(around: &Around, number: u32, n: u32) -> Result<Code, NoMemory>
     }
 }
 
-// How many parameters the function has.
+// How many parameters a function has.
 fn arity(def: &Def) -> Result<u32, NoMemory>
     ensures { IfOk result (λ n. n ≡ length def.now.params.items) }
 {
-    match u32::try_from(def.params.len()) {
-        Ok(n) => Ok(n),
-        Err(_) => Err(NoMemory),
-    }
+    to_u32(def.params.len())
 }
 
 // The code of a set of these codes, or of a tuple.
@@ -255,7 +249,7 @@ fn count_of(args: &[Code], n: u32) -> Result<u32, NoMemory>
     let Ok(count) = u32::try_from(args.len()) else {
         return Err(NoMemory);
     };
-    level_sum(n, count)?;
+    add_u32(n, count)?;
     Ok(count)
 }
 

@@ -1,6 +1,6 @@
 //! Why a program is not built.
-use cf_linear::refusal::Refusal;
-use cf_tree::memory::NoMemory;
+use cf_linear::Refusal;
+use cf_tree::NoMemory;
 use std::alloc::{AllocError, AllocFailed};
 
 /// Why a program is not built.

@@ -1,15 +1,21 @@
 //! Whole programs: main's body with its calls unfolded and each choose replaced by its solved code.
 #![tactic(auto)]
 
-pub mod build;
+mod building;
 mod choose_codes;
-pub mod chooses;
+mod chooses;
 mod codes;
-pub mod fault;
+mod fault;
+mod rewrite;
 mod shift;
-pub mod solves;
+mod solves;
 
 ghost use Rattle.cf_build.specs.Lowering.{LoweringKeepsQuestions, LoweringKeepsAnswers};
+
+pub use crate::building::build;
+pub use crate::chooses::{Choose, numbered};
+pub use crate::fault::BuildFault;
+pub use crate::solves::{SolvedChoose, solve_all};
 
 /// What is built for a program without its matches, each as the chooses that it stands for, is
 /// built for the program.

@@ -3,19 +3,8 @@ ghost use Rattle.std.specs.Prelude.{◌≡◌, ◌+◌, ◌<◌, ◌^◌, IfOk};
 ghost use Rattle.cf_tree.specs.CodeView.{code_tree, item_tree, arm_tree, code_trees, item_trees, arm_trees};
 ghost use Rattle.cf_build.specs.Shifted.{shifted, all_shifted, item_shifted, items_shifted, arm_shifted, arms_shifted, HasLevels, HaveLevels, IsLevelled, AreLevelled, ItemIsLevelled, ItemsAreLevelled, ArmIsLevelled, ArmsAreLevelled};
 
-use cf_tree::code::{Arm, Code, Item};
-use cf_tree::memory::NoMemory;
+use cf_tree::{Arm, Code, Item, NoMemory, add_u32};
 use std::alloc::Global;
-
-// The sum of two levels. More variables than 32 bits count are want of memory.
-pub(crate) fn level_sum(a: u32, b: u32) -> Result<u32, NoMemory>
-    ensures { IfOk result (λ n. n ≡ a + b) }
-{
-    match a.checked_add(b) {
-        Some(n) => Ok(n),
-        None => Err(NoMemory),
-    }
-}
 
 // A copy of the code behind `by` more variables.
 #[cycle(shift)]
@@ -25,7 +14,7 @@ pub(crate) fn shift(alloc: Global, code: &Code, by: u32) -> Result<Code, NoMemor
     match code {
         Code::Lit(k) => Ok(Code::Lit(*k)),
         Code::Truth(t) => Ok(Code::Truth(*t)),
-        Code::Var(x) => Ok(Code::Var(level_sum(by, *x)?)),
+        Code::Var(x) => Ok(Code::Var(add_u32(by, *x)?)),
         Code::SetOf(parts)
         | Code::Tuple(parts)
         | Code::Sum(parts)
@@ -104,8 +93,8 @@ pub(crate) fn shift(alloc: Global, code: &Code, by: u32) -> Result<Code, NoMemor
 pub(crate) fn first_level(by: u32, first: u32, count: u32) -> Result<u32, NoMemory>
     ensures { IfOk result (λ n. (n ≡ by + first) × (n + count < 2 ^ 32)) }
 {
-    let n = level_sum(by, first)?;
-    level_sum(n, count)?;
+    let n = add_u32(by, first)?;
+    add_u32(n, count)?;
     Ok(n)
 }
 

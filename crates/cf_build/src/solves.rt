@@ -11,12 +11,9 @@ ghost use Rattle.cf_build.specs.Solves.{question_of, IsAsked, IsRising, AreSolve
 
 use crate::chooses::{Choose, numbered};
 use crate::fault::BuildFault;
-use cf_choose::fault::ChooseFault;
-use cf_choose::solve::solve;
-use cf_choose::solved::Solved;
-use cf_program::typed::Typed;
-use cf_tree::base::Text;
-use cf_tree::memory::{NoMemory, without};
+use cf_choose::{ChooseFault, Solved, solve};
+use cf_program::Typed;
+use cf_tree::{NoMemory, Text, without};
 use std::alloc::Global;
 
 /// A solved choose of a program: its number, the names of the variables in scope by level, and its

@@ -19,3 +19,6 @@ pub mod LessLaws
 pub mod SystemBuilderLaws
 pub mod MovedRows
 pub mod HeldLaws
+pub mod FirstSystemLaws
+mod LimitExamples
+pub mod WholeCases

@@ -3,7 +3,7 @@ use Rattle.std.specs.Prelude.{ℕ, ◌+◌, ◌-◌, ◌*◌, ◌^◌, min, Bool
 use Rattle.cf_tree.specs.declared.base.Order.{Order}
 use Rattle.cf_tree.specs.declared.base.Order.TheVariants.{Eq, Ne, Lt, Le, Gt, Ge}
 use Rattle.cf_linear.specs.Cases.{opposite, Normal, normal_atom, normal_and, normal_or, case_count}
-use Rattle.cf_cases.specs.declared.count.Counts.{Counts, One, Two'}
+use Rattle.cf_cases.specs.declared.counting.Counts.{Counts, One, Two'}
 
 -- at most 2 ^ 128 - 1
 abbrev pub wide : ℕ → ℕ

@@ -3,3 +3,4 @@ pub mod SystemBuilders
 pub mod Holding
 pub mod Laws
 pub mod Picking
+pub mod FirstSystems

@@ -12,14 +12,11 @@ ghost use Rattle.cf_cases.specs.Holding.{EachOf};
 ghost use Rattle.cf_cases.specs.Picking.{case_by};
 ghost use Rattle.cf_cases.specs.SystemBuilders.{rows_of, with_rows, with_case, with_comparison, false_rows, BuilderAnswer, IsFine};
 
-use crate::count::order_ways;
+use crate::counting::order_ways;
 use crate::signs::{abs_count, signs_of, signs_of_two, way_of};
 use crate::system_builder::{SystemBuilder, add_divided, add_false, add_written};
-use cf_linear::refusal::RowFault;
-use cf_linear::system::Layout;
-use cf_linear::written::{Written, row_of};
-use cf_tree::base::Order;
-use cf_tree::rel::Term;
+use cf_linear::{Layout, RowFault, Written, row_of};
+use cf_tree::{Order, Term};
 
 // Adds the rows of the case with this index of a comparison.
 pub(crate) fn add_compare(

@@ -12,14 +12,11 @@ ghost use Rattle.cf_cases.specs.Counts.{count_tree, left_in, right_in, counts_of
 ghost use Rattle.cf_cases.specs.SystemBuilders.{rows_of, with_case, BuilderAnswer, system_with, first_system, rel_quotients};
 
 use crate::atom::{add_compare, add_constant, add_divides};
-use crate::count::{CountedRel, Counts, order_as};
+use crate::counting::{CountedRel, Counts, order_as};
 use crate::regions::{Regions, add_apart, add_counts, add_inputs};
 use crate::system_builder::SystemBuilder;
-use cf_linear::columns::{first_free, known_count};
-use cf_linear::refusal::RowFault;
-use cf_linear::system::{Layout, System};
-use cf_tree::memory::NoMemory;
-use cf_tree::rel::Rel;
+use cf_linear::{Layout, RowFault, System, first_free, known_count};
+use cf_tree::{NoMemory, Rel};
 use std::alloc::Global;
 
 /// The first system of the case with this index of the relation. Past exactly where a row of the

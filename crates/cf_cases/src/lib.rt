@@ -2,9 +2,13 @@
 #![tactic(auto)]
 
 mod atom;
-pub mod case;
-pub mod count;
+mod case;
+mod counting;
+mod first_systems;
 pub mod laws;
 mod regions;
 mod signs;
 mod system_builder;
+
+pub use crate::counting::count;
+pub use crate::first_systems::{LEVEL_LIMIT, systems};

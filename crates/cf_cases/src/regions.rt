@@ -10,12 +10,8 @@ ghost use Rattle.cf_linear.specs.Cases.{input_row};
 ghost use Rattle.cf_cases.specs.SystemBuilders.{rows_of, region_rows, apart, apart_form, entries_if, BuilderAnswer};
 
 use crate::system_builder::{SystemBuilder, add_columns, add_positive};
-use cf_linear::columns::region_row;
-use cf_linear::refusal::RowFault;
-use cf_linear::row::Row;
-use cf_linear::system::Layout;
-use cf_tree::memory::NoMemory;
-use cf_tree::rel::SetTerm;
+use cf_linear::{Layout, Row, RowFault, region_row};
+use cf_tree::{NoMemory, SetTerm};
 use std::alloc::Global;
 
 // The regions that tell two set forms apart: those in exactly one of them, or those in the first and

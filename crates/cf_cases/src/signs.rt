@@ -4,9 +4,7 @@ ghost use Rattle.cf_tree.specs.RelView.{term_tree};
 ghost use Rattle.cf_linear.specs.Written.{abs_count};
 ghost use Rattle.cf_cases.specs.Picking.{signs_at, way_at};
 
-use cf_tree::base::Order;
-use cf_tree::memory::NoMemory;
-use cf_tree::rel::Term;
+use cf_tree::{NoMemory, Order, Term};
 use std::alloc::Global;
 
 // The order that stands for this one in the case with this index.

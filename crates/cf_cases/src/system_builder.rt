@@ -8,11 +8,8 @@ ghost use Rattle.cf_linear.specs.Cases.{less};
 ghost use Rattle.cf_cases.specs.Holding.{EachOf};
 ghost use Rattle.cf_cases.specs.SystemBuilders.{rows_of, rows_more, with_rows, with_guards, with_comparison, divided, column_rows, written_as, BuilderAnswer, IsFine, NotPast};
 
-use cf_linear::refusal::RowFault;
-use cf_linear::row::Row;
-use cf_linear::written::{Guard, Written, above_quotient, below_quotient, plus, subtracted};
-use cf_tree::base::Order;
-use cf_tree::memory::NoMemory;
+use cf_linear::{Guard, Row, RowFault, Written, above_quotient, below_quotient, plus, subtracted};
+use cf_tree::{NoMemory, Order};
 use std::alloc::Global;
 
 // The rows of the atoms that are written so far, and the next free column; further rows take memory

@@ -25,7 +25,7 @@ use Rattle.cf_equation.proofs.MergeLaws.{mix_formed, mix_differs}
 use Rattle.cf_equation.proofs.StepLaws.{In-present, last_differs}
 use Rattle.cf_bounds.specs.Exact.{IsFree, IsExact, AreExact}
 use Rattle.cf_bounds.proofs.BoundLemmas.{searched_step}
-use Rattle.cf_parts.proofs.SideLemmas.{positive_so, negative_so}
+use Rattle.cf_linear.proofs.SideLemmas.{positive_so, negative_so}
 use Rattle.cf_bounds.proofs.FormedAgain.{dropped_formed}
 use Rattle.cf_bounds.proofs.OwesLemmas.{clean_step, dropped_step}
 use Rattle.cf_bounds.proofs.SearchFormed.{searched_formed}

@@ -19,7 +19,7 @@ use Rattle.cf_choose.specs.ArmBuilders.{answer_of}
 use Rattle.cf_choose.specs.Eliminations.{CanBegin}
 use Rattle.cf_choose.proofs.DoneLemmas.{rest_of, rest_more}
 use Rattle.cf_choose.proofs.MadeArms.{arm_same}
-use Rattle.cf_systems.proofs.SystemLaws.{pow_small}
+use Rattle.cf_cases.proofs.FirstSystemLaws.{pow_small}
 use Rattle.cf_steps.specs.declared.act.Act.{Act}
 use Rattle.cf_cert.specs.declared.follow.CaseFault.{CaseFault}
 use Rattle.cf_cert.specs.declared.follow.CaseFault.TheVariants.{Rejected, NoMemory}

@@ -25,12 +25,12 @@ use Rattle.cf_elim.proofs.StageSmall.{RowsSmall}
 use Rattle.cf_venn.specs.Columns.{known_values, outputs_from}
 use Rattle.cf_venn.specs.Laws.{AreOutputs}
 use Rattle.cf_venn.proofs.SolvingLaws.{solved_by_counts}
-use Rattle.cf_choose.specs.CaseArms.{IsArmOf}
+use Rattle.cf_choose.proofs.ArmFacts.{IsArmOf}
 use Rattle.cf_choose.proofs.ArmLemmas.{solved_arm}
 use Rattle.cf_choose.proofs.CaseLemmas.{few_sets}
 use Rattle.cf_choose.proofs.ChooseLevels.{IsFirst, each_first, are_outputs}
 use Rattle.cf_choose.proofs.FirstRows.{firsts_small}
-use Rattle.cf_systems.proofs.SystemLaws.{IsBegun, first_systems_begun}
+use Rattle.cf_cases.proofs.FirstSystemLaws.{IsBegun, first_systems_begun}
 use Rattle.cf_steps.specs.declared.act.Act.{Act}
 use Rattle.cf_steps.specs.Blocks.{BlockTree}
 use Rattle.cf_cert.specs.Certifying.{QuestionTree, layout, eliminated, AreEliminated, target_with, Certifies}

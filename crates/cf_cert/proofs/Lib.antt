@@ -11,3 +11,6 @@ pub mod ApplyExamples
 pub mod CertificateExamples
 pub mod JudgeLaws
 pub mod VerdictLaws
+pub mod MarkLaws
+mod PutLaws
+mod LimitExamples

@@ -5,3 +5,4 @@ pub mod Following
 pub mod Judging
 pub mod Laws
 pub mod Verifying
+pub mod Marks

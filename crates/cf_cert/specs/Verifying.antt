@@ -17,7 +17,7 @@ use Rattle.cf_linear.specs.Systems.{System, Answer}
 use Rattle.cf_cases.specs.Holding.{EachOf}
 use Rattle.cf_choose.specs.declared.fault.ChooseFault.{ChooseFault}
 use Rattle.cf_choose.specs.declared.fault.ChooseFault.TheVariants.{Refused as ChooseRefused, NoMemory as ChooseNoMemory}
-use Rattle.cf_systems.specs.declared.systems.TheConstants.{LEVEL_LIMIT}
+use Rattle.cf_cases.specs.declared.first_systems.TheConstants.{LEVEL_LIMIT}
 use Rattle.cf_choose.specs.Eliminations.{case_refusal}
 use Rattle.cf_steps.specs.declared.act.Act.{Act}
 use Rattle.cf_steps.specs.Blocks.{BlockTree, block_acts}

@@ -11,9 +11,8 @@ use crate::cleaning::clean_rows;
 use crate::ending::end_equation;
 use crate::mixing::mix_unknowns;
 use crate::next::{ApplyFault, Next};
-use cf_linear::system::System;
-use cf_parts::MergeFactors;
-use cf_steps::act::Act;
+use cf_linear::{MergeFactors, System};
+use cf_steps::Act;
 use std::alloc::Global;
 
 /// The step on the system, where the searches before it have so many tuples. The system's rows have forms

@@ -15,13 +15,12 @@ ghost use Rattle.cf_cert.specs.declared.follow.TheConstants.{MOST_STEPS};
 
 use crate::fault::JudgeFault;
 use crate::follow::{CaseFault, eliminated};
-use cf_choose::arm::arm;
-use cf_elim::output::StepOutput;
-use cf_linear::system::{Layout, System};
-use cf_steps::act::Act;
-use cf_systems::systems::LEVEL_LIMIT;
-use cf_tree::code::Arm;
-use cf_tree::memory::NoMemory;
+use cf_cases::LEVEL_LIMIT;
+use cf_choose::arm;
+use cf_elim::StepOutput;
+use cf_linear::{Layout, System};
+use cf_steps::Act;
+use cf_tree::{Arm, NoMemory};
 use std::alloc::Global;
 
 // The arms of the cases with these first systems, one list of steps for each.

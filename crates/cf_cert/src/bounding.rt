@@ -7,7 +7,8 @@ ghost use Rattle.cf_linear.specs.Steps.{has_column};
 ghost use Rattle.cf_linear.specs.Views.{system_of, bound_of};
 ghost use Rattle.cf_bounds.specs.Dropping.{dropped_answer};
 ghost use Rattle.cf_bounds.specs.Searching.{searched_answer};
-ghost use Rattle.cf_bounds.specs.Sides.{is_side, is_great};
+ghost use Rattle.cf_linear.specs.Sides.{is_side};
+ghost use Rattle.cf_bounds.specs.Sides.{is_great};
 ghost use Rattle.cf_elim.specs.Stages.{IsReady};
 ghost use Rattle.cf_cert.specs.Applying.{has_inexact, search_applied, drop_applied, search_kept};
 ghost use Rattle.cf_cert.specs.Stepping.{ApplyIs, unheld_fault};
@@ -15,11 +16,8 @@ ghost use Rattle.cf_cert.specs.Stepping.{ApplyIs, unheld_fault};
 use crate::next::{ApplyFault, Next, refusal_of};
 use crate::verdict::Why;
 use cf_bounds::{Dropped, Pick, Searched, remainder_step};
-use cf_elim::bound::dropped_within;
-use cf_elim::output::StepOutput;
-use cf_linear::refusal::{LimitKind, MOST_TUPLES, Refusal};
-use cf_linear::row::Row;
-use cf_linear::system::{Search, System};
+use cf_elim::{StepOutput, dropped_within};
+use cf_linear::{LimitKind, MOST_TUPLES, Refusal, Row, Search, System};
 use std::alloc::Global;
 
 // The bounds of x on the side with a coefficient above 1 get search variables.

@@ -10,9 +10,8 @@ ghost use Rattle.std.specs.Prelude.{Ok};
 
 use crate::next::{ApplyFault, Next, refusal_of};
 use cf_bounds::{Cleaned, clean};
-use cf_elim::counts::within_counts;
-use cf_elim::output::StepOutput;
-use cf_linear::system::System;
+use cf_elim::{StepOutput, within_counts};
+use cf_linear::System;
 use std::alloc::Global;
 
 // Rows without unknowns become needs, and the inequalities are tightened.

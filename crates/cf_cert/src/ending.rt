@@ -9,14 +9,10 @@ ghost use Rattle.cf_cert.specs.Stepping.{ApplyIs, IsFront};
 
 use crate::next::{ApplyFault, Next, after_equation, refusal_of};
 use crate::verdict::Why;
-use cf_elim::counts::within;
-use cf_elim::equation::counts_after;
-use cf_equation::step::step_first;
-use cf_equation::unknowns::{Present, first_unknowns};
-use cf_linear::refusal::{Refusal, RowFault};
-use cf_linear::row::Row;
-use cf_linear::system::System;
-use cf_tree::memory::NoMemory;
+use cf_elim::{counts_after, within};
+use cf_equation::{Present, first_unknowns, step_first};
+use cf_linear::{Refusal, Row, RowFault, System};
+use cf_tree::NoMemory;
 use std::alloc::Global;
 
 // The equation of that number is solved for its one unknown.

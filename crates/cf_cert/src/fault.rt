@@ -3,7 +3,7 @@ ghost use Rattle.std.specs.Prelude.{◌≡◌};
 ghost use Rattle.cf_cert.specs.Verifying.{whole_refusal};
 
 use crate::verdict::Why;
-use cf_choose::fault::ChooseFault;
+use cf_choose::ChooseFault;
 use std::alloc::AllocFailed;
 
 // The first fault of a block, or want of memory. Case 0 with step 0 is the choose as a whole.

@@ -13,11 +13,10 @@ use crate::apply::apply;
 use crate::bounding::tuples_with;
 use crate::next::{ApplyFault, Next, refusal_of};
 use crate::verdict::Why;
-use cf_elim::counts::within_counts;
-use cf_elim::output::{RunOutput, StepOutput};
-use cf_linear::system::System;
-use cf_steps::act::Act;
-use cf_tree::memory::NoMemory;
+use cf_elim::{RunOutput, StepOutput, within_counts};
+use cf_linear::System;
+use cf_steps::Act;
+use cf_tree::NoMemory;
 use std::alloc::Global;
 
 /// A steps file has at most so many bytes, and so many steps.

@@ -10,19 +10,14 @@ ghost use Rattle.cf_cert.specs.Verifying.{question_tree, target_of, HasFewActs, 
 
 use crate::arms::arms;
 use crate::fault::{JudgeFault, whole, whole_refusal};
+use crate::marks::is_solve;
 use crate::question::Question;
 use crate::verdict::Why;
-use cf_choose::levels::layout;
-use cf_choose::solve::counts;
-use cf_linear::refusal::{Refusal, RowFault};
-use cf_linear::system::Layout;
-use cf_marks::is_solve;
-use cf_steps::block::Block;
-use cf_systems::systems::{LEVEL_LIMIT, systems};
-use cf_tree::base::Base;
-use cf_tree::code::Arm;
-use cf_tree::memory::NoMemory;
-use cf_tree::target::RawTarget;
+use cf_cases::{LEVEL_LIMIT, systems};
+use cf_choose::{counts, layout};
+use cf_linear::{Layout, Refusal, RowFault};
+use cf_steps::Block;
+use cf_tree::{Arm, Base, NoMemory, RawTarget};
 use std::alloc::Global;
 
 // Whether the block certifies the choose, or its first fault.

@@ -1,17 +1,22 @@
 //! Steps of an elimination, applied and checked.
 #![tactic(auto)]
 
-pub mod apply;
+mod apply;
 mod arms;
+mod blocks;
 mod bounding;
 mod cleaning;
 mod ending;
 mod fault;
-pub mod follow;
+mod follow;
 mod judge;
 pub mod laws;
+mod marks;
 mod mixing;
-pub mod next;
-pub mod question;
-pub mod verdict;
-pub mod verify;
+mod next;
+mod question;
+mod verdict;
+
+pub use crate::blocks::verify;
+pub use crate::question::Question;
+pub use crate::verdict::{Verdict, Why};

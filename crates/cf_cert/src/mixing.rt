@@ -2,18 +2,16 @@
 ghost use Rattle.std.specs.Prelude.{◌≡◌, ◌==◌, ◌&&◌, ◌||◌, not};
 ghost use Rattle.cf_linear.specs.Steps.{has_column, is_unit};
 ghost use Rattle.cf_linear.specs.Views.{system_of};
-ghost use Rattle.cf_parts.specs.Merging.{WithinFactors};
+ghost use Rattle.cf_linear.specs.Factors.{WithinFactors};
 ghost use Rattle.cf_cert.specs.Applying.{mix_applied, mix_kept};
 ghost use Rattle.cf_cert.specs.Stepping.{ApplyIs, DeterminantIs};
 
 use crate::bounding::is_unknown;
 use crate::next::{ApplyFault, Next, after_equation};
 use crate::verdict::Why;
-use cf_equation::merge::mix;
-use cf_linear::refusal::{Refusal, RowFault};
-use cf_linear::system::System;
+use cf_equation::mix;
+use cf_linear::{MergeFactors, Refusal, RowFault, System};
 use cf_num::{mul, sub};
-use cf_parts::MergeFactors;
 use std::alloc::Global;
 
 // The factors tell the unknowns x and y by the new ones, and have a determinant of 1 or -1.

@@ -6,10 +6,9 @@ ghost use Rattle.cf_elim.specs.Stages.{made_answer};
 ghost use Rattle.cf_cert.specs.Stepping.{fault_of};
 
 use crate::verdict::Why;
-use cf_elim::fault::ElimFault;
-use cf_elim::output::StepOutput;
-use cf_equation::step::Reduced;
-use cf_linear::system::System;
+use cf_elim::{ElimFault, StepOutput};
+use cf_equation::Reduced;
+use cf_linear::System;
 use std::alloc::Global;
 
 /// The system that a step leaves, and what the step makes.

@@ -1,6 +1,5 @@
 //! A choose whose block is checked.
-use cf_tree::base::Base;
-use cf_tree::rel::Rel;
+use cf_tree::{Base, Rel};
 
 /// The number of a choose, the bases of the variables in its scope, by level, and of its outputs, and
 /// its relation.

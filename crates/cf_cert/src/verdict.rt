@@ -1,5 +1,5 @@
 //! What a steps file is judged to be.
-use cf_linear::refusal::Refusal;
+use cf_linear::Refusal;
 
 /// Why a steps file is rejected.
 #[derive(Clone, Copy, Debug, PartialEq, Eq)]

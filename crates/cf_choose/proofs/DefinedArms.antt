@@ -30,7 +30,7 @@ use Rattle.cf_choose.specs.Solved.{HasArms}
 use Rattle.cf_choose.proofs.CaseLemmas.{IsArmed, armed_solve, armed_typed, armed_shallow, armed_spelled, few_sets, refused_by_count, refused_later}
 use Rattle.cf_choose.proofs.ChooseLevels.{are_outputs}
 use Rattle.cf_choose.proofs.FirstRows.{firsts_small}
-use Rattle.cf_systems.proofs.SystemLaws.{IsBegun, first_systems_begun, pow_small}
+use Rattle.cf_cases.proofs.FirstSystemLaws.{IsBegun, first_systems_begun, pow_small}
 
 -- ---- what has a spelling
 pairs_written : (bs : List (Row × ℤ)) → PairsSmall bs → PairsDivide bs → PairsWritten bs

@@ -16,10 +16,10 @@ use Rattle.cf_elim.specs.Cases.{IsSolvedCase}
 use Rattle.cf_elim.specs.Returning.{PairsDivide, HowDivides, BackDivides, StepDivides, StepsDivide}
 use Rattle.cf_choose.specs.CaseArms.{PairsWritten, HowWritten, BackWritten, StepWritten, StepsWritten}
 use Rattle.cf_choose.specs.Eliminations.{IsEliminated, HasRoom, made, first_of, IsArmFor}
-use Rattle.cf_codes.specs.Fitting.{PairsFit, HowFits}
+use Rattle.cf_choose.specs.Fitting.{PairsFit, HowFits}
 use Rattle.cf_choose.specs.ArmBuilders.{answer_of, BackFits, StepFits, StepsFit}
 use Rattle.cf_choose.proofs.MadeArms.{arm_same}
-use Rattle.cf_systems.proofs.SystemLaws.{pow_small}
+use Rattle.cf_cases.proofs.FirstSystemLaws.{pow_small}
 
 pairs_written : (bs : List (Row × ℤ)) → PairsFit bs → PairsDivide bs → PairsWritten bs
 pairs_written [] f d = tt

@@ -24,7 +24,7 @@ use Rattle.cf_cases.proofs.AgreeLaws.{first_systems-formed}
 use Rattle.cf_cases.proofs.FormedLaws.{Rises-region}
 use Rattle.cf_cases.proofs.Quantifiers.{each-append}
 use Rattle.cf_elim.proofs.StageSmall.{RowsSmall}
-use Rattle.cf_systems.proofs.SystemLaws.{case_passes, written_cases}
+use Rattle.cf_cases.proofs.FirstSystemLaws.{case_passes, written_cases}
 use Rattle.cf_choose.proofs.TurnedRows.{within_from_test, negated-within}
 
 -- ---- number forms

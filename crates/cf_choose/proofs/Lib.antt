@@ -20,3 +20,6 @@ pub mod StepLemmas
 pub mod TurnedRows
 pub mod FirstRows
 pub mod DefinedArms
+pub mod BoundLemmas
+pub mod OnceLevels
+pub mod ArmFacts

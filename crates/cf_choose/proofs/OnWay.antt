@@ -20,10 +20,10 @@ use Rattle.cf_linear.specs.Views.{system_of, plain_layout}
 use Rattle.cf_cases.specs.Holding.{EachOf}
 use Rattle.cf_cases.proofs.Quantifiers.{each-append}
 use Rattle.cf_elim.specs.declared.solved.CaseParts.{CaseParts}
-use Rattle.cf_codes.proofs.BoundLemmas.{map_more}
+use Rattle.cf_choose.proofs.BoundLemmas.{map_more}
 use Rattle.cf_choose.specs.declared.fault.ChooseFault.{ChooseFault}
 use Rattle.cf_choose.specs.declared.fault.ChooseFault.TheVariants.{Refused, NoMemory}
-use Rattle.cf_choose.specs.declared.solve.Eliminated.{Eliminated}
+use Rattle.cf_choose.specs.declared.solving.Eliminated.{Eliminated}
 use Rattle.cf_choose.specs.Eliminations.{CanBegin, IsCaseDone, CaseIs, EachCaseIs, CasesAre, CountIs, IsTraced, IsArmFor, AreArmsFor, IsFewSets, made}
 use Rattle.cf_choose.specs.Eliminations.{first_of, case_refusal}
 use Rattle.cf_choose.specs.ArmBuilders.{HasOutputs}

@@ -6,7 +6,7 @@ use Rattle.cf_linear.specs.Cases.{negation_normal, disjuncts, system_of_case, fi
 use Rattle.cf_linear.specs.Layout.{Layout}
 use Rattle.cf_linear.specs.Systems.{System}
 use Rattle.cf_cases.proofs.Quantifiers.{some-map}
-use Rattle.cf_systems.proofs.SystemLaws.{HasItem, some_case}
+use Rattle.cf_cases.proofs.FirstSystemLaws.{HasItem, some_case}
 use Rattle.cf_choose.specs.Solved.{HasArms}
 
 mapped : {A B : Type 0} (f : A → B) (xs : List A) → HasItem xs → HasItem (map f xs)

@@ -8,8 +8,8 @@ use Rattle.cf_linear.specs.declared.system.Back.{Back}
 use Rattle.cf_linear.specs.Arm.{how_code, ArmBuilder, let_named, step_item, back_item}
 use Rattle.cf_linear.specs.Systems.{Step, How}
 use Rattle.cf_linear.specs.Views.{step_of, back_of, how_of}
-use Rattle.cf_codes.specs.Fitting.{HowFits}
-use Rattle.cf_codes.proofs.BoundLemmas.{map_more}
+use Rattle.cf_choose.specs.Fitting.{HowFits}
+use Rattle.cf_choose.proofs.BoundLemmas.{map_more}
 use Rattle.cf_choose.specs.ArmBuilders.{SameBuilder, BackFits, StepFits, StepsFit}
 use Rattle.cf_choose.proofs.SameLemmas.{same_then, same_step, same_back}
 

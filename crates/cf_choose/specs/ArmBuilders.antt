@@ -11,7 +11,7 @@ use Rattle.cf_linear.specs.Systems.{System, Answer, Step, floor_of, need_nonneg,
 use Rattle.cf_linear.specs.Rows.{IsRow}
 use Rattle.cf_linear.specs.Views.{step_of, back_of, bound_of}
 use Rattle.cf_setwit.specs.Sources.{level_from}
-use Rattle.cf_codes.specs.Fitting.{Fits, HowFits}
+use Rattle.cf_choose.specs.Fitting.{Fits, HowFits}
 use Rattle.cf_choose.specs.declared.arm_builder.ArmBuilder.{ArmBuilder as DeclaredArmBuilder}
 
 -- the same levels of columns

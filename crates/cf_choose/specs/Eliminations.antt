@@ -11,20 +11,19 @@ use Rattle.cf_linear.specs.declared.refusal.Refusal.{Refusal}
 use Rattle.cf_linear.specs.declared.refusal.Refusal.TheVariants.{Past, Limit}
 use Rattle.cf_linear.specs.declared.system.Layout.{Layout as DeclaredLayout}
 use Rattle.cf_linear.specs.Systems.{System, Answer}
-use Rattle.cf_linear.specs.Keep.{Formed}
+use Rattle.cf_linear.specs.Keep.{Formed, Differ}
 use Rattle.cf_linear.specs.Solved.{Owes, SolvedBy}
 use Rattle.cf_linear.specs.Stages.{solved, refused, run, limits}
 use Rattle.cf_linear.specs.Layout.{Layout, set_count}
 use Rattle.cf_linear.specs.Cases.{negation_normal, first_systems, case_count, written_passes}
 use Rattle.cf_linear.specs.Chooses.{made_of, arm_of_case, choose_limits, first_refused}
 use Rattle.cf_linear.specs.Views.{system_of, step_of, bound_of}
-use Rattle.cf_systems.specs.declared.systems.TheConstants.{LEVEL_LIMIT}
+use Rattle.cf_cases.specs.declared.first_systems.TheConstants.{LEVEL_LIMIT}
 use Rattle.cf_choose.specs.declared.fault.ChooseFault.{ChooseFault}
 use Rattle.cf_choose.specs.declared.fault.ChooseFault.TheVariants.{Refused, NoMemory}
 use Rattle.cf_choose.specs.CaseArms.{IsWritable, HasFewLevels}
 use Rattle.cf_choose.specs.ArmBuilders.{HasOutputs}
 use Rattle.cf_cases.specs.Holding.{EachOf}
-use Rattle.cf_equation.specs.Equations.{Differ}
 use Rattle.cf_elim.specs.declared.solved.CaseParts.{CaseParts}
 use Rattle.cf_elim.specs.Returning.{ComesBack, BackDivides, StepsDivide}
 

@@ -5,3 +5,4 @@ pub mod Precondition
 pub mod Solved
 pub mod Solving
 pub mod Laws
+pub mod Fitting

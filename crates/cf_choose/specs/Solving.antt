@@ -6,7 +6,7 @@ use Rattle.cf_tree.specs.RelTree.{RelTree}
 use Rattle.cf_linear.specs.Cases.{negation_normal, first_systems, written_passes}
 use Rattle.cf_linear.specs.Layout.{layout_of}
 use Rattle.cf_linear.specs.Views.{plain_layout}
-use Rattle.cf_choose.specs.declared.solve.Eliminated.{Eliminated}
+use Rattle.cf_choose.specs.declared.solving.Eliminated.{Eliminated}
 use Rattle.cf_choose.specs.Eliminations.{case_refusal, first_of}
 use Rattle.cf_choose.specs.Solved.{IsOutput}
 

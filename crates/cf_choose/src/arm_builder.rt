@@ -8,14 +8,10 @@ ghost use Rattle.cf_linear.specs.Layout.{masks, set_count, first_free};
 ghost use Rattle.cf_linear.specs.Views.{plain_layout, step_of, back_of};
 ghost use Rattle.cf_choose.specs.ArmBuilders.{builder_of, let_alone, SameBuilder, StepFits, StepsFit, BackFits};
 
-use cf_codes::codes::{divides_code, how_code, need_code, quotient_code};
-use cf_linear::system::{Back, Layout, Step};
-use cf_setwit::names::ColumnLevels;
-use cf_setwit::pieces::fresh_code;
-use cf_setwit::regions::{region_code, size_code};
-use cf_tree::base::Order;
-use cf_tree::code::{Code, Item};
-use cf_tree::memory::NoMemory;
+use crate::codes::{divides_code, how_code, need_code, quotient_code};
+use cf_linear::{Back, Layout, Step};
+use cf_setwit::{ColumnLevels, fresh_code, region_code, size_code};
+use cf_tree::{Code, Item, NoMemory, Order};
 use std::alloc::Global;
 
 // The next level, the levels of the columns that are named so far, and the items so far.

@@ -6,20 +6,15 @@ ghost use Rattle.cf_linear.specs.Cases.{negation_normal, case_count};
 ghost use Rattle.cf_linear.specs.Layout.{set_count};
 ghost use Rattle.cf_linear.specs.Views.{plain_layout, system_of};
 ghost use Rattle.cf_cases.specs.Holding.{EachOf, IsPlacedRel};
-ghost use Rattle.cf_systems.specs.declared.systems.TheConstants.{LEVEL_LIMIT};
+ghost use Rattle.cf_cases.specs.declared.first_systems.TheConstants.{LEVEL_LIMIT};
 ghost use Rattle.cf_choose.specs.Eliminations.{CanBegin, HasRoom, CaseIs, EachCaseIs, IsArmFor, AreArmsFor, CasesAre, IsFewSets};
 
-use crate::arm::arm;
+use crate::arms::arm;
 use crate::fault::ChooseFault;
-use cf_elim::eliminate::eliminate;
-use cf_elim::fault::ElimFault;
-use cf_elim::solved::SolvedCase;
-use cf_linear::refusal::{Refusal, RowFault};
-use cf_linear::system::{Layout, System};
-use cf_systems::systems::{LEVEL_LIMIT, systems};
-use cf_tree::code::Arm;
-use cf_tree::memory::NoMemory;
-use cf_tree::rel::Rel;
+use cf_cases::{LEVEL_LIMIT, systems};
+use cf_elim::{ElimFault, SolvedCase, eliminate};
+use cf_linear::{Layout, Refusal, RowFault, System};
+use cf_tree::{Arm, NoMemory, Rel};
 use std::alloc::Global;
 
 // The cases of the relation, whose counts of sets and of cases are within the limits, or its first

@@ -1,6 +1,6 @@
 //! Why a choose is not solved.
-use cf_linear::refusal::Refusal;
-use cf_tree::memory::NoMemory;
+use cf_linear::Refusal;
+use cf_tree::NoMemory;
 use std::alloc::{AllocError, AllocFailed};
 
 /// The first limit that a choose passes, or want of memory.

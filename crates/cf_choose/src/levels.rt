@@ -4,11 +4,9 @@ ghost use Rattle.cf_tree.specs.RelView.{set_tree, term_tree, rel_tree};
 ghost use Rattle.cf_linear.specs.Layout.{set_holds, term_holds, rel_holds, is_number, is_set, levels_with, layout_of};
 ghost use Rattle.cf_linear.specs.Views.{plain_layout};
 
-use cf_linear::system::Layout;
-use cf_setwit::lists::push_if;
-use cf_tree::base::Base;
-use cf_tree::memory::NoMemory;
-use cf_tree::rel::{Rel, SetTerm, Term};
+use cf_linear::Layout;
+use cf_setwit::push_if;
+use cf_tree::{Base, NoMemory, Rel, SetTerm, Term};
 use std::alloc::Global;
 
 // Whether the set form holds the variable.

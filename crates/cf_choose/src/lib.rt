@@ -1,12 +1,19 @@
 //! One choose: its relation is solved for its outputs.
 #![tactic(auto)]
 
-pub mod arm;
 mod arm_builder;
+mod arms;
 mod cases;
-pub mod fault;
+mod codes;
+mod fault;
 pub mod laws;
-pub mod levels;
+mod levels;
 mod needs;
-pub mod solve;
-pub mod solved;
+mod solved;
+mod solving;
+
+pub use crate::arms::arm;
+pub use crate::fault::ChooseFault;
+pub use crate::levels::layout;
+pub use crate::solved::Solved;
+pub use crate::solving::{counts, solve};

@@ -8,9 +8,7 @@ ghost use Rattle.cf_choose.specs.Precondition.{is_need as is_need_of, to_last_ne
 ghost use Rattle.cf_choose.specs.Solved.{IsSolved};
 
 use crate::solved::SolvedParts;
-use cf_tree::code::{Arm, Item};
-use cf_tree::memory::NoMemory;
-use cf_tree::target::Pre;
+use cf_tree::{Arm, Item, NoMemory, Pre};
 use std::alloc::Global;
 
 /// The arms up to their last needs, which give nothing.

@@ -12,13 +12,9 @@ ghost use Rattle.cf_choose.specs.Precondition.{all_needs, IsPrecondition};
 ghost use Rattle.cf_choose.specs.Solved.{IsSolved, case_steps, case_bounds};
 
 use crate::needs::precondition;
-use cf_elim::solved::SolvedCase;
-use cf_linear::system::{Layout, Search, Step};
-use cf_tree::base::Base;
-use cf_tree::code::{Arm, Code};
-use cf_tree::memory::NoMemory;
-use cf_tree::rel::Rel;
-use cf_tree::target::Pre;
+use cf_elim::SolvedCase;
+use cf_linear::{Layout, Search, Step};
+use cf_tree::{Arm, Base, Code, NoMemory, Pre, Rel};
 use std::alloc::Global;
 use std::marker::Model;
 

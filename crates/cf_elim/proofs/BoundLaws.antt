@@ -13,12 +13,11 @@ use Rattle.cf_linear.specs.Rows.{Row, entry, is_zero}
 use Rattle.cf_linear.specs.Systems.{System, Answer, then_answer}
 use Rattle.cf_linear.specs.Steps.{Pick, pick, searched, searched_by, dropped, drop_passes, bound, bound_passes, bound_factor, found_all, no_found, lowers, uppers, free_of, pairs_of, pair_row, is_positive}
 use Rattle.cf_linear.specs.Stages.{State, refused, Stage, ends, goes, first_count, ends_or, refused_if, times_bound, bound_stage, unknown_stage, limits}
-use Rattle.cf_linear.specs.Keep.{In, Formed}
+use Rattle.cf_linear.specs.Keep.{In, Formed, Differ}
 use Rattle.cf_linear.specs.Solved.{Rising, Owes}
 use Rattle.cf_linear.specs.Views.{system_of, back_of, bound_of}
 use Rattle.cf_linear.proofs.KindLemmas.{In-append, In-left, Rising-in}
 use Rattle.cf_linear.proofs.SolvedLemmas.{step_then, step_none}
-use Rattle.cf_equation.specs.Equations.{Differ}
 use Rattle.cf_bounds.specs.Dropping.{dropped_answer}
 use Rattle.cf_bounds.specs.Searching.{searched_answer}
 use Rattle.cf_bounds.specs.declared.searching.Searched.{Searched}

@@ -16,7 +16,7 @@ use Rattle.cf_linear.specs.declared.refusal.Refusal.{Refusal}
 use Rattle.cf_linear.specs.declared.refusal.Refusal.TheVariants.{Past, Limit}
 use Rattle.cf_linear.specs.Rows.{Row, entry, is_zero, without, subst_row, Rises}
 use Rattle.cf_linear.specs.Systems.{System, EachRow, Answer, rows_of, columns_of}
-use Rattle.cf_linear.specs.Keep.{In, Over, IsColumn, Formed}
+use Rattle.cf_linear.specs.Keep.{In, Over, IsColumn, Formed, Differ}
 use Rattle.cf_linear.specs.Steps.{present, has_column, has_unknown, clean, two_at, one_at, replaced, mix, merge, factors_of, last, Pick, pick, searched, searched_by, dropped, bound}
 use Rattle.cf_linear.specs.Stages.{State, End, refused, Taken, Stage, ends, goes, stage, first_count, ends_or, refused_if, times_bound, clean_stage, equation_stage, row_stage, unknown_stage, bound_stage, Trace, stop, more, first_state, Run, run, limits}
 use Rattle.cf_linear.proofs.BoolLemmas.{on_bool}
@@ -25,7 +25,6 @@ use Rattle.cf_linear.proofs.RowLemmas.{zero_from_is_zero, entry-comb}
 use Rattle.cf_linear.proofs.CombLemmas.{entry-without}
 use Rattle.cf_linear.proofs.KindLemmas.{EachRow-tested, Over-weaker, Over-both, free_row}
 use Rattle.cf_linear.proofs.FormedLemmas.{column_below}
-use Rattle.cf_equation.specs.Equations.{Differ}
 use Rattle.cf_equation.proofs.FactorLaws.{exact_quotient}
 use Rattle.cf_equation.proofs.MergeLaws.{mix_formed, mix_differs}
 use Rattle.cf_equation.proofs.StepLaws.{Differ-filter, In-present, last_formed, last_differs, only_unknown}

@@ -9,7 +9,7 @@ use Rattle.cf_linear.specs.Rows.{Row, entry, norm, without}
 use Rattle.cf_linear.specs.Systems.{System, Answer, no_answer, rows_of, columns_of}
 use Rattle.cf_linear.specs.Steps.{clean, merge, merge_passes, merge_factor, last, last_passes, is_unit, mix, greatest_of, let_norm, has_unknown, subst_all, replaced}
 use Rattle.cf_linear.specs.Stages.{State, solved, Stage, stage, unknown_stage, ends, goes, first_count, ends_or, refused_if, within_counts, clean_stage, equation_stage, row_stage, limits}
-use Rattle.cf_linear.specs.Keep.{Formed}
+use Rattle.cf_linear.specs.Keep.{Formed, Differ}
 use Rattle.cf_linear.specs.Solved.{Owes}
 use Rattle.cf_linear.specs.Views.{system_of}
 use Rattle.cf_linear.proofs.BoolLemmas.{on_bool}
@@ -17,7 +17,7 @@ use Rattle.cf_linear.proofs.SolvedLemmas.{step_none}
 use Rattle.cf_bounds.specs.declared.cleaning.Cleaned.{Cleaned}
 use Rattle.cf_bounds.specs.CleanAnswers.{cleaned}
 use Rattle.cf_equation.specs.declared.step.Reduced.{Reduced}
-use Rattle.cf_equation.specs.Equations.{Differ, first_of, rest_of, first_present, equation_answer, equation_passes, reduced}
+use Rattle.cf_equation.specs.Equations.{first_of, rest_of, first_present, equation_answer, equation_passes, reduced}
 use Rattle.cf_elim.specs.declared.fault.ElimFault.{ElimFault}
 use Rattle.cf_elim.specs.declared.fault.ElimFault.TheVariants.{Refused, NoMemory}
 use Rattle.cf_elim.specs.declared.output.StepOutput.{StepOutput}

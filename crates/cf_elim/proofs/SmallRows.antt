@@ -22,10 +22,10 @@ use Rattle.cf_linear.proofs.CombLemmas.{Rises-comb}
 use Rattle.cf_linear.proofs.KindLemmas.{EachRow-append, Rises-filter}
 use Rattle.cf_linear.proofs.PassingLemmas.{or_false, within_is, entry-within, comb_not, neg_within}
 use Rattle.cf_linear.proofs.SubstituteLemmas.{two_entries}
-use Rattle.cf_parts.specs.Searching.{equation_start}
-use Rattle.cf_parts.proofs.ColumnLemmas.{floored_is}
-use Rattle.cf_parts.proofs.EquationLaws.{equation_is}
-use Rattle.cf_parts.proofs.PartLemmas.{Rises-divided, part_below}
+use Rattle.cf_linear.specs.Searching.{equation_start}
+use Rattle.cf_linear.proofs.PartColumns.{floored_is}
+use Rattle.cf_linear.proofs.EquationLaws.{equation_is}
+use Rattle.cf_linear.proofs.PartLemmas.{Rises-divided, part_below}
 use Rattle.cf_equation.proofs.EndValues.{unit_fine}
 use Rattle.cf_bounds.proofs.CleanLemmas.{unknowns_of, floored}
 

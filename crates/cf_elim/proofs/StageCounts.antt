@@ -9,7 +9,7 @@ use Rattle.cf_linear.specs.declared.refusal.LimitKind.TheVariants.{Rows, Columns
 use Rattle.cf_linear.specs.declared.refusal.Refusal.TheVariants.{Limit}
 use Rattle.cf_linear.specs.Rows.{Row, entry}
 use Rattle.cf_linear.specs.Systems.{System, EachRow, floor_of, need_zero, need_nonneg, Answer, rows_of, columns_of}
-use Rattle.cf_linear.specs.Keep.{In, Over, IsColumn}
+use Rattle.cf_linear.specs.Keep.{In, Over, IsColumn, Differ}
 use Rattle.cf_linear.specs.Steps.{present, has_unknown, known_part, clean, Tightened, then_tighten, merge, mix, last, is_unit, Pick, pick, Found, found_row}
 use Rattle.cf_linear.specs.Steps.{found_all, no_found, searched, searched_by, dropped, bound}
 use Rattle.cf_linear.specs.Stages.{State, Taken, goes, stage, first_count, times_bound, clean_stage, equation_stage, row_stage, unknown_stage, bound_stage}
@@ -17,7 +17,6 @@ use Rattle.cf_linear.specs.Stages.{limits}
 use Rattle.cf_linear.proofs.BoolLemmas.{on_bool}
 use Rattle.cf_linear.proofs.FormedLemmas.{column_below}
 use Rattle.cf_linear.proofs.KindLemmas.{Over-weaker}
-use Rattle.cf_equation.specs.Equations.{Differ}
 use Rattle.cf_equation.proofs.StepLaws.{Differ-filter, In-present}
 use Rattle.cf_bounds.proofs.CleanLemmas.{by_row, tight, unknowns_of}
 use Rattle.cf_bounds.proofs.ExactLaws.{pick_in}

@@ -9,12 +9,11 @@ use Rattle.cf_linear.specs.declared.refusal.Refusal.{Refusal}
 use Rattle.cf_linear.specs.declared.refusal.Refusal.TheVariants.{Past, Limit}
 use Rattle.cf_linear.specs.Rows.{Row, entry, is_zero}
 use Rattle.cf_linear.specs.Systems.{System, EachRow, Answer, no_answer}
-use Rattle.cf_linear.specs.Keep.{In, Over, IsColumn, Formed}
+use Rattle.cf_linear.specs.Keep.{In, Over, IsColumn, Formed, Differ}
 use Rattle.cf_linear.specs.Steps.{present, clean, mix, merge, factors_of, last, Pick, pick, searched, searched_by}
 use Rattle.cf_linear.specs.Stages.{State, Taken, Stage, goes, stage, first_count, ends_or, refused_if, times_bound, clean_stage, equation_stage, row_stage, unknown_stage, bound_stage, limits}
 use Rattle.cf_linear.proofs.BoolLemmas.{on_bool}
 use Rattle.cf_linear.proofs.RowLemmas.{zero_from_is_zero}
-use Rattle.cf_equation.specs.Equations.{Differ}
 use Rattle.cf_equation.proofs.StepLaws.{Differ-filter, In-present}
 use Rattle.cf_bounds.proofs.ExactLaws.{pick_in}
 use Rattle.cf_bounds.proofs.SearchFormed.{searched_formed}

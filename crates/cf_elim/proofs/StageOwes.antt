@@ -4,13 +4,12 @@ use Rattle.std.specs.Prelude.{nat_lt}
 use Rattle.std.proofs.lemmas.Bool.{cond_both, ltb-false, true≢false}
 use Rattle.cf_linear.specs.Rows.{Row, Rises}
 use Rattle.cf_linear.specs.Systems.{System, EachRow, Answer}
-use Rattle.cf_linear.specs.Keep.{In, Over, IsColumn}
+use Rattle.cf_linear.specs.Keep.{In, Over, IsColumn, Differ}
 use Rattle.cf_linear.specs.Solved.{Owes}
 use Rattle.cf_linear.specs.Steps.{present, clean, merge, last, Pick, pick, searched, searched_by, dropped, bound}
 use Rattle.cf_linear.specs.Stages.{State, Taken, goes, stage, first_count, clean_stage, equation_stage, row_stage, unknown_stage, bound_stage, limits}
 use Rattle.cf_linear.proofs.FormedLemmas.{kinds_from}
 use Rattle.cf_linear.proofs.SolvedLemmas.{step_none, step_then}
-use Rattle.cf_equation.specs.Equations.{Differ}
 use Rattle.cf_equation.proofs.MergeLaws.{merge_owes}
 use Rattle.cf_equation.proofs.StepLaws.{Differ-filter, In-present, last_owes, last_formed, last_differs, only_unknown}
 use Rattle.cf_bounds.specs.Exact.{AreExact}

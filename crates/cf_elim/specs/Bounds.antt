@@ -5,10 +5,9 @@ use Rattle.cf_linear.specs.declared.refusal.Refusal.TheVariants.{Past}
 use Rattle.cf_linear.specs.Systems.{System}
 use Rattle.cf_linear.specs.Steps.{Pick, searched_by, dropped, drop_passes}
 use Rattle.cf_linear.specs.Stages.{first_count, limits}
-use Rattle.cf_linear.specs.Keep.{In, Formed}
+use Rattle.cf_linear.specs.Keep.{In, Formed, Differ}
 use Rattle.cf_linear.specs.Solved.{Owes}
 use Rattle.cf_linear.specs.Views.{system_of}
-use Rattle.cf_equation.specs.Equations.{Differ}
 use Rattle.cf_bounds.specs.Exact.{IsFree, AreExact}
 use Rattle.cf_bounds.specs.Dropping.{dropped_answer}
 use Rattle.cf_bounds.specs.Searching.{searched_answer}

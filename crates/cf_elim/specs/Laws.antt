@@ -1,8 +1,7 @@
 -- What holds of whole eliminations.
-use Rattle.cf_linear.specs.Keep.{Formed}
+use Rattle.cf_linear.specs.Keep.{Formed, Differ}
 use Rattle.cf_linear.specs.Systems.{System}
 use Rattle.cf_linear.specs.Stages.{Trace, first_state, run, limits}
-use Rattle.cf_equation.specs.Equations.{Differ}
 
 -- the run of a system is a trace from its first state to its end
 abbrev pub RunsEnd : Type 0

@@ -4,11 +4,10 @@ use Rattle.cf_linear.specs.declared.refusal.LimitKind.TheVariants.{Rows, Columns
 use Rattle.cf_linear.specs.declared.refusal.Refusal.{Refusal}
 use Rattle.cf_linear.specs.declared.refusal.Refusal.TheVariants.{Limit}
 use Rattle.cf_linear.specs.Systems.{System, Answer, rows_of, columns_of}
-use Rattle.cf_linear.specs.Keep.{Formed}
+use Rattle.cf_linear.specs.Keep.{Formed, Differ}
 use Rattle.cf_linear.specs.Solved.{Owes}
 use Rattle.cf_linear.specs.Stages.{Limits, State, Stage, ends, goes, solved, refused}
 use Rattle.cf_linear.specs.Views.{system_of, step_of, back_of, bound_of}
-use Rattle.cf_equation.specs.Equations.{Differ}
 use Rattle.cf_elim.specs.declared.fault.ElimFault.{ElimFault}
 use Rattle.cf_elim.specs.declared.fault.ElimFault.TheVariants.{Refused, NoMemory}
 use Rattle.cf_elim.specs.declared.output.StepOutput.{StepOutput}

@@ -15,10 +15,8 @@ use crate::fault::ElimFault;
 use crate::output::StepOutput;
 use crate::stage::{Stage, State};
 use cf_bounds::{Dropped, Pick, Searched, drop_output, remainder_step, select};
-use cf_linear::refusal::{LimitKind, MOST_TUPLES, Refusal, RowFault};
-use cf_linear::row::Row;
-use cf_linear::system::{Search, System};
-use cf_tree::memory::NoMemory;
+use cf_linear::{LimitKind, MOST_TUPLES, Refusal, Row, RowFault, Search, System};
+use cf_tree::NoMemory;
 use std::alloc::Global;
 
 pub(crate) fn bound_stage(alloc: Global, system: System, tuples: u64) -> Result<Stage, ElimFault>

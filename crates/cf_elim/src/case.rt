@@ -3,7 +3,7 @@ ghost use Rattle.std.specs.Prelude.{◌≡◌, reverse};
 
 use crate::output::RunOutput;
 use crate::solved::CaseParts;
-use cf_linear::system::System;
+use cf_linear::System;
 
 // The system with what all steps made.
 pub(crate) fn parts_of(first: System, whole: RunOutput) -> CaseParts

@@ -9,7 +9,7 @@ use crate::fault::ElimFault;
 use crate::output::StepOutput;
 use crate::stage::{Stage, State};
 use cf_bounds::{Cleaned, clean};
-use cf_linear::system::System;
+use cf_linear::System;
 use std::alloc::Global;
 
 pub(crate) fn clean_stage(alloc: Global, system: System, tuples: u64) -> Result<Stage, ElimFault>

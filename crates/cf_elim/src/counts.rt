@@ -5,8 +5,7 @@ ghost use Rattle.cf_linear.specs.Views.{system_of};
 ghost use Rattle.cf_elim.specs.Stages.{count_refusal, CountIs};
 
 use crate::fault::ElimFault;
-use cf_linear::refusal::{LimitKind, MOST_COLUMNS, MOST_ROWS, Refusal};
-use cf_linear::system::System;
+use cf_linear::{LimitKind, MOST_COLUMNS, MOST_ROWS, Refusal, System};
 
 /// How many rows and columns there are.
 #[derive(Clone, Copy)]

@@ -12,10 +12,8 @@ use crate::counts::{Counts, other_count, sum, within, within_counts};
 use crate::fault::ElimFault;
 use crate::output::StepOutput;
 use crate::stage::{Stage, State};
-use cf_equation::step::{Reduced, step_first};
-use cf_equation::unknowns::{Present, first_unknowns};
-use cf_linear::refusal::{Refusal, RowFault};
-use cf_linear::system::System;
+use cf_equation::{Present, Reduced, first_unknowns, step_first};
+use cf_linear::{Refusal, RowFault, System};
 use std::alloc::Global;
 
 pub(crate) fn equation_stage(alloc: Global, system: System, tuples: u64) -> Result<Stage, ElimFault>

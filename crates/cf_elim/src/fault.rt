@@ -1,6 +1,6 @@
 //! Why an elimination does not end.
-use cf_linear::refusal::Refusal;
-use cf_tree::memory::NoMemory;
+use cf_linear::Refusal;
+use cf_tree::NoMemory;
 use std::alloc::{AllocError, AllocFailed};
 
 /// The refusal that the elimination meets first, or want of memory.

@@ -1,14 +1,23 @@
 //! The whole elimination of a system.
 #![tactic(auto)]
 
-pub mod bound;
+mod bound;
 mod case;
 mod clean;
-pub mod counts;
-pub mod eliminate;
-pub mod equation;
-pub mod fault;
+mod counts;
+mod elimination;
+mod equation;
+mod fault;
 pub mod laws;
-pub mod output;
-pub mod solved;
-pub mod stage;
+mod output;
+mod solved;
+mod stage;
+
+pub use crate::bound::dropped_within;
+pub use crate::counts::{within, within_counts};
+pub use crate::elimination::eliminate;
+pub use crate::equation::counts_after;
+pub use crate::fault::ElimFault;
+pub use crate::output::{RunOutput, StepOutput};
+pub use crate::solved::SolvedCase;
+pub use crate::stage::{Stage, State, next_stage};

@@ -1,8 +1,8 @@
 //! What the steps of an elimination make.
 ghost use Rattle.std.specs.Prelude.{◌≡◌, ◌++◌, [], reverse, OnOk};
 
-use cf_linear::system::{Back, Search, Step};
-use cf_tree::memory::NoMemory;
+use cf_linear::{Back, Search, Step};
+use cf_tree::NoMemory;
 use std::alloc::Global;
 
 /// What one step makes: search columns with their bounds, lets and needs in order, and how unknowns

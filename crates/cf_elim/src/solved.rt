@@ -2,7 +2,7 @@
 ghost use Rattle.std.specs.Prelude.{◌≡◌};
 ghost use Rattle.cf_elim.specs.Cases.{IsSolvedCase};
 
-use cf_linear::system::{Back, Search, Step, System};
+use cf_linear::{Back, Search, Step, System};
 use std::marker::Model;
 
 /// A system with what its elimination makes: the searches with their bounds, the lets and needs in

@@ -8,7 +8,7 @@ use crate::clean::clean_stage;
 use crate::equation::equation_stage;
 use crate::fault::ElimFault;
 use crate::output::StepOutput;
-use cf_linear::system::System;
+use cf_linear::System;
 use std::alloc::Global;
 
 /// A system on its way, the number of search tuples so far, and whether the next step is not a Clean.

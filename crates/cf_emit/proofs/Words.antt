@@ -18,7 +18,7 @@ use Rattle.cf_tree.specs.declared.base.Order.{Order}
 use Rattle.cf_tree.specs.declared.base.Order.TheVariants.{Eq, Ne, Lt, Le, Gt, Ge}
 use Rattle.cf_tree.specs.Relation.{IsDivisor}
 use Rattle.cf_tree.specs.Spelled.{IsNumeral}
-use Rattle.cf_write.specs.Words.{truth_text}
+use Rattle.cf_tree.specs.Words.{truth_text}
 use Rattle.cf_emit.specs.Printed.{line_end, base_text, order_text, variable_text, more_variables, variables_text, more_texts, listed, results_text}
 use Rattle.cf_emit.proofs.Numerals.{AreDigitsOf, decimal_read, digits_in_word, ends_digits}
 use Rattle.cf_emit.proofs.Spans.{Spans, Says, then, as_form, one_token, white_behind, word, spaced, Mark, closing, closing_square, minus, comma, spaced_sign}

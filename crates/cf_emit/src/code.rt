@@ -7,9 +7,7 @@ ghost use Rattle.cf_emit.specs.Printed.{line_end, listed, variables_text, code_t
 
 use crate::list::put_bounds;
 use crate::word::{put_order, put_variable, put_variables};
-use cf_tree::code::{Arm, Code, Item};
-use cf_tree::memory::NoMemory;
-use cf_write::{put_number, put_truth};
+use cf_tree::{Arm, Code, Item, NoMemory, put_number, put_truth};
 
 /// Puts the text of a code at the end.
 #[cycle(put_code)]

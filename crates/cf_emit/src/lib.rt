@@ -3,6 +3,9 @@
 
 mod code;
 mod list;
-pub mod print;
-pub mod print_pre;
+mod preconditions;
+mod printing;
 mod word;
+
+pub use crate::preconditions::print_pre;
+pub use crate::printing::print;

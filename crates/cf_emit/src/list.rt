@@ -3,9 +3,7 @@ ghost use Rattle.std.specs.Prelude.{◌≡◌, ◌++◌, map, OnOk, decimal};
 ghost use Rattle.cf_emit.specs.Printed.{base_text, listed, more_texts, results_text};
 
 use crate::word::put_base;
-use cf_tree::base::{Base, Text};
-use cf_tree::memory::NoMemory;
-use cf_write::put_number;
+use cf_tree::{Base, NoMemory, Text, put_number};
 
 // Bases, a comma and a space before each.
 fn put_more_bases(out: &mut Vec<u8>, bases: &[Base]) -> Result<(), NoMemory>

@@ -2,9 +2,7 @@
 ghost use Rattle.std.specs.Prelude.{◌≡◌, ◌++◌, ◌≤◌, ◌^◌, OnOk};
 ghost use Rattle.cf_emit.specs.Printed.{base_text, more_variables, order_text, variable_text, variables_text};
 
-use cf_tree::base::{Base, Order};
-use cf_tree::memory::NoMemory;
-use cf_write::put_number;
+use cf_tree::{Base, NoMemory, Order, put_number};
 
 /// Puts the word of a base at the end.
 pub(crate) fn put_base(out: &mut Vec<u8>, base: Base) -> Result<(), NoMemory>

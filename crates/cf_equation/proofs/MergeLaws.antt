@@ -9,14 +9,13 @@ use Rattle.cf_num.proofs.Ring.{ring}
 use Rattle.cf_linear.specs.Rows.{Row, Values, entry, value, Rises}
 use Rattle.cf_linear.specs.Systems.{System, row_how}
 use Rattle.cf_linear.specs.Steps.{subst_all, one_at, two_at, replaced, mix, merge, factors_of}
-use Rattle.cf_linear.specs.Keep.{In, Over, Keeps, Reaches, Formed, IsColumn, update, after_back}
+use Rattle.cf_linear.specs.Keep.{In, Over, Keeps, Reaches, Formed, IsColumn, update, after_back, Differ}
 use Rattle.cf_linear.specs.Solved.{Owes}
 use Rattle.cf_linear.proofs.RowLemmas.{value-comb}
 use Rattle.cf_linear.proofs.CombLemmas.{Rises-comb}
 use Rattle.cf_linear.proofs.KindLemmas.{Over-comb}
 use Rattle.cf_linear.proofs.ValueLemmas.{EachRow-subst, EachRow-unsubst, EachRow-same, update-at, update-same, update-other, Same-trans, one_z}
 use Rattle.cf_linear.proofs.FormedLemmas.{Low, kinds_from, low_from, still, subst_over, subst_rise}
-use Rattle.cf_equation.specs.Equations.{Differ}
 use Rattle.cf_equation.proofs.EndLaws.{IsNull, IsLeast0, update_own}
 use Rattle.cf_equation.proofs.FactorLaws.{parts_one, first_again, second_again}
 

@@ -3,12 +3,12 @@ use Rattle.std.proofs.Common.{◌≡◌, ◌≢◌, ℕ, ◌+◌, ◌<◌, pos, 
 use Rattle.std.specs.Prelude.{IfOk}
 use Rattle.cf_linear.specs.Rows.{Row, entry, is_zero}
 use Rattle.cf_linear.specs.Systems.{System, Answer}
-use Rattle.cf_linear.specs.Keep.{In, Formed}
+use Rattle.cf_linear.specs.Keep.{In, Formed, Differ}
 use Rattle.cf_linear.specs.Steps.{present, merge, last}
 use Rattle.cf_linear.proofs.RowLemmas.{zero_from_is_zero}
 use Rattle.cf_linear.proofs.BoolLemmas.{on_bool}
 use Rattle.cf_equation.specs.declared.unknowns.Present.TheVariants.{Nothing, One, Several}
-use Rattle.cf_equation.specs.Equations.{Differ, present_of, first_of, rest_of, first_present, equation_answer}
+use Rattle.cf_equation.specs.Equations.{present_of, first_of, rest_of, first_present, equation_answer}
 use Rattle.cf_equation.proofs.StepLaws.{In-present, StepOwes, step_owes}
 
 pub none_from : (us : List ℕ) → Nothing ≡ present_of us → us ≡ []

@@ -6,7 +6,7 @@ use Rattle.std.proofs.lemmas.Bool.{cond_both, ne_eqb}
 use Rattle.cf_linear.specs.Rows.{Row, entry, without, Rises, is_zero}
 use Rattle.cf_linear.specs.Systems.{System, Answer, EachRow, row_how}
 use Rattle.cf_linear.specs.Steps.{present, merge, last, is_unit, is_positive}
-use Rattle.cf_linear.specs.Keep.{In, Over, IsColumn, Formed, Reaches}
+use Rattle.cf_linear.specs.Keep.{In, Over, IsColumn, Formed, Reaches, Differ}
 use Rattle.cf_linear.specs.Solved.{Owes}
 use Rattle.cf_linear.proofs.BoolLemmas.{on_bool}
 use Rattle.cf_linear.proofs.RowLemmas.{zero_from_is_zero}
@@ -14,7 +14,7 @@ use Rattle.cf_linear.proofs.Canonical.{entry-head}
 use Rattle.cf_linear.proofs.CombLemmas.{Rises-comb}
 use Rattle.cf_linear.proofs.KindLemmas.{Over-weaker, Over-comb, Over-both, Over-without, Rises-filter, In-append, In-left, In-right, In-filter, In-unfilter}
 use Rattle.cf_linear.proofs.FormedLemmas.{kinds_from, low_from, still, one_kept, subst_over, subst_rise}
-use Rattle.cf_equation.specs.Equations.{Differ, first_of, rest_of, equation_answer, first_present}
+use Rattle.cf_equation.specs.Equations.{first_of, rest_of, equation_answer, first_present}
 use Rattle.cf_equation.proofs.EndLaws.{unit_answer, divided_answer, unit_keeps, divided_keeps, unit_reaches, divided_reaches, unit_row, turned_row, turn, last-unit, last-divided}
 use Rattle.cf_equation.proofs.MergeLaws.{merge_owes, merge_reaches, mix_formed, mix_differs}
 

@@ -16,11 +16,6 @@ first_of m = slice_index_or m.equations 0 []
 abbrev pub rest_of : System → List Row
 rest_of m = drop 1 m.equations
 
--- all columns of the list are different
-abbrev pub Differ : List ℕ → Type 0
-Differ [] = Unit {0}
-Differ (c ∷ cs) = (In c cs → ⊥) × Differ cs
-
 -- none, one, or the first two
 abbrev pub present_of : List ℕ → Present
 present_of [] = Nothing

@@ -11,12 +11,9 @@ ghost use Rattle.cf_equation.specs.Ending.{IsLeft, IsSolution};
 
 use crate::replace::{Left, subst_rows};
 use crate::step::Reduced;
-use cf_linear::refusal::RowFault;
-use cf_linear::row::Row;
-use cf_linear::system::{Back, How, Step, System};
+use cf_linear::{Back, How, Row, RowFault, Step, System, division, others, size_of};
 use cf_num::neg;
-use cf_parts::{division, others, size_of};
-use cf_tree::memory::NoMemory;
+use cf_tree::NoMemory;
 use std::alloc::Global;
 
 // An unknown as a row, with the known columns, needs and steps that come with it.

@@ -2,7 +2,11 @@
 #![tactic(auto)]
 
 mod end;
-pub mod merge;
+mod merge;
 mod replace;
-pub mod step;
-pub mod unknowns;
+mod step;
+mod unknowns;
+
+pub use crate::merge::mix;
+pub use crate::step::{Reduced, step_first};
+pub use crate::unknowns::{Present, first_unknowns};

@@ -7,16 +7,13 @@ ghost use Rattle.cf_linear.specs.Systems.{row_how};
 ghost use Rattle.cf_linear.specs.Steps.{two_at, subst_all, replaced, mix, mix_passes, merge, merge_passes};
 ghost use Rattle.cf_linear.specs.Views.{system_of, back_of};
 ghost use Rattle.cf_equation.specs.Equations.{reduced, first_of};
-ghost use Rattle.cf_parts.specs.Merging.{WithinFactors};
+ghost use Rattle.cf_linear.specs.Factors.{WithinFactors};
 ghost use Rattle.cf_equation.specs.Merging.{mix_row_passes, mixed_system, mixed_answer, with_back};
 
 use crate::replace::subst_rows;
 use crate::step::Reduced;
-use cf_linear::refusal::RowFault;
-use cf_linear::row::Row;
-use cf_linear::system::{Back, How, System};
-use cf_parts::{MergeFactors, factors};
-use cf_tree::memory::NoMemory;
+use cf_linear::{Back, How, MergeFactors, Row, RowFault, System, factors};
+use cf_tree::NoMemory;
 use std::alloc::Global;
 
 // The rows of two unknowns that go.

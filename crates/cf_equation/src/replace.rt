@@ -4,8 +4,7 @@ ghost use Rattle.std.specs.List.{list_any};
 ghost use Rattle.cf_linear.specs.Rows.{subst_row, subst_passes};
 ghost use Rattle.cf_linear.specs.Steps.{subst_all};
 
-use cf_linear::refusal::RowFault;
-use cf_linear::row::Row;
+use cf_linear::{Row, RowFault};
 use std::alloc::Global;
 
 // The unknowns and the rows that a step leaves.

@@ -1,15 +1,14 @@
 //! One step of the elimination with the first equation.
 ghost use Rattle.std.specs.Prelude.{◌≡◌, ◌≢◌, ◌<◌, [], true, false, length, Err, IfOk};
-ghost use Rattle.cf_linear.specs.Keep.{Formed, Reaches};
+ghost use Rattle.cf_linear.specs.Keep.{Formed, Reaches, Differ};
 ghost use Rattle.cf_linear.specs.Solved.{Owes};
 ghost use Rattle.cf_linear.specs.Views.{system_of};
-ghost use Rattle.cf_equation.specs.Equations.{Differ, reduced, present_of, first_present, equation_answer, equation_passes};
+ghost use Rattle.cf_equation.specs.Equations.{reduced, present_of, first_present, equation_answer, equation_passes};
 
 use crate::end::end;
 use crate::merge::merge;
 use crate::unknowns::Present;
-use cf_linear::refusal::RowFault;
-use cf_linear::system::{Back, Step, System};
+use cf_linear::{Back, RowFault, Step, System};
 use std::alloc::Global;
 
 /// The system that an equation step leaves, the lets and needs that it makes, and how the unknowns

@@ -4,8 +4,7 @@ ghost use Rattle.cf_linear.specs.Steps.{present};
 ghost use Rattle.cf_linear.specs.Views.{system_of};
 ghost use Rattle.cf_equation.specs.Equations.{present_of, first_of};
 
-use cf_linear::row::Row;
-use cf_linear::system::System;
+use cf_linear::{Row, System};
 
 /// The first unknowns of a row, in the order of the unknowns.
 #[derive(Clone, Copy, Debug, PartialEq, Eq)]

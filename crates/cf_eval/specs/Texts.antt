@@ -2,7 +2,7 @@
 use Rattle.std.specs.Prelude.{ℕ, ℤ, List, ◌++◌, map, codes, decimal}
 use Rattle.std.specs.List.{join_with_byte}
 use Rattle.std.specs.Fmt.{signed_decimal}
-use Rattle.cf_write.specs.Words.{truth_text}
+use Rattle.cf_tree.specs.Words.{truth_text}
 use Rattle.cf_tree.specs.Values.{Value, number, truth, elements, Outcome as Plain, values, no_solution}
 use Rattle.cf_eval.specs.Seen.{plains}
 use Rattle.cf_eval.specs.declared.value.Outcome.{Outcome}

@@ -1,5 +1,5 @@
 //! Why a line gives no values.
-use cf_tree::memory::NoMemory;
+use cf_tree::NoMemory;
 use std::alloc::{AllocError, AllocFailed};
 
 /// Why a line gives no values.

@@ -8,7 +8,7 @@ ghost use Rattle.cf_eval.specs.RunAnswers.{RunAnswer, MoreAnswer, NumberAnswer, 
 
 use crate::value::Value;
 use cf_set::Set;
-use cf_tree::memory::NoMemory;
+use cf_tree::NoMemory;
 use std::alloc::{AllocError, AllocFailed, Global};
 
 // Why a run stops with no values: no memory, a number past the limit, or no solution at a choose.

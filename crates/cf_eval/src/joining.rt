@@ -6,7 +6,7 @@ ghost use Rattle.cf_eval.specs.Choice.{join_of, runs_joined};
 
 use crate::operate::empty;
 use cf_set::Set;
-use cf_tree::memory::NoMemory;
+use cf_tree::NoMemory;
 use std::alloc::Global;
 
 // How sets are joined.

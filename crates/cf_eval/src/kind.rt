@@ -3,7 +3,7 @@ ghost use Rattle.std.specs.Prelude.{◌≡◌};
 ghost use Rattle.cf_tree.specs.CodeView.{code_tree};
 ghost use Rattle.cf_eval.specs.Forms.{kind_of_tree};
 
-use cf_tree::code::Code;
+use cf_tree::Code;
 
 // A number, a truth value or a set, whatever its parts give; or what the parts or the values decide.
 #[derive(Clone, Copy)]

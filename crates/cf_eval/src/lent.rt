@@ -17,9 +17,7 @@ use crate::joining::{Join, join_two};
 use crate::quick::known;
 use crate::value::Value;
 use cf_set::Set;
-use cf_tree::base::Order;
-use cf_tree::code::Code;
-use cf_tree::memory::NoMemory;
+use cf_tree::{Code, NoMemory, Order};
 use std::alloc::Global;
 
 // The set that a variable holds.

@@ -2,17 +2,24 @@
 #![tactic(auto)]
 
 mod braces;
-pub mod fault;
+mod fault;
 mod given;
 mod joining;
 mod kind;
 mod lent;
-pub mod line;
+mod line;
 mod number;
-pub mod operate;
+mod operate;
 mod quick;
-pub mod reply;
-pub mod run;
+mod replies;
+mod run;
 mod runs;
 mod search;
-pub mod value;
+mod value;
+
+pub use crate::fault::LineFault;
+pub use crate::line::read_line;
+pub use crate::operate::{compare, divide, number_in, remain};
+pub use crate::replies::{put_reply, put_value, put_values, reply};
+pub use crate::run::{run_code, run_on};
+pub use crate::value::{Outcome, Value};

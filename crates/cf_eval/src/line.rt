@@ -12,7 +12,7 @@ use crate::number::number;
 use crate::run::ROOM;
 use crate::runs::{after_spaces, is_blank, space};
 use crate::value::Value;
-use cf_tree::base::Base;
+use cf_tree::Base;
 use std::alloc::Global;
 
 fn truth(text: &[u8]) -> Option<(Value, &[u8])>

@@ -5,7 +5,7 @@ ghost use Rattle.cf_num.specs.Limit.{IsWithin};
 ghost use Rattle.cf_eval.specs.Reading.{digits_at, negated, number_at, item_at, NumberRead};
 
 use crate::runs::{after_spaces, is_blank};
-use cf_lex::digits::{digits_len, literal};
+use cf_lex::{digits_len, literal};
 
 // The value with one more digit, where it has 64 bits.
 #[inline(always)]

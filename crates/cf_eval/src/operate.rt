@@ -15,8 +15,7 @@ use crate::given::{Stop, met_number};
 use crate::kind::Kind;
 use crate::value::Value;
 use cf_set::Set;
-use cf_tree::base::Order;
-use cf_tree::memory::NoMemory;
+use cf_tree::{NoMemory, Order};
 use std::alloc::Global;
 
 // Which of some numbers is taken.

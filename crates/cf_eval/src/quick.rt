@@ -15,8 +15,7 @@ ghost use Rattle.cf_eval.specs.Seen.{plains};
 use crate::lent::{lent_card, lent_order, lent_subset};
 use crate::operate::{Side, compare_numbers, narrow_product, remain};
 use crate::value::Value;
-use cf_tree::base::Order;
-use cf_tree::code::Code;
+use cf_tree::{Code, Order};
 
 // Stands for no number where a number comes back in a register.
 pub const UNKNOWN: i64 = i64::MIN;

@@ -25,10 +25,7 @@ use crate::quick::{known, known_truth};
 use crate::search::{count_of, push_tuple};
 use crate::value::{Outcome, Value};
 use cf_set::Set;
-use cf_tree::base::Order;
-use cf_tree::code::{Arm, Code, Item};
-use cf_tree::memory::NoMemory;
-use cf_tree::target::Target;
+use cf_tree::{Arm, Code, Item, NoMemory, Order, Target};
 use std::alloc::Global;
 
 /// The target's meaning on these values, or `Overflow` exactly where a number met on the way

@@ -2,7 +2,7 @@
 ghost use Rattle.std.specs.Prelude.{◌≡◌, IfOk};
 
 use cf_set::Set;
-use cf_tree::memory::NoMemory;
+use cf_tree::NoMemory;
 use std::alloc::Global;
 
 /// A number, a truth value or a set.

@@ -1,2 +1,3 @@
 pub mod Steps
 mod WorkloadExamples
+pub mod ShortSources

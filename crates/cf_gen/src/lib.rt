@@ -2,5 +2,8 @@
 #![tactic(auto)]
 
 mod draw;
-pub mod lines;
-pub mod source;
+mod input_lines;
+mod source_text;
+
+pub use crate::input_lines::lines;
+pub use crate::source_text::source;

@@ -11,20 +11,19 @@ use Rattle.cf_tree.specs.RelTree.{RelTree}
 use Rattle.cf_tree.specs.Values.{Value, number, truth, elements, HaveBases}
 use Rattle.cf_linear.specs.Cases.{negation_normal, Signed, disjuncts, no_rows, case_rows, system_of_case, first_systems, case_count, written_passes}
 use Rattle.cf_linear.specs.Chooses.{arm_of_case, arms, choose_limits, refusal_of, or_else, first_refused, refusal_by, limit, last_factor, product_of_all, growth_of_case, growth}
-use Rattle.cf_linear.specs.Keep.{In, Formed}
+use Rattle.cf_linear.specs.Keep.{In, Formed, Differ}
 use Rattle.cf_linear.specs.Layout.{Layout, layout_of, has_level, place, set_count, number_column, region_column, known_count, first_free}
 use Rattle.cf_linear.specs.Systems.{System}
 use Rattle.cf_linear.specs.Stages.{End, solved, refused, run, limits, Trace, first_state}
 use Rattle.cf_linear.specs.Steps.{greatest_of}
 use Rattle.cf_linear.proofs.BoolLemmas.{on_bool}
-use Rattle.cf_equation.specs.Equations.{Differ}
 use Rattle.cf_elim.proofs.EndLaws.{run_is_trace}
 use Rattle.cf_cases.specs.Holding.{EachOf, IsPlacedRel}
 use Rattle.cf_cases.proofs.AgreeLaws.{first_systems-formed}
 use Rattle.cf_cases.proofs.FormedLaws.{In-range, range-In, case-next}
 use Rattle.cf_cases.proofs.PlacedLaws.{placed-rel}
 use Rattle.cf_choose.proofs.ChooseLevels.{output_column}
-use Rattle.cf_systems.proofs.SystemLaws.{range_differs}
+use Rattle.cf_cases.proofs.FirstSystemLaws.{range_differs}
 use Rattle.cf_growth.specs.Reaching.{parameters_size, IsNearElement, IsNear, AreNear, ArmsWithinReach}
 use Rattle.cf_growth.specs.Tracing.{all_of}
 use Rattle.cf_growth.proofs.EndLaws.{trace_done, cases_grow}

@@ -5,7 +5,8 @@ use Rattle.std.proofs.lemmas.Bool.{leb-false}
 use Rattle.cf_num.specs.Limit.{limit}
 use Rattle.cf_tree.specs.declared.raw.BinOp.{BinOp}
 use Rattle.cf_tree.specs.declared.raw.BinOp.TheVariants.{Add, Sub, Mul, And, Or, Union, Inter, Diff, Subset, Compare}
-use Rattle.cf_tree.specs.Allowed.{AllowedThen, goes_on, ends_at, Gives, AllowedRight, operation, Calling, scope_of}
+use Rattle.cf_tree.specs.Allowed.{AllowedThen, goes_on, ends_at, Gives, AllowedRight, operation, Calling}
+use Rattle.cf_tree.specs.Params.{bases_of}
 use Rattle.cf_tree.specs.CodeTree.{code_solve, arms_of}
 use Rattle.cf_tree.specs.ExprTree.{ExprTree, expr_lit, expr_truth, expr_var, expr_set_of, expr_tuple, expr_neg, expr_not, expr_abs, expr_binary, expr_divides, expr_div, expr_mod, expr_card, expr_if, expr_call, expr_let, expr_choose, expr_match, ExprTrees, no_exprs, expr_more}
 use Rattle.cf_tree.specs.Meaning.{means, peak}
@@ -139,7 +140,7 @@ module _ (calls : ℕ → List Value → Option Outcome) (near : Calling) (over 
         (λ xs. OverIn near over b (env ++ xs)) (pick_near a env h.0)
         (λ xs e. pick_near b (env ++ xs) (h.1 xs e))
     pick_near (expr_choose n scope outputs rel) env h =
-        let code = code_solve n (arms_of (arms (scope_of scope) outputs rel)) in
+        let code = code_solve n (arms_of (arms (bases_of scope) outputs rel)) in
         on_bool (nat_le (peak code env) limit)
         (λ t. rw t (given (means code env) (NearIn near (expr_choose n scope outputs rel) env) (OverIn near over (expr_choose n scope outputs rel) env) h.1))
         (λ t. rw t (record { overflows = λ e. above limit (peak code env) _ (leb-false (peak code env) limit t) h.0; picks = λ o e. absurd (none_some o e) }))

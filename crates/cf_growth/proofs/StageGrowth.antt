@@ -7,12 +7,11 @@ use Rattle.cf_linear.specs.declared.refusal.Refusal.{Refusal}
 use Rattle.cf_linear.specs.declared.refusal.Refusal.TheVariants.{Past}
 use Rattle.cf_linear.specs.Rows.{Row, entry, norm, without, Rises}
 use Rattle.cf_linear.specs.Systems.{System, EachRow}
-use Rattle.cf_linear.specs.Keep.{In, Over, IsColumn, Formed}
+use Rattle.cf_linear.specs.Keep.{In, Over, IsColumn, Formed, Differ}
 use Rattle.cf_linear.specs.Steps.{present, clean, mix, merge, merge_factor, factors_of, Pick, pick, searched_by, bound, greatest_of, let_norm}
 use Rattle.cf_linear.specs.Stages.{Limits, State, Taken, goes, stage, first_count, ends_or, refused_if, clean_stage, equation_stage, row_stage, unknown_stage, bound_stage}
 use Rattle.cf_linear.proofs.BoolLemmas.{on_bool}
 use Rattle.cf_linear.proofs.FormedLemmas.{kinds_from}
-use Rattle.cf_equation.specs.Equations.{Differ}
 use Rattle.cf_equation.proofs.FactorLaws.{parts_one}
 use Rattle.cf_equation.proofs.StepLaws.{Differ-filter, In-present, only_unknown, last_formed, last_differs, merge_formed, merge_differs}
 use Rattle.cf_bounds.specs.Exact.{IsFree}

@@ -5,11 +5,10 @@ use Rattle.std.proofs.lemmas.Bool.{true≢false}
 use Rattle.std.proofs.Math.Nat.{mul-le-mul, mul_assoc, mul_comm, mul-mul-mul_comm}
 use Rattle.cf_linear.specs.Rows.{Values, norm}
 use Rattle.cf_linear.specs.Systems.{System, Step, floor_of, need_nonneg, need_zero, need_divides, Answer}
-use Rattle.cf_linear.specs.Keep.{In, Within, IsColumn, Formed}
+use Rattle.cf_linear.specs.Keep.{In, Within, IsColumn, Formed, Differ}
 use Rattle.cf_linear.specs.Layout.{Layout}
 use Rattle.cf_linear.specs.Stages.{Limits, State, Taken, End, Trace, stop, more, solved, ends, first_state}
 use Rattle.cf_linear.specs.Chooses.{need_norm, last_factor, product_of_all}
-use Rattle.cf_equation.specs.Equations.{Differ}
 use Rattle.cf_growth.specs.Norms.{IsBounded}
 use Rattle.cf_growth.specs.Growing.{IsKnown, LetsFit, NeedsWithin, StepsIn, Grows}
 use Rattle.cf_growth.specs.Tracing.{Stands, all_of, TracesGrow, StaysWithin}

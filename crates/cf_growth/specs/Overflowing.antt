@@ -4,7 +4,8 @@ use Rattle.cf_num.specs.Limit.{limit}
 use Rattle.cf_tree.specs.declared.base.Base.{Base}
 use Rattle.cf_tree.specs.declared.raw.BinOp.{BinOp}
 use Rattle.cf_tree.specs.declared.raw.BinOp.TheVariants.{And, Or}
-use Rattle.cf_tree.specs.Allowed.{operation, Choosing, Calling, scope_of, AllowedBy, AllAllowedBy, CallAllowedBy}
+use Rattle.cf_tree.specs.Allowed.{operation, Choosing, Calling, AllowedBy, AllAllowedBy, CallAllowedBy}
+use Rattle.cf_tree.specs.Params.{bases_of}
 use Rattle.cf_tree.specs.CodeTree.{code_solve, arms_of}
 use Rattle.cf_tree.specs.ExprTree.{ExprTree, expr_lit, expr_truth, expr_var, expr_set_of, expr_tuple, expr_neg, expr_not, expr_abs, expr_binary, expr_divides, expr_div, expr_mod, expr_card, expr_if, expr_call, expr_let, expr_choose, expr_match, ExprTrees, no_exprs, expr_more}
 use Rattle.cf_tree.specs.Meaning.{means, peak}
@@ -75,7 +76,7 @@ abbrev mutual
       (OverIn near over b env))
   OverIn near over (expr_call f es) env = OverAll near over es env ⊎ ((xs : List Value) × NearAll near es env (values xs) × over f xs)
   OverIn near over (expr_let n a b) env = OverIn near over a env ⊎ ((xs : List Value) × NearIn near a env (values xs) × OverIn near over b (env ++ xs))
-  OverIn near over (expr_choose n scope outputs rel) env = limit < reach (scope_of scope) outputs rel env
+  OverIn near over (expr_choose n scope outputs rel) env = limit < reach (bases_of scope) outputs rel env
   OverIn near over (expr_match n scope a arms) env = ⊥
 
   pub OverAll : Calling → Over → ExprTrees → List Value → Type 0
@@ -130,7 +131,7 @@ abbrev mutual
       (λ xs. if truth_of (first_of xs) then picked_in calls a env else picked_in calls b env)
   picked_in calls (expr_call f es) env = then_picked (picked_all calls es env) (calls f)
   picked_in calls (expr_let n a b) env = then_picked (picked_in calls a env) (λ xs. picked_in calls b (env ++ xs))
-  picked_in calls (expr_choose n scope outputs rel) env = picked_choose n (scope_of scope) outputs rel env
+  picked_in calls (expr_choose n scope outputs rel) env = picked_choose n (bases_of scope) outputs rel env
   picked_in calls (expr_match n scope a arms) env = Some (values [])
 
   pub picked_all : (ℕ → List Value → Option Outcome) → ExprTrees → List Value → Option Outcome
@@ -178,7 +179,7 @@ abbrev mutual
   IsFineIn calls fine (expr_call f es) env = AreFineIn calls fine es env × ((xs : List Value) → picked_all calls es env ≡ Some (values xs) → fine f xs)
   IsFineIn calls fine (expr_let n a b) env =
       IsFineIn calls fine a env × ((xs : List Value) → picked_in calls a env ≡ Some (values xs) → IsFineIn calls fine b (env ++ xs))
-  IsFineIn calls fine (expr_choose n scope outputs rel) env = IsFineChoose n (scope_of scope) outputs rel env
+  IsFineIn calls fine (expr_choose n scope outputs rel) env = IsFineChoose n (bases_of scope) outputs rel env
   IsFineIn calls fine (expr_match n scope a arms) env = ⊥
 
   pub AreFineIn : (ℕ → List Value → Option Outcome) → Over → ExprTrees → List Value → Type 0

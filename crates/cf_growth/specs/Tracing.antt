@@ -2,11 +2,10 @@
 use Rattle.std.specs.Prelude.{◌≡◌, ℕ, ◌≤◌, ◌<◌, ◌*◌, unsigned_abs, true, List, [], map}
 use Rattle.cf_linear.specs.Rows.{Row, Values, entry, norm, without}
 use Rattle.cf_linear.specs.Systems.{System, EachRow, Answer, whole}
-use Rattle.cf_linear.specs.Keep.{In, Within, after_back, IsColumn, Formed}
+use Rattle.cf_linear.specs.Keep.{In, Within, after_back, IsColumn, Formed, Differ}
 use Rattle.cf_linear.specs.Layout.{Layout}
 use Rattle.cf_linear.specs.Stages.{Limits, State, Taken, goes, stage, Trace, solved, first_state}
 use Rattle.cf_linear.specs.Chooses.{last_factor, product_of_all}
-use Rattle.cf_equation.specs.Equations.{Differ}
 use Rattle.cf_growth.specs.Norms.{IsBounded}
 use Rattle.cf_growth.specs.Growing.{IsKnown, LetsFit, LetsWithin, NeedsWithin, WaysWithin, Grows}
 

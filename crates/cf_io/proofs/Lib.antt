@@ -4,3 +4,4 @@ pub mod LimitLemmas
 pub mod LineLemmas
 pub mod Owed
 pub mod ShelfLemmas
+mod LimitExamples

@@ -8,8 +8,7 @@ ghost use Rattle.cf_io.specs.Segments.{rest_from};
 use crate::limits::{longest_input, longest_line};
 use crate::line::{Fed, Line};
 use crate::segments::{ended_lines, first_ended, last_start};
-use cf_tree::base::Bytes;
-use cf_tree::memory::NoMemory;
+use cf_tree::{Bytes, NoMemory};
 use std::alloc::Global;
 use std::marker::Model;
 

@@ -12,6 +12,7 @@ mod mem_shelf;
 mod mem_sink;
 mod mem_source;
 mod read;
+mod reads;
 mod segments;
 mod sure;
 mod traits;

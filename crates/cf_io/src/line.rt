@@ -1,5 +1,5 @@
 //! A line of the input, and what feeding a piece of it did.
-use cf_tree::base::Bytes;
+use cf_tree::Bytes;
 
 /// A line without its end.
 #[derive(Drop)]

@@ -6,8 +6,7 @@ ghost use Rattle.cf_io.specs.Cut.{line_of, Keeps};
 ghost use Rattle.cf_io.specs.Lines.{ended};
 
 use crate::line::Line;
-use cf_tree::base::Bytes;
-use cf_tree::memory::NoMemory;
+use cf_tree::{Bytes, NoMemory};
 use std::alloc::Global;
 
 /// How many bytes stand before the first line feed.

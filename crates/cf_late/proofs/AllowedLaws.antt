@@ -9,7 +9,8 @@ use Rattle.cf_tree.specs.declared.base.Base.TheVariants.{Int, Bool as Truth, Set
 use Rattle.cf_tree.specs.declared.raw.BinOp.{BinOp}
 use Rattle.cf_tree.specs.declared.raw.BinOp.TheVariants.{Add, Sub, Mul, And, Or, Union, Inter, Diff, Subset, Compare}
 use Rattle.cf_tree.specs.declared.raw.Param.{Param}
-use Rattle.cf_tree.specs.Allowed.{AllowedThen, goes_on, ends_at, Gives, Chosen, operation, AllowedRight, Calling, scope_of, Fits, AllowedIn, AllowedAll, AllowedArm, AllowedCall}
+use Rattle.cf_tree.specs.Allowed.{AllowedThen, goes_on, ends_at, Gives, Chosen, operation, AllowedRight, Calling, Fits, AllowedIn, AllowedAll, AllowedArm, AllowedCall}
+use Rattle.cf_tree.specs.Params.{bases_of}
 use Rattle.cf_tree.specs.DefView.{DefTree}
 use Rattle.cf_tree.specs.ExprTree.{ExprTree, expr_lit, expr_truth, expr_var, expr_set_of, expr_tuple, expr_neg, expr_not, expr_abs, expr_binary, expr_divides, expr_div, expr_mod, expr_card, expr_if, expr_call, expr_let, expr_choose, expr_match, ExprTrees, no_exprs, expr_more, match_arm, MatchArmTrees, no_match_arms, match_arm_more}
 use Rattle.cf_tree.specs.Relation.{Sol, Holds}
@@ -19,7 +20,6 @@ use Rattle.cf_tree.specs.Sets.{set_of}
 use Rattle.cf_tree.specs.Values.{Value, number, truth, elements, Outcome, values, no_solution, number_of, truth_of, elements_of, value_at, first_of, HaveBases}
 use Rattle.cf_tree.proofs.RisingLemmas.{rising_set_of, rising_union, rising_filter}
 use Rattle.cf_program.specs.Lowered.{divisor}
-use Rattle.cf_program.specs.Names.{bases_of}
 use Rattle.cf_program.specs.TypedProgram.{AreSides, ExprHasBasesBy, AllHaveBy, PartsHaveBy, ArmsHaveBy, Takes, AreTypedDefsBy}
 use Rattle.cf_program.specs.LateLinear.{IsLateLinear}
 use Rattle.cf_program.specs.Walk.{side_of, result_of}
@@ -30,11 +30,11 @@ use Rattle.cf_match.proofs.Patterns.{fits_by, fits, fits_some, fits_none}
 use Rattle.cf_match.proofs.Variables.{ints_of, ints_are, ints_have, holds_is, value_at-end}
 use Rattle.cf_match.proofs.LoweredLaws.{one_behind}
 use Rattle.cf_match.proofs.ProgramLaws.{takes_at, bodies_turned, one_test}
-use Rattle.cf_known.specs.ChooseRun.{LateOutcome, comes_to, overflow, refused, gives, late_choose}
-use Rattle.cf_known.specs.Fitting.{AreFit}
-use Rattle.cf_known.specs.LateChoose.{IsLateChoose}
-use Rattle.cf_known.proofs.ChooseLaws.{choose_allowed, choose_fit}
-use Rattle.cf_known.proofs.KnownLaws.{fit_at}
+use Rattle.cf_late.specs.ChooseRun.{LateOutcome, comes_to, overflow, refused, gives, late_choose}
+use Rattle.cf_late.specs.Fitting.{AreFit}
+use Rattle.cf_late.specs.LateChoose.{IsLateChoose}
+use Rattle.cf_late.proofs.ChooseLaws.{choose_allowed, choose_fit}
+use Rattle.cf_late.proofs.KnownLaws.{fit_at}
 use Rattle.cf_late.specs.LateRun.{then_late, ordinary, late_right, is_in, pattern_relation, late_variables, late_in, late_all, late_arms, late_call}
 use Rattle.cf_late.specs.ProgramLaw.{LateRunsAreAllowed}
 use Rattle.cf_late.proofs.RunnableLaws.{EndsWithInt, ends_with_int, pattern_choose, outputs_too}
@@ -207,12 +207,12 @@ module _ (takes : ℕ → List Base → List Base → Type 0) (calls : ℕ → L
       ((z : ℤ) → HaveBases (scope ++ Int ∷ []) (env ++ number z ∷ []) → AreFit (env ++ number z ∷ []) →
       Fine bs (AllowedArm allows n arms z (env ++ number z ∷ [])) (late_arms calls n (scope ++ Int ∷ []) arms z (env ++ number z ∷ []))) →
       (xs : List Value) → HaveBases (Int ∷ []) xs → AreFit xs →
-      Fine bs (AllowedArm allows n arms (number_of (first_of xs)) (env ++ xs)) (late_arms calls n (scope_of params) arms (number_of (first_of xs)) (env ++ xs))
+      Fine bs (AllowedArm allows n arms (number_of (first_of xs)) (env ++ xs)) (late_arms calls n (bases_of params) arms (number_of (first_of xs)) (env ++ xs))
   match_fine n params arms scope bs env e v w each xs hx fx =
       let s = number_alone xs hx in
       let z = s.0 in
       subst (λ ys. Fine bs (AllowedArm allows n arms (number_of (first_of ys)) (env ++ ys))
-      (late_arms calls n (scope_of params) arms (number_of (first_of ys)) (env ++ ys))) (sym s.1)
+      (late_arms calls n (bases_of params) arms (number_of (first_of ys)) (env ++ ys))) (sym s.1)
       (subst (λ cs. Fine bs (AllowedArm allows n arms z (env ++ number z ∷ [])) (late_arms calls n cs arms z (env ++ number z ∷ []))) (sym e)
       (each z (have_append scope (Int ∷ []) env (number z ∷ []) v ((z, refl), tt)) (fit_append env (number z ∷ []) w (subst AreFit s.1 fx))))
 
@@ -286,12 +286,12 @@ module _ (takes : ℕ → List Base → List Base → Type 0) (calls : ℕ → L
         (late_fine a scope h.0 h.1 env v w)
         (λ xs hx fx. late_fine b (scope ++ h.0) bs h.4 (env ++ xs) (have_append scope h.0 env xs v hx) (fit_append env xs w fx))
     late_fine (expr_choose m params outputs rel) scope bs h env v w =
-        fine_as (Chosen m (Sol outputs rel env)) (late_choose m (scope_of params) outputs rel env) outputs bs (sym h.5)
+        fine_as (Chosen m (Sol outputs rel env)) (late_choose m (bases_of params) outputs rel env) outputs bs (sym h.5)
         (subst (λ cs. Fine outputs (Chosen m (Sol outputs rel env)) (late_choose m cs outputs rel env)) (sym h.0)
         (chosen_fine m scope outputs rel env (record { typed = h.3; linear = h.4; are_outputs = outputs_too outputs h.2 }) v w))
     late_fine (expr_match n params a arms) scope bs h env v w =
         then_fine (AllowedIn allows a env) (λ xs. AllowedArm allows n arms (number_of (first_of xs)) (env ++ xs)) (Int ∷ []) bs (late_in calls a env)
-        (λ xs. late_arms calls n (scope_of params) arms (number_of (first_of xs)) (env ++ xs)) (late_fine a scope (Int ∷ []) h.1 env v w)
+        (λ xs. late_arms calls n (bases_of params) arms (number_of (first_of xs)) (env ++ xs)) (late_fine a scope (Int ∷ []) h.1 env v w)
         (match_fine n params arms scope bs env h.0 v w (λ z have fit.
         arms_fine n arms (scope ++ Int ∷ []) bs h.3 (env ++ number z ∷ []) have fit (length env) z (value_at-end env (number z) (length env) refl)
         (one_behind env (number z) (length env) refl) (last_level scope env v) (ends_with_int scope)))

@@ -10,7 +10,7 @@ use Rattle.cf_tree.specs.ExprTree.{ExprTree}
 use Rattle.cf_tree.specs.ExprView.{expr_tree}
 use Rattle.cf_tree.specs.Values.{Value}
 use Rattle.cf_match.specs.Laws.{bodies}
-use Rattle.cf_known.specs.ChooseRun.{gives}
+use Rattle.cf_late.specs.ChooseRun.{gives}
 use Rattle.cf_late.specs.Answers.{calls_in}
 use Rattle.cf_late.specs.LateRun.{late_in, late_call, late_run}
 

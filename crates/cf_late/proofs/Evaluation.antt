@@ -9,7 +9,7 @@ use Rattle.cf_tree.specs.declared.expr.Expr.{Expr}
 use Rattle.cf_tree.specs.ExprTree.{MatchArmTree, match_arm, MatchArmTrees, match_arm_more}
 use Rattle.cf_tree.specs.ExprView.{expr_tree, expr_trees}
 use Rattle.cf_tree.specs.Values.{Value, values, no_solution, truth, truth_of}
-use Rattle.cf_known.specs.ChooseRun.{LateOutcome, comes_to, overflow, refused, gives}
+use Rattle.cf_late.specs.ChooseRun.{LateOutcome, comes_to, overflow, refused, gives}
 use Rattle.cf_late.specs.declared.stop.Stop.{Stop}
 use Rattle.cf_late.specs.declared.stop.Stop.TheVariants as stop
 use Rattle.cf_late.specs.Answers.{StopIs, LateAnswer, decided_by, joined_by, arm_fits, arm_taken}

@@ -8,3 +8,7 @@ pub mod ValuesLaws
 mod ProgramExamples
 mod RunExamples
 mod TextExamples
+pub mod ChooseLaws
+pub mod KnownLaws
+mod ChooseExamples
+mod KnownExamples

@@ -4,7 +4,7 @@ use Rattle.std.proofs.lemmas.List.{drop_all, map-append, take_more}
 use Rattle.cf_tree.specs.declared.expr.Expr.{Expr}
 use Rattle.cf_tree.specs.ExprView.{expr_tree, expr_trees}
 use Rattle.cf_tree.specs.Values.{Value}
-use Rattle.cf_known.specs.ChooseRun.{LateOutcome, gives}
+use Rattle.cf_late.specs.ChooseRun.{LateOutcome, gives}
 use Rattle.cf_late.specs.declared.stop.Stop.{Stop}
 use Rattle.cf_late.specs.Answers.{StopIs}
 use Rattle.cf_late.specs.LateRun.{then_late, late_in, late_all}

@@ -4,7 +4,7 @@ use Rattle.std.specs.Prelude.{Bool, true, false, nat_le, unsigned_abs, if◌then
 use Rattle.std.proofs.lemmas.Bool.{leb-false}
 use Rattle.cf_num.specs.Limit.{limit, IsWithin}
 use Rattle.cf_tree.specs.Values.{Value, number, truth, elements, number_of}
-use Rattle.cf_known.specs.ChooseRun.{gives, overflow}
+use Rattle.cf_late.specs.ChooseRun.{gives, overflow}
 use Rattle.cf_late.specs.LateRun.{ordinary}
 
 -- a value whose number is within the limit

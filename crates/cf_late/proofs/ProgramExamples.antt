@@ -7,8 +7,8 @@ use Rattle.cf_tree.specs.declared.raw.Param.{Param}
 use Rattle.cf_tree.specs.DefView.{DefTree}
 use Rattle.cf_tree.specs.ExprTree.{expr_lit, expr_var}
 use Rattle.cf_tree.specs.Values.{Value, number, truth, values, HaveBases}
-use Rattle.cf_program.specs.Names.{bases_of}
-use Rattle.cf_known.specs.ChooseRun.{gives, overflow}
+use Rattle.cf_tree.specs.Params.{bases_of}
+use Rattle.cf_late.specs.ChooseRun.{gives, overflow}
 use Rattle.cf_late.specs.ProgramLaw.{HaveMainTypes, IsAllowedIn}
 
 abbrev param : Base → Param

@@ -18,7 +18,7 @@ use Rattle.cf_linear.specs.Cases.{disjuncts, case_count, system_of_case, first_s
 use Rattle.cf_linear.specs.Chooses.{arms, first_refused, refusal_by, limit}
 use Rattle.cf_linear.specs.Stages.{run, run_for, clean_stage, equation_stage, bound_stage, unknown_stage, row_stage, stage}
 use Rattle.cf_linear.specs.Steps.{clean, mix, factors_of, merge, merge_passes, merge_factor, last, pick, searched, dropped, searched_by, bound, bound_passes, bound_factor}
-use Rattle.cf_known.specs.ChooseRun.{LateOutcome, comes_to, overflow, refused, gives}
+use Rattle.cf_late.specs.ChooseRun.{LateOutcome, comes_to, overflow, refused, gives}
 use Rattle.cf_late.specs.LateRun.{late_run}
 
 abbrev param : Base → Param

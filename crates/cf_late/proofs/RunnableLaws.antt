@@ -15,11 +15,11 @@ use Rattle.cf_tree.specs.RelTree.{TermTree, term_add, term_mul, term_lit, term_v
 use Rattle.cf_choose.specs.Solved.{IsOutput}
 use Rattle.cf_program.specs.LateLinear.{IsLateLinearTerm, IsLateLinear}
 use Rattle.cf_program.specs.Lowered.{added, pattern_term}
-use Rattle.cf_program.specs.Names.{bases_of}
+use Rattle.cf_tree.specs.Params.{bases_of}
 use Rattle.cf_program.specs.TypedProgram.{AreSides, ExprHasBasesBy, AllHaveBy, PartsHaveBy, ArmsHaveBy, Takes, AreTypedDefsBy, IsLateProgram, IsOutput as IsTypedOutput}
 use Rattle.cf_program.specs.Walk.{side_of}
 use Rattle.cf_match.proofs.Variables.{ints_of}
-use Rattle.cf_known.specs.LateChoose.{IsLateChoose}
+use Rattle.cf_late.specs.LateChoose.{IsLateChoose}
 use Rattle.cf_late.specs.LateRun.{pattern_relation}
 use Rattle.cf_late.specs.Runnable.{IsRunnable, AreRunnable, AreRunnableArms}
 

@@ -5,7 +5,7 @@ use Rattle.std.specs.Fmt.{digits}
 use Rattle.cf_tree.specs.Values.{number, truth, values, no_solution}
 use Rattle.cf_linear.specs.declared.refusal.LimitKind.TheVariants.{Sets, Cases, Rows, Columns, Search}
 use Rattle.cf_linear.specs.declared.refusal.Refusal.TheVariants.{Past, Limit}
-use Rattle.cf_known.specs.ChooseRun.{comes_to, overflow, refused}
+use Rattle.cf_late.specs.ChooseRun.{comes_to, overflow, refused}
 use Rattle.cf_late.specs.Texts.{late_text}
 
 text-values : late_text (comes_to (values (number (pos 14) ∷ number (negsuc 6) ∷ truth true ∷ []))) ≡ codes "14 -7 true"

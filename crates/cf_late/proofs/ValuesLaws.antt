@@ -7,7 +7,7 @@ use Rattle.cf_tree.specs.Sets.{AreWithin}
 use Rattle.cf_tree.specs.Values.{Value, number_of}
 use Rattle.cf_eval.specs.declared.value.Value.{Value as RunValue}
 use Rattle.cf_eval.specs.Seen.{plain, plains}
-use Rattle.cf_known.specs.Fitting.{AreFit}
+use Rattle.cf_late.specs.Fitting.{AreFit}
 
 pub fit_append : (vs ws : List Value) → AreFit vs → AreFit ws → AreFit (vs ++ ws)
 fit_append [] ws h k = k

@@ -12,7 +12,7 @@ use Rattle.cf_tree.specs.Sets.{set_union, set_inter, set_diff, is_subset}
 use Rattle.cf_tree.specs.Values.{Value, number, truth, elements, no_solution, number_of, truth_of, elements_of, first_of}
 use Rattle.cf_match.specs.Classes.{class_of}
 use Rattle.cf_match.specs.Laws.{bodies}
-use Rattle.cf_known.specs.ChooseRun.{LateOutcome, comes_to, overflow, refused, gives}
+use Rattle.cf_late.specs.ChooseRun.{LateOutcome, comes_to, overflow, refused, gives}
 use Rattle.cf_late.specs.declared.stop.Stop.{Stop}
 use Rattle.cf_late.specs.declared.stop.Stop.TheVariants as stop
 use Rattle.cf_late.specs.LateRun.{then_late, ordinary, is_in, late_variables, late_in, late_call}

@@ -7,7 +7,8 @@ use Rattle.cf_tree.specs.declared.base.Base.TheVariants.{Int}
 use Rattle.cf_tree.specs.declared.base.Order.TheVariants.{Eq}
 use Rattle.cf_tree.specs.declared.raw.BinOp.{BinOp}
 use Rattle.cf_tree.specs.declared.raw.BinOp.TheVariants.{And, Or}
-use Rattle.cf_tree.specs.Allowed.{operation, scope_of}
+use Rattle.cf_tree.specs.Allowed.{operation}
+use Rattle.cf_tree.specs.Params.{bases_of}
 use Rattle.cf_tree.specs.ExprTree.{ExprTree, expr_lit, expr_truth, expr_var, expr_set_of, expr_tuple, expr_neg, expr_not, expr_abs, expr_binary, expr_divides, expr_div, expr_mod, expr_card, expr_if, expr_call, expr_let, expr_choose, expr_match, ExprTrees, no_exprs, expr_more, match_arm, MatchArmTrees, no_match_arms, match_arm_more}
 use Rattle.cf_tree.specs.Numbers.{quotient, remainder, is_multiple, absolute}
 use Rattle.cf_tree.specs.RelTree.{RelTree, rel_compare, term_var}
@@ -17,7 +18,7 @@ use Rattle.cf_program.specs.Lowered.{pattern_term}
 use Rattle.cf_match.specs.declared.class.Class.{Class}
 use Rattle.cf_match.specs.declared.class.Class.TheVariants.{Point, Residue}
 use Rattle.cf_match.specs.Classes.{class_of}
-use Rattle.cf_known.specs.ChooseRun.{LateOutcome, comes_to, overflow, refused, gives, late_choose}
+use Rattle.cf_late.specs.ChooseRun.{LateOutcome, comes_to, overflow, refused, gives, late_choose}
 
 -- the first part that gives no values decides
 abbrev pub then_late : LateOutcome → (List Value → LateOutcome) → LateOutcome
@@ -74,9 +75,9 @@ abbrev mutual
   late_in calls (expr_if t a b) env = then_late (late_in calls t env) (λ xs. if truth_of (first_of xs) then late_in calls a env else late_in calls b env)
   late_in calls (expr_call f es) env = then_late (late_all calls es env) (calls f)
   late_in calls (expr_let n a b) env = then_late (late_in calls a env) (λ xs. late_in calls b (env ++ xs))
-  late_in calls (expr_choose n scope outputs rel) env = late_choose n (scope_of scope) outputs rel env
+  late_in calls (expr_choose n scope outputs rel) env = late_choose n (bases_of scope) outputs rel env
   late_in calls (expr_match n scope a arms) env =
-      then_late (late_in calls a env) (λ xs. late_arms calls n (scope_of scope) arms (number_of (first_of xs)) (env ++ xs))
+      then_late (late_in calls a env) (λ xs. late_arms calls n (bases_of scope) arms (number_of (first_of xs)) (env ++ xs))
 
   -- the values of all, from left to right
   pub late_all : (ℕ → List Value → LateOutcome) → ExprTrees → List Value → LateOutcome

@@ -3,3 +3,10 @@ pub mod LateRun
 pub mod ProgramLaw
 pub mod Runnable
 pub mod Texts
+pub mod At
+pub mod ChooseRun
+pub mod Fitting
+pub mod LateChoose
+pub mod Laws
+pub mod OtherParts
+pub mod Outcomes

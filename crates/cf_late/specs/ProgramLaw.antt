@@ -3,11 +3,11 @@ use Rattle.std.specs.Prelude.{ℕ, ◌≡◌, List, slice_get, Some}
 use Rattle.cf_tree.specs.Allowed.{ProgramAllows}
 use Rattle.cf_tree.specs.DefView.{DefTree}
 use Rattle.cf_tree.specs.Values.{Value, Outcome, HaveBases}
-use Rattle.cf_program.specs.Names.{bases_of}
+use Rattle.cf_tree.specs.Params.{bases_of}
 use Rattle.cf_program.specs.TypedProgram.{IsLateProgram}
 use Rattle.cf_match.specs.Laws.{bodies}
-use Rattle.cf_known.specs.ChooseRun.{LateOutcome, comes_to}
-use Rattle.cf_known.specs.Fitting.{AreFit}
+use Rattle.cf_late.specs.ChooseRun.{LateOutcome, comes_to}
+use Rattle.cf_late.specs.Fitting.{AreFit}
 use Rattle.cf_late.specs.LateRun.{late_run}
 
 -- one value of the type of each parameter of the main function, in order

@@ -3,9 +3,9 @@ use Rattle.std.specs.Prelude.{◌-◌, List, length, map, All}
 use Rattle.cf_num.specs.Limit.{IsWithin}
 use Rattle.cf_tree.specs.declared.base.Base.{Base}
 use Rattle.cf_tree.specs.declared.base.Base.TheVariants.{Int}
-use Rattle.cf_tree.specs.Allowed.{scope_of}
+use Rattle.cf_tree.specs.Params.{bases_of}
 use Rattle.cf_tree.specs.ExprTree.{ExprTree, expr_lit, expr_truth, expr_var, expr_set_of, expr_tuple, expr_neg, expr_not, expr_abs, expr_binary, expr_divides, expr_div, expr_mod, expr_card, expr_if, expr_call, expr_let, expr_choose, expr_match, ExprTrees, no_exprs, expr_more, MatchArmTree, match_arm, MatchArmTrees, no_match_arms, match_arm_more}
-use Rattle.cf_known.specs.LateChoose.{IsLateChoose}
+use Rattle.cf_late.specs.LateChoose.{IsLateChoose}
 use Rattle.cf_late.specs.LateRun.{pattern_relation}
 
 -- the numbers of its pattern are within the limit
@@ -31,8 +31,8 @@ abbrev mutual
   IsRunnable (expr_if t a b) = IsRunnable t × IsRunnable a × IsRunnable b
   IsRunnable (expr_call f es) = AreRunnable es
   IsRunnable (expr_let n a b) = IsRunnable a × IsRunnable b
-  IsRunnable (expr_choose n scope outputs rel) = IsLateChoose (scope_of scope) outputs rel
-  IsRunnable (expr_match n scope a arms) = IsRunnable a × AreRunnableArms (scope_of scope) arms
+  IsRunnable (expr_choose n scope outputs rel) = IsLateChoose (bases_of scope) outputs rel
+  IsRunnable (expr_match n scope a arms) = IsRunnable a × AreRunnableArms (bases_of scope) arms
 
   pub AreRunnable : ExprTrees → Type 0
   AreRunnable no_exprs = Unit {0}

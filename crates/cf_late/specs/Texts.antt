@@ -6,7 +6,7 @@ use Rattle.cf_linear.specs.declared.refusal.LimitKind.TheVariants as kind
 use Rattle.cf_linear.specs.declared.refusal.Refusal.{Refusal}
 use Rattle.cf_linear.specs.declared.refusal.Refusal.TheVariants as refusal
 use Rattle.cf_eval.specs.Texts.{outcome_text}
-use Rattle.cf_known.specs.ChooseRun.{LateOutcome, comes_to, overflow, refused}
+use Rattle.cf_late.specs.ChooseRun.{LateOutcome, comes_to, overflow, refused}
 
 abbrev pub kind_text : LimitKind → List ℕ
 kind_text kind.Sets = codes "Sets"

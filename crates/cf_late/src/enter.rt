@@ -1,19 +1,16 @@
 //! Chooses that a run enters.
 ghost use Rattle.std.specs.Prelude.{◌≡◌, IfOk};
-ghost use Rattle.cf_tree.specs.Allowed.{scope_of};
+ghost use Rattle.cf_tree.specs.Params.{bases_of};
 ghost use Rattle.cf_tree.specs.RelView.{rel_tree};
-ghost use Rattle.cf_known.specs.ChooseRun.{late_choose};
-ghost use Rattle.cf_known.specs.LateChoose.{IsLateChoose};
+ghost use Rattle.cf_late.specs.ChooseRun.{late_choose};
+ghost use Rattle.cf_late.specs.LateChoose.{IsLateChoose};
 ghost use Rattle.cf_late.specs.Answers.{LateAnswer};
 
+use crate::choose::late_choose;
+use crate::outcome::LateOutcome;
 use crate::stop::Stop;
 use crate::values::Values;
-use cf_known::choose::late_choose;
-use cf_known::outcome::LateOutcome;
-use cf_tree::base::Base;
-use cf_tree::memory::NoMemory;
-use cf_tree::raw::Param;
-use cf_tree::rel::Rel;
+use cf_tree::{Base, NoMemory, Param, Rel, bases};
 use std::alloc::Global;
 
 // The values that the choose of that number comes to behind these variables.
@@ -25,8 +22,8 @@ pub(crate) fn enter(
     rel: &Rel,
     env: &Values,
 ) -> Result<Values, Stop>
-    requires late { IsLateChoose (scope_of scope.now) outputs.now (rel_tree rel.now) }
-    ensures { LateAnswer result (late_choose number (scope_of scope.now) outputs.now (rel_tree rel.now) env.now) }
+    requires late { IsLateChoose (bases_of scope.now) outputs.now (rel_tree rel.now) }
+    ensures { LateAnswer result (late_choose number (bases_of scope.now) outputs.now (rel_tree rel.now) env.now) }
 {
     let scope = bases(alloc, scope)?;
     match late_choose(alloc, number, &scope, outputs, rel, env.items())? {
@@ -35,15 +32,4 @@ pub(crate) fn enter(
         LateOutcome::Overflow => Err(Stop::Overflow),
         LateOutcome::Refused { number, refusal } => Err(Stop::Refused { number, refusal }),
     }
-}
-
-// The bases of variables.
-fn bases(alloc: Global, params: &[Param]) -> Result<Vec<Base>, NoMemory>
-    ensures { IfOk result (λ bases. bases.items ≡ scope_of params.now) }
-{
-    let mut bases = Vec::new(alloc);
-    for param in params {
-        bases.push(param.base)?;
-    }
-    Ok(bases)
 }

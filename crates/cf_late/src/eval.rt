@@ -4,7 +4,7 @@
 ghost use Rattle.std.specs.Prelude.{◌≡◌, ◌++◌, OnOk};
 ghost use Rattle.cf_num.specs.Limit.{IsWithin};
 ghost use Rattle.cf_tree.specs.ExprView.{expr_tree, expr_trees, match_arm_tree, match_arm_trees};
-ghost use Rattle.cf_tree.specs.Allowed.{scope_of};
+ghost use Rattle.cf_tree.specs.Params.{bases_of};
 ghost use Rattle.cf_tree.specs.Values.{first_of, number_of};
 ghost use Rattle.cf_late.specs.Answers.{LateAnswer, arm_taken, calls_in};
 ghost use Rattle.cf_late.specs.LateRun.{late_in, late_all, late_arms, late_right};
@@ -15,10 +15,8 @@ use crate::operate::{decided, joined, literal, over_one, set_of, truth};
 use crate::pattern::{fits, variables};
 use crate::stop::Stop;
 use crate::values::Values;
-use cf_program::typed::Late;
-use cf_tree::expr::{Expr, MatchArm};
-use cf_tree::memory::without;
-use cf_tree::raw::{BinOp, Param};
+use cf_program::Late;
+use cf_tree::{BinOp, Expr, MatchArm, Param, without};
 use std::alloc::Global;
 
 // A function that runs: its number, which is how many functions stand before it. It may call these.
@@ -184,8 +182,8 @@ fn matched(
     arms: &[MatchArm],
     env: &mut Values,
 ) -> Result<Values, Stop>
-    requires runnable { AreRunnableArms (scope_of scope.now) (match_arm_trees arms.now) }
-    ensures { LateAnswer result (late_arms (calls_in caller.now.number caller.now.late.now.defs.items) number (scope_of scope.now)
+    requires runnable { AreRunnableArms (bases_of scope.now) (match_arm_trees arms.now) }
+    ensures { LateAnswer result (late_arms (calls_in caller.now.number caller.now.late.now.defs.items) number (bases_of scope.now)
         (match_arm_trees arms.now) (number_of (first_of value)) (env.old ++ value))
         × OnOk result (env.new ≡ env.old) }
 {
@@ -208,9 +206,9 @@ fn first_arm(
     arms: &[MatchArm],
     env: &mut Values,
 ) -> Result<Values, Stop>
-    requires runnable { AreRunnableArms (scope_of scope.now) (match_arm_trees arms.now) }
+    requires runnable { AreRunnableArms (bases_of scope.now) (match_arm_trees arms.now) }
     requires fit { IsWithin z }
-    ensures { LateAnswer result (late_arms (calls_in caller.now.number caller.now.late.now.defs.items) number (scope_of scope.now)
+    ensures { LateAnswer result (late_arms (calls_in caller.now.number caller.now.late.now.defs.items) number (bases_of scope.now)
         (match_arm_trees arms.now) z env.old)
         × OnOk result (env.new ≡ env.old) }
 {
@@ -225,8 +223,8 @@ fn first_arm(
 // An arm whose test holds.
 #[cycle(eval)]
 fn taken(caller: &Caller, scope: &[Param], arm: &MatchArm, env: &mut Values) -> Result<Values, Stop>
-    requires runnable { IsRunnableArm (scope_of scope.now) (match_arm_tree arm.now) }
-    ensures { LateAnswer result (arm_taken (calls_in caller.now.number caller.now.late.now.defs.items) (scope_of scope.now)
+    requires runnable { IsRunnableArm (bases_of scope.now) (match_arm_tree arm.now) }
+    ensures { LateAnswer result (arm_taken (calls_in caller.now.number caller.now.late.now.defs.items) (bases_of scope.now)
         (match_arm_tree arm.now) env.old)
         × OnOk result (env.new ≡ env.old) }
 {

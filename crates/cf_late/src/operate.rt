@@ -6,20 +6,16 @@ ghost use Rattle.cf_tree.specs.Numbers.{absolute};
 ghost use Rattle.cf_tree.specs.Sets.{AreWithin, set_of as the_set_of};
 ghost use Rattle.cf_tree.specs.Values.{number as a_number, truth as a_truth, elements as a_set, number_of, elements_of, first_of, compared};
 ghost use Rattle.cf_eval.specs.Seen.{plain, plains};
-ghost use Rattle.cf_known.specs.ChooseRun.{gives};
-ghost use Rattle.cf_known.specs.Fitting.{AreFit};
+ghost use Rattle.cf_late.specs.ChooseRun.{gives};
+ghost use Rattle.cf_late.specs.Fitting.{AreFit};
 ghost use Rattle.cf_late.specs.Answers.{LateAnswer, met as met_late, of_numbers, of_sets, one_part, decided_by, joined_by};
 ghost use Rattle.cf_late.specs.LateRun.{ordinary};
 
 use crate::stop::Stop;
 use crate::values::Values;
-use cf_eval::operate::{compare, divide, number_in, remain};
-use cf_eval::value::Value;
+use cf_eval::{Value, compare, divide, number_in, remain};
 use cf_set::Set;
-use cf_tree::base::Order;
-use cf_tree::expr::Expr;
-use cf_tree::memory::NoMemory;
-use cf_tree::raw::BinOp;
+use cf_tree::{BinOp, Expr, NoMemory, Order};
 use std::alloc::Global;
 
 fn set_in(alloc: Global, values: Values) -> Result<Set, NoMemory>

@@ -3,9 +3,9 @@ ghost use Rattle.std.specs.Prelude.{◌≡◌, ◌-◌, map, length};
 ghost use Rattle.std.specs.Ordering.{int_eq};
 ghost use Rattle.cf_num.specs.Limit.{IsWithin};
 ghost use Rattle.cf_tree.specs.declared.base.Base.TheVariants as bases;
-ghost use Rattle.cf_tree.specs.Allowed.{scope_of};
+ghost use Rattle.cf_tree.specs.Params.{bases_of};
 ghost use Rattle.cf_tree.specs.ExprView.{match_arm_tree};
-ghost use Rattle.cf_known.specs.LateChoose.{IsLateChoose};
+ghost use Rattle.cf_late.specs.LateChoose.{IsLateChoose};
 ghost use Rattle.cf_late.specs.Answers.{LateAnswer, arm_fits};
 ghost use Rattle.cf_late.specs.LateRun.{is_in, late_variables, pattern_relation};
 ghost use Rattle.cf_late.specs.Runnable.{HasFitPattern};
@@ -13,11 +13,9 @@ ghost use Rattle.cf_late.specs.Runnable.{HasFitPattern};
 use crate::enter::enter;
 use crate::stop::Stop;
 use crate::values::Values;
-use cf_eval::operate::remain;
-use cf_match::class::{Class, class_of};
-use cf_match::pattern::{last_level, numbers, pattern_relation};
-use cf_tree::expr::MatchArm;
-use cf_tree::raw::Param;
+use cf_eval::remain;
+use cf_match::{Class, class_of, last_level, numbers, pattern_relation};
+use cf_tree::{MatchArm, Param};
 use std::alloc::Global;
 
 // Whether the test of an arm holds of a number.
@@ -55,9 +53,9 @@ pub(crate) fn variables(
     arm: &MatchArm,
     env: &Values,
 ) -> Result<Values, Stop>
-    requires late { IsLateChoose (scope_of scope.now) (map (λ _. bases.Int) arm.now.factors.items)
-        (pattern_relation (length (scope_of scope.now) - 1) arm.now.factors.items arm.now.constant) }
-    ensures { LateAnswer result (late_variables arm.now.number (scope_of scope.now) arm.now.factors.items arm.now.constant env.now) }
+    requires late { IsLateChoose (bases_of scope.now) (map (λ _. bases.Int) arm.now.factors.items)
+        (pattern_relation (length (bases_of scope.now) - 1) arm.now.factors.items arm.now.constant) }
+    ensures { LateAnswer result (late_variables arm.now.number (bases_of scope.now) arm.now.factors.items arm.now.constant env.now) }
 {
     if arm.factors.is_empty() {
         return Ok(Values::none(alloc));

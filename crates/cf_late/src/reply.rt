@@ -2,14 +2,13 @@
 ghost use Rattle.std.specs.Prelude.{◌≡◌, IfOk, flat_map};
 ghost use Rattle.cf_eval.specs.Seen.{plains};
 ghost use Rattle.cf_eval.specs.Texts.{values_text};
-ghost use Rattle.cf_known.specs.Outcomes.{late_of};
+ghost use Rattle.cf_late.specs.Outcomes.{late_of};
 ghost use Rattle.cf_late.specs.Texts.{late_text, kind_text as the_kind_text, refusal_text};
 
-use cf_eval::reply::{put_values, reply};
-use cf_eval::value::{Outcome, Value};
-use cf_known::outcome::LateOutcome;
-use cf_linear::refusal::{LimitKind, Refusal};
-use cf_tree::memory::NoMemory;
+use crate::outcome::LateOutcome;
+use cf_eval::{Outcome, Value, put_values, reply};
+use cf_linear::{LimitKind, Refusal};
+use cf_tree::NoMemory;
 use itoa::Buffer;
 use std::alloc::Global;
 

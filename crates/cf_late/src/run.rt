@@ -3,19 +3,19 @@ ghost use Rattle.std.specs.Prelude.{◌≡◌, ◌<◌, length, map, IfOk};
 ghost use Rattle.cf_tree.specs.DefView.{def_tree};
 ghost use Rattle.cf_eval.specs.Seen.{plains};
 ghost use Rattle.cf_match.specs.Laws.{bodies};
-ghost use Rattle.cf_known.specs.Fitting.{AreFit};
-ghost use Rattle.cf_known.specs.Outcomes.{late_of, IsFitOutcome};
+ghost use Rattle.cf_late.specs.Fitting.{AreFit};
+ghost use Rattle.cf_late.specs.Outcomes.{late_of, IsFitOutcome};
 ghost use Rattle.cf_late.specs.Answers.{LateAnswer};
 ghost use Rattle.cf_late.specs.LateRun.{late_run};
 ghost use Rattle.cf_late.specs.ProgramLaw.{HaveMainTypes, IsAllowedIn};
 
 use crate::eval::{Caller, eval};
+use crate::outcome::LateOutcome;
 use crate::stop::Stop;
 use crate::values::Values;
-use cf_eval::value::Value;
-use cf_known::outcome::LateOutcome;
-use cf_program::typed::Late;
-use cf_tree::memory::NoMemory;
+use cf_eval::Value;
+use cf_program::Late;
+use cf_tree::NoMemory;
 use std::alloc::Global;
 
 /// What the main function comes to on these values, one for each of its parameters. Each choose is

@@ -1,6 +1,6 @@
 //! Why a late run stops.
-use cf_linear::refusal::Refusal;
-use cf_tree::memory::NoMemory;
+use cf_linear::Refusal;
+use cf_tree::NoMemory;
 use std::alloc::{AllocError, AllocFailed};
 
 // No memory, a number past the limit, no solution at a choose, or a choose that is refused.

@@ -5,10 +5,10 @@ ghost use Rattle.std.specs.Prelude.{◌≡◌, ◌++◌, ◌∷◌, [], pos, len
 ghost use Rattle.cf_num.specs.Limit.{IsWithin};
 ghost use Rattle.cf_tree.specs.Values.{number_of, truth_of, elements_of, value_at, first_of};
 ghost use Rattle.cf_eval.specs.Seen.{plain, plains};
-ghost use Rattle.cf_known.specs.Fitting.{AreFit};
+ghost use Rattle.cf_late.specs.Fitting.{AreFit};
 
-use cf_eval::value::Value;
-use cf_tree::memory::NoMemory;
+use cf_eval::Value;
+use cf_tree::NoMemory;
 use std::alloc::Global;
 use std::marker::Model;
 
@@ -26,7 +26,7 @@ impl Model for Values {
     ghost Value = { List PlainValue };
 
     ghost use Rattle.cf_eval.specs.Seen.{plains};
-    ghost use Rattle.cf_known.specs.Fitting.{AreFit};
+    ghost use Rattle.cf_late.specs.Fitting.{AreFit};
 
     ghost view = { λ v. plains v.items.items };
 

@@ -1,6 +1,5 @@
 //! Why a text has no tokens.
-use cf_tree::base::Place;
-use cf_tree::memory::NoMemory;
+use cf_tree::{NoMemory, Place};
 use std::alloc::AllocFailed;
 
 /// Why a text has no tokens.

@@ -2,12 +2,13 @@
 #![tactic(auto)]
 
 mod bytes;
-pub mod digits;
+mod digits;
 mod fault;
 mod front;
 mod lexer;
 mod token;
 
+pub use crate::digits::{digits_len, literal};
 pub use fault::LexFault;
 pub use lexer::tokens;
 pub use token::{Token, TokenKind, TokenList};

@@ -1,5 +1,5 @@
 //! Tokens and their places.
-use cf_tree::base::{Place, Text};
+use cf_tree::{Place, Text};
 
 /// What a token is.
 #[derive(Drop)]

@@ -8,6 +8,7 @@ pub mod Examples
 pub mod FormedLemmas
 pub mod Joining
 pub mod KindLemmas
+mod LimitExamples
 pub mod MapLemmas
 pub mod MergingLemmas
 pub mod PassingLemmas
@@ -21,3 +22,10 @@ pub mod SubstituteLemmas
 pub mod ValueLemmas
 pub mod WrittenLemmas
 pub mod WritingLemmas
+pub mod PartColumns
+pub mod EquationLaws
+pub mod FactorValues
+pub mod PartLemmas
+pub mod SideLemmas
+pub mod UnknownLemmas
+mod LastExamples

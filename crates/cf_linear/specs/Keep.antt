@@ -11,6 +11,11 @@ abbrev pub In : ℕ → List ℕ → Type 0
 In c [] = ⊥
 In c (d ∷ ds) = (c ≡ d) ⊎ In c ds
 
+-- all columns of the list are different
+abbrev pub Differ : List ℕ → Type 0
+Differ [] = Unit {0}
+Differ (c ∷ cs) = (In c cs → ⊥) × Differ cs
+
 -- each column of the row is of the kind
 abbrev pub Over : (ℕ → Type 0) → Row → Type 0
 Over Q [] = Unit {0}

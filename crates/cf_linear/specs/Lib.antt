@@ -13,3 +13,8 @@ pub mod Views
 pub mod Relations
 pub mod Keep
 pub mod Solved
+pub mod Factors
+pub mod RowParts
+pub mod Searching
+pub mod Sides
+pub mod Unknowns

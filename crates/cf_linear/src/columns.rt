@@ -7,8 +7,7 @@ ghost use Rattle.cf_linear.specs.Views.{plain_layout};
 
 use crate::row::Row;
 use crate::system::Layout;
-use cf_tree::memory::NoMemory;
-use cf_tree::rel::SetTerm;
+use cf_tree::{NoMemory, SetTerm};
 use std::alloc::Global;
 
 impl Layout {

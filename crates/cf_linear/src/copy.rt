@@ -4,7 +4,7 @@ ghost use Rattle.cf_linear.specs.Views.{system_of};
 
 use crate::row::Row;
 use crate::system::System;
-use cf_tree::memory::NoMemory;
+use cf_tree::NoMemory;
 use std::alloc::Global;
 
 impl System {

@@ -1,7 +1,7 @@
 //! Refusals of a `choose`.
 ghost use Rattle.std.specs.Prelude.{◌≡◌};
 
-use cf_tree::memory::NoMemory;
+use cf_tree::NoMemory;
 use std::alloc::{AllocError, AllocFailed};
 
 /// The most set variables of a `choose`: parameters that occur in its relation, and outputs.

@@ -7,7 +7,7 @@ ghost use Rattle.cf_linear.specs.Parts.{RowAnswer, OnlySums};
 
 use crate::refusal::RowFault;
 use cf_num::{add, mul};
-use cf_tree::memory::NoMemory;
+use cf_tree::NoMemory;
 use indexmap::IndexMap;
 use std::alloc::Global;
 use std::marker::Model;
@@ -90,10 +90,11 @@ impl Row {
             let column = next_column(self, i, other, j);
             let (k, next_i) = self.take_at(i, column);
             let (m, next_j) = other.take_at(j, column);
-            match out.append_sum(column, a, k, b, m) {
-                Ok(()) => {}
-                Err(fault) => return Err(fault),
-            }
+            let sum = match two_products(a, k, b, m) {
+                Some(sum) => sum,
+                None => return Err(RowFault::Past),
+            };
+            out.append(column, sum)?;
             i = next_i;
             j = next_j;
         }
@@ -143,10 +144,7 @@ impl Row {
         let mut total: i128 = 0;
         for i in 0..self.len() {
             let (column, k) = self.at(i);
-            match next_sum(total, k, values[column as usize]) {
-                Some(next) => total = next,
-                None => return None,
-            }
+            total = next_sum(total, k, values[column as usize])?;
         }
         Some(total)
     }
@@ -220,33 +218,6 @@ impl Row {
             self.entries.insert(column, k)?;
         }
         Ok(())
-    }
-
-    // Adds `a * k + b * m` at the end, if it is not 0.
-    fn append_sum(
-        &mut self,
-        column: u32,
-        a: i128,
-        k: i128,
-        b: i128,
-        m: i128,
-    ) -> Result<(), RowFault>
-        requires after { AreBelow column self.old }
-        requires a_in { IsWithin a }
-        requires k_in { IsWithin k }
-        requires b_in { IsWithin b }
-        requires m_in { IsWithin m }
-        ensures value { OnOk result (self.new ≡ self.old ++ put column (a *ℤ k +ℤ b *ℤ m) []) }
-        ensures fits { OnOk result (sum_passes a k b m ≡ false) }
-        ensures past { result ≡ Err RowFault.Past → sum_passes a k b m ≡ true }
-    {
-        match two_products(a, k, b, m) {
-            Some(z) => match self.append(column, z) {
-                Ok(()) => Ok(()),
-                Err(_) => Err(RowFault::NoMemory),
-            },
-            None => Err(RowFault::Past),
-        }
     }
 
     // The entry at the column of what is left from `i` on, and where the rest is.

@@ -6,7 +6,7 @@ ghost use Rattle.cf_linear.specs.Steps.{two_at};
 
 use crate::refusal::RowFault;
 use crate::row::Row;
-use cf_tree::memory::NoMemory;
+use cf_tree::NoMemory;
 use std::alloc::Global;
 
 impl Row {

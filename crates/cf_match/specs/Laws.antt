@@ -5,7 +5,7 @@ use Rattle.cf_tree.specs.DefView.{DefTree}
 use Rattle.cf_tree.specs.ExprTree.{ExprTree}
 use Rattle.cf_tree.specs.Values.{Value, Outcome, HaveBases}
 use Rattle.cf_program.specs.Lowered.{lowered_def}
-use Rattle.cf_program.specs.Names.{bases_of}
+use Rattle.cf_tree.specs.Params.{bases_of}
 use Rattle.cf_program.specs.TypedProgram.{IsTypedProgram}
 use Rattle.cf_program.specs.NoMatch.{HasNoMatch}
 

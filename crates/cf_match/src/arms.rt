@@ -15,12 +15,7 @@ ghost use Rattle.cf_match.specs.Forms.{class_test, fits_test, with_arm, picked_o
 
 use crate::class::{Class, class_of};
 use crate::pattern::{last_level, numbers, pattern_relation};
-use cf_tree::base::{Base, Order};
-use cf_tree::copy::words::copy_params;
-use cf_tree::expr::{Expr, MatchArm};
-use cf_tree::memory::NoMemory;
-use cf_tree::raw::{BinOp, Param};
-use cf_tree::rel::Rel;
+use cf_tree::{Base, BinOp, Expr, MatchArm, NoMemory, Order, Param, Rel, copy_params};
 use std::alloc::Global;
 
 // A match whose value and bodies are lowered.

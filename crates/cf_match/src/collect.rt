@@ -10,8 +10,7 @@ ghost use Rattle.cf_match.specs.Matches.{match_tree, number_of_arm, matches, mat
 use crate::arms::arm_class;
 use crate::class::Class;
 use crate::lowered::MatchInfo;
-use cf_tree::expr::{Def, Expr, MatchArm};
-use cf_tree::memory::NoMemory;
+use cf_tree::{Def, Expr, MatchArm, NoMemory};
 use std::alloc::Global;
 
 // The matches of functions, in the order of the text.

@@ -2,13 +2,17 @@
 #![tactic(auto)]
 
 mod arms;
-pub mod class;
+mod class;
 mod collect;
-mod lower;
-pub mod lowered;
-pub mod pattern;
+mod lowered;
+mod lowering;
+mod pattern;
 
 ghost use Rattle.cf_match.specs.Laws.{LoweringKeepsOutcomes, LoweringKeepsTypes, LoweringLeavesNoMatch};
+
+pub use crate::class::{Class, class_of};
+pub use crate::lowered::{Lowered, MatchInfo, lower};
+pub use crate::pattern::{last_level, numbers, pattern_relation};
 
 /// A typed program with each match as the chooses that it stands for is a typed program without
 /// matches, and each of its functions allows the same outcomes as before.

@@ -13,10 +13,9 @@ ghost use Rattle.cf_match.specs.Matches.{match_tree, all_matches};
 
 use crate::class::Class;
 use crate::collect::collect;
-use crate::lower::lower_defs;
-use cf_program::typed::{Typed, TypedDefs};
-use cf_tree::expr::Def;
-use cf_tree::memory::{NoMemory, without};
+use crate::lowering::lower_defs;
+use cf_program::{Typed, TypedDefs};
+use cf_tree::{Def, NoMemory, without};
 use std::alloc::Global;
 use std::marker::Model;
 

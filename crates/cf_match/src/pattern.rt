@@ -6,10 +6,7 @@ ghost use Rattle.cf_tree.specs.RelTree.{rel_compare, term_lit, term_var, term_mu
 ghost use Rattle.cf_tree.specs.RelView.{term_tree, rel_tree};
 ghost use Rattle.cf_program.specs.Lowered.{added, pattern_term};
 
-use cf_tree::base::{Base, Order};
-use cf_tree::memory::{NoMemory, without};
-use cf_tree::raw::Param;
-use cf_tree::rel::{Rel, Term};
+use cf_tree::{Base, NoMemory, Order, Param, Rel, Term, without};
 use std::alloc::Global;
 
 /// The level of the last variable in scope.

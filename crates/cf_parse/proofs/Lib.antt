@@ -8,3 +8,4 @@ pub mod Only
 pub mod Defs
 pub mod Programs
 pub mod Examples
+mod LimitExamples

@@ -11,6 +11,6 @@ mod source;
 mod tier;
 mod words;
 
-pub use cf_reader::fault::ParseFault;
+pub use cf_reader::ParseFault;
 pub use cf_target::target;
 pub use source::program;

@@ -6,11 +6,8 @@ ghost use Rattle.cf_reader.specs.Readers.{must, a_name, snoc, others_of, several
 ghost use Rattle.cf_parse.specs.Reading.{named, param_of, params_of, names_of};
 
 use cf_lex::Token;
-use cf_reader::stop::Stop;
-use cf_reader::tokens::{after_sign, expect_name, expect_sign};
-use cf_reader::words::expect_base;
-use cf_tree::base::{Place, Text};
-use cf_tree::raw::Param;
+use cf_reader::{ReadStop, after_sign, expect_base, expect_name, expect_sign};
+use cf_tree::{Param, Place, Text};
 use std::alloc::Global;
 
 /// Names and their places, in order.
@@ -22,7 +19,7 @@ pub struct Names {
 
 // A name and its base.
 #[tactic(auto, unfolding(cf_reader::specs::Readers::pure, cf_reader::specs::Readers::bind, crate::specs::Reading::param_of))]
-fn param(alloc: Global, tokens: &[Token]) -> Result<(Param, &[Token]), Stop>
+fn param(alloc: Global, tokens: &[Token]) -> Result<(Param, &[Token]), ReadStop>
     ensures { ReadAnswer (λ x. (x.0, x.1.now)) result (param_of tokens.now) }
 {
     let ((place, name), rest) = expect_name(alloc, tokens)?;
@@ -32,7 +29,7 @@ fn param(alloc: Global, tokens: &[Token]) -> Result<(Param, &[Token]), Stop>
 }
 
 // The parameters with one more.
-fn with_param(params: Vec<Param>, param: Param) -> Result<Vec<Param>, Stop>
+fn with_param(params: Vec<Param>, param: Param) -> Result<Vec<Param>, ReadStop>
     ensures { ReadAnswer (λ x. x.items) result (Ok (snoc params.items param)) }
 {
     let mut all = params;
@@ -42,7 +39,7 @@ fn with_param(params: Vec<Param>, param: Param) -> Result<Vec<Param>, Stop>
 
 /// One parameter or more, up to the closing parenthesis.
 #[tactic(auto, unfolding(cf_reader::specs::Readers::bind, cf_reader::specs::Readers::several_of))]
-pub fn params(alloc: Global, tokens: &[Token]) -> Result<(Vec<Param>, &[Token]), Stop>
+pub fn params(alloc: Global, tokens: &[Token]) -> Result<(Vec<Param>, &[Token]), ReadStop>
     ensures { ReadAnswer (λ x. (x.0.items, x.1.now)) result (several_of snoc param_of (Sign (codes ",")) (Sign (codes ")")) [] tokens.now) }
 {
     let (first, rest) = param(alloc, tokens)?;
@@ -54,7 +51,7 @@ fn more_params(
     alloc: Global,
     first: Vec<Param>,
     tokens: &[Token],
-) -> Result<(Vec<Param>, &[Token]), Stop>
+) -> Result<(Vec<Param>, &[Token]), ReadStop>
     ensures { ReadAnswer (λ x. (x.0.items, x.1.now)) result (others_of snoc param_of (Sign (codes ",")) (Sign (codes ")")) first.items tokens.now) }
 {
     let mut done = first;
@@ -73,12 +70,12 @@ fn more_params(
         }
     }
     // for the proof: the loop ends before
-    Err(Stop::TokensLeft(0))
+    Err(ReadStop::TokensLeft(0))
 }
 
 /// Parameters, if any, up to the closing parenthesis.
 #[tactic(auto, unfolding(cf_reader::specs::Readers::first, cf_reader::specs::Readers::pure, crate::specs::Reading::params_of))]
-pub fn maybe_params(alloc: Global, tokens: &[Token]) -> Result<(Vec<Param>, &[Token]), Stop>
+pub fn maybe_params(alloc: Global, tokens: &[Token]) -> Result<(Vec<Param>, &[Token]), ReadStop>
     ensures { ReadAnswer (λ x. (x.0.items, x.1.now)) result (params_of tokens.now) }
 {
     match after_sign(")", tokens) {
@@ -99,7 +96,7 @@ fn no_names(alloc: Global) -> Names
 }
 
 // One more name.
-fn with_name(names: Names, name: (Place, Text)) -> Result<Names, Stop>
+fn with_name(names: Names, name: (Place, Text)) -> Result<Names, ReadStop>
     ensures { ReadAnswer (λ x. (x.names.items, x.places.items)) result (Ok (named (names.names.items, names.places.items) (name.0, name.1))) }
 {
     let mut all = names.names;
@@ -111,7 +108,7 @@ fn with_name(names: Names, name: (Place, Text)) -> Result<Names, Stop>
 
 /// A name, or two or more in parentheses.
 #[tactic(auto, using(crate::proofs::Steps::names_several), unfolding(cf_reader::specs::Readers::first, cf_reader::specs::Readers::bind, cf_reader::specs::Readers::pure, cf_reader::specs::Readers::one_or_tuple, crate::specs::Reading::names_of))]
-pub fn read_names(alloc: Global, tokens: &[Token]) -> Result<(Names, &[Token]), Stop>
+pub fn read_names(alloc: Global, tokens: &[Token]) -> Result<(Names, &[Token]), ReadStop>
     ensures { ReadAnswer (λ x. ((x.0.names.items, x.0.places.items), x.1.now)) result (names_of tokens.now) }
 {
     match after_sign("(", tokens) {
@@ -130,7 +127,7 @@ pub fn read_names(alloc: Global, tokens: &[Token]) -> Result<(Names, &[Token]), 
 }
 
 #[tactic(auto, unfolding(cf_reader::specs::Readers::others_of))]
-fn more_names(alloc: Global, first: Names, tokens: &[Token]) -> Result<(Names, &[Token]), Stop>
+fn more_names(alloc: Global, first: Names, tokens: &[Token]) -> Result<(Names, &[Token]), ReadStop>
     ensures { ReadAnswer (λ x. ((x.0.names.items, x.0.places.items), x.1.now)) result
         (others_of named (must a_name) (Sign (codes ",")) (Sign (codes ")")) (first.names.items, first.places.items) tokens.now) }
 {
@@ -150,5 +147,5 @@ fn more_names(alloc: Global, first: Names, tokens: &[Token]) -> Result<(Names, &
         }
     }
     // for the proof: the loop ends before
-    Err(Stop::TokensLeft(0))
+    Err(ReadStop::TokensLeft(0))
 }

@@ -3,7 +3,7 @@ ghost use Rattle.std.specs.Prelude.{◌≡◌};
 ghost use Rattle.cf_tree.specs.RawTree.{raw_depth, raws_depth, raw_arm_depth, raw_arms_depth};
 ghost use Rattle.cf_tree.specs.RawView.{raw_tree, raw_trees, raw_arm_tree, raw_arm_trees};
 
-use cf_tree::raw::{Raw, RawArm};
+use cf_tree::{Raw, RawArm};
 
 /// A tree and its depth.
 #[derive(Drop)]

@@ -8,10 +8,8 @@ ghost use Rattle.cf_parse.specs.Reading.{next_op as next_op_of, lone_literal as 
 
 use crate::tier::Tier;
 use cf_lex::Token;
-use cf_reader::operations::operation;
-use cf_reader::tokens::after_word;
-use cf_tree::base::Place;
-use cf_tree::raw::{BinOp, Raw, RawNode};
+use cf_reader::{after_word, operation};
+use cf_tree::{BinOp, Place, Raw, RawNode};
 
 /// The tier next inside.
 pub fn under(tier: Tier) -> Tier

@@ -3,7 +3,7 @@ ghost use Rattle.std.specs.Prelude.{◌≡◌, ◌-◌};
 ghost use Rattle.cf_tree.specs.CodeView.{code_tree, item_tree, arm_tree, item_trees, arm_trees};
 ghost use Rattle.cf_pass.specs.DropArms.{never_holds, some_never, is_dead, all_dead, live_arms, arms_left, without_arms, arm_count, dead_at};
 
-use cf_tree::code::{Arm, Code, Item};
+use cf_tree::{Arm, Code, Item};
 
 /// Removes each arm of a solve that holds an item `need false`, and answers how many it removed. Where every arm
 /// holds one, the first arm stays. Another form stays, and so do the parts of a form.

@@ -10,8 +10,7 @@ use crate::dead_arms::drop_arms;
 use crate::pass::Pass;
 use crate::rule::Rule;
 use crate::walk::rewrite_each;
-use cf_tree::code::Code;
-use cf_tree::memory::NoMemory;
+use cf_tree::{Code, NoMemory};
 use std::alloc::Global;
 
 /// Removes each arm that holds an item `need false`; where every arm of a solve holds one, its first arm stays.
@@ -51,11 +50,7 @@ impl Pass for DropArms {
     ghost use Rattle.cf_pass.specs.Improves.{Improves, IsTypedBehind};
     ghost use Rattle.cf_pass.specs.Rewritten.{rewritten, units_of};
 
-    ghost name = { λ p. codes "drop-arms" };
-
-    ghost tally = { λ p. p.arms.tally };
-
-    ghost turns = { λ p. p.turns };
+    ghost told = { λ p. record { name = codes "drop-arms"; tally = p.arms.tally; turns = p.turns } };
 
     fn name(&self) -> &str {
         "drop-arms"

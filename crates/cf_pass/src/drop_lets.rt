@@ -10,8 +10,7 @@ use crate::pass::Pass;
 use crate::rule::Rule;
 use crate::unused_lets::drop_lets;
 use crate::walk::rewrite_each;
-use cf_tree::code::Code;
-use cf_tree::memory::NoMemory;
+use cf_tree::{Code, NoMemory};
 use std::alloc::Global;
 
 /// Removes, from the last item of an arm to the first, each let that no later item and no give of the arm uses. One
@@ -51,11 +50,7 @@ impl Pass for DropLets {
     ghost use Rattle.cf_pass.specs.Improves.{Improves, IsTypedBehind};
     ghost use Rattle.cf_pass.specs.Rewritten.{rewritten, units_of};
 
-    ghost name = { λ p. codes "drop-lets" };
-
-    ghost tally = { λ p. p.lets.tally };
-
-    ghost turns = { λ p. p.turns };
+    ghost told = { λ p. record { name = codes "drop-lets"; tally = p.lets.tally; turns = p.turns } };
 
     fn name(&self) -> &str {
         "drop-lets"

@@ -10,8 +10,7 @@ use crate::pass::Pass;
 use crate::rule::Rule;
 use crate::true_needs::drop_needs;
 use crate::walk::rewrite_each;
-use cf_tree::code::Code;
-use cf_tree::memory::NoMemory;
+use cf_tree::{Code, NoMemory};
 use std::alloc::Global;
 
 /// Removes each item `need true`. One removed item is one unit.
@@ -50,11 +49,7 @@ impl Pass for DropNeeds {
     ghost use Rattle.cf_pass.specs.Improves.{Improves, IsTypedBehind};
     ghost use Rattle.cf_pass.specs.Rewritten.{rewritten, units_of};
 
-    ghost name = { λ p. codes "drop-needs" };
-
-    ghost tally = { λ p. p.needs.tally };
-
-    ghost turns = { λ p. p.turns };
+    ghost told = { λ p. record { name = codes "drop-needs"; tally = p.needs.tally; turns = p.turns } };
 
     fn name(&self) -> &str {
         "drop-needs"

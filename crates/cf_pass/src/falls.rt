@@ -5,7 +5,7 @@ ghost use Rattle.cf_tree.specs.CodeView.{code_tree, item_tree, code_trees, item_
 ghost use Rattle.cf_pass.specs.Lets.{moved, all_moved, item_moved};
 ghost use Rattle.cf_pass.specs.LetSteps.{lowered, next_stays, next_gone, next_dropped, item_stays, item_gone, item_dropped, item_rest, left};
 
-use cf_tree::code::{Arm, Code, Item};
+use cf_tree::{Arm, Code, Item};
 
 // How levels fall behind some lets.
 #[derive(Drop)]

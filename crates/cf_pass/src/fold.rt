@@ -10,8 +10,7 @@ use crate::folded::folded;
 use crate::pass::Pass;
 use crate::rule::Rule;
 use crate::walk::rewrite_each;
-use cf_tree::code::Code;
-use cf_tree::memory::NoMemory;
+use cf_tree::{Code, NoMemory};
 use std::alloc::Global;
 
 /// Replaces, parts first, each form of literals by its value, where no number met in it passes `2^127 - 1`. Such a form
@@ -52,11 +51,7 @@ impl Pass for Fold {
     ghost use Rattle.cf_pass.specs.Improves.{Improves, IsTypedBehind};
     ghost use Rattle.cf_pass.specs.Rewritten.{rewritten, units_of};
 
-    ghost name = { λ p. codes "fold" };
-
-    ghost tally = { λ p. p.forms.tally };
-
-    ghost turns = { λ p. p.turns };
+    ghost told = { λ p. record { name = codes "fold"; tally = p.forms.tally; turns = p.turns } };
 
     fn name(&self) -> &str {
         "fold"

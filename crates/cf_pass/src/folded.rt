@@ -8,8 +8,7 @@ ghost use Rattle.cf_pass.specs.Folding.{folded_value};
 ghost use Rattle.cf_pass.specs.Literals.{values_of, met_value, IsMet, then_some, better_of, of_two, difference_of, product_of, negated_of, quotient_of, remainder_of, comparison_of, multiple_of, conjunction_of, disjunction_of, negation_of, sum_of, best_of, form_value};
 
 use crate::literal::{Literal, Side, compare, limited_literal, met_literal, read_literal};
-use cf_tree::base::Order;
-use cf_tree::code::Code;
+use cf_tree::{Code, Order};
 
 // The value of the form, if it is folded.
 pub fn folded(code: &Code) -> Option<Literal>

@@ -6,8 +6,7 @@ ghost use Rattle.cf_tree.specs.Values.{number_of, truth_of, same_value, compared
 ghost use Rattle.cf_pass.specs.Folding.{literal_value, literal_of};
 ghost use Rattle.cf_pass.specs.Literals.{value_of, values_of, limited, met_value, IsMet};
 
-use cf_tree::base::Order;
-use cf_tree::code::Code;
+use cf_tree::{Code, Order};
 
 // What a literal gives.
 #[derive(Clone, Copy)]

@@ -4,8 +4,7 @@ ghost use Rattle.cf_tree.specs.CodeView.{code_tree, item_tree, code_trees, item_
 ghost use Rattle.cf_pass.specs.Parts.{count_lets};
 ghost use Rattle.cf_pass.specs.LetSteps.{level_marked, marked, all_marked, item_marked, items_marked, lets_of, lets_before, lets_stay};
 
-use cf_tree::code::{Code, Item};
-use cf_tree::memory::NoMemory;
+use cf_tree::{Code, Item, NoMemory};
 use std::alloc::Global;
 
 // One truth value for each let, in order. The first let has level `first`.

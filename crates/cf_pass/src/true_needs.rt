@@ -4,7 +4,7 @@ ghost use Rattle.cf_tree.specs.CodeView.{code_tree, item_tree, arm_tree, item_tr
 ghost use Rattle.cf_tree.specs.RelSize.{capped};
 ghost use Rattle.cf_pass.specs.DropNeeds.{always_holds, other_items, arm_without, arms_without, without_needs, needs_in, needs_in_arm, needs_in_arms, needs_at};
 
-use cf_tree::code::{Arm, Code, Item};
+use cf_tree::{Arm, Code, Item};
 
 /// Removes each item `need true` of a solve, and answers how many it removed, at most `2^64 - 1`.
 /// Another form stays, and so do the parts of a form.

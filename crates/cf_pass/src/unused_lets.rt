@@ -7,8 +7,7 @@ ghost use Rattle.cf_pass.specs.LetSteps.{lets_stay, settled, removed_from, dropp
 
 use crate::falls::{Fall, lower_all, settle_items};
 use crate::marks::lets_that_stay;
-use cf_tree::code::{Arm, Code, Item};
-use cf_tree::memory::NoMemory;
+use cf_tree::{Arm, Code, Item, NoMemory};
 use std::alloc::Global;
 
 /// Removes each let of a solve that no later item and no give of its arm uses, from the last item to the first, where

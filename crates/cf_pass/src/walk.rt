@@ -7,8 +7,7 @@ ghost use Rattle.cf_pass.specs.Rewritten.{rewritten, units_of};
 ghost use Rattle.cf_pass.specs.Walked.{Outcome, FormWalked, Walked, PartsWalked, AllWalked, GivesWalked, ItemWalked, ItemsWalked, ArmWalked, ArmsWalked};
 
 use crate::rule::Rule;
-use cf_tree::code::{Arm, Code, Item};
-use cf_tree::memory::NoMemory;
+use cf_tree::{Arm, Code, Item, NoMemory, add_u32, to_u32};
 use std::alloc::Global;
 
 /// The rule at each form of the code, outside which `outside` variables are bound.
@@ -33,10 +32,7 @@ fn behind(so_far: Result<(), NoMemory>, outside: u32, more: u32) -> Result<u32, 
     ensures before { OnOk result (IsOk so_far) }
 {
     match so_far {
-        Ok(()) => match outside.checked_add(more) {
-            Some(level) => Ok(level),
-            None => Err(NoMemory),
-        },
+        Ok(()) => add_u32(outside, more),
         Err(fault) => Err(fault),
     }
 }
@@ -50,10 +46,7 @@ fn behind_bounds(
     ensures level { IfOk result (λ n. n ≡ outside + length bounds.now) }
     ensures before { OnOk result (IsOk so_far) }
 {
-    match u32::try_from(bounds.len()) {
-        Ok(count) => behind(so_far, outside, count),
-        Err(_) => Err(NoMemory),
-    }
+    behind(so_far, outside, to_u32(bounds.len())?)
 }
 
 // The rule at the form itself, unless memory was wanting before.

@@ -10,7 +10,8 @@ use Rattle.cf_tree.specs.declared.raw.Param.{Param}
 use Rattle.cf_tree.specs.declared.raw.Part.{Part}
 use Rattle.cf_program.specs.declared.fault.TypeFault.TheVariants.{DuplicateName, Mismatch}
 use Rattle.cf_program.specs.declared.variable.Variable.{Variable}
-use Rattle.cf_program.specs.Names.{bases_of, is_among, variable_from, or_outer}
+use Rattle.cf_program.specs.Names.{is_among, variable_from, or_outer}
+use Rattle.cf_tree.specs.Params.{bases_of}
 use Rattle.cf_program.specs.TypedProgram.{IsOutput}
 use Rattle.cf_program.specs.Walk.{bound, variables_of, is_output, output_fault}
 use Rattle.cf_tree.specs.Typing.{one}

@@ -8,3 +8,5 @@ mod ReadsLaws
 mod Rising
 mod RuleExamples
 mod WalkLaws
+mod LimitExamples
+pub mod PlainTypes

@@ -13,7 +13,8 @@ use Rattle.cf_program.specs.declared.fault.TypeFault.TheVariants.{DuplicateName,
 use Rattle.cf_program.specs.declared.linearity.Linearity.{Linearity}
 use Rattle.cf_program.specs.Checked.{walk_def, walk_defs}
 use Rattle.cf_program.specs.DistinctNames.{AreDistinct, HasDistinctNames, HaveDistinctNames, ArmsHaveDistinctNames, IsDistinctlyNamed}
-use Rattle.cf_program.specs.Names.{names_of, is_among, repeated, callee_from}
+use Rattle.cf_program.specs.Names.{is_among, repeated, callee_from}
+use Rattle.cf_tree.specs.Params.{names_of}
 use Rattle.cf_program.specs.Source.{IsSpelledRaw, AreSpelledRaws, AreSpelledArms, IsSpelledDef}
 use Rattle.cf_program.specs.Walk.{◌>>=◌, choose_form, Forms, no_forms, with_form, Arms, no_arms, with_arm, bound, output_fault, is_output, matched, variables_of, after_arm, Context, in_body, in_relation, walk, walk_all, walk_arms}
 use Rattle.cf_program.proofs.Kept.{WhenOk, when_ok, when_err, when_bind, when_kept, when_no_fault, when_different, when_any, when_map}

@@ -18,7 +18,8 @@ use Rattle.cf_program.specs.Checked.{TypedTree, def_form, walk_def, walk_defs, m
 use Rattle.cf_program.specs.DistinctNames.{AreDistinct, IsDistinctlyNamed}
 use Rattle.cf_program.specs.Laws.{RulesKeepTypes, RulesKeepNames}
 use Rattle.cf_program.specs.LateLinear.{IsLinearBy}
-use Rattle.cf_program.specs.Names.{bases_of, names_of, Callee, callee, callee_from, is_among, repeated}
+use Rattle.cf_program.specs.Names.{Callee, callee, callee_from, is_among, repeated}
+use Rattle.cf_tree.specs.Params.{bases_of, names_of}
 use Rattle.cf_tree.specs.Bases.{same_bases}
 use Rattle.cf_program.specs.Size.{weights, depths}
 use Rattle.cf_program.specs.Source.{IsSpelledDef, IsSpelledProgram}

@@ -15,7 +15,8 @@ use Rattle.cf_tree.specs.ExprTree.{ExprTree, ExprTrees, exprs_of, MatchArmTree, 
 use Rattle.cf_tree.specs.RawTree.{RawTree, raw_lit, raw_truth, raw_name, raw_set_of, raw_group, raw_tuple, raw_neg, raw_not, raw_abs, raw_binary, raw_divides, raw_div, raw_mod, raw_card, raw_call, raw_if, raw_let, raw_choose, raw_match, RawTrees, no_raws, raw_more, raw_arm, RawArmTrees, no_raw_arms, raw_arm_more}
 use Rattle.cf_program.specs.declared.variable.Variable.{Variable}
 use Rattle.cf_program.specs.LateLinear.{IsLinearBy, known_in}
-use Rattle.cf_program.specs.Names.{bases_of, variable_of, Callee}
+use Rattle.cf_program.specs.Names.{variable_of, Callee}
+use Rattle.cf_tree.specs.Params.{bases_of}
 use Rattle.cf_tree.specs.Bases.{same_bases}
 use Rattle.cf_tree.specs.Relation.{IsTyped}
 use Rattle.cf_tree.specs.RelTree.{term_neg, term_abs, term_div, term_mod, term_card, rel_not, rel_divides}

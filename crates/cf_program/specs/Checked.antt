@@ -8,7 +8,8 @@ use Rattle.cf_program.specs.declared.fault.TypeFault.{TypeFault}
 use Rattle.cf_program.specs.declared.linearity.Linearity.{Linearity}
 use Rattle.cf_program.specs.declared.linearity.Linearity.TheVariants.{Plain}
 use Rattle.cf_program.specs.declared.fault.TypeFault.TheVariants.{DuplicateName, Mismatch, NoMain, Weight, Depth}
-use Rattle.cf_program.specs.Names.{names_of, is_among, repeated, callee_from}
+use Rattle.cf_program.specs.Names.{is_among, repeated, callee_from}
+use Rattle.cf_tree.specs.Params.{names_of}
 use Rattle.cf_tree.specs.Bases.{same_bases}
 use Rattle.cf_program.specs.Size.{weights, depths}
 use Rattle.cf_program.specs.Walk.{◌>>=◌, where_kept, where_no_fault, where_none_repeated, Form, in_body, walk}

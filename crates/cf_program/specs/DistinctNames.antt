@@ -5,7 +5,7 @@ use Rattle.std.specs.List.{IsDistinct}
 use Rattle.std.specs.Str.{bytes_eq}
 use Rattle.cf_tree.specs.DefView.{RawDefTree}
 use Rattle.cf_tree.specs.RawTree.{RawTree, raw_lit, raw_truth, raw_name, raw_set_of, raw_group, raw_tuple, raw_neg, raw_not, raw_abs, raw_binary, raw_divides, raw_div, raw_mod, raw_card, raw_call, raw_if, raw_let, raw_choose, raw_match, RawTrees, no_raws, raw_more, raw_arm, RawArmTrees, no_raw_arms, raw_arm_more}
-use Rattle.cf_program.specs.Names.{names_of}
+use Rattle.cf_tree.specs.Params.{names_of}
 
 abbrev pub AreDistinct : List (List ℕ) → Type 0
 AreDistinct names = IsDistinct bytes_eq names

@@ -2,18 +2,13 @@
 use Rattle.std.specs.Prelude.{ℕ, suc, Bool, true, false, ◌&&◌, List, [], ◌∷◌, ◌++◌, map, Option, Some, None, nat_lt, if◌then◌else◌}
 use Rattle.std.specs.List.{list_any}
 use Rattle.std.specs.Str.{bytes_eq}
+use Rattle.cf_tree.specs.Params.{bases_of}
 use Rattle.cf_tree.specs.declared.base.Base.{Base}
 use Rattle.cf_tree.specs.declared.base.Base.TheVariants.{Int, Bool as Truth, Set}
 use Rattle.cf_tree.specs.declared.base.Place.{Place}
 use Rattle.cf_tree.specs.declared.raw.Param.{Param}
 use Rattle.cf_tree.specs.DefView.{RawDefTree}
 use Rattle.cf_program.specs.declared.variable.Variable.{Variable}
-
-abbrev pub bases_of : List Param → List Base
-bases_of ps = map (λ p. p.base) ps
-
-abbrev pub names_of : List Param → List (List ℕ)
-names_of ps = map (λ p. p.name) ps
 
 abbrev pub is_among : List (List ℕ) → List ℕ → Bool
 is_among names x = list_any (λ y. bytes_eq y x) names

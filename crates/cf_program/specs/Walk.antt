@@ -20,7 +20,8 @@ use Rattle.cf_program.specs.declared.fault.TypeFault.TheVariants.{UnknownName, D
 use Rattle.cf_program.specs.declared.linearity.Linearity.{Linearity}
 use Rattle.cf_program.specs.declared.variable.Variable.{Variable}
 use Rattle.cf_program.specs.LateLinear.{known_in}
-use Rattle.cf_program.specs.Names.{variable_of, Callee, bases_of, is_among, repeated}
+use Rattle.cf_program.specs.Names.{variable_of, Callee, is_among, repeated}
+use Rattle.cf_tree.specs.Params.{bases_of}
 use Rattle.cf_program.specs.Reading.{Reading, relation, term, set, not_linear, first_nonlinear, earlier_nonlinear, not_linear_at, on_relation, on_term, on_set, truth_reading, variable_reading, binary_reading}
 
 infixl 10 ◌>>=◌

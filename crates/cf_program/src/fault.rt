@@ -1,6 +1,5 @@
 //! Broken rules.
-use cf_tree::base::Place;
-use cf_tree::memory::NoMemory;
+use cf_tree::{NoMemory, Place};
 use std::alloc::{AllocError, AllocFailed};
 
 /// Why a program is refused: the first rule that it breaks, or want of memory.

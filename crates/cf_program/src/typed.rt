@@ -2,7 +2,7 @@
 ghost use Rattle.std.specs.Prelude.{◌≡◌};
 ghost use Rattle.cf_program.specs.Typed.{IsTyped, IsLateTyped};
 
-use cf_tree::expr::Def;
+use cf_tree::Def;
 use std::marker::Model;
 
 /// Functions with levels in the place of names, and the number of the one that is named `main`.

@@ -1,5 +1,5 @@
 //! What a name of a variable stands for.
-use cf_tree::base::Base;
+use cf_tree::Base;
 
 /// A variable: its level, which is the number of variables bound outside it, and its base.
 #[derive(Clone, Copy, Debug, PartialEq, Eq)]

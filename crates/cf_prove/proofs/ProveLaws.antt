@@ -19,7 +19,7 @@ use Rattle.cf_choose.specs.Eliminations.{case_refusal}
 use Rattle.cf_choose.specs.Laws.{IsUnrefused}
 use Rattle.cf_choose.specs.Solved.{IsSolved}
 use Rattle.cf_choose.proofs.CaseLemmas.{few_sets}
-use Rattle.cf_systems.proofs.SystemLaws.{IsBegun, first_systems_begun}
+use Rattle.cf_cases.proofs.FirstSystemLaws.{IsBegun, first_systems_begun}
 use Rattle.cf_steps.specs.declared.act.Act.{Act}
 use Rattle.cf_steps.specs.declared.block.Block.{Block}
 use Rattle.cf_steps.specs.Blocks.{BlockTree, block_tree}

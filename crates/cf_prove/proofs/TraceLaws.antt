@@ -26,7 +26,7 @@ use Rattle.cf_linear.specs.declared.refusal.Refusal.{Refusal}
 use Rattle.cf_linear.specs.declared.refusal.Refusal.TheVariants.{Past}
 use Rattle.cf_linear.specs.Rows.{Row, entry, is_zero, passes, passes_at, comb_passes, subst_row, subst_passes, without}
 use Rattle.cf_linear.specs.Systems.{System, EachRow, Answer, no_answer, then_answer, whole}
-use Rattle.cf_linear.specs.Keep.{In}
+use Rattle.cf_linear.specs.Keep.{In, Differ}
 use Rattle.cf_linear.specs.Steps.{has_column, present, is_unit, two_at, one_at, lowers, uppers, clean, mix, mix_passes, factors_of, merge, merge_passes, last}
 use Rattle.cf_linear.specs.Steps.{last_passes, Pick, pick, searched, searched_by, dropped, drop_passes, bound, bound_passes}
 use Rattle.cf_linear.specs.Stages.{limits, State, End, solved, refused, run, Taken, ends, goes, stage, first_count, times_bound, clean_stage}
@@ -36,7 +36,6 @@ use Rattle.cf_linear.proofs.CombLemmas.{entry-without}
 use Rattle.cf_linear.proofs.Joining.{passes_somewhere}
 use Rattle.cf_linear.proofs.PassingLemmas.{or_false, within_is, within_not}
 use Rattle.cf_linear.proofs.RowLemmas.{entry-comb}
-use Rattle.cf_equation.specs.Equations.{Differ}
 use Rattle.cf_equation.proofs.FactorLaws.{exact_quotient, parts_one}
 use Rattle.cf_equation.proofs.StepLaws.{Differ-filter, In-present}
 use Rattle.cf_bounds.specs.Exact.{IsFree, IsExact, AreExact}
@@ -47,7 +46,7 @@ use Rattle.cf_cases.specs.Holding.{EachOf}
 use Rattle.cf_cases.proofs.PlacedLaws.{placed-rel}
 use Rattle.cf_choose.specs.Eliminations.{case_refusal, later_refusal}
 use Rattle.cf_choose.proofs.CaseLemmas.{refused_by_count, refused_later}
-use Rattle.cf_systems.proofs.SystemLaws.{IsBegun, first_systems_begun}
+use Rattle.cf_cases.proofs.FirstSystemLaws.{IsBegun, first_systems_begun}
 use Rattle.cf_elim.specs.Stages.{IsReady, IsEnd, Settled}
 use Rattle.cf_elim.proofs.EndLaws.{one_of, count_passed, not_refused, run_is_trace, run_is_short}
 use Rattle.cf_elim.proofs.StageEnds.{stage_ends_solved}

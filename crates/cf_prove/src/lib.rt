@@ -2,5 +2,7 @@
 #![tactic(auto)]
 
 pub mod laws;
-pub mod prove;
+mod proving;
 mod trace;
+
+pub use crate::proving::prove;

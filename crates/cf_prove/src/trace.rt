@@ -11,13 +11,11 @@ ghost use Rattle.cf_prove.specs.Acting.{AreAdded, IsMerge, IsTraceOf};
 ghost use Rattle.cf_prove.specs.Tracing.{equation_acts, unknown_acts, bound_acts, acts_at};
 
 use cf_bounds::{Pick, select};
-use cf_elim::fault::ElimFault;
-use cf_elim::stage::{Stage, State, next_stage};
-use cf_equation::unknowns::{Present, first_unknowns};
-use cf_linear::system::System;
-use cf_parts::factors;
-use cf_steps::act::Act;
-use cf_tree::memory::NoMemory;
+use cf_elim::{ElimFault, Stage, State, next_stage};
+use cf_equation::{Present, first_unknowns};
+use cf_linear::{System, factors};
+use cf_steps::Act;
+use cf_tree::NoMemory;
 use std::alloc::Global;
 
 // The steps of the elimination of the system, which no limit refuses.

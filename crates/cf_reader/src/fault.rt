@@ -1,5 +1,5 @@
 //! Why no tree is read.
-use cf_tree::base::Place;
+use cf_tree::Place;
 
 /// Why no tree is read from a list of tokens.
 #[derive(Clone, Copy, Debug, PartialEq, Eq)]

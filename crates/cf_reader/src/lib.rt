@@ -1,10 +1,21 @@
 //! The tools with which grammars are read from lists of tokens.
 #![tactic(auto)]
 
-pub mod fault;
-pub mod lists;
-pub mod operations;
-pub mod places;
-pub mod stop;
-pub mod tokens;
-pub mod words;
+mod fault;
+mod lists;
+mod operations;
+mod places;
+mod read_stop;
+mod tokens;
+mod words;
+
+pub use crate::fault::ParseFault;
+pub use crate::lists::{more_bases, results};
+pub use crate::operations::operation;
+pub use crate::places::place_at;
+pub use crate::read_stop::ReadStop;
+pub use crate::tokens::{
+    after_sign, after_word, expect_literal, expect_name, expect_sign, expect_word,
+    literal_at_least, negated, spells,
+};
+pub use crate::words::{expect_base, truth};

@@ -4,8 +4,7 @@ ghost use Rattle.cf_reader.specs.Operations.{word_op as word_op_of, compare_op a
 
 use crate::tokens::spells;
 use cf_lex::TokenKind;
-use cf_tree::base::Order;
-use cf_tree::raw::BinOp;
+use cf_tree::{BinOp, Order};
 
 fn word_op(word: &[u8]) -> Option<BinOp>
     ensures { result ≡ word_op_of word.now }

@@ -3,7 +3,7 @@ ghost use Rattle.std.specs.Prelude.{◌≡◌};
 ghost use Rattle.cf_reader.specs.Faults.{place_with_left};
 
 use cf_lex::TokenList;
-use cf_tree::base::Place;
+use cf_tree::Place;
 
 /// The place where so many tokens are left.
 #[tactic(auto, unfolding(crate::specs::Faults::place_with_left))]

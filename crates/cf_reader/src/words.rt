@@ -4,21 +4,21 @@ ghost use Rattle.cf_reader.specs.Answers.{ReadAnswer, FirstAnswer};
 ghost use Rattle.cf_reader.specs.Readers.{at, must};
 ghost use Rattle.cf_reader.specs.Kinds.{a_base, a_truth};
 
-use crate::stop::Stop;
+use crate::read_stop::ReadStop;
 use crate::tokens::spells;
 use cf_lex::{Token, TokenKind};
-use cf_tree::base::{Base, Place};
+use cf_tree::{Base, Place};
 
 /// A base that has to stand first, and the tokens after it.
 #[tactic(auto, unfolding(crate::specs::Readers::must, crate::specs::Readers::at))]
-pub fn expect_base(tokens: &[Token]) -> Result<(Base, &[Token]), Stop>
+pub fn expect_base(tokens: &[Token]) -> Result<(Base, &[Token]), ReadStop>
     ensures { ReadAnswer (λ x. (x.0, x.1.now)) result (must a_base tokens.now) }
 {
     let Some((t, rest)) = tokens.split_first() else {
-        return Err(Stop::TokensLeft(0));
+        return Err(ReadStop::TokensLeft(0));
     };
     let TokenKind::Word(word) = &t.kind else {
-        return Err(Stop::TokensLeft(tokens.len()));
+        return Err(ReadStop::TokensLeft(tokens.len()));
     };
     if spells(&word.bytes, "int") {
         Ok((Base::Int, rest))
@@ -27,7 +27,7 @@ pub fn expect_base(tokens: &[Token]) -> Result<(Base, &[Token]), Stop>
     } else if spells(&word.bytes, "set") {
         Ok((Base::Set, rest))
     } else {
-        Err(Stop::TokensLeft(tokens.len()))
+        Err(ReadStop::TokensLeft(tokens.len()))
     }
 }
 

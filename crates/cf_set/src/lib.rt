@@ -10,7 +10,7 @@ ghost use Rattle.cf_tree.specs.Sets.{IsRising, AreWithin, has, set_union, set_of
 
 mod lists;
 
-use cf_tree::memory::NoMemory;
+use cf_tree::NoMemory;
 use std::alloc::Global;
 use std::marker::Model;
 

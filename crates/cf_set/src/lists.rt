@@ -5,7 +5,7 @@ ghost use Rattle.cf_tree.specs.Numbers.{count_of};
 ghost use Rattle.cf_tree.specs.Values.{same_list};
 ghost use Rattle.cf_tree.specs.Sets.{IsRising, AreWithin, has, set_union, set_of, set_inter, set_diff, is_subset, set_slice, set_fresh};
 
-use cf_tree::memory::NoMemory;
+use cf_tree::NoMemory;
 use std::alloc::Global;
 use std::cmp::Ordering;
 

@@ -2,9 +2,15 @@
 //! pieces of both.
 #![tactic(auto)]
 
-pub mod lists;
+mod lists;
 mod masks;
-pub mod names;
-pub mod pieces;
-pub mod regions;
-pub mod several;
+mod names;
+mod pieces;
+mod regions;
+mod several;
+
+pub use crate::lists::push_if;
+pub use crate::names::ColumnLevels;
+pub use crate::pieces::{Sources, fresh_code, set_code};
+pub use crate::regions::{region_code, size_code};
+pub use crate::several::sum_of;

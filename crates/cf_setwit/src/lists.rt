@@ -1,7 +1,7 @@
 //! Lists that grow.
 ghost use Rattle.std.specs.Prelude.{◌≡◌, ◌++◌, ◌∷◌, [], OnOk, if◌then◌else◌};
 
-use cf_tree::memory::NoMemory;
+use cf_tree::NoMemory;
 
 /// Adds the item, where it is wanted.
 pub fn push_if<T: Drop>(items: &mut Vec<T>, is_wanted: bool, item: T) -> Result<(), NoMemory>

@@ -6,9 +6,8 @@ ghost use Rattle.cf_linear.specs.Layout.{bit, masks, place, set_count};
 ghost use Rattle.cf_linear.specs.Views.{plain_layout};
 
 use crate::lists::push_if;
-use cf_linear::columns::{has_bit, place};
-use cf_linear::system::Layout;
-use cf_tree::memory::NoMemory;
+use cf_linear::{Layout, has_bit, place};
+use cf_tree::NoMemory;
 use std::alloc::Global;
 
 // The input sets in the mask.

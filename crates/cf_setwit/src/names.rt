@@ -3,7 +3,7 @@ ghost use Rattle.std.specs.Prelude.{◌≡◌, [], OnErr, OnOk};
 ghost use Rattle.cf_linear.specs.Arm.{level_of};
 ghost use Rattle.cf_setwit.specs.Naming.{IsNamed};
 
-use cf_tree::memory::NoMemory;
+use cf_tree::NoMemory;
 use indexmap::IndexMap;
 use std::alloc::Global;
 use std::marker::Model;

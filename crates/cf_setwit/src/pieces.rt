@@ -13,9 +13,8 @@ use crate::masks::{masks_of, output_masks};
 use crate::names::ColumnLevels;
 use crate::regions::variables;
 use crate::several::{sum_of, union_of_all};
-use cf_linear::system::Layout;
-use cf_tree::code::Code;
-use cf_tree::memory::NoMemory;
+use cf_linear::Layout;
+use cf_tree::{Code, NoMemory};
 use std::alloc::Global;
 
 /// The sets that pieces are cut from: the level of the region of mask 1, after which each further

@@ -10,9 +10,8 @@ ghost use Rattle.cf_linear.specs.Views.{plain_layout};
 
 use crate::masks::{sets_in, sets_out};
 use crate::several::inter_of_all;
-use cf_linear::system::Layout;
-use cf_tree::code::Code;
-use cf_tree::memory::NoMemory;
+use cf_linear::Layout;
+use cf_tree::{Code, NoMemory};
 use std::alloc::Global;
 
 /// The elements that the input sets in the mask have in common, without those of the other input

@@ -3,7 +3,7 @@ ghost use Rattle.std.specs.Prelude.{◌≡◌, map};
 ghost use Rattle.cf_tree.specs.CodeView.{code_tree};
 ghost use Rattle.cf_linear.specs.Arm.{sum_of, inter_of_all, union_of_all};
 
-use cf_tree::code::Code;
+use cf_tree::Code;
 
 /// One code alone, or the sum of several, and 0 for none.
 pub fn sum_of(codes: Vec<Code>) -> Code

@@ -6,3 +6,4 @@ pub mod Printing
 pub mod Examples
 pub mod Few
 pub mod PrintedExamples
+mod LimitExamples

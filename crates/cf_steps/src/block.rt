@@ -1,6 +1,6 @@
 //! Blocks of a steps file.
 use crate::act::Act;
-use cf_tree::target::RawTarget;
+use cf_tree::RawTarget;
 
 /// The steps of each case of a choose, and the target whose parameters are the choose's scope and
 /// whose results are its outputs.

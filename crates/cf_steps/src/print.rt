@@ -9,10 +9,8 @@ ghost use Rattle.cf_steps.specs.ReadsBack.{ReadsBack};
 ghost use Rattle.cf_steps.specs.Spelled.{AreSpelledCases};
 
 use crate::act::Act;
-use cf_emit::print::print;
-use cf_tree::memory::NoMemory;
-use cf_tree::target::Target;
-use cf_write::put_number;
+use cf_emit::print;
+use cf_tree::{NoMemory, Target, put_number};
 use itoa::Integer;
 use std::alloc::Global;
 

@@ -6,13 +6,12 @@ ghost use Rattle.cf_steps.specs.Reading.{mix_of, search_of, act_of, ended_act, a
 use crate::act::Act;
 use crate::number::{expect_column, expect_factor, expect_side};
 use cf_lex::Token;
-use cf_reader::stop::Stop;
-use cf_reader::tokens::{after_sign, after_word, expect_sign};
+use cf_reader::{ReadStop, after_sign, after_word, expect_sign};
 use std::alloc::Global;
 
 // Behind the word `mix`.
 #[tactic(auto, unfolding(cf_reader::specs::Readers::bind, cf_reader::specs::Readers::pure, crate::specs::Reading::mix_of))]
-fn mix(tokens: &[Token]) -> Result<(Act, &[Token]), Stop>
+fn mix(tokens: &[Token]) -> Result<(Act, &[Token]), ReadStop>
     ensures { ReadAnswer (λ x. (x.0, x.1.now)) result (mix_of tokens.now) }
 {
     let (x, rest) = expect_column(tokens)?;
@@ -26,7 +25,7 @@ fn mix(tokens: &[Token]) -> Result<(Act, &[Token]), Stop>
 
 // Behind the word `search`.
 #[tactic(auto, unfolding(cf_reader::specs::Readers::bind, cf_reader::specs::Readers::pure, crate::specs::Reading::search_of))]
-fn search(tokens: &[Token]) -> Result<(Act, &[Token]), Stop>
+fn search(tokens: &[Token]) -> Result<(Act, &[Token]), ReadStop>
     ensures { ReadAnswer (λ x. (x.0, x.1.now)) result (search_of tokens.now) }
 {
     let (column, rest) = expect_column(tokens)?;
@@ -36,7 +35,7 @@ fn search(tokens: &[Token]) -> Result<(Act, &[Token]), Stop>
 
 // The step with which the tokens begin.
 #[tactic(auto, unfolding(cf_reader::specs::Readers::first, cf_reader::specs::Readers::refuse, cf_reader::specs::Readers::bind, cf_reader::specs::Readers::pure, crate::specs::Reading::act_of))]
-fn act(tokens: &[Token]) -> Result<(Act, &[Token]), Stop>
+fn act(tokens: &[Token]) -> Result<(Act, &[Token]), ReadStop>
     ensures { ReadAnswer (λ x. (x.0, x.1.now)) result (act_of tokens.now) }
 {
     if let Some((_, rest)) = after_word("clean", tokens) {
@@ -56,12 +55,12 @@ fn act(tokens: &[Token]) -> Result<(Act, &[Token]), Stop>
         let (column, rest) = expect_column(rest)?;
         return Ok((Act::Drop(column), rest));
     }
-    Err(Stop::TokensLeft(tokens.len()))
+    Err(ReadStop::TokensLeft(tokens.len()))
 }
 
 // The step with which the tokens begin, behind which a semicolon stands.
 #[tactic(auto, unfolding(cf_reader::specs::Readers::bind, cf_reader::specs::Readers::pure, crate::specs::Reading::ended_act))]
-fn act_with_end(tokens: &[Token]) -> Result<(Act, &[Token]), Stop>
+fn act_with_end(tokens: &[Token]) -> Result<(Act, &[Token]), ReadStop>
     ensures { ReadAnswer (λ x. (x.0, x.1.now)) result (ended_act tokens.now) }
 {
     let (act, rest) = act(tokens)?;
@@ -71,7 +70,7 @@ fn act_with_end(tokens: &[Token]) -> Result<(Act, &[Token]), Stop>
 
 // The steps up to the closing brace.
 #[tactic(auto, unfolding(crate::specs::Reading::all_acts))]
-fn acts(alloc: Global, tokens: &[Token]) -> Result<(Vec<Act>, &[Token]), Stop>
+fn acts(alloc: Global, tokens: &[Token]) -> Result<(Vec<Act>, &[Token]), ReadStop>
     ensures { ReadAnswer (λ x. (x.0.items, x.1.now)) result (all_acts tokens.now) }
 {
     let mut done = Vec::new(alloc);
@@ -87,7 +86,7 @@ fn acts(alloc: Global, tokens: &[Token]) -> Result<(Vec<Act>, &[Token]), Stop>
         }
     }
     // for the proof: the loop ends before
-    Err(Stop::TokensLeft(0))
+    Err(ReadStop::TokensLeft(0))
 }
 
 /// The steps of a case, behind its word, and the tokens after them.
@@ -95,7 +94,7 @@ fn acts(alloc: Global, tokens: &[Token]) -> Result<(Vec<Act>, &[Token]), Stop>
 /// # Errors
 /// `TokensLeft` where the tokens begin with no such steps, and `NoMemory`.
 #[tactic(auto, unfolding(cf_reader::specs::Readers::bind, crate::specs::Reading::case_of))]
-pub fn case(alloc: Global, tokens: &[Token]) -> Result<(Vec<Act>, &[Token]), Stop>
+pub fn case(alloc: Global, tokens: &[Token]) -> Result<(Vec<Act>, &[Token]), ReadStop>
     ensures { ReadAnswer (λ x. (x.0.items, x.1.now)) result (case_of tokens.now) }
 {
     let (_, rest) = expect_sign("{", tokens)?;

@@ -11,3 +11,4 @@ pub mod OnlyCodes
 pub mod OnlyArms
 pub mod Only
 pub mod Examples
+mod LimitExamples

@@ -13,15 +13,14 @@ use crate::form::{
 };
 use crate::inside::{Inside, given, one, pair, several, single, whole};
 use crate::node;
-use crate::number::{bounds, expect_numeral, read_variables, variable};
-use crate::part::{closed, divides_by, may_operate, negative, with_arm, with_code, with_item};
+use crate::number::{Variables, bounds, expect_numeral, read_variables, variable};
+use crate::part::{closed, divides_by, may_operate, negative};
 use cf_lex::Token;
-use cf_reader::stop::Stop;
-use cf_reader::tokens::{
-    after_sign, after_word, expect_literal, expect_sign, expect_word, literal_at_least,
+use cf_reader::{
+    ReadStop, after_sign, after_word, expect_literal, expect_sign, expect_word, literal_at_least,
+    truth,
 };
-use cf_reader::words::truth;
-use cf_tree::code::{Arm, Code, Item};
+use cf_tree::{Arm, Code, Item, without};
 use std::alloc::Global;
 
 /// The code of depth at most `n` with which the tokens begin, and the tokens after it.
@@ -30,11 +29,11 @@ use std::alloc::Global;
 /// `TokensLeft` where they begin with none, and `NoMemory`.
 #[cycle(code)]
 #[tactic(auto, using(crate::proofs::Above::read_above, crate::proofs::Above::read_none))]
-pub fn code(alloc: Global, n: u32, tokens: &[Token]) -> Result<(Code, &[Token]), Stop>
+pub fn code(alloc: Global, n: u32, tokens: &[Token]) -> Result<(Code, &[Token]), ReadStop>
     ensures { ReadAnswer (λ x. (code_tree x.0, x.1.now)) result (read n tokens.now) }
 {
     if n == 0 {
-        return Err(Stop::TokensLeft(tokens.len()));
+        return Err(ReadStop::TokensLeft(tokens.len()));
     }
     form(alloc, n - 1, tokens)
 }
@@ -42,28 +41,28 @@ pub fn code(alloc: Global, n: u32, tokens: &[Token]) -> Result<(Code, &[Token]),
 // A code whose parts have depth at most `n`.
 #[cycle(code)]
 #[tactic(auto, unfolding(cf_reader::specs::Readers::first, cf_reader::specs::Readers::deep, cf_reader::specs::Readers::bind, cf_reader::specs::Readers::pure, crate::specs::Reading::step))]
-fn form(alloc: Global, n: u32, tokens: &[Token]) -> Result<(Code, &[Token]), Stop>
+fn form(alloc: Global, n: u32, tokens: &[Token]) -> Result<(Code, &[Token]), ReadStop>
     ensures { ReadAnswer (λ x. (code_tree x.0, x.1.now)) result (step_of (read n) (read (n - 1)) n tokens.now) }
 {
     if let Some(((_, k), rest)) = literal_at_least(0, tokens) {
-        return Ok((node::literal(k), rest));
+        return Ok((Code::Lit(k), rest));
     }
     if let Some((_, rest)) = after_sign("-", tokens) {
         return negative(rest);
     }
     if let Some(((_, t), rest)) = truth(tokens) {
-        return Ok((node::truth(t), rest));
+        return Ok((Code::Truth(t), rest));
     }
     if let Some((x, rest)) = variable(tokens) {
-        return Ok((node::variable(x), rest));
+        return Ok((Code::Var(x), rest));
     }
     if let Some((_, rest)) = after_sign("{", tokens) {
         let (codes, rest) = elements(alloc, n, rest)?;
-        return Ok((node::set_of(codes), rest));
+        return Ok((Code::SetOf(codes), rest));
     }
     if let Some((_, rest)) = after_sign("(", tokens) {
         if n == 0 {
-            return Err(Stop::TokensLeft(tokens.len()));
+            return Err(ReadStop::TokensLeft(tokens.len()));
         }
         let (inside, rest) = inside(alloc, n, n, rest)?;
         return Ok((whole(inside), rest));
@@ -74,14 +73,14 @@ fn form(alloc: Global, n: u32, tokens: &[Token]) -> Result<(Code, &[Token]), Sto
 // A form that begins with a word.
 #[cycle(code)]
 #[tactic(auto, unfolding(cf_reader::specs::Readers::first, crate::specs::Reading::unless_zero, crate::specs::Reading::word_of))]
-fn word(alloc: Global, n: u32, tokens: &[Token]) -> Result<(Code, &[Token]), Stop>
+fn word(alloc: Global, n: u32, tokens: &[Token]) -> Result<(Code, &[Token]), ReadStop>
     ensures { ReadAnswer (λ x. (code_tree x.0, x.1.now)) result (word_of (read n) (read (n - 1)) n tokens.now) }
 {
     if let Some((_, rest)) = after_word("solve", tokens) {
         return solve(alloc, n, rest);
     }
     if n == 0 {
-        return Err(Stop::TokensLeft(tokens.len()));
+        return Err(ReadStop::TokensLeft(tokens.len()));
     }
     form_of_parts(alloc, n, tokens)
 }
@@ -89,7 +88,7 @@ fn word(alloc: Global, n: u32, tokens: &[Token]) -> Result<(Code, &[Token]), Sto
 // A form that begins with a word and has parts.
 #[cycle(code)]
 #[tactic(auto, unfolding(cf_reader::specs::Readers::first, cf_reader::specs::Readers::refuse, cf_reader::specs::Readers::bind, cf_reader::specs::Readers::pure, crate::specs::Reading::forms_of))]
-fn form_of_parts(alloc: Global, n: u32, tokens: &[Token]) -> Result<(Code, &[Token]), Stop>
+fn form_of_parts(alloc: Global, n: u32, tokens: &[Token]) -> Result<(Code, &[Token]), ReadStop>
     ensures { ReadAnswer (λ x. (code_tree x.0, x.1.now)) result (forms_of (read n) tokens.now) }
 {
     if let Some((form, rest)) = after_unary(tokens) {
@@ -110,12 +109,12 @@ fn form_of_parts(alloc: Global, n: u32, tokens: &[Token]) -> Result<(Code, &[Tok
     if let Some((_, rest)) = after_word("fresh", tokens) {
         return fresh(alloc, n, rest);
     }
-    Err(Stop::TokensLeft(tokens.len()))
+    Err(ReadStop::TokensLeft(tokens.len()))
 }
 
 // A code of depth at most `n`, in a box.
 #[cycle(code)]
-fn boxed(alloc: Global, n: u32, tokens: &[Token]) -> Result<(Box<Code>, &[Token]), Stop>
+fn boxed(alloc: Global, n: u32, tokens: &[Token]) -> Result<(Box<Code>, &[Token]), ReadStop>
     ensures { ReadAnswer (λ x. (code_tree x.0.value, x.1.now)) result (read n tokens.now) }
 {
     let (c, rest) = code(alloc, n, tokens)?;
@@ -125,7 +124,11 @@ fn boxed(alloc: Global, n: u32, tokens: &[Token]) -> Result<(Box<Code>, &[Token]
 // One code in parentheses.
 #[cycle(code)]
 #[tactic(auto, unfolding(cf_reader::specs::Readers::bind, cf_reader::specs::Readers::pure, crate::specs::Reading::one_of))]
-fn in_parentheses(alloc: Global, n: u32, tokens: &[Token]) -> Result<(Box<Code>, &[Token]), Stop>
+fn in_parentheses(
+    alloc: Global,
+    n: u32,
+    tokens: &[Token],
+) -> Result<(Box<Code>, &[Token]), ReadStop>
     ensures { ReadAnswer (λ x. (code_tree x.0.value, x.1.now)) result (one_of (read n) tokens.now) }
 {
     let (_, rest) = expect_sign("(", tokens)?;
@@ -137,7 +140,11 @@ fn in_parentheses(alloc: Global, n: u32, tokens: &[Token]) -> Result<(Box<Code>,
 // A code and a literal of at least 1, in parentheses.
 #[cycle(code)]
 #[tactic(auto, unfolding(cf_reader::specs::Readers::bind, cf_reader::specs::Readers::pure, crate::specs::Reading::divided_of))]
-fn divided(alloc: Global, n: u32, tokens: &[Token]) -> Result<((Box<Code>, i128), &[Token]), Stop>
+fn divided(
+    alloc: Global,
+    n: u32,
+    tokens: &[Token],
+) -> Result<((Box<Code>, i128), &[Token]), ReadStop>
     ensures { ReadAnswer (λ x. ((code_tree x.0.0.value, x.0.1), x.1.now)) result (divided_of (read n) tokens.now) }
 {
     let (_, rest) = expect_sign("(", tokens)?;
@@ -151,7 +158,7 @@ fn divided(alloc: Global, n: u32, tokens: &[Token]) -> Result<((Box<Code>, i128)
 // One code or more, in parentheses.
 #[cycle(code)]
 #[tactic(auto, unfolding(cf_reader::specs::Readers::bind, crate::specs::Reading::listed_of))]
-fn listed(alloc: Global, n: u32, tokens: &[Token]) -> Result<(Vec<Code>, &[Token]), Stop>
+fn listed(alloc: Global, n: u32, tokens: &[Token]) -> Result<(Vec<Code>, &[Token]), ReadStop>
     ensures { ReadAnswer (λ x. (map code_tree x.0.items, x.1.now)) result (listed_of (read n) tokens.now) }
 {
     let (_, rest) = expect_sign("(", tokens)?;
@@ -161,7 +168,7 @@ fn listed(alloc: Global, n: u32, tokens: &[Token]) -> Result<(Vec<Code>, &[Token
 // Behind the word `slice`.
 #[cycle(code)]
 #[tactic(auto, unfolding(cf_reader::specs::Readers::bind, cf_reader::specs::Readers::pure, crate::specs::Reading::slice_of))]
-fn slice(alloc: Global, n: u32, tokens: &[Token]) -> Result<(Code, &[Token]), Stop>
+fn slice(alloc: Global, n: u32, tokens: &[Token]) -> Result<(Code, &[Token]), ReadStop>
     ensures { ReadAnswer (λ x. (code_tree x.0, x.1.now)) result (slice_of (read n) tokens.now) }
 {
     let (_, rest) = expect_sign("(", tokens)?;
@@ -169,27 +176,27 @@ fn slice(alloc: Global, n: u32, tokens: &[Token]) -> Result<(Code, &[Token]), St
     let (_, rest) = expect_sign(",", rest)?;
     let (from, rest) = boxed(alloc, n, rest)?;
     let (_, rest) = expect_sign(",", rest)?;
-    let (count, rest) = boxed(alloc, n, rest)?;
-    closed(node::slice(set, from, count), rest)
+    let (n, rest) = boxed(alloc, n, rest)?;
+    closed(Code::Slice { set, from, n }, rest)
 }
 
 // Behind the word `fresh`.
 #[cycle(code)]
 #[tactic(auto, unfolding(cf_reader::specs::Readers::bind, cf_reader::specs::Readers::pure, crate::specs::Reading::fresh_of))]
-fn fresh(alloc: Global, n: u32, tokens: &[Token]) -> Result<(Code, &[Token]), Stop>
+fn fresh(alloc: Global, n: u32, tokens: &[Token]) -> Result<(Code, &[Token]), ReadStop>
     ensures { ReadAnswer (λ x. (code_tree x.0, x.1.now)) result (fresh_of (read n) tokens.now) }
 {
     let (_, rest) = expect_sign("(", tokens)?;
     let (avoid, rest) = boxed(alloc, n, rest)?;
     let (_, rest) = expect_sign(",", rest)?;
-    let (count, rest) = boxed(alloc, n, rest)?;
-    closed(node::fresh(avoid, count), rest)
+    let (n, rest) = boxed(alloc, n, rest)?;
+    closed(Code::Fresh { avoid, n }, rest)
 }
 
 // Elements, if any, up to the closing brace.
 #[cycle(code)]
 #[tactic(auto, unfolding(cf_reader::specs::Readers::first, cf_reader::specs::Readers::pure, crate::specs::Reading::elements_of))]
-fn elements(alloc: Global, n: u32, tokens: &[Token]) -> Result<(Vec<Code>, &[Token]), Stop>
+fn elements(alloc: Global, n: u32, tokens: &[Token]) -> Result<(Vec<Code>, &[Token]), ReadStop>
     ensures { ReadAnswer (λ x. (map code_tree x.0.items, x.1.now)) result (elements_of (read n) tokens.now) }
 {
     match after_sign("}", tokens) {
@@ -206,7 +213,7 @@ fn list<'a>(
     n: u32,
     close: &str,
     tokens: &'a [Token],
-) -> Result<(Vec<Code>, &'a [Token]), Stop>
+) -> Result<(Vec<Code>, &'a [Token]), ReadStop>
     ensures { ReadAnswer (λ x. (map code_tree x.0.items, x.1.now)) result (list_of (read n) (Sign close.now) tokens.now) }
 {
     let (first, rest) = code(alloc, n, tokens)?;
@@ -222,7 +229,7 @@ fn more<'a>(
     close: &str,
     first: Vec<Code>,
     tokens: &'a [Token],
-) -> Result<(Vec<Code>, &'a [Token]), Stop>
+) -> Result<(Vec<Code>, &'a [Token]), ReadStop>
     ensures { ReadAnswer (λ x. (map code_tree x.0.items, x.1.now)) result
         (others_of snoc (read n) (Sign (codes ",")) (Sign close.now) (map code_tree first.items) tokens.now) }
 {
@@ -232,7 +239,7 @@ fn more<'a>(
         match after_sign(",", rest) {
             Some((_, behind)) => {
                 let (x, behind) = code(alloc, n, behind)?;
-                done = with_code(done, x)?;
+                done.push(x)?;
                 rest = behind;
             }
             None => {
@@ -242,7 +249,7 @@ fn more<'a>(
         }
     }
     // for the proof: the loop ends before
-    Err(Stop::TokensLeft(0))
+    Err(ReadStop::TokensLeft(0))
 }
 
 // More parts of an operation, up to the closing parenthesis.
@@ -254,7 +261,7 @@ fn more_parts(
     form: Many,
     first: Vec<Code>,
     tokens: &[Token],
-) -> Result<(Vec<Code>, &[Token]), Stop>
+) -> Result<(Vec<Code>, &[Token]), ReadStop>
     ensures { ReadAnswer (λ x. (map code_tree x.0.items, x.1.now)) result
         (others_of snoc (read n) (many_kind form) (Sign (codes ")")) (map code_tree first.items) tokens.now) }
 {
@@ -264,7 +271,7 @@ fn more_parts(
         match after_many(form, rest) {
             Some((_, behind)) => {
                 let (x, behind) = code(alloc, n, behind)?;
-                done = with_code(done, x)?;
+                done.push(x)?;
                 rest = behind;
             }
             None => {
@@ -274,27 +281,27 @@ fn more_parts(
         }
     }
     // for the proof: the loop ends before
-    Err(Stop::TokensLeft(0))
+    Err(ReadStop::TokensLeft(0))
 }
 
 // Behind an opening parenthesis. The parts with commas may have depth `m`, and those of any other
 // form depth `n`.
 #[cycle(code)]
 #[tactic(auto, unfolding(cf_reader::specs::Readers::deep, cf_reader::specs::Readers::bind, cf_reader::specs::Readers::pure, crate::specs::Reading::inside_of))]
-fn inside(alloc: Global, m: u32, n: u32, tokens: &[Token]) -> Result<(Inside, &[Token]), Stop>
+fn inside(alloc: Global, m: u32, n: u32, tokens: &[Token]) -> Result<(Inside, &[Token]), ReadStop>
     requires { n ≤ m }
     ensures { ReadAnswer (λ x. (inside_tree x.0, x.1.now)) result (inside_of (read m) (read n) m n tokens.now) }
 {
     if let Some((_, rest)) = after_word("if", tokens) {
         if n == 0 {
-            return Err(Stop::TokensLeft(tokens.len()));
+            return Err(ReadStop::TokensLeft(tokens.len()));
         }
         let (c, rest) = if_else(alloc, n, rest)?;
         return Ok((single(c), rest));
     }
     if let Some((_, rest)) = after_word("let", tokens) {
         if n == 0 {
-            return Err(Stop::TokensLeft(tokens.len()));
+            return Err(ReadStop::TokensLeft(tokens.len()));
         }
         let (c, rest) = let_in(alloc, n, rest)?;
         return Ok((single(c), rest));
@@ -314,7 +321,7 @@ fn behind(
     may: bool,
     first: Box<Code>,
     tokens: &[Token],
-) -> Result<(Inside, &[Token]), Stop>
+) -> Result<(Inside, &[Token]), ReadStop>
     requires { n ≤ m }
     ensures { ReadAnswer (λ x. (inside_tree x.0, x.1.now)) result (behind_of (read m) (read n) n may (code_tree first.value) tokens.now) }
 {
@@ -330,7 +337,7 @@ fn behind(
         drop(first);
         return behind_divides(alloc, n, k, rest);
     }
-    Err(Stop::TokensLeft(tokens.len()))
+    Err(ReadStop::TokensLeft(tokens.len()))
 }
 
 // Behind the first part and a comma.
@@ -341,7 +348,7 @@ fn behind_comma(
     n: u32,
     first: Box<Code>,
     tokens: &[Token],
-) -> Result<(Vec<Code>, &[Token]), Stop>
+) -> Result<(Vec<Code>, &[Token]), ReadStop>
     ensures { ReadAnswer (λ x. (map code_tree x.0.items, x.1.now)) result
         (several_of snoc (read n) (Sign (codes ",")) (Sign (codes ")")) (code_tree first.value ∷ []) tokens.now) }
 {
@@ -357,13 +364,13 @@ fn behind_divides(
     n: u32,
     k: i128,
     tokens: &[Token],
-) -> Result<(Inside, &[Token]), Stop>
+) -> Result<(Inside, &[Token]), ReadStop>
     ensures { ReadAnswer (λ x. (inside_tree x.0, x.1.now)) result
         (bind (read n) (λ c. bind (must (is (Sign (codes ")")))) (λ p. pure (single_of (code_divides k c)))) tokens.now) }
 {
     let (of, rest) = boxed(alloc, n, tokens)?;
     let (_, rest) = expect_sign(")", rest)?;
-    Ok((single(node::divides(k, of)), rest))
+    Ok((single(Code::Divides { k, of }), rest))
 }
 
 // Behind the first part and an operation.
@@ -375,7 +382,7 @@ fn operated(
     operation: Operation,
     first: Box<Code>,
     tokens: &[Token],
-) -> Result<(Code, &[Token]), Stop>
+) -> Result<(Code, &[Token]), ReadStop>
     ensures { ReadAnswer (λ x. (code_tree x.0, x.1.now)) result (operated_of (read n) (code_tree first.value) operation tokens.now) }
 {
     match operation {
@@ -399,7 +406,7 @@ fn operands(
     form: Many,
     first: Box<Code>,
     tokens: &[Token],
-) -> Result<(Vec<Code>, &[Token]), Stop>
+) -> Result<(Vec<Code>, &[Token]), ReadStop>
     ensures { ReadAnswer (λ x. (map code_tree x.0.items, x.1.now)) result
         (several_of snoc (read n) (many_kind form) (Sign (codes ")")) (code_tree first.value ∷ []) tokens.now) }
 {
@@ -410,7 +417,7 @@ fn operands(
 // Behind `(if`.
 #[cycle(code)]
 #[tactic(auto, unfolding(cf_reader::specs::Readers::bind, cf_reader::specs::Readers::pure, crate::specs::Reading::if_of))]
-fn if_else(alloc: Global, n: u32, tokens: &[Token]) -> Result<(Code, &[Token]), Stop>
+fn if_else(alloc: Global, n: u32, tokens: &[Token]) -> Result<(Code, &[Token]), ReadStop>
     ensures { ReadAnswer (λ x. (code_tree x.0, x.1.now)) result (if_of (read n) tokens.now) }
 {
     let (test, rest) = boxed(alloc, n, tokens)?;
@@ -418,13 +425,13 @@ fn if_else(alloc: Global, n: u32, tokens: &[Token]) -> Result<(Code, &[Token]), 
     let (yes, rest) = boxed(alloc, n, rest)?;
     let (_, rest) = expect_word("else", rest)?;
     let (no, rest) = boxed(alloc, n, rest)?;
-    closed(node::if_else(test, yes, no), rest)
+    closed(Code::If { test, yes, no }, rest)
 }
 
 // Behind `(let`.
 #[cycle(code)]
 #[tactic(auto, unfolding(cf_reader::specs::Readers::bind, cf_reader::specs::Readers::pure, crate::specs::Reading::let_of))]
-fn let_in(alloc: Global, n: u32, tokens: &[Token]) -> Result<(Code, &[Token]), Stop>
+fn let_in(alloc: Global, n: u32, tokens: &[Token]) -> Result<(Code, &[Token]), ReadStop>
     ensures { ReadAnswer (λ x. (code_tree x.0, x.1.now)) result (let_of (read n) tokens.now) }
 {
     let (bound, rest) = read_variables(tokens)?;
@@ -432,25 +439,32 @@ fn let_in(alloc: Global, n: u32, tokens: &[Token]) -> Result<(Code, &[Token]), S
     let (value, rest) = boxed(alloc, n, rest)?;
     let (_, rest) = expect_word("in", rest)?;
     let (body, rest) = boxed(alloc, n, rest)?;
-    closed(node::let_in(bound, value, body), rest)
+    let Variables { first, count } = bound;
+    let code = Code::Let {
+        first,
+        count,
+        value,
+        body,
+    };
+    closed(code, rest)
 }
 
 // Behind the word `solve`.
 #[cycle(code)]
 #[tactic(auto, unfolding(cf_reader::specs::Readers::bind, cf_reader::specs::Readers::pure, crate::specs::Reading::solve_of))]
-fn solve(alloc: Global, n: u32, tokens: &[Token]) -> Result<(Code, &[Token]), Stop>
+fn solve(alloc: Global, n: u32, tokens: &[Token]) -> Result<(Code, &[Token]), ReadStop>
     ensures { ReadAnswer (λ x. (code_tree x.0, x.1.now)) result (solve_of (read n) (read (n - 1)) n tokens.now) }
 {
     let (number, rest) = expect_numeral(tokens)?;
     let (_, rest) = expect_sign("{", rest)?;
     let (arms, rest) = arms(alloc, n, rest)?;
-    Ok((node::solve(number, arms), rest))
+    Ok((Code::Solve { number, arms }, rest))
 }
 
 // Arms, if any, up to the closing brace.
 #[cycle(code)]
 #[tactic(auto, using(crate::proofs::Above::arms_above, crate::proofs::Above::arms_none), unfolding(cf_reader::specs::Readers::bind, cf_reader::specs::Readers::pure))]
-fn arms(alloc: Global, n: u32, tokens: &[Token]) -> Result<(Vec<Arm>, &[Token]), Stop>
+fn arms(alloc: Global, n: u32, tokens: &[Token]) -> Result<(Vec<Arm>, &[Token]), ReadStop>
     ensures { ReadAnswer (λ x. (map arm_tree x.0.items, x.1.now)) result (all_arms (read n) (read (n - 1)) n tokens.now) }
 {
     if n == 0 {
@@ -463,7 +477,7 @@ fn arms(alloc: Global, n: u32, tokens: &[Token]) -> Result<(Vec<Arm>, &[Token]),
 // Arms, if any, up to the closing brace, where there may be some.
 #[cycle(code)]
 #[tactic(auto, unfolding(cf_reader::specs::Readers::others_of))]
-fn more_arms(alloc: Global, n: u32, tokens: &[Token]) -> Result<(Vec<Arm>, &[Token]), Stop>
+fn more_arms(alloc: Global, n: u32, tokens: &[Token]) -> Result<(Vec<Arm>, &[Token]), ReadStop>
     requires { 1 ≤ n }
     ensures { ReadAnswer (λ x. (map arm_tree x.0.items, x.1.now)) result
         (others_of snoc (arm_from (read n) (read (n - 1)) n) (Word (codes "arm")) (Sign (codes "}")) [] tokens.now) }
@@ -474,7 +488,7 @@ fn more_arms(alloc: Global, n: u32, tokens: &[Token]) -> Result<(Vec<Arm>, &[Tok
         match after_word("arm", rest) {
             Some((_, behind)) => {
                 let (x, behind) = arm(alloc, n, behind)?;
-                done = with_arm(done, x)?;
+                done.push(x)?;
                 rest = behind;
             }
             None => {
@@ -484,13 +498,13 @@ fn more_arms(alloc: Global, n: u32, tokens: &[Token]) -> Result<(Vec<Arm>, &[Tok
         }
     }
     // for the proof: the loop ends before
-    Err(Stop::TokensLeft(0))
+    Err(ReadStop::TokensLeft(0))
 }
 
 // Behind the word `arm`.
 #[cycle(code)]
 #[tactic(auto, unfolding(cf_reader::specs::Readers::bind, cf_reader::specs::Readers::pure, crate::specs::Reading::arm_from))]
-fn arm(alloc: Global, n: u32, tokens: &[Token]) -> Result<(Arm, &[Token]), Stop>
+fn arm(alloc: Global, n: u32, tokens: &[Token]) -> Result<(Arm, &[Token]), ReadStop>
     requires { 1 ≤ n }
     ensures { ReadAnswer (λ x. (arm_tree x.0, x.1.now)) result (arm_from (read n) (read (n - 1)) n tokens.now) }
 {
@@ -500,13 +514,18 @@ fn arm(alloc: Global, n: u32, tokens: &[Token]) -> Result<(Arm, &[Token]), Stop>
     let (items, rest) = steps(alloc, n, rest)?;
     let (gives, rest) = gives(alloc, n, rest)?;
     let (_, rest) = expect_sign("}", rest)?;
-    Ok((node::arm(bounds, items, gives), rest))
+    let arm = Arm {
+        bounds,
+        items,
+        gives,
+    };
+    Ok((arm, rest))
 }
 
 // The steps of an arm, up to the word `give`.
 #[cycle(code)]
 #[tactic(auto, unfolding(crate::specs::Reading::all_steps))]
-fn steps(alloc: Global, n: u32, tokens: &[Token]) -> Result<(Vec<Item>, &[Token]), Stop>
+fn steps(alloc: Global, n: u32, tokens: &[Token]) -> Result<(Vec<Item>, &[Token]), ReadStop>
     ensures { ReadAnswer (λ x. (map item_tree x.0.items, x.1.now)) result (all_steps (read n) tokens.now) }
 {
     let mut done = Vec::new(alloc);
@@ -515,7 +534,7 @@ fn steps(alloc: Global, n: u32, tokens: &[Token]) -> Result<(Vec<Item>, &[Token]
         match after_step(rest) {
             Some((form, behind)) => {
                 let (x, behind) = item(alloc, n, form, behind)?;
-                done = with_item(done, x)?;
+                done.push(x)?;
                 rest = behind;
             }
             None => {
@@ -525,26 +544,26 @@ fn steps(alloc: Global, n: u32, tokens: &[Token]) -> Result<(Vec<Item>, &[Token]
         }
     }
     // for the proof: the loop ends before
-    Err(Stop::TokensLeft(0))
+    Err(ReadStop::TokensLeft(0))
 }
 
 // Behind the word of a step.
 #[cycle(code)]
 #[tactic(auto, unfolding(cf_reader::specs::Readers::bind, cf_reader::specs::Readers::pure, crate::specs::Reading::item_of))]
-fn item(alloc: Global, n: u32, form: Step, tokens: &[Token]) -> Result<(Item, &[Token]), Stop>
+fn item(alloc: Global, n: u32, form: Step, tokens: &[Token]) -> Result<(Item, &[Token]), ReadStop>
     ensures { ReadAnswer (λ x. (item_tree x.0, x.1.now)) result (item_of (read n) form tokens.now) }
 {
     let (c, rest) = code(alloc, n, tokens)?;
     match expect_sign(";", rest) {
         Ok((_, rest)) => Ok((node::step(form, c), rest)),
-        Err(stop) => Err(node::without(c, stop)),
+        Err(stop) => Err(without(c, stop)),
     }
 }
 
 // Behind the word `give`.
 #[cycle(code)]
 #[tactic(auto, unfolding(cf_reader::specs::Readers::first, cf_reader::specs::Readers::bind, cf_reader::specs::Readers::pure, crate::specs::Reading::gives_of))]
-fn gives(alloc: Global, n: u32, tokens: &[Token]) -> Result<(Vec<Code>, &[Token]), Stop>
+fn gives(alloc: Global, n: u32, tokens: &[Token]) -> Result<(Vec<Code>, &[Token]), ReadStop>
     requires { 1 ≤ n }
     ensures { ReadAnswer (λ x. (map code_tree x.0.items, x.1.now)) result (gives_of (read n) (read (n - 1)) n tokens.now) }
 {

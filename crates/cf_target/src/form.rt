@@ -1,15 +1,12 @@
 //! Forms of code that one word or sign tells.
 ghost use Rattle.std.specs.Prelude.{◌≡◌};
-ghost use Rattle.std.specs.Str.{bytes_eq};
 ghost use Rattle.cf_reader.specs.Answers.{FirstAnswer};
 ghost use Rattle.cf_reader.specs.Readers.{at, is};
 ghost use Rattle.cf_target.specs.Reading.{a_unary, a_division, an_extreme, a_step, an_operation, operation_of, many_kind};
 
 use cf_lex::{Token, TokenKind};
-use cf_reader::operations::operation;
-use cf_reader::tokens::{after_sign, after_word};
-use cf_tree::base::{Order, Place, Text};
-use cf_tree::raw::BinOp;
+use cf_reader::{after_sign, after_word, operation, spells};
+use cf_tree::{BinOp, Order, Place};
 
 /// Forms of one part.
 #[derive(Clone, Copy)]
@@ -67,13 +64,6 @@ pub enum Operation {
     Two(Two),
 }
 
-// Whether a word is this one.
-fn is_word(expected: &str, word: &Text) -> bool
-    ensures { result ≡ bytes_eq word.now expected.now }
-{
-    word.bytes.as_slice() == expected.as_bytes()
-}
-
 /// The form of one part whose word stands first, and the tokens after it.
 #[tactic(auto, unfolding(cf_reader::specs::Readers::at))]
 pub fn after_unary(tokens: &[Token]) -> Option<(Unary, &[Token])>
@@ -83,11 +73,11 @@ pub fn after_unary(tokens: &[Token]) -> Option<(Unary, &[Token])>
     let TokenKind::Word(word) = &t.kind else {
         return None;
     };
-    if is_word("neg", word) {
+    if spells(&word.bytes, "neg") {
         Some((Unary::Neg, rest))
-    } else if is_word("not", word) {
+    } else if spells(&word.bytes, "not") {
         Some((Unary::Not, rest))
-    } else if is_word("card", word) {
+    } else if spells(&word.bytes, "card") {
         Some((Unary::Card, rest))
     } else {
         None
@@ -103,9 +93,9 @@ pub fn after_division(tokens: &[Token]) -> Option<(Division, &[Token])>
     let TokenKind::Word(word) = &t.kind else {
         return None;
     };
-    if is_word("div", word) {
+    if spells(&word.bytes, "div") {
         Some((Division::Div, rest))
-    } else if is_word("mod", word) {
+    } else if spells(&word.bytes, "mod") {
         Some((Division::Mod, rest))
     } else {
         None
@@ -121,9 +111,9 @@ pub fn after_extreme(tokens: &[Token]) -> Option<(Extreme, &[Token])>
     let TokenKind::Word(word) = &t.kind else {
         return None;
     };
-    if is_word("min", word) {
+    if spells(&word.bytes, "min") {
         Some((Extreme::Min, rest))
-    } else if is_word("max", word) {
+    } else if spells(&word.bytes, "max") {
         Some((Extreme::Max, rest))
     } else {
         None
@@ -139,9 +129,9 @@ pub fn after_step(tokens: &[Token]) -> Option<(Step, &[Token])>
     let TokenKind::Word(word) = &t.kind else {
         return None;
     };
-    if is_word("let", word) {
+    if spells(&word.bytes, "let") {
         Some((Step::Let, rest))
-    } else if is_word("need", word) {
+    } else if spells(&word.bytes, "need") {
         Some((Step::Need, rest))
     } else {
         None

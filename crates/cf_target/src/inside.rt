@@ -4,10 +4,8 @@ ghost use Rattle.cf_tree.specs.CodeView.{code_tree};
 ghost use Rattle.cf_target.specs.Reading.{several as several_of, single as single_of, inside_tree, whole as whole_of, all_given};
 ghost use Rattle.cf_reader.specs.Answers.{ReadAnswer};
 
-use crate::node::without;
-use crate::part::with_code;
-use cf_reader::stop::Stop;
-use cf_tree::code::Code;
+use cf_reader::ReadStop;
+use cf_tree::{Code, without};
 use std::alloc::Global;
 
 /// Two codes or more with commas, or one code.
@@ -42,7 +40,7 @@ pub fn whole(inside: Inside) -> Code
 }
 
 /// What an arm gives.
-pub fn given(alloc: Global, inside: Inside) -> Result<Vec<Code>, Stop>
+pub fn given(alloc: Global, inside: Inside) -> Result<Vec<Code>, ReadStop>
     ensures { ReadAnswer (λ x. map code_tree x.items) result (Ok (all_given (inside_tree inside))) }
 {
     match inside {
@@ -52,7 +50,7 @@ pub fn given(alloc: Global, inside: Inside) -> Result<Vec<Code>, Stop>
 }
 
 /// A list of one code.
-pub fn one(alloc: Global, code: Code) -> Result<Vec<Code>, Stop>
+pub fn one(alloc: Global, code: Code) -> Result<Vec<Code>, ReadStop>
     ensures { ReadAnswer (λ x. map code_tree x.items) result (Ok (code_tree code ∷ [])) }
 {
     let mut codes = Vec::new(alloc);
@@ -61,11 +59,14 @@ pub fn one(alloc: Global, code: Code) -> Result<Vec<Code>, Stop>
 }
 
 /// A list of two codes.
-pub fn pair(alloc: Global, first: Box<Code>, second: Code) -> Result<Vec<Code>, Stop>
+pub fn pair(alloc: Global, first: Box<Code>, second: Code) -> Result<Vec<Code>, ReadStop>
     ensures { ReadAnswer (λ x. map code_tree x.items) result (Ok (code_tree first.value ∷ code_tree second ∷ [])) }
 {
     match one(alloc, Box::into_inner(first)) {
-        Ok(codes) => with_code(codes, second),
+        Ok(mut codes) => {
+            codes.push(second)?;
+            Ok(codes)
+        }
         Err(stop) => Err(without(second, stop)),
     }
 }

@@ -3,11 +3,7 @@ ghost use Rattle.std.specs.Prelude.{◌-◌, ◌^◌, ◌<◌, length};
 
 use cf_lex::tokens;
 use cf_parse::program;
-use cf_tree::base::{Base, Place, Text};
-use cf_tree::expr::{Def, Expr};
-use cf_tree::memory::NoMemory;
-use cf_tree::raw::{Param, Program};
-use cf_tree::rel::Rel;
+use cf_tree::{Base, Def, Expr, NoMemory, Param, Place, Program, Rel, Text};
 use std::alloc::Global;
 use std::test::Fail;
 

@@ -4,8 +4,7 @@ ghost use Rattle.std.specs.Prelude.{◌≡◌, codes};
 use crate::objects::{Call, NONE, SECONDS, ended};
 use cf_pass::{DropNeeds, Fold, Pass};
 use cf_top::Status;
-use cf_tree::code::Code;
-use cf_tree::memory::NoMemory;
+use cf_tree::{Code, NoMemory};
 use std::alloc::Global;
 use std::test::Fail;
 
@@ -16,11 +15,11 @@ struct Faint {
 }
 
 impl Pass for Faint {
-    ghost name = { λ _. codes "faint" };
-
-    ghost tally = { λ p. ⟦<Fold as Pass>⟧.tally p.inner };
-
-    ghost turns = { λ p. ⟦<Fold as Pass>⟧.turns p.inner };
+    ghost told = { λ p. record {
+      name = codes "faint";
+      tally = (⟦<Fold as Pass>⟧.told p.inner).tally;
+      turns = (⟦<Fold as Pass>⟧.told p.inner).turns;
+    } };
 
     fn name(&self) -> &str {
         "faint"
@@ -66,6 +65,7 @@ fn a_pass_that_finds_no_memory_ends_nothing(rt: HostRuntime) -> Result<(), Fail>
     let alloc = rt.alloc();
     let call = Call {
         command: "compile",
+        operand: "program",
         flags: &["--stats"],
         text: SECONDS,
         input: "",

@@ -1,7 +1,7 @@
 //! Each call of an object outside fails in turn.
 use crate::objects::{Call, Ending, Faults, NONE, REPLIES, ROUNDING, ended};
 use cf_top::Status;
-use cf_tree::memory::NoMemory;
+use cf_tree::NoMemory;
 use std::alloc::Global;
 use std::test::Fail;
 
@@ -9,6 +9,7 @@ use std::test::Fail;
 fn seen(alloc: Global, text: &str, faults: &Faults) -> Result<Ending, NoMemory> {
     let call = Call {
         command: "run",
+        operand: "program",
         flags: &[],
         text,
         input: "3 4\n3 3\n",

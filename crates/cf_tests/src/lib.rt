@@ -16,4 +16,6 @@ mod passes;
 #[cfg(test)]
 mod printing;
 #[cfg(test)]
+mod told;
+#[cfg(test)]
 mod unreached;

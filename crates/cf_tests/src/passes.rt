@@ -4,8 +4,7 @@ ghost use Rattle.std.specs.Prelude.{◌≡◌, ◌<◌, ◌^◌, codes};
 use crate::objects::{Call, Faults, NONE, ROUNDING, ended};
 use cf_pass::Pass;
 use cf_top::Status;
-use cf_tree::code::Code;
-use cf_tree::memory::NoMemory;
+use cf_tree::{Code, NoMemory};
 use std::alloc::Global;
 use std::cell::Cell;
 use std::rc::Rc;
@@ -37,11 +36,7 @@ impl Drop for Counted {
 }
 
 impl Pass for Counted {
-    ghost name = { λ _. codes "counted" };
-
-    ghost tally = { λ _. 0 };
-
-    ghost turns = { λ p. p.turns };
+    ghost told = { λ p. record { name = codes "counted"; tally = 0; turns = p.turns } };
 
     fn name(&self) -> &str {
         "counted"
@@ -60,6 +55,7 @@ impl Pass for Counted {
 
 const COMPILE: Call<'static> = Call {
     command: "compile",
+    operand: "program",
     flags: &[],
     text: ROUNDING,
     input: "",
@@ -100,7 +96,10 @@ const UNCALLED: Case = Case {
     call: COMPILE,
 };
 
-const CASES: [Case; 12] = [
+/// A program that is linear only where the numbers in scope are known.
+const LATE: &str = "def main(a: int, b: int): int = choose (x: int) where a * x == b\n";
+
+const CASES: [Case; 8] = [
     Case {
         calls: 1,
         ..UNCALLED
@@ -147,6 +146,42 @@ const CASES: [Case; 12] = [
         call: Call {
             command: "exec",
             text: "main (int): int = v0",
+            ..COMPILE
+        },
+        ..UNCALLED
+    },
+    Case {
+        call: Call {
+            command: "prove",
+            ..COMPILE
+        },
+        ..UNCALLED
+    },
+];
+
+const MORE_CASES: [Case; 8] = [
+    Case {
+        status: Status::Text,
+        call: Call {
+            command: "verify",
+            flags: &["program"],
+            ..COMPILE
+        },
+        ..UNCALLED
+    },
+    Case {
+        call: Call {
+            command: "run",
+            text: LATE,
+            ..COMPILE
+        },
+        ..UNCALLED
+    },
+    Case {
+        calls: 1,
+        call: Call {
+            command: "gen",
+            operand: "1",
             ..COMPILE
         },
         ..UNCALLED
@@ -199,6 +234,18 @@ const CASES: [Case; 12] = [
 #[test]
 fn each_pass_is_called_where_it_is_asked_for_and_dropped_once(rt: HostRuntime) -> Result<(), Fail> {
     for case in &CASES {
+        let seen = nothing_seen(rt.alloc())?;
+        let status = seen_by(rt.alloc(), &case.call, &seen)?;
+        assert!(rt;
+            status == case.status && seen.calls.get() == case.calls && seen.drops.get() == 1
+        );
+    }
+    Ok(())
+}
+
+#[test]
+fn each_pass_is_dropped_once_however_the_call_ends(rt: HostRuntime) -> Result<(), Fail> {
+    for case in &MORE_CASES {
         let seen = nothing_seen(rt.alloc())?;
         let status = seen_by(rt.alloc(), &case.call, &seen)?;
         assert!(rt;

@@ -1,12 +1,8 @@
 //! A copy of a target prints as it is read, with and without the header, and a copy of a precondition is printed. No command copies or prints these yet.
-use cf_emit::print::print;
-use cf_emit::print_pre::print_pre;
+use cf_emit::{print, print_pre};
 use cf_lex::tokens;
 use cf_target::target;
-use cf_tree::base::Text;
-use cf_tree::code::{Arm, Code, Item};
-use cf_tree::memory::NoMemory;
-use cf_tree::target::Pre;
+use cf_tree::{Arm, Code, Item, NoMemory, Pre, Text};
 use cf_typing::check_target;
 use std::alloc::Global;
 use std::test::*;

@@ -1,12 +1,8 @@
 //! Calls on values that no line and no source gives.
-use cf_eval::fault::LineFault;
-use cf_eval::line::read_line;
-use cf_eval::run::run_code;
-use cf_eval::value::{Outcome, Value};
-use cf_linear::row::Row;
+use cf_eval::{LineFault, Outcome, Value, read_line, run_code};
+use cf_linear::Row;
 use cf_set::Set;
-use cf_tree::base::Base;
-use cf_tree::code::Code;
+use cf_tree::{Base, Code};
 use std::test::*;
 
 #[test]

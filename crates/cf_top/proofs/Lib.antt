@@ -1,2 +1,3 @@
 mod DoesLemmas
 mod VerdictLemmas
+mod ErrorExamples

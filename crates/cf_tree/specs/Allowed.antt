@@ -5,6 +5,7 @@ use Rattle.cf_tree.specs.declared.raw.BinOp.{BinOp}
 use Rattle.cf_tree.specs.declared.raw.BinOp.TheVariants.{Add, Sub, Mul, And, Or, Union, Inter, Diff, Subset, Compare}
 use Rattle.cf_tree.specs.declared.raw.Param.{Param}
 use Rattle.cf_tree.specs.ExprTree.{ExprTree, expr_lit, expr_truth, expr_var, expr_set_of, expr_tuple, expr_neg, expr_not, expr_abs, expr_binary, expr_divides, expr_div, expr_mod, expr_card, expr_if, expr_call, expr_let, expr_choose, expr_match, ExprTrees, no_exprs, expr_more, match_arm, MatchArmTrees, no_match_arms, match_arm_more}
+use Rattle.cf_tree.specs.Params.{bases_of}
 use Rattle.cf_tree.specs.Numbers.{quotient, remainder, is_multiple, absolute}
 use Rattle.cf_tree.specs.Relation.{Sol}
 use Rattle.cf_tree.specs.RelTree.{RelTree}
@@ -61,9 +62,6 @@ Choosing = ℕ → List Base → List Base → RelTree → List Value → Outcom
 abbrev pub Calling : Type 1
 Calling = ℕ → List Value → Outcome → Type 0
 
-abbrev pub scope_of : List Param → List Base
-scope_of ps = map (λ p. p.base) ps
-
 abbrev mutual
   -- what an expression allows in an environment
   pub AllowedBy : Choosing → Calling → ExprTree → List Value → Outcome → Type 0
@@ -87,7 +85,7 @@ abbrev mutual
       (λ xs p. MatchBool (truth_of (first_of xs)) (AllowedBy chooses calls a env p) (AllowedBy chooses calls b env p)) o
   AllowedBy chooses calls (expr_call f es) env o = AllowedThen (AllAllowedBy chooses calls es env) (calls f) o
   AllowedBy chooses calls (expr_let n a b) env o = AllowedThen (AllowedBy chooses calls a env) (λ xs. AllowedBy chooses calls b (env ++ xs)) o
-  AllowedBy chooses calls (expr_choose n scope outputs rel) env o = chooses n (scope_of scope) outputs rel env o
+  AllowedBy chooses calls (expr_choose n scope outputs rel) env o = chooses n (bases_of scope) outputs rel env o
   AllowedBy chooses calls (expr_match n scope a arms) env o =
       AllowedThen (AllowedBy chooses calls a env) (λ xs. ArmAllowedBy chooses calls n arms (number_of (first_of xs)) (env ++ xs)) o
 

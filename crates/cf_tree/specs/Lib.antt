@@ -20,3 +20,7 @@ pub mod Solving
 pub mod Spelled
 pub mod Typing
 pub mod Values
+pub mod Words
+pub mod Params
+pub mod ChooseTree
+pub mod ChooseView

@@ -1,12 +1,28 @@
 //! The trees of sources, relations and targets, and the definitions of what they mean.
 #![tactic(auto)]
 
-pub mod base;
-pub mod code;
-pub mod copy;
-pub mod expr;
+mod base;
+mod choose;
+mod code;
+mod copy;
+mod expr;
+mod forms;
+mod level;
 mod measure;
-pub mod memory;
-pub mod raw;
-pub mod rel;
-pub mod target;
+mod memory;
+mod raw;
+mod rel;
+mod target;
+mod text;
+
+pub use crate::base::{Base, Bytes, Order, Place, Text, same_base, same_bases};
+pub use crate::choose::{Choose, bases};
+pub use crate::code::{Arm, Code, Item};
+pub use crate::copy::words::copy_params;
+pub use crate::expr::{Def, Expr, MatchArm};
+pub use crate::level::{add_u32, to_u32};
+pub use crate::memory::{NoMemory, without};
+pub use crate::raw::{BinOp, Param, Part, Program, Raw, RawArm, RawDef, RawNode};
+pub use crate::rel::{Rel, SetTerm, Term};
+pub use crate::target::{Pre, RawTarget, Target};
+pub use crate::text::{put_number, put_truth};

@@ -12,7 +12,8 @@ use Rattle.cf_program.specs.declared.fault.TypeFault.TheVariants.{Mismatch}
 use Rattle.cf_program.specs.declared.linearity.Linearity.{Linearity}
 use Rattle.cf_program.specs.CheckAnswers.{CheckAnswer, CheckFault}
 use Rattle.cf_program.specs.Checked.{walk_def, walk_defs, def_form}
-use Rattle.cf_program.specs.Names.{callee_from, is_among, names_of, repeated}
+use Rattle.cf_program.specs.Names.{callee_from, is_among, repeated}
+use Rattle.cf_tree.specs.Params.{names_of}
 use Rattle.cf_program.specs.Walk.{◌>>=◌, where_kept, where_no_fault, Context, Form, in_body, in_relation, output_fault, choose_form, choose_part, walk}
 use Rattle.cf_type.specs.declared.form.Form.{Form as DeclaredForm}
 use Rattle.cf_type.specs.FormView.{form_of}

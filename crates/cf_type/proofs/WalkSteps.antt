@@ -15,7 +15,8 @@ use Rattle.cf_program.specs.declared.fault.TypeFault.TheVariants as faults
 use Rattle.cf_program.specs.declared.fault.TypeFault.TheVariants.{Mismatch}
 use Rattle.cf_program.specs.CheckAnswers.{CheckFault}
 use Rattle.cf_program.specs.LateLinear.{known_in}
-use Rattle.cf_program.specs.Names.{bases_of, repeated}
+use Rattle.cf_program.specs.Names.{repeated}
+use Rattle.cf_tree.specs.Params.{bases_of}
 use Rattle.cf_program.specs.Reading.{Reading, relation, term, set, not_linear, first_nonlinear, not_linear_at}
 use Rattle.cf_program.specs.Walk.{◌>>=◌, where_kept, where_none_repeated, form, is_one, linear, choose_form, choose_part, Form, Forms, Arms, with_form, variables_of, after_arm, Context, in_relation, walk, walk_all, walk_arms, walk_arm, with_walked}
 

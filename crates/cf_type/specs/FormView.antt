@@ -9,7 +9,8 @@ use Rattle.cf_type.specs.declared.form.Form.{Form as DeclaredForm}
 use Rattle.cf_type.specs.declared.form.Forms.{Forms as DeclaredForms}
 use Rattle.cf_type.specs.declared.form.Arms.{Arms as DeclaredArms}
 use Rattle.cf_type.specs.declared.callees.Caller.{Caller}
-use Rattle.cf_program.specs.Names.{Callee, callee_from, bases_of}
+use Rattle.cf_program.specs.Names.{Callee, callee_from}
+use Rattle.cf_tree.specs.Params.{bases_of}
 use Rattle.cf_program.specs.Reading.{Reading, relation, term, set, not_linear}
 use Rattle.cf_program.specs.Walk.{Form, Forms, Arms, Context}
 

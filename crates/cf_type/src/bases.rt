@@ -1,12 +1,10 @@
 //! Tests on the bases of expressions.
 ghost use Rattle.std.specs.Prelude.{◌≡◌, ◌++◌, IfOk, map, length};
-ghost use Rattle.cf_program.specs.Names.{bases_of};
+ghost use Rattle.cf_tree.specs.Params.{bases_of};
 ghost use Rattle.cf_program.specs.Walk.{is_one as is_one_of, all_are as all_are_of, all_are_single as all_are_single_of, are_asked as are_asked_of, all_have as all_have_of, all_same as all_same_of, joined as joined_of, first_of, side_of as side_base, sides_fit as sides_fit_of, result_of as result_base, is_output as is_output_of};
 ghost use Rattle.cf_tree.specs.Typing.{one as one_of};
 
-use cf_tree::base::{Base, Order, same_bases};
-use cf_tree::memory::NoMemory;
-use cf_tree::raw::{BinOp, Param};
+use cf_tree::{Base, BinOp, NoMemory, Order, Param, same_bases};
 use std::alloc::Global;
 
 /// The one base.

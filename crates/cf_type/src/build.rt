@@ -10,7 +10,7 @@ ghost use Rattle.cf_tree.specs.RawView.{raw_tree};
 ghost use Rattle.cf_type.specs.FormParts.{over_one as over_one_of, over_row as over_row_of};
 ghost use Rattle.cf_type.specs.FormView.{form_of, forms_of, arms_of, reading_of, callee_seen, context_of};
 ghost use Rattle.cf_program.specs.CheckAnswers.{CheckAnswer};
-ghost use Rattle.cf_program.specs.Names.{bases_of};
+ghost use Rattle.cf_tree.specs.Params.{bases_of};
 ghost use Rattle.cf_program.specs.Reading.{relation as a_relation, term as a_term, on_relation, on_term, on_set, truth_reading, not_linear_at as not_linear_at_of};
 ghost use Rattle.cf_program.specs.Walk.{where_no_fault, is_one, form as form_is, no_forms as no_forms_of, with_form as with_form_of, no_arms as no_arms_of, with_arm as with_arm_of, variable_form, unary_form, binary_form, set_reading as set_reading_of, set_form, tuple_form, call_form, if_form, let_form, choose_form, choose_part, match_form, linear as linear_of, arm_number, after_arm};
 ghost use Rattle.cf_tree.specs.Typing.{one as one_base};
@@ -20,13 +20,11 @@ use crate::form::{Arms, Form, Forms, Reading};
 use crate::memory::{in_box, push};
 use crate::reading::Operation;
 use crate::{bases, reading};
-use cf_program::fault::TypeFault;
-use cf_program::variable::Variable;
-use cf_tree::base::{Base, Place, Text, same_bases};
-use cf_tree::expr::{Expr, MatchArm};
-use cf_tree::memory::{NoMemory, without};
-use cf_tree::raw::{BinOp, Param, Part, Raw, RawDef, RawNode};
-use cf_tree::rel::{Rel, SetTerm, Term};
+use cf_program::{TypeFault, Variable};
+use cf_tree::{
+    Base, BinOp, Expr, MatchArm, NoMemory, Param, Part, Place, Raw, RawDef, RawNode, Rel, SetTerm,
+    Term, Text, add_u32, same_bases, to_u32, without,
+};
 use std::alloc::Global;
 
 // The expression of these bases, this tree and this reading.
@@ -477,26 +475,6 @@ pub fn choice(
     boxed(alloc, bases, Expr::If { test, yes, no }, reading, next)
 }
 
-/// A number of names or functions.
-pub fn to_u32(n: usize) -> Result<u32, NoMemory>
-    ensures { IfOk result (λ m. m ≡ n) }
-{
-    match u32::try_from(n) {
-        Ok(m) => Ok(m),
-        Err(_) => Err(NoMemory),
-    }
-}
-
-/// The next number.
-pub fn following(n: u32) -> Result<u32, NoMemory>
-    ensures { IfOk result (λ m. m ≡ n + 1) }
-{
-    match n.checked_add(1) {
-        Some(m) => Ok(m),
-        None => Err(NoMemory),
-    }
-}
-
 // A `let` of so many names.
 fn bound(
     alloc: Global,
@@ -710,7 +688,7 @@ pub fn after_arm_number(next: u32, parts: &[Part]) -> Result<u32, NoMemory>
     if parts.is_empty() {
         Ok(next)
     } else {
-        following(next)
+        add_u32(next, 1)
     }
 }
 

@@ -7,11 +7,8 @@ ghost use Rattle.cf_program.specs.Names.{callee_from, is_among};
 ghost use Rattle.cf_program.specs.Walk.{in_body, in_relation as in_relation_of};
 ghost use Rattle.cf_type.specs.Numbers.{shown, with_name, with_names, names_of_defs};
 
-use crate::build::to_u32;
-use cf_program::linearity::Linearity;
-use cf_tree::base::Text;
-use cf_tree::memory::{NoMemory, without};
-use cf_tree::raw::RawDef;
+use cf_program::Linearity;
+use cf_tree::{NoMemory, RawDef, Text, to_u32, without};
 use indexmap::IndexMap;
 use std::alloc::Global;
 use std::marker::Model;

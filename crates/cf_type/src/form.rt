@@ -1,7 +1,5 @@
 //! What the walk learns of an expression.
-use cf_tree::base::{Base, Place};
-use cf_tree::expr::{Expr, MatchArm};
-use cf_tree::rel::{Rel, SetTerm, Term};
+use cf_tree::{Base, Expr, MatchArm, Place, Rel, SetTerm, Term};
 
 /// An expression as a part of a relation, or the place of its first form that is not linear.
 #[derive(Drop)]

@@ -4,7 +4,7 @@
 mod bases;
 mod build;
 mod callees;
-pub mod check;
+mod checking;
 mod form;
 mod memory;
 mod name_set;
@@ -14,5 +14,5 @@ mod scope;
 mod size;
 mod walk;
 
-pub use cf_typing::check_target;
-pub use cf_typing::fault::TargetFault;
+pub use crate::checking::{check, check_late};
+pub use cf_typing::{TargetFault, check_target};

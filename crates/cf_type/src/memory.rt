@@ -2,7 +2,7 @@
 //! for which no place was found.
 ghost use Rattle.std.specs.Prelude.{◌≡◌, ◌++◌, ◌∷◌, [], IfOk, OnOk};
 
-use cf_tree::memory::NoMemory;
+use cf_tree::NoMemory;
 use std::alloc::Global;
 
 /// The value in a box.

@@ -2,8 +2,7 @@
 ghost use Rattle.std.specs.Prelude.{◌≡◌, ◌++◌, ◌∷◌, [], IfOk, if◌then◌else◌};
 ghost use Rattle.cf_program.specs.Names.{is_among};
 
-use cf_tree::base::Text;
-use cf_tree::memory::NoMemory;
+use cf_tree::{NoMemory, Text};
 use indexmap::IndexSet;
 use std::alloc::Global;
 use std::marker::Model;

@@ -1,14 +1,13 @@
 //! Names that stand together, and which of them is the first that stands twice.
 ghost use Rattle.std.specs.Prelude.{◌≡◌, [], map, IfOk};
 ghost use Rattle.cf_program.specs.Walk.{output_fault as output_fault_of};
-ghost use Rattle.cf_program.specs.Names.{repeated as repeated_of, names_of};
+ghost use Rattle.cf_program.specs.Names.{repeated as repeated_of};
+ghost use Rattle.cf_tree.specs.Params.{names_of};
 
 use crate::bases::is_output;
 use crate::name_set::NameSet;
-use cf_program::fault::TypeFault;
-use cf_tree::base::{Place, Text};
-use cf_tree::memory::NoMemory;
-use cf_tree::raw::{Param, Part};
+use cf_program::TypeFault;
+use cf_tree::{NoMemory, Param, Part, Place, Text};
 use std::alloc::Global;
 
 /// The place of the first name that equals one before it.

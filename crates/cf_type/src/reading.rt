@@ -7,11 +7,8 @@ ghost use Rattle.cf_program.specs.LateLinear.{is_fixed_below as is_fixed_below_o
 ghost use Rattle.cf_program.specs.Reading.{relation as a_relation, term as a_term, set as a_set, not_linear, first_nonlinear as first_nonlinear_of, earlier_nonlinear as earlier_nonlinear_of, not_linear_at as not_linear_at_of, on_relation, on_term, on_set, truth_reading, variable_reading, product_reading, sets_reading, compare_reading, binary_reading};
 
 use crate::form::Reading;
-use cf_program::variable::Variable;
-use cf_tree::base::{Base, Order, Place};
-use cf_tree::memory::{NoMemory, without};
-use cf_tree::raw::BinOp;
-use cf_tree::rel::{Rel, SetTerm, Term};
+use cf_program::Variable;
+use cf_tree::{Base, BinOp, NoMemory, Order, Place, Rel, SetTerm, Term, without};
 use std::alloc::Global;
 
 /// An operation with two sides: its place, and how many of the outermost variables count as known.

@@ -5,11 +5,8 @@ ghost use Rattle.std.specs.Str.{bytes_eq};
 ghost use Rattle.cf_program.specs.Names.{variable_of};
 ghost use Rattle.cf_program.specs.Walk.{bound, matched, variables_of};
 
-use crate::build::to_u32;
-use cf_program::variable::Variable;
-use cf_tree::base::{Base, Place, Text};
-use cf_tree::memory::NoMemory;
-use cf_tree::raw::{Param, Part};
+use cf_program::Variable;
+use cf_tree::{Base, NoMemory, Param, Part, Place, Text, to_u32};
 use indexmap::IndexMap;
 use std::alloc::Global;
 use std::marker::Model;

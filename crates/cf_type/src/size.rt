@@ -8,9 +8,8 @@ ghost use Rattle.cf_type.specs.Counted.{are_zero as are_zero_of, test_weight as 
 ghost use Rattle.cf_program.specs.declared.fault.TypeFault.TheVariants.{Weight, Depth};
 ghost use Rattle.cf_program.specs.Size.{weights, depths};
 
-use cf_program::fault::TypeFault;
-use cf_tree::expr::{Def, Expr, MatchArm};
-use cf_tree::memory::NoMemory;
+use cf_program::TypeFault;
+use cf_tree::{Def, Expr, MatchArm, NoMemory};
 use std::alloc::Global;
 
 // The greatest weight of a function.

@@ -13,10 +13,8 @@ use crate::callees::Caller;
 use crate::form::{Arms, Form, Forms};
 use crate::names::{output_fault, repeated, repeated_part};
 use crate::scope::Scope;
-use cf_program::fault::TypeFault;
-use cf_tree::base::{Place, Text};
-use cf_tree::memory::{NoMemory, without};
-use cf_tree::raw::{BinOp, Param, Part, Raw, RawArm, RawNode};
+use cf_program::TypeFault;
+use cf_tree::{BinOp, NoMemory, Param, Part, Place, Raw, RawArm, RawNode, Text, add_u32, without};
 use std::alloc::Global;
 
 // The names that a `let` binds, each with its place.
@@ -256,7 +254,7 @@ fn walk_chosen(
         (λ f. chained (walk_of (context_of caller.now) (scope.old ++ outputs.now) (number + 1) (raw_tree rel.now)) (choose_part place f)))
         × OnOk result (scope.new ≡ scope.old) }
 {
-    let next = build::following(number)?;
+    let next = add_u32(number, 1)?;
     let inner = caller.in_relation(scope.len());
     let read = walk_inside(&inner, scope, next, outputs, rel)?;
     let chosen = choose_in(caller.alloc, scope, place, number, outputs, read)?;
@@ -339,7 +337,7 @@ fn walk_matched(
         (walk_of (context_of caller.now) scope.old (number + 1) (raw_tree value.now))
         × OnOk result (scope.new ≡ scope.old) }
 {
-    let next = build::following(number)?;
+    let next = add_u32(number, 1)?;
     walk(caller, scope, next, value)
 }
 

@@ -4,3 +4,4 @@ mod Lengths
 mod OnlyLaws
 mod PlainLaws
 mod Steps
+mod LimitExamples

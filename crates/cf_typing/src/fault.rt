@@ -1,5 +1,5 @@
 //! Why no target is made of a tree.
-use cf_tree::memory::NoMemory;
+use cf_tree::NoMemory;
 use std::alloc::{AllocError, AllocFailed};
 
 /// Why no target is made of a tree.

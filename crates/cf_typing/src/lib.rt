@@ -2,8 +2,9 @@
 #![tactic(auto)]
 
 mod bases;
-pub mod fault;
+mod fault;
 mod form;
 mod target;
 
+pub use crate::fault::TargetFault;
 pub use target::check_target;

@@ -7,8 +7,7 @@ ghost use Rattle.cf_typing.specs.TypingAnswers.{AskedAnswer};
 
 use crate::bases::check;
 use crate::fault::TargetFault;
-use cf_tree::memory::without;
-use cf_tree::target::{RawTarget, Target};
+use cf_tree::{RawTarget, Target, without};
 use std::alloc::Global;
 
 /// The target of this tree.

@@ -5,11 +5,11 @@ use Rattle.cf_linear.specs.declared.refusal.LimitKind.TheVariants.{Cases}
 use Rattle.cf_linear.specs.declared.refusal.Refusal.TheVariants.{Past, Limit}
 use Rattle.cf_eval.specs.declared.value.Value.{Value}
 use Rattle.cf_eval.specs.declared.value.Value.TheVariants as value
-use Rattle.cf_question.proofs.ClassExamples.{doubles, doubles-are, doubles-solved, doubles-tuples, doubles-limit, doubles-peak, doubles-always, mixed, mixed-are, mixed-solved, mixed-tuples, mixed-limit, mixed-peak, mixed-run, mixed-missing, many, many-refused, greatest, greatest-solved, greatest-tuples, greatest-limit}
-use Rattle.cf_question.proofs.ClassLaws.{every_number, no_class}
+use Rattle.cf_warn.proofs.ClassExamples.{doubles, doubles-are, doubles-solved, doubles-tuples, doubles-limit, doubles-peak, doubles-always, mixed, mixed-are, mixed-solved, mixed-tuples, mixed-limit, mixed-peak, mixed-run, mixed-missing, many, many-refused, greatest, greatest-solved, greatest-tuples, greatest-limit}
+use Rattle.cf_warn.proofs.ClassLaws.{every_number, no_class}
 use Rattle.cf_warn.specs.declared.answer.Doubt.TheVariants.{Refused}
-use Rattle.cf_warn.specs.declared.covers.Cover.TheVariants as cover
-use Rattle.cf_warn.specs.declared.existence.TheConstants.{MOST_TUPLES}
+use Rattle.cf_warn.specs.declared.coverage.Cover.TheVariants as cover
+use Rattle.cf_warn.specs.declared.no_outputs.TheConstants.{MOST_TUPLES}
 use Rattle.cf_warn.specs.Covers.{IsCover}
 
 -- ---- the even and the odd numbers are all numbers

@@ -7,10 +7,10 @@ use Rattle.cf_eval.specs.declared.value.Value.{Value as RunValue}
 use Rattle.cf_eval.specs.declared.value.Value.TheVariants as value
 use Rattle.cf_eval.specs.Seen.{plains}
 use Rattle.cf_match.specs.declared.class.Class.{Class}
-use Rattle.cf_question.specs.Classes.{AreClasses, covered}
-use Rattle.cf_question.specs.Questions.{base_at}
-use Rattle.cf_question.specs.Solutions.{AreMissing}
-use Rattle.cf_question.proofs.ClassLaws.{one_parameter}
+use Rattle.cf_warn.specs.Classes.{AreClasses, covered}
+use Rattle.cf_warn.specs.Questions.{base_at}
+use Rattle.cf_warn.specs.Solutions.{AreMissing}
+use Rattle.cf_warn.proofs.ClassLaws.{one_parameter}
 
 one_value : (vs : List RunValue) → HaveBases (one Int) (plains vs) → (z : ℤ) × (vs ≡ value.Int z ∷ [])
 one_value [] h = absurd h

@@ -6,10 +6,10 @@ use Rattle.cf_linear.specs.declared.refusal.LimitKind.TheVariants.{Search}
 use Rattle.cf_linear.specs.declared.refusal.Refusal.TheVariants.{Limit}
 use Rattle.cf_eval.specs.declared.value.Value.{Value as RunValue}
 use Rattle.cf_eval.specs.declared.value.Value.TheVariants as ran
-use Rattle.cf_question.proofs.MissingExamples.{three, three-limit, three-tuples, three-peak, three-always, between, between-limit, between-tuples, between-peak, between-run, between-missing, many, many-tuples}
+use Rattle.cf_warn.proofs.MissingExamples.{three, three-limit, three-tuples, three-peak, three-always, between, between-limit, between-tuples, between-peak, between-run, between-missing, many, many-tuples}
 use Rattle.cf_warn.specs.declared.answer.Doubt.TheVariants.{Refused}
 use Rattle.cf_warn.specs.declared.answer.ExistenceAnswer.TheVariants.{Always, Missing, Undecided}
-use Rattle.cf_warn.specs.declared.existence.TheConstants.{MOST_TUPLES}
+use Rattle.cf_warn.specs.declared.no_outputs.TheConstants.{MOST_TUPLES}
 use Rattle.cf_warn.specs.Verdicts.{IsExistence}
 
 -- ---- the number 3 always exists

@@ -12,7 +12,7 @@ use Rattle.cf_warn.specs.declared.answer.Doubt.{Doubt}
 use Rattle.cf_warn.specs.declared.answer.Doubt.TheVariants.{Refused}
 use Rattle.cf_warn.specs.declared.answer.ExistenceAnswer.{ExistenceAnswer}
 use Rattle.cf_warn.specs.declared.answer.ExistenceAnswer.TheVariants.{Always, Missing, Undecided}
-use Rattle.cf_warn.specs.declared.existence.TheConstants.{MOST_TUPLES}
+use Rattle.cf_warn.specs.declared.no_outputs.TheConstants.{MOST_TUPLES}
 use Rattle.cf_warn.specs.Answering.{IsAsked, IsMissingOf}
 use Rattle.cf_tree.specs.declared.base.Base.{Base}
 use Rattle.cf_tree.specs.declared.base.Base.TheVariants.{Int}
@@ -23,11 +23,11 @@ use Rattle.cf_warn.specs.declared.ask.Asked.{Asked}
 use Rattle.cf_tree.specs.RelTree.{RelTree}
 use Rattle.cf_tree.specs.Values.{Value, values}
 use Rattle.cf_choose.specs.Laws.{IsUnrefused}
-use Rattle.cf_question.specs.Missing.{turns, lets_in, traced, none_outputs, none, tuple_count}
-use Rattle.cf_question.specs.Questions.{parameters, base_at, parameter_bases}
-use Rattle.cf_question.specs.Solutions.{question_code}
-use Rattle.cf_question.proofs.MissingTypes.{none_typed, none_linear, none_are_outputs}
-use Rattle.cf_question.proofs.SolutionLaws.{always, missing}
+use Rattle.cf_warn.specs.Missing.{turns, lets_in, traced, none_outputs, none, tuple_count}
+use Rattle.cf_warn.specs.Questions.{parameters, base_at, parameter_bases}
+use Rattle.cf_warn.specs.Solutions.{question_code}
+use Rattle.cf_warn.proofs.MissingTypes.{none_typed, none_linear, none_are_outputs}
+use Rattle.cf_warn.proofs.SolutionLaws.{always, missing}
 use Rattle.cf_warn.specs.Verdicts.{IsClear, IsExistence}
 
 module _ (scope outputs : List Base) (rel : RelTree) (u : IsUnrefused scope outputs rel) where

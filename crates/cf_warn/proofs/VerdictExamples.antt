@@ -5,7 +5,7 @@ use Rattle.cf_linear.specs.declared.refusal.LimitKind.TheVariants.{Cases}
 use Rattle.cf_linear.specs.declared.refusal.Refusal.TheVariants.{Limit}
 use Rattle.cf_eval.specs.declared.value.Value.{Value as RunValue}
 use Rattle.cf_eval.specs.declared.value.Value.TheVariants as ran
-use Rattle.cf_question.proofs.Examples.{three, three-limit, three-peak, three-unique, above, above-limit, above-peak, above-run, above-two, not_few, not_few-limit, most, most-limit, most-run}
+use Rattle.cf_warn.proofs.Examples.{three, three-limit, three-peak, three-unique, above, above-limit, above-peak, above-run, above-two, not_few, not_few-limit, most, most-limit, most-run}
 use Rattle.cf_warn.specs.declared.answer.Doubt.TheVariants.{Refused, Overflow}
 use Rattle.cf_warn.specs.declared.answer.UniquenessAnswer.TheVariants.{Unique, Two, Undecided}
 use Rattle.cf_warn.specs.Verdicts.{IsUniqueness}

@@ -14,9 +14,9 @@ use Rattle.cf_choose.specs.Laws.{IsUnrefused}
 use Rattle.cf_choose.specs.Solved.{IsOutput}
 use Rattle.cf_eval.specs.declared.value.Value.{Value as RunValue}
 use Rattle.cf_eval.specs.Seen.{plain, plains}
-use Rattle.cf_question.specs.Questions.{parameters, base_at, parameter_bases, twice_outputs, twice}
-use Rattle.cf_question.specs.Solutions.{question_code, AreTwo}
-use Rattle.cf_question.proofs.SolutionLaws.{question_solution, question_none, two_values}
+use Rattle.cf_warn.specs.Questions.{parameters, base_at, parameter_bases, twice_outputs, twice}
+use Rattle.cf_warn.specs.Solutions.{question_code, AreTwo}
+use Rattle.cf_warn.proofs.SolutionLaws.{question_solution, question_none, two_values}
 use Rattle.cf_warn.specs.declared.answer.UniquenessAnswer.{UniquenessAnswer}
 use Rattle.cf_warn.specs.declared.answer.UniquenessAnswer.TheVariants.{Unique, Two, Undecided}
 use Rattle.cf_warn.specs.Verdicts.{IsClear, IsUniqueness}

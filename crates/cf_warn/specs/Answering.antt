@@ -7,7 +7,7 @@ use Rattle.cf_tree.specs.RelTree.{RelTree}
 use Rattle.cf_tree.specs.Values.{Value as PlainValue, values}
 use Rattle.cf_eval.specs.declared.value.Value.{Value}
 use Rattle.cf_eval.specs.Seen.{plains}
-use Rattle.cf_question.specs.Solutions.{question_code}
+use Rattle.cf_warn.specs.Solutions.{question_code}
 use Rattle.cf_warn.specs.declared.answer.UniquenessAnswer.{UniquenessAnswer}
 use Rattle.cf_warn.specs.declared.answer.UniquenessAnswer.TheVariants.{Unique, Two, Undecided}
 use Rattle.cf_warn.specs.declared.answer.ExistenceAnswer.{ExistenceAnswer}

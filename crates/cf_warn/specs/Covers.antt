@@ -9,12 +9,12 @@ use Rattle.cf_match.specs.declared.class.Class.{Class}
 use Rattle.cf_match.specs.Classes.{IsIn}
 use Rattle.cf_eval.specs.declared.value.Value.{Value}
 use Rattle.cf_eval.specs.declared.value.Value.TheVariants as value
-use Rattle.cf_question.specs.Classes.{covered}
+use Rattle.cf_warn.specs.Classes.{covered}
 use Rattle.cf_warn.specs.declared.answer.Doubt.TheVariants.{Refused}
 use Rattle.cf_warn.specs.declared.answer.ExistenceAnswer.{ExistenceAnswer}
 use Rattle.cf_warn.specs.declared.answer.ExistenceAnswer.TheVariants as exists
-use Rattle.cf_warn.specs.declared.covers.Cover.{Cover}
-use Rattle.cf_warn.specs.declared.covers.Cover.TheVariants as cover
+use Rattle.cf_warn.specs.declared.coverage.Cover.{Cover}
+use Rattle.cf_warn.specs.declared.coverage.Cover.TheVariants as cover
 use Rattle.cf_warn.specs.Verdicts.{IsExistence}
 
 -- no limit refuses the question, and this is the verdict whether its output always exists

@@ -8,16 +8,16 @@ use Rattle.cf_linear.specs.declared.refusal.LimitKind.TheVariants.{Search}
 use Rattle.cf_linear.specs.declared.refusal.Refusal.TheVariants.{Limit}
 use Rattle.cf_linear.specs.Chooses.{limit}
 use Rattle.cf_eval.specs.Seen.{plains}
-use Rattle.cf_question.specs.Missing.{none_outputs, none, tuple_count}
-use Rattle.cf_question.specs.Questions.{twice_outputs, twice}
-use Rattle.cf_question.specs.Solutions.{question_code, AreUnique, AreTwo, AreAlways, AreMissing}
+use Rattle.cf_warn.specs.Missing.{none_outputs, none, tuple_count}
+use Rattle.cf_warn.specs.Questions.{twice_outputs, twice}
+use Rattle.cf_warn.specs.Solutions.{question_code, AreUnique, AreTwo, AreAlways, AreMissing}
 use Rattle.cf_warn.specs.declared.answer.Doubt.{Doubt}
 use Rattle.cf_warn.specs.declared.answer.Doubt.TheVariants.{Refused, Overflow}
 use Rattle.cf_warn.specs.declared.answer.UniquenessAnswer.{UniquenessAnswer}
 use Rattle.cf_warn.specs.declared.answer.UniquenessAnswer.TheVariants.{Unique, Two, Undecided}
 use Rattle.cf_warn.specs.declared.answer.ExistenceAnswer.{ExistenceAnswer}
 use Rattle.cf_warn.specs.declared.answer.ExistenceAnswer.TheVariants.{Always, Missing, Undecided as UndecidedExistence}
-use Rattle.cf_warn.specs.declared.existence.TheConstants.{MOST_TUPLES}
+use Rattle.cf_warn.specs.declared.no_outputs.TheConstants.{MOST_TUPLES}
 
 -- ---- doubts
 -- the question passes no limit, and no number met in its run on no input passes the limit of numbers

@@ -1,6 +1,6 @@
 //! What the questions of a choose answer.
-use cf_eval::value::Value;
-use cf_linear::refusal::Refusal;
+use cf_eval::Value;
+use cf_linear::Refusal;
 
 /// Why a question is not decided.
 #[derive(Clone, Copy, Debug, PartialEq, Eq)]

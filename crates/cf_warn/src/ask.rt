@@ -5,19 +5,13 @@ ghost use Rattle.cf_tree.specs.RelView.{rel_tree};
 ghost use Rattle.cf_tree.specs.Relation.{IsTyped, IsLinear};
 ghost use Rattle.cf_choose.specs.Laws.{IsUnrefused};
 ghost use Rattle.cf_choose.specs.Solved.{IsOutput};
-ghost use Rattle.cf_question.specs.Solutions.{question_code};
+ghost use Rattle.cf_warn.specs.Solutions.{question_code};
 ghost use Rattle.cf_warn.specs.Answering.{IsAsked};
 
 use crate::answer::Doubt;
-use cf_choose::fault::ChooseFault;
-use cf_choose::solve::solve;
-use cf_choose::solved::Solved;
-use cf_eval::run::run_code;
-use cf_eval::value::{Outcome, Value};
-use cf_tree::base::Base;
-use cf_tree::code::Code;
-use cf_tree::memory::{NoMemory, without};
-use cf_tree::rel::Rel;
+use cf_choose::{ChooseFault, Solved, solve};
+use cf_eval::{Outcome, Value, run_code};
+use cf_tree::{Base, Code, NoMemory, Rel, without};
 use std::alloc::Global;
 
 // What a question answers: values of its outputs that solve it, or that none do, or why it is not decided.

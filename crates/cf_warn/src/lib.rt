@@ -1,8 +1,25 @@
 //! What the questions of `check` answer.
 #![tactic(auto)]
 
-pub mod answer;
+mod answer;
 mod ask;
-pub mod covers;
-pub mod existence;
-pub mod uniqueness;
+mod classes;
+mod coverage;
+mod draft;
+mod forms;
+mod halves;
+mod levels;
+mod no_outputs;
+mod none;
+mod regions;
+mod rows;
+mod tuples;
+mod twice;
+mod two_outputs;
+mod used_parameters;
+
+pub use crate::answer::{Doubt, ExistenceAnswer, UniquenessAnswer};
+pub use crate::coverage::{Cover, covers};
+pub use crate::no_outputs::existence;
+pub use crate::two_outputs::uniqueness;
+pub use crate::used_parameters::parameters;

@@ -4,7 +4,7 @@ ghost use Rattle.clap.specs.declared.builder.command.Command.TheViews.{out-Comma
 ghost use Rattle.clap.specs.Words.{app_of, rule_of, with_rule as adds_rule, with_subcommand as adds_subcommand};
 ghost use Rattle.cf_words.specs.Grammar.{bare_subcommand, flag as the_flag, flagged_subcommand, grammar as the_grammar, operand as the_operand, paired_subcommand, program as the_program};
 
-use cf_tree::memory::without;
+use cf_tree::without;
 use clap::{Arg, ArgAction, Command};
 use std::alloc::{AllocError, Global};
 

@@ -1,11 +1,15 @@
 //! The words of the command line.
 #![tactic(auto)]
 
-pub mod command;
-pub mod fault;
+mod command;
+mod fault;
 mod grammar;
 mod matches;
-pub mod parse;
+mod parsing;
 mod size;
 mod tests;
 mod word;
+
+pub use crate::command::{Command, CommandKind, FileCommand, Flags};
+pub use crate::fault::WordsFault;
+pub use crate::parsing::parse;

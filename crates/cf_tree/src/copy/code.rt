@@ -5,6 +5,7 @@ ghost use Rattle.cf_tree.specs.OverParts.{over_list, HasList, over_one, HasOnePa
 
 use crate::code::{Arm, Code, Item};
 use crate::memory::NoMemory;
+use crate::{code_over_list, code_over_one, code_over_three, code_over_two};
 use std::alloc::Global;
 
 impl Code {
@@ -17,56 +18,20 @@ impl Code {
             Code::Lit(x) => Ok(Code::Lit(*x)),
             Code::Truth(x) => Ok(Code::Truth(*x)),
             Code::Var(x) => Ok(Code::Var(*x)),
-            Code::SetOf(parts)
-            | Code::Tuple(parts)
-            | Code::Sum(parts)
-            | Code::Min(parts)
-            | Code::Max(parts)
-            | Code::Union(parts)
-            | Code::Inter(parts) => {
+            code_over_list!(parts) => {
                 let parts = copy_codes(alloc, parts)?;
                 Ok(self.over_list(parts))
             }
-            Code::Neg(a)
-            | Code::Not(a)
-            | Code::Card(a)
-            | Code::Div { of: a, .. }
-            | Code::Mod { of: a, .. }
-            | Code::Divides { of: a, .. } => {
+            code_over_one!(a) => {
                 let part = a.boxed(alloc)?;
                 Ok(self.over_one(part))
             }
-            Code::Sub(a, b)
-            | Code::Mul(a, b)
-            | Code::And(a, b)
-            | Code::Or(a, b)
-            | Code::Diff(a, b)
-            | Code::Subset(a, b)
-            | Code::Compare {
-                left: a,
-                right: b,
-                ..
-            }
-            | Code::Fresh { avoid: a, n: b }
-            | Code::Let {
-                value: a,
-                body: b,
-                ..
-            } => {
+            code_over_two!(a, b) => {
                 let first = a.boxed(alloc)?;
                 let second = b.boxed(alloc)?;
                 Ok(self.over_two(first, second))
             }
-            Code::Slice {
-                set: a,
-                from: b,
-                n: c,
-            }
-            | Code::If {
-                test: a,
-                yes: b,
-                no: c,
-            } => {
+            code_over_three!(a, b, c) => {
                 let first = a.boxed(alloc)?;
                 let second = b.boxed(alloc)?;
                 let third = c.boxed(alloc)?;

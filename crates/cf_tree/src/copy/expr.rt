@@ -11,6 +11,7 @@ use crate::expr::{Expr, MatchArm};
 use crate::memory::NoMemory;
 use crate::raw::Param;
 use crate::rel::Rel;
+use crate::{expr_over_list, expr_over_one, expr_over_two};
 use std::alloc::Global;
 
 impl Expr {
@@ -23,30 +24,15 @@ impl Expr {
             Expr::Lit(x) => Ok(Expr::Lit(*x)),
             Expr::Truth(x) => Ok(Expr::Truth(*x)),
             Expr::Var(x) => Ok(Expr::Var(*x)),
-            Expr::SetOf(parts) | Expr::Tuple(parts) | Expr::Call { args: parts, .. } => {
+            expr_over_list!(parts) => {
                 let parts = copy_exprs(alloc, parts)?;
                 Ok(self.over_list(parts))
             }
-            Expr::Neg(a)
-            | Expr::Not(a)
-            | Expr::Abs(a)
-            | Expr::Card(a)
-            | Expr::Divides { of: a, .. }
-            | Expr::Div { of: a, .. }
-            | Expr::Mod { of: a, .. } => {
+            expr_over_one!(a) => {
                 let part = a.boxed(alloc)?;
                 Ok(self.over_one(part))
             }
-            Expr::Binary {
-                left: a,
-                right: b,
-                ..
-            }
-            | Expr::Let {
-                value: a,
-                body: b,
-                ..
-            } => {
+            expr_over_two!(a, b) => {
                 let first = a.boxed(alloc)?;
                 let second = b.boxed(alloc)?;
                 Ok(self.over_two(first, second))

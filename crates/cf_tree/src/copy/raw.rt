@@ -8,6 +8,7 @@ use crate::base::{Place, Text};
 use crate::copy::words::{copy_params, copy_parts, copy_texts};
 use crate::memory::NoMemory;
 use crate::raw::{Param, Raw, RawArm, RawNode};
+use crate::raw_over_one;
 use std::alloc::Global;
 
 impl Raw {
@@ -40,14 +41,7 @@ impl RawNode {
                 let parts = copy_raws(alloc, parts)?;
                 Ok(self.over_list(place, parts))
             }
-            RawNode::Group(a)
-            | RawNode::Neg(a)
-            | RawNode::Not(a)
-            | RawNode::Abs(a)
-            | RawNode::Card(a)
-            | RawNode::Divides { of: a, .. }
-            | RawNode::Div { of: a, .. }
-            | RawNode::Mod { of: a, .. } => {
+            RawNode::Group(a) | raw_over_one!(a) => {
                 let part = a.boxed(alloc)?;
                 Ok(self.over_one(place, part))
             }

@@ -5,6 +5,7 @@ ghost use Rattle.cf_tree.specs.SameParts.{IsSetOverTwo, IsTermOverOne, IsTermOve
 
 use crate::memory::NoMemory;
 use crate::rel::{Rel, SetTerm, Term};
+use crate::term_over_one;
 use std::alloc::Global;
 
 impl SetTerm {
@@ -55,7 +56,7 @@ impl Term {
             Term::Lit(x) => Ok(Term::Lit(*x)),
             Term::Var(x) => Ok(Term::Var(*x)),
             Term::Card(a) => Ok(Term::Card(a.boxed(alloc)?)),
-            Term::Neg(a) | Term::Div(a, _) | Term::Mod(a, _) | Term::Abs(a) => {
+            term_over_one!(a) => {
                 let part = a.boxed(alloc)?;
                 Ok(self.over_one(part))
             }

@@ -5,6 +5,7 @@ ghost use Rattle.cf_tree.specs.CodeTree.{code_size, codes_size, item_size, items
 ghost use Rattle.cf_tree.specs.CodeView.{code_tree, item_tree, arm_tree, code_trees, item_trees, arm_trees};
 
 use crate::code::{Arm, Code, Item};
+use crate::{code_leaf, code_over_list, code_over_one, code_over_three, code_over_two};
 
 impl Code {
     /// How many nodes it has, but never more than the greatest number of 64 bits.
@@ -13,47 +14,11 @@ impl Code {
         ensures { result ≡ capped (code_size (code_tree self.now)) }
     {
         match self {
-            Code::Lit(_) | Code::Truth(_) | Code::Var(_) => 1,
-            Code::SetOf(parts)
-            | Code::Tuple(parts)
-            | Code::Sum(parts)
-            | Code::Min(parts)
-            | Code::Max(parts)
-            | Code::Union(parts)
-            | Code::Inter(parts) => codes_size(parts).saturating_add(1),
-            Code::Neg(a)
-            | Code::Not(a)
-            | Code::Card(a)
-            | Code::Div { of: a, .. }
-            | Code::Mod { of: a, .. }
-            | Code::Divides { of: a, .. } => a.size().saturating_add(1),
-            Code::Sub(a, b)
-            | Code::Mul(a, b)
-            | Code::And(a, b)
-            | Code::Or(a, b)
-            | Code::Diff(a, b)
-            | Code::Subset(a, b)
-            | Code::Compare {
-                left: a,
-                right: b,
-                ..
-            }
-            | Code::Fresh { avoid: a, n: b }
-            | Code::Let {
-                value: a,
-                body: b,
-                ..
-            } => a.size().saturating_add(b.size()).saturating_add(1),
-            Code::Slice {
-                set: a,
-                from: b,
-                n: c,
-            }
-            | Code::If {
-                test: a,
-                yes: b,
-                no: c,
-            } => a
+            code_leaf!() => 1,
+            code_over_list!(parts) => codes_size(parts).saturating_add(1),
+            code_over_one!(a) => a.size().saturating_add(1),
+            code_over_two!(a, b) => a.size().saturating_add(b.size()).saturating_add(1),
+            code_over_three!(a, b, c) => a
                 .size()
                 .saturating_add(b.size())
                 .saturating_add(c.size())
@@ -68,47 +33,11 @@ impl Code {
         ensures { result ≡ capped (code_depth (code_tree self.now)) }
     {
         match self {
-            Code::Lit(_) | Code::Truth(_) | Code::Var(_) => 1,
-            Code::SetOf(parts)
-            | Code::Tuple(parts)
-            | Code::Sum(parts)
-            | Code::Min(parts)
-            | Code::Max(parts)
-            | Code::Union(parts)
-            | Code::Inter(parts) => codes_depth(parts).saturating_add(1),
-            Code::Neg(a)
-            | Code::Not(a)
-            | Code::Card(a)
-            | Code::Div { of: a, .. }
-            | Code::Mod { of: a, .. }
-            | Code::Divides { of: a, .. } => a.depth().saturating_add(1),
-            Code::Sub(a, b)
-            | Code::Mul(a, b)
-            | Code::And(a, b)
-            | Code::Or(a, b)
-            | Code::Diff(a, b)
-            | Code::Subset(a, b)
-            | Code::Compare {
-                left: a,
-                right: b,
-                ..
-            }
-            | Code::Fresh { avoid: a, n: b }
-            | Code::Let {
-                value: a,
-                body: b,
-                ..
-            } => a.depth().max(b.depth()).saturating_add(1),
-            Code::Slice {
-                set: a,
-                from: b,
-                n: c,
-            }
-            | Code::If {
-                test: a,
-                yes: b,
-                no: c,
-            } => a.depth().max(b.depth()).max(c.depth()).saturating_add(1),
+            code_leaf!() => 1,
+            code_over_list!(parts) => codes_depth(parts).saturating_add(1),
+            code_over_one!(a) => a.depth().saturating_add(1),
+            code_over_two!(a, b) => a.depth().max(b.depth()).saturating_add(1),
+            code_over_three!(a, b, c) => a.depth().max(b.depth()).max(c.depth()).saturating_add(1),
             Code::Solve { arms, .. } => arms_depth(arms).saturating_add(1),
         }
     }

@@ -5,6 +5,7 @@ ghost use Rattle.cf_tree.specs.ExprTree.{expr_size, exprs_size, match_arm_size, 
 ghost use Rattle.cf_tree.specs.ExprView.{expr_tree, match_arm_tree, expr_trees, match_arm_trees};
 
 use crate::expr::{Expr, MatchArm};
+use crate::{expr_leaf, expr_over_list, expr_over_one, expr_over_two};
 
 impl Expr {
     /// How many nodes it has, but never more than the greatest number of 64 bits.
@@ -13,27 +14,10 @@ impl Expr {
         ensures { result ≡ capped (expr_size (expr_tree self.now)) }
     {
         match self {
-            Expr::Lit(_) | Expr::Truth(_) | Expr::Var(_) => 1,
-            Expr::SetOf(parts) | Expr::Tuple(parts) | Expr::Call { args: parts, .. } => {
-                exprs_size(parts).saturating_add(1)
-            }
-            Expr::Neg(a)
-            | Expr::Not(a)
-            | Expr::Abs(a)
-            | Expr::Card(a)
-            | Expr::Divides { of: a, .. }
-            | Expr::Div { of: a, .. }
-            | Expr::Mod { of: a, .. } => a.size().saturating_add(1),
-            Expr::Binary {
-                left: a,
-                right: b,
-                ..
-            }
-            | Expr::Let {
-                value: a,
-                body: b,
-                ..
-            } => a.size().saturating_add(b.size()).saturating_add(1),
+            expr_leaf!() => 1,
+            expr_over_list!(parts) => exprs_size(parts).saturating_add(1),
+            expr_over_one!(a) => a.size().saturating_add(1),
+            expr_over_two!(a, b) => a.size().saturating_add(b.size()).saturating_add(1),
             Expr::If { test, yes, no } => test
                 .size()
                 .saturating_add(yes.size())
@@ -53,27 +37,10 @@ impl Expr {
         ensures { result ≡ capped (expr_depth (expr_tree self.now)) }
     {
         match self {
-            Expr::Lit(_) | Expr::Truth(_) | Expr::Var(_) => 1,
-            Expr::SetOf(parts) | Expr::Tuple(parts) | Expr::Call { args: parts, .. } => {
-                exprs_depth(parts).saturating_add(1)
-            }
-            Expr::Neg(a)
-            | Expr::Not(a)
-            | Expr::Abs(a)
-            | Expr::Card(a)
-            | Expr::Divides { of: a, .. }
-            | Expr::Div { of: a, .. }
-            | Expr::Mod { of: a, .. } => a.depth().saturating_add(1),
-            Expr::Binary {
-                left: a,
-                right: b,
-                ..
-            }
-            | Expr::Let {
-                value: a,
-                body: b,
-                ..
-            } => a.depth().max(b.depth()).saturating_add(1),
+            expr_leaf!() => 1,
+            expr_over_list!(parts) => exprs_depth(parts).saturating_add(1),
+            expr_over_one!(a) => a.depth().saturating_add(1),
+            expr_over_two!(a, b) => a.depth().max(b.depth()).saturating_add(1),
             Expr::If { test, yes, no } => test
                 .depth()
                 .max(yes.depth())

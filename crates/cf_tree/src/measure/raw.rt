@@ -5,6 +5,7 @@ ghost use Rattle.cf_tree.specs.RawTree.{raw_size, raws_size, raw_arm_size, raw_a
 ghost use Rattle.cf_tree.specs.RawView.{raw_tree, raw_arm_tree, raw_trees, raw_arm_trees};
 
 use crate::raw::{Raw, RawArm, RawNode};
+use crate::{raw_leaf, raw_over_list, raw_over_one, raw_over_two};
 
 impl Raw {
     /// How many nodes it has, but never more than the greatest number of 64 bits.
@@ -13,29 +14,12 @@ impl Raw {
         ensures { result ≡ capped (raw_size (raw_tree self.now)) }
     {
         match &self.node {
-            RawNode::Lit(_) | RawNode::Truth(_) | RawNode::Name(_) => 1,
-            RawNode::SetOf(parts) | RawNode::Tuple(parts) | RawNode::Call { args: parts, .. } => {
-                raws_size(parts).saturating_add(1)
-            }
-            RawNode::Group(a)
-            | RawNode::Neg(a)
-            | RawNode::Not(a)
-            | RawNode::Abs(a)
-            | RawNode::Card(a)
-            | RawNode::Divides { of: a, .. }
-            | RawNode::Div { of: a, .. }
-            | RawNode::Mod { of: a, .. }
-            | RawNode::Choose { rel: a, .. } => a.size().saturating_add(1),
-            RawNode::Binary {
-                left: a,
-                right: b,
-                ..
-            }
-            | RawNode::Let {
-                value: a,
-                body: b,
-                ..
-            } => a.size().saturating_add(b.size()).saturating_add(1),
+            raw_leaf!() => 1,
+            raw_over_list!(parts) => raws_size(parts).saturating_add(1),
+            RawNode::Group(a) | raw_over_one!(a) | RawNode::Choose { rel: a, .. } => a
+                .size()
+                .saturating_add(1),
+            raw_over_two!(a, b) => a.size().saturating_add(b.size()).saturating_add(1),
             RawNode::If { test, yes, no } => test
                 .size()
                 .saturating_add(yes.size())
@@ -54,29 +38,12 @@ impl Raw {
         ensures { result ≡ capped (raw_depth (raw_tree self.now)) }
     {
         match &self.node {
-            RawNode::Lit(_) | RawNode::Truth(_) | RawNode::Name(_) => 1,
-            RawNode::SetOf(parts) | RawNode::Tuple(parts) | RawNode::Call { args: parts, .. } => {
-                raws_depth(parts).saturating_add(1)
-            }
-            RawNode::Group(a)
-            | RawNode::Neg(a)
-            | RawNode::Not(a)
-            | RawNode::Abs(a)
-            | RawNode::Card(a)
-            | RawNode::Divides { of: a, .. }
-            | RawNode::Div { of: a, .. }
-            | RawNode::Mod { of: a, .. }
-            | RawNode::Choose { rel: a, .. } => a.depth().saturating_add(1),
-            RawNode::Binary {
-                left: a,
-                right: b,
-                ..
-            }
-            | RawNode::Let {
-                value: a,
-                body: b,
-                ..
-            } => a.depth().max(b.depth()).saturating_add(1),
+            raw_leaf!() => 1,
+            raw_over_list!(parts) => raws_depth(parts).saturating_add(1),
+            RawNode::Group(a) | raw_over_one!(a) | RawNode::Choose { rel: a, .. } => a
+                .depth()
+                .saturating_add(1),
+            raw_over_two!(a, b) => a.depth().max(b.depth()).saturating_add(1),
             RawNode::If { test, yes, no } => test
                 .depth()
                 .max(yes.depth())

@@ -1,6 +1,6 @@
 use Rattle.std.proofs.Common.{◌≡◌, ◌∙◌, ap, get_or}
 use Rattle.std.proofs.lemmas.Result.{IfOk-weaker}
-use Rattle.cf_program.specs.Names.{bases_of}
+use Rattle.cf_tree.specs.Params.{bases_of}
 use Rattle.cf_program.specs.Typed.{typed_tree}
 use Rattle.cf_answer.specs.Picked.{main_bases}
 use Rattle.cf_answer.proofs.LateLemmas.{main_below, bases_at}

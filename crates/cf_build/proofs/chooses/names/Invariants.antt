@@ -1,5 +1,5 @@
 use Rattle.std.proofs.Common.{◌≡◌, take}
-use Rattle.cf_program.specs.Names.{names_of}
+use Rattle.cf_tree.specs.Params.{names_of}
 use Rattle.cf_build.proofs.chooses.names.Given as goal
 
 abbrev pub invariant-loop-param : goal.invariant-loop-param

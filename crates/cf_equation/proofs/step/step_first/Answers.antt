@@ -1,9 +1,9 @@
 use Rattle.std.proofs.Common.{◌≡◌, ◌∙◌, sym, false}
 use Rattle.cf_linear.specs.Steps.{last, last_passes, merge}
-use Rattle.cf_linear.specs.Keep.{Formed, Reaches}
+use Rattle.cf_linear.specs.Keep.{Formed, Reaches, Differ}
 use Rattle.cf_linear.specs.Solved.{Owes}
 use Rattle.cf_linear.specs.Views.{system_of}
-use Rattle.cf_equation.specs.Equations.{Differ, reduced, first_of, rest_of, first_present, equation_passes}
+use Rattle.cf_equation.specs.Equations.{reduced, first_of, rest_of, first_present, equation_passes}
 use Rattle.cf_equation.proofs.PresentLemmas.{one_from, several_from, first_entry, second_entry, one_owes, several_owes, if_ok}
 use Rattle.cf_equation.proofs.step.step_first.Goals as goal
 

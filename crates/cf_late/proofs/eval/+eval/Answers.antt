@@ -1,6 +1,6 @@
 use Rattle.std.proofs.Common.{◌≡◌, ◌<◌, ◌≤◌, ◌+◌, ◌∷◌, drop, length, slice_get, Some, arith, sym, ap, ◌∙◌, subst}
 use Rattle.std.proofs.lemmas.List.{drop_more}
-use Rattle.cf_known.specs.ChooseRun.{gives}
+use Rattle.cf_late.specs.ChooseRun.{gives}
 use Rattle.cf_late.specs.Answers.{LateAnswer, calls_in}
 use Rattle.cf_late.proofs.Calls.{call_is, call_missing, call_falls, stands_at}
 use Rattle.cf_late.proofs.Loops.{part_gives, part_stops, parts_end}

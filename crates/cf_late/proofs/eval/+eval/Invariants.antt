@@ -1,5 +1,5 @@
 use Rattle.std.proofs.Common.{◌≡◌, ◌+◌, ◌*◌, take, drop}
-use Rattle.cf_tree.specs.Allowed.{scope_of}
+use Rattle.cf_tree.specs.Params.{bases_of}
 use Rattle.cf_tree.specs.ExprView.{match_arm_trees}
 use Rattle.cf_late.specs.Answers.{calls_in}
 use Rattle.cf_late.specs.LateRun.{late_arms}
@@ -38,6 +38,6 @@ invariant-all-loop-i l = PartsAhead (calls_in l.caller.number l.caller.late.now.
 abbrev pub invariant-first_arm-loop-i : goal.invariant-first_arm-loop-i
 invariant-first_arm-loop-i l =
     (l.env ≡ l.fn.env)
-    × AreRunnableArms (scope_of l.scope) (match_arm_trees (drop l.i l.arms))
-    × (late_arms (calls_in l.caller.number l.caller.late.now.defs.items) l.number (scope_of l.scope) (match_arm_trees (drop l.i l.arms)) l.z l.env
-    ≡ late_arms (calls_in l.caller.number l.caller.late.now.defs.items) l.number (scope_of l.scope) (match_arm_trees l.arms) l.z l.fn.env)
+    × AreRunnableArms (bases_of l.scope) (match_arm_trees (drop l.i l.arms))
+    × (late_arms (calls_in l.caller.number l.caller.late.now.defs.items) l.number (bases_of l.scope) (match_arm_trees (drop l.i l.arms)) l.z l.env
+    ≡ late_arms (calls_in l.caller.number l.caller.late.now.defs.items) l.number (bases_of l.scope) (match_arm_trees l.arms) l.z l.fn.env)

@@ -1,5 +1,5 @@
 use Rattle.std.proofs.Common.{◌≡◌, map, length}
-use Rattle.cf_program.specs.Names.{bases_of}
+use Rattle.cf_tree.specs.Params.{bases_of}
 use Rattle.cf_program.specs.Walk.{are_asked}
 use Rattle.cf_type.proofs.bases.are_asked.Given as goal
 

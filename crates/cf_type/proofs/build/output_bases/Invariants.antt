@@ -1,5 +1,5 @@
 use Rattle.std.proofs.Common.{◌≡◌, take}
-use Rattle.cf_program.specs.Names.{bases_of}
+use Rattle.cf_tree.specs.Params.{bases_of}
 use Rattle.cf_type.proofs.build.output_bases.Given as goal
 
 abbrev pub invariant-loop-output : goal.invariant-loop-output

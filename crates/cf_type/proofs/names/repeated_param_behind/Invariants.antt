@@ -1,5 +1,6 @@
 use Rattle.std.proofs.Common.{◌≡◌, map, drop}
-use Rattle.cf_program.specs.Names.{repeated, names_of}
+use Rattle.cf_program.specs.Names.{repeated}
+use Rattle.cf_tree.specs.Params.{names_of}
 use Rattle.cf_type.proofs.names.repeated_param_behind.Given as goal
 
 abbrev pub invariant-loop-param : goal.invariant-loop-param

@@ -1,0 +1,18 @@
+use Rattle.std.proofs.Common.{◌∙◌, refl, sym, append-nil}
+use Rattle.cf_program.specs.Typed.{typed_tree}
+use Rattle.cf_answer.proofs.AnswerLemmas.{stopped_answers, written_answers}
+use Rattle.cf_answer.proofs.TextLemmas.{broken_refused}
+use Rattle.cf_answer.proofs.pre.write_preconditions.Goals as goal
+
+pub returns-in-Err-clause-answers : goal.returns-in-Err-clause-answers
+returns-in-Err-clause-answers g c = λ file given input. stopped_answers _ given given _ _ _ refl (broken_refused _ _ c.in-Err.ensures)
+
+pub returns-in-Ok-preconditions-clause-answers : goal.returns-in-Ok-preconditions-clause-answers
+returns-in-Ok-preconditions-clause-answers g c =
+    λ file given input. written_answers _ given given _ _ _ input _ _ _ refl refl
+    (typed_tree c.in-Ok.typed, c.in-Ok.ensures, c.in-Ok-preconditions.ensures c.args.text.now c.in-Ok.ensures)
+    (c.deref.ensures.value ∙ sym (append-nil _)) c.write_text.ensures.all c.write_text.ensures.prefix c.write_text.ensures.fault c.write_text.ensures.count
+
+pub returns-clause-answers : goal.returns-clause-answers
+returns-clause-answers g c =
+    λ file given input. stopped_answers _ given given _ _ _ refl (c.in-Err-preconditions.ensures c.args.text.now c.in-Ok.ensures)

@@ -1,0 +1,93 @@
+//! `compile`: the printed target of a source.
+ghost use Rattle.std.specs.Prelude.{◌≡◌, ◌≤◌, ◌<◌, ◌-◌, ◌^◌, ◌++◌, ◌∷◌, [], List, ℕ, not, length, map, IfOk, IfErr};
+ghost use Rattle.cf_io.specs.Seen.{SourceSeen};
+ghost use Rattle.cf_tree.specs.Spelled.{HasSpelling};
+ghost use Rattle.cf_target.specs.Spelling.{target_tree};
+ghost use Rattle.cf_emit.specs.Printed.{target_text};
+ghost use Rattle.cf_emit.specs.ReadsBack.{ReadsBack};
+ghost use Rattle.cf_words.specs.Commands.{compile as the_compile};
+ghost use Rattle.cf_answer.specs.Ends.{AnswersOn};
+ghost use Rattle.cf_answer.specs.Limits.{text_limit};
+ghost use Rattle.cf_answer.specs.Outside.{streams};
+ghost use Rattle.cf_answer.specs.Owed.{IsCompiledBy};
+ghost use Rattle.cf_answer.specs.Passes.{ArePassed, closing_lines};
+ghost use Rattle.cf_answer.specs.Refusals.{IsRefusedSource};
+ghost use Rattle.cf_answer.specs.Statuses.{status_of as the_status_of, IsEarly};
+ghost use Rattle.cf_answer.specs.Steps.{IsVerdict};
+
+use crate::fault::Fault;
+use crate::source::compile;
+use crate::tallies::put_closing;
+use crate::write::write_text;
+use cf_emit::print;
+use cf_io::Sink;
+use cf_pass::Pass;
+use cf_tree::{NoMemory, Target};
+use cf_words::Flags;
+use std::alloc::Global;
+
+// The target that a source text is compiled to by the passes, or by none if it is to be plain.
+fn compiled(
+    alloc: Global,
+    plain: bool,
+    text: &[u8],
+    passes: &mut Vec<Box<dyn Pass>>,
+) -> Result<Target, Fault>
+    requires short { length text.now ≤ text_limit }
+    requires place { length text.now < 2 ^ 32 - 1 }
+    ensures verdict { IsVerdict (IsCompiledBy (not plain) text.now (map (λ p. told p) passes.old.items) (map (λ p. told p) passes.new.items))
+        (IsRefusedSource text.now) result }
+    ensures passed { ArePassed (not plain) (map (λ p. told p) passes.old.items) (map (λ p. told p) passes.new.items) }
+{
+    if plain {
+        return compile(alloc, text, &mut Vec::new(alloc));
+    }
+    compile(alloc, text, passes)
+}
+
+// The printed target, and what is written behind all else.
+fn printed(
+    alloc: Global,
+    target: &Target,
+    stats: bool,
+    passes: &[Box<dyn Pass>],
+) -> Result<Vec<u8>, Fault>
+    ensures text { IfOk result (λ text. text.items ≡ target_text target.now ++ closing_lines stats (map (λ p. told p) passes.now)) }
+    ensures reads_back { IfOk result (λ text. HasSpelling target.now → ReadsBack (target_tree target.now) (target_text target.now)) }
+    ensures fault { IfErr result (λ f. f ≡ Fault.NoMemory) }
+{
+    let Ok(mut text) = print(alloc, target) else {
+        return Err(Fault::NoMemory);
+    };
+    match put_closing(stats, passes, &mut text) {
+        Ok(()) => Ok(text),
+        Err(NoMemory) => Err(Fault::NoMemory),
+    }
+}
+
+/// Writes the target that a source text is compiled to.
+pub fn write_target<O: Sink>(
+    alloc: Global,
+    flags: Flags,
+    text: &[u8],
+    out: &mut O,
+    passes: &mut Vec<Box<dyn Pass>>,
+) -> Result<(), Fault>
+    requires short { length text.now ≤ text_limit }
+    requires place { length text.now < 2 ^ 32 - 1 }
+    ensures answers { (file : List ℕ) (input : SourceSeen) →
+        AnswersOn (the_compile flags file) (map (λ p. told p) passes.old.items) (map (λ p. told p) passes.new.items) (text.now ∷ [])
+        (streams input (O.seen out.old)) (streams input (O.seen out.new)) result }
+    ensures unwritten { IsEarly (the_status_of result) → out.new ≡ out.old }
+{
+    let target = match compiled(alloc, flags.plain, text, passes) {
+        Ok(target) => target,
+        Err(fault) => return Err(fault),
+    };
+    let text = printed(alloc, &target, flags.stats, passes);
+    drop(target);
+    match text {
+        Ok(text) => write_text(out, &text),
+        Err(fault) => Err(fault),
+    }
+}

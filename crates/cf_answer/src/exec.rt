@@ -1,0 +1,75 @@
+//! `exec`: the replies of a target to the lines of the input.
+ghost use Rattle.std.specs.Prelude.{◌≡◌, ◌≤◌, ◌<◌, ◌-◌, ◌^◌, ◌∷◌, [], List, ℕ, length};
+ghost use Rattle.cf_pass.specs.Passes.{Told};
+ghost use Rattle.cf_words.specs.Commands.{exec as the_exec};
+ghost use Rattle.cf_answer.specs.Ends.{AnswersOn};
+ghost use Rattle.cf_answer.specs.Outside.{streams};
+ghost use Rattle.cf_answer.specs.Statuses.{status_of as the_status_of, IsEarly};
+ghost use Rattle.cf_lex.specs.Tokens.{at_end};
+ghost use Rattle.cf_target.specs.Spelling.{target_tree, IsTarget};
+ghost use Rattle.cf_answer.specs.Limits.{text_limit};
+ghost use Rattle.cf_answer.specs.Refusals.{IsRefusedTarget};
+ghost use Rattle.cf_answer.specs.Sources.{HasTokens, Spelled, IsTypedTarget};
+ghost use Rattle.cf_answer.specs.Steps.{IsVerdict};
+
+use crate::answerer::Answerer;
+use crate::fault::Fault;
+use crate::input::answer_by;
+use crate::text::lexed;
+use cf_io::{Sink, Source};
+use cf_lex::TokenList;
+use cf_parse::{ParseFault, target};
+use cf_tree::{RawTarget, Target};
+use cf_type::{TargetFault, check_target};
+use std::alloc::Global;
+
+// The well-typed target that a text spells, or why the text is refused.
+fn read_target(alloc: Global, text: &[u8]) -> Result<Target, Fault>
+    requires short { length text.now ≤ text_limit }
+    requires place { length text.now < 2 ^ 32 - 1 }
+    ensures { IsVerdict (λ t. IsTypedTarget text.now (target_tree t)) (IsRefusedTarget text.now) result }
+{
+    let list = lexed(alloc, text)?;
+    read_tokens(alloc, &list)
+}
+
+fn read_tokens(alloc: Global, list: &TokenList) -> Result<Target, Fault>
+    ensures { (text : List ℕ) → HasTokens text list.now.list.items list.now.end at_end →
+        IsVerdict (λ t. IsTypedTarget text (target_tree t)) (IsRefusedTarget text) result }
+{
+    match target(alloc, list) {
+        Ok(raw) => check_read(alloc, raw),
+        Err(ParseFault::Syntax(place)) => Err(Fault::Syntax(place)),
+        Err(ParseFault::NoMemory) => Err(Fault::NoMemory),
+    }
+}
+
+fn check_read(alloc: Global, raw: RawTarget) -> Result<Target, Fault>
+    ensures { (text : List ℕ) → Spelled IsTarget text (target_tree raw) → IsVerdict (λ t. IsTypedTarget text (target_tree t)) (IsRefusedTarget text) result }
+{
+    match check_target(alloc, raw) {
+        Ok(target) => Ok(target),
+        Err(TargetFault::BadTarget) => Err(Fault::BadTarget),
+        Err(TargetFault::NoMemory) => Err(Fault::NoMemory),
+    }
+}
+
+/// Answers the input by the target that a text spells.
+pub fn run_target<I: Source, O: Sink>(
+    alloc: Global,
+    text: &[u8],
+    input: &mut I,
+    out: &mut O,
+) -> Result<(), Fault>
+    requires short { length text.now ≤ text_limit }
+    requires place { length text.now < 2 ^ 32 - 1 }
+    ensures answers { (file : List ℕ) (given : List Told) → AnswersOn (the_exec file) given given (text.now ∷ [])
+        (streams (I.seen input.old) (O.seen out.old)) (streams (I.seen input.new) (O.seen out.new)) result }
+    ensures unread { IsEarly (the_status_of result) → input.new ≡ input.old }
+    ensures unwritten { IsEarly (the_status_of result) → out.new ≡ out.old }
+{
+    match read_target(alloc, text) {
+        Ok(target) => answer_by(alloc, &Answerer::Target(target), &[], input, out),
+        Err(fault) => Err(fault),
+    }
+}

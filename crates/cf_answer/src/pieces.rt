@@ -1,0 +1,87 @@
+//! Answering the lines that a piece of the input ends.
+ghost use Rattle.std.specs.Prelude.{◌≡◌, ◌≤◌, ◌<◌, ◌+◌, ◌^◌, ◌++◌, List, ℕ, Option, length, map, IfErr, OnOk, OnErr, IsErrOf};
+ghost use Rattle.cf_io.specs.Cut.{told, line_of};
+ghost use Rattle.cf_io.specs.Lines.{ended, lines as lines_of};
+ghost use Rattle.cf_io.specs.Limits.{line_limit, input_limit};
+ghost use Rattle.cf_answer.specs.Outside.{Counts};
+ghost use Rattle.cf_answer.specs.Steps.{answerer_of, TookLines, TookSomeLines, IsAnswered, IsOutFault};
+
+use crate::answerer::Answerer;
+use crate::fault::Fault;
+use crate::reply::replies;
+use crate::write::write_text;
+use cf_io::{Cutter, Line, Sink};
+use cf_tree::NoMemory;
+use std::alloc::Global;
+
+// Writes the replies to lines, and to those that end in the bytes behind them.
+#[tactic(auto, using(crate::proofs::ReplyLemmas::took_some, crate::proofs::ReplyLemmas::took_none, crate::proofs::OutsideLemmas::no_fault))]
+fn answer_lines<O: Sink>(
+    alloc: Global,
+    answerer: &Answerer,
+    lines: &[Line],
+    behind: &[u8],
+    out: &mut O,
+) -> Result<(), Fault>
+    ensures all { OnOk result (TookLines (answerer_of answerer.now) (lines.now ++ map (line_of line_limit) (ended behind.now)) (O.seen out.old).held
+        (O.seen out.new).held) }
+    ensures some { TookSomeLines (answerer_of answerer.now) (lines.now ++ map (line_of line_limit) (ended behind.now)) (O.seen out.old).held
+        (O.seen out.new).held }
+    ensures fault { IfErr result IsOutFault }
+    ensures count { Counts (IsErrOf result Fault.Output) (O.seen out.old).faults (O.seen out.new).faults }
+{
+    match replies(alloc, answerer, lines, behind) {
+        Ok(text) => write_text(out, &text),
+        Err(NoMemory) => Err(Fault::NoMemory),
+    }
+}
+
+/// Takes the next piece of the input, and answers the lines that it ends within the limit.
+#[tactic(auto, using(crate::proofs::OutsideLemmas::no_fault))]
+pub fn answer_piece<O: Sink>(
+    alloc: Global,
+    answerer: &Answerer,
+    cutter: &mut Cutter,
+    piece: &[u8],
+    out: &mut O,
+) -> Result<(), Fault>
+    requires { cutter.old.total + length piece.now < 2 ^ 64 }
+    ensures all { OnOk result ((bytes : List ℕ) (first : Option (List ℕ)) → IsAnswered (answerer_of answerer.now) cutter.old bytes first (O.seen out.old).held →
+        IsAnswered (answerer_of answerer.now) cutter.new (bytes ++ piece.now) first (O.seen out.new).held) }
+    ensures total { OnOk result (cutter.new.total ≡ cutter.old.total + length piece.now) }
+    ensures some { OnErr result ((bytes : List ℕ) (first : Option (List ℕ)) →
+        IsAnswered (answerer_of answerer.now) cutter.old bytes first (O.seen out.old).held →
+        TookSomeLines (answerer_of answerer.now) (told line_limit input_limit (bytes ++ piece.now)) first (O.seen out.new).held) }
+    ensures fault { IfErr result IsOutFault }
+    ensures count { Counts (IsErrOf result Fault.Output) (O.seen out.old).faults (O.seen out.new).faults }
+{
+    let mut lines = Vec::new(alloc);
+    match cutter.feed_first(piece, &mut lines) {
+        Ok(behind) => answer_lines(alloc, answerer, &lines, behind, out),
+        Err(NoMemory) => Err(Fault::NoMemory),
+    }
+}
+
+/// Answers the last line, where bytes stand after the last line feed.
+#[tactic(auto, using(crate::proofs::OutsideLemmas::no_fault))]
+pub fn answer_rest<O: Sink>(
+    alloc: Global,
+    answerer: &Answerer,
+    cutter: Cutter,
+    out: &mut O,
+) -> Result<(), Fault>
+    ensures all { OnOk result ((bytes : List ℕ) (first : Option (List ℕ)) → IsAnswered (answerer_of answerer.now) cutter bytes first (O.seen out.old).held →
+        length bytes ≤ input_limit →
+        TookLines (answerer_of answerer.now) (map (line_of line_limit) (lines_of bytes)) first (O.seen out.new).held) }
+    ensures some { (bytes : List ℕ) (first : Option (List ℕ)) → IsAnswered (answerer_of answerer.now) cutter bytes first (O.seen out.old).held →
+        length bytes ≤ input_limit →
+        TookSomeLines (answerer_of answerer.now) (map (line_of line_limit) (lines_of bytes)) first (O.seen out.new).held }
+    ensures fault { IfErr result IsOutFault }
+    ensures count { Counts (IsErrOf result Fault.Output) (O.seen out.old).faults (O.seen out.new).faults }
+{
+    let mut lines = Vec::new(alloc);
+    match cutter.finish(&mut lines) {
+        Ok(()) => answer_lines(alloc, answerer, &lines, &[], out),
+        Err(NoMemory) => Err(Fault::NoMemory),
+    }
+}

@@ -1,0 +1,67 @@
+//! `run`: the replies of a source to the lines of the input.
+ghost use Rattle.std.specs.Prelude.{◌≡◌, ◌≤◌, ◌<◌, ◌-◌, ◌^◌, ◌∷◌, [], List, ℕ, not, length, map};
+ghost use Rattle.cf_words.specs.Commands.{run as the_run};
+ghost use Rattle.cf_answer.specs.Ends.{AnswersOn};
+ghost use Rattle.cf_answer.specs.Limits.{text_limit};
+ghost use Rattle.cf_answer.specs.Outside.{streams};
+ghost use Rattle.cf_answer.specs.Passes.{ArePassed};
+ghost use Rattle.cf_answer.specs.Refusals.{IsRefusedRun};
+ghost use Rattle.cf_answer.specs.Statuses.{status_of as the_status_of, IsEarly};
+ghost use Rattle.cf_answer.specs.Steps.{IsVerdict, IsRunner, answerer_of};
+
+use crate::answerer::Answerer;
+use crate::fault::Fault;
+use crate::input::answer_by;
+use crate::source::runner;
+use crate::tallies::closing;
+use cf_io::{Sink, Source};
+use cf_pass::Pass;
+use cf_words::Flags;
+use std::alloc::Global;
+
+// What answers the lines for `run` of a source text, where a target is rewritten by the passes, or by
+// none if it is to be plain.
+fn answerer(
+    alloc: Global,
+    plain: bool,
+    text: &[u8],
+    passes: &mut Vec<Box<dyn Pass>>,
+) -> Result<Answerer, Fault>
+    requires short { length text.now ≤ text_limit }
+    requires place { length text.now < 2 ^ 32 - 1 }
+    ensures verdict { IsVerdict (λ a. IsRunner (not plain) text.now (map (λ p. told p) passes.old.items) (map (λ p. told p) passes.new.items) (answerer_of a))
+        (IsRefusedRun text.now) result }
+    ensures passed { ArePassed (not plain) (map (λ p. told p) passes.old.items) (map (λ p. told p) passes.new.items) }
+{
+    if plain {
+        return runner(alloc, text, &mut Vec::new(alloc));
+    }
+    runner(alloc, text, passes)
+}
+
+/// Answers the input by the target that a source text is compiled to, or by its late program.
+pub fn run_source<I: Source, O: Sink>(
+    alloc: Global,
+    flags: Flags,
+    text: &[u8],
+    input: &mut I,
+    out: &mut O,
+    passes: &mut Vec<Box<dyn Pass>>,
+) -> Result<(), Fault>
+    requires short { length text.now ≤ text_limit }
+    requires place { length text.now < 2 ^ 32 - 1 }
+    ensures answers { (file : List ℕ) →
+        AnswersOn (the_run flags file) (map (λ p. told p) passes.old.items) (map (λ p. told p) passes.new.items) (text.now ∷ [])
+        (streams (I.seen input.old) (O.seen out.old)) (streams (I.seen input.new) (O.seen out.new)) result }
+    ensures unread { IsEarly (the_status_of result) → input.new ≡ input.old }
+    ensures unwritten { IsEarly (the_status_of result) → out.new ≡ out.old }
+{
+    let answerer = match answerer(alloc, flags.plain, text, passes) {
+        Ok(answerer) => answerer,
+        Err(fault) => return Err(fault),
+    };
+    match closing(alloc, flags.stats, passes) {
+        Ok(end) => answer_by(alloc, &answerer, &end, input, out),
+        Err(fault) => Err(fault),
+    }
+}

@@ -1,4 +1,0 @@
-pub mod ChooseLaws
-pub mod KnownLaws
-mod ChooseExamples
-mod KnownExamples

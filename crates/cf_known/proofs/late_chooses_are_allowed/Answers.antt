@@ -1,5 +1,0 @@
-use Rattle.cf_known.proofs.ChooseLaws.{late_chooses_are_allowed}
-use Rattle.cf_known.proofs.late_chooses_are_allowed.Goals as goal
-
-pub returns : goal.returns
-returns c = late_chooses_are_allowed

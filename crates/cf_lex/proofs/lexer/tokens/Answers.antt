@@ -1,0 +1,12 @@
+use Rattle.std.proofs.Common.{◌^◌, ◌-◌}
+use Rattle.cf_lex.proofs.LexesLemmas.{answer-count, answer-within}
+use Rattle.cf_lex.proofs.StepLemmas.{answer_from, only_from}
+use Rattle.cf_lex.proofs.lexer.tokens.Goals as goal
+
+pub returns : goal.returns
+returns c = record {
+  answer = answer_from (2 ^ 127 - 1) c.args.text.now _ c.scan.ensures;
+  only = only_from (2 ^ 127 - 1) c.args.text.now _ c.scan.ensures;
+  literals = answer-within (2 ^ 127 - 1) c.args.text.now _ (answer_from (2 ^ 127 - 1) c.args.text.now _ c.scan.ensures);
+  count = answer-count (2 ^ 127 - 1) c.args.text.now _ (answer_from (2 ^ 127 - 1) c.args.text.now _ c.scan.ensures);
+}

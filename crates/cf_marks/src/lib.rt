@@ -1,6 +1,0 @@
-//! Codes compared.
-#![tactic(auto)]
-
-mod marks;
-
-pub use marks::is_solve;

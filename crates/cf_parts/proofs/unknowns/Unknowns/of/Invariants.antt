@@ -1,6 +1,0 @@
-use Rattle.std.proofs.Common.{◌++◌, drop}
-use Rattle.cf_parts.specs.Unknowns.{HaveSame}
-use Rattle.cf_parts.proofs.unknowns.Unknowns.of.Given as goal
-
-abbrev pub invariant-loop-column : goal.invariant-loop-column
-invariant-loop-column l = HaveSame (l.unknowns ++ drop l.column-index l.columns) l.columns

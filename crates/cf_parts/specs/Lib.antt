@@ -1,4 +1,0 @@
-pub mod Merging
-pub mod Parts
-pub mod Searching
-pub mod Unknowns

@@ -1,6 +1,0 @@
-use Rattle.std.proofs.Common.{◌≡◌, map, take}
-use Rattle.cf_question.specs.Questions.{base_at}
-use Rattle.cf_question.proofs.parameters.bases_at.Given as goal
-
-abbrev pub invariant-loop-x : goal.invariant-loop-x
-invariant-loop-x l = l.bases.items ≡ map (base_at l.scope) (take l.x-index l.levels)

@@ -1,5 +1,0 @@
-pub mod Questions
-pub mod Missing
-pub mod Classes
-pub mod Solutions
-pub mod Writing

@@ -1,7 +1,0 @@
-use Rattle.cf_tree.specs.RelView.{rel_tree}
-use Rattle.cf_linear.specs.Views.{plain_layout}
-use Rattle.cf_systems.proofs.SystemLaws.{IsTaken}
-use Rattle.cf_systems.proofs.systems.each_system.Given as goal
-
-abbrev pub invariant-loop-index : goal.invariant-loop-index
-invariant-loop-index l = IsTaken (plain_layout l.layout) (rel_tree l.counted) l.index l.all.items

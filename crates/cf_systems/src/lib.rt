@@ -1,4 +1,0 @@
-//! The first systems of the cases of a relation.
-#![tactic(auto)]
-
-pub mod systems;

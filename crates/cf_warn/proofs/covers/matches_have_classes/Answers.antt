@@ -1,5 +1,0 @@
-use Rattle.cf_question.proofs.MatchClasses.{matches_have_classes}
-use Rattle.cf_warn.proofs.covers.matches_have_classes.Goals as goal
-
-pub returns : goal.returns
-returns c = matches_have_classes
