@@ -1,0 +1,1 @@
+"""What the tests, the trials and the benchmarks share."""

@@ -1,0 +1,87 @@
+"""The pages: what they quote is what the program writes, and each example is named.
+
+A page quotes a command behind `$ ` in a block, and below it what the command writes. `cat` on a file of an example, `./comfusy` on such a file, and the
+`echo $?` behind one are done as they stand there, and what they write is compared. A command that reads lines reads those of its example.
+"""
+
+from __future__ import annotations
+
+import re
+from collections.abc import Iterator
+from dataclasses import dataclass
+from functools import partial
+
+from harness import examples
+from harness.checks import Check, equal
+from harness.jobs import Job
+from harness.program import ROOT, Ended, Room
+
+PAGES = ("README.md", *sorted(str(path.relative_to(ROOT)) for path in ROOT.glob("docs/*.md")))
+NAMING = ("docs/GUIDE.md", "docs/LANGUAGE.md")
+READING = re.compile(r"(?:run|exec) (examples/[a-z-]+)\.[a-z]+ < (examples/[a-z-]+)\.in")
+
+
+@dataclass(frozen=True)
+class Quote:
+    """A command that a page quotes, what stands below it, and the line behind that."""
+
+    command: str
+    text: str
+    behind: int
+
+
+def quotes(page: str) -> Iterator[Quote]:
+    command, lines = "", []
+    for number, line in enumerate((ROOT / page).read_text(encoding="utf-8").splitlines(), 1):
+        if line.startswith(("```", "$ ")):
+            if command:
+                yield Quote(command, "".join(lines), number)
+            command, lines = line.removeprefix("$ ") if line.startswith("$ ") else "", []
+        else:
+            lines.append(f"{line}\n")
+
+
+def reads_its_lines(words: str) -> bool:
+    """Whether a quoted command that reads lines reads those of its example."""
+    if not re.match("(run|exec) examples/(?!refused/)", words):
+        return True
+    reading = READING.fullmatch(words)
+    return bool(reading and reading[1] == reading[2])
+
+
+def done(words: str, room: Room) -> Ended:
+    """Runs the program as a page quotes it."""
+    front, _, lines = words.partition(" < ")
+    room.put("input", examples.text_of(ROOT / lines) if lines else b"")
+    return room.run([ROOT / word if word.startswith("examples/") else word for word in front.split()])
+
+
+def try_page(page: str, room: Room) -> Iterator[Check]:
+    status = 0
+    for quote in quotes(page):
+        place = f"{page}, before line {quote.behind}"
+        start, _, words = quote.command.partition(" ")
+        if quote.command == "echo $?":
+            yield equal(place, (quote.text, f"{status}\n"))
+        elif start == "cat" and words.startswith("examples/"):
+            yield equal(f"{place}: {quote.command}", (quote.text, examples.text_of(ROOT / words).decode()))
+        elif start == "./comfusy" and " examples/" in words:
+            seen = done(words, room)
+            status = seen.status
+            wrote = (seen.out + seen.err).decode()
+            yield equal(f"{place}: {quote.command}", (quote.text, wrote), (reads_its_lines(words) or "other lines", True))
+
+
+def try_names(_: Room) -> Iterator[Check]:
+    """The guide or the language's page names each example."""
+    text = "".join((ROOT / page).read_text(encoding="utf-8") for page in NAMING)
+    for folder in "", "refused", "steps":
+        for name in examples.names(folder):
+            path = f"examples/{name}.cf"
+            yield equal(f"pages, {path}", (path in text or "not named", True))
+
+
+def jobs() -> Iterator[Job]:
+    for page in PAGES:
+        yield Job(page, partial(try_page, page))
+    yield Job("pages", try_names)
