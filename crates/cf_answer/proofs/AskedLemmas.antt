@@ -7,9 +7,9 @@ use Rattle.cf_tree.specs.declared.memory.NoMemory.{NoMemory}
 use Rattle.cf_cases.specs.Holding.{EachOf}
 use Rattle.cf_io.specs.Seen.{ShelfSeen}
 use Rattle.cf_program.specs.Checked.{TypedTree}
-use Rattle.cf_build.specs.Solves.{IsAsked}
-use Rattle.cf_build.specs.Solves.{question_of}
-use Rattle.cf_build.specs.declared.chooses.Choose.{Choose}
+use Rattle.cf_build.specs.Solves.{IsTypedChoose}
+use Rattle.cf_tree.specs.ChooseView.{choose_tree}
+use Rattle.cf_tree.specs.declared.choose.Choose.{Choose}
 use Rattle.cf_cert.specs.Laws.{IsQuestion}
 use Rattle.cf_cert.specs.Verifying.{question_tree}
 use Rattle.cf_cert.specs.declared.question.Question.{Question}
@@ -21,17 +21,17 @@ use Rattle.cf_answer.specs.Verifying.{AreAskedBy, AreAskedIn, NoneFailed, IsSour
 use Rattle.cf_answer.specs.declared.fault.Fault.{Fault}
 
 abbrev IsAskedChoose : Choose → Type 0
-IsAskedChoose c = IsAsked (question_of c)
+IsAskedChoose c = IsTypedChoose (choose_tree c)
 
-are_questions : (cs : List Choose) → All IsAskedChoose cs → EachOf IsQuestion (map asked (map question_of cs))
+are_questions : (cs : List Choose) → All IsAskedChoose cs → EachOf IsQuestion (map asked (map choose_tree cs))
 are_questions [] h = tt
 are_questions (c ∷ cs) h =
-    let first : IsAsked (question_of c) = All-head IsAskedChoose c cs h in
+    let first : IsTypedChoose (choose_tree c) = All-head IsAskedChoose c cs h in
     (record { typed = first.typed; linear = first.linear; are_outputs = first.outputs }, are_questions cs (All-tail IsAskedChoose c cs h))
 
-pub asked_all : (typed : TypedTree) (cs : List Choose) (r : Result (Vec Question Global) NoMemory) → map question_of cs ≡ asked_in typed →
+pub asked_all : (typed : TypedTree) (cs : List Choose) (r : Result (Vec Question Global) NoMemory) → map choose_tree cs ≡ asked_in typed →
     All IsAskedChoose cs →
-    IfOk r (λ qs. map question_tree qs.items ≡ map asked (map question_of cs)) → IfOk r (λ qs. AreAskedBy typed (map question_tree qs.items))
+    IfOk r (λ qs. map question_tree qs.items ≡ map asked (map choose_tree cs)) → IfOk r (λ qs. AreAskedBy typed (map question_tree qs.items))
 asked_all typed cs (Ok qs) are all same = record {
   are = same ∙ ap (map asked) are;
   questions = subst (EachOf IsQuestion) (sym same) (are_questions cs all);

@@ -9,7 +9,7 @@ use Rattle.cf_linear.specs.declared.refusal.Refusal.TheVariants as refusal
 use Rattle.cf_linear.specs.Cases.{disjuncts, system_of_case, first_systems, write_atom}
 use Rattle.cf_linear.specs.Stages.{run, run_for, clean_stage, equation_stage, bound_stage, unknown_stage, row_stage, stage}
 use Rattle.cf_linear.specs.Steps.{clean, pick, searched, dropped, searched_by, bound, bound_passes}
-use Rattle.cf_build.specs.Questions.{solve_of}
+use Rattle.cf_build.specs.Chooses.{solve_of}
 use Rattle.cf_emit.specs.Printed.{code_text}
 use Rattle.cf_steps.specs.Printed.{cases_text}
 use Rattle.cf_cert.specs.declared.verdict.Why.TheVariants as why

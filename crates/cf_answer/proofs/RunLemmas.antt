@@ -17,7 +17,7 @@ use Rattle.cf_tree.specs.DefView.{RawDefTree}
 use Rattle.cf_tree.specs.declared.base.Place.{Place}
 use Rattle.cf_tree.specs.declared.target.RawTarget.{RawTarget}
 use Rattle.cf_build.specs.Built.{IsBuilt}
-use Rattle.cf_build.specs.Questions.{all_questions, IsFirstRefused}
+use Rattle.cf_build.specs.Chooses.{all_chooses, IsFirstRefused}
 use Rattle.cf_eval.specs.Spelling.{without_return}
 use Rattle.cf_pass.specs.Passes.{Told, HaveTurned}
 use Rattle.cf_late.proofs.AllowedLaws.{late_runs_are_allowed}
@@ -134,6 +134,6 @@ pub late_broken : (text : List ℕ) (program : List RawDefTree) (p : Place) (e :
 late_broken text program p e n plain h s =
     bad_tree program (fault.Rule e) s (broken_late p e plain (fails_so e (checked_by Late program) n h))
 
-pub run_choose_refused : (text : List ℕ) (typed : TypedTree) (n : ℕ) (r : Refusal) → IsTypedSource text typed → IsFirstRefused (all_questions typed.defs) n r →
+pub run_choose_refused : (text : List ℕ) (typed : TypedTree) (n : ℕ) (r : Refusal) → IsTypedSource text typed → IsFirstRefused (all_chooses typed.defs) n r →
     IsRefusedRun text (fault.Choose n r)
 run_choose_refused text typed n r s h = bad_tree s.0 (fault.Choose n r) s.1 (bad (fault.Choose n r) (refused typed n r s.2 h) (λ p e. cc))

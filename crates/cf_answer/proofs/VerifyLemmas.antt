@@ -22,7 +22,7 @@ use Rattle.cf_answer.specs.declared.fault.Fault.TheVariants as fault
 use Rattle.cf_answer.specs.declared.fault.StepsFault.TheVariants as steps_fault
 use Rattle.cf_answer.specs.declared.status.Status.TheVariants.{File}
 use Rattle.cf_program.specs.Checked.{TypedTree}
-use Rattle.cf_build.specs.Questions.{Question}
+use Rattle.cf_tree.specs.ChooseTree.{ChooseTree}
 use Rattle.cf_cases.specs.Holding.{EachOf}
 use Rattle.cf_steps.specs.Blocks.{BlockTree}
 use Rattle.cf_cert.specs.Certifying.{QuestionTree}
@@ -229,7 +229,7 @@ blocks_refused source steps qs bs n i j w a r v =
 abbrev pub line_of_question : QuestionTree → List ℕ
 line_of_question q = numbered_line q.number (codes "verified")
 
-asked_lines : (qs : List Question) → flat_map line_of_question (map asked qs) ≡ flat_map verified_line qs
+asked_lines : (qs : List ChooseTree) → flat_map line_of_question (map asked qs) ≡ flat_map verified_line qs
 asked_lines [] = refl
 asked_lines (q ∷ qs) = ap (λ more. verified_line q ++ more) (asked_lines qs)
 

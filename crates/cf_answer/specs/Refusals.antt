@@ -15,7 +15,7 @@ use Rattle.cf_program.specs.declared.linearity.Linearity.TheVariants.{Late}
 use Rattle.cf_program.specs.declared.fault.TypeFault.{TypeFault}
 use Rattle.cf_program.specs.declared.fault.TypeFault.TheVariants.{NotLinear}
 use Rattle.cf_linear.specs.declared.refusal.Refusal.{Refusal}
-use Rattle.cf_build.specs.Questions.{all_questions, IsFirstRefused}
+use Rattle.cf_build.specs.Chooses.{all_chooses, IsFirstRefused}
 use Rattle.cf_steps.specs.Blocks.{BlockTree}
 use Rattle.cf_steps.specs.Reading.{all_blocks}
 use Rattle.cf_steps.specs.Spelling.{AreBlocks}
@@ -49,7 +49,7 @@ pub data Causes {Tree : Type 0} (Is : Tree → List Token → Type 0) (read : Re
 -- for which faults a program is refused: its first broken rule, or its first choose that is refused
 pub data IsBadProgram (program : List RawDefTree) : Fault → Type 0 where
   broken : (e : TypeFault) → checked program ≡ Err e → IsBadProgram program (fault.Rule e)
-  refused : (typed : TypedTree) (n : ℕ) (r : Refusal) → checked program ≡ Ok typed → IsFirstRefused (all_questions typed.defs) n r →
+  refused : (typed : TypedTree) (n : ℕ) (r : Refusal) → checked program ≡ Ok typed → IsFirstRefused (all_chooses typed.defs) n r →
       IsBadProgram program (fault.Choose n r)
 
 -- for which faults `run` refuses it: where the first broken rule is that on linear relations, for the first rule that is broken where the numbers in

@@ -5,7 +5,7 @@ use Rattle.cf_io.specs.Bytes.{TookFront}
 use Rattle.cf_io.specs.Causes.{Rose, one_more}
 use Rattle.cf_io.specs.Seen.{ShelfSeen}
 use Rattle.cf_program.specs.Checked.{TypedTree}
-use Rattle.cf_build.specs.Questions.{Question}
+use Rattle.cf_tree.specs.ChooseTree.{ChooseTree}
 use Rattle.cf_steps.specs.Blocks.{BlockTree}
 use Rattle.cf_steps.specs.Printed.{blocks_text}
 use Rattle.cf_steps.specs.Spelled.{IsSpelledBlock}
@@ -68,9 +68,9 @@ pub data IsSourceFault (name : List ℕ) (before after : ShelfSeen) (f : Fault) 
 
 -- ---- writing blocks
 -- the printed block of a choose was added to the text
-abbrev pub AddsBlock : Question → List ℕ → List ℕ → Type 0
+abbrev pub AddsBlock : ChooseTree → List ℕ → List ℕ → Type 0
 AddsBlock q old new = (b : Block) × IsTraced q b × IsSpelledBlock b × (new ≡ old ++ blocks_text (b ∷ []))
 
 -- the text is that of one block for each of these chooses, which are printed as steps files spell them
-abbrev pub ArePut : List Question → List ℕ → Type 0
+abbrev pub ArePut : List ChooseTree → List ℕ → Type 0
 ArePut qs text = (bs : List Block) × OneForEach IsTraced qs bs × All IsSpelledBlock bs × (text ≡ blocks_text bs)

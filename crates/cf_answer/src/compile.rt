@@ -16,7 +16,7 @@ ghost use Rattle.cf_answer.specs.Statuses.{status_of as the_status_of, IsEarly};
 ghost use Rattle.cf_answer.specs.Steps.{IsVerdict};
 
 use crate::fault::Fault;
-use crate::source::compile;
+use crate::source::target_of_text;
 use crate::tallies::put_closing;
 use crate::write::write_text;
 use cf_emit::print;
@@ -40,9 +40,9 @@ fn compiled(
     ensures passed { ArePassed (not plain) (map (λ p. told p) passes.old.items) (map (λ p. told p) passes.new.items) }
 {
     if plain {
-        return compile(alloc, text, &mut Vec::new(alloc));
+        return target_of_text(alloc, text, &mut Vec::new(alloc));
     }
-    compile(alloc, text, passes)
+    target_of_text(alloc, text, passes)
 }
 
 // The printed target, and what is written behind all else.

@@ -14,7 +14,7 @@ ghost use Rattle.cf_answer.specs.Steps.{IsVerdict, AddUp};
 
 use crate::fault::Fault;
 use crate::limits::longest_text;
-use crate::source::compile;
+use crate::source::target_of_text;
 use crate::sum::sum_of_replies;
 use crate::write::write_text;
 use cf_gen::{lines, source};
@@ -40,7 +40,7 @@ fn compiled_workload(
     if text.len() > longest_text() {
         return Err(Fault::TextTooLong);
     }
-    compile(alloc, &text, passes)
+    target_of_text(alloc, &text, passes)
 }
 
 // Adds the line that tells a number of lines and a sum.

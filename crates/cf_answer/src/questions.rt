@@ -1,6 +1,9 @@
 //! The chooses of a program, as its certificates speak of them.
 ghost use Rattle.std.specs.Prelude.{◌≡◌, ◌≤◌, ◌<◌, ◌-◌, ◌^◌, All, IfOk, length, map};
-ghost use Rattle.cf_build.specs.Solves.{question_of, IsAsked, IsRising};
+ghost use Rattle.cf_tree.specs.DefView.{def_tree};
+ghost use Rattle.cf_program.specs.Lowered.{lowered_def};
+ghost use Rattle.cf_tree.specs.ChooseView.{choose_tree};
+ghost use Rattle.cf_build.specs.Solves.{IsTypedChoose, IsRising};
 ghost use Rattle.cf_cert.specs.Verifying.{question_tree};
 ghost use Rattle.cf_program.specs.Typed.{typed_tree};
 ghost use Rattle.cf_answer.specs.Certificates.{asked, asked_in};
@@ -11,41 +14,43 @@ ghost use Rattle.cf_answer.specs.Verifying.{AreAskedBy, AreAskedIn};
 
 use crate::fault::Fault;
 use crate::source::read_source;
-use cf_build::{Choose, numbered};
+use cf_build::numbered;
 use cf_cert::Question;
-use cf_match::lower;
+use cf_match::{Lowered, lower};
 use cf_program::Typed;
-use cf_tree::NoMemory;
+use cf_tree::{Choose, NoMemory, bases};
 use std::alloc::Global;
 
 /// The chooses of a program in the order of their numbers, its matches as the chooses that they stand
-/// for.
-pub fn numbered_chooses(alloc: Global, typed: &Typed) -> Result<Vec<Choose>, NoMemory>
-    ensures chooses { IfOk result (λ cs. map question_of cs.items ≡ asked_in (typed_tree typed.now)) }
-    ensures asked { IfOk result (λ cs. All (λ c. IsAsked (question_of c)) cs.items) }
-    ensures rising { IfOk result (λ cs. IsRising (map question_of cs.items)) }
+/// for, lent by its lowered form.
+pub fn numbered_chooses<'a>(
+    alloc: Global,
+    typed: &Typed,
+    lowered: &'a Lowered,
+) -> Result<Vec<Choose<'a>>, NoMemory>
+    requires { map def_tree lowered.now.typed.defs.items ≡ map lowered_def (map def_tree typed.now.defs.items) }
+    ensures chooses { IfOk result (λ cs. map choose_tree cs.items ≡ asked_in (typed_tree typed.now)) }
+    ensures typed { IfOk result (λ cs. All (λ c. IsTypedChoose (choose_tree c)) cs.items) }
+    ensures rising { IfOk result (λ cs. IsRising (map choose_tree cs.items)) }
 {
-    match lower(alloc, typed) {
-        Ok(lowered) => numbered(alloc, lowered.typed()),
-        Err(NoMemory) => Err(NoMemory),
-    }
+    numbered(alloc, lowered.typed())
 }
 
 // The choose without the names of its scope.
-fn question(alloc: Global, choose: &Choose) -> Result<Question, NoMemory>
-    ensures { IfOk result (λ q. question_tree q ≡ asked (question_of choose.now)) }
+fn question(alloc: Global, choose: &Choose<'_>) -> Result<Question, NoMemory>
+    ensures { IfOk result (λ q. question_tree q ≡ asked (choose_tree choose.now)) }
 {
     Ok(Question {
         number: choose.number,
-        scope: Vec::from_slice(alloc, &choose.scope)?,
-        outputs: Vec::from_slice(alloc, &choose.outputs)?,
+        scope: bases(alloc, choose.scope)?,
+        outputs: Vec::from_slice(alloc, choose.outputs)?,
         rel: choose.rel.try_copy(alloc)?,
     })
 }
 
 // These chooses in order, without the names of their scopes.
-fn questions_of(alloc: Global, chooses: &[Choose]) -> Result<Vec<Question>, NoMemory>
-    ensures { IfOk result (λ qs. map question_tree qs.items ≡ map asked (map question_of chooses.now)) }
+fn questions_of(alloc: Global, chooses: &[Choose<'_>]) -> Result<Vec<Question>, NoMemory>
+    ensures { IfOk result (λ qs. map question_tree qs.items ≡ map asked (map choose_tree chooses.now)) }
 {
     let mut questions = Vec::new(alloc);
     for choose in chooses {
@@ -58,7 +63,8 @@ fn questions_of(alloc: Global, chooses: &[Choose]) -> Result<Vec<Question>, NoMe
 fn questions(alloc: Global, typed: &Typed) -> Result<Vec<Question>, NoMemory>
     ensures { IfOk result (λ qs. AreAskedBy (typed_tree typed.now) (map question_tree qs.items)) }
 {
-    match numbered_chooses(alloc, typed) {
+    let lowered = lower(alloc, typed)?;
+    match numbered_chooses(alloc, typed, &lowered) {
         Ok(chooses) => questions_of(alloc, &chooses),
         Err(NoMemory) => Err(NoMemory),
     }

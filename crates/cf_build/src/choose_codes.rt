@@ -26,18 +26,18 @@ pub(crate) struct ChooseCodes {
 // The codes of solved chooses. What else is kept of them is given up.
 pub(crate) fn choose_codes(
     alloc: Global,
-    solves: Vec<SolvedChoose>,
+    solves: Vec<SolvedChoose<'_>>,
 ) -> Result<ChooseCodes, NoMemory>
-    requires { IsStrictlyIncreasing (map (λ s. s.number) solves.items) }
-    ensures { IfOk result (λ c. map choose_code c.codes.items ≡ map solve_code solves.items) }
+    requires { IsStrictlyIncreasing (map (λ s. s.choose.number) solves.items) }
+    ensures { IfOk result (λ c. map choose_code c.codes.items ≡ map solve_code solves.entry.items) }
 {
     let codes = each_code(alloc, solves)?;
     Ok(ChooseCodes { codes })
 }
 
 // The code of each choose, in order.
-fn each_code(alloc: Global, solves: Vec<SolvedChoose>) -> Result<Vec<ChooseCode>, NoMemory>
-    ensures { IfOk result (λ codes. map choose_code codes.items ≡ map solve_code solves.items) }
+fn each_code(alloc: Global, solves: Vec<SolvedChoose<'_>>) -> Result<Vec<ChooseCode>, NoMemory>
+    ensures { IfOk result (λ codes. map choose_code codes.items ≡ map solve_code solves.entry.items) }
 {
     let mut left = solves;
     left.reverse();
@@ -48,10 +48,10 @@ fn each_code(alloc: Global, solves: Vec<SolvedChoose>) -> Result<Vec<ChooseCode>
     Ok(codes)
 }
 
-fn into_code(solve: SolvedChoose) -> ChooseCode
-    ensures { choose_code result ≡ solve_code solve }
+fn into_code(solve: SolvedChoose<'_>) -> ChooseCode
+    ensures { choose_code result ≡ solve_code solve.entry }
 {
-    let number = solve.number;
+    let number = solve.choose.number;
     ChooseCode {
         number,
         code: solve.solved.into_code(number),

@@ -3,7 +3,7 @@ ghost use Rattle.std.specs.Prelude.{◌≡◌, ◌+◌, ◌<◌, ◌^◌, IfOk};
 ghost use Rattle.cf_tree.specs.CodeView.{code_tree, item_tree, arm_tree, code_trees, item_trees, arm_trees};
 ghost use Rattle.cf_build.specs.Shifted.{shifted, all_shifted, item_shifted, items_shifted, arm_shifted, arms_shifted, HasLevels, HaveLevels, IsLevelled, AreLevelled, ItemIsLevelled, ItemsAreLevelled, ArmIsLevelled, ArmsAreLevelled};
 
-use cf_tree::{Arm, Code, Item, NoMemory, add_u32};
+use cf_tree::{Arm, Code, Item, NoMemory, add_u32, code_over_list, code_over_one, code_over_three};
 use std::alloc::Global;
 
 // A copy of the code behind `by` more variables.
@@ -15,55 +15,13 @@ pub(crate) fn shift(alloc: Global, code: &Code, by: u32) -> Result<Code, NoMemor
         Code::Lit(k) => Ok(Code::Lit(*k)),
         Code::Truth(t) => Ok(Code::Truth(*t)),
         Code::Var(x) => Ok(Code::Var(add_u32(by, *x)?)),
-        Code::SetOf(parts)
-        | Code::Tuple(parts)
-        | Code::Sum(parts)
-        | Code::Min(parts)
-        | Code::Max(parts)
-        | Code::Union(parts)
-        | Code::Inter(parts) => {
+        code_over_list!(parts) => {
             let parts = shift_all(alloc, parts, by)?;
             Ok(code.over_list(parts))
         }
-        Code::Neg(a)
-        | Code::Not(a)
-        | Code::Card(a)
-        | Code::Div { of: a, .. }
-        | Code::Mod { of: a, .. }
-        | Code::Divides { of: a, .. } => {
+        code_over_one!(a) => {
             let part = boxed(alloc, a, by)?;
             Ok(code.over_one(part))
-        }
-        Code::Sub(a, b)
-        | Code::Mul(a, b)
-        | Code::And(a, b)
-        | Code::Or(a, b)
-        | Code::Diff(a, b)
-        | Code::Subset(a, b)
-        | Code::Compare {
-            left: a,
-            right: b,
-            ..
-        }
-        | Code::Fresh { avoid: a, n: b } => {
-            let first = boxed(alloc, a, by)?;
-            let second = boxed(alloc, b, by)?;
-            Ok(code.over_two(first, second))
-        }
-        Code::Slice {
-            set: a,
-            from: b,
-            n: c,
-        }
-        | Code::If {
-            test: a,
-            yes: b,
-            no: c,
-        } => {
-            let first = boxed(alloc, a, by)?;
-            let second = boxed(alloc, b, by)?;
-            let third = boxed(alloc, c, by)?;
-            Ok(code.over_three(first, second, third))
         }
         Code::Let {
             first,
@@ -81,6 +39,28 @@ pub(crate) fn shift(alloc: Global, code: &Code, by: u32) -> Result<Code, NoMemor
                 value,
                 body,
             })
+        }
+        Code::Sub(a, b)
+        | Code::Mul(a, b)
+        | Code::And(a, b)
+        | Code::Or(a, b)
+        | Code::Diff(a, b)
+        | Code::Subset(a, b)
+        | Code::Compare {
+            left: a,
+            right: b,
+            ..
+        }
+        | Code::Fresh { avoid: a, n: b } => {
+            let first = boxed(alloc, a, by)?;
+            let second = boxed(alloc, b, by)?;
+            Ok(code.over_two(first, second))
+        }
+        code_over_three!(a, b, c) => {
+            let first = boxed(alloc, a, by)?;
+            let second = boxed(alloc, b, by)?;
+            let third = boxed(alloc, c, by)?;
+            Ok(code.over_three(first, second, third))
         }
         Code::Solve { number, arms } => Ok(Code::Solve {
             number: *number,

@@ -2,13 +2,13 @@ use Rattle.std.proofs.Common.{◌∙◌, ap, map, subst}
 use Rattle.cf_tree.specs.DefView.{def_tree}
 use Rattle.cf_build.specs.Solves.{FaultAnswer}
 use Rattle.cf_answer.proofs.CheckLemmas.{program_checks}
-use Rattle.cf_answer.proofs.LoweredLemmas.{questions_source}
+use Rattle.cf_answer.proofs.LoweredLemmas.{chooses_source}
 use Rattle.cf_answer.proofs.MatchClassLemmas.{told_classes}
 use Rattle.cf_answer.proofs.check.lowered_lines.Goals as goal
 
 pub returns-in-Err-clause-refused : goal.returns-in-Err-clause-refused
 returns-in-Err-clause-refused c =
-    let same = questions_source _ _ (ap (λ t. map def_tree t.defs.items) c.typed.ensures.value ∙ c.requires.defs) in
+    let same = chooses_source _ _ (ap (λ t. map def_tree t.defs.items) c.typed.ensures.value ∙ c.requires.defs) in
     subst (λ qs. FaultAnswer qs c.in-Err.fault) same c.in-Err.ensures.refused
 
 pub lines-requires-clause-order : goal.lines-requires-clause-order

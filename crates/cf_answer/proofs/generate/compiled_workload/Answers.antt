@@ -20,7 +20,7 @@ returns-then-len-longest_text-clause-passed g c = unpassed true _
 
 pub returns-clause-verdict : goal.returns-clause-verdict
 returns-clause-verdict g c =
-    rw (c.deref.ensures.value ∙ c.in-Ok.ensures) at c.compile.ensures.verdict
+    rw (c.deref.ensures.value ∙ c.in-Ok.ensures) at c.target_of_text.ensures.verdict
 
 pub returns-clause-passed : goal.returns-clause-passed
-returns-clause-passed g c = c.compile.ensures.passed
+returns-clause-passed g c = c.target_of_text.ensures.passed
