@@ -15,7 +15,7 @@ use Rattle.cf_program.specs.Checked.{TypedTree, checked}
 use Rattle.cf_program.specs.declared.fault.TypeFault.{TypeFault}
 use Rattle.cf_program.specs.declared.fault.TypeFault.TheVariants as rule
 use Rattle.cf_program.specs.CheckAnswers.{CheckFault}
-use Rattle.cf_build.specs.Questions.{all_questions, IsFirstRefused}
+use Rattle.cf_build.specs.Chooses.{all_chooses, IsFirstRefused}
 use Rattle.cf_answer.specs.Refusals.{Causes, too_long, odd_byte, large_number, no_tree, bad_tree, IsBadProgram, broken, refused, IsBroken, broken_rule, untyped, IsBrokenSource, IsRefusedSource, IsRefusedTarget}
 use Rattle.cf_answer.specs.Sources.{HasTokens, Spelled, IsTypedSource, IsTypedTree}
 use Rattle.cf_answer.specs.Steps.{IsMisspelled}
@@ -38,7 +38,7 @@ pub rule_broken : (text : List ℕ) (program : List RawDefTree) (e : TypeFault) 
     IsBrokenSource text (fault.Rule e)
 rule_broken text program e n h s = bad_tree program (fault.Rule e) s (broken_rule e (fails_so e (checked program) n h))
 
-pub choose_refused : (text : List ℕ) (typed : TypedTree) (n : ℕ) (r : Refusal) → IsTypedSource text typed → IsFirstRefused (all_questions typed.defs) n r →
+pub choose_refused : (text : List ℕ) (typed : TypedTree) (n : ℕ) (r : Refusal) → IsTypedSource text typed → IsFirstRefused (all_chooses typed.defs) n r →
     IsRefusedSource text (fault.Choose n r)
 choose_refused text typed n r s h = bad_tree s.0 (fault.Choose n r) s.1 (refused typed n r s.2 h)
 

@@ -1,5 +1,5 @@
 -- What a command is to write, in all.
-use Rattle.std.specs.Prelude.{◌≡◌, ℕ, ◌-◌, ◌*◌, ◌^◌, ℤ, pos, ◌+ℤ◌, Bool, true, not, List, [], ◌∷◌, ◌++◌, length, flat_map, None, codes, decimal}
+use Rattle.std.specs.Prelude.{◌≡◌, ℕ, ◌-◌, ◌*◌, ◌^◌, ℤ, pos, ◌+ℤ◌, List, [], ◌∷◌, ◌++◌, flat_map, None, codes, decimal}
 use Rattle.std.specs.List.{concat}
 use Rattle.std.specs.Fmt.{signed_decimal}
 use Rattle.cf_gen.specs.Workload.{gen_source, gen_lines}
@@ -10,16 +10,16 @@ use Rattle.cf_target.specs.Spelling.{target_tree}
 use Rattle.cf_program.specs.Checked.{TypedTree}
 use Rattle.cf_choose.specs.Precondition.{all_needs, IsPrecondition}
 use Rattle.cf_match.specs.Matches.{all_matches}
-use Rattle.cf_build.specs.Questions.{Question, all_questions, by_number, limit_of, question_arms}
+use Rattle.cf_tree.specs.ChooseTree.{ChooseTree}
+use Rattle.cf_build.specs.Chooses.{all_chooses, by_number, limit_of, choose_arms}
 use Rattle.cf_emit.specs.Printed.{target_text, pre_text}
 use Rattle.cf_emit.specs.ReadsBack.{ReadsBack}
 use Rattle.cf_eval.specs.Replies.{IsReply}
-use Rattle.cf_pass.specs.Passes.{Told}
 use Rattle.cf_words.specs.Commands.{Command, compile, run, pre, check, exec, prove, verify, gen}
 use Rattle.cf_answer.specs.Certificates.{asked_in, AreProofs, AreVerified, verified_line}
 use Rattle.cf_answer.specs.Checks.{IsCheckOf}
 use Rattle.cf_answer.specs.LateReplies.{IsLateReply, AreRunsAllowed}
-use Rattle.cf_answer.specs.Passes.{AreCalled, applied}
+use Rattle.cf_answer.specs.Passes.{Told, applied}
 use Rattle.cf_answer.specs.Picked.{IsSourceReply, adds}
 use Rattle.cf_answer.specs.Sources.{Compiles, IsTypedSource, IsLateSource, IsTypedTarget}
 
@@ -45,17 +45,13 @@ AreReplies a ls text = AllReplied (IsReplyBy a) ls text
 abbrev pub ArePicked : ℕ → List ℕ → List (List ℕ) → List ℕ → Type 0
 ArePicked passes source ls text = (typed : TypedTree) × IsTypedSource source typed × AllReplied (IsSourceReply typed passes) ls text
 
--- the target is that of the source, rewritten by the passes, if they are called, and they were called so
-abbrev pub IsCompiledBy : Bool → List ℕ → List Told → List Told → RawTarget → Type 0
-IsCompiledBy calls source given last t = Compiles (applied calls last) source t × AreCalled calls given last
-
--- What `run` is to write on a source, with passes that told `given` before and tell `last`: the replies of the target that it is compiled to by the passes,
--- if it calls them, which its program picks; or the replies of its late program, with no pass called.
-pub data OwesRun (calls : Bool) (source : List ℕ) (given last : List Told) (ls : List (List ℕ)) (text : List ℕ) : Type 0 where
-  compiled : (t : RawTarget) → IsCompiledBy calls source given last t → AreReplies (by_target t) ls text → ArePicked (applied calls last) source ls text →
-      OwesRun calls source given last ls text
+-- What `run` is to write on a source, with passes that told `given` before and tell `last`: the replies of the target that it is compiled to by so many
+-- passes, which its program picks; or the replies of its late program, with no pass called.
+pub data OwesRun (passes : ℕ) (source : List ℕ) (given last : List Told) (ls : List (List ℕ)) (text : List ℕ) : Type 0 where
+  compiled : (t : RawTarget) → Compiles passes source t → AreReplies (by_target t) ls text → ArePicked passes source ls text →
+      OwesRun passes source given last ls text
   late : (typed : TypedTree) → IsLateSource source typed → AreReplies (by_late typed) ls text → AreRunsAllowed typed → last ≡ given →
-      OwesRun calls source given last ls text
+      OwesRun passes source given last ls text
 
 -- the printed target, which reads back to this target alone
 pub record IsPrinted (t : RawTarget) (text : List ℕ) : Type 0 where
@@ -63,23 +59,23 @@ pub record IsPrinted (t : RawTarget) (text : List ℕ) : Type 0 where
   pub reads_back : ReadsBack (target_tree t) text
 
 -- a choose passes no limit, and this is the printed form of the needs of its arms, which hold exactly where there are outputs
-pub record IsPreOf (q : Question) (text : List ℕ) : Type 0 where
+pub record IsPreOf (q : ChooseTree) (text : List ℕ) : Type 0 where
   pub within : limit_of q ≡ None
-  pub is : text ≡ pre_text q.number q.names (all_needs (question_arms q))
-  pub holds : IsPrecondition q.scope q.outputs q.relation (all_needs (question_arms q))
+  pub is : text ≡ pre_text q.number q.names (all_needs (choose_arms q))
+  pub holds : IsPrecondition q.scope q.outputs q.relation (all_needs (choose_arms q))
 
 -- what is written of chooses in order, where Is says what is written of each
-abbrev pub AllWritten : (Question → List ℕ → Type 0) → List Question → List ℕ → Type 0
+abbrev pub AllWritten : (ChooseTree → List ℕ → Type 0) → List ChooseTree → List ℕ → Type 0
 AllWritten Is [] text = text ≡ []
 AllWritten Is (q ∷ qs) text = (first : List ℕ) × (more : List ℕ) × (text ≡ first ++ more) × Is q first × AllWritten Is qs more
 
 -- the preconditions of the chooses of a program, in the order of their numbers
 abbrev pub ArePres : TypedTree → List ℕ → Type 0
-ArePres typed text = AllWritten IsPreOf (by_number (all_questions typed.defs)) text
+ArePres typed text = AllWritten IsPreOf (by_number (all_chooses typed.defs)) text
 
 -- the lines of its chooses and matches, in the order of their numbers
 abbrev pub AreChecks : TypedTree → List ℕ → Type 0
-AreChecks typed text = AllWritten (IsCheckOf (all_matches typed.defs)) (by_number (all_questions typed.defs)) text
+AreChecks typed text = AllWritten (IsCheckOf (all_matches typed.defs)) (by_number (all_chooses typed.defs)) text
 
 -- the sum of the replies that the program picks, where so many passes have rewritten it
 abbrev pub IsSum : TypedTree → ℕ → List (List ℕ) → ℤ → Type 0
@@ -94,9 +90,8 @@ sum_line count sum = concat (codes "lines " ∷ decimal count ∷ codes " sum " 
 -- What a command is to write on files of these texts, with passes that told `given` before and tell `last`, and these lines of the input. A source's
 -- replies are what it picks, or what its late program comes to. A workload has its own source and lines.
 abbrev pub Owes : Command → List (List ℕ) → List Told → List Told → List (List ℕ) → List ℕ → Type 0
-Owes (compile flags name) (file ∷ []) given last ls text =
-    (t : RawTarget) × IsCompiledBy (not flags.plain) file given last t × IsPrinted t text
-Owes (run flags name) (file ∷ []) given last ls text = OwesRun (not flags.plain) file given last ls text
+Owes (compile flags name) (file ∷ []) given last ls text = (t : RawTarget) × Compiles (applied (compile flags name) last) file t × IsPrinted t text
+Owes (run flags name) (file ∷ []) given last ls text = OwesRun (applied (run flags name) last) file given last ls text
 Owes (pre name) (file ∷ []) given last ls text = (typed : TypedTree) × IsTypedSource file typed × ArePres typed text
 Owes (check name) (file ∷ []) given last ls text = (typed : TypedTree) × IsTypedSource file typed × AreChecks typed text
 Owes (exec name) (file ∷ []) given last ls text = (t : RawTarget) × IsTypedTarget file (target_tree t) × AreReplies (by_target t) ls text
@@ -104,6 +99,6 @@ Owes (prove name) (file ∷ []) given last ls text = (typed : TypedTree) × IsTy
 Owes (verify name steps_name) (source ∷ steps ∷ []) given last ls text =
     (typed : TypedTree) × IsTypedSource source typed × AreVerified (asked_in typed) steps × (text ≡ flat_map verified_line (asked_in typed))
 Owes (gen n) [] given last ls text =
-    (t : RawTarget) × IsCompiledBy true (gen_source n) given last t × (typed : TypedTree) × IsTypedSource (gen_source n) typed
-    × (sum : ℤ) × IsSum typed (length last) (lines (gen_lines n)) sum × (text ≡ sum_line (n * n) sum)
+    (t : RawTarget) × Compiles (applied (gen n) last) (gen_source n) t × (typed : TypedTree) × IsTypedSource (gen_source n) typed
+    × (sum : ℤ) × IsSum typed (applied (gen n) last) (lines (gen_lines n)) sum × (text ≡ sum_line (n * n) sum)
 Owes command files given last ls text = ⊥

@@ -1,45 +1,40 @@
 //! What `prove` writes: for each choose of a program the steps of its elimination, and its own target.
-ghost use Rattle.std.specs.Prelude.{◌≡◌, ◌≤◌, ◌<◌, ◌-◌, ◌^◌, ◌∷◌, [], List, ℕ, All, length, map, IfOk, IfErr, OnOk};
-ghost use Rattle.cf_io.specs.Seen.{SourceSeen};
-ghost use Rattle.cf_pass.specs.Passes.{Told};
-ghost use Rattle.cf_build.specs.Solves.{question_of, IsAsked, IsRising, FaultAnswer};
+ghost use Rattle.std.specs.Prelude.{◌≡◌, ◌≤◌, ◌<◌, ◌-◌, ◌^◌, ◌∷◌, [], List, ℕ, Option, All, length, map, IfOk, IfErr, OnOk, IsErrOf};
+ghost use Rattle.cf_io.specs.Causes.{one_more};
+ghost use Rattle.cf_tree.specs.ChooseView.{choose_tree};
+ghost use Rattle.cf_build.specs.Solves.{IsTypedChoose, IsRising, FaultAnswer};
 ghost use Rattle.cf_program.specs.Typed.{typed_tree};
 ghost use Rattle.cf_words.specs.Commands.{prove as the_prove};
 ghost use Rattle.cf_answer.specs.Certificates.{asked_in, AreProofs};
 ghost use Rattle.cf_answer.specs.Ends.{AnswersOn};
 ghost use Rattle.cf_answer.specs.Limits.{text_limit};
-ghost use Rattle.cf_answer.specs.Outside.{streams};
+ghost use Rattle.cf_answer.specs.Passes.{Told};
 ghost use Rattle.cf_answer.specs.Refusals.{IsRefusedSource};
 ghost use Rattle.cf_answer.specs.Sources.{IsTypedSource};
 ghost use Rattle.cf_answer.specs.Statuses.{status_of as the_status_of, IsEarly};
 ghost use Rattle.cf_answer.specs.Steps.{IsVerdict};
 ghost use Rattle.cf_answer.specs.Verifying.{AddsBlock};
 
+use crate::answer::write_text;
 use crate::fault::Fault;
 use crate::questions::numbered_chooses;
 use crate::source::read_source;
-use crate::write::write_text;
-use cf_build::{BuildFault, Choose};
+use cf_build::BuildFault;
 use cf_choose::ChooseFault;
 use cf_io::Sink;
+use cf_match::lower;
 use cf_program::Typed;
 use cf_prove::prove;
-use cf_tree::NoMemory;
+use cf_tree::{Choose, NoMemory};
 use std::alloc::Global;
 
 // Adds the printed block of a choose.
-fn put_block(alloc: Global, choose: &Choose, text: &mut Vec<u8>) -> Result<(), BuildFault>
-    requires { IsAsked (question_of choose.now) }
-    ensures block { OnOk result (AddsBlock (question_of choose.now) text.old.items text.new.items) }
-    ensures refused { IfErr result (FaultAnswer (question_of choose.now ∷ [])) }
+fn put_block(alloc: Global, choose: &Choose<'_>, text: &mut Vec<u8>) -> Result<(), BuildFault>
+    requires { IsTypedChoose (choose_tree choose.now) }
+    ensures block { OnOk result (AddsBlock (choose_tree choose.now) text.old.items text.new.items) }
+    ensures refused { IfErr result (FaultAnswer (choose_tree choose.now ∷ [])) }
 {
-    match prove(
-        alloc,
-        choose.number,
-        &choose.scope,
-        &choose.outputs,
-        &choose.rel,
-    ) {
+    match prove(alloc, choose) {
         Ok(block) => {
             text.extend_from_slice(&block)?;
             Ok(())
@@ -54,11 +49,11 @@ fn put_block(alloc: Global, choose: &Choose, text: &mut Vec<u8>) -> Result<(), B
 
 // The printed blocks of these chooses, whose numbers rise, in order, or the first of them that is
 // refused.
-fn prove_each(alloc: Global, chooses: &[Choose]) -> Result<Vec<u8>, BuildFault>
-    requires asked { All (λ c. IsAsked (question_of c)) chooses.now }
-    requires rising { IsRising (map question_of chooses.now) }
-    ensures proofs { IfOk result (λ text. AreProofs (map question_of chooses.now) text.items) }
-    ensures refused { IfErr result (FaultAnswer (map question_of chooses.now)) }
+fn prove_each(alloc: Global, chooses: &[Choose<'_>]) -> Result<Vec<u8>, BuildFault>
+    requires asked { All (λ c. IsTypedChoose (choose_tree c)) chooses.now }
+    requires rising { IsRising (map choose_tree chooses.now) }
+    ensures proofs { IfOk result (λ text. AreProofs (map choose_tree chooses.now) text.items) }
+    ensures refused { IfErr result (FaultAnswer (map choose_tree chooses.now)) }
 {
     let mut text = Vec::new(alloc);
     for i in 0..chooses.len() {
@@ -76,7 +71,11 @@ fn blocks(alloc: Global, typed: &Typed) -> Result<Vec<u8>, Fault>
     ensures { (source : List ℕ) → IsTypedSource source (typed_tree typed.now) →
         IsVerdict (λ text. AreProofs (asked_in (typed_tree typed.now)) text.items) (IsRefusedSource source) result }
 {
-    match numbered_chooses(alloc, typed) {
+    let lowered = match lower(alloc, typed) {
+        Ok(lowered) => lowered,
+        Err(NoMemory) => return Err(Fault::NoMemory),
+    };
+    match numbered_chooses(alloc, typed, &lowered) {
         Ok(chooses) => match prove_each(alloc, &chooses) {
             Ok(text) => Ok(text),
             Err(BuildFault::Choose { number, refusal }) => Err(Fault::Choose { number, refusal }),
@@ -90,8 +89,11 @@ fn blocks(alloc: Global, typed: &Typed) -> Result<Vec<u8>, Fault>
 pub fn write_blocks<O: Sink>(alloc: Global, text: &[u8], out: &mut O) -> Result<(), Fault>
     requires short { length text.now ≤ text_limit }
     requires place { length text.now < 2 ^ 32 - 1 }
-    ensures answers { (file : List ℕ) (given : List Told) (input : SourceSeen) → AnswersOn (the_prove file) given given (text.now ∷ [])
-        (streams input (O.seen out.old)) (streams input (O.seen out.new)) result }
+    ensures answers { (file : List ℕ) (given : List Told) (input : Option (List ℕ)) → AnswersOn (the_prove file) given (text.now ∷ [])
+        (record { input = input; out = O.held out.old }) (record { input = input; out = O.held out.new }) result }
+    ensures input { ¬ IsErrOf result Fault.Input }
+    ensures output { IsErrOf result Fault.Output → O.faults out.new ≡ one_more (O.faults out.old) }
+    ensures output_same { ¬ IsErrOf result Fault.Output → O.faults out.new ≡ O.faults out.old }
     ensures unwritten { IsEarly (the_status_of result) → out.new ≡ out.old }
 {
     let typed = match read_source(alloc, text) {

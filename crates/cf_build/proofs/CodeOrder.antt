@@ -34,12 +34,12 @@ numbers_made : (cs : List ChooseCode) → map (λ c. c.number) cs ≡ map (λ s.
 numbers_made [] = refl
 numbers_made (c ∷ cs) = ap (λ ns. c.number ∷ ns) (numbers_made cs)
 
-numbers_solved : (ss : List SolvedChoose) → map (λ s. s.number) ss ≡ map (λ s. s.0) (map solve_code ss)
+numbers_solved : (ss : List SolvedChoose) → map (λ s. s.choose.number) ss ≡ map (λ s. s.0) (map solve_code ss)
 numbers_solved [] = refl
-numbers_solved (s ∷ ss) = ap (λ ns. s.number ∷ ns) (numbers_solved ss)
+numbers_solved (s ∷ ss) = ap (λ ns. s.choose.number ∷ ns) (numbers_solved ss)
 
 -- the codes have the numbers of the solved chooses
-pub made_rise : (cs : List ChooseCode) (ss : List SolvedChoose) → map choose_code cs ≡ map solve_code ss → IsStrictlyIncreasing (map (λ s. s.number) ss) →
+pub made_rise : (cs : List ChooseCode) (ss : List SolvedChoose) → map choose_code cs ≡ map solve_code ss → IsStrictlyIncreasing (map (λ s. s.choose.number) ss) →
     IsStrictlyIncreasing (map (λ c. c.number) cs)
 made_rise cs ss e r = subst IsStrictlyIncreasing (numbers_solved ss ∙ ap (λ xs. map (λ s. s.0) xs) (sym e) ∙ sym (numbers_made cs)) r
 

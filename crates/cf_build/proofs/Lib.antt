@@ -1,4 +1,4 @@
-pub mod BuiltLaws
+pub mod Building
 pub mod CallExamples
 pub mod CalledCodes
 pub mod ChooseLists
@@ -14,7 +14,7 @@ pub mod NumberOrder
 pub mod OrderExamples
 pub mod PickedPaths
 pub mod Programs
-pub mod QuestionLaws
+pub mod ChooseLaws
 pub mod Rewriting
 pub mod Runs
 pub mod SameCodes

@@ -9,27 +9,28 @@ use Rattle.cf_choose.specs.ArmBuilders.{HasOutputs}
 use Rattle.cf_choose.proofs.CaseLemmas.{few_sets}
 use Rattle.cf_choose.proofs.ChooseLevels.{are_outputs, has_outputs}
 use Rattle.cf_steps.specs.Blocks.{block_tree}
-use Rattle.cf_cert.specs.Verifying.{question_tree, JudgeIs, ArmsIs}
+use Rattle.cf_tree.specs.ChooseView.{choose_tree}
+use Rattle.cf_cert.specs.Verifying.{JudgeIs, ArmsIs}
 use Rattle.cf_cert.proofs.VerdictLaws.{refused_rows, other_cases, steps_rejected, few_cases}
 use Rattle.cf_cert.proofs.judge.judge_cases.Goals as goal
 
 pub systems-requires-clause-placed : goal.systems-requires-clause-placed
 systems-requires-clause-placed c =
-    let q = question_tree c.args.question.now in
+    let q = choose_tree c.args.question.now in
     let asked = c.requires.question in
-    subst (λ l. IsPlacedRel l q.rel) (sym c.requires.counted.layout) (placed-rel q.scope q.outputs q.rel asked.typed asked.linear)
+    subst (λ l. IsPlacedRel l q.relation) (sym c.requires.counted.layout) (placed-rel q.scope q.outputs q.relation asked.typed asked.linear)
 
 pub returns-in-Err-Past : goal.returns-in-Err-Past
 returns-in-Err-Past c =
-    subst (λ f. JudgeIs (question_tree c.args.question.now) (block_tree c.args.block.now) (Err f)) (sym c.whole.ensures)
-    (refused_rows (question_tree c.args.question.now) (block_tree c.args.block.now) (plain_layout c.args.layout.now) c.requires.counted
+    subst (λ f. JudgeIs (choose_tree c.args.question.now) (block_tree c.args.block.now) (Err f)) (sym c.whole.ensures)
+    (refused_rows (choose_tree c.args.question.now) (block_tree c.args.block.now) (plain_layout c.args.layout.now) c.requires.counted
     (rw c.in-Err-Past.field-0-is at c.in-Err-Past.ensures.systems))
 
 pub returns-then-len : goal.returns-then-len
 returns-then-len c =
     let e = c.in-Ok.ensures.systems in
-    subst (λ f. JudgeIs (question_tree c.args.question.now) (block_tree c.args.block.now) (Err f)) (sym c.whole-then-len.ensures)
-    (other_cases (question_tree c.args.question.now) (block_tree c.args.block.now) (plain_layout c.args.layout.now) c.requires.counted e.0
+    subst (λ f. JudgeIs (choose_tree c.args.question.now) (block_tree c.args.block.now) (Err f)) (sym c.whole-then-len.ensures)
+    (other_cases (choose_tree c.args.question.now) (block_tree c.args.block.now) (plain_layout c.args.layout.now) c.requires.counted e.0
     (λ n. c.if-len.true (omega (
       arith,
       n,
@@ -42,20 +43,20 @@ returns-then-len c =
 
 pub arms-requires-clause-sets : goal.arms-requires-clause-sets
 arms-requires-clause-sets c =
-    let q = question_tree c.args.question.now in
+    let q = choose_tree c.args.question.now in
     let k = c.requires.counted in
     record {
-      few = few_sets (plain_layout c.args.layout.now) q.rel k.counts;
-      outputs = subst HasOutputs (sym k.layout) (has_outputs q.scope q.outputs q.rel (are_outputs q.outputs c.requires.question.are_outputs));
+      few = few_sets (plain_layout c.args.layout.now) q.relation k.counts;
+      outputs = subst HasOutputs (sym k.layout) (has_outputs q.scope q.outputs q.relation (are_outputs q.outputs c.requires.question.are_outputs));
     }
 
 pub arms-requires-clause-count : goal.arms-requires-clause-count
 arms-requires-clause-count c =
-    let q = question_tree c.args.question.now in
+    let q = choose_tree c.args.question.now in
     let e = c.in-Ok.ensures.systems in
     omega (
       arith,
-      few_cases (plain_layout c.args.layout.now) q.rel c.requires.counted.counts,
+      few_cases (plain_layout c.args.layout.now) q.relation c.requires.counted.counts,
       ap length e.1,
       length-map c.in-Ok.systems.items system_of,
       c.if-len.false,
@@ -66,11 +67,11 @@ arms-requires-clause-count c =
 
 pub returns-in-Err : goal.returns-in-Err
 returns-in-Err c =
-    let q = question_tree c.args.question.now in
+    let q = choose_tree c.args.question.now in
     let b = block_tree c.args.block.now in
     let l = plain_layout c.args.layout.now in
     let e = c.in-Ok.ensures.systems in
-    let n : length b.cases ≡ length (first_systems l q.rel) = omega (
+    let n : length b.cases ≡ length (first_systems l q.relation) = omega (
       arith,
       c.if-len.false,
       c.len.ensures,
