@@ -19,8 +19,7 @@ use Rattle.cf_linear.proofs.BoolLemmas.{on_bool, within_cases}
 use Rattle.cf_equation.specs.Equations.{first_of, rest_of, first_present, equation_answer, equation_passes}
 use Rattle.cf_bounds.specs.Exact.{IsFree, AreExact}
 use Rattle.cf_linear.proofs.SideLemmas.{positive_so, negative_so}
-use Rattle.cf_linear.specs.Sides.{is_side}
-use Rattle.cf_bounds.specs.Sides.{is_great}
+use Rattle.cf_bounds.specs.Sides.{is_side, is_great}
 use Rattle.cf_elim.specs.declared.fault.ElimFault.{ElimFault}
 use Rattle.cf_elim.specs.declared.fault.ElimFault.TheVariants.{Refused as ElimRefused, NoMemory as ElimNoMemory}
 use Rattle.cf_elim.specs.Stages.{CountIs, CountsAre, count_refusal, IsReady, made_answer}

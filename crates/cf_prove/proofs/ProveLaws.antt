@@ -17,7 +17,7 @@ use Rattle.cf_cases.proofs.PlacedLaws.{placed-rel}
 use Rattle.cf_choose.specs.declared.solved.SolvedParts.{SolvedParts}
 use Rattle.cf_choose.specs.Eliminations.{case_refusal}
 use Rattle.cf_choose.specs.Laws.{IsUnrefused}
-use Rattle.cf_choose.specs.Solved.{IsSolved}
+use Rattle.cf_choose.specs.Solved.{IsOf, IsSolved}
 use Rattle.cf_choose.proofs.CaseLemmas.{few_sets}
 use Rattle.cf_cases.proofs.FirstSystemLaws.{IsBegun, first_systems_begun}
 use Rattle.cf_steps.specs.declared.act.Act.{Act}
@@ -25,7 +25,8 @@ use Rattle.cf_steps.specs.declared.block.Block.{Block}
 use Rattle.cf_steps.specs.Blocks.{BlockTree, block_tree}
 use Rattle.cf_steps.specs.Printed.{block_text}
 use Rattle.cf_steps.specs.Spelled.{IsColumn}
-use Rattle.cf_cert.specs.Certifying.{QuestionTree, layout, Certifies}
+use Rattle.cf_tree.specs.ChooseTree.{ChooseTree}
+use Rattle.cf_cert.specs.Certifying.{layout, Certifies}
 use Rattle.cf_cert.proofs.CertifiedArms.{certified_means}
 use Rattle.cf_cert.proofs.SpelledLaws.{spelled_within}
 use Rattle.cf_cert.proofs.VerdictLaws.{few_counts}
@@ -35,8 +36,15 @@ use Rattle.cf_prove.specs.Tracing.{traced_block}
 use Rattle.cf_prove.proofs.TraceLaws.{NoneRefused, none_refused, ends_solved, traced_certifies}
 
 -- ---- the first systems of a solved choose
-pub unrefused : (s : SolvedParts) → IsSolved s → IsUnrefused s.scope.items s.outputs.items (rel_tree s.rel)
-unrefused s h = record { typed = h.typed; linear = h.linear; are_outputs = h.are_outputs; within = h.within }
+module _ (q : ChooseTree) (s : SolvedParts) (h : IsOf q.scope q.outputs q.relation s) where
+  pub unrefused : IsUnrefused q.scope q.outputs q.relation
+  unrefused =
+      let k = h.solved in
+      rw (← h.same_scope, ← h.same_outputs, ← h.same_relation)
+      (record { typed = k.typed; linear = k.linear; are_outputs = k.are_outputs; within = k.within })
+
+  pub systems_asked : asked_systems s ≡ first_systems (layout q) q.relation
+  systems_asked = rw (h.same_scope, h.same_outputs, h.same_relation) refl
 
 nothing_refused : (s : SolvedParts) → IsSolved s → NoneRefused (layout_of s.scope.items s.outputs.items (rel_tree s.rel)) (rel_tree s.rel)
 nothing_refused s h = none_refused s.scope.items s.outputs.items (rel_tree s.rel) h.within
@@ -79,8 +87,8 @@ module _ (s : SolvedParts) (h : IsSolved s) (l : Layout) (rel : RelTree) (e : l 
   can_in ms p = subst (EachOf CanTrace) (sym (p ∙ same_systems)) (asked_can s h)
 
 -- ---- the block
-pub is_proved : (q : QuestionTree) (cases : Vec (Vec Act Global) Global) (t : RawTarget) (text : List ℕ) → IsUnrefused q.scope q.outputs q.rel →
-    IsColumn q.number → AreTracesOf (first_systems (layout q) q.rel) (map (λ c. c.items) cases.items) → IsTargetOf q t →
+pub is_proved : (q : ChooseTree) (cases : Vec (Vec Act Global) Global) (t : RawTarget) (text : List ℕ) → IsUnrefused q.scope q.outputs q.relation →
+    IsColumn q.number → AreTracesOf (first_systems (layout q) q.relation) (map (λ c. c.items) cases.items) → IsTargetOf q t →
     text ≡ block_text q.number (map (λ c. c.items) cases.items) t → IsProved q text
 is_proved q cases t text u n h k e =
     let b : Block = record { number = q.number; cases = cases; target = t } in

@@ -14,7 +14,7 @@ use Rattle.cf_linear.specs.Steps.{clean, mix, factors_of, merge, merge_passes, m
 use Rattle.cf_linear.specs.Steps.{bound_factor}
 use Rattle.cf_steps.specs.declared.act.Act.TheVariants.{Clean, Mix, Last, Search, Drop}
 use Rattle.cf_prove.specs.Tracing.{acts_at, acts_for, traced, traced_block}
-use Rattle.cf_cert.proofs.CertificateExamples.{question, block, rounded}
+use Rattle.cf_cert.proofs.CertificateExamples.{choose, block, rounded}
 
 abbrev seconds : RelTree
 seconds = rel_and (rel_and (rel_and (rel_and (rel_and (rel_compare Eq (term_add (term_add (term_mul (term_var 1) (term_lit (pos 3600))) (term_mul
@@ -41,6 +41,6 @@ unfolding first_systems disjuncts system_of_case write_atom stage clean_stage eq
 remainders-traced = refl
 
 -- the whole block of a choose
-pub rounding-traced : traced_block question ≡ block ((Clean ∷ Drop 3 ∷ Clean ∷ []) ∷ []) rounded
+pub rounding-traced : traced_block choose ≡ block ((Clean ∷ Drop 3 ∷ Clean ∷ []) ∷ []) rounded
 unfolding first_systems disjuncts system_of_case write_atom stage clean_stage equation_stage bound_stage unknown_stage row_stage clean mix factors_of merge merge_passes merge_factor last pick searched dropped searched_by bound bound_passes bound_factor gcd_by factors_by parts_of acts_at acts_for traced run run_for arms arm
 rounding-traced = refl

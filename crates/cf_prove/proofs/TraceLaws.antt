@@ -535,13 +535,13 @@ pub traced_certifies : TracedCertifies
 unfolding arms
 traced_certifies q u =
     let l = layout q in
-    let n = none_refused q.scope q.outputs q.rel u.within in
-    let ms = first_systems l q.rel in
+    let n = none_refused q.scope q.outputs q.relation u.within in
+    let ms = first_systems l q.relation in
     record {
       number = refl;
       counts = n.counts;
       written = n.written;
       answers = map (λ m. made_of m (run limits m)) ms;
-      cases = each_traced ms (first_systems_begun l q.rel (placed-rel q.scope q.outputs q.rel u.typed u.linear)) (ends_solved ms n.ends);
+      cases = each_traced ms (first_systems_begun l q.relation (placed-rel q.scope q.outputs q.relation u.typed u.linear)) (ends_solved ms n.ends);
       target = ap (λ ts. record { params = q.scope; results = q.outputs; code = code_solve q.number (arms_of ts) }) (arms_are l ms);
     }

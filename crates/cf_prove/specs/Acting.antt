@@ -15,7 +15,7 @@ use Rattle.cf_choose.specs.declared.solved.SolvedParts.{SolvedParts}
 use Rattle.cf_steps.specs.declared.act.Act.{Act}
 use Rattle.cf_steps.specs.declared.act.Act.TheVariants.{Mix}
 use Rattle.cf_steps.specs.Spelled.{IsSpelledAct, AreSpelledCases}
-use Rattle.cf_cert.specs.Certifying.{QuestionTree}
+use Rattle.cf_tree.specs.ChooseTree.{ChooseTree}
 use Rattle.cf_prove.specs.Tracing.{traced, traced_block}
 
 -- these steps are added, and a steps file spells them
@@ -43,15 +43,11 @@ pub record AreTracesOf (ms : List System) (cases : List (List Act)) : Type 0 whe
   pub are : cases ≡ map (traced limits) ms
   pub spelled : AreSpelledCases cases
 
--- a solved choose with a number
-abbrev pub asked : ℕ → SolvedParts → QuestionTree
-asked n s = record { number = n; scope = s.scope.items; outputs = s.outputs.items; rel = rel_tree s.rel }
-
--- the first systems of its cases
+-- the first systems of the cases of a solved choose
 abbrev pub asked_systems : SolvedParts → List System
 asked_systems s = first_systems (layout_of s.scope.items s.outputs.items (rel_tree s.rel)) (rel_tree s.rel)
 
 -- the choose's target, which has a spelling
-pub record IsTargetOf (q : QuestionTree) (t : RawTarget) : Type 0 where
+pub record IsTargetOf (q : ChooseTree) (t : RawTarget) : Type 0 where
   pub is : target_tree t ≡ (traced_block q).target
   pub spelled : HasSpelling t

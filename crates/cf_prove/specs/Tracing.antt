@@ -10,7 +10,8 @@ use Rattle.cf_linear.specs.Stages.{Limits, limits, State, ends, goes, stage, fir
 use Rattle.cf_steps.specs.declared.act.Act.{Act}
 use Rattle.cf_steps.specs.declared.act.Act.TheVariants.{Clean, Mix, Last, Search, Drop}
 use Rattle.cf_steps.specs.Blocks.{BlockTree}
-use Rattle.cf_cert.specs.Certifying.{QuestionTree, layout}
+use Rattle.cf_tree.specs.ChooseTree.{ChooseTree}
+use Rattle.cf_cert.specs.Certifying.{layout}
 
 -- a Merge of the first two unknowns of an equation, or its end
 abbrev pub equation_acts : Row → List ℕ → List Act
@@ -45,9 +46,9 @@ unfoldable pub traced : Limits → System → List Act
 traced l m = acts_for (2 ^ 64) l (first_state m)
 
 -- the block of a choose: the steps of its traces, and its code
-abbrev pub traced_block : QuestionTree → BlockTree
+abbrev pub traced_block : ChooseTree → BlockTree
 traced_block q = record {
   number = q.number;
-  cases = map (traced limits) (first_systems (layout q) q.rel);
-  target = record { params = q.scope; results = q.outputs; code = code_solve q.number (arms_of (arms q.scope q.outputs q.rel)) };
+  cases = map (traced limits) (first_systems (layout q) q.relation);
+  target = record { params = q.scope; results = q.outputs; code = code_solve q.number (arms_of (arms q.scope q.outputs q.relation)) };
 }

@@ -1,5 +1,3 @@
-use Rattle.std.proofs.Common.{sym, subst}
-use Rattle.cf_linear.specs.Views.{system_of}
 use Rattle.cf_cert.proofs.WayLaws.{advanced}
 use Rattle.cf_cert.proofs.follow.advance.Goals as goal
 
