@@ -9,8 +9,7 @@ use Rattle.std.proofs.Math.ListN.{drop_of_length-le}
 use Rattle.cf_linear.specs.Rows.{Row, entry}
 use Rattle.cf_linear.specs.Steps.{Pick, pick_at, is_better, best, pick, has_greater}
 use Rattle.cf_linear.proofs.BoolLemmas.{on_bool}
-use Rattle.cf_linear.specs.Sides.{is_side}
-use Rattle.cf_bounds.specs.Sides.{is_great, side, side_product}
+use Rattle.cf_bounds.specs.Sides.{is_great, is_side, side, side_product}
 use Rattle.cf_bounds.specs.Picking.{picked}
 
 -- ---- over the unknowns

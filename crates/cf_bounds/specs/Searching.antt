@@ -6,7 +6,7 @@ use Rattle.cf_linear.specs.Rows.{Row}
 use Rattle.cf_linear.specs.Systems.{Answer}
 use Rattle.cf_linear.specs.Steps.{Found}
 use Rattle.cf_linear.specs.Views.{system_of, bound_of}
-use Rattle.cf_linear.specs.Sides.{is_side}
+use Rattle.cf_bounds.specs.Sides.{is_side}
 
 abbrev pub searched_answer : Searched → Answer
 searched_answer s = record { system = system_of s.system; steps = []; back = []; bounds = map bound_of s.bounds.items }

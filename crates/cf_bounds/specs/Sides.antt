@@ -1,8 +1,12 @@
 -- The bounds of an unknown on one side.
-use Rattle.std.specs.Prelude.{ℕ, ◌*◌, ◌-◌, ◌^◌, unsigned_abs, min, nat_lt, Bool, ◌&&◌, List, filter}
+use Rattle.std.specs.Prelude.{ℕ, ◌*◌, ◌-◌, ◌^◌, ℤ, pos, int_lt, unsigned_abs, min, nat_lt, Bool, ◌&&◌, List, filter, if◌then◌else◌}
 use Rattle.std.specs.List.{fold}
 use Rattle.cf_linear.specs.Rows.{Row, entry}
-use Rattle.cf_linear.specs.Sides.{is_side}
+use Rattle.cf_linear.specs.Steps.{is_positive}
+
+-- a coefficient of a lower bound, or of an upper one
+abbrev pub is_side : Bool → ℤ → Bool
+is_side lower k = (if lower then is_positive k else int_lt k (pos 0))
 
 abbrev pub side : Bool → ℕ → List Row → List Row
 side lower x rows = filter (λ r. is_side lower (entry r x)) rows

@@ -4,7 +4,6 @@ ghost use Rattle.std.specs.List.{list_any};
 ghost use Rattle.cf_linear.specs.Rows.{entry, without};
 ghost use Rattle.cf_linear.specs.Steps.{free_of, pair_row, pair_passes, pairs_of, how_between, dropped, drop_passes};
 ghost use Rattle.cf_linear.specs.Keep.{In, Formed};
-ghost use Rattle.cf_linear.specs.Sides.{is_lower};
 ghost use Rattle.cf_linear.specs.Solved.{Owes};
 ghost use Rattle.cf_linear.specs.Views.{system_of, how_of};
 ghost use Rattle.cf_bounds.specs.Exact.{IsFree, AreExact};
@@ -12,7 +11,8 @@ ghost use Rattle.cf_bounds.specs.Sides.{side};
 ghost use Rattle.cf_bounds.specs.Dropping.{dropped_answer, bound_pair, pairs_pass, with_rows};
 
 use crate::lists::{add_copy, add_row, split_system};
-use cf_linear::{Back, Divided, How, Row, RowFault, Side, System, others};
+use crate::selection::is_side;
+use cf_linear::{Back, Divided, How, Row, RowFault, System, others};
 use cf_num::neg;
 use cf_tree::NoMemory;
 use std::alloc::Global;
@@ -48,8 +48,8 @@ fn dropped_system(alloc: Global, system: System, unknown: u32) -> Result<Dropped
     ensures past { result ≡ Err RowFault.Past → drop_passes (system_of system) unknown ≡ true }
 {
     let (rest, rows) = split_system(alloc, system);
-    let low = side(alloc, &rows, unknown, Side::Lower)?;
-    let high = side(alloc, &rows, unknown, Side::Upper)?;
+    let low = side(alloc, &rows, unknown, true)?;
+    let high = side(alloc, &rows, unknown, false)?;
     match left_rows(alloc, rows, unknown, &low, &high) {
         Ok(rows) => Ok(with_left(alloc, rest, unknown, &low, &high, rows)?),
         Err(fault) => Err(fault),
@@ -97,12 +97,12 @@ fn with_rows(
 }
 
 // The bounds of the unknown on the side.
-fn side(alloc: Global, rows: &[Row], unknown: u32, of: Side) -> Result<Vec<Row>, NoMemory>
-    ensures { IfOk result (λ s. s.items ≡ side (is_lower of) unknown rows.now) }
+fn side(alloc: Global, rows: &[Row], unknown: u32, lower: bool) -> Result<Vec<Row>, NoMemory>
+    ensures { IfOk result (λ s. s.items ≡ side lower unknown rows.now) }
 {
     let mut out = Vec::new(alloc);
     for row in rows {
-        add_copy(alloc, &mut out, row, of.has(row.entry(unknown)))?;
+        add_copy(alloc, &mut out, row, is_side(lower, row.entry(unknown)))?;
     }
     Ok(out)
 }

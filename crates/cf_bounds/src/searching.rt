@@ -4,15 +4,14 @@ ghost use Rattle.cf_linear.specs.Rows.{AreBelow};
 ghost use Rattle.cf_linear.specs.Systems.{EachRow};
 ghost use Rattle.cf_linear.specs.Steps.{searches, found_row, found_all, searched_as, searched};
 ghost use Rattle.cf_linear.specs.Keep.{In, Formed, ContinuesOnce};
-ghost use Rattle.cf_linear.specs.Sides.{is_lower};
 ghost use Rattle.cf_linear.specs.Solved.{Owes};
 ghost use Rattle.cf_linear.specs.Views.{system_of};
 ghost use Rattle.cf_bounds.specs.Exact.{IsFree, AreExact};
 ghost use Rattle.cf_bounds.specs.Searching.{searched_answer, found_of, found_from, found_with, is_searched};
 
 use crate::lists::{joined_columns, joined_rows, split_system};
-use crate::selection::Pick;
-use cf_linear::{Row, Search, Side, System, search_bound, search_column, search_equation};
+use crate::selection::{Pick, is_side};
+use cf_linear::{Row, Search, System, search_bound, search_column, search_equation};
 use cf_tree::NoMemory;
 use std::alloc::Global;
 
@@ -47,7 +46,7 @@ pub fn remainder_step(alloc: Global, system: System, pick: &Pick) -> Result<Sear
     ensures exact { IfOk result (λ s. AreExact pick.now.unknown (system_of s.system).inequalities) }
     ensures free { IfOk result (λ s. IsFree pick.now.unknown (system_of system).equations → IsFree pick.now.unknown (system_of s.system).equations) }
 {
-    searched_system(alloc, system, pick.unknown, pick.side())
+    searched_system(alloc, system, pick.unknown, pick.lower)
 }
 
 #[tactic(auto, using(crate::proofs::SearchLaws::searched_is))]
@@ -55,14 +54,14 @@ fn searched_system(
     alloc: Global,
     system: System,
     unknown: u32,
-    side: Side,
+    lower: bool,
 ) -> Result<Searched, NoMemory>
     requires rows { EachRow (AreBelow (system_of system).next) (system_of system).inequalities }
     requires column { unknown < (system_of system).next }
-    ensures { IfOk result (λ s. searched_answer s ≡ searched (system_of system) unknown (is_lower side)) }
+    ensures { IfOk result (λ s. searched_answer s ≡ searched (system_of system) unknown lower) }
 {
     let (rest, rows) = split_system(alloc, system);
-    let found = find_all(alloc, rows, rest.next, unknown, side)?;
+    let found = find_all(alloc, rows, rest.next, unknown, lower)?;
     with_found(rest, found)
 }
 
@@ -92,11 +91,11 @@ fn find_all(
     rows: Vec<Row>,
     next: u32,
     unknown: u32,
-    side: Side,
+    lower: bool,
 ) -> Result<SearchBuilder, NoMemory>
     requires rows { EachRow (AreBelow next) rows.items }
     requires column { unknown < next }
-    ensures { IfOk result (λ f. found_of f ≡ found_all unknown (is_lower side) (found_from next) rows.items) }
+    ensures { IfOk result (λ f. found_of f ≡ found_all unknown lower (found_from next) rows.items) }
 {
     let mut left = rows;
     left.reverse();
@@ -109,28 +108,28 @@ fn find_all(
         bounds: Vec::new(alloc),
     };
     while let Some(row) = left.pop() {
-        found.add(alloc, unknown, side, row)?;
+        found.add(alloc, unknown, lower, row)?;
     }
     Ok(found)
 }
 
 // Whether the coefficient is one above 1 of a bound on the side.
-fn searches(side: Side, k: i128) -> bool
-    ensures { result ≡ is_searched (is_lower side) k }
+fn searches(lower: bool, k: i128) -> bool
+    ensures { result ≡ is_searched lower k }
 {
-    k.unsigned_abs() > 1 && side.has(k)
+    k.unsigned_abs() > 1 && is_side(lower, k)
 }
 
 impl SearchBuilder {
     // Adds a row, or what takes its place.
-    fn add(&mut self, alloc: Global, unknown: u32, side: Side, row: Row) -> Result<(), NoMemory>
+    fn add(&mut self, alloc: Global, unknown: u32, lower: bool, row: Row) -> Result<(), NoMemory>
         requires below { AreBelow self.old.next row }
         requires column { unknown < self.old.next }
-        ensures value { OnOk result (found_of self.new ≡ found_row unknown (is_lower side) (found_of self.old) row) }
+        ensures value { OnOk result (found_of self.new ≡ found_row unknown lower (found_of self.old) row) }
         ensures grown { OnOk result (self.old.next ≤ self.new.next) }
     {
-        if searches(side, row.entry(unknown)) {
-            self.add_search(alloc, unknown, side, &row)
+        if searches(lower, row.entry(unknown)) {
+            self.add_search(alloc, unknown, lower, &row)
         } else {
             self.rows.push(row)?;
             Ok(())
@@ -143,13 +142,13 @@ impl SearchBuilder {
         &mut self,
         alloc: Global,
         unknown: u32,
-        side: Side,
+        lower: bool,
         row: &Row,
     ) -> Result<(), NoMemory>
         requires below { AreBelow self.old.next row.now }
         requires column { unknown < self.old.next }
-        requires wanted { searches unknown (is_lower side) row.now ≡ true }
-        ensures value { OnOk result (found_of self.new ≡ found_row unknown (is_lower side) (found_of self.old) row.now) }
+        requires wanted { searches unknown lower row.now ≡ true }
+        ensures value { OnOk result (found_of self.new ≡ found_row unknown lower (found_of self.old) row.now) }
         ensures grown { OnOk result (self.old.next ≤ self.new.next) }
     {
         let column = self.next;
@@ -157,8 +156,8 @@ impl SearchBuilder {
             return Err(NoMemory);
         };
         let search = search_column(column, row.entry(unknown))?;
-        let equation = search_equation(alloc, unknown, side, column, row)?;
-        let rest = search_bound(alloc, unknown, side, column)?;
+        let equation = search_equation(alloc, unknown, lower, column, row)?;
+        let rest = search_bound(alloc, unknown, lower, column)?;
         self.extend(next, equation, rest, search)?;
         Ok(())
     }

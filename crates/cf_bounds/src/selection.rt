@@ -3,11 +3,10 @@ ghost use Rattle.std.specs.Prelude.{◌≡◌, ◌<◌, ◌*◌, ◌-◌, ◌^�
 ghost use Rattle.std.specs.List.{list_any};
 ghost use Rattle.cf_linear.specs.Steps.{pick_at, is_better};
 ghost use Rattle.cf_linear.specs.Views.{system_of};
-ghost use Rattle.cf_linear.specs.Sides.{is_lower, is_side};
-ghost use Rattle.cf_bounds.specs.Sides.{is_great, side, side_product};
+ghost use Rattle.cf_bounds.specs.Sides.{is_great, is_side, side, side_product};
 ghost use Rattle.cf_bounds.specs.Picking.{pick_of, picked};
 
-use cf_linear::{Row, Side, System};
+use cf_linear::{Row, System};
 
 /// The unknown that goes next, by its lower or its upper bounds, the product of their coefficients, 1
 /// where no search is needed, and how many pairs its bounds make. Both stop at `2^64 - 1`.
@@ -51,13 +50,6 @@ fn better(first: Pick, second: Pick) -> Pick
 }
 
 impl Pick {
-    /// The side by whose bounds it goes.
-    pub fn side(&self) -> Side
-        ensures { is_lower result ≡ self.now.lower }
-    {
-        Side::of(self.lower)
-    }
-
     fn is_better(&self, other: &Pick) -> bool
         ensures { result ≡ is_better (pick_of self.now) (pick_of other.now) }
     {
@@ -71,9 +63,9 @@ fn pick_at(rows: &[Row], unknown: u32) -> Pick
     ensures { length rows.now < 2 ^ 32 → pick_of result ≡ pick_at rows.now unknown }
 {
     let pairs = pairs_at(rows, unknown);
-    if has_greater(rows, unknown, Side::Lower) && has_greater(rows, unknown, Side::Upper) {
-        let low = product(rows, unknown, Side::Lower);
-        let high = product(rows, unknown, Side::Upper);
+    if has_greater(rows, unknown, true) && has_greater(rows, unknown, false) {
+        let low = product(rows, unknown, true);
+        let high = product(rows, unknown, false);
         Pick {
             unknown,
             lower: low <= high,
@@ -95,48 +87,63 @@ fn pick_at(rows: &[Row], unknown: u32) -> Pick
 fn pairs_at(rows: &[Row], unknown: u32) -> u64
     ensures { length rows.now < 2 ^ 32 → result ≡ (pick_at rows.now unknown).pairs }
 {
-    let low = count(rows, unknown, Side::Lower) as u64;
-    let high = count(rows, unknown, Side::Upper) as u64;
+    let low = count(rows, unknown, true) as u64;
+    let high = count(rows, unknown, false) as u64;
     low.saturating_mul(high)
 }
 
 // How many bounds the unknown has on the side.
 #[tactic(auto, using(crate::proofs::PickLaws::count_side))]
-fn count(rows: &[Row], unknown: u32, of: Side) -> usize
-    ensures { result ≡ length (side (is_lower of) unknown rows.now) }
+fn count(rows: &[Row], unknown: u32, lower: bool) -> usize
+    ensures { result ≡ length (side lower unknown rows.now) }
 {
-    rows.iter().filter(|r| of.has(r.entry(unknown))).count()
+    rows.iter()
+        .filter(|r| is_side(lower, r.entry(unknown)))
+        .count()
 }
 
 // Whether the unknown has a bound on the side with a coefficient above 1.
-fn has_greater(rows: &[Row], unknown: u32, side: Side) -> bool
-    ensures { result ≡ list_any (is_great (is_lower side) unknown) rows.now }
+fn has_greater(rows: &[Row], unknown: u32, lower: bool) -> bool
+    ensures { result ≡ list_any (is_great lower unknown) rows.now }
 {
     for row in rows {
-        if side.has_great(row.entry(unknown)) {
+        if is_greater(lower, row.entry(unknown)) {
             return true;
         }
     }
     false
 }
 
+fn is_greater(lower: bool, k: i128) -> bool
+    ensures { result ≡ (is_side lower k && nat_lt 1 (unsigned_abs k)) }
+{
+    is_side(lower, k) && k.unsigned_abs() > 1
+}
+
+// Whether the coefficient is one of a bound on the side.
+pub(crate) fn is_side(lower: bool, k: i128) -> bool
+    ensures { result ≡ is_side lower k }
+{
+    if lower { k > 0 } else { k < 0 }
+}
+
 // The product of the coefficients on the side, which stops at the greatest number.
 #[tactic(auto, using(crate::proofs::PickLaws::product_next))]
-fn product(rows: &[Row], unknown: u32, side: Side) -> u64
-    ensures { result ≡ side_product (is_lower side) unknown 1 rows.now }
+fn product(rows: &[Row], unknown: u32, lower: bool) -> u64
+    ensures { result ≡ side_product lower unknown 1 rows.now }
 {
     let mut product = 1;
     for row in rows {
-        product = times(product, side, row.entry(unknown));
+        product = times(product, lower, row.entry(unknown));
     }
     product
 }
 
 // `n`, times the size of the coefficient where that is one on the side.
-fn times(n: u64, side: Side, k: i128) -> u64
-    ensures { result ≡ (if is_side (is_lower side) k then min (n * unsigned_abs k) (2 ^ 64 - 1) else n) }
+fn times(n: u64, lower: bool, k: i128) -> u64
+    ensures { result ≡ (if is_side lower k then min (n * unsigned_abs k) (2 ^ 64 - 1) else n) }
 {
-    if !side.has(k) {
+    if !is_side(lower, k) {
         return n;
     }
     let product = (n as u128).saturating_mul(k.unsigned_abs());

@@ -7,7 +7,7 @@ use Rattle.cf_linear.specs.Rows.{Row}
 use Rattle.cf_linear.specs.Systems.{System, Answer, need_divides, need_nonneg, need_zero, floor_of, How, row_how, greatest, least}
 use Rattle.cf_linear.specs.Steps.{clean, mix, last, searched, dropped}
 use Rattle.cf_linear.specs.Stages.{Limits, limits}
-use Rattle.cf_steps.specs.declared.act.Act.TheVariants.{Clean, Mix, Last, Search as SearchAct, Drop}
+use Rattle.cf_elim.specs.declared.act.Act.TheVariants.{Clean, Mix, Last, Search as SearchAct, Drop}
 use Rattle.cf_cert.specs.declared.verdict.Why.TheVariants.{Unknown, Factor, Single, Held, Exact, Left, Refused}
 use Rattle.cf_cert.specs.Applying.{apply}
 use Rattle.cf_cert.specs.Certifying.{follow, eliminated}

@@ -37,8 +37,8 @@ use Rattle.cf_elim.proofs.SearchLaws.{IsSome, bounds_of, searched_some}
 use Rattle.cf_elim.proofs.SmallRows.{any_parts, all_mixed_small, two_small}
 use Rattle.cf_elim.proofs.StageSmall.{RowsSmall, AnswerSmall, clean_small, last_small, searched_small, dropped_small}
 use Rattle.cf_elim.proofs.StepReturns.{some_unknown, returns_clean, returns_last, returns_mix, returns_searched, returns_dropped}
-use Rattle.cf_steps.specs.declared.act.Act.{Act}
-use Rattle.cf_steps.specs.declared.act.Act.TheVariants.{Clean, Mix, Last, Search as SearchAct, Drop}
+use Rattle.cf_elim.specs.declared.act.Act.{Act}
+use Rattle.cf_elim.specs.declared.act.Act.TheVariants.{Clean, Mix, Last, Search as SearchAct, Drop}
 use Rattle.cf_cert.specs.declared.verdict.Why.{Why}
 use Rattle.cf_cert.specs.declared.verdict.Why.TheVariants.{Unknown, Factor, Single, Held, Exact, Refused}
 use Rattle.cf_cert.specs.Applying.{IsWithinAct, Applied, rejected_if, refused_by, is_held, has_inexact, determinant, determinant_passes, last_of, last_at, apply}

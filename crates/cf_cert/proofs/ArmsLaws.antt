@@ -20,7 +20,7 @@ use Rattle.cf_choose.specs.Eliminations.{CanBegin}
 use Rattle.cf_choose.proofs.DoneLemmas.{rest_of, rest_more}
 use Rattle.cf_choose.proofs.MadeArms.{arm_same}
 use Rattle.cf_cases.proofs.FirstSystemLaws.{pow_small}
-use Rattle.cf_steps.specs.declared.act.Act.{Act}
+use Rattle.cf_elim.specs.declared.act.Act.{Act}
 use Rattle.cf_cert.specs.declared.follow.CaseFault.{CaseFault}
 use Rattle.cf_cert.specs.declared.follow.CaseFault.TheVariants.{Rejected, NoMemory}
 use Rattle.cf_cert.specs.declared.verdict.Why.{Why}

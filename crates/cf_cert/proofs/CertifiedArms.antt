@@ -25,17 +25,18 @@ use Rattle.cf_elim.proofs.StageSmall.{RowsSmall}
 use Rattle.cf_venn.specs.Columns.{known_values, outputs_from}
 use Rattle.cf_venn.specs.Laws.{AreOutputs}
 use Rattle.cf_venn.proofs.SolvingLaws.{solved_by_counts}
-use Rattle.cf_choose.proofs.ArmFacts.{IsArmOf}
+use Rattle.cf_choose.specs.CaseArms.{IsArmOf}
 use Rattle.cf_choose.proofs.ArmLemmas.{solved_arm}
 use Rattle.cf_choose.proofs.CaseLemmas.{few_sets}
 use Rattle.cf_choose.proofs.ChooseLevels.{IsFirst, each_first, are_outputs}
 use Rattle.cf_choose.proofs.FirstRows.{firsts_small}
 use Rattle.cf_cases.proofs.FirstSystemLaws.{IsBegun, first_systems_begun}
-use Rattle.cf_steps.specs.declared.act.Act.{Act}
+use Rattle.cf_elim.specs.declared.act.Act.{Act}
 use Rattle.cf_steps.specs.Blocks.{BlockTree}
-use Rattle.cf_cert.specs.Certifying.{QuestionTree, layout, eliminated, AreEliminated, target_with, Certifies}
+use Rattle.cf_tree.specs.ChooseTree.{ChooseTree}
+use Rattle.cf_cert.specs.Certifying.{layout, eliminated, AreEliminated, target_with, Certifies}
 use Rattle.cf_cert.specs.Applying.{IsWithinAct}
-use Rattle.cf_cert.specs.Laws.{IsQuestion, MeansSolutions, CertifiedMeans}
+use Rattle.cf_cert.specs.Laws.{IsLinearChoose, MeansSolutions, CertifiedMeans}
 use Rattle.cf_cert.proofs.FollowLaws.{eliminated_solves}
 
 -- ---- arms of systems, one for each
@@ -124,14 +125,14 @@ module _ (scope outputs : List Base) (rel : RelTree) (outs : AreOutputs outputs)
 pub certified_means : CertifiedMeans
 certified_means q b h w c env have =
     let l = layout q in
-    let placed = placed-rel q.scope q.outputs q.rel h.typed h.linear in
+    let placed = placed-rel q.scope q.outputs q.relation h.typed h.linear in
     let outs = are_outputs q.outputs h.are_outputs in
-    let few = few_sets l q.rel c.counts in
+    let few = few_sets l q.relation c.counts in
     let ts = map (arm l) c.answers in
-    let arms = each_arm q.scope q.outputs q.rel outs few (first_systems l q.rel) b.cases c.answers (each_first l q.rel placed)
-    (first_systems_begun l q.rel placed)
-    (firsts_small l q.rel placed c.written) w c.cases in
-    let solves = arms_solve q.scope q.outputs q.rel ts h.typed h.linear outs arms in
-    let typed = arms_typed q.scope q.outputs q.rel (first_systems l q.rel) ts arms in
-    subst (λ (t : TargetTree). Chosen q.number (Sol q.outputs q.rel env) (means t.code env)) (sym c.target)
-    (solve_chosen q.number q.scope q.outputs q.rel (arms_of ts) solves typed env have)
+    let arms = each_arm q.scope q.outputs q.relation outs few (first_systems l q.relation) b.cases c.answers (each_first l q.relation placed)
+    (first_systems_begun l q.relation placed)
+    (firsts_small l q.relation placed c.written) w c.cases in
+    let solves = arms_solve q.scope q.outputs q.relation ts h.typed h.linear outs arms in
+    let typed = arms_typed q.scope q.outputs q.relation (first_systems l q.relation) ts arms in
+    subst (λ (t : TargetTree). Chosen q.number (Sol q.outputs q.relation env) (means t.code env)) (sym c.target)
+    (solve_chosen q.number q.scope q.outputs q.relation (arms_of ts) solves typed env have)

@@ -21,7 +21,7 @@ use Rattle.cf_elim.specs.Stages.{IsReady}
 use Rattle.cf_elim.proofs.ReturnLaws.{returns_none, returns_then}
 use Rattle.cf_elim.proofs.SearchLaws.{IsSome, bounds_of, some_then, are_bounds}
 use Rattle.cf_elim.proofs.StageSmall.{StepsSmall, BackSmall, RowsSmall, steps_join, back_join}
-use Rattle.cf_steps.specs.declared.act.Act.{Act}
+use Rattle.cf_elim.specs.declared.act.Act.{Act}
 use Rattle.cf_cert.specs.declared.verdict.Why.{Why}
 use Rattle.cf_cert.specs.declared.verdict.Why.TheVariants.{Left}
 use Rattle.cf_cert.specs.Applying.{Applied, apply, IsWithinAct}

@@ -19,15 +19,14 @@ use Rattle.cf_linear.proofs.BoolLemmas.{on_bool, within_cases}
 use Rattle.cf_equation.specs.Equations.{first_of, rest_of, first_present, equation_answer, equation_passes}
 use Rattle.cf_bounds.specs.Exact.{IsFree, AreExact}
 use Rattle.cf_linear.proofs.SideLemmas.{positive_so, negative_so}
-use Rattle.cf_linear.specs.Sides.{is_side}
-use Rattle.cf_bounds.specs.Sides.{is_great}
+use Rattle.cf_bounds.specs.Sides.{is_side, is_great}
 use Rattle.cf_elim.specs.declared.fault.ElimFault.{ElimFault}
 use Rattle.cf_elim.specs.declared.fault.ElimFault.TheVariants.{Refused as ElimRefused, NoMemory as ElimNoMemory}
 use Rattle.cf_elim.specs.Stages.{CountIs, CountsAre, count_refusal, IsReady, made_answer}
 use Rattle.cf_elim.specs.Bounds.{DropRefused, DropIs}
 use Rattle.cf_elim.proofs.NextStageLaws.{counts_refuse}
-use Rattle.cf_steps.specs.declared.act.Act.{Act}
-use Rattle.cf_steps.specs.declared.act.Act.TheVariants.{Clean, Mix, Last, Search as SearchAct, Drop}
+use Rattle.cf_elim.specs.declared.act.Act.{Act}
+use Rattle.cf_elim.specs.declared.act.Act.TheVariants.{Clean, Mix, Last, Search as SearchAct, Drop}
 use Rattle.cf_cert.specs.declared.next.ApplyFault.{ApplyFault}
 use Rattle.cf_cert.specs.declared.next.Next.{Next}
 use Rattle.cf_cert.specs.declared.verdict.Why.{Why}

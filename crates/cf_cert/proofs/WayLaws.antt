@@ -17,7 +17,7 @@ use Rattle.cf_elim.specs.declared.output.RunOutput.{RunOutput}
 use Rattle.cf_elim.specs.declared.output.StepOutput.{StepOutput}
 use Rattle.cf_elim.specs.Stages.{IsReady, made_answer, whole_answer, CountIs}
 use Rattle.cf_elim.proofs.CaseLaws.{whole_none, whole_more}
-use Rattle.cf_steps.specs.declared.act.Act.{Act}
+use Rattle.cf_elim.specs.declared.act.Act.{Act}
 use Rattle.cf_cert.specs.declared.follow.Way.{Way}
 use Rattle.cf_cert.specs.declared.follow.CaseFault.{CaseFault}
 use Rattle.cf_cert.specs.declared.next.ApplyFault.{ApplyFault}

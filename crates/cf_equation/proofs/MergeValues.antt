@@ -3,7 +3,7 @@ use Rattle.std.proofs.Common.{◌≡◌, ℕ, ◌+◌, ℤ, refl, ap}
 use Rattle.cf_linear.specs.Rows.{Row, entry}
 use Rattle.cf_linear.specs.Systems.{System}
 use Rattle.cf_linear.specs.Steps.{mix, mix_passes, merge, merge_passes, two_at, Factors, factors_of}
-use Rattle.cf_linear.specs.declared.merge_factors.MergeFactors.{MergeFactors}
+use Rattle.cf_linear.specs.declared.merge.MergeFactors.{MergeFactors}
 use Rattle.cf_linear.specs.Factors.{plain_factors}
 use Rattle.cf_equation.specs.Equations.{first_of}
 use Rattle.cf_equation.specs.Merging.{mixed_answer}

@@ -1,5 +1,5 @@
 -- Cases on truth values, and tests of the limit.
-use Rattle.std.proofs.Common.{◌≡◌, ◌⊎◌, ◌-◌, ◌^◌, ℤ, pos, ◌+ℤ◌, ◌*ℤ◌, true, false, Option, Some, None, refl, arith, ◌∙◌, inl, inr, ⊎_elim}
+use Rattle.std.proofs.Common.{◌≡◌, ◌⊎◌, ◌-◌, ◌^◌, ℤ, pos, ◌+ℤ◌, ◌*ℤ◌, Bool, true, false, Option, Some, None, refl, arith, ◌∙◌, inl, inr, ⊎_elim}
 use Rattle.std.specs.Prelude.{unsigned_abs, nat_le}
 use Rattle.std.proofs.lemmas.Int.{ints}
 use Rattle.cf_num.specs.Limit.{within}
@@ -43,9 +43,6 @@ pub two_products-some : (a k b m z : ℤ) → Some z ≡ two_products a k b m �
 two_products-some a k b m z e = on_bool (sum_passes a k b m)
     (λ t. let q : Some z ≡ None = rw t at e in cc)
     (λ t. let q : Some z ≡ Some (a *ℤ k +ℤ b *ℤ m) = rw t at e in (t, cc))
-
-pub two_products-none : (a k b m : ℤ) → None ≡ two_products a k b m → sum_passes a k b m ≡ true
-two_products-none a k b m e = on_bool (sum_passes a k b m) (λ t. t) (λ t. let q : None ≡ Some (a *ℤ k +ℤ b *ℤ m) = rw t at e in cc)
 
 pub zeros_fine : (a b : ℤ) → sum_passes a (pos 0) b (pos 0) ≡ false
 zeros_fine a b =

@@ -1,5 +1,5 @@
 -- The condition of every step: what follows from it, and rows after a replacement.
-use Rattle.std.proofs.Common.{◌≡◌, ◌≢◌, ℕ, ◌<◌, ◌≤◌, pos, List, [], ◌∷◌, sym, subst, ◌⊎◌, inl, inr, ⊎_elim}
+use Rattle.std.proofs.Common.{◌≡◌, ◌≢◌, ℕ, ◌<◌, ◌≤◌, pos, List, [], ◌∷◌, not, ◌==◌, sym, subst, ◌⊎◌, inl, inr, ⊎_elim}
 use Rattle.cf_linear.specs.Rows.{Row, Values, entry, Rises, without}
 use Rattle.cf_linear.specs.Systems.{System, EachRow, How, Answer}
 use Rattle.cf_linear.specs.Steps.{subst_all}

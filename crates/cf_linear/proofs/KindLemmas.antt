@@ -1,8 +1,8 @@
 -- Rows whose columns are of a kind, lists of rows, and lists of columns.
-use Rattle.std.proofs.Common.{◌≡◌, ◌≢◌, ℕ, ◌<◌, ◌≤◌, ℤ, pos, ◌+ℤ◌, ◌*ℤ◌, List, [], ◌∷◌, ◌++◌, Bool, true, false, not, cond, ◌==◌, refl, sym, ◌∙◌, ap, arith, suc, ◌⊎◌, inl, inr, ⊎_elim}
+use Rattle.std.proofs.Common.{◌≡◌, ◌≢◌, ℕ, ◌<◌, ◌≤◌, ◌+◌, ℤ, pos, ◌+ℤ◌, ◌*ℤ◌, List, [], ◌∷◌, ◌++◌, Bool, true, false, not, cond, ◌==◌, refl, sym, ◌∙◌, ap, arith, suc, subst, ◌⊎◌, inl, inr, ⊎_elim}
 use Rattle.std.specs.Prelude.{◌≤ℤ◌, filter, nat_lt}
 use Rattle.std.proofs.lemmas.Int.{ints}
-use Rattle.std.proofs.lemmas.Bool.{cond_both, eqb-true, eqb-false, eq-eqb, true≢false}
+use Rattle.std.proofs.lemmas.Bool.{cond_both, eqb-true, eqb-false, eq-eqb, ne_eqb, true≢false}
 use Rattle.cf_linear.specs.Rows.{Row, Values, entry, value, comb, is_zero, put, add_at, Rises, without}
 use Rattle.cf_linear.specs.Systems.{EachRow, Step, floor_of, need_nonneg, need_zero, need_divides}
 use Rattle.cf_linear.specs.Keep.{In, Over}

@@ -1,18 +1,21 @@
 -- The first refusals of worked chooses: each is computed.
-use Rattle.std.proofs.Common.{◌≡◌, pos, refl, [], ◌∷◌, Some, None}
+use Rattle.std.proofs.Common.{◌≡◌, pos, negsuc, refl, [], ◌∷◌, Some, None}
 use Rattle.cf_tree.specs.declared.base.Base.TheVariants.{Int, Set}
-use Rattle.cf_tree.specs.declared.base.Order.TheVariants.{Ne, Lt, Le, Ge}
-use Rattle.cf_tree.specs.RelTree.{term_lit, term_var, term_neg, term_add, term_sub, term_mul, term_div, term_abs}
-use Rattle.cf_tree.specs.RelTree.{RelTree, rel_compare, rel_and}
-use Rattle.cf_linear.specs.declared.refusal.LimitKind.TheVariants.{Search, Sets}
+use Rattle.cf_tree.specs.declared.base.Order.TheVariants.{Eq, Ne, Lt, Le, Gt, Ge}
+use Rattle.cf_tree.specs.RelTree.{empty_set, set_var, union_of, inter_of, diff_of, term_lit, term_var, term_card, term_neg, term_add, term_sub, term_mul, term_div, term_mod, term_abs}
+use Rattle.cf_tree.specs.RelTree.{RelTree, rel_true, rel_false, rel_compare, rel_same_set, rel_other_set, rel_subset, rel_divides, rel_and, rel_or, rel_not}
+use Rattle.cf_tree.specs.CodeTree.{code_lit, code_var, code_set_of, code_sum, code_mul, code_neg, code_div, code_max, code_min, code_compare, code_divides, code_union, code_inter}
+use Rattle.cf_tree.specs.CodeTree.{code_diff, code_card, code_slice, code_fresh, let_item, need_item, arm_of, codes_of, items_of}
+use Rattle.cf_linear.specs.declared.refusal.LimitKind.TheVariants.{Cases, Rows, Columns, Search, Sets}
 use Rattle.cf_linear.specs.declared.refusal.Refusal.TheVariants.{Past, Limit}
 use Rattle.cf_num.specs.Divisors.{gcd_by, factors_by}
 use Rattle.cf_num.specs.Parts.{parts_of}
 use Rattle.cf_linear.specs.Steps.{clean, mix, factors_of, merge, merge_passes, merge_factor, last, pick, searched, dropped, searched_by, bound, bound_passes, bound_factor}
 use Rattle.cf_linear.specs.Stages.{run, run_for, clean_stage, equation_stage, bound_stage, unknown_stage, row_stage, stage}
+use Rattle.cf_linear.specs.Layout.{layout_of}
 use Rattle.cf_linear.specs.Cases.{disjuncts, case_count, system_of_case, first_systems, write_atom, written_passes}
 use Rattle.cf_linear.specs.Arm.{arm}
-use Rattle.cf_linear.specs.Chooses.{arms, first_refused, refusal_by, limit}
+use Rattle.cf_linear.specs.Chooses.{arms, first_refused, refusal_by, limit, growth_of_case, growth}
 
 abbrev search_first : RelTree
 search_first = rel_compare Le (term_div (term_mul (term_neg (term_lit (pos 170141183460469231731687303715884105727))) (term_var 0)) (pos

@@ -1,5 +1,5 @@
 -- A whole elimination keeps what its steps keep, with the tuple in front.
-use Rattle.std.proofs.Common.{◌≡◌, ℕ, ◌<◌, ◌≤◌, ℤ, pos, List, [], ◌∷◌, ◌++◌, ◌==◌, refl, sym, ◌∙◌, ap, arith, suc, subst, ◌⊎◌, inl, inr, ⊎_elim}
+use Rattle.std.proofs.Common.{◌≡◌, ◌≢◌, ℕ, ◌<◌, ◌≤◌, ℤ, pos, List, [], ◌∷◌, ◌++◌, ◌==◌, refl, sym, ◌∙◌, ap, arith, suc, subst, ◌⊎◌, inl, inr, ⊎_elim}
 use Rattle.std.specs.Prelude.{◌≤ℤ◌, ◌<ℤ◌, map}
 use Rattle.std.specs.Int.{int_div_euclid}
 use Rattle.std.proofs.lemmas.Bool.{cond_both, eqb-true, eqb-false}

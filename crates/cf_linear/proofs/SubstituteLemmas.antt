@@ -1,5 +1,5 @@
 -- Rows without a column.
-use Rattle.std.proofs.Common.{◌≡◌, ◌≢◌, ℕ, ◌+◌, ◌<◌, ℤ, pos, ◌*ℤ◌, [], ◌∷◌, ◌++◌, not, ◌==◌, refl, sym, ◌∙◌, ap, arith, get_or, length, take}
+use Rattle.std.proofs.Common.{◌≡◌, ◌≢◌, ℕ, ◌+◌, ◌<◌, ℤ, pos, ◌*ℤ◌, [], ◌∷◌, ◌++◌, Bool, true, false, not, ◌==◌, refl, sym, ◌∙◌, ap, arith, get_or, length, take}
 use Rattle.std.proofs.lemmas.Bool.{cond_both, ne_eqb, eq-eqb, lt-ltb}
 use Rattle.std.proofs.lemmas.Int.{ints}
 use Rattle.std.proofs.lemmas.List.{append-nil}

@@ -1,15 +1,15 @@
 -- Values of rows: columns that agree, a row in the place of a column, and what fits them.
-use Rattle.std.proofs.Common.{◌≡◌, ◌≢◌, ℕ, ◌<◌, ◌≤◌, ℤ, pos, ◌+ℤ◌, ◌*ℤ◌, List, [], ◌∷◌, ◌++◌, Bool, not, ◌==◌, refl, sym, ◌∙◌, ap, arith, subst}
-use Rattle.std.specs.Prelude.{◌≤ℤ◌, filter}
+use Rattle.std.proofs.Common.{◌≡◌, ◌≢◌, ℕ, ◌<◌, ◌≤◌, ℤ, pos, ◌+ℤ◌, ◌*ℤ◌, List, [], ◌∷◌, ◌++◌, Bool, not, cond, ◌==◌, refl, sym, ◌∙◌, ap, arith, subst}
+use Rattle.std.specs.Prelude.{◌≤ℤ◌, ◌<ℤ◌, filter}
 use Rattle.std.specs.Int.{int_div_euclid}
 use Rattle.std.proofs.lemmas.Int.{ints}
-use Rattle.std.proofs.lemmas.Bool.{cond_both, eqb-true, eq-eqb}
+use Rattle.std.proofs.lemmas.Bool.{cond_both, eqb-true, eqb-false, eq-eqb}
 use Rattle.cf_num.proofs.Ring.{ring}
-use Rattle.cf_linear.specs.Rows.{Row, Values, entry, value, without, subst_row}
+use Rattle.cf_linear.specs.Rows.{Row, Values, entry, value, comb, without, subst_row}
 use Rattle.cf_linear.specs.Relations.{Divides}
 use Rattle.cf_linear.specs.Systems.{EachRow, Step, floor_of, need_nonneg, need_zero, need_divides}
 use Rattle.cf_linear.specs.Steps.{subst_all}
-use Rattle.cf_linear.specs.Keep.{Same, AllFit, Within, update}
+use Rattle.cf_linear.specs.Keep.{Over, Same, AllFit, Within, update}
 use Rattle.cf_linear.proofs.RowLemmas.{value-comb}
 use Rattle.cf_linear.proofs.KindLemmas.{Below, Below-more}
 

@@ -5,11 +5,11 @@ use Rattle.std.proofs.lemmas.Nat.{pow_pos}
 use Rattle.cf_tree.specs.RelTree.{TermTree, term_lit, term_var, term_card, term_neg, term_add, term_sub, term_mul, term_div, term_mod, term_abs}
 use Rattle.cf_linear.specs.declared.refusal.RowFault.{RowFault}
 use Rattle.cf_linear.specs.declared.refusal.RowFault.TheVariants.{Past, NoMemory}
-use Rattle.cf_linear.specs.declared.written.Writer.{Writer}
+use Rattle.cf_linear.specs.declared.written.Part.{Part}
 use Rattle.cf_linear.specs.Rows.{Row}
 use Rattle.cf_linear.specs.Layout.{Layout, first_free, set_count}
-use Rattle.cf_linear.specs.Written.{GuardTree, WrittenTree, alone, from_one, from_two, with_quotient, first_sign, signed_by, write, quotient_count}
-use Rattle.cf_linear.specs.Parts.{guards_of, IsPart, WrittenAnswer, RowAnswer, DividedAnswer}
+use Rattle.cf_linear.specs.Written.{GuardTree, WrittenTree, alone, from_two, with_quotient, first_sign, signed_by, write, quotient_count}
+use Rattle.cf_linear.specs.Parts.{IsPart, WrittenAnswer, PartAnswer, DividedAnswer}
 
 signed-next : (b : Bool) (w : WrittenTree) → (signed_by b w).next ≡ w.next
 signed-next true w = refl
@@ -34,49 +34,38 @@ pub next_positive : (l : Layout) (t : TermTree) (ss : List Bool) (q n : ℕ) →
 next_positive l t ss q n h e = omega (arith, write-next l t ss q, pow_pos (length l.inputs), pow_pos (set_count l))
 
 -- ---- forms made of written parts
-pub leaf_gives : (r : Row) (ss : List Bool) (d : Writer) (y : Result Row RowFault) → RowAnswer r y →
-    WrittenAnswer (alone r (drop d.used ss) d.next) ss (guards_of d) d y
-leaf_gives r ss d (Ok x) g = record { row_is = g.0; guards_are = sym (append-nil (guards_of d)); next_is = refl; left = refl; fits = g.1 }
-leaf_gives r ss d (Err Past) g = g
-leaf_gives r ss d (Err NoMemory) g = tt
+pub leaf_gives : (r : Row) (ss : List Bool) (b : List GuardTree) (next used : ℕ) (y : Result Part RowFault) → PartAnswer r next used y →
+    WrittenAnswer (alone r (drop used ss) next) ss b b y
+leaf_gives r ss b next used (Ok p) g = record { row_is = g.0; guards_are = sym (append-nil b); next_is = g.1; left = rw g.2 refl; fits = g.3 }
+leaf_gives r ss b next used (Err Past) g = g
+leaf_gives r ss b next used (Err NoMemory) g = tt
 
-module _ (w : WrittenTree) (ss : List Bool) (b : List GuardTree) (d : Writer) (x : Row) (q : IsPart w ss b d x) where
-  pub one_gives : (f : Row → Row) (y : Result Row RowFault) → RowAnswer (f x) y → WrittenAnswer (from_one w (f w.row)) ss b d y
-  one_gives f (Ok z) g = record {
-    row_is = g.0 ∙ rw (← q.row_is) refl;
-    guards_are = q.guards_are;
-    next_is = q.next_is;
-    left = q.left;
-    fits = rw (q.fits, ← q.row_is) g.1;
-  }
-  one_gives f (Err Past) g = rw (q.fits, ← q.row_is) g
-  one_gives f (Err NoMemory) g = tt
-
-  pub two_gives : (f : Row → Row → Row) (v : List Bool → ℕ → WrittenTree) (e : Writer) (x2 : Row) (y : Result Row RowFault) →
-      IsPart (v (drop d.used ss) d.next) ss (guards_of d) e x2 → RowAnswer (f x x2) y →
-      WrittenAnswer (from_two w (v w.signs w.next) (f w.row (v w.signs w.next).row)) ss b e y
-  two_gives f v e x2 y p g = both (v w.signs w.next) (rw (q.left, q.next_is) at p) y g
+module _ (w : WrittenTree) (ss : List Bool) (b0 b1 : List GuardTree) (x : Row) (n u : ℕ) (q : IsPart w ss b0 b1 x n u) where
+  pub two_gives : (f : Row → Row → Row) (v : List Bool → ℕ → WrittenTree) (b2 : List GuardTree) (x2 : Row) (n2 u2 : ℕ) (y : Result Part RowFault) →
+      IsPart (v (drop u ss) n) ss b1 b2 x2 n2 u2 → PartAnswer (f x x2) n2 u2 y →
+      WrittenAnswer (from_two w (v w.signs w.next) (f w.row (v w.signs w.next).row)) ss b0 b2 y
+  two_gives f v b2 x2 n2 u2 y p g = both (v w.signs w.next) (rw (q.left, q.next_is) at p) y g
     where
-      both : (t : WrittenTree) → IsPart t ss (guards_of d) e x2 → (y : Result Row RowFault) → RowAnswer (f x x2) y →
-          WrittenAnswer (from_two w t (f w.row t.row)) ss b e y
+      both : (t : WrittenTree) → IsPart t ss b1 b2 x2 n2 u2 → (y : Result Part RowFault) → PartAnswer (f x x2) n2 u2 y →
+          WrittenAnswer (from_two w t (f w.row t.row)) ss b0 b2 y
       both t p (Ok z) g = record {
         row_is = g.0 ∙ rw (← q.row_is, ← p.row_is) refl;
         guards_are = p.guards_are ∙ rw (q.guards_are, append_assoc) refl;
-        next_is = p.next_is;
-        left = p.left;
-        fits = rw (q.fits, p.fits, ← q.row_is, ← p.row_is) g.1;
+        next_is = g.1 ∙ p.next_is;
+        left = rw g.2 p.left;
+        fits = rw (q.fits, p.fits, ← q.row_is, ← p.row_is) g.3;
       }
       both t p (Err Past) g = rw (q.fits, p.fits, ← q.row_is, ← p.row_is) g
       both t p (Err NoMemory) g = tt
 
-  pub divided_gives : (f : ℕ → Row → Row) (k : ℤ) (e : Writer) (y : Result Row RowFault) → DividedAnswer (f d.next x) x k d e y →
-      WrittenAnswer (with_quotient w k (f w.next w.row)) ss b e y
-  divided_gives f k e (Ok z) g = record {
+  pub divided_gives : (f : ℕ → Row → Row) (k : ℤ) (b2 : List GuardTree) (y : Result Part RowFault) → DividedAnswer (f n x) n x k u b1 b2 y →
+      WrittenAnswer (with_quotient w k (f w.next w.row)) ss b0 b2 y
+  divided_gives f k b2 (Ok p) g = record {
     row_is = g.0 ∙ rw (← q.row_is, ← q.next_is) refl;
     guards_are = g.4 ∙ rw (q.guards_are, append_assoc, ← q.row_is, ← q.next_is) refl;
     next_is = g.1 ∙ ap (λ m. m + 1) q.next_is;
     left = rw g.2 q.left;
     fits = rw (q.fits, ← q.row_is, ← q.next_is) g.3;
   }
-  divided_gives f k e (Err Past) g = rw (q.fits, ← q.row_is, ← q.next_is) g
-  divided_gives f k e (Err NoMemory) g = tt
+  divided_gives f k b2 (Err Past) g = rw (q.fits, ← q.row_is, ← q.next_is) g
+  divided_gives f k b2 (Err NoMemory) g = tt

@@ -1,7 +1,7 @@
 -- The factors of a Merge.
 use Rattle.cf_num.specs.Limit.{IsWithin}
 use Rattle.cf_linear.specs.Steps.{Factors}
-use Rattle.cf_linear.specs.declared.merge_factors.MergeFactors.{MergeFactors}
+use Rattle.cf_linear.specs.declared.merge.MergeFactors.{MergeFactors}
 
 abbrev pub plain_factors : MergeFactors → Factors
 plain_factors f = record { s = f.s; m = f.m; t = f.t; n = f.n }

@@ -16,5 +16,4 @@ pub mod Solved
 pub mod Factors
 pub mod RowParts
 pub mod Searching
-pub mod Sides
 pub mod Unknowns

@@ -1,11 +1,10 @@
 -- What the private calls of `row_of` answer.
-use Rattle.std.specs.Prelude.{◌≡◌, ℕ, ◌+◌, ℤ, ◌+ℤ◌, ◌*ℤ◌, Bool, true, false, List, [], ◌∷◌, ◌++◌, ◌||◌, drop, map, Result, Ok, Err}
+use Rattle.std.specs.Prelude.{◌≡◌, ℕ, ◌+◌, ℤ, ◌+ℤ◌, ◌*ℤ◌, Bool, true, false, List, [], ◌∷◌, ◌++◌, ◌||◌, drop, Result, Ok, Err}
 use Rattle.cf_linear.specs.declared.refusal.RowFault.{RowFault}
 use Rattle.cf_linear.specs.declared.refusal.RowFault.TheVariants.{Past, NoMemory}
-use Rattle.cf_linear.specs.declared.written.Writer.{Writer}
+use Rattle.cf_linear.specs.declared.written.Part.{Part}
 use Rattle.cf_linear.specs.Rows.{Row, entry, passes, sum_passes, row_passes}
 use Rattle.cf_linear.specs.Written.{GuardTree, quotient_guard, above_quotient, below_quotient, WrittenTree, first_sign, other_signs, signed_by}
-use Rattle.cf_linear.specs.Views.{guard_of}
 
 -- a fault that is Past only where b
 abbrev pub IsRowFault : Bool → RowFault → Type 0
@@ -26,28 +25,36 @@ Tested r (Err e) = IsRowFault (row_passes r) e
 abbrev pub OnlySums : ℤ → Row → ℤ → Row → Type 0
 OnlySums a r b s = (c : ℕ) → sum_passes a (entry r c) b (entry s c) ≡ true → passes (a *ℤ entry r c +ℤ b *ℤ entry s c) ≡ true
 
--- the guards that are written so far
-abbrev pub guards_of : Writer → List GuardTree
-guards_of d = map guard_of d.guards.items
-
--- the row of the written part w, whose guards, columns and signs the writer d has now
-pub record IsPart (w : WrittenTree) (signs : List Bool) (before : List GuardTree) (d : Writer) (row : Row) : Type 0 where
+-- the row, the next free column and the number of used signs of the written part w, which added its guards
+pub record IsPart (w : WrittenTree) (signs : List Bool) (before after : List GuardTree) (row : Row) (next used : ℕ) : Type 0 where
   pub row_is : row ≡ w.row
-  pub guards_are : guards_of d ≡ before ++ w.guards
-  pub next_is : d.next ≡ w.next
-  pub left : drop d.used signs ≡ w.signs
+  pub guards_are : after ≡ before ++ w.guards
+  pub next_is : next ≡ w.next
+  pub left : drop used signs ≡ w.signs
   pub fits : w.passes ≡ false
 
-abbrev pub WrittenAnswer : WrittenTree → List Bool → List GuardTree → Writer → Result Row RowFault → Type 0
-WrittenAnswer w signs before d (Ok r) = IsPart w signs before d r
-WrittenAnswer w signs before d (Err e) = IsRowFault w.passes e
+abbrev pub WrittenAnswer : WrittenTree → List Bool → List GuardTree → List GuardTree → Result Part RowFault → Type 0
+WrittenAnswer w signs before after (Ok p) = IsPart w signs before after p.row p.next p.used
+WrittenAnswer w signs before after (Err e) = IsRowFault w.passes e
 
--- the row y, after the guard of the quotient of r by k in the next column was added
-abbrev pub DividedAnswer : Row → Row → ℤ → Writer → Writer → Result Row RowFault → Type 0
-DividedAnswer y r k d e (Ok x) =
-    (x ≡ y) × (e.next ≡ d.next + 1) × (e.used ≡ d.used) × ((row_passes (above_quotient d.next r k) || row_passes (below_quotient d.next r k)) ≡ false) ×
-    (guards_of e ≡ guards_of d ++ (quotient_guard d.next r k ∷ []))
-DividedAnswer y r k d e (Err f) = IsRowFault (row_passes (above_quotient d.next r k) || row_passes (below_quotient d.next r k)) f
+-- a part of the row, which goes on at this column and after so many signs, or Past where an entry of the row passes the limit
+abbrev pub PartAnswer : Row → ℕ → ℕ → Result Part RowFault → Type 0
+PartAnswer r next used (Ok p) = (p.row ≡ r) × (p.next ≡ next) × (p.used ≡ used) × (row_passes r ≡ false)
+PartAnswer r next used (Err e) = IsRowFault (row_passes r) e
+
+-- a part of the row f c r, after the guard of the quotient of r in column c was added
+abbrev pub DividedAnswer : Row → ℕ → Row → ℤ → ℕ → List GuardTree → List GuardTree → Result Part RowFault → Type 0
+DividedAnswer y c r k used before after (Ok p) =
+    (p.row ≡ y) × (p.next ≡ c + 1) × (p.used ≡ used) × ((row_passes (above_quotient c r k) || row_passes (below_quotient c r k)) ≡ false) ×
+    (after ≡ before ++ (quotient_guard c r k ∷ []))
+DividedAnswer y c r k used before after (Err e) = IsRowFault (row_passes (above_quotient c r k) || row_passes (below_quotient c r k)) e
+
+-- the row of the remainder, after the guard of the quotient in column c was added
+abbrev pub QuotientAnswer : ℕ → Row → ℤ → List GuardTree → List GuardTree → Result Row RowFault → Type 0
+QuotientAnswer c r k before after (Ok x) =
+    (x ≡ above_quotient c r k) × ((row_passes (above_quotient c r k) || row_passes (below_quotient c r k)) ≡ false) ×
+    (after ≡ before ++ (quotient_guard c r k ∷ []))
+QuotientAnswer c r k before after (Err e) = IsRowFault (row_passes (above_quotient c r k) || row_passes (below_quotient c r k)) e
 
 -- the guard g was added, or Past where b
 abbrev pub GuardAnswer : Bool → GuardTree → List GuardTree → List GuardTree → Result (Unit {0}) RowFault → Type 0
@@ -69,9 +76,9 @@ SignedAnswer b r before after (Ok x) = (x ≡ (signed_by b (bare r)).row) × ((s
     (after ≡ before ++ (signed_by b (bare r)).guards)
 SignedAnswer b r before after (Err e) = IsRowFault (signed_by b (bare r)).passes e
 
--- the same with the first of the signs that are left
-abbrev pub AbsoluteAnswer : List Bool → List Bool → Row → Writer → Writer → Result Row RowFault → Type 0
-AbsoluteAnswer rest signs r d e (Ok x) =
-    (x ≡ (signed_by (first_sign rest) (bare r)).row) × (e.next ≡ d.next) × (drop e.used signs ≡ other_signs rest) ×
-    ((signed_by (first_sign rest) (bare r)).passes ≡ false) × (guards_of e ≡ guards_of d ++ (signed_by (first_sign rest) (bare r)).guards)
-AbsoluteAnswer rest signs r d e (Err f) = IsRowFault (signed_by (first_sign rest) (bare r)).passes f
+-- the same of a part, with the first of the signs that are left
+abbrev pub AbsoluteAnswer : List Bool → List Bool → Row → ℕ → List GuardTree → List GuardTree → Result Part RowFault → Type 0
+AbsoluteAnswer rest signs r next before after (Ok p) =
+    (p.row ≡ (signed_by (first_sign rest) (bare r)).row) × (p.next ≡ next) × (drop p.used signs ≡ other_signs rest) ×
+    ((signed_by (first_sign rest) (bare r)).passes ≡ false) × (after ≡ before ++ (signed_by (first_sign rest) (bare r)).guards)
+AbsoluteAnswer rest signs r next before after (Err e) = IsRowFault (signed_by (first_sign rest) (bare r)).passes e

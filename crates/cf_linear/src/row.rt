@@ -90,11 +90,10 @@ impl Row {
             let column = next_column(self, i, other, j);
             let (k, next_i) = self.take_at(i, column);
             let (m, next_j) = other.take_at(j, column);
-            let sum = match two_products(a, k, b, m) {
-                Some(sum) => sum,
-                None => return Err(RowFault::Past),
-            };
-            out.append(column, sum)?;
+            match out.append_sum(column, a, k, b, m) {
+                Ok(()) => {}
+                Err(fault) => return Err(fault),
+            }
             i = next_i;
             j = next_j;
         }
@@ -144,7 +143,10 @@ impl Row {
         let mut total: i128 = 0;
         for i in 0..self.len() {
             let (column, k) = self.at(i);
-            total = next_sum(total, k, values[column as usize])?;
+            match next_sum(total, k, values[column as usize]) {
+                Some(next) => total = next,
+                None => return None,
+            }
         }
         Some(total)
     }
@@ -218,6 +220,33 @@ impl Row {
             self.entries.insert(column, k)?;
         }
         Ok(())
+    }
+
+    // Adds `a * k + b * m` at the end, if it is not 0.
+    fn append_sum(
+        &mut self,
+        column: u32,
+        a: i128,
+        k: i128,
+        b: i128,
+        m: i128,
+    ) -> Result<(), RowFault>
+        requires after { AreBelow column self.old }
+        requires a_in { IsWithin a }
+        requires k_in { IsWithin k }
+        requires b_in { IsWithin b }
+        requires m_in { IsWithin m }
+        ensures value { OnOk result (self.new ≡ self.old ++ put column (a *ℤ k +ℤ b *ℤ m) []) }
+        ensures fits { OnOk result (sum_passes a k b m ≡ false) }
+        ensures past { result ≡ Err RowFault.Past → sum_passes a k b m ≡ true }
+    {
+        match two_products(a, k, b, m) {
+            Some(z) => match self.append(column, z) {
+                Ok(()) => Ok(()),
+                Err(_) => Err(RowFault::NoMemory),
+            },
+            None => Err(RowFault::Past),
+        }
     }
 
     // The entry at the column of what is left from `i` on, and where the rest is.

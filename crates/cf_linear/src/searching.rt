@@ -4,10 +4,8 @@ ghost use Rattle.cf_num.specs.Limit.{IsWithin};
 ghost use Rattle.cf_linear.specs.Rows.{AreBelow, put};
 ghost use Rattle.cf_linear.specs.Steps.{searches, search_equation, search_bound};
 ghost use Rattle.cf_linear.specs.Searching.{equation_start};
-ghost use Rattle.cf_linear.specs.Sides.{is_lower};
 
 use crate::row::Row;
-use crate::side::Side;
 use crate::system::Search;
 use cf_num::neg;
 use cf_tree::NoMemory;
@@ -20,14 +18,20 @@ use std::alloc::Global;
 pub fn search_column(column: u32, k: i128) -> Result<Search, NoMemory>
     ensures { IfOk result (λ s. (s.column ≡ column) × (s.bound ≡ unsigned_abs k)) }
 {
-    let bound = k.unsigned_abs();
-    if bound > u32::MAX as u128 {
-        return Err(NoMemory);
+    let bound = size(k)?;
+    Ok(Search { column, bound })
+}
+
+// The size of the coefficient, if it has at most 32 bits.
+fn size(k: i128) -> Result<u32, NoMemory>
+    ensures { IfOk result (λ n. n ≡ unsigned_abs k) }
+{
+    let size = k.unsigned_abs();
+    if size > u32::MAX as u128 {
+        Err(NoMemory)
+    } else {
+        Ok(size as u32)
     }
-    Ok(Search {
-        column,
-        bound: bound as u32,
-    })
 }
 
 /// `-l + k - p * n` for a lower bound `p * x + l >= 0`, and `m - k - q * n` for an upper bound `-q * x + m >= 0`,
@@ -39,43 +43,58 @@ pub fn search_column(column: u32, k: i128) -> Result<Search, NoMemory>
 pub fn search_equation(
     alloc: Global,
     unknown: u32,
-    side: Side,
+    lower: bool,
     column: u32,
     row: &Row,
 ) -> Result<Row, NoMemory>
     requires below { AreBelow column row.now }
     requires room { column + 1 < 2 ^ 32 }
-    requires wanted { searches unknown (is_lower side) row.now ≡ true }
-    ensures { IfOk result (λ r. r ≡ search_equation unknown (is_lower side) column row.now) }
+    requires wanted { searches unknown lower row.now ≡ true }
+    ensures { IfOk result (λ r. r ≡ search_equation unknown lower column row.now) }
 {
-    let mut equation = equation_start(alloc, unknown, side, row)?;
-    equation.append(column, side.sign())?;
-    equation.append(column + 1, side_coefficient(side, row.entry(unknown)))?;
-    Ok(equation)
+    let start = equation_start(alloc, unknown, lower, row)?;
+    let longer = appended(start, column, side_sign(lower))?;
+    appended(
+        longer,
+        column + 1,
+        side_coefficient(lower, row.entry(unknown)),
+    )
+}
+
+// The row with the entry at the end.
+fn appended(row: Row, column: u32, k: i128) -> Result<Row, NoMemory>
+    requires after { AreBelow column row }
+    requires k_in { IsWithin k }
+    ensures { IfOk result (λ r. r ≡ row ++ put column k []) }
+{
+    let mut out = row;
+    out.append(column, k)?;
+    Ok(out)
+}
+
+fn side_sign(lower: bool) -> i128
+    ensures value { result ≡ (if lower then pos 1 else negsuc 0) }
+    ensures fits { IsWithin result }
+{
+    if lower { 1 } else { -1 }
 }
 
 // The coefficient, with the other sign for a lower bound.
-fn side_coefficient(side: Side, k: i128) -> i128
+fn side_coefficient(lower: bool, k: i128) -> i128
     requires { IsWithin k }
-    ensures value { result ≡ (if is_lower side then neg_ℤ k else k) }
+    ensures value { result ≡ (if lower then neg_ℤ k else k) }
     ensures fits { IsWithin result }
 {
-    match side {
-        Side::Lower => neg(k),
-        Side::Upper => k,
-    }
+    if lower { neg(k) } else { k }
 }
 
 // The rest of the bound, with the other signs for a lower one.
-#[tactic(auto, using(crate::proofs::PartColumns::comb_first))]
-fn equation_start(alloc: Global, unknown: u32, side: Side, row: &Row) -> Result<Row, NoMemory>
-    ensures { IfOk result (λ r. r ≡ equation_start unknown (is_lower side) row.now) }
+#[tactic(auto, using(crate::proofs::ColumnLemmas::comb_first))]
+fn equation_start(alloc: Global, unknown: u32, lower: bool, row: &Row) -> Result<Row, NoMemory>
+    ensures { IfOk result (λ r. r ≡ equation_start unknown lower row.now) }
 {
     let rest = row.without(alloc, unknown)?;
-    match side {
-        Side::Lower => rest.negated(alloc),
-        Side::Upper => Ok(rest),
-    }
+    if lower { rest.negated(alloc) } else { Ok(rest) }
 }
 
 /// `x - n` for a lower bound, and `-x + n` for an upper one, x being the unknown and n the column after
@@ -83,13 +102,14 @@ fn equation_start(alloc: Global, unknown: u32, side: Side, row: &Row) -> Result<
 ///
 /// # Errors
 /// `NoMemory` where memory ran out.
-pub fn search_bound(alloc: Global, unknown: u32, side: Side, column: u32) -> Result<Row, NoMemory>
+pub fn search_bound(alloc: Global, unknown: u32, lower: bool, column: u32) -> Result<Row, NoMemory>
     requires after { unknown < column }
     requires room { column + 1 < 2 ^ 32 }
-    ensures { IfOk result (λ r. r ≡ search_bound unknown (is_lower side) column) }
+    ensures { IfOk result (λ r. r ≡ search_bound unknown lower column) }
 {
-    match side {
-        Side::Lower => Row::two_at(alloc, 1, unknown, -1, column + 1),
-        Side::Upper => Row::two_at(alloc, -1, unknown, 1, column + 1),
+    if lower {
+        Row::two_at(alloc, 1, unknown, -1, column + 1)
+    } else {
+        Row::two_at(alloc, -1, unknown, 1, column + 1)
     }
 }

@@ -6,7 +6,7 @@ ghost use Rattle.cf_tree.specs.Relation.{IsLinearTerm, is_fixed, IsDivisor};
 ghost use Rattle.cf_linear.specs.Rows.{Values, IsRow, value, put, comb, row_passes};
 ghost use Rattle.cf_linear.specs.Layout.{set_count, first_free, covers, region_row};
 ghost use Rattle.cf_linear.specs.Written.{first_sign, other_signs, plus, above_quotient, below_quotient, product_by, write, val_at, GuardsHold, IsPlaced, abs_count, quotient_count, sign_guard};
-ghost use Rattle.cf_linear.specs.Parts.{WrittenAnswer, guards_of, RowAnswer, DividedAnswer, AbsoluteAnswer, SignedAnswer, GuardAnswer, BackAnswer, Tested};
+ghost use Rattle.cf_linear.specs.Parts.{WrittenAnswer, RowAnswer, PartAnswer, DividedAnswer, AbsoluteAnswer, QuotientAnswer, SignedAnswer, GuardAnswer, BackAnswer, Tested};
 ghost use Rattle.cf_linear.specs.Views.{plain_layout, guard_of};
 ghost use Rattle.cf_linear.specs.declared.refusal.TheConstants.{MOST_SETS};
 
@@ -59,17 +59,12 @@ pub fn row_of(
     ensures fits { IfOk result (λ w. (write (plain_layout layout.now) (term_tree term.now) signs.now next).passes ≡ false) }
     ensures past { result ≡ Err RowFault.Past → (write (plain_layout layout.now) (term_tree term.now) signs.now next).passes ≡ true }
 {
-    let mut writer = Writer {
-        alloc,
-        guards: Vec::new(alloc),
-        next,
-        used: 0,
-    };
-    let row = part_of(term, layout, signs, &mut writer)?;
+    let mut guards = Vec::new(alloc);
+    let part = part_of(alloc, term, layout, signs, 0, next, &mut guards)?;
     Ok(Written {
-        row,
-        guards: writer.guards,
-        next: writer.next,
+        row: part.row,
+        guards,
+        next: part.next,
     })
 }
 
@@ -92,8 +87,10 @@ pub fn below_quotient(alloc: Global, column: u32, of: &Row, k: &i128) -> Result<
     ensures { RowAnswer (below_quotient column of.now k.now) result }
 {
     let quotient = Row::unit(alloc, column, 1)?;
-    let turned = of.sum(alloc, -1, &quotient, *k)?;
-    plus(alloc, &turned, *k - 1)
+    match of.sum(alloc, -1, &quotient, *k) {
+        Ok(turned) => plus(alloc, &turned, *k - 1),
+        Err(fault) => Err(fault),
+    }
 }
 
 /// The row with `n` more at the constant. Past exactly where an entry of the answer passes the limit.
@@ -105,65 +102,72 @@ pub fn plus(alloc: Global, row: &Row, n: i128) -> Result<Row, RowFault>
     added(alloc, row, &constant)
 }
 
-// What is written of a form beside its row: the guards of its parts, the next free column, and how many
-// signs are used.
+// What is written of a form: its row, the next free column, and how many signs are used.
 #[derive(Drop)]
-struct Writer {
-    alloc: Global,
-    guards: Vec<Guard>,
+struct Part {
+    row: Row,
     next: u32,
     used: usize,
 }
 
-// The row of a form; its guards, columns and signs are those after the ones of the writer.
+// Writes a form of which `used` signs were used before it, and adds the guards of its parts.
 fn part_of(
+    alloc: Global,
     term: &Term,
     layout: &Layout,
     signs: &[bool],
-    writer: &mut Writer,
-) -> Result<Row, RowFault>
+    used: usize,
+    next: u32,
+    guards: &mut Vec<Guard>,
+) -> Result<Part, RowFault>
     requires placed { IsPlaced (plain_layout layout.now) (term_tree term.now) }
     requires sets { set_count (plain_layout layout.now) ≤ MOST_SETS }
-    requires above { first_free (plain_layout layout.now) ≤ writer.old.next }
-    requires room { writer.old.next + quotient_count (term_tree term.now) < 2 ^ 32 }
-    ensures gives { WrittenAnswer (write (plain_layout layout.now) (term_tree term.now) (drop writer.old.used signs.now) writer.old.next) signs.now
-        (guards_of writer.old) writer.new result }
-    ensures next { IfOk result (λ _. writer.new.next ≡ writer.old.next + quotient_count (term_tree term.now)) }
+    requires above { first_free (plain_layout layout.now) ≤ next }
+    requires room { next + quotient_count (term_tree term.now) < 2 ^ 32 }
+    ensures gives { WrittenAnswer (write (plain_layout layout.now) (term_tree term.now) (drop used signs.now) next) signs.now (map guard_of guards.old.items)
+        (map guard_of guards.new.items) result }
+    ensures next { IfOk result (λ p. p.next ≡ next + quotient_count (term_tree term.now)) }
 {
     match term {
-        Term::Lit(n) => unit_of(writer.alloc, 0, n),
-        Term::Var(x) => unit_of(writer.alloc, number_column(layout, *x), &1),
-        Term::Card(set) => count_of(writer.alloc, layout, set),
+        Term::Lit(n) => unit_of(alloc, 0, n, next, used),
+        Term::Var(x) => unit_of(alloc, number_column(layout, *x), &1, next, used),
+        Term::Card(set) => count_of(alloc, layout, set, next, used),
         Term::Neg(a) => {
-            let row = part_of(a, layout, signs, writer)?;
-            row.times(writer.alloc, -1)
+            let part = part_of(alloc, a, layout, signs, used, next, guards)?;
+            negated_of(alloc, part)
         }
         Term::Add(a, b) => {
-            let left = part_of(a, layout, signs, writer)?;
-            let right = part_of(b, layout, signs, writer)?;
-            added(writer.alloc, &left, &right)
+            let left = part_of(alloc, a, layout, signs, used, next, guards)?;
+            match part_of(alloc, b, layout, signs, left.used, left.next, guards) {
+                Ok(right) => sum_of(alloc, left, right),
+                Err(fault) => Err(without(left, fault)),
+            }
         }
         Term::Sub(a, b) => {
-            let left = part_of(a, layout, signs, writer)?;
-            let right = part_of(b, layout, signs, writer)?;
-            subtracted(writer.alloc, &left, &right)
+            let left = part_of(alloc, a, layout, signs, used, next, guards)?;
+            match part_of(alloc, b, layout, signs, left.used, left.next, guards) {
+                Ok(right) => difference_of(alloc, left, right),
+                Err(fault) => Err(without(left, fault)),
+            }
         }
         Term::Mul(a, b) => {
-            let left = part_of(a, layout, signs, writer)?;
-            let right = part_of(b, layout, signs, writer)?;
-            multiplied(writer.alloc, is_fixed(a), &left, &right)
+            let left = part_of(alloc, a, layout, signs, used, next, guards)?;
+            match part_of(alloc, b, layout, signs, left.used, left.next, guards) {
+                Ok(right) => product_of(alloc, is_fixed(a), left, right),
+                Err(fault) => Err(without(left, fault)),
+            }
         }
         Term::Div(a, k) => {
-            let row = part_of(a, layout, signs, writer)?;
-            quotient_of(writer, row, k)
+            let part = part_of(alloc, a, layout, signs, used, next, guards)?;
+            quotient_of(alloc, guards, part, k)
         }
         Term::Mod(a, k) => {
-            let row = part_of(a, layout, signs, writer)?;
-            remainder_of(writer, row, k)
+            let part = part_of(alloc, a, layout, signs, used, next, guards)?;
+            remainder_of(alloc, guards, part, k)
         }
         Term::Abs(a) => {
-            let row = part_of(a, layout, signs, writer)?;
-            absolute_of(writer, signs, row)
+            let part = part_of(alloc, a, layout, signs, used, next, guards)?;
+            absolute_of(alloc, guards, signs, part)
         }
     }
 }
@@ -176,56 +180,134 @@ fn without<T: Drop>(_value: T, fault: RowFault) -> RowFault
 }
 
 // `n` times a column.
-fn unit_of(alloc: Global, column: u32, n: &i128) -> Result<Row, RowFault>
+fn unit_of(alloc: Global, column: u32, n: &i128, next: u32, used: usize) -> Result<Part, RowFault>
     requires { IsWithin n.now }
-    ensures { RowAnswer (put column n.now []) result }
+    ensures { PartAnswer (put column n.now []) next used result }
 {
-    Ok(Row::unit(alloc, column, *n)?)
+    let row = Row::unit(alloc, column, *n)?;
+    Ok(Part { row, next, used })
 }
 
 // The sum of the counts of the regions in the set form.
-fn count_of(alloc: Global, layout: &Layout, set: &SetTerm) -> Result<Row, RowFault>
+fn count_of(
+    alloc: Global,
+    layout: &Layout,
+    set: &SetTerm,
+    next: u32,
+    used: usize,
+) -> Result<Part, RowFault>
     requires sets { set_count (plain_layout layout.now) ≤ MOST_SETS }
     requires room { first_free (plain_layout layout.now) < 2 ^ 32 }
-    ensures { RowAnswer (region_row (plain_layout layout.now) (covers (plain_layout layout.now) (set_tree set.now))) result }
+    ensures { PartAnswer (region_row (plain_layout layout.now) (covers (plain_layout layout.now) (set_tree set.now))) next used result }
 {
-    Ok(region_row(alloc, layout, set)?)
+    let row = region_row(alloc, layout, set)?;
+    Ok(Part { row, next, used })
 }
 
-// The quotient of the row by `k`, in a column of its own.
-fn quotient_of(writer: &mut Writer, of: Row, k: &i128) -> Result<Row, RowFault>
-    requires column { 1 ≤ writer.old.next }
-    requires room { writer.old.next + 1 < 2 ^ 32 }
+// The part with the other signs.
+fn negated_of(alloc: Global, part: Part) -> Result<Part, RowFault>
+    ensures { PartAnswer (comb (negsuc 0) part.row (pos 0) []) part.next part.used result }
+{
+    let (next, used) = (part.next, part.used);
+    let row = part.row.times(alloc, -1);
+    drop(part);
+    let row = row?;
+    Ok(Part { row, next, used })
+}
+
+// The sum of two parts, the second written after the first.
+fn sum_of(alloc: Global, left: Part, right: Part) -> Result<Part, RowFault>
+    ensures { PartAnswer (comb (pos 1) left.row (pos 1) right.row) right.next right.used result }
+{
+    let (next, used) = (right.next, right.used);
+    let row = added(alloc, &left.row, &right.row);
+    drop(left);
+    drop(right);
+    let row = row?;
+    Ok(Part { row, next, used })
+}
+
+// The difference of two parts, the second written after the first.
+fn difference_of(alloc: Global, left: Part, right: Part) -> Result<Part, RowFault>
+    ensures { PartAnswer (comb (pos 1) left.row (negsuc 0) right.row) right.next right.used result }
+{
+    let (next, used) = (right.next, right.used);
+    let row = subtracted(alloc, &left.row, &right.row);
+    drop(left);
+    drop(right);
+    let row = row?;
+    Ok(Part { row, next, used })
+}
+
+// The product of two parts, the second written after the first.
+fn product_of(alloc: Global, is_left_fixed: bool, left: Part, right: Part) -> Result<Part, RowFault>
+    ensures { PartAnswer (product_by is_left_fixed left.row right.row) right.next right.used result }
+{
+    let (next, used) = (right.next, right.used);
+    let row = multiplied(alloc, is_left_fixed, &left.row, &right.row);
+    drop(left);
+    drop(right);
+    let row = row?;
+    Ok(Part { row, next, used })
+}
+
+// The quotient of the part by `k`, in a column of its own.
+fn quotient_of(
+    alloc: Global,
+    guards: &mut Vec<Guard>,
+    part: Part,
+    k: &i128,
+) -> Result<Part, RowFault>
+    requires column { 1 ≤ part.next }
+    requires room { part.next + 1 < 2 ^ 32 }
     requires divisor { IsDivisor k.now }
-    ensures { DividedAnswer (put writer.old.next (pos 1) []) of k.now writer.old writer.new result }
+    ensures { DividedAnswer (put part.next (pos 1) []) part.next part.row k.now part.used (map guard_of guards.old.items) (map guard_of guards.new.items) result }
 {
-    let column = writer.next;
-    remainder_of(writer, of, k)?;
-    Ok(Row::unit(writer.alloc, column, 1)?)
+    let (column, used) = (part.next, part.used);
+    add_quotient(alloc, guards, column, part.row, k)?;
+    let row = Row::unit(alloc, column, 1)?;
+    Ok(Part {
+        row,
+        next: column + 1,
+        used,
+    })
 }
 
-// The remainder of the row by `k`, the quotient in a column of its own, of which the guard is added.
-fn remainder_of(writer: &mut Writer, of: Row, k: &i128) -> Result<Row, RowFault>
-    requires column { 1 ≤ writer.old.next }
-    requires room { writer.old.next + 1 < 2 ^ 32 }
+// The remainder of the part by `k`, the quotient in a column of its own.
+fn remainder_of(
+    alloc: Global,
+    guards: &mut Vec<Guard>,
+    part: Part,
+    k: &i128,
+) -> Result<Part, RowFault>
+    requires column { 1 ≤ part.next }
+    requires room { part.next + 1 < 2 ^ 32 }
     requires divisor { IsDivisor k.now }
-    ensures { DividedAnswer (above_quotient writer.old.next of k.now) of k.now writer.old writer.new result }
+    ensures { DividedAnswer (above_quotient part.next part.row k.now) part.next part.row k.now part.used (map guard_of guards.old.items)
+        (map guard_of guards.new.items) result }
 {
-    let column = writer.next;
-    let above = above_quotient(writer.alloc, column, &of, k)?;
-    test_below(writer.alloc, column, &of, k)?;
-    writer.guards.push(Guard::Quotient { column, of, k: *k })?;
-    writer.next = column + 1;
-    Ok(above)
+    let (column, used) = (part.next, part.used);
+    let row = add_quotient(alloc, guards, column, part.row, k)?;
+    Ok(Part {
+        row,
+        next: column + 1,
+        used,
+    })
 }
 
-// The row with the next sign.
-fn absolute_of(writer: &mut Writer, signs: &[bool], row: Row) -> Result<Row, RowFault>
-    ensures { AbsoluteAnswer (drop writer.old.used signs.now) signs.now row writer.old writer.new result }
+// The part with the next sign.
+fn absolute_of(
+    alloc: Global,
+    guards: &mut Vec<Guard>,
+    signs: &[bool],
+    part: Part,
+) -> Result<Part, RowFault>
+    ensures { AbsoluteAnswer (drop part.used signs.now) signs.now part.row part.next (map guard_of guards.old.items) (map guard_of guards.new.items) result }
 {
-    let (minus, used) = take_sign(signs, writer.used);
-    writer.used = used;
-    add_sign(writer.alloc, &mut writer.guards, minus, row)
+    let next = part.next;
+    let (minus, used) = take_sign(signs, part.used);
+    let row = add_sign(alloc, guards, minus, part.row)?;
+    Ok(Part { row, next, used })
 }
 
 // The sum of two rows.
@@ -252,6 +334,24 @@ fn multiplied(alloc: Global, is_left_fixed: bool, left: &Row, right: &Row) -> Re
     } else {
         left.times(alloc, right.entry(0))
     }
+}
+
+// Adds the guard of the quotient of the row by `k`, and gives the row of the remainder.
+fn add_quotient(
+    alloc: Global,
+    guards: &mut Vec<Guard>,
+    column: u32,
+    of: Row,
+    k: &i128,
+) -> Result<Row, RowFault>
+    requires column { 1 ≤ column }
+    requires divisor { IsDivisor k.now }
+    ensures { QuotientAnswer column of k.now (map guard_of guards.old.items) (map guard_of guards.new.items) result }
+{
+    let above = above_quotient(alloc, column, &of, k)?;
+    test_below(alloc, column, &of, k)?;
+    guards.push(Guard::Quotient { column, of, k: *k })?;
+    Ok(above)
 }
 
 // Past exactly where an entry passes the limit of the row that is at least 0 where the column is at

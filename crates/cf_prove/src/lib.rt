@@ -3,6 +3,5 @@
 
 pub mod laws;
 mod proving;
-mod trace;
 
 pub use crate::proving::prove;

@@ -1,7 +1,6 @@
 use Rattle.std.proofs.Common.{◌≡◌, take}
-use Rattle.cf_linear.specs.Sides.{is_lower}
 use Rattle.cf_bounds.specs.Sides.{side}
 use Rattle.cf_bounds.proofs.dropping.side.Given as goal
 
 abbrev pub invariant-loop-row : goal.invariant-loop-row
-invariant-loop-row l = l.out.items ≡ side (is_lower l.of) l.unknown (take l.row-index l.rows)
+invariant-loop-row l = l.out.items ≡ side l.lower l.unknown (take l.row-index l.rows)

@@ -1,8 +1,7 @@
 use Rattle.std.proofs.Common.{◌≡◌, drop}
 use Rattle.std.specs.List.{list_any}
-use Rattle.cf_linear.specs.Sides.{is_lower}
 use Rattle.cf_bounds.specs.Sides.{is_great}
 use Rattle.cf_bounds.proofs.selection.has_greater.Given as goal
 
 abbrev pub invariant-loop-row : goal.invariant-loop-row
-invariant-loop-row l = list_any (is_great (is_lower l.side) l.unknown) l.rows ≡ list_any (is_great (is_lower l.side) l.unknown) (drop l.row-index l.rows)
+invariant-loop-row l = list_any (is_great l.lower l.unknown) l.rows ≡ list_any (is_great l.lower l.unknown) (drop l.row-index l.rows)

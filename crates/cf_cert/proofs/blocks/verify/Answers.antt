@@ -2,7 +2,8 @@ use Rattle.std.proofs.Common.{map, subst, sym, ◌≡◌, Ok}
 use Rattle.std.specs.Prelude.{IfOk}
 use Rattle.cf_steps.specs.Blocks.{block_tree, block_trees}
 use Rattle.cf_cert.specs.Judging.{IsVerdict}
-use Rattle.cf_cert.specs.Verifying.{question_tree, HasFewActs}
+use Rattle.cf_tree.specs.ChooseView.{choose_tree}
+use Rattle.cf_cert.specs.Verifying.{HasFewActs}
 use Rattle.cf_cases.specs.Holding.{EachOf}
 use Rattle.cf_cert.proofs.VerdictLaws.{each_has_few, verdict_means}
 use Rattle.cf_cert.proofs.blocks.verify.Goals as goal
@@ -14,5 +15,5 @@ judge_each-requires-clause-few c =
 pub returns-clause-means : goal.returns-clause-means
 returns-clause-means c e =
     let v = rw c.deref.ensures.value at c.judge_each.ensures in
-    verdict_means (map question_tree c.args.questions.now) (block_trees c.args.blocks.now) c.requires.questions c.requires.within
-    (subst (λ r. IfOk r (IsVerdict (map question_tree c.args.questions.now) (block_trees c.args.blocks.now))) e v)
+    verdict_means (map choose_tree c.args.questions.now) (block_trees c.args.blocks.now) c.requires.questions c.requires.within
+    (subst (λ r. IfOk r (IsVerdict (map choose_tree c.args.questions.now) (block_trees c.args.blocks.now))) e v)

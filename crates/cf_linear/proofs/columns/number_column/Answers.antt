@@ -1,4 +1,4 @@
-use Rattle.std.proofs.Common.{◌<◌, ◌≤◌, length, arith}
+use Rattle.std.proofs.Common.{◌≡◌, ◌<◌, ◌≤◌, length, arith}
 use Rattle.cf_linear.specs.Layout.{place}
 use Rattle.cf_linear.proofs.ColumnLemmas.{has_below, has_not}
 use Rattle.cf_linear.proofs.columns.number_column.Goals as goal

@@ -1,4 +1,4 @@
-use Rattle.std.proofs.Common.{◌≡◌, ◌<◌, ◌+◌, true, false, arith, sym, ◌∙◌}
+use Rattle.std.proofs.Common.{◌≡◌, ◌<◌, ◌+◌, ◌++◌, ◌∷◌, [], pos, true, false, arith, sym, ◌∙◌}
 use Rattle.cf_tree.specs.RelView.{set_tree}
 use Rattle.cf_linear.specs.Layout.{covers, region_column}
 use Rattle.cf_linear.specs.Views.{plain_layout}

@@ -1,4 +1,4 @@
-use Rattle.std.proofs.Common.{◌<◌, ◌≤◌, length, arith, sym, ◌∙◌}
+use Rattle.std.proofs.Common.{◌≡◌, ◌<◌, ◌≤◌, length, arith, sym, ◌∙◌}
 use Rattle.cf_linear.specs.Layout.{place}
 use Rattle.cf_linear.proofs.ColumnLemmas.{place-append, place-append_after}
 use Rattle.cf_linear.proofs.columns.set_place.Goals as goal

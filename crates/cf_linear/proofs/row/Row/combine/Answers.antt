@@ -1,30 +1,31 @@
-use Rattle.std.proofs.Common.{◌≡◌, ◌≤◌, ◌+ℤ◌, ◌*ℤ◌, [], ◌++◌, length, arith, ap, ◌∙◌}
-use Rattle.cf_linear.specs.Rows.{Row, entry, put}
+use Rattle.std.proofs.Common.{◌≡◌, ◌≤◌, length, arith, Result, Err, refl, ap, ◌∙◌}
+use Rattle.cf_linear.specs.Rows.{Row, entry}
 use Rattle.cf_linear.proofs.MapLemmas.{back}
-use Rattle.cf_linear.proofs.BoolLemmas.{two_products-some, two_products-none}
 use Rattle.cf_linear.proofs.RowLemmas.{entry-comb}
 use Rattle.cf_linear.proofs.Joining.{joined, below_least, joining_less, joining_past, joining_done}
 use Rattle.cf_linear.proofs.row.Row.combine.Goals as goal
 
-pub append-requires-clause-after : goal.append-requires-clause-after
-append-requires-clause-after c =
+err_is : {A E : Type 0} {x y : E} → ◌≡◌ {A = Result A E} (Err x) (Err y) → x ≡ y
+err_is h = cc
+
+pub append_sum-requires-clause-after : goal.append_sum-requires-clause-after
+append_sum-requires-clause-after c =
     let inv = rw (back c.args.a c.requires.a_in, back c.args.b c.requires.b_in) at c.loop-i.invariant in
     below_least c.args.a c.args.self.now c.args.b c.args.other.now c.loop-i.i c.loop-i.j c.loop-i.out c.next_column-column.result inv
     c.next_column-column.ensures
 
-pub returns-in-None-clause-past : goal.returns-in-None-clause-past
-returns-in-None-clause-past c e =
+pub returns-in-Err-clause-past : goal.returns-in-Err-clause-past
+returns-in-Err-clause-past c e =
     let inv = rw (back c.args.a c.requires.a_in, back c.args.b c.requires.b_in) at c.loop-i.invariant in
-    let none = rw (
+    let past = rw (
       back c.args.a c.requires.a_in,
       back c.take_at-k.result.0 c.take_at-k.ensures.fits,
       back c.args.b c.requires.b_in,
       back c.take_at-m.result.0 c.take_at-m.ensures.fits,
-    ) at c.in-None.ensures.value in
+    ) at (c.in-Err.ensures.past (rw (err_is e) refl)) in
     joining_past c.args.a c.args.self.now c.args.b c.args.other.now c.loop-i.i c.loop-i.j c.loop-i.out c.next_column-column.result c.take_at-k.result.0
     c.take_at-m.result.0 c.take_at-k.result.1 c.take_at-m.result.1
-    inv c.next_column-column.ensures c.take_at-k.ensures.taken c.take_at-m.ensures.taken
-    (two_products-none c.args.a c.take_at-k.result.0 c.args.b c.take_at-m.result.0 none)
+    inv c.next_column-column.ensures c.take_at-k.ensures.taken c.take_at-m.ensures.taken past
 
 pub loop-i-smaller : goal.loop-i-smaller
 loop-i-smaller c =
@@ -35,20 +36,22 @@ loop-i-smaller c =
 pub loop-i-preserved : goal.loop-i-preserved
 loop-i-preserved c =
     let inv = rw (back c.args.a c.requires.a_in, back c.args.b c.requires.b_in) at c.loop-i.invariant in
-    let e = rw (
+    let fits = rw (
       back c.args.a c.requires.a_in,
       back c.take_at-k.result.0 c.take_at-k.ensures.fits,
       back c.args.b c.requires.b_in,
       back c.take_at-m.result.0 c.take_at-m.ensures.fits,
-    ) at c.in-Some.ensures.value in
-    let two = two_products-some c.args.a c.take_at-k.result.0 c.args.b c.take_at-m.result.0 c.in-Some.sum e in
-    let value = rw (back c.in-Some.sum c.in-Some.ensures.fits) at c.in_ok-append.ensures.value in
-    let new : c.append.new.self ≡ c.loop-i.out ++ put c.next_column-column.result
-    (c.args.a *ℤ c.take_at-k.result.0 +ℤ c.args.b *ℤ c.take_at-m.result.0) [] = rw (← two.1) value in
+    ) at c.in-Ok.ensures.fits in
+    let new = rw (
+      back c.args.a c.requires.a_in,
+      back c.take_at-k.result.0 c.take_at-k.ensures.fits,
+      back c.args.b c.requires.b_in,
+      back c.take_at-m.result.0 c.take_at-m.ensures.fits,
+    ) at c.in-Ok.ensures.value in
     rw (back c.args.a c.requires.a_in, back c.args.b c.requires.b_in)
     (joined c.args.a c.args.self.now c.args.b c.args.other.now c.loop-i.i c.loop-i.j c.loop-i.out c.next_column-column.result c.take_at-k.result.0
-    c.take_at-m.result.0 c.take_at-k.result.1 c.take_at-m.result.1 c.append.new.self
-    inv c.next_column-column.ensures c.take_at-k.ensures.taken c.take_at-m.ensures.taken two.0 new)
+    c.take_at-m.result.0 c.take_at-k.result.1 c.take_at-m.result.1 c.append_sum.new.self
+    inv c.next_column-column.ensures c.take_at-k.ensures.taken c.take_at-m.ensures.taken fits new)
 
 pub returns-clause-fits : goal.returns-clause-fits
 returns-clause-fits c =

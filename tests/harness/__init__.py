@@ -1,1 +1,0 @@
-"""What the tests, the trials and the benchmarks share."""

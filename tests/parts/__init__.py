@@ -1,1 +1,0 @@
-"""The parts of tests/run: each module has the jobs of one."""
