@@ -16,7 +16,6 @@ use Rattle.cf_answer.specs.Outside.{Streams, streams, AreTold, Counts}
 use Rattle.cf_answer.specs.Owed.{Answerer, AreReplies, Owes}
 use Rattle.cf_answer.specs.Passes.{ArePassed, closing}
 use Rattle.cf_answer.specs.Refusals.{Refuses}
-use Rattle.cf_answer.specs.Statuses.{fault_status, status_of, IsEarly}
 use Rattle.cf_answer.specs.Steps.{RunsOn, RunsThrough, cut, part, whole, IsOutFault}
 use Rattle.cf_answer.specs.declared.fault.Fault.{Fault}
 use Rattle.cf_answer.specs.declared.fault.Fault.TheVariants as fault
@@ -167,15 +166,6 @@ written_not : (answer : Result (Unit {0}) Fault) → IfErr answer IsOutFault →
 written_not (Ok done) is = record { not_usage = λ e. cc; not_file = λ e. cc; not_input = λ e. cc }
 written_not (Err f) is =
     record { not_usage = not_usage_of f (out_other f is); not_file = not_file_of f (out_other f is); not_input = out_input f is }
-
-late_fault : (f : Fault) → IsOutFault f → IsEarly (fault_status f) → ⊥
-late_fault f (inl e) h = subst (λ v. IsEarly (fault_status v)) e h
-late_fault f (inr e) h = subst (λ v. IsEarly (fault_status v)) e h
-
--- what was written in part is no early answer
-pub out_is_late : (answer : Result (Unit {0}) Fault) → IfErr answer IsOutFault → IsEarly (status_of answer) → ⊥
-out_is_late (Ok done) is h = h
-out_is_late (Err f) is h = late_fault f is h
 
 pub written_answers : (c : Command) (given last : List Told) (files : List (List ℕ)) (printed bytes : List ℕ) (input : SourceSeen) (old new : SinkSeen)
     (answer : Result (Unit {0}) Fault) → reads_input c ≡ false →

@@ -37,7 +37,7 @@ pre_closes_with_nothing = refl
 
 -- each had one turn more, and the second has replaced one unit
 one_more_unit : AreCalled true two_passes (fold 12 4 ∷ drop_needs 1 1 ∷ [])
-one_more_unit = (record { name = refl; tally = omega arith; turns = refl }, (record { name = refl; tally = omega arith; turns = refl }, tt))
+one_more_unit = (record { name = refl; tally = omega arith; turns = refl }, record { name = refl; tally = omega arith; turns = refl }, tt)
 
 one_fewer_unit : AreCalled true two_passes (fold 11 4 ∷ drop_needs 0 1 ∷ []) → ⊥
 one_fewer_unit h = omega (arith, h.0.tally)

@@ -99,7 +99,7 @@ const UNCALLED: Case = Case {
 /// A program that is linear only where the numbers in scope are known.
 const LATE: &str = "def main(a: int, b: int): int = choose (x: int) where a * x == b\n";
 
-const CASES: [Case; 8] = [
+const CASES: [Case; 16] = [
     Case {
         calls: 1,
         ..UNCALLED
@@ -157,9 +157,6 @@ const CASES: [Case; 8] = [
         },
         ..UNCALLED
     },
-];
-
-const MORE_CASES: [Case; 8] = [
     Case {
         status: Status::Text,
         call: Call {
@@ -234,18 +231,6 @@ const MORE_CASES: [Case; 8] = [
 #[test]
 fn each_pass_is_called_where_it_is_asked_for_and_dropped_once(rt: HostRuntime) -> Result<(), Fail> {
     for case in &CASES {
-        let seen = nothing_seen(rt.alloc())?;
-        let status = seen_by(rt.alloc(), &case.call, &seen)?;
-        assert!(rt;
-            status == case.status && seen.calls.get() == case.calls && seen.drops.get() == 1
-        );
-    }
-    Ok(())
-}
-
-#[test]
-fn each_pass_is_dropped_once_however_the_call_ends(rt: HostRuntime) -> Result<(), Fail> {
-    for case in &MORE_CASES {
         let seen = nothing_seen(rt.alloc())?;
         let status = seen_by(rt.alloc(), &case.call, &seen)?;
         assert!(rt;

@@ -6,26 +6,33 @@ ghost use Rattle.cf_tree.specs.DefView.{raw_def_tree};
 ghost use Rattle.cf_tree.specs.ExprTree.{exprs_of, match_arm, expr_call, expr_choose, expr_lit, expr_truth, expr_neg, expr_not, expr_abs, expr_div, expr_mod, expr_divides, expr_card};
 ghost use Rattle.cf_tree.specs.RelTree.{term_lit, term_neg, term_abs, term_div, term_mod, term_card, rel_not, rel_divides};
 ghost use Rattle.cf_tree.specs.declared.base.Base.TheVariants.{Int as int, Bool as truth_base, Set as set_base};
-ghost use Rattle.cf_tree.specs.RawView.{raw_tree};
+ghost use Rattle.cf_tree.specs.RawView.{raw_tree, raw_arm_tree};
 ghost use Rattle.cf_type.specs.FormParts.{over_one as over_one_of, over_row as over_row_of};
 ghost use Rattle.cf_type.specs.FormView.{form_of, forms_of, arms_of, reading_of, callee_seen, context_of};
 ghost use Rattle.cf_program.specs.CheckAnswers.{CheckAnswer};
 ghost use Rattle.cf_tree.specs.Params.{bases_of};
 ghost use Rattle.cf_program.specs.Reading.{relation as a_relation, term as a_term, on_relation, on_term, on_set, truth_reading, not_linear_at as not_linear_at_of};
-ghost use Rattle.cf_program.specs.Walk.{where_no_fault, is_one, form as form_is, no_forms as no_forms_of, with_form as with_form_of, no_arms as no_arms_of, with_arm as with_arm_of, variable_form, unary_form, binary_form, set_reading as set_reading_of, set_form, tuple_form, call_form, if_form, let_form, choose_form, choose_part, match_form, linear as linear_of, arm_number, after_arm};
+ghost use Rattle.cf_program.specs.Walk.{where_no_fault, is_one, form as form_is, no_forms as no_forms_of, with_form as with_form_of, no_arms as no_arms_of, with_arm as with_arm_of, variable_form, unary_form, binary_form, set_reading as set_reading_of, set_form, tuple_form, call_form, if_form, let_form, choose_form, choose_part, match_form, linear as linear_of, arm_number, after_arm, with_walked};
 ghost use Rattle.cf_tree.specs.Typing.{one as one_base};
 
-use crate::callees::Caller;
+use crate::callees::Context;
 use crate::form::{Arms, Form, Forms, Reading};
 use crate::memory::{in_box, push};
 use crate::reading::Operation;
 use crate::{bases, reading};
 use cf_program::{TypeFault, Variable};
 use cf_tree::{
-    Base, BinOp, Expr, MatchArm, NoMemory, Param, Part, Place, Raw, RawDef, RawNode, Rel, SetTerm,
-    Term, Text, add_u32, same_bases, to_u32, without,
+    Base, BinOp, Expr, MatchArm, NoMemory, Param, Part, Place, Raw, RawArm, RawDef, RawNode, Rel,
+    SetTerm, Term, Text, add_u32, same_bases, to_u32, without,
 };
 use std::alloc::Global;
+
+/// Where a `choose` or a `match` stands, and its number.
+#[derive(Clone, Copy)]
+pub struct Site {
+    pub place: Place,
+    pub number: u32,
+}
 
 // The expression of these bases, this tree and this reading.
 fn boxed(
@@ -289,26 +296,26 @@ pub fn over_one(alloc: Global, raw: &Raw, part: Form) -> Result<Form, TypeFault>
 }
 
 /// The form with these parts in a row: a set, a call or a tuple.
-pub fn over_row(caller: &Caller, raw: &Raw, parts: Forms) -> Result<Form, TypeFault>
-    ensures { CheckAnswer form_of result (over_row_of (context_of caller.now) raw.now.place (raw_tree raw.now) (forms_of parts)) }
+pub fn over_row(context: &Context, raw: &Raw, parts: Forms) -> Result<Form, TypeFault>
+    ensures { CheckAnswer form_of result (over_row_of (context_of context.now) raw.now.place (raw_tree raw.now) (forms_of parts)) }
 {
     match &raw.node {
-        RawNode::SetOf(_) => set(caller.alloc, raw.place, parts),
-        RawNode::Call { name, .. } => call(caller, raw.place, name, parts),
-        _ => tuple(caller.alloc, raw.place, parts),
+        RawNode::SetOf(_) => set(context.alloc, raw.place, parts),
+        RawNode::Call { name, .. } => call(context, raw.place, name, parts),
+        _ => tuple(context.alloc, raw.place, parts),
     }
 }
 
 /// An operation with two sides.
 #[tactic(auto, unfolding(crate::specs::FormView::context_of))]
 pub fn binary(
-    caller: &Caller,
+    context: &Context,
     place: Place,
     op: BinOp,
     left: Form,
     right: Form,
 ) -> Result<Form, TypeFault>
-    ensures { CheckAnswer form_of result (binary_form (context_of caller.now).known place op (form_of left) (form_of right)) }
+    ensures { CheckAnswer form_of result (binary_form (context_of context.now).known place op (form_of left) (form_of right)) }
 {
     if !bases::sides_fit(op, &left.bases, &right.bases) {
         drop(left);
@@ -332,26 +339,26 @@ pub fn binary(
     let operation = Operation {
         op,
         place,
-        known: caller.known,
+        known: context.known,
     };
-    let reading = reading::of_binary(caller.alloc, operation, left_reading, right_reading)?;
+    let reading = reading::of_binary(context.alloc, operation, left_reading, right_reading)?;
     let tree = Expr::Binary {
         op,
         left: left_tree,
         right: right_tree,
     };
-    made(caller.alloc, bases::result_of(op), tree, reading, next)
+    made(context.alloc, bases::result_of(op), tree, reading, next)
 }
 
 /// The call of the function of that name.
 #[tactic(auto, unfolding(crate::specs::FormView::context_of))]
-pub fn call(caller: &Caller, place: Place, name: &Text, args: Forms) -> Result<Form, TypeFault>
-    ensures { CheckAnswer form_of result (call_form place ((context_of caller.now).calls name.now) (forms_of args)) }
+pub fn call(context: &Context, place: Place, name: &Text, args: Forms) -> Result<Form, TypeFault>
+    ensures { CheckAnswer form_of result (call_form place ((context_of context.now).calls name.now) (forms_of args)) }
 {
-    match caller.callees.find(caller.number, name) {
+    match context.callees.find(context.number, name) {
         None => Err(TypeFault::UnknownName(place)),
         Some((number, def, is_earlier)) => {
-            call_of(caller.alloc, place, number, def, is_earlier, args)
+            call_of(context.alloc, place, number, def, is_earlier, args)
         }
     }
 }
@@ -530,17 +537,6 @@ fn linear(place: Place, reading: Reading) -> Result<Box<Rel>, TypeFault>
     }
 }
 
-// The bases of outputs.
-fn output_bases(alloc: Global, outputs: &[Param]) -> Result<Vec<Base>, NoMemory>
-    ensures { IfOk result (λ bs. bs.items ≡ bases_of outputs.now) }
-{
-    let mut all = Vec::new(alloc);
-    for output in outputs {
-        all.push(output.base)?;
-    }
-    Ok(all)
-}
-
 // The `choose` of that number and these outputs over a linear relation, and the bases of its outputs.
 fn choose_tree(
     alloc: Global,
@@ -552,8 +548,8 @@ fn choose_tree(
     ensures { IfOk result (λ r. (r.0.items ≡ bases_of outputs.now) ×
         (expr_tree r.1.value ≡ expr_choose number scope.items (bases_of outputs.now) (rel_tree rel.value))) }
 {
-    let bases = output_bases(alloc, outputs)?;
-    let outputs = output_bases(alloc, outputs)?;
+    let bases = cf_tree::bases(alloc, outputs)?;
+    let outputs = cf_tree::bases(alloc, outputs)?;
     let tree = Expr::Choose {
         number,
         scope,
@@ -563,33 +559,32 @@ fn choose_tree(
     Ok((bases, Box::new(alloc, tree)?))
 }
 
-/// The `choose` of that number and these outputs, where `scope` holds the variables in scope.
+/// The `choose` of these outputs, where `scope` holds the variables in scope.
 pub fn choose(
     alloc: Global,
-    place: Place,
-    number: u32,
+    site: Site,
     scope: Vec<Param>,
     outputs: &[Param],
     rel: Form,
 ) -> Result<Form, TypeFault>
-    ensures { CheckAnswer form_of result (choose_form place number scope.items outputs.now (form_of rel)) }
+    ensures { CheckAnswer form_of result (choose_form site.place site.number scope.items outputs.now (form_of rel)) }
 {
     let Operand {
         tree,
         reading,
         next,
-    } = match operand_at(place, Base::Bool, rel) {
+    } = match operand_at(site.place, Base::Bool, rel) {
         Ok(rel) => rel,
         Err(fault) => return Err(without(scope, fault)),
     };
     drop(tree);
-    match linear(place, reading) {
+    match linear(site.place, reading) {
         Ok(rel) => {
-            let (bases, tree) = choose_tree(alloc, number, scope, outputs, rel)?;
+            let (bases, tree) = choose_tree(alloc, site.number, scope, outputs, rel)?;
             Ok(Form {
                 bases,
                 tree,
-                reading: Reading::NotLinear(place),
+                reading: Reading::NotLinear(site.place),
                 next,
             })
         }
@@ -732,22 +727,6 @@ fn arm_of(
     }
 }
 
-// Adds the arm of that pattern and body to trees.
-fn push_arm(
-    alloc: Global,
-    trees: &mut Vec<MatchArm>,
-    number: u32,
-    parts: &[Part],
-    constant: i128,
-    body: Box<Expr>,
-) -> Result<(), NoMemory>
-    ensures { OnOk result (map match_arm_tree trees.new.items ≡ map match_arm_tree trees.old.items
-        ++ match_arm number (map (λ x. x.factor) parts.now) constant (expr_tree body.value) ∷ []) }
-{
-    let arm = arm_of(alloc, number, parts, constant, body)?;
-    push(trees, arm)
-}
-
 // Adds an arm of that pattern and body.
 fn add_arm(
     alloc: Global,
@@ -768,45 +747,39 @@ fn add_arm(
     drop(reading);
     arms.bases.push(bases)?;
     let number = number_of(arms.next, parts);
-    push_arm(alloc, &mut arms.trees, number, parts, constant, tree)?;
+    let arm = arm_of(alloc, number, parts, constant, tree)?;
+    push(&mut arms.trees, arm)?;
     arms.first_nonlinear = reading::earlier_nonlinear(arms.first_nonlinear, first);
     arms.next = next;
     Ok(())
 }
 
-/// These arms and one more, of that pattern and body.
-pub fn with_arm(
-    alloc: Global,
-    before: Arms,
-    parts: &[Part],
-    constant: i128,
-    body: Form,
-) -> Result<Arms, NoMemory>
-    ensures { IfOk result (λ arms. arms_of arms ≡ with_arm_of (arms_of before) parts.now constant (form_of body)) }
+/// These arms and one more, with its body.
+pub fn with_arm(alloc: Global, before: Arms, arm: &RawArm, body: Form) -> Result<Arms, NoMemory>
+    ensures { IfOk result (λ arms. arms_of arms ≡ with_walked (arms_of before) (raw_arm_tree arm.now) (form_of body)) }
 {
     let mut arms = before;
-    match add_arm(alloc, &mut arms, parts, constant, body) {
+    match add_arm(alloc, &mut arms, &arm.parts, arm.constant, body) {
         Ok(()) => Ok(arms),
         Err(fault) => Err(without(arms, fault)),
     }
 }
 
-/// The `match` of that number, where `scope` holds the variables in scope and last the matched value.
+/// The `match` where `scope` holds the variables in scope and last the matched value.
 pub fn matching(
     alloc: Global,
-    place: Place,
-    number: u32,
+    site: Site,
     scope: Vec<Param>,
     value: Form,
     arms: Arms,
 ) -> Result<Form, TypeFault>
-    ensures { CheckAnswer form_of result (match_form place number scope.items (form_of value) (arms_of arms)) }
+    ensures { CheckAnswer form_of result (match_form site.place site.number scope.items (form_of value) (arms_of arms)) }
 {
     if !bases::is_one(Base::Int, &value.bases) || !bases::all_same(&arms.bases) {
         drop(scope);
         drop(value);
         drop(arms);
-        return Err(TypeFault::Mismatch(place));
+        return Err(TypeFault::Mismatch(site.place));
     }
     let Arms {
         bases,
@@ -821,13 +794,19 @@ pub fn matching(
         first_nonlinear,
     );
     let tree = Expr::Match {
-        number,
+        number: site.number,
         scope,
         of: bare(value),
         arms: trees,
     };
     match all {
-        Ok(all) => boxed(alloc, all, tree, reading::not_linear_at(first, place), next),
+        Ok(all) => boxed(
+            alloc,
+            all,
+            tree,
+            reading::not_linear_at(first, site.place),
+            next,
+        ),
         Err(_) => Err(without(tree, TypeFault::NoMemory)),
     }
 }

@@ -18,7 +18,7 @@ ghost use Rattle.cf_program.specs.TypedProgram.{IsProgramBy};
 ghost use Rattle.cf_program.specs.Walk.{where_kept, in_body, walk as walk_of};
 
 use crate::build::bare;
-use crate::callees::{Callees, Caller};
+use crate::callees::{Callees, Context};
 use crate::form::Form;
 use crate::memory::push;
 use crate::names::repeated_param;
@@ -26,7 +26,7 @@ use crate::scope::Scope;
 use crate::size;
 use crate::walk::walk;
 use cf_program::{Late, Linearity, TypeFault, Typed, TypedDefs};
-use cf_tree::{Def, NoMemory, Program, RawDef, Text, copy_params, same_bases, without};
+use cf_tree::{Def, NoMemory, Program, RawDef, Text, copy_params, same_bases, to_u32, without};
 use std::alloc::Global;
 
 /// The program with its names turned into levels and its chooses numbered from 1 in the order of
@@ -92,11 +92,11 @@ fn main_of(alloc: Global, defs: &[RawDef], trees: &[Def]) -> Result<u32, TypeFau
 }
 
 // The body of a function, in this scope with its parameters.
-fn walk_in(caller: &Caller, scope: &mut Scope, def: &RawDef, next: u32) -> Result<Form, TypeFault>
-    ensures { CheckAnswer form_of result (walk_of (context_of caller.now) (scope.old ++ def.now.params.items) next (raw_tree def.now.body)) }
+fn walk_in(context: &Context, scope: &mut Scope, def: &RawDef, next: u32) -> Result<Form, TypeFault>
+    ensures { CheckAnswer form_of result (walk_of (context_of context.now) (scope.old ++ def.now.params.items) next (raw_tree def.now.body)) }
 {
-    scope.enter(caller.alloc, &def.params)?;
-    walk(caller, scope, next, &def.body)
+    scope.enter(context.alloc, &def.params)?;
+    walk(context, scope, next, &def.body)
 }
 
 // The body of a function behind these.
@@ -111,16 +111,11 @@ fn walk_body(
     ensures { CheckAnswer form_of result (walk_of (in_body how (callee_from (length before.now) 0 (map raw_def_tree callees.now))) def.now.params.items next
         (raw_tree def.now.body)) }
 {
-    match u32::try_from(before.len()) {
-        Err(_) => Err(TypeFault::NoMemory),
-        Ok(number) => {
-            let caller = Caller::new(alloc, callees, number, how);
-            let mut scope = Scope::new(alloc);
-            let walked = walk_in(&caller, &mut scope, def, next);
-            drop(scope);
-            walked
-        }
-    }
+    let context = Context::new(alloc, callees, to_u32(before.len())?, how);
+    let mut scope = Scope::new(alloc);
+    let walked = walk_in(&context, &mut scope, def, next);
+    drop(scope);
+    walked
 }
 
 // The function with its body.
@@ -224,10 +219,7 @@ fn find_main(defs: &[RawDef]) -> Result<Option<u32>, NoMemory>
 {
     for i in 0..defs.len() {
         if is_main(&defs[i].name) {
-            return match u32::try_from(i) {
-                Ok(main) => Ok(Some(main)),
-                Err(_) => Err(NoMemory),
-            };
+            return Ok(Some(to_u32(i)?));
         }
     }
     Ok(None)

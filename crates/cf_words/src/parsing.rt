@@ -20,11 +20,9 @@ pub fn parse<'a>(alloc: Global, words: &'a [String]) -> Result<Command<'a>, Word
     if !may_be_read(words) {
         return Err(WordsFault::Usage);
     }
-    match matches_of(alloc, words) {
-        Ok(matches) => match command_found(&matches) {
-            Some(command) => Ok(command),
-            None => Err(WordsFault::Usage),
-        },
-        Err(fault) => Err(fault),
+    let matches = matches_of(alloc, words)?;
+    match command_found(&matches) {
+        Some(command) => Ok(command),
+        None => Err(WordsFault::Usage),
     }
 }

@@ -1,5 +1,5 @@
 use Rattle.std.proofs.Common.{◌∙◌, refl, sym, inr, append-nil}
-use Rattle.cf_answer.proofs.AnswerLemmas.{stopped_answers, written_answers, out_is_late}
+use Rattle.cf_answer.proofs.AnswerLemmas.{stopped_answers, written_answers}
 use Rattle.cf_answer.proofs.FileLemmas.{workload_owes}
 use Rattle.cf_answer.proofs.generate.write_workload.Goals as goal
 
@@ -11,9 +11,6 @@ returns-in-Ok-summary-clause-answers g c =
     λ input. written_answers _ _ _ _ _ _ input _ _ _ refl c.in-Ok.ensures.passed
     (workload_owes c.args.size _ _ _ _ _ c.in-Ok.ensures.verdict c.in-Ok-summary.ensures.1 c.in-Ok-summary.ensures.2)
     (c.deref.ensures.value ∙ sym (append-nil _)) c.write_text.ensures.all c.write_text.ensures.prefix c.write_text.ensures.fault c.write_text.ensures.count
-
-pub returns-in-Ok-summary-clause-unwritten : goal.returns-in-Ok-summary-clause-unwritten
-returns-in-Ok-summary-clause-unwritten g c = λ e. absurd (out_is_late c.write_text.result c.write_text.ensures.fault e)
 
 pub returns-clause-answers : goal.returns-clause-answers
 returns-clause-answers g c = λ input. stopped_answers _ _ _ _ _ _ c.in-Ok.ensures.passed (inr refl)

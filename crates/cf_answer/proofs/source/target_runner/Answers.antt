@@ -19,5 +19,5 @@ returns-in-Err-Choose-clause-verdict g c =
 pub returns-in-Err-Choose-clause-passed : goal.returns-in-Err-Choose-clause-passed
 returns-in-Err-Choose-clause-passed g c = inr c.in-Err-Choose.ensures.kept
 
-pub returns-in-Err-NoMemory-clause-passed : goal.returns-in-Err-NoMemory-clause-passed
-returns-in-Err-NoMemory-clause-passed g c = inr c.in-Err-NoMemory.ensures.kept
+pub returns-clause-passed : goal.returns-clause-passed
+returns-clause-passed g c = inr c.in-Err-NoMemory.ensures.kept

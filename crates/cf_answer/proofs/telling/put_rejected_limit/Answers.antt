@@ -5,7 +5,8 @@ use Rattle.cf_answer.proofs.telling.put_rejected_limit.Goals as goal
 
 pub returns : goal.returns
 returns g c =
-    subst (λ line. Puts line (g.E.Sink.seen c.args.err.now) (g.E.Sink.seen c.put_pieces.new.err) c.put_pieces.result)
+    subst (λ line. Puts line (g.E.Sink.held c.args.err.now) (g.E.Sink.held c.put_pieces.new.err) (g.E.Sink.faults c.args.err.now)
+    (g.E.Sink.faults c.put_pieces.new.err) c.put_pieces.result)
     (rejected_limit c.args.at.now.number c.args.at.now.case c.args.at.now.step c.args.kind.now c.args.count)
     (rw (
       c.as_slice.ensures,
