@@ -15,20 +15,16 @@ from . import tables
 from .cases import Case, standing
 
 OTHER_TABLES = ("targets", "words", "steps")
-LONGEST_TEXT = 1_048_576
 
 
 def compile_and_exec(name: str, out: bytes, room: Room) -> Iterator[Check]:
-    """The program in `file` is compiled, and `exec` on the target answers its input. A target that is longer than a text may be is refused."""
+    """The program in `file` is compiled, and `exec` on the target answers its input."""
     for flag in "--plain", "--stats":
         compiled = room.run(("compile", "file", flag), NO_INPUT)
         if compiled.status:
             yield equal(f"compiled {name}", (f"status {compiled.status}", "status 0"))
-            continue
-        room.put("target", compiled.out)
-        if len(compiled.out) > LONGEST_TEXT:
-            yield ended(f"compiled {name} {flag}", room.run(("exec", "target")), 6, err=b"text too long\n")
         else:
+            room.put("target", compiled.out)
             yield ended(f"compiled {name} {flag}", room.run(("exec", "target")), 0, out)
 
 

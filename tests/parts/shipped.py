@@ -32,7 +32,7 @@ class Checkout:
         self.built = self.top / "crates/comfusy/out/comfusy"
         self._copy()
         self._make_kit()
-        self.start("dist/renew", "program")
+        self.start("dist/renew")
 
     def start(self, command: str, *words: str | Path, given: bytes = b"", umask: int = -1, **variables: str) -> subprocess.CompletedProcess[bytes]:
         """Runs a command of the checkout with the kit at hand."""

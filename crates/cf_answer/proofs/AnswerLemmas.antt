@@ -3,30 +3,26 @@ use Rattle.std.proofs.Common.{◌≡◌, ◌∙◌, inl, inr, sym, ap, subst, re
 use Rattle.std.proofs.lemmas.Bool.Decides.{nat_tests}
 use Rattle.std.specs.Prelude.{◌⊎◌, Result, Ok, Err, IfErr, OnOk, take}
 use Rattle.std.specs.Io.KnownBytes.{Appends, Consumes}
-use Rattle.std.proofs.KnownBytes.{Appends-trans}
+use Rattle.std.proofs.KnownBytes.{Consumes-nil, Appends-trans}
 use Rattle.cf_io.specs.Bytes.{TookPrefix, TookFront}
 use Rattle.cf_io.specs.Limits.{input_limit}
 use Rattle.cf_io.specs.Lines.{lines, ended}
-use Rattle.cf_io.specs.Seen.{SinkSeen, SourceSeen}
-use Rattle.cf_pass.specs.Passes.{Told}
 use Rattle.cf_words.specs.Commands.{Command}
 use Rattle.cf_answer.specs.Commands.{reads_input, calls_passes}
-use Rattle.cf_answer.specs.Ends.{Job, input_for, answered_lines, behind_lines, Reads, IsReadUp, Wrote, IsStopped, Ends, AnswersOn}
-use Rattle.cf_answer.specs.Outside.{Streams, streams, AreTold, Counts}
+use Rattle.cf_answer.specs.Ends.{Streams, Job, input_for, answered_lines, behind_lines, Reads, IsReadUp, Wrote, IsStopped, Ends, AnswersOn}
+use Rattle.cf_answer.specs.Outside.{AreTold}
 use Rattle.cf_answer.specs.Owed.{Answerer, AreReplies, Owes}
-use Rattle.cf_answer.specs.Passes.{ArePassed, closing}
+use Rattle.cf_answer.specs.Passes.{Told, ArePassed, closing}
 use Rattle.cf_answer.specs.Refusals.{Refuses}
-use Rattle.cf_answer.specs.Statuses.{fault_status, status_of, IsEarly}
 use Rattle.cf_answer.specs.Steps.{RunsOn, RunsThrough, cut, part, whole, IsOutFault}
 use Rattle.cf_answer.specs.declared.fault.Fault.{Fault}
 use Rattle.cf_answer.specs.declared.fault.Fault.TheVariants as fault
 use Rattle.cf_answer.proofs.FaultLemmas.{failed, IsTextFault, refused_fault}
-use Rattle.cf_answer.proofs.OutsideLemmas.{nothing_read, no_fault}
 use Rattle.cf_answer.proofs.StepLemmas.{left_of, left_told, end_told, short_answered}
 
 -- ---- a text that is refused, or for which memory ran out
 
-pub refused_ends : (job : Job) (before after : Streams) (f : Fault) → IsTextFault f → Refuses job.command job.files f → after.out.held ≡ before.out.held →
+pub refused_ends : (job : Job) (before after : Streams) (f : Fault) → IsTextFault f → Refuses job.command job.files f → after.out ≡ before.out →
     Ends job before after (Err f)
 refused_ends job before after fault.Usage h r e = absurd h
 refused_ends job before after fault.File h r e = absurd h
@@ -36,31 +32,16 @@ refused_ends job before after fault.InputTooLong h r e = absurd h
 refused_ends job before after fault.NoMemory h r e = absurd h
 refused_ends job before after f h r e = (r, e)
 
--- neither the words nor a file nor a stream
-abbrev IsStill : Fault → Type 0
-IsStill fault.Usage = ⊥
-IsStill fault.File = ⊥
-IsStill fault.Input = ⊥
-IsStill fault.Output = ⊥
-IsStill f = Unit {0}
-
-text_still : (f : Fault) → IsTextFault f → IsStill f
-text_still fault.Usage h = h
-text_still fault.File h = h
-text_still fault.Input h = h
-text_still fault.Output h = h
-text_still f h = tt
-
--- neither the words nor a file
+-- neither the words nor the file
 abbrev IsOther : Fault → Type 0
 IsOther fault.Usage = ⊥
 IsOther fault.File = ⊥
 IsOther f = Unit {0}
 
-still_other : (f : Fault) → IsStill f → IsOther f
-still_other fault.Usage h = h
-still_other fault.File h = h
-still_other f h = tt
+text_other : (f : Fault) → IsTextFault f → IsOther f
+text_other fault.Usage h = h
+text_other fault.File h = h
+text_other f h = tt
 
 not_usage_of : (f : Fault) → IsOther f → failed f ≡ Err fault.Usage → ⊥
 not_usage_of f h e = let same : f ≡ fault.Usage = cc in subst IsOther same h
@@ -68,32 +49,28 @@ not_usage_of f h e = let same : f ≡ fault.Usage = cc in subst IsOther same h
 not_file_of : (f : Fault) → IsOther f → failed f ≡ Err fault.File → ⊥
 not_file_of f h e = let same : f ≡ fault.File = cc in subst IsOther same h
 
-not_input_of : (f : Fault) → IsStill f → failed f ≡ Err fault.Input → ⊥
-not_input_of f h e = let same : f ≡ fault.Input = cc in subst IsStill same h
+nothing_read : (left : Option (List ℕ)) → TookFront (input_limit + 1) left left
+nothing_read left = ([], omega arith, Consumes-nil left)
 
-not_output_of : (f : Fault) → IsStill f → failed f ≡ Err fault.Output → ⊥
-not_output_of f h e = let same : f ≡ fault.Output = cc in subst IsStill same h
-
-answers_still : (c : Command) (given last : List Told) (files : List (List ℕ)) (s : Streams) (f : Fault) → ArePassed (calls_passes c) given last → IsStill f →
-    Ends (record { command = c; files = files; given = given; passes = last }) s s (Err f) → AnswersOn c given last files s s (Err f)
-answers_still c given last files s f p still ends = record {
+answers_other : (c : Command) (given last : List Told) (files : List (List ℕ)) (s : Streams) (f : Fault) → ArePassed (calls_passes c) given last → IsOther f →
+    Ends (record { command = c; files = files; given = given; passes = last }) s s (Err f) → AnswersOn c given files s s (Err f)
+answers_other c given last files s f p other ends = record {
+  passes = last;
   passed = p;
   ends = ends;
-  sparing = nothing_read s.input;
-  input = no_fault s.input.faults s.input.faults (not_input_of f still) refl;
-  out = no_fault s.out.faults s.out.faults (not_output_of f still) refl;
-  not_usage = not_usage_of f (still_other f still);
-  not_file = not_file_of f (still_other f still);
+  frugal = nothing_read s.input;
+  not_usage = not_usage_of f other;
+  not_file = not_file_of f other;
 }
 
 pub stopped_answers : (c : Command) (given last : List Told) (files : List (List ℕ)) (s : Streams) (f : Fault) → ArePassed (calls_passes c) given last →
-    Refuses c files f ⊎ (f ≡ fault.NoMemory) → AnswersOn c given last files s s (Err f)
+    Refuses c files f ⊎ (f ≡ fault.NoMemory) → AnswersOn c given files s s (Err f)
 stopped_answers c given last files s f p (inl h) =
     let is = refused_fault c files f h in
-    answers_still c given last files s f p (text_still f is)
+    answers_other c given last files s f p (text_other f is)
     (refused_ends (record { command = c; files = files; given = given; passes = last }) s s f is h refl)
 stopped_answers c given last files s f p (inr e) =
-    subst (λ v. AnswersOn c given last files s s (Err v)) (sym e) (answers_still c given last files s fault.NoMemory p tt (inr refl))
+    subst (λ v. AnswersOn c given files s s (Err v)) (sym e) (answers_other c given last files s fault.NoMemory p tt (inr refl))
 
 -- ---- a text that is written, by a command that reads no input
 
@@ -110,31 +87,31 @@ short_behind : (input end : List ℕ) → length input ≤ input_limit → behin
 short_behind input end h = let test : nat_le (length input) input_limit ≡ true = grind (arith, nat_tests) in rw test refl
 
 -- how it ends where all or a prefix was written
-wrote_all : (job : Job) (before after : Streams) (printed : List ℕ) → reads_input job.command ≡ false → after.input.left ≡ before.input.left →
+wrote_all : (job : Job) (before after : Streams) (printed : List ℕ) → reads_input job.command ≡ false → after.input ≡ before.input →
     Owes job.command job.files job.given job.passes [] printed →
-    Appends before.out.held after.out.held (printed ++ closing job.command job.passes) → Ends job before after (Ok tt)
+    Appends before.out after.out (printed ++ closing job.command job.passes) → Ends job before after (Ok tt)
 wrote_all job before after printed e same owed took = (
   [],
-  subst (λ b. IsReadUp b after.input.left) (sym e) tt,
+  subst (λ b. IsReadUp b after.input) (sym e) tt,
   omega arith,
-  record { text = printed; read = subst (λ b. Reads b before.input.left after.input.left []) (sym e) (same, refl); owed = owed; took = took },
+  record { text = printed; read = subst (λ b. Reads b before.input after.input []) (sym e) (same, refl); owed = owed; took = took },
 )
 
-wrote_prefix : (job : Job) (before after : Streams) (printed : List ℕ) → reads_input job.command ≡ false → after.input.left ≡ before.input.left →
+wrote_prefix : (job : Job) (before after : Streams) (printed : List ℕ) → reads_input job.command ≡ false → after.input ≡ before.input →
     Owes job.command job.files job.given job.passes [] printed →
-    TookPrefix before.out.held after.out.held (printed ++ closing job.command job.passes) → IsStopped job before after
+    TookPrefix before.out after.out (printed ++ closing job.command job.passes) → IsStopped job before after
 wrote_prefix job before after printed e same owed took =
-    let rest = left_of after.input.left in
+    let rest = left_of after.input in
     let none : input_for job.command rest ≡ [] = no_input job.command rest e in (
       [],
       rest,
-      left_told after.input.left,
+      left_told after.input,
       subst (λ v. Wrote job before after TookPrefix [] (answered_lines v) (behind_lines v (closing job.command job.passes))) (sym none)
           (record {
             text = printed;
-            read = subst (λ b. Reads b before.input.left after.input.left []) (sym e) (same, refl);
+            read = subst (λ b. Reads b before.input after.input []) (sym e) (same, refl);
             owed = subst (λ ls. Owes job.command job.files job.given job.passes ls printed) (sym (short_answered [] (omega arith))) owed;
-            took = subst (λ v. TookPrefix before.out.held after.out.held (printed ++ v)) (sym (short_behind [] (closing job.command job.passes) (omega arith))) took;
+            took = subst (λ v. TookPrefix before.out after.out (printed ++ v)) (sym (short_behind [] (closing job.command job.passes) (omega arith))) took;
           }),
     )
 
@@ -143,9 +120,9 @@ out_ends job before after f (inl out) h = subst (λ v. Ends job before after (Er
 out_ends job before after f (inr memory) h = subst (λ v. Ends job before after (Err v)) (sym memory) (inl h)
 
 written_ends : (job : Job) (before after : Streams) (printed : List ℕ) (answer : Result (Unit {0}) Fault) → reads_input job.command ≡ false →
-    after.input.left ≡ before.input.left →
-    Owes job.command job.files job.given job.passes [] printed → OnOk answer (Appends before.out.held after.out.held (printed ++ closing job.command job.passes)) →
-    TookPrefix before.out.held after.out.held (printed ++ closing job.command job.passes) → IfErr answer IsOutFault → Ends job before after answer
+    after.input ≡ before.input →
+    Owes job.command job.files job.given job.passes [] printed → OnOk answer (Appends before.out after.out (printed ++ closing job.command job.passes)) →
+    TookPrefix before.out after.out (printed ++ closing job.command job.passes) → IfErr answer IsOutFault → Ends job before after answer
 written_ends job before after printed (Ok done) e same owed all some is = wrote_all job before after printed e same owed all
 written_ends job before after printed (Err f) e same owed all some is = out_ends job before after f is (wrote_prefix job before after printed e same owed some)
 
@@ -153,47 +130,26 @@ out_other : (f : Fault) → IsOutFault f → IsOther f
 out_other f (inl out) = subst IsOther (sym out) tt
 out_other f (inr memory) = subst IsOther (sym memory) tt
 
--- which answers do not come
-record IsWritten (answer : Result (Unit {0}) Fault) : Type 0 where
-  not_usage : answer ≡ Err fault.Usage → ⊥
-  not_file : answer ≡ Err fault.File → ⊥
-  not_input : answer ≡ Err fault.Input → ⊥
+written_not : (answer : Result (Unit {0}) Fault) → IfErr answer IsOutFault → (answer ≡ Err fault.Usage → ⊥) × (answer ≡ Err fault.File → ⊥)
+written_not (Ok done) is = (λ e. cc, λ e. cc)
+written_not (Err f) is = (not_usage_of f (out_other f is), not_file_of f (out_other f is))
 
-out_input : (f : Fault) → IsOutFault f → failed f ≡ Err fault.Input → ⊥
-out_input f (inl out) e = cc
-out_input f (inr memory) e = cc
-
-written_not : (answer : Result (Unit {0}) Fault) → IfErr answer IsOutFault → IsWritten answer
-written_not (Ok done) is = record { not_usage = λ e. cc; not_file = λ e. cc; not_input = λ e. cc }
-written_not (Err f) is =
-    record { not_usage = not_usage_of f (out_other f is); not_file = not_file_of f (out_other f is); not_input = out_input f is }
-
-late_fault : (f : Fault) → IsOutFault f → IsEarly (fault_status f) → ⊥
-late_fault f (inl e) h = subst (λ v. IsEarly (fault_status v)) e h
-late_fault f (inr e) h = subst (λ v. IsEarly (fault_status v)) e h
-
--- what was written in part is no early answer
-pub out_is_late : (answer : Result (Unit {0}) Fault) → IfErr answer IsOutFault → IsEarly (status_of answer) → ⊥
-out_is_late (Ok done) is h = h
-out_is_late (Err f) is h = late_fault f is h
-
-pub written_answers : (c : Command) (given last : List Told) (files : List (List ℕ)) (printed bytes : List ℕ) (input : SourceSeen) (old new : SinkSeen)
+pub written_answers : (c : Command) (given last : List Told) (files : List (List ℕ)) (printed bytes : List ℕ) (input old new : Option (List ℕ))
     (answer : Result (Unit {0}) Fault) → reads_input c ≡ false →
-    ArePassed (calls_passes c) given last → Owes c files given last [] printed → bytes ≡ printed ++ closing c last →
-    OnOk answer (Appends old.held new.held bytes) → TookPrefix old.held new.held bytes → IfErr answer IsOutFault →
-    Counts (answer ≡ Err fault.Output) old.faults new.faults → AnswersOn c given last files (streams input old) (streams input new) answer
-written_answers c given last files printed bytes input old new answer e p owed is all some fault count =
-    let all_is : OnOk answer (Appends old.held new.held (printed ++ closing c last)) = subst (λ v. OnOk answer (Appends old.held new.held v)) is all in
-    let some_is : TookPrefix old.held new.held (printed ++ closing c last) = subst (TookPrefix old.held new.held) is some in
-    let never = written_not answer fault in record {
+    ArePassed (calls_passes c) given last → Owes c files given last [] printed → bytes ≡ printed ++ closing c last → OnOk answer (Appends old new bytes) →
+    TookPrefix old new bytes →
+    IfErr answer IsOutFault → AnswersOn c given files (record { input = input; out = old }) (record { input = input; out = new }) answer
+written_answers c given last files printed bytes input old new answer e p owed is all some fault =
+    let all_is : OnOk answer (Appends old new (printed ++ closing c last)) = subst (λ v. OnOk answer (Appends old new v)) is all in
+    let some_is : TookPrefix old new (printed ++ closing c last) = subst (TookPrefix old new) is some in record {
+      passes = last;
       passed = p;
-      ends = written_ends (record { command = c; files = files; given = given; passes = last }) (streams input old) (streams input new) printed answer e refl
-          owed all_is some_is fault;
-      sparing = nothing_read input;
-      input = no_fault input.faults input.faults never.not_input refl;
-      out = count;
-      not_usage = never.not_usage;
-      not_file = never.not_file;
+      ends = written_ends (record { command = c; files = files; given = given; passes = last }) (record { input = input; out = old })
+          (record { input = input; out = new })
+          printed answer e refl owed all_is some_is fault;
+      frugal = nothing_read input;
+      not_usage = (written_not answer fault).0;
+      not_file = (written_not answer fault).1;
     }
 
 -- ---- what answers the input
@@ -205,20 +161,20 @@ record AnswersBy (job : Job) (who : Answerer) : Type 0 where
 
 wrote_by : (job : Job) (before after : Streams) (Took : Option (List ℕ) → Option (List ℕ) → List ℕ → Type 0) (front : List ℕ) (ls : List (List ℕ))
     (end text : List ℕ) (who : Answerer) →
-    AnswersBy job who → Consumes before.input.left after.input.left front → AreReplies who ls text → Took before.out.held after.out.held (text ++ end) →
+    AnswersBy job who → Consumes before.input after.input front → AreReplies who ls text → Took before.out after.out (text ++ end) →
     Wrote job before after Took front ls end
 wrote_by job before after Took front ls end text who by read replies took = record {
   text = text;
-  read = subst (λ b. Reads b before.input.left after.input.left front) (sym by.reads) read;
+  read = subst (λ b. Reads b before.input after.input front) (sym by.reads) read;
   owed = by.owes ls text replies;
   took = took;
 }
 
 -- a prefix of what is owed for what was read and what is left
-stopped_by : (job : Job) (before after : Streams) (front rest text : List ℕ) (who : Answerer) → AnswersBy job who → Consumes before.input.left after.input.left front →
-    AreTold after.input.left rest →
+stopped_by : (job : Job) (before after : Streams) (front rest text : List ℕ) (who : Answerer) → AnswersBy job who → Consumes before.input after.input front →
+    AreTold after.input rest →
     AreReplies who (answered_lines (front ++ rest)) text →
-    TookPrefix before.out.held after.out.held (text ++ behind_lines (front ++ rest) (closing job.command job.passes)) → IsStopped job before after
+    TookPrefix before.out after.out (text ++ behind_lines (front ++ rest) (closing job.command job.passes)) → IsStopped job before after
 stopped_by job before after front rest text who by read told replies took = (
   front,
   rest,
@@ -230,55 +186,55 @@ stopped_by job before after front rest text who by read told replies took = (
 )
 
 cut_ends : (job : Job) (before after : Streams) (who : Answerer) (f : Fault) → AnswersBy job who →
-    RunsOn who before.input.left after.input.left before.out.held after.out.held (Err f) → Ends job before after (Err f)
+    RunsOn who before.input after.input before.out after.out (Err f) → Ends job before after (Err f)
 cut_ends job before after who fault.InputTooLong by r = (
   r.front,
   r.runs.0,
   wrote_by job before after Appends r.front (ended (take input_limit r.front)) [] r.runs.1.0 who by r.read r.runs.1.1
-      (subst (Appends before.out.held after.out.held) (sym (append-nil r.runs.1.0)) r.runs.1.2),
+      (subst (Appends before.out after.out) (sym (append-nil r.runs.1.0)) r.runs.1.2),
 )
 cut_ends job before after who fault.Input by r = (
   r.front,
   by.reads,
   r.runs.0,
   wrote_by job before after Appends r.front (ended r.front) [] r.runs.1.0 who by r.read r.runs.1.1
-      (subst (Appends before.out.held after.out.held) (sym (append-nil r.runs.1.0)) r.runs.1.2),
+      (subst (Appends before.out after.out) (sym (append-nil r.runs.1.0)) r.runs.1.2),
 )
 cut_ends job before after who fault.Output by r =
-    stopped_by job before after r.front r.runs.0 r.runs.2.0 who by r.read r.runs.1 r.runs.2.1 (prefix_more before.out.held after.out.held r.runs.2.0 _ r.runs.2.2)
+    stopped_by job before after r.front r.runs.0 r.runs.2.0 who by r.read r.runs.1 r.runs.2.1 (prefix_more before.out after.out r.runs.2.0 _ r.runs.2.2)
 cut_ends job before after who fault.NoMemory by r =
-    inl (stopped_by job before after r.front r.runs.0 r.runs.2.0 who by r.read r.runs.1 r.runs.2.1 (prefix_more before.out.held after.out.held r.runs.2.0 _ r.runs.2.2))
+    inl (stopped_by job before after r.front r.runs.0 r.runs.2.0 who by r.read r.runs.1 r.runs.2.1 (prefix_more before.out after.out r.runs.2.0 _ r.runs.2.2))
 cut_ends job before after who f by r = absurd r.runs
 
 -- all replies were written, and then a prefix of what stands behind them
 part_ends : (job : Job) (before after : Streams) (who : Answerer) (mid : Option (List ℕ)) → AnswersBy job who →
-    RunsOn who before.input.left after.input.left before.out.held mid (Ok tt) →
-    TookPrefix mid after.out.held (closing job.command job.passes) → IsStopped job before after
+    RunsOn who before.input after.input before.out mid (Ok tt) →
+    TookPrefix mid after.out (closing job.command job.passes) → IsStopped job before after
 part_ends job before after who mid by r (first, rest, is, took) =
     let text = r.runs.2.0 in
     let end = closing job.command job.passes in
     let same : r.front ++ [] ≡ r.front = append-nil r.front in
-    stopped_by job before after r.front [] text who by r.read (end_told after.input.left r.runs.0)
+    stopped_by job before after r.front [] text who by r.read (end_told after.input r.runs.0)
     (subst (λ v. AreReplies who (answered_lines v) text) (sym same)
     (subst (λ ls. AreReplies who ls text) (sym (short_answered r.front r.runs.1)) r.runs.2.1))
-    (subst (λ v. TookPrefix before.out.held after.out.held (text ++ behind_lines v end)) (sym same)
-    (subst (λ v. TookPrefix before.out.held after.out.held (text ++ v)) (sym (short_behind r.front end r.runs.1))
-    (text ++ first, rest, ap (λ s. text ++ s) is ∙ sym (append_assoc text first rest), Appends-trans before.out.held mid after.out.held text first r.runs.2.2 took)))
+    (subst (λ v. TookPrefix before.out after.out (text ++ behind_lines v end)) (sym same)
+    (subst (λ v. TookPrefix before.out after.out (text ++ v)) (sym (short_behind r.front end r.runs.1))
+    (text ++ first, rest, ap (λ s. text ++ s) is ∙ sym (append_assoc text first rest), Appends-trans before.out mid after.out text first r.runs.2.2 took)))
 
 through_ends : (job : Job) (before after : Streams) (who : Answerer) (end : List ℕ) (answer : Result (Unit {0}) Fault) → AnswersBy job who →
     end ≡ closing job.command job.passes →
-    RunsThrough who end before.input.left after.input.left before.out.held after.out.held answer → Ends job before after answer
+    RunsThrough who end before.input after.input before.out after.out answer → Ends job before after answer
 through_ends job before after who end answer by is (cut f e r) = subst (Ends job before after) (sym e) (cut_ends job before after who f by r)
 through_ends job before after who end answer by is (part mid f r e out took) =
-    subst (Ends job before after) (sym e) (out_ends job before after f out (part_ends job before after who mid by r (subst (TookPrefix mid after.out.held) is took)))
+    subst (Ends job before after) (sym e) (out_ends job before after f out (part_ends job before after who mid by r (subst (TookPrefix mid after.out) is took)))
 through_ends job before after who end answer by is (whole mid r e took) =
     let text = r.runs.2.0 in
     subst (Ends job before after) (sym e) (
       r.front,
-      subst (λ b. IsReadUp b after.input.left) (sym by.reads) r.runs.0,
+      subst (λ b. IsReadUp b after.input) (sym by.reads) r.runs.0,
       r.runs.1,
       wrote_by job before after Appends r.front (lines r.front) (closing job.command job.passes) text who by r.read r.runs.2.1
-          (Appends-trans before.out.held mid after.out.held text (closing job.command job.passes) r.runs.2.2 (subst (Appends mid after.out.held) is took)),
+          (Appends-trans before.out mid after.out text (closing job.command job.passes) r.runs.2.2 (subst (Appends mid after.out) is took)),
     )
 
 runs_other : (who : Answerer) (left still_left old new : Option (List ℕ)) (f : Fault) → RunsOn who left still_left old new (Err f) → IsOther f
@@ -287,38 +243,38 @@ runs_other who left still_left old new fault.File r = r.runs
 runs_other who left still_left old new f r = tt
 
 -- how much was read, and which answers do not come
-record Bounded (left still_left : Option (List ℕ)) (answer : Result (Unit {0}) Fault) : Type 0 where
-  front : TookFront (input_limit + 1) left still_left
+record Bounded (before after : Streams) (answer : Result (Unit {0}) Fault) : Type 0 where
+  frugal : TookFront (input_limit + 1) before.input after.input
   not_usage : answer ≡ Err fault.Usage → ⊥
   not_file : answer ≡ Err fault.File → ⊥
 
-bounded : (left still_left old new : Option (List ℕ)) (who : Answerer) (end : List ℕ) (answer : Result (Unit {0}) Fault) →
-    RunsThrough who end left still_left old new answer → Bounded left still_left answer
-bounded left still_left old new who end answer (cut f e r) =
-    let other = runs_other who left still_left old new f r in
-    subst (Bounded left still_left) (sym e)
-    (record { front = (r.front, r.most, r.read); not_usage = not_usage_of f other; not_file = not_file_of f other })
-bounded left still_left old new who end answer (part mid f r e out took) =
-    subst (Bounded left still_left) (sym e)
-    (record { front = (r.front, r.most, r.read); not_usage = not_usage_of f (out_other f out); not_file = not_file_of f (out_other f out) })
-bounded left still_left old new who end answer (whole mid r e took) =
-    subst (Bounded left still_left) (sym e) (record { front = (r.front, r.most, r.read); not_usage = λ i. cc; not_file = λ i. cc })
+bounded : (before after : Streams) (who : Answerer) (end : List ℕ) (answer : Result (Unit {0}) Fault) →
+    RunsThrough who end before.input after.input before.out after.out answer → Bounded before after answer
+bounded before after who end answer (cut f e r) =
+    let other = runs_other who before.input after.input before.out after.out f r in
+    subst (Bounded before after) (sym e) (record { frugal = (r.front, r.most, r.read); not_usage = not_usage_of f other; not_file = not_file_of f other })
+bounded before after who end answer (part mid f r e out took) =
+    subst (Bounded before after) (sym e) (record {
+      frugal = (r.front, r.most, r.read);
+      not_usage = not_usage_of f (out_other f out);
+      not_file =
+          not_file_of f (out_other f out);
+    })
+bounded before after who end answer (whole mid r e took) =
+    subst (Bounded before after) (sym e) (record { frugal = (r.front, r.most, r.read); not_usage = λ i. cc; not_file = λ i. cc })
 
 pub through_answers : (c : Command) (given last : List Told) (files : List (List ℕ)) (who : Answerer) (end : List ℕ) (before after : Streams)
     (answer : Result (Unit {0}) Fault) → reads_input c ≡ true →
     ArePassed (calls_passes c) given last → end ≡ closing c last →
     ((ls : List (List ℕ)) (replies : List ℕ) → AreReplies who ls replies → Owes c files given last ls replies) →
-    RunsThrough who end before.input.left after.input.left before.out.held after.out.held answer →
-    Counts (answer ≡ Err fault.Input) before.input.faults after.input.faults → Counts (answer ≡ Err fault.Output) before.out.faults after.out.faults →
-    after.input.given ≤ before.input.given + (input_limit + 1) → after.input.ends ≤ before.input.ends + 1 → AnswersOn c given last files before after answer
-through_answers c given last files who end before after answer e p is owes r input out given_most ends_most =
-    let b = bounded before.input.left after.input.left before.out.held after.out.held who end answer r in record {
+    RunsThrough who end before.input after.input before.out after.out answer → AnswersOn c given files before after answer
+through_answers c given last files who end before after answer e p is owes r =
+    let b = bounded before after who end answer r in record {
+      passes = last;
       passed = p;
       ends = through_ends (record { command = c; files = files; given = given; passes = last }) before after who end answer (record { reads = e; owes = owes })
           is r;
-      sparing = record { front = b.front; given = given_most; ends = ends_most };
-      input = input;
-      out = out;
+      frugal = b.frugal;
       not_usage = b.not_usage;
       not_file = b.not_file;
     }

@@ -5,7 +5,6 @@ use Rattle.std.specs.Prelude.{Result, Ok, Err, IfOk, IfErr, Vec}
 use Rattle.std.specs.Global.{Global}
 use Rattle.cf_tree.specs.declared.memory.NoMemory.{NoMemory}
 use Rattle.cf_cases.specs.Holding.{EachOf}
-use Rattle.cf_io.specs.Seen.{ShelfSeen}
 use Rattle.cf_program.specs.Checked.{TypedTree}
 use Rattle.cf_build.specs.Solves.{IsAsked}
 use Rattle.cf_build.specs.Solves.{question_of}
@@ -17,7 +16,7 @@ use Rattle.cf_answer.specs.Certificates.{asked, asked_in}
 use Rattle.cf_answer.specs.Outside.{AreTold}
 use Rattle.cf_answer.specs.Refusals.{IsBrokenSource}
 use Rattle.cf_answer.specs.Steps.{IsVerdict}
-use Rattle.cf_answer.specs.Verifying.{AreAskedBy, AreAskedIn, NoneFailed, IsSourceFault, broken_file, no_room}
+use Rattle.cf_answer.specs.Verifying.{AreAskedBy, AreAskedIn, Shelved, NoneFailed, IsSourceFault, broken_file, no_room}
 use Rattle.cf_answer.specs.declared.fault.Fault.{Fault}
 
 abbrev IsAskedChoose : Choose → Type 0
@@ -47,7 +46,7 @@ pub source_asked : (known : Option (List ℕ)) (text : List ℕ) (r : Result (Ve
 source_asked known text (Ok qs) told asks = (text, told, asks)
 source_asked known text (Err f) told refused = tt
 
-module _ (name : List ℕ) (before after : ShelfSeen) (text : List ℕ) (told : AreTold (before.texts name) text) where
+module _ (name : List ℕ) (before after : Shelved) (text : List ℕ) (told : AreTold (before.texts name) text) where
   pub source_fault : (r : Result (Vec Question Global) Fault) → Verdict text r → NoneFailed before after → IfErr r (IsSourceFault name before after)
   source_fault (Ok qs) asks same = tt
   source_fault (Err f) (inl broken) same = broken_file (text, told, broken) same

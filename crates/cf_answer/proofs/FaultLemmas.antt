@@ -1,6 +1,6 @@
 -- The faults of a text.
-use Rattle.std.proofs.Common.{ℕ, List, [], ◌∷◌}
-use Rattle.std.specs.Prelude.{Result, Err}
+use Rattle.std.proofs.Common.{◌≡◌, inl, inr, sym, subst, ℕ, List, [], ◌∷◌}
+use Rattle.std.specs.Prelude.{◌⊎◌, Result, Err}
 use Rattle.cf_gen.specs.Workload.{gen_source}
 use Rattle.cf_lex.specs.declared.token.Token.{Token}
 use Rattle.cf_reader.specs.Readers.{Reader}
@@ -74,3 +74,38 @@ refused_fault (prove name) (text ∷ []) f h = source_text text f h
 refused_fault (verify name other) (source ∷ steps ∷ []) f h = verify_fault source steps f h
 refused_fault (gen n) [] f h = source_text (gen_source n) f h
 refused_fault c files f h = absurd h
+
+-- a source that is refused, or for which memory ran out, names no object outside
+abbrev pub IsInner : Fault → Type 0
+IsInner fault.Usage = ⊥
+IsInner fault.File = ⊥
+IsInner fault.Input = ⊥
+IsInner fault.Output = ⊥
+IsInner fault.InputTooLong = ⊥
+IsInner f = Unit {0}
+
+text_inner : (f : Fault) → IsTextFault f → IsInner f
+text_inner fault.Usage h = h
+text_inner fault.File h = h
+text_inner fault.Input h = h
+text_inner fault.Output h = h
+text_inner fault.InputTooLong h = h
+text_inner f h = tt
+
+pub source_inner : (text : List ℕ) (f : Fault) → IsRefusedSource text f ⊎ (f ≡ fault.NoMemory) → IsInner f
+source_inner text f (inl h) = text_inner f (source_text text f h)
+source_inner text f (inr e) = subst IsInner (sym e) tt
+
+pub run_inner : (text : List ℕ) (f : Fault) → IsRefusedRun text f ⊎ (f ≡ fault.NoMemory) → IsInner f
+run_inner text f (inl h) = text_inner f (run_text text f h)
+run_inner text f (inr e) = subst IsInner (sym e) tt
+
+pub target_inner : (text : List ℕ) (f : Fault) → IsRefusedTarget text f ⊎ (f ≡ fault.NoMemory) → IsInner f
+target_inner text f (inl h) = text_inner f (target_text text f h)
+target_inner text f (inr e) = subst IsInner (sym e) tt
+
+pub inner_input : (f : Fault) → IsInner f → failed f ≡ Err fault.Input → ⊥
+inner_input f h e = let same : f ≡ fault.Input = cc in subst IsInner same h
+
+pub inner_output : (f : Fault) → IsInner f → failed f ≡ Err fault.Output → ⊥
+inner_output f h e = let same : f ≡ fault.Output = cc in subst IsInner same h

@@ -1,5 +1,5 @@
 -- Worked examples of sources whose coefficients are inputs: what `run` replies to a line, and what it refuses.
-use Rattle.std.proofs.Common.{◌≡◌, ap, subst, refl, ℕ, true, pos, List, [], ◌∷◌, ◌++◌, ◌-◌, ◌+◌, Ok, Err, Some, codes, arith}
+use Rattle.std.proofs.Common.{◌≡◌, ap, subst, refl, ℕ, pos, List, [], ◌∷◌, ◌++◌, ◌-◌, ◌+◌, Ok, Err, Some, codes, arith}
 use Rattle.std.specs.Fmt.{digits}
 use Rattle.cf_num.specs.Divisors.{gcd_by, factors_by}
 use Rattle.cf_num.specs.Limit.{limit as greatest}
@@ -31,7 +31,7 @@ use Rattle.cf_program.specs.Checked.{TypedTree, checked}
 use Rattle.cf_program.specs.declared.fault.TypeFault.TheVariants as rule
 use Rattle.cf_answer.specs.LateReplies.{main_comes, IsLateReply, comes}
 use Rattle.cf_answer.specs.Owed.{by_late, AreReplies, OwesRun, compiled, late}
-use Rattle.cf_pass.specs.Passes.{Told}
+use Rattle.cf_answer.specs.Passes.{Told}
 use Rattle.cf_answer.specs.Picked.{main_bases}
 use Rattle.cf_answer.specs.Refusals.{IsBadProgram, broken, IsBadRun, broken_late}
 use Rattle.cf_answer.specs.Sources.{IsTypedSource, IsCheckedLate, IsLateSource}
@@ -105,7 +105,7 @@ not_compiled source tree other l s =
     let broken : checked l.0 ≡ Err (rule.NotLinear l.2.0) = l.2.1 in absurd (cc)
 
 abbrev told : ℕ → List Told
-told tally = record { name = codes "fold"; tally = tally; turns = 0 } ∷ []
+told tally = record { name = codes "fold"; tally = tally } ∷ []
 
 -- the tally of the first
 abbrev first_tally : List Told → ℕ
@@ -113,8 +113,8 @@ first_tally [] = 0
 first_tally (p ∷ ps) = p.tally
 
 a_pass_that_worked : (source : List ℕ) (tree : TypedTree) (ls : List (List ℕ)) (text : List ℕ) → IsLateSource source tree →
-    OwesRun true source (told 0) (told 1) ls text → ⊥
-a_pass_that_worked source tree ls text l (compiled t (c, turned) replies picked) = not_compiled source tree c.0 l c.1
+    OwesRun 1 source (told 0) (told 1) ls text → ⊥
+a_pass_that_worked source tree ls text l (compiled t c replies picked) = not_compiled source tree c.0 l c.1
 a_pass_that_worked source tree ls text l (late other s replies allowed same) = let one : 1 ≡ 0 = ap first_tally same in omega (arith, one)
 
 -- ---- what it replies

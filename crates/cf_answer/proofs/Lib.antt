@@ -42,8 +42,3 @@ pub mod WorkloadSource
 pub mod WorkloadSum
 pub mod WorkloadTyped
 pub mod WrittenLemmas
-mod LimitExamples
-mod ReplyExamples
-mod BlockExamples
-mod StatusExamples
-mod OutsideExamples

@@ -1,36 +1,25 @@
 -- What is left as it was, and what a file tells.
-use Rattle.std.proofs.Common.{◌≡◌, sym, ap, subst, refl, ℕ, ◌<◌, ◌+◌, List, [], replicate, length, Option, Some, None, arith}
+use Rattle.std.proofs.Common.{◌≡◌, sym, refl, ℕ, ◌<◌, ◌+◌, List, [], replicate, length, Option, Some, None, arith}
 use Rattle.std.proofs.lemmas.List.{length-replicate}
 use Rattle.std.specs.Prelude.{IfSome}
 use Rattle.std.proofs.KnownBytes.{Consumes-nil}
-use Rattle.cf_io.specs.Seen.{SourceSeen}
+use Rattle.cf_io.specs.Bytes.{TookFront}
+use Rattle.cf_io.specs.Limits.{input_limit}
 use Rattle.cf_answer.specs.Limits.{text_limit}
-use Rattle.cf_answer.specs.Outside.{Outside, AreTold, Counts, IsSparing}
+use Rattle.cf_answer.specs.Outside.{Outside, AreTold, Counts}
 
 -- nothing was read of the input and nothing written
-abbrev pub Untouched : Outside → Outside → Type 0
-Untouched before after = after.streams ≡ before.streams
+pub record Untouched (before after : Outside) : Type 0 where
+  pub input : after.input ≡ before.input
+  pub out : after.out ≡ before.out
+  pub input_faults : after.input_faults ≡ before.input_faults
+  pub out_faults : after.out_faults ≡ before.out_faults
 
-pub nothing_read : (input : SourceSeen) → IsSparing input input
-nothing_read input = record { front = ([], omega arith, Consumes-nil input.left); given = omega arith; ends = omega arith }
-
-pub none_read : (before after : Outside) → Untouched before after → IsSparing before.streams.input after.streams.input
-none_read before after still = subst (λ s. IsSparing before.streams.input s.input) (sym still) (nothing_read before.streams.input)
-
-pub none_written : (before after : Outside) → Untouched before after → after.streams.out.held ≡ before.streams.out.held
-none_written before after still = ap (λ s. s.out.held) still
+pub nothing_read : (left still_left : Option (List ℕ)) → still_left ≡ left → TookFront (input_limit + 1) left still_left
+nothing_read left still_left is = rw is ([], omega arith, Consumes-nil left)
 
 pub no_fault : {failed : Type 0} (old new : ℕ) → (failed → ⊥) → new ≡ old → Counts failed old new
 no_fault old new never is = record { same = λ _. is; rose = λ h. absurd (never h) }
-
-pub no_input_fault : {failed : Type 0} (before after : Outside) → Untouched before after → (failed → ⊥) →
-    Counts failed before.streams.input.faults after.streams.input.faults
-no_input_fault before after still never =
-    no_fault before.streams.input.faults after.streams.input.faults never (ap (λ s. s.input.faults) still)
-
-pub no_out_fault : {failed : Type 0} (before after : Outside) → Untouched before after → (failed → ⊥) →
-    Counts failed before.streams.out.faults after.streams.out.faults
-no_out_fault before after still never = no_fault before.streams.out.faults after.streams.out.faults never (ap (λ s. s.out.faults) still)
 
 -- the text that was read is the one that is told
 pub text_told : (told : Option (List ℕ)) (text : List ℕ) → IfSome told (λ t. text ≡ t) → AreTold told text

@@ -1,40 +1,37 @@
 -- What the passes tell.
-use Rattle.std.proofs.Common.{◌≡◌, ◌∙◌, inl, inr, ap, sym, subst, refl, ℕ, suc, Bool, true, false, not, List, [], ◌∷◌, length}
-use Rattle.std.proofs.lemmas.List.{length-map}
-use Rattle.std.specs.Prelude.{Result, Ok, Err, OnOk, OnErr, map}
-use Rattle.cf_pass.specs.Passes.{Told, HaveTurned}
-use Rattle.cf_tree.specs.declared.target.RawTarget.{RawTarget}
-use Rattle.cf_answer.specs.Owed.{IsCompiledBy}
-use Rattle.cf_answer.specs.Passes.{ArePassed}
-use Rattle.cf_answer.specs.Refusals.{IsRefusedSource}
-use Rattle.cf_answer.specs.Sources.{Compiles}
-use Rattle.cf_answer.specs.Steps.{IsVerdict}
-use Rattle.cf_answer.specs.declared.fault.Fault.{Fault}
+use Rattle.std.proofs.Common.{◌≡◌, ◌∙◌, sym, ap, subst, refl, ℕ, Bool, true, false, List, [], ◌∷◌, map}
+use Rattle.cf_pass.specs.Passes.{NoneFell}
+use Rattle.cf_pass.proofs.Tallies.{none_fell}
+use Rattle.cf_answer.specs.Passes.{Told, HaveWorked, ArePassed}
 
 -- passes that are not called tell what they told
 pub unpassed : (called : Bool) (given : List Told) → ArePassed called given given
-unpassed true given = inr refl
+unpassed true given = (refl, none_fell (map (λ p. p.tally) given))
 unpassed false given = refl
 
--- each was called, or none
-pub turned_or_kept : {A E : Type 0} (r : Result A E) (given last : List Told) → OnOk r (HaveTurned given last) → OnErr r (last ≡ given) → ArePassed true given last
-turned_or_kept (Ok x) given last turned kept = inl turned
-turned_or_kept (Err e) given last turned kept = inr kept
+-- what passes tell by their names and tallies
+abbrev pub told_by : {P : Type 0} → (P → List ℕ) → (P → ℕ) → P → Told
+told_by name tally p = record { name = name p; tally = tally p }
 
--- there are as many as before
-pub as_many : (given last : List Told) → HaveTurned given last → length last ≡ length given
-as_many [] [] h = refl
-as_many [] (n ∷ last) h = absurd h
-as_many (o ∷ given) [] h = absurd h
-as_many (o ∷ given) (n ∷ last) h = ap suc (as_many given last h.1)
+abbrev name_of : Told → List ℕ
+name_of p = p.name
 
-pub as_many_passes : {P : Type 0} (tell : P → Told) (old : List P) (last : List Told) → HaveTurned (map tell old) last → length old ≡ length last
-as_many_passes tell old last h = sym (length-map old tell) ∙ sym (as_many (map tell old) last h)
+abbrev tally_of : Told → ℕ
+tally_of p = p.tally
 
--- a source that no pass is called for
-pub plain_verdict : (source : List ℕ) (last given : List Told) (r : Result RawTarget Fault) →
-    IsVerdict (IsCompiledBy true source [] last) (IsRefusedSource source) r →
-    IsVerdict (IsCompiledBy false source given given) (IsRefusedSource source) r
-plain_verdict source last given (Ok t) v =
-    let none : length last ≡ 0 = as_many [] last v.1 in (subst (λ n. Compiles n source t) none v.0, refl)
-plain_verdict source last given (Err f) v = v
+told_names : {P : Type 0} (name : P → List ℕ) (tally : P → ℕ) (ps : List P) → map name_of (map (told_by name tally) ps) ≡ map name ps
+told_names name tally [] = refl
+told_names name tally (p ∷ ps) = ap (λ ns. name p ∷ ns) (told_names name tally ps)
+
+told_tallies : {P : Type 0} (name : P → List ℕ) (tally : P → ℕ) (ps : List P) → map tally_of (map (told_by name tally) ps) ≡ map tally ps
+told_tallies name tally [] = refl
+told_tallies name tally (p ∷ ps) = ap (λ ns. tally p ∷ ns) (told_tallies name tally ps)
+
+-- passes whose names are the same and none of whose tallies fell have worked
+pub worked : {P : Type 0} (name : P → List ℕ) (tally : P → ℕ) (old new : List P) → map name new ≡ map name old → NoneFell (map tally old) (map tally new) →
+    HaveWorked (map (told_by name tally) old) (map (told_by name tally) new)
+worked name tally old new names tallies = (
+  told_names name tally new ∙ names ∙ sym (told_names name tally old),
+  subst (λ ns. NoneFell ns (map tally_of (map (told_by name tally) new))) (sym (told_tallies name tally old))
+      (subst (NoneFell (map tally old)) (sym (told_tallies name tally new)) tallies),
+)

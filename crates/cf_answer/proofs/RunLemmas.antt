@@ -1,5 +1,5 @@
 -- Why `run` refuses a source text, and what answers its lines where it does not.
-use Rattle.std.proofs.Common.{◌≡◌, ap, subst, refl, inl, inr, ℕ, Bool, true, false, List, [], length}
+use Rattle.std.proofs.Common.{◌≡◌, ap, refl, inl, inr, ℕ, List}
 use Rattle.std.specs.Prelude.{◌⊎◌, Result, Ok, Err}
 use Rattle.cf_linear.specs.declared.refusal.Refusal.{Refusal}
 use Rattle.cf_parse.specs.Programs.{IsProgram, program_of}
@@ -19,14 +19,13 @@ use Rattle.cf_tree.specs.declared.target.RawTarget.{RawTarget}
 use Rattle.cf_build.specs.Built.{IsBuilt}
 use Rattle.cf_build.specs.Questions.{all_questions, IsFirstRefused}
 use Rattle.cf_eval.specs.Spelling.{without_return}
-use Rattle.cf_pass.specs.Passes.{Told, HaveTurned}
 use Rattle.cf_late.proofs.AllowedLaws.{late_runs_are_allowed}
 use Rattle.cf_answer.specs.LateReplies.{AreRunsAllowed}
-use Rattle.cf_answer.specs.Owed.{by_target, by_late, ArePicked, OwesRun, compiled, late}
-use Rattle.cf_answer.specs.Passes.{applied}
+use Rattle.cf_answer.specs.Owed.{by_target, by_late, OwesRun, compiled, late}
+use Rattle.cf_answer.specs.Passes.{Told}
 use Rattle.cf_answer.specs.Picked.{main_bases}
 use Rattle.cf_answer.specs.Refusals.{Causes, bad_tree, IsBadProgram, broken, refused, IsBadRun, bad, broken_late, IsRefusedRun}
-use Rattle.cf_answer.specs.Sources.{Spelled, IsTypedSource, IsCheckedLate, Compiles}
+use Rattle.cf_answer.specs.Sources.{Spelled, IsTypedSource, IsCheckedLate}
 use Rattle.cf_answer.specs.Statuses.{rule_status, fault_status}
 use Rattle.cf_answer.specs.Steps.{IsVerdict, IsMisspelled, IsRunner, answerer_of}
 use Rattle.cf_answer.specs.declared.answerer.Answerer.{Answerer as DeclaredAnswerer}
@@ -34,7 +33,6 @@ use Rattle.cf_answer.specs.declared.fault.Fault.{Fault}
 use Rattle.cf_answer.specs.declared.fault.Fault.TheVariants as fault
 use Rattle.cf_answer.proofs.CauseLemmas.{alike, unrefused}
 use Rattle.cf_answer.proofs.LateLemmas.{main_types}
-use Rattle.cf_answer.proofs.PassLemmas.{as_many}
 use Rattle.cf_answer.proofs.PickedLemmas.{replies_picked, values_fit}
 use Rattle.cf_answer.proofs.SourceLemmas.{bad_alike, built_never_bad, fails_so}
 use Rattle.cf_answer.proofs.TextLemmas.{caused_too}
@@ -79,21 +77,20 @@ pub late_run_kept : (program : List RawDefTree) (typed : TypedTree) → IsChecke
 late_run_kept program typed c f (bad g b n) = only_late program c.0 g c.1 b n
 late_run_kept program typed c f (broken_late p e plain h) = let kept : checked_by Late program ≡ Ok typed = c.2 in cc
 
-pub run_unrefused : (calls : Bool) (source : List ℕ) (given last : List Told) (ls : List (List ℕ)) (text : List ℕ) (f : Fault) →
-    OwesRun calls source given last ls text → IsRefusedRun source f → ⊥
-run_unrefused calls source given last ls text f (compiled t (c, turned) replies picked) r =
-    unrefused IsProgram (program_of 200) IsBadRun one_law source f c.1.0 (built_run c.1.0 c.0 (applied calls last) t c.1.2 c.2) r c.1.1
-run_unrefused calls source given last ls text f (late typed s replies allowed same) r =
+pub run_unrefused : (passes : ℕ) (source : List ℕ) (given last : List Told) (ls : List (List ℕ)) (text : List ℕ) (f : Fault) →
+    OwesRun passes source given last ls text → IsRefusedRun source f → ⊥
+run_unrefused passes source given last ls text f (compiled t c replies picked) r =
+    unrefused IsProgram (program_of 200) IsBadRun one_law source f c.1.0 (built_run c.1.0 c.0 passes t c.1.2 c.2) r c.1.1
+run_unrefused passes source given last ls text f (late typed s replies allowed same) r =
     unrefused IsProgram (program_of 200) IsBadRun one_law source f s.0 (late_run_kept s.0 typed s.2) r s.1
 
 -- ---- what answers the lines
 
 -- a target
-pub target_runs : (text : List ℕ) (typed : TypedTree) (passes : ℕ) (t : RawTarget) (given last : List Told) → passes ≡ length last →
-    HaveTurned given last → IsTypedSource text typed → IsBuilt typed.defs typed.main passes t → IsRunner true text given last (by_target t)
-target_runs text typed passes t given last many turned s built =
-    let by_all : IsBuilt typed.defs typed.main (length last) t = subst (λ n. IsBuilt typed.defs typed.main n t) many built in
-    λ ls replies r. compiled t ((typed, s, by_all), turned) r (replies_picked (length last) text t ls replies (typed, s, by_all) r)
+pub target_runs : (text : List ℕ) (typed : TypedTree) (passes : ℕ) (t : RawTarget) (given last : List Told) → IsTypedSource text typed →
+    IsBuilt typed.defs typed.main passes t → IsRunner passes text given last (by_target t)
+target_runs text typed passes t given last s built =
+    λ ls replies r. compiled t (typed, s, built) r (replies_picked passes text t ls replies (typed, s, built) r)
 
 -- a late program
 runs_allowed : (program : List RawDefTree) (typed : TypedTree) → IsSpelledProgram program → checked_by Late program ≡ Ok typed → AreRunsAllowed typed
@@ -103,25 +100,23 @@ runs_allowed program typed s is =
     let fit = values_fit (main_bases typed) (without_return line) vs spelled in
     late_runs_are_allowed typed.defs typed.main kept vs (main_types typed vs kept fit.0) fit.1
 
-pub late_runs_on : (text : List ℕ) (program : List RawDefTree) (typed : TypedTree) (p : Place) (calls : Bool) (given : List Told) →
+pub late_runs_on : (text : List ℕ) (program : List RawDefTree) (typed : TypedTree) (p : Place) (passes : ℕ) (given : List Told) →
     Spelled IsProgram text program →
-    IsSpelledProgram program → checked program ≡ Err (rule.NotLinear p) → checked_by Late program ≡ Ok typed → IsRunner calls text given given (by_late typed)
-late_runs_on text program typed p calls given s numbers plain is =
+    IsSpelledProgram program → checked program ≡ Err (rule.NotLinear p) → checked_by Late program ≡ Ok typed → IsRunner passes text given given (by_late typed)
+late_runs_on text program typed p passes given s numbers plain is =
     λ ls replies r. late typed (program, s, (p, plain, is)) r (runs_allowed program typed numbers is) refl
 
 -- where no pass is called, all passes tell what they told
-owes_unpassed : (source : List ℕ) (last given : List Told) (ls : List (List ℕ)) (text : List ℕ) → OwesRun true source [] last ls text →
-    OwesRun false source given given ls text
-owes_unpassed source last given ls text (compiled t (c, turned) replies picked) =
-    let none : length last ≡ 0 = as_many [] last turned in
-    compiled t (subst (λ n. Compiles n source t) none c, refl) replies (subst (λ n. ArePicked n source ls text) none picked)
-owes_unpassed source last given ls text (late typed s replies allowed same) = late typed s replies allowed refl
+owes_unpassed : (source : List ℕ) (none last given : List Told) (ls : List (List ℕ)) (text : List ℕ) → OwesRun 0 source none last ls text →
+    OwesRun 0 source given given ls text
+owes_unpassed source none last given ls text (compiled t c replies picked) = compiled t c replies picked
+owes_unpassed source none last given ls text (late typed s replies allowed same) = late typed s replies allowed refl
 
-pub unpassed_verdict : (source : List ℕ) (last given : List Told) (r : Result DeclaredAnswerer Fault) →
-    IsVerdict (λ a. IsRunner true source [] last (answerer_of a)) (IsRefusedRun source) r →
-    IsVerdict (λ a. IsRunner false source given given (answerer_of a)) (IsRefusedRun source) r
-unpassed_verdict source last given (Ok a) v = λ ls text replies. owes_unpassed source last given ls text (v ls text replies)
-unpassed_verdict source last given (Err f) v = v
+pub unpassed_verdict : (source : List ℕ) (none last given : List Told) (r : Result DeclaredAnswerer Fault) →
+    IsVerdict (λ a. IsRunner 0 source none last (answerer_of a)) (IsRefusedRun source) r →
+    IsVerdict (λ a. IsRunner 0 source given given (answerer_of a)) (IsRefusedRun source) r
+unpassed_verdict source none last given (Ok a) v = λ ls text replies. owes_unpassed source none last given ls text (v ls text replies)
+unpassed_verdict source none last given (Err f) v = v
 
 -- ---- why it is refused
 pub run_broken : (text : List ℕ) (program : List RawDefTree) (e : TypeFault) → (e ≡ rule.NoMemory → ⊥) → ((p : Place) → e ≡ rule.NotLinear p → ⊥) →

@@ -2,9 +2,9 @@
 use Rattle.std.proofs.Common.{◌≡◌, ◌*◌, ℕ, List, [], codes, refl, ◌∙◌, arith}
 use Rattle.std.specs.Fmt.{digits}
 use Rattle.cf_gen.specs.Workload.{gen_sum}
-use Rattle.cf_pass.specs.Passes.{Told}
 use Rattle.cf_words.specs.Commands.{gen}
 use Rattle.cf_answer.specs.Owed.{sum_line, Owes}
+use Rattle.cf_answer.specs.Passes.{Told}
 use Rattle.cf_answer.proofs.WorkloadLaw.{sums_are}
 
 line_of_1 : sum_line (1 * 1) (gen_sum 1) ≡ codes "lines 1 sum -96\n"

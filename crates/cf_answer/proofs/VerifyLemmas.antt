@@ -5,18 +5,18 @@ use Rattle.std.proofs.lemmas.Grind.{flat_map-append}
 use Rattle.std.specs.Prelude.{◌⊎◌, ◌<◌, Result, Err, Option, Some, IfSome, Contains, length}
 use Rattle.cf_io.specs.Bytes.{TookFront}
 use Rattle.cf_io.specs.Causes.{Rose, one_more}
-use Rattle.cf_io.specs.Seen.{ShelfSeen}
-use Rattle.cf_pass.specs.Passes.{Told}
+use Rattle.cf_io.specs.Limits.{input_limit}
 use Rattle.cf_words.specs.Commands.{verify}
-use Rattle.cf_answer.specs.Ends.{Job, Ends, Does, AnswersOn}
+use Rattle.cf_answer.specs.Ends.{Job, streams_of, Ends, Does, AnswersOn}
 use Rattle.cf_answer.specs.Limits.{text_limit}
-use Rattle.cf_answer.specs.Outside.{Outside, AreTold, Counts, IsSparing, IsFrugal}
+use Rattle.cf_answer.specs.Outside.{Outside, AreTold, Counts, IsFrugal}
+use Rattle.cf_answer.specs.Passes.{Told}
 use Rattle.cf_answer.specs.Owed.{Owes}
 use Rattle.cf_answer.specs.Refusals.{too_long, IsBrokenSource, IsUnverified, bad_source, bad_steps, bad_blocks}
 use Rattle.cf_answer.specs.Statuses.{status_of}
 use Rattle.cf_answer.specs.Sources.{IsTypedSource}
 use Rattle.cf_answer.specs.Texts.{numbered_line}
-use Rattle.cf_answer.specs.Verifying.{AreAskedIn, AreMisspelled, AreReadFrom, IsFetched, NoneFailed, IsSourceFault, file_failed, broken_file, no_room}
+use Rattle.cf_answer.specs.Verifying.{AreAskedIn, AreMisspelled, AreReadFrom, Shelved, shelf_of, IsFetched, NoneFailed, IsSourceFault, file_failed, broken_file, no_room}
 use Rattle.cf_answer.specs.declared.fault.Fault.{Fault}
 use Rattle.cf_answer.specs.declared.fault.Fault.TheVariants as fault
 use Rattle.cf_answer.specs.declared.fault.StepsFault.TheVariants as steps_fault
@@ -33,7 +33,7 @@ use Rattle.cf_cert.specs.declared.verdict.Why.{Why}
 use Rattle.cf_answer.specs.Certificates.{asked, asked_in, verified_line}
 use Rattle.cf_answer.proofs.CertificateLemmas.{typed_unbroken, yes_proves}
 use Rattle.cf_answer.proofs.CountLemmas.{one_fault}
-use Rattle.cf_answer.proofs.OutsideLemmas.{Untouched, none_read, none_written, no_input_fault, no_out_fault, long_text}
+use Rattle.cf_answer.proofs.OutsideLemmas.{Untouched, nothing_read, no_fault, long_text}
 use Rattle.cf_answer.proofs.FaultLemmas.{failed, IsTextFault, refused_fault}
 use Rattle.cf_answer.proofs.StatusLemmas.{is_file}
 use Rattle.cf_answer.proofs.AnswerLemmas.{refused_ends}
@@ -41,10 +41,10 @@ use Rattle.cf_answer.proofs.StepLemmas.{left_of, left_told}
 
 module _ (file steps : List ℕ) (given : List Told) where
   abbrev Verifies : Outside → Outside → Result (Unit {0}) Fault → Type 0
-  Verifies before after answer = Does (verify file steps) given given before after answer
+  Verifies before after answer = Does (verify file steps) given before after answer
 
-  abbrev job_on : List ℕ → List ℕ → Job
-  job_on source text = record { command = verify file steps; files = source ∷ text ∷ []; given = given; passes = given }
+  abbrev job_on : List ℕ → List ℕ → List Told → Job
+  job_on source text passes = record { command = verify file steps; files = source ∷ text ∷ []; given = given; passes = passes }
 
   file_among : Contains (file ∷ steps ∷ []) file
   file_among = search rules
@@ -53,43 +53,40 @@ module _ (file steps : List ℕ) (given : List Told) where
   steps_among = search rules
 
   -- one file was fetched, or both
-  one_frugal : (before after : Outside) → IsFetched file before.shelf after.shelf → IsSparing before.streams.input after.streams.input →
+  one_frugal : (before after : Outside) → IsFetched file (shelf_of before) (shelf_of after) → TookFront (input_limit + 1) before.input after.input →
       IsFrugal (file ∷ steps ∷ []) before after
   one_frugal before after f input = record {
     fetches = omega (arith, f.fetched);
-    given = omega (arith, f.given);
-    ends = omega (arith, f.ends);
     file = elim f.most [ inl same ↦ inl same | inr took ↦ inr (file, file_among, took) ];
     input = input;
   }
 
-  two_frugal : (before after : Outside) (mid : ShelfSeen) → IsFetched file before.shelf mid → IsFetched steps mid after.shelf →
-      IsSparing before.streams.input after.streams.input → IsFrugal (file ∷ steps ∷ []) before after
+  two_frugal : (before after : Outside) (mid : Shelved) → IsFetched file (shelf_of before) mid → IsFetched steps mid (shelf_of after) →
+      TookFront (input_limit + 1) before.input after.input → IsFrugal (file ∷ steps ∷ []) before after
   two_frugal before after mid f s input = record {
     fetches = omega (arith, f.fetched, s.fetched);
-    given = omega (arith, f.given, s.given);
-    ends = omega (arith, f.ends, s.ends);
     file = elim s.most [
       | inl same ↦ elim f.most [
         | inl before_too ↦ inl (same ∙ before_too)
-        | inr took ↦ inr (file, file_among, subst (TookFront (text_limit + 1) (before.shelf.texts file)) (sym same) took)
+        | inr took ↦ inr (file, file_among, subst (TookFront (text_limit + 1) (before.texts file)) (sym same) took)
       ]
-      | inr took ↦ inr (steps, steps_among, subst (λ t. TookFront (text_limit + 1) t after.shelf.left) (f.texts steps) took)
+      | inr took ↦ inr (steps, steps_among, subst (λ t. TookFront (text_limit + 1) t after.left) (f.texts steps) took)
     ];
     input = input;
   }
 
   -- no file failed
-  ended_does : (before after : Outside) (source text : List ℕ) (answer : Result (Unit {0}) Fault) →
-      AreTold (before.shelf.texts file) source → AreTold (before.shelf.texts steps) text → Ends (job_on source text) before.streams after.streams answer →
+  ended_does : (before after : Outside) (source text : List ℕ) (passes : List Told) (answer : Result (Unit {0}) Fault) → passes ≡ given →
+      AreTold (before.texts file) source → AreTold (before.texts steps) text → Ends (job_on source text passes) (streams_of before) (streams_of after) answer →
       IsFrugal (file ∷ steps ∷ []) before after →
-      NoneFailed before.shelf after.shelf → (answer ≡ Err fault.File → ⊥) →
-      Counts (answer ≡ Err fault.Input) before.streams.input.faults after.streams.input.faults →
-      Counts (answer ≡ Err fault.Output) before.streams.out.faults after.streams.out.faults → Verifies before after answer
-  ended_does before after source text answer s t ends frugal same not_file input out = record {
+      NoneFailed (shelf_of before) (shelf_of after) → (answer ≡ Err fault.File → ⊥) →
+      Counts (answer ≡ Err fault.Input) before.input_faults after.input_faults →
+      Counts (answer ≡ Err fault.Output) before.out_faults after.out_faults → Verifies before after answer
+  ended_does before after source text passes answer passed s t ends frugal same not_file input out = record {
     files = source ∷ text ∷ [];
     told = (s, (t, tt));
-    passed = refl;
+    passes = passes;
+    passed = passed;
     ends = ends;
     blames = record { files = λ _. same; file = λ i. absurd (not_file i); others = λ i. absurd (not_file i); input = input; out = out };
     frugal = frugal;
@@ -97,106 +94,113 @@ module _ (file steps : List ℕ) (given : List Told) where
 
   -- a file failed
   failed_does : (before after : Outside) (name : List ℕ) → Contains (file ∷ steps ∷ []) name → IsFrugal (file ∷ steps ∷ []) before after →
-      Untouched before after → Rose (before.shelf.faults name) (after.shelf.faults name) →
-      ((other : List ℕ) → after.shelf.faults other ≤ one_more (before.shelf.faults other)) → Verifies before after (Err fault.File)
+      Untouched before after → Rose (before.file_faults name) (after.file_faults name) →
+      ((other : List ℕ) → after.file_faults other ≤ one_more (before.file_faults other)) → Verifies before after (Err fault.File)
   failed_does before after name among frugal none rose once = record {
-    files = left_of (before.shelf.texts file) ∷ left_of (before.shelf.texts steps) ∷ [];
-    told = (left_told (before.shelf.texts file), (left_told (before.shelf.texts steps), tt));
+    files = left_of (before.texts file) ∷ left_of (before.texts steps) ∷ [];
+    told = (left_told (before.texts file), (left_told (before.texts steps), tt));
+    passes = given;
     passed = refl;
-    ends = none_written before after none;
+    ends = none.out;
     blames = record {
       files = λ n. absurd (n refl);
-      file = λ _. (name, among, one_fault (before.shelf.faults name) (after.shelf.faults name) rose (once name));
+      file = λ _. (name, among, one_fault (before.file_faults name) (after.file_faults name) rose (once name));
       others = λ _. once;
-      input = no_input_fault before after none (λ i. cc);
-      out = no_out_fault before after none (λ i. cc);
+      input = no_fault before.input_faults after.input_faults (λ i. cc) none.input_faults;
+      out = no_fault before.out_faults after.out_faults (λ i. cc) none.out_faults;
     };
     frugal = frugal;
   }
 
   -- a fault that names no object
-  inner_does : (before after : Outside) (source text : List ℕ) (f : Fault) → AreTold (before.shelf.texts file) source → AreTold (before.shelf.texts steps) text →
-      Ends (job_on source text) before.streams after.streams (Err f) → IsFrugal (file ∷ steps ∷ []) before after → Untouched before after →
-      NoneFailed before.shelf after.shelf → (failed f ≡ Err fault.File → ⊥) → (failed f ≡ Err fault.Input → ⊥) → (failed f ≡ Err fault.Output → ⊥) →
+  inner_does : (before after : Outside) (source text : List ℕ) (f : Fault) → AreTold (before.texts file) source → AreTold (before.texts steps) text →
+      Ends (job_on source text given) (streams_of before) (streams_of after) (Err f) → IsFrugal (file ∷ steps ∷ []) before after → Untouched before after →
+      NoneFailed (shelf_of before) (shelf_of after) → (failed f ≡ Err fault.File → ⊥) → (failed f ≡ Err fault.Input → ⊥) → (failed f ≡ Err fault.Output → ⊥) →
       Verifies before after (Err f)
   inner_does before after source text f s t ends frugal none same not_file not_input not_out =
-      ended_does before after source text (Err f) s t ends frugal same not_file (no_input_fault before after none not_input)
-      (no_out_fault before after none not_out)
+      ended_does before after source text given (Err f) refl s t ends frugal same not_file
+      (no_fault before.input_faults after.input_faults not_input none.input_faults)
+      (no_fault before.out_faults after.out_faults not_out none.out_faults)
 
-  refused_does : (before after : Outside) (source text : List ℕ) (f : Fault) → AreTold (before.shelf.texts file) source → AreTold (before.shelf.texts steps) text →
-      IsUnverified source text f → IsFrugal (file ∷ steps ∷ []) before after → Untouched before after → NoneFailed before.shelf after.shelf →
+  refused_does : (before after : Outside) (source text : List ℕ) (f : Fault) → AreTold (before.texts file) source → AreTold (before.texts steps) text →
+      IsUnverified source text f → IsFrugal (file ∷ steps ∷ []) before after → Untouched before after → NoneFailed (shelf_of before) (shelf_of after) →
       Verifies before after (Err f)
   refused_does before after source text f s t h frugal none same =
       let is : IsTextFault f = refused_fault (verify file steps) (source ∷ text ∷ []) f h in
-      inner_does before after source text f s t (refused_ends (job_on source text) before.streams after.streams f is h (none_written before after none)) frugal none
+      inner_does before after source text f s t (refused_ends (job_on source text given) (streams_of before) (streams_of after) f is h none.out) frugal none
       same
       (λ e. let this : f ≡ fault.File = cc in subst IsTextFault this is) (λ e. let this : f ≡ fault.Input = cc in subst IsTextFault this is)
       (λ e. let this : f ≡ fault.Output = cc in subst IsTextFault this is)
 
-  memory_does : (before after : Outside) → IsFrugal (file ∷ steps ∷ []) before after → Untouched before after → NoneFailed before.shelf after.shelf →
+  memory_does : (before after : Outside) → IsFrugal (file ∷ steps ∷ []) before after → Untouched before after → NoneFailed (shelf_of before) (shelf_of after) →
       Verifies before after (Err fault.NoMemory)
   memory_does before after frugal none same =
-      inner_does before after (left_of (before.shelf.texts file)) (left_of (before.shelf.texts steps)) fault.NoMemory (left_told (before.shelf.texts file))
-      (left_told (before.shelf.texts steps)) (inr (none_written before after none)) frugal none same (λ e. cc) (λ e. cc) (λ e. cc)
+      inner_does before after (left_of (before.texts file)) (left_of (before.texts steps)) fault.NoMemory (left_told (before.texts file))
+      (left_told (before.texts steps)) (inr none.out) frugal none same (λ e. cc) (λ e. cc) (λ e. cc)
+
+  untouched_input : (before after : Outside) → Untouched before after → TookFront (input_limit + 1) before.input after.input
+  untouched_input before after none = nothing_read before.input after.input none.input
 
   -- ---- the ways in which it ends
   -- the source gave no chooses
-  pub source_does : (before after : Outside) (f : Fault) → IsFetched file before.shelf after.shelf → Untouched before after →
-      IsSourceFault file before.shelf after.shelf f → Verifies before after (Err f)
+  pub source_does : (before after : Outside) (f : Fault) → IsFetched file (shelf_of before) (shelf_of after) → Untouched before after →
+      IsSourceFault file (shelf_of before) (shelf_of after) f → Verifies before after (Err f)
   source_does before after f fetched none (file_failed is rose) =
       subst (λ g. Verifies before after (Err g)) (sym is)
-      (failed_does before after file file_among (one_frugal before after fetched (none_read before after none)) none rose fetched.once)
+      (failed_does before after file file_among (one_frugal before after fetched (untouched_input before after none)) none rose fetched.once)
   source_does before after f fetched none (broken_file (text, told, broken) same) =
-      refused_does before after text (left_of (before.shelf.texts steps)) f told (left_told (before.shelf.texts steps)) (bad_source f broken)
-      (one_frugal before after fetched (none_read before after none)) none same
+      refused_does before after text (left_of (before.texts steps)) f told (left_told (before.texts steps)) (bad_source f broken)
+      (one_frugal before after fetched (untouched_input before after none)) none same
   source_does before after f fetched none (no_room is same) =
       subst (λ g. Verifies before after (Err g)) (sym is)
-      (memory_does before after (one_frugal before after fetched (none_read before after none)) none same)
+      (memory_does before after (one_frugal before after fetched (untouched_input before after none)) none same)
 
-  module _ (before after : Outside) (mid : ShelfSeen) (first : IsFetched file before.shelf mid) (sound : NoneFailed before.shelf mid)
-      (second : IsFetched steps mid after.shelf) where
+  module _ (before after : Outside) (mid : Shelved) (first : IsFetched file (shelf_of before) mid) (sound : NoneFailed (shelf_of before) mid)
+      (second : IsFetched steps mid (shelf_of after)) where
     -- the steps file failed
-    pub steps_fail : Untouched before after → Rose (mid.faults steps) (after.shelf.faults steps) → Verifies before after (Err fault.File)
+    pub steps_fail : Untouched before after → Rose (mid.faults steps) (after.file_faults steps) → Verifies before after (Err fault.File)
     steps_fail none rose =
-        failed_does before after steps steps_among (two_frugal before after mid first second (none_read before after none)) none
-        (subst (λ n. Rose n (after.shelf.faults steps)) (sound steps) rose)
-        (λ other. subst (λ n. after.shelf.faults other ≤ one_more n) (sound other) (second.once other))
+        failed_does before after steps steps_among (two_frugal before after mid first second (untouched_input before after none)) none
+        (subst (λ n. Rose n (after.file_faults steps)) (sound steps) rose)
+        (λ other. subst (λ n. after.file_faults other ≤ one_more n) (sound other) (second.once other))
 
-    both_sound : NoneFailed mid after.shelf → NoneFailed before.shelf after.shelf
+    both_sound : NoneFailed mid (shelf_of after) → NoneFailed (shelf_of before) (shelf_of after)
     both_sound same other = same other ∙ sound other
 
     -- its text is too long
-    pub long_does : Untouched before after → NoneFailed mid after.shelf → (source : List ℕ) (typed : TypedTree) → AreTold (before.shelf.texts file) source →
-        IsTypedSource source typed → IfSome (before.shelf.texts steps) (λ text. text_limit < length text) →
+    pub long_does : Untouched before after → NoneFailed mid (shelf_of after) → (source : List ℕ) (typed : TypedTree) → AreTold (before.texts file) source →
+        IsTypedSource source typed → IfSome (before.texts steps) (λ text. text_limit < length text) →
         Verifies before after (Err (fault.Steps steps_fault.TooLong))
     long_does none same source typed told is long =
-        let text = long_text (before.shelf.texts steps) long in
+        let text = long_text (before.texts steps) long in
         refused_does before after source text.0 (fault.Steps steps_fault.TooLong) told text.1 (bad_steps typed steps_fault.TooLong is (too_long text.2))
-        (two_frugal before after mid first second (none_read before after none)) none (both_sound same)
+        (two_frugal before after mid first second (untouched_input before after none)) none (both_sound same)
 
-    pub no_memory_does : Untouched before after → NoneFailed mid after.shelf → Verifies before after (Err fault.NoMemory)
+    pub no_memory_does : Untouched before after → NoneFailed mid (shelf_of after) → Verifies before after (Err fault.NoMemory)
     no_memory_does none same =
-        memory_does before after (two_frugal before after mid first second (none_read before after none)) none (both_sound same)
+        memory_does before after (two_frugal before after mid first second (untouched_input before after none)) none (both_sound same)
 
     -- its text is checked
-    pub checked_does : (source text : List ℕ) (answer : Result (Unit {0}) Fault) → AreTold (before.shelf.texts file) source → AreTold (before.shelf.texts steps) text →
-        AnswersOn (verify file steps) given given (source ∷ text ∷ []) before.streams after.streams answer → NoneFailed mid after.shelf →
+    pub checked_does : (source text : List ℕ) (answer : Result (Unit {0}) Fault) → AreTold (before.texts file) source → AreTold (before.texts steps) text →
+        AnswersOn (verify file steps) given (source ∷ text ∷ []) (streams_of before) (streams_of after) answer → NoneFailed mid (shelf_of after) →
+        Counts (answer ≡ Err fault.Input) before.input_faults after.input_faults → Counts (answer ≡ Err fault.Output) before.out_faults after.out_faults →
         Verifies before after answer
-    checked_does source text answer s t h same =
-        ended_does before after source text answer s t h.ends (two_frugal before after mid first second h.sparing) (both_sound same) h.not_file h.input h.out
+    checked_does source text answer s t h same input out =
+        ended_does before after source text h.passes answer h.passed s t h.ends (two_frugal before after mid first second h.frugal) (both_sound same) h.not_file
+        input out
 
 -- ---- which file was read
 broken_text : (source : List ℕ) (f : Fault) → IsBrokenSource source f → IsTextFault f
 broken_text source f h = refused_fault (verify [] []) (source ∷ [] ∷ []) f (bad_source f h)
 
 -- why a source gave no chooses is not that the words are no command, and where it is that a file failed, it is this one
-pub source_usage : (name : List ℕ) (before after : ShelfSeen) (f : Fault) → IsSourceFault name before after f → failed f ≡ Err fault.Usage → ⊥
+pub source_usage : (name : List ℕ) (before after : Shelved) (f : Fault) → IsSourceFault name before after f → failed f ≡ Err fault.Usage → ⊥
 source_usage name before after f (file_failed is rose) e = cc
 source_usage name before after f (broken_file (text, told, broken) same) e =
     let this : f ≡ fault.Usage = cc in subst IsTextFault this (broken_text text f broken)
 source_usage name before after f (no_room is same) e = cc
 
-source_rose : (name : List ℕ) (before after : ShelfSeen) (f : Fault) → IsSourceFault name before after f → failed f ≡ Err fault.File →
+source_rose : (name : List ℕ) (before after : Shelved) (f : Fault) → IsSourceFault name before after f → failed f ≡ Err fault.File →
     Rose (before.faults name) (after.faults name)
 source_rose name before after f (file_failed is rose) e = rose
 source_rose name before after f (broken_file (text, told, broken) same) e =
@@ -204,7 +208,7 @@ source_rose name before after f (broken_file (text, told, broken) same) e =
 source_rose name before after f (no_room is same) e = cc
 
 -- only the source was fetched, and only it may have failed
-pub one_in_order : (name : List ℕ) (before after : ShelfSeen) (f : Fault) → IsFetched name before after → IsSourceFault name before after f →
+pub one_in_order : (name : List ℕ) (before after : Shelved) (f : Fault) → IsFetched name before after → IsSourceFault name before after f →
     (after.fetches ≤ before.fetches + 1) × (status_of (failed f) ≡ File → Rose (before.faults name) (after.faults name))
 one_in_order name before after f fetched h = (omega (arith, fetched.fetched), λ is. source_rose name before after f h (is_file (failed f) is))
 

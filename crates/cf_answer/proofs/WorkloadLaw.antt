@@ -13,7 +13,9 @@ use Rattle.cf_parse.specs.Programs.{SpellsDefs, IsProgram}
 use Rattle.cf_parse.proofs.Programs.{one_law}
 use Rattle.cf_program.specs.Checked.{TypedTree}
 use Rattle.cf_gen.specs.Workload.{coefficient, coefficients, gen_source, gen_lines, gen_sum}
+use Rattle.cf_words.specs.Commands.{gen}
 use Rattle.cf_answer.specs.Owed.{IsSum, sum_line}
+use Rattle.cf_answer.specs.Passes.{applied}
 use Rattle.cf_answer.specs.Sources.{Spelled, IsTypedSource}
 use Rattle.cf_answer.specs.Sums.{SumsAreOfQuotients}
 use Rattle.cf_answer.proofs.WorkloadPicks.{IsCoefficient, workload_picks}
@@ -50,4 +52,4 @@ sum_is n passes typed sum l h spelled is =
     (λ a near. workload_picks (coefficients n) typed.defs typed.main a (omega arith) (omega arith) near (coefficients_are n 1 n) w.0) is
 
 pub sums_are : SumsAreOfQuotients
-sums_are n given passes ls text l h o = o.6 ∙ ap (sum_line (n * n)) (sum_is n (length passes) o.2 o.4 l h o.3 o.5)
+sums_are n given passes ls text l h o = o.6 ∙ ap (sum_line (n * n)) (sum_is n (applied (gen n) passes) o.2 o.4 l h o.3 o.5)

@@ -16,8 +16,8 @@ use Rattle.cf_warn.specs.declared.answer.UniquenessAnswer.{UniquenessAnswer}
 use Rattle.cf_warn.specs.declared.coverage.Cover.{Cover}
 use Rattle.cf_answer.specs.Checks.{IsMatch, IsArm, IsOwn, IsCheckOf, cover_line, existence_text, names_at, uniqueness_text}
 use Rattle.cf_answer.specs.Texts.{numbered_line}
-use Rattle.cf_answer.specs.declared.choose_origin.Origin.{Origin}
-use Rattle.cf_answer.specs.declared.choose_origin.Origin.TheVariants.{Choose, Arm, Match}
+use Rattle.cf_answer.specs.declared.origin.Origin.{Origin}
+use Rattle.cf_answer.specs.declared.origin.Origin.TheVariants.{Choose, Arm, Match}
 
 -- the matches are in the order of their numbers, each has classes, and these are the numbers of their arms, rising
 pub record AreMatches (infos : List MatchInfo) (arms : List ℕ) : Type 0 where

@@ -1,28 +1,23 @@
 -- What the objects outside tell, and what a call may take of them.
-use Rattle.std.specs.Prelude.{◌≡◌, ◌⊎◌, ℕ, ◌+◌, ◌*◌, ◌≤◌, List, [], ◌∷◌, length, Option, Some, None, Contains, Result, Err}
+use Rattle.std.specs.Prelude.{◌≡◌, ◌⊎◌, ℕ, ◌+◌, ◌≤◌, List, [], ◌∷◌, length, Option, Some, None, Contains, Result, Err}
 use Rattle.cf_io.specs.Bytes.{TookFront}
 use Rattle.cf_io.specs.Causes.{one_more}
 use Rattle.cf_io.specs.Limits.{input_limit}
-use Rattle.cf_io.specs.Seen.{ShelfSeen, SinkSeen, SourceSeen}
 use Rattle.cf_answer.specs.Limits.{text_limit}
 use Rattle.cf_answer.specs.declared.fault.Fault.{Fault}
 use Rattle.cf_answer.specs.declared.fault.Fault.TheVariants as fault
 
--- what the input and `out` tell
-pub record Streams : Type 0 where
-  pub input : SourceSeen
-  pub out : SinkSeen
-
-abbrev pub streams : SourceSeen → SinkSeen → Streams
-streams input out = record { input = input; out = out }
-
--- what all of it tells: the shelf, the input and `out`
+-- The text under each name, what is left of the fetched text and of the input, and what `out` holds, as far as each is told; how often a text was
+-- fetched; and the counts of faults.
 pub record Outside : Type 0 where
-  pub shelf : ShelfSeen
-  pub streams : Streams
-
-abbrev pub outside : ShelfSeen → SourceSeen → SinkSeen → Outside
-outside shelf input out = record { shelf = shelf; streams = streams input out }
+  pub texts : List ℕ → Option (List ℕ)
+  pub left : Option (List ℕ)
+  pub input : Option (List ℕ)
+  pub out : Option (List ℕ)
+  pub fetches : ℕ
+  pub file_faults : List ℕ → ℕ
+  pub input_faults : ℕ
+  pub out_faults : ℕ
 
 -- as far as an object tells its bytes, they are these
 abbrev pub AreTold : Option (List ℕ) → List ℕ → Type 0
@@ -42,24 +37,14 @@ pub record Counts (failed : Type 0) (old new : ℕ) : Type 0 where
 
 -- Only the object that the answer names failed, and it failed once. A file is one of these names.
 pub record Blames (names : List (List ℕ)) (before after : Outside) (answer : Result (Unit {0}) Fault) : Type 0 where
-  pub files : (answer ≡ Err fault.File → ⊥) → (name : List ℕ) → after.shelf.faults name ≡ before.shelf.faults name
-  pub file : answer ≡ Err fault.File → (name : List ℕ) × Contains names name × (after.shelf.faults name ≡ one_more (before.shelf.faults name))
-  pub others : answer ≡ Err fault.File → (name : List ℕ) → after.shelf.faults name ≤ one_more (before.shelf.faults name)
-  pub input : Counts (answer ≡ Err fault.Input) before.streams.input.faults after.streams.input.faults
-  pub out : Counts (answer ≡ Err fault.Output) before.streams.out.faults after.streams.out.faults
+  pub files : (answer ≡ Err fault.File → ⊥) → (name : List ℕ) → after.file_faults name ≡ before.file_faults name
+  pub file : answer ≡ Err fault.File → (name : List ℕ) × Contains names name × (after.file_faults name ≡ one_more (before.file_faults name))
+  pub others : answer ≡ Err fault.File → (name : List ℕ) → after.file_faults name ≤ one_more (before.file_faults name)
+  pub input : Counts (answer ≡ Err fault.Input) before.input_faults after.input_faults
+  pub out : Counts (answer ≡ Err fault.Output) before.out_faults after.out_faults
 
--- of an input at most one byte more than the limit was read, and reads gave no more; its end was seen at most once
-pub record IsSparing (before after : SourceSeen) : Type 0 where
-  pub front : TookFront (input_limit + 1) before.left after.left
-  pub given : after.given ≤ before.given + (input_limit + 1)
-  pub ends : after.ends ≤ before.ends + 1
-
--- No more texts were fetched than there are names. Of the last one, and of the input, at most one byte more than the limit was read. Of all of them reads
--- gave at most as much for each name, and showed at most one end for each.
+-- No more texts were fetched than there are names. Of the last one, and of the input, at most one byte more than the limit was read.
 pub record IsFrugal (names : List (List ℕ)) (before after : Outside) : Type 0 where
-  pub fetches : after.shelf.fetches ≤ before.shelf.fetches + length names
-  pub file : (after.shelf.left ≡ before.shelf.left) ⊎
-      ((name : List ℕ) × Contains names name × TookFront (text_limit + 1) (before.shelf.texts name) after.shelf.left)
-  pub given : after.shelf.given ≤ before.shelf.given + length names * (text_limit + 1)
-  pub ends : after.shelf.ends ≤ before.shelf.ends + length names
-  pub input : IsSparing before.streams.input after.streams.input
+  pub fetches : after.fetches ≤ before.fetches + length names
+  pub file : (after.left ≡ before.left) ⊎ ((name : List ℕ) × Contains names name × TookFront (text_limit + 1) (before.texts name) after.left)
+  pub input : TookFront (input_limit + 1) before.input after.input

@@ -1,5 +1,5 @@
 -- What a command is to write, in all.
-use Rattle.std.specs.Prelude.{◌≡◌, ℕ, ◌-◌, ◌*◌, ◌^◌, ℤ, pos, ◌+ℤ◌, Bool, true, not, List, [], ◌∷◌, ◌++◌, length, flat_map, None, codes, decimal}
+use Rattle.std.specs.Prelude.{◌≡◌, ℕ, ◌-◌, ◌*◌, ◌^◌, ℤ, pos, ◌+ℤ◌, List, [], ◌∷◌, ◌++◌, flat_map, None, codes, decimal}
 use Rattle.std.specs.List.{concat}
 use Rattle.std.specs.Fmt.{signed_decimal}
 use Rattle.cf_gen.specs.Workload.{gen_source, gen_lines}
@@ -14,12 +14,11 @@ use Rattle.cf_build.specs.Questions.{Question, all_questions, by_number, limit_o
 use Rattle.cf_emit.specs.Printed.{target_text, pre_text}
 use Rattle.cf_emit.specs.ReadsBack.{ReadsBack}
 use Rattle.cf_eval.specs.Replies.{IsReply}
-use Rattle.cf_pass.specs.Passes.{Told}
 use Rattle.cf_words.specs.Commands.{Command, compile, run, pre, check, exec, prove, verify, gen}
 use Rattle.cf_answer.specs.Certificates.{asked_in, AreProofs, AreVerified, verified_line}
 use Rattle.cf_answer.specs.Checks.{IsCheckOf}
 use Rattle.cf_answer.specs.LateReplies.{IsLateReply, AreRunsAllowed}
-use Rattle.cf_answer.specs.Passes.{AreCalled, applied}
+use Rattle.cf_answer.specs.Passes.{Told, applied}
 use Rattle.cf_answer.specs.Picked.{IsSourceReply, adds}
 use Rattle.cf_answer.specs.Sources.{Compiles, IsTypedSource, IsLateSource, IsTypedTarget}
 
@@ -45,17 +44,13 @@ AreReplies a ls text = AllReplied (IsReplyBy a) ls text
 abbrev pub ArePicked : ℕ → List ℕ → List (List ℕ) → List ℕ → Type 0
 ArePicked passes source ls text = (typed : TypedTree) × IsTypedSource source typed × AllReplied (IsSourceReply typed passes) ls text
 
--- the target is that of the source, rewritten by the passes, if they are called, and they were called so
-abbrev pub IsCompiledBy : Bool → List ℕ → List Told → List Told → RawTarget → Type 0
-IsCompiledBy calls source given last t = Compiles (applied calls last) source t × AreCalled calls given last
-
--- What `run` is to write on a source, with passes that told `given` before and tell `last`: the replies of the target that it is compiled to by the passes,
--- if it calls them, which its program picks; or the replies of its late program, with no pass called.
-pub data OwesRun (calls : Bool) (source : List ℕ) (given last : List Told) (ls : List (List ℕ)) (text : List ℕ) : Type 0 where
-  compiled : (t : RawTarget) → IsCompiledBy calls source given last t → AreReplies (by_target t) ls text → ArePicked (applied calls last) source ls text →
-      OwesRun calls source given last ls text
+-- What `run` is to write on a source, with passes that told `given` before and tell `last`: the replies of the target that it is compiled to by so many
+-- passes, which its program picks; or the replies of its late program, with no pass called.
+pub data OwesRun (passes : ℕ) (source : List ℕ) (given last : List Told) (ls : List (List ℕ)) (text : List ℕ) : Type 0 where
+  compiled : (t : RawTarget) → Compiles passes source t → AreReplies (by_target t) ls text → ArePicked passes source ls text →
+      OwesRun passes source given last ls text
   late : (typed : TypedTree) → IsLateSource source typed → AreReplies (by_late typed) ls text → AreRunsAllowed typed → last ≡ given →
-      OwesRun calls source given last ls text
+      OwesRun passes source given last ls text
 
 -- the printed target, which reads back to this target alone
 pub record IsPrinted (t : RawTarget) (text : List ℕ) : Type 0 where
@@ -94,9 +89,8 @@ sum_line count sum = concat (codes "lines " ∷ decimal count ∷ codes " sum " 
 -- What a command is to write on files of these texts, with passes that told `given` before and tell `last`, and these lines of the input. A source's
 -- replies are what it picks, or what its late program comes to. A workload has its own source and lines.
 abbrev pub Owes : Command → List (List ℕ) → List Told → List Told → List (List ℕ) → List ℕ → Type 0
-Owes (compile flags name) (file ∷ []) given last ls text =
-    (t : RawTarget) × IsCompiledBy (not flags.plain) file given last t × IsPrinted t text
-Owes (run flags name) (file ∷ []) given last ls text = OwesRun (not flags.plain) file given last ls text
+Owes (compile flags name) (file ∷ []) given last ls text = (t : RawTarget) × Compiles (applied (compile flags name) last) file t × IsPrinted t text
+Owes (run flags name) (file ∷ []) given last ls text = OwesRun (applied (run flags name) last) file given last ls text
 Owes (pre name) (file ∷ []) given last ls text = (typed : TypedTree) × IsTypedSource file typed × ArePres typed text
 Owes (check name) (file ∷ []) given last ls text = (typed : TypedTree) × IsTypedSource file typed × AreChecks typed text
 Owes (exec name) (file ∷ []) given last ls text = (t : RawTarget) × IsTypedTarget file (target_tree t) × AreReplies (by_target t) ls text
@@ -104,6 +98,6 @@ Owes (prove name) (file ∷ []) given last ls text = (typed : TypedTree) × IsTy
 Owes (verify name steps_name) (source ∷ steps ∷ []) given last ls text =
     (typed : TypedTree) × IsTypedSource source typed × AreVerified (asked_in typed) steps × (text ≡ flat_map verified_line (asked_in typed))
 Owes (gen n) [] given last ls text =
-    (t : RawTarget) × IsCompiledBy true (gen_source n) given last t × (typed : TypedTree) × IsTypedSource (gen_source n) typed
-    × (sum : ℤ) × IsSum typed (length last) (lines (gen_lines n)) sum × (text ≡ sum_line (n * n) sum)
+    (t : RawTarget) × Compiles (applied (gen n) last) (gen_source n) t × (typed : TypedTree) × IsTypedSource (gen_source n) typed
+    × (sum : ℤ) × IsSum typed (applied (gen n) last) (lines (gen_lines n)) sum × (text ≡ sum_line (n * n) sum)
 Owes command files given last ls text = ⊥

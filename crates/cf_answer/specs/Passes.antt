@@ -1,31 +1,31 @@
--- What becomes of the passes, and the lines of their tallies.
-use Rattle.std.specs.Prelude.{◌≡◌, ◌⊎◌, ℕ, Bool, true, false, List, [], ◌∷◌, length, flat_map, codes, decimal, if◌then◌else◌}
+-- What the passes tell, and the lines of their tallies.
+use Rattle.std.specs.Prelude.{◌≡◌, ℕ, Bool, true, false, List, [], ◌∷◌, length, map, flat_map, codes, decimal, if◌then◌else◌}
 use Rattle.std.specs.List.{concat}
-use Rattle.cf_pass.specs.Passes.{Told, HaveTurned}
+use Rattle.cf_pass.specs.Passes.{NoneFell}
 use Rattle.cf_words.specs.Commands.{Command}
-use Rattle.cf_answer.specs.Commands.{tells_tallies}
+use Rattle.cf_answer.specs.Commands.{calls_passes, tells_tallies}
 
--- they were called once each, by a command that calls them; else they tell what they told
-abbrev pub AreCalled : Bool → List Told → List Told → Type 0
-AreCalled true given last = HaveTurned given last
-AreCalled false given last = last ≡ given
+-- the name of a pass, and how many units it has replaced
+pub record Told : Type 0 where
+  pub name : List ℕ
+  pub tally : ℕ
 
--- a command that calls them has called them once each, or none of them; one that does not has called none
+-- they tell the same names in the same order, and no tally fell
+abbrev pub HaveWorked : List Told → List Told → Type 0
+HaveWorked given last = (map (λ p. p.name) last ≡ map (λ p. p.name) given) × NoneFell (map (λ p. p.tally) given) (map (λ p. p.tally) last)
+
+-- what the passes tell last, where they are called, and where they are not
 abbrev pub ArePassed : Bool → List Told → List Told → Type 0
-ArePassed true given last = HaveTurned given last ⊎ (last ≡ given)
+ArePassed true given last = HaveWorked given last
 ArePassed false given last = last ≡ given
 
--- how many passes rewrite what is compiled
-abbrev pub applied : Bool → List Told → ℕ
-applied calls passes = if calls then length passes else 0
+-- how many passes rewrite what it compiles
+abbrev pub applied : Command → List Told → ℕ
+applied command passes = if calls_passes command then length passes else 0
 
 -- # name tally
-abbrev pub tally_text : List ℕ → ℕ → List ℕ
-tally_text name tally = concat (codes "# " ∷ name ∷ codes " " ∷ decimal tally ∷ codes "\n" ∷ [])
-
--- the line of the tally of a pass
 abbrev pub tally_line : Told → List ℕ
-tally_line p = tally_text p.name p.tally
+tally_line p = concat (codes "# " ∷ p.name ∷ codes " " ∷ decimal p.tally ∷ codes "\n" ∷ [])
 
 -- the lines of the tallies, if they are asked for
 abbrev pub closing_lines : Bool → List Told → List ℕ

@@ -7,8 +7,7 @@ use Rattle.cf_program.specs.declared.fault.TypeFault.TheVariants as rule
 use Rattle.cf_answer.specs.declared.fault.Fault.{Fault}
 use Rattle.cf_answer.specs.declared.fault.Fault.TheVariants as fault
 use Rattle.cf_answer.specs.declared.status.Status.{Status}
-use Rattle.cf_answer.specs.declared.status.Status.TheVariants.{Done, Usage, File, Input, Output, Text}
-use Rattle.cf_answer.specs.declared.status.Status.TheVariants.{Types, NotLinear, Past, Limit, InputLong, NoMemory, Rejected}
+use Rattle.cf_answer.specs.declared.status.Status.TheVariants.{Done, Usage, File, Input, Output, Text, Types, NotLinear, Past, Limit, InputLong, NoMemory, Rejected}
 
 abbrev pub code_of : Status → ℕ
 code_of Done = 0

@@ -1,6 +1,5 @@
 -- How far an input was answered; for the contracts within the crate.
-use Rattle.std.specs.Prelude.{◌≡◌, ◌⊎◌, ◌≤◌, ◌<◌, ◌+◌, ℕ, suc, ℤ, pos, ◌+ℤ◌, Bool, List}
-use Rattle.std.specs.Prelude.{[], ◌∷◌, ◌++◌, take, length, codes, if◌then◌else◌, Option, Some, None, Result, Ok, Err}
+use Rattle.std.specs.Prelude.{◌≡◌, ◌⊎◌, ◌≤◌, ◌<◌, ◌+◌, ℕ, suc, ℤ, pos, ◌+ℤ◌, List, [], ◌∷◌, ◌++◌, take, length, codes, if◌then◌else◌, Option, Some, None, Result, Ok, Err}
 use Rattle.std.specs.Io.KnownBytes.{Appends, Consumes, IsAtEnd}
 use Rattle.cf_io.specs.Bytes.{TookPrefix}
 use Rattle.cf_io.specs.Cut.{CutterState, Stands, told}
@@ -13,7 +12,6 @@ use Rattle.cf_tree.specs.declared.target.RawTarget.{RawTarget}
 use Rattle.cf_tree.specs.CodeTree.{CodeTree}
 use Rattle.cf_tree.specs.CodeView.{code_tree}
 use Rattle.cf_tree.specs.Values.{Value, values, no_solution}
-use Rattle.cf_pass.specs.Passes.{Told}
 use Rattle.cf_parse.specs.Programs.{IsProgram, program_of}
 use Rattle.cf_program.specs.Typed.{typed_tree}
 use Rattle.cf_eval.specs.Answers.{Answers}
@@ -24,6 +22,7 @@ use Rattle.cf_eval.specs.declared.value.Outcome.TheVariants.{Values, NoSolution,
 use Rattle.cf_answer.specs.Ends.{answered_lines}
 use Rattle.cf_answer.specs.Outside.{AreTold}
 use Rattle.cf_answer.specs.Owed.{Answerer, by_target, by_late, IsReplyBy, AreReplies, OwesRun}
+use Rattle.cf_answer.specs.Passes.{Told}
 use Rattle.cf_answer.specs.Picked.{outcome_number}
 use Rattle.cf_answer.specs.Refusals.{Causes}
 use Rattle.cf_answer.specs.declared.answerer.Answerer.{Answerer as DeclaredAnswerer}
@@ -42,8 +41,8 @@ answerer_of (answerer.Target t) = by_target t
 answerer_of (answerer.Late l) = by_late (typed_tree l)
 
 -- its replies are what `run` owes on a source
-abbrev pub IsRunner : Bool → List ℕ → List Told → List Told → Answerer → Type 0
-IsRunner calls source given last a = (ls : List (List ℕ)) (text : List ℕ) → AreReplies a ls text → OwesRun calls source given last ls text
+abbrev pub IsRunner : ℕ → List ℕ → List Told → List Told → Answerer → Type 0
+IsRunner passes source given last a = (ls : List (List ℕ)) (text : List ℕ) → AreReplies a ls text → OwesRun passes source given last ls text
 
 -- a source text is refused, whatever rules the program breaks that it spells
 abbrev pub IsMisspelled : List ℕ → Fault → Type 0

@@ -1,9 +1,8 @@
 -- What writing and checking steps works with, for the contracts within the crate.
-use Rattle.std.specs.Prelude.{◌≡◌, ◌⊎◌, ◌≤◌, ◌+◌, ℕ, List, [], ◌∷◌, ◌++◌, map, All}
+use Rattle.std.specs.Prelude.{◌≡◌, ◌⊎◌, ◌≤◌, ◌+◌, ℕ, List, [], ◌∷◌, ◌++◌, map, Option, All}
 use Rattle.cf_cases.specs.Holding.{EachOf}
 use Rattle.cf_io.specs.Bytes.{TookFront}
 use Rattle.cf_io.specs.Causes.{Rose, one_more}
-use Rattle.cf_io.specs.Seen.{ShelfSeen}
 use Rattle.cf_program.specs.Checked.{TypedTree}
 use Rattle.cf_build.specs.Questions.{Question}
 use Rattle.cf_steps.specs.Blocks.{BlockTree}
@@ -16,7 +15,7 @@ use Rattle.cf_cert.specs.Laws.{AreWithinCases, IsQuestion}
 use Rattle.cf_cert.specs.Verifying.{HaveFewSteps}
 use Rattle.cf_answer.specs.Certificates.{asked, asked_in, OneForEach, IsTraced}
 use Rattle.cf_answer.specs.Limits.{text_limit}
-use Rattle.cf_answer.specs.Outside.{AreTold}
+use Rattle.cf_answer.specs.Outside.{Outside, AreTold}
 use Rattle.cf_answer.specs.Refusals.{IsBrokenSource, IsRefusedSteps}
 use Rattle.cf_answer.specs.Sources.{Spelled, IsTypedSource}
 use Rattle.cf_answer.specs.declared.fault.Fault.{Fault}
@@ -43,25 +42,33 @@ pub record AreReadFrom (text : List ℕ) (bs : List BlockTree) : Type 0 where
   pub few : HaveFewSteps bs
 
 -- ---- reading the files
--- the file of this name was fetched, at most one byte more than the limit was read of it, and its end was seen at most once
-pub record IsFetched (name : List ℕ) (before after : ShelfSeen) : Type 0 where
+-- what a shelf tells
+pub record Shelved : Type 0 where
+  pub texts : List ℕ → Option (List ℕ)
+  pub left : Option (List ℕ)
+  pub fetches : ℕ
+  pub faults : List ℕ → ℕ
+
+abbrev pub shelf_of : Outside → Shelved
+shelf_of o = record { texts = o.texts; left = o.left; fetches = o.fetches; faults = o.file_faults }
+
+-- the file of this name was fetched, and at most one byte more than the limit was read of it
+pub record IsFetched (name : List ℕ) (before after : Shelved) : Type 0 where
   pub fetched : after.fetches ≡ one_more before.fetches
   pub most : (after.left ≡ before.left) ⊎ TookFront (text_limit + 1) (before.texts name) after.left
-  pub given : after.given ≤ before.given + (text_limit + 1)
-  pub ends : after.ends ≤ before.ends + 1
   pub texts : (other : List ℕ) → after.texts other ≡ before.texts other
   pub once : (other : List ℕ) → after.faults other ≤ one_more (before.faults other)
 
 -- no count of faults rose
-abbrev pub NoneFailed : ShelfSeen → ShelfSeen → Type 0
+abbrev pub NoneFailed : Shelved → Shelved → Type 0
 NoneFailed before after = (other : List ℕ) → after.faults other ≡ before.faults other
 
 -- the text under the name, as far as it is told, is refused as a source whose chooses are not solved
-abbrev pub IsBrokenFile : List ℕ → ShelfSeen → Fault → Type 0
+abbrev pub IsBrokenFile : List ℕ → Shelved → Fault → Type 0
 IsBrokenFile name shelf f = (text : List ℕ) × AreTold (shelf.texts name) text × IsBrokenSource text f
 
 -- why a source gave no chooses: the file failed, or no file did and the text is refused, or memory ran out
-pub data IsSourceFault (name : List ℕ) (before after : ShelfSeen) (f : Fault) : Type 0 where
+pub data IsSourceFault (name : List ℕ) (before after : Shelved) (f : Fault) : Type 0 where
   file_failed : f ≡ fault.File → Rose (before.faults name) (after.faults name) → IsSourceFault name before after f
   broken_file : IsBrokenFile name before f → NoneFailed before after → IsSourceFault name before after f
   no_room : f ≡ fault.NoMemory → NoneFailed before after → IsSourceFault name before after f

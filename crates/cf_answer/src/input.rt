@@ -1,14 +1,13 @@
 //! Reading the input, and answering its lines as they come.
-ghost use Rattle.std.specs.Prelude.{◌≡◌, ◌≤◌, ◌<◌, ◌+◌, ◌^◌, ℕ, List, Option, Err, length, IfOk, IfErr, OnErr, IsErrOf};
+ghost use Rattle.std.specs.Prelude.{◌≡◌, ◌≤◌, ◌<◌, ◌+◌, ◌^◌, ℕ, List, Option, Err, length, IfOk, IfErr, IsErrOf};
 ghost use Rattle.std.specs.Io.KnownBytes.{IsAtEnd};
+ghost use Rattle.cf_io.specs.Causes.{one_more};
 ghost use Rattle.cf_io.specs.Limits.{input_limit};
-ghost use Rattle.cf_answer.specs.Outside.{Counts};
-ghost use Rattle.cf_answer.specs.Steps.{answerer_of, IsReadTo, RunsOn, RunsThrough};
+ghost use Rattle.cf_answer.specs.Steps.{answerer_of, IsReadTo, RunsOn};
 
+use crate::answer::{answer_piece, answer_rest};
 use crate::answerer::Answerer;
 use crate::fault::Fault;
-use crate::pieces::{answer_piece, answer_rest};
-use crate::write::write_text;
 use cf_io::{Cutter, Failed, Sink, Source, longest_input};
 use std::alloc::Global;
 
@@ -17,7 +16,7 @@ const PIECE: usize = 4096;
 
 // Reads the next bytes into the piece, and answers the lines that they end. How many bytes came; none
 // is the end.
-#[tactic(auto, using(crate::proofs::StepLemmas::read_next))]
+#[tactic(auto, using(crate::proofs::StepLemmas::read_next, crate::proofs::CountLemmas::one_fault))]
 fn answer_next<I: Source, O: Sink>(
     alloc: Global,
     answerer: &Answerer,
@@ -29,20 +28,18 @@ fn answer_next<I: Source, O: Sink>(
     requires some { 0 < length piece.old }
     requires fits { cutter.old.total + length piece.old < 2 ^ 64 }
     ensures more { IfOk result (λ count. (left old : Option (List ℕ)) (total : ℕ) →
-        IsReadTo (answerer_of answerer.now) left (I.seen input.old).left cutter.old old (O.seen out.old).held total →
-        IsReadTo (answerer_of answerer.now) left (I.seen input.new).left cutter.new old (O.seen out.new).held (total + count)) }
+        IsReadTo (answerer_of answerer.now) left (I.left input.old) cutter.old old (O.held out.old) total →
+        IsReadTo (answerer_of answerer.now) left (I.left input.new) cutter.new old (O.held out.new) (total + count)) }
     ensures total { IfOk result (λ count. cutter.new.total ≡ cutter.old.total + count) }
     ensures bound { IfOk result (λ count. count ≤ length piece.old) }
-    ensures ended { IfOk result (λ count. count ≡ 0 → IsAtEnd (I.seen input.new).left) }
+    ensures ended { IfOk result (λ count. count ≡ 0 → IsAtEnd (I.left input.new)) }
     ensures fault { IfErr result (λ e. (left old : Option (List ℕ)) (total : ℕ) →
-        IsReadTo (answerer_of answerer.now) left (I.seen input.old).left cutter.old old (O.seen out.old).held total →
-        total + length piece.old ≤ input_limit + 1 → RunsOn (answerer_of answerer.now) left (I.seen input.new).left old (O.seen out.new).held (Err e)) }
-    ensures input { Counts (IsErrOf result Fault.Input) (I.seen input.old).faults (I.seen input.new).faults }
-    ensures output { Counts (IsErrOf result Fault.Output) (O.seen out.old).faults (O.seen out.new).faults }
-    ensures given { IfOk result (λ count. (I.seen input.new).given ≤ (I.seen input.old).given + count) }
-    ensures on { IfOk result (λ count. 0 < count → (I.seen input.new).ends ≡ (I.seen input.old).ends) }
-    ensures most { OnErr result ((I.seen input.new).given ≤ (I.seen input.old).given + length piece.old) }
-    ensures ends { (I.seen input.new).ends ≤ (I.seen input.old).ends + 1 }
+        IsReadTo (answerer_of answerer.now) left (I.left input.old) cutter.old old (O.held out.old) total →
+        total + length piece.old ≤ input_limit + 1 → RunsOn (answerer_of answerer.now) left (I.left input.new) old (O.held out.new) (Err e)) }
+    ensures input { IsErrOf result Fault.Input → I.faults input.new ≡ one_more (I.faults input.old) }
+    ensures input_same { ¬ IsErrOf result Fault.Input → I.faults input.new ≡ I.faults input.old }
+    ensures output { IsErrOf result Fault.Output → O.faults out.new ≡ one_more (O.faults out.old) }
+    ensures output_same { ¬ IsErrOf result Fault.Output → O.faults out.new ≡ O.faults out.old }
 {
     let count = match input.read(piece) {
         Ok(count) => count,
@@ -52,20 +49,20 @@ fn answer_next<I: Source, O: Sink>(
     Ok(count)
 }
 
-// Reads the input to its end, its fault or one byte past its limit. The lines that a piece ends are
-// answered before the next piece is read.
+/// Reads the input to its end, its fault or one byte past its limit. The lines that a piece ends are
+/// answered before the next piece is read.
 #[tactic(auto, using(crate::proofs::StepLemmas::read_none))]
-fn answer_input<I: Source, O: Sink>(
+pub fn answer_input<I: Source, O: Sink>(
     alloc: Global,
     answerer: &Answerer,
     input: &mut I,
     out: &mut O,
 ) -> Result<(), Fault>
-    ensures runs { RunsOn (answerer_of answerer.now) (I.seen input.old).left (I.seen input.new).left (O.seen out.old).held (O.seen out.new).held result }
-    ensures input { Counts (IsErrOf result Fault.Input) (I.seen input.old).faults (I.seen input.new).faults }
-    ensures output { Counts (IsErrOf result Fault.Output) (O.seen out.old).faults (O.seen out.new).faults }
-    ensures given { (I.seen input.new).given ≤ (I.seen input.old).given + (input_limit + 1) }
-    ensures ends { (I.seen input.new).ends ≤ (I.seen input.old).ends + 1 }
+    ensures runs { RunsOn (answerer_of answerer.now) (I.left input.old) (I.left input.new) (O.held out.old) (O.held out.new) result }
+    ensures input { IsErrOf result Fault.Input → I.faults input.new ≡ one_more (I.faults input.old) }
+    ensures input_same { ¬ IsErrOf result Fault.Input → I.faults input.new ≡ I.faults input.old }
+    ensures output { IsErrOf result Fault.Output → O.faults out.new ≡ one_more (O.faults out.old) }
+    ensures output_same { ¬ IsErrOf result Fault.Output → O.faults out.new ≡ O.faults out.old }
 {
     let limit = longest_input();
     let mut cutter = Cutter::new(alloc);
@@ -80,25 +77,4 @@ fn answer_input<I: Source, O: Sink>(
         total += count;
     }
     Err(Fault::InputTooLong)
-}
-
-/// Answers the input, and writes `end` behind the replies.
-pub fn answer_by<I: Source, O: Sink>(
-    alloc: Global,
-    answerer: &Answerer,
-    end: &[u8],
-    input: &mut I,
-    out: &mut O,
-) -> Result<(), Fault>
-    ensures through { RunsThrough (answerer_of answerer.now) end.now (I.seen input.old).left (I.seen input.new).left (O.seen out.old).held (O.seen out.new).held
-        result }
-    ensures input { Counts (IsErrOf result Fault.Input) (I.seen input.old).faults (I.seen input.new).faults }
-    ensures output { Counts (IsErrOf result Fault.Output) (O.seen out.old).faults (O.seen out.new).faults }
-    ensures given { (I.seen input.new).given ≤ (I.seen input.old).given + (input_limit + 1) }
-    ensures ends { (I.seen input.new).ends ≤ (I.seen input.old).ends + 1 }
-{
-    match answer_input(alloc, answerer, input, out) {
-        Ok(()) => write_text(out, end),
-        Err(fault) => Err(fault),
-    }
 }

@@ -1,45 +1,29 @@
-//! What each command answers, over any shelf, input, sinks and passes: a file for each command, named by it.
+//! What each command answers, over any shelf, input, sinks and passes.
 #![tactic(auto)]
 
+mod answer;
 mod answerer;
-mod check;
-mod choose_line;
-mod choose_origin;
-mod compile;
-mod exec;
-mod fault;
-mod generate;
+mod checks;
+pub mod fault;
+pub mod file;
 mod input;
 mod late;
-mod limits;
-mod pieces;
-mod pre;
+pub mod limits;
+mod line;
+mod origin;
+mod preconditions;
 mod prove;
 mod questions;
 mod reply;
-mod run;
 mod source;
-mod status;
+pub mod status;
 mod steps;
 mod sum;
-mod sums;
+pub mod sums;
 mod tallies;
-mod telling;
+mod target;
+pub mod tell;
 mod text;
 mod verdict;
-mod verify;
-mod write;
-
-pub use check::write_checks;
-pub use compile::write_target;
-pub use exec::run_target;
-pub use fault::{Fault, StepsFault};
-pub use generate::write_workload;
-pub use limits::{TEXT_LIMIT, longest_text};
-pub use pre::write_preconditions;
-pub use prove::write_blocks;
-pub use run::run_source;
-pub use status::{Status, status_of};
-pub use sums::sums_are_of_quotients;
-pub use telling::tell;
-pub use verify::verify_files;
+pub mod verify;
+pub mod workload;

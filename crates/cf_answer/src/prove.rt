@@ -1,24 +1,23 @@
 //! What `prove` writes: for each choose of a program the steps of its elimination, and its own target.
-ghost use Rattle.std.specs.Prelude.{◌≡◌, ◌≤◌, ◌<◌, ◌-◌, ◌^◌, ◌∷◌, [], List, ℕ, All, length, map, IfOk, IfErr, OnOk};
-ghost use Rattle.cf_io.specs.Seen.{SourceSeen};
-ghost use Rattle.cf_pass.specs.Passes.{Told};
+ghost use Rattle.std.specs.Prelude.{◌≡◌, ◌≤◌, ◌<◌, ◌-◌, ◌^◌, ◌∷◌, [], List, ℕ, Option, All, length, map, IfOk, IfErr, OnOk, IsErrOf};
+ghost use Rattle.cf_io.specs.Causes.{one_more};
 ghost use Rattle.cf_build.specs.Solves.{question_of, IsAsked, IsRising, FaultAnswer};
 ghost use Rattle.cf_program.specs.Typed.{typed_tree};
 ghost use Rattle.cf_words.specs.Commands.{prove as the_prove};
 ghost use Rattle.cf_answer.specs.Certificates.{asked_in, AreProofs};
 ghost use Rattle.cf_answer.specs.Ends.{AnswersOn};
 ghost use Rattle.cf_answer.specs.Limits.{text_limit};
-ghost use Rattle.cf_answer.specs.Outside.{streams};
+ghost use Rattle.cf_answer.specs.Passes.{Told};
 ghost use Rattle.cf_answer.specs.Refusals.{IsRefusedSource};
 ghost use Rattle.cf_answer.specs.Sources.{IsTypedSource};
 ghost use Rattle.cf_answer.specs.Statuses.{status_of as the_status_of, IsEarly};
 ghost use Rattle.cf_answer.specs.Steps.{IsVerdict};
 ghost use Rattle.cf_answer.specs.Verifying.{AddsBlock};
 
+use crate::answer::write_text;
 use crate::fault::Fault;
 use crate::questions::numbered_chooses;
 use crate::source::read_source;
-use crate::write::write_text;
 use cf_build::{BuildFault, Choose};
 use cf_choose::ChooseFault;
 use cf_io::Sink;
@@ -90,8 +89,11 @@ fn blocks(alloc: Global, typed: &Typed) -> Result<Vec<u8>, Fault>
 pub fn write_blocks<O: Sink>(alloc: Global, text: &[u8], out: &mut O) -> Result<(), Fault>
     requires short { length text.now ≤ text_limit }
     requires place { length text.now < 2 ^ 32 - 1 }
-    ensures answers { (file : List ℕ) (given : List Told) (input : SourceSeen) → AnswersOn (the_prove file) given given (text.now ∷ [])
-        (streams input (O.seen out.old)) (streams input (O.seen out.new)) result }
+    ensures answers { (file : List ℕ) (given : List Told) (input : Option (List ℕ)) → AnswersOn (the_prove file) given (text.now ∷ [])
+        (record { input = input; out = O.held out.old }) (record { input = input; out = O.held out.new }) result }
+    ensures input { ¬ IsErrOf result Fault.Input }
+    ensures output { IsErrOf result Fault.Output → O.faults out.new ≡ one_more (O.faults out.old) }
+    ensures output_same { ¬ IsErrOf result Fault.Output → O.faults out.new ≡ O.faults out.old }
     ensures unwritten { IsEarly (the_status_of result) → out.new ≡ out.old }
 {
     let typed = match read_source(alloc, text) {

@@ -1,9 +1,9 @@
 //! From the text of a source to its program and its target.
-ghost use Rattle.std.specs.Prelude.{◌≡◌, ◌≤◌, ◌<◌, ◌-◌, ◌^◌, Bool, true, List, ℕ, length, map, Err, IfOk, OnOk, OnErr};
+ghost use Rattle.std.specs.Prelude.{◌≡◌, ◌≤◌, ◌<◌, ◌-◌, ◌^◌, List, ℕ, length, map, Err, IfOk};
 ghost use Rattle.cf_lex.specs.Tokens.{AreWithin, at_end};
 ghost use Rattle.cf_tree.specs.declared.base.Place.{Place};
 ghost use Rattle.cf_tree.specs.DefView.{def_tree, program_tree};
-ghost use Rattle.cf_pass.specs.Passes.{Told, HaveTurned};
+ghost use Rattle.cf_pass.specs.Passes.{NoneFell};
 ghost use Rattle.cf_program.specs.Checked.{checked};
 ghost use Rattle.cf_program.specs.Lowered.{lowered_def};
 ghost use Rattle.cf_program.specs.Source.{IsSpelledProgram};
@@ -13,10 +13,9 @@ ghost use Rattle.cf_match.specs.Laws.{AllowTheSame};
 ghost use Rattle.cf_parse.specs.Programs.{IsProgram};
 ghost use Rattle.cf_build.specs.Built.{BuildAnswer};
 ghost use Rattle.cf_answer.specs.Limits.{text_limit};
-ghost use Rattle.cf_answer.specs.Owed.{IsCompiledBy};
-ghost use Rattle.cf_answer.specs.Passes.{ArePassed};
+ghost use Rattle.cf_answer.specs.Passes.{Told};
 ghost use Rattle.cf_answer.specs.Refusals.{IsBrokenSource, IsRefusedSource, IsRefusedRun};
-ghost use Rattle.cf_answer.specs.Sources.{HasTokens, Spelled, IsTypedSource};
+ghost use Rattle.cf_answer.specs.Sources.{HasTokens, Spelled, IsTypedSource, Compiles};
 ghost use Rattle.cf_answer.specs.Steps.{IsVerdict, IsMisspelled, IsRunner, answerer_of};
 
 use crate::answerer::Answerer;
@@ -85,9 +84,9 @@ fn check_program(alloc: Global, program: &Program) -> Result<Typed, Fault>
 pub fn compile(alloc: Global, text: &[u8], passes: &mut Vec<Box<dyn Pass>>) -> Result<Target, Fault>
     requires short { length text.now ≤ text_limit }
     requires place { length text.now < 2 ^ 32 - 1 }
-    ensures verdict { IsVerdict (IsCompiledBy true text.now (map (λ p. told p) passes.old.items) (map (λ p. told p) passes.new.items))
-        (IsRefusedSource text.now) result }
-    ensures passed { ArePassed true (map (λ p. told p) passes.old.items) (map (λ p. told p) passes.new.items) }
+    ensures verdict { IsVerdict (Compiles (length passes.old.items) text.now) (IsRefusedSource text.now) result }
+    ensures names { map (λ p. name p) passes.new.items ≡ map (λ p. name p) passes.old.items }
+    ensures tallies { NoneFell (map (λ p. tally p) passes.old.items) (map (λ p. tally p) passes.new.items) }
 {
     let typed = match read_source(alloc, text) {
         Ok(typed) => typed,
@@ -107,8 +106,8 @@ fn compile_typed(
     passes: &mut Vec<Box<dyn Pass>>,
 ) -> Result<Target, BuildFault>
     ensures answer { BuildAnswer (map def_tree typed.now.defs.items) typed.now.main (length passes.old.items) result }
-    ensures turned { OnOk result (HaveTurned (map (λ p. told p) passes.old.items) (map (λ p. told p) passes.new.items)) }
-    ensures kept { OnErr result (map (λ p. told p) passes.new.items ≡ map (λ p. told p) passes.old.items) }
+    ensures names { map (λ p. name p) passes.new.items ≡ map (λ p. name p) passes.old.items }
+    ensures tallies { NoneFell (map (λ p. tally p) passes.old.items) (map (λ p. tally p) passes.new.items) }
 {
     match lower(alloc, typed) {
         Ok(lowered) => built(alloc, typed, &lowered, passes),
@@ -127,8 +126,8 @@ fn built(
     requires main { lowered.now.typed.main ≡ typed.now.main }
     requires outcomes { AllowTheSame (map def_tree typed.now.defs.items) (map def_tree lowered.now.typed.defs.items) }
     ensures answer { BuildAnswer (map def_tree typed.now.defs.items) typed.now.main (length passes.old.items) result }
-    ensures turned { OnOk result (HaveTurned (map (λ p. told p) passes.old.items) (map (λ p. told p) passes.new.items)) }
-    ensures kept { OnErr result (map (λ p. told p) passes.new.items ≡ map (λ p. told p) passes.old.items) }
+    ensures names { map (λ p. name p) passes.new.items ≡ map (λ p. name p) passes.old.items }
+    ensures tallies { NoneFell (map (λ p. tally p) passes.old.items) (map (λ p. tally p) passes.new.items) }
 {
     build(alloc, lowered.typed(), passes)
 }
@@ -143,9 +142,10 @@ pub fn runner(
 ) -> Result<Answerer, Fault>
     requires short { length text.now ≤ text_limit }
     requires place { length text.now < 2 ^ 32 - 1 }
-    ensures verdict { IsVerdict (λ a. IsRunner true text.now (map (λ p. told p) passes.old.items) (map (λ p. told p) passes.new.items) (answerer_of a))
-        (IsRefusedRun text.now) result }
-    ensures passed { ArePassed true (map (λ p. told p) passes.old.items) (map (λ p. told p) passes.new.items) }
+    ensures verdict { IsVerdict (λ a. IsRunner (length passes.old.items) text.now (map (λ p. record { name = name p; tally = tally p }) passes.old.items)
+        (map (λ p. record { name = name p; tally = tally p }) passes.new.items) (answerer_of a)) (IsRefusedRun text.now) result }
+    ensures names { map (λ p. name p) passes.new.items ≡ map (λ p. name p) passes.old.items }
+    ensures tallies { NoneFell (map (λ p. tally p) passes.old.items) (map (λ p. tally p) passes.new.items) }
 {
     match parsed(alloc, text) {
         Ok(program) => program_runner(alloc, &program, passes),
@@ -160,9 +160,10 @@ fn program_runner(
 ) -> Result<Answerer, Fault>
     requires { IsSpelledProgram (program_tree program.now) }
     ensures verdict { (text : List ℕ) → Spelled IsProgram text (program_tree program.now) →
-        IsVerdict (λ a. IsRunner true text (map (λ p. told p) passes.old.items) (map (λ p. told p) passes.new.items) (answerer_of a))
-        (IsRefusedRun text) result }
-    ensures passed { ArePassed true (map (λ p. told p) passes.old.items) (map (λ p. told p) passes.new.items) }
+        IsVerdict (λ a. IsRunner (length passes.old.items) text (map (λ p. record { name = name p; tally = tally p }) passes.old.items)
+        (map (λ p. record { name = name p; tally = tally p }) passes.new.items) (answerer_of a)) (IsRefusedRun text) result }
+    ensures names { map (λ p. name p) passes.new.items ≡ map (λ p. name p) passes.old.items }
+    ensures tallies { NoneFell (map (λ p. tally p) passes.old.items) (map (λ p. tally p) passes.new.items) }
 {
     match check(alloc, program) {
         Ok(typed) => target_runner(alloc, &typed, passes),
@@ -179,9 +180,10 @@ fn target_runner(
     passes: &mut Vec<Box<dyn Pass>>,
 ) -> Result<Answerer, Fault>
     ensures verdict { (text : List ℕ) → IsTypedSource text (typed_tree typed.now) →
-        IsVerdict (λ a. IsRunner true text (map (λ p. told p) passes.old.items) (map (λ p. told p) passes.new.items) (answerer_of a))
-        (IsRefusedRun text) result }
-    ensures passed { ArePassed true (map (λ p. told p) passes.old.items) (map (λ p. told p) passes.new.items) }
+        IsVerdict (λ a. IsRunner (length passes.old.items) text (map (λ p. record { name = name p; tally = tally p }) passes.old.items)
+        (map (λ p. record { name = name p; tally = tally p }) passes.new.items) (answerer_of a)) (IsRefusedRun text) result }
+    ensures names { map (λ p. name p) passes.new.items ≡ map (λ p. name p) passes.old.items }
+    ensures tallies { NoneFell (map (λ p. tally p) passes.old.items) (map (λ p. tally p) passes.new.items) }
 {
     match compile_typed(alloc, typed, passes) {
         Ok(target) => Ok(Answerer::Target(target)),
@@ -194,8 +196,8 @@ fn target_runner(
 fn late_runner(alloc: Global, program: &Program) -> Result<Answerer, Fault>
     requires { IsSpelledProgram (program_tree program.now) }
     ensures { (text : List ℕ) (p : Place) → Spelled IsProgram text (program_tree program.now) →
-        checked (program_tree program.now) ≡ Err (NotLinear p) → (calls : Bool) (given : List Told) →
-        IsVerdict (λ a. IsRunner calls text given given (answerer_of a)) (IsRefusedRun text) result }
+        checked (program_tree program.now) ≡ Err (NotLinear p) → (passes : ℕ) (given : List Told) →
+        IsVerdict (λ a. IsRunner passes text given given (answerer_of a)) (IsRefusedRun text) result }
 {
     match check_late(alloc, program) {
         Ok(late) => Ok(Answerer::Late(late)),

@@ -1,7 +1,6 @@
 //! How a call ends.
 ghost use Rattle.std.specs.Prelude.{◌≡◌};
-ghost use Rattle.cf_answer.specs.Statuses.{code_of, refusal_status as the_refusal_status};
-ghost use Rattle.cf_answer.specs.Statuses.{rule_status as the_rule_status, fault_status as the_fault_status, status_of as the_status_of};
+ghost use Rattle.cf_answer.specs.Statuses.{code_of, refusal_status as the_refusal_status, rule_status as the_rule_status, fault_status as the_fault_status, status_of as the_status_of};
 
 use crate::fault::Fault;
 use cf_linear::Refusal;

@@ -1,13 +1,14 @@
 //! The sum of the replies to lines.
-ghost use Rattle.std.specs.Prelude.{◌≡◌, ◌≤◌, ◌<◌, ◌+ℤ◌, ◌∷◌, length, IfOk, Some};
+ghost use Rattle.std.specs.Prelude.{◌≡◌, ◌≤◌, ◌+ℤ◌, length, IfOk, Some};
 ghost use Rattle.cf_io.specs.Limits.{line_limit};
 ghost use Rattle.cf_io.specs.Lines.{lines};
 ghost use Rattle.cf_tree.specs.CodeView.{code_tree};
 ghost use Rattle.cf_tree.specs.Values.{number_of as the_number_of, values as plain_values};
 ghost use Rattle.cf_eval.specs.Seen.{plain, plains};
 ghost use Rattle.cf_answer.specs.Picked.{outcome_number};
-ghost use Rattle.cf_answer.specs.Steps.{first_size, run_number, ComesTo, LineAdds, AddUp};
+ghost use Rattle.cf_answer.specs.Steps.{run_number, ComesTo, LineAdds, AddUp};
 
+use crate::line::cut_line;
 use cf_eval::{LineFault, Outcome, Value, read_line, run_on};
 use cf_io::longest_line;
 use cf_tree::{NoMemory, Target};
@@ -95,37 +96,6 @@ fn add(sum: Sum, more: Sum) -> Result<Sum, NoMemory>
         Some(total) => Ok(Sum { total }),
         None => Err(NoMemory),
     }
-}
-
-// The first line, without its line feed, and what follows it.
-fn cut_line(bytes: &[u8]) -> (&[u8], &[u8])
-    requires { 0 < length bytes.now }
-    ensures lines { lines bytes.now ≡ result.0.now ∷ lines result.1.now }
-    ensures less { length result.1.now < length bytes.now }
-{
-    let size = line_size(bytes);
-    if size < bytes.len() {
-        (&bytes[..size], &bytes[size + 1..])
-    } else {
-        (bytes, &bytes[size..])
-    }
-}
-
-// The number of bytes before the first line feed, or of all bytes.
-fn line_size(bytes: &[u8]) -> usize
-    ensures size { result ≡ first_size bytes.now }
-    ensures most { result ≤ length bytes.now }
-{
-    let mut size = 0usize;
-    let mut rest = bytes;
-    'bytes: while let Some((first, more)) = rest.split_first() {
-        if *first == b'\n' {
-            return size;
-        }
-        size += 1;
-        rest = more;
-    }
-    size
 }
 
 /// The sum of the replies to the lines of some bytes.

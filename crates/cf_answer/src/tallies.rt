@@ -1,6 +1,6 @@
 //! The lines of the tallies of passes.
 ghost use Rattle.std.specs.Prelude.{◌≡◌, ◌++◌, map, flat_map, IfOk, IfErr, OnOk};
-ghost use Rattle.cf_answer.specs.Passes.{tally_line, tally_text, closing_lines};
+ghost use Rattle.cf_answer.specs.Passes.{tally_line, closing_lines};
 
 use crate::fault::Fault;
 use cf_pass::Pass;
@@ -9,7 +9,7 @@ use std::alloc::Global;
 
 // Adds the line of a pass that tells this.
 fn put_line(text: &mut Vec<u8>, name: &str, tally: u64) -> Result<(), NoMemory>
-    ensures { OnOk result (text.new.items ≡ text.old.items ++ tally_text name.now tally) }
+    ensures { OnOk result (text.new.items ≡ text.old.items ++ tally_line (record { name = name.now; tally = tally })) }
 {
     text.extend_from_slice(b"# ")?;
     text.extend_from_slice(name.as_bytes())?;
@@ -20,13 +20,13 @@ fn put_line(text: &mut Vec<u8>, name: &str, tally: u64) -> Result<(), NoMemory>
 }
 
 fn put_tally(pass: &Box<dyn Pass>, text: &mut Vec<u8>) -> Result<(), NoMemory>
-    ensures { OnOk result (text.new.items ≡ text.old.items ++ tally_line (told pass.now)) }
+    ensures { OnOk result (text.new.items ≡ text.old.items ++ tally_line (record { name = name pass.now; tally = tally pass.now })) }
 {
     put_line(text, pass.name(), pass.tally())
 }
 
 fn put_tallies(passes: &[Box<dyn Pass>], text: &mut Vec<u8>) -> Result<(), NoMemory>
-    ensures { OnOk result (text.new.items ≡ text.old.items ++ flat_map tally_line (map (λ p. told p) passes.now)) }
+    ensures { OnOk result (text.new.items ≡ text.old.items ++ flat_map tally_line (map (λ p. record { name = name p; tally = tally p }) passes.now)) }
 {
     for pass in passes {
         put_tally(pass, text)?;
@@ -40,7 +40,7 @@ pub fn put_closing(
     passes: &[Box<dyn Pass>],
     text: &mut Vec<u8>,
 ) -> Result<(), NoMemory>
-    ensures { OnOk result (text.new.items ≡ text.old.items ++ closing_lines stats (map (λ p. told p) passes.now)) }
+    ensures { OnOk result (text.new.items ≡ text.old.items ++ closing_lines stats (map (λ p. record { name = name p; tally = tally p }) passes.now)) }
 {
     if stats {
         put_tallies(passes, text)?;
@@ -50,7 +50,7 @@ pub fn put_closing(
 
 /// What is written behind all else.
 pub fn closing(alloc: Global, stats: bool, passes: &[Box<dyn Pass>]) -> Result<Vec<u8>, Fault>
-    ensures lines { IfOk result (λ text. text.items ≡ closing_lines stats (map (λ p. told p) passes.now)) }
+    ensures lines { IfOk result (λ text. text.items ≡ closing_lines stats (map (λ p. record { name = name p; tally = tally p }) passes.now)) }
     ensures fault { IfErr result (λ f. f ≡ Fault.NoMemory) }
 {
     let mut text = Vec::new(alloc);

@@ -1,28 +1,38 @@
 //! Checking the steps of a file against a source.
-ghost use Rattle.std.specs.Prelude.{◌≡◌, ◌≤◌, ◌<◌, ◌-◌, ◌^◌, ◌++◌, ◌∷◌, [], codes, List, ℕ, length, map, flat_map, IfOk, IfErr, OnOk, IsErrOf};
-ghost use Rattle.cf_io.specs.Seen.{SourceSeen};
+ghost use Rattle.std.specs.Prelude.{◌≡◌, ◌≤◌, ◌<◌, ◌-◌, ◌^◌, ◌++◌, ◌∷◌, [], codes, List, ℕ, Option, length, map, flat_map, IfOk, IfErr, OnOk, IsErrOf};
+ghost use Rattle.cf_io.specs.Causes.{one_more};
 ghost use Rattle.cf_cases.specs.Holding.{EachOf};
 ghost use Rattle.cf_cert.specs.Laws.{IsQuestion};
 ghost use Rattle.cf_cert.specs.Verifying.{question_tree};
-ghost use Rattle.cf_pass.specs.Passes.{Told};
 ghost use Rattle.cf_words.specs.Commands.{verify as the_verify};
 ghost use Rattle.cf_answer.specs.Ends.{Does, AnswersOn, IsInOrder};
 ghost use Rattle.cf_answer.specs.Limits.{text_limit};
+ghost use Rattle.cf_answer.specs.Passes.{Told};
 ghost use Rattle.cf_answer.specs.Statuses.{status_of as the_status_of, IsEarly};
 ghost use Rattle.cf_answer.specs.Texts.{numbered_line};
-ghost use Rattle.cf_answer.specs.Outside.{AreTold, outside, streams};
+ghost use Rattle.cf_answer.specs.Outside.{AreTold};
 ghost use Rattle.cf_answer.specs.Verifying.{AreAskedIn, IsFetched, IsSourceFault};
 
-use crate::choose_line::put_line;
+use crate::answer::write_text;
+use crate::checks::put_head;
 use crate::fault::{Fault, StepsFault};
 use crate::limits::longest_text;
 use crate::questions::read_questions;
 use crate::steps::read_steps;
-use crate::write::write_text;
 use cf_cert::{Question, Verdict, verify};
 use cf_io::{ReadFault, Shelf, Sink, read_text};
 use cf_tree::NoMemory;
 use std::alloc::Global;
+
+// Adds a line about a choose.
+fn put_line(text: &mut Vec<u8>, number: u32, words: &[u8]) -> Result<(), NoMemory>
+    ensures { OnOk result (text.new.items ≡ text.old.items ++ numbered_line number words.now) }
+{
+    put_head(text, b"choose ".as_slice(), number)?;
+    text.extend_from_slice(words)?;
+    text.push(b'\n')?;
+    Ok(())
+}
 
 // Adds the line of a choose that is verified.
 fn put_verified(text: &mut Vec<u8>, number: u32) -> Result<(), NoMemory>
@@ -52,9 +62,12 @@ fn verify_text<O: Sink>(
     requires short { length text.now ≤ text_limit }
     requires place { length text.now < 2 ^ 32 - 1 }
     requires asked { EachOf IsQuestion (map question_tree questions.now) }
-    ensures answers { (file steps : List ℕ) (given : List Told) (input : SourceSeen) (source : List ℕ) →
-        AreAskedIn source (map question_tree questions.now) → AnswersOn (the_verify file steps) given given (source ∷ text.now ∷ [])
-        (streams input (O.seen out.old)) (streams input (O.seen out.new)) result }
+    ensures answers { (file steps : List ℕ) (given : List Told) (input : Option (List ℕ)) (source : List ℕ) →
+        AreAskedIn source (map question_tree questions.now) → AnswersOn (the_verify file steps) given (source ∷ text.now ∷ [])
+        (record { input = input; out = O.held out.old }) (record { input = input; out = O.held out.new }) result }
+    ensures input { ¬ IsErrOf result Fault.Input }
+    ensures output { IsErrOf result Fault.Output → O.faults out.new ≡ one_more (O.faults out.old) }
+    ensures output_same { ¬ IsErrOf result Fault.Output → O.faults out.new ≡ O.faults out.old }
     ensures unwritten { IsEarly (the_status_of result) → out.new ≡ out.old }
 {
     let blocks = match read_steps(alloc, text) {
@@ -89,10 +102,14 @@ fn fetch_questions<F: Shelf>(
     shelf: &mut F,
     file: &str,
 ) -> Result<Vec<Question>, Fault>
-    ensures fetched { IsFetched file.now (F.seen shelf.old) (F.seen shelf.new) }
-    ensures asked { IfOk result (λ qs. (text : List ℕ) × AreTold ((F.seen shelf.old).texts file.now) text × AreAskedIn text (map question_tree qs.items)) }
-    ensures same { OnOk result ((other : List ℕ) → (F.seen shelf.new).faults other ≡ (F.seen shelf.old).faults other) }
-    ensures fault { IfErr result (IsSourceFault file.now (F.seen shelf.old) (F.seen shelf.new)) }
+    ensures fetched { IsFetched file.now
+        (record { texts = F.text shelf.old; left = F.left shelf.old; fetches = F.fetches shelf.old; faults = F.faults shelf.old })
+        (record { texts = F.text shelf.new; left = F.left shelf.new; fetches = F.fetches shelf.new; faults = F.faults shelf.new }) }
+    ensures asked { IfOk result (λ qs. (text : List ℕ) × AreTold (F.text shelf.old file.now) text × AreAskedIn text (map question_tree qs.items)) }
+    ensures same { OnOk result ((other : List ℕ) → F.faults shelf.new other ≡ F.faults shelf.old other) }
+    ensures fault { IfErr result (λ f. IsSourceFault file.now
+        (record { texts = F.text shelf.old; left = F.left shelf.old; fetches = F.fetches shelf.old; faults = F.faults shelf.old })
+        (record { texts = F.text shelf.new; left = F.left shelf.new; fetches = F.fetches shelf.new; faults = F.faults shelf.new }) f) }
 {
     match read_text(alloc, shelf, file, longest_text()) {
         Ok(text) => read_questions(alloc, &text),
@@ -115,12 +132,16 @@ pub fn verify_files<F: Shelf, O: Sink>(
     shelf: &mut F,
     out: &mut O,
 ) -> Result<(), Fault>
-    ensures does { (given : List Told) (input : SourceSeen) → Does (the_verify file.now steps.now) given given
-        (outside (F.seen shelf.old) input (O.seen out.old)) (outside (F.seen shelf.new) input (O.seen out.new)) result }
+    ensures does { (given : List Told) (input : Option (List ℕ)) (input_faults : ℕ) → Does (the_verify file.now steps.now) given
+        (record { texts = F.text shelf.old; left = F.left shelf.old; input = input; out = O.held out.old; fetches = F.fetches shelf.old; file_faults = F.faults shelf.old; input_faults = input_faults; out_faults = O.faults out.old })
+        (record { texts = F.text shelf.new; left = F.left shelf.new; input = input; out = O.held out.new; fetches = F.fetches shelf.new; file_faults = F.faults shelf.new; input_faults = input_faults; out_faults = O.faults out.new }) result }
     ensures usage { ¬ IsErrOf result Fault.Usage }
     ensures unwritten { IsEarly (the_status_of result) → out.new ≡ out.old }
     // The steps file is read only behind a source in which no rule is broken.
-    ensures order { IsInOrder (the_verify file.now steps.now) (F.seen shelf.old) (F.seen shelf.new) (the_status_of result) }
+    ensures order { (input : Option (List ℕ)) (input_faults : ℕ) → IsInOrder (the_verify file.now steps.now)
+        (record { texts = F.text shelf.old; left = F.left shelf.old; input = input; out = O.held out.old; fetches = F.fetches shelf.old; file_faults = F.faults shelf.old; input_faults = input_faults; out_faults = O.faults out.old })
+        (record { texts = F.text shelf.new; left = F.left shelf.new; input = input; out = O.held out.new; fetches = F.fetches shelf.new; file_faults = F.faults shelf.new; input_faults = input_faults; out_faults = O.faults out.new })
+        (the_status_of result) }
 {
     let questions = match fetch_questions(alloc, shelf, file) {
         Ok(questions) => questions,

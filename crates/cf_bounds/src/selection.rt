@@ -105,7 +105,9 @@ fn pairs_at(rows: &[Row], unknown: u32) -> u64
 fn count(rows: &[Row], unknown: u32, of: Side) -> usize
     ensures { result ≡ length (side (is_lower of) unknown rows.now) }
 {
-    rows.iter().filter(|r| of.has(r.entry(unknown))).count()
+    rows.iter()
+        .filter(|r| of.has(r.entry(unknown)))
+        .count()
 }
 
 // Whether the unknown has a bound on the side with a coefficient above 1.

@@ -10,7 +10,7 @@ use Rattle.cf_tree.specs.ExprTree.{ExprTree, expr_lit, expr_truth, expr_var, exp
 use Rattle.cf_tree.specs.Spelled.{IsSpelled, AreSpelled}
 use Rattle.cf_tree.specs.Params.{bases_of, names_of}
 use Rattle.cf_program.specs.Size.{depth_in, depth_all}
-use Rattle.cf_program.proofs.PlainTypes.{ExprHasBases, AllHave, PartsHave}
+use Rattle.cf_program.specs.TypedProgram.{ExprHasBases, AllHave, PartsHave}
 use Rattle.cf_program.specs.Walk.{side_of}
 use Rattle.cf_build.specs.Codes.{binary_code, call_code, code_of, codes_of_all}
 use Rattle.cf_build.specs.Questions.{Question, questions, questions_all}

@@ -8,7 +8,7 @@ use Rattle.cf_tree.specs.ExprTree.{ExprTree, expr_lit, expr_truth, expr_var, exp
 use Rattle.cf_tree.specs.Meaning.{path}
 use Rattle.cf_tree.specs.Values.{Value, Outcome, HaveBases}
 use Rattle.cf_tree.specs.Params.{bases_of, names_of}
-use Rattle.cf_program.proofs.PlainTypes.{ExprHasBases, AllHave, PartsHave}
+use Rattle.cf_program.specs.TypedProgram.{ExprHasBases, AllHave, PartsHave}
 use Rattle.cf_program.specs.Walk.{side_of}
 use Rattle.cf_growth.specs.Overflowing.{IsFineIn, AreFineIn}
 use Rattle.cf_growth.proofs.FineLaws.{chooses_are_fine}

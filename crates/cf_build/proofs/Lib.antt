@@ -1,4 +1,4 @@
-pub mod BuiltLaws
+pub mod Building
 pub mod CallExamples
 pub mod CalledCodes
 pub mod ChooseLists

@@ -1,12 +1,12 @@
 -- What is built for a lowered program is built for the program.
-use Rattle.std.proofs.Common.{◌≡◌, ℕ, zero, suc, List, [], ◌∷◌, length, map, slice_get, Some, Ok, Err, refl, sym, ap, ◌∙◌, subst, Contains}
+use Rattle.std.proofs.Common.{◌≡◌, ℕ, zero, suc, List, [], ◌∷◌, map, slice_get, Some, Ok, Err, refl, sym, ap, ◌∙◌, subst, Contains}
 use Rattle.cf_tree.specs.declared.base.Base.{Base}
 use Rattle.cf_tree.specs.declared.target.RawTarget.{RawTarget}
 use Rattle.cf_tree.specs.CodeView.{code_tree}
 use Rattle.cf_tree.specs.DefView.{DefTree}
-use Rattle.cf_tree.specs.Meaning.{means}
+use Rattle.cf_tree.specs.Meaning.{path, means}
 use Rattle.cf_tree.specs.Values.{Value, Outcome, HaveBases}
-use Rattle.cf_pass.specs.Improves.{Improves}
+use Rattle.cf_pass.specs.Improves.{IsNoWorse}
 use Rattle.cf_program.specs.Lowered.{lowered_def}
 use Rattle.cf_tree.specs.Params.{bases_of}
 use Rattle.cf_match.specs.Laws.{AllowTheSame}
@@ -66,7 +66,7 @@ built_kept ds main passes t keeps b =
         subst (λ e. t.results.items ≡ e.results) (sym same) b.like_main.3,
       );
       unfolded = λ none. b.unfolded none ∙ same_code ds main;
-      rewritten = subst (λ c. Improves (length t.params.items) c (code_tree t.code)) (same_code ds main) b.rewritten;
+      rewritten = λ env h. subst (λ c. IsNoWorse (path c env) (path (code_tree t.code) env)) (same_code ds main) (b.rewritten env h);
       typed = b.typed;
       spelled = b.spelled;
       solved = λ q c. b.solved q (subst (λ qs. Contains qs q) (sym (same_questions ds)) c);

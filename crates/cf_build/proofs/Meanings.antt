@@ -21,8 +21,7 @@ use Rattle.cf_tree.proofs.SetLemmas.{has-put, has-set_of}
 use Rattle.cf_tree.proofs.SolvingLemmas.{solve_chosen}
 use Rattle.cf_choose.proofs.ArmBuilderLemmas.{length_have, value_at-end}
 use Rattle.cf_tree.specs.Params.{bases_of, names_of}
-use Rattle.cf_program.specs.TypedProgram.{AreSides}
-use Rattle.cf_program.proofs.PlainTypes.{ExprHasBases, AllHave, PartsHave}
+use Rattle.cf_program.specs.TypedProgram.{ExprHasBases, AllHave, PartsHave, AreSides}
 use Rattle.cf_program.specs.Walk.{side_of, result_of}
 use Rattle.cf_build.specs.Codes.{two, binary_code, joined_code, call_code, code_of, codes_of_all}
 use Rattle.cf_build.specs.Questions.{Question, questions, questions_all, question_arms}

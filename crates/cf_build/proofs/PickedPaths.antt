@@ -20,7 +20,7 @@ use Rattle.cf_tree.specs.Values.{Value, number, truth, elements, Outcome, values
 use Rattle.cf_linear.proofs.BoolLemmas.{on_bool}
 use Rattle.cf_choose.proofs.ArmBuilderLemmas.{length_have}
 use Rattle.cf_tree.specs.Params.{bases_of, names_of}
-use Rattle.cf_program.proofs.PlainTypes.{ExprHasBases, AllHave, PartsHave}
+use Rattle.cf_program.specs.TypedProgram.{ExprHasBases, AllHave, PartsHave}
 use Rattle.cf_program.specs.Walk.{side_of}
 use Rattle.cf_growth.specs.Meeting.{AreSmall}
 use Rattle.cf_growth.specs.Overflowing.{then_picked, ordinary, picked_right, picked_in, picked_all}

@@ -18,8 +18,7 @@ use Rattle.cf_growth.specs.Overflowing.{picked_in, picked_call, IsFineIn, IsFine
 use Rattle.cf_program.specs.Lowered.{lowered}
 use Rattle.cf_tree.specs.Params.{bases_of}
 use Rattle.cf_program.specs.Size.{depth_in, measured, depths}
-use Rattle.cf_program.specs.TypedProgram.{Takes}
-use Rattle.cf_program.proofs.PlainTypes.{IsTypedDef, AreTypedDefs}
+use Rattle.cf_program.specs.TypedProgram.{Takes, IsTypedDef, AreTypedDefs}
 use Rattle.cf_build.specs.Codes.{code_of, called, codes_behind}
 use Rattle.cf_build.specs.Questions.{Question, questions, all_questions}
 use Rattle.cf_build.specs.Shifted.{HasLevels}

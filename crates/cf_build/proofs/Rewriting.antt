@@ -7,7 +7,7 @@ use Rattle.cf_tree.specs.Meaning.{path, means, peak, outcome_of}
 use Rattle.cf_tree.specs.Typing.{IsTypedCode}
 use Rattle.cf_tree.specs.Values.{Value, HaveBases}
 use Rattle.cf_tree.specs.declared.target.RawTarget.{RawTarget}
-use Rattle.cf_pass.specs.Improves.{IsNoWorse, Improves}
+use Rattle.cf_pass.specs.Improves.{IsNoWorse}
 use Rattle.cf_growth.specs.Meeting.{AreSmall}
 use Rattle.cf_build.specs.Rewritten.{IsRewritten}
 use Rattle.cf_build.specs.Built.{IsBuilt, SourceAllows}
@@ -37,9 +37,7 @@ module _ (defs : List DefTree) (main passes : ℕ) (before after : RawTarget) (b
       record {
         like_main = (like.0, like.1, r.params ∙ like.2, r.results ∙ like.3);
         unfolded = λ z. r.untouched z ∙ b.unfolded refl;
-        rewritten =
-            subst (λ c. Improves (length after.params.items) c (code_tree after.code)) (b.unfolded refl)
-            (subst (λ ps. Improves (length ps) (code_tree before.code) (code_tree after.code)) (sym r.params) r.better);
+        rewritten = λ env h. subst (λ c. IsNoWorse (path c env) (path (code_tree after.code) env)) (b.unfolded refl) (no_worse env h);
         typed =
             subst (λ bs. IsTypedCode (code_tree after.code) after.params.items bs) (sym r.results)
             (subst (λ ps. IsTypedCode (code_tree after.code) ps before.results.items) (sym r.params)

@@ -1,16 +1,16 @@
 -- What a built target keeps.
-use Rattle.std.specs.Prelude.{ℕ, ◌≡◌, List, [], length, map, slice_get, Some, Contains, Result, Ok, Err}
+use Rattle.std.specs.Prelude.{ℕ, ◌≡◌, List, [], map, slice_get, Some, Contains, Result, Ok, Err}
 use Rattle.cf_num.specs.Limit.{limit}
 use Rattle.cf_tree.specs.declared.target.RawTarget.{RawTarget}
 use Rattle.cf_tree.specs.Allowed.{ProgramAllows}
 use Rattle.cf_tree.specs.CodeTree.{CodeTree}
 use Rattle.cf_tree.specs.CodeView.{code_tree}
 use Rattle.cf_tree.specs.DefView.{DefTree}
-use Rattle.cf_tree.specs.Meaning.{means}
+use Rattle.cf_tree.specs.Meaning.{path, means}
 use Rattle.cf_tree.specs.Spelled.{HasSpelling}
 use Rattle.cf_tree.specs.Typing.{IsWellTyped}
 use Rattle.cf_tree.specs.Values.{Value, Outcome, HaveBases}
-use Rattle.cf_pass.specs.Improves.{Improves}
+use Rattle.cf_pass.specs.Improves.{IsNoWorse}
 use Rattle.cf_program.specs.Lowered.{lowered_def}
 use Rattle.cf_tree.specs.Params.{bases_of}
 use Rattle.cf_growth.specs.Meeting.{AreSmall}
@@ -29,13 +29,12 @@ abbrev pub unfolded_code : List DefTree → ℕ → CodeTree
 unfolded_code defs main = called (codes_behind solve_of [] (map lowered_def defs)) main
 
 -- a target with main's parameters and results, whose code is main's unfolded code, rewritten by so many passes: it is that code where there are none,
--- and else may take its place, so that it means the same in each environment and meets no greater number, and is no larger and no deeper; it is well
--- typed and has a spelling; each choose of the program is within the limits, and its arms solve it; in each environment the target has an outcome that
--- the source allows, and it runs as the source picks
+-- and else means the same in each environment and meets no greater number; it is well typed and has a spelling; each choose of the program is within the
+-- limits, and its arms solve it; in each environment the target has an outcome that the source allows, and it runs as the source picks
 pub record IsBuilt (defs : List DefTree) (main passes : ℕ) (t : RawTarget) : Type 0 where
   pub like_main : (d : DefTree) × (slice_get defs main ≡ Some d) × (t.params.items ≡ bases_of d.params) × (t.results.items ≡ d.results)
   pub unfolded : passes ≡ 0 → code_tree t.code ≡ unfolded_code defs main
-  pub rewritten : Improves (length t.params.items) (unfolded_code defs main) (code_tree t.code)
+  pub rewritten : (env : List Value) → HaveBases t.params.items env → IsNoWorse (path (unfolded_code defs main) env) (path (code_tree t.code) env)
   pub typed : IsWellTyped t
   pub spelled : HasSpelling t
   pub solved : (q : Question) → Contains (all_questions defs) q → IsSolveOf q (solve_of q)

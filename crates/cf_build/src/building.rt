@@ -1,10 +1,11 @@
 //! Building a target.
-ghost use Rattle.std.specs.Prelude.{◌≡◌, IfOk, OnOk, OnErr, map, length, All};
+ghost use Rattle.std.specs.Prelude.{◌≡◌, ◌+◌, IfOk, IfErr, map, length, All};
 ghost use Rattle.std.specs.List.Sorted.{IsStrictlyIncreasing};
 ghost use Rattle.cf_tree.specs.CodeView.{code_tree};
 ghost use Rattle.cf_tree.specs.DefView.{def_tree};
 ghost use Rattle.cf_tree.specs.ExprView.{expr_tree};
-ghost use Rattle.cf_pass.specs.Passes.{HaveTurned};
+ghost use Rattle.cf_tree.specs.RelSize.{capped};
+ghost use Rattle.cf_pass.specs.Passes.{NoneFell};
 ghost use Rattle.cf_tree.specs.Params.{bases_of};
 ghost use Rattle.cf_build.specs.Built.{BuildAnswer, IsBuilt};
 ghost use Rattle.cf_build.specs.Codes.{choose_code};
@@ -29,6 +30,7 @@ use std::alloc::Global;
 ///
 /// # Errors
 /// The refused choose with the least number, with the first limit that it passes; or want of memory.
+#[tactic(auto, using(cf_pass::proofs::Tallies::none_fell))]
 pub fn build(
     alloc: Global,
     typed: &Typed,
@@ -36,8 +38,10 @@ pub fn build(
 ) -> Result<Target, BuildFault>
     requires no_match { All (λ d. HasNoMatch (expr_tree d.body)) typed.now.defs.items }
     ensures answer { BuildAnswer (map def_tree typed.now.defs.items) typed.now.main (length passes.old.items) result }
-    ensures turned { OnOk result (HaveTurned (map (λ p. told p) passes.old.items) (map (λ p. told p) passes.new.items)) }
-    ensures kept { OnErr result (map (λ p. told p) passes.new.items ≡ map (λ p. told p) passes.old.items) }
+    ensures names { map (λ p. name p) passes.new.items ≡ map (λ p. name p) passes.old.items }
+    ensures tallies { NoneFell (map (λ p. tally p) passes.old.items) (map (λ p. tally p) passes.new.items) }
+    ensures one_turn { IfOk result (λ _. map (λ p. turns p) passes.new.items ≡ map (λ p. capped (turns p + 1)) passes.old.items) }
+    ensures no_turn { IfErr result (λ _. map (λ p. turns p) passes.new.items ≡ map (λ p. turns p) passes.old.items) }
 {
     match solve_all(alloc, typed) {
         Ok(solves) => Ok(built(alloc, typed, solves, passes)?),
@@ -46,6 +50,7 @@ pub fn build(
 }
 
 // The target, where all chooses are solved.
+#[tactic(auto, using(cf_pass::proofs::Tallies::none_fell))]
 fn built(
     alloc: Global,
     typed: &Typed,
@@ -56,8 +61,10 @@ fn built(
     requires solved { AreSolved (by_number (all_questions (map def_tree typed.now.defs.items))) solves.items }
     requires rising { IsStrictlyIncreasing (map (λ s. s.number) solves.items) }
     ensures target { IfOk result (IsBuilt (map def_tree typed.now.defs.items) typed.now.main (length passes.old.items)) }
-    ensures turned { OnOk result (HaveTurned (map (λ p. told p) passes.old.items) (map (λ p. told p) passes.new.items)) }
-    ensures kept { OnErr result (map (λ p. told p) passes.new.items ≡ map (λ p. told p) passes.old.items) }
+    ensures names { map (λ p. name p) passes.new.items ≡ map (λ p. name p) passes.old.items }
+    ensures tallies { NoneFell (map (λ p. tally p) passes.old.items) (map (λ p. tally p) passes.new.items) }
+    ensures one_turn { IfOk result (λ _. map (λ p. turns p) passes.new.items ≡ map (λ p. capped (turns p + 1)) passes.old.items) }
+    ensures no_turn { IfErr result (λ _. map (λ p. turns p) passes.new.items ≡ map (λ p. turns p) passes.old.items) }
 {
     let raw = unfolded(alloc, typed, solves)?;
     rewritten(alloc, raw, passes)

@@ -139,17 +139,10 @@ fn callee(around: &Around, number: u32, n: u32) -> Result<Code, NoMemory>
                 solves: around.solves,
                 by: add_u32(around.by, n)?,
             };
-            code(&inside, &def.body, arity(def)?)
+            code(&inside, &def.body, to_u32(def.params.len())?)
         }
         None => Ok(Code::Tuple(Vec::new(around.alloc))),
     }
-}
-
-// How many parameters a function has.
-fn arity(def: &Def) -> Result<u32, NoMemory>
-    ensures { IfOk result (λ n. n ≡ length def.now.params.items) }
-{
-    to_u32(def.params.len())
 }
 
 // The code of a set of these codes, or of a tuple.

@@ -16,8 +16,7 @@ use Rattle.cf_linear.specs.Layout.{Layout, covers, has_level, first_free, number
 use Rattle.cf_linear.specs.Written.{val_at, IsPlaced, IsPlacedSet}
 use Rattle.cf_linear.specs.Cases.{Atom, atom_true, atom_false, atom_compare, atom_divides, atom_not_divides, atom_same, atom_other, atom_subset}
 use Rattle.cf_linear.specs.Cases.{atom_not_subset, Signed, in_first, in_one, none_rows, negation_normal, disjuncts, system_of_case, first_systems}
-use Rattle.cf_cases.specs.Holding.{EachOf, SomeOf, signs_of, signs_in, AtomHolds, AtomAt, AreCounts, AtomFits, IsPlacedRel}
-use Rattle.cf_cases.proofs.WholeCases.{CaseHolds, CaseAt, CaseFits}
+use Rattle.cf_cases.specs.Holding.{EachOf, SomeOf, signs_of, signs_in, AtomHolds, CaseHolds, AtomAt, CaseAt, AreCounts, AtomFits, CaseFits, IsPlacedRel}
 use Rattle.cf_cases.proofs.Quantifiers.{each-map, each-imp, some-map, some-unmap, some-each}
 use Rattle.cf_cases.proofs.CaseLaws.{holds-cases}
 use Rattle.cf_cases.proofs.FormedLaws.{system-formed}

@@ -14,8 +14,7 @@ use Rattle.cf_linear.specs.Written.{abs_count}
 use Rattle.cf_linear.specs.Cases.{Atom, atom_true, atom_false, atom_compare, atom_divides, atom_not_divides, atom_same, atom_other, atom_subset}
 use Rattle.cf_linear.specs.Cases.{atom_not_subset, Normal, normal_atom, normal_and, normal_or, negation_normal, Signed, atom_signs, atom_ways, atom_cases}
 use Rattle.cf_linear.specs.Cases.{sign_choices, disjuncts}
-use Rattle.cf_cases.specs.Holding.{SomeOf, signs_of, signs_in, AtomHolds, NormalHolds, SignedHolds}
-use Rattle.cf_cases.proofs.WholeCases.{CaseHolds}
+use Rattle.cf_cases.specs.Holding.{SomeOf, signs_of, signs_in, AtomHolds, NormalHolds, SignedHolds, CaseHolds}
 use Rattle.cf_cases.proofs.Quantifiers.{each-append, each-split, some-left, some-right, some-split, some-imp, some-map, some-unmap, some-flat_map}
 use Rattle.cf_cases.proofs.Quantifiers.{some-unflat_map, some-out}
 use Rattle.cf_cases.proofs.NormalLaws.{plain-holds}

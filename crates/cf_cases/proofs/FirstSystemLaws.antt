@@ -21,8 +21,7 @@ use Rattle.cf_linear.specs.Written.{quotient_count}
 use Rattle.cf_linear.specs.Views.{system_of}
 use Rattle.cf_linear.specs.Cases.{Signed, Normal, negation_normal, normal_atom, normal_and, normal_or, atom_cases, disjuncts, case_count, AtomRows}
 use Rattle.cf_linear.specs.Cases.{write_atom, no_rows, rows_then, case_rows, system_of_case, first_systems, written_passes}
-use Rattle.cf_cases.specs.Holding.{EachOf, SomeOf, IsPlacedRel}
-use Rattle.cf_cases.proofs.WholeCases.{CaseFits}
+use Rattle.cf_cases.specs.Holding.{EachOf, SomeOf, CaseFits, IsPlacedRel}
 use Rattle.cf_cases.specs.SystemBuilders.{rel_quotients}
 use Rattle.cf_cases.proofs.AgreeLaws.{first_systems-formed}
 use Rattle.cf_cases.proofs.SystemLaws.{atom-next, cases-fit}

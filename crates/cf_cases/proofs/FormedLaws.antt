@@ -21,8 +21,7 @@ use Rattle.cf_linear.proofs.Canonical.{Rises-lower, Rises-put}
 use Rattle.cf_linear.proofs.CombLemmas.{Rises-comb}
 use Rattle.cf_linear.proofs.KindLemmas.{EachRow-append}
 use Rattle.cf_linear.proofs.PassingLemmas.{Rises-plus}
-use Rattle.cf_cases.specs.Holding.{EachOf}
-use Rattle.cf_cases.proofs.WholeCases.{CaseFits}
+use Rattle.cf_cases.specs.Holding.{EachOf, CaseFits}
 use Rattle.cf_cases.proofs.Quantifiers.{each-append}
 use Rattle.cf_cases.proofs.SystemLaws.{Low, atom-next, then-low, rows-raise, inputs-below, counts-below}
 

@@ -20,5 +20,3 @@ pub mod SystemBuilderLaws
 pub mod MovedRows
 pub mod HeldLaws
 pub mod FirstSystemLaws
-mod LimitExamples
-pub mod WholeCases

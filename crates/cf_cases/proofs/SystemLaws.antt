@@ -22,8 +22,7 @@ use Rattle.cf_linear.proofs.WritingLemmas.{write-next}
 use Rattle.cf_linear.proofs.Joining.{AreBelow-raise}
 use Rattle.cf_linear.proofs.KindLemmas.{EachRow-append, EachRow-split}
 use Rattle.cf_linear.proofs.ValueLemmas.{Same-trans}
-use Rattle.cf_cases.specs.Holding.{EachOf, AtomAt, AtomFits, SignedFits, AreCounts, IsPlacedRel, signs_in}
-use Rattle.cf_cases.proofs.WholeCases.{CaseAt, CaseFits}
+use Rattle.cf_cases.specs.Holding.{EachOf, AtomAt, CaseAt, AtomFits, SignedFits, CaseFits, AreCounts, IsPlacedRel, signs_in}
 use Rattle.cf_cases.proofs.Quantifiers.{each-append, each-imp, each-map, each-flat_map}
 use Rattle.cf_cases.proofs.BelowLaws.{below-put, below-comb, below-plus, below-above_quotient, below-below_quotient, below-region_row, region-below}
 use Rattle.cf_cases.proofs.BelowLaws.{positive_free, GuardFits, write-fits}

@@ -69,6 +69,9 @@ NormalHolds env (normal_or p q) = NormalHolds env p ⊎ NormalHolds env q
 abbrev pub SignedHolds : List Value → Signed → Type 0
 SignedHolds env (a, ss) = AtomHolds env a × (ss ≡ signs_in (λ t. val t env) a)
 
+abbrev pub CaseHolds : List Value → List Signed → Type 0
+CaseHolds env c = EachOf (SignedHolds env) c
+
 -- ---- at values of the columns
 abbrev pub AtomAt : Layout → Values → Atom → Type 0
 AtomAt l v atom_true = Unit {0}
@@ -83,6 +86,9 @@ AtomAt l v (atom_not_subset a b) = pos 1 ≤ℤ value v (region_row l (in_first 
 
 abbrev pub SignedAt : Layout → Values → Signed → Type 0
 SignedAt l v (a, ss) = AtomAt l v a × (ss ≡ signs_in (val_at l v) a)
+
+abbrev pub CaseAt : Layout → Values → List Signed → Type 0
+CaseAt l v c = EachOf (SignedAt l v) c
 
 -- the counts of the regions are at least 0, and those in exactly the same input sets sum to that region's count
 pub record AreCounts (l : Layout) (v : Values) : Type 0 where
@@ -104,6 +110,9 @@ AtomFits l (atom_not_subset a b) = IsPlacedSet l a × IsPlacedSet l b
 
 abbrev pub SignedFits : Layout → Signed → Type 0
 SignedFits l (a, ss) = AtomFits l a × (length ss ≡ atom_signs a)
+
+abbrev pub CaseFits : Layout → List Signed → Type 0
+CaseFits l c = EachOf (SignedFits l) c
 
 -- the same of each part of a relation
 abbrev pub IsPlacedRel : Layout → RelTree → Type 0

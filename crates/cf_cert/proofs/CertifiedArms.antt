@@ -25,7 +25,7 @@ use Rattle.cf_elim.proofs.StageSmall.{RowsSmall}
 use Rattle.cf_venn.specs.Columns.{known_values, outputs_from}
 use Rattle.cf_venn.specs.Laws.{AreOutputs}
 use Rattle.cf_venn.proofs.SolvingLaws.{solved_by_counts}
-use Rattle.cf_choose.proofs.ArmFacts.{IsArmOf}
+use Rattle.cf_choose.specs.CaseArms.{IsArmOf}
 use Rattle.cf_choose.proofs.ArmLemmas.{solved_arm}
 use Rattle.cf_choose.proofs.CaseLemmas.{few_sets}
 use Rattle.cf_choose.proofs.ChooseLevels.{IsFirst, each_first, are_outputs}

@@ -13,4 +13,3 @@ pub mod JudgeLaws
 pub mod VerdictLaws
 pub mod MarkLaws
 mod PutLaws
-mod LimitExamples

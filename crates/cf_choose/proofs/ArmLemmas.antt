@@ -45,8 +45,7 @@ use Rattle.cf_venn.proofs.KnownLaws.{parameters_known}
 use Rattle.cf_venn.proofs.LetLaws.{region_lets_lead}
 use Rattle.cf_venn.proofs.LevelLaws.{same_each, is_layout, outputs_count}
 use Rattle.cf_venn.proofs.OutputLaws.{held}
-use Rattle.cf_choose.specs.CaseArms.{seen, parameter_names, IsWritable, HasFewLevels}
-use Rattle.cf_choose.proofs.ArmFacts.{IsArmOf}
+use Rattle.cf_choose.specs.CaseArms.{seen, parameter_names, IsWritable, HasFewLevels, IsArmOf}
 use Rattle.cf_choose.proofs.ChooseLevels.{IsFirst, numbers_once, number_levels, output_column}
 use Rattle.cf_choose.proofs.ColumnNames.{named-append, named-first, named-second, ints_of, wholes, search_numbers, search_have, AreEarlier, search_agrees}
 use Rattle.cf_choose.proofs.ColumnNames.{search_named, rising_from, in_bounds, below_bounds, parameter_numbers, named_parameter, place-within, column_is}

@@ -20,8 +20,7 @@ use Rattle.cf_linear.proofs.BoolLemmas.{on_bool}
 use Rattle.cf_cases.specs.Holding.{EachOf}
 use Rattle.cf_cases.proofs.PlacedLaws.{placed-rel}
 use Rattle.cf_venn.specs.Laws.{AreOutputs}
-use Rattle.cf_choose.specs.CaseArms.{IsWritable, HasFewLevels}
-use Rattle.cf_choose.proofs.ArmFacts.{IsArmOf}
+use Rattle.cf_choose.specs.CaseArms.{IsWritable, HasFewLevels, IsArmOf}
 use Rattle.cf_choose.specs.Eliminations.{IsEliminated, IsCaseDone, made, later_refusal, case_refusal}
 use Rattle.cf_choose.specs.Solved.{HasArms, ArmsSolve}
 use Rattle.cf_choose.proofs.ArmLemmas.{solved_arm, spelled_arm}

@@ -14,15 +14,13 @@ use Rattle.cf_linear.specs.Systems.{System, Sat}
 use Rattle.cf_linear.specs.Rows.{Values}
 use Rattle.cf_linear.specs.Cases.{Signed, no_rows, case_rows, system_of_case, negation_normal, disjuncts, first_systems}
 use Rattle.cf_linear.proofs.BoolLemmas.{on_bool}
-use Rattle.cf_cases.specs.Holding.{EachOf, AreCounts, IsPlacedRel}
-use Rattle.cf_cases.proofs.WholeCases.{CaseFits}
+use Rattle.cf_cases.specs.Holding.{EachOf, AreCounts, CaseFits, IsPlacedRel}
 use Rattle.cf_cases.proofs.FormedLaws.{In-range, range-In, case-next}
 use Rattle.cf_cases.proofs.SystemLaws.{case_from_system, cases-fit}
 use Rattle.cf_venn.specs.Laws.{AreOutputs}
 use Rattle.cf_venn.proofs.ColumnLaws.{place_within}
 use Rattle.cf_venn.proofs.LevelLaws.{Up, up_levels, up_filter, base_at, level_has, is_layout, outputs_count}
-use Rattle.cf_choose.specs.CaseArms.{AreInts}
-use Rattle.cf_choose.proofs.OnceLevels.{AreOnce}
+use Rattle.cf_choose.specs.CaseArms.{AreOnce, AreInts}
 use Rattle.cf_choose.specs.ArmBuilders.{HasOutputs}
 use Rattle.cf_choose.specs.Solved.{IsOutput}
 

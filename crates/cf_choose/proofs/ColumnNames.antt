@@ -15,8 +15,7 @@ use Rattle.cf_linear.specs.Rows.{Values}
 use Rattle.cf_linear.specs.Solved.{Rising, InBounds, search_columns, set_tuple}
 use Rattle.cf_linear.proofs.BoolLemmas.{on_bool}
 use Rattle.cf_linear.proofs.KindLemmas.{In-append, In-left, In-right}
-use Rattle.cf_choose.specs.CaseArms.{parameter_names, AreInts}
-use Rattle.cf_choose.proofs.OnceLevels.{AreOnce}
+use Rattle.cf_choose.specs.CaseArms.{parameter_names, AreOnce, AreInts}
 use Rattle.cf_choose.proofs.RowCodes.{named, HasName, AreNumbers}
 use Rattle.cf_choose.proofs.ArmBuilderLemmas.{slice_get-end, have_more, numbers_more, length_have, Agrees, let_agrees}
 use Rattle.cf_elim.proofs.SearchLaws.{bounds_of}

@@ -17,7 +17,7 @@ use Rattle.cf_cases.specs.Holding.{EachOf, SomeOf}
 use Rattle.cf_venn.specs.Columns.{known_values, outputs_from}
 use Rattle.cf_venn.specs.Laws.{AreOutputs}
 use Rattle.cf_venn.proofs.SolvingLaws.{solved_by_counts}
-use Rattle.cf_choose.proofs.ArmFacts.{IsArmOf}
+use Rattle.cf_choose.specs.CaseArms.{IsArmOf}
 
 module _ (scope outputs : List Base) (rel : RelTree) (f : System → ArmTree) where
   abbrev l : Layout

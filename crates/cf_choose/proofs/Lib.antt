@@ -21,5 +21,3 @@ pub mod TurnedRows
 pub mod FirstRows
 pub mod DefinedArms
 pub mod BoundLemmas
-pub mod OnceLevels
-pub mod ArmFacts

@@ -1,3 +1,2 @@
 pub mod Steps
 mod WorkloadExamples
-pub mod ShortSources

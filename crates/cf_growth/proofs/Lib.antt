@@ -11,10 +11,8 @@ pub mod MeetingLaws
 pub mod MergeGrowth
 pub mod MetCodes
 pub mod NormLaws
-mod OverflowExamples
 pub mod OwesLaws
 mod NearExamples
-mod NearSetExamples
 pub mod ParameterLaws
 pub mod PickLaws
 pub mod ReachLaws

@@ -4,4 +4,3 @@ pub mod LimitLemmas
 pub mod LineLemmas
 pub mod Owed
 pub mod ShelfLemmas
-mod LimitExamples

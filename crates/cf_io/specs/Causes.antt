@@ -5,10 +5,6 @@ use Rattle.std.specs.Prelude.{◌≡◌, ℕ, ◌+◌, ◌-◌, ◌^◌, ◌≤�
 abbrev pub one_more : ℕ → ℕ
 one_more count = min (count + 1) (2 ^ 64 - 1)
 
--- a count that goes up by so many; it stays at the same last value
-abbrev pub counted : ℕ → ℕ → ℕ
-counted count more = min (count + more) (2 ^ 64 - 1)
-
 -- the count rose: it is greater than before, or stands at its last value
 abbrev pub Rose : ℕ → ℕ → Type 0
 Rose before now = one_more before ≤ now

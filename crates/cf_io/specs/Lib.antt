@@ -5,7 +5,6 @@ pub mod Faults
 pub mod Limits
 pub mod Lines
 pub mod Memory
-pub mod Seen
 pub mod Segments
 pub mod Sure
 pub mod Texts

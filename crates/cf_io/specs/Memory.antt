@@ -1,8 +1,7 @@
 -- What contracts see of the objects in memory, and what a call leaves.
-use Rattle.std.specs.Prelude.{ℕ, ◌-◌, List, ◌++◌, take, drop, Some}
+use Rattle.std.specs.Prelude.{ℕ, ◌-◌, List, ◌++◌, take, drop}
 use Rattle.cf_io.specs.Causes.{one_more}
-use Rattle.cf_io.specs.Seen.{ShelfSeen, SinkSeen, SourceSeen}
-use Rattle.cf_io.specs.Texts.{text_at, text_under}
+use Rattle.cf_io.specs.Texts.{text_at}
 use Rattle.cf_io.specs.declared.mem_source.MemSource.{MemSource}
 use Rattle.cf_io.specs.declared.mem_sink.MemSink.{MemSink}
 use Rattle.cf_io.specs.declared.mem_shelf.MemShelf.{MemShelf}
@@ -16,9 +15,6 @@ pub record SourceState : Type 0 where
 
 abbrev pub source_of : MemSource → SourceState
 source_of s = record { left = drop s.at s.bytes.items; fails = s.fails.items; calls = s.calls; faults = s.faults }
-
-abbrev pub source_seen : MemSource → SourceSeen
-source_seen s = record { left = Some (drop s.at s.bytes.items); faults = s.faults; given = s.reads.given; ends = s.reads.ends }
 
 -- after a call that failed
 abbrev pub source_failed : SourceState → SourceState
@@ -38,9 +34,6 @@ pub record SinkState : Type 0 where
 
 abbrev pub sink_of : MemSink → SinkState
 sink_of s = record { held = s.bytes.items; room = s.room; fails = s.fails.items; calls = s.calls; faults = s.faults }
-
-abbrev pub sink_seen : MemSink → SinkSeen
-sink_seen s = record { held = Some s.bytes.items; faults = s.faults }
 
 -- after a call that failed
 abbrev pub sink_failed : SinkState → SinkState
@@ -71,17 +64,6 @@ shelf_of s =
       faults =
           s.faults;
       fetches = s.fetches;
-    }
-
-abbrev pub shelf_seen : MemShelf → ShelfSeen
-shelf_seen s =
-    record {
-      texts = λ name. text_under s.names.items s.texts.items name;
-      left = Some (drop s.at (text_at s.texts.items s.place));
-      faults = λ name. s.faults;
-      fetches = s.fetches;
-      given = s.reads.given;
-      ends = s.reads.ends;
     }
 
 -- after a read that failed

@@ -1,6 +1,5 @@
 -- What contracts see of the objects that never fail.
-use Rattle.std.specs.Prelude.{ℕ, List, drop, None, Some}
-use Rattle.cf_io.specs.Seen.{ShelfSeen, SinkSeen, SourceSeen}
+use Rattle.std.specs.Prelude.{ℕ, List, drop}
 use Rattle.cf_io.specs.declared.sure.SureShelf.{SureShelf}
 use Rattle.cf_io.specs.declared.sure.SureSink.{SureSink}
 use Rattle.cf_io.specs.declared.sure.SureSource.{SureSource}
@@ -24,21 +23,3 @@ sure_bytes s = drop s.at s.bytes.items
 -- the number of bytes taken
 abbrev pub sure_taken : SureSink → ℕ
 sure_taken s = s.taken
-
--- what they tell
-abbrev pub shelf_seen : SureShelf → ShelfSeen
-shelf_seen s =
-    record {
-      texts = λ name. Some s.text.items;
-      left = Some (drop s.at s.text.items);
-      faults = λ name. 0;
-      fetches = s.fetches;
-      given = s.reads.given;
-      ends = s.reads.ends;
-    }
-
-abbrev pub source_seen : SureSource → SourceSeen
-source_seen s = record { left = Some (drop s.at s.bytes.items); faults = 0; given = s.reads.given; ends = s.reads.ends }
-
-abbrev pub sink_seen : SureSink → SinkSeen
-sink_seen s = record { held = None; faults = 0 }

@@ -4,7 +4,6 @@ ghost use Rattle.std.specs.Io.{ReadsAtMost, WritesAtMost};
 ghost use Rattle.std.specs.Io.KnownBytes.{ReadConsumes, WriteAppends};
 
 use crate::faults::{Failed, FetchFault};
-use crate::reads::Reads;
 use crate::traits::{Shelf, Sink, Source};
 use std::alloc::Global;
 use std::fs;
@@ -51,32 +50,26 @@ fn write_again<W: Write>(inner: &mut W, from: &[u8]) -> Result<usize, Failed>
 pub struct ReadSource<R> {
     inner: R,
     faults: u64,
-    reads: Reads,
     ghost counted: { faults < 2 ^ 64 },
 }
 
 impl<R: Read> ReadSource<R> {
-    /// A source over `inner`, with no fault and no read yet.
+    /// A source over `inner`, with no fault yet.
     pub fn new(inner: R) -> ReadSource<R>
         ensures inner { result.inner ≡ inner }
         ensures faults { result.faults ≡ 0 }
-        ensures given { result.reads.given ≡ 0 }
-        ensures ends { result.reads.ends ≡ 0 }
     {
-        ReadSource {
-            inner,
-            faults: 0,
-            reads: Reads::new(),
-        }
+        ReadSource { inner, faults: 0 }
     }
 }
 
 impl<R: Read> Source for ReadSource<R> {
-    ghost use Rattle.std.specs.Prelude.{◌≤◌, ℕ, List, length, is_some, IfOk, OnOk, OnErr};
-    ghost use Rattle.cf_io.specs.Causes.{Rose, ChangesNothing, counted, one_more};
-    ghost use Rattle.cf_io.specs.Seen.{untold_source};
+    ghost use Rattle.std.specs.Prelude.{◌≤◌, ℕ, List, is_some, OnOk, OnErr};
+    ghost use Rattle.cf_io.specs.Causes.{Rose, ChangesNothing, one_more};
 
-    ghost seen = { λ s. untold_source s.faults s.reads.given s.reads.ends };
+    ghost left = { λ s. None };
+
+    ghost faults = { λ s. s.faults };
 
     fn read(&mut self, into: &mut [u8]) -> Result<usize, Failed>
         ensures bound { ReadsAtMost result into.new }
@@ -88,11 +81,6 @@ impl<R: Read> Source for ReadSource<R> {
         ensures last { self.new.faults < 2 ^ 64 }
         ensures same { OnOk result (self.new.faults ≡ self.old.faults) }
         ensures once { self.new.faults ≤ one_more self.old.faults }
-        ensures given { IfOk result (λ count. 0 < length into.old → self.new.reads.given ≡ counted self.old.reads.given count) }
-        ensures end { IfOk result (λ count. 0 < length into.old → count ≡ 0 → self.new.reads.ends ≡ one_more self.old.reads.ends) }
-        ensures more { IfOk result (λ count. 0 < count → self.new.reads.ends ≡ self.old.reads.ends) }
-        ensures none_given { OnErr result (self.new.reads.given ≡ self.old.reads.given) }
-        ensures no_end { OnErr result (self.new.reads.ends ≡ self.old.reads.ends) }
         // It gives the reader's bytes, and after a fault the reader has left what it had.
         ensures inner { ReadConsumes (R.remaining self.old.inner) (R.remaining self.new.inner) result into.new }
         ensures counted { OnErr result (self.new.faults ≡ one_more self.old.faults) }
@@ -101,10 +89,7 @@ impl<R: Read> Source for ReadSource<R> {
             return Ok(0);
         }
         match read_again(&mut self.inner, into) {
-            Ok(count) => {
-                self.reads.count(count);
-                Ok(count)
-            }
+            Ok(count) => Ok(count),
             Err(_) => {
                 self.faults = self.faults.saturating_add(1);
                 Err(Failed)
@@ -134,9 +119,10 @@ impl<W: Write> WriteSink<W> {
 impl<W: Write> Sink for WriteSink<W> {
     ghost use Rattle.std.specs.Prelude.{◌≤◌, ℕ, List, length, is_some, IfOk, OnOk, OnErr};
     ghost use Rattle.cf_io.specs.Causes.{Rose, ChangesNothing, one_more};
-    ghost use Rattle.cf_io.specs.Seen.{untold_sink};
 
-    ghost seen = { λ s. untold_sink s.faults };
+    ghost held = { λ s. None };
+
+    ghost faults = { λ s. s.faults };
 
     fn write(&mut self, from: &[u8]) -> Result<usize, Failed>
         ensures bound { WritesAtMost result from.now }
@@ -173,37 +159,38 @@ pub struct FileShelf<'a, R: Files> {
     file: Option<R::File>,
     faults: u64,
     fetches: u64,
-    reads: Reads,
     ghost counted: { faults < 2 ^ 64 },
 }
 
 impl<'a, R: Files> FileShelf<'a, R> {
-    /// A shelf over the files of `rt`, with no fault and no read yet.
+    /// A shelf over the files of `rt`, with no fault yet.
     pub fn new(rt: &'a R) -> FileShelf<'a, R>
         ensures file { result.file ≡ None }
         ensures faults { result.faults ≡ 0 }
         ensures fetches { result.fetches ≡ 0 }
-        ensures given { result.reads.given ≡ 0 }
-        ensures ends { result.reads.ends ≡ 0 }
     {
         FileShelf {
             rt,
             file: None,
             faults: 0,
             fetches: 0,
-            reads: Reads::new(),
         }
     }
 }
 
 impl<'a, R: Files> Shelf for FileShelf<'a, R> {
-    ghost use Rattle.std.specs.Prelude.{◌↔◌, ◌≤◌, ℕ, List, Option, length, is_some, IsSome, IfOk, IfSome, OnOk, OnErr, IsErrOf};
-    ghost use Rattle.cf_io.specs.Causes.{Rose, ChangesNothing, counted, one_more};
-    ghost use Rattle.cf_io.specs.Seen.{untold_shelf};
+    ghost use Rattle.std.specs.Prelude.{◌↔◌, ◌≤◌, ℕ, List, Option, is_some, IsSome, IfSome, OnOk, OnErr, IsErrOf};
+    ghost use Rattle.cf_io.specs.Causes.{Rose, ChangesNothing, one_more};
 
-    ghost seen = { λ s. untold_shelf s.faults s.fetches s.reads.given s.reads.ends };
+    ghost text = { λ s name. None };
+
+    ghost left = { λ s. None };
+
+    ghost faults = { λ s name. s.faults };
 
     ghost turned = { λ s name. Unit {0} };
+
+    ghost fetches = { λ s. s.fetches };
 
     fn fetch(&mut self, alloc: Global, name: &str) -> Result<(), FetchFault>
         ensures start { OnOk result (◌≡◌ {A = Option (List ℕ)} None None) }
@@ -218,8 +205,6 @@ impl<'a, R: Files> Shelf for FileShelf<'a, R> {
         ensures same { ¬ IsErrOf result FetchFault.Failed → (other : List ℕ) → self.new.faults ≡ self.old.faults }
         ensures once { (other : List ℕ) → self.new.faults ≤ one_more self.old.faults }
         ensures asked { self.new.fetches ≡ one_more self.old.fetches }
-        ensures given { self.new.reads.given ≡ self.old.reads.given }
-        ensures ends { self.new.reads.ends ≡ self.old.reads.ends }
         ensures opened { OnOk result (IsSome self.new.file) }
         // A file that was not opened leaves the one before it.
         ensures file { OnErr result (self.new.file ≡ self.old.file) }
@@ -254,11 +239,6 @@ impl<'a, R: Files> Shelf for FileShelf<'a, R> {
         ensures same { OnOk result ((other : List ℕ) → self.new.faults ≡ self.old.faults) }
         ensures once { (other : List ℕ) → self.new.faults ≤ one_more self.old.faults }
         ensures asked { self.new.fetches ≡ self.old.fetches }
-        ensures given { IfOk result (λ count. 0 < length into.old → self.new.reads.given ≡ counted self.old.reads.given count) }
-        ensures end { IfOk result (λ count. 0 < length into.old → count ≡ 0 → self.new.reads.ends ≡ one_more self.old.reads.ends) }
-        ensures more { IfOk result (λ count. 0 < count → self.new.reads.ends ≡ self.old.reads.ends) }
-        ensures none_given { OnErr result (self.new.reads.given ≡ self.old.reads.given) }
-        ensures no_end { OnErr result (self.new.reads.ends ≡ self.old.reads.ends) }
         // It gives the file's bytes, and after a fault the file has left what it had.
         ensures file { IfSome self.old.file (λ before. IfSome self.new.file
             (λ after. ReadConsumes (R.File.remaining before) (R.File.remaining after) result into.new)) }
@@ -269,15 +249,9 @@ impl<'a, R: Files> Shelf for FileShelf<'a, R> {
             return Ok(0);
         }
         match &mut self.file {
-            None => {
-                self.reads.count(0);
-                Ok(0)
-            }
+            None => Ok(0),
             Some(file) => match read_again(file, into) {
-                Ok(count) => {
-                    self.reads.count(count);
-                    Ok(count)
-                }
+                Ok(count) => Ok(count),
                 Err(_) => {
                     self.faults = self.faults.saturating_add(1);
                     Err(Failed)

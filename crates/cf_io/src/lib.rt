@@ -12,7 +12,6 @@ mod mem_shelf;
 mod mem_sink;
 mod mem_source;
 mod read;
-mod reads;
 mod segments;
 mod sure;
 mod traits;

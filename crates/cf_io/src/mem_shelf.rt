@@ -6,14 +6,13 @@ ghost use Rattle.std.specs.Str.{bytes_eq};
 use crate::fails::is_listed;
 use crate::faults::{Failed, FetchFault};
 use crate::front::copy_from;
-use crate::reads::Reads;
 use crate::traits::Shelf;
 use cf_tree::{Bytes, Text};
 use std::alloc::Global;
 
 /// A shelf of texts under names, which fails at the listed calls and at names that it does not have.
 ///
-/// It counts its calls from 0, but for reads on an empty slice, its fetches, what reads gave, and its faults, one number for all names.
+/// It counts its calls from 0, but for reads on an empty slice, its fetches, and its faults, one number for all names.
 /// It is turned to every name. Before the first fetch nothing is left.
 #[derive(Drop)]
 pub struct MemShelf {
@@ -25,22 +24,19 @@ pub struct MemShelf {
     calls: u64,
     faults: u64,
     fetches: u64,
-    reads: Reads,
     ghost counted: { faults < 2 ^ 64 },
     ghost paired: { vec_len names ≡ vec_len texts },
     ghost within: { at ≤ length (text_at texts.items place) },
 }
 
 impl MemShelf {
-    ghost use Rattle.cf_io.specs.Memory.{shelf_of, shelf_seen};
+    ghost use Rattle.cf_io.specs.Memory.{shelf_of};
 
     /// A shelf with these texts under these names, in order. Of two equal names the first one counts.
     /// The calls whose numbers are in `fails` are to fail.
     pub fn new(names: Vec<Text>, texts: Vec<Bytes>, fails: Vec<u64>) -> MemShelf
         requires { vec_len names ≡ vec_len texts }
-        ensures is { shelf_of result ≡ record { names = names.items; texts = texts.items; left = []; fails = fails.items; calls = 0; faults = 0; fetches = 0 } }
-        ensures given { (shelf_seen result).given ≡ 0 }
-        ensures ends { (shelf_seen result).ends ≡ 0 }
+        ensures { shelf_of result ≡ record { names = names.items; texts = texts.items; left = []; fails = fails.items; calls = 0; faults = 0; fetches = 0 } }
     {
         let place = texts.len();
         MemShelf {
@@ -52,7 +48,6 @@ impl MemShelf {
             calls: 0,
             faults: 0,
             fetches: 0,
-            reads: Reads::new(),
         }
     }
 }
@@ -78,29 +73,34 @@ impl Shelf for MemShelf {
     ghost use Rattle.std.specs.Prelude.{◌↔◌, ◌⊎◌, ℕ, List, Some, drop, min, is_some, IfOk, IfErr, IfSome, OnOk, OnErr, IsErr, IsErrOf, IsNone, Contains};
     ghost use Rattle.std.specs.Io.{ReadsAtMost};
     ghost use Rattle.std.specs.Io.KnownBytes.{ReadConsumes};
-    ghost use Rattle.cf_io.specs.Causes.{Rose, ChangesNothing, counted, one_more};
+    ghost use Rattle.cf_io.specs.Causes.{Rose, ChangesNothing, one_more};
     ghost use Rattle.cf_io.specs.Texts.{text_under};
-    ghost use Rattle.cf_io.specs.Memory.{shelf_of, shelf_seen, shelf_failed, shelf_refused, shelf_fetched, shelf_gave};
+    ghost use Rattle.cf_io.specs.Memory.{shelf_of, shelf_failed, shelf_refused, shelf_fetched, shelf_gave};
 
-    ghost seen = { λ s. shelf_seen s };
+    ghost text = { λ s name. text_under s.names.items s.texts.items name };
+
+    ghost left = { λ s. Some (drop s.at (text_at s.texts.items s.place)) };
+
+    ghost faults = { λ s name. s.faults };
 
     ghost turned = { λ s name. Unit {0} };
 
+    ghost fetches = { λ s. s.fetches };
+
     fn fetch(&mut self, alloc: Global, name: &str) -> Result<(), FetchFault>
-        ensures start { OnOk result ((shelf_seen self.new).left ≡ (shelf_seen self.old).texts name.now) }
+        ensures start { OnOk result (Some (shelf_of self.new).left ≡ text_under (shelf_of self.old).names (shelf_of self.old).texts name.now) }
         ensures turned { OnOk result (Unit {0}) }
-        ensures told { is_some (shelf_seen self.new).left ≡ is_some (shelf_seen self.old).left }
-        ensures kept { OnErr result ((shelf_seen self.new).left ≡ (shelf_seen self.old).left) }
+        ensures told { is_some (Some (shelf_of self.new).left) ≡ is_some (Some (shelf_of self.old).left) }
+        ensures kept { OnErr result (Some (shelf_of self.new).left ≡ Some (shelf_of self.old).left) }
         ensures stays { OnErr result ((other : List ℕ) → Unit {0} ↔ Unit {0}) }
-        ensures failed { IsErrOf result FetchFault.Failed → Rose ((shelf_seen self.old).faults name.now) ((shelf_seen self.new).faults name.now) }
-        ensures texts { (other : List ℕ) → (shelf_seen self.new).texts other ≡ (shelf_seen self.old).texts other }
-        ensures counts { (other : List ℕ) → (shelf_seen self.old).faults other ≤ (shelf_seen self.new).faults other }
-        ensures last { (other : List ℕ) → (shelf_seen self.new).faults other < 2 ^ 64 }
-        ensures same { ¬ IsErrOf result FetchFault.Failed → (other : List ℕ) → (shelf_seen self.new).faults other ≡ (shelf_seen self.old).faults other }
-        ensures once { (other : List ℕ) → (shelf_seen self.new).faults other ≤ one_more ((shelf_seen self.old).faults other) }
-        ensures asked { (shelf_seen self.new).fetches ≡ one_more (shelf_seen self.old).fetches }
-        ensures given { (shelf_seen self.new).given ≡ (shelf_seen self.old).given }
-        ensures ends { (shelf_seen self.new).ends ≡ (shelf_seen self.old).ends }
+        ensures failed { IsErrOf result FetchFault.Failed → Rose (shelf_of self.old).faults (shelf_of self.new).faults }
+        ensures texts { (other : List ℕ) → text_under (shelf_of self.new).names (shelf_of self.new).texts other ≡ text_under (shelf_of self.old).names
+            (shelf_of self.old).texts other }
+        ensures counts { (other : List ℕ) → (shelf_of self.old).faults ≤ (shelf_of self.new).faults }
+        ensures last { (other : List ℕ) → (shelf_of self.new).faults < 2 ^ 64 }
+        ensures same { ¬ IsErrOf result FetchFault.Failed → (other : List ℕ) → (shelf_of self.new).faults ≡ (shelf_of self.old).faults }
+        ensures once { (other : List ℕ) → (shelf_of self.new).faults ≤ one_more (shelf_of self.old).faults }
+        ensures asked { (shelf_of self.new).fetches ≡ one_more (shelf_of self.old).fetches }
         // It fails exactly where the call is listed or the name is not on the shelf, and never for want of memory.
         ensures listed { IsErr result ↔ (Contains (shelf_of self.old).fails (shelf_of self.old).calls ⊎
             IsNone (text_under (shelf_of self.old).names (shelf_of self.old).texts name.now)) }
@@ -131,22 +131,18 @@ impl Shelf for MemShelf {
 
     fn read(&mut self, into: &mut [u8]) -> Result<usize, Failed>
         ensures bound { ReadsAtMost result into.new }
-        ensures bytes { ReadConsumes (shelf_seen self.old).left (shelf_seen self.new).left result into.new }
-        ensures told { is_some (shelf_seen self.new).left ≡ is_some (shelf_seen self.old).left }
+        ensures bytes { ReadConsumes (Some (shelf_of self.old).left) (Some (shelf_of self.new).left) result into.new }
+        ensures told { is_some (Some (shelf_of self.new).left) ≡ is_some (Some (shelf_of self.old).left) }
         ensures nothing { ChangesNothing into.old result self.old self.new }
-        ensures failed { OnErr result ((name : List ℕ) → Unit {0} → Rose ((shelf_seen self.old).faults name) ((shelf_seen self.new).faults name)) }
+        ensures failed { OnErr result ((name : List ℕ) → Unit {0} → Rose (shelf_of self.old).faults (shelf_of self.new).faults) }
         ensures turned { (name : List ℕ) → Unit {0} ↔ Unit {0} }
-        ensures texts { (other : List ℕ) → (shelf_seen self.new).texts other ≡ (shelf_seen self.old).texts other }
-        ensures counts { (other : List ℕ) → (shelf_seen self.old).faults other ≤ (shelf_seen self.new).faults other }
-        ensures last { (other : List ℕ) → (shelf_seen self.new).faults other < 2 ^ 64 }
-        ensures same { OnOk result ((other : List ℕ) → (shelf_seen self.new).faults other ≡ (shelf_seen self.old).faults other) }
-        ensures once { (other : List ℕ) → (shelf_seen self.new).faults other ≤ one_more ((shelf_seen self.old).faults other) }
-        ensures asked { (shelf_seen self.new).fetches ≡ (shelf_seen self.old).fetches }
-        ensures given { IfOk result (λ count. 0 < length into.old → (shelf_seen self.new).given ≡ counted (shelf_seen self.old).given count) }
-        ensures end { IfOk result (λ count. 0 < length into.old → count ≡ 0 → (shelf_seen self.new).ends ≡ one_more (shelf_seen self.old).ends) }
-        ensures more { IfOk result (λ count. 0 < count → (shelf_seen self.new).ends ≡ (shelf_seen self.old).ends) }
-        ensures none_given { OnErr result ((shelf_seen self.new).given ≡ (shelf_seen self.old).given) }
-        ensures no_end { OnErr result ((shelf_seen self.new).ends ≡ (shelf_seen self.old).ends) }
+        ensures texts { (other : List ℕ) → text_under (shelf_of self.new).names (shelf_of self.new).texts other ≡ text_under (shelf_of self.old).names
+            (shelf_of self.old).texts other }
+        ensures counts { (other : List ℕ) → (shelf_of self.old).faults ≤ (shelf_of self.new).faults }
+        ensures last { (other : List ℕ) → (shelf_of self.new).faults < 2 ^ 64 }
+        ensures same { OnOk result ((other : List ℕ) → (shelf_of self.new).faults ≡ (shelf_of self.old).faults) }
+        ensures once { (other : List ℕ) → (shelf_of self.new).faults ≤ one_more (shelf_of self.old).faults }
+        ensures asked { (shelf_of self.new).fetches ≡ (shelf_of self.old).fetches }
         // It fails exactly where the call is listed.
         ensures listed { 0 < length into.old → (IsErr result ↔ Contains (shelf_of self.old).fails (shelf_of self.old).calls) }
         ensures refused { OnErr result (shelf_of self.new ≡ shelf_failed (shelf_of self.old)) }
@@ -165,7 +161,6 @@ impl Shelf for MemShelf {
         }
         let count = copy_from(text_in(&self.texts, self.place), self.at, into);
         self.at += count;
-        self.reads.count(count);
         Ok(count)
     }
 }

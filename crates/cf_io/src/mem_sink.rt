@@ -51,21 +51,23 @@ impl Sink for MemSink {
     ghost use Rattle.std.specs.Io.{WritesAtMost};
     ghost use Rattle.std.specs.Io.KnownBytes.{WriteAppends};
     ghost use Rattle.cf_io.specs.Causes.{Rose, ChangesNothing, one_more};
-    ghost use Rattle.cf_io.specs.Memory.{sink_of, sink_seen, sink_failed, sink_took};
+    ghost use Rattle.cf_io.specs.Memory.{sink_of, sink_failed, sink_took};
 
-    ghost seen = { λ s. sink_seen s };
+    ghost held = { λ s. Some s.bytes.items };
+
+    ghost faults = { λ s. s.faults };
 
     fn write(&mut self, from: &[u8]) -> Result<usize, Failed>
         ensures bound { WritesAtMost result from.now }
-        ensures bytes { WriteAppends (sink_seen self.old).held (sink_seen self.new).held result from.now }
-        ensures told { is_some (sink_seen self.new).held ≡ is_some (sink_seen self.old).held }
+        ensures bytes { WriteAppends (Some (sink_of self.old).held) (Some (sink_of self.new).held) result from.now }
+        ensures told { is_some (Some (sink_of self.new).held) ≡ is_some (Some (sink_of self.old).held) }
         ensures nothing { ChangesNothing from.now result self.old self.new }
         ensures some { IfOk result (λ count. 0 < length from.now → 0 < count) }
-        ensures failed { OnErr result (Rose (sink_seen self.old).faults (sink_seen self.new).faults) }
-        ensures counts { (sink_seen self.old).faults ≤ (sink_seen self.new).faults }
-        ensures last { (sink_seen self.new).faults < 2 ^ 64 }
-        ensures same { OnOk result ((sink_seen self.new).faults ≡ (sink_seen self.old).faults) }
-        ensures once { (sink_seen self.new).faults ≤ one_more (sink_seen self.old).faults }
+        ensures failed { OnErr result (Rose (sink_of self.old).faults (sink_of self.new).faults) }
+        ensures counts { (sink_of self.old).faults ≤ (sink_of self.new).faults }
+        ensures last { (sink_of self.new).faults < 2 ^ 64 }
+        ensures same { OnOk result ((sink_of self.new).faults ≡ (sink_of self.old).faults) }
+        ensures once { (sink_of self.new).faults ≤ one_more (sink_of self.old).faults }
         // It fails exactly where the call is listed or no room is left.
         ensures listed { 0 < length from.now → (IsErr result ↔ (Contains (sink_of self.old).fails (sink_of self.old).calls ⊎ ((sink_of self.old).room ≡ 0))) }
         ensures refused { OnErr result (sink_of self.new ≡ sink_failed (sink_of self.old)) }

@@ -4,13 +4,12 @@ ghost use Rattle.std.specs.Prelude.{◌<◌, ◌^◌, ◌≡◌, ◌≤◌, vec_
 use crate::fails::is_listed;
 use crate::faults::Failed;
 use crate::front::copy_from;
-use crate::reads::Reads;
 use crate::traits::Source;
 use cf_tree::Bytes;
 
 /// A source that gives its bytes, and fails at the listed calls.
 ///
-/// It counts its calls from 0, but for those on an empty slice, what they gave, and its faults.
+/// It counts its calls from 0, but for those on an empty slice, and its faults.
 #[derive(Drop)]
 pub struct MemSource {
     bytes: Vec<u8>,
@@ -18,19 +17,16 @@ pub struct MemSource {
     fails: Vec<u64>,
     calls: u64,
     faults: u64,
-    reads: Reads,
     ghost counted: { faults < 2 ^ 64 },
     ghost within: { at ≤ vec_len bytes },
 }
 
 impl MemSource {
-    ghost use Rattle.cf_io.specs.Memory.{source_of, source_seen};
+    ghost use Rattle.cf_io.specs.Memory.{source_of};
 
     /// A source of these bytes. The calls whose numbers are in `fails` are to fail.
     pub fn new(left: Bytes, fails: Vec<u64>) -> MemSource
-        ensures is { source_of result ≡ record { left = left; fails = fails.items; calls = 0; faults = 0 } }
-        ensures given { (source_seen result).given ≡ 0 }
-        ensures ends { (source_seen result).ends ≡ 0 }
+        ensures { source_of result ≡ record { left = left; fails = fails.items; calls = 0; faults = 0 } }
     {
         MemSource {
             bytes: left.bytes,
@@ -38,7 +34,6 @@ impl MemSource {
             fails,
             calls: 0,
             faults: 0,
-            reads: Reads::new(),
         }
     }
 }
@@ -47,26 +42,23 @@ impl Source for MemSource {
     ghost use Rattle.std.specs.Prelude.{◌↔◌, Some, length, drop, min, is_some, IfOk, OnOk, OnErr, IsErr, Contains};
     ghost use Rattle.std.specs.Io.{ReadsAtMost};
     ghost use Rattle.std.specs.Io.KnownBytes.{ReadConsumes};
-    ghost use Rattle.cf_io.specs.Causes.{Rose, ChangesNothing, counted, one_more};
-    ghost use Rattle.cf_io.specs.Memory.{source_of, source_seen, source_failed, source_gave};
+    ghost use Rattle.cf_io.specs.Causes.{Rose, ChangesNothing, one_more};
+    ghost use Rattle.cf_io.specs.Memory.{source_of, source_failed, source_gave};
 
-    ghost seen = { λ s. source_seen s };
+    ghost left = { λ s. Some (drop s.at s.bytes.items) };
+
+    ghost faults = { λ s. s.faults };
 
     fn read(&mut self, into: &mut [u8]) -> Result<usize, Failed>
         ensures bound { ReadsAtMost result into.new }
-        ensures bytes { ReadConsumes (source_seen self.old).left (source_seen self.new).left result into.new }
-        ensures told { is_some (source_seen self.new).left ≡ is_some (source_seen self.old).left }
+        ensures bytes { ReadConsumes (Some (source_of self.old).left) (Some (source_of self.new).left) result into.new }
+        ensures told { is_some (Some (source_of self.new).left) ≡ is_some (Some (source_of self.old).left) }
         ensures nothing { ChangesNothing into.old result self.old self.new }
-        ensures failed { OnErr result (Rose (source_seen self.old).faults (source_seen self.new).faults) }
-        ensures counts { (source_seen self.old).faults ≤ (source_seen self.new).faults }
-        ensures last { (source_seen self.new).faults < 2 ^ 64 }
-        ensures same { OnOk result ((source_seen self.new).faults ≡ (source_seen self.old).faults) }
-        ensures once { (source_seen self.new).faults ≤ one_more (source_seen self.old).faults }
-        ensures given { IfOk result (λ count. 0 < length into.old → (source_seen self.new).given ≡ counted (source_seen self.old).given count) }
-        ensures end { IfOk result (λ count. 0 < length into.old → count ≡ 0 → (source_seen self.new).ends ≡ one_more (source_seen self.old).ends) }
-        ensures more { IfOk result (λ count. 0 < count → (source_seen self.new).ends ≡ (source_seen self.old).ends) }
-        ensures none_given { OnErr result ((source_seen self.new).given ≡ (source_seen self.old).given) }
-        ensures no_end { OnErr result ((source_seen self.new).ends ≡ (source_seen self.old).ends) }
+        ensures failed { OnErr result (Rose (source_of self.old).faults (source_of self.new).faults) }
+        ensures counts { (source_of self.old).faults ≤ (source_of self.new).faults }
+        ensures last { (source_of self.new).faults < 2 ^ 64 }
+        ensures same { OnOk result ((source_of self.new).faults ≡ (source_of self.old).faults) }
+        ensures once { (source_of self.new).faults ≤ one_more (source_of self.old).faults }
         // It fails exactly where the call is listed.
         ensures listed { 0 < length into.old → (IsErr result ↔ Contains (source_of self.old).fails (source_of self.old).calls) }
         ensures refused { OnErr result (source_of self.new ≡ source_failed (source_of self.old)) }
@@ -85,7 +77,6 @@ impl Source for MemSource {
         }
         let count = copy_from(&self.bytes, self.at, into);
         self.at += count;
-        self.reads.count(count);
         Ok(count)
     }
 }

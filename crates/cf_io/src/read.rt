@@ -11,26 +11,23 @@ const PIECE: usize = 4096;
 
 /// Reads the whole text under a name, where it has at most `limit` bytes.
 ///
-/// It fetches the text once, and reads at most one byte more than the limit, and its end at most once.
+/// It fetches the text once, and reads at most one byte more than the limit.
 pub fn read_text<F: Shelf>(
     alloc: Global,
     shelf: &mut F,
     name: &str,
     limit: usize,
 ) -> Result<Vec<u8>, ReadFault>
-    ensures whole { IfOk result (λ bytes. IfSome ((F.seen shelf.old).texts name.now) (λ text. bytes.items ≡ text)) }
+    ensures whole { IfOk result (λ bytes. IfSome (F.text shelf.old name.now) (λ text. bytes.items ≡ text)) }
     ensures short { IfOk result (λ bytes. length bytes.items ≤ limit) }
-    ensures long { IsErrOf result ReadFault.TooLong → IfSome ((F.seen shelf.old).texts name.now) (λ text. limit < length text) }
-    ensures failed { IsErrOf result ReadFault.Failed → Rose ((F.seen shelf.old).faults name.now) ((F.seen shelf.new).faults name.now) }
-    ensures most { ((F.seen shelf.new).left ≡ (F.seen shelf.old).left) ⊎
-        TookFront (limit + 1) ((F.seen shelf.old).texts name.now) (F.seen shelf.new).left }
-    ensures given { (F.seen shelf.new).given ≤ (F.seen shelf.old).given + (limit + 1) }
-    ensures ends { (F.seen shelf.new).ends ≤ (F.seen shelf.old).ends + 1 }
-    ensures texts { (other : List ℕ) → (F.seen shelf.new).texts other ≡ (F.seen shelf.old).texts other }
-    ensures counts { (other : List ℕ) → (F.seen shelf.old).faults other ≤ (F.seen shelf.new).faults other }
-    ensures same { ¬ IsErrOf result ReadFault.Failed → (other : List ℕ) → (F.seen shelf.new).faults other ≡ (F.seen shelf.old).faults other }
-    ensures once { (other : List ℕ) → (F.seen shelf.new).faults other ≤ one_more ((F.seen shelf.old).faults other) }
-    ensures asked { (F.seen shelf.new).fetches ≡ one_more (F.seen shelf.old).fetches }
+    ensures long { IsErrOf result ReadFault.TooLong → IfSome (F.text shelf.old name.now) (λ text. limit < length text) }
+    ensures failed { IsErrOf result ReadFault.Failed → Rose (F.faults shelf.old name.now) (F.faults shelf.new name.now) }
+    ensures most { (F.left shelf.new ≡ F.left shelf.old) ⊎ TookFront (limit + 1) (F.text shelf.old name.now) (F.left shelf.new) }
+    ensures texts { (other : List ℕ) → F.text shelf.new other ≡ F.text shelf.old other }
+    ensures counts { (other : List ℕ) → F.faults shelf.old other ≤ F.faults shelf.new other }
+    ensures same { ¬ IsErrOf result ReadFault.Failed → (other : List ℕ) → F.faults shelf.new other ≡ F.faults shelf.old other }
+    ensures once { (other : List ℕ) → F.faults shelf.new other ≤ one_more (F.faults shelf.old other) }
+    ensures asked { F.fetches shelf.new ≡ one_more (F.fetches shelf.old) }
 {
     shelf.fetch(alloc, name)?;
     let mut bytes = Vec::new(alloc);

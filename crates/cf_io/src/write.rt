@@ -9,12 +9,12 @@ use crate::traits::Sink;
 
 /// Writes all the bytes. After a fault the sink took a prefix of them.
 pub fn write_all<O: Sink>(out: &mut O, bytes: &[u8]) -> Result<(), Failed>
-    ensures all { OnOk result (Appends (O.seen out.old).held (O.seen out.new).held bytes.now) }
-    ensures prefix { TookPrefix (O.seen out.old).held (O.seen out.new).held bytes.now }
-    ensures failed { OnErr result (Rose (O.seen out.old).faults (O.seen out.new).faults) }
-    ensures counts { (O.seen out.old).faults ≤ (O.seen out.new).faults }
-    ensures same { OnOk result ((O.seen out.new).faults ≡ (O.seen out.old).faults) }
-    ensures once { OnErr result ((O.seen out.new).faults ≤ one_more (O.seen out.old).faults) }
+    ensures all { OnOk result (Appends (O.held out.old) (O.held out.new) bytes.now) }
+    ensures prefix { TookPrefix (O.held out.old) (O.held out.new) bytes.now }
+    ensures failed { OnErr result (Rose (O.faults out.old) (O.faults out.new)) }
+    ensures counts { O.faults out.old ≤ O.faults out.new }
+    ensures same { OnOk result (O.faults out.new ≡ O.faults out.old) }
+    ensures once { OnErr result (O.faults out.new ≤ one_more (O.faults out.old)) }
 {
     let mut at = 0usize;
     while at < bytes.len() {

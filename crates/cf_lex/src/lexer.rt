@@ -2,7 +2,8 @@
 ghost use Rattle.std.specs.Prelude.{◌≡◌, ℕ, List, ◌+◌, ◌-◌, ◌^◌, ◌<◌, ◌≤◌, length, ◌∷◌, ◌++◌, [], OnOk, IfOk};
 ghost use Rattle.cf_lex.specs.Places.{place_after};
 ghost use Rattle.cf_lex.specs.Tokens.{TokensAnswer, IsAnswer, LexesTo, Ending, AreWithin, tokens_of};
-ghost use Rattle.cf_lex.specs.Steps.{NextIs, ScanAnswer};
+ghost use Rattle.cf_lex.specs.Front.{IsWithin};
+ghost use Rattle.cf_lex.specs.Steps.{NextIs, ScanAnswer, step, step_of};
 ghost use Rattle.cf_lex.specs.declared.token.Token.{Token};
 ghost use Rattle.cf_tree.specs.declared.base.Place.{Place};
 
@@ -60,7 +61,25 @@ fn take_piece(alloc: Global, place: Place, text: &[u8], limit: u128) -> Result<T
     ensures is { NextIs limit place text.now result }
     ensures size { IfOk result (λ n. (0 < n.size) × (n.size ≤ length text.now)) }
 {
-    match front(text[0], &text[1..]) {
+    let piece = front(text[0], &text[1..]);
+    take_found(alloc, place, piece, text, limit)
+}
+
+// The token that the piece at the front of a text is.
+fn take_found(
+    alloc: Global,
+    place: Place,
+    piece: Piece,
+    text: &[u8],
+    limit: u128,
+) -> Result<Taken, LexFault>
+    requires limit { limit < 2 ^ 127 }
+    requires size { IsWithin (length text.now) piece }
+    requires step { step limit text.now ≡ step_of limit text.now piece }
+    ensures is { NextIs limit place text.now result }
+    ensures size { IfOk result (λ n. (0 < n.size) × (n.size ≤ length text.now)) }
+{
+    match piece {
         Piece::Bad => Err(LexFault::BadByte(place)),
         Piece::Skip(size) => Ok(Taken { size, kind: None }),
         Piece::Literal(size) => match literal(&text[..size], limit) {
@@ -114,6 +133,17 @@ fn scan(alloc: Global, text: &[u8], limit: u128) -> Result<TokenList, LexFault>
 // The greatest literal.
 const MAX: u128 = 170141183460469231731687303715884105727;
 
+fn tokens_within(alloc: Global, text: &[u8], limit: u128) -> Result<TokenList, LexFault>
+    requires short { length text.now < 2 ^ 32 - 1 }
+    requires limit { limit < 2 ^ 127 }
+    ensures answer { TokensAnswer limit text.now result }
+    ensures only { (ts : List Token) (q : Place) (e : Ending) → LexesTo limit text.now ts q e → IsAnswer ts q e result }
+    ensures literals { IfOk result (λ l. AreWithin limit l.list.items) }
+    ensures count { IfOk result (λ l. length l.list.items ≤ length text.now) }
+{
+    scan(alloc, text, limit)
+}
+
 /// The tokens of a text, each with its place, and the place after the last byte.
 ///
 /// # Errors
@@ -128,5 +158,5 @@ pub fn tokens(alloc: Global, text: &[u8]) -> Result<TokenList, LexFault>
     ensures literals { IfOk result (λ l. AreWithin (2 ^ 127 - 1) l.list.items) }
     ensures count { IfOk result (λ l. length l.list.items ≤ length text.now) }
 {
-    scan(alloc, text, MAX)
+    tokens_within(alloc, text, MAX)
 }

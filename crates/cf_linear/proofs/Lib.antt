@@ -8,7 +8,6 @@ pub mod Examples
 pub mod FormedLemmas
 pub mod Joining
 pub mod KindLemmas
-mod LimitExamples
 pub mod MapLemmas
 pub mod MergingLemmas
 pub mod PassingLemmas
@@ -28,4 +27,3 @@ pub mod FactorValues
 pub mod PartLemmas
 pub mod SideLemmas
 pub mod UnknownLemmas
-mod LastExamples

@@ -4,7 +4,7 @@ mod FormExamples
 mod FormLaws
 mod LoopSteps
 pub mod LoweredLaws
-mod KeptLaws
+mod Lowering
 mod LoweringExamples
 mod MatchExamples
 mod MatchLists

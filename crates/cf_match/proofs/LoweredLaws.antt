@@ -13,8 +13,7 @@ use Rattle.cf_tree.specs.Values.{Value, number, truth, elements, number_of, trut
 use Rattle.cf_tree.proofs.RisingLemmas.{rising_set_of, rising_union, rising_filter}
 use Rattle.cf_program.specs.Lowered.{lowered, all_lowered, picked}
 use Rattle.cf_tree.specs.Params.{bases_of}
-use Rattle.cf_program.specs.TypedProgram.{AreSides}
-use Rattle.cf_program.proofs.PlainTypes.{ExprHasBases, AllHave, PartsHave, ArmsHave}
+use Rattle.cf_program.specs.TypedProgram.{AreSides, ExprHasBases, AllHave, PartsHave, ArmsHave}
 use Rattle.cf_program.specs.Walk.{side_of, result_of}
 use Rattle.cf_match.proofs.Matches.{arm_agrees, match_agrees}
 use Rattle.cf_match.proofs.Outcomes.{Agree, alike, as_bases, gives_keeps, gives, then_agree, match_agree, keeps_number, keeps_truth, keeps_value, value_has, have_append, length_have, set_is_rising, chosen_keeps}

@@ -9,8 +9,7 @@ use Rattle.cf_tree.specs.ExprTree.{ExprTree}
 use Rattle.cf_tree.specs.Values.{Value, Outcome, HaveBases}
 use Rattle.cf_program.specs.Lowered.{lowered, lowered_def}
 use Rattle.cf_tree.specs.Params.{bases_of}
-use Rattle.cf_program.specs.TypedProgram.{Takes}
-use Rattle.cf_program.proofs.PlainTypes.{AreTypedDefs}
+use Rattle.cf_program.specs.TypedProgram.{Takes, AreTypedDefs}
 use Rattle.cf_match.specs.Laws.{bodies, LoweringKeepsOutcomes}
 use Rattle.cf_match.proofs.LoweredLaws.{agrees}
 use Rattle.cf_match.proofs.Outcomes.{Agree}

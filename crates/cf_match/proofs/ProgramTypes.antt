@@ -9,8 +9,7 @@ use Rattle.cf_program.specs.DistinctNames.{AreDistinct}
 use Rattle.cf_program.specs.Lowered.{lowered, lowered_def}
 use Rattle.cf_tree.specs.Params.{bases_of, names_of}
 use Rattle.cf_program.specs.Size.{weight_in, depth_in, measured}
-use Rattle.cf_program.specs.TypedProgram.{numbers, all_numbers, Takes}
-use Rattle.cf_program.proofs.PlainTypes.{AreTypedDefs}
+use Rattle.cf_program.specs.TypedProgram.{numbers, all_numbers, Takes, AreTypedDefs}
 use Rattle.cf_match.specs.Laws.{LoweringKeepsTypes, LoweringLeavesNoMatch}
 use Rattle.cf_program.specs.NoMatch.{HasNoMatch}
 use Rattle.cf_match.proofs.NoMatchLaws.{lowered_none, lowered_again}

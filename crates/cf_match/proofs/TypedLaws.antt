@@ -18,8 +18,7 @@ use Rattle.cf_tree.specs.Relation.{IsDivisor, IsTypedTerm, IsLinearTerm}
 use Rattle.cf_tree.specs.RelTree.{TermTree, term_lit, term_var, term_add, term_mul}
 use Rattle.cf_program.specs.Lowered.{divisor, test_by, test, added, pattern_term, any_test, any_fits, unless_last, with_variables, lowered, all_lowered, picked}
 use Rattle.cf_tree.specs.Params.{bases_of}
-use Rattle.cf_program.specs.TypedProgram.{AreSides, IsOutput, HasArms}
-use Rattle.cf_program.proofs.PlainTypes.{ExprHasBases, AllHave, PartsHave, ArmsHave}
+use Rattle.cf_program.specs.TypedProgram.{AreSides, IsOutput, HasArms, ExprHasBases, AllHave, PartsHave, ArmsHave}
 use Rattle.cf_program.specs.Walk.{side_of}
 use Rattle.cf_match.proofs.Patterns.{quotient-is}
 use Rattle.cf_match.proofs.Variables.{ints_of}

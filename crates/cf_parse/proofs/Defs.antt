@@ -2,8 +2,8 @@
 use Rattle.std.proofs.Common.{◌≡◌, ◌==◌, Bool, false, ℕ, suc, zero, ◌<◌, List, [], ◌∷◌, ◌++◌, map, length, Ok, Err, refl, sym, ap, ◌∙◌, arith}
 use Rattle.cf_lex.specs.declared.token.Token.{Token}
 use Rattle.cf_tree.specs.declared.raw.RawDef.{RawDef}
-use Rattle.cf_reader.specs.declared.read_stop.ReadStop.{ReadStop}
-use Rattle.cf_reader.specs.declared.read_stop.ReadStop.TheVariants as stops
+use Rattle.cf_reader.specs.declared.stop.Stop.{Stop}
+use Rattle.cf_reader.specs.declared.stop.Stop.TheVariants as stops
 use Rattle.cf_reader.specs.Answers.{StopAnswer}
 use Rattle.cf_reader.specs.Readers.{Got, bind, at_end, snoc}
 use Rattle.cf_parse.specs.Programs.{def_of, defs_of}
@@ -35,7 +35,7 @@ defs_err limit zero done ts e g l h = absurd (omega arith)
 defs_err limit (suc k) done [] e g l h = absurd (omega (arith, h))
 defs_err limit (suc k) done (t ∷ ts) e g l h = rw (defs_of, at_end, bind, g) refl
 
-pub defs_fail : (limit k : ℕ) (done : List RawDefTree) (ts : List Token) (e : ReadStop) → StopAnswer e (def_of limit ts) → 0 < k → 0 < length ts →
+pub defs_fail : (limit k : ℕ) (done : List RawDefTree) (ts : List Token) (e : Stop) → StopAnswer e (def_of limit ts) → 0 < k → 0 < length ts →
     StopAnswer e (defs_of limit k done ts)
 defs_fail limit k done ts stops.NoMemory g l h = tt
 defs_fail limit k done ts (stops.TokensLeft n) g l h = defs_err limit k done ts n g l h

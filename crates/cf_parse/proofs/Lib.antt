@@ -8,4 +8,3 @@ pub mod Only
 pub mod Defs
 pub mod Programs
 pub mod Examples
-mod LimitExamples

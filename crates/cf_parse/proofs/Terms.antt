@@ -6,8 +6,8 @@ use Rattle.cf_tree.specs.declared.raw.Part.{Part}
 use Rattle.cf_reader.specs.Answers.{StopAnswer}
 use Rattle.cf_reader.specs.Readers.{at, bind, pure, first, snoc}
 use Rattle.cf_parse.specs.declared.pattern.Term.TheVariants.{Part as a_part, Constant as the_constant}
-use Rattle.cf_reader.specs.declared.read_stop.ReadStop.{ReadStop}
-use Rattle.cf_reader.specs.declared.read_stop.ReadStop.TheVariants as stops
+use Rattle.cf_reader.specs.declared.stop.Stop.{Stop}
+use Rattle.cf_reader.specs.declared.stop.Stop.TheVariants as stops
 use Rattle.cf_parse.specs.declared.sign.TermSign.{TermSign}
 use Rattle.cf_parse.specs.Reading.{a_sign, term_of, terms_of}
 
@@ -37,7 +37,7 @@ unfolding terms_of bind
 terms_err zero sign done ts e g lt = absurd (omega arith)
 terms_err (suc k) sign done ts e g lt = rw (terms_of, bind, g) refl
 
-pub terms_fail : (k : ℕ) (sign : TermSign) (done : List Part) (ts : List Token) (e : ReadStop) → StopAnswer e (term_of sign ts) → 0 < k →
+pub terms_fail : (k : ℕ) (sign : TermSign) (done : List Part) (ts : List Token) (e : Stop) → StopAnswer e (term_of sign ts) → 0 < k →
     StopAnswer e (terms_of k sign done ts)
 terms_fail k sign done ts stops.NoMemory g lt = tt
 terms_fail k sign done ts (stops.TokensLeft n) g lt = terms_err k sign done ts n g lt

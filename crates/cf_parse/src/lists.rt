@@ -6,7 +6,7 @@ ghost use Rattle.cf_reader.specs.Readers.{must, a_name, snoc, others_of, several
 ghost use Rattle.cf_parse.specs.Reading.{named, param_of, params_of, names_of};
 
 use cf_lex::Token;
-use cf_reader::{ReadStop, after_sign, expect_base, expect_name, expect_sign};
+use cf_reader::{Stop, after_sign, expect_base, expect_name, expect_sign};
 use cf_tree::{Param, Place, Text};
 use std::alloc::Global;
 
@@ -19,7 +19,7 @@ pub struct Names {
 
 // A name and its base.
 #[tactic(auto, unfolding(cf_reader::specs::Readers::pure, cf_reader::specs::Readers::bind, crate::specs::Reading::param_of))]
-fn param(alloc: Global, tokens: &[Token]) -> Result<(Param, &[Token]), ReadStop>
+fn param(alloc: Global, tokens: &[Token]) -> Result<(Param, &[Token]), Stop>
     ensures { ReadAnswer (λ x. (x.0, x.1.now)) result (param_of tokens.now) }
 {
     let ((place, name), rest) = expect_name(alloc, tokens)?;
@@ -29,7 +29,7 @@ fn param(alloc: Global, tokens: &[Token]) -> Result<(Param, &[Token]), ReadStop>
 }
 
 // The parameters with one more.
-fn with_param(params: Vec<Param>, param: Param) -> Result<Vec<Param>, ReadStop>
+fn with_param(params: Vec<Param>, param: Param) -> Result<Vec<Param>, Stop>
     ensures { ReadAnswer (λ x. x.items) result (Ok (snoc params.items param)) }
 {
     let mut all = params;
@@ -39,7 +39,7 @@ fn with_param(params: Vec<Param>, param: Param) -> Result<Vec<Param>, ReadStop>
 
 /// One parameter or more, up to the closing parenthesis.
 #[tactic(auto, unfolding(cf_reader::specs::Readers::bind, cf_reader::specs::Readers::several_of))]
-pub fn params(alloc: Global, tokens: &[Token]) -> Result<(Vec<Param>, &[Token]), ReadStop>
+pub fn params(alloc: Global, tokens: &[Token]) -> Result<(Vec<Param>, &[Token]), Stop>
     ensures { ReadAnswer (λ x. (x.0.items, x.1.now)) result (several_of snoc param_of (Sign (codes ",")) (Sign (codes ")")) [] tokens.now) }
 {
     let (first, rest) = param(alloc, tokens)?;
@@ -51,7 +51,7 @@ fn more_params(
     alloc: Global,
     first: Vec<Param>,
     tokens: &[Token],
-) -> Result<(Vec<Param>, &[Token]), ReadStop>
+) -> Result<(Vec<Param>, &[Token]), Stop>
     ensures { ReadAnswer (λ x. (x.0.items, x.1.now)) result (others_of snoc param_of (Sign (codes ",")) (Sign (codes ")")) first.items tokens.now) }
 {
     let mut done = first;
@@ -70,12 +70,12 @@ fn more_params(
         }
     }
     // for the proof: the loop ends before
-    Err(ReadStop::TokensLeft(0))
+    Err(Stop::TokensLeft(0))
 }
 
 /// Parameters, if any, up to the closing parenthesis.
 #[tactic(auto, unfolding(cf_reader::specs::Readers::first, cf_reader::specs::Readers::pure, crate::specs::Reading::params_of))]
-pub fn maybe_params(alloc: Global, tokens: &[Token]) -> Result<(Vec<Param>, &[Token]), ReadStop>
+pub fn maybe_params(alloc: Global, tokens: &[Token]) -> Result<(Vec<Param>, &[Token]), Stop>
     ensures { ReadAnswer (λ x. (x.0.items, x.1.now)) result (params_of tokens.now) }
 {
     match after_sign(")", tokens) {
@@ -96,7 +96,7 @@ fn no_names(alloc: Global) -> Names
 }
 
 // One more name.
-fn with_name(names: Names, name: (Place, Text)) -> Result<Names, ReadStop>
+fn with_name(names: Names, name: (Place, Text)) -> Result<Names, Stop>
     ensures { ReadAnswer (λ x. (x.names.items, x.places.items)) result (Ok (named (names.names.items, names.places.items) (name.0, name.1))) }
 {
     let mut all = names.names;
@@ -108,7 +108,7 @@ fn with_name(names: Names, name: (Place, Text)) -> Result<Names, ReadStop>
 
 /// A name, or two or more in parentheses.
 #[tactic(auto, using(crate::proofs::Steps::names_several), unfolding(cf_reader::specs::Readers::first, cf_reader::specs::Readers::bind, cf_reader::specs::Readers::pure, cf_reader::specs::Readers::one_or_tuple, crate::specs::Reading::names_of))]
-pub fn read_names(alloc: Global, tokens: &[Token]) -> Result<(Names, &[Token]), ReadStop>
+pub fn read_names(alloc: Global, tokens: &[Token]) -> Result<(Names, &[Token]), Stop>
     ensures { ReadAnswer (λ x. ((x.0.names.items, x.0.places.items), x.1.now)) result (names_of tokens.now) }
 {
     match after_sign("(", tokens) {
@@ -127,7 +127,7 @@ pub fn read_names(alloc: Global, tokens: &[Token]) -> Result<(Names, &[Token]), 
 }
 
 #[tactic(auto, unfolding(cf_reader::specs::Readers::others_of))]
-fn more_names(alloc: Global, first: Names, tokens: &[Token]) -> Result<(Names, &[Token]), ReadStop>
+fn more_names(alloc: Global, first: Names, tokens: &[Token]) -> Result<(Names, &[Token]), Stop>
     ensures { ReadAnswer (λ x. ((x.0.names.items, x.0.places.items), x.1.now)) result
         (others_of named (must a_name) (Sign (codes ",")) (Sign (codes ")")) (first.names.items, first.places.items) tokens.now) }
 {
@@ -147,5 +147,5 @@ fn more_names(alloc: Global, first: Names, tokens: &[Token]) -> Result<(Names, &
         }
     }
     // for the proof: the loop ends before
-    Err(ReadStop::TokensLeft(0))
+    Err(Stop::TokensLeft(0))
 }

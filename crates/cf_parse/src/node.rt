@@ -8,7 +8,7 @@ ghost use Rattle.cf_parse.specs.Reading.{grouped as grouped_of};
 use crate::lists::Names;
 use crate::measured::{Boxed, Measured, MeasuredArm, MeasuredArms, MeasuredList};
 use crate::pattern::Pattern;
-use cf_reader::ReadStop;
+use cf_reader::Stop;
 use cf_tree::{BinOp, Param, Place, Raw, RawArm, RawNode, Text};
 use std::alloc::Global;
 
@@ -230,7 +230,7 @@ pub fn binary(
     op: BinOp,
     left: Measured,
     right: Boxed,
-) -> Result<Measured, ReadStop>
+) -> Result<Measured, Stop>
     requires left_in { left.depth < 2 ^ 31 }
     requires right_in { right.depth < 2 ^ 31 }
     ensures value { ReadAnswer (λ x. raw_tree x.raw) result (Ok (raw_binary place op (raw_tree left.raw) (raw_tree right.raw.value))) }
@@ -315,7 +315,7 @@ pub fn match_with(place: Place, of: Boxed, arms: MeasuredArms) -> Measured
 }
 
 /// The tree in a box.
-pub fn boxed(alloc: Global, e: Measured) -> Result<Boxed, ReadStop>
+pub fn boxed(alloc: Global, e: Measured) -> Result<Boxed, Stop>
     ensures value { ReadAnswer (λ x. raw_tree x.raw.value) result (Ok (raw_tree e.raw)) }
     ensures deep { IfOk result (λ x. x.depth ≡ e.depth) }
 {
@@ -325,14 +325,14 @@ pub fn boxed(alloc: Global, e: Measured) -> Result<Boxed, ReadStop>
 }
 
 /// What stops, once a value is given up.
-pub fn without<T: Drop>(_value: T, stop: ReadStop) -> ReadStop
+pub fn without<T: Drop>(_value: T, stop: Stop) -> Stop
     ensures { result ≡ stop }
 {
     stop
 }
 
 /// One tree in parentheses, or two or more.
-pub fn grouped(alloc: Global, place: Place, list: MeasuredList) -> Result<Measured, ReadStop>
+pub fn grouped(alloc: Global, place: Place, list: MeasuredList) -> Result<Measured, Stop>
     requires { list.depth < 2 ^ 31 }
     ensures value { ReadAnswer (λ x. raw_tree x.raw) result (Ok (grouped_of place (map raw_tree list.trees.items))) }
     ensures deep { IfOk result (λ x. x.depth ≡ 1 + list.depth) }
@@ -373,7 +373,7 @@ pub fn none(alloc: Global) -> MeasuredList
 
 /// One more tree at the end.
 #[tactic(auto, using(crate::proofs::Depths::depths_more))]
-pub fn with(list: MeasuredList, e: Measured) -> Result<MeasuredList, ReadStop>
+pub fn with(list: MeasuredList, e: Measured) -> Result<MeasuredList, Stop>
     ensures value { ReadAnswer (λ x. map raw_tree x.trees.items) result (Ok (map raw_tree list.trees.items ++ raw_tree e.raw ∷ [])) }
     ensures deep { IfOk result (λ x. x.depth ≡ max list.depth e.depth) }
 {
@@ -412,7 +412,7 @@ pub fn no_arms(alloc: Global) -> MeasuredArms
 
 /// One more arm at the end.
 #[tactic(auto, using(crate::proofs::Depths::arm_depths_more))]
-pub fn with_arm(list: MeasuredArms, arm: MeasuredArm) -> Result<MeasuredArms, ReadStop>
+pub fn with_arm(list: MeasuredArms, arm: MeasuredArm) -> Result<MeasuredArms, Stop>
     ensures value { ReadAnswer (λ x. map raw_arm_tree x.arms.items) result (Ok (map raw_arm_tree list.arms.items ++ raw_arm_tree arm.arm ∷ [])) }
     ensures deep { IfOk result (λ x. x.depth ≡ max list.depth arm.depth) }
 {

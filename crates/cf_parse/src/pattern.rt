@@ -4,7 +4,7 @@ ghost use Rattle.cf_parse.specs.Reading.{term_of, all_terms, pattern_of};
 
 use crate::sign::{TermSign, after_term_sign, signed};
 use cf_lex::Token;
-use cf_reader::{ReadStop, after_sign, expect_name, literal_at_least};
+use cf_reader::{Stop, after_sign, expect_name, literal_at_least};
 use cf_tree::Part;
 use std::alloc::Global;
 
@@ -24,7 +24,7 @@ enum Term {
 
 // The next term, behind this sign.
 #[tactic(auto, unfolding(cf_reader::specs::Readers::first, cf_reader::specs::Readers::bind, cf_reader::specs::Readers::pure, crate::specs::Reading::term_of))]
-fn next_term(alloc: Global, sign: TermSign, tokens: &[Token]) -> Result<(Term, &[Token]), ReadStop>
+fn next_term(alloc: Global, sign: TermSign, tokens: &[Token]) -> Result<(Term, &[Token]), Stop>
     ensures { ReadAnswer (λ x. (x.0, x.1.now)) result (term_of sign tokens.now) }
 {
     match literal_at_least(0, tokens) {
@@ -56,7 +56,7 @@ fn next_term(alloc: Global, sign: TermSign, tokens: &[Token]) -> Result<(Term, &
 
 // The terms of a pattern, the first behind this sign.
 #[tactic(auto, using(crate::proofs::Terms::terms_end, crate::proofs::Terms::terms_constant, crate::proofs::Terms::terms_last, crate::proofs::Terms::terms_go, crate::proofs::Terms::terms_err), unfolding(crate::specs::Reading::all_terms))]
-fn terms(alloc: Global, first: TermSign, tokens: &[Token]) -> Result<(Pattern, &[Token]), ReadStop>
+fn terms(alloc: Global, first: TermSign, tokens: &[Token]) -> Result<(Pattern, &[Token]), Stop>
     ensures { ReadAnswer (λ x. ((x.0.parts.items, x.0.constant), x.1.now)) result (all_terms first tokens.now) }
 {
     let mut parts = Vec::new(alloc);
@@ -79,12 +79,12 @@ fn terms(alloc: Global, first: TermSign, tokens: &[Token]) -> Result<(Pattern, &
         }
     }
     // for the proof: the loop ends before
-    Err(ReadStop::TokensLeft(0))
+    Err(Stop::TokensLeft(0))
 }
 
 /// A pattern.
 #[tactic(auto, unfolding(cf_reader::specs::Readers::first, crate::specs::Reading::pattern_of))]
-pub fn read_pattern(alloc: Global, tokens: &[Token]) -> Result<(Pattern, &[Token]), ReadStop>
+pub fn read_pattern(alloc: Global, tokens: &[Token]) -> Result<(Pattern, &[Token]), Stop>
     ensures { ReadAnswer (λ x. ((x.0.parts.items, x.0.constant), x.1.now)) result (pattern_of tokens.now) }
 {
     match after_sign("-", tokens) {

@@ -15,7 +15,7 @@ use crate::tier::Tier;
 use crate::words::{divides_by, next_op, under};
 use cf_lex::Token;
 use cf_reader::{
-    ReadStop, after_sign, after_word, expect_literal, expect_name, expect_sign, expect_word,
+    Stop, after_sign, after_word, expect_literal, expect_name, expect_sign, expect_word,
     literal_at_least, truth,
 };
 use cf_tree::Place;
@@ -29,13 +29,13 @@ pub fn tree_at(
     tier: Tier,
     n: u32,
     tokens: &[Token],
-) -> Result<(Measured, &[Token]), ReadStop>
+) -> Result<(Measured, &[Token]), Stop>
     requires { n < 2 ^ 30 }
     ensures value { ReadAnswer (λ x. (raw_tree x.0.raw, x.1.now)) result (read_at n tier tokens.now) }
     ensures deep { IfOk result (λ x. x.0.depth ≤ n) }
 {
     if n == 0 {
-        return Err(ReadStop::TokensLeft(tokens.len()));
+        return Err(Stop::TokensLeft(tokens.len()));
     }
     match tier {
         Tier::Whole => whole(alloc, n - 1, tokens),
@@ -50,7 +50,7 @@ pub fn tree_at(
 
 // A tree of depth at most `n`, at a tier, in a box.
 #[cycle(reading)]
-fn boxed(alloc: Global, tier: Tier, n: u32, tokens: &[Token]) -> Result<(Boxed, &[Token]), ReadStop>
+fn boxed(alloc: Global, tier: Tier, n: u32, tokens: &[Token]) -> Result<(Boxed, &[Token]), Stop>
     requires { n < 2 ^ 30 }
     ensures value { ReadAnswer (λ x. (raw_tree x.0.raw.value, x.1.now)) result (read_at n tier tokens.now) }
     ensures deep { IfOk result (λ x. x.0.depth ≤ n) }
@@ -62,32 +62,32 @@ fn boxed(alloc: Global, tier: Tier, n: u32, tokens: &[Token]) -> Result<(Boxed, 
 // Any expression.
 #[cycle(reading)]
 #[tactic(auto, unfolding(cf_reader::specs::Readers::deep, crate::specs::Reading::whole_of))]
-fn whole(alloc: Global, n: u32, tokens: &[Token]) -> Result<(Measured, &[Token]), ReadStop>
+fn whole(alloc: Global, n: u32, tokens: &[Token]) -> Result<(Measured, &[Token]), Stop>
     requires { n < 2 ^ 30 }
     ensures value { ReadAnswer (λ x. (raw_tree x.0.raw, x.1.now)) result (whole_of (read_at n) n tokens.now) }
     ensures deep { IfOk result (λ x. x.0.depth ≤ n + 1) }
 {
     if let Some((place, rest)) = after_word("let", tokens) {
         if n == 0 {
-            return Err(ReadStop::TokensLeft(tokens.len()));
+            return Err(Stop::TokensLeft(tokens.len()));
         }
         return let_in(alloc, n, place, rest);
     }
     if let Some((place, rest)) = after_word("if", tokens) {
         if n == 0 {
-            return Err(ReadStop::TokensLeft(tokens.len()));
+            return Err(Stop::TokensLeft(tokens.len()));
         }
         return if_else(alloc, n, place, rest);
     }
     if let Some((place, rest)) = after_word("choose", tokens) {
         if n == 0 {
-            return Err(ReadStop::TokensLeft(tokens.len()));
+            return Err(Stop::TokensLeft(tokens.len()));
         }
         return choose(alloc, n, place, rest);
     }
     if let Some((place, rest)) = after_word("match", tokens) {
         if n == 0 {
-            return Err(ReadStop::TokensLeft(tokens.len()));
+            return Err(Stop::TokensLeft(tokens.len()));
         }
         return match_with(alloc, n, place, rest);
     }
@@ -102,7 +102,7 @@ fn let_in(
     n: u32,
     place: Place,
     tokens: &[Token],
-) -> Result<(Measured, &[Token]), ReadStop>
+) -> Result<(Measured, &[Token]), Stop>
     requires { n < 2 ^ 30 }
     ensures value { ReadAnswer (λ x. (raw_tree x.0.raw, x.1.now)) result (let_of (read_at n) place tokens.now) }
     ensures deep { IfOk result (λ x. x.0.depth ≤ n + 1) }
@@ -123,7 +123,7 @@ fn if_else(
     n: u32,
     place: Place,
     tokens: &[Token],
-) -> Result<(Measured, &[Token]), ReadStop>
+) -> Result<(Measured, &[Token]), Stop>
     requires { n < 2 ^ 30 }
     ensures value { ReadAnswer (λ x. (raw_tree x.0.raw, x.1.now)) result (if_of (read_at n) place tokens.now) }
     ensures deep { IfOk result (λ x. x.0.depth ≤ n + 1) }
@@ -144,7 +144,7 @@ fn choose(
     n: u32,
     place: Place,
     tokens: &[Token],
-) -> Result<(Measured, &[Token]), ReadStop>
+) -> Result<(Measured, &[Token]), Stop>
     requires { n < 2 ^ 30 }
     ensures value { ReadAnswer (λ x. (raw_tree x.0.raw, x.1.now)) result (choose_of (read_at n) place tokens.now) }
     ensures deep { IfOk result (λ x. x.0.depth ≤ n + 1) }
@@ -164,7 +164,7 @@ fn match_with(
     n: u32,
     place: Place,
     tokens: &[Token],
-) -> Result<(Measured, &[Token]), ReadStop>
+) -> Result<(Measured, &[Token]), Stop>
     requires small { n < 2 ^ 30 }
     requires some { 1 ≤ n }
     ensures value { ReadAnswer (λ x. (raw_tree x.0.raw, x.1.now)) result (match_of (read_at n) place tokens.now) }
@@ -182,7 +182,7 @@ fn match_with(
 // An arm of a `match`.
 #[cycle(reading)]
 #[tactic(auto, unfolding(cf_reader::specs::Readers::bind, cf_reader::specs::Readers::pure, crate::specs::Reading::arm_of))]
-fn arm(alloc: Global, n: u32, tokens: &[Token]) -> Result<(MeasuredArm, &[Token]), ReadStop>
+fn arm(alloc: Global, n: u32, tokens: &[Token]) -> Result<(MeasuredArm, &[Token]), Stop>
     requires small { n < 2 ^ 30 }
     requires some { 1 ≤ n }
     ensures value { ReadAnswer (λ x. (raw_arm_tree x.0.arm, x.1.now)) result (arm_of (read_at n) tokens.now) }
@@ -202,7 +202,7 @@ fn more_arms(
     n: u32,
     first: MeasuredArms,
     tokens: &[Token],
-) -> Result<(MeasuredArms, &[Token]), ReadStop>
+) -> Result<(MeasuredArms, &[Token]), Stop>
     requires small { n < 2 ^ 30 }
     requires some { 1 ≤ n }
     requires first_in { first.depth ≤ n }
@@ -226,13 +226,13 @@ fn more_arms(
         }
     }
     // for the proof: the loop ends before
-    Err(ReadStop::TokensLeft(0))
+    Err(Stop::TokensLeft(0))
 }
 
 // Joined by `||`.
 #[cycle(reading)]
 #[tactic(auto, unfolding(cf_reader::specs::Readers::bind, crate::specs::Reading::ors_of))]
-fn ors(alloc: Global, n: u32, tokens: &[Token]) -> Result<(Measured, &[Token]), ReadStop>
+fn ors(alloc: Global, n: u32, tokens: &[Token]) -> Result<(Measured, &[Token]), Stop>
     requires { n < 2 ^ 30 }
     ensures value { ReadAnswer (λ x. (raw_tree x.0.raw, x.1.now)) result (ors_of (read_at n) n tokens.now) }
     ensures deep { IfOk result (λ x. x.0.depth ≤ n + 1) }
@@ -244,7 +244,7 @@ fn ors(alloc: Global, n: u32, tokens: &[Token]) -> Result<(Measured, &[Token]), 
 // Joined by `&&`.
 #[cycle(reading)]
 #[tactic(auto, unfolding(cf_reader::specs::Readers::bind, crate::specs::Reading::ands_of))]
-fn ands(alloc: Global, n: u32, tokens: &[Token]) -> Result<(Measured, &[Token]), ReadStop>
+fn ands(alloc: Global, n: u32, tokens: &[Token]) -> Result<(Measured, &[Token]), Stop>
     requires { n < 2 ^ 30 }
     ensures value { ReadAnswer (λ x. (raw_tree x.0.raw, x.1.now)) result (ands_of (read_at n) n tokens.now) }
     ensures deep { IfOk result (λ x. x.0.depth ≤ n + 1) }
@@ -256,7 +256,7 @@ fn ands(alloc: Global, n: u32, tokens: &[Token]) -> Result<(Measured, &[Token]),
 // At most one comparison, or `divides`.
 #[cycle(reading)]
 #[tactic(auto, unfolding(cf_reader::specs::Readers::bind, crate::specs::Reading::cmps_of))]
-fn cmps(alloc: Global, n: u32, tokens: &[Token]) -> Result<(Measured, &[Token]), ReadStop>
+fn cmps(alloc: Global, n: u32, tokens: &[Token]) -> Result<(Measured, &[Token]), Stop>
     requires { n < 2 ^ 30 }
     ensures value { ReadAnswer (λ x. (raw_tree x.0.raw, x.1.now)) result (cmps_of (read_at n) n tokens.now) }
     ensures deep { IfOk result (λ x. x.0.depth ≤ n + 1) }
@@ -273,7 +273,7 @@ fn compared(
     n: u32,
     left: Measured,
     tokens: &[Token],
-) -> Result<(Measured, &[Token]), ReadStop>
+) -> Result<(Measured, &[Token]), Stop>
     requires small { n < 2 ^ 30 }
     requires left_in { left.depth ≤ n + 1 }
     ensures value { ReadAnswer (λ x. (raw_tree x.0.raw, x.1.now)) result (compared_of (read_at n) n (raw_tree left.raw) tokens.now) }
@@ -296,7 +296,7 @@ fn compared(
 // Joined by `+`, `-`, `union` or `diff`.
 #[cycle(reading)]
 #[tactic(auto, unfolding(cf_reader::specs::Readers::bind, crate::specs::Reading::sums_of))]
-fn sums(alloc: Global, n: u32, tokens: &[Token]) -> Result<(Measured, &[Token]), ReadStop>
+fn sums(alloc: Global, n: u32, tokens: &[Token]) -> Result<(Measured, &[Token]), Stop>
     requires { n < 2 ^ 30 }
     ensures value { ReadAnswer (λ x. (raw_tree x.0.raw, x.1.now)) result (sums_of (read_at n) n tokens.now) }
     ensures deep { IfOk result (λ x. x.0.depth ≤ n + 1) }
@@ -308,7 +308,7 @@ fn sums(alloc: Global, n: u32, tokens: &[Token]) -> Result<(Measured, &[Token]),
 // Joined by `*` or `inter`.
 #[cycle(reading)]
 #[tactic(auto, unfolding(cf_reader::specs::Readers::bind, crate::specs::Reading::muls_of))]
-fn muls(alloc: Global, n: u32, tokens: &[Token]) -> Result<(Measured, &[Token]), ReadStop>
+fn muls(alloc: Global, n: u32, tokens: &[Token]) -> Result<(Measured, &[Token]), Stop>
     requires { n < 2 ^ 30 }
     ensures value { ReadAnswer (λ x. (raw_tree x.0.raw, x.1.now)) result (muls_of (read_at n) n tokens.now) }
     ensures deep { IfOk result (λ x. x.0.depth ≤ n + 1) }
@@ -326,7 +326,7 @@ fn chain(
     n: u32,
     first: Measured,
     tokens: &[Token],
-) -> Result<(Measured, &[Token]), ReadStop>
+) -> Result<(Measured, &[Token]), Stop>
     requires small { n < 2 ^ 30 }
     requires first_in { first.depth ≤ n + 1 }
     ensures value { ReadAnswer (λ x. (raw_tree x.0.raw, x.1.now)) result (chain_of (read_at n) tier n n (raw_tree first.raw) tokens.now) }
@@ -354,21 +354,21 @@ fn chain(
 // Behind signs, or by itself.
 #[cycle(reading)]
 #[tactic(auto, unfolding(cf_reader::specs::Readers::deep, cf_reader::specs::Readers::bind, cf_reader::specs::Readers::pure, crate::specs::Reading::unary_of))]
-fn unary(alloc: Global, n: u32, tokens: &[Token]) -> Result<(Measured, &[Token]), ReadStop>
+fn unary(alloc: Global, n: u32, tokens: &[Token]) -> Result<(Measured, &[Token]), Stop>
     requires { n < 2 ^ 30 }
     ensures value { ReadAnswer (λ x. (raw_tree x.0.raw, x.1.now)) result (unary_of (read_at n) n tokens.now) }
     ensures deep { IfOk result (λ x. x.0.depth ≤ n + 1) }
 {
     if let Some((place, rest)) = after_sign("-", tokens) {
         if n == 0 {
-            return Err(ReadStop::TokensLeft(tokens.len()));
+            return Err(Stop::TokensLeft(tokens.len()));
         }
         let (e, rest) = boxed(alloc, Tier::Unary, n, rest)?;
         return Ok((node::neg(place, e), rest));
     }
     if let Some((place, rest)) = after_sign("!", tokens) {
         if n == 0 {
-            return Err(ReadStop::TokensLeft(tokens.len()));
+            return Err(Stop::TokensLeft(tokens.len()));
         }
         let (e, rest) = boxed(alloc, Tier::Unary, n, rest)?;
         return Ok((node::not(place, e), rest));
@@ -379,7 +379,7 @@ fn unary(alloc: Global, n: u32, tokens: &[Token]) -> Result<(Measured, &[Token])
 // By itself.
 #[cycle(reading)]
 #[tactic(auto, unfolding(cf_reader::specs::Readers::first, cf_reader::specs::Readers::deep, cf_reader::specs::Readers::bind, cf_reader::specs::Readers::pure, crate::specs::Reading::atom_of))]
-fn atom(alloc: Global, n: u32, tokens: &[Token]) -> Result<(Measured, &[Token]), ReadStop>
+fn atom(alloc: Global, n: u32, tokens: &[Token]) -> Result<(Measured, &[Token]), Stop>
     requires { n < 2 ^ 30 }
     ensures value { ReadAnswer (λ x. (raw_tree x.0.raw, x.1.now)) result (atom_of (read_at n) n tokens.now) }
     ensures deep { IfOk result (λ x. x.0.depth ≤ n + 1) }
@@ -389,7 +389,7 @@ fn atom(alloc: Global, n: u32, tokens: &[Token]) -> Result<(Measured, &[Token]),
     }
     if let Some((place, rest)) = after_sign("(", tokens) {
         if n == 0 {
-            return Err(ReadStop::TokensLeft(tokens.len()));
+            return Err(Stop::TokensLeft(tokens.len()));
         }
         let (es, rest) = list(alloc, n, ")", rest)?;
         return Ok((node::grouped(alloc, place, es)?, rest));
@@ -404,7 +404,7 @@ fn atom(alloc: Global, n: u32, tokens: &[Token]) -> Result<(Measured, &[Token]),
 // A form that begins with a word.
 #[cycle(reading)]
 #[tactic(auto, unfolding(cf_reader::specs::Readers::first, cf_reader::specs::Readers::deep, cf_reader::specs::Readers::bind, cf_reader::specs::Readers::pure, crate::specs::Reading::word_of))]
-fn word(alloc: Global, n: u32, tokens: &[Token]) -> Result<(Measured, &[Token]), ReadStop>
+fn word(alloc: Global, n: u32, tokens: &[Token]) -> Result<(Measured, &[Token]), Stop>
     requires { n < 2 ^ 30 }
     ensures value { ReadAnswer (λ x. (raw_tree x.0.raw, x.1.now)) result (word_of (read_at n) n tokens.now) }
     ensures deep { IfOk result (λ x. x.0.depth ≤ n + 1) }
@@ -414,28 +414,28 @@ fn word(alloc: Global, n: u32, tokens: &[Token]) -> Result<(Measured, &[Token]),
     }
     if let Some((place, rest)) = after_word("card", tokens) {
         if n == 0 {
-            return Err(ReadStop::TokensLeft(tokens.len()));
+            return Err(Stop::TokensLeft(tokens.len()));
         }
         let (e, rest) = inside(alloc, n, rest)?;
         return Ok((node::card(place, e), rest));
     }
     if let Some((place, rest)) = after_word("abs", tokens) {
         if n == 0 {
-            return Err(ReadStop::TokensLeft(tokens.len()));
+            return Err(Stop::TokensLeft(tokens.len()));
         }
         let (e, rest) = inside(alloc, n, rest)?;
         return Ok((node::abs(place, e), rest));
     }
     if let Some((place, rest)) = after_word("div", tokens) {
         if n == 0 {
-            return Err(ReadStop::TokensLeft(tokens.len()));
+            return Err(Stop::TokensLeft(tokens.len()));
         }
         let ((e, k), rest) = divided(alloc, n, rest)?;
         return Ok((node::div(place, e, k), rest));
     }
     if let Some((place, rest)) = after_word("mod", tokens) {
         if n == 0 {
-            return Err(ReadStop::TokensLeft(tokens.len()));
+            return Err(Stop::TokensLeft(tokens.len()));
         }
         let ((e, k), rest) = divided(alloc, n, rest)?;
         return Ok((node::modulo(place, e, k), rest));
@@ -446,7 +446,7 @@ fn word(alloc: Global, n: u32, tokens: &[Token]) -> Result<(Measured, &[Token]),
 // A name, or a call.
 #[cycle(reading)]
 #[tactic(auto, unfolding(cf_reader::specs::Readers::first, cf_reader::specs::Readers::bind, cf_reader::specs::Readers::pure, crate::specs::Reading::named_of))]
-fn name_or_call(alloc: Global, n: u32, tokens: &[Token]) -> Result<(Measured, &[Token]), ReadStop>
+fn name_or_call(alloc: Global, n: u32, tokens: &[Token]) -> Result<(Measured, &[Token]), Stop>
     requires { n < 2 ^ 30 }
     ensures value { ReadAnswer (λ x. (raw_tree x.0.raw, x.1.now)) result (named_of (read_at n) tokens.now) }
     ensures deep { IfOk result (λ x. x.0.depth ≤ n + 1) }
@@ -464,7 +464,7 @@ fn name_or_call(alloc: Global, n: u32, tokens: &[Token]) -> Result<(Measured, &[
 // An expression in parentheses.
 #[cycle(reading)]
 #[tactic(auto, unfolding(cf_reader::specs::Readers::bind, cf_reader::specs::Readers::pure, crate::specs::Reading::inside_of))]
-fn inside(alloc: Global, n: u32, tokens: &[Token]) -> Result<(Boxed, &[Token]), ReadStop>
+fn inside(alloc: Global, n: u32, tokens: &[Token]) -> Result<(Boxed, &[Token]), Stop>
     requires { n < 2 ^ 30 }
     ensures value { ReadAnswer (λ x. (raw_tree x.0.raw.value, x.1.now)) result (inside_of (read_at n) tokens.now) }
     ensures deep { IfOk result (λ x. x.0.depth ≤ n) }
@@ -478,7 +478,7 @@ fn inside(alloc: Global, n: u32, tokens: &[Token]) -> Result<(Boxed, &[Token]), 
 // An expression and a literal of at least 1, in parentheses.
 #[cycle(reading)]
 #[tactic(auto, unfolding(cf_reader::specs::Readers::bind, cf_reader::specs::Readers::pure, crate::specs::Reading::divided_of))]
-fn divided(alloc: Global, n: u32, tokens: &[Token]) -> Result<((Boxed, i128), &[Token]), ReadStop>
+fn divided(alloc: Global, n: u32, tokens: &[Token]) -> Result<((Boxed, i128), &[Token]), Stop>
     requires { n < 2 ^ 30 }
     ensures value { ReadAnswer (λ x. ((raw_tree x.0.0.raw.value, x.0.1), x.1.now)) result (divided_of (read_at n) tokens.now) }
     ensures deep { IfOk result (λ x. x.0.0.depth ≤ n) }
@@ -499,7 +499,7 @@ fn items<'a>(
     n: u32,
     close: &str,
     tokens: &'a [Token],
-) -> Result<(MeasuredList, &'a [Token]), ReadStop>
+) -> Result<(MeasuredList, &'a [Token]), Stop>
     requires { n < 2 ^ 30 }
     ensures value { ReadAnswer (λ x. (map raw_tree x.0.trees.items, x.1.now)) result (items_of (read_at n) (Sign close.now) tokens.now) }
     ensures deep { IfOk result (λ x. x.0.depth ≤ n) }
@@ -518,7 +518,7 @@ fn list<'a>(
     n: u32,
     close: &str,
     tokens: &'a [Token],
-) -> Result<(MeasuredList, &'a [Token]), ReadStop>
+) -> Result<(MeasuredList, &'a [Token]), Stop>
     requires { n < 2 ^ 30 }
     ensures value { ReadAnswer (λ x. (map raw_tree x.0.trees.items, x.1.now)) result (list_of (read_at n) (Sign close.now) tokens.now) }
     ensures deep { IfOk result (λ x. x.0.depth ≤ n) }
@@ -537,7 +537,7 @@ fn more<'a>(
     close: &str,
     first: MeasuredList,
     tokens: &'a [Token],
-) -> Result<(MeasuredList, &'a [Token]), ReadStop>
+) -> Result<(MeasuredList, &'a [Token]), Stop>
     requires small { n < 2 ^ 30 }
     requires first_in { first.depth ≤ n }
     ensures value { ReadAnswer (λ x. (map raw_tree x.0.trees.items, x.1.now)) result
@@ -560,5 +560,5 @@ fn more<'a>(
         }
     }
     // for the proof: the loop ends before
-    Err(ReadStop::TokensLeft(0))
+    Err(Stop::TokensLeft(0))
 }

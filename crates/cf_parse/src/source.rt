@@ -10,7 +10,7 @@ use crate::lists::maybe_params;
 use crate::reading::tree_at;
 use crate::tier::Tier;
 use cf_lex::{Token, TokenList};
-use cf_reader::{ParseFault, ReadStop, expect_name, expect_sign, expect_word, place_at, results};
+use cf_reader::{ParseFault, Stop, expect_name, expect_sign, expect_word, place_at, results};
 use cf_tree::{Program, RawDef};
 use std::alloc::Global;
 
@@ -19,7 +19,7 @@ const DEPTH_LIMIT: u32 = 200;
 
 // A function, with a body of depth at most `limit`.
 #[tactic(auto, unfolding(cf_reader::specs::Readers::bind, cf_reader::specs::Readers::pure, crate::specs::Programs::def_of, crate::specs::Programs::def_from))]
-fn def(alloc: Global, limit: u32, tokens: &[Token]) -> Result<(RawDef, &[Token]), ReadStop>
+fn def(alloc: Global, limit: u32, tokens: &[Token]) -> Result<(RawDef, &[Token]), Stop>
     requires { limit < 2 ^ 30 }
     ensures { ReadAnswer (λ x. (raw_def_tree x.0, x.1.now)) result (def_of limit tokens.now) }
 {
@@ -48,7 +48,7 @@ fn more_defs(
     limit: u32,
     first: Vec<RawDef>,
     tokens: &[Token],
-) -> Result<(Vec<RawDef>, &[Token]), ReadStop>
+) -> Result<(Vec<RawDef>, &[Token]), Stop>
     requires { limit < 2 ^ 30 }
     ensures { ReadAnswer (λ x. (map raw_def_tree x.0.items, x.1.now)) result (all_defs limit (map raw_def_tree first.items) tokens.now) }
 {
@@ -66,13 +66,13 @@ fn more_defs(
         Ok((done, rest))
     } else {
         // for the proof: the loop ends before
-        Err(ReadStop::TokensLeft(0))
+        Err(Stop::TokensLeft(0))
     }
 }
 
 // The functions of a program, whose bodies have depth at most `limit`.
 #[tactic(auto, unfolding(cf_reader::specs::Readers::bind, crate::specs::Programs::program_of))]
-fn defs(alloc: Global, limit: u32, tokens: &[Token]) -> Result<(Vec<RawDef>, &[Token]), ReadStop>
+fn defs(alloc: Global, limit: u32, tokens: &[Token]) -> Result<(Vec<RawDef>, &[Token]), Stop>
     requires { limit < 2 ^ 30 }
     ensures { ReadAnswer (λ x. (map raw_def_tree x.0.items, x.1.now)) result (program_of limit tokens.now) }
 {
@@ -98,7 +98,7 @@ pub fn program(alloc: Global, tokens: &TokenList) -> Result<Program, ParseFault>
 {
     match defs(alloc, DEPTH_LIMIT, tokens.list.as_slice()) {
         Ok((defs, _)) => Ok(Program { defs }),
-        Err(ReadStop::NoMemory) => Err(ParseFault::NoMemory),
-        Err(ReadStop::TokensLeft(left)) => Err(ParseFault::Syntax(place_at(tokens, left))),
+        Err(Stop::NoMemory) => Err(ParseFault::NoMemory),
+        Err(Stop::TokensLeft(left)) => Err(ParseFault::Syntax(place_at(tokens, left))),
     }
 }

@@ -23,9 +23,9 @@ pub mod NeedsArms
 pub mod NeedsLaws
 pub mod NeedsLists
 pub mod Sound
+pub mod Tallies
 mod WalkExamples
 pub mod WalkForms
 pub mod WalkLists
 pub mod WalkSteps
 pub mod Ways
-mod LengthExamples

@@ -1,7 +1,6 @@
 -- What a pass tells of itself.
-use Rattle.std.specs.Prelude.{ℕ, ◌≡◌, ◌+◌, ◌≤◌, nat_le, Bool, true, ◌&&◌, ◌||◌, List, [], ◌∷◌, length}
+use Rattle.std.specs.Prelude.{ℕ, ◌≡◌, ◌≤◌, nat_le, Bool, true, ◌&&◌, ◌||◌, List, [], ◌∷◌, length}
 use Rattle.std.specs.List.{list_all}
-use Rattle.cf_tree.specs.RelSize.{capped}
 
 -- a to z, 0 to 9, and the hyphen
 abbrev pub is_name_byte : ℕ → Bool
@@ -11,20 +10,9 @@ is_name_byte b = nat_le 97 b && nat_le b 122 || nat_le 48 b && nat_le b 57 || na
 abbrev pub IsPassName : List ℕ → Type 0
 IsPassName name = (1 ≤ length name) × (length name ≤ 32) × (list_all is_name_byte name ≡ true)
 
--- its name, how many units it has replaced, and how often it was called to rewrite; at their last value these counts stay
-pub record Told : Type 0 where
-  pub name : List ℕ
-  pub tally : ℕ
-  pub turns : ℕ
-
--- it was called once: its name is the same, its tally did not fall, and it has had one turn more
-pub record HasTurned (old new : Told) : Type 0 where
-  pub name : new.name ≡ old.name
-  pub tally : old.tally ≤ new.tally
-  pub turns : new.turns ≡ capped (old.turns + 1)
-
--- each pass of a list was called once
-abbrev pub HaveTurned : List Told → List Told → Type 0
-HaveTurned [] [] = Unit {0}
-HaveTurned (o ∷ old) (n ∷ new) = HasTurned o n × HaveTurned old new
-HaveTurned old new = ⊥
+-- no number of the list has fallen
+abbrev pub NoneFell : List ℕ → List ℕ → Type 0
+NoneFell [] [] = Unit {0}
+NoneFell [] (n ∷ new) = ⊥
+NoneFell (o ∷ old) [] = ⊥
+NoneFell (o ∷ old) (n ∷ new) = (o ≤ n) × NoneFell old new

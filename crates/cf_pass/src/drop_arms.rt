@@ -50,7 +50,11 @@ impl Pass for DropArms {
     ghost use Rattle.cf_pass.specs.Improves.{Improves, IsTypedBehind};
     ghost use Rattle.cf_pass.specs.Rewritten.{rewritten, units_of};
 
-    ghost told = { λ p. record { name = codes "drop-arms"; tally = p.arms.tally; turns = p.turns } };
+    ghost name = { λ p. codes "drop-arms" };
+
+    ghost tally = { λ p. p.arms.tally };
+
+    ghost turns = { λ p. p.turns };
 
     fn name(&self) -> &str {
         "drop-arms"

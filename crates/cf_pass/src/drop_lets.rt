@@ -50,7 +50,11 @@ impl Pass for DropLets {
     ghost use Rattle.cf_pass.specs.Improves.{Improves, IsTypedBehind};
     ghost use Rattle.cf_pass.specs.Rewritten.{rewritten, units_of};
 
-    ghost told = { λ p. record { name = codes "drop-lets"; tally = p.lets.tally; turns = p.turns } };
+    ghost name = { λ p. codes "drop-lets" };
+
+    ghost tally = { λ p. p.lets.tally };
+
+    ghost turns = { λ p. p.turns };
 
     fn name(&self) -> &str {
         "drop-lets"

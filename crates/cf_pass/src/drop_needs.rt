@@ -49,7 +49,11 @@ impl Pass for DropNeeds {
     ghost use Rattle.cf_pass.specs.Improves.{Improves, IsTypedBehind};
     ghost use Rattle.cf_pass.specs.Rewritten.{rewritten, units_of};
 
-    ghost told = { λ p. record { name = codes "drop-needs"; tally = p.needs.tally; turns = p.turns } };
+    ghost name = { λ p. codes "drop-needs" };
+
+    ghost tally = { λ p. p.needs.tally };
+
+    ghost turns = { λ p. p.turns };
 
     fn name(&self) -> &str {
         "drop-needs"

@@ -51,7 +51,11 @@ impl Pass for Fold {
     ghost use Rattle.cf_pass.specs.Improves.{Improves, IsTypedBehind};
     ghost use Rattle.cf_pass.specs.Rewritten.{rewritten, units_of};
 
-    ghost told = { λ p. record { name = codes "fold"; tally = p.forms.tally; turns = p.turns } };
+    ghost name = { λ p. codes "fold" };
+
+    ghost tally = { λ p. p.forms.tally };
+
+    ghost turns = { λ p. p.turns };
 
     fn name(&self) -> &str {
         "fold"

@@ -1,26 +1,32 @@
 //! What each pass promises.
-ghost use Rattle.std.specs.Prelude.{◌≡◌, ◌≤◌, ◌+◌};
+ghost use Rattle.std.specs.Prelude.{◌≡◌, ◌≤◌, ◌+◌, ℕ, List};
 ghost use Rattle.cf_tree.specs.CodeView.{code_tree};
 ghost use Rattle.cf_tree.specs.RelSize.{capped};
 ghost use Rattle.cf_pass.specs.Improves.{Improves, IsTypedBehind};
-ghost use Rattle.cf_pass.specs.Passes.{IsPassName, Told};
+ghost use Rattle.cf_pass.specs.Passes.{IsPassName};
 
 use cf_tree::{Code, NoMemory};
 use std::alloc::Global;
 
 /// A way to rewrite code.
 pub trait Pass: Drop {
-    /// What it tells of itself: its name, how many units it has replaced, and how often it was called to rewrite.
-    ghost told: { Self → Told };
+    /// Its name.
+    ghost name: { Self → List ℕ };
+
+    /// How many units it has replaced. At its last value this count stays.
+    ghost tally: { Self → ℕ };
+
+    /// How often it was called to rewrite. At its last value this count stays.
+    ghost turns: { Self → ℕ };
 
     /// Its name, which never changes: 1 to 32 bytes of `a` to `z`, `0` to `9` and `-`.
     fn name(&self) -> &str
-        ensures name { result.now ≡ (told self.now).name }
+        ensures name { result.now ≡ name self.now }
         ensures shape { IsPassName result.now };
 
     /// How many units it has replaced. It stands still at `2^64 - 1`.
     fn tally(&self) -> u64
-        ensures { result ≡ (told self.now).tally };
+        ensures { result ≡ tally self.now };
 
     /// Rewrites the code, outside which `outside` variables are bound.
     ///
@@ -29,7 +35,7 @@ pub trait Pass: Drop {
     fn rewrite(&mut self, alloc: Global, outside: u32, code: &mut Code) -> Result<(), NoMemory>
         requires typed { IsTypedBehind outside (code_tree code.old) }
         ensures code { Improves outside (code_tree code.old) (code_tree code.new) }
-        ensures name { (told self.new).name ≡ (told self.old).name }
-        ensures tally { (told self.old).tally ≤ (told self.new).tally }
-        ensures turns { (told self.new).turns ≡ capped ((told self.old).turns + 1) };
+        ensures name { name self.new ≡ name self.old }
+        ensures tally { tally self.old ≤ tally self.new }
+        ensures turns { turns self.new ≡ capped (turns self.old + 1) };
 }

@@ -8,5 +8,3 @@ mod ReadsLaws
 mod Rising
 mod RuleExamples
 mod WalkLaws
-mod LimitExamples
-pub mod PlainTypes

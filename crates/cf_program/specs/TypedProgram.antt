@@ -84,6 +84,19 @@ abbrev mutual
       IsArmNumber m factors × All IsWithin factors × IsWithin k × ExprHasBasesBy linear calls body (scope ++ map (λ _. Int) factors) bs
       × ArmsHaveBy linear calls arms scope bs
 
+-- the same where relations are linear whatever their scope is
+abbrev pub ExprHasBases : (ℕ → List Base → List Base → Type 0) → ExprTree → List Base → List Base → Type 0
+ExprHasBases = ExprHasBasesBy (IsLinearBy Plain)
+
+abbrev pub AllHave : (ℕ → List Base → List Base → Type 0) → ExprTrees → List Base → Base → Type 0
+AllHave = AllHaveBy (IsLinearBy Plain)
+
+abbrev pub PartsHave : (ℕ → List Base → List Base → Type 0) → ExprTrees → List Base → List Base → Type 0
+PartsHave = PartsHaveBy (IsLinearBy Plain)
+
+abbrev pub ArmsHave : (ℕ → List Base → List Base → Type 0) → MatchArmTrees → List Base → List Base → Type 0
+ArmsHave = ArmsHaveBy (IsLinearBy Plain)
+
 -- an arm has a number of its own where it has variables
 abbrev pub arm_numbers : ℕ → List ℤ → List ℕ
 arm_numbers m [] = []
@@ -133,10 +146,16 @@ Takes (d ∷ earlier) f params results =
 abbrev pub IsTypedDefBy : LinearBehind → List DefTree → DefTree → Type 0
 IsTypedDefBy linear earlier d = (1 ≤ length d.results) × ExprHasBasesBy linear (Takes earlier) d.body (bases_of d.params) d.results
 
+abbrev pub IsTypedDef : List DefTree → DefTree → Type 0
+IsTypedDef = IsTypedDefBy (IsLinearBy Plain)
+
 -- functions that stand last first
 abbrev pub AreTypedDefsBy : LinearBehind → List DefTree → Type 0
 AreTypedDefsBy linear [] = Unit {0}
 AreTypedDefsBy linear (d ∷ earlier) = IsTypedDefBy linear earlier d × AreTypedDefsBy linear earlier
+
+abbrev pub AreTypedDefs : List DefTree → Type 0
+AreTypedDefs = AreTypedDefsBy (IsLinearBy Plain)
 
 -- functions in the order of the text, with the number of `main`
 pub record IsProgramBy (linear : LinearBehind) (defs : List DefTree) (main : ℕ) : Type 0 where

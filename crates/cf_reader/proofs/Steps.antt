@@ -6,8 +6,8 @@ use Rattle.cf_lex.specs.declared.token.TokenKind.{TokenKind}
 use Rattle.cf_lex.specs.declared.token.TokenKind.TheVariants.{Sign}
 use Rattle.cf_tree.specs.declared.base.Base.{Base}
 use Rattle.cf_tree.specs.declared.base.Place.{Place}
-use Rattle.cf_reader.specs.declared.read_stop.ReadStop.{ReadStop}
-use Rattle.cf_reader.specs.declared.read_stop.ReadStop.TheVariants as stops
+use Rattle.cf_reader.specs.declared.stop.Stop.{Stop}
+use Rattle.cf_reader.specs.declared.stop.Stop.TheVariants as stops
 use Rattle.cf_reader.specs.Answers.{StopAnswer}
 use Rattle.cf_reader.specs.Readers.{Got, Reader, is, at, must, bind, pure, first, more_of, others_of, snoc, one_or_tuple}
 use Rattle.cf_reader.specs.Kinds.{a_base, results_of}
@@ -48,12 +48,12 @@ more_unclosed add item separator close zero done ts e h g lt = absurd (omega ari
 more_unclosed add item separator close (suc k) done ts e h g lt = rw (more_of, first, h, bind, g) refl
 
 pub more_fails : {A B : Type 0} (add : B → A → B) (item : Reader A) (separator close : TokenKind) (k : ℕ) (done : B) (ts : List Token) (p : Place)
-    (us : List Token) (e : ReadStop) →
+    (us : List Token) (e : Stop) →
     at (is separator) ts ≡ Some (p, us) → StopAnswer e (item us) → 0 < k → StopAnswer e (more_of add item separator close k done ts)
 more_fails add item separator close k done ts p us stops.NoMemory h g lt = tt
 more_fails add item separator close k done ts p us (stops.TokensLeft n) h g lt = more_errs add item separator close k done ts p us n h g lt
 
-pub more_stops : {A B : Type 0} (add : B → A → B) (item : Reader A) (separator close : TokenKind) (k : ℕ) (done : B) (ts : List Token) (e : ReadStop) →
+pub more_stops : {A B : Type 0} (add : B → A → B) (item : Reader A) (separator close : TokenKind) (k : ℕ) (done : B) (ts : List Token) (e : Stop) →
     at (is separator) ts ≡ None → StopAnswer e (must (is close) ts) → 0 < k → StopAnswer e (more_of add item separator close k done ts)
 more_stops add item separator close k done ts stops.NoMemory h g lt = tt
 more_stops add item separator close k done ts (stops.TokensLeft n) h g lt = more_unclosed add item separator close k done ts n h g lt

@@ -1,13 +1,13 @@
 -- What a reader of the program returns, seen by view, is what reading gives, unless memory ran out.
 use Rattle.std.specs.Prelude.{◌≡◌, ℕ, Option, Some, None, Result, Ok, Err}
-use Rattle.cf_reader.specs.declared.read_stop.ReadStop.{ReadStop}
-use Rattle.cf_reader.specs.declared.read_stop.ReadStop.TheVariants as stops
+use Rattle.cf_reader.specs.declared.stop.Stop.{Stop}
+use Rattle.cf_reader.specs.declared.stop.Stop.TheVariants as stops
 
-abbrev pub StopAnswer : {Y : Type 0} → ReadStop → Result Y ℕ → Type 0
+abbrev pub StopAnswer : {Y : Type 0} → Stop → Result Y ℕ → Type 0
 StopAnswer stops.NoMemory read = Unit {0}
 StopAnswer (stops.TokensLeft n) read = read ≡ Err n
 
-abbrev pub ReadAnswer : {X Y : Type 0} → (X → Y) → Result X ReadStop → Result Y ℕ → Type 0
+abbrev pub ReadAnswer : {X Y : Type 0} → (X → Y) → Result X Stop → Result Y ℕ → Type 0
 ReadAnswer view (Ok x) read = read ≡ Ok (view x)
 ReadAnswer view (Err e) read = StopAnswer e read
 

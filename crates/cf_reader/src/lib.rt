@@ -5,7 +5,7 @@ mod fault;
 mod lists;
 mod operations;
 mod places;
-mod read_stop;
+mod stop;
 mod tokens;
 mod words;
 
@@ -13,9 +13,8 @@ pub use crate::fault::ParseFault;
 pub use crate::lists::{more_bases, results};
 pub use crate::operations::operation;
 pub use crate::places::place_at;
-pub use crate::read_stop::ReadStop;
+pub use crate::stop::Stop;
 pub use crate::tokens::{
-    after_sign, after_word, expect_literal, expect_name, expect_sign, expect_word,
-    literal_at_least, negated, spells,
+    after_sign, after_word, expect_literal, expect_name, expect_sign, expect_word, literal_at_least,
 };
 pub use crate::words::{expect_base, truth};

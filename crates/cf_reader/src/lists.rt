@@ -5,7 +5,7 @@ ghost use Rattle.cf_reader.specs.Answers.{ReadAnswer};
 ghost use Rattle.cf_reader.specs.Readers.{must, snoc, others_of};
 ghost use Rattle.cf_reader.specs.Kinds.{a_base, results_of};
 
-use crate::read_stop::ReadStop;
+use crate::stop::Stop;
 use crate::tokens::{after_sign, expect_sign};
 use crate::words::expect_base;
 use cf_lex::Token;
@@ -14,7 +14,7 @@ use std::alloc::Global;
 
 /// A base, or two or more in parentheses.
 #[tactic(auto, using(crate::proofs::Steps::results_several), unfolding(crate::specs::Readers::first, crate::specs::Readers::bind, crate::specs::Readers::pure, crate::specs::Readers::one_or_tuple, crate::specs::Kinds::results_of))]
-pub fn results(alloc: Global, tokens: &[Token]) -> Result<(Vec<Base>, &[Token]), ReadStop>
+pub fn results(alloc: Global, tokens: &[Token]) -> Result<(Vec<Base>, &[Token]), Stop>
     ensures { ReadAnswer (λ x. (x.0.items, x.1.now)) result (results_of tokens.now) }
 {
     match after_sign("(", tokens) {
@@ -33,7 +33,7 @@ pub fn results(alloc: Global, tokens: &[Token]) -> Result<(Vec<Base>, &[Token]),
 
 /// More bases, each behind a comma, up to the closing parenthesis.
 #[tactic(auto, unfolding(crate::specs::Readers::others_of))]
-pub fn more_bases(first: Vec<Base>, tokens: &[Token]) -> Result<(Vec<Base>, &[Token]), ReadStop>
+pub fn more_bases(first: Vec<Base>, tokens: &[Token]) -> Result<(Vec<Base>, &[Token]), Stop>
     ensures { ReadAnswer (λ x. (x.0.items, x.1.now)) result (others_of snoc (must a_base) (Sign (codes ",")) (Sign (codes ")")) first.items tokens.now) }
 {
     let mut done = first;
@@ -52,5 +52,5 @@ pub fn more_bases(first: Vec<Base>, tokens: &[Token]) -> Result<(Vec<Base>, &[To
         }
     }
     // for the proof: the loop ends before
-    Err(ReadStop::TokensLeft(0))
+    Err(Stop::TokensLeft(0))
 }

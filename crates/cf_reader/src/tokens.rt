@@ -1,5 +1,5 @@
 //! Tokens that stand first.
-ghost use Rattle.std.specs.Prelude.{◌≡◌, ◌≤ℤ◌, neg_ℤ, pos, IfOk, IfSome, take, drop};
+ghost use Rattle.std.specs.Prelude.{◌≡◌, ◌≤ℤ◌, IfOk, IfSome, take, drop};
 ghost use Rattle.std.specs.List.{list_any};
 ghost use Rattle.std.specs.Str.{bytes_eq};
 ghost use Rattle.cf_lex.specs.Words.{is_reserved as reserved, reserved_words};
@@ -7,13 +7,13 @@ ghost use Rattle.cf_lex.specs.declared.token.TokenKind.TheVariants.{Word, Sign};
 ghost use Rattle.cf_reader.specs.Answers.{ReadAnswer, FirstAnswer};
 ghost use Rattle.cf_reader.specs.Readers.{same_kind, is, a_name, a_literal, at, must};
 
-use crate::read_stop::ReadStop;
+use crate::stop::Stop;
 use cf_lex::{Token, TokenKind};
 use cf_tree::{Place, Text};
 use std::alloc::Global;
 
-/// Whether a word or sign is this text.
-pub fn spells(word: &[u8], text: &str) -> bool
+// Whether a word or sign is this text.
+pub(crate) fn spells(word: &[u8], text: &str) -> bool
     ensures { result ≡ bytes_eq word.now text.now }
 {
     word == text.as_bytes()
@@ -50,7 +50,8 @@ fn is_sign(sign: &str, kind: &TokenKind) -> bool
     ensures { result ≡ same_kind kind.now (Sign sign.now) }
 {
     match kind {
-        TokenKind::Literal(_) | TokenKind::Word(_) => false,
+        TokenKind::Literal(_) => false,
+        TokenKind::Word(_) => false,
         TokenKind::Sign(s) => spells(&s.bytes, sign),
     }
 }
@@ -60,25 +61,32 @@ fn is_word(word: &str, kind: &TokenKind) -> bool
     ensures { result ≡ same_kind kind.now (Word word.now) }
 {
     match kind {
-        TokenKind::Literal(_) | TokenKind::Sign(_) => false,
+        TokenKind::Literal(_) => false,
         TokenKind::Word(w) => spells(&w.bytes, word),
+        TokenKind::Sign(_) => false,
     }
 }
 
 /// The tokens after the sign `sign`, which has to stand first, and its place.
 #[tactic(auto, unfolding(crate::specs::Readers::must))]
-pub fn expect_sign<'a>(sign: &str, tokens: &'a [Token]) -> Result<(Place, &'a [Token]), ReadStop>
+pub fn expect_sign<'a>(sign: &str, tokens: &'a [Token]) -> Result<(Place, &'a [Token]), Stop>
     ensures { ReadAnswer (λ x. (x.0, x.1.now)) result (must (is (Sign sign.now)) tokens.now) }
 {
-    after_sign(sign, tokens).ok_or(ReadStop::TokensLeft(tokens.len()))
+    match after_sign(sign, tokens) {
+        Some(found) => Ok(found),
+        None => Err(Stop::TokensLeft(tokens.len())),
+    }
 }
 
 /// The tokens after the word `word`, which has to stand first, and its place.
 #[tactic(auto, unfolding(crate::specs::Readers::must))]
-pub fn expect_word<'a>(word: &str, tokens: &'a [Token]) -> Result<(Place, &'a [Token]), ReadStop>
+pub fn expect_word<'a>(word: &str, tokens: &'a [Token]) -> Result<(Place, &'a [Token]), Stop>
     ensures { ReadAnswer (λ x. (x.0, x.1.now)) result (must (is (Word word.now)) tokens.now) }
 {
-    after_word(word, tokens).ok_or(ReadStop::TokensLeft(tokens.len()))
+    match after_word(word, tokens) {
+        Some(found) => Ok(found),
+        None => Err(Stop::TokensLeft(tokens.len())),
+    }
 }
 
 /// A literal of at least `least` that stands first, with its place, and the tokens after it.
@@ -89,26 +97,28 @@ pub fn literal_at_least(least: i128, tokens: &[Token]) -> Option<((Place, i128),
 {
     let (t, rest) = tokens.split_first()?;
     match &t.kind {
-        TokenKind::Literal(n) if least <= *n => Some(((t.place, *n), rest)),
-        _ => None,
+        TokenKind::Literal(n) => {
+            if least <= *n {
+                Some(((t.place, *n), rest))
+            } else {
+                None
+            }
+        }
+        TokenKind::Word(_) => None,
+        TokenKind::Sign(_) => None,
     }
 }
 
 /// A literal of at least `least` that has to stand first, with its place, and the tokens after it.
 #[tactic(auto, unfolding(crate::specs::Readers::must))]
-pub fn expect_literal(least: i128, tokens: &[Token]) -> Result<((Place, i128), &[Token]), ReadStop>
+pub fn expect_literal(least: i128, tokens: &[Token]) -> Result<((Place, i128), &[Token]), Stop>
     ensures value { ReadAnswer (λ x. (x.0, x.1.now)) result (must (a_literal least) tokens.now) }
     ensures least_in { IfOk result (λ x. least ≤ℤ x.0.1) }
 {
-    literal_at_least(least, tokens).ok_or(ReadStop::TokensLeft(tokens.len()))
-}
-
-/// The number of this size behind a minus.
-pub fn negated(size: i128) -> i128
-    requires { pos 0 ≤ℤ size }
-    ensures { result ≡ neg_ℤ size }
-{
-    -size
+    match literal_at_least(least, tokens) {
+        Some(found) => Ok(found),
+        None => Err(Stop::TokensLeft(tokens.len())),
+    }
 }
 
 // Whether a word is reserved.
@@ -173,14 +183,14 @@ fn is_reserved_late(word: &[u8]) -> bool
 
 /// A name that has to stand first, with its place, and the tokens after it.
 #[tactic(auto, unfolding(crate::specs::Readers::must, crate::specs::Readers::at))]
-pub fn expect_name(alloc: Global, tokens: &[Token]) -> Result<((Place, Text), &[Token]), ReadStop>
+pub fn expect_name(alloc: Global, tokens: &[Token]) -> Result<((Place, Text), &[Token]), Stop>
     ensures { ReadAnswer (λ x. (x.0, x.1.now)) result (must a_name tokens.now) }
 {
     let Some((t, rest)) = tokens.split_first() else {
-        return Err(ReadStop::TokensLeft(0));
+        return Err(Stop::TokensLeft(0));
     };
     match &t.kind {
         TokenKind::Word(x) if !is_reserved(&x.bytes) => Ok(((t.place, x.try_copy(alloc)?), rest)),
-        _ => Err(ReadStop::TokensLeft(tokens.len())),
+        _ => Err(Stop::TokensLeft(tokens.len())),
     }
 }

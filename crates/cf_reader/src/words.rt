@@ -4,21 +4,21 @@ ghost use Rattle.cf_reader.specs.Answers.{ReadAnswer, FirstAnswer};
 ghost use Rattle.cf_reader.specs.Readers.{at, must};
 ghost use Rattle.cf_reader.specs.Kinds.{a_base, a_truth};
 
-use crate::read_stop::ReadStop;
+use crate::stop::Stop;
 use crate::tokens::spells;
 use cf_lex::{Token, TokenKind};
 use cf_tree::{Base, Place};
 
 /// A base that has to stand first, and the tokens after it.
 #[tactic(auto, unfolding(crate::specs::Readers::must, crate::specs::Readers::at))]
-pub fn expect_base(tokens: &[Token]) -> Result<(Base, &[Token]), ReadStop>
+pub fn expect_base(tokens: &[Token]) -> Result<(Base, &[Token]), Stop>
     ensures { ReadAnswer (λ x. (x.0, x.1.now)) result (must a_base tokens.now) }
 {
     let Some((t, rest)) = tokens.split_first() else {
-        return Err(ReadStop::TokensLeft(0));
+        return Err(Stop::TokensLeft(0));
     };
     let TokenKind::Word(word) = &t.kind else {
-        return Err(ReadStop::TokensLeft(tokens.len()));
+        return Err(Stop::TokensLeft(tokens.len()));
     };
     if spells(&word.bytes, "int") {
         Ok((Base::Int, rest))
@@ -27,7 +27,7 @@ pub fn expect_base(tokens: &[Token]) -> Result<(Base, &[Token]), ReadStop>
     } else if spells(&word.bytes, "set") {
         Ok((Base::Set, rest))
     } else {
-        Err(ReadStop::TokensLeft(tokens.len()))
+        Err(Stop::TokensLeft(tokens.len()))
     }
 }
 

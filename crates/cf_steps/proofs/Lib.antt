@@ -6,4 +6,3 @@ pub mod Printing
 pub mod Examples
 pub mod Few
 pub mod PrintedExamples
-mod LimitExamples

@@ -6,8 +6,8 @@ use Rattle.cf_lex.specs.declared.token.Token.{Token}
 use Rattle.cf_lex.specs.declared.token.TokenKind.{TokenKind}
 use Rattle.cf_lex.specs.declared.token.TokenKind.TheVariants.{Sign}
 use Rattle.cf_tree.specs.declared.base.Place.{Place}
-use Rattle.cf_reader.specs.declared.read_stop.ReadStop.{ReadStop}
-use Rattle.cf_reader.specs.declared.read_stop.ReadStop.TheVariants as stops
+use Rattle.cf_reader.specs.declared.stop.Stop.{Stop}
+use Rattle.cf_reader.specs.declared.stop.Stop.TheVariants as stops
 use Rattle.cf_reader.specs.Answers.{StopAnswer}
 use Rattle.cf_reader.specs.Readers.{Got, Reader, is, at, bind, pure, first, must, more_of, at_end, snoc}
 use Rattle.cf_reader.proofs.Steps.{more_unclosed}
@@ -38,7 +38,7 @@ unfolding acts_of first bind
 acts_err zero done ts e h g l = absurd (omega arith)
 acts_err (suc k) done ts e h g l = rw (acts_of, first, h, bind, g) refl
 
-pub acts_fail : (k : ℕ) (done : List Act) (ts : List Token) (e : ReadStop) → at (is (Sign (codes "}"))) ts ≡ None → StopAnswer e (ended_act ts) → 0 < k →
+pub acts_fail : (k : ℕ) (done : List Act) (ts : List Token) (e : Stop) → at (is (Sign (codes "}"))) ts ≡ None → StopAnswer e (ended_act ts) → 0 < k →
     StopAnswer e (acts_of k done ts)
 acts_fail k done ts stops.NoMemory h g l = tt
 acts_fail k done ts (stops.TokensLeft n) h g l = acts_err k done ts n h g l
@@ -51,13 +51,13 @@ acts_next k j done done' ts act us whole h g e d w = ap (λ z. acts_of j z us) d
 
 -- ---- cases
 -- a list that is not closed
-pub unclosed_fails : {A B : Type 0} (add : B → A → B) (item : Reader A) (separator close : TokenKind) (k : ℕ) (done : B) (ts : List Token) (e : ReadStop) →
+pub unclosed_fails : {A B : Type 0} (add : B → A → B) (item : Reader A) (separator close : TokenKind) (k : ℕ) (done : B) (ts : List Token) (e : Stop) →
     at (is separator) ts ≡ None → StopAnswer e (must (is close) ts) → 0 < k → StopAnswer e (more_of add item separator close k done ts)
 unclosed_fails add item separator close k done ts stops.NoMemory h g l = tt
 unclosed_fails add item separator close k done ts (stops.TokensLeft n) h g l = more_unclosed add item separator close k done ts n h g l
 
 -- what stops though it was to read something wants memory
-pub only_memory : {Y Z : Type 0} (e : ReadStop) (y : Y) (read : Got Z) → StopAnswer {Y = Y} e (Ok y) → StopAnswer e read
+pub only_memory : {Y Z : Type 0} (e : Stop) (y : Y) (read : Got Z) → StopAnswer {Y = Y} e (Ok y) → StopAnswer e read
 only_memory stops.NoMemory y read h = tt
 only_memory (stops.TokensLeft n) y read h = cc h
 
@@ -87,7 +87,7 @@ blocks_err limit zero done ts e g l h = absurd (omega arith)
 blocks_err limit (suc k) done [] e g l h = absurd (omega (arith, h))
 blocks_err limit (suc k) done (t ∷ ts) e g l h = rw (blocks_of, at_end, bind, g) refl
 
-pub blocks_fail : (limit k : ℕ) (done : List BlockTree) (ts : List Token) (e : ReadStop) → StopAnswer e (block_of limit ts) → 0 < k → 0 < length ts →
+pub blocks_fail : (limit k : ℕ) (done : List BlockTree) (ts : List Token) (e : Stop) → StopAnswer e (block_of limit ts) → 0 < k → 0 < length ts →
     StopAnswer e (blocks_of limit k done ts)
 blocks_fail limit k done ts stops.NoMemory g l h = tt
 blocks_fail limit k done ts (stops.TokensLeft n) g l h = blocks_err limit k done ts n g l h

@@ -5,7 +5,7 @@ ghost use Rattle.cf_reader.specs.Readers.{must};
 ghost use Rattle.cf_steps.specs.Reading.{column_of, a_column, a_side, factor_of};
 
 use cf_lex::{Token, TokenKind};
-use cf_reader::{ReadStop, expect_literal, expect_sign, literal_at_least};
+use cf_reader::{Stop, expect_literal, expect_sign, literal_at_least};
 
 // A number of 32 bits.
 #[tactic(auto, unfolding(cf_target::specs::Levels::last_level))]
@@ -20,38 +20,38 @@ fn column(k: i128) -> Option<u32>
 
 /// A literal of 32 bits that has to stand first, and the tokens after it.
 #[tactic(auto, unfolding(cf_reader::specs::Readers::must, cf_reader::specs::Readers::at))]
-pub fn expect_column(tokens: &[Token]) -> Result<(u32, &[Token]), ReadStop>
+pub fn expect_column(tokens: &[Token]) -> Result<(u32, &[Token]), Stop>
     ensures { ReadAnswer (λ x. (x.0, x.1.now)) result (must a_column tokens.now) }
 {
     let Some((t, rest)) = tokens.split_first() else {
-        return Err(ReadStop::TokensLeft(0));
+        return Err(Stop::TokensLeft(0));
     };
     let TokenKind::Literal(k) = &t.kind else {
-        return Err(ReadStop::TokensLeft(tokens.len()));
+        return Err(Stop::TokensLeft(tokens.len()));
     };
     match column(*k) {
         Some(n) => Ok((n, rest)),
-        None => Err(ReadStop::TokensLeft(tokens.len())),
+        None => Err(Stop::TokensLeft(tokens.len())),
     }
 }
 
 /// The side that has to stand first, true for the lower one, and the tokens after it.
 #[tactic(auto, unfolding(cf_reader::specs::Readers::must, cf_reader::specs::Readers::at))]
-pub fn expect_side(tokens: &[Token]) -> Result<(bool, &[Token]), ReadStop>
+pub fn expect_side(tokens: &[Token]) -> Result<(bool, &[Token]), Stop>
     ensures { ReadAnswer (λ x. (x.0, x.1.now)) result (must a_side tokens.now) }
 {
     let Some((t, rest)) = tokens.split_first() else {
-        return Err(ReadStop::TokensLeft(0));
+        return Err(Stop::TokensLeft(0));
     };
     let TokenKind::Word(word) = &t.kind else {
-        return Err(ReadStop::TokensLeft(tokens.len()));
+        return Err(Stop::TokensLeft(tokens.len()));
     };
     if word.bytes.as_slice() == b"lower".as_slice() {
         Ok((true, rest))
     } else if word.bytes.as_slice() == b"upper".as_slice() {
         Ok((false, rest))
     } else {
-        Err(ReadStop::TokensLeft(tokens.len()))
+        Err(Stop::TokensLeft(tokens.len()))
     }
 }
 
@@ -65,7 +65,7 @@ fn negated(k: &i128) -> i128
 
 /// A literal with or without a minus that has to stand first, and the tokens after it.
 #[tactic(auto, unfolding(cf_reader::specs::Readers::first, cf_reader::specs::Readers::bind, cf_reader::specs::Readers::pure, crate::specs::Reading::factor_of))]
-pub fn expect_factor(tokens: &[Token]) -> Result<(i128, &[Token]), ReadStop>
+pub fn expect_factor(tokens: &[Token]) -> Result<(i128, &[Token]), Stop>
     ensures { ReadAnswer (λ x. (x.0, x.1.now)) result (factor_of tokens.now) }
 {
     match literal_at_least(0, tokens) {

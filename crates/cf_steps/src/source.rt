@@ -16,12 +16,12 @@ use crate::block::{Block, Blocks};
 use crate::number::expect_column;
 use crate::step::case;
 use cf_lex::{Token, TokenList};
-use cf_reader::{ParseFault, ReadStop, after_word, expect_sign, expect_word, place_at};
+use cf_reader::{ParseFault, Stop, after_word, expect_sign, expect_word, place_at};
 use cf_target::{DEPTH_LIMIT, target_part};
 use std::alloc::Global;
 
 // The cases with one more.
-fn with_case(cases: Vec<Vec<Act>>, case: Vec<Act>) -> Result<Vec<Vec<Act>>, ReadStop>
+fn with_case(cases: Vec<Vec<Act>>, case: Vec<Act>) -> Result<Vec<Vec<Act>>, Stop>
     ensures { ReadAnswer (λ x. map (λ c. c.items) x.items) result (Ok (snoc (map (λ c. c.items) cases.items) case.items)) }
 {
     let mut all = cases;
@@ -31,7 +31,7 @@ fn with_case(cases: Vec<Vec<Act>>, case: Vec<Act>) -> Result<Vec<Vec<Act>>, Read
 
 // The cases up to the closing brace.
 #[tactic(auto, unfolding(cf_reader::specs::Readers::others_of))]
-fn cases(alloc: Global, tokens: &[Token]) -> Result<(Vec<Vec<Act>>, &[Token]), ReadStop>
+fn cases(alloc: Global, tokens: &[Token]) -> Result<(Vec<Vec<Act>>, &[Token]), Stop>
     ensures { ReadAnswer (λ x. (map (λ c. c.items) x.0.items, x.1.now)) result
         (others_of snoc case_of (Word (codes "case")) (Sign (codes "}")) [] tokens.now) }
 {
@@ -51,12 +51,12 @@ fn cases(alloc: Global, tokens: &[Token]) -> Result<(Vec<Vec<Act>>, &[Token]), R
         }
     }
     // for the proof: the loop ends before
-    Err(ReadStop::TokensLeft(0))
+    Err(Stop::TokensLeft(0))
 }
 
 // A block whose target has a code of depth at most `limit`.
 #[tactic(auto, unfolding(cf_reader::specs::Readers::bind, cf_reader::specs::Readers::pure, crate::specs::Reading::block_of))]
-fn block(alloc: Global, limit: u32, tokens: &[Token]) -> Result<(Block, &[Token]), ReadStop>
+fn block(alloc: Global, limit: u32, tokens: &[Token]) -> Result<(Block, &[Token]), Stop>
     ensures { ReadAnswer (λ x. (block_tree x.0, x.1.now)) result (block_of limit tokens.now) }
 {
     let (_, rest) = expect_word("choose", tokens)?;
@@ -74,7 +74,7 @@ fn block(alloc: Global, limit: u32, tokens: &[Token]) -> Result<(Block, &[Token]
 
 // The blocks up to the end, whose targets have codes of depth at most `limit`.
 #[tactic(auto, unfolding(crate::specs::Reading::all_blocks))]
-fn blocks(alloc: Global, limit: u32, tokens: &[Token]) -> Result<(Vec<Block>, &[Token]), ReadStop>
+fn blocks(alloc: Global, limit: u32, tokens: &[Token]) -> Result<(Vec<Block>, &[Token]), Stop>
     ensures { ReadAnswer (λ x. (map block_tree x.0.items, x.1.now)) result (all_blocks limit tokens.now) }
 {
     let mut done = Vec::new(alloc);
@@ -91,7 +91,7 @@ fn blocks(alloc: Global, limit: u32, tokens: &[Token]) -> Result<(Vec<Block>, &[
         Ok((done, rest))
     } else {
         // for the proof: the loop ends before
-        Err(ReadStop::TokensLeft(0))
+        Err(Stop::TokensLeft(0))
     }
 }
 
@@ -119,7 +119,7 @@ pub fn steps(alloc: Global, tokens: &TokenList) -> Result<Blocks, ParseFault>
 {
     match blocks(alloc, DEPTH_LIMIT, tokens.list.as_slice()) {
         Ok((list, _)) => Ok(Blocks { list }),
-        Err(ReadStop::NoMemory) => Err(ParseFault::NoMemory),
-        Err(ReadStop::TokensLeft(left)) => Err(ParseFault::Syntax(place_at(tokens, left))),
+        Err(Stop::NoMemory) => Err(ParseFault::NoMemory),
+        Err(Stop::TokensLeft(left)) => Err(ParseFault::Syntax(place_at(tokens, left))),
     }
 }

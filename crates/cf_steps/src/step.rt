@@ -6,12 +6,12 @@ ghost use Rattle.cf_steps.specs.Reading.{mix_of, search_of, act_of, ended_act, a
 use crate::act::Act;
 use crate::number::{expect_column, expect_factor, expect_side};
 use cf_lex::Token;
-use cf_reader::{ReadStop, after_sign, after_word, expect_sign};
+use cf_reader::{Stop, after_sign, after_word, expect_sign};
 use std::alloc::Global;
 
 // Behind the word `mix`.
 #[tactic(auto, unfolding(cf_reader::specs::Readers::bind, cf_reader::specs::Readers::pure, crate::specs::Reading::mix_of))]
-fn mix(tokens: &[Token]) -> Result<(Act, &[Token]), ReadStop>
+fn mix(tokens: &[Token]) -> Result<(Act, &[Token]), Stop>
     ensures { ReadAnswer (λ x. (x.0, x.1.now)) result (mix_of tokens.now) }
 {
     let (x, rest) = expect_column(tokens)?;
@@ -25,7 +25,7 @@ fn mix(tokens: &[Token]) -> Result<(Act, &[Token]), ReadStop>
 
 // Behind the word `search`.
 #[tactic(auto, unfolding(cf_reader::specs::Readers::bind, cf_reader::specs::Readers::pure, crate::specs::Reading::search_of))]
-fn search(tokens: &[Token]) -> Result<(Act, &[Token]), ReadStop>
+fn search(tokens: &[Token]) -> Result<(Act, &[Token]), Stop>
     ensures { ReadAnswer (λ x. (x.0, x.1.now)) result (search_of tokens.now) }
 {
     let (column, rest) = expect_column(tokens)?;
@@ -35,7 +35,7 @@ fn search(tokens: &[Token]) -> Result<(Act, &[Token]), ReadStop>
 
 // The step with which the tokens begin.
 #[tactic(auto, unfolding(cf_reader::specs::Readers::first, cf_reader::specs::Readers::refuse, cf_reader::specs::Readers::bind, cf_reader::specs::Readers::pure, crate::specs::Reading::act_of))]
-fn act(tokens: &[Token]) -> Result<(Act, &[Token]), ReadStop>
+fn act(tokens: &[Token]) -> Result<(Act, &[Token]), Stop>
     ensures { ReadAnswer (λ x. (x.0, x.1.now)) result (act_of tokens.now) }
 {
     if let Some((_, rest)) = after_word("clean", tokens) {
@@ -55,12 +55,12 @@ fn act(tokens: &[Token]) -> Result<(Act, &[Token]), ReadStop>
         let (column, rest) = expect_column(rest)?;
         return Ok((Act::Drop(column), rest));
     }
-    Err(ReadStop::TokensLeft(tokens.len()))
+    Err(Stop::TokensLeft(tokens.len()))
 }
 
 // The step with which the tokens begin, behind which a semicolon stands.
 #[tactic(auto, unfolding(cf_reader::specs::Readers::bind, cf_reader::specs::Readers::pure, crate::specs::Reading::ended_act))]
-fn act_with_end(tokens: &[Token]) -> Result<(Act, &[Token]), ReadStop>
+fn act_with_end(tokens: &[Token]) -> Result<(Act, &[Token]), Stop>
     ensures { ReadAnswer (λ x. (x.0, x.1.now)) result (ended_act tokens.now) }
 {
     let (act, rest) = act(tokens)?;
@@ -70,7 +70,7 @@ fn act_with_end(tokens: &[Token]) -> Result<(Act, &[Token]), ReadStop>
 
 // The steps up to the closing brace.
 #[tactic(auto, unfolding(crate::specs::Reading::all_acts))]
-fn acts(alloc: Global, tokens: &[Token]) -> Result<(Vec<Act>, &[Token]), ReadStop>
+fn acts(alloc: Global, tokens: &[Token]) -> Result<(Vec<Act>, &[Token]), Stop>
     ensures { ReadAnswer (λ x. (x.0.items, x.1.now)) result (all_acts tokens.now) }
 {
     let mut done = Vec::new(alloc);
@@ -86,7 +86,7 @@ fn acts(alloc: Global, tokens: &[Token]) -> Result<(Vec<Act>, &[Token]), ReadSto
         }
     }
     // for the proof: the loop ends before
-    Err(ReadStop::TokensLeft(0))
+    Err(Stop::TokensLeft(0))
 }
 
 /// The steps of a case, behind its word, and the tokens after them.
@@ -94,7 +94,7 @@ fn acts(alloc: Global, tokens: &[Token]) -> Result<(Vec<Act>, &[Token]), ReadSto
 /// # Errors
 /// `TokensLeft` where the tokens begin with no such steps, and `NoMemory`.
 #[tactic(auto, unfolding(cf_reader::specs::Readers::bind, crate::specs::Reading::case_of))]
-pub fn case(alloc: Global, tokens: &[Token]) -> Result<(Vec<Act>, &[Token]), ReadStop>
+pub fn case(alloc: Global, tokens: &[Token]) -> Result<(Vec<Act>, &[Token]), Stop>
     ensures { ReadAnswer (λ x. (x.0.items, x.1.now)) result (case_of tokens.now) }
 {
     let (_, rest) = expect_sign("{", tokens)?;

@@ -5,8 +5,8 @@ use Rattle.cf_lex.specs.declared.token.Token.{Token}
 use Rattle.cf_lex.specs.declared.token.TokenKind.TheVariants.{Word, Sign}
 use Rattle.cf_tree.specs.declared.base.Place.{Place}
 use Rattle.cf_tree.specs.CodeTree.{CodeTree, ItemTree}
-use Rattle.cf_reader.specs.declared.read_stop.ReadStop.{ReadStop}
-use Rattle.cf_reader.specs.declared.read_stop.ReadStop.TheVariants as stops
+use Rattle.cf_reader.specs.declared.stop.Stop.{Stop}
+use Rattle.cf_reader.specs.declared.stop.Stop.TheVariants as stops
 use Rattle.cf_reader.specs.Answers.{StopAnswer}
 use Rattle.cf_reader.specs.Readers.{Got, Reader, is, at, must, bind, pure, refuse, first, others_of, snoc}
 use Rattle.cf_target.specs.declared.form.Step.{Step}
@@ -60,12 +60,12 @@ unfolding steps_of first bind
 steps_unclosed part zero done ts e h g lt = absurd (omega arith)
 steps_unclosed part (suc k) done ts e h g lt = rw (steps_of, first, h, bind, g) refl
 
-pub steps_open : (part : Reader CodeTree) (k : ℕ) (done : List ItemTree) (ts : List Token) (e : ReadStop) →
+pub steps_open : (part : Reader CodeTree) (k : ℕ) (done : List ItemTree) (ts : List Token) (e : Stop) →
     at a_step ts ≡ None → StopAnswer e (must (is (Word (codes "give"))) ts) → 0 < k → StopAnswer e (steps_of part k done ts)
 steps_open part k done ts stops.NoMemory h g lt = tt
 steps_open part k done ts (stops.TokensLeft n) h g lt = steps_unclosed part k done ts n h g lt
 
-pub steps_fail : (part : Reader CodeTree) (k : ℕ) (done : List ItemTree) (ts : List Token) (s : Step) (us : List Token) (e : ReadStop) →
+pub steps_fail : (part : Reader CodeTree) (k : ℕ) (done : List ItemTree) (ts : List Token) (s : Step) (us : List Token) (e : Stop) →
     at a_step ts ≡ Some (s, us) → StopAnswer e (item_of part s us) → 0 < k → StopAnswer e (steps_of part k done ts)
 steps_fail part k done ts s us stops.NoMemory h g lt = tt
 steps_fail part k done ts s us (stops.TokensLeft n) h g lt = steps_err part k done ts s us n h g lt

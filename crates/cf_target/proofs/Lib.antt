@@ -11,4 +11,3 @@ pub mod OnlyCodes
 pub mod OnlyArms
 pub mod Only
 pub mod Examples
-mod LimitExamples

@@ -4,8 +4,8 @@ use Rattle.std.specs.Prelude.{codes}
 use Rattle.cf_lex.specs.declared.token.Token.{Token}
 use Rattle.cf_lex.specs.declared.token.TokenKind.TheVariants.{Sign}
 use Rattle.cf_tree.specs.declared.base.Place.{Place}
-use Rattle.cf_reader.specs.declared.read_stop.ReadStop.{ReadStop}
-use Rattle.cf_reader.specs.declared.read_stop.ReadStop.TheVariants as stops
+use Rattle.cf_reader.specs.declared.stop.Stop.{Stop}
+use Rattle.cf_reader.specs.declared.stop.Stop.TheVariants as stops
 use Rattle.cf_reader.specs.Answers.{StopAnswer}
 use Rattle.cf_reader.specs.Readers.{is, at, must, bind, pure, first}
 use Rattle.cf_target.specs.Reading.{the_variable, comma_after, variables_of}
@@ -37,7 +37,7 @@ unfolding variables_of first bind
 variables_unclosed zero last ts e h g lt = absurd (omega arith)
 variables_unclosed (suc k) last ts e h g lt = rw (variables_of, first, h, bind, g) refl
 
-pub variables_fail : (k last : ℕ) (ts : List Token) (p : Place) (us : List Token) (e : ReadStop) →
+pub variables_fail : (k last : ℕ) (ts : List Token) (p : Place) (us : List Token) (e : Stop) →
     at (comma_after last) ts ≡ Some (p, us) → StopAnswer e (must (the_variable (last + 1)) us) → 0 < k → StopAnswer e (variables_of k last ts)
 variables_fail k last ts p us stops.NoMemory h g lt = tt
 variables_fail k last ts p us (stops.TokensLeft n) h g lt = variables_err k last ts p us n h g lt

@@ -13,14 +13,13 @@ use crate::form::{
 };
 use crate::inside::{Inside, given, one, pair, several, single, whole};
 use crate::node;
-use crate::number::{Variables, bounds, expect_numeral, read_variables, variable};
-use crate::part::{closed, divides_by, may_operate, negative};
+use crate::number::{bounds, expect_numeral, read_variables, variable};
+use crate::part::{closed, divides_by, may_operate, negative, with_arm, with_code, with_item};
 use cf_lex::Token;
 use cf_reader::{
-    ReadStop, after_sign, after_word, expect_literal, expect_sign, expect_word, literal_at_least,
-    truth,
+    Stop, after_sign, after_word, expect_literal, expect_sign, expect_word, literal_at_least, truth,
 };
-use cf_tree::{Arm, Code, Item, without};
+use cf_tree::{Arm, Code, Item};
 use std::alloc::Global;
 
 /// The code of depth at most `n` with which the tokens begin, and the tokens after it.
@@ -29,11 +28,11 @@ use std::alloc::Global;
 /// `TokensLeft` where they begin with none, and `NoMemory`.
 #[cycle(code)]
 #[tactic(auto, using(crate::proofs::Above::read_above, crate::proofs::Above::read_none))]
-pub fn code(alloc: Global, n: u32, tokens: &[Token]) -> Result<(Code, &[Token]), ReadStop>
+pub fn code(alloc: Global, n: u32, tokens: &[Token]) -> Result<(Code, &[Token]), Stop>
     ensures { ReadAnswer (λ x. (code_tree x.0, x.1.now)) result (read n tokens.now) }
 {
     if n == 0 {
-        return Err(ReadStop::TokensLeft(tokens.len()));
+        return Err(Stop::TokensLeft(tokens.len()));
     }
     form(alloc, n - 1, tokens)
 }
@@ -41,28 +40,28 @@ pub fn code(alloc: Global, n: u32, tokens: &[Token]) -> Result<(Code, &[Token]),
 // A code whose parts have depth at most `n`.
 #[cycle(code)]
 #[tactic(auto, unfolding(cf_reader::specs::Readers::first, cf_reader::specs::Readers::deep, cf_reader::specs::Readers::bind, cf_reader::specs::Readers::pure, crate::specs::Reading::step))]
-fn form(alloc: Global, n: u32, tokens: &[Token]) -> Result<(Code, &[Token]), ReadStop>
+fn form(alloc: Global, n: u32, tokens: &[Token]) -> Result<(Code, &[Token]), Stop>
     ensures { ReadAnswer (λ x. (code_tree x.0, x.1.now)) result (step_of (read n) (read (n - 1)) n tokens.now) }
 {
     if let Some(((_, k), rest)) = literal_at_least(0, tokens) {
-        return Ok((Code::Lit(k), rest));
+        return Ok((node::literal(k), rest));
     }
     if let Some((_, rest)) = after_sign("-", tokens) {
         return negative(rest);
     }
     if let Some(((_, t), rest)) = truth(tokens) {
-        return Ok((Code::Truth(t), rest));
+        return Ok((node::truth(t), rest));
     }
     if let Some((x, rest)) = variable(tokens) {
-        return Ok((Code::Var(x), rest));
+        return Ok((node::variable(x), rest));
     }
     if let Some((_, rest)) = after_sign("{", tokens) {
         let (codes, rest) = elements(alloc, n, rest)?;
-        return Ok((Code::SetOf(codes), rest));
+        return Ok((node::set_of(codes), rest));
     }
     if let Some((_, rest)) = after_sign("(", tokens) {
         if n == 0 {
-            return Err(ReadStop::TokensLeft(tokens.len()));
+            return Err(Stop::TokensLeft(tokens.len()));
         }
         let (inside, rest) = inside(alloc, n, n, rest)?;
         return Ok((whole(inside), rest));
@@ -73,14 +72,14 @@ fn form(alloc: Global, n: u32, tokens: &[Token]) -> Result<(Code, &[Token]), Rea
 // A form that begins with a word.
 #[cycle(code)]
 #[tactic(auto, unfolding(cf_reader::specs::Readers::first, crate::specs::Reading::unless_zero, crate::specs::Reading::word_of))]
-fn word(alloc: Global, n: u32, tokens: &[Token]) -> Result<(Code, &[Token]), ReadStop>
+fn word(alloc: Global, n: u32, tokens: &[Token]) -> Result<(Code, &[Token]), Stop>
     ensures { ReadAnswer (λ x. (code_tree x.0, x.1.now)) result (word_of (read n) (read (n - 1)) n tokens.now) }
 {
     if let Some((_, rest)) = after_word("solve", tokens) {
         return solve(alloc, n, rest);
     }
     if n == 0 {
-        return Err(ReadStop::TokensLeft(tokens.len()));
+        return Err(Stop::TokensLeft(tokens.len()));
     }
     form_of_parts(alloc, n, tokens)
 }
@@ -88,7 +87,7 @@ fn word(alloc: Global, n: u32, tokens: &[Token]) -> Result<(Code, &[Token]), Rea
 // A form that begins with a word and has parts.
 #[cycle(code)]
 #[tactic(auto, unfolding(cf_reader::specs::Readers::first, cf_reader::specs::Readers::refuse, cf_reader::specs::Readers::bind, cf_reader::specs::Readers::pure, crate::specs::Reading::forms_of))]
-fn form_of_parts(alloc: Global, n: u32, tokens: &[Token]) -> Result<(Code, &[Token]), ReadStop>
+fn form_of_parts(alloc: Global, n: u32, tokens: &[Token]) -> Result<(Code, &[Token]), Stop>
     ensures { ReadAnswer (λ x. (code_tree x.0, x.1.now)) result (forms_of (read n) tokens.now) }
 {
     if let Some((form, rest)) = after_unary(tokens) {
@@ -109,12 +108,12 @@ fn form_of_parts(alloc: Global, n: u32, tokens: &[Token]) -> Result<(Code, &[Tok
     if let Some((_, rest)) = after_word("fresh", tokens) {
         return fresh(alloc, n, rest);
     }
-    Err(ReadStop::TokensLeft(tokens.len()))
+    Err(Stop::TokensLeft(tokens.len()))
 }
 
 // A code of depth at most `n`, in a box.
 #[cycle(code)]
-fn boxed(alloc: Global, n: u32, tokens: &[Token]) -> Result<(Box<Code>, &[Token]), ReadStop>
+fn boxed(alloc: Global, n: u32, tokens: &[Token]) -> Result<(Box<Code>, &[Token]), Stop>
     ensures { ReadAnswer (λ x. (code_tree x.0.value, x.1.now)) result (read n tokens.now) }
 {
     let (c, rest) = code(alloc, n, tokens)?;
@@ -124,11 +123,7 @@ fn boxed(alloc: Global, n: u32, tokens: &[Token]) -> Result<(Box<Code>, &[Token]
 // One code in parentheses.
 #[cycle(code)]
 #[tactic(auto, unfolding(cf_reader::specs::Readers::bind, cf_reader::specs::Readers::pure, crate::specs::Reading::one_of))]
-fn in_parentheses(
-    alloc: Global,
-    n: u32,
-    tokens: &[Token],
-) -> Result<(Box<Code>, &[Token]), ReadStop>
+fn in_parentheses(alloc: Global, n: u32, tokens: &[Token]) -> Result<(Box<Code>, &[Token]), Stop>
     ensures { ReadAnswer (λ x. (code_tree x.0.value, x.1.now)) result (one_of (read n) tokens.now) }
 {
     let (_, rest) = expect_sign("(", tokens)?;
@@ -140,11 +135,7 @@ fn in_parentheses(
 // A code and a literal of at least 1, in parentheses.
 #[cycle(code)]
 #[tactic(auto, unfolding(cf_reader::specs::Readers::bind, cf_reader::specs::Readers::pure, crate::specs::Reading::divided_of))]
-fn divided(
-    alloc: Global,
-    n: u32,
-    tokens: &[Token],
-) -> Result<((Box<Code>, i128), &[Token]), ReadStop>
+fn divided(alloc: Global, n: u32, tokens: &[Token]) -> Result<((Box<Code>, i128), &[Token]), Stop>
     ensures { ReadAnswer (λ x. ((code_tree x.0.0.value, x.0.1), x.1.now)) result (divided_of (read n) tokens.now) }
 {
     let (_, rest) = expect_sign("(", tokens)?;
@@ -158,7 +149,7 @@ fn divided(
 // One code or more, in parentheses.
 #[cycle(code)]
 #[tactic(auto, unfolding(cf_reader::specs::Readers::bind, crate::specs::Reading::listed_of))]
-fn listed(alloc: Global, n: u32, tokens: &[Token]) -> Result<(Vec<Code>, &[Token]), ReadStop>
+fn listed(alloc: Global, n: u32, tokens: &[Token]) -> Result<(Vec<Code>, &[Token]), Stop>
     ensures { ReadAnswer (λ x. (map code_tree x.0.items, x.1.now)) result (listed_of (read n) tokens.now) }
 {
     let (_, rest) = expect_sign("(", tokens)?;
@@ -168,7 +159,7 @@ fn listed(alloc: Global, n: u32, tokens: &[Token]) -> Result<(Vec<Code>, &[Token
 // Behind the word `slice`.
 #[cycle(code)]
 #[tactic(auto, unfolding(cf_reader::specs::Readers::bind, cf_reader::specs::Readers::pure, crate::specs::Reading::slice_of))]
-fn slice(alloc: Global, n: u32, tokens: &[Token]) -> Result<(Code, &[Token]), ReadStop>
+fn slice(alloc: Global, n: u32, tokens: &[Token]) -> Result<(Code, &[Token]), Stop>
     ensures { ReadAnswer (λ x. (code_tree x.0, x.1.now)) result (slice_of (read n) tokens.now) }
 {
     let (_, rest) = expect_sign("(", tokens)?;
@@ -176,27 +167,27 @@ fn slice(alloc: Global, n: u32, tokens: &[Token]) -> Result<(Code, &[Token]), Re
     let (_, rest) = expect_sign(",", rest)?;
     let (from, rest) = boxed(alloc, n, rest)?;
     let (_, rest) = expect_sign(",", rest)?;
-    let (n, rest) = boxed(alloc, n, rest)?;
-    closed(Code::Slice { set, from, n }, rest)
+    let (count, rest) = boxed(alloc, n, rest)?;
+    closed(node::slice(set, from, count), rest)
 }
 
 // Behind the word `fresh`.
 #[cycle(code)]
 #[tactic(auto, unfolding(cf_reader::specs::Readers::bind, cf_reader::specs::Readers::pure, crate::specs::Reading::fresh_of))]
-fn fresh(alloc: Global, n: u32, tokens: &[Token]) -> Result<(Code, &[Token]), ReadStop>
+fn fresh(alloc: Global, n: u32, tokens: &[Token]) -> Result<(Code, &[Token]), Stop>
     ensures { ReadAnswer (λ x. (code_tree x.0, x.1.now)) result (fresh_of (read n) tokens.now) }
 {
     let (_, rest) = expect_sign("(", tokens)?;
     let (avoid, rest) = boxed(alloc, n, rest)?;
     let (_, rest) = expect_sign(",", rest)?;
-    let (n, rest) = boxed(alloc, n, rest)?;
-    closed(Code::Fresh { avoid, n }, rest)
+    let (count, rest) = boxed(alloc, n, rest)?;
+    closed(node::fresh(avoid, count), rest)
 }
 
 // Elements, if any, up to the closing brace.
 #[cycle(code)]
 #[tactic(auto, unfolding(cf_reader::specs::Readers::first, cf_reader::specs::Readers::pure, crate::specs::Reading::elements_of))]
-fn elements(alloc: Global, n: u32, tokens: &[Token]) -> Result<(Vec<Code>, &[Token]), ReadStop>
+fn elements(alloc: Global, n: u32, tokens: &[Token]) -> Result<(Vec<Code>, &[Token]), Stop>
     ensures { ReadAnswer (λ x. (map code_tree x.0.items, x.1.now)) result (elements_of (read n) tokens.now) }
 {
     match after_sign("}", tokens) {
@@ -213,7 +204,7 @@ fn list<'a>(
     n: u32,
     close: &str,
     tokens: &'a [Token],
-) -> Result<(Vec<Code>, &'a [Token]), ReadStop>
+) -> Result<(Vec<Code>, &'a [Token]), Stop>
     ensures { ReadAnswer (λ x. (map code_tree x.0.items, x.1.now)) result (list_of (read n) (Sign close.now) tokens.now) }
 {
     let (first, rest) = code(alloc, n, tokens)?;
@@ -229,7 +220,7 @@ fn more<'a>(
     close: &str,
     first: Vec<Code>,
     tokens: &'a [Token],
-) -> Result<(Vec<Code>, &'a [Token]), ReadStop>
+) -> Result<(Vec<Code>, &'a [Token]), Stop>
     ensures { ReadAnswer (λ x. (map code_tree x.0.items, x.1.now)) result
         (others_of snoc (read n) (Sign (codes ",")) (Sign close.now) (map code_tree first.items) tokens.now) }
 {
@@ -239,7 +230,7 @@ fn more<'a>(
         match after_sign(",", rest) {
             Some((_, behind)) => {
                 let (x, behind) = code(alloc, n, behind)?;
-                done.push(x)?;
+                done = with_code(done, x)?;
                 rest = behind;
             }
             None => {
@@ -249,7 +240,7 @@ fn more<'a>(
         }
     }
     // for the proof: the loop ends before
-    Err(ReadStop::TokensLeft(0))
+    Err(Stop::TokensLeft(0))
 }
 
 // More parts of an operation, up to the closing parenthesis.
@@ -261,7 +252,7 @@ fn more_parts(
     form: Many,
     first: Vec<Code>,
     tokens: &[Token],
-) -> Result<(Vec<Code>, &[Token]), ReadStop>
+) -> Result<(Vec<Code>, &[Token]), Stop>
     ensures { ReadAnswer (λ x. (map code_tree x.0.items, x.1.now)) result
         (others_of snoc (read n) (many_kind form) (Sign (codes ")")) (map code_tree first.items) tokens.now) }
 {
@@ -271,7 +262,7 @@ fn more_parts(
         match after_many(form, rest) {
             Some((_, behind)) => {
                 let (x, behind) = code(alloc, n, behind)?;
-                done.push(x)?;
+                done = with_code(done, x)?;
                 rest = behind;
             }
             None => {
@@ -281,27 +272,27 @@ fn more_parts(
         }
     }
     // for the proof: the loop ends before
-    Err(ReadStop::TokensLeft(0))
+    Err(Stop::TokensLeft(0))
 }
 
 // Behind an opening parenthesis. The parts with commas may have depth `m`, and those of any other
 // form depth `n`.
 #[cycle(code)]
 #[tactic(auto, unfolding(cf_reader::specs::Readers::deep, cf_reader::specs::Readers::bind, cf_reader::specs::Readers::pure, crate::specs::Reading::inside_of))]
-fn inside(alloc: Global, m: u32, n: u32, tokens: &[Token]) -> Result<(Inside, &[Token]), ReadStop>
+fn inside(alloc: Global, m: u32, n: u32, tokens: &[Token]) -> Result<(Inside, &[Token]), Stop>
     requires { n ≤ m }
     ensures { ReadAnswer (λ x. (inside_tree x.0, x.1.now)) result (inside_of (read m) (read n) m n tokens.now) }
 {
     if let Some((_, rest)) = after_word("if", tokens) {
         if n == 0 {
-            return Err(ReadStop::TokensLeft(tokens.len()));
+            return Err(Stop::TokensLeft(tokens.len()));
         }
         let (c, rest) = if_else(alloc, n, rest)?;
         return Ok((single(c), rest));
     }
     if let Some((_, rest)) = after_word("let", tokens) {
         if n == 0 {
-            return Err(ReadStop::TokensLeft(tokens.len()));
+            return Err(Stop::TokensLeft(tokens.len()));
         }
         let (c, rest) = let_in(alloc, n, rest)?;
         return Ok((single(c), rest));
@@ -321,7 +312,7 @@ fn behind(
     may: bool,
     first: Box<Code>,
     tokens: &[Token],
-) -> Result<(Inside, &[Token]), ReadStop>
+) -> Result<(Inside, &[Token]), Stop>
     requires { n ≤ m }
     ensures { ReadAnswer (λ x. (inside_tree x.0, x.1.now)) result (behind_of (read m) (read n) n may (code_tree first.value) tokens.now) }
 {
@@ -337,7 +328,7 @@ fn behind(
         drop(first);
         return behind_divides(alloc, n, k, rest);
     }
-    Err(ReadStop::TokensLeft(tokens.len()))
+    Err(Stop::TokensLeft(tokens.len()))
 }
 
 // Behind the first part and a comma.
@@ -348,7 +339,7 @@ fn behind_comma(
     n: u32,
     first: Box<Code>,
     tokens: &[Token],
-) -> Result<(Vec<Code>, &[Token]), ReadStop>
+) -> Result<(Vec<Code>, &[Token]), Stop>
     ensures { ReadAnswer (λ x. (map code_tree x.0.items, x.1.now)) result
         (several_of snoc (read n) (Sign (codes ",")) (Sign (codes ")")) (code_tree first.value ∷ []) tokens.now) }
 {
@@ -364,13 +355,13 @@ fn behind_divides(
     n: u32,
     k: i128,
     tokens: &[Token],
-) -> Result<(Inside, &[Token]), ReadStop>
+) -> Result<(Inside, &[Token]), Stop>
     ensures { ReadAnswer (λ x. (inside_tree x.0, x.1.now)) result
         (bind (read n) (λ c. bind (must (is (Sign (codes ")")))) (λ p. pure (single_of (code_divides k c)))) tokens.now) }
 {
     let (of, rest) = boxed(alloc, n, tokens)?;
     let (_, rest) = expect_sign(")", rest)?;
-    Ok((single(Code::Divides { k, of }), rest))
+    Ok((single(node::divides(k, of)), rest))
 }
 
 // Behind the first part and an operation.
@@ -382,7 +373,7 @@ fn operated(
     operation: Operation,
     first: Box<Code>,
     tokens: &[Token],
-) -> Result<(Code, &[Token]), ReadStop>
+) -> Result<(Code, &[Token]), Stop>
     ensures { ReadAnswer (λ x. (code_tree x.0, x.1.now)) result (operated_of (read n) (code_tree first.value) operation tokens.now) }
 {
     match operation {
@@ -406,7 +397,7 @@ fn operands(
     form: Many,
     first: Box<Code>,
     tokens: &[Token],
-) -> Result<(Vec<Code>, &[Token]), ReadStop>
+) -> Result<(Vec<Code>, &[Token]), Stop>
     ensures { ReadAnswer (λ x. (map code_tree x.0.items, x.1.now)) result
         (several_of snoc (read n) (many_kind form) (Sign (codes ")")) (code_tree first.value ∷ []) tokens.now) }
 {
@@ -417,7 +408,7 @@ fn operands(
 // Behind `(if`.
 #[cycle(code)]
 #[tactic(auto, unfolding(cf_reader::specs::Readers::bind, cf_reader::specs::Readers::pure, crate::specs::Reading::if_of))]
-fn if_else(alloc: Global, n: u32, tokens: &[Token]) -> Result<(Code, &[Token]), ReadStop>
+fn if_else(alloc: Global, n: u32, tokens: &[Token]) -> Result<(Code, &[Token]), Stop>
     ensures { ReadAnswer (λ x. (code_tree x.0, x.1.now)) result (if_of (read n) tokens.now) }
 {
     let (test, rest) = boxed(alloc, n, tokens)?;
@@ -425,13 +416,13 @@ fn if_else(alloc: Global, n: u32, tokens: &[Token]) -> Result<(Code, &[Token]), 
     let (yes, rest) = boxed(alloc, n, rest)?;
     let (_, rest) = expect_word("else", rest)?;
     let (no, rest) = boxed(alloc, n, rest)?;
-    closed(Code::If { test, yes, no }, rest)
+    closed(node::if_else(test, yes, no), rest)
 }
 
 // Behind `(let`.
 #[cycle(code)]
 #[tactic(auto, unfolding(cf_reader::specs::Readers::bind, cf_reader::specs::Readers::pure, crate::specs::Reading::let_of))]
-fn let_in(alloc: Global, n: u32, tokens: &[Token]) -> Result<(Code, &[Token]), ReadStop>
+fn let_in(alloc: Global, n: u32, tokens: &[Token]) -> Result<(Code, &[Token]), Stop>
     ensures { ReadAnswer (λ x. (code_tree x.0, x.1.now)) result (let_of (read n) tokens.now) }
 {
     let (bound, rest) = read_variables(tokens)?;
@@ -439,32 +430,25 @@ fn let_in(alloc: Global, n: u32, tokens: &[Token]) -> Result<(Code, &[Token]), R
     let (value, rest) = boxed(alloc, n, rest)?;
     let (_, rest) = expect_word("in", rest)?;
     let (body, rest) = boxed(alloc, n, rest)?;
-    let Variables { first, count } = bound;
-    let code = Code::Let {
-        first,
-        count,
-        value,
-        body,
-    };
-    closed(code, rest)
+    closed(node::let_in(bound, value, body), rest)
 }
 
 // Behind the word `solve`.
 #[cycle(code)]
 #[tactic(auto, unfolding(cf_reader::specs::Readers::bind, cf_reader::specs::Readers::pure, crate::specs::Reading::solve_of))]
-fn solve(alloc: Global, n: u32, tokens: &[Token]) -> Result<(Code, &[Token]), ReadStop>
+fn solve(alloc: Global, n: u32, tokens: &[Token]) -> Result<(Code, &[Token]), Stop>
     ensures { ReadAnswer (λ x. (code_tree x.0, x.1.now)) result (solve_of (read n) (read (n - 1)) n tokens.now) }
 {
     let (number, rest) = expect_numeral(tokens)?;
     let (_, rest) = expect_sign("{", rest)?;
     let (arms, rest) = arms(alloc, n, rest)?;
-    Ok((Code::Solve { number, arms }, rest))
+    Ok((node::solve(number, arms), rest))
 }
 
 // Arms, if any, up to the closing brace.
 #[cycle(code)]
 #[tactic(auto, using(crate::proofs::Above::arms_above, crate::proofs::Above::arms_none), unfolding(cf_reader::specs::Readers::bind, cf_reader::specs::Readers::pure))]
-fn arms(alloc: Global, n: u32, tokens: &[Token]) -> Result<(Vec<Arm>, &[Token]), ReadStop>
+fn arms(alloc: Global, n: u32, tokens: &[Token]) -> Result<(Vec<Arm>, &[Token]), Stop>
     ensures { ReadAnswer (λ x. (map arm_tree x.0.items, x.1.now)) result (all_arms (read n) (read (n - 1)) n tokens.now) }
 {
     if n == 0 {
@@ -477,7 +461,7 @@ fn arms(alloc: Global, n: u32, tokens: &[Token]) -> Result<(Vec<Arm>, &[Token]),
 // Arms, if any, up to the closing brace, where there may be some.
 #[cycle(code)]
 #[tactic(auto, unfolding(cf_reader::specs::Readers::others_of))]
-fn more_arms(alloc: Global, n: u32, tokens: &[Token]) -> Result<(Vec<Arm>, &[Token]), ReadStop>
+fn more_arms(alloc: Global, n: u32, tokens: &[Token]) -> Result<(Vec<Arm>, &[Token]), Stop>
     requires { 1 ≤ n }
     ensures { ReadAnswer (λ x. (map arm_tree x.0.items, x.1.now)) result
         (others_of snoc (arm_from (read n) (read (n - 1)) n) (Word (codes "arm")) (Sign (codes "}")) [] tokens.now) }
@@ -488,7 +472,7 @@ fn more_arms(alloc: Global, n: u32, tokens: &[Token]) -> Result<(Vec<Arm>, &[Tok
         match after_word("arm", rest) {
             Some((_, behind)) => {
                 let (x, behind) = arm(alloc, n, behind)?;
-                done.push(x)?;
+                done = with_arm(done, x)?;
                 rest = behind;
             }
             None => {
@@ -498,13 +482,13 @@ fn more_arms(alloc: Global, n: u32, tokens: &[Token]) -> Result<(Vec<Arm>, &[Tok
         }
     }
     // for the proof: the loop ends before
-    Err(ReadStop::TokensLeft(0))
+    Err(Stop::TokensLeft(0))
 }
 
 // Behind the word `arm`.
 #[cycle(code)]
 #[tactic(auto, unfolding(cf_reader::specs::Readers::bind, cf_reader::specs::Readers::pure, crate::specs::Reading::arm_from))]
-fn arm(alloc: Global, n: u32, tokens: &[Token]) -> Result<(Arm, &[Token]), ReadStop>
+fn arm(alloc: Global, n: u32, tokens: &[Token]) -> Result<(Arm, &[Token]), Stop>
     requires { 1 ≤ n }
     ensures { ReadAnswer (λ x. (arm_tree x.0, x.1.now)) result (arm_from (read n) (read (n - 1)) n tokens.now) }
 {
@@ -514,18 +498,13 @@ fn arm(alloc: Global, n: u32, tokens: &[Token]) -> Result<(Arm, &[Token]), ReadS
     let (items, rest) = steps(alloc, n, rest)?;
     let (gives, rest) = gives(alloc, n, rest)?;
     let (_, rest) = expect_sign("}", rest)?;
-    let arm = Arm {
-        bounds,
-        items,
-        gives,
-    };
-    Ok((arm, rest))
+    Ok((node::arm(bounds, items, gives), rest))
 }
 
 // The steps of an arm, up to the word `give`.
 #[cycle(code)]
 #[tactic(auto, unfolding(crate::specs::Reading::all_steps))]
-fn steps(alloc: Global, n: u32, tokens: &[Token]) -> Result<(Vec<Item>, &[Token]), ReadStop>
+fn steps(alloc: Global, n: u32, tokens: &[Token]) -> Result<(Vec<Item>, &[Token]), Stop>
     ensures { ReadAnswer (λ x. (map item_tree x.0.items, x.1.now)) result (all_steps (read n) tokens.now) }
 {
     let mut done = Vec::new(alloc);
@@ -534,7 +513,7 @@ fn steps(alloc: Global, n: u32, tokens: &[Token]) -> Result<(Vec<Item>, &[Token]
         match after_step(rest) {
             Some((form, behind)) => {
                 let (x, behind) = item(alloc, n, form, behind)?;
-                done.push(x)?;
+                done = with_item(done, x)?;
                 rest = behind;
             }
             None => {
@@ -544,26 +523,26 @@ fn steps(alloc: Global, n: u32, tokens: &[Token]) -> Result<(Vec<Item>, &[Token]
         }
     }
     // for the proof: the loop ends before
-    Err(ReadStop::TokensLeft(0))
+    Err(Stop::TokensLeft(0))
 }
 
 // Behind the word of a step.
 #[cycle(code)]
 #[tactic(auto, unfolding(cf_reader::specs::Readers::bind, cf_reader::specs::Readers::pure, crate::specs::Reading::item_of))]
-fn item(alloc: Global, n: u32, form: Step, tokens: &[Token]) -> Result<(Item, &[Token]), ReadStop>
+fn item(alloc: Global, n: u32, form: Step, tokens: &[Token]) -> Result<(Item, &[Token]), Stop>
     ensures { ReadAnswer (λ x. (item_tree x.0, x.1.now)) result (item_of (read n) form tokens.now) }
 {
     let (c, rest) = code(alloc, n, tokens)?;
     match expect_sign(";", rest) {
         Ok((_, rest)) => Ok((node::step(form, c), rest)),
-        Err(stop) => Err(without(c, stop)),
+        Err(stop) => Err(node::without(c, stop)),
     }
 }
 
 // Behind the word `give`.
 #[cycle(code)]
 #[tactic(auto, unfolding(cf_reader::specs::Readers::first, cf_reader::specs::Readers::bind, cf_reader::specs::Readers::pure, crate::specs::Reading::gives_of))]
-fn gives(alloc: Global, n: u32, tokens: &[Token]) -> Result<(Vec<Code>, &[Token]), ReadStop>
+fn gives(alloc: Global, n: u32, tokens: &[Token]) -> Result<(Vec<Code>, &[Token]), Stop>
     requires { 1 ≤ n }
     ensures { ReadAnswer (λ x. (map code_tree x.0.items, x.1.now)) result (gives_of (read n) (read (n - 1)) n tokens.now) }
 {

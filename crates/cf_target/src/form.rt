@@ -1,12 +1,13 @@
 //! Forms of code that one word or sign tells.
 ghost use Rattle.std.specs.Prelude.{◌≡◌};
+ghost use Rattle.std.specs.Str.{bytes_eq};
 ghost use Rattle.cf_reader.specs.Answers.{FirstAnswer};
 ghost use Rattle.cf_reader.specs.Readers.{at, is};
 ghost use Rattle.cf_target.specs.Reading.{a_unary, a_division, an_extreme, a_step, an_operation, operation_of, many_kind};
 
 use cf_lex::{Token, TokenKind};
-use cf_reader::{after_sign, after_word, operation, spells};
-use cf_tree::{BinOp, Order, Place};
+use cf_reader::{after_sign, after_word, operation};
+use cf_tree::{BinOp, Order, Place, Text};
 
 /// Forms of one part.
 #[derive(Clone, Copy)]
@@ -64,6 +65,13 @@ pub enum Operation {
     Two(Two),
 }
 
+// Whether a word is this one.
+fn is_word(expected: &str, word: &Text) -> bool
+    ensures { result ≡ bytes_eq word.now expected.now }
+{
+    word.bytes.as_slice() == expected.as_bytes()
+}
+
 /// The form of one part whose word stands first, and the tokens after it.
 #[tactic(auto, unfolding(cf_reader::specs::Readers::at))]
 pub fn after_unary(tokens: &[Token]) -> Option<(Unary, &[Token])>
@@ -73,11 +81,11 @@ pub fn after_unary(tokens: &[Token]) -> Option<(Unary, &[Token])>
     let TokenKind::Word(word) = &t.kind else {
         return None;
     };
-    if spells(&word.bytes, "neg") {
+    if is_word("neg", word) {
         Some((Unary::Neg, rest))
-    } else if spells(&word.bytes, "not") {
+    } else if is_word("not", word) {
         Some((Unary::Not, rest))
-    } else if spells(&word.bytes, "card") {
+    } else if is_word("card", word) {
         Some((Unary::Card, rest))
     } else {
         None
@@ -93,9 +101,9 @@ pub fn after_division(tokens: &[Token]) -> Option<(Division, &[Token])>
     let TokenKind::Word(word) = &t.kind else {
         return None;
     };
-    if spells(&word.bytes, "div") {
+    if is_word("div", word) {
         Some((Division::Div, rest))
-    } else if spells(&word.bytes, "mod") {
+    } else if is_word("mod", word) {
         Some((Division::Mod, rest))
     } else {
         None
@@ -111,9 +119,9 @@ pub fn after_extreme(tokens: &[Token]) -> Option<(Extreme, &[Token])>
     let TokenKind::Word(word) = &t.kind else {
         return None;
     };
-    if spells(&word.bytes, "min") {
+    if is_word("min", word) {
         Some((Extreme::Min, rest))
-    } else if spells(&word.bytes, "max") {
+    } else if is_word("max", word) {
         Some((Extreme::Max, rest))
     } else {
         None
@@ -129,9 +137,9 @@ pub fn after_step(tokens: &[Token]) -> Option<(Step, &[Token])>
     let TokenKind::Word(word) = &t.kind else {
         return None;
     };
-    if spells(&word.bytes, "let") {
+    if is_word("let", word) {
         Some((Step::Let, rest))
-    } else if spells(&word.bytes, "need") {
+    } else if is_word("need", word) {
         Some((Step::Need, rest))
     } else {
         None

@@ -4,8 +4,10 @@ ghost use Rattle.cf_tree.specs.CodeView.{code_tree};
 ghost use Rattle.cf_target.specs.Reading.{several as several_of, single as single_of, inside_tree, whole as whole_of, all_given};
 ghost use Rattle.cf_reader.specs.Answers.{ReadAnswer};
 
-use cf_reader::ReadStop;
-use cf_tree::{Code, without};
+use crate::node::without;
+use crate::part::with_code;
+use cf_reader::Stop;
+use cf_tree::Code;
 use std::alloc::Global;
 
 /// Two codes or more with commas, or one code.
@@ -40,7 +42,7 @@ pub fn whole(inside: Inside) -> Code
 }
 
 /// What an arm gives.
-pub fn given(alloc: Global, inside: Inside) -> Result<Vec<Code>, ReadStop>
+pub fn given(alloc: Global, inside: Inside) -> Result<Vec<Code>, Stop>
     ensures { ReadAnswer (λ x. map code_tree x.items) result (Ok (all_given (inside_tree inside))) }
 {
     match inside {
@@ -50,7 +52,7 @@ pub fn given(alloc: Global, inside: Inside) -> Result<Vec<Code>, ReadStop>
 }
 
 /// A list of one code.
-pub fn one(alloc: Global, code: Code) -> Result<Vec<Code>, ReadStop>
+pub fn one(alloc: Global, code: Code) -> Result<Vec<Code>, Stop>
     ensures { ReadAnswer (λ x. map code_tree x.items) result (Ok (code_tree code ∷ [])) }
 {
     let mut codes = Vec::new(alloc);
@@ -59,14 +61,11 @@ pub fn one(alloc: Global, code: Code) -> Result<Vec<Code>, ReadStop>
 }
 
 /// A list of two codes.
-pub fn pair(alloc: Global, first: Box<Code>, second: Code) -> Result<Vec<Code>, ReadStop>
+pub fn pair(alloc: Global, first: Box<Code>, second: Code) -> Result<Vec<Code>, Stop>
     ensures { ReadAnswer (λ x. map code_tree x.items) result (Ok (code_tree first.value ∷ code_tree second ∷ [])) }
 {
     match one(alloc, Box::into_inner(first)) {
-        Ok(mut codes) => {
-            codes.push(second)?;
-            Ok(codes)
-        }
+        Ok(codes) => with_code(codes, second),
         Err(stop) => Err(without(second, stop)),
     }
 }

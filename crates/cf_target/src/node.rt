@@ -1,13 +1,61 @@
 //! Makes codes of their parts.
 ghost use Rattle.std.specs.Prelude.{◌≡◌, map, Ok};
-ghost use Rattle.cf_tree.specs.CodeView.{code_tree, item_tree};
+ghost use Rattle.cf_tree.specs.CodeTree.{code_lit, code_truth, code_var, code_set_of, code_solve, arm_of, codes_of, items_of, arms_of, code_slice, code_fresh, code_if, code_let, code_divides};
+ghost use Rattle.cf_tree.specs.CodeView.{code_tree, item_tree, arm_tree};
 ghost use Rattle.cf_reader.specs.Answers.{ReadAnswer};
 ghost use Rattle.cf_target.specs.Reading.{unary_tree, division_tree, extreme_tree, many_tree, two_tree, step_tree};
 
 use crate::form::{Division, Extreme, Many, Step, Two, Unary};
-use cf_reader::ReadStop;
-use cf_tree::{Code, Item};
+use crate::number::Variables;
+use cf_reader::Stop;
+use cf_tree::{Arm, Code, Item};
 use std::alloc::Global;
+
+/// A number.
+pub fn literal(k: i128) -> Code
+    ensures { code_tree result ≡ code_lit k }
+{
+    Code::Lit(k)
+}
+
+/// A truth value.
+pub fn truth(t: bool) -> Code
+    ensures { code_tree result ≡ code_truth t }
+{
+    Code::Truth(t)
+}
+
+/// The variable of a level.
+pub fn variable(x: u32) -> Code
+    ensures { code_tree result ≡ code_var x }
+{
+    Code::Var(x)
+}
+
+/// The set of these elements.
+pub fn set_of(codes: Vec<Code>) -> Code
+    ensures { code_tree result ≡ code_set_of (codes_of (map code_tree codes.items)) }
+{
+    Code::SetOf(codes)
+}
+
+/// A solve with the number of its choose.
+pub fn solve(number: u32, arms: Vec<Arm>) -> Code
+    ensures { code_tree result ≡ code_solve number (arms_of (map arm_tree arms.items)) }
+{
+    Code::Solve { number, arms }
+}
+
+/// An arm with the bounds of its searches, its steps and what it gives.
+pub fn arm(bounds: Vec<u32>, items: Vec<Item>, gives: Vec<Code>) -> Arm
+    ensures { arm_tree result ≡ arm_of bounds.items (items_of (map item_tree items.items)) (codes_of (map code_tree gives.items)) }
+{
+    Arm {
+        bounds,
+        items,
+        gives,
+    }
+}
 
 /// A form of one part.
 pub fn unary(form: Unary, code: Box<Code>) -> Code
@@ -76,9 +124,56 @@ pub fn step(form: Step, code: Code) -> Item
     }
 }
 
+/// The slice of a set.
+pub fn slice(set: Box<Code>, from: Box<Code>, n: Box<Code>) -> Code
+    ensures { code_tree result ≡ code_slice (code_tree set.value) (code_tree from.value) (code_tree n.value) }
+{
+    Code::Slice { set, from, n }
+}
+
+/// Fresh numbers.
+pub fn fresh(avoid: Box<Code>, n: Box<Code>) -> Code
+    ensures { code_tree result ≡ code_fresh (code_tree avoid.value) (code_tree n.value) }
+{
+    Code::Fresh { avoid, n }
+}
+
+/// An `if`.
+pub fn if_else(test: Box<Code>, yes: Box<Code>, no: Box<Code>) -> Code
+    ensures { code_tree result ≡ code_if (code_tree test.value) (code_tree yes.value) (code_tree no.value) }
+{
+    Code::If { test, yes, no }
+}
+
+/// A `let` of these variables.
+pub fn let_in(variables: Variables, value: Box<Code>, body: Box<Code>) -> Code
+    ensures { code_tree result ≡ code_let variables.first variables.count (code_tree value.value) (code_tree body.value) }
+{
+    Code::Let {
+        first: variables.first,
+        count: variables.count,
+        value,
+        body,
+    }
+}
+
+/// Whether a literal divides a part.
+pub fn divides(k: i128, of: Box<Code>) -> Code
+    ensures { code_tree result ≡ code_divides k (code_tree of.value) }
+{
+    Code::Divides { k, of }
+}
+
 /// The code in a box.
-pub fn boxed(alloc: Global, code: Code) -> Result<Box<Code>, ReadStop>
+pub fn boxed(alloc: Global, code: Code) -> Result<Box<Code>, Stop>
     ensures { ReadAnswer (λ x. code_tree x.value) result (Ok (code_tree code)) }
 {
     Ok(Box::new(alloc, code)?)
+}
+
+/// What stops, once a value is given up.
+pub fn without<T: Drop>(_value: T, stop: Stop) -> Stop
+    ensures { result ≡ stop }
+{
+    stop
 }

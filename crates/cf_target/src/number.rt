@@ -8,7 +8,7 @@ ghost use Rattle.cf_target.specs.Reading.{numeral_of, a_numeral, a_variable, an_
 
 use crate::level::level_named;
 use cf_lex::{Token, TokenKind};
-use cf_reader::{ReadStop, after_sign, expect_sign};
+use cf_reader::{Stop, after_sign, expect_sign};
 use cf_tree::Place;
 use std::alloc::Global;
 
@@ -25,18 +25,18 @@ fn numeral(k: i128) -> Option<u32>
 
 /// A literal other than 0 in 32 bits that has to stand first, and the tokens after it.
 #[tactic(auto, unfolding(cf_reader::specs::Readers::must, cf_reader::specs::Readers::at))]
-pub fn expect_numeral(tokens: &[Token]) -> Result<(u32, &[Token]), ReadStop>
+pub fn expect_numeral(tokens: &[Token]) -> Result<(u32, &[Token]), Stop>
     ensures { ReadAnswer (λ x. (x.0, x.1.now)) result (must a_numeral tokens.now) }
 {
     let Some((t, rest)) = tokens.split_first() else {
-        return Err(ReadStop::TokensLeft(0));
+        return Err(Stop::TokensLeft(0));
     };
     let TokenKind::Literal(k) = &t.kind else {
-        return Err(ReadStop::TokensLeft(tokens.len()));
+        return Err(Stop::TokensLeft(tokens.len()));
     };
     match numeral(*k) {
         Some(n) => Ok((n, rest)),
-        None => Err(ReadStop::TokensLeft(tokens.len())),
+        None => Err(Stop::TokensLeft(tokens.len())),
     }
 }
 
@@ -55,18 +55,18 @@ pub fn variable(tokens: &[Token]) -> Option<(u32, &[Token])>
 
 // A variable that has to stand first, and the tokens after it.
 #[tactic(auto, unfolding(cf_reader::specs::Readers::must))]
-fn expect_variable(tokens: &[Token]) -> Result<(u32, &[Token]), ReadStop>
+fn expect_variable(tokens: &[Token]) -> Result<(u32, &[Token]), Stop>
     ensures { ReadAnswer (λ x. (x.0, x.1.now)) result (must a_variable tokens.now) }
 {
     match variable(tokens) {
         Some(found) => Ok(found),
-        None => Err(ReadStop::TokensLeft(tokens.len())),
+        None => Err(Stop::TokensLeft(tokens.len())),
     }
 }
 
 // A variable below the last one that has to stand first, and the tokens after it.
 #[tactic(auto, unfolding(cf_reader::specs::Readers::must, cf_reader::specs::Readers::at, crate::specs::Levels::last_level))]
-fn expect_early_variable(tokens: &[Token]) -> Result<(u32, &[Token]), ReadStop>
+fn expect_early_variable(tokens: &[Token]) -> Result<(u32, &[Token]), Stop>
     ensures value { ReadAnswer (λ x. (x.0, x.1.now)) result (must an_early_variable tokens.now) }
     ensures early { IfOk result (λ x. x.0 < 2 ^ 32 - 1) }
 {
@@ -75,16 +75,16 @@ fn expect_early_variable(tokens: &[Token]) -> Result<(u32, &[Token]), ReadStop>
             if x < u32::MAX {
                 Ok((x, rest))
             } else {
-                Err(ReadStop::TokensLeft(tokens.len()))
+                Err(Stop::TokensLeft(tokens.len()))
             }
         }
-        None => Err(ReadStop::TokensLeft(tokens.len())),
+        None => Err(Stop::TokensLeft(tokens.len())),
     }
 }
 
 // The variable of the level `x`, which has to stand first, and the tokens after it.
 #[tactic(auto, unfolding(cf_reader::specs::Readers::must, cf_reader::specs::Readers::at))]
-fn expect_level(x: u32, tokens: &[Token]) -> Result<(u32, &[Token]), ReadStop>
+fn expect_level(x: u32, tokens: &[Token]) -> Result<(u32, &[Token]), Stop>
     ensures { ReadAnswer (λ y. (y.0, y.1.now)) result (must (the_variable x) tokens.now) }
 {
     match variable(tokens) {
@@ -92,10 +92,10 @@ fn expect_level(x: u32, tokens: &[Token]) -> Result<(u32, &[Token]), ReadStop>
             if y == x {
                 Ok((y, rest))
             } else {
-                Err(ReadStop::TokensLeft(tokens.len()))
+                Err(Stop::TokensLeft(tokens.len()))
             }
         }
-        None => Err(ReadStop::TokensLeft(tokens.len())),
+        None => Err(Stop::TokensLeft(tokens.len())),
     }
 }
 
@@ -115,7 +115,7 @@ fn comma_after(last: u32, tokens: &[Token]) -> Option<(Place, &[Token])>
 
 // The last of the variables that rise by 1, up to the closing parenthesis.
 #[tactic(auto, using(crate::proofs::VariableSteps::variables_end, crate::proofs::VariableSteps::variables_go, crate::proofs::VariableSteps::variables_err, crate::proofs::VariableSteps::variables_close, crate::proofs::VariableSteps::variables_unclosed), unfolding(crate::specs::Reading::all_variables))]
-fn more_variables(first: u32, tokens: &[Token]) -> Result<(u32, &[Token]), ReadStop>
+fn more_variables(first: u32, tokens: &[Token]) -> Result<(u32, &[Token]), Stop>
     ensures { ReadAnswer (λ x. (x.0, x.1.now)) result (all_variables first tokens.now) }
 {
     let mut last = first;
@@ -134,7 +134,7 @@ fn more_variables(first: u32, tokens: &[Token]) -> Result<(u32, &[Token]), ReadS
         }
     }
     // for the proof: the loop ends before
-    Err(ReadStop::TokensLeft(0))
+    Err(Stop::TokensLeft(0))
 }
 
 /// The variables of a `let`.
@@ -145,18 +145,18 @@ pub struct Variables {
 }
 
 // The variables from `first` up to `last`. More than 32 bits count have no tree.
-fn variables_between(first: u32, last: u32) -> Result<Variables, ReadStop>
+fn variables_between(first: u32, last: u32) -> Result<Variables, Stop>
     ensures { ReadAnswer {Y = ℕ × ℕ} (λ x. (x.first, x.count)) result (Ok (first, last - first + 1)) }
 {
     match last.saturating_sub(first).checked_add(1) {
         Some(count) => Ok(Variables { first, count }),
-        None => Err(ReadStop::NoMemory),
+        None => Err(Stop::NoMemory),
     }
 }
 
 // Two variables or more that rise by 1, behind the first of them, up to the closing parenthesis.
 #[tactic(auto, unfolding(cf_reader::specs::Readers::bind, cf_reader::specs::Readers::pure))]
-fn variables_from(first: u32, tokens: &[Token]) -> Result<(Variables, &[Token]), ReadStop>
+fn variables_from(first: u32, tokens: &[Token]) -> Result<(Variables, &[Token]), Stop>
     requires { first < 2 ^ 32 - 1 }
     ensures { ReadAnswer (λ x. ((x.0.first, x.0.count), x.1.now)) result
         (bind (must (is (Sign (codes ",")))) (λ p. bind (must (the_variable (first + 1))) (λ y.
@@ -170,7 +170,7 @@ fn variables_from(first: u32, tokens: &[Token]) -> Result<(Variables, &[Token]),
 
 /// A variable, or two or more in parentheses that rise by 1.
 #[tactic(auto, unfolding(cf_reader::specs::Readers::first, cf_reader::specs::Readers::bind, cf_reader::specs::Readers::pure, crate::specs::Reading::vars_of))]
-pub fn read_variables(tokens: &[Token]) -> Result<(Variables, &[Token]), ReadStop>
+pub fn read_variables(tokens: &[Token]) -> Result<(Variables, &[Token]), Stop>
     ensures { ReadAnswer (λ x. ((x.0.first, x.0.count), x.1.now)) result (vars_of tokens.now) }
 {
     match after_sign("(", tokens) {
@@ -185,9 +185,18 @@ pub fn read_variables(tokens: &[Token]) -> Result<(Variables, &[Token]), ReadSto
     }
 }
 
+// The bounds with one more.
+fn with_bound(bounds: Vec<u32>, bound: u32) -> Result<Vec<u32>, Stop>
+    ensures { ReadAnswer (λ x. x.items) result (Ok (snoc bounds.items bound)) }
+{
+    let mut all = bounds;
+    all.push(bound)?;
+    Ok(all)
+}
+
 // More bounds, each behind a comma, up to the closing bracket.
 #[tactic(auto, unfolding(cf_reader::specs::Readers::others_of))]
-fn more_bounds(first: Vec<u32>, tokens: &[Token]) -> Result<(Vec<u32>, &[Token]), ReadStop>
+fn more_bounds(first: Vec<u32>, tokens: &[Token]) -> Result<(Vec<u32>, &[Token]), Stop>
     ensures { ReadAnswer (λ x. (x.0.items, x.1.now)) result (others_of snoc (must a_numeral) (Sign (codes ",")) (Sign (codes "]")) first.items tokens.now) }
 {
     let mut done = first;
@@ -196,7 +205,7 @@ fn more_bounds(first: Vec<u32>, tokens: &[Token]) -> Result<(Vec<u32>, &[Token])
         match after_sign(",", rest) {
             Some((_, behind)) => {
                 let (x, behind) = expect_numeral(behind)?;
-                done.push(x)?;
+                done = with_bound(done, x)?;
                 rest = behind;
             }
             None => {
@@ -206,21 +215,19 @@ fn more_bounds(first: Vec<u32>, tokens: &[Token]) -> Result<(Vec<u32>, &[Token])
         }
     }
     // for the proof: the loop ends before
-    Err(ReadStop::TokensLeft(0))
+    Err(Stop::TokensLeft(0))
 }
 
 /// Bounds, if any, up to the closing bracket.
 #[tactic(auto, unfolding(cf_reader::specs::Readers::first, cf_reader::specs::Readers::bind, cf_reader::specs::Readers::pure, cf_reader::specs::Readers::several_of, crate::specs::Reading::bounds_of))]
-pub fn bounds(alloc: Global, tokens: &[Token]) -> Result<(Vec<u32>, &[Token]), ReadStop>
+pub fn bounds(alloc: Global, tokens: &[Token]) -> Result<(Vec<u32>, &[Token]), Stop>
     ensures { ReadAnswer (λ x. (x.0.items, x.1.now)) result (bounds_of tokens.now) }
 {
     match after_sign("]", tokens) {
         Some((_, rest)) => Ok((Vec::new(alloc), rest)),
         None => {
             let (x, rest) = expect_numeral(tokens)?;
-            let mut all = Vec::new(alloc);
-            all.push(x)?;
-            more_bounds(all, rest)
+            more_bounds(with_bound(Vec::new(alloc), x)?, rest)
         }
     }
 }

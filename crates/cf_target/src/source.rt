@@ -9,12 +9,13 @@ ghost use Rattle.cf_target.specs.Spelling.{TargetTree, target_tree, IsTarget};
 ghost use Rattle.cf_target.specs.Targets.{SomeTarget, TargetAnswer, a_two, bases_of, main_of, part_of, target_of};
 
 use crate::code::code;
+use crate::node::without;
 use cf_lex::{Token, TokenKind, TokenList};
 use cf_reader::{
-    ParseFault, ReadStop, after_sign, after_word, expect_base, expect_sign, expect_word,
-    more_bases, place_at, results,
+    ParseFault, Stop, after_sign, after_word, expect_base, expect_sign, expect_word, more_bases,
+    place_at, results,
 };
-use cf_tree::{Base, Place, RawTarget, without};
+use cf_tree::{Base, Place, RawTarget};
 use std::alloc::Global;
 
 /// The greatest depth of a target's code.
@@ -22,7 +23,7 @@ pub const DEPTH_LIMIT: u32 = 500;
 
 // The bases up to the closing parenthesis, in order, and the tokens after it.
 #[tactic(auto, unfolding(cf_reader::specs::Readers::first, cf_reader::specs::Readers::bind, cf_reader::specs::Readers::pure, cf_reader::specs::Readers::several_of, crate::specs::Targets::bases_of))]
-fn bases(alloc: Global, tokens: &[Token]) -> Result<(Vec<Base>, &[Token]), ReadStop>
+fn bases(alloc: Global, tokens: &[Token]) -> Result<(Vec<Base>, &[Token]), Stop>
     ensures { ReadAnswer (λ x. (x.0.items, x.1.now)) result (bases_of tokens.now) }
 {
     match after_sign(")", tokens) {
@@ -38,26 +39,29 @@ fn bases(alloc: Global, tokens: &[Token]) -> Result<(Vec<Base>, &[Token]), ReadS
 
 // The place of the literal 2, which has to stand first, and the tokens after it.
 #[tactic(auto, unfolding(cf_reader::specs::Readers::must, cf_reader::specs::Readers::at))]
-fn expect_two(tokens: &[Token]) -> Result<(Place, &[Token]), ReadStop>
+fn expect_two(tokens: &[Token]) -> Result<(Place, &[Token]), Stop>
     ensures { ReadAnswer (λ x. (x.0, x.1.now)) result (must a_two tokens.now) }
 {
     let Some((t, rest)) = tokens.split_first() else {
-        return Err(ReadStop::TokensLeft(0));
+        return Err(Stop::TokensLeft(0));
     };
     match &t.kind {
-        // for the proof: in place of an equation of i128
-        TokenKind::Literal(n) if 2 <= *n && *n <= 2 => Ok((t.place, rest)),
-        _ => Err(ReadStop::TokensLeft(tokens.len())),
+        TokenKind::Literal(n) => {
+            // for the proof: in place of an equation of i128
+            if 2 <= *n && *n <= 2 {
+                Ok((t.place, rest))
+            } else {
+                Err(Stop::TokensLeft(tokens.len()))
+            }
+        }
+        TokenKind::Word(_) => Err(Stop::TokensLeft(tokens.len())),
+        TokenKind::Sign(_) => Err(Stop::TokensLeft(tokens.len())),
     }
 }
 
 // A target behind its header, with a code of depth at most `limit`, and the tokens after it.
 #[tactic(auto, unfolding(cf_reader::specs::Readers::bind, cf_reader::specs::Readers::pure, crate::specs::Targets::main_of))]
-fn headless_part(
-    alloc: Global,
-    limit: u32,
-    tokens: &[Token],
-) -> Result<(RawTarget, &[Token]), ReadStop>
+fn headless_part(alloc: Global, limit: u32, tokens: &[Token]) -> Result<(RawTarget, &[Token]), Stop>
     ensures { ReadAnswer (λ x. (target_tree x.0, x.1.now)) result (main_of limit tokens.now) }
 {
     let (_, rest) = expect_word("main", tokens)?;
@@ -85,7 +89,7 @@ pub fn target_part(
     alloc: Global,
     limit: u32,
     tokens: &[Token],
-) -> Result<(RawTarget, &[Token]), ReadStop>
+) -> Result<(RawTarget, &[Token]), Stop>
     ensures { ReadAnswer (λ x. (target_tree x.0, x.1.now)) result (part_of limit tokens.now) }
 {
     match after_word("comfusy", tokens) {
@@ -99,18 +103,18 @@ pub fn target_part(
 
 // The target, where no tokens are left.
 #[tactic(auto, unfolding(cf_reader::specs::Readers::refuse, cf_reader::specs::Readers::at_end))]
-fn ended(target: RawTarget, rest: &[Token]) -> Result<(RawTarget, &[Token]), ReadStop>
+fn ended(target: RawTarget, rest: &[Token]) -> Result<(RawTarget, &[Token]), Stop>
     ensures { ReadAnswer (λ x. (target_tree x.0, x.1.now)) result (at_end (target_tree target) refuse rest.now) }
 {
     match rest.split_first() {
         None => Ok((target, rest)),
-        Some(_) => Err(without(target, ReadStop::TokensLeft(rest.len()))),
+        Some(_) => Err(without(target, Stop::TokensLeft(rest.len()))),
     }
 }
 
 // A target up to the end, with a code of depth at most `limit`.
 #[tactic(auto, unfolding(cf_reader::specs::Readers::bind, crate::specs::Targets::target_of))]
-fn whole(alloc: Global, limit: u32, tokens: &[Token]) -> Result<(RawTarget, &[Token]), ReadStop>
+fn whole(alloc: Global, limit: u32, tokens: &[Token]) -> Result<(RawTarget, &[Token]), Stop>
     ensures { ReadAnswer (λ x. (target_tree x.0, x.1.now)) result (target_of limit tokens.now) }
 {
     let (target, rest) = target_part(alloc, limit, tokens)?;
@@ -135,7 +139,7 @@ pub fn target(alloc: Global, tokens: &TokenList) -> Result<RawTarget, ParseFault
 {
     match whole(alloc, DEPTH_LIMIT, tokens.list.as_slice()) {
         Ok((target, _)) => Ok(target),
-        Err(ReadStop::NoMemory) => Err(ParseFault::NoMemory),
-        Err(ReadStop::TokensLeft(left)) => Err(ParseFault::Syntax(place_at(tokens, left))),
+        Err(Stop::NoMemory) => Err(ParseFault::NoMemory),
+        Err(Stop::TokensLeft(left)) => Err(ParseFault::Syntax(place_at(tokens, left))),
     }
 }

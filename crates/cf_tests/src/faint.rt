@@ -15,11 +15,11 @@ struct Faint {
 }
 
 impl Pass for Faint {
-    ghost told = { λ p. record {
-      name = codes "faint";
-      tally = (⟦<Fold as Pass>⟧.told p.inner).tally;
-      turns = (⟦<Fold as Pass>⟧.told p.inner).turns;
-    } };
+    ghost name = { λ _. codes "faint" };
+
+    ghost tally = { λ p. ⟦<Fold as Pass>⟧.tally p.inner };
+
+    ghost turns = { λ p. ⟦<Fold as Pass>⟧.turns p.inner };
 
     fn name(&self) -> &str {
         "faint"
@@ -65,7 +65,6 @@ fn a_pass_that_finds_no_memory_ends_nothing(rt: HostRuntime) -> Result<(), Fail>
     let alloc = rt.alloc();
     let call = Call {
         command: "compile",
-        operand: "program",
         flags: &["--stats"],
         text: SECONDS,
         input: "",

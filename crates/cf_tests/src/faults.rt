@@ -9,7 +9,6 @@ use std::test::Fail;
 fn seen(alloc: Global, text: &str, faults: &Faults) -> Result<Ending, NoMemory> {
     let call = Call {
         command: "run",
-        operand: "program",
         flags: &[],
         text,
         input: "3 4\n3 3\n",

@@ -16,6 +16,4 @@ mod passes;
 #[cfg(test)]
 mod printing;
 #[cfg(test)]
-mod told;
-#[cfg(test)]
 mod unreached;

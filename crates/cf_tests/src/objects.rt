@@ -1,5 +1,5 @@
 //! Objects outside for tests, and calls of the program on them.
-ghost use Rattle.std.specs.Prelude.{◌<◌, ◌^◌};
+ghost use Rattle.std.specs.Prelude.{◌≤◌, ◌<◌, ◌^◌, length};
 
 use cf_io::{Failed, MemShelf, MemSink, Source};
 use cf_pass::Pass;
@@ -21,11 +21,10 @@ pub const REPLIES: &str = "2\nno solution at choose 1\n";
 /// No call of an object fails.
 pub const NEVER: u64 = 1000;
 
-/// A call of the program: its command with an operand, `program` where it is a file, and flags, the text of the file, the input, and how the objects fail.
+/// A call of the program on the file `program`: its command with flags, the text of the file, the input, and how the objects fail.
 #[derive(Clone, Copy)]
 pub struct Call<'a> {
     pub command: &'a str,
-    pub operand: &'a str,
     pub flags: &'a [&'a str],
     pub text: &'a str,
     pub input: &'a str,
@@ -68,7 +67,7 @@ impl Ending {
 
 /// How a call with these passes ends.
 pub fn ended(alloc: Global, call: &Call, passes: Vec<Box<dyn Pass>>) -> Result<Ending, NoMemory> {
-    let words = words(alloc, call.command, call.operand, call.flags)?;
+    let words = words(alloc, call.command, call.flags)?;
     let mut shelf = shelf_of(alloc, call.text.as_bytes(), call.faults.shelf)?;
     let mut input = Dripping::new(call.input.as_bytes(), call.faults.input);
     let mut out = MemSink::new(alloc, call.faults.room, call.faults.out.to_vec(alloc)?)?;
@@ -88,24 +87,19 @@ fn held(alloc: Global, status: Status, out: &MemSink, err: &MemSink) -> Result<E
     })
 }
 
-/// The words of a command with an operand, and flags behind it.
-pub fn words(
-    alloc: Global,
-    command: &str,
-    operand: &str,
-    flags: &[&str],
-) -> Result<Vec<String>, NoMemory> {
+// The words of a command on the file `program`, with flags behind it.
+fn words(alloc: Global, command: &str, flags: &[&str]) -> Result<Vec<String>, NoMemory> {
     let mut words = Vec::new(alloc);
     words.push(String::from_str(alloc, command)?)?;
-    words.push(String::from_str(alloc, operand)?)?;
+    words.push(String::from_str(alloc, "program")?)?;
     for flag in flags {
         words.push(String::from_str(alloc, *flag)?)?;
     }
     Ok(words)
 }
 
-/// A shelf with one text, under the name `program`.
-pub fn shelf_of(alloc: Global, text: &[u8], fails: &[u64]) -> Result<MemShelf, NoMemory> {
+// A shelf with one text, under the name `program`.
+fn shelf_of(alloc: Global, text: &[u8], fails: &[u64]) -> Result<MemShelf, NoMemory> {
     let mut names = Vec::new(alloc);
     names.push(Text::from_str(alloc, "program")?)?;
     let mut texts = Vec::new(alloc);
@@ -115,6 +109,15 @@ pub fn shelf_of(alloc: Global, text: &[u8], fails: &[u64]) -> Result<MemShelf, N
     Ok(MemShelf::new(names, texts, fails.to_vec(alloc)?))
 }
 
+// Copies as many bytes as fit.
+fn copied(bytes: &[u8], into: &mut [u8]) -> usize
+    ensures { result ≤ length into.old }
+{
+    let count = bytes.len().min(into.len());
+    into[..count].copy_from_slice(&bytes[..count]);
+    count
+}
+
 // A source that gives one byte at a read. The read of the number `fails` fails.
 #[derive(Drop)]
 struct Dripping<'a> {
@@ -122,10 +125,7 @@ struct Dripping<'a> {
     reads: u64,
     fails: u64,
     faults: u64,
-    given: u64,
-    ends: u64,
     ghost counted: { faults < 2 ^ 64 },
-    ghost given_counted: { given < 2 ^ 64 },
 }
 
 impl<'a> Dripping<'a> {
@@ -135,16 +135,16 @@ impl<'a> Dripping<'a> {
             reads: 0,
             fails,
             faults: 0,
-            given: 0,
-            ends: 0,
         }
     }
 }
 
 impl<'a> Source for Dripping<'a> {
-    ghost use Rattle.cf_io.specs.Seen.{untold_source};
+    ghost use Rattle.std.specs.Prelude.{None};
 
-    ghost seen = { λ s. untold_source s.faults s.given s.ends };
+    ghost left = { λ s. None };
+
+    ghost faults = { λ s. s.faults };
 
     fn read(&mut self, into: &mut [u8]) -> Result<usize, Failed> {
         if into.is_empty() {
@@ -157,15 +157,10 @@ impl<'a> Source for Dripping<'a> {
             return Err(Failed);
         }
         match self.left {
-            [] => {
-                self.ends = self.ends.saturating_add(1);
-                Ok(0)
-            }
+            [] => Ok(0),
             [first, rest @ ..] => {
                 self.left = rest;
-                into[0] = *first;
-                self.given = self.given.saturating_add(1);
-                Ok(1)
+                Ok(copied(&[*first], into))
             }
         }
     }

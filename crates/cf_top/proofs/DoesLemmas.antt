@@ -1,15 +1,15 @@
 -- From reading a file to what the command does.
-use Rattle.std.proofs.Common.{◌≡◌, inl, inr, sym, ap, subst, refl, ℕ, ◌<◌, ◌≤◌, ◌+◌, List, [], ◌∷◌, length, Option, Some, None, arith, rules}
+use Rattle.std.proofs.Common.{◌≡◌, inl, inr, sym, subst, refl, ℕ, ◌<◌, ◌≤◌, ◌+◌, List, [], ◌∷◌, length, Option, Some, None, arith, rules}
 use Rattle.std.specs.Prelude.{◌⊎◌, Result, Err, IfSome, Contains}
 use Rattle.cf_io.specs.Bytes.{TookFront}
 use Rattle.cf_io.specs.Causes.{Rose, one_more}
-use Rattle.cf_io.specs.Seen.{ShelfSeen}
-use Rattle.cf_pass.specs.Passes.{Told}
+use Rattle.cf_io.specs.Limits.{input_limit}
 use Rattle.cf_words.specs.Commands.{Command, command_on, gen}
 use Rattle.cf_answer.specs.Commands.{names_of, calls_passes}
-use Rattle.cf_answer.specs.Ends.{Ends, Does, Answers, AnswersOn, IsInOrder}
+use Rattle.cf_answer.specs.Ends.{streams_of, Ends, Does, Answers, AnswersOn, IsInOrder}
 use Rattle.cf_answer.specs.Limits.{text_limit}
-use Rattle.cf_answer.specs.Outside.{Outside, AreTold, AreTexts, IsSparing, IsFrugal}
+use Rattle.cf_answer.specs.Outside.{Outside, AreTold, AreTexts, Counts, IsFrugal}
+use Rattle.cf_answer.specs.Passes.{Told}
 use Rattle.cf_answer.specs.Refusals.{too_long, Refuses}
 use Rattle.cf_answer.specs.declared.status.Status.{Status}
 use Rattle.cf_answer.specs.declared.fault.Fault.{Fault}
@@ -19,7 +19,7 @@ use Rattle.cf_words.specs.declared.command.CommandKind.TheVariants.{Compile, Run
 use Rattle.cf_words.specs.declared.command.Flags.{Flags}
 use Rattle.cf_answer.proofs.CountLemmas.{one_fault}
 use Rattle.cf_answer.proofs.FaultLemmas.{failed}
-use Rattle.cf_answer.proofs.OutsideLemmas.{Untouched, nothing_read, none_read, none_written, no_fault, no_input_fault, no_out_fault, long_text}
+use Rattle.cf_answer.proofs.OutsideLemmas.{Untouched, nothing_read, no_fault, long_text}
 use Rattle.cf_answer.proofs.PassLemmas.{unpassed}
 use Rattle.cf_answer.proofs.StepLemmas.{left_of, left_told}
 
@@ -46,87 +46,86 @@ has_name : (c : Command) (name : List ℕ) → names_of c ≡ name ∷ [] → Co
 has_name c name e = subst (λ ns. Contains ns name) (sym e) (one_contains name)
 
 -- what reading a file did
-pub record FileRead (name : List ℕ) (before after : ShelfSeen) : Type 0 where
+pub record FileRead (name : List ℕ) (before after : Outside) : Type 0 where
   pub fetched : after.fetches ≡ one_more before.fetches
   pub most : (after.left ≡ before.left) ⊎ TookFront (text_limit + 1) (before.texts name) after.left
-  pub given : after.given ≤ before.given + (text_limit + 1)
-  pub ends : after.ends ≤ before.ends + 1
 
-pub file_read : (name : List ℕ) (before after : ShelfSeen) (limit : ℕ) → limit ≡ text_limit → after.fetches ≡ one_more before.fetches →
-    (after.left ≡ before.left) ⊎ TookFront (limit + 1) (before.texts name) after.left → after.given ≤ before.given + (limit + 1) →
-    after.ends ≤ before.ends + 1 → FileRead name before after
-file_read name before after limit is asked most given ends = record { fetched = asked; most = rw is at most; given = rw is at given; ends = ends }
-
-frugal : (c : Command) (name : List ℕ) (before after : Outside) → names_of c ≡ name ∷ [] → FileRead name before.shelf after.shelf →
-    IsSparing before.streams.input after.streams.input → IsFrugal (names_of c) before after
+frugal : (c : Command) (name : List ℕ) (before after : Outside) → names_of c ≡ name ∷ [] → FileRead name before after →
+    TookFront (input_limit + 1) before.input after.input →
+    IsFrugal (names_of c) before after
 frugal c name before after e file input = record {
   fetches = rw e (omega (arith, file.fetched));
   file = elim file.most [ inl same ↦ inl same | inr took ↦ inr (name, has_name c name e, took) ];
-  given = rw e (omega (arith, file.given));
-  ends = rw e (omega (arith, file.ends));
   input = input;
 }
 
 -- a file was read, and its text answered
-pub text_does : (c : Command) (name : List ℕ) (given last : List Told) (before after : Outside) (text : List ℕ) (answer : Result (Unit {0}) Fault) →
+pub text_does : (c : Command) (name : List ℕ) (given : List Told) (before after : Outside) (text : List ℕ) (answer : Result (Unit {0}) Fault) →
     names_of c ≡ name ∷ [] →
-    AreTold (before.shelf.texts name) text → AnswersOn c given last (text ∷ []) before.streams after.streams answer → FileRead name before.shelf after.shelf →
-    ((other : List ℕ) → after.shelf.faults other ≡ before.shelf.faults other) → Does c given last before after answer
-text_does c name given last before after text answer e told h file same = record {
+    AreTold (before.texts name) text → AnswersOn c given (text ∷ []) (streams_of before) (streams_of after) answer → FileRead name before after →
+    ((other : List ℕ) → after.file_faults other ≡ before.file_faults other) → Counts (answer ≡ Err fault.Input) before.input_faults after.input_faults →
+    Counts (answer ≡ Err fault.Output) before.out_faults after.out_faults → Does c given before after answer
+text_does c name given before after text answer e told h file same input out = record {
   files = text ∷ [];
-  told = texts c name before.shelf.texts text e told;
+  told = texts c name before.texts text e told;
+  passes = h.passes;
   passed = h.passed;
   ends = h.ends;
-  blames = record { files = λ _. same; file = λ i. absurd (h.not_file i); others = λ i. absurd (h.not_file i); input = h.input; out = h.out };
-  frugal = frugal c name before after e file h.sparing;
+  blames = record { files = λ _. same; file = λ i. absurd (h.not_file i); others = λ i. absurd (h.not_file i); input = input; out = out };
+  frugal = frugal c name before after e file h.frugal;
 }
 
 -- the file failed
-pub file_does : (c : Command) (name : List ℕ) (given : List Told) (before after : Outside) → names_of c ≡ name ∷ [] →
-    FileRead name before.shelf after.shelf → Untouched before after → Rose (before.shelf.faults name) (after.shelf.faults name) →
-    ((other : List ℕ) → after.shelf.faults other ≤ one_more (before.shelf.faults other)) → Does c given given before after (Err fault.File)
+pub file_does : (c : Command) (name : List ℕ) (given : List Told) (before after : Outside) → names_of c ≡ name ∷ [] → FileRead name before after →
+    Untouched before after →
+    Rose (before.file_faults name) (after.file_faults name) → ((other : List ℕ) → after.file_faults other ≤ one_more (before.file_faults other)) →
+    Does c given before after (Err fault.File)
 file_does c name given before after e file none rose once = record {
-  files = left_of (before.shelf.texts name) ∷ [];
-  told = texts c name before.shelf.texts (left_of (before.shelf.texts name)) e (left_told (before.shelf.texts name));
+  files = left_of (before.texts name) ∷ [];
+  told = texts c name before.texts (left_of (before.texts name)) e (left_told (before.texts name));
+  passes = given;
   passed = unpassed (calls_passes c) given;
-  ends = none_written before after none;
+  ends = none.out;
   blames = record {
     files = λ n. absurd (n refl);
-    file = λ _. (name, has_name c name e, one_fault (before.shelf.faults name) (after.shelf.faults name) rose (once name));
+    file = λ _. (name, has_name c name e, one_fault (before.file_faults name) (after.file_faults name) rose (once name));
     others = λ _. once;
-    input = no_input_fault before after none (λ i. cc);
-    out = no_out_fault before after none (λ i. cc);
+    input = no_fault before.input_faults after.input_faults (λ i. cc) none.input_faults;
+    out = no_fault before.out_faults after.out_faults (λ i. cc) none.out_faults;
   };
-  frugal = frugal c name before after e file (none_read before after none);
+  frugal = frugal c name before after e file (nothing_read before.input after.input none.input);
 }
 
 -- a fault that names no object
 inner_does : (c : Command) (name : List ℕ) (given : List Told) (before after : Outside) (text : List ℕ) (f : Fault) → names_of c ≡ name ∷ [] →
-    AreTold (before.shelf.texts name) text →
-    Ends (record { command = c; files = text ∷ []; given = given; passes = given }) before.streams after.streams (Err f) →
-    FileRead name before.shelf after.shelf → Untouched before after → ((other : List ℕ) → after.shelf.faults other ≡ before.shelf.faults other) →
-    (failed f ≡ Err fault.File → ⊥) → (failed f ≡ Err fault.Input → ⊥) → (failed f ≡ Err fault.Output → ⊥) → Does c given given before after (Err f)
+    AreTold (before.texts name) text →
+    Ends (record { command = c; files = text ∷ []; given = given; passes = given }) (streams_of before) (streams_of after) (Err f) →
+    FileRead name before after →
+    Untouched before after →
+    ((other : List ℕ) → after.file_faults other ≡ before.file_faults other) → (failed f ≡ Err fault.File → ⊥) → (failed f ≡ Err fault.Input → ⊥) →
+    (failed f ≡ Err fault.Output → ⊥) → Does c given before after (Err f)
 inner_does c name given before after text f e told ends file none same not_file not_input not_out = record {
   files = text ∷ [];
-  told = texts c name before.shelf.texts text e told;
+  told = texts c name before.texts text e told;
+  passes = given;
   passed = unpassed (calls_passes c) given;
   ends = ends;
   blames = record {
     files = λ _. same;
     file = λ i. absurd (not_file i);
     others = λ i. absurd (not_file i);
-    input = no_input_fault before after none not_input;
-    out = no_out_fault before after none not_out;
+    input = no_fault before.input_faults after.input_faults not_input none.input_faults;
+    out = no_fault before.out_faults after.out_faults not_out none.out_faults;
   };
-  frugal = frugal c name before after e file (none_read before after none);
+  frugal = frugal c name before after e file (nothing_read before.input after.input none.input);
 }
 
 -- memory ran out before a text was there
-pub memory_does : (c : Command) (name : List ℕ) (given : List Told) (before after : Outside) → names_of c ≡ name ∷ [] → FileRead name before.shelf after.shelf →
+pub memory_does : (c : Command) (name : List ℕ) (given : List Told) (before after : Outside) → names_of c ≡ name ∷ [] → FileRead name before after →
     Untouched before after →
-    ((other : List ℕ) → after.shelf.faults other ≡ before.shelf.faults other) → Does c given given before after (Err fault.NoMemory)
+    ((other : List ℕ) → after.file_faults other ≡ before.file_faults other) → Does c given before after (Err fault.NoMemory)
 memory_does c name given before after e file none same =
-    inner_does c name given before after (left_of (before.shelf.texts name)) fault.NoMemory e (left_told (before.shelf.texts name)) (inr (none_written before after none)) file none same (λ i. cc)
+    inner_does c name given before after (left_of (before.texts name)) fault.NoMemory e (left_told (before.texts name)) (inr none.out) file none same (λ i. cc)
     (λ i. cc) (λ i. cc)
 
 -- a text that is too long
@@ -140,41 +139,29 @@ long_refused Exec flags name text h = too_long h
 long_refused Prove flags name text h = too_long h
 
 pub long_does : (kind : CommandKind) (flags : Flags) (name : List ℕ) (given : List Told) (before after : Outside) →
-    IfSome (before.shelf.texts name) (λ text. text_limit < length text) →
-    FileRead name before.shelf after.shelf → Untouched before after → ((other : List ℕ) → after.shelf.faults other ≡ before.shelf.faults other) →
-    Does (command_on kind flags name) given given before after (Err fault.TextTooLong)
+    IfSome (before.texts name) (λ text. text_limit < length text) →
+    FileRead name before after → Untouched before after → ((other : List ℕ) → after.file_faults other ≡ before.file_faults other) →
+    Does (command_on kind flags name) given before after (Err fault.TextTooLong)
 long_does kind flags name given before after long file none same =
-    let text = long_text (before.shelf.texts name) long in
+    let text = long_text (before.texts name) long in
     inner_does (command_on kind flags name) name given before after text.0 fault.TextTooLong (one_name kind flags name) text.1
-    (long_refused kind flags name text.0 text.2, none_written before after none) file none same
+    (long_refused kind flags name text.0 text.2, none.out) file none same
     (λ i. cc) (λ i. cc) (λ i. cc)
 
 -- a workload reads no file and no input
-pub workload_does : (n : ℕ) (given last : List Told) (before after : Outside) (answer : Result (Unit {0}) Fault) →
-    AnswersOn (gen n) given last [] before.streams after.streams answer → after.shelf ≡ before.shelf → Does (gen n) given last before after answer
-workload_does n given last before after answer h same =
-    let fetches : after.shelf.fetches ≡ before.shelf.fetches = ap (λ s. s.fetches) same in
-    let bytes : after.shelf.given ≡ before.shelf.given = ap (λ s. s.given) same in
-    let ends : after.shelf.ends ≡ before.shelf.ends = ap (λ s. s.ends) same in record {
-      files = [];
-      told = tt;
-      passed = h.passed;
-      ends = h.ends;
-      blames = record {
-        files = λ _ name. ap (λ s. s.faults name) same;
-        file = λ i. absurd (h.not_file i);
-        others = λ i. absurd (h.not_file i);
-        input = h.input;
-        out = h.out;
-      };
-      frugal = record {
-        fetches = omega (arith, fetches);
-        file = inl (ap (λ s. s.left) same);
-        given = omega (arith, bytes);
-        ends = omega (arith, ends);
-        input = h.sparing;
-      };
-    }
+pub workload_does : (n : ℕ) (given : List Told) (before after : Outside) (answer : Result (Unit {0}) Fault) →
+    AnswersOn (gen n) given [] (streams_of before) (streams_of after) answer → after.fetches ≡ before.fetches → after.left ≡ before.left →
+    ((other : List ℕ) → after.file_faults other ≡ before.file_faults other) → Counts (answer ≡ Err fault.Input) before.input_faults after.input_faults →
+    Counts (answer ≡ Err fault.Output) before.out_faults after.out_faults → Does (gen n) given before after answer
+workload_does n given before after answer h fetches left same input out = record {
+  files = [];
+  told = tt;
+  passes = h.passes;
+  passed = h.passed;
+  ends = h.ends;
+  blames = record { files = λ _. same; file = λ i. absurd (h.not_file i); others = λ i. absurd (h.not_file i); input = input; out = out };
+  frugal = record { fetches = omega (arith, fetches); file = inl left; input = h.frugal };
+}
 
 -- there are texts under these names, as far as they are told
 some_texts : (texts : List ℕ → Option (List ℕ)) (names : List (List ℕ)) → (files : List (List ℕ)) × AreTexts texts names files
@@ -186,32 +173,27 @@ some_texts texts (name ∷ names) =
 not_of_a_file : failed fault.NoMemory ≡ Err fault.File → ⊥
 not_of_a_file e = cc
 
-pub nothing_answers : (command : Option Command) (given : List Told) (before : Outside) → Answers command given given before before (Err fault.NoMemory)
-nothing_answers None given before = (inr refl, refl, refl)
+pub nothing_answers : (command : Option Command) (given : List Told) (before : Outside) → Answers command given before before (Err fault.NoMemory)
+nothing_answers None given before = (inr refl, refl)
 nothing_answers (Some c) given before =
-    let texts = some_texts before.shelf.texts (names_of c) in record {
+    let texts = some_texts before.texts (names_of c) in record {
       files = texts.0;
       told = texts.1;
+      passes = given;
       passed = unpassed (calls_passes c) given;
       ends = inr refl;
       blames = record {
         files = λ _ name. refl;
         file = λ i. absurd (not_of_a_file i);
         others = λ i. absurd (not_of_a_file i);
-        input = no_fault before.streams.input.faults before.streams.input.faults (λ i. cc) refl;
-        out = no_fault before.streams.out.faults before.streams.out.faults (λ i. cc) refl;
+        input = no_fault before.input_faults before.input_faults (λ i. cc) refl;
+        out = no_fault before.out_faults before.out_faults (λ i. cc) refl;
       };
-      frugal = record {
-        fetches = omega arith;
-        file = inl refl;
-        given = omega arith;
-        ends = omega arith;
-        input = nothing_read before.streams.input;
-      };
+      frugal = record { fetches = omega arith; file = inl refl; input = nothing_read before.input before.input refl };
     }
 
 -- a command on one file, and a workload, read no second one
-pub file_in_order : (kind : CommandKind) (flags : Flags) (name : List ℕ) (before after : ShelfSeen) (status : Status) →
+pub file_in_order : (kind : CommandKind) (flags : Flags) (name : List ℕ) (before after : Outside) (status : Status) →
     IsInOrder (command_on kind flags name) before after status
 file_in_order Compile flags name before after status = tt
 file_in_order Run flags name before after status = tt
@@ -220,6 +202,6 @@ file_in_order Check flags name before after status = tt
 file_in_order Exec flags name before after status = tt
 file_in_order Prove flags name before after status = tt
 
-pub order_of : (command : Option Command) (before after : ShelfSeen) (known status : Status) → status ≡ known →
+pub order_of : (command : Option Command) (before after : Outside) (known status : Status) → status ≡ known →
     IfSome command (λ c. IsInOrder c before after known) → IfSome command (λ c. IsInOrder c before after status)
 order_of command before after known status is h = subst (λ s. IfSome command (λ c. IsInOrder c before after s)) (sym is) h

@@ -1,3 +1,2 @@
 mod DoesLemmas
 mod VerdictLemmas
-mod ErrorExamples

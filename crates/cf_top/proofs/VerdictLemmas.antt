@@ -3,15 +3,14 @@ use Rattle.std.proofs.Common.{◌≡◌, ◌∙◌, inl, inr, sym, ap, subst, re
 use Rattle.std.specs.Prelude.{◌⊎◌, Result, Ok, Err, IfSome, IsSomeAnd, OnOk, OnErr, Contains}
 use Rattle.cf_io.specs.Causes.{Rose}
 use Rattle.cf_io.specs.Limits.{input_limit}
-use Rattle.cf_io.specs.Seen.{SinkSeen}
-use Rattle.cf_pass.specs.Passes.{Told}
 use Rattle.cf_words.specs.Commands.{Command}
 use Rattle.cf_answer.specs.Commands.{names_of, reads_input}
-use Rattle.cf_answer.specs.Ends.{Job, Reads, IsReadUp, Wrote, Ends, Does, Answers}
-use Rattle.cf_answer.specs.Outside.{Outside, Streams, AreTold, AreTexts}
+use Rattle.cf_answer.specs.Ends.{Streams, streams_of, Job, Reads, IsReadUp, Wrote, Ends, Does, Answers}
+use Rattle.cf_answer.specs.Outside.{Outside, AreTold, AreTexts}
+use Rattle.cf_answer.specs.Passes.{Told}
 use Rattle.cf_answer.specs.Refusals.{Refuses, IsAccepted}
 use Rattle.cf_answer.specs.Statuses.{fault_status, status_of}
-use Rattle.cf_top.specs.Top.{IsShort, IsLong, IsComplete, Completes, TopAnswer}
+use Rattle.cf_top.specs.Top.{Errors, IsShort, IsLong, IsComplete, Completes, TopAnswer}
 use Rattle.cf_answer.specs.declared.fault.Fault.{Fault}
 use Rattle.cf_answer.specs.declared.fault.Fault.TheVariants as fault
 use Rattle.cf_answer.specs.declared.status.Status.{Status}
@@ -69,12 +68,12 @@ wrote_accepted job before after Took front ls end w = owed_accepted job.command 
 
 settled_by : (job : Job) (before after : Streams) (status : Status) (answer : Result (Unit {0}) Fault) → Ends job before after answer →
     status ≡ status_of answer → (status ≡ File → ⊥) →
-    Settled job.command job.files before.input.left status
+    Settled job.command job.files before.input status
 settled_by job before after status (Ok done) h is nf =
-    finished (wrote_accepted job before after _ _ _ _ h.3) (read_all (reads_input job.command) before.input.left after.input.left h.0 h.3.read h.1 h.2) is
+    finished (wrote_accepted job before after _ _ _ _ h.3) (read_all (reads_input job.command) before.input after.input h.0 h.3.read h.1 h.2) is
 settled_by job before after status (Err fault.Input) h is nf = input_failed (wrote_accepted job before after _ _ _ _ h.3) is
 settled_by job before after status (Err fault.InputTooLong) h is nf =
-    overlong (wrote_accepted job before after _ _ _ _ h.2) (read_past (reads_input job.command) before.input.left after.input.left h.0 h.2.read h.1) is
+    overlong (wrote_accepted job before after _ _ _ _ h.2) (read_past (reads_input job.command) before.input after.input h.0 h.2.read h.1) is
 settled_by job before after status (Err fault.Output) h is nf = out_failed (wrote_accepted job before after _ _ _ _ h.3) is
 settled_by job before after status (Err fault.NoMemory) h is nf = no_memory is
 settled_by job before after status (Err fault.File) h is nf = absurd (nf is)
@@ -119,43 +118,43 @@ completed command files input status s =
           when_long command files input status s;
     }
 
-does_complete : (c : Command) (given last : List Told) (before after : Outside) (status : Status) (answer : Result (Unit {0}) Fault) →
-    Does c given last before after answer → status ≡ status_of answer →
-    (files : List (List ℕ)) → map before.shelf.texts (names_of c) ≡ map Some files → (status ≡ File → ⊥) → IsComplete c files before.streams.input.left status
-does_complete c given last before after status answer d is files told nf =
-    let same : d.files ≡ files = texts_same before.shelf.texts (names_of c) files d.files told d.told in
-    subst (λ v. IsComplete c v before.streams.input.left status) same
-    (completed c d.files before.streams.input.left status
-    (settled_by (record { command = c; files = d.files; given = given; passes = last }) before.streams after.streams status answer d.ends is nf))
+does_complete : (c : Command) (given : List Told) (before after : Outside) (status : Status) (answer : Result (Unit {0}) Fault) →
+    Does c given before after answer → status ≡ status_of answer →
+    (files : List (List ℕ)) → map before.texts (names_of c) ≡ map Some files → (status ≡ File → ⊥) → IsComplete c files before.input status
+does_complete c given before after status answer d is files told nf =
+    let same : d.files ≡ files = texts_same before.texts (names_of c) files d.files told d.told in
+    subst (λ v. IsComplete c v before.input status) same
+    (completed c d.files before.input status
+    (settled_by (record { command = c; files = d.files; given = given; passes = d.passes }) (streams_of before) (streams_of after) status answer d.ends is nf))
 
-pub completes : (command : Option Command) (given : List Told) (before after : Outside) (errors_before errors_after : SinkSeen) (status : Status) →
+pub completes : (command : Option Command) (given : List Told) (before after : Outside) (errors_before errors_after : Errors) (status : Status) →
     TopAnswer command given before after errors_before errors_after status → IfSome command (λ c. Completes c before status)
 completes None given before after errors_before errors_after status t = tt
-completes (Some c) given before after errors_before errors_after status t = does_complete c given t.passes before after status t.answer t.answers t.is
+completes (Some c) given before after errors_before errors_after status t = does_complete c given before after status t.answer t.answers t.is
 
 -- words that are no command are refused, or memory ran out
-pub no_command : (command : Option Command) (given last : List Told) (before after : Outside) (answer : Result (Unit {0}) Fault) (status : Status) → command ≡ None →
-    Answers command given last before after answer → status ≡ status_of answer → (status ≡ Usage) ⊎ (status ≡ NoMemory)
-no_command None given last before after answer status none h is =
+pub no_command : (command : Option Command) (given : List Told) (before after : Outside) (answer : Result (Unit {0}) Fault) (status : Status) → command ≡ None →
+    Answers command given before after answer → status ≡ status_of answer → (status ≡ Usage) ⊎ (status ≡ NoMemory)
+no_command None given before after answer status none h is =
     elim h.0 [ inl usage ↦ inl (is ∙ ap status_of usage) | inr memory ↦ inr (is ∙ ap status_of memory) ]
-no_command (Some c) given last before after answer status none h is = cc
+no_command (Some c) given before after answer status none h is = cc
 
 -- which object failed
-pub file_rose : (command : Option Command) (given last : List Told) (before after : Outside) (answer : Result (Unit {0}) Fault) →
-    Answers command given last before after answer → answer ≡ Err fault.File →
-    IsSomeAnd command (λ c. (name : List ℕ) × Contains (names_of c) name × Rose (before.shelf.faults name) (after.shelf.faults name))
-file_rose None given last before after answer h e = elim h.0 [ inl usage ↦ cc | inr memory ↦ cc ]
-file_rose (Some c) given last before after answer h e = let f = h.blames.file e in (f.0, f.1, rose_once (before.shelf.faults f.0) (after.shelf.faults f.0) f.2)
+pub file_rose : (command : Option Command) (given : List Told) (before after : Outside) (answer : Result (Unit {0}) Fault) →
+    Answers command given before after answer → answer ≡ Err fault.File →
+    IsSomeAnd command (λ c. (name : List ℕ) × Contains (names_of c) name × Rose (before.file_faults name) (after.file_faults name))
+file_rose None given before after answer h e = elim h.0 [ inl usage ↦ cc | inr memory ↦ cc ]
+file_rose (Some c) given before after answer h e = let f = h.blames.file e in (f.0, f.1, rose_once (before.file_faults f.0) (after.file_faults f.0) f.2)
 
-pub input_rose : (command : Option Command) (given last : List Told) (before after : Outside) (answer : Result (Unit {0}) Fault) →
-    Answers command given last before after answer → answer ≡ Err fault.Input → Rose before.streams.input.faults after.streams.input.faults
-input_rose None given last before after answer h e = elim h.0 [ inl usage ↦ cc | inr memory ↦ cc ]
-input_rose (Some c) given last before after answer h e = rose_once before.streams.input.faults after.streams.input.faults (h.blames.input.rose e)
+pub input_rose : (command : Option Command) (given : List Told) (before after : Outside) (answer : Result (Unit {0}) Fault) →
+    Answers command given before after answer → answer ≡ Err fault.Input → Rose before.input_faults after.input_faults
+input_rose None given before after answer h e = elim h.0 [ inl usage ↦ cc | inr memory ↦ cc ]
+input_rose (Some c) given before after answer h e = rose_once before.input_faults after.input_faults (h.blames.input.rose e)
 
-pub out_rose : (command : Option Command) (given last : List Told) (before after : Outside) (answer : Result (Unit {0}) Fault) →
-    Answers command given last before after answer → answer ≡ Err fault.Output → Rose before.streams.out.faults after.streams.out.faults
-out_rose None given last before after answer h e = elim h.0 [ inl usage ↦ cc | inr memory ↦ cc ]
-out_rose (Some c) given last before after answer h e = rose_once before.streams.out.faults after.streams.out.faults (h.blames.out.rose e)
+pub out_rose : (command : Option Command) (given : List Told) (before after : Outside) (answer : Result (Unit {0}) Fault) →
+    Answers command given before after answer → answer ≡ Err fault.Output → Rose before.out_faults after.out_faults
+out_rose None given before after answer h e = elim h.0 [ inl usage ↦ cc | inr memory ↦ cc ]
+out_rose (Some c) given before after answer h e = rose_once before.out_faults after.out_faults (h.blames.out.rose e)
 
 -- all was written, or the sink of errors failed once
 pub told_or_rose : {A B C E : Type 0} (r : Result (Unit {0}) E) → OnOk r A → OnOk r C → OnErr r B → B ⊎ (A × C)

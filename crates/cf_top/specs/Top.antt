@@ -4,12 +4,11 @@ use Rattle.std.specs.Io.KnownBytes.{Appends}
 use Rattle.cf_io.specs.Bytes.{TookPrefix}
 use Rattle.cf_io.specs.Causes.{one_more}
 use Rattle.cf_io.specs.Limits.{input_limit}
-use Rattle.cf_io.specs.Seen.{SinkSeen}
-use Rattle.cf_pass.specs.Passes.{Told}
 use Rattle.cf_words.specs.Commands.{Command}
 use Rattle.cf_answer.specs.Commands.{names_of, reads_input}
 use Rattle.cf_answer.specs.Ends.{Answers}
 use Rattle.cf_answer.specs.Outside.{Outside}
+use Rattle.cf_answer.specs.Passes.{Told}
 use Rattle.cf_answer.specs.Refusals.{Refuses, IsAccepted}
 use Rattle.cf_answer.specs.Statuses.{fault_status, status_of}
 use Rattle.cf_answer.specs.Texts.{answer_line}
@@ -17,18 +16,22 @@ use Rattle.cf_answer.specs.declared.fault.Fault.{Fault}
 use Rattle.cf_answer.specs.declared.status.Status.{Status}
 use Rattle.cf_answer.specs.declared.status.Status.TheVariants.{Done, File, Input, Output, InputLong, NoMemory}
 
+-- what a sink of errors tells, and its count of faults
+pub record Errors : Type 0 where
+  pub held : Option (List ℕ)
+  pub faults : ℕ
+
 -- it took a prefix of these bytes, and all of them unless it failed, once
-pub record IsTold (before after : SinkSeen) (text : List ℕ) : Type 0 where
+pub record IsTold (before after : Errors) (text : List ℕ) : Type 0 where
   pub prefix : TookPrefix before.held after.held text
   pub whole : (after.faults ≡ one_more before.faults) ⊎ (Appends before.held after.held text × (after.faults ≡ before.faults))
 
--- an answer to the words, with passes that told this before; what they told last, its status and its line
-pub record TopAnswer (command : Option Command) (given : List Told) (before after : Outside) (errors_before errors_after : SinkSeen) (status : Status) : Type 0
+-- an answer to the words, with passes that told this before; its status and its line
+pub record TopAnswer (command : Option Command) (given : List Told) (before after : Outside) (errors_before errors_after : Errors) (status : Status) : Type 0
   where
     pub answer : Result (Unit {0}) Fault
-    pub passes : List Told
     pub is : status ≡ status_of answer
-    pub answers : Answers command given passes before after answer
+    pub answers : Answers command given before after answer
     pub told : IsTold errors_before errors_after (answer_line answer)
 
 -- an input that is read is told, and within the limit; told, and past it
@@ -52,5 +55,4 @@ pub record IsComplete (command : Command) (files : List (List ℕ)) (input : Opt
 -- the same where the texts of its files are told and no file failed
 abbrev pub Completes : Command → Outside → Status → Type 0
 Completes command before status =
-    (files : List (List ℕ)) → map before.shelf.texts (names_of command) ≡ map Some files → (status ≡ File → ⊥) →
-    IsComplete command files before.streams.input.left status
+    (files : List (List ℕ)) → map before.texts (names_of command) ≡ map Some files → (status ≡ File → ⊥) → IsComplete command files before.input status

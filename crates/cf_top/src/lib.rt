@@ -3,5 +3,5 @@
 
 mod top;
 
-pub use cf_answer::Status;
+pub use cf_answer::status::Status;
 pub use top::comfusy;

@@ -4,4 +4,3 @@ mod Lengths
 mod OnlyLaws
 mod PlainLaws
 mod Steps
-mod LimitExamples

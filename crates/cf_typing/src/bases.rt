@@ -3,7 +3,7 @@
 ghost use Rattle.std.specs.Prelude.{◌≡◌, ◌++◌, ◌<◌, [], Some, None, length, map, drop, slice_get, OnOk};
 ghost use Rattle.cf_tree.specs.CodeView.{code_tree, code_trees, item_tree, item_trees, arm_tree, arm_trees};
 ghost use Rattle.cf_tree.specs.Typing.{one as one_of, ask, side as side_of};
-ghost use Rattle.cf_typing.specs.Bases.{then_found, after_found, single as single_of, bound as bound_of, at_least, solved, bases_of, all_have, parts_of, parts_have, items_scope, item_scope, arm_bases, arms_bases, arms_give};
+ghost use Rattle.cf_typing.specs.Bases.{then_found, after_found, single as single_of, again, bound as bound_of, divides as divides_of, at_least, as_many, placed, solved, bases_of, all_have, parts_of, parts_have, items_scope, item_scope, inner_bases, arm_bases, arms_bases, arms_give};
 ghost use Rattle.cf_typing.specs.TypingAnswers.{BasesAnswer, BaseAnswer, DoneAnswer, AskedAnswer, ScopeAnswer, Extends};
 
 use crate::fault::TargetFault;
@@ -23,10 +23,7 @@ fn infer(alloc: Global, scope: &mut Vec<Base>, code: &Code) -> Result<Vec<Base>,
     match code {
         Code::Lit(_) | Code::Truth(_) => one(alloc, own_base(code)),
         Code::Var(level) => variable(alloc, scope, *level),
-        Code::Tuple(parts) => {
-            are_at_least(2, parts)?;
-            infer_parts(alloc, scope, parts)
-        }
+        Code::Tuple(parts) => infer_tuple(alloc, scope, parts),
         Code::SetOf(parts) => infer_list(alloc, scope, parts, 0, Base::Int, Base::Set),
         Code::Min(parts) | Code::Max(parts) => {
             infer_list(alloc, scope, parts, 1, Base::Int, Base::Int)
@@ -38,8 +35,7 @@ fn infer(alloc: Global, scope: &mut Vec<Base>, code: &Code) -> Result<Vec<Base>,
             infer_last(alloc, scope, a, part_base(code), own_base(code))
         }
         Code::Div { of, k } | Code::Mod { of, k } | Code::Divides { k, of } => {
-            divides(k)?;
-            infer_last(alloc, scope, of, Base::Int, own_base(code))
+            infer_divided(alloc, scope, of, k, own_base(code))
         }
         Code::Sub(a, b)
         | Code::Mul(a, b)
@@ -67,9 +63,7 @@ fn infer(alloc: Global, scope: &mut Vec<Base>, code: &Code) -> Result<Vec<Base>,
         Code::If { test, yes, no } => {
             check_one(alloc, scope, test, Base::Bool)?;
             let bases = infer(alloc, scope, yes)?;
-            let others = infer(alloc, scope, no)?;
-            agree(&bases, &others)?;
-            Ok(bases)
+            infer_again(alloc, scope, no, bases)
         }
         Code::Let {
             first,
@@ -80,12 +74,7 @@ fn infer(alloc: Global, scope: &mut Vec<Base>, code: &Code) -> Result<Vec<Base>,
             let vars = infer_bound(alloc, scope, *first, *count, value)?;
             infer_inside(alloc, scope, &vars, body)
         }
-        Code::Solve { arms, .. } => {
-            if arms.is_empty() {
-                return Err(TargetFault::BadTarget);
-            }
-            infer_arms(alloc, scope, arms)
-        }
+        Code::Solve { arms, .. } => infer_solve(alloc, scope, arms),
     }
 }
 
@@ -101,11 +90,7 @@ pub fn check(
         × OnOk result (scope.new.items ≡ scope.old.items) }
 {
     match code {
-        Code::Tuple(parts) => {
-            are_at_least(2, parts)?;
-            are_as_many(parts, asked)?;
-            check_parts(alloc, scope, parts, asked)
-        }
+        Code::Tuple(parts) => check_tuple(alloc, scope, parts, asked),
         Code::If { test, yes, no } => {
             check_one(alloc, scope, test, Base::Bool)?;
             check(alloc, scope, yes, asked)?;
@@ -121,11 +106,23 @@ pub fn check(
             check_inside(alloc, scope, &vars, body, asked)
         }
         Code::Solve { arms, .. } => check_solve(alloc, scope, arms, asked),
-        _ => {
-            let bases = infer(alloc, scope, code)?;
-            meet(&bases, asked)
-        }
+        _ => check_found(alloc, scope, code, asked),
     }
+}
+
+// Whether the bases of a code at a place that asks none are those that are asked.
+#[cycle(infer)]
+fn check_found(
+    alloc: Global,
+    scope: &mut Vec<Base>,
+    code: &Code,
+    asked: &[Base],
+) -> Result<(), TargetFault>
+    ensures { AskedAnswer asked.now result (placed (Some asked.now) (bases_of (code_tree code.now) scope.old.items None))
+        × OnOk result (scope.new.items ≡ scope.old.items) }
+{
+    let bases = infer(alloc, scope, code)?;
+    meet(&bases, asked)
 }
 
 // Whether a code has this one base, which its place asks.
@@ -156,6 +153,23 @@ fn infer_last(
 {
     check_one(alloc, scope, part, asked)?;
     one(alloc, base)
+}
+
+// The base of a form that divides a number by `k`.
+#[cycle(infer)]
+fn infer_divided(
+    alloc: Global,
+    scope: &mut Vec<Base>,
+    part: &Code,
+    k: &i128,
+    base: Base,
+) -> Result<Vec<Base>, TargetFault>
+    ensures { BasesAnswer result (after_found (divides_of k.now)
+        (after_found (bases_of (code_tree part.now) scope.old.items (ask Base.Int)) (Some (one_of base))))
+        × OnOk result (scope.new.items ≡ scope.old.items) }
+{
+    divides(k)?;
+    infer_last(alloc, scope, part, Base::Int, base)
 }
 
 // The base of a form that has at least so many parts, each asked for one base.
@@ -195,6 +209,21 @@ fn check_all(
     Ok(())
 }
 
+// The bases of a tuple at a place that asks none.
+#[cycle(infer)]
+fn infer_tuple(
+    alloc: Global,
+    scope: &mut Vec<Base>,
+    // for the proof: behind a call that may end early, the measure of a slice would stay open
+    parts: &Vec<Code>,
+) -> Result<Vec<Base>, TargetFault>
+    ensures { BasesAnswer result (after_found (at_least 2 (code_trees parts.now.items)) (parts_of (code_trees parts.now.items) scope.old.items []))
+        × OnOk result (scope.new.items ≡ scope.old.items) }
+{
+    are_at_least(2, parts)?;
+    infer_parts(alloc, scope, parts)
+}
+
 // The bases of parts, one each.
 #[cycle(infer)]
 fn infer_parts(
@@ -221,6 +250,27 @@ fn infer_one(alloc: Global, scope: &mut Vec<Base>, code: &Code) -> Result<Base, 
 {
     let bases = infer(alloc, scope, code)?;
     single(&bases)
+}
+
+// Whether a tuple has the bases that its place asks.
+#[cycle(infer)]
+fn check_tuple(
+    alloc: Global,
+    scope: &mut Vec<Base>,
+    // for the proof: behind a call that may end early, the measure of a slice would stay open
+    parts: &Vec<Code>,
+    asked: &[Base],
+) -> Result<(), TargetFault>
+    ensures { AskedAnswer asked.now result
+        (after_found (at_least 2 (code_trees parts.now.items))
+        (after_found (as_many (code_trees parts.now.items) asked.now)
+        (after_found (parts_have (code_trees parts.now.items) scope.old.items asked.now) (Some asked.now))))
+        × OnOk result (scope.new.items ≡ scope.old.items) }
+{
+    are_at_least(2, parts)?;
+    are_as_many(parts, asked)?;
+    check_parts(alloc, scope, parts, asked)?;
+    Ok(())
 }
 
 // Whether parts have these bases, one each.
@@ -259,6 +309,22 @@ fn infer_side(
             Ok(Base::Int)
         }
     }
+}
+
+// These bases, where a code has them too at a place that asks none.
+#[cycle(infer)]
+fn infer_again(
+    alloc: Global,
+    scope: &mut Vec<Base>,
+    code: &Code,
+    bases: Vec<Base>,
+) -> Result<Vec<Base>, TargetFault>
+    ensures { BasesAnswer result (after_found (again bases.items (bases_of (code_tree code.now) scope.old.items None)) (Some bases.items))
+        × OnOk result (scope.new.items ≡ scope.old.items) }
+{
+    let others = infer(alloc, scope, code)?;
+    agree(&bases, &others)?;
+    Ok(bases)
 }
 
 // The bases of the value of a `let` that binds so many variables from this level on.
@@ -314,6 +380,23 @@ fn check_inside(
     Ok(())
 }
 
+// The bases of a `solve` at a place that asks none.
+#[cycle(infer)]
+fn infer_solve(
+    alloc: Global,
+    scope: &mut Vec<Base>,
+    // for the proof: behind a call that may end early, the measure of a slice would stay open
+    arms: &Vec<Arm>,
+) -> Result<Vec<Base>, TargetFault>
+    ensures { BasesAnswer result (solved (arm_trees arms.now.items) None (arms_bases (arm_trees arms.now.items) scope.old.items))
+        × OnOk result (scope.new.items ≡ scope.old.items) }
+{
+    if arms.is_empty() {
+        return Err(TargetFault::BadTarget);
+    }
+    infer_arms(alloc, scope, arms)
+}
+
 // Whether a `solve` has the bases that its place asks. Without arms it has them.
 #[cycle(infer)]
 fn check_solve(
@@ -358,10 +441,24 @@ fn check_others(
         × OnOk result (scope.new.items ≡ scope.old.items) }
 {
     for i in 1..arms.len() {
-        let others = infer_arm(alloc, scope, &arms[i])?;
-        agree(bases, &others)?;
+        check_arm(alloc, scope, &arms[i], bases)?;
     }
     Ok(())
+}
+
+// Whether an arm gives these bases.
+#[cycle(infer)]
+fn check_arm(
+    alloc: Global,
+    scope: &mut Vec<Base>,
+    arm: &Arm,
+    bases: &[Base],
+) -> Result<(), TargetFault>
+    ensures { DoneAnswer result (again bases.now (arm_bases (arm_tree arm.now) scope.old.items))
+        × OnOk result (scope.new.items ≡ scope.old.items) }
+{
+    let others = infer_arm(alloc, scope, arm)?;
+    agree(bases, &others)
 }
 
 // The bases that an arm gives.
@@ -372,10 +469,19 @@ fn infer_arm(alloc: Global, scope: &mut Vec<Base>, arm: &Arm) -> Result<Vec<Base
 {
     let size = scope.len();
     push_searches(scope, arm)?;
-    check_items(alloc, scope, &arm.items)?;
-    let bases = infer_parts(alloc, scope, &arm.gives)?;
+    let bases = infer_gives(alloc, scope, arm)?;
     scope.truncate(size);
     Ok(bases)
+}
+
+// The bases that an arm gives where its searches are in scope. Its lets stay in scope.
+#[cycle(infer)]
+fn infer_gives(alloc: Global, scope: &mut Vec<Base>, arm: &Arm) -> Result<Vec<Base>, TargetFault>
+    ensures { BasesAnswer result (inner_bases (arm_tree arm.now) scope.old.items)
+        × OnOk result (Extends scope.old.items scope.new.items) }
+{
+    check_items(alloc, scope, &arm.items)?;
+    infer_parts(alloc, scope, &arm.gives)
 }
 
 // Whether the items of an arm are well typed. Their lets come into scope.

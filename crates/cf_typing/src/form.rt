@@ -2,16 +2,13 @@
 //! whether a solve stands inside an arm.
 ghost use Rattle.std.specs.Prelude.{◌≡◌, ◌++◌, Some, length, map, slice_get, OnOk, IfErr};
 ghost use Rattle.cf_tree.specs.declared.base.Base.TheVariants.{Int};
-ghost use Rattle.cf_tree.specs.CodeView.{code_tree, code_trees, item_trees, arm_tree};
+ghost use Rattle.cf_tree.specs.CodeView.{code_tree, code_trees, item_tree, item_trees, arm_tree};
 ghost use Rattle.cf_tree.specs.Typing.{one as one_of};
-ghost use Rattle.cf_typing.specs.Bases.{alone, single as single_of, placed, where_true as where_true_of, done, compared as compared_of, again, bound as bound_of, at_least, as_many, divides as divides_of, are_bounds as are_bounds_of, own_base as own_base_of, part_base as part_base_of, has_no_solve as has_no_solve_of, have_no_solve as have_no_solve_of, items_have_no_solve as items_have_no_solve_of, is_plain as is_plain_of, plain, searches};
+ghost use Rattle.cf_typing.specs.Bases.{alone, single as single_of, placed, where_true as where_true_of, done, compared as compared_of, again, bound as bound_of, at_least, as_many, divides as divides_of, are_bounds as are_bounds_of, own_base as own_base_of, part_base as part_base_of, has_no_solve as has_no_solve_of, have_no_solve as have_no_solve_of, item_has_no_solve as item_has_no_solve_of, items_have_no_solve as items_have_no_solve_of, is_plain as is_plain_of, plain, searches};
 ghost use Rattle.cf_typing.specs.TypingAnswers.{BaseAnswer, BasesAnswer, DoneAnswer, AskedAnswer};
 
 use crate::fault::TargetFault;
-use cf_tree::{
-    Arm, Base, Code, Item, code_leaf, code_over_list, code_over_one, code_over_three,
-    code_over_two, same_base, same_bases,
-};
+use cf_tree::{Arm, Base, Code, Item, same_base, same_bases};
 use std::alloc::Global;
 
 // The most tuples that may lie below the bounds of an arm.
@@ -205,14 +202,20 @@ fn items_have_no_solve(items: &[Item]) -> bool
     ensures { result ≡ items_have_no_solve_of (item_trees items.now) }
 {
     for item in items {
-        let code = match item {
-            Item::Let(code) | Item::Need(code) => code,
-        };
-        if !has_no_solve(code) {
+        if !item_has_no_solve(item) {
             return false;
         }
     }
     true
+}
+
+fn item_has_no_solve(item: &Item) -> bool
+    ensures { result ≡ item_has_no_solve_of (item_tree item.now) }
+{
+    match item {
+        Item::Let(code) => has_no_solve(code),
+        Item::Need(code) => has_no_solve(code),
+    }
 }
 
 #[cycle(has_no_solve)]
@@ -220,11 +223,47 @@ fn has_no_solve(code: &Code) -> bool
     ensures { result ≡ has_no_solve_of (code_tree code.now) }
 {
     match code {
-        code_leaf!() => true,
-        code_over_list!(parts) => have_no_solve(parts),
-        code_over_one!(a) => has_no_solve(a),
-        code_over_two!(a, b) => has_no_solve(a) && has_no_solve(b),
-        code_over_three!(a, b, c) => has_no_solve(a) && has_no_solve(b) && has_no_solve(c),
+        Code::Lit(_) | Code::Truth(_) | Code::Var(_) => true,
+        Code::SetOf(parts)
+        | Code::Tuple(parts)
+        | Code::Sum(parts)
+        | Code::Min(parts)
+        | Code::Max(parts)
+        | Code::Union(parts)
+        | Code::Inter(parts) => have_no_solve(parts),
+        Code::Neg(a)
+        | Code::Not(a)
+        | Code::Card(a)
+        | Code::Div { of: a, .. }
+        | Code::Mod { of: a, .. }
+        | Code::Divides { of: a, .. } => has_no_solve(a),
+        Code::Sub(a, b)
+        | Code::Mul(a, b)
+        | Code::And(a, b)
+        | Code::Or(a, b)
+        | Code::Diff(a, b)
+        | Code::Subset(a, b)
+        | Code::Compare {
+            left: a,
+            right: b,
+            ..
+        }
+        | Code::Fresh { avoid: a, n: b }
+        | Code::Let {
+            value: a,
+            body: b,
+            ..
+        } => has_no_solve(a) && has_no_solve(b),
+        Code::Slice {
+            set: a,
+            from: b,
+            n: c,
+        }
+        | Code::If {
+            test: a,
+            yes: b,
+            no: c,
+        } => has_no_solve(a) && has_no_solve(b) && has_no_solve(c),
         Code::Solve { .. } => false,
     }
 }

@@ -12,8 +12,7 @@ use Rattle.cf_linear.specs.Layout.{Layout, layout_of, set_count, known_count, fi
 use Rattle.cf_linear.specs.Systems.{System, Sat}
 use Rattle.cf_linear.specs.Rows.{Values}
 use Rattle.cf_linear.specs.Solved.{SameKnown}
-use Rattle.cf_cases.specs.Holding.{EachOf, SomeOf, AreCounts, IsPlacedRel}
-use Rattle.cf_cases.proofs.WholeCases.{CaseFits}
+use Rattle.cf_cases.specs.Holding.{EachOf, SomeOf, AreCounts, CaseFits, IsPlacedRel}
 use Rattle.cf_cases.proofs.AgreeLaws.{system_from_holds, holds_from_system}
 use Rattle.cf_cases.proofs.HeldLaws.{held_where}
 use Rattle.cf_cases.proofs.FormedLaws.{In-range, range-In}

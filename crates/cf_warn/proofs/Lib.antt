@@ -25,4 +25,3 @@ pub mod MatchClasses
 pub mod Examples
 pub mod MissingExamples
 pub mod ClassExamples
-mod LimitExamples

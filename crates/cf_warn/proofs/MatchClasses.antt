@@ -15,8 +15,7 @@ use Rattle.cf_tree.specs.Numbers.{quotient}
 use Rattle.cf_cases.proofs.GuardLaws.{rows_from_quotient}
 use Rattle.cf_program.specs.Lowered.{divisor}
 use Rattle.cf_tree.specs.Params.{bases_of}
-use Rattle.cf_program.specs.TypedProgram.{HasArms, AreSides, Takes}
-use Rattle.cf_program.proofs.PlainTypes.{ExprHasBases, AllHave, PartsHave, ArmsHave, AreTypedDefs}
+use Rattle.cf_program.specs.TypedProgram.{ExprHasBases, AllHave, PartsHave, ArmsHave, HasArms, AreSides, Takes, AreTypedDefs}
 use Rattle.cf_program.specs.Walk.{side_of}
 use Rattle.cf_match.specs.Classes.{class_by, class_of}
 use Rattle.cf_match.specs.Matches.{MatchTree, classes_of, numbers_of, matches, matches_all, matches_arms, all_matches}

@@ -5,17 +5,11 @@ use cf_io::{FileShelf, ReadSource, WriteSink};
 use cf_pass::{DropArms, DropLets, DropNeeds, Fold, Pass};
 use cf_top::{Status, comfusy};
 use cf_tree::NoMemory;
+use std::env;
 use std::io::ErrorKind;
 use std::process::ExitCode;
-use std::{env, fs};
-
-/// A file that is empty.
-const EMPTY: &str = "/dev/null";
 
 fn main(rt: HostRuntime) -> ExitCode {
-    // A standard input that is closed leaves its descriptor to the next file that is opened: to this one,
-    // so that the text of a file is never read as the input.
-    let _stand_in = fs::open(&rt, EMPTY);
     let status = match call(&rt) {
         Ok(status) => status,
         Err(NoMemory) => Status::NoMemory,

@@ -6,11 +6,10 @@ abbrev pub invariant-pieces : goal.invariant-pieces
 invariant-pieces g l = record {
   within : l.total ≤ l.limit + 1;
   fed : l.cutter.total ≡ l.total;
-  read : IsReadTo (answerer_of l.answerer) (g.I.Source.seen l.fn.input).left (g.I.Source.seen l.input).left l.cutter (g.O.Sink.seen l.fn.out).held (g.O.Sink.seen l.out).held l.total;
-  inputs : (g.I.Source.seen l.input).faults ≡ (g.I.Source.seen l.fn.input).faults;
-  outs : (g.O.Sink.seen l.out).faults ≡ (g.O.Sink.seen l.fn.out).faults;
-  given : (g.I.Source.seen l.input).given ≤ (g.I.Source.seen l.fn.input).given + l.total;
-  ends : (g.I.Source.seen l.input).ends ≡ (g.I.Source.seen l.fn.input).ends;
+  read : IsReadTo (answerer_of l.answerer) (g.I.Source.left l.fn.input) (g.I.Source.left l.input) l.cutter (g.O.Sink.held l.fn.out) (g.O.Sink.held l.out)
+      l.total;
+  inputs : g.I.Source.faults l.input ≡ g.I.Source.faults l.fn.input;
+  outs : g.O.Sink.faults l.out ≡ g.O.Sink.faults l.fn.out;
 }
 
 abbrev pub decreases-pieces : goal.decreases-pieces

@@ -5,9 +5,9 @@ use Rattle.cf_answer.proofs.RunLemmas.{late_runs_on, late_broken}
 use Rattle.cf_answer.proofs.source.late_runner.Goals as goal
 
 pub returns-in-Ok : goal.returns-in-Ok
-returns-in-Ok c = λ text p s plain calls given.
-    late_runs_on text (program_tree c.args.program.now) (typed_tree c.in-Ok.late) p calls given s c.requires plain c.in-Ok.ensures.gives
+returns-in-Ok c = λ text p s plain passes given.
+    late_runs_on text (program_tree c.args.program.now) (typed_tree c.in-Ok.late) p passes given s c.requires plain c.in-Ok.ensures.gives
 
 pub returns-in-Err : goal.returns-in-Err
-returns-in-Err c = λ text p s plain calls given.
+returns-in-Err c = λ text p s plain passes given.
     inl (late_broken text (program_tree c.args.program.now) p c.in-Err.fault (search rules) plain c.in-Err.ensures.gives s)

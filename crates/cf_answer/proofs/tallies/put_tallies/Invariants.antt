@@ -6,4 +6,8 @@ abbrev pub invariant-loop-pass : goal.invariant-loop-pass
 invariant-loop-pass g l =
     l.text.items
     ≡ l.fn.text.items
-    ++ flat_map tally_line (map (λ b. (goal.Pass-dyn g (b.vtable, b.value)).told b.value) (take l.pass-index l.passes))
+    ++ flat_map tally_line (map (λ b. record {
+      name = (goal.Pass-dyn g (b.vtable, b.value)).name b.value;
+      tally =
+          (goal.Pass-dyn g (b.vtable, b.value)).tally b.value;
+    }) (take l.pass-index l.passes))

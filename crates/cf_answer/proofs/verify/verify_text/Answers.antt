@@ -1,4 +1,4 @@
-use Rattle.std.proofs.Common.{◌∙◌, [], inl, inr, refl, sym, append-nil}
+use Rattle.std.proofs.Common.{◌∙◌, [], inl, refl, sym, append-nil}
 use Rattle.cf_answer.proofs.AnswerLemmas.{stopped_answers, written_answers}
 use Rattle.cf_answer.proofs.VerifyLemmas.{steps_refused, blocks_refused, verified_owes}
 use Rattle.cf_answer.proofs.verify.verify_text.Goals as goal
@@ -13,10 +13,7 @@ returns-in-Ok-verified_lines-clause-answers g c =
     λ file steps given input source asks. written_answers _ given given _ _ _ input _ _ _ refl refl
     (verified_owes file steps source c.args.text.now given given [] _ _ _ asks c.in-Ok.ensures
     (rw c.in-Ok-Yes.field-0-is at c.in-Ok-Yes.ensures.verdict) c.in-Ok-verified_lines.ensures)
-    (c.deref.ensures.value ∙ sym (append-nil _)) c.write_text.ensures.all c.write_text.ensures.prefix c.write_text.ensures.fault c.write_text.ensures.count
-
-pub returns-in-Ok-Yes-clause-answers : goal.returns-in-Ok-Yes-clause-answers
-returns-in-Ok-Yes-clause-answers g c = λ file steps given input source asks. stopped_answers _ given given _ _ _ refl (inr refl)
+    (c.deref.ensures.value ∙ sym (append-nil _)) c.write_text.ensures.all c.write_text.ensures.prefix c.write_text.ensures.fault
 
 pub returns-in-Ok-Rejected-clause-answers : goal.returns-in-Ok-Rejected-clause-answers
 returns-in-Ok-Rejected-clause-answers g c =

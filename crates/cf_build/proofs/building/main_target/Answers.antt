@@ -3,7 +3,7 @@ use Rattle.std.proofs.lemmas.Result.{IfOk-weaker}
 use Rattle.cf_tree.specs.CodeView.{code_tree}
 use Rattle.cf_tree.specs.DefView.{def_tree}
 use Rattle.cf_build.specs.Codes.{called, choose_code, codes_behind, solved_in}
-use Rattle.cf_build.proofs.BuiltLaws.{main_below, target_built}
+use Rattle.cf_build.proofs.Building.{main_below, target_built}
 use Rattle.cf_build.proofs.building.main_target.Goals as goal
 
 pub bounds-defs-main : goal.bounds-defs-main

@@ -1,7 +1,7 @@
 use Rattle.std.proofs.Common.{◌≡◌, map, subst}
 use Rattle.cf_tree.specs.DefView.{def_tree}
 use Rattle.cf_build.specs.Solves.{question_of, questions_of}
-use Rattle.cf_build.proofs.BuiltLaws.{in_order, in_order_asked, in_order_rises}
+use Rattle.cf_build.proofs.Building.{in_order, in_order_asked, in_order_rises}
 use Rattle.cf_build.proofs.chooses.numbered.Goals as goal
 
 pub returns-clause-questions : goal.returns-clause-questions

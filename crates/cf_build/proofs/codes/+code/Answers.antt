@@ -37,7 +37,7 @@ callee-returns-in_ok-arity-in-Some t c =
     let code_is = callee_code c.args.around.now.before.now c.args.number c.in-Some.def.now found.3.0 found.1 solves in
     IfOk-weaker c.code.result _ _
     (λ code h. (
-      h.0 ∙ rw (c.in_ok-add_u32-in-Some.ensures, c.in_ok-arity-in-Some.ensures) (ap (λ k. shifted (c.args.around.now.by + c.args.n) k) (sym code_is)),
+      h.0 ∙ rw (c.in_ok-level_sum-in-Some.ensures, c.in_ok-arity-in-Some.ensures) (ap (λ k. shifted (c.args.around.now.by + c.args.n) k) (sym code_is)),
       h.1,
     ))
     c.code.ensures
@@ -80,6 +80,6 @@ code-returns-in_ok-callee-in-Call t c =
     c.in_ok-all-in-Call.ensures.0 ∙ ap (λ xs. codes_among solves before by c.args.n (expr_trees xs)) c.deref-in-Call.ensures.value in
     both_hold c.call.result (λ code. code_tree code ≡ code_among solves before by c.args.n (expr_tree c.args.expr.now)) (λ code. HasLevels (code_tree code))
     (IfOk-weaker c.call.result _ _
-    (λ code h. call_among solves before by c.args.n c.in-Call.def c.in_ok-add_u32-in-Call.field-0 (expr_trees es) _ _ _ (code_tree code) tree
-    c.in_ok-add_u32-in-Call.ensures args c.in_ok-callee-in-Call.ensures.0 h)
+    (λ code h. call_among solves before by c.args.n c.in-Call.def c.in_ok-level_sum-in-Call.field-0 (expr_trees es) _ _ _ (code_tree code) tree
+    c.in_ok-level_sum-in-Call.ensures args c.in_ok-callee-in-Call.ensures.0 h)
     c.call.ensures.code) c.call.ensures.levels

@@ -22,6 +22,4 @@ pieces-preserved g c =
       texts = search rules;
       same = search rules;
       asked = search rules;
-      given = grind (arith, common_steps);
-      ends = search rules;
     }

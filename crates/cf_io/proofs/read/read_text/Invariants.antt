@@ -6,13 +6,11 @@ use Rattle.cf_io.proofs.read.read_text.Given as goal
 abbrev pub invariant-pieces : goal.invariant-pieces
 invariant-pieces g l = record {
   within : vec_len l.bytes ≤ l.limit + 1;
-  read : Consumes ((g.F.Shelf.seen l.fn.shelf).texts l.name) (g.F.Shelf.seen l.shelf).left l.bytes.items;
+  read : Consumes (g.F.Shelf.text l.fn.shelf l.name) (g.F.Shelf.left l.shelf) l.bytes.items;
   turned : g.F.Shelf.turned l.shelf l.name;
-  texts : (other : List ℕ) → (g.F.Shelf.seen l.shelf).texts other ≡ (g.F.Shelf.seen l.fn.shelf).texts other;
-  same : (other : List ℕ) → (g.F.Shelf.seen l.shelf).faults other ≡ (g.F.Shelf.seen l.fn.shelf).faults other;
-  asked : (g.F.Shelf.seen l.shelf).fetches ≡ one_more (g.F.Shelf.seen l.fn.shelf).fetches;
-  given : (g.F.Shelf.seen l.shelf).given ≤ (g.F.Shelf.seen l.fn.shelf).given + vec_len l.bytes;
-  ends : (g.F.Shelf.seen l.shelf).ends ≡ (g.F.Shelf.seen l.fn.shelf).ends;
+  texts : (other : List ℕ) → g.F.Shelf.text l.shelf other ≡ g.F.Shelf.text l.fn.shelf other;
+  same : (other : List ℕ) → g.F.Shelf.faults l.shelf other ≡ g.F.Shelf.faults l.fn.shelf other;
+  asked : g.F.Shelf.fetches l.shelf ≡ one_more (g.F.Shelf.fetches l.fn.shelf);
 }
 
 abbrev pub decreases-pieces : goal.decreases-pieces

@@ -5,7 +5,7 @@ use Rattle.cf_program.specs.Lowered.{lowered_def}
 use Rattle.cf_program.specs.NoMatch.{HasNoMatch}
 use Rattle.cf_program.specs.TypedProgram.{IsTypedProgram}
 use Rattle.cf_match.specs.Laws.{AllowTheSame}
-use Rattle.cf_match.proofs.KeptLaws.{stays_typed, same_outcomes, no_match_left}
+use Rattle.cf_match.proofs.Lowering.{stays_typed, same_outcomes, no_match_left}
 use Rattle.cf_match.proofs.lowered.lower_typed.Goals as goal
 
 pub new-requires : goal.new-requires

@@ -1,4 +1,4 @@
-use Rattle.cf_match.proofs.KeptLaws.{same_matches}
+use Rattle.cf_match.proofs.Lowering.{same_matches}
 use Rattle.cf_match.proofs.lowered.numbered.Goals as goal
 
 pub returns-clause-matches : goal.returns-clause-matches

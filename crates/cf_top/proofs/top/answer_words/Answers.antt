@@ -5,10 +5,12 @@ use Rattle.cf_top.proofs.top.answer_words.Goals as goal
 pub returns-in-Ok-Gen-clause-answers : goal.returns-in-Ok-Gen-clause-answers
 returns-in-Ok-Gen-clause-answers g c =
     rw (rw c.in-Ok-Gen.field-0-is at c.in-Ok-Gen.ensures.answer)
-    (workload_does _ _ _ _ _ _ (c.write_workload.ensures.answers (g.I.Source.seen c.args.input.now)) refl)
+    (workload_does _ _ _ _ _ (c.write_workload.ensures.answers (g.I.Source.left c.args.input.now)) refl refl (λ other. refl)
+    (record { same = λ n. refl; rose = λ e. absurd (c.write_workload.ensures.input e) })
+    (record { same = c.write_workload.ensures.output_same; rose = c.write_workload.ensures.output }))
 
 pub returns-in-Ok-Gen-clause-usage : goal.returns-in-Ok-Gen-clause-usage
-returns-in-Ok-Gen-clause-usage g c = λ e. absurd ((c.write_workload.ensures.answers (g.I.Source.seen c.args.input.now)).not_usage e)
+returns-in-Ok-Gen-clause-usage g c = λ e. absurd ((c.write_workload.ensures.answers (g.I.Source.left c.args.input.now)).not_usage e)
 
 pub returns-in-Err-NoMemory-clause-answers : goal.returns-in-Err-NoMemory-clause-answers
 returns-in-Err-NoMemory-clause-answers g c = nothing_answers _ _ _
@@ -21,12 +23,12 @@ returns-in-Ok-OnFile-clause-unfetched g c =
 pub returns-in-Ok-Verify-clause-answers : goal.returns-in-Ok-Verify-clause-answers
 returns-in-Ok-Verify-clause-answers g c =
     rw (rw c.in-Ok-Verify.field-0-is at c.in-Ok-Verify.ensures.answer)
-    (c.verify_files.ensures.does _ (g.I.Source.seen c.args.input.now))
+    (c.verify_files.ensures.does _ (g.I.Source.left c.args.input.now) (g.I.Source.faults c.args.input.now))
 
 pub returns-in-Ok-Verify-clause-order : goal.returns-in-Ok-Verify-clause-order
 returns-in-Ok-Verify-clause-order g c =
     rw (rw c.in-Ok-Verify.field-0-is at c.in-Ok-Verify.ensures.answer)
-    c.verify_files.ensures.order
+    (c.verify_files.ensures.order (g.I.Source.left c.args.input.now) (g.I.Source.faults c.args.input.now))
 
 pub returns-in-Ok-OnFile-clause-order : goal.returns-in-Ok-OnFile-clause-order
 returns-in-Ok-OnFile-clause-order g c =

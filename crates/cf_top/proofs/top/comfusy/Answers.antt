@@ -8,7 +8,6 @@ use Rattle.cf_top.proofs.top.comfusy.Goals as goal
 pub returns-clause-tells : goal.returns-clause-tells
 returns-clause-tells g c = record {
   answer = c.answer_words-answer.result;
-  passes = _;
   is = c.status_of.ensures;
   answers = c.answer_words-answer.ensures.answers;
   told = record { prefix = c.tell.ensures.prefix; whole = told_or_rose _ c.tell.ensures.all c.tell.ensures.same c.tell.ensures.failed };
@@ -18,19 +17,19 @@ pub returns-clause-usage : goal.returns-clause-usage
 returns-clause-usage g c = λ e. c.answer_words-answer.ensures.usage (is_usage _ (sym c.status_of.ensures ∙ e))
 
 pub returns-clause-no_command : goal.returns-clause-no_command
-returns-clause-no_command g c = λ none. no_command _ _ _ _ _ _ _ none c.answer_words-answer.ensures.answers c.status_of.ensures
+returns-clause-no_command g c = λ none. no_command _ _ _ _ _ _ none c.answer_words-answer.ensures.answers c.status_of.ensures
 
 pub returns-clause-untouched : goal.returns-clause-untouched
 returns-clause-untouched g c = c.answer_words-answer.ensures.untouched
 
 pub returns-clause-file : goal.returns-clause-file
-returns-clause-file g c = λ e. file_rose _ _ _ _ _ _ c.answer_words-answer.ensures.answers (is_file _ (sym c.status_of.ensures ∙ e))
+returns-clause-file g c = λ e. file_rose _ _ _ _ _ c.answer_words-answer.ensures.answers (is_file _ (sym c.status_of.ensures ∙ e))
 
 pub returns-clause-input : goal.returns-clause-input
-returns-clause-input g c = λ e. input_rose _ _ _ _ _ _ c.answer_words-answer.ensures.answers (is_input _ (sym c.status_of.ensures ∙ e))
+returns-clause-input g c = λ e. input_rose _ _ _ _ _ c.answer_words-answer.ensures.answers (is_input _ (sym c.status_of.ensures ∙ e))
 
 pub returns-clause-output : goal.returns-clause-output
-returns-clause-output g c = λ e. out_rose _ _ _ _ _ _ c.answer_words-answer.ensures.answers (is_output _ (sym c.status_of.ensures ∙ e))
+returns-clause-output g c = λ e. out_rose _ _ _ _ _ c.answer_words-answer.ensures.answers (is_output _ (sym c.status_of.ensures ∙ e))
 
 pub returns-clause-complete : goal.returns-clause-complete
 returns-clause-complete g c = completes _ _ _ _ _ _ _ (returns-clause-tells g c)

@@ -1,0 +1,5 @@
+use Rattle.std.proofs.lemmas.Result.{on_ok_weaker}
+use Rattle.cf_answer.proofs.checks.check_existence.Goals as goal
+
+pub returns : goal.returns
+returns c = on_ok_weaker c.put_existence_line.result (λ h. (c.in_ok-answer.answer, c.in_ok-answer.ensures, h)) c.put_existence_line.ensures

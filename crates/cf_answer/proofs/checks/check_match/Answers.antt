@@ -1,0 +1,9 @@
+use Rattle.std.proofs.Common.{map}
+use Rattle.cf_match.specs.Matches.{match_tree}
+use Rattle.cf_answer.proofs.CheckLemmas.{match_checked}
+use Rattle.cf_answer.proofs.checks.check_match.Goals as goal
+
+pub returns : goal.returns
+returns c =
+    match_checked (map match_tree c.args.matches.now.infos.now) c.args.choose.now _ _ c.args.info.now c.requires.among c.requires.number
+    c.in_ok-check_cover.ensures
