@@ -1,6 +1,6 @@
 -- The rows of a case, written one atom after the other.
 use Rattle.std.proofs.Common.{◌≡◌, ℤ, pos, negsuc, Option, ℕ, zero, suc, ◌+◌, ◌-◌, ◌/◌, ◌<◌, ◌≤◌, Bool, true, false, ◌||◌, List, [], ◌∷◌, ◌++◌, length}
-use Rattle.std.proofs.Common.{get_or, Result, Ok, Err, refl, sym, subst, ◌∙◌, ap, arith}
+use Rattle.std.proofs.Common.{get_or, Result, Err, refl, sym, subst, ◌∙◌, ap, arith}
 use Rattle.std.specs.List.{list_any, range_with_len}
 use Rattle.std.proofs.lemmas.List.Sums.{fold-append}
 use Rattle.cf_tree.specs.declared.base.Order.{Order}
@@ -12,7 +12,7 @@ use Rattle.cf_linear.specs.Rows.{Row, comb, row_passes}
 use Rattle.cf_linear.specs.Parts.{IsRowFault}
 use Rattle.cf_linear.specs.Systems.{System}
 use Rattle.cf_linear.specs.Layout.{Layout, first_free}
-use Rattle.cf_linear.specs.Written.{product_by, sign_guard, quotient_guard, WrittenTree, plus, above_quotient, below_quotient, first_sign, signed_by, write}
+use Rattle.cf_linear.specs.Written.{GuardTree, product_by, sign_guard, quotient_guard, WrittenTree, plus, above_quotient, below_quotient, first_sign, signed_by, write}
 use Rattle.cf_linear.specs.Written.{IsPlaced, abs_count}
 use Rattle.cf_linear.specs.Cases.{atom_compare, Normal, normal_atom, Signed, disjuncts, case_count, no_rows, case_rows, system_of_case, AtomRows}
 use Rattle.cf_linear.specs.Cases.{compare_zero, compare_nonneg, write_atom, rows_then}
@@ -22,7 +22,7 @@ use Rattle.cf_cases.specs.declared.system_builder.SystemBuilder.{SystemBuilder}
 use Rattle.cf_cases.specs.Counts.{order_ways}
 use Rattle.cf_cases.specs.Holding.{EachOf}
 use Rattle.cf_cases.specs.Picking.{signs_at, case_by, way_at, joined, part_by}
-use Rattle.cf_cases.specs.SystemBuilders.{rows_of, with_case, IsFine, with_comparison, BuilderAnswer, first_system}
+use Rattle.cf_cases.specs.SystemBuilders.{rows_of, with_case, written_as, IsFine, with_comparison, BuilderAnswer, first_system}
 use Rattle.cf_cases.proofs.PickLaws.{case-by}
 use Rattle.cf_cases.proofs.PartLaws.{compare_by}
 use Rattle.cf_cases.proofs.Quantifiers.{each-append}
@@ -45,14 +45,14 @@ with_more : (l : Layout) (t : TermTree) (xs ys : List Bool) (q : ℕ) → length
 with_more l t xs ys q e = write-more l t xs ys q (omega arith) ∙ rw (none_left l t xs q e) refl
 
 -- the rows of a comparison after the written form of its left side
-pub comparison_is : (l : Layout) (a : AtomRows) (o : Order) (s t : TermTree) (xs ys : List Bool) → length xs ≡ abs_count s → a.passes ≡ false →
+comparison_is : (l : Layout) (a : AtomRows) (o : Order) (s t : TermTree) (xs ys : List Bool) → length xs ≡ abs_count s → a.passes ≡ false →
     (write l s xs a.next).passes ≡ false →
     with_comparison a o (write l s xs a.next).row (write l s xs a.next).guards (write l t ys (write l s xs a.next).next) ≡ rows_then l a
     (atom_compare o s t, xs ++ ys)
 unfolding write_atom
 comparison_is l a o s t xs ys n e h = rw (with_more l s xs ys a.next n, e, h) refl
 
-pub left_past : (l : Layout) (a : AtomRows) (o : Order) (s t : TermTree) (xs ys : List Bool) (e : RowFault) → length xs ≡ abs_count s →
+left_past : (l : Layout) (a : AtomRows) (o : Order) (s t : TermTree) (xs ys : List Bool) (e : RowFault) → length xs ≡ abs_count s →
     IsRowFault (write l s xs a.next).passes e → IsRowFault (rows_then l a (atom_compare o s t, xs ++ ys)).passes e
 unfolding write_atom
 left_past l a o s t xs ys e n f =
@@ -65,19 +65,49 @@ left_past l a o s t xs ys e n f =
     (or_left (w.passes || u.passes) (list_any row_passes (compare_zero o w.row u.row ++ compare_nonneg o w.row u.row)) (or_left w.passes u.passes (p ∙ h)))) f
 
 -- the rows of a case of a comparison
-pub compare_case : (l : Layout) (a : AtomRows) (o : Order) (s t : TermTree) (i : ℕ) (w : Order) (ss : List Bool) → w ≡ way_at o i →
+compare_case : (l : Layout) (a : AtomRows) (o : Order) (s t : TermTree) (i : ℕ) (w : Order) (ss : List Bool) → w ≡ way_at o i →
     ss ≡ signs_at (abs_count s + abs_count t) (i / order_ways o) →
     rows_then l a (atom_compare w s t, ss) ≡ with_case l a (case_by (normal_atom (atom_compare o s t)) i)
 compare_case l a o s t i w ss e f = rw (compare_by o s t i, e, f) refl
 
-pub compare_gives : (l : Layout) (a : AtomRows) (o : Order) (s t : TermTree) (i : ℕ) (w : Order) (ss : List Bool) (n : ℕ) (d : SystemBuilder)
-    (y : Result (Unit {0}) RowFault) → w ≡ way_at o i → n ≡ order_ways o → ss ≡ signs_at (abs_count s + abs_count t) (i / n) →
-    BuilderAnswer (rows_then l a (atom_compare w s t, ss)) d y → BuilderAnswer (with_case l a (case_by (normal_atom (atom_compare o s t)) i)) d y
-compare_gives l a o s t i w ss n d y e g f h = subst (λ (x : AtomRows). BuilderAnswer x d y)
-    (compare_case l a o s t i w ss e (f ∙ ap (λ m. signs_at (abs_count s + abs_count t) (i / m)) g)) h
+-- a written form that passes nothing, given by its fields
+as_written : (a : AtomRows) (o : Order) (r : Row) (gs : List GuardTree) (u : WrittenTree) → u.passes ≡ false →
+    with_comparison a o r gs (written_as u.row u.guards u.next) ≡ with_comparison a o r gs u
+as_written a o r gs u e = rw e refl
+
+-- a case of a comparison, whose signs are those of its left form and those of its right one
+module _ (l : Layout) (a : AtomRows) (fits : a.passes ≡ false) (o : Order) (s t : TermTree) (i : ℕ) (ss xs ys : List Bool) (n : ℕ) (ways : n ≡ order_ways o)
+    (signs : ss ≡ signs_at (abs_count s + abs_count t) (i / n)) (parts : ss ≡ xs ++ ys) (left : length xs ≡ abs_count s) where
+  rows_are : (w : Order) → w ≡ way_at o i → rows_then l a (atom_compare w s t, xs ++ ys) ≡ with_case l a (case_by (normal_atom (atom_compare o s t)) i)
+  rows_are w e = compare_case l a o s t i w (xs ++ ys) e (sym parts ∙ signs ∙ ap (λ m. signs_at (abs_count s + abs_count t) (i / m)) ways)
+
+  pub left_fails : (e : RowFault) → IsRowFault (write l s xs a.next).passes e →
+      IsRowFault (with_case l a (case_by (normal_atom (atom_compare o s t)) i)).passes e
+  left_fails e f = subst (λ (x : AtomRows). IsRowFault x.passes e) (rows_are (way_at o i) refl) (left_past l a (way_at o i) s t xs ys e left f)
+
+  module _ (left_fits : (write l s xs a.next).passes ≡ false) where
+    pub compare_gives : (write l t ys (write l s xs a.next).next).passes ≡ false → (w : Order) (d : SystemBuilder) (y : Result (Unit {0}) RowFault) →
+        w ≡ way_at o i →
+        BuilderAnswer (with_comparison a w (write l s xs a.next).row (write l s xs a.next).guards (written_as (write l t ys (write l s xs a.next).next).row
+        (write l t ys (write l s xs a.next).next).guards (write l t ys (write l s xs a.next).next).next)) d y →
+        BuilderAnswer (with_case l a (case_by (normal_atom (atom_compare o s t)) i)) d y
+    compare_gives right_fits w d y e h =
+        let v = write l s xs a.next in
+        subst (λ (x : AtomRows). BuilderAnswer x d y) (as_written a w v.row v.guards (write l t ys v.next) right_fits ∙
+        comparison_is l a w s t xs ys left fits left_fits ∙ rows_are w e) h
+
+    pub right_fails : (e : RowFault) → IsRowFault (write l t ys (write l s xs a.next).next).passes e →
+        IsRowFault (with_case l a (case_by (normal_atom (atom_compare o s t)) i)).passes e
+    right_fails e h =
+        let v = write l s xs a.next in
+        let u = write l t ys v.next in
+        let w = way_at o i in
+        let more = list_any row_passes (compare_zero w v.row u.row ++ compare_nonneg w v.row u.row) in
+        subst (λ (x : AtomRows). IsRowFault x.passes e) (comparison_is l a w s t xs ys left fits left_fits ∙ rows_are w refl)
+        (fails_where e u.passes (u.passes || more) (or_left u.passes more) h)
 
 -- ---- parts of a relation
-pub with_both : (l : Layout) (a : AtomRows) (c d : List Signed) → with_case l a (c ++ d) ≡ with_case l (with_case l a c) d
+with_both : (l : Layout) (a : AtomRows) (c d : List Signed) → with_case l a (c ++ d) ≡ with_case l (with_case l a c) d
 with_both l a c d = fold-append (rows_then l) a c d
 
 passes_on : (l : Layout) (c : List Signed) (a : AtomRows) → a.passes ≡ true → (with_case l a c).passes ≡ true
@@ -85,28 +115,16 @@ passes_on l [] a e = e
 passes_on l (s ∷ c) a e = passes_on l c (rows_then l a s) (or_left a.passes (write_atom l s a.next).passes e)
 
 -- the fault of the first part is one of the whole
-pub first_part_fails : (l : Layout) (a : AtomRows) (c d : List Signed) (e : RowFault) → IsRowFault (with_case l a c).passes e →
+first_part_fails : (l : Layout) (a : AtomRows) (c d : List Signed) (e : RowFault) → IsRowFault (with_case l a c).passes e →
     IsRowFault (with_case l a (c ++ d)).passes e
 first_part_fails l a c d e f = rw (with_both l a c d) (fails_where e (with_case l a c).passes (with_case l (with_case l a c) d).passes
     (passes_on l d (with_case l a c)) f)
 
--- the builder after the second part
-pub second_part : (l : Layout) (c d : List Signed) (old mid new : SystemBuilder) (y : Result (Unit {0}) RowFault) →
-    rows_of mid ≡ with_case l (rows_of old) c → BuilderAnswer (with_case l (rows_of mid) d) new y → BuilderAnswer (with_case l (rows_of old) (c ++ d)) new y
-second_part l c d old mid new (Ok u) e h = h ∙ ap (λ a. with_case l a d) e ∙ sym (with_both l (rows_of old) c d)
-second_part l c d old mid new (Err Past) e h = rw (with_both l (rows_of old) c d, ← e) h
-second_part l c d old mid new (Err NoMemory) e h = tt
-
--- the builder after both parts
-module _ (l : Layout) (b : Bool) (p q : Normal) (i : ℕ) (f s : Option ℕ) (whole : case_by (joined b p q) i ≡ part_by p f ++ part_by q s)
-    (old : SystemBuilder) where
-  pub parts_give : (mid new : SystemBuilder) (y : Result (Unit {0}) RowFault) → rows_of mid ≡ with_case l (rows_of old) (part_by p f) →
-      BuilderAnswer (with_case l (rows_of mid) (part_by q s)) new y → BuilderAnswer (with_case l (rows_of old) (case_by (joined b p q) i)) new y
-  parts_give mid new y e h = rw whole (second_part l (part_by p f) (part_by q s) old mid new y e h)
-
-  pub parts_fail : (e : RowFault) → IsRowFault (with_case l (rows_of old) (part_by p f)).passes e →
-      IsRowFault (with_case l (rows_of old) (case_by (joined b p q) i)).passes e
-  parts_fail e h = rw whole (first_part_fails l (rows_of old) (part_by p f) (part_by q s) e h)
+-- the same of the parts of a case of a relation
+pub parts_fail : (l : Layout) (b : Bool) (p q : Normal) (i : ℕ) (f s : Option ℕ) → case_by (joined b p q) i ≡ part_by p f ++ part_by q s →
+    (old : SystemBuilder) (e : RowFault) → IsRowFault (with_case l (rows_of old) (part_by p f)).passes e →
+    IsRowFault (with_case l (rows_of old) (case_by (joined b p q) i)).passes e
+parts_fail l b p q i f s whole old e h = rw whole (first_part_fails l (rows_of old) (part_by p f) (part_by q s) e h)
 
 -- ---- guards
 fine_quotient : (w : WrittenTree) (k : ℤ) → 1 ≤ w.next → IsDivisor k → (w.passes ≡ false → EachOf IsFine w.guards) →

@@ -1,21 +1,20 @@
 //! The rows of an atom in one of its cases.
-ghost use Rattle.std.specs.Prelude.{◌≡◌, ◌+◌, ◌<◌, ◌≤◌, ◌^◌, [], length, map, IfOk};
+ghost use Rattle.std.specs.Prelude.{◌≡◌, ◌+◌, ◌<◌, ◌≤◌, ◌^◌, [], IfOk};
 ghost use Rattle.cf_tree.specs.RelTree.{rel_divides};
 ghost use Rattle.cf_tree.specs.RelView.{term_tree};
 ghost use Rattle.cf_tree.specs.Relation.{IsLinearTerm, IsDivisor};
 ghost use Rattle.cf_linear.specs.declared.refusal.TheConstants.{MOST_SETS};
 ghost use Rattle.cf_linear.specs.Layout.{set_count, first_free};
-ghost use Rattle.cf_linear.specs.Written.{write, IsPlaced, abs_count, quotient_count};
-ghost use Rattle.cf_linear.specs.Views.{plain_layout, guard_of};
-ghost use Rattle.cf_linear.specs.Cases.{negation_normal, normal_atom, rows_then, atom_compare};
-ghost use Rattle.cf_cases.specs.Holding.{EachOf};
+ghost use Rattle.cf_linear.specs.Written.{IsPlaced, quotient_count};
+ghost use Rattle.cf_linear.specs.Views.{plain_layout};
+ghost use Rattle.cf_linear.specs.Cases.{negation_normal, normal_atom, atom_compare};
 ghost use Rattle.cf_cases.specs.Picking.{case_by};
-ghost use Rattle.cf_cases.specs.SystemBuilders.{rows_of, with_rows, with_case, with_comparison, false_rows, BuilderAnswer, IsFine};
+ghost use Rattle.cf_cases.specs.SystemBuilders.{rows_of, with_rows, with_case, false_rows, BuilderAnswer};
 
 use crate::counting::order_ways;
 use crate::signs::{abs_count, signs_of, signs_of_two, way_of};
 use crate::system_builder::{SystemBuilder, add_divided, add_false, add_written};
-use cf_linear::{Layout, RowFault, Written, row_of};
+use cf_linear::{Layout, RowFault, row_of};
 use cf_tree::{Order, Term};
 
 // Adds the rows of the case with this index of a comparison.
@@ -40,62 +39,10 @@ pub(crate) fn add_compare(
     ensures next { IfOk result (λ _. builder.new.next ≡ builder.old.next + quotient_count (term_tree left.now) + quotient_count (term_tree right.now)) }
 {
     let signs = signs_of_two(builder.alloc, left, right, index / order_ways(order))?;
-    add_comparison(way_of(order, index), left, right, &signs, layout, builder)
-}
-
-// Adds the rows of a comparison in a choice of signs.
-fn add_comparison(
-    order: Order,
-    left: &Term,
-    right: &Term,
-    signs: &[bool],
-    layout: &Layout,
-    builder: &mut SystemBuilder,
-) -> Result<(), RowFault>
-    requires left { IsPlaced (plain_layout layout.now) (term_tree left.now) }
-    requires left_linear { IsLinearTerm (term_tree left.now) }
-    requires right { IsPlaced (plain_layout layout.now) (term_tree right.now) }
-    requires right_linear { IsLinearTerm (term_tree right.now) }
-    requires signs { length signs.now ≡ abs_count (term_tree left.now) + abs_count (term_tree right.now) }
-    requires sets { set_count (plain_layout layout.now) ≤ MOST_SETS }
-    requires above { first_free (plain_layout layout.now) ≤ builder.old.next }
-    requires room { builder.old.next + quotient_count (term_tree left.now) + quotient_count (term_tree right.now) < 2 ^ 32 }
-    ensures gives { BuilderAnswer (rows_then (plain_layout layout.now) (rows_of builder.old)
-        (atom_compare order (term_tree left.now) (term_tree right.now), signs.now)) builder.new result }
-    ensures next { IfOk result (λ _. builder.new.next ≡ builder.old.next + quotient_count (term_tree left.now) + quotient_count (term_tree right.now)) }
-{
-    let used = abs_count(left)?;
-    let (first, second) = signs.split_at(used);
-    match row_of(builder.alloc, left, layout, first, builder.next) {
-        Ok(written) => add_second(order, &written, right, second, layout, builder),
-        Err(fault) => Err(fault),
-    }
-}
-
-// Adds the rows of a comparison of a written form with a form in a choice of signs.
-fn add_second(
-    order: Order,
-    first: &Written,
-    right: &Term,
-    signs: &[bool],
-    layout: &Layout,
-    builder: &mut SystemBuilder,
-) -> Result<(), RowFault>
-    requires right { IsPlaced (plain_layout layout.now) (term_tree right.now) }
-    requires linear { IsLinearTerm (term_tree right.now) }
-    requires signs { length signs.now ≡ abs_count (term_tree right.now) }
-    requires guards { EachOf IsFine (map guard_of first.now.guards.items) }
-    requires sets { set_count (plain_layout layout.now) ≤ MOST_SETS }
-    requires above { first_free (plain_layout layout.now) ≤ first.now.next }
-    requires room { first.now.next + quotient_count (term_tree right.now) < 2 ^ 32 }
-    ensures gives { BuilderAnswer (with_comparison (rows_of builder.old) order first.now.row (map guard_of first.now.guards.items)
-        (write (plain_layout layout.now) (term_tree right.now) signs.now first.now.next)) builder.new result }
-    ensures next { IfOk result (λ _. builder.new.next ≡ first.now.next + quotient_count (term_tree right.now)) }
-{
-    match row_of(builder.alloc, right, layout, signs, first.next) {
-        Ok(second) => add_written(order, first, &second, builder),
-        Err(fault) => Err(fault),
-    }
+    let (left_signs, right_signs) = signs.split_at(abs_count(left)?);
+    let first = row_of(builder.alloc, left, layout, left_signs, builder.next)?;
+    let second = row_of(builder.alloc, right, layout, right_signs, first.next)?;
+    add_written(way_of(order, index), &first, &second, builder)
 }
 
 // Adds the rows of the case with this index of the atom that `k` divides the form, where `holds`, or
@@ -120,10 +67,8 @@ pub(crate) fn add_divides(
     ensures next { IfOk result (λ _. builder.new.next ≡ builder.old.next + quotient_count (term_tree of.now) + 1) }
 {
     let signs = signs_of(builder.alloc, of, index)?;
-    match row_of(builder.alloc, of, layout, &signs, builder.next) {
-        Ok(written) => add_divided(holds, k, &written, builder),
-        Err(fault) => Err(fault),
-    }
+    let written = row_of(builder.alloc, of, layout, &signs, builder.next)?;
+    add_divided(holds, k, &written, builder)
 }
 
 // Adds the rows of true, where `holds`, or of false.

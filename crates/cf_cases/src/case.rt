@@ -46,10 +46,8 @@ pub fn case_of(
     };
     let rel = counted.rel();
     let counts = counted.counts();
-    match add_case(rel, counts, true, index as u128, layout, &mut builder) {
-        Ok(()) => Ok(first_system(alloc, layout, builder)?),
-        Err(fault) => Err(fault),
-    }
+    add_case(rel, counts, true, index as u128, layout, &mut builder)?;
+    Ok(first_system(alloc, layout, builder)?)
 }
 
 // The first system of these rows.
@@ -133,17 +131,13 @@ fn add_case(
         Rel::Divides { k, of } => add_divides(holds, k, of, index, layout, builder),
         Rel::And(a, b) => {
             let (first, second) = parts_of(a, b, counts, holds, holds, index);
-            match add_part(a, counts.left(), holds, first, layout, builder) {
-                Ok(()) => add_part(b, counts.right(), holds, second, layout, builder),
-                Err(fault) => Err(fault),
-            }
+            add_part(a, counts.left(), holds, first, layout, builder)?;
+            add_part(b, counts.right(), holds, second, layout, builder)
         }
         Rel::Or(a, b) => {
             let (first, second) = parts_of(a, b, counts, holds, !holds, index);
-            match add_part(a, counts.left(), holds, first, layout, builder) {
-                Ok(()) => add_part(b, counts.right(), holds, second, layout, builder),
-                Err(fault) => Err(fault),
-            }
+            add_part(a, counts.left(), holds, first, layout, builder)?;
+            add_part(b, counts.right(), holds, second, layout, builder)
         }
         Rel::Not(a) => add_case(a, counts, !holds, index, layout, builder),
     }

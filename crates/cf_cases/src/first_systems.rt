@@ -55,10 +55,7 @@ fn each_system(
 {
     let mut all = Vec::new(alloc);
     for index in 0..counted.cases_len() {
-        match case_of(alloc, counted, layout, index) {
-            Ok(system) => all.push(system)?,
-            Err(fault) => return Err(fault),
-        }
+        all.push(case_of(alloc, counted, layout, index)?)?;
     }
     Ok(all)
 }

@@ -51,43 +51,15 @@ fn add_compared(
     ensures gives { BuilderAnswer (with_comparison (rows_of builder.old) order left.now [] (written_as right.now [] builder.old.next)) builder.new result }
     ensures next { IfOk result (λ _. builder.new.next ≡ builder.old.next) }
 {
+    let alloc = builder.alloc;
     match order {
-        Order::Eq => add_equal(left, right, builder),
-        Order::Ne => Ok(()),
-        Order::Lt => add_less(right, left, builder),
-        Order::Le => add_difference(right, left, builder),
-        Order::Gt => add_less(left, right, builder),
-        Order::Ge => add_difference(left, right, builder),
+        Order::Eq => builder.equations.push(subtracted(alloc, left, right)?)?,
+        Order::Ne => {}
+        Order::Lt => builder.inequalities.push(less_one(alloc, right, left)?)?,
+        Order::Le => builder.inequalities.push(subtracted(alloc, right, left)?)?,
+        Order::Gt => builder.inequalities.push(less_one(alloc, left, right)?)?,
+        Order::Ge => builder.inequalities.push(subtracted(alloc, left, right)?)?,
     }
-}
-
-// Adds the equation of the difference of two rows.
-fn add_equal(left: &Row, right: &Row, builder: &mut SystemBuilder) -> Result<(), RowFault>
-    ensures gives { BuilderAnswer (with_rows (rows_of builder.old) (less left.now right.now ∷ []) []) builder.new result }
-    ensures next { IfOk result (λ _. builder.new.next ≡ builder.old.next) }
-{
-    let row = subtracted(builder.alloc, left, right)?;
-    builder.equations.push(row)?;
-    Ok(())
-}
-
-// Adds the inequality of the difference of two rows.
-fn add_difference(left: &Row, right: &Row, builder: &mut SystemBuilder) -> Result<(), RowFault>
-    ensures gives { BuilderAnswer (with_rows (rows_of builder.old) [] (less left.now right.now ∷ [])) builder.new result }
-    ensures next { IfOk result (λ _. builder.new.next ≡ builder.old.next) }
-{
-    let row = subtracted(builder.alloc, left, right)?;
-    builder.inequalities.push(row)?;
-    Ok(())
-}
-
-// Adds the inequality of the difference of two rows, less 1.
-fn add_less(left: &Row, right: &Row, builder: &mut SystemBuilder) -> Result<(), RowFault>
-    ensures gives { BuilderAnswer (with_rows (rows_of builder.old) [] (plus (less left.now right.now) (negsuc 0) ∷ [])) builder.new result }
-    ensures next { IfOk result (λ _. builder.new.next ≡ builder.old.next) }
-{
-    let row = less_one(builder.alloc, left, right)?;
-    builder.inequalities.push(row)?;
     Ok(())
 }
 
@@ -109,45 +81,14 @@ pub(crate) fn add_divided(
     builder.next = written.next + 1;
     add_guards(&written.guards, builder)?;
     if holds {
-        add_multiple(written.next, &written.row, k, builder)
+        let above = above_quotient(builder.alloc, written.next, &written.row, k)?;
+        builder.equations.push(above)?;
     } else {
-        add_between(written.next, &written.row, k, builder)
+        let above = above_one(builder.alloc, written.next, &written.row, k)?;
+        builder.inequalities.push(above)?;
+        let below = below_quotient(builder.alloc, written.next, &written.row, k)?;
+        builder.inequalities.push(below)?;
     }
-}
-
-// Adds the equation of the row with `k` times the column.
-fn add_multiple(
-    column: u32,
-    row: &Row,
-    k: &i128,
-    builder: &mut SystemBuilder,
-) -> Result<(), RowFault>
-    requires divisor { IsDivisor k.now }
-    ensures gives { BuilderAnswer (with_rows (rows_of builder.old) (above_quotient column row.now k.now ∷ []) []) builder.new result }
-    ensures next { IfOk result (λ _. builder.new.next ≡ builder.old.next) }
-{
-    let above = above_quotient(builder.alloc, column, row, k)?;
-    builder.equations.push(above)?;
-    Ok(())
-}
-
-// Adds the rows of a row that lies between `k` times the column and `k` more.
-fn add_between(
-    column: u32,
-    row: &Row,
-    k: &i128,
-    builder: &mut SystemBuilder,
-) -> Result<(), RowFault>
-    requires divisor { IsDivisor k.now }
-    requires column { 1 ≤ column }
-    ensures gives { BuilderAnswer (with_rows (rows_of builder.old) []
-        (plus (above_quotient column row.now k.now) (negsuc 0) ∷ below_quotient column row.now k.now ∷ [])) builder.new result }
-    ensures next { IfOk result (λ _. builder.new.next ≡ builder.old.next) }
-{
-    let above = above_one(builder.alloc, column, row, k)?;
-    builder.inequalities.push(above)?;
-    let below = below_quotient(builder.alloc, column, row, k)?;
-    builder.inequalities.push(below)?;
     Ok(())
 }
 
@@ -176,7 +117,7 @@ pub(crate) fn add_positive(row: &Row, builder: &mut SystemBuilder) -> Result<(),
     ensures gives { BuilderAnswer (with_rows (rows_of builder.old) [] (plus row.now (negsuc 0) ∷ [])) builder.new result }
     ensures next { IfOk result (λ _. builder.new.next ≡ builder.old.next) }
 {
-    let lower = minus_one(builder.alloc, row)?;
+    let lower = plus(builder.alloc, row, -1)?;
     builder.inequalities.push(lower)?;
     Ok(())
 }
@@ -218,10 +159,8 @@ fn above_one(alloc: Global, column: u32, of: &Row, k: &i128) -> Result<Row, RowF
     requires column { 1 ≤ column }
     ensures { RowAnswer (plus (above_quotient column of.now k.now) (negsuc 0)) result }
 {
-    match above_quotient(alloc, column, of, k) {
-        Ok(row) => minus_one(alloc, &row),
-        Err(fault) => Err(fault),
-    }
+    let above = above_quotient(alloc, column, of, k)?;
+    plus(alloc, &above, -1)
 }
 
 // The row, of which no entry passes the limit.
@@ -242,21 +181,10 @@ fn less_one(alloc: Global, left: &Row, right: &Row) -> Result<Row, RowFault>
     ensures { RowAnswer (plus (less left.now right.now) (negsuc 0)) result }
 {
     if left.entry(0) > 0 {
-        match minus_one(alloc, left) {
-            Ok(lower) => subtracted(alloc, &lower, right),
-            Err(fault) => Err(fault),
-        }
+        let lower = plus(alloc, left, -1)?;
+        subtracted(alloc, &lower, right)
     } else {
-        match subtracted(alloc, left, right) {
-            Ok(row) => minus_one(alloc, &row),
-            Err(fault) => Err(fault),
-        }
+        let row = subtracted(alloc, left, right)?;
+        plus(alloc, &row, -1)
     }
-}
-
-// The row with 1 less at the constant.
-fn minus_one(alloc: Global, row: &Row) -> Result<Row, RowFault>
-    ensures { RowAnswer (plus row.now (negsuc 0)) result }
-{
-    plus(alloc, row, -1)
 }

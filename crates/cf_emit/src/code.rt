@@ -3,7 +3,7 @@ ghost use Rattle.std.specs.Prelude.{◌≡◌, ◌<◌, ◌++◌, length, map, d
 ghost use Rattle.std.specs.Fmt.{signed_decimal};
 ghost use Rattle.cf_tree.specs.CodeView.{code_tree, code_trees, item_tree, item_trees, arm_tree, arm_trees};
 ghost use Rattle.cf_emit.specs.Between.{between_text};
-ghost use Rattle.cf_emit.specs.Printed.{line_end, listed, variables_text, code_text, codes_text, more_codes, item_text, items_text, gives_text, arm_text, arms_text};
+ghost use Rattle.cf_emit.specs.Printed.{line_end, listed, code_text, codes_text, more_codes, item_text, items_text, gives_text, arm_text, arms_text};
 
 use crate::list::put_bounds;
 use crate::word::{put_order, put_variable, put_variables};
@@ -38,7 +38,8 @@ pub(crate) fn put_code(out: &mut Vec<u8>, code: &Code) -> Result<(), NoMemory>
         Code::Min(parts) => put_list(out, b"min(", b", ", parts, b")"),
         Code::Max(parts) => put_list(out, b"max(", b", ", parts, b")"),
         Code::Divides { k, of } => {
-            put_divisor(out, k)?;
+            out.push(b'(')?;
+            put_number(out, *k)?;
             put_last(out, b" divides ", of)
         }
         Code::Not(a) => put_last(out, b"not(", a),
@@ -65,12 +66,15 @@ pub(crate) fn put_code(out: &mut Vec<u8>, code: &Code) -> Result<(), NoMemory>
             value,
             body,
         } => {
-            put_bound(out, *first, *count)?;
+            out.extend_from_slice(b"(let ")?;
+            put_variables(out, *first, *count)?;
             put_part(out, b" = ", value)?;
             put_last(out, b" in ", body)
         }
         Code::Solve { number, arms } => {
-            put_solve(out, *number)?;
+            out.extend_from_slice(b"solve ")?;
+            put_number(out, *number)?;
+            out.extend_from_slice(b" {\n")?;
             put_arms(out, arms)?;
             out.push(b'}')?;
             Ok(())
@@ -226,30 +230,4 @@ fn put_between(out: &mut Vec<u8>, code: &Code) -> Result<(), NoMemory>
         _ => {}
     }
     Ok(())
-}
-
-// The first line of a solve.
-fn put_solve(out: &mut Vec<u8>, number: u32) -> Result<(), NoMemory>
-    ensures { OnOk result (out.new.items ≡ out.old.items ++ (codes "solve " ++ decimal number ++ codes " {" ++ line_end)) }
-{
-    out.extend_from_slice(b"solve ")?;
-    put_number(out, number)?;
-    out.extend_from_slice(b" {\n")?;
-    Ok(())
-}
-
-// An opening parenthesis and a divisor.
-fn put_divisor(out: &mut Vec<u8>, k: &i128) -> Result<(), NoMemory>
-    ensures { OnOk result (out.new.items ≡ out.old.items ++ (codes "(" ++ signed_decimal k.now)) }
-{
-    out.push(b'(')?;
-    put_number(out, *k)
-}
-
-// The beginning of a let, up to its last variable.
-fn put_bound(out: &mut Vec<u8>, first: u32, count: u32) -> Result<(), NoMemory>
-    ensures { OnOk result (out.new.items ≡ out.old.items ++ (codes "(let " ++ variables_text first count)) }
-{
-    out.extend_from_slice(b"(let ")?;
-    put_variables(out, first, count)
 }

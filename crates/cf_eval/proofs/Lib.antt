@@ -12,3 +12,5 @@ pub mod SetLists
 pub mod Tries
 pub mod FormLemmas
 pub mod UnionLemmas
+mod SpellingExamples
+mod ReplyExamples

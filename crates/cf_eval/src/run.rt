@@ -1,12 +1,11 @@
 //! Runs target code.
 ghost use Rattle.std.specs.Prelude.{◌≡◌, [], None, IfOk, OnOk, All, pos};
 ghost use Rattle.cf_num.specs.Limit.{IsWithin};
-ghost use Rattle.cf_tree.specs.Numbers.{count_of};
-ghost use Rattle.cf_tree.specs.Sets.{is_subset, set_diff, set_fresh};
+ghost use Rattle.cf_tree.specs.Sets.{is_subset};
 ghost use Rattle.cf_tree.specs.CodeView.{code_tree, item_tree, arm_tree, code_trees, item_trees, arm_trees};
 ghost use Rattle.cf_eval.specs.Answers.{Answers};
 ghost use Rattle.cf_eval.specs.Choice.{better_of, join_of};
-ghost use Rattle.cf_eval.specs.Reached.{reached, seen, as_first, as_number, as_truth, as_set, all_reached, set_reached, sum_reached, best_reached, join_reached, items_reached, item_reached, try_reached, arm_reached, arms_reached, gives_set, met_set, or_none, then_reached};
+ghost use Rattle.cf_eval.specs.Reached.{reached, seen, as_first, as_number, as_truth, as_set, all_reached, set_reached, sum_reached, best_reached, join_reached, items_reached, item_reached, try_reached, arm_reached, arms_reached, or_none, then_reached};
 ghost use Rattle.cf_eval.specs.Seen.{plains, IsFit};
 ghost use Rattle.cf_eval.specs.RunAnswers.{RunAnswer, ValuesAnswer, ValueAnswer, NumberAnswer, TruthAnswer, SetAnswer, FoundAnswer, ItemsAnswer, MoreAnswer, Extends, IsGivenFit, IsFoundFit};
 
@@ -25,18 +24,11 @@ use crate::quick::{known, known_truth};
 use crate::search::{count_of, push_tuple};
 use crate::value::{Outcome, Value};
 use cf_set::Set;
-use cf_tree::{Arm, Code, Item, NoMemory, Order, Target};
+use cf_tree::{Arm, Code, Item, NoMemory, Target};
 use std::alloc::Global;
 
-/// The target's meaning on these values, or `Overflow` exactly where a number met on the way
-/// passes 2^127 - 1.
-pub fn run(alloc: Global, target: &Target, values: &[Value]) -> Result<Outcome, NoMemory>
-    ensures { IfOk result (Answers (code_tree target.now.code) (plains values.now)) }
-{
-    run_code(alloc, target.body(), values)
-}
-
-/// The same on values that are given up: the run binds its variables behind them, and copies none.
+/// The target's meaning on these values, or `Overflow` exactly where a number met on the way passes
+/// 2^127 - 1. The run binds its variables behind the values, and copies none.
 pub fn run_on(alloc: Global, target: &Target, values: Vec<Value>) -> Result<Outcome, NoMemory>
     ensures { IfOk result (Answers (code_tree target.now.code) (plains values.items)) }
 {
@@ -151,18 +143,6 @@ fn exact_truth(alloc: Global, code: &Code, env: &mut Vec<Value>) -> Result<bool,
     ensures told { TruthAnswer result (as_truth (reached (code_tree code.now) (plains env.old.items))) }
     ensures kept { OnOk result (env.new.items ≡ env.old.items) }
 {
-    match kind_of(code) {
-        Kind::Truth => test(alloc, code, env),
-        _ => other_truth(alloc, code, env),
-    }
-}
-
-#[cycle(eval)]
-#[inline(never)]
-fn other_truth(alloc: Global, code: &Code, env: &mut Vec<Value>) -> Result<bool, Stop>
-    ensures told { TruthAnswer result (as_truth (reached (code_tree code.now) (plains env.old.items))) }
-    ensures kept { OnOk result (env.new.items ≡ env.old.items) }
-{
     match code {
         Code::And(a, b) => {
             if eval_truth(alloc, a, env)? {
@@ -178,7 +158,10 @@ fn other_truth(alloc: Global, code: &Code, env: &mut Vec<Value>) -> Result<bool,
                 eval_truth(alloc, b, env)
             }
         }
-        _ => first_truth(alloc, code, env),
+        _ => match kind_of(code) {
+            Kind::Truth => test(alloc, code, env),
+            _ => first_truth(alloc, code, env),
+        },
     }
 }
 
@@ -222,23 +205,6 @@ fn count(alloc: Global, code: &Code, env: &mut Vec<Value>) -> Result<i128, Stop>
     match code {
         Code::Lit(k) => met_number(limited(*k)),
         Code::Sum(parts) => eval_sum(alloc, parts, env),
-        Code::Sub(_, _) | Code::Mul(_, _) => count_two(alloc, code, env),
-        Code::Neg(_) | Code::Div { .. } | Code::Mod { .. } => count_one(alloc, code, env),
-        Code::Min(parts) => eval_best(alloc, Side::Least, parts, env),
-        Code::Max(parts) => eval_best(alloc, Side::Greatest, parts, env),
-        Code::Card(a) => Ok(i128::from(eval_set(alloc, a, env)?.card())),
-        _ => Err(Stop::NoMemory),
-    }
-}
-
-// The same of the forms over two numbers.
-#[cycle(eval)]
-#[inline(always)]
-fn count_two(alloc: Global, code: &Code, env: &mut Vec<Value>) -> Result<i128, Stop>
-    ensures told { NumberAnswer result (as_number (reached (code_tree code.now) (plains env.old.items))) }
-    ensures kept { IfOk result (λ v. IsWithin v × (env.new.items ≡ env.old.items)) }
-{
-    match code {
         Code::Sub(a, b) => {
             let x = eval_number(alloc, a, env)?;
             let y = eval_number(alloc, b, env)?;
@@ -249,21 +215,12 @@ fn count_two(alloc: Global, code: &Code, env: &mut Vec<Value>) -> Result<i128, S
             let y = eval_number(alloc, b, env)?;
             product(x, y)
         }
-        _ => Err(Stop::NoMemory),
-    }
-}
-
-// The same of the forms over one number.
-#[cycle(eval)]
-#[inline(always)]
-fn count_one(alloc: Global, code: &Code, env: &mut Vec<Value>) -> Result<i128, Stop>
-    ensures told { NumberAnswer result (as_number (reached (code_tree code.now) (plains env.old.items))) }
-    ensures kept { IfOk result (λ v. IsWithin v × (env.new.items ≡ env.old.items)) }
-{
-    match code {
         Code::Neg(a) => Ok(cf_num::neg(eval_number(alloc, a, env)?)),
         Code::Div { of, k } => Ok(divide(eval_number(alloc, of, env)?, *k)),
         Code::Mod { of, k } => Ok(remain(eval_number(alloc, of, env)?, *k)),
+        Code::Min(parts) => eval_best(alloc, Side::Least, parts, env),
+        Code::Max(parts) => eval_best(alloc, Side::Greatest, parts, env),
+        Code::Card(a) => Ok(i128::from(eval_set(alloc, a, env)?.card())),
         _ => Err(Stop::NoMemory),
     }
 }
@@ -363,55 +320,22 @@ fn made_set(alloc: Global, code: &Code, env: &mut Vec<Value>) -> Result<Set, Sto
         Code::Inter(parts) => eval_join(alloc, Join::Inter, parts, env),
         Code::Diff(a, b) => {
             let s = eval_set(alloc, a, env)?;
-            made_difference(alloc, s, b, env)
+            let t = eval_set(alloc, b, env)?;
+            difference(alloc, s, t)
         }
-        Code::Slice { .. } => made_part(alloc, code, env),
-        Code::Fresh { avoid, n } => {
-            let s = eval_set(alloc, avoid, env)?;
-            made_fresh(alloc, s, n, env)
-        }
-        _ => Err(Stop::NoMemory),
-    }
-}
-
-// The elements of the set that are not in the one that the code gives.
-#[cycle(eval)]
-#[inline(always)]
-fn made_difference(alloc: Global, s: Set, code: &Code, env: &mut Vec<Value>) -> Result<Set, Stop>
-    ensures told { SetAnswer result (as_set (then_reached (as_set (reached (code_tree code.now) (plains env.old.items))) (λ y. gives_set (set_diff s y)))) }
-    ensures kept { OnOk result (env.new.items ≡ env.old.items) }
-{
-    let t = eval_set(alloc, code, env)?;
-    difference(alloc, s, t)
-}
-
-// Some elements of a set, in rising order. No form but a slice is passed to it.
-#[cycle(eval)]
-#[inline(always)]
-fn made_part(alloc: Global, code: &Code, env: &mut Vec<Value>) -> Result<Set, Stop>
-    ensures told { SetAnswer result (as_set (reached (code_tree code.now) (plains env.old.items))) }
-    ensures kept { OnOk result (env.new.items ≡ env.old.items) }
-{
-    match code {
-        Code::Slice { set: of, from, n } => {
-            let s = eval_set(alloc, of, env)?;
+        Code::Slice { set, from, n } => {
+            let s = eval_set(alloc, set, env)?;
             let start = eval_number(alloc, from, env)?;
             let size = eval_number(alloc, n, env)?;
             part(alloc, s, start, size)
         }
+        Code::Fresh { avoid, n } => {
+            let s = eval_set(alloc, avoid, env)?;
+            let size = eval_number(alloc, n, env)?;
+            fresh(alloc, &s, size)
+        }
         _ => Err(Stop::NoMemory),
     }
-}
-
-// As many numbers that are not in the set as the code gives.
-#[cycle(eval)]
-#[inline(always)]
-fn made_fresh(alloc: Global, s: Set, code: &Code, env: &mut Vec<Value>) -> Result<Set, Stop>
-    ensures told { SetAnswer result (as_set (then_reached (as_number (reached (code_tree code.now) (plains env.old.items))) (λ y. met_set (set_fresh s (count_of y))))) }
-    ensures kept { OnOk result (env.new.items ≡ env.old.items) }
-{
-    let size = eval_number(alloc, code, env)?;
-    fresh(alloc, &s, size)
 }
 
 // What the forms give whose parts or values decide what they give. No other form is passed to it.
@@ -424,21 +348,6 @@ fn choose(alloc: Global, code: &Code, env: &mut Vec<Value>) -> Result<Given, Sto
     match code {
         Code::Var(x) => met_copy(alloc, env.get(*x as usize)),
         Code::Tuple(parts) => Ok(Given::Several(eval_all(alloc, parts, env)?)),
-        Code::And(_, _) | Code::Or(_, _) | Code::If { .. } => choose_by_truth(alloc, code, env),
-        Code::Let { .. } => eval_let(alloc, code, env),
-        Code::Solve { number, arms } => eval_solve(alloc, *number, arms, env),
-        _ => Err(Stop::NoMemory),
-    }
-}
-
-// What the forms give that go on by a truth value. No other form is passed to it.
-#[cycle(eval)]
-#[inline(always)]
-fn choose_by_truth(alloc: Global, code: &Code, env: &mut Vec<Value>) -> Result<Given, Stop>
-    ensures told { RunAnswer result (reached (code_tree code.now) (plains env.old.items)) }
-    ensures kept { IfOk result (λ v. IsGivenFit v × (env.new.items ≡ env.old.items)) }
-{
-    match code {
         Code::And(a, b) => {
             if eval_truth(alloc, a, env)? {
                 eval(alloc, b, env)
@@ -460,18 +369,6 @@ fn choose_by_truth(alloc: Global, code: &Code, env: &mut Vec<Value>) -> Result<G
                 eval(alloc, no, env)
             }
         }
-        _ => Err(Stop::NoMemory),
-    }
-}
-
-// What a let gives, with its value bound meanwhile. No other form is passed to it.
-#[cycle(eval)]
-#[inline(always)]
-fn eval_let(alloc: Global, code: &Code, env: &mut Vec<Value>) -> Result<Given, Stop>
-    ensures told { RunAnswer result (reached (code_tree code.now) (plains env.old.items)) }
-    ensures kept { IfOk result (λ v. IsGivenFit v × (env.new.items ≡ env.old.items)) }
-{
-    match code {
         Code::Let { value, body, .. } => {
             let size = env.len();
             let bound = eval(alloc, value, env)?;
@@ -480,6 +377,7 @@ fn eval_let(alloc: Global, code: &Code, env: &mut Vec<Value>) -> Result<Given, S
             env.truncate(size);
             Ok(given)
         }
+        Code::Solve { number, arms } => eval_solve(alloc, *number, arms, env),
         _ => Err(Stop::NoMemory),
     }
 }
@@ -559,23 +457,11 @@ fn add_other(
 {
     match code {
         Code::Var(x) => push_copy(alloc, env.get(*x as usize), all),
-        _ => add_given(alloc, code, env, all),
+        _ => {
+            let more = eval(alloc, code, env)?;
+            push_given(more, all)
+        }
     }
-}
-
-#[cycle(eval)]
-#[inline(never)]
-fn add_given(
-    alloc: Global,
-    code: &Code,
-    env: &mut Vec<Value>,
-    all: &mut Vec<Value>,
-) -> Result<(), Stop>
-    ensures told { MoreAnswer result (plains all.old.items) (plains all.new.items) (reached (code_tree code.now) (plains env.old.items)) }
-    ensures kept { OnOk result ((All IsFit all.old.items → All IsFit all.new.items) × (env.new.items ≡ env.old.items)) }
-{
-    let more = eval(alloc, code, env)?;
-    push_given(more, all)
 }
 
 #[cycle(eval)]
@@ -737,31 +623,9 @@ fn bind_exact(alloc: Global, code: &Code, env: &mut Vec<Value>) -> Result<(), St
             let z = eval_number(alloc, code, env)?;
             push_met(z, env)
         }
-        _ => bind_other(alloc, code, env),
-    }
-}
-
-#[cycle(eval)]
-#[inline(never)]
-fn bind_other(alloc: Global, code: &Code, env: &mut Vec<Value>) -> Result<(), Stop>
-    ensures told { MoreAnswer result (plains env.old.items) (plains env.new.items) (reached (code_tree code.now) (plains env.old.items)) }
-    ensures kept { OnOk result (Extends env.old.items env.new.items) }
-{
-    match code {
-        Code::Var(x) => {
-            let more = met_copy(alloc, env.get(*x as usize))?;
+        _ => {
+            let more = eval(alloc, code, env)?;
             push_given(more, env)
         }
-        _ => bind_given(alloc, code, env),
     }
-}
-
-#[cycle(eval)]
-#[inline(never)]
-fn bind_given(alloc: Global, code: &Code, env: &mut Vec<Value>) -> Result<(), Stop>
-    ensures told { MoreAnswer result (plains env.old.items) (plains env.new.items) (reached (code_tree code.now) (plains env.old.items)) }
-    ensures kept { OnOk result (Extends env.old.items env.new.items) }
-{
-    let more = eval(alloc, code, env)?;
-    push_given(more, env)
 }

@@ -28,22 +28,15 @@ fn param(alloc: Global, tokens: &[Token]) -> Result<(Param, &[Token]), ReadStop>
     Ok((Param { place, name, base }, rest))
 }
 
-// The parameters with one more.
-fn with_param(params: Vec<Param>, param: Param) -> Result<Vec<Param>, ReadStop>
-    ensures { ReadAnswer (λ x. x.items) result (Ok (snoc params.items param)) }
-{
-    let mut all = params;
-    all.push(param)?;
-    Ok(all)
-}
-
 /// One parameter or more, up to the closing parenthesis.
 #[tactic(auto, unfolding(cf_reader::specs::Readers::bind, cf_reader::specs::Readers::several_of))]
 pub fn params(alloc: Global, tokens: &[Token]) -> Result<(Vec<Param>, &[Token]), ReadStop>
     ensures { ReadAnswer (λ x. (x.0.items, x.1.now)) result (several_of snoc param_of (Sign (codes ",")) (Sign (codes ")")) [] tokens.now) }
 {
     let (first, rest) = param(alloc, tokens)?;
-    more_params(alloc, with_param(Vec::new(alloc), first)?, rest)
+    let mut all = Vec::new(alloc);
+    all.push(first)?;
+    more_params(alloc, all, rest)
 }
 
 #[tactic(auto, unfolding(cf_reader::specs::Readers::others_of))]
@@ -60,7 +53,7 @@ fn more_params(
         match after_sign(",", rest) {
             Some((_, behind)) => {
                 let (x, behind) = param(alloc, behind)?;
-                done = with_param(done, x)?;
+                done.push(x)?;
                 rest = behind;
             }
             None => {

@@ -1,6 +1,6 @@
 //! Makes trees of their parts.
 ghost use Rattle.std.specs.Prelude.{◌≡◌, ◌<◌, ◌+◌, ◌^◌, ◌∷◌, ◌++◌, [], IfOk, Ok, map, max};
-ghost use Rattle.cf_tree.specs.RawTree.{raw_lit, raw_truth, raw_name, raw_set_of, raw_neg, raw_not, raw_abs, raw_binary, raw_divides, raw_div, raw_mod, raw_card, raw_call, raw_if, raw_let, raw_choose, raw_match, raw_arm, raws_of, raw_arms_of};
+ghost use Rattle.cf_tree.specs.RawTree.{raw_lit, raw_truth, raw_name, raw_set_of, raw_neg, raw_not, raw_abs, raw_binary, raw_divides, raw_div, raw_mod, raw_card, raw_call, raw_if, raw_let, raw_choose, raw_match, raw_arm, raws_of, raw_arms_of, raw_depth};
 ghost use Rattle.cf_tree.specs.RawView.{raw_tree, raw_arm_tree};
 ghost use Rattle.cf_reader.specs.Answers.{ReadAnswer};
 ghost use Rattle.cf_parse.specs.Reading.{grouped as grouped_of};
@@ -12,18 +12,24 @@ use cf_reader::ReadStop;
 use cf_tree::{BinOp, Param, Place, Raw, RawArm, RawNode, Text};
 use std::alloc::Global;
 
+// The tree with this node, which has this depth.
+fn measured(place: Place, node: RawNode, depth: u32) -> Measured
+    requires { depth ≡ raw_depth (raw_tree (record { place = place; node = node })) }
+    ensures tree { raw_tree result.raw ≡ raw_tree (record { place = place; node = node }) }
+    ensures deep { result.depth ≡ depth }
+{
+    Measured {
+        raw: Raw { place, node },
+        depth,
+    }
+}
+
 /// A number.
 pub fn literal(place: Place, k: i128) -> Measured
     ensures value { raw_tree result.raw ≡ raw_lit place k }
     ensures deep { result.depth ≡ 1 }
 {
-    Measured {
-        raw: Raw {
-            place,
-            node: RawNode::Lit(k),
-        },
-        depth: 1,
-    }
+    measured(place, RawNode::Lit(k), 1)
 }
 
 /// A truth value.
@@ -31,13 +37,7 @@ pub fn truth(place: Place, t: bool) -> Measured
     ensures value { raw_tree result.raw ≡ raw_truth place t }
     ensures deep { result.depth ≡ 1 }
 {
-    Measured {
-        raw: Raw {
-            place,
-            node: RawNode::Truth(t),
-        },
-        depth: 1,
-    }
+    measured(place, RawNode::Truth(t), 1)
 }
 
 /// A name.
@@ -45,13 +45,7 @@ pub fn name(place: Place, x: Text) -> Measured
     ensures value { raw_tree result.raw ≡ raw_name place x }
     ensures deep { result.depth ≡ 1 }
 {
-    Measured {
-        raw: Raw {
-            place,
-            node: RawNode::Name(x),
-        },
-        depth: 1,
-    }
+    measured(place, RawNode::Name(x), 1)
 }
 
 /// The set of these elements.
@@ -60,13 +54,7 @@ pub fn set_of(place: Place, list: MeasuredList) -> Measured
     ensures value { raw_tree result.raw ≡ raw_set_of place (raws_of (map raw_tree list.trees.items)) }
     ensures deep { result.depth ≡ 1 + list.depth }
 {
-    Measured {
-        raw: Raw {
-            place,
-            node: RawNode::SetOf(list.trees),
-        },
-        depth: 1 + list.depth,
-    }
+    measured(place, RawNode::SetOf(list.trees), 1 + list.depth)
 }
 
 /// A call of the function `x`.
@@ -75,16 +63,9 @@ pub fn call(place: Place, x: Text, list: MeasuredList) -> Measured
     ensures value { raw_tree result.raw ≡ raw_call place x (raws_of (map raw_tree list.trees.items)) }
     ensures deep { result.depth ≡ 1 + list.depth }
 {
-    Measured {
-        raw: Raw {
-            place,
-            node: RawNode::Call {
-                name: x,
-                args: list.trees,
-            },
-        },
-        depth: 1 + list.depth,
-    }
+    let depth = 1 + list.depth;
+    let args = list.trees;
+    measured(place, RawNode::Call { name: x, args }, depth)
 }
 
 /// The negative of a part.
@@ -94,14 +75,7 @@ pub fn neg(place: Place, e: Boxed) -> Measured
     ensures deep { result.depth ≡ 1 + e.depth }
 {
     let depth = 1 + e.depth;
-    let e = e.raw;
-    Measured {
-        raw: Raw {
-            place,
-            node: RawNode::Neg(e),
-        },
-        depth,
-    }
+    measured(place, RawNode::Neg(e.raw), depth)
 }
 
 /// The negation of a part.
@@ -111,14 +85,7 @@ pub fn not(place: Place, e: Boxed) -> Measured
     ensures deep { result.depth ≡ 1 + e.depth }
 {
     let depth = 1 + e.depth;
-    let e = e.raw;
-    Measured {
-        raw: Raw {
-            place,
-            node: RawNode::Not(e),
-        },
-        depth,
-    }
+    measured(place, RawNode::Not(e.raw), depth)
 }
 
 /// The absolute value of a part.
@@ -128,14 +95,7 @@ pub fn abs(place: Place, e: Boxed) -> Measured
     ensures deep { result.depth ≡ 1 + e.depth }
 {
     let depth = 1 + e.depth;
-    let e = e.raw;
-    Measured {
-        raw: Raw {
-            place,
-            node: RawNode::Abs(e),
-        },
-        depth,
-    }
+    measured(place, RawNode::Abs(e.raw), depth)
 }
 
 /// The number of elements of a part.
@@ -145,14 +105,7 @@ pub fn card(place: Place, e: Boxed) -> Measured
     ensures deep { result.depth ≡ 1 + e.depth }
 {
     let depth = 1 + e.depth;
-    let e = e.raw;
-    Measured {
-        raw: Raw {
-            place,
-            node: RawNode::Card(e),
-        },
-        depth,
-    }
+    measured(place, RawNode::Card(e.raw), depth)
 }
 
 /// Whether a literal divides a part.
@@ -162,14 +115,7 @@ pub fn divides(place: Place, k: i128, e: Boxed) -> Measured
     ensures deep { result.depth ≡ 1 + e.depth }
 {
     let depth = 1 + e.depth;
-    let e = e.raw;
-    Measured {
-        raw: Raw {
-            place,
-            node: RawNode::Divides { k, of: e },
-        },
-        depth,
-    }
+    measured(place, RawNode::Divides { k, of: e.raw }, depth)
 }
 
 /// The quotient of a part and a literal.
@@ -179,14 +125,7 @@ pub fn div(place: Place, e: Boxed, k: i128) -> Measured
     ensures deep { result.depth ≡ 1 + e.depth }
 {
     let depth = 1 + e.depth;
-    let e = e.raw;
-    Measured {
-        raw: Raw {
-            place,
-            node: RawNode::Div { of: e, k },
-        },
-        depth,
-    }
+    measured(place, RawNode::Div { of: e.raw, k }, depth)
 }
 
 /// The remainder of a part and a literal.
@@ -196,14 +135,7 @@ pub fn modulo(place: Place, e: Boxed, k: i128) -> Measured
     ensures deep { result.depth ≡ 1 + e.depth }
 {
     let depth = 1 + e.depth;
-    let e = e.raw;
-    Measured {
-        raw: Raw {
-            place,
-            node: RawNode::Mod { of: e, k },
-        },
-        depth,
-    }
+    measured(place, RawNode::Mod { of: e.raw, k }, depth)
 }
 
 /// A `choose` of these outputs.
@@ -213,14 +145,14 @@ pub fn choose(place: Place, outputs: Vec<Param>, e: Boxed) -> Measured
     ensures deep { result.depth ≡ 1 + e.depth }
 {
     let depth = 1 + e.depth;
-    let e = e.raw;
-    Measured {
-        raw: Raw {
-            place,
-            node: RawNode::Choose { outputs, rel: e },
+    measured(
+        place,
+        RawNode::Choose {
+            outputs,
+            rel: e.raw,
         },
         depth,
-    }
+    )
 }
 
 /// An operation of two parts.
@@ -239,13 +171,7 @@ pub fn binary(
     let depth = 1 + left.depth.max(right.depth);
     let left = Box::new(alloc, left.raw)?;
     let right = right.raw;
-    Ok(Measured {
-        raw: Raw {
-            place,
-            node: RawNode::Binary { op, left, right },
-        },
-        depth,
-    })
+    Ok(measured(place, RawNode::Binary { op, left, right }, depth))
 }
 
 /// An `if`.
@@ -260,13 +186,7 @@ pub fn if_else(place: Place, test: Boxed, yes: Boxed, no: Boxed) -> Measured
     let test = test.raw;
     let yes = yes.raw;
     let no = no.raw;
-    Measured {
-        raw: Raw {
-            place,
-            node: RawNode::If { test, yes, no },
-        },
-        depth,
-    }
+    measured(place, RawNode::If { test, yes, no }, depth)
 }
 
 /// A `let` of these names.
@@ -279,18 +199,14 @@ pub fn let_in(place: Place, names: Names, value: Boxed, body: Boxed) -> Measured
     let depth = 1 + value.depth.max(body.depth);
     let value = value.raw;
     let body = body.raw;
-    Measured {
-        raw: Raw {
-            place,
-            node: RawNode::Let {
-                names: names.names,
-                places: names.places,
-                value,
-                body,
-            },
-        },
-        depth,
-    }
+    let Names { names, places } = names;
+    let node = RawNode::Let {
+        names,
+        places,
+        value,
+        body,
+    };
+    measured(place, node, depth)
 }
 
 /// A `match` with these arms.
@@ -302,16 +218,8 @@ pub fn match_with(place: Place, of: Boxed, arms: MeasuredArms) -> Measured
 {
     let depth = 1 + of.depth.max(arms.depth);
     let of = of.raw;
-    Measured {
-        raw: Raw {
-            place,
-            node: RawNode::Match {
-                of,
-                arms: arms.arms,
-            },
-        },
-        depth,
-    }
+    let arms = arms.arms;
+    measured(place, RawNode::Match { of, arms }, depth)
 }
 
 /// The tree in a box.
@@ -322,13 +230,6 @@ pub fn boxed(alloc: Global, e: Measured) -> Result<Boxed, ReadStop>
     let depth = e.depth;
     let raw = Box::new(alloc, e.raw)?;
     Ok(Boxed { raw, depth })
-}
-
-/// What stops, once a value is given up.
-pub fn without<T: Drop>(_value: T, stop: ReadStop) -> ReadStop
-    ensures { result ≡ stop }
-{
-    stop
 }
 
 /// One tree in parentheses, or two or more.
@@ -342,22 +243,10 @@ pub fn grouped(alloc: Global, place: Place, list: MeasuredList) -> Result<Measur
     if trees.len() == 1 {
         if let Some(e) = trees.pop() {
             let e = Box::new(alloc, e)?;
-            return Ok(Measured {
-                raw: Raw {
-                    place,
-                    node: RawNode::Group(e),
-                },
-                depth,
-            });
+            return Ok(measured(place, RawNode::Group(e), depth));
         }
     }
-    Ok(Measured {
-        raw: Raw {
-            place,
-            node: RawNode::Tuple(trees),
-        },
-        depth,
-    })
+    Ok(measured(place, RawNode::Tuple(trees), depth))
 }
 
 /// No trees.
@@ -373,7 +262,7 @@ pub fn none(alloc: Global) -> MeasuredList
 
 /// One more tree at the end.
 #[tactic(auto, using(crate::proofs::Depths::depths_more))]
-pub fn with(list: MeasuredList, e: Measured) -> Result<MeasuredList, ReadStop>
+pub fn pushed(list: MeasuredList, e: Measured) -> Result<MeasuredList, ReadStop>
     ensures value { ReadAnswer (λ x. map raw_tree x.trees.items) result (Ok (map raw_tree list.trees.items ++ raw_tree e.raw ∷ [])) }
     ensures deep { IfOk result (λ x. x.depth ≡ max list.depth e.depth) }
 {
@@ -412,7 +301,7 @@ pub fn no_arms(alloc: Global) -> MeasuredArms
 
 /// One more arm at the end.
 #[tactic(auto, using(crate::proofs::Depths::arm_depths_more))]
-pub fn with_arm(list: MeasuredArms, arm: MeasuredArm) -> Result<MeasuredArms, ReadStop>
+pub fn pushed_arm(list: MeasuredArms, arm: MeasuredArm) -> Result<MeasuredArms, ReadStop>
     ensures value { ReadAnswer (λ x. map raw_arm_tree x.arms.items) result (Ok (map raw_arm_tree list.arms.items ++ raw_arm_tree arm.arm ∷ [])) }
     ensures deep { IfOk result (λ x. x.depth ≡ max list.depth arm.depth) }
 {

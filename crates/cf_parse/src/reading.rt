@@ -18,7 +18,7 @@ use cf_reader::{
     ReadStop, after_sign, after_word, expect_literal, expect_name, expect_sign, expect_word,
     literal_at_least, truth,
 };
-use cf_tree::Place;
+use cf_tree::{Place, without};
 use std::alloc::Global;
 
 /// A tree of depth at most `n`, at a tier.
@@ -174,7 +174,7 @@ fn match_with(
     let (_, rest) = expect_word("with", rest)?;
     let (_, rest) = expect_sign("{", rest)?;
     let (first, rest) = arm(alloc, n, rest)?;
-    let first = node::with_arm(node::no_arms(alloc), first)?;
+    let first = node::pushed_arm(node::no_arms(alloc), first)?;
     let (arms, rest) = more_arms(alloc, n, first, rest)?;
     Ok((node::match_with(place, of, arms), rest))
 }
@@ -216,7 +216,7 @@ fn more_arms(
         match after_sign(";", rest) {
             Some((_, behind)) => {
                 let (x, behind) = arm(alloc, n, behind)?;
-                done = node::with_arm(done, x)?;
+                done = node::pushed_arm(done, x)?;
                 rest = behind;
             }
             None => {
@@ -282,7 +282,7 @@ fn compared(
     if let Some(((place, op), rest)) = next_op(Tier::Cmps, n, left.depth, tokens) {
         return match boxed(alloc, Tier::Sums, n, rest) {
             Ok((right, rest)) => Ok((node::binary(alloc, place, op, left, right)?, rest)),
-            Err(stop) => Err(node::without(left, stop)),
+            Err(stop) => Err(without(left, stop)),
         };
     }
     if let Some(((place, k), rest)) = divides_by(n, &left.raw, tokens) {
@@ -343,7 +343,7 @@ fn chain(
                         left = node::binary(alloc, place, op, left, right)?;
                         rest = behind;
                     }
-                    Err(stop) => return Err(node::without(left, stop)),
+                    Err(stop) => return Err(without(left, stop)),
                 }
             }
         }
@@ -524,7 +524,7 @@ fn list<'a>(
     ensures deep { IfOk result (λ x. x.0.depth ≤ n) }
 {
     let (e, rest) = tree_at(alloc, Tier::Whole, n, tokens)?;
-    let first = node::with(node::none(alloc), e)?;
+    let first = node::pushed(node::none(alloc), e)?;
     more(alloc, n, close, first, rest)
 }
 
@@ -550,7 +550,7 @@ fn more<'a>(
         match after_sign(",", rest) {
             Some((_, behind)) => {
                 let (e, behind) = tree_at(alloc, Tier::Whole, n, behind)?;
-                done = node::with(done, e)?;
+                done = node::pushed(done, e)?;
                 rest = behind;
             }
             None => {

@@ -6,6 +6,7 @@ ghost use Rattle.cf_parse.specs.Spelling.{signed as signed_of};
 ghost use Rattle.cf_parse.specs.Reading.{a_sign};
 
 use cf_lex::{Token, TokenKind};
+use cf_reader::{negated, spells};
 
 /// The sign before a term of a pattern. The first term may stand without one, as behind a plus.
 #[derive(Clone, Copy)]
@@ -21,7 +22,7 @@ pub fn signed(sign: TermSign, k: i128) -> i128
 {
     match sign {
         TermSign::Plus => k,
-        TermSign::Minus => -k,
+        TermSign::Minus => negated(k),
     }
 }
 
@@ -34,9 +35,9 @@ pub fn after_term_sign(tokens: &[Token]) -> Option<(TermSign, &[Token])>
     let TokenKind::Sign(sign) = &t.kind else {
         return None;
     };
-    if sign.bytes.as_slice() == b"+".as_slice() {
+    if spells(&sign.bytes, "+") {
         Some((TermSign::Plus, rest))
-    } else if sign.bytes.as_slice() == b"-".as_slice() {
+    } else if spells(&sign.bytes, "-") {
         Some((TermSign::Minus, rest))
     } else {
         None

@@ -93,13 +93,9 @@ fn with_pair<'a>(
 fn flagged<'a>(alloc: Global, name: &'a str) -> Result<Command<'a>, AllocError>
     ensures { IfOk result (λ c. (app_of c ≡ flagged_subcommand name.entry.now) × ((out-Command c).has_globals ≡ false)) }
 {
-    match with_flag(alloc, Command::new(alloc, name), "plain") {
-        Ok(plain) => match with_flag(alloc, plain, "stats") {
-            Ok(both) => with_operand(alloc, both, "operand"),
-            Err(fault) => Err(fault),
-        },
-        Err(fault) => Err(fault),
-    }
+    let plain = with_flag(alloc, Command::new(alloc, name), "plain")?;
+    let both = with_flag(alloc, plain, "stats")?;
+    with_operand(alloc, both, "operand")
 }
 
 fn bare<'a>(alloc: Global, name: &'a str) -> Result<Command<'a>, AllocError>
@@ -111,10 +107,8 @@ fn bare<'a>(alloc: Global, name: &'a str) -> Result<Command<'a>, AllocError>
 fn paired<'a>(alloc: Global, name: &'a str) -> Result<Command<'a>, AllocError>
     ensures { IfOk result (λ c. (app_of c ≡ paired_subcommand name.entry.now) × ((out-Command c).has_globals ≡ false)) }
 {
-    match with_operand(alloc, Command::new(alloc, name), "file") {
-        Ok(one) => with_operand(alloc, one, "steps"),
-        Err(fault) => Err(fault),
-    }
+    let one = with_operand(alloc, Command::new(alloc, name), "file")?;
+    with_operand(alloc, one, "steps")
 }
 
 // The command with one more flag.

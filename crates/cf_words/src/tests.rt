@@ -15,12 +15,10 @@ pub(crate) fn may_be_read(words: &[String]) -> bool
 fn each_may_stand(words: &[String]) -> bool
     ensures { result ≡ list_all (λ w. is_flag w || is_operand w) (map string_bytes words.now) }
 {
-    let mut rest = words;
-    'words: while let Some((word, more)) = rest.split_first() {
+    for word in words {
         if !may_stand(word.as_str()) {
             return false;
         }
-        rest = more;
     }
     true
 }
@@ -41,12 +39,10 @@ fn stands_twice(words: &[String], word: &str) -> bool
 fn stands(words: &[String], word: &str) -> bool
     ensures { result ≡ stands_in word.now (map string_bytes words.now) }
 {
-    let mut rest = words;
-    'words: while let Some((first, more)) = rest.split_first() {
-        if first.as_str() == word {
+    for other in words {
+        if other.as_str() == word {
             return true;
         }
-        rest = more;
     }
     false
 }

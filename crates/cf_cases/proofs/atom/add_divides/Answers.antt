@@ -1,4 +1,4 @@
-use Rattle.std.proofs.Common.{◌≡◌, ◌∙◌, ap, length, arith}
+use Rattle.std.proofs.Common.{◌≡◌, ◌∙◌, ap, length, arith, Err, rules}
 use Rattle.cf_tree.specs.RelView.{term_tree}
 use Rattle.cf_linear.specs.Views.{plain_layout}
 use Rattle.cf_linear.specs.Written.{abs_count}
@@ -15,32 +15,33 @@ row_of-requires-clause-signs c = ap length (c.deref.ensures.value ∙ c.in_ok-si
 
 pub add_divided-requires-clause-guards : goal.add_divided-requires-clause-guards
 add_divided-requires-clause-guards c =
-    rw c.in-Ok.ensures.guards (guards_fine (plain_layout c.args.layout.now) (term_tree c.args.of.now) c.deref.result.now c.args.builder.now.next
-    c.requires.placed c.requires.above c.in-Ok.ensures.fits)
+    rw c.in_ok-written.ensures.guards (guards_fine (plain_layout c.args.layout.now) (term_tree c.args.of.now) c.deref.result.now c.args.builder.now.next
+    c.requires.placed c.requires.above c.in_ok-written.ensures.fits)
 
 pub add_divided-requires-clause-column : goal.add_divided-requires-clause-column
 add_divided-requires-clause-column c = next_positive (plain_layout c.args.layout.now) (term_tree c.args.of.now) c.deref.result.now c.args.builder.now.next
-    c.in-Ok.written.next c.requires.above c.in-Ok.ensures.next
+    c.in_ok-written.written.next c.requires.above c.in_ok-written.ensures.next
 
 pub add_divided-requires-clause-room : goal.add_divided-requires-clause-room
 add_divided-requires-clause-room c =
-    let e = c.in-Ok.ensures.next ∙ write-next (plain_layout c.args.layout.now) (term_tree c.args.of.now) c.deref.result.now c.args.builder.now.next in
+    let e = c.in_ok-written.ensures.next ∙ write-next (plain_layout c.args.layout.now) (term_tree c.args.of.now) c.deref.result.now c.args.builder.now.next in
     omega arith
 
-pub returns-in-Ok-clause-next : goal.returns-in-Ok-clause-next
-returns-in-Ok-clause-next c =
-    let e = c.in-Ok.ensures.next ∙ write-next (plain_layout c.args.layout.now) (term_tree c.args.of.now) c.deref.result.now c.args.builder.now.next in
+pub returns-clause-next : goal.returns-clause-next
+returns-clause-next c =
+    let e = c.in_ok-written.ensures.next ∙ write-next (plain_layout c.args.layout.now) (term_tree c.args.of.now) c.deref.result.now c.args.builder.now.next in
     rw e at c.add_divided.ensures.next
-
-pub returns-in-Ok-clause-gives : goal.returns-in-Ok-clause-gives
-returns-in-Ok-clause-gives c =
-    let s : c.deref.result.now ≡ signs_at (abs_count (term_tree c.args.of.now)) c.args.index = c.deref.ensures.value ∙ c.in_ok-signs.ensures in
-    divides_gives (plain_layout c.args.layout.now) (rows_of c.args.builder.now) c.args.holds c.args.k.now (term_tree c.args.of.now) c.args.index
-    c.add_divided.new.builder c.add_divided.result
-    (rw s at c.in-Ok.ensures.fits) (rw (c.in-Ok.ensures.row, c.in-Ok.ensures.guards, c.in-Ok.ensures.next, s) at c.add_divided.ensures.gives)
 
 pub returns-clause-gives : goal.returns-clause-gives
 returns-clause-gives c =
     let s : c.deref.result.now ≡ signs_at (abs_count (term_tree c.args.of.now)) c.args.index = c.deref.ensures.value ∙ c.in_ok-signs.ensures in
-    divides_past (plain_layout c.args.layout.now) (rows_of c.args.builder.now) c.args.holds c.args.k.now (term_tree c.args.of.now) c.args.index
-    c.in-Err.fault (rw s at (fails_from c.in-Err.fault _ c.in-Err.ensures.past))
+    divides_gives (plain_layout c.args.layout.now) (rows_of c.args.builder.now) c.args.holds c.args.k.now (term_tree c.args.of.now) c.args.index
+    c.add_divided.new.builder c.add_divided.result
+    (rw s at c.in_ok-written.ensures.fits) (rw (c.in_ok-written.ensures.row, c.in_ok-written.ensures.guards, c.in_ok-written.ensures.next, s) at c.add_divided.ensures.gives)
+
+pub returns-in_err-written-clause-gives : goal.returns-in_err-written-clause-gives
+returns-in_err-written-clause-gives c =
+    let s : c.deref.result.now ≡ signs_at (abs_count (term_tree c.args.of.now)) c.args.index = c.deref.ensures.value ∙ c.in_ok-signs.ensures in
+    let e : c.from_residual-in_err-written.result ≡ Err c.in_err-written.field-0.0 = search rules in
+    rw e (divides_past (plain_layout c.args.layout.now) (rows_of c.args.builder.now) c.args.holds c.args.k.now (term_tree c.args.of.now) c.args.index
+    c.in_err-written.field-0.0 (rw s at (fails_from c.in_err-written.field-0.0 _ c.in_err-written.ensures.past)))

@@ -1,11 +1,11 @@
-use Rattle.std.proofs.Common.{ap, not}
+use Rattle.std.proofs.Common.{◌≡◌, ap, not, Err, rules}
 use Rattle.cf_tree.specs.RelView.{rel_tree}
 use Rattle.cf_linear.specs.Views.{plain_layout}
 use Rattle.cf_linear.specs.Cases.{negation_normal}
 use Rattle.cf_cases.specs.SystemBuilders.{rows_of}
 use Rattle.cf_cases.specs.Counts.{count_tree}
 use Rattle.cf_cases.proofs.PartLaws.{plain-and, plain-or, and_counts, or_counts}
-use Rattle.cf_cases.proofs.SystemBuilderLaws.{parts_give, parts_fail}
+use Rattle.cf_cases.proofs.SystemBuilderLaws.{parts_fail}
 use Rattle.cf_cases.proofs.AddLaws.{true_case, false_case, same_case, other_case, subset_case}
 use Rattle.cf_cases.proofs.case.+add_case.Goals as goal
 
@@ -40,21 +40,14 @@ add_case-parts_of-first-requires-clause-index t c = rw (
   ← plain-and c.args.holds (rel_tree c.in-And.a.value) (rel_tree c.in-And.b.value),
 ) (rw c.in-And.is at c.requires.index)
 
-pub add_case-returns-in-Ok-clause-gives : goal.add_case-returns-in-Ok-clause-gives
-add_case-returns-in-Ok-clause-gives t c =
-    rw (c.in-And.is, plain-and c.args.holds (rel_tree c.in-And.a.value) (rel_tree c.in-And.b.value))
-    (parts_give (plain_layout c.args.layout.now) c.args.holds (negation_normal c.args.holds (rel_tree c.in-And.a.value))
-    (negation_normal c.args.holds (rel_tree c.in-And.b.value)) c.args.index c.parts_of-first.result.0 c.parts_of-first.result.1
-    (rw (c.deref-in-And.ensures, c.deref-in-And-2.ensures) at c.parts_of-first.ensures.whole) c.args.builder.now c.add_part.new.builder
-    c.add_part-in-Ok.new.builder c.add_part-in-Ok.result (rw c.deref-in-And-3.ensures at c.in-Ok.ensures.gives)
-    (rw c.deref-in-Ok.ensures at c.add_part-in-Ok.ensures.gives))
-
-pub add_case-returns-in-Err-clause-gives : goal.add_case-returns-in-Err-clause-gives
-add_case-returns-in-Err-clause-gives t c = rw (c.in-And.is, plain-and c.args.holds (rel_tree c.in-And.a.value) (rel_tree c.in-And.b.value))
+pub add_case-returns-in_err-add_part-in-And-clause-gives : goal.add_case-returns-in_err-add_part-in-And-clause-gives
+add_case-returns-in_err-add_part-in-And-clause-gives t c =
+    let e : c.from_residual.result ≡ Err c.in_err-add_part-in-And.field-0.0 = search rules in
+    rw (e, c.in-And.is, plain-and c.args.holds (rel_tree c.in-And.a.value) (rel_tree c.in-And.b.value))
     (parts_fail (plain_layout c.args.layout.now) c.args.holds (negation_normal c.args.holds (rel_tree c.in-And.a.value))
     (negation_normal c.args.holds (rel_tree c.in-And.b.value)) c.args.index c.parts_of-first.result.0 c.parts_of-first.result.1
-    (rw (c.deref-in-And.ensures, c.deref-in-And-2.ensures) at c.parts_of-first.ensures.whole) c.args.builder.now c.in-Err.fault
-    (rw c.deref-in-And-3.ensures at c.in-Err.ensures.gives))
+    (rw (c.deref-in-And.ensures, c.deref-in-And-2.ensures) at c.parts_of-first.ensures.whole) c.args.builder.now c.in_err-add_part-in-And.field-0.0
+    (rw c.deref-in-And-3.ensures at c.in_err-add_part-in-And.ensures.gives))
 
 pub add_case-parts_of-first-requires-in-Or-clause-index : goal.add_case-parts_of-first-requires-in-Or-clause-index
 add_case-parts_of-first-requires-in-Or-clause-index t c = rw (
@@ -63,21 +56,14 @@ add_case-parts_of-first-requires-in-Or-clause-index t c = rw (
   ← plain-or c.args.holds (rel_tree c.in-Or.a.value) (rel_tree c.in-Or.b.value),
 ) (rw c.in-Or.is at c.requires.index)
 
-pub add_case-returns-in-Ok-add_part-clause-gives : goal.add_case-returns-in-Ok-add_part-clause-gives
-add_case-returns-in-Ok-add_part-clause-gives t c =
-    rw (c.in-Or.is, plain-or c.args.holds (rel_tree c.in-Or.a.value) (rel_tree c.in-Or.b.value))
-    (parts_give (plain_layout c.args.layout.now) (not c.args.holds) (negation_normal c.args.holds (rel_tree c.in-Or.a.value))
-    (negation_normal c.args.holds (rel_tree c.in-Or.b.value)) c.args.index c.parts_of-first-in-Or.result.0 c.parts_of-first-in-Or.result.1
-    (rw (c.deref-in-Or.ensures, c.deref-in-Or-2.ensures) at c.parts_of-first-in-Or.ensures.whole) c.args.builder.now c.add_part-in-Or.new.builder
-    c.add_part-in-Ok-add_part.new.builder c.add_part-in-Ok-add_part.result (rw c.deref-in-Or-3.ensures at c.in-Ok-add_part.ensures.gives)
-    (rw c.deref-in-Ok-add_part.ensures at c.add_part-in-Ok-add_part.ensures.gives))
-
-pub add_case-returns-in-Err-add_part-clause-gives : goal.add_case-returns-in-Err-add_part-clause-gives
-add_case-returns-in-Err-add_part-clause-gives t c = rw (c.in-Or.is, plain-or c.args.holds (rel_tree c.in-Or.a.value) (rel_tree c.in-Or.b.value))
+pub add_case-returns-in_err-add_part-in-Or-clause-gives : goal.add_case-returns-in_err-add_part-in-Or-clause-gives
+add_case-returns-in_err-add_part-in-Or-clause-gives t c =
+    let e : c.from_residual-in_err-add_part-in-Or.result ≡ Err c.in_err-add_part-in-Or.field-0.0 = search rules in
+    rw (e, c.in-Or.is, plain-or c.args.holds (rel_tree c.in-Or.a.value) (rel_tree c.in-Or.b.value))
     (parts_fail (plain_layout c.args.layout.now) (not c.args.holds) (negation_normal c.args.holds (rel_tree c.in-Or.a.value))
     (negation_normal c.args.holds (rel_tree c.in-Or.b.value)) c.args.index c.parts_of-first-in-Or.result.0 c.parts_of-first-in-Or.result.1
-    (rw (c.deref-in-Or.ensures, c.deref-in-Or-2.ensures) at c.parts_of-first-in-Or.ensures.whole) c.args.builder.now c.in-Err-add_part.fault
-    (rw c.deref-in-Or-3.ensures at c.in-Err-add_part.ensures.gives))
+    (rw (c.deref-in-Or.ensures, c.deref-in-Or-2.ensures) at c.parts_of-first-in-Or.ensures.whole) c.args.builder.now c.in_err-add_part-in-Or.field-0.0
+    (rw c.deref-in-Or-3.ensures at c.in_err-add_part-in-Or.ensures.gives))
 
 pub add_case-parts_of-first-requires-clause-counts : goal.add_case-parts_of-first-requires-clause-counts
 add_case-parts_of-first-requires-clause-counts t c =

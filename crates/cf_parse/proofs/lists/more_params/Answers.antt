@@ -1,8 +1,8 @@
-use Rattle.std.proofs.Common.{refl, sym, ◌∙◌, arith}
+use Rattle.std.proofs.Common.{rules, sym, ◌∙◌, arith}
 use Rattle.std.proofs.lemmas.Result.{err_from_is_err_and}
 use Rattle.cf_reader.specs.Readers.{others_of, snoc}
-use Rattle.cf_target.proofs.Loops.{more_open, out_of_memory}
-use Rattle.cf_reader.proofs.Steps.{more_closes, more_ends, more_fails, more_next, ok_same}
+use Rattle.cf_target.proofs.Loops.{more_open}
+use Rattle.cf_reader.proofs.Steps.{more_closes, more_ends, more_fails, more_next}
 use Rattle.cf_parse.specs.Reading.{param_of}
 use Rattle.cf_parse.proofs.lists.more_params.Goals as goal
 
@@ -17,11 +17,6 @@ returns-in_err-behind-in-None c =
     let p = err_from_is_err_and c.from_residual-in_err-behind-in-None.result c.from_residual-in_err-behind-in-None.ensures.1 in
     rw (p.1, p.2, ← c.loop.invariant) (more_open snoc param_of _ _ _ _ _ _ c.in-None.ensures c.in_err-behind-in-None.ensures (omega arith))
 
-pub returns-in_err-done-in-Some : goal.returns-in_err-done-in-Some
-returns-in_err-done-in-Some c =
-    let p = err_from_is_err_and c.from_residual-in_err-done-in-Some.result c.from_residual-in_err-done-in-Some.ensures.1 in
-    rw (p.1, p.2) (out_of_memory _ _ _ c.in_err-done-in-Some.ensures)
-
 pub returns : goal.returns
 unfolding others_of
 returns c = sym c.loop.invariant ∙ more_ends snoc param_of _ _ _ _ _ (omega arith)
@@ -34,4 +29,4 @@ returns-in_err-x-in-Some c =
 
 pub loop-preserved : goal.loop-preserved
 loop-preserved c = more_next snoc param_of _ _ _ _ _ _ _ _ _ _ _ _ c.in-Some.ensures c.in_ok-x-in-Some.ensures (omega arith)
-    (ok_same _ _ _ refl c.in_ok-done-in-Some.ensures) c.loop.invariant
+    (search rules) c.loop.invariant

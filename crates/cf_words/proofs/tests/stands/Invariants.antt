@@ -1,9 +1,6 @@
-use Rattle.std.proofs.Common.{◌≡◌, length, map, string_bytes}
+use Rattle.std.proofs.Common.{◌≡◌, map, drop, string_bytes}
 use Rattle.cf_words.specs.Words.{stands}
 use Rattle.cf_words.proofs.tests.stands.Given as goal
 
-abbrev pub invariant-words : goal.invariant-words
-invariant-words l = stands l.word (map string_bytes l.rest) ≡ stands l.word (map string_bytes l.words)
-
-abbrev pub decreases-words : goal.decreases-words
-decreases-words l = length l.rest
+abbrev pub invariant-loop-other : goal.invariant-loop-other
+invariant-loop-other l = stands l.word (map string_bytes (drop l.other-index l.words)) ≡ stands l.word (map string_bytes l.words)
