@@ -5,3 +5,6 @@ pub mod LineLemmas
 pub mod Owed
 pub mod ShelfLemmas
 mod LimitExamples
+mod LineExamples
+mod CountExamples
+mod ShelfExamples
