@@ -1,19 +1,19 @@
 -- One block for each choose, one text for each choose, and one reply for each line, in order.
 use Rattle.std.proofs.Common.{◌≡◌, ℕ, ◌+◌, List, [], ◌∷◌, ◌++◌, refl, arith, codes}
 use Rattle.cf_tree.specs.RelTree.{rel_true}
-use Rattle.cf_build.specs.Questions.{Question}
+use Rattle.cf_tree.specs.ChooseTree.{ChooseTree}
 use Rattle.cf_answer.specs.Certificates.{OneForEach}
 use Rattle.cf_answer.specs.Owed.{AllReplied, AllWritten}
 
 -- a choose with that number
-abbrev choose : ℕ → Question
+abbrev choose : ℕ → ChooseTree
 choose n = record { number = n; names = []; scope = []; outputs = []; relation = rel_true }
 
-abbrev two : List Question
+abbrev two : List ChooseTree
 two = choose 1 ∷ choose 2 ∷ []
 
 -- what has the number of the choose
-abbrev HasNumber : Question → ℕ → Type 0
+abbrev HasNumber : ChooseTree → ℕ → Type 0
 HasNumber q n = q.number ≡ n
 
 -- ---- blocks
@@ -33,7 +33,7 @@ other-order : OneForEach HasNumber two (2 ∷ 1 ∷ []) → ⊥
 other-order h = omega (arith, h.0)
 
 -- ---- texts
-abbrev IsText : Question → List ℕ → Type 0
+abbrev IsText : ChooseTree → List ℕ → Type 0
 IsText q text = text ≡ (48 + q.number) ∷ []
 
 both-written : AllWritten IsText two (codes "12")

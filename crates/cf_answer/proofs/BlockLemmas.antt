@@ -2,16 +2,18 @@
 use Rattle.std.proofs.Common.{◌≡◌, ◌∙◌, sym, ap, subst, refl, ℕ, ◌+◌, ◌-◌, ◌^◌, ◌<◌, ◌≤◌, List, [], ◌∷◌, ◌++◌, length, map, take, get_or, All, append_assoc, flat_map, Ok, arith}
 use Rattle.std.proofs.lemmas.List.{take_more, take_all, map-append}
 use Rattle.std.proofs.lemmas.List.Elements.{All-nil, All-cons, All-head, All-tail}
+use Rattle.std.specs.Prelude.{◌⊎◌}
 use Rattle.cf_lex.specs.declared.token.TokenList.{TokenList}
 use Rattle.cf_lex.specs.Tokens.{at_end}
 use Rattle.cf_lex.proofs.LexesLemmas.{answer-count}
-use Rattle.cf_linear.specs.declared.refusal.Refusal.{Refusal}
 use Rattle.cf_program.specs.Checked.{TypedTree}
 use Rattle.cf_cases.specs.Holding.{EachOf}
-use Rattle.cf_build.specs.Questions.{Question, all_questions, IsFirstRefused}
-use Rattle.cf_build.specs.Solves.{question_of}
-use Rattle.cf_build.specs.declared.chooses.Choose.{Choose}
-use Rattle.cf_build.specs.declared.fault.BuildFault.TheVariants as faults
+use Rattle.cf_tree.specs.ChooseTree.{ChooseTree}
+use Rattle.cf_build.specs.Chooses.{all_chooses}
+use Rattle.cf_build.specs.Solves.{FaultAnswer}
+use Rattle.cf_tree.specs.ChooseView.{choose_tree}
+use Rattle.cf_tree.specs.declared.choose.Choose.{Choose}
+use Rattle.cf_build.specs.declared.fault.BuildFault.{BuildFault}
 use Rattle.cf_build.proofs.SolveLists.{fault_in_order}
 use Rattle.cf_steps.specs.Printed.{block_text, blocks_text}
 use Rattle.cf_steps.specs.Blocks.{BlockTree, block_acts, block_tree}
@@ -23,13 +25,13 @@ use Rattle.cf_cert.specs.Verifying.{HaveFewSteps}
 use Rattle.cf_cert.proofs.SpelledLaws.{spelled_within as cases_within}
 use Rattle.cf_prove.specs.Proving.{IsProved}
 use Rattle.cf_answer.specs.Limits.{text_limit}
-use Rattle.cf_answer.specs.Certificates.{asked, asked_in, OneForEach, IsTraced, AreProofs}
-use Rattle.cf_answer.specs.Refusals.{IsRefusedSource}
+use Rattle.cf_answer.specs.Certificates.{asked_in, OneForEach, IsTraced, AreProofs}
+use Rattle.cf_answer.specs.Refusals.{fault_of, IsRefusedSource}
 use Rattle.cf_answer.specs.Sources.{HasTokens, IsTypedSource}
 use Rattle.cf_answer.specs.declared.fault.Fault.TheVariants as fault
 use Rattle.cf_answer.specs.Verifying.{AddsBlock, ArePut}
 use Rattle.cf_answer.proofs.CertificateLemmas.{IsWithin, traced_within}
-use Rattle.cf_answer.proofs.TextLemmas.{choose_refused}
+use Rattle.cf_answer.proofs.TextLemmas.{build_refused}
 
 pub none_put : ArePut [] []
 none_put = ([], tt, All-nil IsSpelledBlock, refl)
@@ -40,7 +42,7 @@ blocks_more (c ∷ bs) b =
     let first = block_text c.number (block_tree c).cases c.target in
     ap (λ more. first ++ more) (blocks_more bs b) ∙ sym (append_assoc first (blocks_text bs) (blocks_text (b ∷ [])))
 
-traced_more : (qs : List Question) (bs : List Block) (q : Question) (b : Block) → OneForEach IsTraced qs bs → IsTraced q b →
+traced_more : (qs : List ChooseTree) (bs : List Block) (q : ChooseTree) (b : Block) → OneForEach IsTraced qs bs → IsTraced q b →
     OneForEach IsTraced (qs ++ q ∷ []) (bs ++ b ∷ [])
 traced_more [] [] q b h t = (t, tt)
 traced_more [] (c ∷ bs) q b h t = absurd h
@@ -53,7 +55,7 @@ spelled_more (c ∷ bs) b h s =
     All-cons IsSpelledBlock c (bs ++ b ∷ []) (All-head IsSpelledBlock c bs h) (spelled_more bs b (All-tail IsSpelledBlock c bs h) s)
 
 -- the printed block that a proof of the choose gives
-pub proved_adds : (q : Question) (proved text new : List ℕ) → IsProved (asked q) proved → new ≡ text ++ proved → AddsBlock q text new
+pub proved_adds : (q : ChooseTree) (proved text new : List ℕ) → IsProved q proved → new ≡ text ++ proved → AddsBlock q text new
 proved_adds q proved text new h is = (
   h.block,
   record { within = h.within; is = h.is; proves = record { certifies = h.certifies; means = h.means } },
@@ -62,34 +64,33 @@ proved_adds q proved text new h is = (
 )
 
 -- the first choose that is refused as a fault of its source
-pub block_refused : (source : List ℕ) (typed : TypedTree) (qs : List Question) (n : ℕ) (r : Refusal) → qs ≡ asked_in typed → IsTypedSource source typed →
-    IsFirstRefused qs n r → IsRefusedSource source (fault.Choose n r)
-block_refused source typed qs n r are s h =
-    let first : IsFirstRefused (asked_in typed) n r = subst (λ ps. IsFirstRefused ps n r) are h in
-    choose_refused source typed n r s (fault_in_order (all_questions typed.defs) (faults.Choose n r) first)
+pub block_refused : (source : List ℕ) (typed : TypedTree) (qs : List ChooseTree) (f : BuildFault) → qs ≡ asked_in typed → IsTypedSource source typed →
+    FaultAnswer qs f → IsRefusedSource source (fault_of f) ⊎ (fault_of f ≡ fault.NoMemory)
+block_refused source typed qs f are s h =
+    build_refused source typed f s (fault_in_order (all_chooses typed.defs) f (subst (λ ps. FaultAnswer ps f) are h))
 
 -- one more choose
-pub put_more : (cs : List Choose) (i : ℕ) (c : Choose) (text new : List ℕ) → i < length cs → c ≡ get_or cs i c → ArePut (map question_of (take i cs)) text →
-    AddsBlock (question_of c) text new → ArePut (map question_of (take (i + 1) cs)) new
+pub put_more : (cs : List Choose) (i : ℕ) (c : Choose) (text new : List ℕ) → i < length cs → c ≡ get_or cs i c → ArePut (map choose_tree (take i cs)) text →
+    AddsBlock (choose_tree c) text new → ArePut (map choose_tree (take (i + 1) cs)) new
 put_more cs i c text new lt is (bs, traced, spelled, same) (b, t, s, next) =
     let chooses : take (i + 1) cs ≡ take i cs ++ c ∷ [] = take_more cs i c lt ∙ ap (λ x. take i cs ++ x ∷ []) (sym is) in
-    let asked : map question_of (take (i + 1) cs) ≡ map question_of (take i cs) ++ question_of c ∷ [] =
-    ap (map question_of) chooses ∙ map-append question_of (take i cs) (c ∷ []) in
+    let asked : map choose_tree (take (i + 1) cs) ≡ map choose_tree (take i cs) ++ choose_tree c ∷ [] =
+    ap (map choose_tree) chooses ∙ map-append choose_tree (take i cs) (c ∷ []) in
     subst (λ qs. ArePut qs new) (sym asked) (
       bs ++ b ∷ [],
-      traced_more (map question_of (take i cs)) bs (question_of c) b traced t,
+      traced_more (map choose_tree (take i cs)) bs (choose_tree c) b traced t,
       spelled_more bs b spelled s,
       next ∙ ap (λ x. x ++ blocks_text (b ∷ [])) same ∙ sym (blocks_more bs b),
     )
 
 -- those before it pass no limit
-pub put_within : (qs : List Question) (text : List ℕ) → ArePut qs text → All IsWithin qs
+pub put_within : (qs : List ChooseTree) (text : List ℕ) → ArePut qs text → All IsWithin qs
 put_within qs text (bs, traced, spelled, same) = traced_within qs bs traced
 
 -- all
-pub put_all : (cs : List Choose) (i : ℕ) (text : List ℕ) → length cs ≤ i → ArePut (map question_of (take i cs)) text → AreProofs (map question_of cs) text
+pub put_all : (cs : List Choose) (i : ℕ) (text : List ℕ) → length cs ≤ i → ArePut (map choose_tree (take i cs)) text → AreProofs (map choose_tree cs) text
 put_all cs i text few h =
-    let whole : ArePut (map question_of cs) text = subst (λ ds. ArePut (map question_of ds) text) (take_all i cs few) h in
+    let whole : ArePut (map choose_tree cs) text = subst (λ ds. ArePut (map choose_tree ds) text) (take_all i cs few) h in
     let bs = whole.0 in
     (bs, whole.1, whole.3, rw whole.3 (blocks_read_back bs whole.2))
 

@@ -9,12 +9,13 @@ use Rattle.cf_linear.specs.declared.refusal.Refusal.TheVariants as refusal
 use Rattle.cf_linear.specs.Cases.{disjuncts, system_of_case, first_systems, write_atom}
 use Rattle.cf_linear.specs.Stages.{run, run_for, clean_stage, equation_stage, bound_stage, unknown_stage, row_stage, stage}
 use Rattle.cf_linear.specs.Steps.{clean, pick, searched, dropped, searched_by, bound, bound_passes}
-use Rattle.cf_build.specs.Questions.{solve_of}
+use Rattle.cf_build.specs.Chooses.{solve_of}
 use Rattle.cf_emit.specs.Printed.{code_text}
 use Rattle.cf_steps.specs.Printed.{cases_text}
 use Rattle.cf_cert.specs.declared.verdict.Why.TheVariants as why
-use Rattle.cf_prove.specs.Tracing.{traced, traced_block, acts_for, acts_at}
-use Rattle.cf_answer.specs.Certificates.{asked, verified_line}
+use Rattle.cf_elim.specs.Acts.{traced, acts_for, acts_at}
+use Rattle.cf_prove.specs.Tracing.{traced_block}
+use Rattle.cf_answer.specs.Certificates.{verified_line}
 use Rattle.cf_answer.specs.Statuses.{code_of, status_of}
 use Rattle.cf_answer.specs.Texts.{answer_line}
 use Rattle.cf_answer.specs.declared.fault.Fault.TheVariants as fault
@@ -22,12 +23,12 @@ use Rattle.cf_answer.specs.declared.fault.StepsFault.TheVariants as steps_fault
 use Rattle.cf_answer.proofs.PreExamples.{rounding}
 
 -- ---- what prove writes
-rounding_steps : cases_text (traced_block (asked rounding)).cases ≡ codes "case {\nclean;\ndrop 3;\nclean;\n}\n"
+rounding_steps : cases_text (traced_block rounding).cases ≡ codes "case {\nclean;\ndrop 3;\nclean;\n}\n"
 unfolding traced acts_for acts_at first_systems disjuncts system_of_case write_atom run run_for stage clean_stage equation_stage bound_stage unknown_stage
     row_stage clean pick searched dropped searched_by bound bound_passes gcd_by factors_by parts_of digits
 rounding_steps = refl
 
-rounding_code : code_text (traced_block (asked rounding)).target.code ≡ code_text (solve_of rounding)
+rounding_code : code_text (traced_block rounding).target.code ≡ code_text (solve_of rounding)
 rounding_code = refl
 
 -- ---- what verify writes

@@ -1,5 +1,5 @@
 -- Why steps are not accepted for a source, and that this is one thing only.
-use Rattle.std.proofs.Common.{◌≡◌, inl, inr, ap, subst, refl, ℕ, List, [], ◌∷◌, map, None, All}
+use Rattle.std.proofs.Common.{◌≡◌, inl, inr, ap, subst, refl, ℕ, List, [], ◌∷◌, None, All}
 use Rattle.std.proofs.lemmas.List.Elements.{All-nil, All-cons, All-contains}
 use Rattle.std.proofs.lemmas.List.Sorted.{Contains-permutation}
 use Rattle.std.specs.Prelude.{Ok}
@@ -7,7 +7,8 @@ use Rattle.cf_tree.specs.DefView.{RawDefTree}
 use Rattle.cf_parse.specs.Programs.{IsProgram, program_of}
 use Rattle.cf_parse.proofs.Programs.{one_law as one_program}
 use Rattle.cf_program.specs.Checked.{TypedTree, checked}
-use Rattle.cf_build.specs.Questions.{Question, all_questions, limit_of}
+use Rattle.cf_tree.specs.ChooseTree.{ChooseTree}
+use Rattle.cf_build.specs.Chooses.{all_chooses, limit_of}
 use Rattle.cf_build.proofs.NumberOrder.{ordered_same}
 use Rattle.cf_steps.specs.Blocks.{BlockTree}
 use Rattle.cf_steps.specs.Reading.{all_blocks}
@@ -17,10 +18,10 @@ use Rattle.cf_steps.proofs.Only.{one_law as one_blocks}
 use Rattle.cf_cert.specs.Judging.{IsVerdict}
 use Rattle.cf_cert.specs.declared.verdict.Verdict.TheVariants.{Yes, Rejected}
 use Rattle.cf_cases.specs.Holding.{EachOf}
-use Rattle.cf_cert.specs.Laws.{AreWithinCases, IsQuestion}
+use Rattle.cf_cert.specs.Laws.{AreWithinCases, IsLinearChoose}
 use Rattle.cf_cert.proofs.CertifiedArms.{certified_means}
 use Rattle.cf_cert.proofs.JudgeLaws.{one_verdict}
-use Rattle.cf_answer.specs.Certificates.{asked, asked_in, OneForEach, IsProofOf, IsTraced, AreProofs, AreVerified}
+use Rattle.cf_answer.specs.Certificates.{asked_in, OneForEach, IsProofOf, IsTraced, AreProofs, AreVerified}
 use Rattle.cf_answer.specs.Refusals.{Causes, IsBroken, broken_rule, IsBrokenSource, IsRefusedSource, IsUnverified, bad_source, bad_steps, bad_blocks}
 use Rattle.cf_answer.specs.Sources.{Spelled, IsTypedSource}
 use Rattle.cf_answer.specs.Statuses.{fault_status, rule_status}
@@ -62,7 +63,7 @@ verify_alike source steps f g (bad_blocks typed bs n i j w s b v) (bad_steps oth
 verify_alike source steps f g (bad_blocks typed bs n i j w s b v) (bad_blocks other cs m k l x t c u) = refl
 
 -- blocks that prove chooses are accepted
-proofs_accepted : (qs : List Question) (bs : List BlockTree) → OneForEach IsProofOf qs bs → IsVerdict (map asked qs) bs Yes
+proofs_accepted : (qs : List ChooseTree) (bs : List BlockTree) → OneForEach IsProofOf qs bs → IsVerdict qs bs Yes
 proofs_accepted [] [] h = refl
 proofs_accepted [] (b ∷ bs) h = absurd h
 proofs_accepted (q ∷ qs) [] h = absurd h
@@ -76,28 +77,28 @@ verify_unrefused source steps typed f s (bs, b, proofs) (bad_blocks other cs n i
     let program : other ≡ typed = typed_once source typed other s t in
     let blocks : cs ≡ bs = trees_agree AreBlocks one_blocks steps cs bs c b in
     let yes = proofs_accepted (asked_in typed) bs proofs in
-    let no : IsVerdict (map asked (asked_in typed)) bs (Rejected n i j w) =
-    subst (λ ds. IsVerdict (map asked (asked_in typed)) ds (Rejected n i j w)) blocks
-    (subst (λ p. IsVerdict (map asked (asked_in p)) cs (Rejected n i j w)) program v) in
-    let same : Yes ≡ Rejected n i j w = one_verdict (map asked (asked_in typed)) bs Yes (Rejected n i j w) yes no in cc
+    let no : IsVerdict (asked_in typed) bs (Rejected n i j w) =
+    subst (λ ds. IsVerdict (asked_in typed) ds (Rejected n i j w)) blocks
+    (subst (λ p. IsVerdict (asked_in p) cs (Rejected n i j w)) program v) in
+    let same : Yes ≡ Rejected n i j w = one_verdict (asked_in typed) bs Yes (Rejected n i j w) yes no in cc
 
 -- and the other way round: where the verdict is Yes, each block proves its choose
-pub yes_proves : (qs : List Question) (bs : List BlockTree) → EachOf IsQuestion (map asked qs) → EachOf (λ b. AreWithinCases b.cases) bs →
-    IsVerdict (map asked qs) bs Yes → OneForEach IsProofOf qs bs
+pub yes_proves : (qs : List ChooseTree) (bs : List BlockTree) → EachOf IsLinearChoose qs → EachOf (λ b. AreWithinCases b.cases) bs →
+    IsVerdict qs bs Yes → OneForEach IsProofOf qs bs
 yes_proves [] [] questions within h = tt
 yes_proves [] (b ∷ bs) questions within h = cc
 yes_proves (q ∷ qs) [] questions within h = cc
 yes_proves (q ∷ qs) (b ∷ bs) questions within (inl h) = (
-  record { certifies = h.0; means = certified_means (asked q) b questions.0 within.0 h.0 },
+  record { certifies = h.0; means = certified_means q b questions.0 within.0 h.0 },
   yes_proves qs bs questions.1 within.1 h.1,
 )
 yes_proves (q ∷ qs) (b ∷ bs) questions within (inr (f, is, rejected)) = cc
 
 -- a program of which the blocks of the traces are owed is not refused
-abbrev pub IsWithin : Question → Type 0
+abbrev pub IsWithin : ChooseTree → Type 0
 IsWithin q = limit_of q ≡ None
 
-pub traced_within : (qs : List Question) (bs : List Block) → OneForEach IsTraced qs bs → All IsWithin qs
+pub traced_within : (qs : List ChooseTree) (bs : List Block) → OneForEach IsTraced qs bs → All IsWithin qs
 traced_within [] [] h = All-nil IsWithin
 traced_within [] (b ∷ bs) h = absurd h
 traced_within (q ∷ qs) [] h = absurd h
@@ -106,7 +107,7 @@ traced_within (q ∷ qs) (b ∷ bs) h = All-cons IsWithin q qs h.0.within (trace
 pub proofs_unrefused : (text : List ℕ) (typed : TypedTree) (written : List ℕ) (f : Fault) → IsTypedSource text typed → AreProofs (asked_in typed) written →
     IsRefusedSource text f → ⊥
 proofs_unrefused text typed written f s (bs, traced, printed, back) h =
-    let qs = all_questions typed.defs in
+    let qs = all_chooses typed.defs in
     typed_unrefused text typed f s
     (λ q m. All-contains IsWithin (asked_in typed) q (traced_within (asked_in typed) bs traced)
     (Contains-permutation qs (asked_in typed) q (ordered_same qs) m)) h

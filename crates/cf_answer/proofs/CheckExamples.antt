@@ -9,7 +9,7 @@ use Rattle.cf_linear.specs.declared.refusal.LimitKind.TheVariants as kind
 use Rattle.cf_linear.specs.declared.refusal.Refusal.TheVariants as refusal
 use Rattle.cf_match.specs.Matches.{MatchTree}
 use Rattle.cf_match.specs.declared.class.Class.TheVariants.{Point, Residue}
-use Rattle.cf_build.specs.Questions.{Question}
+use Rattle.cf_tree.specs.ChooseTree.{ChooseTree}
 use Rattle.cf_eval.specs.declared.value.Value.{Value as RunValue}
 use Rattle.cf_eval.specs.declared.value.Value.TheVariants as ran
 use Rattle.cf_warn.specs.declared.answer.Doubt.TheVariants.{Refused, Overflow}
@@ -21,7 +21,7 @@ use Rattle.cf_warn.specs.Verdicts.{IsExistence, IsUniqueness}
 use Rattle.cf_answer.specs.Checks.{existence_line, uniqueness_line, cover_line, IsOwn, AreLines, of_choose, of_arm, of_match}
 
 -- choose 7, where p, s and a are in scope, and the relation speaks of a and s
-abbrev some_choose : Question
+abbrev some_choose : ChooseTree
 some_choose = record {
   number = 7;
   names = codes "p" ∷ codes "s" ∷ codes "a" ∷ [];
@@ -31,7 +31,7 @@ some_choose = record {
 }
 
 -- choose 12, which speaks of no variable in scope
-abbrev without_parameters : Question
+abbrev without_parameters : ChooseTree
 without_parameters = record {
   number = 12;
   names = codes "p" ∷ [];
@@ -128,7 +128,7 @@ three_is_a_choose m c = (λ e. no_match (ap (λ v. v.number) (only m c)) e, λ a
 
 -- ---- the lines of each kind of number, where these verdicts hold
 -- choose 2 is the one of the first arm: `match == 2 * i + 0`
-abbrev of_first_arm : Question
+abbrev of_first_arm : ChooseTree
 of_first_arm = record {
   number = 2;
   names = codes "a" ∷ codes "match" ∷ [];
@@ -138,7 +138,7 @@ of_first_arm = record {
 }
 
 -- choose 1 is the one that stands for a number that no arm fits
-abbrev of_no_arm : Question
+abbrev of_no_arm : ChooseTree
 of_no_arm = record { number = 1; names = codes "a" ∷ codes "match" ∷ []; scope = Int ∷ Int ∷ []; outputs = Int ∷ []; relation = rel_false }
 
 two_lines : IsOwn one_match 7 → IsExistence some_choose.scope some_choose.outputs some_choose.relation existence.Always →

@@ -35,6 +35,7 @@ pub mod SumLemmas
 pub mod TargetLemmas
 pub mod TextLemmas
 pub mod VerifyLemmas
+pub mod WorkloadAccepted
 pub mod WorkloadLaw
 pub mod WorkloadPicks
 pub mod WorkloadShapes
@@ -47,3 +48,7 @@ mod ReplyExamples
 mod BlockExamples
 mod StatusExamples
 mod OutsideExamples
+mod BlameExamples
+mod CommandExamples
+mod EndExamples
+mod RefusalExamples

@@ -5,6 +5,7 @@ use Rattle.cf_tree.specs.declared.base.Base.TheVariants.{Int, Set}
 use Rattle.cf_tree.specs.declared.base.Base.{Base}
 use Rattle.cf_tree.specs.declared.raw.BinOp.TheVariants.{Mul}
 use Rattle.cf_tree.specs.declared.raw.Param.{Param}
+use Rattle.cf_tree.specs.declared.target.RawTarget.{RawTarget}
 use Rattle.cf_tree.specs.ExprTree.{expr_binary, expr_card, expr_var}
 use Rattle.cf_tree.specs.Values.{Value, number, values, no_solution}
 use Rattle.cf_program.specs.Checked.{TypedTree}
@@ -53,5 +54,5 @@ summary_of_1 : sum_line 1 (negsuc 95) ≡ codes "lines 1 sum -96\n"
 unfolding digits
 summary_of_1 = refl
 
-no_lines_sum_to_zero : IsSum squares 0 [] (pos 1) → ⊥
-no_lines_sum_to_zero h = cc
+no_lines_sum_to_zero : (t : RawTarget) → IsSum t squares 0 [] (pos 1) → ⊥
+no_lines_sum_to_zero t h = cc

@@ -77,6 +77,7 @@ picked_text_of typed passes t vs o e h =
 record Read (typed : TypedTree) (passes : ℕ) (t : RawTarget) (line : List ℕ) (vs : List Value) : Type 0 where
   short : length line ≤ line_limit
   spelled : SpellsValues limit (main_bases typed) line vs
+  asked : SpellsValues limit t.params.items line vs
   allowed : SourceAllows typed.defs typed.main vs (means (code_tree t.code) vs)
   runs : RunsAsPicked typed.defs typed.main passes (code_tree t.code) vs
 
@@ -110,6 +111,7 @@ picked_reply typed passes t h line reply (meaning vs short r) =
     reply_to typed passes t line vs (main_picks typed vs) refl (record {
       short = short;
       spelled = subst (λ bs. SpellsValues limit bs line vs) (same_parameters typed passes t h) r;
+      asked = r;
       allowed = h.allowed vs fit.0;
       runs = h.runs vs fit.0 fit.1;
     })
@@ -126,9 +128,10 @@ pub replies_picked : (passes : ℕ) (file : List ℕ) (t : RawTarget) (ls : List
 replies_picked passes file t ls text h replies =
     (h.0, h.1, all_replied (IsReplyBy (by_target t)) (IsSourceReply h.0 passes) (picked_reply h.0 passes t h.2) ls text replies)
 
--- what a run adds is what the reply to the line adds that the source picks
-record Added (typed : TypedTree) (passes : ℕ) (line : List ℕ) (z : ℤ) : Type 0 where
+-- what a run adds is what the reply of the target to the line adds, which the source picks
+record Added (typed : TypedTree) (passes : ℕ) (t : RawTarget) (line : List ℕ) (z : ℤ) : Type 0 where
   reply : List ℕ
+  replied : IsReplyBy (by_target t) line reply
   told : IsSourceReply typed passes line reply
   same : z ≡ adds typed passes line reply told
 
@@ -139,29 +142,38 @@ passes_of : (passes most high : ℕ) → high ≤ most → (passes ≡ 0 → mos
 passes_of zero most high within past = never_both most high (past refl) within
 passes_of (suc n) most high within past = omega arith
 
+-- the text of what the target means is its reply
+means_reply : (typed : TypedTree) (passes : ℕ) (t : RawTarget) (line : List ℕ) (vs : List Value) (text : List ℕ) → Read typed passes t line vs →
+    text ≡ meaning_text (2 ^ 127 - 1) t vs → IsReplyBy (by_target t) line text
+means_reply typed passes t line vs text r is = subst (IsReply line_limit (2 ^ 127 - 1) t line) (sym is) (meaning vs r.short r.asked)
+
 -- main picks an outcome
 some_added : (typed : TypedTree) (passes : ℕ) (t : RawTarget) (line : List ℕ) (vs : List Value) (o : Outcome) → main_picks typed vs ≡ Some o →
-    Read typed passes t line vs → Added typed passes line (outcome_number (Some o))
+    Read typed passes t line vs → Added typed passes t line (outcome_number (Some o))
 some_added typed passes t line vs o e r = record {
   reply = picked_text (main_picks typed vs);
+  replied = means_reply typed passes t line vs (picked_text (main_picks typed vs)) r (ap picked_text e ∙ picked_text_of typed passes t vs o e r.runs);
   told = picks vs r.short r.spelled (λ none. cc);
   same = ap outcome_number (sym e);
 }
 
 -- main picks overflow, and so the target does
 past_added : (typed : TypedTree) (passes : ℕ) (t : RawTarget) (line : List ℕ) (vs : List Value) → main_picks typed vs ≡ None → Read typed passes t line vs →
-    limit < peak (code_tree t.code) vs → Added typed passes line (pos 0)
+    limit < peak (code_tree t.code) vs → Added typed passes t line (pos 0)
 past_added typed passes t line vs e r past = record {
   reply = picked_text (main_picks typed vs);
+  replied = means_reply typed passes t line vs (picked_text (main_picks typed vs)) r (ap picked_text e ∙ overflow_text (2 ^ 127 - 1) t vs past);
   told = picks vs r.short r.spelled (λ _. r.runs.near past);
   same = ap outcome_number (sym e);
 }
 
 -- main picks overflow, and the target does not
 within_added : (typed : TypedTree) (passes : ℕ) (t : RawTarget) (line : List ℕ) (vs : List Value) → main_picks typed vs ≡ None →
-    Read typed passes t line vs → peak (code_tree t.code) vs ≤ limit → Added typed passes line (outcome_number (Some (means (code_tree t.code) vs)))
+    Read typed passes t line vs → peak (code_tree t.code) vs ≤ limit → Added typed passes t line (outcome_number (Some (means (code_tree t.code) vs)))
 within_added typed passes t line vs e r within = record {
   reply = outcome_text (means (code_tree t.code) vs);
+  replied = means_reply typed passes t line vs (outcome_text (means (code_tree t.code) vs)) r
+      (within_text (2 ^ 127 - 1) t vs (outcome_text (means (code_tree t.code) vs)) within refl);
   told = allows vs (means (code_tree t.code) vs) r.short r.spelled e
       (passes_of passes limit (peak (code_tree t.code) vs) within (λ none. r.runs.overflow none e)) r.allowed;
   same = refl;
@@ -169,44 +181,51 @@ within_added typed passes t line vs e r within = record {
 
 -- the target means an outcome and meets no number past the limit
 meant_added : (typed : TypedTree) (passes : ℕ) (t : RawTarget) (line : List ℕ) (vs : List Value) (o : Outcome) (p : Option Outcome) → main_picks typed vs ≡ p →
-    Read typed passes t line vs → means (code_tree t.code) vs ≡ o → peak (code_tree t.code) vs ≤ limit → Added typed passes line (outcome_number (Some o))
+    Read typed passes t line vs → means (code_tree t.code) vs ≡ o → peak (code_tree t.code) vs ≤ limit → Added typed passes t line (outcome_number (Some o))
 meant_added typed passes t line vs o (Some q) e r same within =
     let picked : q ≡ o = sym (r.runs.outcome q e).1 ∙ same in
-    subst (λ v. Added typed passes line (outcome_number (Some v))) picked (some_added typed passes t line vs q e r)
+    subst (λ v. Added typed passes t line (outcome_number (Some v))) picked (some_added typed passes t line vs q e r)
 meant_added typed passes t line vs o None e r same within =
-    subst (λ v. Added typed passes line (outcome_number (Some v))) same (within_added typed passes t line vs e r within)
+    subst (λ v. Added typed passes t line (outcome_number (Some v))) same (within_added typed passes t line vs e r within)
 
 overflow_added : (typed : TypedTree) (passes : ℕ) (t : RawTarget) (line : List ℕ) (vs : List Value) (p : Option Outcome) → main_picks typed vs ≡ p →
-    Read typed passes t line vs → limit < peak (code_tree t.code) vs → Added typed passes line (pos 0)
+    Read typed passes t line vs → limit < peak (code_tree t.code) vs → Added typed passes t line (pos 0)
 overflow_added typed passes t line vs (Some q) e r past = never_both limit (peak (code_tree t.code) vs) past (r.runs.outcome q e).0
 overflow_added typed passes t line vs None e r past = past_added typed passes t line vs e r past
 
 run_added : (typed : TypedTree) (passes : ℕ) (t : RawTarget) (line : List ℕ) (vs : List Value) (o : RunOutcome) → Read typed passes t line vs →
-    Answers (code_tree t.code) vs o → Added typed passes line (run_number o)
+    Answers (code_tree t.code) vs o → Added typed passes t line (run_number o)
 run_added typed passes t line vs (Values given) r a = meant_added typed passes t line vs (values (plains given.items)) (main_picks typed vs) refl r a.0 a.1
 run_added typed passes t line vs (NoSolution n) r a = meant_added typed passes t line vs (no_solution n) (main_picks typed vs) refl r a.0 a.1
 run_added typed passes t line vs Overflow r a = overflow_added typed passes t line vs (main_picks typed vs) refl r a
 
 line_added : (typed : TypedTree) (passes : ℕ) (t : RawTarget) → IsBuilt typed.defs typed.main passes t → (line : List ℕ) (z : ℤ) → LineAdds t line z →
-    Added typed passes line z
-line_added typed passes t h line z (long_line long is) = record { reply = codes "line too long"; told = source_too_long long; same = is }
+    Added typed passes t line z
+line_added typed passes t h line z (long_line long is) = record {
+  reply = codes "line too long";
+  replied = too_long long;
+  told = source_too_long long;
+  same = is;
+}
 line_added typed passes t h line z (odd_line short none is) = record {
   reply = codes "bad input";
+  replied = bad_input short none;
   told = source_bad_input short (λ vs r. none vs (subst (λ bs. SpellsValues limit bs line vs) (sym (same_parameters typed passes t h)) r));
   same = is;
 }
 line_added typed passes t h line z (read_line vs short r by) =
     let fit = values_fit t.params.items (without_return line) vs r in
-    subst (Added typed passes line) (sym by.is) (run_added typed passes t line vs by.outcome (record {
+    subst (Added typed passes t line) (sym by.is) (run_added typed passes t line vs by.outcome (record {
       short = short;
       spelled = subst (λ bs. SpellsValues limit bs line vs) (same_parameters typed passes t h) r;
+      asked = r;
       allowed = h.allowed vs fit.0;
       runs = h.runs vs fit.0 fit.1;
     }) by.answers)
 
 pub sum_picked : (typed : TypedTree) (passes : ℕ) (t : RawTarget) → IsBuilt typed.defs typed.main passes t → (ls : List (List ℕ)) (sum : ℤ) → AddUp t ls sum →
-    IsSum typed passes ls sum
+    IsSum t typed passes ls sum
 sum_picked typed passes t h [] sum a = a
 sum_picked typed passes t h (line ∷ ls) sum a =
     let first = line_added typed passes t h line a.0 a.3 in
-    (first.reply, first.told, a.1, a.2 ∙ ap (λ z. z +ℤ a.1) first.same, sum_picked typed passes t h ls a.1 a.4)
+    (first.reply, first.replied, first.told, a.1, a.2 ∙ ap (λ z. z +ℤ a.1) first.same, sum_picked typed passes t h ls a.1 a.4)

@@ -12,11 +12,12 @@ use Rattle.cf_linear.specs.Cases.{disjuncts, case_count, system_of_case, first_s
 use Rattle.cf_linear.specs.Arm.{arm}
 use Rattle.cf_linear.specs.Chooses.{arms, first_refused, refusal_by, limit}
 use Rattle.cf_choose.specs.Precondition.{all_needs}
-use Rattle.cf_build.specs.Questions.{Question, limit_of, question_arms, solve_of}
+use Rattle.cf_tree.specs.ChooseTree.{ChooseTree}
+use Rattle.cf_build.specs.Chooses.{limit_of, choose_arms, solve_of}
 use Rattle.cf_emit.specs.Printed.{code_text, pre_text}
 
 -- the x whose double lies between a and b
-abbrev pub rounding : Question
+abbrev pub rounding : ChooseTree
 rounding = record {
   number = 1;
   names = codes "a" ∷ codes "b" ∷ [];
@@ -32,7 +33,7 @@ unfolding arms arm first_systems disjuncts system_of_case write_atom run run_for
 rounding_passes_no_limit = refl
 
 -- the items up to the last need
-rounding_pre : pre_text 1 rounding.names (all_needs (question_arms rounding))
+rounding_pre : pre_text 1 rounding.names (all_needs (choose_arms rounding))
     ≡ codes "pre 1 (a, b) {\narm [] {\nlet div((-1 * v0), 2);\nlet div(v1, 2);\nneed ((v2 + v3) >= 0);\n}\n}\n"
 unfolding arms arm first_systems disjuncts system_of_case write_atom run run_for stage clean_stage equation_stage bound_stage unknown_stage row_stage clean
     pick searched dropped searched_by bound bound_passes gcd_by factors_by parts_of digits

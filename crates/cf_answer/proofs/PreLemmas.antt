@@ -2,38 +2,41 @@
 use Rattle.std.proofs.Common.{◌≡◌, ◌∙◌, ap, subst, refl, ℕ, List, ◌++◌}
 use Rattle.cf_tree.specs.CodeTree.{ArmTrees, arms_of}
 use Rattle.cf_tree.specs.CodeView.{arm_trees}
+use Rattle.cf_tree.specs.Params.{names_of}
 use Rattle.cf_tree.specs.RelView.{rel_tree}
 use Rattle.cf_linear.specs.Chooses.{arms}
 use Rattle.cf_choose.specs.Precondition.{all_needs, IsPrecondition}
 use Rattle.cf_choose.specs.Solved.{IsOf}
 use Rattle.cf_choose.specs.declared.solved.SolvedParts.{SolvedParts}
-use Rattle.cf_build.specs.Questions.{Question, question_arms}
+use Rattle.cf_tree.specs.ChooseTree.{ChooseTree}
+use Rattle.cf_build.specs.Chooses.{choose_arms}
 use Rattle.cf_build.specs.Solves.{IsSolved}
+use Rattle.cf_build.proofs.SolveLists.{solved_number, solved_names}
 use Rattle.cf_build.specs.declared.solves.SolvedChoose.{SolvedChoose}
 use Rattle.cf_emit.specs.Printed.{pre_text}
 use Rattle.cf_answer.specs.Owed.{IsPreOf}
 
 -- the arms of a solved choose are those of the definition
-found_arms : (q : Question) (s : SolvedParts) → IsOf q.scope q.outputs q.relation s → arm_trees s.arms.items ≡ question_arms q
+found_arms : (q : ChooseTree) (s : SolvedParts) → IsOf q.scope q.outputs q.relation s → arm_trees s.arms.items ≡ choose_arms q
 found_arms q s h =
     let same : arms s.scope.items s.outputs.items (rel_tree s.rel) ≡ arms q.scope q.outputs q.relation =
     rw (h.same_scope, h.same_outputs, h.same_relation) refl in
     ap arms_of (h.solved.arms_are ∙ same)
 
 -- what is written for it
-pub pre_of : (q : Question) (s : SolvedChoose) (needs : ArmTrees) (old new printed : List ℕ) → IsSolved q s →
+pub pre_of : (q : ChooseTree) (s : SolvedChoose) (needs : ArmTrees) (old new printed : List ℕ) → IsSolved q s →
     needs ≡ all_needs (arm_trees s.solved.arms.items) →
-    IsPrecondition s.solved.scope.items s.solved.outputs.items (rel_tree s.solved.rel) needs → printed ≡ pre_text s.number s.names.items needs →
-    new ≡ old ++ printed →
+    IsPrecondition s.solved.scope.items s.solved.outputs.items (rel_tree s.solved.rel) needs →
+    printed ≡ pre_text s.choose.number (names_of s.choose.scope.now) needs → new ≡ old ++ printed →
     (pre : List ℕ) × (new ≡ old ++ pre) × IsPreOf q pre
 pre_of q s needs old new printed h are holds is next =
     let of = h.solved in
-    let these : needs ≡ all_needs (question_arms q) = are ∙ ap all_needs (found_arms q s.solved of) in (
+    let these : needs ≡ all_needs (choose_arms q) = are ∙ ap all_needs (found_arms q s.solved of) in (
       printed,
       next,
       record {
         within = rw (← of.same_scope, ← of.same_outputs, ← of.same_relation) of.solved.within;
-        is = is ∙ rw (h.number, h.names, these) refl;
+        is = is ∙ rw (solved_number q s h, solved_names q s h, these) refl;
         holds = subst (IsPrecondition q.scope q.outputs q.relation) these
             (rw (← of.same_scope, ← of.same_outputs, ← of.same_relation) holds);
       },

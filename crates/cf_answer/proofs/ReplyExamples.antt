@@ -7,6 +7,7 @@ use Rattle.cf_lex.specs.Bytes.{is_digit}
 use Rattle.cf_lex.specs.Runs.{AllAre}
 use Rattle.cf_tree.specs.declared.base.Base.TheVariants.{Int}
 use Rattle.cf_tree.specs.declared.raw.BinOp.TheVariants.{Mul}
+use Rattle.cf_tree.specs.declared.target.RawTarget.{RawTarget}
 use Rattle.cf_tree.specs.Allowed.{goes_on}
 use Rattle.cf_tree.specs.ExprTree.{expr_binary, expr_var}
 use Rattle.cf_tree.specs.Values.{Value, number, truth, elements, values}
@@ -15,7 +16,7 @@ use Rattle.cf_growth.specs.Overflowing.{MayOverflow}
 use Rattle.cf_build.specs.Runs.{lowered_bodies}
 use Rattle.cf_eval.specs.Spelling.{is_space, IsNumber, SpellsValues}
 use Rattle.cf_eval.specs.Texts.{outcome_text}
-use Rattle.cf_answer.specs.Owed.{IsSum}
+use Rattle.cf_answer.specs.Owed.{by_target, IsReplyBy, IsSum}
 use Rattle.cf_answer.specs.Picked.{IsSourceReply, too_long, bad_input, picks, allows, main_bases, main_picks, picked_text, adds}
 
 -- def main(a: int): int = a * a
@@ -148,11 +149,17 @@ bad-adds_nothing : adds squares 0 (codes "x") (codes "bad input") (bad_input x-s
 bad-adds_nothing = refl
 
 -- the sum of a line that is read and one that is not
-nine-and_nothing : IsSum squares 0 (codes "3" ∷ codes "x" ∷ []) (pos 9)
-nine-and_nothing = (
+nine-and_nothing : (t : RawTarget) → IsReplyBy (by_target t) (codes "3") (picked_text (main_picks squares three)) →
+    IsReplyBy (by_target t) (codes "x") (codes "bad input") → IsSum t squares 0 (codes "3" ∷ codes "x" ∷ []) (pos 9)
+nine-and_nothing t h k = (
   picked_text (main_picks squares three),
+  h,
   picks three three-short three-spelled three-picked,
   pos 0,
   refl,
-  (codes "bad input", bad_input x-short x-unspelled, pos 0, refl, refl),
+  (codes "bad input", k, bad_input x-short x-unspelled, pos 0, refl, refl),
 )
+
+-- what is added up are replies of this target
+sum-of_replies : (t : RawTarget) (sum : ℤ) → IsSum t squares 0 (codes "3" ∷ []) sum → (reply : List ℕ) × IsReplyBy (by_target t) (codes "3") reply
+sum-of_replies t sum h = (h.0, h.1)

@@ -17,7 +17,10 @@ use Rattle.cf_tree.specs.DefView.{RawDefTree}
 use Rattle.cf_tree.specs.declared.base.Place.{Place}
 use Rattle.cf_tree.specs.declared.target.RawTarget.{RawTarget}
 use Rattle.cf_build.specs.Built.{IsBuilt}
-use Rattle.cf_build.specs.Questions.{all_questions, IsFirstRefused}
+use Rattle.cf_build.specs.Chooses.{all_chooses, IsFirstRefused}
+use Rattle.cf_build.specs.Solves.{FaultAnswer}
+use Rattle.cf_build.specs.declared.fault.BuildFault.{BuildFault}
+use Rattle.cf_build.specs.declared.fault.BuildFault.TheVariants as build
 use Rattle.cf_eval.specs.Spelling.{without_return}
 use Rattle.cf_pass.specs.Passes.{Told, HaveTurned}
 use Rattle.cf_late.proofs.AllowedLaws.{late_runs_are_allowed}
@@ -25,7 +28,7 @@ use Rattle.cf_answer.specs.LateReplies.{AreRunsAllowed}
 use Rattle.cf_answer.specs.Owed.{by_target, by_late, ArePicked, OwesRun, compiled, late}
 use Rattle.cf_answer.specs.Passes.{applied}
 use Rattle.cf_answer.specs.Picked.{main_bases}
-use Rattle.cf_answer.specs.Refusals.{Causes, bad_tree, IsBadProgram, broken, refused, IsBadRun, bad, broken_late, IsRefusedRun}
+use Rattle.cf_answer.specs.Refusals.{fault_of, Causes, bad_tree, IsBadProgram, broken, refused, IsBadRun, bad, broken_late, IsRefusedRun}
 use Rattle.cf_answer.specs.Sources.{Spelled, IsTypedSource, IsCheckedLate, Compiles}
 use Rattle.cf_answer.specs.Statuses.{rule_status, fault_status}
 use Rattle.cf_answer.specs.Steps.{IsVerdict, IsMisspelled, IsRunner, answerer_of}
@@ -134,6 +137,11 @@ pub late_broken : (text : List ℕ) (program : List RawDefTree) (p : Place) (e :
 late_broken text program p e n plain h s =
     bad_tree program (fault.Rule e) s (broken_late p e plain (fails_so e (checked_by Late program) n h))
 
-pub run_choose_refused : (text : List ℕ) (typed : TypedTree) (n : ℕ) (r : Refusal) → IsTypedSource text typed → IsFirstRefused (all_questions typed.defs) n r →
+run_choose_refused : (text : List ℕ) (typed : TypedTree) (n : ℕ) (r : Refusal) → IsTypedSource text typed → IsFirstRefused (all_chooses typed.defs) n r →
     IsRefusedRun text (fault.Choose n r)
 run_choose_refused text typed n r s h = bad_tree s.0 (fault.Choose n r) s.1 (bad (fault.Choose n r) (refused typed n r s.2 h) (λ p e. cc))
+
+pub run_build_refused : (text : List ℕ) (typed : TypedTree) (f : BuildFault) → IsTypedSource text typed → FaultAnswer (all_chooses typed.defs) f →
+    IsRefusedRun text (fault_of f) ⊎ (fault_of f ≡ fault.NoMemory)
+run_build_refused text typed (build.Choose n r) s h = inl (run_choose_refused text typed n r s h)
+run_build_refused text typed build.NoMemory s h = inr refl

@@ -17,8 +17,9 @@ use Rattle.cf_program.specs.declared.fault.TypeFault.TheVariants as rule
 use Rattle.cf_program.proofs.Kept.{when_is}
 use Rattle.cf_program.proofs.ProgramLaws.{checked_typed}
 use Rattle.cf_build.specs.Built.{IsBuilt}
-use Rattle.cf_build.specs.Questions.{Question, all_questions, by_number, limit_of, IsFirstRefused}
-use Rattle.cf_build.proofs.QuestionLaws.{one_refusal}
+use Rattle.cf_tree.specs.ChooseTree.{ChooseTree}
+use Rattle.cf_build.specs.Chooses.{all_chooses, by_number, limit_of, IsFirstRefused}
+use Rattle.cf_build.proofs.ChooseLaws.{one_refusal}
 use Rattle.cf_build.proofs.NumberOrder.{ordered_same}
 use Rattle.cf_match.specs.Matches.{all_matches}
 use Rattle.cf_answer.specs.Checks.{IsCheckOf}
@@ -56,7 +57,7 @@ bad_alike text program f g s (broken e h) (refused typed n r i b) = cc
 bad_alike text program f g s (refused typed n r h b) (broken e i) = cc
 bad_alike text program f g s (refused typed n r h b) (refused other m q i c) =
     let same : other ≡ typed = cc in
-    let there : IsFirstRefused (all_questions typed.defs) m q = subst (λ v. IsFirstRefused (all_questions v.defs) m q) same c in
+    let there : IsFirstRefused (all_chooses typed.defs) m q = subst (λ v. IsFirstRefused (all_chooses v.defs) m q) same c in
     ap refusal_status (one_refusal typed.defs n m r q (source_distinct text program typed s h) b there)
 
 pub sources_alike : (text : List ℕ) (f g : Fault) → IsRefusedSource text f → IsRefusedSource text g → fault_status f ≡ fault_status g
@@ -64,16 +65,16 @@ sources_alike text f g h i = alike IsProgram (program_of 200) IsBadProgram one_l
 
 -- a program whose chooses pass no limit is not refused
 never_bad : (program : List RawDefTree) (typed : TypedTree) → checked program ≡ Ok typed →
-    ((q : Question) → Contains (all_questions typed.defs) q → limit_of q ≡ None) → (f : Fault) → IsBadProgram program f → ⊥
+    ((q : ChooseTree) → Contains (all_chooses typed.defs) q → limit_of q ≡ None) → (f : Fault) → IsBadProgram program f → ⊥
 never_bad program typed is within f (broken e h) = cc
 never_bad program typed is within f (refused other n r h b) =
     let same : other ≡ typed = cc in
     let q = b.refused in
-    let none : limit_of q.0 ≡ None = within q.0 (subst (λ v. Contains (all_questions v.defs) q.0) same q.1) in
+    let none : limit_of q.0 ≡ None = within q.0 (subst (λ v. Contains (all_chooses v.defs) q.0) same q.1) in
     let some : limit_of q.0 ≡ Some r = q.3 in cc
 
 pub typed_unrefused : (text : List ℕ) (typed : TypedTree) (f : Fault) → IsTypedSource text typed →
-    ((q : Question) → Contains (all_questions typed.defs) q → limit_of q ≡ None) →
+    ((q : ChooseTree) → Contains (all_chooses typed.defs) q → limit_of q ≡ None) →
     IsRefusedSource text f → ⊥
 typed_unrefused text typed f s within h = unrefused IsProgram (program_of 200) IsBadProgram one_law text f s.0 (never_bad s.0 typed s.2 within) h s.1
 
@@ -86,18 +87,18 @@ pub compiled_unrefused : (passes : ℕ) (text : List ℕ) (t : RawTarget) (f : F
 compiled_unrefused passes text t f c h = typed_unrefused text c.0 f c.1 (λ q m. (c.2.solved q m).within) h
 
 -- nor is one of whose chooses something is owed that says so
-abbrev IsWithin : Question → Type 0
+abbrev IsWithin : ChooseTree → Type 0
 IsWithin q = limit_of q ≡ None
 
-module _ (Is : Question → List ℕ → Type 0) (within : (q : Question) (text : List ℕ) → Is q text → IsWithin q) where
-  written_within : (qs : List Question) (text : List ℕ) → AllWritten Is qs text → All IsWithin qs
+module _ (Is : ChooseTree → List ℕ → Type 0) (within : (q : ChooseTree) (text : List ℕ) → Is q text → IsWithin q) where
+  written_within : (qs : List ChooseTree) (text : List ℕ) → AllWritten Is qs text → All IsWithin qs
   written_within [] text h = All-nil IsWithin
   written_within (q ∷ qs) text h = All-cons IsWithin q qs (within q h.0 h.3) (written_within qs h.1 h.4)
 
   written_unrefused : (text : List ℕ) (typed : TypedTree) (written : List ℕ) (f : Fault) → IsTypedSource text typed →
-      AllWritten Is (by_number (all_questions typed.defs)) written → IsRefusedSource text f → ⊥
+      AllWritten Is (by_number (all_chooses typed.defs)) written → IsRefusedSource text f → ⊥
   written_unrefused text typed written f s owed h =
-      let qs = all_questions typed.defs in
+      let qs = all_chooses typed.defs in
       typed_unrefused text typed f s
       (λ q m. All-contains IsWithin (by_number qs) q (written_within (by_number qs) written owed)
       (Contains-permutation qs (by_number qs) q (ordered_same qs) m)) h

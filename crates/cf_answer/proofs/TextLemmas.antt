@@ -1,5 +1,5 @@
 -- Why a text is refused, as the code finds it.
-use Rattle.std.proofs.Common.{◌≡◌, inl, inr, ℕ, List}
+use Rattle.std.proofs.Common.{◌≡◌, inl, inr, refl, ℕ, List}
 use Rattle.std.specs.Prelude.{◌⊎◌}
 use Rattle.cf_lex.specs.declared.token.Token.{Token}
 use Rattle.cf_lex.specs.Tokens.{at_end}
@@ -15,8 +15,11 @@ use Rattle.cf_program.specs.Checked.{TypedTree, checked}
 use Rattle.cf_program.specs.declared.fault.TypeFault.{TypeFault}
 use Rattle.cf_program.specs.declared.fault.TypeFault.TheVariants as rule
 use Rattle.cf_program.specs.CheckAnswers.{CheckFault}
-use Rattle.cf_build.specs.Questions.{all_questions, IsFirstRefused}
-use Rattle.cf_answer.specs.Refusals.{Causes, too_long, odd_byte, large_number, no_tree, bad_tree, IsBadProgram, broken, refused, IsBroken, broken_rule, untyped, IsBrokenSource, IsRefusedSource, IsRefusedTarget}
+use Rattle.cf_build.specs.Chooses.{all_chooses, IsFirstRefused}
+use Rattle.cf_build.specs.Solves.{FaultAnswer}
+use Rattle.cf_build.specs.declared.fault.BuildFault.{BuildFault}
+use Rattle.cf_build.specs.declared.fault.BuildFault.TheVariants as build
+use Rattle.cf_answer.specs.Refusals.{fault_of, Causes, too_long, odd_byte, large_number, no_tree, bad_tree, IsBadProgram, broken, refused, IsBroken, broken_rule, untyped, IsBrokenSource, IsRefusedSource, IsRefusedTarget}
 use Rattle.cf_answer.specs.Sources.{HasTokens, Spelled, IsTypedSource, IsTypedTree}
 use Rattle.cf_answer.specs.Steps.{IsMisspelled}
 use Rattle.cf_answer.specs.declared.fault.Fault.{Fault}
@@ -38,9 +41,15 @@ pub rule_broken : (text : List ℕ) (program : List RawDefTree) (e : TypeFault) 
     IsBrokenSource text (fault.Rule e)
 rule_broken text program e n h s = bad_tree program (fault.Rule e) s (broken_rule e (fails_so e (checked program) n h))
 
-pub choose_refused : (text : List ℕ) (typed : TypedTree) (n : ℕ) (r : Refusal) → IsTypedSource text typed → IsFirstRefused (all_questions typed.defs) n r →
+pub choose_refused : (text : List ℕ) (typed : TypedTree) (n : ℕ) (r : Refusal) → IsTypedSource text typed → IsFirstRefused (all_chooses typed.defs) n r →
     IsRefusedSource text (fault.Choose n r)
 choose_refused text typed n r s h = bad_tree s.0 (fault.Choose n r) s.1 (refused typed n r s.2 h)
+
+-- a program is not built
+pub build_refused : (text : List ℕ) (typed : TypedTree) (f : BuildFault) → IsTypedSource text typed → FaultAnswer (all_chooses typed.defs) f →
+    IsRefusedSource text (fault_of f) ⊎ (fault_of f ≡ fault.NoMemory)
+build_refused text typed (build.Choose n r) s h = inl (choose_refused text typed n r s h)
+build_refused text typed build.NoMemory s h = inr refl
 
 pub target_untyped : (text : List ℕ) (t : TargetTree) → Spelled IsTarget text t → (IsTypedTree t → ⊥) → IsRefusedTarget text fault.BadTarget
 target_untyped text t s h = bad_tree t fault.BadTarget s (untyped h)

@@ -1,5 +1,5 @@
 -- From reading a source and a steps file to what `verify` does.
-use Rattle.std.proofs.Common.{◌≡◌, ◌∙◌, inl, inr, sym, ap, subst, refl, ℕ, ◌≤◌, ◌+◌, List, [], ◌∷◌, ◌++◌, map, flat_map, codes, take, get_or, append-nil, arith, rules}
+use Rattle.std.proofs.Common.{◌≡◌, ◌∙◌, inl, inr, sym, ap, subst, refl, ℕ, ◌≤◌, ◌+◌, List, [], ◌∷◌, ◌++◌, map, flat_map, take, get_or, append-nil, arith, rules}
 use Rattle.std.proofs.lemmas.List.{take_more, take_all, map-append}
 use Rattle.std.proofs.lemmas.Grind.{flat_map-append}
 use Rattle.std.specs.Prelude.{◌⊎◌, ◌<◌, Result, Err, Option, Some, IfSome, Contains, length}
@@ -14,23 +14,22 @@ use Rattle.cf_answer.specs.Outside.{Outside, AreTold, Counts, IsSparing, IsFruga
 use Rattle.cf_answer.specs.Owed.{Owes}
 use Rattle.cf_answer.specs.Refusals.{too_long, IsBrokenSource, IsUnverified, bad_source, bad_steps, bad_blocks}
 use Rattle.cf_answer.specs.Statuses.{status_of}
-use Rattle.cf_answer.specs.Sources.{IsTypedSource}
-use Rattle.cf_answer.specs.Texts.{numbered_line}
+use Rattle.cf_answer.specs.Sources.{IsTypedSource, IsLoweredSource}
 use Rattle.cf_answer.specs.Verifying.{AreAskedIn, AreMisspelled, AreReadFrom, IsFetched, NoneFailed, IsSourceFault, file_failed, broken_file, no_room}
 use Rattle.cf_answer.specs.declared.fault.Fault.{Fault}
 use Rattle.cf_answer.specs.declared.fault.Fault.TheVariants as fault
 use Rattle.cf_answer.specs.declared.fault.StepsFault.TheVariants as steps_fault
 use Rattle.cf_answer.specs.declared.status.Status.TheVariants.{File}
 use Rattle.cf_program.specs.Checked.{TypedTree}
-use Rattle.cf_build.specs.Questions.{Question}
+use Rattle.cf_match.specs.declared.lowered.LoweredParts.{LoweredParts}
+use Rattle.cf_tree.specs.ChooseTree.{ChooseTree}
 use Rattle.cf_cases.specs.Holding.{EachOf}
 use Rattle.cf_steps.specs.Blocks.{BlockTree}
-use Rattle.cf_cert.specs.Certifying.{QuestionTree}
 use Rattle.cf_cert.specs.Judging.{IsVerdict}
-use Rattle.cf_cert.specs.Laws.{IsQuestion}
+use Rattle.cf_cert.specs.Laws.{IsLinearChoose}
 use Rattle.cf_cert.specs.declared.verdict.Verdict.TheVariants.{Yes, Rejected}
 use Rattle.cf_cert.specs.declared.verdict.Why.{Why}
-use Rattle.cf_answer.specs.Certificates.{asked, asked_in, verified_line}
+use Rattle.cf_answer.specs.Certificates.{asked_in, verified_line}
 use Rattle.cf_answer.proofs.CertificateLemmas.{typed_unbroken, yes_proves}
 use Rattle.cf_answer.proofs.CountLemmas.{one_fault}
 use Rattle.cf_answer.proofs.OutsideLemmas.{Untouched, none_read, none_written, no_input_fault, no_out_fault, long_text}
@@ -209,53 +208,46 @@ pub one_in_order : (name : List ℕ) (before after : ShelfSeen) (f : Fault) → 
 one_in_order name before after f fetched h = (omega (arith, fetched.fetched), λ is. source_rose name before after f h (is_file (failed f) is))
 
 -- a source that gave its chooses is not refused
-pub asked_unbroken : {A : Type 0} (known : Option (List ℕ)) (qs : List QuestionTree) (source : List ℕ) (f : Fault) →
-    (text : List ℕ) × AreTold known text × AreAskedIn text qs → known ≡ Some source → IsBrokenSource source f → A
-asked_unbroken known qs source f (text, told, (typed, is, asks)) here broken =
+pub asked_unbroken : {A : Type 0} (known : Option (List ℕ)) (l : LoweredParts) (source : List ℕ) (f : Fault) →
+    (text : List ℕ) × AreTold known text × IsLoweredSource text l → known ≡ Some source → IsBrokenSource source f → A
+asked_unbroken known l source f (text, told, s) here broken =
     let same : source ≡ text = subst (λ o. AreTold o text) here told in
-    absurd (typed_unbroken source typed f (subst (λ t. IsTypedSource t typed) (sym same) is) broken)
+    absurd (typed_unbroken source s.typed f (subst (λ t. IsTypedSource t s.typed) (sym same) s.is) broken)
 
 -- ---- the text of a steps file, against the chooses of a source
-pub steps_refused : (source steps : List ℕ) (qs : List QuestionTree) (f : Fault) → AreAskedIn source qs → AreMisspelled steps f ⊎ (f ≡ fault.NoMemory) →
+pub steps_refused : (source steps : List ℕ) (l : LoweredParts) (f : Fault) → IsLoweredSource source l → AreMisspelled steps f ⊎ (f ≡ fault.NoMemory) →
     IsUnverified source steps f ⊎ (f ≡ fault.NoMemory)
-steps_refused source steps qs f a (inl (e, is, h)) = inl (subst (IsUnverified source steps) (sym is) (bad_steps a.0 e a.1 h))
-steps_refused source steps qs f a (inr memory) = inr memory
+steps_refused source steps l f s (inl (e, is, h)) = inl (subst (IsUnverified source steps) (sym is) (bad_steps s.typed e s.is h))
+steps_refused source steps l f s (inr memory) = inr memory
 
-pub blocks_refused : (source steps : List ℕ) (qs : List QuestionTree) (bs : List BlockTree) (n i j : ℕ) (w : Why) → AreAskedIn source qs →
+pub blocks_refused : (source steps : List ℕ) (qs : List ChooseTree) (bs : List BlockTree) (n i j : ℕ) (w : Why) → AreAskedIn source qs →
     AreReadFrom steps bs → IsVerdict qs bs (Rejected n i j w) → IsUnverified source steps (fault.Rejected n i j w)
 blocks_refused source steps qs bs n i j w a r v =
     bad_blocks a.0 bs n i j w a.1 r.spelled (subst (λ ps. IsVerdict ps bs (Rejected n i j w)) a.2.are v)
 
-abbrev pub line_of_question : QuestionTree → List ℕ
-line_of_question q = numbered_line q.number (codes "verified")
-
-asked_lines : (qs : List Question) → flat_map line_of_question (map asked qs) ≡ flat_map verified_line qs
-asked_lines [] = refl
-asked_lines (q ∷ qs) = ap (λ more. verified_line q ++ more) (asked_lines qs)
-
 -- the line of one more choose, and those of all
-pub lines_next : {Q : Type 0} (plain : Q → QuestionTree) (qs : List Q) (i : ℕ) (q : Q) (text new : List ℕ) → i < length qs → q ≡ get_or qs i q →
-    text ≡ flat_map line_of_question (map plain (take i qs)) → new ≡ text ++ line_of_question (plain q) →
-    new ≡ flat_map line_of_question (map plain (take (i + 1) qs))
+pub lines_next : {Q : Type 0} (plain : Q → ChooseTree) (qs : List Q) (i : ℕ) (q : Q) (text new : List ℕ) → i < length qs → q ≡ get_or qs i q →
+    text ≡ flat_map verified_line (map plain (take i qs)) → new ≡ text ++ verified_line (plain q) →
+    new ≡ flat_map verified_line (map plain (take (i + 1) qs))
 lines_next plain qs i q text new lt is same next =
     let front = take i qs in
     let more : take (i + 1) qs ≡ front ++ q ∷ [] = take_more qs i q lt ∙ ap (λ x. front ++ x ∷ []) (sym is) in
-    let all : flat_map line_of_question (map plain (take (i + 1) qs)) ≡ flat_map line_of_question (map plain front) ++ (line_of_question (plain q) ++ []) =
-    ap (λ ds. flat_map line_of_question (map plain ds)) more
-    ∙ ap (flat_map line_of_question) (map-append plain front (q ∷ []))
-    ∙ flat_map-append line_of_question (map plain front) (plain q ∷ []) in
-    next ∙ ap (λ s. s ++ line_of_question (plain q)) same
-    ∙ ap (λ s. flat_map line_of_question (map plain front) ++ s) (sym (append-nil (line_of_question (plain q)))) ∙ sym all
+    let all : flat_map verified_line (map plain (take (i + 1) qs)) ≡ flat_map verified_line (map plain front) ++ (verified_line (plain q) ++ []) =
+    ap (λ ds. flat_map verified_line (map plain ds)) more
+    ∙ ap (flat_map verified_line) (map-append plain front (q ∷ []))
+    ∙ flat_map-append verified_line (map plain front) (plain q ∷ []) in
+    next ∙ ap (λ s. s ++ verified_line (plain q)) same
+    ∙ ap (λ s. flat_map verified_line (map plain front) ++ s) (sym (append-nil (verified_line (plain q)))) ∙ sym all
 
-pub lines_all : {Q : Type 0} (plain : Q → QuestionTree) (qs : List Q) (i : ℕ) (text : List ℕ) → length qs ≤ i →
-    text ≡ flat_map line_of_question (map plain (take i qs)) → text ≡ flat_map line_of_question (map plain qs)
-lines_all plain qs i text few same = same ∙ ap (λ ds. flat_map line_of_question (map plain ds)) (take_all i qs few)
+pub lines_all : {Q : Type 0} (plain : Q → ChooseTree) (qs : List Q) (i : ℕ) (text : List ℕ) → length qs ≤ i →
+    text ≡ flat_map verified_line (map plain (take i qs)) → text ≡ flat_map verified_line (map plain qs)
+lines_all plain qs i text few same = same ∙ ap (λ ds. flat_map verified_line (map plain ds)) (take_all i qs few)
 
-pub verified_owes : (name other source steps : List ℕ) (given passes : List Told) (ls : List (List ℕ)) (qs : List QuestionTree) (bs : List BlockTree)
-    (text : List ℕ) → AreAskedIn source qs → AreReadFrom steps bs → IsVerdict qs bs Yes → text ≡ flat_map line_of_question qs →
+pub verified_owes : (name other source steps : List ℕ) (given passes : List Told) (ls : List (List ℕ)) (qs : List ChooseTree) (bs : List BlockTree)
+    (text : List ℕ) → AreAskedIn source qs → AreReadFrom steps bs → IsVerdict qs bs Yes → text ≡ flat_map verified_line qs →
     Owes (verify name other) (source ∷ steps ∷ []) given passes ls text
 verified_owes name other source steps given passes ls qs bs text (typed, is, asks) r h lines =
     let chooses = asked_in typed in
-    let questions : EachOf IsQuestion (map asked chooses) = subst (EachOf IsQuestion) asks.are asks.questions in
-    let accepted : IsVerdict (map asked chooses) bs Yes = subst (λ ps. IsVerdict ps bs Yes) asks.are h in
-    (typed, is, (bs, r.spelled, yes_proves chooses bs questions r.within accepted), lines ∙ ap (flat_map line_of_question) asks.are ∙ asked_lines chooses)
+    let linear : EachOf IsLinearChoose chooses = subst (EachOf IsLinearChoose) asks.are asks.linear in
+    let accepted : IsVerdict chooses bs Yes = subst (λ ps. IsVerdict ps bs Yes) asks.are h in
+    (typed, is, (bs, r.spelled, yes_proves chooses bs linear r.within accepted), lines ∙ ap (flat_map verified_line) asks.are)

@@ -137,6 +137,15 @@ IsCoefficient c = (2 ≤ c) × (c ≤ 99)
 abbrev pub pair : ExprTree
 pair = expr_binary Add (expr_var 1) (expr_var 2)
 
+-- it passes no limit
+pub coefficient_within : (c : ℕ) → IsCoefficient c → first_limit (one Int) (Int ∷ Int ∷ []) (function_rel c) ≡ None
+coefficient_within c is =
+    let l = is.0 in
+    let h = is.1 in
+    none_free (first_limit (one Int) (Int ∷ Int ∷ []) (function_rel c))
+    (both_true (is_free (first_limit (one Int) (Int ∷ Int ∷ []) (function_rel c))) (nat_le (growth (one Int) (Int ∷ Int ∷ []) (function_rel c)) 20000)
+    (each_fine 2 98 all_fine c l (omega arith))).0
+
 -- a product of a growth and a size
 product_small : (g m k : ℕ) → g ≤ 20000 → k ≤ 16385 → m ≤ g * k → m ≤ limit
 product_small g m k h l e = let s = mul-le-mul_right k h in omega arith
@@ -165,7 +174,7 @@ module _ (a : ℤ) (near : unsigned_abs a ≤ 16384) (c : ℕ) (is : IsCoefficie
     typed = typed;
     linear = linear;
     are_outputs = All-cons IsOutput Int (Int ∷ []) tt (All-cons IsOutput Int [] tt (All-nil IsOutput));
-    within = none_free (first_limit (one Int) (Int ∷ Int ∷ []) (function_rel c)) parts.0;
+    within = coefficient_within c is;
   }
 
   size_is : parameters_size (layout_of (one Int) (Int ∷ Int ∷ []) (function_rel c)) (here a c some) ≡ max (unsigned_abs a) 0

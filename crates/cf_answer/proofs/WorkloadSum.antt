@@ -12,6 +12,7 @@ use Rattle.cf_lex.specs.Bytes.{is_digit}
 use Rattle.cf_lex.specs.Runs.{AllAre}
 use Rattle.cf_tree.specs.declared.base.Base.{Base}
 use Rattle.cf_tree.specs.declared.base.Base.TheVariants.{Int}
+use Rattle.cf_tree.specs.declared.target.RawTarget.{RawTarget}
 use Rattle.cf_tree.specs.Typing.{one}
 use Rattle.cf_tree.specs.Values.{Value, number, Outcome, values}
 use Rattle.cf_io.specs.Limits.{line_limit}
@@ -140,15 +141,15 @@ module _ (typed : TypedTree) (passes : ℕ) (takes : main_bases typed ≡ one In
       some_none p e = cc
 
   -- ---- all replies
-  sum_is : (as_ : List ℤ) (sum : ℤ) → All IsInput as_ → IsSum typed passes (map signed_decimal as_) sum → sum ≡ total (map gives as_)
-  sum_is [] sum near h = h
-  sum_is (a ∷ as_) sum near h =
-      h.3 ∙ ap₂ (λ x y. x +ℤ y) (adds_it a (All-head IsInput a as_ near) h.0 h.1) (sum_is as_ h.2 (All-tail IsInput a as_ near) h.4)
+  sum_is : (t : RawTarget) (as_ : List ℤ) (sum : ℤ) → All IsInput as_ → IsSum t typed passes (map signed_decimal as_) sum → sum ≡ total (map gives as_)
+  sum_is t [] sum near h = h
+  sum_is t (a ∷ as_) sum near h =
+      h.4 ∙ ap₂ (λ x y. x +ℤ y) (adds_it a (All-head IsInput a as_ near) h.0 h.2) (sum_is t as_ h.3 (All-tail IsInput a as_ near) h.5)
 
 -- the sum of the replies to the lines of a workload, by what main picks
-pub workload_sum : (n passes : ℕ) (typed : TypedTree) (sum : ℤ) → main_bases typed ≡ one Int →
-    ((a : ℤ) → IsInput a → main_picks typed (number a ∷ []) ≡ Some (values (number (main_gives n a) ∷ []))) → IsSum typed passes (lines (gen_lines n)) sum →
+pub workload_sum : (n passes : ℕ) (t : RawTarget) (typed : TypedTree) (sum : ℤ) → main_bases typed ≡ one Int →
+    ((a : ℤ) → IsInput a → main_picks typed (number a ∷ []) ≡ Some (values (number (main_gives n a) ∷ []))) → IsSum t typed passes (lines (gen_lines n)) sum →
     sum ≡ gen_sum n
-workload_sum n passes typed sum takes picked h =
+workload_sum n passes t typed sum takes picked h =
     let near = inputs_near n 1 (n * n) (omega arith) in
-    sum_is typed passes takes (main_gives n) picked (inputs n) sum near (subst (λ ls. IsSum typed passes ls sum) (lines_are (inputs n) near) h)
+    sum_is typed passes takes (main_gives n) picked t (inputs n) sum near (subst (λ ls. IsSum t typed passes ls sum) (lines_are (inputs n) near) h)

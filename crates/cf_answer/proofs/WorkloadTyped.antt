@@ -1,7 +1,10 @@
 -- A program of the shape of a workload has levels in the place of its names.
-use Rattle.std.proofs.Common.{◌≡◌, ℕ, zero, suc, ◌+◌, ◌-◌, ◌^◌, ◌<◌, ◌≤◌, pos, Bool, true, false, List, [], ◌∷◌, ◌++◌, length, map, get_or, codes, Option, Some, None, refl, sym, ap, ap₂, ◌∙◌, subst, append_assoc, arith}
-use Rattle.std.specs.Prelude.{◌==◌, not, Result, Ok, Err, decimal, if◌then◌else◌}
+use Rattle.std.proofs.Common.{◌≡◌, ℕ, zero, suc, ◌+◌, ◌-◌, ◌*◌, ◌^◌, ◌<◌, ◌≤◌, pos, true, false, List, [], ◌∷◌, ◌++◌, length, map, get_or, codes, Option, Some, None, refl, sym, ap, ap₂, ◌∙◌, subst, append_assoc, arith, length-append}
+use Rattle.std.specs.Prelude.{◌||◌, nat_le, nat_lt, slice_index, Result, Ok, decimal, if◌then◌else◌}
 use Rattle.std.specs.Str.{bytes_eq}
+use Rattle.std.proofs.lemmas.Bool.Decides.{nat_tests}
+use Rattle.std.proofs.lemmas.List.{map-append}
+use Rattle.std.proofs.lemmas.List.Folds.{list_any-append}
 use Rattle.std.proofs.lemmas.Slice.Eq.{bytes_eq-Decides}
 use Rattle.cf_tree.specs.declared.base.Base.TheVariants.{Int, Bool as Truth}
 use Rattle.cf_tree.specs.declared.base.Order.TheVariants.{Eq, Le, Lt}
@@ -9,45 +12,26 @@ use Rattle.cf_tree.specs.declared.base.Place.{Place}
 use Rattle.cf_tree.specs.declared.raw.BinOp.{BinOp}
 use Rattle.cf_tree.specs.declared.raw.BinOp.TheVariants.{Add, Mul, And, Compare}
 use Rattle.cf_tree.specs.declared.raw.Param.{Param}
-use Rattle.cf_tree.specs.Bases.{same_bases}
 use Rattle.cf_tree.specs.DefView.{RawDefTree, DefTree}
 use Rattle.cf_tree.specs.ExprTree.{ExprTree, expr_lit, expr_var, expr_binary, expr_let, expr_choose}
-use Rattle.cf_tree.specs.RawTree.{RawTree, raw_name, raw_binary, raw_call, no_raws, raw_more, place_of}
+use Rattle.cf_tree.specs.RawTree.{RawTree, raw_binary}
 use Rattle.cf_tree.specs.RelTree.{RelTree, term_lit, term_var, term_add, term_mul, rel_compare, rel_and}
 use Rattle.cf_tree.specs.Typing.{one}
 use Rattle.cf_tree.proofs.SetLemmas.{on_bool}
 use Rattle.cf_program.specs.declared.fault.TypeFault.{TypeFault}
-use Rattle.cf_program.specs.declared.fault.TypeFault.TheVariants.{DuplicateName, Mismatch, WrongCount, CallsLater}
+use Rattle.cf_program.specs.declared.fault.TypeFault.TheVariants.{Weight, Depth}
 use Rattle.cf_program.specs.declared.linearity.Linearity.TheVariants.{Plain}
-use Rattle.cf_program.specs.Checked.{TypedTree, def_form, walk_def, walk_defs, main_from, sized, checked}
+use Rattle.cf_program.specs.Checked.{TypedTree, def_form, walk_def, walk_defs, main_from, size_fault, sized, checked}
+use Rattle.cf_program.specs.Lowered.{lowered}
 use Rattle.cf_program.specs.Names.{Callee, is_among, callee, callee_from}
 use Rattle.cf_tree.specs.Params.{bases_of}
-use Rattle.cf_program.specs.Reading.{Reading, relation, term, not_linear, not_linear_at, binary_reading}
-use Rattle.cf_program.specs.Walk.{◌>>=◌, where_kept, where_no_fault, Form, Forms, are_asked, sides_fit, side_of, binary_form, call_form, Context, in_body, walk}
+use Rattle.cf_program.specs.Reading.{Reading, relation, term, not_linear, binary_reading}
+use Rattle.cf_program.specs.Size.{weight_in, depth_in, measured, weights, depths}
+use Rattle.cf_program.specs.Walk.{◌>>=◌, Form, Forms, binary_form, call_form, Context, in_body, walk}
 use Rattle.cf_lex.specs.Digits.{digits_value}
 use Rattle.cf_emit.proofs.Numerals.{decimal_read}
 use Rattle.cf_answer.proofs.WorkloadShapes.{Shape, IsName, IsLit, IsBoth, number_at, IsEqual, IsRelation, IsChoose, IsBody, function_name, IsCall, AreCalls, IsDef, AreDefs}
 use Rattle.cf_answer.proofs.WorkloadShapes.{function_rel, IsFunction, AreFunctions, call_of, calls_of, IsWorkload}
-
--- ---- what a result says of its parts
-then_ok : {A B : Type 0} (r : Result A TypeFault) (f : A → Result B TypeFault) (y : B) → r >>= f ≡ Ok y → (x : A) × (r ≡ Ok x) × (f x ≡ Ok y)
-then_ok (Ok x) f y e = (x, refl, e)
-then_ok (Err k) f y e = absurd (cc)
-
-kept_ok : {A : Type 0} (b : Bool) (k : TypeFault) (r : Result A TypeFault) (y : A) → where_kept b k r ≡ Ok y → r ≡ Ok y
-kept_ok true k r y e = e
-kept_ok false k r y e = absurd (cc)
-
-three_kept : {A : Type 0} (a b c : Bool) (k l m : TypeFault) (r : Result A TypeFault) (y : A) → where_kept a k (where_kept b l (where_kept c m r)) ≡ Ok y → r
-    ≡ Ok y
-three_kept a b c k l m r y e = kept_ok c m r y (kept_ok b l (where_kept c m r) y (kept_ok a k (where_kept b l (where_kept c m r)) y e))
-
-no_fault_ok : {A : Type 0} (o : Option TypeFault) (r : Result A TypeFault) (y : A) → where_no_fault o r ≡ Ok y → r ≡ Ok y
-no_fault_ok (Some k) r y e = absurd (cc)
-no_fault_ok None r y e = e
-
-ok_is : {A : Type 0} (x y : A) → ◌≡◌ {A = Result A TypeFault} (Ok x) (Ok y) → x ≡ y
-ok_is x y e = cc
 
 -- ---- the body of a function
 module _ (calls : List ℕ → Option Callee) where
@@ -155,45 +139,64 @@ module _ (calls : List ℕ → Option Callee) where
       (l.0, rw (h.7, l.1, s.5, k) refl)
 
   -- ---- calls
-  abbrev Finds : ℕ → Type 0
-  Finds i = (f : Callee) × (calls (function_name (i + 1)) ≡ Some f) × (f.number ≡ i)
+  -- what a call of function i needs
+  record Finds (i : ℕ) : Type 0 where
+    callee : Callee
+    found : calls (function_name (i + 1)) ≡ Some callee
+    number : callee.number ≡ i
+    params : callee.params ≡ one Int
+    results : callee.results ≡ one Int
+    earlier : callee.is_earlier ≡ true
+
+  -- a form of one number with this tree
+  record Walks (a : Place) (n : ℕ) (t : RawTree) (e : ExprTree) : Type 0 where
+    form : Form
+    is : walk context (number_at a (codes "a") ∷ []) n t ≡ Ok form
+    bases : form.bases ≡ one Int
+    tree : form.tree ≡ e
 
   abbrev arguments : ℕ → Forms
   arguments n = record { bases = one Int ∷ []; trees = expr_var 0 ∷ []; first_nonlinear = None; next = n }
 
-  call_is : (a p q : Place) (x : List ℕ) (n : ℕ) → walk context (number_at a (codes "a") ∷ []) n (raw_call p x (raw_more (raw_name q (codes "a")) no_raws))
-      ≡ call_form p (calls x) (arguments n)
-  call_is a p q x n = refl
+  called : (p : Place) (n : ℕ) (f : Callee) → f.params ≡ one Int → f.is_earlier ≡ true →
+      call_form p (Some f) (arguments n) ≡ Ok (record { bases = f.results; tree = call_of f.number; reading = not_linear p; next = n })
+  called p n f e k = rw (e, k) refl
 
-  call_walks : (a : Place) (i n : ℕ) (t : RawTree) (f : Form) → IsCall (i + 1) t → Finds i → walk context (number_at a (codes "a") ∷ []) n t ≡ Ok f → f.tree
-      ≡ call_of i
-  call_walks a i n t f h found e =
-      let s : walk context (number_at a (codes "a") ∷ []) n (raw_call h.0 (function_name (i + 1)) (raw_more (raw_name h.1 (codes "a")) no_raws)) ≡ Ok f =
-      rw h.2 at e in
-      let k : call_form h.0 (Some found.0) (arguments n) ≡ Ok f = subst (λ o. call_form h.0 o (arguments n) ≡ Ok f) found.1 s in
-      let made : Form = record { bases = found.0.results; tree = call_of found.0.number; reading = not_linear_at None h.0; next = n } in
-      let g = three_kept (length (arguments n).bases == length found.0.params) (are_asked (arguments n).bases found.0.params) found.0.is_earlier
-      (WrongCount h.0) (Mismatch h.0) (CallsLater h.0) (Ok made) f k in
-      sym (ap (λ x. x.tree) {x = made} (ok_is made f g)) ∙ ap (λ j. call_of j) found.2
+  call_walks : (a : Place) (i n : ℕ) (t : RawTree) → IsCall (i + 1) t → Finds i → Walks a n t (call_of i)
+  call_walks a i n t h f = record {
+    form = record { bases = f.callee.results; tree = call_of f.callee.number; reading = not_linear h.0; next = n };
+    is = ap (walk context (number_at a (codes "a") ∷ []) n) h.2 ∙ ap (λ o. call_form h.0 o (arguments n)) f.found
+        ∙ called h.0 n f.callee f.params f.earlier;
+    bases = f.results;
+    tree = ap (λ j. call_of j) f.number;
+  }
 
-  calls_walk : (a : Place) (m n : ℕ) (t : RawTree) (f : Form) → AreCalls m t → ((i : ℕ) → i ≤ m → Finds i) → walk context (number_at a (codes "a") ∷ []) n t
-      ≡ Ok f → f.tree ≡ calls_of m
-  calls_walk a zero n t f h each e = call_walks a 0 n t f h (each 0 (omega arith)) e
-  calls_walk a (suc m) n t f h each e =
-      let s : walk context (number_at a (codes "a") ∷ []) n (raw_binary h.0 Add h.1 h.2) ≡ Ok f = rw h.5 at e in
-      let x = then_ok (walk context (number_at a (codes "a") ∷ []) n h.1) _ f s in
-      let y = then_ok (walk context (number_at a (codes "a") ∷ []) x.0.next h.2) _ f x.2 in
-      let made : Form = record {
-        bases = one Int;
-        tree = expr_binary Add x.0.tree y.0.tree;
-        reading = binary_reading 0 Add h.0 x.0.reading y.0.reading;
-        next = y.0.next;
-      } in
-      let g = kept_ok (sides_fit (side_of Add) x.0.bases y.0.bases) (Mismatch h.0) (Ok made) f y.2 in
-      let l = calls_walk a m n h.1 x.0 h.3 (λ i k. each i (omega arith)) x.1 in
+  added : (p : Place) (f g : Form) → f.bases ≡ one Int → g.bases ≡ one Int → binary_form 0 p Add f g ≡ Ok (record {
+    bases = one Int;
+    tree = expr_binary Add f.tree g.tree;
+    reading = binary_reading 0 Add p f.reading g.reading;
+    next = g.next;
+  })
+  added p f g e k = rw (e, k) refl
+
+  calls_walk : (a : Place) (m n : ℕ) (t : RawTree) → AreCalls m t → ((i : ℕ) → i ≤ m → Finds i) → Walks a n t (calls_of m)
+  calls_walk a zero n t h each = call_walks a 0 n t h (each 0 (omega arith))
+  calls_walk a (suc m) n t h each =
+      let x = calls_walk a m n h.1 h.3 (λ i k. each i (omega arith)) in
       let two : m + 2 ≡ suc m + 1 = omega arith in
-      let r = call_walks a (suc m) x.0.next h.2 y.0 (subst (λ j. IsCall j h.2) two h.4) (each (suc m) (omega arith)) y.1 in
-      sym (ap (λ z. z.tree) {x = made} (ok_is made f g)) ∙ ap₂ (λ u v. expr_binary Add u v) l r
+      let y = call_walks a (suc m) x.form.next h.2 (subst (λ j. IsCall j h.2) two h.4) (each (suc m) (omega arith)) in
+      record {
+        form = record {
+          bases = one Int;
+          tree = expr_binary Add x.form.tree y.form.tree;
+          reading = binary_reading 0 Add h.0 x.form.reading y.form.reading;
+          next = y.form.next;
+        };
+        is = ap (walk context (number_at a (codes "a") ∷ []) n) h.5
+            ∙ both (number_at a (codes "a") ∷ []) n h.0 Add h.1 h.2 x.form y.form x.is y.is ∙ added h.0 x.form y.form x.bases y.bases;
+        bases = refl;
+        tree = ap₂ (λ u v. expr_binary Add u v) x.tree y.tree;
+      }
 
 -- ---- names of functions
 decimals_differ : (i k : ℕ) → i < 10 ^ 64 → k < 10 ^ 64 → decimal i ≡ decimal k → i ≡ k
@@ -208,92 +211,132 @@ other_name i k l h differ =
     (λ t. absurd (differ (decimals_differ i k l h (tails_are (decimal i) (decimal k) ((bytes_eq-Decides (function_name i) (function_name k)).0 t)))))
     (λ t. t)
 
+-- these names are neither of function k or a later one, nor of main
+record AreOther (k : ℕ) (names : List (List ℕ)) : Type 0 where
+  functions : (i : ℕ) → k ≤ i → i < 10 ^ 64 → is_among names (function_name i) ≡ false
+  main : is_among names (codes "main") ≡ false
+
+other_more : (k : ℕ) (names : List (List ℕ)) → k < 10 ^ 64 → AreOther k names → AreOther (k + 1) (names ++ function_name k ∷ [])
+other_more k names small h = record {
+  functions = λ i l u.
+      list_any-append (λ y. bytes_eq y (function_name i)) names (function_name k ∷ [])
+      ∙ ap₂ (λ x y. x || (y || false)) (h.functions i (omega arith) u) (other_name k i small u (λ e. absurd (omega arith)));
+  main = list_any-append (λ y. bytes_eq y (codes "main")) names (function_name k ∷ []) ∙ ap (λ x. x || false) h.main;
+}
+
+is_at_most : (n m : ℕ) → n ≤ m → nat_le n m ≡ true
+is_at_most n m h = grind (arith, nat_tests)
+
+is_below : (n m : ℕ) → n < m → nat_lt n m ≡ true
+is_below n m h = grind (arith, nat_tests)
+
 module _ (m : ℕ) where
   name_is : (x : List ℕ) (A : Shape) (d : RawDefTree) → IsDef x A d → d.name ≡ x
   name_is x A d h = ap (λ e. e.name) h.4
 
-  found_at : (caller j k : ℕ) (cs : List ℕ) (ds : List RawDefTree) → AreDefs m k cs ds → k + length cs < 10 ^ 64 → (i : ℕ) → i < length cs →
-      (f : Callee) × (callee_from caller j ds (function_name (k + i)) ≡ Some f) × (f.number ≡ j + i)
-  found_at caller j k [] ds are small i l = absurd (omega arith)
-  found_at caller j k (c ∷ cs) [] are small i l = absurd are
-  found_at caller j k (c ∷ cs) (d ∷ ds) are small zero l =
-      let z : k + 0 ≡ k = omega arith in
-      let y : j ≡ j + 0 = omega arith in
-      (callee caller j d, rw (z, name_is (function_name k) (IsBody c) d are.0, (bytes_eq-Decides (function_name k) (function_name k)).1 refl) refl, y)
-  found_at caller j k (c ∷ cs) (d ∷ ds) are small (suc i) l =
+  found_here : (caller j : ℕ) (x : List ℕ) (A : Shape) (d : RawDefTree) (ds : List RawDefTree) → IsDef x A d →
+      callee_from caller j (d ∷ ds) x ≡ Some (callee caller j d)
+  found_here caller j x A d ds h = rw (name_is x A d h, (bytes_eq-Decides x x).1 refl) refl
+
+  found_at : (caller j k : ℕ) (cs : List ℕ) (ds : List RawDefTree) → AreDefs m k cs ds → k + length cs < 10 ^ 64 → (i : ℕ) → i < length cs → j + i < caller →
+      (f : Callee) × (callee_from caller j ds (function_name (k + i)) ≡ Some f) × (f.number ≡ j + i) × (f.params ≡ one Int) × (f.results ≡ one Int)
+      × (f.is_earlier ≡ true)
+  found_at caller j k [] ds are small i l e = absurd (omega arith)
+  found_at caller j k (c ∷ cs) [] are small i l e = absurd are
+  found_at caller j k (c ∷ cs) (d ∷ ds) are small zero l e =
+      let z : k ≡ k + 0 = omega arith in
+      let y : j ≡ j + 0 = omega arith in (
+        callee caller j d,
+        subst (λ x. callee_from caller j (d ∷ ds) (function_name x) ≡ Some (callee caller j d)) z
+            (found_here caller j (function_name k) (IsBody c) d ds are.0),
+        y,
+        ap (λ f. bases_of f.params) are.0.4,
+        ap (λ f. f.results) are.0.4,
+        is_below j caller (omega arith),
+      )
+  found_at caller j k (c ∷ cs) (d ∷ ds) are small (suc i) l e =
       let s : k + suc i ≡ k + 1 + i = omega arith in
-      let r = found_at caller (suc j) (k + 1) cs ds are.1 (omega arith) i (omega arith) in
-      let o = other_name k (k + suc i) (omega arith) (omega arith) (λ e. absurd (omega arith)) in
+      let r = found_at caller (suc j) (k + 1) cs ds are.1 (omega arith) i (omega arith) (omega arith) in
+      let o = other_name k (k + suc i) (omega arith) (omega arith) (λ q. absurd (omega arith)) in
       let y : suc j + i ≡ j + suc i = omega arith in
-      (r.0, rw (name_is (function_name k) (IsBody c) d are.0, o) (ap (λ x. callee_from caller (suc j) ds (function_name x)) s ∙ r.1), r.2 ∙ y)
+      (r.0, rw (name_is (function_name k) (IsBody c) d are.0, o) (ap (λ x. callee_from caller (suc j) ds (function_name x)) s ∙ r.1), r.2 ∙ y, r.3, r.4, r.5)
 
   -- ---- the functions
   abbrev TakesOne : DefTree → Type 0
   TakesOne d = bases_of d.params ≡ one Int
 
-  abbrev AreTyped : List ℕ → List DefTree → Type 0
+  abbrev pub AreTyped : List ℕ → List DefTree → Type 0
   AreTyped cs [] = ⊥
   AreTyped [] (d ∷ ds) = (d.body ≡ calls_of m) × TakesOne d × (ds ≡ [])
   AreTyped (c ∷ cs) (d ∷ ds) = IsFunction c d.body × TakesOne d × AreTyped cs ds
 
-  -- what stands behind the walk of a body
-  abbrev ended : RawDefTree → Form → Result (DefTree × ℕ) TypeFault
-  ended d f = where_kept (same_bases f.bases d.results) (Mismatch (place_of d.body)) (Ok (def_form d f, f.next))
-
   abbrev def_of : Place → Place → List ℕ → RawTree → RawDefTree
   def_of p a x t = record { place = p; name = x; params = number_at a (codes "a") ∷ []; results = Int ∷ []; body = t }
 
-  def_goes : (all before : List RawDefTree) (n : ℕ) (p a : Place) (x : List ℕ) (t : RawTree) (r : DefTree × ℕ) →
-      walk_def Plain all before n (def_of p a x t) ≡ Ok r →
-      walk (in_body Plain (callee_from (length before) 0 all)) (number_at a (codes "a") ∷ []) n t >>= ended (def_of p a x t) ≡ Ok r
-  def_goes all before n p a x t r e =
-      kept_ok (not (is_among (map (λ f. f.name) before) x)) (DuplicateName p)
-      (walk (in_body Plain (callee_from (length before) 0 all)) (number_at a (codes "a") ∷ []) n t >>=
-      ended (def_of p a x t)) r e
+  -- a function whose name is new, and whose body is a number
+  def_kept : (all before : List RawDefTree) (n : ℕ) (p a : Place) (x : List ℕ) (t : RawTree) (f : Form) → is_among (map (λ e. e.name) before) x ≡ false →
+      walk (in_body Plain (callee_from (length before) 0 all)) (number_at a (codes "a") ∷ []) n t ≡ Ok f → f.bases ≡ one Int →
+      walk_def Plain all before n (def_of p a x t) ≡ Ok (def_form (def_of p a x t) f, f.next)
+  def_kept all before n p a x t f new e b = rw (new, e, b) refl
 
-  def_ends : (d : RawDefTree) (f : Form) (r : DefTree × ℕ) → ended d f ≡ Ok r → r ≡ (def_form d f, f.next)
-  def_ends d f r e = sym (ok_is (def_form d f, f.next) r (kept_ok (same_bases f.bases d.results) (Mismatch (place_of d.body)) (Ok (def_form d f, f.next)) r e))
-
-  def_walks : (all before : List RawDefTree) (n c : ℕ) (x : List ℕ) (d : RawDefTree) (r : DefTree × ℕ) → IsDef x (IsBody c) d → walk_def Plain all before n d
-      ≡ Ok r → IsFunction c r.0.body × TakesOne r.0
-  def_walks all before n c x d r h e =
-      let s = def_goes all before n h.0 h.1 x h.2 r (subst (λ y. walk_def Plain all before n y ≡ Ok r) h.4 e) in
+  def_walks : (all before : List RawDefTree) (n c : ℕ) (x : List ℕ) (d : RawDefTree) → IsDef x (IsBody c) d → is_among (map (λ e. e.name) before) x ≡ false →
+      (r : DefTree × ℕ) × (walk_def Plain all before n d ≡ Ok r) × IsFunction c r.0.body × TakesOne r.0
+  def_walks all before n c x d h new =
       let w = body_walks (callee_from (length before) 0 all) h.1 c n h.2 h.3 in
       let f : Form = record {
         bases = one Int;
         tree = expr_let 2 (expr_choose n (number_at h.1 (codes "a") ∷ []) (Int ∷ Int ∷ []) (function_rel c)) (expr_binary Add (expr_var 1) (expr_var 2));
         reading = not_linear w.0;
         next = n + 1;
-      } in
-      let g = def_ends (def_of h.0 h.1 x h.2) f r (subst (λ y. y >>= ended (def_of h.0 h.1 x h.2) ≡ Ok r) w.1 s) in
-      ((n, number_at h.1 (codes "a") ∷ [], refl, ap (λ y. y.0.body) g), ap (λ y. bases_of y.0.params) g)
-
-  main_walks : (all before : List RawDefTree) (n : ℕ) (d : RawDefTree) (r : DefTree × ℕ) → IsDef (codes "main") (AreCalls m) d →
-      ((i : ℕ) → i ≤ m → Finds (callee_from (length before) 0 all) i) → walk_def Plain all before n d ≡ Ok r → (r.0.body ≡ calls_of m) × TakesOne r.0
-  main_walks all before n d r h each e =
-      let s = def_goes all before n h.0 h.1 (codes "main") h.2 r (subst (λ y. walk_def Plain all before n y ≡ Ok r) h.4 e) in
-      let w = then_ok (walk (in_body Plain (callee_from (length before) 0 all)) (number_at h.1 (codes "a") ∷ []) n h.2)
-      (ended (def_of h.0 h.1 (codes "main") h.2)) r s in
-      let g = def_ends (def_of h.0 h.1 (codes "main") h.2) w.0 r w.2 in (
-        ap (λ y. y.0.body) g ∙ calls_walk (callee_from (length before) 0 all) h.1 m n h.2 w.0 h.3 each w.1,
-        ap (λ y. bases_of y.0.params) g,
+      } in (
+        (def_form (def_of h.0 h.1 x h.2) f, f.next),
+        ap (walk_def Plain all before n) h.4 ∙ def_kept all before n h.0 h.1 x h.2 f new w.1 refl,
+        (n, number_at h.1 (codes "a") ∷ [], refl, refl),
+        refl,
       )
 
-  defs_walk : (all before : List RawDefTree) (done : List DefTree) (n k : ℕ) (cs : List ℕ) (ds : List RawDefTree) (defs : List DefTree) → AreDefs m k cs ds →
-      ((b : List RawDefTree) (i : ℕ) → i ≤ m → Finds (callee_from (length b) 0 all) i) → walk_defs Plain all before done n ds ≡ Ok defs →
-      (gs : List DefTree) × (defs ≡ done ++ gs) × AreTyped cs gs
-  defs_walk all before done n k [] [] defs are each e = absurd are
-  defs_walk all before done n k (c ∷ cs) [] defs are each e = absurd are
-  defs_walk all before done n k [] (d ∷ ds) defs are each e =
-      let s : walk_defs Plain all before done n (d ∷ []) ≡ Ok defs = subst (λ ds'. walk_defs Plain all before done n (d ∷ ds') ≡ Ok defs) are.1 e in
-      let r = then_ok (walk_def Plain all before n d) (λ x. walk_defs Plain all (before ++ d ∷ []) (done ++ x.0 ∷ []) x.1 []) defs s in
-      let w = main_walks all before n d r.0 are.0 (each before) r.1 in
-      (r.0.0 ∷ [], sym (ok_is (done ++ r.0.0 ∷ []) defs r.2), (w.0, w.1, refl))
-  defs_walk all before done n k (c ∷ cs) (d ∷ ds) defs are each e =
-      let r = then_ok (walk_def Plain all before n d) _ defs e in
-      let w = def_walks all before n c (function_name k) d r.0 are.0 r.1 in
-      let more = defs_walk all (before ++ d ∷ []) (done ++ r.0.0 ∷ []) r.0.1 (k + 1) cs ds defs are.1 each r.2 in
-      (r.0.0 ∷ more.0, more.1 ∙ append_assoc done (r.0.0 ∷ []) more.0, (w.0, w.1, more.2))
+  main_walks : (all before : List RawDefTree) (n : ℕ) (d : RawDefTree) → IsDef (codes "main") (AreCalls m) d →
+      is_among (map (λ e. e.name) before) (codes "main") ≡ false → ((i : ℕ) → i ≤ m → Finds (callee_from (length before) 0 all) i) →
+      (r : DefTree × ℕ) × (walk_def Plain all before n d ≡ Ok r) × (r.0.body ≡ calls_of m) × TakesOne r.0
+  main_walks all before n d h new each =
+      let w = calls_walk (callee_from (length before) 0 all) h.1 m n h.2 h.3 each in (
+        (def_form (def_of h.0 h.1 (codes "main") h.2) w.form, w.form.next),
+        ap (walk_def Plain all before n) h.4 ∙ def_kept all before n h.0 h.1 (codes "main") h.2 w.form new w.is w.bases,
+        w.tree,
+        refl,
+      )
+
+  -- the names before, with the one of function k
+  names_more : (k : ℕ) (A : Shape) (before : List RawDefTree) (d : RawDefTree) → IsDef (function_name k) A d → k < 10 ^ 64 →
+      AreOther k (map (λ e. e.name) before) → AreOther (k + 1) (map (λ e. e.name) (before ++ d ∷ []))
+  names_more k A before d is small h =
+      let names = map (λ e. e.name) before in
+      subst (AreOther (k + 1)) (sym (map-append (λ e. e.name) before (d ∷ []) ∙ ap (λ x. names ++ x ∷ []) (name_is (function_name k) A d is)))
+      (other_more k names small h)
+
+  defs_walk : (all before : List RawDefTree) (done : List DefTree) (n k : ℕ) (cs : List ℕ) (ds : List RawDefTree) → AreDefs m k cs ds →
+      k + length cs < 10 ^ 64 → m < length before + length cs → AreOther k (map (λ e. e.name) before) →
+      ((b : List RawDefTree) (i : ℕ) → i ≤ m → i < length b → Finds (callee_from (length b) 0 all) i) →
+      (gs : List DefTree) × (walk_defs Plain all before done n ds ≡ Ok (done ++ gs)) × AreTyped cs gs
+  defs_walk all before done n k [] [] are small many new each = absurd are
+  defs_walk all before done n k (c ∷ cs) [] are small many new each = absurd are
+  defs_walk all before done n k [] (d ∷ ds) are small many new each =
+      let w = main_walks all before n d are.0 new.main (λ i l. each before i l (omega arith)) in (
+        w.0.0 ∷ [],
+        ap (λ ds'. walk_defs Plain all before done n (d ∷ ds')) are.1
+            ∙ ap (λ r. r >>= λ x. walk_defs Plain all (before ++ d ∷ []) (done ++ x.0 ∷ []) x.1 []) w.1,
+        (w.2, w.3, refl),
+      )
+  defs_walk all before done n k (c ∷ cs) (d ∷ ds) are small many new each =
+      let w = def_walks all before n c (function_name k) d are.0 (new.functions k (omega arith) (omega arith)) in
+      let long : length (before ++ d ∷ []) ≡ length before + 1 = length-append before (d ∷ []) in
+      let more = defs_walk all (before ++ d ∷ []) (done ++ w.0.0 ∷ []) w.0.1 (k + 1) cs ds are.1 (omega arith) (omega arith)
+      (names_more k (IsBody c) before d are.0 (omega arith) new) each in (
+        w.0.0 ∷ more.0,
+        ap (λ r. r >>= λ x. walk_defs Plain all (before ++ d ∷ []) (done ++ x.0 ∷ []) x.1 ds) w.1 ∙ more.1
+            ∙ ap (λ gs. Ok gs) (append_assoc done (w.0.0 ∷ []) more.0),
+        (w.2, w.3, more.2),
+      )
 
   -- ---- main
   main_is : (j k : ℕ) (cs : List ℕ) (ds : List RawDefTree) → AreDefs m k cs ds → main_from j ds ≡ Some (j + length cs)
@@ -316,25 +359,99 @@ module _ (m : ℕ) where
   bases_are [] (d ∷ ds) are = are.1
   bases_are (c ∷ cs) (d ∷ ds) are = bases_are cs ds are.2
 
--- a program in which no rule is broken has levels in the place of names: functions with these coefficients, and main, which takes one number
-pub workload_typed : (cs : List ℕ) (ds : List RawDefTree) (typed : TypedTree) → 1 ≤ length cs → length cs < 2 ^ 64 → AreDefs (length cs - 1) 1 cs ds →
-    checked ds ≡ Ok typed →
-    IsWorkload cs (map (λ d. d.body) typed.defs) typed.main × (get_or (map (λ d. bases_of d.params) typed.defs) typed.main [] ≡ one Int)
-workload_typed cs ds typed l small are e =
+-- ---- sizes
+function_weight : (calls : ℕ → ℕ) (c : ℕ) (e : ExprTree) → IsFunction c e → weight_in calls (lowered e) ≡ 20
+function_weight calls c e is = ap (λ x. weight_in calls (lowered x)) is.3
+
+function_depth : (calls : ℕ → ℕ) (c : ℕ) (e : ExprTree) → IsFunction c e → depth_in calls (lowered e) ≡ 8
+function_depth calls c e is = ap (λ x. depth_in calls (lowered x)) is.3
+
+calls_weight : (calls : ℕ → ℕ) (m : ℕ) → ((f : ℕ) → calls f ≤ 20) → weight_in calls (lowered (calls_of m)) ≤ 23 * m + 22
+calls_weight calls zero h = let l = h 0 in omega arith
+calls_weight calls (suc m) h = let l = h (suc m) in let more = calls_weight calls m h in omega arith
+
+calls_depth : (calls : ℕ → ℕ) (m : ℕ) → ((f : ℕ) → calls f ≤ 8) → depth_in calls (lowered (calls_of m)) ≤ m + 9
+calls_depth calls zero h = let l = h 0 in omega arith
+calls_depth calls (suc m) h = let l = h (suc m) in let more = calls_depth calls m h in omega arith
+
+-- one measure more, and all are small
+index_more : (known : List ℕ) (n most : ℕ) → n ≤ most → ((f : ℕ) → slice_index known f ≤ most) → (f : ℕ) → slice_index (known ++ n ∷ []) f ≤ most
+index_more [] n most l h zero = l
+index_more [] n most l h (suc f) = h f
+index_more (k ∷ known) n most l h zero = h zero
+index_more (k ∷ known) n most l h (suc f) = index_more known n most l (λ g. h (suc g)) f
+
+fits : (n most : ℕ) (fault : ℕ → TypeFault) (ns : List ℕ) → n ≤ most → size_fault most fault ns ≡ None → size_fault most fault (n ∷ ns) ≡ None
+fits n most fault ns l h = rw (is_at_most n most l) h
+
+module _ (m : ℕ) (measure : (ℕ → ℕ) → ExprTree → ℕ) (small most : ℕ) (low : small ≤ most) (fault : ℕ → TypeFault)
+    (function : (calls : ℕ → ℕ) (c : ℕ) (e : ExprTree) → IsFunction c e → measure calls (lowered e) ≡ small)
+    (main : (calls : ℕ → ℕ) → ((f : ℕ) → calls f ≤ small) → measure calls (lowered (calls_of m)) ≤ most) where
+  all_fit : (known : List ℕ) → ((f : ℕ) → slice_index known f ≤ small) → (cs : List ℕ) (gs : List DefTree) → AreTyped m cs gs →
+      size_fault most fault (measured measure known gs) ≡ None
+  all_fit known h cs [] are = absurd are
+  all_fit known h [] (d ∷ ds) are =
+      let calls : ℕ → ℕ = λ f. slice_index known f in
+      let l : measure calls (lowered d.body) ≤ most = subst (λ e. measure calls (lowered e) ≤ most) (sym are.0) (main calls h) in
+      fits (measure calls (lowered d.body)) most fault (measured measure (known ++ measure calls (lowered d.body) ∷ []) ds) l
+      (ap (λ gs. size_fault most fault (measured measure (known ++ measure calls (lowered d.body) ∷ []) gs)) are.2)
+  all_fit known h (c ∷ cs) (d ∷ ds) are =
+      let calls : ℕ → ℕ = λ f. slice_index known f in
+      let n : ℕ = measure calls (lowered d.body) in
+      let is : n ≡ small = function calls c d.body are.0 in
+      fits n most fault (measured measure (known ++ n ∷ []) ds) (omega arith)
+      (all_fit (known ++ n ∷ []) (index_more known n small (omega arith) h) cs ds are.2)
+
+ok_is : (x y : TypedTree) → ◌≡◌ {A = Result TypedTree TypeFault} (Ok x) (Ok y) → x ≡ y
+ok_is x y e = cc
+
+both_fit : (defs : List DefTree) (main : ℕ) → size_fault 1000000 Weight (weights defs) ≡ None → size_fault 200 Depth (depths defs) ≡ None →
+    sized defs (Some main) ≡ Ok (record { defs = defs; main = main })
+both_fit defs main w d = rw (w, d) refl
+
+-- a program of this shape breaks no rule
+pub record IsChecked (cs : List ℕ) (ds : List RawDefTree) : Type 0 where
+  pub typed : TypedTree
+  pub is : checked ds ≡ Ok typed
+  pub defs : AreTyped (length cs - 1) cs typed.defs
+  pub main : typed.main ≡ length cs
+
+pub workload_checked : (cs : List ℕ) (ds : List RawDefTree) → 1 ≤ length cs → length cs ≤ 100 → AreDefs (length cs - 1) 1 cs ds → IsChecked cs ds
+workload_checked cs ds l few are =
     let m = length cs - 1 in
-    let r = then_ok (walk_defs Plain ds [] [] 1 ds) _ typed e in
-    let each : (b : List RawDefTree) (i : ℕ) → i ≤ m → Finds (callee_from (length b) 0 ds) i = λ b i k.
-    let f = found_at m (length b) 0 1 cs ds are (omega arith) i (omega arith) in
+    let each : (b : List RawDefTree) (i : ℕ) → i ≤ m → i < length b → Finds (callee_from (length b) 0 ds) i = λ b i k u.
+    let f = found_at m (length b) 0 1 cs ds are (omega arith) i (omega arith) (omega arith) in
     let s : 1 + i ≡ i + 1 = omega arith in
     let z : 0 + i ≡ i = omega arith in
-    (f.0, subst (λ j. callee_from (length b) 0 ds (function_name j) ≡ Some f.0) s f.1, f.2 ∙ z) in
-    let w = defs_walk m ds [] [] 1 1 cs ds r.0 are each r.1 in
+    record {
+      callee = f.0;
+      found = subst (λ j. callee_from (length b) 0 ds (function_name j) ≡ Some f.0) s f.1;
+      number = f.2 ∙ z;
+      params = f.3;
+      results = f.4;
+      earlier = f.5;
+    } in
+    let w = defs_walk m ds [] [] 1 1 cs ds are (omega arith) (omega arith) (record { functions = λ i k u. refl; main = refl }) each in
     let z : 0 + length cs ≡ length cs = omega arith in
-    let k = subst (λ o. sized r.0 o ≡ Ok typed) (main_is m 0 1 cs ds are ∙ ap (λ i. Some i) z) r.2 in
-    let g = ok_is _ typed (no_fault_ok _ _ typed (no_fault_ok _ _ typed k)) in
-    let b = bodies_are m cs w.0 w.2 in
-    let defs : typed.defs ≡ w.0 = sym (ap (λ t. t.defs) g) ∙ w.1 in
-    let main : typed.main ≡ length cs = sym (ap (λ t. t.main) g) in (
-      (b.0, b.1, ap (λ gs. map (λ d. d.body) gs) defs ∙ b.2, main),
-      ap₂ (λ gs i. get_or (map (λ d. bases_of d.params) gs) i []) defs main ∙ bases_are m cs w.0 w.2,
-    )
+    let weights_fit = all_fit m weight_in 20 1000000 (omega arith) Weight function_weight (λ calls h. let k = calls_weight calls m h in omega arith) []
+    (λ f. omega arith) cs w.0 w.2 in
+    let depths_fit = all_fit m depth_in 8 200 (omega arith) Depth function_depth (λ calls h. let k = calls_depth calls m h in omega arith) [] (λ f. omega arith)
+    cs w.0 w.2 in
+    record {
+      typed = record { defs = w.0; main = length cs };
+      is = ap (λ r. r >>= λ defs. sized defs (main_from 0 ds)) w.1 ∙ ap (sized w.0) (main_is m 0 1 cs ds are ∙ ap (λ i. Some i) z)
+          ∙ both_fit w.0 (length cs) weights_fit depths_fit;
+      defs = w.2;
+      main = refl;
+    }
+
+-- with levels in the place of names it is functions with these coefficients, and main, which takes one number
+pub workload_typed : (cs : List ℕ) (ds : List RawDefTree) (typed : TypedTree) → 1 ≤ length cs → length cs ≤ 100 → AreDefs (length cs - 1) 1 cs ds →
+    checked ds ≡ Ok typed →
+    IsWorkload cs (map (λ d. d.body) typed.defs) typed.main × (get_or (map (λ d. bases_of d.params) typed.defs) typed.main [] ≡ one Int)
+workload_typed cs ds typed l few are e =
+    let w = workload_checked cs ds l few are in
+    let same : w.typed ≡ typed = ok_is w.typed typed (sym w.is ∙ e) in
+    let b = bodies_are (length cs - 1) cs w.typed.defs w.defs in
+    subst (λ t. IsWorkload cs (map (λ d. d.body) t.defs) t.main × (get_or (map (λ d. bases_of d.params) t.defs) t.main [] ≡ one Int)) same
+    ((b.0, b.1, b.2, w.main), ap (λ i. get_or (map (λ d. bases_of d.params) w.typed.defs) i []) w.main ∙ bases_are (length cs - 1) cs w.typed.defs w.defs)

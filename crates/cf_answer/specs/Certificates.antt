@@ -1,13 +1,14 @@
 -- What `prove` writes of the chooses of a program, and what `verify` accepts for them.
 use Rattle.std.specs.Prelude.{◌≡◌, ℕ, List, [], ◌∷◌, map, codes, None}
 use Rattle.cf_program.specs.Checked.{TypedTree}
-use Rattle.cf_build.specs.Questions.{Question, all_questions, by_number, limit_of}
+use Rattle.cf_tree.specs.ChooseTree.{ChooseTree}
+use Rattle.cf_build.specs.Chooses.{all_chooses, by_number, limit_of}
 use Rattle.cf_steps.specs.Blocks.{BlockTree, block_tree}
 use Rattle.cf_steps.specs.Printed.{blocks_text}
 use Rattle.cf_steps.specs.ReadsBack.{ReadsBack}
 use Rattle.cf_steps.specs.Spelling.{AreBlocks}
 use Rattle.cf_steps.specs.declared.block.Block.{Block}
-use Rattle.cf_cert.specs.Certifying.{QuestionTree, Certifies}
+use Rattle.cf_cert.specs.Certifying.{Certifies}
 use Rattle.cf_cert.specs.Laws.{MeansSolutions}
 use Rattle.cf_prove.specs.Tracing.{traced_block}
 use Rattle.cf_answer.specs.Sources.{Spelled}
@@ -15,40 +16,36 @@ use Rattle.cf_answer.specs.Texts.{numbered_line}
 
 -- ---- chooses and blocks
 -- the chooses of a program in the order of their numbers, with matches as the chooses that they stand for
-abbrev pub asked_in : TypedTree → List Question
-asked_in typed = by_number (all_questions typed.defs)
-
--- a choose as blocks are checked against it
-abbrev pub asked : Question → QuestionTree
-asked q = record { number = q.number; scope = q.scope; outputs = q.outputs; rel = q.relation }
+abbrev pub asked_in : TypedTree → List ChooseTree
+asked_in typed = by_number (all_chooses typed.defs)
 
 -- there is one block for each choose, in order, of which Is holds
-abbrev pub OneForEach : {B : Type 0} → (Question → B → Type 0) → List Question → List B → Type 0
+abbrev pub OneForEach : {B : Type 0} → (ChooseTree → B → Type 0) → List ChooseTree → List B → Type 0
 OneForEach Is [] [] = Unit {0}
 OneForEach Is (q ∷ qs) (b ∷ bs) = Is q b × OneForEach Is qs bs
 OneForEach Is qs bs = ⊥
 
 -- the block certifies the choose; so in each environment of its scope the block's code means a solution, or that there is none exactly where there is none
-pub record IsProofOf (q : Question) (b : BlockTree) : Type 0 where
-  pub certifies : Certifies (asked q) b
-  pub means : MeansSolutions (asked q) b
+pub record IsProofOf (q : ChooseTree) (b : BlockTree) : Type 0 where
+  pub certifies : Certifies q b
+  pub means : MeansSolutions q b
 
 -- ---- prove
 -- the choose passes no limit, and the block has the steps of its traces and its code
-pub record IsTraced (q : Question) (b : Block) : Type 0 where
+pub record IsTraced (q : ChooseTree) (b : Block) : Type 0 where
   pub within : limit_of q ≡ None
-  pub is : block_tree b ≡ traced_block (asked q)
+  pub is : block_tree b ≡ traced_block q
   pub proves : IsProofOf q (block_tree b)
 
 -- the printed blocks of chooses in order, which are read back to these blocks alone
-abbrev pub AreProofs : List Question → List ℕ → Type 0
+abbrev pub AreProofs : List ChooseTree → List ℕ → Type 0
 AreProofs qs text = (bs : List Block) × OneForEach IsTraced qs bs × (text ≡ blocks_text bs) × ReadsBack (map block_tree bs) text
 
 -- ---- verify
 -- choose N: verified
-abbrev pub verified_line : Question → List ℕ
+abbrev pub verified_line : ChooseTree → List ℕ
 verified_line q = numbered_line q.number (codes "verified")
 
 -- the text spells blocks, one for each choose in order, which prove these chooses
-abbrev pub AreVerified : List Question → List ℕ → Type 0
+abbrev pub AreVerified : List ChooseTree → List ℕ → Type 0
 AreVerified qs steps = (bs : List BlockTree) × Spelled AreBlocks steps bs × OneForEach IsProofOf qs bs

@@ -5,7 +5,8 @@ use Rattle.cf_tree.specs.RelView.{rel_tree}
 use Rattle.cf_match.specs.Matches.{MatchTree, match_tree}
 use Rattle.cf_match.specs.declared.class.Class.{Class}
 use Rattle.cf_match.specs.declared.lowered.MatchInfo.{MatchInfo}
-use Rattle.cf_build.specs.Questions.{Question}
+use Rattle.cf_tree.specs.Params.{names_of}
+use Rattle.cf_tree.specs.ChooseTree.{ChooseTree}
 use Rattle.cf_build.specs.Solves.{IsSolved}
 use Rattle.cf_build.specs.declared.solves.SolvedChoose.{SolvedChoose}
 use Rattle.cf_warn.specs.Classes.{AreClasses}
@@ -36,16 +37,16 @@ IsOrigin matches n (Match info) = Contains matches (match_tree info.now) × IsMa
 abbrev pub AddsExistence : SolvedChoose → List ℕ → List ℕ → List ℕ → Type 0
 AddsExistence s levels old new =
     (e : ExistenceAnswer) × IsExistence s.solved.scope.items s.solved.outputs.items (rel_tree s.solved.rel) e
-    × (new ≡ old ++ numbered_line s.number (existence_text (names_at s.names.items levels) e))
+    × (new ≡ old ++ numbered_line s.choose.number (existence_text (names_at (names_of s.choose.scope.now) levels) e))
 
 abbrev pub AddsUniqueness : SolvedChoose → List ℕ → List ℕ → List ℕ → Type 0
 AddsUniqueness s levels old new =
     (u : UniquenessAnswer) × IsUniqueness s.solved.scope.items s.solved.outputs.items (rel_tree s.solved.rel) u
-    × (new ≡ old ++ numbered_line s.number (uniqueness_text (names_at s.names.items levels) u))
+    × (new ≡ old ++ numbered_line s.choose.number (uniqueness_text (names_at (names_of s.choose.scope.now) levels) u))
 
 abbrev pub AddsCover : ℕ → List Class → List ℕ → List ℕ → Type 0
 AddsCover n classes old new = (c : Cover) × IsCover classes c × (new ≡ old ++ cover_line n c)
 
 -- the lines of a choose were added
 abbrev pub AddsCheck : List MatchTree → SolvedChoose → List ℕ → List ℕ → Type 0
-AddsCheck matches s old new = (q : Question) → IsSolved q s → (more : List ℕ) × (new ≡ old ++ more) × IsCheckOf matches q more
+AddsCheck matches s old new = (q : ChooseTree) → IsSolved q s → (more : List ℕ) × (new ≡ old ++ more) × IsCheckOf matches q more

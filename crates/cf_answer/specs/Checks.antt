@@ -4,7 +4,8 @@ use Rattle.std.specs.List.{concat}
 use Rattle.std.specs.Fmt.{signed_decimal}
 use Rattle.cf_tree.specs.Values.{Value}
 use Rattle.cf_match.specs.Matches.{MatchTree}
-use Rattle.cf_build.specs.Questions.{Question, limit_of}
+use Rattle.cf_tree.specs.ChooseTree.{ChooseTree}
+use Rattle.cf_build.specs.Chooses.{limit_of}
 use Rattle.cf_eval.specs.Seen.{plains}
 use Rattle.cf_eval.specs.Texts.{value_text, values_text}
 use Rattle.cf_warn.specs.Questions.{parameters}
@@ -62,13 +63,13 @@ cover_text (cover.Misses z) = concat (codes "misses " ∷ signed_decimal z ∷ [
 cover_text (cover.Undecided d) = concat (codes "coverage undecided: " ∷ doubt_text d ∷ [])
 
 -- ---- lines
-abbrev pub parameter_names : Question → List (List ℕ)
+abbrev pub parameter_names : ChooseTree → List (List ℕ)
 parameter_names q = names_at q.names (parameters q.scope q.relation)
 
-abbrev pub existence_line : Question → ExistenceAnswer → List ℕ
+abbrev pub existence_line : ChooseTree → ExistenceAnswer → List ℕ
 existence_line q e = numbered_line q.number (existence_text (parameter_names q) e)
 
-abbrev pub uniqueness_line : Question → UniquenessAnswer → List ℕ
+abbrev pub uniqueness_line : ChooseTree → UniquenessAnswer → List ℕ
 uniqueness_line q u = numbered_line q.number (uniqueness_text (parameter_names q) u)
 
 abbrev pub cover_line : ℕ → Cover → List ℕ
@@ -87,7 +88,7 @@ abbrev pub IsOwn : List MatchTree → ℕ → Type 0
 IsOwn matches n = (m : MatchTree) → Contains matches m → (IsMatch m n → ⊥) × (IsArm m n → ⊥)
 
 -- The lines of a choose, by what its number is of: a choose of the source, an arm of one of these matches, or one of the matches.
-pub data AreLines (matches : List MatchTree) (q : Question) : List ℕ → Type 0 where
+pub data AreLines (matches : List MatchTree) (q : ChooseTree) : List ℕ → Type 0 where
   of_choose : IsOwn matches q.number → (e : ExistenceAnswer) → (u : UniquenessAnswer) → IsExistence q.scope q.outputs q.relation e →
       IsUniqueness q.scope q.outputs q.relation u → AreLines matches q (existence_line q e ++ uniqueness_line q u)
   of_arm : (m : MatchTree) → Contains matches m → IsArm m q.number → (u : UniquenessAnswer) → IsUniqueness q.scope q.outputs q.relation u →
@@ -95,6 +96,6 @@ pub data AreLines (matches : List MatchTree) (q : Question) : List ℕ → Type 
   of_match : (m : MatchTree) → Contains matches m → IsMatch m q.number → (c : Cover) → IsCover m.classes c → AreLines matches q (cover_line q.number c)
 
 -- a choose passes no limit, and these are its lines
-pub record IsCheckOf (matches : List MatchTree) (q : Question) (text : List ℕ) : Type 0 where
+pub record IsCheckOf (matches : List MatchTree) (q : ChooseTree) (text : List ℕ) : Type 0 where
   pub within : limit_of q ≡ None
   pub lines : AreLines matches q text

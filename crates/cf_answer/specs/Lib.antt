@@ -14,6 +14,6 @@ pub mod Refusals
 pub mod Sources
 pub mod Statuses
 pub mod Steps
-pub mod Sums
 pub mod Texts
 pub mod Verifying
+pub mod Workloads

@@ -1,11 +1,12 @@
 -- What the lines of faults say, and how a line goes to the sink of errors.
-use Rattle.std.specs.Prelude.{◌≡◌, ℕ, List, Result, OnOk, OnErr}
+use Rattle.std.specs.Prelude.{◌≡◌, ℕ, List, [], ◌∷◌, Result, OnOk, OnErr}
+use Rattle.std.specs.List.{concat}
 use Rattle.std.specs.Io.KnownBytes.{Appends}
 use Rattle.cf_io.specs.Bytes.{TookPrefix}
 use Rattle.cf_io.specs.Causes.{one_more}
 use Rattle.cf_io.specs.Seen.{SinkSeen}
-use Rattle.cf_linear.specs.declared.refusal.Refusal.TheVariants.{Limit}
-use Rattle.cf_answer.specs.Texts.{words_line, place_line_behind, count_line, numbered_line, choose_line, refusal_text, rejected_words_line}
+use Rattle.cf_answer.specs.Texts.{words_line, place_line_behind, count_line, choose_line, rejected_line}
+use Rattle.cf_answer.specs.declared.reason.Reason.{Reason}
 use Rattle.cf_answer.specs.declared.telling.Line.{Line}
 use Rattle.cf_answer.specs.declared.telling.Line.TheVariants as line
 
@@ -13,10 +14,11 @@ abbrev pub line_text : Line → List ℕ
 line_text (line.Words words) = words_line words.now
 line_text (line.At head place words) = place_line_behind head.now place words.now
 line_text (line.Count name n) = count_line name.now n
-line_text (line.Choose n words) = numbered_line n words.now
-line_text (line.ChooseLimit n kind count) = choose_line n (Limit kind count)
-line_text (line.Rejected at words) = rejected_words_line at.number at.case at.step words.now
-line_text (line.RejectedLimit at kind count) = rejected_words_line at.number at.case at.step (refusal_text (Limit kind count))
+line_text (line.Choose n r) = choose_line n r
+line_text (line.Rejected n i j w) = rejected_line n i j w
+
+abbrev pub reason_text : Reason → List ℕ
+reason_text r = concat (r.words.now ∷ r.gap.now ∷ r.count.now ∷ [])
 
 -- the sink took the line, or it failed and took a prefix of it
 pub record Puts {S E : Type 0} (line : List ℕ) (old new : SinkSeen) (result : Result S E) : Type 0 where

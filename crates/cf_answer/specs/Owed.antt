@@ -10,7 +10,8 @@ use Rattle.cf_target.specs.Spelling.{target_tree}
 use Rattle.cf_program.specs.Checked.{TypedTree}
 use Rattle.cf_choose.specs.Precondition.{all_needs, IsPrecondition}
 use Rattle.cf_match.specs.Matches.{all_matches}
-use Rattle.cf_build.specs.Questions.{Question, all_questions, by_number, limit_of, question_arms}
+use Rattle.cf_tree.specs.ChooseTree.{ChooseTree}
+use Rattle.cf_build.specs.Chooses.{all_chooses, by_number, limit_of, choose_arms}
 use Rattle.cf_emit.specs.Printed.{target_text, pre_text}
 use Rattle.cf_emit.specs.ReadsBack.{ReadsBack}
 use Rattle.cf_eval.specs.Replies.{IsReply}
@@ -63,29 +64,30 @@ pub record IsPrinted (t : RawTarget) (text : List ℕ) : Type 0 where
   pub reads_back : ReadsBack (target_tree t) text
 
 -- a choose passes no limit, and this is the printed form of the needs of its arms, which hold exactly where there are outputs
-pub record IsPreOf (q : Question) (text : List ℕ) : Type 0 where
+pub record IsPreOf (q : ChooseTree) (text : List ℕ) : Type 0 where
   pub within : limit_of q ≡ None
-  pub is : text ≡ pre_text q.number q.names (all_needs (question_arms q))
-  pub holds : IsPrecondition q.scope q.outputs q.relation (all_needs (question_arms q))
+  pub is : text ≡ pre_text q.number q.names (all_needs (choose_arms q))
+  pub holds : IsPrecondition q.scope q.outputs q.relation (all_needs (choose_arms q))
 
 -- what is written of chooses in order, where Is says what is written of each
-abbrev pub AllWritten : (Question → List ℕ → Type 0) → List Question → List ℕ → Type 0
+abbrev pub AllWritten : (ChooseTree → List ℕ → Type 0) → List ChooseTree → List ℕ → Type 0
 AllWritten Is [] text = text ≡ []
 AllWritten Is (q ∷ qs) text = (first : List ℕ) × (more : List ℕ) × (text ≡ first ++ more) × Is q first × AllWritten Is qs more
 
 -- the preconditions of the chooses of a program, in the order of their numbers
 abbrev pub ArePres : TypedTree → List ℕ → Type 0
-ArePres typed text = AllWritten IsPreOf (by_number (all_questions typed.defs)) text
+ArePres typed text = AllWritten IsPreOf (by_number (all_chooses typed.defs)) text
 
 -- the lines of its chooses and matches, in the order of their numbers
 abbrev pub AreChecks : TypedTree → List ℕ → Type 0
-AreChecks typed text = AllWritten (IsCheckOf (all_matches typed.defs)) (by_number (all_questions typed.defs)) text
+AreChecks typed text = AllWritten (IsCheckOf (all_matches typed.defs)) (by_number (all_chooses typed.defs)) text
 
--- the sum of the replies that the program picks, where so many passes have rewritten it
-abbrev pub IsSum : TypedTree → ℕ → List (List ℕ) → ℤ → Type 0
-IsSum typed passes [] sum = sum ≡ pos 0
-IsSum typed passes (line ∷ ls) sum =
-    (reply : List ℕ) × (is : IsSourceReply typed passes line reply) × (rest : ℤ) × (sum ≡ adds typed passes line reply is +ℤ rest) × IsSum typed passes ls rest
+-- the sum of the replies of the target, which its program picks, where so many passes have rewritten it
+abbrev pub IsSum : RawTarget → TypedTree → ℕ → List (List ℕ) → ℤ → Type 0
+IsSum t typed passes [] sum = sum ≡ pos 0
+IsSum t typed passes (line ∷ ls) sum =
+    (reply : List ℕ) × IsReplyBy (by_target t) line reply × (is : IsSourceReply typed passes line reply) × (rest : ℤ)
+    × (sum ≡ adds typed passes line reply is +ℤ rest) × IsSum t typed passes ls rest
 
 -- lines L sum S
 abbrev pub sum_line : ℕ → ℤ → List ℕ
@@ -105,5 +107,5 @@ Owes (verify name steps_name) (source ∷ steps ∷ []) given last ls text =
     (typed : TypedTree) × IsTypedSource source typed × AreVerified (asked_in typed) steps × (text ≡ flat_map verified_line (asked_in typed))
 Owes (gen n) [] given last ls text =
     (t : RawTarget) × IsCompiledBy true (gen_source n) given last t × (typed : TypedTree) × IsTypedSource (gen_source n) typed
-    × (sum : ℤ) × IsSum typed (length last) (lines (gen_lines n)) sum × (text ≡ sum_line (n * n) sum)
+    × (sum : ℤ) × IsSum t typed (length last) (lines (gen_lines n)) sum × (text ≡ sum_line (n * n) sum)
 Owes command files given last ls text = ⊥

@@ -1,5 +1,5 @@
 -- Why the text of a file is refused.
-use Rattle.std.specs.Prelude.{◌≡◌, ℕ, ◌<◌, List, [], ◌∷◌, length, map, Ok, Err}
+use Rattle.std.specs.Prelude.{◌≡◌, ℕ, ◌<◌, List, [], ◌∷◌, length, Ok, Err}
 use Rattle.cf_gen.specs.Workload.{gen_source}
 use Rattle.cf_lex.specs.declared.token.Token.{Token}
 use Rattle.cf_lex.specs.Tokens.{bad_byte, past_limit, at_end}
@@ -15,7 +15,9 @@ use Rattle.cf_program.specs.declared.linearity.Linearity.TheVariants.{Late}
 use Rattle.cf_program.specs.declared.fault.TypeFault.{TypeFault}
 use Rattle.cf_program.specs.declared.fault.TypeFault.TheVariants.{NotLinear}
 use Rattle.cf_linear.specs.declared.refusal.Refusal.{Refusal}
-use Rattle.cf_build.specs.Questions.{all_questions, IsFirstRefused}
+use Rattle.cf_build.specs.Chooses.{all_chooses, IsFirstRefused}
+use Rattle.cf_build.specs.declared.fault.BuildFault.{BuildFault}
+use Rattle.cf_build.specs.declared.fault.BuildFault.TheVariants as build
 use Rattle.cf_steps.specs.Blocks.{BlockTree}
 use Rattle.cf_steps.specs.Reading.{all_blocks}
 use Rattle.cf_steps.specs.Spelling.{AreBlocks}
@@ -23,7 +25,7 @@ use Rattle.cf_cert.specs.Judging.{IsVerdict}
 use Rattle.cf_cert.specs.declared.verdict.Verdict.TheVariants.{Rejected}
 use Rattle.cf_cert.specs.declared.verdict.Why.{Why}
 use Rattle.cf_words.specs.Commands.{Command, compile, run, pre, check, exec, prove, verify, gen}
-use Rattle.cf_answer.specs.Certificates.{asked, asked_in}
+use Rattle.cf_answer.specs.Certificates.{asked_in}
 use Rattle.cf_answer.specs.Limits.{text_limit}
 use Rattle.cf_answer.specs.Sources.{HasTokens, Spelled, IsTypedSource, IsTypedTree}
 use Rattle.cf_answer.specs.declared.fault.Fault.{Fault}
@@ -46,10 +48,15 @@ pub data Causes {Tree : Type 0} (Is : Tree → List Token → Type 0) (read : Re
       Causes Is read Bad text (fault.Syntax p)
   bad_tree : (x : Tree) (f : Fault) → Spelled Is text x → Bad x f → Causes Is read Bad text f
 
+-- why a program is not built
+abbrev pub fault_of : BuildFault → Fault
+fault_of (build.Choose n r) = fault.Choose n r
+fault_of build.NoMemory = fault.NoMemory
+
 -- for which faults a program is refused: its first broken rule, or its first choose that is refused
 pub data IsBadProgram (program : List RawDefTree) : Fault → Type 0 where
   broken : (e : TypeFault) → checked program ≡ Err e → IsBadProgram program (fault.Rule e)
-  refused : (typed : TypedTree) (n : ℕ) (r : Refusal) → checked program ≡ Ok typed → IsFirstRefused (all_questions typed.defs) n r →
+  refused : (typed : TypedTree) (n : ℕ) (r : Refusal) → checked program ≡ Ok typed → IsFirstRefused (all_chooses typed.defs) n r →
       IsBadProgram program (fault.Choose n r)
 
 -- for which faults `run` refuses it: where the first broken rule is that on linear relations, for the first rule that is broken where the numbers in
@@ -95,7 +102,7 @@ pub data IsUnverified (source steps : List ℕ) : Fault → Type 0 where
   bad_source : (f : Fault) → IsBrokenSource source f → IsUnverified source steps f
   bad_steps : (typed : TypedTree) (e : StepsFault) → IsTypedSource source typed → IsRefusedSteps steps e → IsUnverified source steps (fault.Steps e)
   bad_blocks : (typed : TypedTree) (bs : List BlockTree) (n i j : ℕ) (w : Why) → IsTypedSource source typed → Spelled AreBlocks steps bs →
-      IsVerdict (map asked (asked_in typed)) bs (Rejected n i j w) → IsUnverified source steps (fault.Rejected n i j w)
+      IsVerdict (asked_in typed) bs (Rejected n i j w) → IsUnverified source steps (fault.Rejected n i j w)
 
 -- the fault for which a command is refused on files of these texts, or on a source of its own
 abbrev pub Refuses : Command → List (List ℕ) → Fault → Type 0

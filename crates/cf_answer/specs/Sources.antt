@@ -1,17 +1,22 @@
 -- What a text spells, and the target that a source is compiled to.
-use Rattle.std.specs.Prelude.{◌≡◌, ℕ, ◌-◌, ◌^◌, ◌≤◌, List, length, Ok, Err}
+use Rattle.std.specs.Prelude.{◌≡◌, ℕ, ◌-◌, ◌^◌, ◌≤◌, List, length, map, Ok, Err, All}
+use Rattle.std.specs.List.Sorted.{IsPermutation}
 use Rattle.cf_lex.specs.declared.token.Token.{Token}
 use Rattle.cf_lex.specs.Tokens.{LexesTo, Ending, at_end}
 use Rattle.cf_tree.specs.declared.base.Place.{Place}
 use Rattle.cf_tree.specs.declared.target.RawTarget.{RawTarget}
-use Rattle.cf_tree.specs.DefView.{RawDefTree}
+use Rattle.cf_tree.specs.DefView.{RawDefTree, def_tree}
 use Rattle.cf_tree.specs.Typing.{IsTypedCode}
 use Rattle.cf_parse.specs.Programs.{IsProgram}
 use Rattle.cf_target.specs.Spelling.{TargetTree, IsTarget}
 use Rattle.cf_program.specs.Checked.{TypedTree, checked, checked_by}
 use Rattle.cf_program.specs.declared.linearity.Linearity.TheVariants.{Late}
 use Rattle.cf_program.specs.declared.fault.TypeFault.TheVariants.{NotLinear}
+use Rattle.cf_program.specs.Lowered.{lowered_def}
+use Rattle.cf_match.specs.Matches.{all_matches, match_tree}
+use Rattle.cf_match.specs.declared.lowered.LoweredParts.{LoweredParts}
 use Rattle.cf_build.specs.Built.{IsBuilt}
+use Rattle.cf_warn.specs.Classes.{AreClasses}
 use Rattle.cf_answer.specs.Limits.{text_limit}
 
 -- the text is not too long, and has these tokens up to its end or its first fault, which is at this place
@@ -25,6 +30,14 @@ Spelled Is text x = (ts : List Token) × (end : Place) × HasTokens text ts end 
 -- the text spells a program in which no rule is broken; with levels in the place of names it is this one
 abbrev pub IsTypedSource : List ℕ → TypedTree → Type 0
 IsTypedSource text typed = (program : List RawDefTree) × Spelled IsProgram text program × (checked program ≡ Ok typed)
+
+-- the program is that of the text, with its matches taken apart
+pub record IsLoweredSource (text : List ℕ) (l : LoweredParts) : Type 0 where
+  pub typed : TypedTree
+  pub is : IsTypedSource text typed
+  pub defs : map def_tree l.typed.defs.items ≡ map lowered_def typed.defs
+  pub matches : IsPermutation (all_matches typed.defs) (map match_tree l.matches.items)
+  pub classes : All (λ m. AreClasses m.classes.items) l.matches.items
 
 -- a program whose first broken rule is that on linear relations, and which breaks none where the numbers in scope of a choose are known
 abbrev pub IsCheckedLate : List RawDefTree → TypedTree → Type 0

@@ -40,9 +40,7 @@ refusal_text (refusal.Limit kind number) = concat (kind_text kind ∷ codes " " 
 
 -- the refusal of a choose
 abbrev pub choose_line : ℕ → Refusal → List ℕ
-choose_line n refusal.Past = numbered_line n (refusal_text refusal.Past)
-choose_line n (refusal.Limit kind number) =
-    concat (codes "choose " ∷ decimal n ∷ codes ": " ∷ kind_text kind ∷ codes " " ∷ decimal number ∷ codes "\n" ∷ [])
+choose_line n r = numbered_line n (refusal_text r)
 
 -- the line of a broken rule
 abbrev pub rule_line : TypeFault → List ℕ
@@ -77,12 +75,9 @@ why_text why.Code = codes "code differs"
 why_text (why.Refused r) = refusal_text r
 
 -- the steps of choose n are rejected at this case and this step
-abbrev pub rejected_words_line : ℕ → ℕ → ℕ → List ℕ → List ℕ
-rejected_words_line n i j words =
-    concat (codes "choose " ∷ decimal n ∷ codes ": rejected at case " ∷ decimal i ∷ codes " step " ∷ decimal j ∷ codes ": " ∷ words ∷ codes "\n" ∷ [])
-
 abbrev pub rejected_line : ℕ → ℕ → ℕ → Why → List ℕ
-rejected_line n i j w = rejected_words_line n i j (why_text w)
+rejected_line n i j w =
+    concat (codes "choose " ∷ decimal n ∷ codes ": rejected at case " ∷ decimal i ∷ codes " step " ∷ decimal j ∷ codes ": " ∷ why_text w ∷ codes "\n" ∷ [])
 
 abbrev pub fault_line : Fault → List ℕ
 fault_line fault.Usage = words_line (codes "usage: comfusy compile|pre|check|run|exec|prove FILE, or comfusy verify FILE STEPS, or comfusy gen N")

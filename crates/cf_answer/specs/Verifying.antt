@@ -1,20 +1,19 @@
 -- What writing and checking steps works with, for the contracts within the crate.
-use Rattle.std.specs.Prelude.{◌≡◌, ◌⊎◌, ◌≤◌, ◌+◌, ℕ, List, [], ◌∷◌, ◌++◌, map, All}
+use Rattle.std.specs.Prelude.{◌≡◌, ◌⊎◌, ◌≤◌, ◌+◌, ℕ, List, [], ◌∷◌, ◌++◌, All}
 use Rattle.cf_cases.specs.Holding.{EachOf}
 use Rattle.cf_io.specs.Bytes.{TookFront}
 use Rattle.cf_io.specs.Causes.{Rose, one_more}
 use Rattle.cf_io.specs.Seen.{ShelfSeen}
 use Rattle.cf_program.specs.Checked.{TypedTree}
-use Rattle.cf_build.specs.Questions.{Question}
+use Rattle.cf_tree.specs.ChooseTree.{ChooseTree}
 use Rattle.cf_steps.specs.Blocks.{BlockTree}
 use Rattle.cf_steps.specs.Printed.{blocks_text}
 use Rattle.cf_steps.specs.Spelled.{IsSpelledBlock}
 use Rattle.cf_steps.specs.Spelling.{AreBlocks}
 use Rattle.cf_steps.specs.declared.block.Block.{Block}
-use Rattle.cf_cert.specs.Certifying.{QuestionTree}
-use Rattle.cf_cert.specs.Laws.{AreWithinCases, IsQuestion}
+use Rattle.cf_cert.specs.Laws.{AreWithinCases, IsLinearChoose}
 use Rattle.cf_cert.specs.Verifying.{HaveFewSteps}
-use Rattle.cf_answer.specs.Certificates.{asked, asked_in, OneForEach, IsTraced}
+use Rattle.cf_answer.specs.Certificates.{asked_in, OneForEach, IsTraced}
 use Rattle.cf_answer.specs.Limits.{text_limit}
 use Rattle.cf_answer.specs.Outside.{AreTold}
 use Rattle.cf_answer.specs.Refusals.{IsBrokenSource, IsRefusedSteps}
@@ -23,13 +22,13 @@ use Rattle.cf_answer.specs.declared.fault.Fault.{Fault}
 use Rattle.cf_answer.specs.declared.fault.Fault.TheVariants as fault
 use Rattle.cf_answer.specs.declared.fault.StepsFault.{StepsFault}
 
--- these are the chooses of the program, as blocks are checked against them, and each is a question
-pub record AreAskedBy (typed : TypedTree) (qs : List QuestionTree) : Type 0 where
-  pub are : qs ≡ map asked (asked_in typed)
-  pub questions : EachOf IsQuestion qs
+-- these are the chooses of the program, each of which blocks can be checked against
+pub record AreAskedBy (typed : TypedTree) (qs : List ChooseTree) : Type 0 where
+  pub are : qs ≡ asked_in typed
+  pub linear : EachOf IsLinearChoose qs
 
--- the same of the program that a text spells
-abbrev pub AreAskedIn : List ℕ → List QuestionTree → Type 0
+-- the chooses of the program that a text spells
+abbrev pub AreAskedIn : List ℕ → List ChooseTree → Type 0
 AreAskedIn text qs = (typed : TypedTree) × IsTypedSource text typed × AreAskedBy typed qs
 
 -- the fault for which a steps file is refused for its text
@@ -68,9 +67,9 @@ pub data IsSourceFault (name : List ℕ) (before after : ShelfSeen) (f : Fault) 
 
 -- ---- writing blocks
 -- the printed block of a choose was added to the text
-abbrev pub AddsBlock : Question → List ℕ → List ℕ → Type 0
+abbrev pub AddsBlock : ChooseTree → List ℕ → List ℕ → Type 0
 AddsBlock q old new = (b : Block) × IsTraced q b × IsSpelledBlock b × (new ≡ old ++ blocks_text (b ∷ []))
 
 -- the text is that of one block for each of these chooses, which are printed as steps files spell them
-abbrev pub ArePut : List Question → List ℕ → Type 0
+abbrev pub ArePut : List ChooseTree → List ℕ → Type 0
 ArePut qs text = (bs : List Block) × OneForEach IsTraced qs bs × All IsSpelledBlock bs × (text ≡ blocks_text bs)

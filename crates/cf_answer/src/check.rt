@@ -1,6 +1,6 @@
 //! `check`: whether outputs of the chooses of a source always exist and are the only ones, and whether matches cover all numbers.
-ghost use Rattle.std.specs.Prelude.{◌≡◌, ◌≤◌, ◌<◌, ◌-◌, ◌^◌, ◌∷◌, [], ◌++◌, List, ℕ, length, map, All, Contains, IfOk, IfErr, OnOk};
-ghost use Rattle.std.specs.List.Sorted.{IsNonDecreasingBy, IsPermutation};
+ghost use Rattle.std.specs.Prelude.{◌≡◌, ◌≤◌, ◌<◌, ◌-◌, ◌^◌, ◌∷◌, [], ◌++◌, List, ℕ, length, map, All, Contains, IfOk, OnOk};
+ghost use Rattle.std.specs.List.Sorted.{IsNonDecreasingBy};
 ghost use Rattle.cf_io.specs.Seen.{SourceSeen};
 ghost use Rattle.cf_pass.specs.Passes.{Told};
 ghost use Rattle.cf_words.specs.Commands.{check as the_check};
@@ -8,31 +8,28 @@ ghost use Rattle.cf_answer.specs.Ends.{AnswersOn};
 ghost use Rattle.cf_answer.specs.Limits.{text_limit};
 ghost use Rattle.cf_answer.specs.Outside.{streams};
 ghost use Rattle.cf_answer.specs.Statuses.{status_of as the_status_of, IsEarly};
-ghost use Rattle.cf_tree.specs.DefView.{def_tree};
-ghost use Rattle.cf_program.specs.Lowered.{lowered_def};
-ghost use Rattle.cf_program.specs.Typed.{typed_tree};
-ghost use Rattle.cf_match.specs.Matches.{MatchTree, all_matches, match_tree};
-ghost use Rattle.cf_build.specs.Questions.{Question, all_questions};
-ghost use Rattle.cf_build.specs.Solves.{AreSolved, FaultAnswer};
+ghost use Rattle.cf_tree.specs.Params.{names_of};
+ghost use Rattle.cf_match.specs.Matches.{MatchTree, match_tree};
+ghost use Rattle.cf_tree.specs.ChooseTree.{ChooseTree};
+ghost use Rattle.cf_build.specs.Solves.{AreSolved};
 ghost use Rattle.cf_warn.specs.Classes.{AreClasses};
 ghost use Rattle.cf_answer.specs.Checking.{AreMatches, AddsCheck, AddsCover, AddsExistence, AddsUniqueness};
 ghost use Rattle.cf_answer.specs.Checks.{IsArm, IsCheckOf, IsMatch, IsOwn, cover_line, existence_text, names_at, uniqueness_text};
 ghost use Rattle.cf_answer.specs.Owed.{AllWritten, AreChecks};
 ghost use Rattle.cf_answer.specs.Refusals.{IsRefusedSource};
-ghost use Rattle.cf_answer.specs.Sources.{IsTypedSource};
+ghost use Rattle.cf_answer.specs.Sources.{IsLoweredSource};
 ghost use Rattle.cf_answer.specs.Steps.{IsVerdict};
 ghost use Rattle.cf_answer.specs.Texts.{numbered_line};
 
 use crate::choose_line::put_head;
 use crate::choose_origin::{Matches, Origin, arms_of, origin_of};
 use crate::fault::Fault;
-use crate::source::read_source;
+use crate::source::read_lowered;
 use crate::verdict::{put_cover, put_existence, put_uniqueness};
 use crate::write::write_text;
-use cf_build::{BuildFault, SolvedChoose, solve_all};
+use cf_build::{SolvedChoose, solve_all};
 use cf_io::Sink;
-use cf_match::{Lowered, MatchInfo, lower};
-use cf_program::Typed;
+use cf_match::{Lowered, MatchInfo};
 use cf_tree::NoMemory;
 use cf_warn::{
     Cover, ExistenceAnswer, UniquenessAnswer, covers, existence, parameters, uniqueness,
@@ -41,30 +38,30 @@ use std::alloc::Global;
 
 fn put_existence_line(
     text: &mut Vec<u8>,
-    choose: &SolvedChoose,
+    choose: &SolvedChoose<'_>,
     levels: &[u32],
     answer: &ExistenceAnswer,
 ) -> Result<(), NoMemory>
-    ensures { OnOk result (text.new.items ≡ text.old.items ++ numbered_line choose.now.number
-        (existence_text (names_at choose.now.names.items levels.now) answer.now)) }
+    ensures { OnOk result (text.new.items ≡ text.old.items ++ numbered_line choose.now.choose.number
+        (existence_text (names_at (names_of choose.now.choose.scope.now) levels.now) answer.now)) }
 {
-    put_head(text, b"choose ".as_slice(), choose.number)?;
-    put_existence(text, &choose.names, levels, answer)?;
+    put_head(text, b"choose ".as_slice(), choose.choose.number)?;
+    put_existence(text, choose.choose.scope, levels, answer)?;
     text.push(b'\n')?;
     Ok(())
 }
 
 fn put_uniqueness_line(
     text: &mut Vec<u8>,
-    choose: &SolvedChoose,
+    choose: &SolvedChoose<'_>,
     levels: &[u32],
     answer: &UniquenessAnswer,
 ) -> Result<(), NoMemory>
-    ensures { OnOk result (text.new.items ≡ text.old.items ++ numbered_line choose.now.number
-        (uniqueness_text (names_at choose.now.names.items levels.now) answer.now)) }
+    ensures { OnOk result (text.new.items ≡ text.old.items ++ numbered_line choose.now.choose.number
+        (uniqueness_text (names_at (names_of choose.now.choose.scope.now) levels.now) answer.now)) }
 {
-    put_head(text, b"choose ".as_slice(), choose.number)?;
-    put_uniqueness(text, &choose.names, levels, answer)?;
+    put_head(text, b"choose ".as_slice(), choose.choose.number)?;
+    put_uniqueness(text, choose.choose.scope, levels, answer)?;
     text.push(b'\n')?;
     Ok(())
 }
@@ -81,7 +78,7 @@ fn put_cover_line(text: &mut Vec<u8>, number: u32, answer: &Cover) -> Result<(),
 // Asks whether outputs of a choose always exist, and adds the line.
 fn check_existence(
     alloc: Global,
-    choose: &SolvedChoose,
+    choose: &SolvedChoose<'_>,
     levels: &[u32],
     text: &mut Vec<u8>,
 ) -> Result<(), NoMemory>
@@ -94,7 +91,7 @@ fn check_existence(
 // Asks whether they are the only ones, and adds the line.
 fn check_uniqueness(
     alloc: Global,
-    choose: &SolvedChoose,
+    choose: &SolvedChoose<'_>,
     levels: &[u32],
     text: &mut Vec<u8>,
 ) -> Result<(), NoMemory>
@@ -123,10 +120,10 @@ fn check_cover(
 fn check_choose(
     alloc: Global,
     matches: &Matches<'_>,
-    choose: &SolvedChoose,
+    choose: &SolvedChoose<'_>,
     text: &mut Vec<u8>,
 ) -> Result<(), NoMemory>
-    requires { IsOwn (map match_tree matches.now.infos.now) choose.now.number }
+    requires { IsOwn (map match_tree matches.now.infos.now) choose.now.choose.number }
     ensures { OnOk result (AddsCheck (map match_tree matches.now.infos.now) choose.now text.old.items text.new.items) }
 {
     let levels = parameters(alloc, &choose.solved)?;
@@ -139,10 +136,10 @@ fn check_choose(
 fn check_arm(
     alloc: Global,
     matches: &Matches<'_>,
-    choose: &SolvedChoose,
+    choose: &SolvedChoose<'_>,
     text: &mut Vec<u8>,
 ) -> Result<(), NoMemory>
-    requires { (m : MatchTree) × Contains (map match_tree matches.now.infos.now) m × IsArm m choose.now.number }
+    requires { (m : MatchTree) × Contains (map match_tree matches.now.infos.now) m × IsArm m choose.now.choose.number }
     ensures { OnOk result (AddsCheck (map match_tree matches.now.infos.now) choose.now text.old.items text.new.items) }
 {
     let levels = parameters(alloc, &choose.solved)?;
@@ -154,15 +151,15 @@ fn check_match(
     alloc: Global,
     matches: &Matches<'_>,
     info: &MatchInfo,
-    choose: &SolvedChoose,
+    choose: &SolvedChoose<'_>,
     text: &mut Vec<u8>,
 ) -> Result<(), NoMemory>
     requires among { Contains (map match_tree matches.now.infos.now) (match_tree info.now) }
-    requires number { IsMatch (match_tree info.now) choose.now.number }
+    requires number { IsMatch (match_tree info.now) choose.now.choose.number }
     requires classes { AreClasses info.now.classes.items }
     ensures { OnOk result (AddsCheck (map match_tree matches.now.infos.now) choose.now text.old.items text.new.items) }
 {
-    check_cover(alloc, choose.number, info, text)?;
+    check_cover(alloc, choose.choose.number, info, text)?;
     Ok(())
 }
 
@@ -170,13 +167,13 @@ fn check_match(
 fn check_number(
     alloc: Global,
     matches: &Matches<'_>,
-    choose: &SolvedChoose,
+    choose: &SolvedChoose<'_>,
     text: &mut Vec<u8>,
 ) -> Result<(), NoMemory>
     requires { AreMatches matches.now.infos.now matches.now.arms.now }
     ensures { OnOk result (AddsCheck (map match_tree matches.now.infos.now) choose.now text.old.items text.new.items) }
 {
-    match origin_of(matches, choose.number) {
+    match origin_of(matches, choose.choose.number) {
         Origin::Choose => check_choose(alloc, matches, choose, text),
         Origin::Arm => check_arm(alloc, matches, choose, text),
         Origin::Match(info) => check_match(alloc, matches, info, choose, text),
@@ -187,10 +184,10 @@ fn check_number(
 fn check_each(
     alloc: Global,
     matches: &Matches<'_>,
-    chooses: &[SolvedChoose],
+    chooses: &[SolvedChoose<'_>],
 ) -> Result<Vec<u8>, NoMemory>
     requires { AreMatches matches.now.infos.now matches.now.arms.now }
-    ensures { IfOk result (λ text. (qs : List Question) → AreSolved qs chooses.now →
+    ensures { IfOk result (λ text. (qs : List ChooseTree) → AreSolved qs chooses.now →
         AllWritten (IsCheckOf (map match_tree matches.now.infos.now)) qs text.items) }
 {
     let mut text = Vec::new(alloc);
@@ -201,48 +198,28 @@ fn check_each(
 }
 
 // The lines of solved chooses in order, in a program that was made of one with these matches.
-fn lines(alloc: Global, infos: &[MatchInfo], chooses: &[SolvedChoose]) -> Result<Vec<u8>, NoMemory>
+fn lines(
+    alloc: Global,
+    infos: &[MatchInfo],
+    chooses: &[SolvedChoose<'_>],
+) -> Result<Vec<u8>, NoMemory>
     requires order { IsNonDecreasingBy (λ m. m.number) infos.now }
     requires classes { All (λ m. AreClasses m.classes.items) infos.now }
-    ensures { IfOk result (λ text. (qs : List Question) → AreSolved qs chooses.now → AllWritten (IsCheckOf (map match_tree infos.now)) qs text.items) }
+    ensures { IfOk result (λ text. (qs : List ChooseTree) → AreSolved qs chooses.now → AllWritten (IsCheckOf (map match_tree infos.now)) qs text.items) }
 {
     let arms = arms_of(alloc, infos)?;
     check_each(alloc, &Matches { infos, arms: &arms }, chooses)
 }
 
-// The lines of a program whose lowered form this is.
-fn lowered_lines(alloc: Global, typed: &Typed, lowered: &Lowered) -> Result<Vec<u8>, BuildFault>
-    requires defs { map def_tree lowered.now.typed.defs.items ≡ map lowered_def (map def_tree typed.now.defs.items) }
-    requires matches { IsPermutation (all_matches (map def_tree typed.now.defs.items)) (map match_tree lowered.now.matches.items) }
-    ensures lines { IfOk result (λ text. AreChecks (typed_tree typed.now) text.items) }
-    ensures refused { IfErr result (FaultAnswer (all_questions (map def_tree typed.now.defs.items))) }
-{
-    let _ = typed.main();
-    let chooses = match solve_all(alloc, lowered.typed()) {
-        Ok(chooses) => chooses,
-        Err(fault) => return Err(fault),
-    };
-    match lines(alloc, lowered.matches(), &chooses) {
-        Ok(text) => Ok(text),
-        Err(NoMemory) => Err(BuildFault::NoMemory),
-    }
-}
-
 // The lines of the chooses and matches of a program in the order of their numbers, or the choose for
 // which it is refused.
-fn checks(alloc: Global, typed: &Typed) -> Result<Vec<u8>, Fault>
-    ensures { (source : List ℕ) → IsTypedSource source (typed_tree typed.now) →
-        IsVerdict (λ text. AreChecks (typed_tree typed.now) text.items) (IsRefusedSource source) result }
+fn checks(alloc: Global, lowered: &Lowered) -> Result<Vec<u8>, Fault>
+    requires { All (λ m. AreClasses m.classes.items) lowered.now.matches.items }
+    ensures { (source : List ℕ) (s : IsLoweredSource source lowered.now) → IsVerdict (λ text. AreChecks s.typed text.items) (IsRefusedSource source) result }
 {
-    let lowered = match lower(alloc, typed) {
-        Ok(lowered) => lowered,
-        Err(NoMemory) => return Err(Fault::NoMemory),
-    };
-    match lowered_lines(alloc, typed, &lowered) {
-        Ok(text) => Ok(text),
-        Err(BuildFault::Choose { number, refusal }) => Err(Fault::Choose { number, refusal }),
-        Err(BuildFault::NoMemory) => Err(Fault::NoMemory),
-    }
+    let chooses = solve_all(alloc, lowered.typed())?;
+    let text = lines(alloc, lowered.matches(), &chooses)?;
+    Ok(text)
 }
 
 /// Writes for each choose of a source text whether outputs always exist and whether they are the only
@@ -254,12 +231,7 @@ pub fn write_checks<O: Sink>(alloc: Global, text: &[u8], out: &mut O) -> Result<
         (streams input (O.seen out.old)) (streams input (O.seen out.new)) result }
     ensures unwritten { IsEarly (the_status_of result) → out.new ≡ out.old }
 {
-    let typed = match read_source(alloc, text) {
-        Ok(typed) => typed,
-        Err(fault) => return Err(fault),
-    };
-    match checks(alloc, &typed) {
-        Ok(text) => write_text(out, &text),
-        Err(fault) => Err(fault),
-    }
+    let lowered = read_lowered(alloc, text)?;
+    let text = checks(alloc, &lowered)?;
+    write_text(out, &text)
 }

@@ -63,7 +63,7 @@ fn match_place(infos: &[MatchInfo], number: u32) -> Result<usize, usize>
 }
 
 // The place of that number.
-fn place(numbers: &[u32], number: u32) -> Result<usize, usize>
+fn arm_place(numbers: &[u32], number: u32) -> Result<usize, usize>
     requires { IsNonDecreasingBy (λ n. n) numbers.now }
     ensures found { IfOk result (λ i. (i < length numbers.now) × ((d : _) → get_or numbers.now i d ≡ number)) }
     ensures absent { IfErr result (λ _. All (λ n. n ≢ number) numbers.now) }
@@ -78,18 +78,9 @@ pub fn origin_of<'a>(matches: &Matches<'a>, number: u32) -> Origin<'a>
 {
     match match_place(matches.infos, number) {
         Ok(place) => Origin::Match(&matches.infos[place]),
-        Err(_) => arm_or_choose(matches, number),
-    }
-}
-
-// What a number is of that no match has.
-fn arm_or_choose<'a>(matches: &Matches<'a>, number: u32) -> Origin<'a>
-    requires matches { AreMatches matches.now.infos.now matches.now.arms.now }
-    requires absent { All (λ m. m.number ≢ number) matches.now.infos.now }
-    ensures { IsOrigin (map match_tree matches.now.infos.now) number result }
-{
-    match place(matches.arms, number) {
-        Ok(_) => Origin::Arm,
-        Err(_) => Origin::Choose,
+        Err(_) => match arm_place(matches.arms, number) {
+            Ok(_) => Origin::Arm,
+            Err(_) => Origin::Choose,
+        },
     }
 }

@@ -1,5 +1,5 @@
 //! `compile`: the printed target of a source.
-ghost use Rattle.std.specs.Prelude.{◌≡◌, ◌≤◌, ◌<◌, ◌-◌, ◌^◌, ◌++◌, ◌∷◌, [], List, ℕ, not, length, map, IfOk, IfErr};
+ghost use Rattle.std.specs.Prelude.{◌≡◌, ◌≤◌, ◌<◌, ◌-◌, ◌^◌, ◌++◌, ◌∷◌, [], List, ℕ, not, length, map, IfOk};
 ghost use Rattle.cf_io.specs.Seen.{SourceSeen};
 ghost use Rattle.cf_tree.specs.Spelled.{HasSpelling};
 ghost use Rattle.cf_target.specs.Spelling.{target_tree};
@@ -16,7 +16,7 @@ ghost use Rattle.cf_answer.specs.Statuses.{status_of as the_status_of, IsEarly};
 ghost use Rattle.cf_answer.specs.Steps.{IsVerdict};
 
 use crate::fault::Fault;
-use crate::source::compile;
+use crate::source::target_of_text;
 use crate::tallies::put_closing;
 use crate::write::write_text;
 use cf_emit::print;
@@ -40,9 +40,9 @@ fn compiled(
     ensures passed { ArePassed (not plain) (map (λ p. told p) passes.old.items) (map (λ p. told p) passes.new.items) }
 {
     if plain {
-        return compile(alloc, text, &mut Vec::new(alloc));
+        return target_of_text(alloc, text, &mut Vec::new(alloc));
     }
-    compile(alloc, text, passes)
+    target_of_text(alloc, text, passes)
 }
 
 // The printed target, and what is written behind all else.
@@ -51,18 +51,13 @@ fn printed(
     target: &Target,
     stats: bool,
     passes: &[Box<dyn Pass>],
-) -> Result<Vec<u8>, Fault>
+) -> Result<Vec<u8>, NoMemory>
     ensures text { IfOk result (λ text. text.items ≡ target_text target.now ++ closing_lines stats (map (λ p. told p) passes.now)) }
     ensures reads_back { IfOk result (λ text. HasSpelling target.now → ReadsBack (target_tree target.now) (target_text target.now)) }
-    ensures fault { IfErr result (λ f. f ≡ Fault.NoMemory) }
 {
-    let Ok(mut text) = print(alloc, target) else {
-        return Err(Fault::NoMemory);
-    };
-    match put_closing(stats, passes, &mut text) {
-        Ok(()) => Ok(text),
-        Err(NoMemory) => Err(Fault::NoMemory),
-    }
+    let mut text = print(alloc, target)?;
+    put_closing(stats, passes, &mut text)?;
+    Ok(text)
 }
 
 /// Writes the target that a source text is compiled to.
@@ -80,14 +75,7 @@ pub fn write_target<O: Sink>(
         (streams input (O.seen out.old)) (streams input (O.seen out.new)) result }
     ensures unwritten { IsEarly (the_status_of result) → out.new ≡ out.old }
 {
-    let target = match compiled(alloc, flags.plain, text, passes) {
-        Ok(target) => target,
-        Err(fault) => return Err(fault),
-    };
-    let text = printed(alloc, &target, flags.stats, passes);
-    drop(target);
-    match text {
-        Ok(text) => write_text(out, &text),
-        Err(fault) => Err(fault),
-    }
+    let target = compiled(alloc, flags.plain, text, passes)?;
+    let text = printed(alloc, &target, flags.stats, passes)?;
+    write_text(out, &text)
 }

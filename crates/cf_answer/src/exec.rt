@@ -5,11 +5,10 @@ ghost use Rattle.cf_words.specs.Commands.{exec as the_exec};
 ghost use Rattle.cf_answer.specs.Ends.{AnswersOn};
 ghost use Rattle.cf_answer.specs.Outside.{streams};
 ghost use Rattle.cf_answer.specs.Statuses.{status_of as the_status_of, IsEarly};
-ghost use Rattle.cf_lex.specs.Tokens.{at_end};
-ghost use Rattle.cf_target.specs.Spelling.{target_tree, IsTarget};
+ghost use Rattle.cf_target.specs.Spelling.{target_tree};
 ghost use Rattle.cf_answer.specs.Limits.{text_limit};
 ghost use Rattle.cf_answer.specs.Refusals.{IsRefusedTarget};
-ghost use Rattle.cf_answer.specs.Sources.{HasTokens, Spelled, IsTypedTarget};
+ghost use Rattle.cf_answer.specs.Sources.{IsTypedTarget};
 ghost use Rattle.cf_answer.specs.Steps.{IsVerdict};
 
 use crate::answerer::Answerer;
@@ -17,9 +16,8 @@ use crate::fault::Fault;
 use crate::input::answer_by;
 use crate::text::lexed;
 use cf_io::{Sink, Source};
-use cf_lex::TokenList;
 use cf_parse::{ParseFault, target};
-use cf_tree::{RawTarget, Target};
+use cf_tree::Target;
 use cf_type::{TargetFault, check_target};
 use std::alloc::Global;
 
@@ -30,27 +28,14 @@ fn read_target(alloc: Global, text: &[u8]) -> Result<Target, Fault>
     ensures { IsVerdict (λ t. IsTypedTarget text.now (target_tree t)) (IsRefusedTarget text.now) result }
 {
     let list = lexed(alloc, text)?;
-    read_tokens(alloc, &list)
-}
-
-fn read_tokens(alloc: Global, list: &TokenList) -> Result<Target, Fault>
-    ensures { (text : List ℕ) → HasTokens text list.now.list.items list.now.end at_end →
-        IsVerdict (λ t. IsTypedTarget text (target_tree t)) (IsRefusedTarget text) result }
-{
-    match target(alloc, list) {
-        Ok(raw) => check_read(alloc, raw),
+    match target(alloc, &list) {
+        Ok(raw) => match check_target(alloc, raw) {
+            Ok(target) => Ok(target),
+            Err(TargetFault::BadTarget) => Err(Fault::BadTarget),
+            Err(TargetFault::NoMemory) => Err(Fault::NoMemory),
+        },
         Err(ParseFault::Syntax(place)) => Err(Fault::Syntax(place)),
         Err(ParseFault::NoMemory) => Err(Fault::NoMemory),
-    }
-}
-
-fn check_read(alloc: Global, raw: RawTarget) -> Result<Target, Fault>
-    ensures { (text : List ℕ) → Spelled IsTarget text (target_tree raw) → IsVerdict (λ t. IsTypedTarget text (target_tree t)) (IsRefusedTarget text) result }
-{
-    match check_target(alloc, raw) {
-        Ok(target) => Ok(target),
-        Err(TargetFault::BadTarget) => Err(Fault::BadTarget),
-        Err(TargetFault::NoMemory) => Err(Fault::NoMemory),
     }
 }
 
@@ -68,8 +53,6 @@ pub fn run_target<I: Source, O: Sink>(
     ensures unread { IsEarly (the_status_of result) → input.new ≡ input.old }
     ensures unwritten { IsEarly (the_status_of result) → out.new ≡ out.old }
 {
-    match read_target(alloc, text) {
-        Ok(target) => answer_by(alloc, &Answerer::Target(target), &[], input, out),
-        Err(fault) => Err(fault),
-    }
+    let target = read_target(alloc, text)?;
+    answer_by(alloc, &Answerer::Target(target), &[], input, out)
 }

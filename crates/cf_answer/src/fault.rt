@@ -1,8 +1,9 @@
 //! Why a call did not do what its words ask.
+use cf_build::BuildFault;
 use cf_cert::Why;
 use cf_linear::Refusal;
 use cf_program::TypeFault;
-use cf_tree::Place;
+use cf_tree::{NoMemory, Place};
 
 /// Why the text of a steps file is refused.
 #[derive(Clone, Copy, Debug)]
@@ -48,4 +49,29 @@ pub enum Fault {
     Output,
     InputTooLong,
     NoMemory,
+}
+
+impl From<NoMemory> for Fault {
+    ghost use Rattle.std.specs.Prelude.{◌≡◌};
+    ghost use Rattle.cf_answer.specs.declared.fault.Fault.TheVariants as variants;
+
+    ghost from_gives = { λ _ e. e ≡ variants.NoMemory };
+
+    fn from(_e: NoMemory) -> Fault {
+        Fault::NoMemory
+    }
+}
+
+impl From<BuildFault> for Fault {
+    ghost use Rattle.std.specs.Prelude.{◌≡◌};
+    ghost use Rattle.cf_answer.specs.Refusals.{fault_of};
+
+    ghost from_gives = { λ fault e. e ≡ fault_of fault };
+
+    fn from(fault: BuildFault) -> Fault {
+        match fault {
+            BuildFault::Choose { number, refusal } => Fault::Choose { number, refusal },
+            BuildFault::NoMemory => Fault::NoMemory,
+        }
+    }
 }

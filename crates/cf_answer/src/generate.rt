@@ -14,7 +14,7 @@ ghost use Rattle.cf_answer.specs.Steps.{IsVerdict, AddUp};
 
 use crate::fault::Fault;
 use crate::limits::longest_text;
-use crate::source::compile;
+use crate::source::target_of_text;
 use crate::sum::sum_of_replies;
 use crate::write::write_text;
 use cf_gen::{lines, source};
@@ -34,13 +34,11 @@ fn compiled_workload(
         (IsRefusedSource (gen_source size)) result }
     ensures passed { ArePassed true (map (λ p. told p) passes.old.items) (map (λ p. told p) passes.new.items) }
 {
-    let Ok(text) = source(alloc, size as u64) else {
-        return Err(Fault::NoMemory);
-    };
+    let text = source(alloc, size as u64)?;
     if text.len() > longest_text() {
         return Err(Fault::TextTooLong);
     }
-    compile(alloc, &text, passes)
+    target_of_text(alloc, &text, passes)
 }
 
 // Adds the line that tells a number of lines and a sum.
@@ -82,12 +80,7 @@ pub fn write_workload<O: Sink>(
         (streams input (O.seen out.old)) (streams input (O.seen out.new)) result }
     ensures unwritten { IsEarly (the_status_of result) → out.new ≡ out.old }
 {
-    let target = match compiled_workload(alloc, size, passes) {
-        Ok(target) => target,
-        Err(fault) => return Err(fault),
-    };
-    match summary(alloc, size, &target) {
-        Ok(text) => write_text(out, &text),
-        Err(NoMemory) => Err(Fault::NoMemory),
-    }
+    let target = compiled_workload(alloc, size, passes)?;
+    let text = summary(alloc, size, &target)?;
+    write_text(out, &text)
 }

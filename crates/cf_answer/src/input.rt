@@ -97,8 +97,6 @@ pub fn answer_by<I: Source, O: Sink>(
     ensures given { (I.seen input.new).given ≤ (I.seen input.old).given + (input_limit + 1) }
     ensures ends { (I.seen input.new).ends ≤ (I.seen input.old).ends + 1 }
 {
-    match answer_input(alloc, answerer, input, out) {
-        Ok(()) => write_text(out, end),
-        Err(fault) => Err(fault),
-    }
+    answer_input(alloc, answerer, input, out)?;
+    write_text(out, end)
 }

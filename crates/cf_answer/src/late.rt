@@ -6,7 +6,6 @@ ghost use Rattle.cf_eval.specs.Seen.{plains};
 ghost use Rattle.cf_late.specs.Fitting.{AreFit};
 ghost use Rattle.cf_late.specs.Texts.{late_text};
 ghost use Rattle.cf_late.specs.ProgramLaw.{HaveMainTypes};
-ghost use Rattle.cf_tree.specs.Params.{bases_of};
 ghost use Rattle.cf_program.specs.Typed.{typed_tree, IsLateTyped};
 ghost use Rattle.cf_answer.specs.LateReplies.{main_comes};
 ghost use Rattle.cf_answer.specs.Owed.{by_late, IsReplyBy};
@@ -15,7 +14,7 @@ ghost use Rattle.cf_answer.specs.Picked.{main_bases};
 use cf_eval::{LineFault, Value, read_line};
 use cf_late::{late_reply, run_late};
 use cf_program::Late;
-use cf_tree::{Base, NoMemory, Param, bases};
+use cf_tree::{Base, NoMemory, bases};
 use std::alloc::Global;
 
 // The bases of the parameters of main.

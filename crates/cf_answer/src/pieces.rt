@@ -11,7 +11,6 @@ use crate::fault::Fault;
 use crate::reply::replies;
 use crate::write::write_text;
 use cf_io::{Cutter, Line, Sink};
-use cf_tree::NoMemory;
 use std::alloc::Global;
 
 // Writes the replies to lines, and to those that end in the bytes behind them.
@@ -30,10 +29,8 @@ fn answer_lines<O: Sink>(
     ensures fault { IfErr result IsOutFault }
     ensures count { Counts (IsErrOf result Fault.Output) (O.seen out.old).faults (O.seen out.new).faults }
 {
-    match replies(alloc, answerer, lines, behind) {
-        Ok(text) => write_text(out, &text),
-        Err(NoMemory) => Err(Fault::NoMemory),
-    }
+    let text = replies(alloc, answerer, lines, behind)?;
+    write_text(out, &text)
 }
 
 /// Takes the next piece of the input, and answers the lines that it ends within the limit.
@@ -56,10 +53,8 @@ pub fn answer_piece<O: Sink>(
     ensures count { Counts (IsErrOf result Fault.Output) (O.seen out.old).faults (O.seen out.new).faults }
 {
     let mut lines = Vec::new(alloc);
-    match cutter.feed_first(piece, &mut lines) {
-        Ok(behind) => answer_lines(alloc, answerer, &lines, behind, out),
-        Err(NoMemory) => Err(Fault::NoMemory),
-    }
+    let behind = cutter.feed_first(piece, &mut lines)?;
+    answer_lines(alloc, answerer, &lines, behind, out)
 }
 
 /// Answers the last line, where bytes stand after the last line feed.
@@ -80,8 +75,6 @@ pub fn answer_rest<O: Sink>(
     ensures count { Counts (IsErrOf result Fault.Output) (O.seen out.old).faults (O.seen out.new).faults }
 {
     let mut lines = Vec::new(alloc);
-    match cutter.finish(&mut lines) {
-        Ok(()) => answer_lines(alloc, answerer, &lines, &[], out),
-        Err(NoMemory) => Err(Fault::NoMemory),
-    }
+    cutter.finish(&mut lines)?;
+    answer_lines(alloc, answerer, &lines, &[], out)
 }

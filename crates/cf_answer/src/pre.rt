@@ -1,5 +1,5 @@
 //! `pre`: the preconditions of the chooses of a source.
-ghost use Rattle.std.specs.Prelude.{◌≡◌, ◌≤◌, ◌<◌, ◌-◌, ◌^◌, ◌++◌, ◌∷◌, [], List, ℕ, IfOk, IfErr, OnOk, length, map};
+ghost use Rattle.std.specs.Prelude.{◌≡◌, ◌≤◌, ◌<◌, ◌-◌, ◌^◌, ◌++◌, ◌∷◌, [], List, ℕ, IfOk, OnOk, length};
 ghost use Rattle.cf_io.specs.Seen.{SourceSeen};
 ghost use Rattle.cf_pass.specs.Passes.{Told};
 ghost use Rattle.cf_words.specs.Commands.{pre as the_pre};
@@ -7,39 +7,49 @@ ghost use Rattle.cf_answer.specs.Ends.{AnswersOn};
 ghost use Rattle.cf_answer.specs.Limits.{text_limit};
 ghost use Rattle.cf_answer.specs.Outside.{streams};
 ghost use Rattle.cf_answer.specs.Statuses.{status_of as the_status_of, IsEarly};
-ghost use Rattle.cf_tree.specs.DefView.{def_tree};
-ghost use Rattle.cf_build.specs.Questions.{Question, all_questions, by_number};
-ghost use Rattle.cf_build.specs.Solves.{IsSolved, AreSolved, FaultAnswer};
-ghost use Rattle.cf_program.specs.Typed.{typed_tree};
+ghost use Rattle.cf_tree.specs.ChooseTree.{ChooseTree};
+ghost use Rattle.cf_tree.specs.Params.{names_of};
+ghost use Rattle.cf_build.specs.Solves.{IsSolved, AreSolved};
 ghost use Rattle.cf_answer.specs.Owed.{IsPreOf, AllWritten, ArePres};
 ghost use Rattle.cf_answer.specs.Refusals.{IsRefusedSource};
-ghost use Rattle.cf_answer.specs.Sources.{IsTypedSource};
+ghost use Rattle.cf_answer.specs.Sources.{IsLoweredSource};
 ghost use Rattle.cf_answer.specs.Steps.{IsVerdict};
 
 use crate::fault::Fault;
-use crate::source::read_source;
+use crate::source::read_lowered;
 use crate::write::write_text;
-use cf_build::{BuildFault, SolvedChoose, solve_all};
+use cf_build::{SolvedChoose, solve_all};
 use cf_emit::print_pre;
 use cf_io::Sink;
-use cf_match::lower;
-use cf_program::Typed;
-use cf_tree::NoMemory;
+use cf_match::Lowered;
+use cf_tree::{NoMemory, Param, Text};
 use std::alloc::Global;
 
+// The names of the variables in a scope.
+fn names(alloc: Global, scope: &[Param]) -> Result<Vec<Text>, NoMemory>
+    ensures { IfOk result (λ names. names.items ≡ names_of scope.now) }
+{
+    let mut names = Vec::new(alloc);
+    for param in scope {
+        names.push(param.name.try_copy(alloc)?)?;
+    }
+    Ok(names)
+}
+
 // Adds the precondition of a choose.
-fn put_pre(alloc: Global, choose: &SolvedChoose, text: &mut Vec<u8>) -> Result<(), NoMemory>
-    ensures { OnOk result ((q : Question) → IsSolved q choose.now → (pre : List ℕ) × (text.new.items ≡ text.old.items ++ pre) × IsPreOf q pre) }
+fn put_pre(alloc: Global, choose: &SolvedChoose<'_>, text: &mut Vec<u8>) -> Result<(), NoMemory>
+    ensures { OnOk result ((q : ChooseTree) → IsSolved q choose.now → (pre : List ℕ) × (text.new.items ≡ text.old.items ++ pre) × IsPreOf q pre) }
 {
     let pre = choose.solved.pre(alloc)?;
-    let printed = print_pre(alloc, choose.number, &choose.names, &pre)?;
+    let names = names(alloc, choose.choose.scope)?;
+    let printed = print_pre(alloc, choose.choose.number, &names, &pre)?;
     text.extend_from_slice(&printed)?;
     Ok(())
 }
 
 // The preconditions of solved chooses in order.
-fn pres(alloc: Global, chooses: &[SolvedChoose]) -> Result<Vec<u8>, NoMemory>
-    ensures { IfOk result (λ text. (qs : List Question) → AreSolved qs chooses.now → AllWritten IsPreOf qs text.items) }
+fn pres(alloc: Global, chooses: &[SolvedChoose<'_>]) -> Result<Vec<u8>, NoMemory>
+    ensures { IfOk result (λ text. (qs : List ChooseTree) → AreSolved qs chooses.now → AllWritten IsPreOf qs text.items) }
 {
     let mut text = Vec::new(alloc);
     for choose in chooses {
@@ -49,29 +59,12 @@ fn pres(alloc: Global, chooses: &[SolvedChoose]) -> Result<Vec<u8>, NoMemory>
 }
 
 // The preconditions of the chooses of a program in the order of their numbers, or the choose for which it is refused.
-fn preconditions(alloc: Global, typed: &Typed) -> Result<Vec<u8>, Fault>
-    ensures { (source : List ℕ) → IsTypedSource source (typed_tree typed.now) →
-        IsVerdict (λ text. ArePres (typed_tree typed.now) text.items) (IsRefusedSource source) result }
+fn preconditions(alloc: Global, lowered: &Lowered) -> Result<Vec<u8>, Fault>
+    ensures { (source : List ℕ) (s : IsLoweredSource source lowered.now) → IsVerdict (λ text. ArePres s.typed text.items) (IsRefusedSource source) result }
 {
-    match solved(alloc, typed) {
-        Ok(chooses) => match pres(alloc, &chooses) {
-            Ok(text) => Ok(text),
-            Err(NoMemory) => Err(Fault::NoMemory),
-        },
-        Err(BuildFault::Choose { number, refusal }) => Err(Fault::Choose { number, refusal }),
-        Err(BuildFault::NoMemory) => Err(Fault::NoMemory),
-    }
-}
-
-// The chooses of a program, its matches as the chooses that they stand for, solved in the order of their numbers.
-fn solved(alloc: Global, typed: &Typed) -> Result<Vec<SolvedChoose>, BuildFault>
-    ensures solved { IfOk result (λ solves. AreSolved (by_number (all_questions (map def_tree typed.now.defs.items))) solves.items) }
-    ensures refused { IfErr result (FaultAnswer (all_questions (map def_tree typed.now.defs.items))) }
-{
-    match lower(alloc, typed) {
-        Ok(lowered) => solve_all(alloc, lowered.typed()),
-        Err(NoMemory) => Err(BuildFault::NoMemory),
-    }
+    let chooses = solve_all(alloc, lowered.typed())?;
+    let text = pres(alloc, &chooses)?;
+    Ok(text)
 }
 
 /// Writes the preconditions of the chooses of a source text.
@@ -82,12 +75,7 @@ pub fn write_preconditions<O: Sink>(alloc: Global, text: &[u8], out: &mut O) -> 
         (streams input (O.seen out.old)) (streams input (O.seen out.new)) result }
     ensures unwritten { IsEarly (the_status_of result) → out.new ≡ out.old }
 {
-    let typed = match read_source(alloc, text) {
-        Ok(typed) => typed,
-        Err(fault) => return Err(fault),
-    };
-    match preconditions(alloc, &typed) {
-        Ok(text) => write_text(out, &text),
-        Err(fault) => Err(fault),
-    }
+    let lowered = read_lowered(alloc, text)?;
+    let text = preconditions(alloc, &lowered)?;
+    write_text(out, &text)
 }

@@ -56,12 +56,7 @@ pub fn run_source<I: Source, O: Sink>(
     ensures unread { IsEarly (the_status_of result) → input.new ≡ input.old }
     ensures unwritten { IsEarly (the_status_of result) → out.new ≡ out.old }
 {
-    let answerer = match answerer(alloc, flags.plain, text, passes) {
-        Ok(answerer) => answerer,
-        Err(fault) => return Err(fault),
-    };
-    match closing(alloc, flags.stats, passes) {
-        Ok(end) => answer_by(alloc, &answerer, &end, input, out),
-        Err(fault) => Err(fault),
-    }
+    let answerer = answerer(alloc, flags.plain, text, passes)?;
+    let end = closing(alloc, flags.stats, passes)?;
+    answer_by(alloc, &answerer, &end, input, out)
 }

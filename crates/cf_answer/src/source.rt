@@ -1,34 +1,29 @@
 //! From the text of a source to its program and its target.
-ghost use Rattle.std.specs.Prelude.{◌≡◌, ◌≤◌, ◌<◌, ◌-◌, ◌^◌, Bool, true, List, ℕ, length, map, Err, IfOk, OnOk, OnErr};
-ghost use Rattle.cf_lex.specs.Tokens.{AreWithin, at_end};
+ghost use Rattle.std.specs.Prelude.{◌≡◌, ◌≤◌, ◌<◌, ◌-◌, ◌^◌, Bool, true, List, ℕ, length, map, Err, IfOk};
 ghost use Rattle.cf_tree.specs.declared.base.Place.{Place};
-ghost use Rattle.cf_tree.specs.DefView.{def_tree, program_tree};
-ghost use Rattle.cf_pass.specs.Passes.{Told, HaveTurned};
+ghost use Rattle.cf_tree.specs.DefView.{program_tree};
+ghost use Rattle.cf_pass.specs.Passes.{Told};
 ghost use Rattle.cf_program.specs.Checked.{checked};
-ghost use Rattle.cf_program.specs.Lowered.{lowered_def};
 ghost use Rattle.cf_program.specs.Source.{IsSpelledProgram};
 ghost use Rattle.cf_program.specs.Typed.{typed_tree};
 ghost use Rattle.cf_program.specs.declared.fault.TypeFault.TheVariants.{NotLinear};
-ghost use Rattle.cf_match.specs.Laws.{AllowTheSame};
 ghost use Rattle.cf_parse.specs.Programs.{IsProgram};
-ghost use Rattle.cf_build.specs.Built.{BuildAnswer};
 ghost use Rattle.cf_answer.specs.Limits.{text_limit};
 ghost use Rattle.cf_answer.specs.Owed.{IsCompiledBy};
 ghost use Rattle.cf_answer.specs.Passes.{ArePassed};
 ghost use Rattle.cf_answer.specs.Refusals.{IsBrokenSource, IsRefusedSource, IsRefusedRun};
-ghost use Rattle.cf_answer.specs.Sources.{HasTokens, Spelled, IsTypedSource};
+ghost use Rattle.cf_answer.specs.Sources.{Spelled, IsTypedSource, IsLoweredSource};
 ghost use Rattle.cf_answer.specs.Steps.{IsVerdict, IsMisspelled, IsRunner, answerer_of};
 
 use crate::answerer::Answerer;
 use crate::fault::Fault;
 use crate::text::lexed;
-use cf_build::{BuildFault, build};
-use cf_lex::TokenList;
+use cf_build::build;
 use cf_match::{Lowered, lower};
 use cf_parse::{ParseFault, program};
 use cf_pass::Pass;
 use cf_program::{TypeFault, Typed};
-use cf_tree::{NoMemory, Program, Target};
+use cf_tree::{Program, Target};
 use cf_type::{check, check_late};
 use std::alloc::Global;
 
@@ -38,10 +33,8 @@ pub fn read_source(alloc: Global, text: &[u8]) -> Result<Typed, Fault>
     requires place { length text.now < 2 ^ 32 - 1 }
     ensures { IsVerdict (λ x. IsTypedSource text.now (typed_tree x)) (IsBrokenSource text.now) result }
 {
-    match parsed(alloc, text) {
-        Ok(program) => check_program(alloc, &program),
-        Err(fault) => Err(fault),
-    }
+    let program = parsed(alloc, text)?;
+    check_program(alloc, &program)
 }
 
 // The tree that a source text spells, whatever rules it breaks.
@@ -52,16 +45,7 @@ fn parsed(alloc: Global, text: &[u8]) -> Result<Program, Fault>
     ensures numbers { IfOk result (λ x. IsSpelledProgram (program_tree x)) }
 {
     let list = lexed(alloc, text)?;
-    parse(alloc, &list)
-}
-
-fn parse(alloc: Global, list: &TokenList) -> Result<Program, Fault>
-    requires { AreWithin (2 ^ 127 - 1) list.now.list.items }
-    ensures verdict { (text : List ℕ) → HasTokens text list.now.list.items list.now.end at_end →
-        IsVerdict (λ x. Spelled IsProgram text (program_tree x)) (IsMisspelled text) result }
-    ensures numbers { IfOk result (λ x. IsSpelledProgram (program_tree x)) }
-{
-    match program(alloc, list) {
+    match program(alloc, &list) {
         Ok(program) => Ok(program),
         Err(ParseFault::Syntax(place)) => Err(Fault::Syntax(place)),
         Err(ParseFault::NoMemory) => Err(Fault::NoMemory),
@@ -80,57 +64,35 @@ fn check_program(alloc: Global, program: &Program) -> Result<Typed, Fault>
     }
 }
 
+/// The program that a source text spells, with its matches taken apart, or why the text is refused,
+/// whatever its chooses are.
+pub fn read_lowered(alloc: Global, text: &[u8]) -> Result<Lowered, Fault>
+    requires short { length text.now ≤ text_limit }
+    requires place { length text.now < 2 ^ 32 - 1 }
+    ensures { IsVerdict (IsLoweredSource text.now) (IsBrokenSource text.now) result }
+{
+    let typed = read_source(alloc, text)?;
+    // for the proof: the rules of a typed program are told by its methods alone.
+    let _ = typed.main();
+    let lowered = lower(alloc, &typed)?;
+    Ok(lowered)
+}
+
 /// The target that a source text is compiled to by these passes, or why the text is refused.
-#[tactic(auto, using(crate::proofs::TextLemmas::broken_refused))]
-pub fn compile(alloc: Global, text: &[u8], passes: &mut Vec<Box<dyn Pass>>) -> Result<Target, Fault>
+pub fn target_of_text(
+    alloc: Global,
+    text: &[u8],
+    passes: &mut Vec<Box<dyn Pass>>,
+) -> Result<Target, Fault>
     requires short { length text.now ≤ text_limit }
     requires place { length text.now < 2 ^ 32 - 1 }
     ensures verdict { IsVerdict (IsCompiledBy true text.now (map (λ p. told p) passes.old.items) (map (λ p. told p) passes.new.items))
         (IsRefusedSource text.now) result }
     ensures passed { ArePassed true (map (λ p. told p) passes.old.items) (map (λ p. told p) passes.new.items) }
 {
-    let typed = match read_source(alloc, text) {
-        Ok(typed) => typed,
-        Err(fault) => return Err(fault),
-    };
-    match compile_typed(alloc, &typed, passes) {
-        Ok(target) => Ok(target),
-        Err(BuildFault::Choose { number, refusal }) => Err(Fault::Choose { number, refusal }),
-        Err(BuildFault::NoMemory) => Err(Fault::NoMemory),
-    }
-}
-
-// The target of a program, rewritten by these passes.
-fn compile_typed(
-    alloc: Global,
-    typed: &Typed,
-    passes: &mut Vec<Box<dyn Pass>>,
-) -> Result<Target, BuildFault>
-    ensures answer { BuildAnswer (map def_tree typed.now.defs.items) typed.now.main (length passes.old.items) result }
-    ensures turned { OnOk result (HaveTurned (map (λ p. told p) passes.old.items) (map (λ p. told p) passes.new.items)) }
-    ensures kept { OnErr result (map (λ p. told p) passes.new.items ≡ map (λ p. told p) passes.old.items) }
-{
-    match lower(alloc, typed) {
-        Ok(lowered) => built(alloc, typed, &lowered, passes),
-        Err(NoMemory) => Err(BuildFault::NoMemory),
-    }
-}
-
-// The target of a program whose lowered form this is.
-fn built(
-    alloc: Global,
-    typed: &Typed,
-    lowered: &Lowered,
-    passes: &mut Vec<Box<dyn Pass>>,
-) -> Result<Target, BuildFault>
-    requires defs { map def_tree lowered.now.typed.defs.items ≡ map lowered_def (map def_tree typed.now.defs.items) }
-    requires main { lowered.now.typed.main ≡ typed.now.main }
-    requires outcomes { AllowTheSame (map def_tree typed.now.defs.items) (map def_tree lowered.now.typed.defs.items) }
-    ensures answer { BuildAnswer (map def_tree typed.now.defs.items) typed.now.main (length passes.old.items) result }
-    ensures turned { OnOk result (HaveTurned (map (λ p. told p) passes.old.items) (map (λ p. told p) passes.new.items)) }
-    ensures kept { OnErr result (map (λ p. told p) passes.new.items ≡ map (λ p. told p) passes.old.items) }
-{
-    build(alloc, lowered.typed(), passes)
+    let typed = read_source(alloc, text)?;
+    let target = build(alloc, &typed, passes)?;
+    Ok(target)
 }
 
 /// What answers the lines for `run` of a source text: the target that it is compiled to by these
@@ -147,10 +109,8 @@ pub fn runner(
         (IsRefusedRun text.now) result }
     ensures passed { ArePassed true (map (λ p. told p) passes.old.items) (map (λ p. told p) passes.new.items) }
 {
-    match parsed(alloc, text) {
-        Ok(program) => program_runner(alloc, &program, passes),
-        Err(fault) => Err(fault),
-    }
+    let program = parsed(alloc, text)?;
+    program_runner(alloc, &program, passes)
 }
 
 fn program_runner(
@@ -165,28 +125,13 @@ fn program_runner(
     ensures passed { ArePassed true (map (λ p. told p) passes.old.items) (map (λ p. told p) passes.new.items) }
 {
     match check(alloc, program) {
-        Ok(typed) => target_runner(alloc, &typed, passes),
+        Ok(typed) => {
+            let target = build(alloc, &typed, passes)?;
+            Ok(Answerer::Target(target))
+        }
         Err(TypeFault::NotLinear(_place)) => late_runner(alloc, program),
         Err(TypeFault::NoMemory) => Err(Fault::NoMemory),
         Err(fault) => Err(Fault::Rule(fault)),
-    }
-}
-
-// The target of a linear program.
-fn target_runner(
-    alloc: Global,
-    typed: &Typed,
-    passes: &mut Vec<Box<dyn Pass>>,
-) -> Result<Answerer, Fault>
-    ensures verdict { (text : List ℕ) → IsTypedSource text (typed_tree typed.now) →
-        IsVerdict (λ a. IsRunner true text (map (λ p. told p) passes.old.items) (map (λ p. told p) passes.new.items) (answerer_of a))
-        (IsRefusedRun text) result }
-    ensures passed { ArePassed true (map (λ p. told p) passes.old.items) (map (λ p. told p) passes.new.items) }
-{
-    match compile_typed(alloc, typed, passes) {
-        Ok(target) => Ok(Answerer::Target(target)),
-        Err(BuildFault::Choose { number, refusal }) => Err(Fault::Choose { number, refusal }),
-        Err(BuildFault::NoMemory) => Err(Fault::NoMemory),
     }
 }
 

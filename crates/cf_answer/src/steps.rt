@@ -1,5 +1,5 @@
 //! From the text of a steps file to its blocks.
-ghost use Rattle.std.specs.Prelude.{◌≡◌, ◌⊎◌, ◌≤◌, ◌<◌, ◌-◌, ◌^◌, List, ℕ, length, IfOk, IfErr};
+ghost use Rattle.std.specs.Prelude.{◌≡◌, ◌⊎◌, ◌≤◌, ◌<◌, ◌-◌, ◌^◌, length, IfOk, IfErr};
 ghost use Rattle.cf_lex.specs.Tokens.{AreWithin, at_end};
 ghost use Rattle.cf_steps.specs.Blocks.{block_trees};
 ghost use Rattle.cf_answer.specs.Limits.{text_limit};
@@ -29,18 +29,6 @@ fn lexed_steps(alloc: Global, text: &[u8]) -> Result<TokenList, Fault>
     }
 }
 
-fn read_blocks(alloc: Global, list: &TokenList) -> Result<Blocks, Fault>
-    requires { AreWithin (2 ^ 127 - 1) list.now.list.items }
-    ensures { (text : List ℕ) → HasTokens text list.now.list.items list.now.end at_end →
-        IsVerdict (λ bs. AreReadFrom text (block_trees bs)) (AreMisspelled text) result }
-{
-    match steps(alloc, list) {
-        Ok(found) => Ok(found),
-        Err(ParseFault::Syntax(place)) => Err(Fault::Steps(StepsFault::Syntax(place))),
-        Err(ParseFault::NoMemory) => Err(Fault::NoMemory),
-    }
-}
-
 /// The blocks that the text of a steps file spells, or why the text is refused.
 pub fn read_steps(alloc: Global, text: &[u8]) -> Result<Blocks, Fault>
     requires short { length text.now ≤ text_limit }
@@ -48,5 +36,9 @@ pub fn read_steps(alloc: Global, text: &[u8]) -> Result<Blocks, Fault>
     ensures { IsVerdict (λ bs. AreReadFrom text.now (block_trees bs)) (AreMisspelled text.now) result }
 {
     let list = lexed_steps(alloc, text)?;
-    read_blocks(alloc, &list)
+    match steps(alloc, &list) {
+        Ok(found) => Ok(found),
+        Err(ParseFault::Syntax(place)) => Err(Fault::Steps(StepsFault::Syntax(place))),
+        Err(ParseFault::NoMemory) => Err(Fault::NoMemory),
+    }
 }

@@ -1,8 +1,7 @@
 //! The lines of the tallies of passes.
-ghost use Rattle.std.specs.Prelude.{◌≡◌, ◌++◌, map, flat_map, IfOk, IfErr, OnOk};
+ghost use Rattle.std.specs.Prelude.{◌≡◌, ◌++◌, map, flat_map, IfOk, OnOk};
 ghost use Rattle.cf_answer.specs.Passes.{tally_line, tally_text, closing_lines};
 
-use crate::fault::Fault;
 use cf_pass::Pass;
 use cf_tree::{NoMemory, put_number};
 use std::alloc::Global;
@@ -49,13 +48,10 @@ pub fn put_closing(
 }
 
 /// What is written behind all else.
-pub fn closing(alloc: Global, stats: bool, passes: &[Box<dyn Pass>]) -> Result<Vec<u8>, Fault>
-    ensures lines { IfOk result (λ text. text.items ≡ closing_lines stats (map (λ p. told p) passes.now)) }
-    ensures fault { IfErr result (λ f. f ≡ Fault.NoMemory) }
+pub fn closing(alloc: Global, stats: bool, passes: &[Box<dyn Pass>]) -> Result<Vec<u8>, NoMemory>
+    ensures { IfOk result (λ text. text.items ≡ closing_lines stats (map (λ p. told p) passes.now)) }
 {
     let mut text = Vec::new(alloc);
-    match put_closing(stats, passes, &mut text) {
-        Ok(()) => Ok(text),
-        Err(NoMemory) => Err(Fault::NoMemory),
-    }
+    put_closing(stats, passes, &mut text)?;
+    Ok(text)
 }

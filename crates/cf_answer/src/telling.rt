@@ -3,27 +3,18 @@ ghost use Rattle.std.specs.Prelude.{◌≡◌, codes, flat_map, OnOk, OnErr};
 ghost use Rattle.std.specs.Io.KnownBytes.{Appends};
 ghost use Rattle.cf_io.specs.Bytes.{TookPrefix};
 ghost use Rattle.cf_io.specs.Causes.{one_more};
-ghost use Rattle.cf_linear.specs.declared.refusal.Refusal.TheVariants as refusals;
 ghost use Rattle.cf_answer.specs.Lines.{line_text, Puts};
-ghost use Rattle.cf_answer.specs.Texts.{place_line, place_line_behind, count_line, numbered_line, choose_line, rule_line};
-ghost use Rattle.cf_answer.specs.Texts.{steps_line, rejected_line, refusal_text, rejected_words_line, fault_line, answer_line};
+ghost use Rattle.cf_answer.specs.Texts.{place_line, place_line_behind, count_line, choose_line, rule_line};
+ghost use Rattle.cf_answer.specs.Texts.{steps_line, rejected_line, fault_line, answer_line};
 
 use crate::fault::{Fault, StepsFault};
+use crate::reason::{refusal_reason, rejection_reason};
 use cf_cert::Why;
 use cf_io::{Failed, Sink, write_all};
-use cf_late::kind_text;
-use cf_linear::{LimitKind, Refusal};
+use cf_linear::Refusal;
 use cf_program::TypeFault;
 use cf_tree::Place;
 use itoa::Buffer;
-
-// A choose, a case and a step at which steps are rejected.
-#[derive(Clone, Copy)]
-struct StepPlace {
-    number: u32,
-    case: u32,
-    step: u32,
-}
 
 // What the line of a fault says.
 #[derive(Clone, Copy)]
@@ -41,21 +32,13 @@ enum Line<'a> {
     },
     Choose {
         number: u32,
-        words: &'a [u8],
-    },
-    ChooseLimit {
-        number: u32,
-        kind: LimitKind,
-        count: u64,
+        refusal: Refusal,
     },
     Rejected {
-        at: StepPlace,
-        words: &'a [u8],
-    },
-    RejectedLimit {
-        at: StepPlace,
-        kind: LimitKind,
-        count: u64,
+        number: u32,
+        case: u32,
+        step: u32,
+        why: Why,
     },
 }
 
@@ -114,63 +97,6 @@ fn steps_line(fault: &StepsFault) -> Line<'static>
     }
 }
 
-fn choose_line(number: u32, refusal: &Refusal) -> Line<'static>
-    ensures { line_text result ≡ choose_line number refusal.now }
-{
-    match refusal {
-        Refusal::Past => Line::Choose {
-            number,
-            words: b"coefficient past 128 bits".as_slice(),
-        },
-        Refusal::Limit {
-            kind,
-            number: count,
-        } => Line::ChooseLimit {
-            number,
-            kind: *kind,
-            count: *count,
-        },
-    }
-}
-
-fn rejected_refusal(at: StepPlace, refusal: &Refusal) -> Line<'static>
-    ensures { line_text result ≡ rejected_words_line at.number at.case at.step (refusal_text refusal.now) }
-{
-    match refusal {
-        Refusal::Past => Line::Rejected {
-            at,
-            words: b"coefficient past 128 bits".as_slice(),
-        },
-        Refusal::Limit { kind, number } => Line::RejectedLimit {
-            at,
-            kind: *kind,
-            count: *number,
-        },
-    }
-}
-
-fn rejected(at: StepPlace, words: &'static [u8]) -> Line<'static>
-    ensures { line_text result ≡ rejected_words_line at.number at.case at.step words.now }
-{
-    Line::Rejected { at, words }
-}
-
-fn rejected_line(at: StepPlace, why: &Why) -> Line<'static>
-    ensures { line_text result ≡ rejected_line at.number at.case at.step why.now }
-{
-    match why {
-        Why::Unknown => rejected(at, b"not an unknown".as_slice()),
-        Why::Factor => rejected(at, b"not invertible".as_slice()),
-        Why::Single => rejected(at, b"not one unknown".as_slice()),
-        Why::Held => rejected(at, b"held by an equation".as_slice()),
-        Why::Exact => rejected(at, b"pair without coefficient 1".as_slice()),
-        Why::Left => rejected(at, b"not finished".as_slice()),
-        Why::Blocks => rejected(at, b"wrong blocks".as_slice()),
-        Why::Code => rejected(at, b"code differs".as_slice()),
-        Why::Refused(refusal) => rejected_refusal(at, refusal),
-    }
-}
-
 fn fault_line(fault: &Fault) -> Line<'static>
     ensures { line_text result ≡ fault_line fault.now }
 {
@@ -184,7 +110,10 @@ fn fault_line(fault: &Fault) -> Line<'static>
         Fault::NumberPast(place) => at_place(place, b"number past limit".as_slice()),
         Fault::Syntax(place) => at_place(place, b"syntax".as_slice()),
         Fault::Rule(fault) => rule_line(fault),
-        Fault::Choose { number, refusal } => choose_line(*number, refusal),
+        Fault::Choose { number, refusal } => Line::Choose {
+            number: *number,
+            refusal: *refusal,
+        },
         Fault::BadTarget => Line::Words(b"target not well typed".as_slice()),
         Fault::Steps(fault) => steps_line(fault),
         Fault::Rejected {
@@ -192,14 +121,12 @@ fn fault_line(fault: &Fault) -> Line<'static>
             case,
             step,
             why,
-        } => {
-            let at = StepPlace {
-                number: *number,
-                case: *case,
-                step: *step,
-            };
-            rejected_line(at, why)
-        }
+        } => Line::Rejected {
+            number: *number,
+            case: *case,
+            step: *step,
+            why: *why,
+        },
         Fault::Input => Line::Words(b"cannot read input".as_slice()),
         Fault::Output => Line::Words(b"cannot write output".as_slice()),
         Fault::InputTooLong => Line::Words(b"input too long".as_slice()),
@@ -258,86 +185,49 @@ fn put_count<E: Sink>(err: &mut E, name: &[u8], count: u64) -> Result<(), Failed
     put_pieces(err, &pieces)
 }
 
-fn put_choose<E: Sink>(err: &mut E, number: u32, words: &[u8]) -> Result<(), Failed>
-    ensures { Puts (numbered_line number words.now) (E.seen err.old) (E.seen err.new) result }
+fn put_choose<E: Sink>(err: &mut E, number: u32, refusal: &Refusal) -> Result<(), Failed>
+    ensures { Puts (choose_line number refusal.now) (E.seen err.old) (E.seen err.new) result }
 {
     let mut choose = Buffer::new();
+    let mut count = Buffer::new();
+    let reason = refusal_reason(refusal, &mut count);
     let pieces = [
         b"choose ".as_slice(),
         choose.format(number).as_bytes(),
         b": ".as_slice(),
-        words,
+        reason.words,
+        reason.gap,
+        reason.count,
         b"\n".as_slice(),
     ];
     put_pieces(err, &pieces)
 }
 
-fn put_choose_limit<E: Sink>(
+fn put_rejected<E: Sink>(
     err: &mut E,
     number: u32,
-    kind: &LimitKind,
-    count: u64,
+    case: u32,
+    step: u32,
+    why: &Why,
 ) -> Result<(), Failed>
-    ensures { Puts (choose_line number (refusals.Limit kind.now count)) (E.seen err.old) (E.seen err.new) result }
+    ensures { Puts (rejected_line number case step why.now) (E.seen err.old) (E.seen err.new) result }
 {
     let mut choose = Buffer::new();
-    let mut limit = Buffer::new();
+    let mut case_number = Buffer::new();
+    let mut step_number = Buffer::new();
+    let mut count = Buffer::new();
+    let reason = rejection_reason(why, &mut count);
     let pieces = [
         b"choose ".as_slice(),
         choose.format(number).as_bytes(),
-        b": ".as_slice(),
-        kind_text(kind),
-        b" ".as_slice(),
-        limit.format(count).as_bytes(),
-        b"\n".as_slice(),
-    ];
-    put_pieces(err, &pieces)
-}
-
-fn put_rejected<E: Sink>(err: &mut E, at: &StepPlace, words: &[u8]) -> Result<(), Failed>
-    ensures { Puts (rejected_words_line at.now.number at.now.case at.now.step words.now) (E.seen err.old) (E.seen err.new) result }
-{
-    let mut choose = Buffer::new();
-    let mut case = Buffer::new();
-    let mut step = Buffer::new();
-    let pieces = [
-        b"choose ".as_slice(),
-        choose.format(at.number).as_bytes(),
         b": rejected at case ".as_slice(),
-        case.format(at.case).as_bytes(),
+        case_number.format(case).as_bytes(),
         b" step ".as_slice(),
-        step.format(at.step).as_bytes(),
+        step_number.format(step).as_bytes(),
         b": ".as_slice(),
-        words,
-        b"\n".as_slice(),
-    ];
-    put_pieces(err, &pieces)
-}
-
-fn put_rejected_limit<E: Sink>(
-    err: &mut E,
-    at: &StepPlace,
-    kind: &LimitKind,
-    count: u64,
-) -> Result<(), Failed>
-    ensures { Puts (rejected_words_line at.now.number at.now.case at.now.step (refusal_text (refusals.Limit kind.now count)))
-        (E.seen err.old) (E.seen err.new) result }
-{
-    let mut choose = Buffer::new();
-    let mut case = Buffer::new();
-    let mut step = Buffer::new();
-    let mut limit = Buffer::new();
-    let pieces = [
-        b"choose ".as_slice(),
-        choose.format(at.number).as_bytes(),
-        b": rejected at case ".as_slice(),
-        case.format(at.case).as_bytes(),
-        b" step ".as_slice(),
-        step.format(at.step).as_bytes(),
-        b": ".as_slice(),
-        kind_text(kind),
-        b" ".as_slice(),
-        limit.format(count).as_bytes(),
+        reason.words,
+        reason.gap,
+        reason.count,
         b"\n".as_slice(),
     ];
     put_pieces(err, &pieces)
@@ -350,14 +240,13 @@ fn put_line<E: Sink>(err: &mut E, line: &Line<'_>) -> Result<(), Failed>
         Line::Words(words) => put_pieces(err, &[*words, b"\n".as_slice()]),
         Line::At { head, place, words } => put_place(err, *head, place, *words),
         Line::Count { name, count } => put_count(err, *name, *count),
-        Line::Choose { number, words } => put_choose(err, *number, *words),
-        Line::ChooseLimit {
+        Line::Choose { number, refusal } => put_choose(err, *number, refusal),
+        Line::Rejected {
             number,
-            kind,
-            count,
-        } => put_choose_limit(err, *number, kind, *count),
-        Line::Rejected { at, words } => put_rejected(err, at, *words),
-        Line::RejectedLimit { at, kind, count } => put_rejected_limit(err, at, kind, *count),
+            case,
+            step,
+            why,
+        } => put_rejected(err, *number, *case, *step, why),
     }
 }
 

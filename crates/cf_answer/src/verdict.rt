@@ -1,36 +1,27 @@
 //! The texts of verdicts.
 ghost use Rattle.std.specs.Prelude.{◌≡◌, [], ◌++◌, get_or, OnOk};
+ghost use Rattle.cf_tree.specs.Params.{names_of};
 ghost use Rattle.cf_eval.specs.Seen.{plain, plains};
-ghost use Rattle.cf_linear.specs.declared.refusal.Refusal.TheVariants as refusals;
 ghost use Rattle.cf_answer.specs.Checks.{cover_text, doubt_text, existence_text, names_at, sample_text, setting_text, uniqueness_text};
 ghost use Rattle.cf_answer.specs.Texts.{refusal_text};
 
+use crate::reason::refusal_reason;
 use cf_eval::{Value, put_value, put_values};
-use cf_late::kind_text;
-use cf_linear::{LimitKind, Refusal};
-use cf_tree::{NoMemory, Text, put_number};
+use cf_linear::Refusal;
+use cf_tree::{NoMemory, Param, put_number};
 use cf_warn::{Cover, Doubt, ExistenceAnswer, UniquenessAnswer};
-
-fn put_limit(text: &mut Vec<u8>, kind: &LimitKind, number: u64) -> Result<(), NoMemory>
-    ensures { OnOk result (text.new.items ≡ text.old.items ++ refusal_text (refusals.Limit kind.now number)) }
-{
-    text.extend_from_slice(kind_text(kind))?;
-    text.push(b' ')?;
-    put_number(text, number)?;
-    Ok(())
-}
+use itoa::Buffer;
 
 // Adds the limit that is passed.
 fn put_refusal(text: &mut Vec<u8>, refusal: &Refusal) -> Result<(), NoMemory>
     ensures { OnOk result (text.new.items ≡ text.old.items ++ refusal_text refusal.now) }
 {
-    match refusal {
-        Refusal::Past => {
-            text.extend_from_slice(b"coefficient past 128 bits")?;
-            Ok(())
-        }
-        Refusal::Limit { kind, number } => put_limit(text, kind, *number),
-    }
+    let mut count = Buffer::new();
+    let reason = refusal_reason(refusal, &mut count);
+    text.extend_from_slice(reason.words)?;
+    text.extend_from_slice(reason.gap)?;
+    text.extend_from_slice(reason.count)?;
+    Ok(())
 }
 
 // Adds why a question is not decided.
@@ -47,11 +38,11 @@ fn put_doubt(text: &mut Vec<u8>, doubt: &Doubt) -> Result<(), NoMemory>
 }
 
 // The name of a level.
-fn name_at(names: &[Text], level: u32) -> &[u8]
-    ensures { result.now ≡ get_or names.now level [] }
+fn name_at(scope: &[Param], level: u32) -> &[u8]
+    ensures { result.now ≡ get_or (names_of scope.now) level [] }
 {
-    match names.get(level as usize) {
-        Some(name) => &name.bytes,
+    match scope.get(level as usize) {
+        Some(param) => &param.name.bytes,
         None => b"".as_slice(),
     }
 }
@@ -76,11 +67,11 @@ fn put_setting(
 #[tactic(auto, using(crate::proofs::SampleLemmas::setting_more))]
 fn put_sample(
     text: &mut Vec<u8>,
-    names: &[Text],
+    scope: &[Param],
     levels: &[u32],
     sample: &[Value],
 ) -> Result<(), NoMemory>
-    ensures { OnOk result (text.new.items ≡ text.old.items ++ sample_text (names_at names.now levels.now) (plains sample.now)) }
+    ensures { OnOk result (text.new.items ≡ text.old.items ++ sample_text (names_at (names_of scope.now) levels.now) (plains sample.now)) }
 {
     let mut before = b" for ".as_slice();
     let mut rest = levels;
@@ -89,7 +80,7 @@ fn put_sample(
         let Some((level, more_levels)) = rest.split_first() else {
             return Ok(());
         };
-        put_setting(text, before, name_at(names, *level), value)?;
+        put_setting(text, before, name_at(scope, *level), value)?;
         before = b", ".as_slice();
         rest = more_levels;
         values = more_values;
@@ -101,11 +92,11 @@ fn put_sample(
 /// levels.
 pub fn put_existence(
     text: &mut Vec<u8>,
-    names: &[Text],
+    scope: &[Param],
     levels: &[u32],
     answer: &ExistenceAnswer,
 ) -> Result<(), NoMemory>
-    ensures { OnOk result (text.new.items ≡ text.old.items ++ existence_text (names_at names.now levels.now) answer.now) }
+    ensures { OnOk result (text.new.items ≡ text.old.items ++ existence_text (names_at (names_of scope.now) levels.now) answer.now) }
 {
     match answer {
         ExistenceAnswer::Always => {
@@ -114,7 +105,7 @@ pub fn put_existence(
         }
         ExistenceAnswer::Missing(sample) => {
             text.extend_from_slice(b"no outputs")?;
-            put_sample(text, names, levels, sample)?;
+            put_sample(text, scope, levels, sample)?;
             Ok(())
         }
         ExistenceAnswer::Undecided(doubt) => {
@@ -128,11 +119,11 @@ pub fn put_existence(
 /// Adds whether outputs are the only ones, for the same names and levels.
 pub fn put_uniqueness(
     text: &mut Vec<u8>,
-    names: &[Text],
+    scope: &[Param],
     levels: &[u32],
     answer: &UniquenessAnswer,
 ) -> Result<(), NoMemory>
-    ensures { OnOk result (text.new.items ≡ text.old.items ++ uniqueness_text (names_at names.now levels.now) answer.now) }
+    ensures { OnOk result (text.new.items ≡ text.old.items ++ uniqueness_text (names_at (names_of scope.now) levels.now) answer.now) }
 {
     match answer {
         UniquenessAnswer::Unique => {
@@ -145,7 +136,7 @@ pub fn put_uniqueness(
             second,
         } => {
             text.extend_from_slice(b"two outputs")?;
-            put_sample(text, names, levels, sample)?;
+            put_sample(text, scope, levels, sample)?;
             text.extend_from_slice(b": ")?;
             put_values(text, first)?;
             text.extend_from_slice(b" and ")?;

@@ -1,101 +1,87 @@
 //! Checking the steps of a file against a source.
-ghost use Rattle.std.specs.Prelude.{◌≡◌, ◌≤◌, ◌<◌, ◌-◌, ◌^◌, ◌++◌, ◌∷◌, [], codes, List, ℕ, length, map, flat_map, IfOk, IfErr, OnOk, IsErrOf};
+ghost use Rattle.std.specs.Prelude.{◌≡◌, ◌≤◌, ◌<◌, ◌-◌, ◌^◌, ◌∷◌, [], List, ℕ, length, map, flat_map, IfOk, IfErr, OnOk, IsErrOf};
 ghost use Rattle.cf_io.specs.Seen.{SourceSeen};
-ghost use Rattle.cf_cases.specs.Holding.{EachOf};
-ghost use Rattle.cf_cert.specs.Laws.{IsQuestion};
-ghost use Rattle.cf_cert.specs.Verifying.{question_tree};
+ghost use Rattle.cf_tree.specs.ChooseView.{choose_tree};
 ghost use Rattle.cf_pass.specs.Passes.{Told};
 ghost use Rattle.cf_words.specs.Commands.{verify as the_verify};
+ghost use Rattle.cf_answer.specs.Certificates.{verified_line};
 ghost use Rattle.cf_answer.specs.Ends.{Does, AnswersOn, IsInOrder};
 ghost use Rattle.cf_answer.specs.Limits.{text_limit};
 ghost use Rattle.cf_answer.specs.Statuses.{status_of as the_status_of, IsEarly};
-ghost use Rattle.cf_answer.specs.Texts.{numbered_line};
 ghost use Rattle.cf_answer.specs.Outside.{AreTold, outside, streams};
-ghost use Rattle.cf_answer.specs.Verifying.{AreAskedIn, IsFetched, IsSourceFault};
+ghost use Rattle.cf_answer.specs.Sources.{IsLoweredSource};
+ghost use Rattle.cf_answer.specs.Verifying.{IsFetched, IsSourceFault};
 
 use crate::choose_line::put_line;
 use crate::fault::{Fault, StepsFault};
 use crate::limits::longest_text;
-use crate::questions::read_questions;
+use crate::source::read_lowered;
 use crate::steps::read_steps;
 use crate::write::write_text;
-use cf_cert::{Question, Verdict, verify};
+use cf_build::numbered;
+use cf_cert::{Verdict, verify};
 use cf_io::{ReadFault, Shelf, Sink, read_text};
-use cf_tree::NoMemory;
+use cf_match::Lowered;
+use cf_tree::{Choose, NoMemory};
 use std::alloc::Global;
 
-// Adds the line of a choose that is verified.
-fn put_verified(text: &mut Vec<u8>, number: u32) -> Result<(), NoMemory>
-    ensures { OnOk result (text.new.items ≡ text.old.items ++ numbered_line number (codes "verified")) }
-{
-    put_line(text, number, b"verified".as_slice())
-}
-
 // The lines of chooses that are verified.
-fn verified_lines(alloc: Global, questions: &[Question]) -> Result<Vec<u8>, NoMemory>
-    ensures { IfOk result (λ text. text.items ≡ flat_map (λ q. numbered_line q.number (codes "verified")) (map question_tree questions.now)) }
+fn verified_lines(alloc: Global, chooses: &[Choose<'_>]) -> Result<Vec<u8>, NoMemory>
+    ensures { IfOk result (λ text. text.items ≡ flat_map verified_line (map choose_tree chooses.now)) }
 {
     let mut text = Vec::new(alloc);
-    for question in questions {
-        put_verified(&mut text, question.number)?;
+    for choose in chooses {
+        put_line(&mut text, choose.number, b"verified".as_slice())?;
     }
     Ok(text)
 }
 
-// Checks the text of a steps file against the chooses of a source.
+// Checks the text of a steps file against the chooses of a source, whose matches are taken apart.
 fn verify_text<O: Sink>(
     alloc: Global,
-    questions: &[Question],
+    lowered: &Lowered,
     text: &[u8],
     out: &mut O,
 ) -> Result<(), Fault>
     requires short { length text.now ≤ text_limit }
     requires place { length text.now < 2 ^ 32 - 1 }
-    requires asked { EachOf IsQuestion (map question_tree questions.now) }
     ensures answers { (file steps : List ℕ) (given : List Told) (input : SourceSeen) (source : List ℕ) →
-        AreAskedIn source (map question_tree questions.now) → AnswersOn (the_verify file steps) given given (source ∷ text.now ∷ [])
+        IsLoweredSource source lowered.now → AnswersOn (the_verify file steps) given given (source ∷ text.now ∷ [])
         (streams input (O.seen out.old)) (streams input (O.seen out.new)) result }
     ensures unwritten { IsEarly (the_status_of result) → out.new ≡ out.old }
 {
-    let blocks = match read_steps(alloc, text) {
-        Ok(blocks) => blocks,
-        Err(fault) => return Err(fault),
-    };
-    match verify(alloc, questions, &blocks) {
-        Ok(Verdict::Yes) => match verified_lines(alloc, questions) {
-            Ok(lines) => write_text(out, &lines),
-            Err(NoMemory) => Err(Fault::NoMemory),
-        },
-        Ok(
-            Verdict::Rejected {
-                number,
-                case,
-                step,
-                why,
-            },
-        ) => Err(Fault::Rejected {
+    let blocks = read_steps(alloc, text)?;
+    let chooses = numbered(alloc, lowered.typed())?;
+    let verdict = verify(alloc, &chooses, &blocks)?;
+    match verdict {
+        Verdict::Yes => {
+            let lines = verified_lines(alloc, &chooses)?;
+            write_text(out, &lines)
+        }
+        Verdict::Rejected {
+            number,
+            case,
+            step,
+            why,
+        } => Err(Fault::Rejected {
             number,
             case,
             step,
             why,
         }),
-        Err(NoMemory) => Err(Fault::NoMemory),
     }
 }
 
-// Reads a source, and answers its chooses, or why the file failed or its text is refused.
-fn fetch_questions<F: Shelf>(
-    alloc: Global,
-    shelf: &mut F,
-    file: &str,
-) -> Result<Vec<Question>, Fault>
+// Reads a source, and answers its program with its matches taken apart, or why the file failed or its
+// text is refused.
+fn fetch_lowered<F: Shelf>(alloc: Global, shelf: &mut F, file: &str) -> Result<Lowered, Fault>
     ensures fetched { IsFetched file.now (F.seen shelf.old) (F.seen shelf.new) }
-    ensures asked { IfOk result (λ qs. (text : List ℕ) × AreTold ((F.seen shelf.old).texts file.now) text × AreAskedIn text (map question_tree qs.items)) }
+    ensures asked { IfOk result (λ l. (text : List ℕ) × AreTold ((F.seen shelf.old).texts file.now) text × IsLoweredSource text l) }
     ensures same { OnOk result ((other : List ℕ) → (F.seen shelf.new).faults other ≡ (F.seen shelf.old).faults other) }
     ensures fault { IfErr result (IsSourceFault file.now (F.seen shelf.old) (F.seen shelf.new)) }
 {
     match read_text(alloc, shelf, file, longest_text()) {
-        Ok(text) => read_questions(alloc, &text),
+        Ok(text) => read_lowered(alloc, &text),
         Err(ReadFault::Failed) => Err(Fault::File),
         Err(ReadFault::TooLong) => Err(Fault::TextTooLong),
         Err(ReadFault::NoMemory) => Err(Fault::NoMemory),
@@ -122,12 +108,9 @@ pub fn verify_files<F: Shelf, O: Sink>(
     // The steps file is read only behind a source in which no rule is broken.
     ensures order { IsInOrder (the_verify file.now steps.now) (F.seen shelf.old) (F.seen shelf.new) (the_status_of result) }
 {
-    let questions = match fetch_questions(alloc, shelf, file) {
-        Ok(questions) => questions,
-        Err(fault) => return Err(fault),
-    };
+    let lowered = fetch_lowered(alloc, shelf, file)?;
     match read_text(alloc, shelf, steps, longest_text()) {
-        Ok(text) => verify_text(alloc, &questions, &text, out),
+        Ok(text) => verify_text(alloc, &lowered, &text, out),
         Err(ReadFault::Failed) => Err(Fault::File),
         Err(ReadFault::TooLong) => Err(Fault::Steps(StepsFault::TooLong)),
         Err(ReadFault::NoMemory) => Err(Fault::NoMemory),

@@ -26,15 +26,17 @@ use Rattle.cf_program.specs.Size.{depths}
 use Rattle.cf_program.specs.TypedProgram.{Takes, IsTypedProgram, numbers, numbers_all, all_numbers, IsOutput as IsTypedOutput}
 use Rattle.cf_program.proofs.PlainTypes.{ExprHasBases, AllHave, PartsHave, AreTypedDefs}
 use Rattle.cf_program.specs.Walk.{side_of}
-use Rattle.cf_build.specs.declared.chooses.Choose.{Choose}
+use Rattle.cf_tree.specs.declared.choose.Choose.{Choose}
 use Rattle.cf_program.specs.Lowered.{lowered_def}
 use Rattle.cf_build.specs.Built.{IsBuilt, unfolded_code}
 use Rattle.cf_build.specs.Codes.{called, codes_behind, solved_in}
 use Rattle.cf_build.specs.Runs.{lowered_bodies}
-use Rattle.cf_build.specs.Questions.{Question, questions, questions_all, all_questions, by_number, solve_of}
+use Rattle.cf_tree.specs.ChooseTree.{ChooseTree}
+use Rattle.cf_build.specs.Chooses.{chooses_in, chooses_in_all, all_chooses, by_number, solve_of}
 use Rattle.cf_build.specs.Shifted.{HasLevels}
 use Rattle.cf_program.specs.NoMatch.{HasNoMatch, HaveNoMatch}
-use Rattle.cf_build.specs.Solves.{question_of, questions_of, IsAsked, IsRising, AreCodes, IsSolveOf}
+use Rattle.cf_tree.specs.ChooseView.{choose_tree}
+use Rattle.cf_build.specs.Solves.{chooses_of, IsTypedChoose, IsRising, AreCodes, IsSolveOf}
 use Rattle.cf_build.proofs.CalledCodes.{def_at}
 use Rattle.cf_build.proofs.Meanings.{sides_have}
 use Rattle.cf_build.proofs.NumberOrder.{numbers_of, ordered_distinct, ordered_has, sorted_ordered, sorted_rises}
@@ -47,12 +49,12 @@ use Rattle.cf_build.proofs.SameCodes.{behind_same}
 use Rattle.cf_build.proofs.SolveLists.{solved_found}
 
 -- ---- the numbers of chooses
-both_numbers : (a b : ExprTree) → numbers a ≡ numbers_of (questions a) → numbers b ≡ numbers_of (questions b) →
-    numbers a ++ numbers b ≡ numbers_of (questions a ++ questions b)
-both_numbers a b e f = rw (map-append (λ q. q.number) (questions a) (questions b), e, f) refl
+both_numbers : (a b : ExprTree) → numbers a ≡ numbers_of (chooses_in a) → numbers b ≡ numbers_of (chooses_in b) →
+    numbers a ++ numbers b ≡ numbers_of (chooses_in a ++ chooses_in b)
+both_numbers a b e f = rw (map-append (λ q. q.number) (chooses_in a) (chooses_in b), e, f) refl
 
 mutual
-  numbers_are : (e : ExprTree) → HasNoMatch e → numbers e ≡ numbers_of (questions e)
+  numbers_are : (e : ExprTree) → HasNoMatch e → numbers e ≡ numbers_of (chooses_in e)
   numbers_are (expr_lit k) p = refl
   numbers_are (expr_truth t) p = refl
   numbers_are (expr_var x) p = refl
@@ -68,8 +70,8 @@ mutual
   numbers_are (expr_card a) p = numbers_are a p
   numbers_are (expr_if t a b) p =
       rw (
-        map-append (λ q. q.number) (questions t ++ questions a) (questions b),
-        map-append (λ q. q.number) (questions t) (questions a),
+        map-append (λ q. q.number) (chooses_in t ++ chooses_in a) (chooses_in b),
+        map-append (λ q. q.number) (chooses_in t) (chooses_in a),
         numbers_are t p.0,
         numbers_are a p.1,
         numbers_are b p.2,
@@ -79,23 +81,23 @@ mutual
   numbers_are (expr_choose n params outputs rel) p = refl
   numbers_are (expr_match n params a arms) p = absurd p
 
-  all_numbers_are : (es : ExprTrees) → HaveNoMatch es → numbers_all es ≡ numbers_of (questions_all es)
+  all_numbers_are : (es : ExprTrees) → HaveNoMatch es → numbers_all es ≡ numbers_of (chooses_in_all es)
   all_numbers_are no_exprs p = refl
-  all_numbers_are (expr_more e es) p = rw (map-append (λ q. q.number) (questions e) (questions_all es), numbers_are e p.0, all_numbers_are es p.1) refl
+  all_numbers_are (expr_more e es) p = rw (map-append (λ q. q.number) (chooses_in e) (chooses_in_all es), numbers_are e p.0, all_numbers_are es p.1) refl
 
-program_numbers : (ds : List DefTree) → All (λ d. HasNoMatch d.body) ds → all_numbers ds ≡ numbers_of (questions_of ds)
+program_numbers : (ds : List DefTree) → All (λ d. HasNoMatch d.body) ds → all_numbers ds ≡ numbers_of (chooses_of ds)
 program_numbers [] p = refl
 program_numbers (d ∷ ds) p =
     rw (
-      map-append (λ q. q.number) (questions d.body) (questions_of ds),
+      map-append (λ q. q.number) (chooses_in d.body) (chooses_of ds),
       numbers_are d.body (All-head (λ d. HasNoMatch d.body) d ds p),
       program_numbers ds (All-tail (λ d. HasNoMatch d.body) d ds p),
     ) refl
 
-pub questions_same : (ds : List DefTree) → All (λ d. HasNoMatch d.body) ds → all_questions ds ≡ questions_of ds
-questions_same [] p = refl
-questions_same (d ∷ ds) p =
-    rw (lowered_same d.body (All-head (λ d. HasNoMatch d.body) d ds p), questions_same ds (All-tail (λ d. HasNoMatch d.body) d ds p)) refl
+pub chooses_same : (ds : List DefTree) → All (λ d. HasNoMatch d.body) ds → all_chooses ds ≡ chooses_of ds
+chooses_same [] p = refl
+chooses_same (d ∷ ds) p =
+    rw (lowered_same d.body (All-head (λ d. HasNoMatch d.body) d ds p), chooses_same ds (All-tail (λ d. HasNoMatch d.body) d ds p)) refl
 
 lowered_defs : (ds : List DefTree) → All (λ d. HasNoMatch d.body) ds → map lowered_def ds ≡ ds
 lowered_defs [] p = refl
@@ -103,7 +105,7 @@ lowered_defs (d ∷ ds) p =
     rw (lowered_same d.body (All-head (λ d. HasNoMatch d.body) d ds p), lowered_defs ds (All-tail (λ d. HasNoMatch d.body) d ds p)) refl
 
 -- ---- each choose may be solved
-abbrev MayBeSolved : Question → Type 0
+abbrev MayBeSolved : ChooseTree → Type 0
 MayBeSolved q = (1 ≤ length q.outputs) × All IsOutput q.outputs × IsTyped (q.scope ++ q.outputs) q.relation × IsLinear q.relation
 
 output_is : (b : Base) → IsTypedOutput b → IsOutput b
@@ -113,7 +115,7 @@ output_is Set s = tt
 
 module _ (takes : ℕ → List Base → List Base → Type 0) where
   mutual
-    may : (e : ExprTree) → HasNoMatch e → (scope bs : List Base) → ExprHasBases takes e scope bs → All MayBeSolved (questions e)
+    may : (e : ExprTree) → HasNoMatch e → (scope bs : List Base) → ExprHasBases takes e scope bs → All MayBeSolved (chooses_in e)
     may (expr_lit k) p scope bs h = All-nil MayBeSolved
     may (expr_truth t) p scope bs h = All-nil MayBeSolved
     may (expr_var x) p scope bs h = All-nil MayBeSolved
@@ -124,28 +126,28 @@ module _ (takes : ℕ → List Base → List Base → Type 0) where
     may (expr_abs a) p scope bs h = may a p scope _ h.0
     may (expr_binary op a b) p scope bs h =
         let t = sides_have (side_of op) (λ c. ExprHasBases takes a scope (c ∷ [])) (λ c. ExprHasBases takes b scope (c ∷ [])) h.0 in
-        All-append MayBeSolved (questions a) (questions b) (may a p.0 scope (t.0 ∷ []) t.1) (may b p.1 scope (t.0 ∷ []) t.2)
+        All-append MayBeSolved (chooses_in a) (chooses_in b) (may a p.0 scope (t.0 ∷ []) t.1) (may b p.1 scope (t.0 ∷ []) t.2)
     may (expr_divides k a) p scope bs h = may a p scope _ h.1
     may (expr_div a k) p scope bs h = may a p scope _ h.1
     may (expr_mod a k) p scope bs h = may a p scope _ h.1
     may (expr_card a) p scope bs h = may a p scope _ h.0
     may (expr_if t a b) p scope bs h =
-        All-append MayBeSolved (questions t ++ questions a) (questions b)
-        (All-append MayBeSolved (questions t) (questions a) (may t p.0 scope _ h.0) (may a p.1 scope _ h.1)) (may b p.2 scope _ h.2)
+        All-append MayBeSolved (chooses_in t ++ chooses_in a) (chooses_in b)
+        (All-append MayBeSolved (chooses_in t) (chooses_in a) (may t p.0 scope _ h.0) (may a p.1 scope _ h.1)) (may b p.2 scope _ h.2)
     may (expr_call f es) p scope bs h = parts_may es p scope h.0 h.2
-    may (expr_let n a b) p scope bs h = All-append MayBeSolved (questions a) (questions b) (may a p.0 scope h.0 h.1) (may b p.1 (scope ++ h.0) bs h.4)
+    may (expr_let n a b) p scope bs h = All-append MayBeSolved (chooses_in a) (chooses_in b) (may a p.0 scope h.0 h.1) (may b p.1 (scope ++ h.0) bs h.4)
     may (expr_choose n params outputs rel) p scope bs h =
         All-cons MayBeSolved (record { number = n; names = names_of params; scope = bases_of params; outputs = outputs; relation = rel }) []
         (h.1, All-weaker IsTypedOutput IsOutput output_is outputs h.2, rw h.0 h.3, h.4) (All-nil MayBeSolved)
     may (expr_match n params a arms) p scope bs h = absurd p
 
-    all_may : (es : ExprTrees) → HaveNoMatch es → (scope : List Base) (b : Base) → AllHave takes es scope b → All MayBeSolved (questions_all es)
+    all_may : (es : ExprTrees) → HaveNoMatch es → (scope : List Base) (b : Base) → AllHave takes es scope b → All MayBeSolved (chooses_in_all es)
     all_may no_exprs p scope b h = All-nil MayBeSolved
-    all_may (expr_more a es) p scope b h = All-append MayBeSolved (questions a) (questions_all es) (may a p.0 scope _ h.0) (all_may es p.1 scope b h.1)
+    all_may (expr_more a es) p scope b h = All-append MayBeSolved (chooses_in a) (chooses_in_all es) (may a p.0 scope _ h.0) (all_may es p.1 scope b h.1)
 
-    parts_may : (es : ExprTrees) → HaveNoMatch es → (scope bs : List Base) → PartsHave takes es scope bs → All MayBeSolved (questions_all es)
+    parts_may : (es : ExprTrees) → HaveNoMatch es → (scope bs : List Base) → PartsHave takes es scope bs → All MayBeSolved (chooses_in_all es)
     parts_may no_exprs p scope bs h = All-nil MayBeSolved
-    parts_may (expr_more a es) p scope bs h = All-append MayBeSolved (questions a) (questions_all es) (may a p.0 scope _ h.3) (parts_may es p.1 scope h.1 h.4)
+    parts_may (expr_more a es) p scope bs h = All-append MayBeSolved (chooses_in a) (chooses_in_all es) (may a p.0 scope _ h.3) (parts_may es p.1 scope h.1 h.4)
 
 abbrev HasTypes : DefTree → Type 0
 HasTypes d = (earlier : List DefTree) × ExprHasBases (Takes earlier) d.body (bases_of d.params) d.results
@@ -160,22 +162,28 @@ all_turned P (d ∷ ds) h =
     let k = All-pop P (reverse ds ++ d ∷ []) (reverse ds) (Some d) refl (rw (reverse-append (d ∷ []) ds) at h) in
     All-cons P d ds k.1 (all_turned P ds k.0)
 
-program_may : (ds : List DefTree) → All (λ d. HasNoMatch d.body) ds → All HasTypes ds → All MayBeSolved (questions_of ds)
+program_may : (ds : List DefTree) → All (λ d. HasNoMatch d.body) ds → All HasTypes ds → All MayBeSolved (chooses_of ds)
 program_may [] p t = All-nil MayBeSolved
 program_may (d ∷ ds) p t =
     let h = All-head HasTypes d ds t in
-    All-append MayBeSolved (questions d.body) (questions_of ds)
+    All-append MayBeSolved (chooses_in d.body) (chooses_of ds)
     (may (Takes h.0) d.body (All-head (λ d. HasNoMatch d.body) d ds p) (bases_of d.params) d.results h.1)
     (program_may ds (All-tail (λ d. HasNoMatch d.body) d ds p) (All-tail HasTypes d ds t))
 
-asked_each : (qs : List Question) → All MayBeSolved qs → All (λ n. 1 ≤ n) (numbers_of qs) → All IsAsked qs
-asked_each [] m p = All-nil IsAsked
-asked_each (q ∷ qs) m p =
+chooses_typed : (qs : List ChooseTree) → All MayBeSolved qs → All (λ n. 1 ≤ n) (numbers_of qs) → All IsTypedChoose qs
+chooses_typed [] m p = All-nil IsTypedChoose
+chooses_typed (q ∷ qs) m p =
     let h = All-head MayBeSolved q qs m in
-    All-cons IsAsked q qs (record { positive = All-head (λ n. 1 ≤ n) q.number (numbers_of qs) p; several = h.0; outputs = h.1; typed = h.2; linear = h.3 })
-    (asked_each qs (All-tail MayBeSolved q qs m) (All-tail (λ n. 1 ≤ n) q.number (numbers_of qs) p))
+    All-cons IsTypedChoose q qs (record {
+      positive = All-head (λ n. 1 ≤ n) q.number (numbers_of qs) p;
+      several = h.0;
+      outputs = h.1;
+      typed = h.2;
+      linear = h.3;
+    })
+    (chooses_typed qs (All-tail MayBeSolved q qs m) (All-tail (λ n. 1 ≤ n) q.number (numbers_of qs) p))
 
-numbers_of_chooses : (cs : List Choose) → numbers_of (map question_of cs) ≡ map (λ c. c.number) cs
+numbers_of_chooses : (cs : List Choose) → numbers_of (map choose_tree cs) ≡ map (λ c. c.number) cs
 numbers_of_chooses [] = refl
 numbers_of_chooses (c ∷ cs) = ap (λ ns. c.number ∷ ns) (numbers_of_chooses cs)
 
@@ -186,11 +194,11 @@ not_falling f (x ∷ xs) h i j d l m =
     let first : i < length (x ∷ xs) = omega (arith, l, last) in
     rw (get_or-map f (x ∷ xs) i x d first, get_or-map f (x ∷ xs) j x d last) (h i j x l last)
 
-asked_parts : (cs : List Choose) → All IsAsked (map question_of cs) → All (λ c. IsAsked (question_of c)) cs
-asked_parts [] h = All-nil (λ c. IsAsked (question_of c))
-asked_parts (c ∷ cs) h =
-    All-cons (λ c. IsAsked (question_of c)) c cs (All-head IsAsked (question_of c) (map question_of cs) h)
-    (asked_parts cs (All-tail IsAsked (question_of c) (map question_of cs) h))
+each_typed : (cs : List Choose) → All IsTypedChoose (map choose_tree cs) → All (λ c. IsTypedChoose (choose_tree c)) cs
+each_typed [] h = All-nil (λ c. IsTypedChoose (choose_tree c))
+each_typed (c ∷ cs) h =
+    All-cons (λ c. IsTypedChoose (choose_tree c)) c cs (All-head IsTypedChoose (choose_tree c) (map choose_tree cs) h)
+    (each_typed cs (All-tail IsTypedChoose (choose_tree c) (map choose_tree cs) h))
 
 plain_trees : (ds : List Def) → All (λ d. HasNoMatch (expr_tree d.body)) ds → All (λ d. HasNoMatch d.body) (map def_tree ds)
 plain_trees [] h = All-nil (λ d. HasNoMatch d.body)
@@ -208,43 +216,43 @@ module _ (ds : List Def) (main : ℕ) (t : IsTypedProgram (map def_tree ds) main
   plain : All (λ d. HasNoMatch d.body) (map def_tree ds)
   plain = plain_trees ds p
 
-  all_asked : (cs : List Choose) → map question_of cs ≡ questions_of (map def_tree ds) → All (λ c. IsAsked (question_of c)) cs
-  all_asked cs e =
+  all_typed : (cs : List Choose) → map choose_tree cs ≡ chooses_of (map def_tree ds) → All (λ c. IsTypedChoose (choose_tree c)) cs
+  all_typed cs e =
       let may_be = program_may (map def_tree ds) plain (all_turned HasTypes (map def_tree ds) (typed_each (reverse (map def_tree ds)) t.typed)) in
-      asked_parts cs (rw e (asked_each (questions_of (map def_tree ds)) may_be (rw (program_numbers (map def_tree ds) plain) at t.positive)))
+      each_typed cs (rw e (chooses_typed (chooses_of (map def_tree ds)) may_be (rw (program_numbers (map def_tree ds) plain) at t.positive)))
 
-  numbers_differ : IsDistinct nat_eq (numbers_of (all_questions (map def_tree ds)))
-  numbers_differ = rw (questions_same (map def_tree ds) plain) (rw (program_numbers (map def_tree ds) plain) at t.distinct)
+  numbers_differ : IsDistinct nat_eq (numbers_of (all_chooses (map def_tree ds)))
+  numbers_differ = rw (chooses_same (map def_tree ds) plain) (rw (program_numbers (map def_tree ds) plain) at t.distinct)
 
   -- the chooses that were found, and the same in the order of their numbers
-  module _ (cs sorted : List Choose) (e : map question_of cs ≡ questions_of (map def_tree ds)) (m : IsPermutation cs sorted)
+  module _ (cs sorted : List Choose) (e : map choose_tree cs ≡ chooses_of (map def_tree ds)) (m : IsPermutation cs sorted)
       (o : IsNonDecreasingBy (λ c. c.number) sorted) where
-    found : map question_of cs ≡ all_questions (map def_tree ds)
-    found = e ∙ sym (questions_same (map def_tree ds) plain)
+    found : map choose_tree cs ≡ all_chooses (map def_tree ds)
+    found = e ∙ sym (chooses_same (map def_tree ds) plain)
 
-    distinct : IsDistinct nat_eq (numbers_of (map question_of cs))
+    distinct : IsDistinct nat_eq (numbers_of (map choose_tree cs))
     distinct = rw found numbers_differ
 
-    moved : IsPermutation (map question_of cs) (map question_of sorted)
-    moved = IsPermutation-map question_of cs sorted m
+    moved : IsPermutation (map choose_tree cs) (map choose_tree sorted)
+    moved = IsPermutation-map choose_tree cs sorted m
 
-    rise : IsNonDecreasing (numbers_of (map question_of sorted))
+    rise : IsNonDecreasing (numbers_of (map choose_tree sorted))
     rise = rw (numbers_of_chooses sorted) (not_falling (λ c. c.number) sorted o)
 
-    pub in_order : map question_of sorted ≡ by_number (all_questions (map def_tree ds))
-    in_order = sorted_ordered (map question_of cs) (map question_of sorted) distinct moved rise ∙ ap by_number found
+    pub in_order : map choose_tree sorted ≡ by_number (all_chooses (map def_tree ds))
+    in_order = sorted_ordered (map choose_tree cs) (map choose_tree sorted) distinct moved rise ∙ ap by_number found
 
-    pub in_order_rises : IsRising (map question_of sorted)
-    in_order_rises = sorted_rises (map question_of cs) (map question_of sorted) distinct moved rise
+    pub in_order_rises : IsRising (map choose_tree sorted)
+    in_order_rises = sorted_rises (map choose_tree cs) (map choose_tree sorted) distinct moved rise
 
-    pub in_order_asked : All (λ c. IsAsked (question_of c)) sorted
-    in_order_asked = All-permutation (λ c. IsAsked (question_of c)) cs sorted m (all_asked cs e)
+    pub in_order_typed : All (λ c. IsTypedChoose (choose_tree c)) sorted
+    in_order_typed = All-permutation (λ c. IsTypedChoose (choose_tree c)) cs sorted m (all_typed cs e)
 
-  module _ (ss : List (ℕ × CodeTree)) (s : AreCodes (by_number (all_questions (map def_tree ds))) ss) (codes : List CodeTree)
+  module _ (ss : List (ℕ × CodeTree)) (s : AreCodes (by_number (all_chooses (map def_tree ds))) ss) (codes : List CodeTree)
       (same : codes ≡ codes_behind (solved_in ss) [] (map def_tree ds)) where
-    solve : (q : Question) → Contains (all_questions (map def_tree ds)) q → IsSolveOf q (solved_in ss q)
+    solve : (q : ChooseTree) → Contains (all_chooses (map def_tree ds)) q → IsSolveOf q (solved_in ss q)
     solve q c =
-        let qs = all_questions (map def_tree ds) in
+        let qs = all_chooses (map def_tree ds) in
         solved_found (by_number qs) ss s (ordered_distinct qs numbers_differ) q (ordered_has qs q c)
 
     known : Knows (map def_tree ds) (reverse (map def_tree ds)) codes (depths (map def_tree ds))
@@ -260,7 +268,7 @@ module _ (ds : List Def) (main : ℕ) (t : IsTypedProgram (map def_tree ds) main
     is_unfolded : called codes main ≡ unfolded_code (map def_tree ds) main
     is_unfolded =
         ap (λ cs. called cs main) (same
-        ∙ behind_same (solved_in ss) solve_of (map def_tree ds) [] (λ q m. (solve q (rw (questions_same (map def_tree ds) plain) m)).code)
+        ∙ behind_same (solved_in ss) solve_of (map def_tree ds) [] (λ q m. (solve q (rw (chooses_same (map def_tree ds) plain) m)).code)
         ∙ ap (λ xs. codes_behind solve_of [] xs) (sym (lowered_defs (map def_tree ds) plain)))
 
     pub main_built : (d : DefTree) → slice_get (map def_tree ds) main ≡ Some d → (raw : RawTarget) → raw.params.items ≡ bases_of d.params →
@@ -295,7 +303,7 @@ main_below ds main t = let h = t.has_main in omega (arith, slice_get_within (map
 
 -- the target with the code of `main`
 module _ (ds : List Def) (main : ℕ) (t : IsTypedProgram (map def_tree ds) main) (p : All (λ d. HasNoMatch (expr_tree d.body)) ds) (ss : List (ℕ × CodeTree))
-    (s : AreCodes (by_number (all_questions (map def_tree ds))) ss) (c : Code)
+    (s : AreCodes (by_number (all_chooses (map def_tree ds))) ss) (c : Code)
     (is : code_tree c ≡ called (codes_behind (solved_in ss) [] (map def_tree ds)) main) (l : HasLevels (code_tree c)) (d : Def)
     (there : d ≡ get_or ds main d) where
   pub target_built : (raw : RawTarget) → (raw.params.items ≡ bases_of d.params.items) × (raw.results.items ≡ d.results.items) ×

@@ -9,7 +9,7 @@ use Rattle.cf_tree.specs.ExprView.{expr_tree}
 use Rattle.cf_tree.specs.declared.expr.Def.{Def}
 use Rattle.cf_tree.specs.declared.expr.Expr.{size-Expr}
 use Rattle.cf_build.specs.Codes.{code_of, called, codes_behind}
-use Rattle.cf_build.specs.Questions.{Question}
+use Rattle.cf_tree.specs.ChooseTree.{ChooseTree}
 use Rattle.cf_build.proofs.CodeLists.{called_old, called_new, called_past}
 
 -- ---- codes
@@ -18,7 +18,7 @@ apart [] n d e = absurd cc
 apart (x ∷ ds) zero d e = let same : x ≡ d = cc in ap (λ y. y ∷ ds) (sym same)
 apart (x ∷ ds) (suc n) d e = ap (λ ys. x ∷ ys) (apart ds n d e)
 
-module _ (solves : Question → CodeTree) where
+module _ (solves : ChooseTree → CodeTree) where
   -- the code of a function, by the codes of those before it
   abbrev next_code : List CodeTree → DefTree → CodeTree
   next_code known d = code_of (called known) solves (length d.params) d.body
@@ -78,7 +78,7 @@ module _ (ds : List Def) (f : ℕ) (d : Def) (l : f < length ds) (is : d ≡ get
   callee_falls = let h = sizes_at ds f d found in omega arith
 
   -- its code is that of its body, where those before it stand before it
-  pub callee_code : (solves : Question → CodeTree) → called (codes_behind solves [] (map def_tree ds)) f ≡
+  pub callee_code : (solves : ChooseTree → CodeTree) → called (codes_behind solves [] (map def_tree ds)) f ≡
       code_of (called (codes_behind solves [] (map def_tree (take f ds)))) solves (length d.params.items) (expr_tree d.body)
   callee_code solves =
       code_at solves (map def_tree ds) f (def_tree d) def_at

@@ -9,12 +9,12 @@ use Rattle.cf_tree.specs.declared.code.Code.{Code}
 use Rattle.cf_tree.specs.declared.raw.BinOp.{BinOp}
 use Rattle.cf_tree.specs.declared.raw.BinOp.TheVariants.{Add, Sub, Mul, And, Or, Union, Inter, Diff, Subset, Compare}
 use Rattle.cf_build.specs.Codes.{binary_code, joined_code, call_code, code_of, codes_of_all, called, codes_behind, code_among, codes_among, solved_in}
-use Rattle.cf_build.specs.Questions.{Question}
+use Rattle.cf_tree.specs.ChooseTree.{ChooseTree}
 use Rattle.cf_build.specs.Shifted.{shifted, all_shifted}
 use Rattle.cf_build.proofs.ShiftedTwice.{shifted_twice}
 use Rattle.cf_build.proofs.ShiftedTyping.{count_shifted}
 
-pub codes_of_exprs : (calls : ℕ → CodeTree) (solves : Question → CodeTree) (by n : ℕ) (es : List ExprTree) →
+pub codes_of_exprs : (calls : ℕ → CodeTree) (solves : ChooseTree → CodeTree) (by n : ℕ) (es : List ExprTree) →
     codes_of (map (λ e. shifted by (code_of calls solves n e)) es) ≡ all_shifted by (codes_of_all calls solves n (exprs_of es))
 codes_of_exprs calls solves by n [] = refl
 codes_of_exprs calls solves by n (e ∷ es) = ap (λ cs. code_more (shifted by (code_of calls solves n e)) cs) (codes_of_exprs calls solves by n es)

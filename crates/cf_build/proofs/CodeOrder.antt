@@ -1,11 +1,11 @@
 -- Codes of chooses, one after the other, and found by number.
-use Rattle.std.proofs.Common.{◌≡◌, ◌≢◌, ℕ, zero, suc, ◌<◌, ◌≤◌, ◌==◌, inl, inr, false, List, [], ◌∷◌, ◌++◌, Ok, Err, Result, IfOk, IfErr, length, map, reverse, get_or, All, refl, sym, ap, ◌∙◌, subst, arith}
+use Rattle.std.proofs.Common.{◌≡◌, ◌≢◌, ℕ, zero, suc, ◌<◌, ◌≤◌, ◌==◌, inl, inr, false, List, [], ◌∷◌, ◌++◌, Ok, Err, Result, IfOk, IfErr, length, map, get_or, All, refl, sym, ap, ◌∙◌, subst, arith}
 use Rattle.std.specs.List.Sorted.{IsStrictlyIncreasing, IsNonDecreasingBy, IsSearchInRange, IsBinarySearchResult}
 use Rattle.std.specs.Ordering.{nat_cmp, ordering_index}
 use Rattle.std.proofs.lemmas.Bool.{eq-eqb, cases_order}
 use Rattle.std.proofs.lemmas.Bool.Decides.{nat_tests}
 use Rattle.std.proofs.lemmas.Cmp.{ranked}
-use Rattle.std.proofs.lemmas.List.{length-map, get_or-map}
+use Rattle.std.proofs.lemmas.List.{append-nil, length-map, get_or-map}
 use Rattle.std.proofs.lemmas.List.Elements.{All-head, All-tail}
 use Rattle.std.proofs.lemmas.Map.Keys.{sorted_from_strictly_increasing, below_from_sorted}
 use Rattle.cf_tree.specs.CodeTree.{code_tuple, no_codes}
@@ -14,9 +14,14 @@ use Rattle.cf_build.specs.declared.choose_codes.ChooseCode.{ChooseCode}
 use Rattle.cf_build.specs.declared.solves.SolvedChoose.{SolvedChoose}
 use Rattle.cf_build.specs.Codes.{choose_code, solve_code, numbered}
 
--- the codes that are made, and then those that are left, whose last is the next
+-- the codes that are made, and then those that are left
 abbrev pub AreMadeOf : List SolvedChoose → List SolvedChoose → List ChooseCode → Type 0
-AreMadeOf all left codes = map choose_code codes ++ map solve_code (reverse left) ≡ map solve_code all
+AreMadeOf all left codes = map choose_code codes ++ map solve_code left ≡ map solve_code all
+
+pub all_made : (all left : List SolvedChoose) (codes : List ChooseCode) → length left ≡ 0 → AreMadeOf all left codes →
+    map choose_code codes ≡ map solve_code all
+all_made all [] codes none h = sym (append-nil (map choose_code codes)) ∙ h
+all_made all (s ∷ left) codes none h = absurd (omega (arith, none))
 
 -- ---- numbers that rise
 abbrev pub Rises : List ChooseCode → Type 0
@@ -34,13 +39,13 @@ numbers_made : (cs : List ChooseCode) → map (λ c. c.number) cs ≡ map (λ s.
 numbers_made [] = refl
 numbers_made (c ∷ cs) = ap (λ ns. c.number ∷ ns) (numbers_made cs)
 
-numbers_solved : (ss : List SolvedChoose) → map (λ s. s.number) ss ≡ map (λ s. s.0) (map solve_code ss)
+numbers_solved : (ss : List SolvedChoose) → map (λ s. s.choose.number) ss ≡ map (λ s. s.0) (map solve_code ss)
 numbers_solved [] = refl
-numbers_solved (s ∷ ss) = ap (λ ns. s.number ∷ ns) (numbers_solved ss)
+numbers_solved (s ∷ ss) = ap (λ ns. s.choose.number ∷ ns) (numbers_solved ss)
 
 -- the codes have the numbers of the solved chooses
-pub made_rise : (cs : List ChooseCode) (ss : List SolvedChoose) → map choose_code cs ≡ map solve_code ss → IsStrictlyIncreasing (map (λ s. s.number) ss) →
-    IsStrictlyIncreasing (map (λ c. c.number) cs)
+pub made_rise : (cs : List ChooseCode) (ss : List SolvedChoose) → map choose_code cs ≡ map solve_code ss →
+    IsStrictlyIncreasing (map (λ s. s.choose.number) ss) → IsStrictlyIncreasing (map (λ c. c.number) cs)
 made_rise cs ss e r = subst IsStrictlyIncreasing (numbers_solved ss ∙ ap (λ xs. map (λ s. s.0) xs) (sym e) ∙ sym (numbers_made cs)) r
 
 -- ---- found by number

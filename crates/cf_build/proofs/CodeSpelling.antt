@@ -13,7 +13,8 @@ use Rattle.cf_program.specs.Size.{depth_in, depth_all}
 use Rattle.cf_program.proofs.PlainTypes.{ExprHasBases, AllHave, PartsHave}
 use Rattle.cf_program.specs.Walk.{side_of}
 use Rattle.cf_build.specs.Codes.{binary_code, call_code, code_of, codes_of_all}
-use Rattle.cf_build.specs.Questions.{Question, questions, questions_all}
+use Rattle.cf_tree.specs.ChooseTree.{ChooseTree}
+use Rattle.cf_build.specs.Chooses.{chooses_in, chooses_in_all}
 use Rattle.cf_build.specs.Shifted.{shifted, HasLevels, HaveLevels}
 use Rattle.cf_program.specs.NoMatch.{HasNoMatch, HaveNoMatch}
 use Rattle.cf_build.specs.Solves.{IsSolveOf}
@@ -39,16 +40,16 @@ call_depth n no_codes body = omega arith
 call_depth n (code_more c no_codes) body = omega arith
 call_depth n (code_more c (code_more d cs)) body = omega arith
 
-solve_depth : (q : Question) (c : CodeTree) → IsSolveOf q c → code_depth c ≤ 17
+solve_depth : (q : ChooseTree) (c : CodeTree) → IsSolveOf q c → code_depth c ≤ 17
 solve_depth q c s = rw (s.code) (omega (arith, s.solved.shallow))
 
 -- the code of an expression is at most twice as deep as the expression with its calls unfolded, and 16 more
-module _ (calls : ℕ → CodeTree) (solves : Question → CodeTree) (depths : ℕ → ℕ) (calls_shallow : (f : ℕ) → code_depth (calls f) ≤ 2 * depths f + 16) where
-  abbrev AreSolves : List Question → Type 0
-  AreSolves qs = (q : Question) → Contains qs q → IsSolveOf q (solves q)
+module _ (calls : ℕ → CodeTree) (solves : ChooseTree → CodeTree) (depths : ℕ → ℕ) (calls_shallow : (f : ℕ) → code_depth (calls f) ≤ 2 * depths f + 16) where
+  abbrev AreSolves : List ChooseTree → Type 0
+  AreSolves qs = (q : ChooseTree) → Contains qs q → IsSolveOf q (solves q)
 
   mutual
-    pub depth_within : (e : ExprTree) → HasNoMatch e → AreSolves (questions e) → (n : ℕ) → code_depth (code_of calls solves n e) ≤ 2 * depth_in depths e + 16
+    pub depth_within : (e : ExprTree) → HasNoMatch e → AreSolves (chooses_in e) → (n : ℕ) → code_depth (code_of calls solves n e) ≤ 2 * depth_in depths e + 16
     depth_within (expr_lit k) p s n = omega arith
     depth_within (expr_truth t) p s n = omega arith
     depth_within (expr_var x) p s n = omega arith
@@ -61,8 +62,8 @@ module _ (calls : ℕ → CodeTree) (solves : Question → CodeTree) (depths : �
         omega (
           arith,
           binary_depth op (code_of calls solves n a) (code_of calls solves n b),
-          depth_within a p.0 (λ q m. s q (Contains-append_left (questions a) (questions b) q m)) n,
-          depth_within b p.1 (λ q m. s q (Contains-append_right (questions a) (questions b) q m)) n,
+          depth_within a p.0 (λ q m. s q (Contains-append_left (chooses_in a) (chooses_in b) q m)) n,
+          depth_within b p.1 (λ q m. s q (Contains-append_right (chooses_in a) (chooses_in b) q m)) n,
         )
     depth_within (expr_divides k a) p s n = omega (arith, depth_within a p s n)
     depth_within (expr_div a k) p s n = omega (arith, depth_within a p s n)
@@ -71,33 +72,33 @@ module _ (calls : ℕ → CodeTree) (solves : Question → CodeTree) (depths : �
     depth_within (expr_if t a b) p s n =
         omega (
           arith,
-          depth_within t p.0 (λ q m. s q (Contains-append_left (questions t ++ questions a) (questions b) q
-              (Contains-append_left (questions t) (questions a) q m))) n,
-          depth_within a p.1 (λ q m. s q (Contains-append_left (questions t ++ questions a) (questions b) q
-              (Contains-append_right (questions t) (questions a) q m))) n,
-          depth_within b p.2 (λ q m. s q (Contains-append_right (questions t ++ questions a) (questions b) q m)) n,
+          depth_within t p.0 (λ q m. s q (Contains-append_left (chooses_in t ++ chooses_in a) (chooses_in b) q
+              (Contains-append_left (chooses_in t) (chooses_in a) q m))) n,
+          depth_within a p.1 (λ q m. s q (Contains-append_left (chooses_in t ++ chooses_in a) (chooses_in b) q
+              (Contains-append_right (chooses_in t) (chooses_in a) q m))) n,
+          depth_within b p.2 (λ q m. s q (Contains-append_right (chooses_in t ++ chooses_in a) (chooses_in b) q m)) n,
         )
     depth_within (expr_call f es) p s n =
         omega (arith, call_depth n (codes_of_all calls solves n es) (shifted n (calls f)), depths_within es p s n, depth_same n (calls f), calls_shallow f)
     depth_within (expr_let k a b) p s n =
         omega (
           arith,
-          depth_within a p.0 (λ q m. s q (Contains-append_left (questions a) (questions b) q m)) n,
-          depth_within b p.1 (λ q m. s q (Contains-append_right (questions a) (questions b) q m)) (n + k),
+          depth_within a p.0 (λ q m. s q (Contains-append_left (chooses_in a) (chooses_in b) q m)) n,
+          depth_within b p.1 (λ q m. s q (Contains-append_right (chooses_in a) (chooses_in b) q m)) (n + k),
         )
     depth_within (expr_choose k params outputs rel) p s n =
-        let q : Question = record { number = k; names = names_of params; scope = bases_of params; outputs = outputs; relation = rel } in
+        let q : ChooseTree = record { number = k; names = names_of params; scope = bases_of params; outputs = outputs; relation = rel } in
         omega (arith, solve_depth q (solves q) (s q (0, omega arith, refl)))
     depth_within (expr_match k params a arms) p s n = absurd p
 
-    depths_within : (es : ExprTrees) → HaveNoMatch es → AreSolves (questions_all es) → (n : ℕ) →
+    depths_within : (es : ExprTrees) → HaveNoMatch es → AreSolves (chooses_in_all es) → (n : ℕ) →
         codes_depth (codes_of_all calls solves n es) ≤ 2 * depth_all depths es + 16
     depths_within no_exprs p s n = omega arith
     depths_within (expr_more a es) p s n =
         omega (
           arith,
-          depth_within a p.0 (λ q m. s q (Contains-append_left (questions a) (questions_all es) q m)) n,
-          depths_within es p.1 (λ q m. s q (Contains-append_right (questions a) (questions_all es) q m)) n,
+          depth_within a p.0 (λ q m. s q (Contains-append_left (chooses_in a) (chooses_in_all es) q m)) n,
+          depths_within es p.1 (λ q m. s q (Contains-append_right (chooses_in a) (chooses_in_all es) q m)) n,
         )
 
 binary_spelled : (op : BinOp) (a b : CodeTree) → HasLevels (binary_code op a b) → (HasLevels a → IsSpelled a) → (HasLevels b → IsSpelled b) →
@@ -119,13 +120,13 @@ call_spelled n no_codes body l f g = g l
 call_spelled n (code_more c no_codes) body l f g = (omega arith, l.0, (f (l.1, tt)).0, g l.2)
 call_spelled n (code_more c (code_more d cs)) body l f g = (omega arith, l.0, (omega arith, f l.1), g l.2)
 
-module _ (calls : ℕ → CodeTree) (solves : Question → CodeTree) (takes : ℕ → List Base → List Base → Type 0)
+module _ (calls : ℕ → CodeTree) (solves : ChooseTree → CodeTree) (takes : ℕ → List Base → List Base → Type 0)
     (calls_spelled : (f : ℕ) (ps rs : List Base) → takes f ps rs → HasLevels (calls f) → IsSpelled (calls f)) where
-  abbrev AreSolves_ : List Question → Type 0
-  AreSolves_ qs = (q : Question) → Contains qs q → IsSolveOf q (solves q)
+  abbrev AreSolves_ : List ChooseTree → Type 0
+  AreSolves_ qs = (q : ChooseTree) → Contains qs q → IsSolveOf q (solves q)
 
   mutual
-    pub spelled : (e : ExprTree) → HasNoMatch e → AreSolves_ (questions e) → (scope bs : List Base) → ExprHasBases takes e scope bs → (n : ℕ) →
+    pub spelled : (e : ExprTree) → HasNoMatch e → AreSolves_ (chooses_in e) → (scope bs : List Base) → ExprHasBases takes e scope bs → (n : ℕ) →
         HasLevels (code_of calls solves n e) → IsSpelled (code_of calls solves n e)
     spelled (expr_lit k) p s scope bs h n l = h.0
     spelled (expr_truth t) p s scope bs h n l = tt
@@ -138,18 +139,19 @@ module _ (calls : ℕ → CodeTree) (solves : Question → CodeTree) (takes : �
     spelled (expr_binary op a b) p s scope bs h n l =
         let t = sides_have (side_of op) (λ c. ExprHasBases takes a scope (c ∷ [])) (λ c. ExprHasBases takes b scope (c ∷ [])) h.0 in
         binary_spelled op (code_of calls solves n a) (code_of calls solves n b) l
-        (spelled a p.0 (λ q m. s q (Contains-append_left (questions a) (questions b) q m)) scope (t.0 ∷ []) t.1 n)
-        (spelled b p.1 (λ q m. s q (Contains-append_right (questions a) (questions b) q m)) scope (t.0 ∷ []) t.2 n)
+        (spelled a p.0 (λ q m. s q (Contains-append_left (chooses_in a) (chooses_in b) q m)) scope (t.0 ∷ []) t.1 n)
+        (spelled b p.1 (λ q m. s q (Contains-append_right (chooses_in a) (chooses_in b) q m)) scope (t.0 ∷ []) t.2 n)
     spelled (expr_divides k a) p s scope bs h n l = (h.0, spelled a p s scope _ h.1 n l)
     spelled (expr_div a k) p s scope bs h n l = (h.0, spelled a p s scope _ h.1 n l)
     spelled (expr_mod a k) p s scope bs h n l = (h.0, spelled a p s scope _ h.1 n l)
     spelled (expr_card a) p s scope bs h n l = spelled a p s scope _ h.0 n l
     spelled (expr_if t a b) p s scope bs h n l = (
-      spelled t p.0 (λ q m. s q (Contains-append_left (questions t ++ questions a) (questions b) q (Contains-append_left (questions t) (questions a) q m)))
+      spelled t p.0 (λ q m. s q (Contains-append_left (chooses_in t ++ chooses_in a) (chooses_in b) q (Contains-append_left (chooses_in t) (chooses_in a) q m)))
           scope _ h.0 n l.0,
-      spelled a p.1 (λ q m. s q (Contains-append_left (questions t ++ questions a) (questions b) q (Contains-append_right (questions t) (questions a) q m)))
+      spelled a p.1 (λ q m. s q (Contains-append_left (chooses_in t ++ chooses_in a) (chooses_in b) q
+          (Contains-append_right (chooses_in t) (chooses_in a) q m)))
           scope _ h.1 n l.1,
-      spelled b p.2 (λ q m. s q (Contains-append_right (questions t ++ questions a) (questions b) q m)) scope _ h.2 n l.2,
+      spelled b p.2 (λ q m. s q (Contains-append_right (chooses_in t ++ chooses_in a) (chooses_in b) q m)) scope _ h.2 n l.2,
     )
     spelled (expr_call f es) p s scope bs h n l =
         call_spelled n (codes_of_all calls solves n es) (shifted n (calls f)) l (parts_spelled es p s scope h.0 h.2 n)
@@ -157,25 +159,25 @@ module _ (calls : ℕ → CodeTree) (solves : Question → CodeTree) (takes : �
     spelled (expr_let k a b) p s scope bs h n l = (
       h.3,
       l.0,
-      spelled a p.0 (λ q m. s q (Contains-append_left (questions a) (questions b) q m)) scope h.0 h.1 n l.1,
-      spelled b p.1 (λ q m. s q (Contains-append_right (questions a) (questions b) q m)) (scope ++ h.0) bs h.4 (n + k) l.2,
+      spelled a p.0 (λ q m. s q (Contains-append_left (chooses_in a) (chooses_in b) q m)) scope h.0 h.1 n l.1,
+      spelled b p.1 (λ q m. s q (Contains-append_right (chooses_in a) (chooses_in b) q m)) (scope ++ h.0) bs h.4 (n + k) l.2,
     )
     spelled (expr_choose k params outputs rel) p s scope bs h n l =
         (s (record { number = k; names = names_of params; scope = bases_of params; outputs = outputs; relation = rel }) (0, omega arith, refl)).spelled
     spelled (expr_match k params a arms) p s scope bs h n l = absurd p
 
-    all_spelled : (es : ExprTrees) → HaveNoMatch es → AreSolves_ (questions_all es) → (scope : List Base) (b : Base) → AllHave takes es scope b → (n : ℕ) →
+    all_spelled : (es : ExprTrees) → HaveNoMatch es → AreSolves_ (chooses_in_all es) → (scope : List Base) (b : Base) → AllHave takes es scope b → (n : ℕ) →
         HaveLevels (codes_of_all calls solves n es) → AreSpelled (codes_of_all calls solves n es)
     all_spelled no_exprs p s scope b h n l = tt
     all_spelled (expr_more a es) p s scope b h n l = (
-      spelled a p.0 (λ q m. s q (Contains-append_left (questions a) (questions_all es) q m)) scope _ h.0 n l.0,
-      all_spelled es p.1 (λ q m. s q (Contains-append_right (questions a) (questions_all es) q m)) scope b h.1 n l.1,
+      spelled a p.0 (λ q m. s q (Contains-append_left (chooses_in a) (chooses_in_all es) q m)) scope _ h.0 n l.0,
+      all_spelled es p.1 (λ q m. s q (Contains-append_right (chooses_in a) (chooses_in_all es) q m)) scope b h.1 n l.1,
     )
 
-    parts_spelled : (es : ExprTrees) → HaveNoMatch es → AreSolves_ (questions_all es) → (scope bs : List Base) → PartsHave takes es scope bs → (n : ℕ) →
+    parts_spelled : (es : ExprTrees) → HaveNoMatch es → AreSolves_ (chooses_in_all es) → (scope bs : List Base) → PartsHave takes es scope bs → (n : ℕ) →
         HaveLevels (codes_of_all calls solves n es) → AreSpelled (codes_of_all calls solves n es)
     parts_spelled no_exprs p s scope bs h n l = tt
     parts_spelled (expr_more a es) p s scope bs h n l = (
-      spelled a p.0 (λ q m. s q (Contains-append_left (questions a) (questions_all es) q m)) scope _ h.3 n l.0,
-      parts_spelled es p.1 (λ q m. s q (Contains-append_right (questions a) (questions_all es) q m)) scope h.1 h.4 n l.1,
+      spelled a p.0 (λ q m. s q (Contains-append_left (chooses_in a) (chooses_in_all es) q m)) scope _ h.3 n l.0,
+      parts_spelled es p.1 (λ q m. s q (Contains-append_right (chooses_in a) (chooses_in_all es) q m)) scope h.1 h.4 n l.1,
     )

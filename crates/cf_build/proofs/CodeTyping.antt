@@ -18,7 +18,8 @@ use Rattle.cf_program.specs.TypedProgram.{AreSides}
 use Rattle.cf_program.proofs.PlainTypes.{ExprHasBases, AllHave, PartsHave}
 use Rattle.cf_program.specs.Walk.{side_of, result_of}
 use Rattle.cf_build.specs.Codes.{binary_code, joined_code, call_code, code_of, codes_of_all}
-use Rattle.cf_build.specs.Questions.{Question, questions, questions_all, question_arms}
+use Rattle.cf_tree.specs.ChooseTree.{ChooseTree}
+use Rattle.cf_build.specs.Chooses.{chooses_in, chooses_in_all, choose_arms}
 use Rattle.cf_build.specs.Shifted.{shifted}
 use Rattle.cf_program.specs.NoMatch.{HasNoMatch, HaveNoMatch}
 use Rattle.cf_build.specs.Solves.{IsSolveOf}
@@ -64,20 +65,20 @@ module _ (a b : CodeTree) (scope : List Base) (asked : Option (List Base)) (bs :
   binary_typed Subset A B f g h e = (f Set h.0 (ask Set) refl, g Set h.1 (ask Set) refl, (e, m))
   binary_typed (Compare o) A B f g h e = compare_typed o A B f g h e
 
-pub parts_count : (calls : ℕ → CodeTree) (solves : Question → CodeTree) (takes : ℕ → List Base → List Base → Type 0) (es : ExprTrees) (scope bs : List Base)
+pub parts_count : (calls : ℕ → CodeTree) (solves : ChooseTree → CodeTree) (takes : ℕ → List Base → List Base → Type 0) (es : ExprTrees) (scope bs : List Base)
     (n : ℕ) → PartsHave takes es scope bs → count (codes_of_all calls solves n es) ≡ length bs
 parts_count calls solves takes no_exprs scope bs n h = rw h refl
 parts_count calls solves takes (expr_more e es) scope bs n h = rw h.2 (omega (arith, parts_count calls solves takes es scope h.1 n h.4))
 
-module _ (calls : ℕ → CodeTree) (solves : Question → CodeTree) (takes : ℕ → List Base → List Base → Type 0)
+module _ (calls : ℕ → CodeTree) (solves : ChooseTree → CodeTree) (takes : ℕ → List Base → List Base → Type 0)
     (calls_typed : (f : ℕ) (ps rs : List Base) → takes f ps rs → (asked : Option (List Base)) → Meets asked rs → CodeHas (calls f) ps asked rs) where
-  abbrev SolvedHere : List Question → Type 0
-  SolvedHere qs = (q : Question) → Contains qs q → IsSolveOf q (solves q)
+  abbrev SolvedHere : List ChooseTree → Type 0
+  SolvedHere qs = (q : ChooseTree) → Contains qs q → IsSolveOf q (solves q)
 
-  solve_typed : (scope bs : List Base) (asked : Option (List Base)) (q : Question) → IsSolveOf q (solves q) → q.scope ≡ scope → bs ≡ q.outputs →
+  solve_typed : (scope bs : List Base) (asked : Option (List Base)) (q : ChooseTree) → IsSolveOf q (solves q) → q.scope ≡ scope → bs ≡ q.outputs →
       Meets asked bs → CodeHas (solves q) scope asked bs
   solve_typed scope bs asked q s e f m =
-      rw (s.code, ← e, f) (given (question_arms q) asked q.outputs s.solved.some (rw f at m), s.solved.typed)
+      rw (s.code, ← e, f) (given (choose_arms q) asked q.outputs s.solved.some (rw f at m), s.solved.typed)
 
   call_typed : (f : ℕ) (cs : CodeTrees) (scope ps rs : List Base) (asked : Option (List Base)) (n : ℕ) → n ≡ length scope → takes f ps rs → Meets asked rs →
       count cs ≡ length ps → CodePartsHave cs scope None ps →
@@ -90,7 +91,7 @@ module _ (calls : ℕ → CodeTree) (solves : Question → CodeTree) (takes : �
       (ps, joined_typed c cs scope ps h, e, l, rw e (shifted_has scope ps (calls f) asked rs (calls_typed f ps rs t asked m)))
 
   mutual
-    pub typed : (e : ExprTree) → HasNoMatch e → SolvedHere (questions e) → (scope bs : List Base) → ExprHasBases takes e scope bs →
+    pub typed : (e : ExprTree) → HasNoMatch e → SolvedHere (chooses_in e) → (scope bs : List Base) → ExprHasBases takes e scope bs →
         (asked : Option (List Base)) → Meets asked bs → (n : ℕ) → n ≡ length scope →
         CodeHas (code_of calls solves n e) scope asked bs
     typed (expr_lit z) p s scope bs h asked m n e = (h.1, m)
@@ -112,50 +113,50 @@ module _ (calls : ℕ → CodeTree) (solves : Question → CodeTree) (takes : �
     typed (expr_binary op a b) p s scope bs h asked m n e =
         binary_typed (code_of calls solves n a) (code_of calls solves n b) scope asked bs m op (λ c. ExprHasBases takes a scope (c ∷ []))
         (λ c. ExprHasBases takes b scope (c ∷ []))
-        (λ c t place i. typed a p.0 (λ q k. s q (Contains-append_left (questions a) (questions b) q k)) scope (c ∷ []) t place i n e)
-        (λ c t place i. typed b p.1 (λ q k. s q (Contains-append_right (questions a) (questions b) q k)) scope (c ∷ []) t place i n e) h.0 h.1
+        (λ c t place i. typed a p.0 (λ q k. s q (Contains-append_left (chooses_in a) (chooses_in b) q k)) scope (c ∷ []) t place i n e)
+        (λ c t place i. typed b p.1 (λ q k. s q (Contains-append_right (chooses_in a) (chooses_in b) q k)) scope (c ∷ []) t place i n e) h.0 h.1
     typed (expr_divides k a) p s scope bs h asked m n e = (h.0.0, typed a p s scope (Int ∷ []) h.1 (ask Int) refl n e, (h.2, m))
     typed (expr_div a k) p s scope bs h asked m n e = (h.0.0, typed a p s scope (Int ∷ []) h.1 (ask Int) refl n e, (h.2, m))
     typed (expr_mod a k) p s scope bs h asked m n e = (h.0.0, typed a p s scope (Int ∷ []) h.1 (ask Int) refl n e, (h.2, m))
     typed (expr_card a) p s scope bs h asked m n e = (typed a p s scope (Set ∷ []) h.0 (ask Set) refl n e, (h.1, m))
     typed (expr_if t a b) p s scope bs h asked m n e = (
-      typed t p.0 (λ q k. s q (Contains-append_left (questions t ++ questions a) (questions b) q (Contains-append_left (questions t) (questions a) q k))) scope
-          (Truth ∷ []) h.0 (ask Truth) refl n e,
-      typed a p.1 (λ q k. s q (Contains-append_left (questions t ++ questions a) (questions b) q (Contains-append_right (questions t) (questions a) q k))) scope
-          bs h.1 asked m n e,
-      typed b p.2 (λ q k. s q (Contains-append_right (questions t ++ questions a) (questions b) q k)) scope bs h.2 asked m n e,
+      typed t p.0 (λ q k. s q (Contains-append_left (chooses_in t ++ chooses_in a) (chooses_in b) q (Contains-append_left (chooses_in t) (chooses_in a) q k)))
+          scope (Truth ∷ []) h.0 (ask Truth) refl n e,
+      typed a p.1 (λ q k. s q (Contains-append_left (chooses_in t ++ chooses_in a) (chooses_in b) q (Contains-append_right (chooses_in t) (chooses_in a) q k)))
+          scope bs h.1 asked m n e,
+      typed b p.2 (λ q k. s q (Contains-append_right (chooses_in t ++ chooses_in a) (chooses_in b) q k)) scope bs h.2 asked m n e,
     )
     typed (expr_call f es) p s scope bs h asked m n e =
         call_typed f (codes_of_all calls solves n es) scope h.0 bs asked n e h.1 m (parts_count calls solves takes es scope h.0 n h.2)
         (parts_typed es p s scope h.0 h.2 None n e)
     typed (expr_let k a b) p s scope bs h asked m n e = (
       h.0,
-      typed a p.0 (λ q c. s q (Contains-append_left (questions a) (questions b) q c)) scope h.0 h.1 None tt n e,
+      typed a p.0 (λ q c. s q (Contains-append_left (chooses_in a) (chooses_in b) q c)) scope h.0 h.1 None tt n e,
       e,
       h.2,
-      typed b p.1 (λ q c. s q (Contains-append_right (questions a) (questions b) q c)) (scope ++ h.0) bs h.4 asked m (n + k)
+      typed b p.1 (λ q c. s q (Contains-append_right (chooses_in a) (chooses_in b) q c)) (scope ++ h.0) bs h.4 asked m (n + k)
           (omega (arith, e, h.2, length-append scope h.0)),
     )
     typed (expr_choose k params outputs rel) p s scope bs h asked m n e =
-        let q : Question = record { number = k; names = names_of params; scope = bases_of params; outputs = outputs; relation = rel } in
+        let q : ChooseTree = record { number = k; names = names_of params; scope = bases_of params; outputs = outputs; relation = rel } in
         solve_typed scope bs asked q (s q (0, omega arith, refl)) h.0 h.5 m
     typed (expr_match k params a arms) p s scope bs h asked m n e = absurd p
 
-    all_typed : (es : ExprTrees) → HaveNoMatch es → SolvedHere (questions_all es) → (scope : List Base) (b : Base) → AllHave takes es scope b → (n : ℕ) →
+    all_typed : (es : ExprTrees) → HaveNoMatch es → SolvedHere (chooses_in_all es) → (scope : List Base) (b : Base) → AllHave takes es scope b → (n : ℕ) →
         n ≡ length scope → CodesHave (codes_of_all calls solves n es) scope b
     all_typed no_exprs p s scope b h n e = tt
     all_typed (expr_more a es) p s scope b h n e = (
-      typed a p.0 (λ q k. s q (Contains-append_left (questions a) (questions_all es) q k)) scope (b ∷ []) h.0 (ask b) refl n e,
-      all_typed es p.1 (λ q k. s q (Contains-append_right (questions a) (questions_all es) q k)) scope b h.1 n e,
+      typed a p.0 (λ q k. s q (Contains-append_left (chooses_in a) (chooses_in_all es) q k)) scope (b ∷ []) h.0 (ask b) refl n e,
+      all_typed es p.1 (λ q k. s q (Contains-append_right (chooses_in a) (chooses_in_all es) q k)) scope b h.1 n e,
     )
 
-    parts_typed : (es : ExprTrees) → HaveNoMatch es → SolvedHere (questions_all es) → (scope bs : List Base) → PartsHave takes es scope bs →
+    parts_typed : (es : ExprTrees) → HaveNoMatch es → SolvedHere (chooses_in_all es) → (scope bs : List Base) → PartsHave takes es scope bs →
         (asked : Option (List Base)) (n : ℕ) → n ≡ length scope → CodePartsHave (codes_of_all calls solves n es) scope asked bs
     parts_typed no_exprs p s scope bs h asked n e = h
     parts_typed (expr_more a es) p s scope bs h asked n e = (
       h.0,
       h.1,
       h.2,
-      typed a p.0 (λ q k. s q (Contains-append_left (questions a) (questions_all es) q k)) scope (h.0 ∷ []) h.3 (share asked h.0) (share_meets asked h.0) n e,
-      parts_typed es p.1 (λ q k. s q (Contains-append_right (questions a) (questions_all es) q k)) scope h.1 h.4 asked n e,
+      typed a p.0 (λ q k. s q (Contains-append_left (chooses_in a) (chooses_in_all es) q k)) scope (h.0 ∷ []) h.3 (share asked h.0) (share_meets asked h.0) n e,
+      parts_typed es p.1 (λ q k. s q (Contains-append_right (chooses_in a) (chooses_in_all es) q k)) scope h.1 h.4 asked n e,
     )

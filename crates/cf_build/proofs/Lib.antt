@@ -14,7 +14,7 @@ pub mod NumberOrder
 pub mod OrderExamples
 pub mod PickedPaths
 pub mod Programs
-pub mod QuestionLaws
+pub mod ChooseLaws
 pub mod Rewriting
 pub mod Runs
 pub mod SameCodes
@@ -28,3 +28,5 @@ pub mod ShiftedTyping
 pub mod SolveLists
 pub mod Values
 pub mod PassLists
+mod CodeExamples
+mod ImproveExamples

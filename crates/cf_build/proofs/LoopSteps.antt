@@ -14,41 +14,43 @@ use Rattle.cf_tree.specs.declared.code.Arm.{Arm}
 use Rattle.cf_tree.specs.declared.expr.Def.{Def}
 use Rattle.cf_tree.specs.declared.expr.Expr.{Expr}
 use Rattle.cf_program.specs.NoMatch.{HasNoMatch, HaveNoMatch}
-use Rattle.cf_build.specs.declared.chooses.Choose.{Choose}
+use Rattle.cf_tree.specs.declared.choose.Choose.{Choose}
 use Rattle.cf_build.specs.declared.solves.SolvedChoose.{SolvedChoose}
 use Rattle.cf_build.specs.Codes.{code_of, codes_of_all}
-use Rattle.cf_build.specs.Questions.{Question, questions, questions_all}
+use Rattle.cf_tree.specs.ChooseTree.{ChooseTree}
+use Rattle.cf_build.specs.Chooses.{chooses_in, chooses_in_all}
 use Rattle.cf_build.specs.Shifted.{shifted, all_shifted, item_shifted, items_shifted, arm_shifted, arms_shifted}
-use Rattle.cf_build.specs.Solves.{question_of, questions_of, AreSolved, IsSolved}
+use Rattle.cf_tree.specs.ChooseView.{choose_tree}
+use Rattle.cf_build.specs.Solves.{chooses_of, AreSolved, IsSolved}
 use Rattle.cf_build.proofs.CodeLists.{codes_of_exprs}
 use Rattle.cf_build.proofs.ShiftLists.{codes_shifted, list_items_shifted, list_arms_shifted}
-use Rattle.cf_build.proofs.ChooseLists.{questions_push, questions_of_push}
+use Rattle.cf_build.proofs.ChooseLists.{chooses_push, chooses_of_push}
 use Rattle.cf_build.proofs.SolveLists.{solved_push}
 
 map_at : {X Y : Type 0} (f : X → Y) (xs : List X) (i : ℕ) (x : X) → i < length xs → x ≡ get_or xs i x → map f (take (i + 1) xs) ≡ map f (take i xs) ++ f x ∷ []
 map_at f xs i x l e = map_more f xs i x l ∙ ap (λ y. map f (take i xs) ++ f y ∷ []) (sym e)
 
-pub expr_found : (es : List Expr) (i : ℕ) (e : Expr) (old now new : List Question) → i < length es → e ≡ get_or es i e →
-    now ≡ old ++ questions_all (expr_trees (take i es)) → new ≡ now ++ questions (expr_tree e) →
-    new ≡ old ++ questions_all (expr_trees (take (i + 1) es))
+pub expr_found : (es : List Expr) (i : ℕ) (e : Expr) (old now new : List ChooseTree) → i < length es → e ≡ get_or es i e →
+    now ≡ old ++ chooses_in_all (expr_trees (take i es)) → new ≡ now ++ chooses_in (expr_tree e) →
+    new ≡ old ++ chooses_in_all (expr_trees (take (i + 1) es))
 expr_found es i e old now new l is h g =
-    let one : questions_all (expr_trees (take (i + 1) es)) ≡ questions_all (expr_trees (take i es)) ++ questions (expr_tree e) =
-    ap (λ ts. questions_all (exprs_of ts)) (map_at expr_tree es i e l is) ∙ questions_push (map expr_tree (take i es)) (expr_tree e) in
-    g ∙ ap (λ qs. qs ++ questions (expr_tree e)) h ∙ append_assoc old (questions_all (expr_trees (take i es))) (questions (expr_tree e)) ∙
+    let one : chooses_in_all (expr_trees (take (i + 1) es)) ≡ chooses_in_all (expr_trees (take i es)) ++ chooses_in (expr_tree e) =
+    ap (λ ts. chooses_in_all (exprs_of ts)) (map_at expr_tree es i e l is) ∙ chooses_push (map expr_tree (take i es)) (expr_tree e) in
+    g ∙ ap (λ qs. qs ++ chooses_in (expr_tree e)) h ∙ append_assoc old (chooses_in_all (expr_trees (take i es))) (chooses_in (expr_tree e)) ∙
     ap (λ qs. old ++ qs) (sym one)
 
-pub def_found : (ds : List Def) (i : ℕ) (d : Def) (now new : List Question) → i < length ds → d ≡ get_or ds i d →
-    now ≡ questions_of (map def_tree (take i ds)) → new ≡ now ++ questions (expr_tree d.body) →
-    new ≡ questions_of (map def_tree (take (i + 1) ds))
+pub def_found : (ds : List Def) (i : ℕ) (d : Def) (now new : List ChooseTree) → i < length ds → d ≡ get_or ds i d →
+    now ≡ chooses_of (map def_tree (take i ds)) → new ≡ now ++ chooses_in (expr_tree d.body) →
+    new ≡ chooses_of (map def_tree (take (i + 1) ds))
 def_found ds i d now new l is h g =
-    let one : questions_of (map def_tree (take (i + 1) ds)) ≡ questions_of (map def_tree (take i ds)) ++ questions (expr_tree d.body) =
-    ap questions_of (map_at def_tree ds i d l is) ∙ questions_of_push (map def_tree (take i ds)) (def_tree d) in
-    g ∙ ap (λ qs. qs ++ questions (expr_tree d.body)) h ∙ sym one
+    let one : chooses_of (map def_tree (take (i + 1) ds)) ≡ chooses_of (map def_tree (take i ds)) ++ chooses_in (expr_tree d.body) =
+    ap chooses_of (map_at def_tree ds i d l is) ∙ chooses_of_push (map def_tree (take i ds)) (def_tree d) in
+    g ∙ ap (λ qs. qs ++ chooses_in (expr_tree d.body)) h ∙ sym one
 
 pub solves_more : (cs : List Choose) (i : ℕ) (c : Choose) (old new : List SolvedChoose) (s : SolvedChoose) → i < length cs → c ≡ get_or cs i c →
-    AreSolved (map question_of (take i cs)) old →
-    new ≡ old ++ s ∷ [] → IsSolved (question_of c) s → AreSolved (map question_of (take (i + 1) cs)) new
-solves_more cs i c old new s l is h n k = rw (map_at question_of cs i c l is, n) (solved_push (map question_of (take i cs)) old (question_of c) s h k)
+    AreSolved (map choose_tree (take i cs)) old →
+    new ≡ old ++ s ∷ [] → IsSolved (choose_tree c) s → AreSolved (map choose_tree (take (i + 1) cs)) new
+solves_more cs i c old new s l is h n k = rw (map_at choose_tree cs i c l is, n) (solved_push (map choose_tree (take i cs)) old (choose_tree c) s h k)
 
 -- the elements from place i on are that one and those after it
 from_here : {X : Type 0} (xs : List X) (i : ℕ) (x : X) → i < length xs → x ≡ get_or xs i x → drop i xs ≡ x ∷ drop (i + 1) xs
@@ -81,7 +83,7 @@ pub arms_at_end : (by : ℕ) (arms done : List Arm) (i : ℕ) → length arms �
 arms_at_end by arms done i l h = ap arms_of (h ∙ ap (λ xs. map (λ a. arm_shifted by a) (map arm_tree xs)) (take_all i arms l)) ∙
     list_arms_shifted by (map arm_tree arms)
 
-pub exprs_at_end : (calls : ℕ → CodeTree) (solves : Question → CodeTree) (by n : ℕ) (es : List Expr) (done : List Code) (i : ℕ) → length es ≤ i →
+pub exprs_at_end : (calls : ℕ → CodeTree) (solves : ChooseTree → CodeTree) (by n : ℕ) (es : List Expr) (done : List Code) (i : ℕ) → length es ≤ i →
     map code_tree done ≡ map (λ e. shifted by (code_of calls solves n e)) (map expr_tree (take i es)) →
     code_trees done ≡ all_shifted by (codes_of_all calls solves n (expr_trees es))
 exprs_at_end calls solves by n es done i l h =

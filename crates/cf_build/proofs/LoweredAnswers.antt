@@ -1,5 +1,5 @@
 -- What is built for a lowered program is built for the program.
-use Rattle.std.proofs.Common.{◌≡◌, ℕ, zero, suc, List, [], ◌∷◌, length, map, slice_get, Some, Ok, Err, refl, sym, ap, ◌∙◌, subst, Contains}
+use Rattle.std.proofs.Common.{◌≡◌, ℕ, zero, suc, List, [], ◌∷◌, length, map, slice_get, Some, Result, Ok, Err, refl, sym, ap, ◌∙◌, subst, Contains}
 use Rattle.cf_tree.specs.declared.base.Base.{Base}
 use Rattle.cf_tree.specs.declared.target.RawTarget.{RawTarget}
 use Rattle.cf_tree.specs.CodeView.{code_tree}
@@ -12,8 +12,9 @@ use Rattle.cf_tree.specs.Params.{bases_of}
 use Rattle.cf_match.specs.Laws.{AllowTheSame}
 use Rattle.cf_growth.specs.Overflowing.{picked, MayOverflow}
 use Rattle.cf_match.proofs.NoMatchLaws.{lowered_again}
-use Rattle.cf_build.specs.Built.{SourceAllows, IsBuilt, unfolded_code}
-use Rattle.cf_build.specs.Lowering.{LoweringKeepsQuestions, LoweringKeepsAnswers}
+use Rattle.cf_build.specs.declared.fault.BuildFault.{BuildFault}
+use Rattle.cf_build.specs.Built.{BuildAnswer, SourceAllows, IsBuilt, unfolded_code}
+use Rattle.cf_build.specs.Lowering.{LoweringKeepsChooses}
 use Rattle.cf_build.specs.Runs.{RunsAsPicked, lowered_bodies}
 use Rattle.cf_build.specs.Solves.{FaultAnswer}
 
@@ -24,9 +25,9 @@ defs_again : (ds : List DefTree) → map lowered_def (map lowered_def ds) ≡ ma
 defs_again [] = refl
 defs_again (d ∷ ds) = rw (def_again d, defs_again ds) refl
 
-pub same_questions : LoweringKeepsQuestions
-same_questions [] = refl
-same_questions (d ∷ ds) = rw (lowered_again d.body, same_questions ds) refl
+pub same_chooses : LoweringKeepsChooses
+same_chooses [] = refl
+same_chooses (d ∷ ds) = rw (lowered_again d.body, same_chooses ds) refl
 
 same_bodies : (ds : List DefTree) → lowered_bodies (map lowered_def ds) ≡ lowered_bodies ds
 same_bodies [] = refl
@@ -69,12 +70,19 @@ built_kept ds main passes t keeps b =
       rewritten = subst (λ c. Improves (length t.params.items) c (code_tree t.code)) (same_code ds main) b.rewritten;
       typed = b.typed;
       spelled = b.spelled;
-      solved = λ q c. b.solved q (subst (λ qs. Contains qs q) (sym (same_questions ds)) c);
+      solved = λ q c. b.solved q (subst (λ qs. Contains qs q) (sym (same_chooses ds)) c);
       allowed = λ env h. allowed_kept ds main keeps d.0 d.1 t.params.items env (means (code_tree t.code) env)
           (subst (λ e. t.params.items ≡ bases_of e.params) (sym same) b.like_main.2) h (b.allowed env h);
       runs = λ env h small. runs_kept ds main passes t env (b.runs env h small);
     }
 
-pub answers_kept : LoweringKeepsAnswers
+answers_kept : (defs : List DefTree) (main passes : ℕ) (answer : Result RawTarget BuildFault) → AllowTheSame defs (map lowered_def defs) →
+    BuildAnswer (map lowered_def defs) main passes answer → BuildAnswer defs main passes answer
 answers_kept ds main passes (Ok t) keeps b = built_kept ds main passes t keeps b
-answers_kept ds main passes (Err fault) keeps f = subst (λ qs. FaultAnswer qs fault) (same_questions ds) f
+answers_kept ds main passes (Err fault) keeps f = subst (λ qs. FaultAnswer qs fault) (same_chooses ds) f
+
+pub answer_kept : (defs low : List DefTree) (main n passes : ℕ) (answer : Result RawTarget BuildFault) → low ≡ map lowered_def defs → n ≡ main →
+    AllowTheSame defs low → BuildAnswer low n passes answer → BuildAnswer defs main passes answer
+answer_kept defs low main n passes answer d m keeps b =
+    answers_kept defs main passes answer (subst (λ ds. AllowTheSame defs ds) d keeps)
+    (subst (λ k. BuildAnswer (map lowered_def defs) k passes answer) m (subst (λ ds. BuildAnswer ds n passes answer) d b))

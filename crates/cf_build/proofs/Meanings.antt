@@ -25,7 +25,8 @@ use Rattle.cf_program.specs.TypedProgram.{AreSides}
 use Rattle.cf_program.proofs.PlainTypes.{ExprHasBases, AllHave, PartsHave}
 use Rattle.cf_program.specs.Walk.{side_of, result_of}
 use Rattle.cf_build.specs.Codes.{two, binary_code, joined_code, call_code, code_of, codes_of_all}
-use Rattle.cf_build.specs.Questions.{Question, questions, questions_all, question_arms}
+use Rattle.cf_tree.specs.ChooseTree.{ChooseTree}
+use Rattle.cf_build.specs.Chooses.{chooses_in, chooses_in_all, choose_arms}
 use Rattle.cf_build.specs.Shifted.{shifted}
 use Rattle.cf_program.specs.NoMatch.{HasNoMatch, HaveNoMatch}
 use Rattle.cf_build.specs.Solves.{IsSolveOf}
@@ -171,16 +172,16 @@ joined_gives c no_codes env = by (path c env).gives
     by (none_at n) = refl
 joined_gives c (code_more d cs) env = refl
 
-module _ (calls : ℕ → CodeTree) (solves : Question → CodeTree) (takes : ℕ → List Base → List Base → Type 0) (allows : ℕ → List Value → Outcome → Type 0)
+module _ (calls : ℕ → CodeTree) (solves : ChooseTree → CodeTree) (takes : ℕ → List Base → List Base → Type 0) (allows : ℕ → List Value → Outcome → Type 0)
     (calls_fine : (f : ℕ) (ps rs : List Base) → takes f ps rs → (xs : List Value) → HaveBases ps xs → Fine (allows f xs) rs (calls f) xs) where
-  abbrev Solved : List Question → Type 0
-  Solved qs = (q : Question) → Contains qs q → IsSolveOf q (solves q)
+  abbrev Solved : List ChooseTree → Type 0
+  Solved qs = (q : ChooseTree) → Contains qs q → IsSolveOf q (solves q)
 
-  choose_fine : (q : Question) (env : List Value) → HaveBases q.scope env → IsSolveOf q (solves q) →
+  choose_fine : (q : ChooseTree) (env : List Value) → HaveBases q.scope env → IsSolveOf q (solves q) →
       Fine (Chosen q.number (Sol q.outputs q.relation env)) q.outputs (solves q) env
   choose_fine q env h s =
       let chosen : Chosen q.number (Sol q.outputs q.relation env) (means (solves q) env) =
-      rw s.code (solve_chosen q.number q.scope q.outputs q.relation (question_arms q) s.solved.solves s.solved.typed env h) in
+      rw s.code (solve_chosen q.number q.scope q.outputs q.relation (choose_arms q) s.solved.solves s.solved.typed env h) in
       (chosen, chosen_keeps q.number q.outputs q.relation env (means (solves q) env) chosen)
 
   call_means : (n : ℕ) (c : CodeTree) (env xs : List Value) → n ≡ length env → means (shifted n c) (env ++ xs) ≡ means c xs
@@ -203,7 +204,7 @@ module _ (calls : ℕ → CodeTree) (solves : Question → CodeTree) (takes : �
       (λ xs hx. rw (call_means n (calls f) env xs e) (calls_fine f ps rs t xs hx))
 
   mutual
-    pub fine : (e : ExprTree) → HasNoMatch e → Solved (questions e) → (scope bs : List Base) → ExprHasBases takes e scope bs → (env : List Value) →
+    pub fine : (e : ExprTree) → HasNoMatch e → Solved (chooses_in e) → (scope bs : List Base) → ExprHasBases takes e scope bs → (env : List Value) →
         HaveBases scope env → (n : ℕ) → n ≡ length scope →
         Fine (AllowedIn allows e env) bs (code_of calls solves n e) env
     fine (expr_lit z) p s scope bs h env k n e = (refl, keeps_number bs z h.1)
@@ -228,8 +229,8 @@ module _ (calls : ℕ → CodeTree) (solves : Question → CodeTree) (takes : �
         let r =
         binary_fine (AllowedIn allows a env) (AllowedIn allows b env) (code_of calls solves n a) (code_of calls solves n b) env op
         (λ c. ExprHasBases takes a scope (c ∷ [])) (λ c. ExprHasBases takes b scope (c ∷ []))
-        (λ c t. fine a p.0 (λ q m. s q (Contains-append_left (questions a) (questions b) q m)) scope (c ∷ []) t env k n e)
-        (λ c t. fine b p.1 (λ q m. s q (Contains-append_right (questions a) (questions b) q m)) scope (c ∷ []) t env k n e) h.0 in
+        (λ c t. fine a p.0 (λ q m. s q (Contains-append_left (chooses_in a) (chooses_in b) q m)) scope (c ∷ []) t env k n e)
+        (λ c t. fine b p.1 (λ q m. s q (Contains-append_right (chooses_in a) (chooses_in b) q m)) scope (c ∷ []) t env k n e) h.0 in
         (r.0, keeps_same (result_of op ∷ []) bs _ (sym h.1) r.1)
     fine (expr_divides m a) p s scope bs h env k n e =
         unary_fine (Int ∷ []) bs (path (code_of calls solves n a) env).gives (fine a p s scope (Int ∷ []) h.1 env k n e) (λ xs. keeps_truth bs _ h.2)
@@ -241,28 +242,29 @@ module _ (calls : ℕ → CodeTree) (solves : Question → CodeTree) (takes : �
         unary_fine (Set ∷ []) bs (path (code_of calls solves n a) env).gives (fine a p s scope (Set ∷ []) h.0 env k n e) (λ xs. keeps_number bs _ h.1)
     fine (expr_if t a b) p s scope bs h env k n e =
         then_fine (Truth ∷ []) bs (path (code_of calls solves n t) env).gives _
-        (fine t p.0 (λ q m. s q (Contains-append_left (questions t ++ questions a) (questions b) q (Contains-append_left (questions t) (questions a) q m)))
+        (fine t p.0 (λ q m. s q (Contains-append_left (chooses_in t ++ chooses_in a) (chooses_in b) q (Contains-append_left (chooses_in t) (chooses_in a) q m)))
         scope (Truth ∷ []) h.0 env k n e) (λ xs hx.
         if_fine (truth_in xs) (AllowedIn allows a env) (AllowedIn allows b env) bs (path (code_of calls solves n a) env) (path (code_of calls solves n b) env)
-        (fine a p.1 (λ q m. s q (Contains-append_left (questions t ++ questions a) (questions b) q (Contains-append_right (questions t) (questions a) q m)))
+        (fine a p.1 (λ q m. s q (Contains-append_left (chooses_in t ++ chooses_in a) (chooses_in b) q
+        (Contains-append_right (chooses_in t) (chooses_in a) q m)))
         scope bs h.1 env k n e)
-        (fine b p.2 (λ q m. s q (Contains-append_right (questions t ++ questions a) (questions b) q m)) scope bs h.2 env k n e))
+        (fine b p.2 (λ q m. s q (Contains-append_right (chooses_in t ++ chooses_in a) (chooses_in b) q m)) scope bs h.2 env k n e))
     fine (expr_call f es) p s scope bs h env k n e =
         call_fine f es h.0 bs env n (e ∙ sym (length_have scope env k)) h.1 (let r = all_fine es p s scope h.0 h.2 env k n e [] [] tt in
         (then_same (AllowedAll allows es env) _ r.0, r.1))
     fine (expr_let m a b) p s scope bs h env k n e =
         then_fine h.0 bs (path (code_of calls solves n a) env).gives _
-        (fine a p.0 (λ q c. s q (Contains-append_left (questions a) (questions b) q c)) scope h.0 h.1 env k n e) (λ xs hx.
-        fine b p.1 (λ q c. s q (Contains-append_right (questions a) (questions b) q c)) (scope ++ h.0) bs h.4 (env ++ xs) (have_append scope h.0 env xs k hx)
+        (fine a p.0 (λ q c. s q (Contains-append_left (chooses_in a) (chooses_in b) q c)) scope h.0 h.1 env k n e) (λ xs hx.
+        fine b p.1 (λ q c. s q (Contains-append_right (chooses_in a) (chooses_in b) q c)) (scope ++ h.0) bs h.4 (env ++ xs) (have_append scope h.0 env xs k hx)
         (n + m) (omega (arith, e, h.2, length-append scope h.0)))
     fine (expr_choose m params outputs rel) p s scope bs h env k n e =
-        let q : Question = record { number = m; names = names_of params; scope = bases_of params; outputs = outputs; relation = rel } in
+        let q : ChooseTree = record { number = m; names = names_of params; scope = bases_of params; outputs = outputs; relation = rel } in
         let r = choose_fine q env (rw h.0 k) (s q (0, omega arith, refl)) in
         (r.0, keeps_same outputs bs _ (sym h.5) r.1)
     fine (expr_match m params a arms) p s scope bs h env k n e = absurd p
 
     -- the values behind those that are done
-    pub all_fine : (es : ExprTrees) → HaveNoMatch es → Solved (questions_all es) → (scope bs : List Base) → PartsHave takes es scope bs → (env : List Value) →
+    pub all_fine : (es : ExprTrees) → HaveNoMatch es → Solved (chooses_in_all es) → (scope bs : List Base) → PartsHave takes es scope bs → (env : List Value) →
         HaveBases scope env → (n : ℕ) → n ≡ length scope →
         (ds : List Base) (done : List Value) → HaveBases ds done →
         AllowedThen (AllowedAll allows es env) (λ ys o. o ≡ values (done ++ ys)) (outcome_of (all_path (codes_of_all calls solves n es) env done).gives)
@@ -270,15 +272,16 @@ module _ (calls : ℕ → CodeTree) (solves : Question → CodeTree) (takes : �
     all_fine no_exprs p s scope bs h env k n e ds done d = (goes_on [] refl (ap values (sym (append-nil done))), rw (h, append-nil ds) d)
     all_fine (expr_more a es) p s scope bs h env k n e ds done d =
         more_fine (h.0 ∷ []) (ds ++ bs) (path (code_of calls solves n a) env).gives _
-        (fine a p.0 (λ q c. s q (Contains-append_left (questions a) (questions_all es) q c)) scope (h.0 ∷ []) h.3 env k n e) (λ xs hx.
-        let r = all_fine es p.1 (λ q c. s q (Contains-append_right (questions a) (questions_all es) q c)) scope h.1 h.4 env k n e (ds ++ h.0 ∷ []) (done ++ xs)
+        (fine a p.0 (λ q c. s q (Contains-append_left (chooses_in a) (chooses_in_all es) q c)) scope (h.0 ∷ []) h.3 env k n e) (λ xs hx.
+        let r = all_fine es p.1 (λ q c. s q (Contains-append_right (chooses_in a) (chooses_in_all es) q c)) scope h.1 h.4 env k n e (ds ++ h.0 ∷ [])
+        (done ++ xs)
         (have_append ds (h.0 ∷ []) done xs d hx) in (
           then_weaker _ r.0 (λ ys g. g ∙ ap values (append_assoc done xs ys)),
           keeps_same (ds ++ h.0 ∷ [] ++ h.1) (ds ++ bs) _ (append_assoc ds (h.0 ∷ []) h.1 ∙ ap (λ cs. ds ++ cs) (sym h.2)) r.1,
         ))
 
     -- the numbers put into those that are done
-    set_fine : (es : ExprTrees) → HaveNoMatch es → Solved (questions_all es) → (scope : List Base) → AllHave takes es scope Int → (env : List Value) →
+    set_fine : (es : ExprTrees) → HaveNoMatch es → Solved (chooses_in_all es) → (scope : List Base) → AllHave takes es scope Int → (env : List Value) →
         HaveBases scope env → (n : ℕ) → n ≡ length scope →
         (done : List ℤ) → IsRising done →
         AllowedThen (AllowedAll allows es env) (λ ys. Gives (elements (put_all (map number_of ys) done)))
@@ -287,7 +290,7 @@ module _ (calls : ℕ → CodeTree) (solves : Question → CodeTree) (takes : �
     set_fine no_exprs p s scope h env k n e done d = (goes_on [] refl refl, ((done, refl, d), tt))
     set_fine (expr_more a es) p s scope h env k n e done d =
         more_fine (Int ∷ []) (Set ∷ []) (path (code_of calls solves n a) env).gives _
-        (fine a p.0 (λ q c. s q (Contains-append_left (questions a) (questions_all es) q c)) scope (Int ∷ []) h.0 env k n e) (λ xs hx.
+        (fine a p.0 (λ q c. s q (Contains-append_left (chooses_in a) (chooses_in_all es) q c)) scope (Int ∷ []) h.0 env k n e) (λ xs hx.
         let z = number_alone xs hx in
-        rw z.1 (set_fine es p.1 (λ q c. s q (Contains-append_right (questions a) (questions_all es) q c)) scope h.1 env k n e (set_put z.0 done)
+        rw z.1 (set_fine es p.1 (λ q c. s q (Contains-append_right (chooses_in a) (chooses_in_all es) q c)) scope h.1 env k n e (set_put z.0 done)
         (rising_put z.0 done d)))

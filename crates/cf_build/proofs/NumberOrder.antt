@@ -11,36 +11,37 @@ use Rattle.std.proofs.lemmas.Bool.Decides.{nat_tests}
 use Rattle.std.proofs.lemmas.List.Elements.{All-nil, All-cons, All-head, All-tail, All-contains, All-weaker}
 use Rattle.std.proofs.lemmas.List.Sorted.{IsPermutation-refl, IsPermutation-sym, IsPermutation-trans, IsPermutation-cons, IsPermutation-middle, IsPermutation-map, All-permutation, Contains-permutation}
 use Rattle.std.proofs.lemmas.Map.Keys.{IsDistinct-head, IsDistinct-tail, IsDistinct-IsPermutation, IsStrictlyIncreasing-from_distinct, IsStrictlyIncreasing-from_sorted, sorted_from_strictly_increasing, sorted_head, sorted_tail}
-use Rattle.cf_build.specs.Questions.{Question, placed, by_number}
+use Rattle.cf_tree.specs.ChooseTree.{ChooseTree}
+use Rattle.cf_build.specs.Chooses.{placed, by_number}
 use Rattle.cf_build.specs.Solves.{IsRising}
 
-abbrev pub numbers_of : List Question → List ℕ
+abbrev pub numbers_of : List ChooseTree → List ℕ
 numbers_of qs = map (λ q. q.number) qs
 
 -- ---- the same chooses
-turned_pair : (p q : Question) (ps : List Question) → IsPermutation (q ∷ p ∷ ps) (p ∷ q ∷ ps)
+turned_pair : (p q : ChooseTree) (ps : List ChooseTree) → IsPermutation (q ∷ p ∷ ps) (p ∷ q ∷ ps)
 turned_pair p q ps = IsPermutation-middle (q ∷ []) p ps
 
-placed_by : (b : Bool) (p q : Question) (ps : List Question) → IsPermutation (q ∷ ps) (placed q ps) →
+placed_by : (b : Bool) (p q : ChooseTree) (ps : List ChooseTree) → IsPermutation (q ∷ ps) (placed q ps) →
     IsPermutation (q ∷ p ∷ ps) (if b then p ∷ placed q ps else q ∷ p ∷ ps)
 placed_by true p q ps h = IsPermutation-trans _ _ _ (turned_pair p q ps) (IsPermutation-cons p (q ∷ ps) (placed q ps) h)
 placed_by false p q ps h = IsPermutation-refl (q ∷ p ∷ ps)
 
-placed_same : (q : Question) (ps : List Question) → IsPermutation (q ∷ ps) (placed q ps)
+placed_same : (q : ChooseTree) (ps : List ChooseTree) → IsPermutation (q ∷ ps) (placed q ps)
 placed_same q [] = IsPermutation-refl (q ∷ [])
 placed_same q (p ∷ ps) = placed_by (nat_lt p.number q.number) p q ps (placed_same q ps)
 
-pub ordered_same : (qs : List Question) → IsPermutation qs (by_number qs)
+pub ordered_same : (qs : List ChooseTree) → IsPermutation qs (by_number qs)
 ordered_same [] = IsPermutation-refl []
 ordered_same (q ∷ qs) = IsPermutation-trans _ _ _ (IsPermutation-cons q qs (by_number qs) (ordered_same qs)) (placed_same q (by_number qs))
 
 -- ---- in order
-not_number : (q : Question) (ps : List Question) → AllByRecursion (λ m. nat_eq q.number m ≡ false) (numbers_of ps) → All (λ p. q.number ≢ p.number) ps
+not_number : (q : ChooseTree) (ps : List ChooseTree) → AllByRecursion (λ m. nat_eq q.number m ≡ false) (numbers_of ps) → All (λ p. q.number ≢ p.number) ps
 not_number q [] h = All-nil (λ p. q.number ≢ p.number)
 not_number q (p ∷ ps) h = All-cons (λ p. q.number ≢ p.number) p ps (eqb-false q.number p.number h.0) (not_number q ps h.1)
 
-rises_by : (b : Bool) (p q : Question) (ps : List Question) → nat_lt p.number q.number ≡ b → q.number ≢ p.number → IsRising (p ∷ ps) → IsRising (placed q ps) →
-    IsRising (if b then p ∷ placed q ps else q ∷ p ∷ ps)
+rises_by : (b : Bool) (p q : ChooseTree) (ps : List ChooseTree) → nat_lt p.number q.number ≡ b → q.number ≢ p.number → IsRising (p ∷ ps) →
+    IsRising (placed q ps) → IsRising (if b then p ∷ placed q ps else q ∷ p ∷ ps)
 rises_by true p q ps e d r h =
     let less : p.number < q.number = grind (arith, nat_tests) in
     (All-permutation (λ x. p.number < x.number) (q ∷ ps) (placed q ps) (placed_same q ps) (All-cons (λ x. p.number < x.number) q ps less r.0), h)
@@ -48,13 +49,13 @@ rises_by false p q ps e d r h =
     let less : q.number < p.number = grind (arith, nat_tests) in
     (All-cons (λ x. q.number < x.number) p ps less (All-weaker (λ x. p.number < x.number) (λ x. q.number < x.number) (λ x l. omega (arith, l, less)) ps r.0), r)
 
-placed_rises : (q : Question) (ps : List Question) → All (λ p. q.number ≢ p.number) ps → IsRising ps → IsRising (placed q ps)
+placed_rises : (q : ChooseTree) (ps : List ChooseTree) → All (λ p. q.number ≢ p.number) ps → IsRising ps → IsRising (placed q ps)
 placed_rises q [] d r = (All-nil (λ x. q.number < x.number), tt)
 placed_rises q (p ∷ ps) d r =
     rises_by (nat_lt p.number q.number) p q ps refl (All-head (λ x. q.number ≢ x.number) p ps d) r
     (placed_rises q ps (All-tail (λ x. q.number ≢ x.number) p ps d) r.1)
 
-pub ordered_rises : (qs : List Question) → IsDistinct nat_eq (numbers_of qs) → IsRising (by_number qs)
+pub ordered_rises : (qs : List ChooseTree) → IsDistinct nat_eq (numbers_of qs) → IsRising (by_number qs)
 ordered_rises [] d = tt
 ordered_rises (q ∷ qs) d =
     placed_rises q (by_number qs)
@@ -64,19 +65,19 @@ ordered_rises (q ∷ qs) d =
 flips : (m n : ℕ) → nat_eq m n ≡ nat_eq n m
 flips m n = grind (arith, nat_tests)
 
-pub ordered_distinct : (qs : List Question) → IsDistinct nat_eq (numbers_of qs) → IsDistinct nat_eq (numbers_of (by_number qs))
+pub ordered_distinct : (qs : List ChooseTree) → IsDistinct nat_eq (numbers_of qs) → IsDistinct nat_eq (numbers_of (by_number qs))
 ordered_distinct qs d =
     IsDistinct-IsPermutation nat_eq flips (numbers_of qs) (numbers_of (by_number qs))
     (IsPermutation-map (λ q. q.number) qs (by_number qs) (ordered_same qs)) d
 
-pub ordered_has : (qs : List Question) (q : Question) → Contains qs q → Contains (by_number qs) q
+pub ordered_has : (qs : List ChooseTree) (q : ChooseTree) → Contains qs q → Contains (by_number qs) q
 ordered_has qs q c = Contains-permutation qs (by_number qs) q (ordered_same qs) c
 
-pub ordered_from : (qs : List Question) (q : Question) → Contains (by_number qs) q → Contains qs q
+pub ordered_from : (qs : List ChooseTree) (q : ChooseTree) → Contains (by_number qs) q → Contains qs q
 ordered_from qs q c = Contains-permutation (by_number qs) qs q (IsPermutation-sym qs (by_number qs) (ordered_same qs)) c
 
 -- ---- one order
-head_same : (x y : Question) (xs ys : List Question) → All (λ p. x.number < p.number) xs → All (λ p. y.number < p.number) ys → Contains (y ∷ ys) x →
+head_same : (x y : ChooseTree) (xs ys : List ChooseTree) → All (λ p. x.number < p.number) xs → All (λ p. y.number < p.number) ys → Contains (y ∷ ys) x →
     Contains (x ∷ xs) y → x ≡ y
 head_same x y xs ys r s (zero, l, e) g = sym e
 head_same x y xs ys r s (suc k, l, e) (zero, m, f) = f
@@ -85,7 +86,7 @@ head_same x y xs ys r s (suc k, l, e) (suc j, m, f) =
     let more : x.number < y.number = All-contains (λ p. x.number < p.number) xs y r (j, omega (arith, m), f) in
     absurd (omega (arith, less, more))
 
-behind : (x y : Question) (xs ys : List Question) → x ≡ y → All (λ p. x.number < p.number) xs → (z : Question) → Contains xs z → Contains (y ∷ ys) z →
+behind : (x y : ChooseTree) (xs ys : List ChooseTree) → x ≡ y → All (λ p. x.number < p.number) xs → (z : ChooseTree) → Contains xs z → Contains (y ∷ ys) z →
     Contains ys z
 behind x y xs ys e r z c (zero, l, f) =
     let less : x.number < z.number = All-contains (λ p. x.number < p.number) xs z r c in
@@ -93,17 +94,17 @@ behind x y xs ys e r z c (zero, l, f) =
     absurd (omega (arith, less, same))
 behind x y xs ys e r z c (suc k, l, f) = (k, omega (arith, l), f)
 
-there : (x z : Question) (xs : List Question) → Contains xs z → Contains (x ∷ xs) z
+there : (x z : ChooseTree) (xs : List ChooseTree) → Contains xs z → Contains (x ∷ xs) z
 there x z xs (k, l, e) = (suc k, omega (arith, l), e)
 
-none_in : {A : Type 0} (x : Question) → Contains [] x → A
+none_in : {A : Type 0} (x : ChooseTree) → Contains [] x → A
 none_in x c = absurd (omega (arith, c.1))
 
-here : (x : Question) (xs : List Question) → Contains (x ∷ xs) x
+here : (x : ChooseTree) (xs : List ChooseTree) → Contains (x ∷ xs) x
 here x xs = (0, omega arith, refl)
 
-one_order : (xs ys : List Question) → IsRising xs → IsRising ys → ((z : Question) → Contains xs z → Contains ys z) →
-    ((z : Question) → Contains ys z → Contains xs z) → xs ≡ ys
+one_order : (xs ys : List ChooseTree) → IsRising xs → IsRising ys → ((z : ChooseTree) → Contains xs z → Contains ys z) →
+    ((z : ChooseTree) → Contains ys z → Contains xs z) → xs ≡ ys
 one_order [] [] r s f g = refl
 one_order [] (y ∷ ys) r s f g = none_in y (g y (here y ys))
 one_order (x ∷ xs) [] r s f g = none_in x (f x (here x xs))
@@ -118,11 +119,11 @@ one_order (x ∷ xs) (y ∷ ys) r s f g =
 less_than : (a b : ℕ) → nat_cmp a b ≡ Less → a < b
 less_than a b e = grind (arith, nat_tests)
 
-later : (n : ℕ) (qs : List Question) → AllByRecursion (λ m. nat_cmp n m ≡ Less) (numbers_of qs) → All (λ p. n < p.number) qs
+later : (n : ℕ) (qs : List ChooseTree) → AllByRecursion (λ m. nat_cmp n m ≡ Less) (numbers_of qs) → All (λ p. n < p.number) qs
 later n [] h = All-nil (λ p. n < p.number)
 later n (q ∷ qs) h = All-cons (λ p. n < p.number) q qs (less_than n q.number h.0) (later n qs h.1)
 
-rising_sorted : (qs : List Question) → IsStrictlySortedBy nat_cmp (numbers_of qs) → IsRising qs
+rising_sorted : (qs : List ChooseTree) → IsStrictlySortedBy nat_cmp (numbers_of qs) → IsRising qs
 rising_sorted [] s = tt
 rising_sorted (q ∷ qs) s =
     (later q.number qs (sorted_head nat_cmp q.number (numbers_of qs) s), rising_sorted qs (sorted_tail nat_cmp q.number (numbers_of qs) s))
@@ -131,20 +132,20 @@ rising_sorted (q ∷ qs) s =
 cmp_less : (a b : ℕ) → a < b → nat_cmp a b ≡ Less
 cmp_less a b l = sym (nat_cmp_is a b Less l)
 
-all_less : (n : ℕ) (qs : List Question) → All (λ p. n < p.number) qs → AllByRecursion (λ m. nat_cmp n m ≡ Less) (numbers_of qs)
+all_less : (n : ℕ) (qs : List ChooseTree) → All (λ p. n < p.number) qs → AllByRecursion (λ m. nat_cmp n m ≡ Less) (numbers_of qs)
 all_less n [] h = tt
 all_less n (q ∷ qs) h = (cmp_less n q.number (All-head (λ p. n < p.number) q qs h), all_less n qs (All-tail (λ p. n < p.number) q qs h))
 
-sorted_rising : (qs : List Question) → IsRising qs → IsStrictlySortedBy nat_cmp (numbers_of qs)
+sorted_rising : (qs : List ChooseTree) → IsRising qs → IsStrictlySortedBy nat_cmp (numbers_of qs)
 unfolding IsStrictlySortedBy
 sorted_rising [] r = tt
 sorted_rising (q ∷ qs) r = (all_less q.number qs r.0, sorted_rising qs r.1)
 
-pub rising_increases : (qs : List Question) → IsRising qs → IsStrictlyIncreasing (numbers_of qs)
+pub rising_increases : (qs : List ChooseTree) → IsRising qs → IsStrictlyIncreasing (numbers_of qs)
 rising_increases qs r = IsStrictlyIncreasing-from_sorted (numbers_of qs) (sorted_rising qs r)
 
 -- what is sorted by numbers that differ is in the order of the numbers
-module _ (qs ps : List Question) (d : IsDistinct nat_eq (numbers_of qs)) (p : IsPermutation qs ps) (s : IsNonDecreasing (numbers_of ps)) where
+module _ (qs ps : List ChooseTree) (d : IsDistinct nat_eq (numbers_of qs)) (p : IsPermutation qs ps) (s : IsNonDecreasing (numbers_of ps)) where
   pub sorted_rises : IsRising ps
   sorted_rises =
       let apart = IsDistinct-IsPermutation nat_eq flips (numbers_of qs) (numbers_of ps) (IsPermutation-map (λ q. q.number) qs ps p) d in

@@ -27,7 +27,8 @@ use Rattle.cf_growth.specs.Overflowing.{then_picked, ordinary, picked_right, pic
 use Rattle.cf_growth.proofs.MeetingLaws.{given_are_met, small_append}
 use Rattle.cf_growth.proofs.PickLaws.{none_some, some_none, same_outcome, above}
 use Rattle.cf_build.specs.Codes.{two, binary_code, joined_code, call_code, code_of, codes_of_all}
-use Rattle.cf_build.specs.Questions.{Question, questions, questions_all, solve_of}
+use Rattle.cf_tree.specs.ChooseTree.{ChooseTree}
+use Rattle.cf_build.specs.Chooses.{chooses_in, chooses_in_all, solve_of}
 use Rattle.cf_build.specs.Shifted.{shifted}
 use Rattle.cf_program.specs.NoMatch.{HasNoMatch, HaveNoMatch}
 use Rattle.cf_build.specs.Solves.{IsSolveOf}
@@ -301,15 +302,15 @@ behind scope bs env xs n m a f e = record {
 at_end : (scope : List Base) (env : List Value) (n : ℕ) → Around scope env n → n ≡ length env
 at_end scope env n a = a.level ∙ sym (length_have scope env a.bases)
 
-module _ (calls : ℕ → CodeTree) (solves : Question → CodeTree) (takes : ℕ → List Base → List Base → Type 0) (allows : ℕ → List Value → Outcome → Type 0)
+module _ (calls : ℕ → CodeTree) (solves : ChooseTree → CodeTree) (takes : ℕ → List Base → List Base → Type 0) (allows : ℕ → List Value → Outcome → Type 0)
     (picks : ℕ → List Value → Option Outcome)
     (calls_fine : (f : ℕ) (ps rs : List Base) → takes f ps rs → (xs : List Value) → HaveBases ps xs → Fine (allows f xs) rs (calls f) xs)
     (calls_picked : (f : ℕ) (ps rs : List Base) → takes f ps rs → (xs : List Value) → AreFit ps xs → IsPickedBy (picks f xs) (path (calls f) xs)) where
-  abbrev EachSolved : List Question → Type 0
-  EachSolved qs = (q : Question) → Contains qs q → IsSolveOf q (solves q)
+  abbrev EachSolved : List ChooseTree → Type 0
+  EachSolved qs = (q : ChooseTree) → Contains qs q → IsSolveOf q (solves q)
 
   -- what a part gives fits its bases
-  part_fit : (e : ExprTree) → HasNoMatch e → EachSolved (questions e) → (scope bs : List Base) → ExprHasBases takes e scope bs → (env : List Value) (n : ℕ) →
+  part_fit : (e : ExprTree) → HasNoMatch e → EachSolved (chooses_in e) → (scope bs : List Base) → ExprHasBases takes e scope bs → (env : List Value) (n : ℕ) →
       Around scope env n →
       (xs : List Value) → (path (code_of calls solves n e) env).gives ≡ got xs → (path (code_of calls solves n e) env).peak ≤ limit → AreFit bs xs
   part_fit e p s scope bs h env n a xs g l = record {
@@ -318,7 +319,7 @@ module _ (calls : ℕ → CodeTree) (solves : Question → CodeTree) (takes : �
   }
 
   -- what all parts give keeps their bases
-  pub parts_keep : (es : ExprTrees) → HaveNoMatch es → EachSolved (questions_all es) → (scope bs : List Base) → PartsHave takes es scope bs →
+  pub parts_keep : (es : ExprTrees) → HaveNoMatch es → EachSolved (chooses_in_all es) → (scope bs : List Base) → PartsHave takes es scope bs →
       (env : List Value) (n : ℕ) → Around scope env n →
       Keeps bs (means (code_tuple (codes_of_all calls solves n es)) env)
   parts_keep es p s scope bs h env n a = (all_fine calls solves takes allows calls_fine es p s scope bs h env a.bases n a.level [] [] tt).1
@@ -369,7 +370,7 @@ module _ (calls : ℕ → CodeTree) (solves : Question → CodeTree) (takes : �
       }))
 
   mutual
-    pub picked_by : (e : ExprTree) → HasNoMatch e → EachSolved (questions e) → (scope bs : List Base) → ExprHasBases takes e scope bs →
+    pub picked_by : (e : ExprTree) → HasNoMatch e → EachSolved (chooses_in e) → (scope bs : List Base) → ExprHasBases takes e scope bs →
         (env : List Value) (n : ℕ) → Around scope env n →
         IsPickedBy (picked_in picks e env) (path (code_of calls solves n e) env)
     picked_by (expr_lit k) p s scope bs h env n a = given_by (number k) (unsigned_abs k) h.0
@@ -388,8 +389,8 @@ module _ (calls : ℕ → CodeTree) (solves : Question → CodeTree) (takes : �
     picked_by (expr_binary op b c) p s scope bs h env n a =
         let t = sides_have (side_of op) (λ d. ExprHasBases takes b scope (d ∷ [])) (λ d. ExprHasBases takes c scope (d ∷ [])) h.0 in
         right_by (picked_in picks b env) (picked_in picks c env) (code_of calls solves n b) (code_of calls solves n c) env
-        (picked_by b p.0 (λ q m. s q (Contains-append_left (questions b) (questions c) q m)) scope (t.0 ∷ []) t.1 env n a)
-        (picked_by c p.1 (λ q m. s q (Contains-append_right (questions b) (questions c) q m)) scope (t.0 ∷ []) t.2 env n a) op
+        (picked_by b p.0 (λ q m. s q (Contains-append_left (chooses_in b) (chooses_in c) q m)) scope (t.0 ∷ []) t.1 env n a)
+        (picked_by c p.1 (λ q m. s q (Contains-append_right (chooses_in b) (chooses_in c) q m)) scope (t.0 ∷ []) t.2 env n a) op
     picked_by (expr_divides k b) p s scope bs h env n a =
         then_by (picked_in picks b env) (path (code_of calls solves n b) env) _ _ (picked_by b p s scope _ h.1 env n a) (λ xs e g l. truth_by _)
     picked_by (expr_div b k) p s scope bs h env n a =
@@ -401,44 +402,44 @@ module _ (calls : ℕ → CodeTree) (solves : Question → CodeTree) (takes : �
     picked_by (expr_if t b c) p s scope bs h env n a =
         then_by (picked_in picks t env) (path (code_of calls solves n t) env) _ _
         (picked_by t p.0 (λ q m. s q
-        (Contains-append_left (questions t ++ questions b) (questions c) q (Contains-append_left (questions t) (questions b) q m))) scope _ h.0 env n a)
+        (Contains-append_left (chooses_in t ++ chooses_in b) (chooses_in c) q (Contains-append_left (chooses_in t) (chooses_in b) q m))) scope _ h.0 env n a)
         (λ xs e g l.
         either_by (truth_in xs) (picked_in picks b env) (picked_in picks c env) (path (code_of calls solves n b) env) (path (code_of calls solves n c) env)
         (picked_by b p.1 (λ q m. s q
-        (Contains-append_left (questions t ++ questions b) (questions c) q (Contains-append_right (questions t) (questions b) q m))) scope bs h.1 env n a)
-        (picked_by c p.2 (λ q m. s q (Contains-append_right (questions t ++ questions b) (questions c) q m)) scope bs h.2 env n a))
+        (Contains-append_left (chooses_in t ++ chooses_in b) (chooses_in c) q (Contains-append_right (chooses_in t) (chooses_in b) q m))) scope bs h.1 env n a)
+        (picked_by c p.2 (λ q m. s q (Contains-append_right (chooses_in t ++ chooses_in b) (chooses_in c) q m)) scope bs h.2 env n a))
     picked_by (expr_call f es) p s scope bs h env n a =
         call_by f es h.0 bs n env (at_end scope env n a) h.1 (parts_keep es p s scope h.0 h.2 env n a) (values_by es p s scope h.0 h.2 env n a)
     picked_by (expr_let m b c) p s scope bs h env n a =
         then_by (picked_in picks b env) (path (code_of calls solves n b) env) _ _
-        (picked_by b p.0 (λ q k. s q (Contains-append_left (questions b) (questions c) q k)) scope h.0 h.1 env n a)
+        (picked_by b p.0 (λ q k. s q (Contains-append_left (chooses_in b) (chooses_in c) q k)) scope h.0 h.1 env n a)
         (λ xs e g l.
-        let f = part_fit b p.0 (λ q k. s q (Contains-append_left (questions b) (questions c) q k)) scope h.0 h.1 env n a xs g l in
-        picked_by c p.1 (λ q k. s q (Contains-append_right (questions b) (questions c) q k)) (scope ++ h.0) bs h.4 (env ++ xs) (n + m)
+        let f = part_fit b p.0 (λ q k. s q (Contains-append_left (chooses_in b) (chooses_in c) q k)) scope h.0 h.1 env n a xs g l in
+        picked_by c p.1 (λ q k. s q (Contains-append_right (chooses_in b) (chooses_in c) q k)) (scope ++ h.0) bs h.4 (env ++ xs) (n + m)
         (behind scope h.0 env xs n m a f h.2))
     picked_by (expr_choose m params outputs rel) p s scope bs h env n a =
-        let q : Question = record { number = m; names = names_of params; scope = bases_of params; outputs = outputs; relation = rel } in
+        let q : ChooseTree = record { number = m; names = names_of params; scope = bases_of params; outputs = outputs; relation = rel } in
         subst (λ c. IsPickedBy (picked_in picks (expr_choose m params outputs rel) env) (path c env)) (sym (s q (0, omega arith, refl)).code)
         (solve_by (solve_of q) env)
     picked_by (expr_match m params b arms) p s scope bs h env n a = absurd p
 
-    all_by : (es : ExprTrees) → HaveNoMatch es → EachSolved (questions_all es) → (scope bs : List Base) → PartsHave takes es scope bs →
+    all_by : (es : ExprTrees) → HaveNoMatch es → EachSolved (chooses_in_all es) → (scope bs : List Base) → PartsHave takes es scope bs →
         (env : List Value) (n : ℕ) → Around scope env n → (done : List Value) →
         IsPickedBy (then_picked (picked_all picks es env) (λ zs. Some (values (done ++ zs)))) (all_path (codes_of_all calls solves n es) env done)
     all_by no_exprs p s scope bs h env n a done = rw append-nil (done_by done)
     all_by (expr_more e es) p s scope bs h env n a done =
-        more_by e es n env done (picked_by e p.0 (λ q m. s q (Contains-append_left (questions e) (questions_all es) q m)) scope (h.0 ∷ []) h.3 env n a)
-        (λ ds. all_by es p.1 (λ q m. s q (Contains-append_right (questions e) (questions_all es) q m)) scope h.1 h.4 env n a ds)
+        more_by e es n env done (picked_by e p.0 (λ q m. s q (Contains-append_left (chooses_in e) (chooses_in_all es) q m)) scope (h.0 ∷ []) h.3 env n a)
+        (λ ds. all_by es p.1 (λ q m. s q (Contains-append_right (chooses_in e) (chooses_in_all es) q m)) scope h.1 h.4 env n a ds)
 
-    values_by : (es : ExprTrees) → HaveNoMatch es → EachSolved (questions_all es) → (scope bs : List Base) → PartsHave takes es scope bs →
+    values_by : (es : ExprTrees) → HaveNoMatch es → EachSolved (chooses_in_all es) → (scope bs : List Base) → PartsHave takes es scope bs →
         (env : List Value) (n : ℕ) → Around scope env n →
         IsPickedBy (picked_all picks es env) (path (joined_code (codes_of_all calls solves n es)) env)
     values_by no_exprs p s scope bs h env n a = done_by []
     values_by (expr_more e es) p s scope bs h env n a =
-        joined_by e es n env (picked_by e p.0 (λ q m. s q (Contains-append_left (questions e) (questions_all es) q m)) scope (h.0 ∷ []) h.3 env n a)
-        (λ ds. all_by es p.1 (λ q m. s q (Contains-append_right (questions e) (questions_all es) q m)) scope h.1 h.4 env n a ds)
+        joined_by e es n env (picked_by e p.0 (λ q m. s q (Contains-append_left (chooses_in e) (chooses_in_all es) q m)) scope (h.0 ∷ []) h.3 env n a)
+        (λ ds. all_by es p.1 (λ q m. s q (Contains-append_right (chooses_in e) (chooses_in_all es) q m)) scope h.1 h.4 env n a ds)
 
-    sets_by : (es : ExprTrees) → HaveNoMatch es → EachSolved (questions_all es) → (scope : List Base) → AllHave takes es scope Int →
+    sets_by : (es : ExprTrees) → HaveNoMatch es → EachSolved (chooses_in_all es) → (scope : List Base) → AllHave takes es scope Int →
         (env : List Value) (n : ℕ) → Around scope env n → (done : List ℤ) →
         IsPickedBy (then_picked (picked_all picks es env) (put_in done)) (set_path (codes_of_all calls solves n es) env done)
     sets_by no_exprs p s scope h env n a done = set_by done
@@ -446,15 +447,15 @@ module _ (calls : ℕ → CodeTree) (solves : Question → CodeTree) (takes : �
         subst (λ o. IsPickedBy o (set_path (codes_of_all calls solves n (expr_more e es)) env done))
         (sym (from_sets done (picked_in picks e env) (picked_all picks es env)))
         (then_by (picked_in picks e env) (path (code_of calls solves n e) env) _ _
-        (picked_by e p.0 (λ q m. s q (Contains-append_left (questions e) (questions_all es) q m)) scope (Int ∷ []) h.0 env n a)
+        (picked_by e p.0 (λ q m. s q (Contains-append_left (chooses_in e) (chooses_in_all es) q m)) scope (Int ∷ []) h.0 env n a)
         (λ xs q g l.
-        let f = part_fit e p.0 (λ q m. s q (Contains-append_left (questions e) (questions_all es) q m)) scope (Int ∷ []) h.0 env n a xs g l in
+        let f = part_fit e p.0 (λ q m. s q (Contains-append_left (chooses_in e) (chooses_in_all es) q m)) scope (Int ∷ []) h.0 env n a xs g l in
         let z = number_alone xs f.bases in
         one_value (number z.0) xs (picked_all picks es env) (λ zs. set_path (codes_of_all calls solves n es) env zs) done z.1
-        (sets_by es p.1 (λ q m. s q (Contains-append_right (questions e) (questions_all es) q m)) scope h.1 env n a (set_put (number_in xs) done))))
+        (sets_by es p.1 (λ q m. s q (Contains-append_right (chooses_in e) (chooses_in_all es) q m)) scope h.1 env n a (set_put (number_in xs) done))))
 
   -- the values that are picked for all parts fit their bases
-  pub parts_fit : (es : ExprTrees) → HaveNoMatch es → EachSolved (questions_all es) → (scope bs : List Base) → PartsHave takes es scope bs →
+  pub parts_fit : (es : ExprTrees) → HaveNoMatch es → EachSolved (chooses_in_all es) → (scope bs : List Base) → PartsHave takes es scope bs →
       (env : List Value) (n : ℕ) → Around scope env n →
       (xs : List Value) → picked_all picks es env ≡ Some (values xs) → AreFit bs xs
   parts_fit es p s scope bs h env n a =
@@ -462,7 +463,7 @@ module _ (calls : ℕ → CodeTree) (solves : Question → CodeTree) (takes : �
       (parts_keep es p s scope bs h env n a)
 
   -- and those for one expression
-  pub value_fit : (e : ExprTree) → HasNoMatch e → EachSolved (questions e) → (scope bs : List Base) → ExprHasBases takes e scope bs →
+  pub value_fit : (e : ExprTree) → HasNoMatch e → EachSolved (chooses_in e) → (scope bs : List Base) → ExprHasBases takes e scope bs →
       (env : List Value) (n : ℕ) →
       Around scope env n →
       (xs : List Value) → picked_in picks e env ≡ Some (values xs) → AreFit bs xs

@@ -21,7 +21,8 @@ use Rattle.cf_program.specs.Size.{depth_in, measured, depths}
 use Rattle.cf_program.specs.TypedProgram.{Takes}
 use Rattle.cf_program.proofs.PlainTypes.{IsTypedDef, AreTypedDefs}
 use Rattle.cf_build.specs.Codes.{code_of, called, codes_behind}
-use Rattle.cf_build.specs.Questions.{Question, questions, all_questions}
+use Rattle.cf_tree.specs.ChooseTree.{ChooseTree}
+use Rattle.cf_build.specs.Chooses.{chooses_in, all_chooses}
 use Rattle.cf_build.specs.Shifted.{HasLevels}
 use Rattle.cf_program.specs.NoMatch.{HasNoMatch}
 use Rattle.cf_match.proofs.NoMatchLaws.{lowered_same}
@@ -165,7 +166,8 @@ knows_none = record {
   takes = λ f d e. cc;
 }
 
-module _ (solves : Question → CodeTree) (done earlier : List DefTree) (known : List CodeTree) (deep : List ℕ) (k : Knows done earlier known deep) (d : DefTree)
+module _ (solves : ChooseTree → CodeTree) (done earlier : List DefTree) (known : List CodeTree) (deep : List ℕ) (k : Knows done earlier known deep)
+    (d : DefTree)
   where
     abbrev code : CodeTree
     code = code_of (called known) solves (length d.params) d.body
@@ -173,7 +175,7 @@ module _ (solves : Question → CodeTree) (done earlier : List DefTree) (known :
     abbrev depth : ℕ
     depth = depth_in (λ f. slice_index deep f) d.body
 
-    module _ (h : IsTypedDef earlier d) (p : HasNoMatch d.body) (s : (q : Question) → Contains (questions d.body) q → IsSolveOf q (solves q)) where
+    module _ (h : IsTypedDef earlier d) (p : HasNoMatch d.body) (s : (q : ChooseTree) → Contains (chooses_in d.body) q → IsSolveOf q (solves q)) where
       arity : length d.params ≡ length (bases_of d.params)
       arity = sym (length-map d.params (λ x. x.base))
 
@@ -271,9 +273,9 @@ typed_tail : (ds earlier : List DefTree) → AreTypedDefs (ds ++ earlier) → Ar
 typed_tail [] earlier h = h
 typed_tail (d ∷ ds) earlier h = typed_tail ds earlier h.1
 
-pub all_known : (solves : Question → CodeTree) (ds done earlier : List DefTree) (known : List CodeTree) (deep : List ℕ) → Knows done earlier known deep →
+pub all_known : (solves : ChooseTree → CodeTree) (ds done earlier : List DefTree) (known : List CodeTree) (deep : List ℕ) → Knows done earlier known deep →
     AreTypedDefs (reverse ds ++ earlier) → All (λ d. HasNoMatch d.body) ds →
-    ((q : Question) → Contains (all_questions ds) q → IsSolveOf q (solves q)) →
+    ((q : ChooseTree) → Contains (all_chooses ds) q → IsSolveOf q (solves q)) →
     Knows (done ++ ds) (reverse ds ++ earlier) (codes_behind solves known ds) (deep ++ measured depth_in deep ds)
 all_known solves [] done earlier known deep k t p s = rw (append-nil done, append-nil deep) k
 all_known solves (d ∷ ds) done earlier known deep k t p s =
@@ -283,9 +285,9 @@ all_known solves (d ∷ ds) done earlier known deep k t p s =
     let turned : reverse (d ∷ ds) ++ earlier ≡ reverse ds ++ d ∷ earlier = rw (reverse-append (d ∷ []) ds) (append_assoc (reverse ds) (d ∷ []) earlier) in
     let rest : AreTypedDefs (reverse ds ++ d ∷ earlier) = rw turned at t in
     let next = knows_next solves done earlier known deep k d (typed_tail (reverse ds) (d ∷ earlier) rest).0 q
-    (λ x m. s x (Contains-append_left (questions (lowered d.body)) (all_questions ds) x (rw (lowered_same d.body q) m))) in
+    (λ x m. s x (Contains-append_left (chooses_in (lowered d.body)) (all_chooses ds) x (rw (lowered_same d.body q) m))) in
     let all = all_known solves ds (done ++ d ∷ []) (d ∷ earlier) (known ++ c ∷ []) (deep ++ n ∷ []) next rest (All-tail (λ d. HasNoMatch d.body) d ds p)
-    (λ x m. s x (Contains-append_right (questions (lowered d.body)) (all_questions ds) x m)) in
+    (λ x m. s x (Contains-append_right (chooses_in (lowered d.body)) (all_chooses ds) x m)) in
     let depths_are : deep ++ measured depth_in deep (d ∷ ds) ≡ (deep ++ n ∷ []) ++ measured depth_in (deep ++ n ∷ []) ds =
     rw (lowered_same d.body q) (sym (append_assoc deep (n ∷ []) (measured depth_in (deep ++ n ∷ []) ds))) in
     rw (← append_assoc done (d ∷ []) ds, turned, depths_are) all
@@ -296,8 +298,8 @@ map_reverse (d ∷ ds) =
     rw (reverse-append (d ∷ []) ds, reverse-append (d.body ∷ []) (bodies ds), map-append (λ d. d.body) (reverse ds) (d ∷ []), map_reverse ds) refl
 
 -- what is known of a whole program
-pub program_known : (solves : Question → CodeTree) (defs : List DefTree) → AreTypedDefs (reverse defs) → All (λ d. HasNoMatch d.body) defs →
-    ((q : Question) → Contains (all_questions defs) q → IsSolveOf q (solves q)) →
+pub program_known : (solves : ChooseTree → CodeTree) (defs : List DefTree) → AreTypedDefs (reverse defs) → All (λ d. HasNoMatch d.body) defs →
+    ((q : ChooseTree) → Contains (all_chooses defs) q → IsSolveOf q (solves q)) →
     Knows defs (reverse defs) (codes_behind solves [] defs) (depths defs)
 program_known solves defs t p s =
     subst (λ earlier. Knows defs earlier (codes_behind solves [] defs) (depths defs)) (append-nil (reverse defs))

@@ -6,17 +6,18 @@ use Rattle.cf_tree.specs.DefView.{DefTree}
 use Rattle.cf_tree.specs.ExprTree.{ExprTree, expr_lit, expr_truth, expr_var, expr_set_of, expr_tuple, expr_neg, expr_not, expr_abs, expr_binary, expr_divides, expr_div, expr_mod, expr_card, expr_if, expr_call, expr_let, expr_choose, expr_match, ExprTrees, no_exprs, expr_more}
 use Rattle.cf_tree.specs.Params.{bases_of, names_of}
 use Rattle.cf_build.specs.Codes.{absolute_code, call_code, code_of, codes_of_all, called, codes_behind}
-use Rattle.cf_build.specs.Questions.{Question, questions, questions_all}
+use Rattle.cf_tree.specs.ChooseTree.{ChooseTree}
+use Rattle.cf_build.specs.Chooses.{chooses_in, chooses_in_all}
 use Rattle.cf_build.specs.Shifted.{shifted}
-use Rattle.cf_build.specs.Solves.{questions_of}
+use Rattle.cf_build.specs.Solves.{chooses_of}
 
-module _ (s t : Question → CodeTree) where
-  abbrev AreSame : List Question → Type 0
-  AreSame qs = (q : Question) → Contains qs q → s q ≡ t q
+module _ (s t : ChooseTree → CodeTree) where
+  abbrev AreSame : List ChooseTree → Type 0
+  AreSame qs = (q : ChooseTree) → Contains qs q → s q ≡ t q
 
   module _ (calls : ℕ → CodeTree) where
     mutual
-      same_code : (e : ExprTree) → AreSame (questions e) → (n : ℕ) → code_of calls s n e ≡ code_of calls t n e
+      same_code : (e : ExprTree) → AreSame (chooses_in e) → (n : ℕ) → code_of calls s n e ≡ code_of calls t n e
       same_code (expr_lit k) h n = refl
       same_code (expr_truth b) h n = refl
       same_code (expr_var x) h n = refl
@@ -27,9 +28,9 @@ module _ (s t : Question → CodeTree) where
       same_code (expr_abs a) h n = ap (λ c. absolute_code n c) (same_code a h n)
       same_code (expr_binary op a b) h n =
           rw (
-            same_code a (λ q m. h q (Contains-append_left (questions a) (questions b) q m)) n,
+            same_code a (λ q m. h q (Contains-append_left (chooses_in a) (chooses_in b) q m)) n,
             same_code b
-                (λ q m. h q (Contains-append_right (questions a) (questions b) q m)) n,
+                (λ q m. h q (Contains-append_right (chooses_in a) (chooses_in b) q m)) n,
           ) refl
       same_code (expr_divides k a) h n = ap (λ c. code_divides k c) (same_code a h n)
       same_code (expr_div a k) h n = ap (λ c. code_div c k) (same_code a h n)
@@ -38,36 +39,36 @@ module _ (s t : Question → CodeTree) where
       same_code (expr_if a b c) h n =
           rw (
             same_code a (λ q m. h q
-                (Contains-append_left (questions a ++ questions b) (questions c) q (Contains-append_left (questions a) (questions b) q m))) n,
+                (Contains-append_left (chooses_in a ++ chooses_in b) (chooses_in c) q (Contains-append_left (chooses_in a) (chooses_in b) q m))) n,
             same_code b (λ q m. h q
-                (Contains-append_left (questions a ++ questions b) (questions c) q (Contains-append_right (questions a) (questions b) q m))) n,
-            same_code c (λ q m. h q (Contains-append_right (questions a ++ questions b) (questions c) q m)) n,
+                (Contains-append_left (chooses_in a ++ chooses_in b) (chooses_in c) q (Contains-append_right (chooses_in a) (chooses_in b) q m))) n,
+            same_code c (λ q m. h q (Contains-append_right (chooses_in a ++ chooses_in b) (chooses_in c) q m)) n,
           ) refl
       same_code (expr_call f es) h n = ap (λ cs. call_code n cs (shifted n (calls f))) (same_codes es h n)
       same_code (expr_let k a b) h n =
           rw (
-            same_code a (λ q m. h q (Contains-append_left (questions a) (questions b) q m)) n,
+            same_code a (λ q m. h q (Contains-append_left (chooses_in a) (chooses_in b) q m)) n,
             same_code b
-                (λ q m. h q (Contains-append_right (questions a) (questions b) q m)) (n + k),
+                (λ q m. h q (Contains-append_right (chooses_in a) (chooses_in b) q m)) (n + k),
           ) refl
       same_code (expr_choose k params outputs rel) h n =
           h (record { number = k; names = names_of params; scope = bases_of params; outputs = outputs; relation = rel })
           (0, omega arith, refl)
       same_code (expr_match k params a arms) h n = refl
 
-      same_codes : (es : ExprTrees) → AreSame (questions_all es) → (n : ℕ) → codes_of_all calls s n es ≡ codes_of_all calls t n es
+      same_codes : (es : ExprTrees) → AreSame (chooses_in_all es) → (n : ℕ) → codes_of_all calls s n es ≡ codes_of_all calls t n es
       same_codes no_exprs h n = refl
       same_codes (expr_more e es) h n =
           rw (
-            same_code e (λ q m. h q (Contains-append_left (questions e) (questions_all es) q m)) n,
+            same_code e (λ q m. h q (Contains-append_left (chooses_in e) (chooses_in_all es) q m)) n,
             same_codes es
-                (λ q m. h q (Contains-append_right (questions e) (questions_all es) q m)) n,
+                (λ q m. h q (Contains-append_right (chooses_in e) (chooses_in_all es) q m)) n,
           ) refl
 
-  pub behind_same : (ds : List DefTree) (known : List CodeTree) → AreSame (questions_of ds) → codes_behind s known ds ≡ codes_behind t known ds
+  pub behind_same : (ds : List DefTree) (known : List CodeTree) → AreSame (chooses_of ds) → codes_behind s known ds ≡ codes_behind t known ds
   behind_same [] known h = refl
   behind_same (d ∷ ds) known h =
       ap (λ c. codes_behind s (known ++ c ∷ []) ds)
-      (same_code (called known) d.body (λ q m. h q (Contains-append_left (questions d.body) (questions_of ds) q m)) (length d.params))
+      (same_code (called known) d.body (λ q m. h q (Contains-append_left (chooses_in d.body) (chooses_of ds) q m)) (length d.params))
       ∙ behind_same ds (known ++ code_of (called known) t (length d.params) d.body ∷ [])
-      (λ q m. h q (Contains-append_right (questions d.body) (questions_of ds) q m))
+      (λ q m. h q (Contains-append_right (chooses_in d.body) (chooses_of ds) q m))

@@ -16,7 +16,8 @@ use Rattle.cf_tree.specs.Params.{bases_of}
 use Rattle.cf_growth.specs.Meeting.{AreSmall}
 use Rattle.cf_build.specs.declared.fault.BuildFault.{BuildFault}
 use Rattle.cf_build.specs.Codes.{called, codes_behind}
-use Rattle.cf_build.specs.Questions.{Question, solve_of, all_questions}
+use Rattle.cf_tree.specs.ChooseTree.{ChooseTree}
+use Rattle.cf_build.specs.Chooses.{solve_of, all_chooses}
 use Rattle.cf_build.specs.Runs.{RunsAsPicked}
 use Rattle.cf_build.specs.Solves.{IsSolveOf, FaultAnswer}
 
@@ -38,11 +39,11 @@ pub record IsBuilt (defs : List DefTree) (main passes : ℕ) (t : RawTarget) : T
   pub rewritten : Improves (length t.params.items) (unfolded_code defs main) (code_tree t.code)
   pub typed : IsWellTyped t
   pub spelled : HasSpelling t
-  pub solved : (q : Question) → Contains (all_questions defs) q → IsSolveOf q (solve_of q)
+  pub solved : (q : ChooseTree) → Contains (all_chooses defs) q → IsSolveOf q (solve_of q)
   pub allowed : (env : List Value) → HaveBases t.params.items env → SourceAllows defs main env (means (code_tree t.code) env)
   pub runs : (env : List Value) → HaveBases t.params.items env → AreSmall limit env → RunsAsPicked defs main passes (code_tree t.code) env
 
 -- the target of a program, rewritten by so many passes, or its first choose that is refused, or want of memory
 abbrev pub BuildAnswer : List DefTree → ℕ → ℕ → Result RawTarget BuildFault → Type 0
 BuildAnswer defs main passes (Ok t) = IsBuilt defs main passes t
-BuildAnswer defs main passes (Err fault) = FaultAnswer (all_questions defs) fault
+BuildAnswer defs main passes (Err fault) = FaultAnswer (all_chooses defs) fault

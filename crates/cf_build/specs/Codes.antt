@@ -11,7 +11,7 @@ use Rattle.cf_linear.specs.Chooses.{arms}
 use Rattle.cf_build.specs.declared.choose_codes.ChooseCode.{ChooseCode}
 use Rattle.cf_build.specs.declared.solves.SolvedChoose.{SolvedChoose}
 use Rattle.cf_tree.specs.Params.{bases_of, names_of}
-use Rattle.cf_build.specs.Questions.{Question}
+use Rattle.cf_tree.specs.ChooseTree.{ChooseTree}
 use Rattle.cf_build.specs.Shifted.{shifted, all_shifted}
 
 abbrev pub two : CodeTree → CodeTree → CodeTrees
@@ -61,7 +61,7 @@ call_code n (code_more c cs) body = code_let n (count (code_more c cs)) (joined_
 
 abbrev mutual
   -- the code of an expression behind n variables, where `calls` holds the codes of the functions before, and `solves` that of each choose
-  pub code_of : (ℕ → CodeTree) → (Question → CodeTree) → ℕ → ExprTree → CodeTree
+  pub code_of : (ℕ → CodeTree) → (ChooseTree → CodeTree) → ℕ → ExprTree → CodeTree
   code_of calls solves n (expr_lit k) = code_lit k
   code_of calls solves n (expr_truth t) = code_truth t
   code_of calls solves n (expr_var x) = code_var x
@@ -82,7 +82,7 @@ abbrev mutual
       solves (record { number = m; names = names_of scope; scope = bases_of scope; outputs = outputs; relation = rel })
   code_of calls solves n (expr_match m scope a arms) = code_tuple no_codes
 
-  pub codes_of_all : (ℕ → CodeTree) → (Question → CodeTree) → ℕ → ExprTrees → CodeTrees
+  pub codes_of_all : (ℕ → CodeTree) → (ChooseTree → CodeTree) → ℕ → ExprTrees → CodeTrees
   codes_of_all calls solves n no_exprs = no_codes
   codes_of_all calls solves n (expr_more e es) = code_more (code_of calls solves n e) (codes_of_all calls solves n es)
 
@@ -100,7 +100,7 @@ choose_code c = (c.number, code_tree c.code)
 
 -- the solve of a solved choose
 abbrev pub solve_code : SolvedChoose → ℕ × CodeTree
-solve_code s = (s.number, code_solve s.number (arms_of (arms s.solved.scope.items s.solved.outputs.items (rel_tree s.solved.rel))))
+solve_code s = (s.choose.number, code_solve s.choose.number (arms_of (arms s.solved.scope.items s.solved.outputs.items (rel_tree s.solved.rel))))
 
 -- the code of choose number m
 abbrev pub numbered : List (ℕ × CodeTree) → ℕ → CodeTree
@@ -108,11 +108,11 @@ numbered [] m = code_tuple no_codes
 numbered (s ∷ ss) m = if s.0 == m then s.1 else numbered ss m
 
 -- the code of a choose, which is found by its number
-abbrev pub solved_in : List (ℕ × CodeTree) → Question → CodeTree
+abbrev pub solved_in : List (ℕ × CodeTree) → ChooseTree → CodeTree
 solved_in ss q = numbered ss q.number
 
 -- the codes of functions in the order of the text, where `known` holds those of the functions before
-abbrev pub codes_behind : (Question → CodeTree) → List CodeTree → List DefTree → List CodeTree
+abbrev pub codes_behind : (ChooseTree → CodeTree) → List CodeTree → List DefTree → List CodeTree
 codes_behind solves known [] = known
 codes_behind solves known (d ∷ ds) = codes_behind solves (known ++ code_of (called known) solves (length d.params) d.body ∷ []) ds
 

@@ -1,7 +1,7 @@
 pub mod Built
 pub mod Codes
 pub mod Lowering
-pub mod Questions
+pub mod Chooses
 pub mod Runs
 pub mod Shifted
 pub mod Solves

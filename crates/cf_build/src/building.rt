@@ -7,29 +7,43 @@ ghost use Rattle.cf_tree.specs.ExprView.{expr_tree};
 ghost use Rattle.cf_pass.specs.Passes.{HaveTurned};
 ghost use Rattle.cf_tree.specs.Params.{bases_of};
 ghost use Rattle.cf_build.specs.Built.{BuildAnswer, IsBuilt};
-ghost use Rattle.cf_build.specs.Codes.{choose_code};
-ghost use Rattle.cf_build.specs.Questions.{all_questions, by_number};
+ghost use Rattle.cf_build.specs.Chooses.{all_chooses, by_number};
 ghost use Rattle.cf_program.specs.NoMatch.{HasNoMatch};
-ghost use Rattle.cf_build.specs.Solves.{AreCodes, AreSolved};
+ghost use Rattle.cf_build.specs.Solves.{AreSolved};
 
-use crate::choose_codes::{ChooseCodes, choose_codes};
+use crate::choose_codes::choose_codes;
 use crate::codes::main_code;
 use crate::fault::BuildFault;
 use crate::rewrite::rewritten;
 use crate::solves::{SolvedChoose, solve_all};
+use cf_match::lower;
 use cf_pass::Pass;
 use cf_program::Typed;
 use cf_tree::{Code, Def, NoMemory, RawTarget, Target, bases, without};
 use std::alloc::Global;
 
-/// The target of a program without matches: main's body, with its calls unfolded, and each choose
-/// replaced by the `solve` with the arms of its cases, and then rewritten once by each pass, in
-/// order. Every choose of every function is solved, called or not. Where a pass finds no memory,
-/// its code stands, and the next one runs.
+/// The target of a program: main's body with its calls unfolded and its matches as the chooses that
+/// they stand for, and each choose replaced by the `solve` with the arms of its cases, and then
+/// rewritten once by each pass, in order. Every choose of every function is solved, called or not.
+/// Where a pass finds no memory, its code stands, and the next one runs.
 ///
 /// # Errors
 /// The refused choose with the least number, with the first limit that it passes; or want of memory.
 pub fn build(
+    alloc: Global,
+    typed: &Typed,
+    passes: &mut Vec<Box<dyn Pass>>,
+) -> Result<Target, BuildFault>
+    ensures answer { BuildAnswer (map def_tree typed.now.defs.items) typed.now.main (length passes.old.items) result }
+    ensures turned { OnOk result (HaveTurned (map (λ p. told p) passes.old.items) (map (λ p. told p) passes.new.items)) }
+    ensures kept { OnErr result (map (λ p. told p) passes.new.items ≡ map (λ p. told p) passes.old.items) }
+{
+    let lowered = lower(alloc, typed)?;
+    build_lowered(alloc, lowered.typed(), passes)
+}
+
+// The target of a program without matches.
+fn build_lowered(
     alloc: Global,
     typed: &Typed,
     passes: &mut Vec<Box<dyn Pass>>,
@@ -39,49 +53,25 @@ pub fn build(
     ensures turned { OnOk result (HaveTurned (map (λ p. told p) passes.old.items) (map (λ p. told p) passes.new.items)) }
     ensures kept { OnErr result (map (λ p. told p) passes.new.items ≡ map (λ p. told p) passes.old.items) }
 {
-    match solve_all(alloc, typed) {
-        Ok(solves) => Ok(built(alloc, typed, solves, passes)?),
-        Err(fault) => Err(fault),
-    }
-}
-
-// The target, where all chooses are solved.
-fn built(
-    alloc: Global,
-    typed: &Typed,
-    solves: Vec<SolvedChoose>,
-    passes: &mut Vec<Box<dyn Pass>>,
-) -> Result<Target, NoMemory>
-    requires no_match { All (λ d. HasNoMatch (expr_tree d.body)) typed.now.defs.items }
-    requires solved { AreSolved (by_number (all_questions (map def_tree typed.now.defs.items))) solves.items }
-    requires rising { IsStrictlyIncreasing (map (λ s. s.number) solves.items) }
-    ensures target { IfOk result (IsBuilt (map def_tree typed.now.defs.items) typed.now.main (length passes.old.items)) }
-    ensures turned { OnOk result (HaveTurned (map (λ p. told p) passes.old.items) (map (λ p. told p) passes.new.items)) }
-    ensures kept { OnErr result (map (λ p. told p) passes.new.items ≡ map (λ p. told p) passes.old.items) }
-{
+    let solves = solve_all(alloc, typed)?;
     let raw = unfolded(alloc, typed, solves)?;
-    rewritten(alloc, raw, passes)
+    Ok(rewritten(alloc, raw, passes)?)
 }
 
 // The target before any pass, where all chooses are solved.
-fn unfolded(alloc: Global, typed: &Typed, solves: Vec<SolvedChoose>) -> Result<RawTarget, NoMemory>
+fn unfolded(
+    alloc: Global,
+    typed: &Typed,
+    solves: Vec<SolvedChoose<'_>>,
+) -> Result<RawTarget, NoMemory>
     requires no_match { All (λ d. HasNoMatch (expr_tree d.body)) typed.now.defs.items }
-    requires solved { AreSolved (by_number (all_questions (map def_tree typed.now.defs.items))) solves.items }
-    requires rising { IsStrictlyIncreasing (map (λ s. s.number) solves.items) }
+    requires solved { AreSolved (by_number (all_chooses (map def_tree typed.now.defs.items))) solves.items }
+    requires rising { IsStrictlyIncreasing (map (λ s. s.choose.number) solves.items) }
     ensures { IfOk result (IsBuilt (map def_tree typed.now.defs.items) typed.now.main 0) }
 {
     let codes = choose_codes(alloc, solves)?;
-    main_target(alloc, typed, &codes)
-}
-
-// The target before any pass, where the codes of all chooses are known.
-fn main_target(alloc: Global, typed: &Typed, solves: &ChooseCodes) -> Result<RawTarget, NoMemory>
-    requires no_match { All (λ d. HasNoMatch (expr_tree d.body)) typed.now.defs.items }
-    requires solved { AreCodes (by_number (all_questions (map def_tree typed.now.defs.items))) (map choose_code solves.now.codes.items) }
-    ensures { IfOk result (IsBuilt (map def_tree typed.now.defs.items) typed.now.main 0) }
-{
     let main = typed.main();
-    let code = main_code(alloc, typed.defs(), main, solves)?;
+    let code = main_code(alloc, typed.defs(), main, &codes)?;
     target(alloc, &typed.defs()[main as usize], code)
 }
 

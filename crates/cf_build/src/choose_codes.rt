@@ -26,36 +26,18 @@ pub(crate) struct ChooseCodes {
 // The codes of solved chooses. What else is kept of them is given up.
 pub(crate) fn choose_codes(
     alloc: Global,
-    solves: Vec<SolvedChoose>,
+    solves: Vec<SolvedChoose<'_>>,
 ) -> Result<ChooseCodes, NoMemory>
-    requires { IsStrictlyIncreasing (map (λ s. s.number) solves.items) }
-    ensures { IfOk result (λ c. map choose_code c.codes.items ≡ map solve_code solves.items) }
+    requires { IsStrictlyIncreasing (map (λ s. s.choose.number) solves.items) }
+    ensures { IfOk result (λ c. map choose_code c.codes.items ≡ map solve_code solves.entry.items) }
 {
-    let codes = each_code(alloc, solves)?;
-    Ok(ChooseCodes { codes })
-}
-
-// The code of each choose, in order.
-fn each_code(alloc: Global, solves: Vec<SolvedChoose>) -> Result<Vec<ChooseCode>, NoMemory>
-    ensures { IfOk result (λ codes. map choose_code codes.items ≡ map solve_code solves.items) }
-{
-    let mut left = solves;
-    left.reverse();
     let mut codes = Vec::new(alloc);
-    while let Some(solve) = left.pop() {
-        codes.push(into_code(solve))?;
+    for solve in solves {
+        let number = solve.choose.number;
+        let code = solve.solved.into_code(number);
+        codes.push(ChooseCode { number, code })?;
     }
-    Ok(codes)
-}
-
-fn into_code(solve: SolvedChoose) -> ChooseCode
-    ensures { choose_code result ≡ solve_code solve }
-{
-    let number = solve.number;
-    ChooseCode {
-        number,
-        code: solve.solved.into_code(number),
-    }
+    Ok(ChooseCodes { codes })
 }
 
 impl ChooseCodes {

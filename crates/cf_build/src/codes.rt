@@ -97,9 +97,7 @@ fn code(around: &Around, expr: &Expr, n: u32) -> Result<Code, NoMemory>
             value: boxed(around, value, n)?,
             body: boxed(around, body, add_u32(n, *count)?)?,
         }),
-        Expr::Choose { number, .. } => {
-            solve_numbered(around.alloc, around.solves, *number, around.by)
-        }
+        Expr::Choose { number, .. } => solve_numbered(around, *number),
         // for the proof: no match stands in a program that is built
         Expr::Match { .. } => Ok(Code::Tuple(Vec::new(around.alloc))),
     }
@@ -139,17 +137,10 @@ fn callee(around: &Around, number: u32, n: u32) -> Result<Code, NoMemory>
                 solves: around.solves,
                 by: add_u32(around.by, n)?,
             };
-            code(&inside, &def.body, arity(def)?)
+            code(&inside, &def.body, to_u32(def.params.len())?)
         }
         None => Ok(Code::Tuple(Vec::new(around.alloc))),
     }
-}
-
-// How many parameters a function has.
-fn arity(def: &Def) -> Result<u32, NoMemory>
-    ensures { IfOk result (λ n. n ≡ length def.now.params.items) }
-{
-    to_u32(def.params.len())
 }
 
 // The code of a set of these codes, or of a tuple.
@@ -246,9 +237,7 @@ fn call(alloc: Global, n: u32, args: Vec<Code>, body: Code) -> Result<Code, NoMe
 fn count_of(args: &[Code], n: u32) -> Result<u32, NoMemory>
     ensures { IfOk result (λ count. (count ≡ length args.now) × (n + count < 2 ^ 32)) }
 {
-    let Ok(count) = u32::try_from(args.len()) else {
-        return Err(NoMemory);
-    };
+    let count = to_u32(args.len())?;
     add_u32(n, count)?;
     Ok(count)
 }
@@ -268,17 +257,12 @@ fn joined(mut codes: Vec<Code>) -> Code
     }
 }
 
-// The code of choose number `number` behind `by` variables.
-fn solve_numbered(
-    alloc: Global,
-    solves: &ChooseCodes,
-    number: u32,
-    by: u32,
-) -> Result<Code, NoMemory>
-    ensures { IfOk result (λ c. IsLevelled (shifted by (numbered (map choose_code solves.now.codes.items) number)) (code_tree c)) }
+// The code of choose number `number` behind the variables of the callers.
+fn solve_numbered(around: &Around, number: u32) -> Result<Code, NoMemory>
+    ensures { IfOk result (λ c. IsLevelled (shifted around.now.by (numbered (map choose_code around.now.solves.now.codes.items) number)) (code_tree c)) }
 {
-    match solves.find(number) {
-        Some(code) => shift(alloc, code, by),
-        None => Ok(Code::Tuple(Vec::new(alloc))),
+    match around.solves.find(number) {
+        Some(code) => shift(around.alloc, code, around.by),
+        None => Ok(Code::Tuple(Vec::new(around.alloc))),
     }
 }

@@ -10,16 +10,15 @@ mod rewrite;
 mod shift;
 mod solves;
 
-ghost use Rattle.cf_build.specs.Lowering.{LoweringKeepsQuestions, LoweringKeepsAnswers};
+ghost use Rattle.cf_build.specs.Lowering.{LoweringKeepsChooses};
 
 pub use crate::building::build;
-pub use crate::chooses::{Choose, numbered};
+pub use crate::chooses::numbered;
 pub use crate::fault::BuildFault;
 pub use crate::solves::{SolvedChoose, solve_all};
 
-/// What is built for a program without its matches, each as the chooses that it stands for, is
-/// built for the program.
-pub fn lowering_keeps_answers()
-    ensures questions { LoweringKeepsQuestions }
-    ensures answers { LoweringKeepsAnswers }
+/// A program without its matches, each as the chooses that it stands for, has the chooses of the
+/// program.
+pub fn lowering_keeps_chooses()
+    ensures { LoweringKeepsChooses }
 {}

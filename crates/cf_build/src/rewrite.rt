@@ -8,7 +8,7 @@ ghost use Rattle.cf_pass.specs.Passes.{HaveTurned};
 ghost use Rattle.cf_build.specs.Rewritten.{IsRewritten};
 
 use cf_pass::Pass;
-use cf_tree::{Code, NoMemory, RawTarget, Target, without};
+use cf_tree::{Code, NoMemory, RawTarget, Target, to_u32, without};
 use std::alloc::Global;
 
 /// The target whose code each pass has rewritten once, in order. Where a pass finds no memory, the code
@@ -16,9 +16,9 @@ use std::alloc::Global;
 ///
 /// # Errors
 /// Want of memory, before any pass is called: there are more parameters than 32 bits count.
-pub fn rewritten(
+pub(crate) fn rewritten(
     alloc: Global,
-    raw: RawTarget,
+    mut raw: RawTarget,
     passes: &mut Vec<Box<dyn Pass>>,
 ) -> Result<Target, NoMemory>
     requires { IsWellTyped raw }
@@ -26,26 +26,11 @@ pub fn rewritten(
     ensures turned { OnOk result (HaveTurned (map (λ p. told p) passes.old.items) (map (λ p. told p) passes.new.items)) }
     ensures kept { OnErr result (map (λ p. told p) passes.new.items ≡ map (λ p. told p) passes.old.items) }
 {
-    let Ok(outside) = u32::try_from(raw.params.len()) else {
+    let Ok(outside) = to_u32(raw.params.len()) else {
         return Err(without(raw, NoMemory));
     };
-    Ok(rewritten_behind(alloc, outside, raw, passes))
-}
-
-// The same, for a target with so many parameters.
-fn rewritten_behind(
-    alloc: Global,
-    outside: u32,
-    mut raw: RawTarget,
-    passes: &mut Vec<Box<dyn Pass>>,
-) -> Target
-    requires outside { length raw.params.items ≡ outside }
-    requires typed { IsWellTyped raw }
-    ensures target { IsRewritten (length passes.old.items) raw result }
-    ensures turned { HaveTurned (map (λ p. told p) passes.old.items) (map (λ p. told p) passes.new.items) }
-{
     rewrite_by_each(alloc, outside, &mut raw.code, passes);
-    Target::new(raw)
+    Ok(Target::new(raw))
 }
 
 // Has each pass rewrite the code once, in order.

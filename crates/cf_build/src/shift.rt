@@ -1,9 +1,9 @@
 //! Code behind more variables.
 ghost use Rattle.std.specs.Prelude.{◌≡◌, ◌+◌, ◌<◌, ◌^◌, IfOk};
 ghost use Rattle.cf_tree.specs.CodeView.{code_tree, item_tree, arm_tree, code_trees, item_trees, arm_trees};
-ghost use Rattle.cf_build.specs.Shifted.{shifted, all_shifted, item_shifted, items_shifted, arm_shifted, arms_shifted, HasLevels, HaveLevels, IsLevelled, AreLevelled, ItemIsLevelled, ItemsAreLevelled, ArmIsLevelled, ArmsAreLevelled};
+ghost use Rattle.cf_build.specs.Shifted.{shifted, all_shifted, item_shifted, items_shifted, arm_shifted, arms_shifted, IsLevelled, AreLevelled, ItemIsLevelled, ItemsAreLevelled, ArmIsLevelled, ArmsAreLevelled};
 
-use cf_tree::{Arm, Code, Item, NoMemory, add_u32};
+use cf_tree::{Arm, Code, Item, NoMemory, add_u32, code_over_list, code_over_one, code_over_three};
 use std::alloc::Global;
 
 // A copy of the code behind `by` more variables.
@@ -15,25 +15,25 @@ pub(crate) fn shift(alloc: Global, code: &Code, by: u32) -> Result<Code, NoMemor
         Code::Lit(k) => Ok(Code::Lit(*k)),
         Code::Truth(t) => Ok(Code::Truth(*t)),
         Code::Var(x) => Ok(Code::Var(add_u32(by, *x)?)),
-        Code::SetOf(parts)
-        | Code::Tuple(parts)
-        | Code::Sum(parts)
-        | Code::Min(parts)
-        | Code::Max(parts)
-        | Code::Union(parts)
-        | Code::Inter(parts) => {
+        code_over_list!(parts) => {
             let parts = shift_all(alloc, parts, by)?;
             Ok(code.over_list(parts))
         }
-        Code::Neg(a)
-        | Code::Not(a)
-        | Code::Card(a)
-        | Code::Div { of: a, .. }
-        | Code::Mod { of: a, .. }
-        | Code::Divides { of: a, .. } => {
+        code_over_one!(a) => {
             let part = boxed(alloc, a, by)?;
             Ok(code.over_one(part))
         }
+        Code::Let {
+            first,
+            count,
+            value,
+            body,
+        } => Ok(Code::Let {
+            first: first_level(by, *first, *count)?,
+            count: *count,
+            value: boxed(alloc, value, by)?,
+            body: boxed(alloc, body, by)?,
+        }),
         Code::Sub(a, b)
         | Code::Mul(a, b)
         | Code::And(a, b)
@@ -50,37 +50,11 @@ pub(crate) fn shift(alloc: Global, code: &Code, by: u32) -> Result<Code, NoMemor
             let second = boxed(alloc, b, by)?;
             Ok(code.over_two(first, second))
         }
-        Code::Slice {
-            set: a,
-            from: b,
-            n: c,
-        }
-        | Code::If {
-            test: a,
-            yes: b,
-            no: c,
-        } => {
+        code_over_three!(a, b, c) => {
             let first = boxed(alloc, a, by)?;
             let second = boxed(alloc, b, by)?;
             let third = boxed(alloc, c, by)?;
             Ok(code.over_three(first, second, third))
-        }
-        Code::Let {
-            first,
-            count,
-            value,
-            body,
-        } => {
-            let count = *count;
-            let first = first_level(by, *first, count)?;
-            let value = boxed(alloc, value, by)?;
-            let body = boxed(alloc, body, by)?;
-            Ok(Code::Let {
-                first,
-                count,
-                value,
-                body,
-            })
         }
         Code::Solve { number, arms } => Ok(Code::Solve {
             number: *number,

@@ -1,27 +1,24 @@
 //! Solving all chooses of a program.
-ghost use Rattle.std.specs.Prelude.{◌≡◌, ◌<◌, ◌^◌, [], ◌∷◌, Err, IfOk, IfErr, map, All};
+ghost use Rattle.std.specs.Prelude.{◌≡◌, ◌<◌, ◌^◌, [], ◌∷◌, IfOk, IfErr, map, All};
 ghost use Rattle.std.specs.List.Sorted.{IsStrictlyIncreasing};
+ghost use Rattle.cf_tree.specs.ChooseView.{choose_tree};
 ghost use Rattle.cf_tree.specs.DefView.{def_tree};
 ghost use Rattle.cf_tree.specs.ExprView.{expr_tree};
-ghost use Rattle.cf_tree.specs.RelView.{rel_tree};
-ghost use Rattle.cf_choose.specs.Solved.{IsOf};
 ghost use Rattle.cf_program.specs.NoMatch.{HasNoMatch};
-ghost use Rattle.cf_build.specs.Questions.{all_questions, by_number};
-ghost use Rattle.cf_build.specs.Solves.{question_of, IsAsked, IsRising, AreSolved, QuestionAnswer, FaultAnswer};
+ghost use Rattle.cf_build.specs.Chooses.{all_chooses, by_number};
+ghost use Rattle.cf_build.specs.Solves.{IsTypedChoose, IsRising, IsSolved, AreSolved, FaultAnswer};
 
-use crate::chooses::{Choose, numbered};
+use crate::chooses::numbered;
 use crate::fault::BuildFault;
 use cf_choose::{ChooseFault, Solved, solve};
 use cf_program::Typed;
-use cf_tree::{NoMemory, Text, without};
+use cf_tree::{Choose, bases};
 use std::alloc::Global;
 
-/// A solved choose of a program: its number, the names of the variables in scope by level, and its
-/// relation with the arms that solve it.
+/// A choose of a program, and its relation with the arms that solve it.
 #[derive(Drop)]
-pub struct SolvedChoose {
-    pub number: u32,
-    pub names: Vec<Text>,
+pub struct SolvedChoose<'a> {
+    pub choose: Choose<'a>,
     pub solved: Solved,
 }
 
@@ -30,88 +27,54 @@ pub struct SolvedChoose {
 ///
 /// # Errors
 /// The refused choose with the least number, with the first limit that it passes; or want of memory.
-pub fn solve_all(alloc: Global, typed: &Typed) -> Result<Vec<SolvedChoose>, BuildFault>
+pub fn solve_all<'a>(alloc: Global, typed: &'a Typed) -> Result<Vec<SolvedChoose<'a>>, BuildFault>
     requires no_match { All (λ d. HasNoMatch (expr_tree d.body)) typed.now.defs.items }
-    ensures solved { IfOk result (λ solves. AreSolved (by_number (all_questions (map def_tree typed.now.defs.items))) solves.items) }
-    ensures refused { IfErr result (FaultAnswer (all_questions (map def_tree typed.now.defs.items))) }
-    ensures rising { IfOk result (λ solves. IsStrictlyIncreasing (map (λ s. s.number) solves.items)) }
+    ensures solved { IfOk result (λ solves. AreSolved (by_number (all_chooses (map def_tree typed.now.defs.items))) solves.items) }
+    ensures refused { IfErr result (FaultAnswer (all_chooses (map def_tree typed.now.defs.items))) }
+    ensures rising { IfOk result (λ solves. IsStrictlyIncreasing (map (λ s. s.choose.number) solves.items)) }
 {
     let chooses = numbered(alloc, typed)?;
     solve_each(alloc, &chooses)
 }
 
 // These chooses, whose numbers rise, solved in order, or the first of them that is refused.
-fn solve_each(alloc: Global, chooses: &[Choose]) -> Result<Vec<SolvedChoose>, BuildFault>
-    requires asked { All (λ c. IsAsked (question_of c)) chooses.now }
-    requires rising { IsRising (map question_of chooses.now) }
-    ensures solved { IfOk result (λ solves. AreSolved (map question_of chooses.now) solves.items) }
-    ensures refused { IfErr result (FaultAnswer (map question_of chooses.now)) }
+fn solve_each<'a>(
+    alloc: Global,
+    chooses: &[Choose<'a>],
+) -> Result<Vec<SolvedChoose<'a>>, BuildFault>
+    requires typed { All (λ c. IsTypedChoose (choose_tree c)) chooses.now }
+    requires rising { IsRising (map choose_tree chooses.now) }
+    ensures solved { IfOk result (λ solves. AreSolved (map choose_tree chooses.now) solves.items) }
+    ensures refused { IfErr result (FaultAnswer (map choose_tree chooses.now)) }
 {
     let mut solves = Vec::new(alloc);
-    for i in 0..chooses.len() {
-        let choose = &chooses[i];
-        match solve_one(alloc, choose) {
-            Ok(solved) => solves.push(solved)?,
-            Err(fault) => return Err(refusal(choose, fault)),
-        }
+    for choose in chooses {
+        solves.push(solve_one(alloc, choose)?)?;
     }
     Ok(solves)
 }
 
-// Why this choose is not solved.
-fn refusal(choose: &Choose, fault: ChooseFault) -> BuildFault
-    requires { QuestionAnswer (question_of choose.now) (Err fault) }
-    ensures { FaultAnswer (question_of choose.now ∷ []) result }
-{
-    let number = choose.number;
-    match fault {
-        ChooseFault::Refused(refusal) => BuildFault::Choose { number, refusal },
-        ChooseFault::NoMemory => BuildFault::NoMemory,
-    }
-}
-
 // The choose with its arms, or its refusal.
-fn solve_one(alloc: Global, choose: &Choose) -> Result<SolvedChoose, ChooseFault>
-    requires { IsAsked (question_of choose.now) }
-    ensures { QuestionAnswer (question_of choose.now) result }
+fn solve_one<'a>(alloc: Global, choose: &Choose<'a>) -> Result<SolvedChoose<'a>, BuildFault>
+    requires { IsTypedChoose (choose_tree choose.now) }
+    ensures solved { IfOk result (IsSolved (choose_tree choose.now)) }
+    ensures refused { IfErr result (FaultAnswer (choose_tree choose.now ∷ [])) }
 {
-    match solve(alloc, &choose.scope, &choose.outputs, &choose.rel) {
-        Ok(solved) => named(alloc, choose, solved),
-        Err(fault) => Err(fault),
+    let number = of_32_bits(choose.number);
+    let scope = bases(alloc, choose.scope)?;
+    match solve(alloc, &scope, choose.outputs, choose.rel) {
+        Ok(solved) => Ok(SolvedChoose {
+            choose: *choose,
+            solved,
+        }),
+        Err(ChooseFault::Refused(refusal)) => Err(BuildFault::Choose { number, refusal }),
+        Err(ChooseFault::NoMemory) => Err(BuildFault::NoMemory),
     }
 }
 
-// The solved choose with its number and the names of its scope.
-fn named(alloc: Global, choose: &Choose, solved: Solved) -> Result<SolvedChoose, ChooseFault>
-    requires asked { IsAsked (question_of choose.now) }
-    requires solved { IsOf choose.now.scope.items choose.now.outputs.items (rel_tree choose.now.rel) solved }
-    ensures { QuestionAnswer (question_of choose.now) result }
+// for the proof: the number of a lent choose has 32 bits.
+fn of_32_bits(number: u32) -> u32
+    ensures { (result ≡ number) × (number < 2 ^ 32) }
 {
-    match copies(alloc, &choose.names) {
-        Ok(names) => Ok(numbered_choose(choose.number, names, solved)),
-        Err(_) => Err(without(solved, ChooseFault::NoMemory)),
-    }
-}
-
-// A solved choose of that number.
-fn numbered_choose(number: u32, names: Vec<Text>, solved: Solved) -> SolvedChoose
-    ensures parts { result ≡ record { number = number; names = names; solved = solved } }
-    ensures fits { number < 2 ^ 32 }
-{
-    SolvedChoose {
-        number,
-        names,
-        solved,
-    }
-}
-
-// Equal texts.
-fn copies(alloc: Global, texts: &[Text]) -> Result<Vec<Text>, NoMemory>
-    ensures { IfOk result (λ copies. copies.items ≡ texts.now) }
-{
-    let mut copies = Vec::new(alloc);
-    for text in texts {
-        copies.push(text.try_copy(alloc)?)?;
-    }
-    Ok(copies)
+    number
 }

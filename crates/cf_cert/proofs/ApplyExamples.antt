@@ -1,13 +1,13 @@
 -- Steps on small systems: each is computed.
-use Rattle.std.proofs.Common.{◌≡◌, ◌-◌, ◌^◌, pos, negsuc, refl, List, [], ◌∷◌, true, false, Ok, Err, ℕ, ℤ}
+use Rattle.std.proofs.Common.{◌≡◌, ◌-◌, ◌^◌, pos, negsuc, refl, List, [], ◌∷◌, true, false, Ok, Err, ℤ}
 use Rattle.cf_num.specs.Divisors.{gcd_by, factors_by}
 use Rattle.cf_linear.specs.declared.refusal.LimitKind.TheVariants.{Rows, Columns, Search}
 use Rattle.cf_linear.specs.declared.refusal.Refusal.TheVariants.{Past, Limit}
 use Rattle.cf_linear.specs.Rows.{Row}
-use Rattle.cf_linear.specs.Systems.{System, Answer, need_divides, need_nonneg, need_zero, floor_of, How, row_how, greatest, least}
+use Rattle.cf_linear.specs.Systems.{System, need_divides, need_nonneg, floor_of, row_how, greatest}
 use Rattle.cf_linear.specs.Steps.{clean, mix, last, searched, dropped}
-use Rattle.cf_linear.specs.Stages.{Limits, limits}
-use Rattle.cf_steps.specs.declared.act.Act.TheVariants.{Clean, Mix, Last, Search as SearchAct, Drop}
+use Rattle.cf_linear.specs.Stages.{limits}
+use Rattle.cf_elim.specs.declared.act.Act.TheVariants.{Clean, Mix, Last, Search as SearchAct, Drop}
 use Rattle.cf_cert.specs.declared.verdict.Why.TheVariants.{Unknown, Factor, Single, Held, Exact, Left, Refused}
 use Rattle.cf_cert.specs.Applying.{apply}
 use Rattle.cf_cert.specs.Certifying.{follow, eliminated}

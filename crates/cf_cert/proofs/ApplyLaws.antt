@@ -1,20 +1,20 @@
 -- What a step that applies owes.
-use Rattle.std.proofs.Common.{◌≡◌, ◌≢◌, ℕ, zero, suc, ◌+◌, ◌≤◌, ◌==◌, ℤ, pos, negsuc, neg_ℤ, List, [], ◌∷◌, ◌++◌, take, drop, Bool, true, false, not, ◌&&◌}
-use Rattle.std.proofs.Common.{◌||◌, Option, Some, None, Result, Ok, Err, All, refl, sym, ◌∙◌, ap, arith, subst, ◌⊎◌, inl, inr}
-use Rattle.std.specs.Prelude.{slice_get, filter, nat_lt, int_lt, unsigned_abs, ◌<ℤ◌}
+use Rattle.std.proofs.Common.{◌≡◌, ◌≢◌, ℕ, suc, ◌+◌, ◌≤◌, ◌==◌, ℤ, pos, negsuc, neg_ℤ, List, [], ◌∷◌, ◌++◌, take, drop, Bool, true, false, not, ◌&&◌}
+use Rattle.std.proofs.Common.{◌||◌, Option, Some, None, Ok, All, refl, sym, ap, arith, subst, inl, inr}
+use Rattle.std.specs.Prelude.{slice_get, nat_lt, int_lt, ◌<ℤ◌}
 use Rattle.std.specs.List.{list_any, fold}
 use Rattle.std.proofs.lemmas.Int.{ints}
-use Rattle.std.proofs.lemmas.Bool.{eqb-true, eqb-false, eq-eqb, ltb-false}
+use Rattle.std.proofs.lemmas.Bool.{eqb-true, eqb-false, ltb-false}
 use Rattle.std.proofs.lemmas.List.Elements.{All-nil}
 use Rattle.cf_num.specs.Limit.{IsWithin}
 use Rattle.cf_linear.specs.declared.refusal.Refusal.{Refusal}
 use Rattle.cf_linear.specs.declared.refusal.Refusal.TheVariants.{Past}
-use Rattle.cf_linear.specs.Rows.{Row, entry, is_zero, passes}
+use Rattle.cf_linear.specs.Rows.{Row, entry, is_zero}
 use Rattle.cf_linear.specs.Systems.{System, EachRow, Answer}
 use Rattle.cf_linear.specs.Steps.{has_column, present, is_unit, is_positive, lowers, uppers, two_at, clean, mix, mix_passes, last, last_passes, searched}
 use Rattle.cf_linear.specs.Steps.{dropped, drop_passes}
 use Rattle.cf_linear.specs.Stages.{limits, first_count, times_bound}
-use Rattle.cf_linear.specs.Keep.{In, Formed}
+use Rattle.cf_linear.specs.Keep.{In}
 use Rattle.cf_linear.specs.Solved.{Owes}
 use Rattle.cf_linear.proofs.BoolLemmas.{on_bool}
 use Rattle.cf_linear.proofs.RowLemmas.{zero_from_is_zero}
@@ -37,12 +37,12 @@ use Rattle.cf_elim.proofs.SearchLaws.{IsSome, bounds_of, searched_some}
 use Rattle.cf_elim.proofs.SmallRows.{any_parts, all_mixed_small, two_small}
 use Rattle.cf_elim.proofs.StageSmall.{RowsSmall, AnswerSmall, clean_small, last_small, searched_small, dropped_small}
 use Rattle.cf_elim.proofs.StepReturns.{some_unknown, returns_clean, returns_last, returns_mix, returns_searched, returns_dropped}
-use Rattle.cf_steps.specs.declared.act.Act.{Act}
-use Rattle.cf_steps.specs.declared.act.Act.TheVariants.{Clean, Mix, Last, Search as SearchAct, Drop}
+use Rattle.cf_elim.specs.declared.act.Act.{Act}
+use Rattle.cf_elim.specs.declared.act.Act.TheVariants.{Clean, Mix, Last, Search as SearchAct, Drop}
 use Rattle.cf_cert.specs.declared.verdict.Why.{Why}
-use Rattle.cf_cert.specs.declared.verdict.Why.TheVariants.{Unknown, Factor, Single, Held, Exact, Refused}
+use Rattle.cf_cert.specs.declared.verdict.Why.TheVariants.{Unknown, Factor, Held, Exact, Refused}
 use Rattle.cf_cert.specs.Applying.{IsWithinAct, Applied, rejected_if, refused_by, is_held, has_inexact, determinant, determinant_passes, last_of, last_at, apply}
-use Rattle.cf_cert.proofs.LastLaws.{alone_in, over_at, rows_front, last_front, last_at_owes, last_at_formed, front}
+use Rattle.cf_cert.proofs.LastLaws.{over_at, rows_front, last_front, last_at_owes, last_at_formed, front}
 use Rattle.cf_cert.proofs.MixLaws.{mixed_owes}
 
 -- ---- tests that were passed

@@ -1,5 +1,5 @@
 -- The cases of a block, as a loop follows them.
-use Rattle.std.proofs.Common.{◌≡◌, ℕ, zero, suc, ◌+◌, ◌*◌, ◌^◌, ◌<◌, ◌≤◌, List, [], ◌∷◌, ◌++◌, length, map, drop, get_or, Option, Some, None, Ok, Err}
+use Rattle.std.proofs.Common.{◌≡◌, ℕ, zero, suc, ◌+◌, ◌*◌, ◌^◌, ◌<◌, ◌≤◌, List, [], ◌∷◌, ◌++◌, length, map, drop, get_or, Some, Ok, Err}
 use Rattle.std.proofs.Common.{refl, sym, ◌∙◌, ap, arith, subst, append_assoc}
 use Rattle.std.proofs.lemmas.List.{append-nil, map-append, length-append}
 use Rattle.cf_tree.specs.CodeView.{arm_tree}
@@ -11,7 +11,7 @@ use Rattle.cf_linear.specs.Arm.{arm}
 use Rattle.cf_linear.specs.Layout.{Layout, set_count, first_free}
 use Rattle.cf_linear.specs.Stages.{limits}
 use Rattle.cf_linear.specs.Systems.{System, Answer}
-use Rattle.cf_linear.specs.Views.{plain_layout, system_of, step_of, back_of, bound_of}
+use Rattle.cf_linear.specs.Views.{plain_layout, system_of}
 use Rattle.cf_cases.specs.Holding.{EachOf}
 use Rattle.cf_elim.specs.declared.output.StepOutput.{StepOutput}
 use Rattle.cf_elim.specs.Stages.{made_answer}
@@ -20,12 +20,12 @@ use Rattle.cf_choose.specs.Eliminations.{CanBegin}
 use Rattle.cf_choose.proofs.DoneLemmas.{rest_of, rest_more}
 use Rattle.cf_choose.proofs.MadeArms.{arm_same}
 use Rattle.cf_cases.proofs.FirstSystemLaws.{pow_small}
-use Rattle.cf_steps.specs.declared.act.Act.{Act}
+use Rattle.cf_elim.specs.declared.act.Act.{Act}
 use Rattle.cf_cert.specs.declared.follow.CaseFault.{CaseFault}
 use Rattle.cf_cert.specs.declared.follow.CaseFault.TheVariants.{Rejected, NoMemory}
 use Rattle.cf_cert.specs.declared.verdict.Why.{Why}
-use Rattle.cf_cert.specs.Certifying.{Followed, eliminated, AreEliminated}
-use Rattle.cf_cert.specs.Judging.{Fault, fault_in, case_fault}
+use Rattle.cf_cert.specs.Certifying.{eliminated, AreEliminated}
+use Rattle.cf_cert.specs.Judging.{case_fault}
 use Rattle.cf_cert.specs.Verifying.{AreArmsOf, ArmIs, ArmsIs, HasFew, in_case}
 use Rattle.cf_cert.proofs.WayLaws.{dropped_one, dropped_all}
 

@@ -1,14 +1,14 @@
 -- The arms of a block that certifies a choose solve its relation.
-use Rattle.std.proofs.Common.{◌≡◌, ◌≤◌, List, [], ◌∷◌, ◌++◌, map, inl, inr, subst, sym}
+use Rattle.std.proofs.Common.{◌≤◌, List, [], ◌∷◌, ◌++◌, Some, map, inl, inr, refl, subst, sym}
 use Rattle.cf_tree.specs.declared.base.Base.{Base}
 use Rattle.cf_tree.specs.Allowed.{Chosen}
-use Rattle.cf_tree.specs.CodeTree.{ArmTree, arm_of, ArmTrees, no_arms, arm_more, arms_of, code_solve}
+use Rattle.cf_tree.specs.CodeTree.{ArmTree, arm_of, ArmTrees, no_arms, arm_more, arms_of}
 use Rattle.cf_tree.specs.DefView.{TargetTree}
 use Rattle.cf_tree.specs.Meaning.{means}
 use Rattle.cf_tree.specs.RelTree.{RelTree}
 use Rattle.cf_tree.specs.Relation.{IsTyped, IsLinear, Sol}
-use Rattle.cf_tree.specs.Solving.{NeedsHold, HoldSomewhere, EachGives, Solves}
-use Rattle.cf_tree.specs.Typing.{ArmsHave}
+use Rattle.cf_tree.specs.Solving.{HoldSomewhere, EachGives, Solves}
+use Rattle.cf_tree.specs.Typing.{IsGiven, ArmsHave, IsTypedCode}
 use Rattle.cf_tree.specs.Values.{Value, HaveBases}
 use Rattle.cf_tree.proofs.SolvingLemmas.{solve_chosen}
 use Rattle.cf_linear.specs.declared.refusal.TheConstants.{MOST_SETS}
@@ -31,11 +31,12 @@ use Rattle.cf_choose.proofs.CaseLemmas.{few_sets}
 use Rattle.cf_choose.proofs.ChooseLevels.{IsFirst, each_first, are_outputs}
 use Rattle.cf_choose.proofs.FirstRows.{firsts_small}
 use Rattle.cf_cases.proofs.FirstSystemLaws.{IsBegun, first_systems_begun}
-use Rattle.cf_steps.specs.declared.act.Act.{Act}
+use Rattle.cf_elim.specs.declared.act.Act.{Act}
 use Rattle.cf_steps.specs.Blocks.{BlockTree}
-use Rattle.cf_cert.specs.Certifying.{QuestionTree, layout, eliminated, AreEliminated, target_with, Certifies}
+use Rattle.cf_tree.specs.ChooseTree.{ChooseTree}
+use Rattle.cf_cert.specs.Certifying.{layout, AreEliminated, Certifies}
 use Rattle.cf_cert.specs.Applying.{IsWithinAct}
-use Rattle.cf_cert.specs.Laws.{IsQuestion, MeansSolutions, CertifiedMeans}
+use Rattle.cf_cert.specs.Laws.{AreWithinCases, IsLinearChoose, MeansSolutions, CertifiedMeans, HasTypedTarget, CertifiedIsTyped}
 use Rattle.cf_cert.proofs.FollowLaws.{eliminated_solves}
 
 -- ---- arms of systems, one for each
@@ -121,17 +122,39 @@ module _ (scope outputs : List Base) (rel : RelTree) (outs : AreOutputs outputs)
         each_arm ms cases answers f.1 b.1 h.1 w.1 r.1,
       )
 
+-- ---- a block that certifies a choose
+module _ (q : ChooseTree) (b : BlockTree) (h : IsLinearChoose q) (w : AreWithinCases b.cases) (c : Certifies q b) where
+  abbrev made : List ArmTree
+  made = map (arm (layout q)) c.answers
+
+  outs : AreOutputs q.outputs
+  outs = are_outputs q.outputs h.are_outputs
+
+  arms_made : AreArms q.scope q.outputs q.relation (first_systems (layout q) q.relation) made
+  arms_made =
+      let l = layout q in
+      let placed = placed-rel q.scope q.outputs q.relation h.typed h.linear in
+      each_arm q.scope q.outputs q.relation outs (few_sets l q.relation c.counts) (first_systems l q.relation) b.cases c.answers
+      (each_first l q.relation placed) (first_systems_begun l q.relation placed) (firsts_small l q.relation placed c.written) w c.cases
+
+  made_typed : ArmsHave (arms_of made) q.scope q.outputs
+  made_typed = arms_typed q.scope q.outputs q.relation (first_systems (layout q) q.relation) made arms_made
+
+  pub target_means : MeansSolutions q b
+  target_means env have =
+      let solves = arms_solve q.scope q.outputs q.relation made h.typed h.linear outs arms_made in
+      subst (λ (t : TargetTree). Chosen q.number (Sol q.outputs q.relation env) (means t.code env)) (sym c.target)
+      (solve_chosen q.number q.scope q.outputs q.relation (arms_of made) solves made_typed env have)
+
+  pub target_typed : HasTypedTarget b
+  target_typed = subst (λ (t : TargetTree). IsTypedCode t.code t.params t.results) (sym c.target) (given (arms_of made) q.outputs, made_typed)
+    where
+      given : (arms : ArmTrees) (bs : List Base) → IsGiven arms (Some bs) bs
+      given no_arms bs = refl
+      given (arm_more a arms) bs = refl
+
 pub certified_means : CertifiedMeans
-certified_means q b h w c env have =
-    let l = layout q in
-    let placed = placed-rel q.scope q.outputs q.rel h.typed h.linear in
-    let outs = are_outputs q.outputs h.are_outputs in
-    let few = few_sets l q.rel c.counts in
-    let ts = map (arm l) c.answers in
-    let arms = each_arm q.scope q.outputs q.rel outs few (first_systems l q.rel) b.cases c.answers (each_first l q.rel placed)
-    (first_systems_begun l q.rel placed)
-    (firsts_small l q.rel placed c.written) w c.cases in
-    let solves = arms_solve q.scope q.outputs q.rel ts h.typed h.linear outs arms in
-    let typed = arms_typed q.scope q.outputs q.rel (first_systems l q.rel) ts arms in
-    subst (λ (t : TargetTree). Chosen q.number (Sol q.outputs q.rel env) (means t.code env)) (sym c.target)
-    (solve_chosen q.number q.scope q.outputs q.rel (arms_of ts) solves typed env have)
+certified_means q b h w c = target_means q b h w c
+
+pub certified_typed : CertifiedIsTyped
+certified_typed q b h w c = target_typed q b h w c

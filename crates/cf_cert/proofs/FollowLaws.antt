@@ -1,15 +1,14 @@
 -- Steps that follow each other to the end solve the system that they begin with.
-use Rattle.std.proofs.Common.{◌≡◌, ℕ, ◌+◌, ◌≤◌, ◌==◌, List, [], ◌∷◌, ◌++◌, length, Bool, true, false, Option, Some, None, Result, Ok, Err, All, refl, sym}
-use Rattle.std.proofs.Common.{◌∙◌, arith, subst, map}
+use Rattle.std.proofs.Common.{◌≡◌, ℕ, ◌+◌, ◌≤◌, List, [], ◌∷◌, length, true, Option, Some, None, Ok, Err, All, refl, sym}
+use Rattle.std.proofs.Common.{arith, subst}
 use Rattle.std.specs.List.{fold}
 use Rattle.std.proofs.lemmas.Bool.{eqb-true}
 use Rattle.std.proofs.lemmas.List.Elements.{All-nil}
 use Rattle.std.proofs.lemmas.List.Sums.{fold-append}
 use Rattle.cf_linear.specs.declared.refusal.Refusal.{Refusal}
-use Rattle.cf_linear.specs.Rows.{Row}
 use Rattle.cf_linear.specs.Systems.{System, Answer, no_answer, then_answer}
 use Rattle.cf_linear.specs.Stages.{limits, first_count, times_bound}
-use Rattle.cf_linear.specs.Solved.{Owes, SolvedBy}
+use Rattle.cf_linear.specs.Solved.{Owes}
 use Rattle.cf_linear.proofs.BoolLemmas.{on_bool}
 use Rattle.cf_linear.proofs.SolvedLemmas.{solved_case, step_then, step_none}
 use Rattle.cf_cases.specs.Holding.{EachOf}
@@ -21,8 +20,7 @@ use Rattle.cf_elim.specs.Stages.{IsReady}
 use Rattle.cf_elim.proofs.ReturnLaws.{returns_none, returns_then}
 use Rattle.cf_elim.proofs.SearchLaws.{IsSome, bounds_of, some_then, are_bounds}
 use Rattle.cf_elim.proofs.StageSmall.{StepsSmall, BackSmall, RowsSmall, steps_join, back_join}
-use Rattle.cf_steps.specs.declared.act.Act.{Act}
-use Rattle.cf_cert.specs.declared.verdict.Why.{Why}
+use Rattle.cf_elim.specs.declared.act.Act.{Act}
 use Rattle.cf_cert.specs.declared.verdict.Why.TheVariants.{Left}
 use Rattle.cf_cert.specs.Applying.{Applied, apply, IsWithinAct}
 use Rattle.cf_cert.specs.Certifying.{Followed, is_over, after_first, follow, unless_refused, eliminated}

@@ -1,5 +1,5 @@
 -- The end of an equation that stands anywhere.
-use Rattle.std.proofs.Common.{◌≡◌, ℕ, zero, suc, List, [], ◌∷◌, ◌++◌, Some, None, refl, sym, ◌∙◌, ap, subst, inl, take, drop}
+use Rattle.std.proofs.Common.{◌≡◌, ℕ, zero, suc, List, [], ◌∷◌, ◌++◌, Some, refl, sym, subst, inl, take, drop}
 use Rattle.std.specs.Prelude.{slice_get}
 use Rattle.cf_linear.specs.Rows.{Row, Values, Rises, IsRow}
 use Rattle.cf_linear.specs.Systems.{System, Answer, EachRow, Sat}

@@ -1,12 +1,11 @@
 -- Codes with the same marks are the same.
-use Rattle.std.proofs.Common.{◌≡◌, ◌≢◌, ◌==◌, ◌↔◌, ℕ, Bool, true, false, List, [], ◌∷◌, ◌++◌, refl, sym, ◌∙◌, ap, ap₂, subst, append_assoc}
+use Rattle.std.proofs.Common.{◌≡◌, ◌↔◌, ℕ, Bool, true, List, [], ◌∷◌, ◌++◌, refl, sym, ◌∙◌, ap, ap₂, subst, append_assoc}
 use Rattle.std.proofs.lemmas.List.{append-nil}
-use Rattle.std.specs.Prelude.{if◌then◌else◌}
-use Rattle.cf_tree.specs.declared.base.Order.TheVariants.{Eq, Ne, Lt, Le, Gt, Ge}
 use Rattle.cf_tree.specs.CodeTree.{CodeTree, code_lit, code_truth, code_var, code_set_of, code_tuple, code_sum, code_sub, code_mul, code_neg, code_div, code_mod, code_min, code_max, code_compare, code_divides, code_and, code_or, code_not, code_union, code_inter, code_diff, code_subset, code_card, code_slice, code_fresh, code_if, code_let, code_solve, CodeTrees, no_codes, code_more, let_item, need_item, ItemTrees, no_items, item_more, arm_of, ArmTrees, no_arms, arm_more}
 use Rattle.cf_cert.specs.declared.marks.Mark.{Mark}
-use Rattle.cf_cert.specs.declared.marks.Mark.TheVariants.{Lit, Truth, Var, SetOf, Tuple, Sum, Sub, Mul, Neg, Div, Mod, Min, Max, Compare, Divides, And, Or, Not, Union, Inter, Diff, Subset, Card, Slice, Fresh, If, Let, Solve, Bound, LetItem, NeedItem, More, End}
-use Rattle.cf_cert.specs.Marks.{MarkNumbers, numbers_of, bounds_marks, code_marks, codes_marks, items_marks, arms_marks}
+use Rattle.cf_cert.specs.declared.marks.Form.TheVariants.{SetOf, Tuple, Sum, Sub, Mul, Neg, Min, Max, And, Or, Not, Union, Inter, Diff, Subset, Card, Slice, Fresh, If, LetItem, NeedItem, More, End}
+use Rattle.cf_cert.specs.declared.marks.Mark.TheVariants.{Form, Lit, Truth, Var, Div, Mod, Compare, Divides, Let, Solve, Bound}
+use Rattle.cf_cert.specs.Marks.{bounds_marks, code_marks, codes_marks, items_marks, arms_marks}
 
 -- ---- what begins with a mark, where s stands behind it
 abbrev Leaf : CodeTree → CodeTree → List Mark → List Mark → Type 0
@@ -28,177 +27,54 @@ abbrev CodeBegins : Mark → CodeTree → List Mark → List Mark → Type 0
 CodeBegins (Lit k) c s ms = Leaf c (code_lit k) s ms
 CodeBegins (Truth t) c s ms = Leaf c (code_truth t) s ms
 CodeBegins (Var x) c s ms = Leaf c (code_var x) s ms
-CodeBegins SetOf c s ms = Listed code_set_of c s ms
-CodeBegins Tuple c s ms = Listed code_tuple c s ms
-CodeBegins Sum c s ms = Listed code_sum c s ms
-CodeBegins Sub c s ms = Two code_sub c s ms
-CodeBegins Mul c s ms = Two code_mul c s ms
-CodeBegins Neg c s ms = One code_neg c s ms
+CodeBegins (Form SetOf) c s ms = Listed code_set_of c s ms
+CodeBegins (Form Tuple) c s ms = Listed code_tuple c s ms
+CodeBegins (Form Sum) c s ms = Listed code_sum c s ms
+CodeBegins (Form Sub) c s ms = Two code_sub c s ms
+CodeBegins (Form Mul) c s ms = Two code_mul c s ms
+CodeBegins (Form Neg) c s ms = One code_neg c s ms
 CodeBegins (Div k) c s ms = One (λ a. code_div a k) c s ms
 CodeBegins (Mod k) c s ms = One (λ a. code_mod a k) c s ms
-CodeBegins Min c s ms = Listed code_min c s ms
-CodeBegins Max c s ms = Listed code_max c s ms
+CodeBegins (Form Min) c s ms = Listed code_min c s ms
+CodeBegins (Form Max) c s ms = Listed code_max c s ms
 CodeBegins (Compare o) c s ms = Two (code_compare o) c s ms
 CodeBegins (Divides k) c s ms = One (code_divides k) c s ms
-CodeBegins And c s ms = Two code_and c s ms
-CodeBegins Or c s ms = Two code_or c s ms
-CodeBegins Not c s ms = One code_not c s ms
-CodeBegins Union c s ms = Listed code_union c s ms
-CodeBegins Inter c s ms = Listed code_inter c s ms
-CodeBegins Diff c s ms = Two code_diff c s ms
-CodeBegins Subset c s ms = Two code_subset c s ms
-CodeBegins Card c s ms = One code_card c s ms
-CodeBegins Slice c s ms = Three code_slice c s ms
-CodeBegins Fresh c s ms = Two code_fresh c s ms
-CodeBegins If c s ms = Three code_if c s ms
+CodeBegins (Form And) c s ms = Two code_and c s ms
+CodeBegins (Form Or) c s ms = Two code_or c s ms
+CodeBegins (Form Not) c s ms = One code_not c s ms
+CodeBegins (Form Union) c s ms = Listed code_union c s ms
+CodeBegins (Form Inter) c s ms = Listed code_inter c s ms
+CodeBegins (Form Diff) c s ms = Two code_diff c s ms
+CodeBegins (Form Subset) c s ms = Two code_subset c s ms
+CodeBegins (Form Card) c s ms = One code_card c s ms
+CodeBegins (Form Slice) c s ms = Three code_slice c s ms
+CodeBegins (Form Fresh) c s ms = Two code_fresh c s ms
+CodeBegins (Form If) c s ms = Three code_if c s ms
 CodeBegins (Let first n) c s ms = Two (code_let first n) c s ms
 CodeBegins (Solve n) c s ms = (arms : ArmTrees) × (c ≡ code_solve n arms) × (ms ≡ arms_marks arms ++ s)
-CodeBegins (Bound n) c s ms = ⊥
-CodeBegins LetItem c s ms = ⊥
-CodeBegins NeedItem c s ms = ⊥
-CodeBegins More c s ms = ⊥
-CodeBegins End c s ms = ⊥
+CodeBegins n c s ms = ⊥
 
 abbrev CodesBegin : Mark → CodeTrees → List Mark → List Mark → Type 0
-CodesBegin (Lit k) cs s ms = ⊥
-CodesBegin (Truth t) cs s ms = ⊥
-CodesBegin (Var x) cs s ms = ⊥
-CodesBegin SetOf cs s ms = ⊥
-CodesBegin Tuple cs s ms = ⊥
-CodesBegin Sum cs s ms = ⊥
-CodesBegin Sub cs s ms = ⊥
-CodesBegin Mul cs s ms = ⊥
-CodesBegin Neg cs s ms = ⊥
-CodesBegin (Div k) cs s ms = ⊥
-CodesBegin (Mod k) cs s ms = ⊥
-CodesBegin Min cs s ms = ⊥
-CodesBegin Max cs s ms = ⊥
-CodesBegin (Compare o) cs s ms = ⊥
-CodesBegin (Divides k) cs s ms = ⊥
-CodesBegin And cs s ms = ⊥
-CodesBegin Or cs s ms = ⊥
-CodesBegin Not cs s ms = ⊥
-CodesBegin Union cs s ms = ⊥
-CodesBegin Inter cs s ms = ⊥
-CodesBegin Diff cs s ms = ⊥
-CodesBegin Subset cs s ms = ⊥
-CodesBegin Card cs s ms = ⊥
-CodesBegin Slice cs s ms = ⊥
-CodesBegin Fresh cs s ms = ⊥
-CodesBegin If cs s ms = ⊥
-CodesBegin (Let first n) cs s ms = ⊥
-CodesBegin (Solve n) cs s ms = ⊥
-CodesBegin (Bound n) cs s ms = ⊥
-CodesBegin LetItem cs s ms = ⊥
-CodesBegin NeedItem cs s ms = ⊥
-CodesBegin More cs s ms = (c : CodeTree) × (rest : CodeTrees) × (cs ≡ code_more c rest) × (ms ≡ (code_marks c ++ codes_marks rest) ++ s)
-CodesBegin End cs s ms = (cs ≡ no_codes) × (ms ≡ s)
+CodesBegin (Form More) cs s ms = (c : CodeTree) × (rest : CodeTrees) × (cs ≡ code_more c rest) × (ms ≡ (code_marks c ++ codes_marks rest) ++ s)
+CodesBegin (Form End) cs s ms = (cs ≡ no_codes) × (ms ≡ s)
+CodesBegin n cs s ms = ⊥
 
 abbrev ItemsBegin : Mark → ItemTrees → List Mark → List Mark → Type 0
-ItemsBegin (Lit k) is s ms = ⊥
-ItemsBegin (Truth t) is s ms = ⊥
-ItemsBegin (Var x) is s ms = ⊥
-ItemsBegin SetOf is s ms = ⊥
-ItemsBegin Tuple is s ms = ⊥
-ItemsBegin Sum is s ms = ⊥
-ItemsBegin Sub is s ms = ⊥
-ItemsBegin Mul is s ms = ⊥
-ItemsBegin Neg is s ms = ⊥
-ItemsBegin (Div k) is s ms = ⊥
-ItemsBegin (Mod k) is s ms = ⊥
-ItemsBegin Min is s ms = ⊥
-ItemsBegin Max is s ms = ⊥
-ItemsBegin (Compare o) is s ms = ⊥
-ItemsBegin (Divides k) is s ms = ⊥
-ItemsBegin And is s ms = ⊥
-ItemsBegin Or is s ms = ⊥
-ItemsBegin Not is s ms = ⊥
-ItemsBegin Union is s ms = ⊥
-ItemsBegin Inter is s ms = ⊥
-ItemsBegin Diff is s ms = ⊥
-ItemsBegin Subset is s ms = ⊥
-ItemsBegin Card is s ms = ⊥
-ItemsBegin Slice is s ms = ⊥
-ItemsBegin Fresh is s ms = ⊥
-ItemsBegin If is s ms = ⊥
-ItemsBegin (Let first n) is s ms = ⊥
-ItemsBegin (Solve n) is s ms = ⊥
-ItemsBegin (Bound n) is s ms = ⊥
-ItemsBegin LetItem is s ms = (c : CodeTree) × (rest : ItemTrees) × (is ≡ item_more (let_item c) rest) × (ms ≡ (code_marks c ++ items_marks rest) ++ s)
-ItemsBegin NeedItem is s ms = (c : CodeTree) × (rest : ItemTrees) × (is ≡ item_more (need_item c) rest) × (ms ≡ (code_marks c ++ items_marks rest) ++ s)
-ItemsBegin More is s ms = ⊥
-ItemsBegin End is s ms = (is ≡ no_items) × (ms ≡ s)
+ItemsBegin (Form LetItem) is s ms = (c : CodeTree) × (rest : ItemTrees) × (is ≡ item_more (let_item c) rest) × (ms ≡ (code_marks c ++ items_marks rest) ++ s)
+ItemsBegin (Form NeedItem) is s ms = (c : CodeTree) × (rest : ItemTrees) × (is ≡ item_more (need_item c) rest) × (ms ≡ (code_marks c ++ items_marks rest) ++ s)
+ItemsBegin (Form End) is s ms = (is ≡ no_items) × (ms ≡ s)
+ItemsBegin n is s ms = ⊥
 
 abbrev ArmsBegin : Mark → ArmTrees → List Mark → List Mark → Type 0
-ArmsBegin (Lit k) arms s ms = ⊥
-ArmsBegin (Truth t) arms s ms = ⊥
-ArmsBegin (Var x) arms s ms = ⊥
-ArmsBegin SetOf arms s ms = ⊥
-ArmsBegin Tuple arms s ms = ⊥
-ArmsBegin Sum arms s ms = ⊥
-ArmsBegin Sub arms s ms = ⊥
-ArmsBegin Mul arms s ms = ⊥
-ArmsBegin Neg arms s ms = ⊥
-ArmsBegin (Div k) arms s ms = ⊥
-ArmsBegin (Mod k) arms s ms = ⊥
-ArmsBegin Min arms s ms = ⊥
-ArmsBegin Max arms s ms = ⊥
-ArmsBegin (Compare o) arms s ms = ⊥
-ArmsBegin (Divides k) arms s ms = ⊥
-ArmsBegin And arms s ms = ⊥
-ArmsBegin Or arms s ms = ⊥
-ArmsBegin Not arms s ms = ⊥
-ArmsBegin Union arms s ms = ⊥
-ArmsBegin Inter arms s ms = ⊥
-ArmsBegin Diff arms s ms = ⊥
-ArmsBegin Subset arms s ms = ⊥
-ArmsBegin Card arms s ms = ⊥
-ArmsBegin Slice arms s ms = ⊥
-ArmsBegin Fresh arms s ms = ⊥
-ArmsBegin If arms s ms = ⊥
-ArmsBegin (Let first n) arms s ms = ⊥
-ArmsBegin (Solve n) arms s ms = ⊥
-ArmsBegin (Bound n) arms s ms = ⊥
-ArmsBegin LetItem arms s ms = ⊥
-ArmsBegin NeedItem arms s ms = ⊥
-ArmsBegin More arms s ms = (bounds : List ℕ) × (is : ItemTrees) × (gives : CodeTrees) × (rest : ArmTrees) × (arms ≡ arm_more (arm_of bounds is gives) rest) ×
+ArmsBegin (Form More) arms s ms = (bounds : List ℕ) × (is : ItemTrees) × (gives : CodeTrees) × (rest : ArmTrees) × (arms ≡ arm_more (arm_of bounds is gives) rest) ×
     (ms ≡ ((bounds_marks bounds ++ items_marks is ++ codes_marks gives) ++ arms_marks rest) ++ s)
-ArmsBegin End arms s ms = (arms ≡ no_arms) × (ms ≡ s)
+ArmsBegin (Form End) arms s ms = (arms ≡ no_arms) × (ms ≡ s)
+ArmsBegin n arms s ms = ⊥
 
 abbrev BoundsBegin : Mark → List ℕ → List Mark → List Mark → Type 0
-BoundsBegin (Lit k) bs s ms = ⊥
-BoundsBegin (Truth t) bs s ms = ⊥
-BoundsBegin (Var x) bs s ms = ⊥
-BoundsBegin SetOf bs s ms = ⊥
-BoundsBegin Tuple bs s ms = ⊥
-BoundsBegin Sum bs s ms = ⊥
-BoundsBegin Sub bs s ms = ⊥
-BoundsBegin Mul bs s ms = ⊥
-BoundsBegin Neg bs s ms = ⊥
-BoundsBegin (Div k) bs s ms = ⊥
-BoundsBegin (Mod k) bs s ms = ⊥
-BoundsBegin Min bs s ms = ⊥
-BoundsBegin Max bs s ms = ⊥
-BoundsBegin (Compare o) bs s ms = ⊥
-BoundsBegin (Divides k) bs s ms = ⊥
-BoundsBegin And bs s ms = ⊥
-BoundsBegin Or bs s ms = ⊥
-BoundsBegin Not bs s ms = ⊥
-BoundsBegin Union bs s ms = ⊥
-BoundsBegin Inter bs s ms = ⊥
-BoundsBegin Diff bs s ms = ⊥
-BoundsBegin Subset bs s ms = ⊥
-BoundsBegin Card bs s ms = ⊥
-BoundsBegin Slice bs s ms = ⊥
-BoundsBegin Fresh bs s ms = ⊥
-BoundsBegin If bs s ms = ⊥
-BoundsBegin (Let first n) bs s ms = ⊥
-BoundsBegin (Solve n) bs s ms = ⊥
 BoundsBegin (Bound n) bs s ms = (rest : List ℕ) × (bs ≡ n ∷ rest) × (ms ≡ bounds_marks rest ++ s)
-BoundsBegin LetItem bs s ms = ⊥
-BoundsBegin NeedItem bs s ms = ⊥
-BoundsBegin More bs s ms = ⊥
-BoundsBegin End bs s ms = (bs ≡ []) × (ms ≡ s)
+BoundsBegin (Form End) bs s ms = (bs ≡ []) × (ms ≡ s)
+BoundsBegin n bs s ms = ⊥
 
 -- what holds of a mark and what follows it holds of equal ones
 carried : (P : Mark → List Mark → Type 0) (m n : Mark) (ms ns : List Mark) → m ∷ ms ≡ n ∷ ns → P m ms → P n ns
@@ -208,48 +84,48 @@ code_begins : (c : CodeTree) (s : List Mark) (n : Mark) (ns : List Mark) → cod
 code_begins (code_lit k) s n ns e = carried (λ y xs. CodeBegins y (code_lit k) s xs) (Lit k) n _ ns e (refl, refl)
 code_begins (code_truth k) s n ns e = carried (λ y xs. CodeBegins y (code_truth k) s xs) (Truth k) n _ ns e (refl, refl)
 code_begins (code_var x) s n ns e = carried (λ y xs. CodeBegins y (code_var x) s xs) (Var x) n _ ns e (refl, refl)
-code_begins (code_set_of cs) s n ns e = carried (λ y xs. CodeBegins y (code_set_of cs) s xs) SetOf n _ ns e (cs, refl, refl)
-code_begins (code_tuple cs) s n ns e = carried (λ y xs. CodeBegins y (code_tuple cs) s xs) Tuple n _ ns e (cs, refl, refl)
-code_begins (code_sum cs) s n ns e = carried (λ y xs. CodeBegins y (code_sum cs) s xs) Sum n _ ns e (cs, refl, refl)
-code_begins (code_sub a b) s n ns e = carried (λ y xs. CodeBegins y (code_sub a b) s xs) Sub n _ ns e (a, b, refl, refl)
-code_begins (code_mul a b) s n ns e = carried (λ y xs. CodeBegins y (code_mul a b) s xs) Mul n _ ns e (a, b, refl, refl)
-code_begins (code_neg a) s n ns e = carried (λ y xs. CodeBegins y (code_neg a) s xs) Neg n _ ns e (a, refl, refl)
+code_begins (code_set_of cs) s n ns e = carried (λ y xs. CodeBegins y (code_set_of cs) s xs) (Form SetOf) n _ ns e (cs, refl, refl)
+code_begins (code_tuple cs) s n ns e = carried (λ y xs. CodeBegins y (code_tuple cs) s xs) (Form Tuple) n _ ns e (cs, refl, refl)
+code_begins (code_sum cs) s n ns e = carried (λ y xs. CodeBegins y (code_sum cs) s xs) (Form Sum) n _ ns e (cs, refl, refl)
+code_begins (code_sub a b) s n ns e = carried (λ y xs. CodeBegins y (code_sub a b) s xs) (Form Sub) n _ ns e (a, b, refl, refl)
+code_begins (code_mul a b) s n ns e = carried (λ y xs. CodeBegins y (code_mul a b) s xs) (Form Mul) n _ ns e (a, b, refl, refl)
+code_begins (code_neg a) s n ns e = carried (λ y xs. CodeBegins y (code_neg a) s xs) (Form Neg) n _ ns e (a, refl, refl)
 code_begins (code_div a k) s n ns e = carried (λ y xs. CodeBegins y (code_div a k) s xs) (Div k) n _ ns e (a, refl, refl)
 code_begins (code_mod a k) s n ns e = carried (λ y xs. CodeBegins y (code_mod a k) s xs) (Mod k) n _ ns e (a, refl, refl)
-code_begins (code_min cs) s n ns e = carried (λ y xs. CodeBegins y (code_min cs) s xs) Min n _ ns e (cs, refl, refl)
-code_begins (code_max cs) s n ns e = carried (λ y xs. CodeBegins y (code_max cs) s xs) Max n _ ns e (cs, refl, refl)
+code_begins (code_min cs) s n ns e = carried (λ y xs. CodeBegins y (code_min cs) s xs) (Form Min) n _ ns e (cs, refl, refl)
+code_begins (code_max cs) s n ns e = carried (λ y xs. CodeBegins y (code_max cs) s xs) (Form Max) n _ ns e (cs, refl, refl)
 code_begins (code_compare o a b) s n ns e = carried (λ y xs. CodeBegins y (code_compare o a b) s xs) (Compare o) n _ ns e (a, b, refl, refl)
 code_begins (code_divides k a) s n ns e = carried (λ y xs. CodeBegins y (code_divides k a) s xs) (Divides k) n _ ns e (a, refl, refl)
-code_begins (code_and a b) s n ns e = carried (λ y xs. CodeBegins y (code_and a b) s xs) And n _ ns e (a, b, refl, refl)
-code_begins (code_or a b) s n ns e = carried (λ y xs. CodeBegins y (code_or a b) s xs) Or n _ ns e (a, b, refl, refl)
-code_begins (code_not a) s n ns e = carried (λ y xs. CodeBegins y (code_not a) s xs) Not n _ ns e (a, refl, refl)
-code_begins (code_union cs) s n ns e = carried (λ y xs. CodeBegins y (code_union cs) s xs) Union n _ ns e (cs, refl, refl)
-code_begins (code_inter cs) s n ns e = carried (λ y xs. CodeBegins y (code_inter cs) s xs) Inter n _ ns e (cs, refl, refl)
-code_begins (code_diff a b) s n ns e = carried (λ y xs. CodeBegins y (code_diff a b) s xs) Diff n _ ns e (a, b, refl, refl)
-code_begins (code_subset a b) s n ns e = carried (λ y xs. CodeBegins y (code_subset a b) s xs) Subset n _ ns e (a, b, refl, refl)
-code_begins (code_card a) s n ns e = carried (λ y xs. CodeBegins y (code_card a) s xs) Card n _ ns e (a, refl, refl)
-code_begins (code_slice a b d) s n ns e = carried (λ y xs. CodeBegins y (code_slice a b d) s xs) Slice n _ ns e (a, b, d, refl, refl)
-code_begins (code_fresh a b) s n ns e = carried (λ y xs. CodeBegins y (code_fresh a b) s xs) Fresh n _ ns e (a, b, refl, refl)
-code_begins (code_if a b d) s n ns e = carried (λ y xs. CodeBegins y (code_if a b d) s xs) If n _ ns e (a, b, d, refl, refl)
+code_begins (code_and a b) s n ns e = carried (λ y xs. CodeBegins y (code_and a b) s xs) (Form And) n _ ns e (a, b, refl, refl)
+code_begins (code_or a b) s n ns e = carried (λ y xs. CodeBegins y (code_or a b) s xs) (Form Or) n _ ns e (a, b, refl, refl)
+code_begins (code_not a) s n ns e = carried (λ y xs. CodeBegins y (code_not a) s xs) (Form Not) n _ ns e (a, refl, refl)
+code_begins (code_union cs) s n ns e = carried (λ y xs. CodeBegins y (code_union cs) s xs) (Form Union) n _ ns e (cs, refl, refl)
+code_begins (code_inter cs) s n ns e = carried (λ y xs. CodeBegins y (code_inter cs) s xs) (Form Inter) n _ ns e (cs, refl, refl)
+code_begins (code_diff a b) s n ns e = carried (λ y xs. CodeBegins y (code_diff a b) s xs) (Form Diff) n _ ns e (a, b, refl, refl)
+code_begins (code_subset a b) s n ns e = carried (λ y xs. CodeBegins y (code_subset a b) s xs) (Form Subset) n _ ns e (a, b, refl, refl)
+code_begins (code_card a) s n ns e = carried (λ y xs. CodeBegins y (code_card a) s xs) (Form Card) n _ ns e (a, refl, refl)
+code_begins (code_slice a b d) s n ns e = carried (λ y xs. CodeBegins y (code_slice a b d) s xs) (Form Slice) n _ ns e (a, b, d, refl, refl)
+code_begins (code_fresh a b) s n ns e = carried (λ y xs. CodeBegins y (code_fresh a b) s xs) (Form Fresh) n _ ns e (a, b, refl, refl)
+code_begins (code_if a b d) s n ns e = carried (λ y xs. CodeBegins y (code_if a b d) s xs) (Form If) n _ ns e (a, b, d, refl, refl)
 code_begins (code_let first k a b) s n ns e = carried (λ y xs. CodeBegins y (code_let first k a b) s xs) (Let first k) n _ ns e (a, b, refl, refl)
 code_begins (code_solve k arms) s n ns e = carried (λ y xs. CodeBegins y (code_solve k arms) s xs) (Solve k) n _ ns e (arms, refl, refl)
 
 codes_begin : (cs : CodeTrees) (s : List Mark) (n : Mark) (ns : List Mark) → codes_marks cs ++ s ≡ n ∷ ns → CodesBegin n cs s ns
-codes_begin no_codes s n ns e = carried (λ x xs. CodesBegin x no_codes s xs) End n _ ns e (refl, refl)
-codes_begin (code_more c cs) s n ns e = carried (λ x xs. CodesBegin x (code_more c cs) s xs) More n _ ns e (c, cs, refl, refl)
+codes_begin no_codes s n ns e = carried (λ x xs. CodesBegin x no_codes s xs) (Form End) n _ ns e (refl, refl)
+codes_begin (code_more c cs) s n ns e = carried (λ x xs. CodesBegin x (code_more c cs) s xs) (Form More) n _ ns e (c, cs, refl, refl)
 
 items_begin : (is : ItemTrees) (s : List Mark) (n : Mark) (ns : List Mark) → items_marks is ++ s ≡ n ∷ ns → ItemsBegin n is s ns
-items_begin no_items s n ns e = carried (λ x xs. ItemsBegin x no_items s xs) End n _ ns e (refl, refl)
-items_begin (item_more (let_item c) is) s n ns e = carried (λ x xs. ItemsBegin x (item_more (let_item c) is) s xs) LetItem n _ ns e (c, is, refl, refl)
-items_begin (item_more (need_item c) is) s n ns e = carried (λ x xs. ItemsBegin x (item_more (need_item c) is) s xs) NeedItem n _ ns e (c, is, refl, refl)
+items_begin no_items s n ns e = carried (λ x xs. ItemsBegin x no_items s xs) (Form End) n _ ns e (refl, refl)
+items_begin (item_more (let_item c) is) s n ns e = carried (λ x xs. ItemsBegin x (item_more (let_item c) is) s xs) (Form LetItem) n _ ns e (c, is, refl, refl)
+items_begin (item_more (need_item c) is) s n ns e = carried (λ x xs. ItemsBegin x (item_more (need_item c) is) s xs) (Form NeedItem) n _ ns e (c, is, refl, refl)
 
 arms_begin : (arms : ArmTrees) (s : List Mark) (n : Mark) (ns : List Mark) → arms_marks arms ++ s ≡ n ∷ ns → ArmsBegin n arms s ns
-arms_begin no_arms s n ns e = carried (λ x xs. ArmsBegin x no_arms s xs) End n _ ns e (refl, refl)
+arms_begin no_arms s n ns e = carried (λ x xs. ArmsBegin x no_arms s xs) (Form End) n _ ns e (refl, refl)
 arms_begin (arm_more (arm_of bounds is gives) arms) s n ns e =
-    carried (λ x xs. ArmsBegin x (arm_more (arm_of bounds is gives) arms) s xs) More n _ ns e (bounds, is, gives, arms, refl, refl)
+    carried (λ x xs. ArmsBegin x (arm_more (arm_of bounds is gives) arms) s xs) (Form More) n _ ns e (bounds, is, gives, arms, refl, refl)
 
 bounds_begin : (bs : List ℕ) (s : List Mark) (n : Mark) (ns : List Mark) → bounds_marks bs ++ s ≡ n ∷ ns → BoundsBegin n bs s ns
-bounds_begin [] s n ns e = carried (λ x xs. BoundsBegin x [] s xs) End n _ ns e (refl, refl)
+bounds_begin [] s n ns e = carried (λ x xs. BoundsBegin x [] s xs) (Form End) n _ ns e (refl, refl)
 bounds_begin (b ∷ bs) s n ns e = carried (λ x xs. BoundsBegin x (b ∷ bs) s xs) (Bound b) n _ ns e (bs, refl, refl)
 
 -- ---- the first part of two equal lists of marks, and the rest
@@ -261,7 +137,7 @@ parted_twice a p r s b o q t e = parted a p (r ++ s) b o (q ++ t) (parted (a ++ 
 
 -- ---- both lists are of one code, and the same stands behind them
 same_bounds : (as_ bs : List ℕ) (s t : List Mark) → bounds_marks as_ ++ s ≡ bounds_marks bs ++ t → (as_ ≡ bs) × (s ≡ t)
-same_bounds [] bs s t e = let f = bounds_begin bs t End s (sym e) in (sym f.0, f.1)
+same_bounds [] bs s t e = let f = bounds_begin bs t (Form End) s (sym e) in (sym f.0, f.1)
 same_bounds (a ∷ as_) bs s t e =
     let f = bounds_begin bs t (Bound a) (bounds_marks as_ ++ s) (sym e) in
     let g = same_bounds as_ f.0 s t f.2 in
@@ -273,31 +149,31 @@ mutual
   same_code (code_truth k) w s t e = let f = code_begins w t (Truth k) s (sym e) in (sym f.0, f.1)
   same_code (code_var x) w s t e = let f = code_begins w t (Var x) s (sym e) in (sym f.0, f.1)
   same_code (code_set_of cs) w s t e =
-      let f = code_begins w t SetOf (codes_marks cs ++ s) (sym e) in let g = same_codes cs f.0 s t f.2 in (ap code_set_of g.0 ∙ sym f.1, g.1)
+      let f = code_begins w t (Form SetOf) (codes_marks cs ++ s) (sym e) in let g = same_codes cs f.0 s t f.2 in (ap code_set_of g.0 ∙ sym f.1, g.1)
   same_code (code_tuple cs) w s t e =
-      let f = code_begins w t Tuple (codes_marks cs ++ s) (sym e) in let g = same_codes cs f.0 s t f.2 in (ap code_tuple g.0 ∙ sym f.1, g.1)
+      let f = code_begins w t (Form Tuple) (codes_marks cs ++ s) (sym e) in let g = same_codes cs f.0 s t f.2 in (ap code_tuple g.0 ∙ sym f.1, g.1)
   same_code (code_sum cs) w s t e =
-      let f = code_begins w t Sum (codes_marks cs ++ s) (sym e) in let g = same_codes cs f.0 s t f.2 in (ap code_sum g.0 ∙ sym f.1, g.1)
+      let f = code_begins w t (Form Sum) (codes_marks cs ++ s) (sym e) in let g = same_codes cs f.0 s t f.2 in (ap code_sum g.0 ∙ sym f.1, g.1)
   same_code (code_sub a b) w s t e =
-      let f = code_begins w t Sub ((code_marks a ++ code_marks b) ++ s) (sym e) in
+      let f = code_begins w t (Form Sub) ((code_marks a ++ code_marks b) ++ s) (sym e) in
       let g = same_code a f.0 (code_marks b ++ s) (code_marks f.1 ++ t) (parted (code_marks a) (code_marks b) s (code_marks f.0) (code_marks f.1) t f.3) in
       let h = same_code b f.1 s t g.1 in
       (ap₂ code_sub g.0 h.0 ∙ sym f.2, h.1)
   same_code (code_mul a b) w s t e =
-      let f = code_begins w t Mul ((code_marks a ++ code_marks b) ++ s) (sym e) in
+      let f = code_begins w t (Form Mul) ((code_marks a ++ code_marks b) ++ s) (sym e) in
       let g = same_code a f.0 (code_marks b ++ s) (code_marks f.1 ++ t) (parted (code_marks a) (code_marks b) s (code_marks f.0) (code_marks f.1) t f.3) in
       let h = same_code b f.1 s t g.1 in
       (ap₂ code_mul g.0 h.0 ∙ sym f.2, h.1)
   same_code (code_neg a) w s t e =
-      let f = code_begins w t Neg (code_marks a ++ s) (sym e) in let g = same_code a f.0 s t f.2 in (ap code_neg g.0 ∙ sym f.1, g.1)
+      let f = code_begins w t (Form Neg) (code_marks a ++ s) (sym e) in let g = same_code a f.0 s t f.2 in (ap code_neg g.0 ∙ sym f.1, g.1)
   same_code (code_div a k) w s t e =
       let f = code_begins w t (Div k) (code_marks a ++ s) (sym e) in let g = same_code a f.0 s t f.2 in (ap (λ z. code_div z k) g.0 ∙ sym f.1, g.1)
   same_code (code_mod a k) w s t e =
       let f = code_begins w t (Mod k) (code_marks a ++ s) (sym e) in let g = same_code a f.0 s t f.2 in (ap (λ z. code_mod z k) g.0 ∙ sym f.1, g.1)
   same_code (code_min cs) w s t e =
-      let f = code_begins w t Min (codes_marks cs ++ s) (sym e) in let g = same_codes cs f.0 s t f.2 in (ap code_min g.0 ∙ sym f.1, g.1)
+      let f = code_begins w t (Form Min) (codes_marks cs ++ s) (sym e) in let g = same_codes cs f.0 s t f.2 in (ap code_min g.0 ∙ sym f.1, g.1)
   same_code (code_max cs) w s t e =
-      let f = code_begins w t Max (codes_marks cs ++ s) (sym e) in let g = same_codes cs f.0 s t f.2 in (ap code_max g.0 ∙ sym f.1, g.1)
+      let f = code_begins w t (Form Max) (codes_marks cs ++ s) (sym e) in let g = same_codes cs f.0 s t f.2 in (ap code_max g.0 ∙ sym f.1, g.1)
   same_code (code_compare o a b) w s t e =
       let f = code_begins w t (Compare o) ((code_marks a ++ code_marks b) ++ s) (sym e) in
       let g = same_code a f.0 (code_marks b ++ s) (code_marks f.1 ++ t) (parted (code_marks a) (code_marks b) s (code_marks f.0) (code_marks f.1) t f.3) in
@@ -306,47 +182,47 @@ mutual
   same_code (code_divides k a) w s t e =
       let f = code_begins w t (Divides k) (code_marks a ++ s) (sym e) in let g = same_code a f.0 s t f.2 in (ap (code_divides k) g.0 ∙ sym f.1, g.1)
   same_code (code_and a b) w s t e =
-      let f = code_begins w t And ((code_marks a ++ code_marks b) ++ s) (sym e) in
+      let f = code_begins w t (Form And) ((code_marks a ++ code_marks b) ++ s) (sym e) in
       let g = same_code a f.0 (code_marks b ++ s) (code_marks f.1 ++ t) (parted (code_marks a) (code_marks b) s (code_marks f.0) (code_marks f.1) t f.3) in
       let h = same_code b f.1 s t g.1 in
       (ap₂ code_and g.0 h.0 ∙ sym f.2, h.1)
   same_code (code_or a b) w s t e =
-      let f = code_begins w t Or ((code_marks a ++ code_marks b) ++ s) (sym e) in
+      let f = code_begins w t (Form Or) ((code_marks a ++ code_marks b) ++ s) (sym e) in
       let g = same_code a f.0 (code_marks b ++ s) (code_marks f.1 ++ t) (parted (code_marks a) (code_marks b) s (code_marks f.0) (code_marks f.1) t f.3) in
       let h = same_code b f.1 s t g.1 in
       (ap₂ code_or g.0 h.0 ∙ sym f.2, h.1)
   same_code (code_not a) w s t e =
-      let f = code_begins w t Not (code_marks a ++ s) (sym e) in let g = same_code a f.0 s t f.2 in (ap code_not g.0 ∙ sym f.1, g.1)
+      let f = code_begins w t (Form Not) (code_marks a ++ s) (sym e) in let g = same_code a f.0 s t f.2 in (ap code_not g.0 ∙ sym f.1, g.1)
   same_code (code_union cs) w s t e =
-      let f = code_begins w t Union (codes_marks cs ++ s) (sym e) in let g = same_codes cs f.0 s t f.2 in (ap code_union g.0 ∙ sym f.1, g.1)
+      let f = code_begins w t (Form Union) (codes_marks cs ++ s) (sym e) in let g = same_codes cs f.0 s t f.2 in (ap code_union g.0 ∙ sym f.1, g.1)
   same_code (code_inter cs) w s t e =
-      let f = code_begins w t Inter (codes_marks cs ++ s) (sym e) in let g = same_codes cs f.0 s t f.2 in (ap code_inter g.0 ∙ sym f.1, g.1)
+      let f = code_begins w t (Form Inter) (codes_marks cs ++ s) (sym e) in let g = same_codes cs f.0 s t f.2 in (ap code_inter g.0 ∙ sym f.1, g.1)
   same_code (code_diff a b) w s t e =
-      let f = code_begins w t Diff ((code_marks a ++ code_marks b) ++ s) (sym e) in
+      let f = code_begins w t (Form Diff) ((code_marks a ++ code_marks b) ++ s) (sym e) in
       let g = same_code a f.0 (code_marks b ++ s) (code_marks f.1 ++ t) (parted (code_marks a) (code_marks b) s (code_marks f.0) (code_marks f.1) t f.3) in
       let h = same_code b f.1 s t g.1 in
       (ap₂ code_diff g.0 h.0 ∙ sym f.2, h.1)
   same_code (code_subset a b) w s t e =
-      let f = code_begins w t Subset ((code_marks a ++ code_marks b) ++ s) (sym e) in
+      let f = code_begins w t (Form Subset) ((code_marks a ++ code_marks b) ++ s) (sym e) in
       let g = same_code a f.0 (code_marks b ++ s) (code_marks f.1 ++ t) (parted (code_marks a) (code_marks b) s (code_marks f.0) (code_marks f.1) t f.3) in
       let h = same_code b f.1 s t g.1 in
       (ap₂ code_subset g.0 h.0 ∙ sym f.2, h.1)
   same_code (code_card a) w s t e =
-      let f = code_begins w t Card (code_marks a ++ s) (sym e) in let g = same_code a f.0 s t f.2 in (ap code_card g.0 ∙ sym f.1, g.1)
+      let f = code_begins w t (Form Card) (code_marks a ++ s) (sym e) in let g = same_code a f.0 s t f.2 in (ap code_card g.0 ∙ sym f.1, g.1)
   same_code (code_slice a b d) w s t e =
-      let f = code_begins w t Slice ((code_marks a ++ code_marks b ++ code_marks d) ++ s) (sym e) in
+      let f = code_begins w t (Form Slice) ((code_marks a ++ code_marks b ++ code_marks d) ++ s) (sym e) in
       let p = parted_twice (code_marks a) (code_marks b) (code_marks d) s (code_marks f.0) (code_marks f.1) (code_marks f.2) t f.4 in
       let g = same_code a f.0 (code_marks b ++ (code_marks d ++ s)) (code_marks f.1 ++ (code_marks f.2 ++ t)) p in
       let h = same_code b f.1 (code_marks d ++ s) (code_marks f.2 ++ t) g.1 in
       let k = same_code d f.2 s t h.1 in
       (ap₂ (λ y z. code_slice y z d) g.0 h.0 ∙ ap (λ z. code_slice f.0 f.1 z) k.0 ∙ sym f.3, k.1)
   same_code (code_fresh a b) w s t e =
-      let f = code_begins w t Fresh ((code_marks a ++ code_marks b) ++ s) (sym e) in
+      let f = code_begins w t (Form Fresh) ((code_marks a ++ code_marks b) ++ s) (sym e) in
       let g = same_code a f.0 (code_marks b ++ s) (code_marks f.1 ++ t) (parted (code_marks a) (code_marks b) s (code_marks f.0) (code_marks f.1) t f.3) in
       let h = same_code b f.1 s t g.1 in
       (ap₂ code_fresh g.0 h.0 ∙ sym f.2, h.1)
   same_code (code_if a b d) w s t e =
-      let f = code_begins w t If ((code_marks a ++ code_marks b ++ code_marks d) ++ s) (sym e) in
+      let f = code_begins w t (Form If) ((code_marks a ++ code_marks b ++ code_marks d) ++ s) (sym e) in
       let p = parted_twice (code_marks a) (code_marks b) (code_marks d) s (code_marks f.0) (code_marks f.1) (code_marks f.2) t f.4 in
       let g = same_code a f.0 (code_marks b ++ (code_marks d ++ s)) (code_marks f.1 ++ (code_marks f.2 ++ t)) p in
       let h = same_code b f.1 (code_marks d ++ s) (code_marks f.2 ++ t) g.1 in
@@ -361,33 +237,33 @@ mutual
       let f = code_begins w t (Solve k) (arms_marks arms ++ s) (sym e) in let g = same_arms arms f.0 s t f.2 in (ap (code_solve k) g.0 ∙ sym f.1, g.1)
 
   same_codes : (cs ds : CodeTrees) (s t : List Mark) → codes_marks cs ++ s ≡ codes_marks ds ++ t → (cs ≡ ds) × (s ≡ t)
-  same_codes no_codes ds s t e = let f = codes_begin ds t End s (sym e) in (sym f.0, f.1)
+  same_codes no_codes ds s t e = let f = codes_begin ds t (Form End) s (sym e) in (sym f.0, f.1)
   same_codes (code_more c cs) ds s t e =
-      let f = codes_begin ds t More ((code_marks c ++ codes_marks cs) ++ s) (sym e) in
+      let f = codes_begin ds t (Form More) ((code_marks c ++ codes_marks cs) ++ s) (sym e) in
       let g = same_code c f.0 (codes_marks cs ++ s) (codes_marks f.1 ++ t) (parted (code_marks c) (codes_marks cs) s (code_marks f.0) (codes_marks f.1) t f.3)
       in
       let h = same_codes cs f.1 s t g.1 in
       (ap₂ code_more g.0 h.0 ∙ sym f.2, h.1)
 
   same_items : (is js : ItemTrees) (s t : List Mark) → items_marks is ++ s ≡ items_marks js ++ t → (is ≡ js) × (s ≡ t)
-  same_items no_items js s t e = let f = items_begin js t End s (sym e) in (sym f.0, f.1)
+  same_items no_items js s t e = let f = items_begin js t (Form End) s (sym e) in (sym f.0, f.1)
   same_items (item_more (let_item c) is) js s t e =
-      let f = items_begin js t LetItem ((code_marks c ++ items_marks is) ++ s) (sym e) in
+      let f = items_begin js t (Form LetItem) ((code_marks c ++ items_marks is) ++ s) (sym e) in
       let g = same_code c f.0 (items_marks is ++ s) (items_marks f.1 ++ t) (parted (code_marks c) (items_marks is) s (code_marks f.0) (items_marks f.1) t f.3)
       in
       let h = same_items is f.1 s t g.1 in
       (ap₂ (λ y z. item_more (let_item y) z) g.0 h.0 ∙ sym f.2, h.1)
   same_items (item_more (need_item c) is) js s t e =
-      let f = items_begin js t NeedItem ((code_marks c ++ items_marks is) ++ s) (sym e) in
+      let f = items_begin js t (Form NeedItem) ((code_marks c ++ items_marks is) ++ s) (sym e) in
       let g = same_code c f.0 (items_marks is ++ s) (items_marks f.1 ++ t) (parted (code_marks c) (items_marks is) s (code_marks f.0) (items_marks f.1) t f.3)
       in
       let h = same_items is f.1 s t g.1 in
       (ap₂ (λ y z. item_more (need_item y) z) g.0 h.0 ∙ sym f.2, h.1)
 
   same_arms : (as_ bs : ArmTrees) (s t : List Mark) → arms_marks as_ ++ s ≡ arms_marks bs ++ t → (as_ ≡ bs) × (s ≡ t)
-  same_arms no_arms bs s t e = let f = arms_begin bs t End s (sym e) in (sym f.0, f.1)
+  same_arms no_arms bs s t e = let f = arms_begin bs t (Form End) s (sym e) in (sym f.0, f.1)
   same_arms (arm_more (arm_of bounds is gives) as_) bs s t e =
-      let f = arms_begin bs t More (((bounds_marks bounds ++ items_marks is ++ codes_marks gives) ++ arms_marks as_) ++ s) (sym e) in
+      let f = arms_begin bs t (Form More) (((bounds_marks bounds ++ items_marks is ++ codes_marks gives) ++ arms_marks as_) ++ s) (sym e) in
       let p = parted (bounds_marks bounds ++ items_marks is ++ codes_marks gives) (arms_marks as_) s
       (bounds_marks f.0 ++ items_marks f.1 ++ codes_marks f.2) (arms_marks f.3) t f.5 in
       let q = parted_twice (bounds_marks bounds) (items_marks is) (codes_marks gives) (arms_marks as_ ++ s) (bounds_marks f.0) (items_marks f.1)
@@ -405,92 +281,3 @@ marks_tell c d e = (same_code c d [] [] (append-nil (code_marks c) ∙ e ∙ sym
 -- the marks decide whether codes are the same
 pub marks_decide : (c d : CodeTree) (xs ys : List Mark) (r : Bool) → xs ≡ code_marks c → ys ≡ code_marks d → (r ≡ true) ↔ (xs ≡ ys) → (r ≡ true) ↔ (c ≡ d)
 marks_decide c d xs ys r e f h = (λ t. marks_tell c d (sym e ∙ h.0 t ∙ f), λ q. h.1 (e ∙ ap code_marks q ∙ sym f))
-
--- ---- a mark is told by its numbers
-abbrev mark_at : MarkNumbers → Mark
-mark_at n = if n.form == 0 then Lit n.literal else
-    (if n.form == 1 then Truth true else (if n.form == 2 then Truth false else
-    (if n.form == 3 then Var n.first else (if n.form == 4 then SetOf else
-    (if n.form == 5 then Tuple else (if n.form == 6 then Sum else
-    (if n.form == 7 then Sub else (if n.form == 8 then Mul else
-    (if n.form == 9 then Neg else (if n.form == 10 then Div n.literal else
-    (if n.form == 11 then Mod n.literal else
-    (if n.form == 12 then Min else (if n.form == 13 then Max else
-    (if n.form == 14 then Compare Eq else (if n.form == 15 then Compare Ne else
-    (if n.form == 16 then Compare Lt else (if n.form == 17 then Compare Le else
-    (if n.form == 18 then Compare Gt else (if n.form == 19 then Compare Ge else
-    (if n.form == 20 then Divides n.literal else
-    (if n.form == 21 then And else (if n.form == 22 then Or else
-    (if n.form == 23 then Not else (if n.form == 24 then Union else
-    (if n.form == 25 then Inter else (if n.form == 26 then Diff else
-    (if n.form == 27 then Subset else (if n.form == 28 then Card else
-    (if n.form == 29 then Slice else (if n.form == 30 then Fresh else
-    (if n.form == 31 then If else (if n.form == 32 then Let n.first n.second else
-    (if n.form == 33 then Solve n.first else
-    (if n.form == 34 then Bound n.first else
-    (if n.form == 35 then LetItem else (if n.form == 36 then NeedItem else (if n.form == 37 then More else (End))))))))))))))))))))))))))))))))))))))
-
-mark_back : (m : Mark) → mark_at (numbers_of m) ≡ m
-mark_back (Lit k) = refl
-mark_back (Truth true) = refl
-mark_back (Truth false) = refl
-mark_back (Var x) = refl
-mark_back SetOf = refl
-mark_back Tuple = refl
-mark_back Sum = refl
-mark_back Sub = refl
-mark_back Mul = refl
-mark_back Neg = refl
-mark_back (Div k) = refl
-mark_back (Mod k) = refl
-mark_back Min = refl
-mark_back Max = refl
-mark_back (Compare Eq) = refl
-mark_back (Compare Ne) = refl
-mark_back (Compare Lt) = refl
-mark_back (Compare Le) = refl
-mark_back (Compare Gt) = refl
-mark_back (Compare Ge) = refl
-mark_back (Divides k) = refl
-mark_back And = refl
-mark_back Or = refl
-mark_back Not = refl
-mark_back Union = refl
-mark_back Inter = refl
-mark_back Diff = refl
-mark_back Subset = refl
-mark_back Card = refl
-mark_back Slice = refl
-mark_back Fresh = refl
-mark_back If = refl
-mark_back (Let x y) = refl
-mark_back (Solve x) = refl
-mark_back (Bound x) = refl
-mark_back LetItem = refl
-mark_back NeedItem = refl
-mark_back More = refl
-mark_back End = refl
-
-pub numbers_tell : (m n : Mark) → numbers_of m ≡ numbers_of n → m ≡ n
-numbers_tell m n e = sym (mark_back m) ∙ ap mark_at e ∙ mark_back n
-
-pub numbers_decide : (m n : Mark) (x y : MarkNumbers) (r : Bool) → x ≡ numbers_of m → y ≡ numbers_of n → (r ≡ true) ↔ (x ≡ y) → (r ≡ true) ↔ (m ≡ n)
-numbers_decide m n x y r e f h = (λ t. numbers_tell m n (sym e ∙ h.0 t ∙ f), λ q. h.1 (e ∙ ap numbers_of q ∙ sym f))
-
-no_truth : {A : Type 0} → false ≡ true → A
-no_truth e = cc
-
-pub other_form : (x y : MarkNumbers) → x.form ≢ y.form → (false ≡ true) ↔ (x ≡ y)
-other_form x y n = (λ t. no_truth t, λ e. absurd (n (ap (λ (z : MarkNumbers). z.form) e)))
-
-pub other_literal : (x y : MarkNumbers) → x.literal ≢ y.literal → (false ≡ true) ↔ (x ≡ y)
-other_literal x y n = (λ t. no_truth t, λ e. absurd (n (ap (λ (z : MarkNumbers). z.literal) e)))
-
-pub other_first : (x y : MarkNumbers) → x.first ≢ y.first → (false ≡ true) ↔ (x ≡ y)
-other_first x y n = (λ t. no_truth t, λ e. absurd (n (ap (λ (z : MarkNumbers). z.first) e)))
-
-pub other_second : (x y : MarkNumbers) → x.second ≢ y.second → (false ≡ true) ↔ (x ≡ y)
-other_second x y n = (λ t. no_truth t, λ e. absurd (n (ap (λ (z : MarkNumbers). z.second) e)))
-
-pub no_other : (x y : MarkNumbers) → x.form ≡ y.form → x.literal ≡ y.literal → x.first ≡ y.first → x.second ≡ y.second → (true ≡ true) ↔ (x ≡ y)
-no_other x y f l a b = (λ _ i. record { form = f i; literal = l i; first = a i; second = b i }, λ _. refl)

@@ -1,9 +1,9 @@
 -- A mix with a determinant of 1 or -1 keeps the solutions.
-use Rattle.std.proofs.Common.{◌≡◌, ℕ, ◌<◌, ◌+◌, ℤ, pos, negsuc, ◌+ℤ◌, ◌-ℤ◌, ◌*ℤ◌, List, [], ◌∷◌, true, suc, refl, sym, ◌∙◌, ap, arith, subst}
+use Rattle.std.proofs.Common.{◌≡◌, ℕ, ◌<◌, ◌+◌, ℤ, pos, negsuc, ◌+ℤ◌, ◌-ℤ◌, ◌*ℤ◌, true, suc, refl, sym, ◌∙◌, ap, arith, subst}
 use Rattle.std.proofs.lemmas.Int.{ints}
 use Rattle.std.proofs.lemmas.Bool.{eqb-true}
 use Rattle.cf_num.proofs.Ring.{ring}
-use Rattle.cf_linear.specs.Rows.{Row, Values, value}
+use Rattle.cf_linear.specs.Rows.{Values, value}
 use Rattle.cf_linear.specs.Systems.{System}
 use Rattle.cf_linear.specs.Steps.{subst_all, one_at, two_at, is_unit, mix}
 use Rattle.cf_linear.specs.Keep.{In, Keeps, Formed, update}

@@ -2,9 +2,9 @@
 use Rattle.std.proofs.Common.{List, [], ◌∷◌, All}
 use Rattle.std.proofs.lemmas.List.Elements.{All-head, All-tail}
 use Rattle.cf_cases.specs.Holding.{EachOf}
-use Rattle.cf_steps.specs.declared.act.Act.{Act}
-use Rattle.cf_steps.specs.declared.act.Act.TheVariants.{Clean, Mix, Last, Search, Drop}
-use Rattle.cf_steps.specs.Spelled.{IsSpelledAct}
+use Rattle.cf_elim.specs.declared.act.Act.{Act}
+use Rattle.cf_elim.specs.declared.act.Act.TheVariants.{Clean, Mix, Last, Search, Drop}
+use Rattle.cf_elim.specs.Acts.{IsSpelledAct}
 use Rattle.cf_cert.specs.Applying.{IsWithinAct}
 use Rattle.cf_cert.specs.Laws.{SpelledIsWithin}
 

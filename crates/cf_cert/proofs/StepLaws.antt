@@ -1,40 +1,42 @@
 -- What the calls of a step answer is what the definition says.
-use Rattle.std.proofs.Common.{◌≡◌, ◌≢◌, ℕ, zero, suc, ◌+◌, ◌<◌, ◌≤◌, ◌==◌, ℤ, ◌*ℤ◌, ◌-ℤ◌, pos, negsuc, inl, inr, List, [], ◌∷◌, ◌++◌, take, drop, length, Bool, true, false, not, ◌&&◌, ◌||◌}
+use Rattle.std.proofs.Common.{◌≡◌, ◌≢◌, ℕ, zero, suc, ◌<◌, ◌≤◌, ◌==◌, ℤ, ◌*ℤ◌, ◌-ℤ◌, pos, negsuc, inl, inr, List, [], ◌∷◌, ◌++◌, take, drop, length, Bool, true, false, not, ◌&&◌, ◌||◌}
 use Rattle.std.proofs.Common.{Option, Some, None, Result, Ok, Err, refl, sym, ◌∙◌, ap, ap₂, arith, subst}
 use Rattle.std.specs.Prelude.{slice_get, filter, IfOk, IfSome, nat_lt, int_lt, unsigned_abs, ◌<ℤ◌}
 use Rattle.std.specs.List.{list_any, fold}
 use Rattle.std.proofs.lemmas.Bool.{lt-ltb, le-ltb, eqb-true, eqb-false}
 use Rattle.std.proofs.lemmas.Int.{ints}
+use Rattle.std.proofs.lemmas.List.Sums.{fold_push}
 use Rattle.cf_num.specs.Limit.{IsWithin, within}
 use Rattle.cf_linear.specs.declared.refusal.LimitKind.TheVariants.{Search}
 use Rattle.cf_linear.specs.declared.refusal.Refusal.{Refusal}
 use Rattle.cf_linear.specs.declared.refusal.Refusal.TheVariants.{Past, Limit}
-use Rattle.cf_linear.specs.Rows.{Row, entry, is_zero, passes}
-use Rattle.cf_linear.specs.Systems.{System, Answer}
-use Rattle.cf_linear.specs.Steps.{has_column, present, is_unit, is_positive, lowers, uppers, last, last_passes, mix, mix_passes, dropped, drop_passes}
+use Rattle.cf_linear.specs.Rows.{Row, entry, passes}
+use Rattle.cf_linear.specs.Sides.{is_side}
+use Rattle.cf_linear.specs.Systems.{System, Answer, rows_of, columns_of}
+use Rattle.cf_linear.specs.Steps.{has_column, present, is_unit, is_positive, lowers, uppers, clean, last, last_passes, dropped, drop_passes}
+use Rattle.cf_linear.specs.Steps.{Found, found_row, found_all, no_found, searched}
 use Rattle.cf_linear.specs.Stages.{limits, first_count, times_bound}
 use Rattle.cf_linear.specs.Keep.{In}
 use Rattle.cf_linear.specs.Views.{system_of}
 use Rattle.cf_linear.proofs.BoolLemmas.{on_bool, within_cases}
 use Rattle.cf_equation.specs.Equations.{first_of, rest_of, first_present, equation_answer, equation_passes}
-use Rattle.cf_bounds.specs.Exact.{IsFree, AreExact}
+use Rattle.cf_bounds.specs.Exact.{IsFree}
 use Rattle.cf_linear.proofs.SideLemmas.{positive_so, negative_so}
-use Rattle.cf_linear.specs.Sides.{is_side}
 use Rattle.cf_bounds.specs.Sides.{is_great}
 use Rattle.cf_elim.specs.declared.fault.ElimFault.{ElimFault}
 use Rattle.cf_elim.specs.declared.fault.ElimFault.TheVariants.{Refused as ElimRefused, NoMemory as ElimNoMemory}
 use Rattle.cf_elim.specs.Stages.{CountIs, CountsAre, count_refusal, IsReady, made_answer}
 use Rattle.cf_elim.specs.Bounds.{DropRefused, DropIs}
 use Rattle.cf_elim.proofs.NextStageLaws.{counts_refuse}
-use Rattle.cf_steps.specs.declared.act.Act.{Act}
-use Rattle.cf_steps.specs.declared.act.Act.TheVariants.{Clean, Mix, Last, Search as SearchAct, Drop}
+use Rattle.cf_elim.specs.declared.act.Act.{Act}
+use Rattle.cf_elim.specs.declared.act.Act.TheVariants.{Clean, Mix, Last, Search as SearchAct, Drop}
 use Rattle.cf_cert.specs.declared.next.ApplyFault.{ApplyFault}
 use Rattle.cf_cert.specs.declared.next.Next.{Next}
 use Rattle.cf_cert.specs.declared.verdict.Why.{Why}
-use Rattle.cf_cert.specs.declared.verdict.Why.TheVariants.{Unknown, Factor, Single, Held, Exact, Refused}
+use Rattle.cf_cert.specs.declared.verdict.Why.TheVariants.{Unknown, Factor, Held, Exact, Refused}
 use Rattle.cf_cert.specs.Applying.{Applied, rejected_if, refused_by, is_held, has_inexact, determinant, determinant_passes, last_of, last_at, mix_kept, mix_applied}
 use Rattle.cf_cert.specs.Applying.{on_unheld, clean_applied, search_kept, search_applied, drop_applied, apply}
-use Rattle.cf_cert.specs.Stepping.{ApplyIs, fault_of, unheld_fault, DeterminantIs, with_first, IsFront}
+use Rattle.cf_cert.specs.Stepping.{MayLackMemory, ApplyIs, fault_of, unheld_fault, times_great, DeterminantIs, with_first, IsFront}
 use Rattle.cf_cert.proofs.ApplyLaws.{column_in, free_from, ready_after}
 use Rattle.cf_cert.proofs.LastLaws.{formed_front}
 
@@ -45,10 +47,26 @@ rejects b w a e = rw e refl
 pub keeps : (b : Bool) (w : Why) (a : Applied) → b ≡ false → rejected_if b w a ≡ a
 keeps b w a e = rw e refl
 
+-- ---- want of memory
+-- it may come before a number that passes the limit
+pub kept_lacks : (b : Bool) (a : Answer) → MayLackMemory (rejected_if b (Refused Past) (Ok a))
+kept_lacks true a = tt
+kept_lacks false a = tt
+
+-- and before what is left is counted
+pub counted_lacks : (m : System) (a : Applied) → MayLackMemory a → MayLackMemory (refused_by (first_count limits m) a)
+counted_lacks m a h = on_bool (nat_lt limits.rows (rows_of m))
+    (λ r. rw r tt)
+    (λ r. on_bool (nat_lt limits.columns (columns_of m)) (λ c. rw (r, c) tt) (λ c. rw (r, c) h))
+
+pub clean_lacks : (m : System) → MayLackMemory (clean_applied limits m)
+clean_lacks m = counted_lacks (clean m).system (Ok (clean m)) tt
+
 -- a count past its limit, or want of memory
-pub count_rejects : (o : Option Refusal) (a : Applied) (e : ElimFault) → CountIs o (Err e) → ApplyIs (refused_by o a) (Err (fault_of e))
-count_rejects o a (ElimRefused r) h = ap (λ x. refused_by x a) h
-count_rejects o a ElimNoMemory h = tt
+pub count_rejects : (m : System) (a : Applied) (e : ElimFault) → MayLackMemory a → CountIs (first_count limits m) (Err e) →
+    ApplyIs (refused_by (first_count limits m) a) (Err (fault_of e))
+count_rejects m a (ElimRefused r) k h = ap (λ x. refused_by x a) h
+count_rejects m a ElimNoMemory k h = counted_lacks m a k
 
 pub counted_on : (o : Option Refusal) (a b : Answer) → o ≡ None → a ≡ b → refused_by o (Ok a) ≡ Ok b
 counted_on o a b e f = ap (λ x. refused_by x (Ok a)) e ∙ ap Ok f
@@ -130,7 +148,7 @@ module _ (a b c d : ℤ) where
 pub end_counts : (m : System) (e : Row) (rest : List Row) (u rows columns : ℕ) (f : ElimFault) → CountsAre (last m e rest u).system rows columns →
     CountIs (count_refusal limits rows columns) (Err f) → ApplyIs (last_of limits m e rest (u ∷ [])) (Err (fault_of f))
 end_counts m e rest u rows columns f c h =
-    count_rejects (first_count limits (last m e rest u).system) _ f
+    count_rejects (last m e rest u).system _ f (kept_lacks (last_passes m e rest u) (last m e rest u))
     (subst (λ o. CountIs o (Err f)) (counts_refuse (last m e rest u).system rows columns c) h)
 
 module _ (m : System) (u rows columns : ℕ) (p : first_present m ≡ u ∷ []) (c : CountsAre (last m (first_of m) (rest_of m) u).system rows columns)
@@ -150,6 +168,15 @@ module _ (m : System) (u rows columns : ℕ) (p : first_present m ≡ u ∷ []) 
       let k : last m (first_of m) (rest_of m) u ≡ a = subst (λ us. equation_answer m us ≡ a) p q in
       ap (λ o. refused_by o (rejected_if (last_passes m (first_of m) (rest_of m) u) (Refused Past) (Ok (last m (first_of m) (rest_of m) u)))) f ∙
       kept_on (last_passes m (first_of m) (rest_of m) u) (Refused Past) _ a g k
+
+pub last_of_lacks : (m : System) (e : Row) (rest : List Row) (us : List ℕ) → MayLackMemory (last_of limits m e rest us)
+last_of_lacks m e rest [] = tt
+last_of_lacks m e rest (u ∷ []) = counted_lacks (last m e rest u).system _ (kept_lacks (last_passes m e rest u) (last m e rest u))
+last_of_lacks m e rest (u ∷ w ∷ us) = tt
+
+pub last_lacks : (m : System) (i : ℕ) (o : Option Row) → MayLackMemory (last_at limits m i o)
+last_lacks m i None = tt
+last_lacks m i (Some e) = last_of_lacks m e (take i m.equations ++ drop (suc i) m.equations) (present m.unknown e)
 
 -- the equation first, and where it stood
 last_same : (m : System) (i : ℕ) (e : Row) (rest : List Row) (u : ℕ) → last (with_first m i e) e rest u ≡ last m e rest u
@@ -211,12 +238,34 @@ pub unheld_free : (m : System) (x : ℕ) → IsUnheld m x → IsFree x m.equatio
 unheld_free m x h = free_from m x h.unheld
 
 -- ---- a search
-pub search_rejects : (n : ℕ) (a : Answer) (k : ℕ) → k ≡ fold times_bound n a.bounds → 1048576 < k →
-    search_kept limits n a ≡ Err (Refused (Limit Search k))
-search_rejects n a k e l = rw (← e, lt-ltb 1048576 k l) refl
+found_tuples : (n x : ℕ) (lower : Bool) (rows : List Row) (s : Found) →
+    fold (times_great lower x) (fold times_bound n s.bounds) rows ≡ fold times_bound n (found_all x lower s rows).bounds
+found_tuples n x lower [] s = refl
+found_tuples n x lower (r ∷ rows) s =
+    ap (λ k. fold (times_great lower x) k rows) (on_bool (nat_lt 1 (unsigned_abs (entry r x)))
+    (λ g. on_bool (is_side lower (entry r x))
+    (λ t. rw (g, t) (sym (fold_push times_bound n s.bounds (s.next, unsigned_abs (entry r x)))))
+    (λ t. rw (g, t) refl))
+    (λ g. on_bool (is_side lower (entry r x)) (λ t. rw (g, t) refl) (λ t. rw (g, t) refl))) ∙
+    found_tuples n x lower rows (found_row x lower s r)
 
-pub search_on : (n : ℕ) (a b : Answer) (k : ℕ) → k ≡ fold times_bound n a.bounds → k ≤ 1048576 → a ≡ b → search_kept limits n a ≡ Ok b
-search_on n a b k e l f = rw (← e, le-ltb 1048576 k l) (ap Ok f)
+-- the bounds that are searched, counted before the search
+tuples_are : (n : ℕ) (m : System) (x : ℕ) (lower : Bool) → fold (times_great lower x) n m.inequalities ≡ fold times_bound n (searched m x lower).bounds
+unfolding searched
+tuples_are n m x lower = found_tuples n x lower m.inequalities (no_found m)
+
+module _ (n : ℕ) (m : System) (x : ℕ) (lower : Bool) (h : IsUnheld m x) (k : ℕ) (e : k ≡ fold (times_great lower x) n m.inequalities) where
+  tuples : k ≡ fold times_bound n (searched m x lower).bounds
+  tuples = e ∙ tuples_are n m x lower
+
+  pub search_rejects : 1048576 < k → search_applied limits n m x lower ≡ Err (Refused (Limit Search k))
+  search_rejects l = unheld_on m x (search_kept limits n (searched m x lower)) h ∙ rw (← tuples, lt-ltb 1048576 k l) refl
+
+  pub search_on : (a : Answer) → k ≤ 1048576 → searched m x lower ≡ a → search_applied limits n m x lower ≡ Ok a
+  search_on a l f = unheld_on m x (search_kept limits n (searched m x lower)) h ∙ rw (← tuples, le-ltb 1048576 k l) (ap Ok f)
+
+  pub search_lacks : k ≤ 1048576 → MayLackMemory (search_applied limits n m x lower)
+  search_lacks l = subst MayLackMemory (sym (search_on (searched m x lower) l refl)) tt
 
 -- ---- a drop
 any_filtered : {A : Type 0} (p q r : A → Bool) → ((x : A) → q x ≡ true → p x ≡ r x) → (xs : List A) →
@@ -300,7 +349,11 @@ module _ (m : System) (x : ℕ) (h : IsUnheld m x) where
 
   pub drop_fault : (f : ElimFault) → has_inexact m.inequalities x ≡ false → DropIs m x (Err f) → ApplyIs (drop_applied limits m x) (Err (fault_of f))
   drop_fault (ElimRefused r) e d = drop_rejects r e d
-  drop_fault ElimNoMemory e d = tt
+  drop_fault ElimNoMemory e d =
+      let kept : Applied = rejected_if (drop_passes m x) (Refused Past) (Ok (dropped m x)) in
+      let counted : Applied = refused_by (first_count limits (dropped m x).system) kept in
+      let is : drop_applied limits m x ≡ counted = unheld_on m x _ h ∙ keeps (has_inexact m.inequalities x) Exact counted e in
+      subst MayLackMemory (sym is) (counted_lacks (dropped m x).system kept (kept_lacks (drop_passes m x) (dropped m x)))
 
   pub drop_on : (a : Answer) → has_inexact m.inequalities x ≡ false → first_count limits (dropped m x).system ≡ None → drop_passes m x ≡ false →
       dropped m x ≡ a → drop_applied limits m x ≡ Ok a

@@ -1,14 +1,13 @@
 -- The steps of a case, as a loop follows them.
-use Rattle.std.proofs.Common.{◌≡◌, ℕ, zero, suc, ◌+◌, ◌<◌, ◌≤◌, ◌==◌, List, [], ◌∷◌, ◌++◌, length, map, drop, get_or, Bool, true, false, Result, Ok, Err}
-use Rattle.std.proofs.Common.{Option, Some, None, refl, sym, ◌∙◌, ap, arith, subst, append_assoc}
+use Rattle.std.proofs.Common.{◌≡◌, ℕ, zero, suc, ◌+◌, ◌<◌, ◌≤◌, List, [], ◌∷◌, length, drop, get_or, true, false, Result, Ok, Err}
+use Rattle.std.proofs.Common.{None, refl, sym, ◌∙◌, ap, arith, subst, append_assoc}
 use Rattle.std.specs.Prelude.{reverse}
 use Rattle.std.specs.List.{fold}
-use Rattle.std.proofs.lemmas.List.{append-nil, map-append, reverse-append, reverse-reverse}
-use Rattle.cf_linear.specs.declared.refusal.Refusal.{Refusal}
+use Rattle.std.proofs.lemmas.List.{append-nil}
 use Rattle.cf_linear.specs.declared.system.System.{System as DeclaredSystem}
 use Rattle.cf_linear.specs.Systems.{System, Answer, no_answer, then_answer}
 use Rattle.cf_linear.specs.Stages.{limits, first_count, times_bound}
-use Rattle.cf_linear.specs.Views.{system_of, step_of, back_of, bound_of}
+use Rattle.cf_linear.specs.Views.{system_of}
 use Rattle.cf_linear.proofs.BoolLemmas.{on_bool}
 use Rattle.cf_cases.specs.Holding.{EachOf}
 use Rattle.cf_elim.specs.declared.fault.ElimFault.{ElimFault}
@@ -17,7 +16,7 @@ use Rattle.cf_elim.specs.declared.output.RunOutput.{RunOutput}
 use Rattle.cf_elim.specs.declared.output.StepOutput.{StepOutput}
 use Rattle.cf_elim.specs.Stages.{IsReady, made_answer, whole_answer, CountIs}
 use Rattle.cf_elim.proofs.CaseLaws.{whole_none, whole_more}
-use Rattle.cf_steps.specs.declared.act.Act.{Act}
+use Rattle.cf_elim.specs.declared.act.Act.{Act}
 use Rattle.cf_cert.specs.declared.follow.Way.{Way}
 use Rattle.cf_cert.specs.declared.follow.CaseFault.{CaseFault}
 use Rattle.cf_cert.specs.declared.next.ApplyFault.{ApplyFault}
@@ -28,7 +27,7 @@ use Rattle.cf_cert.specs.declared.verdict.Why.TheVariants.{Left}
 use Rattle.cf_cert.specs.Applying.{Applied, apply}
 use Rattle.cf_cert.specs.Certifying.{Followed, is_over, after_first, follow, unless_refused, eliminated}
 use Rattle.cf_cert.specs.Following.{CaseIs, IsAdded, IsAdvanced, WayIs, at_step, end_of}
-use Rattle.cf_cert.specs.Stepping.{fault_of}
+use Rattle.cf_cert.specs.Stepping.{ApplyIs, fault_of}
 use Rattle.cf_cert.proofs.ApplyLaws.{ready_after}
 
 -- ---- what all steps make
@@ -46,6 +45,11 @@ advanced v w x act r e h =
       tuples = h.tuples;
       whole = whole_more (system_of v.system) (system_of w.system) v.whole w.whole x.made h.bounds h.steps h.later;
     }
+
+-- a step that did not apply
+pub way_faulted : (v : Way) (a : Applied) (f : ApplyFault) → ApplyIs a (Err f) → WayIs v a (Err f)
+way_faulted v a (Rejected w) h = h
+way_faulted v a NoMemory h = h
 
 -- ---- on the way
 -- the steps from number `step` on go on from the case after i steps

@@ -10,8 +10,8 @@ use Rattle.cf_linear.specs.Rows.{Row, entry, is_zero, passes}
 use Rattle.cf_linear.specs.Systems.{System, Answer}
 use Rattle.cf_linear.specs.Steps.{has_column, present, is_unit, lowers, uppers, clean, mix, mix_passes, last, last_passes, searched, dropped, drop_passes}
 use Rattle.cf_linear.specs.Stages.{Limits, first_count, times_bound}
-use Rattle.cf_steps.specs.declared.act.Act.{Act}
-use Rattle.cf_steps.specs.declared.act.Act.TheVariants.{Clean, Mix, Last, Search as SearchAct, Drop}
+use Rattle.cf_elim.specs.declared.act.Act.{Act}
+use Rattle.cf_elim.specs.declared.act.Act.TheVariants.{Clean, Mix, Last, Search as SearchAct, Drop}
 use Rattle.cf_cert.specs.declared.verdict.Why.{Why}
 use Rattle.cf_cert.specs.declared.verdict.Why.TheVariants.{Unknown, Factor, Single, Held, Exact, Refused}
 

@@ -1,5 +1,5 @@
 -- What the calls that follow the steps of a case answer.
-use Rattle.std.specs.Prelude.{◌≡◌, ℕ, ◌++◌, List, [], map, reverse, Result, Ok, Err, if◌then◌else◌}
+use Rattle.std.specs.Prelude.{◌≡◌, ℕ, ◌++◌, map, reverse, Result, Ok, Err, if◌then◌else◌}
 use Rattle.std.specs.List.{fold}
 use Rattle.cf_linear.specs.Stages.{times_bound}
 use Rattle.cf_linear.specs.Systems.{System, then_answer}
@@ -16,6 +16,7 @@ use Rattle.cf_cert.specs.declared.next.Next.{Next}
 use Rattle.cf_cert.specs.declared.verdict.Why.TheVariants.{Left}
 use Rattle.cf_cert.specs.Applying.{Applied}
 use Rattle.cf_cert.specs.Certifying.{Followed, is_over}
+use Rattle.cf_cert.specs.Stepping.{MayLackMemory}
 
 -- what the steps make, or the first one that does not apply, or want of memory
 abbrev pub CaseIs : Followed → Result StepOutput CaseFault → Type 0
@@ -47,7 +48,7 @@ pub record IsAdvanced (v : Way) (a : Applied) (w : Way) : Type 0 where
 abbrev pub WayIs : Way → Applied → Result Way ApplyFault → Type 0
 WayIs v a (Ok w) = IsAdvanced v a w
 WayIs v a (Err (Rejected w)) = a ≡ Err w
-WayIs v a (Err NoMemory) = Unit {0}
+WayIs v a (Err NoMemory) = MayLackMemory a
 
 -- the end of the case, which has the number i
 abbrev pub end_of : Way → ℕ → Followed

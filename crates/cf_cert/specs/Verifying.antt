@@ -1,11 +1,10 @@
 -- What the calls that judge blocks answer.
-use Rattle.std.specs.Prelude.{◌≡◌, ℕ, ◌≤◌, ◌<◌, Bool, true, false, List, [], ◌∷◌, ◌++◌, length, map, get_or, ◌⊎◌, Option, Some, None, Result, Ok, Err, Vec, IfOk}
+use Rattle.std.specs.Prelude.{◌≡◌, ℕ, ◌≤◌, ◌<◌, true, false, List, [], ◌∷◌, length, map, Some, None, Result, Ok, Err, Vec, IfOk}
 use Rattle.std.specs.List.{flat_map}
 use Rattle.std.specs.Global.{Global}
 use Rattle.cf_tree.specs.CodeTree.{CodeTree}
 use Rattle.cf_tree.specs.CodeView.{arm_tree}
 use Rattle.cf_tree.specs.DefView.{TargetTree}
-use Rattle.cf_tree.specs.RelView.{rel_tree}
 use Rattle.cf_tree.specs.declared.code.Arm.{Arm}
 use Rattle.cf_tree.specs.declared.memory.NoMemory.{NoMemory as NoRoom}
 use Rattle.cf_linear.specs.declared.system.Layout.{Layout as DeclaredLayout}
@@ -19,27 +18,23 @@ use Rattle.cf_choose.specs.declared.fault.ChooseFault.{ChooseFault}
 use Rattle.cf_choose.specs.declared.fault.ChooseFault.TheVariants.{Refused as ChooseRefused, NoMemory as ChooseNoMemory}
 use Rattle.cf_cases.specs.declared.first_systems.TheConstants.{LEVEL_LIMIT}
 use Rattle.cf_choose.specs.Eliminations.{case_refusal}
-use Rattle.cf_steps.specs.declared.act.Act.{Act}
+use Rattle.cf_elim.specs.declared.act.Act.{Act}
 use Rattle.cf_steps.specs.Blocks.{BlockTree, block_acts}
 use Rattle.cf_cert.specs.declared.fault.JudgeFault.{JudgeFault}
 use Rattle.cf_cert.specs.declared.fault.JudgeFault.TheVariants.{Rejected, NoMemory}
 use Rattle.cf_cert.specs.declared.follow.CaseFault.{CaseFault}
 use Rattle.cf_cert.specs.declared.follow.CaseFault.TheVariants.{Rejected as CaseRejected, NoMemory as CaseNoMemory}
 use Rattle.cf_cert.specs.declared.follow.TheConstants.{MOST_STEPS}
-use Rattle.cf_cert.specs.declared.question.Question.{Question}
 use Rattle.cf_cert.specs.declared.verdict.Verdict.{Verdict}
-use Rattle.cf_cert.specs.declared.verdict.Verdict.TheVariants.{Yes, Rejected as VerdictRejected}
-use Rattle.cf_cert.specs.declared.verdict.Why.{Why}
-use Rattle.cf_cert.specs.declared.verdict.Why.TheVariants.{Refused, Code, Blocks}
-use Rattle.cf_cert.specs.Certifying.{QuestionTree, layout, Followed, AreEliminated, Certifies}
-use Rattle.cf_cert.specs.Judging.{Fault, case_fault, IsFaultOf}
+use Rattle.cf_cert.specs.declared.verdict.Verdict.TheVariants.{Rejected as VerdictRejected}
+use Rattle.cf_cert.specs.declared.verdict.Why.TheVariants.{Refused}
+use Rattle.cf_tree.specs.ChooseTree.{ChooseTree}
+use Rattle.cf_cert.specs.Certifying.{layout, Followed, AreEliminated, Certifies}
+use Rattle.cf_cert.specs.Judging.{case_fault, IsFaultOf}
 use Rattle.cf_cert.specs.Laws.{MeansSolutions}
 
-abbrev pub question_tree : Question → QuestionTree
-question_tree q = record { number = q.number; scope = q.scope.items; outputs = q.outputs.items; rel = rel_tree q.rel }
-
 -- the target of the choose with that code
-abbrev pub target_of : QuestionTree → CodeTree → TargetTree
+abbrev pub target_of : ChooseTree → CodeTree → TargetTree
 target_of q code = record { params = q.scope; results = q.outputs; code = code }
 
 -- each case has so few steps
@@ -51,7 +46,7 @@ abbrev pub HaveFewSteps : List BlockTree → Type 0
 HaveFewSteps bs = length (flat_map block_acts bs) ≤ MOST_STEPS
 
 -- there is one block for each choose, and its code means solutions
-abbrev pub EachMeans : List QuestionTree → List BlockTree → Type 0
+abbrev pub EachMeans : List ChooseTree → List BlockTree → Type 0
 EachMeans [] [] = Unit {0}
 EachMeans [] (b ∷ bs) = ⊥
 EachMeans (q ∷ qs) [] = ⊥
@@ -88,7 +83,7 @@ ArmsIs l ms cases (Err (Rejected c s w)) = case_fault limits 1 ms cases ≡ Some
 ArmsIs l ms cases (Err NoMemory) = Unit {0}
 
 -- the block certifies the choose, or its first fault, or want of memory
-abbrev pub JudgeIs : QuestionTree → BlockTree → Result (Unit {0}) JudgeFault → Type 0
+abbrev pub JudgeIs : ChooseTree → BlockTree → Result (Unit {0}) JudgeFault → Type 0
 JudgeIs q b (Ok u) = Certifies q b
 JudgeIs q b (Err (Rejected c s w)) = IsFaultOf q b (c, s, w)
 JudgeIs q b (Err NoMemory) = Unit {0}
@@ -99,41 +94,23 @@ whole_refusal (ChooseRefused r) = Rejected 0 0 (Refused r)
 whole_refusal ChooseNoMemory = NoMemory
 
 -- the block has the choose's number, and the layout is the choose's
-pub record IsPlaced (q : QuestionTree) (b : BlockTree) (l : Layout) : Type 0 where
+pub record IsPlaced (q : ChooseTree) (b : BlockTree) (l : Layout) : Type 0 where
   pub number : b.number ≡ q.number
   pub layout : l ≡ layout q
 
--- the layout is the choose's, whose counts of sets and of cases are within their limits, and the block has its number
-pub record IsCounted (q : QuestionTree) (b : BlockTree) (l : Layout) : Type 0 where
+-- the block has the choose's number, no limit of sets, of cases or of written rows is passed, and its steps make these arms
+pub record IsArmed (q : ChooseTree) (b : BlockTree) (arms : List Arm) : Type 0 where
   pub number : b.number ≡ q.number
-  pub layout : l ≡ layout q
-  pub counts : case_refusal l q.rel ≡ None
+  pub counts : case_refusal (layout q) q.relation ≡ None
+  pub written : written_passes (layout q) (negation_normal true q.relation) ≡ false
+  pub armed : AreArmsOf (layout q) (first_systems (layout q) q.relation) b.cases arms
 
--- and its steps make these arms
-pub record IsArmed (q : QuestionTree) (b : BlockTree) (arms : List Arm) : Type 0 where
-  pub number : b.number ≡ q.number
-  pub counts : case_refusal (layout q) q.rel ≡ None
-  pub written : written_passes (layout q) (negation_normal true q.rel) ≡ false
-  pub armed : AreArmsOf (layout q) (first_systems (layout q) q.rel) b.cases arms
+-- the arms that its steps make, or its first fault before its code, or want of memory
+abbrev pub ArmedIs : ChooseTree → BlockTree → Result (Vec Arm Global) JudgeFault → Type 0
+ArmedIs q b (Ok arms) = IsArmed q b arms.items
+ArmedIs q b (Err f) = JudgeIs q b (Err f)
 
 -- the fault of a block as the verdict, or none where memory ran out
 abbrev pub RejectedIs : ℕ → JudgeFault → Result Verdict NoRoom → Type 0
 RejectedIs n (Rejected c s w) r = r ≡ Ok (VerdictRejected n c s w)
 RejectedIs n NoMemory r = IfOk r (λ v. ⊥)
-
--- the fault of the code where the target is another one
-abbrev pub CodeIs : Bool → Result (Unit {0}) JudgeFault → Type 0
-CodeIs true r = r ≡ Ok tt
-CodeIs false r = r ≡ Err (Rejected 0 0 Code)
-
--- the block at place i certifies the choose, or why it does not
-abbrev pub PlaceIs : QuestionTree → List BlockTree → ℕ → Result (Unit {0}) JudgeFault → Type 0
-PlaceIs q bs i (Err NoMemory) = Unit {0}
-PlaceIs q bs i (Err (Rejected c s w)) =
-    ((length bs ≤ i) × (Rejected c s w ≡ Rejected 0 0 Blocks)) ⊎ ((b : BlockTree) × (i < length bs) × (b ≡ get_or bs i b) × IsFaultOf q b (c, s, w))
-PlaceIs q bs i (Ok u) = (b : BlockTree) × (i < length bs) × (b ≡ get_or bs i b) × Certifies q b
-
--- the verdict behind the first i blocks, for which there is no choose
-abbrev pub RestIs : List BlockTree → ℕ → Verdict → Type 0
-RestIs bs i v = ((length bs ≤ i) × (v ≡ Yes)) ⊎
-    ((b : BlockTree) × (i < length bs) × (b ≡ get_or bs i b) × (v ≡ VerdictRejected b.number 0 0 Blocks))

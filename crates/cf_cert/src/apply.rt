@@ -20,7 +20,7 @@ use std::alloc::Global;
 ///
 /// # Errors
 /// `Rejected` exactly where the step does not apply, with the first reason, and `NoMemory` where memory
-/// ran out.
+/// ran out. It is asked for behind the names of a step, the pairs of a drop and the tuples of a search.
 pub fn apply(alloc: Global, system: System, tuples: u64, act: Act) -> Result<Next, ApplyFault>
     requires ready { IsReady (system_of system) }
     requires within { IsWithinAct act }

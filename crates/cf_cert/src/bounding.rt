@@ -1,26 +1,27 @@
 //! The search of an unknown on one side, and its drop.
-ghost use Rattle.std.specs.Prelude.{◌≡◌, ◌&&◌, nat_lt, not, map, unsigned_abs, Ok, if◌then◌else◌};
+ghost use Rattle.std.specs.Prelude.{◌≡◌, ◌&&◌, ◌*◌, ◌-◌, ◌^◌, nat_lt, min, not, map, unsigned_abs, Ok, if◌then◌else◌};
 ghost use Rattle.std.specs.List.{list_any, fold};
 ghost use Rattle.cf_linear.specs.Rows.{entry, is_zero};
+ghost use Rattle.cf_linear.specs.Sides.{is_lower, is_side};
 ghost use Rattle.cf_linear.specs.Stages.{limits, times_bound};
 ghost use Rattle.cf_linear.specs.Steps.{has_column};
 ghost use Rattle.cf_linear.specs.Views.{system_of, bound_of};
 ghost use Rattle.cf_bounds.specs.Dropping.{dropped_answer};
 ghost use Rattle.cf_bounds.specs.Searching.{searched_answer};
-ghost use Rattle.cf_linear.specs.Sides.{is_side};
 ghost use Rattle.cf_bounds.specs.Sides.{is_great};
-ghost use Rattle.cf_elim.specs.Stages.{IsReady};
-ghost use Rattle.cf_cert.specs.Applying.{has_inexact, search_applied, drop_applied, search_kept};
-ghost use Rattle.cf_cert.specs.Stepping.{ApplyIs, unheld_fault};
+ghost use Rattle.cf_elim.specs.Stages.{IsReady, made_answer};
+ghost use Rattle.cf_cert.specs.Applying.{has_inexact, search_applied, drop_applied};
+ghost use Rattle.cf_cert.specs.Stepping.{ApplyIs, unheld_fault, times_great};
 
 use crate::next::{ApplyFault, Next, refusal_of};
 use crate::verdict::Why;
 use cf_bounds::{Dropped, Pick, Searched, remainder_step};
 use cf_elim::{StepOutput, dropped_within};
-use cf_linear::{LimitKind, MOST_TUPLES, Refusal, Row, Search, System};
+use cf_linear::{LimitKind, MOST_TUPLES, Refusal, Row, Search, Side, System};
 use std::alloc::Global;
 
-// The bounds of x on the side with a coefficient above 1 get search variables.
+// The bounds of x on the side with a coefficient above 1 get search variables, if their tuples with those
+// of the searches before them are within the limit.
 pub(crate) fn search_side(
     alloc: Global,
     system: System,
@@ -38,6 +39,14 @@ pub(crate) fn search_side(
         }
         None => {}
     }
+    let number = tuples_after(&system.inequalities, x, Side::of(lower), tuples);
+    if number > MOST_TUPLES {
+        drop(system);
+        return Err(ApplyFault::Rejected(Why::Refused(Refusal::Limit {
+            kind: LimitKind::Search,
+            number,
+        })));
+    }
     // the search looks at the unknown and the side alone
     let pick = Pick {
         unknown: x,
@@ -46,31 +55,50 @@ pub(crate) fn search_side(
         pairs: 0,
     };
     match remainder_step(alloc, system, &pick) {
-        Ok(searched) => few_tuples(alloc, searched, tuples),
+        Ok(searched) => Ok(after_search(alloc, searched)),
         Err(_) => Err(ApplyFault::NoMemory),
     }
 }
 
-// What a search leaves, if its tuples with those of the searches before it are within the limit.
-fn few_tuples(alloc: Global, searched: Searched, tuples: u64) -> Result<Next, ApplyFault>
-    ensures { ApplyIs (search_kept limits tuples (searched_answer searched)) result }
+// So many tuples, times those of a search of x on the side.
+fn tuples_after(rows: &[Row], x: u32, side: Side, tuples: u64) -> u64
+    ensures { result ≡ fold (times_great (is_lower side) x) tuples rows.now }
 {
-    let tuples = tuples_with(tuples, &searched.bounds);
-    if tuples > MOST_TUPLES {
-        drop(searched);
-        return Err(ApplyFault::Rejected(Why::Refused(Refusal::Limit {
-            kind: LimitKind::Search,
-            number: tuples,
-        })));
+    let mut product = tuples;
+    for row in rows {
+        product = times_great(product, side, row.entry(x));
     }
-    Ok(Next {
+    product
+}
+
+// `n`, times the size of the coefficient where that is one above 1 of a bound on the side. The product
+// stops at the greatest number.
+fn times_great(n: u64, side: Side, k: i128) -> u64
+    ensures { result ≡ (if is_side (is_lower side) k && nat_lt 1 (unsigned_abs k) then min (n * unsigned_abs k) (2 ^ 64 - 1) else n) }
+{
+    if !side.has_great(k) {
+        return n;
+    }
+    let product = (n as u128).saturating_mul(k.unsigned_abs());
+    if product > u64::MAX as u128 {
+        u64::MAX
+    } else {
+        product as u64
+    }
+}
+
+// What a search leaves.
+fn after_search(alloc: Global, searched: Searched) -> Next
+    ensures { made_answer (system_of result.system) result.made ≡ searched_answer searched }
+{
+    Next {
         system: searched.system,
         made: StepOutput {
             bounds: searched.bounds,
             steps: Vec::new(alloc),
             back: Vec::new(alloc),
         },
-    })
+    }
 }
 
 // So many tuples, times the bounds of the searches.
@@ -160,7 +188,10 @@ fn is_held(rows: &[Row], x: u32) -> bool
 fn has_inexact(rows: &[Row], x: u32) -> bool
     ensures { result ≡ has_inexact rows.now x }
 {
-    both(has_great(rows, x, true), has_great(rows, x, false))
+    both(
+        has_great(rows, x, Side::Lower),
+        has_great(rows, x, Side::Upper),
+    )
 }
 
 fn both(left: bool, right: bool) -> bool
@@ -170,21 +201,13 @@ fn both(left: bool, right: bool) -> bool
 }
 
 // Whether x has a bound on the side with a coefficient above 1.
-fn has_great(rows: &[Row], x: u32, lower: bool) -> bool
-    ensures { result ≡ list_any (is_great lower x) rows.now }
+fn has_great(rows: &[Row], x: u32, side: Side) -> bool
+    ensures { result ≡ list_any (is_great (is_lower side) x) rows.now }
 {
     for row in rows {
-        if is_great(row.entry(x), lower) {
+        if side.has_great(row.entry(x)) {
             return true;
         }
     }
     false
-}
-
-// Whether the coefficient is one above 1 of a bound on the side.
-fn is_great(k: i128, lower: bool) -> bool
-    ensures { result ≡ (is_side lower k && nat_lt 1 (unsigned_abs k)) }
-{
-    let is_side = if lower { k > 0 } else { k < 0 };
-    is_side && k.unsigned_abs() > 1
 }

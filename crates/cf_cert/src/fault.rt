@@ -4,6 +4,7 @@ ghost use Rattle.cf_cert.specs.Verifying.{whole_refusal};
 
 use crate::verdict::Why;
 use cf_choose::ChooseFault;
+use cf_tree::NoMemory;
 use std::alloc::AllocFailed;
 
 // The first fault of a block, or want of memory. Case 0 with step 0 is the choose as a whole.
@@ -11,6 +12,17 @@ use std::alloc::AllocFailed;
 pub(crate) enum JudgeFault {
     Rejected { case: u32, step: u32, why: Why },
     NoMemory,
+}
+
+impl From<NoMemory> for JudgeFault {
+    ghost use Rattle.std.specs.Prelude.{◌≡◌};
+    ghost use Rattle.cf_cert.specs.declared.fault.JudgeFault.TheVariants.{NoMemory};
+
+    ghost from_gives = { λ _ e. e ≡ NoMemory };
+
+    fn from(_e: NoMemory) -> JudgeFault {
+        JudgeFault::NoMemory
+    }
 }
 
 impl<T: Drop> From<AllocFailed<T>> for JudgeFault {

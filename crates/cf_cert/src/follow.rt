@@ -5,7 +5,7 @@ ghost use Rattle.cf_linear.specs.Views.{system_of};
 ghost use Rattle.cf_cases.specs.Holding.{EachOf};
 ghost use Rattle.cf_elim.specs.Stages.{IsReady};
 ghost use Rattle.cf_cert.specs.Applying.{apply, IsWithinAct};
-ghost use Rattle.cf_cert.specs.Certifying.{eliminated, follow, is_over};
+ghost use Rattle.cf_cert.specs.Certifying.{eliminated, is_over};
 ghost use Rattle.cf_cert.specs.Following.{CaseIs, WayIs, IsAdded, at_step, end_of};
 ghost use Rattle.cf_cert.specs.declared.follow.TheConstants.{MOST_STEPS};
 
@@ -52,28 +52,9 @@ pub fn eliminated(alloc: Global, system: System, acts: &[Act]) -> Result<StepOut
     ensures { CaseIs (eliminated limits (system_of system) acts.now) result }
 {
     match within_counts(&system) {
-        Ok(()) => followed(alloc, system, acts),
-        Err(fault) => Err(at_step(0, refusal_of(fault))),
+        Ok(()) => {}
+        Err(fault) => return Err(at_step(0, refusal_of(fault))),
     }
-}
-
-// A step's fault as one of the case.
-fn at_step(step: u32, fault: ApplyFault) -> CaseFault
-    ensures { result ≡ at_step step fault }
-{
-    match fault {
-        ApplyFault::Rejected(why) => CaseFault::Rejected { step, why },
-        ApplyFault::NoMemory => CaseFault::NoMemory,
-    }
-}
-
-// The same of a first system whose counts are within the limits.
-fn followed(alloc: Global, system: System, acts: &[Act]) -> Result<StepOutput, CaseFault>
-    requires ready { IsReady (system_of system) }
-    requires within { EachOf IsWithinAct acts.now }
-    requires few { length acts.now ≤ MOST_STEPS }
-    ensures { CaseIs (follow limits 1 1 (system_of system) acts.now) result }
-{
     let mut way = Way {
         system,
         tuples: 1,
@@ -88,6 +69,16 @@ fn followed(alloc: Global, system: System, acts: &[Act]) -> Result<StepOutput, C
         step += 1;
     }
     ended(way, step)
+}
+
+// A step's fault as one of the case.
+fn at_step(step: u32, fault: ApplyFault) -> CaseFault
+    ensures { result ≡ at_step step fault }
+{
+    match fault {
+        ApplyFault::Rejected(why) => CaseFault::Rejected { step, why },
+        ApplyFault::NoMemory => CaseFault::NoMemory,
+    }
 }
 
 // One step more.

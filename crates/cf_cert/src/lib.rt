@@ -14,9 +14,7 @@ pub mod laws;
 mod marks;
 mod mixing;
 mod next;
-mod question;
 mod verdict;
 
 pub use crate::blocks::verify;
-pub use crate::question::Question;
 pub use crate::verdict::{Verdict, Why};

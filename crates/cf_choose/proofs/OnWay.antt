@@ -124,6 +124,7 @@ module _ (scope outputs : List Base) (rel : RelTree) (of : Eliminated) (e : IsEl
         are_outputs = e.are_outputs;
         within = no_limit scope outputs rel l e.layout_is e.counts e.written done;
         layout_is = e.layout_is;
+        firsts_are = firsts;
         steps_are = traced_steps of.cases.items a.traced ∙ ap (map (λ m. (made m).steps)) firsts;
         bounds_are = traced_bounds of.cases.items a.traced ∙ ap (map (λ m. (made m).bounds)) firsts;
         arms_are = trees_all;

@@ -20,7 +20,7 @@ use Rattle.cf_linear.specs.Systems.{Step}
 use Rattle.cf_linear.specs.Views.{plain_layout, step_of, bound_of}
 use Rattle.cf_choose.specs.declared.fault.ChooseFault.{ChooseFault}
 use Rattle.cf_choose.specs.declared.fault.ChooseFault.TheVariants.{Refused, NoMemory}
-use Rattle.cf_choose.specs.Eliminations.{made}
+use Rattle.cf_choose.specs.Eliminations.{first_of, made}
 use Rattle.cf_choose.specs.declared.solved.SolvedParts.{SolvedParts}
 
 -- an output is a number or a set
@@ -64,6 +64,7 @@ pub record IsSolvedBy (scope outputs : List Base) (rel : RelTree) (layout : Layo
   pub are_outputs : All IsOutput outputs
   pub within : limit scope outputs rel ≡ None
   pub layout_is : plain_layout layout ≡ layout_of scope outputs rel
+  pub firsts_are : map first_of cases ≡ first_systems (layout_of scope outputs rel) rel
   pub steps_are : map steps_of cases ≡ case_steps scope outputs rel
   pub bounds_are : map bounds_of cases ≡ case_bounds scope outputs rel
   pub arms_are : map arm_tree found ≡ arms scope outputs rel

@@ -8,6 +8,7 @@ ghost use Rattle.cf_linear.specs.Cases.{first_systems};
 ghost use Rattle.cf_linear.specs.Chooses.{arms};
 ghost use Rattle.cf_linear.specs.Layout.{layout_of};
 ghost use Rattle.cf_linear.specs.Views.{plain_layout, step_of, bound_of};
+ghost use Rattle.cf_choose.specs.Eliminations.{first_of};
 ghost use Rattle.cf_choose.specs.Precondition.{all_needs, IsPrecondition};
 ghost use Rattle.cf_choose.specs.Solved.{IsSolved, case_steps, case_bounds};
 
@@ -95,6 +96,15 @@ impl Solved {
         ensures solved { IsSolved self.now }
     {
         &self.parts.layout
+    }
+
+    /// The cases of the relation, each with its elimination.
+    pub fn cases(&self) -> &[SolvedCase]
+        ensures value { result.now ≡ self.now.cases.items }
+        ensures cases { map first_of result.now ≡ first_systems (layout_of self.now.scope.items self.now.outputs.items (rel_tree self.now.rel)) (rel_tree self.now.rel) }
+        ensures solved { IsSolved self.now }
+    {
+        &self.parts.cases
     }
 
     /// How many cases the relation has.

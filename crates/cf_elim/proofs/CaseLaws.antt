@@ -14,6 +14,7 @@ use Rattle.cf_elim.specs.declared.output.StepOutput.{StepOutput}
 use Rattle.cf_elim.specs.declared.output.RunOutput.{RunOutput}
 use Rattle.cf_elim.specs.declared.solved.CaseParts.{CaseParts}
 use Rattle.cf_elim.specs.declared.stage.State.{State}
+use Rattle.cf_elim.specs.Acts.{AreStepsOf}
 use Rattle.cf_elim.specs.Cases.{case_answer, IsSolvedCase}
 use Rattle.cf_elim.specs.Eliminated.{EndIs}
 use Rattle.cf_elim.specs.Returning.{Returns}
@@ -60,8 +61,9 @@ ends_solved m c w n h l e = (so_far_end m (state_of c) (whole_answer (system_of 
 
 pub ends_case : (m : System) (c : State) (w : RunOutput) (n : ℕ) (p : CaseParts) → SoFar m (state_of c) (whole_answer (system_of c.system) w) n → n < 2 ^ 64 →
     IsEnd (state_of c) (stage limits (state_of c)) →
-    system_of p.first ≡ m → p.bounds.items ≡ w.bounds.items → p.steps.items ≡ w.steps.items → p.back.items ≡ reverse w.later.items → IsSolvedCase p
-ends_case m c w n p h l e f b s k =
+    system_of p.first ≡ m → p.bounds.items ≡ w.bounds.items → p.steps.items ≡ w.steps.items → p.back.items ≡ reverse w.later.items →
+    AreStepsOf m p.acts.items → IsSolvedCase p
+ends_case m c w n p h l e f b s k t =
     let last = system_of c.system in
     let r = so_far_end m (state_of c) (whole_answer last w) n solved h l e.is in
     let q : case_answer p last ≡ whole_answer last w = rw (b, s, k) refl in
@@ -76,6 +78,7 @@ ends_case m c w n p h l e f b s k =
       done = e.unknown;
       returns = subst (λ (x : System). Returns x (case_answer p last)) (sym f) (subst (λ x. Returns m x) (sym q) h.returns);
       bounds = subst (λ (x : Answer). AreBounds (bounds_of x.bounds)) (sym q) (so_far_bounds m (state_of c) a n h);
+      acts = subst (λ (x : System). AreStepsOf x p.acts.items) (sym f) t;
     }
 
 pub ends_refused : (m : System) (c : State) (w : RunOutput) (n : ℕ) (f : ElimFault) → SoFar m (state_of c) (whole_answer (system_of c.system) w) n →

@@ -16,3 +16,5 @@ pub mod RunCounts
 pub mod SmallRows
 pub mod StageSmall
 pub mod RunSmall
+pub mod ActLaws
+mod ActExamples

@@ -1,3 +1,4 @@
+pub mod Acts
 pub mod Bounds
 pub mod Cases
 pub mod Eliminated

@@ -1,5 +1,5 @@
 //! A Bound step between counted systems.
-ghost use Rattle.std.specs.Prelude.{◌≡◌, ◌≤◌, ◌<◌, [], pos, int_lt, length, IfOk, IfSome};
+ghost use Rattle.std.specs.Prelude.{◌≡◌, ◌≤◌, ◌<◌, [], pos, int_lt, length, IfOk, IfSome, OnOk};
 ghost use Rattle.cf_linear.specs.Keep.{In, Formed};
 ghost use Rattle.cf_linear.specs.Rows.{is_zero};
 ghost use Rattle.cf_linear.specs.Stages.{unknown_stage, limits};
@@ -7,9 +7,12 @@ ghost use Rattle.cf_linear.specs.Steps.{dropped, is_positive, lowers, uppers, fr
 ghost use Rattle.cf_linear.specs.Views.{system_of};
 ghost use Rattle.cf_bounds.specs.Exact.{IsFree, AreExact};
 ghost use Rattle.cf_bounds.specs.Picking.{pick_of};
+ghost use Rattle.cf_elim.specs.Acts.{AreAdded, unknown_acts};
 ghost use Rattle.cf_elim.specs.Stages.{StageIs, IsReady, past_clean, CountsAre};
 ghost use Rattle.cf_elim.specs.Bounds.{IsSearched, DropIs, GoesDropped, SearchedIs};
 
+use crate::act::Act;
+use crate::acts::put_bound;
 use crate::counts::{Counts, other_count, sum, within};
 use crate::fault::ElimFault;
 use crate::output::StepOutput;
@@ -19,11 +22,17 @@ use cf_linear::{LimitKind, MOST_TUPLES, Refusal, Row, RowFault, Search, System};
 use cf_tree::NoMemory;
 use std::alloc::Global;
 
-pub(crate) fn bound_stage(alloc: Global, system: System, tuples: u64) -> Result<Stage, ElimFault>
+pub(crate) fn bound_stage(
+    alloc: Global,
+    acts: &mut Vec<Act>,
+    system: System,
+    tuples: u64,
+) -> Result<Stage, ElimFault>
     requires ready { IsReady (system_of system) }
     requires none { system.equations.items ≡ [] }
     requires some { 0 < length system.unknown.items }
-    ensures { StageIs (past_clean (system_of system) tuples) (unknown_stage limits (past_clean (system_of system) tuples) system.unknown.items) result }
+    ensures acts { OnOk result (AreAdded acts.old.items (unknown_acts (system_of system) system.unknown.items) acts.new.items) }
+    ensures stage { StageIs (past_clean (system_of system) tuples) (unknown_stage limits (past_clean (system_of system) tuples) system.unknown.items) result }
 {
     if system.inequalities.len() > u32::MAX as usize {
         drop(system);
@@ -37,6 +46,13 @@ pub(crate) fn bound_stage(alloc: Global, system: System, tuples: u64) -> Result<
             kind: LimitKind::Search,
             number: tuples,
         }));
+    }
+    match put_bound(acts, &pick) {
+        Ok(()) => {}
+        Err(_) => {
+            drop(system);
+            return Err(ElimFault::NoMemory);
+        }
     }
     match searched_by(alloc, system, &pick) {
         Ok(searched) => searched_stage(alloc, searched, pick.unknown, tuples),

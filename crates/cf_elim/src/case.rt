@@ -1,16 +1,18 @@
 //! A solved case of what all steps made.
 ghost use Rattle.std.specs.Prelude.{◌≡◌, reverse};
 
+use crate::act::Act;
 use crate::output::RunOutput;
 use crate::solved::CaseParts;
 use cf_linear::System;
 
-// The system with what all steps made.
-pub(crate) fn parts_of(first: System, whole: RunOutput) -> CaseParts
+// The system with what all steps made, and these steps.
+pub(crate) fn parts_of(first: System, whole: RunOutput, acts: Vec<Act>) -> CaseParts
     ensures first { result.first ≡ first }
     ensures bounds { result.bounds.items ≡ whole.bounds.items }
     ensures steps { result.steps.items ≡ whole.steps.items }
     ensures back { result.back.items ≡ reverse whole.later.items }
+    ensures acts { result.acts.items ≡ acts.items }
 {
     let RunOutput {
         bounds,
@@ -24,5 +26,6 @@ pub(crate) fn parts_of(first: System, whole: RunOutput) -> CaseParts
         bounds,
         steps,
         back,
+        acts,
     }
 }

@@ -1,9 +1,13 @@
 //! A Clean between counted systems.
+ghost use Rattle.std.specs.Prelude.{◌∷◌, [], OnOk};
 ghost use Rattle.cf_linear.specs.Stages.{clean_stage, limits};
 ghost use Rattle.cf_linear.specs.Views.{system_of};
+ghost use Rattle.cf_elim.specs.Acts.{AreAdded};
 ghost use Rattle.cf_elim.specs.Stages.{StageIs, IsReady, before_clean};
 ghost use Rattle.cf_elim.specs.Ends.{CleanedIs};
 
+use crate::act::Act;
+use crate::acts::put;
 use crate::counts::within_counts;
 use crate::fault::ElimFault;
 use crate::output::StepOutput;
@@ -12,15 +16,28 @@ use cf_bounds::{Cleaned, clean};
 use cf_linear::System;
 use std::alloc::Global;
 
-pub(crate) fn clean_stage(alloc: Global, system: System, tuples: u64) -> Result<Stage, ElimFault>
+pub(crate) fn clean_stage(
+    alloc: Global,
+    acts: &mut Vec<Act>,
+    system: System,
+    tuples: u64,
+) -> Result<Stage, ElimFault>
     requires { IsReady (system_of system) }
-    ensures { StageIs (before_clean (system_of system) tuples) (clean_stage limits (before_clean (system_of system) tuples)) result }
+    ensures stage { StageIs (before_clean (system_of system) tuples) (clean_stage limits (before_clean (system_of system) tuples)) result }
+    ensures acts { OnOk result (AreAdded acts.old.items (Act.Clean ∷ []) acts.new.items) }
 {
     match within_counts(&system) {
         Ok(()) => {}
         Err(fault) => {
             drop(system);
             return Err(fault);
+        }
+    }
+    match put(acts, Act::Clean) {
+        Ok(()) => {}
+        Err(_) => {
+            drop(system);
+            return Err(ElimFault::NoMemory);
         }
     }
     match clean(alloc, system) {

@@ -26,26 +26,29 @@ pub fn eliminate(alloc: Global, system: System) -> Result<SolvedCase, ElimFault>
         Err(_) => return Err(ElimFault::NoMemory),
     };
     let mut whole = RunOutput::none(alloc);
+    let mut acts = Vec::new(alloc);
     let mut current = State {
         system,
         tuples: 1,
         is_past_clean: false,
     };
     for taken in 0..u64::MAX {
-        match next_stage(alloc, current) {
+        match next_stage(alloc, &mut acts, current) {
             Ok(Stage::Goes(next, made)) => {
                 match whole.add(made) {
                     Ok(()) => current = next,
                     Err(_) => {
                         drop(next);
+                        drop(acts);
                         drop(whole);
                         drop(first);
                         return Err(ElimFault::NoMemory);
                     }
                 }
             }
-            Ok(Stage::Ends) => return Ok(SolvedCase::new(parts_of(first, whole))),
+            Ok(Stage::Ends) => return Ok(SolvedCase::new(parts_of(first, whole, acts))),
             Err(fault) => {
+                drop(acts);
                 drop(whole);
                 drop(first);
                 return Err(fault);
@@ -53,6 +56,7 @@ pub fn eliminate(alloc: Global, system: System) -> Result<SolvedCase, ElimFault>
         }
     }
     drop(current);
+    drop(acts);
     drop(whole);
     drop(first);
     Err(ElimFault::NoMemory)

@@ -1,13 +1,16 @@
 //! An equation step between counted systems.
-ghost use Rattle.std.specs.Prelude.{◌≡◌, ◌≢◌, ◌<◌, ◌∷◌, [], None, true, false, length, if◌then◌else◌, IfSome};
+ghost use Rattle.std.specs.Prelude.{◌≡◌, ◌≢◌, ◌<◌, ◌∷◌, [], None, true, false, length, if◌then◌else◌, IfSome, OnOk};
 ghost use Rattle.cf_linear.specs.Stages.{row_stage, equation_stage, first_count, limits};
 ghost use Rattle.cf_linear.specs.Rows.{entry};
 ghost use Rattle.cf_linear.specs.Views.{system_of};
 ghost use Rattle.cf_linear.specs.Steps.{last, is_unit};
 ghost use Rattle.cf_equation.specs.Equations.{first_of, rest_of, present_of, first_present, equation_answer};
+ghost use Rattle.cf_elim.specs.Acts.{AreAdded, equation_acts};
 ghost use Rattle.cf_elim.specs.Stages.{StageIs, IsReady, past_clean, CountsAre};
 ghost use Rattle.cf_elim.specs.Ends.{CleanAfter, GoesTo};
 
+use crate::act::Act;
+use crate::acts::put_equation;
 use crate::counts::{Counts, other_count, sum, within, within_counts};
 use crate::fault::ElimFault;
 use crate::output::StepOutput;
@@ -16,12 +19,25 @@ use cf_equation::{Present, Reduced, first_unknowns, step_first};
 use cf_linear::{Refusal, RowFault, System};
 use std::alloc::Global;
 
-pub(crate) fn equation_stage(alloc: Global, system: System, tuples: u64) -> Result<Stage, ElimFault>
+pub(crate) fn equation_stage(
+    alloc: Global,
+    acts: &mut Vec<Act>,
+    system: System,
+    tuples: u64,
+) -> Result<Stage, ElimFault>
     requires ready { IsReady (system_of system) }
     requires some { 0 < length system.equations.items }
-    ensures { StageIs (past_clean (system_of system) tuples) (row_stage limits (past_clean (system_of system) tuples) system.equations.items) result }
+    ensures acts { OnOk result (AreAdded acts.old.items (equation_acts (first_of (system_of system)) (first_present (system_of system))) acts.new.items) }
+    ensures stage { StageIs (past_clean (system_of system) tuples) (row_stage limits (past_clean (system_of system) tuples) system.equations.items) result }
 {
     let found = first_unknowns(&system);
+    match put_equation(acts, &system, found) {
+        Ok(()) => {}
+        Err(_) => {
+            drop(system);
+            return Err(ElimFault::NoMemory);
+        }
+    }
     match found {
         Present::Nothing => Ok(Stage::Goes(
             State {

@@ -1,6 +1,8 @@
 //! The whole elimination of a system.
 #![tactic(auto)]
 
+mod act;
+mod acts;
 mod bound;
 mod case;
 mod clean;
@@ -13,6 +15,7 @@ mod output;
 mod solved;
 mod stage;
 
+pub use crate::act::Act;
 pub use crate::bound::dropped_within;
 pub use crate::counts::{within, within_counts};
 pub use crate::elimination::eliminate;
@@ -20,4 +23,3 @@ pub use crate::equation::counts_after;
 pub use crate::fault::ElimFault;
 pub use crate::output::{RunOutput, StepOutput};
 pub use crate::solved::SolvedCase;
-pub use crate::stage::{Stage, State, next_stage};

@@ -1,18 +1,23 @@
 //! A solved case.
 ghost use Rattle.std.specs.Prelude.{◌≡◌};
 ghost use Rattle.cf_elim.specs.Cases.{IsSolvedCase};
+ghost use Rattle.cf_elim.specs.Acts.{AreStepsOf};
+ghost use Rattle.cf_linear.specs.Views.{system_of};
 
+use crate::act::Act;
 use cf_linear::{Back, Search, Step, System};
 use std::marker::Model;
 
 /// A system with what its elimination makes: the searches with their bounds, the lets and needs in
-/// order, and how the unknowns are computed, in the order in which they are.
+/// order, and how the unknowns are computed, in the order in which they are; and the steps that made
+/// them.
 #[derive(Drop)]
 pub struct CaseParts {
     pub first: System,
     pub bounds: Vec<Search>,
     pub steps: Vec<Step>,
     pub back: Vec<Back>,
+    pub acts: Vec<Act>,
 }
 
 /// A system that was eliminated to the end. For all values of its known columns some tuple of search
@@ -74,5 +79,14 @@ impl SolvedCase {
         ensures solved { IsSolvedCase self.now }
     {
         &self.parts.back
+    }
+
+    /// The steps of the elimination, in order.
+    pub fn acts(&self) -> &[Act]
+        ensures value { result.now ≡ self.now.acts.items }
+        ensures steps { AreStepsOf (system_of self.now.first) result.now }
+        ensures solved { IsSolvedCase self.now }
+    {
+        &self.parts.acts
     }
 }

@@ -1,8 +1,11 @@
 //! One step of the elimination.
+ghost use Rattle.std.specs.Prelude.{OnOk};
 ghost use Rattle.cf_linear.specs.Stages.{stage, limits};
 ghost use Rattle.cf_linear.specs.Views.{system_of};
+ghost use Rattle.cf_elim.specs.Acts.{AreAdded, acts_at};
 ghost use Rattle.cf_elim.specs.Stages.{state_of, StageIs, IsReady};
 
+use crate::act::Act;
 use crate::bound::bound_stage;
 use crate::clean::clean_stage;
 use crate::equation::equation_stage;
@@ -26,15 +29,16 @@ pub enum Stage {
     Ends,
 }
 
-/// The next step: a Clean, an equation step while an equation is left, or a Bound step while an unknown
-/// is. The system's rows have forms and its unknowns are all different.
-///
-/// # Errors
-/// `Refused` exactly where the step passes a limit, with the first one, and `NoMemory` where memory ran
-/// out.
-pub fn next_stage(alloc: Global, current: State) -> Result<Stage, ElimFault>
+// The next step, which is added to the steps: a Clean, an equation step while an equation is left, or a
+// Bound step while an unknown is.
+pub(crate) fn next_stage(
+    alloc: Global,
+    acts: &mut Vec<Act>,
+    current: State,
+) -> Result<Stage, ElimFault>
     requires { IsReady (system_of current.system) }
-    ensures { StageIs (state_of current) (stage limits (state_of current)) result }
+    ensures stage { StageIs (state_of current) (stage limits (state_of current)) result }
+    ensures acts { OnOk result (AreAdded acts.old.items (acts_at (state_of current)) acts.new.items) }
 {
     let State {
         system,
@@ -42,14 +46,14 @@ pub fn next_stage(alloc: Global, current: State) -> Result<Stage, ElimFault>
         is_past_clean,
     } = current;
     if !is_past_clean {
-        return clean_stage(alloc, system, tuples);
+        return clean_stage(alloc, acts, system, tuples);
     }
     if !system.equations.is_empty() {
-        return equation_stage(alloc, system, tuples);
+        return equation_stage(alloc, acts, system, tuples);
     }
     if system.unknown.is_empty() {
         drop(system);
         return Ok(Stage::Ends);
     }
-    bound_stage(alloc, system, tuples)
+    bound_stage(alloc, acts, system, tuples)
 }

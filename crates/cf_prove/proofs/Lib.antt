@@ -1,4 +1,3 @@
 pub mod TraceLaws
-pub mod TraceExamples
-pub mod ActLaws
 pub mod ProveLaws
+mod TraceExamples

@@ -1,86 +1,74 @@
 -- The block of a solved choose: its steps and its target, and what it certifies.
-use Rattle.std.proofs.Common.{◌≡◌, ℕ, ◌≤◌, List, [], ◌∷◌, map, None, false, true, refl, sym, ◌∙◌, subst}
+use Rattle.std.proofs.Common.{◌≡◌, ℕ, ◌+◌, ◌<◌, List, [], ◌∷◌, ◌++◌, length, map, take, get_or, All, refl, sym, ◌∙◌, ap, subst}
 use Rattle.std.specs.Prelude.{Vec}
 use Rattle.std.specs.Global.{Global}
-use Rattle.std.proofs.lemmas.Bool.{true≢false}
-use Rattle.std.proofs.lemmas.List.{append-nil}
+use Rattle.std.proofs.lemmas.List.{append-nil, map-append, take_more}
+use Rattle.std.proofs.lemmas.List.Elements.{All-nil, All-cons, All-append}
+use Rattle.cf_tree.specs.ChooseTree.{ChooseTree}
 use Rattle.cf_tree.specs.declared.target.RawTarget.{RawTarget}
-use Rattle.cf_tree.specs.RelTree.{RelTree}
-use Rattle.cf_tree.specs.RelView.{rel_tree}
-use Rattle.cf_linear.specs.declared.refusal.TheConstants.{MOST_SETS, MOST_CASES}
-use Rattle.cf_linear.specs.Cases.{negation_normal, case_count, first_systems, written_passes}
-use Rattle.cf_linear.specs.Layout.{Layout, layout_of, set_count}
-use Rattle.cf_linear.specs.Stages.{limits, run, solved}
+use Rattle.cf_linear.specs.Cases.{first_systems}
+use Rattle.cf_linear.specs.Stages.{limits}
 use Rattle.cf_linear.specs.Systems.{System}
-use Rattle.cf_cases.specs.Holding.{EachOf, IsPlacedRel}
-use Rattle.cf_cases.proofs.PlacedLaws.{placed-rel}
+use Rattle.cf_elim.specs.Acts.{IsColumn, IsSpelledAct, AreStepsOf, traced}
+use Rattle.cf_elim.specs.declared.act.Act.{Act}
+use Rattle.cf_elim.specs.declared.solved.CaseParts.{CaseParts}
 use Rattle.cf_choose.specs.declared.solved.SolvedParts.{SolvedParts}
-use Rattle.cf_choose.specs.Eliminations.{case_refusal}
+use Rattle.cf_choose.specs.Eliminations.{first_of}
 use Rattle.cf_choose.specs.Laws.{IsUnrefused}
-use Rattle.cf_choose.specs.Solved.{IsSolved}
-use Rattle.cf_choose.proofs.CaseLemmas.{few_sets}
-use Rattle.cf_cases.proofs.FirstSystemLaws.{IsBegun, first_systems_begun}
-use Rattle.cf_steps.specs.declared.act.Act.{Act}
+use Rattle.cf_choose.specs.Solved.{IsOf}
 use Rattle.cf_steps.specs.declared.block.Block.{Block}
 use Rattle.cf_steps.specs.Blocks.{BlockTree, block_tree}
 use Rattle.cf_steps.specs.Printed.{block_text}
-use Rattle.cf_steps.specs.Spelled.{IsColumn}
-use Rattle.cf_cert.specs.Certifying.{QuestionTree, layout, Certifies}
+use Rattle.cf_steps.specs.Spelled.{AreSpelledCases}
+use Rattle.cf_cert.specs.Certifying.{layout, Certifies}
 use Rattle.cf_cert.proofs.CertifiedArms.{certified_means}
 use Rattle.cf_cert.proofs.SpelledLaws.{spelled_within}
-use Rattle.cf_cert.proofs.VerdictLaws.{few_counts}
-use Rattle.cf_prove.specs.Acting.{CanTrace, AreTracesOf, asked_systems, IsTargetOf}
+use Rattle.cf_prove.specs.Acting.{AreTracesOf, IsTargetOf}
 use Rattle.cf_prove.specs.Proving.{IsProved}
 use Rattle.cf_prove.specs.Tracing.{traced_block}
-use Rattle.cf_prove.proofs.TraceLaws.{NoneRefused, none_refused, ends_solved, traced_certifies}
+use Rattle.cf_prove.proofs.TraceLaws.{traced_certifies}
 
--- ---- the first systems of a solved choose
-pub unrefused : (s : SolvedParts) → IsSolved s → IsUnrefused s.scope.items s.outputs.items (rel_tree s.rel)
-unrefused s h = record { typed = h.typed; linear = h.linear; are_outputs = h.are_outputs; within = h.within }
+-- ---- the steps of each case
+pub none_traced : (cases : List (List Act)) → cases ≡ [] → AreTracesOf [] cases
+none_traced cases e = record { are = e; spelled = subst AreSpelledCases (sym e) (All-nil (All IsSpelledAct)) }
 
-nothing_refused : (s : SolvedParts) → IsSolved s → NoneRefused (layout_of s.scope.items s.outputs.items (rel_tree s.rel)) (rel_tree s.rel)
-nothing_refused s h = none_refused s.scope.items s.outputs.items (rel_tree s.rel) h.within
+traced_more : (ms : List System) (m : System) (cases more : List (List Act)) (acts : List Act) → more ≡ cases ++ (acts ∷ []) → AreStepsOf m acts →
+    AreTracesOf ms cases → AreTracesOf (ms ++ (m ∷ [])) more
+traced_more ms m cases more acts e t w = record {
+  are =
+      e ∙ ap (λ xs. xs ++ (acts ∷ [])) w.are ∙ ap (λ ys. map (traced limits) ms ++ (ys ∷ [])) t.are ∙ sym (map-append (traced limits) ms (m ∷ []));
+  spelled = subst AreSpelledCases (sym e) (All-append (All IsSpelledAct) cases (acts ∷ []) w.spelled
+      (All-cons (All IsSpelledAct) acts [] t.spelled (All-nil (All IsSpelledAct))));
+}
 
-each_can : (ms : List System) → EachOf IsBegun ms → EachOf (λ m. (run limits m).end ≡ solved) ms → EachOf CanTrace ms
-each_can [] b e = tt
-each_can (m ∷ ms) b e = (record { ready = record { formed = b.0.0; differ = b.0.1 }; ends = e.0 }, each_can ms b.1 e.1)
+-- the steps of one case more
+pub one_traced : (cs : List CaseParts) (i : ℕ) (c : CaseParts) (vs ws : List (Vec Act Global)) (v : Vec Act Global) → i < length cs → c ≡ get_or cs i c →
+    ws ≡ vs ++ (v ∷ []) → AreStepsOf (first_of c) v.items → AreTracesOf (map first_of (take i cs)) (map (λ x. x.items) vs) →
+    AreTracesOf (map first_of (take (i + 1) cs)) (map (λ x. x.items) ws)
+one_traced cs i c vs ws v l is e t w =
+    let more : take (i + 1) cs ≡ take i cs ++ (c ∷ []) = take_more cs i c l ∙ ap (λ x. take i cs ++ (x ∷ [])) (sym is) in
+    let firsts : map first_of (take (i + 1) cs) ≡ map first_of (take i cs) ++ (first_of c ∷ []) =
+    ap (map first_of) more ∙ map-append first_of (take i cs) (c ∷ []) in
+    subst (λ ms. AreTracesOf ms (map (λ x. x.items) ws)) (sym firsts)
+    (traced_more (map first_of (take i cs)) (first_of c) (map (λ x. x.items) vs) (map (λ x. x.items) ws) v.items
+    (ap (map (λ x. x.items)) e ∙ map-append (λ x. x.items) vs (v ∷ [])) t w)
 
-asked_can : (s : SolvedParts) → IsSolved s → EachOf CanTrace (asked_systems s)
-asked_can s h =
-    let rel = rel_tree s.rel in
-    each_can (asked_systems s)
-    (first_systems_begun (layout_of s.scope.items s.outputs.items rel) rel (placed-rel s.scope.items s.outputs.items rel h.typed h.linear))
-    (ends_solved (asked_systems s) (nothing_refused s h).ends)
+-- ---- a choose that is solved
+module _ (q : ChooseTree) (s : SolvedParts) (h : IsOf q.scope q.outputs q.relation s) where
+  pub unrefused : IsUnrefused q.scope q.outputs q.relation
+  unrefused =
+      let k = h.solved in
+      rw (← h.same_scope, ← h.same_outputs, ← h.same_relation)
+      (record { typed = k.typed; linear = k.linear; are_outputs = k.are_outputs; within = k.within })
 
--- made again with a layout and a relation that are the choose's
-module _ (s : SolvedParts) (h : IsSolved s) (l : Layout) (rel : RelTree) (e : l ≡ layout_of s.scope.items s.outputs.items (rel_tree s.rel))
-    (r : rel ≡ rel_tree s.rel) where
-  pub placed_in : IsPlacedRel l rel
-  placed_in = rw (e, r) (placed-rel s.scope.items s.outputs.items (rel_tree s.rel) h.typed h.linear)
-
-  counts_in : case_refusal l rel ≡ None
-  counts_in = rw (e, r) (nothing_refused s h).counts
-
-  pub sets_in : set_count l ≤ MOST_SETS
-  sets_in = few_sets l rel counts_in
-
-  pub cases_in : case_count (negation_normal true rel) ≤ MOST_CASES
-  cases_in = few_counts l rel counts_in
-
-  pub never_past : written_passes l (negation_normal true rel) ≡ true → ⊥
-  never_past p =
-      let q : written_passes l (negation_normal true rel) ≡ false = rw (e, r) (nothing_refused s h).written in
-      true≢false (sym p ∙ q)
-
-  same_systems : first_systems l rel ≡ asked_systems s
-  same_systems = rw (e, r) refl
-
-  pub can_in : (ms : List System) → ms ≡ first_systems l rel → EachOf CanTrace ms
-  can_in ms p = subst (EachOf CanTrace) (sym (p ∙ same_systems)) (asked_can s h)
+  pub firsts_are : (cs : List CaseParts) → cs ≡ s.cases.items → map first_of cs ≡ first_systems (layout q) q.relation
+  firsts_are cs e =
+      let k = h.solved in
+      ap (map first_of) e ∙ rw (← h.same_scope, ← h.same_outputs, ← h.same_relation) k.firsts_are
 
 -- ---- the block
-pub is_proved : (q : QuestionTree) (cases : Vec (Vec Act Global) Global) (t : RawTarget) (text : List ℕ) → IsUnrefused q.scope q.outputs q.rel →
-    IsColumn q.number → AreTracesOf (first_systems (layout q) q.rel) (map (λ c. c.items) cases.items) → IsTargetOf q t →
+pub is_proved : (q : ChooseTree) (cases : Vec (Vec Act Global) Global) (t : RawTarget) (text : List ℕ) → IsUnrefused q.scope q.outputs q.relation →
+    IsColumn q.number → AreTracesOf (first_systems (layout q) q.relation) (map (λ c. c.items) cases.items) → IsTargetOf q t →
     text ≡ block_text q.number (map (λ c. c.items) cases.items) t → IsProved q text
 is_proved q cases t text u n h k e =
     let b : Block = record { number = q.number; cases = cases; target = t } in

@@ -1,7 +1,7 @@
 -- The steps of a trace that ends solved are followed, and make what the trace makes.
 use Rattle.std.proofs.Common.{◌≡◌, ◌≢◌, ℕ, zero, suc, ◌+◌, ◌-◌, ◌*◌, ◌^◌, ◌<◌, ◌≤◌, ◌/◌, ℤ, pos, negsuc, neg_ℤ, ◌+ℤ◌, ◌-ℤ◌, ◌*ℤ◌, List, [], ◌∷◌, ◌++◌}
 use Rattle.std.proofs.Common.{length, take, drop, map, Bool, true, false, not, ◌||◌, Option, Some, None, Ok, Err, refl, sym, ◌∙◌, ap, arith}
-use Rattle.std.proofs.Common.{subst, ◌⊎◌, inl, inr, ⊎_elim, append_assoc}
+use Rattle.std.proofs.Common.{subst, inl, inr, ⊎_elim, append_assoc}
 use Rattle.std.specs.Prelude.{nat_lt, unsigned_abs, ◌<ℤ◌, slice_get}
 use Rattle.std.specs.Int.{int_div_euclid}
 use Rattle.std.specs.List.{list_any, fold}
@@ -52,13 +52,14 @@ use Rattle.cf_elim.proofs.EndLaws.{one_of, count_passed, not_refused, run_is_tra
 use Rattle.cf_elim.proofs.StageEnds.{stage_ends_solved}
 use Rattle.cf_elim.proofs.StageLaws.{goes_parts}
 use Rattle.cf_elim.proofs.StageOwes.{stage_leads}
-use Rattle.cf_steps.specs.declared.act.Act.{Act}
-use Rattle.cf_steps.specs.declared.act.Act.TheVariants.{Clean, Mix, Last, Search, Drop}
+use Rattle.cf_elim.specs.declared.act.Act.{Act}
+use Rattle.cf_elim.specs.declared.act.Act.TheVariants.{Clean, Mix, Last, Search, Drop}
 use Rattle.cf_cert.specs.declared.verdict.Why.TheVariants.{Single}
 use Rattle.cf_cert.specs.Applying.{Applied, is_held, has_inexact, determinant, determinant_passes, last_of, last_at, apply}
 use Rattle.cf_cert.specs.Certifying.{layout, after_first, is_over, follow, eliminated, AreEliminated}
 use Rattle.cf_prove.specs.Laws.{TracedCertifies}
-use Rattle.cf_prove.specs.Tracing.{equation_acts, bound_acts, unknown_acts, row_acts, acts_at, acts_for, traced}
+use Rattle.cf_elim.specs.Acts.{equation_acts, bound_acts, unknown_acts, row_acts, acts_at, acts_for, traced}
+use Rattle.cf_elim.proofs.ActLaws.{past_acts, clean_acts, ends_acts, goes_acts}
 
 -- ---- steps that follow
 -- from each number on, the steps make the answer
@@ -422,14 +423,6 @@ unfolding row_stage
 row_carries s t a [] r q g = unknown_carries s t a s.system.unknown r q (λ w i. i) g
 row_carries s t a (e ∷ rest) r q g = equation_carries s t a e rest (present s.system.unknown e) r q refl g
 
-pub past_acts : (s : State) → s.is_past_clean ≡ true → acts_at s ≡ row_acts s.system s.system.equations
-unfolding acts_at
-past_acts s e = rw e refl
-
-pub clean_acts : (s : State) → s.is_past_clean ≡ false → acts_at s ≡ Clean ∷ []
-unfolding acts_at
-clean_acts s e = rw e refl
-
 stage_carries : (s t : State) (a : Taken) → IsReady s.system → stage limits s ≡ goes t a → StageCarries (acts_at s) s t a.answer
 unfolding stage
 stage_carries s t a r g = ⊎_elim
@@ -445,18 +438,10 @@ ends_follow : (i n : ℕ) (m : System) → is_over m ≡ true → follow limits 
 unfolding follow
 ends_follow i n m o = rw o refl
 
-pub ends_acts : (s : State) (n : ℕ) (e : End) → stage limits s ≡ ends e → acts_for (suc n) limits s ≡ []
-unfolding acts_for
-ends_acts s n e p = rw (p, acts_for) refl
-
 ends_makes : (s : State) (n : ℕ) → Settled s → stage limits s ≡ ends solved → Makes s.tuples s.system (acts_for (suc n) limits s) (no_answer s.system)
 unfolding Makes
 ends_makes s n h p i = ap (λ acts. follow limits i s.tuples s.system acts) (ends_acts s n solved p)
     ∙ ends_follow i s.tuples s.system (over_end s h (stage_ends_solved s p))
-
-pub goes_acts : (s t : State) (a : Taken) (n : ℕ) → stage limits s ≡ goes t a → acts_for (suc n) limits s ≡ acts_at s ++ acts_for n limits t
-unfolding acts_for
-goes_acts s t a n p = rw (p, acts_for) refl
 
 abbrev whole_of : System → List Taken → Answer
 whole_of m taken = whole m (map (λ a. a.answer) taken)
@@ -535,13 +520,13 @@ pub traced_certifies : TracedCertifies
 unfolding arms
 traced_certifies q u =
     let l = layout q in
-    let n = none_refused q.scope q.outputs q.rel u.within in
-    let ms = first_systems l q.rel in
+    let n = none_refused q.scope q.outputs q.relation u.within in
+    let ms = first_systems l q.relation in
     record {
       number = refl;
       counts = n.counts;
       written = n.written;
       answers = map (λ m. made_of m (run limits m)) ms;
-      cases = each_traced ms (first_systems_begun l q.rel (placed-rel q.scope q.outputs q.rel u.typed u.linear)) (ends_solved ms n.ends);
+      cases = each_traced ms (first_systems_begun l q.relation (placed-rel q.scope q.outputs q.relation u.typed u.linear)) (ends_solved ms n.ends);
       target = ap (λ ts. record { params = q.scope; results = q.outputs; code = code_solve q.number (arms_of ts) }) (arms_are l ms);
     }

@@ -1,8 +1,7 @@
-//! Steps of an elimination, written down.
+//! The block of a choose, written down: its steps and its target.
 #![tactic(auto)]
 
 pub mod laws;
 mod proving;
-mod trace;
 
 pub use crate::proving::prove;

@@ -1,101 +1,86 @@
 //! The steps of a choose, written down.
-ghost use Rattle.std.specs.Prelude.{◌++◌, ◌≤◌, All, length, map, IfOk};
+ghost use Rattle.std.specs.Prelude.{◌≡◌, ◌≤◌, ◌<◌, ◌^◌, length, map, IfOk};
+ghost use Rattle.cf_tree.specs.ChooseView.{choose_tree};
+ghost use Rattle.cf_tree.specs.Params.{bases_of};
 ghost use Rattle.cf_tree.specs.RelView.{rel_tree};
-ghost use Rattle.cf_tree.specs.Relation.{IsTyped, IsLinear};
-ghost use Rattle.cf_linear.specs.Views.{system_of};
-ghost use Rattle.cf_cases.specs.Holding.{EachOf};
-ghost use Rattle.cf_choose.specs.Solved.{IsOutput, IsSolved};
-ghost use Rattle.cf_prove.specs.Acting.{CanTrace, AreTracesOf, IsTargetOf, asked, asked_systems};
+ghost use Rattle.cf_choose.specs.Eliminations.{first_of};
+ghost use Rattle.cf_choose.specs.Solved.{IsOf};
+ghost use Rattle.cf_cert.specs.Laws.{IsLinearChoose};
+ghost use Rattle.cf_prove.specs.Acting.{AreTracesOf, IsTargetOf};
 ghost use Rattle.cf_prove.specs.Proving.{IsProved, ProveAnswer};
 
-use crate::trace::trace;
-use cf_cases::systems;
 use cf_choose::{ChooseFault, Solved, solve};
-use cf_linear::{RowFault, System};
+use cf_elim::SolvedCase;
 use cf_steps::{Act, print_block};
-use cf_tree::{Base, NoMemory, RawTarget, Rel, Target};
+use cf_tree::{Choose, NoMemory, RawTarget, Target, bases};
 use std::alloc::Global;
 
-/// The printed block of a choose with this number, which is at least 1, and at least one output: the
-/// steps of the elimination of each case, and the target with the choose's scope as its parameters and
-/// its outputs as its results.
+/// The printed block of a choose with at least one output, whose number is at least 1: the steps of the
+/// elimination of each case, and the target with the choose's scope as its parameters and its outputs as
+/// its results.
 ///
 /// # Errors
 /// `Refused` exactly where the relation passes a limit, with the first one, as `solve` has it, and
 /// `NoMemory` where memory ran out.
-pub fn prove(
-    alloc: Global,
-    number: u32,
-    scope: &[Base],
-    outputs: &[Base],
-    rel: &Rel,
-) -> Result<Vec<u8>, ChooseFault>
-    requires typed { IsTyped (scope.now ++ outputs.now) (rel_tree rel.now) }
-    requires linear { IsLinear (rel_tree rel.now) }
-    requires outputs { All IsOutput outputs.now }
-    requires some { 1 ≤ length outputs.now }
-    requires numbered { 1 ≤ number }
-    ensures { ProveAnswer (record { number = number; scope = scope.now; outputs = outputs.now; rel = rel_tree rel.now }) result }
+pub fn prove(alloc: Global, choose: &Choose<'_>) -> Result<Vec<u8>, ChooseFault>
+    requires choose { IsLinearChoose (choose_tree choose.now) }
+    requires some { 1 ≤ length choose.now.outputs.now }
+    requires numbered { 1 ≤ choose.now.number }
+    ensures { ProveAnswer (choose_tree choose.now) result }
 {
-    let solved = match solve(alloc, scope, outputs, rel) {
+    let scope = bases(alloc, choose.scope)?;
+    let solved = match solve(alloc, &scope, choose.outputs, choose.rel) {
         Ok(solved) => solved,
         Err(fault) => return Err(fault),
     };
-    match proved(alloc, number, solved) {
+    match proved(alloc, choose, solved) {
         Ok(text) => Ok(text),
         Err(_) => Err(ChooseFault::NoMemory),
     }
 }
 
 // The printed block of a choose that is solved.
-fn proved(alloc: Global, number: u32, solved: Solved) -> Result<Vec<u8>, NoMemory>
-    requires some { 1 ≤ length solved.outputs.items }
-    requires numbered { 1 ≤ number }
-    requires solved { IsSolved solved }
-    ensures { IfOk result (λ v. IsProved (asked number solved) v.items) }
+fn proved(alloc: Global, choose: &Choose<'_>, solved: Solved) -> Result<Vec<u8>, NoMemory>
+    requires some { 1 ≤ length choose.now.outputs.now }
+    requires numbered { 1 ≤ choose.now.number }
+    requires solved { IsOf (bases_of choose.now.scope.now) choose.now.outputs.now (rel_tree choose.now.rel.now) solved }
+    ensures { IfOk result (λ v. IsProved (choose_tree choose.now) v.items) }
 {
-    let cases = traces(alloc, &solved)?;
-    let target = target(alloc, number, solved)?;
+    let number = of_32_bits(choose.number);
+    let cases = steps(alloc, solved.cases())?;
+    let target = target(alloc, choose, solved)?;
     print_block(alloc, number, &cases, &target)
 }
 
-// The steps of the elimination of each case.
-fn traces(alloc: Global, solved: &Solved) -> Result<Vec<Vec<Act>>, NoMemory>
-    requires { IsSolved solved.now }
-    ensures { IfOk result (λ v. AreTracesOf (asked_systems solved.now) (map (λ c. c.items) v.items)) }
+// for the proof: the number of a lent choose has 32 bits.
+fn of_32_bits(number: u32) -> u32
+    ensures { (result ≡ number) × (number < 2 ^ 32) }
 {
-    match systems(alloc, solved.layout(), solved.relation()) {
-        Ok(systems) => each_trace(alloc, systems),
-        Err(RowFault::Past) => unreachable!(),
-        Err(RowFault::NoMemory) => Err(NoMemory),
-    }
+    number
 }
 
-// The steps of the elimination of each of these systems, none of which a limit refuses.
-fn each_trace(alloc: Global, systems: Vec<System>) -> Result<Vec<Vec<Act>>, NoMemory>
-    requires { EachOf CanTrace (map system_of systems.items) }
-    ensures { IfOk result (λ v. AreTracesOf (map system_of systems.items) (map (λ c. c.items) v.items)) }
+// The steps of the elimination of each case.
+fn steps(alloc: Global, cases: &[SolvedCase]) -> Result<Vec<Vec<Act>>, NoMemory>
+    ensures { IfOk result (λ v. AreTracesOf (map first_of cases.now) (map (λ c. c.items) v.items)) }
 {
-    let mut left = systems;
-    left.reverse();
-    let mut cases = Vec::new(alloc);
-    while let Some(system) = left.pop() {
-        let acts = trace(alloc, system)?;
-        cases.push(acts)?;
+    let mut steps = Vec::new(alloc);
+    for case in cases {
+        let acts = Vec::from_slice(alloc, case.acts())?;
+        steps.push(acts)?;
     }
-    Ok(cases)
+    Ok(steps)
 }
 
 // The target with the arms of a choose that is solved.
-fn target(alloc: Global, number: u32, solved: Solved) -> Result<Target, NoMemory>
-    requires some { 1 ≤ length solved.outputs.items }
-    requires numbered { 1 ≤ number }
-    requires solved { IsSolved solved }
-    ensures { IfOk result (IsTargetOf (asked number solved)) }
+fn target(alloc: Global, choose: &Choose<'_>, solved: Solved) -> Result<Target, NoMemory>
+    requires some { 1 ≤ length choose.now.outputs.now }
+    requires numbered { 1 ≤ choose.now.number }
+    requires solved { IsOf (bases_of choose.now.scope.now) choose.now.outputs.now (rel_tree choose.now.rel.now) solved }
+    ensures { IfOk result (IsTargetOf (choose_tree choose.now)) }
 {
-    let params = Vec::from_slice(alloc, solved.scope())?;
-    let results = Vec::from_slice(alloc, solved.outputs())?;
-    let code = solved.into_code(number);
+    let params = bases(alloc, choose.scope)?;
+    let results = Vec::from_slice(alloc, choose.outputs)?;
+    let code = solved.into_code(choose.number);
     Ok(Target::new(RawTarget {
         params,
         results,

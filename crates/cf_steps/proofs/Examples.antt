@@ -11,10 +11,10 @@ use Rattle.cf_reader.proofs.Sample.{word, sign, literal}
 use Rattle.cf_target.specs.Levels.{last_level, with_digit}
 use Rattle.cf_target.specs.Reading.{step, read}
 use Rattle.cf_target.specs.Targets.{bases_of, main_of, part_of}
-use Rattle.cf_steps.specs.declared.act.Act.{Act}
-use Rattle.cf_steps.specs.declared.act.Act.TheVariants.{Clean, Mix, Last, Search, Drop}
+use Rattle.cf_elim.specs.declared.act.Act.{Act}
+use Rattle.cf_elim.specs.declared.act.Act.TheVariants.{Clean, Mix, Last, Search, Drop}
 use Rattle.cf_steps.specs.Blocks.{BlockTree}
-use Rattle.cf_steps.specs.Spelled.{IsSpelledAct}
+use Rattle.cf_elim.specs.Acts.{IsSpelledAct}
 use Rattle.cf_steps.specs.Spelling.{AreBlocks}
 use Rattle.cf_steps.specs.Reading.{factor_of, mix_of, search_of, act_of, ended_act, acts_of, all_acts, case_of, block_of, blocks_of}
 use Rattle.cf_steps.specs.Reading.{all_blocks}

@@ -7,7 +7,7 @@ use Rattle.cf_lex.specs.declared.token.TokenKind.TheVariants.{Literal, Word, Sig
 use Rattle.cf_reader.proofs.Exact.{first_longer, left_over}
 use Rattle.cf_target.specs.Targets.{part_of}
 use Rattle.cf_target.proofs.Only.{part_is}
-use Rattle.cf_steps.specs.declared.act.Act.{Act}
+use Rattle.cf_elim.specs.declared.act.Act.{Act}
 use Rattle.cf_steps.specs.Blocks.{BlockTree, block_acts}
 use Rattle.cf_steps.specs.Reading.{act_of}
 use Rattle.cf_steps.specs.Spelling.{SpellsActs, SpellsCases, SpellsBlock, SpellsBlocks, AreBlocks}

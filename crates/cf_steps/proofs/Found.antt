@@ -16,8 +16,8 @@ use Rattle.cf_reader.proofs.Yields.{if_some, if_else_some, same_token, same_text
 use Rattle.cf_reader.proofs.Faults.{found_on}
 use Rattle.cf_target.specs.Levels.{last_level}
 use Rattle.cf_target.proofs.Targets.{part_yields}
-use Rattle.cf_steps.specs.declared.act.Act.{Act}
-use Rattle.cf_steps.specs.declared.act.Act.TheVariants.{Clean, Mix, Last, Search, Drop}
+use Rattle.cf_elim.specs.declared.act.Act.{Act}
+use Rattle.cf_elim.specs.declared.act.Act.TheVariants.{Clean, Mix, Last, Search, Drop}
 use Rattle.cf_steps.specs.Blocks.{BlockTree}
 use Rattle.cf_steps.specs.Spelling.{SpellsColumn, SpellsFactor, side_kind, SpellsAct, SpellsActs, SpellsCase, SpellsCases, SpellsBlock}
 use Rattle.cf_steps.specs.Spelling.{SpellsBlocks, AreBlocks}

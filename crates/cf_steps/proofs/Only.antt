@@ -20,8 +20,8 @@ use Rattle.cf_reader.proofs.Faults.{same_value, ReadsAll, fault_law as read_faul
 use Rattle.cf_target.specs.Levels.{last_level}
 use Rattle.cf_target.specs.Targets.{part_of}
 use Rattle.cf_target.proofs.Only.{part_is, part_local}
-use Rattle.cf_steps.specs.declared.act.Act.{Act}
-use Rattle.cf_steps.specs.declared.act.Act.TheVariants.{Clean, Mix, Last, Search, Drop}
+use Rattle.cf_elim.specs.declared.act.Act.{Act}
+use Rattle.cf_elim.specs.declared.act.Act.TheVariants.{Clean, Mix, Last, Search, Drop}
 use Rattle.cf_steps.specs.Blocks.{BlockTree}
 use Rattle.cf_steps.specs.Answers.{SomeBlocks}
 use Rattle.cf_steps.specs.Spelling.{SpellsColumn, SpellsFactor, side_kind, SpellsAct, SpellsActs, SpellsCase, SpellsCases, SpellsBlock}

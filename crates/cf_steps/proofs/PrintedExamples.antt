@@ -7,8 +7,8 @@ use Rattle.cf_tree.specs.declared.base.Order.TheVariants.{Ge}
 use Rattle.cf_tree.specs.declared.target.RawTarget.{RawTarget}
 use Rattle.cf_tree.specs.CodeTree.{CodeTree, code_lit, code_var, code_sum, code_mul, code_div, code_compare, code_solve, no_codes, code_more, let_item, need_item, no_items, item_more, arm_of, no_arms, arm_more}
 use Rattle.cf_tree.specs.CodeView.{code_tree}
-use Rattle.cf_steps.specs.declared.act.Act.{Act}
-use Rattle.cf_steps.specs.declared.act.Act.TheVariants.{Clean, Mix, Last, Search, Drop}
+use Rattle.cf_elim.specs.declared.act.Act.{Act}
+use Rattle.cf_elim.specs.declared.act.Act.TheVariants.{Clean, Mix, Last, Search, Drop}
 use Rattle.cf_steps.specs.Printed.{act_text, cases_text, block_text}
 
 -- ---- steps and their texts

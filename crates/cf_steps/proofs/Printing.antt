@@ -20,13 +20,14 @@ use Rattle.cf_emit.specs.Printed.{line_end, base_text, listed, results_text, cod
 use Rattle.cf_emit.proofs.Spans.{Spans, Says, then, as_form, white_before, white_behind, is_plain, word, spaced, opening, opening_brace, closing_brace, semicolon, colon}
 use Rattle.cf_emit.proofs.Words.{number_says, params_say, results_say, header_says}
 use Rattle.cf_emit.proofs.Codes.{equals, code_says}
-use Rattle.cf_steps.specs.declared.act.Act.{Act}
-use Rattle.cf_steps.specs.declared.act.Act.TheVariants.{Clean, Mix, Last, Search, Drop}
+use Rattle.cf_elim.specs.declared.act.Act.{Act}
+use Rattle.cf_elim.specs.declared.act.Act.TheVariants.{Clean, Mix, Last, Search, Drop}
 use Rattle.cf_steps.specs.declared.block.Block.{Block}
 use Rattle.cf_steps.specs.Blocks.{BlockTree, block_tree}
 use Rattle.cf_steps.specs.Printed.{side_text, act_text, acts_text, cases_text, block_text, blocks_text}
 use Rattle.cf_steps.specs.ReadsBack.{ReadsBack}
-use Rattle.cf_steps.specs.Spelled.{IsColumn, IsSpelledAct, AreSpelledCases, IsSpelledBlock}
+use Rattle.cf_elim.specs.Acts.{IsColumn, IsSpelledAct}
+use Rattle.cf_steps.specs.Spelled.{AreSpelledCases, IsSpelledBlock}
 use Rattle.cf_steps.specs.Spelling.{SpellsColumn, SpellsFactor, side_kind, SpellsAct, SpellsActs, SpellsCases, SpellsBlock, AreBlocks}
 use Rattle.cf_steps.proofs.Only.{one_law}
 

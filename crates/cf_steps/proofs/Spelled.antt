@@ -11,11 +11,12 @@ use Rattle.cf_tree.specs.Spelled.{HasSpelling}
 use Rattle.cf_reader.proofs.Keeps.{Small, Keeps, behind, both, given, one, skip, next_literal_keeps, others_keep}
 use Rattle.cf_target.proofs.Spelled.{header_keeps, main_keeps}
 use Rattle.cf_target.specs.Spelling.{SpellsPart}
-use Rattle.cf_steps.specs.declared.act.Act.{Act}
-use Rattle.cf_steps.specs.declared.act.Act.TheVariants.{Clean, Mix, Last, Search, Drop}
+use Rattle.cf_elim.specs.declared.act.Act.{Act}
+use Rattle.cf_elim.specs.declared.act.Act.TheVariants.{Clean, Mix, Last, Search, Drop}
 use Rattle.cf_steps.specs.declared.block.Block.{Block}
 use Rattle.cf_steps.specs.Blocks.{block_tree}
-use Rattle.cf_steps.specs.Spelled.{IsColumn, IsSpelledAct, AreSpelledCases, IsSpelledBlock}
+use Rattle.cf_elim.specs.Acts.{IsColumn, IsSpelledAct}
+use Rattle.cf_steps.specs.Spelled.{AreSpelledCases, IsSpelledBlock}
 use Rattle.cf_steps.specs.Spelling.{SpellsColumn, SpellsFactor, SpellsAct, SpellsActs, SpellsCase, SpellsCases, SpellsBlock, SpellsBlocks, AreBlocks}
 
 -- ---- steps

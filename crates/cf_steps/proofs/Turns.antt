@@ -11,7 +11,7 @@ use Rattle.cf_reader.specs.declared.read_stop.ReadStop.TheVariants as stops
 use Rattle.cf_reader.specs.Answers.{StopAnswer}
 use Rattle.cf_reader.specs.Readers.{Got, Reader, is, at, bind, pure, first, must, more_of, at_end, snoc}
 use Rattle.cf_reader.proofs.Steps.{more_unclosed}
-use Rattle.cf_steps.specs.declared.act.Act.{Act}
+use Rattle.cf_elim.specs.declared.act.Act.{Act}
 use Rattle.cf_steps.specs.declared.block.Block.{Block}
 use Rattle.cf_steps.specs.Blocks.{BlockTree, block_tree}
 use Rattle.cf_steps.specs.Reading.{ended_act, acts_of, block_of, blocks_of}

@@ -2,7 +2,7 @@
 use Rattle.std.specs.Prelude.{ℕ, List, map}
 use Rattle.std.specs.List.{flat_map}
 use Rattle.cf_tree.specs.DefView.{TargetTree, target_tree}
-use Rattle.cf_steps.specs.declared.act.Act.{Act}
+use Rattle.cf_elim.specs.declared.act.Act.{Act}
 use Rattle.cf_steps.specs.declared.block.Block.{Block}
 use Rattle.cf_steps.specs.declared.block.Blocks.{Blocks}
 

@@ -6,8 +6,8 @@ use Rattle.cf_lex.specs.declared.token.TokenKind.TheVariants.{Literal, Word, Sig
 use Rattle.cf_reader.specs.Readers.{Reader, Test, is, a_literal, pure, refuse, must, ◌>>=◌, first, at_end, others_of, snoc}
 use Rattle.cf_target.specs.Levels.{last_level}
 use Rattle.cf_target.specs.Targets.{part_of}
-use Rattle.cf_steps.specs.declared.act.Act.{Act}
-use Rattle.cf_steps.specs.declared.act.Act.TheVariants.{Clean, Mix, Last, Search, Drop}
+use Rattle.cf_elim.specs.declared.act.Act.{Act}
+use Rattle.cf_elim.specs.declared.act.Act.TheVariants.{Clean, Mix, Last, Search, Drop}
 use Rattle.cf_steps.specs.Blocks.{BlockTree}
 
 -- ---- steps

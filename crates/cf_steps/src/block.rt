@@ -1,5 +1,5 @@
 //! Blocks of a steps file.
-use crate::act::Act;
+use cf_elim::Act;
 use cf_tree::RawTarget;
 
 /// The steps of each case of a choose, and the target whose parameters are the choose's scope and

@@ -8,7 +8,7 @@ ghost use Rattle.cf_steps.specs.Printed.{side_text, act_text, acts_text, cases_t
 ghost use Rattle.cf_steps.specs.ReadsBack.{ReadsBack};
 ghost use Rattle.cf_steps.specs.Spelled.{AreSpelledCases};
 
-use crate::act::Act;
+use cf_elim::Act;
 use cf_emit::print;
 use cf_tree::{NoMemory, Target, put_number};
 use itoa::Integer;

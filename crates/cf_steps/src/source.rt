@@ -11,10 +11,10 @@ ghost use Rattle.cf_steps.specs.Reading.{case_of, block_of, all_blocks};
 ghost use Rattle.cf_steps.specs.Spelled.{HaveSpelling};
 ghost use Rattle.cf_steps.specs.Spelling.{AreBlocks};
 
-use crate::act::Act;
 use crate::block::{Block, Blocks};
 use crate::number::expect_column;
 use crate::step::case;
+use cf_elim::Act;
 use cf_lex::{Token, TokenList};
 use cf_reader::{ParseFault, ReadStop, after_word, expect_sign, expect_word, place_at};
 use cf_target::{DEPTH_LIMIT, target_part};

@@ -3,8 +3,8 @@ ghost use Rattle.std.specs.Prelude.{◌≡◌, codes};
 ghost use Rattle.cf_reader.specs.Answers.{ReadAnswer};
 ghost use Rattle.cf_steps.specs.Reading.{mix_of, search_of, act_of, ended_act, all_acts, case_of};
 
-use crate::act::Act;
 use crate::number::{expect_column, expect_factor, expect_side};
+use cf_elim::Act;
 use cf_lex::Token;
 use cf_reader::{ReadStop, after_sign, after_word, expect_sign};
 use std::alloc::Global;

@@ -1,3 +1,5 @@
 mod DoesLemmas
 mod VerdictLemmas
 mod ErrorExamples
+mod CompleteExamples
+mod GenExamples

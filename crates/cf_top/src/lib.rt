@@ -3,5 +3,5 @@
 
 mod top;
 
-pub use cf_answer::Status;
-pub use top::comfusy;
+pub use cf_answer::{Fault, Status};
+pub use top::{answer_words, comfusy};

@@ -8,7 +8,7 @@ ghost use Rattle.cf_answer.specs.Outside.{outside, streams};
 ghost use Rattle.cf_answer.specs.Statuses.{status_of as the_status_of, IsEarly};
 ghost use Rattle.cf_top.specs.Top.{Completes, TopAnswer};
 ghost use Rattle.cf_words.specs.Commands.{command_on};
-ghost use Rattle.cf_words.specs.Words.{command_of};
+ghost use Rattle.cf_words.specs.Words.{command_of, may_be_read};
 
 use cf_answer::{
     Fault, Status, longest_text, run_source, run_target, status_of, tell, verify_files,
@@ -23,8 +23,9 @@ use std::alloc::Global;
 /// command is to write. What a refusal writes goes to `err`.
 ///
 /// `words` are those behind the program's name. `passes` rewrite what is compiled, each once and in
-/// order, unless the words say `--plain`; they are dropped before the call ends. The status says how it
-/// ended. docs/THEOREM.md says what the contract promises, clause by clause.
+/// order, unless the words say `--plain`; they are dropped before the call ends, so what became of them is
+/// told by `answer_words`, to which they are lent. The status says how it ended. docs/THEOREM.md says what
+/// the contract promises, clause by clause.
 pub fn comfusy<F: Shelf, I: Source, O: Sink, E: Sink>(
     alloc: Global,
     words: &[String],
@@ -40,6 +41,8 @@ pub fn comfusy<F: Shelf, I: Source, O: Sink, E: Sink>(
         (E.seen err.old) (E.seen err.new) result }
     ensures usage { result ≡ Status.Usage → command_of (map string_bytes words.now) ≡ None }
     ensures no_command { command_of (map string_bytes words.now) ≡ None → (result ≡ Status.Usage) ⊎ (result ≡ Status.NoMemory) }
+    // A word that is neither an operand nor a flag, or a flag that stands twice, is refused before memory is asked for.
+    ensures early { may_be_read (map string_bytes words.now) ≡ false → result ≡ Status.Usage }
     ensures untouched { command_of (map string_bytes words.now) ≡ None → (shelf.new ≡ shelf.old) × (input.new ≡ input.old) × (out.new ≡ out.old) }
     ensures file { result ≡ Status.File → IsSomeAnd (command_of (map string_bytes words.now))
         (λ c. (name : List ℕ) × Contains (names_of c) name × Rose ((F.seen shelf.old).faults name) ((F.seen shelf.new).faults name)) }
@@ -63,7 +66,13 @@ pub fn comfusy<F: Shelf, I: Source, O: Sink, E: Sink>(
     status_of(&answer)
 }
 
-fn answer_words<F: Shelf, I: Source, O: Sink>(
+/// Does what the words ask for, and answers how it ended. It is all that `comfusy` does but for the line
+/// of `err`, and the one place where it hands the passes on. Since these are lent here, the contract tells
+/// what became of them: each was called once, by the commands that call them, or none was.
+///
+/// # Errors
+/// Why the call was refused, or which object failed; or want of memory.
+pub fn answer_words<F: Shelf, I: Source, O: Sink>(
     alloc: Global,
     words: &[String],
     shelf: &mut F,
@@ -74,6 +83,7 @@ fn answer_words<F: Shelf, I: Source, O: Sink>(
     ensures answers { Answers (command_of (map string_bytes words.now)) (map (λ p. told p) passes.old.items) (map (λ p. told p) passes.new.items)
         (outside (F.seen shelf.old) (I.seen input.old) (O.seen out.old)) (outside (F.seen shelf.new) (I.seen input.new) (O.seen out.new)) result }
     ensures usage { IsErrOf result Fault.Usage → command_of (map string_bytes words.now) ≡ None }
+    ensures early { may_be_read (map string_bytes words.now) ≡ false → IsErrOf result Fault.Usage }
     ensures untouched { command_of (map string_bytes words.now) ≡ None → (shelf.new ≡ shelf.old) × (input.new ≡ input.old) × (out.new ≡ out.old) }
     ensures shelf { IsErrOf result Fault.Usage → shelf.new ≡ shelf.old }
     ensures unread { IsEarly (the_status_of result) → input.new ≡ input.old }

@@ -1,10 +1,21 @@
-use Rattle.std.proofs.Common.{inl}
-use Rattle.cf_program.specs.Typed.{typed_tree}
-use Rattle.cf_answer.proofs.TextLemmas.{choose_refused}
+use Rattle.std.proofs.lemmas.Result.{err_from_is_err_and}
+use Rattle.cf_answer.proofs.CheckLemmas.{program_checks}
+use Rattle.cf_answer.proofs.LoweredLemmas.{lowered_defs, lowered_refused}
 use Rattle.cf_answer.proofs.check.checks.Goals as goal
 
-pub returns-in-Err-Choose : goal.returns-in-Err-Choose
-returns-in-Err-Choose c =
-    let is = c.in-Err-Choose.field-0-is in
-    λ source s. inl (choose_refused source (typed_tree c.args.typed.now) c.in-Err-Choose.number c.in-Err-Choose.refusal s
-    (rw is at c.in-Err-Choose.ensures.refused))
+pub returns-in_err-chooses : goal.returns-in_err-chooses
+returns-in_err-chooses c =
+    let p = err_from_is_err_and c.from_residual.result c.from_residual.ensures.1 in
+    λ source s. rw (p.1, p.2) (lowered_refused source c.args.lowered.now _ s c.typed.ensures.value _ c.in_err-chooses.ensures.refused)
+
+pub lines-requires-clause-order : goal.lines-requires-clause-order
+lines-requires-clause-order c = rw c.matches.ensures.value c.matches.ensures.order
+
+pub lines-requires-clause-classes : goal.lines-requires-clause-classes
+lines-requires-clause-classes c = rw c.matches.ensures.value c.requires
+
+pub returns : goal.returns
+returns c =
+    let written = rw (c.matches.ensures.value, c.deref.ensures.value) at c.in_ok-text.ensures in
+    λ source s. program_checks s.typed.defs _ c.args.lowered.now.matches.items c.in_ok-chooses.chooses.items c.in_ok-text.text.items
+    (lowered_defs source c.args.lowered.now _ s c.typed.ensures.value) s.matches c.in_ok-chooses.ensures.solved written

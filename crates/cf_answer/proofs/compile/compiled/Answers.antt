@@ -2,10 +2,10 @@ use Rattle.cf_answer.proofs.PassLemmas.{plain_verdict}
 use Rattle.cf_answer.proofs.compile.compiled.Goals as goal
 
 pub returns-then-plain-clause-verdict : goal.returns-then-plain-clause-verdict
-returns-then-plain-clause-verdict g c = rw c.if-plain.true (plain_verdict _ _ _ _ (rw c.new.ensures.items at c.compile.ensures.verdict))
+returns-then-plain-clause-verdict g c = rw c.if-plain.true (plain_verdict _ _ _ _ (rw c.new.ensures.items at c.target_of_text.ensures.verdict))
 
 pub returns-clause-verdict : goal.returns-clause-verdict
-returns-clause-verdict g c = rw c.if-plain.false c.compile-2.ensures.verdict
+returns-clause-verdict g c = rw c.if-plain.false c.target_of_text-2.ensures.verdict
 
 pub returns-clause-passed : goal.returns-clause-passed
-returns-clause-passed g c = rw c.if-plain.false c.compile-2.ensures.passed
+returns-clause-passed g c = rw c.if-plain.false c.target_of_text-2.ensures.passed

@@ -1,17 +1,25 @@
 use Rattle.std.proofs.Common.{◌∙◌, refl, inr}
-use Rattle.cf_answer.proofs.AnswerLemmas.{stopped_answers, written_answers}
+use Rattle.std.proofs.lemmas.Result.{err_from_is_err_and}
+use Rattle.cf_answer.proofs.AnswerLemmas.{stopped_answers, written_answers, out_is_late}
 use Rattle.cf_answer.proofs.FileLemmas.{compile_owes}
 use Rattle.cf_answer.proofs.compile.write_target.Goals as goal
 
-pub returns-in-Err-clause-answers : goal.returns-in-Err-clause-answers
-returns-in-Err-clause-answers g c = λ file input. stopped_answers _ _ _ _ _ _ c.in-Err.ensures.passed c.in-Err.ensures.verdict
+pub returns-in_err-target-clause-answers : goal.returns-in_err-target-clause-answers
+returns-in_err-target-clause-answers g c =
+    let p = err_from_is_err_and c.from_residual.result c.from_residual.ensures.1 in
+    λ file input. rw (p.1, p.2) (stopped_answers _ _ _ _ _ _ c.in_err-target.ensures.passed c.in_err-target.ensures.verdict)
 
-pub returns-in-Ok-text-clause-answers : goal.returns-in-Ok-text-clause-answers
-returns-in-Ok-text-clause-answers g c =
-    λ file input. written_answers _ _ _ _ _ _ input _ _ _ refl c.in-Ok.ensures.passed
-    (compile_owes c.args.flags file _ _ _ _ c.in-Ok.ensures.verdict c.in-Ok-text.ensures.reads_back)
-    (c.deref-in-Ok-text.ensures.value ∙ (rw c.deref.ensures.value at c.in-Ok-text.ensures.text)) c.write_text.ensures.all c.write_text.ensures.prefix
+pub returns-in_err-text-clause-answers : goal.returns-in_err-text-clause-answers
+returns-in_err-text-clause-answers g c =
+    let p = err_from_is_err_and c.from_residual-in_err-text.result c.from_residual-in_err-text.ensures.1 in
+    λ file input. rw (p.1, p.2) (stopped_answers _ _ _ _ _ _ c.in_ok-target.ensures.passed (inr refl))
+
+pub returns-clause-answers : goal.returns-clause-answers
+returns-clause-answers g c =
+    λ file input. written_answers _ _ _ _ _ _ input _ _ _ refl c.in_ok-target.ensures.passed
+    (compile_owes c.args.flags file _ _ _ _ c.in_ok-target.ensures.verdict c.in_ok-text.ensures.reads_back)
+    (c.deref-2.ensures.value ∙ (rw c.deref.ensures.value at c.in_ok-text.ensures.text)) c.write_text.ensures.all c.write_text.ensures.prefix
     c.write_text.ensures.fault c.write_text.ensures.count
 
-pub returns-in-Err-text-clause-answers : goal.returns-in-Err-text-clause-answers
-returns-in-Err-text-clause-answers g c = λ file input. stopped_answers _ _ _ _ _ _ c.in-Ok.ensures.passed (inr c.in-Err-text.ensures.fault)
+pub returns-clause-unwritten : goal.returns-clause-unwritten
+returns-clause-unwritten g c = λ e. absurd (out_is_late c.write_text.result c.write_text.ensures.fault e)

@@ -1,19 +1,24 @@
 use Rattle.std.proofs.Common.{◌∙◌, refl, sym, inr, append-nil}
+use Rattle.std.proofs.lemmas.Result.{err_from_is_err_and}
 use Rattle.cf_answer.proofs.AnswerLemmas.{stopped_answers, written_answers, out_is_late}
 use Rattle.cf_answer.proofs.FileLemmas.{workload_owes}
 use Rattle.cf_answer.proofs.generate.write_workload.Goals as goal
 
-pub returns-in-Err-clause-answers : goal.returns-in-Err-clause-answers
-returns-in-Err-clause-answers g c = λ input. stopped_answers _ _ _ _ _ _ c.in-Err.ensures.passed c.in-Err.ensures.verdict
+pub returns-in_err-target-clause-answers : goal.returns-in_err-target-clause-answers
+returns-in_err-target-clause-answers g c =
+    let p = err_from_is_err_and c.from_residual.result c.from_residual.ensures.1 in
+    λ input. rw (p.1, p.2) (stopped_answers _ _ _ _ _ _ c.in_err-target.ensures.passed c.in_err-target.ensures.verdict)
 
-pub returns-in-Ok-summary-clause-answers : goal.returns-in-Ok-summary-clause-answers
-returns-in-Ok-summary-clause-answers g c =
-    λ input. written_answers _ _ _ _ _ _ input _ _ _ refl c.in-Ok.ensures.passed
-    (workload_owes c.args.size _ _ _ _ _ c.in-Ok.ensures.verdict c.in-Ok-summary.ensures.1 c.in-Ok-summary.ensures.2)
-    (c.deref.ensures.value ∙ sym (append-nil _)) c.write_text.ensures.all c.write_text.ensures.prefix c.write_text.ensures.fault c.write_text.ensures.count
-
-pub returns-in-Ok-summary-clause-unwritten : goal.returns-in-Ok-summary-clause-unwritten
-returns-in-Ok-summary-clause-unwritten g c = λ e. absurd (out_is_late c.write_text.result c.write_text.ensures.fault e)
+pub returns-in_err-text-clause-answers : goal.returns-in_err-text-clause-answers
+returns-in_err-text-clause-answers g c =
+    let p = err_from_is_err_and c.from_residual-in_err-text.result c.from_residual-in_err-text.ensures.1 in
+    λ input. rw (p.1, p.2) (stopped_answers _ _ _ _ _ _ c.in_ok-target.ensures.passed (inr refl))
 
 pub returns-clause-answers : goal.returns-clause-answers
-returns-clause-answers g c = λ input. stopped_answers _ _ _ _ _ _ c.in-Ok.ensures.passed (inr refl)
+returns-clause-answers g c =
+    λ input. written_answers _ _ _ _ _ _ input _ _ _ refl c.in_ok-target.ensures.passed
+    (workload_owes c.args.size _ _ _ _ _ c.in_ok-target.ensures.verdict c.in_ok-text.ensures.1 c.in_ok-text.ensures.2)
+    (c.deref.ensures.value ∙ sym (append-nil _)) c.write_text.ensures.all c.write_text.ensures.prefix c.write_text.ensures.fault c.write_text.ensures.count
+
+pub returns-clause-unwritten : goal.returns-clause-unwritten
+returns-clause-unwritten g c = λ e. absurd (out_is_late c.write_text.result c.write_text.ensures.fault e)

@@ -3,15 +3,15 @@ use Rattle.cf_answer.specs.Steps.{answerer_of}
 use Rattle.cf_answer.proofs.StepLemmas.{last_all, last_some, rest_none}
 use Rattle.cf_answer.proofs.pieces.answer_rest.Goals as goal
 
-pub returns-in-Ok-clause-all : goal.returns-in-Ok-clause-all
-returns-in-Ok-clause-all g c =
+pub returns-clause-all : goal.returns-clause-all
+returns-clause-all g c =
     last_all (answerer_of c.args.answerer.now) _ _ c.finish.new.lines.items _ _ _ _ c.answer_lines.ensures.all (append-nil _ ∙ search rules) (search rules)
-    c.in-Ok.ensures.ok
-
-pub returns-in-Ok-clause-some : goal.returns-in-Ok-clause-some
-returns-in-Ok-clause-some g c =
-    last_some (answerer_of c.args.answerer.now) _ _ c.finish.new.lines.items _ _ _ c.answer_lines.ensures.some (append-nil _ ∙ search rules) (search rules)
-    c.in-Ok.ensures.ok
+    c.in_ok-finish.ensures.ok
 
 pub returns-clause-some : goal.returns-clause-some
-returns-clause-some g c = λ bytes first h few. rest_none (answerer_of c.args.answerer.now) _ bytes first _ h few
+returns-clause-some g c =
+    last_some (answerer_of c.args.answerer.now) _ _ c.finish.new.lines.items _ _ _ c.answer_lines.ensures.some (append-nil _ ∙ search rules) (search rules)
+    c.in_ok-finish.ensures.ok
+
+pub returns-in_err-finish-clause-some : goal.returns-in_err-finish-clause-some
+returns-in_err-finish-clause-some g c = λ bytes first h few. rest_none (answerer_of c.args.answerer.now) _ bytes first _ h few

@@ -1,8 +1,8 @@
 use Rattle.std.proofs.Common.{List, take}
-use Rattle.cf_build.specs.Questions.{Question}
+use Rattle.cf_tree.specs.ChooseTree.{ChooseTree}
 use Rattle.cf_build.specs.Solves.{AreSolved}
 use Rattle.cf_answer.specs.Owed.{AllWritten, IsPreOf}
 use Rattle.cf_answer.proofs.pre.pres.Given as goal
 
 abbrev pub invariant-loop-choose : goal.invariant-loop-choose
-invariant-loop-choose l = (qs : List Question) → AreSolved qs l.chooses → AllWritten IsPreOf (take l.choose-index qs) l.text.items
+invariant-loop-choose l = (qs : List ChooseTree) → AreSolved qs l.chooses → AllWritten IsPreOf (take l.choose-index qs) l.text.items

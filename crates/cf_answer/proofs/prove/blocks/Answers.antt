@@ -1,25 +1,32 @@
-use Rattle.std.proofs.Common.{◌≡◌, ◌∙◌, inl, sym, ap, subst, map, All}
-use Rattle.cf_build.specs.Solves.{question_of, IsAsked, IsRising}
-use Rattle.cf_program.specs.Typed.{typed_tree}
+use Rattle.std.proofs.Common.{◌≡◌, ◌∙◌, sym, ap, subst, map, All}
+use Rattle.std.proofs.lemmas.Result.{err_from_is_err_and}
+use Rattle.cf_tree.specs.ChooseView.{choose_tree}
+use Rattle.cf_build.specs.Chooses.{by_number}
+use Rattle.cf_build.specs.Solves.{IsTypedChoose, IsRising}
 use Rattle.cf_answer.specs.Certificates.{asked_in, AreProofs}
 use Rattle.cf_answer.proofs.BlockLemmas.{block_refused}
+use Rattle.cf_answer.proofs.LoweredLemmas.{lowered_chooses}
 use Rattle.cf_answer.proofs.prove.blocks.Goals as goal
 
 pub prove_each-requires : goal.prove_each-requires
 prove_each-requires c = record {
-  asked = subst (λ xs. All (λ x. IsAsked (question_of x)) xs) (sym c.deref.ensures.value) c.in-Ok.ensures.asked;
-  rising = subst (λ xs. IsRising (map question_of xs)) (sym c.deref.ensures.value) c.in-Ok.ensures.rising;
+  asked = subst (λ xs. All (λ x. IsTypedChoose (choose_tree x)) xs) (sym c.deref.ensures.value) c.in_ok-chooses.ensures.typed;
+  rising = subst (λ xs. IsRising (map choose_tree xs)) (sym c.deref.ensures.value) c.in_ok-chooses.ensures.rising;
 }
 
-pub returns-in-Ok-prove_each : goal.returns-in-Ok-prove_each
-returns-in-Ok-prove_each c =
-    let are : map question_of c.deref.result.now ≡ asked_in (typed_tree c.args.typed.now) =
-    ap (map question_of) c.deref.ensures.value ∙ c.in-Ok.ensures.chooses in
-    λ source s. subst (λ qs. AreProofs qs c.in-Ok-prove_each.text.items) are c.in-Ok-prove_each.ensures.proofs
+pub returns-in_err-text : goal.returns-in_err-text
+returns-in_err-text c =
+    let p = err_from_is_err_and c.from_residual-in_err-text.result c.from_residual-in_err-text.ensures.1 in
+    λ source s.
+    let are : map choose_tree c.deref.result.now ≡ asked_in s.typed =
+    ap (map choose_tree) c.deref.ensures.value ∙ c.in_ok-chooses.ensures.chooses
+    ∙ ap by_number (lowered_chooses source c.args.lowered.now _ s c.typed.ensures.value) in
+    rw (p.1, p.2) (block_refused source s.typed _ _ are s.is c.in_err-text.ensures.refused)
 
-pub returns-in-Err-Choose : goal.returns-in-Err-Choose
-returns-in-Err-Choose c =
-    let are : map question_of c.deref.result.now ≡ asked_in (typed_tree c.args.typed.now) =
-    ap (map question_of) c.deref.ensures.value ∙ c.in-Ok.ensures.chooses in
-    λ source s. inl (block_refused source (typed_tree c.args.typed.now) _ c.in-Err-Choose.number c.in-Err-Choose.refusal are s
-    (rw c.in-Err-Choose.field-0-is at c.in-Err-Choose.ensures.refused))
+pub returns : goal.returns
+returns c =
+    λ source s.
+    let are : map choose_tree c.deref.result.now ≡ asked_in s.typed =
+    ap (map choose_tree) c.deref.ensures.value ∙ c.in_ok-chooses.ensures.chooses
+    ∙ ap by_number (lowered_chooses source c.args.lowered.now _ s c.typed.ensures.value) in
+    subst (λ qs. AreProofs qs c.in_ok-text.text.items) are c.in_ok-text.ensures.proofs

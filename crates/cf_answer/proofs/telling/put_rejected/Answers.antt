@@ -1,8 +1,15 @@
+use Rattle.std.proofs.Common.{subst}
+use Rattle.cf_answer.specs.Lines.{Puts}
+use Rattle.cf_answer.proofs.PieceLemmas.{rejected_pieces}
 use Rattle.cf_answer.proofs.telling.put_rejected.Goals as goal
 
 pub returns : goal.returns
 returns g c =
-    rw (
+    let reason = c.rejection_reason-reason.result in
+    subst (λ line. Puts line (g.E.Sink.seen c.args.err.now) (g.E.Sink.seen c.put_pieces.new.err) c.put_pieces.result)
+    (rejected_pieces c.args.number c.args.case c.args.step reason.words.now reason.gap.now reason.count.now c.args.why.now
+    c.rejection_reason-reason.ensures)
+    (rw (
       c.as_slice.ensures,
       c.as_bytes.ensures.value,
       c.format.ensures.text,
@@ -14,4 +21,4 @@ returns g c =
       c.format-3.ensures.text,
       c.as_slice-4.ensures,
       c.as_slice-5.ensures,
-    ) at c.put_pieces.ensures
+    ) at c.put_pieces.ensures)

@@ -1,4 +1,5 @@
 use Rattle.std.proofs.Common.{◌≡◌, refl, sym, subst, [], rules}
+use Rattle.std.proofs.lemmas.Result.{err_from_is_err_and}
 use Rattle.cf_io.specs.Seen.{untold_source}
 use Rattle.cf_answer.specs.Outside.{AreTold}
 use Rattle.cf_answer.proofs.OutsideLemmas.{text_told}
@@ -6,23 +7,26 @@ use Rattle.cf_answer.proofs.VerifyLemmas.{source_does, source_usage, one_in_orde
 use Rattle.cf_answer.proofs.verify.verify_files.Goals as goal
 
 -- the source gave no chooses
-pub returns-in-Err-clause-does : goal.returns-in-Err-clause-does
-returns-in-Err-clause-does g c =
-    λ given input. source_does c.args.file.now c.args.steps.now given _ _ c.in-Err.fault c.fetch_questions.ensures.fetched
-    refl c.in-Err.ensures.fault
+pub returns-in_err-lowered-clause-does : goal.returns-in_err-lowered-clause-does
+returns-in_err-lowered-clause-does g c =
+    let p = err_from_is_err_and c.from_residual.result c.from_residual.ensures.1 in
+    λ given input. rw (p.1, p.2) (source_does c.args.file.now c.args.steps.now given _ _ _ c.fetch_lowered.ensures.fetched refl c.in_err-lowered.ensures.fault)
 
-pub returns-in-Err-clause-usage : goal.returns-in-Err-clause-usage
-returns-in-Err-clause-usage g c = λ e. source_usage _ _ _ c.in-Err.fault c.in-Err.ensures.fault e
+pub returns-in_err-lowered-clause-usage : goal.returns-in_err-lowered-clause-usage
+returns-in_err-lowered-clause-usage g c =
+    let p = err_from_is_err_and c.from_residual.result c.from_residual.ensures.1 in
+    rw (p.1, p.2) (λ e. source_usage _ _ _ _ c.in_err-lowered.ensures.fault e)
 
-pub returns-in-Err-clause-order : goal.returns-in-Err-clause-order
-returns-in-Err-clause-order g c =
-    λ source f here broken. one_in_order _ _ _ c.in-Err.fault c.fetch_questions.ensures.fetched c.in-Err.ensures.fault
+pub returns-in_err-lowered-clause-order : goal.returns-in_err-lowered-clause-order
+returns-in_err-lowered-clause-order g c =
+    let p = err_from_is_err_and c.from_residual.result c.from_residual.ensures.1 in
+    rw (p.1, p.2) (λ source f here broken. one_in_order _ _ _ _ c.fetch_lowered.ensures.fetched c.in_err-lowered.ensures.fault)
 
 -- the steps file failed
 pub returns-in-Err-Failed-clause-does : goal.returns-in-Err-Failed-clause-does
 returns-in-Err-Failed-clause-does g c =
     let is = c.in-Err-Failed.field-0-is in
-    λ given input. steps_fail c.args.file.now c.args.steps.now given _ _ _ c.fetch_questions.ensures.fetched c.in-Ok.ensures.same
+    λ given input. steps_fail c.args.file.now c.args.steps.now given _ _ _ c.fetch_lowered.ensures.fetched c.in_ok-lowered.ensures.same
     (record {
       fetched = c.in-Err-Failed.ensures.asked;
       most = rw c.longest_text.ensures.is at c.in-Err-Failed.ensures.most;
@@ -34,14 +38,14 @@ returns-in-Err-Failed-clause-does g c =
     refl (c.in-Err-Failed.ensures.failed (rw is refl))
 
 pub returns-in-Err-Failed-clause-order : goal.returns-in-Err-Failed-clause-order
-returns-in-Err-Failed-clause-order g c = λ source f here broken. asked_unbroken _ _ source f c.in-Ok.ensures.asked here broken
+returns-in-Err-Failed-clause-order g c = λ source f here broken. asked_unbroken _ _ source f c.in_ok-lowered.ensures.asked here broken
 
 -- its text is too long
 pub returns-in-Err-TooLong-clause-does : goal.returns-in-Err-TooLong-clause-does
 returns-in-Err-TooLong-clause-does g c =
     let is = c.in-Err-TooLong.field-0-is in
-    let asked = c.in-Ok.ensures.asked in
-    λ given input. long_does c.args.file.now c.args.steps.now given _ _ _ c.fetch_questions.ensures.fetched c.in-Ok.ensures.same
+    let asked = c.in_ok-lowered.ensures.asked in
+    λ given input. long_does c.args.file.now c.args.steps.now given _ _ _ c.fetch_lowered.ensures.fetched c.in_ok-lowered.ensures.same
     (record {
       fetched = c.in-Err-TooLong.ensures.asked;
       most = rw c.longest_text.ensures.is at c.in-Err-TooLong.ensures.most;
@@ -50,16 +54,16 @@ returns-in-Err-TooLong-clause-does g c =
       texts = c.in-Err-TooLong.ensures.texts;
       once = c.in-Err-TooLong.ensures.once;
     })
-    refl (c.in-Err-TooLong.ensures.same (λ e. cc)) asked.0 asked.2.0 asked.1 asked.2.1
-    (rw (c.longest_text.ensures.is, c.fetch_questions.ensures.fetched.texts c.args.steps.now) at (c.in-Err-TooLong.ensures.long (rw is refl)))
+    refl (c.in-Err-TooLong.ensures.same (λ e. cc)) asked.0 asked.2.typed asked.1 asked.2.is
+    (rw (c.longest_text.ensures.is, c.fetch_lowered.ensures.fetched.texts c.args.steps.now) at (c.in-Err-TooLong.ensures.long (rw is refl)))
 
 pub returns-in-Err-TooLong-clause-order : goal.returns-in-Err-TooLong-clause-order
-returns-in-Err-TooLong-clause-order g c = λ source f here broken. asked_unbroken _ _ source f c.in-Ok.ensures.asked here broken
+returns-in-Err-TooLong-clause-order g c = λ source f here broken. asked_unbroken _ _ source f c.in_ok-lowered.ensures.asked here broken
 
 -- memory ran out
 pub returns-clause-does : goal.returns-clause-does
 returns-clause-does g c =
-    λ given input. no_memory_does c.args.file.now c.args.steps.now given _ _ _ c.fetch_questions.ensures.fetched c.in-Ok.ensures.same
+    λ given input. no_memory_does c.args.file.now c.args.steps.now given _ _ _ c.fetch_lowered.ensures.fetched c.in_ok-lowered.ensures.same
     (record {
       fetched = c.in-Err-NoMemory.ensures.asked;
       most = rw c.longest_text.ensures.is at c.in-Err-NoMemory.ensures.most;
@@ -71,32 +75,32 @@ returns-clause-does g c =
     refl (c.in-Err-NoMemory.ensures.same (λ e. cc))
 
 pub returns-clause-order : goal.returns-clause-order
-returns-clause-order g c = λ source f here broken. asked_unbroken _ _ source f c.in-Ok.ensures.asked here broken
+returns-clause-order g c = λ source f here broken. asked_unbroken _ _ source f c.in_ok-lowered.ensures.asked here broken
 
 -- its text was read
-pub returns-in-Ok-read_text-clause-does : goal.returns-in-Ok-read_text-clause-does
-returns-in-Ok-read_text-clause-does g c =
-    let asked = c.in-Ok.ensures.asked in
-    let same : c.deref-in-Ok-read_text.result.now ≡ c.in-Ok-read_text.text.items = search rules in
-    λ given input. checked_does c.args.file.now c.args.steps.now given _ _ _ c.fetch_questions.ensures.fetched c.in-Ok.ensures.same
+pub returns-in-Ok-clause-does : goal.returns-in-Ok-clause-does
+returns-in-Ok-clause-does g c =
+    let asked = c.in_ok-lowered.ensures.asked in
+    let same : c.deref.result.now ≡ c.in-Ok.text.items = search rules in
+    λ given input. checked_does c.args.file.now c.args.steps.now given _ _ _ c.fetch_lowered.ensures.fetched c.in_ok-lowered.ensures.same
     (record {
-      fetched = c.in-Ok-read_text.ensures.asked;
-      most = rw c.longest_text.ensures.is at c.in-Ok-read_text.ensures.most;
-      given = rw c.longest_text.ensures.is at c.in-Ok-read_text.ensures.given;
-      ends = c.in-Ok-read_text.ensures.ends;
-      texts = c.in-Ok-read_text.ensures.texts;
-      once = c.in-Ok-read_text.ensures.once;
+      fetched = c.in-Ok.ensures.asked;
+      most = rw c.longest_text.ensures.is at c.in-Ok.ensures.most;
+      given = rw c.longest_text.ensures.is at c.in-Ok.ensures.given;
+      ends = c.in-Ok.ensures.ends;
+      texts = c.in-Ok.ensures.texts;
+      once = c.in-Ok.ensures.once;
     })
-    asked.0 c.deref-in-Ok-read_text.result.now _ asked.1
-    (subst (AreTold _) (sym same) (subst (λ o. AreTold o c.in-Ok-read_text.text.items) (c.fetch_questions.ensures.fetched.texts c.args.steps.now)
-    (text_told _ _ c.in-Ok-read_text.ensures.whole)))
-    (c.verify_text.ensures.answers c.args.file.now c.args.steps.now given input asked.0 (rw c.deref.ensures.value asked.2))
-    (c.in-Ok-read_text.ensures.same (λ e. cc))
+    asked.0 c.deref.result.now _ asked.1
+    (subst (AreTold _) (sym same) (subst (λ o. AreTold o c.in-Ok.text.items) (c.fetch_lowered.ensures.fetched.texts c.args.steps.now)
+    (text_told _ _ c.in-Ok.ensures.whole)))
+    (c.verify_text.ensures.answers c.args.file.now c.args.steps.now given input asked.0 asked.2)
+    (c.in-Ok.ensures.same (λ e. cc))
 
-pub returns-in-Ok-read_text-clause-usage : goal.returns-in-Ok-read_text-clause-usage
-returns-in-Ok-read_text-clause-usage g c =
-    let asked = c.in-Ok.ensures.asked in
-    λ e. (c.verify_text.ensures.answers [] [] [] (untold_source 0 0 0) asked.0 (rw c.deref.ensures.value asked.2)).not_usage e
+pub returns-in-Ok-clause-usage : goal.returns-in-Ok-clause-usage
+returns-in-Ok-clause-usage g c =
+    let asked = c.in_ok-lowered.ensures.asked in
+    λ e. (c.verify_text.ensures.answers [] [] [] (untold_source 0 0 0) asked.0 asked.2).not_usage e
 
-pub returns-in-Ok-read_text-clause-order : goal.returns-in-Ok-read_text-clause-order
-returns-in-Ok-read_text-clause-order g c = λ source f here broken. asked_unbroken _ _ source f c.in-Ok.ensures.asked here broken
+pub returns-in-Ok-clause-order : goal.returns-in-Ok-clause-order
+returns-in-Ok-clause-order g c = λ source f here broken. asked_unbroken _ _ source f c.in_ok-lowered.ensures.asked here broken

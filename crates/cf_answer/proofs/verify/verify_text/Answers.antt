@@ -1,24 +1,55 @@
-use Rattle.std.proofs.Common.{◌∙◌, [], inl, inr, refl, sym, append-nil}
+use Rattle.std.proofs.Common.{◌∙◌, [], inl, inr, map, refl, subst, sym, append-nil}
+use Rattle.std.proofs.lemmas.Result.{err_from_is_err_and}
+use Rattle.cf_tree.specs.ChooseView.{choose_tree}
+use Rattle.cf_cases.specs.Holding.{EachOf}
+use Rattle.cf_cert.specs.Laws.{IsLinearChoose}
 use Rattle.cf_answer.proofs.AnswerLemmas.{stopped_answers, written_answers}
+use Rattle.cf_answer.proofs.AskedLemmas.{are_linear, asked_all}
 use Rattle.cf_answer.proofs.VerifyLemmas.{steps_refused, blocks_refused, verified_owes}
 use Rattle.cf_answer.proofs.verify.verify_text.Goals as goal
 
-pub returns-in-Err-clause-answers : goal.returns-in-Err-clause-answers
-returns-in-Err-clause-answers g c =
-    λ file steps given input source asks. stopped_answers _ given given _ _ c.in-Err.fault refl
-    (steps_refused source c.args.text.now _ c.in-Err.fault asks c.in-Err.ensures)
+pub verify-requires-clause-chooses : goal.verify-requires-clause-chooses
+verify-requires-clause-chooses g c =
+    let linear = are_linear c.in_ok-chooses.chooses.items c.in_ok-chooses.ensures.typed in
+    subst (λ cs. EachOf IsLinearChoose (map choose_tree cs)) (sym c.deref.ensures.value) linear
 
-pub returns-in-Ok-verified_lines-clause-answers : goal.returns-in-Ok-verified_lines-clause-answers
-returns-in-Ok-verified_lines-clause-answers g c =
-    λ file steps given input source asks. written_answers _ given given _ _ _ input _ _ _ refl refl
-    (verified_owes file steps source c.args.text.now given given [] _ _ _ asks c.in-Ok.ensures
-    (rw c.in-Ok-Yes.field-0-is at c.in-Ok-Yes.ensures.verdict) c.in-Ok-verified_lines.ensures)
-    (c.deref.ensures.value ∙ sym (append-nil _)) c.write_text.ensures.all c.write_text.ensures.prefix c.write_text.ensures.fault c.write_text.ensures.count
+pub returns-in_err-blocks-clause-answers : goal.returns-in_err-blocks-clause-answers
+returns-in_err-blocks-clause-answers g c =
+    let p = err_from_is_err_and c.from_residual.result c.from_residual.ensures.1 in
+    λ file steps given input source s. rw (p.1, p.2) (stopped_answers _ given given _ _ _ refl
+    (steps_refused source c.args.text.now _ _ s c.in_err-blocks.ensures))
 
-pub returns-in-Ok-Yes-clause-answers : goal.returns-in-Ok-Yes-clause-answers
-returns-in-Ok-Yes-clause-answers g c = λ file steps given input source asks. stopped_answers _ given given _ _ _ refl (inr refl)
+pub returns-in_err-chooses-clause-answers : goal.returns-in_err-chooses-clause-answers
+returns-in_err-chooses-clause-answers g c =
+    let p = err_from_is_err_and c.from_residual-in_err-chooses.result c.from_residual-in_err-chooses.ensures.1 in
+    λ file steps given input source s. rw (p.1, p.2) (stopped_answers _ given given _ _ _ refl (inr refl))
 
-pub returns-in-Ok-Rejected-clause-answers : goal.returns-in-Ok-Rejected-clause-answers
-returns-in-Ok-Rejected-clause-answers g c =
-    λ file steps given input source asks. stopped_answers _ given given _ _ _ refl
-    (inl (blocks_refused source c.args.text.now _ _ _ _ _ _ asks c.in-Ok.ensures (rw c.in-Ok-Rejected.field-0-is at c.in-Ok-Rejected.ensures.verdict)))
+pub returns-in_err-verdict-clause-answers : goal.returns-in_err-verdict-clause-answers
+returns-in_err-verdict-clause-answers g c =
+    let p = err_from_is_err_and c.from_residual-in_err-verdict.result c.from_residual-in_err-verdict.ensures.1 in
+    λ file steps given input source s. rw (p.1, p.2) (stopped_answers _ given given _ _ _ refl (inr refl))
+
+pub returns-in_err-lines-in-Yes-clause-answers : goal.returns-in_err-lines-in-Yes-clause-answers
+returns-in_err-lines-in-Yes-clause-answers g c =
+    let p = err_from_is_err_and c.from_residual-in_err-lines-in-Yes.result c.from_residual-in_err-lines-in-Yes.ensures.1 in
+    λ file steps given input source s. rw (p.1, p.2) (stopped_answers _ given given _ _ _ refl (inr refl))
+
+pub returns-in-Yes-clause-answers : goal.returns-in-Yes-clause-answers
+returns-in-Yes-clause-answers g c =
+    let cs = c.in_ok-chooses.chooses.items in
+    λ file steps given input source s.
+    let asks = asked_all source c.args.lowered.now _ cs c.typed.ensures.value c.in_ok-chooses.ensures.chooses c.in_ok-chooses.ensures.typed s in
+    written_answers _ given given _ _ _ input _ _ _ refl refl
+    (verified_owes file steps source c.args.text.now given given [] _ _ _ asks c.in_ok-blocks.ensures
+    (rw (c.deref.ensures.value, c.in-Yes.is) at c.in_ok-verdict.ensures.verdict) (rw c.deref-in-Yes.ensures.value at c.in_ok-lines-in-Yes.ensures))
+    (c.deref-in-Yes-2.ensures.value ∙ sym (append-nil _)) c.write_text.ensures.all c.write_text.ensures.prefix c.write_text.ensures.fault
+    c.write_text.ensures.count
+
+pub returns-clause-answers : goal.returns-clause-answers
+returns-clause-answers g c =
+    let cs = c.in_ok-chooses.chooses.items in
+    λ file steps given input source s.
+    let asks = asked_all source c.args.lowered.now _ cs c.typed.ensures.value c.in_ok-chooses.ensures.chooses c.in_ok-chooses.ensures.typed s in
+    stopped_answers _ given given _ _ _ refl
+    (inl (blocks_refused source c.args.text.now _ _ _ _ _ _ asks c.in_ok-blocks.ensures
+    (rw (c.deref.ensures.value, c.in-Rejected.is) at c.in_ok-verdict.ensures.verdict)))

@@ -30,14 +30,15 @@ callee-code-requires t c =
     let falls = callee_falls c.args.around.now.before.now c.args.number c.in-Some.def.now found.3.0 found.1 in
     omega (arith, c.decreases, falls)
 
-pub callee-returns-in_ok-arity-in-Some : goal.callee-returns-in_ok-arity-in-Some
-callee-returns-in_ok-arity-in-Some t c =
+pub callee-returns-in_ok-to_u32-in-Some : goal.callee-returns-in_ok-to_u32-in-Some
+callee-returns-in_ok-to_u32-in-Some t c =
     let solves = solved_in (map choose_code c.args.around.now.solves.now.codes.items) in
     let found = c.in-Some.ensures.lookup in
     let code_is = callee_code c.args.around.now.before.now c.args.number c.in-Some.def.now found.3.0 found.1 solves in
     IfOk-weaker c.code.result _ _
     (λ code h. (
-      h.0 ∙ rw (c.in_ok-add_u32-in-Some.ensures, c.in_ok-arity-in-Some.ensures) (ap (λ k. shifted (c.args.around.now.by + c.args.n) k) (sym code_is)),
+      h.0 ∙ rw (c.in_ok-add_u32-in-Some.ensures, c.in_ok-to_u32-in-Some.ensures ∙ c.len.ensures ∙ c.in-Some.def.now.params.ok.0)
+          (ap (λ k. shifted (c.args.around.now.by + c.args.n) k) (sym code_is)),
       h.1,
     ))
     c.code.ensures

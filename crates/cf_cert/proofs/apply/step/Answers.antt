@@ -1,9 +1,8 @@
-use Rattle.std.proofs.Common.{rules, ◌≡◌, ℕ, sym, subst}
+use Rattle.std.proofs.Common.{rules, ◌≡◌, sym, subst}
 use Rattle.cf_linear.specs.Stages.{limits}
 use Rattle.cf_linear.specs.Views.{system_of}
 use Rattle.cf_linear.proofs.MapLemmas.{back}
-use Rattle.cf_steps.specs.declared.act.Act.{Act}
-use Rattle.cf_steps.specs.declared.act.Act.TheVariants.{Clean, Mix, Last, Search, Drop}
+use Rattle.cf_elim.specs.declared.act.Act.TheVariants.{Clean, Mix, Last, Search, Drop}
 use Rattle.cf_cert.specs.Applying.{apply, IsWithinAct}
 use Rattle.cf_cert.specs.Stepping.{ApplyIs}
 use Rattle.cf_cert.proofs.StepLaws.{apply_clean, apply_mix, apply_last, apply_search, apply_drop}

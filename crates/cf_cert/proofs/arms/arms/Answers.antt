@@ -2,7 +2,6 @@ use Rattle.std.proofs.Common.{rules, ◌≤◌, length, map, Err, sym, subst}
 use Rattle.cf_linear.specs.Stages.{limits}
 use Rattle.cf_linear.specs.Views.{plain_layout, system_of}
 use Rattle.cf_cases.specs.Holding.{EachOf}
-use Rattle.cf_steps.specs.declared.act.Act.{Act}
 use Rattle.cf_cert.specs.declared.follow.TheConstants.{MOST_STEPS}
 use Rattle.cf_cert.specs.Applying.{IsWithinAct}
 use Rattle.cf_cert.specs.Certifying.{eliminated}

@@ -1,4 +1,4 @@
-use Rattle.std.proofs.Common.{◌≡◌, true, false, sym, subst, ◌∙◌, Err}
+use Rattle.std.proofs.Common.{sym, subst, ◌∙◌, Err}
 use Rattle.cf_linear.specs.Stages.{limits}
 use Rattle.cf_linear.specs.Views.{system_of}
 use Rattle.cf_bounds.specs.Dropping.{dropped_answer}

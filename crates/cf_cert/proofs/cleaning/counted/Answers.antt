@@ -16,4 +16,5 @@ pub returns-in-Err : goal.returns-in-Err
 returns-in-Err c =
     let o = first_count limits (system_of c.args.answer.system) in
     let a : Applied = Ok (cleaned c.args.answer) in
-    subst (λ f. ApplyIs (refused_by o a) (Err f)) (sym c.refusal_of.ensures) (count_rejects o a c.in-Err.fault c.in-Err.ensures)
+    subst (λ f. ApplyIs (refused_by o a) (Err f)) (sym c.refusal_of.ensures)
+    (count_rejects (system_of c.args.answer.system) a c.in-Err.fault tt c.in-Err.ensures)

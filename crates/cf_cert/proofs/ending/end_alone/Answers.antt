@@ -1,4 +1,4 @@
-use Rattle.std.proofs.Common.{◌≡◌, List, ℕ, Err, refl, sym, subst}
+use Rattle.std.proofs.Common.{◌≡◌, Err, refl, sym, subst}
 use Rattle.cf_linear.specs.Stages.{limits}
 use Rattle.cf_linear.specs.Views.{system_of}
 use Rattle.cf_equation.specs.Equations.{first_of, rest_of, first_present}

@@ -5,7 +5,7 @@ use Rattle.cf_equation.specs.Equations.{first_of, rest_of}
 use Rattle.cf_elim.proofs.NextStageLaws.{end_some}
 use Rattle.cf_cert.specs.Applying.{last_of}
 use Rattle.cf_cert.specs.Stepping.{ApplyIs}
-use Rattle.cf_cert.proofs.StepLaws.{end_counts, end_past, end_on}
+use Rattle.cf_cert.proofs.StepLaws.{end_counts, end_past, end_on, last_of_lacks}
 use Rattle.cf_cert.proofs.ending.end_counted.Goals as goal
 
 pub returns-in-Err : goal.returns-in-Err
@@ -30,3 +30,9 @@ pub returns-in-Err-Past : goal.returns-in-Err-Past
 returns-in-Err-Past c =
     end_past (system_of c.args.system) c.args.u c.in-Some.counts.rows c.in-Some.counts.columns c.requires.one c.in-Some.ensures c.in-Ok.ensures
     (c.in-Err-Past.ensures.past (rw c.in-Err-Past.field-0-is refl))
+
+pub returns-in-None : goal.returns-in-None
+returns-in-None c = let m = system_of c.args.system in last_of_lacks m (first_of m) (rest_of m) (c.args.u ∷ [])
+
+pub returns-in-Err-NoMemory : goal.returns-in-Err-NoMemory
+returns-in-Err-NoMemory c = let m = system_of c.args.system in last_of_lacks m (first_of m) (rest_of m) (c.args.u ∷ [])

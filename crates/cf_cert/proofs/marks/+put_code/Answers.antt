@@ -1,6 +1,7 @@
 use Rattle.std.proofs.Common.{◌∷◌, [], arith}
 use Rattle.cf_tree.specs.CodeView.{arm_tree, arm_trees, code_trees, item_trees}
-use Rattle.cf_cert.specs.declared.marks.Mark.TheVariants.{More}
+use Rattle.cf_cert.specs.declared.marks.Form.TheVariants.{More}
+use Rattle.cf_cert.specs.declared.marks.Mark.TheVariants.{Form}
 use Rattle.cf_cert.specs.Marks.{arm_marks, arms_marks, codes_marks, items_marks}
 use Rattle.cf_cert.proofs.PutLaws.{at_next, put_both, put_end, put_next}
 use Rattle.cf_cert.proofs.marks.+put_code.Goals as goal
@@ -28,7 +29,7 @@ put_items-returns t c =
 pub put_arms-loop-arm-preserved : goal.put_arms-loop-arm-preserved
 put_arms-loop-arm-preserved t c =
     let l = c.loop-arm in
-    put_next _ _ _ _ _ _ (put_both l.out.items _ _ (More ∷ []) (arm_marks (arm_tree c.arm-item.result)) c.in_ok-push.ensures.items c.in_ok-put_arm.ensures)
+    put_next _ _ _ _ _ _ (put_both l.out.items _ _ (Form More ∷ []) (arm_marks (arm_tree c.arm-item.result)) c.in_ok-push.ensures.items c.in_ok-put_arm.ensures)
     (at_next (λ arms. arms_marks (arm_trees arms)) c.args.arms.now l.arm-index c.arm-item.result _ (omega arith) c.arm-item.is) l.invariant
 
 pub put_arms-returns : goal.put_arms-returns

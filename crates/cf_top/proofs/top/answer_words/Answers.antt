@@ -35,3 +35,15 @@ returns-in-Ok-OnFile-clause-order g c =
 
 pub returns-in-Ok-Gen-clause-order : goal.returns-in-Ok-Gen-clause-order
 returns-in-Ok-Gen-clause-order g c = rw (rw c.in-Ok-Gen.field-0-is at c.in-Ok-Gen.ensures.answer) tt
+
+pub returns-in-Ok-Gen-clause-early : goal.returns-in-Ok-Gen-clause-early
+returns-in-Ok-Gen-clause-early g c = λ e. let other = c.in-Ok-Gen.ensures.early e in cc
+
+pub returns-in-Ok-OnFile-clause-early : goal.returns-in-Ok-OnFile-clause-early
+returns-in-Ok-OnFile-clause-early g c = λ e. let other = c.in-Ok-OnFile.ensures.early e in cc
+
+pub returns-in-Ok-Verify-clause-early : goal.returns-in-Ok-Verify-clause-early
+returns-in-Ok-Verify-clause-early g c = λ e. let other = c.in-Ok-Verify.ensures.early e in cc
+
+pub returns-in-Err-NoMemory-clause-early : goal.returns-in-Err-NoMemory-clause-early
+returns-in-Err-NoMemory-clause-early g c = λ e. let other = c.in-Err-NoMemory.ensures.early e in cc

@@ -1,5 +1,5 @@
-use Rattle.std.proofs.Common.{◌∙◌, sym, subst}
-use Rattle.cf_answer.specs.Statuses.{IsEarly}
+use Rattle.std.proofs.Common.{◌∙◌, ap, sym, subst}
+use Rattle.cf_answer.specs.Statuses.{IsEarly, status_of}
 use Rattle.cf_answer.proofs.StatusLemmas.{is_usage, is_file, is_input, is_output}
 use Rattle.cf_top.proofs.DoesLemmas.{order_of}
 use Rattle.cf_top.proofs.VerdictLemmas.{completes, no_command, file_rose, input_rose, out_rose, told_or_rose}
@@ -19,6 +19,9 @@ returns-clause-usage g c = λ e. c.answer_words-answer.ensures.usage (is_usage _
 
 pub returns-clause-no_command : goal.returns-clause-no_command
 returns-clause-no_command g c = λ none. no_command _ _ _ _ _ _ _ none c.answer_words-answer.ensures.answers c.status_of.ensures
+
+pub returns-clause-early : goal.returns-clause-early
+returns-clause-early g c = λ e. c.status_of.ensures ∙ ap status_of (c.answer_words-answer.ensures.early e)
 
 pub returns-clause-untouched : goal.returns-clause-untouched
 returns-clause-untouched g c = c.answer_words-answer.ensures.untouched

@@ -1,0 +1,76 @@
+-- Each command: the files that it reads, whether it reads the input, and what it does with the passes; each status: whether it comes early.
+use Rattle.std.proofs.Common.{◌≡◌, inl, inr, ℕ, Bool, true, false, List, [], ◌∷◌, refl, arith, codes}
+use Rattle.cf_pass.specs.Passes.{Told}
+use Rattle.cf_words.specs.Commands.{compile, run, pre, check, exec, prove, verify, gen}
+use Rattle.cf_words.specs.declared.command.Flags.{Flags}
+use Rattle.cf_answer.specs.Commands.{names_of, reads_input, calls_passes, tells_tallies}
+use Rattle.cf_answer.specs.Ends.{input_for}
+use Rattle.cf_answer.specs.Passes.{ArePassed}
+use Rattle.cf_answer.specs.Statuses.{IsEarly}
+use Rattle.cf_answer.specs.declared.status.Status.TheVariants.{Done, Usage, File, Input, Output, Text}
+use Rattle.cf_answer.specs.declared.status.Status.TheVariants.{Types, NotLinear, Past, Limit, InputLong, NoMemory, Rejected}
+
+abbrev flags : Bool → Bool → Flags
+flags plain stats = record { plain = plain; stats = stats }
+
+abbrev a : List ℕ
+a = codes "a"
+
+abbrev b : List ℕ
+b = codes "b"
+
+-- ---- files
+one-name : (names_of (compile (flags false false) a) ≡ a ∷ []) × (names_of (run (flags false false) a) ≡ a ∷ []) × (names_of (pre a) ≡ a ∷ [])
+    × (names_of (check a) ≡ a ∷ []) × (names_of (exec a) ≡ a ∷ []) × (names_of (prove a) ≡ a ∷ [])
+one-name = (refl, refl, refl, refl, refl, refl)
+
+two-names : names_of (verify a b) ≡ a ∷ b ∷ []
+two-names = refl
+
+no-name : names_of (gen 7) ≡ []
+no-name = refl
+
+-- ---- the input
+read-by : (reads_input (run (flags true true) a) ≡ true) × (reads_input (exec a) ≡ true)
+read-by = (refl, refl)
+
+unread-by : (reads_input (compile (flags false false) a) ≡ false) × (reads_input (pre a) ≡ false) × (reads_input (check a) ≡ false)
+    × (reads_input (prove a) ≡ false) × (reads_input (verify a b) ≡ false) × (reads_input (gen 7) ≡ false)
+unread-by = (refl, refl, refl, refl, refl, refl)
+
+exec-is_given_it : input_for (exec a) (codes "1\n") ≡ codes "1\n"
+exec-is_given_it = refl
+
+-- ---- passes
+called-by : (calls_passes (compile (flags false true) a) ≡ true) × (calls_passes (run (flags false true) a) ≡ true) × (calls_passes (gen 7) ≡ true)
+called-by = (refl, refl, refl)
+
+uncalled-by : (calls_passes (compile (flags true false) a) ≡ false) × (calls_passes (run (flags true false) a) ≡ false) × (calls_passes (pre a) ≡ false)
+    × (calls_passes (check a) ≡ false) × (calls_passes (exec a) ≡ false) × (calls_passes (prove a) ≡ false) × (calls_passes (verify a b) ≡ false)
+uncalled-by = (refl, refl, refl, refl, refl, refl, refl)
+
+tallies-told : (tells_tallies (compile (flags true true) a) ≡ true) × (tells_tallies (run (flags false true) a) ≡ true)
+tallies-told = (refl, refl)
+
+tallies-untold : (tells_tallies (compile (flags true false) a) ≡ false) × (tells_tallies (run (flags true false) a) ≡ false)
+    × (tells_tallies (pre a) ≡ false) × (tells_tallies (check a) ≡ false) × (tells_tallies (exec a) ≡ false) × (tells_tallies (prove a) ≡ false)
+    × (tells_tallies (verify a b) ≡ false) × (tells_tallies (gen 7) ≡ false)
+tallies-untold = (refl, refl, refl, refl, refl, refl, refl, refl)
+
+-- a command that calls none leaves them
+kept-uncalled : (ArePassed false [] []) × (ArePassed false [] (record { name = a; tally = 0; turns = 1 } ∷ []) → ⊥)
+kept-uncalled = (refl, λ h. cc h)
+
+-- a command that calls them has called each once, or none
+abbrev pass : ℕ → Told
+pass turns = record { name = a; tally = 2; turns = turns }
+
+called-or_kept : ArePassed true (pass 3 ∷ []) (pass 4 ∷ []) × ArePassed true (pass 3 ∷ []) (pass 3 ∷ [])
+called-or_kept = (inl (record { name = refl; tally = omega arith; turns = refl }, tt), inr refl)
+
+-- ---- statuses after which the input and `out` are as before
+early : IsEarly Usage × IsEarly File × IsEarly Text × IsEarly Types × IsEarly NotLinear × IsEarly Past × IsEarly Limit × IsEarly Rejected
+early = (tt, tt, tt, tt, tt, tt, tt, tt)
+
+late : (IsEarly Done → ⊥) × (IsEarly Input → ⊥) × (IsEarly Output → ⊥) × (IsEarly InputLong → ⊥) × (IsEarly NoMemory → ⊥)
+late = ((λ h. h), (λ h. h), (λ h. h), (λ h. h), λ h. h)

@@ -1,0 +1,172 @@
+-- For what a text is refused, where a syntax fault stands, and for which fault each command is refused.
+use Rattle.std.proofs.Common.{◌≡◌, inl, inr, ◌≤◌, ◌∙◌, sym, subst, refl, ap, ℕ, List, [], ◌∷◌, length, arith, codes}
+use Rattle.std.specs.Prelude.{Result, Err}
+use Rattle.cf_lex.specs.declared.token.Token.{Token}
+use Rattle.cf_lex.specs.declared.token.TokenKind.TheVariants.{Word}
+use Rattle.cf_lex.specs.Places.{first_place}
+use Rattle.cf_lex.specs.Tokens.{none, bad_byte, past_limit, at_end}
+use Rattle.cf_tree.specs.declared.base.Place.{Place}
+use Rattle.cf_reader.specs.Faults.{IsFaultPlace, place_with_left}
+use Rattle.cf_reader.specs.Readers.{Reader}
+use Rattle.cf_words.specs.Commands.{compile, run, pre, check, exec, prove, verify, gen}
+use Rattle.cf_words.specs.declared.command.Flags.{Flags}
+use Rattle.cf_answer.specs.Limits.{text_limit}
+use Rattle.cf_answer.specs.Refusals.{IsSyntaxPlace, Causes, too_long, odd_byte, large_number, no_tree, bad_tree}
+use Rattle.cf_answer.specs.Refusals.{IsRefusedSource, IsRefusedRun, IsRefusedTarget, IsBrokenSource, IsUnverified, bad_source, text_fault, Refuses, IsAccepted}
+use Rattle.cf_answer.specs.Sources.{HasTokens, Spelled}
+use Rattle.cf_answer.specs.declared.fault.Fault.{Fault}
+use Rattle.cf_answer.specs.declared.fault.Fault.TheVariants as fault
+use Rattle.cf_answer.specs.declared.fault.StepsFault.TheVariants as steps_fault
+
+-- ---- what a text spells
+short : length {A = ℕ} [] ≤ text_limit
+unfolding text_limit
+short = omega arith
+
+-- the empty text spells a tree of which each list of no tokens is one
+spelled : Spelled {Tree = ℕ} (λ n ts. ts ≡ []) [] 7
+spelled = ([], first_place, (short, ([], none, refl)), refl)
+
+spelled-by_its_tokens : (text : List ℕ) → Spelled {Tree = ℕ} (λ n ts. ⊥) text 7 → ⊥
+spelled-by_its_tokens text h = h.3
+
+no-tokens_past_the_limit : (text : List ℕ) (ts : List Token) (p : Place) → length text ≡ 1048577 → HasTokens text ts p at_end → ⊥
+unfolding text_limit
+no-tokens_past_the_limit text ts p e h = omega (arith, e, h.0)
+
+-- ---- causes, where Is says which tokens spell a tree, `read` reads it, and Bad says for which faults it is refused
+module _ (Is : ℕ → List Token → Type 0) (read : Reader ℕ) (Bad : ℕ → Fault → Type 0) (text : List ℕ) where
+  abbrev Refused : Fault → Type 0
+  Refused f = Causes Is read Bad text f
+
+  past-the_limit : length text ≡ 1048577 → Refused fault.TextTooLong
+  unfolding text_limit
+  past-the_limit e = too_long (omega (arith, e))
+
+  at-a_byte : (ts : List Token) (p : Place) → HasTokens text ts p bad_byte → Refused (fault.BadByte p)
+  at-a_byte ts p h = odd_byte ts p h
+
+  at-a_number : (ts : List Token) (p : Place) → HasTokens text ts p past_limit → Refused (fault.NumberPast p)
+  at-a_number ts p h = large_number ts p h
+
+  at-a_token : (ts : List Token) (end p : Place) → HasTokens text ts end at_end → ((x : ℕ) → Is x ts → ⊥) → IsSyntaxPlace Is read ts end p →
+      Refused (fault.Syntax p)
+  at-a_token ts end p h without place = no_tree ts end p h without place
+
+  by-its_tree : (x : ℕ) (f : Fault) → Spelled Is text x → Bad x f → Refused f
+  by-its_tree x f s b = bad_tree x f s b
+
+-- ---- and nothing else: what such a fault says where a tree is never bad
+module _ (Is : ℕ → List Token → Type 0) (read : Reader ℕ) (text : List ℕ) where
+  abbrev OnlyText : Fault → Type 0
+  OnlyText f = Causes Is read (λ x g. ⊥) text f
+
+  within-the_limit : (f : Fault) → f ≡ fault.TextTooLong → length text ≡ 1048576 → OnlyText f → ⊥
+  unfolding text_limit
+  within-the_limit f is e (too_long l) = omega (arith, e, l)
+  within-the_limit f is e (odd_byte ts p h) = cc is
+  within-the_limit f is e (large_number ts p h) = cc is
+  within-the_limit f is e (no_tree ts end p h without place) = cc is
+  within-the_limit f is e (bad_tree x g s b) = b
+
+  byte-told : (f : Fault) (p : Place) → f ≡ fault.BadByte p → OnlyText f → (ts : List Token) × HasTokens text ts p bad_byte
+  byte-told f p is (too_long l) = absurd (cc is)
+  byte-told f p is (odd_byte ts q h) = let same : q ≡ p = cc is in (ts, rw (← same) h)
+  byte-told f p is (large_number ts q h) = absurd (cc is)
+  byte-told f p is (no_tree ts end q h without place) = absurd (cc is)
+  byte-told f p is (bad_tree x g s b) = absurd b
+
+  number-told : (f : Fault) (p : Place) → f ≡ fault.NumberPast p → OnlyText f → (ts : List Token) × HasTokens text ts p past_limit
+  number-told f p is (too_long l) = absurd (cc is)
+  number-told f p is (odd_byte ts q h) = absurd (cc is)
+  number-told f p is (large_number ts q h) = let same : q ≡ p = cc is in (ts, rw (← same) h)
+  number-told f p is (no_tree ts end q h without place) = absurd (cc is)
+  number-told f p is (bad_tree x g s b) = absurd b
+
+  syntax-told : (f : Fault) (p : Place) → f ≡ fault.Syntax p → OnlyText f →
+      (ts : List Token) × (end : Place) × HasTokens text ts end at_end × ((x : ℕ) → Is x ts → ⊥) × IsSyntaxPlace Is read ts end p
+  syntax-told f p is (too_long l) = absurd (cc is)
+  syntax-told f p is (odd_byte ts q h) = absurd (cc is)
+  syntax-told f p is (large_number ts q h) = absurd (cc is)
+  syntax-told f p is (no_tree ts end q h without place) = let same : q ≡ p = cc is in (ts, end, h, without, rw (← same) place)
+  syntax-told f p is (bad_tree x g s b) = absurd b
+
+-- ---- where a syntax fault stands
+abbrev at : ℕ → Place
+at column = record { line = 1; column = column }
+
+abbrev token : ℕ → Token
+token column = record { place = at column; kind = Word (codes "a") }
+
+abbrev three : List Token
+three = token 1 ∷ token 3 ∷ token 5 ∷ []
+
+-- with two tokens left reading stops at the second; with none left at the end
+second-token : IsSyntaxPlace {Tree = ℕ} (λ n ts. ⊥) (λ ts. Err 2) three (at 7) (at 3)
+unfolding place_with_left
+second-token = record {
+  dead = inr (token 1 ∷ [], token 3, token 5 ∷ [], refl, refl, λ other h. h.1);
+  exact = record { left = 2; stops = refl; stands = refl };
+}
+
+at-the_end : IsSyntaxPlace {Tree = ℕ} (λ n ts. ⊥) (λ ts. Err 0) three (at 7) (at 7)
+unfolding place_with_left
+at-the_end = record { dead = inl refl; exact = record { left = 0; stops = refl; stands = refl } }
+
+column_of : (p q : Place) → p ≡ q → p.column ≡ q.column
+column_of p q e = ap (λ x. x.column) e
+
+second-of_three : place_with_left three (at 7) 2 ≡ at 3
+unfolding place_with_left
+second-of_three = refl
+
+two-left : (left : ℕ) → ◌≡◌ {A = Result (ℕ × List Token) ℕ} (Err 2) (Err left) → 2 ≡ left
+two-left left e = cc e
+
+not-the_third : IsSyntaxPlace {Tree = ℕ} (λ n ts. ⊥) (λ ts. Err 2) three (at 7) (at 5) → ⊥
+not-the_third h =
+    let stands : at 5 ≡ place_with_left three (at 7) 2 =
+    subst (λ n. at 5 ≡ place_with_left three (at 7) n) (sym (two-left h.exact.left h.exact.stops)) h.exact.stands in
+    let c : 5 ≡ 3 = column_of (at 5) (at 3) (stands ∙ second-of_three) in omega (arith, c)
+
+-- a tree begins with each list of tokens, so only the end is such a place
+not-dead : (read : Reader ℕ) → IsSyntaxPlace {Tree = ℕ} (λ n ts. Unit {0}) read three (at 7) (at 3) → ⊥
+not-dead read h = no h.dead
+  where
+    no : IsFaultPlace (λ us. (x : ℕ) × Unit {0}) three (at 7) (at 3) → ⊥
+    no (inl e) = let c : 3 ≡ 7 = column_of (at 3) (at 7) e in omega (arith, c)
+    no (inr f) = f.5 [] (0, tt)
+
+-- ---- faults of a steps file's text
+steps-faults : (p : Place) → (text_fault steps_fault.TooLong ≡ fault.TextTooLong) × (text_fault (steps_fault.BadByte p) ≡ fault.BadByte p)
+    × (text_fault (steps_fault.NumberPast p) ≡ fault.NumberPast p) × (text_fault (steps_fault.Syntax p) ≡ fault.Syntax p)
+steps-faults p = (refl, refl, refl, refl)
+
+-- a source is refused first, whatever the steps are
+source-first : (source steps : List ℕ) (f : Fault) → IsBrokenSource source f → IsUnverified source steps f
+source-first source steps f b = bad_source f b
+
+-- ---- for which fault each command is refused
+module _ (flags : Flags) (name other text more : List ℕ) (n : ℕ) (f : Fault) where
+  abbrev Same : Type 0 → Type 0 → Type 0
+  Same A B = (A → B) × (B → A)
+
+  sources : Same (Refuses (compile flags name) (text ∷ []) f) (IsRefusedSource text f) × Same (Refuses (pre name) (text ∷ []) f) (IsRefusedSource text f)
+      × Same (Refuses (check name) (text ∷ []) f) (IsRefusedSource text f) × Same (Refuses (prove name) (text ∷ []) f) (IsRefusedSource text f)
+  sources = (((λ h. h), λ h. h), ((λ h. h), λ h. h), ((λ h. h), λ h. h), ((λ h. h), λ h. h))
+
+  runs : Same (Refuses (run flags name) (text ∷ []) f) (IsRefusedRun text f)
+  runs = ((λ h. h), λ h. h)
+
+  targets : Same (Refuses (exec name) (text ∷ []) f) (IsRefusedTarget text f)
+  targets = ((λ h. h), λ h. h)
+
+  steps : Same (Refuses (verify name other) (text ∷ more ∷ []) f) (IsUnverified text more f)
+  steps = ((λ h. h), λ h. h)
+
+  -- what is refused is not accepted
+  refused-not_accepted : Refuses (compile flags name) (text ∷ []) f → IsAccepted (compile flags name) (text ∷ []) → ⊥
+  refused-not_accepted r accepted = accepted f r
+
+  other-files : (Refuses (compile flags name) [] f → ⊥) × (Refuses (verify name other) (text ∷ []) f → ⊥) × (Refuses (gen n) (text ∷ []) f → ⊥)
+  other-files = ((λ h. h), (λ h. h), λ h. h)

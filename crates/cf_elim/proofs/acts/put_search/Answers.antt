@@ -1,0 +1,5 @@
+use Rattle.std.proofs.Common.{arith}
+use Rattle.cf_elim.proofs.acts.put_search.Goals as goal
+
+pub put-requires : goal.put-requires
+put-requires c = omega (arith, c.ranges.column)

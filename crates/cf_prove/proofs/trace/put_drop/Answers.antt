@@ -1,5 +1,0 @@
-use Rattle.std.proofs.Common.{arith}
-use Rattle.cf_prove.proofs.trace.put_drop.Goals as goal
-
-pub put-requires : goal.put-requires
-put-requires c = omega (arith, c.ranges.column)
