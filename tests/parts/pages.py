@@ -1,4 +1,4 @@
-"""The pages: what they quote is what the program writes, and each example is named.
+"""The pages: what they quote is what the program writes, each example is named, and each definition that they name is there.
 
 A page quotes a command behind `$ ` in a block, and below it what the command writes. `cat` on a file of an example, `./comfusy` on such a file, and the
 `echo $?` behind one are done as they stand there, and what they write is compared. A command that reads lines reads those of its example.
@@ -18,6 +18,8 @@ from harness.program import ROOT, Ended, Room
 
 PAGES = ("README.md", *sorted(str(path.relative_to(ROOT)) for path in ROOT.glob("docs/*.md")))
 NAMING = ("docs/GUIDE.md", "docs/LANGUAGE.md")
+DEFINING = ("docs/DEFINITIONS.md", "docs/DEFINITIONS-elimination.md", "docs/THEOREM.md", "docs/PROVED.md")
+DEFINITION = re.compile(r"`([A-Z]\w+)\.([A-Za-z_]\w*)")
 READING = re.compile(r"(?:run|exec) (examples/[a-z-]+)\.[a-z]+ < (examples/[a-z-]+)\.in")
 
 
@@ -81,7 +83,25 @@ def try_names(_: Room) -> Iterator[Check]:
             yield equal(f"pages, {path}", (path in text or "not named", True))
 
 
+def definitions() -> dict[str, set[str]]:
+    """The words of each module of definitions, by its name; those of two crates are one where the name is."""
+    words: dict[str, set[str]] = {}
+    for path in ROOT.glob("crates/*/specs/*.antt"):
+        words.setdefault(path.stem, set()).update(re.findall(r"\w+", path.read_text(encoding="utf-8")))
+    return words
+
+
+def try_definitions(_: Room) -> Iterator[Check]:
+    """What a page names as `Module.word` stands in a module of that name."""
+    words = definitions()
+    for page in DEFINING:
+        named = set(DEFINITION.findall((ROOT / page).read_text(encoding="utf-8")))
+        gone = sorted(f"{module}.{word}" for module, word in named if word not in words.get(module, ()))
+        yield equal(f"{page}, definitions", (gone, []))
+
+
 def jobs() -> Iterator[Job]:
     for page in PAGES:
         yield Job(page, partial(try_page, page))
     yield Job("pages", try_names)
+    yield Job("pages", try_definitions)

@@ -3,6 +3,7 @@
 from __future__ import annotations
 
 import os
+import re
 import shutil
 import subprocess
 from collections.abc import Iterator, Sequence
@@ -145,7 +146,14 @@ def try_install(room: Room) -> Iterator[Check]:
     page = (prefix / "share/man/man1/comfusy.1").read_text(encoding="utf-8").splitlines()[1:4]
     yield equal("install, the page", (" ".join(page).split(" \\")[0], ".SH NAME comfusy"))
     yield equal("install, a completion", (completed(prefix / "share/bash-completion/completions/comfusy"), "compile"))
+    yield equal("install, links of the pages", (dead_links(prefix / "share/doc/comfusy"), []))
     yield equal("install without a prefix", (checkout.start("install").returncode, 2))
+
+
+def dead_links(folder: Path) -> list[str]:
+    """The links of pages to files that are not there."""
+    links = ((page, link) for page in folder.glob("*.md") for link in re.findall(r"\]\(([^)#:]+)[)#]", page.read_text(encoding="utf-8")))
+    return [f"{page.name}: {link}" for page, link in links if not (folder / link).exists()]
 
 
 def completed(file: Path) -> str:
