@@ -1,0 +1,434 @@
+export const examples = [
+ {
+  "name": "seconds",
+  "group": "Run a file",
+  "title": "seconds",
+  "source": "def main(t: int): (int, int, int) =\n  choose (h: int, m: int, s: int)\n  where h * 3600 + m * 60 + s == t && 0 <= h && 0 <= m && m <= 59 && 0 <= s && s <= 59\n",
+  "lines": "3661\n0\n86399\n-1\n1000000000000000000000000000\n"
+ },
+ {
+  "name": "square",
+  "group": "Read an error",
+  "title": "square",
+  "source": "# A square, which may become too long.\ndef main(a: int): int = a * a\n",
+  "lines": "12\n-3\n18446744073709551616\ntwelve\n12 13\n"
+ },
+ {
+  "name": "double",
+  "group": "Write your own program",
+  "title": "double",
+  "source": "# An ordinary function of a name, called twice.\ndef double(a: int): int = 2 * a\n\ndef main(a: int): int = double(double(a)) + 1\n",
+  "lines": "5\n-1\n"
+ },
+ {
+  "name": "noon",
+  "group": "Ask about a program",
+  "title": "noon",
+  "source": "# How many minutes it is to the next noon or midnight. t counts minutes from some midnight.\ndef main(t: int): int =\n  choose (wait: int) where 720 divides t + wait && 0 <= wait && wait < 720\n",
+  "lines": "0\n1\n719\n720\n-30\n"
+ },
+ {
+  "name": "even",
+  "group": "Tasks",
+  "title": "even: A number whose double lies between two others",
+  "source": "def main(a: int, b: int): int = choose (x: int) where a <= 2 * x && 2 * x <= b\n",
+  "lines": "3 4\n3 3\n-3 -3\n-4 -4\n"
+ },
+ {
+  "name": "coins",
+  "group": "Tasks",
+  "title": "coins: Change in coins",
+  "source": "# Change in coins of 25, 10 and 1: the large coins first.\ndef main(total: int): (int, int, int) =\n  choose (big: int, mid: int, small: int)\n  where 25 * big + 10 * mid + small == total\n    && 0 <= mid && 0 <= small && small < 10 && 10 * mid + small < 25\n",
+  "lines": "67\n0\n24\n100\n-1\n"
+ },
+ {
+  "name": "stamps",
+  "group": "Tasks",
+  "title": "stamps: Stamps",
+  "source": "# Stamps of 3 and of 5 for a letter of a cents.\ndef main(a: int): (int, int) =\n  choose (x: int, y: int) where 3 * x + 5 * y == a && 0 <= x && 0 <= y\n",
+  "lines": "8\n7\n15\n0\n1000000\n"
+ },
+ {
+  "name": "remainders",
+  "group": "Tasks",
+  "title": "remainders: Remainders",
+  "source": "# The number below 15 that leaves the remainders of a by 3 and of b by 5.\ndef main(a: int, b: int): int =\n  choose (x: int) where 3 divides x - a && 5 divides x - b && 0 <= x && x < 15\n",
+  "lines": "2 3\n0 0\n1 1\n-1 14\n"
+ },
+ {
+  "name": "nearest",
+  "group": "Tasks",
+  "title": "nearest: The nearest multiple",
+  "source": "# The nearest multiple of 5.\ndef main(a: int): int =\n  choose (n: int) where 5 divides n && abs(n - a) <= 2\n",
+  "lines": "12\n-12\n13\n0\n"
+ },
+ {
+  "name": "equations",
+  "group": "Tasks",
+  "title": "equations: Two unknowns in two equations",
+  "source": "# Two numbers from their sum and their difference.\ndef main(sum: int, difference: int): (int, int) =\n  choose (x: int, y: int) where x + y == sum && x - y == difference\n",
+  "lines": "10 4\n10 -4\n0 0\n10 3\n"
+ },
+ {
+  "name": "leap",
+  "group": "Tasks",
+  "title": "leap: Leap years",
+  "source": "# A leap year from one year to another, and how many days the first of them has.\ndef leap(year: int): bool = 4 divides year && (!(100 divides year) || 400 divides year)\n\ndef main(first: int, last: int): (int, int) =\n  let days = if leap(first) then 366 else 365 in\n  let found = choose (year: int)\n    where first <= year && year <= last && 4 divides year && (!(100 divides year) || 400 divides year) in\n  (days, found)\n",
+  "lines": "2024 2030\n1897 1903\n1896 1904\n2000 2000\n2026 2027\n"
+ },
+ {
+  "name": "oldmoney",
+  "group": "Tasks",
+  "title": "oldmoney: Old money",
+  "source": "# Old money: 12 pence are a shilling, and 20 shillings a pound.\ndef main(pence: int): (int, int, int) =\n  choose (l: int, s: int, d: int)\n  where 240 * l + 12 * s + d == pence && 0 <= s && s < 20 && 0 <= d && d < 12\n",
+  "lines": "0\n239\n240\n1000\n-1\n"
+ },
+ {
+  "name": "bill",
+  "group": "Tasks",
+  "title": "bill: Splitting a bill to the cent",
+  "source": "# A bill of so many cents for three: the shares differ by one cent at most, and who comes first pays no less.\ndef main(bill: int): (int, int, int) =\n  choose (a: int, b: int, c: int)\n  where a + b + c == bill && a >= b && b >= c && a <= c + 1\n",
+  "lines": "1000\n1001\n1002\n1\n0\n"
+ },
+ {
+  "name": "split",
+  "group": "Tasks",
+  "title": "split: An even split of a set",
+  "source": "# Splits a set into two parts that differ by one element at most.\ndef main(s: set): (set, set) =\n  choose (l: set, r: set)\n  where l union r == s && l inter r == {} && card(l) - card(r) <= 1 && card(r) - card(l) <= 1\n",
+  "lines": "{}\n{3,1,2,1}\n{-5, 70}\n{9}\n"
+ },
+ {
+  "name": "two",
+  "group": "Tasks",
+  "title": "two: Two elements of a set",
+  "source": "# Two elements of a set, each as a set of one element.\ndef main(s: set): (set, set) =\n  choose (a: set, b: set)\n  where card(a) == 1 && card(b) == 1 && a inter b == {} && a union b subset s\n",
+  "lines": "{7,3}\n{1,2,3,4}\n{5}\n{}\n"
+ },
+ {
+  "name": "fresh",
+  "group": "Tasks",
+  "title": "fresh: Fresh numbers",
+  "source": "# n numbers that are not in s.\ndef main(s: set, n: int): set =\n  choose (f: set) where f inter s == {} && card(f) == n\n",
+  "lines": "{0,2} 2\n{0,2} 0\n{0,2} -1\n{} 3\n"
+ },
+ {
+  "name": "patterns",
+  "group": "Tasks",
+  "title": "patterns: Patterns",
+  "source": "# Halves an even number, and takes the half below an odd one with a minus sign.\ndef main(a: int): int =\n  match a with { 2 * i then i ; 2 * i + 1 then -i }\n",
+  "lines": "10\n11\n0\n-1\n"
+ },
+ {
+  "name": "fizz",
+  "group": "Tasks",
+  "title": "fizz: Patterns",
+  "source": "# A match that not each number fits: literals, a pattern with two names, and no arm for the rest.\ndef main(a: int): int =\n  match a with { 0 then 100 ; 7 then 200 ; 6 * i + 10 * j then i + j }\n",
+  "lines": "0\n7\n2\n22\n9\n"
+ },
+ {
+  "name": "earlier",
+  "group": "Tasks",
+  "title": "earlier: A choose that uses an earlier pick",
+  "source": "# Days as weeks and days; then as many two-week holidays as the weeks hold, and the weeks that are left.\ndef main(days: int): (int, int, int) =\n  let (weeks, rest) = choose (w: int, d: int) where 7 * w + d == days && 0 <= d && d < 7 in\n  let (holidays, left) = choose (h: int, l: int) where 2 * h + l == weeks && 0 <= l && l < 2 in\n  (holidays, left, rest)\n",
+  "lines": "40\n14\n6\n-1\n"
+ },
+ {
+  "name": "commits",
+  "group": "Tasks",
+  "title": "commits: A choose that uses an earlier pick",
+  "source": "# The first choose picks 0 or 1 without a look at what comes later.\ndef main(a: int): int =\n  let x = choose (x: int) where 0 <= x && x <= 1 in\n  choose (y: int) where y == a && x == 1\n",
+  "lines": "7\n"
+ },
+ {
+  "name": "together",
+  "group": "Tasks",
+  "title": "together: A choose that uses an earlier pick",
+  "source": "# The same in one choose, which picks both at once.\ndef main(a: int): int =\n  let (x, y) = choose (x: int, y: int) where 0 <= x && x <= 1 && y == a && x == 1 in y\n",
+  "lines": "7\n"
+ },
+ {
+  "name": "quotient",
+  "group": "Tasks",
+  "title": "quotient: Coefficients that are inputs",
+  "source": "# The number that a times gives b.\ndef main(a: int, b: int): int = choose (x: int) where a * x == b\n",
+  "lines": "3 12\n3 10\n0 5\n0 0\n-4 12\n"
+ },
+ {
+  "name": "anystamps",
+  "group": "Tasks",
+  "title": "anystamps: Coefficients that are inputs",
+  "source": "# Stamps of p and of q for a letter of a cents: the values of the stamps stand in the line.\ndef main(p: int, q: int, a: int): (int, int) =\n  choose (x: int, y: int) where p * x + q * y == a && 0 <= x && 0 <= y\n",
+  "lines": "3 5 8\n3 5 7\n7 9 100\n0 5 10\n0 0 10\n170141183460469231731687303715884105727 5 8\n3 5 1000000\n"
+ },
+ {
+  "name": "combination",
+  "group": "Tasks",
+  "title": "combination: Coefficients that are inputs",
+  "source": "# p times x and q times y, which together lie from a to b.\ndef main(p: int, q: int, a: int, b: int): (int, int) =\n  choose (x: int, y: int) where a <= p * x + q * y && p * x + q * y <= b\n",
+  "lines": "2 3 7 7\n2097152 2097153 0 9\n3 5 7 7\n"
+ },
+ {
+  "name": "missing",
+  "group": "When check complains",
+  "title": "missing: no outputs for",
+  "source": "# No x is left for 5.\ndef main(a: int): int = choose (x: int) where x == a && a != 5\n",
+  "lines": "4\n5\n"
+ },
+ {
+  "name": "always",
+  "group": "When check complains",
+  "title": "always: no outputs for",
+  "source": "# The same with an answer for 5 too.\ndef main(a: int): int = choose (x: int) where (x == a && a != 5) || (x == 0 && a == 5)\n",
+  "lines": "4\n5\n"
+ },
+ {
+  "name": "guarded",
+  "group": "When check complains",
+  "title": "guarded: no outputs for",
+  "source": "# A test around the choose: the program never asks for 5, but the relation still has nothing there.\ndef main(a: int): int = if a == 5 then 0 else choose (x: int) where x == a && a != 5\n",
+  "lines": "4\n5\n"
+ },
+ {
+  "name": "several",
+  "group": "When check complains",
+  "title": "several: two outputs for",
+  "source": "# Both 0 and 1 will do for 1, and nothing for 2.\ndef main(a: int): int = choose (x: int) where 0 <= x && x <= a && a <= 1\n",
+  "lines": "0\n1\n2\n-1\n"
+ },
+ {
+  "name": "one",
+  "group": "When check complains",
+  "title": "one: two outputs for",
+  "source": "# One number for each a: a itself, held between 0 and 1.\ndef main(a: int): int =\n  choose (x: int) where (a < 0 && x == 0) || (0 <= a && a <= 1 && x == a) || (a > 1 && x == 1)\n",
+  "lines": "0\n1\n2\n-1\n"
+ },
+ {
+  "name": "outside",
+  "group": "When a limit is met",
+  "title": "outside",
+  "source": "# A number outside 0 to 10, near a: two cases instead of 2,048.\ndef main(a: int): int =\n  choose (x: int) where (x < 0 || x > 10) && a <= x && x <= a + 11\n",
+  "lines": "-5\n0\n5\n20\n"
+ },
+ {
+  "name": "named",
+  "group": "When a limit is met",
+  "title": "named",
+  "source": "# The sum has a name of its own, so that it stands in an equation.\ndef main(a: int, b: int): (int, int) =\n  let (x, y, sum) =\n    choose (x: int, y: int, sum: int)\n    where sum == 2097152 * x + 2097153 * y && a <= sum && sum <= b in\n  (x, y)\n",
+  "lines": "5 7\n1 0\n"
+ },
+ {
+  "name": "steps-other",
+  "group": "Certificates",
+  "title": "other: Steps of your own",
+  "source": "def main(a: int, b: int): int = choose (x: int) where a <= 2 * x && 2 * x <= b\n",
+  "lines": "",
+  "steps": "# The lower bound of x gets a search variable, where `prove` divides.\nchoose 1 { case { search 3 lower; drop 3; last 0; clean; } }\nmain (int, int): int = solve 1 {\narm [2] {\nneed (2 divides (v0 + v2));\nlet div((v0 + v2), 2);\nneed ((v1 + (-2 * v3)) >= 0);\nlet v3;\nlet v4;\ngive v5\n}\n}\n"
+ },
+ {
+  "name": "steps-wide",
+  "group": "Certificates",
+  "title": "wide: Steps of your own",
+  "source": "# The search of the elimination is too long here; the steps beside it need none.\ndef main(a: int, b: int): (int, int) =\n  choose (x: int, y: int) where a <= 2097152 * x + 2097153 * y && 2097152 * x + 2097153 * y <= b\n",
+  "lines": "",
+  "steps": "# With u for the sum and another unknown v, x is -u + 2097153 * v, and y is u - 2097152 * v.\nchoose 1 {\ncase {\nmix 3 4 -1 2097153 1 -2097152;\ndrop 5;\ndrop 6;\nclean;\n}\n}\nmain (int, int): (int, int) = solve 1 {\narm [] {\nneed (((-1 * v0) + v1) >= 0);\nlet 0;\nlet v0;\nlet ((-1 * v3) + (2097153 * v2));\nlet (v3 + (-2097152 * v2));\ngive (v4, v5)\n}\n}\n"
+ },
+ {
+  "name": "steps-unclean",
+  "group": "Certificates",
+  "title": "unclean: rejected at",
+  "source": "def main(a: int, b: int): int = choose (x: int) where a <= 2 * x && 2 * x <= b\n",
+  "lines": "",
+  "steps": "# The first `clean` is left out.\nchoose 1 {\ncase {\ndrop 3;\nclean;\n}\n}\ncomfusy 2\nmain (int, int): int = solve 1 {\narm [] {\nlet div((-1 * v0), 2);\nlet div(v1, 2);\nneed ((v2 + v3) >= 0);\nlet (-1 * v2);\ngive v4\n}\n}\n"
+ },
+ {
+  "name": "steps-needless",
+  "group": "Certificates",
+  "title": "needless: rejected at",
+  "source": "def main(a: int, b: int): int = choose (x: int) where a <= 2 * x && 2 * x <= b\n",
+  "lines": "",
+  "steps": "# The last need is left out.\nchoose 1 {\ncase {\nclean;\ndrop 3;\nclean;\n}\n}\ncomfusy 2\nmain (int, int): int = solve 1 {\narm [] {\nlet div((-1 * v0), 2);\nlet div(v1, 2);\nlet (-1 * v2);\ngive v4\n}\n}\n"
+ },
+ {
+  "name": "refused-typo",
+  "group": "Refused",
+  "title": "typo",
+  "source": "def main(t: int): (int, int, int) =\n  choose (h: int, m: int, s: int)\n  where hours * 3600 + m * 60 + s == t\n",
+  "lines": ""
+ },
+ {
+  "name": "refused-cases",
+  "group": "Refused",
+  "title": "cases",
+  "source": "def main(): int = choose (x: int) where x != 0 && x != 1 && x != 2 && x != 3 && x != 4 && x != 5\n   && x != 6 && x != 7 && x != 8 && x != 9 && x != 10\n",
+  "lines": ""
+ },
+ {
+  "name": "refused-search",
+  "group": "Refused",
+  "title": "search",
+  "source": "def main(a: int, b: int): (int, int) =\n  choose (x: int, y: int) where a <= 2097152 * x + 2097153 * y && 2097152 * x + 2097153 * y <= b\n",
+  "lines": ""
+ },
+ {
+  "name": "refused-sets",
+  "group": "Refused",
+  "title": "sets",
+  "source": "def main(s: set): (set, set, set, set, set, set) =\n  choose (a: set, b: set, c: set, d: set, e: set, f: set)\n  where a union b union c union d union e union f == s\n",
+  "lines": ""
+ },
+ {
+  "name": "refused-coefficient",
+  "group": "Refused",
+  "title": "coefficient",
+  "source": "def main(a: int, b: int): (int, int) =\n  choose (x: int, y: int) where 18446744073709551616 * x + y == a && x + 18446744073709551616 * y == b\n",
+  "lines": ""
+ },
+ {
+  "name": "refused-weight",
+  "group": "Refused",
+  "title": "weight",
+  "source": "def f0(a: int): int = a\ndef f1(a: int): int = f0(a) + f0(a)\ndef f2(a: int): int = f1(a) + f1(a)\ndef f3(a: int): int = f2(a) + f2(a)\ndef f4(a: int): int = f3(a) + f3(a)\ndef f5(a: int): int = f4(a) + f4(a)\ndef f6(a: int): int = f5(a) + f5(a)\ndef f7(a: int): int = f6(a) + f6(a)\ndef f8(a: int): int = f7(a) + f7(a)\ndef f9(a: int): int = f8(a) + f8(a)\ndef f10(a: int): int = f9(a) + f9(a)\ndef f11(a: int): int = f10(a) + f10(a)\ndef f12(a: int): int = f11(a) + f11(a)\ndef f13(a: int): int = f12(a) + f12(a)\ndef f14(a: int): int = f13(a) + f13(a)\ndef f15(a: int): int = f14(a) + f14(a)\ndef f16(a: int): int = f15(a) + f15(a)\ndef f17(a: int): int = f16(a) + f16(a)\ndef f18(a: int): int = f17(a) + f17(a)\ndef main(a: int): int = f18(a)\n",
+  "lines": ""
+ },
+ {
+  "name": "refused-slash",
+  "group": "Refused",
+  "title": "slash",
+  "source": "def main(a: int): int = a / 2\n",
+  "lines": ""
+ },
+ {
+  "name": "refused-variable-divisor",
+  "group": "Refused",
+  "title": "variable-divisor",
+  "source": "def main(a: int, b: int): int = div(a, b)\n",
+  "lines": ""
+ },
+ {
+  "name": "refused-negative-divisor",
+  "group": "Refused",
+  "title": "negative-divisor",
+  "source": "def main(a: int): int = div(a, -2)\n",
+  "lines": ""
+ },
+ {
+  "name": "refused-chain",
+  "group": "Refused",
+  "title": "chain",
+  "source": "def main(a: int): int = choose (x: int) where 0 < x < a\n",
+  "lines": ""
+ },
+ {
+  "name": "refused-one-equals",
+  "group": "Refused",
+  "title": "one-equals",
+  "source": "def main(a: int): int = choose (x: int) where x = a\n",
+  "lines": ""
+ },
+ {
+  "name": "refused-not-divides",
+  "group": "Refused",
+  "title": "not-divides",
+  "source": "def main(a: int): bool = ! 2 divides a\n",
+  "lines": ""
+ },
+ {
+  "name": "refused-trailing-comma",
+  "group": "Refused",
+  "title": "trailing-comma",
+  "source": "def main(a: int): (int, int) = (a, a + 1,)\n",
+  "lines": ""
+ },
+ {
+  "name": "refused-bare-choose",
+  "group": "Refused",
+  "title": "bare-choose",
+  "source": "def main(a: int): int = 1 + choose (x: int) where x == a\n",
+  "lines": ""
+ },
+ {
+  "name": "refused-no-else",
+  "group": "Refused",
+  "title": "no-else",
+  "source": "def main(a: int): int = if a < 0 then 0 - a\n",
+  "lines": ""
+ },
+ {
+  "name": "refused-reserved",
+  "group": "Refused",
+  "title": "reserved",
+  "source": "def main(min: int, max: int): int = max - min\n",
+  "lines": ""
+ },
+ {
+  "name": "refused-mismatch",
+  "group": "Refused",
+  "title": "mismatch",
+  "source": "def main(a: int): int = a && true\n",
+  "lines": ""
+ },
+ {
+  "name": "refused-result",
+  "group": "Refused",
+  "title": "result",
+  "source": "def main(a: int): int = (a, a)\n",
+  "lines": ""
+ },
+ {
+  "name": "refused-truth-output",
+  "group": "Refused",
+  "title": "truth-output",
+  "source": "def main(a: int): bool = choose (p: bool) where p == (a < 0)\n",
+  "lines": ""
+ },
+ {
+  "name": "refused-later",
+  "group": "Refused",
+  "title": "later",
+  "source": "def main(a: int): int = double(a)\ndef double(a: int): int = 2 * a\n",
+  "lines": ""
+ },
+ {
+  "name": "refused-no-main",
+  "group": "Refused",
+  "title": "no-main",
+  "source": "def double(a: int): int = 2 * a\n",
+  "lines": ""
+ },
+ {
+  "name": "refused-count",
+  "group": "Refused",
+  "title": "count",
+  "source": "def half(a: int): int = div(a, 2)\ndef main(a: int): int = half(a, 2)\n",
+  "lines": ""
+ },
+ {
+  "name": "refused-twice",
+  "group": "Refused",
+  "title": "twice",
+  "source": "def main(a: int): int = choose (x: int, x: int) where x == a\n",
+  "lines": ""
+ },
+ {
+  "name": "refused-long-literal",
+  "group": "Refused",
+  "title": "long-literal",
+  "source": "def main(a: int): int = a + 170141183460469231731687303715884105728\n",
+  "lines": ""
+ },
+ {
+  "name": "refused-product",
+  "group": "Refused",
+  "title": "product",
+  "source": "def main(a: int): (int, int) = choose (x: int, y: int) where x * y == a\n",
+  "lines": ""
+ },
+ {
+  "name": "refused-element",
+  "group": "Refused",
+  "title": "element",
+  "source": "def main(s: set): int = choose (x: int) where {x} subset s\n",
+  "lines": ""
+ }
+];
+export const programSum = "2146e1340db15f43286cefd0b2ff5f4ad664728713a46821e88cd2d795a5599a";

@@ -1,0 +1,64 @@
+// What the program's errors mean, for someone who meets them first, and how each kind of answer is named.
+
+const places = {
+  'bad byte': 'The language has no such sign. There is no `/`: write `div(a, 2)`. There is no `%`: write `mod(a, 2)`.',
+  'number past limit': 'The largest number is 170141183460469231731687303715884105727.',
+  'syntax': 'No program goes on like this: the marked word stands in the wrong place, or something before it is missing. Write comparisons one at a ' +
+    'time, `0 < x && x < a`, compare with `==`, and give each `if` an `else`. Some words, such as `min` and `max`, cannot be names.',
+  'unknown name': 'Nothing has this name here. Is it misspelled, or bound elsewhere?',
+  'duplicate name': 'Two things would have one name here.',
+  'wrong count': 'There are more or fewer values here than names or parameters for them.',
+  'type mismatch': 'This value has another type than what is needed here: a number, a truth value and a set are three things. Outputs are numbers or sets.',
+  'calls later function': 'A function calls those that stand above it. Put the one that is called first.',
+  'not linear': 'A relation has no product of two unknown numbers, and no set written out but `{}`. If there are few values for one of the numbers, ' +
+    'write a case for each. Where an input is the factor, `run` answers all the same.',
+};
+
+const wholes = [
+  [/^no main/, 'A program begins at a function that is named `main`.'],
+  [/text too long/, 'The text is longer than the program reads.'],
+  [/Cases \d/, 'The relation has too many cases: `||` adds them up, `&&` multiplies, and `!=` counts 2. Say with ranges what is left.'],
+  [/Search \d/, 'Too many numbers would be tried. If a sum lies between two bounds, give it a name of its own with `==`.'],
+  [/Sets \d/, 'At most six sets fit in one relation. Two `choose` one after the other share the work.'],
+  [/(Rows|Columns) \d/, 'The relation is too large to be solved at once. Several `choose` one after the other share the work.'],
+  [/coefficient past 128 bits/, 'Factors are multiplied on the way to the answer, and the product is past the largest number. Use smaller units, or ' +
+    'take the large number apart first.'],
+  [/^Weight/, 'The program is too large once its calls are written out. Call once, and give the result a name with `let`.'],
+  [/^Depth/, 'Parentheses, calls or branches stand too deep in one another.'],
+  [/rejected at case 0 step 0/, 'This is said of the block as a whole: its steps may be right, but its code or its cases are not theirs.'],
+  [/rejected at case/, 'Steps and cases count from 1. This step may not be taken where it stands.'],
+  [/no memory/, 'The page ran out of memory.'],
+  [/input too long/, 'At most 16,777,216 bytes of input are read.'],
+];
+
+const missing = 'The program ends where something else should come. Perhaps a parenthesis, an `else` or the body of a function is missing.';
+
+// What a line of the program means, '' where it says all. `isAtEnd` is whether its place is the end of the program.
+export function helpOf(told, isAtEnd) {
+  const behind = /^(?:steps )?line \d+ column \d+: (.*)$/m.exec(told);
+  if (behind) return isAtEnd && behind[1] === 'syntax' ? missing : places[behind[1]] ?? '';
+  return wholes.find(([pattern]) => pattern.test(told))?.[1] ?? '';
+}
+
+const statuses = {
+  0: 'answered', 2: 'no such command', 3: 'a file cannot be read', 4: 'the input cannot be read', 5: 'the output cannot be written',
+  6: 'refused for its text', 7: 'refused for its names and types', 8: 'refused as not linear', 9: 'refused as too large', 10: 'refused as too large',
+  11: 'the input is too long', 12: 'out of memory', 13: 'the steps are rejected',
+};
+
+export function nameOfStatus(status) {
+  return status === 0 ? statuses[0] : `${statuses[status] ?? 'ended'} (status ${status})`;
+}
+
+// What is told where the call was cut short by the engine.
+export function helpOfFault(fault) {
+  return fault === 'stack' ? 'The stack of this browser is too small for this call. The native program has 8 MiB.' : `The call was cut short: ${fault}`;
+}
+
+// What is told where a command wrote nothing.
+export function nothingOf({reads}, {status}) {
+  if (status === undefined) return 'There is no answer.';
+  if (status === 13) return 'The steps are rejected. Why stands below them.';
+  if (status !== 0) return 'The program is refused, so there is nothing to show. What is wrong stands below it.';
+  return reads === 'lines' ? 'There are no input lines yet.' : 'There is nothing to show: the program has no choose.';
+}

@@ -1,0 +1,77 @@
+// The tour, step by step: a further step is one more entry.
+//   title, text  what is told; `code` stands between backticks
+//   example      the example that the step starts from
+//   change       a change of its text, {from, to}, that is made at the start
+//   tab          the tab that is shown
+//   seen         what stands in the answer then, and is marked there
+//   offer        a change that the reader may make by a button: {label, from, to, seen}
+export const tour = [
+  {
+    title: 'State it',
+    text: [
+      'This program takes a number of seconds apart. `main` takes one number, `t`, and gives three. `choose` names them: hours, minutes and seconds.',
+      'What stands behind `where` is the relation. It says when three numbers are right: together they make `t` seconds, and minutes and seconds lie ' +
+        'between 0 and 59. Nobody says how to find them.',
+    ],
+    example: 'seconds',
+    tab: 'run',
+    seen: [],
+  },
+  {
+    title: 'Run it',
+    text: [
+      'Each input line has its reply beside it. `3661` seconds are an hour, a minute and a second: `1 1 1`.',
+      'Change a line, or add one below. It is answered as you type, and numbers may have up to 39 digits.',
+    ],
+    example: 'seconds',
+    tab: 'run',
+    seen: ['1 1 1'],
+  },
+  {
+    title: 'Why no solution',
+    text: [
+      'For `-1` the reply is `no solution at choose 1`. It does not mean that nothing was found: it is said only where no outputs are right, and that ' +
+        'is proved. The relation says `0 <= h`, so no hours are right for less than nothing.',
+      'Take that out, and `-1` is the last second of the day before.',
+    ],
+    example: 'seconds',
+    tab: 'run',
+    seen: ['no solution at choose 1'],
+    offer: {label: 'Take it out', from: '0 <= h && ', to: '', seen: ['-1 59 59']},
+  },
+  {
+    title: 'When there is one',
+    text: [
+      'Two numbers are wanted for their sum and their difference. For 10 and 3 there are none. `pre` says exactly when there are some, for all of the ' +
+        'infinitely many inputs.',
+      '`v0` is the first input and `v1` the second. There are two such numbers exactly where 2 divides `-sum - difference`: where both are even, or ' +
+        'both are odd. The plot of the run tab shows the same.',
+    ],
+    example: 'equations',
+    tab: 'pre',
+    seen: ['need (2 divides ((-1 * v0) + (-1 * v1)));'],
+  },
+  {
+    title: 'Check finds the mistake',
+    text: [
+      'How many minutes is it to the next noon or midnight? Each reply of this program is right, and yet there is a mistake in it: `wait <= 720`.',
+      '`check` asks about all inputs at once. There always are outputs, but not only one: at noon itself both no wait and a wait of 720 minutes will ' +
+        'do. It names an input that shows it, and you can run that.',
+    ],
+    example: 'noon',
+    change: {from: 'wait < 720', to: 'wait <= 720'},
+    tab: 'check',
+    seen: ['choose 1: two outputs for t = -720: 0 and 720'],
+  },
+  {
+    title: 'Fix it',
+    text: [
+      'With `wait < 720` the wait is shorter than 12 hours. Now `check` says that there always are outputs, and that they are the only ones. Nothing ' +
+        'was sampled: it holds for each input.',
+      'That is the end of the tour. Change the program, or take another one from the menu of examples.',
+    ],
+    example: 'noon',
+    tab: 'check',
+    seen: ['choose 1: outputs always', 'choose 1: outputs unique'],
+  },
+];
