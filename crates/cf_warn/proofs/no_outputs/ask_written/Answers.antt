@@ -1,7 +1,8 @@
+use Rattle.std.proofs.Common.{◌∙◌}
 use Rattle.cf_tree.specs.RelView.{rel_tree}
 use Rattle.cf_choose.specs.Laws.{IsUnrefused}
 use Rattle.cf_warn.proofs.ExistenceLaws.{written_typed, written_linear, written_outputs}
-use Rattle.cf_warn.proofs.no_outputs.ask_none.Goals as goal
+use Rattle.cf_warn.proofs.no_outputs.ask_written.Goals as goal
 
 pub ask-requires-clause-typed : goal.ask-requires-clause-typed
 ask-requires-clause-typed c =
@@ -9,7 +10,7 @@ ask-requires-clause-typed c =
     let s = c.outputs.ensures.solved in
     let u : IsUnrefused p.scope.items p.outputs.items (rel_tree p.rel) =
     record { typed = s.typed; linear = s.linear; are_outputs = s.are_outputs; within = s.within } in
-    written_typed p.scope.items p.outputs.items (rel_tree p.rel) u _ _ c.requires.outputs c.requires.rel
+    written_typed p.scope.items p.outputs.items (rel_tree p.rel) u _ _ (c.deref.ensures.value ∙ c.in_ok-question.ensures.outputs) c.in_ok-question.ensures.rel
 
 pub ask-requires-clause-linear : goal.ask-requires-clause-linear
 ask-requires-clause-linear c =
@@ -17,7 +18,7 @@ ask-requires-clause-linear c =
     let s = c.outputs.ensures.solved in
     let u : IsUnrefused p.scope.items p.outputs.items (rel_tree p.rel) =
     record { typed = s.typed; linear = s.linear; are_outputs = s.are_outputs; within = s.within } in
-    written_linear p.scope.items p.outputs.items (rel_tree p.rel) u _ _ c.requires.outputs c.requires.rel
+    written_linear p.scope.items p.outputs.items (rel_tree p.rel) u _ _ (c.deref.ensures.value ∙ c.in_ok-question.ensures.outputs) c.in_ok-question.ensures.rel
 
 pub ask-requires-clause-outputs : goal.ask-requires-clause-outputs
 ask-requires-clause-outputs c =
@@ -25,4 +26,4 @@ ask-requires-clause-outputs c =
     let s = c.outputs.ensures.solved in
     let u : IsUnrefused p.scope.items p.outputs.items (rel_tree p.rel) =
     record { typed = s.typed; linear = s.linear; are_outputs = s.are_outputs; within = s.within } in
-    written_outputs p.scope.items p.outputs.items (rel_tree p.rel) u _ _ c.requires.outputs c.requires.rel
+    written_outputs p.scope.items p.outputs.items (rel_tree p.rel) u _ _ (c.deref.ensures.value ∙ c.in_ok-question.ensures.outputs) c.in_ok-question.ensures.rel
