@@ -1,5 +1,6 @@
 mod BaseLaws
 pub mod Kept
+mod FormExamples
 mod LateExamples
 mod LoweredExamples
 mod NameLaws

@@ -5,6 +5,7 @@ pub mod LateLinear
 pub mod Laws
 pub mod Lowered
 pub mod Names
+pub mod NoForm
 pub mod NoMatch
 pub mod Reading
 pub mod Size

@@ -7,7 +7,7 @@ use Rattle.cf_tree.specs.declared.base.Base.TheVariants.{Int, Bool as Truth, Set
 use Rattle.cf_tree.specs.declared.base.Order.TheVariants.{Eq, Ne, Lt, Le, Gt, Ge}
 use Rattle.cf_tree.specs.declared.base.Place.{Place}
 use Rattle.cf_tree.specs.declared.raw.BinOp.{BinOp}
-use Rattle.cf_tree.specs.declared.raw.BinOp.TheVariants.{Add, Sub, Mul, And, Or, Union, Inter, Diff, Subset, Compare}
+use Rattle.cf_tree.specs.declared.raw.BinOp.TheVariants.{Add, Sub, Mul, And, Or, Union, Inter, Diff, Subset, Implies, Compare}
 use Rattle.cf_tree.specs.declared.raw.Param.{Param}
 use Rattle.cf_tree.specs.declared.raw.Part.{Part}
 use Rattle.cf_tree.specs.Bases.{same_bases}
@@ -130,6 +130,7 @@ side_of Union = Some Set
 side_of Inter = Some Set
 side_of Diff = Some Set
 side_of Subset = Some Set
+side_of Implies = Some Truth
 side_of (Compare Eq) = None
 side_of (Compare Ne) = None
 side_of (Compare Lt) = Some Int
@@ -152,6 +153,7 @@ result_of Union = Set
 result_of Inter = Set
 result_of Diff = Set
 result_of Subset = Truth
+result_of Implies = Truth
 result_of (Compare order) = Truth
 
 abbrev pub variable_form : Place → ℕ → Option Variable → Result Form TypeFault
