@@ -1,12 +1,16 @@
+pub mod EditionExamples
 mod BaseLaws
 pub mod Kept
 mod LateExamples
 mod LoweredExamples
 mod NameLaws
+mod PlainForms
 pub mod ProgramLaws
 mod ReadsLaws
 mod Rising
-mod RuleExamples
+pub mod RuleExamples
 mod WalkLaws
+mod LanguageTwo
 mod LimitExamples
+mod LinearExamples
 pub mod PlainTypes

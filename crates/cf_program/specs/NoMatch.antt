@@ -1,5 +1,5 @@
 -- Expressions in which no match stands.
-use Rattle.cf_tree.specs.ExprTree.{ExprTree, expr_lit, expr_truth, expr_var, expr_set_of, expr_tuple, expr_neg, expr_not, expr_abs, expr_binary, expr_divides, expr_div, expr_mod, expr_card, expr_if, expr_call, expr_let, expr_choose, expr_match, ExprTrees, no_exprs, expr_more}
+use Rattle.cf_tree.specs.ExprTree.{ExprTree, expr_lit, expr_truth, expr_var, expr_set_of, expr_tuple, expr_neg, expr_not, expr_abs, expr_binary, expr_divides, expr_div, expr_mod, expr_card, expr_if, expr_call, expr_let, expr_choose, expr_chain, expr_min, expr_max, expr_choose_where, expr_match, ExprTrees, no_exprs, expr_more}
 
 abbrev mutual
   pub HasNoMatch : ExprTree → Type 0
@@ -20,6 +20,10 @@ abbrev mutual
   HasNoMatch (expr_call f es) = HaveNoMatch es
   HasNoMatch (expr_let n a b) = HasNoMatch a × HasNoMatch b
   HasNoMatch (expr_choose n scope outputs rel) = Unit {0}
+  HasNoMatch (expr_chain orders es) = HaveNoMatch es
+  HasNoMatch (expr_min es) = HaveNoMatch es
+  HasNoMatch (expr_max es) = HaveNoMatch es
+  HasNoMatch (expr_choose_where n scope outputs hidden given rel aim) = Unit {0}
   HasNoMatch (expr_match n scope a arms) = ⊥
 
   pub HaveNoMatch : ExprTrees → Type 0
