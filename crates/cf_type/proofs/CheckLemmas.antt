@@ -1,8 +1,6 @@
 -- What the answers of checking say.
-use Rattle.std.proofs.Common.{◌≡◌, ℕ, List, [], Option, Some, None, Result, Ok, Err, refl, ap, subst}
-use Rattle.cf_tree.specs.declared.raw.Param.{Param}
-use Rattle.cf_tree.specs.DefView.{RawDefTree, DefTree}
-use Rattle.cf_tree.specs.RawTree.{RawTree}
+use Rattle.std.proofs.Common.{◌≡◌, ℕ, List, [], map, Option, Some, None, Result, Ok, Err, refl, ap}
+use Rattle.cf_tree.specs.DefView.{RawDefTree, DefTree, raw_def_tree}
 use Rattle.cf_program.specs.declared.linearity.Linearity.{Linearity}
 use Rattle.cf_program.specs.DistinctNames.{IsDistinctlyNamed}
 use Rattle.cf_program.specs.Source.{IsSpelledProgram}
@@ -12,10 +10,11 @@ use Rattle.cf_program.proofs.ProgramLaws.{is_named}
 use Rattle.cf_program.specs.declared.fault.TypeFault.{TypeFault}
 use Rattle.cf_program.specs.declared.fault.TypeFault.TheVariants as faults
 use Rattle.cf_program.specs.declared.fault.TypeFault.TheVariants.{Weight, Depth}
-use Rattle.cf_program.specs.CheckAnswers.{CheckFault, CheckAnswer}
-use Rattle.cf_program.specs.Walk.{Context, walk, where_no_fault}
-use Rattle.cf_type.specs.declared.form.Form.{Form as DeclaredForm}
-use Rattle.cf_type.specs.FormView.{form_of}
+use Rattle.cf_program.specs.CheckAnswers.{CheckFault}
+use Rattle.cf_program.specs.Names.{callee_from}
+use Rattle.cf_program.specs.Walk.{in_body, where_no_fault}
+use Rattle.cf_type.specs.declared.callees.Context.{Context as DeclaredContext}
+use Rattle.cf_type.specs.FormView.{context_of}
 
 pub fails_is : {Y : Type 0} (e : TypeFault) (r : Result Y TypeFault) → r ≡ Err e → CheckFault e r
 fails_is faults.NoMemory r h = tt
@@ -45,7 +44,7 @@ sized_is defs (Some main) t e = by (size_fault 1000000 Weight (weights defs)) (s
     by (Some fault) deep h = cc
     by None (Some fault) h = cc
 
--- the answer of a walk, in the same context under another name
-pub walked_in : (told is : Context) (scope : List Param) (n : ℕ) (raw : RawTree) (r : Result DeclaredForm TypeFault) → told ≡ is →
-    CheckAnswer form_of r (walk told scope n raw) → CheckAnswer form_of r (walk is scope n raw)
-walked_in told is scope n raw r same h = subst (λ x. CheckAnswer form_of r (walk x scope n raw)) same h
+-- where no variable counts as known, the context is that of a body
+pub in_body_is : (c : DeclaredContext) → c.known ≡ 0 → context_of c ≡ in_body c.how (callee_from c.number 0 (map raw_def_tree c.callees.now))
+unfolding context_of
+in_body_is c h = rw h refl

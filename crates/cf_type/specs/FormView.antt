@@ -8,7 +8,7 @@ use Rattle.cf_type.specs.declared.form.Reading.TheVariants.{Relation, Term, Set,
 use Rattle.cf_type.specs.declared.form.Form.{Form as DeclaredForm}
 use Rattle.cf_type.specs.declared.form.Forms.{Forms as DeclaredForms}
 use Rattle.cf_type.specs.declared.form.Arms.{Arms as DeclaredArms}
-use Rattle.cf_type.specs.declared.callees.Caller.{Caller}
+use Rattle.cf_type.specs.declared.callees.Context.{Context as DeclaredContext}
 use Rattle.cf_program.specs.Names.{Callee, callee_from}
 use Rattle.cf_tree.specs.Params.{bases_of}
 use Rattle.cf_program.specs.Reading.{Reading, relation, term, set, not_linear}
@@ -32,6 +32,6 @@ arms_of f = record { bases = map (λ b. b.items) f.bases.items; trees = map matc
 abbrev pub callee_seen : ℕ → RawDefTree → Bool → Callee
 callee_seen i d is_earlier = record { number = i; params = bases_of d.params; results = d.results; is_earlier = is_earlier }
 
--- where the expressions stand that a caller walks; unfolded only in the caller's own functions, so that goals about the walk stay small
-unfoldable pub context_of : Caller → Context
+-- where the expressions stand that are walked; unfolded only in the context's own functions, so that goals about the walk stay small
+unfoldable pub context_of : DeclaredContext → Context
 context_of c = record { calls = callee_from c.number 0 (map raw_def_tree c.callees.now); how = c.how; known = c.known }

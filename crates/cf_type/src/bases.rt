@@ -1,10 +1,12 @@
 //! Tests on the bases of expressions.
-ghost use Rattle.std.specs.Prelude.{◌≡◌, ◌++◌, IfOk, map, length};
+ghost use Rattle.std.specs.Prelude.{◌≡◌, IfOk, map};
 ghost use Rattle.cf_tree.specs.Params.{bases_of};
 ghost use Rattle.cf_program.specs.Walk.{is_one as is_one_of, all_are as all_are_of, all_are_single as all_are_single_of, are_asked as are_asked_of, all_have as all_have_of, all_same as all_same_of, joined as joined_of, first_of, side_of as side_base, sides_fit as sides_fit_of, result_of as result_base, is_output as is_output_of};
+ghost use Rattle.cf_tree.specs.RawView.{raw_tree};
 ghost use Rattle.cf_tree.specs.Typing.{one as one_of};
+ghost use Rattle.cf_type.specs.FormParts.{asked as asked_of, given as given_of};
 
-use cf_tree::{Base, BinOp, NoMemory, Order, Param, same_bases};
+use cf_tree::{Base, BinOp, NoMemory, Order, Param, Raw, RawNode, same_bases};
 use std::alloc::Global;
 
 /// The one base.
@@ -108,6 +110,27 @@ pub fn first(alloc: Global, lists: &[Vec<Base>]) -> Result<Vec<Base>, NoMemory>
     match lists.split_first() {
         None => Ok(Vec::new(alloc)),
         Some((bases, _)) => Ok(Vec::from_slice(alloc, bases)?),
+    }
+}
+
+/// The base that a form over one part asks of it.
+pub fn asked(raw: &Raw) -> Base
+    ensures { result ≡ asked_of (raw_tree raw.now) }
+{
+    match &raw.node {
+        RawNode::Not(_) => Base::Bool,
+        RawNode::Card(_) => Base::Set,
+        _ => Base::Int,
+    }
+}
+
+/// The base of a form over one part.
+pub fn given(raw: &Raw) -> Base
+    ensures { result ≡ given_of (raw_tree raw.now) }
+{
+    match &raw.node {
+        RawNode::Not(_) | RawNode::Divides { .. } => Base::Bool,
+        _ => Base::Int,
     }
 }
 

@@ -3,29 +3,37 @@ ghost use Rattle.std.specs.Prelude.{◌≡◌, ◌+◌, ◌++◌, ◌∷◌, [],
 ghost use Rattle.cf_tree.specs.ExprView.{expr_tree, match_arm_tree};
 ghost use Rattle.cf_tree.specs.RelView.{rel_tree};
 ghost use Rattle.cf_tree.specs.DefView.{raw_def_tree};
-ghost use Rattle.cf_tree.specs.ExprTree.{exprs_of, match_arm, expr_call, expr_choose, expr_lit, expr_truth, expr_neg, expr_not, expr_abs, expr_div, expr_mod, expr_divides, expr_card};
-ghost use Rattle.cf_tree.specs.RelTree.{term_lit, term_neg, term_abs, term_div, term_mod, term_card, rel_not, rel_divides};
-ghost use Rattle.cf_tree.specs.declared.base.Base.TheVariants.{Int as int, Bool as truth_base, Set as set_base};
-ghost use Rattle.cf_tree.specs.RawView.{raw_tree};
-ghost use Rattle.cf_type.specs.FormParts.{over_one as over_one_of, over_row as over_row_of};
+ghost use Rattle.cf_tree.specs.ExprTree.{exprs_of, match_arm, match_arms_of, expr_call, expr_choose, expr_match, expr_lit, expr_truth};
+ghost use Rattle.cf_tree.specs.RelTree.{term_lit};
+ghost use Rattle.cf_tree.specs.declared.base.Base.TheVariants.{Int as int, Bool as truth_base};
+ghost use Rattle.cf_tree.specs.RawView.{raw_tree, raw_arm_tree};
+ghost use Rattle.cf_type.specs.FormParts.{over_one as over_one_of, over_row as over_row_of, tree_over as tree_over_of};
 ghost use Rattle.cf_type.specs.FormView.{form_of, forms_of, arms_of, reading_of, callee_seen, context_of};
 ghost use Rattle.cf_program.specs.CheckAnswers.{CheckAnswer};
 ghost use Rattle.cf_tree.specs.Params.{bases_of};
-ghost use Rattle.cf_program.specs.Reading.{relation as a_relation, term as a_term, on_relation, on_term, on_set, truth_reading, not_linear_at as not_linear_at_of};
-ghost use Rattle.cf_program.specs.Walk.{where_no_fault, is_one, form as form_is, no_forms as no_forms_of, with_form as with_form_of, no_arms as no_arms_of, with_arm as with_arm_of, variable_form, unary_form, binary_form, set_reading as set_reading_of, set_form, tuple_form, call_form, if_form, let_form, choose_form, choose_part, match_form, linear as linear_of, arm_number, after_arm};
+ghost use Rattle.cf_program.specs.Reading.{term as a_term, truth_reading, not_linear_at as not_linear_at_of};
+ghost use Rattle.cf_program.specs.Walk.{where_no_fault, is_one, form as form_is, no_forms as no_forms_of, with_form as with_form_of, no_arms as no_arms_of, variable_form, binary_form, set_reading as set_reading_of, set_form, tuple_form, call_form, if_form, let_form, choose_form, choose_part, match_form, linear as linear_of, arm_number, after_arm, with_walked};
 ghost use Rattle.cf_tree.specs.Typing.{one as one_base};
 
-use crate::callees::Caller;
+use crate::callees::Context;
 use crate::form::{Arms, Form, Forms, Reading};
 use crate::memory::{in_box, push};
 use crate::reading::Operation;
+use crate::scope::Scope;
 use crate::{bases, reading};
 use cf_program::{TypeFault, Variable};
 use cf_tree::{
-    Base, BinOp, Expr, MatchArm, NoMemory, Param, Part, Place, Raw, RawDef, RawNode, Rel, SetTerm,
-    Term, Text, add_u32, same_bases, to_u32, without,
+    Base, BinOp, Expr, MatchArm, NoMemory, Param, Part, Place, Raw, RawArm, RawDef, RawNode, Rel,
+    SetTerm, Term, Text, add_u32, same_bases, to_u32, without,
 };
 use std::alloc::Global;
+
+/// Where a `choose` or a `match` stands, and its number.
+#[derive(Clone, Copy)]
+pub struct Site {
+    pub place: Place,
+    pub number: u32,
+}
 
 // The expression of these bases, this tree and this reading.
 fn boxed(
@@ -190,125 +198,62 @@ fn operand_at(place: Place, base: Base, part: Form) -> Result<Operand, TypeFault
     })
 }
 
-/// The negative of a number.
-pub fn neg(alloc: Global, place: Place, part: Form) -> Result<Form, TypeFault>
-    ensures { CheckAnswer form_of result (unary_form place int int expr_neg (on_term (λ t. a_term (term_neg t))) (form_of part)) }
+// The tree of the form over this one part; any other form is its part.
+fn tree_over(raw: &Raw, part: Box<Expr>) -> Expr
+    ensures { expr_tree result ≡ tree_over_of (raw_tree raw.now) (expr_tree part.value) }
 {
-    let part = operand_at(place, Base::Int, part)?;
-    let reading = reading::of_neg(alloc, place, part.reading)?;
-    made(alloc, Base::Int, Expr::Neg(part.tree), reading, part.next)
-}
-
-/// The opposite of a truth value.
-pub fn not(alloc: Global, place: Place, part: Form) -> Result<Form, TypeFault>
-    ensures { CheckAnswer form_of result (unary_form place truth_base truth_base expr_not (on_relation (λ r. a_relation (rel_not r))) (form_of part)) }
-{
-    let part = operand_at(place, Base::Bool, part)?;
-    let reading = reading::of_not(alloc, place, part.reading)?;
-    made(alloc, Base::Bool, Expr::Not(part.tree), reading, part.next)
-}
-
-/// The absolute value of a number.
-pub fn abs(alloc: Global, place: Place, part: Form) -> Result<Form, TypeFault>
-    ensures { CheckAnswer form_of result (unary_form place int int expr_abs (on_term (λ t. a_term (term_abs t))) (form_of part)) }
-{
-    let part = operand_at(place, Base::Int, part)?;
-    let reading = reading::of_abs(alloc, place, part.reading)?;
-    made(alloc, Base::Int, Expr::Abs(part.tree), reading, part.next)
-}
-
-/// Whether `k` divides a number.
-pub fn divides(alloc: Global, place: Place, k: i128, part: Form) -> Result<Form, TypeFault>
-    ensures { CheckAnswer form_of result (unary_form place int truth_base (expr_divides k) (on_term (λ t. a_relation (rel_divides k t))) (form_of part)) }
-{
-    let part = operand_at(place, Base::Int, part)?;
-    let reading = reading::of_divides(alloc, place, k, part.reading)?;
-    made(
-        alloc,
-        Base::Bool,
-        Expr::Divides { k, of: part.tree },
-        reading,
-        part.next,
-    )
-}
-
-/// A number divided by `k`, rounded down.
-pub fn div(alloc: Global, place: Place, part: Form, k: i128) -> Result<Form, TypeFault>
-    ensures { CheckAnswer form_of result (unary_form place int int (λ e. expr_div e k) (on_term (λ t. a_term (term_div t k))) (form_of part)) }
-{
-    let part = operand_at(place, Base::Int, part)?;
-    let reading = reading::of_div(alloc, place, part.reading, k)?;
-    made(
-        alloc,
-        Base::Int,
-        Expr::Div { of: part.tree, k },
-        reading,
-        part.next,
-    )
-}
-
-/// What division by `k` leaves of a number.
-pub fn modulo(alloc: Global, place: Place, part: Form, k: i128) -> Result<Form, TypeFault>
-    ensures { CheckAnswer form_of result (unary_form place int int (λ e. expr_mod e k) (on_term (λ t. a_term (term_mod t k))) (form_of part)) }
-{
-    let part = operand_at(place, Base::Int, part)?;
-    let reading = reading::of_mod(alloc, place, part.reading, k)?;
-    made(
-        alloc,
-        Base::Int,
-        Expr::Mod { of: part.tree, k },
-        reading,
-        part.next,
-    )
-}
-
-/// The size of a set.
-pub fn card(alloc: Global, place: Place, part: Form) -> Result<Form, TypeFault>
-    ensures { CheckAnswer form_of result (unary_form place set_base int expr_card (on_set (λ s. a_term (term_card s))) (form_of part)) }
-{
-    let part = operand_at(place, Base::Set, part)?;
-    let reading = reading::of_card(alloc, place, part.reading)?;
-    made(alloc, Base::Int, Expr::Card(part.tree), reading, part.next)
-}
-
-/// The form with this one part; a group is its part.
-pub fn over_one(alloc: Global, raw: &Raw, part: Form) -> Result<Form, TypeFault>
-    ensures { CheckAnswer form_of result (over_one_of (raw_tree raw.now) (form_of part)) }
-{
-    let place = raw.place;
     match &raw.node {
-        RawNode::Neg(_) => neg(alloc, place, part),
-        RawNode::Not(_) => not(alloc, place, part),
-        RawNode::Abs(_) => abs(alloc, place, part),
-        RawNode::Divides { k, .. } => divides(alloc, place, *k, part),
-        RawNode::Div { k, .. } => div(alloc, place, part, *k),
-        RawNode::Mod { k, .. } => modulo(alloc, place, part, *k),
-        RawNode::Card(_) => card(alloc, place, part),
-        _ => Ok(part),
+        RawNode::Neg(_) => Expr::Neg(part),
+        RawNode::Not(_) => Expr::Not(part),
+        RawNode::Abs(_) => Expr::Abs(part),
+        RawNode::Card(_) => Expr::Card(part),
+        RawNode::Divides { k, .. } => Expr::Divides { k: *k, of: part },
+        RawNode::Div { k, .. } => Expr::Div { of: part, k: *k },
+        RawNode::Mod { k, .. } => Expr::Mod { of: part, k: *k },
+        _ => Box::into_inner(part),
     }
 }
 
+/// The form over this one part.
+pub fn over_one(alloc: Global, raw: &Raw, part: Form) -> Result<Form, TypeFault>
+    ensures { CheckAnswer form_of result (over_one_of raw.now.place (raw_tree raw.now) (form_of part)) }
+{
+    let Operand {
+        tree,
+        reading,
+        next,
+    } = operand_at(raw.place, bases::asked(raw), part)?;
+    let reading = reading::over_one(alloc, raw, reading)?;
+    made(
+        alloc,
+        bases::given(raw),
+        tree_over(raw, tree),
+        reading,
+        next,
+    )
+}
+
 /// The form with these parts in a row: a set, a call or a tuple.
-pub fn over_row(caller: &Caller, raw: &Raw, parts: Forms) -> Result<Form, TypeFault>
-    ensures { CheckAnswer form_of result (over_row_of (context_of caller.now) raw.now.place (raw_tree raw.now) (forms_of parts)) }
+pub fn over_row(context: &Context, raw: &Raw, parts: Forms) -> Result<Form, TypeFault>
+    ensures { CheckAnswer form_of result (over_row_of (context_of context.now) raw.now.place (raw_tree raw.now) (forms_of parts)) }
 {
     match &raw.node {
-        RawNode::SetOf(_) => set(caller.alloc, raw.place, parts),
-        RawNode::Call { name, .. } => call(caller, raw.place, name, parts),
-        _ => tuple(caller.alloc, raw.place, parts),
+        RawNode::SetOf(_) => set(context.alloc, raw.place, parts),
+        RawNode::Call { name, .. } => call(context, raw.place, name, parts),
+        _ => tuple(context.alloc, raw.place, parts),
     }
 }
 
 /// An operation with two sides.
 #[tactic(auto, unfolding(crate::specs::FormView::context_of))]
 pub fn binary(
-    caller: &Caller,
+    context: &Context,
     place: Place,
     op: BinOp,
     left: Form,
     right: Form,
 ) -> Result<Form, TypeFault>
-    ensures { CheckAnswer form_of result (binary_form (context_of caller.now).known place op (form_of left) (form_of right)) }
+    ensures { CheckAnswer form_of result (binary_form (context_of context.now).known place op (form_of left) (form_of right)) }
 {
     if !bases::sides_fit(op, &left.bases, &right.bases) {
         drop(left);
@@ -332,28 +277,15 @@ pub fn binary(
     let operation = Operation {
         op,
         place,
-        known: caller.known,
+        known: context.known,
     };
-    let reading = reading::of_binary(caller.alloc, operation, left_reading, right_reading)?;
+    let reading = reading::of_binary(context.alloc, operation, left_reading, right_reading)?;
     let tree = Expr::Binary {
         op,
         left: left_tree,
         right: right_tree,
     };
-    made(caller.alloc, bases::result_of(op), tree, reading, next)
-}
-
-/// The call of the function of that name.
-#[tactic(auto, unfolding(crate::specs::FormView::context_of))]
-pub fn call(caller: &Caller, place: Place, name: &Text, args: Forms) -> Result<Form, TypeFault>
-    ensures { CheckAnswer form_of result (call_form place ((context_of caller.now).calls name.now) (forms_of args)) }
-{
-    match caller.callees.find(caller.number, name) {
-        None => Err(TypeFault::UnknownName(place)),
-        Some((number, def, is_earlier)) => {
-            call_of(caller.alloc, place, number, def, is_earlier, args)
-        }
-    }
+    made(context.alloc, bases::result_of(op), tree, reading, next)
 }
 
 // The call of the function of that number, which has these results.
@@ -405,19 +337,16 @@ fn call_fault(place: Place, def: &RawDef, is_earlier: bool, args: &Forms) -> Opt
     None
 }
 
-// The call of this function.
-fn call_of(
-    alloc: Global,
-    place: Place,
-    number: u32,
-    def: &RawDef,
-    is_earlier: bool,
-    args: Forms,
-) -> Result<Form, TypeFault>
-    ensures { CheckAnswer form_of result (call_form place (Some (callee_seen number (raw_def_tree def.now) is_earlier)) (forms_of args)) }
+/// The call of the function of that name.
+#[tactic(auto, unfolding(crate::specs::FormView::context_of))]
+pub fn call(context: &Context, place: Place, name: &Text, args: Forms) -> Result<Form, TypeFault>
+    ensures { CheckAnswer form_of result (call_form place ((context_of context.now).calls name.now) (forms_of args)) }
 {
+    let Some((number, def, is_earlier)) = context.callees.find(context.number, name) else {
+        return Err(without(args, TypeFault::UnknownName(place)));
+    };
     match call_fault(place, def, is_earlier, &args) {
-        None => called(alloc, place, number, &def.results, args),
+        None => called(context.alloc, place, number, &def.results, args),
         Some(fault) => Err(without(args, fault)),
     }
 }
@@ -475,16 +404,20 @@ pub fn choice(
     boxed(alloc, bases, Expr::If { test, yes, no }, reading, next)
 }
 
-// A `let` of so many names.
-fn bound(
+/// A `let` of so many names.
+pub fn binding(
     alloc: Global,
     place: Place,
-    count: u32,
+    count: usize,
     value: Form,
     body: Form,
 ) -> Result<Form, TypeFault>
     ensures { CheckAnswer form_of result (let_form place count (form_of value) (form_of body)) }
 {
+    let count = match to_u32(count) {
+        Ok(count) => count,
+        Err(_) => return Err(without(value, without(body, TypeFault::NoMemory))),
+    };
     let first_nonlinear = reading::earlier_nonlinear(
         reading::first_nonlinear(&value.reading),
         reading::first_nonlinear(&body.reading),
@@ -502,22 +435,6 @@ fn bound(
     boxed(alloc, bases, tree, reading, next)
 }
 
-/// A `let` of so many names.
-pub fn binding(
-    alloc: Global,
-    place: Place,
-    count: usize,
-    value: Form,
-    body: Form,
-) -> Result<Form, TypeFault>
-    ensures { CheckAnswer form_of result (let_form place count (form_of value) (form_of body)) }
-{
-    match to_u32(count) {
-        Ok(count) => bound(alloc, place, count, value, body),
-        Err(_) => Err(without(value, without(body, TypeFault::NoMemory))),
-    }
-}
-
 // The relation that was read, where it is linear.
 fn linear(place: Place, reading: Reading) -> Result<Box<Rel>, TypeFault>
     ensures { CheckAnswer (λ r. rel_tree r.value) result (linear_of place (reading_of reading)) }
@@ -530,71 +447,51 @@ fn linear(place: Place, reading: Reading) -> Result<Box<Rel>, TypeFault>
     }
 }
 
-// The bases of outputs.
-fn output_bases(alloc: Global, outputs: &[Param]) -> Result<Vec<Base>, NoMemory>
-    ensures { IfOk result (λ bs. bs.items ≡ bases_of outputs.now) }
-{
-    let mut all = Vec::new(alloc);
-    for output in outputs {
-        all.push(output.base)?;
-    }
-    Ok(all)
-}
-
 // The `choose` of that number and these outputs over a linear relation, and the bases of its outputs.
 fn choose_tree(
     alloc: Global,
     number: u32,
-    scope: Vec<Param>,
+    scope: &Scope,
     outputs: &[Param],
     rel: Box<Rel>,
 ) -> Result<(Vec<Base>, Box<Expr>), NoMemory>
     ensures { IfOk result (λ r. (r.0.items ≡ bases_of outputs.now) ×
-        (expr_tree r.1.value ≡ expr_choose number scope.items (bases_of outputs.now) (rel_tree rel.value))) }
+        (expr_tree r.1.value ≡ expr_choose number scope.now (bases_of outputs.now) (rel_tree rel.value))) }
 {
-    let bases = output_bases(alloc, outputs)?;
-    let outputs = output_bases(alloc, outputs)?;
+    let bases = cf_tree::bases(alloc, outputs)?;
     let tree = Expr::Choose {
         number,
-        scope,
-        outputs,
+        scope: scope.copied(alloc)?,
+        outputs: cf_tree::bases(alloc, outputs)?,
         rel: Box::into_inner(rel),
     };
     Ok((bases, Box::new(alloc, tree)?))
 }
 
-/// The `choose` of that number and these outputs, where `scope` holds the variables in scope.
+/// The `choose` of these outputs, where these variables are in scope.
 pub fn choose(
     alloc: Global,
-    place: Place,
-    number: u32,
-    scope: Vec<Param>,
+    site: Site,
+    scope: &Scope,
     outputs: &[Param],
     rel: Form,
 ) -> Result<Form, TypeFault>
-    ensures { CheckAnswer form_of result (choose_form place number scope.items outputs.now (form_of rel)) }
+    ensures { CheckAnswer form_of result (choose_form site.place site.number scope.now outputs.now (form_of rel)) }
 {
     let Operand {
         tree,
         reading,
         next,
-    } = match operand_at(place, Base::Bool, rel) {
-        Ok(rel) => rel,
-        Err(fault) => return Err(without(scope, fault)),
-    };
+    } = operand_at(site.place, Base::Bool, rel)?;
     drop(tree);
-    match linear(place, reading) {
-        Ok(rel) => {
-            let (bases, tree) = choose_tree(alloc, number, scope, outputs, rel)?;
-            Ok(Form {
-                bases,
-                tree,
-                reading: Reading::NotLinear(place),
-                next,
-            })
-        }
-        Err(fault) => Err(without(scope, fault)),
-    }
+    let rel = linear(site.place, reading)?;
+    let (bases, tree) = choose_tree(alloc, site.number, scope, outputs, rel)?;
+    Ok(Form {
+        bases,
+        tree,
+        reading: Reading::NotLinear(site.place),
+        next,
+    })
 }
 
 /// The `choose` as a part of the relation around it, where its own relation was read as a part of
@@ -631,35 +528,23 @@ pub fn no_forms(alloc: Global, next: u32) -> Forms
     }
 }
 
-/// These expressions and one more.
-pub fn with_form(before: Forms, form: Form) -> Result<Forms, NoMemory>
-    ensures { IfOk result (λ fs. forms_of fs ≡ with_form_of (forms_of before) (form_of form)) }
+/// Adds an expression.
+pub fn add_form(forms: &mut Forms, form: Form) -> Result<(), NoMemory>
+    ensures { OnOk result (forms_of forms.new ≡ with_form_of (forms_of forms.old) (form_of form)) }
 {
-    let Forms {
-        mut bases,
-        mut trees,
-        first_nonlinear,
-        next: _,
-    } = before;
     let Form {
-        bases: own,
+        bases,
         tree,
         reading,
         next,
     } = form;
-    let first_nonlinear = reading::earlier_nonlinear(
-        first_nonlinear,
-        reading::first_nonlinear(&reading),
-    );
+    let first = reading::first_nonlinear(&reading);
     drop(reading);
-    bases.push(own)?;
-    push(&mut trees, Box::into_inner(tree))?;
-    Ok(Forms {
-        bases,
-        trees,
-        first_nonlinear,
-        next,
-    })
+    forms.bases.push(bases)?;
+    push(&mut forms.trees, Box::into_inner(tree))?;
+    forms.first_nonlinear = reading::earlier_nonlinear(forms.first_nonlinear, first);
+    forms.next = next;
+    Ok(())
 }
 
 /// No arms, before those that are numbered from `next` on.
@@ -711,52 +596,25 @@ fn factors_of(alloc: Global, parts: &[Part]) -> Result<Vec<i128>, NoMemory>
     Ok(all)
 }
 
-// The arm of that pattern and body.
-fn arm_of(
-    alloc: Global,
-    number: u32,
-    parts: &[Part],
-    constant: i128,
-    body: Box<Expr>,
-) -> Result<MatchArm, NoMemory>
-    ensures { IfOk result (λ arm. match_arm_tree arm ≡ match_arm number (map (λ x. x.factor) parts.now) constant (expr_tree body.value)) }
+// The arm with this body, where `next` is the next number.
+fn arm_of(alloc: Global, next: u32, arm: &RawArm, body: Box<Expr>) -> Result<MatchArm, NoMemory>
+    ensures { IfOk result (λ a. match_arm_tree a ≡
+        match_arm (arm_number next arm.now.parts.items) (map (λ x. x.factor) arm.now.parts.items) arm.now.constant (expr_tree body.value)) }
 {
-    match factors_of(alloc, parts) {
+    match factors_of(alloc, &arm.parts) {
         Ok(factors) => Ok(MatchArm {
-            number,
+            number: number_of(next, &arm.parts),
             factors,
-            constant,
+            constant: arm.constant,
             body: Box::into_inner(body),
         }),
         Err(fault) => Err(without(body, fault)),
     }
 }
 
-// Adds the arm of that pattern and body to trees.
-fn push_arm(
-    alloc: Global,
-    trees: &mut Vec<MatchArm>,
-    number: u32,
-    parts: &[Part],
-    constant: i128,
-    body: Box<Expr>,
-) -> Result<(), NoMemory>
-    ensures { OnOk result (map match_arm_tree trees.new.items ≡ map match_arm_tree trees.old.items
-        ++ match_arm number (map (λ x. x.factor) parts.now) constant (expr_tree body.value) ∷ []) }
-{
-    let arm = arm_of(alloc, number, parts, constant, body)?;
-    push(trees, arm)
-}
-
-// Adds an arm of that pattern and body.
-fn add_arm(
-    alloc: Global,
-    arms: &mut Arms,
-    parts: &[Part],
-    constant: i128,
-    body: Form,
-) -> Result<(), NoMemory>
-    ensures { OnOk result (arms_of arms.new ≡ with_arm_of (arms_of arms.old) parts.now constant (form_of body)) }
+/// Adds an arm with its body.
+pub fn add_arm(alloc: Global, arms: &mut Arms, arm: &RawArm, body: Form) -> Result<(), NoMemory>
+    ensures { OnOk result (arms_of arms.new ≡ with_walked (arms_of arms.old) (raw_arm_tree arm.now) (form_of body)) }
 {
     let Form {
         bases,
@@ -767,46 +625,46 @@ fn add_arm(
     let first = reading::first_nonlinear(&reading);
     drop(reading);
     arms.bases.push(bases)?;
-    let number = number_of(arms.next, parts);
-    push_arm(alloc, &mut arms.trees, number, parts, constant, tree)?;
+    let arm = arm_of(alloc, arms.next, arm, tree)?;
+    push(&mut arms.trees, arm)?;
     arms.first_nonlinear = reading::earlier_nonlinear(arms.first_nonlinear, first);
     arms.next = next;
     Ok(())
 }
 
-/// These arms and one more, of that pattern and body.
-pub fn with_arm(
+// The `match` of that number over these parts.
+fn match_tree(
     alloc: Global,
-    before: Arms,
-    parts: &[Part],
-    constant: i128,
-    body: Form,
-) -> Result<Arms, NoMemory>
-    ensures { IfOk result (λ arms. arms_of arms ≡ with_arm_of (arms_of before) parts.now constant (form_of body)) }
+    number: u32,
+    scope: &Scope,
+    of: Box<Expr>,
+    arms: Vec<MatchArm>,
+) -> Result<Expr, NoMemory>
+    ensures { IfOk result (λ e. expr_tree e ≡ expr_match number scope.now (expr_tree of.value) (match_arms_of (map match_arm_tree arms.items))) }
 {
-    let mut arms = before;
-    match add_arm(alloc, &mut arms, parts, constant, body) {
-        Ok(()) => Ok(arms),
-        Err(fault) => Err(without(arms, fault)),
+    match scope.copied(alloc) {
+        Ok(scope) => Ok(Expr::Match {
+            number,
+            scope,
+            of,
+            arms,
+        }),
+        Err(fault) => Err(without(of, without(arms, fault))),
     }
 }
 
-/// The `match` of that number, where `scope` holds the variables in scope and last the matched value.
+/// The `match`, where these variables are in scope, and last the matched value.
 pub fn matching(
     alloc: Global,
-    place: Place,
-    number: u32,
-    scope: Vec<Param>,
+    site: Site,
+    scope: &Scope,
     value: Form,
     arms: Arms,
 ) -> Result<Form, TypeFault>
-    ensures { CheckAnswer form_of result (match_form place number scope.items (form_of value) (arms_of arms)) }
+    ensures { CheckAnswer form_of result (match_form site.place site.number scope.now (form_of value) (arms_of arms)) }
 {
     if !bases::is_one(Base::Int, &value.bases) || !bases::all_same(&arms.bases) {
-        drop(scope);
-        drop(value);
-        drop(arms);
-        return Err(TypeFault::Mismatch(place));
+        return Err(without(value, without(arms, TypeFault::Mismatch(site.place))));
     }
     let Arms {
         bases,
@@ -820,14 +678,10 @@ pub fn matching(
         reading::first_nonlinear(&value.reading),
         first_nonlinear,
     );
-    let tree = Expr::Match {
-        number,
-        scope,
-        of: bare(value),
-        arms: trees,
-    };
+    let tree = match_tree(alloc, site.number, scope, bare(value), trees)?;
+    let reading = reading::not_linear_at(first, site.place);
     match all {
-        Ok(all) => boxed(alloc, all, tree, reading::not_linear_at(first, place), next),
+        Ok(all) => boxed(alloc, all, tree, reading, next),
         Err(_) => Err(without(tree, TypeFault::NoMemory)),
     }
 }

@@ -4,7 +4,7 @@ ghost use Rattle.cf_tree.specs.DefView.{raw_def_tree};
 ghost use Rattle.cf_type.specs.FormView.{callee_seen, context_of};
 ghost use Rattle.cf_program.specs.CheckAnswers.{Shows};
 ghost use Rattle.cf_program.specs.Names.{callee_from, is_among};
-ghost use Rattle.cf_program.specs.Walk.{in_body, in_relation as in_relation_of};
+ghost use Rattle.cf_program.specs.Walk.{in_relation as in_relation_of};
 ghost use Rattle.cf_type.specs.Numbers.{shown, with_name, with_names, names_of_defs};
 
 use cf_program::Linearity;
@@ -42,7 +42,7 @@ impl<'a> Model for Callees<'a> {
 /// Where an expression stands: the number of the function, the functions that it may name, which
 /// relations are linear, and how many of the outermost variables count as known.
 #[derive(Drop)]
-pub struct Caller<'a> {
+pub struct Context<'a> {
     pub alloc: Global,
     pub callees: &'a Callees<'a>,
     pub number: u32,
@@ -50,13 +50,12 @@ pub struct Caller<'a> {
     pub known: usize,
 }
 
-impl<'a> Caller<'a> {
+impl<'a> Context<'a> {
     /// In the body of that function.
-    #[tactic(auto, unfolding(crate::specs::FormView::context_of))]
-    pub fn new(alloc: Global, callees: &'a Callees<'a>, number: u32, how: Linearity) -> Caller<'a>
-        ensures { context_of result ≡ in_body how (callee_from number 0 (map raw_def_tree callees.now)) }
+    pub fn new(alloc: Global, callees: &'a Callees<'a>, number: u32, how: Linearity) -> Context<'a>
+        ensures { (result.callees.now ≡ callees.entry.now) × (result.number ≡ number) × (result.how ≡ how) × (result.known ≡ 0) }
     {
-        Caller {
+        Context {
             alloc,
             callees,
             number,
@@ -67,7 +66,7 @@ impl<'a> Caller<'a> {
 
     /// Whether as many variables count as known for both.
     #[tactic(auto, unfolding(crate::specs::FormView::context_of))]
-    pub fn knows_as_many(&self, other: &Caller) -> bool
+    pub fn knows_as_many(&self, other: &Context) -> bool
         ensures { result ≡ ((context_of self.now).known == (context_of other.now).known) }
     {
         self.known == other.known
@@ -75,10 +74,10 @@ impl<'a> Caller<'a> {
 
     /// In the relation of a `choose` behind so many variables.
     #[tactic(auto, unfolding(crate::specs::FormView::context_of))]
-    pub fn in_relation(&self, scope: usize) -> Caller<'a>
+    pub fn in_relation(&self, scope: usize) -> Context<'a>
         ensures { context_of result ≡ in_relation_of (context_of self.now) scope }
     {
-        Caller {
+        Context {
             alloc: self.alloc,
             callees: self.callees,
             number: self.number,

@@ -1,24 +1,23 @@
 //! The rules over a program.
-ghost use Rattle.std.specs.Prelude.{◌≡◌, ◌++◌, ℕ, [], length, map, take, codes, Ok, IfOk, OnOk};
+ghost use Rattle.std.specs.Prelude.{◌≡◌, ◌<◌, ℕ, [], length, map, take, codes, Ok, IfOk, OnOk};
 ghost use Rattle.std.specs.Str.{bytes_eq};
 ghost use Rattle.cf_tree.specs.DefView.{program_tree, raw_def_tree, def_tree, DefTree};
 ghost use Rattle.cf_tree.specs.RawTree.{place_of};
 ghost use Rattle.cf_tree.specs.RawView.{raw_tree};
 ghost use Rattle.cf_program.specs.Checked.{checked, checked_by, walk_def as walk_def_of, walk_defs as walk_defs_of, main_from, sized, TypedTree, def_form};
 ghost use Rattle.cf_program.specs.declared.fault.TypeFault.TheVariants.{Mismatch};
-ghost use Rattle.cf_type.specs.FormView.{form_of, context_of};
+ghost use Rattle.cf_type.specs.FormView.{form_of};
 ghost use Rattle.cf_program.specs.DistinctNames.{IsDistinctlyNamed};
 ghost use Rattle.cf_program.specs.CheckAnswers.{CheckAnswer};
-ghost use Rattle.cf_program.specs.Names.{callee_from};
 ghost use Rattle.cf_tree.specs.Bases.{same_bases as same_bases_of};
 ghost use Rattle.cf_program.specs.LateLinear.{IsLinearBy};
 ghost use Rattle.cf_program.specs.Source.{IsSpelledProgram};
 ghost use Rattle.cf_program.specs.Typed.{typed_tree};
 ghost use Rattle.cf_program.specs.TypedProgram.{IsProgramBy};
-ghost use Rattle.cf_program.specs.Walk.{where_kept, in_body, walk as walk_of};
+ghost use Rattle.cf_program.specs.Walk.{where_kept};
 
 use crate::build::bare;
-use crate::callees::{Callees, Caller};
+use crate::callees::{Callees, Context};
 use crate::form::Form;
 use crate::memory::push;
 use crate::names::repeated_param;
@@ -26,7 +25,7 @@ use crate::scope::Scope;
 use crate::size;
 use crate::walk::walk;
 use cf_program::{Late, Linearity, TypeFault, Typed, TypedDefs};
-use cf_tree::{Def, NoMemory, Program, RawDef, Text, copy_params, same_bases, without};
+use cf_tree::{Def, NoMemory, Program, RawDef, Text, copy_params, same_bases, to_u32, without};
 use std::alloc::Global;
 
 /// The program with its names turned into levels and its chooses numbered from 1 in the order of
@@ -91,38 +90,6 @@ fn main_of(alloc: Global, defs: &[RawDef], trees: &[Def]) -> Result<u32, TypeFau
     Ok(main)
 }
 
-// The body of a function, in this scope with its parameters.
-fn walk_in(caller: &Caller, scope: &mut Scope, def: &RawDef, next: u32) -> Result<Form, TypeFault>
-    ensures { CheckAnswer form_of result (walk_of (context_of caller.now) (scope.old ++ def.now.params.items) next (raw_tree def.now.body)) }
-{
-    scope.enter(caller.alloc, &def.params)?;
-    walk(caller, scope, next, &def.body)
-}
-
-// The body of a function behind these.
-fn walk_body(
-    alloc: Global,
-    how: Linearity,
-    callees: &Callees,
-    before: &[RawDef],
-    def: &RawDef,
-    next: u32,
-) -> Result<Form, TypeFault>
-    ensures { CheckAnswer form_of result (walk_of (in_body how (callee_from (length before.now) 0 (map raw_def_tree callees.now))) def.now.params.items next
-        (raw_tree def.now.body)) }
-{
-    match u32::try_from(before.len()) {
-        Err(_) => Err(TypeFault::NoMemory),
-        Ok(number) => {
-            let caller = Caller::new(alloc, callees, number, how);
-            let mut scope = Scope::new(alloc);
-            let walked = walk_in(&caller, &mut scope, def, next);
-            drop(scope);
-            walked
-        }
-    }
-}
-
 // The function with its body.
 fn with_body(alloc: Global, def: &RawDef, body: Form) -> Result<Def, NoMemory>
     ensures { IfOk result (λ d. def_tree d ≡ def_form (raw_def_tree def.now) (form_of body)) }
@@ -153,58 +120,41 @@ fn closed(alloc: Global, def: &RawDef, body: Form) -> Result<(Def, u32), TypeFau
     Ok((with_body(alloc, def, body)?, next))
 }
 
-// A function behind these, and the next number of a choose after it.
+// A function in its context, and the next number of a choose after it.
 #[tactic(auto, using(crate::proofs::WalkSteps::fails_then, crate::proofs::WalkSteps::goes_on))]
-fn walk_def(
-    alloc: Global,
-    how: Linearity,
-    callees: &Callees,
-    before: &[RawDef],
-    def: &RawDef,
-    next: u32,
-) -> Result<(Def, u32), TypeFault>
-    requires { before.now ≡ take (length before.now) callees.now }
+fn walk_def(context: &Context, def: &RawDef, next: u32) -> Result<(Def, u32), TypeFault>
+    requires within { context.now.number < length context.now.callees.now }
+    requires unknown { context.now.known ≡ 0 }
     ensures { CheckAnswer {Y = DefTree × ℕ} (λ r. (def_tree r.0, r.1)) result
-        (walk_def_of how (map raw_def_tree callees.now) (map raw_def_tree before.now) next (raw_def_tree def.now)) }
+        (walk_def_of context.now.how (map raw_def_tree context.now.callees.now)
+        (map raw_def_tree (take context.now.number context.now.callees.now)) next (raw_def_tree def.now)) }
 {
-    if callees.is_named_before(before.len(), &def.name) {
+    let alloc = context.alloc;
+    let before = context.number as usize;
+    if context.callees.is_named_before(before, &def.name) {
         return Err(TypeFault::DuplicateName(def.place));
     }
     if let Some(place) = repeated_param(alloc, &def.params)? {
         return Err(TypeFault::DuplicateName(place));
     }
-    closed(
-        alloc,
-        def,
-        walk_body(alloc, how, callees, before, def, next)?,
-    )
+    let mut scope = Scope::new(alloc);
+    scope.enter(alloc, &def.params)?;
+    let body = walk(context, &mut scope, next, &def.body)?;
+    drop(scope);
+    closed(alloc, def, body)
 }
 
 // The functions in the order of the text.
+#[tactic(auto, using(crate::proofs::WalkSteps::fails_then, crate::proofs::WalkSteps::goes_on))]
 fn walk_defs(alloc: Global, how: Linearity, defs: &[RawDef]) -> Result<Vec<Def>, TypeFault>
     ensures { CheckAnswer (λ ds. map def_tree ds.items) result (walk_defs_of how (map raw_def_tree defs.now) [] [] 1 (map raw_def_tree defs.now)) }
 {
     let callees = Callees::new(alloc, defs)?;
-    let done = walk_each(alloc, how, &callees, defs);
-    drop(callees);
-    done
-}
-
-// The functions in the order of the text, where these are all that can be called.
-#[tactic(auto, using(crate::proofs::WalkSteps::fails_then, crate::proofs::WalkSteps::goes_on))]
-fn walk_each(
-    alloc: Global,
-    how: Linearity,
-    callees: &Callees,
-    defs: &[RawDef],
-) -> Result<Vec<Def>, TypeFault>
-    requires { callees.now ≡ defs.now }
-    ensures { CheckAnswer (λ ds. map def_tree ds.items) result (walk_defs_of how (map raw_def_tree defs.now) [] [] 1 (map raw_def_tree defs.now)) }
-{
     let mut done = Vec::new(alloc);
     let mut next = 1;
     for i in 0..defs.len() {
-        let (def, after) = walk_def(alloc, how, callees, &defs[..i], &defs[i], next)?;
+        let context = Context::new(alloc, &callees, to_u32(i)?, how);
+        let (def, after) = walk_def(&context, &defs[i], next)?;
         push(&mut done, def)?;
         next = after;
     }
@@ -224,10 +174,7 @@ fn find_main(defs: &[RawDef]) -> Result<Option<u32>, NoMemory>
 {
     for i in 0..defs.len() {
         if is_main(&defs[i].name) {
-            return match u32::try_from(i) {
-                Ok(main) => Ok(Some(main)),
-                Err(_) => Err(NoMemory),
-            };
+            return Ok(Some(to_u32(i)?));
         }
     }
     Ok(None)

@@ -15,19 +15,6 @@ pub fn repeated(alloc: Global, names: &[Text], places: &[Place]) -> Result<Optio
     ensures { IfOk result (λ o. o ≡ repeated_of [] names.now places.now) }
 {
     let mut before = NameSet::new(alloc);
-    let found = repeated_behind(&mut before, names, places);
-    drop(before);
-    found
-}
-
-// The place of the first name that equals one before it, where these stand before.
-fn repeated_behind<'a>(
-    before: &mut NameSet<'a>,
-    names: &'a [Text],
-    places: &[Place],
-) -> Result<Option<Place>, NoMemory>
-    ensures { IfOk result (λ o. o ≡ repeated_of before.old names.now places.now) }
-{
     let mut rest = places;
     for name in names {
         match rest.split_first() {
@@ -48,18 +35,6 @@ pub fn repeated_param(alloc: Global, params: &[Param]) -> Result<Option<Place>, 
     ensures { IfOk result (λ o. o ≡ repeated_of [] (names_of params.now) (map (λ p. p.place) params.now)) }
 {
     let mut before = NameSet::new(alloc);
-    let found = repeated_param_behind(&mut before, params);
-    drop(before);
-    found
-}
-
-// The place of the first parameter whose name is that of one before it, where these stand before.
-fn repeated_param_behind<'a>(
-    before: &mut NameSet<'a>,
-    params: &'a [Param],
-) -> Result<Option<Place>, NoMemory>
-    ensures { IfOk result (λ o. o ≡ repeated_of before.old (names_of params.now) (map (λ p. p.place) params.now)) }
-{
     for param in params {
         if before.add(&param.name)? {
             return Ok(Some(param.place));
@@ -73,18 +48,6 @@ pub fn repeated_part(alloc: Global, parts: &[Part]) -> Result<Option<Place>, NoM
     ensures { IfOk result (λ o. o ≡ repeated_of [] (map (λ x. x.name) parts.now) (map (λ x. x.place) parts.now)) }
 {
     let mut before = NameSet::new(alloc);
-    let found = repeated_part_behind(&mut before, parts);
-    drop(before);
-    found
-}
-
-// The place of the first variable of a pattern whose name is that of one before it, where these stand before.
-fn repeated_part_behind<'a>(
-    before: &mut NameSet<'a>,
-    parts: &'a [Part],
-) -> Result<Option<Place>, NoMemory>
-    ensures { IfOk result (λ o. o ≡ repeated_of before.old (map (λ x. x.name) parts.now) (map (λ x. x.place) parts.now)) }
-{
     for part in parts {
         if before.add(&part.name)? {
             return Ok(Some(part.place));
@@ -98,18 +61,6 @@ pub fn output_fault(alloc: Global, outputs: &[Param]) -> Result<Option<TypeFault
     ensures { IfOk result (λ o. o ≡ output_fault_of [] outputs.now) }
 {
     let mut before = NameSet::new(alloc);
-    let found = output_fault_behind(&mut before, outputs);
-    drop(before);
-    found
-}
-
-// What is wrong with the outputs of a choose, where these stand before.
-fn output_fault_behind<'a>(
-    before: &mut NameSet<'a>,
-    outputs: &'a [Param],
-) -> Result<Option<TypeFault>, NoMemory>
-    ensures { IfOk result (λ o. o ≡ output_fault_of before.old outputs.now) }
-{
     for output in outputs {
         if before.add(&output.name)? {
             return Ok(Some(TypeFault::DuplicateName(output.place)));

@@ -1,14 +1,15 @@
 //! Expressions as parts of relations.
 ghost use Rattle.std.specs.Prelude.{◌≡◌, IfOk};
 ghost use Rattle.cf_tree.specs.RelView.{rel_tree, term_tree, set_tree};
-ghost use Rattle.cf_tree.specs.RelTree.{rel_compare, rel_divides, rel_not, rel_and, rel_or, rel_subset, term_neg, term_abs, term_div, term_mod, term_card, term_add, term_sub, union_of, inter_of, diff_of};
+ghost use Rattle.cf_tree.specs.RawView.{raw_tree};
+ghost use Rattle.cf_type.specs.FormParts.{reading_over};
 ghost use Rattle.cf_type.specs.FormView.{reading_of};
 ghost use Rattle.cf_program.specs.LateLinear.{is_fixed_below as is_fixed_below_of};
-ghost use Rattle.cf_program.specs.Reading.{relation as a_relation, term as a_term, set as a_set, not_linear, first_nonlinear as first_nonlinear_of, earlier_nonlinear as earlier_nonlinear_of, not_linear_at as not_linear_at_of, on_relation, on_term, on_set, truth_reading, variable_reading, product_reading, sets_reading, compare_reading, binary_reading};
+ghost use Rattle.cf_program.specs.Reading.{relation as a_relation, term as a_term, set as a_set, not_linear, first_nonlinear as first_nonlinear_of, earlier_nonlinear as earlier_nonlinear_of, not_linear_at as not_linear_at_of, truth_reading, variable_reading, product_reading, sets_reading, binary_reading};
 
 use crate::form::Reading;
 use cf_program::Variable;
-use cf_tree::{Base, BinOp, NoMemory, Order, Place, Rel, SetTerm, Term, without};
+use cf_tree::{Base, BinOp, NoMemory, Order, Place, Raw, RawNode, Rel, SetTerm, Term, without};
 use std::alloc::Global;
 
 /// An operation with two sides: its place, and how many of the outermost variables count as known.
@@ -91,86 +92,48 @@ pub fn of_variable(alloc: Global, place: Place, variable: Variable) -> Result<Re
     }
 }
 
-/// The opposite of a relation.
-pub fn of_not(alloc: Global, place: Place, part: Reading) -> Result<Reading, NoMemory>
-    ensures { IfOk result (λ r. reading_of r ≡ on_relation (λ a. a_relation (rel_not a)) place (reading_of part)) }
+// A form over one number form.
+fn over_term(alloc: Global, raw: &Raw, t: Box<Term>) -> Result<Reading, NoMemory>
+    ensures { IfOk result (λ r. reading_of r ≡ reading_over (raw_tree raw.now) raw.now.place (a_term (term_tree t.value))) }
 {
-    match part {
-        Reading::Relation(a) => relation(alloc, Rel::Not(a)),
-        Reading::Term(t) => Ok(without(t, Reading::NotLinear(place))),
-        Reading::Set(s) => Ok(without(s, Reading::NotLinear(place))),
-        Reading::NotLinear(first) => Ok(Reading::NotLinear(first)),
+    match &raw.node {
+        RawNode::Neg(_) => term(alloc, Term::Neg(t)),
+        RawNode::Abs(_) => term(alloc, Term::Abs(t)),
+        RawNode::Div { k, .. } => term(alloc, Term::Div(t, *k)),
+        RawNode::Mod { k, .. } => term(alloc, Term::Mod(t, *k)),
+        RawNode::Divides { k, .. } => relation(alloc, Rel::Divides { k: *k, of: t }),
+        _ => Ok(without(t, Reading::NotLinear(raw.place))),
     }
 }
 
-/// The negative of a number form.
-pub fn of_neg(alloc: Global, place: Place, part: Reading) -> Result<Reading, NoMemory>
-    ensures { IfOk result (λ r. reading_of r ≡ on_term (λ t. a_term (term_neg t)) place (reading_of part)) }
+// A form over one relation.
+fn over_relation(alloc: Global, raw: &Raw, a: Box<Rel>) -> Result<Reading, NoMemory>
+    ensures { IfOk result (λ r. reading_of r ≡ reading_over (raw_tree raw.now) raw.now.place (a_relation (rel_tree a.value))) }
 {
-    match part {
-        Reading::Relation(a) => Ok(without(a, Reading::NotLinear(place))),
-        Reading::Term(t) => term(alloc, Term::Neg(t)),
-        Reading::Set(s) => Ok(without(s, Reading::NotLinear(place))),
-        Reading::NotLinear(first) => Ok(Reading::NotLinear(first)),
+    match &raw.node {
+        RawNode::Not(_) => relation(alloc, Rel::Not(a)),
+        _ => Ok(without(a, Reading::NotLinear(raw.place))),
     }
 }
 
-/// The absolute value of a number form.
-pub fn of_abs(alloc: Global, place: Place, part: Reading) -> Result<Reading, NoMemory>
-    ensures { IfOk result (λ r. reading_of r ≡ on_term (λ t. a_term (term_abs t)) place (reading_of part)) }
+// A form over one set form.
+fn over_set(alloc: Global, raw: &Raw, s: Box<SetTerm>) -> Result<Reading, NoMemory>
+    ensures { IfOk result (λ r. reading_of r ≡ reading_over (raw_tree raw.now) raw.now.place (a_set (set_tree s.value))) }
 {
-    match part {
-        Reading::Relation(a) => Ok(without(a, Reading::NotLinear(place))),
-        Reading::Term(t) => term(alloc, Term::Abs(t)),
-        Reading::Set(s) => Ok(without(s, Reading::NotLinear(place))),
-        Reading::NotLinear(first) => Ok(Reading::NotLinear(first)),
+    match &raw.node {
+        RawNode::Card(_) => term(alloc, Term::Card(s)),
+        _ => Ok(without(s, Reading::NotLinear(raw.place))),
     }
 }
 
-/// A number form divided by `k`, rounded down.
-pub fn of_div(alloc: Global, place: Place, part: Reading, k: i128) -> Result<Reading, NoMemory>
-    ensures { IfOk result (λ r. reading_of r ≡ on_term (λ t. a_term (term_div t k)) place (reading_of part)) }
+/// The form over this one part.
+pub fn over_one(alloc: Global, raw: &Raw, part: Reading) -> Result<Reading, NoMemory>
+    ensures { IfOk result (λ r. reading_of r ≡ reading_over (raw_tree raw.now) raw.now.place (reading_of part)) }
 {
     match part {
-        Reading::Relation(a) => Ok(without(a, Reading::NotLinear(place))),
-        Reading::Term(t) => term(alloc, Term::Div(t, k)),
-        Reading::Set(s) => Ok(without(s, Reading::NotLinear(place))),
-        Reading::NotLinear(first) => Ok(Reading::NotLinear(first)),
-    }
-}
-
-/// What division by `k` leaves of a number form.
-pub fn of_mod(alloc: Global, place: Place, part: Reading, k: i128) -> Result<Reading, NoMemory>
-    ensures { IfOk result (λ r. reading_of r ≡ on_term (λ t. a_term (term_mod t k)) place (reading_of part)) }
-{
-    match part {
-        Reading::Relation(a) => Ok(without(a, Reading::NotLinear(place))),
-        Reading::Term(t) => term(alloc, Term::Mod(t, k)),
-        Reading::Set(s) => Ok(without(s, Reading::NotLinear(place))),
-        Reading::NotLinear(first) => Ok(Reading::NotLinear(first)),
-    }
-}
-
-/// Whether `k` divides a number form.
-pub fn of_divides(alloc: Global, place: Place, k: i128, part: Reading) -> Result<Reading, NoMemory>
-    ensures { IfOk result (λ r. reading_of r ≡ on_term (λ t. a_relation (rel_divides k t)) place (reading_of part)) }
-{
-    match part {
-        Reading::Relation(a) => Ok(without(a, Reading::NotLinear(place))),
-        Reading::Term(t) => relation(alloc, Rel::Divides { k, of: t }),
-        Reading::Set(s) => Ok(without(s, Reading::NotLinear(place))),
-        Reading::NotLinear(first) => Ok(Reading::NotLinear(first)),
-    }
-}
-
-/// The size of a set form.
-pub fn of_card(alloc: Global, place: Place, part: Reading) -> Result<Reading, NoMemory>
-    ensures { IfOk result (λ r. reading_of r ≡ on_set (λ s. a_term (term_card s)) place (reading_of part)) }
-{
-    match part {
-        Reading::Relation(a) => Ok(without(a, Reading::NotLinear(place))),
-        Reading::Term(t) => Ok(without(t, Reading::NotLinear(place))),
-        Reading::Set(s) => term(alloc, Term::Card(s)),
+        Reading::Relation(a) => over_relation(alloc, raw, a),
+        Reading::Term(t) => over_term(alloc, raw, t),
+        Reading::Set(s) => over_set(alloc, raw, s),
         Reading::NotLinear(first) => Ok(Reading::NotLinear(first)),
     }
 }

@@ -9,7 +9,7 @@ ghost use Rattle.cf_program.specs.declared.fault.TypeFault.TheVariants.{Weight, 
 ghost use Rattle.cf_program.specs.Size.{weights, depths};
 
 use cf_program::TypeFault;
-use cf_tree::{Def, Expr, MatchArm, NoMemory};
+use cf_tree::{Def, Expr, MatchArm, NoMemory, expr_leaf, expr_over_one, expr_over_two};
 use std::alloc::Global;
 
 // The greatest weight of a function.
@@ -209,25 +209,10 @@ fn weight(calls: &[u64], expr: &Expr) -> u64
     ensures { result ≡ capped (weight_of (λ f. slice_index calls.now f) (expr_tree expr.now)) }
 {
     match expr {
-        Expr::Lit(_) | Expr::Truth(_) | Expr::Var(_) => 1,
+        expr_leaf!() => 1,
         Expr::SetOf(parts) | Expr::Tuple(parts) => weight_all(calls, parts).saturating_add(1),
-        Expr::Neg(a)
-        | Expr::Not(a)
-        | Expr::Abs(a)
-        | Expr::Card(a)
-        | Expr::Divides { of: a, .. }
-        | Expr::Div { of: a, .. }
-        | Expr::Mod { of: a, .. } => weight(calls, a).saturating_add(1),
-        Expr::Binary {
-            left: a,
-            right: b,
-            ..
-        }
-        | Expr::Let {
-            value: a,
-            body: b,
-            ..
-        } => weight(calls, a)
+        expr_over_one!(a) => weight(calls, a).saturating_add(1),
+        expr_over_two!(a, b) => weight(calls, a)
             .saturating_add(weight(calls, b))
             .saturating_add(1),
         Expr::If { test, yes, no } => weight(calls, test)
@@ -282,25 +267,10 @@ fn depth(calls: &[u64], expr: &Expr) -> u64
     ensures { result ≡ capped (depth_of (λ f. slice_index calls.now f) (expr_tree expr.now)) }
 {
     match expr {
-        Expr::Lit(_) | Expr::Truth(_) | Expr::Var(_) => 1,
+        expr_leaf!() => 1,
         Expr::SetOf(parts) | Expr::Tuple(parts) => depth_all(calls, parts).saturating_add(1),
-        Expr::Neg(a)
-        | Expr::Not(a)
-        | Expr::Abs(a)
-        | Expr::Card(a)
-        | Expr::Divides { of: a, .. }
-        | Expr::Div { of: a, .. }
-        | Expr::Mod { of: a, .. } => depth(calls, a).saturating_add(1),
-        Expr::Binary {
-            left: a,
-            right: b,
-            ..
-        }
-        | Expr::Let {
-            value: a,
-            body: b,
-            ..
-        } => depth(calls, a).max(depth(calls, b)).saturating_add(1),
+        expr_over_one!(a) => depth(calls, a).saturating_add(1),
+        expr_over_two!(a, b) => depth(calls, a).max(depth(calls, b)).saturating_add(1),
         Expr::If { test, yes, no } => depth(calls, test)
             .max(depth(calls, yes))
             .max(depth(calls, no))

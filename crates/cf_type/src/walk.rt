@@ -1,68 +1,63 @@
 //! The walk through an expression in the order of its text: what it stands for, or the first rule
 //! that it breaks.
-ghost use Rattle.std.specs.Prelude.{◌≡◌, ◌+◌, ◌-◌, ◌++◌, ◌∷◌, ◌==◌, [], length, map, take, OnOk, IfOk};
+ghost use Rattle.std.specs.Prelude.{◌≡◌, ◌+◌, ◌-◌, ◌++◌, ◌∷◌, ◌==◌, [], length, map, OnOk};
 ghost use Rattle.cf_tree.specs.RawView.{raw_tree, raw_trees, raw_arm_tree, raw_arm_trees};
 ghost use Rattle.cf_type.specs.FormView.{form_of, forms_of, arms_of, context_of};
 ghost use Rattle.cf_program.specs.CheckAnswers.{CheckAnswer};
 ghost use Rattle.cf_program.specs.Names.{repeated as repeated_of};
 ghost use Rattle.cf_program.specs.declared.fault.TypeFault.TheVariants.{WrongCount};
-ghost use Rattle.cf_program.specs.Walk.{◌>>=◌ as chained, where_kept, where_no_fault, where_none_repeated, bound, matched, variables_of, after_arm, no_forms as no_forms_of, no_arms as no_arms_of, output_fault as output_fault_of, binary_form, if_form, let_form, choose_form, choose_part, match_form, in_relation, walk as walk_of, walk_all as walk_all_of, walk_arms as walk_arms_of, walk_arm as walk_arm_of, with_walked as with_walked_of};
+ghost use Rattle.cf_program.specs.Walk.{◌>>=◌ as chained, where_kept, where_no_fault, where_none_repeated, bound, matched, variables_of, after_arm, no_forms as no_forms_of, no_arms as no_arms_of, output_fault as output_fault_of, binary_form, if_form, let_form, choose_form, choose_part, match_form, in_relation, walk as walk_of, walk_all as walk_all_of, walk_arms as walk_arms_of, walk_arm as walk_arm_of};
 
-use crate::build;
-use crate::callees::Caller;
+use crate::build::{self, Site};
+use crate::callees::Context;
 use crate::form::{Arms, Form, Forms};
 use crate::names::{output_fault, repeated, repeated_part};
 use crate::scope::Scope;
 use cf_program::TypeFault;
-use cf_tree::{BinOp, NoMemory, Param, Part, Place, Raw, RawArm, RawNode, Text, add_u32, without};
-use std::alloc::Global;
+use cf_tree::{
+    BinOp, Param, Part, Place, Raw, RawArm, RawNode, Text, add_u32, raw_over_list, raw_over_one,
+    without,
+};
 
-// The names that a `let` binds, each with its place.
+// A `let`: its place, and the names that it binds, each with its place.
 #[derive(Drop)]
 struct LetNames<'a> {
+    place: Place,
     texts: &'a [Text],
     places: &'a [Place],
 }
 
-/// What an expression in the body of this caller stands for, where the variables of `scope` are in
+/// What an expression in this context stands for, where the variables of `scope` are in
 /// scope, and `next` is the next number of a `choose`.
 #[cycle(walk)]
 #[tactic(auto, using(crate::proofs::WalkSteps::fails_then))]
-pub fn walk(caller: &Caller, scope: &mut Scope, next: u32, raw: &Raw) -> Result<Form, TypeFault>
+pub fn walk(context: &Context, scope: &mut Scope, next: u32, raw: &Raw) -> Result<Form, TypeFault>
     ensures { CheckAnswer form_of result
-        (walk_of (context_of caller.now) scope.old next (raw_tree raw.now))
+        (walk_of (context_of context.now) scope.old next (raw_tree raw.now))
         × OnOk result (scope.new ≡ scope.old) }
 {
     let place = raw.place;
     // for the proof: a `match` is one call where a `?` is three
     match &raw.node {
-        RawNode::Lit(k) => build::literal(caller.alloc, *k, next),
-        RawNode::Truth(t) => build::truth(caller.alloc, *t, next),
-        RawNode::Name(name) => build::variable(caller.alloc, place, next, scope.find(name)),
-        RawNode::SetOf(parts) | RawNode::Tuple(parts) | RawNode::Call { args: parts, .. } => {
-            match walk_all(caller, scope, next, parts) {
-                Ok(parts) => build::over_row(caller, raw, parts),
-                Err(fault) => Err(fault),
-            }
-        }
-        RawNode::Group(a) => walk(caller, scope, next, a),
-        RawNode::Neg(a)
-        | RawNode::Not(a)
-        | RawNode::Abs(a)
-        | RawNode::Card(a)
-        | RawNode::Divides { of: a, .. }
-        | RawNode::Div { of: a, .. }
-        | RawNode::Mod { of: a, .. } => match walk(caller, scope, next, a) {
-            Ok(a) => build::over_one(caller.alloc, raw, a),
+        RawNode::Lit(k) => build::literal(context.alloc, *k, next),
+        RawNode::Truth(t) => build::truth(context.alloc, *t, next),
+        RawNode::Name(name) => build::variable(context.alloc, place, next, scope.find(name)),
+        raw_over_list!(parts) => match walk_all(context, scope, next, parts) {
+            Ok(parts) => build::over_row(context, raw, parts),
             Err(fault) => Err(fault),
         },
-        RawNode::Binary { op, left, right } => match walk(caller, scope, next, left) {
-            Ok(left) => walk_right(caller, scope, place, *op, left, right),
+        RawNode::Group(a) => walk(context, scope, next, a),
+        raw_over_one!(a) => match walk(context, scope, next, a) {
+            Ok(a) => build::over_one(context.alloc, raw, a),
             Err(fault) => Err(fault),
         },
-        RawNode::If { test, yes, no } => match walk(caller, scope, next, test) {
-            Ok(test) => match walk(caller, scope, test.next, yes) {
-                Ok(yes) => walk_no(caller, scope, place, test, yes, no),
+        RawNode::Binary { op, left, right } => match walk(context, scope, next, left) {
+            Ok(left) => walk_right(context, scope, place, *op, left, right),
+            Err(fault) => Err(fault),
+        },
+        RawNode::If { test, yes, no } => match walk(context, scope, next, test) {
+            Ok(test) => match walk(context, scope, test.next, yes) {
+                Ok(yes) => walk_no(context, scope, place, test, yes, no),
                 Err(fault) => Err(without(test, fault)),
             },
             Err(fault) => Err(fault),
@@ -72,21 +67,32 @@ pub fn walk(caller: &Caller, scope: &mut Scope, next: u32, raw: &Raw) -> Result<
             places,
             value,
             body,
-        } => match walk(caller, scope, next, value) {
+        } => match walk(context, scope, next, value) {
             Ok(value) => {
                 let names = LetNames {
+                    place,
                     texts: names.as_slice(),
                     places: places.as_slice(),
                 };
-                walk_let(caller, scope, place, names, value, body)
+                walk_let(context, scope, names, value, body)
             }
             Err(fault) => Err(fault),
         },
         RawNode::Choose { outputs, rel } => {
-            walk_choose(caller, scope, place, next, outputs, rel)
+            let site = Site {
+                place,
+                number: next,
+            };
+            walk_choose(context, scope, site, outputs, rel)
         }
-        RawNode::Match { of, arms } => match walk_matched(caller, scope, next, of) {
-            Ok(of) => walk_match(caller, scope, place, next, of, arms),
+        RawNode::Match { of, arms } => match walk_matched(context, scope, next, of) {
+            Ok(of) => {
+                let site = Site {
+                    place,
+                    number: next,
+                };
+                walk_match(context, scope, site, of, arms)
+            }
             Err(fault) => Err(fault),
         },
     }
@@ -96,7 +102,7 @@ pub fn walk(caller: &Caller, scope: &mut Scope, next: u32, raw: &Raw) -> Result<
 #[cycle(walk)]
 #[tactic(auto, using(crate::proofs::WalkSteps::fails_then))]
 fn walk_right(
-    caller: &Caller,
+    context: &Context,
     scope: &mut Scope,
     place: Place,
     op: BinOp,
@@ -104,12 +110,12 @@ fn walk_right(
     right: &Raw,
 ) -> Result<Form, TypeFault>
     ensures { CheckAnswer form_of result
-        (chained (walk_of (context_of caller.now) scope.old left.next (raw_tree right.now))
-        (binary_form (context_of caller.now).known place op (form_of left)))
+        (chained (walk_of (context_of context.now) scope.old left.next (raw_tree right.now))
+        (binary_form (context_of context.now).known place op (form_of left)))
         × OnOk result (scope.new ≡ scope.old) }
 {
-    match walk(caller, scope, left.next, right) {
-        Ok(right) => build::binary(caller, place, op, left, right),
+    match walk(context, scope, left.next, right) {
+        Ok(right) => build::binary(context, place, op, left, right),
         Err(fault) => Err(without(left, fault)),
     }
 }
@@ -118,7 +124,7 @@ fn walk_right(
 #[cycle(walk)]
 #[tactic(auto, using(crate::proofs::WalkSteps::fails_then))]
 fn walk_no(
-    caller: &Caller,
+    context: &Context,
     scope: &mut Scope,
     place: Place,
     test: Form,
@@ -126,12 +132,12 @@ fn walk_no(
     no: &Raw,
 ) -> Result<Form, TypeFault>
     ensures { CheckAnswer form_of result
-        (chained (walk_of (context_of caller.now) scope.old yes.next (raw_tree no.now))
+        (chained (walk_of (context_of context.now) scope.old yes.next (raw_tree no.now))
         (if_form place (form_of test) (form_of yes)))
         × OnOk result (scope.new ≡ scope.old) }
 {
-    match walk(caller, scope, yes.next, no) {
-        Ok(no) => build::choice(caller.alloc, place, test, yes, no),
+    match walk(context, scope, yes.next, no) {
+        Ok(no) => build::choice(context.alloc, place, test, yes, no),
         Err(fault) => Err(without(test, without(yes, fault))),
     }
 }
@@ -139,15 +145,20 @@ fn walk_no(
 // Expressions in a row.
 #[cycle(walk)]
 #[tactic(auto, using(crate::proofs::WalkSteps::more_fails))]
-fn walk_all(caller: &Caller, scope: &mut Scope, next: u32, raws: &[Raw]) -> Result<Forms, TypeFault>
+fn walk_all(
+    context: &Context,
+    scope: &mut Scope,
+    next: u32,
+    raws: &[Raw],
+) -> Result<Forms, TypeFault>
     ensures { CheckAnswer forms_of result
-        (walk_all_of (context_of caller.now) scope.old (no_forms_of next) (raw_trees raws.now))
+        (walk_all_of (context_of context.now) scope.old (no_forms_of next) (raw_trees raws.now))
         × OnOk result (scope.new ≡ scope.old) }
 {
-    let mut done = build::no_forms(caller.alloc, next);
+    let mut done = build::no_forms(context.alloc, next);
     for raw in raws {
-        match walk(caller, scope, done.next, raw) {
-            Ok(form) => done = build::with_form(done, form)?,
+        match walk(context, scope, done.next, raw) {
+            Ok(form) => build::add_form(&mut done, form)?,
             Err(fault) => return Err(without(done, fault)),
         }
     }
@@ -156,132 +167,73 @@ fn walk_all(caller: &Caller, scope: &mut Scope, next: u32, raws: &[Raw]) -> Resu
 
 // A `let` whose value was walked.
 #[cycle(walk)]
+#[tactic(auto, using(crate::proofs::WalkSteps::fails_then, crate::proofs::WalkSteps::left_again))]
 fn walk_let(
-    caller: &Caller,
+    context: &Context,
     scope: &mut Scope,
-    place: Place,
     names: LetNames,
     value: Form,
     body: &Raw,
 ) -> Result<Form, TypeFault>
     ensures { CheckAnswer form_of result
         (where_none_repeated (repeated_of [] names.entry.texts.now names.entry.places.now)
-        (where_kept (length names.entry.texts.now == length value.bases.items) (WrongCount place)
-        (chained (walk_of (context_of caller.now)
+        (where_kept (length names.entry.texts.now == length value.bases.items) (WrongCount names.entry.place)
+        (chained (walk_of (context_of context.now)
         (scope.old ++ bound names.entry.texts.now names.entry.places.now value.bases.items) value.next (raw_tree body.now))
-        (let_form place (length names.entry.texts.now) (form_of value)))))
+        (let_form names.entry.place (length names.entry.texts.now) (form_of value)))))
         × OnOk result (scope.new ≡ scope.old) }
 {
-    match repeated(caller.alloc, names.texts, names.places) {
+    match repeated(context.alloc, names.texts, names.places) {
         Ok(None) => (),
         Ok(Some(later)) => return Err(without(value, TypeFault::DuplicateName(later))),
         Err(_) => return Err(without(value, TypeFault::NoMemory)),
     }
     if names.texts.len() != value.bases.len() {
-        return Err(without(value, TypeFault::WrongCount(place)));
+        return Err(without(value, TypeFault::WrongCount(names.place)));
     }
-    walk_bound(caller, scope, place, names, value, body)
-}
-
-// A `let` of as many different names as its value has parts.
-#[cycle(walk)]
-#[tactic(auto, using(crate::proofs::WalkSteps::fails_then, crate::proofs::WalkSteps::left_again))]
-fn walk_bound(
-    caller: &Caller,
-    scope: &mut Scope,
-    place: Place,
-    names: LetNames,
-    value: Form,
-    body: &Raw,
-) -> Result<Form, TypeFault>
-    ensures { CheckAnswer form_of result
-        (chained (walk_of (context_of caller.now)
-        (scope.old ++ bound names.entry.texts.now names.entry.places.now value.bases.items) value.next (raw_tree body.now))
-        (let_form place (length names.entry.texts.now) (form_of value)))
-        × OnOk result (scope.new ≡ scope.old) }
-{
     let size = scope.len();
-    match scope.bind(caller.alloc, names.texts, names.places, &value.bases) {
+    match scope.bind(context.alloc, names.texts, names.places, &value.bases) {
         Ok(()) => (),
         Err(_) => return Err(without(value, TypeFault::NoMemory)),
     }
-    match walk(caller, scope, value.next, body) {
+    match walk(context, scope, value.next, body) {
         Ok(body) => {
             scope.leave(size);
-            build::binding(caller.alloc, place, names.texts.len(), value, body)
+            build::binding(context.alloc, names.place, names.texts.len(), value, body)
         }
         Err(fault) => Err(without(value, fault)),
     }
 }
 
-// A `choose` of this number.
+// A `choose`.
 #[cycle(walk)]
+#[tactic(auto, using(crate::proofs::WalkSteps::fails_then, crate::proofs::WalkSteps::read_alike))]
 fn walk_choose(
-    caller: &Caller,
+    context: &Context,
     scope: &mut Scope,
-    place: Place,
-    number: u32,
+    site: Site,
     outputs: &[Param],
     rel: &Raw,
 ) -> Result<Form, TypeFault>
     ensures { CheckAnswer form_of result
         (where_no_fault (output_fault_of [] outputs.now)
-        (chained (chained (walk_of (in_relation (context_of caller.now) (length scope.old)) (scope.old ++ outputs.now) (number + 1) (raw_tree rel.now))
-        (choose_form place number scope.old outputs.now))
-        (λ f. chained (walk_of (context_of caller.now) (scope.old ++ outputs.now) (number + 1) (raw_tree rel.now)) (choose_part place f))))
+        (chained (chained (walk_of (in_relation (context_of context.now) (length scope.old)) (scope.old ++ outputs.now) (site.number + 1) (raw_tree rel.now))
+        (choose_form site.place site.number scope.old outputs.now))
+        (λ f. chained (walk_of (context_of context.now) (scope.old ++ outputs.now) (site.number + 1) (raw_tree rel.now)) (choose_part site.place f))))
         × OnOk result (scope.new ≡ scope.old) }
 {
-    if let Some(fault) = output_fault(caller.alloc, outputs)? {
+    if let Some(fault) = output_fault(context.alloc, outputs)? {
         return Err(fault);
     }
-    walk_chosen(caller, scope, place, number, outputs, rel)
-}
-
-// A `choose` of this number, whose outputs may stand so.
-#[cycle(walk)]
-#[tactic(auto, using(crate::proofs::WalkSteps::fails_then, crate::proofs::WalkSteps::read_alike))]
-fn walk_chosen(
-    caller: &Caller,
-    scope: &mut Scope,
-    place: Place,
-    number: u32,
-    outputs: &[Param],
-    rel: &Raw,
-) -> Result<Form, TypeFault>
-    ensures { CheckAnswer form_of result
-        (chained (chained (walk_of (in_relation (context_of caller.now) (length scope.old)) (scope.old ++ outputs.now) (number + 1) (raw_tree rel.now))
-        (choose_form place number scope.old outputs.now))
-        (λ f. chained (walk_of (context_of caller.now) (scope.old ++ outputs.now) (number + 1) (raw_tree rel.now)) (choose_part place f)))
-        × OnOk result (scope.new ≡ scope.old) }
-{
-    let next = add_u32(number, 1)?;
-    let inner = caller.in_relation(scope.len());
+    let next = add_u32(site.number, 1)?;
+    let inner = context.in_relation(scope.len());
     let read = walk_inside(&inner, scope, next, outputs, rel)?;
-    let chosen = choose_in(caller.alloc, scope, place, number, outputs, read)?;
-    if inner.knows_as_many(caller) {
+    let chosen = build::choose(context.alloc, site, scope, outputs, read)?;
+    if inner.knows_as_many(context) {
         return Ok(chosen);
     }
-    walk_part(caller, scope, place, next, outputs, rel, chosen)
-}
-
-// A `choose` as a part of the relation around it.
-#[cycle(walk)]
-#[tactic(auto, using(crate::proofs::WalkSteps::fails_then))]
-fn walk_part(
-    caller: &Caller,
-    scope: &mut Scope,
-    place: Place,
-    next: u32,
-    outputs: &[Param],
-    rel: &Raw,
-    chosen: Form,
-) -> Result<Form, TypeFault>
-    ensures { CheckAnswer form_of result
-        (chained (walk_of (context_of caller.now) (scope.old ++ outputs.now) next (raw_tree rel.now)) (choose_part place (form_of chosen)))
-        × OnOk result (scope.new ≡ scope.old) }
-{
-    match walk_inside(caller, scope, next, outputs, rel) {
-        Ok(inner) => Ok(build::part(place, chosen, inner)),
+    match walk_inside(context, scope, next, outputs, rel) {
+        Ok(inner) => Ok(build::part(site.place, chosen, inner)),
         Err(fault) => Err(without(chosen, fault)),
     }
 }
@@ -290,80 +242,66 @@ fn walk_part(
 #[cycle(walk)]
 #[tactic(auto, using(crate::proofs::WalkSteps::fails_then, crate::proofs::WalkSteps::left_again))]
 fn walk_inside(
-    caller: &Caller,
+    context: &Context,
     scope: &mut Scope,
     next: u32,
     params: &[Param],
     raw: &Raw,
 ) -> Result<Form, TypeFault>
     ensures { CheckAnswer form_of result
-        (walk_of (context_of caller.now) (scope.old ++ params.now) next (raw_tree raw.now))
+        (walk_of (context_of context.now) (scope.old ++ params.now) next (raw_tree raw.now))
         × OnOk result (scope.new ≡ scope.old) }
 {
     let size = scope.len();
-    scope.enter(caller.alloc, params)?;
-    let form = walk(caller, scope, next, raw)?;
+    scope.enter(context.alloc, params)?;
+    let form = walk(context, scope, next, raw)?;
     scope.leave(size);
     Ok(form)
-}
-
-// The `choose` whose relation was walked.
-fn choose_in(
-    alloc: Global,
-    scope: &Scope,
-    place: Place,
-    number: u32,
-    outputs: &[Param],
-    rel: Form,
-) -> Result<Form, TypeFault>
-    ensures { CheckAnswer form_of result (choose_form place number scope.now outputs.now (form_of rel)) }
-{
-    match scope.copied(alloc) {
-        Ok(params) => build::choose(alloc, place, number, params, outputs, rel),
-        Err(_) => Err(without(rel, TypeFault::NoMemory)),
-    }
 }
 
 // The value of a `match` of this number.
 #[cycle(walk)]
 #[tactic(auto, using(crate::proofs::WalkSteps::fails_then))]
 fn walk_matched(
-    caller: &Caller,
+    context: &Context,
     scope: &mut Scope,
     number: u32,
     value: &Raw,
 ) -> Result<Form, TypeFault>
     ensures { CheckAnswer form_of result
-        (walk_of (context_of caller.now) scope.old (number + 1) (raw_tree value.now))
+        (walk_of (context_of context.now) scope.old (number + 1) (raw_tree value.now))
         × OnOk result (scope.new ≡ scope.old) }
 {
     let next = add_u32(number, 1)?;
-    walk(caller, scope, next, value)
+    walk(context, scope, next, value)
 }
 
-// A `match` of this number, whose value was walked.
+// A `match` whose value was walked.
 #[cycle(walk)]
 #[tactic(auto, using(crate::proofs::WalkSteps::fails_then, crate::proofs::WalkSteps::left_last))]
 fn walk_match(
-    caller: &Caller,
+    context: &Context,
     scope: &mut Scope,
-    place: Place,
-    number: u32,
+    site: Site,
     value: Form,
     // for the proof: behind a call that may end early, the measure of a slice would stay open
     arms: &Vec<RawArm>,
 ) -> Result<Form, TypeFault>
     ensures { CheckAnswer form_of result
-        (chained (walk_arms_of (context_of caller.now) (scope.old ++ matched place ∷ [])
-        (no_arms_of value.next) (raw_arm_trees arms.now.items)) (match_form place number (scope.old ++ matched place ∷ []) (form_of value)))
+        (chained (walk_arms_of (context_of context.now) (scope.old ++ matched site.place ∷ [])
+        (no_arms_of value.next) (raw_arm_trees arms.now.items)) (match_form site.place site.number (scope.old ++ matched site.place ∷ []) (form_of value)))
         × OnOk result (scope.new ≡ scope.old) }
 {
-    match scope.enter_matched(caller.alloc, place) {
+    match scope.enter_matched(context.alloc, site.place) {
         Ok(()) => (),
         Err(_) => return Err(without(value, TypeFault::NoMemory)),
     }
-    match walk_arms(caller, scope, value.next, arms) {
-        Ok(arms) => match_in(caller.alloc, scope, place, number, value, arms),
+    match walk_arms(context, scope, value.next, arms) {
+        Ok(arms) => {
+            let form = build::matching(context.alloc, site, scope, value, arms)?;
+            scope.leave_last();
+            Ok(form)
+        }
         Err(fault) => Err(without(value, fault)),
     }
 }
@@ -371,19 +309,19 @@ fn walk_match(
 // The arms of a `match`.
 #[cycle(walk)]
 fn walk_arms(
-    caller: &Caller,
+    context: &Context,
     scope: &mut Scope,
     next: u32,
     arms: &[RawArm],
 ) -> Result<Arms, TypeFault>
     ensures { CheckAnswer arms_of result
-        (walk_arms_of (context_of caller.now) scope.old (no_arms_of next) (raw_arm_trees arms.now))
+        (walk_arms_of (context_of context.now) scope.old (no_arms_of next) (raw_arm_trees arms.now))
         × OnOk result (scope.new ≡ scope.old) }
 {
-    let mut done = build::no_arms(caller.alloc, next);
+    let mut done = build::no_arms(context.alloc, next);
     for arm in arms {
-        match walk_arm(caller, scope, done.next, arm) {
-            Ok(body) => done = with_walked(caller.alloc, done, arm, body)?,
+        match walk_arm(context, scope, done.next, arm) {
+            Ok(body) => build::add_arm(context.alloc, &mut done, arm, body)?,
             Err(fault) => return Err(without(done, fault)),
         }
     }
@@ -392,18 +330,24 @@ fn walk_arms(
 
 // The body of an arm.
 #[cycle(walk)]
-fn walk_arm(caller: &Caller, scope: &mut Scope, next: u32, arm: &RawArm) -> Result<Form, TypeFault>
+fn walk_arm(
+    context: &Context,
+    scope: &mut Scope,
+    next: u32,
+    arm: &RawArm,
+) -> Result<Form, TypeFault>
     ensures { CheckAnswer form_of result
-        (walk_arm_of (context_of caller.now) scope.old next (raw_arm_tree arm.now))
+        (walk_arm_of (context_of context.now) scope.old next (raw_arm_tree arm.now))
         × OnOk result (scope.new ≡ scope.old) }
 {
-    walk_body(caller, scope, next, &arm.parts, &arm.body)
+    walk_body(context, scope, next, &arm.parts, &arm.body)
 }
 
 // The body of an arm whose pattern has these variables.
 #[cycle(walk)]
+#[tactic(auto, using(crate::proofs::WalkSteps::fails_then, crate::proofs::WalkSteps::left_again))]
 fn walk_body(
-    caller: &Caller,
+    context: &Context,
     scope: &mut Scope,
     next: u32,
     parts: &[Part],
@@ -411,61 +355,17 @@ fn walk_body(
 ) -> Result<Form, TypeFault>
     ensures { CheckAnswer form_of result
         (where_none_repeated (repeated_of [] (map (λ x. x.name) parts.now) (map (λ x. x.place) parts.now))
-        (walk_of (context_of caller.now) (scope.old ++ variables_of parts.now) (after_arm next parts.now)
+        (walk_of (context_of context.now) (scope.old ++ variables_of parts.now) (after_arm next parts.now)
         (raw_tree body.now)))
         × OnOk result (scope.new ≡ scope.old) }
 {
-    if let Some(later) = repeated_part(caller.alloc, parts)? {
+    if let Some(later) = repeated_part(context.alloc, parts)? {
         return Err(TypeFault::DuplicateName(later));
     }
     let next = build::after_arm_number(next, parts)?;
-    walk_behind(caller, scope, next, parts, body)
-}
-
-// A body in which the variables of a pattern are in scope too.
-#[cycle(walk)]
-#[tactic(auto, using(crate::proofs::WalkSteps::fails_then, crate::proofs::WalkSteps::left_again))]
-fn walk_behind(
-    caller: &Caller,
-    scope: &mut Scope,
-    next: u32,
-    parts: &[Part],
-    body: &Raw,
-) -> Result<Form, TypeFault>
-    ensures { CheckAnswer form_of result
-        (walk_of (context_of caller.now) (scope.old ++ variables_of parts.now) next (raw_tree body.now))
-        × OnOk result (scope.new ≡ scope.old) }
-{
     let size = scope.len();
-    scope.enter_parts(caller.alloc, parts)?;
-    let body = walk(caller, scope, next, body)?;
+    scope.enter_parts(context.alloc, parts)?;
+    let body = walk(context, scope, next, body)?;
     scope.leave(size);
     Ok(body)
-}
-
-// The arms before, and this one with its body.
-fn with_walked(alloc: Global, before: Arms, arm: &RawArm, body: Form) -> Result<Arms, NoMemory>
-    ensures { IfOk result (λ arms. arms_of arms ≡ with_walked_of (arms_of before) (raw_arm_tree arm.now) (form_of body)) }
-{
-    build::with_arm(alloc, before, &arm.parts, arm.constant, body)
-}
-
-// The `match` whose value and arms were walked; the value leaves the scope.
-fn match_in(
-    alloc: Global,
-    scope: &mut Scope,
-    place: Place,
-    number: u32,
-    value: Form,
-    arms: Arms,
-) -> Result<Form, TypeFault>
-    ensures gives { CheckAnswer form_of result (match_form place number scope.old (form_of value) (arms_of arms)) }
-    ensures left { scope.new ≡ take (length scope.old - 1) scope.old }
-{
-    let params = scope.copied(alloc);
-    scope.leave_last();
-    match params {
-        Ok(params) => build::matching(alloc, place, number, params, value, arms),
-        Err(_) => Err(without(arms, without(value, TypeFault::NoMemory))),
-    }
 }

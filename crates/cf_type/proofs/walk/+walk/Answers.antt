@@ -28,13 +28,13 @@ walk_arms-loop-arm-preserved t c =
     drop_more xs l.arm-index x (omega arith) ∙ ap (λ y. y ∷ drop (l.arm-index + 1) xs) (sym c.arm-item.is) in
     let kept : c.walk_arm.new.scope ≡ l.scope = c.in-Ok.ensures.1 in (
       kept ∙ l.invariant.0,
-      arms_next _ _ _ _ _ xs l.arm-index x _ _ l.invariant.0 here c.in-Ok.ensures.0 c.in_ok-done-in-Ok.ensures l.invariant.1,
+      arms_next _ _ _ _ _ xs l.arm-index x _ _ l.invariant.0 here c.in-Ok.ensures.0 c.in_ok-add_arm-in-Ok.ensures l.invariant.1,
     )
 
 pub walk_arm-returns : goal.walk_arm-returns
 walk_arm-returns t c = (
   subst (λ r. CheckAnswer form_of c.walk_body.result r)
-      (sym (arm_body (context_of c.args.caller.now) c.args.scope.now c.args.next c.args.arm.now c.deref.result.now c.deref.ensures.value))
+      (sym (arm_body (context_of c.args.context.now) c.args.scope.now c.args.next c.args.arm.now c.deref.result.now c.deref.ensures.value))
       c.walk_body.ensures.0,
   c.walk_body.ensures.1,
 )
@@ -45,7 +45,7 @@ walk-returns-in-Choose t c =
     let outputs = c.deref-in-Choose.result.now in
     let rel = raw_tree c.deref-in-Choose-2.result.now in
     let is : raw_tree raw ≡ raw_choose raw.place outputs rel = search (rules, raw_lemmas, node_lemmas) in (
-      choose_answer (context_of c.args.caller.now) c.args.scope.now c.args.next raw.place outputs rel (raw_tree raw) c.walk_choose.result is
+      choose_answer (context_of c.args.context.now) c.args.scope.now c.args.next raw.place outputs rel (raw_tree raw) c.walk_choose.result is
           c.walk_choose.ensures.0,
       c.walk_choose.ensures.1,
     )

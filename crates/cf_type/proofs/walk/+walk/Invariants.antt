@@ -7,11 +7,11 @@ use Rattle.cf_type.proofs.walk.+walk.Given as goal
 abbrev pub invariant-walk_all-loop-raw : goal.invariant-walk_all-loop-raw
 invariant-walk_all-loop-raw l =
     (l.scope ≡ l.fn.scope)
-    × (walk_all (context_of l.caller) l.fn.scope (forms_of l.done) (raw_trees (drop l.raw-index l.raws))
-    ≡ walk_all (context_of l.caller) l.fn.scope (no_forms l.fn.next) (raw_trees l.raws))
+    × (walk_all (context_of l.context) l.fn.scope (forms_of l.done) (raw_trees (drop l.raw-index l.raws))
+    ≡ walk_all (context_of l.context) l.fn.scope (no_forms l.fn.next) (raw_trees l.raws))
 
 abbrev pub invariant-walk_arms-loop-arm : goal.invariant-walk_arms-loop-arm
 invariant-walk_arms-loop-arm l =
     (l.scope ≡ l.fn.scope)
-    × (walk_arms (context_of l.caller) l.fn.scope (arms_of l.done) (raw_arm_trees (drop l.arm-index l.arms))
-    ≡ walk_arms (context_of l.caller) l.fn.scope (no_arms l.fn.next) (raw_arm_trees l.arms))
+    × (walk_arms (context_of l.context) l.fn.scope (arms_of l.done) (raw_arm_trees (drop l.arm-index l.arms))
+    ≡ walk_arms (context_of l.context) l.fn.scope (no_arms l.fn.next) (raw_arm_trees l.arms))

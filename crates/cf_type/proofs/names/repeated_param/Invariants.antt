@@ -1,9 +1,9 @@
-use Rattle.std.proofs.Common.{◌≡◌, map, drop}
+use Rattle.std.proofs.Common.{◌≡◌, [], map, drop}
 use Rattle.cf_program.specs.Names.{repeated}
 use Rattle.cf_tree.specs.Params.{names_of}
-use Rattle.cf_type.proofs.names.repeated_param_behind.Given as goal
+use Rattle.cf_type.proofs.names.repeated_param.Given as goal
 
 abbrev pub invariant-loop-param : goal.invariant-loop-param
 invariant-loop-param l =
     repeated l.before (names_of (drop l.param-index l.params)) (map (λ p. p.place) (drop l.param-index l.params))
-    ≡ repeated l.fn.before (names_of l.params) (map (λ p. p.place) l.params)
+    ≡ repeated [] (names_of l.params) (map (λ p. p.place) l.params)

@@ -1,7 +1,7 @@
 use Rattle.std.proofs.Common.{◌≡◌, [], map, take, drop}
 use Rattle.cf_tree.specs.DefView.{raw_def_tree, def_tree}
 use Rattle.cf_program.specs.Checked.{walk_defs}
-use Rattle.cf_type.proofs.checking.walk_each.Given as goal
+use Rattle.cf_type.proofs.checking.walk_defs.Given as goal
 
 abbrev pub invariant-loop-i : goal.invariant-loop-i
 invariant-loop-i l =

@@ -1,6 +1,0 @@
-use Rattle.std.proofs.Common.{◌≡◌, drop}
-use Rattle.cf_program.specs.Walk.{output_fault}
-use Rattle.cf_type.proofs.names.output_fault_behind.Given as goal
-
-abbrev pub invariant-loop-output : goal.invariant-loop-output
-invariant-loop-output l = output_fault l.before (drop l.output-index l.outputs) ≡ output_fault l.fn.before l.outputs

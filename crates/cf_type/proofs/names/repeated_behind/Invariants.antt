@@ -1,6 +1,0 @@
-use Rattle.std.proofs.Common.{◌≡◌, drop}
-use Rattle.cf_program.specs.Names.{repeated}
-use Rattle.cf_type.proofs.names.repeated_behind.Given as goal
-
-abbrev pub invariant-loop-name : goal.invariant-loop-name
-invariant-loop-name l = repeated l.before (drop l.name-index l.names) l.rest ≡ repeated l.fn.before l.names l.fn.places
