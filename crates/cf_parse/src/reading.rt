@@ -18,7 +18,7 @@ use cf_reader::{
     ReadStop, after_sign, after_word, expect_literal, expect_name, expect_sign, expect_word,
     literal_at_least, truth,
 };
-use cf_tree::{Place, without};
+use cf_tree::{Place, RawNode, without};
 use std::alloc::Global;
 
 /// A tree of depth at most `n`, at a tier.
@@ -112,7 +112,14 @@ fn let_in(
     let (value, rest) = boxed(alloc, Tier::Whole, n, rest)?;
     let (_, rest) = expect_word("in", rest)?;
     let (body, rest) = boxed(alloc, Tier::Whole, n, rest)?;
-    Ok((node::let_in(place, names, value, body), rest))
+    let inner = value.depth.max(body.depth);
+    let node = RawNode::Let {
+        names: names.names,
+        places: names.places,
+        value: value.raw,
+        body: body.raw,
+    };
+    Ok((node::tree(place, node, inner), rest))
 }
 
 // Behind the word `if`.
@@ -133,7 +140,13 @@ fn if_else(
     let (yes, rest) = boxed(alloc, Tier::Whole, n, rest)?;
     let (_, rest) = expect_word("else", rest)?;
     let (no, rest) = boxed(alloc, Tier::Whole, n, rest)?;
-    Ok((node::if_else(place, test, yes, no), rest))
+    let inner = test.depth.max(yes.depth.max(no.depth));
+    let node = RawNode::If {
+        test: test.raw,
+        yes: yes.raw,
+        no: no.raw,
+    };
+    Ok((node::tree(place, node, inner), rest))
 }
 
 // Behind the word `choose`.
@@ -153,7 +166,12 @@ fn choose(
     let (outputs, rest) = params(alloc, rest)?;
     let (_, rest) = expect_word("where", rest)?;
     let (rel, rest) = boxed(alloc, Tier::Ors, n, rest)?;
-    Ok((node::choose(place, outputs, rel), rest))
+    let inner = rel.depth;
+    let rel = rel.raw;
+    Ok((
+        node::tree(place, RawNode::Choose { outputs, rel }, inner),
+        rest,
+    ))
 }
 
 // Behind the word `match`.
@@ -176,7 +194,12 @@ fn match_with(
     let (first, rest) = arm(alloc, n, rest)?;
     let first = node::pushed_arm(node::no_arms(alloc), first)?;
     let (arms, rest) = more_arms(alloc, n, first, rest)?;
-    Ok((node::match_with(place, of, arms), rest))
+    let inner = of.depth.max(arms.depth);
+    let node = RawNode::Match {
+        of: of.raw,
+        arms: arms.arms,
+    };
+    Ok((node::tree(place, node, inner), rest))
 }
 
 // An arm of a `match`.
@@ -288,7 +311,11 @@ fn compared(
     if let Some(((place, k), rest)) = divides_by(n, &left.raw, tokens) {
         drop(left);
         let (of, rest) = boxed(alloc, Tier::Sums, n, rest)?;
-        return Ok((node::divides(place, k, of), rest));
+        let inner = of.depth;
+        return Ok((
+            node::tree(place, RawNode::Divides { k, of: of.raw }, inner),
+            rest,
+        ));
     }
     Ok((left, tokens))
 }
@@ -364,14 +391,16 @@ fn unary(alloc: Global, n: u32, tokens: &[Token]) -> Result<(Measured, &[Token])
             return Err(ReadStop::TokensLeft(tokens.len()));
         }
         let (e, rest) = boxed(alloc, Tier::Unary, n, rest)?;
-        return Ok((node::neg(place, e), rest));
+        let inner = e.depth;
+        return Ok((node::tree(place, RawNode::Neg(e.raw), inner), rest));
     }
     if let Some((place, rest)) = after_sign("!", tokens) {
         if n == 0 {
             return Err(ReadStop::TokensLeft(tokens.len()));
         }
         let (e, rest) = boxed(alloc, Tier::Unary, n, rest)?;
-        return Ok((node::not(place, e), rest));
+        let inner = e.depth;
+        return Ok((node::tree(place, RawNode::Not(e.raw), inner), rest));
     }
     atom(alloc, n, tokens)
 }
@@ -385,7 +414,7 @@ fn atom(alloc: Global, n: u32, tokens: &[Token]) -> Result<(Measured, &[Token]),
     ensures deep { IfOk result (λ x. x.0.depth ≤ n + 1) }
 {
     if let Some(((place, k), rest)) = literal_at_least(0, tokens) {
-        return Ok((node::literal(place, k), rest));
+        return Ok((node::tree(place, RawNode::Lit(k), 0), rest));
     }
     if let Some((place, rest)) = after_sign("(", tokens) {
         if n == 0 {
@@ -396,7 +425,8 @@ fn atom(alloc: Global, n: u32, tokens: &[Token]) -> Result<(Measured, &[Token]),
     }
     if let Some((place, rest)) = after_sign("{", tokens) {
         let (es, rest) = items(alloc, n, "}", rest)?;
-        return Ok((node::set_of(place, es), rest));
+        let inner = es.depth;
+        return Ok((node::tree(place, RawNode::SetOf(es.trees), inner), rest));
     }
     word(alloc, n, tokens)
 }
@@ -410,35 +440,45 @@ fn word(alloc: Global, n: u32, tokens: &[Token]) -> Result<(Measured, &[Token]),
     ensures deep { IfOk result (λ x. x.0.depth ≤ n + 1) }
 {
     if let Some(((place, t), rest)) = truth(tokens) {
-        return Ok((node::truth(place, t), rest));
+        return Ok((node::tree(place, RawNode::Truth(t), 0), rest));
     }
     if let Some((place, rest)) = after_word("card", tokens) {
         if n == 0 {
             return Err(ReadStop::TokensLeft(tokens.len()));
         }
         let (e, rest) = inside(alloc, n, rest)?;
-        return Ok((node::card(place, e), rest));
+        let inner = e.depth;
+        return Ok((node::tree(place, RawNode::Card(e.raw), inner), rest));
     }
     if let Some((place, rest)) = after_word("abs", tokens) {
         if n == 0 {
             return Err(ReadStop::TokensLeft(tokens.len()));
         }
         let (e, rest) = inside(alloc, n, rest)?;
-        return Ok((node::abs(place, e), rest));
+        let inner = e.depth;
+        return Ok((node::tree(place, RawNode::Abs(e.raw), inner), rest));
     }
     if let Some((place, rest)) = after_word("div", tokens) {
         if n == 0 {
             return Err(ReadStop::TokensLeft(tokens.len()));
         }
         let ((e, k), rest) = divided(alloc, n, rest)?;
-        return Ok((node::div(place, e, k), rest));
+        let inner = e.depth;
+        return Ok((
+            node::tree(place, RawNode::Div { of: e.raw, k }, inner),
+            rest,
+        ));
     }
     if let Some((place, rest)) = after_word("mod", tokens) {
         if n == 0 {
             return Err(ReadStop::TokensLeft(tokens.len()));
         }
         let ((e, k), rest) = divided(alloc, n, rest)?;
-        return Ok((node::modulo(place, e, k), rest));
+        let inner = e.depth;
+        return Ok((
+            node::tree(place, RawNode::Mod { of: e.raw, k }, inner),
+            rest,
+        ));
     }
     name_or_call(alloc, n, tokens)
 }
@@ -455,9 +495,11 @@ fn name_or_call(alloc: Global, n: u32, tokens: &[Token]) -> Result<(Measured, &[
     match after_sign("(", rest) {
         Some((_, rest)) => {
             let (es, rest) = items(alloc, n, ")", rest)?;
-            Ok((node::call(place, name, es), rest))
+            let inner = es.depth;
+            let args = es.trees;
+            Ok((node::tree(place, RawNode::Call { name, args }, inner), rest))
         }
-        None => Ok((node::name(place, name), rest)),
+        None => Ok((node::tree(place, RawNode::Name(name), 0), rest)),
     }
 }
 

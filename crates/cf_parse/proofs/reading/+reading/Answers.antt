@@ -1,10 +1,15 @@
-use Rattle.std.proofs.Common.{refl, sym, ◌∙◌, arith}
+use Rattle.std.proofs.Common.{◌≡◌, refl, sym, ◌∙◌, arith, rules}
 use Rattle.std.proofs.lemmas.Result.{err_from_is_err_and}
 use Rattle.cf_reader.specs.Readers.{others_of, snoc}
+use Rattle.cf_tree.specs.declared.raw.Raw.{the_lemmas as raw_lemmas}
+use Rattle.cf_tree.specs.declared.raw.RawNode.{the_lemmas as node_lemmas}
+use Rattle.cf_tree.specs.RawTree.{raw_mod}
+use Rattle.cf_tree.specs.RawView.{raw_tree}
+use Rattle.cf_reader.proofs.Exact.{bind_is, deep_is, deep_not, first_not, pure_is}
 use Rattle.cf_reader.proofs.Steps.{more_closes, more_ends, more_fails, more_next, ok_same}
 use Rattle.cf_target.proofs.Loops.{more_open, out_of_memory}
 use Rattle.cf_parse.specs.declared.tier.Tier.TheVariants.{Whole}
-use Rattle.cf_parse.specs.Reading.{arm_of, read}
+use Rattle.cf_parse.specs.Reading.{arm_of, read, word_of}
 use Rattle.cf_parse.proofs.reading.+reading.Goals as goal
 
 pub more-returns-in-None-clause-value : goal.more-returns-in-None-clause-value
@@ -79,3 +84,13 @@ more_arms-loop-preserved t c =
       more_next snoc (arm_of (read c.args.n)) _ _ _ _ _ _ _ _ _ _ _ _ c.in-Some.ensures c.in_ok-x-in-Some.ensures.value (omega arith)
           (ok_same _ _ _ refl c.in_ok-done-in-Some.ensures.value) c.loop.invariant.1,
     )
+
+pub word-returns-in-Some-after_word-4-clause-value : goal.word-returns-in-Some-after_word-4-clause-value
+unfolding word_of
+word-returns-in-Some-after_word-4-clause-value t c =
+    let e = c.in_ok-e-4 in
+    let is : raw_mod c.in-Some-after_word-4.place (raw_tree e.e.raw.value) e.k ≡ raw_tree c.tree-in-Some-after_word-4.result.raw =
+    search (rules, raw_lemmas, node_lemmas) in
+    first_not _ _ _ _ c.in_default.ensures (deep_not _ _ _ _ _ c.in_default-after_word.ensures (deep_not _ _ _ _ _ c.in_default-after_word-2.ensures
+    (deep_not _ _ _ _ _ c.in_default-after_word-3.ensures (deep_is _ _ _ _ _ (omega (arith, c.if-n-eq0-4.false)) c.in-Some-after_word-4.ensures
+    (bind_is _ _ _ e.ensures.value (pure_is _ _ _ is))))))
