@@ -1,10 +1,8 @@
 //! One choose, eliminated on the numbers of its environment.
-ghost use Rattle.std.specs.Prelude.{◌≡◌, ◌++◌, length, IfOk, All};
+ghost use Rattle.std.specs.Prelude.{◌≡◌, IfOk};
 ghost use Rattle.cf_tree.specs.CodeView.{code_tree};
-ghost use Rattle.cf_tree.specs.Relation.{IsTyped, IsLinear};
 ghost use Rattle.cf_tree.specs.RelView.{rel_tree};
 ghost use Rattle.cf_eval.specs.Seen.{plains};
-ghost use Rattle.cf_late.specs.At.{rel_known};
 ghost use Rattle.cf_late.specs.ChooseRun.{solve_run, late_choose};
 ghost use Rattle.cf_late.specs.Fitting.{AreFit};
 ghost use Rattle.cf_late.specs.LateChoose.{IsLateChoose};
@@ -36,7 +34,7 @@ pub fn late_choose(
     ensures comes { IfOk result (λ o. late_of o ≡ late_choose number scope.now outputs.now (rel_tree rel.now) (plains values.now)) }
     ensures fit { IfOk result IsFitOutcome }
 {
-    let known = known(alloc, scope, outputs, rel, values)?;
+    let known = rel_at(alloc, scope.len(), rel, values)?;
     let solved = solve(alloc, scope, outputs, &known);
     drop(known);
     match solved {
@@ -44,23 +42,6 @@ pub fn late_choose(
         Err(ChooseFault::Refused(refusal)) => Ok(LateOutcome::Refused { number, refusal }),
         Err(ChooseFault::NoMemory) => Err(NoMemory),
     }
-}
-
-// The relation with the literals of the numbers in scope.
-fn known(
-    alloc: Global,
-    scope: &[Base],
-    outputs: &[Base],
-    rel: &Rel,
-    values: &[Value],
-) -> Result<Rel, NoMemory>
-    requires late { IsLateChoose scope.now outputs.now (rel_tree rel.now) }
-    requires fit { AreFit (plains values.now) }
-    ensures is { IfOk result (λ k. rel_tree k ≡ rel_known (length scope.now) (rel_tree rel.now) (plains values.now)) }
-    ensures typed { IfOk result (λ k. IsTyped (scope.now ++ outputs.now) (rel_tree k)) }
-    ensures linear { IfOk result (λ k. IsLinear (rel_tree k)) }
-{
-    rel_at(alloc, scope.len(), rel, values)
 }
 
 // The run of the `solve` of a choose.

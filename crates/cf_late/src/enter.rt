@@ -1,5 +1,4 @@
 //! Chooses that a run enters.
-ghost use Rattle.std.specs.Prelude.{◌≡◌, IfOk};
 ghost use Rattle.cf_tree.specs.Params.{bases_of};
 ghost use Rattle.cf_tree.specs.RelView.{rel_tree};
 ghost use Rattle.cf_late.specs.ChooseRun.{late_choose};
@@ -10,7 +9,7 @@ use crate::choose::late_choose;
 use crate::outcome::LateOutcome;
 use crate::stop::Stop;
 use crate::values::Values;
-use cf_tree::{Base, NoMemory, Param, Rel, bases};
+use cf_tree::{Base, Param, Rel, bases};
 use std::alloc::Global;
 
 // The values that the choose of that number comes to behind these variables.
