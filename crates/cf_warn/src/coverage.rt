@@ -1,9 +1,6 @@
 //! Whether the classes of a match's patterns hold every number.
 ghost use Rattle.std.specs.Prelude.{ℤ, ◌≡◌, [], ◌∷◌, IfOk};
-ghost use Rattle.cf_tree.specs.declared.base.Base.TheVariants as bases;
 ghost use Rattle.cf_tree.specs.RelView.{rel_tree};
-ghost use Rattle.cf_tree.specs.Typing.{one};
-ghost use Rattle.cf_choose.specs.Solved.{IsOf};
 ghost use Rattle.cf_eval.specs.declared.value.Value.TheVariants as value;
 ghost use Rattle.cf_warn.specs.Classes.{AreClasses, MatchesHaveClasses, covered};
 ghost use Rattle.cf_warn.specs.declared.coverage.Cover.TheVariants.{Misses};
@@ -12,7 +9,7 @@ ghost use Rattle.cf_warn.specs.Covers.{IsCover, IsCovered};
 use crate::answer::{Doubt, ExistenceAnswer};
 use crate::classes::covered;
 use crate::no_outputs::existence;
-use cf_choose::{ChooseFault, Solved, solve};
+use cf_choose::{ChooseFault, solve};
 use cf_eval::Value;
 use cf_match::Class;
 use cf_tree::{Base, NoMemory, Rel, without};
@@ -56,21 +53,13 @@ fn of_question(alloc: Global, classes: &[Class], rel: &Rel) -> Result<Cover, NoM
 {
     match solve(alloc, &[Base::Int], &[Base::Int], rel) {
         Ok(solved) => {
-            let cover = decided(alloc, classes, &solved);
-            without(solved, cover)
+            let exists = existence(alloc, &solved);
+            drop(solved);
+            Ok(answer(classes, exists?))
         }
         Err(ChooseFault::Refused(refusal)) => Ok(Cover::Undecided(Doubt::Refused(refusal))),
         Err(ChooseFault::NoMemory) => Err(NoMemory),
     }
-}
-
-// The verdict on the solved question.
-fn decided(alloc: Global, classes: &[Class], solved: &Solved) -> Result<Cover, NoMemory>
-    requires classes { AreClasses classes.now }
-    requires solved { IsOf (one bases.Int) (one bases.Int) (covered classes.now) solved.now }
-    ensures { IfOk result (IsCover classes.now) }
-{
-    Ok(answer(classes, existence(alloc, solved)?))
 }
 
 // The verdict, where the question answers this.

@@ -18,7 +18,7 @@ use crate::used_parameters::parameters;
 use cf_choose::Solved;
 use cf_eval::Value;
 use cf_linear::{LimitKind, Refusal};
-use cf_tree::{Base, NoMemory, Rel, without};
+use cf_tree::{NoMemory, without};
 use std::alloc::Global;
 
 /// The most tuples of all arms for which the question is written.
@@ -55,27 +55,17 @@ fn many(tuples: u64) -> Doubt
 }
 
 // What the question answers.
+#[tactic(auto, using(crate::proofs::ExistenceLaws::written_asked))]
 fn ask_written(alloc: Global, solved: &Solved, params: &[u32]) -> Result<Asked, NoMemory>
     requires { params.now ≡ parameters solved.now.scope.items (rel_tree solved.now.rel) }
     ensures { IfOk result (IsAsked (none_outputs solved.now.scope.items solved.now.outputs.items (rel_tree solved.now.rel))
         (none solved.now.scope.items solved.now.outputs.items (rel_tree solved.now.rel))) }
 {
-    let question = none(alloc, solved, params)?;
-    let asked = ask_none(alloc, solved, &question.outputs, &question.rel);
-    without(question, asked)
-}
-
-// What the written question answers.
-#[tactic(auto, using(crate::proofs::ExistenceLaws::written_asked))]
-fn ask_none(alloc: Global, solved: &Solved, outputs: &[Base], rel: &Rel) -> Result<Asked, NoMemory>
-    requires outputs { outputs.now ≡ none_outputs solved.now.scope.items solved.now.outputs.items (rel_tree solved.now.rel) }
-    requires rel { rel_tree rel.now ≡ none solved.now.scope.items solved.now.outputs.items (rel_tree solved.now.rel) }
-    ensures { IfOk result (IsAsked (none_outputs solved.now.scope.items solved.now.outputs.items (rel_tree solved.now.rel))
-        (none solved.now.scope.items solved.now.outputs.items (rel_tree solved.now.rel))) }
-{
     // for the proof: the outputs are named by the clauses
     let _ = solved.outputs();
-    ask(alloc, outputs, rel)
+    let question = none(alloc, solved, params)?;
+    let asked = ask(alloc, &question.outputs, &question.rel);
+    without(question, asked)
 }
 
 // The verdict, where the arms have few tuples and the question answers this.

@@ -36,10 +36,8 @@ fn ask_twice(alloc: Global, solved: &Solved, params: Vec<u32>) -> Result<Asked, 
 {
     let outputs = twice_outputs(alloc, solved, &params)?;
     let rel = twice(alloc, solved, params)?;
-    match ask(alloc, &outputs, &rel) {
-        Ok(asked) => Ok(asked),
-        Err(fault) => Err(without(rel, fault)),
-    }
+    let asked = ask(alloc, &outputs, &rel);
+    without(rel, asked)
 }
 
 // The verdict, where the question answers this.

@@ -6,3 +6,10 @@ solve-requires-clause-typed c = rw c.requires.rel (covered_typed c.args.classes.
 
 pub solve-requires-clause-linear : goal.solve-requires-clause-linear
 solve-requires-clause-linear c = rw c.requires.rel (covered_linear c.args.classes.now)
+
+pub answer-requires-clause-exists : goal.answer-requires-clause-exists
+answer-requires-clause-exists c =
+    let s = rw c.requires.rel at c.in-Ok.ensures in (
+      rw (s.same_scope, s.same_outputs, s.same_relation) at s.solved.within,
+      rw (s.same_scope, s.same_outputs, s.same_relation) at c.in_ok-exists-in-Ok.ensures,
+    )
