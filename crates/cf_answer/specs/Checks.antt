@@ -19,7 +19,8 @@ use Rattle.cf_warn.specs.declared.answer.UniquenessAnswer.{UniquenessAnswer}
 use Rattle.cf_warn.specs.declared.answer.UniquenessAnswer.TheVariants as uniqueness
 use Rattle.cf_warn.specs.declared.coverage.Cover.{Cover}
 use Rattle.cf_warn.specs.declared.coverage.Cover.TheVariants as cover
-use Rattle.cf_answer.specs.Texts.{numbered_line, refusal_text}
+use Rattle.cf_late.specs.Texts.{refusal_text}
+use Rattle.cf_answer.specs.Texts.{numbered_line}
 
 -- ---- verdicts
 -- why a question is not decided

@@ -3,10 +3,9 @@ use Rattle.std.specs.Prelude.{ℕ, List, [], ◌∷◌, codes, decimal, Result, 
 use Rattle.std.specs.List.{concat}
 use Rattle.cf_tree.specs.declared.base.Place.{Place}
 use Rattle.cf_linear.specs.declared.refusal.Refusal.{Refusal}
-use Rattle.cf_linear.specs.declared.refusal.Refusal.TheVariants as refusal
 use Rattle.cf_program.specs.declared.fault.TypeFault.{TypeFault}
 use Rattle.cf_program.specs.declared.fault.TypeFault.TheVariants as rule
-use Rattle.cf_late.specs.Texts.{kind_text}
+use Rattle.cf_late.specs.Texts.{refusal_text}
 use Rattle.cf_cert.specs.declared.verdict.Why.{Why}
 use Rattle.cf_cert.specs.declared.verdict.Why.TheVariants as why
 use Rattle.cf_answer.specs.declared.fault.Fault.{Fault}
@@ -32,11 +31,6 @@ count_line name n = concat (name ∷ codes " " ∷ decimal n ∷ codes "\n" ∷ 
 -- words about a choose
 abbrev pub numbered_line : ℕ → List ℕ → List ℕ
 numbered_line n words = concat (codes "choose " ∷ decimal n ∷ codes ": " ∷ words ∷ codes "\n" ∷ [])
-
--- the limit that is passed
-abbrev pub refusal_text : Refusal → List ℕ
-refusal_text refusal.Past = codes "coefficient past 128 bits"
-refusal_text (refusal.Limit kind number) = concat (kind_text kind ∷ codes " " ∷ decimal number ∷ [])
 
 -- the refusal of a choose
 abbrev pub choose_line : ℕ → Refusal → List ℕ

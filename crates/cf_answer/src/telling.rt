@@ -8,9 +8,10 @@ ghost use Rattle.cf_answer.specs.Texts.{place_line, place_line_behind, count_lin
 ghost use Rattle.cf_answer.specs.Texts.{steps_line, rejected_line, fault_line, answer_line};
 
 use crate::fault::{Fault, StepsFault};
-use crate::reason::{refusal_reason, rejection_reason};
+use crate::reason::rejection_reason;
 use cf_cert::Why;
 use cf_io::{Failed, Sink, write_all};
+use cf_late::refusal_reason;
 use cf_linear::Refusal;
 use cf_program::TypeFault;
 use cf_tree::Place;

@@ -6,6 +6,7 @@ use Rattle.cf_linear.specs.declared.refusal.LimitKind.TheVariants as kind
 use Rattle.cf_linear.specs.declared.refusal.Refusal.{Refusal}
 use Rattle.cf_linear.specs.declared.refusal.Refusal.TheVariants as refusal
 use Rattle.cf_eval.specs.Texts.{outcome_text}
+use Rattle.cf_late.specs.declared.reason.Reason.{Reason}
 use Rattle.cf_late.specs.ChooseRun.{LateOutcome, comes_to, overflow, refused}
 
 abbrev pub kind_text : LimitKind → List ℕ
@@ -15,13 +16,16 @@ kind_text kind.Rows = codes "Rows"
 kind_text kind.Columns = codes "Columns"
 kind_text kind.Search = codes "Search"
 
--- the refusal of a choose, without a line feed
-abbrev pub refusal_text : ℕ → Refusal → List ℕ
-refusal_text n refusal.Past = concat (codes "choose " ∷ decimal n ∷ codes ": coefficient past 128 bits" ∷ [])
-refusal_text n (refusal.Limit kind number) = concat (codes "choose " ∷ decimal n ∷ codes ": " ∷ kind_text kind ∷ codes " " ∷ decimal number ∷ [])
+-- why a choose is refused
+abbrev pub refusal_text : Refusal → List ℕ
+refusal_text refusal.Past = codes "coefficient past 128 bits"
+refusal_text (refusal.Limit kind number) = concat (kind_text kind ∷ codes " " ∷ decimal number ∷ [])
+
+abbrev pub reason_text : Reason → List ℕ
+reason_text r = concat (r.words.now ∷ r.gap.now ∷ r.count.now ∷ [])
 
 -- the reply to a line
 abbrev pub late_text : LateOutcome → List ℕ
 late_text (comes_to o) = outcome_text o
 late_text overflow = codes "overflow"
-late_text (refused n r) = refusal_text n r
+late_text (refused n r) = concat (codes "choose " ∷ decimal n ∷ codes ": " ∷ refusal_text r ∷ [])

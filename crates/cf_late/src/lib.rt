@@ -8,6 +8,7 @@ mod eval;
 mod operate;
 mod outcome;
 mod pattern;
+mod reason;
 mod reply;
 mod run;
 mod stop;
@@ -15,7 +16,8 @@ mod values;
 
 ghost use Rattle.cf_late.specs.ProgramLaw.{LateRunsAreAllowed};
 
-pub use crate::reply::{kind_text, late_reply};
+pub use crate::reason::{Reason, in_words, refusal_reason};
+pub use crate::reply::late_reply;
 pub use crate::run::run_late;
 
 /// On values of main's types of which no number is past 2^127 - 1, an outcome that a late program

@@ -3,11 +3,13 @@ ghost use Rattle.std.specs.Prelude.{◌≡◌, IfOk, flat_map};
 ghost use Rattle.cf_eval.specs.Seen.{plains};
 ghost use Rattle.cf_eval.specs.Texts.{values_text};
 ghost use Rattle.cf_late.specs.Outcomes.{late_of};
-ghost use Rattle.cf_late.specs.Texts.{late_text, kind_text as the_kind_text, refusal_text};
+ghost use Rattle.cf_late.specs.ChooseRun.{refused};
+ghost use Rattle.cf_late.specs.Texts.{late_text};
 
 use crate::outcome::LateOutcome;
+use crate::reason::refusal_reason;
 use cf_eval::{Outcome, Value, put_values, reply};
-use cf_linear::{LimitKind, Refusal};
+use cf_linear::Refusal;
 use cf_tree::NoMemory;
 use itoa::Buffer;
 use std::alloc::Global;
@@ -47,46 +49,22 @@ fn joined(alloc: Global, pieces: &[&[u8]]) -> Result<Vec<u8>, NoMemory>
     Ok(text)
 }
 
-/// The name of what a limit counts.
-pub fn kind_text(kind: &LimitKind) -> &'static [u8]
-    ensures { result.now ≡ the_kind_text kind.now }
-{
-    match kind {
-        LimitKind::Sets => b"Sets".as_slice(),
-        LimitKind::Cases => b"Cases".as_slice(),
-        LimitKind::Rows => b"Rows".as_slice(),
-        LimitKind::Columns => b"Columns".as_slice(),
-        LimitKind::Search => b"Search".as_slice(),
-    }
-}
-
 // The refusal of the choose of that number.
 fn refusal_reply(alloc: Global, number: u32, refusal: &Refusal) -> Result<Vec<u8>, NoMemory>
-    ensures { IfOk result (λ text. text.items ≡ refusal_text number refusal.now) }
+    ensures { IfOk result (λ text. text.items ≡ late_text (refused number refusal.now)) }
 {
     let mut choose = Buffer::new();
-    match refusal {
-        Refusal::Past => joined(
-            alloc,
-            &[
-                b"choose ".as_slice(),
-                choose.format(number).as_bytes(),
-                b": coefficient past 128 bits".as_slice(),
-            ],
-        ),
-        Refusal::Limit { kind, number: most } => {
-            let mut limit = Buffer::new();
-            joined(
-                alloc,
-                &[
-                    b"choose ".as_slice(),
-                    choose.format(number).as_bytes(),
-                    b": ".as_slice(),
-                    kind_text(kind),
-                    b" ".as_slice(),
-                    limit.format(*most).as_bytes(),
-                ],
-            )
-        }
-    }
+    let mut count = Buffer::new();
+    let reason = refusal_reason(refusal, &mut count);
+    joined(
+        alloc,
+        &[
+            b"choose ".as_slice(),
+            choose.format(number).as_bytes(),
+            b": ".as_slice(),
+            reason.words,
+            reason.gap,
+            reason.count,
+        ],
+    )
 }
