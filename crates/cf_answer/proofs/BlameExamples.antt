@@ -230,7 +230,7 @@ one-file = tt
 
 -- ---- words that are no command
 abbrev told : List Told
-told = record { name = codes "fold"; tally = 12; turns = 3 } ∷ []
+told = record { name = codes "fold"; tally = 12; turns = 3; makes = λ n c. c; whole = true } ∷ []
 
 refused-words : Answers None told told (failed never 0 0) (failed never 0 0) (Err fault.Usage)
 refused-words = (inl refl, refl, refl)

@@ -1,3 +1,4 @@
+pub mod AgreeLaws
 pub mod AnswerLemmas
 pub mod AskedLemmas
 pub mod BlockLemmas
