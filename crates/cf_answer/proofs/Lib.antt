@@ -53,3 +53,7 @@ mod BlameExamples
 mod CommandExamples
 mod EndExamples
 mod RefusalExamples
+mod TextExamples
+mod LineExamples
+mod OwedExamples
+mod DoesExamples
