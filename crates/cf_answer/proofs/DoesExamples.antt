@@ -24,6 +24,10 @@ abbrev first_turns : List Told → ℕ
 first_turns [] = 0
 first_turns (p ∷ ps) = p.turns
 
+abbrev first_byte : List ℕ → ℕ
+first_byte [] = 0
+first_byte (b ∷ bytes) = b
+
 -- an input of which reads gave so much, and which failed so often
 abbrev input : ℕ → ℕ → SourceSeen
 input given faults = record { left = Some (codes "9\n"); faults = faults; given = given; ends = 0 }
@@ -55,7 +59,7 @@ module _ (text : List ℕ) where
   pass_called h = let same : 4 ≡ 3 = ap first_turns h.passed in omega (arith, same)
 
   bytes_written : OnTexts (text ∷ []) 3 (input 0 0) (out (codes "new") 0) (Err fault.TextTooLong) → ⊥
-  bytes_written h = cc (h.ends.1)
+  bytes_written h = let e : codes "new" ≡ codes "old" = cc h.ends.1 in let n : 110 ≡ 111 = ap first_byte e in omega (arith, n)
 
   another_number_of_files : OnTexts [] 3 (input 0 0) (out (codes "old") 0) (Err fault.TextTooLong) → ⊥
   another_number_of_files h = h.ends.0
