@@ -1,3 +1,4 @@
+pub mod AgreeLaws
 pub mod AnswerLemmas
 pub mod AskedLemmas
 pub mod BlockLemmas
@@ -52,3 +53,7 @@ mod BlameExamples
 mod CommandExamples
 mod EndExamples
 mod RefusalExamples
+mod TextExamples
+mod LineExamples
+mod OwedExamples
+mod DoesExamples

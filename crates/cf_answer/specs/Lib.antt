@@ -1,3 +1,4 @@
+pub mod Agreeing
 pub mod Certificates
 pub mod Checking
 pub mod Checks
