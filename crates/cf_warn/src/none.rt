@@ -27,13 +27,17 @@ pub struct Question {
 ///
 /// # Errors
 /// `NoMemory` where memory ran out, or a level does not fit in 32 bits.
+#[tactic(auto, using(crate::proofs::QuestionLaws::outputs_are))]
 pub fn none(alloc: Global, solved: &Solved, params: &[u32]) -> Result<Question, NoMemory>
     requires { params.now ≡ parameters solved.now.scope.items (rel_tree solved.now.rel) }
     ensures outputs { IfOk result (λ q. q.outputs.items ≡ none_outputs solved.now.scope.items solved.now.outputs.items (rel_tree solved.now.rel)) }
     ensures rel { IfOk result (λ q. rel_tree q.rel ≡ none solved.now.scope.items solved.now.outputs.items (rel_tree solved.now.rel)) }
 {
     let draft = written(alloc, solved, params)?;
-    from_draft(alloc, solved, params, &draft)
+    let mut outputs = bases_at(alloc, solved.scope(), params)?;
+    outputs.resize(draft.level as usize, Base::Int)?;
+    let rel = joined(alloc, Join::And, &draft.says)?;
+    Ok(Question { outputs, rel })
 }
 
 // What is said of all tuples of all arms.
@@ -48,24 +52,4 @@ fn written(alloc: Global, solved: &Solved, params: &[u32]) -> Result<Draft, NoMe
     let mut draft = Draft::new(alloc, first, level);
     draft.cases(alloc, solved)?;
     Ok(draft)
-}
-
-// The question that says this, with one number for each let.
-#[tactic(auto, using(crate::proofs::QuestionLaws::outputs_are))]
-fn from_draft(
-    alloc: Global,
-    solved: &Solved,
-    params: &[u32],
-    draft: &Draft,
-) -> Result<Question, NoMemory>
-    requires params { params.now ≡ parameters solved.now.scope.items (rel_tree solved.now.rel) }
-    requires says { map rel_tree draft.now.says.items ≡ all_say solved.now.scope.items solved.now.outputs.items (rel_tree solved.now.rel) }
-    requires level { draft.now.level ≡ length params.now + lets_in (turns (traced solved.now.scope.items solved.now.outputs.items (rel_tree solved.now.rel))) }
-    ensures outputs { IfOk result (λ q. q.outputs.items ≡ none_outputs solved.now.scope.items solved.now.outputs.items (rel_tree solved.now.rel)) }
-    ensures rel { IfOk result (λ q. rel_tree q.rel ≡ none solved.now.scope.items solved.now.outputs.items (rel_tree solved.now.rel)) }
-{
-    let mut outputs = bases_at(alloc, solved.scope(), params)?;
-    outputs.resize(draft.level as usize, Base::Int)?;
-    let rel = joined(alloc, Join::And, &draft.says)?;
-    Ok(Question { outputs, rel })
 }

@@ -46,24 +46,9 @@ pub fn twice(alloc: Global, solved: &Solved, params: Vec<u32>) -> Result<Rel, No
         params,
         gap: 0,
     };
-    with_copy(alloc, solved.relation(), &mut levels, outputs, differ)
-}
-
-// The relation over these levels, the relation for a copy of so many outputs, and that some output
-// differs.
-fn with_copy(
-    alloc: Global,
-    rel: &Rel,
-    levels: &mut Levels,
-    outputs: u32,
-    differ: Box<Rel>,
-) -> Result<Rel, NoMemory>
-    ensures { IfOk result (λ both. rel_tree both ≡ rel_and (rel_at (level_of levels.old) (rel_tree rel.now))
-        (rel_and (rel_at (level_in levels.old.scope levels.old.params.items outputs) (rel_tree rel.now)) (rel_tree differ.value))) }
-{
-    let first = levels.boxed_rel(alloc, rel)?;
+    let first = levels.boxed_rel(alloc, solved.relation())?;
     levels.gap = outputs;
-    let second = levels.boxed_rel(alloc, rel)?;
+    let second = levels.boxed_rel(alloc, solved.relation())?;
     let copy = Box::new(alloc, Rel::And(second, differ))?;
     Ok(Rel::And(first, copy))
 }
