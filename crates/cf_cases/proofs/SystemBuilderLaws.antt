@@ -12,7 +12,8 @@ use Rattle.cf_linear.specs.Rows.{Row, comb, row_passes}
 use Rattle.cf_linear.specs.Parts.{IsRowFault}
 use Rattle.cf_linear.specs.Systems.{System}
 use Rattle.cf_linear.specs.Layout.{Layout, first_free}
-use Rattle.cf_linear.specs.Written.{GuardTree, product_by, sign_guard, quotient_guard, WrittenTree, plus, above_quotient, below_quotient, first_sign, signed_by, write}
+use Rattle.cf_linear.specs.Written.{GuardTree}
+use Rattle.cf_linear.specs.Written.{product_by, sign_guard, quotient_guard, WrittenTree, plus, above_quotient, below_quotient, first_sign, signed_by, write}
 use Rattle.cf_linear.specs.Written.{IsPlaced, abs_count}
 use Rattle.cf_linear.specs.Cases.{atom_compare, Normal, normal_atom, Signed, disjuncts, case_count, no_rows, case_rows, system_of_case, AtomRows}
 use Rattle.cf_linear.specs.Cases.{compare_zero, compare_nonneg, write_atom, rows_then}

@@ -1,10 +1,9 @@
 //! The question whether a choose has two solutions.
 ghost use Rattle.std.specs.Prelude.{◌≡◌, IfOk, map};
-ghost use Rattle.cf_tree.specs.RelTree.{rel_and, rel_or, rel_false};
+ghost use Rattle.cf_tree.specs.RelTree.{rel_or, rel_false};
 ghost use Rattle.cf_tree.specs.RelView.{rel_tree};
 ghost use Rattle.cf_choose.specs.Solved.{IsSolved};
-ghost use Rattle.cf_warn.specs.Questions.{halves, level_in, other, others, parameters, rel_at, twice, twice_outputs};
-ghost use Rattle.cf_warn.specs.Writing.{level_of};
+ghost use Rattle.cf_warn.specs.Questions.{halves, other, others, parameters, twice, twice_outputs};
 
 use crate::halves::{Join, joined};
 use crate::levels::Levels;

@@ -37,7 +37,8 @@ returns-clause-gives c =
     let s : c.deref.result.now ≡ signs_at (abs_count (term_tree c.args.of.now)) c.args.index = c.deref.ensures.value ∙ c.in_ok-signs.ensures in
     divides_gives (plain_layout c.args.layout.now) (rows_of c.args.builder.now) c.args.holds c.args.k.now (term_tree c.args.of.now) c.args.index
     c.add_divided.new.builder c.add_divided.result
-    (rw s at c.in_ok-written.ensures.fits) (rw (c.in_ok-written.ensures.row, c.in_ok-written.ensures.guards, c.in_ok-written.ensures.next, s) at c.add_divided.ensures.gives)
+    (rw s at c.in_ok-written.ensures.fits)
+    (rw (c.in_ok-written.ensures.row, c.in_ok-written.ensures.guards, c.in_ok-written.ensures.next, s) at c.add_divided.ensures.gives)
 
 pub returns-in_err-written-clause-gives : goal.returns-in_err-written-clause-gives
 returns-in_err-written-clause-gives c =

@@ -6,7 +6,8 @@ use Rattle.cf_cases.proofs.first_systems.each_system.Goals as goal
 
 pub loop-index-preserved : goal.loop-index-preserved
 loop-index-preserved c =
-    one_more (plain_layout c.args.layout.now) (rel_tree c.args.counted.now) c.loop-index.index c.loop-index.all.items c.push.new.self.items c.in_ok-case_of.field-0
+    one_more (plain_layout c.args.layout.now) (rel_tree c.args.counted.now) c.loop-index.index c.loop-index.all.items c.push.new.self.items
+    c.in_ok-case_of.field-0
     (index_below _ _ c.loop-index.index c.cases_len-index-end.ensures c.loop-index-test.true)
     c.in_ok-push.ensures.items c.in_ok-case_of.ensures.system c.in_ok-case_of.ensures.fits c.loop-index.invariant
 

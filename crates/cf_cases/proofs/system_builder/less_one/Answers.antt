@@ -18,7 +18,8 @@ returns-in_err-lower c =
     let v = c.entry.ensures.value in
     let t = c.if-entry-gt0.true in
     let p : pos 1 ≤ℤ entry c.args.left.now 0 = omega (arith, ints) in
-    rw e (fails_where c.in_err-lower.field-0.0 (row_passes (plus c.args.left.now (negsuc 0))) (row_passes (plus (less c.args.left.now c.args.right.now) (negsuc 0)))
+    rw e (fails_where c.in_err-lower.field-0.0 (row_passes (plus c.args.left.now (negsuc 0)))
+    (row_passes (plus (less c.args.left.now c.args.right.now) (negsuc 0)))
     (λ h. true_not_false h (lower_not c.args.left.now c.entry.ensures.is_row p)) c.in_err-lower.ensures)
 
 pub returns-in_err-row : goal.returns-in_err-row
