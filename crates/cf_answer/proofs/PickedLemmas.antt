@@ -14,7 +14,7 @@ use Rattle.cf_tree.specs.Values.{Value, number, truth, elements, Outcome, values
 use Rattle.cf_tree.proofs.RisingLemmas.{rising_set_of}
 use Rattle.cf_program.specs.Checked.{TypedTree}
 use Rattle.cf_tree.specs.Params.{bases_of}
-use Rattle.cf_growth.specs.Meeting.{AreSmall}
+use Rattle.cf_shift.specs.Meeting.{AreSmall}
 use Rattle.cf_build.specs.Built.{IsBuilt, SourceAllows}
 use Rattle.cf_build.specs.Runs.{RunsAsPicked}
 use Rattle.cf_eval.specs.Replies.{meaning_text, IsReply, too_long, bad_input, meaning}

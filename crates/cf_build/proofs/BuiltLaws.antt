@@ -33,7 +33,7 @@ use Rattle.cf_build.specs.Codes.{called, codes_behind, solved_in}
 use Rattle.cf_build.specs.Runs.{lowered_bodies}
 use Rattle.cf_tree.specs.ChooseTree.{ChooseTree}
 use Rattle.cf_build.specs.Chooses.{chooses_in, chooses_in_all, all_chooses, by_number, solve_of}
-use Rattle.cf_build.specs.Shifted.{HasLevels}
+use Rattle.cf_shift.specs.Shifted.{HasLevels}
 use Rattle.cf_program.specs.NoMatch.{HasNoMatch, HaveNoMatch}
 use Rattle.cf_tree.specs.ChooseView.{choose_tree}
 use Rattle.cf_build.specs.Solves.{chooses_of, IsTypedChoose, IsRising, AreCodes, IsSolveOf}

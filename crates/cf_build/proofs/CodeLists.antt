@@ -10,9 +10,9 @@ use Rattle.cf_tree.specs.declared.raw.BinOp.{BinOp}
 use Rattle.cf_tree.specs.declared.raw.BinOp.TheVariants.{Add, Sub, Mul, And, Or, Union, Inter, Diff, Subset, Compare}
 use Rattle.cf_build.specs.Codes.{binary_code, joined_code, call_code, code_of, codes_of_all, called, codes_behind, code_among, codes_among, solved_in}
 use Rattle.cf_tree.specs.ChooseTree.{ChooseTree}
-use Rattle.cf_build.specs.Shifted.{shifted, all_shifted}
-use Rattle.cf_build.proofs.ShiftedTwice.{shifted_twice}
-use Rattle.cf_build.proofs.ShiftedTyping.{count_shifted}
+use Rattle.cf_shift.specs.Shifted.{shifted, all_shifted}
+use Rattle.cf_shift.proofs.ShiftedTwice.{shifted_twice}
+use Rattle.cf_shift.proofs.ShiftedTyping.{count_shifted}
 
 pub codes_of_exprs : (calls : ℕ → CodeTree) (solves : ChooseTree → CodeTree) (by n : ℕ) (es : List ExprTree) →
     codes_of (map (λ e. shifted by (code_of calls solves n e)) es) ≡ all_shifted by (codes_of_all calls solves n (exprs_of es))

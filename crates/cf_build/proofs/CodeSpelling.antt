@@ -15,13 +15,13 @@ use Rattle.cf_program.specs.Walk.{side_of}
 use Rattle.cf_build.specs.Codes.{binary_code, call_code, code_of, codes_of_all}
 use Rattle.cf_tree.specs.ChooseTree.{ChooseTree}
 use Rattle.cf_build.specs.Chooses.{chooses_in, chooses_in_all}
-use Rattle.cf_build.specs.Shifted.{shifted, HasLevels, HaveLevels}
+use Rattle.cf_shift.specs.Shifted.{shifted, HasLevels, HaveLevels}
 use Rattle.cf_program.specs.NoMatch.{HasNoMatch, HaveNoMatch}
 use Rattle.cf_build.specs.Solves.{IsSolveOf}
 use Rattle.cf_build.proofs.CodeTyping.{parts_count}
 use Rattle.cf_build.proofs.Meanings.{sides_have}
-use Rattle.cf_build.proofs.ShiftedLevels.{levels_before}
-use Rattle.cf_build.proofs.ShiftedSpelling.{depth_same, spelled_shifted}
+use Rattle.cf_shift.proofs.ShiftedLevels.{levels_before}
+use Rattle.cf_shift.proofs.ShiftedSpelling.{depth_same, spelled_shifted}
 
 binary_depth : (op : BinOp) (a b : CodeTree) → code_depth (binary_code op a b) ≤ 1 + max (code_depth a) (code_depth b)
 binary_depth Add a b = omega arith

@@ -20,10 +20,10 @@ use Rattle.cf_program.specs.Walk.{side_of, result_of}
 use Rattle.cf_build.specs.Codes.{binary_code, joined_code, call_code, code_of, codes_of_all}
 use Rattle.cf_tree.specs.ChooseTree.{ChooseTree}
 use Rattle.cf_build.specs.Chooses.{chooses_in, chooses_in_all, choose_arms}
-use Rattle.cf_build.specs.Shifted.{shifted}
+use Rattle.cf_shift.specs.Shifted.{shifted}
 use Rattle.cf_program.specs.NoMatch.{HasNoMatch, HaveNoMatch}
 use Rattle.cf_build.specs.Solves.{IsSolveOf}
-use Rattle.cf_build.proofs.ShiftedTyping.{shifted_has}
+use Rattle.cf_shift.proofs.ShiftedTyping.{shifted_has}
 
 given : (arms : ArmTrees) (asked : Option (List Base)) (bs : List Base) → HasArms arms → Meets asked bs → IsGiven arms asked bs
 given no_arms asked bs h m = absurd h

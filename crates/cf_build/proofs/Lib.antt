@@ -18,13 +18,6 @@ pub mod ChooseLaws
 pub mod Rewriting
 pub mod Runs
 pub mod SameCodes
-pub mod ShiftLists
-pub mod ShiftedLevels
-pub mod ShiftedNone
-pub mod ShiftedPaths
-pub mod ShiftedSpelling
-pub mod ShiftedTwice
-pub mod ShiftedTyping
 pub mod SolveLists
 pub mod Values
 pub mod PassLists

@@ -3,14 +3,12 @@ use Rattle.std.proofs.Common.{◌≡◌, ℕ, suc, ◌+◌, ◌<◌, ◌≤◌, 
 use Rattle.std.proofs.Math.Numerals.{add-one}
 use Rattle.std.proofs.Math.Seq.{drop-cons}
 use Rattle.std.proofs.lemmas.List.{append_assoc, map_more, take_all}
-use Rattle.cf_tree.specs.CodeTree.{CodeTree, codes_of, items_of, arms_of}
-use Rattle.cf_tree.specs.CodeView.{code_tree, item_tree, arm_tree, code_trees, item_trees, arm_trees}
+use Rattle.cf_tree.specs.CodeTree.{CodeTree, codes_of}
+use Rattle.cf_tree.specs.CodeView.{code_tree, code_trees}
 use Rattle.cf_tree.specs.DefView.{def_tree}
 use Rattle.cf_tree.specs.ExprTree.{exprs_of}
 use Rattle.cf_tree.specs.ExprView.{expr_tree, expr_trees}
 use Rattle.cf_tree.specs.declared.code.Code.{Code}
-use Rattle.cf_tree.specs.declared.code.Item.{Item}
-use Rattle.cf_tree.specs.declared.code.Arm.{Arm}
 use Rattle.cf_tree.specs.declared.expr.Def.{Def}
 use Rattle.cf_tree.specs.declared.expr.Expr.{Expr}
 use Rattle.cf_program.specs.NoMatch.{HasNoMatch, HaveNoMatch}
@@ -19,11 +17,10 @@ use Rattle.cf_build.specs.declared.solves.SolvedChoose.{SolvedChoose}
 use Rattle.cf_build.specs.Codes.{code_of, codes_of_all}
 use Rattle.cf_tree.specs.ChooseTree.{ChooseTree}
 use Rattle.cf_build.specs.Chooses.{chooses_in, chooses_in_all}
-use Rattle.cf_build.specs.Shifted.{shifted, all_shifted, item_shifted, items_shifted, arm_shifted, arms_shifted}
+use Rattle.cf_shift.specs.Shifted.{shifted, all_shifted}
 use Rattle.cf_tree.specs.ChooseView.{choose_tree}
 use Rattle.cf_build.specs.Solves.{chooses_of, AreSolved, IsSolved}
 use Rattle.cf_build.proofs.CodeLists.{codes_of_exprs}
-use Rattle.cf_build.proofs.ShiftLists.{codes_shifted, list_items_shifted, list_arms_shifted}
 use Rattle.cf_build.proofs.ChooseLists.{chooses_push, chooses_of_push}
 use Rattle.cf_build.proofs.SolveLists.{solved_push}
 
@@ -69,20 +66,6 @@ pub none_behind : (es : List Expr) (i : ℕ) (e : Expr) → i < length es → e 
 none_behind es i e l is h = (subst (λ xs. HaveNoMatch (expr_trees xs)) (from_here es i e l is) h).1
 
 -- ---- the ends of loops
-pub codes_at_end : (by : ℕ) (cs done : List Code) (i : ℕ) → length cs ≤ i → map code_tree done ≡ map (λ c. shifted by c) (map code_tree (take i cs)) →
-    code_trees done ≡ all_shifted by (code_trees cs)
-codes_at_end by cs done i l h = ap codes_of (h ∙ ap (λ xs. map (λ c. shifted by c) (map code_tree xs)) (take_all i cs l)) ∙ codes_shifted by (map code_tree cs)
-
-pub items_at_end : (by : ℕ) (is done : List Item) (i : ℕ) → length is ≤ i → map item_tree done ≡ map (λ c. item_shifted by c) (map item_tree (take i is)) →
-    item_trees done ≡ items_shifted by (item_trees is)
-items_at_end by is done i l h = ap items_of (h ∙ ap (λ xs. map (λ c. item_shifted by c) (map item_tree xs)) (take_all i is l)) ∙
-    list_items_shifted by (map item_tree is)
-
-pub arms_at_end : (by : ℕ) (arms done : List Arm) (i : ℕ) → length arms ≤ i → map arm_tree done ≡ map (λ a. arm_shifted by a) (map arm_tree (take i arms)) →
-    arm_trees done ≡ arms_shifted by (arm_trees arms)
-arms_at_end by arms done i l h = ap arms_of (h ∙ ap (λ xs. map (λ a. arm_shifted by a) (map arm_tree xs)) (take_all i arms l)) ∙
-    list_arms_shifted by (map arm_tree arms)
-
 pub exprs_at_end : (calls : ℕ → CodeTree) (solves : ChooseTree → CodeTree) (by n : ℕ) (es : List Expr) (done : List Code) (i : ℕ) → length es ≤ i →
     map code_tree done ≡ map (λ e. shifted by (code_of calls solves n e)) (map expr_tree (take i es)) →
     code_trees done ≡ all_shifted by (codes_of_all calls solves n (expr_trees es))

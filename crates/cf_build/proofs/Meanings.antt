@@ -27,10 +27,10 @@ use Rattle.cf_program.specs.Walk.{side_of, result_of}
 use Rattle.cf_build.specs.Codes.{two, binary_code, joined_code, call_code, code_of, codes_of_all}
 use Rattle.cf_tree.specs.ChooseTree.{ChooseTree}
 use Rattle.cf_build.specs.Chooses.{chooses_in, chooses_in_all, choose_arms}
-use Rattle.cf_build.specs.Shifted.{shifted}
+use Rattle.cf_shift.specs.Shifted.{shifted}
 use Rattle.cf_program.specs.NoMatch.{HasNoMatch, HaveNoMatch}
 use Rattle.cf_build.specs.Solves.{IsSolveOf}
-use Rattle.cf_build.proofs.ShiftedPaths.{shifted_means}
+use Rattle.cf_shift.proofs.ShiftedPaths.{shifted_means}
 use Rattle.cf_build.proofs.Values.{Keeps, then_fine, more_fine, then_same, then_weaker, keeps_same, if_fine, value_means, keeps_number, keeps_truth, keeps_value, value_has, have_append, set_is_rising, number_alone, chosen_keeps, from_zero, greater_is_absolute}
 
 -- the numbers of a list put into a set, the first of them first

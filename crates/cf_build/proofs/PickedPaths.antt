@@ -22,18 +22,18 @@ use Rattle.cf_choose.proofs.ArmBuilderLemmas.{length_have}
 use Rattle.cf_tree.specs.Params.{bases_of, names_of}
 use Rattle.cf_program.proofs.PlainTypes.{ExprHasBases, AllHave, PartsHave}
 use Rattle.cf_program.specs.Walk.{side_of}
-use Rattle.cf_growth.specs.Meeting.{AreSmall}
+use Rattle.cf_shift.specs.Meeting.{AreSmall}
 use Rattle.cf_growth.specs.Overflowing.{then_picked, ordinary, picked_right, picked_in, picked_all}
-use Rattle.cf_growth.proofs.MeetingLaws.{given_are_met, small_append}
+use Rattle.cf_shift.proofs.MeetingLaws.{given_are_met, small_append}
 use Rattle.cf_growth.proofs.PickLaws.{none_some, some_none, same_outcome, above}
 use Rattle.cf_build.specs.Codes.{two, binary_code, joined_code, call_code, code_of, codes_of_all}
 use Rattle.cf_tree.specs.ChooseTree.{ChooseTree}
 use Rattle.cf_build.specs.Chooses.{chooses_in, chooses_in_all, solve_of}
-use Rattle.cf_build.specs.Shifted.{shifted}
+use Rattle.cf_shift.specs.Shifted.{shifted}
 use Rattle.cf_program.specs.NoMatch.{HasNoMatch, HaveNoMatch}
 use Rattle.cf_build.specs.Solves.{IsSolveOf}
 use Rattle.cf_build.proofs.Meanings.{Fine, put_all, put_all_is, joined_gives, sides_have, fine, all_fine}
-use Rattle.cf_build.proofs.ShiftedPaths.{shifted_path}
+use Rattle.cf_shift.proofs.ShiftedPaths.{shifted_path}
 use Rattle.cf_build.proofs.Values.{Keeps, have_append, number_alone, from_zero, greater_is_absolute}
 
 -- the pick overflows exactly where the path passes the limit, and else is its outcome

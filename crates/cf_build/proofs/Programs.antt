@@ -23,7 +23,7 @@ use Rattle.cf_program.proofs.PlainTypes.{IsTypedDef, AreTypedDefs}
 use Rattle.cf_build.specs.Codes.{code_of, called, codes_behind}
 use Rattle.cf_tree.specs.ChooseTree.{ChooseTree}
 use Rattle.cf_build.specs.Chooses.{chooses_in, all_chooses}
-use Rattle.cf_build.specs.Shifted.{HasLevels}
+use Rattle.cf_shift.specs.Shifted.{HasLevels}
 use Rattle.cf_program.specs.NoMatch.{HasNoMatch}
 use Rattle.cf_match.proofs.NoMatchLaws.{lowered_same}
 use Rattle.cf_build.specs.Solves.{IsSolveOf}

@@ -8,7 +8,7 @@ use Rattle.cf_tree.specs.Typing.{IsTypedCode}
 use Rattle.cf_tree.specs.Values.{Value, HaveBases}
 use Rattle.cf_tree.specs.declared.target.RawTarget.{RawTarget}
 use Rattle.cf_pass.specs.Improves.{IsNoWorse, Improves}
-use Rattle.cf_growth.specs.Meeting.{AreSmall}
+use Rattle.cf_shift.specs.Meeting.{AreSmall}
 use Rattle.cf_build.specs.Rewritten.{IsRewritten}
 use Rattle.cf_build.specs.Built.{IsBuilt, SourceAllows}
 use Rattle.cf_build.specs.Runs.{RunsAsPicked}

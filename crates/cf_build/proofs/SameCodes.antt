@@ -8,7 +8,7 @@ use Rattle.cf_tree.specs.Params.{bases_of, names_of}
 use Rattle.cf_build.specs.Codes.{absolute_code, call_code, code_of, codes_of_all, called, codes_behind}
 use Rattle.cf_tree.specs.ChooseTree.{ChooseTree}
 use Rattle.cf_build.specs.Chooses.{chooses_in, chooses_in_all}
-use Rattle.cf_build.specs.Shifted.{shifted}
+use Rattle.cf_shift.specs.Shifted.{shifted}
 use Rattle.cf_build.specs.Solves.{chooses_of}
 
 module _ (s t : ChooseTree → CodeTree) where

@@ -13,7 +13,7 @@ use Rattle.cf_tree.specs.Values.{Value, Outcome, HaveBases}
 use Rattle.cf_pass.specs.Improves.{Improves}
 use Rattle.cf_program.specs.Lowered.{lowered_def}
 use Rattle.cf_tree.specs.Params.{bases_of}
-use Rattle.cf_growth.specs.Meeting.{AreSmall}
+use Rattle.cf_shift.specs.Meeting.{AreSmall}
 use Rattle.cf_build.specs.declared.fault.BuildFault.{BuildFault}
 use Rattle.cf_build.specs.Codes.{called, codes_behind}
 use Rattle.cf_tree.specs.ChooseTree.{ChooseTree}

@@ -12,7 +12,7 @@ use Rattle.cf_build.specs.declared.choose_codes.ChooseCode.{ChooseCode}
 use Rattle.cf_build.specs.declared.solves.SolvedChoose.{SolvedChoose}
 use Rattle.cf_tree.specs.Params.{bases_of, names_of}
 use Rattle.cf_tree.specs.ChooseTree.{ChooseTree}
-use Rattle.cf_build.specs.Shifted.{shifted, all_shifted}
+use Rattle.cf_shift.specs.Shifted.{shifted, all_shifted}
 
 abbrev pub two : CodeTree → CodeTree → CodeTrees
 two a b = code_more a (code_more b no_codes)

@@ -3,6 +3,5 @@ pub mod Codes
 pub mod Lowering
 pub mod Chooses
 pub mod Runs
-pub mod Shifted
 pub mod Solves
 pub mod Rewritten

@@ -6,10 +6,10 @@ ghost use Rattle.cf_tree.specs.CodeView.{code_tree, code_trees};
 ghost use Rattle.cf_tree.specs.DefView.{def_tree};
 ghost use Rattle.cf_tree.specs.ExprView.{expr_tree, expr_trees};
 ghost use Rattle.cf_build.specs.Codes.{two, over_list, over_one, binary_code, joined_code, call_code, called, choose_code, code_among, codes_among, codes_behind, numbered, solved_in};
-ghost use Rattle.cf_build.specs.Shifted.{shifted, HasLevels, HaveLevels, IsLevelled, AreLevelled};
+ghost use Rattle.cf_shift.specs.Shifted.{shifted, HasLevels, HaveLevels, IsLevelled, AreLevelled};
 
 use crate::choose_codes::ChooseCodes;
-use crate::shift::{first_level, shift};
+use cf_shift::{first_level, shift};
 use cf_tree::{BinOp, Code, Def, Expr, NoMemory, add_u32, to_u32};
 use std::alloc::Global;
 

@@ -7,7 +7,6 @@ mod chooses;
 mod codes;
 mod fault;
 mod rewrite;
-mod shift;
 mod solves;
 
 ghost use Rattle.cf_build.specs.Lowering.{LoweringKeepsChooses};

@@ -7,7 +7,6 @@ pub mod EndLaws
 pub mod Examples
 pub mod FineLaws
 pub mod LetLaws
-pub mod MeetingLaws
 pub mod MergeGrowth
 pub mod MetCodes
 pub mod NormLaws

@@ -21,8 +21,8 @@ use Rattle.cf_choose.specs.Laws.{IsUnrefused}
 use Rattle.cf_choose.specs.Solved.{IsOf}
 use Rattle.cf_choose.proofs.ArmBuilderLemmas.{length_have}
 use Rattle.cf_choose.proofs.DefinedArms.{unrefused_solve, unrefused_typed}
-use Rattle.cf_growth.specs.Meeting.{AreSmall}
-use Rattle.cf_growth.proofs.MeetingLaws.{given_are_met}
+use Rattle.cf_shift.specs.Meeting.{AreSmall}
+use Rattle.cf_shift.proofs.MeetingLaws.{given_are_met}
 use Rattle.cf_late.specs.declared.outcome.LateOutcome.{LateOutcome as DeclaredLateOutcome}
 use Rattle.cf_late.specs.At.{rel_known}
 use Rattle.cf_late.specs.ChooseRun.{comes_to, overflow, refused, solve_run, choose_run, late_choose}

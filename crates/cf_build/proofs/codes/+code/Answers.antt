@@ -8,11 +8,11 @@ use Rattle.cf_tree.specs.ExprView.{expr_tree, expr_trees}
 use Rattle.cf_tree.specs.declared.code.Code.{Tuple, the_lemmas}
 use Rattle.cf_tree.specs.declared.expr.Expr.{the_lemmas as expr_lemmas}
 use Rattle.cf_build.specs.Codes.{called, choose_code, code_among, codes_among, codes_behind, solved_in}
-use Rattle.cf_build.specs.Shifted.{shifted, HasLevels}
+use Rattle.cf_shift.specs.Shifted.{shifted, HasLevels}
 use Rattle.cf_build.proofs.CalledCodes.{callee_code, callee_falls, callee_none}
 use Rattle.cf_build.proofs.CodeLists.{binary_among, both_hold, call_among}
 use Rattle.cf_build.proofs.LoopSteps.{exprs_at_end}
-use Rattle.cf_build.proofs.ShiftLists.{codes_have_levels}
+use Rattle.cf_shift.proofs.ShiftLists.{codes_have_levels}
 use Rattle.cf_build.proofs.codes.+code.Goals as goal
 
 pub all-returns : goal.all-returns

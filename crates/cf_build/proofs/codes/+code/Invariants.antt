@@ -3,7 +3,7 @@ use Rattle.cf_tree.specs.CodeView.{code_tree}
 use Rattle.cf_tree.specs.DefView.{def_tree}
 use Rattle.cf_tree.specs.ExprView.{expr_tree}
 use Rattle.cf_build.specs.Codes.{choose_code, code_among}
-use Rattle.cf_build.specs.Shifted.{HasLevels}
+use Rattle.cf_shift.specs.Shifted.{HasLevels}
 use Rattle.cf_build.proofs.CalledCodes.{sizes}
 use Rattle.cf_build.proofs.codes.+code.Given as goal
 

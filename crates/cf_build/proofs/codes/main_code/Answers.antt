@@ -2,7 +2,7 @@ use Rattle.std.proofs.Common.{◌∙◌, [], map}
 use Rattle.std.proofs.lemmas.Result.{IfOk-weaker}
 use Rattle.cf_tree.specs.DefView.{def_tree}
 use Rattle.cf_build.specs.Codes.{called, choose_code, codes_behind, solved_in}
-use Rattle.cf_build.proofs.ShiftedNone.{shifted_none}
+use Rattle.cf_shift.proofs.ShiftedNone.{shifted_none}
 use Rattle.cf_build.proofs.codes.main_code.Goals as goal
 
 pub returns-clause-code : goal.returns-clause-code

@@ -1,14 +1,18 @@
 //! Code behind more variables.
 ghost use Rattle.std.specs.Prelude.{◌≡◌, ◌+◌, ◌<◌, ◌^◌, IfOk};
 ghost use Rattle.cf_tree.specs.CodeView.{code_tree, item_tree, arm_tree, code_trees, item_trees, arm_trees};
-ghost use Rattle.cf_build.specs.Shifted.{shifted, all_shifted, item_shifted, items_shifted, arm_shifted, arms_shifted, IsLevelled, AreLevelled, ItemIsLevelled, ItemsAreLevelled, ArmIsLevelled, ArmsAreLevelled};
+ghost use Rattle.cf_shift.specs.Shifted.{shifted, all_shifted, item_shifted, items_shifted, arm_shifted, arms_shifted, IsLevelled, AreLevelled, ItemIsLevelled, ItemsAreLevelled, ArmIsLevelled, ArmsAreLevelled};
 
+use crate::code_over_operands;
 use cf_tree::{Arm, Code, Item, NoMemory, add_u32, code_over_list, code_over_one, code_over_three};
 use std::alloc::Global;
 
-// A copy of the code behind `by` more variables.
+/// A copy of the code behind `by` more variables.
+///
+/// # Errors
+/// `NoMemory` also where a level has more than 32 bits.
 #[cycle(shift)]
-pub(crate) fn shift(alloc: Global, code: &Code, by: u32) -> Result<Code, NoMemory>
+pub fn shift(alloc: Global, code: &Code, by: u32) -> Result<Code, NoMemory>
     ensures { IfOk result (λ new. IsLevelled (shifted by (code_tree code.now)) (code_tree new)) }
 {
     match code {
@@ -34,18 +38,7 @@ pub(crate) fn shift(alloc: Global, code: &Code, by: u32) -> Result<Code, NoMemor
             value: boxed(alloc, value, by)?,
             body: boxed(alloc, body, by)?,
         }),
-        Code::Sub(a, b)
-        | Code::Mul(a, b)
-        | Code::And(a, b)
-        | Code::Or(a, b)
-        | Code::Diff(a, b)
-        | Code::Subset(a, b)
-        | Code::Compare {
-            left: a,
-            right: b,
-            ..
-        }
-        | Code::Fresh { avoid: a, n: b } => {
+        code_over_operands!(a, b) => {
             let first = boxed(alloc, a, by)?;
             let second = boxed(alloc, b, by)?;
             Ok(code.over_two(first, second))
@@ -63,8 +56,11 @@ pub(crate) fn shift(alloc: Global, code: &Code, by: u32) -> Result<Code, NoMemor
     }
 }
 
-// The first level of a let behind `by` more variables, where the let's last level fits too.
-pub(crate) fn first_level(by: u32, first: u32, count: u32) -> Result<u32, NoMemory>
+/// The first level of a let of `count` variables behind `by` more.
+///
+/// # Errors
+/// `NoMemory` where its last level has more than 32 bits.
+pub fn first_level(by: u32, first: u32, count: u32) -> Result<u32, NoMemory>
     ensures { IfOk result (λ n. (n ≡ by + first) × (n + count < 2 ^ 32)) }
 {
     let n = add_u32(by, first)?;
@@ -79,8 +75,12 @@ fn boxed(alloc: Global, code: &Code, by: u32) -> Result<Box<Code>, NoMemory>
     Ok(Box::new(alloc, shift(alloc, code, by)?)?)
 }
 
+/// Copies of the codes behind `by` more variables.
+///
+/// # Errors
+/// `NoMemory` also where a level has more than 32 bits.
 #[cycle(shift)]
-fn shift_all(alloc: Global, codes: &[Code], by: u32) -> Result<Vec<Code>, NoMemory>
+pub fn shift_all(alloc: Global, codes: &[Code], by: u32) -> Result<Vec<Code>, NoMemory>
     ensures { IfOk result (λ new. AreLevelled (all_shifted by (code_trees codes.now)) (code_trees new.items)) }
 {
     let mut all = Vec::new(alloc);

@@ -1,7 +1,7 @@
 -- Code whose levels fit behind more variables has levels that fit.
 use Rattle.std.proofs.Common.{ℕ, arith}
 use Rattle.cf_tree.specs.CodeTree.{CodeTree, code_lit, code_truth, code_var, code_set_of, code_tuple, code_sum, code_sub, code_mul, code_neg, code_div, code_mod, code_min, code_max, code_compare, code_divides, code_and, code_or, code_not, code_union, code_inter, code_diff, code_subset, code_card, code_slice, code_fresh, code_if, code_let, code_solve, CodeTrees, no_codes, code_more, let_item, need_item, ItemTrees, no_items, item_more, arm_of, ArmTrees, no_arms, arm_more}
-use Rattle.cf_build.specs.Shifted.{shifted, all_shifted, items_shifted, arms_shifted, HasLevels, HaveLevels, ItemsHaveLevels, ArmsHaveLevels}
+use Rattle.cf_shift.specs.Shifted.{shifted, all_shifted, items_shifted, arms_shifted, HasLevels, HaveLevels, ItemsHaveLevels, ArmsHaveLevels}
 
 mutual
   pub levels_before : (by : ℕ) (c : CodeTree) → HasLevels (shifted by c) → HasLevels c

@@ -1,7 +1,7 @@
 use Rattle.std.proofs.Common.{◌≡◌, map, take, All}
 use Rattle.cf_tree.specs.CodeView.{arm_tree, code_tree, item_tree}
-use Rattle.cf_build.specs.Shifted.{shifted, item_shifted, arm_shifted, HasLevels, ItemHasLevels, ArmHasLevels}
-use Rattle.cf_build.proofs.shift.+shift.Given as goal
+use Rattle.cf_shift.specs.Shifted.{shifted, item_shifted, arm_shifted, HasLevels, ItemHasLevels, ArmHasLevels}
+use Rattle.cf_shift.proofs.behind.+shift.Given as goal
 
 abbrev pub invariant-shift_all-loop-code : goal.invariant-shift_all-loop-code
 invariant-shift_all-loop-code l =

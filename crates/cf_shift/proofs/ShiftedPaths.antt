@@ -6,7 +6,7 @@ use Rattle.cf_tree.specs.CodeTree.{CodeTree, code_lit, code_truth, code_var, cod
 use Rattle.cf_tree.specs.Meaning.{Got, got, none_at, Path, gives_only, gives_truth, then_gives, then_peak, then_path, meets, meets_value, truth_in, number_in, set_in, choose_with, joined_with, if_some, or_later, path, all_path, set_path, sum_path, best_path, join_path, items_path, item_path, arms_path, arm_path, first_from, count_below, tuple_at, meets_all, outcome_of, means}
 use Rattle.cf_tree.specs.Sets.{set_put, set_union, set_inter}
 use Rattle.cf_tree.specs.Values.{Value, number}
-use Rattle.cf_build.specs.Shifted.{shifted, all_shifted, item_shifted, items_shifted, arm_shifted, arms_shifted}
+use Rattle.cf_shift.specs.Shifted.{shifted, all_shifted, item_shifted, items_shifted, arm_shifted, arms_shifted}
 
 -- ---- paths that are the same
 then_same : {A B : Type 0} (p q : Path A) (go ko : A → Path B) → p ≡ q → ((x : A) → go x ≡ ko x) → then_path p go ≡ then_path q ko

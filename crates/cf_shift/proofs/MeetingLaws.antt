@@ -4,8 +4,13 @@ use Rattle.std.specs.Prelude.{unsigned_abs, cond}
 use Rattle.cf_tree.specs.CodeTree.{CodeTree, code_lit, code_truth, code_var, code_set_of, code_tuple, code_sum, code_sub, code_mul, code_neg, code_div, code_mod, code_min, code_max, code_compare, code_divides, code_and, code_or, code_not, code_union, code_inter, code_diff, code_subset, code_card, code_slice, code_fresh, code_if, code_let, code_solve, CodeTrees, no_codes, code_more, ArmTree, arm_of, ArmTrees, no_arms, arm_more}
 use Rattle.cf_tree.specs.Meaning.{Got, got, none_at, Path, then_gives, then_peak, then_path, gives_only, if_some, or_later, or_none, first_from, path, all_path, set_path, sum_path, best_path, join_path, items_path, arm_path, arms_path, meets, meets_value, meets_all, tuple_at, number_in, truth_in}
 use Rattle.cf_tree.specs.Values.{Value, number, truth, elements, value_at}
-use Rattle.cf_choose.proofs.ItemLemmas.{some_once, none_is_some}
-use Rattle.cf_growth.specs.Meeting.{AreSmall, GivenAreMet}
+use Rattle.cf_shift.specs.Meeting.{AreSmall, GivenAreMet}
+
+some_once : (e e' : List Value) → got (Some e) ≡ got (Some e') → e ≡ e'
+some_once e e' h = cc
+
+none_is_some : (e : List Value) → got None ≡ got (Some e) → ⊥
+none_is_some e h = cc
 
 stop_not : {A : Type 0} (k : ℕ) (x : A) → none_at k ≡ got x → ⊥
 stop_not k x e = cc
@@ -19,7 +24,7 @@ small_append n (x ∷ xs) ys h k = (h.0, small_append n xs ys h.1 k)
 
 -- ---- paths
 -- what the path gives is at most what is met
-abbrev IsOwn : Path (List Value) → Type 0
+abbrev pub IsOwn : Path (List Value) → Type 0
 IsOwn p = (n : ℕ) → p.peak ≤ n → (vs : List Value) → p.gives ≡ got vs → AreSmall n vs
 
 abbrev IsOwnFound : Path (Option (List Value)) → Type 0
@@ -113,7 +118,7 @@ first_small n (y ∷ ys) s = s.0
 
 -- ---- codes
 mutual
-  path_own : (c : CodeTree) (env : List Value) → IsOwn (path c env)
+  pub path_own : (c : CodeTree) (env : List Value) → IsOwn (path c env)
   path_own (code_lit k) env = meets_own k
   path_own (code_truth t) env = truth_own t
   path_own (code_var x) env = value_own (value_at env x)

@@ -5,7 +5,7 @@ use Rattle.cf_tree.specs.declared.base.Base.{Base}
 use Rattle.cf_tree.specs.declared.base.Base.TheVariants.{Int}
 use Rattle.cf_tree.specs.CodeTree.{CodeTree, code_lit, code_truth, code_var, code_set_of, code_tuple, code_sum, code_sub, code_mul, code_neg, code_div, code_mod, code_min, code_max, code_compare, code_divides, code_and, code_or, code_not, code_union, code_inter, code_diff, code_subset, code_card, code_slice, code_fresh, code_if, code_let, code_solve, CodeTrees, no_codes, code_more, let_item, need_item, ItemTrees, no_items, item_more, arm_of, ArmTrees, no_arms, arm_more, count}
 use Rattle.cf_tree.specs.Typing.{IsGiven, HasNoSolve, HaveNoSolve, ItemsHaveNoSolve, HasBases, AllHave, PartsHave, ItemsHave, ArmsHave}
-use Rattle.cf_build.specs.Shifted.{shifted, all_shifted, items_shifted, arms_shifted}
+use Rattle.cf_shift.specs.Shifted.{shifted, all_shifted, items_shifted, arms_shifted}
 
 pub slice_get_behind : (front scope : List Base) (x : ℕ) → slice_get (front ++ scope) (length front + x) ≡ slice_get scope x
 slice_get_behind [] scope x = ap (λ i. slice_get scope i) (zero-add x)

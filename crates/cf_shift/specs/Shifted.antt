@@ -1,6 +1,8 @@
 -- Code whose levels are greater, and whose levels fit 32 bits.
-use Rattle.std.specs.Prelude.{ℕ, ◌+◌, ◌^◌, ◌<◌, ◌≤◌, ◌≡◌}
+use Rattle.std.specs.Prelude.{ℕ, ◌+◌, ◌^◌, ◌<◌, ◌≤◌, ◌≡◌, List, ◌++◌, length}
 use Rattle.cf_tree.specs.CodeTree.{CodeTree, code_lit, code_truth, code_var, code_set_of, code_tuple, code_sum, code_sub, code_mul, code_neg, code_div, code_mod, code_min, code_max, code_compare, code_divides, code_and, code_or, code_not, code_union, code_inter, code_diff, code_subset, code_card, code_slice, code_fresh, code_if, code_let, code_solve, CodeTrees, no_codes, code_more, ItemTree, let_item, need_item, ItemTrees, no_items, item_more, ArmTree, arm_of, ArmTrees, no_arms, arm_more}
+use Rattle.cf_tree.specs.Meaning.{path}
+use Rattle.cf_tree.specs.Values.{Value}
 
 -- the same code behind so many more variables
 abbrev mutual
@@ -122,3 +124,7 @@ ArmIsLevelled a b = (b ≡ a) × ArmHasLevels b
 
 abbrev pub ArmsAreLevelled : ArmTrees → ArmTrees → Type 0
 ArmsAreLevelled arms brms = (brms ≡ arms) × ArmsHaveLevels brms
+
+-- behind more variables a code has the path that it has without them
+abbrev pub ShiftedAreSame : Type 0
+ShiftedAreSame = (front env : List Value) (c : CodeTree) → path (shifted (length front) c) (front ++ env) ≡ path c env

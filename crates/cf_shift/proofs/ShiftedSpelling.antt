@@ -2,8 +2,8 @@
 use Rattle.std.proofs.Common.{◌≡◌, ℕ, refl}
 use Rattle.cf_tree.specs.CodeTree.{CodeTree, code_lit, code_truth, code_var, code_set_of, code_tuple, code_sum, code_sub, code_mul, code_neg, code_div, code_mod, code_min, code_max, code_compare, code_divides, code_and, code_or, code_not, code_union, code_inter, code_diff, code_subset, code_card, code_slice, code_fresh, code_if, code_let, code_solve, CodeTrees, no_codes, code_more, ItemTree, let_item, need_item, ItemTrees, no_items, item_more, ArmTree, arm_of, ArmTrees, no_arms, arm_more, code_depth, codes_depth, item_depth, items_depth, arm_depth, arms_depth}
 use Rattle.cf_tree.specs.Spelled.{IsNoTuple, AreGives, IsSpelled, AreSpelled, AreItemsSpelled, AreArmsSpelled}
-use Rattle.cf_build.specs.Shifted.{shifted, all_shifted, item_shifted, items_shifted, arm_shifted, arms_shifted, HasLevels, HaveLevels, ItemsHaveLevels, ArmsHaveLevels}
-use Rattle.cf_build.proofs.ShiftedTyping.{count_shifted}
+use Rattle.cf_shift.specs.Shifted.{shifted, all_shifted, item_shifted, items_shifted, arm_shifted, arms_shifted, HasLevels, HaveLevels, ItemsHaveLevels, ArmsHaveLevels}
+use Rattle.cf_shift.proofs.ShiftedTyping.{count_shifted}
 
 mutual
   pub depth_same : (by : ℕ) (c : CodeTree) → code_depth (shifted by c) ≡ code_depth c

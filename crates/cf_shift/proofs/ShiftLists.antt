@@ -1,12 +1,13 @@
 -- Lists of codes, of items and of arms behind more variables.
-use Rattle.std.proofs.Common.{◌≡◌, ℕ, List, [], ◌∷◌, map, All, refl, ap}
+use Rattle.std.proofs.Common.{◌≡◌, ℕ, ◌≤◌, List, [], ◌∷◌, length, map, take, All, refl, ap, ◌∙◌}
+use Rattle.std.proofs.lemmas.List.{take_all}
 use Rattle.std.proofs.lemmas.List.Elements.{All-head, All-tail}
 use Rattle.cf_tree.specs.CodeTree.{CodeTree, code_more, ItemTree, item_more, ArmTree, arm_more, codes_of, items_of, arms_of}
 use Rattle.cf_tree.specs.CodeView.{code_tree, item_tree, arm_tree, code_trees, item_trees, arm_trees}
 use Rattle.cf_tree.specs.declared.code.Code.{Code}
 use Rattle.cf_tree.specs.declared.code.Item.{Item}
 use Rattle.cf_tree.specs.declared.code.Arm.{Arm}
-use Rattle.cf_build.specs.Shifted.{shifted, all_shifted, item_shifted, items_shifted, arm_shifted, arms_shifted, HasLevels, HaveLevels, ItemHasLevels, ItemsHaveLevels, ArmHasLevels, ArmsHaveLevels}
+use Rattle.cf_shift.specs.Shifted.{shifted, all_shifted, item_shifted, items_shifted, arm_shifted, arms_shifted, HasLevels, HaveLevels, ItemHasLevels, ItemsHaveLevels, ArmHasLevels, ArmsHaveLevels}
 
 pub codes_shifted : (by : ℕ) (cs : List CodeTree) → codes_of (map (λ c. shifted by c) cs) ≡ all_shifted by (codes_of cs)
 codes_shifted by [] = refl
@@ -31,3 +32,18 @@ items_have_levels (i ∷ is) h = (All-head (λ i. ItemHasLevels (item_tree i)) i
 pub arms_have_levels : (arms : List Arm) → All (λ a. ArmHasLevels (arm_tree a)) arms → ArmsHaveLevels (arm_trees arms)
 arms_have_levels [] h = tt
 arms_have_levels (a ∷ arms) h = (All-head (λ a. ArmHasLevels (arm_tree a)) a arms h, arms_have_levels arms (All-tail (λ a. ArmHasLevels (arm_tree a)) a arms h))
+
+-- ---- the ends of loops
+pub codes_at_end : (by : ℕ) (cs done : List Code) (i : ℕ) → length cs ≤ i → map code_tree done ≡ map (λ c. shifted by c) (map code_tree (take i cs)) →
+    code_trees done ≡ all_shifted by (code_trees cs)
+codes_at_end by cs done i l h = ap codes_of (h ∙ ap (λ xs. map (λ c. shifted by c) (map code_tree xs)) (take_all i cs l)) ∙ codes_shifted by (map code_tree cs)
+
+pub items_at_end : (by : ℕ) (is done : List Item) (i : ℕ) → length is ≤ i → map item_tree done ≡ map (λ c. item_shifted by c) (map item_tree (take i is)) →
+    item_trees done ≡ items_shifted by (item_trees is)
+items_at_end by is done i l h = ap items_of (h ∙ ap (λ xs. map (λ c. item_shifted by c) (map item_tree xs)) (take_all i is l)) ∙
+    list_items_shifted by (map item_tree is)
+
+pub arms_at_end : (by : ℕ) (arms done : List Arm) (i : ℕ) → length arms ≤ i → map arm_tree done ≡ map (λ a. arm_shifted by a) (map arm_tree (take i arms)) →
+    arm_trees done ≡ arms_shifted by (arm_trees arms)
+arms_at_end by arms done i l h = ap arms_of (h ∙ ap (λ xs. map (λ a. arm_shifted by a) (map arm_tree xs)) (take_all i arms l)) ∙
+    list_arms_shifted by (map arm_tree arms)

@@ -1,7 +1,6 @@
 use Rattle.std.proofs.Common.{arith}
-use Rattle.cf_build.proofs.LoopSteps.{codes_at_end, items_at_end, arms_at_end}
-use Rattle.cf_build.proofs.ShiftLists.{codes_have_levels, items_have_levels, arms_have_levels}
-use Rattle.cf_build.proofs.shift.+shift.Goals as goal
+use Rattle.cf_shift.proofs.ShiftLists.{codes_have_levels, items_have_levels, arms_have_levels, codes_at_end, items_at_end, arms_at_end}
+use Rattle.cf_shift.proofs.behind.+shift.Goals as goal
 
 pub shift_all-returns : goal.shift_all-returns
 shift_all-returns t c = (

@@ -1,0 +1,316 @@
+//! Code as statements.
+ghost use Rattle.std.specs.Prelude.{◌≡◌, IfOk};
+ghost use Rattle.cf_tree.specs.CodeTree.{code_tuple, code_var};
+ghost use Rattle.cf_tree.specs.OverParts.{HasTwoParts, over_two, HasThreeParts, over_three};
+ghost use Rattle.cf_tree.specs.CodeView.{code_tree, code_trees, item_tree, item_trees, arm_tree, arm_trees};
+ghost use Rattle.cf_stmt.specs.BlockView.{block_tree};
+ghost use Rattle.cf_shift.specs.Shifted.{shifted, all_shifted};
+ghost use Rattle.cf_stmt.specs.Blocks.{give, part as a_part, bind as bind_of, join as join_of, test as test_of};
+ghost use Rattle.cf_stmt.specs.Fitting.{fits, plain};
+ghost use Rattle.cf_stmt.specs.Made.{plain_or, stay, block_at, tuple_block, arms_block, arm_block, items_block, item_block};
+
+use crate::block::Block;
+use crate::expression::{all_fit, fits};
+use cf_shift::{shift, shift_all};
+use cf_tree::{Arm, Code, Item, NoMemory, add_u32, code_leaf, code_over_one};
+use std::alloc::Global;
+
+// The code itself behind `n` more variables.
+fn give(alloc: Global, code: &Code, n: u32) -> Result<Box<Block>, NoMemory>
+    ensures { IfOk result (λ b. block_tree b.value ≡ give (shifted n (code_tree code.now))) }
+{
+    Ok(Box::new(alloc, Block::Give(shift(alloc, code, n)?))?)
+}
+
+fn bind(alloc: Global, a: Box<Block>, b: Box<Block>) -> Result<Box<Block>, NoMemory>
+    ensures { IfOk result (λ r. block_tree r.value ≡ bind_of (block_tree a.value) (block_tree b.value)) }
+{
+    Ok(Box::new(alloc, Block::Bind(a, b))?)
+}
+
+fn join(alloc: Global, a: Box<Block>, b: Box<Block>) -> Result<Box<Block>, NoMemory>
+    ensures { IfOk result (λ r. block_tree r.value ≡ join_of (block_tree a.value) (block_tree b.value)) }
+{
+    Ok(Box::new(alloc, Block::Join(a, b))?)
+}
+
+fn test(
+    alloc: Global,
+    test: Box<Block>,
+    yes: Box<Block>,
+    no: Box<Block>,
+) -> Result<Box<Block>, NoMemory>
+    ensures { IfOk result (λ r. block_tree r.value ≡ test_of (block_tree test.value) (block_tree yes.value) (block_tree no.value)) }
+{
+    Ok(Box::new(alloc, Block::Test { test, yes, no })?)
+}
+
+// The block of a code behind `n` more variables.
+#[cycle(walk)]
+pub(crate) fn block_of(alloc: Global, code: &Code, n: u32) -> Result<Box<Block>, NoMemory>
+    ensures { IfOk result (λ b. block_tree b.value ≡ block_at plain n (code_tree code.now)) }
+{
+    match code {
+        Code::Tuple(parts) => {
+            if all_fit(parts, 0) {
+                return give(alloc, code, n);
+            }
+            tuple_block(alloc, parts, n)
+        }
+        Code::Let { value, body, .. } => {
+            let a = block_of(alloc, value, n)?;
+            let b = block_of(alloc, body, n)?;
+            bind(alloc, a, b)
+        }
+        Code::If { test: t, yes, no } => {
+            if fits(code, 0) {
+                return give(alloc, code, n);
+            }
+            let t = block_of(alloc, t, n)?;
+            let a = block_of(alloc, yes, n)?;
+            let b = block_of(alloc, no, n)?;
+            test(alloc, t, a, b)
+        }
+        Code::And(a, b) => {
+            if fits(code, 0) {
+                return give(alloc, code, n);
+            }
+            let t = block_of(alloc, a, n)?;
+            let a = block_of(alloc, b, n)?;
+            let b = Box::new(alloc, Block::Give(Code::Truth(false)))?;
+            test(alloc, t, a, b)
+        }
+        Code::Solve { number, arms } => {
+            let last = Box::new(alloc, Block::Stop(*number))?;
+            arms_block(alloc, arms, n, last)
+        }
+        Code::Or(a, b) => {
+            if fits(code, 0) {
+                return give(alloc, code, n);
+            }
+            let t = block_of(alloc, a, n)?;
+            let a = Box::new(alloc, Block::Give(Code::Truth(true)))?;
+            let b = block_of(alloc, b, n)?;
+            test(alloc, t, a, b)
+        }
+        code_over_one!(a) => {
+            if fits(code, 0) {
+                return give(alloc, code, n);
+            }
+            let a = block_of(alloc, a, n)?;
+            let x = variable(alloc, 0)?;
+            part_of(alloc, a, code.over_one(x))
+        }
+        Code::Sub(a, b)
+        | Code::Mul(a, b)
+        | Code::Diff(a, b)
+        | Code::Subset(a, b)
+        | Code::Compare {
+            left: a,
+            right: b,
+            ..
+        }
+        | Code::Fresh { avoid: a, n: b } => {
+            if fits(code, 0) {
+                return give(alloc, code, n);
+            }
+            let first = block_of(alloc, a, n)?;
+            let behind = add_u32(n, 1)?;
+            if fits(b, 1) {
+                return part_kept(alloc, code, first, b, behind);
+            }
+            let second = block_of(alloc, b, behind)?;
+            two_parts(alloc, code, first, second)
+        }
+        Code::Slice {
+            set: a,
+            from: b,
+            n: c,
+        } => {
+            if fits(code, 0) {
+                return give(alloc, code, n);
+            }
+            let first = block_of(alloc, a, n)?;
+            let second = block_of(alloc, b, add_u32(n, 1)?)?;
+            let third = block_of(alloc, c, add_u32(n, 2)?)?;
+            three_parts(alloc, code, first, second, third)
+        }
+        code_leaf!() => give(alloc, code, n),
+        Code::SetOf(_)
+        | Code::Sum(_)
+        | Code::Min(_)
+        | Code::Max(_)
+        | Code::Union(_)
+        | Code::Inter(_) => {
+            if fits(code, 0) {
+                return give(alloc, code, n);
+            }
+            // Not written in the study: lists with a part that is no expression.
+            Err(NoMemory)
+        }
+    }
+}
+
+// An operation on two codes, of which the second stays where it is.
+fn part_kept(
+    alloc: Global,
+    code: &Code,
+    first: Box<Block>,
+    b: &Code,
+    behind: u32,
+) -> Result<Box<Block>, NoMemory>
+    requires { HasTwoParts (code_tree code.now) }
+    ensures { IfOk result (λ r. block_tree r.value ≡
+        a_part (block_tree first.value) (give (over_two (code_tree code.now) (code_var 0) (shifted behind (code_tree b.now))))) }
+{
+    let x = variable(alloc, 0)?;
+    let second = Box::new(alloc, shift(alloc, b, behind)?)?;
+    part_of(alloc, first, code.over_two(x, second))
+}
+
+// An operation on two parts.
+fn two_parts(
+    alloc: Global,
+    code: &Code,
+    first: Box<Block>,
+    second: Box<Block>,
+) -> Result<Box<Block>, NoMemory>
+    requires { HasTwoParts (code_tree code.now) }
+    ensures { IfOk result (λ r. block_tree r.value ≡
+        a_part (block_tree first.value) (a_part (block_tree second.value) (give (over_two (code_tree code.now) (code_var 1) (code_var 0))))) }
+{
+    let x = variable(alloc, 1)?;
+    let y = variable(alloc, 0)?;
+    let rest = part_of(alloc, second, code.over_two(x, y))?;
+    part(alloc, first, rest)
+}
+
+// An operation on three parts.
+fn three_parts(
+    alloc: Global,
+    code: &Code,
+    first: Box<Block>,
+    second: Box<Block>,
+    third: Box<Block>,
+) -> Result<Box<Block>, NoMemory>
+    requires { HasThreeParts (code_tree code.now) }
+    ensures { IfOk result (λ r. block_tree r.value ≡
+        a_part (block_tree first.value) (a_part (block_tree second.value) (a_part (block_tree third.value)
+        (give (over_three (code_tree code.now) (code_var 2) (code_var 1) (code_var 0)))))) }
+{
+    let x = variable(alloc, 2)?;
+    let y = variable(alloc, 1)?;
+    let z = variable(alloc, 0)?;
+    let rest = part_of(alloc, third, code.over_three(x, y, z))?;
+    let rest = part(alloc, second, rest)?;
+    part(alloc, first, rest)
+}
+
+fn variable(alloc: Global, level: u32) -> Result<Box<Code>, NoMemory>
+    ensures { IfOk result (λ c. code_tree c.value ≡ code_var level) }
+{
+    Ok(Box::new(alloc, Code::Var(level))?)
+}
+
+fn part(alloc: Global, a: Box<Block>, b: Box<Block>) -> Result<Box<Block>, NoMemory>
+    ensures { IfOk result (λ r. block_tree r.value ≡ a_part (block_tree a.value) (block_tree b.value)) }
+{
+    Ok(Box::new(alloc, Block::Part(a, b))?)
+}
+
+// A part and then a code.
+fn part_of(alloc: Global, a: Box<Block>, code: Code) -> Result<Box<Block>, NoMemory>
+    ensures { IfOk result (λ r. block_tree r.value ≡ a_part (block_tree a.value) (give (code_tree code))) }
+{
+    let last = Box::new(alloc, Block::Give(code))?;
+    part(alloc, a, last)
+}
+
+#[cycle(walk)]
+fn tuple_block(alloc: Global, codes: &[Code], n: u32) -> Result<Box<Block>, NoMemory>
+    ensures { IfOk result (λ b. block_tree b.value ≡ tuple_block plain n (code_trees codes.now)) }
+{
+    let mut block = Box::new(alloc, Block::Give(Code::Tuple(Vec::new(alloc))))?;
+    for back in 0..codes.len() {
+        let code = &codes[codes.len() - 1 - back];
+        let first = block_of(alloc, code, n)?;
+        block = join(alloc, first, block)?;
+    }
+    Ok(block)
+}
+
+// The values of all, at once where all are plain.
+#[cycle(walk)]
+fn gives_block(alloc: Global, codes: &[Code], n: u32) -> Result<Box<Block>, NoMemory>
+    ensures { IfOk result (λ b. block_tree b.value ≡ plain_or (stay (fits 0) (code_trees codes.now))
+        (code_tuple (all_shifted n (code_trees codes.now))) (tuple_block plain n (code_trees codes.now))) }
+{
+    if all_fit(codes, 0) {
+        let all = shift_all(alloc, codes, n)?;
+        return Ok(Box::new(alloc, Block::Give(Code::Tuple(all)))?);
+    }
+    tuple_block(alloc, codes, n)
+}
+
+#[cycle(walk)]
+fn arms_block(alloc: Global, arms: &[Arm], n: u32, last: Box<Block>) -> Result<Box<Block>, NoMemory>
+    ensures { IfOk result (λ b. block_tree b.value ≡ arms_block plain n (arm_trees arms.now) (block_tree last.value)) }
+{
+    let mut block = last;
+    for back in 0..arms.len() {
+        let arm = &arms[arms.len() - 1 - back];
+        block = arm_block(alloc, arm, n, block)?;
+    }
+    Ok(block)
+}
+
+#[cycle(walk)]
+fn arm_block(alloc: Global, arm: &Arm, n: u32, later: Box<Block>) -> Result<Box<Block>, NoMemory>
+    ensures { IfOk result (λ b. block_tree b.value ≡ arm_block plain n (arm_tree arm.now) (block_tree later.value)) }
+{
+    let gives = gives_block(alloc, &arm.gives, n)?;
+    let body = items_block(alloc, &arm.items, n, gives)?;
+    let bounds = Vec::from_slice(alloc, &arm.bounds)?;
+    Ok(Box::new(
+        alloc,
+        Block::Arm {
+            bounds,
+            body,
+            later,
+        },
+    )?)
+}
+
+#[cycle(walk)]
+fn items_block(
+    alloc: Global,
+    items: &[Item],
+    n: u32,
+    last: Box<Block>,
+) -> Result<Box<Block>, NoMemory>
+    ensures { IfOk result (λ b. block_tree b.value ≡ items_block plain n (item_trees items.now) (block_tree last.value)) }
+{
+    let mut block = last;
+    for back in 0..items.len() {
+        let item = &items[items.len() - 1 - back];
+        block = item_block(alloc, item, n, block)?;
+    }
+    Ok(block)
+}
+
+#[cycle(walk)]
+fn item_block(alloc: Global, item: &Item, n: u32, then: Box<Block>) -> Result<Box<Block>, NoMemory>
+    ensures { IfOk result (λ b. block_tree b.value ≡ item_block plain n (item_tree item.now) (block_tree then.value)) }
+{
+    match item {
+        Item::Let(code) => {
+            let a = block_of(alloc, code, n)?;
+            bind(alloc, a, then)
+        }
+        Item::Need(code) => {
+            let t = block_of(alloc, code, n)?;
+            let leave = Box::new(alloc, Block::Leave)?;
+            test(alloc, t, then, leave)
+        }
+    }
+}
