@@ -65,7 +65,7 @@ past_bound h = omega (arith, h.0)
 
 -- ---- values whose numbers are at most 5
 small_values : AreSmall 5 (number (pos 5) ∷ number (negsuc 4) ∷ truth true ∷ [])
-small_values = (omega arith, omega arith, omega arith, tt)
+small_values = (omega arith, (omega arith, (omega arith, tt)))
 
 great_value : AreSmall 5 (number (pos 5) ∷ number (negsuc 5) ∷ []) → ⊥
 great_value h = omega (arith, h.1.0)

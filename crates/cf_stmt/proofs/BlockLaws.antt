@@ -1,16 +1,17 @@
 -- The block of a code does what the code does.
-use Rattle.std.proofs.Common.{◌≡◌, ℕ, zero, suc, ℤ, pos, ◌-ℤ◌, ◌*ℤ◌, neg_ℤ, Bool, true, false, not, ◌&&◌, cond, Option, Some, None, List, [], ◌∷◌, ◌++◌, length, refl, sym, ap, ◌∙◌, append_assoc, zero-add}
+use Rattle.std.proofs.Common.{◌≡◌, ℕ, zero, suc, ◌+◌, ℤ, pos, ◌-ℤ◌, ◌*ℤ◌, neg_ℤ, Bool, true, false, not, ◌&&◌, cond, Option, Some, None, List, [], ◌∷◌, ◌++◌, length, refl, sym, ap, subst, ◌∙◌, arith, append_assoc, zero-add}
 use Rattle.std.specs.Int.{int_max, int_min}
-use Rattle.cf_tree.specs.CodeTree.{CodeTree, code_lit, code_truth, code_var, code_set_of, code_tuple, code_sum, code_sub, code_mul, code_neg, code_div, code_mod, code_min, code_max, code_compare, code_divides, code_and, code_or, code_not, code_union, code_inter, code_diff, code_subset, code_card, code_slice, code_fresh, code_if, code_let, code_solve, CodeTrees, no_codes, code_more, ItemTree, let_item, need_item, ItemTrees, no_items, item_more, ArmTree, arm_of, ArmTrees, no_arms, arm_more}
+use Rattle.cf_tree.specs.CodeTree.{CodeTree, code_lit, code_truth, code_var, code_set_of, code_tuple, code_sum, code_sub, code_mul, code_neg, code_div, code_mod, code_min, code_max, code_compare, code_divides, code_and, code_or, code_not, code_union, code_inter, code_diff, code_subset, code_card, code_slice, code_fresh, code_if, code_let, code_solve, CodeTrees, no_codes, code_more, ItemTree, let_item, need_item, ItemTrees, no_items, item_more, ArmTree, arm_of, ArmTrees, no_arms, arm_more, count}
 use Rattle.cf_tree.specs.Meaning.{Path, gives_only, gives_truth, gives_set, meets, meets_set, meets_value, no_solution_at, then_path, if_some, or_later, or_none, first_from, count_below, tuple_at, meets_all, choose_with, chosen, joined_with, joined, number_in, truth_in, set_in, path, all_path, set_path, sum_path, best_path, join_path, item_path, items_path, arm_path, arms_path}
 use Rattle.cf_tree.specs.Numbers.{quotient, remainder, is_multiple, count_of}
 use Rattle.cf_tree.specs.Sets.{set_put, set_union, set_inter, set_diff, is_subset, set_slice, set_fresh}
 use Rattle.cf_tree.specs.Values.{Value, first_of, compared}
-use Rattle.cf_stmt.specs.Blocks.{Block, give, none, leave, bind, part, test, arm, given, exec, plain_or, are_plain, vars_then, two_codes, block_at, two_block, parts_block, sum_block, sum_more, tuple_block, append, arms_block, arm_block, items_block, item_block, block_of}
+use Rattle.cf_stmt.specs.Blocks.{Block, give, none, leave, bind, part, test, arm, given, exec}
+use Rattle.cf_stmt.specs.Made.{Plain, plain_or, stay, vars_then, two_codes, block_at, two_block, bound_parts, sum_block, sum_more, tuple_block, append, arms_block, arm_block, items_block, item_block, block_of}
 use Rattle.cf_shift.specs.Meeting.{AreSmall}
 use Rattle.cf_shift.specs.Shifted.{shifted, all_shifted}
 use Rattle.cf_shift.proofs.MeetingLaws.{path_own}
-use Rattle.cf_stmt.proofs.Parts.{Found, Folds, after, read_all, all_behind, one_done, two_kept, two_done, three_done, either_part, either_block, then_small, then_from, first_small, still_small}
+use Rattle.cf_stmt.proofs.Parts.{Found, Folds, after, read_all, one_done, two_kept, two_done, three_done, either_part, then_small, then_from, first_small, still_small}
 use Rattle.cf_stmt.proofs.Paths.{from, from_zero, then_then, then_alike, only_then, given_then, goes_on, if_alike, if_then, later_alike, later_later, later_none, first_alike, some_then, need_then}
 use Rattle.cf_shift.proofs.ShiftedPaths.{shifted_path}
 use Rattle.cf_stmt.proofs.Sums.{all_from, joins, either_elim, sum_ends, sum_one_more, sum_first, sum_of_two, sum_of_one}
@@ -57,46 +58,57 @@ two_parts t ba bb a b front env op f law same half h k =
     (λ v w. law (code_var 1) (code_var 0) (w ∷ (v ∷ (front ++ env)))) (path_own a env) (path_own b env) same)
     ∙ ap (λ p. then_path p given) (sym (law a b env))
 
--- variables and codes that stay where they are
-parts_kept : (Z : Type 0) (go : CodeTrees → List Value → Z → Path (List Value)) (step : Z → List Value → Z)
+-- an operation on the variables of all its parts
+parts_read : (Z : Type 0) (go : CodeTrees → List Value → Z → Path (List Value)) (step : Z → List Value → Z)
     (last : Z → Path (List Value)) (folds : Folds Z go step last) (z : Z) (op : CodeTrees → CodeTree) →
-    ((ds : CodeTrees) (e : List Value) → path (op ds) e ≡ go ds e z) → (rs outer env : List Value) (k : ℕ) → AreSmall k rs → (cs : CodeTrees) →
-    from k (exec (give (op (vars_then 0 (length rs) (all_shifted (length (rs ++ outer)) cs)))) ((rs ++ outer) ++ env))
-    ≡ from k (then_path (go cs env (after Z go step last folds z rs)) given)
-parts_kept Z go step last folds z op law rs outer env k s cs =
-    then_from k (path (op (vars_then 0 (length rs) (all_shifted (length (rs ++ outer)) cs))) ((rs ++ outer) ++ env))
-    (go cs env (after Z go step last folds z rs)) given
-    (ap (from k) (law (vars_then 0 (length rs) (all_shifted (length (rs ++ outer)) cs)) ((rs ++ outer) ++ env))
-    ∙ (read_all Z go step last folds z rs (outer ++ env) ((rs ++ outer) ++ env) 0 (all_shifted (length (rs ++ outer)) cs) k s
-    (λ t. rw (append_assoc rs outer env, zero-add t) refl)
-    ∙ ap (from k) (all_behind Z go step last folds z cs (rs ++ outer) env (after Z go step last folds z rs))))
+    ((ds : CodeTrees) (e : List Value) → path (op ds) e ≡ go ds e z) → (rs outer env : List Value) (k : ℕ) → AreSmall k rs →
+    from k (exec (give (op (vars_then 0 (length rs) no_codes))) ((rs ++ outer) ++ env))
+    ≡ from k (then_path (go no_codes env (after Z go step last folds z rs)) given)
+parts_read Z go step last folds z op law rs outer env k s =
+    then_from k (path (op (vars_then 0 (length rs) no_codes)) ((rs ++ outer) ++ env)) (go no_codes env (after Z go step last folds z rs)) given
+    (ap (from k) (law (vars_then 0 (length rs) no_codes) ((rs ++ outer) ++ env))
+    ∙ (read_all Z go step last folds z rs (outer ++ env) ((rs ++ outer) ++ env) 0 no_codes k s (λ t. rw (append_assoc rs outer env, zero-add t) refl)
+    ∙ ap (from k) (folds.nil ((rs ++ outer) ++ env) (after Z go step last folds z rs) ∙ sym (folds.nil env (after Z go step last folds z rs)))))
 
 -- the block of a code does what the code does
-abbrev Does : (CodeTree → Bool) → CodeTree → Type 0
+abbrev Does : Plain → CodeTree → Type 0
 Does plain c = (front env : List Value) → exec (block_at plain (length front) c) (front ++ env) ≡ then_path (path c env) given
 
-abbrev EachDoes : (CodeTree → Bool) → CodeTrees → Type 0
+abbrev EachDoes : Plain → CodeTrees → Type 0
 EachDoes plain no_codes = Unit {0}
 EachDoes plain (code_more c cs) = Does plain c × EachDoes plain cs
 
-module _ (plain : CodeTree → Bool) where
+none_yet : (n : ℕ) → n ≡ 0 + n
+none_yet n = sym (zero-add n)
+
+module _ (plain : Plain) where
   -- parts
   does_parts : (cs : CodeTrees) → EachDoes plain cs → (Z : Type 0) (go : CodeTrees → List Value → Z → Path (List Value)) (step : Z → List Value → Z)
       (last : Z → Path (List Value)) (folds : Folds Z go step last) (z : Z) (op : CodeTrees → CodeTree) →
       ((ds : CodeTrees) (e : List Value) → path (op ds) e ≡ go ds e z) → (rs outer env : List Value) (k : ℕ) → AreSmall k rs →
-      from k (exec (parts_block plain (length (rs ++ outer)) (length rs) cs op) ((rs ++ outer) ++ env))
+      (j : ℕ) → j ≡ length rs + count cs →
+      from k (exec (bound_parts plain (length (rs ++ outer)) cs (give (op (vars_then 0 j no_codes)))) ((rs ++ outer) ++ env))
       ≡ from k (then_path (go cs env (after Z go step last folds z rs)) given)
-  does_parts no_codes d Z go step last folds z op law rs outer env k s = parts_kept Z go step last folds z op law rs outer env k s no_codes
-  does_parts (code_more c cs) d Z go step last folds z op law rs outer env k s =
-      either_block (plain c && are_plain plain cs) _ _ k ((rs ++ outer) ++ env) _
-      (parts_kept Z go step last folds z op law rs outer env k s (code_more c cs))
-      (ap (from k) (goes_on _ (path c env) _
-      (λ x. exec (parts_block plain (suc (length (rs ++ outer))) (suc (length rs)) cs op) (first_of x ∷ ((rs ++ outer) ++ env))) (d.0 (rs ++ outer) env) (λ x. refl))
+  does_parts no_codes d Z go step last folds z op law rs outer env k s j e =
+      subst (λ i. from k (exec (give (op (vars_then 0 i no_codes))) ((rs ++ outer) ++ env))
+      ≡ from k (then_path (go no_codes env (after Z go step last folds z rs)) given))
+      (sym (e ∙ plus_none (length rs))) (parts_read Z go step last folds z op law rs outer env k s)
+    where
+      plus_none : (i : ℕ) → i + 0 ≡ i
+      plus_none i = omega arith
+  does_parts (code_more c cs) d Z go step last folds z op law rs outer env k s j e =
+      ap (from k) (goes_on _ (path c env) _
+      (λ x. exec (bound_parts plain (suc (length (rs ++ outer))) cs (give (op (vars_then 0 j no_codes)))) (first_of x ∷ ((rs ++ outer) ++ env)))
+      (d.0 (rs ++ outer) env) (λ x. refl))
       ∙ (then_small k (path c env) _ (λ x. then_path (go cs env (step (after Z go step last folds z rs) x)) given) (path_own c env)
-      (λ m x l t. does_parts cs d.1 Z go step last folds z op law (first_of x ∷ rs) outer env m (first_small m x t, still_small k m rs l s)
+      (λ m x l t. does_parts cs d.1 Z go step last folds z op law (first_of x ∷ rs) outer env m (first_small m x t, still_small k m rs l s) j
+      (e ∙ one_on (length rs) (count cs))
       ∙ ap (λ y. from m (then_path (go cs env y) given)) (folds.firsts (after Z go step last folds z rs) x))
       ∙ ap (from k) (sym (then_then (path c env) (λ x. go cs env (step (after Z go step last folds z rs) x)) given)
-      ∙ ap (λ p. then_path p given) (sym (folds.more c cs env (after Z go step last folds z rs))))))
+      ∙ ap (λ p. then_path p given) (sym (folds.more c cs env (after Z go step last folds z rs)))))
+    where
+      one_on : (a b : ℕ) → a + (1 + b) ≡ suc a + b
+      one_on a b = omega arith
 
   does_tuple : (cs : CodeTrees) → EachDoes plain cs → (front env : List Value) →
       exec (tuple_block plain (length front) cs) (front ++ env) ≡ then_path (all_path cs env []) given
@@ -109,7 +121,7 @@ module _ (plain : CodeTree → Bool) where
       ≡ then_path (then_path (sum_path ready (front ++ env) (pos 0)) (λ s. sum_path cs env (number_in s))) given
   does_more no_codes d ready front env = ap (λ p. then_path p given) (sym (sum_ends ready (front ++ env) (pos 0)))
   does_more (code_more c cs) d ready front env =
-      either_elim (plain c) _ _ (front ++ env) _
+      either_elim (plain.part c) _ _ (front ++ env) _
       (does_more cs d.1 (append ready (code_more (shifted (length front) c) no_codes)) front env
       ∙ ap (λ p. then_path p given) (sum_one_more ready c cs front env))
       (goes_on _ (sum_path ready (front ++ env) (pos 0)) _ _ refl (λ s. goes_on _ (path c env) _ _ (d.0 (first_of s ∷ front) env)
@@ -121,7 +133,7 @@ module _ (plain : CodeTree → Bool) where
       exec (sum_block plain (length front) cs) (front ++ env) ≡ then_path (sum_path cs env (pos 0)) given
   does_sum no_codes d front env = refl
   does_sum (code_more c cs) d front env =
-      either_elim (plain c) _ _ (front ++ env) _
+      either_elim (plain.part c) _ _ (front ++ env) _
       (does_more cs d.1 (code_more (shifted (length front) c) no_codes) front env
       ∙ ap (λ p. then_path p given) (sum_first c cs front env))
       (goes_on _ (path c env) _ _ (d.0 front env) (λ x. does_more cs d.1 (code_more (code_var 0) no_codes) (first_of x ∷ front) env)
@@ -130,15 +142,15 @@ module _ (plain : CodeTree → Bool) where
   mutual
     does : (c : CodeTree) (front env : List Value) → exec (block_at plain (length front) c) (front ++ env) ≡ then_path (path c env) given
     does (code_and a b) front env =
-        either (plain (code_and a b)) (code_and a b)
+        either (plain.whole (code_and a b)) (code_and a b)
         (test (block_at plain (length front) a) (block_at plain (length front) b) (give (code_truth false))) front env
         (tests_codes _ _ _ (path a env) (path b env) (gives_truth false) (does a front env) (does b front env) refl)
     does (code_or a b) front env =
-        either (plain (code_or a b)) (code_or a b)
+        either (plain.whole (code_or a b)) (code_or a b)
         (test (block_at plain (length front) a) (give (code_truth true)) (block_at plain (length front) b)) front env
         (tests_codes _ _ _ (path a env) (gives_truth true) (path b env) (does a front env) refl (does b front env))
     does (code_if t a b) front env =
-        either (plain (code_if t a b)) (code_if t a b)
+        either (plain.whole (code_if t a b)) (code_if t a b)
         (test (block_at plain (length front) t) (block_at plain (length front) a) (block_at plain (length front) b)) front env
         (tests_codes _ _ _ (path t env) (path a env) (path b env) (does t front env) (does a front env) (does b front env))
     does (code_let first n a b) front env =
@@ -148,68 +160,68 @@ module _ (plain : CodeTree → Bool) where
         does_arms arms front (none id) env
         ∙ (then_alike (arms_path arms env) _ _ (λ o. later_none id o) ∙ sym (then_then (arms_path arms env) (or_none id) given))
     does (code_neg a) front env =
-        either (plain (code_neg a)) (code_neg a) (part (block_at plain (length front) a) (give (code_neg (code_var 0)))) front env
+        either (plain.whole (code_neg a)) (code_neg a) (part (block_at plain (length front) a) (give (code_neg (code_var 0)))) front env
         (one_done _ (path a env) (λ x. meets (neg_ℤ (number_in x))) (does a front env) (path_own a env))
     does (code_div a k) front env =
-        either (plain (code_div a k)) (code_div a k) (part (block_at plain (length front) a) (give (code_div (code_var 0) k))) front env
+        either (plain.whole (code_div a k)) (code_div a k) (part (block_at plain (length front) a) (give (code_div (code_var 0) k))) front env
         (one_done _ (path a env) (λ x. meets (quotient (number_in x) k)) (does a front env) (path_own a env))
     does (code_mod a k) front env =
-        either (plain (code_mod a k)) (code_mod a k) (part (block_at plain (length front) a) (give (code_mod (code_var 0) k))) front env
+        either (plain.whole (code_mod a k)) (code_mod a k) (part (block_at plain (length front) a) (give (code_mod (code_var 0) k))) front env
         (one_done _ (path a env) (λ x. meets (remainder (number_in x) k)) (does a front env) (path_own a env))
     does (code_divides k a) front env =
-        either (plain (code_divides k a)) (code_divides k a) (part (block_at plain (length front) a) (give (code_divides k (code_var 0)))) front env
+        either (plain.whole (code_divides k a)) (code_divides k a) (part (block_at plain (length front) a) (give (code_divides k (code_var 0)))) front env
         (one_done _ (path a env) (λ x. gives_truth (is_multiple k (number_in x))) (does a front env) (path_own a env))
     does (code_not a) front env =
-        either (plain (code_not a)) (code_not a) (part (block_at plain (length front) a) (give (code_not (code_var 0)))) front env
+        either (plain.whole (code_not a)) (code_not a) (part (block_at plain (length front) a) (give (code_not (code_var 0)))) front env
         (one_done _ (path a env) (λ x. gives_truth (not (truth_in x))) (does a front env) (path_own a env))
     does (code_card a) front env =
-        either (plain (code_card a)) (code_card a) (part (block_at plain (length front) a) (give (code_card (code_var 0)))) front env
+        either (plain.whole (code_card a)) (code_card a) (part (block_at plain (length front) a) (give (code_card (code_var 0)))) front env
         (one_done _ (path a env) (λ x. meets (pos (length (set_in x)))) (does a front env) (path_own a env))
     does (code_sub a b) front env =
-        either (plain (code_sub a b)) (code_sub a b) (two_block (plain b) (block_at plain (length front) a) (block_at plain (suc (length front)) b) (shifted (suc (length front)) b) code_sub) front env
-        (two_parts (plain b) (block_at plain (length front) a) (block_at plain (suc (length front)) b) a b front env code_sub (λ x y. meets (number_in x -ℤ number_in y)) (λ c d e. refl) (λ x y. refl) (λ x y. refl) (does a front env) (λ v. does b (v ∷ front) env))
+        either (plain.whole (code_sub a b)) (code_sub a b) (two_block (plain.part b) (block_at plain (length front) a) (block_at plain (suc (length front)) b) (shifted (suc (length front)) b) code_sub) front env
+        (two_parts (plain.part b) (block_at plain (length front) a) (block_at plain (suc (length front)) b) a b front env code_sub (λ x y. meets (number_in x -ℤ number_in y)) (λ c d e. refl) (λ x y. refl) (λ x y. refl) (does a front env) (λ v. does b (v ∷ front) env))
     does (code_mul a b) front env =
-        either (plain (code_mul a b)) (code_mul a b) (two_block (plain b) (block_at plain (length front) a) (block_at plain (suc (length front)) b) (shifted (suc (length front)) b) code_mul) front env
-        (two_parts (plain b) (block_at plain (length front) a) (block_at plain (suc (length front)) b) a b front env code_mul (λ x y. meets (number_in x *ℤ number_in y)) (λ c d e. refl) (λ x y. refl) (λ x y. refl) (does a front env) (λ v. does b (v ∷ front) env))
+        either (plain.whole (code_mul a b)) (code_mul a b) (two_block (plain.part b) (block_at plain (length front) a) (block_at plain (suc (length front)) b) (shifted (suc (length front)) b) code_mul) front env
+        (two_parts (plain.part b) (block_at plain (length front) a) (block_at plain (suc (length front)) b) a b front env code_mul (λ x y. meets (number_in x *ℤ number_in y)) (λ c d e. refl) (λ x y. refl) (λ x y. refl) (does a front env) (λ v. does b (v ∷ front) env))
     does (code_compare o a b) front env =
-        either (plain (code_compare o a b)) (code_compare o a b) (two_block (plain b) (block_at plain (length front) a) (block_at plain (suc (length front)) b) (shifted (suc (length front)) b) (code_compare o)) front env
-        (two_parts (plain b) (block_at plain (length front) a) (block_at plain (suc (length front)) b) a b front env (code_compare o) (λ x y. gives_truth (compared o (first_of x) (first_of y))) (λ c d e. refl) (λ x y. refl) (λ x y. refl) (does a front env) (λ v. does b (v ∷ front) env))
+        either (plain.whole (code_compare o a b)) (code_compare o a b) (two_block (plain.part b) (block_at plain (length front) a) (block_at plain (suc (length front)) b) (shifted (suc (length front)) b) (code_compare o)) front env
+        (two_parts (plain.part b) (block_at plain (length front) a) (block_at plain (suc (length front)) b) a b front env (code_compare o) (λ x y. gives_truth (compared o (first_of x) (first_of y))) (λ c d e. refl) (λ x y. refl) (λ x y. refl) (does a front env) (λ v. does b (v ∷ front) env))
     does (code_diff a b) front env =
-        either (plain (code_diff a b)) (code_diff a b) (two_block (plain b) (block_at plain (length front) a) (block_at plain (suc (length front)) b) (shifted (suc (length front)) b) code_diff) front env
-        (two_parts (plain b) (block_at plain (length front) a) (block_at plain (suc (length front)) b) a b front env code_diff (λ x y. gives_set (set_diff (set_in x) (set_in y))) (λ c d e. refl) (λ x y. refl) (λ x y. refl) (does a front env) (λ v. does b (v ∷ front) env))
+        either (plain.whole (code_diff a b)) (code_diff a b) (two_block (plain.part b) (block_at plain (length front) a) (block_at plain (suc (length front)) b) (shifted (suc (length front)) b) code_diff) front env
+        (two_parts (plain.part b) (block_at plain (length front) a) (block_at plain (suc (length front)) b) a b front env code_diff (λ x y. gives_set (set_diff (set_in x) (set_in y))) (λ c d e. refl) (λ x y. refl) (λ x y. refl) (does a front env) (λ v. does b (v ∷ front) env))
     does (code_subset a b) front env =
-        either (plain (code_subset a b)) (code_subset a b) (two_block (plain b) (block_at plain (length front) a) (block_at plain (suc (length front)) b) (shifted (suc (length front)) b) code_subset) front env
-        (two_parts (plain b) (block_at plain (length front) a) (block_at plain (suc (length front)) b) a b front env code_subset (λ x y. gives_truth (is_subset (set_in x) (set_in y))) (λ c d e. refl) (λ x y. refl) (λ x y. refl) (does a front env) (λ v. does b (v ∷ front) env))
+        either (plain.whole (code_subset a b)) (code_subset a b) (two_block (plain.part b) (block_at plain (length front) a) (block_at plain (suc (length front)) b) (shifted (suc (length front)) b) code_subset) front env
+        (two_parts (plain.part b) (block_at plain (length front) a) (block_at plain (suc (length front)) b) a b front env code_subset (λ x y. gives_truth (is_subset (set_in x) (set_in y))) (λ c d e. refl) (λ x y. refl) (λ x y. refl) (does a front env) (λ v. does b (v ∷ front) env))
     does (code_fresh a b) front env =
-        either (plain (code_fresh a b)) (code_fresh a b) (two_block (plain b) (block_at plain (length front) a) (block_at plain (suc (length front)) b) (shifted (suc (length front)) b) code_fresh) front env
-        (two_parts (plain b) (block_at plain (length front) a) (block_at plain (suc (length front)) b) a b front env code_fresh (λ x y. meets_set (set_fresh (set_in x) (count_of (number_in y)))) (λ c d e. refl) (λ x y. refl) (λ x y. refl) (does a front env) (λ v. does b (v ∷ front) env))
+        either (plain.whole (code_fresh a b)) (code_fresh a b) (two_block (plain.part b) (block_at plain (length front) a) (block_at plain (suc (length front)) b) (shifted (suc (length front)) b) code_fresh) front env
+        (two_parts (plain.part b) (block_at plain (length front) a) (block_at plain (suc (length front)) b) a b front env code_fresh (λ x y. meets_set (set_fresh (set_in x) (count_of (number_in y)))) (λ c d e. refl) (λ x y. refl) (λ x y. refl) (does a front env) (λ v. does b (v ∷ front) env))
     does (code_set_of cs) front env =
-        either (plain (code_set_of cs)) (code_set_of cs) (parts_block plain (length front) 0 cs code_set_of) front env
+        either (plain.whole (code_set_of cs)) (code_set_of cs) (bound_parts plain (length front) cs (give (code_set_of (vars_then 0 (count cs) no_codes)))) front env
         (sym (from_zero _)
         ∙ (does_parts cs (does_each cs) (List ℤ) set_path (λ z x. set_put (number_in x) z) gives_set (record { nil = λ e z. refl; more = λ c ds e z. refl; firsts = λ z x. refl }) [] code_set_of
-        (λ ds e. refl) [] front env 0 tt ∙ from_zero _))
+        (λ ds e. refl) [] front env 0 tt (count cs) (none_yet (count cs)) ∙ from_zero _))
     does (code_min cs) front env =
-        either (plain (code_min cs)) (code_min cs) (parts_block plain (length front) 0 cs code_min) front env
+        either (plain.whole (code_min cs)) (code_min cs) (bound_parts plain (length front) cs (give (code_min (vars_then 0 (count cs) no_codes)))) front env
         (sym (from_zero _)
         ∙ (does_parts cs (does_each cs) (Option ℤ) (best_path int_min) (λ z x. Some (choose_with int_min z (number_in x))) (λ z. meets (chosen z)) (record { nil = λ e z. refl; more = λ c ds e z. refl; firsts = λ z x. refl }) None code_min
-        (λ ds e. refl) [] front env 0 tt ∙ from_zero _))
+        (λ ds e. refl) [] front env 0 tt (count cs) (none_yet (count cs)) ∙ from_zero _))
     does (code_max cs) front env =
-        either (plain (code_max cs)) (code_max cs) (parts_block plain (length front) 0 cs code_max) front env
+        either (plain.whole (code_max cs)) (code_max cs) (bound_parts plain (length front) cs (give (code_max (vars_then 0 (count cs) no_codes)))) front env
         (sym (from_zero _)
         ∙ (does_parts cs (does_each cs) (Option ℤ) (best_path int_max) (λ z x. Some (choose_with int_max z (number_in x))) (λ z. meets (chosen z)) (record { nil = λ e z. refl; more = λ c ds e z. refl; firsts = λ z x. refl }) None code_max
-        (λ ds e. refl) [] front env 0 tt ∙ from_zero _))
+        (λ ds e. refl) [] front env 0 tt (count cs) (none_yet (count cs)) ∙ from_zero _))
     does (code_union cs) front env =
-        either (plain (code_union cs)) (code_union cs) (parts_block plain (length front) 0 cs code_union) front env
+        either (plain.whole (code_union cs)) (code_union cs) (bound_parts plain (length front) cs (give (code_union (vars_then 0 (count cs) no_codes)))) front env
         (sym (from_zero _)
         ∙ (does_parts cs (does_each cs) (Option (List ℤ)) (join_path set_union) (λ z x. Some (joined_with set_union z (set_in x))) (λ z. gives_set (joined z)) (record { nil = λ e z. refl; more = λ c ds e z. refl; firsts = λ z x. refl }) None code_union
-        (λ ds e. refl) [] front env 0 tt ∙ from_zero _))
+        (λ ds e. refl) [] front env 0 tt (count cs) (none_yet (count cs)) ∙ from_zero _))
     does (code_inter cs) front env =
-        either (plain (code_inter cs)) (code_inter cs) (parts_block plain (length front) 0 cs code_inter) front env
+        either (plain.whole (code_inter cs)) (code_inter cs) (bound_parts plain (length front) cs (give (code_inter (vars_then 0 (count cs) no_codes)))) front env
         (sym (from_zero _)
         ∙ (does_parts cs (does_each cs) (Option (List ℤ)) (join_path set_inter) (λ z x. Some (joined_with set_inter z (set_in x))) (λ z. gives_set (joined z)) (record { nil = λ e z. refl; more = λ c ds e z. refl; firsts = λ z x. refl }) None code_inter
-        (λ ds e. refl) [] front env 0 tt ∙ from_zero _))
+        (λ ds e. refl) [] front env 0 tt (count cs) (none_yet (count cs)) ∙ from_zero _))
     does (code_slice a b c) front env =
-        either (plain (code_slice a b c)) (code_slice a b c)
+        either (plain.whole (code_slice a b c)) (code_slice a b c)
         (part (block_at plain (length front) a) (part (block_at plain (suc (length front)) b) (part (block_at plain (suc (suc (length front))) c)
         (give (code_slice (code_var 2) (code_var 1) (code_var 0)))))) front env
         (three_done _ (λ v. exec (block_at plain (suc (length front)) b) (v ∷ (front ++ env)))
@@ -219,9 +231,10 @@ module _ (plain : CodeTree → Bool) where
     does (code_lit k) front env = refl
     does (code_truth t) front env = refl
     does (code_var x) front env = gives_code (code_var x) front env
-    does (code_tuple cs) front env = does_tuple cs (does_each cs) front env
+    does (code_tuple cs) front env =
+        either (stay plain.whole cs) (code_tuple cs) (tuple_block plain (length front) cs) front env (does_tuple cs (does_each cs) front env)
     does (code_sum cs) front env =
-        either (plain (code_sum cs)) (code_sum cs) (sum_block plain (length front) cs) front env (does_sum cs (does_each cs) front env)
+        either (plain.whole (code_sum cs)) (code_sum cs) (sum_block plain (length front) cs) front env (does_sum cs (does_each cs) front env)
 
     does_each : (cs : CodeTrees) → EachDoes plain cs
     does_each no_codes = tt
@@ -242,7 +255,9 @@ module _ (plain : CodeTree → Bool) where
         ap (λ p. then_path p (λ o. or_later o (exec b (front ++ env))))
         (first_alike (count_below ks) 0 _ _ (λ i. then_alike (meets_all (tuple_at ks i)) _ _
         (λ vs. rw (append_assoc front env vs)
-        (does_items is front (tuple_block plain (length front) gs) (λ e. then_path (all_path gs e []) given) (λ e. does_tuple gs (does_each gs) front e)
+        (does_items is front (plain_or (stay plain.whole gs) (code_tuple (all_shifted (length front) gs)) (tuple_block plain (length front) gs))
+        (λ e. then_path (all_path gs e []) given)
+        (λ e. either (stay plain.whole gs) (code_tuple gs) (tuple_block plain (length front) gs) front e (does_tuple gs (does_each gs) front e))
         (env ++ vs)))))
 
     does_items : (is : ItemTrees) (front : List Value) (b : Block) (g : List Value → Path (Option (List Value))) → ((e : List Value) → exec b (front ++ e) ≡ g e) →
@@ -264,5 +279,5 @@ module _ (plain : CodeTree → Bool) where
         ∙ (then_alike (path c env) _ _ (λ x. need_then (truth_in x) env g)
         ∙ sym (then_then (path c env) (λ x. gives_only (cond (truth_in x) (Some env) None)) (λ o. if_some o g)))
 
-pub block_means : (plain : CodeTree → Bool) (c : CodeTree) (env : List Value) → exec (block_of plain c) env ≡ then_path (path c env) given
+pub block_means : (plain : Plain) (c : CodeTree) (env : List Value) → exec (block_of plain c) env ≡ then_path (path c env) given
 block_means plain c env = does plain c [] env

@@ -4,7 +4,8 @@ use Rattle.std.specs.Prelude.{unsigned_abs}
 use Rattle.cf_tree.specs.CodeTree.{CodeTree, code_var, CodeTrees, no_codes, code_more}
 use Rattle.cf_tree.specs.Meaning.{Got, got, none_at, Path, gives_only, then_gives, then_peak, then_path, if_some, meets_value, path}
 use Rattle.cf_tree.specs.Values.{Value, number, truth, elements, number_of, first_of, value_at}
-use Rattle.cf_stmt.specs.Blocks.{Block, part, given, exec, vars_then}
+use Rattle.cf_stmt.specs.Blocks.{Block, part, given, exec}
+use Rattle.cf_stmt.specs.Made.{vars_then}
 use Rattle.cf_shift.specs.Meeting.{AreSmall}
 use Rattle.cf_shift.specs.Shifted.{shifted, all_shifted}
 use Rattle.cf_shift.proofs.MeetingLaws.{IsOwn}
@@ -136,11 +137,6 @@ pub either_part : (t : Bool) (a b c : Block) (env : List Value) (p : Found) → 
 either_part true a b c env p h k = h
 either_part false a b c env p h k = k
 
-pub either_block : (t : Bool) (b c : Block) (k : ℕ) (env : List Value) (p : Found) → from k (exec b env) ≡ p → from k (exec c env) ≡ p →
-    from k (exec (cond t b c) env) ≡ p
-either_block true b c k env p h i = h
-either_block false b c k env p h i = i
-
 -- ---- operations on lists: a value goes on from code to code
 pub record Folds (Z : Type 0) (go : CodeTrees → List Value → Z → Path (List Value)) (step : Z → List Value → Z) (last : Z → Path (List Value)) :
     Type 0 where
@@ -171,10 +167,3 @@ module _ (Z : Type 0) (go : CodeTrees → List Value → Z → Path (List Value)
 
       plus_suc : (i t : ℕ) → suc i + t ≡ i + suc t
       plus_suc i t = omega arith
-
-  pub all_behind : (cs : CodeTrees) (front env : List Value) (y : Z) → go (all_shifted (length front) cs) (front ++ env) y ≡ go cs env y
-  all_behind no_codes front env y = folds.nil (front ++ env) y ∙ sym (folds.nil env y)
-  all_behind (code_more c cs) front env y =
-      folds.more (shifted (length front) c) (all_shifted (length front) cs) (front ++ env) y
-      ∙ (ap (λ p. then_path p (λ x. go (all_shifted (length front) cs) (front ++ env) (step y x))) (shifted_path front env c)
-      ∙ (then_alike (path c env) _ _ (λ x. all_behind cs front env (step y x)) ∙ sym (folds.more c cs env y)))

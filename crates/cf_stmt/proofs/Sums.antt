@@ -6,7 +6,8 @@ use Rattle.std.proofs.Math.Nat.{max-zero}
 use Rattle.cf_tree.specs.CodeTree.{CodeTree, code_var, CodeTrees, no_codes, code_more}
 use Rattle.cf_tree.specs.Meaning.{Got, got, none_at, Path, gives_only, then_path, if_some, meets, meets_value, number_in, path, all_path, sum_path}
 use Rattle.cf_tree.specs.Values.{Value, number, number_of, first_of}
-use Rattle.cf_stmt.specs.Blocks.{Block, given, exec, append, two_codes}
+use Rattle.cf_stmt.specs.Blocks.{Block, given, exec}
+use Rattle.cf_stmt.specs.Made.{append, two_codes}
 use Rattle.cf_shift.specs.Shifted.{shifted}
 use Rattle.cf_shift.proofs.MeetingLaws.{IsOwn}
 use Rattle.cf_stmt.proofs.Parts.{Found, is_small, reads, from_small, then_from, then_small, then_own, first_small, still_small}

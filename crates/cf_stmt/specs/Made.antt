@@ -1,6 +1,6 @@
 -- The block that is made of a code.
-use Rattle.std.specs.Prelude.{ℕ, zero, suc, Bool, true, false, List, [], ◌∷◌, if◌then◌else◌, ◌&&◌}
-use Rattle.cf_tree.specs.CodeTree.{CodeTree, code_lit, code_truth, code_var, code_set_of, code_tuple, code_sum, code_sub, code_mul, code_neg, code_div, code_mod, code_min, code_max, code_compare, code_divides, code_and, code_or, code_not, code_union, code_inter, code_diff, code_subset, code_card, code_slice, code_fresh, code_if, code_let, code_solve, CodeTrees, no_codes, code_more, ItemTree, let_item, need_item, ItemTrees, no_items, item_more, ArmTree, arm_of, ArmTrees, no_arms, arm_more}
+use Rattle.std.specs.Prelude.{ℕ, zero, suc, Bool, true, false, if◌then◌else◌, ◌&&◌}
+use Rattle.cf_tree.specs.CodeTree.{CodeTree, code_lit, code_truth, code_var, code_set_of, code_tuple, code_sum, code_sub, code_mul, code_neg, code_div, code_mod, code_min, code_max, code_compare, code_divides, code_and, code_or, code_not, code_union, code_inter, code_diff, code_subset, code_card, code_slice, code_fresh, code_if, code_let, code_solve, CodeTrees, no_codes, code_more, ItemTree, let_item, need_item, ItemTrees, no_items, item_more, ArmTree, arm_of, ArmTrees, no_arms, arm_more, count}
 use Rattle.cf_stmt.specs.Blocks.{Block, give, none, leave, bind, part, join, test, arm}
 use Rattle.cf_shift.specs.Shifted.{shifted, all_shifted}
 
@@ -42,11 +42,16 @@ abbrev mutual
   block_at plain n (code_var x) = give (shifted n (code_var x))
   block_at plain n (code_tuple cs) = plain_or (stay plain.whole cs) (shifted n (code_tuple cs)) (tuple_block plain n cs)
   block_at plain n (code_sum cs) = plain_or (plain.whole (code_sum cs)) (shifted n (code_sum cs)) (sum_block plain n cs)
-  block_at plain n (code_set_of cs) = plain_or (plain.whole (code_set_of cs)) (shifted n (code_set_of cs)) (parts_block plain n 0 cs code_set_of)
-  block_at plain n (code_min cs) = plain_or (plain.whole (code_min cs)) (shifted n (code_min cs)) (parts_block plain n 0 cs code_min)
-  block_at plain n (code_max cs) = plain_or (plain.whole (code_max cs)) (shifted n (code_max cs)) (parts_block plain n 0 cs code_max)
-  block_at plain n (code_union cs) = plain_or (plain.whole (code_union cs)) (shifted n (code_union cs)) (parts_block plain n 0 cs code_union)
-  block_at plain n (code_inter cs) = plain_or (plain.whole (code_inter cs)) (shifted n (code_inter cs)) (parts_block plain n 0 cs code_inter)
+  block_at plain n (code_set_of cs) = plain_or (plain.whole (code_set_of cs)) (shifted n (code_set_of cs))
+      (bound_parts plain n cs (give (code_set_of (vars_then 0 (count cs) no_codes))))
+  block_at plain n (code_min cs) = plain_or (plain.whole (code_min cs)) (shifted n (code_min cs))
+      (bound_parts plain n cs (give (code_min (vars_then 0 (count cs) no_codes))))
+  block_at plain n (code_max cs) = plain_or (plain.whole (code_max cs)) (shifted n (code_max cs))
+      (bound_parts plain n cs (give (code_max (vars_then 0 (count cs) no_codes))))
+  block_at plain n (code_union cs) = plain_or (plain.whole (code_union cs)) (shifted n (code_union cs))
+      (bound_parts plain n cs (give (code_union (vars_then 0 (count cs) no_codes))))
+  block_at plain n (code_inter cs) = plain_or (plain.whole (code_inter cs)) (shifted n (code_inter cs))
+      (bound_parts plain n cs (give (code_inter (vars_then 0 (count cs) no_codes))))
   block_at plain n (code_neg a) =
       plain_or (plain.whole (code_neg a)) (shifted n (code_neg a)) (part (block_at plain n a) (give (code_neg (code_var 0))))
   block_at plain n (code_div a k) =
@@ -90,13 +95,10 @@ abbrev mutual
   block_at plain n (code_let first count a b) = bind (block_at plain n a) (block_at plain n b)
   block_at plain n (code_solve id arms) = arms_block plain n arms (none id)
 
-  -- an operation on j variables from level 0 on, the last first, and then on these codes: they are variables too, up to the last that is not plain
-  pub parts_block : Plain → ℕ → ℕ → CodeTrees → (CodeTrees → CodeTree) → Block
-  parts_block plain n j no_codes op = give (op (vars_then 0 j no_codes))
-  parts_block plain n j (code_more c cs) op =
-      if stay plain.part (code_more c cs)
-      then give (op (vars_then 0 j (all_shifted n (code_more c cs))))
-      else part (block_at plain n c) (parts_block plain (suc n) (suc j) cs op)
+  -- the first values of all, in order, each bound before the variables, and then this block
+  pub bound_parts : Plain → ℕ → CodeTrees → Block → Block
+  bound_parts plain n no_codes b = b
+  bound_parts plain n (code_more c cs) b = part (block_at plain n c) (bound_parts plain (suc n) cs b)
 
   -- a sum
   pub sum_block : Plain → ℕ → CodeTrees → Block

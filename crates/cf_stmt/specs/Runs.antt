@@ -2,7 +2,7 @@
 use Rattle.std.specs.Prelude.{◌≡◌, ℕ, zero, suc, List, ◌∷◌, ◌++◌, Option, Some, None, nat_le, if◌then◌else◌}
 use Rattle.cf_num.specs.Limit.{limit}
 use Rattle.cf_tree.specs.CodeTree.{CodeTree}
-use Rattle.cf_tree.specs.Meaning.{Got, got, none_at, Path, count_below, tuple_at, meets_all, truth_in, path, means, peak}
+use Rattle.cf_tree.specs.Meaning.{Got, got, none_at, Path, count_below, tuple_at, meets_all, truth_in, outcome_of, path, means, peak}
 use Rattle.cf_tree.specs.Values.{Value, Outcome, values, no_solution, first_of}
 use Rattle.cf_stmt.specs.Blocks.{Block, give, none, leave, bind, part, join, test, arm, exec}
 use Rattle.cf_stmt.specs.Statements.{IsStatements}
@@ -16,13 +16,13 @@ pub data Run : Type 0 where
   -- the arm is left
   leaves : Run
 
--- the values of a path, where none of its numbers is past the limit
-abbrev pub ended : Got (List Value) → Run
-ended (got vs) = gives vs
-ended (none_at n) = stops n
+abbrev pub outcome_run : Outcome → Run
+outcome_run (values vs) = gives vs
+outcome_run (no_solution n) = stops n
 
+-- what a path gives, where none of its numbers is past the limit
 abbrev pub checked : Path (List Value) → Run
-checked p = if nat_le p.peak limit then ended p.gives else overflows
+checked p = if nat_le p.peak limit then outcome_run (outcome_of p.gives) else overflows
 
 -- goes on with the values
 abbrev pub then_run : Run → (List Value → Run) → Run
@@ -64,10 +64,6 @@ found_run (none_at n) = stops n
 abbrev pub LeavesAtOnce : Type 0
 LeavesAtOnce = (b : Block) (env : List Value) →
     runs b env ≡ (if nat_le (exec b env).peak limit then found_run (exec b env).gives else overflows)
-
-abbrev pub outcome_run : Outcome → Run
-outcome_run (values vs) = gives vs
-outcome_run (no_solution n) = stops n
 
 -- the statements of a code run as the code answers: overflow where the greatest number met is past the limit, and else what it means
 abbrev pub StatementsAnswer : Type 0
