@@ -14,7 +14,7 @@ use Rattle.cf_shift.proofs.MeetingLaws.{path_own}
 use Rattle.cf_stmt.proofs.Parts.{Found, Folds, after, read_all, one_done, two_kept, two_done, three_done, either_part, then_small, then_from, first_small, still_small}
 use Rattle.cf_stmt.proofs.Paths.{from, from_zero, then_then, then_alike, only_then, given_then, goes_on, if_alike, if_then, later_alike, later_later, later_none, first_alike, some_then, need_then}
 use Rattle.cf_shift.proofs.ShiftedPaths.{shifted_path}
-use Rattle.cf_stmt.proofs.Sums.{all_from, joins, either_elim, sum_ends, sum_one_more, sum_first, sum_of_two, sum_of_one}
+use Rattle.cf_stmt.proofs.SumPaths.{all_from, joins, either_elim, sum_ends, sum_one_more, sum_first, sum_of_two, sum_of_one}
 
 -- the block gives what the code gives behind the front
 gives_code : (c : CodeTree) (front env : List Value) → exec (give (shifted (length front) c)) (front ++ env) ≡ then_path (path c env) given

@@ -136,10 +136,12 @@ either_elim false b c h k = k
 two : (a b : Block) (c : CodeTree) (n : ℕ) (op : CodeTree → CodeTree → CodeTree) → EvaluatesPlain a → EvaluatesPlain b →
     ((d e : CodeTree) → gives_plain (op d e) ≡ (is_expression d && is_expression e) && nat_le (1 + max (code_depth d) (code_depth e)) DEEPEST) →
     EvaluatesPlain (two_block (fits 1 c) a b (shifted n c) op)
-two a b c n op p q law =
-    (p, either (fits 1 c) (give (op (code_var 0) (shifted n c))) (part b (give (op (code_var 1) (code_var 0))))
-    (λ e. law (code_var 0) (shifted n c) ∙ over_two_parts (code_var 0) (shifted n c) refl (fits_moved 1 n c ∙ e))
-    (q, law (code_var 1) (code_var 0)))
+two a b c n op p q law = (
+  p,
+  either (fits 1 c) (give (op (code_var 0) (shifted n c))) (part b (give (op (code_var 1) (code_var 0))))
+      (λ e. law (code_var 0) (shifted n c) ∙ over_two_parts (code_var 0) (shifted n c) refl (fits_moved 1 n c ∙ e))
+      (q, law (code_var 1) (code_var 0)),
+)
 
 abbrev EachPlain : CodeTrees → Type 0
 EachPlain no_codes = Unit {0}

@@ -6,3 +6,4 @@ pub mod Guards
 pub mod Made
 pub mod Runs
 pub mod Statements
+pub mod SumView

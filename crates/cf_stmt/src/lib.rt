@@ -4,6 +4,7 @@
 mod block;
 mod expression;
 mod made;
+mod sums;
 mod walk;
 
 ghost use Rattle.cf_stmt.specs.Runs.{LeavesAtOnce, StatementsAnswer};

@@ -1,18 +1,20 @@
 //! Code as statements.
 ghost use Rattle.std.specs.Prelude.{◌≡◌, IfOk};
-ghost use Rattle.cf_tree.specs.CodeTree.{code_tuple, code_var};
-ghost use Rattle.cf_tree.specs.OverParts.{HasTwoParts, over_two, HasThreeParts, over_three};
+ghost use Rattle.cf_tree.specs.CodeTree.{CodeTrees, code_more, code_tuple, code_var, no_codes};
+ghost use Rattle.cf_tree.specs.OverParts.{HasList, over_list, HasTwoParts, over_two, HasThreeParts, over_three};
 ghost use Rattle.cf_tree.specs.CodeView.{code_tree, code_trees, item_tree, item_trees, arm_tree, arm_trees};
 ghost use Rattle.cf_stmt.specs.BlockView.{block_tree};
 ghost use Rattle.cf_shift.specs.Shifted.{shifted, all_shifted};
 ghost use Rattle.cf_stmt.specs.Blocks.{give, part as a_part, bind as bind_of, join as join_of, test as test_of};
 ghost use Rattle.cf_stmt.specs.Fitting.{fits, plain};
-ghost use Rattle.cf_stmt.specs.Made.{plain_or, stay, block_at, tuple_block, arms_block, arm_block, items_block, item_block};
+ghost use Rattle.cf_stmt.specs.SumView.{sum_left};
+ghost use Rattle.cf_stmt.specs.Made.{plain_or, stay, vars_then, block_at, bound_parts, sum_block, tuple_block, arms_block, arm_block, items_block, item_block};
 
 use crate::block::Block;
 use crate::expression::{all_fit, fits};
+use crate::sums::{Summing, add_block, add_code, sum_done, sum_of_block, sum_of_code};
 use cf_shift::{shift, shift_all};
-use cf_tree::{Arm, Code, Item, NoMemory, add_u32, code_leaf, code_over_one};
+use cf_tree::{Arm, Code, Item, NoMemory, add_u32, code_leaf, code_over_one, to_u32};
 use std::alloc::Global;
 
 // The code itself behind `n` more variables.
@@ -136,17 +138,22 @@ pub(crate) fn block_of(alloc: Global, code: &Code, n: u32) -> Result<Box<Block>,
             three_parts(alloc, code, first, second, third)
         }
         code_leaf!() => give(alloc, code, n),
-        Code::SetOf(_)
-        | Code::Sum(_)
-        | Code::Min(_)
-        | Code::Max(_)
-        | Code::Union(_)
-        | Code::Inter(_) => {
+        Code::Sum(parts) => {
             if fits(code, 0) {
                 return give(alloc, code, n);
             }
-            // Not written in the study: lists with a part that is no expression.
-            Err(NoMemory)
+            sum_block(alloc, parts, n)
+        }
+        Code::SetOf(parts)
+        | Code::Min(parts)
+        | Code::Max(parts)
+        | Code::Union(parts)
+        | Code::Inter(parts) => {
+            if fits(code, 0) {
+                return give(alloc, code, n);
+            }
+            let last = over_variables(alloc, code, parts.len())?;
+            bound_parts(alloc, parts, n, last)
         }
     }
 }
@@ -224,6 +231,84 @@ fn part_of(alloc: Global, a: Box<Block>, code: Code) -> Result<Box<Block>, NoMem
 {
     let last = Box::new(alloc, Block::Give(code))?;
     part(alloc, a, last)
+}
+
+// The form over so many variables, the last first.
+fn over_variables(alloc: Global, code: &Code, count: usize) -> Result<Box<Block>, NoMemory>
+    requires { HasList (code_tree code.now) }
+    ensures { IfOk result (λ b. block_tree b.value ≡ give (over_list (code_tree code.now) (vars_then 0 count no_codes))) }
+{
+    let all = variables(alloc, count)?;
+    Ok(Box::new(alloc, Block::Give(code.over_list(all)))?)
+}
+
+fn variables(alloc: Global, count: usize) -> Result<Vec<Code>, NoMemory>
+    ensures { IfOk result (λ all. code_trees all.items ≡ vars_then 0 count no_codes) }
+{
+    let mut all = Vec::with_capacity(alloc, count)?;
+    for back in 0..count {
+        all.push(Code::Var(to_u32(count - 1 - back)?))?;
+    }
+    Ok(all)
+}
+
+// The first values of all, each bound, and then the last block.
+#[cycle(walk)]
+fn bound_parts(
+    alloc: Global,
+    codes: &[Code],
+    n: u32,
+    last: Box<Block>,
+) -> Result<Box<Block>, NoMemory>
+    ensures { IfOk result (λ b. block_tree b.value ≡ bound_parts plain n (code_trees codes.now) (block_tree last.value)) }
+{
+    let mut block = last;
+    for back in 0..codes.len() {
+        let i = codes.len() - 1 - back;
+        let first = block_of(alloc, &codes[i], add_u32(n, to_u32(i)?)?)?;
+        block = part(alloc, first, block)?;
+    }
+    Ok(block)
+}
+
+#[cycle(walk)]
+fn sum_block(alloc: Global, codes: &[Code], n: u32) -> Result<Box<Block>, NoMemory>
+    ensures { IfOk result (λ b. block_tree b.value ≡ sum_block plain n (code_trees codes.now)) }
+{
+    if codes.is_empty() {
+        let none = Code::Sum(Vec::new(alloc));
+        return Ok(Box::new(alloc, Block::Give(none))?);
+    }
+    let mut sum = sum_begun(alloc, &codes[0], n)?;
+    for i in 1..codes.len() {
+        sum = sum_more(alloc, sum, &codes[i])?;
+    }
+    sum_done(alloc, sum)
+}
+
+// The sum of its first code.
+#[cycle(walk)]
+fn sum_begun(alloc: Global, code: &Code, n: u32) -> Result<Summing, NoMemory>
+    ensures { IfOk result (λ s. (cs : CodeTrees) → sum_left s cs ≡ sum_block plain n (code_more (code_tree code.now) cs)) }
+{
+    if fits(code, 1) {
+        return sum_of_code(alloc, shift(alloc, code, n)?, n);
+    }
+    let block = block_of(alloc, code, n)?;
+    sum_of_block(alloc, block, n)
+}
+
+// The sum with one code more.
+#[cycle(walk)]
+fn sum_more(alloc: Global, sum: Summing, code: &Code) -> Result<Summing, NoMemory>
+    ensures { IfOk result (λ s. (cs : CodeTrees) → sum_left s cs ≡ sum_left sum (code_more (code_tree code.now) cs)) }
+{
+    let n = sum.n;
+    if fits(code, 1) {
+        return add_code(sum, shift(alloc, code, n)?);
+    }
+    let block = block_of(alloc, code, add_u32(n, 1)?)?;
+    add_block(alloc, sum, block)
 }
 
 #[cycle(walk)]
