@@ -3,6 +3,7 @@
 
 mod block;
 mod expression;
+mod guards;
 mod made;
 mod sums;
 mod walk;

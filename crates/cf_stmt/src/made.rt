@@ -5,6 +5,7 @@ ghost use Rattle.cf_stmt.specs.BlockView.{block_tree};
 ghost use Rattle.cf_stmt.specs.Statements.{IsStatements};
 
 use crate::block::Block;
+use crate::guards::guard;
 use crate::walk::block_of;
 use cf_tree::{Code, NoMemory};
 use std::alloc::Global;
@@ -14,5 +15,7 @@ use std::alloc::Global;
 pub fn statements(alloc: Global, code: &Code) -> Result<Box<Block>, NoMemory>
     ensures { IfOk result (λ b. IsStatements (code_tree code.now) (block_tree b.value)) }
 {
-    block_of(alloc, code, 0)
+    let mut block = block_of(alloc, code, 0)?;
+    guard(&mut block);
+    Ok(block)
 }

@@ -1,12 +1,11 @@
 //! Sums whose parts are not all plain.
-ghost use Rattle.std.specs.Prelude.{◌≡◌, ◌+◌, IfOk, map};
-ghost use Rattle.cf_tree.specs.CodeTree.{CodeTrees, code_more, code_sum, code_var, no_codes};
-ghost use Rattle.cf_tree.specs.CodeView.{code_tree, code_trees};
+ghost use Rattle.std.specs.Prelude.{◌≡◌, ◌+◌, ◌∷◌, ◌++◌, [], IfOk};
+ghost use Rattle.cf_tree.specs.CodeTree.{code_more, code_sum, code_var, no_codes};
+ghost use Rattle.cf_tree.specs.CodeView.{code_tree};
 ghost use Rattle.cf_stmt.specs.BlockView.{block_tree};
-ghost use Rattle.cf_stmt.specs.Blocks.{give, part};
-ghost use Rattle.cf_stmt.specs.Fitting.{plain};
-ghost use Rattle.cf_stmt.specs.Made.{append, sum_more, two_codes};
-ghost use Rattle.cf_stmt.specs.SumView.{parts_then, sum_left};
+ghost use Rattle.cf_stmt.specs.Blocks.{give};
+ghost use Rattle.cf_stmt.specs.Made.{append, two_codes};
+ghost use Rattle.cf_stmt.specs.SumView.{bound_blocks, ready_codes, sum_left, IsSum};
 
 use crate::block::Block;
 use cf_tree::{Code, NoMemory, add_u32};
@@ -23,7 +22,7 @@ pub(crate) struct Summing {
 
 // The sum of one code so far, which stands behind `n` variables.
 pub(crate) fn sum_of_code(alloc: Global, code: Code, n: u32) -> Result<Summing, NoMemory>
-    ensures { IfOk result (λ s. (cs : CodeTrees) → sum_left s cs ≡ sum_more plain n (code_more (code_tree code) no_codes) cs) }
+    ensures { IfOk result (λ s. IsSum s n (code_more (code_tree code) no_codes) []) }
 {
     let mut ready = Vec::new(alloc);
     ready.push(code)?;
@@ -36,8 +35,7 @@ pub(crate) fn sum_of_code(alloc: Global, code: Code, n: u32) -> Result<Summing, 
 
 // The sum of one block so far.
 pub(crate) fn sum_of_block(alloc: Global, block: Box<Block>, n: u32) -> Result<Summing, NoMemory>
-    ensures { IfOk result (λ s. (cs : CodeTrees) →
-        sum_left s cs ≡ part (block_tree block.value) (sum_more plain (n + 1) (code_more (code_var 0) no_codes) cs)) }
+    ensures { IfOk result (λ s. IsSum s (n + 1) (code_more (code_var 0) no_codes) (block_tree block.value ∷ [])) }
 {
     let mut ready = Vec::new(alloc);
     ready.push(Code::Var(0))?;
@@ -52,8 +50,7 @@ pub(crate) fn sum_of_block(alloc: Global, block: Box<Block>, n: u32) -> Result<S
 
 // One code more, which stands behind the sum's variables.
 pub(crate) fn add_code(sum: Summing, code: Code) -> Result<Summing, NoMemory>
-    ensures { IfOk result (λ s. (cs : CodeTrees) → sum_left s cs ≡ parts_then (map (λ b. block_tree b.value) sum.bound.items)
-        (sum_more plain sum.n (append (code_trees sum.ready.items) (code_more (code_tree code) no_codes)) cs)) }
+    ensures { IfOk result (λ s. IsSum s sum.n (append (ready_codes sum) (code_more (code_tree code) no_codes)) (bound_blocks sum)) }
 {
     let Summing {
         n,
@@ -66,9 +63,8 @@ pub(crate) fn add_code(sum: Summing, code: Code) -> Result<Summing, NoMemory>
 
 // One block more: what is ready is added and bound, and then the block.
 pub(crate) fn add_block(alloc: Global, sum: Summing, block: Box<Block>) -> Result<Summing, NoMemory>
-    ensures { IfOk result (λ s. (cs : CodeTrees) → sum_left s cs ≡ parts_then (map (λ b. block_tree b.value) sum.bound.items)
-        (part (give (code_sum (code_trees sum.ready.items))) (part (block_tree block.value)
-        (sum_more plain (sum.n + 2) (two_codes (code_var 1) (code_var 0)) cs)))) }
+    ensures { IfOk result (λ s. IsSum s (sum.n + 2) (two_codes (code_var 1) (code_var 0))
+        (bound_blocks sum ++ give (code_sum (ready_codes sum)) ∷ block_tree block.value ∷ [])) }
 {
     let Summing {
         n,

@@ -1,0 +1,157 @@
+-- Blocks that may stand for others.
+use Rattle.std.proofs.Common.{◌≡◌, ℕ, zero, suc, Bool, true, false, ◌&&◌, cond, Option, Some, None, List, [], ◌∷◌, ◌++◌, refl, sym, ap, ◌∙◌}
+use Rattle.std.proofs.Math.Nat.{max-zero}
+use Rattle.cf_tree.specs.Meaning.{Got, got, none_at, Path, gives_only, then_gives, then_path, if_some, or_later, first_from, count_below, tuple_at, meets_all, truth_in, path}
+use Rattle.cf_tree.specs.Values.{Value, first_of}
+use Rattle.cf_stmt.specs.Blocks.{Block, give, none, leave, bind, part, join, test, arm, given, exec}
+use Rattle.cf_stmt.specs.Expressions.{EvaluatesPlain}
+use Rattle.cf_stmt.specs.Guards.{StandsFor, else_none, never_leaves}
+use Rattle.cf_stmt.proofs.GuardLaws.{last_arm, nil_after, or_nothing}
+use Rattle.cf_stmt.proofs.Parts.{Found}
+use Rattle.cf_stmt.proofs.Paths.{the_path, only_then, then_alike, if_alike, later_alike, first_alike}
+
+pub stands_self : (a : Block) → StandsFor a a
+stands_self a = record { same = λ env. refl; plain = λ p. p }
+
+pub stands_then : (a b c : Block) → StandsFor a b → StandsFor b c → StandsFor a c
+stands_then a b c s t = record { same = λ env. t.same env ∙ s.same env; plain = λ p. t.plain (s.plain p) }
+
+-- the same way on
+some_alike : (f g : List Value → Found) → ((vs : List Value) → f vs ≡ g vs) → (o : Option (List Value)) → if_some o f ≡ if_some o g
+some_alike f g h None = refl
+some_alike f g h (Some vs) = h vs
+
+on_alike : (p q : Found) (f g : List Value → Found) → p ≡ q → ((vs : List Value) → f vs ≡ g vs) → then_path p (λ o. if_some o f) ≡ then_path q (λ o. if_some o g)
+on_alike p q f g e h = rw e (then_alike q _ _ (some_alike f g h))
+
+pub stands_bind : (a b c d : Block) → StandsFor a c → StandsFor b d → StandsFor (bind a b) (bind c d)
+stands_bind a b c d s t = record {
+  same = λ env. on_alike (exec c env) (exec a env) _ _ (s.same env) (λ vs. t.same (env ++ vs));
+  plain = λ p. (s.plain p.0, t.plain p.1);
+}
+
+pub stands_part : (a b c d : Block) → StandsFor a c → StandsFor b d → StandsFor (part a b) (part c d)
+stands_part a b c d s t = record {
+  same = λ env. on_alike (exec c env) (exec a env) _ _ (s.same env) (λ vs. t.same (first_of vs ∷ env));
+  plain = λ p. (s.plain p.0, t.plain p.1);
+}
+
+pub stands_join : (a b c d : Block) → StandsFor a c → StandsFor b d → StandsFor (join a b) (join c d)
+stands_join a b c d s t = record {
+  same = λ env. on_alike (exec c env) (exec a env) _ _ (s.same env) (λ vs. ap (λ q. then_path q (λ g. if_some g (λ ws. gives_only (Some (vs ++ ws))))) (t.same env));
+  plain = λ p. (s.plain p.0, t.plain p.1);
+}
+
+pub stands_test : (t a b u c d : Block) → StandsFor t u → StandsFor a c → StandsFor b d → StandsFor (test t a b) (test u c d)
+stands_test t a b u c d r s q = record {
+  same = λ env. on_alike (exec u env) (exec t env) _ _ (r.same env)
+      (λ vs. if_alike (truth_in vs) (exec c env) (exec d env) (exec a env) (exec b env) (s.same env) (q.same env));
+  plain = λ p. (r.plain p.0, (s.plain p.1, q.plain p.2));
+}
+
+pub stands_arm : (ks : List ℕ) (a b c d : Block) → StandsFor a c → StandsFor b d → StandsFor (arm ks a b) (arm ks c d)
+stands_arm ks a b c d s t = record {
+  same = λ env. rw (first_alike (count_below ks) 0 (λ i. then_path (meets_all (tuple_at ks i)) (λ vs. exec c (env ++ vs)))
+      (λ i. then_path (meets_all (tuple_at ks i)) (λ vs. exec a (env ++ vs)))
+      (λ i. then_alike (meets_all (tuple_at ks i)) _ _ (λ vs. s.same (env ++ vs))))
+      (then_alike (first_from (count_below ks) 0 (λ i. then_path (meets_all (tuple_at ks i)) (λ vs. exec a (env ++ vs)))) _ _
+      (λ o. later_alike o (exec d env) (exec b env) (t.same env)));
+  plain = λ p. (s.plain p.0, t.plain p.1);
+}
+
+-- ---- guards
+else_plain : (n : ℕ) (b : Block) → EvaluatesPlain b → EvaluatesPlain (else_none n b)
+else_plain n (give c) p = p
+else_plain n (none m) p = tt
+else_plain n leave p = tt
+else_plain n (bind a b) p = (else_plain n a p.0, else_plain n b p.1)
+else_plain n (part a b) p = (else_plain n a p.0, else_plain n b p.1)
+else_plain n (join a b) p = (else_plain n a p.0, else_plain n b p.1)
+else_plain n (test t a b) p = (else_plain n t p.0, (else_plain n a p.1, else_plain n b p.2))
+else_plain n (arm ks a b) p = (p.0, else_plain n b p.1)
+
+pub stands_guards : (n : ℕ) (ks : List ℕ) (a b l : Block) → ks ≡ [] → l ≡ none n → b ≡ else_none n a → StandsFor (arm ks a l) b
+stands_guards n ks a b l e f g = rw (e, f, g) (record { same = λ env. sym (last_arm n a env); plain = λ p. else_plain n a p.0 })
+
+-- ---- an arm that is never left
+both_left : (s t : Bool) → s && t ≡ true → s ≡ true
+both_left true t e = refl
+both_left false t e = e
+
+both_right : (s t : Bool) → s && t ≡ true → t ≡ true
+both_right true t e = e
+both_right false t e = absurd (no e)
+  where
+    no : false ≡ true → ⊥
+    no e = cc
+
+not_true : false ≡ true → ⊥
+not_true e = cc
+
+-- the arm is not left
+abbrev Stays : Found → Type 0
+Stays p = p.gives ≡ got None → ⊥
+
+stays_on : (p : Found) (f : List Value → Found) → Stays p → ((vs : List Value) → Stays (f vs)) → Stays (then_path p (λ o. if_some o f))
+stays_on p f s t = by p.gives s
+  where
+    by : (g : Got (Option (List Value))) → (g ≡ got None → ⊥) → then_gives g (λ o. (if_some o f).gives) ≡ got None → ⊥
+    by (got None) s e = s refl
+    by (got (Some vs)) s e = t vs e
+    by (none_at n) s e = cc
+
+stays_or : (p q : Found) → Stays q → Stays (then_path p (λ o. or_later o q))
+stays_or p q t = by p.gives
+  where
+    by : (g : Got (Option (List Value))) → then_gives g (λ o. (or_later o q).gives) ≡ got None → ⊥
+    by (got None) e = t e
+    by (got (Some vs)) e = cc
+    by (none_at n) e = cc
+
+stays_given : (p : Path (List Value)) → Stays (then_path p given)
+stays_given p = by p.gives
+  where
+    by : (g : Got (List Value)) → then_gives g (λ vs. (given vs).gives) ≡ got None → ⊥
+    by (got vs) e = cc
+    by (none_at n) e = cc
+
+stays_if : (t : Bool) (p q : Found) → Stays p → Stays q → Stays (cond t p q)
+stays_if true p q s r = s
+stays_if false p q s r = r
+
+stays_some : (vs : List Value) → Stays (gives_only (Some vs))
+stays_some vs e = cc
+
+never : (b : Block) → never_leaves b ≡ true → (env : List Value) → Stays (exec b env)
+never (give c) h env = stays_given (path c env)
+never (none n) h env = λ e. cc
+never leave h env = λ e. not_true h
+never (bind a b) h env =
+    stays_on (exec a env) _ (never a (both_left _ _ h) env) (λ vs. never b (both_right (never_leaves a) _ h) (env ++ vs))
+never (part a b) h env =
+    stays_on (exec a env) _ (never a (both_left _ _ h) env) (λ vs. never b (both_right (never_leaves a) _ h) (first_of vs ∷ env))
+never (join a b) h env =
+    stays_on (exec a env) _ (never a (both_left _ _ h) env)
+    (λ vs. stays_on (exec b env) _ (never b (both_right (never_leaves a) _ h) env) (λ ws. stays_some (vs ++ ws)))
+never (test t a b) h env =
+    let rest : never_leaves a && never_leaves b ≡ true = both_right (never_leaves t) _ h in
+    stays_on (exec t env) _ (never t (both_left _ _ h) env)
+    (λ vs. stays_if (truth_in vs) (exec a env) (exec b env) (never a (both_left _ _ rest) env) (never b (both_right (never_leaves a) _ rest) env))
+never (arm ks a b) h env = stays_or _ (exec b env) (never b h env)
+
+stays_behind : (p q : Found) → Stays p → then_path p (λ o. or_later o q) ≡ p
+stays_behind p q s = by p.gives s
+  where
+    by : (g : Got (Option (List Value))) → (g ≡ got None → ⊥) → then_path (the_path g p.peak) (λ o. or_later o q) ≡ the_path g p.peak
+    by (got None) s = absurd (s refl)
+    by (got (Some vs)) s = ap (the_path (got (Some vs))) (max-zero p.peak)
+    by (none_at n) s = refl
+
+pub stands_never : (ks : List ℕ) (a b : Block) → ks ≡ [] → never_leaves a ≡ true → StandsFor (arm ks a b) a
+stands_never ks a b e h = rw e (record { same = λ env. sym (by env); plain = λ p. p.0 })
+  where
+    by : (env : List Value) → exec (arm [] a b) env ≡ exec a env
+    by env =
+        ap (λ p. then_path p (λ f. or_later f (exec b env))) (or_nothing (then_path (gives_only []) (λ vs. exec a (env ++ vs)))
+        ∙ (only_then [] (λ vs. exec a (env ++ vs)) ∙ ap (exec a) (nil_after env)))
+        ∙ stays_behind (exec a env) (exec b env) (never a h env)
