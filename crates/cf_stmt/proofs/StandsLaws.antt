@@ -1,14 +1,17 @@
 -- Blocks that may stand for others.
 use Rattle.std.proofs.Common.{◌≡◌, ℕ, zero, suc, Bool, true, false, ◌&&◌, cond, Option, Some, None, List, [], ◌∷◌, ◌++◌, refl, sym, ap, ◌∙◌}
 use Rattle.std.proofs.Math.Nat.{max-zero}
-use Rattle.cf_tree.specs.Meaning.{Got, got, none_at, Path, gives_only, then_gives, then_path, if_some, or_later, first_from, count_below, tuple_at, meets_all, truth_in, path}
-use Rattle.cf_tree.specs.Values.{Value, first_of}
+use Rattle.cf_tree.specs.Meaning.{Got, got, none_at, Path, gives_only, then_gives, then_path, if_some, or_later, first_from, count_below, tuple_at, meets_all, truth_in, gives_truth, path}
+use Rattle.cf_tree.specs.CodeTree.{CodeTree, code_and}
+use Rattle.cf_tree.specs.Values.{Value, truth, first_of}
 use Rattle.cf_stmt.specs.Blocks.{Block, give, none, leave, bind, part, join, test, arm, given, exec}
 use Rattle.cf_stmt.specs.Expressions.{EvaluatesPlain}
-use Rattle.cf_stmt.specs.Guards.{StandsFor, else_none, never_leaves}
+use Rattle.cf_stmt.specs.Fitting.{fits}
+use Rattle.cf_stmt.specs.Guards.{StandsFor, GivesPart, and_given, else_none, never_leaves}
 use Rattle.cf_stmt.proofs.GuardLaws.{last_arm, nil_after, or_nothing}
 use Rattle.cf_stmt.proofs.Parts.{Found}
-use Rattle.cf_stmt.proofs.Paths.{the_path, only_then, then_alike, if_alike, later_alike, first_alike}
+use Rattle.cf_stmt.proofs.PlainBlocks.{over_two_parts}
+use Rattle.cf_stmt.proofs.Paths.{the_path, only_then, then_then, then_alike, given_then, if_then, if_alike, later_alike, first_alike}
 
 pub stands_self : (a : Block) → StandsFor a a
 stands_self a = record { same = λ env. refl; plain = λ p. p }
@@ -155,3 +158,25 @@ stands_never ks a b e h = rw e (record { same = λ env. sym (by env); plain = λ
         ap (λ p. then_path p (λ f. or_later f (exec b env))) (or_nothing (then_path (gives_only []) (λ vs. exec a (env ++ vs)))
         ∙ (only_then [] (λ vs. exec a (env ++ vs)) ∙ ap (exec a) (nil_after env)))
         ∙ stays_behind (exec a env) (exec b env) (never a h env)
+
+-- ---- tests side by side
+pub stands_both : (c : CodeTree) (t a l b : Block) → fits 1 c ≡ true → GivesPart t → l ≡ b → StandsFor (test (give c) (test t a l) b) (test (and_given c t) a b)
+stands_both c (give d) a l b h k e = rw e (record { same = both_same; plain = λ p. (over_two_parts c d h k, (p.1.1, p.2)) })
+  where
+    both_same : (env : List Value) → exec (test (give (code_and c d)) a b) env ≡ exec (test (give c) (test (give d) a b) b) env
+    both_same env =
+        let on : List Value → Found = λ vs. cond (truth_in vs) (exec a env) (exec b env) in
+        given_then (path (code_and c d) env) on
+        ∙ (then_then (path c env) (λ x. cond (truth_in x) (path d env) (gives_truth false)) on
+        ∙ (then_alike (path c env) _ (λ x. cond (truth_in x) (exec (test (give d) a b) env) (exec b env))
+        (λ x. if_then (truth_in x) (path d env) (gives_truth false) on
+        ∙ if_alike (truth_in x) (then_path (path d env) on) (then_path (gives_truth false) on) (exec (test (give d) a b) env) (exec b env)
+        (sym (given_then (path d env) on)) (only_then (truth false ∷ []) on))
+        ∙ sym (given_then (path c env) (λ x. cond (truth_in x) (exec (test (give d) a b) env) (exec b env)))))
+stands_both c (none n) a l b h k e = absurd k
+stands_both c leave a l b h k e = absurd k
+stands_both c (bind x y) a l b h k e = absurd k
+stands_both c (part x y) a l b h k e = absurd k
+stands_both c (join x y) a l b h k e = absurd k
+stands_both c (test t x y) a l b h k e = absurd k
+stands_both c (arm ks x y) a l b h k e = absurd k

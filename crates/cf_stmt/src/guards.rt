@@ -1,66 +1,71 @@
-//! Blocks written as by hand: the last arm without a search has guards, and nothing stands behind
-//! an arm that is never left.
-ghost use Rattle.std.specs.Prelude.{◌≡◌};
+//! Blocks as written by hand: the last arm without a search has guards, nothing stands behind an
+//! arm that is never left, and tests side by side are one.
+ghost use Rattle.std.specs.Prelude.{◌≡◌, IfOk, OnOk};
+ghost use Rattle.cf_tree.specs.CodeView.{code_tree};
 ghost use Rattle.cf_stmt.specs.BlockView.{block_tree};
-ghost use Rattle.cf_stmt.specs.Blocks.{arm as arm_of};
-ghost use Rattle.cf_stmt.specs.Guards.{StandsFor, else_none, never_leaves};
+ghost use Rattle.cf_stmt.specs.Blocks.{give, arm as arm_of, test as test_of};
+ghost use Rattle.cf_stmt.specs.Guards.{If, GivesPart, StandsFor, and_given, else_none, never_leaves};
 
 use crate::block::Block;
+use crate::expression::fits;
+use cf_tree::{Code, NoMemory};
+use std::alloc::Global;
 use std::mem;
 
 // The block with guards, in all its parts.
 #[cycle(guard)]
-pub(crate) fn guard(block: &mut Block)
-    ensures { StandsFor (block_tree block.old) (block_tree block.new) }
+pub(crate) fn guard(alloc: Global, block: &mut Block) -> Result<(), NoMemory>
+    ensures { OnOk result (StandsFor (block_tree block.old) (block_tree block.new)) }
 {
-    guard_parts(block);
-    guard_form(block);
+    guard_parts(alloc, block)?;
+    guard_form(alloc, block)
 }
 
 #[cycle(guard)]
-fn guard_parts(block: &mut Block)
-    ensures { StandsFor (block_tree block.old) (block_tree block.new) }
+fn guard_parts(alloc: Global, block: &mut Block) -> Result<(), NoMemory>
+    ensures { OnOk result (StandsFor (block_tree block.old) (block_tree block.new)) }
 {
     match block {
-        Block::Give(_) | Block::Stop(_) | Block::Leave => {}
+        Block::Give(_) | Block::Stop(_) | Block::Leave => Ok(()),
         Block::Bind(a, b) => {
-            guard_part(a);
-            guard_part(b);
+            guard_part(alloc, a)?;
+            guard_part(alloc, b)
         }
         Block::Part(a, b) => {
-            guard_part(a);
-            guard_part(b);
+            guard_part(alloc, a)?;
+            guard_part(alloc, b)
         }
         Block::Join(a, b) => {
-            guard_part(a);
-            guard_part(b);
+            guard_part(alloc, a)?;
+            guard_part(alloc, b)
         }
         Block::Test { test, yes, no } => {
-            guard_part(test);
-            guard_part(yes);
-            guard_part(no);
+            guard_part(alloc, test)?;
+            guard_part(alloc, yes)?;
+            guard_part(alloc, no)
         }
         Block::Arm { body, later, .. } => {
-            guard_part(body);
-            guard_part(later);
+            guard_part(alloc, body)?;
+            guard_part(alloc, later)
         }
     }
 }
 
 // for the proof: the parts of a form are lent with their boxes
 #[cycle(guard)]
-fn guard_part(part: &mut Box<Block>)
-    ensures { StandsFor (block_tree part.old.value) (block_tree part.new.value) }
+fn guard_part(alloc: Global, part: &mut Box<Block>) -> Result<(), NoMemory>
+    ensures { OnOk result (StandsFor (block_tree part.old.value) (block_tree part.new.value)) }
 {
-    guard(part)
+    guard(alloc, part)
 }
 
 // The form itself.
-fn guard_form(block: &mut Block)
-    ensures { StandsFor (block_tree block.old) (block_tree block.new) }
+fn guard_form(alloc: Global, block: &mut Block) -> Result<(), NoMemory>
+    ensures { OnOk result (StandsFor (block_tree block.old) (block_tree block.new)) }
 {
     let form = mem::replace(block, Block::Leave);
-    put(block, guarded(form));
+    put(block, guarded(alloc, form)?);
+    Ok(())
 }
 
 fn put<T: Drop>(place: &mut T, value: T)
@@ -69,16 +74,130 @@ fn put<T: Drop>(place: &mut T, value: T)
     *place = value;
 }
 
-fn guarded(block: Block) -> Block
-    ensures { StandsFor (block_tree block) (block_tree result) }
+fn guarded(alloc: Global, block: Block) -> Result<Block, NoMemory>
+    ensures { IfOk result (λ b. StandsFor (block_tree block) (block_tree b)) }
 {
     match block {
         Block::Arm {
             bounds,
             body,
             later,
-        } => guarded_arm(bounds, body, later),
-        other => other,
+        } => Ok(guarded_arm(bounds, body, later)),
+        Block::Test { test, yes, no } => guarded_test(alloc, test, yes, no),
+        other => Ok(other),
+    }
+}
+
+// Two tests side by side as one.
+fn guarded_test(
+    alloc: Global,
+    test: Box<Block>,
+    yes: Box<Block>,
+    no: Box<Block>,
+) -> Result<Block, NoMemory>
+    ensures { IfOk result (λ b. StandsFor (test_of (block_tree test.value) (block_tree yes.value) (block_tree no.value)) (block_tree b)) }
+{
+    match Box::into_inner(test) {
+        Block::Give(first) => behind_code(alloc, first, yes, no),
+        other => Ok(Block::Test {
+            test: Box::new(alloc, other)?,
+            yes,
+            no,
+        }),
+    }
+}
+
+fn behind_code(
+    alloc: Global,
+    first: Code,
+    yes: Box<Block>,
+    no: Box<Block>,
+) -> Result<Block, NoMemory>
+    ensures { IfOk result (λ b. StandsFor (test_of (give (code_tree first)) (block_tree yes.value) (block_tree no.value)) (block_tree b)) }
+{
+    match Box::into_inner(yes) {
+        Block::Test {
+            test,
+            yes,
+            no: last,
+        } => behind_test(alloc, first, test, yes, last, no),
+        other => tested(alloc, first, other, no),
+    }
+}
+
+fn behind_test(
+    alloc: Global,
+    first: Code,
+    test: Box<Block>,
+    yes: Box<Block>,
+    last: Box<Block>,
+    no: Box<Block>,
+) -> Result<Block, NoMemory>
+    ensures { IfOk result (λ b. StandsFor (test_of (give (code_tree first))
+        (test_of (block_tree test.value) (block_tree yes.value) (block_tree last.value)) (block_tree no.value)) (block_tree b)) }
+{
+    if !ends_alike(&last, &no) || !is_plain_part(&test) || !fits(&first, 1) {
+        return tested(
+            alloc,
+            first,
+            Block::Test {
+                test,
+                yes,
+                no: last,
+            },
+            no,
+        );
+    }
+    Ok(Block::Test {
+        test: Box::new(alloc, both(alloc, first, test)?)?,
+        yes,
+        no,
+    })
+}
+
+// The test of a code.
+fn tested(alloc: Global, first: Code, yes: Block, no: Box<Block>) -> Result<Block, NoMemory>
+    ensures { IfOk result (λ b. block_tree b ≡ test_of (give (code_tree first)) (block_tree yes) (block_tree no.value)) }
+{
+    Ok(Block::Test {
+        test: Box::new(alloc, Block::Give(first))?,
+        yes: Box::new(alloc, yes)?,
+        no,
+    })
+}
+
+// Whether both leave the arm, or both have no solution at one number.
+fn ends_alike(a: &Block, b: &Block) -> bool
+    ensures { If result (block_tree a.now ≡ block_tree b.now) }
+{
+    match (a, b) {
+        (Block::Leave, Block::Leave) => true,
+        (Block::Stop(m), Block::Stop(n)) => m == n,
+        _ => false,
+    }
+}
+
+// Whether it gives a code that is plain in one more.
+fn is_plain_part(block: &Block) -> bool
+    ensures { If result (GivesPart (block_tree block.now)) }
+{
+    match block {
+        Block::Give(code) => fits(code, 1),
+        _ => false,
+    }
+}
+
+// The code and then that of the block.
+fn both(alloc: Global, first: Code, test: Box<Block>) -> Result<Block, NoMemory>
+    requires { GivesPart (block_tree test.value) }
+    ensures { IfOk result (λ b. block_tree b ≡ and_given (code_tree first) (block_tree test.value)) }
+{
+    match Box::into_inner(test) {
+        Block::Give(second) => Ok(Block::Give(Code::And(
+            Box::new(alloc, first)?,
+            Box::new(alloc, second)?,
+        ))),
+        other => Ok(other),
     }
 }
 

@@ -16,6 +16,6 @@ pub fn statements(alloc: Global, code: &Code) -> Result<Box<Block>, NoMemory>
     ensures { IfOk result (λ b. IsStatements (code_tree code.now) (block_tree b.value)) }
 {
     let mut block = block_of(alloc, code, 0)?;
-    guard(&mut block);
+    guard(alloc, &mut block)?;
     Ok(block)
 }
