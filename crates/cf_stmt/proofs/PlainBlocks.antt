@@ -94,10 +94,10 @@ parts_fit no_codes h = (refl, omega arith)
 parts_fit (code_more c cs) h =
     let one : fits 1 c ≡ true = true_left (fits 1 c) _ h in
     let more : (are_expressions cs ≡ true) × (1 + codes_depth cs ≤ DEEPEST) = parts_fit cs (true_right (fits 1 c) _ h) in
-    (true_both (is_expression c) (are_expressions cs) (true_left (is_expression c) _ one) more.0, deeper (depth_fits 1 c one) more.1)
+    (true_both (is_expression c) (are_expressions cs) (true_left (is_expression c) _ one) more.0, deeper (code_depth c) (codes_depth cs) DEEPEST (depth_fits 1 c one) more.1)
   where
-    deeper : {a b k : ℕ} → 1 + a ≤ k → 1 + b ≤ k → 1 + max a b ≤ k
-    deeper {a} {b} {k} l m = omega (arith, l, m)
+    deeper : (a b k : ℕ) → 1 + a ≤ k → 1 + b ≤ k → 1 + max a b ≤ k
+    deeper a b k l m = omega (arith, l, m)
 
 -- so the form over them is plain
 pub over_parts : (cs : CodeTrees) → stay (fits 1) cs ≡ true → are_expressions cs && nat_le (1 + codes_depth cs) DEEPEST ≡ true
@@ -107,10 +107,10 @@ pub over_two_parts : (c d : CodeTree) → fits 1 c ≡ true → fits 1 d ≡ tru
     (is_expression c && is_expression d) && nat_le (1 + max (code_depth c) (code_depth d)) DEEPEST ≡ true
 over_two_parts c d h k =
     true_both (is_expression c && is_expression d) _ (true_both (is_expression c) (is_expression d) (true_left (is_expression c) _ h) (true_left (is_expression d) _ k))
-    (le-leb (1 + max (code_depth c) (code_depth d)) DEEPEST (deeper (depth_fits 1 c h) (depth_fits 1 d k)))
+    (le-leb (1 + max (code_depth c) (code_depth d)) DEEPEST (deeper (code_depth c) (code_depth d) DEEPEST (depth_fits 1 c h) (depth_fits 1 d k)))
   where
-    deeper : {a b k : ℕ} → 1 + a ≤ k → 1 + b ≤ k → 1 + max a b ≤ k
-    deeper {a} {b} {k} l m = omega (arith, l, m)
+    deeper : (a b k : ℕ) → 1 + a ≤ k → 1 + b ≤ k → 1 + max a b ≤ k
+    deeper a b k l m = omega (arith, l, m)
 
 vars_first : (i j : ℕ) (ds : CodeTrees) → stay (fits 1) (vars_then i j ds) ≡ stay (fits 1) ds
 vars_first i zero ds = refl

@@ -49,7 +49,7 @@ pub stands_test : (t a b u c d : Block) → StandsFor t u → StandsFor a c → 
 stands_test t a b u c d r s q = record {
   same = λ env. on_alike (exec u env) (exec t env) _ _ (r.same env)
       (λ vs. if_alike (truth_in vs) (exec c env) (exec d env) (exec a env) (exec b env) (s.same env) (q.same env));
-  plain = λ p. (r.plain p.0, (s.plain p.1, q.plain p.2));
+  plain = λ p. (r.plain p.0, s.plain p.1, q.plain p.2);
 }
 
 pub stands_arm : (ks : List ℕ) (a b c d : Block) → StandsFor a c → StandsFor b d → StandsFor (arm ks a b) (arm ks c d)
@@ -70,7 +70,7 @@ else_plain n leave p = tt
 else_plain n (bind a b) p = (else_plain n a p.0, else_plain n b p.1)
 else_plain n (part a b) p = (else_plain n a p.0, else_plain n b p.1)
 else_plain n (join a b) p = (else_plain n a p.0, else_plain n b p.1)
-else_plain n (test t a b) p = (else_plain n t p.0, (else_plain n a p.1, else_plain n b p.2))
+else_plain n (test t a b) p = (else_plain n t p.0, else_plain n a p.1, else_plain n b p.2)
 else_plain n (arm ks a b) p = (p.0, else_plain n b p.1)
 
 pub stands_guards : (n : ℕ) (ks : List ℕ) (a b l : Block) → ks ≡ [] → l ≡ none n → b ≡ else_none n a → StandsFor (arm ks a l) b
@@ -140,7 +140,8 @@ never (test t a b) h env =
     let rest : never_leaves a && never_leaves b ≡ true = both_right (never_leaves t) _ h in
     stays_on (exec t env) _ (never t (both_left _ _ h) env)
     (λ vs. stays_if (truth_in vs) (exec a env) (exec b env) (never a (both_left _ _ rest) env) (never b (both_right (never_leaves a) _ rest) env))
-never (arm ks a b) h env = stays_or _ (exec b env) (never b h env)
+never (arm ks a b) h env =
+    stays_or (first_from (count_below ks) 0 (λ i. then_path (meets_all (tuple_at ks i)) (λ vs. exec a (env ++ vs)))) (exec b env) (never b h env)
 
 stays_behind : (p q : Found) → Stays p → then_path p (λ o. or_later o q) ≡ p
 stays_behind p q s = by p.gives s
@@ -161,7 +162,7 @@ stands_never ks a b e h = rw e (record { same = λ env. sym (by env); plain = λ
 
 -- ---- tests side by side
 pub stands_both : (c : CodeTree) (t a l b : Block) → fits 1 c ≡ true → GivesPart t → l ≡ b → StandsFor (test (give c) (test t a l) b) (test (and_given c t) a b)
-stands_both c (give d) a l b h k e = rw e (record { same = both_same; plain = λ p. (over_two_parts c d h k, (p.1.1, p.2)) })
+stands_both c (give d) a l b h k e = rw e (record { same = both_same; plain = λ p. (over_two_parts c d h k, p.1.1, p.2) })
   where
     both_same : (env : List Value) → exec (test (give (code_and c d)) a b) env ≡ exec (test (give c) (test (give d) a b) b) env
     both_same env =

@@ -14,6 +14,7 @@ use std::mem;
 
 // The block with guards, in all its parts.
 #[cycle(guard)]
+#[tactic(auto, using(crate::proofs::StandsLaws::stands_then))]
 pub(crate) fn guard(alloc: Global, block: &mut Block) -> Result<(), NoMemory>
     ensures { OnOk result (StandsFor (block_tree block.old) (block_tree block.new)) }
 {
@@ -22,6 +23,7 @@ pub(crate) fn guard(alloc: Global, block: &mut Block) -> Result<(), NoMemory>
 }
 
 #[cycle(guard)]
+#[tactic(auto, using(crate::proofs::StandsLaws::stands_self, crate::proofs::StandsLaws::stands_bind, crate::proofs::StandsLaws::stands_part, crate::proofs::StandsLaws::stands_join, crate::proofs::StandsLaws::stands_test, crate::proofs::StandsLaws::stands_arm))]
 fn guard_parts(alloc: Global, block: &mut Block) -> Result<(), NoMemory>
     ensures { OnOk result (StandsFor (block_tree block.old) (block_tree block.new)) }
 {
@@ -74,6 +76,7 @@ fn put<T: Drop>(place: &mut T, value: T)
     *place = value;
 }
 
+#[tactic(auto, using(crate::proofs::StandsLaws::stands_self))]
 fn guarded(alloc: Global, block: Block) -> Result<Block, NoMemory>
     ensures { IfOk result (λ b. StandsFor (block_tree block) (block_tree b)) }
 {
@@ -89,6 +92,7 @@ fn guarded(alloc: Global, block: Block) -> Result<Block, NoMemory>
 }
 
 // Two tests side by side as one.
+#[tactic(auto, using(crate::proofs::StandsLaws::stands_self))]
 fn guarded_test(
     alloc: Global,
     test: Box<Block>,
@@ -107,6 +111,7 @@ fn guarded_test(
     }
 }
 
+#[tactic(auto, using(crate::proofs::StandsLaws::stands_self))]
 fn behind_code(
     alloc: Global,
     first: Code,
@@ -125,6 +130,7 @@ fn behind_code(
     }
 }
 
+#[tactic(auto, using(crate::proofs::StandsLaws::stands_self, crate::proofs::StandsLaws::stands_both))]
 fn behind_test(
     alloc: Global,
     first: Code,
@@ -201,6 +207,7 @@ fn both(alloc: Global, first: Code, test: Box<Block>) -> Result<Block, NoMemory>
     }
 }
 
+#[tactic(auto, using(crate::proofs::StandsLaws::stands_self, crate::proofs::StandsLaws::stands_guards, crate::proofs::StandsLaws::stands_never))]
 fn guarded_arm(bounds: Vec<u32>, body: Box<Block>, later: Box<Block>) -> Block
     ensures { StandsFor (arm_of bounds.items (block_tree body.value) (block_tree later.value)) (block_tree result) }
 {

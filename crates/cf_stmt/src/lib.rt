@@ -2,6 +2,7 @@
 #![tactic(auto)]
 
 mod block;
+mod boxed;
 mod expression;
 mod guards;
 mod made;

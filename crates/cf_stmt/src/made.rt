@@ -12,6 +12,7 @@ use std::alloc::Global;
 
 /// The statements that give what a code gives, with the same greatest number met. In them only expressions of depth at
 /// most `DEEPEST` are evaluated.
+#[tactic(auto, using(crate::proofs::MadeLaws::made_stands))]
 pub fn statements(alloc: Global, code: &Code) -> Result<Box<Block>, NoMemory>
     ensures { IfOk result (λ b. IsStatements (code_tree code.now) (block_tree b.value)) }
 {

@@ -8,6 +8,7 @@ ghost use Rattle.cf_stmt.specs.Made.{append, two_codes};
 ghost use Rattle.cf_stmt.specs.SumView.{bound_blocks, ready_codes, sum_left, IsSum};
 
 use crate::block::Block;
+use crate::boxed::part;
 use cf_tree::{Code, NoMemory, add_u32};
 use std::alloc::Global;
 
@@ -49,6 +50,7 @@ pub(crate) fn sum_of_block(alloc: Global, block: Box<Block>, n: u32) -> Result<S
 }
 
 // One code more, which stands behind the sum's variables.
+#[tactic(auto, using(crate::proofs::SumSteps::codes_push))]
 pub(crate) fn add_code(sum: Summing, code: Code) -> Result<Summing, NoMemory>
     ensures { IfOk result (λ s. IsSum s sum.n (append (ready_codes sum) (code_more (code_tree code) no_codes)) (bound_blocks sum)) }
 {
@@ -90,7 +92,7 @@ pub(crate) fn sum_done(alloc: Global, sum: Summing) -> Result<Box<Block>, NoMemo
     let mut block = Box::new(alloc, Block::Give(Code::Sum(sum.ready)))?;
     let mut bound = sum.bound;
     while let Some(first) = bound.pop() {
-        block = Box::new(alloc, Block::Part(first, block))?;
+        block = part(alloc, first, block)?;
     }
     Ok(block)
 }

@@ -1,51 +1,23 @@
 //! Code as statements.
 ghost use Rattle.std.specs.Prelude.{◌≡◌, IfOk};
-ghost use Rattle.cf_tree.specs.CodeTree.{CodeTrees, code_more, code_tuple, code_var, no_codes};
-ghost use Rattle.cf_tree.specs.OverParts.{HasList, over_list, HasTwoParts, over_two, HasThreeParts, over_three};
+ghost use Rattle.cf_tree.specs.CodeTree.{code_tuple};
 ghost use Rattle.cf_tree.specs.CodeView.{code_tree, code_trees, item_tree, item_trees, arm_tree, arm_trees};
 ghost use Rattle.cf_stmt.specs.BlockView.{block_tree};
-ghost use Rattle.cf_shift.specs.Shifted.{shifted, all_shifted};
-ghost use Rattle.cf_stmt.specs.Blocks.{give, part as a_part, bind as bind_of, join as join_of, test as test_of};
+ghost use Rattle.cf_shift.specs.Shifted.{all_shifted};
 ghost use Rattle.cf_stmt.specs.Fitting.{fits, plain};
-ghost use Rattle.cf_stmt.specs.SumView.{sum_left};
-ghost use Rattle.cf_stmt.specs.Made.{plain_or, stay, vars_then, block_at, bound_parts, sum_block, tuple_block, arms_block, arm_block, items_block, item_block};
+ghost use Rattle.cf_stmt.specs.SumView.{IsBegun, IsMore};
+ghost use Rattle.cf_stmt.specs.Made.{plain_or, stay, block_at, bound_parts, sum_block, tuple_block, arms_block, arm_block, items_block, item_block};
 
 use crate::block::Block;
+use crate::boxed::{
+    bind, give, join, over_variables, part, part_kept, part_of, test, three_parts, two_parts,
+    variable,
+};
 use crate::expression::{all_fit, fits};
 use crate::sums::{Summing, add_block, add_code, sum_done, sum_of_block, sum_of_code};
 use cf_shift::{shift, shift_all};
 use cf_tree::{Arm, Code, Item, NoMemory, add_u32, code_leaf, code_over_one, to_u32};
 use std::alloc::Global;
-
-// The code itself behind `n` more variables.
-fn give(alloc: Global, code: &Code, n: u32) -> Result<Box<Block>, NoMemory>
-    ensures { IfOk result (λ b. block_tree b.value ≡ give (shifted n (code_tree code.now))) }
-{
-    Ok(Box::new(alloc, Block::Give(shift(alloc, code, n)?))?)
-}
-
-fn bind(alloc: Global, a: Box<Block>, b: Box<Block>) -> Result<Box<Block>, NoMemory>
-    ensures { IfOk result (λ r. block_tree r.value ≡ bind_of (block_tree a.value) (block_tree b.value)) }
-{
-    Ok(Box::new(alloc, Block::Bind(a, b))?)
-}
-
-fn join(alloc: Global, a: Box<Block>, b: Box<Block>) -> Result<Box<Block>, NoMemory>
-    ensures { IfOk result (λ r. block_tree r.value ≡ join_of (block_tree a.value) (block_tree b.value)) }
-{
-    Ok(Box::new(alloc, Block::Join(a, b))?)
-}
-
-fn test(
-    alloc: Global,
-    test: Box<Block>,
-    yes: Box<Block>,
-    no: Box<Block>,
-) -> Result<Box<Block>, NoMemory>
-    ensures { IfOk result (λ r. block_tree r.value ≡ test_of (block_tree test.value) (block_tree yes.value) (block_tree no.value)) }
-{
-    Ok(Box::new(alloc, Block::Test { test, yes, no })?)
-}
 
 // The block of a code behind `n` more variables.
 #[cycle(walk)]
@@ -152,104 +124,10 @@ pub(crate) fn block_of(alloc: Global, code: &Code, n: u32) -> Result<Box<Block>,
             if fits(code, 0) {
                 return give(alloc, code, n);
             }
-            let last = over_variables(alloc, code, parts.len())?;
+            let last = over_variables(alloc, code, parts)?;
             bound_parts(alloc, parts, n, last)
         }
     }
-}
-
-// An operation on two codes, of which the second stays where it is.
-fn part_kept(
-    alloc: Global,
-    code: &Code,
-    first: Box<Block>,
-    b: &Code,
-    behind: u32,
-) -> Result<Box<Block>, NoMemory>
-    requires { HasTwoParts (code_tree code.now) }
-    ensures { IfOk result (λ r. block_tree r.value ≡
-        a_part (block_tree first.value) (give (over_two (code_tree code.now) (code_var 0) (shifted behind (code_tree b.now))))) }
-{
-    let x = variable(alloc, 0)?;
-    let second = Box::new(alloc, shift(alloc, b, behind)?)?;
-    part_of(alloc, first, code.over_two(x, second))
-}
-
-// An operation on two parts.
-fn two_parts(
-    alloc: Global,
-    code: &Code,
-    first: Box<Block>,
-    second: Box<Block>,
-) -> Result<Box<Block>, NoMemory>
-    requires { HasTwoParts (code_tree code.now) }
-    ensures { IfOk result (λ r. block_tree r.value ≡
-        a_part (block_tree first.value) (a_part (block_tree second.value) (give (over_two (code_tree code.now) (code_var 1) (code_var 0))))) }
-{
-    let x = variable(alloc, 1)?;
-    let y = variable(alloc, 0)?;
-    let rest = part_of(alloc, second, code.over_two(x, y))?;
-    part(alloc, first, rest)
-}
-
-// An operation on three parts.
-fn three_parts(
-    alloc: Global,
-    code: &Code,
-    first: Box<Block>,
-    second: Box<Block>,
-    third: Box<Block>,
-) -> Result<Box<Block>, NoMemory>
-    requires { HasThreeParts (code_tree code.now) }
-    ensures { IfOk result (λ r. block_tree r.value ≡
-        a_part (block_tree first.value) (a_part (block_tree second.value) (a_part (block_tree third.value)
-        (give (over_three (code_tree code.now) (code_var 2) (code_var 1) (code_var 0)))))) }
-{
-    let x = variable(alloc, 2)?;
-    let y = variable(alloc, 1)?;
-    let z = variable(alloc, 0)?;
-    let rest = part_of(alloc, third, code.over_three(x, y, z))?;
-    let rest = part(alloc, second, rest)?;
-    part(alloc, first, rest)
-}
-
-fn variable(alloc: Global, level: u32) -> Result<Box<Code>, NoMemory>
-    ensures { IfOk result (λ c. code_tree c.value ≡ code_var level) }
-{
-    Ok(Box::new(alloc, Code::Var(level))?)
-}
-
-fn part(alloc: Global, a: Box<Block>, b: Box<Block>) -> Result<Box<Block>, NoMemory>
-    ensures { IfOk result (λ r. block_tree r.value ≡ a_part (block_tree a.value) (block_tree b.value)) }
-{
-    Ok(Box::new(alloc, Block::Part(a, b))?)
-}
-
-// A part and then a code.
-fn part_of(alloc: Global, a: Box<Block>, code: Code) -> Result<Box<Block>, NoMemory>
-    ensures { IfOk result (λ r. block_tree r.value ≡ a_part (block_tree a.value) (give (code_tree code))) }
-{
-    let last = Box::new(alloc, Block::Give(code))?;
-    part(alloc, a, last)
-}
-
-// The form over so many variables, the last first.
-fn over_variables(alloc: Global, code: &Code, count: usize) -> Result<Box<Block>, NoMemory>
-    requires { HasList (code_tree code.now) }
-    ensures { IfOk result (λ b. block_tree b.value ≡ give (over_list (code_tree code.now) (vars_then 0 count no_codes))) }
-{
-    let all = variables(alloc, count)?;
-    Ok(Box::new(alloc, Block::Give(code.over_list(all)))?)
-}
-
-fn variables(alloc: Global, count: usize) -> Result<Vec<Code>, NoMemory>
-    ensures { IfOk result (λ all. code_trees all.items ≡ vars_then 0 count no_codes) }
-{
-    let mut all = Vec::with_capacity(alloc, count)?;
-    for back in 0..count {
-        all.push(Code::Var(to_u32(count - 1 - back)?))?;
-    }
-    Ok(all)
 }
 
 // The first values of all, each bound, and then the last block.
@@ -289,7 +167,7 @@ fn sum_block(alloc: Global, codes: &[Code], n: u32) -> Result<Box<Block>, NoMemo
 // The sum of its first code.
 #[cycle(walk)]
 fn sum_begun(alloc: Global, code: &Code, n: u32) -> Result<Summing, NoMemory>
-    ensures { IfOk result (λ s. (cs : CodeTrees) → sum_left s cs ≡ sum_block plain n (code_more (code_tree code.now) cs)) }
+    ensures { IfOk result (λ s. IsBegun n (code_tree code.now) s) }
 {
     if fits(code, 1) {
         return sum_of_code(alloc, shift(alloc, code, n)?, n);
@@ -301,7 +179,7 @@ fn sum_begun(alloc: Global, code: &Code, n: u32) -> Result<Summing, NoMemory>
 // The sum with one code more.
 #[cycle(walk)]
 fn sum_more(alloc: Global, sum: Summing, code: &Code) -> Result<Summing, NoMemory>
-    ensures { IfOk result (λ s. (cs : CodeTrees) → sum_left s cs ≡ sum_left sum (code_more (code_tree code.now) cs)) }
+    ensures { IfOk result (λ s. IsMore (code_tree code.now) sum s) }
 {
     let n = sum.n;
     if fits(code, 1) {
