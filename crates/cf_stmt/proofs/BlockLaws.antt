@@ -178,47 +178,75 @@ module _ (plain : Plain) where
         either (plain.whole (code_card a)) (code_card a) (part (block_at plain (length front) a) (give (code_card (code_var 0)))) front env
         (one_done _ (path a env) (λ x. meets (pos (length (set_in x)))) (does a front env) (path_own a env))
     does (code_sub a b) front env =
-        either (plain.whole (code_sub a b)) (code_sub a b) (two_block (plain.part b) (block_at plain (length front) a) (block_at plain (suc (length front)) b) (shifted (suc (length front)) b) code_sub) front env
-        (two_parts (plain.part b) (block_at plain (length front) a) (block_at plain (suc (length front)) b) a b front env code_sub (λ x y. meets (number_in x -ℤ number_in y)) (λ c d e. refl) (λ x y. refl) (λ x y. refl) (does a front env) (λ v. does b (v ∷ front) env))
+        either (plain.whole (code_sub a b)) (code_sub a b)
+        (two_block (plain.part b) (block_at plain (length front) a) (block_at plain (suc (length front)) b) (shifted (suc (length front)) b) code_sub) front
+        env
+        (two_parts (plain.part b) (block_at plain (length front) a) (block_at plain (suc (length front)) b) a b front env code_sub
+        (λ x y. meets (number_in x -ℤ number_in y)) (λ c d e. refl) (λ x y. refl) (λ x y. refl) (does a front env) (λ v. does b (v ∷ front) env))
     does (code_mul a b) front env =
-        either (plain.whole (code_mul a b)) (code_mul a b) (two_block (plain.part b) (block_at plain (length front) a) (block_at plain (suc (length front)) b) (shifted (suc (length front)) b) code_mul) front env
-        (two_parts (plain.part b) (block_at plain (length front) a) (block_at plain (suc (length front)) b) a b front env code_mul (λ x y. meets (number_in x *ℤ number_in y)) (λ c d e. refl) (λ x y. refl) (λ x y. refl) (does a front env) (λ v. does b (v ∷ front) env))
+        either (plain.whole (code_mul a b)) (code_mul a b)
+        (two_block (plain.part b) (block_at plain (length front) a) (block_at plain (suc (length front)) b) (shifted (suc (length front)) b) code_mul) front
+        env
+        (two_parts (plain.part b) (block_at plain (length front) a) (block_at plain (suc (length front)) b) a b front env code_mul
+        (λ x y. meets (number_in x *ℤ number_in y)) (λ c d e. refl) (λ x y. refl) (λ x y. refl) (does a front env) (λ v. does b (v ∷ front) env))
     does (code_compare o a b) front env =
-        either (plain.whole (code_compare o a b)) (code_compare o a b) (two_block (plain.part b) (block_at plain (length front) a) (block_at plain (suc (length front)) b) (shifted (suc (length front)) b) (code_compare o)) front env
-        (two_parts (plain.part b) (block_at plain (length front) a) (block_at plain (suc (length front)) b) a b front env (code_compare o) (λ x y. gives_truth (compared o (first_of x) (first_of y))) (λ c d e. refl) (λ x y. refl) (λ x y. refl) (does a front env) (λ v. does b (v ∷ front) env))
+        either (plain.whole (code_compare o a b)) (code_compare o a b)
+        (two_block (plain.part b) (block_at plain (length front) a) (block_at plain (suc (length front)) b) (shifted (suc (length front)) b)
+        (code_compare o)) front env
+        (two_parts (plain.part b) (block_at plain (length front) a) (block_at plain (suc (length front)) b) a b front env (code_compare o)
+        (λ x y. gives_truth (compared o (first_of x) (first_of y))) (λ c d e. refl) (λ x y. refl) (λ x y. refl) (does a front env)
+        (λ v. does b (v ∷ front) env))
     does (code_diff a b) front env =
-        either (plain.whole (code_diff a b)) (code_diff a b) (two_block (plain.part b) (block_at plain (length front) a) (block_at plain (suc (length front)) b) (shifted (suc (length front)) b) code_diff) front env
-        (two_parts (plain.part b) (block_at plain (length front) a) (block_at plain (suc (length front)) b) a b front env code_diff (λ x y. gives_set (set_diff (set_in x) (set_in y))) (λ c d e. refl) (λ x y. refl) (λ x y. refl) (does a front env) (λ v. does b (v ∷ front) env))
+        either (plain.whole (code_diff a b)) (code_diff a b)
+        (two_block (plain.part b) (block_at plain (length front) a) (block_at plain (suc (length front)) b) (shifted (suc (length front)) b) code_diff)
+        front env
+        (two_parts (plain.part b) (block_at plain (length front) a) (block_at plain (suc (length front)) b) a b front env code_diff
+        (λ x y. gives_set (set_diff (set_in x) (set_in y))) (λ c d e. refl) (λ x y. refl) (λ x y. refl) (does a front env) (λ v. does b (v ∷ front) env))
     does (code_subset a b) front env =
-        either (plain.whole (code_subset a b)) (code_subset a b) (two_block (plain.part b) (block_at plain (length front) a) (block_at plain (suc (length front)) b) (shifted (suc (length front)) b) code_subset) front env
-        (two_parts (plain.part b) (block_at plain (length front) a) (block_at plain (suc (length front)) b) a b front env code_subset (λ x y. gives_truth (is_subset (set_in x) (set_in y))) (λ c d e. refl) (λ x y. refl) (λ x y. refl) (does a front env) (λ v. does b (v ∷ front) env))
+        either (plain.whole (code_subset a b)) (code_subset a b)
+        (two_block (plain.part b) (block_at plain (length front) a) (block_at plain (suc (length front)) b) (shifted (suc (length front)) b) code_subset)
+        front env
+        (two_parts (plain.part b) (block_at plain (length front) a) (block_at plain (suc (length front)) b) a b front env code_subset
+        (λ x y. gives_truth (is_subset (set_in x) (set_in y))) (λ c d e. refl) (λ x y. refl) (λ x y. refl) (does a front env) (λ v. does b (v ∷ front) env))
     does (code_fresh a b) front env =
-        either (plain.whole (code_fresh a b)) (code_fresh a b) (two_block (plain.part b) (block_at plain (length front) a) (block_at plain (suc (length front)) b) (shifted (suc (length front)) b) code_fresh) front env
-        (two_parts (plain.part b) (block_at plain (length front) a) (block_at plain (suc (length front)) b) a b front env code_fresh (λ x y. meets_set (set_fresh (set_in x) (count_of (number_in y)))) (λ c d e. refl) (λ x y. refl) (λ x y. refl) (does a front env) (λ v. does b (v ∷ front) env))
+        either (plain.whole (code_fresh a b)) (code_fresh a b)
+        (two_block (plain.part b) (block_at plain (length front) a) (block_at plain (suc (length front)) b) (shifted (suc (length front)) b) code_fresh)
+        front env
+        (two_parts (plain.part b) (block_at plain (length front) a) (block_at plain (suc (length front)) b) a b front env code_fresh
+        (λ x y. meets_set (set_fresh (set_in x) (count_of (number_in y)))) (λ c d e. refl) (λ x y. refl) (λ x y. refl) (does a front env)
+        (λ v. does b (v ∷ front) env))
     does (code_set_of cs) front env =
-        either (plain.whole (code_set_of cs)) (code_set_of cs) (bound_parts plain (length front) cs (give (code_set_of (vars_then 0 (count cs) no_codes)))) front env
+        either (plain.whole (code_set_of cs)) (code_set_of cs) (bound_parts plain (length front) cs (give (code_set_of (vars_then 0 (count cs) no_codes))))
+        front env
         (sym (from_zero _)
-        ∙ (does_parts cs (does_each cs) (List ℤ) set_path (λ z x. set_put (number_in x) z) gives_set (record { nil = λ e z. refl; more = λ c ds e z. refl; firsts = λ z x. refl }) [] code_set_of
+        ∙ (does_parts cs (does_each cs) (List ℤ) set_path (λ z x. set_put (number_in x) z) gives_set
+        (record { nil = λ e z. refl; more = λ c ds e z. refl; firsts = λ z x. refl }) [] code_set_of
         (λ ds e. refl) [] front env 0 tt (count cs) (none_yet (count cs)) ∙ from_zero _))
     does (code_min cs) front env =
         either (plain.whole (code_min cs)) (code_min cs) (bound_parts plain (length front) cs (give (code_min (vars_then 0 (count cs) no_codes)))) front env
         (sym (from_zero _)
-        ∙ (does_parts cs (does_each cs) (Option ℤ) (best_path int_min) (λ z x. Some (choose_with int_min z (number_in x))) (λ z. meets (chosen z)) (record { nil = λ e z. refl; more = λ c ds e z. refl; firsts = λ z x. refl }) None code_min
+        ∙ (does_parts cs (does_each cs) (Option ℤ) (best_path int_min) (λ z x. Some (choose_with int_min z (number_in x))) (λ z. meets (chosen z))
+        (record { nil = λ e z. refl; more = λ c ds e z. refl; firsts = λ z x. refl }) None code_min
         (λ ds e. refl) [] front env 0 tt (count cs) (none_yet (count cs)) ∙ from_zero _))
     does (code_max cs) front env =
         either (plain.whole (code_max cs)) (code_max cs) (bound_parts plain (length front) cs (give (code_max (vars_then 0 (count cs) no_codes)))) front env
         (sym (from_zero _)
-        ∙ (does_parts cs (does_each cs) (Option ℤ) (best_path int_max) (λ z x. Some (choose_with int_max z (number_in x))) (λ z. meets (chosen z)) (record { nil = λ e z. refl; more = λ c ds e z. refl; firsts = λ z x. refl }) None code_max
+        ∙ (does_parts cs (does_each cs) (Option ℤ) (best_path int_max) (λ z x. Some (choose_with int_max z (number_in x))) (λ z. meets (chosen z))
+        (record { nil = λ e z. refl; more = λ c ds e z. refl; firsts = λ z x. refl }) None code_max
         (λ ds e. refl) [] front env 0 tt (count cs) (none_yet (count cs)) ∙ from_zero _))
     does (code_union cs) front env =
-        either (plain.whole (code_union cs)) (code_union cs) (bound_parts plain (length front) cs (give (code_union (vars_then 0 (count cs) no_codes)))) front env
+        either (plain.whole (code_union cs)) (code_union cs) (bound_parts plain (length front) cs (give (code_union (vars_then 0 (count cs) no_codes)))) front
+        env
         (sym (from_zero _)
-        ∙ (does_parts cs (does_each cs) (Option (List ℤ)) (join_path set_union) (λ z x. Some (joined_with set_union z (set_in x))) (λ z. gives_set (joined z)) (record { nil = λ e z. refl; more = λ c ds e z. refl; firsts = λ z x. refl }) None code_union
+        ∙ (does_parts cs (does_each cs) (Option (List ℤ)) (join_path set_union) (λ z x. Some (joined_with set_union z (set_in x))) (λ z. gives_set (joined z))
+        (record { nil = λ e z. refl; more = λ c ds e z. refl; firsts = λ z x. refl }) None code_union
         (λ ds e. refl) [] front env 0 tt (count cs) (none_yet (count cs)) ∙ from_zero _))
     does (code_inter cs) front env =
-        either (plain.whole (code_inter cs)) (code_inter cs) (bound_parts plain (length front) cs (give (code_inter (vars_then 0 (count cs) no_codes)))) front env
+        either (plain.whole (code_inter cs)) (code_inter cs) (bound_parts plain (length front) cs (give (code_inter (vars_then 0 (count cs) no_codes)))) front
+        env
         (sym (from_zero _)
-        ∙ (does_parts cs (does_each cs) (Option (List ℤ)) (join_path set_inter) (λ z x. Some (joined_with set_inter z (set_in x))) (λ z. gives_set (joined z)) (record { nil = λ e z. refl; more = λ c ds e z. refl; firsts = λ z x. refl }) None code_inter
+        ∙ (does_parts cs (does_each cs) (Option (List ℤ)) (join_path set_inter) (λ z x. Some (joined_with set_inter z (set_in x))) (λ z. gives_set (joined z))
+        (record { nil = λ e z. refl; more = λ c ds e z. refl; firsts = λ z x. refl }) None code_inter
         (λ ds e. refl) [] front env 0 tt (count cs) (none_yet (count cs)) ∙ from_zero _))
     does (code_slice a b c) front env =
         either (plain.whole (code_slice a b c)) (code_slice a b c)
@@ -260,7 +288,8 @@ module _ (plain : Plain) where
         (λ e. either (stay plain.whole gs) (code_tuple gs) (tuple_block plain (length front) gs) front e (does_tuple gs (does_each gs) front e))
         (env ++ vs)))))
 
-    does_items : (is : ItemTrees) (front : List Value) (b : Block) (g : List Value → Path (Option (List Value))) → ((e : List Value) → exec b (front ++ e) ≡ g e) →
+    does_items : (is : ItemTrees) (front : List Value) (b : Block) (g : List Value → Path (Option (List Value))) →
+        ((e : List Value) → exec b (front ++ e) ≡ g e) →
         (env : List Value) → exec (items_block plain (length front) is b) (front ++ env) ≡ then_path (items_path is env) (λ o. if_some o g)
     does_items no_items front b g h env = h env ∙ sym (only_then (Some env) (λ o. if_some o g))
     does_items (item_more i is) front b g h env =

@@ -93,8 +93,11 @@ pub parts_fit : (cs : CodeTrees) → stay (fits 1) cs ≡ true → (are_expressi
 parts_fit no_codes h = (refl, omega arith)
 parts_fit (code_more c cs) h =
     let one : fits 1 c ≡ true = true_left (fits 1 c) _ h in
-    let more : (are_expressions cs ≡ true) × (1 + codes_depth cs ≤ DEEPEST) = parts_fit cs (true_right (fits 1 c) _ h) in
-    (true_both (is_expression c) (are_expressions cs) (true_left (is_expression c) _ one) more.0, deeper (code_depth c) (codes_depth cs) DEEPEST (depth_fits 1 c one) more.1)
+    let more : (are_expressions cs ≡ true) × (1 + codes_depth cs ≤ DEEPEST) = parts_fit cs (true_right (fits 1 c) _ h) in (
+      true_both (is_expression c) (are_expressions cs) (true_left (is_expression c) _ one) more.0,
+      deeper (code_depth c) (codes_depth cs) DEEPEST
+          (depth_fits 1 c one) more.1,
+    )
   where
     deeper : (a b k : ℕ) → 1 + a ≤ k → 1 + b ≤ k → 1 + max a b ≤ k
     deeper a b k l m = omega (arith, l, m)
@@ -106,7 +109,8 @@ over_parts cs h = true_both (are_expressions cs) _ (parts_fit cs h).0 (le-leb (1
 pub over_two_parts : (c d : CodeTree) → fits 1 c ≡ true → fits 1 d ≡ true →
     (is_expression c && is_expression d) && nat_le (1 + max (code_depth c) (code_depth d)) DEEPEST ≡ true
 over_two_parts c d h k =
-    true_both (is_expression c && is_expression d) _ (true_both (is_expression c) (is_expression d) (true_left (is_expression c) _ h) (true_left (is_expression d) _ k))
+    true_both (is_expression c && is_expression d) _
+    (true_both (is_expression c) (is_expression d) (true_left (is_expression c) _ h) (true_left (is_expression d) _ k))
     (le-leb (1 + max (code_depth c) (code_depth d)) DEEPEST (deeper (code_depth c) (code_depth d) DEEPEST (depth_fits 1 c h) (depth_fits 1 d k)))
   where
     deeper : (a b k : ℕ) → 1 + a ≤ k → 1 + b ≤ k → 1 + max a b ≤ k
@@ -241,7 +245,11 @@ mutual
   evaluates_arms (arm_more a arms) n b p = evaluates_arm a n (arms_block plain n arms b) (evaluates_arms arms n b p)
 
   evaluates_arm : (a : ArmTree) (n : ℕ) (b : Block) → EvaluatesPlain b → EvaluatesPlain (arm_block plain n a b)
-  evaluates_arm (arm_of ks is gs) n b p = (evaluates_items is n (plain_or (stay (fits 0) gs) (code_tuple (all_shifted n gs)) (tuple_block plain n gs)) (gives gs (evaluates_each gs) n), p)
+  evaluates_arm (arm_of ks is gs) n b p = (
+    evaluates_items is n (plain_or (stay (fits 0) gs) (code_tuple (all_shifted n gs)) (tuple_block plain n gs))
+        (gives gs (evaluates_each gs) n),
+    p,
+  )
 
   evaluates_items : (is : ItemTrees) (n : ℕ) (b : Block) → EvaluatesPlain b → EvaluatesPlain (items_block plain n is b)
   evaluates_items no_items n b p = p

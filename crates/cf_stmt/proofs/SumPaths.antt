@@ -102,7 +102,8 @@ one_met m w env s =
 two_met : (m : ℕ) (v w : Value) (env : List Value) → is_small m v → is_small m w →
     from m (sum_path (two_codes (code_var 1) (code_var 0)) (w ∷ (v ∷ env)) (pos 0)) ≡ from m (meets (number_of v +ℤ number_of w))
 two_met m v w env s t =
-    let last : ℤ → Path (List Value) = λ z. then_path (meets_value w) (λ x. then_path (meets (z +ℤ number_in x)) (λ s. gives_only (number (number_in s) ∷ []))) in
+    let last : ℤ → Path (List Value) = λ z. then_path (meets_value w) (λ x. then_path (meets (z +ℤ number_in x)) (λ s. gives_only (number (number_in s) ∷ [])))
+    in
     reads m v (λ x. then_path (meets (pos 0 +ℤ number_in x)) (λ s. last (number_in s))) s
     ∙ (ap (λ z. from m (then_path (meets z) (λ s. last (number_in s)))) (zero_plus (number_of v))
     ∙ (from_small m (unsigned_abs (number_of v)) (last (number_of v)) s

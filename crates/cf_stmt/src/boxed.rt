@@ -119,7 +119,6 @@ pub(crate) fn part_of(alloc: Global, a: Box<Block>, code: Code) -> Result<Box<Bl
 }
 
 // The form over a variable for each of its parts, the last first.
-#[tactic(auto, using(crate::proofs::SumSteps::count_trees))]
 pub(crate) fn over_variables(
     alloc: Global,
     code: &Code,
@@ -128,24 +127,31 @@ pub(crate) fn over_variables(
     requires { HasList (code_tree code.now) }
     ensures { IfOk result (λ b. block_tree b.value ≡ give (over_list (code_tree code.now) (vars_then 0 (count (code_trees parts.now)) no_codes))) }
 {
-    let all = variables(alloc, parts.len())?;
+    let all = variables(alloc, parts)?;
     Ok(Box::new(alloc, Block::Give(code.over_list(all)))?)
 }
 
-fn variables(alloc: Global, count: usize) -> Result<Vec<Code>, NoMemory>
-    ensures { IfOk result (λ all. code_trees all.items ≡ vars_then 0 count no_codes) }
+// A variable for each of the parts, the last first.
+fn variables(alloc: Global, parts: &[Code]) -> Result<Vec<Code>, NoMemory>
+    ensures { IfOk result (λ all. code_trees all.items ≡ vars_then 0 (count (code_trees parts.now)) no_codes) }
 {
-    let mut all = Vec::with_capacity(alloc, count)?;
-    for back in 0..count {
-        push_variable(&mut all, count - 1 - back)?;
+    let mut all = Vec::with_capacity(alloc, parts.len())?;
+    for back in 0..parts.len() {
+        push_variable(&mut all, parts.len() - 1 - back)?;
     }
     Ok(all)
 }
 
-#[tactic(auto, using(crate::proofs::SumSteps::codes_push))]
 fn push_variable(all: &mut Vec<Code>, level: usize) -> Result<(), NoMemory>
     ensures { OnOk result (code_trees all.new.items ≡ append (code_trees all.old.items) (code_more (code_var level) no_codes)) }
 {
-    all.push(Code::Var(to_u32(level)?))?;
+    let code = variable_at(level)?;
+    all.push(code)?;
     Ok(())
+}
+
+fn variable_at(level: usize) -> Result<Code, NoMemory>
+    ensures { IfOk result (λ c. code_tree c ≡ code_var level) }
+{
+    Ok(Code::Var(to_u32(level)?))
 }

@@ -1,241 +1,131 @@
-//! Blocks as written by hand: the last arm without a search has guards, nothing stands behind an
+//! Blocks written as by hand: the last arm without a search has guards, nothing stands behind an
 //! arm that is never left, and tests side by side are one.
-ghost use Rattle.std.specs.Prelude.{◌≡◌, IfOk, OnOk};
-ghost use Rattle.cf_tree.specs.CodeView.{code_tree};
+ghost use Rattle.std.specs.Prelude.{◌≡◌, IfOk};
 ghost use Rattle.cf_stmt.specs.BlockView.{block_tree};
-ghost use Rattle.cf_stmt.specs.Blocks.{give, arm as arm_of, test as test_of};
-ghost use Rattle.cf_stmt.specs.Guards.{If, GivesPart, StandsFor, and_given, else_none, never_leaves};
+ghost use Rattle.cf_stmt.specs.Blocks.{arm as arm_of, leave as leave_of, none as none_of};
+ghost use Rattle.cf_stmt.specs.Guards.{and_test, both_given, else_none, ends_alike, gives_part, guarded, guarded_arm, guarded_test, is_leave, is_none, never_leaves, single_arm, stop_of, tests_so};
 
 use crate::block::Block;
+use crate::boxed::{bind, join, part, test};
 use crate::expression::fits;
 use cf_tree::{Code, NoMemory};
 use std::alloc::Global;
-use std::mem;
 
 // The block with guards, in all its parts.
-#[cycle(guard)]
-#[tactic(auto, using(crate::proofs::StandsLaws::stands_then))]
-pub(crate) fn guard(alloc: Global, block: &mut Block) -> Result<(), NoMemory>
-    ensures { OnOk result (StandsFor (block_tree block.old) (block_tree block.new)) }
+#[cycle(guarded)]
+pub(crate) fn guarded(alloc: Global, block: Box<Block>) -> Result<Box<Block>, NoMemory>
+    ensures { IfOk result (λ b. block_tree b.value ≡ guarded (block_tree block.value)) }
 {
-    guard_parts(alloc, block)?;
-    guard_form(alloc, block)
-}
-
-#[cycle(guard)]
-#[tactic(auto, using(crate::proofs::StandsLaws::stands_self, crate::proofs::StandsLaws::stands_bind, crate::proofs::StandsLaws::stands_part, crate::proofs::StandsLaws::stands_join, crate::proofs::StandsLaws::stands_test, crate::proofs::StandsLaws::stands_arm))]
-fn guard_parts(alloc: Global, block: &mut Block) -> Result<(), NoMemory>
-    ensures { OnOk result (StandsFor (block_tree block.old) (block_tree block.new)) }
-{
-    match block {
-        Block::Give(_) | Block::Stop(_) | Block::Leave => Ok(()),
+    match Box::into_inner(block) {
+        Block::Give(code) => Ok(Box::new(alloc, Block::Give(code))?),
+        Block::Stop(number) => Ok(Box::new(alloc, Block::Stop(number))?),
+        Block::Leave => Ok(Box::new(alloc, Block::Leave)?),
         Block::Bind(a, b) => {
-            guard_part(alloc, a)?;
-            guard_part(alloc, b)
+            let a = guarded(alloc, a)?;
+            let b = guarded(alloc, b)?;
+            bind(alloc, a, b)
         }
         Block::Part(a, b) => {
-            guard_part(alloc, a)?;
-            guard_part(alloc, b)
+            let a = guarded(alloc, a)?;
+            let b = guarded(alloc, b)?;
+            part(alloc, a, b)
         }
         Block::Join(a, b) => {
-            guard_part(alloc, a)?;
-            guard_part(alloc, b)
+            let a = guarded(alloc, a)?;
+            let b = guarded(alloc, b)?;
+            join(alloc, a, b)
         }
         Block::Test { test, yes, no } => {
-            guard_part(alloc, test)?;
-            guard_part(alloc, yes)?;
-            guard_part(alloc, no)
+            let test = guarded(alloc, test)?;
+            let yes = guarded(alloc, yes)?;
+            let no = guarded(alloc, no)?;
+            guarded_test(alloc, test, yes, no)
         }
-        Block::Arm { body, later, .. } => {
-            guard_part(alloc, body)?;
-            guard_part(alloc, later)
-        }
-    }
-}
-
-// for the proof: the parts of a form are lent with their boxes
-#[cycle(guard)]
-fn guard_part(alloc: Global, part: &mut Box<Block>) -> Result<(), NoMemory>
-    ensures { OnOk result (StandsFor (block_tree part.old.value) (block_tree part.new.value)) }
-{
-    guard(alloc, part)
-}
-
-// The form itself.
-fn guard_form(alloc: Global, block: &mut Block) -> Result<(), NoMemory>
-    ensures { OnOk result (StandsFor (block_tree block.old) (block_tree block.new)) }
-{
-    let form = mem::replace(block, Block::Leave);
-    put(block, guarded(alloc, form)?);
-    Ok(())
-}
-
-fn put<T: Drop>(place: &mut T, value: T)
-    ensures { place.new ≡ value }
-{
-    *place = value;
-}
-
-#[tactic(auto, using(crate::proofs::StandsLaws::stands_self))]
-fn guarded(alloc: Global, block: Block) -> Result<Block, NoMemory>
-    ensures { IfOk result (λ b. StandsFor (block_tree block) (block_tree b)) }
-{
-    match block {
         Block::Arm {
             bounds,
             body,
             later,
-        } => Ok(guarded_arm(bounds, body, later)),
-        Block::Test { test, yes, no } => guarded_test(alloc, test, yes, no),
-        other => Ok(other),
+        } => {
+            let body = guarded(alloc, body)?;
+            let later = guarded(alloc, later)?;
+            guarded_arm(alloc, bounds, body, later)
+        }
     }
 }
 
-// Two tests side by side as one.
-#[tactic(auto, using(crate::proofs::StandsLaws::stands_self))]
-fn guarded_test(
+// ---- arms
+fn guarded_arm(
     alloc: Global,
-    test: Box<Block>,
-    yes: Box<Block>,
-    no: Box<Block>,
-) -> Result<Block, NoMemory>
-    ensures { IfOk result (λ b. StandsFor (test_of (block_tree test.value) (block_tree yes.value) (block_tree no.value)) (block_tree b)) }
+    bounds: Vec<u32>,
+    body: Box<Block>,
+    later: Box<Block>,
+) -> Result<Box<Block>, NoMemory>
+    ensures { IfOk result (λ b. block_tree b.value ≡ guarded_arm bounds.items (block_tree body.value) (block_tree later.value)) }
 {
-    match Box::into_inner(test) {
-        Block::Give(first) => behind_code(alloc, first, yes, no),
-        other => Ok(Block::Test {
-            test: Box::new(alloc, other)?,
-            yes,
-            no,
-        }),
+    if bounds.is_empty() {
+        return single_arm(alloc, bounds, body, later);
     }
+    arm(alloc, bounds, body, later)
 }
 
-#[tactic(auto, using(crate::proofs::StandsLaws::stands_self))]
-fn behind_code(
+// An arm without a search.
+fn single_arm(
     alloc: Global,
-    first: Code,
-    yes: Box<Block>,
-    no: Box<Block>,
-) -> Result<Block, NoMemory>
-    ensures { IfOk result (λ b. StandsFor (test_of (give (code_tree first)) (block_tree yes.value) (block_tree no.value)) (block_tree b)) }
+    bounds: Vec<u32>,
+    body: Box<Block>,
+    later: Box<Block>,
+) -> Result<Box<Block>, NoMemory>
+    ensures { IfOk result (λ b. block_tree b.value ≡ single_arm (stop_of (block_tree later.value)) bounds.items (block_tree body.value)
+        (block_tree later.value)) }
 {
-    match Box::into_inner(yes) {
-        Block::Test {
-            test,
-            yes,
-            no: last,
-        } => behind_test(alloc, first, test, yes, last, no),
-        other => tested(alloc, first, other, no),
+    match stop_of(&later) {
+        Some(number) => Ok(with_guards(body, number)),
+        None => {
+            if never_leaves(&body) {
+                return Ok(body);
+            }
+            arm(alloc, bounds, body, later)
+        }
     }
 }
 
-#[tactic(auto, using(crate::proofs::StandsLaws::stands_self, crate::proofs::StandsLaws::stands_both))]
-fn behind_test(
+fn arm(
     alloc: Global,
-    first: Code,
-    test: Box<Block>,
-    yes: Box<Block>,
-    last: Box<Block>,
-    no: Box<Block>,
-) -> Result<Block, NoMemory>
-    ensures { IfOk result (λ b. StandsFor (test_of (give (code_tree first))
-        (test_of (block_tree test.value) (block_tree yes.value) (block_tree last.value)) (block_tree no.value)) (block_tree b)) }
+    bounds: Vec<u32>,
+    body: Box<Block>,
+    later: Box<Block>,
+) -> Result<Box<Block>, NoMemory>
+    ensures { IfOk result (λ b. block_tree b.value ≡ arm_of bounds.items (block_tree body.value) (block_tree later.value)) }
 {
-    if !ends_alike(&last, &no) || !is_plain_part(&test) || !fits(&first, 1) {
-        return tested(
-            alloc,
-            first,
-            Block::Test {
-                test,
-                yes,
-                no: last,
-            },
-            no,
-        );
-    }
-    Ok(Block::Test {
-        test: Box::new(alloc, both(alloc, first, test)?)?,
-        yes,
-        no,
-    })
-}
-
-// The test of a code.
-fn tested(alloc: Global, first: Code, yes: Block, no: Box<Block>) -> Result<Block, NoMemory>
-    ensures { IfOk result (λ b. block_tree b ≡ test_of (give (code_tree first)) (block_tree yes) (block_tree no.value)) }
-{
-    Ok(Block::Test {
-        test: Box::new(alloc, Block::Give(first))?,
-        yes: Box::new(alloc, yes)?,
-        no,
-    })
-}
-
-// Whether both leave the arm, or both have no solution at one number.
-fn ends_alike(a: &Block, b: &Block) -> bool
-    ensures { If result (block_tree a.now ≡ block_tree b.now) }
-{
-    match (a, b) {
-        (Block::Leave, Block::Leave) => true,
-        (Block::Stop(m), Block::Stop(n)) => m == n,
-        _ => false,
-    }
-}
-
-// Whether it gives a code that is plain in one more.
-fn is_plain_part(block: &Block) -> bool
-    ensures { If result (GivesPart (block_tree block.now)) }
-{
-    match block {
-        Block::Give(code) => fits(code, 1),
-        _ => false,
-    }
-}
-
-// The code and then that of the block.
-fn both(alloc: Global, first: Code, test: Box<Block>) -> Result<Block, NoMemory>
-    requires { GivesPart (block_tree test.value) }
-    ensures { IfOk result (λ b. block_tree b ≡ and_given (code_tree first) (block_tree test.value)) }
-{
-    match Box::into_inner(test) {
-        Block::Give(second) => Ok(Block::Give(Code::And(
-            Box::new(alloc, first)?,
-            Box::new(alloc, second)?,
-        ))),
-        other => Ok(other),
-    }
-}
-
-#[tactic(auto, using(crate::proofs::StandsLaws::stands_self, crate::proofs::StandsLaws::stands_guards, crate::proofs::StandsLaws::stands_never))]
-fn guarded_arm(bounds: Vec<u32>, body: Box<Block>, later: Box<Block>) -> Block
-    ensures { StandsFor (arm_of bounds.items (block_tree body.value) (block_tree later.value)) (block_tree result) }
-{
-    if !bounds.is_empty() {
-        return Block::Arm {
+    Ok(Box::new(
+        alloc,
+        Block::Arm {
             bounds,
             body,
             later,
-        };
-    }
-    if let Block::Stop(number) = &*later {
-        return with_guards(body, *number);
-    }
-    if never_leaves(&body) {
-        return Box::into_inner(body);
-    }
-    Block::Arm {
-        bounds,
-        body,
-        later,
+        },
+    )?)
+}
+
+// The number of a block that has no solution.
+fn stop_of(block: &Block) -> Option<u32>
+    ensures { result ≡ stop_of (block_tree block.now) }
+{
+    match block {
+        Block::Stop(number) => Some(*number),
+        Block::Give(_) => None,
+        Block::Leave => None,
+        Block::Bind(_, _) | Block::Part(_, _) | Block::Join(_, _) => None,
+        Block::Test { .. } => None,
+        Block::Arm { .. } => None,
     }
 }
 
-fn with_guards(body: Box<Block>, number: u32) -> Block
-    ensures { block_tree result ≡ else_none number (block_tree body.value) }
+fn with_guards(body: Box<Block>, number: u32) -> Box<Block>
+    ensures { block_tree result.value ≡ else_none number (block_tree body.value) }
 {
-    let mut block = Box::into_inner(body);
-    else_none(&mut block, number);
+    let mut block = body;
+    else_none_in(&mut block, number);
     block
 }
 
@@ -276,6 +166,12 @@ fn else_none_in(part: &mut Box<Block>, number: u32)
     else_none(part, number)
 }
 
+fn put<T: Drop>(place: &mut T, value: T)
+    ensures { place.new ≡ value }
+{
+    *place = value;
+}
+
 // Whether nothing in it leaves the arm in which it stands.
 #[cycle(never_leaves)]
 fn never_leaves(block: &Block) -> bool
@@ -291,5 +187,112 @@ fn never_leaves(block: &Block) -> bool
             && never_leaves(yes)
             && never_leaves(no),
         Block::Arm { later, .. } => never_leaves(later),
+    }
+}
+
+// ---- tests
+fn guarded_test(
+    alloc: Global,
+    first: Box<Block>,
+    yes: Box<Block>,
+    no: Box<Block>,
+) -> Result<Box<Block>, NoMemory>
+    ensures { IfOk result (λ b. block_tree b.value ≡ guarded_test (block_tree first.value) (block_tree yes.value) (block_tree no.value)) }
+{
+    if gives_part(&first) && tests_so(&yes, &no) {
+        return and_test(alloc, first, yes);
+    }
+    test(alloc, first, yes, no)
+}
+
+// The test within the second block, behind the first.
+fn and_test(alloc: Global, first: Box<Block>, then: Box<Block>) -> Result<Box<Block>, NoMemory>
+    ensures { IfOk result (λ b. block_tree b.value ≡ and_test (block_tree first.value) (block_tree then.value)) }
+{
+    match Box::into_inner(then) {
+        Block::Test {
+            test: second,
+            yes,
+            no,
+        } => {
+            let both = both_given(alloc, first, second)?;
+            test(alloc, both, yes, no)
+        }
+        // for the proof: no other form comes here
+        _ => Err(NoMemory),
+    }
+}
+
+// The code of the first, and then that of the second.
+fn both_given(alloc: Global, first: Box<Block>, second: Box<Block>) -> Result<Box<Block>, NoMemory>
+    ensures { IfOk result (λ b. block_tree b.value ≡ both_given (block_tree first.value) (block_tree second.value)) }
+{
+    match (Box::into_inner(first), Box::into_inner(second)) {
+        (Block::Give(a), Block::Give(b)) => {
+            let a = Box::new(alloc, a)?;
+            let b = Box::new(alloc, b)?;
+            Ok(Box::new(alloc, Block::Give(Code::And(a, b)))?)
+        }
+        // for the proof: no other form comes here
+        _ => Err(NoMemory),
+    }
+}
+
+// Whether it gives a code that is plain in one more.
+fn gives_part(block: &Block) -> bool
+    ensures { result ≡ gives_part (block_tree block.now) }
+{
+    match block {
+        Block::Give(code) => fits(code, 1),
+        Block::Stop(_) | Block::Leave => false,
+        Block::Bind(_, _) | Block::Part(_, _) | Block::Join(_, _) => false,
+        Block::Test { .. } | Block::Arm { .. } => false,
+    }
+}
+
+// Whether it tests a code, and ends as the other where that is false.
+fn tests_so(block: &Block, no: &Block) -> bool
+    ensures { result ≡ tests_so (block_tree block.now) (block_tree no.now) }
+{
+    match block {
+        Block::Test { test, no: last, .. } => gives_part(test) && ends_alike(last, no),
+        Block::Give(_) | Block::Stop(_) | Block::Leave => false,
+        Block::Bind(_, _) | Block::Part(_, _) | Block::Join(_, _) => false,
+        Block::Arm { .. } => false,
+    }
+}
+
+// Whether both leave the arm, or both have no solution at one number.
+fn ends_alike(a: &Block, b: &Block) -> bool
+    ensures { result ≡ ends_alike (block_tree a.now) (block_tree b.now) }
+{
+    match a {
+        Block::Leave => is_leave(b),
+        Block::Stop(number) => is_none(*number, b),
+        Block::Give(_) => false,
+        Block::Bind(_, _) | Block::Part(_, _) | Block::Join(_, _) => false,
+        Block::Test { .. } | Block::Arm { .. } => false,
+    }
+}
+
+fn is_leave(block: &Block) -> bool
+    ensures { result ≡ is_leave (block_tree block.now) }
+{
+    match block {
+        Block::Leave => true,
+        Block::Give(_) | Block::Stop(_) => false,
+        Block::Bind(_, _) | Block::Part(_, _) | Block::Join(_, _) => false,
+        Block::Test { .. } | Block::Arm { .. } => false,
+    }
+}
+
+fn is_none(number: u32, block: &Block) -> bool
+    ensures { result ≡ is_none number (block_tree block.now) }
+{
+    match block {
+        Block::Stop(n) => number == *n,
+        Block::Give(_) | Block::Leave => false,
+        Block::Bind(_, _) | Block::Part(_, _) | Block::Join(_, _) => false,
+        Block::Test { .. } | Block::Arm { .. } => false,
     }
 }

@@ -16,7 +16,7 @@ use crate::boxed::{
 use crate::expression::{all_fit, fits};
 use crate::sums::{Summing, add_block, add_code, sum_done, sum_of_block, sum_of_code};
 use cf_shift::{shift, shift_all};
-use cf_tree::{Arm, Code, Item, NoMemory, add_u32, code_leaf, code_over_one, to_u32};
+use cf_tree::{Arm, Code, Item, NoMemory, add_u32, code_over_one, to_u32};
 use std::alloc::Global;
 
 // The block of a code behind `n` more variables.
@@ -36,45 +36,83 @@ pub(crate) fn block_of(alloc: Global, code: &Code, n: u32) -> Result<Box<Block>,
             let b = block_of(alloc, body, n)?;
             bind(alloc, a, b)
         }
+        Code::Solve { number, arms } => {
+            let last = Box::new(alloc, Block::Stop(*number))?;
+            arms_block(alloc, arms, n, last)
+        }
+        Code::If { .. } | Code::And(_, _) | Code::Or(_, _) => choice(alloc, code, n),
+        _ => operation(alloc, code, n),
+    }
+}
+
+// The block of a code that evaluates one of its parts or another.
+#[cycle(walk)]
+fn choice(alloc: Global, code: &Code, n: u32) -> Result<Box<Block>, NoMemory>
+    ensures { IfOk result (λ b. block_tree b.value ≡ block_at plain n (code_tree code.now)) }
+{
+    if fits(code, 0) {
+        return give(alloc, code, n);
+    }
+    match code {
         Code::If { test: t, yes, no } => {
-            if fits(code, 0) {
-                return give(alloc, code, n);
-            }
             let t = block_of(alloc, t, n)?;
             let a = block_of(alloc, yes, n)?;
             let b = block_of(alloc, no, n)?;
             test(alloc, t, a, b)
         }
         Code::And(a, b) => {
-            if fits(code, 0) {
-                return give(alloc, code, n);
-            }
             let t = block_of(alloc, a, n)?;
             let a = block_of(alloc, b, n)?;
             let b = Box::new(alloc, Block::Give(Code::Truth(false)))?;
             test(alloc, t, a, b)
         }
-        Code::Solve { number, arms } => {
-            let last = Box::new(alloc, Block::Stop(*number))?;
-            arms_block(alloc, arms, n, last)
-        }
         Code::Or(a, b) => {
-            if fits(code, 0) {
-                return give(alloc, code, n);
-            }
             let t = block_of(alloc, a, n)?;
             let a = Box::new(alloc, Block::Give(Code::Truth(true)))?;
             let b = block_of(alloc, b, n)?;
             test(alloc, t, a, b)
         }
+        // for the proof: no other form comes here
+        _ => Err(NoMemory),
+    }
+}
+
+// The block of a code that evaluates all its parts.
+#[cycle(walk)]
+fn operation(alloc: Global, code: &Code, n: u32) -> Result<Box<Block>, NoMemory>
+    ensures { IfOk result (λ b. block_tree b.value ≡ block_at plain n (code_tree code.now)) }
+{
+    if fits(code, 0) {
+        return give(alloc, code, n);
+    }
+    match code {
+        Code::Sum(parts) => sum_block(alloc, parts, n),
+        Code::SetOf(parts)
+        | Code::Min(parts)
+        | Code::Max(parts)
+        | Code::Union(parts)
+        | Code::Inter(parts) => {
+            let last = over_variables(alloc, code, parts)?;
+            bound_parts(alloc, parts, n, last)
+        }
         code_over_one!(a) => {
-            if fits(code, 0) {
-                return give(alloc, code, n);
-            }
             let a = block_of(alloc, a, n)?;
             let x = variable(alloc, 0)?;
             part_of(alloc, a, code.over_one(x))
         }
+        _ => operation_in_order(alloc, code, n),
+    }
+}
+
+// The block of a code on two or three parts, each behind the values of those before.
+#[cycle(walk)]
+fn operation_in_order(alloc: Global, code: &Code, n: u32) -> Result<Box<Block>, NoMemory>
+    ensures { IfOk result (λ b. block_tree b.value ≡ block_at plain n (code_tree code.now)) }
+{
+    if fits(code, 0) {
+        return give(alloc, code, n);
+    }
+    match code {
         Code::Sub(a, b)
         | Code::Mul(a, b)
         | Code::Diff(a, b)
@@ -85,9 +123,6 @@ pub(crate) fn block_of(alloc: Global, code: &Code, n: u32) -> Result<Box<Block>,
             ..
         }
         | Code::Fresh { avoid: a, n: b } => {
-            if fits(code, 0) {
-                return give(alloc, code, n);
-            }
             let first = block_of(alloc, a, n)?;
             let behind = add_u32(n, 1)?;
             if fits(b, 1) {
@@ -101,32 +136,13 @@ pub(crate) fn block_of(alloc: Global, code: &Code, n: u32) -> Result<Box<Block>,
             from: b,
             n: c,
         } => {
-            if fits(code, 0) {
-                return give(alloc, code, n);
-            }
             let first = block_of(alloc, a, n)?;
             let second = block_of(alloc, b, add_u32(n, 1)?)?;
             let third = block_of(alloc, c, add_u32(n, 2)?)?;
             three_parts(alloc, code, first, second, third)
         }
-        code_leaf!() => give(alloc, code, n),
-        Code::Sum(parts) => {
-            if fits(code, 0) {
-                return give(alloc, code, n);
-            }
-            sum_block(alloc, parts, n)
-        }
-        Code::SetOf(parts)
-        | Code::Min(parts)
-        | Code::Max(parts)
-        | Code::Union(parts)
-        | Code::Inter(parts) => {
-            if fits(code, 0) {
-                return give(alloc, code, n);
-            }
-            let last = over_variables(alloc, code, parts)?;
-            bound_parts(alloc, parts, n, last)
-        }
+        // for the proof: no other form comes here
+        _ => Err(NoMemory),
     }
 }
 
