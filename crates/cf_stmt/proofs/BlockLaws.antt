@@ -1,18 +1,18 @@
 -- The block of a code does what the code does.
-use Rattle.std.proofs.Common.{◌≡◌, ℕ, zero, suc, ◌+◌, ℤ, pos, ◌-ℤ◌, ◌*ℤ◌, neg_ℤ, Bool, true, false, not, ◌&&◌, cond, Option, Some, None, List, [], ◌∷◌, ◌++◌, length, refl, sym, ap, subst, ◌∙◌, arith, append_assoc, zero-add}
+use Rattle.std.proofs.Common.{◌≡◌, ℕ, suc, ◌+◌, ℤ, pos, ◌-ℤ◌, ◌*ℤ◌, neg_ℤ, Bool, true, false, not, cond, Option, Some, None, List, [], ◌∷◌, ◌++◌, length, refl, sym, ap, subst, ◌∙◌, arith, append_assoc, zero-add}
 use Rattle.std.specs.Int.{int_max, int_min}
 use Rattle.cf_tree.specs.CodeTree.{CodeTree, code_lit, code_truth, code_var, code_set_of, code_tuple, code_sum, code_sub, code_mul, code_neg, code_div, code_mod, code_min, code_max, code_compare, code_divides, code_and, code_or, code_not, code_union, code_inter, code_diff, code_subset, code_card, code_slice, code_fresh, code_if, code_let, code_solve, CodeTrees, no_codes, code_more, ItemTree, let_item, need_item, ItemTrees, no_items, item_more, ArmTree, arm_of, ArmTrees, no_arms, arm_more, count}
-use Rattle.cf_tree.specs.Meaning.{Path, gives_only, gives_truth, gives_set, meets, meets_set, meets_value, no_solution_at, then_path, if_some, or_later, or_none, first_from, count_below, tuple_at, meets_all, choose_with, chosen, joined_with, joined, number_in, truth_in, set_in, path, all_path, set_path, sum_path, best_path, join_path, item_path, items_path, arm_path, arms_path}
+use Rattle.cf_tree.specs.Meaning.{Path, gives_only, gives_truth, gives_set, meets, meets_set, meets_value, then_path, if_some, or_later, or_none, count_below, tuple_at, meets_all, choose_with, chosen, joined_with, joined, number_in, truth_in, set_in, path, all_path, set_path, sum_path, best_path, join_path, item_path, items_path, arm_path, arms_path}
 use Rattle.cf_tree.specs.Numbers.{quotient, remainder, is_multiple, count_of}
 use Rattle.cf_tree.specs.Sets.{set_put, set_union, set_inter, set_diff, is_subset, set_slice, set_fresh}
 use Rattle.cf_tree.specs.Values.{Value, first_of, compared}
-use Rattle.cf_stmt.specs.Blocks.{Block, give, none, leave, bind, part, test, arm, given, exec}
+use Rattle.cf_stmt.specs.Blocks.{Block, give, none, part, test, given, exec}
 use Rattle.cf_stmt.specs.Made.{Plain, plain_or, stay, vars_then, two_codes, block_at, two_block, bound_parts, sum_block, sum_more, tuple_block, append, arms_block, arm_block, items_block, item_block, block_of}
 use Rattle.cf_shift.specs.Meeting.{AreSmall}
 use Rattle.cf_shift.specs.Shifted.{shifted, all_shifted}
 use Rattle.cf_shift.proofs.MeetingLaws.{path_own}
 use Rattle.cf_stmt.proofs.Parts.{Found, Folds, after, read_all, one_done, two_kept, two_done, three_done, either_part, then_small, then_from, first_small, still_small}
-use Rattle.cf_stmt.proofs.Paths.{from, from_zero, then_then, then_alike, only_then, given_then, goes_on, if_alike, if_then, later_alike, later_later, later_none, first_alike, some_then, need_then}
+use Rattle.cf_stmt.proofs.Paths.{from, from_zero, then_then, then_alike, only_then, goes_on, if_alike, if_then, later_alike, later_later, later_none, first_alike, some_then, need_then}
 use Rattle.cf_shift.proofs.ShiftedPaths.{shifted_path}
 use Rattle.cf_stmt.proofs.SumPaths.{all_from, joins, either_elim, sum_ends, sum_one_more, sum_first, sum_of_two, sum_of_one}
 

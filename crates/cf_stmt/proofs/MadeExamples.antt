@@ -1,10 +1,10 @@
 -- Worked examples: the blocks that are made of codes.
-use Rattle.std.specs.Prelude.{ℕ, ℤ, pos, negsuc, ◌≡◌, Bool, true, false, List, [], ◌∷◌, Some, None, refl}
+use Rattle.std.specs.Prelude.{ℕ, ℤ, pos, negsuc, ◌≡◌, [], ◌∷◌, Some, refl}
 use Rattle.cf_tree.specs.declared.base.Order.TheVariants.{Ge}
-use Rattle.cf_tree.specs.CodeTree.{CodeTree, code_lit, code_var, code_sum, code_sub, code_compare, code_mul, code_min, code_tuple, code_if, code_and, code_truth, code_let, code_solve, let_item, need_item, ArmTree, arm_of, codes_of, items_of, arms_of}
-use Rattle.cf_tree.specs.Meaning.{Got, got, none_at}
-use Rattle.cf_tree.specs.Values.{Value, number}
-use Rattle.cf_stmt.specs.Blocks.{Block, give, none, leave, bind, part, join, test, arm, exec}
+use Rattle.cf_tree.specs.CodeTree.{CodeTree, code_lit, code_var, code_sum, code_sub, code_compare, code_mul, code_min, code_tuple, code_if, code_let, code_solve, let_item, need_item, arm_of, codes_of, items_of, arms_of}
+use Rattle.cf_tree.specs.Meaning.{got, none_at}
+use Rattle.cf_tree.specs.Values.{number}
+use Rattle.cf_stmt.specs.Blocks.{give, none, leave, part, join, test, arm, exec}
 use Rattle.cf_stmt.specs.Fitting.{plain}
 use Rattle.cf_stmt.specs.Made.{block_of}
 

@@ -1,16 +1,14 @@
 -- Values that are bound and read again: reading a number that was met adds nothing.
-use Rattle.std.proofs.Common.{◌≡◌, ℕ, zero, suc, ◌+◌, ◌≤◌, max, Bool, true, false, cond, Option, Some, None, List, [], ◌∷◌, ◌++◌, length, refl, sym, ap, subst, ◌∙◌, arith, append_assoc, zero-add}
+use Rattle.std.proofs.Common.{◌≡◌, ℕ, suc, ◌+◌, ◌≤◌, max, Bool, true, false, cond, Option, List, [], ◌∷◌, ◌++◌, length, refl, sym, ap, ◌∙◌, arith}
 use Rattle.std.specs.Prelude.{unsigned_abs}
 use Rattle.cf_tree.specs.CodeTree.{CodeTree, code_var, CodeTrees, no_codes, code_more}
-use Rattle.cf_tree.specs.Meaning.{Got, got, none_at, Path, gives_only, then_gives, then_peak, then_path, if_some, meets_value, path}
+use Rattle.cf_tree.specs.Meaning.{Got, got, none_at, Path, then_path, if_some, meets_value, path}
 use Rattle.cf_tree.specs.Values.{Value, number, truth, elements, number_of, first_of, value_at}
 use Rattle.cf_stmt.specs.Blocks.{Block, part, given, exec}
 use Rattle.cf_stmt.specs.Made.{vars_then}
 use Rattle.cf_shift.specs.Meeting.{AreSmall}
-use Rattle.cf_shift.specs.Shifted.{shifted, all_shifted}
 use Rattle.cf_shift.proofs.MeetingLaws.{IsOwn}
 use Rattle.cf_stmt.proofs.Paths.{the_path, from, from_zero, from_from, then_then, then_alike, goes_on}
-use Rattle.cf_shift.proofs.ShiftedPaths.{shifted_path}
 
 abbrev pub Found : Type 0
 Found = Path (Option (List Value))

@@ -6,7 +6,7 @@ use Rattle.cf_tree.specs.CodeTree.{CodeTree, code_lit, code_truth, code_var, cod
 use Rattle.cf_shift.specs.Shifted.{shifted, all_shifted}
 use Rattle.cf_shift.proofs.ShiftedSpelling.{depth_same}
 use Rattle.cf_stmt.specs.declared.expression.TheConstants.{DEEPEST}
-use Rattle.cf_stmt.specs.Blocks.{Block, give, none, leave, bind, part, join, test, arm}
+use Rattle.cf_stmt.specs.Blocks.{Block, give, none, part}
 use Rattle.cf_stmt.specs.Expressions.{is_expression, are_expressions, is_plain, are_plain, gives_plain, EvaluatesPlain}
 use Rattle.cf_stmt.specs.Fitting.{fits, plain}
 use Rattle.cf_stmt.specs.Made.{plain_or, stay, vars_then, two_codes, append, two_block, block_at, bound_parts, sum_block, sum_more, tuple_block, arms_block, arm_block, items_block, item_block, block_of}

@@ -1,15 +1,13 @@
 -- To run a block is to stop at the first number past the limit.
-use Rattle.std.proofs.Common.{◌≡◌, ℕ, zero, suc, ◌≤◌, ◌<◌, ◌⊎◌, inl, inr, max, Bool, true, false, ◌&&◌, cond, Option, Some, None, List, [], ◌∷◌, ◌++◌, refl, sym, ap, ◌∙◌, arith}
+use Rattle.std.proofs.Common.{◌≡◌, ℕ, zero, suc, ◌≤◌, ◌<◌, ◌⊎◌, inl, inr, max, Bool, true, false, ◌&&◌, cond, Option, Some, None, List, ◌∷◌, ◌++◌, refl, sym, ap, ◌∙◌, arith}
 use Rattle.std.specs.Prelude.{nat_le}
 use Rattle.std.proofs.Math.Nat.{max-zero}
 use Rattle.std.proofs.lemmas.Bool.Decides.{leb_tells}
 use Rattle.cf_num.specs.Limit.{limit}
-use Rattle.cf_tree.specs.CodeTree.{CodeTree}
-use Rattle.cf_tree.specs.Meaning.{Got, got, none_at, Path, gives_only, then_path, if_some, or_later, first_from, count_below, tuple_at, meets_all, truth_in, outcome_of, path}
+use Rattle.cf_tree.specs.Meaning.{Got, got, none_at, Path, gives_only, then_path, if_some, or_later, first_from, count_below, tuple_at, meets_all, truth_in, path}
 use Rattle.cf_tree.specs.Values.{Value, first_of}
 use Rattle.cf_stmt.specs.Blocks.{Block, give, none, leave, bind, part, join, test, arm, given, exec}
-use Rattle.cf_stmt.specs.Runs.{Run, gives, stops, overflows, leaves, outcome_run, checked, then_run, or_run, first_run, runs, found_run, LeavesAtOnce, StatementsAnswer}
-use Rattle.cf_stmt.specs.Statements.{IsStatements}
+use Rattle.cf_stmt.specs.Runs.{Run, gives, stops, overflows, leaves, checked, then_run, or_run, first_run, runs, found_run, StatementsAnswer}
 use Rattle.cf_stmt.proofs.Parts.{Found}
 
 -- the run of a way through a block

@@ -1,5 +1,5 @@
 -- Sums, whose partial sums are met, and values one behind another.
-use Rattle.std.proofs.Common.{◌≡◌, ℕ, zero, suc, ℤ, pos, ◌+ℤ◌, Bool, true, false, cond, Option, Some, None, List, [], ◌∷◌, ◌++◌, length, refl, sym, ap, ◌∙◌, arith, append_assoc}
+use Rattle.std.proofs.Common.{◌≡◌, ℕ, ℤ, pos, ◌+ℤ◌, Bool, true, false, Some, List, [], ◌∷◌, ◌++◌, length, refl, sym, ap, ◌∙◌, arith, append_assoc}
 use Rattle.std.proofs.lemmas.Int.{ints}
 use Rattle.std.specs.Prelude.{unsigned_abs}
 use Rattle.std.proofs.Math.Nat.{max-zero}
@@ -11,7 +11,7 @@ use Rattle.cf_stmt.specs.Made.{append, two_codes}
 use Rattle.cf_shift.specs.Shifted.{shifted}
 use Rattle.cf_shift.proofs.MeetingLaws.{IsOwn}
 use Rattle.cf_stmt.proofs.Parts.{Found, is_small, reads, from_small, then_from, then_small, then_own, first_small, still_small}
-use Rattle.cf_stmt.proofs.Paths.{the_path, from, from_zero, then_then, then_alike, only_then, goes_on}
+use Rattle.cf_stmt.proofs.Paths.{the_path, from, then_then, then_alike, only_then, goes_on}
 use Rattle.cf_shift.proofs.ShiftedPaths.{shifted_path}
 
 pub either_elim : (t : Bool) (b c : Block) (env : List Value) (p : Found) → exec b env ≡ p → exec c env ≡ p →

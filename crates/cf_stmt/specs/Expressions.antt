@@ -1,5 +1,5 @@
 -- Which codes are expressions, and blocks in which only these are evaluated.
-use Rattle.std.specs.Prelude.{ℕ, Bool, true, false, ◌&&◌, ◌≡◌, nat_le}
+use Rattle.std.specs.Prelude.{Bool, true, false, ◌&&◌, ◌≡◌, nat_le}
 use Rattle.cf_tree.specs.CodeTree.{CodeTree, code_lit, code_truth, code_var, code_set_of, code_tuple, code_sum, code_sub, code_mul, code_neg, code_div, code_mod, code_min, code_max, code_compare, code_divides, code_and, code_or, code_not, code_union, code_inter, code_diff, code_subset, code_card, code_slice, code_fresh, code_if, code_let, code_solve, CodeTrees, no_codes, code_more, code_depth}
 use Rattle.cf_stmt.specs.declared.expression.TheConstants.{DEEPEST}
 use Rattle.cf_stmt.specs.Blocks.{Block, give, none, leave, bind, part, join, test, arm}
