@@ -207,7 +207,6 @@ other-text h = no h.file
     no (inr (name, (zero, l, e), t)) = at_first name e t
     no (inr (name, (suc k, l, e), t)) = omega (arith, l)
 
-
 -- ---- of a text at most one byte more than the limit of 1048576 is read
 module _ (front : List ℕ) where
   abbrev long : Option (List ℕ) → ℕ → Outside

@@ -80,8 +80,8 @@ module _ (name other source steps : List ℕ) (given last : List Told) (ls : Lis
   goes (compiled t c replies picked) = inl (t, c, replies, picked)
   goes (late typed l replies allowed same) = inr (typed, l, replies, allowed, same)
 
-  by-a_target : (t : RawTarget) → IsCompiledBy true source given last t → AreReplies (by_target t) ls text → ArePicked (length (applied true last)) source ls text →
-      OwesRun true source given last ls text
+  by-a_target : (t : RawTarget) → IsCompiledBy true source given last t → AreReplies (by_target t) ls text →
+      ArePicked (length (applied true last)) source ls text → OwesRun true source given last ls text
   by-a_target t c replies picked = compiled t c replies picked
 
 -- ---- replies

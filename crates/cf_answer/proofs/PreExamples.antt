@@ -54,7 +54,8 @@ unfolding arms arm first_systems disjuncts system_of_case write_atom run run_for
 rounding_solve = refl
 
 -- ---- the printed precondition of a choose
-told_of : (text : List ℕ) → IsPreOf rounding text → text ≡ codes "pre 1 (a, b) {\narm [] {\nlet div((-1 * v0), 2);\nlet div(v1, 2);\nneed ((v2 + v3) >= 0);\n}\n}\n"
+told_of : (text : List ℕ) → IsPreOf rounding text →
+    text ≡ codes "pre 1 (a, b) {\narm [] {\nlet div((-1 * v0), 2);\nlet div(v1, 2);\nneed ((v2 + v3) >= 0);\n}\n}\n"
 told_of text p = p.is ∙ rounding_pre
 
 -- it passes no limit, and the needs hold exactly where there are outputs

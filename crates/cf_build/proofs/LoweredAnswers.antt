@@ -82,7 +82,8 @@ answers_kept : (defs : List DefTree) (main : ℕ) (given last : List Told) (answ
 answers_kept ds main given last (Ok t) keeps b = built_kept ds main given last t keeps b
 answers_kept ds main given last (Err fault) keeps f = subst (λ qs. FaultAnswer qs fault) (same_chooses ds) f
 
-pub answer_kept : (defs low : List DefTree) (main n : ℕ) (given last : List Told) (answer : Result RawTarget BuildFault) → low ≡ map lowered_def defs → n ≡ main →
+pub answer_kept : (defs low : List DefTree) (main n : ℕ) (given last : List Told) (answer : Result RawTarget BuildFault) → low ≡ map lowered_def defs →
+    n ≡ main →
     AllowTheSame defs low → BuildAnswer low n given last answer → BuildAnswer defs main given last answer
 answer_kept defs low main n given last answer d m keeps b =
     answers_kept defs main given last answer (subst (λ ds. AllowTheSame defs ds) d keeps)

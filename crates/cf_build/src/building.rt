@@ -34,7 +34,8 @@ pub fn build(
     typed: &Typed,
     passes: &mut Vec<Box<dyn Pass>>,
 ) -> Result<Target, BuildFault>
-    ensures answer { BuildAnswer (map def_tree typed.now.defs.items) typed.now.main (map (λ p. told p) passes.old.items) (map (λ p. told p) passes.new.items) result }
+    ensures answer { BuildAnswer (map def_tree typed.now.defs.items) typed.now.main (map (λ p. told p) passes.old.items) (map (λ p. told p) passes.new.items)
+        result }
     ensures turned { OnOk result (HaveTurned (map (λ p. told p) passes.old.items) (map (λ p. told p) passes.new.items)) }
     ensures kept { OnErr result (map (λ p. told p) passes.new.items ≡ map (λ p. told p) passes.old.items) }
 {
@@ -49,7 +50,8 @@ fn build_lowered(
     passes: &mut Vec<Box<dyn Pass>>,
 ) -> Result<Target, BuildFault>
     requires no_match { All (λ d. HasNoMatch (expr_tree d.body)) typed.now.defs.items }
-    ensures answer { BuildAnswer (map def_tree typed.now.defs.items) typed.now.main (map (λ p. told p) passes.old.items) (map (λ p. told p) passes.new.items) result }
+    ensures answer { BuildAnswer (map def_tree typed.now.defs.items) typed.now.main (map (λ p. told p) passes.old.items) (map (λ p. told p) passes.new.items)
+        result }
     ensures turned { OnOk result (HaveTurned (map (λ p. told p) passes.old.items) (map (λ p. told p) passes.new.items)) }
     ensures kept { OnErr result (map (λ p. told p) passes.new.items ≡ map (λ p. told p) passes.old.items) }
 {

@@ -1,5 +1,5 @@
 //! The end of an equation that stands anywhere.
-ghost use Rattle.std.specs.Prelude.{◌≡◌, ◌<◌, ◌∷◌, [], length, slice_get};
+ghost use Rattle.std.specs.Prelude.{◌≡◌, ◌<◌, ◌∷◌, [], length, slice_get, vec_len, vec_capacity};
 ghost use Rattle.cf_linear.specs.Stages.{limits};
 ghost use Rattle.cf_linear.specs.Views.{system_of};
 ghost use Rattle.cf_equation.specs.Equations.{first_of, rest_of, first_present};

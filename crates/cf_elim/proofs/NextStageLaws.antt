@@ -3,9 +3,9 @@ use Rattle.std.proofs.Common.{◌≡◌, ◌≢◌, ℕ, suc, ◌+◌, ◌-◌, 
 use Rattle.std.specs.Prelude.{filter, max, nat_lt, not, ◌==◌, if◌then◌else◌}
 use Rattle.std.proofs.lemmas.Bool.{true≢false, lt-ltb}
 use Rattle.std.proofs.lemmas.List.{length-append, length-drop}
-use Rattle.cf_linear.specs.declared.refusal.LimitKind.TheVariants.{Columns}
+use Rattle.cf_linear.specs.declared.refusal.LimitKind.TheVariants.{Rows, Columns}
 use Rattle.cf_linear.specs.declared.refusal.Refusal.{Refusal}
-use Rattle.cf_linear.specs.declared.refusal.Refusal.TheVariants.{Past}
+use Rattle.cf_linear.specs.declared.refusal.Refusal.TheVariants.{Past, Limit}
 use Rattle.cf_linear.specs.Rows.{Row, entry, norm, without}
 use Rattle.cf_linear.specs.Systems.{System, Answer, no_answer, rows_of, columns_of}
 use Rattle.cf_linear.specs.Steps.{clean, merge, merge_passes, merge_factor, last, last_passes, is_unit, mix, greatest_of, let_norm, has_unknown, subst_all, replaced}
@@ -239,7 +239,9 @@ counted_is m r c rows columns made h p q e =
     by_counts r c None columns p q = rw (lt-ltb limits.rows r (omega (arith, p))) p
     by_counts r c (Some k) columns p q =
         subst (λ n. CountIs (count_refusal limits n c) (counted (Some k) columns)) p.0
-        (on_bool (nat_lt limits.rows k) (λ l. rw l refl) (λ l. rw l (by_columns k c columns l q)))
+        (on_bool (nat_lt limits.rows k) (λ l. rw l refl) (λ l.
+        subst (λ b. CountIs (count_refusal limits k c) (if b then Err (Refused (Limit Rows k)) else counted_one Columns limits.columns columns (Ok tt))) (sym l)
+        (by_columns k c columns l q)))
 
 pub end_out : (s : State) (u : ℕ) (f : ElimFault) → first_present s.system ≡ u ∷ [] →
     CountIs (first_count limits (last s.system (first_of s.system) (rest_of s.system) u).system) (Err f) →

@@ -154,12 +154,7 @@ pub fn within_last(system: &System, u: u32) -> Result<(), ElimFault>
         system.needs,
         made,
     );
-    let columns = sum(
-        system.known.len(),
-        other_count(&system.unknown, u),
-        made,
-        0,
-    );
+    let columns = sum(system.known.len(), other_count(&system.unknown, u), made, 0);
     within(rows, columns)
 }
 
