@@ -14,3 +14,4 @@ pub mod VerdictLaws
 pub mod MarkLaws
 mod PutLaws
 mod LimitExamples
+mod LackExamples

@@ -18,3 +18,4 @@ pub mod StageSmall
 pub mod RunSmall
 pub mod ActLaws
 mod ActExamples
+mod CountExamples

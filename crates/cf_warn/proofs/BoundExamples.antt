@@ -31,7 +31,7 @@ module _ (scope outputs : List Base) (rel : RelTree) where
 
   large-question : tuple_count scope outputs rel ≡ 1000 → limit [] (none_outputs scope outputs rel) (none scope outputs rel) ≡ None →
       peak (question_code (none_outputs scope outputs rel) (none scope outputs rel)) [] ≡ 2 ^ 127 → IsExistence scope outputs rel (Undecided Overflow)
-  large-question e within p = inr (subst (λ n. n ≤ MOST_TUPLES) (sym e) (omega arith), within, subst (λ n. 2 ^ 127 - 1 < n) (sym p) (omega arith))
+  large-question e within p = inr (subst (λ n. n ≤ MOST_TUPLES) (sym e) (omega arith), (within, subst (λ n. 2 ^ 127 - 1 < n) (sym p) (omega arith)))
 
   clear-question : limit [] outputs rel ≡ None → peak (question_code outputs rel) [] ≡ 2 ^ 127 - 1 → IsClear outputs rel
   clear-question within p = record { within = within; fits = subst (λ n. n ≤ 2 ^ 127 - 1) (sym p) (omega arith) }
