@@ -1,0 +1,4 @@
+pub mod CodeRanges
+pub mod RangeLaws
+pub mod Ranges
+pub mod Total
