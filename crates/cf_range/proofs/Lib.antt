@@ -1,0 +1,5 @@
+pub mod GivenLaws
+pub mod NumberLemmas
+pub mod PathLemmas
+mod RangeExamples
+pub mod RangeLaws

@@ -43,20 +43,13 @@ plus r s = between (nearest (r.low +ℤ s.low)) (nearest (r.high +ℤ s.high))
 abbrev pub minus : Range → Range → Range
 minus r s = between (nearest (r.low -ℤ s.high)) (nearest (r.high -ℤ s.low))
 
-abbrev pub least_of_four : ℤ → ℤ → ℤ → ℤ → ℤ
-least_of_four a b c d = int_min (int_min a b) (int_min c d)
-
-abbrev pub greatest_of_four : ℤ → ℤ → ℤ → ℤ → ℤ
-greatest_of_four a b c d = int_max (int_max a b) (int_max c d)
+-- the least range with these four numbers
+abbrev pub spanned : ℤ → ℤ → ℤ → ℤ → Range
+spanned a b c d = between (int_min (int_min a b) (int_min c d)) (int_max (int_max a b) (int_max c d))
 
 -- a product is least and greatest where both factors are at an end
 abbrev pub times : Range → Range → Range
-times r s =
-    let ll = nearest (r.low *ℤ s.low) in
-    let lh = nearest (r.low *ℤ s.high) in
-    let hl = nearest (r.high *ℤ s.low) in
-    let hh = nearest (r.high *ℤ s.high) in
-    between (least_of_four ll lh hl hh) (greatest_of_four ll lh hl hh)
+times r s = spanned (nearest (r.low *ℤ s.low)) (nearest (r.low *ℤ s.high)) (nearest (r.high *ℤ s.low)) (nearest (r.high *ℤ s.high))
 
 -- what a cut-off operation of 128 bits tells of the limit
 abbrev pub past_or_none : Option ℤ → Bool

@@ -3,7 +3,7 @@ ghost use Rattle.std.specs.Prelude.{◌≡◌, pos, ◌+ℤ◌, ◌-ℤ◌, ◌*
 ghost use Rattle.std.specs.Int.{int_min, int_max};
 ghost use Rattle.cf_num.specs.Limit.{limit};
 ghost use Rattle.cf_tree.specs.Numbers.{quotient};
-ghost use Rattle.cf_range.specs.Ranges.{between, whole, nearest, passes, plus, minus, times, plus_passes, minus_passes, times_passes, negated, divided, left_by, better_of, either, past_or_none};
+ghost use Rattle.cf_range.specs.Ranges.{between, whole, nearest, passes, plus, minus, times, plus_passes, minus_passes, times_passes, negated, divided, left_by, better_of, either, past_or_none, spanned};
 
 /// The numbers from `low` to `high`, both among them.
 #[derive(Clone, Copy, Debug, PartialEq, Eq)]
@@ -74,14 +74,12 @@ impl Range {
     pub fn times(self, other: Range) -> Range
         ensures { result ≡ times self other }
     {
-        let a = near_product(self.low, other.low);
-        let b = near_product(self.low, other.high);
-        let c = near_product(self.high, other.low);
-        let d = near_product(self.high, other.high);
-        Range {
-            low: a.min(b).min(c.min(d)),
-            high: a.max(b).max(c.max(d)),
-        }
+        spanned(
+            near_product(self.low, other.low),
+            near_product(self.low, other.high),
+            near_product(self.high, other.low),
+            near_product(self.high, other.high),
+        )
     }
 
     /// Whether some sum of two numbers of these ranges may be past the limit.
@@ -146,8 +144,8 @@ impl Range {
         ensures { result ≡ better_of int_min self other }
     {
         Range {
-            low: self.low.min(other.low),
-            high: self.high.min(other.high),
+            low: least(self.low, other.low),
+            high: least(self.high, other.high),
         }
     }
 
@@ -156,8 +154,8 @@ impl Range {
         ensures { result ≡ better_of int_max self other }
     {
         Range {
-            low: self.low.max(other.low),
-            high: self.high.max(other.high),
+            low: greatest(self.low, other.low),
+            high: greatest(self.high, other.high),
         }
     }
 
@@ -166,10 +164,32 @@ impl Range {
         ensures { result ≡ either self other }
     {
         Range {
-            low: self.low.min(other.low),
-            high: self.high.max(other.high),
+            low: least(self.low, other.low),
+            high: greatest(self.high, other.high),
         }
     }
+}
+
+// The least range with these four numbers.
+fn spanned(a: i128, b: i128, c: i128, d: i128) -> Range
+    ensures { result ≡ spanned a b c d }
+{
+    Range {
+        low: least(least(a, b), least(c, d)),
+        high: greatest(greatest(a, b), greatest(c, d)),
+    }
+}
+
+fn least(a: i128, b: i128) -> i128
+    ensures { result ≡ int_min a b }
+{
+    a.min(b)
+}
+
+fn greatest(a: i128, b: i128) -> i128
+    ensures { result ≡ int_max a b }
+{
+    a.max(b)
 }
 
 // The nearest number within the limit to one that was cut at those of the type.
