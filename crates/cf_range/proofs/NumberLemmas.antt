@@ -9,7 +9,7 @@ use Rattle.cf_num.proofs.Ring.{mul_comm_z, neg-mul_z, add-mul_z}
 use Rattle.cf_num.proofs.Orders.{mul-le_z}
 use Rattle.cf_num.proofs.DivisionLemmas.{int_div_euclid-bounds, le-int_div_euclid}
 use Rattle.cf_tree.specs.Numbers.{quotient, remainder}
-use Rattle.cf_range.specs.Ranges.{between, whole, LiesIn, passes, nearest, plus, minus, times, spanned, plus_passes, minus_passes, times_passes, negated, divided, left_by, better_of, either}
+use Rattle.cf_range.specs.Ranges.{between, whole, LiesIn, passes, nearest, plus, minus, times, plus_passes, minus_passes, times_passes, negated, divided, left_by, better_of, either}
 use Rattle.cf_range.specs.declared.range.Range.{Range}
 
 pub or_false : (a b : Bool) → (a || b) ≡ false → (a ≡ false) × (b ≡ false)
@@ -96,11 +96,17 @@ some_above r s x y (a, b, c) (d, e, f) ll lh hl hh = not_above r.low r.high x y 
     (λ q. hl (omega (arith, ints, mul_comm_z s.low r.high, mul_comm_z y r.high)))
     (λ q. hh (omega (arith, ints, mul_comm_z s.high r.high, mul_comm_z y r.high))))
 
-spanned_low : (a b c d : ℤ) → let m = (spanned a b c d).low in (m ≤ℤ a) × (m ≤ℤ b) × (m ≤ℤ c) × (m ≤ℤ d)
-spanned_low a b c d = (omega (arith, ints, clamps), omega (arith, ints, clamps), omega (arith, ints, clamps), omega (arith, ints, clamps))
+abbrev least_of_four : ℤ → ℤ → ℤ → ℤ → ℤ
+least_of_four a b c d = int_min (int_min a b) (int_min c d)
 
-spanned_high : (a b c d : ℤ) → let m = (spanned a b c d).high in (a ≤ℤ m) × (b ≤ℤ m) × (c ≤ℤ m) × (d ≤ℤ m)
-spanned_high a b c d = (omega (arith, ints, clamps), omega (arith, ints, clamps), omega (arith, ints, clamps), omega (arith, ints, clamps))
+abbrev greatest_of_four : ℤ → ℤ → ℤ → ℤ → ℤ
+greatest_of_four a b c d = int_max (int_max a b) (int_max c d)
+
+least_is : (a b c d : ℤ) → let m = least_of_four a b c d in (m ≤ℤ a) × (m ≤ℤ b) × (m ≤ℤ c) × (m ≤ℤ d)
+least_is a b c d = (omega (arith, ints, clamps), omega (arith, ints, clamps), omega (arith, ints, clamps), omega (arith, ints, clamps))
+
+greatest_is : (a b c d : ℤ) → let m = greatest_of_four a b c d in (a ≤ℤ m) × (b ≤ℤ m) × (c ≤ℤ m) × (d ≤ℤ m)
+greatest_is a b c d = (omega (arith, ints, clamps), omega (arith, ints, clamps), omega (arith, ints, clamps), omega (arith, ints, clamps))
 
 le_then : (a b c : ℤ) → a ≤ℤ b → b ≤ℤ c → a ≤ℤ c
 le_then a b c h k = omega (arith, ints)
@@ -108,19 +114,18 @@ le_then a b c h k = omega (arith, ints)
 pub product_lies : (r s : Range) (x y : ℤ) → LiesIn r x → LiesIn s y → IsWithin (x *ℤ y) → LiesIn (times r s) (x *ℤ y)
 product_lies r s x y h k w =
     let z = x *ℤ y in
-    let m = spanned_low (nearest (r.low *ℤ s.low)) (nearest (r.low *ℤ s.high)) (nearest (r.high *ℤ s.low)) (nearest (r.high *ℤ s.high)) in
-    let n = spanned_high (nearest (r.low *ℤ s.low)) (nearest (r.low *ℤ s.high)) (nearest (r.high *ℤ s.low)) (nearest (r.high *ℤ s.high)) in
-    (
+    let m = least_is (nearest (r.low *ℤ s.low)) (nearest (r.high *ℤ s.low)) (nearest (r.low *ℤ s.high)) (nearest (r.high *ℤ s.high)) in
+    let n = greatest_is (nearest (r.low *ℤ s.low)) (nearest (r.high *ℤ s.low)) (nearest (r.low *ℤ s.high)) (nearest (r.high *ℤ s.high)) in (
       w,
       some_below r s x y h k
           (λ p. le_then _ _ _ m.0 (near_low (r.low *ℤ s.low) z w p))
-          (λ p. le_then _ _ _ m.1 (near_low (r.low *ℤ s.high) z w p))
-          (λ p. le_then _ _ _ m.2 (near_low (r.high *ℤ s.low) z w p))
+          (λ p. le_then _ _ _ m.2 (near_low (r.low *ℤ s.high) z w p))
+          (λ p. le_then _ _ _ m.1 (near_low (r.high *ℤ s.low) z w p))
           (λ p. le_then _ _ _ m.3 (near_low (r.high *ℤ s.high) z w p)),
       some_above r s x y h k
           (λ p. le_then _ _ _ (near_high (r.low *ℤ s.low) z w p) n.0)
-          (λ p. le_then _ _ _ (near_high (r.low *ℤ s.high) z w p) n.1)
-          (λ p. le_then _ _ _ (near_high (r.high *ℤ s.low) z w p) n.2)
+          (λ p. le_then _ _ _ (near_high (r.low *ℤ s.high) z w p) n.2)
+          (λ p. le_then _ _ _ (near_high (r.high *ℤ s.low) z w p) n.1)
           (λ p. le_then _ _ _ (near_high (r.high *ℤ s.high) z w p) n.3),
     )
 

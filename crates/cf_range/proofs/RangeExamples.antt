@@ -8,7 +8,7 @@ use Rattle.cf_tree.specs.declared.base.Order.TheVariants.{Lt}
 use Rattle.cf_tree.specs.CodeTree.{CodeTree, code_lit, code_truth, code_var, code_set_of, code_tuple, code_sum, code_sub, code_mul, code_neg, code_div, code_mod, code_min, code_max, code_compare, code_divides, code_and, code_or, code_not, code_union, code_inter, code_diff, code_subset, code_card, code_slice, code_fresh, code_if, code_let, code_solve, CodeTrees, no_codes, code_more, no_arms}
 use Rattle.cf_tree.specs.Values.{number, truth, elements}
 use Rattle.cf_range.specs.declared.range.Range.{Range}
-use Rattle.cf_range.specs.Ranges.{between, whole, LiesIn, LieIn, range_at, passes, nearest, plus, minus, times, spanned, past_or_none, plus_passes, minus_passes, times_passes, negated, divided, left_by, plus_all, plus_all_passes, better_of, best_after, best_of, either}
+use Rattle.cf_range.specs.Ranges.{between, whole, LiesIn, LieIn, range_at, passes, nearest, plus, minus, times, spanned, scaled, past_or_none, plus_passes, minus_passes, times_passes, negated, divided, left_by, plus_all, plus_all_passes, better_of, best_after, best_of, either}
 use Rattle.cf_range.specs.CodeRanges.{range_of, ranges_of, may_pass}
 use Rattle.cf_range.specs.Total.{is_total, are_total}
 
@@ -89,6 +89,12 @@ minus-is = refl
 
 minus-cut : minus whole whole ≡ whole
 minus-cut = refl
+
+spanned-is : (spanned (pos 3) (pos 1) ≡ between (pos 1) (pos 3)) × (spanned (pos 1) (pos 3) ≡ between (pos 1) (pos 3))
+spanned-is = (refl, refl)
+
+scaled-is : scaled (between (pos 1) (pos 2)) (negsuc 2) ≡ between (negsuc 5) (negsuc 2)
+scaled-is = refl
 
 times-both_positive : times (between (pos 2) (pos 3)) (between (pos 4) (pos 5)) ≡ between (pos 8) (pos 15)
 times-both_positive = refl

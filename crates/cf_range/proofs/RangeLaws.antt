@@ -1,5 +1,5 @@
 -- The laws of ranges.
-use Rattle.std.proofs.Common.{◌≡◌, ℕ, zero, suc, ◌≤◌, ℤ, pos, neg_ℤ, ◌+ℤ◌, ◌-ℤ◌, ◌*ℤ◌, Bool, true, false, not, ◌&&◌, ◌||◌, List, [], ◌∷◌, Option, Some, None, length, refl, sym, arith}
+use Rattle.std.proofs.Common.{◌≡◌, ℕ, zero, suc, ◌≤◌, ℤ, pos, neg_ℤ, ◌+ℤ◌, ◌-ℤ◌, ◌*ℤ◌, Bool, true, false, not, ◌&&◌, ◌||◌, List, [], ◌∷◌, ◌++◌, Option, Some, None, length, refl, sym, arith}
 use Rattle.std.specs.Int.{int_min, int_max}
 use Rattle.std.proofs.lemmas.Int.{ints}
 use Rattle.cf_num.specs.Limit.{limit, IsWithin}
@@ -22,6 +22,14 @@ lies_at [] (v ∷ vs) x h = absurd h
 lies_at (r ∷ rs) [] x h = absurd h
 lies_at (r ∷ rs) (v ∷ vs) zero h = h.0
 lies_at (r ∷ rs) (v ∷ vs) (suc x) h = lies_at rs vs x h.1
+
+-- one value more, in one range more
+pub lie_behind : (rs : List Range) (env : List Value) (r : Range) (v : Value) → LieIn rs env → LiesIn r (number_of v) →
+    LieIn (rs ++ r ∷ []) (env ++ v ∷ [])
+lie_behind [] [] r v h k = (k, tt)
+lie_behind [] (w ∷ ws) r v h k = absurd h
+lie_behind (s ∷ ss) [] r v h k = absurd h
+lie_behind (s ∷ ss) (w ∷ ws) r v h k = (h.0, lie_behind ss ws r v h.1 k)
 
 -- ---- what codes give lies in their ranges
 module _ (rs : List Range) (env : List Value) (lie : LieIn rs env) where
@@ -106,7 +114,7 @@ module _ (rs : List Range) (env : List Value) (lie : LieIn rs env) where
       product_fits (range_of rs a) (range_of rs b) (number_in x) (number_in y) (code_in rs env lie a k x e) (code_in rs env lie b l y f) p))
 
 -- what a code gives is within the limit where the code fits
-given_within : (c : CodeTree) (env vs : List Value) → Fits (path c env) → (path c env).gives ≡ got vs → IsWithin (number_in vs)
+pub given_within : (c : CodeTree) (env vs : List Value) → Fits (path c env) → (path c env).gives ≡ got vs → IsWithin (number_in vs)
 given_within c env vs l e = (whole_in (path c env) (path_own c env) l vs e).0
 
 abbrev IsWithinIfSome : Option ℤ → Type 0

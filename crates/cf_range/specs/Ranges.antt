@@ -43,13 +43,20 @@ plus r s = between (nearest (r.low +ℤ s.low)) (nearest (r.high +ℤ s.high))
 abbrev pub minus : Range → Range → Range
 minus r s = between (nearest (r.low -ℤ s.high)) (nearest (r.high -ℤ s.low))
 
--- the least range with these four numbers
-abbrev pub spanned : ℤ → ℤ → ℤ → ℤ → Range
-spanned a b c d = between (int_min (int_min a b) (int_min c d)) (int_max (int_max a b) (int_max c d))
+-- the least range with both numbers
+abbrev pub spanned : ℤ → ℤ → Range
+spanned a b = between (int_min a b) (int_max a b)
+
+abbrev pub scaled : Range → ℤ → Range
+scaled r k = spanned (nearest (r.low *ℤ k)) (nearest (r.high *ℤ k))
+
+-- what is in the one or the other
+abbrev pub either : Range → Range → Range
+either r s = between (int_min r.low s.low) (int_max r.high s.high)
 
 -- a product is least and greatest where both factors are at an end
 abbrev pub times : Range → Range → Range
-times r s = spanned (nearest (r.low *ℤ s.low)) (nearest (r.low *ℤ s.high)) (nearest (r.high *ℤ s.low)) (nearest (r.high *ℤ s.high))
+times r s = either (scaled r s.low) (scaled r s.high)
 
 -- what a cut-off operation of 128 bits tells of the limit
 abbrev pub past_or_none : Option ℤ → Bool
@@ -99,7 +106,3 @@ best_after better r (s ∷ ss) = best_after better (better_of better r s) ss
 abbrev pub best_of : (ℤ → ℤ → ℤ) → List Range → Range
 best_of better [] = between (pos 0) (pos 0)
 best_of better (r ∷ rs) = best_after better r rs
-
--- what is in the one or the other
-abbrev pub either : Range → Range → Range
-either r s = between (int_min r.low s.low) (int_max r.high s.high)

@@ -5,10 +5,12 @@ ghost use Rattle.cf_range.specs.RangeLaws.{ValuesLieInRanges, NeedNoChecks, Rang
 
 mod codes;
 mod range;
+mod tidy;
 mod total;
 
 pub use crate::codes::{may_pass, range_of};
 pub use crate::range::Range;
+pub use crate::tidy::tidied;
 pub use crate::total::is_total;
 
 /// Where no number that a code meets is past the limit, what it gives lies in its range.

@@ -3,7 +3,7 @@ ghost use Rattle.std.specs.Prelude.{◌≡◌, pos, ◌+ℤ◌, ◌-ℤ◌, ◌*
 ghost use Rattle.std.specs.Int.{int_min, int_max};
 ghost use Rattle.cf_num.specs.Limit.{limit};
 ghost use Rattle.cf_tree.specs.Numbers.{quotient};
-ghost use Rattle.cf_range.specs.Ranges.{between, whole, nearest, passes, plus, minus, times, plus_passes, minus_passes, times_passes, negated, divided, left_by, better_of, either, past_or_none, spanned};
+ghost use Rattle.cf_range.specs.Ranges.{between, whole, nearest, passes, plus, minus, times, plus_passes, minus_passes, times_passes, negated, divided, left_by, better_of, either, past_or_none, spanned, scaled};
 
 /// The numbers from `low` to `high`, both among them.
 #[derive(Clone, Copy, Debug, PartialEq, Eq)]
@@ -74,12 +74,9 @@ impl Range {
     pub fn times(self, other: Range) -> Range
         ensures { result ≡ times self other }
     {
-        spanned(
-            near_product(self.low, other.low),
-            near_product(self.low, other.high),
-            near_product(self.high, other.low),
-            near_product(self.high, other.high),
-        )
+        let low = scaled_by_low(self, other);
+        let high = scaled_by_high(self, other);
+        low.either(high)
     }
 
     /// Whether some sum of two numbers of these ranges may be past the limit.
@@ -170,13 +167,32 @@ impl Range {
     }
 }
 
-// The least range with these four numbers.
-fn spanned(a: i128, b: i128, c: i128, d: i128) -> Range
-    ensures { result ≡ spanned a b c d }
+// Where multiples lie that are within the limit.
+fn scaled(range: Range, k: i128) -> Range
+    ensures { result ≡ scaled range k }
+{
+    spanned(near_product(range.low, k), near_product(range.high, k))
+}
+
+fn scaled_by_low(range: Range, factors: Range) -> Range
+    ensures { result ≡ scaled range factors.low }
+{
+    scaled(range, factors.low)
+}
+
+fn scaled_by_high(range: Range, factors: Range) -> Range
+    ensures { result ≡ scaled range factors.high }
+{
+    scaled(range, factors.high)
+}
+
+// The least range with both numbers.
+fn spanned(a: i128, b: i128) -> Range
+    ensures { result ≡ spanned a b }
 {
     Range {
-        low: least(least(a, b), least(c, d)),
-        high: greatest(greatest(a, b), greatest(c, d)),
+        low: least(a, b),
+        high: greatest(a, b),
     }
 }
 
