@@ -1,10 +1,8 @@
 -- Paths that answer alike, one after another.
-use Rattle.std.proofs.Common.{◌≡◌, ℕ, zero, suc, ◌≤◌, max, ℤ, pos, negsuc, neg_ℤ, ◌+ℤ◌, ◌-ℤ◌, ◌*ℤ◌, Bool, true, false, cond, Option, Some, None, List, [], ◌∷◌, refl, sym, ap, ◌∙◌, arith}
-use Rattle.std.specs.Prelude.{unsigned_abs}
-use Rattle.std.proofs.lemmas.Int.{ints}
-use Rattle.cf_num.specs.Limit.{limit, IsWithin}
-use Rattle.cf_tree.specs.Meaning.{Got, got, none_at, Path, then_gives, then_peak, then_path, gives_only, if_some, or_later, or_none, first_from, meets, number_in}
-use Rattle.cf_tree.specs.Values.{Value, number}
+use Rattle.std.proofs.Common.{◌≡◌, ℕ, zero, suc, ◌≤◌, max, Bool, true, false, cond, Option, Some, None, List, refl, ◌∙◌, arith}
+use Rattle.cf_num.specs.Limit.{limit}
+use Rattle.cf_tree.specs.Meaning.{Got, got, none_at, Path, then_gives, then_peak, then_path, gives_only, if_some, or_later, first_from}
+use Rattle.cf_tree.specs.Values.{Value}
 use Rattle.cf_range.specs.Alike.{Follows, Alike}
 
 pub alike_refl : {A : Type 0} (p : Path A) → Alike p p

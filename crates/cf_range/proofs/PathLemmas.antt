@@ -1,8 +1,7 @@
 -- Paths whose values lie in a range, that fit, and that give values.
-use Rattle.std.proofs.Common.{◌≡◌, ℕ, ◌≤◌, max, ℤ, pos, Bool, true, false, cond, List, [], ◌∷◌, refl, sym, subst, arith}
-use Rattle.std.specs.Prelude.{unsigned_abs}
+use Rattle.std.proofs.Common.{◌≡◌, ℕ, ◌≤◌, ℤ, Bool, true, false, cond, List, [], ◌∷◌, refl, subst, arith}
 use Rattle.cf_num.specs.Limit.{limit, IsWithin}
-use Rattle.cf_tree.specs.Meaning.{Got, got, none_at, Path, then_gives, then_peak, then_path, gives_only, meets, meets_value, number_in}
+use Rattle.cf_tree.specs.Meaning.{Got, got, none_at, Path, then_gives, then_peak, then_path, meets, meets_value, number_in}
 use Rattle.cf_tree.specs.Values.{Value, number, truth, elements, number_of}
 use Rattle.cf_range.specs.Ranges.{LiesIn, whole, either}
 use Rattle.cf_range.specs.declared.range.Range.{Range}

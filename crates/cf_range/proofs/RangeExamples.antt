@@ -1,16 +1,16 @@
 -- Values of the definitions.
-use Rattle.std.specs.Prelude.{◌≡◌, ◌^◌, pos, negsuc, neg_ℤ, ◌+ℤ◌, ◌-ℤ◌, ◌-◌, ℕ, ℤ, true, false, List, [], ◌∷◌, Option, Some, None, refl}
+use Rattle.std.specs.Prelude.{◌≡◌, ◌^◌, pos, negsuc, neg_ℤ, ◌-◌, ℕ, ℤ, true, false, List, [], ◌∷◌, Some, None, refl}
 use Rattle.std.specs.Int.{int_min, int_max}
 use Rattle.std.proofs.Common.{arith}
 use Rattle.std.proofs.lemmas.Int.{ints}
 use Rattle.cf_num.specs.Limit.{limit}
 use Rattle.cf_tree.specs.declared.base.Order.TheVariants.{Lt}
 use Rattle.cf_tree.specs.CodeTree.{CodeTree, code_lit, code_truth, code_var, code_set_of, code_tuple, code_sum, code_sub, code_mul, code_neg, code_div, code_mod, code_min, code_max, code_compare, code_divides, code_and, code_or, code_not, code_union, code_inter, code_diff, code_subset, code_card, code_slice, code_fresh, code_if, code_let, code_solve, CodeTrees, no_codes, code_more, no_arms}
-use Rattle.cf_tree.specs.Values.{number, truth, elements}
+use Rattle.cf_tree.specs.Values.{number, truth}
 use Rattle.cf_range.specs.declared.range.Range.{Range}
-use Rattle.cf_range.specs.Ranges.{between, whole, LiesIn, LieIn, range_at, passes, nearest, plus, minus, times, spanned, scaled, past_or_none, plus_passes, minus_passes, times_passes, negated, divided, left_by, plus_all, plus_all_passes, better_of, best_after, best_of, either}
-use Rattle.cf_range.specs.CodeRanges.{range_of, ranges_of, may_pass}
-use Rattle.cf_range.specs.Total.{is_total, are_total}
+use Rattle.cf_range.specs.Ranges.{between, whole, LiesIn, LieIn, range_at, passes, nearest, plus, minus, times, spanned, scaled, past_or_none, plus_passes, minus_passes, times_passes, negated, divided, left_by, plus_all, plus_all_passes, better_of, best_of, either}
+use Rattle.cf_range.specs.CodeRanges.{range_of, may_pass}
+use Rattle.cf_range.specs.Total.{is_total}
 
 abbrev past : ℤ
 past = pos (2 ^ 127)

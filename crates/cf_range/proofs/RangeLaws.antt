@@ -1,17 +1,16 @@
 -- The laws of ranges.
-use Rattle.std.proofs.Common.{◌≡◌, ℕ, zero, suc, ◌≤◌, ℤ, pos, neg_ℤ, ◌+ℤ◌, ◌-ℤ◌, ◌*ℤ◌, Bool, true, false, not, ◌&&◌, ◌||◌, List, [], ◌∷◌, ◌++◌, Option, Some, None, length, refl, sym, arith}
+use Rattle.std.proofs.Common.{◌≡◌, ℕ, zero, suc, ℤ, pos, neg_ℤ, ◌+ℤ◌, ◌-ℤ◌, ◌*ℤ◌, Bool, true, false, not, ◌&&◌, List, [], ◌∷◌, ◌++◌, Option, Some, None, length, refl, arith}
 use Rattle.std.specs.Int.{int_min, int_max}
-use Rattle.std.proofs.lemmas.Int.{ints}
-use Rattle.cf_num.specs.Limit.{limit, IsWithin}
+use Rattle.cf_num.specs.Limit.{IsWithin}
 use Rattle.cf_tree.specs.CodeTree.{CodeTree, code_lit, code_truth, code_var, code_set_of, code_tuple, code_sum, code_sub, code_mul, code_neg, code_div, code_mod, code_min, code_max, code_compare, code_divides, code_and, code_or, code_not, code_union, code_inter, code_diff, code_subset, code_card, code_slice, code_fresh, code_if, code_let, code_solve, CodeTrees, no_codes, code_more}
-use Rattle.cf_tree.specs.Meaning.{got, Path, then_path, path, all_path, set_path, sum_path, best_path, join_path, meets, meets_value, gives_truth, number_in, set_in, truth_in}
+use Rattle.cf_tree.specs.Meaning.{got, path, all_path, set_path, sum_path, best_path, join_path, meets, meets_value, gives_truth, number_in, set_in, truth_in}
 use Rattle.cf_tree.specs.Numbers.{quotient, remainder}
 use Rattle.cf_tree.specs.Values.{Value, number, truth, elements, number_of, value_at}
 use Rattle.cf_range.specs.declared.range.Range.{Range}
-use Rattle.cf_range.specs.Ranges.{between, whole, LiesIn, LieIn, range_at, plus, plus_all, plus_all_passes, plus_passes, better_of, best_of, best_after}
+use Rattle.cf_range.specs.Ranges.{between, LiesIn, LieIn, range_at, plus, plus_all, plus_all_passes, better_of, best_of, best_after}
 use Rattle.cf_range.specs.CodeRanges.{range_of, ranges_of, may_pass}
 use Rattle.cf_range.specs.Total.{is_total, are_total}
-use Rattle.cf_range.specs.RangeLaws.{Fits, AllFit, ValuesLieInRanges, NeedNoChecks, Evaluates, TotalCodesEvaluate}
+use Rattle.cf_range.specs.RangeLaws.{Fits, AllFit, ValuesLieInRanges, NeedNoChecks, TotalCodesEvaluate}
 use Rattle.cf_range.proofs.GivenLaws.{path_own}
 use Rattle.cf_range.proofs.NumberLemmas.{or_false, within_is, lies_exactly, zero_lies, count_lies, lies_whole, sum_lies, difference_lies, product_lies, sum_fits, difference_fits, product_fits, negation_fits, negation_lies, quotient_fits, quotient_lies, remainder_fits, remainder_lies, Chooses, least_chooses, greatest_chooses, better_lies}
 use Rattle.cf_range.proofs.PathLemmas.{IsIn, then_in, only_in, meets_in, value_in, either_in, whole_in, then_fits, Does, only_does, then_does, either_does}

@@ -1,11 +1,11 @@
 -- Codes that answer alike, codes that do not, and what tidying makes of a code.
-use Rattle.std.proofs.Common.{◌≡◌, ◌^◌, ◌-◌, ℕ, ℤ, pos, negsuc, List, [], ◌∷◌, refl, arith}
+use Rattle.std.proofs.Common.{◌≡◌, ◌^◌, ℕ, pos, negsuc, [], ◌∷◌, refl, arith}
 use Rattle.std.proofs.lemmas.Int.{ints}
 use Rattle.cf_tree.specs.CodeTree.{CodeTree, code_lit, code_var, code_sum, code_mul, code_neg, code_div, code_let, code_solve, no_codes, code_more, let_item, need_item, no_items, item_more, arm_of, no_arms, arm_more}
-use Rattle.cf_tree.specs.Meaning.{Path, got, none_at}
-use Rattle.cf_range.specs.Alike.{Follows, Alike, AnswersAlike}
+use Rattle.cf_tree.specs.Meaning.{Path, got}
+use Rattle.cf_range.specs.Alike.{Alike, AnswersAlike}
 use Rattle.cf_range.specs.Ranges.{between}
-use Rattle.cf_range.specs.Tidied.{is_minus_one, product, tidied}
+use Rattle.cf_range.specs.Tidied.{product, tidied}
 
 abbrev at_peak : ℕ → ℕ → Path ℕ
 at_peak n peak = record { gives = got n; peak = peak }

@@ -1,6 +1,6 @@
 -- Lists of codes, items and arms, tidied one by one.
 use Rattle.std.proofs.Common.{◌≡◌, List, [], ◌∷◌, map, refl, ap}
-use Rattle.cf_tree.specs.CodeTree.{CodeTree, code_more, ItemTree, item_more, ArmTree, arm_more, codes_of, items_of, arms_of}
+use Rattle.cf_tree.specs.CodeTree.{code_more, item_more, arm_more, codes_of, items_of, arms_of}
 use Rattle.cf_tree.specs.CodeView.{code_tree, item_tree, arm_tree}
 use Rattle.cf_tree.specs.declared.code.Code.{Code}
 use Rattle.cf_tree.specs.declared.code.Item.{Item}

@@ -1,14 +1,14 @@
 -- Tidying keeps the types of a code.
-use Rattle.std.proofs.Common.{◌≡◌, ℕ, ◌+◌, ◌≤◌, Bool, true, false, Option, Some, None, Result, Ok, Err, IfOk, List, [], ◌∷◌, ◌++◌, map, refl, sym, ap, subst}
+use Rattle.std.proofs.Common.{◌≡◌, ℕ, ◌+◌, ◌≤◌, Option, None, Result, Ok, Err, IfOk, List, ◌++◌, map, refl, sym, ap, subst}
 use Rattle.cf_tree.specs.declared.base.Base.{Base}
 use Rattle.cf_tree.specs.declared.base.Base.TheVariants.{Int, Bool as Truth, Set}
-use Rattle.cf_tree.specs.CodeTree.{CodeTree, code_lit, code_truth, code_var, code_set_of, code_tuple, code_sum, code_sub, code_mul, code_neg, code_div, code_mod, code_min, code_max, code_compare, code_divides, code_and, code_or, code_not, code_union, code_inter, code_diff, code_subset, code_card, code_slice, code_fresh, code_if, code_let, code_solve, CodeTrees, no_codes, code_more, ItemTree, let_item, need_item, ItemTrees, no_items, item_more, ArmTree, arm_of, ArmTrees, no_arms, arm_more, count}
-use Rattle.cf_tree.specs.Typing.{HasBases, AllHave, PartsHave, ItemsHave, ArmsHave, HasNoSolve, HaveNoSolve, ItemHasNoSolve, ItemsHaveNoSolve, IsGiven, ask, one, share, side}
+use Rattle.cf_tree.specs.CodeTree.{CodeTree, code_lit, code_truth, code_var, code_set_of, code_tuple, code_sum, code_sub, code_mul, code_neg, code_div, code_mod, code_min, code_max, code_compare, code_divides, code_and, code_or, code_not, code_union, code_inter, code_diff, code_subset, code_card, code_slice, code_fresh, code_if, code_let, code_solve, CodeTrees, no_codes, code_more, ItemTree, let_item, need_item, ItemTrees, no_items, item_more, arm_of, ArmTrees, no_arms, arm_more, count}
+use Rattle.cf_tree.specs.Typing.{AllHave, PartsHave, ItemsHave, ArmsHave, HasNoSolve, HaveNoSolve, ItemHasNoSolve, ItemsHaveNoSolve, IsGiven, ask, one, share, side}
 use Rattle.cf_tree.specs.CodeView.{code_tree}
 use Rattle.cf_tree.specs.declared.code.Code.{Code}
 use Rattle.cf_tree.specs.declared.memory.NoMemory.{NoMemory}
 use Rattle.cf_range.specs.Alike.{KeepsTypes}
-use Rattle.cf_range.specs.Tidied.{is_minus_one, product, tidied, all_tidied, item_tidied, items_tidied, arm_tidied, arms_tidied}
+use Rattle.cf_range.specs.Tidied.{is_minus_one, product, tidied, all_tidied, item_tidied, items_tidied, arms_tidied}
 use Rattle.cf_range.proofs.NumberLemmas.{on_bool}
 
 same_count : (cs : CodeTrees) → count cs ≡ count (all_tidied cs)

@@ -1,8 +1,8 @@
 -- Between which numbers a code gives, by the ranges of its variables, where no number that it meets is past the limit.
-use Rattle.std.specs.Prelude.{ℤ, pos, Bool, true, false, List, [], ◌∷◌}
+use Rattle.std.specs.Prelude.{pos, Bool, true, false, List, [], ◌∷◌}
 use Rattle.std.specs.Int.{int_min, int_max}
 use Rattle.cf_num.specs.Limit.{limit}
-use Rattle.cf_tree.specs.CodeTree.{CodeTree, code_lit, code_truth, code_var, code_set_of, code_tuple, code_sum, code_sub, code_mul, code_neg, code_div, code_mod, code_min, code_max, code_compare, code_divides, code_and, code_or, code_not, code_union, code_inter, code_diff, code_subset, code_card, code_slice, code_fresh, code_if, code_let, code_solve, CodeTrees, no_codes, code_more}
+use Rattle.cf_tree.specs.CodeTree.{CodeTree, code_lit, code_var, code_sum, code_sub, code_mul, code_neg, code_div, code_mod, code_min, code_max, code_card, code_fresh, code_if, code_solve, CodeTrees, no_codes, code_more}
 use Rattle.cf_range.specs.Ranges.{between, whole, range_at, nearest, passes, plus_all, minus, times, negated, divided, left_by, best_of, either, plus_all_passes, minus_passes, times_passes}
 use Rattle.cf_range.specs.declared.range.Range.{Range}
 

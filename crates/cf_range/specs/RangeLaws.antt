@@ -1,7 +1,7 @@
 -- What ranges say of paths: codes whose values and numbers are foreseen.
 use Rattle.std.specs.Prelude.{◌≡◌, ◌≤◌, ℤ, ◌+ℤ◌, ◌-ℤ◌, ◌*ℤ◌, true, false, List}
 use Rattle.cf_num.specs.Limit.{limit, IsWithin}
-use Rattle.cf_tree.specs.CodeTree.{CodeTree, code_lit, code_sum, code_sub, code_mul, code_neg, code_div, code_mod, code_min, code_max, CodeTrees, no_codes, code_more}
+use Rattle.cf_tree.specs.CodeTree.{CodeTree, code_sum, code_sub, code_mul, code_neg, code_div, code_mod, code_min, code_max, CodeTrees, no_codes, code_more}
 use Rattle.cf_tree.specs.Meaning.{Path, got, path, number_in}
 use Rattle.cf_tree.specs.Values.{Value}
 use Rattle.cf_range.specs.Ranges.{LiesIn, LieIn, plus, minus, times, plus_passes, minus_passes, times_passes}

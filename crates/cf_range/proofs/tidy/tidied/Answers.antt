@@ -1,5 +1,3 @@
-use Rattle.std.proofs.Common.{◌≡◌, subst, sym, refl, Ok, Err}
-use Rattle.std.specs.Prelude.{Result, IfOk}
 use Rattle.cf_tree.specs.CodeView.{code_tree}
 use Rattle.cf_range.proofs.TidiedLaws.{answers_if}
 use Rattle.cf_range.proofs.TidiedTypes.{types_if}

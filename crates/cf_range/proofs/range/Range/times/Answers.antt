@@ -1,5 +1,5 @@
-use Rattle.std.proofs.Common.{◌≡◌, ◌∙◌, ap₂}
-use Rattle.cf_range.specs.Ranges.{either, scaled}
+use Rattle.std.proofs.Common.{◌∙◌, ap₂}
+use Rattle.cf_range.specs.Ranges.{either}
 use Rattle.cf_range.proofs.range.Range.times.Goals as goal
 
 pub returns : goal.returns
