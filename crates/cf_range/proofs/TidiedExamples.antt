@@ -1,0 +1,64 @@
+-- Codes that answer alike, codes that do not, and what tidying makes of a code.
+use Rattle.std.proofs.Common.{◌≡◌, ◌^◌, ℕ, pos, negsuc, [], ◌∷◌, refl, arith}
+use Rattle.std.proofs.lemmas.Int.{ints}
+use Rattle.cf_tree.specs.CodeTree.{CodeTree, code_lit, code_var, code_sum, code_mul, code_neg, code_div, code_let, code_solve, no_codes, code_more, let_item, need_item, no_items, item_more, arm_of, no_arms, arm_more}
+use Rattle.cf_tree.specs.Meaning.{Path, got}
+use Rattle.cf_range.specs.Alike.{Alike, AnswersAlike}
+use Rattle.cf_range.specs.Ranges.{between}
+use Rattle.cf_range.specs.Tidied.{product, tidied}
+
+abbrev at_peak : ℕ → ℕ → Path ℕ
+at_peak n peak = record { gives = got n; peak = peak }
+
+abbrev past : ℕ
+past = 2 ^ 127
+
+-- smaller numbers may be met in other ways
+alike-other_peak : Alike (at_peak 5 7) (at_peak 5 1)
+alike-other_peak = (λ l. (omega arith, refl), λ l. (omega arith, refl))
+
+alike-not_other_value : Alike (at_peak 5 7) (at_peak 6 7) → ⊥
+alike-not_other_value h = let e = (h.0 (omega arith)).1 in cc
+
+-- what is past on both may give anything
+alike-both_past : Alike (at_peak 5 past) (at_peak 6 past)
+alike-both_past = (λ l. absurd (omega (arith, l)), λ l. absurd (omega (arith, l)))
+
+alike-not_past_before : Alike (at_peak 5 past) (at_peak 5 7) → ⊥
+alike-not_past_before h = let l = (h.1 (omega arith)).0 in omega (arith, l)
+
+alike-not_past_behind : Alike (at_peak 5 7) (at_peak 5 past) → ⊥
+alike-not_past_behind h = let l = (h.0 (omega arith)).0 in omega (arith, l)
+
+-- only environments within the ranges count
+answers-within : AnswersAlike (between (pos 1) (pos 0) ∷ []) (code_lit (pos 1)) (code_lit (pos 2))
+answers-within [] lie = absurd lie
+answers-within (v ∷ vs) lie = let low = lie.0.1 in let high = lie.0.2 in absurd (omega (arith, ints, low, high))
+
+answers-not : AnswersAlike [] (code_lit (pos 1)) (code_lit (pos 2)) → ⊥
+answers-not h = let e = ((h [] tt).0 (omega arith)).1 in cc
+
+-- ---- the row
+abbrev x : CodeTree
+x = code_var 0
+
+abbrev minus : CodeTree → CodeTree
+minus c = code_mul (code_lit (negsuc 0)) c
+
+product-minus_one : product (code_lit (negsuc 0)) x ≡ code_neg x
+product-minus_one = refl
+
+product-other : product (code_lit (negsuc 1)) x ≡ code_mul (code_lit (negsuc 1)) x
+product-other = refl
+
+product-no_literal : product x (code_lit (negsuc 0)) ≡ code_mul x (code_lit (negsuc 0))
+product-no_literal = refl
+
+-- at each form, parts first
+tidied-inside : tidied (code_let 1 1 (code_div (minus x) (pos 4)) (code_sum (code_more (minus (minus x)) (code_more x no_codes))))
+    ≡ code_let 1 1 (code_div (code_neg x) (pos 4)) (code_sum (code_more (code_neg (code_neg x)) (code_more x no_codes)))
+tidied-inside = refl
+
+tidied-arm : tidied (code_solve 1 (arm_more (arm_of (3 ∷ []) (item_more (let_item (minus x)) (item_more (need_item (minus x)) no_items)) (code_more (minus x) no_codes)) no_arms))
+    ≡ code_solve 1 (arm_more (arm_of (3 ∷ []) (item_more (let_item (code_neg x)) (item_more (need_item (code_neg x)) no_items)) (code_more (code_neg x) no_codes)) no_arms)
+tidied-arm = refl

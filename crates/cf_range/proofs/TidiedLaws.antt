@@ -1,0 +1,151 @@
+-- What tidying makes of a code answers alike.
+use Rattle.std.proofs.Common.{◌≡◌, ℤ, pos, negsuc, neg_ℤ, ◌+ℤ◌, ◌*ℤ◌, true, false, Option, None, Result, Ok, Err, IfOk, List, [], ◌++◌, sym, ap, subst, arith}
+use Rattle.std.proofs.lemmas.Int.{ints}
+use Rattle.cf_tree.specs.CodeTree.{CodeTree, code_lit, code_truth, code_var, code_set_of, code_tuple, code_sum, code_sub, code_mul, code_neg, code_div, code_mod, code_min, code_max, code_compare, code_divides, code_and, code_or, code_not, code_union, code_inter, code_diff, code_subset, code_card, code_slice, code_fresh, code_if, code_let, code_solve, CodeTrees, no_codes, code_more, ItemTree, let_item, need_item, ItemTrees, no_items, item_more, ArmTree, arm_of, ArmTrees, no_arms, arm_more}
+use Rattle.cf_tree.specs.Meaning.{then_path, path, all_path, set_path, sum_path, best_path, join_path, items_path, item_path, arms_path, arm_path, meets, meets_all, tuple_at, count_below, gives_only, gives_truth, number_in, truth_in}
+use Rattle.cf_tree.specs.Values.{Value}
+use Rattle.cf_tree.proofs.SetLemmas.{eq_is}
+use Rattle.cf_tree.specs.CodeView.{code_tree}
+use Rattle.cf_tree.specs.declared.code.Code.{Code}
+use Rattle.cf_tree.specs.declared.memory.NoMemory.{NoMemory}
+use Rattle.cf_range.specs.declared.range.Range.{Range}
+use Rattle.cf_range.specs.Alike.{Alike, AnswersAlike}
+use Rattle.cf_range.specs.Tidied.{is_minus_one, product, tidied, all_tidied, item_tidied, items_tidied, arm_tidied, arms_tidied}
+use Rattle.cf_range.proofs.NumberLemmas.{on_bool}
+use Rattle.cf_range.proofs.AlikeLemmas.{alike_refl, alike_same, alike_trans, alike_then, alike_one, alike_two, alike_cond, alike_later, alike_some, alike_first, met_before}
+
+-- ---- the rows
+minus_one_is : (c : CodeTree) → is_minus_one c ≡ true → c ≡ code_lit (negsuc 0)
+minus_one_is (code_lit k) e = ap code_lit (eq_is k (negsuc 0) e)
+minus_one_is (code_truth t) e = cc
+minus_one_is (code_var x) e = cc
+minus_one_is (code_set_of cs) e = cc
+minus_one_is (code_tuple cs) e = cc
+minus_one_is (code_sum cs) e = cc
+minus_one_is (code_sub a b) e = cc
+minus_one_is (code_mul a b) e = cc
+minus_one_is (code_neg a) e = cc
+minus_one_is (code_div a k) e = cc
+minus_one_is (code_mod a k) e = cc
+minus_one_is (code_min cs) e = cc
+minus_one_is (code_max cs) e = cc
+minus_one_is (code_compare o a b) e = cc
+minus_one_is (code_divides k a) e = cc
+minus_one_is (code_and a b) e = cc
+minus_one_is (code_or a b) e = cc
+minus_one_is (code_not a) e = cc
+minus_one_is (code_union cs) e = cc
+minus_one_is (code_inter cs) e = cc
+minus_one_is (code_diff a b) e = cc
+minus_one_is (code_subset a b) e = cc
+minus_one_is (code_card a) e = cc
+minus_one_is (code_slice a b c) e = cc
+minus_one_is (code_fresh a b) e = cc
+minus_one_is (code_if t a b) e = cc
+minus_one_is (code_let first count a b) e = cc
+minus_one_is (code_solve n arms) e = cc
+
+negated_alike : (b : CodeTree) (env : List Value) → Alike (path (code_mul (code_lit (negsuc 0)) b) env) (path (code_neg b) env)
+negated_alike b env = met_before 1 (then_path (path b env) (λ y. meets (negsuc 0 *ℤ number_in y))) (path (code_neg b) env) (omega arith)
+    (alike_then (path b env) (path b env) _ _ (alike_refl (path b env)) (λ y e l.
+    alike_same (meets (negsuc 0 *ℤ number_in y)) (meets (neg_ℤ (number_in y))) (ap meets (turned (number_in y)))))
+  where
+    turned : (y : ℤ) → negsuc 0 *ℤ y ≡ neg_ℤ y
+    turned y = omega (arith, ints)
+
+product_alike : (a b : CodeTree) (env : List Value) → Alike (path (code_mul a b) env) (path (product a b) env)
+product_alike a b env = on_bool (is_minus_one a)
+    (λ e. rw e (subst (λ d. Alike (path (code_mul d b) env) (path (code_neg b) env)) (sym (minus_one_is a e)) (negated_alike b env)))
+    (λ e. rw e (alike_refl (path (code_mul a b) env)))
+
+-- ---- all forms
+mutual
+  pub tidied_alike : (c : CodeTree) (env : List Value) → Alike (path c env) (path (tidied c) env)
+  tidied_alike (code_lit k) env = alike_refl (path (code_lit k) env)
+  tidied_alike (code_truth t) env = alike_refl (path (code_truth t) env)
+  tidied_alike (code_var x) env = alike_refl (path (code_var x) env)
+  tidied_alike (code_set_of cs) env = set_alike cs env []
+  tidied_alike (code_tuple cs) env = all_alike cs env []
+  tidied_alike (code_sum cs) env = parts_alike cs env (pos 0)
+  tidied_alike (code_sub a b) env = alike_two (path a env) (path (tidied a) env) (path b env) (path (tidied b) env) _ (tidied_alike a env) (tidied_alike b env)
+  tidied_alike (code_mul a b) env = alike_trans (path (code_mul a b) env) (path (code_mul (tidied a) (tidied b)) env)
+      (path (product (tidied a) (tidied b)) env)
+      (alike_two (path a env) (path (tidied a) env) (path b env) (path (tidied b) env) _ (tidied_alike a env) (tidied_alike b env))
+      (product_alike (tidied a) (tidied b) env)
+  tidied_alike (code_neg a) env = alike_one (path a env) (path (tidied a) env) _ (tidied_alike a env)
+  tidied_alike (code_div a k) env = alike_one (path a env) (path (tidied a) env) _ (tidied_alike a env)
+  tidied_alike (code_mod a k) env = alike_one (path a env) (path (tidied a) env) _ (tidied_alike a env)
+  tidied_alike (code_min cs) env = best_alike _ cs env None
+  tidied_alike (code_max cs) env = best_alike _ cs env None
+  tidied_alike (code_compare o a b) env = alike_two (path a env) (path (tidied a) env) (path b env) (path (tidied b) env) _ (tidied_alike a env) (tidied_alike b env)
+  tidied_alike (code_divides k a) env = alike_one (path a env) (path (tidied a) env) _ (tidied_alike a env)
+  tidied_alike (code_and a b) env = alike_then (path a env) (path (tidied a) env) _ _ (tidied_alike a env)
+      (λ x e l. alike_cond (truth_in x) (path b env) (path (tidied b) env) (gives_truth false) (gives_truth false) (tidied_alike b env) (alike_refl (gives_truth false)))
+  tidied_alike (code_or a b) env = alike_then (path a env) (path (tidied a) env) _ _ (tidied_alike a env)
+      (λ x e l. alike_cond (truth_in x) (gives_truth true) (gives_truth true) (path b env) (path (tidied b) env) (alike_refl (gives_truth true)) (tidied_alike b env))
+  tidied_alike (code_not a) env = alike_one (path a env) (path (tidied a) env) _ (tidied_alike a env)
+  tidied_alike (code_union cs) env = join_alike _ cs env None
+  tidied_alike (code_inter cs) env = join_alike _ cs env None
+  tidied_alike (code_diff a b) env = alike_two (path a env) (path (tidied a) env) (path b env) (path (tidied b) env) _ (tidied_alike a env) (tidied_alike b env)
+  tidied_alike (code_subset a b) env = alike_two (path a env) (path (tidied a) env) (path b env) (path (tidied b) env) _ (tidied_alike a env) (tidied_alike b env)
+  tidied_alike (code_card a) env = alike_one (path a env) (path (tidied a) env) _ (tidied_alike a env)
+  tidied_alike (code_slice a b c) env = alike_then (path a env) (path (tidied a) env) _ _ (tidied_alike a env)
+      (λ x e l. alike_two (path b env) (path (tidied b) env) (path c env) (path (tidied c) env) _ (tidied_alike b env) (tidied_alike c env))
+  tidied_alike (code_fresh a b) env = alike_two (path a env) (path (tidied a) env) (path b env) (path (tidied b) env) _ (tidied_alike a env) (tidied_alike b env)
+  tidied_alike (code_if t a b) env = alike_then (path t env) (path (tidied t) env) _ _ (tidied_alike t env)
+      (λ x e l. alike_cond (truth_in x) (path a env) (path (tidied a) env) (path b env) (path (tidied b) env) (tidied_alike a env) (tidied_alike b env))
+  tidied_alike (code_let first count a b) env = alike_then (path a env) (path (tidied a) env) _ _ (tidied_alike a env) (λ x e l. tidied_alike b (env ++ x))
+  tidied_alike (code_solve n arms) env = alike_one (arms_path arms env) (arms_path (arms_tidied arms) env) _ (arms_alike arms env)
+
+  all_alike : (cs : CodeTrees) (env done : List Value) → Alike (all_path cs env done) (all_path (all_tidied cs) env done)
+  all_alike no_codes env done = alike_refl (gives_only done)
+  all_alike (code_more c cs) env done = alike_then (path c env) (path (tidied c) env) _ _ (tidied_alike c env) (λ x e l. all_alike cs env (done ++ x))
+
+  set_alike : (cs : CodeTrees) (env : List Value) (done : List ℤ) → Alike (set_path cs env done) (set_path (all_tidied cs) env done)
+  set_alike no_codes env done = alike_refl (set_path no_codes env done)
+  set_alike (code_more c cs) env done = alike_then (path c env) (path (tidied c) env) _ _ (tidied_alike c env) (λ x e l. set_alike cs env _)
+
+  parts_alike : (cs : CodeTrees) (env : List Value) (z : ℤ) → Alike (sum_path cs env z) (sum_path (all_tidied cs) env z)
+  parts_alike no_codes env z = alike_refl (sum_path no_codes env z)
+  parts_alike (code_more c cs) env z = alike_then (path c env) (path (tidied c) env) _ _ (tidied_alike c env)
+      (λ x e l. alike_then (meets (z +ℤ number_in x)) (meets (z +ℤ number_in x)) _ _ (alike_refl (meets (z +ℤ number_in x)))
+      (λ s f m. parts_alike cs env (number_in s)))
+
+  best_alike : (better : ℤ → ℤ → ℤ) (cs : CodeTrees) (env : List Value) (z : Option ℤ) →
+      Alike (best_path better cs env z) (best_path better (all_tidied cs) env z)
+  best_alike better no_codes env z = alike_refl (best_path better no_codes env z)
+  best_alike better (code_more c cs) env z = alike_then (path c env) (path (tidied c) env) _ _ (tidied_alike c env) (λ x e l. best_alike better cs env _)
+
+  join_alike : (join : List ℤ → List ℤ → List ℤ) (cs : CodeTrees) (env : List Value) (zs : Option (List ℤ)) →
+      Alike (join_path join cs env zs) (join_path join (all_tidied cs) env zs)
+  join_alike join no_codes env zs = alike_refl (join_path join no_codes env zs)
+  join_alike join (code_more c cs) env zs = alike_then (path c env) (path (tidied c) env) _ _ (tidied_alike c env) (λ x e l. join_alike join cs env _)
+
+  item_alike : (i : ItemTree) (env : List Value) → Alike (item_path i env) (item_path (item_tidied i) env)
+  item_alike (let_item c) env = alike_one (path c env) (path (tidied c) env) _ (tidied_alike c env)
+  item_alike (need_item c) env = alike_one (path c env) (path (tidied c) env) _ (tidied_alike c env)
+
+  items_alike : (is : ItemTrees) (env : List Value) → Alike (items_path is env) (items_path (items_tidied is) env)
+  items_alike no_items env = alike_refl (items_path no_items env)
+  items_alike (item_more i is) env = alike_then (item_path i env) (item_path (item_tidied i) env) _ _ (item_alike i env)
+      (λ next e l. alike_some next (items_path is) (items_path (items_tidied is)) (items_alike is))
+
+  arm_alike : (a : ArmTree) (env : List Value) → Alike (arm_path a env) (arm_path (arm_tidied a) env)
+  arm_alike (arm_of bounds is gs) env = alike_first (count_below bounds) 0 _ _ (λ i.
+      alike_then (meets_all (tuple_at bounds i)) (meets_all (tuple_at bounds i)) _ _ (alike_refl (meets_all (tuple_at bounds i))) (λ ks e l.
+      alike_then (items_path is (env ++ ks)) (items_path (items_tidied is) (env ++ ks)) _ _ (items_alike is (env ++ ks)) (λ next f m.
+      alike_some next _ _ (λ inner. alike_one (all_path gs inner []) (all_path (all_tidied gs) inner []) _ (all_alike gs inner [])))))
+
+  arms_alike : (arms : ArmTrees) (env : List Value) → Alike (arms_path arms env) (arms_path (arms_tidied arms) env)
+  arms_alike no_arms env = alike_refl (arms_path no_arms env)
+  arms_alike (arm_more a arms) env = alike_then (arm_path a env) (arm_path (arm_tidied a) env) _ _ (arm_alike a env)
+      (λ found e l. alike_later found (arms_path arms env) (arms_path (arms_tidied arms) env) (arms_alike arms env))
+
+pub tidied_answers : (rs : List Range) (c : CodeTree) → AnswersAlike rs c (tidied c)
+tidied_answers rs c env lie = tidied_alike c env
+
+-- where there is the code, it answers alike
+pub answers_if : (rs : List Range) (c : CodeTree) (r : Result Code NoMemory) → IfOk r (λ new. code_tree new ≡ tidied c) →
+    IfOk r (λ new. AnswersAlike rs c (code_tree new))
+answers_if rs c (Ok new) e = subst (AnswersAlike rs c) (sym e) (tidied_answers rs c)
+answers_if rs c (Err fault) e = tt

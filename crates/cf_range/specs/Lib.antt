@@ -1,0 +1,6 @@
+pub mod Alike
+pub mod CodeRanges
+pub mod RangeLaws
+pub mod Ranges
+pub mod Tidied
+pub mod Total
