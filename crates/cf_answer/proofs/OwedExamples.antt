@@ -5,18 +5,20 @@ use Rattle.std.specs.Fmt.{digits}
 use Rattle.cf_gen.specs.Workload.{gen_source, gen_lines}
 use Rattle.cf_io.specs.Limits.{line_limit}
 use Rattle.cf_io.specs.Lines.{lines}
+use Rattle.cf_tree.specs.ChooseTree.{ChooseTree}
+use Rattle.cf_tree.specs.RelTree.{rel_true}
 use Rattle.cf_tree.specs.declared.target.RawTarget.{RawTarget}
 use Rattle.cf_target.specs.Spelling.{target_tree}
 use Rattle.cf_program.specs.Checked.{TypedTree}
 use Rattle.cf_eval.specs.Replies.{IsReply}
-use Rattle.cf_pass.specs.Passes.{Told}
+use Rattle.cf_pass.specs.Passes.{Told, HaveTurned}
 use Rattle.cf_words.specs.declared.command.Flags.{Flags}
 use Rattle.cf_words.specs.Commands.{compile, run, pre, check, exec, prove, verify, gen}
 use Rattle.cf_answer.specs.Certificates.{asked_in, AreProofs, AreVerified, verified_line}
 use Rattle.cf_answer.specs.LateReplies.{AreRunsAllowed}
 use Rattle.cf_answer.specs.Owed.{by_target, by_late, IsReplyBy, AllReplied, AreReplies, ArePicked, IsCompiledBy, OwesRun, compiled, late, IsPrinted, AllWritten, ArePres, AreChecks, IsSum, sum_line, Owes}
 use Rattle.cf_answer.specs.Passes.{applied}
-use Rattle.cf_answer.specs.Sources.{IsTypedSource, IsLateSource, IsTypedTarget}
+use Rattle.cf_answer.specs.Sources.{Compiles, IsTypedSource, IsLateSource, IsTypedTarget}
 
 -- the same is owed
 abbrev Same : Type 0 → Type 0 → Type 0
@@ -84,6 +86,17 @@ module _ (name other source steps : List ℕ) (given last : List Told) (ls : Lis
       ArePicked (length (applied true last)) source ls text → OwesRun true source given last ls text
   by-a_target t c replies picked = compiled t c replies picked
 
+  -- ---- with no pass
+  plain-ways : OwesRun false source given last ls text →
+      ((t : RawTarget) × IsCompiledBy false source given last t × AreReplies (by_target t) ls text × ArePicked 0 source ls text)
+      ⊎ ((typed : TypedTree) × IsLateSource source typed × AreReplies (by_late typed) ls text × AreRunsAllowed typed × (last ≡ given))
+  plain-ways (compiled t c replies picked) = inl (t, c, replies, picked)
+  plain-ways (late typed l replies allowed same) = inr (typed, l, replies, allowed, same)
+
+  compiled-by : (t : RawTarget) → Same (IsCompiledBy true source given last t) (Compiles given last source t × HaveTurned given last)
+      × Same (IsCompiledBy false source given last t) (Compiles [] [] source t × (last ≡ given))
+  compiled-by t = (((λ h. h), λ h. h), ((λ h. h), λ h. h))
+
 -- ---- replies
 reply-of_a_target : (t : RawTarget) (line reply : List ℕ) → Same (IsReplyBy (by_target t) line reply) (IsReply 65536 (2 ^ 127 - 1) t line reply)
 unfolding line_limit
@@ -92,7 +105,14 @@ reply-of_a_target t line reply = (λ h. h, λ h. h)
 each-line : AllReplied (λ line reply. reply ≡ 61 ∷ line) (codes "1" ∷ codes "2" ∷ []) (codes "=1\n=2\n")
 each-line = (codes "=1", codes "=2\n", refl, refl, (codes "=2", [], refl, refl, refl))
 
--- no line feed stands between what is written of chooses
+-- what is written of chooses stands in their order
+abbrev numbered : ℕ → ChooseTree
+numbered n = record { number = n; names = []; scope = []; outputs = []; relation = rel_true }
+
+two-chooses : AllWritten (λ q first. first ≡ q.number ∷ []) (numbered 49 ∷ numbered 50 ∷ []) (codes "12")
+two-chooses = (codes "1", codes "2", refl, refl, (codes "2", [], refl, refl, refl))
+
+-- no line feed stands between them
 no-choose : AllWritten (λ q first. ⊥) [] []
 no-choose = refl
 

@@ -1,5 +1,5 @@
 -- Worked examples: where a list of tokens is refused.
-use Rattle.std.proofs.Common.{◌≡◌, ℕ, List, [], ◌∷◌, Ok, Err, inl, inr, refl, sym, ap, codes, arith}
+use Rattle.std.proofs.Common.{◌≡◌, ℕ, List, [], ◌∷◌, length, Ok, Err, inl, inr, refl, sym, ap, codes, arith}
 use Rattle.std.specs.Prelude.{Result}
 use Rattle.cf_lex.specs.declared.token.Token.{Token}
 use Rattle.cf_lex.specs.declared.token.TokenKind.TheVariants.{Sign}
@@ -60,6 +60,14 @@ ending ts = Ok (7, [])
 
 left-is : (a b : ℕ) → ◌≡◌ {A = Result (ℕ × List Token) ℕ} (Err a) (Err b) → a ≡ b
 left-is a b e = cc e
+
+-- a reader that stops before the first token
+abbrev starting : Reader ℕ
+starting ts = Err (length ts)
+
+stops-at_the_first : IsFaultPlaceOf starting tokens end (column 1)
+unfolding place_with_left
+stops-at_the_first = record { left = 3; stops = refl; stands = refl }
 
 stops-at_the_second : IsFaultPlaceOf stopping tokens end (column 3)
 unfolding place_with_left
