@@ -1,11 +1,11 @@
 -- Codes that answer alike, codes that do not, and what tidying makes of a code.
-use Rattle.std.proofs.Common.{◌≡◌, ◌^◌, ℕ, pos, negsuc, [], ◌∷◌, refl, arith}
+use Rattle.std.proofs.Common.{◌≡◌, ◌^◌, ℕ, pos, negsuc, true, false, [], ◌∷◌, refl, arith}
 use Rattle.std.proofs.lemmas.Int.{ints}
-use Rattle.cf_tree.specs.CodeTree.{CodeTree, code_lit, code_var, code_sum, code_mul, code_neg, code_div, code_let, code_solve, no_codes, code_more, let_item, need_item, no_items, item_more, arm_of, no_arms, arm_more}
+use Rattle.cf_tree.specs.CodeTree.{CodeTree, code_lit, code_truth, code_var, code_sum, code_mul, code_neg, code_div, code_let, code_solve, no_codes, code_more, let_item, need_item, no_items, item_more, arm_of, no_arms, arm_more}
 use Rattle.cf_tree.specs.Meaning.{Path, got}
 use Rattle.cf_range.specs.Alike.{Alike, AnswersAlike}
 use Rattle.cf_range.specs.Ranges.{between}
-use Rattle.cf_range.specs.Tidied.{product, tidied}
+use Rattle.cf_range.specs.Tidied.{product, tidied, other_items}
 
 abbrev at_peak : ℕ → ℕ → Path ℕ
 at_peak n peak = record { gives = got n; peak = peak }
@@ -59,6 +59,19 @@ tidied-inside : tidied (code_let 1 1 (code_div (minus x) (pos 4)) (code_sum (cod
     ≡ code_let 1 1 (code_div (code_neg x) (pos 4)) (code_sum (code_more (code_neg (code_neg x)) (code_more x no_codes)))
 tidied-inside = refl
 
-tidied-arm : tidied (code_solve 1 (arm_more (arm_of (3 ∷ []) (item_more (let_item (minus x)) (item_more (need_item (minus x)) no_items)) (code_more (minus x) no_codes)) no_arms))
+other_items-true : other_items (item_more (need_item (code_truth true)) (item_more (let_item x) no_items)) ≡ item_more (let_item x) no_items
+other_items-true = refl
+
+other_items-false : other_items (item_more (need_item (code_truth false)) no_items) ≡ item_more (need_item (code_truth false)) no_items
+other_items-false = refl
+
+other_items-open : other_items (item_more (need_item x) no_items) ≡ item_more (need_item x) no_items
+other_items-open = refl
+
+-- a let of a truth value is no need
+other_items-let : other_items (item_more (let_item (code_truth true)) no_items) ≡ item_more (let_item (code_truth true)) no_items
+other_items-let = refl
+
+tidied-arm : tidied (code_solve 1 (arm_more (arm_of (3 ∷ []) (item_more (let_item (minus x)) (item_more (need_item (minus x)) (item_more (need_item (code_truth true)) no_items))) (code_more (minus x) no_codes)) no_arms))
     ≡ code_solve 1 (arm_more (arm_of (3 ∷ []) (item_more (let_item (code_neg x)) (item_more (need_item (code_neg x)) no_items)) (code_more (code_neg x) no_codes)) no_arms)
 tidied-arm = refl

@@ -10,7 +10,7 @@ use Rattle.cf_tree.specs.declared.code.Code.{Code}
 use Rattle.cf_tree.specs.declared.memory.NoMemory.{NoMemory}
 use Rattle.cf_range.specs.declared.range.Range.{Range}
 use Rattle.cf_range.specs.Alike.{Alike, AnswersAlike}
-use Rattle.cf_range.specs.Tidied.{is_minus_one, product, tidied, all_tidied, item_tidied, items_tidied, arm_tidied, arms_tidied}
+use Rattle.cf_range.specs.Tidied.{is_minus_one, product, tidied, all_tidied, item_tidied, items_tidied, arm_tidied, arms_tidied, always_holds, other_items}
 use Rattle.cf_range.proofs.NumberLemmas.{on_bool}
 use Rattle.cf_range.proofs.AlikeLemmas.{alike_refl, alike_same, alike_trans, alike_then, alike_one, alike_two, alike_cond, alike_later, alike_some, alike_first, met_before}
 
@@ -57,6 +57,49 @@ product_alike : (a b : CodeTree) (env : List Value) → Alike (path (code_mul a 
 product_alike a b env = on_bool (is_minus_one a)
     (λ e. rw e (subst (λ d. Alike (path (code_mul d b) env) (path (code_neg b) env)) (sym (minus_one_is a e)) (negated_alike b env)))
     (λ e. rw e (alike_refl (path (code_mul a b) env)))
+
+always_is : (i : ItemTree) → always_holds i ≡ true → i ≡ need_item (code_truth true)
+always_is (let_item c) e = cc
+always_is (need_item (code_lit k)) e = cc
+always_is (need_item (code_truth t)) e = ap (λ b. need_item (code_truth b)) e
+always_is (need_item (code_var x)) e = cc
+always_is (need_item (code_set_of cs)) e = cc
+always_is (need_item (code_tuple cs)) e = cc
+always_is (need_item (code_sum cs)) e = cc
+always_is (need_item (code_sub a b)) e = cc
+always_is (need_item (code_mul a b)) e = cc
+always_is (need_item (code_neg a)) e = cc
+always_is (need_item (code_div a k)) e = cc
+always_is (need_item (code_mod a k)) e = cc
+always_is (need_item (code_min cs)) e = cc
+always_is (need_item (code_max cs)) e = cc
+always_is (need_item (code_compare o a b)) e = cc
+always_is (need_item (code_divides k a)) e = cc
+always_is (need_item (code_and a b)) e = cc
+always_is (need_item (code_or a b)) e = cc
+always_is (need_item (code_not a)) e = cc
+always_is (need_item (code_union cs)) e = cc
+always_is (need_item (code_inter cs)) e = cc
+always_is (need_item (code_diff a b)) e = cc
+always_is (need_item (code_subset a b)) e = cc
+always_is (need_item (code_card a)) e = cc
+always_is (need_item (code_slice a b c)) e = cc
+always_is (need_item (code_fresh a b)) e = cc
+always_is (need_item (code_if t a b)) e = cc
+always_is (need_item (code_let first count a b)) e = cc
+always_is (need_item (code_solve n arms)) e = cc
+
+others_alike : (is : ItemTrees) (env : List Value) → Alike (items_path is env) (items_path (other_items is) env)
+others_alike no_items env = alike_refl (items_path no_items env)
+others_alike (item_more i is) env =
+    let js = other_items is in
+    alike_trans (items_path (item_more i is) env) (items_path (item_more i js) env) (items_path (other_items (item_more i is)) env)
+    (alike_then (item_path i env) (item_path i env) _ _ (alike_refl (item_path i env))
+    (λ next e l. alike_some next (items_path is) (items_path js) (others_alike is)))
+    (on_bool (always_holds i)
+    (λ e. rw e (subst (λ k. Alike (items_path (item_more k js) env) (items_path js env)) (sym (always_is i e))
+    (met_before 0 (items_path js env) (items_path js env) (omega arith) (alike_refl (items_path js env)))))
+    (λ e. rw e (alike_refl (items_path (item_more i js) env))))
 
 -- ---- all forms
 mutual
@@ -133,8 +176,10 @@ mutual
   arm_alike : (a : ArmTree) (env : List Value) → Alike (arm_path a env) (arm_path (arm_tidied a) env)
   arm_alike (arm_of bounds is gs) env = alike_first (count_below bounds) 0 _ _ (λ i.
       alike_then (meets_all (tuple_at bounds i)) (meets_all (tuple_at bounds i)) _ _ (alike_refl (meets_all (tuple_at bounds i))) (λ ks e l.
-      alike_then (items_path is (env ++ ks)) (items_path (items_tidied is) (env ++ ks)) _ _ (items_alike is (env ++ ks)) (λ next f m.
-      alike_some next _ _ (λ inner. alike_one (all_path gs inner []) (all_path (all_tidied gs) inner []) _ (all_alike gs inner [])))))
+      alike_then (items_path is (env ++ ks)) (items_path (other_items (items_tidied is)) (env ++ ks)) _ _
+      (alike_trans (items_path is (env ++ ks)) (items_path (items_tidied is) (env ++ ks)) (items_path (other_items (items_tidied is)) (env ++ ks))
+      (items_alike is (env ++ ks)) (others_alike (items_tidied is) (env ++ ks)))
+      (λ next f m. alike_some next _ _ (λ inner. alike_one (all_path gs inner []) (all_path (all_tidied gs) inner []) _ (all_alike gs inner [])))))
 
   arms_alike : (arms : ArmTrees) (env : List Value) → Alike (arms_path arms env) (arms_path (arms_tidied arms) env)
   arms_alike no_arms env = alike_refl (arms_path no_arms env)

@@ -8,7 +8,7 @@ use Rattle.cf_tree.specs.CodeView.{code_tree}
 use Rattle.cf_tree.specs.declared.code.Code.{Code}
 use Rattle.cf_tree.specs.declared.memory.NoMemory.{NoMemory}
 use Rattle.cf_range.specs.Alike.{KeepsTypes}
-use Rattle.cf_range.specs.Tidied.{is_minus_one, product, tidied, all_tidied, item_tidied, items_tidied, arms_tidied}
+use Rattle.cf_range.specs.Tidied.{is_minus_one, product, tidied, all_tidied, item_tidied, items_tidied, arms_tidied, always_holds, other_items}
 use Rattle.cf_range.proofs.NumberLemmas.{on_bool}
 
 same_count : (cs : CodeTrees) → count cs ≡ count (all_tidied cs)
@@ -65,7 +65,18 @@ items_free : (is : ItemTrees) → ItemsHaveNoSolve is → ItemsHaveNoSolve (item
 items_free no_items h = tt
 items_free (item_more i is) h = (item_free i h.0, items_free is h.1)
 
+others_free : (is : ItemTrees) → ItemsHaveNoSolve is → ItemsHaveNoSolve (other_items is)
+others_free no_items h = tt
+others_free (item_more i is) h = on_bool (always_holds i) (λ e. rw e (others_free is h.1)) (λ e. rw e (h.0, others_free is h.1))
+
 -- ---- types
+others_keep : (is : ItemTrees) (scope : List Base) (then : List Base → Type 0) → ItemsHave is scope then → ItemsHave (other_items is) scope then
+others_keep no_items scope then h = h
+others_keep (item_more (let_item c) is) scope then h = (h.0, h.1, others_keep is (scope ++ one h.0) then h.2)
+others_keep (item_more (need_item c) is) scope then h = on_bool (always_holds (need_item c))
+    (λ e. rw e (others_keep is scope then h.1))
+    (λ e. rw e (h.0, others_keep is scope then h.1))
+
 product_keeps : (a b : CodeTree) → KeepsTypes (code_mul a b) (product a b)
 product_keeps a b scope asked bs h = on_bool (is_minus_one a) (λ e. rw e (h.1, h.2)) (λ e. rw e h)
 
@@ -138,10 +149,11 @@ mutual
   arms_keep no_arms scope bs h = tt
   arms_keep (arm_more (arm_of bounds is gs) arms) scope bs h = (
     h.0,
-    items_free is h.1,
+    others_free (items_tidied is) (items_free is h.1),
     all_free gs h.2,
-    items_keep is (each_keeps is) (scope ++ map (λ _. Int) bounds) (λ inner. PartsHave gs inner None bs) (λ inner. PartsHave (all_tidied gs) inner None bs)
-        (λ inner. parts_keep gs inner None bs) h.3,
+    others_keep (items_tidied is) (scope ++ map (λ _. Int) bounds) (λ inner. PartsHave (all_tidied gs) inner None bs)
+        (items_keep is (each_keeps is) (scope ++ map (λ _. Int) bounds) (λ inner. PartsHave gs inner None bs)
+        (λ inner. PartsHave (all_tidied gs) inner None bs) (λ inner. parts_keep gs inner None bs) h.3),
     arms_keep arms scope bs h.4,
   )
 

@@ -11,6 +11,16 @@ is_minus_one c = false
 abbrev pub product : CodeTree → CodeTree → CodeTree
 product a b = if is_minus_one a then code_neg b else code_mul a b
 
+-- the item is `need true`
+abbrev pub always_holds : ItemTree → Bool
+always_holds (need_item (code_truth t)) = t
+always_holds i = false
+
+-- a need that is true goes
+abbrev pub other_items : ItemTrees → ItemTrees
+other_items no_items = no_items
+other_items (item_more i is) = if always_holds i then other_items is else item_more i (other_items is)
+
 abbrev mutual
   pub tidied : CodeTree → CodeTree
   tidied (code_lit k) = code_lit k
@@ -55,7 +65,7 @@ abbrev mutual
   items_tidied (item_more i is) = item_more (item_tidied i) (items_tidied is)
 
   pub arm_tidied : ArmTree → ArmTree
-  arm_tidied (arm_of bounds is gs) = arm_of bounds (items_tidied is) (all_tidied gs)
+  arm_tidied (arm_of bounds is gs) = arm_of bounds (other_items (items_tidied is)) (all_tidied gs)
 
   pub arms_tidied : ArmTrees → ArmTrees
   arms_tidied no_arms = no_arms

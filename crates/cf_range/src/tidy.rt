@@ -2,7 +2,7 @@
 ghost use Rattle.std.specs.Prelude.{◌≡◌, IfOk, map};
 ghost use Rattle.cf_tree.specs.CodeView.{code_tree, code_trees, item_tree, arm_tree, item_trees, arm_trees};
 ghost use Rattle.cf_range.specs.Alike.{AnswersAlike, KeepsTypes};
-ghost use Rattle.cf_range.specs.Tidied.{is_minus_one, product, tidied, all_tidied, item_tidied, items_tidied, arm_tidied, arms_tidied};
+ghost use Rattle.cf_range.specs.Tidied.{is_minus_one, product, tidied, all_tidied, item_tidied, items_tidied, arm_tidied, arms_tidied, always_holds, other_items};
 
 use crate::range::Range;
 use cf_tree::{Arm, Code, Item, NoMemory, code_over_list, code_over_one, code_over_three};
@@ -95,9 +95,11 @@ fn tidy_item(alloc: Global, item: &Item) -> Result<Item, NoMemory>
 fn tidy_arm(alloc: Global, arm: &Arm) -> Result<Arm, NoMemory>
     ensures { IfOk result (λ new. arm_tree new ≡ arm_tidied (arm_tree arm.now)) }
 {
+    let mut items = tidy_items(alloc, &arm.items)?;
+    drop_true_needs(&mut items);
     Ok(Arm {
         bounds: Vec::from_slice(alloc, &arm.bounds)?,
-        items: tidy_items(alloc, &arm.items)?,
+        items,
         gives: tidy_all(alloc, &arm.gives)?,
     })
 }
@@ -152,6 +154,22 @@ fn is_minus_one(code: &Code) -> bool
 {
     match code {
         Code::Lit(k) => *k == -1,
+        _ => false,
+    }
+}
+
+// A need that is true goes.
+fn drop_true_needs(items: &mut Vec<Item>)
+    ensures { item_trees items.new.items ≡ other_items (item_trees items.old.items) }
+{
+    items.retain(|item| !always_holds(item));
+}
+
+fn always_holds(item: &Item) -> bool
+    ensures { result ≡ always_holds (item_tree item.now) }
+{
+    match item {
+        Item::Need(Code::Truth(t)) => *t,
         _ => false,
     }
 }
