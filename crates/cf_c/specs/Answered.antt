@@ -1,5 +1,5 @@
 -- What a call from C answers.
-use Rattle.std.specs.Prelude.{◌≡◌, ◌⊎◌, ◌≤◌, ⊥, ℕ, Bool, true, false, not, ◌&&◌, List, [], ◌++◌, length, map, take, drop, nat_le, if◌then◌else◌}
+use Rattle.std.specs.Prelude.{◌≡◌, ◌⊎◌, ◌≤◌, ℕ, Bool, true, false, ◌&&◌, ◌||◌, List, [], ◌++◌, length, map, min, take, drop, nat_le, nat_lt}
 use Rattle.std.specs.Prelude.{Option, Some, None, IfSome, IsSomeAnd, Contains, Result, Ok, Err}
 use Rattle.std.specs.Str.{IsUtf8}
 use Rattle.cf_io.specs.Causes.{Rose}
@@ -44,10 +44,14 @@ pub record IsCalled (words : List (List ℕ)) (before : Outside) (out errors_bef
   pub complete : IfSome (command_of words) (λ c. Completes c before status)
   pub order : IfSome (command_of words) (λ c. IsInOrder c before.shelf after.shelf status)
 
+-- how many bytes fit a buffer
+abbrev pub fitting : List ℕ → List ℕ → ℕ
+fitting room held = min (length held) (length room)
+
 -- as many first bytes as fit, then what was there; and how many there are in all
 pub record IsFilled (old new : List ℕ) (size : ℕ) (held : List ℕ) : Type 0 where
-  pub size : size ≡ length held
-  pub bytes : new ≡ take (length old) held ++ drop (length held) old
+  pub count : size ≡ length held
+  pub bytes : new ≡ take (fitting old held) held ++ drop (fitting old held) old
 
 abbrev pub too_small : ℕ
 too_small = 1
@@ -69,7 +73,11 @@ ended_code (Err NoMemory) has_failed is_whole = no_memory
 
 -- whether a sink failed
 abbrev pub has_failed : SinkSeen → SinkSeen → Bool
-has_failed out errors = not (nat_le (out.faults + errors.faults) 0)
+has_failed out errors = nat_lt 0 out.faults || nat_lt 0 errors.faults
+
+-- whether both are within their buffers
+abbrev pub fit : List ℕ → List ℕ → List ℕ → List ℕ → Bool
+fit said out told errors = nat_le (length said) (length out) && nat_le (length told) (length errors)
 
 -- How it ended: it was called, and `out` and the errors are as the call left them; or a word is no text, or memory ran out, and both are empty.
 abbrev pub Ended : List (List ℕ) → List File → List ℕ → SinkSeen → SinkSeen → Result Status Uncalled → Type 0
@@ -80,7 +88,7 @@ Ended words files input out errors (Err NoMemory) = (out ≡ fresh_sink) × (err
 
 -- A call on these words, files and input. The two buffers got what `out` and the errors hold, as far as it fits, and the number tells how it ended.
 pub record Answered (words : List (List ℕ)) (files : List File) (input out_old out_new : List ℕ) (out_size : ℕ) (err_old err_new : List ℕ)
-    (err_size code : ℕ) : Type 0 where
+    (err_size number : ℕ) : Type 0 where
   pub out : SinkSeen
   pub errors : SinkSeen
   pub said : List ℕ
@@ -91,4 +99,4 @@ pub record Answered (words : List (List ℕ)) (files : List File) (input out_old
   pub err_held : errors.held ≡ Some told
   pub out_filled : IsFilled out_old out_new out_size said
   pub err_filled : IsFilled err_old err_new err_size told
-  pub code : code ≡ ended_code how (has_failed out errors) (nat_le (length said) (length out_old) && nat_le (length told) (length err_old))
+  pub code : number ≡ ended_code how (has_failed out errors) (fit said out_old told err_old)

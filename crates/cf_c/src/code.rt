@@ -1,8 +1,10 @@
 //! The number that a call answers.
 ghost use Rattle.std.specs.Prelude.{◌≡◌};
-ghost use Rattle.cf_c.specs.Answered.{called_code, ended_code};
+ghost use Rattle.cf_c.specs.Answered.{called_code, ended_code, has_failed as the_has_failed};
+ghost use Rattle.cf_memory.specs.Held.{growing_seen};
 
 use crate::words::Uncalled;
+use cf_memory::Growing;
 use cf_top::Status;
 
 /// A buffer is too small. The program ends with no such status.
@@ -28,6 +30,13 @@ fn code_of_called(status: Status, has_failed: bool, is_whole: bool) -> u32
             }
         }
     }
+}
+
+/// Whether memory ran out for one of the two.
+pub fn has_failed(out: &Growing, err: &Growing) -> bool
+    ensures { result ≡ the_has_failed (growing_seen out.now) (growing_seen err.now) }
+{
+    out.has_failed() || err.has_failed()
 }
 
 /// The number that a call answers which ended so: whether a sink failed, and whether all that was written fits the caller's

@@ -10,8 +10,8 @@ ghost use Rattle.cf_c.specs.Answered.{Answered, bytes_of};
 
 use call::call;
 use cf_memory::{File, Growing};
-use code::code_for;
-use put::put;
+use code::{code_for, has_failed};
+use put::{both_fit, put};
 use std::alloc::Global;
 pub use words::Word;
 
@@ -42,8 +42,11 @@ pub extern "C" fn comfusy(
     let mut said = Growing::new(alloc);
     let mut told = Growing::new(alloc);
     let ended = call(alloc, words, files, input, &mut said, &mut told);
-    *out_size = put(said.held(), out);
-    *err_size = put(told.held(), err);
-    let is_whole = *out_size <= out.len() && *err_size <= err.len();
-    code_for(ended, said.has_failed() || told.has_failed(), is_whole)
+    let is_lost = has_failed(&said, &told);
+    let out_bytes = said.held();
+    let err_bytes = told.held();
+    let is_whole = both_fit(out_bytes, out, err_bytes, err);
+    *out_size = put(out_bytes, out);
+    *err_size = put(err_bytes, err);
+    code_for(ended, is_lost, is_whole)
 }

@@ -1,9 +1,8 @@
 //! The words of a call.
-ghost use Rattle.std.specs.Prelude.{◌≡◌, map, string_bytes, IfOk, IsErrOf};
+ghost use Rattle.std.specs.Prelude.{◌≡◌, map, string_bytes, IfOk, IsErrOf, IsUtf8};
 ghost use Rattle.cf_c.specs.Answered.{bytes_of, IsNoText};
 
-use cf_tree::NoMemory;
-use std::alloc::{AllocError, Global};
+use std::alloc::Global;
 
 /// A word: counted bytes.
 #[repr(C)]
@@ -20,22 +19,10 @@ pub enum Uncalled {
     NoMemory,
 }
 
-impl From<AllocError> for Uncalled {
-    fn from(_error: AllocError) -> Uncalled {
-        Uncalled::NoMemory
-    }
-}
-
-impl From<NoMemory> for Uncalled {
-    fn from(_fault: NoMemory) -> Uncalled {
-        Uncalled::NoMemory
-    }
-}
-
 // The word as a text.
 fn text_of(alloc: Global, word: &[u8]) -> Result<String, Uncalled>
     ensures is { IfOk result (λ text. string_bytes text ≡ word.now) }
-    ensures no_text { IsErrOf result Uncalled.NoText → IsUtf8 word.now → ⊥ }
+    ensures no_text { IsErrOf result Uncalled.NoText → ¬ IsUtf8 word.now }
 {
     match str::from_utf8(word) {
         Ok(text) => match String::from_str(alloc, text) {
@@ -54,7 +41,11 @@ pub fn texts_of(alloc: Global, words: &[Word<'_>]) -> Result<Vec<String>, Uncall
     let mut texts = Vec::new(alloc);
     for word in words {
         match text_of(alloc, word.bytes) {
-            Ok(text) => texts.push(text)?,
+            Ok(text) => {
+                if texts.push(text).is_err() {
+                    return Err(Uncalled::NoMemory);
+                }
+            }
             Err(fault) => return Err(fault),
         }
     }

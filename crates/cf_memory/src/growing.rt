@@ -1,5 +1,5 @@
 //! A sink that grows.
-ghost use Rattle.std.specs.Prelude.{◌≡◌, ◌<◌, ◌^◌, IsTrue, ◌↔◌};
+ghost use Rattle.std.specs.Prelude.{◌≡◌, ◌<◌, ◌^◌, nat_lt};
 
 use cf_io::{Failed, Sink};
 use std::alloc::Global;
@@ -35,7 +35,7 @@ impl Growing {
 
     /// Whether memory ran out.
     pub fn has_failed(&self) -> bool
-        ensures { IsTrue result ↔ (0 < (growing_seen self.now).faults) }
+        ensures { result ≡ nat_lt 0 (growing_seen self.now).faults }
     {
         self.faults > 0
     }
