@@ -10,6 +10,7 @@ import atexit
 import doctest
 import importlib
 import os
+import re
 import shutil
 import subprocess
 import sys
@@ -44,7 +45,7 @@ def built(folder: Path) -> dict[str, Path]:
     for name, program in made.items():
         wrapped = [WRAPPED] if name == "refuse" else []
         subprocess.run(["gcc", *FLAGS, "-o", program, LIBRARY / f"{name}.c", archive, *wrapped], check=True)
-    return made | {"shared": folder / "libcomfusy.so"}
+    return made | {"shared": folder / "libcomfusy.so", "archive": archive}
 
 
 @lru_cache(maxsize=None)
@@ -106,7 +107,7 @@ def try_threads(shared: Path, _: Room) -> Iterator[Check]:
     call = package(shared).call
     source = examples.text_of(examples.source("even"))
     lines = [f"{i} {i + 1}\n".encode() for i in range(CALLS)]
-    replies = [f"{i + i % 2}\n".encode() for i in range(CALLS)]
+    replies = [f"{(i + 1) // 2}\n".encode() for i in range(CALLS)]
     answer = partial(call, ["run", "file"], {"file": source})
     with ThreadPoolExecutor(THREADS) as pool:
         seen = [it.out for it in pool.map(lambda line: answer(line), lines)]
@@ -154,6 +155,26 @@ def try_module(shared: Path, room: Room) -> Iterator[Check]:
     yield equal("library, python3 -m comfusy, a missing file", ((ran.returncode, ran.stdout, ran.stderr), (3, b"", b"cannot read file\n")))
 
 
+def blocks_of_page() -> dict[str, list[str]]:
+    """The blocks of the library's page by their languages."""
+    text = (ROOT / "docs/LIBRARY.md").read_text(encoding="utf-8")
+    found: dict[str, list[str]] = {}
+    for language, block in re.findall(r"^```(\w+)\n(.*?)^```$", text, re.DOTALL | re.MULTILINE):
+        found.setdefault(language, []).append(block)
+    return found
+
+
+def try_page(shared: Path, archive: Path, room: Room) -> Iterator[Check]:
+    """The examples of the library's page write what it says."""
+    blocks = blocks_of_page()
+    room.put("example.c", blocks["c"][0].encode())
+    subprocess.run(["gcc", *FLAGS, "-o", room.folder / "example", room.folder / "example.c", archive], check=True)
+    environment = os.environ | {"COMFUSY_LIBRARY": str(shared), "PYTHONPATH": str(PYTHON)}
+    for words, wanted in ([room.folder / "example"], blocks["text"][0]), ([sys.executable, "-c", blocks["python"][0]], blocks["text"][1]):
+        ran = subprocess.run(words, capture_output=True, text=True, env=environment, cwd=room.folder, check=False)
+        yield equal("library, docs/LIBRARY.md", (ran.stdout + ran.stderr, wanted))
+
+
 def skipped(what: str, _: Room) -> Checks:
     yield f"library: {what} is missing, and what needs it is skipped"
 
@@ -184,3 +205,4 @@ def jobs() -> Iterator[Job]:
         yield Job("library, valgrind", partial(skipped, "valgrind"))
     for name, trial in ("threads", try_threads), ("package", try_package), ("module", try_module):
         yield Job(f"library, {name}", partial(trial, made["shared"]))
+    yield Job("library, page", partial(try_page, made["shared"], made["archive"]))

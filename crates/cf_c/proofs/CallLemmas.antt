@@ -4,8 +4,9 @@ use Rattle.cf_io.specs.Seen.{ShelfSeen, SinkSeen, SourceSeen}
 use Rattle.cf_answer.specs.Outside.{outside}
 use Rattle.cf_answer.specs.declared.status.Status.{Status}
 use Rattle.cf_memory.specs.Files.{fresh_files}
-use Rattle.cf_memory.specs.Held.{fresh_text, fresh_sink}
+use Rattle.cf_memory.specs.Held.{fresh_text, fresh_sink, growing_seen}
 use Rattle.cf_memory.specs.declared.file.File.{File}
+use Rattle.cf_memory.specs.declared.growing.Growing.{Growing}
 use Rattle.cf_c.specs.Answered.{IsCalled, IsNoText, Ended}
 use Rattle.cf_c.specs.declared.words.Uncalled.{Uncalled}
 use Rattle.cf_c.specs.declared.words.Uncalled.TheVariants.{NoText, NoMemory}
@@ -31,3 +32,9 @@ pub ended_of : (words : List (List ℕ)) (files : List File) (input : List ℕ) 
 ended_of words files input out errors (Ok status) called o e n = called
 ended_of words files input out errors (Err NoText) called o e n = (n refl, o, e)
 ended_of words files input out errors (Err NoMemory) called o e n = (o, e)
+
+-- a sink that is as before is empty
+pub empty_still : (how : Result Status Uncalled) (before after : Growing) → OnErr how (after ≡ before) → growing_seen before ≡ fresh_sink →
+    OnErr how (growing_seen after ≡ fresh_sink)
+empty_still (Ok status) before after same empty = same
+empty_still (Err fault) before after same empty = ap growing_seen same ∙ empty
