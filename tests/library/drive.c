@@ -35,24 +35,32 @@ int main(int count, char **given) {
   size_t words = (size_t)count - 1, files = 0;
   comfusy_bytes *word = must(calloc(words + 1, sizeof *word));
   comfusy_file *file = must(calloc(words + 1, sizeof *file));
-  comfusy_bytes input = {(const uint8_t *)"", 0};
+  size_t input_size = 0;
+  uint8_t *input = must(malloc(1));
   for (size_t i = 0; i < words; i++) {
     word[i] = text_of(given[i + 1]);
     FILE *stream = i > 0 ? fopen(given[i + 1], "rb") : NULL;
     if (stream != NULL) {
       file[files].name = word[i];
       file[files].text = all_of(stream);
-      files += !ferror(stream);
+      if (ferror(stream)) {
+        free((void *)file[files].text.at);
+      } else {
+        files++;
+      }
       fclose(stream);
     }
   }
   if (words > 0 && (strcmp(given[1], "run") == 0 || strcmp(given[1], "exec") == 0)) {
-    input = all_of(stdin);
+    comfusy_bytes all = all_of(stdin);
+    free(input);
+    input = (uint8_t *)all.at;
+    input_size = all.size;
   }
   size_t out_room = 16, err_room = 1, out_size, err_size;
   uint8_t *out = must(malloc(out_room)), *err = must(malloc(err_room));
   uint32_t status;
-  while ((status = comfusy(word, words, file, files, input.at, input.size, out, out_room, &out_size, err, err_room, &err_size)) == COMFUSY_TOO_SMALL) {
+  while ((status = comfusy(word, words, file, files, input, input_size, out, out_room, &out_size, err, err_room, &err_size)) == COMFUSY_TOO_SMALL) {
     if (out_size <= out_room && err_size <= err_room) {
       return 98;
     }
@@ -63,5 +71,13 @@ int main(int count, char **given) {
   }
   fwrite(out, 1, out_size, stdout);
   fwrite(err, 1, err_size, stderr);
+  for (size_t i = 0; i < files; i++) {
+    free((void *)file[i].text.at);
+  }
+  free(word);
+  free(file);
+  free(input);
+  free(out);
+  free(err);
   return (int)status;
 }

@@ -96,7 +96,7 @@ def try_refused(refuse: Path, command: str, name: str, room: Room) -> Iterator[C
 
 def try_valgrind(drive: Path, command: str, name: str, room: Room) -> Iterator[Check]:
     """No call reads or writes what is not its own, and none keeps memory."""
-    words = ["valgrind", "-q", "--error-exitcode=99", "--leak-check=no", drive, command, examples.source(name)]
+    words = ["valgrind", "-q", "--error-exitcode=99", "--leak-check=full", "--errors-for-leak-kinds=all", drive, command, examples.source(name)]
     given = examples.text_of(examples.lines(name)) if command == "run" else b""
     ran = subprocess.run(words, input=given, capture_output=True, cwd=room.folder, check=False)
     yield equal(f"library, valgrind, {command} {name}", (ran.returncode, 0), (ran.stderr, b""))

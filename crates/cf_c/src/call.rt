@@ -33,15 +33,7 @@ fn call_on(
     passes.push(Box::new(alloc, DropLets::new())?)?;
     let mut shelf = Files::new(files);
     let mut source = TextSource::new(input);
-    Ok(comfusy(
-        alloc,
-        words,
-        &mut shelf,
-        &mut source,
-        out,
-        err,
-        passes,
-    ))
+    Ok(comfusy(alloc, words, &mut shelf, &mut source, out, err, passes))
 }
 
 /// Calls the program as `main` does, on these files and this input.

@@ -1,5 +1,5 @@
 -- What a shelf of files tells.
-use Rattle.std.specs.Prelude.{ℕ, List, [], Some}
+use Rattle.std.specs.Prelude.{List, [], Some}
 use Rattle.cf_io.specs.Seen.{ShelfSeen}
 use Rattle.cf_memory.specs.Texts.{text_under, faults_of}
 use Rattle.cf_memory.specs.declared.file.File.{File}

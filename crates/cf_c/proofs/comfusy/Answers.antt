@@ -23,5 +23,5 @@ returns c =
       out_filled = c.put.ensures;
       err_filled = c.put-2.ensures;
       code = c.code_for.ensures ∙ ap (λ l. ended_code how l c.both_fit-is_whole.result) c.has_failed-is_lost.ensures
-      ∙ ap (ended_code how (has_failed out errors)) c.both_fit-is_whole.ensures;
+          ∙ ap (ended_code how (has_failed out errors)) c.both_fit-is_whole.ensures;
     }
