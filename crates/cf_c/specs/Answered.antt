@@ -38,7 +38,8 @@ pub record IsCalled (words : List (List ℕ)) (before : Outside) (out errors_bef
   pub usage : status ≡ Usage → command_of words ≡ None
   pub no_command : command_of words ≡ None → (status ≡ Usage) ⊎ (status ≡ Status.NoMemory)
   pub early : may_be_read words ≡ false → status ≡ Usage
-  pub file : status ≡ NoFile → IsSomeAnd (command_of words) (λ c. (name : List ℕ) × Contains (names_of c) name × Rose (before.shelf.faults name) (after.shelf.faults name))
+  pub file : status ≡ NoFile → IsSomeAnd (command_of words)
+      (λ c. (name : List ℕ) × Contains (names_of c) name × Rose (before.shelf.faults name) (after.shelf.faults name))
   pub input : status ≡ Input → Rose before.streams.input.faults after.streams.input.faults
   pub output : status ≡ Output → Rose before.streams.out.faults out.faults
   pub complete : IfSome (command_of words) (λ c. Completes c before status)

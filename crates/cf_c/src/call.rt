@@ -21,7 +21,8 @@ fn call_on(
     out: &mut Growing,
     err: &mut Growing,
 ) -> Result<Status, NoMemory>
-    ensures called { IfOk result (λ status. IsCalled (map string_bytes words.now) (outside (fresh_files files.now) (fresh_text input.now) (growing_seen out.old))
+    ensures called { IfOk result (λ status. IsCalled (map string_bytes words.now)
+        (outside (fresh_files files.now) (fresh_text input.now) (growing_seen out.old))
         (growing_seen out.new) (growing_seen err.old) (growing_seen err.new) status) }
     ensures out { OnErr result (out.new ≡ out.old) }
     ensures err { OnErr result (err.new ≡ err.old) }
