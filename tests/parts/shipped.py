@@ -14,7 +14,7 @@ from harness.checks import Check, equal
 from harness.jobs import Checks, Job
 from harness.program import ROOT, Room
 
-COPIED = ("crates.txt", "comfusy", "install", "tools", "dist", "examples", "editors", "man", "completions", "docs")
+COPIED = ("crates.txt", "comfusy", "install", "tools", "dist", "examples", "editors", "man", "completions", "docs", "include")
 LINE = b"3 4\n"
 REPLY = "2"
 
@@ -147,6 +147,9 @@ def try_install(room: Room) -> Iterator[Check]:
     yield equal("install, the page", (" ".join(page).split(" \\")[0], ".SH NAME comfusy"))
     yield equal("install, a completion", (completed(prefix / "share/bash-completion/completions/comfusy"), "compile"))
     yield equal("install, links of the pages", (dead_links(prefix / "share/doc/comfusy"), []))
+    if (checkout.top / "dist/libcomfusy.a").exists():
+        named = ("include/comfusy.h", "lib/libcomfusy.a", "lib/libcomfusy.so", "lib/pkgconfig/comfusy.pc")
+        yield equal("install, the library", ([name for name in named if not (prefix / name).exists()], []))
     yield equal("install without a prefix", (checkout.start("install").returncode, 2))
 
 

@@ -1,0 +1,3 @@
+mod AnsweredExamples
+mod CallLemmas
+mod WordLemmas
