@@ -22,7 +22,7 @@ from itertools import islice
 from pathlib import Path
 
 from harness import examples
-from harness.checks import Check, equal
+from harness.checks import Check, Skipped, equal
 from harness.jobs import Checks, Job
 from harness.program import ROOT, Ended, Room, Streams, STREAMS, Word
 from harness.rows import rows_of
@@ -176,7 +176,7 @@ def try_page(shared: Path, archive: Path, room: Room) -> Iterator[Check]:
 
 
 def skipped(what: str, _: Room) -> Checks:
-    yield f"library: {what} is missing, and what needs it is skipped"
+    yield Skipped("library", f"{what} is missing")
 
 
 def jobs() -> Iterator[Job]:
