@@ -1,5 +1,4 @@
 pub mod AlikeLemmas
-pub mod GivenLaws
 pub mod NumberLemmas
 pub mod PathLemmas
 mod RangeExamples

@@ -6,7 +6,7 @@ use Rattle.cf_tree.specs.Values.{Value, number, truth, elements, number_of}
 use Rattle.cf_range.specs.Ranges.{LiesIn, whole, either}
 use Rattle.cf_range.specs.declared.range.Range.{Range}
 use Rattle.cf_range.proofs.NumberLemmas.{lies_whole, either_lies}
-use Rattle.cf_range.proofs.GivenLaws.{IsOwn, first_small}
+use Rattle.cf_shift.proofs.MeetingLaws.{IsOwn, first_small}
 
 stop_not : {A : Type 0} (k : ℕ) (x : A) → none_at k ≡ got x → ⊥
 stop_not k x e = cc

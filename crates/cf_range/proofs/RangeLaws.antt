@@ -11,7 +11,7 @@ use Rattle.cf_range.specs.Ranges.{between, LiesIn, LieIn, range_at, plus, plus_a
 use Rattle.cf_range.specs.CodeRanges.{range_of, ranges_of, may_pass}
 use Rattle.cf_range.specs.Total.{is_total, are_total}
 use Rattle.cf_range.specs.RangeLaws.{Fits, AllFit, ValuesLieInRanges, NeedNoChecks, TotalCodesEvaluate}
-use Rattle.cf_range.proofs.GivenLaws.{path_own}
+use Rattle.cf_shift.proofs.MeetingLaws.{path_own}
 use Rattle.cf_range.proofs.NumberLemmas.{or_false, within_is, lies_exactly, zero_lies, count_lies, lies_whole, sum_lies, difference_lies, product_lies, sum_fits, difference_fits, product_fits, negation_fits, negation_lies, quotient_fits, quotient_lies, remainder_fits, remainder_lies, Chooses, least_chooses, greatest_chooses, better_lies}
 use Rattle.cf_range.proofs.PathLemmas.{IsIn, then_in, only_in, meets_in, value_in, either_in, whole_in, then_fits, Does, only_does, then_does, either_does}
 

@@ -112,7 +112,7 @@ more_own n p go h k l vs e = by p.gives p.peak (λ m. h n m) l e
     by (got xs) m f l e = k xs (f (omega arith) xs refl) (omega arith) vs e
     by (none_at x) m f l e = absurd (stop_not x vs e)
 
-first_small : (n : ℕ) (ys : List Value) → AreSmall n ys → unsigned_abs (number_in ys) ≤ n
+pub first_small : (n : ℕ) (ys : List Value) → AreSmall n ys → unsigned_abs (number_in ys) ≤ n
 first_small n [] s = omega arith
 first_small n (y ∷ ys) s = s.0
 
