@@ -3,7 +3,7 @@ _comfusy() {
   local word=${COMP_WORDS[COMP_CWORD]} command=${COMP_WORDS[1]} kind=cf
   COMPREPLY=()
   if [ "$COMP_CWORD" = 1 ]; then
-    mapfile -t COMPREPLY < <(compgen -W 'compile pre check run exec prove verify gen' -- "$word")
+    mapfile -t COMPREPLY < <(compgen -W 'compile pre check run exec prove verify gen --help --version' -- "$word")
   elif [[ $word == -* ]]; then
     if [[ $command == compile || $command == run ]]; then mapfile -t COMPREPLY < <(compgen -W '--plain --stats' -- "$word"); fi
   elif [ "$command" != gen ]; then

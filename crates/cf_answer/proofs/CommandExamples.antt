@@ -1,7 +1,7 @@
 -- Each command: the files that it reads, whether it reads the input, and what it does with the passes; each status: whether it comes early.
 use Rattle.std.proofs.Common.{◌≡◌, inl, inr, ℕ, Bool, true, false, List, [], ◌∷◌, refl, arith, codes}
 use Rattle.cf_pass.specs.Passes.{Told}
-use Rattle.cf_words.specs.Commands.{compile, run, pre, check, exec, prove, verify, gen}
+use Rattle.cf_words.specs.Commands.{compile, run, pre, check, exec, prove, verify, gen, help, version}
 use Rattle.cf_words.specs.declared.command.Flags.{Flags}
 use Rattle.cf_answer.specs.Commands.{names_of, reads_input, calls_passes, tells_tallies}
 use Rattle.cf_answer.specs.Ends.{input_for}
@@ -27,8 +27,8 @@ one-name = (refl, refl, refl, refl, refl, refl)
 two-names : names_of (verify a b) ≡ a ∷ b ∷ []
 two-names = refl
 
-no-name : names_of (gen 7) ≡ []
-no-name = refl
+no-name : (names_of (gen 7) ≡ []) × (names_of help ≡ []) × (names_of version ≡ [])
+no-name = (refl, refl, refl)
 
 -- ---- the input
 read-by : (reads_input (run (flags true true) a) ≡ true) × (reads_input (exec a) ≡ true)
@@ -36,7 +36,8 @@ read-by = (refl, refl)
 
 unread-by : (reads_input (compile (flags false false) a) ≡ false) × (reads_input (pre a) ≡ false) × (reads_input (check a) ≡ false)
     × (reads_input (prove a) ≡ false) × (reads_input (verify a b) ≡ false) × (reads_input (gen 7) ≡ false)
-unread-by = (refl, refl, refl, refl, refl, refl)
+    × (reads_input help ≡ false) × (reads_input version ≡ false)
+unread-by = (refl, refl, refl, refl, refl, refl, refl, refl)
 
 exec-is_given_it : input_for (exec a) (codes "1\n") ≡ codes "1\n"
 exec-is_given_it = refl
@@ -47,15 +48,16 @@ called-by = (refl, refl, refl)
 
 uncalled-by : (calls_passes (compile (flags true false) a) ≡ false) × (calls_passes (run (flags true false) a) ≡ false) × (calls_passes (pre a) ≡ false)
     × (calls_passes (check a) ≡ false) × (calls_passes (exec a) ≡ false) × (calls_passes (prove a) ≡ false) × (calls_passes (verify a b) ≡ false)
-uncalled-by = (refl, refl, refl, refl, refl, refl, refl)
+    × (calls_passes help ≡ false) × (calls_passes version ≡ false)
+uncalled-by = (refl, refl, refl, refl, refl, refl, refl, refl, refl)
 
 tallies-told : (tells_tallies (compile (flags true true) a) ≡ true) × (tells_tallies (run (flags false true) a) ≡ true)
 tallies-told = (refl, refl)
 
 tallies-untold : (tells_tallies (compile (flags true false) a) ≡ false) × (tells_tallies (run (flags true false) a) ≡ false)
     × (tells_tallies (pre a) ≡ false) × (tells_tallies (check a) ≡ false) × (tells_tallies (exec a) ≡ false) × (tells_tallies (prove a) ≡ false)
-    × (tells_tallies (verify a b) ≡ false) × (tells_tallies (gen 7) ≡ false)
-tallies-untold = (refl, refl, refl, refl, refl, refl, refl, refl)
+    × (tells_tallies (verify a b) ≡ false) × (tells_tallies (gen 7) ≡ false) × (tells_tallies help ≡ false) × (tells_tallies version ≡ false)
+tallies-untold = (refl, refl, refl, refl, refl, refl, refl, refl, refl, refl)
 
 -- a command that calls none leaves them
 kept-uncalled : (ArePassed false [] []) × (ArePassed false [] (record { name = a; tally = 0; turns = 1; makes = λ n c. c; whole = true } ∷ []) → ⊥)

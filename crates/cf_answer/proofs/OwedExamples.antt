@@ -13,7 +13,8 @@ use Rattle.cf_program.specs.Checked.{TypedTree}
 use Rattle.cf_eval.specs.Replies.{IsReply}
 use Rattle.cf_pass.specs.Passes.{Told, HaveTurned}
 use Rattle.cf_words.specs.declared.command.Flags.{Flags}
-use Rattle.cf_words.specs.Commands.{compile, run, pre, check, exec, prove, verify, gen}
+use Rattle.cf_words.specs.Commands.{compile, run, pre, check, exec, prove, verify, gen, help, version}
+use Rattle.cf_answer.specs.About.{help_text}
 use Rattle.cf_answer.specs.Certificates.{asked_in, AreProofs, AreVerified, verified_line}
 use Rattle.cf_answer.specs.LateReplies.{AreRunsAllowed}
 use Rattle.cf_answer.specs.Owed.{by_target, by_late, IsReplyBy, AllReplied, AreReplies, ArePicked, IsCompiledBy, OwesRun, compiled, late, IsPrinted, AllWritten, ArePres, AreChecks, IsSum, sum_line, Owes}
@@ -66,11 +67,20 @@ module _ (name other source steps : List ℕ) (given last : List Told) (ls : Lis
       × (sum : ℤ) × IsSum t typed (length last) (lines (gen_lines 3)) sum × (text ≡ sum_line 9 sum))
   of-gen = (λ h. h, λ h. h)
 
+  of-help : Same (Owes help [] given last ls text) (text ≡ help_text)
+  of-help = (λ h. h, λ h. h)
+
+  of-version : Same (Owes version [] given last ls text) (text ≡ codes "comfusy, language 2\n")
+  of-version = (λ h. h, λ h. h)
+
   of-too_few : Owes (verify name other) (source ∷ []) given last ls text → ⊥
   of-too_few h = h
 
   of-too_many : Owes (check name) (source ∷ steps ∷ []) given last ls text → ⊥
   of-too_many h = h
+
+  of-help_on_a_file : Owes help (source ∷ []) given last ls text → ⊥
+  of-help_on_a_file h = h
 
   -- ---- the two ways of a run
   abbrev Ways : Type 0

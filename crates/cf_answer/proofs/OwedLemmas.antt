@@ -3,7 +3,7 @@ use Rattle.std.proofs.Common.{◌≡◌, ℕ, not, List, [], ◌∷◌}
 use Rattle.cf_gen.specs.Workload.{gen_source}
 use Rattle.cf_pass.specs.Passes.{Told}
 use Rattle.cf_target.specs.Spelling.{target_tree}
-use Rattle.cf_words.specs.Commands.{Command, compile, run, pre, check, exec, prove, verify, gen}
+use Rattle.cf_words.specs.Commands.{Command, compile, run, pre, check, exec, prove, verify, gen, help, version}
 use Rattle.cf_answer.specs.Owed.{Owes}
 use Rattle.cf_answer.specs.Passes.{applied}
 use Rattle.cf_answer.specs.Refusals.{Refuses, IsAccepted}
@@ -40,4 +40,6 @@ owed_accepted (exec name) (file ∷ []) given passes ls text h = λ f r. typed_u
 owed_accepted (prove name) (file ∷ []) given passes ls text h = λ f r. proofs_unrefused file h.0 text f h.1 h.2 r
 owed_accepted (verify name other) (source ∷ steps ∷ []) given passes ls text h = λ f r. verify_unrefused source steps h.0 f h.1 h.2 r
 owed_accepted (gen n) [] given passes ls text h = λ f r. compiled_unrefused given passes (gen_source n) h.0 f h.1.0 r
+owed_accepted help [] given passes ls text h = λ f r. r
+owed_accepted version [] given passes ls text h = λ f r. r
 owed_accepted command files given passes ls text h = absurd h

@@ -19,7 +19,7 @@ use Rattle.cf_steps.specs.Spelling.{AreBlocks}
 use Rattle.cf_cert.specs.Judging.{IsVerdict}
 use Rattle.cf_cert.specs.declared.verdict.Verdict.TheVariants.{Rejected}
 use Rattle.cf_cert.specs.declared.verdict.Why.{Why}
-use Rattle.cf_words.specs.Commands.{compile, run, pre, check, exec, prove, verify, gen}
+use Rattle.cf_words.specs.Commands.{compile, run, pre, check, exec, prove, verify, gen, help, version}
 use Rattle.cf_words.specs.declared.command.Flags.{Flags}
 use Rattle.cf_answer.specs.Limits.{text_limit}
 use Rattle.cf_answer.specs.Refusals.{IsSyntaxPlace, Causes, too_long, odd_byte, large_number, no_tree, bad_tree}
@@ -232,6 +232,9 @@ module _ (flags : Flags) (name other text more : List ℕ) (n : ℕ) (f : Fault)
   -- what is refused is not accepted
   refused-not_accepted : Refuses (compile flags name) (text ∷ []) f → IsAccepted (compile flags name) (text ∷ []) → ⊥
   refused-not_accepted r accepted = accepted f r
+
+  about-the_program : (Refuses help [] f → ⊥) × (Refuses version [] f → ⊥)
+  about-the_program = ((λ h. h), λ h. h)
 
   other-files : (Refuses (compile flags name) [] f → ⊥) × (Refuses (verify name other) (text ∷ []) f → ⊥) × (Refuses (gen n) (text ∷ []) f → ⊥)
   other-files = ((λ h. h), (λ h. h), λ h. h)

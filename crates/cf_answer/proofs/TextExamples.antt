@@ -22,7 +22,7 @@ a_fault : answer_line (Err fault.File) ≡ codes "cannot read file\n"
 a_fault = refl
 
 usage : fault_line fault.Usage ≡
-    codes "usage: comfusy compile|pre|check|run|exec|prove FILE, or comfusy verify FILE STEPS, or comfusy gen N\n"
+    codes "usage: comfusy compile|pre|check|run|exec|prove FILE, or comfusy verify FILE STEPS, or comfusy gen N, or comfusy --help\n"
 usage = refl
 
 outside : map fault_line (fault.File ∷ fault.Input ∷ fault.Output ∷ fault.InputTooLong ∷ fault.NoMemory ∷ []) ≡

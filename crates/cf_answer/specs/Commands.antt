@@ -1,6 +1,6 @@
 -- The files that each command reads, whether it reads the input, and what it does with the passes.
 use Rattle.std.specs.Prelude.{ℕ, Bool, true, false, not, List, [], ◌∷◌}
-use Rattle.cf_words.specs.Commands.{Command, compile, run, pre, check, exec, prove, verify, gen}
+use Rattle.cf_words.specs.Commands.{Command, compile, run, pre, check, exec, prove, verify, gen, help, version}
 
 -- the names of the files that it reads, in order
 abbrev pub names_of : Command → List (List ℕ)
@@ -12,6 +12,8 @@ names_of (exec file) = file ∷ []
 names_of (prove file) = file ∷ []
 names_of (verify file steps) = file ∷ steps ∷ []
 names_of (gen n) = []
+names_of help = []
+names_of version = []
 
 abbrev pub reads_input : Command → Bool
 reads_input (run flags file) = true

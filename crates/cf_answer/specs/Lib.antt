@@ -1,3 +1,4 @@
+pub mod About
 pub mod Agreeing
 pub mod Certificates
 pub mod Checking

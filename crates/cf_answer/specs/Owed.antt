@@ -16,7 +16,8 @@ use Rattle.cf_emit.specs.Printed.{target_text, pre_text}
 use Rattle.cf_emit.specs.ReadsBack.{ReadsBack}
 use Rattle.cf_eval.specs.Replies.{IsReply}
 use Rattle.cf_pass.specs.Passes.{Told}
-use Rattle.cf_words.specs.Commands.{Command, compile, run, pre, check, exec, prove, verify, gen}
+use Rattle.cf_words.specs.Commands.{Command, compile, run, pre, check, exec, prove, verify, gen, help, version}
+use Rattle.cf_answer.specs.About.{help_text, version_text}
 use Rattle.cf_answer.specs.Certificates.{asked_in, AreProofs, AreVerified, verified_line}
 use Rattle.cf_answer.specs.Checks.{IsCheckOf}
 use Rattle.cf_answer.specs.LateReplies.{IsLateReply, AreRunsAllowed}
@@ -108,4 +109,6 @@ Owes (verify name steps_name) (source ∷ steps ∷ []) given last ls text =
 Owes (gen n) [] given last ls text =
     (t : RawTarget) × IsCompiledBy true (gen_source n) given last t × (typed : TypedTree) × IsTypedSource (gen_source n) typed
     × (sum : ℤ) × IsSum t typed (length last) (lines (gen_lines n)) sum × (text ≡ sum_line (n * n) sum)
+Owes help [] given last ls text = text ≡ help_text
+Owes version [] given last ls text = text ≡ version_text
 Owes command files given last ls text = ⊥

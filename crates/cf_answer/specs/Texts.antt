@@ -73,8 +73,12 @@ abbrev pub rejected_line : ℕ → ℕ → ℕ → Why → List ℕ
 rejected_line n i j w =
     concat (codes "choose " ∷ decimal n ∷ codes ": rejected at case " ∷ decimal i ∷ codes " step " ∷ decimal j ∷ codes ": " ∷ why_text w ∷ codes "\n" ∷ [])
 
+-- where the words are no command
+abbrev pub usage_words : List ℕ
+usage_words = codes "usage: comfusy compile|pre|check|run|exec|prove FILE, or comfusy verify FILE STEPS, or comfusy gen N, or comfusy --help"
+
 abbrev pub fault_line : Fault → List ℕ
-fault_line fault.Usage = words_line (codes "usage: comfusy compile|pre|check|run|exec|prove FILE, or comfusy verify FILE STEPS, or comfusy gen N")
+fault_line fault.Usage = words_line usage_words
 fault_line fault.File = words_line (codes "cannot read file")
 fault_line fault.TextTooLong = words_line (codes "text too long")
 fault_line (fault.BadByte p) = place_line p (codes "bad byte")

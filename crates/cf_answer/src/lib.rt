@@ -1,6 +1,7 @@
 //! What each command answers, over any shelf, input, sinks and passes: a file for each command, named by it.
 #![tactic(auto)]
 
+mod about;
 mod answerer;
 mod check;
 mod choose_line;
@@ -30,6 +31,7 @@ mod verdict;
 mod verify;
 mod write;
 
+pub use about::{write_help, write_version};
 pub use check::write_checks;
 pub use compile::write_target;
 pub use exec::run_target;

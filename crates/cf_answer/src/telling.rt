@@ -103,7 +103,7 @@ fn fault_line(fault: &Fault) -> Line<'static>
 {
     match fault {
         Fault::Usage => Line::Words(
-            b"usage: comfusy compile|pre|check|run|exec|prove FILE, or comfusy verify FILE STEPS, or comfusy gen N".as_slice(),
+            b"usage: comfusy compile|pre|check|run|exec|prove FILE, or comfusy verify FILE STEPS, or comfusy gen N, or comfusy --help".as_slice(),
         ),
         Fault::File => Line::Words(b"cannot read file".as_slice()),
         Fault::TextTooLong => Line::Words(b"text too long".as_slice()),

@@ -1,17 +1,18 @@
 -- From reading a file to what the command does.
-use Rattle.std.proofs.Common.{◌≡◌, inl, inr, sym, ap, subst, refl, ℕ, ◌<◌, ◌≤◌, ◌+◌, List, [], ◌∷◌, length, Option, Some, None, arith, rules}
+use Rattle.std.proofs.Common.{◌≡◌, inl, inr, sym, ap, subst, refl, ℕ, ◌<◌, ◌≤◌, ◌+◌, false, List, [], ◌∷◌, length, Option, Some, None, arith, rules}
 use Rattle.std.specs.Prelude.{◌⊎◌, Result, Err, IfSome, Contains}
 use Rattle.cf_io.specs.Bytes.{TookFront}
 use Rattle.cf_io.specs.Causes.{Rose, one_more}
 use Rattle.cf_io.specs.Seen.{ShelfSeen}
 use Rattle.cf_pass.specs.Passes.{Told}
-use Rattle.cf_words.specs.Commands.{Command, command_on, gen}
-use Rattle.cf_answer.specs.Commands.{names_of, calls_passes}
+use Rattle.cf_words.specs.Commands.{Command, command_on, verify}
+use Rattle.cf_answer.specs.Commands.{names_of, reads_input, calls_passes}
 use Rattle.cf_answer.specs.Ends.{Ends, Does, Answers, AnswersOn, IsInOrder}
 use Rattle.cf_answer.specs.Limits.{text_limit}
 use Rattle.cf_answer.specs.Outside.{Outside, AreTold, AreTexts, IsSparing, IsFrugal}
 use Rattle.cf_answer.specs.Refusals.{too_long, Refuses}
 use Rattle.cf_answer.specs.declared.status.Status.{Status}
+use Rattle.cf_answer.specs.declared.status.Status.TheVariants.{NoMemory}
 use Rattle.cf_answer.specs.declared.fault.Fault.{Fault}
 use Rattle.cf_answer.specs.declared.fault.Fault.TheVariants as fault
 use Rattle.cf_words.specs.declared.command.CommandKind.{CommandKind}
@@ -149,15 +150,15 @@ long_does kind flags name given before after long file none same =
     (long_refused kind flags name text.0 text.2, none_written before after none) file none same
     (λ i. cc) (λ i. cc) (λ i. cc)
 
--- a workload reads no file and no input
-pub workload_does : (n : ℕ) (given last : List Told) (before after : Outside) (answer : Result (Unit {0}) Fault) →
-    AnswersOn (gen n) given last [] before.streams after.streams answer → after.shelf ≡ before.shelf → Does (gen n) given last before after answer
-workload_does n given last before after answer h same =
+-- a command that reads no file
+pub fileless_does : (c : Command) (given last : List Told) (before after : Outside) (answer : Result (Unit {0}) Fault) → names_of c ≡ [] →
+    AnswersOn c given last [] before.streams after.streams answer → after.shelf ≡ before.shelf → Does c given last before after answer
+fileless_does c given last before after answer none h same =
     let fetches : after.shelf.fetches ≡ before.shelf.fetches = ap (λ s. s.fetches) same in
     let bytes : after.shelf.given ≡ before.shelf.given = ap (λ s. s.given) same in
     let ends : after.shelf.ends ≡ before.shelf.ends = ap (λ s. s.ends) same in record {
       files = [];
-      told = tt;
+      told = subst (λ ns. AreTexts before.shelf.texts ns []) (sym none) tt;
       passed = h.passed;
       ends = h.ends;
       blames = record {
@@ -168,10 +169,10 @@ workload_does n given last before after answer h same =
         out = h.out;
       };
       frugal = record {
-        fetches = omega (arith, fetches);
+        fetches = rw none (omega (arith, fetches));
         file = inl (ap (λ s. s.left) same);
-        given = omega (arith, bytes);
-        ends = omega (arith, ends);
+        given = rw none (omega (arith, bytes));
+        ends = rw none (omega (arith, ends));
         input = h.sparing;
       };
     }
@@ -210,7 +211,21 @@ nothing_answers (Some c) given before =
       };
     }
 
--- a command on one file, and a workload, read no second one
+-- where nothing was done, whatever was asked
+pub none_asked : {A : Type 0} (command : Option Command) (input : A) → IfSome command (λ c. reads_input c ≡ false → input ≡ input)
+none_asked None input = tt
+none_asked (Some c) input = λ e. refl
+
+pub none_fetched : {A : Type 0} (command : Option Command) (shelf : A) → IfSome command (λ c. names_of c ≡ [] → shelf ≡ shelf)
+none_fetched None shelf = tt
+none_fetched (Some c) shelf = λ e. refl
+
+pub none_in_order : (command : Option Command) (shelf : ShelfSeen) → IfSome command (λ c. IsInOrder c shelf shelf NoMemory)
+none_in_order None shelf = tt
+none_in_order (Some (verify file steps)) shelf = λ source f told broken. (omega arith, λ e. cc)
+none_in_order (Some c) shelf = tt
+
+-- a command on one file reads no second one
 pub file_in_order : (kind : CommandKind) (flags : Flags) (name : List ℕ) (before after : ShelfSeen) (status : Status) →
     IsInOrder (command_on kind flags name) before after status
 file_in_order Compile flags name before after status = tt

@@ -12,7 +12,8 @@ ghost use Rattle.cf_words.specs.Words.{command_of, may_be_read};
 
 use cf_answer::{
     Fault, Status, longest_text, run_source, run_target, status_of, tell, verify_files,
-    write_blocks, write_checks, write_preconditions, write_target, write_workload,
+    write_blocks, write_checks, write_help, write_preconditions, write_target, write_version,
+    write_workload,
 };
 use cf_io::{ReadFault, Shelf, Sink, Source, read_text};
 use cf_pass::Pass;
@@ -41,7 +42,8 @@ pub fn comfusy<F: Shelf, I: Source, O: Sink, E: Sink>(
         (E.seen err.old) (E.seen err.new) result }
     ensures usage { result ≡ Status.Usage → command_of (map string_bytes words.now) ≡ None }
     ensures no_command { command_of (map string_bytes words.now) ≡ None → (result ≡ Status.Usage) ⊎ (result ≡ Status.NoMemory) }
-    // A word that is neither an operand nor a flag, or a flag that stands twice, is refused before memory is asked for.
+    // A word that is neither an operand nor a flag, or a flag that stands twice, is refused before memory is asked for, unless it is the one word of a question
+    // about the program.
     ensures early { may_be_read (map string_bytes words.now) ≡ false → result ≡ Status.Usage }
     ensures untouched { command_of (map string_bytes words.now) ≡ None → (shelf.new ≡ shelf.old) × (input.new ≡ input.old) × (out.new ≡ out.old) }
     ensures file { result ≡ Status.File → IsSomeAnd (command_of (map string_bytes words.now))
@@ -96,6 +98,8 @@ pub fn answer_words<F: Shelf, I: Source, O: Sink>(
         Ok(Command::OnFile(command)) => answer_file(alloc, &command, shelf, input, out, passes),
         Ok(Command::Verify { file, steps }) => verify_files(alloc, file, steps, shelf, out),
         Ok(Command::Gen(size)) => write_workload(alloc, size, out, passes),
+        Ok(Command::Help) => write_help(out),
+        Ok(Command::Version) => write_version(out),
         Err(WordsFault::Usage) => Err(Fault::Usage),
         Err(WordsFault::NoMemory) => Err(Fault::NoMemory),
     }

@@ -1,7 +1,8 @@
 -- What is read of the matches that clap gives.
-use Rattle.std.proofs.Common.{◌≡◌, ◌≢◌, ◌∙◌, cond, true, false, refl, sym, ap, ap₂, subst, inl, inr, List, [], ◌∷◌, Option, Some, None, Err, option_map, option_and_then, codes, bytes_eq}
+use Rattle.std.proofs.Common.{◌≡◌, ◌≢◌, ◌∙◌, ◌||◌, cond, true, false, refl, sym, ap, ap₂, subst, true≢false, inl, inr, List, [], ◌∷◌, Option, Some, None, is_some, Err, option_map, option_and_then, codes, bytes_eq}
 use Rattle.std.specs.Option.{option_map_or}
 use Rattle.std.specs.Borrow.{Bor}
+use Rattle.std.specs.Prelude.{Result}
 use Rattle.clap.proofs.WalkLemmas.{first_value-rows}
 use Rattle.clap.specs.Words.{App, FailsBy, IsAmong, Kinds, Text, fault_of, first_value, found_of, is_simple_and_free, kind_of, rows_of, subcommand_of}
 use Rattle.clap.specs.declared.error.Error.{Error}
@@ -9,10 +10,11 @@ use Rattle.clap.specs.declared.error.kind.ErrorKind.{ErrorKind}
 use Rattle.clap.specs.declared.error.kind.ErrorKind.TheVariants.{OutOfMemory}
 use Rattle.clap.specs.declared.parser.matches.ArgMatches.{ArgMatches}
 use Rattle.clap.specs.Walk.{first_of}
-use Rattle.cf_words.specs.Commands.{Command, verify}
+use Rattle.cf_words.specs.Commands.{Command, plain_command, verify}
 use Rattle.cf_words.proofs.GrammarLaws.{clap_agrees, is_exact}
 use Rattle.cf_words.specs.Grammar.{MatchesAnswer, clap_command, command_found, flags_found, found_unless, grammar, is_set, verify_found}
-use Rattle.cf_words.specs.Words.{WordsAnswer, command_for, command_in, command_of, may_be_read}
+use Rattle.cf_words.specs.Words.{WordsAnswer, about, command_for, command_in, command_of, command_parsed, may_be_parsed, may_be_read}
+use Rattle.cf_words.specs.declared.command.Command as declared
 use Rattle.cf_words.specs.declared.fault.WordsFault.{WordsFault}
 use Rattle.cf_words.specs.declared.fault.WordsFault.TheVariants.{Usage, NoMemory}
 
@@ -55,11 +57,33 @@ module _ (app : App) (told : app ≡ grammar) (words : List Text) where
     | inr among ↦ no_answer (kind_of e) (fault_of grammar words) (command_found (subcommand_of grammar words)) among
   ]
 
--- the command of words that may be read is the one that the parse leads to
-pub parsed : (words : List Text) (asked : Option Command) → may_be_read words ≡ true → clap_command words ≡ asked → command_of words ≡ asked
+-- the command of words that may be parsed is the one that the parse leads to
+pub parsed : (words : List Text) (asked : Option Command) → may_be_parsed words ≡ true → clap_command words ≡ asked → command_parsed words ≡ asked
 parsed words asked tested is = ap (λ b. cond b (command_in words) None) tested ∙ sym (clap_agrees words tested) ∙ is
 
-pub not_parsed : (words : List Text) (f : WordsFault) → may_be_read words ≡ true → MatchesAnswer (clap_command words) (Err f)
-    → WordsAnswer (command_of words) (Err f)
+pub not_parsed : (words : List Text) (f : WordsFault) → may_be_parsed words ≡ true → MatchesAnswer (clap_command words) (Err f)
+    → WordsAnswer (command_parsed words) (Err f)
 not_parsed words Usage tested none = parsed words None tested none
 not_parsed words NoMemory tested none = tt
+
+-- words that are about the program, and others
+pub told : (words : List Text) (found : Option declared.Command) (command : declared.Command) → option_map plain_command found ≡ about words →
+    found ≡ Some command
+    → about words ≡ Some (plain_command command)
+told words found command e is = sym e ∙ ap (option_map plain_command) is
+
+pub told_of : (words : List Text) (command : Command) → about words ≡ Some command → command_of words ≡ Some command
+told_of words command is = ap (λ o. cond (is_some o) o (command_parsed words)) is
+
+pub told_read : (words : List Text) (command : Command) → about words ≡ Some command → may_be_read words ≡ false → ⊥
+told_read words command is e = true≢false (sym (ap (λ o. is_some o || may_be_parsed words) is) ∙ e)
+
+pub untold : (words : List Text) (found : Option declared.Command) → option_map plain_command found ≡ about words → found ≡ None → about words ≡ None
+untold words found e is = sym e ∙ ap (option_map plain_command) is
+
+pub untold_of : (words : List Text) (r : Result declared.Command WordsFault) → about words ≡ None → WordsAnswer (command_parsed words) r
+    → WordsAnswer (command_of words) r
+untold_of words r none h = subst (λ o. WordsAnswer (cond (is_some o) o (command_parsed words)) r) (sym none) h
+
+pub untold_read : (words : List Text) → about words ≡ None → may_be_read words ≡ false → may_be_parsed words ≡ false
+untold_read words none e = sym (ap (λ o. is_some o || may_be_parsed words) none) ∙ e

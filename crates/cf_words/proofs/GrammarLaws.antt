@@ -1,4 +1,4 @@
--- What clap makes of words that may be read is what the definition makes of them.
+-- What clap makes of words that may be parsed is what the definition makes of them.
 use Rattle.std.proofs.Common.{◌≡◌, ◌∙◌, ◌||◌, ◌==◌, ℕ, Bool, true, false, not, cond, refl, sym, ap, ap₂, subst, List, [], ◌∷◌, fold, Option, Some, None, is_some, option_map, option_and_then, codes, bytes_eq}
 use Rattle.std.proofs.Common.{◌⊎◌, inl, inr}
 use Rattle.std.proofs.lemmas.Slice.Eq.{bytes_eq-Decides}
@@ -14,7 +14,7 @@ use Rattle.clap.specs.Walk.{Row, Text, Walk, first_of, finished, idle, nothing_h
 use Rattle.clap.specs.declared.error.kind.ErrorKind.TheVariants.{InvalidSubcommand, UnknownArgument}
 use Rattle.cf_words.specs.Commands.{Command, compile as the_compile, run as the_run, pre as the_pre, check as the_check, exec as the_exec, prove as the_prove, gen as the_gen}
 use Rattle.cf_words.specs.Grammar.{clap_command, command_found, flags_found, found_unless, grammar, verify_found}
-use Rattle.cf_words.specs.Words.{command_for, command_in, flags_in, is_flag, is_operand, may_be_read, only, operands, size_of, stands, stands_twice, verify_for}
+use Rattle.cf_words.specs.Words.{command_for, command_in, flags_in, is_flag, is_operand, may_be_parsed, only, operands, size_of, stands, stands_twice, verify_for}
 use Rattle.cf_words.specs.declared.command.Flags.{Flags}
 use Rattle.cf_words.proofs.Uses.{Use, words_of, not_plain, not_stats, uses_of, plain, stats, operand}
 use Rattle.cf_words.proofs.LevelLaws.{said, found_in, at, operand_turn, cond_same}
@@ -299,8 +299,8 @@ uses_go (operand x xs e ∷ us) plain_once stats_once =
     (sym (ap (λ b. cond b (stands (codes "--plain") words) (stands_twice (codes "--plain") words)) (not_plain x xs e)) ∙ plain_once)
     (sym (ap (λ b. cond b (stands (codes "--stats") words) (stands_twice (codes "--stats") words)) (not_stats x xs e)) ∙ stats_once)
 
--- what clap makes of words that may be read
-pub clap_agrees : (words : List Text) → may_be_read words ≡ true → clap_command words ≡ command_in words
+-- what clap makes of words that may be parsed
+pub clap_agrees : (words : List Text) → may_be_parsed words ≡ true → clap_command words ≡ command_in words
 clap_agrees words h =
     let parts = both (list_all (λ w. is_flag w || is_operand w) words) _ h in
     let once = both (not (stands_twice (codes "--plain") words)) _ parts.1 in

@@ -1,8 +1,8 @@
 -- Worked examples of the command that words are.
 use Rattle.std.proofs.Common.{◌≡◌, refl, true, false, [], ◌∷◌, Some, None, codes}
 use Rattle.std.specs.Fmt.{digits}
-use Rattle.cf_words.specs.Commands.{compile, run, pre, check, exec, prove, verify, gen}
-use Rattle.cf_words.specs.Words.{command_of, most_size}
+use Rattle.cf_words.specs.Commands.{compile, run, pre, check, exec, prove, verify, gen, help, version}
+use Rattle.cf_words.specs.Words.{command_of, may_be_read, most_size}
 
 no_flags : command_of (codes "run" ∷ codes "a" ∷ []) ≡ Some (run (record { plain = false; stats = false }) (codes "a"))
 no_flags = refl
@@ -151,3 +151,34 @@ gen_of_none = refl
 
 gen_of_two : command_of (codes "gen" ∷ codes "7" ∷ codes "8" ∷ []) ≡ None
 gen_of_two = refl
+
+-- ---- words about the program
+help_is_told : command_of (codes "--help" ∷ []) ≡ Some help
+help_is_told = refl
+
+short_help_is_told : command_of (codes "-h" ∷ []) ≡ Some help
+short_help_is_told = refl
+
+version_is_told : command_of (codes "--version" ∷ []) ≡ Some version
+version_is_told = refl
+
+help_may_be_read : may_be_read (codes "--help" ∷ []) ≡ true
+help_may_be_read = refl
+
+command_may_be_read : may_be_read (codes "run" ∷ codes "a" ∷ []) ≡ true
+command_may_be_read = refl
+
+another_dash_may_not_be_read : may_be_read (codes "-V" ∷ []) ≡ false
+another_dash_may_not_be_read = refl
+
+help_of_run : command_of (codes "run" ∷ codes "--help" ∷ []) ≡ None
+help_of_run = refl
+
+help_before_run : command_of (codes "--help" ∷ codes "run" ∷ []) ≡ None
+help_before_run = refl
+
+help_twice : command_of (codes "--help" ∷ codes "--help" ∷ []) ≡ None
+help_twice = refl
+
+short_version : command_of (codes "-V" ∷ []) ≡ None
+short_version = refl

@@ -1,7 +1,7 @@
 -- The commands.
 use Rattle.std.specs.Prelude.{◌≤◌, ⊤, ℕ, List}
 use Rattle.cf_words.specs.declared.command.Command as declared
-use Rattle.cf_words.specs.declared.command.Command.TheVariants.{OnFile, Verify, Gen}
+use Rattle.cf_words.specs.declared.command.Command.TheVariants.{OnFile, Verify, Gen, Help, Version}
 use Rattle.cf_words.specs.declared.command.CommandKind.{CommandKind}
 use Rattle.cf_words.specs.declared.command.CommandKind.TheVariants.{Compile, Run, Pre, Check, Exec, Prove}
 use Rattle.cf_words.specs.declared.command.Flags.{Flags}
@@ -15,6 +15,8 @@ pub data Command : Type 0 where
   prove : List ℕ → Command
   verify : List ℕ → List ℕ → Command
   gen : ℕ → Command
+  help : Command
+  version : Command
 
 -- the command of a kind with these flags on a file
 abbrev pub command_on : CommandKind → Flags → List ℕ → Command
@@ -30,9 +32,13 @@ abbrev pub plain_command : declared.Command → Command
 plain_command (OnFile c) = command_on c.kind c.flags c.file.now
 plain_command (Verify file steps) = verify file.now steps.now
 plain_command (Gen n) = gen n
+plain_command Help = help
+plain_command Version = version
 
 -- a workload has a size from 1 to 100
 abbrev pub HasSize : declared.Command → Type 0
 HasSize (OnFile c) = ⊤
 HasSize (Verify file steps) = ⊤
 HasSize (Gen n) = (1 ≤ n) × (n ≤ 100)
+HasSize Help = ⊤
+HasSize Version = ⊤

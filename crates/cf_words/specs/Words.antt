@@ -1,7 +1,7 @@
 -- The words of the command line, and the command that they are.
-use Rattle.std.specs.Prelude.{◌≡◌, ⊤, ℕ, List, [], ◌∷◌, Bool, false, not, ◌&&◌, ◌||◌, ◌==◌, if◌then◌else◌, Option, Some, None, option_map, option_and_then, find, filter, codes, decimal, bytes_eq, Result, Ok, Err}
+use Rattle.std.specs.Prelude.{◌≡◌, ⊤, ℕ, List, [], ◌∷◌, Bool, false, not, ◌&&◌, ◌||◌, ◌==◌, if◌then◌else◌, Option, Some, None, is_some, option_map, option_and_then, find, filter, codes, decimal, bytes_eq, Result, Ok, Err}
 use Rattle.std.specs.List.{list_all, list_any, range_with_len}
-use Rattle.cf_words.specs.Commands.{Command, compile, run, pre, check, exec, prove, verify, gen, plain_command}
+use Rattle.cf_words.specs.Commands.{Command, compile, run, pre, check, exec, prove, verify, gen, help, version, plain_command}
 use Rattle.cf_words.specs.declared.command.Command as declared
 use Rattle.cf_words.specs.declared.command.Flags.{Flags}
 use Rattle.cf_words.specs.declared.fault.WordsFault.{WordsFault}
@@ -25,9 +25,22 @@ stands_twice word [] = false
 stands_twice word (first ∷ words) = if bytes_eq first word then stands word words else stands_twice word words
 
 -- each word is an operand or one of the two flags, and no flag stands twice
-abbrev pub may_be_read : List (List ℕ) → Bool
-may_be_read words =
+abbrev pub may_be_parsed : List (List ℕ) → Bool
+may_be_parsed words =
     list_all (λ w. is_flag w || is_operand w) words && (not (stands_twice (codes "--plain") words) && not (stands_twice (codes "--stats") words))
+
+-- what a single word asks about the program
+abbrev pub about_word : List ℕ → Option Command
+about_word word =
+    if bytes_eq word (codes "--help") || bytes_eq word (codes "-h") then Some help else if bytes_eq word (codes "--version") then Some version else None
+
+abbrev pub about : List (List ℕ) → Option Command
+about (word ∷ []) = about_word word
+about words = None
+
+-- one word about the program, or words that may be parsed
+abbrev pub may_be_read : List (List ℕ) → Bool
+may_be_read words = is_some (about words) || may_be_parsed words
 
 unfoldable pub most_size : ℕ
 most_size = 100
@@ -74,9 +87,13 @@ command_in (first ∷ words) =
     if bytes_eq first (codes "verify") then verify_for (flags_in words) (operands words)
     else option_and_then (command_for first (flags_in words)) (only (operands words))
 
+-- the command that words are which say nothing about the program
+abbrev pub command_parsed : List (List ℕ) → Option Command
+command_parsed words = if may_be_parsed words then command_in words else None
+
 -- the command that the words are; none where they are no command
 abbrev pub command_of : List (List ℕ) → Option Command
-command_of words = if may_be_read words then command_in words else None
+command_of words = if is_some (about words) then about words else command_parsed words
 
 -- what is answered to words that are this command, or none; want of memory is free
 abbrev pub WordsAnswer : Option Command → Result declared.Command WordsFault → Type 0

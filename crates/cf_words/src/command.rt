@@ -45,4 +45,8 @@ pub enum Command<'a> {
     Verify { file: &'a str, steps: &'a str },
     /// The workload of this size, from 1 to 100, is made, compiled and run.
     Gen(u32),
+    /// How the program is called is written.
+    Help,
+    /// The version of the language that the program takes is written.
+    Version,
 }

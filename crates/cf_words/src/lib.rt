@@ -1,6 +1,7 @@
 //! The words of the command line.
 #![tactic(auto)]
 
+mod about;
 mod command;
 mod fault;
 mod grammar;
