@@ -11,7 +11,7 @@ use Rattle.cf_io.specs.Seen.{SinkSeen, SourceSeen}
 use Rattle.cf_pass.specs.Passes.{Told}
 use Rattle.cf_words.specs.Commands.{Command}
 use Rattle.cf_answer.specs.Commands.{reads_input, calls_passes}
-use Rattle.cf_answer.specs.Ends.{Job, input_for, answered_lines, behind_lines, Reads, IsReadUp, Wrote, IsStopped, Ends, AnswersOn}
+use Rattle.cf_answer.specs.Ends.{Job, input_for, answered_lines, behind_lines, Reads, IsReadUp, Wrote, IsStopped, Ends, AreSpared, AnswersOn}
 use Rattle.cf_answer.specs.Outside.{Streams, streams, AreTold, Counts}
 use Rattle.cf_answer.specs.Owed.{Answerer, AreReplies, Owes}
 use Rattle.cf_answer.specs.Passes.{ArePassed, closing}
@@ -22,6 +22,8 @@ use Rattle.cf_answer.specs.declared.fault.Fault.{Fault}
 use Rattle.cf_answer.specs.declared.fault.Fault.TheVariants as fault
 use Rattle.cf_answer.proofs.FaultLemmas.{failed, IsTextFault, refused_fault}
 use Rattle.cf_answer.proofs.OutsideLemmas.{nothing_read, no_fault}
+use Rattle.cf_answer.proofs.OwedLemmas.{owed_accepted}
+use Rattle.cf_answer.proofs.PassLemmas.{kept_passed}
 use Rattle.cf_answer.proofs.StepLemmas.{left_of, left_told, end_told, short_answered}
 
 -- ---- a text that is refused, or for which memory ran out
@@ -74,10 +76,12 @@ not_input_of f h e = let same : f ≡ fault.Input = cc in subst IsStill same h
 not_output_of : (f : Fault) → IsStill f → failed f ≡ Err fault.Output → ⊥
 not_output_of f h e = let same : f ≡ fault.Output = cc in subst IsStill same h
 
-answers_still : (c : Command) (given last : List Told) (files : List (List ℕ)) (s : Streams) (f : Fault) → ArePassed (calls_passes c) given last → IsStill f →
+answers_still : (c : Command) (given last : List Told) (files : List (List ℕ)) (s : Streams) (f : Fault) → ArePassed (calls_passes c) given last →
+    AreSpared c files given last → IsStill f →
     Ends (record { command = c; files = files; given = given; passes = last }) s s (Err f) → AnswersOn c given last files s s (Err f)
-answers_still c given last files s f p still ends = record {
+answers_still c given last files s f p spared still ends = record {
   passed = p;
+  spared = spared;
   ends = ends;
   sparing = nothing_read s.input;
   input = no_fault s.input.faults s.input.faults (not_input_of f still) refl;
@@ -86,14 +90,19 @@ answers_still c given last files s f p still ends = record {
   not_file = not_file_of f (still_other f still);
 }
 
-pub stopped_answers : (c : Command) (given last : List Told) (files : List (List ℕ)) (s : Streams) (f : Fault) → ArePassed (calls_passes c) given last →
+pub memory_answers : (c : Command) (given last : List Told) (files : List (List ℕ)) (s : Streams) → ArePassed (calls_passes c) given last →
+    AreSpared c files given last → AnswersOn c given last files s s (Err fault.NoMemory)
+memory_answers c given last files s p spared = answers_still c given last files s fault.NoMemory p spared tt (inr refl)
+
+pub stopped_answers : (c : Command) (given last : List Told) (files : List (List ℕ)) (s : Streams) (f : Fault) → last ≡ given →
     Refuses c files f ⊎ (f ≡ fault.NoMemory) → AnswersOn c given last files s s (Err f)
-stopped_answers c given last files s f p (inl h) =
+stopped_answers c given last files s f same (inl h) =
     let is = refused_fault c files f h in
-    answers_still c given last files s f p (text_still f is)
+    answers_still c given last files s f (kept_passed (calls_passes c) given last same) (λ g r. same) (text_still f is)
     (refused_ends (record { command = c; files = files; given = given; passes = last }) s s f is h refl)
-stopped_answers c given last files s f p (inr e) =
-    subst (λ v. AnswersOn c given last files s s (Err v)) (sym e) (answers_still c given last files s fault.NoMemory p tt (inr refl))
+stopped_answers c given last files s f same (inr e) =
+    subst (λ v. AnswersOn c given last files s s (Err v)) (sym e)
+    (memory_answers c given last files s (kept_passed (calls_passes c) given last same) (λ g r. same))
 
 -- ---- a text that is written, by a command that reads no input
 
@@ -187,6 +196,7 @@ written_answers c given last files printed bytes input old new answer e p owed i
     let some_is : TookPrefix old.held new.held (printed ++ closing c last) = subst (TookPrefix old.held new.held) is some in
     let never = written_not answer fault in record {
       passed = p;
+      spared = λ f r. absurd (owed_accepted c files given last [] printed owed f r);
       ends = written_ends (record { command = c; files = files; given = given; passes = last }) (streams input old) (streams input new) printed answer e refl
           owed all_is some_is fault;
       sparing = nothing_read input;
@@ -314,6 +324,7 @@ pub through_answers : (c : Command) (given last : List Told) (files : List (List
 through_answers c given last files who end before after answer e p is owes r input out given_most ends_most =
     let b = bounded before.input.left after.input.left before.out.held after.out.held who end answer r in record {
       passed = p;
+      spared = λ f h. absurd (owed_accepted c files given last [] [] (owes [] [] refl) f h);
       ends = through_ends (record { command = c; files = files; given = given; passes = last }) before after who end answer (record { reads = e; owes = owes })
           is r;
       sparing = record { front = b.front; given = given_most; ends = ends_most };

@@ -6,14 +6,18 @@ use Rattle.cf_io.specs.Bytes.{TookFront}
 use Rattle.cf_io.specs.Limits.{input_limit}
 use Rattle.cf_io.specs.Seen.{ShelfSeen, SourceSeen, SinkSeen}
 use Rattle.cf_pass.specs.Passes.{Told}
+use Rattle.cf_program.specs.Checked.{TypedTree}
 use Rattle.cf_words.specs.Commands.{compile, verify}
-use Rattle.cf_answer.specs.Ends.{Answers, IsInOrder}
+use Rattle.cf_answer.specs.Ends.{Answers, IsInOrder, source_alone, steps_too}
 use Rattle.cf_answer.specs.Limits.{text_limit}
 use Rattle.cf_answer.specs.Outside.{Outside, outside, Blames, IsSparing, IsFrugal}
 use Rattle.cf_answer.specs.Refusals.{IsBrokenSource}
+use Rattle.cf_answer.specs.Sources.{IsTypedSource}
 use Rattle.cf_answer.specs.declared.fault.Fault.{Fault}
 use Rattle.cf_answer.specs.declared.fault.Fault.TheVariants as fault
+use Rattle.cf_answer.specs.declared.status.Status.{Status}
 use Rattle.cf_answer.specs.declared.status.Status.TheVariants.{Done, File}
+use Rattle.cf_answer.proofs.CertificateLemmas.{typed_unbroken}
 
 -- under `a` stands `1`, under `b` stands `22`, and no other text is told
 abbrev texts : List ℕ → Option (List ℕ)
@@ -245,19 +249,43 @@ module _ (front : List ℕ) where
 abbrev fetched : ℕ → (List ℕ → ℕ) → ShelfSeen
 fetched fetches faults = record { texts = texts; left = None; faults = faults; fetches = fetches; given = 0; ends = 0 }
 
+-- of `verify a b`, or of `verify b a`
+abbrev InOrder : ShelfSeen → Status → Type 0
+InOrder after status = IsInOrder (verify (codes "a") (codes "b")) (fetched 5 never) after status
+
+abbrev InOtherOrder : ShelfSeen → Status → Type 0
+InOtherOrder after status = IsInOrder (verify (codes "b") (codes "a")) (fetched 5 never) after status
+
 -- a source that is refused is the one file that is fetched
-steps-unfetched : IsBrokenSource (codes "1") fault.TextTooLong → IsInOrder (verify (codes "a") (codes "b")) (fetched 5 never) (fetched 7 never) Done → ⊥
-steps-unfetched broken h = let l = (h (codes "1") fault.TextTooLong refl broken).0 in omega (arith, l)
+steps-unfetched : IsBrokenSource (codes "1") fault.TextTooLong → InOrder (fetched 7 never) Done → ⊥
+steps-unfetched broken (source_alone few blamed) = omega (arith, few)
+steps-unfetched broken (steps_too source typed told is blamed) =
+    typed_unbroken source typed fault.TextTooLong is (subst (λ s. IsBrokenSource s fault.TextTooLong) told broken)
 
-source-fetched : IsInOrder (verify (codes "a") (codes "b")) (fetched 5 never) (fetched 6 never) Done
-source-fetched source f told broken = (omega arith, λ e. cc)
+source-fetched : InOrder (fetched 6 never) Done
+source-fetched = source_alone (omega arith) (λ e. cc)
 
--- and the one that may fail
-steps-unfailed : IsBrokenSource (codes "1") fault.TextTooLong → IsInOrder (verify (codes "a") (codes "b")) (fetched 5 never) (fetched 6 b_once) File → ⊥
-steps-unfailed broken h = let l = (h (codes "1") fault.TextTooLong refl broken).1 refl in omega (arith, l)
+-- so is one that failed, also where no rule is broken in it
+source-failed : InOtherOrder (fetched 6 b_once) File
+source-failed = source_alone (omega arith) (λ e. omega arith)
 
-source-failed : IsInOrder (verify (codes "b") (codes "a")) (fetched 5 never) (fetched 6 b_once) File
-source-failed source f told broken = (omega arith, λ e. omega arith)
+steps-behind_a_failure : InOtherOrder (fetched 7 b_once) File → ⊥
+steps-behind_a_failure (source_alone few blamed) = omega (arith, few)
+steps-behind_a_failure (steps_too source typed told is blamed) = let rose = blamed refl in omega (arith, rose)
+
+-- and it is the one that may fail
+steps-unfailed : IsBrokenSource (codes "1") fault.TextTooLong → InOrder (fetched 6 b_once) File → ⊥
+steps-unfailed broken (source_alone few blamed) = let rose = blamed refl in omega (arith, rose)
+steps-unfailed broken (steps_too source typed told is blamed) =
+    typed_unbroken source typed fault.TextTooLong is (subst (λ s. IsBrokenSource s fault.TextTooLong) told broken)
+
+-- where no rule is broken in it, both are fetched, and the steps file may fail
+module _ (typed : TypedTree) (is : IsTypedSource (codes "1") typed) where
+  both-fetched : InOrder (fetched 7 never) Done
+  both-fetched = steps_too (codes "1") typed refl is (λ e. cc)
+
+  steps-failed : InOrder (fetched 7 b_once) File
+  steps-failed = steps_too (codes "1") typed refl is (λ e. omega arith)
 
 one-file : IsInOrder (compile (record { plain = false; stats = false }) (codes "a")) (fetched 5 never) (fetched 9 never) Done
 one-file = tt

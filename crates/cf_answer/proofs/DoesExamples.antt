@@ -1,10 +1,10 @@
 -- Worked examples: what comes of a command on its files, clause by clause, on a text that is one byte too long.
-use Rattle.std.proofs.Common.{◌≡◌, inl, ◌≤◌, ◌+◌, ap, refl, ℕ, true, List, [], ◌∷◌, length, Option, Some, None, arith, codes}
+use Rattle.std.proofs.Common.{◌≡◌, inl, inr, ◌<◌, ◌≤◌, ◌+◌, ap, subst, refl, ℕ, true, false, List, [], ◌∷◌, length, Some, None, arith, codes}
 use Rattle.std.specs.Prelude.{Result, Err}
 use Rattle.cf_io.specs.Limits.{input_limit}
 use Rattle.cf_io.specs.Seen.{ShelfSeen, SourceSeen, SinkSeen}
 use Rattle.cf_pass.specs.Passes.{Told}
-use Rattle.cf_words.specs.Commands.{pre}
+use Rattle.cf_words.specs.Commands.{compile, pre}
 use Rattle.cf_answer.specs.Ends.{AnswersOn, Does}
 use Rattle.cf_answer.specs.Limits.{text_limit}
 use Rattle.cf_answer.specs.Outside.{outside, streams, AreTexts}
@@ -46,6 +46,7 @@ module _ (text : List ℕ) where
   unfolding text_limit
   too_long_told e = record {
     passed = refl;
+    spared = λ f r. refl;
     ends = (too_long (omega (arith, e)), refl);
     sparing = record { front = ([], omega arith, refl); given = omega arith; ends = omega arith };
     input = record { same = λ no. refl; rose = λ e. cc };
@@ -57,6 +58,32 @@ module _ (text : List ℕ) where
   -- `pre` calls no pass
   pass_called : OnTexts (text ∷ []) 4 (input 0 0) (out (codes "old") 0) (Err fault.TextTooLong) → ⊥
   pass_called h = let same : 4 ≡ 3 = ap first_turns h.passed in omega (arith, same)
+
+  -- `compile` calls them, but for no text that is refused, also where memory ran out
+  abbrev Compiling : ℕ → Result (Unit {0}) Fault → Type 0
+  Compiling turns answer =
+      AnswersOn (compile (record { plain = false; stats = false }) name) (turned 3) (turned turns) (text ∷ [])
+      (streams (input 0 0) (out (codes "old") 0)) (streams (input 0 0) (out (codes "old") 0)) answer
+
+  pass_called_for_a_refusal : Compiling 4 (Err fault.TextTooLong) → ⊥
+  pass_called_for_a_refusal h = let same : 4 ≡ 3 = ap first_turns (h.spared fault.TextTooLong h.ends.0) in omega (arith, same)
+
+  pass_called_without_memory : length text ≡ 1048577 → Compiling 4 (Err fault.NoMemory) → ⊥
+  unfolding text_limit
+  pass_called_without_memory e h =
+      let same : 4 ≡ 3 = ap first_turns (h.spared fault.TextTooLong (too_long (omega (arith, e)))) in omega (arith, same)
+
+  turned_without_memory : ((f : Fault) → Refuses (compile (record { plain = false; stats = false }) name) (text ∷ []) f → ⊥) → Compiling 4 (Err fault.NoMemory)
+  turned_without_memory accepted = record {
+    passed = inl (record { name = refl; tally = omega arith; turns = refl }, tt);
+    spared = λ f r. absurd (accepted f r);
+    ends = inr refl;
+    sparing = record { front = ([], omega arith, refl); given = omega arith; ends = omega arith };
+    input = record { same = λ no. refl; rose = λ e. cc };
+    out = record { same = λ no. refl; rose = λ e. cc };
+    not_usage = λ e. cc;
+    not_file = λ e. cc;
+  }
 
   bytes_written : OnTexts (text ∷ []) 3 (input 0 0) (out (codes "new") 0) (Err fault.TextTooLong) → ⊥
   bytes_written h = let e : codes "new" ≡ codes "old" = cc h.ends.1 in let n : 110 ≡ 111 = ap first_byte e in omega (arith, n)
@@ -96,6 +123,7 @@ module _ (text : List ℕ) where
     files = text ∷ [];
     told = (refl, tt);
     passed = refl;
+    spared = λ f r. refl;
     ends = (too_long (omega (arith, e)), refl);
     blames = record {
       files = λ no n. refl;
@@ -133,6 +161,20 @@ module _ (text : List ℕ) where
 
   pass_called_for_it : OnShelf text 4 (shelf text 6 0) (input 0 0) → ⊥
   pass_called_for_it h = let same : 4 ≡ 3 = ap first_turns h.passed in omega (arith, same)
+
+  pass_called_without_memory_for_it : length text ≡ 1048577 →
+      Does (compile (record { plain = false; stats = false }) name) (turned 3) (turned 4) (outside (shelf text 5 0) (input 0 0) (out (codes "old") 0))
+      (outside (shelf text 6 0) (input 0 0) (out (codes "old") 0)) (Err fault.NoMemory) → ⊥
+  unfolding text_limit
+  pass_called_without_memory_for_it e h = no h.files h.told h.spared
+    where
+      no : (files : List (List ℕ)) → AreTexts (λ n. Some text) (name ∷ []) files →
+          ((f : Fault) → Refuses (compile (record { plain = false; stats = false }) name) files f → turned 4 ≡ turned 3) → ⊥
+      no [] t spared = t
+      no (x ∷ []) t spared =
+          let long : text_limit < length x = subst (λ v. text_limit < length v) t.0 (omega (arith, e)) in
+          let same : 4 ≡ 3 = ap first_turns (spared fault.TextTooLong (too_long long)) in omega (arith, same)
+      no (x ∷ y ∷ more) t spared = t.1
 
   file_failed : OnShelf text 3 (shelf text 6 1) (input 0 0) → ⊥
   file_failed h = let same : 1 ≡ 0 = h.blames.files (λ e. cc) name in omega (arith, same)

@@ -175,10 +175,14 @@ no-memory_changed (inr h) = let e : 121 ≡ 120 = first-bytes 121 120 [] [] (sam
 
 -- ---- a file failed, or it is refused: nothing was written
 file-failed : Ends job before (after (codes "1\n2") (codes "x")) (Err fault.File)
-file-failed = refl
+file-failed = (refl, refl)
 
 file-failed_behind_bytes : Ends job before (after (codes "1\n2") (codes "x3\n")) (Err fault.File) → ⊥
-file-failed_behind_bytes h = cc h
+file-failed_behind_bytes h = cc h.0
+
+-- nor was a pass called
+file-failed_behind_a_pass : Ends (record { command = job.command; files = job.files; given = passes; passes = [] }) before before (Err fault.File) → ⊥
+file-failed_behind_a_pass h = cc h.1
 
 refused : Refuses job.command job.files fault.TextTooLong → Ends job before (after (codes "1\n2") (codes "x")) (Err fault.TextTooLong)
 refused r = (r, refl)

@@ -1,10 +1,10 @@
 -- What the passes tell.
-use Rattle.std.proofs.Common.{◌≡◌, inl, inr, subst, refl, ℕ, Bool, true, false, List, [], ◌∷◌}
-use Rattle.std.specs.Prelude.{Result, Ok, Err, OnOk, OnErr}
+use Rattle.std.proofs.Common.{◌≡◌, inl, inr, sym, subst, refl, ℕ, Bool, true, false, List, [], ◌∷◌}
+use Rattle.std.specs.Prelude.{Result, Ok, Err, OnErr}
 use Rattle.cf_pass.specs.Passes.{Told, HaveTurned}
 use Rattle.cf_tree.specs.declared.target.RawTarget.{RawTarget}
 use Rattle.cf_answer.specs.Owed.{IsCompiledBy}
-use Rattle.cf_answer.specs.Passes.{ArePassed}
+use Rattle.cf_answer.specs.Passes.{AreCalled, ArePassed}
 use Rattle.cf_answer.specs.Refusals.{IsRefusedSource}
 use Rattle.cf_answer.specs.Sources.{Compiles}
 use Rattle.cf_answer.specs.Steps.{IsVerdict}
@@ -15,10 +15,17 @@ pub unpassed : (called : Bool) (given : List Told) → ArePassed called given gi
 unpassed true given = inr refl
 unpassed false given = refl
 
--- each was called, or none
-pub turned_or_kept : {A E : Type 0} (r : Result A E) (given last : List Told) → OnOk r (HaveTurned given last) → OnErr r (last ≡ given) → ArePassed true given last
-turned_or_kept (Ok x) given last turned kept = inl turned
-turned_or_kept (Err e) given last turned kept = inr kept
+pub kept_passed : (called : Bool) (given last : List Told) → last ≡ given → ArePassed called given last
+kept_passed called given last same = subst (ArePassed called given) (sym same) (unpassed called given)
+
+pub called_passed : (called : Bool) (given last : List Told) → AreCalled called given last → ArePassed called given last
+called_passed true given last turned = inl turned
+called_passed false given last same = same
+
+-- what holds anyway holds of an error
+pub on_err : {A E : Type 0} {P : Type 0} (r : Result A E) → P → OnErr r P
+on_err (Ok x) h = tt
+on_err (Err e) h = h
 
 -- there are none where there were none
 pub still_none : (last : List Told) → HaveTurned [] last → last ≡ []

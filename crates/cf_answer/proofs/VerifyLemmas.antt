@@ -2,13 +2,13 @@
 use Rattle.std.proofs.Common.{◌≡◌, ◌∙◌, inl, inr, sym, ap, subst, refl, ℕ, ◌≤◌, ◌+◌, List, [], ◌∷◌, ◌++◌, map, flat_map, take, get_or, append-nil, arith, rules}
 use Rattle.std.proofs.lemmas.List.{take_more, take_all, map-append}
 use Rattle.std.proofs.lemmas.Grind.{flat_map-append}
-use Rattle.std.specs.Prelude.{◌⊎◌, ◌<◌, Result, Err, Option, Some, IfSome, Contains, length}
+use Rattle.std.specs.Prelude.{◌⊎◌, ◌<◌, Result, Err, IfSome, Contains, length}
 use Rattle.cf_io.specs.Bytes.{TookFront}
 use Rattle.cf_io.specs.Causes.{Rose, one_more}
 use Rattle.cf_io.specs.Seen.{ShelfSeen}
 use Rattle.cf_pass.specs.Passes.{Told}
 use Rattle.cf_words.specs.Commands.{verify}
-use Rattle.cf_answer.specs.Ends.{Job, Ends, Does, AnswersOn}
+use Rattle.cf_answer.specs.Ends.{Job, Ends, Does, AnswersOn, AreFetched, source_alone, steps_too}
 use Rattle.cf_answer.specs.Limits.{text_limit}
 use Rattle.cf_answer.specs.Outside.{Outside, AreTold, Counts, IsSparing, IsFrugal}
 use Rattle.cf_answer.specs.Owed.{Owes}
@@ -19,6 +19,7 @@ use Rattle.cf_answer.specs.Verifying.{AreAskedIn, AreMisspelled, AreReadFrom, Is
 use Rattle.cf_answer.specs.declared.fault.Fault.{Fault}
 use Rattle.cf_answer.specs.declared.fault.Fault.TheVariants as fault
 use Rattle.cf_answer.specs.declared.fault.StepsFault.TheVariants as steps_fault
+use Rattle.cf_answer.specs.declared.status.Status.{Status}
 use Rattle.cf_answer.specs.declared.status.Status.TheVariants.{File}
 use Rattle.cf_program.specs.Checked.{TypedTree}
 use Rattle.cf_match.specs.declared.lowered.LoweredParts.{LoweredParts}
@@ -30,7 +31,7 @@ use Rattle.cf_cert.specs.Laws.{IsLinearChoose}
 use Rattle.cf_cert.specs.declared.verdict.Verdict.TheVariants.{Yes, Rejected}
 use Rattle.cf_cert.specs.declared.verdict.Why.{Why}
 use Rattle.cf_answer.specs.Certificates.{asked_in, verified_line}
-use Rattle.cf_answer.proofs.CertificateLemmas.{typed_unbroken, yes_proves}
+use Rattle.cf_answer.proofs.CertificateLemmas.{yes_proves}
 use Rattle.cf_answer.proofs.CountLemmas.{one_fault}
 use Rattle.cf_answer.proofs.OutsideLemmas.{Untouched, none_read, none_written, no_input_fault, no_out_fault, long_text}
 use Rattle.cf_answer.proofs.FaultLemmas.{failed, IsTextFault, refused_fault}
@@ -89,6 +90,7 @@ module _ (file steps : List ℕ) (given : List Told) where
     files = source ∷ text ∷ [];
     told = (s, (t, tt));
     passed = refl;
+    spared = λ f r. refl;
     ends = ends;
     blames = record { files = λ _. same; file = λ i. absurd (not_file i); others = λ i. absurd (not_file i); input = input; out = out };
     frugal = frugal;
@@ -102,7 +104,8 @@ module _ (file steps : List ℕ) (given : List Told) where
     files = left_of (before.shelf.texts file) ∷ left_of (before.shelf.texts steps) ∷ [];
     told = (left_told (before.shelf.texts file), (left_told (before.shelf.texts steps), tt));
     passed = refl;
-    ends = none_written before after none;
+    spared = λ f r. refl;
+    ends = (none_written before after none, refl);
     blames = record {
       files = λ n. absurd (n refl);
       file = λ _. (name, among, one_fault (before.shelf.faults name) (after.shelf.faults name) rose (once name));
@@ -203,16 +206,17 @@ source_rose name before after f (broken_file (text, told, broken) same) e =
 source_rose name before after f (no_room is same) e = cc
 
 -- only the source was fetched, and only it may have failed
-pub one_in_order : (name : List ℕ) (before after : ShelfSeen) (f : Fault) → IsFetched name before after → IsSourceFault name before after f →
-    (after.fetches ≤ before.fetches + 1) × (status_of (failed f) ≡ File → Rose (before.faults name) (after.faults name))
-one_in_order name before after f fetched h = (omega (arith, fetched.fetched), λ is. source_rose name before after f h (is_file (failed f) is))
+pub source_in_order : (file steps : List ℕ) (before after : ShelfSeen) (f : Fault) → IsFetched file before after → IsSourceFault file before after f →
+    AreFetched file steps before after (status_of (failed f))
+source_in_order file steps before after f fetched h =
+    source_alone (omega (arith, fetched.fetched)) (λ is. source_rose file before after f h (is_file (failed f) is))
 
--- a source that gave its chooses is not refused
-pub asked_unbroken : {A : Type 0} (known : Option (List ℕ)) (l : LoweredParts) (source : List ℕ) (f : Fault) →
-    (text : List ℕ) × AreTold known text × IsLoweredSource text l → known ≡ Some source → IsBrokenSource source f → A
-asked_unbroken known l source f (text, told, s) here broken =
-    let same : source ≡ text = subst (λ o. AreTold o text) here told in
-    absurd (typed_unbroken source s.typed f (subst (λ t. IsTypedSource t s.typed) (sym same) s.is) broken)
+-- the steps file was fetched behind a source that gave its chooses, and only it may have failed
+pub steps_in_order : (file steps : List ℕ) (before mid after : ShelfSeen) (l : LoweredParts) (status : Status) →
+    IsFetched file before mid → (text : List ℕ) × AreTold (before.texts file) text × IsLoweredSource text l → NoneFailed before mid →
+    (status ≡ File → Rose (mid.faults steps) (after.faults steps)) → AreFetched file steps before after status
+steps_in_order file steps before mid after l status first (text, told, s) same rose =
+    steps_too text s.typed told s.is (λ is. subst (λ n. Rose n (after.faults steps)) (same steps) (rose is))
 
 -- ---- the text of a steps file, against the chooses of a source
 pub steps_refused : (source steps : List ℕ) (l : LoweredParts) (f : Fault) → IsLoweredSource source l → AreMisspelled steps f ⊎ (f ≡ fault.NoMemory) →

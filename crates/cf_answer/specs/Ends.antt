@@ -8,12 +8,14 @@ use Rattle.cf_io.specs.Limits.{input_limit}
 use Rattle.cf_io.specs.Lines.{lines, ended}
 use Rattle.cf_io.specs.Seen.{ShelfSeen}
 use Rattle.cf_pass.specs.Passes.{Told}
+use Rattle.cf_program.specs.Checked.{TypedTree}
 use Rattle.cf_words.specs.Commands.{Command, verify}
 use Rattle.cf_answer.specs.Commands.{names_of, reads_input, calls_passes}
 use Rattle.cf_answer.specs.Outside.{Outside, Streams, AreTold, AreTexts, Counts, Blames, IsFrugal, IsSparing}
 use Rattle.cf_answer.specs.Owed.{Owes}
 use Rattle.cf_answer.specs.Passes.{ArePassed, closing}
-use Rattle.cf_answer.specs.Refusals.{IsBrokenSource, Refuses}
+use Rattle.cf_answer.specs.Refusals.{Refuses}
+use Rattle.cf_answer.specs.Sources.{IsTypedSource}
 use Rattle.cf_answer.specs.declared.fault.Fault.{Fault}
 use Rattle.cf_answer.specs.declared.fault.Fault.TheVariants as fault
 use Rattle.cf_answer.specs.declared.status.Status.{Status}
@@ -68,8 +70,8 @@ IsStopped job before after =
     (behind_lines (input_for job.command (front ++ rest)) (closing_of job))
 
 -- Done: all was read, and all that is owed was written. The input failed: the lines were answered whose line feed was read. The input is too long: those
--- were whose line feed stands within the limit. `out` failed, or memory ran out: a prefix was written of what is owed. The file failed, or is refused:
--- nothing was written.
+-- were whose line feed stands within the limit. `out` failed, or memory ran out: a prefix was written of what is owed. The file failed: nothing was written,
+-- and no pass was called. It is refused: nothing was written.
 abbrev pub Ends : Job → Streams → Streams → Result (Unit {0}) Fault → Type 0
 Ends job before after (Ok done) =
     (front : List ℕ) × IsReadUp (reads_input job.command) after.input.left × (length front ≤ input_limit) × Wrote job before after Appends front (lines front)
@@ -80,14 +82,19 @@ Ends job before after (Err fault.InputTooLong) =
     (front : List ℕ) × (input_limit < length front) × Wrote job before after Appends front (ended (take input_limit front)) []
 Ends job before after (Err fault.Output) = IsStopped job before after
 Ends job before after (Err fault.NoMemory) = IsStopped job before after ⊎ (after.out.held ≡ before.out.held)
-Ends job before after (Err fault.File) = after.out.held ≡ before.out.held
+Ends job before after (Err fault.File) = (after.out.held ≡ before.out.held) × (job.passes ≡ job.given)
 Ends job before after (Err f) = Refuses job.command job.files f × (after.out.held ≡ before.out.held)
+
+-- no pass is called for texts that are refused, whatever comes of it
+abbrev pub AreSpared : Command → List (List ℕ) → List Told → List Told → Type 0
+AreSpared command files given last = (f : Fault) → Refuses command files f → last ≡ given
 
 -- What comes of a command on files of these texts, with passes that told `given` before and tell `last`: how it ends, whatever the names of the files, how
 -- much of the input was read, and which stream failed. The answer names neither the words nor a file.
 pub record AnswersOn (command : Command) (given last : List Told) (files : List (List ℕ)) (before after : Streams) (answer : Result (Unit {0}) Fault) : Type 0
   where
     pub passed : ArePassed (calls_passes command) given last
+    pub spared : AreSpared command files given last
     pub ends : Ends (record { command = command; files = files; given = given; passes = last }) before after answer
     pub sparing : IsSparing before.input after.input
     pub input : Counts (answer ≡ Err fault.Input) before.input.faults after.input.faults
@@ -101,6 +108,7 @@ pub record Does (command : Command) (given last : List Told) (before after : Out
   pub files : List (List ℕ)
   pub told : AreTexts before.shelf.texts (names_of command) files
   pub passed : ArePassed (calls_passes command) given last
+  pub spared : AreSpared command files given last
   pub ends : Ends (record { command = command; files = files; given = given; passes = last }) before.streams after.streams answer
   pub blames : Blames (names_of command) before after answer
   pub frugal : IsFrugal (names_of command) before after
@@ -110,10 +118,15 @@ abbrev pub Answers : Option Command → List Told → List Told → Outside → 
 Answers None given last before after answer = ((answer ≡ Err fault.Usage) ⊎ (answer ≡ Err fault.NoMemory)) × (after ≡ before) × (last ≡ given)
 Answers (Some command) given last before after answer = Does command given last before after answer
 
--- A source that is told and refused is the one file that `verify` fetches, and the one that may fail: the steps file is read only behind a source in which
--- no rule is broken.
+-- How `verify` fetches its files. The source is the one that it fetched, and where a file failed, this one did. Or no rule is broken in the source, and
+-- where a file failed, it is the steps file.
+pub data AreFetched (file steps : List ℕ) (before after : ShelfSeen) (status : Status) : Type 0 where
+  source_alone : after.fetches ≤ before.fetches + 1 → (status ≡ File → Rose (before.faults file) (after.faults file)) →
+      AreFetched file steps before after status
+  steps_too : (source : List ℕ) (typed : TypedTree) → AreTold (before.texts file) source → IsTypedSource source typed →
+      (status ≡ File → Rose (before.faults steps) (after.faults steps)) → AreFetched file steps before after status
+
+-- the steps file is fetched only behind a source that was read, and in which no rule is broken
 abbrev pub IsInOrder : Command → ShelfSeen → ShelfSeen → Status → Type 0
-IsInOrder (verify file steps) before after status =
-    (source : List ℕ) (f : Fault) → before.texts file ≡ Some source → IsBrokenSource source f →
-    (after.fetches ≤ before.fetches + 1) × (status ≡ File → Rose (before.faults file) (after.faults file))
+IsInOrder (verify file steps) before after status = AreFetched file steps before after status
 IsInOrder command before after status = Unit {0}

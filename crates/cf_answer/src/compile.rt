@@ -1,5 +1,5 @@
 //! `compile`: the printed target of a source.
-ghost use Rattle.std.specs.Prelude.{◌≡◌, ◌≤◌, ◌<◌, ◌-◌, ◌^◌, ◌++◌, ◌∷◌, [], List, ℕ, not, length, map, IfOk};
+ghost use Rattle.std.specs.Prelude.{◌≡◌, ◌≤◌, ◌<◌, ◌-◌, ◌^◌, ◌++◌, ◌∷◌, [], List, ℕ, not, length, map, IfOk, OnErr};
 ghost use Rattle.cf_io.specs.Seen.{SourceSeen};
 ghost use Rattle.cf_tree.specs.Spelled.{HasSpelling};
 ghost use Rattle.cf_target.specs.Spelling.{target_tree};
@@ -10,7 +10,7 @@ ghost use Rattle.cf_answer.specs.Ends.{AnswersOn};
 ghost use Rattle.cf_answer.specs.Limits.{text_limit};
 ghost use Rattle.cf_answer.specs.Outside.{streams};
 ghost use Rattle.cf_answer.specs.Owed.{IsCompiledBy};
-ghost use Rattle.cf_answer.specs.Passes.{ArePassed, closing_lines};
+ghost use Rattle.cf_answer.specs.Passes.{closing_lines};
 ghost use Rattle.cf_answer.specs.Refusals.{IsRefusedSource};
 ghost use Rattle.cf_answer.specs.Statuses.{status_of as the_status_of, IsEarly};
 ghost use Rattle.cf_answer.specs.Steps.{IsVerdict};
@@ -37,7 +37,7 @@ fn compiled(
     requires place { length text.now < 2 ^ 32 - 1 }
     ensures verdict { IsVerdict (IsCompiledBy (not plain) text.now (map (λ p. told p) passes.old.items) (map (λ p. told p) passes.new.items))
         (IsRefusedSource text.now) result }
-    ensures passed { ArePassed (not plain) (map (λ p. told p) passes.old.items) (map (λ p. told p) passes.new.items) }
+    ensures kept { OnErr result (map (λ p. told p) passes.new.items ≡ map (λ p. told p) passes.old.items) }
 {
     if plain {
         return target_of_text(alloc, text, &mut Vec::new(alloc));

@@ -1,5 +1,5 @@
 //! `gen`: the generated workload.
-ghost use Rattle.std.specs.Prelude.{◌≡◌, ◌≤◌, ◌*◌, ◌++◌, [], true, ℤ, map, IfOk, OnOk};
+ghost use Rattle.std.specs.Prelude.{◌≡◌, ◌≤◌, ◌*◌, ◌++◌, [], true, ℤ, map, IfOk, OnOk, OnErr};
 ghost use Rattle.cf_gen.specs.Workload.{gen_source, gen_lines};
 ghost use Rattle.cf_io.specs.Lines.{lines as lines_of};
 ghost use Rattle.cf_io.specs.Seen.{SourceSeen};
@@ -7,7 +7,6 @@ ghost use Rattle.cf_words.specs.Commands.{gen as the_gen};
 ghost use Rattle.cf_answer.specs.Ends.{AnswersOn};
 ghost use Rattle.cf_answer.specs.Outside.{streams};
 ghost use Rattle.cf_answer.specs.Owed.{IsCompiledBy, sum_line};
-ghost use Rattle.cf_answer.specs.Passes.{ArePassed};
 ghost use Rattle.cf_answer.specs.Refusals.{IsRefusedSource};
 ghost use Rattle.cf_answer.specs.Statuses.{status_of as the_status_of, IsEarly};
 ghost use Rattle.cf_answer.specs.Steps.{IsVerdict, AddUp};
@@ -32,7 +31,7 @@ fn compiled_workload(
     requires { (1 ≤ size) × (size ≤ 100) }
     ensures verdict { IsVerdict (IsCompiledBy true (gen_source size) (map (λ p. told p) passes.old.items) (map (λ p. told p) passes.new.items))
         (IsRefusedSource (gen_source size)) result }
-    ensures passed { ArePassed true (map (λ p. told p) passes.old.items) (map (λ p. told p) passes.new.items) }
+    ensures kept { OnErr result (map (λ p. told p) passes.new.items ≡ map (λ p. told p) passes.old.items) }
 {
     let text = source(alloc, size as u64)?;
     if text.len() > longest_text() {

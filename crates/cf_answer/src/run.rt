@@ -1,10 +1,9 @@
 //! `run`: the replies of a source to the lines of the input.
-ghost use Rattle.std.specs.Prelude.{◌≡◌, ◌≤◌, ◌<◌, ◌-◌, ◌^◌, ◌∷◌, [], List, ℕ, not, length, map};
+ghost use Rattle.std.specs.Prelude.{◌≡◌, ◌≤◌, ◌<◌, ◌-◌, ◌^◌, ◌∷◌, [], List, ℕ, not, length, map, OnErr};
 ghost use Rattle.cf_words.specs.Commands.{run as the_run};
 ghost use Rattle.cf_answer.specs.Ends.{AnswersOn};
 ghost use Rattle.cf_answer.specs.Limits.{text_limit};
 ghost use Rattle.cf_answer.specs.Outside.{streams};
-ghost use Rattle.cf_answer.specs.Passes.{ArePassed};
 ghost use Rattle.cf_answer.specs.Refusals.{IsRefusedRun};
 ghost use Rattle.cf_answer.specs.Statuses.{status_of as the_status_of, IsEarly};
 ghost use Rattle.cf_answer.specs.Steps.{IsVerdict, IsRunner, answerer_of};
@@ -31,7 +30,7 @@ fn answerer(
     requires place { length text.now < 2 ^ 32 - 1 }
     ensures verdict { IsVerdict (λ a. IsRunner (not plain) text.now (map (λ p. told p) passes.old.items) (map (λ p. told p) passes.new.items) (answerer_of a))
         (IsRefusedRun text.now) result }
-    ensures passed { ArePassed (not plain) (map (λ p. told p) passes.old.items) (map (λ p. told p) passes.new.items) }
+    ensures kept { OnErr result (map (λ p. told p) passes.new.items ≡ map (λ p. told p) passes.old.items) }
 {
     if plain {
         return runner(alloc, text, &mut Vec::new(alloc));

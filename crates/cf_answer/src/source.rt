@@ -1,5 +1,5 @@
 //! From the text of a source to its program and its target.
-ghost use Rattle.std.specs.Prelude.{◌≡◌, ◌≤◌, ◌<◌, ◌-◌, ◌^◌, Bool, true, List, ℕ, length, map, Err, IfOk};
+ghost use Rattle.std.specs.Prelude.{◌≡◌, ◌≤◌, ◌<◌, ◌-◌, ◌^◌, Bool, true, List, ℕ, length, map, Err, IfOk, OnErr};
 ghost use Rattle.cf_tree.specs.declared.base.Place.{Place};
 ghost use Rattle.cf_tree.specs.DefView.{program_tree};
 ghost use Rattle.cf_pass.specs.Passes.{Told};
@@ -10,7 +10,6 @@ ghost use Rattle.cf_program.specs.declared.fault.TypeFault.TheVariants.{NotLinea
 ghost use Rattle.cf_parse.specs.Programs.{IsProgram};
 ghost use Rattle.cf_answer.specs.Limits.{text_limit};
 ghost use Rattle.cf_answer.specs.Owed.{IsCompiledBy};
-ghost use Rattle.cf_answer.specs.Passes.{ArePassed};
 ghost use Rattle.cf_answer.specs.Refusals.{IsBrokenSource, IsRefusedSource, IsRefusedRun};
 ghost use Rattle.cf_answer.specs.Sources.{Spelled, IsTypedSource, IsLoweredSource};
 ghost use Rattle.cf_answer.specs.Steps.{IsVerdict, IsMisspelled, IsRunner, answerer_of};
@@ -88,7 +87,7 @@ pub fn target_of_text(
     requires place { length text.now < 2 ^ 32 - 1 }
     ensures verdict { IsVerdict (IsCompiledBy true text.now (map (λ p. told p) passes.old.items) (map (λ p. told p) passes.new.items))
         (IsRefusedSource text.now) result }
-    ensures passed { ArePassed true (map (λ p. told p) passes.old.items) (map (λ p. told p) passes.new.items) }
+    ensures kept { OnErr result (map (λ p. told p) passes.new.items ≡ map (λ p. told p) passes.old.items) }
 {
     let typed = read_source(alloc, text)?;
     let target = build(alloc, &typed, passes)?;
@@ -107,7 +106,7 @@ pub fn runner(
     requires place { length text.now < 2 ^ 32 - 1 }
     ensures verdict { IsVerdict (λ a. IsRunner true text.now (map (λ p. told p) passes.old.items) (map (λ p. told p) passes.new.items) (answerer_of a))
         (IsRefusedRun text.now) result }
-    ensures passed { ArePassed true (map (λ p. told p) passes.old.items) (map (λ p. told p) passes.new.items) }
+    ensures kept { OnErr result (map (λ p. told p) passes.new.items ≡ map (λ p. told p) passes.old.items) }
 {
     let program = parsed(alloc, text)?;
     program_runner(alloc, &program, passes)
@@ -122,7 +121,7 @@ fn program_runner(
     ensures verdict { (text : List ℕ) → Spelled IsProgram text (program_tree program.now) →
         IsVerdict (λ a. IsRunner true text (map (λ p. told p) passes.old.items) (map (λ p. told p) passes.new.items) (answerer_of a))
         (IsRefusedRun text) result }
-    ensures passed { ArePassed true (map (λ p. told p) passes.old.items) (map (λ p. told p) passes.new.items) }
+    ensures kept { OnErr result (map (λ p. told p) passes.new.items ≡ map (λ p. told p) passes.old.items) }
 {
     match check(alloc, program) {
         Ok(typed) => {

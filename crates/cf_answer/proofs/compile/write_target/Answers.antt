@@ -1,22 +1,23 @@
-use Rattle.std.proofs.Common.{◌∙◌, refl, inr}
+use Rattle.std.proofs.Common.{◌∙◌, refl}
 use Rattle.std.proofs.lemmas.Result.{err_from_is_err_and}
 use Rattle.cf_answer.proofs.AnswerLemmas.{stopped_answers, written_answers, out_is_late}
-use Rattle.cf_answer.proofs.FileLemmas.{compile_owes}
+use Rattle.cf_answer.proofs.FileLemmas.{compile_owes, compiled_without_memory}
+use Rattle.cf_answer.proofs.PassLemmas.{called_passed}
 use Rattle.cf_answer.proofs.compile.write_target.Goals as goal
 
 pub returns-in_err-target-clause-answers : goal.returns-in_err-target-clause-answers
 returns-in_err-target-clause-answers g c =
     let p = err_from_is_err_and c.from_residual.result c.from_residual.ensures.1 in
-    λ file input. rw (p.1, p.2) (stopped_answers _ _ _ _ _ _ c.in_err-target.ensures.passed c.in_err-target.ensures.verdict)
+    λ file input. rw (p.1, p.2) (stopped_answers _ _ _ _ _ _ c.in_err-target.ensures.kept c.in_err-target.ensures.verdict)
 
 pub returns-in_err-text-clause-answers : goal.returns-in_err-text-clause-answers
 returns-in_err-text-clause-answers g c =
     let p = err_from_is_err_and c.from_residual-in_err-text.result c.from_residual-in_err-text.ensures.1 in
-    λ file input. rw (p.1, p.2) (stopped_answers _ _ _ _ _ _ c.in_ok-target.ensures.passed (inr refl))
+    λ file input. rw (p.1, p.2) (compiled_without_memory c.args.flags file _ _ _ _ _ c.in_ok-target.ensures.verdict)
 
 pub returns-clause-answers : goal.returns-clause-answers
 returns-clause-answers g c =
-    λ file input. written_answers _ _ _ _ _ _ input _ _ _ refl c.in_ok-target.ensures.passed
+    λ file input. written_answers _ _ _ _ _ _ input _ _ _ refl (called_passed _ _ _ c.in_ok-target.ensures.verdict.1)
     (compile_owes c.args.flags file _ _ _ _ c.in_ok-target.ensures.verdict c.in_ok-text.ensures.reads_back)
     (c.deref-2.ensures.value ∙ (rw c.deref.ensures.value at c.in_ok-text.ensures.text)) c.write_text.ensures.all c.write_text.ensures.prefix
     c.write_text.ensures.fault c.write_text.ensures.count

@@ -1,3 +1,5 @@
+use Rattle.std.proofs.Common.{refl}
+use Rattle.cf_answer.proofs.PassLemmas.{on_err}
 use Rattle.cf_answer.proofs.RunLemmas.{unpassed_verdict}
 use Rattle.cf_answer.proofs.run.answerer.Goals as goal
 
@@ -7,5 +9,5 @@ returns-then-plain-clause-verdict g c = rw c.if-plain.true (unpassed_verdict _ _
 pub returns-clause-verdict : goal.returns-clause-verdict
 returns-clause-verdict g c = rw c.if-plain.false c.runner-2.ensures.verdict
 
-pub returns-clause-passed : goal.returns-clause-passed
-returns-clause-passed g c = rw c.if-plain.false c.runner-2.ensures.passed
+pub returns-then-plain-clause-kept : goal.returns-then-plain-clause-kept
+returns-then-plain-clause-kept g c = on_err c.runner.result refl

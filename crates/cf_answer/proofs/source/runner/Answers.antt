@@ -1,6 +1,7 @@
-use Rattle.std.proofs.Common.{inr, refl}
+use Rattle.std.proofs.Common.{refl}
 use Rattle.std.proofs.lemmas.Result.{err_from_is_err_and}
 use Rattle.cf_answer.specs.Refusals.{IsBadRun}
+use Rattle.cf_answer.proofs.PassLemmas.{on_err}
 use Rattle.cf_answer.proofs.RunLemmas.{misspelled_or}
 use Rattle.cf_answer.proofs.source.runner.Goals as goal
 
@@ -9,8 +10,8 @@ returns-in_err-program-clause-verdict g c =
     let p = err_from_is_err_and c.from_residual.result c.from_residual.ensures.1 in
     rw (p.1, p.2) (misspelled_or IsBadRun _ _ c.in_err-program.ensures.verdict)
 
-pub returns-in_err-program-clause-passed : goal.returns-in_err-program-clause-passed
-returns-in_err-program-clause-passed g c = inr refl
+pub returns-in_err-program-clause-kept : goal.returns-in_err-program-clause-kept
+returns-in_err-program-clause-kept g c = on_err c.from_residual.result refl
 
 pub returns-clause-verdict : goal.returns-clause-verdict
 returns-clause-verdict g c = c.program_runner.ensures.verdict c.args.text.now c.in_ok-program.ensures.verdict

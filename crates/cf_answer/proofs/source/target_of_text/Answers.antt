@@ -1,6 +1,7 @@
-use Rattle.std.proofs.Common.{inl, inr, refl}
+use Rattle.std.proofs.Common.{refl}
 use Rattle.std.proofs.lemmas.Result.{err_from_is_err_and}
 use Rattle.cf_program.specs.Typed.{typed_tree}
+use Rattle.cf_answer.proofs.PassLemmas.{on_err}
 use Rattle.cf_answer.proofs.TextLemmas.{broken_refused, build_refused}
 use Rattle.cf_answer.proofs.source.target_of_text.Goals as goal
 
@@ -9,20 +10,17 @@ returns-in_err-typed-clause-verdict g c =
     let p = err_from_is_err_and c.from_residual.result c.from_residual.ensures.1 in
     rw (p.1, p.2) (broken_refused _ _ c.in_err-typed.ensures)
 
-pub returns-in_err-typed-clause-passed : goal.returns-in_err-typed-clause-passed
-returns-in_err-typed-clause-passed g c = inr refl
+pub returns-in_err-typed-clause-kept : goal.returns-in_err-typed-clause-kept
+returns-in_err-typed-clause-kept g c = on_err c.from_residual.result refl
 
 pub returns-in_err-target-clause-verdict : goal.returns-in_err-target-clause-verdict
 returns-in_err-target-clause-verdict g c =
     let p = err_from_is_err_and c.from_residual-in_err-target.result c.from_residual-in_err-target.ensures.1 in
     rw (p.1, p.2) (build_refused c.args.text.now (typed_tree c.in_ok-typed.typed) _ c.in_ok-typed.ensures c.in_err-target.ensures.answer)
 
-pub returns-in_err-target-clause-passed : goal.returns-in_err-target-clause-passed
-returns-in_err-target-clause-passed g c = inr c.in_err-target.ensures.kept
+pub returns-in_err-target-clause-kept : goal.returns-in_err-target-clause-kept
+returns-in_err-target-clause-kept g c = on_err c.from_residual-in_err-target.result c.in_err-target.ensures.kept
 
 pub returns-clause-verdict : goal.returns-clause-verdict
 returns-clause-verdict g c =
     let target = c.in_ok-target.ensures in ((typed_tree c.in_ok-typed.typed, c.in_ok-typed.ensures, target.answer), target.turned)
-
-pub returns-clause-passed : goal.returns-clause-passed
-returns-clause-passed g c = inl c.in_ok-target.ensures.turned

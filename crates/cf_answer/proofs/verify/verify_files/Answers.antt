@@ -3,7 +3,8 @@ use Rattle.std.proofs.lemmas.Result.{err_from_is_err_and}
 use Rattle.cf_io.specs.Seen.{untold_source}
 use Rattle.cf_answer.specs.Outside.{AreTold}
 use Rattle.cf_answer.proofs.OutsideLemmas.{text_told}
-use Rattle.cf_answer.proofs.VerifyLemmas.{source_does, source_usage, one_in_order, asked_unbroken, steps_fail, long_does, no_memory_does, checked_does}
+use Rattle.cf_answer.proofs.StatusLemmas.{is_file}
+use Rattle.cf_answer.proofs.VerifyLemmas.{source_does, source_usage, source_in_order, steps_in_order, steps_fail, long_does, no_memory_does, checked_does}
 use Rattle.cf_answer.proofs.verify.verify_files.Goals as goal
 
 -- the source gave no chooses
@@ -20,7 +21,7 @@ returns-in_err-lowered-clause-usage g c =
 pub returns-in_err-lowered-clause-order : goal.returns-in_err-lowered-clause-order
 returns-in_err-lowered-clause-order g c =
     let p = err_from_is_err_and c.from_residual.result c.from_residual.ensures.1 in
-    rw (p.1, p.2) (λ source f here broken. one_in_order _ _ _ _ c.fetch_lowered.ensures.fetched c.in_err-lowered.ensures.fault)
+    rw (p.1, p.2) (source_in_order _ c.args.steps.now _ _ _ c.fetch_lowered.ensures.fetched c.in_err-lowered.ensures.fault)
 
 -- the steps file failed
 pub returns-in-Err-Failed-clause-does : goal.returns-in-Err-Failed-clause-does
@@ -38,7 +39,9 @@ returns-in-Err-Failed-clause-does g c =
     refl (c.in-Err-Failed.ensures.failed (rw is refl))
 
 pub returns-in-Err-Failed-clause-order : goal.returns-in-Err-Failed-clause-order
-returns-in-Err-Failed-clause-order g c = λ source f here broken. asked_unbroken _ _ source f c.in_ok-lowered.ensures.asked here broken
+returns-in-Err-Failed-clause-order g c =
+    let is = c.in-Err-Failed.field-0-is in
+    steps_in_order _ _ _ _ _ _ _ c.fetch_lowered.ensures.fetched c.in_ok-lowered.ensures.asked c.in_ok-lowered.ensures.same (λ e. c.in-Err-Failed.ensures.failed (rw is refl))
 
 -- its text is too long
 pub returns-in-Err-TooLong-clause-does : goal.returns-in-Err-TooLong-clause-does
@@ -58,7 +61,7 @@ returns-in-Err-TooLong-clause-does g c =
     (rw (c.longest_text.ensures.is, c.fetch_lowered.ensures.fetched.texts c.args.steps.now) at (c.in-Err-TooLong.ensures.long (rw is refl)))
 
 pub returns-in-Err-TooLong-clause-order : goal.returns-in-Err-TooLong-clause-order
-returns-in-Err-TooLong-clause-order g c = λ source f here broken. asked_unbroken _ _ source f c.in_ok-lowered.ensures.asked here broken
+returns-in-Err-TooLong-clause-order g c = steps_in_order _ _ _ _ _ _ _ c.fetch_lowered.ensures.fetched c.in_ok-lowered.ensures.asked c.in_ok-lowered.ensures.same (λ e. cc)
 
 -- memory ran out
 pub returns-clause-does : goal.returns-clause-does
@@ -75,7 +78,7 @@ returns-clause-does g c =
     refl (c.in-Err-NoMemory.ensures.same (λ e. cc))
 
 pub returns-clause-order : goal.returns-clause-order
-returns-clause-order g c = λ source f here broken. asked_unbroken _ _ source f c.in_ok-lowered.ensures.asked here broken
+returns-clause-order g c = steps_in_order _ _ _ _ _ _ _ c.fetch_lowered.ensures.fetched c.in_ok-lowered.ensures.asked c.in_ok-lowered.ensures.same (λ e. cc)
 
 -- its text was read
 pub returns-in-Ok-clause-does : goal.returns-in-Ok-clause-does
@@ -103,4 +106,7 @@ returns-in-Ok-clause-usage g c =
     λ e. (c.verify_text.ensures.answers [] [] [] (untold_source 0 0 0) asked.0 asked.2).not_usage e
 
 pub returns-in-Ok-clause-order : goal.returns-in-Ok-clause-order
-returns-in-Ok-clause-order g c = λ source f here broken. asked_unbroken _ _ source f c.in_ok-lowered.ensures.asked here broken
+returns-in-Ok-clause-order g c =
+    let asked = c.in_ok-lowered.ensures.asked in
+    let answers = c.verify_text.ensures.answers [] [] [] (untold_source 0 0 0) asked.0 asked.2 in
+    steps_in_order _ _ _ _ _ _ _ c.fetch_lowered.ensures.fetched asked c.in_ok-lowered.ensures.same (λ e. absurd (answers.not_file (is_file _ e)))
