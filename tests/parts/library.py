@@ -1,14 +1,15 @@
 """The library, called from C and from Python: the cases and the tables, whose texts it must answer byte for byte as the program; each allocation of a call
 refused in turn; memory errors as valgrind sees them; calls of threads; the package; and what the page of the library quotes.
 
-The library is that of `comfusy` as it was built here, or else that of dist/. Where gcc or valgrind is missing, a line says so, and what needs it is skipped.
+The library is that of dist/ where it is one of these sources, or else what was built here of them. Where gcc, valgrind or pip is missing, a line says so, and
+what needs it is skipped.
 """
 
 from __future__ import annotations
 
 import atexit
 import doctest
-import importlib
+import importlib.util
 import os
 import re
 import shutil
@@ -33,6 +34,7 @@ FLAGS = "-std=c11", "-Wall", "-Wextra", "-Werror", "-O1", "-g", f"-I{ROOT / 'inc
 WRAPPED = "-Wl,--wrap=malloc,--wrap=realloc,--wrap=free"
 LIBRARY = ROOT / "tests/library"
 PYTHON = ROOT / "python"
+PAGE = ROOT / "docs/LIBRARY.md"
 REFUSED = ("run", "even"), ("compile", "seconds"), ("check", "even"), ("pre", "seconds"), ("prove", "even")
 CALLS, THREADS = 200, 8
 
@@ -155,9 +157,21 @@ def try_module(shared: Path, room: Room) -> Iterator[Check]:
     yield equal("library, python3 -m comfusy, a missing file", ((ran.returncode, ran.stdout, ran.stderr), (3, b"", b"cannot read file\n")))
 
 
+def try_pip(shared: Path, room: Room) -> Iterator[Check]:
+    """pip installs the package without a network, and changes nothing in the checkout."""
+    before, site = sorted(PYTHON.iterdir()), room.folder / "site"
+    pip = [sys.executable, "-m", "pip", "install", "--quiet", "--no-index", "--target", site, PYTHON]
+    installed = subprocess.run(pip, capture_output=True, env=os.environ | {"PYTHONDONTWRITEBYTECODE": "1"}, cwd=room.folder, check=False)
+    yield equal("library, pip install", (installed.returncode, 0), (sorted(PYTHON.iterdir()), before))
+    environment = os.environ | {"COMFUSY_LIBRARY": str(shared), "PYTHONPATH": str(site)}
+    words = [sys.executable, "-m", "comfusy", "run", examples.source("even")]
+    ran = subprocess.run(words, input=b"3 4\n", capture_output=True, env=environment, cwd=room.folder, check=False)
+    yield equal("library, the installed package", ((ran.returncode, ran.stdout, ran.stderr), (0, b"2\n", b"")))
+
+
 def blocks_of_page() -> dict[str, list[str]]:
     """The blocks of the library's page by their languages."""
-    text = (ROOT / "docs/LIBRARY.md").read_text(encoding="utf-8")
+    text = PAGE.read_text(encoding="utf-8")
     found: dict[str, list[str]] = {}
     for language, block in re.findall(r"^```(\w+)\n(.*?)^```$", text, re.DOTALL | re.MULTILINE):
         found.setdefault(language, []).append(block)
@@ -205,4 +219,8 @@ def jobs() -> Iterator[Job]:
         yield Job("library, valgrind", partial(skipped, "valgrind"))
     for name, trial in ("threads", try_threads), ("package", try_package), ("module", try_module):
         yield Job(f"library, {name}", partial(trial, made["shared"]))
+    if importlib.util.find_spec("pip"):
+        yield Job("library, pip", partial(try_pip, made["shared"]))
+    else:
+        yield Job("library, pip", partial(skipped, "pip"))
     yield Job("library, page", partial(try_page, made["shared"], made["archive"]))

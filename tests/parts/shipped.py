@@ -10,9 +10,11 @@ from collections.abc import Iterator, Sequence
 from pathlib import Path
 
 from harness import examples
-from harness.checks import Check, equal
+from harness.checks import Check, Skipped, equal
 from harness.jobs import Checks, Job
 from harness.program import ROOT, Room
+
+from .library import PAGE as LIBRARY_PAGE, blocks_of_page
 
 COPIED = ("crates.txt", "comfusy", "install", "tools", "dist", "examples", "editors", "man", "completions", "docs", "include")
 LINE = b"3 4\n"
@@ -134,7 +136,7 @@ def unreadable(folders: Sequence[Path]) -> list[str]:
     return [str(path) for path in paths if not path.stat().st_mode & 0o004]
 
 
-def try_install(room: Room) -> Iterator[Check]:
+def try_install(room: Room) -> Checks:
     """In an empty prefix: what is installed runs an installed example, has a page and completes words."""
     checkout = Checkout(room)
     prefix = room.folder / "prefix"
@@ -150,7 +152,22 @@ def try_install(room: Room) -> Iterator[Check]:
     if (checkout.top / "dist/libcomfusy.a").exists():
         named = ("include/comfusy.h", "lib/libcomfusy.a", "lib/libcomfusy.so", "lib/pkgconfig/comfusy.pc")
         yield equal("install, the library", ([name for name in named if not (prefix / name).exists()], []))
+        yield from try_linking(prefix, room)
     yield equal("install without a prefix", (checkout.start("install").returncode, 2))
+
+
+def try_linking(prefix: Path, room: Room) -> Checks:
+    """The C example of the library's page, compiled by the line that stands there, runs as it stands there."""
+    missing = [tool for tool in ("gcc", "pkg-config") if shutil.which(tool) is None]
+    if missing:
+        yield Skipped("install, the line for gcc", f"{missing[0]} is missing")
+        return
+    blocks = blocks_of_page()
+    room.put("example.c", blocks["c"][0].encode())
+    line = re.search("``(gcc .*?) ``", LIBRARY_PAGE.read_text(encoding="utf-8"))[1]
+    environment = os.environ | {"PKG_CONFIG_PATH": str(prefix / "lib/pkgconfig")}
+    ran = subprocess.run(["sh", "-c", f"{line} && ./a.out"], capture_output=True, text=True, env=environment, cwd=room.folder, check=False)
+    yield equal("install, the line for gcc", (ran.stdout + ran.stderr, blocks["text"][0]))
 
 
 def dead_links(folder: Path) -> list[str]:
