@@ -7,7 +7,7 @@ use Rattle.cf_io.specs.Seen.{ShelfSeen}
 use Rattle.cf_pass.specs.Passes.{Told}
 use Rattle.cf_words.specs.Commands.{Command, command_on, verify}
 use Rattle.cf_answer.specs.Commands.{names_of, reads_input, calls_passes}
-use Rattle.cf_answer.specs.Ends.{Ends, Does, Answers, AnswersOn, IsInOrder}
+use Rattle.cf_answer.specs.Ends.{Ends, Does, Answers, AnswersOn, IsInOrder, source_alone}
 use Rattle.cf_answer.specs.Limits.{text_limit}
 use Rattle.cf_answer.specs.Outside.{Outside, AreTold, AreTexts, IsSparing, IsFrugal}
 use Rattle.cf_answer.specs.Refusals.{too_long, Refuses}
@@ -227,7 +227,7 @@ none_fetched (Some c) shelf = λ e. refl
 
 pub none_in_order : (command : Option Command) (shelf : ShelfSeen) → IfSome command (λ c. IsInOrder c shelf shelf NoMemory)
 none_in_order None shelf = tt
-none_in_order (Some (verify file steps)) shelf = λ source f told broken. (omega arith, λ e. cc)
+none_in_order (Some (verify file steps)) shelf = source_alone (omega arith) (λ e. cc)
 none_in_order (Some c) shelf = tt
 
 -- a command on one file reads no second one
