@@ -431,4 +431,4 @@ export const examples = [
   "lines": ""
  }
 ];
-export const programSum = "2146e1340db15f43286cefd0b2ff5f4ad664728713a46821e88cd2d795a5599a";
+export const programSum = "52e330eca2e017900e118c540f286eb0f02bcb5c4933c6eb5a297090af66b81e";
