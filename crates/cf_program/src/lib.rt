@@ -1,6 +1,7 @@
 //! Programs in which no rule is broken, and the rules that say which sources are such programs.
 #![tactic(auto)]
 
+mod edition;
 mod fault;
 mod linearity;
 mod typed;
@@ -8,6 +9,7 @@ mod variable;
 
 ghost use Rattle.cf_program.specs.Laws.{RulesKeepNames, RulesKeepTypes};
 
+pub use crate::edition::Edition;
 pub use crate::fault::TypeFault;
 pub use crate::linearity::Linearity;
 pub use crate::typed::{Late, Typed, TypedDefs};

@@ -113,6 +113,13 @@ pub fn same_bases(a: &[Base], b: &[Base]) -> bool
     right.is_empty()
 }
 
+/// Which solutions a `choose` aims at: those at which its objective is least, or greatest.
+#[derive(Clone, Copy, Debug, PartialEq, Eq)]
+pub enum Sense {
+    Least,
+    Greatest,
+}
+
 /// How two values compare.
 #[derive(Clone, Copy, Debug, PartialEq, Eq)]
 pub enum Order {
