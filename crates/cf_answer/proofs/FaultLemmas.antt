@@ -6,8 +6,9 @@ use Rattle.cf_lex.specs.declared.token.Token.{Token}
 use Rattle.cf_reader.specs.Readers.{Reader}
 use Rattle.cf_tree.specs.DefView.{RawDefTree}
 use Rattle.cf_target.specs.Spelling.{TargetTree}
-use Rattle.cf_words.specs.Commands.{Command, compile, run, pre, check, exec, prove, verify, gen}
-use Rattle.cf_answer.specs.Refusals.{Causes, too_long, odd_byte, large_number, no_tree, bad_tree, IsBadProgram, broken, refused, IsBadRun, bad, broken_late, IsBadTarget, untyped, IsRefusedSource, IsRefusedRun, IsRefusedTarget, IsBroken, broken_rule, IsUnverified, bad_source, bad_steps, bad_blocks, Refuses}
+use Rattle.cf_words.specs.Commands.{Command, compile, run, pre, check, exec, prove, emit, verify, gen}
+use Rattle.cf_words.specs.declared.language.Language.{Language}
+use Rattle.cf_answer.specs.Refusals.{Causes, too_long, odd_byte, large_number, no_tree, bad_tree, IsBadProgram, broken, refused, IsBadRun, bad, broken_late, IsBadEmission, bad_program, needs_sets, IsBadTarget, untyped, IsRefusedSource, IsRefusedRun, IsRefusedEmission, IsRefusedTarget, IsBroken, broken_rule, IsUnverified, bad_source, bad_steps, bad_blocks, Refuses}
 use Rattle.cf_answer.specs.declared.fault.Fault.{Fault}
 use Rattle.cf_answer.specs.declared.fault.Fault.TheVariants as fault
 
@@ -23,6 +24,7 @@ IsTextFault (fault.Syntax p) = Unit {0}
 IsTextFault (fault.Rule e) = Unit {0}
 IsTextFault (fault.Choose n r) = Unit {0}
 IsTextFault fault.BadTarget = Unit {0}
+IsTextFault (fault.NoSets language) = Unit {0}
 IsTextFault (fault.Steps e) = Unit {0}
 IsTextFault (fault.Rejected n i j w) = Unit {0}
 IsTextFault f = ⊥
@@ -44,6 +46,10 @@ run_fault : (program : List RawDefTree) (f : Fault) → IsBadRun program f → I
 run_fault program f (bad g b other) = program_fault program g b
 run_fault program f (broken_late p e plain h) = tt
 
+emission_fault : (language : Language) (program : List RawDefTree) (f : Fault) → IsBadEmission language program f → IsTextFault f
+emission_fault language program f (bad_program g h) = program_fault program g h
+emission_fault language program f (needs_sets typed is n) = tt
+
 target_fault : (t : TargetTree) (f : Fault) → IsBadTarget t f → IsTextFault f
 target_fault t f (untyped h) = tt
 
@@ -52,6 +58,9 @@ source_text text f h = caused _ _ _ program_fault text f h
 
 run_text : (text : List ℕ) (f : Fault) → IsRefusedRun text f → IsTextFault f
 run_text text f h = caused _ _ _ run_fault text f h
+
+emission_text : (language : Language) (text : List ℕ) (f : Fault) → IsRefusedEmission language text f → IsTextFault f
+emission_text language text f h = caused _ _ _ (emission_fault language) text f h
 
 target_text : (text : List ℕ) (f : Fault) → IsRefusedTarget text f → IsTextFault f
 target_text text f h = caused _ _ _ target_fault text f h
@@ -71,6 +80,7 @@ refused_fault (pre name) (text ∷ []) f h = source_text text f h
 refused_fault (check name) (text ∷ []) f h = source_text text f h
 refused_fault (exec name) (text ∷ []) f h = target_text text f h
 refused_fault (prove name) (text ∷ []) f h = source_text text f h
+refused_fault (emit e name) (text ∷ []) f h = emission_text e.language text f h
 refused_fault (verify name other) (source ∷ steps ∷ []) f h = verify_fault source steps f h
 refused_fault (gen n) [] f h = source_text (gen_source n) f h
 refused_fault c files f h = absurd h

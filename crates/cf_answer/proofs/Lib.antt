@@ -8,6 +8,7 @@ mod CheckExamples
 pub mod CheckLemmas
 pub mod CountLemmas
 mod Examples
+pub mod EmitLemmas
 pub mod FaultLemmas
 pub mod FileLemmas
 mod LateExamples
@@ -50,5 +51,6 @@ mod StatusExamples
 mod OutsideExamples
 mod BlameExamples
 mod CommandExamples
+mod EmitExamples
 mod EndExamples
 mod RefusalExamples

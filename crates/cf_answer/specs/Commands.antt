@@ -1,6 +1,6 @@
 -- The files that each command reads, whether it reads the input, and what it does with the passes.
 use Rattle.std.specs.Prelude.{ℕ, Bool, true, false, not, List, [], ◌∷◌}
-use Rattle.cf_words.specs.Commands.{Command, compile, run, pre, check, exec, prove, verify, gen}
+use Rattle.cf_words.specs.Commands.{Command, compile, run, pre, check, exec, prove, emit, verify, gen, help, version}
 
 -- the names of the files that it reads, in order
 abbrev pub names_of : Command → List (List ℕ)
@@ -10,8 +10,11 @@ names_of (pre file) = file ∷ []
 names_of (check file) = file ∷ []
 names_of (exec file) = file ∷ []
 names_of (prove file) = file ∷ []
+names_of (emit e file) = file ∷ []
 names_of (verify file steps) = file ∷ steps ∷ []
 names_of (gen n) = []
+names_of help = []
+names_of version = []
 
 abbrev pub reads_input : Command → Bool
 reads_input (run flags file) = true
@@ -22,6 +25,7 @@ reads_input command = false
 abbrev pub calls_passes : Command → Bool
 calls_passes (compile flags file) = not flags.plain
 calls_passes (run flags file) = not flags.plain
+calls_passes (emit e file) = true
 calls_passes (gen n) = true
 calls_passes command = false
 

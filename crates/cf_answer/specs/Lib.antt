@@ -1,7 +1,9 @@
+pub mod About
 pub mod Certificates
 pub mod Checking
 pub mod Checks
 pub mod Commands
+pub mod Emitting
 pub mod Ends
 pub mod LateReplies
 pub mod Limits

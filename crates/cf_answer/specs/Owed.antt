@@ -16,9 +16,11 @@ use Rattle.cf_emit.specs.Printed.{target_text, pre_text}
 use Rattle.cf_emit.specs.ReadsBack.{ReadsBack}
 use Rattle.cf_eval.specs.Replies.{IsReply}
 use Rattle.cf_pass.specs.Passes.{Told}
-use Rattle.cf_words.specs.Commands.{Command, compile, run, pre, check, exec, prove, verify, gen}
+use Rattle.cf_words.specs.Commands.{Command, compile, run, pre, check, exec, prove, emit, verify, gen, help, version}
+use Rattle.cf_answer.specs.About.{help_text, version_text}
 use Rattle.cf_answer.specs.Certificates.{asked_in, AreProofs, AreVerified, verified_line}
 use Rattle.cf_answer.specs.Checks.{IsCheckOf}
+use Rattle.cf_answer.specs.Emitting.{IsEmitted, NeedsSets}
 use Rattle.cf_answer.specs.LateReplies.{IsLateReply, AreRunsAllowed}
 use Rattle.cf_answer.specs.Passes.{AreCalled, applied}
 use Rattle.cf_answer.specs.Picked.{IsSourceReply, adds}
@@ -103,9 +105,13 @@ Owes (pre name) (file ∷ []) given last ls text = (typed : TypedTree) × IsType
 Owes (check name) (file ∷ []) given last ls text = (typed : TypedTree) × IsTypedSource file typed × AreChecks typed text
 Owes (exec name) (file ∷ []) given last ls text = (t : RawTarget) × IsTypedTarget file (target_tree t) × AreReplies (by_target t) ls text
 Owes (prove name) (file ∷ []) given last ls text = (typed : TypedTree) × IsTypedSource file typed × AreProofs (asked_in typed) text
+Owes (emit e name) (file ∷ []) given last ls text =
+    (t : RawTarget) × (compiled_by : IsCompiledBy true file given last t) × (NeedsSets e.language compiled_by.0.0 → ⊥) × IsEmitted e file t text
 Owes (verify name steps_name) (source ∷ steps ∷ []) given last ls text =
     (typed : TypedTree) × IsTypedSource source typed × AreVerified (asked_in typed) steps × (text ≡ flat_map verified_line (asked_in typed))
 Owes (gen n) [] given last ls text =
     (t : RawTarget) × IsCompiledBy true (gen_source n) given last t × (typed : TypedTree) × IsTypedSource (gen_source n) typed
     × (sum : ℤ) × IsSum t typed (length last) (lines (gen_lines n)) sum × (text ≡ sum_line (n * n) sum)
+Owes help [] given last ls text = text ≡ help_text
+Owes version [] given last ls text = text ≡ version_text
 Owes command files given last ls text = ⊥

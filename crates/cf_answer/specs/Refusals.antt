@@ -18,14 +18,16 @@ use Rattle.cf_linear.specs.declared.refusal.Refusal.{Refusal}
 use Rattle.cf_build.specs.Chooses.{all_chooses, IsFirstRefused}
 use Rattle.cf_build.specs.declared.fault.BuildFault.{BuildFault}
 use Rattle.cf_build.specs.declared.fault.BuildFault.TheVariants as build
+use Rattle.cf_words.specs.declared.language.Language.{Language}
 use Rattle.cf_steps.specs.Blocks.{BlockTree}
 use Rattle.cf_steps.specs.Reading.{all_blocks}
 use Rattle.cf_steps.specs.Spelling.{AreBlocks}
 use Rattle.cf_cert.specs.Judging.{IsVerdict}
 use Rattle.cf_cert.specs.declared.verdict.Verdict.TheVariants.{Rejected}
 use Rattle.cf_cert.specs.declared.verdict.Why.{Why}
-use Rattle.cf_words.specs.Commands.{Command, compile, run, pre, check, exec, prove, verify, gen}
+use Rattle.cf_words.specs.Commands.{Command, compile, run, pre, check, exec, prove, emit, verify, gen}
 use Rattle.cf_answer.specs.Certificates.{asked_in}
+use Rattle.cf_answer.specs.Emitting.{NeedsSets}
 use Rattle.cf_answer.specs.Limits.{text_limit}
 use Rattle.cf_answer.specs.Sources.{HasTokens, Spelled, IsTypedSource, IsTypedTree}
 use Rattle.cf_answer.specs.declared.fault.Fault.{Fault}
@@ -65,16 +67,24 @@ pub data IsBadRun (program : List RawDefTree) : Fault → Type 0 where
   bad : (f : Fault) → IsBadProgram program f → ((p : Place) → f ≡ fault.Rule (NotLinear p) → ⊥) → IsBadRun program f
   broken_late : (p : Place) (e : TypeFault) → checked program ≡ Err (NotLinear p) → checked_by Late program ≡ Err e → IsBadRun program (fault.Rule e)
 
+-- for which faults it is refused in a language: behind all others, for a set where the language has none
+pub data IsBadEmission (language : Language) (program : List RawDefTree) : Fault → Type 0 where
+  bad_program : (f : Fault) → IsBadProgram program f → IsBadEmission language program f
+  needs_sets : (typed : TypedTree) → checked program ≡ Ok typed → NeedsSets language typed → IsBadEmission language program (fault.NoSets language)
+
 -- for which fault a target is refused
 pub data IsBadTarget (t : TargetTree) : Fault → Type 0 where
   untyped : (IsTypedTree t → ⊥) → IsBadTarget t fault.BadTarget
 
--- the fault for which the text of a source is refused, also by `run`, and that of a target
+-- the fault for which the text of a source is refused, also by `run` and by `emit`, and that of a target
 abbrev pub IsRefusedSource : List ℕ → Fault → Type 0
 IsRefusedSource text f = Causes IsProgram (program_of 200) IsBadProgram text f
 
 abbrev pub IsRefusedRun : List ℕ → Fault → Type 0
 IsRefusedRun text f = Causes IsProgram (program_of 200) IsBadRun text f
+
+abbrev pub IsRefusedEmission : Language → List ℕ → Fault → Type 0
+IsRefusedEmission language text f = Causes IsProgram (program_of 200) (IsBadEmission language) text f
 
 abbrev pub IsRefusedTarget : List ℕ → Fault → Type 0
 IsRefusedTarget text f = Causes IsTarget (target_of 500) IsBadTarget text f
@@ -112,6 +122,7 @@ Refuses (pre name) (text ∷ []) f = IsRefusedSource text f
 Refuses (check name) (text ∷ []) f = IsRefusedSource text f
 Refuses (exec name) (text ∷ []) f = IsRefusedTarget text f
 Refuses (prove name) (text ∷ []) f = IsRefusedSource text f
+Refuses (emit e name) (text ∷ []) f = IsRefusedEmission e.language text f
 Refuses (verify name steps_name) (source ∷ steps ∷ []) f = IsUnverified source steps f
 Refuses (gen n) [] f = IsRefusedSource (gen_source n) f
 Refuses command files f = ⊥

@@ -51,6 +51,7 @@ fault_status (fault.Syntax p) = Text
 fault_status (fault.Rule e) = rule_status e
 fault_status (fault.Choose n r) = refusal_status r
 fault_status fault.BadTarget = Types
+fault_status (fault.NoSets language) = Types
 fault_status (fault.Steps e) = Text
 fault_status (fault.Rejected n i j w) = Rejected
 fault_status fault.Input = Input

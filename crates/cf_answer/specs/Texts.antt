@@ -6,6 +6,8 @@ use Rattle.cf_linear.specs.declared.refusal.Refusal.{Refusal}
 use Rattle.cf_linear.specs.declared.refusal.Refusal.TheVariants as refusal
 use Rattle.cf_program.specs.declared.fault.TypeFault.{TypeFault}
 use Rattle.cf_program.specs.declared.fault.TypeFault.TheVariants as rule
+use Rattle.cf_words.specs.declared.language.Language.{Language}
+use Rattle.cf_words.specs.declared.language.Language.TheVariants.{C, Python, JavaScript, Rust}
 use Rattle.cf_late.specs.Texts.{kind_text}
 use Rattle.cf_cert.specs.declared.verdict.Why.{Why}
 use Rattle.cf_cert.specs.declared.verdict.Why.TheVariants as why
@@ -79,8 +81,24 @@ abbrev pub rejected_line : ℕ → ℕ → ℕ → Why → List ℕ
 rejected_line n i j w =
     concat (codes "choose " ∷ decimal n ∷ codes ": rejected at case " ∷ decimal i ∷ codes " step " ∷ decimal j ∷ codes ": " ∷ why_text w ∷ codes "\n" ∷ [])
 
+-- the word of a language
+abbrev pub language_word : Language → List ℕ
+language_word C = codes "c"
+language_word Python = codes "python"
+language_word JavaScript = codes "js"
+language_word Rust = codes "rust"
+
+-- a language has no sets
+abbrev pub no_sets_line : Language → List ℕ
+no_sets_line language = concat (codes "no sets in " ∷ language_word language ∷ codes "\n" ∷ [])
+
+-- where the words are no command
+abbrev pub usage_words : List ℕ
+usage_words = codes
+    "usage: comfusy compile|pre|check|run|exec|prove FILE, or comfusy emit LANG FILE, or comfusy verify FILE STEPS, or comfusy gen N, or comfusy --help"
+
 abbrev pub fault_line : Fault → List ℕ
-fault_line fault.Usage = words_line (codes "usage: comfusy compile|pre|check|run|exec|prove FILE, or comfusy verify FILE STEPS, or comfusy gen N")
+fault_line fault.Usage = words_line usage_words
 fault_line fault.File = words_line (codes "cannot read file")
 fault_line fault.TextTooLong = words_line (codes "text too long")
 fault_line (fault.BadByte p) = place_line p (codes "bad byte")
@@ -89,6 +107,7 @@ fault_line (fault.Syntax p) = place_line p (codes "syntax")
 fault_line (fault.Rule e) = rule_line e
 fault_line (fault.Choose n r) = choose_line n r
 fault_line fault.BadTarget = words_line (codes "target not well typed")
+fault_line (fault.NoSets language) = no_sets_line language
 fault_line (fault.Steps e) = steps_line e
 fault_line (fault.Rejected n i j w) = rejected_line n i j w
 fault_line fault.Input = words_line (codes "cannot read input")

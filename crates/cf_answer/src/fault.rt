@@ -4,6 +4,7 @@ use cf_cert::Why;
 use cf_linear::Refusal;
 use cf_program::TypeFault;
 use cf_tree::{NoMemory, Place};
+use cf_words::Language;
 
 /// Why the text of a steps file is refused.
 #[derive(Clone, Copy, Debug)]
@@ -34,6 +35,8 @@ pub enum Fault {
     },
     /// The target that the file spells is not well typed.
     BadTarget,
+    /// A set stands in the program, and the language has none.
+    NoSets(Language),
     /// The text of the steps file is refused.
     Steps(StepsFault),
     /// The first fault of the steps: its choose, its case and its step, and why.

@@ -1,11 +1,13 @@
 //! What each command answers, over any shelf, input, sinks and passes: a file for each command, named by it.
 #![tactic(auto)]
 
+mod about;
 mod answerer;
 mod check;
 mod choose_line;
 mod choose_origin;
 mod compile;
+mod emit;
 mod exec;
 mod fault;
 mod generate;
@@ -30,8 +32,10 @@ mod verdict;
 mod verify;
 mod write;
 
+pub use about::{write_help, write_version};
 pub use check::write_checks;
 pub use compile::write_target;
+pub use emit::write_emitted;
 pub use exec::run_target;
 pub use fault::{Fault, StepsFault};
 pub use generate::write_workload;

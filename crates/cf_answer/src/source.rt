@@ -37,8 +37,8 @@ pub fn read_source(alloc: Global, text: &[u8]) -> Result<Typed, Fault>
     check_program(alloc, &program)
 }
 
-// The tree that a source text spells, whatever rules it breaks.
-fn parsed(alloc: Global, text: &[u8]) -> Result<Program, Fault>
+/// The tree that a source text spells, whatever rules it breaks.
+pub fn parsed(alloc: Global, text: &[u8]) -> Result<Program, Fault>
     requires short { length text.now ≤ text_limit }
     requires place { length text.now < 2 ^ 32 - 1 }
     ensures verdict { IsVerdict (λ x. Spelled IsProgram text.now (program_tree x)) (IsMisspelled text.now) result }
@@ -52,7 +52,8 @@ fn parsed(alloc: Global, text: &[u8]) -> Result<Program, Fault>
     }
 }
 
-fn check_program(alloc: Global, program: &Program) -> Result<Typed, Fault>
+/// The typed program of a tree, or the first rule that it breaks.
+pub fn check_program(alloc: Global, program: &Program) -> Result<Typed, Fault>
     requires { IsSpelledProgram (program_tree program.now) }
     ensures { (text : List ℕ) → Spelled IsProgram text (program_tree program.now) →
         IsVerdict (λ x. IsTypedSource text (typed_tree x)) (IsBrokenSource text) result }

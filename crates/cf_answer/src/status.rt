@@ -21,7 +21,8 @@ pub enum Status {
     Output,
     /// The text spells no program, or no target.
     Text,
-    /// A rule on names or types is broken, or a target is not well typed.
+    /// A rule on names or types is broken, or a target is not well typed, or a program has no form in a
+    /// language.
     Types,
     NotLinear,
     /// A coefficient of a choose passes the limit of numbers.
@@ -97,6 +98,7 @@ fn fault_status(fault: &Fault) -> Status
         Fault::Rule(fault) => rule_status(fault),
         Fault::Choose { refusal, .. } => refusal_status(refusal),
         Fault::BadTarget => Status::Types,
+        Fault::NoSets(_) => Status::Types,
         Fault::Steps(_) => Status::Text,
         Fault::Rejected { .. } => Status::Rejected,
         Fault::Input => Status::Input,

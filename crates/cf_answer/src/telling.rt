@@ -4,7 +4,7 @@ ghost use Rattle.std.specs.Io.KnownBytes.{Appends};
 ghost use Rattle.cf_io.specs.Bytes.{TookPrefix};
 ghost use Rattle.cf_io.specs.Causes.{one_more};
 ghost use Rattle.cf_answer.specs.Lines.{line_text, Puts};
-ghost use Rattle.cf_answer.specs.Texts.{place_line, place_line_behind, count_line, choose_line, rule_line};
+ghost use Rattle.cf_answer.specs.Texts.{place_line, place_line_behind, count_line, choose_line, no_sets_line, rule_line};
 ghost use Rattle.cf_answer.specs.Texts.{steps_line, rejected_line, fault_line, answer_line};
 
 use crate::fault::{Fault, StepsFault};
@@ -14,6 +14,7 @@ use cf_io::{Failed, Sink, write_all};
 use cf_linear::Refusal;
 use cf_program::TypeFault;
 use cf_tree::Place;
+use cf_words::Language;
 use itoa::Buffer;
 
 // What the line of a fault says.
@@ -97,12 +98,23 @@ fn steps_line(fault: &StepsFault) -> Line<'static>
     }
 }
 
+fn no_sets_line(language: Language) -> Line<'static>
+    ensures { line_text result ≡ no_sets_line language }
+{
+    match language {
+        Language::C => Line::Words(b"no sets in c".as_slice()),
+        Language::Python => Line::Words(b"no sets in python".as_slice()),
+        Language::JavaScript => Line::Words(b"no sets in js".as_slice()),
+        Language::Rust => Line::Words(b"no sets in rust".as_slice()),
+    }
+}
+
 fn fault_line(fault: &Fault) -> Line<'static>
     ensures { line_text result ≡ fault_line fault.now }
 {
     match fault {
         Fault::Usage => Line::Words(
-            b"usage: comfusy compile|pre|check|run|exec|prove FILE, or comfusy verify FILE STEPS, or comfusy gen N".as_slice(),
+            b"usage: comfusy compile|pre|check|run|exec|prove FILE, or comfusy emit LANG FILE, or comfusy verify FILE STEPS, or comfusy gen N, or comfusy --help".as_slice(),
         ),
         Fault::File => Line::Words(b"cannot read file".as_slice()),
         Fault::TextTooLong => Line::Words(b"text too long".as_slice()),
@@ -115,6 +127,7 @@ fn fault_line(fault: &Fault) -> Line<'static>
             refusal: *refusal,
         },
         Fault::BadTarget => Line::Words(b"target not well typed".as_slice()),
+        Fault::NoSets(language) => no_sets_line(*language),
         Fault::Steps(fault) => steps_line(fault),
         Fault::Rejected {
             number,

@@ -1,21 +1,22 @@
 -- From reading a file to what the command does.
-use Rattle.std.proofs.Common.{◌≡◌, inl, inr, sym, ap, subst, refl, ℕ, ◌<◌, ◌≤◌, ◌+◌, List, [], ◌∷◌, length, Option, Some, None, arith, rules}
+use Rattle.std.proofs.Common.{◌≡◌, inl, inr, sym, ap, subst, refl, ℕ, ◌<◌, ◌≤◌, ◌+◌, false, List, [], ◌∷◌, length, Option, Some, None, arith, rules}
 use Rattle.std.specs.Prelude.{◌⊎◌, Result, Err, IfSome, Contains}
 use Rattle.cf_io.specs.Bytes.{TookFront}
 use Rattle.cf_io.specs.Causes.{Rose, one_more}
 use Rattle.cf_io.specs.Seen.{ShelfSeen}
 use Rattle.cf_pass.specs.Passes.{Told}
-use Rattle.cf_words.specs.Commands.{Command, command_on, gen}
-use Rattle.cf_answer.specs.Commands.{names_of, calls_passes}
+use Rattle.cf_words.specs.Commands.{Command, command_on, verify}
+use Rattle.cf_answer.specs.Commands.{names_of, reads_input, calls_passes}
 use Rattle.cf_answer.specs.Ends.{Ends, Does, Answers, AnswersOn, IsInOrder}
 use Rattle.cf_answer.specs.Limits.{text_limit}
 use Rattle.cf_answer.specs.Outside.{Outside, AreTold, AreTexts, IsSparing, IsFrugal}
 use Rattle.cf_answer.specs.Refusals.{too_long, Refuses}
 use Rattle.cf_answer.specs.declared.status.Status.{Status}
+use Rattle.cf_answer.specs.declared.status.Status.TheVariants.{NoMemory}
 use Rattle.cf_answer.specs.declared.fault.Fault.{Fault}
 use Rattle.cf_answer.specs.declared.fault.Fault.TheVariants as fault
 use Rattle.cf_words.specs.declared.command.CommandKind.{CommandKind}
-use Rattle.cf_words.specs.declared.command.CommandKind.TheVariants.{Compile, Run, Pre, Check, Exec, Prove}
+use Rattle.cf_words.specs.declared.command.CommandKind.TheVariants.{Compile, Run, Pre, Check, Exec, Prove, Emit}
 use Rattle.cf_words.specs.declared.command.Flags.{Flags}
 use Rattle.cf_answer.proofs.CountLemmas.{one_fault}
 use Rattle.cf_answer.proofs.FaultLemmas.{failed}
@@ -31,6 +32,7 @@ one_name Pre flags name = refl
 one_name Check flags name = refl
 one_name Exec flags name = refl
 one_name Prove flags name = refl
+one_name (Emit e) flags name = refl
 
 pub reads_a_file : (kind : CommandKind) (flags : Flags) (name : List ℕ) → names_of (command_on kind flags name) ≡ [] → ⊥
 reads_a_file kind flags name none = let one : names_of (command_on kind flags name) ≡ name ∷ [] = one_name kind flags name in cc
@@ -138,6 +140,7 @@ long_refused Pre flags name text h = too_long h
 long_refused Check flags name text h = too_long h
 long_refused Exec flags name text h = too_long h
 long_refused Prove flags name text h = too_long h
+long_refused (Emit e) flags name text h = too_long h
 
 pub long_does : (kind : CommandKind) (flags : Flags) (name : List ℕ) (given : List Told) (before after : Outside) →
     IfSome (before.shelf.texts name) (λ text. text_limit < length text) →
@@ -149,15 +152,15 @@ long_does kind flags name given before after long file none same =
     (long_refused kind flags name text.0 text.2, none_written before after none) file none same
     (λ i. cc) (λ i. cc) (λ i. cc)
 
--- a workload reads no file and no input
-pub workload_does : (n : ℕ) (given last : List Told) (before after : Outside) (answer : Result (Unit {0}) Fault) →
-    AnswersOn (gen n) given last [] before.streams after.streams answer → after.shelf ≡ before.shelf → Does (gen n) given last before after answer
-workload_does n given last before after answer h same =
+-- a command that reads no file
+pub fileless_does : (c : Command) (given last : List Told) (before after : Outside) (answer : Result (Unit {0}) Fault) → names_of c ≡ [] →
+    AnswersOn c given last [] before.streams after.streams answer → after.shelf ≡ before.shelf → Does c given last before after answer
+fileless_does c given last before after answer none h same =
     let fetches : after.shelf.fetches ≡ before.shelf.fetches = ap (λ s. s.fetches) same in
     let bytes : after.shelf.given ≡ before.shelf.given = ap (λ s. s.given) same in
     let ends : after.shelf.ends ≡ before.shelf.ends = ap (λ s. s.ends) same in record {
       files = [];
-      told = tt;
+      told = subst (λ ns. AreTexts before.shelf.texts ns []) (sym none) tt;
       passed = h.passed;
       ends = h.ends;
       blames = record {
@@ -168,10 +171,10 @@ workload_does n given last before after answer h same =
         out = h.out;
       };
       frugal = record {
-        fetches = omega (arith, fetches);
+        fetches = rw none (omega (arith, fetches));
         file = inl (ap (λ s. s.left) same);
-        given = omega (arith, bytes);
-        ends = omega (arith, ends);
+        given = rw none (omega (arith, bytes));
+        ends = rw none (omega (arith, ends));
         input = h.sparing;
       };
     }
@@ -210,7 +213,21 @@ nothing_answers (Some c) given before =
       };
     }
 
--- a command on one file, and a workload, read no second one
+-- where nothing was done, whatever was asked
+pub none_asked : {A : Type 0} (command : Option Command) (input : A) → IfSome command (λ c. reads_input c ≡ false → input ≡ input)
+none_asked None input = tt
+none_asked (Some c) input = λ e. refl
+
+pub none_fetched : {A : Type 0} (command : Option Command) (shelf : A) → IfSome command (λ c. names_of c ≡ [] → shelf ≡ shelf)
+none_fetched None shelf = tt
+none_fetched (Some c) shelf = λ e. refl
+
+pub none_in_order : (command : Option Command) (shelf : ShelfSeen) → IfSome command (λ c. IsInOrder c shelf shelf NoMemory)
+none_in_order None shelf = tt
+none_in_order (Some (verify file steps)) shelf = λ source f told broken. (omega arith, λ e. cc)
+none_in_order (Some c) shelf = tt
+
+-- a command on one file reads no second one
 pub file_in_order : (kind : CommandKind) (flags : Flags) (name : List ℕ) (before after : ShelfSeen) (status : Status) →
     IsInOrder (command_on kind flags name) before after status
 file_in_order Compile flags name before after status = tt
@@ -219,6 +236,7 @@ file_in_order Pre flags name before after status = tt
 file_in_order Check flags name before after status = tt
 file_in_order Exec flags name before after status = tt
 file_in_order Prove flags name before after status = tt
+file_in_order (Emit e) flags name before after status = tt
 
 pub order_of : (command : Option Command) (before after : ShelfSeen) (known status : Status) → status ≡ known →
     IfSome command (λ c. IsInOrder c before after known) → IfSome command (λ c. IsInOrder c before after status)

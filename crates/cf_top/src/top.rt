@@ -12,7 +12,8 @@ ghost use Rattle.cf_words.specs.Words.{command_of, may_be_read};
 
 use cf_answer::{
     Fault, Status, longest_text, run_source, run_target, status_of, tell, verify_files,
-    write_blocks, write_checks, write_preconditions, write_target, write_workload,
+    write_blocks, write_checks, write_emitted, write_help, write_preconditions, write_target,
+    write_version, write_workload,
 };
 use cf_io::{ReadFault, Shelf, Sink, Source, read_text};
 use cf_pass::Pass;
@@ -96,6 +97,8 @@ pub fn answer_words<F: Shelf, I: Source, O: Sink>(
         Ok(Command::OnFile(command)) => answer_file(alloc, &command, shelf, input, out, passes),
         Ok(Command::Verify { file, steps }) => verify_files(alloc, file, steps, shelf, out),
         Ok(Command::Gen(size)) => write_workload(alloc, size, out, passes),
+        Ok(Command::Help) => write_help(out),
+        Ok(Command::Version) => write_version(out),
         Err(WordsFault::Usage) => Err(Fault::Usage),
         Err(WordsFault::NoMemory) => Err(Fault::NoMemory),
     }
@@ -152,5 +155,6 @@ fn answer_text<I: Source, O: Sink>(
         CommandKind::Check => write_checks(alloc, text, out),
         CommandKind::Exec => run_target(alloc, text, input, out),
         CommandKind::Prove => write_blocks(alloc, text, out),
+        CommandKind::Emit(emitting) => write_emitted(alloc, &emitting, text, out, passes),
     }
 }

@@ -1,18 +1,20 @@
 -- What is read of the matches that clap gives.
-use Rattle.std.proofs.Common.{◌≡◌, ◌≢◌, ◌∙◌, cond, true, false, refl, sym, ap, ap₂, subst, inl, inr, List, [], ◌∷◌, Option, Some, None, Err, option_map, option_and_then, codes, bytes_eq}
+use Rattle.std.proofs.Common.{◌≡◌, ◌≢◌, ◌∙◌, ◌||◌, cond, true, false, refl, sym, ap, ap₂, subst, true≢false, inl, inr, List, [], ◌∷◌, Option, Some, None, is_some, Ok, Err, option_map, option_and_then, unwrap_or, codes, bytes_eq}
 use Rattle.std.specs.Option.{option_map_or}
 use Rattle.std.specs.Borrow.{Bor}
-use Rattle.clap.proofs.WalkLemmas.{first_value-rows}
-use Rattle.clap.specs.Words.{App, FailsBy, IsAmong, Kinds, Text, fault_of, first_value, found_of, is_simple_and_free, kind_of, rows_of, subcommand_of}
+use Rattle.std.specs.Prelude.{Result}
+use Rattle.clap.proofs.WalkLemmas.{both, first_value-rows}
+use Rattle.clap.specs.Words.{App, FailsBy, HasMatchesOf, IsAmong, Kinds, Text, fault_of, first_value, found_of, is_simple, is_simple_and_free, kind_of, rows_of, subcommand_of, subcommand_rows_of}
 use Rattle.clap.specs.declared.error.Error.{Error}
 use Rattle.clap.specs.declared.error.kind.ErrorKind.{ErrorKind}
 use Rattle.clap.specs.declared.error.kind.ErrorKind.TheVariants.{OutOfMemory}
 use Rattle.clap.specs.declared.parser.matches.ArgMatches.{ArgMatches}
 use Rattle.clap.specs.Walk.{first_of}
-use Rattle.cf_words.specs.Commands.{Command, verify}
+use Rattle.cf_words.specs.Commands.{Command, plain_command, verify}
 use Rattle.cf_words.proofs.GrammarLaws.{clap_agrees, is_exact}
-use Rattle.cf_words.specs.Grammar.{MatchesAnswer, clap_command, command_found, flags_found, found_unless, grammar, is_set, verify_found}
-use Rattle.cf_words.specs.Words.{WordsAnswer, command_for, command_in, command_of, may_be_read}
+use Rattle.cf_words.specs.Grammar.{MatchesAnswer, clap_command, command_found, emit_found, flags_found, found_unless, grammar, is_set, name_found, one_found, verify_found}
+use Rattle.cf_words.specs.Words.{WordsAnswer, about, command_for, command_in, command_of, command_parsed, emit_on, may_be_parsed, may_be_read, usual_name}
+use Rattle.cf_words.specs.declared.command.Command as declared
 use Rattle.cf_words.specs.declared.fault.WordsFault.{WordsFault}
 use Rattle.cf_words.specs.declared.fault.WordsFault.TheVariants.{Usage, NoMemory}
 
@@ -21,12 +23,9 @@ pub set_is : (m : ArgMatches) (id : Text) (o : Option (Bor Text)) → option_map
 set_is m id o e = ap (λ t. option_map_or (λ x. bytes_eq x (codes "true")) t false) (e ∙ first_value-rows (found_of m) id)
 
 pub operand_is : (m : ArgMatches) (name : Text) (o : Option (Bor Text)) → option_map (λ s. s.now) o ≡ first_value (found_of m) (codes "operand")
-    → bytes_eq name (codes "verify") ≡ false
-    → option_and_then (command_for name (flags_found (rows_of (found_of m)))) (option_map (λ s. s.now) o) ≡ command_found (Some (name, rows_of (found_of m)))
-operand_is m name o e other =
-    let rows = rows_of (found_of m) in
-    ap₂ (λ b text. cond b (verify_found rows) (option_and_then (command_for name (flags_found rows)) text)) (sym other)
-    (e ∙ first_value-rows (found_of m) (codes "operand"))
+    → option_and_then (command_for name (flags_found (rows_of (found_of m)))) (option_map (λ s. s.now) o) ≡ one_found name (rows_of (found_of m))
+operand_is m name o e =
+    ap (option_and_then (command_for name (flags_found (rows_of (found_of m))))) (e ∙ first_value-rows (found_of m) (codes "operand"))
 
 -- the two operands of `verify`, as they are read
 pub no_file : (m : ArgMatches) → None ≡ first_value (found_of m) (codes "file") → None ≡ verify_found (rows_of (found_of m))
@@ -39,6 +38,26 @@ pub files_are : (m : ArgMatches) (file steps : Option (Bor Text)) → option_map
 files_are m file steps f s =
     ap₂ (λ x y. option_and_then (λ z. option_map (verify z) y) x) (f ∙ first_value-rows (found_of m) (codes "file"))
     (s ∙ first_value-rows (found_of m) (codes "steps"))
+
+-- the two operands of `emit`, and the name, as they are read
+pub name_is : (m : ArgMatches) (o : Option (Bor Text)) → option_map (λ s. s.now) o ≡ first_value (found_of m) (codes "name")
+    → unwrap_or (option_map (λ s. s.now) o) usual_name ≡ name_found (rows_of (found_of m))
+name_is m o e = ap (λ t. unwrap_or t usual_name) (e ∙ first_value-rows (found_of m) (codes "name"))
+
+pub no_language : (m : ArgMatches) → None ≡ first_value (found_of m) (codes "language") → None ≡ emit_found (rows_of (found_of m))
+no_language m l =
+    let rows = rows_of (found_of m) in
+    ap (option_and_then (λ x. option_and_then (emit_on x (is_set (codes "main") rows) (name_found rows)) (first_of (codes "file") rows)))
+    (l ∙ first_value-rows (found_of m) (codes "language"))
+
+pub emitted_is : (m : ArgMatches) (language file : Option (Bor Text)) → option_map (λ s. s.now) language ≡ first_value (found_of m) (codes "language")
+    → option_map (λ s. s.now) file ≡ first_value (found_of m) (codes "file")
+    → option_and_then (λ x. option_and_then (emit_on x (is_set (codes "main") (rows_of (found_of m))) (name_found (rows_of (found_of m))))
+    (option_map (λ s. s.now) file)) (option_map (λ s. s.now) language) ≡ emit_found (rows_of (found_of m))
+emitted_is m language file l f =
+    let rows = rows_of (found_of m) in
+    ap₂ (λ x y. option_and_then (λ z. option_and_then (emit_on z (is_set (codes "main") rows) (name_found rows)) y) x)
+    (l ∙ first_value-rows (found_of m) (codes "language")) (f ∙ first_value-rows (found_of m) (codes "file"))
 
 no_answer : {X : Type 0} (kind : ErrorKind) (kinds : Kinds) (answer : Option X) → IsAmong kind kinds → found_unless kinds answer ≡ None
 no_answer kind [] answer among = absurd among
@@ -55,11 +74,42 @@ module _ (app : App) (told : app ≡ grammar) (words : List Text) where
     | inr among ↦ no_answer (kind_of e) (fault_of grammar words) (command_found (subcommand_of grammar words)) among
   ]
 
--- the command of words that may be read is the one that the parse leads to
-pub parsed : (words : List Text) (asked : Option Command) → may_be_read words ≡ true → clap_command words ≡ asked → command_of words ≡ asked
+  pub accepted : (m : ArgMatches) → HasMatchesOf app words m → (is_simple_and_free app ≡ true → FailsBy {T = ArgMatches} (fault_of app words) (Ok m))
+      → MatchesAnswer (clap_command words) (Ok m)
+  accepted m has fails =
+      let found : subcommand_rows_of m ≡ subcommand_of grammar words =
+      (subst (λ a. HasMatchesOf a words m) told has (both (is_simple grammar) _ is_exact).0).1 in
+      let passes : fault_of grammar words ≡ [] =
+      subst (λ a. is_simple_and_free a ≡ true → FailsBy {T = ArgMatches} (fault_of a words) (Ok m)) told fails is_exact in
+      ap command_found found ∙ sym (ap (λ kinds. found_unless kinds (command_found (subcommand_of grammar words))) passes)
+
+-- the command of words that may be parsed is the one that the parse leads to
+pub parsed : (words : List Text) (asked : Option Command) → may_be_parsed words ≡ true → clap_command words ≡ asked → command_parsed words ≡ asked
 parsed words asked tested is = ap (λ b. cond b (command_in words) None) tested ∙ sym (clap_agrees words tested) ∙ is
 
-pub not_parsed : (words : List Text) (f : WordsFault) → may_be_read words ≡ true → MatchesAnswer (clap_command words) (Err f)
-    → WordsAnswer (command_of words) (Err f)
+pub not_parsed : (words : List Text) (f : WordsFault) → may_be_parsed words ≡ true → MatchesAnswer (clap_command words) (Err f)
+    → WordsAnswer (command_parsed words) (Err f)
 not_parsed words Usage tested none = parsed words None tested none
 not_parsed words NoMemory tested none = tt
+
+-- words that are about the program, and others
+pub told : (words : List Text) (found : Option declared.Command) (command : declared.Command) → option_map plain_command found ≡ about words →
+    found ≡ Some command
+    → about words ≡ Some (plain_command command)
+told words found command e is = sym e ∙ ap (option_map plain_command) is
+
+pub told_of : (words : List Text) (command : Command) → about words ≡ Some command → command_of words ≡ Some command
+told_of words command is = ap (λ o. cond (is_some o) o (command_parsed words)) is
+
+pub told_read : (words : List Text) (command : Command) → about words ≡ Some command → may_be_read words ≡ false → ⊥
+told_read words command is e = true≢false (sym (ap (λ o. is_some o || may_be_parsed words) is) ∙ e)
+
+pub untold : (words : List Text) (found : Option declared.Command) → option_map plain_command found ≡ about words → found ≡ None → about words ≡ None
+untold words found e is = sym e ∙ ap (option_map plain_command) is
+
+pub untold_of : (words : List Text) (r : Result declared.Command WordsFault) → about words ≡ None → WordsAnswer (command_parsed words) r
+    → WordsAnswer (command_of words) r
+untold_of words r none h = subst (λ o. WordsAnswer (cond (is_some o) o (command_parsed words)) r) (sym none) h
+
+pub untold_read : (words : List Text) → about words ≡ None → may_be_read words ≡ false → may_be_parsed words ≡ false
+untold_read words none e = sym (ap (λ o. is_some o || may_be_parsed words) none) ∙ e

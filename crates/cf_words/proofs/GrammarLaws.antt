@@ -1,5 +1,5 @@
--- What clap makes of words that may be read is what the definition makes of them.
-use Rattle.std.proofs.Common.{◌≡◌, ◌∙◌, ◌||◌, ◌==◌, ℕ, Bool, true, false, not, cond, refl, sym, ap, ap₂, subst, List, [], ◌∷◌, fold, Option, Some, None, is_some, option_map, option_and_then, codes, bytes_eq}
+-- What clap makes of words that may be parsed is what the definition makes of them.
+use Rattle.std.proofs.Common.{◌≡◌, ◌∙◌, ◌||◌, ◌==◌, ℕ, Bool, true, false, not, cond, refl, true≢false, sym, ap, ap₂, subst, List, [], ◌∷◌, fold, Option, Some, None, is_some, option_map, option_and_then, codes, bytes_eq}
 use Rattle.std.proofs.Common.{◌⊎◌, inl, inr}
 use Rattle.std.proofs.lemmas.Slice.Eq.{bytes_eq-Decides}
 use Rattle.std.specs.List.{list_all}
@@ -13,14 +13,16 @@ use Rattle.clap.specs.Simple.{Shape, built, entered, names_of}
 use Rattle.clap.specs.Walk.{Row, Text, Walk, first_of, finished, idle, nothing_held, rows_after, settled, subcommand_met, walk_from, walked}
 use Rattle.clap.specs.declared.error.kind.ErrorKind.TheVariants.{InvalidSubcommand, UnknownArgument}
 use Rattle.cf_words.specs.Commands.{Command, compile as the_compile, run as the_run, pre as the_pre, check as the_check, exec as the_exec, prove as the_prove, gen as the_gen}
-use Rattle.cf_words.specs.Grammar.{clap_command, command_found, flags_found, found_unless, grammar, verify_found}
-use Rattle.cf_words.specs.Words.{command_for, command_in, flags_in, is_flag, is_operand, may_be_read, only, operands, size_of, stands, stands_twice, verify_for}
+use Rattle.cf_words.specs.Grammar.{clap_command, command_found, emit_found, flags_found, found_unless, grammar, verify_found}
+use Rattle.cf_words.specs.Words.{command_for, command_in, emit_for, flags_in, is_emit, is_flag, is_one_of, is_operand, may_be_parsed, only, operands, size_of, stand_once, stands, stands_twice, verify_for}
 use Rattle.cf_words.specs.declared.command.Flags.{Flags}
 use Rattle.cf_words.proofs.Uses.{Use, words_of, not_plain, not_stats, uses_of, plain, stats, operand}
 use Rattle.cf_words.proofs.LevelLaws.{said, found_in, at, operand_turn, cond_same}
 use Rattle.cf_words.proofs.FlaggedLaws.{flagged, flags_found_are}
 use Rattle.cf_words.proofs.BareLaws.{bare, bare_found_are, no_flags}
 use Rattle.cf_words.proofs.PairedLaws.{paired, paired_found_are}
+use Rattle.cf_words.proofs.EmitUses.{EmitUse, emit_uses_of, emit_words_of}
+use Rattle.cf_words.proofs.EmitLaws.{emit_found_are, emitting}
 
 pub data Verb : Type 0 where
   compile : Verb
@@ -93,9 +95,10 @@ level_asks : (name : Text) (kinds : Kinds) (rows : List Row)
 level_asks name [] rows = sym (with_flags name (flags_found rows) (first_of (codes "operand") rows))
 level_asks name (kind ∷ kinds) rows = refl
 
-level_verifies : (kinds : Kinds) (rows : List Row) → found_unless (or_else kinds []) (verify_found rows) ≡ found_unless kinds (verify_found rows)
-level_verifies [] rows = refl
-level_verifies (kind ∷ kinds) rows = refl
+level_says : (say : List Row → Option Command) (kinds : Kinds) (rows : List Row)
+    → found_unless (or_else kinds []) (say rows) ≡ found_unless kinds (say rows)
+level_says say [] rows = refl
+level_says say (kind ∷ kinds) rows = refl
 
 asks_one : (shape : Shape) (name : Text) (words : List Text)
     → found_unless (or_else (kinds_in shape words) []) (option_and_then (command_for name (flags_found (rows_after shape.rules [] words)))
@@ -130,8 +133,22 @@ entered_is pre words = asks_one (bare (codes "pre")) (codes "pre") words
 entered_is check words = asks_one (bare (codes "check")) (codes "check") words
 entered_is exec words = asks_one (bare (codes "exec")) (codes "exec") words
 entered_is prove words = asks_one (bare (codes "prove")) (codes "prove") words
-entered_is verify words = level_verifies (kinds_in (paired (codes "verify")) words) (rows_after (paired (codes "verify")).rules [] words)
+entered_is verify words = level_says verify_found (kinds_in (paired (codes "verify")) words) (rows_after (paired (codes "verify")).rules [] words)
 entered_is gen words = asks_one (bare (codes "gen")) (codes "gen") words
+
+-- the same of `emit`
+entering_emit : (words : List Text) → clap_command (codes "emit" ∷ words) ≡ top_command [] (stopped_at (codes "emit") words)
+unfolding clap_on_literals
+entering_emit words = ap₂ top_command (stopped_fault (built grammar).top (names_of (built grammar)) start (codes "emit", []) words)
+    (sym (walk_stopped (built grammar).top.rules (names_of (built grammar)) start (codes "emit") [] words))
+
+entered_emit : (words : List Text) → top_command [] (stopped_at (codes "emit") words) ≡ found_in emit_found emitting words
+unfolding clap_on_literals
+entered_emit words = level_says emit_found (kinds_in emitting words) (rows_after emitting.rules [] words)
+
+emit_first : (us : List EmitUse) → stands_twice (codes "--main") (emit_words_of us) ≡ false → stands_twice (codes "--name") (emit_words_of us) ≡ false
+    → clap_command (codes "emit" ∷ emit_words_of us) ≡ command_in (codes "emit" ∷ emit_words_of us)
+emit_first us main_once name_once = entering_emit (emit_words_of us) ∙ entered_emit (emit_words_of us) ∙ emit_found_are us main_once name_once
 
 -- a flag leaves a command without flags nothing
 without_flags : (b : Bool) (name : Text) (o : Option Text)
@@ -180,6 +197,7 @@ record IsOther (w : Text) : Type 0 where
   prove : (bytes_eq (codes "prove") w ≡ false) × (bytes_eq w (codes "prove") ≡ false)
   verify : (bytes_eq (codes "verify") w ≡ false) × (bytes_eq w (codes "verify") ≡ false)
   gen : (bytes_eq (codes "gen") w ≡ false) × (bytes_eq w (codes "gen") ≡ false)
+  emit : (bytes_eq (codes "emit") w ≡ false) × (bytes_eq w (codes "emit") ≡ false)
 
 data Named (w : Text) : Type 0 where
   verb : (v : Verb) → verb_word v ≡ w → Named w
@@ -193,8 +211,15 @@ apart a w = go (bytes_eq a w) refl (bytes_eq w a) refl
     go false t true u = inl (sym ((bytes_eq-Decides w a).0 u))
     go false t false u = inr (t, u)
 
-named : (w : Text) → Named w
-named w = elim (apart (codes "compile") w) [
+-- a word that is not `emit`
+not_emit : (w : Text) → bytes_eq w (codes "emit") ≡ false → (bytes_eq (codes "emit") w ≡ false) × (bytes_eq w (codes "emit") ≡ false)
+not_emit w not_emitted = elim (apart (codes "emit") w) [
+  | inl is ↦ absurd (true≢false (subst (λ v. bytes_eq v (codes "emit") ≡ false) (sym is) not_emitted))
+  | inr apart_from ↦ apart_from
+]
+
+named : (w : Text) → bytes_eq w (codes "emit") ≡ false → Named w
+named w not_emitted = elim (apart (codes "compile") w) [
   | inl is ↦ verb compile is
   | inr not_compile ↦ elim (apart (codes "run") w) [
     | inl is ↦ verb run is
@@ -220,6 +245,7 @@ named w = elim (apart (codes "compile") w) [
                       prove = not_prove;
                       verify = not_verify;
                       gen = not_gen;
+                      emit = not_emit w not_emitted;
                     })
               ]
             ]
@@ -245,7 +271,8 @@ other_asks_none f word h x =
 other_in : (w : Text) (words : List Text) → IsOther w → command_in (w ∷ words) ≡ None
 other_in w words h =
     let f = flags_in words in
-    ap (λ b. cond b (verify_for f (operands words)) (option_and_then (command_for w f) (only (operands words)))) h.verify.1
+    ap₂ (λ a b. cond a (verify_for f (operands words)) (cond b (emit_for words) (option_and_then (command_for w f) (only (operands words))))) h.verify.1
+    h.emit.1
     ∙ none_then (command_for w f) (only (operands words)) (other_asks_none f w h)
 
 abbrev hit : Text → Option (Text × List Text)
@@ -257,7 +284,7 @@ no_subcommand w h =
     λ i. option_map (λ s. s.0) (cond (h.compile.0 i || false) (hit (codes "compile")) (cond (h.run.0 i || false) (hit (codes "run"))
     (cond (h.pre.0 i || false) (hit (codes "pre")) (cond (h.check.0 i || false) (hit (codes "check")) (cond (h.exec.0 i || false) (hit (codes "exec"))
     (cond (h.prove.0 i || false) (hit (codes "prove")) (cond (h.verify.0 i || false) (hit (codes "verify")) (cond (h.gen.0 i || false) (hit (codes "gen"))
-    None))))))))
+    (cond (h.emit.0 i || false) (hit (codes "emit")) None)))))))))
 
 stray : (x : ℕ) (xs : List ℕ) (e : (x == 45) ≡ false) → IsOther (x ∷ xs)
     → turn_fault (built grammar).top (names_of (built grammar)) (at [] None 1) (x ∷ xs) ≡ UnknownArgument ∷ InvalidSubcommand ∷ []
@@ -283,30 +310,53 @@ all_first us w (other h) x xs e here plain_once stats_once =
     subst (λ y. clap_command (y ∷ words_of us) ≡ None) here (other_first x xs e (words_of us) (subst IsOther (sym here) h))
     ∙ sym (other_in w (words_of us) h)
 
-uses_go : (us : List Use) → stands_twice (codes "--plain") (words_of us) ≡ false → stands_twice (codes "--stats") (words_of us) ≡ false
+uses_go : (us : List Use) → is_emit (words_of us) ≡ false → stands_twice (codes "--plain") (words_of us) ≡ false →
+    stands_twice (codes "--stats") (words_of us) ≡ false
     → clap_command (words_of us) ≡ command_in (words_of us)
 unfolding clap_on_literals
-uses_go [] plain_once stats_once = refl
-uses_go (plain ∷ us) plain_once stats_once =
+uses_go [] not_emitted plain_once stats_once = refl
+uses_go (plain ∷ us) not_emitted plain_once stats_once =
     let f = flags_in (words_of us) in
     sym (none_then (command_for (codes "--plain") f) (only (operands (words_of us))) (λ x. cond_same (f.plain || f.stats) None))
-uses_go (stats ∷ us) plain_once stats_once =
+uses_go (stats ∷ us) not_emitted plain_once stats_once =
     let f = flags_in (words_of us) in
     sym (none_then (command_for (codes "--stats") f) (only (operands (words_of us))) (λ x. cond_same (f.plain || f.stats) None))
-uses_go (operand x xs e ∷ us) plain_once stats_once =
+uses_go (operand x xs e ∷ us) not_emitted plain_once stats_once =
     let words = words_of us in
-    all_first us (x ∷ xs) (named (x ∷ xs)) x xs e refl
+    all_first us (x ∷ xs) (named (x ∷ xs) not_emitted) x xs e refl
     (sym (ap (λ b. cond b (stands (codes "--plain") words) (stands_twice (codes "--plain") words)) (not_plain x xs e)) ∙ plain_once)
     (sym (ap (λ b. cond b (stands (codes "--stats") words) (stands_twice (codes "--stats") words)) (not_stats x xs e)) ∙ stats_once)
 
--- what clap makes of words that may be read
-pub clap_agrees : (words : List Text) → may_be_read words ≡ true → clap_command words ≡ command_in words
-clap_agrees words h =
+-- what clap makes of words that may be parsed
+plain_agrees : (words : List Text) → is_emit words ≡ false → stand_once (codes "--plain") (codes "--stats") words ≡ true → clap_command words ≡ command_in words
+plain_agrees words not_emitted h =
     let parts = both (list_all (λ w. is_flag w || is_operand w) words) _ h in
     let once = both (not (stands_twice (codes "--plain") words)) _ parts.1 in
     let us = uses_of words parts.0 in
     subst (λ ws. clap_command ws ≡ command_in ws) us.1
-    (uses_go us.0 (ap (stands_twice (codes "--plain")) us.1 ∙ is_false _ once.0) (ap (stands_twice (codes "--stats")) us.1 ∙ is_false _ once.1))
+    (uses_go us.0 (ap is_emit us.1 ∙ not_emitted) (ap (stands_twice (codes "--plain")) us.1 ∙ is_false _ once.0)
+    (ap (stands_twice (codes "--stats")) us.1 ∙ is_false _ once.1))
+
+emit_agrees : (words : List Text) → stand_once (codes "--main") (codes "--name") (codes "emit" ∷ words) ≡ true
+    → clap_command (codes "emit" ∷ words) ≡ command_in (codes "emit" ∷ words)
+emit_agrees words h =
+    let parts = both (list_all (λ w. is_one_of (codes "--main") (codes "--name") w || is_operand w) words) _ h in
+    let once = both (not (stands_twice (codes "--main") words)) _ parts.1 in
+    let us = emit_uses_of words parts.0 in
+    subst (λ ws. clap_command (codes "emit" ∷ ws) ≡ command_in (codes "emit" ∷ ws)) us.1
+    (emit_first us.0 (ap (stands_twice (codes "--main")) us.1 ∙ is_false _ once.0) (ap (stands_twice (codes "--name")) us.1 ∙ is_false _ once.1))
+
+pub clap_agrees : (words : List Text) → may_be_parsed words ≡ true → clap_command words ≡ command_in words
+clap_agrees [] h = plain_agrees [] refl h
+clap_agrees (w ∷ words) h = go (bytes_eq w (codes "emit")) refl h
+  where
+    go : (b : Bool) → bytes_eq w (codes "emit") ≡ b
+        → cond b (stand_once (codes "--main") (codes "--name") (w ∷ words)) (stand_once (codes "--plain") (codes "--stats") (w ∷ words)) ≡ true
+        → clap_command (w ∷ words) ≡ command_in (w ∷ words)
+    go true is once =
+        subst (λ y. stand_once (codes "--main") (codes "--name") (y ∷ words) ≡ true → clap_command (y ∷ words) ≡ command_in (y ∷ words))
+        (sym ((bytes_eq-Decides w (codes "emit")).0 is)) (emit_agrees words) once
+    go false is once = plain_agrees (w ∷ words) is once
 
 -- clap's contract says what a parse by this grammar gives, and why it fails
 pub is_exact : is_simple_and_free grammar ≡ true

@@ -1,8 +1,9 @@
 -- Worked examples of the command that words are.
 use Rattle.std.proofs.Common.{◌≡◌, refl, true, false, [], ◌∷◌, Some, None, codes}
 use Rattle.std.specs.Fmt.{digits}
-use Rattle.cf_words.specs.Commands.{compile, run, pre, check, exec, prove, verify, gen}
-use Rattle.cf_words.specs.Words.{command_of, most_size}
+use Rattle.cf_words.specs.Commands.{compile, run, pre, check, exec, prove, emit, verify, gen, help, version}
+use Rattle.cf_words.specs.Words.{command_of, may_be_read, most_size}
+use Rattle.cf_words.specs.declared.language.Language.TheVariants.{C, Python, JavaScript, Rust}
 
 no_flags : command_of (codes "run" ∷ codes "a" ∷ []) ≡ Some (run (record { plain = false; stats = false }) (codes "a"))
 no_flags = refl
@@ -151,3 +152,104 @@ gen_of_none = refl
 
 gen_of_two : command_of (codes "gen" ∷ codes "7" ∷ codes "8" ∷ []) ≡ None
 gen_of_two = refl
+
+-- ---- emit
+emit_c : command_of (codes "emit" ∷ codes "c" ∷ codes "a" ∷ [])
+    ≡ Some (emit (record { language = C; main = false; name = codes "answer" }) (codes "a"))
+emit_c = refl
+
+emit_python : command_of (codes "emit" ∷ codes "python" ∷ codes "a" ∷ codes "--main" ∷ [])
+    ≡ Some (emit (record { language = Python; main = true; name = codes "answer" }) (codes "a"))
+emit_python = refl
+
+emit_js : command_of (codes "emit" ∷ codes "--main" ∷ codes "js" ∷ codes "--name" ∷ codes "total_2" ∷ codes "a" ∷ [])
+    ≡ Some (emit (record { language = JavaScript; main = true; name = codes "total_2" }) (codes "a"))
+emit_js = refl
+
+emit_rust : command_of (codes "emit" ∷ codes "--name" ∷ codes "seconds" ∷ codes "rust" ∷ codes "a" ∷ [])
+    ≡ Some (emit (record { language = Rust; main = false; name = codes "seconds" }) (codes "a"))
+emit_rust = refl
+
+emit_a_file_named_emit : command_of (codes "emit" ∷ codes "c" ∷ codes "emit" ∷ [])
+    ≡ Some (emit (record { language = C; main = false; name = codes "answer" }) (codes "emit"))
+emit_a_file_named_emit = refl
+
+emit_exchanged : command_of (codes "emit" ∷ codes "a" ∷ codes "c" ∷ []) ≡ None
+emit_exchanged = refl
+
+emit_in_another_language : command_of (codes "emit" ∷ codes "java" ∷ codes "a" ∷ []) ≡ None
+emit_in_another_language = refl
+
+emit_without_file : command_of (codes "emit" ∷ codes "c" ∷ []) ≡ None
+emit_without_file = refl
+
+emit_two_files : command_of (codes "emit" ∷ codes "c" ∷ codes "a" ∷ codes "b" ∷ []) ≡ None
+emit_two_files = refl
+
+emit_main_twice : command_of (codes "emit" ∷ codes "--main" ∷ codes "c" ∷ codes "a" ∷ codes "--main" ∷ []) ≡ None
+emit_main_twice = refl
+
+emit_name_twice : command_of (codes "emit" ∷ codes "c" ∷ codes "a" ∷ codes "--name" ∷ codes "b" ∷ codes "--name" ∷ codes "b" ∷ []) ≡ None
+emit_name_twice = refl
+
+emit_no_name : command_of (codes "emit" ∷ codes "c" ∷ codes "a" ∷ codes "--name" ∷ []) ≡ None
+emit_no_name = refl
+
+emit_flag_for_a_name : command_of (codes "emit" ∷ codes "c" ∷ codes "a" ∷ codes "--name" ∷ codes "--main" ∷ []) ≡ None
+emit_flag_for_a_name = refl
+
+emit_empty_name : command_of (codes "emit" ∷ codes "c" ∷ codes "a" ∷ codes "--name" ∷ [] ∷ []) ≡ None
+emit_empty_name = refl
+
+emit_digit_first : command_of (codes "emit" ∷ codes "c" ∷ codes "a" ∷ codes "--name" ∷ codes "2b" ∷ []) ≡ None
+emit_digit_first = refl
+
+emit_dot_in_a_name : command_of (codes "emit" ∷ codes "c" ∷ codes "a" ∷ codes "--name" ∷ codes "a.b" ∷ []) ≡ None
+emit_dot_in_a_name = refl
+
+emit_reserved_name : command_of (codes "emit" ∷ codes "c" ∷ codes "a" ∷ codes "--name" ∷ codes "while" ∷ []) ≡ None
+emit_reserved_name = refl
+
+emit_a_name_of_another_language : command_of (codes "emit" ∷ codes "js" ∷ codes "a" ∷ codes "--name" ∷ codes "def" ∷ [])
+    ≡ Some (emit (record { language = JavaScript; main = false; name = codes "def" }) (codes "a"))
+emit_a_name_of_another_language = refl
+
+emit_plain : command_of (codes "emit" ∷ codes "c" ∷ codes "a" ∷ codes "--plain" ∷ []) ≡ None
+emit_plain = refl
+
+emit_stats : command_of (codes "emit" ∷ codes "--stats" ∷ codes "c" ∷ codes "a" ∷ []) ≡ None
+emit_stats = refl
+
+emit_name_attached : command_of (codes "emit" ∷ codes "c" ∷ codes "a" ∷ codes "--name=b" ∷ []) ≡ None
+emit_name_attached = refl
+
+main_of_compile : command_of (codes "compile" ∷ codes "a" ∷ codes "--main" ∷ []) ≡ None
+main_of_compile = refl
+
+name_of_run : command_of (codes "run" ∷ codes "--name" ∷ codes "a" ∷ []) ≡ None
+name_of_run = refl
+
+-- ---- words about the program
+help_is_told : command_of (codes "--help" ∷ []) ≡ Some help
+help_is_told = refl
+
+short_help_is_told : command_of (codes "-h" ∷ []) ≡ Some help
+short_help_is_told = refl
+
+version_is_told : command_of (codes "--version" ∷ []) ≡ Some version
+version_is_told = refl
+
+help_may_be_read : may_be_read (codes "--help" ∷ []) ≡ true
+help_may_be_read = refl
+
+help_of_run : command_of (codes "run" ∷ codes "--help" ∷ []) ≡ None
+help_of_run = refl
+
+help_before_run : command_of (codes "--help" ∷ codes "run" ∷ []) ≡ None
+help_before_run = refl
+
+help_twice : command_of (codes "--help" ∷ codes "--help" ∷ []) ≡ None
+help_twice = refl
+
+short_version : command_of (codes "-V" ∷ []) ≡ None
+short_version = refl

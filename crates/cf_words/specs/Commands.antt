@@ -1,10 +1,18 @@
 -- The commands.
-use Rattle.std.specs.Prelude.{◌≤◌, ⊤, ℕ, List}
+use Rattle.std.specs.Prelude.{◌≤◌, ⊤, ℕ, Bool, List}
 use Rattle.cf_words.specs.declared.command.Command as declared
-use Rattle.cf_words.specs.declared.command.Command.TheVariants.{OnFile, Verify, Gen}
+use Rattle.cf_words.specs.declared.command.Command.TheVariants.{OnFile, Verify, Gen, Help, Version}
 use Rattle.cf_words.specs.declared.command.CommandKind.{CommandKind}
-use Rattle.cf_words.specs.declared.command.CommandKind.TheVariants.{Compile, Run, Pre, Check, Exec, Prove}
+use Rattle.cf_words.specs.declared.command.CommandKind.TheVariants.{Compile, Run, Pre, Check, Exec, Prove, Emit}
+use Rattle.cf_words.specs.declared.command.Emitting as declared_emitting
 use Rattle.cf_words.specs.declared.command.Flags.{Flags}
+use Rattle.cf_words.specs.declared.language.Language.{Language}
+
+-- in which language a program is written down, whether as one that answers lines too, and the name of its function
+pub record Emitting : Type 0 where
+  pub language : Language
+  pub main : Bool
+  pub name : List ℕ
 
 pub data Command : Type 0 where
   compile : Flags → List ℕ → Command
@@ -13,8 +21,14 @@ pub data Command : Type 0 where
   check : List ℕ → Command
   exec : List ℕ → Command
   prove : List ℕ → Command
+  emit : Emitting → List ℕ → Command
   verify : List ℕ → List ℕ → Command
   gen : ℕ → Command
+  help : Command
+  version : Command
+
+abbrev pub plain_emitting : declared_emitting.Emitting → Emitting
+plain_emitting e = record { language = e.language; main = e.main; name = e.name.now }
 
 -- the command of a kind with these flags on a file
 abbrev pub command_on : CommandKind → Flags → List ℕ → Command
@@ -24,15 +38,20 @@ command_on Pre flags file = pre file
 command_on Check flags file = check file
 command_on Exec flags file = exec file
 command_on Prove flags file = prove file
+command_on (Emit e) flags file = emit (plain_emitting e) file
 
 -- a command of the program, without where its words lie in memory
 abbrev pub plain_command : declared.Command → Command
 plain_command (OnFile c) = command_on c.kind c.flags c.file.now
 plain_command (Verify file steps) = verify file.now steps.now
 plain_command (Gen n) = gen n
+plain_command Help = help
+plain_command Version = version
 
 -- a workload has a size from 1 to 100
 abbrev pub HasSize : declared.Command → Type 0
 HasSize (OnFile c) = ⊤
 HasSize (Verify file steps) = ⊤
 HasSize (Gen n) = (1 ≤ n) × (n ≤ 100)
+HasSize Help = ⊤
+HasSize Version = ⊤

@@ -1,10 +1,10 @@
 -- What clap is told of the words, and what is made of its answer.
-use Rattle.std.specs.Prelude.{◌≡◌, ⊤, Result, Ok, Err, List, [], ◌∷◌, Bool, true, false, Option, Some, None, option_map, option_and_then, if◌then◌else◌, codes, bytes_eq}
+use Rattle.std.specs.Prelude.{◌≡◌, ⊤, Result, Ok, Err, List, [], ◌∷◌, Bool, true, false, Option, Some, None, option_map, option_and_then, unwrap_or, if◌then◌else◌, codes, bytes_eq}
 use Rattle.std.specs.Option.{option_map_or}
 use Rattle.clap.specs.Words.{App, Kinds, Row, Rule, Text, fault_of, first_of, new_app, new_rule, subcommand_of, subcommand_rows_of, with_rule, with_subcommand}
 use Rattle.clap.specs.declared.builder.action.ArgAction.TheVariants.{SetTrue}
 use Rattle.cf_words.specs.Commands.{Command, verify}
-use Rattle.cf_words.specs.Words.{command_for}
+use Rattle.cf_words.specs.Words.{command_for, emit_on, usual_name}
 use Rattle.clap.specs.declared.parser.matches.ArgMatches.{ArgMatches}
 use Rattle.cf_words.specs.declared.command.Flags.{Flags}
 use Rattle.cf_words.specs.declared.fault.WordsFault.{WordsFault}
@@ -16,7 +16,11 @@ flag id = record (new_rule id) { long = Some id; action = Some SetTrue }
 abbrev pub operand : Text → Rule
 operand id = record (new_rule id) { required = true }
 
--- a subcommand with an operand alone, one with both flags too, and one with two operands
+-- a flag with a value behind it
+abbrev pub valued : Text → Rule
+valued id = record (new_rule id) { long = Some id }
+
+-- a subcommand with an operand alone, one with both flags too, one with two operands, and one with two operands and flags of its own
 abbrev pub bare_subcommand : Text → App
 bare_subcommand name = with_rule (new_app name) (operand (codes "operand"))
 
@@ -27,6 +31,11 @@ flagged_subcommand name =
 abbrev pub paired_subcommand : Text → App
 paired_subcommand name = with_rule (with_rule (new_app name) (operand (codes "file"))) (operand (codes "steps"))
 
+abbrev pub emitting_subcommand : Text → App
+emitting_subcommand name =
+    with_rule (with_rule (with_rule (with_rule (new_app name) (operand (codes "language"))) (operand (codes "file"))) (flag (codes "main")))
+    (valued (codes "name"))
+
 -- the program: its first word is a subcommand, and it has neither help nor version
 abbrev pub program : App
 program =
@@ -35,11 +44,12 @@ program =
 
 abbrev pub grammar : App
 grammar =
-    with_subcommand (with_subcommand (with_subcommand (with_subcommand (with_subcommand (with_subcommand (with_subcommand (with_subcommand program
+    with_subcommand (with_subcommand (with_subcommand (with_subcommand (with_subcommand (with_subcommand (with_subcommand (with_subcommand
+    (with_subcommand program
     (flagged_subcommand (codes "compile")).top) (flagged_subcommand (codes "run")).top)
     (bare_subcommand (codes "pre")).top) (bare_subcommand (codes "check")).top)
     (bare_subcommand (codes "exec")).top) (bare_subcommand (codes "prove")).top)
-    (paired_subcommand (codes "verify")).top) (bare_subcommand (codes "gen")).top
+    (paired_subcommand (codes "verify")).top) (bare_subcommand (codes "gen")).top) (emitting_subcommand (codes "emit")).top
 
 -- whether a flag was found
 abbrev pub is_set : Text → List Row → Bool
@@ -52,12 +62,26 @@ flags_found rows = record { plain = is_set (codes "plain") rows; stats = is_set 
 abbrev pub verify_found : List Row → Option Command
 verify_found rows = option_and_then (λ file. option_map (verify file) (first_of (codes "steps") rows)) (first_of (codes "file") rows)
 
+-- the command `emit` on what was found; where no name was, the function has its usual one
+abbrev pub name_found : List Row → Text
+name_found rows = unwrap_or (first_of (codes "name") rows) usual_name
+
+abbrev pub emit_found : List Row → Option Command
+emit_found rows =
+    option_and_then (λ language. option_and_then (emit_on language (is_set (codes "main") rows) (name_found rows)) (first_of (codes "file") rows))
+    (first_of (codes "language") rows)
+
+-- the command of a subcommand with one operand
+abbrev pub one_found : Text → List Row → Option Command
+one_found name rows = option_and_then (command_for name (flags_found rows)) (first_of (codes "operand") rows)
+
 -- the command of a subcommand with what was found for it
+abbrev pub found_behind : Text → List Row → Option Command
+found_behind name rows = if bytes_eq name (codes "emit") then emit_found rows else one_found name rows
+
 abbrev pub command_found : Option (Text × List Row) → Option Command
 command_found None = None
-command_found (Some found) =
-    if bytes_eq found.0 (codes "verify") then verify_found found.1
-    else option_and_then (command_for found.0 (flags_found found.1)) (first_of (codes "operand") found.1)
+command_found (Some found) = if bytes_eq found.0 (codes "verify") then verify_found found.1 else found_behind found.0 found.1
 
 -- the answer, where no kind of error comes
 abbrev pub found_unless : {X : Type 0} → Kinds → Option X → Option X

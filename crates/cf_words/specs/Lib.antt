@@ -1,3 +1,4 @@
+pub mod Languages
 pub mod Commands
 pub mod Words
 pub mod Grammar

@@ -1,8 +1,20 @@
 //! What the words of the command line ask for.
 
+use crate::language::Language;
+
+/// How a program is written down in another language.
+#[derive(Clone, Copy, Debug)]
+pub struct Emitting<'a> {
+    pub language: Language,
+    /// As a program of its own too, which answers the lines of its input.
+    pub main: bool,
+    /// The name of its function.
+    pub name: &'a str,
+}
+
 /// What a command does with its file.
-#[derive(Clone, Copy, Debug, PartialEq, Eq)]
-pub enum CommandKind {
+#[derive(Clone, Copy, Debug)]
+pub enum CommandKind<'a> {
     /// The file holds a source text. The target that it is compiled to is written.
     Compile,
     /// The file holds a source text. The input is answered by the target that it is compiled to.
@@ -17,6 +29,9 @@ pub enum CommandKind {
     /// The file holds a source text. The steps of the elimination of each choose, and the choose's own
     /// target, are written.
     Prove,
+    /// The file holds a source text. The target that it is compiled to is written as source code of
+    /// another language.
+    Emit(Emitting<'a>),
 }
 
 /// What is asked of the passes.
@@ -31,7 +46,7 @@ pub struct Flags {
 /// A command on a file: its kind, its flags and the name of the file.
 #[derive(Clone, Copy, Debug)]
 pub struct FileCommand<'a> {
-    pub kind: CommandKind,
+    pub kind: CommandKind<'a>,
     pub flags: Flags,
     pub file: &'a str,
 }
@@ -45,4 +60,8 @@ pub enum Command<'a> {
     Verify { file: &'a str, steps: &'a str },
     /// The workload of this size, from 1 to 100, is made, compiled and run.
     Gen(u32),
+    /// How the program is called is written.
+    Help,
+    /// Which version of the program this is, and which editions of the language it takes, is written.
+    Version,
 }

@@ -1,15 +1,18 @@
 //! The words of the command line.
 #![tactic(auto)]
 
+mod about;
 mod command;
 mod fault;
 mod grammar;
+mod language;
 mod matches;
 mod parsing;
 mod size;
 mod tests;
 mod word;
 
-pub use crate::command::{Command, CommandKind, FileCommand, Flags};
+pub use crate::command::{Command, CommandKind, Emitting, FileCommand, Flags};
 pub use crate::fault::WordsFault;
+pub use crate::language::Language;
 pub use crate::parsing::parse;

@@ -1,11 +1,12 @@
-use Rattle.std.proofs.Common.{refl}
-use Rattle.cf_top.proofs.DoesLemmas.{workload_does, nothing_answers, reads_a_file, file_in_order}
+use Rattle.std.proofs.Common.{refl, [], map, string_bytes}
+use Rattle.cf_words.specs.Words.{command_of}
+use Rattle.cf_top.proofs.DoesLemmas.{fileless_does, nothing_answers, reads_a_file, file_in_order, none_asked, none_fetched, none_in_order}
 use Rattle.cf_top.proofs.top.answer_words.Goals as goal
 
 pub returns-in-Ok-Gen-clause-answers : goal.returns-in-Ok-Gen-clause-answers
 returns-in-Ok-Gen-clause-answers g c =
     rw (rw c.in-Ok-Gen.field-0-is at c.in-Ok-Gen.ensures.answer)
-    (workload_does _ _ _ _ _ _ (c.write_workload.ensures.answers (g.I.Source.seen c.args.input.now)) refl)
+    (fileless_does _ _ _ _ _ _ refl (c.write_workload.ensures.answers (g.I.Source.seen c.args.input.now)) refl)
 
 pub returns-in-Ok-Gen-clause-usage : goal.returns-in-Ok-Gen-clause-usage
 returns-in-Ok-Gen-clause-usage g c = λ e. absurd ((c.write_workload.ensures.answers (g.I.Source.seen c.args.input.now)).not_usage e)
@@ -47,3 +48,40 @@ returns-in-Ok-Verify-clause-early g c = λ e. let other = c.in-Ok-Verify.ensures
 
 pub returns-in-Err-NoMemory-clause-early : goal.returns-in-Err-NoMemory-clause-early
 returns-in-Err-NoMemory-clause-early g c = λ e. let other = c.in-Err-NoMemory.ensures.early e in cc
+
+pub returns-in-Ok-Help-clause-answers : goal.returns-in-Ok-Help-clause-answers
+returns-in-Ok-Help-clause-answers g c =
+    rw (rw c.in-Ok-Help.field-0-is at c.in-Ok-Help.ensures.answer)
+    (fileless_does _ _ _ _ _ _ refl (c.write_help.ensures.answers _ (g.I.Source.seen c.args.input.now)) refl)
+
+pub returns-in-Ok-Help-clause-usage : goal.returns-in-Ok-Help-clause-usage
+returns-in-Ok-Help-clause-usage g c = λ e. absurd ((c.write_help.ensures.answers [] (g.I.Source.seen c.args.input.now)).not_usage e)
+
+pub returns-in-Ok-Help-clause-order : goal.returns-in-Ok-Help-clause-order
+returns-in-Ok-Help-clause-order g c = rw (rw c.in-Ok-Help.field-0-is at c.in-Ok-Help.ensures.answer) tt
+
+pub returns-in-Ok-Help-clause-early : goal.returns-in-Ok-Help-clause-early
+returns-in-Ok-Help-clause-early g c = λ e. let other = c.in-Ok-Help.ensures.early e in cc
+
+pub returns-in-Ok-Version-clause-answers : goal.returns-in-Ok-Version-clause-answers
+returns-in-Ok-Version-clause-answers g c =
+    rw (rw c.in-Ok-Version.field-0-is at c.in-Ok-Version.ensures.answer)
+    (fileless_does _ _ _ _ _ _ refl (c.write_version.ensures.answers _ (g.I.Source.seen c.args.input.now)) refl)
+
+pub returns-in-Ok-Version-clause-usage : goal.returns-in-Ok-Version-clause-usage
+returns-in-Ok-Version-clause-usage g c = λ e. absurd ((c.write_version.ensures.answers [] (g.I.Source.seen c.args.input.now)).not_usage e)
+
+pub returns-in-Ok-Version-clause-order : goal.returns-in-Ok-Version-clause-order
+returns-in-Ok-Version-clause-order g c = rw (rw c.in-Ok-Version.field-0-is at c.in-Ok-Version.ensures.answer) tt
+
+pub returns-in-Ok-Version-clause-early : goal.returns-in-Ok-Version-clause-early
+returns-in-Ok-Version-clause-early g c = λ e. let other = c.in-Ok-Version.ensures.early e in cc
+
+pub returns-in-Err-NoMemory-clause-unasked : goal.returns-in-Err-NoMemory-clause-unasked
+returns-in-Err-NoMemory-clause-unasked g c = none_asked (command_of (map string_bytes c.args.words.now)) _
+
+pub returns-in-Err-NoMemory-clause-unfetched : goal.returns-in-Err-NoMemory-clause-unfetched
+returns-in-Err-NoMemory-clause-unfetched g c = none_fetched (command_of (map string_bytes c.args.words.now)) _
+
+pub returns-in-Err-NoMemory-clause-order : goal.returns-in-Err-NoMemory-clause-order
+returns-in-Err-NoMemory-clause-order g c = none_in_order (command_of (map string_bytes c.args.words.now)) _

@@ -1,26 +1,23 @@
-use Rattle.std.proofs.Common.{rules, ◌≡◌, ◌∙◌, ap, sym, true, Some, None, map, option_map, string_bytes}
-use Rattle.std.proofs.lemmas.Result.{err_from_is_err_and}
-use Rattle.cf_words.proofs.FoundLemmas.{not_parsed, parsed}
-use Rattle.cf_words.specs.Commands.{plain_command}
-use Rattle.cf_words.specs.Words.{may_be_read}
+use Rattle.std.proofs.Common.{map, string_bytes}
+use Rattle.cf_words.proofs.FoundLemmas.{told, told_of, told_read, untold, untold_of, untold_read}
 use Rattle.cf_words.proofs.parsing.parse.Goals as goal
 
 pub returns-in-Some-clause-answer : goal.returns-in-Some-clause-answer
 returns-in-Some-clause-answer c =
     let words = map string_bytes c.args.words.now in
-    let tested : may_be_read words ≡ true = search rules in
-    parsed words (Some (plain_command c.in-Some.command)) tested
-    (sym c.in_ok-matches.ensures ∙ sym c.command_found.ensures.command ∙ ap (option_map plain_command) c.in-Some.is)
+    told_of words _ (told words _ c.in-Some.command c.about.ensures.command c.in-Some.is)
 
-pub returns-clause-answer : goal.returns-clause-answer
-returns-clause-answer c =
+pub returns-in-Some-clause-early : goal.returns-in-Some-clause-early
+returns-in-Some-clause-early c = λ e.
     let words = map string_bytes c.args.words.now in
-    let tested : may_be_read words ≡ true = search rules in
-    parsed words None tested (sym c.in_ok-matches.ensures ∙ sym c.command_found.ensures.command ∙ ap (option_map plain_command) c.in-None.is)
+    absurd (told_read words _ (told words _ c.in-Some.command c.about.ensures.command c.in-Some.is) e)
 
-pub returns-in_err-matches-clause-answer : goal.returns-in_err-matches-clause-answer
-returns-in_err-matches-clause-answer c =
+pub returns-in-None-clause-answer : goal.returns-in-None-clause-answer
+returns-in-None-clause-answer c =
     let words = map string_bytes c.args.words.now in
-    let tested : may_be_read words ≡ true = search rules in
-    let p = err_from_is_err_and c.from_residual.result c.from_residual.ensures.1 in
-    rw (p.1, p.2) (not_parsed words c.in_err-matches.field-0.0 tested c.in_err-matches.ensures)
+    untold_of words _ (untold words _ c.about.ensures.command c.in-None.is) c.parse_command.ensures.answer
+
+pub returns-in-None-clause-early : goal.returns-in-None-clause-early
+returns-in-None-clause-early c = λ e.
+    let words = map string_bytes c.args.words.now in
+    c.parse_command.ensures.early (untold_read words (untold words _ c.about.ensures.command c.in-None.is) e)
