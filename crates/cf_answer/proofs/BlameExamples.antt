@@ -1,5 +1,5 @@
 -- Which object is blamed by an answer, how much may be taken of the files and of the input, and what words that are no command do.
-use Rattle.std.proofs.Common.{◌≡◌, ◌⊎◌, inl, inr, ◌≤◌, ◌+◌, ◌∙◌, sym, ap, subst, refl, ℕ, zero, suc, Bool, true, false, List, [], ◌∷◌, ◌++◌, length, Option, Some, None, append-nil, arith, codes}
+use Rattle.std.proofs.Common.{◌≡◌, ◌⊎◌, inl, inr, ◌≤◌, ◌+◌, ◌∙◌, sym, ap, subst, refl, ℕ, zero, suc, Bool, true, false, List, [], ◌∷◌, ◌++◌, length, Option, Some, None, append-nil, length-append, arith, codes}
 use Rattle.std.specs.Prelude.{Result, Ok, Err, Contains, if◌then◌else◌}
 use Rattle.std.specs.Str.{bytes_eq}
 use Rattle.cf_io.specs.Bytes.{TookFront}
@@ -207,6 +207,41 @@ other-text h = no h.file
     no (inr (name, (zero, l, e), t)) = at_first name e t
     no (inr (name, (suc k, l, e), t)) = omega (arith, l)
 
+
+-- ---- of a text at most one byte more than the limit of 1048576 is read
+module _ (front : List ℕ) where
+  abbrev long : Option (List ℕ) → ℕ → Outside
+  long left fetches =
+      outside (record { texts = λ n. Some (front ++ codes "2"); left = left; faults = never; fetches = fetches; given = 0; ends = 0 }) (source None 0 0) (out 0)
+
+  abbrev IsRead : Type 0
+  IsRead = IsFrugal (codes "a" ∷ []) (long (Some (codes "old")) 5) (long (Some (codes "2")) 6)
+
+  one_byte_more : length front ≡ 1048577 → IsRead
+  unfolding text_limit
+  one_byte_more e = record {
+    fetches = omega arith;
+    file = inr (codes "a", (0, omega arith, refl), (front, omega (arith, e), refl));
+    given = omega arith;
+    ends = omega arith;
+    input = untouched-input;
+  }
+
+  two_bytes_more : length front ≡ 1048578 → IsRead → ⊥
+  unfolding text_limit
+  two_bytes_more e h = no h.file
+    where
+      read_twice : (other : List ℕ) → length other ≤ 1048577 → front ++ codes "2" ≡ other ++ codes "2" → ⊥
+      read_twice other l same =
+          let a = length-append front (codes "2") in
+          let b = length-append other (codes "2") in
+          let c : length (front ++ codes "2") ≡ length (other ++ codes "2") = ap length same in omega (arith, e, l, a, b, c)
+
+      no : (Some (codes "2") ≡ Some (codes "old"))
+          ⊎ ((name : List ℕ) × Contains (codes "a" ∷ []) name × TookFront 1048577 (Some (front ++ codes "2")) (Some (codes "2"))) → ⊥
+      no (inl same) = cc same
+      no (inr f) = let t = f.2 in read_twice t.0 t.1 t.2
+
 -- ---- the files of `verify`
 abbrev fetched : ℕ → (List ℕ → ℕ) → ShelfSeen
 fetched fetches faults = record { texts = texts; left = None; faults = faults; fetches = fetches; given = 0; ends = 0 }
@@ -230,7 +265,7 @@ one-file = tt
 
 -- ---- words that are no command
 abbrev told : List Told
-told = record { name = codes "fold"; tally = 12; turns = 3 } ∷ []
+told = record { name = codes "fold"; tally = 12; turns = 3; makes = λ n c. c; whole = true } ∷ []
 
 refused-words : Answers None told told (failed never 0 0) (failed never 0 0) (Err fault.Usage)
 refused-words = (inl refl, refl, refl)

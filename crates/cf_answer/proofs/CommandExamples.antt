@@ -58,12 +58,12 @@ tallies-untold : (tells_tallies (compile (flags true false) a) ≡ false) × (te
 tallies-untold = (refl, refl, refl, refl, refl, refl, refl, refl)
 
 -- a command that calls none leaves them
-kept-uncalled : (ArePassed false [] []) × (ArePassed false [] (record { name = a; tally = 0; turns = 1 } ∷ []) → ⊥)
+kept-uncalled : (ArePassed false [] []) × (ArePassed false [] (record { name = a; tally = 0; turns = 1; makes = λ n c. c; whole = true } ∷ []) → ⊥)
 kept-uncalled = (refl, λ h. cc h)
 
 -- a command that calls them has called each once, or none
 abbrev pass : ℕ → Told
-pass turns = record { name = a; tally = 2; turns = turns }
+pass turns = record { name = a; tally = 2; turns = turns; makes = λ n c. c; whole = true }
 
 called-or_kept : ArePassed true (pass 3 ∷ []) (pass 4 ∷ []) × ArePassed true (pass 3 ∷ []) (pass 3 ∷ [])
 called-or_kept = (inl (record { name = refl; tally = omega arith; turns = refl }, tt), inr refl)

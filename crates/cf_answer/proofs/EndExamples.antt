@@ -15,7 +15,7 @@ use Rattle.cf_answer.specs.declared.fault.Fault.TheVariants as fault
 
 -- run --plain --stats a, where the one pass tells this
 abbrev passes : List Told
-passes = record { name = codes "fold"; tally = 12; turns = 3 } ∷ []
+passes = record { name = codes "fold"; tally = 12; turns = 3; makes = λ n c. c; whole = true } ∷ []
 
 abbrev job : Job
 job = record { command = run (record { plain = true; stats = true }) (codes "a"); files = codes "source" ∷ []; given = passes; passes = passes }

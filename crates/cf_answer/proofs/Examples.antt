@@ -17,10 +17,10 @@ use Rattle.cf_answer.specs.declared.fault.Fault.TheVariants as fault
 
 -- passes that tell this
 abbrev fold : ℕ → ℕ → Told
-fold tally turns = record { name = codes "fold"; tally = tally; turns = turns }
+fold tally turns = record { name = codes "fold"; tally = tally; turns = turns; makes = λ n c. c; whole = true }
 
 abbrev drop_needs : ℕ → ℕ → Told
-drop_needs tally turns = record { name = codes "drop-needs"; tally = tally; turns = turns }
+drop_needs tally turns = record { name = codes "drop-needs"; tally = tally; turns = turns; makes = λ n c. c; whole = true }
 
 abbrev two_passes : List Told
 two_passes = fold 12 3 ∷ drop_needs 0 0 ∷ []
@@ -42,7 +42,7 @@ one_more_unit = (record { name = refl; tally = omega arith; turns = refl }, (rec
 one_fewer_unit : AreCalled true two_passes (fold 11 4 ∷ drop_needs 0 1 ∷ []) → ⊥
 one_fewer_unit h = omega (arith, h.0.tally)
 
-another_name : AreCalled true two_passes (fold 12 4 ∷ record { name = codes "drop-lets"; tally = 0; turns = 1 } ∷ []) → ⊥
+another_name : AreCalled true two_passes (fold 12 4 ∷ record { name = codes "drop-lets"; tally = 0; turns = 1; makes = λ n c. c; whole = true } ∷ []) → ⊥
 another_name h = let same : codes "drop-lets" ≡ codes "drop-needs" = h.1.0.name in cc
 
 -- the second was not called; or it was called twice
@@ -72,10 +72,10 @@ half_is_called : ArePassed true two_passes (fold 12 4 ∷ drop_needs 0 0 ∷ [])
 half_is_called (inl turned) = one_left_out turned
 half_is_called (inr kept) = none_is_called kept
 
-two_are_applied : applied true two_passes ≡ 2
+two_are_applied : applied true two_passes ≡ two_passes
 two_are_applied = refl
 
-none_is_applied : applied false two_passes ≡ 0
+none_is_applied : applied false two_passes ≡ []
 none_is_applied = refl
 
 run_calls_passes : calls_passes (run (record { plain = false; stats = false }) (codes "a")) ≡ true

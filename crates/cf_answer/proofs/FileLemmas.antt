@@ -1,5 +1,5 @@
 -- What each command owes on the text of its file.
-use Rattle.std.proofs.Common.{◌≡◌, refl, ℕ, ◌*◌, ℤ, true, not, List, [], ◌∷◌, length}
+use Rattle.std.proofs.Common.{◌≡◌, refl, ℕ, ◌*◌, ℤ, true, not, List, [], ◌∷◌}
 use Rattle.cf_gen.specs.Workload.{gen_source, gen_lines}
 use Rattle.cf_io.specs.Lines.{lines}
 use Rattle.cf_pass.specs.Passes.{Told}
@@ -21,4 +21,4 @@ compile_owes flags name file given last t h back = (t, h, record { is = refl; re
 pub workload_owes : (n : ℕ) (given last : List Told) (t : RawTarget) (sum : ℤ) (text : List ℕ) → IsCompiledBy true (gen_source n) given last t →
     AddUp t (lines (gen_lines n)) sum → text ≡ sum_line (n * n) sum → Owes (gen n) [] given last [] text
 workload_owes n given last t sum text h added line =
-    (t, h, h.0.0, h.0.1, sum, sum_picked h.0.0 (length last) t h.0.2 (lines (gen_lines n)) sum added, line)
+    (t, h, h.0.0, h.0.1, sum, sum_picked h.0.0 given last t h.0.2 (lines (gen_lines n)) sum added, line)

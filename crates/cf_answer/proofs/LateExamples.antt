@@ -105,7 +105,7 @@ not_compiled source tree other l s =
     let broken : checked l.0 ≡ Err (rule.NotLinear l.2.0) = l.2.1 in absurd (cc)
 
 abbrev told : ℕ → List Told
-told tally = record { name = codes "fold"; tally = tally; turns = 0 } ∷ []
+told tally = record { name = codes "fold"; tally = tally; turns = 0; makes = λ n c. c; whole = true } ∷ []
 
 -- the tally of the first
 abbrev first_tally : List Told → ℕ

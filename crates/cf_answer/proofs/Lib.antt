@@ -1,3 +1,4 @@
+pub mod AgreeLaws
 pub mod AnswerLemmas
 pub mod AskedLemmas
 pub mod BlockLemmas
@@ -54,3 +55,7 @@ mod CommandExamples
 mod EmitExamples
 mod EndExamples
 mod RefusalExamples
+mod TextExamples
+mod LineExamples
+mod OwedExamples
+mod DoesExamples

@@ -1,5 +1,5 @@
 -- A command is refused for faults of one status, and not where it owes something.
-use Rattle.std.proofs.Common.{◌≡◌, ℕ, not, List, [], ◌∷◌, length}
+use Rattle.std.proofs.Common.{◌≡◌, ℕ, not, List, [], ◌∷◌}
 use Rattle.cf_gen.specs.Workload.{gen_source}
 use Rattle.cf_pass.specs.Passes.{Told}
 use Rattle.cf_target.specs.Spelling.{target_tree}
@@ -33,7 +33,8 @@ refused_alike command files f g h i = absurd h
 pub owed_accepted : (command : Command) (files : List (List ℕ)) (given passes : List Told) (ls : List (List ℕ)) (text : List ℕ) →
     Owes command files given passes ls text →
     IsAccepted command files
-owed_accepted (compile flags name) (file ∷ []) given passes ls text h = λ f r. compiled_unrefused (applied (not flags.plain) passes) file h.0 f h.1.0 r
+owed_accepted (compile flags name) (file ∷ []) given passes ls text h =
+    λ f r. compiled_unrefused (applied (not flags.plain) given) (applied (not flags.plain) passes) file h.0 f h.1.0 r
 owed_accepted (run flags name) (file ∷ []) given passes ls text h = λ f r. run_unrefused (not flags.plain) file given passes ls text f h r
 owed_accepted (pre name) (file ∷ []) given passes ls text h = λ f r. pres_unrefused file h.0 text f h.1 h.2 r
 owed_accepted (check name) (file ∷ []) given passes ls text h = λ f r. checks_unrefused file h.0 text f h.1 h.2 r
@@ -41,7 +42,7 @@ owed_accepted (exec name) (file ∷ []) given passes ls text h = λ f r. typed_u
 owed_accepted (prove name) (file ∷ []) given passes ls text h = λ f r. proofs_unrefused file h.0 text f h.1 h.2 r
 owed_accepted (emit e name) (file ∷ []) given passes ls text h = λ f r. emission_unrefused e.language file given passes h.0 h.1 h.2 f r
 owed_accepted (verify name other) (source ∷ steps ∷ []) given passes ls text h = λ f r. verify_unrefused source steps h.0 f h.1 h.2 r
-owed_accepted (gen n) [] given passes ls text h = λ f r. compiled_unrefused (length passes) (gen_source n) h.0 f h.1.0 r
+owed_accepted (gen n) [] given passes ls text h = λ f r. compiled_unrefused given passes (gen_source n) h.0 f h.1.0 r
 owed_accepted help [] given passes ls text h = λ f r. r
 owed_accepted version [] given passes ls text h = λ f r. r
 owed_accepted command files given passes ls text h = absurd h

@@ -12,6 +12,7 @@ use Rattle.cf_tree.specs.Meaning.{means, peak}
 use Rattle.cf_tree.specs.DefView.{DefTree}
 use Rattle.cf_tree.specs.Values.{Value, number, truth, elements, Outcome, values, no_solution, number_of, HasBase, HaveBases}
 use Rattle.cf_tree.proofs.RisingLemmas.{rising_set_of}
+use Rattle.cf_pass.specs.Passes.{Told}
 use Rattle.cf_program.specs.Checked.{TypedTree}
 use Rattle.cf_tree.specs.Params.{bases_of}
 use Rattle.cf_growth.specs.Meeting.{AreSmall}
@@ -64,8 +65,8 @@ parameters_at [] i d e = cc
 parameters_at (c ∷ ds) zero d e = let same : c ≡ d = cc in rw same refl
 parameters_at (c ∷ ds) (suc i) d e = parameters_at ds i d e
 
-same_parameters : (typed : TypedTree) (passes : ℕ) (t : RawTarget) → IsBuilt typed.defs typed.main passes t → t.params.items ≡ main_bases typed
-same_parameters typed passes t h = let like = h.like_main in like.2 ∙ sym (parameters_at typed.defs typed.main like.0 like.1)
+same_parameters : (typed : TypedTree) (given last : List Told) (t : RawTarget) → IsBuilt typed.defs typed.main given last t → t.params.items ≡ main_bases typed
+same_parameters typed given last t h = let like = h.like_main in like.2 ∙ sym (parameters_at typed.defs typed.main like.0 like.1)
 
 -- the text of what is picked is that of the meaning
 picked_text_of : (typed : TypedTree) (passes : ℕ) (t : RawTarget) (vs : List Value) (o : Outcome) → main_picks typed vs ≡ Some o →
@@ -101,16 +102,16 @@ reply_to typed passes t line vs (Some o) e r =
     subst (IsSourceReply typed passes line) (ap picked_text e ∙ picked_text_of typed passes t vs o e r.runs) (picks vs r.short r.spelled (λ none. cc))
 reply_to typed passes t line vs None e r = overflows typed passes t line vs e r (cases_lt limit (peak (code_tree t.code) vs))
 
-picked_reply : (typed : TypedTree) (passes : ℕ) (t : RawTarget) → IsBuilt typed.defs typed.main passes t → (line reply : List ℕ) →
-    IsReply line_limit (2 ^ 127 - 1) t line reply → IsSourceReply typed passes line reply
-picked_reply typed passes t h line reply (too_long long) = source_too_long long
-picked_reply typed passes t h line reply (bad_input short none) =
-    source_bad_input short (λ vs r. none vs (subst (λ bs. SpellsValues limit bs line vs) (sym (same_parameters typed passes t h)) r))
-picked_reply typed passes t h line reply (meaning vs short r) =
+picked_reply : (typed : TypedTree) (given last : List Told) (t : RawTarget) → IsBuilt typed.defs typed.main given last t → (line reply : List ℕ) →
+    IsReply line_limit (2 ^ 127 - 1) t line reply → IsSourceReply typed (length last) line reply
+picked_reply typed given last t h line reply (too_long long) = source_too_long long
+picked_reply typed given last t h line reply (bad_input short none) =
+    source_bad_input short (λ vs r. none vs (subst (λ bs. SpellsValues limit bs line vs) (sym (same_parameters typed given last t h)) r))
+picked_reply typed given last t h line reply (meaning vs short r) =
     let fit = values_fit t.params.items (without_return line) vs r in
-    reply_to typed passes t line vs (main_picks typed vs) refl (record {
+    reply_to typed (length last) t line vs (main_picks typed vs) refl (record {
       short = short;
-      spelled = subst (λ bs. SpellsValues limit bs line vs) (same_parameters typed passes t h) r;
+      spelled = subst (λ bs. SpellsValues limit bs line vs) (same_parameters typed given last t h) r;
       asked = r;
       allowed = h.allowed vs fit.0;
       runs = h.runs vs fit.0 fit.1;
@@ -122,11 +123,10 @@ all_replied : (P Q : List ℕ → List ℕ → Type 0) → ((line reply : List �
 all_replied P Q by [] text h = h
 all_replied P Q by (line ∷ ls) text h = (h.0, h.1, h.2, by line h.0 h.3, all_replied P Q by ls h.1 h.4)
 
-pub replies_picked : (passes : ℕ) (file : List ℕ) (t : RawTarget) (ls : List (List ℕ)) (text : List ℕ) → Compiles passes file t →
-    AreReplies (by_target t) ls text →
-    ArePicked passes file ls text
-replies_picked passes file t ls text h replies =
-    (h.0, h.1, all_replied (IsReplyBy (by_target t)) (IsSourceReply h.0 passes) (picked_reply h.0 passes t h.2) ls text replies)
+pub replies_picked : (given last : List Told) (file : List ℕ) (t : RawTarget) (ls : List (List ℕ)) (text : List ℕ) → Compiles given last file t →
+    AreReplies (by_target t) ls text → ArePicked (length last) file ls text
+replies_picked given last file t ls text h replies =
+    (h.0, h.1, all_replied (IsReplyBy (by_target t)) (IsSourceReply h.0 (length last)) (picked_reply h.0 given last t h.2) ls text replies)
 
 -- what a run adds is what the reply of the target to the line adds, which the source picks
 record Added (typed : TypedTree) (passes : ℕ) (t : RawTarget) (line : List ℕ) (z : ℤ) : Type 0 where
@@ -199,33 +199,33 @@ run_added typed passes t line vs (Values given) r a = meant_added typed passes t
 run_added typed passes t line vs (NoSolution n) r a = meant_added typed passes t line vs (no_solution n) (main_picks typed vs) refl r a.0 a.1
 run_added typed passes t line vs Overflow r a = overflow_added typed passes t line vs (main_picks typed vs) refl r a
 
-line_added : (typed : TypedTree) (passes : ℕ) (t : RawTarget) → IsBuilt typed.defs typed.main passes t → (line : List ℕ) (z : ℤ) → LineAdds t line z →
-    Added typed passes t line z
-line_added typed passes t h line z (long_line long is) = record {
+line_added : (typed : TypedTree) (given last : List Told) (t : RawTarget) → IsBuilt typed.defs typed.main given last t → (line : List ℕ) (z : ℤ) →
+    LineAdds t line z → Added typed (length last) t line z
+line_added typed given last t h line z (long_line long is) = record {
   reply = codes "line too long";
   replied = too_long long;
   told = source_too_long long;
   same = is;
 }
-line_added typed passes t h line z (odd_line short none is) = record {
+line_added typed given last t h line z (odd_line short none is) = record {
   reply = codes "bad input";
   replied = bad_input short none;
-  told = source_bad_input short (λ vs r. none vs (subst (λ bs. SpellsValues limit bs line vs) (sym (same_parameters typed passes t h)) r));
+  told = source_bad_input short (λ vs r. none vs (subst (λ bs. SpellsValues limit bs line vs) (sym (same_parameters typed given last t h)) r));
   same = is;
 }
-line_added typed passes t h line z (read_line vs short r by) =
+line_added typed given last t h line z (read_line vs short r by) =
     let fit = values_fit t.params.items (without_return line) vs r in
-    subst (Added typed passes t line) (sym by.is) (run_added typed passes t line vs by.outcome (record {
+    subst (Added typed (length last) t line) (sym by.is) (run_added typed (length last) t line vs by.outcome (record {
       short = short;
-      spelled = subst (λ bs. SpellsValues limit bs line vs) (same_parameters typed passes t h) r;
+      spelled = subst (λ bs. SpellsValues limit bs line vs) (same_parameters typed given last t h) r;
       asked = r;
       allowed = h.allowed vs fit.0;
       runs = h.runs vs fit.0 fit.1;
     }) by.answers)
 
-pub sum_picked : (typed : TypedTree) (passes : ℕ) (t : RawTarget) → IsBuilt typed.defs typed.main passes t → (ls : List (List ℕ)) (sum : ℤ) → AddUp t ls sum →
-    IsSum t typed passes ls sum
-sum_picked typed passes t h [] sum a = a
-sum_picked typed passes t h (line ∷ ls) sum a =
-    let first = line_added typed passes t h line a.0 a.3 in
-    (first.reply, first.replied, first.told, a.1, a.2 ∙ ap (λ z. z +ℤ a.1) first.same, sum_picked typed passes t h ls a.1 a.4)
+pub sum_picked : (typed : TypedTree) (given last : List Told) (t : RawTarget) → IsBuilt typed.defs typed.main given last t → (ls : List (List ℕ)) (sum : ℤ) →
+    AddUp t ls sum → IsSum t typed (length last) ls sum
+sum_picked typed given last t h [] sum a = a
+sum_picked typed given last t h (line ∷ ls) sum a =
+    let first = line_added typed given last t h line a.0 a.3 in
+    (first.reply, first.replied, first.told, a.1, a.2 ∙ ap (λ z. z +ℤ a.1) first.same, sum_picked typed given last t h ls a.1 a.4)

@@ -1,21 +1,35 @@
 -- For what a text is refused, where a syntax fault stands, and for which fault each command is refused.
-use Rattle.std.proofs.Common.{◌≡◌, inl, inr, ◌≤◌, ◌∙◌, sym, subst, refl, ap, ℕ, List, [], ◌∷◌, length, arith, codes}
+use Rattle.std.proofs.Common.{◌≡◌, inl, inr, ◌≤◌, ◌∙◌, sym, subst, refl, ap, ℕ, pos, true, List, [], ◌∷◌, length, arith, codes}
 use Rattle.std.specs.Prelude.{Result, Err}
 use Rattle.cf_lex.specs.declared.token.Token.{Token}
 use Rattle.cf_lex.specs.declared.token.TokenKind.TheVariants.{Word}
 use Rattle.cf_lex.specs.Places.{first_place}
 use Rattle.cf_lex.specs.Tokens.{none, bad_byte, past_limit, at_end}
+use Rattle.cf_tree.specs.CodeTree.{CodeTree, code_lit, code_truth}
+use Rattle.cf_tree.specs.DefView.{TargetTree}
+use Rattle.cf_tree.specs.declared.base.Base.TheVariants.{Int}
 use Rattle.cf_tree.specs.declared.base.Place.{Place}
 use Rattle.cf_reader.specs.Faults.{IsFaultPlace, place_with_left}
 use Rattle.cf_reader.specs.Readers.{Reader}
+use Rattle.cf_program.specs.Checked.{TypedTree}
+use Rattle.cf_build.specs.Chooses.{all_chooses, by_number}
+use Rattle.cf_steps.specs.Blocks.{BlockTree}
+use Rattle.cf_steps.specs.Reading.{all_blocks}
+use Rattle.cf_steps.specs.Spelling.{AreBlocks}
+use Rattle.cf_cert.specs.Judging.{IsVerdict}
+use Rattle.cf_cert.specs.declared.verdict.Verdict.TheVariants.{Rejected}
+use Rattle.cf_cert.specs.declared.verdict.Why.{Why}
 use Rattle.cf_words.specs.Commands.{compile, run, pre, check, exec, prove, verify, gen}
 use Rattle.cf_words.specs.declared.command.Flags.{Flags}
 use Rattle.cf_answer.specs.Limits.{text_limit}
 use Rattle.cf_answer.specs.Refusals.{IsSyntaxPlace, Causes, too_long, odd_byte, large_number, no_tree, bad_tree}
-use Rattle.cf_answer.specs.Refusals.{IsRefusedSource, IsRefusedRun, IsRefusedTarget, IsBrokenSource, IsUnverified, bad_source, text_fault, Refuses, IsAccepted}
-use Rattle.cf_answer.specs.Sources.{HasTokens, Spelled}
+use Rattle.cf_answer.specs.Refusals.{IsRefusedSource, IsRefusedRun, IsRefusedTarget, IsRefusedSteps, IsBadTarget, untyped, IsBrokenSource}
+use Rattle.cf_answer.specs.Refusals.{IsUnverified, bad_source, bad_steps, bad_blocks, text_fault, Refuses, IsAccepted}
+use Rattle.cf_answer.specs.Certificates.{asked_in}
+use Rattle.cf_answer.specs.Sources.{HasTokens, Spelled, IsTypedSource}
 use Rattle.cf_answer.specs.declared.fault.Fault.{Fault}
 use Rattle.cf_answer.specs.declared.fault.Fault.TheVariants as fault
+use Rattle.cf_answer.specs.declared.fault.StepsFault.{StepsFault}
 use Rattle.cf_answer.specs.declared.fault.StepsFault.TheVariants as steps_fault
 
 -- ---- what a text spells
@@ -57,7 +71,7 @@ module _ (Is : ℕ → List Token → Type 0) (read : Reader ℕ) (Bad : ℕ →
   by-its_tree x f s b = bad_tree x f s b
 
 -- ---- and nothing else: what such a fault says where a tree is never bad
-module _ (Is : ℕ → List Token → Type 0) (read : Reader ℕ) (text : List ℕ) where
+module _ {Tree : Type 0} (Is : Tree → List Token → Type 0) (read : Reader Tree) (text : List ℕ) where
   abbrev OnlyText : Fault → Type 0
   OnlyText f = Causes Is read (λ x g. ⊥) text f
 
@@ -84,7 +98,7 @@ module _ (Is : ℕ → List Token → Type 0) (read : Reader ℕ) (text : List �
   number-told f p is (bad_tree x g s b) = absurd b
 
   syntax-told : (f : Fault) (p : Place) → f ≡ fault.Syntax p → OnlyText f →
-      (ts : List Token) × (end : Place) × HasTokens text ts end at_end × ((x : ℕ) → Is x ts → ⊥) × IsSyntaxPlace Is read ts end p
+      (ts : List Token) × (end : Place) × HasTokens text ts end at_end × ((x : Tree) → Is x ts → ⊥) × IsSyntaxPlace Is read ts end p
   syntax-told f p is (too_long l) = absurd (cc is)
   syntax-told f p is (odd_byte ts q h) = absurd (cc is)
   syntax-told f p is (large_number ts q h) = absurd (cc is)
@@ -142,9 +156,60 @@ steps-faults : (p : Place) → (text_fault steps_fault.TooLong ≡ fault.TextToo
     × (text_fault (steps_fault.NumberPast p) ≡ fault.NumberPast p) × (text_fault (steps_fault.Syntax p) ≡ fault.Syntax p)
 steps-faults p = (refl, refl, refl, refl)
 
--- a source is refused first, whatever the steps are
-source-first : (source steps : List ℕ) (f : Fault) → IsBrokenSource source f → IsUnverified source steps f
-source-first source steps f b = bad_source f b
+module _ (source steps : List ℕ) where
+  -- a source is refused first, whatever the steps are
+  source-first : (f : Fault) → IsBrokenSource source f → IsUnverified source steps f
+  source-first f b = bad_source f b
+
+  -- then the text of the steps is
+  long-steps : (typed : TypedTree) → IsTypedSource source typed → length steps ≡ 1048577 → IsUnverified source steps (fault.Steps steps_fault.TooLong)
+  unfolding text_limit
+  long-steps typed s e = bad_steps typed steps_fault.TooLong s (too_long (omega (arith, e)))
+
+  -- and then the first fault in the blocks for the chooses in the order of their numbers
+  first-in_blocks : (typed : TypedTree) (bs : List BlockTree) (n i j : ℕ) (w : Why) → IsTypedSource source typed → Spelled AreBlocks steps bs →
+      IsVerdict (by_number (all_chooses typed.defs)) bs (Rejected n i j w) → IsUnverified source steps (fault.Rejected n i j w)
+  first-in_blocks typed bs n i j w s b v = bad_blocks typed bs n i j w s b v
+
+  -- ---- and nothing else, where no rule of the source is broken
+  module _ (unbroken : (f : Fault) → IsBrokenSource source f → ⊥) where
+    steps-told : (f : Fault) (e : StepsFault) → f ≡ fault.Steps e → IsUnverified source steps f →
+        (typed : TypedTree) × IsTypedSource source typed × IsRefusedSteps steps e
+    steps-told f e is (bad_source g b) = absurd (unbroken g b)
+    steps-told f e is (bad_steps typed d s r) = let same : d ≡ e = cc is in (typed, s, rw (← same) r)
+    steps-told f e is (bad_blocks typed bs n i j w s b v) = absurd (cc is)
+
+    blocks-told : (f : Fault) (n i j : ℕ) (w : Why) → f ≡ fault.Rejected n i j w → IsUnverified source steps f →
+        (typed : TypedTree) × (bs : List BlockTree) × IsTypedSource source typed × Spelled AreBlocks steps bs × IsVerdict (asked_in typed) bs (Rejected n i j w)
+    blocks-told f n i j w is (bad_source g b) = absurd (unbroken g b)
+    blocks-told f n i j w is (bad_steps typed d s r) = absurd (cc is)
+    blocks-told f n i j w is (bad_blocks typed bs m k l y s b v) =
+        let first : m ≡ n = cc is in
+        let second : k ≡ i = cc is in
+        let third : l ≡ j = cc is in
+        let why : y ≡ w = cc is in (typed, bs, s, b, rw (← first, ← second, ← third, ← why) v)
+
+    no-other : (f : Fault) → f ≡ fault.TextTooLong → IsUnverified source steps f → ⊥
+    no-other f is (bad_source g b) = unbroken g b
+    no-other f is (bad_steps typed d s r) = cc is
+    no-other f is (bad_blocks typed bs m k l y s b v) = cc is
+
+-- steps that spell blocks are not refused for their text
+spelled-steps : (steps : List ℕ) (e : StepsFault) → text_fault e ≡ fault.TextTooLong → length steps ≡ 1048576 → IsRefusedSteps steps e → ⊥
+spelled-steps steps e is l r = within-the_limit AreBlocks (all_blocks 500) steps (text_fault e) is l r
+
+-- ---- a target is refused where its code is not of its results, and for that alone
+abbrev giving : CodeTree → TargetTree
+giving code = record { params = []; results = Int ∷ []; code = code }
+
+truth-for_a_number : IsBadTarget (giving (code_truth true)) fault.BadTarget
+truth-for_a_number = untyped (λ h. cc (h.0))
+
+number-given : (f : Fault) → IsBadTarget (giving (code_lit (pos 1))) f → ⊥
+number-given f (untyped n) = n (refl, refl)
+
+one-fault : (t : TargetTree) (f : Fault) → IsBadTarget t f → f ≡ fault.BadTarget
+one-fault t f (untyped n) = refl
 
 -- ---- for which fault each command is refused
 module _ (flags : Flags) (name other text more : List ℕ) (n : ℕ) (f : Fault) where

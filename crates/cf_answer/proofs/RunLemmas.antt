@@ -37,7 +37,7 @@ use Rattle.cf_answer.specs.declared.fault.Fault.{Fault}
 use Rattle.cf_answer.specs.declared.fault.Fault.TheVariants as fault
 use Rattle.cf_answer.proofs.CauseLemmas.{alike, unrefused}
 use Rattle.cf_answer.proofs.LateLemmas.{main_types}
-use Rattle.cf_answer.proofs.PassLemmas.{as_many}
+use Rattle.cf_answer.proofs.PassLemmas.{still_none}
 use Rattle.cf_answer.proofs.PickedLemmas.{replies_picked, values_fit}
 use Rattle.cf_answer.proofs.SourceLemmas.{bad_alike, built_never_bad, fails_so}
 use Rattle.cf_answer.proofs.TextLemmas.{caused_too}
@@ -72,10 +72,10 @@ runs_alike text f g h i = alike IsProgram (program_of 200) IsBadRun one_law text
 -- ---- a source that `run` answers is not refused
 
 -- a program of which a target is built
-built_run : (program : List RawDefTree) (typed : TypedTree) (passes : ℕ) (t : RawTarget) → checked program ≡ Ok typed →
-    IsBuilt typed.defs typed.main passes t → (f : Fault) → IsBadRun program f → ⊥
-built_run program typed passes t is built f (bad g b n) = built_never_bad program typed passes t is built g b
-built_run program typed passes t is built f (broken_late p e plain h) = cc
+built_run : (program : List RawDefTree) (typed : TypedTree) (given last : List Told) (t : RawTarget) → checked program ≡ Ok typed →
+    IsBuilt typed.defs typed.main given last t → (f : Fault) → IsBadRun program f → ⊥
+built_run program typed given last t is built f (bad g b n) = built_never_bad program typed given last t is built g b
+built_run program typed given last t is built f (broken_late p e plain h) = cc
 
 -- a late program
 pub late_run_kept : (program : List RawDefTree) (typed : TypedTree) → IsCheckedLate program typed → (f : Fault) → IsBadRun program f → ⊥
@@ -85,18 +85,17 @@ late_run_kept program typed c f (broken_late p e plain h) = let kept : checked_b
 pub run_unrefused : (calls : Bool) (source : List ℕ) (given last : List Told) (ls : List (List ℕ)) (text : List ℕ) (f : Fault) →
     OwesRun calls source given last ls text → IsRefusedRun source f → ⊥
 run_unrefused calls source given last ls text f (compiled t (c, turned) replies picked) r =
-    unrefused IsProgram (program_of 200) IsBadRun one_law source f c.1.0 (built_run c.1.0 c.0 (applied calls last) t c.1.2 c.2) r c.1.1
+    unrefused IsProgram (program_of 200) IsBadRun one_law source f c.1.0 (built_run c.1.0 c.0 (applied calls given) (applied calls last) t c.1.2 c.2) r c.1.1
 run_unrefused calls source given last ls text f (late typed s replies allowed same) r =
     unrefused IsProgram (program_of 200) IsBadRun one_law source f s.0 (late_run_kept s.0 typed s.2) r s.1
 
 -- ---- what answers the lines
 
 -- a target
-pub target_runs : (text : List ℕ) (typed : TypedTree) (passes : ℕ) (t : RawTarget) (given last : List Told) → passes ≡ length last →
-    HaveTurned given last → IsTypedSource text typed → IsBuilt typed.defs typed.main passes t → IsRunner true text given last (by_target t)
-target_runs text typed passes t given last many turned s built =
-    let by_all : IsBuilt typed.defs typed.main (length last) t = subst (λ n. IsBuilt typed.defs typed.main n t) many built in
-    λ ls replies r. compiled t ((typed, s, by_all), turned) r (replies_picked (length last) text t ls replies (typed, s, by_all) r)
+pub target_runs : (text : List ℕ) (typed : TypedTree) (t : RawTarget) (given last : List Told) → HaveTurned given last → IsTypedSource text typed →
+    IsBuilt typed.defs typed.main given last t → IsRunner true text given last (by_target t)
+target_runs text typed t given last turned s built =
+    λ ls replies r. compiled t ((typed, s, built), turned) r (replies_picked given last text t ls replies (typed, s, built) r)
 
 -- a late program
 runs_allowed : (program : List RawDefTree) (typed : TypedTree) → IsSpelledProgram program → checked_by Late program ≡ Ok typed → AreRunsAllowed typed
@@ -116,8 +115,8 @@ late_runs_on text program typed p calls given s numbers plain is =
 owes_unpassed : (source : List ℕ) (last given : List Told) (ls : List (List ℕ)) (text : List ℕ) → OwesRun true source [] last ls text →
     OwesRun false source given given ls text
 owes_unpassed source last given ls text (compiled t (c, turned) replies picked) =
-    let none : length last ≡ 0 = as_many [] last turned in
-    compiled t (subst (λ n. Compiles n source t) none c, refl) replies (subst (λ n. ArePicked n source ls text) none picked)
+    let none = still_none last turned in
+    compiled t (subst (λ ps. Compiles [] ps source t) none c, refl) replies (subst (λ ps. ArePicked (length ps) source ls text) none picked)
 owes_unpassed source last given ls text (late typed s replies allowed same) = late typed s replies allowed refl
 
 pub unpassed_verdict : (source : List ℕ) (last given : List Told) (r : Result DeclaredAnswerer Fault) →

@@ -9,6 +9,7 @@ use Rattle.cf_tree.specs.DefView.{RawDefTree}
 use Rattle.cf_tree.specs.declared.target.RawTarget.{RawTarget}
 use Rattle.cf_parse.specs.Programs.{IsProgram, program_of}
 use Rattle.cf_parse.proofs.Programs.{one_law}
+use Rattle.cf_pass.specs.Passes.{Told}
 use Rattle.cf_program.specs.Checked.{TypedTree, checked}
 use Rattle.cf_program.specs.CheckAnswers.{CheckFault}
 use Rattle.cf_program.specs.TypedProgram.{all_numbers}
@@ -79,12 +80,12 @@ pub typed_unrefused : (text : List ℕ) (typed : TypedTree) (f : Fault) → IsTy
 typed_unrefused text typed f s within h = unrefused IsProgram (program_of 200) IsBadProgram one_law text f s.0 (never_bad s.0 typed s.2 within) h s.1
 
 -- nor is one of which a target is built
-pub built_never_bad : (program : List RawDefTree) (typed : TypedTree) (passes : ℕ) (t : RawTarget) → checked program ≡ Ok typed →
-    IsBuilt typed.defs typed.main passes t → (f : Fault) → IsBadProgram program f → ⊥
-built_never_bad program typed passes t is built f b = never_bad program typed is (λ q m. (built.solved q m).within) f b
+pub built_never_bad : (program : List RawDefTree) (typed : TypedTree) (given last : List Told) (t : RawTarget) → checked program ≡ Ok typed →
+    IsBuilt typed.defs typed.main given last t → (f : Fault) → IsBadProgram program f → ⊥
+built_never_bad program typed given last t is built f b = never_bad program typed is (λ q m. (built.solved q m).within) f b
 
-pub compiled_unrefused : (passes : ℕ) (text : List ℕ) (t : RawTarget) (f : Fault) → Compiles passes text t → IsRefusedSource text f → ⊥
-compiled_unrefused passes text t f c h = typed_unrefused text c.0 f c.1 (λ q m. (c.2.solved q m).within) h
+pub compiled_unrefused : (given last : List Told) (text : List ℕ) (t : RawTarget) (f : Fault) → Compiles given last text t → IsRefusedSource text f → ⊥
+compiled_unrefused given last text t f c h = typed_unrefused text c.0 f c.1 (λ q m. (c.2.solved q m).within) h
 
 -- nor is one of whose chooses something is owed that says so
 abbrev IsWithin : ChooseTree → Type 0

@@ -1,5 +1,5 @@
 -- What `emit` writes of a target, and which programs have no form in a language.
-use Rattle.std.specs.Prelude.{◌≡◌, ℕ, Bool, true, false, List, nat_le, if◌then◌else◌}
+use Rattle.std.specs.Prelude.{◌≡◌, ℕ, Bool, true, false, List, [], nat_le, if◌then◌else◌}
 use Rattle.cf_num.specs.Limit.{limit}
 use Rattle.cf_tree.specs.declared.target.RawTarget.{RawTarget}
 use Rattle.cf_tree.specs.CodeView.{code_tree}
@@ -53,5 +53,5 @@ has_sets Rust = true
 pub record NeedsSets (language : Language) (typed : TypedTree) : Type 0 where
   pub without : has_sets language ≡ false
   pub target : RawTarget
-  pub built : IsBuilt typed.defs typed.main 0 target
+  pub built : IsBuilt typed.defs typed.main [] [] target
   pub set : has_a_set target ≡ true

@@ -1,4 +1,5 @@
 pub mod About
+pub mod Agreeing
 pub mod Certificates
 pub mod Checking
 pub mod Checks

@@ -48,15 +48,15 @@ AreReplies a ls text = AllReplied (IsReplyBy a) ls text
 abbrev pub ArePicked : ℕ → List ℕ → List (List ℕ) → List ℕ → Type 0
 ArePicked passes source ls text = (typed : TypedTree) × IsTypedSource source typed × AllReplied (IsSourceReply typed passes) ls text
 
--- the target is that of the source, rewritten by the passes, if they are called, and they were called so
+-- the target is that of the source, whose code is the one that the passes make, if they are called, and they were called so
 abbrev pub IsCompiledBy : Bool → List ℕ → List Told → List Told → RawTarget → Type 0
-IsCompiledBy calls source given last t = Compiles (applied calls last) source t × AreCalled calls given last
+IsCompiledBy calls source given last t = Compiles (applied calls given) (applied calls last) source t × AreCalled calls given last
 
 -- What `run` is to write on a source, with passes that told `given` before and tell `last`: the replies of the target that it is compiled to by the passes,
 -- if it calls them, which its program picks; or the replies of its late program, with no pass called.
 pub data OwesRun (calls : Bool) (source : List ℕ) (given last : List Told) (ls : List (List ℕ)) (text : List ℕ) : Type 0 where
-  compiled : (t : RawTarget) → IsCompiledBy calls source given last t → AreReplies (by_target t) ls text → ArePicked (applied calls last) source ls text →
-      OwesRun calls source given last ls text
+  compiled : (t : RawTarget) → IsCompiledBy calls source given last t → AreReplies (by_target t) ls text →
+      ArePicked (length (applied calls last)) source ls text → OwesRun calls source given last ls text
   late : (typed : TypedTree) → IsLateSource source typed → AreReplies (by_late typed) ls text → AreRunsAllowed typed → last ≡ given →
       OwesRun calls source given last ls text
 

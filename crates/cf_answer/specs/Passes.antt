@@ -1,5 +1,5 @@
 -- What becomes of the passes, and the lines of their tallies.
-use Rattle.std.specs.Prelude.{◌≡◌, ◌⊎◌, ℕ, Bool, true, false, List, [], ◌∷◌, length, flat_map, codes, decimal, if◌then◌else◌}
+use Rattle.std.specs.Prelude.{◌≡◌, ◌⊎◌, ℕ, Bool, true, false, List, [], ◌∷◌, flat_map, codes, decimal, if◌then◌else◌}
 use Rattle.std.specs.List.{concat}
 use Rattle.cf_pass.specs.Passes.{Told, HaveTurned}
 use Rattle.cf_words.specs.Commands.{Command}
@@ -15,9 +15,9 @@ abbrev pub ArePassed : Bool → List Told → List Told → Type 0
 ArePassed true given last = HaveTurned given last ⊎ (last ≡ given)
 ArePassed false given last = last ≡ given
 
--- how many passes rewrite what is compiled
-abbrev pub applied : Bool → List Told → ℕ
-applied calls passes = if calls then length passes else 0
+-- those that rewrite what is compiled
+abbrev pub applied : Bool → List Told → List Told
+applied calls passes = if calls then passes else []
 
 -- # name tally
 abbrev pub tally_text : List ℕ → ℕ → List ℕ

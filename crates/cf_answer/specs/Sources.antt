@@ -8,6 +8,7 @@ use Rattle.cf_tree.specs.declared.target.RawTarget.{RawTarget}
 use Rattle.cf_tree.specs.DefView.{RawDefTree, def_tree}
 use Rattle.cf_tree.specs.Typing.{IsTypedCode}
 use Rattle.cf_parse.specs.Programs.{IsProgram}
+use Rattle.cf_pass.specs.Passes.{Told}
 use Rattle.cf_target.specs.Spelling.{TargetTree, IsTarget}
 use Rattle.cf_program.specs.Checked.{TypedTree, checked, checked_by}
 use Rattle.cf_program.specs.declared.linearity.Linearity.TheVariants.{Late}
@@ -47,9 +48,9 @@ IsCheckedLate program typed = (p : Place) × (checked program ≡ Err (NotLinear
 abbrev pub IsLateSource : List ℕ → TypedTree → Type 0
 IsLateSource text typed = (program : List RawDefTree) × Spelled IsProgram text program × IsCheckedLate program typed
 
--- the text spells a program in which no rule is broken, and this target is built of it and rewritten by so many passes
-abbrev pub Compiles : ℕ → List ℕ → RawTarget → Type 0
-Compiles passes text t = (typed : TypedTree) × IsTypedSource text typed × IsBuilt typed.defs typed.main passes t
+-- the text spells a program in which no rule is broken, and this target is built of it, with the code that passes make that told `given` and tell `last`
+abbrev pub Compiles : List Told → List Told → List ℕ → RawTarget → Type 0
+Compiles given last text t = (typed : TypedTree) × IsTypedSource text typed × IsBuilt typed.defs typed.main given last t
 
 -- the whole code of the target asks for its results
 abbrev pub IsTypedTree : TargetTree → Type 0

@@ -1,4 +1,5 @@
-//! The laws of a workload.
+//! Laws of a workload, and of commands that agree.
+ghost use Rattle.cf_answer.specs.Agreeing.{CompiledIsRun, NeedsAreChecked, ProvedIsVerified};
 ghost use Rattle.cf_answer.specs.Workloads.{GenIsAccepted, SumsAreOfQuotients};
 
 /// The source of a workload is accepted: it spells a program in which no rule is broken, and no choose of
@@ -11,4 +12,21 @@ pub fn gen_is_accepted()
 /// and of what these leave.
 pub fn sums_are_of_quotients()
     ensures { SumsAreOfQuotients }
+{}
+
+/// What `prove` writes of a source is accepted by `verify` for it, unless it is longer than a text may be.
+pub fn proved_is_verified()
+    ensures { ProvedIsVerified }
+{}
+
+/// What `compile` prints of a source is a target that `exec` takes, unless it is longer than a text may be,
+/// and the replies of `exec` are such as `run` gives.
+pub fn compiled_is_run()
+    ensures { CompiledIsRun }
+{}
+
+/// The needs that `pre` writes hold everywhere, or nowhere at a sample, where `check` finds that outputs
+/// always exist, or do not exist there.
+pub fn needs_are_checked()
+    ensures { NeedsAreChecked }
 {}

@@ -39,7 +39,9 @@ pub use emit::write_emitted;
 pub use exec::run_target;
 pub use fault::{Fault, StepsFault};
 pub use generate::write_workload;
-pub use laws::{gen_is_accepted, sums_are_of_quotients};
+pub use laws::{
+    compiled_is_run, gen_is_accepted, needs_are_checked, proved_is_verified, sums_are_of_quotients,
+};
 pub use limits::{TEXT_LIMIT, longest_text};
 pub use pre::write_preconditions;
 pub use prove::write_blocks;

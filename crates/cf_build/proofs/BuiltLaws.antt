@@ -273,12 +273,12 @@ module _ (ds : List Def) (main : ℕ) (t : IsTypedProgram (map def_tree ds) main
 
     pub main_built : (d : DefTree) → slice_get (map def_tree ds) main ≡ Some d → (raw : RawTarget) → raw.params.items ≡ bases_of d.params →
         raw.results.items ≡ d.results → code_tree raw.code ≡ called codes main → HasLevels (called codes main) →
-        IsBuilt (map def_tree ds) main 0 raw
+        IsBuilt (map def_tree ds) main [] [] raw
     main_built d e raw ps rs c l =
         let takes = known.takes main d e in
         record {
           like_main = (d, e, ps, rs);
-          unfolded = λ _. c ∙ is_unfolded;
+          made = c ∙ is_unfolded;
           rewritten = subst (λ k. Improves (length raw.params.items) (unfolded_code (map def_tree ds) main) k) (sym (c ∙ is_unfolded))
               (improves_self (length raw.params.items) (unfolded_code (map def_tree ds) main));
           typed =
@@ -307,7 +307,7 @@ module _ (ds : List Def) (main : ℕ) (t : IsTypedProgram (map def_tree ds) main
     (is : code_tree c ≡ called (codes_behind (solved_in ss) [] (map def_tree ds)) main) (l : HasLevels (code_tree c)) (d : Def)
     (there : d ≡ get_or ds main d) where
   pub target_built : (raw : RawTarget) → (raw.params.items ≡ bases_of d.params.items) × (raw.results.items ≡ d.results.items) ×
-      (code_tree raw.code ≡ code_tree c) → IsBuilt (map def_tree ds) main 0 raw
+      (code_tree raw.code ≡ code_tree c) → IsBuilt (map def_tree ds) main [] [] raw
   target_built raw r =
       main_built ds main t p ss s (codes_behind (solved_in ss) [] (map def_tree ds)) refl (def_tree d) (def_at ds main d (main_below ds main t) there) raw
       r.0 r.1 (r.2 ∙ is) (subst (λ k. HasLevels k) is l)

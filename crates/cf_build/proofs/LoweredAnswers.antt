@@ -7,6 +7,7 @@ use Rattle.cf_tree.specs.DefView.{DefTree}
 use Rattle.cf_tree.specs.Meaning.{means}
 use Rattle.cf_tree.specs.Values.{Value, Outcome, HaveBases}
 use Rattle.cf_pass.specs.Improves.{Improves}
+use Rattle.cf_pass.specs.Passes.{Told, AreMade}
 use Rattle.cf_program.specs.Lowered.{lowered_def}
 use Rattle.cf_tree.specs.Params.{bases_of}
 use Rattle.cf_match.specs.Laws.{AllowTheSame}
@@ -55,9 +56,9 @@ allowed_kept : (ds : List DefTree) (main : ℕ) → AllowTheSame ds (map lowered
     SourceAllows ds main env o
 allowed_kept ds main keeps d at bs env o same h a = (keeps main d at env (subst (λ cs. HaveBases cs env) same h) o).1 a
 
-built_kept : (ds : List DefTree) (main passes : ℕ) (t : RawTarget) → AllowTheSame ds (map lowered_def ds) →
-    IsBuilt (map lowered_def ds) main passes t → IsBuilt ds main passes t
-built_kept ds main passes t keeps b =
+built_kept : (ds : List DefTree) (main : ℕ) (given last : List Told) (t : RawTarget) → AllowTheSame ds (map lowered_def ds) →
+    IsBuilt (map lowered_def ds) main given last t → IsBuilt ds main given last t
+built_kept ds main given last t keeps b =
     let d = at_place ds main b.like_main.0 b.like_main.1 in
     let same : lowered_def d.0 ≡ b.like_main.0 = d.2 in record {
       like_main = (
@@ -66,23 +67,23 @@ built_kept ds main passes t keeps b =
         subst (λ e. t.params.items ≡ bases_of e.params) (sym same) b.like_main.2,
         subst (λ e. t.results.items ≡ e.results) (sym same) b.like_main.3,
       );
-      unfolded = λ none. b.unfolded none ∙ same_code ds main;
+      made = subst (λ c. AreMade (length t.params.items) given last c (code_tree t.code)) (same_code ds main) b.made;
       rewritten = subst (λ c. Improves (length t.params.items) c (code_tree t.code)) (same_code ds main) b.rewritten;
       typed = b.typed;
       spelled = b.spelled;
       solved = λ q c. b.solved q (subst (λ qs. Contains qs q) (sym (same_chooses ds)) c);
       allowed = λ env h. allowed_kept ds main keeps d.0 d.1 t.params.items env (means (code_tree t.code) env)
           (subst (λ e. t.params.items ≡ bases_of e.params) (sym same) b.like_main.2) h (b.allowed env h);
-      runs = λ env h small. runs_kept ds main passes t env (b.runs env h small);
+      runs = λ env h small. runs_kept ds main (length last) t env (b.runs env h small);
     }
 
-answers_kept : (defs : List DefTree) (main passes : ℕ) (answer : Result RawTarget BuildFault) → AllowTheSame defs (map lowered_def defs) →
-    BuildAnswer (map lowered_def defs) main passes answer → BuildAnswer defs main passes answer
-answers_kept ds main passes (Ok t) keeps b = built_kept ds main passes t keeps b
-answers_kept ds main passes (Err fault) keeps f = subst (λ qs. FaultAnswer qs fault) (same_chooses ds) f
+answers_kept : (defs : List DefTree) (main : ℕ) (given last : List Told) (answer : Result RawTarget BuildFault) → AllowTheSame defs (map lowered_def defs) →
+    BuildAnswer (map lowered_def defs) main given last answer → BuildAnswer defs main given last answer
+answers_kept ds main given last (Ok t) keeps b = built_kept ds main given last t keeps b
+answers_kept ds main given last (Err fault) keeps f = subst (λ qs. FaultAnswer qs fault) (same_chooses ds) f
 
-pub answer_kept : (defs low : List DefTree) (main n passes : ℕ) (answer : Result RawTarget BuildFault) → low ≡ map lowered_def defs → n ≡ main →
-    AllowTheSame defs low → BuildAnswer low n passes answer → BuildAnswer defs main passes answer
-answer_kept defs low main n passes answer d m keeps b =
-    answers_kept defs main passes answer (subst (λ ds. AllowTheSame defs ds) d keeps)
-    (subst (λ k. BuildAnswer (map lowered_def defs) k passes answer) m (subst (λ ds. BuildAnswer ds n passes answer) d b))
+pub answer_kept : (defs low : List DefTree) (main n : ℕ) (given last : List Told) (answer : Result RawTarget BuildFault) → low ≡ map lowered_def defs → n ≡ main →
+    AllowTheSame defs low → BuildAnswer low n given last answer → BuildAnswer defs main given last answer
+answer_kept defs low main n given last answer d m keeps b =
+    answers_kept defs main given last answer (subst (λ ds. AllowTheSame defs ds) d keeps)
+    (subst (λ k. BuildAnswer (map lowered_def defs) k given last answer) m (subst (λ ds. BuildAnswer ds n given last answer) d b))

@@ -11,6 +11,7 @@ use Rattle.cf_tree.specs.Spelled.{HasSpelling}
 use Rattle.cf_tree.specs.Typing.{IsWellTyped}
 use Rattle.cf_tree.specs.Values.{Value, Outcome, HaveBases}
 use Rattle.cf_pass.specs.Improves.{Improves}
+use Rattle.cf_pass.specs.Passes.{Told, AreMade}
 use Rattle.cf_program.specs.Lowered.{lowered_def}
 use Rattle.cf_tree.specs.Params.{bases_of}
 use Rattle.cf_growth.specs.Meeting.{AreSmall}
@@ -29,21 +30,21 @@ SourceAllows defs f = ProgramAllows (map (λ d. d.body) defs) f
 abbrev pub unfolded_code : List DefTree → ℕ → CodeTree
 unfolded_code defs main = called (codes_behind solve_of [] (map lowered_def defs)) main
 
--- a target with main's parameters and results, whose code is main's unfolded code, rewritten by so many passes: it is that code where there are none,
--- and else may take its place, so that it means the same in each environment and meets no greater number, and is no larger and no deeper; it is well
--- typed and has a spelling; each choose of the program is within the limits, and its arms solve it; in each environment the target has an outcome that
--- the source allows, and it runs as the source picks
-pub record IsBuilt (defs : List DefTree) (main passes : ℕ) (t : RawTarget) : Type 0 where
+-- a target with main's parameters and results, whose code is what passes that told `given` and tell `last` have made of main's unfolded code: it is that
+-- code where there are none, and may always take its place, so that it means the same in each environment and meets no greater number, and is no larger
+-- and no deeper; it is well typed and has a spelling; each choose of the program is within the limits, and its arms solve it; in each environment the
+-- target has an outcome that the source allows, and it runs as the source picks
+pub record IsBuilt (defs : List DefTree) (main : ℕ) (given last : List Told) (t : RawTarget) : Type 0 where
   pub like_main : (d : DefTree) × (slice_get defs main ≡ Some d) × (t.params.items ≡ bases_of d.params) × (t.results.items ≡ d.results)
-  pub unfolded : passes ≡ 0 → code_tree t.code ≡ unfolded_code defs main
+  pub made : AreMade (length t.params.items) given last (unfolded_code defs main) (code_tree t.code)
   pub rewritten : Improves (length t.params.items) (unfolded_code defs main) (code_tree t.code)
   pub typed : IsWellTyped t
   pub spelled : HasSpelling t
   pub solved : (q : ChooseTree) → Contains (all_chooses defs) q → IsSolveOf q (solve_of q)
   pub allowed : (env : List Value) → HaveBases t.params.items env → SourceAllows defs main env (means (code_tree t.code) env)
-  pub runs : (env : List Value) → HaveBases t.params.items env → AreSmall limit env → RunsAsPicked defs main passes (code_tree t.code) env
+  pub runs : (env : List Value) → HaveBases t.params.items env → AreSmall limit env → RunsAsPicked defs main (length last) (code_tree t.code) env
 
--- the target of a program, rewritten by so many passes, or its first choose that is refused, or want of memory
-abbrev pub BuildAnswer : List DefTree → ℕ → ℕ → Result RawTarget BuildFault → Type 0
-BuildAnswer defs main passes (Ok t) = IsBuilt defs main passes t
-BuildAnswer defs main passes (Err fault) = FaultAnswer (all_chooses defs) fault
+-- the target of a program, rewritten by passes that told `given` and tell `last`, or its first choose that is refused, or want of memory
+abbrev pub BuildAnswer : List DefTree → ℕ → List Told → List Told → Result RawTarget BuildFault → Type 0
+BuildAnswer defs main given last (Ok t) = IsBuilt defs main given last t
+BuildAnswer defs main given last (Err fault) = FaultAnswer (all_chooses defs) fault

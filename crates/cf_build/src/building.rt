@@ -1,5 +1,5 @@
 //! Building a target.
-ghost use Rattle.std.specs.Prelude.{◌≡◌, IfOk, OnOk, OnErr, map, length, All};
+ghost use Rattle.std.specs.Prelude.{◌≡◌, IfOk, OnOk, OnErr, map, All, []};
 ghost use Rattle.std.specs.List.Sorted.{IsStrictlyIncreasing};
 ghost use Rattle.cf_tree.specs.CodeView.{code_tree};
 ghost use Rattle.cf_tree.specs.DefView.{def_tree};
@@ -34,7 +34,7 @@ pub fn build(
     typed: &Typed,
     passes: &mut Vec<Box<dyn Pass>>,
 ) -> Result<Target, BuildFault>
-    ensures answer { BuildAnswer (map def_tree typed.now.defs.items) typed.now.main (length passes.old.items) result }
+    ensures answer { BuildAnswer (map def_tree typed.now.defs.items) typed.now.main (map (λ p. told p) passes.old.items) (map (λ p. told p) passes.new.items) result }
     ensures turned { OnOk result (HaveTurned (map (λ p. told p) passes.old.items) (map (λ p. told p) passes.new.items)) }
     ensures kept { OnErr result (map (λ p. told p) passes.new.items ≡ map (λ p. told p) passes.old.items) }
 {
@@ -49,7 +49,7 @@ fn build_lowered(
     passes: &mut Vec<Box<dyn Pass>>,
 ) -> Result<Target, BuildFault>
     requires no_match { All (λ d. HasNoMatch (expr_tree d.body)) typed.now.defs.items }
-    ensures answer { BuildAnswer (map def_tree typed.now.defs.items) typed.now.main (length passes.old.items) result }
+    ensures answer { BuildAnswer (map def_tree typed.now.defs.items) typed.now.main (map (λ p. told p) passes.old.items) (map (λ p. told p) passes.new.items) result }
     ensures turned { OnOk result (HaveTurned (map (λ p. told p) passes.old.items) (map (λ p. told p) passes.new.items)) }
     ensures kept { OnErr result (map (λ p. told p) passes.new.items ≡ map (λ p. told p) passes.old.items) }
 {
@@ -67,7 +67,7 @@ fn unfolded(
     requires no_match { All (λ d. HasNoMatch (expr_tree d.body)) typed.now.defs.items }
     requires solved { AreSolved (by_number (all_chooses (map def_tree typed.now.defs.items))) solves.items }
     requires rising { IsStrictlyIncreasing (map (λ s. s.choose.number) solves.items) }
-    ensures { IfOk result (IsBuilt (map def_tree typed.now.defs.items) typed.now.main 0) }
+    ensures { IfOk result (IsBuilt (map def_tree typed.now.defs.items) typed.now.main [] []) }
 {
     let codes = choose_codes(alloc, solves)?;
     let main = typed.main();

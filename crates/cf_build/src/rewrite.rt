@@ -1,10 +1,10 @@
 //! Rewriting a target by passes.
-ghost use Rattle.std.specs.Prelude.{◌≡◌, ◌≤◌, ◌+◌, IfOk, OnOk, OnErr, map, length};
+ghost use Rattle.std.specs.Prelude.{◌≡◌, ◌≤◌, ◌+◌, IfOk, OnOk, OnErr, map};
 ghost use Rattle.cf_tree.specs.CodeView.{code_tree};
 ghost use Rattle.cf_tree.specs.RelSize.{capped};
 ghost use Rattle.cf_tree.specs.Typing.{IsWellTyped};
 ghost use Rattle.cf_pass.specs.Improves.{Improves, IsTypedBehind};
-ghost use Rattle.cf_pass.specs.Passes.{HaveTurned};
+ghost use Rattle.cf_pass.specs.Passes.{HaveTurned, IsMade, AreMade};
 ghost use Rattle.cf_build.specs.Rewritten.{IsRewritten};
 
 use cf_pass::Pass;
@@ -22,7 +22,7 @@ pub(crate) fn rewritten(
     passes: &mut Vec<Box<dyn Pass>>,
 ) -> Result<Target, NoMemory>
     requires { IsWellTyped raw }
-    ensures target { IfOk result (IsRewritten (length passes.old.items) raw) }
+    ensures target { IfOk result (IsRewritten (map (λ p. told p) passes.old.items) (map (λ p. told p) passes.new.items) raw) }
     ensures turned { OnOk result (HaveTurned (map (λ p. told p) passes.old.items) (map (λ p. told p) passes.new.items)) }
     ensures kept { OnErr result (map (λ p. told p) passes.new.items ≡ map (λ p. told p) passes.old.items) }
 {
@@ -36,7 +36,7 @@ pub(crate) fn rewritten(
 // Has each pass rewrite the code once, in order.
 fn rewrite_by_each(alloc: Global, outside: u32, code: &mut Code, passes: &mut Vec<Box<dyn Pass>>)
     requires { IsTypedBehind outside (code_tree code.old) }
-    ensures untouched { length passes.old.items ≡ 0 → code_tree code.new ≡ code_tree code.old }
+    ensures made { AreMade outside (map (λ p. told p) passes.old.items) (map (λ p. told p) passes.new.items) (code_tree code.old) (code_tree code.new) }
     ensures code { Improves outside (code_tree code.old) (code_tree code.new) }
     ensures turned { HaveTurned (map (λ p. told p) passes.old.items) (map (λ p. told p) passes.new.items) }
 {
@@ -48,7 +48,7 @@ fn rewrite_by_each(alloc: Global, outside: u32, code: &mut Code, passes: &mut Ve
 // Has the pass rewrite the code. What it did before memory ran out stands.
 fn rewrite_once(alloc: Global, outside: u32, code: &mut Code, pass: &mut Box<dyn Pass>)
     requires { IsTypedBehind outside (code_tree code.old) }
-    ensures code { Improves outside (code_tree code.old) (code_tree code.new) }
+    ensures code { IsMade outside (told pass.old) (told pass.new) (code_tree code.old) (code_tree code.new) }
     ensures name { (told pass.new).name ≡ (told pass.old).name }
     ensures tally { (told pass.old).tally ≤ (told pass.new).tally }
     ensures turns { (told pass.new).turns ≡ capped ((told pass.old).turns + 1) }

@@ -25,18 +25,18 @@ use Rattle.cf_linear.proofs.SideLemmas.{positive_so, negative_so}
 use Rattle.cf_bounds.specs.Sides.{is_great}
 use Rattle.cf_elim.specs.declared.fault.ElimFault.{ElimFault}
 use Rattle.cf_elim.specs.declared.fault.ElimFault.TheVariants.{Refused as ElimRefused, NoMemory as ElimNoMemory}
-use Rattle.cf_elim.specs.Stages.{CountIs, CountsAre, count_refusal, IsReady, made_answer}
+use Rattle.cf_elim.specs.Stages.{CountIs, MayLackAt, IsReady, made_answer}
 use Rattle.cf_elim.specs.Bounds.{DropRefused, DropIs}
-use Rattle.cf_elim.proofs.NextStageLaws.{counts_refuse}
 use Rattle.cf_elim.specs.declared.act.Act.{Act}
 use Rattle.cf_elim.specs.declared.act.Act.TheVariants.{Clean, Mix, Last, Search as SearchAct, Drop}
 use Rattle.cf_cert.specs.declared.next.ApplyFault.{ApplyFault}
+use Rattle.cf_cert.specs.declared.next.ApplyFault.TheVariants.{Rejected, NoMemory}
 use Rattle.cf_cert.specs.declared.next.Next.{Next}
 use Rattle.cf_cert.specs.declared.verdict.Why.{Why}
 use Rattle.cf_cert.specs.declared.verdict.Why.TheVariants.{Unknown, Factor, Held, Exact, Refused}
 use Rattle.cf_cert.specs.Applying.{Applied, rejected_if, refused_by, is_held, has_inexact, determinant, determinant_passes, last_of, last_at, mix_kept, mix_applied}
 use Rattle.cf_cert.specs.Applying.{on_unheld, clean_applied, search_kept, search_applied, drop_applied, apply}
-use Rattle.cf_cert.specs.Stepping.{MayLackMemory, ApplyIs, fault_of, unheld_fault, times_great, DeterminantIs, with_first, IsFront}
+use Rattle.cf_cert.specs.Stepping.{MayLackMemory, ApplyIs, CleanIs, StepMayLack, StepIs, fault_of, unheld_fault, times_great, DeterminantIs, with_first, IsFront}
 use Rattle.cf_cert.proofs.ApplyLaws.{column_in, free_from, ready_after}
 use Rattle.cf_cert.proofs.LastLaws.{formed_front}
 
@@ -53,20 +53,20 @@ pub kept_lacks : (b : Bool) (a : Answer) → MayLackMemory (rejected_if b (Refus
 kept_lacks true a = tt
 kept_lacks false a = tt
 
--- and before what is left is counted
-pub counted_lacks : (m : System) (a : Applied) → MayLackMemory a → MayLackMemory (refused_by (first_count limits m) a)
-counted_lacks m a h = on_bool (nat_lt limits.rows (rows_of m))
-    (λ r. rw r tt)
-    (λ r. on_bool (nat_lt limits.columns (columns_of m)) (λ c. rw (r, c) tt) (λ c. rw (r, c) h))
-
-pub clean_lacks : (m : System) → MayLackMemory (clean_applied limits m)
-clean_lacks m = counted_lacks (clean m).system (Ok (clean m)) tt
+-- and behind counts that are within their limits
+pub counted_lacks : (o : Option Refusal) (a : Applied) → MayLackAt o → MayLackMemory a → MayLackMemory (refused_by o a)
+counted_lacks None a l h = h
+counted_lacks (Some (Limit kind n)) a l h = l
+counted_lacks (Some Past) a l h = absurd l
 
 -- a count past its limit, or want of memory
-pub count_rejects : (m : System) (a : Applied) (e : ElimFault) → MayLackMemory a → CountIs (first_count limits m) (Err e) →
-    ApplyIs (refused_by (first_count limits m) a) (Err (fault_of e))
-count_rejects m a (ElimRefused r) k h = ap (λ x. refused_by x a) h
-count_rejects m a ElimNoMemory k h = counted_lacks m a k
+pub count_rejects : (o : Option Refusal) (a : Applied) (e : ElimFault) → MayLackMemory a → CountIs o (Err e) → ApplyIs (refused_by o a) (Err (fault_of e))
+count_rejects o a (ElimRefused r) k h = ap (λ x. refused_by x a) h
+count_rejects o a ElimNoMemory k h = counted_lacks o a h k
+
+pub clean_rejects : (o : Option Refusal) (a : Applied) (e : ElimFault) → CountIs o (Err e) → CleanIs (refused_by o a) (Err (fault_of e))
+clean_rejects o a (ElimRefused r) h = ap (λ x. refused_by x a) h
+clean_rejects o a ElimNoMemory h = tt
 
 pub counted_on : (o : Option Refusal) (a b : Answer) → o ≡ None → a ≡ b → refused_by o (Ok a) ≡ Ok b
 counted_on o a b e f = ap (λ x. refused_by x (Ok a)) e ∙ ap Ok f
@@ -145,17 +145,14 @@ module _ (a b c d : ℤ) where
       any_third (passes (a *ℤ d)) (passes (b *ℤ c)) _ (passes_none (determinant a b c d) (rw (f.0, g.0) at e))
 
 -- ---- the end of an equation
-pub end_counts : (m : System) (e : Row) (rest : List Row) (u rows columns : ℕ) (f : ElimFault) → CountsAre (last m e rest u).system rows columns →
-    CountIs (count_refusal limits rows columns) (Err f) → ApplyIs (last_of limits m e rest (u ∷ [])) (Err (fault_of f))
-end_counts m e rest u rows columns f c h =
-    count_rejects (last m e rest u).system _ f (kept_lacks (last_passes m e rest u) (last m e rest u))
-    (subst (λ o. CountIs o (Err f)) (counts_refuse (last m e rest u).system rows columns c) h)
+pub end_counts : (m : System) (e : Row) (rest : List Row) (u : ℕ) (f : ElimFault) → CountIs (first_count limits (last m e rest u).system) (Err f) →
+    ApplyIs (last_of limits m e rest (u ∷ [])) (Err (fault_of f))
+end_counts m e rest u f h =
+    count_rejects (first_count limits (last m e rest u).system) _ f (kept_lacks (last_passes m e rest u) (last m e rest u)) h
 
-module _ (m : System) (u rows columns : ℕ) (p : first_present m ≡ u ∷ []) (c : CountsAre (last m (first_of m) (rest_of m) u).system rows columns)
-    (h : count_refusal limits rows columns ≡ None) where
+module _ (m : System) (u : ℕ) (p : first_present m ≡ u ∷ []) (f : first_count limits (last m (first_of m) (rest_of m) u).system ≡ None) where
   pub end_past : equation_passes m (first_present m) ≡ true → last_of limits m (first_of m) (rest_of m) (u ∷ []) ≡ Err (Refused Past)
   end_past e =
-      let f : first_count limits (last m (first_of m) (rest_of m) u).system ≡ None = sym (counts_refuse _ rows columns c) ∙ h in
       let g : last_passes m (first_of m) (rest_of m) u ≡ true = subst (λ us. equation_passes m us ≡ true) p e in
       ap (λ o. refused_by o (rejected_if (last_passes m (first_of m) (rest_of m) u) (Refused Past) (Ok (last m (first_of m) (rest_of m) u)))) f ∙
       rejects (last_passes m (first_of m) (rest_of m) u) (Refused Past) _ g
@@ -163,20 +160,15 @@ module _ (m : System) (u rows columns : ℕ) (p : first_present m ≡ u ∷ []) 
   pub end_on : (a : Answer) → equation_passes m (first_present m) ≡ false → equation_answer m (first_present m) ≡ a →
       last_of limits m (first_of m) (rest_of m) (u ∷ []) ≡ Ok a
   end_on a e q =
-      let f : first_count limits (last m (first_of m) (rest_of m) u).system ≡ None = sym (counts_refuse _ rows columns c) ∙ h in
       let g : last_passes m (first_of m) (rest_of m) u ≡ false = subst (λ us. equation_passes m us ≡ false) p e in
       let k : last m (first_of m) (rest_of m) u ≡ a = subst (λ us. equation_answer m us ≡ a) p q in
       ap (λ o. refused_by o (rejected_if (last_passes m (first_of m) (rest_of m) u) (Refused Past) (Ok (last m (first_of m) (rest_of m) u)))) f ∙
       kept_on (last_passes m (first_of m) (rest_of m) u) (Refused Past) _ a g k
 
-pub last_of_lacks : (m : System) (e : Row) (rest : List Row) (us : List ℕ) → MayLackMemory (last_of limits m e rest us)
-last_of_lacks m e rest [] = tt
-last_of_lacks m e rest (u ∷ []) = counted_lacks (last m e rest u).system _ (kept_lacks (last_passes m e rest u) (last m e rest u))
-last_of_lacks m e rest (u ∷ w ∷ us) = tt
-
-pub last_lacks : (m : System) (i : ℕ) (o : Option Row) → MayLackMemory (last_at limits m i o)
-last_lacks m i None = tt
-last_lacks m i (Some e) = last_of_lacks m e (take i m.equations ++ drop (suc i) m.equations) (present m.unknown e)
+  pub end_lacks : MayLackMemory (last_of limits m (first_of m) (rest_of m) (u ∷ []))
+  end_lacks =
+      counted_lacks (first_count limits (last m (first_of m) (rest_of m) u).system) _ (subst MayLackAt (sym f) tt)
+      (kept_lacks (last_passes m (first_of m) (rest_of m) u) (last m (first_of m) (rest_of m) u))
 
 -- the equation first, and where it stood
 last_same : (m : System) (i : ℕ) (e : Row) (rest : List Row) (u : ℕ) → last (with_first m i e) e rest u ≡ last m e rest u
@@ -353,7 +345,7 @@ module _ (m : System) (x : ℕ) (h : IsUnheld m x) where
       let kept : Applied = rejected_if (drop_passes m x) (Refused Past) (Ok (dropped m x)) in
       let counted : Applied = refused_by (first_count limits (dropped m x).system) kept in
       let is : drop_applied limits m x ≡ counted = unheld_on m x _ h ∙ keeps (has_inexact m.inequalities x) Exact counted e in
-      subst MayLackMemory (sym is) (counted_lacks (dropped m x).system kept (kept_lacks (drop_passes m x) (dropped m x)))
+      subst MayLackMemory (sym is) (counted_lacks (first_count limits (dropped m x).system) kept d (kept_lacks (drop_passes m x) (dropped m x)))
 
   pub drop_on : (a : Answer) → has_inexact m.inequalities x ≡ false → first_count limits (dropped m x).system ≡ None → drop_passes m x ≡ false →
       dropped m x ≡ a → drop_applied limits m x ≡ Ok a
@@ -383,7 +375,24 @@ pub apply_drop : (n : ℕ) (m : System) (x : ℕ) → apply limits n m (Drop x) 
 unfolding apply
 apply_drop n m x = refl
 
-pub stays_ready : (n : ℕ) (m : System) (act : Act) (r : Result Next ApplyFault) → IsReady m → ApplyIs (apply limits n m act) r →
+pub clean_is : (a : Applied) (r : Result Next ApplyFault) → CleanIs a r → StepIs Clean a r
+clean_is a (Ok n) h = h
+clean_is a (Err (Rejected w)) h = h
+clean_is a (Err NoMemory) h = tt
+
+pub step_is : (act : Act) (a : Applied) (r : Result Next ApplyFault) → (MayLackMemory a → StepMayLack act a) → ApplyIs a r → StepIs act a r
+step_is act a (Ok n) lacks h = h
+step_is act a (Err (Rejected w)) lacks h = h
+step_is act a (Err NoMemory) lacks h = lacks h
+
+pub made_may_lack : (act : Act) (a : Answer) → StepMayLack act (Ok a)
+made_may_lack Clean a = tt
+made_may_lack (Mix x y k l m n) a = tt
+made_may_lack (Last e) a = tt
+made_may_lack (SearchAct x lower) a = tt
+made_may_lack (Drop x) a = tt
+
+pub stays_ready : (n : ℕ) (m : System) (act : Act) (r : Result Next ApplyFault) → IsReady m → StepIs act (apply limits n m act) r →
     IfOk r (λ x. IsReady (system_of x.system))
 stays_ready n m act (Ok x) i h = ready_after n m act (made_answer (system_of x.system) x.made) i h
 stays_ready n m act (Err e) i h = tt

@@ -1,8 +1,7 @@
 -- What the calls of a step answer.
-use Rattle.std.specs.Prelude.{◌≡◌, ℕ, ℤ, suc, unsigned_abs, ◌∷◌, ◌++◌, take, drop, slice_get, Bool, true, false, not}
+use Rattle.std.specs.Prelude.{◌≡◌, ◌≤◌, ◌^◌, ℕ, ℤ, suc, unsigned_abs, ◌∷◌, ◌++◌, take, drop, slice_get, Bool, true, false, not}
 use Rattle.std.specs.Prelude.{Option, Some, None, Result, Ok, Err, if◌then◌else◌}
 use Rattle.cf_num.specs.Limit.{IsWithin}
-use Rattle.cf_linear.specs.declared.refusal.LimitKind.TheVariants.{Rows, Columns}
 use Rattle.cf_linear.specs.declared.refusal.Refusal.TheVariants.{Past, Limit}
 use Rattle.cf_linear.specs.Rows.{Row, entry}
 use Rattle.cf_linear.specs.Systems.{System}
@@ -11,24 +10,25 @@ use Rattle.cf_linear.specs.Steps.{has_column}
 use Rattle.cf_linear.specs.Views.{system_of}
 use Rattle.cf_bounds.specs.Sides.{is_great}
 use Rattle.cf_elim.specs.Stages.{made_answer}
+use Rattle.cf_elim.specs.declared.act.Act.{Act}
+use Rattle.cf_elim.specs.declared.act.Act.TheVariants.{Clean, Mix, Last, Search as SearchAct, Drop}
 use Rattle.cf_elim.specs.declared.fault.ElimFault.{ElimFault}
 use Rattle.cf_elim.specs.declared.fault.ElimFault.TheVariants.{Refused as ElimRefused, NoMemory as ElimNoMemory}
 use Rattle.cf_cert.specs.declared.next.ApplyFault.{ApplyFault}
 use Rattle.cf_cert.specs.declared.next.ApplyFault.TheVariants.{Rejected, NoMemory}
 use Rattle.cf_cert.specs.declared.next.Next.{Next}
 use Rattle.cf_cert.specs.declared.verdict.Why.{Why}
-use Rattle.cf_cert.specs.declared.verdict.Why.TheVariants.{Unknown, Single, Held, Refused}
+use Rattle.cf_cert.specs.declared.verdict.Why.TheVariants.{Unknown, Held, Refused}
 use Rattle.cf_cert.specs.Applying.{Applied, is_held, determinant, determinant_passes}
 
--- a reason that shows only in what a step makes: an equation brought to the front, the rows and columns that are left, the numbers in them
+-- a reason that shows only in what a step makes, the numbers in its rows; or a count that has more than 64 bits
 abbrev pub IsFoundLate : Why → Type 0
-IsFoundLate Single = Unit {0}
 IsFoundLate (Refused Past) = Unit {0}
-IsFoundLate (Refused (Limit Rows n)) = Unit {0}
-IsFoundLate (Refused (Limit Columns n)) = Unit {0}
+IsFoundLate (Refused (Limit kind n)) = 2 ^ 64 ≤ n
 IsFoundLate w = ⊥
 
--- nothing that is looked at before memory is asked for rejects the step: names, equations that hold an unknown, pairs of bounds, tuples of a search
+-- nothing that is looked at before memory is asked for rejects the step: names, unknowns of an equation and equations that hold one, pairs of bounds,
+-- the rows and the columns that are left, tuples of a search
 abbrev pub MayLackMemory : Applied → Type 0
 MayLackMemory (Ok a) = Unit {0}
 MayLackMemory (Err w) = IsFoundLate w
@@ -38,6 +38,25 @@ abbrev pub ApplyIs : Applied → Result Next ApplyFault → Type 0
 ApplyIs a (Ok n) = a ≡ Ok (made_answer (system_of n.system) n.made)
 ApplyIs a (Err (Rejected w)) = a ≡ Err w
 ApplyIs a (Err NoMemory) = MayLackMemory a
+
+-- the same of a Clean, which makes its rows before they are counted
+abbrev pub CleanIs : Applied → Result Next ApplyFault → Type 0
+CleanIs a (Ok n) = a ≡ Ok (made_answer (system_of n.system) n.made)
+CleanIs a (Err (Rejected w)) = a ≡ Err w
+CleanIs a (Err NoMemory) = Unit {0}
+
+-- when a step may lack memory, and what each step answers
+abbrev pub StepMayLack : Act → Applied → Type 0
+StepMayLack Clean a = Unit {0}
+StepMayLack (Mix x y k l m n) a = MayLackMemory a
+StepMayLack (Last e) a = MayLackMemory a
+StepMayLack (SearchAct x lower) a = MayLackMemory a
+StepMayLack (Drop x) a = MayLackMemory a
+
+abbrev pub StepIs : Act → Applied → Result Next ApplyFault → Type 0
+StepIs act a (Ok n) = a ≡ Ok (made_answer (system_of n.system) n.made)
+StepIs act a (Err (Rejected w)) = a ≡ Err w
+StepIs act a (Err NoMemory) = StepMayLack act a
 
 -- the refusal of an elimination as that of a step
 abbrev pub fault_of : ElimFault → ApplyFault

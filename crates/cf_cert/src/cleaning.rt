@@ -5,7 +5,7 @@ ghost use Rattle.cf_linear.specs.Views.{system_of};
 ghost use Rattle.cf_bounds.specs.CleanAnswers.{cleaned};
 ghost use Rattle.cf_elim.specs.Stages.{IsReady};
 ghost use Rattle.cf_cert.specs.Applying.{clean_applied, refused_by};
-ghost use Rattle.cf_cert.specs.Stepping.{ApplyIs};
+ghost use Rattle.cf_cert.specs.Stepping.{CleanIs};
 ghost use Rattle.std.specs.Prelude.{Ok};
 
 use crate::next::{ApplyFault, Next, refusal_of};
@@ -17,7 +17,7 @@ use std::alloc::Global;
 // Rows without unknowns become needs, and the inequalities are tightened.
 pub(crate) fn clean_rows(alloc: Global, system: System) -> Result<Next, ApplyFault>
     requires { IsReady (system_of system) }
-    ensures { ApplyIs (clean_applied limits (system_of system)) result }
+    ensures { CleanIs (clean_applied limits (system_of system)) result }
 {
     match clean(alloc, system) {
         Ok(cleaned) => counted(alloc, cleaned),
@@ -27,7 +27,7 @@ pub(crate) fn clean_rows(alloc: Global, system: System) -> Result<Next, ApplyFau
 
 // What a Clean leaves, if its counts are within the limits.
 fn counted(alloc: Global, answer: Cleaned) -> Result<Next, ApplyFault>
-    ensures { ApplyIs (refused_by (first_count limits (system_of answer.system)) (Ok (cleaned answer))) result }
+    ensures { CleanIs (refused_by (first_count limits (system_of answer.system)) (Ok (cleaned answer))) result }
 {
     match within_counts(&answer.system) {
         Ok(()) => Ok(Next {

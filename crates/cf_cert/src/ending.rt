@@ -1,5 +1,5 @@
 //! The end of an equation that stands anywhere.
-ghost use Rattle.std.specs.Prelude.{◌≡◌, ◌<◌, ◌∷◌, [], length, slice_get, IfOk};
+ghost use Rattle.std.specs.Prelude.{◌≡◌, ◌<◌, ◌∷◌, [], length, slice_get};
 ghost use Rattle.cf_linear.specs.Stages.{limits};
 ghost use Rattle.cf_linear.specs.Views.{system_of};
 ghost use Rattle.cf_equation.specs.Equations.{first_of, rest_of, first_present};
@@ -9,10 +9,9 @@ ghost use Rattle.cf_cert.specs.Stepping.{ApplyIs, IsFront};
 
 use crate::next::{ApplyFault, Next, after_equation, refusal_of};
 use crate::verdict::Why;
-use cf_elim::{counts_after, within};
+use cf_elim::within_last;
 use cf_equation::{Present, first_unknowns, step_first};
 use cf_linear::{Refusal, Row, RowFault, System};
-use cf_tree::NoMemory;
 use std::alloc::Global;
 
 // The equation of that number is solved for its one unknown.
@@ -24,30 +23,35 @@ pub(crate) fn end_equation(alloc: Global, system: System, index: u32) -> Result<
         drop(system);
         return Err(ApplyFault::Rejected(Why::Single));
     }
-    match with_first(alloc, system, index as usize) {
-        Ok(front) => end_alone(alloc, front),
-        Err(_) => Err(ApplyFault::NoMemory),
-    }
+    end_alone(alloc, with_first(system, index as usize))
 }
 
 // The system with the equation of that number before the others.
-fn with_first(alloc: Global, system: System, index: usize) -> Result<System, NoMemory>
+fn with_first(system: System, index: usize) -> System
     requires { index < length system.equations.items }
-    ensures { IfOk result (λ s. IsFront (system_of system) index (system_of s)) }
+    ensures { IsFront (system_of system) index (system_of result) }
 {
-    let mut rest = system.equations;
-    let first = rest.remove(index);
-    let mut equations = Vec::new(alloc);
-    equations.push(first)?;
-    equations.append(&mut rest)?;
-    Ok(System {
+    let mut equations = system.equations;
+    let first = equations.remove(index);
+    put_first(&mut equations, first);
+    System {
         known: system.known,
         unknown: system.unknown,
         next: system.next,
         equations,
         inequalities: system.inequalities,
         needs: system.needs,
-    })
+    }
+}
+
+// Puts the row before the others, for which there is room.
+fn put_first(rows: &mut Vec<Row>, row: Row)
+    requires { vec_len rows.old < vec_capacity rows.old }
+    ensures { rows.new.items ≡ row ∷ rows.old.items }
+{
+    match rows.insert(0, row) {
+        Ok(()) | Err(_) => {}
+    }
 }
 
 // The first equation is solved, if it has one unknown.
@@ -70,14 +74,7 @@ fn end_counted(alloc: Global, system: System, u: u32) -> Result<Next, ApplyFault
     requires one { first_present (system_of system) ≡ u ∷ [] }
     ensures { ApplyIs (last_of limits (system_of system) (first_of (system_of system)) (rest_of (system_of system)) (u ∷ [])) result }
 {
-    let counts = match counts_after(&system, u) {
-        Some(counts) => counts,
-        None => {
-            drop(system);
-            return Err(ApplyFault::NoMemory);
-        }
-    };
-    match within(counts.rows, counts.columns) {
+    match within_last(&system, u) {
         Ok(()) => {}
         Err(fault) => {
             drop(system);

@@ -1,5 +1,5 @@
 -- A Bound step as the code takes it.
-use Rattle.std.proofs.Common.{◌≡◌, ℕ, suc, ◌+◌, ◌-◌, ◌*◌, ◌^◌, ◌<◌, ◌≤◌, List, [], ◌∷◌, ◌++◌, length, map, Bool, true, false, None, Result, Ok, Err, refl, sym, ◌∙◌, ap, arith, subst, inl, inr, ⊎_elim}
+use Rattle.std.proofs.Common.{◌≡◌, ℕ, suc, ◌+◌, ◌-◌, ◌*◌, ◌^◌, ◌<◌, ◌≤◌, List, [], ◌∷◌, ◌++◌, length, map, Bool, true, false, Option, Some, None, Result, Ok, Err, refl, sym, ◌∙◌, ap, arith, subst, inl, inr, ⊎_elim}
 use Rattle.cf_tree.specs.declared.memory.NoMemory.{NoMemory as NoRoom}
 use Rattle.std.specs.Prelude.{IfOk, count_by, int_lt, pos, max, min, filter, not, ◌==◌}
 use Rattle.std.specs.List.{fold}
@@ -32,8 +32,8 @@ use Rattle.cf_elim.specs.declared.fault.ElimFault.TheVariants.{Refused, NoMemory
 use Rattle.cf_elim.specs.declared.stage.Stage.{Stage as DeclaredStage}
 use Rattle.cf_elim.specs.declared.stage.Stage.TheVariants.{Goes, Ends}
 use Rattle.cf_elim.proofs.TupleLaws.{tuples_are}
-use Rattle.cf_elim.proofs.NextStageLaws.{goes_on, counts_refuse}
-use Rattle.cf_elim.specs.Stages.{IsReady, StageIs, CountsAre, CountIs, count_refusal}
+use Rattle.cf_elim.proofs.NextStageLaws.{goes_on}
+use Rattle.cf_elim.specs.Stages.{IsReady, StageIs, CountsAre, CountIs, IsCount, MayLackAt}
 use Rattle.cf_elim.specs.Bounds.{IsSearched, IsDropped, DropRefused, DropIs, GoesDropped, SearchedIs}
 
 Rising-differ : (lo hi : ℕ) (cs : List ℕ) → Rising lo hi cs → Differ cs
@@ -215,12 +215,16 @@ bound_goes s c n r d (Ok Ends) k l h i g = absurd g
 bound_goes s c n r d (Err (Refused x)) k l h i g = absurd g
 bound_goes s c n r d (Err NoMemory) k l h i g = tt
 
+-- want of memory behind counts that are within their limits
+pub drop_lacks : (m : System) (x : ℕ) → first_count limits (dropped m x).system ≡ None → DropIs m x (Err NoMemory)
+drop_lacks m x c = subst MayLackAt (sym c) tt
+
 pub searched_goes : (r : Searched) (x n : ℕ) (d : Dropped) (q : Result DeclaredStage ElimFault) → IsDropped (system_of r.system) x d →
     GoesDropped r.bounds.items d n q → SearchedIs r x n q
 searched_goes r x n d (Ok (Goes t p)) i g = (d, i, g)
 searched_goes r x n d (Ok Ends) i g = absurd g
 searched_goes r x n d (Err (Refused f)) i g = absurd g
-searched_goes r x n d (Err NoMemory) i g = tt
+searched_goes r x n d (Err NoMemory) i g = drop_lacks (system_of r.system) x i.within_counts
 
 pub bound_staged : (s : State) (c : Pick) (n : ℕ) (r : Searched) (q : Result DeclaredStage ElimFault) → Picks s c n → n ≤ 1048576 → IsSearched s.system c r →
     SearchedIs r c.unknown n q → StageIs s (unknown_stage limits s s.system.unknown) q
@@ -257,20 +261,21 @@ real_searched m c (Ok s) y e i l a o f x g = record {
 real_searched m c (Err e) y n i l a o f x g = tt
 
 -- ---- the drop between its counts
-pub drop_out : (m : System) (x rows columns : ℕ) (f : ElimFault) → CountsAre (dropped m x).system rows columns →
-    CountIs (count_refusal limits rows columns) (Err f) → DropIs m x (Err f)
-drop_out m x rows columns (Refused r) h c = inl (sym (counts_refuse (dropped m x).system rows columns h) ∙ c)
-drop_out m x rows columns NoMemory h c = tt
+pub drop_out : (m : System) (x : ℕ) (f : ElimFault) → CountIs (first_count limits (dropped m x).system) (Err f) → DropIs m x (Err f)
+drop_out m x (Refused r) c = inl c
+drop_out m x NoMemory c = c
 
-pub drop_past : (m : System) (x rows columns : ℕ) → CountsAre (dropped m x).system rows columns → count_refusal limits rows columns ≡ None →
-    drop_passes m x ≡ true → DropIs m x (Err (Refused Past))
-drop_past m x rows columns h c p = inr (sym (counts_refuse (dropped m x).system rows columns h) ∙ c, p, refl)
+pub drop_past : (m : System) (x : ℕ) → first_count limits (dropped m x).system ≡ None → drop_passes m x ≡ true → DropIs m x (Err (Refused Past))
+drop_past m x c p = inr (c, p, refl)
 
-pub drop_on : (m : System) (x rows columns : ℕ) (d : Dropped) → CountsAre (dropped m x).system rows columns → count_refusal limits rows columns ≡ None →
-    drop_passes m x ≡ false → dropped_answer d ≡ dropped m x →
-    Owes m (dropped_answer d) → Formed (system_of d.system) → IsDropped m x d
-drop_on m x rows columns d h c p e o f =
-    record { within_counts = sym (counts_refuse (dropped m x).system rows columns h) ∙ c; fits = p; is = e; owes = o; formed = f }
+pub drop_on : (m : System) (x : ℕ) (d : Dropped) → first_count limits (dropped m x).system ≡ None → drop_passes m x ≡ false →
+    dropped_answer d ≡ dropped m x → Owes m (dropped_answer d) → Formed (system_of d.system) → IsDropped m x d
+drop_on m x d c p e o f = record { within_counts = c; fits = p; is = e; owes = o; formed = f }
+
+-- a count that stops at 2^128 - 1 tells the same
+pub count_stopped : (s p k : ℕ) (o : Option ℕ) → s ≡ min (min p (2 ^ 128 - 1) + k) (2 ^ 128 - 1) → IsCount s o → IsCount (k + p) o
+count_stopped s p k None e h = omega (arith, e, h)
+count_stopped s p k (Some n) e h = let l = h.1 in (omega (arith, e, h.0, l), l)
 
 -- ---- counts of rows
 pub count_low : (x : ℕ) (rows : List Row) → count_by (λ r. is_positive (entry r x)) rows ≡ length (lowers x rows)

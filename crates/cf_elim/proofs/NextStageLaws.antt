@@ -1,8 +1,9 @@
 -- What the steps of the elimination owe, as the code takes them.
-use Rattle.std.proofs.Common.{◌≡◌, ◌≢◌, ℕ, suc, ◌+◌, ◌-◌, ◌<◌, List, [], ◌∷◌, length, map, Bool, true, false, Option, None, Result, Ok, Err, refl, sym, ◌∙◌, ap, arith, subst}
-use Rattle.std.specs.Prelude.{filter, max, not, ◌==◌, if◌then◌else◌}
-use Rattle.std.proofs.lemmas.Bool.{true≢false}
+use Rattle.std.proofs.Common.{◌≡◌, ◌≢◌, ℕ, suc, ◌+◌, ◌-◌, ◌<◌, List, [], ◌∷◌, length, map, Bool, true, false, Option, Some, None, Result, Ok, Err, refl, sym, ◌∙◌, ap, arith, subst}
+use Rattle.std.specs.Prelude.{filter, max, nat_lt, not, ◌==◌, if◌then◌else◌}
+use Rattle.std.proofs.lemmas.Bool.{true≢false, lt-ltb}
 use Rattle.std.proofs.lemmas.List.{length-append, length-drop}
+use Rattle.cf_linear.specs.declared.refusal.LimitKind.TheVariants.{Columns}
 use Rattle.cf_linear.specs.declared.refusal.Refusal.{Refusal}
 use Rattle.cf_linear.specs.declared.refusal.Refusal.TheVariants.{Past}
 use Rattle.cf_linear.specs.Rows.{Row, entry, norm, without}
@@ -24,7 +25,7 @@ use Rattle.cf_elim.specs.declared.output.StepOutput.{StepOutput}
 use Rattle.cf_elim.specs.declared.stage.State.{State as DeclaredState}
 use Rattle.cf_elim.specs.declared.stage.Stage.{Stage as DeclaredStage}
 use Rattle.cf_elim.specs.declared.stage.Stage.TheVariants.{Goes, Ends}
-use Rattle.cf_elim.specs.Stages.{made_answer, IsReady, Settled, GoesOn, IsEnd, StageIs, CountIs, CountsAre, count_refusal, before_clean, past_clean}
+use Rattle.cf_elim.specs.Stages.{made_answer, IsReady, Settled, GoesOn, IsEnd, StageIs, CountIs, IsCount, CountsAre, count_refusal, counted_one, counted, before_clean, past_clean}
 use Rattle.cf_elim.specs.Ends.{CleanAfter, CleanedIs, GoesTo}
 
 -- a refused count ends the stage
@@ -221,21 +222,36 @@ last_counts m u rows columns made e f g = on_bool (is_unit (entry (first_of m) u
 pub counts_refuse : (m : System) (rows columns : ℕ) → CountsAre m rows columns → count_refusal limits rows columns ≡ first_count limits m
 counts_refuse m rows columns h = rw (h.rows_are, h.columns_are) refl
 
-pub end_out : (s : State) (u rows columns : ℕ) (f : ElimFault) → first_present s.system ≡ u ∷ [] →
-    CountsAre (last s.system (first_of s.system) (rest_of s.system) u).system rows columns →
-    CountIs (count_refusal limits rows columns) (Err f) →
-    StageIs s (equation_stage limits s (first_of s.system) (rest_of s.system) (first_present s.system)) (Err f)
-end_out s u rows columns f p h c =
-    let x = end_first s u p in
-    count_out (count_refusal limits rows columns) f s (equation_stage limits s (first_of s.system) (rest_of s.system) (first_present s.system)) x.0
-    (x.1 ∙ ap (λ o. ends_or o x.0) (sym (counts_refuse (last s.system (first_of s.system) (rest_of s.system) u).system rows columns h))) c
+-- what counts in 64 bits tell of a system that has them
+pub counted_is : (m : System) (r c : ℕ) (rows columns : Option ℕ) (made : Result (Unit {0}) ElimFault) → CountsAre m r c → IsCount r rows → IsCount c columns →
+    made ≡ counted rows columns → CountIs (first_count limits m) made
+counted_is m r c rows columns made h p q e =
+    subst (λ o. CountIs o made) (counts_refuse m r c h) (subst (CountIs (count_refusal limits r c)) (sym e) (by_counts r c rows columns p q))
+  where
+    by_columns : (r c : ℕ) (columns : Option ℕ) → nat_lt limits.rows r ≡ false → IsCount c columns →
+        CountIs (count_refusal limits r c) (counted_one Columns limits.columns columns (Ok tt))
+    by_columns r c None t q = rw (t, lt-ltb limits.columns c (omega (arith, q))) q
+    by_columns r c (Some k) t q =
+        subst (λ n. CountIs (count_refusal limits r n) (counted_one Columns limits.columns (Some k) (Ok tt))) q.0
+        (on_bool (nat_lt limits.columns k) (λ l. rw (t, l) refl) (λ l. rw (t, l) refl))
 
-pub end_counted : (m : System) (u rows columns : ℕ) → first_present m ≡ u ∷ [] → CountsAre (last m (first_of m) (rest_of m) u).system rows columns →
-    count_refusal limits rows columns ≡ None →
+    by_counts : (r c : ℕ) (rows columns : Option ℕ) → IsCount r rows → IsCount c columns → CountIs (count_refusal limits r c) (counted rows columns)
+    by_counts r c None columns p q = rw (lt-ltb limits.rows r (omega (arith, p))) p
+    by_counts r c (Some k) columns p q =
+        subst (λ n. CountIs (count_refusal limits n c) (counted (Some k) columns)) p.0
+        (on_bool (nat_lt limits.rows k) (λ l. rw l refl) (λ l. rw l (by_columns k c columns l q)))
+
+pub end_out : (s : State) (u : ℕ) (f : ElimFault) → first_present s.system ≡ u ∷ [] →
+    CountIs (first_count limits (last s.system (first_of s.system) (rest_of s.system) u).system) (Err f) →
+    StageIs s (equation_stage limits s (first_of s.system) (rest_of s.system) (first_present s.system)) (Err f)
+end_out s u f p c =
+    let x = end_first s u p in
+    count_out (first_count limits (last s.system (first_of s.system) (rest_of s.system) u).system) f s
+    (equation_stage limits s (first_of s.system) (rest_of s.system) (first_present s.system)) x.0 x.1 c
+
+pub end_counted : (m : System) (u : ℕ) → first_present m ≡ u ∷ [] → first_count limits (last m (first_of m) (rest_of m) u).system ≡ None →
     first_count limits (equation_answer m (first_present m)).system ≡ None
-end_counted m u rows columns p h c =
-    subst (λ us. first_count limits (equation_answer m us).system ≡ None) (sym p)
-    (sym (counts_refuse (last m (first_of m) (rest_of m) u).system rows columns h) ∙ c)
+end_counted m u p c = subst (λ us. first_count limits (equation_answer m us).system ≡ None) (sym p) c
 
 pub end_after : (m : System) (u : ℕ) → first_present m ≡ u ∷ [] → CleanAfter (first_present m) false
 end_after m u p = rw p refl

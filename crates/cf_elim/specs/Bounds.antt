@@ -15,6 +15,7 @@ use Rattle.cf_bounds.specs.declared.searching.Searched.{Searched}
 use Rattle.cf_bounds.specs.declared.dropping.Dropped.{Dropped}
 use Rattle.cf_elim.specs.declared.fault.ElimFault.{ElimFault}
 use Rattle.cf_elim.specs.declared.fault.ElimFault.TheVariants.{Refused, NoMemory}
+use Rattle.cf_elim.specs.Stages.{MayLackAt}
 use Rattle.cf_linear.specs.declared.system.Search.{Search}
 use Rattle.cf_elim.specs.declared.stage.Stage.{Stage}
 use Rattle.cf_elim.specs.declared.stage.Stage.TheVariants.{Goes, Ends}
@@ -45,7 +46,7 @@ DropRefused m x r = (first_count limits (dropped m x).system ≡ Some r) ⊎
 abbrev pub DropIs : System → ℕ → Result Dropped ElimFault → Type 0
 DropIs m x (Ok d) = IsDropped m x d
 DropIs m x (Err (Refused r)) = DropRefused m x r
-DropIs m x (Err NoMemory) = Unit {0}
+DropIs m x (Err NoMemory) = MayLackAt (first_count limits (dropped m x).system)
 
 -- on to what the drop leaves, or want of memory
 abbrev pub GoesDropped : List Search → Dropped → ℕ → Result Stage ElimFault → Type 0

@@ -1,12 +1,13 @@
 -- One step of an elimination as the code takes it.
-use Rattle.std.specs.Prelude.{◌≡◌, ℕ, nat_lt, true, false, map, reverse, Option, Some, None, Result, Ok, Err, if◌then◌else◌, []}
+use Rattle.std.specs.Prelude.{◌≡◌, ℕ, ◌<◌, ◌≤◌, ◌^◌, nat_lt, true, false, map, reverse, Option, Some, None, Result, Ok, Err, if◌then◌else◌, []}
+use Rattle.cf_linear.specs.declared.refusal.LimitKind.{LimitKind}
 use Rattle.cf_linear.specs.declared.refusal.LimitKind.TheVariants.{Rows, Columns}
 use Rattle.cf_linear.specs.declared.refusal.Refusal.{Refusal}
-use Rattle.cf_linear.specs.declared.refusal.Refusal.TheVariants.{Limit}
+use Rattle.cf_linear.specs.declared.refusal.Refusal.TheVariants.{Past, Limit}
 use Rattle.cf_linear.specs.Systems.{System, Answer, rows_of, columns_of}
 use Rattle.cf_linear.specs.Keep.{Formed, Differ}
 use Rattle.cf_linear.specs.Solved.{Owes}
-use Rattle.cf_linear.specs.Stages.{Limits, State, Stage, ends, goes, solved, refused}
+use Rattle.cf_linear.specs.Stages.{Limits, limits, State, Stage, ends, goes, solved, refused}
 use Rattle.cf_linear.specs.Views.{system_of, step_of, back_of, bound_of}
 use Rattle.cf_elim.specs.declared.fault.ElimFault.{ElimFault}
 use Rattle.cf_elim.specs.declared.fault.ElimFault.TheVariants.{Refused, NoMemory}
@@ -72,11 +73,31 @@ count_refusal l rows columns =
     (if nat_lt l.rows rows then Some (Limit Rows rows)
     else (if nat_lt l.columns columns then Some (Limit Columns columns) else None))
 
+-- want of memory may come where no count passes its limit, or the one that does has more than 64 bits
+abbrev pub MayLackAt : Option Refusal → Type 0
+MayLackAt None = Unit {0}
+MayLackAt (Some (Limit kind n)) = 2 ^ 64 ≤ n
+MayLackAt (Some Past) = ⊥
+
 -- the refusal, or none, or want of memory
 abbrev pub CountIs : Option Refusal → Result (Unit {0}) ElimFault → Type 0
 CountIs o (Ok u) = o ≡ None
 CountIs o (Err (Refused r)) = o ≡ Some r
-CountIs o (Err NoMemory) = Unit {0}
+CountIs o (Err NoMemory) = MayLackAt o
+
+-- a count in 64 bits, or none where it has more
+abbrev pub IsCount : ℕ → Option ℕ → Type 0
+IsCount n (Some k) = (k ≡ n) × (k < 2 ^ 64)
+IsCount n None = 2 ^ 64 ≤ n
+
+-- a count of a kind against the most of it, and then what is counted later
+abbrev pub counted_one : LimitKind → ℕ → Option ℕ → Result (Unit {0}) ElimFault → Result (Unit {0}) ElimFault
+counted_one kind most None later = Err NoMemory
+counted_one kind most (Some n) later = (if nat_lt most n then Err (Refused (Limit kind n)) else later)
+
+-- such rows, and then such columns
+abbrev pub counted : Option ℕ → Option ℕ → Result (Unit {0}) ElimFault
+counted rows columns = counted_one Rows limits.rows rows (counted_one Columns limits.columns columns (Ok tt))
 
 -- the rows and the columns of the system
 pub record CountsAre (m : System) (rows columns : ℕ) : Type 0 where

@@ -1,19 +1,19 @@
 //! A Bound step between counted systems.
-ghost use Rattle.std.specs.Prelude.{◌≡◌, ◌≤◌, ◌<◌, [], pos, int_lt, length, IfOk, IfSome, OnOk};
+ghost use Rattle.std.specs.Prelude.{◌≡◌, ◌≤◌, ◌<◌, [], pos, int_lt, length, IfOk, OnOk};
 ghost use Rattle.cf_linear.specs.Keep.{In, Formed};
 ghost use Rattle.cf_linear.specs.Rows.{is_zero};
-ghost use Rattle.cf_linear.specs.Stages.{unknown_stage, limits};
+ghost use Rattle.cf_linear.specs.Stages.{unknown_stage, first_count, limits};
 ghost use Rattle.cf_linear.specs.Steps.{dropped, is_positive, lowers, uppers, free_of};
 ghost use Rattle.cf_linear.specs.Views.{system_of};
 ghost use Rattle.cf_bounds.specs.Exact.{IsFree, AreExact};
 ghost use Rattle.cf_bounds.specs.Picking.{pick_of};
 ghost use Rattle.cf_elim.specs.Acts.{AreAdded, unknown_acts};
-ghost use Rattle.cf_elim.specs.Stages.{StageIs, IsReady, past_clean, CountsAre};
+ghost use Rattle.cf_elim.specs.Stages.{StageIs, IsReady, past_clean, CountIs};
 ghost use Rattle.cf_elim.specs.Bounds.{IsSearched, DropIs, GoesDropped, SearchedIs};
 
 use crate::act::Act;
 use crate::acts::put_bound;
-use crate::counts::{Counts, other_count, sum, within};
+use crate::counts::{narrowed, other_count, sum, within};
 use crate::fault::ElimFault;
 use crate::output::StepOutput;
 use crate::stage::{Stage, State};
@@ -133,7 +133,8 @@ fn searched_by(alloc: Global, system: System, pick: &Pick) -> Result<Searched, N
 ///
 /// # Errors
 /// `Refused` exactly where the rows or else the columns that this leaves, or else a product or a sum
-/// that makes an entry of a new row, pass their limit, and `NoMemory` where memory ran out.
+/// that makes an entry of a new row, pass their limit, and `NoMemory` where memory ran out, which is asked
+/// for once the counts are within theirs.
 pub fn dropped_within(alloc: Global, system: System, x: u32) -> Result<Dropped, ElimFault>
     requires formed { Formed (system_of system) }
     requires unknown { In x system.unknown.items }
@@ -141,14 +142,7 @@ pub fn dropped_within(alloc: Global, system: System, x: u32) -> Result<Dropped, 
     requires exact { AreExact x system.inequalities.items }
     ensures { DropIs (system_of system) x result }
 {
-    let counts = match counts_after(&system, x) {
-        Some(counts) => counts,
-        None => {
-            drop(system);
-            return Err(ElimFault::NoMemory);
-        }
-    };
-    match within(counts.rows, counts.columns) {
+    match within_drop(&system, x) {
         Ok(()) => {}
         Err(fault) => {
             drop(system);
@@ -162,18 +156,18 @@ pub fn dropped_within(alloc: Global, system: System, x: u32) -> Result<Dropped, 
     }
 }
 
-// The rows and columns that the drop of x leaves: each lower bound with each upper one makes a row.
-fn counts_after(system: &System, x: u32) -> Option<Counts>
-    ensures { IfSome result (λ c. CountsAre (dropped (system_of system.now) x).system c.rows c.columns) }
+// Whether the rows and columns that the drop of x leaves are within the limits: each lower bound with each
+// upper one makes a row.
+fn within_drop(system: &System, x: u32) -> Result<(), ElimFault>
+    ensures { CountIs (first_count limits (dropped (system_of system.now) x).system) result }
 {
-    let low = low_count(&system.inequalities, x) as u64;
-    let high = high_count(&system.inequalities, x) as u64;
-    let free = free_count(&system.inequalities, x) as u64;
-    let pairs = low.checked_mul(high)?;
-    let kept = sum(system.equations.len(), 0, system.needs)?.checked_add(free)?;
-    let rows = kept.checked_add(pairs)?;
-    let columns = sum(system.known.len(), other_count(&system.unknown, x), 0)?;
-    Some(Counts { rows, columns })
+    let low = low_count(&system.inequalities, x) as u128;
+    let high = high_count(&system.inequalities, x) as u128;
+    let free = free_count(&system.inequalities, x) as u128;
+    let kept = system.equations.len() as u128 + system.needs as u128 + free;
+    let rows = narrowed(low.saturating_mul(high).saturating_add(kept));
+    let columns = sum(system.known.len(), other_count(&system.unknown, x), 0, 0);
+    within(rows, columns)
 }
 
 // How many lower bounds the unknown has.

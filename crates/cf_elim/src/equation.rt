@@ -1,17 +1,17 @@
 //! An equation step between counted systems.
-ghost use Rattle.std.specs.Prelude.{◌≡◌, ◌≢◌, ◌<◌, ◌∷◌, [], None, true, false, length, if◌then◌else◌, IfSome, OnOk};
+ghost use Rattle.std.specs.Prelude.{◌≡◌, ◌≢◌, ◌<◌, ◌∷◌, [], None, true, false, length, if◌then◌else◌, OnOk};
 ghost use Rattle.cf_linear.specs.Stages.{row_stage, equation_stage, first_count, limits};
 ghost use Rattle.cf_linear.specs.Rows.{entry};
 ghost use Rattle.cf_linear.specs.Views.{system_of};
 ghost use Rattle.cf_linear.specs.Steps.{last, is_unit};
 ghost use Rattle.cf_equation.specs.Equations.{first_of, rest_of, present_of, first_present, equation_answer};
 ghost use Rattle.cf_elim.specs.Acts.{AreAdded, equation_acts};
-ghost use Rattle.cf_elim.specs.Stages.{StageIs, IsReady, past_clean, CountsAre};
+ghost use Rattle.cf_elim.specs.Stages.{StageIs, IsReady, past_clean, CountIs};
 ghost use Rattle.cf_elim.specs.Ends.{CleanAfter, GoesTo};
 
 use crate::act::Act;
 use crate::acts::put_equation;
-use crate::counts::{Counts, other_count, sum, within, within_counts};
+use crate::counts::{other_count, sum, within, within_counts};
 use crate::fault::ElimFault;
 use crate::output::StepOutput;
 use crate::stage::{Stage, State};
@@ -61,14 +61,7 @@ fn end_stage(alloc: Global, system: System, tuples: u64, u: u32) -> Result<Stage
         (equation_stage limits (past_clean (system_of system) tuples) (first_of (system_of system)) (rest_of (system_of system))
         (first_present (system_of system))) result }
 {
-    let counts = match counts_after(&system, u) {
-        Some(counts) => counts,
-        None => {
-            drop(system);
-            return Err(ElimFault::NoMemory);
-        }
-    };
-    match within(counts.rows, counts.columns) {
+    match within_last(&system, u) {
         Ok(()) => reduced_stage(alloc, system, Present::One(u), tuples, false),
         Err(fault) => {
             drop(system);
@@ -144,22 +137,30 @@ fn goes(alloc: Global, reduced: Reduced, tuples: u64, is_past_clean: bool) -> St
     )
 }
 
-/// The rows and columns that the end of the first equation, which has the one unknown u, leaves, or none
-/// where they are 2^64 or more.
-pub fn counts_after(system: &System, u: u32) -> Option<Counts>
+/// Whether the rows and columns that the end of the first equation, which has the one unknown u, leaves are
+/// within the limits.
+///
+/// # Errors
+/// `Refused` exactly where the rows or else the columns pass their limit, but `NoMemory` where that is
+/// by 2^64 of them or more.
+pub fn within_last(system: &System, u: u32) -> Result<(), ElimFault>
     requires { 0 < length system.now.equations.items }
-    ensures { IfSome result (λ c. CountsAre (last (system_of system.now) (first_of (system_of system.now)) (rest_of (system_of system.now)) u).system c.rows
-        c.columns) }
+    ensures { CountIs (first_count limits (last (system_of system.now) (first_of (system_of system.now)) (rest_of (system_of system.now)) u).system) result }
 {
     let made = made_after(system, u);
     let rows = sum(
         system.equations.len() - 1,
         system.inequalities.len(),
         system.needs,
-    )?
-    .checked_add(made)?;
-    let columns = sum(system.known.len(), other_count(&system.unknown, u), made)?;
-    Some(Counts { rows, columns })
+        made,
+    );
+    let columns = sum(
+        system.known.len(),
+        other_count(&system.unknown, u),
+        made,
+        0,
+    );
+    within(rows, columns)
 }
 
 // How many columns and needs the end of the first equation makes.

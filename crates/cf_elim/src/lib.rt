@@ -17,9 +17,9 @@ mod stage;
 
 pub use crate::act::Act;
 pub use crate::bound::dropped_within;
-pub use crate::counts::{within, within_counts};
+pub use crate::counts::within_counts;
 pub use crate::elimination::eliminate;
-pub use crate::equation::counts_after;
+pub use crate::equation::within_last;
 pub use crate::fault::ElimFault;
 pub use crate::output::{RunOutput, StepOutput};
 pub use crate::solved::SolvedCase;

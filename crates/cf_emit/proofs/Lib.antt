@@ -6,3 +6,4 @@ pub mod Forms
 pub mod Words
 pub mod Codes
 pub mod Targets
+mod PrintedExamples

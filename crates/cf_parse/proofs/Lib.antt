@@ -9,3 +9,4 @@ pub mod Defs
 pub mod Programs
 pub mod Examples
 mod LimitExamples
+mod FaultExamples

@@ -1,5 +1,5 @@
 -- How long the name of a pass may be, on both sides of each bound; and what a call of a pass counts.
-use Rattle.std.proofs.Common.{ℕ, [], ◌∷◌, refl, arith}
+use Rattle.std.proofs.Common.{ℕ, true, [], ◌∷◌, refl, arith}
 use Rattle.std.specs.Prelude.{codes}
 use Rattle.cf_pass.specs.Passes.{IsPassName, Told, HasTurned, HaveTurned}
 
@@ -19,7 +19,7 @@ beside_bytes = ((λ h. cc (h.2)), (λ h. cc (h.2)), (λ h. cc (h.2)), (λ h. cc 
 
 -- ---- turns
 abbrev pass : ℕ → ℕ → Told
-pass tally turns = record { name = codes "fold"; tally = tally; turns = turns }
+pass tally turns = record { name = codes "fold"; tally = tally; turns = turns; makes = λ n c. c; whole = true }
 
 one_turn_each : HaveTurned (pass 3 0 ∷ pass 0 5 ∷ []) (pass 3 1 ∷ pass 2 6 ∷ [])
 one_turn_each = (record { name = refl; tally = omega arith; turns = refl }, (record { name = refl; tally = omega arith; turns = refl }, tt))

@@ -29,3 +29,4 @@ pub mod WalkLists
 pub mod WalkSteps
 pub mod Ways
 mod LengthExamples
+mod MadeExamples

@@ -1,5 +1,5 @@
 //! The pass that removes arms whose needs can never hold.
-ghost use Rattle.std.specs.Prelude.{◌≡◌, ◌<◌, ◌≤◌, ◌+◌, ◌^◌, OnOk};
+ghost use Rattle.std.specs.Prelude.{◌≡◌, ◌<◌, ◌≤◌, ◌+◌, ◌^◌, OnOk, true};
 ghost use Rattle.cf_tree.specs.CodeView.{code_tree};
 ghost use Rattle.cf_tree.specs.RelSize.{capped};
 ghost use Rattle.cf_pass.specs.DropArms.{without_arms, dead_at};
@@ -19,6 +19,7 @@ use std::alloc::Global;
 pub struct DropArms {
     arms: Arms,
     turns: u64,
+    whole: bool,
     ghost counted: { turns < 2 ^ 64 },
 }
 
@@ -34,23 +35,31 @@ impl DropArms {
     pub fn new() -> DropArms
         ensures tally { result.arms.tally ≡ 0 }
         ensures turns { result.turns ≡ 0 }
+        ensures whole { result.whole ≡ true }
     {
         DropArms {
             arms: Arms { tally: 0 },
             turns: 0,
+            whole: true,
         }
     }
 }
 
 impl Pass for DropArms {
-    ghost use Rattle.std.specs.Prelude.{◌≡◌, ◌≤◌, ◌+◌, codes, OnOk};
+    ghost use Rattle.std.specs.Prelude.{◌≡◌, ◌≤◌, ◌+◌, codes, OnOk, is_ok};
     ghost use Rattle.cf_tree.specs.CodeView.{code_tree};
     ghost use Rattle.cf_tree.specs.RelSize.{capped};
     ghost use Rattle.cf_pass.specs.DropArms.{without_arms, dead_at};
     ghost use Rattle.cf_pass.specs.Improves.{Improves, IsTypedBehind};
     ghost use Rattle.cf_pass.specs.Rewritten.{rewritten, units_of};
 
-    ghost told = { λ p. record { name = codes "drop-arms"; tally = p.arms.tally; turns = p.turns } };
+    ghost told = { λ p. record {
+      name = codes "drop-arms";
+      tally = p.arms.tally;
+      turns = p.turns;
+      makes = λ outside c. rewritten (λ n d. without_arms d) outside c;
+      whole = p.whole;
+    } };
 
     fn name(&self) -> &str {
         "drop-arms"
@@ -66,12 +75,15 @@ impl Pass for DropArms {
         ensures name { codes "drop-arms" ≡ codes "drop-arms" }
         ensures tally { self.old.arms.tally ≤ self.new.arms.tally }
         ensures turns { self.new.turns ≡ capped (self.old.turns + 1) }
+        ensures whole { self.new.whole ≡ is_ok result }
         ensures made { OnOk result (code_tree code.new ≡ rewritten (λ n c. without_arms c) outside (code_tree code.old)) }
         ensures units { OnOk result (self.new.arms.tally ≡ capped
             (self.old.arms.tally + units_of (λ n c. without_arms c) (λ n c. dead_at c) outside (code_tree code.old))) }
     {
         self.turns = self.turns.saturating_add(1);
-        rewrite_arms(alloc, &mut self.arms, outside, code)
+        let done = rewrite_arms(alloc, &mut self.arms, outside, code);
+        self.whole = done.is_ok();
+        done
     }
 }
 

@@ -1,5 +1,5 @@
 //! The pass that removes lets that nothing uses.
-ghost use Rattle.std.specs.Prelude.{◌≡◌, ◌<◌, ◌≤◌, ◌+◌, ◌^◌, OnOk};
+ghost use Rattle.std.specs.Prelude.{◌≡◌, ◌<◌, ◌≤◌, ◌+◌, ◌^◌, OnOk, true};
 ghost use Rattle.cf_tree.specs.CodeView.{code_tree};
 ghost use Rattle.cf_tree.specs.RelSize.{capped};
 ghost use Rattle.cf_pass.specs.Lets.{drop_lets_form, drop_lets_units};
@@ -19,6 +19,7 @@ use std::alloc::Global;
 pub struct DropLets {
     lets: Lets,
     turns: u64,
+    whole: bool,
     ghost counted: { turns < 2 ^ 64 },
 }
 
@@ -34,23 +35,31 @@ impl DropLets {
     pub fn new() -> DropLets
         ensures tally { result.lets.tally ≡ 0 }
         ensures turns { result.turns ≡ 0 }
+        ensures whole { result.whole ≡ true }
     {
         DropLets {
             lets: Lets { tally: 0 },
             turns: 0,
+            whole: true,
         }
     }
 }
 
 impl Pass for DropLets {
-    ghost use Rattle.std.specs.Prelude.{◌≡◌, ◌≤◌, ◌+◌, codes, OnOk};
+    ghost use Rattle.std.specs.Prelude.{◌≡◌, ◌≤◌, ◌+◌, codes, OnOk, is_ok};
     ghost use Rattle.cf_tree.specs.CodeView.{code_tree};
     ghost use Rattle.cf_tree.specs.RelSize.{capped};
     ghost use Rattle.cf_pass.specs.Lets.{drop_lets_form, drop_lets_units};
     ghost use Rattle.cf_pass.specs.Improves.{Improves, IsTypedBehind};
     ghost use Rattle.cf_pass.specs.Rewritten.{rewritten, units_of};
 
-    ghost told = { λ p. record { name = codes "drop-lets"; tally = p.lets.tally; turns = p.turns } };
+    ghost told = { λ p. record {
+      name = codes "drop-lets";
+      tally = p.lets.tally;
+      turns = p.turns;
+      makes = λ outside c. rewritten (λ n d. drop_lets_form n d) outside c;
+      whole = p.whole;
+    } };
 
     fn name(&self) -> &str {
         "drop-lets"
@@ -66,12 +75,15 @@ impl Pass for DropLets {
         ensures name { codes "drop-lets" ≡ codes "drop-lets" }
         ensures tally { self.old.lets.tally ≤ self.new.lets.tally }
         ensures turns { self.new.turns ≡ capped (self.old.turns + 1) }
+        ensures whole { self.new.whole ≡ is_ok result }
         ensures made { OnOk result (code_tree code.new ≡ rewritten (λ n c. drop_lets_form n c) outside (code_tree code.old)) }
         ensures units { OnOk result (self.new.lets.tally ≡ capped
             (self.old.lets.tally + units_of (λ n c. drop_lets_form n c) (λ n c. drop_lets_units n c) outside (code_tree code.old))) }
     {
         self.turns = self.turns.saturating_add(1);
-        rewrite_lets(alloc, &mut self.lets, outside, code)
+        let done = rewrite_lets(alloc, &mut self.lets, outside, code);
+        self.whole = done.is_ok();
+        done
     }
 }
 

@@ -1,5 +1,5 @@
 //! The pass that removes needs `true`.
-ghost use Rattle.std.specs.Prelude.{◌≡◌, ◌<◌, ◌≤◌, ◌+◌, ◌^◌, OnOk};
+ghost use Rattle.std.specs.Prelude.{◌≡◌, ◌<◌, ◌≤◌, ◌+◌, ◌^◌, OnOk, true};
 ghost use Rattle.cf_tree.specs.CodeView.{code_tree};
 ghost use Rattle.cf_tree.specs.RelSize.{capped};
 ghost use Rattle.cf_pass.specs.DropNeeds.{without_needs, needs_at};
@@ -18,6 +18,7 @@ use std::alloc::Global;
 pub struct DropNeeds {
     needs: Needs,
     turns: u64,
+    whole: bool,
     ghost counted: { turns < 2 ^ 64 },
 }
 
@@ -33,23 +34,31 @@ impl DropNeeds {
     pub fn new() -> DropNeeds
         ensures tally { result.needs.tally ≡ 0 }
         ensures turns { result.turns ≡ 0 }
+        ensures whole { result.whole ≡ true }
     {
         DropNeeds {
             needs: Needs { tally: 0 },
             turns: 0,
+            whole: true,
         }
     }
 }
 
 impl Pass for DropNeeds {
-    ghost use Rattle.std.specs.Prelude.{◌≡◌, ◌≤◌, ◌+◌, codes, OnOk};
+    ghost use Rattle.std.specs.Prelude.{◌≡◌, ◌≤◌, ◌+◌, codes, OnOk, is_ok};
     ghost use Rattle.cf_tree.specs.CodeView.{code_tree};
     ghost use Rattle.cf_tree.specs.RelSize.{capped};
     ghost use Rattle.cf_pass.specs.DropNeeds.{without_needs, needs_at};
     ghost use Rattle.cf_pass.specs.Improves.{Improves, IsTypedBehind};
     ghost use Rattle.cf_pass.specs.Rewritten.{rewritten, units_of};
 
-    ghost told = { λ p. record { name = codes "drop-needs"; tally = p.needs.tally; turns = p.turns } };
+    ghost told = { λ p. record {
+      name = codes "drop-needs";
+      tally = p.needs.tally;
+      turns = p.turns;
+      makes = λ outside c. rewritten (λ n d. without_needs d) outside c;
+      whole = p.whole;
+    } };
 
     fn name(&self) -> &str {
         "drop-needs"
@@ -65,12 +74,15 @@ impl Pass for DropNeeds {
         ensures name { codes "drop-needs" ≡ codes "drop-needs" }
         ensures tally { self.old.needs.tally ≤ self.new.needs.tally }
         ensures turns { self.new.turns ≡ capped (self.old.turns + 1) }
+        ensures whole { self.new.whole ≡ is_ok result }
         ensures made { OnOk result (code_tree code.new ≡ rewritten (λ n c. without_needs c) outside (code_tree code.old)) }
         ensures units { OnOk result (self.new.needs.tally ≡ capped
             (self.old.needs.tally + units_of (λ n c. without_needs c) (λ n c. needs_at c) outside (code_tree code.old))) }
     {
         self.turns = self.turns.saturating_add(1);
-        rewrite_needs(alloc, &mut self.needs, outside, code)
+        let done = rewrite_needs(alloc, &mut self.needs, outside, code);
+        self.whole = done.is_ok();
+        done
     }
 }
 

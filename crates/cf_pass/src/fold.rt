@@ -1,5 +1,5 @@
 //! The pass that replaces forms of literals by their values.
-ghost use Rattle.std.specs.Prelude.{◌≡◌, ◌<◌, ◌≤◌, ◌+◌, ◌^◌, OnOk};
+ghost use Rattle.std.specs.Prelude.{◌≡◌, ◌<◌, ◌≤◌, ◌+◌, ◌^◌, OnOk, true};
 ghost use Rattle.cf_tree.specs.CodeView.{code_tree};
 ghost use Rattle.cf_tree.specs.RelSize.{capped};
 ghost use Rattle.cf_pass.specs.Folding.{fold_form, fold_units};
@@ -20,6 +20,7 @@ use std::alloc::Global;
 pub struct Fold {
     forms: Forms,
     turns: u64,
+    whole: bool,
     ghost counted: { turns < 2 ^ 64 },
 }
 
@@ -35,23 +36,31 @@ impl Fold {
     pub fn new() -> Fold
         ensures tally { result.forms.tally ≡ 0 }
         ensures turns { result.turns ≡ 0 }
+        ensures whole { result.whole ≡ true }
     {
         Fold {
             forms: Forms { tally: 0 },
             turns: 0,
+            whole: true,
         }
     }
 }
 
 impl Pass for Fold {
-    ghost use Rattle.std.specs.Prelude.{◌≡◌, ◌≤◌, ◌+◌, codes, OnOk};
+    ghost use Rattle.std.specs.Prelude.{◌≡◌, ◌≤◌, ◌+◌, codes, OnOk, is_ok};
     ghost use Rattle.cf_tree.specs.CodeView.{code_tree};
     ghost use Rattle.cf_tree.specs.RelSize.{capped};
     ghost use Rattle.cf_pass.specs.Folding.{fold_form, fold_units};
     ghost use Rattle.cf_pass.specs.Improves.{Improves, IsTypedBehind};
     ghost use Rattle.cf_pass.specs.Rewritten.{rewritten, units_of};
 
-    ghost told = { λ p. record { name = codes "fold"; tally = p.forms.tally; turns = p.turns } };
+    ghost told = { λ p. record {
+      name = codes "fold";
+      tally = p.forms.tally;
+      turns = p.turns;
+      makes = λ outside c. rewritten (λ n d. fold_form d) outside c;
+      whole = p.whole;
+    } };
 
     fn name(&self) -> &str {
         "fold"
@@ -67,12 +76,15 @@ impl Pass for Fold {
         ensures name { codes "fold" ≡ codes "fold" }
         ensures tally { self.old.forms.tally ≤ self.new.forms.tally }
         ensures turns { self.new.turns ≡ capped (self.old.turns + 1) }
+        ensures whole { self.new.whole ≡ is_ok result }
         ensures made { OnOk result (code_tree code.new ≡ rewritten (λ n c. fold_form c) outside (code_tree code.old)) }
         ensures units { OnOk result (self.new.forms.tally ≡ capped
             (self.old.forms.tally + units_of (λ n c. fold_form c) (λ n c. fold_units c) outside (code_tree code.old))) }
     {
         self.turns = self.turns.saturating_add(1);
-        rewrite_forms(alloc, &mut self.forms, outside, code)
+        let done = rewrite_forms(alloc, &mut self.forms, outside, code);
+        self.whole = done.is_ok();
+        done
     }
 }
 

@@ -1,5 +1,5 @@
 //! A pass that finds no memory ends nothing: what it did stands, and the next one runs.
-ghost use Rattle.std.specs.Prelude.{◌≡◌, codes};
+ghost use Rattle.std.specs.Prelude.{◌≡◌, codes, false};
 
 use crate::objects::{Call, NONE, SECONDS, ended};
 use cf_pass::{DropNeeds, Fold, Pass};
@@ -19,6 +19,8 @@ impl Pass for Faint {
       name = codes "faint";
       tally = (⟦<Fold as Pass>⟧.told p.inner).tally;
       turns = (⟦<Fold as Pass>⟧.told p.inner).turns;
+      makes = (⟦<Fold as Pass>⟧.told p.inner).makes;
+      whole = false;
     } };
 
     fn name(&self) -> &str {

@@ -1,5 +1,5 @@
 //! Passes that the caller hands in: each is called where it is asked for, and dropped once.
-ghost use Rattle.std.specs.Prelude.{◌≡◌, ◌<◌, ◌^◌, codes};
+ghost use Rattle.std.specs.Prelude.{◌≡◌, ◌<◌, ◌^◌, codes, true};
 
 use crate::objects::{Call, Faults, NONE, ROUNDING, ended};
 use cf_pass::Pass;
@@ -36,7 +36,7 @@ impl Drop for Counted {
 }
 
 impl Pass for Counted {
-    ghost told = { λ p. record { name = codes "counted"; tally = 0; turns = p.turns } };
+    ghost told = { λ p. record { name = codes "counted"; tally = 0; turns = p.turns; makes = λ outside c. c; whole = true } };
 
     fn name(&self) -> &str {
         "counted"

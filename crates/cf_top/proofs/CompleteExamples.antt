@@ -166,7 +166,7 @@ completes-untold status files told whole = absurd (no files told)
 
 -- ---- the answer to words that are no command
 abbrev passes : List Told
-passes = record { name = codes "fold"; tally = 12; turns = 3 } ∷ []
+passes = record { name = codes "fold"; tally = 12; turns = 3; makes = λ n c. c; whole = true } ∷ []
 
 abbrev errors : List ℕ → ℕ → SinkSeen
 errors bytes faults = record { held = Some bytes; faults = faults }

@@ -26,3 +26,4 @@ pub mod Examples
 pub mod MissingExamples
 pub mod ClassExamples
 mod LimitExamples
+mod BoundExamples

@@ -1,7 +1,7 @@
 use Rattle.std.proofs.Common.{◌∙◌, inl, sym}
 use Rattle.std.proofs.lemmas.Result.{err_from_is_err_and}
 use Rattle.cf_program.specs.Typed.{typed_tree}
-use Rattle.cf_answer.proofs.EmitLemmas.{no_sets_needed, sets_needed, source_refused}
+use Rattle.cf_answer.proofs.EmitLemmas.{built_plain, no_sets_needed, sets_needed, source_refused}
 use Rattle.cf_answer.proofs.TextLemmas.{build_refused}
 use Rattle.cf_answer.proofs.emit.check_without_sets.Goals as goal
 
@@ -14,9 +14,11 @@ returns-in_err-target c =
 pub returns-then-has_a_set : goal.returns-then-has_a_set
 returns-then-has_a_set c = λ text s.
     inl (sets_needed c.args.language text (typed_tree c.args.typed.now) c.in_ok-target.target s c.requires
-    (rw c.new.ensures.items at c.in_ok-target.ensures.answer) (sym c.has_a_set.ensures ∙ c.if-has_a_set.true))
+    (built_plain (typed_tree c.args.typed.now) _ c.in_ok-target.target (rw c.new.ensures.items at c.in_ok-target.ensures.turned)
+    (rw c.new.ensures.items at c.in_ok-target.ensures.answer)) (sym c.has_a_set.ensures ∙ c.if-has_a_set.true))
 
 pub returns : goal.returns
 returns c = λ text s.
-    no_sets_needed c.args.language (typed_tree c.args.typed.now) c.in_ok-target.target (rw c.new.ensures.items at c.in_ok-target.ensures.answer)
+    no_sets_needed c.args.language (typed_tree c.args.typed.now) c.in_ok-target.target (built_plain (typed_tree c.args.typed.now) _ c.in_ok-target.target (rw c.new.ensures.items at c.in_ok-target.ensures.turned)
+    (rw c.new.ensures.items at c.in_ok-target.ensures.answer))
     (sym c.has_a_set.ensures ∙ c.if-has_a_set.false)

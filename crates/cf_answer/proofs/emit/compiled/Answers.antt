@@ -1,9 +1,7 @@
-use Rattle.std.proofs.Common.{inl, inr, refl, subst}
+use Rattle.std.proofs.Common.{inl, inr, refl}
 use Rattle.std.proofs.lemmas.Result.{err_from_is_err_and}
-use Rattle.cf_build.specs.Built.{IsBuilt}
 use Rattle.cf_program.specs.Typed.{typed_tree}
 use Rattle.cf_answer.proofs.EmitLemmas.{source_refused}
-use Rattle.cf_answer.proofs.PassLemmas.{as_many_passes}
 use Rattle.cf_answer.proofs.TextLemmas.{broken_refused, build_refused}
 use Rattle.cf_answer.proofs.emit.compiled.Goals as goal
 
@@ -35,13 +33,9 @@ returns-in_err-target-clause-passed g c = inr c.in_err-target.ensures.kept
 
 pub returns-clause-verdict : goal.returns-clause-verdict
 returns-clause-verdict g c = λ text s.
-    let turned = c.in_ok-target.ensures.turned in
-    let typed = typed_tree c.in_ok-typed.typed in
     let source = c.in_ok-typed.ensures text s in
-    let target = c.in_ok-target.target in (
-      ((typed, source, subst (λ n. IsBuilt typed.defs typed.main n target) (as_many_passes _ _ _ turned) c.in_ok-target.ensures.answer), turned),
-      c.in_ok-check_sets.ensures text source,
-    )
+    let target = c.in_ok-target.ensures in
+    (((typed_tree c.in_ok-typed.typed, source, target.answer), target.turned), c.in_ok-check_sets.ensures text source)
 
 pub returns-clause-passed : goal.returns-clause-passed
 returns-clause-passed g c = inl c.in_ok-target.ensures.turned

@@ -2,7 +2,6 @@ use Rattle.std.proofs.Common.{inl, inr, refl, rules}
 use Rattle.std.proofs.lemmas.Result.{err_from_is_err_and}
 use Rattle.cf_tree.specs.DefView.{program_tree}
 use Rattle.cf_program.specs.Typed.{typed_tree}
-use Rattle.cf_answer.proofs.PassLemmas.{as_many_passes}
 use Rattle.cf_answer.proofs.RunLemmas.{run_broken, target_runs, run_build_refused}
 use Rattle.cf_answer.proofs.source.program_runner.Goals as goal
 
@@ -17,9 +16,8 @@ returns-in_err-target-in-Ok-clause-passed g c = inr c.in_err-target-in-Ok.ensure
 
 pub returns-in_ok-target-in-Ok-clause-verdict : goal.returns-in_ok-target-in-Ok-clause-verdict
 returns-in_ok-target-in-Ok-clause-verdict g c =
-    let turned = c.in_ok-target-in-Ok.ensures.turned in
-    λ text s. target_runs text (typed_tree c.in-Ok.typed) _ _ _ _ (as_many_passes _ _ _ turned) turned
-    (program_tree c.args.program.now, s, c.in-Ok.ensures.gives) c.in_ok-target-in-Ok.ensures.answer
+    let target = c.in_ok-target-in-Ok.ensures in
+    λ text s. target_runs text (typed_tree c.in-Ok.typed) _ _ _ target.turned (program_tree c.args.program.now, s, c.in-Ok.ensures.gives) target.answer
 
 pub returns-in_ok-target-in-Ok-clause-passed : goal.returns-in_ok-target-in-Ok-clause-passed
 returns-in_ok-target-in-Ok-clause-passed g c = inl c.in_ok-target-in-Ok.ensures.turned

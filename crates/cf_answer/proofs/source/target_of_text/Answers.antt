@@ -1,8 +1,6 @@
-use Rattle.std.proofs.Common.{inl, inr, refl, subst}
+use Rattle.std.proofs.Common.{inl, inr, refl}
 use Rattle.std.proofs.lemmas.Result.{err_from_is_err_and}
-use Rattle.cf_build.specs.Built.{IsBuilt}
 use Rattle.cf_program.specs.Typed.{typed_tree}
-use Rattle.cf_answer.proofs.PassLemmas.{as_many_passes}
 use Rattle.cf_answer.proofs.TextLemmas.{broken_refused, build_refused}
 use Rattle.cf_answer.proofs.source.target_of_text.Goals as goal
 
@@ -24,12 +22,7 @@ returns-in_err-target-clause-passed g c = inr c.in_err-target.ensures.kept
 
 pub returns-clause-verdict : goal.returns-clause-verdict
 returns-clause-verdict g c =
-    let turned = c.in_ok-target.ensures.turned in
-    let typed = typed_tree c.in_ok-typed.typed in
-    let target = c.in_ok-target.target in (
-      (typed, c.in_ok-typed.ensures, subst (λ n. IsBuilt typed.defs typed.main n target) (as_many_passes _ _ _ turned) c.in_ok-target.ensures.answer),
-      turned,
-    )
+    let target = c.in_ok-target.ensures in ((typed_tree c.in_ok-typed.typed, c.in_ok-typed.ensures, target.answer), target.turned)
 
 pub returns-clause-passed : goal.returns-clause-passed
 returns-clause-passed g c = inl c.in_ok-target.ensures.turned

@@ -7,6 +7,6 @@ use Rattle.cf_build.proofs.building.build.Goals as goal
 pub returns-clause-answer : goal.returns-clause-answer
 returns-clause-answer g c =
     let same = c.typed.ensures.value in
-    answer_kept _ _ _ _ _ _ (ap (λ t. map def_tree t.defs.items) same ∙ c.in_ok-lowered.ensures.defs) (ap (λ t. t.main) same ∙ c.in_ok-lowered.ensures.main)
+    answer_kept _ _ _ _ _ _ _ (ap (λ t. map def_tree t.defs.items) same ∙ c.in_ok-lowered.ensures.defs) (ap (λ t. t.main) same ∙ c.in_ok-lowered.ensures.main)
     (subst (λ t. AllowTheSame (map def_tree c.args.typed.now.defs.items) (map def_tree t.defs.items)) (sym same) c.in_ok-lowered.ensures.outcomes)
     c.build_lowered.ensures.answer

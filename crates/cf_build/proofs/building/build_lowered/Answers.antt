@@ -1,4 +1,4 @@
-use Rattle.std.proofs.Common.{◌≡◌, Err, map, length, rules}
+use Rattle.std.proofs.Common.{◌≡◌, Err, map, rules}
 use Rattle.cf_tree.specs.DefView.{def_tree}
 use Rattle.cf_build.proofs.Rewriting.{rewritten_built}
 use Rattle.cf_build.proofs.building.build_lowered.Goals as goal
@@ -13,5 +13,5 @@ returns-in_err-solves-clause-answer g c =
 pub returns-clause-answer : goal.returns-clause-answer
 returns-clause-answer g c =
     let defs = map def_tree c.args.typed.now.defs.items in
-    rewritten_built defs c.args.typed.now.main (length c.args.passes.now.items) c.in_ok-raw.raw c.in_ok-rewritten.field-0 c.in_ok-raw.ensures
+    rewritten_built defs c.args.typed.now.main _ _ c.in_ok-raw.raw c.in_ok-rewritten.field-0 c.in_ok-raw.ensures
     c.in_ok-rewritten.ensures.target

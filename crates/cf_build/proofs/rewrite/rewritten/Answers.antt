@@ -1,6 +1,5 @@
-use Rattle.std.proofs.Common.{◌∙◌, Some, refl, sym, subst}
-use Rattle.cf_tree.specs.CodeView.{code_tree}
-use Rattle.cf_pass.specs.Improves.{Improves}
+use Rattle.std.proofs.Common.{◌∙◌, Some, refl, sym}
+use Rattle.cf_build.proofs.Rewriting.{rewritten_of}
 use Rattle.cf_build.proofs.rewrite.rewritten.Goals as goal
 
 pub rewrite_by_each-requires : goal.rewrite_by_each-requires
@@ -15,11 +14,4 @@ new-requires g c =
 pub returns-clause-target : goal.returns-clause-target
 returns-clause-target g c =
     rw c.new.ensures
-    (record {
-      params = refl;
-      results = refl;
-      untouched = c.rewrite_by_each.ensures.untouched;
-      better = subst (λ n. Improves n (code_tree c.args.raw.code) (code_tree c.rewrite_by_each.new.code))
-          (c.in-Ok.ensures ∙ c.len.ensures ∙ c.args.raw.params.ok.0)
-          c.rewrite_by_each.ensures.code;
-    })
+    (rewritten_of _ _ _ _ _ refl refl (c.in-Ok.ensures ∙ c.len.ensures ∙ c.args.raw.params.ok.0) c.rewrite_by_each.ensures.made c.rewrite_by_each.ensures.code)

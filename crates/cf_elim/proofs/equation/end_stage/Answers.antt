@@ -11,13 +11,10 @@ pub reduced_stage-requires-clause-holds : goal.reduced_stage-requires-clause-hol
 reduced_stage-requires-clause-holds c = end_some (system_of c.args.system) c.args.u c.requires.one
 
 pub reduced_stage-requires-clause-within_counts : goal.reduced_stage-requires-clause-within_counts
-reduced_stage-requires-clause-within_counts c =
-    end_counted (system_of c.args.system) c.args.u c.in-Some.counts.rows c.in-Some.counts.columns c.requires.one c.in-Some.ensures c.in-Ok.ensures
+reduced_stage-requires-clause-within_counts c = end_counted (system_of c.args.system) c.args.u c.requires.one c.in-Ok.ensures
 
 pub reduced_stage-requires-clause-after : goal.reduced_stage-requires-clause-after
 reduced_stage-requires-clause-after c = end_after (system_of c.args.system) c.args.u c.requires.one
 
 pub returns-in-Err : goal.returns-in-Err
-returns-in-Err c =
-    end_out (past_clean (system_of c.args.system) c.args.tuples) c.args.u c.in-Some.counts.rows c.in-Some.counts.columns c.in-Err.fault c.requires.one
-    c.in-Some.ensures c.in-Err.ensures
+returns-in-Err c = end_out (past_clean (system_of c.args.system) c.args.tuples) c.args.u c.in-Err.fault c.requires.one c.in-Err.ensures

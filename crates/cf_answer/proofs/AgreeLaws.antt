@@ -1,0 +1,68 @@
+-- The commands agree with each other.
+use Rattle.std.proofs.Common.{◌≡◌, ap, subst, refl, sym, ℕ, ◌-◌, ◌^◌, ◌≤◌, not, List, [], ◌∷◌, length, map}
+use Rattle.cf_io.specs.Limits.{line_limit}
+use Rattle.cf_tree.specs.CodeTree.{CodeTree}
+use Rattle.cf_tree.specs.CodeView.{code_tree}
+use Rattle.cf_tree.specs.ChooseTree.{ChooseTree}
+use Rattle.cf_tree.specs.DefView.{TargetTree, target_tree}
+use Rattle.cf_tree.specs.declared.base.Base.{Base}
+use Rattle.cf_tree.specs.declared.target.RawTarget.{RawTarget}
+use Rattle.cf_target.proofs.Only.{one_law}
+use Rattle.cf_target.specs.Spelling.{IsTarget}
+use Rattle.cf_eval.specs.Replies.{IsReply, too_long, bad_input, meaning}
+use Rattle.cf_pass.specs.Passes.{Told}
+use Rattle.cf_steps.specs.Blocks.{block_tree}
+use Rattle.cf_steps.specs.declared.block.Block.{Block}
+use Rattle.cf_warn.specs.declared.answer.ExistenceAnswer.TheVariants.{Always, Missing, Undecided}
+use Rattle.cf_words.specs.Commands.{exec}
+use Rattle.cf_answer.specs.Agreeing.{ProvedIsVerified, CompiledIsRun, NeedsAreChecked}
+use Rattle.cf_answer.specs.Certificates.{OneForEach, IsProofOf, IsTraced}
+use Rattle.cf_answer.specs.Owed.{by_target, IsReplyBy, AllReplied, AreReplies, compiled}
+use Rattle.cf_answer.specs.Passes.{applied}
+use Rattle.cf_answer.specs.Sources.{IsTypedTarget}
+use Rattle.cf_answer.proofs.CauseLemmas.{trees_agree}
+use Rattle.cf_answer.proofs.OwedLemmas.{owed_accepted}
+use Rattle.cf_answer.proofs.PickedLemmas.{replies_picked}
+
+-- ---- what `prove` writes
+traced_prove : (qs : List ChooseTree) (bs : List Block) → OneForEach IsTraced qs bs → OneForEach IsProofOf qs (map block_tree bs)
+traced_prove [] [] h = tt
+traced_prove [] (b ∷ bs) h = absurd h
+traced_prove (q ∷ qs) [] h = absurd h
+traced_prove (q ∷ qs) (b ∷ bs) h = (h.0.proves, traced_prove qs bs h.1)
+
+pub proved_is_verified : ProvedIsVerified
+proved_is_verified name other source given last ls text (typed, s, (bs, traced, is, back)) short =
+    (_, (typed, s, (map block_tree bs, (back.tokens, back.end, (short, back.lexed), back.spelled), traced_prove _ bs traced), refl))
+
+-- ---- what `compile` prints
+-- a reply is told by the parameters and the code
+reply_by_tree : (t u : RawTarget) → target_tree u ≡ target_tree t → (line reply : List ℕ) → IsReply line_limit (2 ^ 127 - 1) u line reply →
+    IsReply line_limit (2 ^ 127 - 1) t line reply
+reply_by_tree t u same line reply (too_long long) = too_long long
+reply_by_tree t u same line reply (bad_input short none) =
+    bad_input short (rw (← ap (λ (x : TargetTree). x.params) same) none)
+reply_by_tree t u same line reply (meaning vs short r) =
+    rw (ap (λ (x : TargetTree). x.code) same) (meaning vs short (rw (ap (λ (x : TargetTree). x.params) same) at r))
+
+replies_by_tree : (t u : RawTarget) → target_tree u ≡ target_tree t → (ls : List (List ℕ)) (out : List ℕ) → AreReplies (by_target u) ls out →
+    AreReplies (by_target t) ls out
+replies_by_tree t u same [] out h = h
+replies_by_tree t u same (line ∷ ls) out h = (h.0, h.1, h.2, reply_by_tree t u same line h.0 h.3, replies_by_tree t u same ls h.1 h.4)
+
+pub compiled_is_run : CompiledIsRun
+compiled_is_run flags name source given last ls text (t, c, p) short =
+    let typed : IsTypedTarget text (target_tree t) =
+    ((p.reads_back.tokens, p.reads_back.end, (short, p.reads_back.lexed), p.reads_back.spelled), c.0.2.typed) in
+    record {
+      accepted = owed_accepted (exec name) (text ∷ []) given last [] [] (t, typed, refl);
+      replies = λ before behind lines out o.
+          let all = replies_by_tree t o.0 (trees_agree IsTarget one_law text (target_tree o.0) (target_tree t) o.1.0 typed.0) lines out o.2 in
+          compiled t c all (replies_picked (applied (not flags.plain) given) (applied (not flags.plain) last) source t lines out c.0 all);
+    }
+
+-- ---- what `pre` writes, and what `check` finds
+pub needs_are_checked : NeedsAreChecked
+needs_are_checked q text Always p e = λ env h. (p.holds env h).1 (e.1 env h)
+needs_are_checked q text (Missing sample) p e = λ env at h. let xs = (p.holds env at.bases).0 h in e.2.unsolved env at xs.0 xs.1
+needs_are_checked q text (Undecided d) p e = tt

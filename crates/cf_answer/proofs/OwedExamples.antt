@@ -1,0 +1,101 @@
+-- Worked examples: what each command owes on the texts of its files.
+use Rattle.std.proofs.Common.{◌≡◌, ◌⊎◌, ◌-◌, ◌^◌, ℕ, ℤ, true, false, List, [], ◌∷◌, length, inl, inr, refl, codes}
+use Rattle.std.specs.Prelude.{negsuc, flat_map}
+use Rattle.std.specs.Fmt.{digits}
+use Rattle.cf_gen.specs.Workload.{gen_source, gen_lines}
+use Rattle.cf_io.specs.Limits.{line_limit}
+use Rattle.cf_io.specs.Lines.{lines}
+use Rattle.cf_tree.specs.declared.target.RawTarget.{RawTarget}
+use Rattle.cf_target.specs.Spelling.{target_tree}
+use Rattle.cf_program.specs.Checked.{TypedTree}
+use Rattle.cf_eval.specs.Replies.{IsReply}
+use Rattle.cf_pass.specs.Passes.{Told}
+use Rattle.cf_words.specs.declared.command.Flags.{Flags}
+use Rattle.cf_words.specs.Commands.{compile, run, pre, check, exec, prove, verify, gen}
+use Rattle.cf_answer.specs.Certificates.{asked_in, AreProofs, AreVerified, verified_line}
+use Rattle.cf_answer.specs.LateReplies.{AreRunsAllowed}
+use Rattle.cf_answer.specs.Owed.{by_target, by_late, IsReplyBy, AllReplied, AreReplies, ArePicked, IsCompiledBy, OwesRun, compiled, late, IsPrinted, AllWritten, ArePres, AreChecks, IsSum, sum_line, Owes}
+use Rattle.cf_answer.specs.Passes.{applied}
+use Rattle.cf_answer.specs.Sources.{IsTypedSource, IsLateSource, IsTypedTarget}
+
+-- the same is owed
+abbrev Same : Type 0 → Type 0 → Type 0
+Same P Q = (P → Q) × (Q → P)
+
+abbrev flags : Flags
+flags = record { plain = false; stats = false }
+
+abbrev plain : Flags
+plain = record { plain = true; stats = false }
+
+module _ (name other source steps : List ℕ) (given last : List Told) (ls : List (List ℕ)) (text : List ℕ) where
+  of-compile : Same (Owes (compile flags name) (source ∷ []) given last ls text) ((t : RawTarget) × IsCompiledBy true source given last t × IsPrinted t text)
+  of-compile = (λ h. h, λ h. h)
+
+  of-plain_compile : Same (Owes (compile plain name) (source ∷ []) given last ls text)
+      ((t : RawTarget) × IsCompiledBy false source given last t × IsPrinted t text)
+  of-plain_compile = (λ h. h, λ h. h)
+
+  of-run : Same (Owes (run flags name) (source ∷ []) given last ls text) (OwesRun true source given last ls text)
+  of-run = (λ h. h, λ h. h)
+
+  of-plain_run : Same (Owes (run plain name) (source ∷ []) given last ls text) (OwesRun false source given last ls text)
+  of-plain_run = (λ h. h, λ h. h)
+
+  of-pre : Same (Owes (pre name) (source ∷ []) given last ls text) ((typed : TypedTree) × IsTypedSource source typed × ArePres typed text)
+  of-pre = (λ h. h, λ h. h)
+
+  of-check : Same (Owes (check name) (source ∷ []) given last ls text) ((typed : TypedTree) × IsTypedSource source typed × AreChecks typed text)
+  of-check = (λ h. h, λ h. h)
+
+  of-exec : Same (Owes (exec name) (source ∷ []) given last ls text)
+      ((t : RawTarget) × IsTypedTarget source (target_tree t) × AreReplies (by_target t) ls text)
+  of-exec = (λ h. h, λ h. h)
+
+  of-prove : Same (Owes (prove name) (source ∷ []) given last ls text) ((typed : TypedTree) × IsTypedSource source typed × AreProofs (asked_in typed) text)
+  of-prove = (λ h. h, λ h. h)
+
+  of-verify : Same (Owes (verify name other) (source ∷ steps ∷ []) given last ls text)
+      ((typed : TypedTree) × IsTypedSource source typed × AreVerified (asked_in typed) steps × (text ≡ flat_map verified_line (asked_in typed)))
+  of-verify = (λ h. h, λ h. h)
+
+  of-gen : Same (Owes (gen 3) [] given last ls text)
+      ((t : RawTarget) × IsCompiledBy true (gen_source 3) given last t × (typed : TypedTree) × IsTypedSource (gen_source 3) typed
+      × (sum : ℤ) × IsSum t typed (length last) (lines (gen_lines 3)) sum × (text ≡ sum_line 9 sum))
+  of-gen = (λ h. h, λ h. h)
+
+  of-too_few : Owes (verify name other) (source ∷ []) given last ls text → ⊥
+  of-too_few h = h
+
+  of-too_many : Owes (check name) (source ∷ steps ∷ []) given last ls text → ⊥
+  of-too_many h = h
+
+  -- ---- the two ways of a run
+  abbrev Ways : Type 0
+  Ways =
+      ((t : RawTarget) × IsCompiledBy true source given last t × AreReplies (by_target t) ls text × ArePicked (length (applied true last)) source ls text)
+      ⊎ ((typed : TypedTree) × IsLateSource source typed × AreReplies (by_late typed) ls text × AreRunsAllowed typed × (last ≡ given))
+
+  goes : OwesRun true source given last ls text → Ways
+  goes (compiled t c replies picked) = inl (t, c, replies, picked)
+  goes (late typed l replies allowed same) = inr (typed, l, replies, allowed, same)
+
+  by-a_target : (t : RawTarget) → IsCompiledBy true source given last t → AreReplies (by_target t) ls text → ArePicked (length (applied true last)) source ls text →
+      OwesRun true source given last ls text
+  by-a_target t c replies picked = compiled t c replies picked
+
+-- ---- replies
+reply-of_a_target : (t : RawTarget) (line reply : List ℕ) → Same (IsReplyBy (by_target t) line reply) (IsReply 65536 (2 ^ 127 - 1) t line reply)
+unfolding line_limit
+reply-of_a_target t line reply = (λ h. h, λ h. h)
+
+each-line : AllReplied (λ line reply. reply ≡ 61 ∷ line) (codes "1" ∷ codes "2" ∷ []) (codes "=1\n=2\n")
+each-line = (codes "=1", codes "=2\n", refl, refl, (codes "=2", [], refl, refl, refl))
+
+-- no line feed stands between what is written of chooses
+no-choose : AllWritten (λ q first. ⊥) [] []
+no-choose = refl
+
+last-line : sum_line 9 (negsuc 11) ≡ codes "lines 9 sum -12\n"
+unfolding digits
+last-line = refl

@@ -1,0 +1,46 @@
+-- How the commands agree with each other.
+use Rattle.std.specs.Prelude.{◌≡◌, ◌≤◌, ℕ, List, [], ◌∷◌, length}
+use Rattle.cf_tree.specs.ChooseTree.{ChooseTree}
+use Rattle.cf_tree.specs.Solving.{HoldSomewhere}
+use Rattle.cf_tree.specs.Values.{Value, HaveBases}
+use Rattle.cf_build.specs.Chooses.{choose_arms}
+use Rattle.cf_choose.specs.Precondition.{all_needs}
+use Rattle.cf_eval.specs.Seen.{plains}
+use Rattle.cf_pass.specs.Passes.{Told}
+use Rattle.cf_warn.specs.Solutions.{IsAt}
+use Rattle.cf_warn.specs.Verdicts.{IsExistence}
+use Rattle.cf_warn.specs.declared.answer.ExistenceAnswer.{ExistenceAnswer}
+use Rattle.cf_warn.specs.declared.answer.ExistenceAnswer.TheVariants.{Always, Missing, Undecided}
+use Rattle.cf_words.specs.Commands.{compile, run, exec, prove, verify}
+use Rattle.cf_words.specs.declared.command.Flags.{Flags}
+use Rattle.cf_answer.specs.Limits.{text_limit}
+use Rattle.cf_answer.specs.Owed.{IsPreOf, Owes}
+use Rattle.cf_answer.specs.Refusals.{IsAccepted}
+
+-- `verify` accepts for a source what `prove` writes of it, unless that is longer than a text may be
+abbrev pub ProvedIsVerified : Type 0
+ProvedIsVerified =
+    (name other source : List ℕ) (given last : List Told) (ls : List (List ℕ)) (text : List ℕ) → Owes (prove name) (source ∷ []) given last ls text →
+    length text ≤ text_limit → (lines : List ℕ) × Owes (verify name other) (source ∷ text ∷ []) given last ls lines
+
+-- `exec` accepts what `compile` prints of a source, unless that is longer than a text may be, and replies what `run` may reply with the same flags
+pub record Runs (flags : Flags) (name source : List ℕ) (given last : List Told) (text : List ℕ) : Type 0 where
+  pub accepted : IsAccepted (exec name) (text ∷ [])
+  pub replies : (before behind : List Told) (ls : List (List ℕ)) (out : List ℕ) → Owes (exec name) (text ∷ []) before behind ls out →
+      Owes (run flags name) (source ∷ []) given last ls out
+
+abbrev pub CompiledIsRun : Type 0
+CompiledIsRun =
+    (flags : Flags) (name source : List ℕ) (given last : List Told) (ls : List (List ℕ)) (text : List ℕ) →
+    Owes (compile flags name) (source ∷ []) given last ls text → length text ≤ text_limit → Runs flags name source given last text
+
+-- where `check` finds that there always are outputs, the needs that `pre` writes hold at each environment, and where it finds that there are none at a
+-- sample, they hold at no environment of it
+abbrev pub NeedsAre : ChooseTree → ExistenceAnswer → Type 0
+NeedsAre q Always = (env : List Value) → HaveBases q.scope env → HoldSomewhere (all_needs (choose_arms q)) env
+NeedsAre q (Missing sample) = (env : List Value) → IsAt q.scope q.relation (plains sample.items) env → HoldSomewhere (all_needs (choose_arms q)) env → ⊥
+NeedsAre q (Undecided d) = Unit {0}
+
+abbrev pub NeedsAreChecked : Type 0
+NeedsAreChecked =
+    (q : ChooseTree) (text : List ℕ) (answer : ExistenceAnswer) → IsPreOf q text → IsExistence q.scope q.outputs q.relation answer → NeedsAre q answer
