@@ -1,0 +1,16 @@
+pub mod Marks
+pub mod Terms
+pub mod TermView
+pub mod Expressions
+pub mod Summing
+pub mod Reading
+pub mod Pieces
+pub mod Names
+pub mod Layout
+pub mod Rows
+pub mod Heads
+pub mod Sets
+pub mod Statements
+pub mod Files
+pub mod Printed
+pub mod EmissionView
