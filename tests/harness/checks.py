@@ -17,6 +17,14 @@ class Check:
     faults: tuple[str, ...] = ()
 
 
+@dataclass(frozen=True)
+class Skipped:
+    """Something that was not checked, and why."""
+
+    name: str
+    why: str
+
+
 def ended(name: str, seen: Ended, status: int = 0, out: bytes = b"", err: bytes = b"") -> Check:
     """Checks how a run ended, and what it wrote."""
     faults = [f"status {seen.status}, wanted {status}"] if seen.status != status else []
@@ -42,12 +50,16 @@ class Report:
     def __init__(self) -> None:
         self.passed = 0
         self.failed = 0
+        self.skipped = 0
 
-    def take(self, checks: Iterable[Check | str]) -> None:
-        """Takes checks, and remarks that count for nothing."""
+    def take(self, checks: Iterable[Check | Skipped | str]) -> None:
+        """Takes checks, what was skipped, and remarks that count for nothing."""
         for check in checks:
             if isinstance(check, str):
                 print(check, flush=True)
+            elif isinstance(check, Skipped):
+                self.skipped += 1
+                print(f"{check.name} is skipped: {check.why}", flush=True)
             elif check.faults:
                 self.failed += 1
                 print(f"{check.name}: {'; '.join(check.faults)}", flush=True)
@@ -56,5 +68,6 @@ class Report:
 
     def close(self) -> bool:
         """Tells the counts, and answers whether something was checked and nothing failed."""
-        print(f"{self.passed} passed, {self.failed} failed")
+        skipped = f", {self.skipped} skipped" if self.skipped else ""
+        print(f"{self.passed} passed, {self.failed} failed{skipped}")
         return self.passed > 0 and self.failed == 0

@@ -1,10 +1,10 @@
 """The examples, and what the commands must write on them.
 
-examples/ holds sources, each with its input lines in NAME.in; refused/ there holds sources that are refused, and steps/ sources with steps that were written
-by hand. tests/examples has for NAME.cf what must be written: NAME.out by `run`, NAME.target by `compile`, NAME.pre, NAME.check, and NAME.steps by `prove`. A
-source that is linear only on the numbers of a line has NAME.err in place of the last four, the line with which these commands refuse it. A source that is
-refused has NAME.err; steps have NAME.out with the lines in which `verify` accepts them, or NAME.err with that in which it rejects them.
-A target or steps that are given to the program, as a page quotes it, lie beside their source instead.
+examples/ holds sources, each with its input lines in NAME.in; refused/ there holds sources that are refused, steps/ sources with steps that were written by
+hand, and home/ what calls emitted functions in other languages. tests/examples has for NAME.cf what must be written: NAME.out by `run`, NAME.target by
+`compile`, NAME.pre, NAME.check, and NAME.steps by `prove`. A source that is linear only on the numbers of a line has NAME.err in place of the last four, the
+line with which these commands refuse it. A source that is refused has NAME.err; steps have NAME.out with the lines in which `verify` accepts them, or NAME.err
+with that in which it rejects them. A target or steps that are given to the program, as a page quotes it, lie beside their source instead.
 """
 
 from __future__ import annotations
@@ -15,6 +15,7 @@ from .program import ROOT
 
 EXAMPLES = ROOT / "examples"
 EXPECTED = ROOT / "tests/examples"
+HOME = EXAMPLES / "home"
 KINDS = {"compile": "target", "pre": "pre", "check": "check", "prove": "steps"}
 
 

@@ -9,12 +9,12 @@ from dataclasses import dataclass
 from functools import partial
 from pathlib import Path
 
-from .checks import Check
+from .checks import Check, Skipped
 from .program import Room
 
 MOST_WORKERS = 4
 
-Checks = Iterable[Check | str]
+Checks = Iterable[Check | Skipped | str]
 
 
 @dataclass(frozen=True)
@@ -37,12 +37,12 @@ def whole(name: str, checks: Callable[[Room], Checks], room: Room) -> Checks:
         yield Check(name, (f"broke off: {type(error).__name__}: {error}",))
 
 
-def done(program: Path, job: Job) -> list[Check | str]:
+def done(program: Path, job: Job) -> list[Check | Skipped | str]:
     with Room(program) as room:
         return list(whole(job.name, job.checks, room))
 
 
-def side_by_side(program: Path, jobs: Iterable[Job]) -> Iterator[Check | str]:
+def side_by_side(program: Path, jobs: Iterable[Job]) -> Iterator[Check | Skipped | str]:
     """Does the jobs side by side, and tells of them in their order."""
     with ProcessPoolExecutor(workers()) as pool:
         for told in pool.map(partial(done, program), list(jobs)):

@@ -1,7 +1,8 @@
 """The pages: what they quote is what the program writes, each example is named, and each definition that they name is there.
 
 A page quotes a command behind `$ ` in a block, and below it what the command writes. `cat` on a file of an example, `./comfusy` on such a file, and the
-`echo $?` behind one are done as they stand there, and what they write is compared. A command that reads lines reads those of its example.
+`echo $?` behind one are done as they stand there, and what they write is compared. A command that reads lines reads those of its example. Commands that write
+files stand in 'Take it home' and in docs/SCALE.md, whose parts do them.
 """
 
 from __future__ import annotations
@@ -33,8 +34,12 @@ class Quote:
 
 
 def quotes(page: str) -> Iterator[Quote]:
+    return quotes_of((ROOT / page).read_text(encoding="utf-8"))
+
+
+def quotes_of(text: str) -> Iterator[Quote]:
     command, lines = "", []
-    for number, line in enumerate((ROOT / page).read_text(encoding="utf-8").splitlines(), 1):
+    for number, line in enumerate(text.splitlines(), 1):
         if line.startswith(("```", "$ ")):
             if command:
                 yield Quote(command, "".join(lines), number)
@@ -59,15 +64,18 @@ def done(words: str, room: Room) -> Ended:
 
 
 def try_page(page: str, room: Room) -> Iterator[Check]:
-    status = 0
+    status = None
     for quote in quotes(page):
         place = f"{page}, before line {quote.behind}"
         start, _, words = quote.command.partition(" ")
         if quote.command == "echo $?":
-            yield equal(place, (quote.text, f"{status}\n"))
-        elif start == "cat" and words.startswith("examples/"):
+            if status is not None:
+                yield equal(place, (quote.text, f"{status}\n"))
+            continue
+        status = None
+        if start == "cat" and words.startswith("examples/"):
             yield equal(f"{place}: {quote.command}", (quote.text, examples.text_of(ROOT / words).decode()))
-        elif start == "./comfusy" and " examples/" in words:
+        elif start == "./comfusy" and " examples/" in words and " > " not in words:
             seen = done(words, room)
             status = seen.status
             wrote = (seen.out + seen.err).decode()

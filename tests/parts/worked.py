@@ -16,6 +16,7 @@ from harness.refusals import status_of
 from .proofs import try_verified
 
 GIVEN = (".target", ".steps")
+AT_HOME = ("home/change.html", "home/durations.py", "home/where.c")
 
 
 def try_example(name: str, room: Room) -> Iterator[Check]:
@@ -83,7 +84,7 @@ def holds_just(folder: Path, wanted: set[str]) -> Check:
 
 def try_folders(_: Room) -> Iterator[Check]:
     given = {name for name in owed() if name.endswith(GIVEN) and (EXAMPLES / name).exists()}
-    yield holds_just(EXAMPLES, set(sources_and_inputs()) | given)
+    yield holds_just(EXAMPLES, set(sources_and_inputs()) | given | set(AT_HOME))
     yield holds_just(EXPECTED, set(owed()) - given)
 
 
