@@ -1,7 +1,10 @@
 -- What a call from C answers, worked out.
-use Rattle.std.proofs.Common.{◌≡◌, refl, true, false, [], ◌∷◌, Some, Err}
+use Rattle.std.proofs.Common.{◌≡◌, ◌<◌, refl, sym, subst, arith, ℕ, zero, suc, true, false, List, [], ◌∷◌, Some, Err, IsUtf8, slice_index_or}
+use Rattle.std.proofs.lemmas.Bool.{true≢false}
+use Rattle.std.proofs.lemmas.Str.{is_utf8-from_IsUtf8}
+use Rattle.std.specs.Str.{is_utf8, chars}
 use Rattle.cf_answer.specs.declared.status.Status.TheVariants.{Done, Output, Rejected}
-use Rattle.cf_c.specs.Answered.{IsFilled, called_code, ended_code, fit, has_failed}
+use Rattle.cf_c.specs.Answered.{IsFilled, IsNoText, called_code, ended_code, fit, has_failed}
 use Rattle.cf_c.specs.declared.words.Uncalled.TheVariants.{NoText, NoMemory}
 
 -- the number is that of the status
@@ -49,3 +52,17 @@ with_room = record { count = refl; bytes = refl }
 
 without_room : IsFilled (7 ∷ []) (1 ∷ []) 2 (1 ∷ 2 ∷ [])
 without_room = record { count = refl; bytes = refl }
+
+-- the second word is no UTF-8
+second_is_no_text : IsNoText ((97 ∷ []) ∷ (255 ∷ []) ∷ [])
+unfolding is_utf8 chars
+second_is_no_text = (255 ∷ [], (1, omega arith, refl), λ is. true≢false (sym (is_utf8-from_IsUtf8 (255 ∷ []) is)))
+
+-- a letter alone is a text
+letter_at : (i : ℕ) (word : List ℕ) → i < 1 → slice_index_or ((97 ∷ []) ∷ []) i word ≡ word → IsUtf8 word
+unfolding lib.Utf8.encode
+letter_at zero word h e = subst IsUtf8 e (97 ∷ [], (refl, refl))
+letter_at (suc i) word h e = absurd (omega (arith, h))
+
+letter_is_text : IsNoText ((97 ∷ []) ∷ []) → ⊥
+letter_is_text (word, (i, h, e), none) = none (letter_at i word h e)

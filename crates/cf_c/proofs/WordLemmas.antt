@@ -1,5 +1,5 @@
 -- A word of a call that is no text.
-use Rattle.std.proofs.Common.{◌≡◌, ◌<◌, ℕ, zero, suc, List, [], ◌∷◌, length, get_or, Contains, IsUtf8, refl, arith}
+use Rattle.std.proofs.Common.{◌<◌, ℕ, zero, suc, List, [], ◌∷◌, length, get_or, Contains, IsUtf8, refl, arith}
 use Rattle.cf_c.specs.Answered.{bytes_of, IsNoText}
 use Rattle.cf_c.specs.declared.words.Word.{Word}
 

@@ -1,15 +1,15 @@
 -- What a call from C answers.
-use Rattle.std.specs.Prelude.{◌≡◌, ◌⊎◌, ◌≤◌, ℕ, Bool, true, false, ◌&&◌, ◌||◌, List, [], ◌++◌, length, map, min, take, drop, nat_le, nat_lt}
-use Rattle.std.specs.Prelude.{Option, Some, None, IfSome, IsSomeAnd, Contains, Result, Ok, Err}
+use Rattle.std.specs.Prelude.{◌≡◌, ◌⊎◌, ℕ, Bool, true, false, ◌&&◌, ◌||◌, List, ◌++◌, length, map, min, take, drop, nat_le, nat_lt}
+use Rattle.std.specs.Prelude.{Some, None, IfSome, IsSomeAnd, Contains, Result, Ok, Err}
 use Rattle.std.specs.Str.{IsUtf8}
 use Rattle.cf_io.specs.Causes.{Rose}
 use Rattle.cf_io.specs.Seen.{SinkSeen}
 use Rattle.cf_pass.specs.Passes.{Told}
 use Rattle.cf_words.specs.Words.{command_of, may_be_read}
-use Rattle.cf_answer.specs.Commands.{names_of, reads_input}
+use Rattle.cf_answer.specs.Commands.{names_of}
 use Rattle.cf_answer.specs.Ends.{IsInOrder}
 use Rattle.cf_answer.specs.Outside.{Outside, outside}
-use Rattle.cf_answer.specs.Statuses.{code_of, IsEarly}
+use Rattle.cf_answer.specs.Statuses.{code_of}
 use Rattle.cf_answer.specs.declared.status.Status.{Status}
 use Rattle.cf_answer.specs.declared.status.Status.TheVariants.{Usage, File as NoFile, Input, Output}
 use Rattle.cf_memory.specs.Files.{fresh_files}

@@ -1,5 +1,5 @@
 //! What is handed back through the buffers of the caller.
-ghost use Rattle.std.specs.Prelude.{◌≡◌, ◌++◌, length, take, drop};
+ghost use Rattle.std.specs.Prelude.{◌≡◌, ◌++◌, take, drop};
 ghost use Rattle.cf_c.specs.Answered.{IsFilled, fit, fitting};
 
 // Copies as many first bytes as fit, and says how many.

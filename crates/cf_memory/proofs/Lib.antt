@@ -1,1 +1,2 @@
+mod MemoryExamples
 mod NameLemmas

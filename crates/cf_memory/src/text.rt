@@ -1,5 +1,5 @@
 //! A source of one text.
-ghost use Rattle.std.specs.Prelude.{◌≡◌, ◌<◌, ◌≤◌, ◌^◌, ◌++◌, [], length, take, drop, min};
+ghost use Rattle.std.specs.Prelude.{◌≡◌, ◌<◌, ◌≤◌, ◌^◌, length, take, drop, min};
 
 use cf_io::{Failed, Source};
 
@@ -49,7 +49,7 @@ pub(crate) fn behind(left: &[u8], count: usize) -> &[u8]
 }
 
 impl<'a> Source for TextSource<'a> {
-    ghost use Rattle.std.specs.Prelude.{Some, is_some, IsOk, IfOk, OnOk, OnErr};
+    ghost use Rattle.std.specs.Prelude.{is_some, IsOk, IfOk, OnOk, OnErr};
     ghost use Rattle.std.specs.Io.{ReadsAtMost};
     ghost use Rattle.std.specs.Io.KnownBytes.{ReadConsumes};
     ghost use Rattle.cf_io.specs.Causes.{Rose, ChangesNothing, counted, one_more};

@@ -1,4 +1,4 @@
-use Rattle.std.proofs.Common.{◌≡◌, arith}
+use Rattle.std.proofs.Common.{arith}
 use Rattle.cf_c.proofs.WordLemmas.{no_text_at}
 use Rattle.cf_c.proofs.words.texts_of.Goals as goal
 
