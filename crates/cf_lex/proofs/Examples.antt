@@ -6,6 +6,7 @@ use Rattle.cf_lex.specs.Places.{first_place, place_after}
 use Rattle.cf_lex.specs.Steps.{Step, stops, skips, gives, step}
 use Rattle.cf_lex.specs.Tokens.{at_end, bad_byte, past_limit}
 use Rattle.cf_lex.specs.Words.{is_reserved}
+use Rattle.cf_tree.specs.declared.base.Edition.TheVariants.{Two}
 use Rattle.cf_lex.specs.declared.token.TokenKind.TheVariants.{Literal, Word, Sign}
 
 -- what is done at the front of a text, where a literal is at most 999
@@ -61,18 +62,18 @@ pieces =
     (stops at_end, []) ∷
     []
 
-pieces-step : map (λ x. step 999 x.1) pieces ≡ map (λ x. x.0) pieces
+pieces-step : map (λ x. step Two 999 x.1) pieces ≡ map (λ x. x.0) pieces
 pieces-step = refl
 
 -- a line feed begins a line, and each other byte is a column
 line-and-column : place_after first_place (97 ∷ 10 ∷ 9 ∷ 13 ∷ 98 ∷ []) ≡ record { line = 2; column = 4 }
 line-and-column = refl
 
-reserved : list_all is_reserved (codes "def" ∷ codes "let" ∷ codes "in" ∷ codes "if" ∷ codes "then" ∷ codes "else" ∷ codes "choose" ∷ codes "where" ∷ codes
+reserved : list_all (is_reserved Two) (codes "def" ∷ codes "let" ∷ codes "in" ∷ codes "if" ∷ codes "then" ∷ codes "else" ∷ codes "choose" ∷ codes "where" ∷ codes
     "int" ∷ codes "bool" ∷ codes "set" ∷ codes "true" ∷ codes "false" ∷ codes "union" ∷ codes "inter" ∷ codes "diff" ∷ codes "subset" ∷ codes "divides" ∷ codes
     "card" ∷ codes "div" ∷ codes "mod" ∷ codes "solve" ∷ codes "arm" ∷ codes "need" ∷ codes "give" ∷ codes "min" ∷ codes "max" ∷ codes "slice" ∷ codes "fresh" ∷
     codes "neg" ∷ codes "not" ∷ codes "abs" ∷ codes "match" ∷ codes "with" ∷ []) ≡ true
 reserved = refl
 
-not-reserved : list_any is_reserved (codes "main" ∷ codes "comfusy" ∷ codes "pre" ∷ codes "v0" ∷ codes "Let" ∷ codes "le" ∷ codes "lets" ∷ []) ≡ false
+not-reserved : list_any (is_reserved Two) (codes "main" ∷ codes "comfusy" ∷ codes "pre" ∷ codes "v0" ∷ codes "Let" ∷ codes "le" ∷ codes "lets" ∷ []) ≡ false
 not-reserved = refl

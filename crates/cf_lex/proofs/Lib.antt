@@ -5,3 +5,6 @@ pub mod GrammarLemmas
 pub mod StepLemmas
 pub mod LexesLemmas
 pub mod Examples
+pub mod EditionLemmas
+pub mod EditionExamples
+pub mod AtTwo

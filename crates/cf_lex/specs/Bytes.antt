@@ -28,3 +28,7 @@ is_short_sign b = list_any (λ c. b == c) (codes "(){}[],:;=<>!+-*")
 -- the signs of two bytes: == != <= >= && ||
 abbrev pub is_long_sign : ℕ → ℕ → Bool
 is_long_sign a b = b == 61 && list_any (λ c. a == c) (codes "=!<>") || a == 38 && b == 38 || a == 124 && b == 124
+
+-- the sign of three bytes, which edition 3 has alone: ==>
+abbrev pub is_longest_sign : ℕ → ℕ → ℕ → Bool
+is_longest_sign a b c = a == 61 && b == 61 && c == 62

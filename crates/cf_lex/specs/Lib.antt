@@ -1,5 +1,6 @@
 pub mod Bytes
 pub mod Digits
+pub mod Editions
 pub mod Front
 pub mod Places
 pub mod Runs

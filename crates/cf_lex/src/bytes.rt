@@ -1,7 +1,7 @@
 //! Kinds of bytes, and runs of them.
 ghost use Rattle.std.specs.Prelude.{◌≡◌, ◌+◌, ◌<◌, ◌≤◌, length};
 ghost use Rattle.std.specs.List.{prefix_len};
-ghost use Rattle.cf_lex.specs.Bytes.{is_white, is_letter, is_in_word, is_in_comment, is_short_sign, is_long_sign};
+ghost use Rattle.cf_lex.specs.Bytes.{is_white, is_letter, is_in_word, is_in_comment, is_short_sign, is_long_sign, is_longest_sign};
 
 use crate::digits::digit;
 
@@ -61,6 +61,13 @@ pub(crate) fn long_sign(a: u8, b: u8) -> bool
         b'|' => a == b'|',
         _ => false,
     }
+}
+
+/// Whether three bytes are one sign, in edition 3.
+pub(crate) fn longest_sign(a: u8, b: u8, c: u8) -> bool
+    ensures { result ≡ is_longest_sign a b c }
+{
+    a == b'=' && b == b'=' && c == b'>'
 }
 
 /// The number of bytes at the front of `text` that go on with a word.

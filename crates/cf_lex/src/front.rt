@@ -1,11 +1,13 @@
 //! The piece at the front of a text.
 ghost use Rattle.std.specs.Prelude.{◌≡◌, ◌+◌, ◌^◌, ◌<◌, ◌≤◌, length};
-ghost use Rattle.cf_lex.specs.Front.{front_of, sign_of, IsWithin};
+ghost use Rattle.cf_lex.specs.Front.{front_of, sign_of, long_of, IsWithin};
 
-use crate::bytes::{comment_len, letter, long_sign, short_sign, white, word_len};
+use crate::bytes::{comment_len, letter, long_sign, longest_sign, short_sign, white, word_len};
 use crate::digits::{digit, digits_len};
+use cf_tree::Edition;
 
 /// What stands at the front of a text, with its number of bytes: white space or a comment, a token, or nothing.
+#[derive(Clone, Copy)]
 pub(crate) enum Piece {
     Skip(usize),
     Literal(usize),
@@ -15,9 +17,9 @@ pub(crate) enum Piece {
 }
 
 /// The piece at the front of a text of this first byte and this rest.
-pub(crate) fn front(first: u8, rest: &[u8]) -> Piece
+pub(crate) fn front(edition: Edition, first: u8, rest: &[u8]) -> Piece
     requires { length rest.now < 2 ^ 32 }
-    ensures found { result ≡ front_of first rest.now }
+    ensures found { result ≡ front_of edition first rest.now }
     ensures size { IsWithin (length rest.now + 1) result }
 {
     if white(first) {
@@ -29,20 +31,36 @@ pub(crate) fn front(first: u8, rest: &[u8]) -> Piece
     } else if letter(first) {
         Piece::Word(1 + word_len(rest))
     } else {
-        sign_front(first, rest)
+        sign_front(edition, first, rest)
     }
 }
 
-fn sign_front(first: u8, rest: &[u8]) -> Piece
-    ensures found { result ≡ sign_of first rest.now }
+fn sign_front(edition: Edition, first: u8, rest: &[u8]) -> Piece
+    ensures found { result ≡ sign_of edition first rest.now }
     ensures size { IsWithin (length rest.now + 1) result }
 {
     match rest {
-        [second, ..] if long_sign(first, *second) => Piece::Sign(2),
+        [second, more @ ..] if long_sign(first, *second) => long_front(
+            edition, first, *second, more,
+        ),
         _ => if short_sign(first) {
             Piece::Sign(1)
         } else {
             Piece::Bad
+        },
+    }
+}
+
+// The longest sign that begins with a sign of two bytes.
+fn long_front(edition: Edition, first: u8, second: u8, more: &[u8]) -> Piece
+    ensures found { result ≡ long_of edition first second more.now }
+    ensures size { IsWithin (length more.now + 2) result }
+{
+    match edition {
+        Edition::Two => Piece::Sign(2),
+        Edition::Three => match more {
+            [third, ..] if longest_sign(first, second, *third) => Piece::Sign(3),
+            _ => Piece::Sign(2),
         },
     }
 }

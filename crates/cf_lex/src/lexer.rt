@@ -10,7 +10,7 @@ use crate::digits::literal;
 use crate::fault::LexFault;
 use crate::front::{Piece, front};
 use crate::token::{Token, TokenKind, TokenList};
-use cf_tree::{NoMemory, Place, Text};
+use cf_tree::{Edition, NoMemory, Place, Text};
 use std::alloc::Global;
 
 // The place after some bytes.
@@ -53,14 +53,20 @@ fn text_of(alloc: Global, bytes: &[u8]) -> Result<Text, NoMemory>
     })
 }
 
-fn take_piece(alloc: Global, place: Place, text: &[u8], limit: u128) -> Result<Taken, LexFault>
+fn take_piece(
+    alloc: Global,
+    edition: Edition,
+    place: Place,
+    text: &[u8],
+    limit: u128,
+) -> Result<Taken, LexFault>
     requires some { 0 < length text.now }
     requires short { length text.now < 2 ^ 32 }
     requires limit { limit < 2 ^ 127 }
-    ensures is { NextIs limit place text.now result }
+    ensures is { NextIs edition limit place text.now result }
     ensures size { IfOk result (λ n. (0 < n.size) × (n.size ≤ length text.now)) }
 {
-    match front(text[0], &text[1..]) {
+    match front(edition, text[0], &text[1..]) {
         Piece::Bad => Err(LexFault::BadByte(place)),
         Piece::Skip(size) => Ok(Taken { size, kind: None }),
         Piece::Literal(size) => match literal(&text[..size], limit) {
@@ -94,16 +100,16 @@ fn add(list: &mut Vec<Token>, place: Place, kind: Option<TokenKind>) -> Result<(
     }
 }
 
-fn scan(alloc: Global, text: &[u8], limit: u128) -> Result<TokenList, LexFault>
+fn scan(alloc: Global, edition: Edition, text: &[u8], limit: u128) -> Result<TokenList, LexFault>
     requires short { length text.now < 2 ^ 32 - 1 }
     requires limit { limit < 2 ^ 127 }
-    ensures { ScanAnswer limit text.now result }
+    ensures { ScanAnswer edition limit text.now result }
 {
     let mut list = Vec::new(alloc);
     let mut place = Place { line: 1, column: 1 };
     let mut rest = text;
     'pieces: while !rest.is_empty() {
-        let found = take_piece(alloc, place, rest, limit)?;
+        let found = take_piece(alloc, edition, place, rest, limit)?;
         add(&mut list, place, found.kind)?;
         place = after(place, &rest[..found.size]);
         rest = &rest[found.size..];
@@ -114,19 +120,20 @@ fn scan(alloc: Global, text: &[u8], limit: u128) -> Result<TokenList, LexFault>
 // The greatest literal.
 const MAX: u128 = 170141183460469231731687303715884105727;
 
-/// The tokens of a text, each with its place, and the place after the last byte.
+/// The tokens of a text by an edition, each with its place, and the place after the last byte. Targets and steps files have
+/// those of language 2.
 ///
 /// # Errors
 ///
 /// `BadByte` at the first byte at which no token, white space or comment begins, or `NumberPast` at the first literal
 /// past 2^127 - 1: whichever stands first. `NoMemory` where no memory is left.
-pub fn tokens(alloc: Global, text: &[u8]) -> Result<TokenList, LexFault>
+pub fn tokens(alloc: Global, edition: Edition, text: &[u8]) -> Result<TokenList, LexFault>
     requires { length text.now < 2 ^ 32 - 1 }
-    ensures answer { TokensAnswer (2 ^ 127 - 1) text.now result }
+    ensures answer { TokensAnswer edition (2 ^ 127 - 1) text.now result }
     // A text has no other tokens, and no other first fault.
-    ensures only { (ts : List Token) (q : Place) (e : Ending) → LexesTo (2 ^ 127 - 1) text.now ts q e → IsAnswer ts q e result }
+    ensures only { (ts : List Token) (q : Place) (e : Ending) → LexesTo edition (2 ^ 127 - 1) text.now ts q e → IsAnswer ts q e result }
     ensures literals { IfOk result (λ l. AreWithin (2 ^ 127 - 1) l.list.items) }
     ensures count { IfOk result (λ l. length l.list.items ≤ length text.now) }
 {
-    scan(alloc, text, MAX)
+    scan(alloc, edition, text, MAX)
 }

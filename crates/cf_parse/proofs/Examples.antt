@@ -1,19 +1,20 @@
 -- Worked examples of source texts: each production, and what is refused beside it.
-use Rattle.std.proofs.Common.{◌≡◌, ℕ, true, List, [], ◌∷◌, map, Ok, Err, refl, codes}
+use Rattle.std.proofs.Common.{◌≡◌, ℕ, true, false, List, [], ◌∷◌, map, Some, None, Ok, Err, refl, codes}
 use Rattle.std.specs.Prelude.{pos, negsuc}
+use Rattle.cf_tree.specs.declared.base.Edition.TheVariants.{Two}
 use Rattle.cf_lex.specs.declared.token.Token.{Token}
 use Rattle.cf_tree.specs.declared.base.Base.TheVariants.{Int, Set}
 use Rattle.cf_tree.specs.declared.base.Order.TheVariants.{Eq, Lt, Ge}
 use Rattle.cf_tree.specs.declared.raw.BinOp.TheVariants.{Add, Sub, Mul, And, Or, Union, Inter, Diff, Subset, Compare}
-use Rattle.cf_tree.specs.RawTree.{RawTree, raw_lit, raw_truth, raw_name, raw_set_of, raw_group, raw_tuple, raw_neg, raw_not, raw_abs, raw_binary, raw_divides, raw_div, raw_mod, raw_card, raw_call, raw_if, raw_let, raw_choose, raw_match, raw_arm, no_raws, raws_of, raw_arms_of}
-use Rattle.cf_tree.specs.DefView.{RawDefTree}
-use Rattle.cf_reader.specs.Readers.{at, pure, refuse, must, bind, first, deep, at_end, more_of, others_of, several_of, one_or_tuple}
+use Rattle.cf_tree.specs.RawTree.{RawTree, raw_lit, raw_truth, raw_name, raw_set_of, raw_group, raw_tuple, raw_neg, raw_not, raw_abs, raw_binary, raw_divides, raw_div, raw_mod, raw_card, raw_call, raw_if, raw_let, raw_choose, raw_match, raw_arm, no_raws, raws_of, raw_arms_of, number_lit, no_given, no_aim}
+use Rattle.cf_tree.specs.DefView.{RawItemTree, item_def}
+use Rattle.cf_reader.specs.Readers.{at, pure, refuse, must, bind, first, deep, at_end, more_of, others_of, several_of, while_of, listed_of, one_or_tuple}
 use Rattle.cf_reader.specs.Kinds.{results_of}
 use Rattle.cf_reader.specs.Operations.{op_of}
 use Rattle.cf_reader.proofs.Sample.{here, word, sign, literal}
 use Rattle.cf_parse.specs.declared.tier.Tier.TheVariants.{Whole}
-use Rattle.cf_parse.specs.Reading.{next_op, divides_by, param_of, params_of, names_of, term_of, terms_of, all_terms, pattern_of, chain_of, list_of, items_of, inside_of, divided_of, named_of, word_of, atom_of, unary_of, muls_of, sums_of, compared_of, cmps_of, ands_of, ors_of, let_of, if_of, choose_of, arm_of, match_of, whole_of, step, read}
-use Rattle.cf_parse.specs.Programs.{IsProgram, def_from, def_of, defs_of, all_defs, program_of}
+use Rattle.cf_parse.specs.Reading.{next_op, next_order, divides_by, param_of, params_of, outputs_of, names_of, named_term, term_of, terms_of, all_terms, pattern_of, chain_of, list_of, items_of, one_of, inside_of, divided_of, two_or_more_of, operation_of, behind_name, named_of, word_of, atom_of, unary_of, muls_of, sums_of, links_of, all_links, chained_of, compared_of, cmps_of, ands_of, ors_of, implied_of, imps_of, let_of, if_of, given_of, aim_of, choose_of, arm_of, match_of, whole_of, step, read}
+use Rattle.cf_parse.specs.Programs.{IsProgram, def_from, def_of, item_of, items_from, all_items, some_items, program_of}
 use Rattle.cf_parse.proofs.Programs.{found_law}
 
 abbrev x : RawTree
@@ -48,10 +49,10 @@ spelled =
     (raw_abs here x, word (codes "abs") ∷ sign (codes "(") ∷ word (codes "x") ∷ sign (codes ")") ∷ []) ∷
     (raw_card here x, word (codes "card") ∷ sign (codes "(") ∷ word (codes "x") ∷ sign (codes ")") ∷ []) ∷
     -- a part and a literal
-    (raw_div here x (pos 2), word (codes "div") ∷ sign (codes "(") ∷ word (codes "x") ∷ sign (codes ",") ∷ literal 2 ∷ sign (codes ")") ∷ []) ∷
-    (raw_mod here x (pos 2), word (codes "mod") ∷ sign (codes "(") ∷ word (codes "x") ∷ sign (codes ",") ∷ literal 2 ∷ sign (codes ")") ∷ []) ∷
-    (raw_divides here (pos 2) x, literal 2 ∷ word (codes "divides") ∷ word (codes "x") ∷ []) ∷
-    (raw_divides here (pos 2) (raw_binary here Add x y), literal 2 ∷ word (codes "divides") ∷ word (codes "x") ∷ sign (codes "+") ∷ word (codes "y") ∷ []) ∷
+    (raw_div here x (number_lit (pos 2)), word (codes "div") ∷ sign (codes "(") ∷ word (codes "x") ∷ sign (codes ",") ∷ literal 2 ∷ sign (codes ")") ∷ []) ∷
+    (raw_mod here x (number_lit (pos 2)), word (codes "mod") ∷ sign (codes "(") ∷ word (codes "x") ∷ sign (codes ",") ∷ literal 2 ∷ sign (codes ")") ∷ []) ∷
+    (raw_divides here (number_lit (pos 2)) x, literal 2 ∷ word (codes "divides") ∷ word (codes "x") ∷ []) ∷
+    (raw_divides here (number_lit (pos 2)) (raw_binary here Add x y), literal 2 ∷ word (codes "divides") ∷ word (codes "x") ∷ sign (codes "+") ∷ word (codes "y") ∷ []) ∷
     -- calls
     (raw_call here (codes "f") no_raws, word (codes "f") ∷ sign (codes "(") ∷ sign (codes ")") ∷ []) ∷ (
       raw_call here (codes "f") (raws_of (x ∷ y ∷ [])),
@@ -102,19 +103,20 @@ spelled =
       word (codes "let") ∷ sign (codes "(") ∷ word (codes "x") ∷ sign (codes ",") ∷ word
           (codes "y") ∷ sign (codes ")") ∷ sign (codes "=") ∷ word (codes "z") ∷ word (codes "in") ∷ word (codes "x") ∷ [],
     ) ∷ (
-      raw_choose here (record { place = here; name = codes "x"; base = Int } ∷ record { place = here; name = codes "y"; base = Set } ∷ [])
-          (raw_binary here Or x y),
+      raw_choose here (record { place = here; name = codes "x"; base = Int } ∷ record { place = here; name = codes "y"; base = Set } ∷ []) []
+          no_given (raw_binary here Or x y) no_aim,
       word (codes "choose") ∷ sign (codes "(") ∷ word (codes "x") ∷ sign (codes ":") ∷ word (codes "int") ∷ sign (codes ",") ∷ word
           (codes "y") ∷ sign (codes ":") ∷ word (codes "set") ∷ sign (codes ")") ∷ word (codes "where") ∷ word (codes "x") ∷ sign (codes "||") ∷ word
           (codes "y")
           ∷ [],
     ) ∷ (
-      raw_match here x (raw_arms_of (raw_arm (record { place = here; factor = (pos 1); name = codes "a" } ∷ []) (pos 0) y ∷ raw_arm [] (pos 3) z ∷ [])),
+      raw_match here x (raw_arms_of (raw_arm (record { start = here; is_negative = false; factor = None; place = here; name = codes "a" } ∷ []) (pos 0) y ∷ raw_arm [] (pos 3) z ∷ [])),
       word (codes "match") ∷ word (codes "x") ∷ word (codes "with") ∷ sign (codes "{") ∷ word (codes "a") ∷ word (codes "then") ∷ word (codes "y") ∷ sign
           (codes ";") ∷ literal 3 ∷ word (codes "then") ∷ word (codes "z") ∷ sign (codes "}") ∷ [],
     ) ∷ (
-      raw_match here x (raw_arms_of (raw_arm (record { place = here; factor = (negsuc 1); name = codes "a" } ∷ record
-          { place = here; factor = (pos 3); name = codes "b" } ∷ record { place = here; factor = (negsuc 0); name = codes "c" } ∷ []) (negsuc 3) y ∷ [])),
+      raw_match here x (raw_arms_of (raw_arm (record { start = here; is_negative = true; factor = Some (number_lit (pos 2)); place = here; name = codes "a" } ∷ record
+          { start = here; is_negative = false; factor = Some (number_lit (pos 3)); place = here; name = codes "b" } ∷ record
+          { start = here; is_negative = true; factor = None; place = here; name = codes "c" } ∷ []) (negsuc 3) y ∷ [])),
       word (codes "match") ∷ word (codes "x") ∷ word (codes "with") ∷ sign (codes "{") ∷ sign (codes "-") ∷ literal 2 ∷ sign (codes "*") ∷ word (codes "a") ∷
           sign (codes "+") ∷ literal 3 ∷ sign (codes "*") ∷ word (codes "b") ∷ sign (codes "-") ∷ word (codes "c") ∷ sign (codes "-") ∷ literal 4 ∷ word
           (codes "then") ∷ word (codes "y") ∷ sign (codes "}") ∷ [],
@@ -125,8 +127,8 @@ spelled =
     ) ∷
     []
 
-spelled-read : map (λ e. read 4 Whole e.1) spelled ≡ map (λ e. Ok (e.0, [])) spelled
-unfolding at pure refuse must bind first deep at_end more_of others_of several_of one_or_tuple op_of results_of next_op divides_by param_of params_of names_of term_of terms_of all_terms pattern_of chain_of list_of items_of inside_of divided_of named_of word_of atom_of unary_of muls_of sums_of compared_of cmps_of ands_of ors_of let_of if_of choose_of arm_of match_of whole_of step read
+spelled-read : map (λ e. read Two 4 Whole e.1) spelled ≡ map (λ e. Ok (e.0, [])) spelled
+unfolding at pure refuse must bind first deep at_end more_of others_of several_of while_of listed_of one_or_tuple op_of results_of next_op next_order divides_by param_of params_of outputs_of names_of named_term term_of terms_of all_terms pattern_of chain_of list_of items_of one_of inside_of divided_of two_or_more_of operation_of behind_name named_of word_of atom_of unary_of muls_of sums_of links_of all_links chained_of compared_of cmps_of ands_of ors_of implied_of imps_of let_of if_of given_of aim_of choose_of arm_of match_of whole_of step read
 spelled-read = refl
 
 -- tokens that do not spell an expression to their end, by how many are left from the fault on, or behind what was read
@@ -176,46 +178,46 @@ refused =
     ) ∷
     []
 
-refused-read : map (λ e. read 4 Whole e.1) refused ≡ map (λ e. Err e.0) refused
-unfolding at pure refuse must bind first deep at_end more_of others_of several_of one_or_tuple op_of results_of next_op divides_by param_of params_of names_of term_of terms_of all_terms pattern_of chain_of list_of items_of inside_of divided_of named_of word_of atom_of unary_of muls_of sums_of compared_of cmps_of ands_of ors_of let_of if_of choose_of arm_of match_of whole_of step read
+refused-read : map (λ e. read Two 4 Whole e.1) refused ≡ map (λ e. Err e.0) refused
+unfolding at pure refuse must bind first deep at_end more_of others_of several_of while_of listed_of one_or_tuple op_of results_of next_op next_order divides_by param_of params_of outputs_of names_of named_term term_of terms_of all_terms pattern_of chain_of list_of items_of one_of inside_of divided_of two_or_more_of operation_of behind_name named_of word_of atom_of unary_of muls_of sums_of links_of all_links chained_of compared_of cmps_of ands_of ors_of implied_of imps_of let_of if_of given_of aim_of choose_of arm_of match_of whole_of step read
 refused-read = refl
 
 -- a program of two functions
-abbrev two : List RawDefTree
+abbrev two : List RawItemTree
 two =
-    record { place = here; name = codes "f"; params = record { place = here; name = codes "x"; base = Int } ∷ []; results = Int ∷ Set ∷ []; body = x }
-    ∷ record { place = here; name = codes "main"; params = []; results = Int ∷ []; body = raw_lit here (pos 1) } ∷ []
+    item_def (record { place = here; name = codes "f"; params = record { place = here; name = codes "x"; base = Int } ∷ []; results = Int ∷ Set ∷ []; body = x })
+    ∷ item_def (record { place = here; name = codes "main"; params = []; results = Int ∷ []; body = raw_lit here (pos 1) }) ∷ []
 
 abbrev two_spelled : List Token
 two_spelled = word (codes "def") ∷ word (codes "f") ∷ sign (codes "(") ∷ word (codes "x") ∷ sign (codes ":") ∷ word (codes "int") ∷ sign (codes ")") ∷ sign
     (codes ":") ∷ sign (codes "(") ∷ word (codes "int") ∷ sign (codes ",") ∷ word (codes "set") ∷ sign (codes ")") ∷ sign (codes "=") ∷ word (codes "x") ∷ word
     (codes "def") ∷ word (codes "main") ∷ sign (codes "(") ∷ sign (codes ")") ∷ sign (codes ":") ∷ word (codes "int") ∷ sign (codes "=") ∷ literal 1 ∷ []
 
-two-functions : IsProgram two two_spelled
-unfolding def_from def_of defs_of all_defs program_of at pure refuse must bind first deep at_end more_of others_of several_of one_or_tuple op_of results_of next_op divides_by param_of params_of names_of term_of terms_of all_terms pattern_of chain_of list_of items_of inside_of divided_of named_of word_of atom_of unary_of muls_of sums_of compared_of cmps_of ands_of ors_of let_of if_of choose_of arm_of match_of whole_of step read
-two-functions = found_law two_spelled two [] refl
+two-functions : IsProgram Two two two_spelled
+unfolding def_from def_of item_of items_from all_items some_items program_of at pure refuse must bind first deep at_end more_of others_of several_of while_of listed_of one_or_tuple op_of results_of next_op next_order divides_by param_of params_of outputs_of names_of named_term term_of terms_of all_terms pattern_of chain_of list_of items_of one_of inside_of divided_of two_or_more_of operation_of behind_name named_of word_of atom_of unary_of muls_of sums_of links_of all_links chained_of compared_of cmps_of ands_of ors_of implied_of imps_of let_of if_of given_of aim_of choose_of arm_of match_of whole_of step read
+two-functions = found_law Two two_spelled two [] refl
 
 -- a comparison is no chain; only a literal of at least 1 divides, and what it divides is no such form again
-no-chain : program_of 200 (word (codes "def") ∷ word (codes "main") ∷ sign (codes "(") ∷ sign (codes ")") ∷ sign (codes ":") ∷ word (codes "int") ∷ sign
+no-chain : program_of Two 200 (word (codes "def") ∷ word (codes "main") ∷ sign (codes "(") ∷ sign (codes ")") ∷ sign (codes ":") ∷ word (codes "int") ∷ sign
     (codes "=") ∷ word (codes "x") ∷ sign (codes "==") ∷ word (codes "y") ∷ sign (codes "==") ∷ word (codes "z") ∷ []) ≡ Err 2
-unfolding def_from def_of defs_of all_defs program_of at pure refuse must bind first deep at_end more_of others_of several_of one_or_tuple op_of results_of next_op divides_by param_of params_of names_of term_of terms_of all_terms pattern_of chain_of list_of items_of inside_of divided_of named_of word_of atom_of unary_of muls_of sums_of compared_of cmps_of ands_of ors_of let_of if_of choose_of arm_of match_of whole_of step read
+unfolding def_from def_of item_of items_from all_items some_items program_of at pure refuse must bind first deep at_end more_of others_of several_of while_of listed_of one_or_tuple op_of results_of next_op next_order divides_by param_of params_of outputs_of names_of named_term term_of terms_of all_terms pattern_of chain_of list_of items_of one_of inside_of divided_of two_or_more_of operation_of behind_name named_of word_of atom_of unary_of muls_of sums_of links_of all_links chained_of compared_of cmps_of ands_of ors_of implied_of imps_of let_of if_of given_of aim_of choose_of arm_of match_of whole_of step read
 no-chain = refl
 
-name-divides : program_of 200 (word (codes "def") ∷ word (codes "main") ∷ sign (codes "(") ∷ sign (codes ")") ∷ sign (codes ":") ∷ word (codes "int") ∷ sign
+name-divides : program_of Two 200 (word (codes "def") ∷ word (codes "main") ∷ sign (codes "(") ∷ sign (codes ")") ∷ sign (codes ":") ∷ word (codes "int") ∷ sign
     (codes "=") ∷ word (codes "x") ∷ word (codes "divides") ∷ word (codes "y") ∷ []) ≡ Err 2
-unfolding def_from def_of defs_of all_defs program_of at pure refuse must bind first deep at_end more_of others_of several_of one_or_tuple op_of results_of next_op divides_by param_of params_of names_of term_of terms_of all_terms pattern_of chain_of list_of items_of inside_of divided_of named_of word_of atom_of unary_of muls_of sums_of compared_of cmps_of ands_of ors_of let_of if_of choose_of arm_of match_of whole_of step read
+unfolding def_from def_of item_of items_from all_items some_items program_of at pure refuse must bind first deep at_end more_of others_of several_of while_of listed_of one_or_tuple op_of results_of next_op next_order divides_by param_of params_of outputs_of names_of named_term term_of terms_of all_terms pattern_of chain_of list_of items_of one_of inside_of divided_of two_or_more_of operation_of behind_name named_of word_of atom_of unary_of muls_of sums_of links_of all_links chained_of compared_of cmps_of ands_of ors_of implied_of imps_of let_of if_of given_of aim_of choose_of arm_of match_of whole_of step read
 name-divides = refl
 
-zero-divides : program_of 200 (word (codes "def") ∷ word (codes "main") ∷ sign (codes "(") ∷ sign (codes ")") ∷ sign (codes ":") ∷ word (codes "int") ∷ sign
+zero-divides : program_of Two 200 (word (codes "def") ∷ word (codes "main") ∷ sign (codes "(") ∷ sign (codes ")") ∷ sign (codes ":") ∷ word (codes "int") ∷ sign
     (codes "=") ∷ literal 0 ∷ word (codes "divides") ∷ word (codes "y") ∷ []) ≡ Err 2
-unfolding def_from def_of defs_of all_defs program_of at pure refuse must bind first deep at_end more_of others_of several_of one_or_tuple op_of results_of next_op divides_by param_of params_of names_of term_of terms_of all_terms pattern_of chain_of list_of items_of inside_of divided_of named_of word_of atom_of unary_of muls_of sums_of compared_of cmps_of ands_of ors_of let_of if_of choose_of arm_of match_of whole_of step read
+unfolding def_from def_of item_of items_from all_items some_items program_of at pure refuse must bind first deep at_end more_of others_of several_of while_of listed_of one_or_tuple op_of results_of next_op next_order divides_by param_of params_of outputs_of names_of named_term term_of terms_of all_terms pattern_of chain_of list_of items_of one_of inside_of divided_of two_or_more_of operation_of behind_name named_of word_of atom_of unary_of muls_of sums_of links_of all_links chained_of compared_of cmps_of ands_of ors_of implied_of imps_of let_of if_of given_of aim_of choose_of arm_of match_of whole_of step read
 zero-divides = refl
 
-divides-divides : program_of 200 (word (codes "def") ∷ word (codes "main") ∷ sign (codes "(") ∷ sign (codes ")") ∷ sign (codes ":") ∷ word (codes "int") ∷ sign
+divides-divides : program_of Two 200 (word (codes "def") ∷ word (codes "main") ∷ sign (codes "(") ∷ sign (codes ")") ∷ sign (codes ":") ∷ word (codes "int") ∷ sign
     (codes "=") ∷ literal 1 ∷ word (codes "divides") ∷ word (codes "y") ∷ word (codes "divides") ∷ word (codes "z") ∷ []) ≡ Err 2
-unfolding def_from def_of defs_of all_defs program_of at pure refuse must bind first deep at_end more_of others_of several_of one_or_tuple op_of results_of next_op divides_by param_of params_of names_of term_of terms_of all_terms pattern_of chain_of list_of items_of inside_of divided_of named_of word_of atom_of unary_of muls_of sums_of compared_of cmps_of ands_of ors_of let_of if_of choose_of arm_of match_of whole_of step read
+unfolding def_from def_of item_of items_from all_items some_items program_of at pure refuse must bind first deep at_end more_of others_of several_of while_of listed_of one_or_tuple op_of results_of next_op next_order divides_by param_of params_of outputs_of names_of named_term term_of terms_of all_terms pattern_of chain_of list_of items_of one_of inside_of divided_of two_or_more_of operation_of behind_name named_of word_of atom_of unary_of muls_of sums_of links_of all_links chained_of compared_of cmps_of ands_of ors_of implied_of imps_of let_of if_of given_of aim_of choose_of arm_of match_of whole_of step read
 divides-divides = refl
 
-no-functions : program_of 200 ([]) ≡ Err 0
-unfolding def_from def_of defs_of all_defs program_of at pure refuse must bind first deep at_end more_of others_of several_of one_or_tuple op_of results_of next_op divides_by param_of params_of names_of term_of terms_of all_terms pattern_of chain_of list_of items_of inside_of divided_of named_of word_of atom_of unary_of muls_of sums_of compared_of cmps_of ands_of ors_of let_of if_of choose_of arm_of match_of whole_of step read
+no-functions : program_of Two 200 ([]) ≡ Err 0
+unfolding def_from def_of item_of items_from all_items some_items program_of at pure refuse must bind first deep at_end more_of others_of several_of while_of listed_of one_or_tuple op_of results_of next_op next_order divides_by param_of params_of outputs_of names_of named_term term_of terms_of all_terms pattern_of chain_of list_of items_of one_of inside_of divided_of two_or_more_of operation_of behind_name named_of word_of atom_of unary_of muls_of sums_of links_of all_links chained_of compared_of cmps_of ands_of ors_of implied_of imps_of let_of if_of given_of aim_of choose_of arm_of match_of whole_of step read
 no-functions = refl

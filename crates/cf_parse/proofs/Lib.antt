@@ -8,5 +8,8 @@ pub mod Only
 pub mod Defs
 pub mod Programs
 pub mod Examples
+pub mod ThreeExamples
+pub mod ThreeSpelled
+pub mod AtTwo
 mod LimitExamples
 mod FaultExamples

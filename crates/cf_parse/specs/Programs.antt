@@ -1,14 +1,16 @@
 -- Programs, and what the reader of a program answers.
-use Rattle.std.specs.Prelude.{◌≡◌, ◌≤◌, ℕ, zero, suc, List, [], ◌∷◌, length, Result, Ok, Err, codes}
+use Rattle.std.specs.Prelude.{◌≡◌, ◌≤◌, ℕ, zero, suc, pos, List, [], ◌∷◌, length, Option, Some, None, Result, Ok, Err, int_le, codes, if◌then◌else◌}
+use Rattle.cf_tree.specs.declared.base.Edition.{Edition}
+use Rattle.cf_tree.specs.declared.base.Edition.TheVariants.{Two, Three}
 use Rattle.cf_lex.specs.declared.token.Token.{Token}
-use Rattle.cf_lex.specs.declared.token.TokenKind.TheVariants.{Word, Sign}
+use Rattle.cf_lex.specs.declared.token.TokenKind.TheVariants.{Literal, Word, Sign}
 use Rattle.cf_tree.specs.declared.base.Place.{Place}
 use Rattle.cf_tree.specs.declared.raw.Param.{Param}
 use Rattle.cf_tree.specs.declared.raw.Program.{Program}
-use Rattle.cf_tree.specs.RawTree.{raw_depth}
-use Rattle.cf_tree.specs.DefView.{RawDefTree, program_tree}
-use Rattle.cf_reader.specs.Readers.{Reader, is, a_name, pure, must, ◌>>=◌, at_end, snoc}
-use Rattle.cf_reader.specs.Tokens.{Form, ◌⨟◌, If, First, Next, NextName, AnyNumber, OneOrTuple}
+use Rattle.cf_tree.specs.RawTree.{RawTree, raw_depth}
+use Rattle.cf_tree.specs.DefView.{RawDefTree, RawItemTree, item_const, item_def, program_tree}
+use Rattle.cf_reader.specs.Readers.{Reader, Test, is, a_name, a_function, pure, must, ◌>>=◌, first, at_end, snoc}
+use Rattle.cf_reader.specs.Tokens.{Form, ◌⨟◌, IsThree, If, First, Next, FirstName, NextFunction, AnyNumber, OneOrTuple}
 use Rattle.cf_reader.specs.Kinds.{SpellsBase, results_of}
 use Rattle.cf_parse.specs.declared.tier.Tier.TheVariants.{Whole}
 use Rattle.cf_reader.specs.declared.fault.ParseFault.{ParseFault}
@@ -17,63 +19,100 @@ use Rattle.cf_parse.specs.Spelling.{SpellsParam, Spells}
 use Rattle.cf_parse.specs.Reading.{params_of, read}
 
 -- [ param { "," param } ] ")"
-abbrev pub SpellsParams : List Param → Form
-SpellsParams xs = AnyNumber SpellsParam (Sign (codes ",")) (Sign (codes ")")) xs
+abbrev pub SpellsParams : Edition → List Param → Form
+SpellsParams edition xs = AnyNumber (SpellsParam edition) (Sign (codes ",")) (Sign (codes ")")) xs
 
--- def = "def" name "(" [ param { "," param } ] ")" ":" results "=" expr, with a body of at most this depth
-abbrev pub SpellsDef : ℕ → RawDefTree → Form
-SpellsDef limit d =
-    First d.place (Word (codes "def")) ⨟ NextName d.name ⨟ Next (Sign (codes "(")) ⨟ SpellsParams d.params ⨟ Next (Sign (codes ":")) ⨟ OneOrTuple SpellsBase
-    d.results
-    ⨟ Next (Sign (codes "=")) ⨟ If (raw_depth d.body ≤ limit) (Spells d.body)
+-- def = "def" fname "(" [ param { "," param } ] ")" ":" results "=" expr, with a body of at most this depth
+abbrev pub SpellsDef : Edition → ℕ → RawDefTree → Form
+SpellsDef edition limit d =
+    First d.place (Word (codes "def")) ⨟ NextFunction edition d.name ⨟ Next (Sign (codes "(")) ⨟ SpellsParams edition d.params ⨟ Next (Sign (codes ":"))
+    ⨟ OneOrTuple SpellsBase d.results
+    ⨟ Next (Sign (codes "=")) ⨟ If (raw_depth d.body ≤ limit) (Spells edition d.body)
 
--- { def }, up to the end
-abbrev pub SpellsDefs : ℕ → List RawDefTree → List Token → Type 0
-SpellsDefs limit [] ts = ts ≡ []
-SpellsDefs limit (d ∷ ds) ts = (mid : List Token) × SpellsDef limit d ts mid × SpellsDefs limit ds mid
+-- item = def | "const" name "=" expr, with an expression of at most this depth; the place is that of the name
+abbrev pub SpellsItem : Edition → ℕ → RawItemTree → Form
+SpellsItem edition limit (item_def d) = SpellsDef edition limit d
+SpellsItem edition limit (item_const p x e) =
+    If (IsThree edition)
+    (Next (Word (codes "const")) ⨟ FirstName edition p x ⨟ Next (Sign (codes "=")) ⨟ If (raw_depth e ≤ limit) (Spells edition e))
 
--- program = def { def }
-abbrev pub SpellsProgram : ℕ → List RawDefTree → List Token → Type 0
-SpellsProgram limit [] ts = ⊥
-SpellsProgram limit (d ∷ ds) ts = SpellsDefs limit (d ∷ ds) ts
+-- { item }, up to the end
+abbrev pub SpellsAll : Edition → ℕ → List RawItemTree → List Token → Type 0
+SpellsAll edition limit [] ts = ts ≡ []
+SpellsAll edition limit (x ∷ xs) ts = (mid : List Token) × SpellsItem edition limit x ts mid × SpellsAll edition limit xs mid
 
--- the tokens spell the program, and the depth of each body is within the limit
-abbrev pub IsProgram : List RawDefTree → List Token → Type 0
-IsProgram ds ts = SpellsProgram 200 ds ts
+-- item { item }
+abbrev pub SpellsSome : Edition → ℕ → List RawItemTree → List Token → Type 0
+SpellsSome edition limit [] ts = ⊥
+SpellsSome edition limit (x ∷ xs) ts = SpellsAll edition limit (x ∷ xs) ts
+
+-- program = item { item }, in edition 3 behind the header "comfusy" "3"
+abbrev pub SpellsProgram : Edition → ℕ → List RawItemTree → List Token → Type 0
+SpellsProgram Two limit xs ts = SpellsSome Two limit xs ts
+SpellsProgram Three limit xs ts =
+    (mid : List Token) × (Next (Word (codes "comfusy")) ⨟ Next (Literal (pos 3))) ts mid × SpellsSome Three limit xs mid
+
+-- the tokens spell the program, and the depth of each body and constant is within the limit
+abbrev pub IsProgram : Edition → List RawItemTree → List Token → Type 0
+IsProgram edition xs ts = SpellsProgram edition 200 xs ts
 
 -- the tokens spell some program
-abbrev pub SomeProgram : List Token → Type 0
-SomeProgram ts = (ds : List RawDefTree) × IsProgram ds ts
+abbrev pub SomeProgram : Edition → List Token → Type 0
+SomeProgram edition ts = (xs : List RawItemTree) × IsProgram edition xs ts
 
 -- behind the word def
-unfoldable pub def_from : ℕ → Place → Reader RawDefTree
-def_from limit p = do
-  x ← must a_name
+unfoldable pub def_from : Edition → ℕ → Place → Reader RawDefTree
+def_from edition limit p = do
+  x ← must (a_function edition)
   _ ← must (is (Sign (codes "(")))
-  params ← params_of
+  params ← params_of edition
   _ ← must (is (Sign (codes ":")))
   results ← results_of
   _ ← must (is (Sign (codes "=")))
-  e ← read limit Whole
+  e ← read edition limit Whole
   pure (record { place = p; name = x.1; params = params; results = results; body = e })
 
-unfoldable pub def_of : ℕ → Reader RawDefTree
-def_of limit = must (is (Word (codes "def"))) >>= λ p. def_from limit p
+-- behind the word const
+unfoldable pub const_from : ℕ → Reader RawItemTree
+const_from limit = do
+  x ← must (a_name Three)
+  _ ← must (is (Sign (codes "=")))
+  e ← read Three limit Whole
+  pure (item_const x.0 x.1 e)
 
--- the functions from here on, behind those read before
-unfoldable pub defs_of : ℕ → ℕ → List RawDefTree → Reader (List RawDefTree)
-defs_of limit zero done = at_end done (λ ts. Err 0)
-defs_of limit (suc fuel) done = at_end done (def_of limit >>= λ d. defs_of limit fuel (snoc done d))
+unfoldable pub def_of : Edition → ℕ → Reader RawItemTree
+def_of edition limit = must (is (Word (codes "def"))) >>= λ p. def_from edition limit p >>= λ d. pure (item_def d)
 
-unfoldable pub all_defs : ℕ → List RawDefTree → Reader (List RawDefTree)
-all_defs limit done ts = defs_of limit (length ts) done ts
+unfoldable pub item_of : Edition → ℕ → Reader RawItemTree
+item_of Two limit = def_of Two limit
+item_of Three limit = first (is (Word (codes "const"))) (λ p. const_from limit) (def_of Three limit)
+
+-- the items from here on, behind those read before
+unfoldable pub items_from : Edition → ℕ → ℕ → List RawItemTree → Reader (List RawItemTree)
+items_from edition limit zero done = at_end done (λ ts. Err 0)
+items_from edition limit (suc fuel) done = at_end done (item_of edition limit >>= λ x. items_from edition limit fuel (snoc done x))
+
+unfoldable pub all_items : Edition → ℕ → List RawItemTree → Reader (List RawItemTree)
+all_items edition limit done ts = items_from edition limit (length ts) done ts
+
+unfoldable pub some_items : Edition → ℕ → Reader (List RawItemTree)
+some_items edition limit = item_of edition limit >>= λ x. all_items edition limit (x ∷ [])
+
+-- a literal of the value 3
+abbrev pub a_three : Test Place
+a_three t = elim t.kind [
+  | Literal n ↦ if int_le (pos 3) n then (if int_le n (pos 3) then Some t.place else None) else None
+  | Word x ↦ None
+  | Sign x ↦ None
+]
 
 -- the whole of the tokens
-unfoldable pub program_of : ℕ → Reader (List RawDefTree)
-program_of limit = def_of limit >>= λ d. all_defs limit (d ∷ [])
+unfoldable pub program_of : Edition → ℕ → Reader (List RawItemTree)
+program_of Two limit = some_items Two limit
+program_of Three limit = must (is (Word (codes "comfusy"))) >>= λ p. must a_three >>= λ q. some_items Three limit
 
 -- the answer is this program, or memory ran out
-abbrev pub ParseAnswer : List RawDefTree → Result Program ParseFault → Type 0
-ParseAnswer ds (Ok x) = program_tree x ≡ ds
-ParseAnswer ds (Err NoMemory) = Unit {0}
-ParseAnswer ds (Err (Syntax p)) = ⊥
+abbrev pub ParseAnswer : List RawItemTree → Result Program ParseFault → Type 0
+ParseAnswer xs (Ok x) = program_tree x ≡ xs
+ParseAnswer xs (Err NoMemory) = Unit {0}
+ParseAnswer xs (Err (Syntax p)) = ⊥

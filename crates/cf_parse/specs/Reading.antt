@@ -1,28 +1,32 @@
 -- Reading expressions from left to right.
-use Rattle.std.specs.Prelude.{ℕ, zero, suc, ℤ, pos, int_le, nat_le, nat_eq, List, [], ◌∷◌, length, Option, Some, None, Err, codes, if◌then◌else◌}
+use Rattle.std.specs.Prelude.{ℕ, zero, suc, ℤ, pos, int_le, nat_le, nat_eq, Bool, true, false, List, [], ◌∷◌, length, Option, Some, None, Err, codes, if◌then◌else◌}
 use Rattle.std.specs.Str.{bytes_eq}
+use Rattle.cf_lex.specs.Words.{is_reserved, is_operation}
+use Rattle.cf_tree.specs.declared.base.Edition.{Edition}
+use Rattle.cf_tree.specs.declared.base.Edition.TheVariants.{Two, Three}
 use Rattle.cf_lex.specs.declared.token.TokenKind.{TokenKind}
 use Rattle.cf_lex.specs.declared.token.TokenKind.TheVariants.{Literal, Word, Sign}
+use Rattle.cf_tree.specs.declared.base.Order.{Order}
 use Rattle.cf_tree.specs.declared.base.Place.{Place}
+use Rattle.cf_tree.specs.declared.base.Sense.{Sense}
+use Rattle.cf_tree.specs.declared.base.Sense.TheVariants.{Least, Greatest}
 use Rattle.cf_tree.specs.declared.raw.BinOp.{BinOp}
+use Rattle.cf_tree.specs.declared.raw.BinOp.TheVariants.{Compare}
 use Rattle.cf_tree.specs.declared.raw.Param.{Param}
-use Rattle.cf_tree.specs.declared.raw.Part.{Part}
-use Rattle.cf_tree.specs.RawTree.{RawTree, raw_lit, raw_truth, raw_name, raw_set_of, raw_group, raw_tuple, raw_neg, raw_not, raw_abs, raw_binary, raw_divides, raw_div, raw_mod, raw_card, raw_call, raw_if, raw_let, raw_choose, raw_match, RawArmTree, raw_arm, no_raws, raws_of, raw_arms_of, raw_depth}
-use Rattle.cf_reader.specs.Readers.{Reader, Test, is, a_name, a_literal, pure, must, ◌>>=◌, first, deep, several_of, snoc, one_or_tuple}
+use Rattle.cf_tree.specs.RawTree.{NumberTree, number_lit, number_name, PartTree, RawTree, raw_lit, raw_truth, raw_name, raw_set_of, raw_group, raw_tuple, raw_neg, raw_not, raw_abs, raw_binary, raw_chain, raw_min, raw_max, raw_divides, raw_div, raw_mod, raw_card, raw_call, raw_if, raw_let, raw_choose, raw_match, RawArmTree, raw_arm, no_raws, raws_of, raw_arms_of, GivenTree, no_given, given_that, AimTree, no_aim, aim_at, raw_depth}
+use Rattle.cf_reader.specs.Readers.{Reader, Test, is, a_name, a_function, a_literal, pure, must, ◌>>=◌, first, deep, several_of, listed_of, snoc, one_or_tuple}
 use Rattle.cf_reader.specs.Kinds.{a_base, a_truth}
 use Rattle.cf_reader.specs.Operations.{op_of}
 use Rattle.cf_parse.specs.declared.sign.TermSign.{TermSign}
 use Rattle.cf_parse.specs.declared.sign.TermSign.TheVariants.{Plus, Minus}
 use Rattle.cf_parse.specs.declared.tier.Tier.{Tier}
-use Rattle.cf_parse.specs.declared.tier.Tier.TheVariants.{Whole, Ors, Ands, Cmps, Sums, Muls, Unary}
-use Rattle.cf_parse.specs.declared.pattern.Term.{Term}
-use Rattle.cf_parse.specs.declared.pattern.Term.TheVariants.{Part as a_part, Constant as the_constant}
-use Rattle.cf_parse.specs.Spelling.{rank, under, op_tier, signed}
+use Rattle.cf_parse.specs.declared.tier.Tier.TheVariants.{Whole, Imps, Ors, Ands, Cmps, Sums, Muls, Unary}
+use Rattle.cf_parse.specs.Spelling.{rank, under, right_tier, op_tier, relation_tier, runs_one_way, is_minus, signed}
 
 -- a plus or a minus
-abbrev pub a_sign : Test TermSign
+abbrev pub a_sign : Test (Place × TermSign)
 a_sign t = elim t.kind [
-  | Sign x ↦ if bytes_eq x (codes "+") then Some Plus else if bytes_eq x (codes "-") then Some Minus else None
+  | Sign x ↦ if bytes_eq x (codes "+") then Some (t.place, Plus) else if bytes_eq x (codes "-") then Some (t.place, Minus) else None
   | Literal n ↦ None
   | Word x ↦ None
 ]
@@ -32,52 +36,72 @@ op_at tier p None = None
 op_at tier p (Some op) = if nat_eq (rank (op_tier op)) (rank tier) then Some (p, op) else None
 
 -- the operation with which a tree of depth d goes on at a tier, where its parts may have depth n
-unfoldable pub next_op : Tier → ℕ → ℕ → Test (Place × BinOp)
-next_op tier n d t = if nat_le d n then op_at tier t.place (op_of t.kind) else None
+unfoldable pub next_op : Edition → Tier → ℕ → ℕ → Test (Place × BinOp)
+next_op edition tier n d t = if nat_le d n then op_at tier t.place (op_of edition t.kind) else None
 
--- a literal that stands alone
-abbrev pub lone_literal : RawTree → Option (Place × ℤ)
-lone_literal (raw_lit p k) = Some (p, k)
-lone_literal (raw_truth p t) = None
-lone_literal (raw_name p x) = None
-lone_literal (raw_set_of p es) = None
-lone_literal (raw_group p a) = None
-lone_literal (raw_tuple p es) = None
-lone_literal (raw_neg p a) = None
-lone_literal (raw_not p a) = None
-lone_literal (raw_abs p a) = None
-lone_literal (raw_binary p op a b) = None
-lone_literal (raw_divides p k a) = None
-lone_literal (raw_div p a k) = None
-lone_literal (raw_mod p a k) = None
-lone_literal (raw_card p a) = None
-lone_literal (raw_call p x es) = None
-lone_literal (raw_if p a b c) = None
-lone_literal (raw_let p xs qs a b) = None
-lone_literal (raw_choose p ps a) = None
-lone_literal (raw_match p a arms) = None
+abbrev pub order_of : Option BinOp → Option Order
+order_of (Some (Compare order)) = Some order
+order_of op = None
 
-abbrev pub factor_of : ℕ → Option (Place × ℤ) → Option Place → Option (Place × ℤ)
-factor_of n None q = None
-factor_of n (Some k) None = None
-factor_of n (Some k) (Some q) = if int_le (pos 1) k.1 then (if nat_le 1 n then Some k else None) else None
+abbrev pub order_at : List Order → Place → Option Order → Option (Place × Order)
+order_at orders p None = None
+order_at orders p (Some order) = if runs_one_way (snoc orders order) then Some (p, order) else None
 
--- the word divides, behind a literal of at least 1
-unfoldable pub divides_by : ℕ → RawTree → Test (Place × ℤ)
-divides_by n left t = factor_of n (lone_literal left) (is (Word (codes "divides")) t)
+-- the order with which a chain goes on behind these
+unfoldable pub next_order : List Order → Test (Place × Order)
+next_order orders t = order_at orders t.place (order_of (op_of Three t.kind))
+
+-- a literal that stands alone, in edition 3 a name too, with its place
+abbrev pub lone_number : Edition → RawTree → Option (Place × NumberTree)
+lone_number edition (raw_lit p k) = Some (p, number_lit k)
+lone_number Three (raw_name p x) = Some (p, number_name p x)
+lone_number edition e = None
+
+-- a literal is at least 1
+abbrev pub is_divisor : NumberTree → Bool
+is_divisor (number_lit k) = int_le (pos 1) k
+is_divisor (number_name p x) = true
+
+abbrev pub divisor_of : ℕ → Option (Place × NumberTree) → Option Place → Option (Place × NumberTree)
+divisor_of n None q = None
+divisor_of n (Some k) None = None
+divisor_of n (Some k) (Some q) = if is_divisor k.1 then (if nat_le 1 n then Some k else None) else None
+
+-- the word divides, behind a literal of at least 1 or a name
+unfoldable pub divides_by : Edition → ℕ → RawTree → Test (Place × NumberTree)
+divides_by edition n left t = divisor_of n (lone_number edition left) (is (Word (codes "divides")) t)
+
+abbrev pub name_as_number : Edition → Place → List ℕ → Option NumberTree
+name_as_number Two p x = None
+name_as_number Three p x = Some (number_name p x)
+
+-- k = literal | name, where a literal is at least 1
+abbrev pub a_number : Edition → Test NumberTree
+a_number edition t = elim t.kind [
+  | Literal n ↦ if int_le (pos 1) n then Some (number_lit n) else None
+  | Word x ↦ if is_reserved edition x then None else name_as_number edition t.place x
+  | Sign x ↦ None
+]
 
 -- param = name ":" base
-unfoldable pub param_of : Reader Param
-param_of = do
-  x ← must a_name
+unfoldable pub param_of : Edition → Reader Param
+param_of edition = do
+  x ← must (a_name edition)
   _ ← must (is (Sign (codes ":")))
   b ← must a_base
   pure (record { place = x.0; name = x.1; base = b })
 
 -- [ param { "," param } ] ")"
-unfoldable pub params_of : Reader (List Param)
-params_of =
-    first (is (Sign (codes ")"))) (λ p. pure []) (several_of snoc param_of (Sign (codes ",")) (Sign (codes ")")) [])
+unfoldable pub params_of : Edition → Reader (List Param)
+params_of edition =
+    first (is (Sign (codes ")"))) (λ p. pure []) (several_of snoc (param_of edition) (Sign (codes ",")) (Sign (codes ")")) [])
+
+-- the outputs of a choose and the hidden ones, up to the closing parenthesis
+unfoldable pub outputs_of : Edition → Reader (List Param × List Param)
+outputs_of Two = several_of snoc (param_of Two) (Sign (codes ",")) (Sign (codes ")")) [] >>= λ xs. pure (xs, [])
+outputs_of Three = listed_of snoc (param_of Three) (Sign (codes ",")) [] >>= λ xs.
+    first (is (Sign (codes ";"))) (λ p. several_of snoc (param_of Three) (Sign (codes ",")) (Sign (codes ")")) [] >>= λ hidden. pure (xs, hidden))
+    (must (is (Sign (codes ")"))) >>= λ p. pure (xs, []))
 
 -- names and their places
 abbrev pub Names : Type 0
@@ -86,46 +110,65 @@ Names = List (List ℕ) × List Place
 abbrev pub named : Names → Place × List ℕ → Names
 named ns x = (snoc ns.0 x.1, snoc ns.1 x.0)
 
-unfoldable pub names_of : Reader Names
-names_of = one_or_tuple named (must a_name) ([], [])
+unfoldable pub names_of : Edition → Reader Names
+names_of edition = one_or_tuple named (must (a_name edition)) ([], [])
 
--- part = [ literal "*" ] name, behind a plus or a minus; or the constant, which is the last term
-unfoldable pub term_of : TermSign → Reader Term
-term_of sign =
+-- a term of a pattern: a part, or the constant, which is the last term
+pub data TermTree : Type 0 where
+  a_part : PartTree → TermTree
+  the_constant : ℤ → TermTree
+
+-- a part whose factor or name stands at place q, behind its sign at this place, if it has one
+abbrev pub part_from : Option Place → TermSign → Place → Option NumberTree → Place × List ℕ → PartTree
+part_from None sign q factor x = record { start = q; is_negative = is_minus sign; factor = factor; place = x.0; name = x.1 }
+part_from (Some p) sign q factor x = record { start = p; is_negative = is_minus sign; factor = factor; place = x.0; name = x.1 }
+
+-- behind a name, which in edition 3 may be a factor
+unfoldable pub named_term : Edition → Option Place → TermSign → Place × List ℕ → Reader TermTree
+named_term Two start sign x = pure (a_part (part_from start sign x.0 None x))
+named_term Three start sign x =
+    first (is (Sign (codes "*"))) (λ p. must (a_name Three) >>= λ y. pure (a_part (part_from start sign x.0 (Some (number_name x.0 x.1)) y)))
+    (pure (a_part (part_from start sign x.0 None x)))
+
+-- part = [ k "*" ] name, behind a plus or a minus; or the constant
+unfoldable pub term_of : Edition → Option Place → TermSign → Reader TermTree
+term_of edition start sign =
     first (a_literal (pos 0)) (λ k.
-    first (is (Sign (codes "*"))) (λ p. must a_name >>= λ x. pure (a_part (record { place = x.0; factor = signed sign k.1; name = x.1 })))
+    first (is (Sign (codes "*"))) (λ p. must (a_name edition) >>= λ x. pure (a_part (part_from start sign k.0 (Some (number_lit k.1)) x)))
     (pure (the_constant (signed sign k.1))))
-    (must a_name >>= λ x. pure (a_part (record { place = x.0; factor = signed sign (pos 1); name = x.1 })))
+    (must (a_name edition) >>= λ x. named_term edition start sign x)
 
 -- the parts of a pattern and its constant
 abbrev pub Pattern : Type 0
-Pattern = List Part × ℤ
+Pattern = List PartTree × ℤ
 
-abbrev pub by_term : Term → (ℤ → Reader Pattern) → (Part → Reader Pattern) → Reader Pattern
+abbrev pub by_term : TermTree → (ℤ → Reader Pattern) → (PartTree → Reader Pattern) → Reader Pattern
 by_term (the_constant k) f g = f k
 by_term (a_part x) f g = g x
 
 -- terms from here on, behind a sign and the parts read before
-unfoldable pub terms_of : ℕ → TermSign → List Part → Reader Pattern
-terms_of zero sign done = λ ts. Err 0
-terms_of (suc fuel) sign done = term_of sign >>= λ term.
-    by_term term (λ k. pure (done, k)) (λ x. first a_sign (λ next. terms_of fuel next (snoc done x)) (pure (snoc done x, pos 0)))
+unfoldable pub terms_of : Edition → ℕ → Option Place → TermSign → List PartTree → Reader Pattern
+terms_of edition zero start sign done = λ ts. Err 0
+terms_of edition (suc fuel) start sign done = term_of edition start sign >>= λ term.
+    by_term term (λ k. pure (done, k)) (λ x.
+    first a_sign (λ next. terms_of edition fuel (Some next.0) next.1 (snoc done x)) (pure (snoc done x, pos 0)))
 
-unfoldable pub all_terms : TermSign → Reader Pattern
-all_terms sign ts = terms_of (length ts) sign [] ts
+unfoldable pub all_terms : Edition → Option Place → TermSign → Reader Pattern
+all_terms edition start sign ts = terms_of edition (length ts) start sign [] ts
 
-unfoldable pub pattern_of : Reader Pattern
-pattern_of = first (is (Sign (codes "-"))) (λ p. all_terms Minus) (all_terms Plus)
+unfoldable pub pattern_of : Edition → Reader Pattern
+pattern_of edition = first (is (Sign (codes "-"))) (λ p. all_terms edition (Some p) Minus) (all_terms edition None Plus)
 
 -- readers of parts
 abbrev pub Parts : Type 0
 Parts = Tier → Reader RawTree
 
--- the rest of a chain, of at most fuel operations
-unfoldable pub chain_of : Parts → Tier → ℕ → ℕ → RawTree → Reader RawTree
-chain_of part tier n zero left = pure left
-chain_of part tier n (suc fuel) left =
-    first (next_op tier n (raw_depth left)) (λ o. part (under tier) >>= λ right. chain_of part tier n fuel (raw_binary o.0 o.1 left right)) (pure left)
+-- the rest of operations of one tier, of at most fuel operations, which group to the left
+unfoldable pub chain_of : Edition → Parts → Tier → ℕ → ℕ → RawTree → Reader RawTree
+chain_of edition part tier n zero left = pure left
+chain_of edition part tier n (suc fuel) left =
+    first (next_op edition tier n (raw_depth left)) (λ o.
+    part (under tier) >>= λ right. chain_of edition part tier n fuel (raw_binary o.0 o.1 left right)) (pure left)
 
 -- expr { "," expr } close
 unfoldable pub list_of : Parts → TokenKind → Reader (List RawTree)
@@ -141,77 +184,138 @@ grouped p [] = raw_tuple p no_raws
 grouped p (e ∷ []) = raw_group p e
 grouped p (e ∷ f ∷ es) = raw_tuple p (raws_of (e ∷ f ∷ es))
 
+-- expr ")"
+unfoldable pub one_of : Parts → Reader RawTree
+one_of part = part Whole >>= λ e. must (is (Sign (codes ")"))) >>= λ p. pure e
+
 -- "(" expr ")"
 unfoldable pub inside_of : Parts → Reader RawTree
-inside_of part = do
-  _ ← must (is (Sign (codes "(")))
-  e ← part Whole
-  _ ← must (is (Sign (codes ")")))
-  pure e
+inside_of part = must (is (Sign (codes "("))) >>= λ p. one_of part
 
--- "(" expr "," literal ")"
-unfoldable pub divided_of : Parts → Reader (RawTree × ℤ)
-divided_of part = do
-  _ ← must (is (Sign (codes "(")))
+-- expr "," k ")"
+unfoldable pub divided_of : Edition → Parts → Reader (RawTree × NumberTree)
+divided_of edition part = do
   e ← part Whole
   _ ← must (is (Sign (codes ",")))
-  k ← must (a_literal (pos 1))
+  k ← must (a_number edition)
   _ ← must (is (Sign (codes ")")))
-  pure (e, k.1)
+  pure (e, k)
 
--- a name, or a call
-unfoldable pub named_of : Parts → Reader RawTree
-named_of part = must a_name >>= λ x.
+-- expr "," expr { "," expr } ")"
+unfoldable pub two_or_more_of : Parts → Reader (List RawTree)
+two_or_more_of part = do
+  e ← part Whole
+  _ ← must (is (Sign (codes ",")))
+  several_of snoc (part Whole) (Sign (codes ",")) (Sign (codes ")")) (e ∷ [])
+
+-- behind the word of an operation and a (
+unfoldable pub operation_of : Parts → Place × List ℕ → Reader RawTree
+operation_of part x =
+    if bytes_eq x.1 (codes "card") then (one_of part >>= λ e. pure (raw_card x.0 e)) else
+    if bytes_eq x.1 (codes "abs") then (one_of part >>= λ e. pure (raw_abs x.0 e)) else
+    if bytes_eq x.1 (codes "div") then (divided_of Three part >>= λ e. pure (raw_div x.0 e.0 e.1)) else
+    if bytes_eq x.1 (codes "mod") then (divided_of Three part >>= λ e. pure (raw_mod x.0 e.0 e.1)) else
+    if bytes_eq x.1 (codes "min") then (two_or_more_of part >>= λ es. pure (raw_min x.0 (raws_of es))) else
+    (two_or_more_of part >>= λ es. pure (raw_max x.0 (raws_of es)))
+
+-- behind a name: a call, an operation of edition 3, whose parts may have depth n, or the name alone
+unfoldable pub behind_name : Parts → ℕ → Bool → Place × List ℕ → Reader RawTree
+behind_name part n true x = deep n (is (Sign (codes "("))) (λ p. operation_of part x) (pure (raw_name x.0 x.1))
+behind_name part n false x =
     first (is (Sign (codes "("))) (λ p. items_of part (Sign (codes ")")) >>= λ es. pure (raw_call x.0 x.1 (raws_of es))) (pure (raw_name x.0 x.1))
 
-unfoldable pub word_of : Parts → ℕ → Reader RawTree
-word_of part n =
+unfoldable pub named_of : Edition → Parts → ℕ → Reader RawTree
+named_of edition part n = must (a_name edition) >>= λ x. behind_name part n (is_operation edition x.1) x
+
+unfoldable pub word_of : Edition → Parts → ℕ → Reader RawTree
+word_of Two part n =
     first a_truth (λ t. pure (raw_truth t.0 t.1)) (
     deep n (is (Word (codes "card"))) (λ p. inside_of part >>= λ e. pure (raw_card p e)) (
     deep n (is (Word (codes "abs"))) (λ p. inside_of part >>= λ e. pure (raw_abs p e)) (
-    deep n (is (Word (codes "div"))) (λ p. divided_of part >>= λ e. pure (raw_div p e.0 e.1)) (
-    deep n (is (Word (codes "mod"))) (λ p. divided_of part >>= λ e. pure (raw_mod p e.0 e.1)) (
-    named_of part)))))
+    deep n (is (Word (codes "div"))) (λ p. must (is (Sign (codes "("))) >>= λ q. divided_of Two part >>= λ e. pure (raw_div p e.0 e.1)) (
+    deep n (is (Word (codes "mod"))) (λ p. must (is (Sign (codes "("))) >>= λ q. divided_of Two part >>= λ e. pure (raw_mod p e.0 e.1)) (
+    named_of Two part n)))))
+word_of Three part n = first a_truth (λ t. pure (raw_truth t.0 t.1)) (named_of Three part n)
 
-unfoldable pub atom_of : Parts → ℕ → Reader RawTree
-atom_of part n =
+unfoldable pub atom_of : Edition → Parts → ℕ → Reader RawTree
+atom_of edition part n =
     first (a_literal (pos 0)) (λ k. pure (raw_lit k.0 k.1)) (
     deep n (is (Sign (codes "("))) (λ p. list_of part (Sign (codes ")")) >>= λ es. pure (grouped p es)) (
     first (is (Sign (codes "{"))) (λ p. items_of part (Sign (codes "}")) >>= λ es. pure (raw_set_of p (raws_of es))) (
-    word_of part n)))
+    word_of edition part n)))
 
-unfoldable pub unary_of : Parts → ℕ → Reader RawTree
-unary_of part n =
+unfoldable pub unary_of : Edition → Parts → ℕ → Reader RawTree
+unary_of edition part n =
     deep n (is (Sign (codes "-"))) (λ p. part Unary >>= λ e. pure (raw_neg p e)) (
     deep n (is (Sign (codes "!"))) (λ p. part Unary >>= λ e. pure (raw_not p e)) (
-    atom_of part n))
+    atom_of edition part n))
 
-unfoldable pub muls_of : Parts → ℕ → Reader RawTree
-muls_of part n = unary_of part n >>= λ e. chain_of part Muls n n e
+unfoldable pub muls_of : Edition → Parts → ℕ → Reader RawTree
+muls_of edition part n = unary_of edition part n >>= λ e. chain_of edition part Muls n n e
 
-unfoldable pub sums_of : Parts → ℕ → Reader RawTree
-sums_of part n = muls_of part n >>= λ e. chain_of part Sums n n e
+unfoldable pub sums_of : Edition → Parts → ℕ → Reader RawTree
+sums_of edition part n = muls_of edition part n >>= λ e. chain_of edition part Sums n n e
 
--- one comparison at most, or the literal read divides what follows
-unfoldable pub compared_of : Parts → ℕ → RawTree → Reader RawTree
-compared_of part n left =
-    first (next_op Cmps n (raw_depth left)) (λ o. part Sums >>= λ right. pure (raw_binary o.0 o.1 left right)) (
-    first (divides_by n left) (λ k. part Sums >>= λ e. pure (raw_divides k.0 k.1 e)) (
+-- the orders of a comparison, with their places, and its parts
+pub record Links : Type 0 where
+  pub orders : List Order
+  pub places : List Place
+  pub parts : List RawTree
+
+-- further links, behind those read before
+unfoldable pub links_of : Parts → ℕ → Links → Reader Links
+links_of part zero done = pure done
+links_of part (suc fuel) done =
+    first (next_order done.orders) (λ o. part Sums >>= λ e.
+    links_of part fuel (record { orders = snoc done.orders o.1; places = snoc done.places o.0; parts = snoc done.parts e })) (pure done)
+
+unfoldable pub all_links : Parts → Links → Reader Links
+all_links part done ts = links_of part (length ts) done ts
+
+-- one order is a comparison of two sides, and more are a chain
+abbrev pub comparison : Place → List Order → List Place → List RawTree → RawTree
+comparison p (order ∷ []) places (a ∷ b ∷ []) = raw_binary p (Compare order) a b
+comparison p orders places parts = raw_chain p orders places (raws_of parts)
+
+abbrev pub linked_of : Parts → Place → Option Order → BinOp → RawTree → RawTree → Reader RawTree
+linked_of part p None op left right = pure (raw_binary p op left right)
+linked_of part p (Some order) op left right =
+    all_links part (record { orders = order ∷ []; places = p ∷ []; parts = left ∷ right ∷ [] }) >>= λ l. pure (comparison p l.orders l.places l.parts)
+
+-- behind the two sides of an operation of the tier of comparisons
+unfoldable pub chained_of : Edition → Parts → Place × BinOp → RawTree → RawTree → Reader RawTree
+chained_of Two part o left right = pure (raw_binary o.0 o.1 left right)
+chained_of Three part o left right = linked_of part o.0 (order_of (Some o.1)) o.1 left right
+
+-- one comparison at most, in edition 3 or a chain of them; or the number read divides what follows
+unfoldable pub compared_of : Edition → Parts → ℕ → RawTree → Reader RawTree
+compared_of edition part n left =
+    first (next_op edition Cmps n (raw_depth left)) (λ o. part Sums >>= λ right. chained_of edition part o left right) (
+    first (divides_by edition n left) (λ k. part Sums >>= λ e. pure (raw_divides k.0 k.1 e)) (
     pure left))
 
-unfoldable pub cmps_of : Parts → ℕ → Reader RawTree
-cmps_of part n = sums_of part n >>= λ e. compared_of part n e
+unfoldable pub cmps_of : Edition → Parts → ℕ → Reader RawTree
+cmps_of edition part n = sums_of edition part n >>= λ e. compared_of edition part n e
 
-unfoldable pub ands_of : Parts → ℕ → Reader RawTree
-ands_of part n = cmps_of part n >>= λ e. chain_of part Ands n n e
+unfoldable pub ands_of : Edition → Parts → ℕ → Reader RawTree
+ands_of edition part n = cmps_of edition part n >>= λ e. chain_of edition part Ands n n e
 
-unfoldable pub ors_of : Parts → ℕ → Reader RawTree
-ors_of part n = ands_of part n >>= λ e. chain_of part Ors n n e
+unfoldable pub ors_of : Edition → Parts → ℕ → Reader RawTree
+ors_of edition part n = ands_of edition part n >>= λ e. chain_of edition part Ors n n e
+
+-- or [ "==>" imp ], behind the first part
+unfoldable pub implied_of : Parts → ℕ → RawTree → Reader RawTree
+implied_of part n left =
+    first (next_op Three Imps n (raw_depth left)) (λ o. part (right_tier Imps) >>= λ right. pure (raw_binary o.0 o.1 left right)) (pure left)
+
+unfoldable pub imps_of : Edition → Parts → ℕ → Reader RawTree
+imps_of Two part n = ors_of Two part n
+imps_of Three part n = ors_of Three part n >>= λ e. implied_of part n e
 
 -- behind the word let
-unfoldable pub let_of : Parts → Place → Reader RawTree
-let_of part p = do
-  xs ← names_of
+unfoldable pub let_of : Edition → Parts → Place → Reader RawTree
+let_of edition part p = do
+  xs ← names_of edition
   _ ← must (is (Sign (codes "=")))
   e ← part Whole
   _ ← must (is (Word (codes "in")))
@@ -227,47 +331,67 @@ if_of part p = do
   g ← part Whole
   pure (raw_if p e f g)
 
-unfoldable pub choose_of : Parts → Place → Reader RawTree
-choose_of part p = do
-  _ ← must (is (Sign (codes "(")))
-  outputs ← several_of snoc param_of (Sign (codes ",")) (Sign (codes ")")) []
-  _ ← must (is (Word (codes "where")))
-  e ← part Ors
-  pure (raw_choose p outputs e)
+-- [ "given" expr ]
+unfoldable pub given_of : Edition → Parts → Reader GivenTree
+given_of Two part = pure no_given
+given_of Three part = first (is (Word (codes "given"))) (λ p. part Whole >>= λ e. pure (given_that p e)) (pure no_given)
 
-unfoldable pub arm_of : Parts → Reader RawArmTree
-arm_of part = do
-  x ← pattern_of
+abbrev pub a_sense : Test (Place × Sense)
+a_sense t = elim t.kind [
+  | Word x ↦ if bytes_eq x (codes "minimise") then Some (t.place, Least) else if bytes_eq x (codes "maximise") then Some (t.place, Greatest) else None
+  | Literal n ↦ None
+  | Sign x ↦ None
+]
+
+-- [ ("minimise" | "maximise") expr ]: the nearest choose takes it
+unfoldable pub aim_of : Edition → Parts → Reader AimTree
+aim_of Two part = pure no_aim
+aim_of Three part = first a_sense (λ s. part Whole >>= λ e. pure (aim_at s.0 s.1 e)) (pure no_aim)
+
+unfoldable pub choose_of : Edition → Parts → Place → Reader RawTree
+choose_of edition part p = do
+  _ ← must (is (Sign (codes "(")))
+  outputs ← outputs_of edition
+  given ← given_of edition part
+  _ ← must (is (Word (codes "where")))
+  e ← part (relation_tier edition)
+  aim ← aim_of edition part
+  pure (raw_choose p outputs.0 outputs.1 given e aim)
+
+unfoldable pub arm_of : Edition → Parts → Reader RawArmTree
+arm_of edition part = do
+  x ← pattern_of edition
   _ ← must (is (Word (codes "then")))
   e ← part Whole
   pure (raw_arm x.0 x.1 e)
 
-unfoldable pub match_of : Parts → Place → Reader RawTree
-match_of part p = do
+unfoldable pub match_of : Edition → Parts → Place → Reader RawTree
+match_of edition part p = do
   e ← part Whole
   _ ← must (is (Word (codes "with")))
   _ ← must (is (Sign (codes "{")))
-  arms ← several_of snoc (arm_of part) (Sign (codes ";")) (Sign (codes "}")) []
+  arms ← several_of snoc (arm_of edition part) (Sign (codes ";")) (Sign (codes "}")) []
   pure (raw_match p e (raw_arms_of arms))
 
-unfoldable pub whole_of : Parts → ℕ → Reader RawTree
-whole_of part n =
-    deep n (is (Word (codes "let"))) (λ p. let_of part p) (
+unfoldable pub whole_of : Edition → Parts → ℕ → Reader RawTree
+whole_of edition part n =
+    deep n (is (Word (codes "let"))) (λ p. let_of edition part p) (
     deep n (is (Word (codes "if"))) (λ p. if_of part p) (
-    deep n (is (Word (codes "choose"))) (λ p. choose_of part p) (
-    deep n (is (Word (codes "match"))) (λ p. match_of part p) (
-    ors_of part n))))
+    deep n (is (Word (codes "choose"))) (λ p. choose_of edition part p) (
+    deep n (is (Word (codes "match"))) (λ p. match_of edition part p) (
+    imps_of edition part n))))
 
-unfoldable pub step : Parts → ℕ → Tier → Reader RawTree
-step part n Whole = whole_of part n
-step part n Ors = ors_of part n
-step part n Ands = ands_of part n
-step part n Cmps = cmps_of part n
-step part n Sums = sums_of part n
-step part n Muls = muls_of part n
-step part n Unary = unary_of part n
+unfoldable pub step : Edition → Parts → ℕ → Tier → Reader RawTree
+step edition part n Whole = whole_of edition part n
+step edition part n Imps = imps_of edition part n
+step edition part n Ors = ors_of edition part n
+step edition part n Ands = ands_of edition part n
+step edition part n Cmps = cmps_of edition part n
+step edition part n Sums = sums_of edition part n
+step edition part n Muls = muls_of edition part n
+step edition part n Unary = unary_of edition part n
 
 -- a tree of depth at most n, at a tier
-unfoldable pub read : ℕ → Tier → Reader RawTree
-read zero tier = λ ts. Err (length ts)
-read (suc n) tier = step (read n) n tier
+unfoldable pub read : Edition → ℕ → Tier → Reader RawTree
+read edition zero tier = λ ts. Err (length ts)
+read edition (suc n) tier = step edition (read edition n) n tier

@@ -2,12 +2,13 @@
 ghost use Rattle.std.specs.Prelude.{◌≡◌, [], codes, Ok};
 ghost use Rattle.cf_lex.specs.declared.token.TokenKind.TheVariants.{Sign};
 ghost use Rattle.cf_reader.specs.Answers.{ReadAnswer};
-ghost use Rattle.cf_reader.specs.Readers.{must, a_name, snoc, others_of, several_of};
-ghost use Rattle.cf_parse.specs.Reading.{named, param_of, params_of, names_of};
+ghost use Rattle.cf_reader.specs.Readers.{must, a_name, snoc, others_of, several_of, listed_of};
+ghost use Rattle.cf_tree.specs.declared.base.Edition.TheVariants.{Three};
+ghost use Rattle.cf_parse.specs.Reading.{named, param_of, params_of, outputs_of, names_of};
 
 use cf_lex::Token;
 use cf_reader::{ReadStop, after_sign, expect_base, expect_name, expect_sign};
-use cf_tree::{Param, Place, Text};
+use cf_tree::{Edition, Param, Place, Text};
 use std::alloc::Global;
 
 /// Names and their places, in order.
@@ -19,10 +20,10 @@ pub struct Names {
 
 // A name and its base.
 #[tactic(auto, unfolding(cf_reader::specs::Readers::pure, cf_reader::specs::Readers::bind, crate::specs::Reading::param_of))]
-fn param(alloc: Global, tokens: &[Token]) -> Result<(Param, &[Token]), ReadStop>
-    ensures { ReadAnswer (λ x. (x.0, x.1.now)) result (param_of tokens.now) }
+fn param(alloc: Global, edition: Edition, tokens: &[Token]) -> Result<(Param, &[Token]), ReadStop>
+    ensures { ReadAnswer (λ x. (x.0, x.1.now)) result (param_of edition tokens.now) }
 {
-    let ((place, name), rest) = expect_name(alloc, tokens)?;
+    let ((place, name), rest) = expect_name(alloc, edition, tokens)?;
     let (_, rest) = expect_sign(":", rest)?;
     let (base, rest) = expect_base(rest)?;
     Ok((Param { place, name, base }, rest))
@@ -30,29 +31,34 @@ fn param(alloc: Global, tokens: &[Token]) -> Result<(Param, &[Token]), ReadStop>
 
 /// One parameter or more, up to the closing parenthesis.
 #[tactic(auto, unfolding(cf_reader::specs::Readers::bind, cf_reader::specs::Readers::several_of))]
-pub fn params(alloc: Global, tokens: &[Token]) -> Result<(Vec<Param>, &[Token]), ReadStop>
-    ensures { ReadAnswer (λ x. (x.0.items, x.1.now)) result (several_of snoc param_of (Sign (codes ",")) (Sign (codes ")")) [] tokens.now) }
+pub fn params(
+    alloc: Global,
+    edition: Edition,
+    tokens: &[Token],
+) -> Result<(Vec<Param>, &[Token]), ReadStop>
+    ensures { ReadAnswer (λ x. (x.0.items, x.1.now)) result (several_of snoc (param_of edition) (Sign (codes ",")) (Sign (codes ")")) [] tokens.now) }
 {
-    let (first, rest) = param(alloc, tokens)?;
+    let (first, rest) = param(alloc, edition, tokens)?;
     let mut all = Vec::new(alloc);
     all.push(first)?;
-    more_params(alloc, all, rest)
+    more_params(alloc, edition, all, rest)
 }
 
 #[tactic(auto, unfolding(cf_reader::specs::Readers::others_of))]
 fn more_params(
     alloc: Global,
+    edition: Edition,
     first: Vec<Param>,
     tokens: &[Token],
 ) -> Result<(Vec<Param>, &[Token]), ReadStop>
-    ensures { ReadAnswer (λ x. (x.0.items, x.1.now)) result (others_of snoc param_of (Sign (codes ",")) (Sign (codes ")")) first.items tokens.now) }
+    ensures { ReadAnswer (λ x. (x.0.items, x.1.now)) result (others_of snoc (param_of edition) (Sign (codes ",")) (Sign (codes ")")) first.items tokens.now) }
 {
     let mut done = first;
     let mut rest = tokens;
     for _ in 0..tokens.len() {
         match after_sign(",", rest) {
             Some((_, behind)) => {
-                let (x, behind) = param(alloc, behind)?;
+                let (x, behind) = param(alloc, edition, behind)?;
                 done.push(x)?;
                 rest = behind;
             }
@@ -66,14 +72,69 @@ fn more_params(
     Err(ReadStop::TokensLeft(0))
 }
 
+/// The outputs of a `choose` and the hidden ones, up to the closing parenthesis.
+pub fn read_outputs(
+    alloc: Global,
+    edition: Edition,
+    tokens: &[Token],
+) -> Result<((Vec<Param>, Vec<Param>), &[Token]), ReadStop>
+    ensures { ReadAnswer (λ x. ((x.0.0.items, x.0.1.items), x.1.now)) result (outputs_of edition tokens.now) }
+{
+    match edition {
+        Edition::Two => {
+            let (outputs, rest) = params(alloc, edition, tokens)?;
+            Ok(((outputs, Vec::new(alloc)), rest))
+        }
+        Edition::Three => {
+            let (outputs, rest) = listed_params(alloc, tokens)?;
+            match after_sign(";", rest) {
+                Some((_, rest)) => {
+                    let (hidden, rest) = params(alloc, edition, rest)?;
+                    Ok(((outputs, hidden), rest))
+                }
+                None => {
+                    let (_, rest) = expect_sign(")", rest)?;
+                    Ok(((outputs, Vec::new(alloc)), rest))
+                }
+            }
+        }
+    }
+}
+
+// One parameter or more, as long as a comma stands behind one.
+#[tactic(auto, unfolding(cf_reader::specs::Readers::bind, cf_reader::specs::Readers::listed_of))]
+fn listed_params(alloc: Global, tokens: &[Token]) -> Result<(Vec<Param>, &[Token]), ReadStop>
+    ensures { ReadAnswer (λ x. (x.0.items, x.1.now)) result (listed_of snoc (param_of Three) (Sign (codes ",")) [] tokens.now) }
+{
+    let (first, behind) = param(alloc, Edition::Three, tokens)?;
+    let mut all = Vec::new(alloc);
+    all.push(first)?;
+    let mut rest = behind;
+    for _ in 0..behind.len() {
+        match after_sign(",", rest) {
+            Some((_, behind)) => {
+                let (x, behind) = param(alloc, Edition::Three, behind)?;
+                all.push(x)?;
+                rest = behind;
+            }
+            None => return Ok((all, rest)),
+        }
+    }
+    Ok((all, rest))
+}
+
 /// Parameters, if any, up to the closing parenthesis.
 #[tactic(auto, unfolding(cf_reader::specs::Readers::first, cf_reader::specs::Readers::pure, crate::specs::Reading::params_of))]
-pub fn maybe_params(alloc: Global, tokens: &[Token]) -> Result<(Vec<Param>, &[Token]), ReadStop>
-    ensures { ReadAnswer (λ x. (x.0.items, x.1.now)) result (params_of tokens.now) }
+pub fn maybe_params(
+    alloc: Global,
+    edition: Edition,
+    tokens: &[Token],
+) -> Result<(Vec<Param>, &[Token]), ReadStop>
+    ensures { ReadAnswer (λ x. (x.0.items, x.1.now)) result (params_of edition tokens.now) }
 {
     match after_sign(")", tokens) {
         Some((_, rest)) => Ok((Vec::new(alloc), rest)),
-        None => params(alloc, tokens),
+        None => params(alloc, edition, tokens),
     }
 }
 
@@ -101,35 +162,44 @@ fn with_name(names: Names, name: (Place, Text)) -> Result<Names, ReadStop>
 
 /// A name, or two or more in parentheses.
 #[tactic(auto, using(crate::proofs::Steps::names_several), unfolding(cf_reader::specs::Readers::first, cf_reader::specs::Readers::bind, cf_reader::specs::Readers::pure, cf_reader::specs::Readers::one_or_tuple, crate::specs::Reading::names_of))]
-pub fn read_names(alloc: Global, tokens: &[Token]) -> Result<(Names, &[Token]), ReadStop>
-    ensures { ReadAnswer (λ x. ((x.0.names.items, x.0.places.items), x.1.now)) result (names_of tokens.now) }
+pub fn read_names(
+    alloc: Global,
+    edition: Edition,
+    tokens: &[Token],
+) -> Result<(Names, &[Token]), ReadStop>
+    ensures { ReadAnswer (λ x. ((x.0.names.items, x.0.places.items), x.1.now)) result (names_of edition tokens.now) }
 {
     match after_sign("(", tokens) {
         Some((_, rest)) => {
-            let (x, rest) = expect_name(alloc, rest)?;
+            let (x, rest) = expect_name(alloc, edition, rest)?;
             let (_, rest) = expect_sign(",", rest)?;
-            let (y, rest) = expect_name(alloc, rest)?;
+            let (y, rest) = expect_name(alloc, edition, rest)?;
             let all = with_name(with_name(no_names(alloc), x)?, y)?;
-            more_names(alloc, all, rest)
+            more_names(alloc, edition, all, rest)
         }
         None => {
-            let (x, rest) = expect_name(alloc, tokens)?;
+            let (x, rest) = expect_name(alloc, edition, tokens)?;
             Ok((with_name(no_names(alloc), x)?, rest))
         }
     }
 }
 
 #[tactic(auto, unfolding(cf_reader::specs::Readers::others_of))]
-fn more_names(alloc: Global, first: Names, tokens: &[Token]) -> Result<(Names, &[Token]), ReadStop>
+fn more_names(
+    alloc: Global,
+    edition: Edition,
+    first: Names,
+    tokens: &[Token],
+) -> Result<(Names, &[Token]), ReadStop>
     ensures { ReadAnswer (λ x. ((x.0.names.items, x.0.places.items), x.1.now)) result
-        (others_of named (must a_name) (Sign (codes ",")) (Sign (codes ")")) (first.names.items, first.places.items) tokens.now) }
+        (others_of named (must (a_name edition)) (Sign (codes ",")) (Sign (codes ")")) (first.names.items, first.places.items) tokens.now) }
 {
     let mut done = first;
     let mut rest = tokens;
     for _ in 0..tokens.len() {
         match after_sign(",", rest) {
             Some((_, behind)) => {
-                let (x, behind) = expect_name(alloc, behind)?;
+                let (x, behind) = expect_name(alloc, edition, behind)?;
                 done = with_name(done, x)?;
                 rest = behind;
             }

@@ -1,9 +1,9 @@
 //! Trees with their depths.
 ghost use Rattle.std.specs.Prelude.{◌≡◌};
-ghost use Rattle.cf_tree.specs.RawTree.{raw_depth, raws_depth, raw_arm_depth, raw_arms_depth};
-ghost use Rattle.cf_tree.specs.RawView.{raw_tree, raw_trees, raw_arm_tree, raw_arm_trees};
+ghost use Rattle.cf_tree.specs.RawTree.{raw_depth, raws_depth, raw_arm_depth, raw_arms_depth, given_depth, aim_depth};
+ghost use Rattle.cf_tree.specs.RawView.{raw_tree, raw_trees, raw_arm_tree, raw_arm_trees, given_tree, aim_tree};
 
-use cf_tree::{Raw, RawArm};
+use cf_tree::{Order, Place, Raw, RawAim, RawArm, RawGiven};
 
 /// A tree and its depth.
 #[derive(Drop)]
@@ -43,4 +43,30 @@ pub struct MeasuredArms {
     pub arms: Vec<RawArm>,
     pub depth: u32,
     ghost measured: { depth ≡ raw_arms_depth (raw_arm_trees arms.items) },
+}
+
+/// What is given, and its depth, or 0.
+#[derive(Drop)]
+pub struct MeasuredGiven {
+    pub given: RawGiven,
+    pub depth: u32,
+    ghost measured: { depth ≡ given_depth (given_tree given) },
+}
+
+/// What is aimed at, and its depth, or 0.
+#[derive(Drop)]
+pub struct MeasuredAim {
+    pub aim: RawAim,
+    pub depth: u32,
+    ghost measured: { depth ≡ aim_depth (aim_tree aim) },
+}
+
+/// The orders of a comparison with their places, its parts, and the depth of the deepest.
+#[derive(Drop)]
+pub struct MeasuredLinks {
+    pub orders: Vec<Order>,
+    pub places: Vec<Place>,
+    pub trees: Vec<Raw>,
+    pub depth: u32,
+    ghost measured: { depth ≡ raws_depth (raw_trees trees.items) },
 }

@@ -2,23 +2,30 @@
 ghost use Rattle.std.specs.Prelude.{◌≤◌, ◌<◌, ◌+◌, ◌^◌, IfOk, map, codes};
 ghost use Rattle.cf_lex.specs.declared.token.TokenKind.TheVariants.{Sign};
 ghost use Rattle.cf_parse.specs.declared.tier.Tier.TheVariants.{Whole};
-ghost use Rattle.cf_tree.specs.RawView.{raw_tree, raw_arm_tree};
+ghost use Rattle.cf_tree.specs.RawView.{raw_tree, raw_arm_tree, given_tree, aim_tree, number_tree};
+ghost use Rattle.cf_tree.specs.declared.base.Edition.TheVariants.{Two, Three};
+ghost use Rattle.cf_parse.specs.LinksView.{links_tree};
 ghost use Rattle.cf_reader.specs.Answers.{ReadAnswer};
 ghost use Rattle.cf_reader.specs.Readers.{snoc, others_of, several_of};
-ghost use Rattle.cf_parse.specs.Reading.{chain_of, list_of, items_of, inside_of, divided_of, named_of, word_of, atom_of, unary_of, muls_of, sums_of, compared_of, cmps_of, ands_of, ors_of, let_of, if_of, choose_of, arm_of, match_of, whole_of, read as read_at};
+ghost use Rattle.cf_parse.specs.Reading.{chain_of, list_of, items_of, one_of, divided_of, two_or_more_of, operation_of, named_of, word_of, atom_of, unary_of, muls_of, sums_of, all_links, chained_of, compared_of, cmps_of, ands_of, ors_of, imps_of, given_of, aim_of, let_of, if_of, choose_of, arm_of, match_of, whole_of, read as read_at};
 
-use crate::lists::{params, read_names};
-use crate::measured::{Boxed, Measured, MeasuredArm, MeasuredArms, MeasuredList};
+use crate::lists::{read_names, read_outputs};
+use crate::measured::{
+    Boxed, Measured, MeasuredAim, MeasuredArm, MeasuredArms, MeasuredGiven, MeasuredLinks,
+    MeasuredList,
+};
 use crate::node;
 use crate::pattern::read_pattern;
 use crate::tier::Tier;
-use crate::words::{divides_by, next_op, under};
+use crate::words::{
+    after_sense, divides_by, expect_number, next_op, next_order, relation_tier, under,
+};
 use cf_lex::Token;
 use cf_reader::{
-    ReadStop, after_sign, after_word, expect_literal, expect_name, expect_sign, expect_word,
-    literal_at_least, truth,
+    ReadStop, after_sign, after_word, expect_name, expect_sign, expect_word, is_operation,
+    literal_at_least, spells, truth,
 };
-use cf_tree::{Place, RawNode, without};
+use cf_tree::{BinOp, Edition, Number, Place, Text, without};
 use std::alloc::Global;
 
 /// A tree of depth at most `n`, at a tier.
@@ -26,72 +33,85 @@ use std::alloc::Global;
 #[tactic(auto, using(crate::proofs::Above::read_above, crate::proofs::Above::read_none), unfolding(crate::specs::Reading::step))]
 pub fn tree_at(
     alloc: Global,
+    edition: Edition,
     tier: Tier,
     n: u32,
     tokens: &[Token],
 ) -> Result<(Measured, &[Token]), ReadStop>
     requires { n < 2 ^ 30 }
-    ensures value { ReadAnswer (λ x. (raw_tree x.0.raw, x.1.now)) result (read_at n tier tokens.now) }
+    ensures value { ReadAnswer (λ x. (raw_tree x.0.raw, x.1.now)) result (read_at edition n tier tokens.now) }
     ensures deep { IfOk result (λ x. x.0.depth ≤ n) }
 {
     if n == 0 {
         return Err(ReadStop::TokensLeft(tokens.len()));
     }
     match tier {
-        Tier::Whole => whole(alloc, n - 1, tokens),
-        Tier::Ors => ors(alloc, n - 1, tokens),
-        Tier::Ands => ands(alloc, n - 1, tokens),
-        Tier::Cmps => cmps(alloc, n - 1, tokens),
-        Tier::Sums => sums(alloc, n - 1, tokens),
-        Tier::Muls => muls(alloc, n - 1, tokens),
-        Tier::Unary => unary(alloc, n - 1, tokens),
+        Tier::Whole => whole(alloc, edition, n - 1, tokens),
+        Tier::Imps => imps(alloc, edition, n - 1, tokens),
+        Tier::Ors => ors(alloc, edition, n - 1, tokens),
+        Tier::Ands => ands(alloc, edition, n - 1, tokens),
+        Tier::Cmps => cmps(alloc, edition, n - 1, tokens),
+        Tier::Sums => sums(alloc, edition, n - 1, tokens),
+        Tier::Muls => muls(alloc, edition, n - 1, tokens),
+        Tier::Unary => unary(alloc, edition, n - 1, tokens),
     }
 }
 
 // A tree of depth at most `n`, at a tier, in a box.
 #[cycle(reading)]
-fn boxed(alloc: Global, tier: Tier, n: u32, tokens: &[Token]) -> Result<(Boxed, &[Token]), ReadStop>
+fn boxed(
+    alloc: Global,
+    edition: Edition,
+    tier: Tier,
+    n: u32,
+    tokens: &[Token],
+) -> Result<(Boxed, &[Token]), ReadStop>
     requires { n < 2 ^ 30 }
-    ensures value { ReadAnswer (λ x. (raw_tree x.0.raw.value, x.1.now)) result (read_at n tier tokens.now) }
+    ensures value { ReadAnswer (λ x. (raw_tree x.0.raw.value, x.1.now)) result (read_at edition n tier tokens.now) }
     ensures deep { IfOk result (λ x. x.0.depth ≤ n) }
 {
-    let (e, rest) = tree_at(alloc, tier, n, tokens)?;
+    let (e, rest) = tree_at(alloc, edition, tier, n, tokens)?;
     Ok((node::boxed(alloc, e)?, rest))
 }
 
 // Any expression.
 #[cycle(reading)]
 #[tactic(auto, unfolding(cf_reader::specs::Readers::deep, crate::specs::Reading::whole_of))]
-fn whole(alloc: Global, n: u32, tokens: &[Token]) -> Result<(Measured, &[Token]), ReadStop>
+fn whole(
+    alloc: Global,
+    edition: Edition,
+    n: u32,
+    tokens: &[Token],
+) -> Result<(Measured, &[Token]), ReadStop>
     requires { n < 2 ^ 30 }
-    ensures value { ReadAnswer (λ x. (raw_tree x.0.raw, x.1.now)) result (whole_of (read_at n) n tokens.now) }
+    ensures value { ReadAnswer (λ x. (raw_tree x.0.raw, x.1.now)) result (whole_of edition (read_at edition n) n tokens.now) }
     ensures deep { IfOk result (λ x. x.0.depth ≤ n + 1) }
 {
     if let Some((place, rest)) = after_word("let", tokens) {
         if n == 0 {
             return Err(ReadStop::TokensLeft(tokens.len()));
         }
-        return let_in(alloc, n, place, rest);
+        return let_in(alloc, edition, n, place, rest);
     }
     if let Some((place, rest)) = after_word("if", tokens) {
         if n == 0 {
             return Err(ReadStop::TokensLeft(tokens.len()));
         }
-        return if_else(alloc, n, place, rest);
+        return if_else(alloc, edition, n, place, rest);
     }
     if let Some((place, rest)) = after_word("choose", tokens) {
         if n == 0 {
             return Err(ReadStop::TokensLeft(tokens.len()));
         }
-        return choose(alloc, n, place, rest);
+        return choose(alloc, edition, n, place, rest);
     }
     if let Some((place, rest)) = after_word("match", tokens) {
         if n == 0 {
             return Err(ReadStop::TokensLeft(tokens.len()));
         }
-        return match_with(alloc, n, place, rest);
+        return match_with(alloc, edition, n, place, rest);
     }
-    ors(alloc, n, tokens)
+    imps(alloc, edition, n, tokens)
 }
 
 // Behind the word `let`.
@@ -99,27 +119,21 @@ fn whole(alloc: Global, n: u32, tokens: &[Token]) -> Result<(Measured, &[Token])
 #[tactic(auto, unfolding(cf_reader::specs::Readers::bind, cf_reader::specs::Readers::pure, crate::specs::Reading::let_of))]
 fn let_in(
     alloc: Global,
+    edition: Edition,
     n: u32,
     place: Place,
     tokens: &[Token],
 ) -> Result<(Measured, &[Token]), ReadStop>
     requires { n < 2 ^ 30 }
-    ensures value { ReadAnswer (λ x. (raw_tree x.0.raw, x.1.now)) result (let_of (read_at n) place tokens.now) }
+    ensures value { ReadAnswer (λ x. (raw_tree x.0.raw, x.1.now)) result (let_of edition (read_at edition n) place tokens.now) }
     ensures deep { IfOk result (λ x. x.0.depth ≤ n + 1) }
 {
-    let (names, rest) = read_names(alloc, tokens)?;
+    let (names, rest) = read_names(alloc, edition, tokens)?;
     let (_, rest) = expect_sign("=", rest)?;
-    let (value, rest) = boxed(alloc, Tier::Whole, n, rest)?;
+    let (value, rest) = boxed(alloc, edition, Tier::Whole, n, rest)?;
     let (_, rest) = expect_word("in", rest)?;
-    let (body, rest) = boxed(alloc, Tier::Whole, n, rest)?;
-    let inner = value.depth.max(body.depth);
-    let node = RawNode::Let {
-        names: names.names,
-        places: names.places,
-        value: value.raw,
-        body: body.raw,
-    };
-    Ok((node::tree(place, node, inner), rest))
+    let (body, rest) = boxed(alloc, edition, Tier::Whole, n, rest)?;
+    Ok((node::let_in(place, names, value, body), rest))
 }
 
 // Behind the word `if`.
@@ -127,26 +141,21 @@ fn let_in(
 #[tactic(auto, unfolding(cf_reader::specs::Readers::bind, cf_reader::specs::Readers::pure, crate::specs::Reading::if_of))]
 fn if_else(
     alloc: Global,
+    edition: Edition,
     n: u32,
     place: Place,
     tokens: &[Token],
 ) -> Result<(Measured, &[Token]), ReadStop>
     requires { n < 2 ^ 30 }
-    ensures value { ReadAnswer (λ x. (raw_tree x.0.raw, x.1.now)) result (if_of (read_at n) place tokens.now) }
+    ensures value { ReadAnswer (λ x. (raw_tree x.0.raw, x.1.now)) result (if_of (read_at edition n) place tokens.now) }
     ensures deep { IfOk result (λ x. x.0.depth ≤ n + 1) }
 {
-    let (test, rest) = boxed(alloc, Tier::Whole, n, tokens)?;
+    let (test, rest) = boxed(alloc, edition, Tier::Whole, n, tokens)?;
     let (_, rest) = expect_word("then", rest)?;
-    let (yes, rest) = boxed(alloc, Tier::Whole, n, rest)?;
+    let (yes, rest) = boxed(alloc, edition, Tier::Whole, n, rest)?;
     let (_, rest) = expect_word("else", rest)?;
-    let (no, rest) = boxed(alloc, Tier::Whole, n, rest)?;
-    let inner = test.depth.max(yes.depth.max(no.depth));
-    let node = RawNode::If {
-        test: test.raw,
-        yes: yes.raw,
-        no: no.raw,
-    };
-    Ok((node::tree(place, node, inner), rest))
+    let (no, rest) = boxed(alloc, edition, Tier::Whole, n, rest)?;
+    Ok((node::if_else(place, test, yes, no), rest))
 }
 
 // Behind the word `choose`.
@@ -154,24 +163,72 @@ fn if_else(
 #[tactic(auto, unfolding(cf_reader::specs::Readers::bind, cf_reader::specs::Readers::pure, crate::specs::Reading::choose_of))]
 fn choose(
     alloc: Global,
+    edition: Edition,
     n: u32,
     place: Place,
     tokens: &[Token],
 ) -> Result<(Measured, &[Token]), ReadStop>
     requires { n < 2 ^ 30 }
-    ensures value { ReadAnswer (λ x. (raw_tree x.0.raw, x.1.now)) result (choose_of (read_at n) place tokens.now) }
+    ensures value { ReadAnswer (λ x. (raw_tree x.0.raw, x.1.now)) result (choose_of edition (read_at edition n) place tokens.now) }
     ensures deep { IfOk result (λ x. x.0.depth ≤ n + 1) }
 {
     let (_, rest) = expect_sign("(", tokens)?;
-    let (outputs, rest) = params(alloc, rest)?;
+    let ((outputs, hidden), rest) = read_outputs(alloc, edition, rest)?;
+    let (given, rest) = given(alloc, edition, n, rest)?;
     let (_, rest) = expect_word("where", rest)?;
-    let (rel, rest) = boxed(alloc, Tier::Ors, n, rest)?;
-    let inner = rel.depth;
-    let rel = rel.raw;
-    Ok((
-        node::tree(place, RawNode::Choose { outputs, rel }, inner),
-        rest,
-    ))
+    let (rel, rest) = boxed(alloc, edition, relation_tier(edition), n, rest)?;
+    let (aim, rest) = aim(alloc, edition, n, rest)?;
+    Ok((node::choose(place, outputs, hidden, given, rel, aim), rest))
+}
+
+// The word `given` and its condition, if they stand there.
+#[cycle(reading)]
+#[tactic(auto, unfolding(cf_reader::specs::Readers::first, cf_reader::specs::Readers::bind, cf_reader::specs::Readers::pure, crate::specs::Reading::given_of))]
+fn given(
+    alloc: Global,
+    edition: Edition,
+    n: u32,
+    tokens: &[Token],
+) -> Result<(MeasuredGiven, &[Token]), ReadStop>
+    requires { n < 2 ^ 30 }
+    ensures value { ReadAnswer (λ x. (given_tree x.0.given, x.1.now)) result (given_of edition (read_at edition n) tokens.now) }
+    ensures deep { IfOk result (λ x. x.0.depth ≤ n) }
+{
+    match edition {
+        Edition::Two => Ok((node::no_given(), tokens)),
+        Edition::Three => match after_word("given", tokens) {
+            None => Ok((node::no_given(), tokens)),
+            Some((place, rest)) => {
+                let (e, rest) = boxed(alloc, edition, Tier::Whole, n, rest)?;
+                Ok((node::given_that(place, e), rest))
+            }
+        },
+    }
+}
+
+// The word `minimise` or `maximise` and its objective, if they stand there.
+#[cycle(reading)]
+#[tactic(auto, unfolding(cf_reader::specs::Readers::first, cf_reader::specs::Readers::bind, cf_reader::specs::Readers::pure, crate::specs::Reading::aim_of))]
+fn aim(
+    alloc: Global,
+    edition: Edition,
+    n: u32,
+    tokens: &[Token],
+) -> Result<(MeasuredAim, &[Token]), ReadStop>
+    requires { n < 2 ^ 30 }
+    ensures value { ReadAnswer (λ x. (aim_tree x.0.aim, x.1.now)) result (aim_of edition (read_at edition n) tokens.now) }
+    ensures deep { IfOk result (λ x. x.0.depth ≤ n) }
+{
+    match edition {
+        Edition::Two => Ok((node::no_aim(), tokens)),
+        Edition::Three => match after_sense(tokens) {
+            None => Ok((node::no_aim(), tokens)),
+            Some(((place, sense), rest)) => {
+                let (e, rest) = boxed(alloc, edition, Tier::Whole, n, rest)?;
+                Ok((node::aim_at(place, sense, e), rest))
+            }
+        },
+    }
 }
 
 // Behind the word `match`.
@@ -179,41 +236,42 @@ fn choose(
 #[tactic(auto, unfolding(cf_reader::specs::Readers::bind, cf_reader::specs::Readers::pure, cf_reader::specs::Readers::several_of, crate::specs::Reading::match_of))]
 fn match_with(
     alloc: Global,
+    edition: Edition,
     n: u32,
     place: Place,
     tokens: &[Token],
 ) -> Result<(Measured, &[Token]), ReadStop>
     requires small { n < 2 ^ 30 }
     requires some { 1 ≤ n }
-    ensures value { ReadAnswer (λ x. (raw_tree x.0.raw, x.1.now)) result (match_of (read_at n) place tokens.now) }
+    ensures value { ReadAnswer (λ x. (raw_tree x.0.raw, x.1.now)) result (match_of edition (read_at edition n) place tokens.now) }
     ensures deep { IfOk result (λ x. x.0.depth ≤ n + 1) }
 {
-    let (of, rest) = boxed(alloc, Tier::Whole, n, tokens)?;
+    let (of, rest) = boxed(alloc, edition, Tier::Whole, n, tokens)?;
     let (_, rest) = expect_word("with", rest)?;
     let (_, rest) = expect_sign("{", rest)?;
-    let (first, rest) = arm(alloc, n, rest)?;
+    let (first, rest) = arm(alloc, edition, n, rest)?;
     let first = node::pushed_arm(node::no_arms(alloc), first)?;
-    let (arms, rest) = more_arms(alloc, n, first, rest)?;
-    let inner = of.depth.max(arms.depth);
-    let node = RawNode::Match {
-        of: of.raw,
-        arms: arms.arms,
-    };
-    Ok((node::tree(place, node, inner), rest))
+    let (arms, rest) = more_arms(alloc, edition, n, first, rest)?;
+    Ok((node::match_with(place, of, arms), rest))
 }
 
 // An arm of a `match`.
 #[cycle(reading)]
 #[tactic(auto, unfolding(cf_reader::specs::Readers::bind, cf_reader::specs::Readers::pure, crate::specs::Reading::arm_of))]
-fn arm(alloc: Global, n: u32, tokens: &[Token]) -> Result<(MeasuredArm, &[Token]), ReadStop>
+fn arm(
+    alloc: Global,
+    edition: Edition,
+    n: u32,
+    tokens: &[Token],
+) -> Result<(MeasuredArm, &[Token]), ReadStop>
     requires small { n < 2 ^ 30 }
     requires some { 1 ≤ n }
-    ensures value { ReadAnswer (λ x. (raw_arm_tree x.0.arm, x.1.now)) result (arm_of (read_at n) tokens.now) }
+    ensures value { ReadAnswer (λ x. (raw_arm_tree x.0.arm, x.1.now)) result (arm_of edition (read_at edition n) tokens.now) }
     ensures deep { IfOk result (λ x. x.0.depth ≤ n) }
 {
-    let (pattern, rest) = read_pattern(alloc, tokens)?;
+    let (pattern, rest) = read_pattern(alloc, edition, tokens)?;
     let (_, rest) = expect_word("then", rest)?;
-    let (body, rest) = tree_at(alloc, Tier::Whole, n, rest)?;
+    let (body, rest) = tree_at(alloc, edition, Tier::Whole, n, rest)?;
     Ok((node::arm(pattern, body), rest))
 }
 
@@ -222,6 +280,7 @@ fn arm(alloc: Global, n: u32, tokens: &[Token]) -> Result<(MeasuredArm, &[Token]
 #[tactic(auto, unfolding(cf_reader::specs::Readers::others_of))]
 fn more_arms(
     alloc: Global,
+    edition: Edition,
     n: u32,
     first: MeasuredArms,
     tokens: &[Token],
@@ -230,7 +289,7 @@ fn more_arms(
     requires some { 1 ≤ n }
     requires first_in { first.depth ≤ n }
     ensures value { ReadAnswer (λ x. (map raw_arm_tree x.0.arms.items, x.1.now)) result
-        (others_of snoc (arm_of (read_at n)) (Sign (codes ";")) (Sign (codes "}")) (map raw_arm_tree first.arms.items) tokens.now) }
+        (others_of snoc (arm_of edition (read_at edition n)) (Sign (codes ";")) (Sign (codes "}")) (map raw_arm_tree first.arms.items) tokens.now) }
     ensures deep { IfOk result (λ x. x.0.depth ≤ n) }
 {
     let mut done = first;
@@ -238,7 +297,7 @@ fn more_arms(
     for _ in 0..tokens.len() {
         match after_sign(";", rest) {
             Some((_, behind)) => {
-                let (x, behind) = arm(alloc, n, behind)?;
+                let (x, behind) = arm(alloc, edition, n, behind)?;
                 done = node::pushed_arm(done, x)?;
                 rest = behind;
             }
@@ -252,96 +311,208 @@ fn more_arms(
     Err(ReadStop::TokensLeft(0))
 }
 
+// Joined by `==>`.
+#[cycle(reading)]
+#[tactic(auto, unfolding(cf_reader::specs::Readers::first, cf_reader::specs::Readers::bind, cf_reader::specs::Readers::pure, crate::specs::Reading::imps_of, crate::specs::Reading::implied_of))]
+fn imps(
+    alloc: Global,
+    edition: Edition,
+    n: u32,
+    tokens: &[Token],
+) -> Result<(Measured, &[Token]), ReadStop>
+    requires { n < 2 ^ 30 }
+    ensures value { ReadAnswer (λ x. (raw_tree x.0.raw, x.1.now)) result (imps_of edition (read_at edition n) n tokens.now) }
+    ensures deep { IfOk result (λ x. x.0.depth ≤ n + 1) }
+{
+    let (left, rest) = ors(alloc, edition, n, tokens)?;
+    match edition {
+        Edition::Two => Ok((left, rest)),
+        Edition::Three => match next_op(edition, Tier::Imps, n, left.depth, rest) {
+            None => Ok((left, rest)),
+            Some(((place, op), rest)) => match boxed(alloc, edition, Tier::Imps, n, rest) {
+                Ok((right, rest)) => Ok((node::binary(alloc, place, op, left, right)?, rest)),
+                Err(stop) => Err(without(left, stop)),
+            },
+        },
+    }
+}
+
 // Joined by `||`.
 #[cycle(reading)]
 #[tactic(auto, unfolding(cf_reader::specs::Readers::bind, crate::specs::Reading::ors_of))]
-fn ors(alloc: Global, n: u32, tokens: &[Token]) -> Result<(Measured, &[Token]), ReadStop>
+fn ors(
+    alloc: Global,
+    edition: Edition,
+    n: u32,
+    tokens: &[Token],
+) -> Result<(Measured, &[Token]), ReadStop>
     requires { n < 2 ^ 30 }
-    ensures value { ReadAnswer (λ x. (raw_tree x.0.raw, x.1.now)) result (ors_of (read_at n) n tokens.now) }
+    ensures value { ReadAnswer (λ x. (raw_tree x.0.raw, x.1.now)) result (ors_of edition (read_at edition n) n tokens.now) }
     ensures deep { IfOk result (λ x. x.0.depth ≤ n + 1) }
 {
-    let (left, rest) = ands(alloc, n, tokens)?;
-    chain(alloc, Tier::Ors, n, left, rest)
+    let (left, rest) = ands(alloc, edition, n, tokens)?;
+    chain(alloc, edition, Tier::Ors, n, left, rest)
 }
 
 // Joined by `&&`.
 #[cycle(reading)]
 #[tactic(auto, unfolding(cf_reader::specs::Readers::bind, crate::specs::Reading::ands_of))]
-fn ands(alloc: Global, n: u32, tokens: &[Token]) -> Result<(Measured, &[Token]), ReadStop>
+fn ands(
+    alloc: Global,
+    edition: Edition,
+    n: u32,
+    tokens: &[Token],
+) -> Result<(Measured, &[Token]), ReadStop>
     requires { n < 2 ^ 30 }
-    ensures value { ReadAnswer (λ x. (raw_tree x.0.raw, x.1.now)) result (ands_of (read_at n) n tokens.now) }
+    ensures value { ReadAnswer (λ x. (raw_tree x.0.raw, x.1.now)) result (ands_of edition (read_at edition n) n tokens.now) }
     ensures deep { IfOk result (λ x. x.0.depth ≤ n + 1) }
 {
-    let (left, rest) = cmps(alloc, n, tokens)?;
-    chain(alloc, Tier::Ands, n, left, rest)
+    let (left, rest) = cmps(alloc, edition, n, tokens)?;
+    chain(alloc, edition, Tier::Ands, n, left, rest)
 }
 
 // At most one comparison, or `divides`.
 #[cycle(reading)]
 #[tactic(auto, unfolding(cf_reader::specs::Readers::bind, crate::specs::Reading::cmps_of))]
-fn cmps(alloc: Global, n: u32, tokens: &[Token]) -> Result<(Measured, &[Token]), ReadStop>
+fn cmps(
+    alloc: Global,
+    edition: Edition,
+    n: u32,
+    tokens: &[Token],
+) -> Result<(Measured, &[Token]), ReadStop>
     requires { n < 2 ^ 30 }
-    ensures value { ReadAnswer (λ x. (raw_tree x.0.raw, x.1.now)) result (cmps_of (read_at n) n tokens.now) }
+    ensures value { ReadAnswer (λ x. (raw_tree x.0.raw, x.1.now)) result (cmps_of edition (read_at edition n) n tokens.now) }
     ensures deep { IfOk result (λ x. x.0.depth ≤ n + 1) }
 {
-    let (left, rest) = sums(alloc, n, tokens)?;
-    compared(alloc, n, left, rest)
+    let (left, rest) = sums(alloc, edition, n, tokens)?;
+    compared(alloc, edition, n, left, rest)
 }
 
-// The rest of a comparison or of `divides`, if there is any, behind the first part.
+// The rest of a comparison, of a chain or of `divides`, if there is any, behind the first part.
 #[cycle(reading)]
 #[tactic(auto, unfolding(cf_reader::specs::Readers::first, cf_reader::specs::Readers::bind, cf_reader::specs::Readers::pure, crate::specs::Reading::compared_of))]
 fn compared(
     alloc: Global,
+    edition: Edition,
     n: u32,
     left: Measured,
     tokens: &[Token],
 ) -> Result<(Measured, &[Token]), ReadStop>
     requires small { n < 2 ^ 30 }
     requires left_in { left.depth ≤ n + 1 }
-    ensures value { ReadAnswer (λ x. (raw_tree x.0.raw, x.1.now)) result (compared_of (read_at n) n (raw_tree left.raw) tokens.now) }
+    ensures value { ReadAnswer (λ x. (raw_tree x.0.raw, x.1.now)) result (compared_of edition (read_at edition n) n (raw_tree left.raw) tokens.now) }
     ensures deep { IfOk result (λ x. x.0.depth ≤ n + 1) }
 {
-    if let Some(((place, op), rest)) = next_op(Tier::Cmps, n, left.depth, tokens) {
-        return match boxed(alloc, Tier::Sums, n, rest) {
-            Ok((right, rest)) => Ok((node::binary(alloc, place, op, left, right)?, rest)),
+    if let Some(((place, op), rest)) = next_op(edition, Tier::Cmps, n, left.depth, tokens) {
+        return match tree_at(alloc, edition, Tier::Sums, n, rest) {
+            Ok((right, rest)) => chained(alloc, edition, n, (place, op), left, right, rest),
             Err(stop) => Err(without(left, stop)),
         };
     }
-    if let Some(((place, k), rest)) = divides_by(n, &left.raw, tokens) {
-        drop(left);
-        let (of, rest) = boxed(alloc, Tier::Sums, n, rest)?;
-        let inner = of.depth;
-        return Ok((
-            node::tree(place, RawNode::Divides { k, of: of.raw }, inner),
-            rest,
-        ));
+    match divides_by(alloc, edition, n, &left.raw, tokens) {
+        Err(stop) => Err(without(left, stop)),
+        Ok(None) => Ok((left, tokens)),
+        Ok(Some(((place, k), rest))) => {
+            drop(left);
+            let (of, rest) = boxed(alloc, edition, Tier::Sums, n, rest)?;
+            Ok((node::divides(place, k, of), rest))
+        }
     }
-    Ok((left, tokens))
+}
+
+// The rest of a chain, if there is any, behind the two sides of an operation of the tier of comparisons.
+#[cycle(reading)]
+#[tactic(auto, unfolding(cf_reader::specs::Readers::bind, cf_reader::specs::Readers::pure, crate::specs::Reading::chained_of))]
+fn chained(
+    alloc: Global,
+    edition: Edition,
+    n: u32,
+    op: (Place, BinOp),
+    left: Measured,
+    right: Measured,
+    tokens: &[Token],
+) -> Result<(Measured, &[Token]), ReadStop>
+    requires small { n < 2 ^ 30 }
+    requires left_in { left.depth ≤ n }
+    requires right_in { right.depth ≤ n }
+    ensures value { ReadAnswer (λ x. (raw_tree x.0.raw, x.1.now)) result
+        (chained_of edition (read_at edition n) op (raw_tree left.raw) (raw_tree right.raw) tokens.now) }
+    ensures deep { IfOk result (λ x. x.0.depth ≤ n + 1) }
+{
+    match (edition, op.1) {
+        (Edition::Three, BinOp::Compare(order)) => {
+            let links = node::linked(alloc, (op.0, order), left, right)?;
+            let (links, rest) = more_links(alloc, n, links, tokens)?;
+            Ok((node::comparison(alloc, op.0, links)?, rest))
+        }
+        _ => {
+            let right = node::boxed(alloc, right)?;
+            Ok((node::binary(alloc, op.0, op.1, left, right)?, tokens))
+        }
+    }
+}
+
+// More links of a chain, behind those read before.
+#[cycle(reading)]
+#[tactic(auto, unfolding(crate::specs::Reading::all_links))]
+fn more_links(
+    alloc: Global,
+    n: u32,
+    first: MeasuredLinks,
+    tokens: &[Token],
+) -> Result<(MeasuredLinks, &[Token]), ReadStop>
+    requires small { n < 2 ^ 30 }
+    requires first_in { first.depth ≤ n }
+    ensures value { ReadAnswer (λ x. (links_tree x.0, x.1.now)) result (all_links (read_at Three n) (links_tree first) tokens.now) }
+    ensures deep { IfOk result (λ x. x.0.depth ≤ n) }
+{
+    let mut done = first;
+    let mut rest = tokens;
+    for _ in 0..tokens.len() {
+        match next_order(&done.orders, rest) {
+            None => return Ok((done, rest)),
+            Some((link, behind)) => {
+                let (e, behind) = tree_at(alloc, Edition::Three, Tier::Sums, n, behind)?;
+                done = node::more_linked(done, link, e)?;
+                rest = behind;
+            }
+        }
+    }
+    Ok((done, rest))
 }
 
 // Joined by `+`, `-`, `union` or `diff`.
 #[cycle(reading)]
 #[tactic(auto, unfolding(cf_reader::specs::Readers::bind, crate::specs::Reading::sums_of))]
-fn sums(alloc: Global, n: u32, tokens: &[Token]) -> Result<(Measured, &[Token]), ReadStop>
+fn sums(
+    alloc: Global,
+    edition: Edition,
+    n: u32,
+    tokens: &[Token],
+) -> Result<(Measured, &[Token]), ReadStop>
     requires { n < 2 ^ 30 }
-    ensures value { ReadAnswer (λ x. (raw_tree x.0.raw, x.1.now)) result (sums_of (read_at n) n tokens.now) }
+    ensures value { ReadAnswer (λ x. (raw_tree x.0.raw, x.1.now)) result (sums_of edition (read_at edition n) n tokens.now) }
     ensures deep { IfOk result (λ x. x.0.depth ≤ n + 1) }
 {
-    let (left, rest) = muls(alloc, n, tokens)?;
-    chain(alloc, Tier::Sums, n, left, rest)
+    let (left, rest) = muls(alloc, edition, n, tokens)?;
+    chain(alloc, edition, Tier::Sums, n, left, rest)
 }
 
 // Joined by `*` or `inter`.
 #[cycle(reading)]
 #[tactic(auto, unfolding(cf_reader::specs::Readers::bind, crate::specs::Reading::muls_of))]
-fn muls(alloc: Global, n: u32, tokens: &[Token]) -> Result<(Measured, &[Token]), ReadStop>
+fn muls(
+    alloc: Global,
+    edition: Edition,
+    n: u32,
+    tokens: &[Token],
+) -> Result<(Measured, &[Token]), ReadStop>
     requires { n < 2 ^ 30 }
-    ensures value { ReadAnswer (λ x. (raw_tree x.0.raw, x.1.now)) result (muls_of (read_at n) n tokens.now) }
+    ensures value { ReadAnswer (λ x. (raw_tree x.0.raw, x.1.now)) result (muls_of edition (read_at edition n) n tokens.now) }
     ensures deep { IfOk result (λ x. x.0.depth ≤ n + 1) }
 {
-    let (left, rest) = unary(alloc, n, tokens)?;
-    chain(alloc, Tier::Muls, n, left, rest)
+    let (left, rest) = unary(alloc, edition, n, tokens)?;
+    chain(alloc, edition, Tier::Muls, n, left, rest)
 }
 
 // The rest of a chain.
@@ -349,6 +520,7 @@ fn muls(alloc: Global, n: u32, tokens: &[Token]) -> Result<(Measured, &[Token]),
 #[tactic(auto, using(crate::proofs::Above::chain_stops, crate::proofs::Above::chain_ends, crate::proofs::Above::chain_goes, crate::proofs::Above::chain_errs))]
 fn chain(
     alloc: Global,
+    edition: Edition,
     tier: Tier,
     n: u32,
     first: Measured,
@@ -356,16 +528,16 @@ fn chain(
 ) -> Result<(Measured, &[Token]), ReadStop>
     requires small { n < 2 ^ 30 }
     requires first_in { first.depth ≤ n + 1 }
-    ensures value { ReadAnswer (λ x. (raw_tree x.0.raw, x.1.now)) result (chain_of (read_at n) tier n n (raw_tree first.raw) tokens.now) }
+    ensures value { ReadAnswer (λ x. (raw_tree x.0.raw, x.1.now)) result (chain_of edition (read_at edition n) tier n n (raw_tree first.raw) tokens.now) }
     ensures deep { IfOk result (λ x. x.0.depth ≤ n + 1) }
 {
     let mut left = first;
     let mut rest = tokens;
     for _ in 0..n {
-        match next_op(tier, n, left.depth, rest) {
+        match next_op(edition, tier, n, left.depth, rest) {
             None => return Ok((left, rest)),
             Some(((place, op), behind)) => {
-                match boxed(alloc, under(tier), n, behind) {
+                match boxed(alloc, edition, under(tier), n, behind) {
                     Ok((right, behind)) => {
                         left = node::binary(alloc, place, op, left, right)?;
                         rest = behind;
@@ -381,154 +553,248 @@ fn chain(
 // Behind signs, or by itself.
 #[cycle(reading)]
 #[tactic(auto, unfolding(cf_reader::specs::Readers::deep, cf_reader::specs::Readers::bind, cf_reader::specs::Readers::pure, crate::specs::Reading::unary_of))]
-fn unary(alloc: Global, n: u32, tokens: &[Token]) -> Result<(Measured, &[Token]), ReadStop>
+fn unary(
+    alloc: Global,
+    edition: Edition,
+    n: u32,
+    tokens: &[Token],
+) -> Result<(Measured, &[Token]), ReadStop>
     requires { n < 2 ^ 30 }
-    ensures value { ReadAnswer (λ x. (raw_tree x.0.raw, x.1.now)) result (unary_of (read_at n) n tokens.now) }
+    ensures value { ReadAnswer (λ x. (raw_tree x.0.raw, x.1.now)) result (unary_of edition (read_at edition n) n tokens.now) }
     ensures deep { IfOk result (λ x. x.0.depth ≤ n + 1) }
 {
     if let Some((place, rest)) = after_sign("-", tokens) {
         if n == 0 {
             return Err(ReadStop::TokensLeft(tokens.len()));
         }
-        let (e, rest) = boxed(alloc, Tier::Unary, n, rest)?;
-        let inner = e.depth;
-        return Ok((node::tree(place, RawNode::Neg(e.raw), inner), rest));
+        let (e, rest) = boxed(alloc, edition, Tier::Unary, n, rest)?;
+        return Ok((node::neg(place, e), rest));
     }
     if let Some((place, rest)) = after_sign("!", tokens) {
         if n == 0 {
             return Err(ReadStop::TokensLeft(tokens.len()));
         }
-        let (e, rest) = boxed(alloc, Tier::Unary, n, rest)?;
-        let inner = e.depth;
-        return Ok((node::tree(place, RawNode::Not(e.raw), inner), rest));
+        let (e, rest) = boxed(alloc, edition, Tier::Unary, n, rest)?;
+        return Ok((node::not(place, e), rest));
     }
-    atom(alloc, n, tokens)
+    atom(alloc, edition, n, tokens)
 }
 
 // By itself.
 #[cycle(reading)]
 #[tactic(auto, unfolding(cf_reader::specs::Readers::first, cf_reader::specs::Readers::deep, cf_reader::specs::Readers::bind, cf_reader::specs::Readers::pure, crate::specs::Reading::atom_of))]
-fn atom(alloc: Global, n: u32, tokens: &[Token]) -> Result<(Measured, &[Token]), ReadStop>
+fn atom(
+    alloc: Global,
+    edition: Edition,
+    n: u32,
+    tokens: &[Token],
+) -> Result<(Measured, &[Token]), ReadStop>
     requires { n < 2 ^ 30 }
-    ensures value { ReadAnswer (λ x. (raw_tree x.0.raw, x.1.now)) result (atom_of (read_at n) n tokens.now) }
+    ensures value { ReadAnswer (λ x. (raw_tree x.0.raw, x.1.now)) result (atom_of edition (read_at edition n) n tokens.now) }
     ensures deep { IfOk result (λ x. x.0.depth ≤ n + 1) }
 {
     if let Some(((place, k), rest)) = literal_at_least(0, tokens) {
-        return Ok((node::tree(place, RawNode::Lit(k), 0), rest));
+        return Ok((node::literal(place, k), rest));
     }
     if let Some((place, rest)) = after_sign("(", tokens) {
         if n == 0 {
             return Err(ReadStop::TokensLeft(tokens.len()));
         }
-        let (es, rest) = list(alloc, n, ")", rest)?;
+        let (es, rest) = list(alloc, edition, n, ")", rest)?;
         return Ok((node::grouped(alloc, place, es)?, rest));
     }
     if let Some((place, rest)) = after_sign("{", tokens) {
-        let (es, rest) = items(alloc, n, "}", rest)?;
-        let inner = es.depth;
-        return Ok((node::tree(place, RawNode::SetOf(es.trees), inner), rest));
+        let (es, rest) = items(alloc, edition, n, "}", rest)?;
+        return Ok((node::set_of(place, es), rest));
     }
-    word(alloc, n, tokens)
+    word(alloc, edition, n, tokens)
 }
 
 // A form that begins with a word.
 #[cycle(reading)]
-#[tactic(auto, unfolding(cf_reader::specs::Readers::first, cf_reader::specs::Readers::deep, cf_reader::specs::Readers::bind, cf_reader::specs::Readers::pure, crate::specs::Reading::word_of))]
-fn word(alloc: Global, n: u32, tokens: &[Token]) -> Result<(Measured, &[Token]), ReadStop>
+#[tactic(auto, unfolding(cf_reader::specs::Readers::first, cf_reader::specs::Readers::bind, cf_reader::specs::Readers::pure, crate::specs::Reading::word_of))]
+fn word(
+    alloc: Global,
+    edition: Edition,
+    n: u32,
+    tokens: &[Token],
+) -> Result<(Measured, &[Token]), ReadStop>
     requires { n < 2 ^ 30 }
-    ensures value { ReadAnswer (λ x. (raw_tree x.0.raw, x.1.now)) result (word_of (read_at n) n tokens.now) }
+    ensures value { ReadAnswer (λ x. (raw_tree x.0.raw, x.1.now)) result (word_of edition (read_at edition n) n tokens.now) }
+    ensures deep { IfOk result (λ x. x.0.depth ≤ n + 1) }
+{
+    match edition {
+        Edition::Two => word_of_two(alloc, n, tokens),
+        Edition::Three => {
+            if let Some(((place, t), rest)) = truth(tokens) {
+                return Ok((node::truth(place, t), rest));
+            }
+            name_or_call(alloc, edition, n, tokens)
+        }
+    }
+}
+
+// A form of language 2 that begins with a word: there the word of an operation is reserved.
+#[cycle(reading)]
+#[tactic(auto, unfolding(cf_reader::specs::Readers::first, cf_reader::specs::Readers::deep, cf_reader::specs::Readers::bind, cf_reader::specs::Readers::pure, crate::specs::Reading::word_of, crate::specs::Reading::inside_of))]
+fn word_of_two(alloc: Global, n: u32, tokens: &[Token]) -> Result<(Measured, &[Token]), ReadStop>
+    requires { n < 2 ^ 30 }
+    ensures value { ReadAnswer (λ x. (raw_tree x.0.raw, x.1.now)) result (word_of Two (read_at Two n) n tokens.now) }
     ensures deep { IfOk result (λ x. x.0.depth ≤ n + 1) }
 {
     if let Some(((place, t), rest)) = truth(tokens) {
-        return Ok((node::tree(place, RawNode::Truth(t), 0), rest));
+        return Ok((node::truth(place, t), rest));
     }
     if let Some((place, rest)) = after_word("card", tokens) {
         if n == 0 {
             return Err(ReadStop::TokensLeft(tokens.len()));
         }
-        let (e, rest) = inside(alloc, n, rest)?;
-        let inner = e.depth;
-        return Ok((node::tree(place, RawNode::Card(e.raw), inner), rest));
+        let (_, rest) = expect_sign("(", rest)?;
+        let (e, rest) = inside(alloc, Edition::Two, n, rest)?;
+        return Ok((node::card(place, e), rest));
     }
     if let Some((place, rest)) = after_word("abs", tokens) {
         if n == 0 {
             return Err(ReadStop::TokensLeft(tokens.len()));
         }
-        let (e, rest) = inside(alloc, n, rest)?;
-        let inner = e.depth;
-        return Ok((node::tree(place, RawNode::Abs(e.raw), inner), rest));
+        let (_, rest) = expect_sign("(", rest)?;
+        let (e, rest) = inside(alloc, Edition::Two, n, rest)?;
+        return Ok((node::abs(place, e), rest));
     }
     if let Some((place, rest)) = after_word("div", tokens) {
         if n == 0 {
             return Err(ReadStop::TokensLeft(tokens.len()));
         }
-        let ((e, k), rest) = divided(alloc, n, rest)?;
-        let inner = e.depth;
-        return Ok((
-            node::tree(place, RawNode::Div { of: e.raw, k }, inner),
-            rest,
-        ));
+        let (_, rest) = expect_sign("(", rest)?;
+        let ((e, k), rest) = divided(alloc, Edition::Two, n, rest)?;
+        return Ok((node::div(place, e, k), rest));
     }
     if let Some((place, rest)) = after_word("mod", tokens) {
         if n == 0 {
             return Err(ReadStop::TokensLeft(tokens.len()));
         }
-        let ((e, k), rest) = divided(alloc, n, rest)?;
-        let inner = e.depth;
-        return Ok((
-            node::tree(place, RawNode::Mod { of: e.raw, k }, inner),
-            rest,
-        ));
+        let (_, rest) = expect_sign("(", rest)?;
+        let ((e, k), rest) = divided(alloc, Edition::Two, n, rest)?;
+        return Ok((node::modulo(place, e, k), rest));
     }
-    name_or_call(alloc, n, tokens)
+    name_or_call(alloc, Edition::Two, n, tokens)
 }
 
-// A name, or a call.
+// A name, a call, or an operation of edition 3.
 #[cycle(reading)]
-#[tactic(auto, unfolding(cf_reader::specs::Readers::first, cf_reader::specs::Readers::bind, cf_reader::specs::Readers::pure, crate::specs::Reading::named_of))]
-fn name_or_call(alloc: Global, n: u32, tokens: &[Token]) -> Result<(Measured, &[Token]), ReadStop>
+#[tactic(auto, unfolding(cf_reader::specs::Readers::first, cf_reader::specs::Readers::deep, cf_reader::specs::Readers::bind, cf_reader::specs::Readers::pure, crate::specs::Reading::named_of, crate::specs::Reading::behind_name))]
+fn name_or_call(
+    alloc: Global,
+    edition: Edition,
+    n: u32,
+    tokens: &[Token],
+) -> Result<(Measured, &[Token]), ReadStop>
     requires { n < 2 ^ 30 }
-    ensures value { ReadAnswer (λ x. (raw_tree x.0.raw, x.1.now)) result (named_of (read_at n) tokens.now) }
+    ensures value { ReadAnswer (λ x. (raw_tree x.0.raw, x.1.now)) result (named_of edition (read_at edition n) n tokens.now) }
     ensures deep { IfOk result (λ x. x.0.depth ≤ n + 1) }
 {
-    let ((place, name), rest) = expect_name(alloc, tokens)?;
-    match after_sign("(", rest) {
-        Some((_, rest)) => {
-            let (es, rest) = items(alloc, n, ")", rest)?;
-            let inner = es.depth;
-            let args = es.trees;
-            Ok((node::tree(place, RawNode::Call { name, args }, inner), rest))
+    let ((place, name), rest) = expect_name(alloc, edition, tokens)?;
+    let Some((_, behind)) = after_sign("(", rest) else {
+        return Ok((node::name(place, name), rest));
+    };
+    if is_operation(edition, &name.bytes) {
+        if n == 0 {
+            return Err(ReadStop::TokensLeft(rest.len()));
         }
-        None => Ok((node::tree(place, RawNode::Name(name), 0), rest)),
+        return operated(alloc, n, place, name, behind);
+    }
+    let (es, rest) = items(alloc, edition, n, ")", behind)?;
+    Ok((node::call(place, name, es), rest))
+}
+
+// Behind the word of an operation of edition 3 and its parenthesis.
+#[cycle(reading)]
+#[tactic(auto, unfolding(cf_reader::specs::Readers::bind, cf_reader::specs::Readers::pure, crate::specs::Reading::operation_of))]
+fn operated(
+    alloc: Global,
+    n: u32,
+    place: Place,
+    word: Text,
+    tokens: &[Token],
+) -> Result<(Measured, &[Token]), ReadStop>
+    requires { n < 2 ^ 30 }
+    ensures value { ReadAnswer (λ x. (raw_tree x.0.raw, x.1.now)) result (operation_of (read_at Three n) (place, word) tokens.now) }
+    ensures deep { IfOk result (λ x. x.0.depth ≤ n + 1) }
+{
+    if spells(&word.bytes, "card") {
+        let (e, rest) = inside(alloc, Edition::Three, n, tokens)?;
+        Ok((node::card(place, e), rest))
+    } else if spells(&word.bytes, "abs") {
+        let (e, rest) = inside(alloc, Edition::Three, n, tokens)?;
+        Ok((node::abs(place, e), rest))
+    } else if spells(&word.bytes, "div") {
+        let ((e, k), rest) = divided(alloc, Edition::Three, n, tokens)?;
+        Ok((node::div(place, e, k), rest))
+    } else if spells(&word.bytes, "mod") {
+        let ((e, k), rest) = divided(alloc, Edition::Three, n, tokens)?;
+        Ok((node::modulo(place, e, k), rest))
+    } else if spells(&word.bytes, "min") {
+        let (es, rest) = two_or_more(alloc, n, tokens)?;
+        Ok((node::min(place, es), rest))
+    } else {
+        let (es, rest) = two_or_more(alloc, n, tokens)?;
+        Ok((node::max(place, es), rest))
     }
 }
 
-// An expression in parentheses.
+// Two expressions or more, up to the closing parenthesis.
 #[cycle(reading)]
-#[tactic(auto, unfolding(cf_reader::specs::Readers::bind, cf_reader::specs::Readers::pure, crate::specs::Reading::inside_of))]
-fn inside(alloc: Global, n: u32, tokens: &[Token]) -> Result<(Boxed, &[Token]), ReadStop>
+#[tactic(auto, unfolding(cf_reader::specs::Readers::bind, cf_reader::specs::Readers::several_of, crate::specs::Reading::two_or_more_of))]
+fn two_or_more(
+    alloc: Global,
+    n: u32,
+    tokens: &[Token],
+) -> Result<(MeasuredList, &[Token]), ReadStop>
     requires { n < 2 ^ 30 }
-    ensures value { ReadAnswer (λ x. (raw_tree x.0.raw.value, x.1.now)) result (inside_of (read_at n) tokens.now) }
+    ensures value { ReadAnswer (λ x. (map raw_tree x.0.trees.items, x.1.now)) result (two_or_more_of (read_at Three n) tokens.now) }
     ensures deep { IfOk result (λ x. x.0.depth ≤ n) }
 {
-    let (_, rest) = expect_sign("(", tokens)?;
-    let (e, rest) = boxed(alloc, Tier::Whole, n, rest)?;
+    let (e, rest) = tree_at(alloc, Edition::Three, Tier::Whole, n, tokens)?;
+    let (_, rest) = expect_sign(",", rest)?;
+    let (f, rest) = tree_at(alloc, Edition::Three, Tier::Whole, n, rest)?;
+    let first = node::pushed(node::pushed(node::none(alloc), e)?, f)?;
+    more(alloc, Edition::Three, n, ")", first, rest)
+}
+
+// An expression up to the closing parenthesis.
+#[cycle(reading)]
+#[tactic(auto, unfolding(cf_reader::specs::Readers::bind, cf_reader::specs::Readers::pure, crate::specs::Reading::one_of))]
+fn inside(
+    alloc: Global,
+    edition: Edition,
+    n: u32,
+    tokens: &[Token],
+) -> Result<(Boxed, &[Token]), ReadStop>
+    requires { n < 2 ^ 30 }
+    ensures value { ReadAnswer (λ x. (raw_tree x.0.raw.value, x.1.now)) result (one_of (read_at edition n) tokens.now) }
+    ensures deep { IfOk result (λ x. x.0.depth ≤ n) }
+{
+    let (e, rest) = boxed(alloc, edition, Tier::Whole, n, tokens)?;
     let (_, rest) = expect_sign(")", rest)?;
     Ok((e, rest))
 }
 
-// An expression and a literal of at least 1, in parentheses.
+// An expression and a number of at least 1, up to the closing parenthesis.
 #[cycle(reading)]
 #[tactic(auto, unfolding(cf_reader::specs::Readers::bind, cf_reader::specs::Readers::pure, crate::specs::Reading::divided_of))]
-fn divided(alloc: Global, n: u32, tokens: &[Token]) -> Result<((Boxed, i128), &[Token]), ReadStop>
+fn divided(
+    alloc: Global,
+    edition: Edition,
+    n: u32,
+    tokens: &[Token],
+) -> Result<((Boxed, Number), &[Token]), ReadStop>
     requires { n < 2 ^ 30 }
-    ensures value { ReadAnswer (λ x. ((raw_tree x.0.0.raw.value, x.0.1), x.1.now)) result (divided_of (read_at n) tokens.now) }
+    ensures value { ReadAnswer (λ x. ((raw_tree x.0.0.raw.value, number_tree x.0.1), x.1.now)) result (divided_of edition (read_at edition n) tokens.now) }
     ensures deep { IfOk result (λ x. x.0.0.depth ≤ n) }
 {
-    let (_, rest) = expect_sign("(", tokens)?;
-    let (e, rest) = boxed(alloc, Tier::Whole, n, rest)?;
+    let (e, rest) = boxed(alloc, edition, Tier::Whole, n, tokens)?;
     let (_, rest) = expect_sign(",", rest)?;
-    let ((_, k), rest) = expect_literal(1, rest)?;
+    let (k, rest) = expect_number(alloc, edition, rest)?;
     let (_, rest) = expect_sign(")", rest)?;
     Ok(((e, k), rest))
 }
@@ -538,17 +804,18 @@ fn divided(alloc: Global, n: u32, tokens: &[Token]) -> Result<((Boxed, i128), &[
 #[tactic(auto, unfolding(cf_reader::specs::Readers::first, cf_reader::specs::Readers::pure, crate::specs::Reading::items_of))]
 fn items<'a>(
     alloc: Global,
+    edition: Edition,
     n: u32,
     close: &str,
     tokens: &'a [Token],
 ) -> Result<(MeasuredList, &'a [Token]), ReadStop>
     requires { n < 2 ^ 30 }
-    ensures value { ReadAnswer (λ x. (map raw_tree x.0.trees.items, x.1.now)) result (items_of (read_at n) (Sign close.now) tokens.now) }
+    ensures value { ReadAnswer (λ x. (map raw_tree x.0.trees.items, x.1.now)) result (items_of (read_at edition n) (Sign close.now) tokens.now) }
     ensures deep { IfOk result (λ x. x.0.depth ≤ n) }
 {
     match after_sign(close, tokens) {
         Some((_, rest)) => Ok((node::none(alloc), rest)),
-        None => list(alloc, n, close, tokens),
+        None => list(alloc, edition, n, close, tokens),
     }
 }
 
@@ -557,17 +824,18 @@ fn items<'a>(
 #[tactic(auto, unfolding(cf_reader::specs::Readers::bind, cf_reader::specs::Readers::several_of, crate::specs::Reading::list_of))]
 fn list<'a>(
     alloc: Global,
+    edition: Edition,
     n: u32,
     close: &str,
     tokens: &'a [Token],
 ) -> Result<(MeasuredList, &'a [Token]), ReadStop>
     requires { n < 2 ^ 30 }
-    ensures value { ReadAnswer (λ x. (map raw_tree x.0.trees.items, x.1.now)) result (list_of (read_at n) (Sign close.now) tokens.now) }
+    ensures value { ReadAnswer (λ x. (map raw_tree x.0.trees.items, x.1.now)) result (list_of (read_at edition n) (Sign close.now) tokens.now) }
     ensures deep { IfOk result (λ x. x.0.depth ≤ n) }
 {
-    let (e, rest) = tree_at(alloc, Tier::Whole, n, tokens)?;
+    let (e, rest) = tree_at(alloc, edition, Tier::Whole, n, tokens)?;
     let first = node::pushed(node::none(alloc), e)?;
-    more(alloc, n, close, first, rest)
+    more(alloc, edition, n, close, first, rest)
 }
 
 // More expressions, up to the closing sign.
@@ -575,6 +843,7 @@ fn list<'a>(
 #[tactic(auto, unfolding(cf_reader::specs::Readers::others_of))]
 fn more<'a>(
     alloc: Global,
+    edition: Edition,
     n: u32,
     close: &str,
     first: MeasuredList,
@@ -583,7 +852,7 @@ fn more<'a>(
     requires small { n < 2 ^ 30 }
     requires first_in { first.depth ≤ n }
     ensures value { ReadAnswer (λ x. (map raw_tree x.0.trees.items, x.1.now)) result
-        (others_of snoc (read_at n Whole) (Sign (codes ",")) (Sign close.now) (map raw_tree first.trees.items) tokens.now) }
+        (others_of snoc (read_at edition n Whole) (Sign (codes ",")) (Sign close.now) (map raw_tree first.trees.items) tokens.now) }
     ensures deep { IfOk result (λ x. x.0.depth ≤ n) }
 {
     let mut done = first;
@@ -591,7 +860,7 @@ fn more<'a>(
     for _ in 0..tokens.len() {
         match after_sign(",", rest) {
             Some((_, behind)) => {
-                let (e, behind) = tree_at(alloc, Tier::Whole, n, behind)?;
+                let (e, behind) = tree_at(alloc, edition, Tier::Whole, n, behind)?;
                 done = node::pushed(done, e)?;
                 rest = behind;
             }

@@ -2,11 +2,12 @@
 ghost use Rattle.std.specs.Prelude.{◌≡◌, ◌≤ℤ◌, pos};
 ghost use Rattle.cf_reader.specs.Answers.{FirstAnswer};
 ghost use Rattle.cf_reader.specs.Readers.{at};
-ghost use Rattle.cf_parse.specs.Spelling.{signed as signed_of};
+ghost use Rattle.cf_parse.specs.Spelling.{signed as signed_of, is_minus as is_minus_of};
 ghost use Rattle.cf_parse.specs.Reading.{a_sign};
 
 use cf_lex::{Token, TokenKind};
 use cf_reader::{negated, spells};
+use cf_tree::Place;
 
 /// The sign before a term of a pattern. The first term may stand without one, as behind a plus.
 #[derive(Clone, Copy)]
@@ -26,9 +27,19 @@ pub fn signed(sign: TermSign, k: i128) -> i128
     }
 }
 
-/// The plus or the minus that stands first, and the tokens after it.
+/// Whether it is a minus.
+pub fn is_minus(sign: TermSign) -> bool
+    ensures { result ≡ is_minus_of sign }
+{
+    match sign {
+        TermSign::Plus => false,
+        TermSign::Minus => true,
+    }
+}
+
+/// The plus or the minus that stands first, with its place, and the tokens after it.
 #[tactic(auto, unfolding(cf_reader::specs::Readers::at))]
-pub fn after_term_sign(tokens: &[Token]) -> Option<(TermSign, &[Token])>
+pub fn after_term_sign(tokens: &[Token]) -> Option<((Place, TermSign), &[Token])>
     ensures { FirstAnswer (λ x. (x.0, x.1.now)) result (at a_sign tokens.now) }
 {
     let (t, rest) = tokens.split_first()?;
@@ -36,9 +47,9 @@ pub fn after_term_sign(tokens: &[Token]) -> Option<(TermSign, &[Token])>
         return None;
     };
     if spells(&sign.bytes, "+") {
-        Some((TermSign::Plus, rest))
+        Some(((t.place, TermSign::Plus), rest))
     } else if spells(&sign.bytes, "-") {
-        Some((TermSign::Minus, rest))
+        Some(((t.place, TermSign::Minus), rest))
     } else {
         None
     }

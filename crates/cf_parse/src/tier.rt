@@ -5,11 +5,13 @@
 pub enum Tier {
     /// Any expression.
     Whole,
+    /// Joined by `==>`, which groups to the right.
+    Imps,
     /// Joined by `||`.
     Ors,
     /// Joined by `&&`.
     Ands,
-    /// At most one comparison, or `divides`.
+    /// At most one comparison, a chain of them, or `divides`.
     Cmps,
     /// Joined by `+`, `-`, `union` or `diff`.
     Sums,

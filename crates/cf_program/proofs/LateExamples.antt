@@ -8,13 +8,14 @@ use Rattle.cf_tree.specs.declared.base.Order.TheVariants.{Eq, Lt, Gt}
 use Rattle.cf_tree.specs.declared.raw.BinOp.TheVariants.{Add, Sub, Mul, And, Or, Compare}
 use Rattle.cf_tree.specs.DefView.{RawDefTree}
 use Rattle.cf_tree.specs.ExprTree.{expr_choose}
-use Rattle.cf_tree.specs.RawTree.{raw_lit, raw_truth, raw_name, raw_set_of, raw_group, raw_tuple, raw_neg, raw_not, raw_abs, raw_binary, raw_divides, raw_div, raw_mod, raw_card, raw_call, raw_if, raw_let, raw_choose, raw_match, raws_of, raw_arm, raw_arms_of}
+use Rattle.cf_tree.specs.RawTree.{raw_lit, raw_truth, raw_name, raw_set_of, raw_group, raw_tuple, raw_neg, raw_not, raw_abs, raw_binary, raw_card, raw_call, raw_if, raw_let, raw_match, raws_of, raw_arm, raw_arms_of}
 use Rattle.cf_tree.specs.RelTree.{RelTree, term_lit, term_var, term_mul, rel_compare}
 use Rattle.cf_program.specs.declared.fault.TypeFault.TheVariants.{UnknownName, Mismatch, NotLinear}
 use Rattle.cf_program.specs.declared.linearity.Linearity.TheVariants.{Plain, Late}
 use Rattle.cf_program.specs.Checked.{checked, checked_by}
 use Rattle.cf_program.specs.LateLinear.{IsLinearBy}
-use Rattle.cf_program.proofs.RuleExamples.{at, on, param, part, def}
+use Rattle.cf_program.proofs.PlainForms.{raw_divides, raw_div, raw_mod, raw_choose, part}
+use Rattle.cf_program.proofs.RuleExamples.{at, on, param, def}
 
 abbrev is_accepted : List RawDefTree → Bool
 is_accepted ds = is_ok (checked_by Late ds)

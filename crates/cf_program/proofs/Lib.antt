@@ -1,12 +1,17 @@
+pub mod EditionExamples
 mod BaseLaws
 pub mod Kept
+mod FormExamples
 mod LateExamples
 mod LoweredExamples
 mod NameLaws
+mod PlainForms
 pub mod ProgramLaws
 mod ReadsLaws
 mod Rising
-mod RuleExamples
+pub mod RuleExamples
 mod WalkLaws
+mod LanguageTwo
 mod LimitExamples
+mod LinearExamples
 pub mod PlainTypes

@@ -9,12 +9,12 @@ use Rattle.cf_tree.specs.declared.base.Order.TheVariants.{Eq, Ne, Lt, Le, Gt, Ge
 use Rattle.cf_tree.specs.declared.base.Place.{Place}
 use Rattle.cf_tree.specs.declared.raw.BinOp.TheVariants.{Add, Sub, Mul, And, Or, Union, Inter, Diff, Subset, Compare}
 use Rattle.cf_tree.specs.declared.raw.Param.{Param}
-use Rattle.cf_tree.specs.declared.raw.Part.{Part}
 use Rattle.cf_tree.specs.DefView.{RawDefTree, DefTree}
 use Rattle.cf_tree.specs.ExprTree.{ExprTree, expr_lit, expr_truth, expr_var, expr_set_of, expr_tuple, expr_neg, expr_not, expr_abs, expr_binary, expr_divides, expr_div, expr_mod, expr_card, expr_if, expr_call, expr_let, expr_choose, expr_match, no_exprs, exprs_of, match_arm, match_arms_of}
-use Rattle.cf_tree.specs.RawTree.{RawTree, raw_lit, raw_truth, raw_name, raw_set_of, raw_group, raw_tuple, raw_neg, raw_not, raw_abs, raw_binary, raw_divides, raw_div, raw_mod, raw_card, raw_call, raw_if, raw_let, raw_choose, raw_match, no_raws, raws_of, raw_arm, raw_arms_of}
+use Rattle.cf_tree.specs.RawTree.{RawTree, raw_lit, raw_truth, raw_name, raw_set_of, raw_group, raw_tuple, raw_neg, raw_not, raw_abs, raw_binary, raw_card, raw_call, raw_if, raw_let, raw_match, no_raws, raws_of, raw_arm, raw_arms_of}
 use Rattle.cf_tree.specs.RelTree.{empty_set, set_var, union_of, inter_of, diff_of, term_lit, term_var, term_card, term_neg, term_add, term_sub, term_mul, term_div, term_mod, term_abs, rel_true, rel_false, rel_compare, rel_same_set, rel_other_set, rel_subset, rel_divides, rel_and, rel_or, rel_not}
 use Rattle.cf_program.specs.declared.fault.TypeFault.TheVariants.{UnknownName, DuplicateName, WrongCount, Mismatch, CallsLater, NoMain, NotLinear}
+use Rattle.cf_program.proofs.PlainForms.{raw_divides, raw_div, raw_mod, raw_choose, part}
 use Rattle.cf_program.specs.Checked.{TypedTree, checked}
 use Rattle.cf_program.specs.Reading.{relation, term, set, not_linear, on_relation, on_term, on_set, sets_reading}
 use Rattle.cf_program.specs.Walk.{linear}
@@ -28,9 +28,6 @@ on line column = record { line = line; column = column }
 
 abbrev pub param : Place → List ℕ → Base → Param
 param p x b = record { place = p; name = x; base = b }
-
-abbrev pub part : Place → ℤ → List ℕ → Part
-part p f x = record { place = p; factor = f; name = x }
 
 abbrev pub def : Place → List ℕ → List Param → List Base → RawTree → RawDefTree
 def p x ps bs body = record { place = p; name = x; params = ps; results = bs; body = body }

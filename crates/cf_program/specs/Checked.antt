@@ -1,40 +1,65 @@
 -- The rules over a whole program: the program with levels in the place of names, or the first rule that it breaks.
-use Rattle.std.specs.Prelude.{ℕ, suc, not, nat_le, List, [], ◌∷◌, ◌++◌, length, map, codes, Option, Some, None, Result, Ok, Err, if◌then◌else◌}
+use Rattle.std.specs.Prelude.{ℕ, suc, not, nat_le, List, [], ◌∷◌, ◌++◌, length, map, reverse, codes, Option, Some, None, Result, Ok, Err, if◌then◌else◌}
 use Rattle.std.specs.Str.{bytes_eq}
-use Rattle.cf_tree.specs.DefView.{RawDefTree, DefTree}
-use Rattle.cf_tree.specs.RawTree.{place_of}
+use Rattle.cf_tree.specs.declared.base.Base.TheVariants.{Int}
+use Rattle.cf_tree.specs.declared.base.Place.{Place}
+use Rattle.cf_tree.specs.DefView.{RawDefTree, DefTree, RawItemTree, item_const, item_def}
+use Rattle.cf_tree.specs.RawTree.{RawTree, place_of}
 use Rattle.cf_tree.specs.RelSize.{capped}
+use Rattle.cf_tree.specs.declared.base.Edition.{Edition}
+use Rattle.cf_tree.specs.declared.base.Edition.TheVariants.{Two, Three}
 use Rattle.cf_program.specs.declared.fault.TypeFault.{TypeFault}
 use Rattle.cf_program.specs.declared.linearity.Linearity.{Linearity}
 use Rattle.cf_program.specs.declared.linearity.Linearity.TheVariants.{Plain}
 use Rattle.cf_program.specs.declared.fault.TypeFault.TheVariants.{DuplicateName, Mismatch, NoMain, Weight, Depth}
+use Rattle.cf_program.specs.Constants.{Constant, constant_names, value}
 use Rattle.cf_program.specs.Names.{is_among, repeated, callee_from}
 use Rattle.cf_tree.specs.Params.{names_of}
 use Rattle.cf_tree.specs.Bases.{same_bases}
 use Rattle.cf_program.specs.Size.{weights, depths}
-use Rattle.cf_program.specs.Walk.{◌>>=◌, where_kept, where_no_fault, where_none_repeated, Form, in_body, walk}
+use Rattle.cf_program.specs.Then.{◌>>=◌}
+use Rattle.cf_program.specs.Walk.{where_kept, where_no_fault, where_none_repeated, is_one, Form, behind, walk}
 
 -- a program with levels: its functions, and the number of the one that is named `main`
 pub record TypedTree : Type 0 where
   pub defs : List DefTree
   pub main : ℕ
 
+-- the functions of a program, in the order of its text
+abbrev pub functions_of : List RawItemTree → List RawDefTree
+functions_of [] = []
+functions_of (item_const p x e ∷ items) = functions_of items
+functions_of (item_def d ∷ items) = d ∷ functions_of items
+
 abbrev pub def_form : RawDefTree → Form → DefTree
 def_form d f = record { name = d.name; params = d.params; results = d.results; body = f.tree }
 
--- a function of the program behind those before it, with the next number of a choose after it
-abbrev pub walk_def : Linearity → List RawDefTree → List RawDefTree → ℕ → RawDefTree → Result (DefTree × ℕ) TypeFault
-walk_def how all before n d =
+-- a function of the program behind these constants and those functions before it, with the next number of a choose after it
+abbrev pub walk_def : Edition → Linearity → List RawDefTree → List Constant → List RawDefTree → ℕ → RawDefTree → Result (DefTree × ℕ) TypeFault
+walk_def edition how all constants before n d =
     where_kept (not (is_among (map (λ e. e.name) before) d.name)) (DuplicateName d.place) (
-    where_none_repeated (repeated [] (names_of d.params) (map (λ p. p.place) d.params)) (
-    walk (in_body how (callee_from (length before) 0 all)) d.params n d.body >>= λ f.
+    where_none_repeated (repeated (constant_names constants) (names_of d.params) (map (λ p. p.place) d.params)) (
+    walk (behind edition how (callee_from (length before) 0 all) constants (reverse before)) d.params n d.body >>= λ f.
     where_kept (same_bases f.bases d.results) (Mismatch (place_of d.body)) (
     Ok (def_form d f, f.next))))
 
--- the functions of the program behind those before, of which `done` are the trees; n is the next number of a choose
-abbrev pub walk_defs : Linearity → List RawDefTree → List RawDefTree → List DefTree → ℕ → List RawDefTree → Result (List DefTree) TypeFault
-walk_defs how all before done n [] = Ok done
-walk_defs how all before done n (d ∷ ds) = walk_def how all before n d >>= λ r. walk_defs how all (before ++ d ∷ []) (done ++ r.0 ∷ []) r.1 ds
+-- a constant x at p behind these constants and those functions before it: its expression is a number without variables
+abbrev pub walk_const : Edition → Linearity → List RawDefTree → List Constant → List RawDefTree → ℕ → Place → List ℕ → RawTree →
+    Result (List Constant) TypeFault
+walk_const edition how all constants before n p x e =
+    where_kept (not (is_among (constant_names constants) x)) (DuplicateName p) (
+    walk (behind edition how (callee_from (length before) 0 all) constants (reverse before)) [] n e >>= λ f.
+    where_kept (is_one Int f.bases) (Mismatch (place_of e)) (
+    value constants e >>= λ k. Ok (constants ++ record { name = x; value = k } ∷ [])))
+
+-- the items of the program behind these constants and those functions before, of which `done` are the trees; n is the next number of a choose
+abbrev pub walk_items : Edition → Linearity → List RawDefTree → List Constant → List RawDefTree → List DefTree → ℕ → List RawItemTree →
+    Result (List DefTree) TypeFault
+walk_items edition how all constants before done n [] = Ok done
+walk_items edition how all constants before done n (item_const p x e ∷ items) =
+    walk_const edition how all constants before n p x e >>= λ more. walk_items edition how all more before done n items
+walk_items edition how all constants before done n (item_def d ∷ items) =
+    walk_def edition how all constants before n d >>= λ r. walk_items edition how all constants (before ++ d ∷ []) (done ++ r.0 ∷ []) r.1 items
 
 -- the number of the function that is named `main`, where the first has number i
 abbrev pub main_from : ℕ → List RawDefTree → Option ℕ
@@ -47,16 +72,27 @@ size_fault limit fault [] = None
 size_fault limit fault (n ∷ ns) = if nat_le n limit then size_fault limit fault ns else Some (fault (capped n))
 
 -- weights come after all functions and `main`, and depths after all weights
-abbrev pub sized : List DefTree → Option ℕ → Result TypedTree TypeFault
-sized defs None = Err NoMain
-sized defs (Some main) =
+abbrev pub size_faults : List DefTree → Result TypedTree TypeFault → Result TypedTree TypeFault
+size_faults defs go =
     where_no_fault (size_fault 1000000 Weight (weights defs)) (
-    where_no_fault (size_fault 200 Depth (depths defs)) (
-    Ok (record { defs = defs; main = main })))
+    where_no_fault (size_fault 200 Depth (depths defs)) go)
 
+abbrev pub with_main : List DefTree → Option ℕ → Result TypedTree TypeFault
+with_main defs None = Err NoMain
+with_main defs (Some main) = Ok (record { defs = defs; main = main })
+
+abbrev pub sized : List DefTree → Option ℕ → Result TypedTree TypeFault
+sized defs main = with_main defs main >>= λ t. size_faults defs (Ok t)
+
+-- a program of language 2
 abbrev pub checked_by : Linearity → List RawDefTree → Result TypedTree TypeFault
-checked_by how ds = walk_defs how ds [] [] 1 ds >>= λ defs. sized defs (main_from 0 ds)
+checked_by how ds = walk_items Two how ds [] [] [] 1 (map item_def ds) >>= λ defs. sized defs (main_from 0 ds)
 
 -- by the plain rule, which `compile` asks
 abbrev pub checked : List RawDefTree → Result TypedTree TypeFault
 checked = checked_by Plain
+
+-- A program of edition 3; its weights and depths are those of its lowered form.
+abbrev pub checked_items : Linearity → List RawItemTree → Result TypedTree TypeFault
+checked_items how items =
+    walk_items Three how (functions_of items) [] [] [] 1 items >>= λ defs. with_main defs (main_from 0 (functions_of items))

@@ -8,7 +8,7 @@ use Rattle.cf_tree.specs.declared.base.Order.TheVariants.{Eq}
 use Rattle.cf_tree.specs.declared.raw.BinOp.TheVariants.{Or, Compare}
 use Rattle.cf_tree.specs.declared.raw.Param.{Param}
 use Rattle.cf_tree.specs.DefView.{DefTree}
-use Rattle.cf_tree.specs.ExprTree.{ExprTree, expr_lit, expr_truth, expr_var, expr_set_of, expr_tuple, expr_neg, expr_not, expr_abs, expr_binary, expr_divides, expr_div, expr_mod, expr_card, expr_if, expr_call, expr_let, expr_choose, expr_match, ExprTrees, no_exprs, expr_more, match_arm, MatchArmTrees, no_match_arms, match_arm_more}
+use Rattle.cf_tree.specs.ExprTree.{ExprTree, expr_lit, expr_truth, expr_var, expr_set_of, expr_tuple, expr_neg, expr_not, expr_abs, expr_binary, expr_chain, expr_min, expr_max, expr_divides, expr_div, expr_mod, expr_card, expr_if, expr_call, expr_let, expr_choose, expr_choose_where, expr_match, ExprTrees, no_exprs, expr_more, match_arm, MatchArmTrees, no_match_arms, match_arm_more}
 use Rattle.cf_tree.specs.Numbers.{remainder}
 use Rattle.cf_tree.specs.RelTree.{TermTree, term_lit, term_var, term_add, term_mul, rel_false, rel_compare}
 
@@ -73,6 +73,9 @@ abbrev mutual
   lowered (expr_not a) = expr_not (lowered a)
   lowered (expr_abs a) = expr_abs (lowered a)
   lowered (expr_binary op a b) = expr_binary op (lowered a) (lowered b)
+  lowered (expr_chain orders es) = expr_chain orders (all_lowered es)
+  lowered (expr_min es) = expr_min (all_lowered es)
+  lowered (expr_max es) = expr_max (all_lowered es)
   lowered (expr_divides k a) = expr_divides k (lowered a)
   lowered (expr_div a k) = expr_div (lowered a) k
   lowered (expr_mod a k) = expr_mod (lowered a) k
@@ -81,6 +84,7 @@ abbrev mutual
   lowered (expr_call f es) = expr_call f (all_lowered es)
   lowered (expr_let n a b) = expr_let n (lowered a) (lowered b)
   lowered (expr_choose n scope outputs rel) = expr_choose n scope outputs rel
+  lowered (expr_choose_where n scope outputs hidden given rel aim) = expr_choose_where n scope outputs hidden given rel aim
   lowered (expr_match n scope a arms) =
       expr_let 1 (fitting n (length scope - 1) scope (lowered a) arms) (picked (length scope - 1) scope arms)
 

@@ -11,7 +11,7 @@ use Rattle.cf_tree.specs.declared.base.Order.{Order}
 use Rattle.cf_tree.specs.declared.base.Order.TheVariants.{Eq, Ne, Lt, Le, Gt, Ge}
 use Rattle.cf_tree.specs.declared.base.Place.{Place}
 use Rattle.cf_tree.specs.declared.raw.BinOp.{BinOp}
-use Rattle.cf_tree.specs.declared.raw.BinOp.TheVariants.{Add, Sub, Mul, And, Or, Union, Inter, Diff, Subset, Compare}
+use Rattle.cf_tree.specs.declared.raw.BinOp.TheVariants.{Add, Sub, Mul, And, Or, Union, Inter, Diff, Subset, Implies, Compare}
 use Rattle.cf_tree.specs.RelTree.{SetTree, set_var, union_of, inter_of, diff_of, TermTree, term_var, term_add, term_sub, term_mul, RelTree, rel_true, rel_false, rel_compare, rel_same_set, rel_other_set, rel_subset, rel_and, rel_or}
 use Rattle.cf_program.specs.LateLinear.{is_fixed_below}
 
@@ -96,4 +96,6 @@ binary_reading known Union p left right = on_set (λ a. on_set (λ b. set (union
 binary_reading known Inter p left right = on_set (λ a. on_set (λ b. set (inter_of a b)) p right) p left
 binary_reading known Diff p left right = on_set (λ a. on_set (λ b. set (diff_of a b)) p right) p left
 binary_reading known Subset p left right = on_set (λ a. on_set (λ b. relation (rel_subset a b)) p right) p left
+-- implication is a form of edition 3, whose relations are not read
+binary_reading known Implies p left right = not_linear_at (earlier_nonlinear (first_nonlinear left) (first_nonlinear right)) p
 binary_reading known (Compare order) p left right = compare_reading order p left right

@@ -1,11 +1,11 @@
 -- The weights and the unfolded depths of functions: those of their lowered forms, where a call counts the called function too.
 use Rattle.std.specs.Prelude.{ℕ, ◌+◌, max, List, [], ◌∷◌, ◌++◌, slice_index}
 use Rattle.cf_tree.specs.DefView.{DefTree}
-use Rattle.cf_tree.specs.ExprTree.{ExprTree, expr_lit, expr_truth, expr_var, expr_set_of, expr_tuple, expr_neg, expr_not, expr_abs, expr_binary, expr_divides, expr_div, expr_mod, expr_card, expr_if, expr_call, expr_let, expr_choose, expr_match, ExprTrees, no_exprs, expr_more}
+use Rattle.cf_tree.specs.ExprTree.{ExprTree, expr_lit, expr_truth, expr_var, expr_set_of, expr_tuple, expr_neg, expr_not, expr_abs, expr_binary, expr_chain, expr_min, expr_max, expr_divides, expr_div, expr_mod, expr_card, expr_if, expr_call, expr_let, expr_choose, expr_choose_where, expr_match, ExprTrees, no_exprs, expr_more}
 use Rattle.cf_tree.specs.RelSize.{rel_size, rel_depth}
 use Rattle.cf_program.specs.Lowered.{lowered}
 
--- how many nodes an expression without matches has, with those of called functions
+-- how many nodes an expression without matches and without the forms of `HasNoForm` has, with those of called functions
 abbrev mutual
   pub weight_in : (ℕ → ℕ) → ExprTree → ℕ
   weight_in calls (expr_lit k) = 1
@@ -17,6 +17,9 @@ abbrev mutual
   weight_in calls (expr_not a) = 1 + weight_in calls a
   weight_in calls (expr_abs a) = 1 + weight_in calls a
   weight_in calls (expr_binary op a b) = 1 + weight_in calls a + weight_in calls b
+  weight_in calls (expr_chain orders es) = 0
+  weight_in calls (expr_min es) = 0
+  weight_in calls (expr_max es) = 0
   weight_in calls (expr_divides k a) = 1 + weight_in calls a
   weight_in calls (expr_div a k) = 1 + weight_in calls a
   weight_in calls (expr_mod a k) = 1 + weight_in calls a
@@ -25,13 +28,14 @@ abbrev mutual
   weight_in calls (expr_call f es) = 1 + weight_all calls es + calls f
   weight_in calls (expr_let n a b) = 1 + weight_in calls a + weight_in calls b
   weight_in calls (expr_choose n scope outputs rel) = 1 + rel_size rel
+  weight_in calls (expr_choose_where n scope outputs hidden given rel aim) = 0
   weight_in calls (expr_match n scope a arms) = 0
 
   pub weight_all : (ℕ → ℕ) → ExprTrees → ℕ
   weight_all calls no_exprs = 0
   weight_all calls (expr_more e es) = weight_in calls e + weight_all calls es
 
--- 1 for a leaf, and 1 more than the deepest of its parts, and of the called function, for any other expression without matches
+-- 1 for a leaf, and 1 more than the deepest of its parts, and of the called function, for any other such expression
 abbrev mutual
   pub depth_in : (ℕ → ℕ) → ExprTree → ℕ
   depth_in calls (expr_lit k) = 1
@@ -43,6 +47,9 @@ abbrev mutual
   depth_in calls (expr_not a) = 1 + depth_in calls a
   depth_in calls (expr_abs a) = 1 + depth_in calls a
   depth_in calls (expr_binary op a b) = 1 + max (depth_in calls a) (depth_in calls b)
+  depth_in calls (expr_chain orders es) = 0
+  depth_in calls (expr_min es) = 0
+  depth_in calls (expr_max es) = 0
   depth_in calls (expr_divides k a) = 1 + depth_in calls a
   depth_in calls (expr_div a k) = 1 + depth_in calls a
   depth_in calls (expr_mod a k) = 1 + depth_in calls a
@@ -51,6 +58,7 @@ abbrev mutual
   depth_in calls (expr_call f es) = 1 + max (depth_all calls es) (calls f)
   depth_in calls (expr_let n a b) = 1 + max (depth_in calls a) (depth_in calls b)
   depth_in calls (expr_choose n scope outputs rel) = 1 + rel_depth rel
+  depth_in calls (expr_choose_where n scope outputs hidden given rel aim) = 0
   depth_in calls (expr_match n scope a arms) = 0
 
   pub depth_all : (ℕ → ℕ) → ExprTrees → ℕ

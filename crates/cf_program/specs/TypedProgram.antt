@@ -5,7 +5,7 @@ use Rattle.cf_num.specs.Limit.{IsWithin}
 use Rattle.cf_tree.specs.declared.base.Base.{Base}
 use Rattle.cf_tree.specs.declared.base.Base.TheVariants.{Int, Bool as Truth, Set}
 use Rattle.cf_tree.specs.DefView.{DefTree}
-use Rattle.cf_tree.specs.ExprTree.{ExprTree, expr_lit, expr_truth, expr_var, expr_set_of, expr_tuple, expr_neg, expr_not, expr_abs, expr_binary, expr_divides, expr_div, expr_mod, expr_card, expr_if, expr_call, expr_let, expr_choose, expr_match, ExprTrees, no_exprs, expr_more, match_arm, MatchArmTrees, no_match_arms, match_arm_more}
+use Rattle.cf_tree.specs.ExprTree.{ExprTree, expr_lit, expr_truth, expr_var, expr_set_of, expr_tuple, expr_neg, expr_not, expr_abs, expr_binary, expr_chain, expr_min, expr_max, expr_divides, expr_div, expr_mod, expr_card, expr_if, expr_call, expr_let, expr_choose, expr_choose_where, expr_match, ExprTrees, no_exprs, expr_more, match_arm, MatchArmTrees, no_match_arms, match_arm_more, GivenExpr, holds_always, holds_where, AimExpr, at_any, at_least, at_greatest}
 use Rattle.cf_tree.specs.Relation.{IsDivisor, IsTyped}
 use Rattle.cf_tree.specs.RelTree.{RelTree}
 use Rattle.cf_program.specs.declared.linearity.Linearity.TheVariants.{Plain}
@@ -35,12 +35,23 @@ abbrev pub HasArms : MatchArmTrees → Type 0
 HasArms no_match_arms = ⊥
 HasArms (match_arm_more arm arms) = Unit {0}
 
+-- two or more
+abbrev pub AreSeveral : ExprTrees → Type 0
+AreSeveral no_exprs = ⊥
+AreSeveral (expr_more e no_exprs) = ⊥
+AreSeveral (expr_more e (expr_more f es)) = Unit {0}
+
+-- each is a number
+abbrev pub AreNumbers : List Base → Type 0
+AreNumbers bs = All (λ b. b ≡ Int) bs
+
 -- which relations are linear, behind so many variables in scope
 abbrev pub LinearBehind : Type 1
 LinearBehind = ℕ → RelTree → Type 0
 
 abbrev mutual
   -- an expression has these bases, where `calls` says which bases a function takes and gives, and the scope has the bases of the variables by level
+  -- (that the parts of an `expr_choose_where` are linear is no part of it: it depends on the bodies of the functions that they call)
   pub ExprHasBasesBy : LinearBehind → (ℕ → List Base → List Base → Type 0) → ExprTree → List Base → List Base → Type 0
   ExprHasBasesBy linear calls (expr_lit k) scope bs = IsWithin k × (bs ≡ one Int)
   ExprHasBasesBy linear calls (expr_truth t) scope bs = bs ≡ one Truth
@@ -52,6 +63,10 @@ abbrev mutual
   ExprHasBasesBy linear calls (expr_abs a) scope bs = ExprHasBasesBy linear calls a scope (one Int) × (bs ≡ one Int)
   ExprHasBasesBy linear calls (expr_binary op a b) scope bs =
       AreSides (side_of op) (λ c. ExprHasBasesBy linear calls a scope (one c)) (λ c. ExprHasBasesBy linear calls b scope (one c)) × (bs ≡ one (result_of op))
+  ExprHasBasesBy linear calls (expr_chain orders es) scope bs =
+      (2 ≤ length orders) × PartsHaveBy linear calls es scope (Int ∷ map (λ _. Int) orders) × (bs ≡ one Truth)
+  ExprHasBasesBy linear calls (expr_min es) scope bs = AreSeveral es × AllHaveBy linear calls es scope Int × (bs ≡ one Int)
+  ExprHasBasesBy linear calls (expr_max es) scope bs = AreSeveral es × AllHaveBy linear calls es scope Int × (bs ≡ one Int)
   ExprHasBasesBy linear calls (expr_divides k a) scope bs = IsDivisor k × ExprHasBasesBy linear calls a scope (one Int) × (bs ≡ one Truth)
   ExprHasBasesBy linear calls (expr_div a k) scope bs = IsDivisor k × ExprHasBasesBy linear calls a scope (one Int) × (bs ≡ one Int)
   ExprHasBasesBy linear calls (expr_mod a k) scope bs = IsDivisor k × ExprHasBasesBy linear calls a scope (one Int) × (bs ≡ one Int)
@@ -63,6 +78,9 @@ abbrev mutual
       (vs : List Base) × ExprHasBasesBy linear calls a scope vs × (n ≡ length vs) × (1 ≤ n) × ExprHasBasesBy linear calls b (scope ++ vs) bs
   ExprHasBasesBy linear calls (expr_choose n params outputs rel) scope bs =
       (bases_of params ≡ scope) × (1 ≤ length outputs) × All IsOutput outputs × IsTyped (scope ++ outputs) rel × linear (length scope) rel × (bs ≡ outputs)
+  ExprHasBasesBy linear calls (expr_choose_where n params outputs hidden given rel aim) scope bs =
+      (bases_of params ≡ scope) × (1 ≤ length outputs) × GivenIsTypedBy linear calls given scope
+      × ExprHasBasesBy linear calls rel (scope ++ outputs ++ hidden) (one Truth) × AimIsTypedBy linear calls aim (scope ++ outputs ++ hidden) × (bs ≡ outputs)
   ExprHasBasesBy linear calls (expr_match n params a arms) scope bs =
       (bases_of params ≡ scope ++ one Int) × ExprHasBasesBy linear calls a scope (one Int) × HasArms arms × ArmsHaveBy linear calls arms (scope ++ one Int) bs
 
@@ -84,6 +102,17 @@ abbrev mutual
       IsArmNumber m factors × All IsWithin factors × IsWithin k × ExprHasBasesBy linear calls body (scope ++ map (λ _. Int) factors) bs
       × ArmsHaveBy linear calls arms scope bs
 
+  -- what is given is a truth value over the scope of the choose
+  pub GivenIsTypedBy : LinearBehind → (ℕ → List Base → List Base → Type 0) → GivenExpr → List Base → Type 0
+  GivenIsTypedBy linear calls holds_always scope = Unit {0}
+  GivenIsTypedBy linear calls (holds_where p) scope = ExprHasBasesBy linear calls p scope (one Truth)
+
+  -- an objective is one number or several
+  pub AimIsTypedBy : LinearBehind → (ℕ → List Base → List Base → Type 0) → AimExpr → List Base → Type 0
+  AimIsTypedBy linear calls at_any scope = Unit {0}
+  AimIsTypedBy linear calls (at_least e) scope = (bs : List Base) × (1 ≤ length bs) × AreNumbers bs × ExprHasBasesBy linear calls e scope bs
+  AimIsTypedBy linear calls (at_greatest e) scope = (bs : List Base) × (1 ≤ length bs) × AreNumbers bs × ExprHasBasesBy linear calls e scope bs
+
 -- an arm has a number of its own where it has variables
 abbrev pub arm_numbers : ℕ → List ℤ → List ℕ
 arm_numbers m [] = []
@@ -101,6 +130,9 @@ abbrev mutual
   numbers (expr_not a) = numbers a
   numbers (expr_abs a) = numbers a
   numbers (expr_binary op a b) = numbers a ++ numbers b
+  numbers (expr_chain orders es) = numbers_all es
+  numbers (expr_min es) = numbers_all es
+  numbers (expr_max es) = numbers_all es
   numbers (expr_divides k a) = numbers a
   numbers (expr_div a k) = numbers a
   numbers (expr_mod a k) = numbers a
@@ -109,6 +141,7 @@ abbrev mutual
   numbers (expr_call f es) = numbers_all es
   numbers (expr_let n a b) = numbers a ++ numbers b
   numbers (expr_choose n params outputs rel) = n ∷ []
+  numbers (expr_choose_where n params outputs hidden given rel aim) = n ∷ numbers_given given ++ numbers rel ++ numbers_aim aim
   numbers (expr_match n params a arms) = n ∷ numbers a ++ numbers_arms arms
 
   pub numbers_all : ExprTrees → List ℕ
@@ -118,6 +151,15 @@ abbrev mutual
   pub numbers_arms : MatchArmTrees → List ℕ
   numbers_arms no_match_arms = []
   numbers_arms (match_arm_more (match_arm m factors k body) arms) = arm_numbers m factors ++ numbers body ++ numbers_arms arms
+
+  pub numbers_given : GivenExpr → List ℕ
+  numbers_given holds_always = []
+  numbers_given (holds_where p) = numbers p
+
+  pub numbers_aim : AimExpr → List ℕ
+  numbers_aim at_any = []
+  numbers_aim (at_least e) = numbers e
+  numbers_aim (at_greatest e) = numbers e
 
 abbrev pub all_numbers : List DefTree → List ℕ
 all_numbers [] = []

@@ -15,6 +15,14 @@ pub enum TypeFault {
     WrongCount(Place),
     /// A part has another type than its form asks.
     Mismatch(Place),
+    /// A form in the value of a constant is none of those that constants are made of, or a name
+    /// stands for a divisor or a factor that is a variable.
+    NotConstant(Place),
+    /// A constant below 1 stands for a divisor.
+    ConstantBelow(Place),
+    /// A number in the value of a constant passes the limit, or the sum of the constants of a
+    /// pattern does.
+    ConstantPast(Place),
     /// A function calls itself or one that stands later.
     CallsLater(Place),
     /// No function is named `main`.

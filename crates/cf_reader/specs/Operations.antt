@@ -1,15 +1,18 @@
 -- The operations of both grammars: their words and signs, and how these are read.
 use Rattle.std.specs.Prelude.{ℕ, List, Option, Some, None, codes, if◌then◌else◌}
 use Rattle.std.specs.Str.{bytes_eq}
+use Rattle.cf_tree.specs.declared.base.Edition.{Edition}
+use Rattle.cf_tree.specs.declared.base.Edition.TheVariants.{Two, Three}
 use Rattle.cf_lex.specs.declared.token.TokenKind.{TokenKind}
 use Rattle.cf_lex.specs.declared.token.TokenKind.TheVariants.{Literal, Word, Sign}
 use Rattle.cf_tree.specs.declared.base.Order.TheVariants.{Eq, Ne, Lt, Le, Gt, Ge}
 use Rattle.cf_tree.specs.declared.raw.BinOp.{BinOp}
-use Rattle.cf_tree.specs.declared.raw.BinOp.TheVariants.{Add, Sub, Mul, And, Or, Union, Inter, Diff, Subset, Compare}
+use Rattle.cf_tree.specs.declared.raw.BinOp.TheVariants.{Add, Sub, Mul, And, Or, Union, Inter, Diff, Subset, Implies, Compare}
 use Rattle.cf_reader.specs.Kinds.{order_kind}
 
 -- the word or sign of an operation
 abbrev pub op_kind : BinOp → TokenKind
+op_kind Implies = Sign (codes "==>")
 op_kind Or = Sign (codes "||")
 op_kind And = Sign (codes "&&")
 op_kind (Compare order) = order_kind order
@@ -37,16 +40,20 @@ compare_op x =
     if bytes_eq x (codes ">") then Some (Compare Gt) else
     if bytes_eq x (codes ">=") then Some (Compare Ge) else None
 
-abbrev pub sign_op : List ℕ → Option BinOp
-sign_op x =
+abbrev pub sign_op_of_two : List ℕ → Option BinOp
+sign_op_of_two x =
     if bytes_eq x (codes "||") then Some Or else
     if bytes_eq x (codes "&&") then Some And else
     if bytes_eq x (codes "+") then Some Add else
     if bytes_eq x (codes "-") then Some Sub else
     if bytes_eq x (codes "*") then Some Mul else compare_op x
 
+abbrev pub sign_op : Edition → List ℕ → Option BinOp
+sign_op Two x = sign_op_of_two x
+sign_op Three x = if bytes_eq x (codes "==>") then Some Implies else sign_op_of_two x
+
 -- the operation of a word or sign
-unfoldable pub op_of : TokenKind → Option BinOp
-op_of (Word x) = word_op x
-op_of (Sign x) = sign_op x
-op_of (Literal n) = None
+unfoldable pub op_of : Edition → TokenKind → Option BinOp
+op_of edition (Word x) = word_op x
+op_of edition (Sign x) = sign_op edition x
+op_of edition (Literal n) = None

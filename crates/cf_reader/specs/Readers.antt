@@ -1,7 +1,8 @@
 -- Readers of token lists, and the ways to put them together.
 use Rattle.std.specs.Prelude.{ℕ, zero, suc, ℤ, int_le, Bool, false, List, [], ◌∷◌, ◌++◌, length, Option, Some, None, Result, Ok, Err, codes, if◌then◌else◌}
 use Rattle.std.specs.Str.{bytes_eq}
-use Rattle.cf_lex.specs.Words.{is_reserved}
+use Rattle.cf_lex.specs.Words.{is_reserved, is_no_function}
+use Rattle.cf_tree.specs.declared.base.Edition.{Edition}
 use Rattle.cf_lex.specs.declared.token.Token.{Token}
 use Rattle.cf_lex.specs.declared.token.TokenKind.{TokenKind}
 use Rattle.cf_lex.specs.declared.token.TokenKind.TheVariants.{Literal, Word, Sign}
@@ -27,9 +28,16 @@ same_kind k l = false
 abbrev pub is : TokenKind → Test Place
 is k t = if same_kind t.kind k then Some t.place else None
 
-abbrev pub a_name : Test (Place × List ℕ)
-a_name t = elim t.kind [
-  | Word x ↦ if is_reserved x then None else Some (t.place, x)
+abbrev pub a_name : Edition → Test (Place × List ℕ)
+a_name edition t = elim t.kind [
+  | Word x ↦ if is_reserved edition x then None else Some (t.place, x)
+  | Literal n ↦ None
+  | Sign x ↦ None
+]
+
+abbrev pub a_function : Edition → Test (Place × List ℕ)
+a_function edition t = elim t.kind [
+  | Word x ↦ if is_no_function edition x then None else Some (t.place, x)
   | Literal n ↦ None
   | Sign x ↦ None
 ]
@@ -94,6 +102,16 @@ others_of snoc item separator close done ts = more_of snoc item separator close 
 -- item { separator item } close
 unfoldable pub several_of : {A B : Type 0} → (B → A → B) → Reader A → TokenKind → TokenKind → B → Reader B
 several_of snoc item separator close done = item >>= λ x. others_of snoc item separator close (snoc done x)
+
+-- { separator item }, behind what was read before, as long as the separator stands first
+unfoldable pub while_of : {A B : Type 0} → (B → A → B) → Reader A → TokenKind → ℕ → B → Reader B
+while_of snoc item separator zero done = pure done
+while_of snoc item separator (suc fuel) done =
+    first (is separator) (λ p. item >>= λ x. while_of snoc item separator fuel (snoc done x)) (pure done)
+
+-- item { separator item }
+unfoldable pub listed_of : {A B : Type 0} → (B → A → B) → Reader A → TokenKind → B → Reader B
+listed_of snoc item separator done = item >>= λ x. λ ts. while_of snoc item separator (length ts) (snoc done x) ts
 
 -- one more at the end
 abbrev pub snoc : {A : Type 0} → List A → A → List A

@@ -1,6 +1,8 @@
 -- Tokens that stand first, and lists of items between signs: the words in which both grammars are written.
 use Rattle.std.specs.Prelude.{◌≡◌, ℕ, ℤ, ◌≤ℤ◌, false, List, [], ◌∷◌, codes}
-use Rattle.cf_lex.specs.Words.{is_reserved}
+use Rattle.cf_lex.specs.Words.{is_reserved, is_no_function}
+use Rattle.cf_tree.specs.declared.base.Edition.{Edition}
+use Rattle.cf_tree.specs.declared.base.Edition.TheVariants.{Two, Three}
 use Rattle.cf_lex.specs.declared.token.Token.{Token}
 use Rattle.cf_lex.specs.declared.token.TokenKind.{TokenKind}
 use Rattle.cf_lex.specs.declared.token.TokenKind.TheVariants.{Literal, Word, Sign}
@@ -19,6 +21,11 @@ abbrev pub ◌⨟◌ : Form → Form → Form
 abbrev pub Nothing : Form
 Nothing ts rest = ⊥
 
+-- what edition 3 has alone
+abbrev pub IsThree : Edition → Type 0
+IsThree Two = ⊥
+IsThree Three = Unit {0}
+
 -- what X spells, where this holds
 abbrev pub If : Type 0 → Form → Form
 If holds X ts rest = holds × X ts rest
@@ -32,11 +39,15 @@ abbrev pub Next : TokenKind → Form
 Next k ts rest = (p : Place) × First p k ts rest
 
 -- a name stands first: a word that is not reserved
-abbrev pub FirstName : Place → List ℕ → Form
-FirstName p x ts rest = First p (Word x) ts rest × (is_reserved x ≡ false)
+abbrev pub FirstName : Edition → Place → List ℕ → Form
+FirstName edition p x ts rest = First p (Word x) ts rest × (is_reserved edition x ≡ false)
 
-abbrev pub NextName : List ℕ → Form
-NextName x ts rest = (p : Place) × FirstName p x ts rest
+-- the name of a function stands first: a name that is no operation
+abbrev pub FirstFunction : Edition → Place → List ℕ → Form
+FirstFunction edition p x ts rest = First p (Word x) ts rest × (is_no_function edition x ≡ false)
+
+abbrev pub NextFunction : Edition → List ℕ → Form
+NextFunction edition x ts rest = (p : Place) × FirstFunction edition p x ts rest
 
 -- a literal of at least this value stands first
 abbrev pub FirstLiteral : ℤ → Place → ℤ → Form

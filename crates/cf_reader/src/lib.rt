@@ -15,7 +15,7 @@ pub use crate::operations::operation;
 pub use crate::places::place_at;
 pub use crate::read_stop::ReadStop;
 pub use crate::tokens::{
-    after_sign, after_word, expect_literal, expect_name, expect_sign, expect_word,
-    literal_at_least, negated, spells,
+    after_sign, after_word, expect_function, expect_literal, expect_name, expect_sign, expect_word,
+    is_operation, literal_at_least, negated, spells,
 };
 pub use crate::words::{expect_base, truth};

@@ -1,10 +1,10 @@
 //! The operations that both grammars write.
 ghost use Rattle.std.specs.Prelude.{◌≡◌};
-ghost use Rattle.cf_reader.specs.Operations.{word_op as word_op_of, compare_op as compare_op_of, sign_op as sign_op_of, op_of};
+ghost use Rattle.cf_reader.specs.Operations.{word_op as word_op_of, compare_op as compare_op_of, sign_op_of_two, sign_op as sign_op_of, op_of};
 
 use crate::tokens::spells;
 use cf_lex::TokenKind;
-use cf_tree::{BinOp, Order};
+use cf_tree::{BinOp, Edition, Order};
 
 fn word_op(word: &[u8]) -> Option<BinOp>
     ensures { result ≡ word_op_of word.now }
@@ -42,8 +42,22 @@ fn compare_op(sign: &[u8]) -> Option<BinOp>
     }
 }
 
-fn sign_op(sign: &[u8]) -> Option<BinOp>
-    ensures { result ≡ sign_op_of sign.now }
+fn sign_op(edition: Edition, sign: &[u8]) -> Option<BinOp>
+    ensures { result ≡ sign_op_of edition sign.now }
+{
+    match edition {
+        Edition::Two => shared_sign_op(sign),
+        Edition::Three => if spells(sign, "==>") {
+            Some(BinOp::Implies)
+        } else {
+            shared_sign_op(sign)
+        },
+    }
+}
+
+// The operation of a sign that both editions have.
+fn shared_sign_op(sign: &[u8]) -> Option<BinOp>
+    ensures { result ≡ sign_op_of_two sign.now }
 {
     if spells(sign, "||") {
         Some(BinOp::Or)
@@ -60,14 +74,14 @@ fn sign_op(sign: &[u8]) -> Option<BinOp>
     }
 }
 
-/// The operation of a word or sign, if it has one.
+/// The operation of a word or sign, if it has one in this edition. Targets have those of language 2.
 #[tactic(auto, unfolding(crate::specs::Operations::op_of))]
-pub fn operation(kind: &TokenKind) -> Option<BinOp>
-    ensures { result ≡ op_of kind.now }
+pub fn operation(edition: Edition, kind: &TokenKind) -> Option<BinOp>
+    ensures { result ≡ op_of edition kind.now }
 {
     match kind {
         TokenKind::Literal(_) => None,
         TokenKind::Word(word) => word_op(&word.bytes),
-        TokenKind::Sign(sign) => sign_op(&sign.bytes),
+        TokenKind::Sign(sign) => sign_op(edition, &sign.bytes),
     }
 }

@@ -2,14 +2,15 @@
 ghost use Rattle.std.specs.Prelude.{◌≡◌, ◌≤ℤ◌, neg_ℤ, pos, IfOk, IfSome, take, drop};
 ghost use Rattle.std.specs.List.{list_any};
 ghost use Rattle.std.specs.Str.{bytes_eq};
-ghost use Rattle.cf_lex.specs.Words.{is_reserved as reserved, reserved_words};
+ghost use Rattle.cf_lex.specs.Words.{is_reserved as reserved, is_no_function as no_function, is_operation as operation_word, operation_words, reserved_words};
+ghost use Rattle.cf_tree.specs.declared.base.Edition.TheVariants.{Two, Three};
 ghost use Rattle.cf_lex.specs.declared.token.TokenKind.TheVariants.{Word, Sign};
 ghost use Rattle.cf_reader.specs.Answers.{ReadAnswer, FirstAnswer};
-ghost use Rattle.cf_reader.specs.Readers.{same_kind, is, a_name, a_literal, at, must};
+ghost use Rattle.cf_reader.specs.Readers.{same_kind, is, a_name, a_function, a_literal, at, must};
 
 use crate::read_stop::ReadStop;
 use cf_lex::{Token, TokenKind};
-use cf_tree::{Place, Text};
+use cf_tree::{Edition, Place, Text};
 use std::alloc::Global;
 
 /// Whether a word or sign is this text.
@@ -112,16 +113,36 @@ pub fn negated(size: i128) -> i128
 }
 
 // Whether a word is reserved.
-#[tactic(auto, using(crate::proofs::Reserved::reserved_parts))]
-fn is_reserved(word: &[u8]) -> bool
-    ensures { result ≡ reserved word.now }
+#[tactic(auto, using(crate::proofs::Reserved::reserved_parts, crate::proofs::Reserved::reserved_halves))]
+fn is_reserved(edition: Edition, word: &[u8]) -> bool
+    ensures { result ≡ reserved edition word.now }
 {
-    is_reserved_early(word) || is_reserved_amid(word) || is_reserved_late(word)
+    match edition {
+        Edition::Two => is_reserved_early(word) || is_reserved_amid(word) || is_reserved_late(word),
+        Edition::Three => is_reserved_first(word) || is_reserved_last(word),
+    }
 }
 
-// Whether a word is one of the first twelve reserved words.
+/// Whether a name is an operation where a parenthesis follows: in edition 3 there are some.
+pub fn is_operation(edition: Edition, word: &[u8]) -> bool
+    ensures { result ≡ operation_word edition word.now }
+{
+    match edition {
+        Edition::Two => false,
+        Edition::Three => {
+            spells(word, "card")
+                || spells(word, "div")
+                || spells(word, "mod")
+                || spells(word, "abs")
+                || spells(word, "min")
+                || spells(word, "max")
+        }
+    }
+}
+
+// Whether a word is one of the first twelve reserved words of language 2.
 fn is_reserved_early(word: &[u8]) -> bool
-    ensures { result ≡ list_any (λ r. bytes_eq word.now r) (take 12 reserved_words) }
+    ensures { result ≡ list_any (λ r. bytes_eq word.now r) (take 12 (reserved_words Two)) }
 {
     spells(word, "def")
         || spells(word, "let")
@@ -137,9 +158,9 @@ fn is_reserved_early(word: &[u8]) -> bool
         || spells(word, "true")
 }
 
-// Whether a word is one of the next twelve reserved words.
+// Whether a word is one of the next twelve of language 2.
 fn is_reserved_amid(word: &[u8]) -> bool
-    ensures { result ≡ list_any (λ r. bytes_eq word.now r) (take 12 (drop 12 reserved_words)) }
+    ensures { result ≡ list_any (λ r. bytes_eq word.now r) (take 12 (drop 12 (reserved_words Two))) }
 {
     spells(word, "false")
         || spells(word, "union")
@@ -155,9 +176,9 @@ fn is_reserved_amid(word: &[u8]) -> bool
         || spells(word, "need")
 }
 
-// Whether a word is one of the last ten reserved words.
+// Whether a word is one of the last ten of language 2.
 fn is_reserved_late(word: &[u8]) -> bool
-    ensures { result ≡ list_any (λ r. bytes_eq word.now r) (drop 24 reserved_words) }
+    ensures { result ≡ list_any (λ r. bytes_eq word.now r) (drop 24 (reserved_words Two)) }
 {
     spells(word, "give")
         || spells(word, "min")
@@ -171,16 +192,78 @@ fn is_reserved_late(word: &[u8]) -> bool
         || spells(word, "with")
 }
 
+// Whether a word is one of the first twelve reserved words of edition 3.
+fn is_reserved_first(word: &[u8]) -> bool
+    ensures { result ≡ list_any (λ r. bytes_eq word.now r) (take 12 (reserved_words Three)) }
+{
+    spells(word, "def")
+        || spells(word, "const")
+        || spells(word, "let")
+        || spells(word, "in")
+        || spells(word, "if")
+        || spells(word, "then")
+        || spells(word, "else")
+        || spells(word, "choose")
+        || spells(word, "given")
+        || spells(word, "where")
+        || spells(word, "minimise")
+        || spells(word, "maximise")
+}
+
+// Whether a word is one of the last twelve of edition 3.
+fn is_reserved_last(word: &[u8]) -> bool
+    ensures { result ≡ list_any (λ r. bytes_eq word.now r) (drop 12 (reserved_words Three)) }
+{
+    spells(word, "int")
+        || spells(word, "bool")
+        || spells(word, "set")
+        || spells(word, "true")
+        || spells(word, "false")
+        || spells(word, "union")
+        || spells(word, "inter")
+        || spells(word, "diff")
+        || spells(word, "subset")
+        || spells(word, "divides")
+        || spells(word, "match")
+        || spells(word, "with")
+}
+
 /// A name that has to stand first, with its place, and the tokens after it.
 #[tactic(auto, unfolding(crate::specs::Readers::must, crate::specs::Readers::at))]
-pub fn expect_name(alloc: Global, tokens: &[Token]) -> Result<((Place, Text), &[Token]), ReadStop>
-    ensures { ReadAnswer (λ x. (x.0, x.1.now)) result (must a_name tokens.now) }
+pub fn expect_name(
+    alloc: Global,
+    edition: Edition,
+    tokens: &[Token],
+) -> Result<((Place, Text), &[Token]), ReadStop>
+    ensures { ReadAnswer (λ x. (x.0, x.1.now)) result (must (a_name edition) tokens.now) }
 {
     let Some((t, rest)) = tokens.split_first() else {
         return Err(ReadStop::TokensLeft(0));
     };
     match &t.kind {
-        TokenKind::Word(x) if !is_reserved(&x.bytes) => Ok(((t.place, x.try_copy(alloc)?), rest)),
+        TokenKind::Word(x) if !is_reserved(edition, &x.bytes) => Ok((
+            (t.place, x.try_copy(alloc)?),
+            rest,
+        )),
+        _ => Err(ReadStop::TokensLeft(tokens.len())),
+    }
+}
+
+/// The name of a function, which has to stand first, with its place, and the tokens after it.
+#[tactic(auto, unfolding(crate::specs::Readers::must, crate::specs::Readers::at))]
+pub fn expect_function(
+    alloc: Global,
+    edition: Edition,
+    tokens: &[Token],
+) -> Result<((Place, Text), &[Token]), ReadStop>
+    ensures { ReadAnswer (λ x. (x.0, x.1.now)) result (must (a_function edition) tokens.now) }
+{
+    let Some((t, rest)) = tokens.split_first() else {
+        return Err(ReadStop::TokensLeft(0));
+    };
+    match &t.kind {
+        TokenKind::Word(x) if !is_operation(edition, &x.bytes) && !is_reserved(edition, &x.bytes) =>
+            { Ok(((t.place, x.try_copy(alloc)?), rest)) }
         _ => Err(ReadStop::TokensLeft(tokens.len())),
     }
 }

@@ -11,6 +11,7 @@ use Rattle.cf_tree.specs.CodeView.{code_tree}
 use Rattle.cf_reader.specs.Readers.{Reader, Test, is, a_literal, pure, refuse, must, ◌>>=◌, first, deep, others_of, several_of, snoc}
 use Rattle.cf_reader.specs.Kinds.{a_truth}
 use Rattle.cf_reader.specs.Operations.{op_of}
+use Rattle.cf_tree.specs.declared.base.Edition.TheVariants.{Two as language_2}
 use Rattle.cf_target.specs.declared.form.Unary.{Unary}
 use Rattle.cf_target.specs.declared.form.Unary.TheVariants.{Neg, Not, Card}
 use Rattle.cf_target.specs.declared.form.Division.{Division}
@@ -87,6 +88,8 @@ operation_of ops.And = operations.Two And
 operation_of ops.Or = operations.Two Or
 operation_of ops.Diff = operations.Two Diff
 operation_of ops.Subset = operations.Two Subset
+-- which language 2 does not have
+operation_of ops.Implies = operations.Two Or
 operation_of (ops.Compare order) = operations.Two (Compare order)
 
 abbrev pub many_kind : Many → TokenKind
@@ -253,7 +256,7 @@ pub data InsideTree : Type 0 where
 
 -- an operation, if there may be one
 abbrev pub an_operation : Bool → Test BinOp
-an_operation may t = if may then op_of t.kind else None
+an_operation may t = if may then op_of language_2 t.kind else None
 
 -- a literal that stands alone
 abbrev pub lone_literal : CodeTree → Option ℤ

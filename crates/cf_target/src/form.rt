@@ -6,7 +6,7 @@ ghost use Rattle.cf_target.specs.Reading.{a_unary, a_division, an_extreme, a_ste
 
 use cf_lex::{Token, TokenKind};
 use cf_reader::{after_sign, after_word, operation, spells};
-use cf_tree::{BinOp, Order, Place};
+use cf_tree::{BinOp, Edition, Order, Place};
 
 /// Forms of one part.
 #[derive(Clone, Copy)]
@@ -152,6 +152,8 @@ pub fn parts(op: BinOp) -> Operation
         BinOp::Or => Operation::Two(Two::Or),
         BinOp::Diff => Operation::Two(Two::Diff),
         BinOp::Subset => Operation::Two(Two::Subset),
+        // which language 2 does not have
+        BinOp::Implies => Operation::Two(Two::Or),
         BinOp::Compare(order) => Operation::Two(Two::Compare(order)),
     }
 }
@@ -165,7 +167,7 @@ pub fn after_operator(may: bool, tokens: &[Token]) -> Option<(BinOp, &[Token])>
     if !may {
         return None;
     }
-    let op = operation(&t.kind)?;
+    let op = operation(Edition::Two, &t.kind)?;
     Some((op, rest))
 }
 

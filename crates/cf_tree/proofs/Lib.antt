@@ -4,6 +4,7 @@ mod CodeTypingExamples
 mod MeaningExamples
 mod OverPartsExamples
 mod RelationExamples
+pub mod OneOutcomeLemmas
 pub mod RisingLemmas
 pub mod SetLemmas
 pub mod SliceLemmas
@@ -13,3 +14,4 @@ mod SpelledExamples
 mod TargetExamples
 pub mod TupleLemmas
 mod TypingExamples
+mod WhereExamples

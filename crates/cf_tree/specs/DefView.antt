@@ -4,6 +4,8 @@ use Rattle.cf_tree.specs.declared.base.Base.{Base}
 use Rattle.cf_tree.specs.declared.base.Place.{Place}
 use Rattle.cf_tree.specs.declared.raw.Param.{Param}
 use Rattle.cf_tree.specs.declared.raw.RawDef.{RawDef}
+use Rattle.cf_tree.specs.declared.raw.RawItem.{RawItem}
+use Rattle.cf_tree.specs.declared.raw.RawItem.TheVariants.{Const, Def as Function}
 use Rattle.cf_tree.specs.declared.raw.Program.{Program}
 use Rattle.cf_tree.specs.declared.expr.Def.{Def}
 use Rattle.cf_tree.specs.declared.target.RawTarget.{RawTarget}
@@ -25,19 +27,37 @@ pub record RawDefTree : Type 0 where
 abbrev pub raw_def_tree : RawDef → RawDefTree
 raw_def_tree d = record { place = d.place; name = d.name; params = d.params.items; results = d.results.items; body = raw_tree d.body }
 
--- the functions of a program, in the order of its text
-abbrev pub program_tree : Program → List RawDefTree
-program_tree p = map raw_def_tree p.defs.items
+-- a declaration: the place of the name of a constant, its name and its expression; or a function
+pub data RawItemTree : Type 0 where
+  item_const : Place → List ℕ → RawTree → RawItemTree
+  item_def : RawDefTree → RawItemTree
 
--- the sum of the sizes of the bodies
-abbrev pub program_size : List RawDefTree → ℕ
+abbrev pub raw_item_tree : RawItem → RawItemTree
+raw_item_tree (Const c) = item_const c.place c.name (raw_tree c.value)
+raw_item_tree (Function d) = item_def (raw_def_tree d)
+
+-- the declarations of a program, in the order of its text
+abbrev pub program_tree : Program → List RawItemTree
+program_tree p = map raw_item_tree p.items.items
+
+-- the size and the depth of the expression of a constant, or of the body of a function
+abbrev pub raw_item_size : RawItemTree → ℕ
+raw_item_size (item_const p x a) = raw_size a
+raw_item_size (item_def d) = raw_size d.body
+
+abbrev pub raw_item_depth : RawItemTree → ℕ
+raw_item_depth (item_const p x a) = raw_depth a
+raw_item_depth (item_def d) = raw_depth d.body
+
+-- the sum of the sizes
+abbrev pub program_size : List RawItemTree → ℕ
 program_size [] = 0
-program_size (d ∷ ds) = raw_size d.body + program_size ds
+program_size (item ∷ items) = raw_item_size item + program_size items
 
--- the depth of the deepest body
-abbrev pub program_depth : List RawDefTree → ℕ
+-- the greatest of the depths
+abbrev pub program_depth : List RawItemTree → ℕ
 program_depth [] = 0
-program_depth (d ∷ ds) = max (raw_depth d.body) (program_depth ds)
+program_depth (item ∷ items) = max (raw_item_depth item) (program_depth items)
 
 pub record DefTree : Type 0 where
   pub name : List ℕ

@@ -1,6 +1,7 @@
 -- Plain trees of source expressions with levels in the place of names.
 use Rattle.std.specs.Prelude.{ℕ, ℤ, ◌+◌, max, Bool, List, [], ◌∷◌}
 use Rattle.cf_tree.specs.declared.base.Base.{Base}
+use Rattle.cf_tree.specs.declared.base.Order.{Order}
 use Rattle.cf_tree.specs.declared.raw.BinOp.{BinOp}
 use Rattle.cf_tree.specs.declared.raw.Param.{Param}
 use Rattle.cf_tree.specs.RelTree.{RelTree}
@@ -17,6 +18,10 @@ mutual
     expr_not : ExprTree → ExprTree
     expr_abs : ExprTree → ExprTree
     expr_binary : BinOp → ExprTree → ExprTree → ExprTree
+    -- the orders between the parts
+    expr_chain : List Order → ExprTrees → ExprTree
+    expr_min : ExprTrees → ExprTree
+    expr_max : ExprTrees → ExprTree
     expr_divides : ℤ → ExprTree → ExprTree
     expr_div : ExprTree → ℤ → ExprTree
     expr_mod : ExprTree → ℤ → ExprTree
@@ -25,6 +30,8 @@ mutual
     expr_call : ℕ → ExprTrees → ExprTree
     expr_let : ℕ → ExprTree → ExprTree → ExprTree
     expr_choose : ℕ → List Param → List Base → RelTree → ExprTree
+    -- the bases of the outputs and of the hidden ones, what is given, the relation, and what is aimed at
+    expr_choose_where : ℕ → List Param → List Base → List Base → GivenExpr → ExprTree → AimExpr → ExprTree
     expr_match : ℕ → List Param → ExprTree → MatchArmTrees → ExprTree
 
   pub data ExprTrees : Type 0 where
@@ -38,6 +45,17 @@ mutual
   pub data MatchArmTrees : Type 0 where
     no_match_arms : MatchArmTrees
     match_arm_more : MatchArmTree → MatchArmTrees → MatchArmTrees
+
+  -- what a choose takes its inputs to be
+  pub data GivenExpr : Type 0 where
+    holds_always : GivenExpr
+    holds_where : ExprTree → GivenExpr
+
+  -- which of its solutions a choose allows: any, or those at which an expression, one number or several, is least or greatest
+  pub data AimExpr : Type 0 where
+    at_any : AimExpr
+    at_least : ExprTree → AimExpr
+    at_greatest : ExprTree → AimExpr
 
 abbrev pub exprs_of : List ExprTree → ExprTrees
 exprs_of [] = no_exprs
@@ -59,6 +77,9 @@ abbrev mutual
   expr_size (expr_not a) = 1 + expr_size a
   expr_size (expr_abs a) = 1 + expr_size a
   expr_size (expr_binary op a b) = 1 + expr_size a + expr_size b
+  expr_size (expr_chain orders es) = 1 + exprs_size es
+  expr_size (expr_min es) = 1 + exprs_size es
+  expr_size (expr_max es) = 1 + exprs_size es
   expr_size (expr_divides k a) = 1 + expr_size a
   expr_size (expr_div a k) = 1 + expr_size a
   expr_size (expr_mod a k) = 1 + expr_size a
@@ -67,6 +88,7 @@ abbrev mutual
   expr_size (expr_call n es) = 1 + exprs_size es
   expr_size (expr_let n a b) = 1 + expr_size a + expr_size b
   expr_size (expr_choose n ps bs r) = 1 + rel_size r
+  expr_size (expr_choose_where n ps bs hs g a aim) = 1 + given_expr_size g + expr_size a + aim_expr_size aim
   expr_size (expr_match n ps a arms) = 1 + expr_size a + match_arms_size arms
 
   pub exprs_size : ExprTrees → ℕ
@@ -80,6 +102,15 @@ abbrev mutual
   match_arms_size no_match_arms = 0
   match_arms_size (match_arm_more a arms) = match_arm_size a + match_arms_size arms
 
+  pub given_expr_size : GivenExpr → ℕ
+  given_expr_size holds_always = 0
+  given_expr_size (holds_where a) = expr_size a
+
+  pub aim_expr_size : AimExpr → ℕ
+  aim_expr_size at_any = 0
+  aim_expr_size (at_least a) = expr_size a
+  aim_expr_size (at_greatest a) = expr_size a
+
 -- 1 for a leaf, and 1 more than the deepest part for any other expression; the pattern of an arm is a leaf
 abbrev mutual
   pub expr_depth : ExprTree → ℕ
@@ -92,6 +123,9 @@ abbrev mutual
   expr_depth (expr_not a) = 1 + expr_depth a
   expr_depth (expr_abs a) = 1 + expr_depth a
   expr_depth (expr_binary op a b) = 1 + max (expr_depth a) (expr_depth b)
+  expr_depth (expr_chain orders es) = 1 + exprs_depth es
+  expr_depth (expr_min es) = 1 + exprs_depth es
+  expr_depth (expr_max es) = 1 + exprs_depth es
   expr_depth (expr_divides k a) = 1 + expr_depth a
   expr_depth (expr_div a k) = 1 + expr_depth a
   expr_depth (expr_mod a k) = 1 + expr_depth a
@@ -100,6 +134,7 @@ abbrev mutual
   expr_depth (expr_call n es) = 1 + exprs_depth es
   expr_depth (expr_let n a b) = 1 + max (expr_depth a) (expr_depth b)
   expr_depth (expr_choose n ps bs r) = 1 + rel_depth r
+  expr_depth (expr_choose_where n ps bs hs g a aim) = 1 + max (given_expr_depth g) (max (expr_depth a) (aim_expr_depth aim))
   expr_depth (expr_match n ps a arms) = 1 + max (expr_depth a) (match_arms_depth arms)
 
   pub exprs_depth : ExprTrees → ℕ
@@ -112,3 +147,12 @@ abbrev mutual
   pub match_arms_depth : MatchArmTrees → ℕ
   match_arms_depth no_match_arms = 0
   match_arms_depth (match_arm_more a arms) = max (match_arm_depth a) (match_arms_depth arms)
+
+  pub given_expr_depth : GivenExpr → ℕ
+  given_expr_depth holds_always = 0
+  given_expr_depth (holds_where a) = expr_depth a
+
+  pub aim_expr_depth : AimExpr → ℕ
+  aim_expr_depth at_any = 0
+  aim_expr_depth (at_least a) = expr_depth a
+  aim_expr_depth (at_greatest a) = expr_depth a

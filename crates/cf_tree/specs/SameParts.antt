@@ -1,8 +1,8 @@
 -- Forms whose parts are given, in the order in which they stand.
 use Rattle.std.specs.Prelude.{◌≡◌}
 use Rattle.cf_tree.specs.RelTree.{SetTree, union_of, inter_of, diff_of, TermTree, term_neg, term_add, term_sub, term_mul, term_div, term_mod, term_abs, RelTree, rel_same_set, rel_other_set, rel_subset, rel_and, rel_or}
-use Rattle.cf_tree.specs.ExprTree.{ExprTree, expr_set_of, expr_tuple, expr_neg, expr_not, expr_abs, expr_divides, expr_div, expr_mod, expr_card, expr_call, expr_binary, expr_let, ExprTrees}
-use Rattle.cf_tree.specs.RawTree.{RawTree, raw_set_of, raw_tuple, raw_group, raw_neg, raw_not, raw_abs, raw_divides, raw_div, raw_mod, raw_card, RawTrees}
+use Rattle.cf_tree.specs.ExprTree.{ExprTree, expr_set_of, expr_tuple, expr_min, expr_max, expr_neg, expr_not, expr_abs, expr_divides, expr_div, expr_mod, expr_card, expr_call, expr_binary, expr_let, ExprTrees}
+use Rattle.cf_tree.specs.RawTree.{RawTree, raw_set_of, raw_tuple, raw_min, raw_max, raw_group, raw_neg, raw_not, raw_abs, raw_divides, raw_div, raw_mod, raw_card, RawTrees}
 
 -- an operation of two set forms
 abbrev pub IsSetOverTwo : SetTree → SetTree → SetTree → Type 0
@@ -43,6 +43,8 @@ IsRelOverTwo _ c d = ⊥
 abbrev pub IsExprOverList : ExprTree → ExprTrees → Type 0
 IsExprOverList (expr_set_of own) es = es ≡ own
 IsExprOverList (expr_tuple own) es = es ≡ own
+IsExprOverList (expr_min own) es = es ≡ own
+IsExprOverList (expr_max own) es = es ≡ own
 IsExprOverList (expr_call n own) es = es ≡ own
 IsExprOverList _ es = ⊥
 
@@ -67,6 +69,8 @@ IsExprOverTwo _ d e = ⊥
 abbrev pub IsRawOverList : RawTree → RawTrees → Type 0
 IsRawOverList (raw_set_of p own) es = es ≡ own
 IsRawOverList (raw_tuple p own) es = es ≡ own
+IsRawOverList (raw_min p own) es = es ≡ own
+IsRawOverList (raw_max p own) es = es ≡ own
 IsRawOverList _ es = ⊥
 
 -- an expression as it is read, with one part
@@ -75,8 +79,12 @@ IsRawOverOne (raw_group p a) e = e ≡ a
 IsRawOverOne (raw_neg p a) e = e ≡ a
 IsRawOverOne (raw_not p a) e = e ≡ a
 IsRawOverOne (raw_abs p a) e = e ≡ a
-IsRawOverOne (raw_divides p k a) e = e ≡ a
-IsRawOverOne (raw_div p a k) e = e ≡ a
-IsRawOverOne (raw_mod p a k) e = e ≡ a
 IsRawOverOne (raw_card p a) e = e ≡ a
 IsRawOverOne _ e = ⊥
+
+-- an expression as it is read, with one part and a number
+abbrev pub IsRawOverNumber : RawTree → RawTree → Type 0
+IsRawOverNumber (raw_divides p k a) e = e ≡ a
+IsRawOverNumber (raw_div p a k) e = e ≡ a
+IsRawOverNumber (raw_mod p a k) e = e ≡ a
+IsRawOverNumber _ e = ⊥

@@ -47,6 +47,15 @@ impl Text {
     }
 }
 
+/// An edition of the language.
+#[derive(Clone, Copy, Debug, PartialEq, Eq)]
+pub enum Edition {
+    /// Language 2, without a header.
+    Two,
+    /// The one whose sources begin with `comfusy 3`.
+    Three,
+}
+
 /// The bytes of a line of input. Contracts see the list of them.
 #[derive(Drop)]
 pub struct Bytes {
@@ -111,6 +120,13 @@ pub fn same_bases(a: &[Base], b: &[Base]) -> bool
         }
     }
     right.is_empty()
+}
+
+/// Which solutions a `choose` aims at: those at which its objective is least, or greatest.
+#[derive(Clone, Copy, Debug, PartialEq, Eq)]
+pub enum Sense {
+    Least,
+    Greatest,
 }
 
 /// How two values compare.

@@ -1,5 +1,5 @@
 //! Source programs with their names turned into levels and numbers.
-use crate::base::{Base, Text};
+use crate::base::{Base, Order, Text};
 use crate::raw::{BinOp, Param};
 use crate::rel::Rel;
 
@@ -20,6 +20,15 @@ pub enum Expr {
         left: Box<Expr>,
         right: Box<Expr>,
     },
+    /// Two or more comparisons in one: each order stands between two parts.
+    Chain {
+        orders: Vec<Order>,
+        parts: Vec<Expr>,
+    },
+    /// The least of two or more parts.
+    Min(Vec<Expr>),
+    /// The greatest of two or more parts.
+    Max(Vec<Expr>),
     Divides {
         k: i128,
         of: Box<Expr>,
@@ -56,6 +65,18 @@ pub enum Expr {
         outputs: Vec<Base>,
         rel: Rel,
     },
+    /// The choose of that number, whose relation is an expression. `scope` holds the variables in
+    /// scope, by level; the outputs have the levels after them, and the hidden ones those after the
+    /// outputs.
+    ChooseWhere {
+        number: u32,
+        scope: Vec<Param>,
+        outputs: Vec<Base>,
+        hidden: Vec<Base>,
+        given: Given,
+        rel: Box<Expr>,
+        aim: Aim,
+    },
     /// The match of that number. `scope` holds the variables in scope and last the matched value,
     /// which has the next level; the variables of an arm have the levels after it.
     Match {
@@ -75,6 +96,23 @@ pub struct MatchArm {
     pub factors: Vec<i128>,
     pub constant: i128,
     pub body: Expr,
+}
+
+/// What a choose takes its inputs to be: an expression over the variables in its scope.
+#[cycle(expr)]
+#[derive(Drop)]
+pub enum Given {
+    Always,
+    Where(Box<Expr>),
+}
+
+/// Which of its solutions a choose allows: any, or those at which its objective is least or greatest.
+#[cycle(expr)]
+#[derive(Drop)]
+pub enum Aim {
+    Any,
+    Least(Box<Expr>),
+    Greatest(Box<Expr>),
 }
 
 /// A function.

@@ -68,12 +68,14 @@ macro_rules! expr_leaf {
     };
 }
 
-/// An expression over a list of parts, among them `Call`.
+/// An expression over a list of parts, among them `Call` and not `Chain`.
 #[macro_export]
 macro_rules! expr_over_list {
     ($parts:ident) => {
         $crate::Expr::SetOf($parts)
             | $crate::Expr::Tuple($parts)
+            | $crate::Expr::Min($parts)
+            | $crate::Expr::Max($parts)
             | $crate::Expr::Call { args: $parts, .. }
     };
 }
@@ -109,17 +111,19 @@ macro_rules! raw_leaf {
     };
 }
 
-/// A form as it is read, over a list of parts, among them `Call`.
+/// A form as it is read, over a list of parts, among them `Call` and not `Chain`.
 #[macro_export]
 macro_rules! raw_over_list {
     ($parts:ident) => {
         $crate::RawNode::SetOf($parts)
             | $crate::RawNode::Tuple($parts)
+            | $crate::RawNode::Min($parts)
+            | $crate::RawNode::Max($parts)
             | $crate::RawNode::Call { args: $parts, .. }
     };
 }
 
-/// A form as it is read, over one part, among them neither `Group` nor `Choose`.
+/// A form as it is read, over one part, among them not `Group`.
 #[macro_export]
 macro_rules! raw_over_one {
     ($a:ident) => {
@@ -127,7 +131,14 @@ macro_rules! raw_over_one {
             | $crate::RawNode::Not($a)
             | $crate::RawNode::Abs($a)
             | $crate::RawNode::Card($a)
-            | $crate::RawNode::Divides { of: $a, .. }
+    };
+}
+
+/// A form as it is read, over one part and a number.
+#[macro_export]
+macro_rules! raw_over_number {
+    ($a:ident) => {
+        $crate::RawNode::Divides { of: $a, .. }
             | $crate::RawNode::Div { of: $a, .. }
             | $crate::RawNode::Mod { of: $a, .. }
     };

@@ -15,14 +15,17 @@ mod rel;
 mod target;
 mod text;
 
-pub use crate::base::{Base, Bytes, Order, Place, Text, same_base, same_bases};
+pub use crate::base::{Base, Bytes, Edition, Order, Place, Sense, Text, same_base, same_bases};
 pub use crate::choose::{Choose, bases};
 pub use crate::code::{Arm, Code, Item};
 pub use crate::copy::words::copy_params;
-pub use crate::expr::{Def, Expr, MatchArm};
+pub use crate::expr::{Aim, Def, Expr, Given, MatchArm};
 pub use crate::level::{add_u32, to_u32};
 pub use crate::memory::{NoMemory, without};
-pub use crate::raw::{BinOp, Param, Part, Program, Raw, RawArm, RawDef, RawNode};
+pub use crate::raw::{
+    BinOp, Number, Param, Part, Program, Raw, RawAim, RawArm, RawConst, RawDef, RawGiven, RawItem,
+    RawNode,
+};
 pub use crate::rel::{Rel, SetTerm, Term};
 pub use crate::target::{Pre, RawTarget, Target};
 pub use crate::text::{put_number, put_truth};

@@ -1,5 +1,5 @@
 //! Source programs as they are read, with their names and places.
-use crate::base::{Base, Order, Place, Text};
+use crate::base::{Base, Order, Place, Sense, Text};
 
 /// An operation with two sides.
 #[derive(Clone, Copy, Debug, PartialEq, Eq)]
@@ -13,6 +13,8 @@ pub enum BinOp {
     Inter,
     Diff,
     Subset,
+    /// Its right side counts only where the left one is true.
+    Implies,
     Compare(Order),
 }
 
@@ -24,8 +26,16 @@ pub struct Param {
     pub base: Base,
 }
 
-/// An expression and its place: that of the operator of an operation with two sides, and that of
-/// the first token of any other form.
+/// The number of a `div`, `mod` or `divides`, or the factor of a part of a pattern.
+#[derive(Drop)]
+pub enum Number {
+    Lit(i128),
+    /// The name of a constant, with its place.
+    Name { place: Place, name: Text },
+}
+
+/// An expression and its place: that of the operator of an operation with two sides, that of
+/// the first operator of a chain, and that of the first token of any other form.
 #[cycle(raw)]
 #[derive(Drop)]
 pub struct Raw {
@@ -52,17 +62,27 @@ pub enum RawNode {
         left: Box<Raw>,
         right: Box<Raw>,
     },
+    /// Two or more comparisons in one: each order stands between two parts, and has its place.
+    Chain {
+        orders: Vec<Order>,
+        places: Vec<Place>,
+        parts: Vec<Raw>,
+    },
+    /// The least of two or more parts.
+    Min(Vec<Raw>),
+    /// The greatest of two or more parts.
+    Max(Vec<Raw>),
     Divides {
-        k: i128,
+        k: Number,
         of: Box<Raw>,
     },
     Div {
         of: Box<Raw>,
-        k: i128,
+        k: Number,
     },
     Mod {
         of: Box<Raw>,
-        k: i128,
+        k: Number,
     },
     Card(Box<Raw>),
     Call {
@@ -81,9 +101,13 @@ pub enum RawNode {
         value: Box<Raw>,
         body: Box<Raw>,
     },
+    /// Outputs with which the relation holds, and so do some values of the hidden ones.
     Choose {
         outputs: Vec<Param>,
+        hidden: Vec<Param>,
+        given: RawGiven,
         rel: Box<Raw>,
+        aim: RawAim,
     },
     Match {
         of: Box<Raw>,
@@ -100,11 +124,34 @@ pub struct RawArm {
     pub body: Raw,
 }
 
-/// A factor times a new variable, in a pattern. The place is that of the name.
+/// What a `choose` takes its inputs to be. The place is that of the word `given`.
+#[cycle(raw)]
+#[derive(Drop)]
+pub enum RawGiven {
+    Always,
+    That { place: Place, rel: Box<Raw> },
+}
+
+/// What a `choose` makes least or greatest. The place is that of the word `minimise` or `maximise`.
+#[cycle(raw)]
+#[derive(Drop)]
+pub enum RawAim {
+    Any,
+    At {
+        place: Place,
+        sense: Sense,
+        objective: Box<Raw>,
+    },
+}
+
+/// A part of a pattern: a sign, a factor where one is written, and a name, which is that of a new
+/// variable or of a constant. `start` is the place of its first token, `place` that of the name.
 #[derive(Drop)]
 pub struct Part {
+    pub start: Place,
+    pub is_negative: bool,
+    pub factor: Option<Number>,
     pub place: Place,
-    pub factor: i128,
     pub name: Text,
 }
 
@@ -118,8 +165,23 @@ pub struct RawDef {
     pub body: Raw,
 }
 
-/// A source program.
+/// A constant. The place is that of the name.
+#[derive(Drop)]
+pub struct RawConst {
+    pub place: Place,
+    pub name: Text,
+    pub value: Raw,
+}
+
+/// A declaration of a program. Only edition 3 has constants.
+#[derive(Drop)]
+pub enum RawItem {
+    Const(RawConst),
+    Def(RawDef),
+}
+
+/// A source program: its declarations in the order of its text. One of language 2 has functions alone.
 #[derive(Drop)]
 pub struct Program {
-    pub defs: Vec<RawDef>,
+    pub items: Vec<RawItem>,
 }

@@ -1,3 +1,4 @@
+pub mod Asked
 pub mod Commands
 pub mod Words
 pub mod Grammar

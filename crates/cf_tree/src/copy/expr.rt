@@ -1,13 +1,13 @@
 //! Copies of source expressions with levels.
 ghost use Rattle.std.specs.Prelude.{◌≡◌, IfOk, map};
-ghost use Rattle.cf_tree.specs.ExprTree.{expr_choose, expr_match};
-ghost use Rattle.cf_tree.specs.ExprView.{expr_tree, expr_trees, match_arm_tree, match_arm_trees};
+ghost use Rattle.cf_tree.specs.ExprTree.{expr_chain, expr_choose, expr_choose_where, expr_match};
+ghost use Rattle.cf_tree.specs.ExprView.{expr_tree, expr_trees, match_arm_tree, match_arm_trees, given_expr, aim_expr};
 ghost use Rattle.cf_tree.specs.RelView.{rel_tree};
 ghost use Rattle.cf_tree.specs.SameParts.{IsExprOverList, IsExprOverOne, IsExprOverTwo};
 
-use crate::base::Base;
+use crate::base::{Base, Order};
 use crate::copy::words::copy_params;
-use crate::expr::{Expr, MatchArm};
+use crate::expr::{Aim, Expr, Given, MatchArm};
 use crate::memory::NoMemory;
 use crate::raw::Param;
 use crate::rel::Rel;
@@ -37,6 +37,10 @@ impl Expr {
                 let second = b.boxed(alloc)?;
                 Ok(self.over_two(first, second))
             }
+            Expr::Chain { orders, parts } => {
+                let parts = copy_exprs(alloc, parts)?;
+                chain_over(alloc, orders, parts)
+            }
             Expr::If { test, yes, no } => {
                 let test = test.boxed(alloc)?;
                 let yes = yes.boxed(alloc)?;
@@ -49,6 +53,20 @@ impl Expr {
                 outputs,
                 rel,
             } => copied_choose(alloc, *number, scope, outputs, rel),
+            Expr::ChooseWhere {
+                number,
+                scope,
+                outputs,
+                hidden,
+                given,
+                rel,
+                aim,
+            } => {
+                let given = given.try_copy(alloc)?;
+                let rel = rel.boxed(alloc)?;
+                let aim = aim.try_copy(alloc)?;
+                choose_over(alloc, *number, scope, outputs, hidden, given, rel, aim)
+            }
             Expr::Match {
                 number,
                 scope,
@@ -77,6 +95,8 @@ impl Expr {
         match self {
             Expr::SetOf(_) => Expr::SetOf(parts),
             Expr::Tuple(_) => Expr::Tuple(parts),
+            Expr::Min(_) => Expr::Min(parts),
+            Expr::Max(_) => Expr::Max(parts),
             Expr::Call { def, .. } => Expr::Call {
                 def: *def,
                 args: parts,
@@ -123,6 +143,42 @@ impl Expr {
     }
 }
 
+// A chain of these parts, with equal orders.
+fn chain_over(alloc: Global, orders: &[Order], parts: Vec<Expr>) -> Result<Expr, NoMemory>
+    ensures { IfOk result (λ new. expr_tree new ≡ expr_chain orders.now (expr_trees parts.items)) }
+{
+    let orders = Vec::from_slice(alloc, orders)?;
+    Ok(Expr::Chain { orders, parts })
+}
+
+// A `choose` over these parts, in an equal scope and with equal outputs.
+fn choose_over(
+    alloc: Global,
+    number: u32,
+    scope: &[Param],
+    outputs: &[Base],
+    hidden: &[Base],
+    given: Given,
+    rel: Box<Expr>,
+    aim: Aim,
+) -> Result<Expr, NoMemory>
+    ensures { IfOk result (λ new. expr_tree new ≡
+        expr_choose_where number scope.now outputs.now hidden.now (given_expr given) (expr_tree rel.value) (aim_expr aim)) }
+{
+    let scope = copy_params(alloc, scope)?;
+    let outputs = Vec::from_slice(alloc, outputs)?;
+    let hidden = Vec::from_slice(alloc, hidden)?;
+    Ok(Expr::ChooseWhere {
+        number,
+        scope,
+        outputs,
+        hidden,
+        given,
+        rel,
+        aim,
+    })
+}
+
 // A `choose` with equal parts.
 fn copied_choose(
     alloc: Global,
@@ -161,6 +217,31 @@ fn match_over(
         of,
         arms,
     })
+}
+
+impl Given {
+    #[cycle(copy_expr)]
+    fn try_copy(&self, alloc: Global) -> Result<Given, NoMemory>
+        ensures { IfOk result (λ new. given_expr new ≡ given_expr self.now) }
+    {
+        match self {
+            Given::Always => Ok(Given::Always),
+            Given::Where(a) => Ok(Given::Where(a.boxed(alloc)?)),
+        }
+    }
+}
+
+impl Aim {
+    #[cycle(copy_expr)]
+    fn try_copy(&self, alloc: Global) -> Result<Aim, NoMemory>
+        ensures { IfOk result (λ new. aim_expr new ≡ aim_expr self.now) }
+    {
+        match self {
+            Aim::Any => Ok(Aim::Any),
+            Aim::Least(a) => Ok(Aim::Least(a.boxed(alloc)?)),
+            Aim::Greatest(a) => Ok(Aim::Greatest(a.boxed(alloc)?)),
+        }
+    }
 }
 
 impl MatchArm {

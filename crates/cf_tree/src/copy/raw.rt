@@ -1,14 +1,14 @@
 //! Copies of source expressions as they are read.
 ghost use Rattle.std.specs.Prelude.{◌≡◌, IfOk, map};
-ghost use Rattle.cf_tree.specs.RawTree.{raw_name, raw_call, raw_let, raw_choose};
-ghost use Rattle.cf_tree.specs.RawView.{raw_tree, raw_trees, raw_node_tree, raw_arm_tree};
-ghost use Rattle.cf_tree.specs.SameParts.{IsRawOverList, IsRawOverOne};
+ghost use Rattle.cf_tree.specs.RawTree.{raw_name, raw_chain, raw_call, raw_let, raw_choose};
+ghost use Rattle.cf_tree.specs.RawView.{raw_tree, raw_trees, raw_node_tree, raw_arm_tree, given_tree, aim_tree};
+ghost use Rattle.cf_tree.specs.SameParts.{IsRawOverList, IsRawOverOne, IsRawOverNumber};
 
-use crate::base::{Place, Text};
+use crate::base::{Order, Place, Text};
 use crate::copy::words::{copy_params, copy_parts, copy_texts};
 use crate::memory::NoMemory;
-use crate::raw::{Param, Raw, RawArm, RawNode};
-use crate::raw_over_one;
+use crate::raw::{Param, Raw, RawAim, RawArm, RawGiven, RawNode};
+use crate::{raw_over_number, raw_over_one};
 use std::alloc::Global;
 
 impl Raw {
@@ -37,13 +37,28 @@ impl RawNode {
             RawNode::Lit(x) => Ok(raw_at(place, RawNode::Lit(*x))),
             RawNode::Truth(x) => Ok(raw_at(place, RawNode::Truth(*x))),
             RawNode::Name(name) => name_at(alloc, place, name),
-            RawNode::SetOf(parts) | RawNode::Tuple(parts) => {
+            RawNode::SetOf(parts)
+            | RawNode::Tuple(parts)
+            | RawNode::Min(parts)
+            | RawNode::Max(parts) => {
                 let parts = copy_raws(alloc, parts)?;
                 Ok(self.over_list(place, parts))
             }
             RawNode::Group(a) | raw_over_one!(a) => {
                 let part = a.boxed(alloc)?;
                 Ok(self.over_one(place, part))
+            }
+            raw_over_number!(a) => {
+                let part = a.boxed(alloc)?;
+                self.over_number(alloc, place, part)
+            }
+            RawNode::Chain {
+                orders,
+                places,
+                parts,
+            } => {
+                let parts = copy_raws(alloc, parts)?;
+                chain_at(alloc, place, orders, places, parts)
             }
             RawNode::Binary { op, left, right } => {
                 let left = left.boxed(alloc)?;
@@ -71,9 +86,17 @@ impl RawNode {
                 let body = body.boxed(alloc)?;
                 let_at(alloc, place, names, places, value, body)
             }
-            RawNode::Choose { outputs, rel } => {
+            RawNode::Choose {
+                outputs,
+                hidden,
+                given,
+                rel,
+                aim,
+            } => {
+                let given = given.try_copy(alloc)?;
                 let rel = rel.boxed(alloc)?;
-                choose_at(alloc, place, outputs, rel)
+                let aim = aim.try_copy(alloc)?;
+                choose_at(alloc, place, outputs, hidden, given, rel, aim)
             }
             RawNode::Match { of, arms } => {
                 let of = of.boxed(alloc)?;
@@ -91,6 +114,8 @@ impl RawNode {
         match self {
             RawNode::SetOf(_) => raw_at(place, RawNode::SetOf(parts)),
             RawNode::Tuple(_) => raw_at(place, RawNode::Tuple(parts)),
+            RawNode::Min(_) => raw_at(place, RawNode::Min(parts)),
+            RawNode::Max(_) => raw_at(place, RawNode::Max(parts)),
             _ => unreachable!(),
         }
     }
@@ -106,12 +131,69 @@ impl RawNode {
             RawNode::Not(_) => RawNode::Not(a),
             RawNode::Abs(_) => RawNode::Abs(a),
             RawNode::Card(_) => RawNode::Card(a),
-            RawNode::Divides { k, .. } => RawNode::Divides { k: *k, of: a },
-            RawNode::Div { k, .. } => RawNode::Div { of: a, k: *k },
-            RawNode::Mod { k, .. } => RawNode::Mod { of: a, k: *k },
             _ => unreachable!(),
         };
         Raw { place, node }
+    }
+
+    // The same form over a part equal to its own, and an equal number.
+    fn over_number(&self, alloc: Global, place: Place, of: Box<Raw>) -> Result<Raw, NoMemory>
+        requires { IsRawOverNumber (raw_node_tree self.now place) (raw_tree of.value) }
+        ensures { IfOk result (λ new. raw_tree new ≡ raw_node_tree self.now place) }
+    {
+        match self {
+            RawNode::Divides { k, .. } => {
+                let k = k.try_copy(alloc)?;
+                Ok(raw_at(place, RawNode::Divides { k, of }))
+            }
+            RawNode::Div { k, .. } => {
+                let k = k.try_copy(alloc)?;
+                Ok(raw_at(place, RawNode::Div { of, k }))
+            }
+            RawNode::Mod { k, .. } => {
+                let k = k.try_copy(alloc)?;
+                Ok(raw_at(place, RawNode::Mod { of, k }))
+            }
+            _ => unreachable!(),
+        }
+    }
+}
+
+impl RawGiven {
+    #[cycle(copy_raw)]
+    fn try_copy(&self, alloc: Global) -> Result<RawGiven, NoMemory>
+        ensures { IfOk result (λ new. given_tree new ≡ given_tree self.now) }
+    {
+        match self {
+            RawGiven::Always => Ok(RawGiven::Always),
+            RawGiven::That { place, rel } => {
+                let rel = rel.boxed(alloc)?;
+                Ok(RawGiven::That { place: *place, rel })
+            }
+        }
+    }
+}
+
+impl RawAim {
+    #[cycle(copy_raw)]
+    fn try_copy(&self, alloc: Global) -> Result<RawAim, NoMemory>
+        ensures { IfOk result (λ new. aim_tree new ≡ aim_tree self.now) }
+    {
+        match self {
+            RawAim::Any => Ok(RawAim::Any),
+            RawAim::At {
+                place,
+                sense,
+                objective,
+            } => {
+                let objective = objective.boxed(alloc)?;
+                Ok(RawAim::At {
+                    place: *place,
+                    sense: *sense,
+                    objective,
+                })
+            }
+        }
     }
 }
 
@@ -191,12 +273,53 @@ fn let_at(
     ))
 }
 
-// A `choose` of equal outputs with this relation.
-fn choose_at(alloc: Global, place: Place, outputs: &[Param], rel: Box<Raw>) -> Result<Raw, NoMemory>
-    ensures { IfOk result (λ new. raw_tree new ≡ raw_choose place outputs.now (raw_tree rel.value)) }
+// A chain of these parts, with equal orders and places.
+fn chain_at(
+    alloc: Global,
+    place: Place,
+    orders: &[Order],
+    places: &[Place],
+    parts: Vec<Raw>,
+) -> Result<Raw, NoMemory>
+    ensures { IfOk result (λ new. raw_tree new ≡ raw_chain place orders.now places.now (raw_trees parts.items)) }
+{
+    let orders = Vec::from_slice(alloc, orders)?;
+    let places = Vec::from_slice(alloc, places)?;
+    Ok(raw_at(
+        place,
+        RawNode::Chain {
+            orders,
+            places,
+            parts,
+        },
+    ))
+}
+
+// A `choose` of equal outputs and hidden ones over these parts.
+fn choose_at(
+    alloc: Global,
+    place: Place,
+    outputs: &[Param],
+    hidden: &[Param],
+    given: RawGiven,
+    rel: Box<Raw>,
+    aim: RawAim,
+) -> Result<Raw, NoMemory>
+    ensures { IfOk result (λ new. raw_tree new ≡
+        raw_choose place outputs.now hidden.now (given_tree given) (raw_tree rel.value) (aim_tree aim)) }
 {
     let outputs = copy_params(alloc, outputs)?;
-    Ok(raw_at(place, RawNode::Choose { outputs, rel }))
+    let hidden = copy_params(alloc, hidden)?;
+    Ok(raw_at(
+        place,
+        RawNode::Choose {
+            outputs,
+            hidden,
+            given,
+            rel,
+            aim,
+        },
+    ))
 }
 
 fn raw_at(place: Place, node: RawNode) -> Raw

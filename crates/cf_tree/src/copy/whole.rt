@@ -1,12 +1,13 @@
 //! Copies of functions, programs, targets and preconditions.
 ghost use Rattle.std.specs.Prelude.{◌≡◌, IfOk, map};
-ghost use Rattle.cf_tree.specs.DefView.{raw_def_tree, program_tree, def_tree, target_tree, pre_tree};
+ghost use Rattle.cf_tree.specs.RawView.{raw_tree};
+ghost use Rattle.cf_tree.specs.DefView.{raw_def_tree, raw_item_tree, program_tree, def_tree, target_tree, pre_tree};
 
 use crate::copy::code::copy_arms;
 use crate::copy::words::copy_params;
 use crate::expr::Def;
 use crate::memory::NoMemory;
-use crate::raw::{Program, RawDef};
+use crate::raw::{Program, RawConst, RawDef, RawItem};
 use crate::target::{Pre, RawTarget};
 use std::alloc::Global;
 
@@ -25,13 +26,38 @@ impl RawDef {
     }
 }
 
+impl RawConst {
+    /// An equal constant.
+    pub fn try_copy(&self, alloc: Global) -> Result<RawConst, NoMemory>
+        ensures { IfOk result (λ new. (new.place ≡ self.now.place) × (new.name ≡ self.now.name) × (raw_tree new.value ≡ raw_tree self.now.value)) }
+    {
+        Ok(RawConst {
+            place: self.place,
+            name: self.name.try_copy(alloc)?,
+            value: self.value.try_copy(alloc)?,
+        })
+    }
+}
+
+impl RawItem {
+    /// An equal declaration.
+    pub fn try_copy(&self, alloc: Global) -> Result<RawItem, NoMemory>
+        ensures { IfOk result (λ new. raw_item_tree new ≡ raw_item_tree self.now) }
+    {
+        match self {
+            RawItem::Const(constant) => Ok(RawItem::Const(constant.try_copy(alloc)?)),
+            RawItem::Def(def) => Ok(RawItem::Def(def.try_copy(alloc)?)),
+        }
+    }
+}
+
 impl Program {
     /// An equal program.
     pub fn try_copy(&self, alloc: Global) -> Result<Program, NoMemory>
         ensures { IfOk result (λ new. program_tree new ≡ program_tree self.now) }
     {
         Ok(Program {
-            defs: copy_defs(alloc, &self.defs)?,
+            items: copy_items(alloc, &self.items)?,
         })
     }
 }
@@ -74,12 +100,12 @@ impl Pre {
     }
 }
 
-fn copy_defs(alloc: Global, defs: &[RawDef]) -> Result<Vec<RawDef>, NoMemory>
-    ensures { IfOk result (λ new. map raw_def_tree new.items ≡ map raw_def_tree defs.now) }
+fn copy_items(alloc: Global, items: &[RawItem]) -> Result<Vec<RawItem>, NoMemory>
+    ensures { IfOk result (λ new. map raw_item_tree new.items ≡ map raw_item_tree items.now) }
 {
     let mut all = Vec::new(alloc);
-    for def in defs {
-        all.push(def.try_copy(alloc)?)?;
+    for item in items {
+        all.push(item.try_copy(alloc)?)?;
     }
     Ok(all)
 }

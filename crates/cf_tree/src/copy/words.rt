@@ -3,7 +3,7 @@ ghost use Rattle.std.specs.Prelude.{◌≡◌, IfOk};
 
 use crate::base::Text;
 use crate::memory::NoMemory;
-use crate::raw::{Param, Part};
+use crate::raw::{Number, Param, Part};
 use std::alloc::Global;
 
 impl Param {
@@ -19,15 +19,49 @@ impl Param {
     }
 }
 
+impl Number {
+    /// An equal number.
+    pub fn try_copy(&self, alloc: Global) -> Result<Number, NoMemory>
+        ensures { IfOk result (λ new. new ≡ self.now) }
+    {
+        match self {
+            Number::Lit(k) => Ok(Number::Lit(*k)),
+            Number::Name { place, name } => {
+                let name = name.try_copy(alloc)?;
+                Ok(Number::Name {
+                    place: *place,
+                    name,
+                })
+            }
+        }
+    }
+}
+
+fn copy_factor(alloc: Global, factor: &Option<Number>) -> Result<Option<Number>, NoMemory>
+    ensures { IfOk result (λ new. new ≡ factor.now) }
+{
+    match factor {
+        None => Ok(None),
+        Some(k) => {
+            let k = k.try_copy(alloc)?;
+            Ok(Some(k))
+        }
+    }
+}
+
 impl Part {
     /// An equal part of a pattern.
     pub fn try_copy(&self, alloc: Global) -> Result<Part, NoMemory>
         ensures { IfOk result (λ new. new ≡ self.now) }
     {
+        let factor = copy_factor(alloc, &self.factor)?;
+        let name = self.name.try_copy(alloc)?;
         Ok(Part {
+            start: self.start,
+            is_negative: self.is_negative,
+            factor,
             place: self.place,
-            factor: self.factor,
-            name: self.name.try_copy(alloc)?,
+            name,
         })
     }
 }

@@ -1,10 +1,10 @@
 //! Sizes and depths of source expressions with levels.
 ghost use Rattle.std.specs.Prelude.{◌≡◌};
 ghost use Rattle.cf_tree.specs.RelSize.{capped};
-ghost use Rattle.cf_tree.specs.ExprTree.{expr_size, exprs_size, match_arm_size, match_arms_size, expr_depth, exprs_depth, match_arm_depth, match_arms_depth};
-ghost use Rattle.cf_tree.specs.ExprView.{expr_tree, match_arm_tree, expr_trees, match_arm_trees};
+ghost use Rattle.cf_tree.specs.ExprTree.{expr_size, exprs_size, match_arm_size, match_arms_size, given_expr_size, aim_expr_size, expr_depth, exprs_depth, match_arm_depth, match_arms_depth, given_expr_depth, aim_expr_depth};
+ghost use Rattle.cf_tree.specs.ExprView.{expr_tree, match_arm_tree, given_expr, aim_expr, expr_trees, match_arm_trees};
 
-use crate::expr::{Expr, MatchArm};
+use crate::expr::{Aim, Expr, Given, MatchArm};
 use crate::{expr_leaf, expr_over_list, expr_over_one, expr_over_two};
 
 impl Expr {
@@ -15,7 +15,9 @@ impl Expr {
     {
         match self {
             expr_leaf!() => 1,
-            expr_over_list!(parts) => exprs_size(parts).saturating_add(1),
+            expr_over_list!(parts) | Expr::Chain { parts, .. } => exprs_size(parts).saturating_add(
+                1,
+            ),
             expr_over_one!(a) => a.size().saturating_add(1),
             expr_over_two!(a, b) => a.size().saturating_add(b.size()).saturating_add(1),
             Expr::If { test, yes, no } => test
@@ -24,6 +26,16 @@ impl Expr {
                 .saturating_add(no.size())
                 .saturating_add(1),
             Expr::Choose { rel, .. } => rel.size().saturating_add(1),
+            Expr::ChooseWhere {
+                given,
+                rel,
+                aim,
+                ..
+            } => given
+                .size()
+                .saturating_add(rel.size())
+                .saturating_add(aim.size())
+                .saturating_add(1),
             Expr::Match { of, arms, .. } => of
                 .size()
                 .saturating_add(arms_size(arms))
@@ -38,7 +50,9 @@ impl Expr {
     {
         match self {
             expr_leaf!() => 1,
-            expr_over_list!(parts) => exprs_depth(parts).saturating_add(1),
+            expr_over_list!(parts) | Expr::Chain { parts, .. } => exprs_depth(parts).saturating_add(
+                1,
+            ),
             expr_over_one!(a) => a.depth().saturating_add(1),
             expr_over_two!(a, b) => a.depth().max(b.depth()).saturating_add(1),
             Expr::If { test, yes, no } => test
@@ -47,6 +61,16 @@ impl Expr {
                 .max(no.depth())
                 .saturating_add(1),
             Expr::Choose { rel, .. } => rel.depth().saturating_add(1),
+            Expr::ChooseWhere {
+                given,
+                rel,
+                aim,
+                ..
+            } => given
+                .depth()
+                .max(rel.depth())
+                .max(aim.depth())
+                .saturating_add(1),
             Expr::Match { of, arms, .. } => of.depth().max(arms_depth(arms)).saturating_add(1),
         }
     }
@@ -67,6 +91,50 @@ impl MatchArm {
         ensures { result ≡ capped (match_arm_depth (match_arm_tree self.now)) }
     {
         self.body.depth().max(1)
+    }
+}
+
+impl Given {
+    #[cycle(size_expr)]
+    fn size(&self) -> u64
+        ensures { result ≡ capped (given_expr_size (given_expr self.now)) }
+    {
+        match self {
+            Given::Always => 0,
+            Given::Where(a) => a.size(),
+        }
+    }
+
+    #[cycle(depth_expr)]
+    fn depth(&self) -> u64
+        ensures { result ≡ capped (given_expr_depth (given_expr self.now)) }
+    {
+        match self {
+            Given::Always => 0,
+            Given::Where(a) => a.depth(),
+        }
+    }
+}
+
+impl Aim {
+    #[cycle(size_expr)]
+    fn size(&self) -> u64
+        ensures { result ≡ capped (aim_expr_size (aim_expr self.now)) }
+    {
+        match self {
+            Aim::Any => 0,
+            Aim::Least(a) | Aim::Greatest(a) => a.size(),
+        }
+    }
+
+    #[cycle(depth_expr)]
+    fn depth(&self) -> u64
+        ensures { result ≡ capped (aim_expr_depth (aim_expr self.now)) }
+    {
+        match self {
+            Aim::Any => 0,
+            Aim::Least(a) | Aim::Greatest(a) => a.depth(),
+        }
     }
 }
 

@@ -1,11 +1,11 @@
 //! Sizes and depths of source expressions as they are read.
 ghost use Rattle.std.specs.Prelude.{◌≡◌};
 ghost use Rattle.cf_tree.specs.RelSize.{capped};
-ghost use Rattle.cf_tree.specs.RawTree.{raw_size, raws_size, raw_arm_size, raw_arms_size, raw_depth, raws_depth, raw_arm_depth, raw_arms_depth};
-ghost use Rattle.cf_tree.specs.RawView.{raw_tree, raw_arm_tree, raw_trees, raw_arm_trees};
+ghost use Rattle.cf_tree.specs.RawTree.{raw_size, raws_size, raw_arm_size, raw_arms_size, given_size, aim_size, raw_depth, raws_depth, raw_arm_depth, raw_arms_depth, given_depth, aim_depth};
+ghost use Rattle.cf_tree.specs.RawView.{raw_tree, raw_arm_tree, given_tree, aim_tree, raw_trees, raw_arm_trees};
 
-use crate::raw::{Raw, RawArm, RawNode};
-use crate::{raw_leaf, raw_over_list, raw_over_one, raw_over_two};
+use crate::raw::{Raw, RawAim, RawArm, RawGiven, RawNode};
+use crate::{raw_leaf, raw_over_list, raw_over_number, raw_over_one, raw_over_two};
 
 impl Raw {
     /// How many nodes it has, but never more than the greatest number of 64 bits.
@@ -15,8 +15,10 @@ impl Raw {
     {
         match &self.node {
             raw_leaf!() => 1,
-            raw_over_list!(parts) => raws_size(parts).saturating_add(1),
-            RawNode::Group(a) | raw_over_one!(a) | RawNode::Choose { rel: a, .. } => a
+            raw_over_list!(parts) | RawNode::Chain { parts, .. } => raws_size(parts).saturating_add(
+                1,
+            ),
+            RawNode::Group(a) | raw_over_one!(a) | raw_over_number!(a) => a
                 .size()
                 .saturating_add(1),
             raw_over_two!(a, b) => a.size().saturating_add(b.size()).saturating_add(1),
@@ -24,6 +26,16 @@ impl Raw {
                 .size()
                 .saturating_add(yes.size())
                 .saturating_add(no.size())
+                .saturating_add(1),
+            RawNode::Choose {
+                given,
+                rel,
+                aim,
+                ..
+            } => given
+                .size()
+                .saturating_add(rel.size())
+                .saturating_add(aim.size())
                 .saturating_add(1),
             RawNode::Match { of, arms, .. } => of
                 .size()
@@ -39,8 +51,10 @@ impl Raw {
     {
         match &self.node {
             raw_leaf!() => 1,
-            raw_over_list!(parts) => raws_depth(parts).saturating_add(1),
-            RawNode::Group(a) | raw_over_one!(a) | RawNode::Choose { rel: a, .. } => a
+            raw_over_list!(parts) | RawNode::Chain { parts, .. } => raws_depth(
+                parts,
+            ).saturating_add(1),
+            RawNode::Group(a) | raw_over_one!(a) | raw_over_number!(a) => a
                 .depth()
                 .saturating_add(1),
             raw_over_two!(a, b) => a.depth().max(b.depth()).saturating_add(1),
@@ -48,6 +62,16 @@ impl Raw {
                 .depth()
                 .max(yes.depth())
                 .max(no.depth())
+                .saturating_add(1),
+            RawNode::Choose {
+                given,
+                rel,
+                aim,
+                ..
+            } => given
+                .depth()
+                .max(rel.depth())
+                .max(aim.depth())
                 .saturating_add(1),
             RawNode::Match { of, arms, .. } => of.depth().max(arms_depth(arms)).saturating_add(1),
         }
@@ -69,6 +93,50 @@ impl RawArm {
         ensures { result ≡ capped (raw_arm_depth (raw_arm_tree self.now)) }
     {
         self.body.depth().max(1)
+    }
+}
+
+impl RawGiven {
+    #[cycle(size_raw)]
+    fn size(&self) -> u64
+        ensures { result ≡ capped (given_size (given_tree self.now)) }
+    {
+        match self {
+            RawGiven::Always => 0,
+            RawGiven::That { rel, .. } => rel.size(),
+        }
+    }
+
+    #[cycle(depth_raw)]
+    fn depth(&self) -> u64
+        ensures { result ≡ capped (given_depth (given_tree self.now)) }
+    {
+        match self {
+            RawGiven::Always => 0,
+            RawGiven::That { rel, .. } => rel.depth(),
+        }
+    }
+}
+
+impl RawAim {
+    #[cycle(size_raw)]
+    fn size(&self) -> u64
+        ensures { result ≡ capped (aim_size (aim_tree self.now)) }
+    {
+        match self {
+            RawAim::Any => 0,
+            RawAim::At { objective, .. } => objective.size(),
+        }
+    }
+
+    #[cycle(depth_raw)]
+    fn depth(&self) -> u64
+        ensures { result ≡ capped (aim_depth (aim_tree self.now)) }
+    {
+        match self {
+            RawAim::Any => 0,
+            RawAim::At { objective, .. } => objective.depth(),
+        }
     }
 }
 

@@ -4,11 +4,11 @@ ghost use Rattle.cf_tree.specs.RelSize.{capped};
 ghost use Rattle.cf_tree.specs.CodeTree.{code_size, code_depth, arms_size, arms_depth};
 ghost use Rattle.cf_tree.specs.ExprTree.{expr_size, expr_depth};
 ghost use Rattle.cf_tree.specs.RawTree.{raw_size, raw_depth};
-ghost use Rattle.cf_tree.specs.DefView.{raw_def_tree, program_tree, program_size, program_depth, def_tree, target_tree, pre_tree};
+ghost use Rattle.cf_tree.specs.DefView.{raw_def_tree, raw_item_tree, raw_item_size, raw_item_depth, program_tree, program_size, program_depth, def_tree, target_tree, pre_tree};
 
 use crate::expr::Def;
 use crate::measure::code::{arms_depth, arms_size};
-use crate::raw::{Program, RawDef};
+use crate::raw::{Program, RawDef, RawItem};
 use crate::target::{Pre, RawTarget};
 
 impl RawDef {
@@ -27,20 +27,42 @@ impl RawDef {
     }
 }
 
+impl RawItem {
+    /// How many nodes its expression has, but never more than the greatest number of 64 bits.
+    pub fn size(&self) -> u64
+        ensures { result ≡ capped (raw_item_size (raw_item_tree self.now)) }
+    {
+        match self {
+            RawItem::Const(constant) => constant.value.size(),
+            RawItem::Def(def) => def.size(),
+        }
+    }
+
+    /// The depth of its expression, but never more than the greatest number of 64 bits.
+    pub fn depth(&self) -> u64
+        ensures { result ≡ capped (raw_item_depth (raw_item_tree self.now)) }
+    {
+        match self {
+            RawItem::Const(constant) => constant.value.depth(),
+            RawItem::Def(def) => def.depth(),
+        }
+    }
+}
+
 impl Program {
-    /// How many nodes the bodies of its functions have, but never more than the greatest number of 64 bits.
+    /// How many nodes its expressions have, but never more than the greatest number of 64 bits.
     pub fn size(&self) -> u64
         ensures { result ≡ capped (program_size (program_tree self.now)) }
     {
-        defs_size(&self.defs)
+        all_size(&self.items)
     }
 
-    /// The depth of its deepest function, 0 where it has none, but never more than the greatest number
-    /// of 64 bits.
+    /// The depth of its deepest expression, 0 where it has none, but never more than the greatest
+    /// number of 64 bits.
     pub fn depth(&self) -> u64
         ensures { result ≡ capped (program_depth (program_tree self.now)) }
     {
-        defs_depth(&self.defs)
+        all_depth(&self.items)
     }
 }
 
@@ -93,22 +115,22 @@ impl Pre {
     }
 }
 
-fn defs_size(defs: &[RawDef]) -> u64
-    ensures { result ≡ capped (program_size (map raw_def_tree defs.now)) }
+fn all_size(items: &[RawItem]) -> u64
+    ensures { result ≡ capped (program_size (map raw_item_tree items.now)) }
 {
     let mut total: u64 = 0;
-    for def in defs {
-        total = total.saturating_add(def.size());
+    for item in items {
+        total = total.saturating_add(item.size());
     }
     total
 }
 
-fn defs_depth(defs: &[RawDef]) -> u64
-    ensures { result ≡ capped (program_depth (map raw_def_tree defs.now)) }
+fn all_depth(items: &[RawItem]) -> u64
+    ensures { result ≡ capped (program_depth (map raw_item_tree items.now)) }
 {
     let mut deepest: u64 = 0;
-    for def in defs {
-        deepest = deepest.max(def.depth());
+    for item in items {
+        deepest = deepest.max(item.depth());
     }
     deepest
 }

@@ -4,7 +4,7 @@ use Rattle.cf_lex.proofs.ScanLemmas.{goes_first, goes_next, goes_empty, goes_fau
 use Rattle.cf_lex.proofs.lexer.scan.Goals as goal
 
 pub pieces-init : goal.pieces-init
-pieces-init c = record { line = omega arith; column = omega arith; goes = rw c.new-list.ensures.items (goes_first _ _) }
+pieces-init c = record { line = omega arith; column = omega arith; goes = rw c.new-list.ensures.items (goes_first _ _ _) }
 
 pub returns-in_err-found : goal.returns-in_err-found
 returns-in_err-found c =

@@ -6,7 +6,7 @@ abbrev pub invariant-pieces : goal.invariant-pieces
 invariant-pieces l = record {
   line : l.place.line + length l.rest ≤ 1 + length l.text;
   column : l.place.column + length l.rest ≤ 1 + length l.text;
-  goes : Goes l.limit l.text l.list.items l.place l.rest;
+  goes : Goes l.edition l.limit l.text l.list.items l.place l.rest;
 }
 
 abbrev pub decreases-pieces : goal.decreases-pieces

@@ -5,8 +5,8 @@ use Rattle.cf_lex.proofs.lexer.tokens.Goals as goal
 
 pub returns : goal.returns
 returns c = record {
-  answer = answer_from (2 ^ 127 - 1) c.args.text.now _ c.scan.ensures;
-  only = only_from (2 ^ 127 - 1) c.args.text.now _ c.scan.ensures;
-  literals = answer-within (2 ^ 127 - 1) c.args.text.now _ (answer_from (2 ^ 127 - 1) c.args.text.now _ c.scan.ensures);
-  count = answer-count (2 ^ 127 - 1) c.args.text.now _ (answer_from (2 ^ 127 - 1) c.args.text.now _ c.scan.ensures);
+  answer = answer_from c.args.edition (2 ^ 127 - 1) c.args.text.now _ c.scan.ensures;
+  only = only_from c.args.edition (2 ^ 127 - 1) c.args.text.now _ c.scan.ensures;
+  literals = answer-within c.args.edition (2 ^ 127 - 1) c.args.text.now _ (answer_from c.args.edition (2 ^ 127 - 1) c.args.text.now _ c.scan.ensures);
+  count = answer-count c.args.edition (2 ^ 127 - 1) c.args.text.now _ (answer_from c.args.edition (2 ^ 127 - 1) c.args.text.now _ c.scan.ensures);
 }

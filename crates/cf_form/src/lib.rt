@@ -1,0 +1,23 @@
+//! The forms of edition 3 as those of language 2: relations with calls, lets, tests, least and
+//! greatest numbers and truth values, and chains and implications in ordinary code.
+#![tactic(auto)]
+
+mod fault;
+mod form;
+mod limits;
+mod told;
+
+ghost use Rattle.cf_form.specs.Laws.{FormingAllowsTheSame, FormingKeepsTypes, FormsToItself};
+
+pub use crate::fault::FormFault;
+pub use crate::form::{Formed, FormedParts, form};
+pub use crate::limits::MOST_ALTERNATIVES;
+pub use crate::told::{Branch, ChooseInfo, TruthAt};
+
+/// A program of edition 3 whose forms are those of language 2 allows the same outcomes as before and
+/// is typed, and a program without new forms is formed to itself.
+pub fn forming_keeps_facts()
+    ensures outcomes { FormingAllowsTheSame }
+    ensures types { FormingKeepsTypes }
+    ensures itself { FormsToItself }
+{}

@@ -1,0 +1,119 @@
+-- Language 2 by itself: the productions that it shares with edition 3 as it has them, and what it does not have.
+use Rattle.std.proofs.Common.{◌≡◌, ℕ, zero, suc, ℤ, Bool, true, false, List, [], ◌∷◌, length, Option, Some, None, Result, Ok, Err, refl, codes}
+use Rattle.std.specs.Prelude.{pos}
+use Rattle.cf_lex.specs.Words.{is_reserved, is_no_function}
+use Rattle.cf_tree.specs.declared.base.Edition.TheVariants.{Two}
+use Rattle.cf_lex.specs.declared.token.Token.{Token}
+use Rattle.cf_lex.specs.declared.token.TokenKind.TheVariants.{Word, Sign}
+use Rattle.cf_tree.specs.declared.base.Order.{Order}
+use Rattle.cf_tree.specs.declared.base.Place.{Place}
+use Rattle.cf_tree.specs.declared.base.Sense.{Sense}
+use Rattle.cf_tree.specs.declared.raw.BinOp.{BinOp}
+use Rattle.cf_tree.specs.declared.raw.BinOp.TheVariants.{Implies}
+use Rattle.cf_tree.specs.declared.raw.Param.{Param}
+use Rattle.cf_tree.specs.RawTree.{number_lit, number_name, PartTree, RawTree, raw_name, raw_binary, raw_chain, raw_min, raw_max, raw_divides, raw_div, raw_call, raw_choose, RawTrees, no_raws, raw_more, GivenTree, no_given, given_that, AimTree, no_aim, aim_at, raws_of}
+use Rattle.cf_tree.specs.DefView.{RawItemTree, item_const, item_def}
+use Rattle.cf_reader.specs.Readers.{Got, Reader, is, a_name, a_function, a_literal, at, pure, must, bind, ◌>>=◌, first, deep, several_of, snoc}
+use Rattle.cf_reader.specs.Tokens.{Form, ◌⨟◌, If, First, Next, FirstName, FirstLiteral, NextLiteral, Several}
+use Rattle.cf_parse.specs.declared.tier.Tier.TheVariants.{Whole, Imps, Ors, Sums}
+use Rattle.cf_parse.specs.Spelling.{Fits, SpellsParam, SpellsItems, Spells}
+use Rattle.cf_parse.specs.Reading.{Parts, param_of, items_of, outputs_of, given_of, aim_of, choose_of, chained_of, imps_of, ors_of, behind_name, named_of, step}
+use Rattle.cf_parse.specs.Programs.{SpellsDef, SpellsItem, SpellsSome, SpellsProgram, def_of, item_of, some_items, program_of}
+
+-- productions
+
+choose : (p : Place) (outputs : List Param) (e : RawTree) → Spells Two (raw_choose p outputs [] no_given e no_aim) ≡
+    (First p (Word (codes "choose")) ⨟ Next (Sign (codes "(")) ⨟ Several (SpellsParam Two) (Sign (codes ",")) (Sign (codes ")")) outputs
+    ⨟ Next (Word (codes "where")) ⨟ If (Fits Ors e) (Spells Two e))
+choose p outputs e = refl
+
+call : (p : Place) (x : List ℕ) (es : RawTrees) → Spells Two (raw_call p x es) ≡ (FirstName Two p x ⨟ Next (Sign (codes "(")) ⨟ SpellsItems Two es (Sign (codes ")")))
+call p x es = refl
+
+divides : (p : Place) (k : ℤ) (e : RawTree) → Spells Two (raw_divides p (number_lit k) e) ≡
+    (FirstLiteral (pos 1) p k ⨟ Next (Word (codes "divides")) ⨟ If (Fits Sums e) (Spells Two e))
+divides p k e = refl
+
+div : (p : Place) (k : ℤ) (e : RawTree) → Spells Two (raw_div p e (number_lit k)) ≡
+    (First p (Word (codes "div")) ⨟ Next (Sign (codes "(")) ⨟ Spells Two e ⨟ Next (Sign (codes ",")) ⨟ NextLiteral (pos 1) k ⨟ Next (Sign (codes ")")))
+div p k e = refl
+
+program : (limit : ℕ) (items : List RawItemTree) (ts : List Token) → SpellsProgram Two limit items ts ≡ SpellsSome Two limit items ts
+program limit items ts = refl
+
+-- what is not there
+
+no-hidden : (p : Place) (outputs hidden : List Param) (x : Param) (given : GivenTree) (e : RawTree) (aim : AimTree) (ts rest : List Token) →
+    Spells Two (raw_choose p outputs (x ∷ hidden) given e aim) ts rest → ⊥
+no-hidden p outputs hidden x no_given e aim ts rest h = h.2.2.1.0
+no-hidden p outputs hidden x (given_that q g) e aim ts rest h = h.2.2.1.0
+
+no-given : (p q : Place) (outputs hidden : List Param) (g e : RawTree) (aim : AimTree) (ts rest : List Token) →
+    Spells Two (raw_choose p outputs hidden (given_that q g) e aim) ts rest → ⊥
+no-given p q outputs hidden g e aim ts rest h = h.2.2.2.0
+
+no-aim : (p q : Place) (sense : Sense) (outputs hidden : List Param) (e aim : RawTree) (ts rest : List Token) →
+    Spells Two (raw_choose p outputs hidden no_given e (aim_at q sense aim)) ts rest → ⊥
+no-aim p q sense outputs hidden e aim ts rest h = h.2.2.2.2.0.0
+
+no-implication : (p : Place) (a b : RawTree) (ts rest : List Token) → Spells Two (raw_binary p Implies a b) ts rest → ⊥
+no-implication p a b ts rest h = h.2.1.0
+
+no-chain : (p : Place) (orders : List Order) (places : List Place) (es : RawTrees) (ts rest : List Token) → Spells Two (raw_chain p orders places es) ts rest → ⊥
+no-chain p orders places no_raws ts rest h = h
+no-chain p orders places (raw_more e es) ts rest h = h.0.0
+
+no-min : (p : Place) (es : RawTrees) (ts rest : List Token) → Spells Two (raw_min p es) ts rest → ⊥
+no-min p es ts rest h = h.0
+
+no-max : (p : Place) (es : RawTrees) (ts rest : List Token) → Spells Two (raw_max p es) ts rest → ⊥
+no-max p es ts rest h = h.0
+
+no-name-divides : (p q : Place) (x : List ℕ) (e : RawTree) (ts rest : List Token) → Spells Two (raw_divides p (number_name q x) e) ts rest → ⊥
+no-name-divides p q x e ts rest h = h.1.0.0
+
+no-constant : (limit : ℕ) (p : Place) (x : List ℕ) (e : RawTree) (ts rest : List Token) → SpellsItem Two limit (item_const p x e) ts rest → ⊥
+no-constant limit p x e ts rest h = h.0
+
+-- how it is read
+
+read-implication : (part : Parts) (n : ℕ) (ts : List Token) → step Two part n Imps ts ≡ ors_of Two part n ts
+unfolding step imps_of
+read-implication part n ts = refl
+
+read-comparison : (part : Parts) (o : Place × BinOp) (a b : RawTree) (ts : List Token) → chained_of Two part o a b ts ≡ Ok (raw_binary o.0 o.1 a b, ts)
+unfolding chained_of pure
+read-comparison part o a b ts = refl
+
+read-name : (part : Parts) (n : ℕ) (ts : List Token) → named_of Two part n ts ≡ (must (a_name Two) >>= λ x.
+    first (is (Sign (codes "("))) (λ p. items_of part (Sign (codes ")")) >>= λ es. pure (raw_call x.0 x.1 (raws_of es))) (pure (raw_name x.0 x.1))) ts
+unfolding named_of behind_name
+read-name part n ts = refl
+
+read-function : (t : Token) → a_function Two t ≡ a_name Two t
+read-function t = refl
+
+read-program : (limit : ℕ) (ts : List Token) → program_of Two limit ts ≡ some_items Two limit ts
+unfolding program_of
+read-program limit ts = refl
+
+read-item : (limit : ℕ) (ts : List Token) → item_of Two limit ts ≡ def_of Two limit ts
+unfolding item_of
+read-item limit ts = refl
+
+-- what is made of what is read may be made at once
+at-once : {A B C : Type 0} (r : Reader A) (f : A → B) (g : B → Reader C) (ts : List Token) → bind (bind r (λ x. pure (f x))) g ts ≡ bind r (λ x. g (f x)) ts
+unfolding bind pure
+at-once {A = A} r f g ts = by (r ts) refl
+  where
+    by : (x : Got A) → r ts ≡ x → bind (bind r (λ x. pure (f x))) g ts ≡ bind r (λ x. g (f x)) ts
+    by (Ok a) e = rw (bind, e, pure) refl
+    by (Err k) e = rw (bind, e) refl
+
+read-outputs : (part : Parts) (p : Place) (ts : List Token) →
+    bind (outputs_of Two) (λ o. given_of Two part >>= λ g. must (is (Word (codes "where"))) >>= λ q. part Ors >>= λ e. aim_of Two part >>= λ aim.
+    pure (raw_choose p o.0 o.1 g e aim)) ts ≡
+    bind (several_of snoc (param_of Two) (Sign (codes ",")) (Sign (codes ")")) []) (λ xs. given_of Two part >>= λ g. must (is (Word (codes "where"))) >>= λ q.
+    part Ors >>= λ e. aim_of Two part >>= λ aim. pure (raw_choose p xs [] g e aim)) ts
+unfolding outputs_of
+read-outputs part p ts = at-once _ (λ xs. (xs, [])) _ ts
