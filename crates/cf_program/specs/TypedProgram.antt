@@ -12,6 +12,7 @@ use Rattle.cf_program.specs.declared.linearity.Linearity.TheVariants.{Plain}
 use Rattle.cf_program.specs.DistinctNames.{AreDistinct}
 use Rattle.cf_program.specs.LateLinear.{IsLateLinear, IsLinearBy}
 use Rattle.cf_tree.specs.Params.{bases_of, names_of}
+use Rattle.cf_program.specs.NoForm.{HasNoForm}
 use Rattle.cf_program.specs.Size.{weights, depths}
 use Rattle.cf_program.specs.Walk.{side_of, result_of}
 use Rattle.cf_tree.specs.Typing.{one}
@@ -188,6 +189,7 @@ pub record IsProgramBy (linear : LinearBehind) (defs : List DefTree) (main : ℕ
   pub has_main : (d : DefTree) × (slice_get defs main ≡ Some d) × (d.name ≡ codes "main")
   pub distinct : IsDistinct nat_eq (all_numbers defs)
   pub positive : All (λ n. 1 ≤ n) (all_numbers defs)
+  pub formed : All (λ d. HasNoForm d.body) defs
   pub light : All (λ n. n ≤ 1000000) (weights defs)
   pub shallow : All (λ n. n ≤ 200) (depths defs)
 
