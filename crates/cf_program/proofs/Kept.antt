@@ -2,7 +2,8 @@
 use Rattle.std.proofs.Common.{◌≡◌, Bool, true, false, Option, Some, None, Result, Ok, Err, refl}
 use Rattle.cf_tree.specs.declared.base.Place.{Place}
 use Rattle.cf_program.specs.declared.fault.TypeFault.{TypeFault}
-use Rattle.cf_program.specs.Walk.{◌>>=◌, where_kept, where_no_fault, where_none_repeated}
+use Rattle.cf_program.specs.Then.{◌>>=◌}
+use Rattle.cf_program.specs.Walk.{where_kept, where_no_fault, where_none_repeated}
 
 pub data WhenOk {A : Type 0} (P : A → Type 0) : Result A TypeFault → Type 0 where
   when_ok : (x : A) → P x → WhenOk P (Ok x)
