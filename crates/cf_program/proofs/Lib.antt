@@ -5,11 +5,13 @@ mod FormExamples
 mod LateExamples
 mod LoweredExamples
 mod NameLaws
+mod PatternLaws
 mod PlainForms
 pub mod ProgramLaws
 mod ReadsLaws
 mod Rising
 pub mod RuleExamples
+mod SomeLaws
 mod WalkLaws
 mod LanguageTwo
 mod LimitExamples

@@ -7,7 +7,7 @@ use Rattle.cf_tree.specs.DefView.{DefTree, RawItemTree, item_def}
 use Rattle.cf_tree.specs.ExprTree.{ExprTree, expr_lit, expr_neg, expr_binary, expr_call, exprs_of}
 use Rattle.cf_tree.specs.RawTree.{RawTree, raw_lit, raw_neg}
 use Rattle.cf_program.specs.declared.linearity.Linearity.TheVariants.{Plain}
-use Rattle.cf_program.specs.declared.fault.TypeFault.TheVariants.{Weight, Depth}
+use Rattle.cf_program.specs.declared.fault.TypeFault.TheVariants.{NoMain, Weight, Depth}
 use Rattle.cf_program.proofs.RuleExamples.{at}
 use Rattle.cf_program.specs.Checked.{TypedTree, sized, checked}
 
@@ -59,8 +59,12 @@ abbrev raw_negated : ℕ → RawTree
 raw_negated zero = raw_lit (at 1) (pos 1)
 raw_negated (suc n) = raw_neg (at 1) (raw_negated n)
 
-abbrev too_deep : List RawItemTree
-too_deep = item_def (record { place = at 1; name = codes "main"; params = []; results = Int ∷ []; body = raw_negated 200 }) ∷ []
+abbrev too_deep : List ℕ → List RawItemTree
+too_deep x = item_def (record { place = at 1; name = x; params = []; results = Int ∷ []; body = raw_negated 200 }) ∷ []
 
-depth-by_edition : (checked Two Plain too_deep ≡ Err (Depth 201)) × (is_ok (checked Three Plain too_deep) ≡ true)
+depth-by_edition : (checked Two Plain (too_deep (codes "main")) ≡ Err (Depth 201)) × (is_ok (checked Three Plain (too_deep (codes "main"))) ≡ true)
 depth-by_edition = (refl, refl)
+
+-- a missing `main` comes first
+no_main : checked Two Plain (too_deep (codes "f")) ≡ Err NoMain
+no_main = refl
