@@ -58,9 +58,9 @@ when_all (Ok x) p = when_ok x (p x)
 when_all (Err e) p = when_err e
 
 -- by each edition's way
-pub when_edition : {A : Type 0} {P : A → Type 0} (edition : Edition) (two three : Result A TypeFault) → WhenOk P two → WhenOk P three →
+pub when_edition : {A : Type 0} {P : A → Type 0} (edition : Edition) (two three : Result A TypeFault) → (edition ≡ Two → WhenOk P two) → WhenOk P three →
     WhenOk P (by_edition edition two three)
-when_edition Two two three h k = h
+when_edition Two two three h k = h refl
 when_edition Three two three h k = k
 
 pub when_linear : {A : Type 0} {P : A → Type 0} (o : Found) (go : Result A TypeFault) → ((hs : List Held) → o ≡ linear_with hs → WhenOk P go) →
@@ -71,3 +71,8 @@ when_linear (bends p c) go k = when_err _
 pub when_so : {A : Type 0} {P Q : A → Type 0} (r : Result A TypeFault) → WhenOk P r → ((x : A) → P x → Q x) → WhenOk Q r
 when_so (Ok x) (when_ok y p) f = when_ok x (f x p)
 when_so (Err e) h f = when_err e
+
+-- whatever is known of the first result
+pub when_then : {A B : Type 0} {Q : B → Type 0} (r : Result A TypeFault) (f : A → Result B TypeFault) → ((x : A) → WhenOk Q (f x)) → WhenOk Q (r >>= f)
+when_then (Ok x) f k = k x
+when_then (Err e) f k = when_err e

@@ -2,6 +2,7 @@ pub mod EditionExamples
 mod BaseLaws
 pub mod Kept
 mod FormExamples
+mod HeldLaws
 mod LateExamples
 mod LoweredExamples
 mod NameLaws

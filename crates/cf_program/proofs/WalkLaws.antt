@@ -36,7 +36,7 @@ use Rattle.cf_program.specs.Walk.{Form, Forms, no_forms, with_form, Arms, no_arm
 use Rattle.cf_tree.specs.Typing.{one}
 use Rattle.cf_program.proofs.BaseLaws.{single_is, variable_found, bound_bases, variables_bases, outputs_are}
 use Rattle.cf_tree.proofs.BaseLemmas.{same_base_is, same_bases_is, both}
-use Rattle.cf_program.proofs.Kept.{WhenOk, when_ok, when_err, when_bind, when_both, when_all, when_edition, when_kept, when_no_fault, when_none_repeated, when_linear, when_so}
+use Rattle.cf_program.proofs.Kept.{WhenOk, when_ok, when_err, when_bind, when_both, when_edition, when_kept, when_no_fault, when_none_repeated, when_linear, when_so, when_then}
 use Rattle.cf_program.proofs.PatternLaws.{AreWithin, constant_within, divisor_good, IsPattern, pattern_good}
 use Rattle.cf_program.proofs.ReadsLaws.{linear_behind, IsReadingOver, bent_at_reads, on_relation_reads, on_term_reads, on_set_reads, truth_reads, variable_reads, binary_reads}
 use Rattle.cf_program.proofs.Rising.{Rising, rising_le, rising_append}
@@ -109,7 +109,7 @@ walk_all_count : (context : Context) (scope : List Param) (before : Forms) (es :
     count_of_raws es) (walk_all context scope before es)
 walk_all_count context scope before no_raws = when_ok before (omega arith)
 walk_all_count context scope before (raw_more e es) =
-    when_bind (walk context scope before.next e) _ (when_all {P = λ _. Unit {0}} (walk context scope before.next e) (λ _. tt)) (λ f _.
+    when_then (walk context scope before.next e) _ (λ f.
     when_so (walk_all context scope (with_form before f) es) (walk_all_count context scope (with_form before f) es) (λ fs h. omega (
       arith,
       h,
@@ -677,7 +677,7 @@ mutual
       let_good context takes n p scope xs places f h s.0 s.1 (eqb-true (length xs) (length f.bases) e) g k))))
   walk_good context takes known scope n low (raw_choose p outputs hidden given r aim) s =
       let inner : Context = in_relation context (length scope) in
-      when_edition context.edition _ _ (
+      when_edition context.edition _ _ (λ _.
       when_no_fault (output_fault Two (taken context) outputs) _ (λ none.
       when_bind (walk inner (scope ++ outputs) (n + 1) r >>= choose_form p n scope outputs) _
       (when_bind (walk inner (scope ++ outputs) (n + 1) r) _ (walk_good inner takes (in_relation_sound context takes (length scope) known) (scope ++ outputs)
