@@ -31,7 +31,7 @@ use Rattle.cf_program.proofs.BaseLaws.{single_is}
 use Rattle.cf_program.proofs.Kept.{WhenOk, when_ok, when_err, when_bind, when_kept, when_no_fault, when_none_repeated, when_all, when_so, when_then}
 
 -- ---- results that are taken apart
-then_found : (r : Found) (f : List Held → Found) (hs : List Held) → (r then f) ≡ linear hs → (gs : List Held) × (r ≡ linear gs) × (f gs ≡ linear hs)
+pub then_found : (r : Found) (f : List Held → Found) (hs : List Held) → (r then f) ≡ linear hs → (gs : List Held) × (r ≡ linear gs) × (f gs ≡ linear hs)
 then_found (linear gs) f hs e = (gs, refl, e)
 then_found (bends p c) f hs e = cc
 
@@ -42,7 +42,7 @@ also_some None f b e = cc
 no_bend : (p : Place) (c : Cause) (hs : List Held) → bends p c ≡ linear hs → ⊥
 no_bend p c hs e = cc
 
-linear_is : (gs hs : List Held) → linear gs ≡ linear hs → gs ≡ hs
+pub linear_is : (gs hs : List Held) → linear gs ≡ linear hs → gs ≡ hs
 linear_is gs hs e = cc
 
 called_linear : (p : Place) (x : List ℕ) (r : Found) (hs : List Held) → call_found p x r ≡ linear hs → r ≡ linear hs
@@ -94,7 +94,7 @@ both_length (g ∷ gs) (h ∷ hs) e = ap suc (both_length gs hs (omega (arith, e
 abbrev pub over : List Param → List Held → List Holder
 over scope vs = holders (names_of scope) vs
 
-no_variable_held : (n : ℕ) (h : Held) (ps : List Param) (vs : List Held) (x : List ℕ) → length vs ≡ length ps → variable_from n ps x ≡ None →
+pub no_variable_held : (n : ℕ) (h : Held) (ps : List Param) (vs : List Held) (x : List ℕ) → length vs ≡ length ps → variable_from n ps x ≡ None →
     held_from h (over ps vs) x ≡ h
 no_variable_held n h [] vs x l e = refl
 no_variable_held n h (p ∷ ps) [] x l e = absurd (omega (arith, l))
@@ -150,11 +150,11 @@ bound_length (x ∷ xs) [] bs h k = absurd (omega (arith, h))
 bound_length (x ∷ xs) (p ∷ places) [] h k = absurd (omega (arith, k))
 bound_length (x ∷ xs) (p ∷ places) (b ∷ bs) h k = ap suc (bound_length xs places bs (omega (arith, h)) (omega (arith, k)))
 
-names_length : (ps : List Param) → length (names_of ps) ≡ length ps
+pub names_length : (ps : List Param) → length (names_of ps) ≡ length ps
 names_length [] = refl
 names_length (p ∷ ps) = ap suc (names_length ps)
 
-over_more : (scope more : List Param) (vs hs : List Held) → length vs ≡ length scope → over (scope ++ more) (vs ++ hs) ≡ over scope vs ++ over more hs
+pub over_more : (scope more : List Param) (vs hs : List Held) → length vs ≡ length scope → over (scope ++ more) (vs ++ hs) ≡ over scope vs ++ over more hs
 over_more scope more vs hs l =
     ap (λ xs. holders xs (vs ++ hs)) (map-append (λ p. p.name) scope more)
     ∙ holders_append (names_of scope) (names_of more) vs hs (l ∙ sym (names_length scope))

@@ -58,10 +58,10 @@ when_all (Ok x) p = when_ok x (p x)
 when_all (Err e) p = when_err e
 
 -- by each edition's way
-pub when_edition : {A : Type 0} {P : A → Type 0} (edition : Edition) (two three : Result A TypeFault) → (edition ≡ Two → WhenOk P two) → WhenOk P three →
-    WhenOk P (by_edition edition two three)
+pub when_edition : {A : Type 0} {P : A → Type 0} (edition : Edition) (two three : Result A TypeFault) → (edition ≡ Two → WhenOk P two) →
+    (edition ≡ Three → WhenOk P three) → WhenOk P (by_edition edition two three)
 when_edition Two two three h k = h refl
-when_edition Three two three h k = k
+when_edition Three two three h k = k refl
 
 pub when_linear : {A : Type 0} {P : A → Type 0} (o : Found) (go : Result A TypeFault) → ((hs : List Held) → o ≡ linear_with hs → WhenOk P go) →
     WhenOk P (where_linear o go)

@@ -17,4 +17,5 @@ mod WalkLaws
 mod LanguageTwo
 mod LimitExamples
 mod LinearExamples
+mod LinearLaws
 pub mod PlainTypes

@@ -23,6 +23,7 @@ use Rattle.cf_program.specs.Linear.{found_in, all_hold, is_known, in_choose}
 use Rattle.cf_program.specs.Then.{◌>>=◌}
 use Rattle.cf_program.specs.Walk.{is_one, factor_in, signed, with_part, with_parts, choose_form, Forms, no_forms, with_form, Arms, no_arms, with_arm, bound, output_fault, is_output, may_be_output, matched, Summand, Pattern, with_summand, with_name, variables_of, after_arm, Context, behind, in_relation, taken, takes_inputs, divisor_in, pattern_in, walk, walk_given, walk_aim, walk_all, walk_arms}
 use Rattle.cf_program.proofs.Kept.{WhenOk, when_ok, when_err, when_bind, when_kept, when_no_fault, when_different, when_edition, when_linear, when_any, when_so, when_then, when_map}
+use Rattle.cf_program.proofs.LinearLaws.{not_two}
 
 -- none of these names stands before
 abbrev pub AreNew : List (List ℕ) → List (List ℕ) → Type 0
@@ -201,7 +202,7 @@ mutual
       (when_bind (walk inner (scope ++ outputs) (n + 1) r) _ (walk_named inner none (scope ++ outputs) (n + 1) r s.3) (λ f h. when_any _ h)) (λ f h.
       when_then (walk context (scope ++ outputs) (n + 1) r) _ (λ g.
       when_any _ (plain_named p outputs hidden given r aim plain (fresh_outputs Two (taken context) outputs differ).1 h)))))
-      (when_no_fault (output_fault Three (taken context) (outputs ++ hidden)) _ (λ differ.
+      (λ _. when_no_fault (output_fault Three (taken context) (outputs ++ hidden)) _ (λ differ.
       when_bind (walk_given context scope (n + 1) given) _ (walk_given_named context none scope (n + 1) given s.2) (λ g h.
       when_bind (walk context (scope ++ (outputs ++ hidden)) g.next r) _ (walk_named context none (scope ++ (outputs ++ hidden)) g.next r s.3) (λ f k.
       when_kept (is_one Truth f.bases) _ _ (λ _.
@@ -298,10 +299,6 @@ defs_more edition before d ds h k =
       params = All-cons (λ e. AreDistinct (names_of e.params)) d ds h.params k.params;
       bodies = λ two. All-cons (λ e. HasDistinctNames e.body) d ds (h.body two) (k.bodies two);
     }
-
-not_two : (edition : Edition) → IsThree edition → edition ≡ Two → ⊥
-not_two Two three e = three
-not_two Three three e = cc
 
 pub items_named : (edition : Edition) (how : Linearity) (all : List RawDefTree) (constants : List Constant) (before : List RawDefTree) (done : List DefTree)
     (n : ℕ) (items : List RawItemTree) → NoneAtTwo edition constants → All (IsSpelledItem edition) items →

@@ -685,7 +685,7 @@ mutual
       choose_good context takes n p scope outputs f s.0 none g)) (λ f g.
       when_bind (walk context (scope ++ outputs) (n + 1) r) _ (walk_good context takes known (scope ++ outputs) (n + 1) (omega arith) r s.3) (λ h _.
       when_ok _ (record { typed = g.typed; reads = bent_at_reads context.known (bases_of scope) f.bases (first_nonlinear h.reading) p; rising = g.rising })))))
-      (when_no_fault (output_fault Three (taken context) (outputs ++ hidden)) _ (λ none.
+      (λ _. when_no_fault (output_fault Three (taken context) (outputs ++ hidden)) _ (λ none.
       when_bind (walk_given context scope (n + 1) given) _ (walk_given_good context takes known scope (n + 1) (omega arith) given s.2) (λ g gg.
       let low_given : 1 ≤ g.next = omega (arith, rising_le (n + 1) (numbers_given g.tree) g.next gg.rising) in
       when_bind (walk context (scope ++ (outputs ++ hidden)) g.next r) _ (walk_good context takes known (scope ++ (outputs ++ hidden)) g.next low_given r s.3)
