@@ -1,5 +1,6 @@
 pub mod EditionExamples
 mod BaseLaws
+mod ConstantLaws
 pub mod Kept
 mod FormExamples
 mod HeldLaws

@@ -29,7 +29,7 @@ use Rattle.cf_program.proofs.LinearLaws.{not_two}
 abbrev pub AreNew : List (List ℕ) → List (List ℕ) → Type 0
 AreNew before xs = AllByRecursion (λ x. is_among before x ≡ false) xs
 
-either : (a b : Bool) → (a || b) ≡ false → (a ≡ false) × (b ≡ false)
+pub either : (a b : Bool) → (a || b) ≡ false → (a ≡ false) × (b ≡ false)
 either true b h = cc
 either false b h = (refl, h)
 
@@ -259,7 +259,7 @@ pub record DefDiffers (edition : Edition) (before : List RawDefTree) (d : RawDef
   pub params : AreDistinct (names_of d.params)
   pub body : edition ≡ Two → HasDistinctNames d.body
 
-not_true : (b : Bool) → not b ≡ true → b ≡ false
+pub not_true : (b : Bool) → not b ≡ true → b ≡ false
 not_true true h = cc
 not_true false h = refl
 
