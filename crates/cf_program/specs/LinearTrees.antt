@@ -47,31 +47,31 @@ abbrev mutual
   holds inputs calls vs (expr_var x) = one_holds (get_or vs x is_unknown)
   holds inputs calls vs (expr_set_of no_exprs) = one_holds is_constant
   holds inputs calls vs (expr_set_of (expr_more e es)) = None
-  holds inputs calls vs (expr_tuple es) = all_hold inputs calls vs es
+  holds inputs calls vs (expr_tuple es) = parts_hold inputs calls vs es
   holds inputs calls vs (expr_neg a) = holds inputs calls vs a
   holds inputs calls vs (expr_not a) = holds inputs calls vs a
   holds inputs calls vs (expr_abs a) = holds inputs calls vs a
   holds inputs calls vs (expr_binary op a b) =
       holds inputs calls vs a then λ hs. holds inputs calls vs b then λ gs. operation_holds inputs op (most_of hs) (most_of gs)
-  holds inputs calls vs (expr_chain orders es) = all_hold inputs calls vs es then λ hs. one_holds (most_of hs)
-  holds inputs calls vs (expr_min es) = all_hold inputs calls vs es then λ hs. one_holds (most_of hs)
-  holds inputs calls vs (expr_max es) = all_hold inputs calls vs es then λ hs. one_holds (most_of hs)
+  holds inputs calls vs (expr_chain orders es) = parts_hold inputs calls vs es then λ hs. one_holds (most_of hs)
+  holds inputs calls vs (expr_min es) = parts_hold inputs calls vs es then λ hs. one_holds (most_of hs)
+  holds inputs calls vs (expr_max es) = parts_hold inputs calls vs es then λ hs. one_holds (most_of hs)
   holds inputs calls vs (expr_divides k a) = holds inputs calls vs a
   holds inputs calls vs (expr_div a k) = holds inputs calls vs a then λ hs. one_holds is_unknown
   holds inputs calls vs (expr_mod a k) = holds inputs calls vs a then λ hs. one_holds is_unknown
   holds inputs calls vs (expr_card a) = holds inputs calls vs a then λ hs. one_holds is_unknown
   holds inputs calls vs (expr_if t a b) =
       holds inputs calls vs t then λ hs. holds inputs calls vs a then λ gs. holds inputs calls vs b then λ is. Some (both_hold gs is)
-  holds inputs calls vs (expr_call f es) = all_hold inputs calls vs es then calls f
+  holds inputs calls vs (expr_call f es) = parts_hold inputs calls vs es then calls f
   holds inputs calls vs (expr_let n a b) = holds inputs calls vs a then λ hs. holds inputs calls (vs ++ hs) b
   holds inputs calls vs (expr_choose n scope outputs rel) = None
   holds inputs calls vs (expr_choose_where n scope outputs hidden given rel aim) = None
   holds inputs calls vs (expr_match n scope a arms) = None
 
   -- of each what its one value holds
-  pub all_hold : Bool → (ℕ → List Held → Option (List Held)) → List Held → ExprTrees → Option (List Held)
-  all_hold inputs calls vs no_exprs = Some []
-  all_hold inputs calls vs (expr_more e es) = holds inputs calls vs e then λ hs. all_hold inputs calls vs es then λ gs. Some (most_of hs ∷ gs)
+  pub parts_hold : Bool → (ℕ → List Held → Option (List Held)) → List Held → ExprTrees → Option (List Held)
+  parts_hold inputs calls vs no_exprs = Some []
+  parts_hold inputs calls vs (expr_more e es) = holds inputs calls vs e then λ hs. parts_hold inputs calls vs es then λ gs. Some (most_of hs ∷ gs)
 
 -- a call of function number f by what its arguments hold, where the functions stand last first
 abbrev pub call_holds : Bool → List DefTree → ℕ → List Held → Option (List Held)
