@@ -1,9 +1,10 @@
 -- What readers give on given tokens: equations, put together as the readers are.
-use Rattle.std.proofs.Common.{◌≡◌, ◌⊎◌, inl, inr, ℕ, suc, zero, ◌≤◌, Bool, true, false, List, [], ◌∷◌, length, Some, None, Ok, Err, refl, ap, subst, ◌∙◌, cond, T, arith}
+use Rattle.std.proofs.Common.{◌≡◌, ◌⊎◌, inl, inr, ℕ, suc, zero, ◌≤◌, Bool, true, false, List, [], ◌∷◌, length, Some, None, Ok, Err, refl, sym, ap, ◌||◌, subst, ◌∙◌, cond, T, arith}
 use Rattle.std.specs.Prelude.{ℤ, ◌≤ℤ◌, int_le, codes}
 use Rattle.std.specs.Str.{bytes_eq}
 use Rattle.std.proofs.lemmas.Slice.Eq.{bytes_eq-Decides}
 use Rattle.cf_lex.specs.Words.{is_reserved, is_operation, is_no_function}
+use Rattle.cf_tree.specs.declared.base.Edition.{Edition}
 use Rattle.cf_lex.specs.declared.token.Token.{Token}
 use Rattle.cf_lex.specs.declared.token.TokenKind.{TokenKind}
 use Rattle.cf_lex.specs.declared.token.TokenKind.TheVariants.{Word, Sign}
@@ -12,6 +13,7 @@ use Rattle.cf_reader.specs.Tokens.{First, Next, FirstName, FirstFunction, FirstL
 use Rattle.cf_reader.specs.Readers.{Got, Reader, Test, same_kind, before, is, a_name, a_function, a_literal, at, pure, must, bind, first, deep, more_of, others_of, several_of, one_or_tuple}
 use Rattle.cf_reader.proofs.Near.{Within, ok_in, err_in, must_local}
 use Rattle.cf_reader.proofs.Yields.{added}
+use Rattle.cf_reader.proofs.Reserved.{function_parts}
 
 bound_is : {A B : Type 0} (f : A → Reader B) (r : Got A) (x : A) (us : List Token) (y : Got B) → r ≡ Ok (x, us) → f x us ≡ y →
     elim r [ Ok a ↦ f a.0 a.1 | Err e ↦ Err e ] ≡ y

@@ -1,9 +1,10 @@
 -- Facts that spelled tokens have where their literals are within the limit, put together as the grammars are.
-use Rattle.std.proofs.Common.{◌≡◌, ℕ, ◌-◌, ◌^◌, ◌≤◌, List, [], ◌∷◌, length, sym, subst, arith}
+use Rattle.std.proofs.Common.{ℕ, ◌-◌, ◌^◌, ◌≤◌, List, [], ◌∷◌, length, sym, subst, arith}
 use Rattle.std.specs.Prelude.{ℤ, ◌≤ℤ◌, All}
 use Rattle.std.proofs.lemmas.List.Elements.{All-nil, All-cons}
 use Rattle.cf_num.specs.Limit.{IsWithin}
 use Rattle.cf_lex.specs.Tokens.{AreWithin}
+use Rattle.cf_tree.specs.declared.base.Edition.{Edition}
 use Rattle.cf_lex.specs.declared.token.Token.{Token}
 use Rattle.cf_lex.specs.declared.token.TokenKind.{TokenKind}
 use Rattle.cf_lex.specs.declared.token.TokenKind.TheVariants.{Word}
