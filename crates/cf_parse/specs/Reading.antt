@@ -13,7 +13,7 @@ use Rattle.cf_tree.specs.declared.raw.BinOp.{BinOp}
 use Rattle.cf_tree.specs.declared.raw.BinOp.TheVariants.{Compare}
 use Rattle.cf_tree.specs.declared.raw.Param.{Param}
 use Rattle.cf_tree.specs.RawTree.{NumberTree, number_lit, number_name, PartTree, RawTree, raw_lit, raw_truth, raw_name, raw_set_of, raw_group, raw_tuple, raw_neg, raw_not, raw_abs, raw_binary, raw_chain, raw_min, raw_max, raw_divides, raw_div, raw_mod, raw_card, raw_call, raw_if, raw_let, raw_choose, raw_match, RawArmTree, raw_arm, no_raws, raws_of, raw_arms_of, GivenTree, no_given, given_that, AimTree, no_aim, aim_at, raw_depth}
-use Rattle.cf_reader.specs.Readers.{Reader, Test, is, a_name, a_function, a_literal, pure, must, ◌>>=◌, first, deep, several_of, listed_of, snoc, one_or_tuple}
+use Rattle.cf_reader.specs.Readers.{Reader, Test, is, a_name, a_function, a_literal, pure, must, ◌>>=◌, first, deep, several_of, snoc, one_or_tuple}
 use Rattle.cf_reader.specs.Kinds.{a_base, a_truth}
 use Rattle.cf_reader.specs.Operations.{op_of}
 use Rattle.cf_parse.specs.declared.sign.TermSign.{TermSign}
@@ -111,12 +111,22 @@ unfoldable pub params_of : Edition → Reader (List Param)
 params_of edition =
     first (is (Sign (codes ")"))) (λ p. pure []) (several_of snoc (param_of edition) (Sign (codes ",")) (Sign (codes ")")) [])
 
+-- the hidden outputs, if there are some, up to the closing parenthesis
+unfoldable pub hidden_of : Edition → List Param → Reader (List Param × List Param)
+hidden_of edition outputs =
+    first (in_three edition (is (Sign (codes ";"))))
+    (λ p. several_of snoc (param_of edition) (Sign (codes ",")) (Sign (codes ")")) [] >>= λ hidden. pure (outputs, hidden))
+    (must (is (Sign (codes ")"))) >>= λ p. pure (outputs, []))
+
+-- further outputs behind these, and the hidden ones
+unfoldable pub more_outputs : Edition → ℕ → List Param → Reader (List Param × List Param)
+more_outputs edition zero outputs = λ ts. Err 0
+more_outputs edition (suc fuel) outputs =
+    first (is (Sign (codes ","))) (λ p. param_of edition >>= λ x. more_outputs edition fuel (snoc outputs x)) (hidden_of edition outputs)
+
 -- the outputs of a choose and the hidden ones, up to the closing parenthesis
 unfoldable pub outputs_of : Edition → Reader (List Param × List Param)
-outputs_of edition = listed_of snoc (param_of edition) (Sign (codes ",")) [] >>= λ xs.
-    first (in_three edition (is (Sign (codes ";"))))
-    (λ p. several_of snoc (param_of edition) (Sign (codes ",")) (Sign (codes ")")) [] >>= λ hidden. pure (xs, hidden))
-    (must (is (Sign (codes ")"))) >>= λ p. pure (xs, []))
+outputs_of edition = param_of edition >>= λ x. λ ts. more_outputs edition (length ts) (x ∷ []) ts
 
 -- names and their places
 abbrev pub Names : Type 0
@@ -303,11 +313,8 @@ more_linked l o e = record { orders = snoc l.orders o.1; places = snoc l.places 
 
 -- further links, behind those read before
 unfoldable pub links_of : Parts → ℕ → Links → Reader Links
-links_of part zero done = pure done
+links_of part zero done = λ ts. Err 0
 links_of part (suc fuel) done = first (next_order done.orders) (λ o. part Sums >>= λ e. links_of part fuel (more_linked done o e)) (pure done)
-
-unfoldable pub all_links : Parts → Links → Reader Links
-all_links part done ts = links_of part (length ts) done ts
 
 abbrev pub first_link : Place → Order → RawTree → RawTree → Links
 first_link p order left right = record { orders = order ∷ []; places = p ∷ []; parts = left ∷ right ∷ [] }
@@ -317,9 +324,10 @@ chain_from p l = raw_chain p l.orders l.places (raws_of l.parts)
 
 -- behind the two sides of an operation of the tier of comparisons: the rest of a chain, if it goes on
 unfoldable pub linked_of : Edition → Parts → Place × BinOp → RawTree → RawTree → Reader RawTree
-linked_of edition part o left right =
+linked_of edition part o left right ts =
     first (second_order edition o.1) (λ q. part Sums >>= λ e.
-    all_links part (more_linked (first_link o.0 q.0 left right) q.1 e) >>= λ l. pure (chain_from o.0 l)) (pure (raw_binary o.0 o.1 left right))
+    links_of part (length ts) (more_linked (first_link o.0 q.0 left right) q.1 e) >>= λ l. pure (chain_from o.0 l))
+    (pure (raw_binary o.0 o.1 left right)) ts
 
 -- one comparison at most, in edition 3 or a chain of them; or the number read divides what follows
 unfoldable pub compared_of : Edition → Parts → ℕ → RawTree → Reader RawTree

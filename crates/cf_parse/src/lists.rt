@@ -2,8 +2,8 @@
 ghost use Rattle.std.specs.Prelude.{◌≡◌, [], codes, length, Ok};
 ghost use Rattle.cf_lex.specs.declared.token.TokenKind.TheVariants.{Sign};
 ghost use Rattle.cf_reader.specs.Answers.{ReadAnswer};
-ghost use Rattle.cf_reader.specs.Readers.{must, a_name, snoc, others_of, several_of, listed_of, while_of};
-ghost use Rattle.cf_parse.specs.Reading.{named, param_of, params_of, outputs_of, names_of};
+ghost use Rattle.cf_reader.specs.Readers.{must, a_name, snoc, others_of, several_of};
+ghost use Rattle.cf_parse.specs.Reading.{named, param_of, params_of, hidden_of, more_outputs as outputs_from, outputs_of, names_of};
 
 use crate::words::after_sign_of_three;
 use cf_lex::Token;
@@ -73,7 +73,7 @@ fn more_params(
 }
 
 /// The outputs of a `choose` and the hidden ones, up to the closing parenthesis.
-#[tactic(auto, unfolding(cf_reader::specs::Readers::first, cf_reader::specs::Readers::bind, cf_reader::specs::Readers::pure, crate::specs::Reading::outputs_of))]
+#[tactic(auto, unfolding(cf_reader::specs::Readers::bind, crate::specs::Reading::outputs_of))]
 pub fn read_outputs(
     alloc: Global,
     edition: Edition,
@@ -81,41 +81,19 @@ pub fn read_outputs(
 ) -> Result<((Vec<Param>, Vec<Param>), &[Token]), ReadStop>
     ensures { ReadAnswer (λ x. ((x.0.0.items, x.0.1.items), x.1.now)) result (outputs_of edition tokens.now) }
 {
-    let (outputs, rest) = listed_params(alloc, edition, tokens)?;
-    match after_sign_of_three(edition, ";", rest) {
-        Some((_, rest)) => {
-            let (hidden, rest) = params(alloc, edition, rest)?;
-            Ok(((outputs, hidden), rest))
-        }
-        None => {
-            let (_, rest) = expect_sign(")", rest)?;
-            Ok(((outputs, Vec::new(alloc)), rest))
-        }
-    }
-}
-
-// One parameter or more, as long as a comma stands behind one.
-#[tactic(auto, unfolding(cf_reader::specs::Readers::bind, cf_reader::specs::Readers::listed_of))]
-fn listed_params(
-    alloc: Global,
-    edition: Edition,
-    tokens: &[Token],
-) -> Result<(Vec<Param>, &[Token]), ReadStop>
-    ensures { ReadAnswer (λ x. (x.0.items, x.1.now)) result (listed_of snoc (param_of edition) (Sign (codes ",")) [] tokens.now) }
-{
     let (first, rest) = param(alloc, edition, tokens)?;
     let mut all = Vec::new(alloc);
     all.push(first)?;
-    while_params(alloc, edition, all, rest)
+    more_outputs(alloc, edition, all, rest)
 }
 
-fn while_params(
+fn more_outputs(
     alloc: Global,
     edition: Edition,
     first: Vec<Param>,
     tokens: &[Token],
-) -> Result<(Vec<Param>, &[Token]), ReadStop>
-    ensures { ReadAnswer (λ x. (x.0.items, x.1.now)) result (while_of snoc (param_of edition) (Sign (codes ",")) (length tokens.now) first.items tokens.now) }
+) -> Result<((Vec<Param>, Vec<Param>), &[Token]), ReadStop>
+    ensures { ReadAnswer (λ x. ((x.0.0.items, x.0.1.items), x.1.now)) result (outputs_from edition (length tokens.now) first.items tokens.now) }
 {
     let mut done = first;
     let mut rest = tokens;
@@ -126,10 +104,33 @@ fn while_params(
                 done.push(x)?;
                 rest = behind;
             }
-            None => return Ok((done, rest)),
+            None => return hidden(alloc, edition, done, rest),
         }
     }
-    Ok((done, rest))
+    // for the proof: the loop ends before
+    Err(ReadStop::TokensLeft(0))
+}
+
+// Behind the outputs: the hidden ones, if there are some, up to the closing parenthesis.
+#[tactic(auto, unfolding(cf_reader::specs::Readers::first, cf_reader::specs::Readers::bind, cf_reader::specs::Readers::pure, crate::specs::Reading::hidden_of))]
+fn hidden(
+    alloc: Global,
+    edition: Edition,
+    outputs: Vec<Param>,
+    tokens: &[Token],
+) -> Result<((Vec<Param>, Vec<Param>), &[Token]), ReadStop>
+    ensures { ReadAnswer (λ x. ((x.0.0.items, x.0.1.items), x.1.now)) result (hidden_of edition outputs.items tokens.now) }
+{
+    match after_sign_of_three(edition, ";", tokens) {
+        Some((_, rest)) => {
+            let (hidden, rest) = params(alloc, edition, rest)?;
+            Ok(((outputs, hidden), rest))
+        }
+        None => {
+            let (_, rest) = expect_sign(")", tokens)?;
+            Ok(((outputs, Vec::new(alloc)), rest))
+        }
+    }
 }
 
 /// Parameters, if any, up to the closing parenthesis.

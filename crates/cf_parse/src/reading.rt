@@ -6,7 +6,7 @@ ghost use Rattle.cf_tree.specs.RawView.{raw_tree, raw_arm_tree, given_tree, aim_
 ghost use Rattle.cf_parse.specs.LinksView.{links_tree};
 ghost use Rattle.cf_reader.specs.Answers.{ReadAnswer};
 ghost use Rattle.cf_reader.specs.Readers.{snoc, others_of, several_of};
-ghost use Rattle.cf_parse.specs.Reading.{chain_of, list_of, items_of, one_of, divided_of, two_or_more_of, operation_of, named_of, word_of, atom_of, unary_of, muls_of, sums_of, all_links, linked_of, compared_of, cmps_of, ands_of, ors_of, imps_of, given_of, aim_of, let_of, if_of, choose_of, arm_of, match_of, whole_of, read as read_at};
+ghost use Rattle.cf_parse.specs.Reading.{chain_of, list_of, items_of, one_of, divided_of, two_or_more_of, operation_of, named_of, word_of, atom_of, unary_of, muls_of, sums_of, links_of, linked_of, compared_of, cmps_of, ands_of, ors_of, imps_of, given_of, aim_of, let_of, if_of, choose_of, arm_of, match_of, whole_of, read as read_at};
 
 use crate::lists::{read_names, read_outputs};
 use crate::measured::{
@@ -480,7 +480,7 @@ fn linked(
     let links = node::linked(alloc, place, order, left, right)?;
     let (e, rest) = tree_at(alloc, edition, Tier::Sums, n, rest)?;
     let links = node::more_linked(links, link, e)?;
-    let (links, rest) = more_links(alloc, edition, n, links, rest)?;
+    let (links, rest) = more_links(alloc, edition, n, tokens.len(), links, rest)?;
     let parts = links.parts;
     let node = RawNode::Chain {
         orders: links.orders,
@@ -490,24 +490,24 @@ fn linked(
     Ok((node::tree(place, node, parts.depth), rest))
 }
 
-// More links of a chain, behind those read before.
+// More links of a chain, behind those read before: fewer than `most`, the number of tokens that were left before the last one.
 #[cycle(reading)]
-#[tactic(auto, unfolding(crate::specs::Reading::all_links))]
 fn more_links(
     alloc: Global,
     edition: Edition,
     n: u32,
+    most: usize,
     first: Links,
     tokens: &[Token],
 ) -> Result<(Links, &[Token]), ReadStop>
     requires small { n < 2 ^ 30 }
     requires first_in { first.parts.depth ≤ n }
-    ensures value { ReadAnswer (λ x. (links_tree x.0, x.1.now)) result (all_links (read_at edition n) (links_tree first) tokens.now) }
+    ensures value { ReadAnswer (λ x. (links_tree x.0, x.1.now)) result (links_of (read_at edition n) most (links_tree first) tokens.now) }
     ensures deep { IfOk result (λ x. x.0.parts.depth ≤ n) }
 {
     let mut done = first;
     let mut rest = tokens;
-    for _ in 0..tokens.len() {
+    for _ in 0..most {
         match next_order(&done.orders, rest) {
             None => return Ok((done, rest)),
             Some((link, behind)) => {
@@ -517,7 +517,8 @@ fn more_links(
             }
         }
     }
-    Ok((done, rest))
+    // for the proof: the loop ends before
+    Err(ReadStop::TokensLeft(0))
 }
 
 // Joined by `+`, `-`, `union` or `diff`.
