@@ -16,11 +16,12 @@ use Rattle.cf_tree.specs.declared.raw.BinOp.{BinOp}
 use Rattle.cf_tree.specs.declared.raw.BinOp.TheVariants.{Add, Sub, Mul, And, Or, Union, Inter, Diff, Subset, Implies, Compare}
 use Rattle.cf_tree.specs.declared.raw.Param.{Param}
 use Rattle.cf_tree.specs.RawTree.{NumberTree, number_lit, number_name, PartTree, RawTree, raw_lit, raw_truth, raw_name, raw_set_of, raw_group, raw_tuple, raw_neg, raw_not, raw_abs, raw_binary, raw_chain, raw_min, raw_max, raw_divides, raw_div, raw_mod, raw_card, raw_call, raw_if, raw_let, raw_choose, raw_match, RawArmTree, raw_arm, GivenTree, no_given, given_that, AimTree, no_aim, aim_at, raws_of, raw_arms_of, raw_depth, raws_depth, raw_arm_depth, raw_arms_depth, given_depth, aim_depth}
-use Rattle.cf_reader.specs.Readers.{Reader, is, a_name, at, must, bind, first, several_of, snoc}
-use Rattle.cf_reader.specs.Tokens.{Form, ◌⨟◌, IsThree, If, First, Next, FirstName, FirstLiteral, Others, Several}
+use Rattle.cf_reader.specs.Readers.{Reader, before, is, a_name, at, must, bind, first, several_of, snoc}
+use Rattle.cf_reader.specs.Tokens.{Form, ◌⨟◌, IsThree, If, First, Next, FirstName, FirstFunction, FirstLiteral, Others, Several}
 use Rattle.cf_reader.specs.Kinds.{order_kind}
 use Rattle.cf_reader.proofs.KindLaws.{took_base, took_truth}
-use Rattle.cf_reader.proofs.Yields.{Yields, faults, Took, pure_yields, widen, bind_yields, must_yields, first_yields, deep_yields, added, all_added, if_some, if_else_some, same_token, took_is, took_next, took_name, in_order, took_literal, several_yields, same_text, one_or_tuple_yields}
+use Rattle.cf_reader.proofs.Yields.{Yields, faults, Took, pure_yields, widen, bind_yields, must_yields, first_yields, deep_yields, added, added_snoc, all_added, if_some, if_else_some, same_token, took_is, took_next, took_name, in_order, took_literal, several_yields, same_text, one_or_tuple_yields}
+use Rattle.cf_reader.proofs.Exact.{first_is, first_not}
 use Rattle.cf_reader.specs.Operations.{op_kind, op_of}
 use Rattle.cf_reader.proofs.OperationLaws.{op_on}
 use Rattle.cf_parse.specs.declared.sign.TermSign.{TermSign}
@@ -31,7 +32,7 @@ use Rattle.cf_parse.specs.declared.words.NamedOp.{NamedOp}
 use Rattle.cf_parse.specs.declared.words.NamedOp.TheVariants.{Card, Abs, Div, Mod, Min, Max}
 use Rattle.cf_parse.specs.Spelling.{rank, under, op_tier, left_tier, right_tier, relation_tier, Fits, runs_one_way, takes_aim, SpellsParam, SpellsOutputs, SpellsName, SpellsNames, FirstNumber, NextNumber, FirstOp, plus_or_minus, is_minus, signed, SpellsProduct, SpellsPart, SpellsSignedPart, SpellsConstant, SpellsTerms, SpellsPattern, IsChain, sense_kind, Spells, SpellsItems, SpellsOthers, SpellsTwoOrMore, SpellsLinks, SpellsGiven, SpellsAim, SpellsArm, SpellsArms}
 use Rattle.cf_parse.specs.Reading.{in_three, a_sign, op_at, next_op, order_of, order_at, comparing, next_order, behind_order, goes_on, second_order, lone_number, is_divisor, divisor_of, divides_by, number_of, param_of, hidden_of, more_outputs, outputs_of, Names, named, names_of, TermTree, a_part, the_constant, begins, part_from, named_term, term_of, Pattern, by_term, terms_of, all_terms, pattern_of, Parts, chain_of, list_of, items_of, grouped, one_of, divided_of, two_or_more_of, op_of_name, operation_of, behind_name, named_of, word_of, atom_of, unary_of, muls_of, sums_of, Links, more_linked, links_of, first_link, chain_from, linked_of, compared_of, cmps_of, ands_of, ors_of, implied_of, imps_of, let_of, if_of, given_of, a_sense, aim_of, choose_of, arm_of, match_of, whole_of, step, read}
-use Rattle.cf_parse.proofs.Ops.{took_three, op_found, op_word, Has, name_found, took_reserved}
+use Rattle.cf_parse.proofs.Ops.{took_three, op_found, op_word, Has, name_found, took_reserved, function_name}
 
 -- the tests of the grammar's words and signs
 
@@ -441,3 +442,603 @@ pattern_yields edition ts =
     (widen (λ y us w. plus_found edition y.0 y.1 ts us (subst (λ z. SpellsTermsFrom edition None Plus z y.1 ts us) (sym w.all) w.spelled))
     (terms_yields edition (length ts) None Plus [] ts))
 
+-- expressions
+
+-- goes on by the first token, or knows that it does not pass
+before_on : {A : Type 0} (ts : List Token) (o : Option A) (x : A) (us : List Token) → before ts o ≡ Some (x, us) → (ts ≡ us) × (o ≡ Some x)
+before_on ts None x us e = cc
+before_on {A = A} ts (Some y) x us e = let h : ◌≡◌ {A = A × List Token} (y, ts) (x, us) = cc in (ap (λ z. z.1) h, ap (λ z. Some z.0) h)
+
+at_took : {A : Type 0} (f : Token → Option A) (ts : List Token) (x : A) (us : List Token) → at f ts ≡ Some (x, us) → Took f ts x us
+unfolding at
+at_took f [] x us e = cc
+at_took f (t ∷ ts) x us e = let h = before_on ts (f t) x us e in (t, ap (λ (z : List Token). t ∷ z) h.0, h.1)
+
+first_or : {A B : Type 0} {Q : B → List Token → Type 0} (f : Token → Option A) (g : A → Reader B) (r : Reader B) (ts : List Token) (o : Option (A × List Token)) →
+    at f ts ≡ o → ((x : A) (us : List Token) → at f ts ≡ Some (x, us) → Yields Q (g x us)) → (at f ts ≡ None → Yields Q (r ts)) → Yields Q (first f g r ts)
+first_or {Q = Q} f g r ts None e h i = subst (λ z. Yields Q z) (sym (first_not f g r ts e refl)) (i e)
+first_or {Q = Q} f g r ts (Some a) e h i = subst (λ z. Yields Q z) (sym (first_is f g r ts e refl)) (h a.0 a.1 e)
+
+-- an aim behind the tree would be its own
+abbrev pub Unaimed : Edition → RawTree → List Token → Type 0
+Unaimed edition t us = takes_aim t ≡ true → at (in_three edition a_sense) us ≡ None
+
+-- a tree of depth at most n at a tier, spelled by the tokens up to the rest
+pub record Found (edition : Edition) (n : ℕ) (tier : Tier) (ts : List Token) (t : RawTree) (us : List Token) : Type 0 where
+  pub fits : Fits tier t
+  pub deep : raw_depth t ≤ n
+  pub spelled : Spells edition t ts us
+  pub unaimed : Unaimed edition t us
+
+-- what parts of depth at most n are read
+unfoldable pub Finds : Edition → Parts → ℕ → Type 0
+Finds edition part n = (tier : Tier) (ts : List Token) → Yields (Found edition n tier ts) (part tier ts)
+
+others_spelled : (edition : Edition) (n : ℕ) (close : TokenKind) (es : List RawTree) (ts us : List Token) →
+    Others (λ t ts us. Found edition n Whole ts t us) (Sign (codes ",")) close es ts us →
+    (raws_depth (raws_of es) ≤ n) × SpellsOthers edition (raws_of es) close ts us
+others_spelled edition n close [] ts us w = (omega arith, w)
+others_spelled edition n close (e ∷ es) ts us (a, c, (b, f, o)) =
+    let h = others_spelled edition n close es b us o in (omega (arith, f.deep, h.0), (a, c, (b, f.spelled, h.1)))
+
+-- expr { "," expr } close
+pub record ListFound (edition : Edition) (n : ℕ) (close : TokenKind) (ts : List Token) (es : List RawTree) (us : List Token) : Type 0 where
+  pub head : RawTree
+  pub others : List RawTree
+  pub mid : List Token
+  pub all : es ≡ head ∷ others
+  pub deep : raw_depth head ≤ n
+  pub deep_others : raws_depth (raws_of others) ≤ n
+  pub spelled : Spells edition head ts mid
+  pub more : SpellsOthers edition (raws_of others) close mid us
+
+several_found : (edition : Edition) (n : ℕ) (close : TokenKind) (ts us : List Token) (y new : List RawTree) → y ≡ new →
+    Several (λ t ts us. Found edition n Whole ts t us) (Sign (codes ",")) close new ts us → ListFound edition n close ts y us
+several_found edition n close ts us y [] e w = absurd w
+several_found edition n close ts us y (t ∷ new) e (a, f, o) =
+    let h = others_spelled edition n close new a us o in
+    record { head = t; others = new; mid = a; all = e; deep = f.deep; deep_others = h.0; spelled = f.spelled; more = h.1 }
+
+list_yields : (edition : Edition) (part : Parts) (n : ℕ) → Finds edition part n → (close : TokenKind) (ts : List Token) →
+    Yields (ListFound edition n close ts) (list_of part close ts)
+unfolding list_of Finds
+list_yields edition part n h close ts =
+    widen (λ y us w. several_found edition n close ts us y w.0 (w.1 ∙ all_added w.0) w.2)
+    (several_yields snoc (part Whole) (λ t ts us. Found edition n Whole ts t us) (Sign (codes ",")) close (λ ts. h Whole ts) [] ts)
+
+-- [ expr { "," expr } ] close
+abbrev ItemsFound : Edition → ℕ → TokenKind → List Token → List RawTree → List Token → Type 0
+ItemsFound edition n close ts es us = (raws_depth (raws_of es) ≤ n) × SpellsItems edition (raws_of es) close ts us
+
+list_items : (edition : Edition) (n : ℕ) (close : TokenKind) (ts us : List Token) (es : List RawTree) → ListFound edition n close ts es us →
+    ItemsFound edition n close ts es us
+list_items edition n close ts us es w =
+    subst (λ z. ItemsFound edition n close ts z us) (sym w.all) (omega (arith, w.deep, w.deep_others), (w.mid, w.spelled, w.more))
+
+items_yields : (edition : Edition) (part : Parts) (n : ℕ) → Finds edition part n → (close : TokenKind) (ts : List Token) →
+    Yields (λ es us. ItemsFound edition n close ts es us) (items_of part close ts)
+unfolding items_of
+items_yields edition part n h close ts =
+    first_yields _ _ _ ts (λ p a c. pure_yields [] a (omega arith, took_next close ts a p c))
+    (widen (λ es us w. list_items edition n close ts us es w) (list_yields edition part n h close ts))
+
+-- trees in parentheses, by how many they are
+group_found : (edition : Edition) (n : ℕ) (p : Place) (ts b mid : List Token) (e : RawTree) (others : List RawTree) (us : List Token) →
+    First p (Sign (codes "(")) ts b → raw_depth e ≤ n → raws_depth (raws_of others) ≤ n →
+    Spells edition e b mid → SpellsOthers edition (raws_of others) (Sign (codes ")")) mid us → Found edition (suc n) Unary ts (grouped p (e ∷ others)) us
+group_found edition n p ts b mid e [] us w d ds s more =
+    record { fits = omega arith; deep = omega (arith, d); spelled = (b, w, (mid, s, more)); unaimed = λ e. cc }
+group_found edition n p ts b mid e (f ∷ fs) us w d ds s more =
+    record { fits = omega arith; deep = omega (arith, d, ds); spelled = (b, w, (mid, s, more)); unaimed = λ e. cc }
+
+grouped_found : (edition : Edition) (n : ℕ) (p : Place) (ts a : List Token) (es : List RawTree) (us : List Token) → First p (Sign (codes "(")) ts a →
+    ListFound edition n (Sign (codes ")")) a es us → Found edition (suc n) Unary ts (grouped p es) us
+grouped_found edition n p ts a es us w l =
+    subst (λ z. Found edition (suc n) Unary ts (grouped p z) us) (sym l.all)
+    (group_found edition n p ts a l.mid l.head l.others us w l.deep l.deep_others l.spelled l.more)
+
+-- expr ")"
+abbrev OneFound : Edition → ℕ → List Token → RawTree → List Token → Type 0
+OneFound edition n ts e us = (b : List Token) × Spells edition e ts b × Next (Sign (codes ")")) b us × (raw_depth e ≤ n)
+
+one_yields : (edition : Edition) (part : Parts) (n : ℕ) → Finds edition part n → (ts : List Token) → Yields (λ e us. OneFound edition n ts e us) (one_of part ts)
+unfolding one_of Finds
+one_yields edition part n h ts =
+    bind_yields _ _ ts (h Whole ts) (λ e b f. bind_yields _ _ b (must_yields _ b) (λ q us c. pure_yields e us (b, f.spelled, took_next _ b us q c, f.deep)))
+
+-- expr "," k ")"
+abbrev DividedFound : Edition → ℕ → List Token → RawTree × NumberTree → List Token → Type 0
+DividedFound edition n ts e us =
+    (b c d : List Token) × Spells edition e.0 ts b × Next (Sign (codes ",")) b c × NextNumber edition e.1 c d × Next (Sign (codes ")")) d us × (raw_depth e.0 ≤ n)
+
+divided_yields : (edition : Edition) (part : Parts) (n : ℕ) → Finds edition part n → (ts : List Token) →
+    Yields (λ e us. DividedFound edition n ts e us) (divided_of edition part ts)
+unfolding divided_of Finds
+divided_yields edition part n h ts =
+    bind_yields _ _ ts (h Whole ts) (λ e b f. bind_yields _ _ b (must_yields _ b) (λ q c m. bind_yields _ _ c (number_yields edition c) (λ k d l.
+    bind_yields _ _ d (must_yields _ d) (λ r us s. pure_yields (e, k) us (b, c, d, f.spelled, took_next _ b c q m, l, took_next _ d us r s, f.deep)))))
+
+-- expr "," expr { "," expr } ")"
+abbrev TwoFound : Edition → ℕ → List Token → List RawTree → List Token → Type 0
+TwoFound edition n ts es us = (raws_depth (raws_of es) ≤ n) × SpellsTwoOrMore edition (raws_of es) ts us
+
+two_found : (edition : Edition) (n : ℕ) (ts a b us : List Token) (e : RawTree) (new : List RawTree) → Found edition n Whole ts e a → Next (Sign (codes ",")) a b →
+    Several (λ t ts us. Found edition n Whole ts t us) (Sign (codes ",")) (Sign (codes ")")) new b us → TwoFound edition n ts (e ∷ new) us
+two_found edition n ts a b us e [] f c w = absurd w
+two_found edition n ts a b us e (g ∷ new) f c (d, i, o) =
+    let h = others_spelled edition n (Sign (codes ")")) new d us o in (omega (arith, f.deep, i.deep, h.0), (a, f.spelled, (b, c, (d, i.spelled, h.1))))
+
+two_or_more_yields : (edition : Edition) (part : Parts) (n : ℕ) → Finds edition part n → (ts : List Token) →
+    Yields (λ es us. TwoFound edition n ts es us) (two_or_more_of part ts)
+unfolding two_or_more_of Finds
+two_or_more_yields edition part n h ts =
+    bind_yields _ _ ts (h Whole ts) (λ e a f. bind_yields _ _ a (must_yields _ a) (λ p b c. widen
+    (λ y us w. subst (λ z. TwoFound edition n ts z us) (sym (w.1 ∙ added_snoc (e ∷ []) w.0)) (two_found edition n ts a b us e w.0 f (took_next _ a b p c) w.2))
+    (several_yields snoc (part Whole) (λ t ts us. Found edition n Whole ts t us) (Sign (codes ",")) (Sign (codes ")")) (λ ts. h Whole ts) (e ∷ []) b)))
+
+-- the word of an operation and its parenthesis
+operation_yields : (edition : Edition) (part : Parts) (n : ℕ) → Finds edition part n → (p : Place) (op : NamedOp) → Has edition op → (start a ts : List Token) →
+    First p (Word (op_word op)) start a → Next (Sign (codes "(")) a ts → Yields (Found edition (suc n) Unary start) (operation_of edition part p op ts)
+unfolding operation_of
+operation_yields edition part n h p Card has start a ts w o = bind_yields _ _ ts (one_yields edition part n h ts) (λ e us f. pure_yields _ us (record {
+  fits = omega arith;
+  deep = omega (arith, f.3);
+  spelled = (a, w, (ts, o, (f.0, f.1, f.2)));
+  unaimed = λ e. cc;
+}))
+operation_yields edition part n h p Abs has start a ts w o = bind_yields _ _ ts (one_yields edition part n h ts) (λ e us f. pure_yields _ us (record {
+  fits = omega arith;
+  deep = omega (arith, f.3);
+  spelled = (a, w, (ts, o, (f.0, f.1, f.2)));
+  unaimed = λ e. cc;
+}))
+operation_yields edition part n h p Div has start a ts w o = bind_yields _ _ ts (divided_yields edition part n h ts) (λ e us f. pure_yields _ us (record {
+  fits = omega arith;
+  deep = omega (arith, f.7);
+  spelled = (a, w, (ts, o, (f.0, f.3, (f.1, f.4, (f.2, f.5, f.6)))));
+  unaimed = λ e. cc;
+}))
+operation_yields edition part n h p Mod has start a ts w o = bind_yields _ _ ts (divided_yields edition part n h ts) (λ e us f. pure_yields _ us (record {
+  fits = omega arith;
+  deep = omega (arith, f.7);
+  spelled = (a, w, (ts, o, (f.0, f.3, (f.1, f.4, (f.2, f.5, f.6)))));
+  unaimed = λ e. cc;
+}))
+operation_yields edition part n h p Min has start a ts w o = bind_yields _ _ ts (two_or_more_yields edition part n h ts) (λ es us f. pure_yields _ us (record {
+  fits = omega arith;
+  deep = omega (arith, f.0);
+  spelled = (has, (a, w, (ts, o, f.1)));
+  unaimed = λ e. cc;
+}))
+operation_yields edition part n h p Max has start a ts w o = bind_yields _ _ ts (two_or_more_yields edition part n h ts) (λ es us f. pure_yields _ us (record {
+  fits = omega arith;
+  deep = omega (arith, f.0);
+  spelled = (has, (a, w, (ts, o, f.1)));
+  unaimed = λ e. cc;
+}))
+
+called : (edition : Edition) (x : Place × List ℕ) (ts a : List Token) → op_of_name edition x.1 ≡ None → FirstName edition x.0 x.1 ts a →
+    FirstFunction edition x.0 x.1 ts a
+called edition x ts a e w = (w.0, function_name edition x.1 e w.1)
+
+behind_name_yields : (edition : Edition) (part : Parts) (n : ℕ) → Finds edition part n → (x : Place × List ℕ) (o : Option NamedOp) → op_of_name edition x.1 ≡ o →
+    (ts a : List Token) → FirstName edition x.0 x.1 ts a → Yields (Found edition (suc n) Unary ts) (behind_name edition part n x o a)
+unfolding behind_name
+behind_name_yields edition part n h x (Some op) e ts a w =
+    let f = name_found edition x.1 op e in
+    deep_yields _ _ _ _ a
+    (λ p b o. operation_yields edition part n h x.0 op f.1 ts a b (subst (λ z. First x.0 (Word z) ts a) f.0 w.0) (took_next _ a b p o))
+    (pure_yields _ a (record { fits = omega arith; deep = omega arith; spelled = w; unaimed = λ e. cc }))
+behind_name_yields edition part n h x None e ts a w =
+    first_yields _ _ _ a
+    (λ p b o. bind_yields _ _ b (items_yields edition part n h (Sign (codes ")")) b) (λ es us i. pure_yields _ us (record {
+      fits = omega arith;
+      deep = omega (arith, i.0);
+      spelled = (a, called edition x ts a e w, (b, took_next _ a b p o, i.1));
+      unaimed = λ e. cc;
+    })))
+    (pure_yields _ a (record { fits = omega arith; deep = omega arith; spelled = w; unaimed = λ e. cc }))
+
+named_yields : (edition : Edition) (part : Parts) (n : ℕ) → Finds edition part n → (ts : List Token) →
+    Yields (Found edition (suc n) Unary ts) (named_of edition part n ts)
+unfolding named_of
+named_yields edition part n h ts =
+    bind_yields _ _ ts (must_yields _ ts) (λ x a w. behind_name_yields edition part n h x (op_of_name edition x.1) refl ts a (took_name edition ts a x w))
+
+word_yields : (edition : Edition) (part : Parts) (n : ℕ) → Finds edition part n → (ts : List Token) → Yields (Found edition (suc n) Unary ts) (word_of edition part n ts)
+unfolding word_of
+word_yields edition part n h ts =
+    first_yields _ _ _ ts (λ t a w. pure_yields _ a (record { fits = omega arith; deep = omega arith; spelled = took_truth ts a t w; unaimed = λ e. cc }))
+    (deep_yields _ _ _ _ ts (λ o a w. let f = took_reserved edition ts a o w in bind_yields _ _ a (must_yields _ a)
+    (λ q b v. operation_yields edition part n h o.0 o.1 f.1 ts a b f.0 (took_next _ a b q v)))
+    (named_yields edition part n h ts))
+
+atom_yields : (edition : Edition) (part : Parts) (n : ℕ) → Finds edition part n → (ts : List Token) → Yields (Found edition (suc n) Unary ts) (atom_of edition part n ts)
+unfolding atom_of
+atom_yields edition part n h ts =
+    first_yields _ _ _ ts
+    (λ k a w. pure_yields _ a (record { fits = omega arith; deep = omega arith; spelled = took_literal (pos 0) ts a k w; unaimed = λ e. cc }))
+    (deep_yields _ _ _ _ ts (λ p a w. bind_yields _ _ a (list_yields edition part n h (Sign (codes ")")) a)
+    (λ es us l. pure_yields _ us (grouped_found edition n p ts a es us (took_is _ ts a p w) l)))
+    (first_yields _ _ _ ts (λ p a w. bind_yields _ _ a (items_yields edition part n h (Sign (codes "}")) a) (λ es us i.
+    pure_yields _ us (record { fits = omega arith; deep = omega (arith, i.0); spelled = (a, took_is _ ts a p w, i.1); unaimed = λ e. cc })))
+    (word_yields edition part n h ts)))
+
+unary_yields : (edition : Edition) (part : Parts) (n : ℕ) → Finds edition part n → (ts : List Token) →
+    Yields (Found edition (suc n) Unary ts) (unary_of edition part n ts)
+unfolding unary_of Finds
+unary_yields edition part n h ts =
+    deep_yields _ _ _ _ ts (λ p a w. bind_yields _ _ a (h Unary a) (λ e us f. pure_yields _ us
+    (record { fits = omega arith; deep = omega (arith, f.deep); spelled = (a, took_is _ ts a p w, (f.fits, f.spelled)); unaimed = λ e. cc })))
+    (deep_yields _ _ _ _ ts (λ p a w. bind_yields _ _ a (h Unary a) (λ e us f. pure_yields _ us
+    (record { fits = omega arith; deep = omega (arith, f.deep); spelled = (a, took_is _ ts a p w, (f.fits, f.spelled)); unaimed = λ e. cc })))
+    (atom_yields edition part n h ts))
+
+made_op : (edition : Edition) (n : ℕ) (tier : Tier) (left : RawTree) (start ts : List Token) (o : Place × BinOp) (b : List Token) (right : RawTree)
+    (us : List Token) →
+    Fits (left_tier tier) left → Spells edition left start ts → OpFound edition tier n (raw_depth left) ts o b → Found edition n (right_tier tier) b right us →
+    Found edition (suc n) tier start (raw_binary o.0 o.1 left right) us
+made_op edition n tier left start ts o b right us fit spelled op found = record {
+  fits = let e : rank (op_tier o.1) ≡ rank tier = ap rank op.at_tier in omega (arith, e);
+  deep = omega (arith, op.small, found.deep);
+  spelled = (
+    ts,
+    (subst (λ l. Fits (left_tier l) left) (sym op.at_tier) fit, spelled),
+    (b, op.stands, (subst (λ l. Fits (right_tier l) right) (sym op.at_tier) found.fits, found.spelled)),
+  );
+  unaimed = λ e. cc;
+}
+
+chain_yields : (edition : Edition) (part : Parts) (n : ℕ) → Finds edition part n → (tier : Tier) → left_tier tier ≡ tier → right_tier tier ≡ under tier → (k : ℕ)
+    (left : RawTree) (start ts : List Token) →
+    Found edition (suc n) tier start left ts → Yields (Found edition (suc n) tier start) (chain_of edition part tier n k left ts)
+unfolding chain_of Finds
+chain_yields edition part n h tier i j zero left start ts w = pure_yields left ts w
+chain_yields edition part n h tier i j (suc k) left start ts w =
+    first_yields _ _ _ ts
+    (λ o b t. bind_yields _ _ b (h (under tier) b) (λ right us f. chain_yields edition part n h tier i j k (raw_binary o.0 o.1 left right) start us
+    (made_op edition n tier left start ts o b right us (subst (λ l. Fits l left) (sym i) w.fits) w.spelled (took_op edition tier n (raw_depth left) ts b o t)
+    (subst (λ l. Found edition n l b right us) (sym j) f))))
+    (pure_yields left ts w)
+
+out : (edition : Edition) (n : ℕ) (inner outer : Tier) (ts : List Token) (t : RawTree) (us : List Token) → rank outer ≤ rank inner →
+    Found edition n inner ts t us → Found edition n outer ts t us
+out edition n inner outer ts t us h found =
+    record { fits = omega (arith, h, found.fits); deep = found.deep; spelled = found.spelled; unaimed = found.unaimed }
+
+chained : (edition : Edition) (part : Parts) (n : ℕ) → Finds edition part n → (inner tier : Tier) → left_tier tier ≡ tier → right_tier tier ≡ under tier →
+    (first : Reader RawTree) (ts : List Token) → rank tier ≤ rank inner →
+    Yields (Found edition (suc n) inner ts) (first ts) → Yields (Found edition (suc n) tier ts) (bind first (λ e. chain_of edition part tier n n e) ts)
+chained edition part n h inner tier i j first ts e w =
+    bind_yields _ _ ts w (λ left us f. chain_yields edition part n h tier i j n left ts us (out edition (suc n) inner tier ts left us e f))
+
+muls_yields : (edition : Edition) (part : Parts) (n : ℕ) → Finds edition part n → (ts : List Token) → Yields (Found edition (suc n) Muls ts) (muls_of edition part n ts)
+unfolding muls_of
+muls_yields edition part n h ts = chained edition part n h Unary Muls refl refl (unary_of edition part n) ts (omega arith) (unary_yields edition part n h ts)
+
+sums_yields : (edition : Edition) (part : Parts) (n : ℕ) → Finds edition part n → (ts : List Token) → Yields (Found edition (suc n) Sums ts) (sums_of edition part n ts)
+unfolding sums_of
+sums_yields edition part n h ts = chained edition part n h Muls Sums refl refl (muls_of edition part n) ts (omega arith) (muls_yields edition part n h ts)
+
+-- links behind those read before
+record LinksFound (edition : Edition) (n : ℕ) (done : Links) (ts : List Token) (l : Links) (us : List Token) : Type 0 where
+  orders : List Order
+  places : List Place
+  parts : List RawTree
+  all_orders : l.orders ≡ done.orders ++ orders
+  all_places : l.places ≡ done.places ++ places
+  all_parts : l.parts ≡ done.parts ++ parts
+  deep : raws_depth (raws_of parts) ≤ n
+  spelled : SpellsLinks edition (raws_of parts) orders places ts us
+  one_way : runs_one_way done.orders ≡ true → runs_one_way l.orders ≡ true
+
+next_link : (edition : Edition) (n : ℕ) (done : Links) (ts a b us : List Token) (o : Place × Order) (e : RawTree) (l : Links) → OrderFound done.orders ts o a →
+    Found edition n Sums a e b → LinksFound edition n (more_linked done o e) b l us → LinksFound edition n done ts l us
+next_link edition n done ts a b us o e l found f more = record {
+  orders = o.1 ∷ more.orders;
+  places = o.0 ∷ more.places;
+  parts = e ∷ more.parts;
+  all_orders = more.all_orders ∙ append_assoc done.orders (o.1 ∷ []) more.orders;
+  all_places = more.all_places ∙ append_assoc done.places (o.0 ∷ []) more.places;
+  all_parts = more.all_parts ∙ append_assoc done.parts (e ∷ []) more.parts;
+  deep = omega (arith, f.deep, more.deep);
+  spelled = (a, found.stands, (b, (f.fits, f.spelled), more.spelled));
+  one_way = λ w. more.one_way found.one_way;
+}
+
+links_yields : (edition : Edition) (part : Parts) (n : ℕ) → Finds edition part n → (k : ℕ) (done : Links) (ts : List Token) →
+    Yields (LinksFound edition n done ts) (links_of part k done ts)
+unfolding links_of Finds
+links_yields edition part n h zero done ts = faults 0
+links_yields edition part n h (suc k) done ts =
+    first_yields _ _ _ ts
+    (λ o a w. bind_yields _ _ a (h Sums a)
+    (λ e b f. widen (λ l us more. next_link edition n done ts a b us o e l (order_on done.orders w.0 ts a o w.1 w.2) f more)
+    (links_yields edition part n h k (more_linked done o e) b)))
+    (pure_yields done ts (record {
+      orders = [];
+      places = [];
+      parts = [];
+      all_orders = sym (append-nil done.orders);
+      all_places = sym (append-nil done.places);
+      all_parts = sym (append-nil done.parts);
+      deep = omega arith;
+      spelled = refl;
+      one_way = λ w. w;
+    }))
+
+-- a chain of three parts and more
+chain_found : (edition : Edition) (n : ℕ) (p : Place) (left right e : RawTree) (first : Order) (q : Place × Order) (l : Links)
+    (start ts a b c d us : List Token) → IsThree edition → Found edition (suc n) Sums start left ts → raw_depth left ≤ n →
+    First p (order_kind first) ts a → Found edition n Sums a right b → OrderFound (first ∷ []) b q c → Found edition n Sums c e d →
+    LinksFound edition n (more_linked (first_link p first left right) q e) d l us → Found edition (suc n) Cmps start (chain_from p l) us
+chain_found edition n p left right e first q l start ts a b c d us three found small stands r next f more =
+    subst (λ z. Found edition (suc n) Cmps start (raw_chain p z l.places (raws_of l.parts)) us) (sym more.all_orders)
+    (subst (λ z. Found edition (suc n) Cmps start (raw_chain p (first ∷ q.1 ∷ more.orders) z (raws_of l.parts)) us) (sym more.all_places)
+    (subst (λ z. Found edition (suc n) Cmps start (raw_chain p (first ∷ q.1 ∷ more.orders) (p ∷ q.0 ∷ more.places) (raws_of z)) us) (sym more.all_parts)
+    (record {
+      fits = omega arith;
+      deep = omega (arith, small, r.deep, f.deep, more.deep);
+      spelled = (
+        (three, (refl, omega arith, subst (λ z. runs_one_way z ≡ true) more.all_orders (more.one_way next.one_way))),
+        (
+          ts,
+          (found.fits, found.spelled),
+          (a, stands, (b, (r.fits, r.spelled), (c, next.stands, (d, (f.fits, f.spelled), more.spelled)))),
+        ),
+      );
+      unaimed = λ e. cc;
+    })))
+
+linked_yields : (edition : Edition) (part : Parts) (n : ℕ) → Finds edition part n → (left : RawTree) (start ts : List Token) (o : Place × BinOp) (a : List Token)
+    (right : RawTree) (b : List Token) → Found edition (suc n) Sums start left ts → OpFound edition Cmps n (raw_depth left) ts o a → Found edition n Sums a right b →
+    Yields (Found edition (suc n) Cmps start) (linked_of edition part o left right b)
+unfolding linked_of Finds
+linked_yields edition part n h left start ts o a right b w op r =
+    first_yields _ _ _ b
+    (λ q c t. let s = took_second edition o.1 b c q t in bind_yields _ _ c (h Sums c) (λ e d f.
+    bind_yields _ _ d (links_yields edition part n h (length b) (more_linked (first_link o.0 q.0 left right) q.1 e) d) (λ l us more. pure_yields _ us
+    (chain_found edition n o.0 left right e q.0 q.1 l start ts a b c d us s.three w op.small
+    (subst (λ z. FirstOp z edition o.0 ts a) s.is op.stands) r s.next f more))))
+    (pure_yields _ b (made_op edition n Cmps left start ts o a right b w.fits w.spelled op r))
+
+divides_found : (edition : Edition) (n : ℕ) (left : RawTree) (start ts a : List Token) (k : Place × NumberTree) (e : RawTree) (us : List Token) →
+    Spells edition left start ts → DividesFound edition n left ts k a → Found edition n Sums a e us →
+    Found edition (suc n) Cmps start (raw_divides k.0 k.1 e) us
+divides_found edition n left start ts a k e us s d f = record {
+  fits = omega arith;
+  deep = omega (arith, f.deep);
+  spelled = (ts, d.alone start s, (a, d.stands, (f.fits, f.spelled)));
+  unaimed = λ e. cc;
+}
+
+compared_yields : (edition : Edition) (part : Parts) (n : ℕ) → Finds edition part n → (left : RawTree) (start ts : List Token) →
+    Found edition (suc n) Sums start left ts → Yields (Found edition (suc n) Cmps start) (compared_of edition part n left ts)
+unfolding compared_of Finds
+compared_yields edition part n h left start ts w =
+    first_yields _ _ _ ts (λ o b t. bind_yields _ _ b (h Sums b)
+    (λ right us f. linked_yields edition part n h left start ts o b right us w (took_op edition Cmps n (raw_depth left) ts b o t) f))
+    (first_yields _ _ _ ts (λ k a t. bind_yields _ _ a (h Sums a)
+    (λ e us f. pure_yields _ us (divides_found edition n left start ts a k e us w.spelled (took_divides edition n left ts a k t) f)))
+    (pure_yields left ts (out edition (suc n) Sums Cmps start left ts (omega arith) w)))
+
+cmps_yields : (edition : Edition) (part : Parts) (n : ℕ) → Finds edition part n → (ts : List Token) → Yields (Found edition (suc n) Cmps ts) (cmps_of edition part n ts)
+unfolding cmps_of
+cmps_yields edition part n h ts = bind_yields _ _ ts (sums_yields edition part n h ts) (λ left us f. compared_yields edition part n h left ts us f)
+
+ands_yields : (edition : Edition) (part : Parts) (n : ℕ) → Finds edition part n → (ts : List Token) → Yields (Found edition (suc n) Ands ts) (ands_of edition part n ts)
+unfolding ands_of
+ands_yields edition part n h ts = chained edition part n h Cmps Ands refl refl (cmps_of edition part n) ts (omega arith) (cmps_yields edition part n h ts)
+
+ors_yields : (edition : Edition) (part : Parts) (n : ℕ) → Finds edition part n → (ts : List Token) → Yields (Found edition (suc n) Ors ts) (ors_of edition part n ts)
+unfolding ors_of
+ors_yields edition part n h ts = chained edition part n h Ands Ors refl refl (ands_of edition part n) ts (omega arith) (ands_yields edition part n h ts)
+
+imps_yields : (edition : Edition) (part : Parts) (n : ℕ) → Finds edition part n → (ts : List Token) → Yields (Found edition (suc n) Imps ts) (imps_of edition part n ts)
+unfolding imps_of implied_of Finds
+imps_yields edition part n h ts = bind_yields _ _ ts (ors_yields edition part n h ts) (λ left a w.
+    first_yields _ _ _ a
+    (λ o b t. bind_yields _ _ b (h Imps b) (λ right us f. pure_yields _ us
+    (made_op edition n Imps left ts a o b right us w.fits w.spelled (took_op edition Imps n (raw_depth left) a b o t) f)))
+    (pure_yields left a (out edition (suc n) Ors Imps ts left a (omega arith) w)))
+
+let_yields : (edition : Edition) (part : Parts) (n : ℕ) → Finds edition part n → (p : Place) (start ts : List Token) → First p (Word (codes "let")) start ts →
+    Yields (Found edition (suc n) Whole start) (let_of edition part p ts)
+unfolding let_of Finds
+let_yields edition part n h p start ts w =
+    bind_yields _ _ ts (names_yields edition ts) (λ xs a x. bind_yields _ _ a (must_yields _ a)
+    (λ q b m. bind_yields _ _ b (h Whole b) (λ e c f. bind_yields _ _ c (must_yields _ c) (λ r d i.
+    bind_yields _ _ d (h Whole d) (λ g us k. pure_yields _ us (record {
+      fits = omega arith;
+      deep = omega (arith, f.deep, k.deep);
+      spelled = (ts, w, (a, x, (b, took_next _ a b q m, (c, f.spelled, (d, took_next _ c d r i, k.spelled)))));
+      unaimed = k.unaimed;
+    }))))))
+
+if_yields : (edition : Edition) (part : Parts) (n : ℕ) → Finds edition part n → (p : Place) (start ts : List Token) → First p (Word (codes "if")) start ts →
+    Yields (Found edition (suc n) Whole start) (if_of part p ts)
+unfolding if_of Finds
+if_yields edition part n h p start ts w =
+    bind_yields _ _ ts (h Whole ts) (λ e a f. bind_yields _ _ a (must_yields _ a)
+    (λ q b m. bind_yields _ _ b (h Whole b) (λ g c i. bind_yields _ _ c (must_yields _ c) (λ r d j.
+    bind_yields _ _ d (h Whole d) (λ k us l. pure_yields _ us (record {
+      fits = omega arith;
+      deep = omega (arith, f.deep, i.deep, l.deep);
+      spelled = (ts, w, (a, f.spelled, (b, took_next _ a b q m, (c, i.spelled, (d, took_next _ c d r j, l.spelled)))));
+      unaimed = l.unaimed;
+    }))))))
+
+-- what is given, if something is
+abbrev GivenFound : Edition → ℕ → List Token → GivenTree → List Token → Type 0
+GivenFound edition n ts no_given us = ts ≡ us
+GivenFound edition n ts (given_that p e) us =
+    IsThree edition × ((a : List Token) × First p (Word (codes "given")) ts a × Spells edition e a us) × (raw_depth e ≤ n)
+
+given_deep : (edition : Edition) (n : ℕ) (ts us : List Token) (given : GivenTree) → GivenFound edition n ts given us → given_depth given ≤ n
+given_deep edition n ts us no_given w = omega arith
+given_deep edition n ts us (given_that p e) w = w.2
+
+given_then : (edition : Edition) (n : ℕ) (X : Form) (ts us rest : List Token) (given : GivenTree) → GivenFound edition n ts given us → X us rest →
+    SpellsGiven edition given X ts rest
+given_then edition n X ts us rest no_given w x = subst (λ z. X z rest) (sym w) x
+given_then edition n X ts us rest (given_that p e) (i, (a, g, s), d) x = (i, (a, g, (us, s, x)))
+
+given_yields : (edition : Edition) (part : Parts) (n : ℕ) → Finds edition part n → (ts : List Token) →
+    Yields (λ given us. GivenFound edition n ts given us) (given_of edition part ts)
+unfolding given_of Finds
+given_yields edition part n h ts =
+    first_yields _ _ _ ts
+    (λ p a w. let t = took_three edition _ ts a p w in bind_yields _ _ a (h Whole a)
+    (λ e us f. pure_yields (given_that p e) us (t.0, (a, took_is _ ts a p t.1, f.spelled), f.deep)))
+    (pure_yields no_given ts refl)
+
+-- the aim of a choose with this relation, if it has one
+abbrev AimFound : Edition → ℕ → RawTree → List Token → AimTree → List Token → Type 0
+AimFound edition n rel ts no_aim us = (ts ≡ us) × (at (in_three edition a_sense) us ≡ None)
+AimFound edition n rel ts (aim_at p sense e) us =
+    (IsThree edition × (takes_aim rel ≡ false)) × ((a : List Token) × First p (sense_kind sense) ts a × Spells edition e a us) × (raw_depth e ≤ n)
+    × Unaimed edition e us
+
+aim_deep : (edition : Edition) (n : ℕ) (rel : RawTree) (ts us : List Token) (aim : AimTree) → AimFound edition n rel ts aim us → aim_depth aim ≤ n
+aim_deep edition n rel ts us no_aim w = omega arith
+aim_deep edition n rel ts us (aim_at p sense e) w = w.2
+
+aim_behind : (edition : Edition) (n : ℕ) (X : Form) (rel : RawTree) (start ts us : List Token) (aim : AimTree) → AimFound edition n rel ts aim us → X start ts →
+    SpellsAim edition aim rel X start us
+aim_behind edition n X rel start ts us no_aim (e, w) x = subst (λ z. X start z) e x
+aim_behind edition n X rel start ts us (aim_at p sense e) (i, (a, g, s), d, u) x = (i, (ts, x, (a, g, s)))
+
+aim_unaimed : (edition : Edition) (n : ℕ) (rel e : RawTree) (p : Place) (outputs hidden : List Param) (given : GivenTree) (ts us : List Token) (aim : AimTree) →
+    AimFound edition n rel ts aim us → Unaimed edition (raw_choose p outputs hidden given e aim) us
+aim_unaimed edition n rel e p outputs hidden given ts us no_aim w t = w.1
+aim_unaimed edition n rel e p outputs hidden given ts us (aim_at q sense g) w t = w.3 t
+
+takes_none : (edition : Edition) (b : Bool) (ts us : List Token) (s : Place × Sense) → (b ≡ true → at (in_three edition a_sense) ts ≡ None) →
+    at (in_three edition a_sense) ts ≡ Some (s, us) → b ≡ false
+takes_none edition true ts us s h e = let g : at (in_three edition a_sense) ts ≡ None = h refl in cc
+takes_none edition false ts us s h e = refl
+
+aim_yields : (edition : Edition) (part : Parts) (n : ℕ) → Finds edition part n → (rel : RawTree) (ts : List Token) → Unaimed edition rel ts →
+    Yields (λ aim us. AimFound edition n rel ts aim us) (aim_of edition part ts)
+unfolding aim_of Finds
+aim_yields edition part n h rel ts u =
+    first_or _ _ _ ts (at (in_three edition a_sense) ts) refl
+    (λ s a e. let t = took_three edition a_sense ts a s (at_took _ ts s a e) in bind_yields _ _ a (h Whole a)
+    (λ g us f. pure_yields (aim_at s.0 s.1 g) us ((t.0, takes_none edition (takes_aim rel) ts a s u e), (a, took_sense ts a s t.1, f.spelled), f.deep, f.unaimed)))
+    (λ e. pure_yields no_aim ts (refl, e))
+
+choose_yields : (edition : Edition) (part : Parts) (n : ℕ) → Finds edition part n → (p : Place) (start ts : List Token) → First p (Word (codes "choose")) start ts →
+    Yields (Found edition (suc n) Whole start) (choose_of edition part p ts)
+unfolding choose_of Finds
+choose_yields edition part n h p start ts w =
+    bind_yields _ _ ts (must_yields _ ts) (λ q a o. bind_yields _ _ a (outputs_yield edition a)
+    (λ outputs b l. bind_yields _ _ b (given_yields edition part n h b) (λ given c g. bind_yields _ _ c (must_yields _ c) (λ r d m.
+    bind_yields _ _ d (h (relation_tier edition) d) (λ e i f. bind_yields _ _ i (aim_yields edition part n h e i f.unaimed) (λ aim us j.
+    pure_yields _ us (record {
+      fits = omega arith;
+      deep = omega (arith, given_deep edition n b c given g, f.deep, aim_deep edition n e i us aim j);
+      spelled = (
+        ts,
+        w,
+        (
+          a,
+          took_next _ ts a q o,
+          (
+            b,
+            l,
+            given_then edition n _ b c us given g (d, took_next _ c d r m, aim_behind edition n _ e d i us aim j (f.fits, f.spelled)),
+          ),
+        ),
+      );
+      unaimed = aim_unaimed edition n e e p outputs.0 outputs.1 given i us aim j;
+    })))))))
+
+-- an arm of depth at most n
+abbrev ArmFound : Edition → ℕ → RawArmTree → List Token → List Token → Type 0
+ArmFound edition n arm ts us = (raw_arm_depth arm ≤ n) × SpellsArm edition arm ts us
+
+pub deep_one : (t : RawTree) → 1 ≤ raw_depth t
+deep_one (raw_lit p k) = omega arith
+deep_one (raw_truth p t) = omega arith
+deep_one (raw_name p x) = omega arith
+deep_one (raw_set_of p es) = omega arith
+deep_one (raw_group p a) = omega arith
+deep_one (raw_tuple p es) = omega arith
+deep_one (raw_neg p a) = omega arith
+deep_one (raw_not p a) = omega arith
+deep_one (raw_abs p a) = omega arith
+deep_one (raw_binary p op a b) = omega arith
+deep_one (raw_chain p orders qs es) = omega arith
+deep_one (raw_min p es) = omega arith
+deep_one (raw_max p es) = omega arith
+deep_one (raw_divides p k a) = omega arith
+deep_one (raw_div p a k) = omega arith
+deep_one (raw_mod p a k) = omega arith
+deep_one (raw_card p a) = omega arith
+deep_one (raw_call p x es) = omega arith
+deep_one (raw_if p a b c) = omega arith
+deep_one (raw_let p xs qs a b) = omega arith
+deep_one (raw_choose p ps hs g a aim) = omega arith
+deep_one (raw_match p a arms) = omega arith
+
+arm_yields : (edition : Edition) (part : Parts) (n : ℕ) → Finds edition part n → (ts : List Token) →
+    Yields (λ arm us. ArmFound edition n arm ts us) (arm_of edition part ts)
+unfolding arm_of Finds
+arm_yields edition part n h ts =
+    bind_yields _ _ ts (pattern_yields edition ts) (λ x a y. bind_yields _ _ a (must_yields _ a) (λ q b m. bind_yields _ _ b (h Whole b) (λ e us f.
+    pure_yields (raw_arm x.0 x.1 e) us (omega (arith, f.deep, deep_one e), (a, y, (b, took_next _ a b q m, f.spelled))))))
+
+arms_spelled : (edition : Edition) (n : ℕ) (arms : List RawArmTree) (ts us : List Token) →
+    Others (ArmFound edition n) (Sign (codes ";")) (Sign (codes "}")) arms ts us → (raw_arms_depth (raw_arms_of arms) ≤ n) × SpellsArms edition (raw_arms_of arms) ts us
+arms_spelled edition n [] ts us w = (omega arith, w)
+arms_spelled edition n (x ∷ arms) ts us (a, c, (b, f, o)) = let h = arms_spelled edition n arms b us o in (omega (arith, f.0, h.0), (a, c, (b, f.1, h.1)))
+
+match_found : (edition : Edition) (n : ℕ) (p : Place) (start ts a b c us : List Token) (e : RawTree) (y new : List RawArmTree) →
+    First p (Word (codes "match")) start ts → Found edition n Whole ts e a →
+    Next (Word (codes "with")) a b → Next (Sign (codes "{")) b c → y ≡ new → Several (ArmFound edition n) (Sign (codes ";")) (Sign (codes "}")) new c us →
+    Found edition (suc n) Whole start (raw_match p e (raw_arms_of y)) us
+match_found edition n p start ts a b c us e y [] w f i o same l = absurd l
+match_found edition n p start ts a b c us e y (arm ∷ arms) w f i o same (d, g, more) =
+    let h = arms_spelled edition n arms d us more in
+    subst (λ z. Found edition (suc n) Whole start (raw_match p e (raw_arms_of z)) us) (sym same) (record {
+      fits = omega arith;
+      deep = omega (arith, f.deep, g.0, h.0);
+      spelled = (ts, w, (a, f.spelled, (b, i, (c, o, (d, g.1, h.1)))));
+      unaimed = λ e. cc;
+    })
+
+match_yields : (edition : Edition) (part : Parts) (n : ℕ) → Finds edition part n → (p : Place) (start ts : List Token) → First p (Word (codes "match")) start ts →
+    Yields (Found edition (suc n) Whole start) (match_of edition part p ts)
+unfolding match_of Finds
+match_yields edition part n h p start ts w =
+    bind_yields _ _ ts (h Whole ts) (λ e a f. bind_yields _ _ a (must_yields _ a) (λ q b m. bind_yields _ _ b (must_yields _ b) (λ r c o.
+    bind_yields _ _ c (several_yields snoc (arm_of edition part) (ArmFound edition n) (Sign (codes ";")) (Sign (codes "}")) (arm_yields edition part n h) [] c)
+    (λ y us l. pure_yields _ us
+    (match_found edition n p start ts a b c us e y l.0 w f (took_next _ a b q m) (took_next _ b c r o) (l.1 ∙ all_added l.0) l.2)))))
+
+whole_yields : (edition : Edition) (part : Parts) (n : ℕ) → Finds edition part n → (ts : List Token) →
+    Yields (Found edition (suc n) Whole ts) (whole_of edition part n ts)
+unfolding whole_of
+whole_yields edition part n h ts =
+    deep_yields _ _ _ _ ts (λ p a w. let_yields edition part n h p ts a (took_is _ ts a p w))
+    (deep_yields _ _ _ _ ts (λ p a w. if_yields edition part n h p ts a (took_is _ ts a p w))
+    (deep_yields _ _ _ _ ts (λ p a w. choose_yields edition part n h p ts a (took_is _ ts a p w))
+    (deep_yields _ _ _ _ ts (λ p a w. match_yields edition part n h p ts a (took_is _ ts a p w))
+    (widen (λ t us w. out edition (suc n) Imps Whole ts t us (omega arith) w) (imps_yields edition part n h ts)))))
+
+step_yields : (edition : Edition) (part : Parts) (n : ℕ) → Finds edition part n → (tier : Tier) (ts : List Token) →
+    Yields (Found edition (suc n) tier ts) (step edition part n tier ts)
+unfolding step
+step_yields edition part n h Whole ts = whole_yields edition part n h ts
+step_yields edition part n h Imps ts = imps_yields edition part n h ts
+step_yields edition part n h Ors ts = ors_yields edition part n h ts
+step_yields edition part n h Ands ts = ands_yields edition part n h ts
+step_yields edition part n h Cmps ts = cmps_yields edition part n h ts
+step_yields edition part n h Sums ts = sums_yields edition part n h ts
+step_yields edition part n h Muls ts = muls_yields edition part n h ts
+step_yields edition part n h Unary ts = unary_yields edition part n h ts
+
+pub read_found : (edition : Edition) (n : ℕ) → Finds edition (read edition n) n
+unfolding read Finds
+read_found edition zero tier ts = faults (length ts)
+read_found edition (suc n) tier ts = step_yields edition (read edition n) n (read_found edition n) tier ts

@@ -1,8 +1,8 @@
 -- The words and signs of operations, by editions.
-use Rattle.std.proofs.Common.{◌≡◌, inl, inr, ℕ, Bool, true, false, List, [], ◌∷◌, Option, Some, None, refl, ap, ap₂, ◌∙◌, cond}
+use Rattle.std.proofs.Common.{◌≡◌, inl, inr, ℕ, Bool, true, false, List, [], ◌∷◌, Option, Some, None, refl, ap, ◌∙◌, ◌||◌, cond}
 use Rattle.std.specs.Prelude.{codes}
 use Rattle.std.specs.Str.{bytes_eq}
-use Rattle.cf_lex.specs.Words.{is_reserved}
+use Rattle.cf_lex.specs.Words.{is_reserved, is_no_function}
 use Rattle.cf_lex.specs.declared.token.Token.{Token}
 use Rattle.cf_lex.specs.declared.token.TokenKind.{TokenKind}
 use Rattle.cf_lex.specs.declared.token.TokenKind.TheVariants.{Literal, Word, Sign}
@@ -224,3 +224,48 @@ pub name_unreserved : (edition : Edition) (x : List ℕ) (p : Place) (ts us : Li
 unfolding at
 name_unreserved Two x p ts us r w = ap (at (reserved_op Two)) w ∙ ap (λ o. before us (placed p o)) (name_shared x r)
 name_unreserved Three x p ts us r w = none_at ts
+
+none_if : (b : Bool) (op : NamedOp) (o : Option NamedOp) → cond b (Some op) o ≡ None → (b ≡ false) × (o ≡ None)
+none_if true op o e = cc
+none_if false op o e = (refl, e)
+
+or_false : (a b : Bool) → a ≡ false → b ≡ false → (a || b) ≡ false
+or_false true b e f = cc
+or_false false b e f = f
+
+-- a name that is no operation is that of a function
+pub function_name : (edition : Edition) (x : List ℕ) → op_of_name edition x ≡ None → is_reserved edition x ≡ false → is_no_function edition x ≡ false
+function_name Two x e r = r
+function_name Three x e r =
+    let a = none_if (bytes_eq x (codes "min")) Min _ e in
+    let b = none_if (bytes_eq x (codes "max")) Max _ a.1 in
+    let c = none_if (bytes_eq x (codes "card")) Card _ b.1 in
+    let d = none_if (bytes_eq x (codes "abs")) Abs _ c.1 in
+    let f = none_if (bytes_eq x (codes "div")) Div _ d.1 in
+    let g = none_if (bytes_eq x (codes "mod")) Mod _ f.1 in
+    or_false _ _ c.0 (or_false _ _ f.0 (or_false _ _ g.0 (or_false _ _ d.0 (or_false _ _ a.0 (or_false _ _ b.0 r)))))
+
+true_or : (a b : Bool) → (a || b) ≡ false → (a ≡ false) × (b ≡ false)
+true_or true b e = cc
+true_or false b e = (refl, e)
+
+-- and the other way
+pub function_no_op : (edition : Edition) (x : List ℕ) → is_no_function edition x ≡ false → (op_of_name edition x ≡ None) × (is_reserved edition x ≡ false)
+function_no_op Two x e = (refl, e)
+function_no_op Three x e =
+    let a = true_or (bytes_eq x (codes "card")) _ e in
+    let b = true_or (bytes_eq x (codes "div")) _ a.1 in
+    let c = true_or (bytes_eq x (codes "mod")) _ b.1 in
+    let d = true_or (bytes_eq x (codes "abs")) _ c.1 in
+    let f = true_or (bytes_eq x (codes "min")) _ d.1 in
+    let g = true_or (bytes_eq x (codes "max")) _ f.1 in
+    (
+      ap (λ z. cond z (Some Min) (cond (bytes_eq x (codes "max")) (Some Max) (shared_named_op x))) f.0
+      ∙ ap (λ z. cond z (Some Max) (shared_named_op x)) g.0
+      ∙ ap (λ z. cond z (Some Card) (cond (bytes_eq x (codes "abs")) (Some Abs) (cond (bytes_eq x (codes "div")) (Some Div) (cond (bytes_eq x (codes "mod"))
+      (Some Mod) None)))) a.0
+      ∙ ap (λ z. cond z (Some Abs) (cond (bytes_eq x (codes "div")) (Some Div) (cond (bytes_eq x (codes "mod")) (Some Mod) None))) d.0
+      ∙ ap (λ z. cond z (Some Div) (cond (bytes_eq x (codes "mod")) (Some Mod) None)) b.0
+      ∙ ap (λ z. cond z (Some Mod) None) c.0,
+      g.1,
+    )

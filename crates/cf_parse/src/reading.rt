@@ -440,10 +440,13 @@ fn compared(
             Err(stop) => Err(without(left, stop)),
         };
     }
-    match divides_by(alloc, edition, n, &left.raw, tokens) {
-        Err(stop) => Err(without(left, stop)),
-        Ok(None) => Ok((left, tokens)),
-        Ok(Some(((place, k), rest))) => {
+    let found = match divides_by(alloc, edition, n, &left.raw, tokens) {
+        Ok(found) => found,
+        Err(stop) => return Err(without(left, stop)),
+    };
+    match found {
+        None => Ok((left, tokens)),
+        Some(((place, k), rest)) => {
             drop(left);
             let (of, rest) = boxed(alloc, edition, Tier::Sums, n, rest)?;
             let inner = of.depth;
