@@ -1,5 +1,6 @@
 mod AlternativeExamples
 mod ChooseExamples
+pub mod ChooseLaw
 mod CountExamples
 mod ExpansionExamples
 mod FormedExamples
