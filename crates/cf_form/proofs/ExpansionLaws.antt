@@ -49,9 +49,6 @@ over_joined v [] cs (p ∷ ps) qs h k = absurd h
 over_joined v (b ∷ bs) cs [] qs h k = absurd h
 over_joined v (b ∷ bs) cs (p ∷ ps) qs h k = (h.0, over_joined v bs cs ps qs h.1 k)
 
-nothing : Part
-nothing = of_number (wide_lit (pos 0))
-
 value_of_part : (env : List Value) (ps : List Part) (x : ℕ)
     → value_at (map (part_value env) ps) x ≡ part_value env (slice_index_or ps x (of_number (wide_lit (pos 0))))
 value_of_part env [] x = refl
@@ -386,7 +383,7 @@ module _ (linear : LinearBehind) (chooses : Choosing) (calls : Calling) (parts :
         let bound = expands a scope ps over h.0 h.1 m.0 in
         let inner = expands b (scope ++ h.0) (ps ++ expanded parts ps a) (over_joined v scope h.0 ps (expanded parts ps a) over bound.over) bs h.4 m.1 in
         record {
-          only = then_only _ _ bound.only (subst (λ vs. AllowsOnly (AllowedBy chooses calls b vs) _) (map_joined env ps (expanded parts ps a)) inner.only);
+          only = then_only _ _ bound.only (subst (λ vs. AllowsOnly (AllowedBy chooses calls b vs) (map (part_value env) (expanded parts (ps ++ expanded parts ps a) b))) (map_joined env ps (expanded parts ps a)) inner.only);
           over = inner.over;
         }
     expands (expr_chain orders es) scope ps over bs h m =
@@ -436,7 +433,8 @@ calls_expand linear chooses (d ∷ earlier) typed v env f params bs takes good p
     let takes_it : MatchBool (f == length (bodies earlier)) ((params ≡ bases_of d.params) × (bs ≡ d.results)) (Takes earlier f params bs) =
       rw (same_length earlier) takes in
     either_expands (f == length (bodies earlier)) v env bs _ _
-    (λ t m. subst (λ cs. Expands (AllowedBy chooses (CallAllowedBy chooses (bodies earlier)) d.body (map (part_value env) ps)) v env cs _) (sym t.1)
+    (λ t m. subst (λ cs. Expands (AllowedBy chooses (CallAllowedBy chooses (bodies earlier)) d.body (map (part_value env) ps)) v env cs
+    (expanded (call_expanded (bodies earlier)) ps d.body)) (sym t.1)
     (expands linear chooses (CallAllowedBy chooses (bodies earlier)) (call_expanded (bodies earlier)) (Takes earlier) (CallMayStand (bodies earlier)) v env known
     d.body (bases_of d.params) ps (subst (λ cs. PartsOver v cs ps) t.0 over) d.results typed.0.1 m))
     (λ t m. known f params bs t m ps over) takes_it good

@@ -11,11 +11,13 @@ pub mod HalfLaws
 mod LinearFormExamples
 mod LinearWideExamples
 mod NumberExamples
+pub mod OverLaws
 mod PassedExamples
 mod PolarityExamples
 pub mod PolarityLaws
 mod RelationExamples
 pub mod SaidBy
+pub mod ScopeLaws
 mod ToldExamples
 mod WideExamples
 pub mod WideMeaning

@@ -144,9 +144,3 @@ PartsOver v (b ∷ bs) (p ∷ ps) = PartOver v b p × PartsOver v bs ps
 abbrev pub in_scope : List Base → VariableFacts
 in_scope scope =
     record { number = λ x. slice_get scope x ≡ Some Int; set = λ x. slice_get scope x ≡ Some Set; truth = λ x. slice_get scope x ≡ Some Truth }
-
--- some more is known of them: of a truth variable where it stands in the form
-pub record MoreFacts (v w : VariableFacts) (stands : ℕ → Bool) : Type 0 where
-  pub number : (x : ℕ) → v.number x → w.number x
-  pub set : (x : ℕ) → v.set x → w.set x
-  pub truth : (x : ℕ) → stands x ≡ true → v.truth x → w.truth x
