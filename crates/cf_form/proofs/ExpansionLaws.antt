@@ -64,7 +64,7 @@ over_at v (c ∷ scope) (p ∷ ps) (suc x) b h e = over_at v scope ps x b h.1 e
 
 module _ {v : VariableFacts} {env : List Value} where
 
-  one_of_parts : {A : Outcome → Type 0} (b : Base) (ps : List Part) → Expands A v env (one b) ps → ExpandsOne A v env b (first_part ps)
+  pub one_of_parts : {A : Outcome → Type 0} (b : Base) (ps : List Part) → Expands A v env (one b) ps → ExpandsOne A v env b (first_part ps)
   one_of_parts b [] h = absurd h.over
   one_of_parts b (p ∷ []) h = record { only = h.only; over = h.over.0 }
   one_of_parts b (p ∷ q ∷ ps) h = absurd h.over.1
@@ -72,17 +72,17 @@ module _ {v : VariableFacts} {env : List Value} where
   parts_of_one : {A : Outcome → Type 0} (b : Base) (bs : List Base) (p : Part) → bs ≡ one b → ExpandsOne A v env b p → Expands A v env bs (p ∷ [])
   parts_of_one b bs p e h = rw e (record { only = h.only; over = (h.over, tt) })
 
-  number_part : {A : Outcome → Type 0} (p : Part) → ExpandsOne A v env Int p → AllowsOnly A (number (wide_value (number_in p) env) ∷ []) × TermOver v (number_in p)
+  pub number_part : {A : Outcome → Type 0} (p : Part) → ExpandsOne A v env Int p → AllowsOnly A (number (wide_value (number_in p) env) ∷ []) × TermOver v (number_in p)
   number_part (of_number t) h = (h.only, h.over)
   number_part (of_set s) h = absurd h.over
   number_part (of_truth r) h = absurd h.over
 
-  set_part : {A : Outcome → Type 0} (p : Part) → ExpandsOne A v env Set p → AllowsOnly A (elements (wide_members (set_in p) env) ∷ []) × SetOver v (set_in p)
+  pub set_part : {A : Outcome → Type 0} (p : Part) → ExpandsOne A v env Set p → AllowsOnly A (elements (wide_members (set_in p) env) ∷ []) × SetOver v (set_in p)
   set_part (of_number t) h = absurd h.over
   set_part (of_set s) h = (h.only, h.over)
   set_part (of_truth r) h = absurd h.over
 
-  part_of_truth : {A : Outcome → Type 0} (p : Part) → ExpandsOne A v env Truth p
+  pub part_of_truth : {A : Outcome → Type 0} (p : Part) → ExpandsOne A v env Truth p
       → AllowsOnly A (truth (wide_holds (truth_in p) env) ∷ []) × RelOver v (truth_in p)
   part_of_truth (of_number t) h = absurd h.over
   part_of_truth (of_set s) h = absurd h.over

@@ -1,6 +1,7 @@
 mod AlternativeExamples
 mod ChooseExamples
 pub mod ChooseLaw
+pub mod ChooseSolutions
 mod CountExamples
 mod ExpansionExamples
 pub mod ExpansionLaws
