@@ -213,3 +213,115 @@ module _ (linear : LinearBehind) (takes : ℕ → List Base → List Base → Ty
       Agree bs o (AllowedThen (AllowedAll calls es env) (λ xs. Gives (f xs)) o) (AllowedIn after (expr_let k (expr_tuple news) body) env o)
   bound_agrees es news k body env o parts bs f a is h =
       then_agree parts bs o a (λ xs hx. only_agrees bs (f xs) o (AllowedIn after body (env ++ xs)) (h xs) (is xs hx))
+
+  behind : (env : List Value) (vs : List Base) (xs : List Value) (s n : ℕ) → s ≡ length env → HaveBases vs xs → n ≡ length vs → s + n ≡ length (env ++ xs)
+  behind env vs xs s n e h k = omega (arith, e, k, length-append env xs, length_have vs xs h)
+
+  one_behind : (env xs : List Value) (s : ℕ) → s ≡ length env → HaveBases (Int ∷ []) xs → suc s ≡ length (env ++ xs)
+  one_behind env xs s e h = omega (arith, e, length-append env xs, length_have (Int ∷ []) xs h)
+
+  best_agrees : (order : Order) (better : ℤ → ℤ → ℤ) → Takes order better → (es news : ExprTrees) (s : ℕ) (scope bs : List Base) → AreSeveral es →
+      AllHaveBy linear takes es scope Int → bs ≡ Int ∷ [] → (env : List Value) → s ≡ length env → (o : Outcome) →
+      ((parts : List Base) → PartsHaveBy linear takes es scope parts → (p : Outcome) →
+      Agree parts p (AllowedAll calls es env p) (AllowedAll after news env p)) →
+      Agree bs o (AllowedThen (AllowedAll calls es env) (λ xs. Gives (number (best_of better (map number_of xs)))) o)
+      (AllowedIn after (expr_let (how_many es) (expr_tuple news) (best_body order s (how_many es))) env o)
+  best_agrees order better t es news s scope bs m h one env e o a =
+      let parts = parts_have linear takes es scope h in
+      bound_agrees es news (how_many es) (best_body order s (how_many es)) env o (map (λ _. Int) parts.0) bs
+      (λ xs. number (best_of better (map number_of xs))) (a (map (λ _. Int) parts.0) parts.2)
+      (λ xs hx.
+      let are = are_numbers (Unit {0}) parts.0 xs hx in
+      let counted = length_have (map (λ _. Int) parts.0) xs hx in
+      let several = several_have linear takes es m in
+      subst (λ ys. Is after (env ++ ys) (best_body order s (how_many es)) (number (best_of better (map number_of xs)))) (sym are)
+      (best_is after order better t env (map number_of xs) s (how_many es)
+      (omega (arith, counted, several, parts.1, length-map xs number_of, length-map parts.0 (λ _. Int)))
+      (omega (arith, counted, parts.1, length-map xs number_of, length-map parts.0 (λ _. Int))) e))
+      (λ xs. keeps_number bs _ one)
+
+  mutual
+    pub agrees : (e : ExprTree) (s : ℕ) (scope bs : List Base) → ExprHasBasesBy linear takes e scope bs → Each good (chooses_in e) → (env : List Value) →
+        HaveBases scope env → s ≡ length env → (o : Outcome) → Agree bs o (AllowedIn calls e env o) (AllowedIn after (formed expand s e) env o)
+    agrees (expr_lit k) s scope bs h g env v l o = gives bs (number k) o (keeps_number bs k h.1)
+    agrees (expr_truth t) s scope bs h g env v l o = gives bs (truth t) o (keeps_truth bs t h)
+    agrees (expr_var x) s scope bs h g env v l o = gives bs (value_at env x) o (keeps_value bs h.0 (value_at env x) h.2 (value_has scope env x h.0 v h.1))
+    agrees (expr_set_of es) s scope bs h g env v l o =
+        let parts = parts_have linear takes es scope h.0 in
+        then_agree (map (λ _. Int) parts.0) bs o (agrees_all es s scope (map (λ _. Int) parts.0) parts.2 g env v l) (λ xs hx.
+        gives bs (elements (set_of (map number_of xs))) o
+        (keeps_value bs Set (elements (set_of (map number_of xs))) h.1 (_, refl, rising_set_of (map number_of xs))))
+    agrees (expr_tuple es) s scope bs h g env v l o = agrees_all es s scope bs h.1 g env v l o
+    agrees (expr_neg a) s scope bs h g env v l o =
+        then_agree (Int ∷ []) bs o (agrees a s scope (Int ∷ []) h.0 g env v l) (λ xs hx. gives bs (number _) o (keeps_number bs _ h.1))
+    agrees (expr_not a) s scope bs h g env v l o =
+        then_agree (Truth ∷ []) bs o (agrees a s scope (Truth ∷ []) h.0 g env v l) (λ xs hx. gives bs (truth _) o (keeps_truth bs _ h.1))
+    agrees (expr_abs a) s scope bs h g env v l o =
+        then_agree (Int ∷ []) bs o (agrees a s scope (Int ∷ []) h.0 g env v l) (λ xs hx. gives bs (number _) o (keeps_number bs _ h.1))
+    agrees (expr_binary op a b) s scope bs h g env v l o =
+        as_bases (result_of op ∷ []) bs (sym h.1)
+        (binary_agrees op a b (formed expand s a) (formed expand s b) env o
+        (λ c. ExprHasBasesBy linear takes a scope (c ∷ [])) (λ c. ExprHasBasesBy linear takes b scope (c ∷ []))
+        (λ c t p. agrees a s scope (c ∷ []) t (each_left good (chooses_in a) (chooses_in b) g) env v l p)
+        (λ c t p. agrees b s scope (c ∷ []) t (each_right good (chooses_in a) (chooses_in b) g) env v l p) h.0)
+    agrees (expr_chain orders es) s scope bs h g env v l o =
+        bound_agrees es (all_formed expand s es) (how_many es) (chain_body s orders) env o (Int ∷ map (λ _. Int) orders) bs (λ xs. truth (chained orders xs))
+        (agrees_all es s scope (Int ∷ map (λ _. Int) orders) h.1 g env v l)
+        (λ xs hx.
+        rw l (chain_is after (env ++ xs) orders (length env) xs (read_behind env xs)
+        (omega (arith, length_have (Int ∷ map (λ _. Int) orders) xs hx, length-map orders (λ _. Int)))))
+        (λ xs. keeps_truth bs _ h.2)
+    agrees (expr_min es) s scope bs h g env v l o =
+        best_agrees Le int_min takes_least es (all_formed expand s es) s scope bs h.0 h.1 h.2 env l o (λ parts t p. agrees_all es s scope parts t g env v l p)
+    agrees (expr_max es) s scope bs h g env v l o =
+        best_agrees Ge int_max takes_greatest es (all_formed expand s es) s scope bs h.0 h.1 h.2 env l o
+        (λ parts t p. agrees_all es s scope parts t g env v l p)
+    agrees (expr_divides k a) s scope bs h g env v l o =
+        then_agree (Int ∷ []) bs o (agrees a s scope (Int ∷ []) h.1 g env v l) (λ xs hx. gives bs (truth _) o (keeps_truth bs _ h.2))
+    agrees (expr_div a k) s scope bs h g env v l o =
+        then_agree (Int ∷ []) bs o (agrees a s scope (Int ∷ []) h.1 g env v l) (λ xs hx. gives bs (number _) o (keeps_number bs _ h.2))
+    agrees (expr_mod a k) s scope bs h g env v l o =
+        then_agree (Int ∷ []) bs o (agrees a s scope (Int ∷ []) h.1 g env v l) (λ xs hx. gives bs (number _) o (keeps_number bs _ h.2))
+    agrees (expr_card a) s scope bs h g env v l o =
+        then_agree (Set ∷ []) bs o (agrees a s scope (Set ∷ []) h.0 g env v l) (λ xs hx. gives bs (number _) o (keeps_number bs _ h.1))
+    agrees (expr_if t a b) s scope bs h g env v l o =
+        let first = each_left good (chooses_in t ++ chooses_in a) (chooses_in b) g in
+        then_agree (Truth ∷ []) bs o (agrees t s scope (Truth ∷ []) h.0 (each_left good (chooses_in t) (chooses_in a) first) env v l) (λ xs hx.
+        match_agree (truth_of (first_of xs)) (agrees a s scope bs h.1 (each_right good (chooses_in t) (chooses_in a) first) env v l o)
+        (agrees b s scope bs h.2 (each_right good (chooses_in t ++ chooses_in a) (chooses_in b) g) env v l o))
+    agrees (expr_call f es) s scope bs h g env v l o =
+        then_agree h.0 bs o (agrees_all es s scope h.0 h.2 g env v l) (λ xs hx. calls_agree f h.0 bs h.1 xs hx o)
+    agrees (expr_let m a b) s scope bs h g env v l o =
+        then_agree h.0 bs o (agrees a s scope h.0 h.1 (each_left good (chooses_in a) (chooses_in b) g) env v l) (λ xs hx.
+        agrees b (s + m) (scope ++ h.0) bs h.4 (each_right good (chooses_in a) (chooses_in b) g) (env ++ xs) (have_append scope h.0 env xs v hx)
+        (behind env h.0 xs s m l hx h.2) o)
+    agrees (expr_choose m params outputs rel) s scope bs h g env v l o = alike (chosen_keeps m bs outputs rel env o h.5)
+    agrees (expr_choose_where n params outputs hidden given rel aim) s scope bs h g env v l o =
+        choose_agrees (record { number = n; scope = params; outputs = outputs; hidden = hidden; given = given; relation = rel; aim = aim }) g.0 s scope bs h env v
+        o
+    agrees (expr_match n params a arms) s scope bs h g env v l o =
+        then_agree (Int ∷ []) bs o (agrees a s scope (Int ∷ []) h.1 (each_left good (chooses_in a) (chooses_in_arms arms) g) env v l) (λ xs hx.
+        agrees_arms n arms (suc s) (scope ++ Int ∷ []) bs h.3 (each_right good (chooses_in a) (chooses_in_arms arms) g) (number_of (first_of xs)) (env ++ xs)
+        (have_append scope (Int ∷ []) env xs v hx) (one_behind env xs s l hx) o)
+
+    agrees_all : (es : ExprTrees) (s : ℕ) (scope bs : List Base) → PartsHaveBy linear takes es scope bs → Each good (chooses_in_all es) →
+        (env : List Value) → HaveBases scope env → s ≡ length env → (o : Outcome) →
+        Agree bs o (AllowedAll calls es env o) (AllowedAll after (all_formed expand s es) env o)
+    agrees_all no_exprs s scope bs h g env v l o = alike (gives_keeps bs [] o (rw h tt))
+    agrees_all (expr_more e es) s scope bs h g env v l o =
+        then_agree (h.0 ∷ []) bs o (agrees e s scope (h.0 ∷ []) h.3 (each_left good (chooses_in e) (chooses_in_all es) g) env v l) (λ xs hx.
+        then_agree h.1 bs o (agrees_all es s scope h.1 h.4 (each_right good (chooses_in e) (chooses_in_all es) g) env v l) (λ ys hy.
+        alike (gives_keeps bs (xs ++ ys) o (subst (λ cs. HaveBases cs (xs ++ ys)) (sym h.2) (have_append (h.0 ∷ []) h.1 xs ys hx hy)))))
+
+    agrees_arms : (n : ℕ) (arms : MatchArmTrees) (s : ℕ) (scope bs : List Base) → ArmsHaveBy linear takes arms scope bs → Each good (chooses_in_arms arms) →
+        (z : ℤ) (env : List Value) → HaveBases scope env → s ≡ length env → (o : Outcome) →
+        Agree bs o (AllowedArm calls n arms z env o) (AllowedArm after n (arms_formed expand s arms) z env o)
+    agrees_arms n no_match_arms s scope bs h g z env v l o = alike (none_keeps bs n o)
+    agrees_arms n (match_arm_more (match_arm m factors k body) arms) s scope bs h g z env v l o =
+        arm_agrees bs n m factors k z body (formed expand (s + length factors) body) arms (arms_formed expand s arms) env o
+        (λ zs e.
+        let hz = numbers_have factors zs e in
+        agrees body (s + length factors) (scope ++ map (λ _. Int) factors) bs h.3 (each_left good (chooses_in body) (chooses_in_arms arms) g)
+        (env ++ map number zs) (have_append scope (map (λ _. Int) factors) env (map number zs) v hz)
+        (behind env (map (λ _. Int) factors) (map number zs) s (length factors) l hz (sym (length-map factors (λ _. Int)))) o)
+        (agrees_arms n arms s scope bs h.4 (each_right good (chooses_in body) (chooses_in_arms arms) g) z env v l o)
