@@ -1,8 +1,9 @@
 -- The functions of a source and what they are formed to allow the same outcomes.
 use Rattle.std.proofs.Common.{◌≡◌, ◌↔◌, ℕ, zero, suc, ◌+◌, ◌≤◌, ◌<◌, ◌==◌, Bool, true, false, Option, Some, None, List, [], ◌∷◌, ◌++◌, length, map, reverse, slice_get, MatchBool, append-nil, append_assoc, refl, sym, ap, ◌∙◌, subst, arith, length-append}
 use Rattle.std.specs.Prelude.{if◌then◌else◌}
-use Rattle.std.proofs.lemmas.Bool.{eqb-true, eq-eqb}
-use Rattle.std.proofs.lemmas.List.{reverse-append, map-append, length-map}
+use Rattle.std.specs.List.{slice_index_or}
+use Rattle.std.proofs.lemmas.List.{length-map}
+use Rattle.std.proofs.lemmas.List.Elements.{recursion_from_All}
 use Rattle.cf_tree.specs.declared.base.Base.{Base}
 use Rattle.cf_tree.specs.declared.base.Base.TheVariants.{Bool as Truth}
 use Rattle.cf_tree.specs.Allowed.{AllowedThen, goes_on, ends_at, AllowedIn, AllowedCall, Calling, AllChosen, Chosen}
@@ -24,7 +25,8 @@ use Rattle.cf_form.specs.Relations.{MayStand, CallMayStand, GivenMayStand}
 use Rattle.cf_form.specs.SourceChooses.{SourceChoose, chooses_in, WithBodies, chooses_behind, source_chooses}
 use Rattle.cf_form.proofs.ChooseForms.{InBranch, branching_is, are_given_out, as_chosen_agrees, bound_agrees}
 use Rattle.cf_form.proofs.ChooseLaw.{ChooseLaw, IsChooseBehind, HasSameSolutions, SolvesSource, SolvesBranch, as_output, widely, branch_of}
-use Rattle.cf_form.proofs.OrdinaryLaws.{Each, each_left, each_right, choose_expr, agrees}
+use Rattle.cf_form.proofs.FunctionLists.{AllChooses, bodies_turned, chooses_turned, formed_last, formed_turned, takes_at}
+use Rattle.cf_form.proofs.OrdinaryLaws.{choose_expr, agrees}
 use Rattle.cf_form.proofs.Outcomes.{Agree, through, as_bases, length_have}
 
 -- ---- a choose
@@ -135,17 +137,11 @@ module _ (law : ChooseLaw) (linear : LinearBehind) (earlier : List DefTree) (fun
         (AllowedIn after (formed (call_expanded (bodies earlier)) s (choose_expr (aimed q a))) env o)) (sym stands.unaimed) any_agrees
 
 -- ---- functions
--- the bodies that functions are formed to, where the functions stand last first
-abbrev pub formed_bodies : List DefTree → List ExprTree
-formed_bodies [] = []
-formed_bodies (d ∷ earlier) = formed (call_expanded (bodies earlier)) (length d.params) d.body ∷ formed_bodies earlier
+-- a choose with the bodies before it may stand there
+abbrev pub StandsBehind : WithBodies → Type 0
+StandsBehind q = Stands q.0 q.1
 
--- the chooses of functions that stand last first
-abbrev AllStand : List DefTree → Type 0
-AllStand [] = Unit {0}
-AllStand (d ∷ earlier) = Each (Stands (bodies earlier)) (chooses_in d.body) × AllStand earlier
-
-length_formed : (ds : List DefTree) → length (formed_bodies ds) ≡ length ds
+length_formed : (ds : List DefTree) → length (bodies (formed_last ds)) ≡ length ds
 length_formed [] = refl
 length_formed (d ∷ ds) = ap suc (length_formed ds)
 
@@ -158,16 +154,16 @@ on_either rs o X Y a X' Y' c true e g h = rw (e, g) h
 on_either rs o X Y a X' Y' c false e g h = rw (e, g) h
 
 module _ (law : ChooseLaw) (linear : LinearBehind) where
-  calls_agree : (earlier : List DefTree) → AreTypedDefsBy linear earlier → AllStand earlier → (f : ℕ) (ps rs : List Base) → Takes earlier f ps rs →
-      (xs : List Value) → HaveBases ps xs → (o : Outcome) → Agree rs o (AllowedCall (bodies earlier) f xs o) (AllowedCall (formed_bodies earlier) f xs o)
+  calls_agree : (earlier : List DefTree) → AreTypedDefsBy linear earlier → AllChooses StandsBehind earlier → (f : ℕ) (ps rs : List Base) → Takes earlier f ps rs →
+      (xs : List Value) → HaveBases ps xs → (o : Outcome) → Agree rs o (AllowedCall (bodies earlier) f xs o) (AllowedCall (bodies (formed_last earlier)) f xs o)
   calls_agree [] t g f ps rs h xs v o = absurd h
   calls_agree (d ∷ earlier) t g f ps rs h xs v o =
       by (f == length earlier) refl h
       (λ p.
       let hv = subst (λ qs. HaveBases qs xs) p v in
-      agrees linear (Takes earlier) (AllowedCall (bodies earlier)) (AllowedCall (formed_bodies earlier)) (call_expanded (bodies earlier))
+      agrees linear (Takes earlier) (AllowedCall (bodies earlier)) (AllowedCall (bodies (formed_last earlier))) (call_expanded (bodies earlier))
       (calls_agree earlier t.1 g.1) (Stands (bodies earlier))
-      (λ q s k scope bs hq env w p. choose_agrees law linear earlier t.1 (AllowedCall (formed_bodies earlier)) q s k scope bs hq env w p)
+      (λ q s k scope bs hq env w p. choose_agrees law linear earlier t.1 (AllowedCall (bodies (formed_last earlier))) q s k scope bs hq env w p)
       d.body (length d.params) (bases_of d.params) d.results t.0.1 g.0 xs hv
       (omega (arith, length-map d.params (λ p. p.base), length_have (bases_of d.params) xs hv)) o)
       (λ k. calls_agree earlier t.1 g.1 f ps rs k xs v o)
@@ -175,16 +171,36 @@ module _ (law : ChooseLaw) (linear : LinearBehind) where
       by : (b : Bool) → (f == length earlier) ≡ b → MatchBool b ((ps ≡ bases_of d.params) × (rs ≡ d.results)) (Takes earlier f ps rs) →
           (ps ≡ bases_of d.params →
           Agree d.results o (AllowedIn (AllowedCall (bodies earlier)) d.body xs o)
-          (AllowedIn (AllowedCall (formed_bodies earlier)) (formed (call_expanded (bodies earlier)) (length d.params) d.body) xs o)) →
-          (Takes earlier f ps rs → Agree rs o (AllowedCall (bodies earlier) f xs o) (AllowedCall (formed_bodies earlier) f xs o)) →
-          Agree rs o (AllowedCall (bodies (d ∷ earlier)) f xs o) (AllowedCall (formed_bodies (d ∷ earlier)) f xs o)
+          (AllowedIn (AllowedCall (bodies (formed_last earlier))) (formed (call_expanded (bodies earlier)) (length d.params) d.body) xs o)) →
+          (Takes earlier f ps rs → Agree rs o (AllowedCall (bodies earlier) f xs o) (AllowedCall (bodies (formed_last earlier)) f xs o)) →
+          Agree rs o (AllowedCall (bodies (d ∷ earlier)) f xs o) (AllowedCall (bodies (formed_last (d ∷ earlier))) f xs o)
       by true e k new old =
-          on_either rs o _ _ (f == length (bodies earlier)) _ _ (f == length (formed_bodies earlier)) true
+          on_either rs o _ _ (f == length (bodies earlier)) _ _ (f == length (bodies (formed_last earlier))) true
           (one_test f (length earlier) (length (bodies earlier)) true (sym (length-map earlier (λ d. d.body))) e)
-          (one_test f (length earlier) (length (formed_bodies earlier)) true (sym (length_formed earlier)) e)
+          (one_test f (length earlier) (length (bodies (formed_last earlier))) true (sym (length_formed earlier)) e)
           (rw k.1 (new k.0))
       by false e k new old =
-          on_either rs o _ _ (f == length (bodies earlier)) _ _ (f == length (formed_bodies earlier)) false
+          on_either rs o _ _ (f == length (bodies earlier)) _ _ (f == length (bodies (formed_last earlier))) false
           (one_test f (length earlier) (length (bodies earlier)) false (sym (length-map earlier (λ d. d.body))) e)
-          (one_test f (length earlier) (length (formed_bodies earlier)) false (sym (length_formed earlier)) e)
+          (one_test f (length earlier) (length (bodies (formed_last earlier))) false (sym (length_formed earlier)) e)
           (old k)
+
+-- ---- the program
+stands_of : (q : WithBodies) → MayStand (CallMayStand q.0) q.1.relation × GivenMayStand (CallMayStand q.0) q.1.given → q.1.aim ≡ at_any → StandsBehind q
+stands_of q m a = record { relation = m.0; given = m.1; unaimed = a }
+
+-- the chooses of a source
+pub source_stands : (how : Linearity) (defs : List DefTree) (main : ℕ) → IsSource how defs main → AllChooses StandsBehind (reverse defs)
+source_stands how defs main t =
+    chooses_turned StandsBehind defs
+    (recursion_from_All StandsBehind (source_chooses defs) (λ k d l. stands_of (slice_index_or (source_chooses defs) k d) (t.relations k d l) (t.unaimed k d l)))
+
+pub forming_allows_the_same : ChooseLaw → FormingAllowsTheSame
+forming_allows_the_same law how defs main t f d e env v o =
+    let a = calls_agree law (IsLinearBy how) (reverse defs) t.typed.typed (source_stands how defs main t) f (bases_of d.params) d.results (takes_at defs f d e) env v
+    o in
+    let before : bodies (reverse defs) ≡ reverse (bodies defs) = bodies_turned defs in
+    let after : bodies (formed_last (reverse defs)) ≡ reverse (bodies (formed_defs defs)) =
+    ap bodies (sym (formed_turned defs)) ∙ bodies_turned (formed_defs defs) in
+    let P : List ExprTree → Type 0 = λ es. AllowedCall es f env o in
+    ((λ x. subst P after (a.forth (subst P (sym before) x))), λ y. subst P before (a.back (subst P (sym after) y)))

@@ -2,6 +2,7 @@
 use Rattle.std.proofs.Common.{◌≡◌, ◌↔◌, ℕ, zero, suc, ◌+◌, ◌≤◌, ℤ, pos, Bool, true, false, not, Option, Some, None, List, [], ◌∷◌, ◌++◌, length, map, inl, inr, refl, sym, ap, ◌∙◌, subst, arith, length-append}
 use Rattle.std.specs.Bool.{MatchBool}
 use Rattle.std.specs.Int.{int_max, int_min}
+use Rattle.std.specs.List.{AllByRecursion}
 use Rattle.std.proofs.lemmas.List.{length-map}
 use Rattle.cf_tree.specs.declared.base.Base.{Base}
 use Rattle.cf_tree.specs.declared.base.Base.TheVariants.{Int, Bool as Truth, Set}
@@ -20,6 +21,7 @@ use Rattle.cf_program.specs.Walk.{side_of, result_of}
 use Rattle.cf_form.specs.Expansion.{Calls}
 use Rattle.cf_form.specs.Formed.{binary_formed, formed, all_formed, arms_formed, how_many, chain_body, best_body}
 use Rattle.cf_form.specs.SourceChooses.{SourceChoose, chooses_in, chooses_in_all, chooses_in_arms}
+use Rattle.cf_form.proofs.Lists.{rec_left, rec_right}
 use Rattle.cf_form.proofs.Ordinary.{Read, read_behind, Is, chain_is, Takes, takes_least, takes_greatest, best_is}
 use Rattle.cf_form.proofs.Outcomes.{Agree, alike, as_bases, gives_keeps, none_keeps, gives, then_agree, match_agree, keeps_number, keeps_truth, keeps_value, value_has, have_append, length_have, number_alone, set_is_rising, chosen_keeps, Keeps}
 
@@ -128,19 +130,6 @@ several_have linear takes no_exprs h = absurd h
 several_have linear takes (expr_more e no_exprs) h = absurd h
 several_have linear takes (expr_more e (expr_more f es)) h = omega arith
 
--- the chooses of a list each have what is asked
-abbrev pub Each : (SourceChoose → Type 0) → List SourceChoose → Type 0
-Each good [] = Unit {0}
-Each good (q ∷ qs) = good q × Each good qs
-
-pub each_left : (good : SourceChoose → Type 0) (ps qs : List SourceChoose) → Each good (ps ++ qs) → Each good ps
-each_left good [] qs h = tt
-each_left good (p ∷ ps) qs h = (h.0, each_left good ps qs h.1)
-
-pub each_right : (good : SourceChoose → Type 0) (ps qs : List SourceChoose) → Each good (ps ++ qs) → Each good qs
-each_right good [] qs h = h
-each_right good (p ∷ ps) qs h = each_right good ps qs h.1
-
 -- the choose as an expression
 abbrev pub choose_expr : SourceChoose → ExprTree
 choose_expr q = expr_choose_where q.number q.scope q.outputs q.hidden q.given q.relation q.aim
@@ -241,7 +230,7 @@ module _ (linear : LinearBehind) (takes : ℕ → List Base → List Base → Ty
       (λ xs. keeps_number bs _ one)
 
   mutual
-    pub agrees : (e : ExprTree) (s : ℕ) (scope bs : List Base) → ExprHasBasesBy linear takes e scope bs → Each good (chooses_in e) → (env : List Value) →
+    pub agrees : (e : ExprTree) (s : ℕ) (scope bs : List Base) → ExprHasBasesBy linear takes e scope bs → AllByRecursion good (chooses_in e) → (env : List Value) →
         HaveBases scope env → s ≡ length env → (o : Outcome) → Agree bs o (AllowedIn calls e env o) (AllowedIn after (formed expand s e) env o)
     agrees (expr_lit k) s scope bs h g env v l o = gives bs (number k) o (keeps_number bs k h.1)
     agrees (expr_truth t) s scope bs h g env v l o = gives bs (truth t) o (keeps_truth bs t h)
@@ -262,8 +251,8 @@ module _ (linear : LinearBehind) (takes : ℕ → List Base → List Base → Ty
         as_bases (result_of op ∷ []) bs (sym h.1)
         (binary_agrees op a b (formed expand s a) (formed expand s b) env o
         (λ c. ExprHasBasesBy linear takes a scope (c ∷ [])) (λ c. ExprHasBasesBy linear takes b scope (c ∷ []))
-        (λ c t p. agrees a s scope (c ∷ []) t (each_left good (chooses_in a) (chooses_in b) g) env v l p)
-        (λ c t p. agrees b s scope (c ∷ []) t (each_right good (chooses_in a) (chooses_in b) g) env v l p) h.0)
+        (λ c t p. agrees a s scope (c ∷ []) t (rec_left good (chooses_in a) (chooses_in b) g) env v l p)
+        (λ c t p. agrees b s scope (c ∷ []) t (rec_right good (chooses_in a) (chooses_in b) g) env v l p) h.0)
     agrees (expr_chain orders es) s scope bs h g env v l o =
         bound_agrees es (all_formed expand s es) (how_many es) (chain_body s orders) env o (Int ∷ map (λ _. Int) orders) bs (λ xs. truth (chained orders xs))
         (agrees_all es s scope (Int ∷ map (λ _. Int) orders) h.1 g env v l)
@@ -285,35 +274,35 @@ module _ (linear : LinearBehind) (takes : ℕ → List Base → List Base → Ty
     agrees (expr_card a) s scope bs h g env v l o =
         then_agree (Set ∷ []) bs o (agrees a s scope (Set ∷ []) h.0 g env v l) (λ xs hx. gives bs (number _) o (keeps_number bs _ h.1))
     agrees (expr_if t a b) s scope bs h g env v l o =
-        let first = each_left good (chooses_in t ++ chooses_in a) (chooses_in b) g in
-        then_agree (Truth ∷ []) bs o (agrees t s scope (Truth ∷ []) h.0 (each_left good (chooses_in t) (chooses_in a) first) env v l) (λ xs hx.
-        match_agree (truth_of (first_of xs)) (agrees a s scope bs h.1 (each_right good (chooses_in t) (chooses_in a) first) env v l o)
-        (agrees b s scope bs h.2 (each_right good (chooses_in t ++ chooses_in a) (chooses_in b) g) env v l o))
+        let first = rec_left good (chooses_in t ++ chooses_in a) (chooses_in b) g in
+        then_agree (Truth ∷ []) bs o (agrees t s scope (Truth ∷ []) h.0 (rec_left good (chooses_in t) (chooses_in a) first) env v l) (λ xs hx.
+        match_agree (truth_of (first_of xs)) (agrees a s scope bs h.1 (rec_right good (chooses_in t) (chooses_in a) first) env v l o)
+        (agrees b s scope bs h.2 (rec_right good (chooses_in t ++ chooses_in a) (chooses_in b) g) env v l o))
     agrees (expr_call f es) s scope bs h g env v l o =
         then_agree h.0 bs o (agrees_all es s scope h.0 h.2 g env v l) (λ xs hx. calls_agree f h.0 bs h.1 xs hx o)
     agrees (expr_let m a b) s scope bs h g env v l o =
-        then_agree h.0 bs o (agrees a s scope h.0 h.1 (each_left good (chooses_in a) (chooses_in b) g) env v l) (λ xs hx.
-        agrees b (s + m) (scope ++ h.0) bs h.4 (each_right good (chooses_in a) (chooses_in b) g) (env ++ xs) (have_append scope h.0 env xs v hx)
+        then_agree h.0 bs o (agrees a s scope h.0 h.1 (rec_left good (chooses_in a) (chooses_in b) g) env v l) (λ xs hx.
+        agrees b (s + m) (scope ++ h.0) bs h.4 (rec_right good (chooses_in a) (chooses_in b) g) (env ++ xs) (have_append scope h.0 env xs v hx)
         (behind env h.0 xs s m l hx h.2) o)
     agrees (expr_choose m params outputs rel) s scope bs h g env v l o = alike (chosen_keeps m bs outputs rel env o h.5)
     agrees (expr_choose_where n params outputs hidden given rel aim) s scope bs h g env v l o =
         choose_agrees (record { number = n; scope = params; outputs = outputs; hidden = hidden; given = given; relation = rel; aim = aim }) g.0 s scope bs h env v
         o
     agrees (expr_match n params a arms) s scope bs h g env v l o =
-        then_agree (Int ∷ []) bs o (agrees a s scope (Int ∷ []) h.1 (each_left good (chooses_in a) (chooses_in_arms arms) g) env v l) (λ xs hx.
-        agrees_arms n arms (suc s) (scope ++ Int ∷ []) bs h.3 (each_right good (chooses_in a) (chooses_in_arms arms) g) (number_of (first_of xs)) (env ++ xs)
+        then_agree (Int ∷ []) bs o (agrees a s scope (Int ∷ []) h.1 (rec_left good (chooses_in a) (chooses_in_arms arms) g) env v l) (λ xs hx.
+        agrees_arms n arms (suc s) (scope ++ Int ∷ []) bs h.3 (rec_right good (chooses_in a) (chooses_in_arms arms) g) (number_of (first_of xs)) (env ++ xs)
         (have_append scope (Int ∷ []) env xs v hx) (one_behind env xs s l hx) o)
 
-    agrees_all : (es : ExprTrees) (s : ℕ) (scope bs : List Base) → PartsHaveBy linear takes es scope bs → Each good (chooses_in_all es) →
+    agrees_all : (es : ExprTrees) (s : ℕ) (scope bs : List Base) → PartsHaveBy linear takes es scope bs → AllByRecursion good (chooses_in_all es) →
         (env : List Value) → HaveBases scope env → s ≡ length env → (o : Outcome) →
         Agree bs o (AllowedAll calls es env o) (AllowedAll after (all_formed expand s es) env o)
     agrees_all no_exprs s scope bs h g env v l o = alike (gives_keeps bs [] o (rw h tt))
     agrees_all (expr_more e es) s scope bs h g env v l o =
-        then_agree (h.0 ∷ []) bs o (agrees e s scope (h.0 ∷ []) h.3 (each_left good (chooses_in e) (chooses_in_all es) g) env v l) (λ xs hx.
-        then_agree h.1 bs o (agrees_all es s scope h.1 h.4 (each_right good (chooses_in e) (chooses_in_all es) g) env v l) (λ ys hy.
+        then_agree (h.0 ∷ []) bs o (agrees e s scope (h.0 ∷ []) h.3 (rec_left good (chooses_in e) (chooses_in_all es) g) env v l) (λ xs hx.
+        then_agree h.1 bs o (agrees_all es s scope h.1 h.4 (rec_right good (chooses_in e) (chooses_in_all es) g) env v l) (λ ys hy.
         alike (gives_keeps bs (xs ++ ys) o (subst (λ cs. HaveBases cs (xs ++ ys)) (sym h.2) (have_append (h.0 ∷ []) h.1 xs ys hx hy)))))
 
-    agrees_arms : (n : ℕ) (arms : MatchArmTrees) (s : ℕ) (scope bs : List Base) → ArmsHaveBy linear takes arms scope bs → Each good (chooses_in_arms arms) →
+    agrees_arms : (n : ℕ) (arms : MatchArmTrees) (s : ℕ) (scope bs : List Base) → ArmsHaveBy linear takes arms scope bs → AllByRecursion good (chooses_in_arms arms) →
         (z : ℤ) (env : List Value) → HaveBases scope env → s ≡ length env → (o : Outcome) →
         Agree bs o (AllowedArm calls n arms z env o) (AllowedArm after n (arms_formed expand s arms) z env o)
     agrees_arms n no_match_arms s scope bs h g z env v l o = alike (none_keeps bs n o)
@@ -321,7 +310,7 @@ module _ (linear : LinearBehind) (takes : ℕ → List Base → List Base → Ty
         arm_agrees bs n m factors k z body (formed expand (s + length factors) body) arms (arms_formed expand s arms) env o
         (λ zs e.
         let hz = numbers_have factors zs e in
-        agrees body (s + length factors) (scope ++ map (λ _. Int) factors) bs h.3 (each_left good (chooses_in body) (chooses_in_arms arms) g)
+        agrees body (s + length factors) (scope ++ map (λ _. Int) factors) bs h.3 (rec_left good (chooses_in body) (chooses_in_arms arms) g)
         (env ++ map number zs) (have_append scope (map (λ _. Int) factors) env (map number zs) v hz)
         (behind env (map (λ _. Int) factors) (map number zs) s (length factors) l hz (sym (length-map factors (λ _. Int)))) o)
-        (agrees_arms n arms s scope bs h.4 (each_right good (chooses_in body) (chooses_in_arms arms) g) z env v l o)
+        (agrees_arms n arms s scope bs h.4 (rec_right good (chooses_in body) (chooses_in_arms arms) g) z env v l o)
