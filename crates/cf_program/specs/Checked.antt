@@ -7,10 +7,8 @@ use Rattle.cf_tree.specs.DefView.{RawDefTree, DefTree, RawItemTree, item_const, 
 use Rattle.cf_tree.specs.RawTree.{RawTree, place_of}
 use Rattle.cf_tree.specs.RelSize.{capped}
 use Rattle.cf_tree.specs.declared.base.Edition.{Edition}
-use Rattle.cf_tree.specs.declared.base.Edition.TheVariants.{Two, Three}
 use Rattle.cf_program.specs.declared.fault.TypeFault.{TypeFault}
 use Rattle.cf_program.specs.declared.linearity.Linearity.{Linearity}
-use Rattle.cf_program.specs.declared.linearity.Linearity.TheVariants.{Plain}
 use Rattle.cf_program.specs.declared.fault.TypeFault.TheVariants.{DuplicateName, Mismatch, NoMain, Weight, Depth}
 use Rattle.cf_program.specs.Constants.{Constant, constant_names, value}
 use Rattle.cf_program.specs.Names.{is_among, repeated, callee_from}
@@ -18,7 +16,7 @@ use Rattle.cf_tree.specs.Params.{names_of}
 use Rattle.cf_tree.specs.Bases.{same_bases}
 use Rattle.cf_program.specs.Size.{weights, depths}
 use Rattle.cf_program.specs.Then.{◌>>=◌}
-use Rattle.cf_program.specs.Walk.{where_kept, where_no_fault, where_none_repeated, is_one, Form, behind, walk}
+use Rattle.cf_program.specs.Walk.{by_edition, where_kept, where_no_fault, where_none_repeated, is_one, Form, behind, walk}
 
 -- a program with levels: its functions, and the number of the one that is named `main`
 pub record TypedTree : Type 0 where
@@ -72,27 +70,18 @@ size_fault limit fault [] = None
 size_fault limit fault (n ∷ ns) = if nat_le n limit then size_fault limit fault ns else Some (fault (capped n))
 
 -- weights come after all functions and `main`, and depths after all weights
-abbrev pub size_faults : List DefTree → Result TypedTree TypeFault → Result TypedTree TypeFault
-size_faults defs go =
-    where_no_fault (size_fault 1000000 Weight (weights defs)) (
-    where_no_fault (size_fault 200 Depth (depths defs)) go)
+abbrev pub sized : TypedTree → Result TypedTree TypeFault
+sized t =
+    where_no_fault (size_fault 1000000 Weight (weights t.defs)) (
+    where_no_fault (size_fault 200 Depth (depths t.defs)) (
+    Ok t))
 
 abbrev pub with_main : List DefTree → Option ℕ → Result TypedTree TypeFault
 with_main defs None = Err NoMain
 with_main defs (Some main) = Ok (record { defs = defs; main = main })
 
-abbrev pub sized : List DefTree → Option ℕ → Result TypedTree TypeFault
-sized defs main = with_main defs main >>= λ t. size_faults defs (Ok t)
-
--- a program of language 2
-abbrev pub checked_by : Linearity → List RawDefTree → Result TypedTree TypeFault
-checked_by how ds = walk_items Two how ds [] [] [] 1 (map item_def ds) >>= λ defs. sized defs (main_from 0 ds)
-
--- by the plain rule, which `compile` asks
-abbrev pub checked : List RawDefTree → Result TypedTree TypeFault
-checked = checked_by Plain
-
--- A program of edition 3; its weights and depths are those of its lowered form.
-abbrev pub checked_items : Linearity → List RawItemTree → Result TypedTree TypeFault
-checked_items how items =
-    walk_items Three how (functions_of items) [] [] [] 1 items >>= λ defs. with_main defs (main_from 0 (functions_of items))
+-- Weights and depths are those of lowered functions: of language 2 they are asked here, and of edition 3 where it is lowered.
+abbrev pub checked : Edition → Linearity → List RawItemTree → Result TypedTree TypeFault
+checked edition how items =
+    walk_items edition how (functions_of items) [] [] [] 1 items >>= λ defs.
+    with_main defs (main_from 0 (functions_of items)) >>= λ t. by_edition edition (sized t) (Ok t)

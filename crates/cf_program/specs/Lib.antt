@@ -16,4 +16,5 @@ pub mod Source
 pub mod Then
 pub mod Typed
 pub mod TypedProgram
+pub mod TypedSource
 pub mod Walk

@@ -2,7 +2,7 @@
 --
 -- The first form that is not linear is told in the order of the text, parts before the whole. A call is walked into the body of its function behind its
 -- arguments. A choose and a match are told for themselves, and not for what stands in them.
-use Rattle.std.specs.Prelude.{ℕ, Bool, true, false, List, [], ◌∷◌, ◌++◌, map, reverse, if◌then◌else◌}
+use Rattle.std.specs.Prelude.{ℕ, Bool, true, false, List, [], ◌∷◌, ◌++◌, map, if◌then◌else◌}
 use Rattle.std.specs.Str.{bytes_eq}
 use Rattle.cf_tree.specs.declared.base.Place.{Place}
 use Rattle.cf_tree.specs.declared.raw.BinOp.{BinOp}
@@ -59,23 +59,27 @@ pub record Holder : Type 0 where
   pub name : List ℕ
   pub held : Held
 
--- what a name stands for, where the innermost variables stand first; no variable of that name is there for a constant
+-- what a name stands for, where the variables stand by level, and the last of that name counts
+abbrev pub held_from : Held → List Holder → List ℕ → Held
+held_from h [] x = h
+held_from h (v ∷ vs) x = held_from (if bytes_eq v.name x then v.held else h) vs x
+
+-- a name of no variable is that of a constant
 abbrev pub held_of : List Holder → List ℕ → Held
-held_of [] x = is_constant
-held_of (v ∷ vs) x = if bytes_eq v.name x then v.held else held_of vs x
+held_of vs x = held_from is_constant vs x
 
 abbrev pub holders : List (List ℕ) → List Held → List Holder
 holders [] hs = []
 holders (x ∷ xs) [] = []
 holders (x ∷ xs) (h ∷ hs) = record { name = x; held = h } ∷ holders xs hs
 
--- variables by level, of which each holds this
+-- these variables, of which each holds this
 abbrev pub all_hold : Held → List Param → List Holder
-all_hold h ps = reverse (map (λ p. record { name = p.name; held = h }) ps)
+all_hold h ps = map (λ p. record { name = p.name; held = h }) ps
 
--- the outputs of a choose over its scope
+-- the scope of a choose, and its outputs
 abbrev pub in_choose : List Param → List Param → List Holder
-in_choose scope outputs = all_hold is_unknown outputs ++ all_hold is_known scope
+in_choose scope outputs = all_hold is_known scope ++ all_hold is_unknown outputs
 
 abbrev pub one_part : Held → Found
 one_part h = linear (h ∷ [])
@@ -141,7 +145,7 @@ abbrev mutual
   found inputs calls vs (raw_call p f es) = found_all inputs calls vs es then λ hs. call_found p f (calls f hs)
   found inputs calls vs (raw_if p t a b) =
       found inputs calls vs t then λ hs. found inputs calls vs a then λ gs. found inputs calls vs b then λ is. linear (both_hold gs is)
-  found inputs calls vs (raw_let p xs places a b) = found inputs calls vs a then λ hs. found inputs calls (holders xs hs ++ vs) b
+  found inputs calls vs (raw_let p xs places a b) = found inputs calls vs a then λ hs. found inputs calls (vs ++ holders xs hs) b
   found inputs calls vs (raw_choose p outputs hidden given rel aim) = bends p a_choose
   found inputs calls vs (raw_match p a arms) = bends p a_match
 

@@ -47,41 +47,41 @@ abbrev mutual
   holds inputs calls vs (expr_var x) = one_holds (get_or vs x is_unknown)
   holds inputs calls vs (expr_set_of no_exprs) = one_holds is_constant
   holds inputs calls vs (expr_set_of (expr_more e es)) = None
-  holds inputs calls vs (expr_tuple es) = all_hold inputs calls vs es
+  holds inputs calls vs (expr_tuple es) = parts_hold inputs calls vs es
   holds inputs calls vs (expr_neg a) = holds inputs calls vs a
   holds inputs calls vs (expr_not a) = holds inputs calls vs a
   holds inputs calls vs (expr_abs a) = holds inputs calls vs a
   holds inputs calls vs (expr_binary op a b) =
       holds inputs calls vs a then λ hs. holds inputs calls vs b then λ gs. operation_holds inputs op (most_of hs) (most_of gs)
-  holds inputs calls vs (expr_chain orders es) = all_hold inputs calls vs es then λ hs. one_holds (most_of hs)
-  holds inputs calls vs (expr_min es) = all_hold inputs calls vs es then λ hs. one_holds (most_of hs)
-  holds inputs calls vs (expr_max es) = all_hold inputs calls vs es then λ hs. one_holds (most_of hs)
+  holds inputs calls vs (expr_chain orders es) = parts_hold inputs calls vs es then λ hs. one_holds (most_of hs)
+  holds inputs calls vs (expr_min es) = parts_hold inputs calls vs es then λ hs. one_holds (most_of hs)
+  holds inputs calls vs (expr_max es) = parts_hold inputs calls vs es then λ hs. one_holds (most_of hs)
   holds inputs calls vs (expr_divides k a) = holds inputs calls vs a
   holds inputs calls vs (expr_div a k) = holds inputs calls vs a then λ hs. one_holds is_unknown
   holds inputs calls vs (expr_mod a k) = holds inputs calls vs a then λ hs. one_holds is_unknown
   holds inputs calls vs (expr_card a) = holds inputs calls vs a then λ hs. one_holds is_unknown
   holds inputs calls vs (expr_if t a b) =
       holds inputs calls vs t then λ hs. holds inputs calls vs a then λ gs. holds inputs calls vs b then λ is. Some (both_hold gs is)
-  holds inputs calls vs (expr_call f es) = all_hold inputs calls vs es then calls f
+  holds inputs calls vs (expr_call f es) = parts_hold inputs calls vs es then calls f
   holds inputs calls vs (expr_let n a b) = holds inputs calls vs a then λ hs. holds inputs calls (vs ++ hs) b
   holds inputs calls vs (expr_choose n scope outputs rel) = None
   holds inputs calls vs (expr_choose_where n scope outputs hidden given rel aim) = None
   holds inputs calls vs (expr_match n scope a arms) = None
 
   -- of each what its one value holds
-  pub all_hold : Bool → (ℕ → List Held → Option (List Held)) → List Held → ExprTrees → Option (List Held)
-  all_hold inputs calls vs no_exprs = Some []
-  all_hold inputs calls vs (expr_more e es) = holds inputs calls vs e then λ hs. all_hold inputs calls vs es then λ gs. Some (most_of hs ∷ gs)
+  pub parts_hold : Bool → (ℕ → List Held → Option (List Held)) → List Held → ExprTrees → Option (List Held)
+  parts_hold inputs calls vs no_exprs = Some []
+  parts_hold inputs calls vs (expr_more e es) = holds inputs calls vs e then λ hs. parts_hold inputs calls vs es then λ gs. Some (most_of hs ∷ gs)
 
 -- a call of function number f by what its arguments hold, where the functions stand last first
-abbrev pub call_holds : Bool → List DefTree → ℕ → List Held → Option (List Held)
-call_holds inputs [] f hs = None
-call_holds inputs (d ∷ earlier) f hs =
-    if f == length earlier then holds inputs (call_holds inputs earlier) hs d.body else call_holds inputs earlier f hs
+abbrev pub cparts_holds : Bool → List DefTree → ℕ → List Held → Option (List Held)
+cparts_holds inputs [] f hs = None
+cparts_holds inputs (d ∷ earlier) f hs =
+    if f == length earlier then holds inputs (cparts_holds inputs earlier) hs d.body else cparts_holds inputs earlier f hs
 
 -- an expression is linear behind these functions, which stand last first, where these are held by level
 abbrev pub IsLinearHolding : Bool → List DefTree → List Held → ExprTree → Type 0
-IsLinearHolding inputs earlier vs e = (hs : List Held) × (holds inputs (call_holds inputs earlier) vs e ≡ Some hs)
+IsLinearHolding inputs earlier vs e = (hs : List Held) × (holds inputs (cparts_holds inputs earlier) vs e ≡ Some hs)
 
 abbrev pub IsLinearGiven : List DefTree → List Held → GivenExpr → Type 0
 IsLinearGiven earlier vs holds_always = Unit {0}
