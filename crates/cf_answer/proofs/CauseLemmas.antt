@@ -5,6 +5,7 @@ use Rattle.cf_lex.specs.declared.token.Token.{Token}
 use Rattle.cf_lex.specs.Tokens.{Ending, bad_byte, past_limit, at_end}
 use Rattle.cf_lex.proofs.StepLemmas.{LexesTo-once}
 use Rattle.cf_reader.specs.Readers.{Reader}
+use Rattle.cf_tree.specs.declared.base.Edition.TheVariants.{Two}
 use Rattle.cf_tree.specs.declared.base.Place.{Place}
 use Rattle.cf_answer.specs.Limits.{text_limit}
 use Rattle.cf_answer.specs.Refusals.{Causes}
@@ -31,7 +32,7 @@ data Cause {Tree : Type 0} (Is : Tree → List Token → Type 0) (Bad : Tree →
   bad_tree : (x : Tree) → Spelled Is text x → Bad x f → Cause Is Bad text f
 
 tokens_agree : (text : List ℕ) (ts us : List Token) (p q : Place) (e d : Ending) → HasTokens text ts p e → HasTokens text us q d → (ts ≡ us) × (p ≡ q) × (e ≡ d)
-tokens_agree text ts us p q e d a b = LexesTo-once (2 ^ 127 - 1) text ts us p q e d a.1 b.1
+tokens_agree text ts us p q e d a b = LexesTo-once Two (2 ^ 127 - 1) text ts us p q e d a.1 b.1
 
 pub trees_agree : {Tree : Type 0} (Is : Tree → List Token → Type 0) → IsSingle Is → (text : List ℕ) (x y : Tree) → Spelled Is text x → Spelled Is text y → x ≡ y
 trees_agree Is one text x y s t =

@@ -3,10 +3,12 @@ use Rattle.std.proofs.Common.{◌≡◌, inl, inr, ap, subst, refl, ℕ, List, [
 use Rattle.std.proofs.lemmas.List.Elements.{All-nil, All-cons, All-contains}
 use Rattle.std.proofs.lemmas.List.Sorted.{Contains-permutation}
 use Rattle.std.specs.Prelude.{Ok}
-use Rattle.cf_tree.specs.DefView.{RawDefTree}
+use Rattle.cf_tree.specs.declared.base.Edition.TheVariants.{Two}
+use Rattle.cf_tree.specs.DefView.{RawItemTree}
 use Rattle.cf_parse.specs.Programs.{IsProgram, program_of}
 use Rattle.cf_parse.proofs.Programs.{one_law as one_program}
 use Rattle.cf_program.specs.Checked.{TypedTree, checked}
+use Rattle.cf_program.specs.declared.linearity.Linearity.TheVariants.{Plain}
 use Rattle.cf_tree.specs.ChooseTree.{ChooseTree}
 use Rattle.cf_build.specs.Chooses.{all_chooses, limit_of}
 use Rattle.cf_build.proofs.NumberOrder.{ordered_same}
@@ -32,17 +34,17 @@ use Rattle.cf_answer.proofs.SourceLemmas.{typed_unrefused}
 -- a source spells one typed program, and none where a rule is broken
 typed_once : (text : List ℕ) (typed other : TypedTree) → IsTypedSource text typed → IsTypedSource text other → other ≡ typed
 typed_once text typed other s t =
-    let same : t.0 ≡ s.0 = trees_agree IsProgram one_program text t.0 s.0 t.1 s.1 in
+    let same : t.0 ≡ s.0 = trees_agree (IsProgram Two) one_program text t.0 s.0 t.1 s.1 in
     let first = s.2 in
     let second = t.2 in cc
 
-never_broken : (program : List RawDefTree) (typed : TypedTree) (f : Fault) → checked program ≡ Ok typed → IsBroken program f → ⊥
+never_broken : (program : List RawItemTree) (typed : TypedTree) (f : Fault) → checked Two Plain program ≡ Ok typed → IsBroken program f → ⊥
 never_broken program typed f is (broken_rule e broken) = cc
 
 pub typed_unbroken : (text : List ℕ) (typed : TypedTree) (f : Fault) → IsTypedSource text typed → IsBrokenSource text f → ⊥
-typed_unbroken text typed f s h = unrefused IsProgram (program_of 200) IsBroken one_program text f s.0 (λ g b. never_broken s.0 typed g s.2 b) h s.1
+typed_unbroken text typed f s h = unrefused (IsProgram Two) (program_of Two 200) IsBroken one_program text f s.0 (λ g b. never_broken s.0 typed g s.2 b) h s.1
 
-broken_alike : (text : List ℕ) (program : List RawDefTree) (f g : Fault) → Spelled IsProgram text program → IsBroken program f → IsBroken program g →
+broken_alike : (text : List ℕ) (program : List RawItemTree) (f g : Fault) → Spelled (IsProgram Two) text program → IsBroken program f → IsBroken program g →
     fault_status f ≡ fault_status g
 broken_alike text program f g s (broken_rule e h) (broken_rule d i) = let same : e ≡ d = cc in ap rule_status same
 
@@ -52,7 +54,7 @@ spelled_unrefused text bs f s h = unrefused AreBlocks (all_blocks 500) (λ bs g.
 
 pub verify_alike : (source steps : List ℕ) (f g : Fault) → IsUnverified source steps f → IsUnverified source steps g → fault_status f ≡ fault_status g
 verify_alike source steps f g (bad_source a h) (bad_source b i) =
-    alike IsProgram (program_of 200) IsBroken one_program source (broken_alike source) f g h i
+    alike (IsProgram Two) (program_of Two 200) IsBroken one_program source (broken_alike source) f g h i
 verify_alike source steps f g (bad_source a h) (bad_steps typed e s i) = absurd (typed_unbroken source typed f s h)
 verify_alike source steps f g (bad_source a h) (bad_blocks typed bs n i j w s b v) = absurd (typed_unbroken source typed f s h)
 verify_alike source steps f g (bad_steps typed e s h) (bad_source b i) = absurd (typed_unbroken source typed g s i)

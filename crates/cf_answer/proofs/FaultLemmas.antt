@@ -4,7 +4,7 @@ use Rattle.std.specs.Prelude.{Result, Err}
 use Rattle.cf_gen.specs.Workload.{gen_source}
 use Rattle.cf_lex.specs.declared.token.Token.{Token}
 use Rattle.cf_reader.specs.Readers.{Reader}
-use Rattle.cf_tree.specs.DefView.{RawDefTree}
+use Rattle.cf_tree.specs.DefView.{RawItemTree}
 use Rattle.cf_target.specs.Spelling.{TargetTree}
 use Rattle.cf_words.specs.Commands.{Command, compile, run, pre, check, exec, prove, verify, gen}
 use Rattle.cf_answer.specs.Refusals.{Causes, too_long, odd_byte, large_number, no_tree, bad_tree, IsBadProgram, broken, refused, IsBadRun, bad, broken_late, IsBadTarget, untyped, IsRefusedSource, IsRefusedRun, IsRefusedTarget, IsBroken, broken_rule, IsUnverified, bad_source, bad_steps, bad_blocks, Refuses}
@@ -36,11 +36,11 @@ caused Is read Bad by text f (large_number ts p h) = tt
 caused Is read Bad by text f (no_tree ts end p h none place) = tt
 caused Is read Bad by text f (bad_tree x g s b) = by x g b
 
-program_fault : (program : List RawDefTree) (f : Fault) → IsBadProgram program f → IsTextFault f
+program_fault : (program : List RawItemTree) (f : Fault) → IsBadProgram program f → IsTextFault f
 program_fault program f (broken e h) = tt
 program_fault program f (refused typed n r h b) = tt
 
-run_fault : (program : List RawDefTree) (f : Fault) → IsBadRun program f → IsTextFault f
+run_fault : (program : List RawItemTree) (f : Fault) → IsBadRun program f → IsTextFault f
 run_fault program f (bad g b other) = program_fault program g b
 run_fault program f (broken_late p e plain h) = tt
 
@@ -56,7 +56,7 @@ run_text text f h = caused _ _ _ run_fault text f h
 target_text : (text : List ℕ) (f : Fault) → IsRefusedTarget text f → IsTextFault f
 target_text text f h = caused _ _ _ target_fault text f h
 
-broken_fault : (program : List RawDefTree) (f : Fault) → IsBroken program f → IsTextFault f
+broken_fault : (program : List RawItemTree) (f : Fault) → IsBroken program f → IsTextFault f
 broken_fault program f (broken_rule e h) = tt
 
 verify_fault : (source steps : List ℕ) (f : Fault) → IsUnverified source steps f → IsTextFault f

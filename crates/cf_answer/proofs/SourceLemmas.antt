@@ -5,12 +5,14 @@ use Rattle.std.proofs.lemmas.List.Elements.{All-nil, All-cons, All-contains}
 use Rattle.std.proofs.lemmas.List.Sorted.{Contains-permutation}
 use Rattle.std.specs.Prelude.{Result, Ok, Err, Contains}
 use Rattle.cf_lex.proofs.LexesLemmas.{lexes-within}
-use Rattle.cf_tree.specs.DefView.{RawDefTree}
+use Rattle.cf_tree.specs.declared.base.Edition.TheVariants.{Two}
+use Rattle.cf_tree.specs.DefView.{RawItemTree}
 use Rattle.cf_tree.specs.declared.target.RawTarget.{RawTarget}
 use Rattle.cf_parse.specs.Programs.{IsProgram, program_of}
 use Rattle.cf_parse.proofs.Programs.{one_law}
 use Rattle.cf_pass.specs.Passes.{Told}
 use Rattle.cf_program.specs.Checked.{TypedTree, checked}
+use Rattle.cf_program.specs.declared.linearity.Linearity.TheVariants.{Plain}
 use Rattle.cf_program.specs.CheckAnswers.{CheckFault}
 use Rattle.cf_program.specs.TypedProgram.{all_numbers}
 use Rattle.cf_program.specs.declared.fault.TypeFault.{TypeFault}
@@ -39,6 +41,9 @@ fails_so (rule.UnknownName p) r n h = h
 fails_so (rule.DuplicateName p) r n h = h
 fails_so (rule.WrongCount p) r n h = h
 fails_so (rule.Mismatch p) r n h = h
+fails_so (rule.NotConstant p) r n h = h
+fails_so (rule.ConstantBelow p) r n h = h
+fails_so (rule.ConstantPast p) r n h = h
 fails_so (rule.CallsLater p) r n h = h
 fails_so rule.NoMain r n h = h
 fails_so (rule.NotLinear p) r n h = h
@@ -46,12 +51,12 @@ fails_so (rule.Weight k) r n h = h
 fails_so (rule.Depth k) r n h = h
 
 -- the numbers of its chooses differ
-source_distinct : (text : List ℕ) (program : List RawDefTree) (typed : TypedTree) → Spelled IsProgram text program → checked program ≡ Ok typed →
+source_distinct : (text : List ℕ) (program : List RawItemTree) (typed : TypedTree) → Spelled (IsProgram Two) text program → checked Two Plain program ≡ Ok typed →
     IsDistinct nat_eq (all_numbers typed.defs)
 source_distinct text program typed s e =
-    (when_is (checked program) typed (checked_typed program (spelled_program program s.0 s.3 (lexes-within s.2.1.1))) e).distinct
+    (when_is (checked Two Plain program) typed (checked_typed program (spelled_program program s.0 s.3 (lexes-within s.2.1.1))) e).distinct
 
-pub bad_alike : (text : List ℕ) (program : List RawDefTree) (f g : Fault) → Spelled IsProgram text program → IsBadProgram program f → IsBadProgram program g →
+pub bad_alike : (text : List ℕ) (program : List RawItemTree) (f g : Fault) → Spelled (IsProgram Two) text program → IsBadProgram program f → IsBadProgram program g →
     fault_status f ≡ fault_status g
 bad_alike text program f g s (broken e h) (broken d i) = let same : e ≡ d = cc in ap rule_status same
 bad_alike text program f g s (broken e h) (refused typed n r i b) = cc
@@ -62,10 +67,10 @@ bad_alike text program f g s (refused typed n r h b) (refused other m q i c) =
     ap refusal_status (one_refusal typed.defs n m r q (source_distinct text program typed s h) b there)
 
 pub sources_alike : (text : List ℕ) (f g : Fault) → IsRefusedSource text f → IsRefusedSource text g → fault_status f ≡ fault_status g
-sources_alike text f g h i = alike IsProgram (program_of 200) IsBadProgram one_law text (bad_alike text) f g h i
+sources_alike text f g h i = alike (IsProgram Two) (program_of Two 200) IsBadProgram one_law text (bad_alike text) f g h i
 
 -- a program whose chooses pass no limit is not refused
-never_bad : (program : List RawDefTree) (typed : TypedTree) → checked program ≡ Ok typed →
+never_bad : (program : List RawItemTree) (typed : TypedTree) → checked Two Plain program ≡ Ok typed →
     ((q : ChooseTree) → Contains (all_chooses typed.defs) q → limit_of q ≡ None) → (f : Fault) → IsBadProgram program f → ⊥
 never_bad program typed is within f (broken e h) = cc
 never_bad program typed is within f (refused other n r h b) =
@@ -77,10 +82,10 @@ never_bad program typed is within f (refused other n r h b) =
 pub typed_unrefused : (text : List ℕ) (typed : TypedTree) (f : Fault) → IsTypedSource text typed →
     ((q : ChooseTree) → Contains (all_chooses typed.defs) q → limit_of q ≡ None) →
     IsRefusedSource text f → ⊥
-typed_unrefused text typed f s within h = unrefused IsProgram (program_of 200) IsBadProgram one_law text f s.0 (never_bad s.0 typed s.2 within) h s.1
+typed_unrefused text typed f s within h = unrefused (IsProgram Two) (program_of Two 200) IsBadProgram one_law text f s.0 (never_bad s.0 typed s.2 within) h s.1
 
 -- nor is one of which a target is built
-pub built_never_bad : (program : List RawDefTree) (typed : TypedTree) (given last : List Told) (t : RawTarget) → checked program ≡ Ok typed →
+pub built_never_bad : (program : List RawItemTree) (typed : TypedTree) (given last : List Told) (t : RawTarget) → checked Two Plain program ≡ Ok typed →
     IsBuilt typed.defs typed.main given last t → (f : Fault) → IsBadProgram program f → ⊥
 built_never_bad program typed given last t is built f b = never_bad program typed is (λ q m. (built.solved q m).within) f b
 

@@ -47,6 +47,11 @@ types : map fault_line (fault.Rule (rule.WrongCount place) ∷ fault.Rule (rule.
 unfolding digits
 types = refl
 
+constants : map fault_line (fault.Rule (rule.NotConstant place) ∷ fault.Rule (rule.ConstantBelow place) ∷ fault.Rule (rule.ConstantPast place) ∷ []) ≡
+    codes "line 3 column 14: not constant\n" ∷ codes "line 3 column 14: constant below 1\n" ∷ codes "line 3 column 14: constant past limit\n" ∷ []
+unfolding digits
+constants = refl
+
 sizes : map fault_line (fault.Rule (rule.Weight 1000001) ∷ fault.Rule (rule.Depth 201) ∷ fault.Rule rule.NoMemory ∷ []) ≡
     codes "Weight 1000001\n" ∷ codes "Depth 201\n" ∷ codes "no memory\n" ∷ []
 unfolding digits

@@ -4,14 +4,16 @@ use Rattle.std.specs.Prelude.{◌⊎◌}
 use Rattle.cf_lex.specs.declared.token.Token.{Token}
 use Rattle.cf_lex.specs.Tokens.{at_end}
 use Rattle.cf_linear.specs.declared.refusal.Refusal.{Refusal}
+use Rattle.cf_tree.specs.declared.base.Edition.TheVariants.{Two}
 use Rattle.cf_tree.specs.declared.base.Place.{Place}
-use Rattle.cf_tree.specs.DefView.{RawDefTree}
+use Rattle.cf_tree.specs.DefView.{RawItemTree}
 use Rattle.cf_reader.specs.Faults.{IsFaultPlace, IsFaultPlaceOf}
 use Rattle.cf_reader.specs.Readers.{Reader}
 use Rattle.cf_parse.specs.Programs.{IsProgram, SomeProgram, program_of}
 use Rattle.cf_target.specs.Spelling.{TargetTree, IsTarget}
 use Rattle.cf_target.specs.Targets.{SomeTarget, target_of}
 use Rattle.cf_program.specs.Checked.{TypedTree, checked}
+use Rattle.cf_program.specs.declared.linearity.Linearity.TheVariants.{Plain}
 use Rattle.cf_program.specs.declared.fault.TypeFault.{TypeFault}
 use Rattle.cf_program.specs.declared.fault.TypeFault.TheVariants as rule
 use Rattle.cf_program.specs.CheckAnswers.{CheckFault}
@@ -26,9 +28,9 @@ use Rattle.cf_answer.specs.declared.fault.Fault.{Fault}
 use Rattle.cf_answer.specs.declared.fault.Fault.TheVariants as fault
 use Rattle.cf_answer.proofs.SourceLemmas.{fails_so}
 
-pub no_source : (text : List ℕ) (ts : List Token) (end p : Place) → HasTokens text ts end at_end → ((x : List RawDefTree) → IsProgram x ts → ⊥) →
+pub no_source : (text : List ℕ) (ts : List Token) (end p : Place) → HasTokens text ts end at_end → ((x : List RawItemTree) → IsProgram x ts → ⊥) →
     IsFaultPlace SomeProgram ts end p →
-    IsFaultPlaceOf (program_of 200) ts end p → IsMisspelled text (fault.Syntax p)
+    IsFaultPlaceOf (program_of Two 200) ts end p → IsMisspelled text (fault.Syntax p)
 no_source text ts end p h none dead exact = no_tree ts end p h none (record { dead = dead; exact = exact })
 
 pub no_target : (text : List ℕ) (ts : List Token) (end p : Place) → HasTokens text ts end at_end → ((x : TargetTree) → IsTarget x ts → ⊥) →
@@ -36,10 +38,10 @@ pub no_target : (text : List ℕ) (ts : List Token) (end p : Place) → HasToken
     IsFaultPlaceOf (target_of 500) ts end p → IsRefusedTarget text (fault.Syntax p)
 no_target text ts end p h none dead exact = no_tree ts end p h none (record { dead = dead; exact = exact })
 
-pub rule_broken : (text : List ℕ) (program : List RawDefTree) (e : TypeFault) → (e ≡ rule.NoMemory → ⊥) → CheckFault {Y = TypedTree} e (checked program) →
-    Spelled IsProgram text program →
+pub rule_broken : (text : List ℕ) (program : List RawItemTree) (e : TypeFault) → (e ≡ rule.NoMemory → ⊥) → CheckFault {Y = TypedTree} e (checked Two Plain program) →
+    Spelled (IsProgram Two) text program →
     IsBrokenSource text (fault.Rule e)
-rule_broken text program e n h s = bad_tree program (fault.Rule e) s (broken_rule e (fails_so e (checked program) n h))
+rule_broken text program e n h s = bad_tree program (fault.Rule e) s (broken_rule e (fails_so e (checked Two Plain program) n h))
 
 pub choose_refused : (text : List ℕ) (typed : TypedTree) (n : ℕ) (r : Refusal) → IsTypedSource text typed → IsFirstRefused (all_chooses typed.defs) n r →
     IsRefusedSource text (fault.Choose n r)
@@ -64,9 +66,9 @@ module _ {Tree : Type 0} (Is : Tree → List Token → Type 0) (read : Reader Tr
   caused_too text f (no_tree ts end p h none place) = no_tree ts end p h none place
   caused_too text f (bad_tree x g s b) = bad_tree x g s (worse x g b)
 
-bad_too : (program : List RawDefTree) (f : Fault) → IsBroken program f → IsBadProgram program f
+bad_too : (program : List RawItemTree) (f : Fault) → IsBroken program f → IsBadProgram program f
 bad_too program f (broken_rule e h) = broken e h
 
 pub broken_refused : (text : List ℕ) (f : Fault) → IsBrokenSource text f ⊎ (f ≡ fault.NoMemory) → IsRefusedSource text f ⊎ (f ≡ fault.NoMemory)
-broken_refused text f (inl h) = inl (caused_too IsProgram (program_of 200) IsBroken IsBadProgram bad_too text f h)
+broken_refused text f (inl h) = inl (caused_too (IsProgram Two) (program_of Two 200) IsBroken IsBadProgram bad_too text f h)
 broken_refused text f (inr memory) = inr memory

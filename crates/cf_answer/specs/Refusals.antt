@@ -3,15 +3,16 @@ use Rattle.std.specs.Prelude.{◌≡◌, ℕ, ◌<◌, List, [], ◌∷◌, leng
 use Rattle.cf_gen.specs.Workload.{gen_source}
 use Rattle.cf_lex.specs.declared.token.Token.{Token}
 use Rattle.cf_lex.specs.Tokens.{bad_byte, past_limit, at_end}
+use Rattle.cf_tree.specs.declared.base.Edition.TheVariants.{Two}
 use Rattle.cf_tree.specs.declared.base.Place.{Place}
-use Rattle.cf_tree.specs.DefView.{RawDefTree}
+use Rattle.cf_tree.specs.DefView.{RawItemTree}
 use Rattle.cf_reader.specs.Faults.{IsFaultPlace, IsFaultPlaceOf}
 use Rattle.cf_reader.specs.Readers.{Reader}
 use Rattle.cf_parse.specs.Programs.{IsProgram, program_of}
 use Rattle.cf_target.specs.Spelling.{TargetTree, IsTarget}
 use Rattle.cf_target.specs.Targets.{target_of}
-use Rattle.cf_program.specs.Checked.{TypedTree, checked, checked_by}
-use Rattle.cf_program.specs.declared.linearity.Linearity.TheVariants.{Late}
+use Rattle.cf_program.specs.Checked.{TypedTree, checked}
+use Rattle.cf_program.specs.declared.linearity.Linearity.TheVariants.{Plain, Late}
 use Rattle.cf_program.specs.declared.fault.TypeFault.{TypeFault}
 use Rattle.cf_program.specs.declared.fault.TypeFault.TheVariants.{NotLinear}
 use Rattle.cf_linear.specs.declared.refusal.Refusal.{Refusal}
@@ -54,16 +55,16 @@ fault_of (build.Choose n r) = fault.Choose n r
 fault_of build.NoMemory = fault.NoMemory
 
 -- for which faults a program is refused: its first broken rule, or its first choose that is refused
-pub data IsBadProgram (program : List RawDefTree) : Fault → Type 0 where
-  broken : (e : TypeFault) → checked program ≡ Err e → IsBadProgram program (fault.Rule e)
-  refused : (typed : TypedTree) (n : ℕ) (r : Refusal) → checked program ≡ Ok typed → IsFirstRefused (all_chooses typed.defs) n r →
+pub data IsBadProgram (program : List RawItemTree) : Fault → Type 0 where
+  broken : (e : TypeFault) → checked Two Plain program ≡ Err e → IsBadProgram program (fault.Rule e)
+  refused : (typed : TypedTree) (n : ℕ) (r : Refusal) → checked Two Plain program ≡ Ok typed → IsFirstRefused (all_chooses typed.defs) n r →
       IsBadProgram program (fault.Choose n r)
 
 -- for which faults `run` refuses it: where the first broken rule is that on linear relations, for the first rule that is broken where the numbers in
 -- scope of a choose are known
-pub data IsBadRun (program : List RawDefTree) : Fault → Type 0 where
+pub data IsBadRun (program : List RawItemTree) : Fault → Type 0 where
   bad : (f : Fault) → IsBadProgram program f → ((p : Place) → f ≡ fault.Rule (NotLinear p) → ⊥) → IsBadRun program f
-  broken_late : (p : Place) (e : TypeFault) → checked program ≡ Err (NotLinear p) → checked_by Late program ≡ Err e → IsBadRun program (fault.Rule e)
+  broken_late : (p : Place) (e : TypeFault) → checked Two Plain program ≡ Err (NotLinear p) → checked Two Late program ≡ Err e → IsBadRun program (fault.Rule e)
 
 -- for which fault a target is refused
 pub data IsBadTarget (t : TargetTree) : Fault → Type 0 where
@@ -71,21 +72,21 @@ pub data IsBadTarget (t : TargetTree) : Fault → Type 0 where
 
 -- the fault for which the text of a source is refused, also by `run`, and that of a target
 abbrev pub IsRefusedSource : List ℕ → Fault → Type 0
-IsRefusedSource text f = Causes IsProgram (program_of 200) IsBadProgram text f
+IsRefusedSource text f = Causes (IsProgram Two) (program_of Two 200) IsBadProgram text f
 
 abbrev pub IsRefusedRun : List ℕ → Fault → Type 0
-IsRefusedRun text f = Causes IsProgram (program_of 200) IsBadRun text f
+IsRefusedRun text f = Causes (IsProgram Two) (program_of Two 200) IsBadRun text f
 
 abbrev pub IsRefusedTarget : List ℕ → Fault → Type 0
 IsRefusedTarget text f = Causes IsTarget (target_of 500) IsBadTarget text f
 
 -- ---- verify
 -- a program whose chooses are not solved is refused for its first broken rule alone
-pub data IsBroken (program : List RawDefTree) : Fault → Type 0 where
-  broken_rule : (e : TypeFault) → checked program ≡ Err e → IsBroken program (fault.Rule e)
+pub data IsBroken (program : List RawItemTree) : Fault → Type 0 where
+  broken_rule : (e : TypeFault) → checked Two Plain program ≡ Err e → IsBroken program (fault.Rule e)
 
 abbrev pub IsBrokenSource : List ℕ → Fault → Type 0
-IsBrokenSource text f = Causes IsProgram (program_of 200) IsBroken text f
+IsBrokenSource text f = Causes (IsProgram Two) (program_of Two 200) IsBroken text f
 
 -- the fault of a steps file's text, as one of a text
 abbrev pub text_fault : StepsFault → Fault

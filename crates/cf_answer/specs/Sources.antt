@@ -3,15 +3,16 @@ use Rattle.std.specs.Prelude.{◌≡◌, ℕ, ◌-◌, ◌^◌, ◌≤◌, List,
 use Rattle.std.specs.List.Sorted.{IsPermutation}
 use Rattle.cf_lex.specs.declared.token.Token.{Token}
 use Rattle.cf_lex.specs.Tokens.{LexesTo, Ending, at_end}
+use Rattle.cf_tree.specs.declared.base.Edition.TheVariants.{Two}
 use Rattle.cf_tree.specs.declared.base.Place.{Place}
 use Rattle.cf_tree.specs.declared.target.RawTarget.{RawTarget}
-use Rattle.cf_tree.specs.DefView.{RawDefTree, def_tree}
+use Rattle.cf_tree.specs.DefView.{RawItemTree, def_tree}
 use Rattle.cf_tree.specs.Typing.{IsTypedCode}
 use Rattle.cf_parse.specs.Programs.{IsProgram}
 use Rattle.cf_pass.specs.Passes.{Told}
 use Rattle.cf_target.specs.Spelling.{TargetTree, IsTarget}
-use Rattle.cf_program.specs.Checked.{TypedTree, checked, checked_by}
-use Rattle.cf_program.specs.declared.linearity.Linearity.TheVariants.{Late}
+use Rattle.cf_program.specs.Checked.{TypedTree, checked}
+use Rattle.cf_program.specs.declared.linearity.Linearity.TheVariants.{Plain, Late}
 use Rattle.cf_program.specs.declared.fault.TypeFault.TheVariants.{NotLinear}
 use Rattle.cf_program.specs.Lowered.{lowered_def}
 use Rattle.cf_match.specs.Matches.{all_matches, match_tree}
@@ -22,7 +23,7 @@ use Rattle.cf_answer.specs.Limits.{text_limit}
 
 -- the text is not too long, and has these tokens up to its end or its first fault, which is at this place
 abbrev pub HasTokens : List ℕ → List Token → Place → Ending → Type 0
-HasTokens text ts p ending = (length text ≤ text_limit) × LexesTo (2 ^ 127 - 1) text ts p ending
+HasTokens text ts p ending = (length text ≤ text_limit) × LexesTo Two (2 ^ 127 - 1) text ts p ending
 
 -- the text spells this tree, where Is says which tokens spell a tree
 abbrev pub Spelled : {Tree : Type 0} → (Tree → List Token → Type 0) → List ℕ → Tree → Type 0
@@ -30,7 +31,7 @@ Spelled Is text x = (ts : List Token) × (end : Place) × HasTokens text ts end 
 
 -- the text spells a program in which no rule is broken; with levels in the place of names it is this one
 abbrev pub IsTypedSource : List ℕ → TypedTree → Type 0
-IsTypedSource text typed = (program : List RawDefTree) × Spelled IsProgram text program × (checked program ≡ Ok typed)
+IsTypedSource text typed = (program : List RawItemTree) × Spelled (IsProgram Two) text program × (checked Two Plain program ≡ Ok typed)
 
 -- the program is that of the text, with its matches taken apart
 pub record IsLoweredSource (text : List ℕ) (l : LoweredParts) : Type 0 where
@@ -41,12 +42,12 @@ pub record IsLoweredSource (text : List ℕ) (l : LoweredParts) : Type 0 where
   pub classes : All (λ m. AreClasses m.classes.items) l.matches.items
 
 -- a program whose first broken rule is that on linear relations, and which breaks none where the numbers in scope of a choose are known
-abbrev pub IsCheckedLate : List RawDefTree → TypedTree → Type 0
-IsCheckedLate program typed = (p : Place) × (checked program ≡ Err (NotLinear p)) × (checked_by Late program ≡ Ok typed)
+abbrev pub IsCheckedLate : List RawItemTree → TypedTree → Type 0
+IsCheckedLate program typed = (p : Place) × (checked Two Plain program ≡ Err (NotLinear p)) × (checked Two Late program ≡ Ok typed)
 
 -- the text spells a late program; with levels in the place of names it is this one
 abbrev pub IsLateSource : List ℕ → TypedTree → Type 0
-IsLateSource text typed = (program : List RawDefTree) × Spelled IsProgram text program × IsCheckedLate program typed
+IsLateSource text typed = (program : List RawItemTree) × Spelled (IsProgram Two) text program × IsCheckedLate program typed
 
 -- the text spells a program in which no rule is broken, and this target is built of it, with the code that passes make that told `given` and tell `last`
 abbrev pub Compiles : List Told → List Told → List ℕ → RawTarget → Type 0

@@ -9,6 +9,7 @@ use Rattle.cf_io.specs.Lines.{is_feed, lines, ended}
 use Rattle.cf_io.specs.declared.line.Line.{Line}
 use Rattle.cf_io.specs.declared.line.Line.TheVariants.{Text, TooLong}
 use Rattle.cf_num.specs.Limit.{limit}
+use Rattle.cf_tree.specs.declared.base.Edition.TheVariants.{Two}
 use Rattle.cf_tree.specs.declared.target.RawTarget.{RawTarget}
 use Rattle.cf_tree.specs.CodeTree.{CodeTree}
 use Rattle.cf_tree.specs.CodeView.{code_tree}
@@ -47,7 +48,7 @@ IsRunner calls source given last a = (ls : List (List ℕ)) (text : List ℕ) �
 
 -- a source text is refused, whatever rules the program breaks that it spells
 abbrev pub IsMisspelled : List ℕ → Fault → Type 0
-IsMisspelled text f = Causes IsProgram (program_of 200) (λ x f. ⊥) text f
+IsMisspelled text f = Causes (IsProgram Two) (program_of Two 200) (λ x f. ⊥) text f
 
 -- the reply to a line as it is cut
 abbrev pub IsLineReply : Answerer → Line → List ℕ → Type 0

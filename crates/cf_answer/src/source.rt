@@ -1,5 +1,6 @@
 //! From the text of a source to its program and its target.
 ghost use Rattle.std.specs.Prelude.{◌≡◌, ◌≤◌, ◌<◌, ◌-◌, ◌^◌, Bool, true, List, ℕ, length, map, Err, IfOk, OnErr};
+ghost use Rattle.cf_tree.specs.declared.base.Edition.TheVariants.{Two};
 ghost use Rattle.cf_tree.specs.declared.base.Place.{Place};
 ghost use Rattle.cf_tree.specs.DefView.{program_tree};
 ghost use Rattle.cf_pass.specs.Passes.{Told};
@@ -7,6 +8,7 @@ ghost use Rattle.cf_program.specs.Checked.{checked};
 ghost use Rattle.cf_program.specs.Source.{IsSpelledProgram};
 ghost use Rattle.cf_program.specs.Typed.{typed_tree};
 ghost use Rattle.cf_program.specs.declared.fault.TypeFault.TheVariants.{NotLinear};
+ghost use Rattle.cf_program.specs.declared.linearity.Linearity.TheVariants.{Plain};
 ghost use Rattle.cf_parse.specs.Programs.{IsProgram};
 ghost use Rattle.cf_answer.specs.Limits.{text_limit};
 ghost use Rattle.cf_answer.specs.Owed.{IsCompiledBy};
@@ -22,7 +24,7 @@ use cf_match::{Lowered, lower};
 use cf_parse::{ParseFault, program};
 use cf_pass::Pass;
 use cf_program::{TypeFault, Typed};
-use cf_tree::{Program, Target};
+use cf_tree::{Edition, Program, Target};
 use cf_type::{check, check_late};
 use std::alloc::Global;
 
@@ -40,11 +42,11 @@ pub fn read_source(alloc: Global, text: &[u8]) -> Result<Typed, Fault>
 fn parsed(alloc: Global, text: &[u8]) -> Result<Program, Fault>
     requires short { length text.now ≤ text_limit }
     requires place { length text.now < 2 ^ 32 - 1 }
-    ensures verdict { IsVerdict (λ x. Spelled IsProgram text.now (program_tree x)) (IsMisspelled text.now) result }
-    ensures numbers { IfOk result (λ x. IsSpelledProgram (program_tree x)) }
+    ensures verdict { IsVerdict (λ x. Spelled (IsProgram Two) text.now (program_tree x)) (IsMisspelled text.now) result }
+    ensures numbers { IfOk result (λ x. IsSpelledProgram Two (program_tree x)) }
 {
     let list = lexed(alloc, text)?;
-    match program(alloc, &list) {
+    match program(alloc, Edition::Two, &list) {
         Ok(program) => Ok(program),
         Err(ParseFault::Syntax(place)) => Err(Fault::Syntax(place)),
         Err(ParseFault::NoMemory) => Err(Fault::NoMemory),
@@ -52,8 +54,8 @@ fn parsed(alloc: Global, text: &[u8]) -> Result<Program, Fault>
 }
 
 fn check_program(alloc: Global, program: &Program) -> Result<Typed, Fault>
-    requires { IsSpelledProgram (program_tree program.now) }
-    ensures { (text : List ℕ) → Spelled IsProgram text (program_tree program.now) →
+    requires { IsSpelledProgram Two (program_tree program.now) }
+    ensures { (text : List ℕ) → Spelled (IsProgram Two) text (program_tree program.now) →
         IsVerdict (λ x. IsTypedSource text (typed_tree x)) (IsBrokenSource text) result }
 {
     match check(alloc, program) {
@@ -117,8 +119,8 @@ fn program_runner(
     program: &Program,
     passes: &mut Vec<Box<dyn Pass>>,
 ) -> Result<Answerer, Fault>
-    requires { IsSpelledProgram (program_tree program.now) }
-    ensures verdict { (text : List ℕ) → Spelled IsProgram text (program_tree program.now) →
+    requires { IsSpelledProgram Two (program_tree program.now) }
+    ensures verdict { (text : List ℕ) → Spelled (IsProgram Two) text (program_tree program.now) →
         IsVerdict (λ a. IsRunner true text (map (λ p. told p) passes.old.items) (map (λ p. told p) passes.new.items) (answerer_of a))
         (IsRefusedRun text) result }
     ensures kept { OnErr result (map (λ p. told p) passes.new.items ≡ map (λ p. told p) passes.old.items) }
@@ -136,9 +138,9 @@ fn program_runner(
 
 // A program that is not linear, as a late one.
 fn late_runner(alloc: Global, program: &Program) -> Result<Answerer, Fault>
-    requires { IsSpelledProgram (program_tree program.now) }
-    ensures { (text : List ℕ) (p : Place) → Spelled IsProgram text (program_tree program.now) →
-        checked (program_tree program.now) ≡ Err (NotLinear p) → (calls : Bool) (given : List Told) →
+    requires { IsSpelledProgram Two (program_tree program.now) }
+    ensures { (text : List ℕ) (p : Place) → Spelled (IsProgram Two) text (program_tree program.now) →
+        checked Two Plain (program_tree program.now) ≡ Err (NotLinear p) → (calls : Bool) (given : List Told) →
         IsVerdict (λ a. IsRunner calls text given given (answerer_of a)) (IsRefusedRun text) result }
 {
     match check_late(alloc, program) {

@@ -11,6 +11,7 @@ use crate::fault::{Fault, StepsFault};
 use cf_lex::{LexFault, TokenList, tokens};
 use cf_parse::ParseFault;
 use cf_steps::{Blocks, steps};
+use cf_tree::Edition;
 use std::alloc::Global;
 
 // The tokens of the text of a steps file.
@@ -21,7 +22,7 @@ fn lexed_steps(alloc: Global, text: &[u8]) -> Result<TokenList, Fault>
     ensures within { IfOk result (λ list. AreWithin (2 ^ 127 - 1) list.list.items) }
     ensures fault { IfErr result (λ f. AreMisspelled text.now f ⊎ (f ≡ Fault.NoMemory)) }
 {
-    match tokens(alloc, text) {
+    match tokens(alloc, Edition::Two, text) {
         Ok(list) => Ok(list),
         Err(LexFault::BadByte(place)) => Err(Fault::Steps(StepsFault::BadByte(place))),
         Err(LexFault::NumberPast(place)) => Err(Fault::Steps(StepsFault::NumberPast(place))),

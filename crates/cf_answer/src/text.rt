@@ -8,6 +8,7 @@ ghost use Rattle.cf_answer.specs.Steps.{IsMisspelled};
 
 use crate::fault::Fault;
 use cf_lex::{LexFault, TokenList, tokens};
+use cf_tree::Edition;
 use std::alloc::Global;
 
 /// The tokens of a text, or why the text is refused, whatever it is to spell.
@@ -19,7 +20,7 @@ pub fn lexed(alloc: Global, text: &[u8]) -> Result<TokenList, Fault>
     ensures source { IfErr result (λ f. IsMisspelled text.now f ⊎ (f ≡ Fault.NoMemory)) }
     ensures target { IfErr result (λ f. IsRefusedTarget text.now f ⊎ (f ≡ Fault.NoMemory)) }
 {
-    match tokens(alloc, text) {
+    match tokens(alloc, Edition::Two, text) {
         Ok(list) => Ok(list),
         Err(LexFault::BadByte(place)) => Err(Fault::BadByte(place)),
         Err(LexFault::NumberPast(place)) => Err(Fault::NumberPast(place)),

@@ -14,7 +14,7 @@ use Rattle.cf_tree.specs.declared.target.RawTarget.{RawTarget}
 use Rattle.cf_tree.specs.CodeTree.{CodeTree}
 use Rattle.cf_tree.specs.CodeView.{code_tree}
 use Rattle.cf_tree.specs.DefView.{DefTree, def_tree}
-use Rattle.cf_tree.specs.ExprTree.{ExprTree, ExprTrees, expr_lit, expr_truth, expr_var, expr_set_of, expr_tuple, expr_neg, expr_not, expr_abs, expr_binary, expr_divides, expr_div, expr_mod, expr_card, expr_if, expr_call, expr_let, expr_choose, expr_match, no_exprs, expr_more}
+use Rattle.cf_tree.specs.ExprTree.{ExprTree, ExprTrees, expr_lit, expr_truth, expr_var, expr_set_of, expr_tuple, expr_neg, expr_not, expr_abs, expr_binary, expr_chain, expr_min, expr_max, expr_divides, expr_div, expr_mod, expr_card, expr_if, expr_call, expr_let, expr_choose, expr_choose_where, expr_match, no_exprs, expr_more}
 use Rattle.cf_tree.specs.ExprView.{expr_tree}
 use Rattle.cf_tree.specs.Relation.{IsTyped, IsLinear}
 use Rattle.cf_tree.specs.Typing.{IsTypedCode}
@@ -34,7 +34,7 @@ use Rattle.cf_build.specs.Runs.{lowered_bodies}
 use Rattle.cf_tree.specs.ChooseTree.{ChooseTree}
 use Rattle.cf_build.specs.Chooses.{chooses_in, chooses_in_all, all_chooses, by_number, solve_of}
 use Rattle.cf_shift.specs.Shifted.{HasLevels}
-use Rattle.cf_program.specs.NoMatch.{HasNoMatch, HaveNoMatch}
+use Rattle.cf_program.specs.NoMatch.{HasNoMatch}
 use Rattle.cf_tree.specs.ChooseView.{choose_tree}
 use Rattle.cf_build.specs.Solves.{chooses_of, IsTypedChoose, IsRising, AreCodes, IsSolveOf}
 use Rattle.cf_build.proofs.CalledCodes.{def_at}
@@ -43,6 +43,7 @@ use Rattle.cf_build.proofs.NumberOrder.{numbers_of, ordered_distinct, ordered_ha
 use Rattle.cf_build.proofs.PickedPaths.{AreFit}
 use Rattle.cf_match.proofs.NoMatchLaws.{lowered_same}
 use Rattle.cf_pass.proofs.Forms.{improves_self}
+use Rattle.cf_build.proofs.Plain.{IsPlain, ArePlain, HasPlainBody, plain_bodies}
 use Rattle.cf_build.proofs.Programs.{Knows, bodies, program_known, map_reverse}
 use Rattle.cf_build.proofs.Runs.{runs_as_picked, bodies_lowered}
 use Rattle.cf_build.proofs.SameCodes.{behind_same}
@@ -54,7 +55,7 @@ both_numbers : (a b : ExprTree) → numbers a ≡ numbers_of (chooses_in a) → 
 both_numbers a b e f = rw (map-append (λ q. q.number) (chooses_in a) (chooses_in b), e, f) refl
 
 mutual
-  numbers_are : (e : ExprTree) → HasNoMatch e → numbers e ≡ numbers_of (chooses_in e)
+  numbers_are : (e : ExprTree) → IsPlain e → numbers e ≡ numbers_of (chooses_in e)
   numbers_are (expr_lit k) p = refl
   numbers_are (expr_truth t) p = refl
   numbers_are (expr_var x) p = refl
@@ -63,7 +64,10 @@ mutual
   numbers_are (expr_neg a) p = numbers_are a p
   numbers_are (expr_not a) p = numbers_are a p
   numbers_are (expr_abs a) p = numbers_are a p
-  numbers_are (expr_binary op a b) p = both_numbers a b (numbers_are a p.0) (numbers_are b p.1)
+  numbers_are (expr_binary op a b) p = both_numbers a b (numbers_are a (p.0.0, p.1.1)) (numbers_are b (p.0.1, p.1.2))
+  numbers_are (expr_chain orders es) p = absurd p.1
+  numbers_are (expr_min es) p = absurd p.1
+  numbers_are (expr_max es) p = absurd p.1
   numbers_are (expr_divides k a) p = numbers_are a p
   numbers_are (expr_div a k) p = numbers_are a p
   numbers_are (expr_mod a k) p = numbers_are a p
@@ -72,37 +76,38 @@ mutual
       rw (
         map-append (λ q. q.number) (chooses_in t ++ chooses_in a) (chooses_in b),
         map-append (λ q. q.number) (chooses_in t) (chooses_in a),
-        numbers_are t p.0,
-        numbers_are a p.1,
-        numbers_are b p.2,
+        numbers_are t (p.0.0, p.1.0),
+        numbers_are a (p.0.1, p.1.1),
+        numbers_are b (p.0.2, p.1.2),
       ) refl
   numbers_are (expr_call f es) p = all_numbers_are es p
-  numbers_are (expr_let n a b) p = both_numbers a b (numbers_are a p.0) (numbers_are b p.1)
+  numbers_are (expr_let n a b) p = both_numbers a b (numbers_are a (p.0.0, p.1.0)) (numbers_are b (p.0.1, p.1.1))
   numbers_are (expr_choose n params outputs rel) p = refl
-  numbers_are (expr_match n params a arms) p = absurd p
+  numbers_are (expr_choose_where n params outputs hidden given rel aim) p = absurd p.1
+  numbers_are (expr_match n params a arms) p = absurd p.0
 
-  all_numbers_are : (es : ExprTrees) → HaveNoMatch es → numbers_all es ≡ numbers_of (chooses_in_all es)
+  all_numbers_are : (es : ExprTrees) → ArePlain es → numbers_all es ≡ numbers_of (chooses_in_all es)
   all_numbers_are no_exprs p = refl
-  all_numbers_are (expr_more e es) p = rw (map-append (λ q. q.number) (chooses_in e) (chooses_in_all es), numbers_are e p.0, all_numbers_are es p.1) refl
+  all_numbers_are (expr_more e es) p = rw (map-append (λ q. q.number) (chooses_in e) (chooses_in_all es), numbers_are e (p.0.0, p.1.0), all_numbers_are es (p.0.1, p.1.1)) refl
 
-program_numbers : (ds : List DefTree) → All (λ d. HasNoMatch d.body) ds → all_numbers ds ≡ numbers_of (chooses_of ds)
+program_numbers : (ds : List DefTree) → All HasPlainBody ds → all_numbers ds ≡ numbers_of (chooses_of ds)
 program_numbers [] p = refl
 program_numbers (d ∷ ds) p =
     rw (
       map-append (λ q. q.number) (chooses_in d.body) (chooses_of ds),
-      numbers_are d.body (All-head (λ d. HasNoMatch d.body) d ds p),
-      program_numbers ds (All-tail (λ d. HasNoMatch d.body) d ds p),
+      numbers_are d.body (All-head HasPlainBody d ds p),
+      program_numbers ds (All-tail HasPlainBody d ds p),
     ) refl
 
-pub chooses_same : (ds : List DefTree) → All (λ d. HasNoMatch d.body) ds → all_chooses ds ≡ chooses_of ds
+pub chooses_same : (ds : List DefTree) → All HasPlainBody ds → all_chooses ds ≡ chooses_of ds
 chooses_same [] p = refl
 chooses_same (d ∷ ds) p =
-    rw (lowered_same d.body (All-head (λ d. HasNoMatch d.body) d ds p), chooses_same ds (All-tail (λ d. HasNoMatch d.body) d ds p)) refl
+    rw (lowered_same d.body (All-head HasPlainBody d ds p).0, chooses_same ds (All-tail HasPlainBody d ds p)) refl
 
-lowered_defs : (ds : List DefTree) → All (λ d. HasNoMatch d.body) ds → map lowered_def ds ≡ ds
+lowered_defs : (ds : List DefTree) → All HasPlainBody ds → map lowered_def ds ≡ ds
 lowered_defs [] p = refl
 lowered_defs (d ∷ ds) p =
-    rw (lowered_same d.body (All-head (λ d. HasNoMatch d.body) d ds p), lowered_defs ds (All-tail (λ d. HasNoMatch d.body) d ds p)) refl
+    rw (lowered_same d.body (All-head HasPlainBody d ds p).0, lowered_defs ds (All-tail HasPlainBody d ds p)) refl
 
 -- ---- each choose may be solved
 abbrev MayBeSolved : ChooseTree → Type 0
@@ -115,7 +120,7 @@ output_is Set s = tt
 
 module _ (takes : ℕ → List Base → List Base → Type 0) where
   mutual
-    may : (e : ExprTree) → HasNoMatch e → (scope bs : List Base) → ExprHasBases takes e scope bs → All MayBeSolved (chooses_in e)
+    may : (e : ExprTree) → IsPlain e → (scope bs : List Base) → ExprHasBases takes e scope bs → All MayBeSolved (chooses_in e)
     may (expr_lit k) p scope bs h = All-nil MayBeSolved
     may (expr_truth t) p scope bs h = All-nil MayBeSolved
     may (expr_var x) p scope bs h = All-nil MayBeSolved
@@ -126,28 +131,32 @@ module _ (takes : ℕ → List Base → List Base → Type 0) where
     may (expr_abs a) p scope bs h = may a p scope _ h.0
     may (expr_binary op a b) p scope bs h =
         let t = sides_have (side_of op) (λ c. ExprHasBases takes a scope (c ∷ [])) (λ c. ExprHasBases takes b scope (c ∷ [])) h.0 in
-        All-append MayBeSolved (chooses_in a) (chooses_in b) (may a p.0 scope (t.0 ∷ []) t.1) (may b p.1 scope (t.0 ∷ []) t.2)
+        All-append MayBeSolved (chooses_in a) (chooses_in b) (may a (p.0.0, p.1.1) scope (t.0 ∷ []) t.1) (may b (p.0.1, p.1.2) scope (t.0 ∷ []) t.2)
+    may (expr_chain orders es) p scope bs h = absurd p.1
+    may (expr_min es) p scope bs h = absurd p.1
+    may (expr_max es) p scope bs h = absurd p.1
     may (expr_divides k a) p scope bs h = may a p scope _ h.1
     may (expr_div a k) p scope bs h = may a p scope _ h.1
     may (expr_mod a k) p scope bs h = may a p scope _ h.1
     may (expr_card a) p scope bs h = may a p scope _ h.0
     may (expr_if t a b) p scope bs h =
         All-append MayBeSolved (chooses_in t ++ chooses_in a) (chooses_in b)
-        (All-append MayBeSolved (chooses_in t) (chooses_in a) (may t p.0 scope _ h.0) (may a p.1 scope _ h.1)) (may b p.2 scope _ h.2)
+        (All-append MayBeSolved (chooses_in t) (chooses_in a) (may t (p.0.0, p.1.0) scope _ h.0) (may a (p.0.1, p.1.1) scope _ h.1)) (may b (p.0.2, p.1.2) scope _ h.2)
     may (expr_call f es) p scope bs h = parts_may es p scope h.0 h.2
-    may (expr_let n a b) p scope bs h = All-append MayBeSolved (chooses_in a) (chooses_in b) (may a p.0 scope h.0 h.1) (may b p.1 (scope ++ h.0) bs h.4)
+    may (expr_let n a b) p scope bs h = All-append MayBeSolved (chooses_in a) (chooses_in b) (may a (p.0.0, p.1.0) scope h.0 h.1) (may b (p.0.1, p.1.1) (scope ++ h.0) bs h.4)
     may (expr_choose n params outputs rel) p scope bs h =
         All-cons MayBeSolved (record { number = n; names = names_of params; scope = bases_of params; outputs = outputs; relation = rel }) []
         (h.1, All-weaker IsTypedOutput IsOutput output_is outputs h.2, rw h.0 h.3, h.4) (All-nil MayBeSolved)
-    may (expr_match n params a arms) p scope bs h = absurd p
+    may (expr_choose_where n params outputs hidden given rel aim) p scope bs h = absurd p.1
+    may (expr_match n params a arms) p scope bs h = absurd p.0
 
-    all_may : (es : ExprTrees) → HaveNoMatch es → (scope : List Base) (b : Base) → AllHave takes es scope b → All MayBeSolved (chooses_in_all es)
+    all_may : (es : ExprTrees) → ArePlain es → (scope : List Base) (b : Base) → AllHave takes es scope b → All MayBeSolved (chooses_in_all es)
     all_may no_exprs p scope b h = All-nil MayBeSolved
-    all_may (expr_more a es) p scope b h = All-append MayBeSolved (chooses_in a) (chooses_in_all es) (may a p.0 scope _ h.0) (all_may es p.1 scope b h.1)
+    all_may (expr_more a es) p scope b h = All-append MayBeSolved (chooses_in a) (chooses_in_all es) (may a (p.0.0, p.1.0) scope _ h.0) (all_may es (p.0.1, p.1.1) scope b h.1)
 
-    parts_may : (es : ExprTrees) → HaveNoMatch es → (scope bs : List Base) → PartsHave takes es scope bs → All MayBeSolved (chooses_in_all es)
+    parts_may : (es : ExprTrees) → ArePlain es → (scope bs : List Base) → PartsHave takes es scope bs → All MayBeSolved (chooses_in_all es)
     parts_may no_exprs p scope bs h = All-nil MayBeSolved
-    parts_may (expr_more a es) p scope bs h = All-append MayBeSolved (chooses_in a) (chooses_in_all es) (may a p.0 scope _ h.3) (parts_may es p.1 scope h.1 h.4)
+    parts_may (expr_more a es) p scope bs h = All-append MayBeSolved (chooses_in a) (chooses_in_all es) (may a (p.0.0, p.1.0) scope _ h.3) (parts_may es (p.0.1, p.1.1) scope h.1 h.4)
 
 abbrev HasTypes : DefTree → Type 0
 HasTypes d = (earlier : List DefTree) × ExprHasBases (Takes earlier) d.body (bases_of d.params) d.results
@@ -162,13 +171,13 @@ all_turned P (d ∷ ds) h =
     let k = All-pop P (reverse ds ++ d ∷ []) (reverse ds) (Some d) refl (rw (reverse-append (d ∷ []) ds) at h) in
     All-cons P d ds k.1 (all_turned P ds k.0)
 
-program_may : (ds : List DefTree) → All (λ d. HasNoMatch d.body) ds → All HasTypes ds → All MayBeSolved (chooses_of ds)
+program_may : (ds : List DefTree) → All HasPlainBody ds → All HasTypes ds → All MayBeSolved (chooses_of ds)
 program_may [] p t = All-nil MayBeSolved
 program_may (d ∷ ds) p t =
     let h = All-head HasTypes d ds t in
     All-append MayBeSolved (chooses_in d.body) (chooses_of ds)
-    (may (Takes h.0) d.body (All-head (λ d. HasNoMatch d.body) d ds p) (bases_of d.params) d.results h.1)
-    (program_may ds (All-tail (λ d. HasNoMatch d.body) d ds p) (All-tail HasTypes d ds t))
+    (may (Takes h.0) d.body (All-head HasPlainBody d ds p) (bases_of d.params) d.results h.1)
+    (program_may ds (All-tail HasPlainBody d ds p) (All-tail HasTypes d ds t))
 
 chooses_typed : (qs : List ChooseTree) → All MayBeSolved qs → All (λ n. 1 ≤ n) (numbers_of qs) → All IsTypedChoose qs
 chooses_typed [] m p = All-nil IsTypedChoose
@@ -200,12 +209,6 @@ each_typed (c ∷ cs) h =
     All-cons (λ c. IsTypedChoose (choose_tree c)) c cs (All-head IsTypedChoose (choose_tree c) (map choose_tree cs) h)
     (each_typed cs (All-tail IsTypedChoose (choose_tree c) (map choose_tree cs) h))
 
-plain_trees : (ds : List Def) → All (λ d. HasNoMatch (expr_tree d.body)) ds → All (λ d. HasNoMatch d.body) (map def_tree ds)
-plain_trees [] h = All-nil (λ d. HasNoMatch d.body)
-plain_trees (d ∷ ds) h =
-    All-cons (λ d. HasNoMatch d.body) (def_tree d) (map def_tree ds) (All-head (λ d. HasNoMatch (expr_tree d.body)) d ds h)
-    (plain_trees ds (All-tail (λ d. HasNoMatch (expr_tree d.body)) d ds h))
-
 index_within : (ns : List ℕ) (f : ℕ) → All (λ n. n ≤ 200) ns → slice_index ns f ≤ 200
 index_within [] f h = omega arith
 index_within (n ∷ ns) zero h = All-head (λ n. n ≤ 200) n ns h
@@ -213,8 +216,8 @@ index_within (n ∷ ns) (suc f) h = index_within ns f (All-tail (λ n. n ≤ 200
 
 -- ---- the program whose functions stand in vectors
 module _ (ds : List Def) (main : ℕ) (t : IsTypedProgram (map def_tree ds) main) (p : All (λ d. HasNoMatch (expr_tree d.body)) ds) where
-  plain : All (λ d. HasNoMatch d.body) (map def_tree ds)
-  plain = plain_trees ds p
+  plain : All HasPlainBody (map def_tree ds)
+  plain = plain_bodies ds p t.formed
 
   all_typed : (cs : List Choose) → map choose_tree cs ≡ chooses_of (map def_tree ds) → All (λ c. IsTypedChoose (choose_tree c)) cs
   all_typed cs e =

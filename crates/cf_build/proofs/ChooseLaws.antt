@@ -8,7 +8,7 @@ use Rattle.cf_tree.specs.declared.raw.Param.{Param}
 use Rattle.cf_tree.specs.declared.base.Base.TheVariants.{Int}
 use Rattle.cf_tree.specs.declared.raw.BinOp.TheVariants.{Or}
 use Rattle.cf_tree.specs.DefView.{DefTree}
-use Rattle.cf_tree.specs.ExprTree.{ExprTree, expr_lit, expr_truth, expr_var, expr_set_of, expr_tuple, expr_neg, expr_not, expr_abs, expr_binary, expr_divides, expr_div, expr_mod, expr_card, expr_if, expr_call, expr_let, expr_choose, expr_match, ExprTrees, no_exprs, expr_more, match_arm, MatchArmTrees, no_match_arms, match_arm_more}
+use Rattle.cf_tree.specs.ExprTree.{ExprTree, expr_lit, expr_truth, expr_var, expr_set_of, expr_tuple, expr_neg, expr_not, expr_abs, expr_binary, expr_chain, expr_min, expr_max, expr_divides, expr_div, expr_mod, expr_card, expr_if, expr_call, expr_let, expr_choose, expr_choose_where, expr_match, ExprTrees, no_exprs, expr_more, match_arm, MatchArmTrees, no_match_arms, match_arm_more}
 use Rattle.cf_tree.specs.RelTree.{rel_false}
 use Rattle.cf_linear.specs.declared.refusal.Refusal.{Refusal}
 use Rattle.cf_program.specs.Lowered.{divisor, test_by, test, with_variables, any_test, any_fits, unless_last, lowered, all_lowered, picked}
@@ -149,6 +149,9 @@ mutual
   numbered (expr_not a) = numbered a
   numbered (expr_abs a) = numbered a
   numbered (expr_binary op a b) = numbered_both _ _ (numbers a) (numbers b) (numbered a) (numbered b)
+  numbered (expr_chain orders es) = all_numbered es
+  numbered (expr_min es) = all_numbered es
+  numbered (expr_max es) = all_numbered es
   numbered (expr_divides k a) = numbered a
   numbered (expr_div a k) = numbered a
   numbered (expr_mod a k) = numbered a
@@ -158,6 +161,7 @@ mutual
   numbered (expr_call f es) = all_numbered es
   numbered (expr_let n a b) = numbered_both _ _ (numbers a) (numbers b) (numbered a) (numbered b)
   numbered (expr_choose n scope outputs rel) = numbered_one _
+  numbered (expr_choose_where n scope outputs hidden given rel aim) = numbered_none _
   numbered (expr_match n scope a arms) =
       let x = length scope - 1 in
       let whole : ChooseTree = record { number = n; names = names_of scope; scope = bases_of scope; outputs = Int ∷ []; relation = rel_false } in

@@ -7,7 +7,7 @@ use Rattle.cf_tree.specs.DefView.{DefTree}
 use Rattle.cf_tree.specs.ExprTree.{ExprTree, ExprTrees, exprs_of, expr_binary, expr_call}
 use Rattle.cf_tree.specs.declared.code.Code.{Code}
 use Rattle.cf_tree.specs.declared.raw.BinOp.{BinOp}
-use Rattle.cf_tree.specs.declared.raw.BinOp.TheVariants.{Add, Sub, Mul, And, Or, Union, Inter, Diff, Subset, Compare}
+use Rattle.cf_tree.specs.declared.raw.BinOp.TheVariants.{Add, Sub, Mul, And, Or, Union, Inter, Diff, Subset, Implies, Compare}
 use Rattle.cf_build.specs.Codes.{binary_code, joined_code, call_code, code_of, codes_of_all, called, codes_behind, code_among, codes_among, solved_in}
 use Rattle.cf_tree.specs.ChooseTree.{ChooseTree}
 use Rattle.cf_shift.specs.Shifted.{shifted, all_shifted}
@@ -65,6 +65,7 @@ binary_shifted by Union a b = refl
 binary_shifted by Inter a b = refl
 binary_shifted by Diff a b = refl
 binary_shifted by Subset a b = refl
+binary_shifted by Implies a b = refl
 binary_shifted by (Compare order) a b = refl
 
 joined_shifted : (by : ℕ) (cs : CodeTrees) → shifted by (joined_code cs) ≡ joined_code (all_shifted by cs)

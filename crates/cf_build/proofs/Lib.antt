@@ -13,6 +13,7 @@ pub mod Meanings
 pub mod NumberOrder
 pub mod OrderExamples
 pub mod PickedPaths
+pub mod Plain
 pub mod Programs
 pub mod ChooseLaws
 pub mod Rewriting

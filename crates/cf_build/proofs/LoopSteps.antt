@@ -11,6 +11,7 @@ use Rattle.cf_tree.specs.ExprView.{expr_tree, expr_trees}
 use Rattle.cf_tree.specs.declared.code.Code.{Code}
 use Rattle.cf_tree.specs.declared.expr.Def.{Def}
 use Rattle.cf_tree.specs.declared.expr.Expr.{Expr}
+use Rattle.cf_program.specs.NoForm.{HasNoForm, HaveNoForm}
 use Rattle.cf_program.specs.NoMatch.{HasNoMatch, HaveNoMatch}
 use Rattle.cf_tree.specs.declared.choose.Choose.{Choose}
 use Rattle.cf_build.specs.declared.solves.SolvedChoose.{SolvedChoose}
@@ -64,6 +65,14 @@ none_at es i e l is h = (subst (λ xs. HaveNoMatch (expr_trees xs)) (from_here e
 pub none_behind : (es : List Expr) (i : ℕ) (e : Expr) → i < length es → e ≡ get_or es i e → HaveNoMatch (expr_trees (drop i es)) →
     HaveNoMatch (expr_trees (drop (i + 1) es))
 none_behind es i e l is h = (subst (λ xs. HaveNoMatch (expr_trees xs)) (from_here es i e l is) h).1
+
+-- nor does a form of `HasNoForm`
+pub formed_at : (es : List Expr) (i : ℕ) (e : Expr) → i < length es → e ≡ get_or es i e → HaveNoForm (expr_trees (drop i es)) → HasNoForm (expr_tree e)
+formed_at es i e l is h = (subst (λ xs. HaveNoForm (expr_trees xs)) (from_here es i e l is) h).0
+
+pub formed_behind : (es : List Expr) (i : ℕ) (e : Expr) → i < length es → e ≡ get_or es i e → HaveNoForm (expr_trees (drop i es)) →
+    HaveNoForm (expr_trees (drop (i + 1) es))
+formed_behind es i e l is h = (subst (λ xs. HaveNoForm (expr_trees xs)) (from_here es i e l is) h).1
 
 -- ---- the ends of loops
 pub exprs_at_end : (calls : ℕ → CodeTree) (solves : ChooseTree → CodeTree) (by n : ℕ) (es : List Expr) (done : List Code) (i : ℕ) → length es ≤ i →

@@ -5,13 +5,13 @@ use Rattle.std.proofs.lemmas.List.Elements.{Contains-append_left, Contains-appen
 use Rattle.cf_tree.specs.declared.base.Base.{Base}
 use Rattle.cf_tree.specs.declared.base.Base.TheVariants.{Int, Bool as Truth, Set}
 use Rattle.cf_tree.specs.declared.raw.BinOp.{BinOp}
-use Rattle.cf_tree.specs.declared.raw.BinOp.TheVariants.{Add, Sub, Mul, And, Or, Union, Inter, Diff, Subset, Compare}
+use Rattle.cf_tree.specs.declared.raw.BinOp.TheVariants.{Add, Sub, Mul, And, Or, Union, Inter, Diff, Subset, Implies, Compare}
 use Rattle.cf_tree.specs.Allowed.{AllowedThen, goes_on, Gives, Chosen, operation, AllowedRight, AllowedIn, AllowedAll}
 use Rattle.cf_tree.specs.declared.base.Order.{Order}
 use Rattle.cf_tree.specs.CodeTree.{CodeTree, code_var, code_neg, code_max, CodeTrees, no_codes, code_more}
 use Rattle.cf_tree.specs.Numbers.{absolute}
 use Rattle.std.specs.Ordering.{int_eq}
-use Rattle.cf_tree.specs.ExprTree.{ExprTree, expr_lit, expr_truth, expr_var, expr_set_of, expr_tuple, expr_neg, expr_not, expr_abs, expr_binary, expr_divides, expr_div, expr_mod, expr_card, expr_if, expr_call, expr_let, expr_choose, expr_match, ExprTrees, no_exprs, expr_more}
+use Rattle.cf_tree.specs.ExprTree.{ExprTree, expr_lit, expr_truth, expr_var, expr_set_of, expr_tuple, expr_neg, expr_not, expr_abs, expr_binary, expr_chain, expr_min, expr_max, expr_divides, expr_div, expr_mod, expr_card, expr_if, expr_call, expr_let, expr_choose, expr_choose_where, expr_match, ExprTrees, no_exprs, expr_more}
 use Rattle.cf_tree.specs.Meaning.{Got, got, none_at, then_gives, path, all_path, set_path, set_in, truth_in, gives_truth, means, outcome_of}
 use Rattle.cf_tree.specs.Relation.{Sol}
 use Rattle.cf_tree.specs.Sets.{IsRising, has, set_of, set_put}
@@ -28,8 +28,8 @@ use Rattle.cf_build.specs.Codes.{two, binary_code, joined_code, call_code, code_
 use Rattle.cf_tree.specs.ChooseTree.{ChooseTree}
 use Rattle.cf_build.specs.Chooses.{chooses_in, chooses_in_all, choose_arms}
 use Rattle.cf_shift.specs.Shifted.{shifted}
-use Rattle.cf_program.specs.NoMatch.{HasNoMatch, HaveNoMatch}
 use Rattle.cf_build.specs.Solves.{IsSolveOf}
+use Rattle.cf_build.proofs.Plain.{IsPlain, ArePlain}
 use Rattle.cf_shift.proofs.ShiftedPaths.{shifted_means}
 use Rattle.cf_build.proofs.Values.{Keeps, then_fine, more_fine, then_same, then_weaker, keeps_same, if_fine, value_means, keeps_number, keeps_truth, keeps_value, value_has, have_append, set_is_rising, number_alone, chosen_keeps, from_zero, greater_is_absolute}
 
@@ -114,6 +114,11 @@ module _ (P R : Outcome → Type 0) (a b : CodeTree) (env : List Value) where
       then_fine (Truth ∷ []) (Truth ∷ []) (path a env).gives _ p (λ xs hx.
       if_fine (truth_in xs) (Gives (truth true)) R (Truth ∷ []) (gives_truth true) (path b env) (refl, ((true, refl), tt)) q)
 
+  implies_fine : Fine P (Truth ∷ []) a env → Fine R (Truth ∷ []) b env → Fine (Sides Implies) (Truth ∷ []) (binary_code Implies a b) env
+  implies_fine p q =
+      then_fine (Truth ∷ []) (Truth ∷ []) (path a env).gives _ p (λ xs hx.
+      if_fine (truth_in xs) R (Gives (truth true)) (Truth ∷ []) (path b env) (gives_truth true) q (refl, ((true, refl), tt)))
+
   union_fine : Fine P (Set ∷ []) a env → Fine R (Set ∷ []) b env → Fine (Sides Union) (Set ∷ []) (binary_code Union a b) env
   union_fine p q =
       strict_fine (operation Union) (Set ∷ []) (Set ∷ []) (Set ∷ []) (path a env).gives (path b env).gives p q
@@ -149,6 +154,7 @@ module _ (P R : Outcome → Type 0) (a b : CodeTree) (env : List Value) where
   binary_fine Inter A B p q h = inter_fine (p Set h.0) (q Set h.1)
   binary_fine Diff A B p q h = diff_fine (p Set h.0) (q Set h.1)
   binary_fine Subset A B p q h = subset_fine Set Set (p Set h.0) (q Set h.1)
+  binary_fine Implies A B p q h = implies_fine (p Truth h.0) (q Truth h.1)
   binary_fine (Compare o) A B p q h = let s = sides_have (side_of (Compare o)) A B h in compare_fine o s.0 s.0 (p s.0 s.1) (q s.0 s.2)
 
 -- an operation with one part
@@ -204,7 +210,7 @@ module _ (calls : ℕ → CodeTree) (solves : ChooseTree → CodeTree) (takes : 
       (λ xs hx. rw (call_means n (calls f) env xs e) (calls_fine f ps rs t xs hx))
 
   mutual
-    pub fine : (e : ExprTree) → HasNoMatch e → Solved (chooses_in e) → (scope bs : List Base) → ExprHasBases takes e scope bs → (env : List Value) →
+    pub fine : (e : ExprTree) → IsPlain e → Solved (chooses_in e) → (scope bs : List Base) → ExprHasBases takes e scope bs → (env : List Value) →
         HaveBases scope env → (n : ℕ) → n ≡ length scope →
         Fine (AllowedIn allows e env) bs (code_of calls solves n e) env
     fine (expr_lit z) p s scope bs h env k n e = (refl, keeps_number bs z h.1)
@@ -229,9 +235,12 @@ module _ (calls : ℕ → CodeTree) (solves : ChooseTree → CodeTree) (takes : 
         let r =
         binary_fine (AllowedIn allows a env) (AllowedIn allows b env) (code_of calls solves n a) (code_of calls solves n b) env op
         (λ c. ExprHasBases takes a scope (c ∷ [])) (λ c. ExprHasBases takes b scope (c ∷ []))
-        (λ c t. fine a p.0 (λ q m. s q (Contains-append_left (chooses_in a) (chooses_in b) q m)) scope (c ∷ []) t env k n e)
-        (λ c t. fine b p.1 (λ q m. s q (Contains-append_right (chooses_in a) (chooses_in b) q m)) scope (c ∷ []) t env k n e) h.0 in
+        (λ c t. fine a (p.0.0, p.1.1) (λ q m. s q (Contains-append_left (chooses_in a) (chooses_in b) q m)) scope (c ∷ []) t env k n e)
+        (λ c t. fine b (p.0.1, p.1.2) (λ q m. s q (Contains-append_right (chooses_in a) (chooses_in b) q m)) scope (c ∷ []) t env k n e) h.0 in
         (r.0, keeps_same (result_of op ∷ []) bs _ (sym h.1) r.1)
+    fine (expr_chain orders es) p s scope bs h env k n e = absurd p.1
+    fine (expr_min es) p s scope bs h env k n e = absurd p.1
+    fine (expr_max es) p s scope bs h env k n e = absurd p.1
     fine (expr_divides m a) p s scope bs h env k n e =
         unary_fine (Int ∷ []) bs (path (code_of calls solves n a) env).gives (fine a p s scope (Int ∷ []) h.1 env k n e) (λ xs. keeps_truth bs _ h.2)
     fine (expr_div a m) p s scope bs h env k n e =
@@ -242,29 +251,30 @@ module _ (calls : ℕ → CodeTree) (solves : ChooseTree → CodeTree) (takes : 
         unary_fine (Set ∷ []) bs (path (code_of calls solves n a) env).gives (fine a p s scope (Set ∷ []) h.0 env k n e) (λ xs. keeps_number bs _ h.1)
     fine (expr_if t a b) p s scope bs h env k n e =
         then_fine (Truth ∷ []) bs (path (code_of calls solves n t) env).gives _
-        (fine t p.0 (λ q m. s q (Contains-append_left (chooses_in t ++ chooses_in a) (chooses_in b) q (Contains-append_left (chooses_in t) (chooses_in a) q m)))
+        (fine t (p.0.0, p.1.0) (λ q m. s q (Contains-append_left (chooses_in t ++ chooses_in a) (chooses_in b) q (Contains-append_left (chooses_in t) (chooses_in a) q m)))
         scope (Truth ∷ []) h.0 env k n e) (λ xs hx.
         if_fine (truth_in xs) (AllowedIn allows a env) (AllowedIn allows b env) bs (path (code_of calls solves n a) env) (path (code_of calls solves n b) env)
-        (fine a p.1 (λ q m. s q (Contains-append_left (chooses_in t ++ chooses_in a) (chooses_in b) q
+        (fine a (p.0.1, p.1.1) (λ q m. s q (Contains-append_left (chooses_in t ++ chooses_in a) (chooses_in b) q
         (Contains-append_right (chooses_in t) (chooses_in a) q m)))
         scope bs h.1 env k n e)
-        (fine b p.2 (λ q m. s q (Contains-append_right (chooses_in t ++ chooses_in a) (chooses_in b) q m)) scope bs h.2 env k n e))
+        (fine b (p.0.2, p.1.2) (λ q m. s q (Contains-append_right (chooses_in t ++ chooses_in a) (chooses_in b) q m)) scope bs h.2 env k n e))
     fine (expr_call f es) p s scope bs h env k n e =
         call_fine f es h.0 bs env n (e ∙ sym (length_have scope env k)) h.1 (let r = all_fine es p s scope h.0 h.2 env k n e [] [] tt in
         (then_same (AllowedAll allows es env) _ r.0, r.1))
     fine (expr_let m a b) p s scope bs h env k n e =
         then_fine h.0 bs (path (code_of calls solves n a) env).gives _
-        (fine a p.0 (λ q c. s q (Contains-append_left (chooses_in a) (chooses_in b) q c)) scope h.0 h.1 env k n e) (λ xs hx.
-        fine b p.1 (λ q c. s q (Contains-append_right (chooses_in a) (chooses_in b) q c)) (scope ++ h.0) bs h.4 (env ++ xs) (have_append scope h.0 env xs k hx)
+        (fine a (p.0.0, p.1.0) (λ q c. s q (Contains-append_left (chooses_in a) (chooses_in b) q c)) scope h.0 h.1 env k n e) (λ xs hx.
+        fine b (p.0.1, p.1.1) (λ q c. s q (Contains-append_right (chooses_in a) (chooses_in b) q c)) (scope ++ h.0) bs h.4 (env ++ xs) (have_append scope h.0 env xs k hx)
         (n + m) (omega (arith, e, h.2, length-append scope h.0)))
     fine (expr_choose m params outputs rel) p s scope bs h env k n e =
         let q : ChooseTree = record { number = m; names = names_of params; scope = bases_of params; outputs = outputs; relation = rel } in
         let r = choose_fine q env (rw h.0 k) (s q (0, omega arith, refl)) in
         (r.0, keeps_same outputs bs _ (sym h.5) r.1)
-    fine (expr_match m params a arms) p s scope bs h env k n e = absurd p
+    fine (expr_choose_where m params outputs hidden given rel aim) p s scope bs h env k n e = absurd p.1
+    fine (expr_match m params a arms) p s scope bs h env k n e = absurd p.0
 
     -- the values behind those that are done
-    pub all_fine : (es : ExprTrees) → HaveNoMatch es → Solved (chooses_in_all es) → (scope bs : List Base) → PartsHave takes es scope bs → (env : List Value) →
+    pub all_fine : (es : ExprTrees) → ArePlain es → Solved (chooses_in_all es) → (scope bs : List Base) → PartsHave takes es scope bs → (env : List Value) →
         HaveBases scope env → (n : ℕ) → n ≡ length scope →
         (ds : List Base) (done : List Value) → HaveBases ds done →
         AllowedThen (AllowedAll allows es env) (λ ys o. o ≡ values (done ++ ys)) (outcome_of (all_path (codes_of_all calls solves n es) env done).gives)
@@ -272,8 +282,8 @@ module _ (calls : ℕ → CodeTree) (solves : ChooseTree → CodeTree) (takes : 
     all_fine no_exprs p s scope bs h env k n e ds done d = (goes_on [] refl (ap values (sym (append-nil done))), rw (h, append-nil ds) d)
     all_fine (expr_more a es) p s scope bs h env k n e ds done d =
         more_fine (h.0 ∷ []) (ds ++ bs) (path (code_of calls solves n a) env).gives _
-        (fine a p.0 (λ q c. s q (Contains-append_left (chooses_in a) (chooses_in_all es) q c)) scope (h.0 ∷ []) h.3 env k n e) (λ xs hx.
-        let r = all_fine es p.1 (λ q c. s q (Contains-append_right (chooses_in a) (chooses_in_all es) q c)) scope h.1 h.4 env k n e (ds ++ h.0 ∷ [])
+        (fine a (p.0.0, p.1.0) (λ q c. s q (Contains-append_left (chooses_in a) (chooses_in_all es) q c)) scope (h.0 ∷ []) h.3 env k n e) (λ xs hx.
+        let r = all_fine es (p.0.1, p.1.1) (λ q c. s q (Contains-append_right (chooses_in a) (chooses_in_all es) q c)) scope h.1 h.4 env k n e (ds ++ h.0 ∷ [])
         (done ++ xs)
         (have_append ds (h.0 ∷ []) done xs d hx) in (
           then_weaker _ r.0 (λ ys g. g ∙ ap values (append_assoc done xs ys)),
@@ -281,7 +291,7 @@ module _ (calls : ℕ → CodeTree) (solves : ChooseTree → CodeTree) (takes : 
         ))
 
     -- the numbers put into those that are done
-    set_fine : (es : ExprTrees) → HaveNoMatch es → Solved (chooses_in_all es) → (scope : List Base) → AllHave takes es scope Int → (env : List Value) →
+    set_fine : (es : ExprTrees) → ArePlain es → Solved (chooses_in_all es) → (scope : List Base) → AllHave takes es scope Int → (env : List Value) →
         HaveBases scope env → (n : ℕ) → n ≡ length scope →
         (done : List ℤ) → IsRising done →
         AllowedThen (AllowedAll allows es env) (λ ys. Gives (elements (put_all (map number_of ys) done)))
@@ -290,7 +300,7 @@ module _ (calls : ℕ → CodeTree) (solves : ChooseTree → CodeTree) (takes : 
     set_fine no_exprs p s scope h env k n e done d = (goes_on [] refl refl, ((done, refl, d), tt))
     set_fine (expr_more a es) p s scope h env k n e done d =
         more_fine (Int ∷ []) (Set ∷ []) (path (code_of calls solves n a) env).gives _
-        (fine a p.0 (λ q c. s q (Contains-append_left (chooses_in a) (chooses_in_all es) q c)) scope (Int ∷ []) h.0 env k n e) (λ xs hx.
+        (fine a (p.0.0, p.1.0) (λ q c. s q (Contains-append_left (chooses_in a) (chooses_in_all es) q c)) scope (Int ∷ []) h.0 env k n e) (λ xs hx.
         let z = number_alone xs hx in
-        rw z.1 (set_fine es p.1 (λ q c. s q (Contains-append_right (chooses_in a) (chooses_in_all es) q c)) scope h.1 env k n e (set_put z.0 done)
+        rw z.1 (set_fine es (p.0.1, p.1.1) (λ q c. s q (Contains-append_right (chooses_in a) (chooses_in_all es) q c)) scope h.1 env k n e (set_put z.0 done)
         (rising_put z.0 done d)))

@@ -9,10 +9,10 @@ use Rattle.cf_num.specs.Limit.{limit}
 use Rattle.cf_tree.specs.declared.base.Base.{Base}
 use Rattle.cf_tree.specs.declared.base.Base.TheVariants.{Int}
 use Rattle.cf_tree.specs.declared.raw.BinOp.{BinOp}
-use Rattle.cf_tree.specs.declared.raw.BinOp.TheVariants.{Add, Sub, Mul, And, Or, Union, Inter, Diff, Subset, Compare}
+use Rattle.cf_tree.specs.declared.raw.BinOp.TheVariants.{Add, Sub, Mul, And, Or, Union, Inter, Diff, Subset, Implies, Compare}
 use Rattle.cf_tree.specs.Allowed.{operation}
 use Rattle.cf_tree.specs.CodeTree.{CodeTree, code_var, code_neg, code_max, code_tuple}
-use Rattle.cf_tree.specs.ExprTree.{ExprTree, expr_lit, expr_truth, expr_var, expr_set_of, expr_tuple, expr_neg, expr_not, expr_abs, expr_binary, expr_divides, expr_div, expr_mod, expr_card, expr_if, expr_call, expr_let, expr_choose, expr_match, ExprTrees, no_exprs, expr_more}
+use Rattle.cf_tree.specs.ExprTree.{ExprTree, expr_lit, expr_truth, expr_var, expr_set_of, expr_tuple, expr_neg, expr_not, expr_abs, expr_binary, expr_chain, expr_min, expr_max, expr_divides, expr_div, expr_mod, expr_card, expr_if, expr_call, expr_let, expr_choose, expr_choose_where, expr_match, ExprTrees, no_exprs, expr_more}
 use Rattle.cf_tree.specs.Meaning.{Got, got, none_at, Path, then_peak, then_path, gives_only, meets, meets_value, path, all_path, set_path, outcome_of, means, peak, number_in, truth_in}
 use Rattle.cf_tree.specs.Numbers.{absolute}
 use Rattle.cf_tree.specs.Sets.{set_of, set_put}
@@ -30,8 +30,8 @@ use Rattle.cf_build.specs.Codes.{two, binary_code, joined_code, call_code, code_
 use Rattle.cf_tree.specs.ChooseTree.{ChooseTree}
 use Rattle.cf_build.specs.Chooses.{chooses_in, chooses_in_all, solve_of}
 use Rattle.cf_shift.specs.Shifted.{shifted}
-use Rattle.cf_program.specs.NoMatch.{HasNoMatch, HaveNoMatch}
 use Rattle.cf_build.specs.Solves.{IsSolveOf}
+use Rattle.cf_build.proofs.Plain.{IsPlain, ArePlain}
 use Rattle.cf_build.proofs.Meanings.{Fine, put_all, put_all_is, joined_gives, sides_have, fine, all_fine}
 use Rattle.cf_shift.proofs.ShiftedPaths.{shifted_path}
 use Rattle.cf_build.proofs.Values.{Keeps, have_append, number_alone, from_zero, greater_is_absolute}
@@ -217,6 +217,9 @@ module _ (p r : Option Outcome) (a b : CodeTree) (env : List Value) (h : IsPicke
   right_by Inter = then_by p (path a env) _ _ h (λ xs e g l. then_by r (path b env) _ _ k (λ ys e' g' l'. set_by _))
   right_by Diff = then_by p (path a env) _ _ h (λ xs e g l. then_by r (path b env) _ _ k (λ ys e' g' l'. set_by _))
   right_by Subset = then_by p (path a env) _ _ h (λ xs e g l. then_by r (path b env) _ _ k (λ ys e' g' l'. truth_by _))
+  right_by Implies =
+      then_by p (path a env) _ _ h (λ xs e g l.
+      either_by (truth_in xs) r (Some (values (truth true ∷ []))) (path b env) (gives_only (truth true ∷ [])) k (truth_by true))
   right_by (Compare order) = then_by p (path a env) _ _ h (λ xs e g l. then_by r (path b env) _ _ k (λ ys e' g' l'. truth_by _))
 
 -- ---- the absolute value
@@ -310,7 +313,7 @@ module _ (calls : ℕ → CodeTree) (solves : ChooseTree → CodeTree) (takes : 
   EachSolved qs = (q : ChooseTree) → Contains qs q → IsSolveOf q (solves q)
 
   -- what a part gives fits its bases
-  part_fit : (e : ExprTree) → HasNoMatch e → EachSolved (chooses_in e) → (scope bs : List Base) → ExprHasBases takes e scope bs → (env : List Value) (n : ℕ) →
+  part_fit : (e : ExprTree) → IsPlain e → EachSolved (chooses_in e) → (scope bs : List Base) → ExprHasBases takes e scope bs → (env : List Value) (n : ℕ) →
       Around scope env n →
       (xs : List Value) → (path (code_of calls solves n e) env).gives ≡ got xs → (path (code_of calls solves n e) env).peak ≤ limit → AreFit bs xs
   part_fit e p s scope bs h env n a xs g l = record {
@@ -319,7 +322,7 @@ module _ (calls : ℕ → CodeTree) (solves : ChooseTree → CodeTree) (takes : 
   }
 
   -- what all parts give keeps their bases
-  pub parts_keep : (es : ExprTrees) → HaveNoMatch es → EachSolved (chooses_in_all es) → (scope bs : List Base) → PartsHave takes es scope bs →
+  pub parts_keep : (es : ExprTrees) → ArePlain es → EachSolved (chooses_in_all es) → (scope bs : List Base) → PartsHave takes es scope bs →
       (env : List Value) (n : ℕ) → Around scope env n →
       Keeps bs (means (code_tuple (codes_of_all calls solves n es)) env)
   parts_keep es p s scope bs h env n a = (all_fine calls solves takes allows calls_fine es p s scope bs h env a.bases n a.level [] [] tt).1
@@ -370,7 +373,7 @@ module _ (calls : ℕ → CodeTree) (solves : ChooseTree → CodeTree) (takes : 
       }))
 
   mutual
-    pub picked_by : (e : ExprTree) → HasNoMatch e → EachSolved (chooses_in e) → (scope bs : List Base) → ExprHasBases takes e scope bs →
+    pub picked_by : (e : ExprTree) → IsPlain e → EachSolved (chooses_in e) → (scope bs : List Base) → ExprHasBases takes e scope bs →
         (env : List Value) (n : ℕ) → Around scope env n →
         IsPickedBy (picked_in picks e env) (path (code_of calls solves n e) env)
     picked_by (expr_lit k) p s scope bs h env n a = given_by (number k) (unsigned_abs k) h.0
@@ -389,8 +392,11 @@ module _ (calls : ℕ → CodeTree) (solves : ChooseTree → CodeTree) (takes : 
     picked_by (expr_binary op b c) p s scope bs h env n a =
         let t = sides_have (side_of op) (λ d. ExprHasBases takes b scope (d ∷ [])) (λ d. ExprHasBases takes c scope (d ∷ [])) h.0 in
         right_by (picked_in picks b env) (picked_in picks c env) (code_of calls solves n b) (code_of calls solves n c) env
-        (picked_by b p.0 (λ q m. s q (Contains-append_left (chooses_in b) (chooses_in c) q m)) scope (t.0 ∷ []) t.1 env n a)
-        (picked_by c p.1 (λ q m. s q (Contains-append_right (chooses_in b) (chooses_in c) q m)) scope (t.0 ∷ []) t.2 env n a) op
+        (picked_by b (p.0.0, p.1.1) (λ q m. s q (Contains-append_left (chooses_in b) (chooses_in c) q m)) scope (t.0 ∷ []) t.1 env n a)
+        (picked_by c (p.0.1, p.1.2) (λ q m. s q (Contains-append_right (chooses_in b) (chooses_in c) q m)) scope (t.0 ∷ []) t.2 env n a) op
+    picked_by (expr_chain orders es) p s scope bs h env n a = absurd p.1
+    picked_by (expr_min es) p s scope bs h env n a = absurd p.1
+    picked_by (expr_max es) p s scope bs h env n a = absurd p.1
     picked_by (expr_divides k b) p s scope bs h env n a =
         then_by (picked_in picks b env) (path (code_of calls solves n b) env) _ _ (picked_by b p s scope _ h.1 env n a) (λ xs e g l. truth_by _)
     picked_by (expr_div b k) p s scope bs h env n a =
@@ -401,45 +407,46 @@ module _ (calls : ℕ → CodeTree) (solves : ChooseTree → CodeTree) (takes : 
         then_by (picked_in picks b env) (path (code_of calls solves n b) env) _ _ (picked_by b p s scope _ h.0 env n a) (λ xs e g l. meets_by _)
     picked_by (expr_if t b c) p s scope bs h env n a =
         then_by (picked_in picks t env) (path (code_of calls solves n t) env) _ _
-        (picked_by t p.0 (λ q m. s q
+        (picked_by t (p.0.0, p.1.0) (λ q m. s q
         (Contains-append_left (chooses_in t ++ chooses_in b) (chooses_in c) q (Contains-append_left (chooses_in t) (chooses_in b) q m))) scope _ h.0 env n a)
         (λ xs e g l.
         either_by (truth_in xs) (picked_in picks b env) (picked_in picks c env) (path (code_of calls solves n b) env) (path (code_of calls solves n c) env)
-        (picked_by b p.1 (λ q m. s q
+        (picked_by b (p.0.1, p.1.1) (λ q m. s q
         (Contains-append_left (chooses_in t ++ chooses_in b) (chooses_in c) q (Contains-append_right (chooses_in t) (chooses_in b) q m))) scope bs h.1 env n a)
-        (picked_by c p.2 (λ q m. s q (Contains-append_right (chooses_in t ++ chooses_in b) (chooses_in c) q m)) scope bs h.2 env n a))
+        (picked_by c (p.0.2, p.1.2) (λ q m. s q (Contains-append_right (chooses_in t ++ chooses_in b) (chooses_in c) q m)) scope bs h.2 env n a))
     picked_by (expr_call f es) p s scope bs h env n a =
         call_by f es h.0 bs n env (at_end scope env n a) h.1 (parts_keep es p s scope h.0 h.2 env n a) (values_by es p s scope h.0 h.2 env n a)
     picked_by (expr_let m b c) p s scope bs h env n a =
         then_by (picked_in picks b env) (path (code_of calls solves n b) env) _ _
-        (picked_by b p.0 (λ q k. s q (Contains-append_left (chooses_in b) (chooses_in c) q k)) scope h.0 h.1 env n a)
+        (picked_by b (p.0.0, p.1.0) (λ q k. s q (Contains-append_left (chooses_in b) (chooses_in c) q k)) scope h.0 h.1 env n a)
         (λ xs e g l.
-        let f = part_fit b p.0 (λ q k. s q (Contains-append_left (chooses_in b) (chooses_in c) q k)) scope h.0 h.1 env n a xs g l in
-        picked_by c p.1 (λ q k. s q (Contains-append_right (chooses_in b) (chooses_in c) q k)) (scope ++ h.0) bs h.4 (env ++ xs) (n + m)
+        let f = part_fit b (p.0.0, p.1.0) (λ q k. s q (Contains-append_left (chooses_in b) (chooses_in c) q k)) scope h.0 h.1 env n a xs g l in
+        picked_by c (p.0.1, p.1.1) (λ q k. s q (Contains-append_right (chooses_in b) (chooses_in c) q k)) (scope ++ h.0) bs h.4 (env ++ xs) (n + m)
         (behind scope h.0 env xs n m a f h.2))
     picked_by (expr_choose m params outputs rel) p s scope bs h env n a =
         let q : ChooseTree = record { number = m; names = names_of params; scope = bases_of params; outputs = outputs; relation = rel } in
         subst (λ c. IsPickedBy (picked_in picks (expr_choose m params outputs rel) env) (path c env)) (sym (s q (0, omega arith, refl)).code)
         (solve_by (solve_of q) env)
-    picked_by (expr_match m params b arms) p s scope bs h env n a = absurd p
+    picked_by (expr_choose_where m params outputs hidden given rel aim) p s scope bs h env n a = absurd p.1
+    picked_by (expr_match m params b arms) p s scope bs h env n a = absurd p.0
 
-    all_by : (es : ExprTrees) → HaveNoMatch es → EachSolved (chooses_in_all es) → (scope bs : List Base) → PartsHave takes es scope bs →
+    all_by : (es : ExprTrees) → ArePlain es → EachSolved (chooses_in_all es) → (scope bs : List Base) → PartsHave takes es scope bs →
         (env : List Value) (n : ℕ) → Around scope env n → (done : List Value) →
         IsPickedBy (then_picked (picked_all picks es env) (λ zs. Some (values (done ++ zs)))) (all_path (codes_of_all calls solves n es) env done)
     all_by no_exprs p s scope bs h env n a done = rw append-nil (done_by done)
     all_by (expr_more e es) p s scope bs h env n a done =
-        more_by e es n env done (picked_by e p.0 (λ q m. s q (Contains-append_left (chooses_in e) (chooses_in_all es) q m)) scope (h.0 ∷ []) h.3 env n a)
-        (λ ds. all_by es p.1 (λ q m. s q (Contains-append_right (chooses_in e) (chooses_in_all es) q m)) scope h.1 h.4 env n a ds)
+        more_by e es n env done (picked_by e (p.0.0, p.1.0) (λ q m. s q (Contains-append_left (chooses_in e) (chooses_in_all es) q m)) scope (h.0 ∷ []) h.3 env n a)
+        (λ ds. all_by es (p.0.1, p.1.1) (λ q m. s q (Contains-append_right (chooses_in e) (chooses_in_all es) q m)) scope h.1 h.4 env n a ds)
 
-    values_by : (es : ExprTrees) → HaveNoMatch es → EachSolved (chooses_in_all es) → (scope bs : List Base) → PartsHave takes es scope bs →
+    values_by : (es : ExprTrees) → ArePlain es → EachSolved (chooses_in_all es) → (scope bs : List Base) → PartsHave takes es scope bs →
         (env : List Value) (n : ℕ) → Around scope env n →
         IsPickedBy (picked_all picks es env) (path (joined_code (codes_of_all calls solves n es)) env)
     values_by no_exprs p s scope bs h env n a = done_by []
     values_by (expr_more e es) p s scope bs h env n a =
-        joined_by e es n env (picked_by e p.0 (λ q m. s q (Contains-append_left (chooses_in e) (chooses_in_all es) q m)) scope (h.0 ∷ []) h.3 env n a)
-        (λ ds. all_by es p.1 (λ q m. s q (Contains-append_right (chooses_in e) (chooses_in_all es) q m)) scope h.1 h.4 env n a ds)
+        joined_by e es n env (picked_by e (p.0.0, p.1.0) (λ q m. s q (Contains-append_left (chooses_in e) (chooses_in_all es) q m)) scope (h.0 ∷ []) h.3 env n a)
+        (λ ds. all_by es (p.0.1, p.1.1) (λ q m. s q (Contains-append_right (chooses_in e) (chooses_in_all es) q m)) scope h.1 h.4 env n a ds)
 
-    sets_by : (es : ExprTrees) → HaveNoMatch es → EachSolved (chooses_in_all es) → (scope : List Base) → AllHave takes es scope Int →
+    sets_by : (es : ExprTrees) → ArePlain es → EachSolved (chooses_in_all es) → (scope : List Base) → AllHave takes es scope Int →
         (env : List Value) (n : ℕ) → Around scope env n → (done : List ℤ) →
         IsPickedBy (then_picked (picked_all picks es env) (put_in done)) (set_path (codes_of_all calls solves n es) env done)
     sets_by no_exprs p s scope h env n a done = set_by done
@@ -447,15 +454,15 @@ module _ (calls : ℕ → CodeTree) (solves : ChooseTree → CodeTree) (takes : 
         subst (λ o. IsPickedBy o (set_path (codes_of_all calls solves n (expr_more e es)) env done))
         (sym (from_sets done (picked_in picks e env) (picked_all picks es env)))
         (then_by (picked_in picks e env) (path (code_of calls solves n e) env) _ _
-        (picked_by e p.0 (λ q m. s q (Contains-append_left (chooses_in e) (chooses_in_all es) q m)) scope (Int ∷ []) h.0 env n a)
+        (picked_by e (p.0.0, p.1.0) (λ q m. s q (Contains-append_left (chooses_in e) (chooses_in_all es) q m)) scope (Int ∷ []) h.0 env n a)
         (λ xs q g l.
-        let f = part_fit e p.0 (λ q m. s q (Contains-append_left (chooses_in e) (chooses_in_all es) q m)) scope (Int ∷ []) h.0 env n a xs g l in
+        let f = part_fit e (p.0.0, p.1.0) (λ q m. s q (Contains-append_left (chooses_in e) (chooses_in_all es) q m)) scope (Int ∷ []) h.0 env n a xs g l in
         let z = number_alone xs f.bases in
         one_value (number z.0) xs (picked_all picks es env) (λ zs. set_path (codes_of_all calls solves n es) env zs) done z.1
-        (sets_by es p.1 (λ q m. s q (Contains-append_right (chooses_in e) (chooses_in_all es) q m)) scope h.1 env n a (set_put (number_in xs) done))))
+        (sets_by es (p.0.1, p.1.1) (λ q m. s q (Contains-append_right (chooses_in e) (chooses_in_all es) q m)) scope h.1 env n a (set_put (number_in xs) done))))
 
   -- the values that are picked for all parts fit their bases
-  pub parts_fit : (es : ExprTrees) → HaveNoMatch es → EachSolved (chooses_in_all es) → (scope bs : List Base) → PartsHave takes es scope bs →
+  pub parts_fit : (es : ExprTrees) → ArePlain es → EachSolved (chooses_in_all es) → (scope bs : List Base) → PartsHave takes es scope bs →
       (env : List Value) (n : ℕ) → Around scope env n →
       (xs : List Value) → picked_all picks es env ≡ Some (values xs) → AreFit bs xs
   parts_fit es p s scope bs h env n a =
@@ -463,7 +470,7 @@ module _ (calls : ℕ → CodeTree) (solves : ChooseTree → CodeTree) (takes : 
       (parts_keep es p s scope bs h env n a)
 
   -- and those for one expression
-  pub value_fit : (e : ExprTree) → HasNoMatch e → EachSolved (chooses_in e) → (scope bs : List Base) → ExprHasBases takes e scope bs →
+  pub value_fit : (e : ExprTree) → IsPlain e → EachSolved (chooses_in e) → (scope bs : List Base) → ExprHasBases takes e scope bs →
       (env : List Value) (n : ℕ) →
       Around scope env n →
       (xs : List Value) → picked_in picks e env ≡ Some (values xs) → AreFit bs xs

@@ -24,7 +24,6 @@ use Rattle.cf_build.specs.Codes.{code_of, called, codes_behind}
 use Rattle.cf_tree.specs.ChooseTree.{ChooseTree}
 use Rattle.cf_build.specs.Chooses.{chooses_in, all_chooses}
 use Rattle.cf_shift.specs.Shifted.{HasLevels}
-use Rattle.cf_program.specs.NoMatch.{HasNoMatch}
 use Rattle.cf_match.proofs.NoMatchLaws.{lowered_same}
 use Rattle.cf_build.specs.Solves.{IsSolveOf}
 use Rattle.cf_build.proofs.CodeLists.{called_old, called_new, called_past}
@@ -33,6 +32,7 @@ use Rattle.cf_build.proofs.CodeTyping.{typed}
 use Rattle.cf_build.proofs.EnteredChooses.{entered}
 use Rattle.cf_build.proofs.Meanings.{fine}
 use Rattle.cf_build.proofs.PickedPaths.{IsPickedBy, AreFit, Around, picked_by}
+use Rattle.cf_build.proofs.Plain.{IsPlain, HasPlainBody}
 use Rattle.cf_build.proofs.Values.{Keeps}
 
 -- ---- lists that grow
@@ -175,7 +175,7 @@ module _ (solves : ChooseTree → CodeTree) (done earlier : List DefTree) (known
     abbrev depth : ℕ
     depth = depth_in (λ f. slice_index deep f) d.body
 
-    module _ (h : IsTypedDef earlier d) (p : HasNoMatch d.body) (s : (q : ChooseTree) → Contains (chooses_in d.body) q → IsSolveOf q (solves q)) where
+    module _ (h : IsTypedDef earlier d) (p : IsPlain d.body) (s : (q : ChooseTree) → Contains (chooses_in d.body) q → IsSolveOf q (solves q)) where
       arity : length d.params ≡ length (bases_of d.params)
       arity = sym (length-map d.params (λ x. x.base))
 
@@ -274,22 +274,22 @@ typed_tail [] earlier h = h
 typed_tail (d ∷ ds) earlier h = typed_tail ds earlier h.1
 
 pub all_known : (solves : ChooseTree → CodeTree) (ds done earlier : List DefTree) (known : List CodeTree) (deep : List ℕ) → Knows done earlier known deep →
-    AreTypedDefs (reverse ds ++ earlier) → All (λ d. HasNoMatch d.body) ds →
+    AreTypedDefs (reverse ds ++ earlier) → All HasPlainBody ds →
     ((q : ChooseTree) → Contains (all_chooses ds) q → IsSolveOf q (solves q)) →
     Knows (done ++ ds) (reverse ds ++ earlier) (codes_behind solves known ds) (deep ++ measured depth_in deep ds)
 all_known solves [] done earlier known deep k t p s = rw (append-nil done, append-nil deep) k
 all_known solves (d ∷ ds) done earlier known deep k t p s =
-    let q = All-head (λ d. HasNoMatch d.body) d ds p in
+    let q = All-head HasPlainBody d ds p in
     let c = code_of (called known) solves (length d.params) d.body in
     let n = depth_in (λ f. slice_index deep f) d.body in
     let turned : reverse (d ∷ ds) ++ earlier ≡ reverse ds ++ d ∷ earlier = rw (reverse-append (d ∷ []) ds) (append_assoc (reverse ds) (d ∷ []) earlier) in
     let rest : AreTypedDefs (reverse ds ++ d ∷ earlier) = rw turned at t in
     let next = knows_next solves done earlier known deep k d (typed_tail (reverse ds) (d ∷ earlier) rest).0 q
-    (λ x m. s x (Contains-append_left (chooses_in (lowered d.body)) (all_chooses ds) x (rw (lowered_same d.body q) m))) in
-    let all = all_known solves ds (done ++ d ∷ []) (d ∷ earlier) (known ++ c ∷ []) (deep ++ n ∷ []) next rest (All-tail (λ d. HasNoMatch d.body) d ds p)
+    (λ x m. s x (Contains-append_left (chooses_in (lowered d.body)) (all_chooses ds) x (rw (lowered_same d.body q.0) m))) in
+    let all = all_known solves ds (done ++ d ∷ []) (d ∷ earlier) (known ++ c ∷ []) (deep ++ n ∷ []) next rest (All-tail HasPlainBody d ds p)
     (λ x m. s x (Contains-append_right (chooses_in (lowered d.body)) (all_chooses ds) x m)) in
     let depths_are : deep ++ measured depth_in deep (d ∷ ds) ≡ (deep ++ n ∷ []) ++ measured depth_in (deep ++ n ∷ []) ds =
-    rw (lowered_same d.body q) (sym (append_assoc deep (n ∷ []) (measured depth_in (deep ++ n ∷ []) ds))) in
+    rw (lowered_same d.body q.0) (sym (append_assoc deep (n ∷ []) (measured depth_in (deep ++ n ∷ []) ds))) in
     rw (← append_assoc done (d ∷ []) ds, turned, depths_are) all
 
 pub map_reverse : (ds : List DefTree) → bodies (reverse ds) ≡ reverse (bodies ds)
@@ -298,7 +298,7 @@ map_reverse (d ∷ ds) =
     rw (reverse-append (d ∷ []) ds, reverse-append (d.body ∷ []) (bodies ds), map-append (λ d. d.body) (reverse ds) (d ∷ []), map_reverse ds) refl
 
 -- what is known of a whole program
-pub program_known : (solves : ChooseTree → CodeTree) (defs : List DefTree) → AreTypedDefs (reverse defs) → All (λ d. HasNoMatch d.body) defs →
+pub program_known : (solves : ChooseTree → CodeTree) (defs : List DefTree) → AreTypedDefs (reverse defs) → All HasPlainBody defs →
     ((q : ChooseTree) → Contains (all_chooses defs) q → IsSolveOf q (solves q)) →
     Knows defs (reverse defs) (codes_behind solves [] defs) (depths defs)
 program_known solves defs t p s =

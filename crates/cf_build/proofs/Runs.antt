@@ -10,16 +10,16 @@ use Rattle.cf_tree.specs.Values.{Value, Outcome}
 use Rattle.cf_growth.specs.Overflowing.{picked_call, IsFineCall}
 use Rattle.cf_growth.proofs.PickLaws.{picks_are_near}
 use Rattle.cf_build.specs.Runs.{lowered_bodies, RunsAsPicked}
-use Rattle.cf_program.specs.NoMatch.{HasNoMatch}
 use Rattle.cf_build.proofs.PickedPaths.{IsPickedBy}
 use Rattle.cf_match.proofs.NoMatchLaws.{lowered_same}
+use Rattle.cf_build.proofs.Plain.{HasPlainBody}
 use Rattle.cf_build.proofs.Programs.{bodies}
 
-pub bodies_lowered : (ds : List DefTree) → All (λ d. HasNoMatch d.body) ds → lowered_bodies ds ≡ bodies ds
+pub bodies_lowered : (ds : List DefTree) → All HasPlainBody ds → lowered_bodies ds ≡ bodies ds
 bodies_lowered [] p = refl
 bodies_lowered (d ∷ ds) p =
-    ap (λ b. b ∷ lowered_bodies ds) (lowered_same d.body (All-head (λ d. HasNoMatch d.body) d ds p))
-    ∙ ap (λ bs. d.body ∷ bs) (bodies_lowered ds (All-tail (λ d. HasNoMatch d.body) d ds p))
+    ap (λ b. b ∷ lowered_bodies ds) (lowered_same d.body (All-head HasPlainBody d ds p).0)
+    ∙ ap (λ bs. d.body ∷ bs) (bodies_lowered ds (All-tail HasPlainBody d ds p))
 
 not_both : (a b : ℕ) → a < b → b ≤ a → ⊥
 not_both a b h k = omega arith

@@ -3,7 +3,7 @@ use Rattle.std.proofs.Common.{◌≡◌, ℕ, ◌+◌, List, [], ◌∷◌, ◌+
 use Rattle.std.proofs.lemmas.List.Elements.{Contains-append_left, Contains-append_right}
 use Rattle.cf_tree.specs.CodeTree.{CodeTree, code_set_of, code_tuple, code_neg, code_not, code_div, code_mod, code_divides, code_card}
 use Rattle.cf_tree.specs.DefView.{DefTree}
-use Rattle.cf_tree.specs.ExprTree.{ExprTree, expr_lit, expr_truth, expr_var, expr_set_of, expr_tuple, expr_neg, expr_not, expr_abs, expr_binary, expr_divides, expr_div, expr_mod, expr_card, expr_if, expr_call, expr_let, expr_choose, expr_match, ExprTrees, no_exprs, expr_more}
+use Rattle.cf_tree.specs.ExprTree.{ExprTree, expr_lit, expr_truth, expr_var, expr_set_of, expr_tuple, expr_neg, expr_not, expr_abs, expr_binary, expr_chain, expr_min, expr_max, expr_divides, expr_div, expr_mod, expr_card, expr_if, expr_call, expr_let, expr_choose, expr_choose_where, expr_match, ExprTrees, no_exprs, expr_more}
 use Rattle.cf_tree.specs.Params.{bases_of, names_of}
 use Rattle.cf_build.specs.Codes.{absolute_code, call_code, code_of, codes_of_all, called, codes_behind}
 use Rattle.cf_tree.specs.ChooseTree.{ChooseTree}
@@ -32,6 +32,9 @@ module _ (s t : ChooseTree → CodeTree) where
             same_code b
                 (λ q m. h q (Contains-append_right (chooses_in a) (chooses_in b) q m)) n,
           ) refl
+      same_code (expr_chain orders es) h n = refl
+      same_code (expr_min es) h n = refl
+      same_code (expr_max es) h n = refl
       same_code (expr_divides k a) h n = ap (λ c. code_divides k c) (same_code a h n)
       same_code (expr_div a k) h n = ap (λ c. code_div c k) (same_code a h n)
       same_code (expr_mod a k) h n = ap (λ c. code_mod c k) (same_code a h n)
@@ -54,6 +57,7 @@ module _ (s t : ChooseTree → CodeTree) where
       same_code (expr_choose k params outputs rel) h n =
           h (record { number = k; names = names_of params; scope = bases_of params; outputs = outputs; relation = rel })
           (0, omega arith, refl)
+      same_code (expr_choose_where k params outputs hidden given rel aim) h n = refl
       same_code (expr_match k params a arms) h n = refl
 
       same_codes : (es : ExprTrees) → AreSame (chooses_in_all es) → (n : ℕ) → codes_of_all calls s n es ≡ codes_of_all calls t n es

@@ -2,7 +2,7 @@
 use Rattle.std.specs.Prelude.{ℕ, ◌<◌, ◌≡◌, nat_lt, if◌then◌else◌, List, [], ◌∷◌, ◌++◌, Option, Some, None, Contains}
 use Rattle.cf_tree.specs.DefView.{DefTree}
 use Rattle.cf_tree.specs.CodeTree.{CodeTree, ArmTrees, code_solve, arms_of}
-use Rattle.cf_tree.specs.ExprTree.{ExprTree, expr_lit, expr_truth, expr_var, expr_set_of, expr_tuple, expr_neg, expr_not, expr_abs, expr_binary, expr_divides, expr_div, expr_mod, expr_card, expr_if, expr_call, expr_let, expr_choose, expr_match, ExprTrees, no_exprs, expr_more, match_arm, MatchArmTrees, no_match_arms, match_arm_more}
+use Rattle.cf_tree.specs.ExprTree.{ExprTree, expr_lit, expr_truth, expr_var, expr_set_of, expr_tuple, expr_neg, expr_not, expr_abs, expr_binary, expr_chain, expr_min, expr_max, expr_divides, expr_div, expr_mod, expr_card, expr_if, expr_call, expr_let, expr_choose, expr_choose_where, expr_match, ExprTrees, no_exprs, expr_more, match_arm, MatchArmTrees, no_match_arms, match_arm_more}
 use Rattle.cf_tree.specs.ChooseTree.{ChooseTree}
 use Rattle.cf_program.specs.Lowered.{lowered}
 use Rattle.cf_tree.specs.Params.{bases_of, names_of}
@@ -20,7 +20,7 @@ choose_arms q = arms_of (arms q.scope q.outputs q.relation)
 abbrev pub solve_of : ChooseTree → CodeTree
 solve_of q = code_solve q.number (choose_arms q)
 
--- the chooses in an expression, in the order of the text
+-- the chooses in an expression, in the order of the text, where no choose has an expression as its relation
 abbrev mutual
   pub chooses_in : ExprTree → List ChooseTree
   chooses_in (expr_lit k) = []
@@ -32,6 +32,9 @@ abbrev mutual
   chooses_in (expr_not a) = chooses_in a
   chooses_in (expr_abs a) = chooses_in a
   chooses_in (expr_binary op a b) = chooses_in a ++ chooses_in b
+  chooses_in (expr_chain orders es) = chooses_in_all es
+  chooses_in (expr_min es) = chooses_in_all es
+  chooses_in (expr_max es) = chooses_in_all es
   chooses_in (expr_divides k a) = chooses_in a
   chooses_in (expr_div a k) = chooses_in a
   chooses_in (expr_mod a k) = chooses_in a
@@ -41,6 +44,7 @@ abbrev mutual
   chooses_in (expr_let n a b) = chooses_in a ++ chooses_in b
   chooses_in (expr_choose n params outputs rel) =
       record { number = n; names = names_of params; scope = bases_of params; outputs = outputs; relation = rel } ∷ []
+  chooses_in (expr_choose_where n params outputs hidden given rel aim) = []
   chooses_in (expr_match n params a arms) = chooses_in a ++ chooses_in_arms arms
 
   pub chooses_in_all : ExprTrees → List ChooseTree

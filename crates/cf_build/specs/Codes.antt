@@ -1,10 +1,10 @@
 -- The code of a source expression.
-use Rattle.std.specs.Prelude.{ℕ, ◌+◌, List, [], ◌∷◌, ◌++◌, length, slice_get, Option, Some, None, ◌==◌, if◌then◌else◌}
+use Rattle.std.specs.Prelude.{ℕ, ◌+◌, true, List, [], ◌∷◌, ◌++◌, length, slice_get, Option, Some, None, ◌==◌, if◌then◌else◌}
 use Rattle.cf_tree.specs.declared.raw.BinOp.{BinOp}
-use Rattle.cf_tree.specs.declared.raw.BinOp.TheVariants.{Add, Sub, Mul, And, Or, Union, Inter, Diff, Subset, Compare}
+use Rattle.cf_tree.specs.declared.raw.BinOp.TheVariants.{Add, Sub, Mul, And, Or, Union, Inter, Diff, Subset, Implies, Compare}
 use Rattle.cf_tree.specs.CodeTree.{CodeTree, code_lit, code_truth, code_var, code_set_of, code_tuple, code_sum, code_sub, code_mul, code_neg, code_div, code_mod, code_max, code_compare, code_divides, code_and, code_or, code_not, code_union, code_inter, code_diff, code_subset, code_card, code_if, code_let, code_solve, arms_of, CodeTrees, no_codes, code_more, count}
 use Rattle.cf_tree.specs.DefView.{DefTree}
-use Rattle.cf_tree.specs.ExprTree.{ExprTree, expr_lit, expr_truth, expr_var, expr_set_of, expr_tuple, expr_neg, expr_not, expr_abs, expr_binary, expr_divides, expr_div, expr_mod, expr_card, expr_if, expr_call, expr_let, expr_choose, expr_match, ExprTrees, no_exprs, expr_more}
+use Rattle.cf_tree.specs.ExprTree.{ExprTree, expr_lit, expr_truth, expr_var, expr_set_of, expr_tuple, expr_neg, expr_not, expr_abs, expr_binary, expr_chain, expr_min, expr_max, expr_divides, expr_div, expr_mod, expr_card, expr_if, expr_call, expr_let, expr_choose, expr_choose_where, expr_match, ExprTrees, no_exprs, expr_more}
 use Rattle.cf_tree.specs.CodeView.{code_tree}
 use Rattle.cf_tree.specs.RelView.{rel_tree}
 use Rattle.cf_linear.specs.Chooses.{arms}
@@ -27,6 +27,7 @@ binary_code Union a b = code_union (two a b)
 binary_code Inter a b = code_inter (two a b)
 binary_code Diff a b = code_diff a b
 binary_code Subset a b = code_subset a b
+binary_code Implies a b = code_if a b (code_truth true)
 binary_code (Compare order) a b = code_compare order a b
 
 -- a set of these codes, or a tuple
@@ -60,7 +61,8 @@ call_code n no_codes body = body
 call_code n (code_more c cs) body = code_let n (count (code_more c cs)) (joined_code (code_more c cs)) body
 
 abbrev mutual
-  -- the code of an expression behind n variables, where `calls` holds the codes of the functions before, and `solves` that of each choose
+  -- the code of an expression without matches and without the forms of `HasNoForm` behind n variables, where `calls` holds the codes of the functions before,
+  -- and `solves` that of each choose
   pub code_of : (ℕ → CodeTree) → (ChooseTree → CodeTree) → ℕ → ExprTree → CodeTree
   code_of calls solves n (expr_lit k) = code_lit k
   code_of calls solves n (expr_truth t) = code_truth t
@@ -71,6 +73,9 @@ abbrev mutual
   code_of calls solves n (expr_not a) = code_not (code_of calls solves n a)
   code_of calls solves n (expr_abs a) = absolute_code n (code_of calls solves n a)
   code_of calls solves n (expr_binary op a b) = binary_code op (code_of calls solves n a) (code_of calls solves n b)
+  code_of calls solves n (expr_chain orders es) = code_tuple no_codes
+  code_of calls solves n (expr_min es) = code_tuple no_codes
+  code_of calls solves n (expr_max es) = code_tuple no_codes
   code_of calls solves n (expr_divides k a) = code_divides k (code_of calls solves n a)
   code_of calls solves n (expr_div a k) = code_div (code_of calls solves n a) k
   code_of calls solves n (expr_mod a k) = code_mod (code_of calls solves n a) k
@@ -80,6 +85,7 @@ abbrev mutual
   code_of calls solves n (expr_let m a b) = code_let n m (code_of calls solves n a) (code_of calls solves (n + m) b)
   code_of calls solves n (expr_choose m scope outputs rel) =
       solves (record { number = m; names = names_of scope; scope = bases_of scope; outputs = outputs; relation = rel })
+  code_of calls solves n (expr_choose_where m scope outputs hidden given rel aim) = code_tuple no_codes
   code_of calls solves n (expr_match m scope a arms) = code_tuple no_codes
 
   pub codes_of_all : (ℕ → CodeTree) → (ChooseTree → CodeTree) → ℕ → ExprTrees → CodeTrees

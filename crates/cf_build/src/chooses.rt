@@ -3,6 +3,7 @@ ghost use Rattle.std.specs.Prelude.{◌≡◌, ◌++◌, IfOk, OnOk, map, All};
 ghost use Rattle.cf_tree.specs.ChooseView.{choose_tree};
 ghost use Rattle.cf_tree.specs.DefView.{def_tree};
 ghost use Rattle.cf_tree.specs.ExprView.{expr_tree, expr_trees};
+ghost use Rattle.cf_program.specs.NoForm.{HasNoForm, HaveNoForm};
 ghost use Rattle.cf_program.specs.NoMatch.{HasNoMatch, HaveNoMatch};
 ghost use Rattle.cf_build.specs.Chooses.{chooses_in, chooses_in_all, all_chooses, by_number};
 ghost use Rattle.cf_build.specs.Solves.{chooses_of, IsTypedChoose, IsRising};
@@ -36,7 +37,8 @@ fn sort(chooses: &mut Vec<Choose<'_>>)
 
 // The chooses of all functions, in the order of the text.
 fn collect<'a>(alloc: Global, defs: &'a [Def]) -> Result<Vec<Choose<'a>>, NoMemory>
-    requires { All (λ d. HasNoMatch (expr_tree d.body)) defs.now }
+    requires no_match { All (λ d. HasNoMatch (expr_tree d.body)) defs.now }
+    requires no_form { All (λ d. HasNoForm (expr_tree d.body)) defs.now }
     ensures { IfOk result (λ chooses. map choose_tree chooses.items ≡ chooses_of (map def_tree defs.now)) }
 {
     let mut chooses = Vec::new(alloc);
@@ -51,6 +53,7 @@ fn collect<'a>(alloc: Global, defs: &'a [Def]) -> Result<Vec<Choose<'a>>, NoMemo
 #[tactic(auto, using(crate::proofs::ChooseLists::choose_lists))]
 fn collect_expr<'a>(expr: &'a Expr, chooses: &mut Vec<Choose<'a>>) -> Result<(), NoMemory>
     requires no_match { HasNoMatch (expr_tree expr.now) }
+    requires no_form { HasNoForm (expr_tree expr.now) }
     ensures { OnOk result (map choose_tree chooses.new.items ≡ map choose_tree chooses.old.items ++ chooses_in (expr_tree expr.now)) }
 {
     match expr {
@@ -82,14 +85,15 @@ fn collect_expr<'a>(expr: &'a Expr, chooses: &mut Vec<Choose<'a>>) -> Result<(),
             })?;
             Ok(())
         }
-        Expr::Match { .. } => unreachable!(),
+        Expr::Chain { .. } | Expr::ChooseWhere { .. } | Expr::Match { .. } => unreachable!(),
     }
 }
 
 #[cycle(collect)]
-#[tactic(auto, using(crate::proofs::ChooseLists::choose_lists, crate::proofs::LoopSteps::none_at))]
+#[tactic(auto, using(crate::proofs::ChooseLists::choose_lists, crate::proofs::LoopSteps::none_at, crate::proofs::LoopSteps::formed_at))]
 fn collect_all<'a>(exprs: &'a [Expr], chooses: &mut Vec<Choose<'a>>) -> Result<(), NoMemory>
     requires no_match { HaveNoMatch (expr_trees exprs.now) }
+    requires no_form { HaveNoForm (expr_trees exprs.now) }
     ensures { OnOk result (map choose_tree chooses.new.items ≡ map choose_tree chooses.old.items ++ chooses_in_all (expr_trees exprs.now)) }
 {
     for expr in exprs {

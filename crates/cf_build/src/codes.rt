@@ -98,8 +98,12 @@ fn code(around: &Around, expr: &Expr, n: u32) -> Result<Code, NoMemory>
             body: boxed(around, body, add_u32(n, *count)?)?,
         }),
         Expr::Choose { number, .. } => solve_numbered(around, *number),
-        // for the proof: no match stands in a program that is built
-        Expr::Match { .. } => Ok(Code::Tuple(Vec::new(around.alloc))),
+        // for the proof: none of these stands in a program that is built
+        Expr::Chain { .. }
+        | Expr::Min(_)
+        | Expr::Max(_)
+        | Expr::ChooseWhere { .. }
+        | Expr::Match { .. } => Ok(Code::Tuple(Vec::new(around.alloc))),
     }
 }
 
@@ -204,6 +208,11 @@ fn binary(alloc: Global, op: BinOp, a: Box<Code>, b: Box<Code>) -> Result<Code, 
         BinOp::Inter => Ok(Code::Inter(pair(alloc, Box::into_inner(a), Box::into_inner(b))?)),
         BinOp::Diff => Ok(Code::Diff(a, b)),
         BinOp::Subset => Ok(Code::Subset(a, b)),
+        BinOp::Implies => Ok(Code::If {
+            test: a,
+            yes: b,
+            no: Box::new(alloc, Code::Truth(true))?,
+        }),
         BinOp::Compare(order) => Ok(Code::Compare {
             order,
             left: a,

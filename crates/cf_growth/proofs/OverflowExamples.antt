@@ -7,9 +7,9 @@ use Rattle.cf_num.specs.Parts.{parts_of}
 use Rattle.cf_tree.specs.declared.base.Base.TheVariants.{Int}
 use Rattle.cf_tree.specs.declared.base.Order.TheVariants.{Eq, Le}
 use Rattle.cf_tree.specs.declared.raw.BinOp.{BinOp}
-use Rattle.cf_tree.specs.declared.raw.BinOp.TheVariants.{Add, Sub, Mul, And, Or, Union, Compare}
+use Rattle.cf_tree.specs.declared.raw.BinOp.TheVariants.{Add, Sub, Mul, And, Or, Union, Implies, Compare}
 use Rattle.cf_tree.specs.Allowed.{operation, goes_on}
-use Rattle.cf_tree.specs.ExprTree.{ExprTree, expr_lit, expr_truth, expr_var, expr_set_of, expr_tuple, expr_neg, expr_not, expr_abs, expr_binary, expr_divides, expr_div, expr_mod, expr_card, expr_if, expr_call, expr_let, expr_choose, expr_match, exprs_of, no_match_arms}
+use Rattle.cf_tree.specs.ExprTree.{ExprTree, expr_lit, expr_truth, expr_var, expr_set_of, expr_tuple, expr_neg, expr_not, expr_abs, expr_binary, expr_chain, expr_min, expr_max, expr_divides, expr_div, expr_mod, expr_card, expr_if, expr_call, expr_let, expr_choose, expr_choose_where, expr_match, exprs_of, no_match_arms, holds_always, at_any}
 use Rattle.cf_tree.specs.Numbers.{absolute, quotient, remainder}
 use Rattle.cf_tree.specs.RelTree.{RelTree, rel_and, rel_compare, term_lit, term_var}
 use Rattle.cf_tree.specs.Values.{Value, number, truth, elements, Outcome, values, no_solution, number_of, truth_of, elements_of, value_at, first_of}
@@ -102,6 +102,18 @@ variable-not h = h
 
 match-not : MayNot (expr_match 1 [] overflow no_match_arms) []
 match-not h = h
+
+chain-not : MayNot (expr_chain (Le ∷ Le ∷ []) (exprs_of (overflow ∷ overflow ∷ overflow ∷ []))) []
+chain-not h = h
+
+least-not : MayNot (expr_min (exprs_of (overflow ∷ overflow ∷ []))) []
+least-not h = h
+
+greatest-not : MayNot (expr_max (exprs_of (overflow ∷ overflow ∷ []))) []
+greatest-not h = h
+
+choose_where-not : MayNot (expr_choose_where 1 [] (Int ∷ []) [] holds_always overflow at_any) []
+choose_where-not h = h
 
 -- ---- one part
 negative-not : MayNot (expr_neg (expr_var 0)) (at greatest)
@@ -247,7 +259,7 @@ left-part = inl (overflow-may [])
 right-part : May (expr_binary Add (expr_lit (pos 1)) overflow) []
 right-part = inr (at (pos 1), refl, inl (overflow-may []))
 
--- the right side of && and of || is reached where the left one does not decide
+-- the right side of &&, of || and of ==> is reached where the left one does not decide
 and-left : May (expr_binary And overflow (expr_truth false)) []
 and-left = inl (overflow-may [])
 
@@ -264,6 +276,16 @@ or-right = inr (truth false ∷ [], refl, overflow-may [])
 or-decided : MayNot (expr_binary Or (expr_truth true) overflow) []
 or-decided (inl h) = h
 or-decided (inr (xs, e, p)) = of-these (λ v. RightPasses Or (first_of v) (NearIn no_calls overflow []) (May overflow [])) xs (truth true ∷ []) e p
+
+implies-left : May (expr_binary Implies overflow (expr_truth false)) []
+implies-left = inl (overflow-may [])
+
+implies-right : May (expr_binary Implies (expr_truth true) overflow) []
+implies-right = inr (truth true ∷ [], refl, overflow-may [])
+
+implies-decided : MayNot (expr_binary Implies (expr_truth false) overflow) []
+implies-decided (inl h) = h
+implies-decided (inr (xs, e, p)) = of-these (λ v. RightPasses Implies (first_of v) (NearIn no_calls overflow []) (May overflow [])) xs (truth false ∷ []) e p
 
 -- ---- branches
 if-test : May (expr_if overflow (expr_lit (pos 1)) (expr_lit (pos 2))) []

@@ -4,11 +4,11 @@ use Rattle.std.specs.Prelude.{unsigned_abs, nat_le, MatchBool, reverse, if◌the
 use Rattle.std.proofs.lemmas.Bool.{leb-false}
 use Rattle.cf_num.specs.Limit.{limit}
 use Rattle.cf_tree.specs.declared.raw.BinOp.{BinOp}
-use Rattle.cf_tree.specs.declared.raw.BinOp.TheVariants.{Add, Sub, Mul, And, Or, Union, Inter, Diff, Subset, Compare}
+use Rattle.cf_tree.specs.declared.raw.BinOp.TheVariants.{Add, Sub, Mul, And, Or, Union, Inter, Diff, Subset, Implies, Compare}
 use Rattle.cf_tree.specs.Allowed.{AllowedThen, goes_on, ends_at, Gives, AllowedRight, operation, Calling}
 use Rattle.cf_tree.specs.Params.{bases_of}
 use Rattle.cf_tree.specs.CodeTree.{code_solve, arms_of}
-use Rattle.cf_tree.specs.ExprTree.{ExprTree, expr_lit, expr_truth, expr_var, expr_set_of, expr_tuple, expr_neg, expr_not, expr_abs, expr_binary, expr_divides, expr_div, expr_mod, expr_card, expr_if, expr_call, expr_let, expr_choose, expr_match, ExprTrees, no_exprs, expr_more}
+use Rattle.cf_tree.specs.ExprTree.{ExprTree, expr_lit, expr_truth, expr_var, expr_set_of, expr_tuple, expr_neg, expr_not, expr_abs, expr_binary, expr_chain, expr_min, expr_max, expr_divides, expr_div, expr_mod, expr_card, expr_if, expr_call, expr_let, expr_choose, expr_choose_where, expr_match, ExprTrees, no_exprs, expr_more}
 use Rattle.cf_tree.specs.Meaning.{means, peak}
 use Rattle.cf_tree.specs.Numbers.{quotient, remainder, is_multiple, absolute}
 use Rattle.cf_tree.specs.Sets.{set_of}
@@ -88,6 +88,8 @@ module _ (v : Value) (p : Option Outcome) (N : Outcome → Type 0) (O : Type 0) 
   right_near Inter = strict Inter
   right_near Diff = strict Diff
   right_near Subset = strict Subset
+  right_near Implies = either (truth_of v) p (Some (values (truth true ∷ []))) N (Gives (truth true)) O ⊥ h
+      (given (values (truth true ∷ [])) (Gives (truth true)) ⊥ refl)
   right_near (Compare order) = strict (Compare order)
 
 pub above : (a b c : ℕ) → a < b → b ≤ c → a < c
@@ -116,6 +118,9 @@ module _ (calls : ℕ → List Value → Option Outcome) (near : Calling) (over 
         (λ xs. AllowedRight op (first_of xs) (NearIn near b env))
         (λ xs. RightPasses op (first_of xs) (NearIn near b env) (OverIn near over b env)) (pick_near a env h.0)
         (λ xs e. right_near (first_of xs) (picked_in calls b env) (NearIn near b env) (OverIn near over b env) (pick_near b env h.1) op)
+    pick_near (expr_chain orders es) env h = absurd h
+    pick_near (expr_min es) env h = absurd h
+    pick_near (expr_max es) env h = absurd h
     pick_near (expr_divides k a) env h =
         then_given (picked_in calls a env) (NearIn near a env) (OverIn near over a env) (λ xs. values (truth (is_multiple k (number_of (first_of xs))) ∷ []))
         (λ xs. Gives (truth (is_multiple k (number_of (first_of xs))))) (pick_near a env h) (λ xs e. refl)
@@ -144,6 +149,7 @@ module _ (calls : ℕ → List Value → Option Outcome) (near : Calling) (over 
         on_bool (nat_le (peak code env) limit)
         (λ t. rw t (given (means code env) (NearIn near (expr_choose n scope outputs rel) env) (OverIn near over (expr_choose n scope outputs rel) env) h.1))
         (λ t. rw t (record { overflows = λ e. above limit (peak code env) _ (leb-false (peak code env) limit t) h.0; picks = λ o e. absurd (none_some o e) }))
+    pick_near (expr_choose_where n scope outputs hidden given rel aim) env h = absurd h
     pick_near (expr_match n scope a arms) env h = absurd h
 
     picks_near : (es : ExprTrees) (env : List Value) → AreFineIn calls fine es env →

@@ -7,10 +7,10 @@ use Rattle.cf_num.specs.Limit.{limit}
 use Rattle.cf_tree.specs.declared.base.Base.{Base}
 use Rattle.cf_tree.specs.declared.base.Base.TheVariants.{Int}
 use Rattle.cf_tree.specs.declared.base.Order.TheVariants.{Eq, Le}
-use Rattle.cf_tree.specs.declared.raw.BinOp.TheVariants.{Add, Sub, Mul, And, Or, Union, Inter, Diff, Subset, Compare}
+use Rattle.cf_tree.specs.declared.raw.BinOp.TheVariants.{Add, Sub, Mul, And, Or, Union, Inter, Diff, Subset, Implies, Compare}
 use Rattle.cf_tree.specs.declared.raw.Param.{Param}
 use Rattle.cf_tree.specs.Allowed.{goes_on}
-use Rattle.cf_tree.specs.ExprTree.{ExprTree, expr_lit, expr_truth, expr_var, expr_set_of, expr_tuple, expr_neg, expr_not, expr_abs, expr_binary, expr_divides, expr_div, expr_mod, expr_card, expr_if, expr_call, expr_let, expr_choose, exprs_of}
+use Rattle.cf_tree.specs.ExprTree.{ExprTree, expr_lit, expr_truth, expr_var, expr_set_of, expr_tuple, expr_neg, expr_not, expr_abs, expr_binary, expr_chain, expr_min, expr_max, expr_divides, expr_div, expr_mod, expr_card, expr_if, expr_call, expr_let, expr_choose, expr_choose_where, exprs_of, holds_always, at_any}
 use Rattle.cf_tree.specs.RelTree.{RelTree, rel_and, rel_compare, term_add, term_lit, term_mul, term_var}
 use Rattle.cf_tree.specs.Values.{Value, Outcome, number, truth, elements, values, no_solution}
 use Rattle.cf_linear.specs.Arm.{arm}
@@ -165,6 +165,21 @@ or-decided = refl
 
 or-right : picks [] (expr_binary Or (expr_truth false) (expr_truth false)) [] ≡ gives (truth false ∷ [])
 or-right = refl
+
+implies-decided : picks [] (expr_binary Implies (expr_truth false) (expr_binary (Compare Eq) overflow overflow)) [] ≡ gives (truth true ∷ [])
+implies-decided = refl
+
+implies-right : picks [] (expr_binary Implies (expr_truth true) (expr_truth false)) [] ≡ gives (truth false ∷ [])
+implies-right = refl
+
+-- forms that do not stand here
+abbrev forms : List ExprTree
+forms =
+    expr_chain (Le ∷ Le ∷ []) (exprs_of (overflow ∷ overflow ∷ overflow ∷ [])) ∷ expr_min (exprs_of (overflow ∷ overflow ∷ []))
+    ∷ expr_max (exprs_of (overflow ∷ overflow ∷ [])) ∷ expr_choose_where 1 [] (Int ∷ []) [] holds_always overflow at_any ∷ []
+
+forms-give_nothing : map (λ e. picks [] e []) forms ≡ gives [] ∷ gives [] ∷ gives [] ∷ gives [] ∷ []
+forms-give_nothing = refl
 
 set-form : picks [] (expr_set_of (exprs_of (expr_lit (pos 2) ∷ expr_lit (pos 1) ∷ expr_lit (pos 2) ∷ []))) [] ≡ gives (set (pos 1 ∷ pos 2 ∷ []))
 set-form = refl

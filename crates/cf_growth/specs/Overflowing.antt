@@ -1,13 +1,14 @@
--- Near paths of a source, which of them may overflow, and what a source picks. A program is read here with its matches as the chooses that they stand for.
+-- Near paths of a source, which of them may overflow, and what a source picks. A program is read here with its matches as the chooses that they stand for,
+-- and has none of the forms of `HasNoForm`.
 use Rattle.std.specs.Prelude.{ℕ, ◌<◌, ◌≤◌, ◌==◌, pos, neg_ℤ, unsigned_abs, nat_le, ◌≡◌, ◌⊎◌, true, false, not, List, [], ◌∷◌, ◌++◌, length, map, reverse, MatchBool, Option, Some, None, if◌then◌else◌}
 use Rattle.cf_num.specs.Limit.{limit}
 use Rattle.cf_tree.specs.declared.base.Base.{Base}
 use Rattle.cf_tree.specs.declared.raw.BinOp.{BinOp}
-use Rattle.cf_tree.specs.declared.raw.BinOp.TheVariants.{And, Or}
+use Rattle.cf_tree.specs.declared.raw.BinOp.TheVariants.{And, Or, Implies}
 use Rattle.cf_tree.specs.Allowed.{operation, Choosing, Calling, AllowedBy, AllAllowedBy, CallAllowedBy}
 use Rattle.cf_tree.specs.Params.{bases_of}
 use Rattle.cf_tree.specs.CodeTree.{code_solve, arms_of}
-use Rattle.cf_tree.specs.ExprTree.{ExprTree, expr_lit, expr_truth, expr_var, expr_set_of, expr_tuple, expr_neg, expr_not, expr_abs, expr_binary, expr_divides, expr_div, expr_mod, expr_card, expr_if, expr_call, expr_let, expr_choose, expr_match, ExprTrees, no_exprs, expr_more}
+use Rattle.cf_tree.specs.ExprTree.{ExprTree, expr_lit, expr_truth, expr_var, expr_set_of, expr_tuple, expr_neg, expr_not, expr_abs, expr_binary, expr_chain, expr_min, expr_max, expr_divides, expr_div, expr_mod, expr_card, expr_if, expr_call, expr_let, expr_choose, expr_choose_where, expr_match, ExprTrees, no_exprs, expr_more}
 use Rattle.cf_tree.specs.Meaning.{means, peak}
 use Rattle.cf_tree.specs.Numbers.{quotient, remainder, is_multiple, absolute}
 use Rattle.cf_tree.specs.Relation.{Sol, IsTyped, IsLinear}
@@ -43,6 +44,7 @@ Passes v = limit < unsigned_abs (number_of v)
 abbrev pub RightPasses : BinOp → Value → (Outcome → Type 0) → Type 0 → Type 0
 RightPasses And v near later = MatchBool (truth_of v) later ⊥
 RightPasses Or v near later = MatchBool (truth_of v) ⊥ later
+RightPasses Implies v near later = MatchBool (truth_of v) later ⊥
 RightPasses op v near later = later ⊎ ((ys : List Value) × near (values ys) × Passes (operation op v (first_of ys)))
 
 -- whether a call may overflow on a near path
@@ -64,6 +66,9 @@ abbrev mutual
       ((xs : List Value) × NearIn near a env (values xs) × Passes (number (absolute (number_of (first_of xs)))))
   OverIn near over (expr_binary op a b) env =
       OverIn near over a env ⊎ ((xs : List Value) × NearIn near a env (values xs) × RightPasses op (first_of xs) (NearIn near b env) (OverIn near over b env))
+  OverIn near over (expr_chain orders es) env = ⊥
+  OverIn near over (expr_min es) env = ⊥
+  OverIn near over (expr_max es) env = ⊥
   OverIn near over (expr_divides k a) env = OverIn near over a env
   OverIn near over (expr_div a k) env = OverIn near over a env ⊎
       ((xs : List Value) × NearIn near a env (values xs) × Passes (number (quotient (number_of (first_of xs)) k)))
@@ -77,6 +82,7 @@ abbrev mutual
   OverIn near over (expr_call f es) env = OverAll near over es env ⊎ ((xs : List Value) × NearAll near es env (values xs) × over f xs)
   OverIn near over (expr_let n a b) env = OverIn near over a env ⊎ ((xs : List Value) × NearIn near a env (values xs) × OverIn near over b (env ++ xs))
   OverIn near over (expr_choose n scope outputs rel) env = limit < reach (bases_of scope) outputs rel env
+  OverIn near over (expr_choose_where n scope outputs hidden given rel aim) env = ⊥
   OverIn near over (expr_match n scope a arms) env = ⊥
 
   pub OverAll : Calling → Over → ExprTrees → List Value → Type 0
@@ -105,6 +111,7 @@ ordinary v = Some (values (v ∷ []))
 abbrev pub picked_right : BinOp → Value → Option Outcome → Option Outcome
 picked_right And v right = if truth_of v then right else Some (values (truth false ∷ []))
 picked_right Or v right = if truth_of v then Some (values (truth true ∷ [])) else right
+picked_right Implies v right = if truth_of v then right else Some (values (truth true ∷ []))
 picked_right op v right = then_picked right (λ ys. ordinary (operation op v (first_of ys)))
 
 abbrev pub picked_choose : ℕ → List Base → List Base → RelTree → List Value → Option Outcome
@@ -123,6 +130,9 @@ abbrev mutual
   picked_in calls (expr_not a) env = then_picked (picked_in calls a env) (λ xs. ordinary (truth (not (truth_of (first_of xs)))))
   picked_in calls (expr_abs a) env = then_picked (picked_in calls a env) (λ xs. ordinary (number (absolute (number_of (first_of xs)))))
   picked_in calls (expr_binary op a b) env = then_picked (picked_in calls a env) (λ xs. picked_right op (first_of xs) (picked_in calls b env))
+  picked_in calls (expr_chain orders es) env = Some (values [])
+  picked_in calls (expr_min es) env = Some (values [])
+  picked_in calls (expr_max es) env = Some (values [])
   picked_in calls (expr_divides k a) env = then_picked (picked_in calls a env) (λ xs. ordinary (truth (is_multiple k (number_of (first_of xs)))))
   picked_in calls (expr_div a k) env = then_picked (picked_in calls a env) (λ xs. ordinary (number (quotient (number_of (first_of xs)) k)))
   picked_in calls (expr_mod a k) env = then_picked (picked_in calls a env) (λ xs. ordinary (number (remainder (number_of (first_of xs)) k)))
@@ -132,6 +142,7 @@ abbrev mutual
   picked_in calls (expr_call f es) env = then_picked (picked_all calls es env) (calls f)
   picked_in calls (expr_let n a b) env = then_picked (picked_in calls a env) (λ xs. picked_in calls b (env ++ xs))
   picked_in calls (expr_choose n scope outputs rel) env = picked_choose n (bases_of scope) outputs rel env
+  picked_in calls (expr_choose_where n scope outputs hidden given rel aim) env = Some (values [])
   picked_in calls (expr_match n scope a arms) env = Some (values [])
 
   pub picked_all : (ℕ → List Value → Option Outcome) → ExprTrees → List Value → Option Outcome
@@ -171,6 +182,9 @@ abbrev mutual
   IsFineIn calls fine (expr_not a) env = IsFineIn calls fine a env
   IsFineIn calls fine (expr_abs a) env = IsFineIn calls fine a env
   IsFineIn calls fine (expr_binary op a b) env = IsFineIn calls fine a env × IsFineIn calls fine b env
+  IsFineIn calls fine (expr_chain orders es) env = ⊥
+  IsFineIn calls fine (expr_min es) env = ⊥
+  IsFineIn calls fine (expr_max es) env = ⊥
   IsFineIn calls fine (expr_divides k a) env = IsFineIn calls fine a env
   IsFineIn calls fine (expr_div a k) env = IsFineIn calls fine a env
   IsFineIn calls fine (expr_mod a k) env = IsFineIn calls fine a env
@@ -180,6 +194,7 @@ abbrev mutual
   IsFineIn calls fine (expr_let n a b) env =
       IsFineIn calls fine a env × ((xs : List Value) → picked_in calls a env ≡ Some (values xs) → IsFineIn calls fine b (env ++ xs))
   IsFineIn calls fine (expr_choose n scope outputs rel) env = IsFineChoose n (bases_of scope) outputs rel env
+  IsFineIn calls fine (expr_choose_where n scope outputs hidden given rel aim) env = ⊥
   IsFineIn calls fine (expr_match n scope a arms) env = ⊥
 
   pub AreFineIn : (ℕ → List Value → Option Outcome) → Over → ExprTrees → List Value → Type 0

@@ -3,16 +3,17 @@ use Rattle.std.proofs.Common.{◌≡◌, ℕ, zero, suc, ◌-◌, ◌==◌, ℤ,
 use Rattle.std.specs.Prelude.{Bool, true, false, not, neg_ℤ, nat_le, unsigned_abs, Option, Some, None, if◌then◌else◌}
 use Rattle.std.proofs.lemmas.Bool.{leb-true}
 use Rattle.std.proofs.lemmas.List.{length-map}
+use Rattle.std.proofs.lemmas.List.Elements.{All-head, All-tail}
 use Rattle.cf_num.specs.Limit.{limit}
 use Rattle.cf_tree.specs.declared.base.Base.{Base}
 use Rattle.cf_tree.specs.declared.base.Base.TheVariants.{Int, Bool as Truth, Set}
 use Rattle.cf_tree.specs.declared.raw.BinOp.{BinOp}
-use Rattle.cf_tree.specs.declared.raw.BinOp.TheVariants.{Add, Sub, Mul, And, Or, Union, Inter, Diff, Subset, Compare}
+use Rattle.cf_tree.specs.declared.raw.BinOp.TheVariants.{Add, Sub, Mul, And, Or, Union, Inter, Diff, Subset, Implies, Compare}
 use Rattle.cf_tree.specs.declared.raw.Param.{Param}
 use Rattle.cf_tree.specs.Allowed.{AllowedThen, goes_on, ends_at, Gives, Chosen, operation, AllowedRight, Calling, Fits, AllowedIn, AllowedAll, AllowedArm, AllowedCall}
 use Rattle.cf_tree.specs.Params.{bases_of}
 use Rattle.cf_tree.specs.DefView.{DefTree}
-use Rattle.cf_tree.specs.ExprTree.{ExprTree, expr_lit, expr_truth, expr_var, expr_set_of, expr_tuple, expr_neg, expr_not, expr_abs, expr_binary, expr_divides, expr_div, expr_mod, expr_card, expr_if, expr_call, expr_let, expr_choose, expr_match, ExprTrees, no_exprs, expr_more, match_arm, MatchArmTrees, no_match_arms, match_arm_more}
+use Rattle.cf_tree.specs.ExprTree.{ExprTree, expr_lit, expr_truth, expr_var, expr_set_of, expr_tuple, expr_neg, expr_not, expr_abs, expr_binary, expr_chain, expr_min, expr_max, expr_divides, expr_div, expr_mod, expr_card, expr_if, expr_call, expr_let, expr_choose, expr_choose_where, expr_match, ExprTrees, no_exprs, expr_more, match_arm, MatchArmTrees, no_match_arms, match_arm_more}
 use Rattle.cf_tree.specs.Relation.{Sol, Holds}
 use Rattle.cf_tree.specs.Numbers.{quotient, remainder, is_multiple, absolute}
 use Rattle.cf_tree.specs.RelTree.{RelTree}
@@ -20,6 +21,7 @@ use Rattle.cf_tree.specs.Sets.{set_of}
 use Rattle.cf_tree.specs.Values.{Value, number, truth, elements, Outcome, values, no_solution, number_of, truth_of, elements_of, value_at, first_of, HaveBases}
 use Rattle.cf_tree.proofs.RisingLemmas.{rising_set_of, rising_union, rising_filter}
 use Rattle.cf_program.specs.Lowered.{divisor}
+use Rattle.cf_program.specs.NoForm.{HasNoForm, HaveNoForm, ArmsHaveNoForm}
 use Rattle.cf_program.specs.TypedProgram.{AreSides, ExprHasBasesBy, AllHaveBy, PartsHaveBy, ArmsHaveBy, Takes, AreTypedDefsBy}
 use Rattle.cf_program.specs.LateLinear.{IsLateLinear}
 use Rattle.cf_program.specs.Walk.{side_of, result_of}
@@ -29,7 +31,7 @@ use Rattle.cf_match.proofs.Outcomes.{value_has, have_append, length_have, keeps_
 use Rattle.cf_match.proofs.Patterns.{fits_by, fits, fits_some, fits_none}
 use Rattle.cf_match.proofs.Variables.{ints_of, ints_are, ints_have, holds_is, value_at-end}
 use Rattle.cf_match.proofs.LoweredLaws.{one_behind}
-use Rattle.cf_match.proofs.ProgramLaws.{takes_at, bodies_turned, one_test}
+use Rattle.cf_match.proofs.ProgramLaws.{IsFormed, AreFormed, turned_formed, takes_at, bodies_turned, one_test}
 use Rattle.cf_late.specs.ChooseRun.{LateOutcome, comes_to, overflow, refused, gives, late_choose}
 use Rattle.cf_late.specs.Fitting.{AreFit}
 use Rattle.cf_late.specs.LateChoose.{IsLateChoose}
@@ -124,6 +126,9 @@ module _ (P R : Outcome → Type 0) (p r : LateOutcome) where
       strict_fine Diff (Set ∷ []) (Set ∷ []) Set (f Set h.0) (g Set h.1)
       (λ xs ys hx hy. ((_, refl, rising_filter _ (elements_of (first_of xs)) (set_is_rising xs hx)), tt))
   binary_fine Subset A B f g h = strict_fine Subset (Set ∷ []) (Set ∷ []) Truth (f Set h.0) (g Set h.1) (λ xs ys hx hy. ((_, refl), tt))
+  binary_fine Implies A B f g h =
+      then_fine P (λ xs. AllowedRight Implies (first_of xs) R) (Truth ∷ []) (Truth ∷ []) p (λ xs. late_right Implies (first_of xs) r) (f Truth h.0) (λ xs hx fx.
+      on_truth (truth_of (first_of xs)) (Truth ∷ []) R (Gives (truth true)) r (gives (truth true ∷ [])) (g Truth h.1) (truth_fine true))
   binary_fine (Compare order) A B f g h =
       let s = sides_have (side_of (Compare order)) A B h in
       strict_fine (Compare order) (s.0 ∷ []) (s.0 ∷ []) Truth (f s.0 s.1) (g s.0 s.2) (λ xs ys hx hy. ((_, refl), tt))
@@ -233,92 +238,96 @@ module _ (takes : ℕ → List Base → List Base → Type 0) (calls : ℕ → L
       (λ o a. inr (fits_none factors k z t, a)) rest
 
   mutual
-    pub late_fine : (e : ExprTree) (scope bs : List Base) → ExprHasBasesBy IsLateLinear takes e scope bs → (env : List Value) → HaveBases scope env →
+    pub late_fine : (e : ExprTree) (scope bs : List Base) → HasNoForm e → ExprHasBasesBy IsLateLinear takes e scope bs → (env : List Value) → HaveBases scope env →
         AreFit env →
         Fine bs (AllowedIn allows e env) (late_in calls e env)
-    late_fine (expr_lit k) scope bs h env v w = (refl, keeps_number bs k h.1, (h.0, tt))
-    late_fine (expr_truth t) scope bs h env v w = (refl, keeps_truth bs t h, (omega arith, tt))
-    late_fine (expr_var x) scope bs h env v w = (refl, keeps_value bs h.0 (value_at env x) h.2 (value_has scope env x h.0 v h.1), (fit_at env x w, tt))
-    late_fine (expr_set_of es) scope bs h env v w =
+    late_fine (expr_lit k) scope bs p h env v w = (refl, keeps_number bs k h.1, (h.0, tt))
+    late_fine (expr_truth t) scope bs p h env v w = (refl, keeps_truth bs t h, (omega arith, tt))
+    late_fine (expr_var x) scope bs p h env v w = (refl, keeps_value bs h.0 (value_at env x) h.2 (value_has scope env x h.0 v h.1), (fit_at env x w, tt))
+    late_fine (expr_set_of es) scope bs p h env v w =
         let parts = parts_have takes es scope Int h.0 in
         then_fine (AllowedAll allows es env) (λ xs. Gives (elements (set_of (map number_of xs)))) parts.0 bs (late_all calls es env)
-        (λ xs. gives (elements (set_of (map number_of xs)) ∷ [])) (all_fine es scope parts.0 parts.1 env v w) (λ xs hx fx.
+        (λ xs. gives (elements (set_of (map number_of xs)) ∷ [])) (all_fine es scope parts.0 p parts.1 env v w) (λ xs hx fx.
         (refl, keeps_value bs Set (elements (set_of (map number_of xs))) h.1 (_, refl, rising_set_of (map number_of xs)), (omega arith, tt)))
-    late_fine (expr_tuple es) scope bs h env v w = all_fine es scope bs h.1 env v w
-    late_fine (expr_neg a) scope bs h env v w =
-        one_fine (AllowedIn allows a env) (Int ∷ []) bs (late_in calls a env) (λ x. number (neg_ℤ (number_of x))) Int (late_fine a scope (Int ∷ []) h.0 env v w)
+    late_fine (expr_tuple es) scope bs p h env v w = all_fine es scope bs p h.1 env v w
+    late_fine (expr_neg a) scope bs p h env v w =
+        one_fine (AllowedIn allows a env) (Int ∷ []) bs (late_in calls a env) (λ x. number (neg_ℤ (number_of x))) Int (late_fine a scope (Int ∷ []) p h.0 env v w)
         (sym h.1) (λ x. ((_, refl), tt))
-    late_fine (expr_not a) scope bs h env v w =
+    late_fine (expr_not a) scope bs p h env v w =
         one_fine (AllowedIn allows a env) (Truth ∷ []) bs (late_in calls a env) (λ x. truth (not (truth_of x))) Truth
-        (late_fine a scope (Truth ∷ []) h.0 env v w) (sym h.1) (λ x. ((_, refl), tt))
-    late_fine (expr_abs a) scope bs h env v w =
+        (late_fine a scope (Truth ∷ []) p h.0 env v w) (sym h.1) (λ x. ((_, refl), tt))
+    late_fine (expr_abs a) scope bs p h env v w =
         one_fine (AllowedIn allows a env) (Int ∷ []) bs (late_in calls a env) (λ x. number (absolute (number_of x))) Int
-        (late_fine a scope (Int ∷ []) h.0 env v w) (sym h.1) (λ x. ((_, refl), tt))
-    late_fine (expr_binary op a b) scope bs h env v w =
+        (late_fine a scope (Int ∷ []) p h.0 env v w) (sym h.1) (λ x. ((_, refl), tt))
+    late_fine (expr_binary op a b) scope bs p h env v w =
         fine_as (AllowedThen (AllowedIn allows a env) (λ xs. AllowedRight op (first_of xs) (AllowedIn allows b env)))
         (then_late (late_in calls a env) (λ xs. late_right op (first_of xs) (late_in calls b env))) (result_of op ∷ []) bs (sym h.1)
         (binary_fine (AllowedIn allows a env) (AllowedIn allows b env) (late_in calls a env) (late_in calls b env) op
         (λ c. ExprHasBasesBy IsLateLinear takes a scope (c ∷ [])) (λ c. ExprHasBasesBy IsLateLinear takes b scope (c ∷ []))
-        (λ c t. late_fine a scope (c ∷ []) t env v w) (λ c t. late_fine b scope (c ∷ []) t env v w) h.0)
-    late_fine (expr_divides k a) scope bs h env v w =
+        (λ c t. late_fine a scope (c ∷ []) p.1 t env v w) (λ c t. late_fine b scope (c ∷ []) p.2 t env v w) h.0)
+    late_fine (expr_chain orders es) scope bs p h env v w = absurd p
+    late_fine (expr_min es) scope bs p h env v w = absurd p
+    late_fine (expr_max es) scope bs p h env v w = absurd p
+    late_fine (expr_divides k a) scope bs p h env v w =
         one_fine (AllowedIn allows a env) (Int ∷ []) bs (late_in calls a env) (λ x. truth (is_multiple k (number_of x))) Truth
-        (late_fine a scope (Int ∷ []) h.1 env v w) (sym h.2) (λ x. ((_, refl), tt))
-    late_fine (expr_div a k) scope bs h env v w =
+        (late_fine a scope (Int ∷ []) p h.1 env v w) (sym h.2) (λ x. ((_, refl), tt))
+    late_fine (expr_div a k) scope bs p h env v w =
         one_fine (AllowedIn allows a env) (Int ∷ []) bs (late_in calls a env) (λ x. number (quotient (number_of x) k)) Int
-        (late_fine a scope (Int ∷ []) h.1 env v w) (sym h.2) (λ x. ((_, refl), tt))
-    late_fine (expr_mod a k) scope bs h env v w =
+        (late_fine a scope (Int ∷ []) p h.1 env v w) (sym h.2) (λ x. ((_, refl), tt))
+    late_fine (expr_mod a k) scope bs p h env v w =
         one_fine (AllowedIn allows a env) (Int ∷ []) bs (late_in calls a env) (λ x. number (remainder (number_of x) k)) Int
-        (late_fine a scope (Int ∷ []) h.1 env v w) (sym h.2) (λ x. ((_, refl), tt))
-    late_fine (expr_card a) scope bs h env v w =
+        (late_fine a scope (Int ∷ []) p h.1 env v w) (sym h.2) (λ x. ((_, refl), tt))
+    late_fine (expr_card a) scope bs p h env v w =
         one_fine (AllowedIn allows a env) (Set ∷ []) bs (late_in calls a env) (λ x. number (pos (length (elements_of x)))) Int
-        (late_fine a scope (Set ∷ []) h.0 env v w) (sym h.1) (λ x. ((_, refl), tt))
-    late_fine (expr_if t a b) scope bs h env v w =
+        (late_fine a scope (Set ∷ []) p h.0 env v w) (sym h.1) (λ x. ((_, refl), tt))
+    late_fine (expr_if t a b) scope bs p h env v w =
         then_fine (AllowedIn allows t env) (λ xs o. MatchBool (truth_of (first_of xs)) (AllowedIn allows a env o) (AllowedIn allows b env o)) (Truth ∷ []) bs
-        (late_in calls t env) (λ xs. if truth_of (first_of xs) then late_in calls a env else late_in calls b env) (late_fine t scope (Truth ∷ []) h.0 env v w)
+        (late_in calls t env) (λ xs. if truth_of (first_of xs) then late_in calls a env else late_in calls b env) (late_fine t scope (Truth ∷ []) p.0 h.0 env v w)
         (λ xs hx fx.
         on_truth (truth_of (first_of xs)) bs (AllowedIn allows a env) (AllowedIn allows b env) (late_in calls a env) (late_in calls b env)
-        (late_fine a scope bs h.1 env v w) (late_fine b scope bs h.2 env v w))
-    late_fine (expr_call f es) scope bs h env v w =
-        then_fine (AllowedAll allows es env) (allows f) h.0 bs (late_all calls es env) (calls f) (all_fine es scope h.0 h.2 env v w)
+        (late_fine a scope bs p.1 h.1 env v w) (late_fine b scope bs p.2 h.2 env v w))
+    late_fine (expr_call f es) scope bs p h env v w =
+        then_fine (AllowedAll allows es env) (allows f) h.0 bs (late_all calls es env) (calls f) (all_fine es scope h.0 p h.2 env v w)
         (λ xs hx fx. calls_fine f h.0 bs h.1 xs hx fx)
-    late_fine (expr_let m a b) scope bs h env v w =
+    late_fine (expr_let m a b) scope bs p h env v w =
         then_fine (AllowedIn allows a env) (λ xs. AllowedIn allows b (env ++ xs)) h.0 bs (late_in calls a env) (λ xs. late_in calls b (env ++ xs))
-        (late_fine a scope h.0 h.1 env v w)
-        (λ xs hx fx. late_fine b (scope ++ h.0) bs h.4 (env ++ xs) (have_append scope h.0 env xs v hx) (fit_append env xs w fx))
-    late_fine (expr_choose m params outputs rel) scope bs h env v w =
+        (late_fine a scope h.0 p.0 h.1 env v w)
+        (λ xs hx fx. late_fine b (scope ++ h.0) bs p.1 h.4 (env ++ xs) (have_append scope h.0 env xs v hx) (fit_append env xs w fx))
+    late_fine (expr_choose m params outputs rel) scope bs p h env v w =
         fine_as (Chosen m (Sol outputs rel env)) (late_choose m (bases_of params) outputs rel env) outputs bs (sym h.5)
         (subst (λ cs. Fine outputs (Chosen m (Sol outputs rel env)) (late_choose m cs outputs rel env)) (sym h.0)
         (chosen_fine m scope outputs rel env (record { typed = h.3; linear = h.4; are_outputs = outputs_too outputs h.2 }) v w))
-    late_fine (expr_match n params a arms) scope bs h env v w =
+    late_fine (expr_choose_where m params outputs hidden given rel aim) scope bs p h env v w = absurd p
+    late_fine (expr_match n params a arms) scope bs p h env v w =
         then_fine (AllowedIn allows a env) (λ xs. AllowedArm allows n arms (number_of (first_of xs)) (env ++ xs)) (Int ∷ []) bs (late_in calls a env)
-        (λ xs. late_arms calls n (bases_of params) arms (number_of (first_of xs)) (env ++ xs)) (late_fine a scope (Int ∷ []) h.1 env v w)
+        (λ xs. late_arms calls n (bases_of params) arms (number_of (first_of xs)) (env ++ xs)) (late_fine a scope (Int ∷ []) p.0 h.1 env v w)
         (match_fine n params arms scope bs env h.0 v w (λ z have fit.
-        arms_fine n arms (scope ++ Int ∷ []) bs h.3 (env ++ number z ∷ []) have fit (length env) z (value_at-end env (number z) (length env) refl)
+        arms_fine n arms (scope ++ Int ∷ []) bs p.1 h.3 (env ++ number z ∷ []) have fit (length env) z (value_at-end env (number z) (length env) refl)
         (one_behind env (number z) (length env) refl) (last_level scope env v) (ends_with_int scope)))
 
-    all_fine : (es : ExprTrees) (scope bs : List Base) → PartsHaveBy IsLateLinear takes es scope bs → (env : List Value) → HaveBases scope env → AreFit env →
+    all_fine : (es : ExprTrees) (scope bs : List Base) → HaveNoForm es → PartsHaveBy IsLateLinear takes es scope bs → (env : List Value) → HaveBases scope env → AreFit env →
         Fine bs (AllowedAll allows es env) (late_all calls es env)
-    all_fine no_exprs scope bs h env v w = (refl, rw h tt, tt)
-    all_fine (expr_more e es) scope bs h env v w =
-        then_fine (AllowedIn allows e env) (λ xs. AllowedThen (AllowedAll allows es env) (λ ys p. p ≡ values (xs ++ ys))) (h.0 ∷ []) bs (late_in calls e env)
-        (λ xs. then_late (late_all calls es env) (λ ys. gives (xs ++ ys))) (late_fine e scope (h.0 ∷ []) h.3 env v w) (λ xs hx fx.
-        then_fine (AllowedAll allows es env) (λ ys p. p ≡ values (xs ++ ys)) h.1 bs (late_all calls es env) (λ ys. gives (xs ++ ys))
-        (all_fine es scope h.1 h.4 env v w) (λ ys hy fy.
+    all_fine no_exprs scope bs p h env v w = (refl, rw h tt, tt)
+    all_fine (expr_more e es) scope bs p h env v w =
+        then_fine (AllowedIn allows e env) (λ xs. AllowedThen (AllowedAll allows es env) (λ ys o. o ≡ values (xs ++ ys))) (h.0 ∷ []) bs (late_in calls e env)
+        (λ xs. then_late (late_all calls es env) (λ ys. gives (xs ++ ys))) (late_fine e scope (h.0 ∷ []) p.0 h.3 env v w) (λ xs hx fx.
+        then_fine (AllowedAll allows es env) (λ ys o. o ≡ values (xs ++ ys)) h.1 bs (late_all calls es env) (λ ys. gives (xs ++ ys))
+        (all_fine es scope h.1 p.1 h.4 env v w) (λ ys hy fy.
         (refl, subst (λ cs. HaveBases cs (xs ++ ys)) (sym h.2) (have_append (h.0 ∷ []) h.1 xs ys hx hy), fit_append xs ys fx fy)))
 
-    arms_fine : (n : ℕ) (arms : MatchArmTrees) (scope bs : List Base) → ArmsHaveBy IsLateLinear takes arms scope bs → (env : List Value) → HaveBases scope env →
+    arms_fine : (n : ℕ) (arms : MatchArmTrees) (scope bs : List Base) → ArmsHaveNoForm arms → ArmsHaveBy IsLateLinear takes arms scope bs → (env : List Value) → HaveBases scope env →
         AreFit env →
         (x : ℕ) (z : ℤ) → value_at env x ≡ number z → length env ≡ suc x → x ≡ length scope - 1 → EndsWithInt scope →
         Fine bs (AllowedArm allows n arms z env) (late_arms calls n scope arms z env)
-    arms_fine n no_match_arms scope bs h env v w x z at level e last = refl
-    arms_fine n (match_arm_more (match_arm m factors k body) arms) scope bs h env v w x z at level e last =
+    arms_fine n no_match_arms scope bs p h env v w x z at level e last = refl
+    arms_fine n (match_arm_more (match_arm m factors k body) arms) scope bs p h env v w x z at level e last =
         arm_fine n m factors k body arms scope bs env x z at level (is_in (class_of factors k) z) (sym (is_in-fits (divisor factors) k z))
         (λ t. variables_fine calls allows bs env x z at level k body m scope factors e (fits_some factors k z t)
         (pattern_choose scope factors k last h.1 h.2) v w
-        (λ is l f. late_fine body (scope ++ ints_of factors) bs h.3 (env ++ map number is)
+        (λ is l f. late_fine body (scope ++ ints_of factors) bs p.0 h.3 (env ++ map number is)
         (have_append scope (ints_of factors) env (map number is) v (ints_have factors is l))
         (fit_append env (map number is) w f)))
-        (arms_fine n arms scope bs h.4 env v w x z at level e last)
+        (arms_fine n arms scope bs p.1 h.4 env v w x z at level e last)
 
 -- ---- functions
 fine_either : (rs : List Base) (P Q : Outcome → Type 0) (r s : LateOutcome) (a c b : Bool) → a ≡ b → c ≡ b →
@@ -341,15 +350,15 @@ call_by d earlier f ps rs xs false e g new old =
     fine_either rs (AllowedIn (AllowedCall (bodies earlier)) d.body xs) (AllowedCall (bodies earlier) f xs) (late_in (late_call (bodies earlier)) d.body xs)
     (late_call (bodies earlier) f xs) (f == length (bodies earlier)) (f == length (bodies earlier)) false t t (old g)
 
-calls_fine : (earlier : List DefTree) → AreTypedDefsBy IsLateLinear earlier → (f : ℕ) (ps rs : List Base) → Takes earlier f ps rs → (xs : List Value) →
+calls_fine : (earlier : List DefTree) → AreTypedDefsBy IsLateLinear earlier → AreFormed earlier → (f : ℕ) (ps rs : List Base) → Takes earlier f ps rs → (xs : List Value) →
     HaveBases ps xs → AreFit xs → Fine rs (AllowedCall (bodies earlier) f xs) (late_call (bodies earlier) f xs)
-calls_fine [] t f ps rs h xs v w = absurd h
-calls_fine (d ∷ earlier) t f ps rs h xs v w =
+calls_fine [] t p f ps rs h xs v w = absurd h
+calls_fine (d ∷ earlier) t p f ps rs h xs v w =
     call_by d earlier f ps rs xs (f == length earlier) refl h
-    (λ p. late_fine (Takes earlier) (late_call (bodies earlier)) (AllowedCall (bodies earlier)) (calls_fine earlier t.1) d.body (bases_of d.params) d.results
-    t.0.1 xs
-    (subst (λ qs. HaveBases qs xs) p v) w)
-    (λ g. calls_fine earlier t.1 f ps rs g xs v w)
+    (λ e. late_fine (Takes earlier) (late_call (bodies earlier)) (AllowedCall (bodies earlier)) (calls_fine earlier t.1 (All-tail IsFormed d earlier p)) d.body
+    (bases_of d.params) d.results (All-head IsFormed d earlier p) t.0.1 xs
+    (subst (λ qs. HaveBases qs xs) e v) w)
+    (λ g. calls_fine earlier t.1 (All-tail IsFormed d earlier p) f ps rs g xs v w)
 
 fine_allowed : (bs : List Base) (P : Outcome → Type 0) (r : LateOutcome) (o : Outcome) → Fine bs P r → r ≡ comes_to o → P o
 fine_allowed bs P (comes_to (values vs)) o h e = let same : o ≡ values vs = cc in rw same h.0
@@ -360,7 +369,7 @@ fine_allowed bs P (refused n r) o h e = absurd (cc)
 pub late_runs_are_allowed : LateRunsAreAllowed
 late_runs_are_allowed defs main t env v w o e =
     let d = v.0 in
-    let f = calls_fine (reverse defs) t.typed main (bases_of d.params) d.results (takes_at defs main d v.1) env v.2 w in
+    let f = calls_fine (reverse defs) t.typed (turned_formed defs t.formed) main (bases_of d.params) d.results (takes_at defs main d v.1) env v.2 w in
     let turned = bodies_turned defs in
     subst (λ es. AllowedCall es main env o) turned
     (fine_allowed d.results (AllowedCall (bodies (reverse defs)) main env) (late_call (bodies (reverse defs)) main env) o f

@@ -4,7 +4,7 @@ use Rattle.std.specs.Prelude.{Some, None, Bool, true, false, Result, if◌then�
 use Rattle.std.proofs.lemmas.List.{append_assoc, append-nil}
 use Rattle.cf_tree.specs.declared.base.Base.{Base}
 use Rattle.cf_tree.specs.declared.raw.BinOp.{BinOp}
-use Rattle.cf_tree.specs.declared.raw.BinOp.TheVariants.{Add, Sub, Mul, And, Or, Union, Inter, Diff, Subset, Compare}
+use Rattle.cf_tree.specs.declared.raw.BinOp.TheVariants.{Add, Sub, Mul, And, Or, Union, Inter, Diff, Subset, Implies, Compare}
 use Rattle.cf_tree.specs.declared.expr.Expr.{Expr}
 use Rattle.cf_tree.specs.ExprTree.{MatchArmTree, match_arm, MatchArmTrees, match_arm_more}
 use Rattle.cf_tree.specs.ExprView.{expr_tree, expr_trees}
@@ -41,6 +41,11 @@ right_decided Union v r b e = absurd (cc)
 right_decided Inter v r b e = absurd (cc)
 right_decided Diff v r b e = absurd (cc)
 right_decided Subset v r b e = absurd (cc)
+right_decided Implies v r b e = by (truth_of v) e
+  where
+    by : (t : Bool) → (if t then None else Some true) ≡ Some b → (if t then r else gives (truth true ∷ [])) ≡ gives (truth b ∷ [])
+    by true q = absurd (cc)
+    by false q = let same : true ≡ b = cc in rw same refl
 right_decided (Compare o) v r b e = absurd (cc)
 
 right_self : (r : LateOutcome) → r ≡ then_late r (λ ys. gives ys)
@@ -67,6 +72,11 @@ right_joined Union v r e = refl
 right_joined Inter v r e = refl
 right_joined Diff v r e = refl
 right_joined Subset v r e = refl
+right_joined Implies v r e = by (truth_of v) e
+  where
+    by : (t : Bool) → (if t then None else Some true) ≡ None → (if t then r else gives (truth true ∷ [])) ≡ then_late r (λ ys. gives ys)
+    by true q = right_self r
+    by false q = absurd (cc)
 right_joined (Compare o) v r e = refl
 
 -- what the right side comes to decides

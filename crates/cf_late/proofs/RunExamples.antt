@@ -6,9 +6,9 @@ use Rattle.cf_num.specs.Parts.{parts_of}
 use Rattle.cf_tree.specs.declared.base.Base.{Base}
 use Rattle.cf_tree.specs.declared.base.Base.TheVariants.{Int, Set}
 use Rattle.cf_tree.specs.declared.base.Order.TheVariants.{Eq, Le}
-use Rattle.cf_tree.specs.declared.raw.BinOp.TheVariants.{Add, Sub, Mul, And, Or, Union, Inter, Diff, Subset, Compare}
+use Rattle.cf_tree.specs.declared.raw.BinOp.TheVariants.{Add, Sub, Mul, And, Or, Union, Inter, Diff, Subset, Implies, Compare}
 use Rattle.cf_tree.specs.declared.raw.Param.{Param}
-use Rattle.cf_tree.specs.ExprTree.{ExprTree, expr_lit, expr_truth, expr_var, expr_set_of, expr_tuple, expr_neg, expr_not, expr_abs, expr_binary, expr_divides, expr_div, expr_mod, expr_card, expr_if, expr_call, expr_let, expr_choose, expr_match, exprs_of, match_arm, match_arms_of}
+use Rattle.cf_tree.specs.ExprTree.{ExprTree, expr_lit, expr_truth, expr_var, expr_set_of, expr_tuple, expr_neg, expr_not, expr_abs, expr_binary, expr_chain, expr_min, expr_max, expr_divides, expr_div, expr_mod, expr_card, expr_if, expr_call, expr_let, expr_choose, expr_choose_where, expr_match, exprs_of, match_arm, match_arms_of, holds_always, at_any}
 use Rattle.cf_tree.specs.RelTree.{rel_and, rel_compare, set_var, term_add, term_card, term_mul, term_var}
 use Rattle.cf_tree.specs.Values.{Value, number, truth, elements, no_solution}
 use Rattle.cf_linear.specs.declared.refusal.LimitKind.TheVariants.{Search}
@@ -20,6 +20,7 @@ use Rattle.cf_linear.specs.Stages.{run, run_for, clean_stage, equation_stage, bo
 use Rattle.cf_linear.specs.Steps.{clean, mix, factors_of, merge, merge_passes, merge_factor, last, pick, searched, dropped, searched_by, bound, bound_passes, bound_factor}
 use Rattle.cf_late.specs.ChooseRun.{LateOutcome, comes_to, overflow, refused, gives}
 use Rattle.cf_late.specs.LateRun.{late_run}
+use Rattle.cf_late.specs.Runnable.{IsRunnable}
 
 abbrev param : Base → Param
 param b = record { place = record { line = 1; column = 1 }; name = codes "a"; base = b }
@@ -226,6 +227,26 @@ or-decided = refl
 
 or-right : runs [] (expr_binary Or (expr_truth false) (expr_truth false)) [] ≡ gives (truth false ∷ [])
 or-right = refl
+
+implies-decided : runs [] (expr_binary Implies (expr_truth false) (expr_binary (Compare Eq) passing passing)) [] ≡ gives (truth true ∷ [])
+implies-decided = refl
+
+implies-right : runs [] (expr_binary Implies (expr_truth true) (expr_truth false)) [] ≡ gives (truth false ∷ [])
+implies-right = refl
+
+-- forms that do not stand here
+abbrev forms : List ExprTree
+forms =
+    expr_chain (Le ∷ Le ∷ []) (exprs_of (passing ∷ passing ∷ passing ∷ [])) ∷ expr_min (exprs_of (passing ∷ passing ∷ []))
+    ∷ expr_max (exprs_of (passing ∷ passing ∷ [])) ∷ expr_choose_where 1 [] (Int ∷ []) [] holds_always passing at_any ∷ []
+
+forms-give_nothing : map (λ e. runs [] e []) forms ≡ gives [] ∷ gives [] ∷ gives [] ∷ gives [] ∷ []
+forms-give_nothing = refl
+
+not_runnable : (IsRunnable (expr_chain (Le ∷ []) (exprs_of (expr_truth true ∷ expr_truth true ∷ []))) → ⊥)
+    × (IsRunnable (expr_min (exprs_of (expr_truth true ∷ []))) → ⊥) × (IsRunnable (expr_max (exprs_of (expr_truth true ∷ []))) → ⊥)
+    × (IsRunnable (expr_choose_where 1 [] (Int ∷ []) [] holds_always (expr_truth true) at_any) → ⊥)
+not_runnable = ((λ h. h), (λ h. h), (λ h. h), λ h. h)
 
 set-form : runs [] (expr_set_of (exprs_of (expr_lit (pos 2) ∷ expr_lit (pos 1) ∷ expr_lit (pos 2) ∷ []))) [] ≡ gives (set (pos 1 ∷ pos 2 ∷ []))
 set-form = refl

@@ -8,16 +8,18 @@ use Rattle.cf_tree.specs.declared.base.Base.{Base}
 use Rattle.cf_tree.specs.declared.base.Base.TheVariants.{Int, Bool as Truth, Set}
 use Rattle.cf_tree.specs.declared.expr.Def.{Def}
 use Rattle.cf_tree.specs.DefView.{DefTree, def_tree}
-use Rattle.cf_tree.specs.ExprTree.{ExprTree, expr_lit, expr_truth, expr_var, expr_set_of, expr_tuple, expr_neg, expr_not, expr_abs, expr_binary, expr_divides, expr_div, expr_mod, expr_card, expr_if, expr_call, expr_let, expr_choose, expr_match, ExprTrees, no_exprs, expr_more, match_arm, MatchArmTrees, no_match_arms, match_arm_more}
+use Rattle.cf_tree.specs.ExprTree.{ExprTree, expr_lit, expr_truth, expr_var, expr_set_of, expr_tuple, expr_neg, expr_not, expr_abs, expr_binary, expr_chain, expr_min, expr_max, expr_divides, expr_div, expr_mod, expr_card, expr_if, expr_call, expr_let, expr_choose, expr_choose_where, expr_match, ExprTrees, no_exprs, expr_more, match_arm, MatchArmTrees, no_match_arms, match_arm_more}
 use Rattle.cf_tree.specs.ExprView.{expr_tree}
 use Rattle.cf_tree.specs.Relation.{IsTypedTerm}
 use Rattle.cf_tree.specs.RelTree.{TermTree, term_add, term_mul, term_lit, term_var}
 use Rattle.cf_choose.specs.Solved.{IsOutput}
 use Rattle.cf_program.specs.LateLinear.{IsLateLinearTerm, IsLateLinear}
 use Rattle.cf_program.specs.Lowered.{added, pattern_term}
+use Rattle.cf_program.specs.NoForm.{HasNoForm, HaveNoForm, ArmsHaveNoForm}
 use Rattle.cf_tree.specs.Params.{bases_of}
 use Rattle.cf_program.specs.TypedProgram.{AreSides, ExprHasBasesBy, AllHaveBy, PartsHaveBy, ArmsHaveBy, Takes, AreTypedDefsBy, IsLateProgram, IsOutput as IsTypedOutput}
 use Rattle.cf_program.specs.Walk.{side_of}
+use Rattle.cf_match.proofs.ProgramLaws.{IsFormed, AreFormed, turned_formed}
 use Rattle.cf_match.proofs.Variables.{ints_of}
 use Rattle.cf_late.specs.LateChoose.{IsLateChoose}
 use Rattle.cf_late.specs.LateRun.{pattern_relation}
@@ -125,54 +127,61 @@ both_sides None A B X Y f g h = (f h.0 h.1, g h.0 h.2)
 
 module _ (takes : ℕ → List Base → List Base → Type 0) where
   mutual
-    pub expr_runnable : (e : ExprTree) (scope bs : List Base) → ExprHasBasesBy IsLateLinear takes e scope bs → IsRunnable e
-    expr_runnable (expr_lit k) scope bs h = h.0
-    expr_runnable (expr_truth t) scope bs h = tt
-    expr_runnable (expr_var x) scope bs h = tt
-    expr_runnable (expr_set_of es) scope bs h = all_runnable es scope Int h.0
-    expr_runnable (expr_tuple es) scope bs h = parts_runnable es scope bs h.1
-    expr_runnable (expr_neg a) scope bs h = expr_runnable a scope (Int ∷ []) h.0
-    expr_runnable (expr_not a) scope bs h = expr_runnable a scope (Truth ∷ []) h.0
-    expr_runnable (expr_abs a) scope bs h = expr_runnable a scope (Int ∷ []) h.0
-    expr_runnable (expr_binary op a b) scope bs h =
+    pub expr_runnable : (e : ExprTree) (scope bs : List Base) → HasNoForm e → ExprHasBasesBy IsLateLinear takes e scope bs → IsRunnable e
+    expr_runnable (expr_lit k) scope bs p h = h.0
+    expr_runnable (expr_truth t) scope bs p h = tt
+    expr_runnable (expr_var x) scope bs p h = tt
+    expr_runnable (expr_set_of es) scope bs p h = all_runnable es scope Int p h.0
+    expr_runnable (expr_tuple es) scope bs p h = parts_runnable es scope bs p h.1
+    expr_runnable (expr_neg a) scope bs p h = expr_runnable a scope (Int ∷ []) p h.0
+    expr_runnable (expr_not a) scope bs p h = expr_runnable a scope (Truth ∷ []) p h.0
+    expr_runnable (expr_abs a) scope bs p h = expr_runnable a scope (Int ∷ []) p h.0
+    expr_runnable (expr_binary op a b) scope bs p h =
         both_sides (side_of op) (λ c. ExprHasBasesBy IsLateLinear takes a scope (c ∷ [])) (λ c. ExprHasBasesBy IsLateLinear takes b scope (c ∷ []))
-        (IsRunnable a) (IsRunnable b) (λ c t. expr_runnable a scope (c ∷ []) t) (λ c t. expr_runnable b scope (c ∷ []) t) h.0
-    expr_runnable (expr_divides k a) scope bs h = expr_runnable a scope (Int ∷ []) h.1
-    expr_runnable (expr_div a k) scope bs h = expr_runnable a scope (Int ∷ []) h.1
-    expr_runnable (expr_mod a k) scope bs h = expr_runnable a scope (Int ∷ []) h.1
-    expr_runnable (expr_card a) scope bs h = expr_runnable a scope (Set ∷ []) h.0
-    expr_runnable (expr_if t a b) scope bs h = (expr_runnable t scope (Truth ∷ []) h.0, expr_runnable a scope bs h.1, expr_runnable b scope bs h.2)
-    expr_runnable (expr_call f es) scope bs h = parts_runnable es scope h.0 h.2
-    expr_runnable (expr_let n a b) scope bs h = (expr_runnable a scope h.0 h.1, expr_runnable b (scope ++ h.0) bs h.4)
-    expr_runnable (expr_choose n params outputs rel) scope bs h =
+        (IsRunnable a) (IsRunnable b) (λ c t. expr_runnable a scope (c ∷ []) p.1 t) (λ c t. expr_runnable b scope (c ∷ []) p.2 t) h.0
+    expr_runnable (expr_chain orders es) scope bs p h = absurd p
+    expr_runnable (expr_min es) scope bs p h = absurd p
+    expr_runnable (expr_max es) scope bs p h = absurd p
+    expr_runnable (expr_divides k a) scope bs p h = expr_runnable a scope (Int ∷ []) p h.1
+    expr_runnable (expr_div a k) scope bs p h = expr_runnable a scope (Int ∷ []) p h.1
+    expr_runnable (expr_mod a k) scope bs p h = expr_runnable a scope (Int ∷ []) p h.1
+    expr_runnable (expr_card a) scope bs p h = expr_runnable a scope (Set ∷ []) p h.0
+    expr_runnable (expr_if t a b) scope bs p h = (expr_runnable t scope (Truth ∷ []) p.0 h.0, expr_runnable a scope bs p.1 h.1, expr_runnable b scope bs p.2 h.2)
+    expr_runnable (expr_call f es) scope bs p h = parts_runnable es scope h.0 p h.2
+    expr_runnable (expr_let n a b) scope bs p h = (expr_runnable a scope h.0 p.0 h.1, expr_runnable b (scope ++ h.0) bs p.1 h.4)
+    expr_runnable (expr_choose n params outputs rel) scope bs p h =
         subst (λ cs. IsLateChoose cs outputs rel) (sym h.0) (record { typed = h.3; linear = h.4; are_outputs = outputs_too outputs h.2 })
-    expr_runnable (expr_match n params a arms) scope bs h = (
-      expr_runnable a scope (Int ∷ []) h.1,
-      subst (λ cs. AreRunnableArms cs arms) (sym h.0) (arms_runnable arms (scope ++ Int ∷ []) bs (ends_with_int scope) h.3),
+    expr_runnable (expr_choose_where n params outputs hidden given rel aim) scope bs p h = absurd p
+    expr_runnable (expr_match n params a arms) scope bs p h = (
+      expr_runnable a scope (Int ∷ []) p.0 h.1,
+      subst (λ cs. AreRunnableArms cs arms) (sym h.0) (arms_runnable arms (scope ++ Int ∷ []) bs (ends_with_int scope) p.1 h.3),
     )
 
-    all_runnable : (es : ExprTrees) (scope : List Base) (b : Base) → AllHaveBy IsLateLinear takes es scope b → AreRunnable es
-    all_runnable no_exprs scope b h = tt
-    all_runnable (expr_more e es) scope b h = (expr_runnable e scope (b ∷ []) h.0, all_runnable es scope b h.1)
+    all_runnable : (es : ExprTrees) (scope : List Base) (b : Base) → HaveNoForm es → AllHaveBy IsLateLinear takes es scope b → AreRunnable es
+    all_runnable no_exprs scope b p h = tt
+    all_runnable (expr_more e es) scope b p h = (expr_runnable e scope (b ∷ []) p.0 h.0, all_runnable es scope b p.1 h.1)
 
-    parts_runnable : (es : ExprTrees) (scope bs : List Base) → PartsHaveBy IsLateLinear takes es scope bs → AreRunnable es
-    parts_runnable no_exprs scope bs h = tt
-    parts_runnable (expr_more e es) scope bs h = (expr_runnable e scope (h.0 ∷ []) h.3, parts_runnable es scope h.1 h.4)
+    parts_runnable : (es : ExprTrees) (scope bs : List Base) → HaveNoForm es → PartsHaveBy IsLateLinear takes es scope bs → AreRunnable es
+    parts_runnable no_exprs scope bs p h = tt
+    parts_runnable (expr_more e es) scope bs p h = (expr_runnable e scope (h.0 ∷ []) p.0 h.3, parts_runnable es scope h.1 p.1 h.4)
 
-    arms_runnable : (arms : MatchArmTrees) (scope bs : List Base) → EndsWithInt scope → ArmsHaveBy IsLateLinear takes arms scope bs →
+    arms_runnable : (arms : MatchArmTrees) (scope bs : List Base) → EndsWithInt scope → ArmsHaveNoForm arms → ArmsHaveBy IsLateLinear takes arms scope bs →
         AreRunnableArms scope arms
-    arms_runnable no_match_arms scope bs last h = tt
-    arms_runnable (match_arm_more (match_arm m factors k body) arms) scope bs last h =
-        ((h.1, h.2), (pattern_choose scope factors k last h.1 h.2, expr_runnable body (scope ++ ints_of factors) bs h.3), arms_runnable arms scope bs last h.4)
+    arms_runnable no_match_arms scope bs last p h = tt
+    arms_runnable (match_arm_more (match_arm m factors k body) arms) scope bs last p h =
+        ((h.1, h.2), (pattern_choose scope factors k last h.1 h.2, expr_runnable body (scope ++ ints_of factors) bs p.0 h.3), arms_runnable arms scope bs last p.1 h.4)
 
 -- ---- functions
 abbrev AreRunnableDefs : List DefTree → Type 0
 AreRunnableDefs [] = Unit {0}
 AreRunnableDefs (d ∷ ds) = IsRunnable d.body × AreRunnableDefs ds
 
-typed_runnable : (ds : List DefTree) → AreTypedDefsBy IsLateLinear ds → AreRunnableDefs ds
-typed_runnable [] t = tt
-typed_runnable (d ∷ earlier) t = (expr_runnable (Takes earlier) d.body (bases_of d.params) d.results t.0.1, typed_runnable earlier t.1)
+typed_runnable : (ds : List DefTree) → AreTypedDefsBy IsLateLinear ds → AreFormed ds → AreRunnableDefs ds
+typed_runnable [] t p = tt
+typed_runnable (d ∷ earlier) t p = (
+  expr_runnable (Takes earlier) d.body (bases_of d.params) d.results (All-head IsFormed d earlier p) t.0.1,
+  typed_runnable earlier t.1 (All-tail IsFormed d earlier p),
+)
 
 split_runnable : (ds es : List DefTree) → AreRunnableDefs (ds ++ es) → AreRunnableDefs ds × AreRunnableDefs es
 split_runnable [] es h = (tt, h)
@@ -191,7 +200,7 @@ runnable_at (c ∷ ds) (suc f) d h e = runnable_at ds f d h.1 e
 
 -- the body of a function of a late program
 pub body_runnable : (ds : List Def) (main f : ℕ) (d : Def) → IsLateProgram (map def_tree ds) main → slice_get ds f ≡ Some d → IsRunnable (expr_tree d.body)
-body_runnable ds main f d t e = runnable_at ds f d (turned_runnable (map def_tree ds) (typed_runnable (reverse (map def_tree ds)) t.typed)) e
+body_runnable ds main f d t e = runnable_at ds f d (turned_runnable (map def_tree ds) (typed_runnable (reverse (map def_tree ds)) t.typed (turned_formed (map def_tree ds) t.formed))) e
 
 pub main_stands : (ds : List Def) (main : ℕ) → IsLateProgram (map def_tree ds) main → main < length ds
 main_stands ds main t = stands ds main t.has_main.0 t.has_main.1

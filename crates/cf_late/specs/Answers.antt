@@ -2,7 +2,7 @@
 use Rattle.std.specs.Prelude.{ℕ, ◌≡◌, ℤ, ◌+ℤ◌, ◌-ℤ◌, ◌*ℤ◌, pos, neg_ℤ, not, Bool, true, false, if◌then◌else◌, List, [], ◌∷◌, ◌++◌, length, map, reverse, take, Option, Some, None, Result, Ok, Err}
 use Rattle.cf_tree.specs.declared.base.Base.{Base}
 use Rattle.cf_tree.specs.declared.raw.BinOp.{BinOp}
-use Rattle.cf_tree.specs.declared.raw.BinOp.TheVariants.{Add, Sub, And, Or, Union, Inter, Diff}
+use Rattle.cf_tree.specs.declared.raw.BinOp.TheVariants.{Add, Sub, And, Or, Union, Inter, Diff, Implies}
 use Rattle.cf_tree.specs.declared.expr.Def.{Def}
 use Rattle.cf_tree.specs.Allowed.{operation}
 use Rattle.cf_tree.specs.DefView.{def_tree}
@@ -64,12 +64,14 @@ met (Some z) = gives (number z ∷ [])
 abbrev pub decided_by : BinOp → Value → Option Bool
 decided_by And v = if truth_of v then None else Some false
 decided_by Or v = if truth_of v then Some true else None
+decided_by Implies v = if truth_of v then None else Some true
 decided_by op v = None
 
 -- what an operation comes to where its left side does not decide it, and these are the values of the right one
 abbrev pub joined_by : BinOp → Value → List Value → LateOutcome
 joined_by And v ys = gives ys
 joined_by Or v ys = gives ys
+joined_by Implies v ys = gives ys
 joined_by op v ys = ordinary (operation op v (first_of ys))
 
 -- whether the test of an arm holds of a number

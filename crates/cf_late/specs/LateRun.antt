@@ -1,4 +1,4 @@
--- What a program comes to whose chooses are eliminated where they are entered, on the numbers of their environments.
+-- What a program comes to whose chooses are eliminated where they are entered, on the numbers of their environments. It has none of the forms of `HasNoForm`.
 use Rattle.std.specs.Prelude.{ℕ, suc, ◌-◌, ◌==◌, ℤ, pos, neg_ℤ, unsigned_abs, nat_le, Bool, true, false, not, List, [], ◌∷◌, ◌++◌, length, map, reverse, if◌then◌else◌}
 use Rattle.std.specs.Ordering.{int_eq}
 use Rattle.cf_num.specs.Limit.{limit}
@@ -6,10 +6,10 @@ use Rattle.cf_tree.specs.declared.base.Base.{Base}
 use Rattle.cf_tree.specs.declared.base.Base.TheVariants.{Int}
 use Rattle.cf_tree.specs.declared.base.Order.TheVariants.{Eq}
 use Rattle.cf_tree.specs.declared.raw.BinOp.{BinOp}
-use Rattle.cf_tree.specs.declared.raw.BinOp.TheVariants.{And, Or}
+use Rattle.cf_tree.specs.declared.raw.BinOp.TheVariants.{And, Or, Implies}
 use Rattle.cf_tree.specs.Allowed.{operation}
 use Rattle.cf_tree.specs.Params.{bases_of}
-use Rattle.cf_tree.specs.ExprTree.{ExprTree, expr_lit, expr_truth, expr_var, expr_set_of, expr_tuple, expr_neg, expr_not, expr_abs, expr_binary, expr_divides, expr_div, expr_mod, expr_card, expr_if, expr_call, expr_let, expr_choose, expr_match, ExprTrees, no_exprs, expr_more, match_arm, MatchArmTrees, no_match_arms, match_arm_more}
+use Rattle.cf_tree.specs.ExprTree.{ExprTree, expr_lit, expr_truth, expr_var, expr_set_of, expr_tuple, expr_neg, expr_not, expr_abs, expr_binary, expr_chain, expr_min, expr_max, expr_divides, expr_div, expr_mod, expr_card, expr_if, expr_call, expr_let, expr_choose, expr_choose_where, expr_match, ExprTrees, no_exprs, expr_more, match_arm, MatchArmTrees, no_match_arms, match_arm_more}
 use Rattle.cf_tree.specs.Numbers.{quotient, remainder, is_multiple, absolute}
 use Rattle.cf_tree.specs.RelTree.{RelTree, rel_compare, term_var}
 use Rattle.cf_tree.specs.Sets.{set_of}
@@ -37,6 +37,7 @@ ordinary (elements zs) = gives (elements zs ∷ [])
 abbrev pub late_right : BinOp → Value → LateOutcome → LateOutcome
 late_right And v right = if truth_of v then right else gives (truth false ∷ [])
 late_right Or v right = if truth_of v then gives (truth true ∷ []) else right
+late_right Implies v right = if truth_of v then right else gives (truth true ∷ [])
 late_right op v right = then_late right (λ ys. ordinary (operation op v (first_of ys)))
 
 -- ---- matches
@@ -68,6 +69,9 @@ abbrev mutual
   late_in calls (expr_not a) env = then_late (late_in calls a env) (λ xs. ordinary (truth (not (truth_of (first_of xs)))))
   late_in calls (expr_abs a) env = then_late (late_in calls a env) (λ xs. ordinary (number (absolute (number_of (first_of xs)))))
   late_in calls (expr_binary op a b) env = then_late (late_in calls a env) (λ xs. late_right op (first_of xs) (late_in calls b env))
+  late_in calls (expr_chain orders es) env = gives []
+  late_in calls (expr_min es) env = gives []
+  late_in calls (expr_max es) env = gives []
   late_in calls (expr_divides k a) env = then_late (late_in calls a env) (λ xs. ordinary (truth (is_multiple k (number_of (first_of xs)))))
   late_in calls (expr_div a k) env = then_late (late_in calls a env) (λ xs. ordinary (number (quotient (number_of (first_of xs)) k)))
   late_in calls (expr_mod a k) env = then_late (late_in calls a env) (λ xs. ordinary (number (remainder (number_of (first_of xs)) k)))
@@ -76,6 +80,7 @@ abbrev mutual
   late_in calls (expr_call f es) env = then_late (late_all calls es env) (calls f)
   late_in calls (expr_let n a b) env = then_late (late_in calls a env) (λ xs. late_in calls b (env ++ xs))
   late_in calls (expr_choose n scope outputs rel) env = late_choose n (bases_of scope) outputs rel env
+  late_in calls (expr_choose_where n scope outputs hidden given rel aim) env = gives []
   late_in calls (expr_match n scope a arms) env =
       then_late (late_in calls a env) (λ xs. late_arms calls n (bases_of scope) arms (number_of (first_of xs)) (env ++ xs))
 

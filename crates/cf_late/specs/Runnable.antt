@@ -4,7 +4,7 @@ use Rattle.cf_num.specs.Limit.{IsWithin}
 use Rattle.cf_tree.specs.declared.base.Base.{Base}
 use Rattle.cf_tree.specs.declared.base.Base.TheVariants.{Int}
 use Rattle.cf_tree.specs.Params.{bases_of}
-use Rattle.cf_tree.specs.ExprTree.{ExprTree, expr_lit, expr_truth, expr_var, expr_set_of, expr_tuple, expr_neg, expr_not, expr_abs, expr_binary, expr_divides, expr_div, expr_mod, expr_card, expr_if, expr_call, expr_let, expr_choose, expr_match, ExprTrees, no_exprs, expr_more, MatchArmTree, match_arm, MatchArmTrees, no_match_arms, match_arm_more}
+use Rattle.cf_tree.specs.ExprTree.{ExprTree, expr_lit, expr_truth, expr_var, expr_set_of, expr_tuple, expr_neg, expr_not, expr_abs, expr_binary, expr_chain, expr_min, expr_max, expr_divides, expr_div, expr_mod, expr_card, expr_if, expr_call, expr_let, expr_choose, expr_choose_where, expr_match, ExprTrees, no_exprs, expr_more, MatchArmTree, match_arm, MatchArmTrees, no_match_arms, match_arm_more}
 use Rattle.cf_late.specs.LateChoose.{IsLateChoose}
 use Rattle.cf_late.specs.LateRun.{pattern_relation}
 
@@ -13,7 +13,7 @@ abbrev pub HasFitPattern : MatchArmTree → Type 0
 HasFitPattern (match_arm m factors k body) = All IsWithin factors × IsWithin k
 
 abbrev mutual
-  -- its literals are within the limit, and each choose may be solved once its scope is known
+  -- its literals are within the limit, each choose may be solved once its scope is known, and it has none of the forms of `HasNoForm`
   pub IsRunnable : ExprTree → Type 0
   IsRunnable (expr_lit k) = IsWithin k
   IsRunnable (expr_truth t) = Unit {0}
@@ -24,6 +24,9 @@ abbrev mutual
   IsRunnable (expr_not a) = IsRunnable a
   IsRunnable (expr_abs a) = IsRunnable a
   IsRunnable (expr_binary op a b) = IsRunnable a × IsRunnable b
+  IsRunnable (expr_chain orders es) = ⊥
+  IsRunnable (expr_min es) = ⊥
+  IsRunnable (expr_max es) = ⊥
   IsRunnable (expr_divides k a) = IsRunnable a
   IsRunnable (expr_div a k) = IsRunnable a
   IsRunnable (expr_mod a k) = IsRunnable a
@@ -32,6 +35,7 @@ abbrev mutual
   IsRunnable (expr_call f es) = AreRunnable es
   IsRunnable (expr_let n a b) = IsRunnable a × IsRunnable b
   IsRunnable (expr_choose n scope outputs rel) = IsLateChoose (bases_of scope) outputs rel
+  IsRunnable (expr_choose_where n scope outputs hidden given rel aim) = ⊥
   IsRunnable (expr_match n scope a arms) = IsRunnable a × AreRunnableArms (bases_of scope) arms
 
   pub AreRunnable : ExprTrees → Type 0

@@ -88,6 +88,9 @@ pub(crate) fn eval(caller: &Caller, expr: &Expr, env: &mut Values) -> Result<Val
             Ok(value) => matched(caller, *number, scope, value, arms, env),
             Err(stop) => Err(stop),
         },
+        Expr::Chain { .. } | Expr::Min(_) | Expr::Max(_) | Expr::ChooseWhere { .. } => {
+            unreachable!()
+        }
     }
 }
 

@@ -167,6 +167,7 @@ pub(crate) fn decided(op: BinOp, left: &Values) -> Option<bool>
     match op {
         BinOp::And => { if left.truth() { None } else { Some(false) } }
         BinOp::Or => { if left.truth() { Some(true) } else { None } }
+        BinOp::Implies => { if left.truth() { None } else { Some(true) } }
         _ => None,
     }
 }
@@ -176,7 +177,7 @@ pub(crate) fn joined(alloc: Global, op: BinOp, left: Values, right: Values) -> R
     ensures { LateAnswer result (joined_by op (first_of left) right) }
 {
     match op {
-        BinOp::And | BinOp::Or => Ok(right),
+        BinOp::And | BinOp::Or | BinOp::Implies => Ok(right),
         BinOp::Add | BinOp::Sub | BinOp::Mul => met(alloc, number_over_two(op, left, right)),
         BinOp::Union | BinOp::Inter | BinOp::Diff | BinOp::Subset => {
             over_sets(alloc, op, left, right)

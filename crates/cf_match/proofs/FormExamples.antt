@@ -5,7 +5,7 @@ use Rattle.cf_tree.specs.declared.base.Base.TheVariants.{Int}
 use Rattle.cf_tree.specs.declared.base.Order.TheVariants.{Eq}
 use Rattle.cf_tree.specs.declared.raw.BinOp.TheVariants.{Add, Or, Compare}
 use Rattle.cf_tree.specs.declared.raw.Param.{Param}
-use Rattle.cf_tree.specs.ExprTree.{ExprTree, expr_lit, expr_var, expr_set_of, expr_tuple, expr_neg, expr_not, expr_abs, expr_binary, expr_divides, expr_div, expr_mod, expr_card, expr_if, expr_call, expr_let, expr_choose, expr_match, ExprTrees, no_exprs, exprs_of, MatchArmTree, match_arm, no_match_arms, match_arms_of}
+use Rattle.cf_tree.specs.ExprTree.{ExprTree, expr_lit, expr_var, expr_set_of, expr_tuple, expr_neg, expr_not, expr_abs, expr_binary, expr_min, expr_max, expr_divides, expr_div, expr_mod, expr_card, expr_if, expr_call, expr_let, expr_choose, expr_match, ExprTrees, no_exprs, exprs_of, MatchArmTree, match_arm, no_match_arms, match_arms_of}
 use Rattle.cf_tree.specs.RelTree.{term_lit, term_var, term_add, term_mul, rel_false, rel_compare}
 use Rattle.cf_match.specs.declared.class.Class.TheVariants.{Point, Residue}
 use Rattle.cf_match.specs.Forms.{over_list, over_one, over_two, class_test, body_of, fits_test, with_arm, bodies_lowered, picked_of, match_of}
@@ -23,8 +23,9 @@ abbrev parts : ExprTrees
 parts = exprs_of (b ∷ c ∷ [])
 
 over_lists : (over_list (expr_set_of (exprs_of (a ∷ []))) parts ≡ expr_set_of parts) × (over_list (expr_call 3 no_exprs) parts ≡ expr_call 3 parts)
-    × (over_list (expr_tuple (exprs_of (a ∷ []))) parts ≡ expr_tuple parts)
-over_lists = (refl, refl, refl)
+    × (over_list (expr_tuple (exprs_of (a ∷ []))) parts ≡ expr_tuple parts) × (over_list (expr_min (exprs_of (a ∷ []))) parts ≡ expr_min parts)
+    × (over_list (expr_max (exprs_of (a ∷ []))) parts ≡ expr_max parts)
+over_lists = (refl, refl, refl, refl, refl)
 
 over_ones : (over_one (expr_neg a) b ≡ expr_neg b) × (over_one (expr_not a) b ≡ expr_not b) × (over_one (expr_abs a) b ≡ expr_abs b)
     × (over_one (expr_divides (pos 3) a) b ≡ expr_divides (pos 3) b) × (over_one (expr_div a (pos 3)) b ≡ expr_div b (pos 3))

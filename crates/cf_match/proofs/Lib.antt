@@ -9,6 +9,7 @@ mod LoweringExamples
 mod MatchExamples
 mod MatchLists
 mod Matches
+mod NoFormLaws
 pub mod NoMatchLaws
 mod NumberLaws
 pub mod Outcomes

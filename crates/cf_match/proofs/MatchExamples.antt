@@ -4,7 +4,7 @@ use Rattle.cf_num.specs.Divisors.{gcd_by}
 use Rattle.cf_tree.specs.declared.base.Base.TheVariants.{Int}
 use Rattle.cf_tree.specs.declared.raw.BinOp.TheVariants.{Add}
 use Rattle.cf_tree.specs.DefView.{DefTree}
-use Rattle.cf_tree.specs.ExprTree.{ExprTree, expr_lit, expr_truth, expr_var, expr_set_of, expr_tuple, expr_neg, expr_not, expr_abs, expr_binary, expr_divides, expr_div, expr_mod, expr_card, expr_if, expr_call, expr_let, expr_choose, expr_match, exprs_of, match_arm, match_arms_of}
+use Rattle.cf_tree.specs.ExprTree.{ExprTree, expr_lit, expr_truth, expr_var, expr_set_of, expr_tuple, expr_neg, expr_not, expr_abs, expr_binary, expr_chain, expr_min, expr_max, expr_divides, expr_div, expr_mod, expr_card, expr_if, expr_call, expr_let, expr_choose, expr_choose_where, expr_match, exprs_of, match_arm, match_arms_of, holds_always, at_any}
 use Rattle.cf_tree.specs.RelTree.{rel_true}
 use Rattle.cf_match.specs.declared.class.Class.TheVariants.{Point, Residue}
 use Rattle.cf_match.specs.Matches.{MatchTree, matches, all_matches}
@@ -47,7 +47,8 @@ unfolding gcd_by
 of_zeros = refl
 
 in_leaves : (matches k ≡ []) × (matches (expr_truth true) ≡ []) × (matches (expr_var 3) ≡ []) × (matches (expr_choose 3 [] (Int ∷ []) rel_true) ≡ [])
-in_leaves = (refl, refl, refl, refl)
+    × (matches (expr_choose_where 3 [] (Int ∷ []) [] holds_always (only 1) at_any) ≡ [])
+in_leaves = (refl, refl, refl, refl, refl)
 
 in_one_part : (matches (expr_neg (only 1)) ≡ told 1 ∷ []) × (matches (expr_not (only 1)) ≡ told 1 ∷ []) × (matches (expr_abs (only 1)) ≡ told 1 ∷ [])
     × (matches (expr_card (only 1)) ≡ told 1 ∷ []) × (matches (expr_divides (pos 3) (only 1)) ≡ told 1 ∷ []) ×
@@ -60,8 +61,10 @@ in_order : (matches (expr_binary Add (only 1) (only 2)) ≡ told 1 ∷ told 2 �
     × (matches (expr_if (only 1) (only 2) (only 3)) ≡ told 1 ∷ told 2 ∷ told 3 ∷ [])
     × (matches (expr_call 2 (exprs_of (only 1 ∷ k ∷ only 2 ∷ []))) ≡ told 1 ∷ told 2 ∷ [])
     × (matches (expr_set_of (exprs_of (k ∷ only 1 ∷ []))) ≡ told 1 ∷ []) × (matches (expr_tuple (exprs_of (only 1 ∷ only 2 ∷ []))) ≡ told 1 ∷ told 2 ∷ [])
+    × (matches (expr_chain [] (exprs_of (only 1 ∷ only 2 ∷ []))) ≡ told 1 ∷ told 2 ∷ []) × (matches (expr_min (exprs_of (k ∷ only 1 ∷ []))) ≡ told 1 ∷ [])
+    × (matches (expr_max (exprs_of (only 1 ∷ k ∷ []))) ≡ told 1 ∷ [])
 unfolding gcd_by
-in_order = (refl, refl, refl, refl, refl, refl)
+in_order = (refl, refl, refl, refl, refl, refl, refl, refl, refl)
 
 in_functions : all_matches (def (only 1) ∷ def k ∷ def (only 2) ∷ []) ≡ told 1 ∷ told 2 ∷ []
 unfolding gcd_by

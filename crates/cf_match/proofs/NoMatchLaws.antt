@@ -2,7 +2,7 @@
 use Rattle.std.proofs.Common.{◌≡◌, ℕ, zero, suc, ◌-◌, ℤ, List, [], ◌∷◌, length, refl, ap}
 use Rattle.cf_tree.specs.declared.raw.BinOp.TheVariants.{Or}
 use Rattle.cf_tree.specs.declared.raw.Param.{Param}
-use Rattle.cf_tree.specs.ExprTree.{ExprTree, expr_lit, expr_truth, expr_var, expr_set_of, expr_tuple, expr_neg, expr_not, expr_abs, expr_binary, expr_divides, expr_div, expr_mod, expr_card, expr_if, expr_call, expr_let, expr_choose, expr_match, ExprTrees, no_exprs, expr_more, match_arm, MatchArmTrees, no_match_arms, match_arm_more}
+use Rattle.cf_tree.specs.ExprTree.{ExprTree, expr_lit, expr_truth, expr_var, expr_set_of, expr_tuple, expr_neg, expr_not, expr_abs, expr_binary, expr_chain, expr_min, expr_max, expr_divides, expr_div, expr_mod, expr_card, expr_if, expr_call, expr_let, expr_choose, expr_choose_where, expr_match, ExprTrees, no_exprs, expr_more, match_arm, MatchArmTrees, no_match_arms, match_arm_more}
 use Rattle.cf_program.specs.Lowered.{divisor, test_by, test, any_test, any_fits, unless_last, with_variables, lowered, all_lowered, picked}
 use Rattle.cf_program.specs.NoMatch.{HasNoMatch, HaveNoMatch}
 
@@ -43,6 +43,9 @@ mutual
   lowered_none (expr_not a) = lowered_none a
   lowered_none (expr_abs a) = lowered_none a
   lowered_none (expr_binary op a b) = (lowered_none a, lowered_none b)
+  lowered_none (expr_chain orders es) = all_lowered_none es
+  lowered_none (expr_min es) = all_lowered_none es
+  lowered_none (expr_max es) = all_lowered_none es
   lowered_none (expr_divides k a) = lowered_none a
   lowered_none (expr_div a k) = lowered_none a
   lowered_none (expr_mod a k) = lowered_none a
@@ -51,6 +54,7 @@ mutual
   lowered_none (expr_call f es) = all_lowered_none es
   lowered_none (expr_let n a b) = (lowered_none a, lowered_none b)
   lowered_none (expr_choose n scope outputs rel) = tt
+  lowered_none (expr_choose_where n scope outputs hidden given rel aim) = tt
   lowered_none (expr_match n scope a arms) =
       ((lowered_none a, (any_fits_none (length scope - 1) arms, tt, tt)), picked_none (length scope - 1) scope arms)
 
@@ -75,6 +79,9 @@ mutual
   lowered_same (expr_not a) p = ap expr_not (lowered_same a p)
   lowered_same (expr_abs a) p = ap expr_abs (lowered_same a p)
   lowered_same (expr_binary op a b) p = rw (lowered_same a p.0, lowered_same b p.1) refl
+  lowered_same (expr_chain orders es) p = ap (λ cs. expr_chain orders cs) (all_lowered_same es p)
+  lowered_same (expr_min es) p = ap expr_min (all_lowered_same es p)
+  lowered_same (expr_max es) p = ap expr_max (all_lowered_same es p)
   lowered_same (expr_divides k a) p = ap (λ c. expr_divides k c) (lowered_same a p)
   lowered_same (expr_div a k) p = ap (λ c. expr_div c k) (lowered_same a p)
   lowered_same (expr_mod a k) p = ap (λ c. expr_mod c k) (lowered_same a p)
@@ -83,6 +90,7 @@ mutual
   lowered_same (expr_call f es) p = ap (λ cs. expr_call f cs) (all_lowered_same es p)
   lowered_same (expr_let n a b) p = rw (lowered_same a p.0, lowered_same b p.1) refl
   lowered_same (expr_choose n params outputs rel) p = refl
+  lowered_same (expr_choose_where n params outputs hidden given rel aim) p = refl
   lowered_same (expr_match n params a arms) p = absurd p
 
   all_lowered_same : (es : ExprTrees) → HaveNoMatch es → all_lowered es ≡ es

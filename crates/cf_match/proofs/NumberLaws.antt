@@ -6,7 +6,7 @@ use Rattle.std.proofs.lemmas.List.Elements.{All-nil, All-cons, All-head, All-tai
 use Rattle.std.specs.List.{IsDistinct, AllByRecursion}
 use Rattle.cf_tree.specs.declared.raw.BinOp.TheVariants.{Or}
 use Rattle.cf_tree.specs.declared.raw.Param.{Param}
-use Rattle.cf_tree.specs.ExprTree.{ExprTree, expr_lit, expr_truth, expr_var, expr_set_of, expr_tuple, expr_neg, expr_not, expr_abs, expr_binary, expr_divides, expr_div, expr_mod, expr_card, expr_if, expr_call, expr_let, expr_choose, expr_match, ExprTrees, no_exprs, expr_more, match_arm, MatchArmTrees, no_match_arms, match_arm_more}
+use Rattle.cf_tree.specs.ExprTree.{ExprTree, expr_lit, expr_truth, expr_var, expr_set_of, expr_tuple, expr_neg, expr_not, expr_abs, expr_binary, expr_chain, expr_min, expr_max, expr_divides, expr_div, expr_mod, expr_card, expr_if, expr_call, expr_let, expr_choose, expr_choose_where, expr_match, ExprTrees, no_exprs, expr_more, match_arm, MatchArmTrees, no_match_arms, match_arm_more}
 use Rattle.cf_program.specs.Lowered.{divisor, test_by, test, any_test, any_fits, unless_last, with_variables, lowered, all_lowered, picked}
 use Rattle.cf_program.specs.TypedProgram.{arm_numbers, numbers, numbers_all, numbers_arms}
 
@@ -74,6 +74,9 @@ module _ (c : ℕ) where
     lowered_numbers (expr_not a) = lowered_numbers a
     lowered_numbers (expr_abs a) = lowered_numbers a
     lowered_numbers (expr_binary op a b) = pairs c (numbers a) (numbers b) (numbers (lowered a)) (numbers (lowered b)) (lowered_numbers a) (lowered_numbers b)
+    lowered_numbers (expr_chain orders es) = all_lowered_numbers es
+    lowered_numbers (expr_min es) = all_lowered_numbers es
+    lowered_numbers (expr_max es) = all_lowered_numbers es
     lowered_numbers (expr_divides k a) = lowered_numbers a
     lowered_numbers (expr_div a k) = lowered_numbers a
     lowered_numbers (expr_mod a k) = lowered_numbers a
@@ -84,6 +87,7 @@ module _ (c : ℕ) where
     lowered_numbers (expr_call f es) = all_lowered_numbers es
     lowered_numbers (expr_let n a b) = pairs c (numbers a) (numbers b) (numbers (lowered a)) (numbers (lowered b)) (lowered_numbers a) (lowered_numbers b)
     lowered_numbers (expr_choose n scope outputs rel) = refl
+    lowered_numbers (expr_choose_where n scope outputs hidden given rel aim) = refl
     lowered_numbers (expr_match n scope a arms) =
         match_numbers n (numbers a) (numbers (lowered a)) (numbers (any_fits (length scope - 1) arms)) (numbers (picked (length scope - 1) scope arms))
         (numbers_arms arms)

@@ -1,13 +1,16 @@
 -- The functions of a program and their lowered forms allow the same outcomes.
-use Rattle.std.proofs.Common.{◌≡◌, ℕ, zero, suc, ◌<◌, ◌==◌, Bool, true, false, Some, List, [], ◌∷◌, ◌++◌, length, map, reverse, slice_get, MatchBool, refl, sym, ap, ◌∙◌, subst, arith, length-append}
+use Rattle.std.proofs.Common.{◌≡◌, ℕ, zero, suc, ◌<◌, ◌==◌, Bool, true, false, Some, List, [], ◌∷◌, ◌++◌, length, map, reverse, slice_get, MatchBool, All, refl, sym, ap, ◌∙◌, subst, arith, length-append}
 use Rattle.std.proofs.lemmas.Bool.{eqb-true, eq-eqb}
 use Rattle.std.proofs.lemmas.List.{reverse-append, map-append, length-map}
+use Rattle.std.proofs.lemmas.List.Elements.{All-head, All-tail}
+use Rattle.std.proofs.lemmas.List.Sorted.{IsPermutation-reverse, All-permutation}
 use Rattle.cf_tree.specs.declared.base.Base.{Base}
 use Rattle.cf_tree.specs.Allowed.{AllowedIn, AllowedCall}
 use Rattle.cf_tree.specs.DefView.{DefTree}
 use Rattle.cf_tree.specs.ExprTree.{ExprTree}
 use Rattle.cf_tree.specs.Values.{Value, Outcome, HaveBases}
 use Rattle.cf_program.specs.Lowered.{lowered, lowered_def}
+use Rattle.cf_program.specs.NoForm.{HasNoForm}
 use Rattle.cf_tree.specs.Params.{bases_of}
 use Rattle.cf_program.specs.TypedProgram.{Takes}
 use Rattle.cf_program.proofs.PlainTypes.{AreTypedDefs}
@@ -76,16 +79,26 @@ on_either : (rs : List Base) (o : Outcome) (X Y : Type 0) (a : Bool) (X' Y' : Ty
 on_either rs o X Y a X' Y' c true e g h = rw (e, g) h
 on_either rs o X Y a X' Y' c false e g h = rw (e, g) h
 
-calls_agree : (earlier : List DefTree) → AreTypedDefs earlier → (f : ℕ) (ps rs : List Base) → Takes earlier f ps rs → (xs : List Value) → HaveBases ps xs →
+-- ---- functions without the forms of `HasNoForm`
+abbrev pub IsFormed : DefTree → Type 0
+IsFormed d = HasNoForm d.body
+
+abbrev pub AreFormed : List DefTree → Type 0
+AreFormed ds = All IsFormed ds
+
+pub turned_formed : (ds : List DefTree) → AreFormed ds → AreFormed (reverse ds)
+turned_formed ds h = All-permutation IsFormed ds (reverse ds) (IsPermutation-reverse ds) h
+
+calls_agree : (earlier : List DefTree) → AreTypedDefs earlier → AreFormed earlier → (f : ℕ) (ps rs : List Base) → Takes earlier f ps rs → (xs : List Value) → HaveBases ps xs →
     (o : Outcome) →
     Agree rs o (AllowedCall (bodies earlier) f xs o) (AllowedCall (lows earlier) f xs o)
-calls_agree [] t f ps rs h xs v o = absurd h
-calls_agree (d ∷ earlier) t f ps rs h xs v o =
+calls_agree [] t p f ps rs h xs v o = absurd h
+calls_agree (d ∷ earlier) t p f ps rs h xs v o =
     by (f == length earlier) refl h
-    (λ p. agrees (Takes earlier) (AllowedCall (bodies earlier)) (AllowedCall (lows earlier)) (calls_agree earlier t.1) d.body (bases_of d.params) d.results
-    t.0.1 xs
-    (subst (λ qs. HaveBases qs xs) p v) o)
-    (λ g. calls_agree earlier t.1 f ps rs g xs v o)
+    (λ e. agrees (Takes earlier) (AllowedCall (bodies earlier)) (AllowedCall (lows earlier)) (calls_agree earlier t.1 (All-tail IsFormed d earlier p)) d.body
+    (bases_of d.params) d.results (All-head IsFormed d earlier p) t.0.1 xs
+    (subst (λ qs. HaveBases qs xs) e v) o)
+    (λ g. calls_agree earlier t.1 (All-tail IsFormed d earlier p) f ps rs g xs v o)
   where
     by : (b : Bool) → (f == length earlier) ≡ b → MatchBool b ((ps ≡ bases_of d.params) × (rs ≡ d.results)) (Takes earlier f ps rs) →
         (ps ≡ bases_of d.params → Agree d.results o (AllowedIn (AllowedCall (bodies earlier)) d.body xs o) (AllowedIn (AllowedCall (lows earlier)) (lowered
@@ -119,7 +132,7 @@ bodies_lowered (d ∷ ds) = ap (λ es. lowered d.body ∷ es) (bodies_lowered ds
 
 pub lowering_keeps_outcomes : LoweringKeepsOutcomes
 lowering_keeps_outcomes defs main t f d e env v o =
-    let a = calls_agree (reverse defs) t.typed f (bases_of d.params) d.results (takes_at defs f d e) env v o in
+    let a = calls_agree (reverse defs) t.typed (turned_formed defs t.formed) f (bases_of d.params) d.results (takes_at defs f d e) env v o in
     let before : bodies (reverse defs) ≡ reverse (bodies defs) = bodies_turned defs in
     let after : lows (reverse defs) ≡ reverse (bodies (map lowered_def defs)) =
     ap (λ es. map lowered es) before ∙ lowered_turned (bodies defs) ∙ ap (λ es. reverse es) (bodies_lowered defs) in

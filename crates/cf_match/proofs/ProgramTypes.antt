@@ -1,7 +1,7 @@
 -- The lowered functions of a typed program are a typed program.
 use Rattle.std.proofs.Common.{◌≡◌, ℕ, zero, suc, ◌≤◌, ◌==◌, Bool, true, false, Some, List, [], ◌∷◌, ◌++◌, length, map, reverse, slice_get, slice_index, All, MatchBool, refl, sym, ap, ◌∙◌, subst}
 use Rattle.std.proofs.lemmas.List.{reverse-append, map-append, length-map}
-use Rattle.std.proofs.lemmas.List.Elements.{All-nil, All-cons, All-map}
+use Rattle.std.proofs.lemmas.List.Elements.{All-nil, All-cons, All-head, All-tail, All-map}
 use Rattle.cf_tree.specs.declared.base.Base.{Base}
 use Rattle.cf_tree.specs.DefView.{DefTree}
 use Rattle.cf_tree.specs.ExprTree.{ExprTree}
@@ -13,8 +13,10 @@ use Rattle.cf_program.specs.TypedProgram.{numbers, all_numbers, Takes}
 use Rattle.cf_program.proofs.PlainTypes.{AreTypedDefs}
 use Rattle.cf_match.specs.Laws.{LoweringKeepsTypes, LoweringLeavesNoMatch}
 use Rattle.cf_program.specs.NoMatch.{HasNoMatch}
+use Rattle.cf_match.proofs.NoFormLaws.{lowered_formed}
 use Rattle.cf_match.proofs.NoMatchLaws.{lowered_none, lowered_again}
 use Rattle.cf_match.proofs.NumberLaws.{times, pairs, lowered_numbers, distinct_once, once_distinct, positive_none, none_positive}
+use Rattle.cf_match.proofs.ProgramLaws.{IsFormed, AreFormed, turned_formed}
 use Rattle.cf_match.proofs.TypedLaws.{lowered_typed}
 
 same_test : (a c : Bool) (X Y Z : Type 0) → a ≡ c → (Y → Z) → MatchBool a X Y → MatchBool c X Z
@@ -29,11 +31,15 @@ takes_lowered (d ∷ earlier) f ps rs h =
     same_test (f == length earlier) (f == length (map lowered_def earlier)) _ _ _ (ap (λ n. f == n) (sym (length-map earlier lowered_def))) (takes_lowered
     earlier f ps rs) h
 
-defs_typed : (earlier : List DefTree) → AreTypedDefs earlier → AreTypedDefs (map lowered_def earlier)
-defs_typed [] h = tt
-defs_typed (d ∷ earlier) h = (
-  (h.0.0, lowered_typed (Takes earlier) (Takes (map lowered_def earlier)) (takes_lowered earlier) d.body (bases_of d.params) d.results h.0.1),
-  defs_typed earlier h.1,
+defs_typed : (earlier : List DefTree) → AreTypedDefs earlier → AreFormed earlier → AreTypedDefs (map lowered_def earlier)
+defs_typed [] h p = tt
+defs_typed (d ∷ earlier) h p = (
+  (
+    h.0.0,
+    lowered_typed (Takes earlier) (Takes (map lowered_def earlier)) (takes_lowered earlier) d.body (bases_of d.params) d.results
+        (All-head IsFormed d earlier p) h.0.1,
+  ),
+  defs_typed earlier h.1 (All-tail IsFormed d earlier p),
 )
 
 defs_turned : (ds : List DefTree) → map lowered_def (reverse ds) ≡ reverse (map lowered_def ds)
@@ -49,6 +55,11 @@ main_kept : (ds : List DefTree) (k : ℕ) (d : DefTree) → slice_get ds k ≡ S
 main_kept [] k d e = cc
 main_kept (c ∷ ds) zero d e = let same : c ≡ d = cc in ap (λ x. Some (lowered_def x)) same
 main_kept (c ∷ ds) (suc k) d e = main_kept ds k d e
+
+defs_formed : (ds : List DefTree) → AreFormed ds → AreFormed (map lowered_def ds)
+defs_formed [] h = All-nil IsFormed
+defs_formed (d ∷ ds) h =
+    All-cons IsFormed (lowered_def d) (map lowered_def ds) (lowered_formed d.body (All-head IsFormed d ds h)) (defs_formed ds (All-tail IsFormed d ds h))
 
 all_times : (k : ℕ) (ds : List DefTree) → times k (all_numbers (map lowered_def ds)) ≡ times k (all_numbers ds)
 all_times k [] = refl
@@ -66,12 +77,13 @@ measured_same measure known (d ∷ ds) =
 
 pub lowering_keeps_types : LoweringKeepsTypes
 lowering_keeps_types defs main t = record {
-  typed = subst AreTypedDefs (defs_turned defs) (defs_typed (reverse defs) t.typed);
+  typed = subst AreTypedDefs (defs_turned defs) (defs_typed (reverse defs) t.typed (turned_formed defs t.formed));
   functions = subst AreDistinct (sym (same_names defs)) t.functions;
   params = All-map (λ d. AreDistinct (names_of d.params)) lowered_def defs t.params;
   has_main = (lowered_def t.has_main.0, main_kept defs main t.has_main.0 t.has_main.1, t.has_main.2);
   distinct = once_distinct (all_numbers (map lowered_def defs)) (λ k. rw (all_times k defs) (distinct_once (all_numbers defs) t.distinct k));
   positive = none_positive (all_numbers (map lowered_def defs)) (all_times 0 defs ∙ positive_none (all_numbers defs) t.positive);
+  formed = defs_formed defs t.formed;
   light = subst (λ ns. All (λ n. n ≤ 1000000) ns) (sym (measured_same weight_in [] defs)) t.light;
   shallow = subst (λ ns. All (λ n. n ≤ 200) ns) (sym (measured_same depth_in [] defs)) t.shallow;
 }

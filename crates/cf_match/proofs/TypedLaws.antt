@@ -12,11 +12,12 @@ use Rattle.cf_tree.specs.declared.base.Base.{Base}
 use Rattle.cf_tree.specs.declared.base.Base.TheVariants.{Int, Bool as Truth, Set}
 use Rattle.cf_tree.specs.declared.raw.BinOp.TheVariants.{Or}
 use Rattle.cf_tree.specs.declared.raw.Param.{Param}
-use Rattle.cf_tree.specs.ExprTree.{ExprTree, expr_lit, expr_truth, expr_var, expr_set_of, expr_tuple, expr_neg, expr_not, expr_abs, expr_binary, expr_divides, expr_div, expr_mod, expr_card, expr_if, expr_call, expr_let, expr_choose, expr_match, ExprTrees, no_exprs, expr_more, match_arm, MatchArmTrees, no_match_arms, match_arm_more}
+use Rattle.cf_tree.specs.ExprTree.{ExprTree, expr_lit, expr_truth, expr_var, expr_set_of, expr_tuple, expr_neg, expr_not, expr_abs, expr_binary, expr_chain, expr_min, expr_max, expr_divides, expr_div, expr_mod, expr_card, expr_if, expr_call, expr_let, expr_choose, expr_choose_where, expr_match, ExprTrees, no_exprs, expr_more, match_arm, MatchArmTrees, no_match_arms, match_arm_more}
 use Rattle.cf_tree.specs.Numbers.{remainder}
 use Rattle.cf_tree.specs.Relation.{IsDivisor, IsTypedTerm, IsLinearTerm}
 use Rattle.cf_tree.specs.RelTree.{TermTree, term_lit, term_var, term_add, term_mul}
 use Rattle.cf_program.specs.Lowered.{divisor, test_by, test, added, pattern_term, any_test, any_fits, unless_last, with_variables, lowered, all_lowered, picked}
+use Rattle.cf_program.specs.NoForm.{HasNoForm, HaveNoForm, ArmsHaveNoForm}
 use Rattle.cf_tree.specs.Params.{bases_of}
 use Rattle.cf_program.specs.TypedProgram.{AreSides, IsOutput, HasArms}
 use Rattle.cf_program.proofs.PlainTypes.{ExprHasBases, AllHave, PartsHave, ArmsHave}
@@ -167,30 +168,34 @@ module _ (takes after : ℕ → List Base → List Base → Type 0) (known : (f 
     unless_last_typed bs fits body (match_arm_more arm arms) rest f b r = (f, b, r tt)
 
   mutual
-    pub lowered_typed : (e : ExprTree) (scope bs : List Base) → ExprHasBases takes e scope bs → ExprHasBases after (lowered e) scope bs
-    lowered_typed (expr_lit k) scope bs h = h
-    lowered_typed (expr_truth t) scope bs h = h
-    lowered_typed (expr_var x) scope bs h = h
-    lowered_typed (expr_set_of es) scope bs h = (all_typed es scope Int h.0, h.1)
-    lowered_typed (expr_tuple es) scope bs h = (h.0, parts_typed es scope bs h.1)
-    lowered_typed (expr_neg a) scope bs h = (lowered_typed a scope (Int ∷ []) h.0, h.1)
-    lowered_typed (expr_not a) scope bs h = (lowered_typed a scope (Truth ∷ []) h.0, h.1)
-    lowered_typed (expr_abs a) scope bs h = (lowered_typed a scope (Int ∷ []) h.0, h.1)
-    lowered_typed (expr_binary op a b) scope bs h = (
+    pub lowered_typed : (e : ExprTree) (scope bs : List Base) → HasNoForm e → ExprHasBases takes e scope bs → ExprHasBases after (lowered e) scope bs
+    lowered_typed (expr_lit k) scope bs p h = h
+    lowered_typed (expr_truth t) scope bs p h = h
+    lowered_typed (expr_var x) scope bs p h = h
+    lowered_typed (expr_set_of es) scope bs p h = (all_typed es scope Int p h.0, h.1)
+    lowered_typed (expr_tuple es) scope bs p h = (h.0, parts_typed es scope bs p h.1)
+    lowered_typed (expr_neg a) scope bs p h = (lowered_typed a scope (Int ∷ []) p h.0, h.1)
+    lowered_typed (expr_not a) scope bs p h = (lowered_typed a scope (Truth ∷ []) p h.0, h.1)
+    lowered_typed (expr_abs a) scope bs p h = (lowered_typed a scope (Int ∷ []) p h.0, h.1)
+    lowered_typed (expr_binary op a b) scope bs p h = (
       turned_sides (side_of op) (λ c. ExprHasBases takes a scope (c ∷ [])) (λ c. ExprHasBases takes b scope (c ∷ []))
           (λ c. ExprHasBases after (lowered a) scope (c ∷ [])) (λ c. ExprHasBases after (lowered b) scope (c ∷ []))
-          (λ c t. lowered_typed a scope (c ∷ []) t) (λ c t. lowered_typed b scope (c ∷ []) t) h.0,
+          (λ c t. lowered_typed a scope (c ∷ []) p.1 t) (λ c t. lowered_typed b scope (c ∷ []) p.2 t) h.0,
       h.1,
     )
-    lowered_typed (expr_divides k a) scope bs h = (h.0, lowered_typed a scope (Int ∷ []) h.1, h.2)
-    lowered_typed (expr_div a k) scope bs h = (h.0, lowered_typed a scope (Int ∷ []) h.1, h.2)
-    lowered_typed (expr_mod a k) scope bs h = (h.0, lowered_typed a scope (Int ∷ []) h.1, h.2)
-    lowered_typed (expr_card a) scope bs h = (lowered_typed a scope (Set ∷ []) h.0, h.1)
-    lowered_typed (expr_if t a b) scope bs h = (lowered_typed t scope (Truth ∷ []) h.0, lowered_typed a scope bs h.1, lowered_typed b scope bs h.2)
-    lowered_typed (expr_call f es) scope bs h = (h.0, known f h.0 bs h.1, parts_typed es scope h.0 h.2)
-    lowered_typed (expr_let m a b) scope bs h = (h.0, lowered_typed a scope h.0 h.1, h.2, h.3, lowered_typed b (scope ++ h.0) bs h.4)
-    lowered_typed (expr_choose m params outputs rel) scope bs h = h
-    lowered_typed (expr_match n params a arms) scope bs h =
+    lowered_typed (expr_chain orders es) scope bs p h = absurd p
+    lowered_typed (expr_min es) scope bs p h = absurd p
+    lowered_typed (expr_max es) scope bs p h = absurd p
+    lowered_typed (expr_divides k a) scope bs p h = (h.0, lowered_typed a scope (Int ∷ []) p h.1, h.2)
+    lowered_typed (expr_div a k) scope bs p h = (h.0, lowered_typed a scope (Int ∷ []) p h.1, h.2)
+    lowered_typed (expr_mod a k) scope bs p h = (h.0, lowered_typed a scope (Int ∷ []) p h.1, h.2)
+    lowered_typed (expr_card a) scope bs p h = (lowered_typed a scope (Set ∷ []) p h.0, h.1)
+    lowered_typed (expr_if t a b) scope bs p h = (lowered_typed t scope (Truth ∷ []) p.0 h.0, lowered_typed a scope bs p.1 h.1, lowered_typed b scope bs p.2 h.2)
+    lowered_typed (expr_call f es) scope bs p h = (h.0, known f h.0 bs h.1, parts_typed es scope h.0 p h.2)
+    lowered_typed (expr_let m a b) scope bs p h = (h.0, lowered_typed a scope h.0 p.0 h.1, h.2, h.3, lowered_typed b (scope ++ h.0) bs p.1 h.4)
+    lowered_typed (expr_choose m params outputs rel) scope bs p h = h
+    lowered_typed (expr_choose_where m params outputs hidden given rel aim) scope bs p h = absurd p
+    lowered_typed (expr_match n params a arms) scope bs p h =
         let level = level_of params scope h.0 in
         let inner = scope ++ Int ∷ [] in
         let at : IsInt (scope ++ Int ∷ []) (length params - 1) = subst (λ x. IsInt (scope ++ Int ∷ []) x) (sym level) (get_end scope) in
@@ -198,7 +203,7 @@ module _ (takes after : ℕ → List Base → List Base → Type 0) (known : (f 
           Int ∷ [],
           (
             Int ∷ [],
-            lowered_typed a scope (Int ∷ []) h.1,
+            lowered_typed a scope (Int ∷ []) p.0 h.1,
             refl,
             omega (arith),
             (
@@ -209,23 +214,23 @@ module _ (takes after : ℕ → List Base → List Base → Type 0) (known : (f 
           ),
           refl,
           omega (arith),
-          picked_typed (scope ++ Int ∷ []) (length params - 1) at params h.0 next bs arms h.2 h.3,
+          picked_typed (scope ++ Int ∷ []) (length params - 1) at params h.0 next bs arms p.1 h.2 h.3,
         )
 
-    all_typed : (es : ExprTrees) (scope : List Base) (b : Base) → AllHave takes es scope b → AllHave after (all_lowered es) scope b
-    all_typed no_exprs scope b h = tt
-    all_typed (expr_more e es) scope b h = (lowered_typed e scope (b ∷ []) h.0, all_typed es scope b h.1)
+    all_typed : (es : ExprTrees) (scope : List Base) (b : Base) → HaveNoForm es → AllHave takes es scope b → AllHave after (all_lowered es) scope b
+    all_typed no_exprs scope b p h = tt
+    all_typed (expr_more e es) scope b p h = (lowered_typed e scope (b ∷ []) p.0 h.0, all_typed es scope b p.1 h.1)
 
-    parts_typed : (es : ExprTrees) (scope bs : List Base) → PartsHave takes es scope bs → PartsHave after (all_lowered es) scope bs
-    parts_typed no_exprs scope bs h = h
-    parts_typed (expr_more e es) scope bs h = (h.0, h.1, h.2, lowered_typed e scope (h.0 ∷ []) h.3, parts_typed es scope h.1 h.4)
+    parts_typed : (es : ExprTrees) (scope bs : List Base) → HaveNoForm es → PartsHave takes es scope bs → PartsHave after (all_lowered es) scope bs
+    parts_typed no_exprs scope bs p h = h
+    parts_typed (expr_more e es) scope bs p h = (h.0, h.1, h.2, lowered_typed e scope (h.0 ∷ []) p.0 h.3, parts_typed es scope h.1 p.1 h.4)
 
     picked_typed : (scope : List Base) (x : ℕ) (at : IsInt scope x) (params : List Param) → bases_of params ≡ scope → suc x ≡ length scope →
         (bs : List Base) (arms : MatchArmTrees) →
-        HasArms arms → ArmsHave takes arms scope bs → ExprHasBases after (picked x params arms) scope bs
-    picked_typed scope x at params e l bs no_match_arms some h = absurd some
-    picked_typed scope x at params e l bs (match_arm_more (match_arm m factors k body) arms) some h =
+        ArmsHaveNoForm arms → HasArms arms → ArmsHave takes arms scope bs → ExprHasBases after (picked x params arms) scope bs
+    picked_typed scope x at params e l bs no_match_arms p some h = absurd some
+    picked_typed scope x at params e l bs (match_arm_more (match_arm m factors k body) arms) p some h =
         unless_last_typed scope x at bs (test x factors k) (with_variables m x params factors k (lowered body)) arms (picked x params arms)
         (test_typed scope x at factors k h.1 h.2)
-        (with_variables_typed scope x at bs params m factors k (lowered body) e l h.1 h.2 (lowered_typed body (scope ++ ints_of factors) bs h.3))
-        (λ more. picked_typed scope x at params e l bs arms more h.4)
+        (with_variables_typed scope x at bs params m factors k (lowered body) e l h.1 h.2 (lowered_typed body (scope ++ ints_of factors) bs p.0 h.3))
+        (λ more. picked_typed scope x at params e l bs arms p.1 more h.4)

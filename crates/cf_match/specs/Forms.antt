@@ -3,7 +3,7 @@ use Rattle.std.specs.Prelude.{ℕ, ◌-◌, List, [], ◌∷◌, length}
 use Rattle.cf_tree.specs.declared.base.Order.TheVariants.{Eq}
 use Rattle.cf_tree.specs.declared.raw.BinOp.TheVariants.{Compare}
 use Rattle.cf_tree.specs.declared.raw.Param.{Param}
-use Rattle.cf_tree.specs.ExprTree.{ExprTree, expr_lit, expr_var, expr_set_of, expr_tuple, expr_neg, expr_not, expr_abs, expr_binary, expr_divides, expr_div, expr_mod, expr_card, expr_call, expr_let, ExprTrees, no_exprs, MatchArmTree, match_arm, MatchArmTrees, no_match_arms, match_arm_more}
+use Rattle.cf_tree.specs.ExprTree.{ExprTree, expr_lit, expr_var, expr_set_of, expr_tuple, expr_neg, expr_not, expr_abs, expr_binary, expr_min, expr_max, expr_divides, expr_div, expr_mod, expr_card, expr_call, expr_let, ExprTrees, no_exprs, MatchArmTree, match_arm, MatchArmTrees, no_match_arms, match_arm_more}
 use Rattle.cf_program.specs.Lowered.{test, with_variables, unless_last, fitting, lowered}
 use Rattle.cf_match.specs.declared.class.Class.{Class}
 use Rattle.cf_match.specs.declared.class.Class.TheVariants.{Point, Residue}
@@ -11,6 +11,8 @@ use Rattle.cf_match.specs.declared.class.Class.TheVariants.{Point, Residue}
 -- the same form over these parts
 abbrev pub over_list : ExprTree → ExprTrees → ExprTree
 over_list (expr_set_of es) parts = expr_set_of parts
+over_list (expr_min es) parts = expr_min parts
+over_list (expr_max es) parts = expr_max parts
 over_list (expr_call f es) parts = expr_call f parts
 over_list _ parts = expr_tuple parts
 

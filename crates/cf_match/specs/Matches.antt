@@ -1,7 +1,7 @@
 -- The matches of a program: the number of each, the numbers of its arms, and their classes.
 use Rattle.std.specs.Prelude.{ℕ, List, [], ◌∷◌, ◌++◌}
 use Rattle.cf_tree.specs.DefView.{DefTree}
-use Rattle.cf_tree.specs.ExprTree.{ExprTree, expr_lit, expr_truth, expr_var, expr_set_of, expr_tuple, expr_neg, expr_not, expr_abs, expr_binary, expr_divides, expr_div, expr_mod, expr_card, expr_if, expr_call, expr_let, expr_choose, expr_match, ExprTrees, no_exprs, expr_more, MatchArmTree, match_arm, MatchArmTrees, no_match_arms, match_arm_more}
+use Rattle.cf_tree.specs.ExprTree.{ExprTree, expr_lit, expr_truth, expr_var, expr_set_of, expr_tuple, expr_neg, expr_not, expr_abs, expr_binary, expr_chain, expr_min, expr_max, expr_divides, expr_div, expr_mod, expr_card, expr_if, expr_call, expr_let, expr_choose, expr_choose_where, expr_match, ExprTrees, no_exprs, expr_more, MatchArmTree, match_arm, MatchArmTrees, no_match_arms, match_arm_more}
 use Rattle.cf_match.specs.declared.class.Class.{Class}
 use Rattle.cf_match.specs.declared.lowered.MatchInfo.{MatchInfo}
 use Rattle.cf_match.specs.Classes.{class_of}
@@ -41,6 +41,9 @@ abbrev mutual
   matches (expr_not a) = matches a
   matches (expr_abs a) = matches a
   matches (expr_binary op a b) = matches a ++ matches b
+  matches (expr_chain orders es) = matches_all es
+  matches (expr_min es) = matches_all es
+  matches (expr_max es) = matches_all es
   matches (expr_divides k a) = matches a
   matches (expr_div a k) = matches a
   matches (expr_mod a k) = matches a
@@ -49,6 +52,7 @@ abbrev mutual
   matches (expr_call f es) = matches_all es
   matches (expr_let n a b) = matches a ++ matches b
   matches (expr_choose n scope outputs rel) = []
+  matches (expr_choose_where n scope outputs hidden given rel aim) = []
   matches (expr_match n scope a arms) = record { number = n; arms = numbers_of arms; classes = classes_of arms } ∷ matches a ++ matches_arms arms
 
   pub matches_all : ExprTrees → List MatchTree

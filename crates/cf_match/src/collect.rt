@@ -30,10 +30,17 @@ fn collect_expr(alloc: Global, expr: &Expr, all: &mut Vec<MatchInfo>) -> Result<
     ensures { OnOk result (map match_tree all.new.items ≡ map match_tree all.old.items ++ matches (expr_tree expr.now)) }
 {
     match expr {
-        Expr::Lit(_) | Expr::Truth(_) | Expr::Var(_) | Expr::Choose { .. } => Ok(()),
-        Expr::SetOf(parts) | Expr::Tuple(parts) | Expr::Call { args: parts, .. } => {
-            collect_all(alloc, parts, all)
-        }
+        Expr::Lit(_)
+        | Expr::Truth(_)
+        | Expr::Var(_)
+        | Expr::Choose { .. }
+        | Expr::ChooseWhere { .. } => Ok(()),
+        Expr::SetOf(parts)
+        | Expr::Tuple(parts)
+        | Expr::Chain { parts, .. }
+        | Expr::Min(parts)
+        | Expr::Max(parts)
+        | Expr::Call { args: parts, .. } => collect_all(alloc, parts, all),
         Expr::Neg(a)
         | Expr::Not(a)
         | Expr::Abs(a)

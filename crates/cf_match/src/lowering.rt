@@ -3,12 +3,13 @@
 
 ghost use Rattle.std.specs.Prelude.{◌≡◌, IfOk, map, length, ◌-◌};
 ghost use Rattle.cf_tree.specs.DefView.{def_tree};
+ghost use Rattle.cf_tree.specs.ExprTree.{expr_chain};
 ghost use Rattle.cf_tree.specs.ExprView.{expr_tree, expr_trees, match_arm_tree, match_arm_trees};
 ghost use Rattle.cf_program.specs.Lowered.{lowered, all_lowered, lowered_def};
 ghost use Rattle.cf_match.specs.Forms.{over_list, over_one, over_two, body_of, bodies_lowered};
 
 use crate::arms::match_form;
-use cf_tree::{Def, Expr, MatchArm, NoMemory, copy_params};
+use cf_tree::{Def, Expr, MatchArm, NoMemory, Order, copy_params};
 use std::alloc::Global;
 
 // Functions with their matches as the chooses that they stand for.
@@ -41,9 +42,17 @@ fn lower_expr(alloc: Global, expr: &Expr) -> Result<Expr, NoMemory>
         Expr::Lit(k) => Ok(Expr::Lit(*k)),
         Expr::Truth(t) => Ok(Expr::Truth(*t)),
         Expr::Var(x) => Ok(Expr::Var(*x)),
-        Expr::SetOf(parts) | Expr::Tuple(parts) | Expr::Call { args: parts, .. } => {
+        Expr::SetOf(parts)
+        | Expr::Tuple(parts)
+        | Expr::Min(parts)
+        | Expr::Max(parts)
+        | Expr::Call { args: parts, .. } => {
             let parts = lower_exprs(alloc, parts)?;
             Ok(over_list(expr, parts))
+        }
+        Expr::Chain { orders, parts } => {
+            let parts = lower_exprs(alloc, parts)?;
+            chain_over(alloc, orders, parts)
         }
         Expr::Neg(a)
         | Expr::Not(a)
@@ -75,7 +84,7 @@ fn lower_expr(alloc: Global, expr: &Expr) -> Result<Expr, NoMemory>
             let no = lower_boxed(alloc, no)?;
             Ok(Expr::If { test, yes, no })
         }
-        Expr::Choose { .. } => expr.try_copy(alloc),
+        Expr::Choose { .. } | Expr::ChooseWhere { .. } => expr.try_copy(alloc),
         Expr::Match {
             number,
             scope,
@@ -126,12 +135,22 @@ fn lower_body(alloc: Global, arm: &MatchArm) -> Result<Expr, NoMemory>
     lower_expr(alloc, &arm.body)
 }
 
+// A chain of these parts, with equal orders.
+fn chain_over(alloc: Global, orders: &[Order], parts: Vec<Expr>) -> Result<Expr, NoMemory>
+    ensures { IfOk result (λ new. expr_tree new ≡ expr_chain orders.now (expr_trees parts.items)) }
+{
+    let orders = Vec::from_slice(alloc, orders)?;
+    Ok(Expr::Chain { orders, parts })
+}
+
 // The same form over these parts.
 fn over_list(expr: &Expr, parts: Vec<Expr>) -> Expr
     ensures { expr_tree result ≡ over_list (expr_tree expr.now) (expr_trees parts.items) }
 {
     match expr {
         Expr::SetOf(_) => Expr::SetOf(parts),
+        Expr::Min(_) => Expr::Min(parts),
+        Expr::Max(_) => Expr::Max(parts),
         Expr::Call { def, .. } => Expr::Call {
             def: *def,
             args: parts,

@@ -3,7 +3,7 @@ ghost use Rattle.std.specs.Prelude.{◌-◌, ◌^◌, ◌<◌, length};
 
 use cf_lex::tokens;
 use cf_parse::program;
-use cf_tree::{Base, Def, Expr, NoMemory, Param, Place, Program, Rel, Text};
+use cf_tree::{Base, Def, Edition, Expr, NoMemory, Param, Place, Program, Rel, Text};
 use std::alloc::Global;
 use std::test::Fail;
 
@@ -13,10 +13,10 @@ const SOURCE: &[u8] =
 fn parsed(alloc: Global, text: &[u8]) -> Result<Program, Fail>
     requires { length text.now < 2 ^ 32 - 1 }
 {
-    let Ok(list) = tokens(alloc, text) else {
+    let Ok(list) = tokens(alloc, Edition::Two, text) else {
         return Err(NoMemory.into());
     };
-    match program(alloc, &list) {
+    match program(alloc, Edition::Two, &list) {
         Ok(program) => Ok(program),
         Err(_) => Err(NoMemory.into()),
     }

@@ -2,7 +2,7 @@
 use cf_emit::{print, print_pre};
 use cf_lex::tokens;
 use cf_target::target;
-use cf_tree::{Arm, Code, Item, NoMemory, Pre, Text};
+use cf_tree::{Arm, Code, Edition, Item, NoMemory, Pre, Text};
 use cf_typing::check_target;
 use std::alloc::Global;
 use std::test::*;
@@ -17,7 +17,7 @@ fn printed(alloc: Global, text: &[u8]) -> Result<Vec<u8>, Fail> {
     if text.len() >= 4294967295 {
         return Err(NoMemory.into());
     }
-    let Ok(list) = tokens(alloc, text) else {
+    let Ok(list) = tokens(alloc, Edition::Two, text) else {
         return Err(NoMemory.into());
     };
     let Ok(raw) = target(alloc, &list) else {

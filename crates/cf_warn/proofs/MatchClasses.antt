@@ -10,7 +10,7 @@ use Rattle.cf_num.specs.Limit.{IsWithin}
 use Rattle.cf_tree.specs.declared.base.Base.{Base}
 use Rattle.cf_tree.specs.declared.base.Base.TheVariants.{Int}
 use Rattle.cf_tree.specs.DefView.{DefTree}
-use Rattle.cf_tree.specs.ExprTree.{ExprTree, expr_lit, expr_truth, expr_var, expr_set_of, expr_tuple, expr_neg, expr_not, expr_abs, expr_binary, expr_divides, expr_div, expr_mod, expr_card, expr_if, expr_call, expr_let, expr_choose, expr_match, ExprTrees, no_exprs, expr_more, match_arm, MatchArmTrees, no_match_arms, match_arm_more}
+use Rattle.cf_tree.specs.ExprTree.{ExprTree, expr_lit, expr_truth, expr_var, expr_set_of, expr_tuple, expr_neg, expr_not, expr_abs, expr_binary, expr_chain, expr_min, expr_max, expr_divides, expr_div, expr_mod, expr_card, expr_if, expr_call, expr_let, expr_choose, expr_choose_where, expr_match, ExprTrees, no_exprs, expr_more, match_arm, MatchArmTrees, no_match_arms, match_arm_more}
 use Rattle.cf_tree.specs.Numbers.{quotient}
 use Rattle.cf_cases.proofs.GuardLaws.{rows_from_quotient}
 use Rattle.cf_program.specs.Lowered.{divisor}
@@ -80,6 +80,9 @@ module _ (takes : ℕ → List Base → List Base → Type 0) where
     have (expr_binary op a b) scope bs h =
         let t = sides (side_of op) (λ c. ExprHasBases takes a scope (c ∷ [])) (λ c. ExprHasBases takes b scope (c ∷ [])) h.0 in
         All-append HasClasses (matches a) (matches b) (have a scope (t.0 ∷ []) t.1) (have b scope (t.0 ∷ []) t.2)
+    have (expr_chain orders es) scope bs h = parts_have es scope _ h.1
+    have (expr_min es) scope bs h = all_have es scope Int h.1
+    have (expr_max es) scope bs h = all_have es scope Int h.1
     have (expr_divides k a) scope bs h = have a scope _ h.1
     have (expr_div a k) scope bs h = have a scope _ h.1
     have (expr_mod a k) scope bs h = have a scope _ h.1
@@ -90,6 +93,7 @@ module _ (takes : ℕ → List Base → List Base → Type 0) where
     have (expr_call f es) scope bs h = parts_have es scope h.0 h.2
     have (expr_let n a b) scope bs h = All-append HasClasses (matches a) (matches b) (have a scope h.0 h.1) (have b (scope ++ h.0) bs h.4)
     have (expr_choose n params outputs rel) scope bs h = All-nil HasClasses
+    have (expr_choose_where n params outputs hidden given rel aim) scope bs h = All-nil HasClasses
     have (expr_match n params a arms) scope bs h =
         All-cons HasClasses (record { number = n; arms = numbers_of arms; classes = classes_of arms }) (matches a ++ matches_arms arms)
         (record { some = some_arms arms h.2; each = arms_classes arms (scope ++ Int ∷ []) bs h.3 })
