@@ -12,3 +12,4 @@ mod RelationExamples
 mod ToldExamples
 mod WideExamples
 mod WidenedExamples
+pub mod OneForm
