@@ -1,5 +1,5 @@
 //! From the text of a source to its program and its target.
-ghost use Rattle.std.specs.Prelude.{◌≡◌, ◌≤◌, ◌<◌, ◌-◌, ◌^◌, Bool, true, List, ℕ, length, map, Err, IfOk, OnErr};
+ghost use Rattle.std.specs.Prelude.{◌≡◌, ◌≤◌, ◌<◌, ◌-◌, ◌^◌, Bool, true, List, ℕ, length, map, IfOk, OnErr};
 ghost use Rattle.cf_tree.specs.declared.base.Edition.TheVariants.{Two, Three};
 ghost use Rattle.cf_tree.specs.DefView.{program_tree};
 ghost use Rattle.cf_lex.specs.Editions.{edition_of as the_edition_of};
@@ -7,7 +7,7 @@ ghost use Rattle.cf_pass.specs.Passes.{Told};
 ghost use Rattle.cf_program.specs.Source.{IsSpelledProgram};
 ghost use Rattle.cf_program.specs.Typed.{typed_tree};
 ghost use Rattle.cf_program.specs.declared.linearity.Linearity.TheVariants.{Plain, Late as LateRule};
-ghost use Rattle.cf_answer.specs.declared.fault.Fault.TheVariants as faults;
+ghost use Rattle.cf_answer.specs.declared.fault.Fault.TheVariants.{Rule};
 ghost use Rattle.cf_answer.specs.Limits.{text_limit};
 ghost use Rattle.cf_answer.specs.Owed.{IsCompiledBy};
 ghost use Rattle.cf_answer.specs.Refusals.{IsBroken, IsBrokenSource, IsRefusedSource, IsRefusedRun};
@@ -17,6 +17,7 @@ ghost use Rattle.cf_answer.specs.Steps.{IsVerdict, IsMisspelled, IsRunner, answe
 use crate::answerer::Answerer;
 use crate::fault::Fault;
 use crate::text::lexed;
+use crate::unbuilt::not_built;
 use cf_build::build;
 use cf_form::form;
 use cf_lex::edition_of;
@@ -168,7 +169,7 @@ fn program_runner(
 // late program.
 fn late_runner(alloc: Global, edition: Edition, program: &Program, fault: TypeFault) -> Result<Answerer, Fault>
     requires spelled { IsSpelledProgram edition (program_tree program.now) }
-    requires broken { IsBroken edition Plain (program_tree program.now) (faults.Rule fault) }
+    requires broken { IsBroken edition Plain (program_tree program.now) (Rule fault) }
     ensures { (text : List ℕ) → edition ≡ the_edition_of text → SpellsProgram text (program_tree program.now) → (calls : Bool) (given : List Told) →
         IsVerdict (λ a. IsRunner calls text given given (answerer_of a)) (IsRefusedRun text) result }
 {
@@ -188,7 +189,7 @@ fn late(alloc: Global, edition: Edition, program: &Program) -> Result<Late, Faul
 {
     match edition {
         Edition::Two => checked_late(alloc, program),
-        Edition::Three => not_built(alloc, program),
+        Edition::Three => Err(not_built()),
     }
 }
 
@@ -201,11 +202,4 @@ fn checked_late(alloc: Global, program: &Program) -> Result<Late, Fault>
         Err(TypeFault::NoMemory) => Err(Fault::NoMemory),
         Err(fault) => Err(Fault::Rule(fault)),
     }
-}
-
-// Stands for late programs of edition 3, which are not built yet.
-fn not_built(_alloc: Global, _program: &Program) -> Result<Late, Fault>
-    ensures { result ≡ Err faults.NoMemory }
-{
-    Err(Fault::NoMemory)
 }
