@@ -23,3 +23,4 @@ mod ToldExamples
 mod WideExamples
 pub mod WideMeaning
 mod WidenedExamples
+pub mod OneForm
