@@ -481,3 +481,17 @@ pub rules_keep_names : RulesKeepNames
 rules_keep_names how items t s e =
     when_is (checked Two how items) t (when_bind (walk_items Two how (functions_of items) [] [] [] 1 items) _ (walked_named Two how items s) (λ defs h.
     when_any _ (program_named (functions_of items) h))) e
+
+-- the same of functions that are walked, as the code has them
+module _ (how : Linearity) (items : List RawItemTree) (defs : List DefTree) where
+  pub is_program : IsSpelledProgram Two items → (m : ℕ) → walk_items Two how (functions_of items) [] [] [] 1 items ≡ Ok defs →
+      main_from 0 (functions_of items) ≡ Some m → size_fault 1000000 Weight (weights defs) ≡ None → size_fault 200 Depth (depths defs) ≡ None →
+      IsProgramBy (IsLinearBy how) defs m
+  is_program s m w e light shallow = rules_keep_types how items (record { defs = defs; main = m }) s (rw (w, e, light, shallow) refl)
+
+  pub is_source : IsSpelledProgram Three items → (m : ℕ) → walk_items Three how (functions_of items) [] [] [] 1 items ≡ Ok defs →
+      main_from 0 (functions_of items) ≡ Some m → IsSourceBy how defs m
+  is_source s m w e = rules_keep_sources how items (record { defs = defs; main = m }) s (rw (w, e) refl)
+
+  pub is_named : IsSpelledProgram Two items → walk_items Two how (functions_of items) [] [] [] 1 items ≡ Ok defs → IsDistinctlyNamed (functions_of items)
+  is_named s w = program_named (functions_of items) (when_is (walk_items Two how (functions_of items) [] [] [] 1 items) defs (walked_named Two how items s) w)
