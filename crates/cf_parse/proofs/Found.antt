@@ -351,7 +351,7 @@ outputs_yield edition ts = bind_yields _ _ ts (param_yields edition ts) (λ x a 
 -- patterns
 
 -- a part, or the constant, behind a plus or a minus
-abbrev SpellsTerm : Edition → Option Place → TermSign → TermTree → List Token → List Token → Type 0
+abbrev pub SpellsTerm : Edition → Option Place → TermSign → TermTree → List Token → List Token → Type 0
 SpellsTerm edition start sign (a_part x) ts us =
     (x.is_negative ≡ is_minus sign) × ((q : Place) × (x.start ≡ begins start q) × SpellsProduct edition q x.factor (x.place, x.name) ts us)
 SpellsTerm edition start sign (the_constant k) ts us = SpellsConstant sign k ts us

@@ -1,4 +1,6 @@
 pub mod Depths
+pub mod Orders
+pub mod Ops
 pub mod Steps
 pub mod Terms
 pub mod Above
