@@ -14,6 +14,9 @@ mod ReadsLaws
 mod Rising
 pub mod RuleExamples
 mod SomeLaws
+mod SourceExamples
+mod SpelledExamples
+mod TreeExamples
 mod WalkLaws
 mod LanguageTwo
 mod LimitExamples
