@@ -266,8 +266,7 @@ module _ (context : Context) (done : List DefTree) where
       let ra : (held inputs vs g.tree ≡ Some v.0) × (length v.0 ≡ length g.bases) = hg inputs vs v.0 l v.1 in
       let rb : (held inputs vs i.tree ≡ Some w.0) × (length w.0 ≡ length i.bases) = hi inputs vs w.0 l w.1 in
       let same : both_hold v.0 w.0 ≡ hs = linear_is (both_hold v.0 w.0) hs w.2 in
-      let bases : g.bases ≡ i.bases = same_bases_is g.bases i.bases (both (is_one Truth f.bases) (same_bases g.bases i.bases) fit).1 in
-      (
+      let bases : g.bases ≡ i.bases = same_bases_is g.bases i.bases (both (is_one Truth f.bases) (same_bases g.bases i.bases) fit).1 in (
         rw (rt.0, ra.0, rb.0) (ap Some same),
         sym (ap length same) ∙ both_length v.0 w.0 (ra.1 ∙ ap length bases ∙ sym rb.1) ∙ ra.1,
       )))

@@ -161,19 +161,21 @@ module _ (context : Context) (done : List DefTree) where
       when_bind (walk context scope n a) _ (walk_holds context done known scope n a s.1) (λ f h.
       when_kept (is_one Truth f.bases) _ _ (λ _.
       when_linear (found_in false context.earlier (all_hold is_known scope) a) _ (λ hs q.
-      when_ok _ (hs, (h false (known_scope scope) hs (length-map scope (λ p. is_known)) (ap (λ ws. found_in false context.earlier ws a) (sym (each_over is_known
-      scope)) ∙ q)).0))))
+      when_ok _ (
+        hs,
+        (h false (known_scope scope) hs (length-map scope (λ p. is_known)) (ap (λ ws. found_in false context.earlier ws a) (sym (each_over is_known
+            scope)) ∙ q)).0,
+      ))))
 
   -- what is found of a choose's relation or objective
   in_choose_holds : (scope outputs hidden : List Param) (a : RawTree) (f : Form) (hs : List Held) → Holds context done (scope ++ (outputs ++ hidden)) a f →
       found_in (takes_inputs context.how) context.earlier (in_choose scope (outputs ++ hidden)) a ≡ linear_with hs →
       IsLinearHolding (takes_inputs context.how) done (known_scope scope ++ unknown_outputs (bases_of outputs ++ bases_of hidden)) f.tree
-  in_choose_holds scope outputs hidden a f hs h q =
-      (
-        hs,
-        (h (takes_inputs context.how) (known_scope scope ++ unknown_outputs (bases_of outputs ++ bases_of hidden)) hs (choose_length scope outputs hidden)
+  in_choose_holds scope outputs hidden a f hs h q = (
+    hs,
+    (h (takes_inputs context.how) (known_scope scope ++ unknown_outputs (bases_of outputs ++ bases_of hidden)) hs (choose_length scope outputs hidden)
         (ap (λ ws. found_in (takes_inputs context.how) context.earlier ws a) (sym (held_in_choose scope outputs hidden)) ∙ q)).0,
-      )
+  )
 
   sense_tame : (scope outputs hidden : List Param) (sense : Sense) (f : Form) →
       IsLinearHolding (takes_inputs context.how) done (known_scope scope ++ unknown_outputs (bases_of outputs ++ bases_of hidden)) f.tree →

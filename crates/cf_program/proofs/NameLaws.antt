@@ -104,8 +104,7 @@ plain_named : (p : Place) (outputs hidden : List Param) (given : GivenTree) (r :
     (hidden ≡ []) × (given ≡ no_given) × (aim ≡ no_aim) → AreDistinct (names_of outputs) → HasDistinctNames r →
     HasDistinctNames (raw_choose p outputs hidden given r aim)
 plain_named p outputs hidden given r aim plain differ h =
-    let P : List Param → Type 0 = λ os. AreDistinct (names_of os) in
-    (
+    let P : List Param → Type 0 = λ os. AreDistinct (names_of os) in (
       subst P (sym (ap (λ os. outputs ++ os) plain.0 ∙ append-nil outputs)) differ,
       subst GivenHasDistinctNames (sym plain.1) tt,
       h,

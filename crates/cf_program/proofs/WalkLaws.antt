@@ -540,7 +540,7 @@ choose_where_good context takes n p scope outputs hidden g f a some gg gf one_tr
       rising = (
         omega arith,
         rising_append (suc n) (numbers_given g.tree ++ numbers f.tree) f.next (numbers_aim a.tree) a.next
-        (rising_append (suc n) (numbers_given g.tree) g.next (numbers f.tree) f.next (rw add-one at gg.rising) gf.rising) ga.rising,
+            (rising_append (suc n) (numbers_given g.tree) g.next (numbers f.tree) f.next (rw add-one at gg.rising) gf.rising) ga.rising,
       );
     })
 
