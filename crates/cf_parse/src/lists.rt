@@ -87,6 +87,7 @@ pub fn read_outputs(
     more_outputs(alloc, edition, all, rest)
 }
 
+#[tactic(auto, using(crate::proofs::Steps::outputs_close))]
 fn more_outputs(
     alloc: Global,
     edition: Edition,

@@ -101,19 +101,19 @@ fn part(
 }
 
 // The terms of a pattern, the first behind this sign.
-#[tactic(auto, using(crate::proofs::Terms::terms_end, crate::proofs::Terms::terms_constant, crate::proofs::Terms::terms_last, crate::proofs::Terms::terms_go, crate::proofs::Terms::terms_err), unfolding(crate::specs::Reading::all_terms))]
+#[tactic(auto, using(crate::proofs::Terms::terms_end, crate::proofs::Terms::terms_constant, crate::proofs::Terms::terms_last, crate::proofs::Terms::terms_next), unfolding(crate::specs::Reading::all_terms))]
 fn terms(
     alloc: Global,
     edition: Edition,
-    start: Option<Place>,
-    first: TermSign,
+    first_start: Option<Place>,
+    first_sign: TermSign,
     tokens: &[Token],
 ) -> Result<(Pattern, &[Token]), ReadStop>
-    ensures { ReadAnswer (λ x. ((map part_tree x.0.parts.items, x.0.constant), x.1.now)) result (all_terms edition start first tokens.now) }
+    ensures { ReadAnswer (λ x. ((map part_tree x.0.parts.items, x.0.constant), x.1.now)) result (all_terms edition first_start first_sign tokens.now) }
 {
     let mut parts = Vec::new(alloc);
-    let mut start = start;
-    let mut sign = first;
+    let mut start = first_start;
+    let mut sign = first_sign;
     let mut rest = tokens;
     for _ in 0..tokens.len() {
         let (term, behind) = next_term(alloc, edition, start, sign, rest)?;

@@ -495,6 +495,7 @@ fn linked(
 
 // More links of a chain, behind those read before: fewer than `most`, the number of tokens that were left before the last one.
 #[cycle(reading)]
+#[tactic(auto, using(crate::proofs::Steps::links_done))]
 fn more_links(
     alloc: Global,
     edition: Edition,

@@ -91,7 +91,7 @@ fn item(
 }
 
 // More items, up to the end.
-#[tactic(auto, using(crate::proofs::Defs::items_end, crate::proofs::Defs::items_stop, crate::proofs::Defs::items_go, crate::proofs::Defs::items_err), unfolding(crate::specs::Programs::all_items))]
+#[tactic(auto, using(crate::proofs::Defs::items_end, crate::proofs::Defs::items_stop), unfolding(crate::specs::Programs::all_items))]
 fn more_items(
     alloc: Global,
     edition: Edition,

@@ -9,13 +9,13 @@ use Rattle.cf_parse.proofs.lists.more_names.Goals as goal
 pub returns-in-None : goal.returns-in-None
 unfolding others_of
 returns-in-None c =
-    sym c.loop.invariant ∙ more_closes named (must a_name) _ _ _ _ _ _ _ c.in-None.ensures c.in_ok-behind-in-None.ensures (omega arith)
+    sym c.loop.invariant ∙ more_closes named (must (a_name c.args.edition)) _ _ _ _ _ _ _ c.in-None.ensures c.in_ok-behind-in-None.ensures (omega arith)
 
 pub returns-in_err-behind-in-None : goal.returns-in_err-behind-in-None
 unfolding others_of
 returns-in_err-behind-in-None c =
     let p = err_from_is_err_and c.from_residual-in_err-behind-in-None.result c.from_residual-in_err-behind-in-None.ensures.1 in
-    rw (p.1, p.2, ← c.loop.invariant) (more_open named (must a_name) _ _ _ _ _ _ c.in-None.ensures c.in_err-behind-in-None.ensures (omega arith))
+    rw (p.1, p.2, ← c.loop.invariant) (more_open named (must (a_name c.args.edition)) _ _ _ _ _ _ c.in-None.ensures c.in_err-behind-in-None.ensures (omega arith))
 
 pub returns-in_err-done-in-Some : goal.returns-in_err-done-in-Some
 returns-in_err-done-in-Some c =
@@ -24,15 +24,15 @@ returns-in_err-done-in-Some c =
 
 pub returns : goal.returns
 unfolding others_of
-returns c = sym c.loop.invariant ∙ more_ends named (must a_name) _ _ _ _ _ (omega arith)
+returns c = sym c.loop.invariant ∙ more_ends named (must (a_name c.args.edition)) _ _ _ _ _ (omega arith)
 
 pub returns-in_err-x-in-Some : goal.returns-in_err-x-in-Some
 unfolding others_of
 returns-in_err-x-in-Some c =
     let p = err_from_is_err_and c.from_residual.result c.from_residual.ensures.1 in
-    rw (p.1, p.2, ← c.loop.invariant) (more_fails named (must a_name) _ _ _ _ _ _ _ _ c.in-Some.ensures c.in_err-x-in-Some.ensures (omega arith))
+    rw (p.1, p.2, ← c.loop.invariant) (more_fails named (must (a_name c.args.edition)) _ _ _ _ _ _ _ _ c.in-Some.ensures c.in_err-x-in-Some.ensures (omega arith))
 
 pub loop-preserved : goal.loop-preserved
-loop-preserved c = more_next named (must a_name) _ _ _ _ _ _ _ _ _ _ _ _ c.in-Some.ensures c.in_ok-x-in-Some.ensures (omega arith)
+loop-preserved c = more_next named (must (a_name c.args.edition)) _ _ _ _ _ _ _ _ _ _ _ _ c.in-Some.ensures c.in_ok-x-in-Some.ensures (omega arith)
     (ok_same _ _ _ refl c.in_ok-done-in-Some.ensures)
     c.loop.invariant

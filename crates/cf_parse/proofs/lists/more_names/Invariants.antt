@@ -7,5 +7,5 @@ use Rattle.cf_parse.proofs.lists.more_names.Given as goal
 
 abbrev pub invariant-loop : goal.invariant-loop
 invariant-loop l =
-    more_of named (must a_name) (Sign (codes ",")) (Sign (codes ")")) (length l.fn.tokens - l.counter) (l.done.names.items, l.done.places.items) l.rest
-    ≡ more_of named (must a_name) (Sign (codes ",")) (Sign (codes ")")) (length l.fn.tokens) (l.fn.first.names.items, l.fn.first.places.items) l.fn.tokens
+    more_of named (must (a_name l.edition)) (Sign (codes ",")) (Sign (codes ")")) (length l.fn.tokens - l.counter) (l.done.names.items, l.done.places.items) l.rest
+    ≡ more_of named (must (a_name l.edition)) (Sign (codes ",")) (Sign (codes ")")) (length l.fn.tokens) (l.fn.first.names.items, l.fn.first.places.items) l.fn.tokens

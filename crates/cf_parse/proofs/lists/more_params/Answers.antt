@@ -9,24 +9,24 @@ use Rattle.cf_parse.proofs.lists.more_params.Goals as goal
 pub returns-in-None : goal.returns-in-None
 unfolding others_of
 returns-in-None c =
-    sym c.loop.invariant ∙ more_closes snoc param_of _ _ _ _ _ _ _ c.in-None.ensures c.in_ok-behind-in-None.ensures (omega arith)
+    sym c.loop.invariant ∙ more_closes snoc (param_of c.args.edition) _ _ _ _ _ _ _ c.in-None.ensures c.in_ok-behind-in-None.ensures (omega arith)
 
 pub returns-in_err-behind-in-None : goal.returns-in_err-behind-in-None
 unfolding others_of
 returns-in_err-behind-in-None c =
     let p = err_from_is_err_and c.from_residual-in_err-behind-in-None.result c.from_residual-in_err-behind-in-None.ensures.1 in
-    rw (p.1, p.2, ← c.loop.invariant) (more_open snoc param_of _ _ _ _ _ _ c.in-None.ensures c.in_err-behind-in-None.ensures (omega arith))
+    rw (p.1, p.2, ← c.loop.invariant) (more_open snoc (param_of c.args.edition) _ _ _ _ _ _ c.in-None.ensures c.in_err-behind-in-None.ensures (omega arith))
 
 pub returns : goal.returns
 unfolding others_of
-returns c = sym c.loop.invariant ∙ more_ends snoc param_of _ _ _ _ _ (omega arith)
+returns c = sym c.loop.invariant ∙ more_ends snoc (param_of c.args.edition) _ _ _ _ _ (omega arith)
 
 pub returns-in_err-x-in-Some : goal.returns-in_err-x-in-Some
 unfolding others_of
 returns-in_err-x-in-Some c =
     let p = err_from_is_err_and c.from_residual.result c.from_residual.ensures.1 in
-    rw (p.1, p.2, ← c.loop.invariant) (more_fails snoc param_of _ _ _ _ _ _ _ _ c.in-Some.ensures c.in_err-x-in-Some.ensures (omega arith))
+    rw (p.1, p.2, ← c.loop.invariant) (more_fails snoc (param_of c.args.edition) _ _ _ _ _ _ _ _ c.in-Some.ensures c.in_err-x-in-Some.ensures (omega arith))
 
 pub loop-preserved : goal.loop-preserved
-loop-preserved c = more_next snoc param_of _ _ _ _ _ _ _ _ _ _ _ _ c.in-Some.ensures c.in_ok-x-in-Some.ensures (omega arith)
+loop-preserved c = more_next snoc (param_of c.args.edition) _ _ _ _ _ _ _ _ _ _ _ _ c.in-Some.ensures c.in_ok-x-in-Some.ensures (omega arith)
     (search rules) c.loop.invariant

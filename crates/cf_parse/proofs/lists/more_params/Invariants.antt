@@ -7,5 +7,5 @@ use Rattle.cf_parse.proofs.lists.more_params.Given as goal
 
 abbrev pub invariant-loop : goal.invariant-loop
 invariant-loop l =
-    more_of snoc param_of (Sign (codes ",")) (Sign (codes ")")) (length l.fn.tokens - l.counter) l.done.items l.rest
-    ≡ more_of snoc param_of (Sign (codes ",")) (Sign (codes ")")) (length l.fn.tokens) l.fn.first.items l.fn.tokens
+    more_of snoc (param_of l.edition) (Sign (codes ",")) (Sign (codes ")")) (length l.fn.tokens - l.counter) l.done.items l.rest
+    ≡ more_of snoc (param_of l.edition) (Sign (codes ",")) (Sign (codes ")")) (length l.fn.tokens) l.fn.first.items l.fn.tokens

@@ -8,8 +8,8 @@ pub returns-in_err-term : goal.returns-in_err-term
 unfolding all_terms
 returns-in_err-term c =
     let p = err_from_is_err_and c.from_residual.result c.from_residual.ensures.1 in
-    rw (p.1, p.2, ← c.loop.invariant) (terms_fail _ _ _ _ _ c.in_err-term.ensures (omega arith))
+    rw (p.1, p.2, ← c.loop.invariant) (terms_fail c.args.edition _ _ _ _ _ _ c.in_err-term.ensures (omega arith))
 
 pub returns : goal.returns
 unfolding all_terms
-returns c = sym c.loop.invariant ∙ terms_end _ _ _ _ (omega arith)
+returns c = sym c.loop.invariant ∙ terms_end c.args.edition _ _ _ _ _ (omega arith)

@@ -1,27 +1,23 @@
-use Rattle.std.proofs.Common.{◌≡◌, refl, sym, ◌∙◌, arith, rules}
+use Rattle.std.proofs.Common.{refl, sym, ◌∙◌, arith}
 use Rattle.std.proofs.lemmas.Result.{err_from_is_err_and}
 use Rattle.cf_reader.specs.Readers.{others_of, snoc}
-use Rattle.cf_tree.specs.declared.raw.Raw.{the_lemmas as raw_lemmas}
-use Rattle.cf_tree.specs.declared.raw.RawNode.{the_lemmas as node_lemmas}
-use Rattle.cf_tree.specs.RawTree.{raw_mod}
-use Rattle.cf_tree.specs.RawView.{raw_tree}
-use Rattle.cf_reader.proofs.Exact.{bind_is, deep_is, deep_not, first_not, pure_is}
 use Rattle.cf_reader.proofs.Steps.{more_closes, more_ends, more_fails, more_next, ok_same}
 use Rattle.cf_target.proofs.Loops.{more_open, out_of_memory}
 use Rattle.cf_parse.specs.declared.tier.Tier.TheVariants.{Whole}
-use Rattle.cf_parse.specs.Reading.{arm_of, read, word_of}
+use Rattle.cf_parse.specs.Reading.{arm_of, read}
+use Rattle.cf_parse.proofs.Steps.{links_end, links_fail, links_next}
 use Rattle.cf_parse.proofs.reading.+reading.Goals as goal
 
 pub more-returns-in-None-clause-value : goal.more-returns-in-None-clause-value
 unfolding others_of
 more-returns-in-None-clause-value t c =
-    sym c.loop.invariant.1 ∙ more_closes snoc (read c.args.n Whole) _ _ _ _ _ _ _ c.in-None.ensures c.in_ok-behind-in-None.ensures (omega arith)
+    sym c.loop.invariant.1 ∙ more_closes snoc (read c.args.edition c.args.n Whole) _ _ _ _ _ _ _ c.in-None.ensures c.in_ok-behind-in-None.ensures (omega arith)
 
 pub more-returns-in_err-behind-in-None-clause-value : goal.more-returns-in_err-behind-in-None-clause-value
 unfolding others_of
 more-returns-in_err-behind-in-None-clause-value t c =
     let p = err_from_is_err_and c.from_residual-in_err-behind-in-None.result c.from_residual-in_err-behind-in-None.ensures.1 in
-    rw (p.1, p.2, ← c.loop.invariant.1) (more_open snoc (read c.args.n Whole) _ _ _ _ _ _ c.in-None.ensures c.in_err-behind-in-None.ensures (omega arith))
+    rw (p.1, p.2, ← c.loop.invariant.1) (more_open snoc (read c.args.edition c.args.n Whole) _ _ _ _ _ _ c.in-None.ensures c.in_err-behind-in-None.ensures (omega arith))
 
 pub more-returns-in_err-done-in-Some-clause-value : goal.more-returns-in_err-done-in-Some-clause-value
 more-returns-in_err-done-in-Some-clause-value t c =
@@ -30,13 +26,13 @@ more-returns-in_err-done-in-Some-clause-value t c =
 
 pub more-returns-clause-value : goal.more-returns-clause-value
 unfolding others_of
-more-returns-clause-value t c = sym c.loop.invariant.1 ∙ more_ends snoc (read c.args.n Whole) _ _ _ _ _ (omega arith)
+more-returns-clause-value t c = sym c.loop.invariant.1 ∙ more_ends snoc (read c.args.edition c.args.n Whole) _ _ _ _ _ (omega arith)
 
 pub more-returns-in_err-e-in-Some-clause-value : goal.more-returns-in_err-e-in-Some-clause-value
 unfolding others_of
 more-returns-in_err-e-in-Some-clause-value t c =
     let p = err_from_is_err_and c.from_residual.result c.from_residual.ensures.1 in
-    rw (p.1, p.2, ← c.loop.invariant.1) (more_fails snoc (read c.args.n Whole) _ _ _ _ _ _ _ _ c.in-Some.ensures c.in_err-e-in-Some.ensures.value (omega arith))
+    rw (p.1, p.2, ← c.loop.invariant.1) (more_fails snoc (read c.args.edition c.args.n Whole) _ _ _ _ _ _ _ _ c.in-Some.ensures c.in_err-e-in-Some.ensures.value (omega arith))
 
 pub more-loop-preserved : goal.more-loop-preserved
 more-loop-preserved t c =
@@ -44,20 +40,20 @@ more-loop-preserved t c =
     let e_deep = c.in_ok-e-in-Some.ensures.deep in
     let before = c.loop.invariant.0 in (
       omega (arith, deep, e_deep, before),
-      more_next snoc (read c.args.n Whole) _ _ _ _ _ _ _ _ _ _ _ _ c.in-Some.ensures c.in_ok-e-in-Some.ensures.value (omega arith)
+      more_next snoc (read c.args.edition c.args.n Whole) _ _ _ _ _ _ _ _ _ _ _ _ c.in-Some.ensures c.in_ok-e-in-Some.ensures.value (omega arith)
           (ok_same _ _ _ refl c.in_ok-done-in-Some.ensures.value) c.loop.invariant.1,
     )
 
 pub more_arms-returns-in-None-clause-value : goal.more_arms-returns-in-None-clause-value
 unfolding others_of
 more_arms-returns-in-None-clause-value t c =
-    sym c.loop.invariant.1 ∙ more_closes snoc (arm_of (read c.args.n)) _ _ _ _ _ _ _ c.in-None.ensures c.in_ok-behind-in-None.ensures (omega arith)
+    sym c.loop.invariant.1 ∙ more_closes snoc (arm_of c.args.edition (read c.args.edition c.args.n)) _ _ _ _ _ _ _ c.in-None.ensures c.in_ok-behind-in-None.ensures (omega arith)
 
 pub more_arms-returns-in_err-behind-in-None-clause-value : goal.more_arms-returns-in_err-behind-in-None-clause-value
 unfolding others_of
 more_arms-returns-in_err-behind-in-None-clause-value t c =
     let p = err_from_is_err_and c.from_residual-in_err-behind-in-None.result c.from_residual-in_err-behind-in-None.ensures.1 in
-    rw (p.1, p.2, ← c.loop.invariant.1) (more_open snoc (arm_of (read c.args.n)) _ _ _ _ _ _ c.in-None.ensures c.in_err-behind-in-None.ensures (omega arith))
+    rw (p.1, p.2, ← c.loop.invariant.1) (more_open snoc (arm_of c.args.edition (read c.args.edition c.args.n)) _ _ _ _ _ _ c.in-None.ensures c.in_err-behind-in-None.ensures (omega arith))
 
 pub more_arms-returns-in_err-done-in-Some-clause-value : goal.more_arms-returns-in_err-done-in-Some-clause-value
 more_arms-returns-in_err-done-in-Some-clause-value t c =
@@ -66,13 +62,13 @@ more_arms-returns-in_err-done-in-Some-clause-value t c =
 
 pub more_arms-returns-clause-value : goal.more_arms-returns-clause-value
 unfolding others_of
-more_arms-returns-clause-value t c = sym c.loop.invariant.1 ∙ more_ends snoc (arm_of (read c.args.n)) _ _ _ _ _ (omega arith)
+more_arms-returns-clause-value t c = sym c.loop.invariant.1 ∙ more_ends snoc (arm_of c.args.edition (read c.args.edition c.args.n)) _ _ _ _ _ (omega arith)
 
 pub more_arms-returns-in_err-x-in-Some-clause-value : goal.more_arms-returns-in_err-x-in-Some-clause-value
 unfolding others_of
 more_arms-returns-in_err-x-in-Some-clause-value t c =
     let p = err_from_is_err_and c.from_residual.result c.from_residual.ensures.1 in
-    rw (p.1, p.2, ← c.loop.invariant.1) (more_fails snoc (arm_of (read c.args.n)) _ _ _ _ _ _ _ _ c.in-Some.ensures c.in_err-x-in-Some.ensures.value
+    rw (p.1, p.2, ← c.loop.invariant.1) (more_fails snoc (arm_of c.args.edition (read c.args.edition c.args.n)) _ _ _ _ _ _ _ _ c.in-Some.ensures c.in_err-x-in-Some.ensures.value
     (omega arith))
 
 pub more_arms-loop-preserved : goal.more_arms-loop-preserved
@@ -81,16 +77,24 @@ more_arms-loop-preserved t c =
     let e_deep = c.in_ok-x-in-Some.ensures.deep in
     let before = c.loop.invariant.0 in (
       omega (arith, deep, e_deep, before),
-      more_next snoc (arm_of (read c.args.n)) _ _ _ _ _ _ _ _ _ _ _ _ c.in-Some.ensures c.in_ok-x-in-Some.ensures.value (omega arith)
+      more_next snoc (arm_of c.args.edition (read c.args.edition c.args.n)) _ _ _ _ _ _ _ _ _ _ _ _ c.in-Some.ensures c.in_ok-x-in-Some.ensures.value (omega arith)
           (ok_same _ _ _ refl c.in_ok-done-in-Some.ensures.value) c.loop.invariant.1,
     )
 
-pub word-returns-in-Some-after_word-4-clause-value : goal.word-returns-in-Some-after_word-4-clause-value
-unfolding word_of
-word-returns-in-Some-after_word-4-clause-value t c =
-    let e = c.in_ok-e-4 in
-    let is : raw_mod c.in-Some-after_word-4.place (raw_tree e.e.raw.value) e.k ≡ raw_tree c.tree-in-Some-after_word-4.result.raw =
-    search (rules, raw_lemmas, node_lemmas) in
-    first_not _ _ _ _ c.in_default.ensures (deep_not _ _ _ _ _ c.in_default-after_word.ensures (deep_not _ _ _ _ _ c.in_default-after_word-2.ensures
-    (deep_not _ _ _ _ _ c.in_default-after_word-3.ensures (deep_is _ _ _ _ _ (omega (arith, c.if-n-eq0-4.false)) c.in-Some-after_word-4.ensures
-    (bind_is _ _ _ e.ensures.value (pure_is _ _ _ is))))))
+pub more_links-returns-clause-value : goal.more_links-returns-clause-value
+more_links-returns-clause-value t c = sym c.loop.invariant.1 ∙ links_end (read c.args.edition c.args.n) _ _ _ (omega arith)
+
+pub more_links-returns-in_err-e-in-Some-clause-value : goal.more_links-returns-in_err-e-in-Some-clause-value
+more_links-returns-in_err-e-in-Some-clause-value t c =
+    let p = err_from_is_err_and c.from_residual.result c.from_residual.ensures.1 in
+    rw (p.1, p.2, ← c.loop.invariant.1) (links_fail (read c.args.edition c.args.n) _ _ _ _ _ _ c.in-Some.ensures c.in_err-e-in-Some.ensures.value (omega arith))
+
+pub more_links-loop-preserved : goal.more_links-loop-preserved
+more_links-loop-preserved t c =
+    let deep = c.in_ok-done-in-Some.ensures.deep in
+    let e_deep = c.in_ok-e-in-Some.ensures.deep in
+    let before = c.loop.invariant.0 in (
+      omega (arith, deep, e_deep, before),
+      links_next (read c.args.edition c.args.n) _ _ _ _ _ _ _ _ _ _ c.in-Some.ensures c.in_ok-e-in-Some.ensures.value (omega arith)
+          (ok_same _ _ _ refl c.in_ok-done-in-Some.ensures.value) c.loop.invariant.1,
+    )
