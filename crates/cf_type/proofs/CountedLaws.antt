@@ -4,7 +4,7 @@ use Rattle.std.proofs.Math.Numerals.{add-one}
 use Rattle.std.proofs.Math.Seq.{drop-cons}
 use Rattle.cf_tree.specs.declared.raw.BinOp.TheVariants.{Or}
 use Rattle.cf_tree.specs.declared.raw.Param.{Param}
-use Rattle.cf_tree.specs.ExprTree.{ExprTree, expr_lit, expr_truth, expr_var, expr_set_of, expr_tuple, expr_neg, expr_not, expr_abs, expr_binary, expr_divides, expr_div, expr_mod, expr_card, expr_if, expr_call, expr_let, expr_choose, expr_match, ExprTrees, no_exprs, expr_more, match_arm, MatchArmTrees, no_match_arms, match_arm_more}
+use Rattle.cf_tree.specs.ExprTree.{ExprTree, expr_lit, expr_truth, expr_var, expr_set_of, expr_tuple, expr_neg, expr_not, expr_abs, expr_binary, expr_chain, expr_min, expr_max, expr_divides, expr_div, expr_mod, expr_card, expr_if, expr_call, expr_let, expr_choose, expr_choose_where, expr_match, ExprTrees, no_exprs, expr_more, match_arm, MatchArmTrees, no_match_arms, match_arm_more}
 use Rattle.cf_tree.specs.declared.expr.MatchArm.{MatchArm}
 use Rattle.cf_tree.specs.ExprView.{match_arm_tree, match_arm_trees}
 use Rattle.cf_tree.specs.RelSize.{capped, term_size, term_depth}
@@ -88,6 +88,9 @@ mutual
   weight_lowered calls (expr_not a) = omega (arith, weight_lowered calls a)
   weight_lowered calls (expr_abs a) = omega (arith, weight_lowered calls a)
   weight_lowered calls (expr_binary op a b) = omega (arith, weight_lowered calls a, weight_lowered calls b)
+  weight_lowered calls (expr_chain orders es) = refl
+  weight_lowered calls (expr_min es) = refl
+  weight_lowered calls (expr_max es) = refl
   weight_lowered calls (expr_divides k a) = omega (arith, weight_lowered calls a)
   weight_lowered calls (expr_div a k) = omega (arith, weight_lowered calls a)
   weight_lowered calls (expr_mod a k) = omega (arith, weight_lowered calls a)
@@ -96,6 +99,7 @@ mutual
   weight_lowered calls (expr_call f es) = omega (arith, weight_lowered_all calls es)
   weight_lowered calls (expr_let n a b) = omega (arith, weight_lowered calls a, weight_lowered calls b)
   weight_lowered calls (expr_choose n scope outputs rel) = refl
+  weight_lowered calls (expr_choose_where n scope outputs hidden given rel aim) = refl
   weight_lowered calls (expr_match n scope a arms) =
       omega (arith, weight_lowered calls a, any_fits_weight calls (length scope - 1) arms, weight_picked calls (length scope - 1) scope arms)
 
@@ -168,6 +172,9 @@ mutual
   depth_lowered calls (expr_not a) = omega (arith, depth_lowered calls a)
   depth_lowered calls (expr_abs a) = omega (arith, depth_lowered calls a)
   depth_lowered calls (expr_binary op a b) = omega (arith, depth_lowered calls a, depth_lowered calls b)
+  depth_lowered calls (expr_chain orders es) = refl
+  depth_lowered calls (expr_min es) = refl
+  depth_lowered calls (expr_max es) = refl
   depth_lowered calls (expr_divides k a) = omega (arith, depth_lowered calls a)
   depth_lowered calls (expr_div a k) = omega (arith, depth_lowered calls a)
   depth_lowered calls (expr_mod a k) = omega (arith, depth_lowered calls a)
@@ -176,6 +183,7 @@ mutual
   depth_lowered calls (expr_call f es) = omega (arith, depth_lowered_all calls es)
   depth_lowered calls (expr_let n a b) = omega (arith, depth_lowered calls a, depth_lowered calls b)
   depth_lowered calls (expr_choose n scope outputs rel) = refl
+  depth_lowered calls (expr_choose_where n scope outputs hidden given rel aim) = refl
   depth_lowered calls (expr_match n scope a arms) =
       rw (depth_lowered calls a, any_fits_depth calls (length scope - 1) arms)
       (match_depth (depth_of calls a) (any_depth arms) (picks_depth 0 arms) (depth_of_arms calls 0 (last_level arms) arms)

@@ -1,74 +1,168 @@
--- Steps of the walk through the functions of a program, and through a choose.
-use Rattle.std.proofs.Common.{◌≡◌, ◌<◌, ℕ, false, List, [], ◌∷◌, ◌++◌, ◌+◌, map, length, take, drop, get_or, None, Result, Ok, refl, sym, ap, ap₂, subst, ◌∙◌}
-use Rattle.std.proofs.lemmas.List.{drop_more, map-append, take_more}
+-- Steps of the walk through the declarations of a program, and through a choose.
+use Rattle.std.proofs.Common.{◌≡◌, ◌<◌, ◌≤◌, ℕ, false, List, [], ◌∷◌, ◌++◌, ◌+◌, map, length, take, drop, get_or, reverse, None, Result, Ok, Err, refl, sym, ap, ap₂, subst, ◌∙◌, arith}
+use Rattle.std.proofs.lemmas.List.{append-nil, drop_more, length-append, map-append, take_more, take-append-drop}
+use Rattle.std.proofs.Math.Seq.{take-append_seam}
+use Rattle.cf_tree.specs.declared.base.Edition.{Edition}
+use Rattle.cf_tree.specs.declared.base.Edition.TheVariants.{Two, Three}
 use Rattle.cf_tree.specs.declared.raw.RawDef.{RawDef}
+use Rattle.cf_tree.specs.declared.raw.RawItem.{RawItem}
+use Rattle.cf_tree.specs.declared.raw.RawItem.TheVariants.{Const, Def as Function}
 use Rattle.cf_tree.specs.declared.base.Place.{Place}
 use Rattle.cf_tree.specs.declared.raw.Param.{Param}
 use Rattle.cf_tree.specs.Bases.{same_bases}
-use Rattle.cf_tree.specs.DefView.{RawDefTree, DefTree, raw_def_tree}
-use Rattle.cf_tree.specs.RawTree.{RawTree, raw_choose, place_of}
+use Rattle.cf_tree.specs.DefView.{RawDefTree, DefTree, RawItemTree, item_const, item_def, raw_def_tree, raw_item_tree}
+use Rattle.cf_tree.specs.RawView.{raw_tree}
+use Rattle.cf_tree.specs.RawTree.{RawTree, raw_choose, place_of, GivenTree, AimTree}
 use Rattle.cf_program.specs.declared.fault.TypeFault.{TypeFault}
 use Rattle.cf_program.specs.declared.fault.TypeFault.TheVariants.{Mismatch}
 use Rattle.cf_program.specs.declared.linearity.Linearity.{Linearity}
 use Rattle.cf_program.specs.CheckAnswers.{CheckAnswer, CheckFault}
-use Rattle.cf_program.specs.Checked.{walk_def, walk_defs, def_form}
+use Rattle.cf_program.specs.Checked.{functions_of, walk_const, walk_def, walk_items, def_form}
+use Rattle.cf_program.specs.Constants.{Constant, constant_names}
 use Rattle.cf_program.specs.Names.{callee_from, is_among, repeated}
 use Rattle.cf_tree.specs.Params.{names_of}
-use Rattle.cf_program.specs.Walk.{◌>>=◌, where_kept, where_no_fault, Context, Form, in_body, in_relation, output_fault, choose_form, choose_part, walk}
+use Rattle.cf_program.specs.Then.{◌>>=◌}
+use Rattle.cf_program.specs.Walk.{by_edition, where_kept, where_no_fault, Context, Form, behind, taken, in_relation, output_fault, choose_form, choose_part, walk}
 use Rattle.cf_type.specs.declared.form.Form.{Form as DeclaredForm}
 use Rattle.cf_type.specs.FormView.{form_of}
+use Rattle.cf_type.specs.Walked.{functions_in, Walked, with_constants, with_function, walk_item, functions_to}
 use Rattle.cf_type.proofs.WalkSteps.{fails_then, goes_on}
 
--- the answer to a choose, under the name of its tree
-pub choose_answer : (context : Context) (scope : List Param) (n : ℕ) (p : Place) (outputs : List Param) (r raw : RawTree) (told : Result DeclaredForm TypeFault)
-    →
-    raw ≡ raw_choose p outputs r → CheckAnswer form_of told (where_no_fault (output_fault [] outputs)
+of_two : {A : Type 0} (edition : Edition) (two three : A) → edition ≡ Two → two ≡ by_edition edition two three
+of_two Two two three h = refl
+of_two Three two three h = cc
+
+-- the answer to a choose of language 2, under the name of its tree
+pub choose_answer : (context : Context) (scope : List Param) (n : ℕ) (p : Place) (outputs hidden : List Param) (g : GivenTree) (r : RawTree) (aim : AimTree)
+    (raw : RawTree) (told : Result DeclaredForm TypeFault) → context.edition ≡ Two → raw ≡ raw_choose p outputs hidden g r aim →
+    CheckAnswer form_of told (where_no_fault (output_fault Two (taken context) outputs)
     (walk (in_relation context (length scope)) (scope ++ outputs) (n + 1) r >>= choose_form p n scope outputs >>= λ f.
     walk context (scope ++ outputs) (n + 1) r >>= choose_part p f)) → CheckAnswer form_of told (walk context scope n raw)
-choose_answer context scope n p outputs r raw told is h = subst (λ x. CheckAnswer form_of told (walk context scope n x)) (sym is) h
+choose_answer context scope n p outputs hidden g r aim raw told two is h =
+    subst (λ x. CheckAnswer form_of told (walk context scope n x)) (sym is)
+    (subst (λ x. CheckAnswer form_of told x) (of_two context.edition _ _ two) h)
 
 -- the body of a function whose name is new and whose parameters differ
-module _ (how : Linearity) (all before : List RawDefTree) (n count : ℕ) (d : RawDefTree) (counted : count ≡ length before)
-    (new : is_among (map (λ e. e.name) before) d.name ≡ false) (differ : repeated [] (names_of d.params) (map (λ p. p.place) d.params) ≡ None) where
+module _ (edition : Edition) (how : Linearity) (all : List RawDefTree) (constants : List Constant) (before : List RawDefTree) (n count : ℕ) (d : RawDefTree)
+    (counted : count ≡ length before) (new : is_among (map (λ e. e.name) before) d.name ≡ false)
+    (differ : repeated (constant_names constants) (names_of d.params) (map (λ p. p.place) d.params) ≡ None) where
+  abbrev body : Context
+  body = behind edition how (callee_from count 0 all) constants (reverse before)
+
   abbrev rest : Form → Result (DefTree × ℕ) TypeFault
   rest f = where_kept (same_bases f.bases d.results) (Mismatch (place_of d.body)) (Ok (def_form d f, f.next))
 
-  walked : walk_def how all before n d ≡ (walk (in_body how (callee_from count 0 all)) d.params n d.body >>= rest)
+  walked : walk_def edition how all constants before n d ≡ (walk body d.params n d.body >>= rest)
   walked = rw (counted, new, differ) refl
 
-  pub def_fails : (fault : TypeFault) → CheckFault fault (walk (in_body how (callee_from count 0 all)) d.params n d.body) →
-      CheckFault fault (walk_def how all before n d)
-  def_fails fault h =
-      subst (λ r. CheckFault fault r) (sym walked) (fails_then fault (walk (in_body how (callee_from count 0 all)) d.params n d.body) rest h)
+  pub def_fails : (fault : TypeFault) → CheckFault fault (walk body d.params n d.body) → CheckFault fault (walk_def edition how all constants before n d)
+  def_fails fault h = subst (λ r. CheckFault fault r) (sym walked) (fails_then fault (walk body d.params n d.body) rest h)
 
-  pub def_goes_on : (f : Form) → walk (in_body how (callee_from count 0 all)) d.params n d.body ≡ Ok f →
-      walk_def how all before n d ≡ where_kept (same_bases f.bases d.results) (Mismatch (place_of d.body)) (Ok (def_form d f, f.next))
-  def_goes_on f h = walked ∙ goes_on (walk (in_body how (callee_from count 0 all)) d.params n d.body) f rest h
+  pub def_goes_on : (f : Form) → walk body d.params n d.body ≡ Ok f →
+      walk_def edition how all constants before n d ≡ where_kept (same_bases f.bases d.results) (Mismatch (place_of d.body)) (Ok (def_form d f, f.next))
+  def_goes_on f h = walked ∙ goes_on (walk body d.params n d.body) f rest h
 
--- function i of these, behind those before it
-module _ (how : Linearity) (defs : List RawDef) (i : ℕ) (x : RawDef) (done : List DefTree) (n : ℕ) (whole : Result (List DefTree) TypeFault)
-    (within : i < length defs) (at : x ≡ get_or defs i x)
-    (is : walk_defs how (map raw_def_tree defs) (map raw_def_tree (take i defs)) done n (map raw_def_tree (drop i defs)) ≡ whole) where
-  abbrev all : List RawDefTree
-  all = map raw_def_tree defs
+-- the functions among declarations
+pub functions_are : (items : List RawItem) → functions_of (map raw_item_tree items) ≡ map raw_def_tree (functions_in items)
+functions_are [] = refl
+functions_are (Const c ∷ items) = functions_are items
+functions_are (Function d ∷ items) = ap (λ ds. raw_def_tree d ∷ ds) (functions_are items)
 
-  abbrev before : List RawDefTree
-  before = map raw_def_tree (take i defs)
+pub functions_append : (xs ys : List RawItem) → functions_in (xs ++ ys) ≡ functions_in xs ++ functions_in ys
+functions_append [] ys = refl
+functions_append (Const c ∷ xs) ys = functions_append xs ys
+functions_append (Function d ∷ xs) ys = ap (λ ds. d ∷ ds) (functions_append xs ys)
 
-  abbrev behind : List RawDefTree
-  behind = map raw_def_tree (drop (i + 1) defs)
+functions_next : (before : List RawDef) (item : RawItem) → map raw_def_tree (before ++ functions_in (item ∷ [])) ≡ functions_to (map raw_def_tree before)
+    (raw_item_tree item)
+functions_next before (Const c) = ap (map raw_def_tree) (append-nil before)
+functions_next before (Function d) = map-append raw_def_tree before (d ∷ [])
 
-  here : walk_defs how all before done n (raw_def_tree x ∷ behind) ≡ whole
-  here = ap (λ ys. walk_defs how all before done n (map raw_def_tree ys))
-      (ap (λ y. y ∷ drop (i + 1) defs) at ∙ sym (drop_more defs i x within)) ∙ is
+item_then : (edition : Edition) (how : Linearity) (all before : List RawDefTree) (w : Walked) (item : RawItemTree) (items : List RawItemTree) →
+    walk_items edition how all w.constants before w.defs w.next (item ∷ items)
+    ≡ (walk_item edition how all before w item >>= λ v. walk_items edition how all v.constants (functions_to before item) v.defs v.next items)
+item_then edition how all before w (item_const p x e) items = by (walk_const edition how all w.constants before w.next p x e)
+  where
+    by : (r : Result (List Constant) TypeFault) → (r >>= λ more. walk_items edition how all more before w.defs w.next items)
+        ≡ (r >>= (λ more. Ok (with_constants w more)) >>= λ v.
+        walk_items edition how all v.constants before v.defs v.next items)
+    by (Ok more) = refl
+    by (Err e) = refl
+item_then edition how all before w (item_def d) items = by (walk_def edition how all w.constants before w.next d)
+  where
+    by : (r : Result (DefTree × ℕ) TypeFault) → (r >>= λ x. walk_items edition how all w.constants (before ++ d ∷ []) (w.defs ++ x.0 ∷ []) x.1 items)
+        ≡ (r >>= (λ x. Ok (with_function w x)) >>= λ v.
+        walk_items edition how all v.constants (before ++ d ∷ []) v.defs v.next items)
+    by (Ok x) = refl
+    by (Err e) = refl
 
-  pub defs_fail : (fault : TypeFault) → CheckFault fault (walk_def how all before n (raw_def_tree x)) → CheckFault fault whole
-  defs_fail fault h = subst (λ r. CheckFault fault r) here (fails_then fault (walk_def how all before n (raw_def_tree x)) _ h)
+split : (items : List RawItem) (i : ℕ) → functions_in items ≡ functions_in (take i items) ++ functions_in (drop i items)
+split items i = ap functions_in (sym (take-append-drop i items)) ∙ functions_append (take i items) (drop i items)
 
-  front : map raw_def_tree (take (i + 1) defs) ≡ before ++ raw_def_tree x ∷ []
-  front = ap (map raw_def_tree) (take_more defs i x within ∙ ap (λ y. take i defs ++ y ∷ []) (sym at)) ∙ map-append raw_def_tree (take i defs) (x ∷ [])
+-- no more functions stand before a declaration than in all
+pub few : (items : List RawItem) (i k : ℕ) → k ≡ length (functions_in (take i items)) → k ≤ length (functions_in items)
+few items i k counted = omega (arith, counted, ap length (split items i), length-append (functions_in (take i items)) (functions_in (drop i items)))
 
-  pub defs_go_on : (d : DefTree) (m : ℕ) (now : List DefTree) → walk_def how all before n (raw_def_tree x) ≡ Ok (d, m) → now ≡ done ++ d ∷ [] →
-      walk_defs how all (map raw_def_tree (take (i + 1) defs)) now m behind ≡ whole
-  defs_go_on d m now h made =
-      ap₂ (λ bs ds. walk_defs how all bs ds m behind) front made ∙ sym (goes_on (walk_def how all before n (raw_def_tree x)) (d, m) _ h) ∙ here
+-- declaration i of these, behind those before it
+module _ (edition : Edition) (how : Linearity) (all : List RawDefTree) (items : List RawItem) (i : ℕ) (x : RawItem) (w : Walked) (k : ℕ)
+    (whole : Result (List DefTree) TypeFault) (within : i < length items) (at : x ≡ get_or items i x) (counted : k ≡ length (functions_in (take i items)))
+    (is : walk_items edition how all w.constants (map raw_def_tree (functions_in (take i items))) w.defs w.next (map raw_item_tree (drop i items)) ≡ whole) where
+  abbrev before : List RawDef
+  before = functions_in (take i items)
+
+  abbrev behind_x : List RawItemTree
+  behind_x = map raw_item_tree (drop (i + 1) items)
+
+  -- the functions before it
+  pub before_is : take k (functions_in items) ≡ before
+  before_is = ap₂ take counted (split items i) ∙ take-append_seam before (functions_in (drop i items))
+
+  at_x : walk_items edition how all w.constants (map raw_def_tree before) w.defs w.next (raw_item_tree x ∷ behind_x) ≡ whole
+  at_x = ap (λ ys. walk_items edition how all w.constants (map raw_def_tree before) w.defs w.next (map raw_item_tree ys))
+      (ap (λ y. y ∷ drop (i + 1) items) at ∙ sym (drop_more items i x within)) ∙ is
+
+  abbrev met : Result Walked TypeFault
+  met = walk_item edition how all (map raw_def_tree (take k (functions_in items))) w (raw_item_tree x)
+
+  met_is : met ≡ walk_item edition how all (map raw_def_tree before) w (raw_item_tree x)
+  met_is = ap (λ ds. walk_item edition how all (map raw_def_tree ds) w (raw_item_tree x)) before_is
+
+  then_whole : (met >>= λ v. walk_items edition how all v.constants (functions_to (map raw_def_tree before) (raw_item_tree x)) v.defs v.next behind_x) ≡ whole
+  then_whole = ap (λ r. r >>= λ v. walk_items edition how all v.constants (functions_to (map raw_def_tree before) (raw_item_tree x)) v.defs v.next behind_x) met_is
+      ∙ sym (item_then edition how all (map raw_def_tree before) w (raw_item_tree x) behind_x) ∙ at_x
+
+  pub item_fails : (fault : TypeFault) → CheckFault fault met → CheckFault fault whole
+  item_fails fault h = subst (λ r. CheckFault fault r) then_whole (fails_then fault met _ h)
+
+  front : functions_in (take (i + 1) items) ≡ before ++ functions_in (x ∷ [])
+  front = ap functions_in (take_more items i x within ∙ ap (λ y. take i items ++ y ∷ []) (sym at)) ∙ functions_append (take i items) (x ∷ [])
+
+  pub item_goes_on : (v : Walked) → met ≡ Ok v →
+      walk_items edition how all v.constants (map raw_def_tree (functions_in (take (i + 1) items))) v.defs v.next behind_x ≡ whole
+  item_goes_on v h =
+      ap (λ bs. walk_items edition how all v.constants bs v.defs v.next behind_x) (ap (map raw_def_tree) front ∙ functions_next before x)
+      ∙ sym (goes_on met v _ h) ∙ then_whole
+
+  -- and one function more where it is one
+  pub counted_next : (v : Walked) → length w.defs ≡ k → met ≡ Ok v → length v.defs ≡ length (functions_in (take (i + 1) items))
+  counted_next v same h = by x refl (sym met_is ∙ h)
+    where
+      by : (y : RawItem) → x ≡ y → walk_item edition how all (map raw_def_tree before) w (raw_item_tree y) ≡ Ok v →
+          length v.defs ≡ length (functions_in (take (i + 1) items))
+      by (Const c) e h = by_const (walk_const edition how all w.constants (map raw_def_tree before) w.next c.place c.name (raw_tree c.value)) h
+        where
+          by_const : (r : Result (List Constant) TypeFault) → (r >>= λ more. Ok (with_constants w more)) ≡ Ok v →
+              length v.defs ≡ length (functions_in (take (i + 1) items))
+          by_const (Err f) h = cc
+          by_const (Ok more) h =
+              let made : w.defs ≡ v.defs = cc in
+              sym (ap length made) ∙ same ∙ counted ∙ sym (ap length (front ∙ ap (λ z. before ++ functions_in (z ∷ [])) e ∙ append-nil before))
+      by (Function d) e h = by_def (walk_def edition how all w.constants (map raw_def_tree before) w.next (raw_def_tree d)) h
+        where
+          by_def : (r : Result (DefTree × ℕ) TypeFault) → (r >>= λ y. Ok (with_function w y)) ≡ Ok v →
+              length v.defs ≡ length (functions_in (take (i + 1) items))
+          by_def (Err f) h = cc
+          by_def (Ok y) h =
+              let made : w.defs ++ y.0 ∷ [] ≡ v.defs = cc in
+              omega (arith, sym (ap length made), length-append w.defs (y.0 ∷ []), same, counted,
+              ap length (front ∙ ap (λ z. before ++ functions_in (z ∷ [])) e), length-append before (d ∷ []))

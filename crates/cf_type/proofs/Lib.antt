@@ -1,9 +1,11 @@
 mod CheckLemmas
+mod ConstantLemmas
 mod CountedLaws
 mod DivisorLaws
 mod Loops
 mod NameLemmas
 mod NumberLemmas
+mod PatternLemmas
 mod ReadingLemmas
 mod ScopedLemmas
 mod SizeLemmas

@@ -1,7 +1,8 @@
 -- Laws on names.
-use Rattle.std.proofs.Common.{◌≡◌, ℕ, Bool, true, false, not, ◌||◌, List, [], ◌∷◌, ◌++◌, map, Option, Some, None, length, if◌then◌else◌, refl, ap, ◌∙◌}
+use Rattle.std.proofs.Common.{◌≡◌, ℕ, Bool, true, false, not, ◌||◌, List, [], ◌∷◌, ◌++◌, map, Option, Some, None, length, if◌then◌else◌, refl, sym, ap, ◌∙◌}
 use Rattle.std.proofs.lemmas.Cmp.{nat_list_eq_equiv}
-use Rattle.std.proofs.lemmas.List.{map-append}
+use Rattle.std.proofs.lemmas.List.{append_assoc, map-append}
+use Rattle.std.proofs.lemmas.List.Folds.{list_any-append}
 use Rattle.std.specs.List.{list_any}
 use Rattle.std.specs.Str.{bytes_eq}
 use Rattle.indexmap.specs.IndexSet.{insert_key}
@@ -56,3 +57,17 @@ bound_no_bases [] places bases e = refl
 bound_no_bases (x ∷ xs) [] bases e = refl
 bound_no_bases (x ∷ xs) (p ∷ places) [] e = refl
 bound_no_bases (x ∷ xs) (p ∷ places) (b ∷ bases) e = cc
+
+-- a name among two lists that stand one behind the other
+pub among_first : (front names : List (List ℕ)) (x : List ℕ) → true ≡ is_among front x → true ≡ is_among (front ++ names) x
+among_first front names x h = ap (λ b. b || is_among names x) h ∙ sym (list_any-append (λ y. bytes_eq y x) front names)
+
+pub among_behind : (front names : List (List ℕ)) (x : List ℕ) (had : Bool) → false ≡ is_among front x → had ≡ is_among names x →
+    had ≡ is_among (front ++ names) x
+among_behind front names x had none h = h ∙ ap (λ b. b || is_among names x) none ∙ sym (list_any-append (λ y. bytes_eq y x) front names)
+
+pub put_behind : (front names after : List (List ℕ)) (x : List ℕ) (had : Bool) → after ≡ (if had then names else names ++ x ∷ []) →
+    front ++ after ≡ (if had then front ++ names else front ++ names ++ x ∷ [])
+put_behind front names after x true h = ap (λ ys. front ++ ys) h
+put_behind front names after x false h =
+    let pushed : after ≡ names ++ x ∷ [] = h in ap (λ ys. front ++ ys) pushed ∙ sym (append_assoc front names (x ∷ []))

@@ -4,7 +4,7 @@
 use Rattle.std.specs.Prelude.{ℕ, ℤ, pos, ◌+◌, ◌*◌, max, min, Bool, List, [], ◌∷◌, length, if◌then◌else◌}
 use Rattle.std.specs.List.{list_all}
 use Rattle.std.specs.Ordering.{int_eq}
-use Rattle.cf_tree.specs.ExprTree.{ExprTree, expr_lit, expr_truth, expr_var, expr_set_of, expr_tuple, expr_neg, expr_not, expr_abs, expr_binary, expr_divides, expr_div, expr_mod, expr_card, expr_if, expr_call, expr_let, expr_choose, expr_match, ExprTrees, no_exprs, expr_more, MatchArmTree, match_arm, MatchArmTrees, no_match_arms, match_arm_more}
+use Rattle.cf_tree.specs.ExprTree.{ExprTree, expr_lit, expr_truth, expr_var, expr_set_of, expr_tuple, expr_neg, expr_not, expr_abs, expr_binary, expr_chain, expr_min, expr_max, expr_divides, expr_div, expr_mod, expr_card, expr_if, expr_call, expr_let, expr_choose, expr_choose_where, expr_match, ExprTrees, no_exprs, expr_more, MatchArmTree, match_arm, MatchArmTrees, no_match_arms, match_arm_more}
 use Rattle.cf_tree.specs.RelSize.{rel_size, rel_depth}
 
 abbrev pub are_zero : List ℤ → Bool
@@ -74,6 +74,9 @@ abbrev mutual
   weight_of calls (expr_not a) = 1 + weight_of calls a
   weight_of calls (expr_abs a) = 1 + weight_of calls a
   weight_of calls (expr_binary op a b) = 1 + weight_of calls a + weight_of calls b
+  weight_of calls (expr_chain orders es) = 0
+  weight_of calls (expr_min es) = 0
+  weight_of calls (expr_max es) = 0
   weight_of calls (expr_divides k a) = 1 + weight_of calls a
   weight_of calls (expr_div a k) = 1 + weight_of calls a
   weight_of calls (expr_mod a k) = 1 + weight_of calls a
@@ -82,6 +85,7 @@ abbrev mutual
   weight_of calls (expr_call f es) = 1 + weight_of_all calls es + calls f
   weight_of calls (expr_let n a b) = 1 + weight_of calls a + weight_of calls b
   weight_of calls (expr_choose n scope outputs rel) = 1 + rel_size rel
+  weight_of calls (expr_choose_where n scope outputs hidden given rel aim) = 0
   weight_of calls (expr_match n scope a arms) = 6 + weight_of calls a + any_weight arms + picks_weight arms + weight_of_arms calls arms
 
   pub weight_of_all : (ℕ → ℕ) → ExprTrees → ℕ
@@ -106,6 +110,9 @@ abbrev mutual
   depth_of calls (expr_not a) = 1 + depth_of calls a
   depth_of calls (expr_abs a) = 1 + depth_of calls a
   depth_of calls (expr_binary op a b) = 1 + max (depth_of calls a) (depth_of calls b)
+  depth_of calls (expr_chain orders es) = 0
+  depth_of calls (expr_min es) = 0
+  depth_of calls (expr_max es) = 0
   depth_of calls (expr_divides k a) = 1 + depth_of calls a
   depth_of calls (expr_div a k) = 1 + depth_of calls a
   depth_of calls (expr_mod a k) = 1 + depth_of calls a
@@ -114,6 +121,7 @@ abbrev mutual
   depth_of calls (expr_call f es) = 1 + max (depth_of_all calls es) (calls f)
   depth_of calls (expr_let n a b) = 1 + max (depth_of calls a) (depth_of calls b)
   depth_of calls (expr_choose n scope outputs rel) = 1 + rel_depth rel
+  depth_of calls (expr_choose_where n scope outputs hidden given rel aim) = 0
   depth_of calls (expr_match n scope a arms) =
       1 + max (1 + max (depth_of calls a) (1 + max (any_depth arms) 2)) (max (picks_depth 0 arms) (depth_of_arms calls 0 (last_level arms) arms))
 

@@ -1,14 +1,19 @@
 -- What an expression stands for over what its parts stand for.
-use Rattle.std.specs.Prelude.{Result}
+use Rattle.std.specs.Prelude.{ℤ, List, ◌++◌, map, Option, Result, Ok}
 use Rattle.cf_tree.specs.declared.base.Base.{Base}
 use Rattle.cf_tree.specs.declared.base.Base.TheVariants.{Int, Bool as Truth, Set}
 use Rattle.cf_tree.specs.declared.base.Place.{Place}
-use Rattle.cf_tree.specs.ExprTree.{ExprTree, expr_neg, expr_not, expr_abs, expr_divides, expr_div, expr_mod, expr_card}
-use Rattle.cf_tree.specs.RawTree.{RawTree, raw_set_of, raw_neg, raw_not, raw_abs, raw_divides, raw_div, raw_mod, raw_card, raw_call}
+use Rattle.cf_tree.specs.declared.base.Sense.{Sense}
+use Rattle.cf_tree.specs.declared.base.Sense.TheVariants.{Least, Greatest}
+use Rattle.cf_tree.specs.ExprTree.{ExprTree, ExprTrees, expr_neg, expr_not, expr_abs, expr_divides, expr_div, expr_mod, expr_card, expr_min, expr_max}
+use Rattle.cf_tree.specs.declared.raw.Param.{Param}
+use Rattle.cf_tree.specs.RawTree.{RawTree, raw_set_of, raw_min, raw_max, raw_neg, raw_not, raw_abs, raw_divides, raw_div, raw_mod, raw_card, raw_call, RawArmTree, raw_arm}
 use Rattle.cf_tree.specs.RelTree.{term_card, term_neg, term_div, term_mod, term_abs, rel_divides, rel_not}
 use Rattle.cf_program.specs.declared.fault.TypeFault.{TypeFault}
 use Rattle.cf_program.specs.Reading.{Reading, relation, term, on_relation, on_term, on_set, first_nonlinear, not_linear_at}
-use Rattle.cf_program.specs.Walk.{Context, Form, Forms, unary_form, set_form, tuple_form, call_form}
+use Rattle.cf_program.specs.Then.{◌>>=◌}
+use Rattle.cf_program.specs.Names.{repeated}
+use Rattle.cf_program.specs.Walk.{where_none_repeated, where_no_fault, Context, Form, Forms, Arms, Pattern, unary_form, set_form, extreme_form, tuple_form, call_form, taken, constant_fault, sum_with, variables_of, after_arm, with_arm, pattern_in, walk}
 
 -- the base that a form over one part asks of it
 abbrev pub asked : RawTree → Base
@@ -27,9 +32,6 @@ abbrev pub tree_over : RawTree → ExprTree → ExprTree
 tree_over (raw_neg p a) = expr_neg
 tree_over (raw_not p a) = expr_not
 tree_over (raw_abs p a) = expr_abs
-tree_over (raw_divides p k a) = expr_divides k
-tree_over (raw_div p a k) = λ e. expr_div e k
-tree_over (raw_mod p a k) = λ e. expr_mod e k
 tree_over (raw_card p a) = expr_card
 tree_over _ = λ e. e
 
@@ -38,9 +40,6 @@ abbrev pub reading_over : RawTree → Place → Reading → Reading
 reading_over (raw_neg p a) = on_term (λ t. term (term_neg t))
 reading_over (raw_not p a) = on_relation (λ r. relation (rel_not r))
 reading_over (raw_abs p a) = on_term (λ t. term (term_abs t))
-reading_over (raw_divides p k a) = on_term (λ t. relation (rel_divides k t))
-reading_over (raw_div p a k) = on_term (λ t. term (term_div t k))
-reading_over (raw_mod p a k) = on_term (λ t. term (term_mod t k))
 reading_over (raw_card p a) = on_set (λ s. term (term_card s))
 reading_over _ = λ p r. not_linear_at (first_nonlinear r) p
 
@@ -48,8 +47,51 @@ reading_over _ = λ p r. not_linear_at (first_nonlinear r) p
 abbrev pub over_one : Place → RawTree → Form → Result Form TypeFault
 over_one p raw = unary_form p (asked raw) (given raw) (tree_over raw) (reading_over raw)
 
--- a form at p with parts in a row: a set, a call, or else a tuple
+-- the tree of a form over one part and a number; any other form is its part
+abbrev pub tree_with : RawTree → ℤ → ExprTree → ExprTree
+tree_with (raw_divides p j a) k = expr_divides k
+tree_with (raw_div p a j) k = λ e. expr_div e k
+tree_with (raw_mod p a j) k = λ e. expr_mod e k
+tree_with _ k = λ e. e
+
+-- the reading of a form over one part and a number; any other form is not linear
+abbrev pub reading_with : RawTree → ℤ → Place → Reading → Reading
+reading_with (raw_divides p j a) k = on_term (λ t. relation (rel_divides k t))
+reading_with (raw_div p a j) k = on_term (λ t. term (term_div t k))
+reading_with (raw_mod p a j) k = on_term (λ t. term (term_mod t k))
+reading_with _ k = λ p r. not_linear_at (first_nonlinear r) p
+
+-- a form at p over one part and a number
+abbrev pub over_number : Place → RawTree → ℤ → Form → Result Form TypeFault
+over_number p raw k = unary_form p Int (given raw) (tree_with raw k) (reading_with raw k)
+
+-- the tree of the least or the greatest of several
+abbrev pub extreme_of : Sense → ExprTrees → ExprTree
+extreme_of Least = expr_min
+extreme_of Greatest = expr_max
+
+-- a form at p with parts in a row: a set, the least or the greatest, a call, or else a tuple
 abbrev pub over_row : Context → Place → RawTree → Forms → Result Form TypeFault
 over_row context p (raw_set_of q es) fs = set_form p fs
+over_row context p (raw_min q es) fs = extreme_form p (extreme_of Least) fs
+over_row context p (raw_max q es) fs = extreme_form p (extreme_of Greatest) fs
 over_row context p (raw_call q x es) fs = call_form p (context.calls x) fs
 over_row context p _ fs = tuple_form p fs
+
+-- a pattern with this constant
+abbrev pub summed_to : Pattern → ℤ → Pattern
+summed_to m k = record { summands = m.summands; constants = m.constants; constant = k }
+
+-- a pattern whose first token is at `start`, where its names differ, and its constants make one with k within the limit
+abbrev pub summed : Context → Option Place → ℤ → Pattern → Result Pattern TypeFault
+summed context start k m =
+    where_none_repeated (repeated (taken context) (map (λ x. x.name) m.summands) (map (λ x. x.place) m.summands)) (
+    where_no_fault (constant_fault start m.constants k) (
+    Ok (summed_to m (sum_with k m.constants))))
+
+-- an arm behind those before
+abbrev pub walk_arm : Context → List Param → Arms → RawArmTree → Result Arms TypeFault
+walk_arm context scope before (raw_arm parts k body) =
+    pattern_in context scope parts k >>= λ m.
+    walk context (scope ++ variables_of m.summands) (after_arm before.next m.summands) body >>= λ f.
+    Ok (with_arm before m f)

@@ -3,3 +3,6 @@ pub mod FormParts
 pub mod FormView
 pub mod Numbers
 pub mod Scoped
+pub mod Valued
+pub mod Walked
+pub mod WalkedView

@@ -1,12 +1,13 @@
 //! Tests on the bases of expressions.
 ghost use Rattle.std.specs.Prelude.{◌≡◌, IfOk, map};
 ghost use Rattle.cf_tree.specs.Params.{bases_of};
-ghost use Rattle.cf_program.specs.Walk.{is_one as is_one_of, all_are as all_are_of, all_are_single as all_are_single_of, are_asked as are_asked_of, all_have as all_have_of, all_same as all_same_of, joined as joined_of, first_of, side_of as side_base, sides_fit as sides_fit_of, result_of as result_base, is_output as is_output_of};
+ghost use Rattle.cf_program.specs.Walk.{is_one as is_one_of, all_are as all_are_of, all_are_single as all_are_single_of, are_asked as are_asked_of, all_have as all_have_of, all_same as all_same_of, odd_link as odd_link_of, joined as joined_of, first_of, side_of as side_base, sides_fit as sides_fit_of, result_of as result_base, may_be_output as may_be_output_of};
 ghost use Rattle.cf_tree.specs.RawView.{raw_tree};
 ghost use Rattle.cf_tree.specs.Typing.{one as one_of};
 ghost use Rattle.cf_type.specs.FormParts.{asked as asked_of, given as given_of};
 
-use cf_tree::{Base, BinOp, NoMemory, Order, Param, Raw, RawNode, same_bases};
+use cf_program::TypeFault;
+use cf_tree::{Base, BinOp, Edition, NoMemory, Order, Param, Place, Raw, RawNode, same_bases};
 use std::alloc::Global;
 
 /// The one base.
@@ -92,6 +93,30 @@ pub fn all_same(lists: &[Vec<Base>]) -> bool
     }
 }
 
+/// What is wrong with the sides of the orders of a chain: each has to be a number.
+pub fn odd_link(lists: &[Vec<Base>], places: &[Place]) -> Option<TypeFault>
+    ensures { result ≡ odd_link_of (map (λ bs. bs.items) lists.now) places.now }
+{
+    let mut rest = lists;
+    let mut later = places;
+    while let Some((left, more)) = rest.split_first() {
+        match more.split_first() {
+            None => return None,
+            Some((right, _)) => match later.split_first() {
+                None => return None,
+                Some((place, others)) => {
+                    if !is_one(Base::Int, left) || !is_one(Base::Int, right) {
+                        return Some(TypeFault::Mismatch(*place));
+                    }
+                    rest = more;
+                    later = others;
+                }
+            },
+        }
+    }
+    None
+}
+
 /// The bases of all, in a row.
 pub fn joined(alloc: Global, lists: &[Vec<Base>]) -> Result<Vec<Base>, NoMemory>
     ensures { IfOk result (λ bs. bs.items ≡ joined_of (map (λ bs. bs.items) lists.now)) }
@@ -140,7 +165,7 @@ fn side(op: BinOp) -> Option<Base>
 {
     match op {
         BinOp::Add | BinOp::Sub | BinOp::Mul => Some(Base::Int),
-        BinOp::And | BinOp::Or => Some(Base::Bool),
+        BinOp::And | BinOp::Or | BinOp::Implies => Some(Base::Bool),
         BinOp::Union | BinOp::Inter | BinOp::Diff | BinOp::Subset => Some(Base::Set),
         BinOp::Compare(order) => match order {
             Order::Eq | Order::Ne => None,
@@ -165,19 +190,22 @@ pub fn result_of(op: BinOp) -> Base
 {
     match op {
         BinOp::Add | BinOp::Sub | BinOp::Mul => Base::Int,
-        BinOp::And | BinOp::Or | BinOp::Subset => Base::Bool,
+        BinOp::And | BinOp::Or | BinOp::Subset | BinOp::Implies => Base::Bool,
         BinOp::Union | BinOp::Inter | BinOp::Diff => Base::Set,
         BinOp::Compare(_) => Base::Bool,
     }
 }
 
-/// Whether an output may have this base.
-pub fn is_output(base: Base) -> bool
-    ensures { result ≡ is_output_of base }
+/// Whether an output of this edition may have this base.
+pub fn may_be_output(edition: Edition, base: Base) -> bool
+    ensures { result ≡ may_be_output_of edition base }
 {
-    match base {
-        Base::Int => true,
-        Base::Bool => false,
-        Base::Set => true,
+    match edition {
+        Edition::Two => match base {
+            Base::Int => true,
+            Base::Bool => false,
+            Base::Set => true,
+        },
+        Edition::Three => true,
     }
 }

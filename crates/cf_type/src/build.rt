@@ -6,24 +6,26 @@ ghost use Rattle.cf_tree.specs.DefView.{raw_def_tree};
 ghost use Rattle.cf_tree.specs.ExprTree.{exprs_of, match_arm, match_arms_of, expr_call, expr_choose, expr_match, expr_lit, expr_truth};
 ghost use Rattle.cf_tree.specs.RelTree.{term_lit};
 ghost use Rattle.cf_tree.specs.declared.base.Base.TheVariants.{Int as int, Bool as truth_base};
-ghost use Rattle.cf_tree.specs.RawView.{raw_tree, raw_arm_tree};
-ghost use Rattle.cf_type.specs.FormParts.{over_one as over_one_of, over_row as over_row_of, tree_over as tree_over_of};
-ghost use Rattle.cf_type.specs.FormView.{form_of, forms_of, arms_of, reading_of, callee_seen, context_of};
+ghost use Rattle.cf_tree.specs.RawView.{raw_tree, number_tree};
+ghost use Rattle.cf_type.specs.FormParts.{over_one as over_one_of, over_number as over_number_of, over_row as over_row_of, tree_over as tree_over_of, tree_with as tree_with_of, extreme_of};
+ghost use Rattle.cf_type.specs.FormView.{form_of, forms_of, arms_of, pattern_of, summand_of, reading_of, callee_seen, context_of};
 ghost use Rattle.cf_program.specs.CheckAnswers.{CheckAnswer};
+ghost use Rattle.cf_program.specs.Then.{◌>>=◌ as chained};
 ghost use Rattle.cf_tree.specs.Params.{bases_of};
 ghost use Rattle.cf_program.specs.Reading.{term as a_term, truth_reading, not_linear_at as not_linear_at_of};
-ghost use Rattle.cf_program.specs.Walk.{where_no_fault, is_one, form as form_is, no_forms as no_forms_of, with_form as with_form_of, no_arms as no_arms_of, variable_form, binary_form, set_reading as set_reading_of, set_form, tuple_form, call_form, if_form, let_form, choose_form, choose_part, match_form, linear as linear_of, arm_number, after_arm, with_walked};
+ghost use Rattle.cf_program.specs.Walk.{where_no_fault, is_one, form as form_is, no_forms as no_forms_of, with_form as with_form_of, no_arms as no_arms_of, name_form, binary_form, set_reading as set_reading_of, set_form, extreme_form, chain_form, tuple_form, call_form, if_form, let_form, choose_form, choose_part, match_form, linear as linear_of, arm_number, after_arm, with_arm, divisor_in};
 ghost use Rattle.cf_tree.specs.Typing.{one as one_base};
 
-use crate::callees::Context;
-use crate::form::{Arms, Form, Forms, Reading};
+use crate::context::Context;
+use crate::form::{Arms, Form, Forms, Pattern, Reading, Summand};
 use crate::memory::{in_box, push};
+use crate::number::divisor;
 use crate::reading::Operation;
 use crate::scope::Scope;
 use crate::{bases, reading};
 use cf_program::{TypeFault, Variable};
 use cf_tree::{
-    Base, BinOp, Expr, MatchArm, NoMemory, Param, Part, Place, Raw, RawArm, RawDef, RawNode, Rel,
+    Base, BinOp, Expr, MatchArm, NoMemory, Number, Order, Param, Place, Raw, RawDef, RawNode, Rel, Sense,
     SetTerm, Term, Text, add_u32, same_bases, to_u32, without,
 };
 use std::alloc::Global;
@@ -88,21 +90,25 @@ pub fn truth(alloc: Global, t: bool, next: u32) -> Result<Form, TypeFault>
     made(alloc, Base::Bool, Expr::Truth(t), reading, next)
 }
 
-/// The variable that a name stands for.
-pub fn variable(
+/// What a name stands for, by the variable and the constant of that name.
+pub fn named(
     alloc: Global,
     place: Place,
     next: u32,
-    found: Option<Variable>,
+    variable: Option<Variable>,
+    constant: Option<i128>,
 ) -> Result<Form, TypeFault>
-    ensures { CheckAnswer form_of result (variable_form place next found) }
+    ensures { CheckAnswer form_of result (name_form place next variable constant) }
 {
-    match found {
-        None => Err(TypeFault::UnknownName(place)),
+    match variable {
         Some(v) => {
             let reading = reading::of_variable(alloc, place, v)?;
             made(alloc, v.base, Expr::Var(v.level), reading, next)
         }
+        None => match constant {
+            Some(k) => literal(alloc, k, next),
+            None => Err(TypeFault::UnknownName(place)),
+        },
     }
 }
 
@@ -138,6 +144,79 @@ pub fn set(alloc: Global, place: Place, parts: Forms) -> Result<Form, TypeFault>
     drop(bases);
     let reading = set_reading(alloc, place, first_nonlinear, &trees)?;
     made(alloc, Base::Set, Expr::SetOf(trees), reading, next)
+}
+
+// The tree of the least or the greatest of these parts.
+fn extreme_tree(sense: Sense, parts: Vec<Expr>) -> Expr
+    ensures { expr_tree result ≡ extreme_of sense (exprs_of (map expr_tree parts.items)) }
+{
+    match sense {
+        Sense::Least => Expr::Min(parts),
+        Sense::Greatest => Expr::Max(parts),
+    }
+}
+
+/// The least or the greatest of these parts.
+pub fn extreme(
+    alloc: Global,
+    sense: Sense,
+    place: Place,
+    parts: Forms,
+) -> Result<Form, TypeFault>
+    ensures { CheckAnswer form_of result (extreme_form place (extreme_of sense) (forms_of parts)) }
+{
+    if !bases::all_are(Base::Int, &parts.bases) {
+        drop(parts);
+        return Err(TypeFault::Mismatch(place));
+    }
+    let Forms {
+        bases,
+        trees,
+        first_nonlinear,
+        next,
+    } = parts;
+    drop(bases);
+    let reading = reading::not_linear_at(first_nonlinear, place);
+    made(
+        alloc,
+        Base::Int,
+        extreme_tree(sense, trees),
+        reading,
+        next,
+    )
+}
+
+/// The chain of these parts, with these orders between them, each at its place.
+pub fn chain(
+    alloc: Global,
+    place: Place,
+    orders: &[Order],
+    places: &[Place],
+    parts: Forms,
+) -> Result<Form, TypeFault>
+    ensures { CheckAnswer form_of result (chain_form place orders.now places.now (forms_of parts)) }
+{
+    if let Some(fault) = bases::odd_link(&parts.bases, places) {
+        return Err(without(parts, fault));
+    }
+    let Forms {
+        bases,
+        trees,
+        first_nonlinear,
+        next,
+    } = parts;
+    drop(bases);
+    match Vec::from_slice(alloc, orders) {
+        Ok(orders) => {
+            let reading = reading::not_linear_at(first_nonlinear, place);
+            let tree = Expr::Chain {
+                orders,
+                parts: trees,
+            };
+            made(alloc, Base::Bool, tree, reading, next)
+        }
+        Err(_) => Err(without(trees, TypeFault::NoMemory)),
+    }
 }
 
 /// The tuple of these parts.
@@ -207,9 +286,18 @@ fn tree_over(raw: &Raw, part: Box<Expr>) -> Expr
         RawNode::Not(_) => Expr::Not(part),
         RawNode::Abs(_) => Expr::Abs(part),
         RawNode::Card(_) => Expr::Card(part),
-        RawNode::Divides { k, .. } => Expr::Divides { k: *k, of: part },
-        RawNode::Div { k, .. } => Expr::Div { of: part, k: *k },
-        RawNode::Mod { k, .. } => Expr::Mod { of: part, k: *k },
+        _ => Box::into_inner(part),
+    }
+}
+
+// The tree of the form over this one part and a number; any other form is its part.
+fn tree_with(raw: &Raw, k: i128, part: Box<Expr>) -> Expr
+    ensures { expr_tree result ≡ tree_with_of (raw_tree raw.now) k (expr_tree part.value) }
+{
+    match &raw.node {
+        RawNode::Divides { .. } => Expr::Divides { k, of: part },
+        RawNode::Div { .. } => Expr::Div { of: part, k },
+        RawNode::Mod { .. } => Expr::Mod { of: part, k },
         _ => Box::into_inner(part),
     }
 }
@@ -233,12 +321,50 @@ pub fn over_one(alloc: Global, raw: &Raw, part: Form) -> Result<Form, TypeFault>
     )
 }
 
-/// The form with these parts in a row: a set, a call or a tuple.
+/// The form over this one part and a number.
+pub fn over_number(alloc: Global, raw: &Raw, k: i128, part: Form) -> Result<Form, TypeFault>
+    ensures { CheckAnswer form_of result (over_number_of raw.now.place (raw_tree raw.now) k (form_of part)) }
+{
+    let Operand {
+        tree,
+        reading,
+        next,
+    } = operand_at(raw.place, Base::Int, part)?;
+    let reading = reading::over_number(alloc, raw, k, reading)?;
+    made(
+        alloc,
+        bases::given(raw),
+        tree_with(raw, k, tree),
+        reading,
+        next,
+    )
+}
+
+/// The form over this one part and the number behind it.
+pub fn with_number(
+    context: &Context,
+    scope: &Scope,
+    raw: &Raw,
+    number: &Number,
+    part: Form,
+) -> Result<Form, TypeFault>
+    ensures { CheckAnswer form_of result (chained (divisor_in (context_of context.now) scope.now (number_tree number.now)) (λ k.
+        over_number_of raw.now.place (raw_tree raw.now) k (form_of part))) }
+{
+    match divisor(context, scope, number) {
+        Ok(k) => over_number(context.alloc, raw, k, part),
+        Err(fault) => Err(without(part, fault)),
+    }
+}
+
+/// The form with these parts in a row: a set, the least or the greatest, a call or a tuple.
 pub fn over_row(context: &Context, raw: &Raw, parts: Forms) -> Result<Form, TypeFault>
     ensures { CheckAnswer form_of result (over_row_of (context_of context.now) raw.now.place (raw_tree raw.now) (forms_of parts)) }
 {
     match &raw.node {
         RawNode::SetOf(_) => set(context.alloc, raw.place, parts),
+        RawNode::Min(_) => extreme(context.alloc, Sense::Least, raw.place, parts),
+        RawNode::Max(_) => extreme(context.alloc, Sense::Greatest, raw.place, parts),
         RawNode::Call { name, .. } => call(context, raw.place, name, parts),
         _ => tuple(context.alloc, raw.place, parts),
     }
@@ -560,52 +686,58 @@ pub fn no_arms(alloc: Global, next: u32) -> Arms
 }
 
 // The number of an arm: the next one where it has variables, and else 0.
-fn number_of(next: u32, parts: &[Part]) -> u32
-    ensures { result ≡ arm_number next parts.now }
+fn number_of(next: u32, summands: &[Summand]) -> u32
+    ensures { result ≡ arm_number next (map summand_of summands.now) }
 {
-    if parts.is_empty() { 0 } else { next }
+    if summands.is_empty() { 0 } else { next }
 }
 
 /// The number after that of an arm.
-pub fn after_arm_number(next: u32, parts: &[Part]) -> Result<u32, NoMemory>
-    ensures { IfOk result (λ n. n ≡ after_arm next parts.now) }
+pub fn after_arm_number(next: u32, summands: &[Summand]) -> Result<u32, NoMemory>
+    ensures { IfOk result (λ n. n ≡ after_arm next (map summand_of summands.now)) }
 {
-    if parts.is_empty() {
+    if summands.is_empty() {
         Ok(next)
     } else {
         add_u32(next, 1)
     }
 }
 
-// Adds the factor of a part of a pattern.
-fn push_factor(factors: &mut Vec<i128>, part: &Part) -> Result<(), NoMemory>
-    ensures { OnOk result (factors.new.items ≡ factors.old.items ++ part.now.factor ∷ []) }
+// Adds the factor of a variable of a pattern.
+fn push_factor(factors: &mut Vec<i128>, summand: &Summand) -> Result<(), NoMemory>
+    ensures { OnOk result (factors.new.items ≡ factors.old.items ++ summand.now.factor ∷ []) }
 {
-    factors.push(part.factor)?;
+    factors.push(summand.factor)?;
     Ok(())
 }
 
 // The factors of a pattern.
-fn factors_of(alloc: Global, parts: &[Part]) -> Result<Vec<i128>, NoMemory>
-    ensures { IfOk result (λ fs. fs.items ≡ map (λ x. x.factor) parts.now) }
+fn factors_of(alloc: Global, summands: &[Summand]) -> Result<Vec<i128>, NoMemory>
+    ensures { IfOk result (λ fs. fs.items ≡ map (λ x. x.factor) (map summand_of summands.now)) }
 {
     let mut all = Vec::new(alloc);
-    for part in parts {
-        push_factor(&mut all, part)?;
+    for summand in summands {
+        push_factor(&mut all, summand)?;
     }
     Ok(all)
 }
 
-// The arm with this body, where `next` is the next number.
-fn arm_of(alloc: Global, next: u32, arm: &RawArm, body: Box<Expr>) -> Result<MatchArm, NoMemory>
+// The arm with this pattern and this body, where `next` is the next number.
+fn arm_of(
+    alloc: Global,
+    next: u32,
+    pattern: &Pattern,
+    body: Box<Expr>,
+) -> Result<MatchArm, NoMemory>
     ensures { IfOk result (λ a. match_arm_tree a ≡
-        match_arm (arm_number next arm.now.parts.items) (map (λ x. x.factor) arm.now.parts.items) arm.now.constant (expr_tree body.value)) }
+        match_arm (arm_number next (pattern_of pattern.now).summands) (map (λ x. x.factor) (pattern_of pattern.now).summands) pattern.now.constant
+        (expr_tree body.value)) }
 {
-    match factors_of(alloc, &arm.parts) {
+    match factors_of(alloc, &pattern.summands) {
         Ok(factors) => Ok(MatchArm {
-            number: number_of(next, &arm.parts),
+            number: number_of(next, &pattern.summands),
             factors,
-            constant: arm.constant,
+            constant: pattern.constant,
             body: Box::into_inner(body),
         }),
         Err(fault) => Err(without(body, fault)),
@@ -613,8 +745,13 @@ fn arm_of(alloc: Global, next: u32, arm: &RawArm, body: Box<Expr>) -> Result<Mat
 }
 
 /// Adds an arm with its body.
-pub fn add_arm(alloc: Global, arms: &mut Arms, arm: &RawArm, body: Form) -> Result<(), NoMemory>
-    ensures { OnOk result (arms_of arms.new ≡ with_walked (arms_of arms.old) (raw_arm_tree arm.now) (form_of body)) }
+pub fn add_arm(
+    alloc: Global,
+    arms: &mut Arms,
+    pattern: &Pattern,
+    body: Form,
+) -> Result<(), NoMemory>
+    ensures { OnOk result (arms_of arms.new ≡ with_arm (arms_of arms.old) (pattern_of pattern.now) (form_of body)) }
 {
     let Form {
         bases,
@@ -625,7 +762,7 @@ pub fn add_arm(alloc: Global, arms: &mut Arms, arm: &RawArm, body: Form) -> Resu
     let first = reading::first_nonlinear(&reading);
     drop(reading);
     arms.bases.push(bases)?;
-    let arm = arm_of(alloc, arms.next, arm, tree)?;
+    let arm = arm_of(alloc, arms.next, pattern, tree)?;
     push(&mut arms.trees, arm)?;
     arms.first_nonlinear = reading::earlier_nonlinear(arms.first_nonlinear, first);
     arms.next = next;

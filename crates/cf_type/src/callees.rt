@@ -1,13 +1,11 @@
 //! The functions of a program, by name.
-ghost use Rattle.std.specs.Prelude.{◌≡◌, ◌==◌, map, take, IfOk, OnOk};
+ghost use Rattle.std.specs.Prelude.{◌≡◌, map, take, IfOk, OnOk};
 ghost use Rattle.cf_tree.specs.DefView.{raw_def_tree};
-ghost use Rattle.cf_type.specs.FormView.{callee_seen, context_of};
+ghost use Rattle.cf_type.specs.FormView.{callee_seen};
 ghost use Rattle.cf_program.specs.CheckAnswers.{Shows};
 ghost use Rattle.cf_program.specs.Names.{callee_from, is_among};
-ghost use Rattle.cf_program.specs.Walk.{in_relation as in_relation_of};
 ghost use Rattle.cf_type.specs.Numbers.{shown, with_name, with_names, names_of_defs};
 
-use cf_program::Linearity;
 use cf_tree::{NoMemory, RawDef, Text, to_u32, without};
 use indexmap::IndexMap;
 use std::alloc::Global;
@@ -17,12 +15,12 @@ use std::marker::Model;
 /// the functions.
 #[derive(Drop)]
 pub struct Callees<'a> {
-    defs: &'a [RawDef],
+    defs: &'a [&'a RawDef],
     numbers: IndexMap<Vec<u8>, u32>,
 }
 
 impl<'a> Model for Callees<'a> {
-    ghost use Rattle.std.specs.Prelude.{◌≡◌, List};
+    ghost use Rattle.std.specs.Prelude.{◌≡◌, List, map};
     ghost use Rattle.cf_tree.specs.declared.raw.RawDef.{RawDef};
 
     ghost Value = { List RawDef };
@@ -34,57 +32,9 @@ impl<'a> Model for Callees<'a> {
 
     ghost use Rattle.cf_type.specs.Numbers.{shown, numbers_of};
 
-    ghost view = { λ c. c.defs.now };
+    ghost view = { λ c. map (λ d. d.now) c.defs.now };
 
-    ghost invariant = { λ c. shown c.numbers.entries ≡ numbers_of c.defs.now };
-}
-
-/// Where an expression stands: the number of the function, the functions that it may name, which
-/// relations are linear, and how many of the outermost variables count as known.
-#[derive(Drop)]
-pub struct Context<'a> {
-    pub alloc: Global,
-    pub callees: &'a Callees<'a>,
-    pub number: u32,
-    pub how: Linearity,
-    pub known: usize,
-}
-
-impl<'a> Context<'a> {
-    /// In the body of that function.
-    pub fn new(alloc: Global, callees: &'a Callees<'a>, number: u32, how: Linearity) -> Context<'a>
-        ensures { (result.callees.now ≡ callees.entry.now) × (result.number ≡ number) × (result.how ≡ how) × (result.known ≡ 0) }
-    {
-        Context {
-            alloc,
-            callees,
-            number,
-            how,
-            known: 0,
-        }
-    }
-
-    /// Whether as many variables count as known for both.
-    #[tactic(auto, unfolding(crate::specs::FormView::context_of))]
-    pub fn knows_as_many(&self, other: &Context) -> bool
-        ensures { result ≡ ((context_of self.now).known == (context_of other.now).known) }
-    {
-        self.known == other.known
-    }
-
-    /// In the relation of a `choose` behind so many variables.
-    #[tactic(auto, unfolding(crate::specs::FormView::context_of))]
-    pub fn in_relation(&self, scope: usize) -> Context<'a>
-        ensures { context_of result ≡ in_relation_of (context_of self.now) scope }
-    {
-        Context {
-            alloc: self.alloc,
-            callees: self.callees,
-            number: self.number,
-            how: self.how,
-            known: self.how.known_in(scope),
-        }
-    }
+    ghost invariant = { λ c. shown c.numbers.entries ≡ numbers_of (map (λ d. d.now) c.defs.now) };
 }
 
 // Gives a new name its number.
@@ -109,9 +59,9 @@ fn add(
 fn add_all(
     alloc: Global,
     numbers: &mut IndexMap<Vec<u8>, u32>,
-    defs: &[RawDef],
+    defs: &[&RawDef],
 ) -> Result<(), NoMemory>
-    ensures { OnOk result (shown numbers.new.entries ≡ with_names (shown numbers.old.entries) 0 (names_of_defs defs.now)) }
+    ensures { OnOk result (shown numbers.new.entries ≡ with_names (shown numbers.old.entries) 0 (names_of_defs (map (λ d. d.now) defs.now))) }
 {
     for i in 0..defs.len() {
         add(alloc, numbers, &defs[i].name, i)?;
@@ -121,8 +71,8 @@ fn add_all(
 
 impl<'a> Callees<'a> {
     /// These functions.
-    pub fn new(alloc: Global, defs: &'a [RawDef]) -> Result<Callees<'a>, NoMemory>
-        ensures { IfOk result (λ c. c ≡ defs.now) }
+    pub fn new(alloc: Global, defs: &'a [&'a RawDef]) -> Result<Callees<'a>, NoMemory>
+        ensures { IfOk result (λ c. c ≡ map (λ d. d.now) defs.now) }
     {
         let mut numbers = IndexMap::new(alloc);
         match add_all(alloc, &mut numbers, defs) {
@@ -139,11 +89,12 @@ impl<'a> Callees<'a> {
             None => None,
             Some(found) => {
                 let number = *found;
-                let def = &self.defs[number as usize];
+                let def = self.defs[number as usize];
                 Some((number, def, number < caller))
             }
         }
     }
+
     /// Whether one of the first functions, as many as `count`, has this name.
     pub fn is_named_before(&self, count: usize, name: &Text) -> bool
         ensures { result ≡ is_among (map (λ e. e.name) (map raw_def_tree (take count self.now))) name.now }

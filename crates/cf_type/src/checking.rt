@@ -1,44 +1,57 @@
 //! The rules over a program.
-ghost use Rattle.std.specs.Prelude.{◌≡◌, ◌<◌, ℕ, [], length, map, take, codes, Ok, IfOk, OnOk};
+ghost use Rattle.std.specs.Prelude.{◌≡◌, ◌≤◌, ℕ, [], length, map, take, codes, Ok, IfOk, OnOk};
 ghost use Rattle.std.specs.Str.{bytes_eq};
-ghost use Rattle.cf_tree.specs.DefView.{program_tree, raw_def_tree, def_tree, DefTree};
+ghost use Rattle.cf_tree.specs.DefView.{program_tree, raw_def_tree, raw_item_tree, item_def, def_tree, DefTree};
+ghost use Rattle.cf_tree.specs.declared.base.Edition.TheVariants.{Two, Three};
 ghost use Rattle.cf_tree.specs.RawTree.{place_of};
 ghost use Rattle.cf_tree.specs.RawView.{raw_tree};
-ghost use Rattle.cf_program.specs.Checked.{checked, checked_by, walk_def as walk_def_of, walk_defs as walk_defs_of, main_from, sized, TypedTree, def_form};
-ghost use Rattle.cf_program.specs.declared.fault.TypeFault.TheVariants.{Mismatch};
+ghost use Rattle.cf_program.specs.Checked.{checked, functions_of, walk_def as walk_def_of, walk_items as walk_items_of, main_from, with_main, size_fault as size_fault_of, def_form};
+ghost use Rattle.cf_program.specs.declared.fault.TypeFault.TheVariants.{Mismatch, Weight, Depth};
+ghost use Rattle.cf_program.specs.declared.linearity.Linearity.TheVariants.{Plain, Late as late};
 ghost use Rattle.cf_type.specs.FormView.{form_of};
+ghost use Rattle.cf_type.specs.Valued.{constants_of};
+ghost use Rattle.cf_type.specs.Walked.{functions_in, first_fault, walk_item as walk_item_of};
+ghost use Rattle.cf_type.specs.WalkedView.{walked_of};
 ghost use Rattle.cf_program.specs.DistinctNames.{IsDistinctlyNamed};
 ghost use Rattle.cf_program.specs.CheckAnswers.{CheckAnswer};
+ghost use Rattle.cf_program.specs.Then.{◌>>=◌ as chained};
 ghost use Rattle.cf_tree.specs.Bases.{same_bases as same_bases_of};
 ghost use Rattle.cf_program.specs.LateLinear.{IsLinearBy};
+ghost use Rattle.cf_program.specs.Size.{weights, depths};
 ghost use Rattle.cf_program.specs.Source.{IsSpelledProgram};
 ghost use Rattle.cf_program.specs.Typed.{typed_tree};
 ghost use Rattle.cf_program.specs.TypedProgram.{IsProgramBy};
+ghost use Rattle.cf_program.specs.TypedSource.{IsSourceBy};
 ghost use Rattle.cf_program.specs.Walk.{where_kept};
 
 use crate::build::bare;
-use crate::callees::{Callees, Context};
+use crate::callees::Callees;
+use crate::constants::Constants;
+use crate::context::Context;
 use crate::form::Form;
-use crate::memory::push;
+use crate::memory::{not_built, push};
 use crate::names::repeated_param;
 use crate::scope::Scope;
 use crate::size;
 use crate::walk::walk;
-use cf_program::{Late, Linearity, TypeFault, Typed, TypedDefs};
-use cf_tree::{Def, NoMemory, Program, RawDef, Text, copy_params, same_bases, to_u32, without};
+use cf_program::{Late, LateSource, Linearity, Source, TypeFault, Typed, TypedDefs};
+use cf_tree::{
+    Def, Edition, NoMemory, Program, RawDef, RawItem, Text, copy_params, same_bases, to_u32,
+    without,
+};
 use std::alloc::Global;
 
-/// The program with its names turned into levels and its chooses numbered from 1 in the order of
-/// the text. The tree is one that the source grammar spells.
+/// The program of language 2 with its names turned into levels and its chooses numbered from 1 in
+/// the order of the text. The tree is one that its source grammar spells.
 ///
 /// # Errors
 /// The first rule that the program breaks in the order of its text, where parts come before the
 /// whole; then a missing `main`, then weights, then depths (docs/LANGUAGE.md). Want of memory also
 /// where functions, levels or chooses are more than a `u32` counts.
 pub fn check(alloc: Global, program: &Program) -> Result<Typed, TypeFault>
-    requires { IsSpelledProgram (program_tree program.now) }
-    ensures gives { CheckAnswer typed_tree result (checked (program_tree program.now)) }
-    ensures named { OnOk result (IsDistinctlyNamed (program_tree program.now)) }
+    requires { IsSpelledProgram Two (program_tree program.now) }
+    ensures gives { CheckAnswer typed_tree result (checked Two Plain (program_tree program.now)) }
+    ensures named { OnOk result (IsDistinctlyNamed (functions_of (program_tree program.now))) }
 {
     Ok(Typed::new(check_by(alloc, Linearity::Plain, program)?))
 }
@@ -49,45 +62,136 @@ pub fn check(alloc: Global, program: &Program) -> Result<Typed, TypeFault>
 /// # Errors
 /// As those of `check`. `NotLinear` comes where a form in a relation is not linear so.
 pub fn check_late(alloc: Global, program: &Program) -> Result<Late, TypeFault>
-    requires { IsSpelledProgram (program_tree program.now) }
-    ensures gives { CheckAnswer typed_tree result (checked_by Linearity.Late (program_tree program.now)) }
-    ensures named { OnOk result (IsDistinctlyNamed (program_tree program.now)) }
+    requires { IsSpelledProgram Two (program_tree program.now) }
+    ensures gives { CheckAnswer typed_tree result (checked Two late (program_tree program.now)) }
+    ensures named { OnOk result (IsDistinctlyNamed (functions_of (program_tree program.now))) }
 {
     Ok(Late::new(check_by(alloc, Linearity::Late, program)?))
 }
 
-// The program with levels, where relations are linear so.
-#[tactic(auto, using(crate::proofs::CheckLemmas::fails_is, crate::proofs::CheckLemmas::named_is, crate::proofs::WalkSteps::fails_then))]
-fn check_by(alloc: Global, how: Linearity, program: &Program) -> Result<TypedDefs, TypeFault>
-    requires { IsSpelledProgram (program_tree program.now) }
-    ensures gives { CheckAnswer typed_tree result (checked_by how (program_tree program.now)) }
-    ensures named { OnOk result (IsDistinctlyNamed (program_tree program.now)) }
-    ensures typed { IfOk result (λ t. IsProgramBy (IsLinearBy how) (map def_tree t.defs.items) t.main) }
+/// The program of edition 3 with its names turned into levels and its chooses numbered from 1 in the
+/// order of the text, before it has the forms of language 2. The tree is one that its grammar spells.
+///
+/// # Errors
+/// The first rule that the program breaks in the order of its text, where parts come before the
+/// whole; then a missing `main`. Want of memory as of `check`.
+pub fn check_source(alloc: Global, program: &Program) -> Result<Source, TypeFault>
+    requires { IsSpelledProgram Three (program_tree program.now) }
+    ensures { CheckAnswer typed_tree result (checked Three Plain (program_tree program.now)) }
 {
-    let defs = walk_defs(alloc, how, &program.defs)?;
-    match main_of(alloc, &program.defs, &defs) {
-        Ok(main) => Ok(TypedDefs { defs, main }),
-        Err(fault) => Err(without(defs, fault)),
+    Ok(Source::new(source_by(alloc, Linearity::Plain, program)?))
+}
+
+/// As `check_source`, for a program that is solved where the numbers in the scope of each `choose`
+/// are known: a product in its relation or objective may have a side of these numbers.
+///
+/// # Errors
+/// As those of `check_source`. `NotLinear` comes where a form in a relation is not linear so.
+pub fn check_late_source(alloc: Global, program: &Program) -> Result<LateSource, TypeFault>
+    requires { IsSpelledProgram Three (program_tree program.now) }
+    ensures { CheckAnswer typed_tree result (checked Three late (program_tree program.now)) }
+{
+    Ok(LateSource::new(source_by(alloc, Linearity::Late, program)?))
+}
+
+// The program of edition 3 with levels, where relations are linear so.
+#[tactic(auto, using(crate::proofs::CheckLemmas::source_fails, crate::proofs::CheckLemmas::source_goes_on, crate::proofs::CheckLemmas::source_is))]
+fn source_by(alloc: Global, how: Linearity, program: &Program) -> Result<TypedDefs, TypeFault>
+    requires { IsSpelledProgram Three (program_tree program.now) }
+    ensures gives { CheckAnswer typed_tree result (checked Three how (program_tree program.now)) }
+    ensures typed { IfOk result (λ t. IsSourceBy how (map def_tree t.defs.items) t.main) }
+{
+    match with_levels(alloc, Edition::Three, how, program) {
+        Ok(source) => Ok(source),
+        Err(fault) => Err(fault),
     }
 }
 
-// The number of `main` among the functions of these trees, where no tree is too large.
-#[tactic(auto, using(crate::proofs::CheckLemmas::fails_is))]
-fn main_of(alloc: Global, defs: &[RawDef], trees: &[Def]) -> Result<u32, TypeFault>
-    ensures { CheckAnswer {Y = TypedTree} (λ main. record { defs = map def_tree trees.now; main = main }) result
-        (sized (map def_tree trees.now) (main_from 0 (map raw_def_tree defs.now))) }
+// The program of language 2 with levels, where relations are linear so.
+#[tactic(auto, using(crate::proofs::CheckLemmas::fails_is, crate::proofs::CheckLemmas::named_is, crate::proofs::CheckLemmas::typed_is, crate::proofs::CheckLemmas::check_fails, crate::proofs::CheckLemmas::check_passes, crate::proofs::CheckLemmas::check_keeps))]
+fn check_by(alloc: Global, how: Linearity, program: &Program) -> Result<TypedDefs, TypeFault>
+    requires { IsSpelledProgram Two (program_tree program.now) }
+    ensures gives { CheckAnswer typed_tree result (checked Two how (program_tree program.now)) }
+    ensures named { OnOk result (IsDistinctlyNamed (functions_of (program_tree program.now))) }
+    ensures typed { IfOk result (λ t. IsProgramBy (IsLinearBy how) (map def_tree t.defs.items) t.main) }
 {
-    let main = match find_main(defs)? {
-        None => return Err(TypeFault::NoMain),
-        Some(main) => main,
+    let typed = with_levels(alloc, Edition::Two, how, program)?;
+    match size_fault(alloc, &typed.defs) {
+        Ok(None) => Ok(typed),
+        Ok(Some(fault)) => Err(without(typed, fault)),
+        Err(_) => Err(without(typed, TypeFault::NoMemory)),
+    }
+}
+
+// The program with levels, whatever its size.
+#[tactic(auto, using(crate::proofs::CheckLemmas::fails_is, crate::proofs::WalkSteps::fails_then))]
+fn with_levels(
+    alloc: Global,
+    edition: Edition,
+    how: Linearity,
+    program: &Program,
+) -> Result<TypedDefs, TypeFault>
+    ensures { CheckAnswer typed_tree result
+        (chained (walk_items_of edition how (functions_of (program_tree program.now)) [] [] [] 1 (program_tree program.now))
+        (λ defs. with_main defs (main_from 0 (functions_of (program_tree program.now))))) }
+{
+    let functions = functions(alloc, &program.items)?;
+    let callees = Callees::new(alloc, &functions)?;
+    let setting = Setting {
+        alloc,
+        edition,
+        how,
+        callees: &callees,
     };
-    if let Some(fault) = size::weight_fault(alloc, trees)? {
-        return Err(fault);
+    let defs = walk_items(&setting, &program.items)?;
+    match find_main(&functions) {
+        Ok(Some(main)) => Ok(TypedDefs { defs, main }),
+        Ok(None) => Err(without(defs, TypeFault::NoMain)),
+        Err(_) => Err(without(defs, TypeFault::NoMemory)),
     }
-    if let Some(fault) = size::depth_fault(alloc, trees)? {
-        return Err(fault);
+}
+
+// The fault of the first weight that passes the limit, or else of the first depth.
+fn size_fault(alloc: Global, defs: &[Def]) -> Result<Option<TypeFault>, NoMemory>
+    ensures { IfOk result (λ o. o ≡ first_fault (size_fault_of 1000000 Weight (weights (map def_tree defs.now)))
+        (size_fault_of 200 Depth (depths (map def_tree defs.now)))) }
+{
+    match size::weight_fault(alloc, defs)? {
+        Some(fault) => Ok(Some(fault)),
+        None => size::depth_fault(alloc, defs),
     }
-    Ok(main)
+}
+
+// The functions of a program, in the order of its text.
+fn functions<'a>(alloc: Global, items: &'a [RawItem]) -> Result<Vec<&'a RawDef>, NoMemory>
+    ensures { IfOk result (λ ds. map (λ d. d.now) ds.items ≡ functions_in items.now) }
+{
+    let mut all = Vec::new(alloc);
+    for item in items {
+        match item {
+            RawItem::Const(_) => (),
+            RawItem::Def(def) => all.push(def)?,
+        }
+    }
+    Ok(all)
+}
+
+// What all declarations of a program are walked under.
+#[derive(Drop)]
+struct Setting<'a> {
+    alloc: Global,
+    edition: Edition,
+    how: Linearity,
+    callees: &'a Callees<'a>,
+}
+
+/// What is known behind some declarations: the constants, the functions with levels, and the next
+/// number of a choose.
+#[derive(Drop)]
+pub(crate) struct Walked {
+    pub(crate) constants: Constants,
+    pub(crate) defs: Vec<Def>,
+    pub(crate) next: u32,
 }
 
 // The function with its body.
@@ -123,10 +227,10 @@ fn closed(alloc: Global, def: &RawDef, body: Form) -> Result<(Def, u32), TypeFau
 // A function in its context, and the next number of a choose after it.
 #[tactic(auto, using(crate::proofs::WalkSteps::fails_then, crate::proofs::WalkSteps::goes_on))]
 fn walk_def(context: &Context, def: &RawDef, next: u32) -> Result<(Def, u32), TypeFault>
-    requires within { context.now.number < length context.now.callees.now }
+    requires within { context.now.number ≤ length context.now.callees.now }
     requires unknown { context.now.known ≡ 0 }
     ensures { CheckAnswer {Y = DefTree × ℕ} (λ r. (def_tree r.0, r.1)) result
-        (walk_def_of context.now.how (map raw_def_tree context.now.callees.now)
+        (walk_def_of context.now.edition context.now.how (map raw_def_tree context.now.callees.now) (constants_of context.now.constants.now)
         (map raw_def_tree (take context.now.number context.now.callees.now)) next (raw_def_tree def.now)) }
 {
     let alloc = context.alloc;
@@ -134,7 +238,7 @@ fn walk_def(context: &Context, def: &RawDef, next: u32) -> Result<(Def, u32), Ty
     if context.callees.is_named_before(before, &def.name) {
         return Err(TypeFault::DuplicateName(def.place));
     }
-    if let Some(place) = repeated_param(alloc, &def.params)? {
+    if let Some(place) = repeated_param(context, &def.params)? {
         return Err(TypeFault::DuplicateName(place));
     }
     let mut scope = Scope::new(alloc);
@@ -144,21 +248,57 @@ fn walk_def(context: &Context, def: &RawDef, next: u32) -> Result<(Def, u32), Ty
     closed(alloc, def, body)
 }
 
-// The functions in the order of the text.
-#[tactic(auto, using(crate::proofs::WalkSteps::fails_then, crate::proofs::WalkSteps::goes_on))]
-fn walk_defs(alloc: Global, how: Linearity, defs: &[RawDef]) -> Result<Vec<Def>, TypeFault>
-    ensures { CheckAnswer (λ ds. map def_tree ds.items) result (walk_defs_of how (map raw_def_tree defs.now) [] [] 1 (map raw_def_tree defs.now)) }
+// A function behind the declarations that were walked.
+fn add_function(setting: &Setting, walked: &mut Walked, def: &RawDef) -> Result<(), TypeFault>
+    requires { length walked.now.defs.items ≤ length setting.now.callees.now }
+    ensures { CheckAnswer (λ _. walked_of walked.new) result (walk_item_of setting.now.edition setting.now.how (map raw_def_tree setting.now.callees.now)
+        (map raw_def_tree (take (length walked.old.defs.items) setting.now.callees.now)) (walked_of walked.old) (item_def (raw_def_tree def.now))) }
 {
-    let callees = Callees::new(alloc, defs)?;
-    let mut done = Vec::new(alloc);
-    let mut next = 1;
-    for i in 0..defs.len() {
-        let context = Context::new(alloc, &callees, to_u32(i)?, how);
-        let (def, after) = walk_def(&context, &defs[i], next)?;
-        push(&mut done, def)?;
-        next = after;
+    let context = Context {
+        alloc: setting.alloc,
+        edition: setting.edition,
+        callees: setting.callees,
+        constants: &walked.constants,
+        number: to_u32(walked.defs.len())?,
+        how: setting.how,
+        known: 0,
+    };
+    let (tree, next) = walk_def(&context, def, walked.next)?;
+    push(&mut walked.defs, tree)?;
+    walked.next = next;
+    Ok(())
+}
+
+// A declaration behind those that were walked.
+fn add_item(setting: &Setting, walked: &mut Walked, item: &RawItem) -> Result<(), TypeFault>
+    requires { length walked.now.defs.items ≤ length setting.now.callees.now }
+    ensures { CheckAnswer (λ _. walked_of walked.new) result (walk_item_of setting.now.edition setting.now.how (map raw_def_tree setting.now.callees.now)
+        (map raw_def_tree (take (length walked.old.defs.items) setting.now.callees.now)) (walked_of walked.old) (raw_item_tree item.now)) }
+{
+    match item {
+        RawItem::Const(_) => Err(not_built()),
+        RawItem::Def(def) => add_function(setting, walked, def),
     }
-    Ok(done)
+}
+
+// The functions with levels, in the order of the text.
+fn walk_items(setting: &Setting, items: &[RawItem]) -> Result<Vec<Def>, TypeFault>
+    requires { setting.now.callees.now ≡ functions_in items.now }
+    ensures { CheckAnswer (λ ds. map def_tree ds.items) result (walk_items_of setting.now.edition setting.now.how
+        (functions_of (map raw_item_tree items.now)) [] [] [] 1 (map raw_item_tree items.now)) }
+{
+    let mut walked = Walked {
+        constants: Constants::new(setting.alloc),
+        defs: Vec::new(setting.alloc),
+        next: 1,
+    };
+    for item in items {
+        match add_item(setting, &mut walked, item) {
+            Ok(()) => (),
+            Err(fault) => return Err(without(walked, fault)),
+        }
+    }
+    Ok(walked.defs)
 }
 
 // Whether a name is `main`.
@@ -169,8 +309,8 @@ fn is_main(name: &Text) -> bool
 }
 
 // The number of the first function that is named `main`.
-fn find_main(defs: &[RawDef]) -> Result<Option<u32>, NoMemory>
-    ensures { IfOk result (λ o. o ≡ main_from 0 (map raw_def_tree defs.now)) }
+fn find_main(defs: &[&RawDef]) -> Result<Option<u32>, NoMemory>
+    ensures { IfOk result (λ o. o ≡ main_from 0 (map raw_def_tree (map (λ d. d.now) defs.now))) }
 {
     for i in 0..defs.len() {
         if is_main(&defs[i].name) {

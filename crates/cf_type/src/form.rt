@@ -1,5 +1,5 @@
 //! What the walk learns of an expression.
-use cf_tree::{Base, Expr, MatchArm, Place, Rel, SetTerm, Term};
+use cf_tree::{Base, Expr, MatchArm, Place, Rel, SetTerm, Term, Text};
 
 /// An expression as a part of a relation, or the place of its first form that is not linear.
 #[derive(Drop)]
@@ -36,4 +36,20 @@ pub struct Arms {
     pub trees: Vec<MatchArm>,
     pub first_nonlinear: Option<Place>,
     pub next: u32,
+}
+
+/// A variable of a pattern, with its factor.
+#[derive(Drop)]
+pub struct Summand {
+    pub place: Place,
+    pub factor: i128,
+    pub name: Text,
+}
+
+/// A pattern: its variables, the constants of its names, each with its sign, and its constant.
+#[derive(Drop)]
+pub struct Pattern {
+    pub summands: Vec<Summand>,
+    pub constants: Vec<i128>,
+    pub constant: i128,
 }

@@ -2,6 +2,7 @@
 //! for which no place was found.
 ghost use Rattle.std.specs.Prelude.{◌≡◌, ◌++◌, ◌∷◌, [], IfOk, OnOk};
 
+use cf_program::TypeFault;
 use cf_tree::NoMemory;
 use std::alloc::Global;
 
@@ -18,4 +19,11 @@ pub fn push<T: Drop>(all: &mut Vec<T>, value: T) -> Result<(), NoMemory>
 {
     all.push(value)?;
     Ok(())
+}
+
+/// What a form of edition 3 is answered that is not walked yet.
+pub fn not_built() -> TypeFault
+    ensures { result ≡ TypeFault.NoMemory }
+{
+    TypeFault::NoMemory
 }

@@ -1,20 +1,25 @@
 //! Names that stand together, and which of them is the first that stands twice.
-ghost use Rattle.std.specs.Prelude.{◌≡◌, [], map, IfOk};
-ghost use Rattle.cf_program.specs.Walk.{output_fault as output_fault_of};
+ghost use Rattle.std.specs.Prelude.{◌≡◌, map, IfOk};
+ghost use Rattle.cf_type.specs.FormView.{context_of, summand_of};
+ghost use Rattle.cf_program.specs.Walk.{taken, output_fault as output_fault_of};
 ghost use Rattle.cf_program.specs.Names.{repeated as repeated_of};
 ghost use Rattle.cf_tree.specs.Params.{names_of};
 
-use crate::bases::is_output;
-use crate::name_set::NameSet;
+use crate::bases::may_be_output;
+use crate::context::Context;
+use crate::form::Summand;
 use cf_program::TypeFault;
-use cf_tree::{NoMemory, Param, Part, Place, Text};
-use std::alloc::Global;
+use cf_tree::{Edition, NoMemory, Param, Place, Text};
 
-/// The place of the first name that equals one before it.
-pub fn repeated(alloc: Global, names: &[Text], places: &[Place]) -> Result<Option<Place>, NoMemory>
-    ensures { IfOk result (λ o. o ≡ repeated_of [] names.now places.now) }
+/// The place of the first name that equals one before it, or a constant.
+pub fn repeated(
+    context: &Context,
+    names: &[Text],
+    places: &[Place],
+) -> Result<Option<Place>, NoMemory>
+    ensures { IfOk result (λ o. o ≡ repeated_of (taken (context_of context.now)) names.now places.now) }
 {
-    let mut before = NameSet::new(alloc);
+    let mut before = context.taken();
     let mut rest = places;
     for name in names {
         match rest.split_first() {
@@ -30,11 +35,11 @@ pub fn repeated(alloc: Global, names: &[Text], places: &[Place]) -> Result<Optio
     Ok(None)
 }
 
-/// The place of the first parameter whose name is that of one before it.
-pub fn repeated_param(alloc: Global, params: &[Param]) -> Result<Option<Place>, NoMemory>
-    ensures { IfOk result (λ o. o ≡ repeated_of [] (names_of params.now) (map (λ p. p.place) params.now)) }
+/// The place of the first parameter whose name is that of one before it, or of a constant.
+pub fn repeated_param(context: &Context, params: &[Param]) -> Result<Option<Place>, NoMemory>
+    ensures { IfOk result (λ o. o ≡ repeated_of (taken (context_of context.now)) (names_of params.now) (map (λ p. p.place) params.now)) }
 {
-    let mut before = NameSet::new(alloc);
+    let mut before = context.taken();
     for param in params {
         if before.add(&param.name)? {
             return Ok(Some(param.place));
@@ -43,29 +48,35 @@ pub fn repeated_param(alloc: Global, params: &[Param]) -> Result<Option<Place>, 
     Ok(None)
 }
 
-/// The place of the first variable of a pattern whose name is that of one before it.
-pub fn repeated_part(alloc: Global, parts: &[Part]) -> Result<Option<Place>, NoMemory>
-    ensures { IfOk result (λ o. o ≡ repeated_of [] (map (λ x. x.name) parts.now) (map (λ x. x.place) parts.now)) }
+/// The place of the first variable of a pattern whose name is that of one before it, or of a
+/// constant.
+pub fn repeated_summand(context: &Context, summands: &[Summand]) -> Result<Option<Place>, NoMemory>
+    ensures { IfOk result (λ o. o ≡ repeated_of (taken (context_of context.now)) (map (λ x. x.name) (map summand_of summands.now))
+        (map (λ x. x.place) (map summand_of summands.now))) }
 {
-    let mut before = NameSet::new(alloc);
-    for part in parts {
-        if before.add(&part.name)? {
-            return Ok(Some(part.place));
+    let mut before = context.taken();
+    for summand in summands {
+        if before.add(&summand.name)? {
+            return Ok(Some(summand.place));
         }
     }
     Ok(None)
 }
 
-/// What is wrong with the outputs of a choose.
-pub fn output_fault(alloc: Global, outputs: &[Param]) -> Result<Option<TypeFault>, NoMemory>
-    ensures { IfOk result (λ o. o ≡ output_fault_of [] outputs.now) }
+/// What is wrong with the outputs of a choose of this edition.
+pub fn output_fault(
+    context: &Context,
+    edition: Edition,
+    outputs: &[Param],
+) -> Result<Option<TypeFault>, NoMemory>
+    ensures { IfOk result (λ o. o ≡ output_fault_of edition (taken (context_of context.now)) outputs.now) }
 {
-    let mut before = NameSet::new(alloc);
+    let mut before = context.taken();
     for output in outputs {
         if before.add(&output.name)? {
             return Ok(Some(TypeFault::DuplicateName(output.place)));
         }
-        if !is_output(output.base) {
+        if !may_be_output(edition, output.base) {
             return Ok(Some(TypeFault::Mismatch(output.place)));
         }
     }

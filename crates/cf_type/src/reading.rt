@@ -2,7 +2,7 @@
 ghost use Rattle.std.specs.Prelude.{◌≡◌, IfOk};
 ghost use Rattle.cf_tree.specs.RelView.{rel_tree, term_tree, set_tree};
 ghost use Rattle.cf_tree.specs.RawView.{raw_tree};
-ghost use Rattle.cf_type.specs.FormParts.{reading_over};
+ghost use Rattle.cf_type.specs.FormParts.{reading_over, reading_with};
 ghost use Rattle.cf_type.specs.FormView.{reading_of};
 ghost use Rattle.cf_program.specs.LateLinear.{is_fixed_below as is_fixed_below_of};
 ghost use Rattle.cf_program.specs.Reading.{relation as a_relation, term as a_term, set as a_set, not_linear, first_nonlinear as first_nonlinear_of, earlier_nonlinear as earlier_nonlinear_of, not_linear_at as not_linear_at_of, truth_reading, variable_reading, product_reading, sets_reading, binary_reading};
@@ -99,9 +99,6 @@ fn over_term(alloc: Global, raw: &Raw, t: Box<Term>) -> Result<Reading, NoMemory
     match &raw.node {
         RawNode::Neg(_) => term(alloc, Term::Neg(t)),
         RawNode::Abs(_) => term(alloc, Term::Abs(t)),
-        RawNode::Div { k, .. } => term(alloc, Term::Div(t, *k)),
-        RawNode::Mod { k, .. } => term(alloc, Term::Mod(t, *k)),
-        RawNode::Divides { k, .. } => relation(alloc, Rel::Divides { k: *k, of: t }),
         _ => Ok(without(t, Reading::NotLinear(raw.place))),
     }
 }
@@ -134,6 +131,30 @@ pub fn over_one(alloc: Global, raw: &Raw, part: Reading) -> Result<Reading, NoMe
         Reading::Relation(a) => over_relation(alloc, raw, a),
         Reading::Term(t) => over_term(alloc, raw, t),
         Reading::Set(s) => over_set(alloc, raw, s),
+        Reading::NotLinear(first) => Ok(Reading::NotLinear(first)),
+    }
+}
+
+// A form over one number form and a number.
+fn term_with(alloc: Global, raw: &Raw, k: i128, t: Box<Term>) -> Result<Reading, NoMemory>
+    ensures { IfOk result (λ r. reading_of r ≡ reading_with (raw_tree raw.now) k raw.now.place (a_term (term_tree t.value))) }
+{
+    match &raw.node {
+        RawNode::Div { .. } => term(alloc, Term::Div(t, k)),
+        RawNode::Mod { .. } => term(alloc, Term::Mod(t, k)),
+        RawNode::Divides { .. } => relation(alloc, Rel::Divides { k, of: t }),
+        _ => Ok(without(t, Reading::NotLinear(raw.place))),
+    }
+}
+
+/// The form over this one part and a number.
+pub fn over_number(alloc: Global, raw: &Raw, k: i128, part: Reading) -> Result<Reading, NoMemory>
+    ensures { IfOk result (λ r. reading_of r ≡ reading_with (raw_tree raw.now) k raw.now.place (reading_of part)) }
+{
+    match part {
+        Reading::Term(t) => term_with(alloc, raw, k, t),
+        Reading::Relation(a) => Ok(without(a, Reading::NotLinear(raw.place))),
+        Reading::Set(s) => Ok(without(s, Reading::NotLinear(raw.place))),
         Reading::NotLinear(first) => Ok(Reading::NotLinear(first)),
     }
 }
@@ -197,9 +218,13 @@ fn of_terms(
                 right: b,
             },
         ),
-        BinOp::And | BinOp::Or | BinOp::Union | BinOp::Inter | BinOp::Diff | BinOp::Subset => Ok(
-            bent(a, b, operation.place),
-        ),
+        BinOp::And
+        | BinOp::Or
+        | BinOp::Union
+        | BinOp::Inter
+        | BinOp::Diff
+        | BinOp::Subset
+        | BinOp::Implies => Ok(bent(a, b, operation.place)),
     }
 }
 
@@ -222,7 +247,8 @@ fn of_relations(
         | BinOp::Union
         | BinOp::Inter
         | BinOp::Diff
-        | BinOp::Subset => Ok(bent(a, b, operation.place)),
+        | BinOp::Subset
+        | BinOp::Implies => Ok(bent(a, b, operation.place)),
         BinOp::Compare(_) => Ok(bent(a, b, operation.place)),
     }
 }
@@ -260,11 +286,12 @@ fn of_sets(
         BinOp::Diff => set(alloc, SetTerm::Diff(a, b)),
         BinOp::Subset => relation(alloc, Rel::Subset(a, b)),
         BinOp::Compare(order) => of_compared_sets(alloc, order, operation.place, a, b),
-        BinOp::Add | BinOp::Sub | BinOp::Mul | BinOp::And | BinOp::Or => Ok(bent(
-            a,
-            b,
-            operation.place,
-        )),
+        BinOp::Add
+        | BinOp::Sub
+        | BinOp::Mul
+        | BinOp::And
+        | BinOp::Or
+        | BinOp::Implies => Ok(bent(a, b, operation.place)),
     }
 }
 
@@ -292,7 +319,7 @@ fn on_left_relation(
                 | BinOp::Inter
                 | BinOp::Diff
                 | BinOp::Subset => Ok(Reading::NotLinear(operation.place)),
-                BinOp::And | BinOp::Or => Ok(Reading::NotLinear(first)),
+                BinOp::And | BinOp::Or | BinOp::Implies => Ok(Reading::NotLinear(first)),
                 BinOp::Compare(_) => Ok(Reading::NotLinear(first)),
             }
         }
@@ -322,7 +349,9 @@ fn on_left_term(
                 | BinOp::Inter
                 | BinOp::Diff
                 | BinOp::Subset => Ok(Reading::NotLinear(operation.place)),
-                BinOp::Add | BinOp::Sub | BinOp::Mul => Ok(Reading::NotLinear(first)),
+                BinOp::Add | BinOp::Sub | BinOp::Mul | BinOp::Implies => Ok(Reading::NotLinear(
+                    first,
+                )),
                 BinOp::Compare(_) => Ok(Reading::NotLinear(first)),
             }
         }
@@ -349,9 +378,11 @@ fn on_left_set(
                 BinOp::Add | BinOp::Sub | BinOp::Mul | BinOp::And | BinOp::Or => Ok(
                     Reading::NotLinear(operation.place),
                 ),
-                BinOp::Union | BinOp::Inter | BinOp::Diff | BinOp::Subset => Ok(Reading::NotLinear(
-                    first,
-                )),
+                BinOp::Union
+                | BinOp::Inter
+                | BinOp::Diff
+                | BinOp::Subset
+                | BinOp::Implies => Ok(Reading::NotLinear(first)),
                 BinOp::Compare(_) => Ok(Reading::NotLinear(first)),
             }
         }

@@ -2,11 +2,13 @@
 ghost use Rattle.std.specs.Prelude.{◌≡◌, ◌-◌, ◌++◌, ◌∷◌, [], length, map, take, OnOk, IfOk};
 ghost use Rattle.std.specs.Map.{set_value};
 ghost use Rattle.std.specs.Str.{bytes_eq};
+ghost use Rattle.cf_type.specs.FormView.{summand_of};
 ghost use Rattle.cf_program.specs.Names.{variable_of};
 ghost use Rattle.cf_program.specs.Walk.{bound, matched, variables_of};
 
+use crate::form::Summand;
 use cf_program::Variable;
-use cf_tree::{Base, NoMemory, Param, Part, Place, Text, to_u32};
+use cf_tree::{Base, NoMemory, Param, Place, Text, to_u32};
 use indexmap::IndexMap;
 use std::alloc::Global;
 use std::marker::Model;
@@ -154,11 +156,11 @@ impl Scope {
     }
 
     /// Binds the variables of a pattern.
-    pub fn enter_parts(&mut self, alloc: Global, parts: &[Part]) -> Result<(), NoMemory>
-        ensures { OnOk result (self.new ≡ self.old ++ variables_of parts.now) }
+    pub fn enter_summands(&mut self, alloc: Global, summands: &[Summand]) -> Result<(), NoMemory>
+        ensures { OnOk result (self.new ≡ self.old ++ variables_of (map summand_of summands.now)) }
     {
-        for part in parts {
-            self.push_named(alloc, part.place, &part.name, Base::Int)?;
+        for summand in summands {
+            self.push_named(alloc, summand.place, &summand.name, Base::Int)?;
         }
         Ok(())
     }

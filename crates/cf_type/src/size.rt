@@ -202,8 +202,8 @@ fn variables_depth(factors: &[i128], body: u64) -> u64
     }
 }
 
-// How many nodes an expression has, with those of called functions, but never more than the
-// greatest number of 64 bits.
+// How many nodes an expression of language 2 has, with those of called functions, but never more
+// than the greatest number of 64 bits.
 #[cycle(weight)]
 fn weight(calls: &[u64], expr: &Expr) -> u64
     ensures { result ≡ capped (weight_of (λ f. slice_index calls.now f) (expr_tree expr.now)) }
@@ -228,6 +228,7 @@ fn weight(calls: &[u64], expr: &Expr) -> u64
             .saturating_add(picks_weight(arms))
             .saturating_add(weight_arms(calls, arms))
             .saturating_add(6),
+        Expr::Chain { .. } | Expr::Min(_) | Expr::Max(_) | Expr::ChooseWhere { .. } => 0,
     }
 }
 
@@ -260,8 +261,8 @@ fn weight_arms(calls: &[u64], arms: &[MatchArm]) -> u64
     total
 }
 
-// How deep an expression is, with the functions that it calls, but never more than the greatest
-// number of 64 bits.
+// How deep an expression of language 2 is, with the functions that it calls, but never more than
+// the greatest number of 64 bits.
 #[cycle(depth)]
 fn depth(calls: &[u64], expr: &Expr) -> u64
     ensures { result ≡ capped (depth_of (λ f. slice_index calls.now f) (expr_tree expr.now)) }
@@ -283,6 +284,7 @@ fn depth(calls: &[u64], expr: &Expr) -> u64
             .max(picks_depth(arms))
             .max(depth_arms(calls, last_level(arms), arms))
             .saturating_add(1),
+        Expr::Chain { .. } | Expr::Min(_) | Expr::Max(_) | Expr::ChooseWhere { .. } => 0,
     }
 }
 

@@ -2,21 +2,27 @@
 //! that it breaks.
 ghost use Rattle.std.specs.Prelude.{◌≡◌, ◌+◌, ◌-◌, ◌++◌, ◌∷◌, ◌==◌, [], length, map, OnOk};
 ghost use Rattle.cf_tree.specs.RawView.{raw_tree, raw_trees, raw_arm_tree, raw_arm_trees};
-ghost use Rattle.cf_type.specs.FormView.{form_of, forms_of, arms_of, context_of};
+ghost use Rattle.cf_type.specs.FormParts.{walk_arm as walk_arm_of};
+ghost use Rattle.cf_type.specs.FormView.{form_of, forms_of, arms_of, summand_of, context_of};
+ghost use Rattle.cf_tree.specs.declared.base.Edition.TheVariants.{Two};
+ghost use Rattle.cf_program.specs.Then.{◌>>=◌ as chained};
 ghost use Rattle.cf_program.specs.CheckAnswers.{CheckAnswer};
 ghost use Rattle.cf_program.specs.Names.{repeated as repeated_of};
 ghost use Rattle.cf_program.specs.declared.fault.TypeFault.TheVariants.{WrongCount};
-ghost use Rattle.cf_program.specs.Walk.{◌>>=◌ as chained, where_kept, where_no_fault, where_none_repeated, bound, matched, variables_of, after_arm, no_forms as no_forms_of, no_arms as no_arms_of, output_fault as output_fault_of, binary_form, if_form, let_form, choose_form, choose_part, match_form, in_relation, walk as walk_of, walk_all as walk_all_of, walk_arms as walk_arms_of, walk_arm as walk_arm_of};
+ghost use Rattle.cf_program.specs.Walk.{where_kept, where_no_fault, where_none_repeated, bound, matched, variables_of, after_arm, no_forms as no_forms_of, no_arms as no_arms_of, output_fault as output_fault_of, binary_form, if_form, let_form, choose_form, choose_part, match_form, in_relation, walk as walk_of, walk_all as walk_all_of, walk_arms as walk_arms_of, taken};
 
 use crate::build::{self, Site};
-use crate::callees::Context;
-use crate::form::{Arms, Form, Forms};
-use crate::names::{output_fault, repeated, repeated_part};
+use crate::context::Context;
+use crate::form::{Arms, Form, Forms, Summand};
+use crate::memory::not_built;
+use crate::names::{output_fault, repeated};
+use crate::number::divisor;
+use crate::pattern::pattern;
 use crate::scope::Scope;
 use cf_program::TypeFault;
 use cf_tree::{
-    BinOp, Param, Part, Place, Raw, RawArm, RawNode, Text, add_u32, raw_over_list, raw_over_one,
-    without,
+    BinOp, Edition, Param, Place, Raw, RawArm, RawNode, Text, add_u32, raw_over_list,
+    raw_over_one, without,
 };
 
 // A `let`: its place, and the names that it binds, each with its place.
@@ -41,7 +47,10 @@ pub fn walk(context: &Context, scope: &mut Scope, next: u32, raw: &Raw) -> Resul
     match &raw.node {
         RawNode::Lit(k) => build::literal(context.alloc, *k, next),
         RawNode::Truth(t) => build::truth(context.alloc, *t, next),
-        RawNode::Name(name) => build::variable(context.alloc, place, next, scope.find(name)),
+        RawNode::Name(name) => {
+            let constant = context.constant(name);
+            build::named(context.alloc, place, next, scope.find(name), constant)
+        }
         raw_over_list!(parts) => match walk_all(context, scope, next, parts) {
             Ok(parts) => build::over_row(context, raw, parts),
             Err(fault) => Err(fault),
@@ -49,6 +58,25 @@ pub fn walk(context: &Context, scope: &mut Scope, next: u32, raw: &Raw) -> Resul
         RawNode::Group(a) => walk(context, scope, next, a),
         raw_over_one!(a) => match walk(context, scope, next, a) {
             Ok(a) => build::over_one(context.alloc, raw, a),
+            Err(fault) => Err(fault),
+        },
+        RawNode::Divides { k, of } => match divisor(context, scope, k) {
+            Ok(k) => match walk(context, scope, next, of) {
+                Ok(a) => build::over_number(context.alloc, raw, k, a),
+                Err(fault) => Err(fault),
+            },
+            Err(fault) => Err(fault),
+        },
+        RawNode::Div { of, k } | RawNode::Mod { of, k } => match walk(context, scope, next, of) {
+            Ok(a) => build::with_number(context, scope, raw, k, a),
+            Err(fault) => Err(fault),
+        },
+        RawNode::Chain {
+            orders,
+            places,
+            parts,
+        } => match walk_all(context, scope, next, parts) {
+            Ok(parts) => build::chain(context.alloc, place, orders, places, parts),
             Err(fault) => Err(fault),
         },
         RawNode::Binary { op, left, right } => match walk(context, scope, next, left) {
@@ -78,13 +106,16 @@ pub fn walk(context: &Context, scope: &mut Scope, next: u32, raw: &Raw) -> Resul
             }
             Err(fault) => Err(fault),
         },
-        RawNode::Choose { outputs, rel } => {
-            let site = Site {
-                place,
-                number: next,
-            };
-            walk_choose(context, scope, site, outputs, rel)
-        }
+        RawNode::Choose { outputs, rel, .. } => match context.edition() {
+            Edition::Two => {
+                let site = Site {
+                    place,
+                    number: next,
+                };
+                walk_choose(context, scope, site, outputs, rel)
+            }
+            Edition::Three => Err(not_built()),
+        },
         RawNode::Match { of, arms } => match walk_matched(context, scope, next, of) {
             Ok(of) => {
                 let site = Site {
@@ -176,14 +207,14 @@ fn walk_let(
     body: &Raw,
 ) -> Result<Form, TypeFault>
     ensures { CheckAnswer form_of result
-        (where_none_repeated (repeated_of [] names.entry.texts.now names.entry.places.now)
+        (where_none_repeated (repeated_of (taken (context_of context.now)) names.entry.texts.now names.entry.places.now)
         (where_kept (length names.entry.texts.now == length value.bases.items) (WrongCount names.entry.place)
         (chained (walk_of (context_of context.now)
         (scope.old ++ bound names.entry.texts.now names.entry.places.now value.bases.items) value.next (raw_tree body.now))
         (let_form names.entry.place (length names.entry.texts.now) (form_of value)))))
         × OnOk result (scope.new ≡ scope.old) }
 {
-    match repeated(context.alloc, names.texts, names.places) {
+    match repeated(context, names.texts, names.places) {
         Ok(None) => (),
         Ok(Some(later)) => return Err(without(value, TypeFault::DuplicateName(later))),
         Err(_) => return Err(without(value, TypeFault::NoMemory)),
@@ -216,13 +247,13 @@ fn walk_choose(
     rel: &Raw,
 ) -> Result<Form, TypeFault>
     ensures { CheckAnswer form_of result
-        (where_no_fault (output_fault_of [] outputs.now)
+        (where_no_fault (output_fault_of Two (taken (context_of context.now)) outputs.now)
         (chained (chained (walk_of (in_relation (context_of context.now) (length scope.old)) (scope.old ++ outputs.now) (site.number + 1) (raw_tree rel.now))
         (choose_form site.place site.number scope.old outputs.now))
         (λ f. chained (walk_of (context_of context.now) (scope.old ++ outputs.now) (site.number + 1) (raw_tree rel.now)) (choose_part site.place f))))
         × OnOk result (scope.new ≡ scope.old) }
 {
-    if let Some(fault) = output_fault(context.alloc, outputs)? {
+    if let Some(fault) = output_fault(context, Edition::Two, outputs)? {
         return Err(fault);
     }
     let next = add_u32(site.number, 1)?;
@@ -320,27 +351,35 @@ fn walk_arms(
 {
     let mut done = build::no_arms(context.alloc, next);
     for arm in arms {
-        match walk_arm(context, scope, done.next, arm) {
-            Ok(body) => build::add_arm(context.alloc, &mut done, arm, body)?,
+        match walk_arm(context, scope, &mut done, arm) {
+            Ok(()) => (),
             Err(fault) => return Err(without(done, fault)),
         }
     }
     Ok(done)
 }
 
-// The body of an arm.
+// An arm behind those that were walked.
 #[cycle(walk)]
+#[tactic(auto, using(crate::proofs::WalkSteps::fails_then))]
 fn walk_arm(
     context: &Context,
     scope: &mut Scope,
-    next: u32,
+    done: &mut Arms,
     arm: &RawArm,
-) -> Result<Form, TypeFault>
-    ensures { CheckAnswer form_of result
-        (walk_arm_of (context_of context.now) scope.old next (raw_arm_tree arm.now))
+) -> Result<(), TypeFault>
+    ensures { CheckAnswer (λ _. arms_of done.new) result
+        (walk_arm_of (context_of context.now) scope.old (arms_of done.old) (raw_arm_tree arm.now))
         × OnOk result (scope.new ≡ scope.old) }
 {
-    walk_body(context, scope, next, &arm.parts, &arm.body)
+    let pattern = pattern(context, scope, &arm.parts, arm.constant)?;
+    match walk_body(context, scope, done.next, &pattern.summands, &arm.body) {
+        Ok(body) => {
+            build::add_arm(context.alloc, done, &pattern, body)?;
+            Ok(())
+        }
+        Err(fault) => Err(without(pattern, fault)),
+    }
 }
 
 // The body of an arm whose pattern has these variables.
@@ -350,21 +389,17 @@ fn walk_body(
     context: &Context,
     scope: &mut Scope,
     next: u32,
-    parts: &[Part],
+    summands: &[Summand],
     body: &Raw,
 ) -> Result<Form, TypeFault>
     ensures { CheckAnswer form_of result
-        (where_none_repeated (repeated_of [] (map (λ x. x.name) parts.now) (map (λ x. x.place) parts.now))
-        (walk_of (context_of context.now) (scope.old ++ variables_of parts.now) (after_arm next parts.now)
-        (raw_tree body.now)))
+        (walk_of (context_of context.now) (scope.old ++ variables_of (map summand_of summands.now)) (after_arm next (map summand_of summands.now))
+        (raw_tree body.now))
         × OnOk result (scope.new ≡ scope.old) }
 {
-    if let Some(later) = repeated_part(context.alloc, parts)? {
-        return Err(TypeFault::DuplicateName(later));
-    }
-    let next = build::after_arm_number(next, parts)?;
+    let next = build::after_arm_number(next, summands)?;
     let size = scope.len();
-    scope.enter_parts(context.alloc, parts)?;
+    scope.enter_summands(context.alloc, summands)?;
     let body = walk(context, scope, next, body)?;
     scope.leave(size);
     Ok(body)

@@ -1,13 +1,13 @@
-use Rattle.std.proofs.Common.{◌≡◌, ◌+◌, ◌∷◌, drop, sym, ap, ◌∙◌, subst, arith, rules}
+use Rattle.std.proofs.Common.{◌≡◌, ◌+◌, ◌∷◌, drop, sym, ap, ◌∙◌, arith, rules}
 use Rattle.std.proofs.lemmas.List.{drop_more}
 use Rattle.cf_tree.specs.declared.raw.Raw.{the_lemmas as raw_lemmas}
 use Rattle.cf_tree.specs.declared.raw.RawNode.{the_lemmas as node_lemmas}
+use Rattle.cf_tree.specs.declared.base.Edition.TheVariants.{Two}
 use Rattle.cf_tree.specs.RawTree.{raw_choose}
-use Rattle.cf_tree.specs.RawView.{raw_tree}
-use Rattle.cf_type.specs.FormView.{form_of, context_of}
-use Rattle.cf_program.specs.CheckAnswers.{CheckAnswer}
+use Rattle.cf_tree.specs.RawView.{raw_tree, given_tree, aim_tree}
+use Rattle.cf_type.specs.FormView.{context_of}
 use Rattle.cf_type.proofs.DefSteps.{choose_answer}
-use Rattle.cf_type.proofs.WalkSteps.{arm_body, arms_fail, arms_next}
+use Rattle.cf_type.proofs.WalkSteps.{arms_fail, arms_next}
 use Rattle.cf_type.proofs.walk.+walk.Goals as goal
 
 pub walk_arms-returns-in-Err : goal.walk_arms-returns-in-Err
@@ -26,26 +26,21 @@ walk_arms-loop-arm-preserved t c =
     let x = c.arm-item.result in
     let here : drop l.arm-index xs ≡ x ∷ drop (l.arm-index + 1) xs =
     drop_more xs l.arm-index x (omega arith) ∙ ap (λ y. y ∷ drop (l.arm-index + 1) xs) (sym c.arm-item.is) in
-    let kept : c.walk_arm.new.scope ≡ l.scope = c.in-Ok.ensures.1 in (
-      kept ∙ l.invariant.0,
-      arms_next _ _ _ _ _ xs l.arm-index x _ _ l.invariant.0 here c.in-Ok.ensures.0 c.in_ok-add_arm-in-Ok.ensures l.invariant.1,
-    )
+    let kept : c.walk_arm.new.scope ≡ l.scope = c.in-Ok.ensures.1 in
+    (kept ∙ l.invariant.0, arms_next _ _ _ _ _ xs l.arm-index x _ l.invariant.0 here c.in-Ok.ensures.0 l.invariant.1)
 
-pub walk_arm-returns : goal.walk_arm-returns
-walk_arm-returns t c = (
-  subst (λ r. CheckAnswer form_of c.walk_body.result r)
-      (sym (arm_body (context_of c.args.context.now) c.args.scope.now c.args.next c.args.arm.now c.deref.result.now c.deref.ensures.value))
-      c.walk_body.ensures.0,
-  c.walk_body.ensures.1,
-)
-
-pub walk-returns-in-Choose : goal.walk-returns-in-Choose
-walk-returns-in-Choose t c =
+pub walk-returns-in-Two : goal.walk-returns-in-Two
+walk-returns-in-Two t c =
+    let context = context_of c.args.context.now in
     let raw = c.args.raw.now in
-    let outputs = c.deref-in-Choose.result.now in
-    let rel = raw_tree c.deref-in-Choose-2.result.now in
-    let is : raw_tree raw ≡ raw_choose raw.place outputs rel = search (rules, raw_lemmas, node_lemmas) in (
-      choose_answer (context_of c.args.context.now) c.args.scope.now c.args.next raw.place outputs rel (raw_tree raw) c.walk_choose.result is
+    let outputs = c.deref-in-Two.result.now in
+    let hidden = c.in-Choose.hidden.items in
+    let given = given_tree c.in-Choose.given in
+    let rel = raw_tree c.deref-in-Two-2.result.now in
+    let aim = aim_tree c.in-Choose.aim in
+    let two : context.edition ≡ Two = search rules in
+    let is : raw_tree raw ≡ raw_choose raw.place outputs hidden given rel aim = search (rules, raw_lemmas, node_lemmas) in (
+      choose_answer context c.args.scope.now c.args.next raw.place outputs hidden given rel aim (raw_tree raw) c.walk_choose.result two is
           c.walk_choose.ensures.0,
       c.walk_choose.ensures.1,
     )
