@@ -5,15 +5,15 @@ use Rattle.std.proofs.lemmas.List.Elements.{All-nil, All-cons}
 use Rattle.std.specs.Str.{bytes_eq}
 use Rattle.cf_tree.specs.declared.base.Base.{Base}
 use Rattle.cf_tree.specs.declared.base.Base.TheVariants.{Int, Bool as Truth, Set}
+use Rattle.cf_tree.specs.declared.base.Edition.TheVariants.{Two}
 use Rattle.cf_tree.specs.declared.base.Place.{Place}
 use Rattle.cf_tree.specs.declared.raw.Param.{Param}
-use Rattle.cf_tree.specs.declared.raw.Part.{Part}
 use Rattle.cf_program.specs.declared.fault.TypeFault.TheVariants.{DuplicateName, Mismatch}
 use Rattle.cf_program.specs.declared.variable.Variable.{Variable}
 use Rattle.cf_program.specs.Names.{is_among, variable_from, or_outer}
 use Rattle.cf_tree.specs.Params.{bases_of}
 use Rattle.cf_program.specs.TypedProgram.{IsOutput}
-use Rattle.cf_program.specs.Walk.{bound, variables_of, is_output, output_fault}
+use Rattle.cf_program.specs.Walk.{bound, Summand, variables_of, is_output, output_fault}
 use Rattle.cf_tree.specs.Typing.{one}
 
 -- one list of length 1 is one base
@@ -51,7 +51,7 @@ bound_bases (x ∷ xs) [] bs h k = absurd (omega arith)
 bound_bases (x ∷ xs) (p ∷ places) [] h k = absurd (omega arith)
 bound_bases (x ∷ xs) (p ∷ places) (b ∷ bs) h k = ap (λ cs. b ∷ cs) (bound_bases xs places bs (omega arith) (omega arith))
 
-pub variables_bases : (parts : List Part) → bases_of (variables_of parts) ≡ map (λ _. Int) (map (λ x. x.factor) parts)
+pub variables_bases : (parts : List Summand) → bases_of (variables_of parts) ≡ map (λ _. Int) (map (λ x. x.factor) parts)
 variables_bases [] = refl
 variables_bases (x ∷ parts) = ap (λ cs. Int ∷ cs) (variables_bases parts)
 
@@ -60,12 +60,12 @@ is_output_is Int h = tt
 is_output_is Truth h = cc
 is_output_is Set h = tt
 
-pub outputs_are : (before : List (List ℕ)) (os : List Param) → output_fault before os ≡ None → All IsOutput (bases_of os)
+pub outputs_are : (before : List (List ℕ)) (os : List Param) → output_fault Two before os ≡ None → All IsOutput (bases_of os)
 outputs_are before [] h = All-nil IsOutput
 outputs_are before (o ∷ os) h = by (is_among before o.name) (is_output o.base) refl (outputs_are (before ++ o.name ∷ []) os) h
   where
-    by : (twice fits : Bool) → is_output o.base ≡ fits → (output_fault (before ++ o.name ∷ []) os ≡ None → All IsOutput (bases_of os)) → cond twice (Some
-        (DuplicateName o.place)) (cond fits (output_fault (before ++ o.name ∷ []) os) (Some (Mismatch o.place))) ≡ None → All IsOutput (bases_of (o ∷ os))
+    by : (twice fits : Bool) → is_output o.base ≡ fits → (output_fault Two (before ++ o.name ∷ []) os ≡ None → All IsOutput (bases_of os)) → cond twice (Some
+        (DuplicateName o.place)) (cond fits (output_fault Two (before ++ o.name ∷ []) os) (Some (Mismatch o.place))) ≡ None → All IsOutput (bases_of (o ∷ os))
     by true fits q rest e = cc
     by false false q rest e = cc
     by false true q rest e = All-cons IsOutput o.base (bases_of os) (is_output_is o.base q) (rest e)

@@ -1,8 +1,12 @@
 -- What holds wherever a result is Ok.
-use Rattle.std.proofs.Common.{◌≡◌, Bool, true, false, Option, Some, None, Result, Ok, Err, refl}
+use Rattle.std.proofs.Common.{◌≡◌, Bool, true, false, List, Option, Some, None, Result, Ok, Err, refl}
+use Rattle.cf_tree.specs.declared.base.Edition.{Edition}
+use Rattle.cf_tree.specs.declared.base.Edition.TheVariants.{Two, Three}
 use Rattle.cf_tree.specs.declared.base.Place.{Place}
 use Rattle.cf_program.specs.declared.fault.TypeFault.{TypeFault}
-use Rattle.cf_program.specs.Walk.{◌>>=◌, where_kept, where_no_fault, where_none_repeated}
+use Rattle.cf_program.specs.Then.{◌>>=◌}
+use Rattle.cf_program.specs.Linear.{Held, Found, linear as linear_with, bends}
+use Rattle.cf_program.specs.Walk.{by_edition, where_kept, where_linear, where_no_fault, where_none_repeated}
 
 pub data WhenOk {A : Type 0} (P : A → Type 0) : Result A TypeFault → Type 0 where
   when_ok : (x : A) → P x → WhenOk P (Ok x)
@@ -47,3 +51,28 @@ when_map (Err e) h f = when_err e
 pub when_both : {A : Type 0} {P Q : A → Type 0} (r : Result A TypeFault) → WhenOk P r → WhenOk Q r → WhenOk (λ x. P x × Q x) r
 when_both (Ok x) (when_ok y p) (when_ok z q) = when_ok x (p, q)
 when_both (Err e) h k = when_err e
+
+-- whatever the result is
+pub when_all : {A : Type 0} {P : A → Type 0} (r : Result A TypeFault) → ((x : A) → P x) → WhenOk P r
+when_all (Ok x) p = when_ok x (p x)
+when_all (Err e) p = when_err e
+
+-- by each edition's way
+pub when_edition : {A : Type 0} {P : A → Type 0} (edition : Edition) (two three : Result A TypeFault) → (edition ≡ Two → WhenOk P two) →
+    (edition ≡ Three → WhenOk P three) → WhenOk P (by_edition edition two three)
+when_edition Two two three h k = h refl
+when_edition Three two three h k = k refl
+
+pub when_linear : {A : Type 0} {P : A → Type 0} (o : Found) (go : Result A TypeFault) → ((hs : List Held) → o ≡ linear_with hs → WhenOk P go) →
+    WhenOk P (where_linear o go)
+when_linear (linear_with hs) go k = k hs refl
+when_linear (bends p c) go k = when_err _
+
+pub when_so : {A : Type 0} {P Q : A → Type 0} (r : Result A TypeFault) → WhenOk P r → ((x : A) → P x → Q x) → WhenOk Q r
+when_so (Ok x) (when_ok y p) f = when_ok x (f x p)
+when_so (Err e) h f = when_err e
+
+-- whatever is known of the first result
+pub when_then : {A B : Type 0} {Q : B → Type 0} (r : Result A TypeFault) (f : A → Result B TypeFault) → ((x : A) → WhenOk Q (f x)) → WhenOk Q (r >>= f)
+when_then (Ok x) f k = k x
+when_then (Err e) f k = when_err e

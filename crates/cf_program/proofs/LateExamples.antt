@@ -12,13 +12,12 @@ use Rattle.cf_tree.specs.RawTree.{raw_lit, raw_truth, raw_name, raw_set_of, raw_
 use Rattle.cf_tree.specs.RelTree.{RelTree, term_lit, term_var, term_mul, rel_compare}
 use Rattle.cf_program.specs.declared.fault.TypeFault.TheVariants.{UnknownName, Mismatch, NotLinear}
 use Rattle.cf_program.specs.declared.linearity.Linearity.TheVariants.{Plain, Late}
-use Rattle.cf_program.specs.Checked.{checked, checked_by}
 use Rattle.cf_program.specs.LateLinear.{IsLinearBy}
-use Rattle.cf_program.proofs.PlainForms.{raw_divides, raw_div, raw_mod, raw_choose, part}
+use Rattle.cf_program.proofs.PlainForms.{raw_divides, raw_div, raw_mod, raw_choose, part, checked, checked_late}
 use Rattle.cf_program.proofs.RuleExamples.{at, on, param, def}
 
 abbrev is_accepted : List RawDefTree → Bool
-is_accepted ds = is_ok (checked_by Late ds)
+is_accepted ds = is_ok (checked_late ds)
 
 -- def main(a: int, b: int): int = choose (x: int) where a * x == b
 abbrev quotient : List RawDefTree
@@ -31,7 +30,7 @@ quotient_is_not_plain : checked quotient ≡ Err (NotLinear (at 57))
 quotient_is_not_plain = refl
 
 quotient_is_late :
-    checked_by Late quotient
+    checked_late quotient
     ≡ Ok (record {
       defs = record {
         name = codes "main";
@@ -55,7 +54,7 @@ two_products = (def (at 1) (codes "main") (param (at 10) (codes "a") Int ∷ [])
     (raw_name (at 71) (codes "a"))) (raw_binary (at 82) (Compare Eq) (raw_binary (at 78) Mul (raw_name (at 76) (codes "x")) (raw_name (at 80) (codes "y")))
     (raw_lit (at 85) (pos 3))))) ∷ [])
 
-first_by_each_rule : (checked two_products ≡ Err (NotLinear (at 64))) × (checked_by Late two_products ≡ Err (NotLinear (at 78)))
+first_by_each_rule : (checked two_products ≡ Err (NotLinear (at 64))) × (checked_late two_products ≡ Err (NotLinear (at 78)))
 first_by_each_rule = (refl, refl)
 
 -- and what follows a late choose may break another rule first
@@ -68,7 +67,7 @@ unknown_later = (def (at 1) (codes "main") (param (at 10) (codes "a") Int ∷ []
     (raw_binary (at 53) (Compare Eq) (raw_binary (at 49) Mul (raw_name (at 47) (codes "a")) (raw_name (at 51) (codes "x"))) (raw_name (at 56) (codes "a")))) ∷
     def (on 2 1) (codes "g") (param (on 2 7) (codes "b") Int ∷ []) (Int ∷ []) (raw_name (on 2 22) (codes "c")) ∷ [])
 
-other_rule_first : (checked unknown_later ≡ Err (NotLinear (at 49))) × (checked_by Late unknown_later ≡ Err (UnknownName (on 2 22)))
+other_rule_first : (checked unknown_later ≡ Err (NotLinear (at 49))) × (checked_late unknown_later ≡ Err (UnknownName (on 2 22)))
 other_rule_first = (refl, refl)
 
 -- ---- a product has a side of literals and of numbers in scope, on the left or on the right
@@ -136,7 +135,7 @@ variable_of_a_pattern = refl
 -- ---- outputs, cards, quotients and remainders are no such side, nor are variables that the relation binds
 -- def main(a: int): (int, int) = choose (x: int, y: int) where x * y == a
 two_outputs :
-    checked_by Late (def (at 1) (codes "main") (param (at 10) (codes "a") Int ∷ []) (Int ∷ Int ∷ [])
+    checked_late (def (at 1) (codes "main") (param (at 10) (codes "a") Int ∷ []) (Int ∷ Int ∷ [])
     (raw_choose (at 32) (param (at 40) (codes "x") Int ∷ param (at 48) (codes "y") Int ∷ [])
     (raw_binary (at 68) (Compare Eq) (raw_binary (at 64) Mul (raw_name (at 62) (codes "x")) (raw_name (at 66) (codes "y"))) (raw_name (at 71) (codes "a"))))
     ∷ [])
@@ -145,7 +144,7 @@ two_outputs = refl
 
 -- def main(a: int): int = choose (x: int) where x * x == a
 square_of_the_output :
-    checked_by Late (def (at 1) (codes "main") (param (at 10) (codes "a") Int ∷ []) (Int ∷ [])
+    checked_late (def (at 1) (codes "main") (param (at 10) (codes "a") Int ∷ []) (Int ∷ [])
     (raw_choose (at 25) (param (at 33) (codes "x") Int ∷ [])
     (raw_binary (at 53) (Compare Eq) (raw_binary (at 49) Mul (raw_name (at 47) (codes "x")) (raw_name (at 51) (codes "x"))) (raw_name (at 56) (codes "a"))))
     ∷ [])
@@ -154,7 +153,7 @@ square_of_the_output = refl
 
 -- def main(a: int): int = choose (x: int) where (a + x) * x == a
 factor_with_an_output :
-    checked_by Late (def (at 1) (codes "main") (param (at 10) (codes "a") Int ∷ []) (Int ∷ [])
+    checked_late (def (at 1) (codes "main") (param (at 10) (codes "a") Int ∷ []) (Int ∷ [])
     (raw_choose (at 25) (param (at 33) (codes "x") Int ∷ [])
     (raw_binary (at 59) (Compare Eq) (raw_binary (at 55) Mul
     (raw_group (at 47) (raw_binary (at 50) Add (raw_name (at 48) (codes "a")) (raw_name (at 52) (codes "x")))) (raw_name (at 57) (codes "x")))
@@ -164,7 +163,7 @@ factor_with_an_output = refl
 
 -- def main(a: int, s: set): int = choose (x: int) where card(s) * x == a
 card_as_a_factor :
-    checked_by Late (def (at 1) (codes "main") (param (at 10) (codes "a") Int ∷ param (at 18) (codes "s") Set ∷ []) (Int ∷ [])
+    checked_late (def (at 1) (codes "main") (param (at 10) (codes "a") Int ∷ param (at 18) (codes "s") Set ∷ []) (Int ∷ [])
     (raw_choose (at 33) (param (at 41) (codes "x") Int ∷ [])
     (raw_binary (at 67) (Compare Eq) (raw_binary (at 63) Mul (raw_card (at 55) (raw_name (at 60) (codes "s"))) (raw_name (at 65) (codes "x")))
     (raw_name (at 70) (codes "a")))) ∷ [])
@@ -173,7 +172,7 @@ card_as_a_factor = refl
 
 -- def main(a: int): int = choose (x: int) where div(a, 2) * x == a
 quotient_as_a_factor :
-    checked_by Late (def (at 1) (codes "main") (param (at 10) (codes "a") Int ∷ []) (Int ∷ [])
+    checked_late (def (at 1) (codes "main") (param (at 10) (codes "a") Int ∷ []) (Int ∷ [])
     (raw_choose (at 25) (param (at 33) (codes "x") Int ∷ [])
     (raw_binary (at 61) (Compare Eq) (raw_binary (at 57) Mul (raw_div (at 47) (raw_name (at 51) (codes "a")) (pos 2)) (raw_name (at 59) (codes "x")))
     (raw_name (at 64) (codes "a")))) ∷ [])
@@ -182,7 +181,7 @@ quotient_as_a_factor = refl
 
 -- def main(a: int): int = choose (x: int) where mod(a, 2) * x == a
 remainder_as_a_factor :
-    checked_by Late (def (at 1) (codes "main") (param (at 10) (codes "a") Int ∷ []) (Int ∷ [])
+    checked_late (def (at 1) (codes "main") (param (at 10) (codes "a") Int ∷ []) (Int ∷ [])
     (raw_choose (at 25) (param (at 33) (codes "x") Int ∷ [])
     (raw_binary (at 61) (Compare Eq) (raw_binary (at 57) Mul (raw_mod (at 47) (raw_name (at 51) (codes "a")) (pos 2)) (raw_name (at 59) (codes "x")))
     (raw_name (at 64) (codes "a")))) ∷ [])
@@ -191,7 +190,7 @@ remainder_as_a_factor = refl
 
 -- def main(a: int): int = choose (x: int) where (let y = a in y * x == a)
 variable_of_the_relation :
-    checked_by Late (def (at 1) (codes "main") (param (at 10) (codes "a") Int ∷ []) (Int ∷ [])
+    checked_late (def (at 1) (codes "main") (param (at 10) (codes "a") Int ∷ []) (Int ∷ [])
     (raw_choose (at 25) (param (at 33) (codes "x") Int ∷ [])
     (raw_group (at 47) (raw_let (at 48) ((codes "y") ∷ []) ((at 52) ∷ []) (raw_name (at 56) (codes "a"))
     (raw_binary (at 67) (Compare Eq) (raw_binary (at 63) Mul (raw_name (at 61) (codes "y")) (raw_name (at 65) (codes "x")))
@@ -470,7 +469,7 @@ known_in_truth = refl
 -- ---- where a product is linear, the form around it is the first that is not
 -- def main(a: int): int = choose (x: int) where card({a * x}) == a
 first_is_the_set :
-    checked_by Late (def (at 1) (codes "main") (param (at 10) (codes "a") Int ∷ []) (Int ∷ [])
+    checked_late (def (at 1) (codes "main") (param (at 10) (codes "a") Int ∷ []) (Int ∷ [])
     (raw_choose (at 25) (param (at 33) (codes "x") Int ∷ [])
     (raw_binary (at 61) (Compare Eq) (raw_card (at 47)
     (raw_set_of (at 52) (raws_of ((raw_binary (at 55) Mul (raw_name (at 53) (codes "a")) (raw_name (at 57) (codes "x"))) ∷ []))))
@@ -480,7 +479,7 @@ first_is_the_set = refl
 
 -- def main(a: int): int = choose (x: int) where (let (y, z) = (a * x, a * x) in y == z)
 first_is_the_tuple :
-    checked_by Late (def (at 1) (codes "main") (param (at 10) (codes "a") Int ∷ []) (Int ∷ [])
+    checked_late (def (at 1) (codes "main") (param (at 10) (codes "a") Int ∷ []) (Int ∷ [])
     (raw_choose (at 25) (param (at 33) (codes "x") Int ∷ [])
     (raw_group (at 47) (raw_let (at 48) ((codes "y") ∷ (codes "z") ∷ []) ((at 53) ∷ (at 56) ∷ [])
     (raw_tuple (at 61) (raws_of ((raw_binary (at 64) Mul (raw_name (at 62) (codes "a")) (raw_name (at 66) (codes "x"))) ∷
@@ -492,7 +491,7 @@ first_is_the_tuple = refl
 -- def f(y: int): int = y
 -- def main(a: int): int = choose (x: int) where f(a * x) == a
 first_is_the_call :
-    checked_by Late (def (at 1) (codes "f") (param (at 7) (codes "y") Int ∷ []) (Int ∷ []) (raw_name (at 22) (codes "y")) ∷ def (on 2 1) (codes "main")
+    checked_late (def (at 1) (codes "f") (param (at 7) (codes "y") Int ∷ []) (Int ∷ []) (raw_name (at 22) (codes "y")) ∷ def (on 2 1) (codes "main")
     (param (on 2 10) (codes "a") Int ∷ []) (Int ∷ [])
     (raw_choose (on 2 25) (param (on 2 33) (codes "x") Int ∷ [])
     (raw_binary (on 2 56) (Compare Eq) (raw_call (on 2 47) (codes "f")
@@ -502,7 +501,7 @@ first_is_the_call = refl
 
 -- def main(a: int): int = choose (x: int) where (if a * x == a then true else a * x == x)
 first_is_the_if :
-    checked_by Late (def (at 1) (codes "main") (param (at 10) (codes "a") Int ∷ []) (Int ∷ [])
+    checked_late (def (at 1) (codes "main") (param (at 10) (codes "a") Int ∷ []) (Int ∷ [])
     (raw_choose (at 25) (param (at 33) (codes "x") Int ∷ [])
     (raw_group (at 47) (raw_if (at 48) (raw_binary (at 57) (Compare Eq)
     (raw_binary (at 53) Mul (raw_name (at 51) (codes "a")) (raw_name (at 55) (codes "x"))) (raw_name (at 60) (codes "a"))) (raw_truth (at 67) true)
@@ -513,7 +512,7 @@ first_is_the_if = refl
 
 -- def main(a: int): int = choose (x: int) where (let y = a * x in a * x == y)
 first_is_the_let :
-    checked_by Late (def (at 1) (codes "main") (param (at 10) (codes "a") Int ∷ []) (Int ∷ [])
+    checked_late (def (at 1) (codes "main") (param (at 10) (codes "a") Int ∷ []) (Int ∷ [])
     (raw_choose (at 25) (param (at 33) (codes "x") Int ∷ [])
     (raw_group (at 47) (raw_let (at 48) ((codes "y") ∷ []) ((at 52) ∷ [])
     (raw_binary (at 58) Mul (raw_name (at 56) (codes "a")) (raw_name (at 60) (codes "x")))
@@ -524,7 +523,7 @@ first_is_the_let = refl
 
 -- def main(a: int): int = choose (x: int) where (match a * x with { 0 then a * x; i then a * x }) == a
 first_is_the_match :
-    checked_by Late (def (at 1) (codes "main") (param (at 10) (codes "a") Int ∷ []) (Int ∷ [])
+    checked_late (def (at 1) (codes "main") (param (at 10) (codes "a") Int ∷ []) (Int ∷ [])
     (raw_choose (at 25) (param (at 33) (codes "x") Int ∷ [])
     (raw_binary (at 97) (Compare Eq) (raw_group (at 47)
     (raw_match (at 48) (raw_binary (at 56) Mul (raw_name (at 54) (codes "a")) (raw_name (at 58) (codes "x")))
@@ -536,7 +535,7 @@ first_is_the_match = refl
 
 -- def main(a: int): int = choose (x: int) where x == (choose (y: int) where a * y == a)
 first_is_the_inner_choose :
-    checked_by Late (def (at 1) (codes "main") (param (at 10) (codes "a") Int ∷ []) (Int ∷ [])
+    checked_late (def (at 1) (codes "main") (param (at 10) (codes "a") Int ∷ []) (Int ∷ [])
     (raw_choose (at 25) (param (at 33) (codes "x") Int ∷ [])
     (raw_binary (at 49) (Compare Eq) (raw_name (at 47) (codes "x"))
     (raw_group (at 52) (raw_choose (at 53) (param (at 61) (codes "y") Int ∷ [])
@@ -547,7 +546,7 @@ first_is_the_inner_choose = refl
 
 -- def main(a: int): int = choose (x: int) where x == (choose (y: int) where x * y == a)
 first_is_in_the_inner_choose :
-    checked_by Late (def (at 1) (codes "main") (param (at 10) (codes "a") Int ∷ []) (Int ∷ [])
+    checked_late (def (at 1) (codes "main") (param (at 10) (codes "a") Int ∷ []) (Int ∷ [])
     (raw_choose (at 25) (param (at 33) (codes "x") Int ∷ [])
     (raw_binary (at 49) (Compare Eq) (raw_name (at 47) (codes "x"))
     (raw_group (at 52) (raw_choose (at 53) (param (at 61) (codes "y") Int ∷ [])
@@ -558,7 +557,7 @@ first_is_in_the_inner_choose = refl
 
 -- def main(a: int): int = choose (x: int) where x * x == (choose (y: int) where x * y == a)
 first_is_before_the_inner_choose :
-    checked_by Late (def (at 1) (codes "main") (param (at 10) (codes "a") Int ∷ []) (Int ∷ [])
+    checked_late (def (at 1) (codes "main") (param (at 10) (codes "a") Int ∷ []) (Int ∷ [])
     (raw_choose (at 25) (param (at 33) (codes "x") Int ∷ [])
     (raw_binary (at 53) (Compare Eq) (raw_binary (at 49) Mul (raw_name (at 47) (codes "x")) (raw_name (at 51) (codes "x")))
     (raw_group (at 56) (raw_choose (at 57) (param (at 65) (codes "y") Int ∷ [])
@@ -569,7 +568,7 @@ first_is_before_the_inner_choose = refl
 
 -- def main(a: int): int = choose (x: int) where x * x == (choose (y: int) where y * y == a)
 inner_choose_has_two_outputs :
-    checked_by Late (def (at 1) (codes "main") (param (at 10) (codes "a") Int ∷ []) (Int ∷ [])
+    checked_late (def (at 1) (codes "main") (param (at 10) (codes "a") Int ∷ []) (Int ∷ [])
     (raw_choose (at 25) (param (at 33) (codes "x") Int ∷ [])
     (raw_binary (at 53) (Compare Eq) (raw_binary (at 49) Mul (raw_name (at 47) (codes "x")) (raw_name (at 51) (codes "x")))
     (raw_group (at 56) (raw_choose (at 57) (param (at 65) (codes "y") Int ∷ [])
@@ -580,7 +579,7 @@ inner_choose_has_two_outputs = refl
 
 -- def main(a: int): int = choose (x: int) where (choose (y: int) where x * y == a) == a && x == true
 inner_choose_comes_last :
-    checked_by Late (def (at 1) (codes "main") (param (at 10) (codes "a") Int ∷ []) (Int ∷ [])
+    checked_late (def (at 1) (codes "main") (param (at 10) (codes "a") Int ∷ []) (Int ∷ [])
     (raw_choose (at 25) (param (at 33) (codes "x") Int ∷ [])
     (raw_binary (at 87) And (raw_binary (at 82) (Compare Eq)
     (raw_group (at 47) (raw_choose (at 48) (param (at 56) (codes "y") Int ∷ [])

@@ -10,7 +10,7 @@ use Rattle.cf_tree.specs.DefView.{DefTree}
 use Rattle.cf_tree.specs.ExprTree.{ExprTree, expr_lit, expr_truth, expr_var, expr_set_of, expr_tuple, expr_neg, expr_not, expr_abs, expr_binary, expr_divides, expr_div, expr_mod, expr_card, expr_if, expr_call, expr_let, expr_choose, expr_match, no_exprs, exprs_of, match_arm, no_match_arms, match_arms_of}
 use Rattle.cf_tree.specs.RelTree.{term_lit, term_var, term_add, term_mul, rel_false, rel_true, rel_compare, rel_and}
 use Rattle.cf_program.specs.declared.fault.TypeFault.TheVariants.{NoMain, Weight, Depth}
-use Rattle.cf_program.specs.Checked.{size_fault, sized, main_from}
+use Rattle.cf_program.specs.Checked.{TypedTree, size_fault, sized, main_from}
 use Rattle.cf_program.specs.Lowered.{lowered}
 use Rattle.cf_program.specs.Size.{weight_in, depth_in, weights, depths}
 
@@ -171,9 +171,12 @@ abbrev negated : ℕ → ExprTree
 negated zero = k
 negated (suc n) = expr_neg (negated n)
 
+abbrev program : List DefTree → TypedTree
+program defs = record { defs = defs; main = 0 }
+
 -- 199 signs are within the limit of depth, 200 are not
-sized-depth : (sized (def (negated 199) ∷ []) (Some 0) ≡ Ok (record { defs = def (negated 199) ∷ []; main = 0 }))
-    × (sized (def (negated 200) ∷ []) (Some 0) ≡ Err (Depth 201))
+sized-depth : (sized (program (def (negated 199) ∷ [])) ≡ Ok (program (def (negated 199) ∷ [])))
+    × (sized (program (def (negated 200) ∷ [])) ≡ Err (Depth 201))
 sized-depth = (refl, refl)
 
 -- functions that each call the one before them twice
@@ -181,9 +184,9 @@ abbrev doubled : ℕ → ℕ → List DefTree
 doubled zero f = []
 doubled (suc n) f = def (expr_binary Add (call f) (call f)) ∷ doubled n (suc f)
 
-sized-weight : sized (def (expr_var 0) ∷ doubled 18 0) (Some 0) ≡ Err (Weight 1572859)
+sized-weight : sized (program (def (expr_var 0) ∷ doubled 18 0)) ≡ Err (Weight 1572859)
 sized-weight = refl
 
--- weights come before depths, and a missing `main` before both
-sized-order : (sized (def (negated 200) ∷ doubled 18 0) (Some 0) ≡ Err (Weight 1687547)) × (sized (def (negated 200) ∷ []) None ≡ Err NoMain)
-sized-order = (refl, refl)
+-- weights come before depths
+sized-order : sized (program (def (negated 200) ∷ doubled 18 0)) ≡ Err (Weight 1687547)
+sized-order = refl

@@ -8,7 +8,7 @@ use Rattle.cf_tree.specs.declared.base.Order.{Order}
 use Rattle.cf_tree.specs.declared.base.Order.TheVariants.{Eq, Ne, Lt, Le, Gt, Ge}
 use Rattle.cf_tree.specs.declared.base.Place.{Place}
 use Rattle.cf_tree.specs.declared.raw.BinOp.{BinOp}
-use Rattle.cf_tree.specs.declared.raw.BinOp.TheVariants.{Add, Sub, Mul, And, Or, Union, Inter, Diff, Subset, Compare}
+use Rattle.cf_tree.specs.declared.raw.BinOp.TheVariants.{Add, Sub, Mul, And, Or, Union, Inter, Diff, Subset, Implies, Compare}
 use Rattle.cf_tree.specs.Relation.{is_fixed, IsLinearTerm, IsLinear, IsTypedSet, IsTypedTerm, IsTyped}
 use Rattle.cf_tree.specs.RelTree.{SetTree, TermTree, term_lit, term_var, term_card, term_neg, term_add, term_sub, term_mul, term_div, term_mod, term_abs, RelTree, rel_true, rel_false, rel_compare, rel_same_set, rel_other_set, rel_subset, rel_divides, rel_and, rel_or, rel_not}
 use Rattle.cf_program.specs.declared.linearity.Linearity.{Linearity}
@@ -146,4 +146,5 @@ module _ (known : ℕ) where
       (refl, (ta, tb))))
   binary_reads scope bs cs Subset p left right h k = on_set_reads scope bs (one Truth) _ p left h (λ a ta. on_set_reads scope cs (one Truth) _ p right k
       (λ b tb. (refl, (ta, tb), tt)))
+  binary_reads scope bs cs Implies p left right h k = bent_at_reads scope (one Truth) _ p
   binary_reads scope bs cs (Compare order) p left right h k = compare_reads scope bs cs order p left right h k

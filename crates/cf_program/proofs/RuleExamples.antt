@@ -14,8 +14,8 @@ use Rattle.cf_tree.specs.ExprTree.{ExprTree, expr_lit, expr_truth, expr_var, exp
 use Rattle.cf_tree.specs.RawTree.{RawTree, raw_lit, raw_truth, raw_name, raw_set_of, raw_group, raw_tuple, raw_neg, raw_not, raw_abs, raw_binary, raw_card, raw_call, raw_if, raw_let, raw_match, no_raws, raws_of, raw_arm, raw_arms_of}
 use Rattle.cf_tree.specs.RelTree.{empty_set, set_var, union_of, inter_of, diff_of, term_lit, term_var, term_card, term_neg, term_add, term_sub, term_mul, term_div, term_mod, term_abs, rel_true, rel_false, rel_compare, rel_same_set, rel_other_set, rel_subset, rel_divides, rel_and, rel_or, rel_not}
 use Rattle.cf_program.specs.declared.fault.TypeFault.TheVariants.{UnknownName, DuplicateName, WrongCount, Mismatch, CallsLater, NoMain, NotLinear}
-use Rattle.cf_program.proofs.PlainForms.{raw_divides, raw_div, raw_mod, raw_choose, part}
-use Rattle.cf_program.specs.Checked.{TypedTree, checked}
+use Rattle.cf_program.proofs.PlainForms.{raw_divides, raw_div, raw_mod, raw_choose, part, checked}
+use Rattle.cf_program.specs.Checked.{TypedTree}
 use Rattle.cf_program.specs.Reading.{relation, term, set, not_linear, on_relation, on_term, on_set, sets_reading}
 use Rattle.cf_program.specs.Walk.{linear}
 

@@ -1,6 +1,5 @@
 -- What the rules keep.
 use Rattle.std.specs.Prelude.{◌≡◌, List, Ok}
-use Rattle.cf_tree.specs.declared.base.Edition.{Edition}
 use Rattle.cf_tree.specs.declared.base.Edition.TheVariants.{Two, Three}
 use Rattle.cf_tree.specs.DefView.{RawItemTree}
 use Rattle.cf_program.specs.declared.linearity.Linearity.{Linearity}
@@ -21,7 +20,7 @@ abbrev pub RulesKeepSources : Type 0
 RulesKeepSources = (how : Linearity) (items : List RawItemTree) (t : TypedTree) → IsSpelledProgram Three items → checked Three how items ≡ Ok t →
     IsSourceBy how t.defs t.main
 
--- and the names of either differ where they stand together
+-- and the names of one of language 2 differ where they stand together
 abbrev pub RulesKeepNames : Type 0
-RulesKeepNames = (edition : Edition) (how : Linearity) (items : List RawItemTree) (t : TypedTree) → IsSpelledProgram edition items →
-    checked edition how items ≡ Ok t → IsDistinctlyNamed (functions_of items)
+RulesKeepNames = (how : Linearity) (items : List RawItemTree) (t : TypedTree) → IsSpelledProgram Two items → checked Two how items ≡ Ok t →
+    IsDistinctlyNamed (functions_of items)

@@ -74,14 +74,14 @@ abbrev mutual
   parts_hold inputs calls vs (expr_more e es) = holds inputs calls vs e then λ hs. parts_hold inputs calls vs es then λ gs. Some (most_of hs ∷ gs)
 
 -- a call of function number f by what its arguments hold, where the functions stand last first
-abbrev pub cparts_holds : Bool → List DefTree → ℕ → List Held → Option (List Held)
-cparts_holds inputs [] f hs = None
-cparts_holds inputs (d ∷ earlier) f hs =
-    if f == length earlier then holds inputs (cparts_holds inputs earlier) hs d.body else cparts_holds inputs earlier f hs
+abbrev pub call_holds : Bool → List DefTree → ℕ → List Held → Option (List Held)
+call_holds inputs [] f hs = None
+call_holds inputs (d ∷ earlier) f hs =
+    if f == length earlier then holds inputs (call_holds inputs earlier) hs d.body else call_holds inputs earlier f hs
 
 -- an expression is linear behind these functions, which stand last first, where these are held by level
 abbrev pub IsLinearHolding : Bool → List DefTree → List Held → ExprTree → Type 0
-IsLinearHolding inputs earlier vs e = (hs : List Held) × (holds inputs (cparts_holds inputs earlier) vs e ≡ Some hs)
+IsLinearHolding inputs earlier vs e = (hs : List Held) × (holds inputs (call_holds inputs earlier) vs e ≡ Some hs)
 
 abbrev pub IsLinearGiven : List DefTree → List Held → GivenExpr → Type 0
 IsLinearGiven earlier vs holds_always = Unit {0}
