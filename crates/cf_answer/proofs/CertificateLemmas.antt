@@ -42,7 +42,7 @@ never_broken : (program : List RawItemTree) (typed : TypedTree) (f : Fault) → 
 never_broken program typed f is (broken_rule e broken) = cc
 
 pub typed_unbroken : (text : List ℕ) (typed : TypedTree) (f : Fault) → IsTypedSource text typed → IsBrokenSource text f → ⊥
-typed_unbroken text typed f s h = unrefused (IsProgram Two) (program_of Two 200) IsBroken one_program text f s.0 (λ g b. never_broken s.0 typed g s.2 b) h s.1
+typed_unbroken text typed f s h = unrefused (IsProgram Two) (program_of Two 200) IsBroken (one_program Two) text f s.0 (λ g b. never_broken s.0 typed g s.2 b) h s.1
 
 broken_alike : (text : List ℕ) (program : List RawItemTree) (f g : Fault) → Spelled (IsProgram Two) text program → IsBroken program f → IsBroken program g →
     fault_status f ≡ fault_status g
@@ -54,7 +54,7 @@ spelled_unrefused text bs f s h = unrefused AreBlocks (all_blocks 500) (λ bs g.
 
 pub verify_alike : (source steps : List ℕ) (f g : Fault) → IsUnverified source steps f → IsUnverified source steps g → fault_status f ≡ fault_status g
 verify_alike source steps f g (bad_source a h) (bad_source b i) =
-    alike (IsProgram Two) (program_of Two 200) IsBroken one_program source (broken_alike source) f g h i
+    alike (IsProgram Two) (program_of Two 200) IsBroken (one_program Two) source (broken_alike source) f g h i
 verify_alike source steps f g (bad_source a h) (bad_steps typed e s i) = absurd (typed_unbroken source typed f s h)
 verify_alike source steps f g (bad_source a h) (bad_blocks typed bs n i j w s b v) = absurd (typed_unbroken source typed f s h)
 verify_alike source steps f g (bad_steps typed e s h) (bad_source b i) = absurd (typed_unbroken source typed g s i)

@@ -11,9 +11,10 @@ use Rattle.cf_tree.specs.declared.base.Order.TheVariants.{Eq, Le}
 use Rattle.cf_tree.specs.declared.base.Place.{Place}
 use Rattle.cf_tree.specs.declared.raw.BinOp.TheVariants.{Mul, And, Compare}
 use Rattle.cf_tree.specs.declared.raw.Param.{Param}
-use Rattle.cf_tree.specs.DefView.{RawDefTree}
+use Rattle.cf_tree.specs.declared.base.Edition.TheVariants.{Two}
+use Rattle.cf_tree.specs.DefView.{RawItemTree, item_def}
 use Rattle.cf_tree.specs.ExprTree.{ExprTree, expr_choose}
-use Rattle.cf_tree.specs.RawTree.{RawTree, raw_name, raw_lit, raw_binary, raw_choose}
+use Rattle.cf_tree.specs.RawTree.{RawTree, raw_name, raw_lit, raw_binary}
 use Rattle.cf_tree.specs.RelTree.{rel_and, rel_compare, term_add, term_mul, term_var}
 use Rattle.cf_tree.specs.Values.{Value, number}
 use Rattle.cf_linear.specs.Arm.{arm}
@@ -28,6 +29,8 @@ use Rattle.cf_late.specs.Texts.{late_text}
 use Rattle.cf_parse.specs.Programs.{IsProgram}
 use Rattle.cf_parse.proofs.Programs.{one_law}
 use Rattle.cf_program.specs.Checked.{TypedTree, checked}
+use Rattle.cf_program.specs.declared.linearity.Linearity.TheVariants.{Plain}
+use Rattle.cf_program.proofs.PlainForms.{raw_choose}
 use Rattle.cf_program.specs.declared.fault.TypeFault.TheVariants as rule
 use Rattle.cf_answer.specs.LateReplies.{main_comes, IsLateReply, comes}
 use Rattle.cf_answer.specs.Owed.{by_late, AreReplies, OwesRun, compiled, late}
@@ -46,8 +49,8 @@ at column = record { line = 1; column = column }
 abbrev int : ℕ → List ℕ → Param
 int column name = record { place = at column; name = name; base = Int }
 
-abbrev main : List Param → List Base → RawTree → List RawDefTree
-main params results body = record { place = at 1; name = codes "main"; params = params; results = results; body = body } ∷ []
+abbrev main : List Param → List Base → RawTree → List RawItemTree
+main params results body = item_def (record { place = at 1; name = codes "main"; params = params; results = results; body = body }) ∷ []
 
 abbrev typed : List Param → List Base → ExprTree → TypedTree
 typed params results body = record { defs = record { name = codes "main"; params = params; results = results; body = body } ∷ []; main = 0 }
@@ -60,7 +63,7 @@ times column x y = raw_binary (at column) Mul (raw_name (at (column - 2)) x) (ra
 abbrev scope : List Param
 scope = int 10 (codes "a") ∷ int 18 (codes "b") ∷ []
 
-abbrev quotient : List RawDefTree
+abbrev quotient : List RawItemTree
 quotient = main scope (Int ∷ []) (raw_choose (at 33) (int 41 (codes "x") ∷ [])
     (raw_binary (at 61) (Compare Eq) (times 57 (codes "a") (codes "x")) (raw_name (at 64) (codes "b"))))
 
@@ -82,7 +85,7 @@ product_of_outputs : IsBadRun (main (int 10 (codes "a") ∷ []) (Int ∷ Int ∷
 product_of_outputs = broken_late (at 64) (rule.NotLinear (at 64)) refl refl
 
 -- def main(a: int, b: int): int = choose (x: int, y: int) where a * x == b && x * y == 3
-abbrev two_products : List RawDefTree
+abbrev two_products : List RawItemTree
 two_products = main scope (Int ∷ []) (raw_choose (at 33) (int 41 (codes "x") ∷ int 49 (codes "y") ∷ []) (raw_binary (at 74) And
     (raw_binary (at 69) (Compare Eq) (times 65 (codes "a") (codes "x")) (raw_name (at 72) (codes "b")))
     (raw_binary (at 83) (Compare Eq) (times 79 (codes "x") (codes "y")) (raw_lit (at 86) (pos 3)))))
@@ -100,9 +103,9 @@ another_rule_for_run = broken_late (at 57) (rule.DuplicateName (at 1)) refl refl
 -- ---- no pass is called
 not_compiled : {A : Type 0} (source : List ℕ) (tree other : TypedTree) → IsLateSource source tree → IsTypedSource source other → A
 not_compiled source tree other l s =
-    let same : s.0 ≡ l.0 = trees_agree IsProgram one_law source s.0 l.0 s.1 l.1 in
-    let kept : checked l.0 ≡ Ok other = subst (λ p. checked p ≡ Ok other) same s.2 in
-    let broken : checked l.0 ≡ Err (rule.NotLinear l.2.0) = l.2.1 in absurd (cc)
+    let same : s.0 ≡ l.0 = trees_agree (IsProgram Two) (one_law Two) source s.0 l.0 s.1 l.1 in
+    let kept : checked Two Plain l.0 ≡ Ok other = subst (λ p. checked Two Plain p ≡ Ok other) same s.2 in
+    let broken : checked Two Plain l.0 ≡ Err (rule.NotLinear l.2.0) = l.2.1 in absurd (cc)
 
 abbrev told : ℕ → List Told
 told tally = record { name = codes "fold"; tally = tally; turns = 0; makes = λ n c. c; whole = true } ∷ []

@@ -11,8 +11,7 @@ use Rattle.cf_program.specs.TypedProgram.{IsLateProgram}
 use Rattle.cf_program.specs.declared.linearity.Linearity.TheVariants.{Plain, Late}
 use Rattle.cf_program.specs.declared.fault.TypeFault.{TypeFault}
 use Rattle.cf_program.specs.declared.fault.TypeFault.TheVariants as rule
-use Rattle.cf_program.proofs.Kept.{when_is}
-use Rattle.cf_program.proofs.ProgramLaws.{checked_good}
+use Rattle.cf_program.proofs.ProgramLaws.{rules_keep_types}
 use Rattle.cf_tree.specs.declared.base.Edition.TheVariants.{Two}
 use Rattle.cf_tree.specs.DefView.{RawItemTree}
 use Rattle.cf_tree.specs.declared.base.Place.{Place}
@@ -68,7 +67,7 @@ bad_run_alike text program f g s (broken_late p e plain h) (bad i b m) = only_la
 bad_run_alike text program f g s (broken_late p e plain h) (broken_late q d other i) = let same : e ≡ d = cc in ap rule_status same
 
 pub runs_alike : (text : List ℕ) (f g : Fault) → IsRefusedRun text f → IsRefusedRun text g → fault_status f ≡ fault_status g
-runs_alike text f g h i = alike (IsProgram Two) (program_of Two 200) IsBadRun one_law text (bad_run_alike text) f g h i
+runs_alike text f g h i = alike (IsProgram Two) (program_of Two 200) IsBadRun (one_law Two) text (bad_run_alike text) f g h i
 
 -- ---- a source that `run` answers is not refused
 
@@ -86,9 +85,9 @@ late_run_kept program typed c f (broken_late p e plain h) = let kept : checked T
 pub run_unrefused : (calls : Bool) (source : List ℕ) (given last : List Told) (ls : List (List ℕ)) (text : List ℕ) (f : Fault) →
     OwesRun calls source given last ls text → IsRefusedRun source f → ⊥
 run_unrefused calls source given last ls text f (compiled t (c, turned) replies picked) r =
-    unrefused (IsProgram Two) (program_of Two 200) IsBadRun one_law source f c.1.0 (built_run c.1.0 c.0 (applied calls given) (applied calls last) t c.1.2 c.2) r c.1.1
+    unrefused (IsProgram Two) (program_of Two 200) IsBadRun (one_law Two) source f c.1.0 (built_run c.1.0 c.0 (applied calls given) (applied calls last) t c.1.2 c.2) r c.1.1
 run_unrefused calls source given last ls text f (late typed s replies allowed same) r =
-    unrefused (IsProgram Two) (program_of Two 200) IsBadRun one_law source f s.0 (late_run_kept s.0 typed s.2) r s.1
+    unrefused (IsProgram Two) (program_of Two 200) IsBadRun (one_law Two) source f s.0 (late_run_kept s.0 typed s.2) r s.1
 
 -- ---- what answers the lines
 
@@ -101,7 +100,7 @@ target_runs text typed t given last turned s built =
 -- a late program
 runs_allowed : (program : List RawItemTree) (typed : TypedTree) → IsSpelledProgram Two program → checked Two Late program ≡ Ok typed → AreRunsAllowed typed
 runs_allowed program typed s is =
-    let kept : IsLateProgram typed.defs typed.main = when_is (checked Two Late program) typed (checked_good Late program s) is in
+    let kept : IsLateProgram typed.defs typed.main = rules_keep_types Late program typed s is in
     λ line vs spelled.
     let fit = values_fit (main_bases typed) (without_return line) vs spelled in
     late_runs_are_allowed typed.defs typed.main kept vs (main_types typed vs kept fit.0) fit.1

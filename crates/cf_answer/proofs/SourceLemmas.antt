@@ -17,8 +17,7 @@ use Rattle.cf_program.specs.CheckAnswers.{CheckFault}
 use Rattle.cf_program.specs.TypedProgram.{all_numbers}
 use Rattle.cf_program.specs.declared.fault.TypeFault.{TypeFault}
 use Rattle.cf_program.specs.declared.fault.TypeFault.TheVariants as rule
-use Rattle.cf_program.proofs.Kept.{when_is}
-use Rattle.cf_program.proofs.ProgramLaws.{checked_typed}
+use Rattle.cf_program.proofs.ProgramLaws.{rules_keep_types}
 use Rattle.cf_build.specs.Built.{IsBuilt}
 use Rattle.cf_tree.specs.ChooseTree.{ChooseTree}
 use Rattle.cf_build.specs.Chooses.{all_chooses, by_number, limit_of, IsFirstRefused}
@@ -54,7 +53,7 @@ fails_so (rule.Depth k) r n h = h
 source_distinct : (text : List ℕ) (program : List RawItemTree) (typed : TypedTree) → Spelled (IsProgram Two) text program → checked Two Plain program ≡ Ok typed →
     IsDistinct nat_eq (all_numbers typed.defs)
 source_distinct text program typed s e =
-    (when_is (checked Two Plain program) typed (checked_typed program (spelled_program program s.0 s.3 (lexes-within s.2.1.1))) e).distinct
+    (rules_keep_types Plain program typed (spelled_program Two program s.0 s.3 (lexes-within s.2.1.1)) e).distinct
 
 pub bad_alike : (text : List ℕ) (program : List RawItemTree) (f g : Fault) → Spelled (IsProgram Two) text program → IsBadProgram program f → IsBadProgram program g →
     fault_status f ≡ fault_status g
@@ -67,7 +66,7 @@ bad_alike text program f g s (refused typed n r h b) (refused other m q i c) =
     ap refusal_status (one_refusal typed.defs n m r q (source_distinct text program typed s h) b there)
 
 pub sources_alike : (text : List ℕ) (f g : Fault) → IsRefusedSource text f → IsRefusedSource text g → fault_status f ≡ fault_status g
-sources_alike text f g h i = alike (IsProgram Two) (program_of Two 200) IsBadProgram one_law text (bad_alike text) f g h i
+sources_alike text f g h i = alike (IsProgram Two) (program_of Two 200) IsBadProgram (one_law Two) text (bad_alike text) f g h i
 
 -- a program whose chooses pass no limit is not refused
 never_bad : (program : List RawItemTree) (typed : TypedTree) → checked Two Plain program ≡ Ok typed →
@@ -82,7 +81,7 @@ never_bad program typed is within f (refused other n r h b) =
 pub typed_unrefused : (text : List ℕ) (typed : TypedTree) (f : Fault) → IsTypedSource text typed →
     ((q : ChooseTree) → Contains (all_chooses typed.defs) q → limit_of q ≡ None) →
     IsRefusedSource text f → ⊥
-typed_unrefused text typed f s within h = unrefused (IsProgram Two) (program_of Two 200) IsBadProgram one_law text f s.0 (never_bad s.0 typed s.2 within) h s.1
+typed_unrefused text typed f s within h = unrefused (IsProgram Two) (program_of Two 200) IsBadProgram (one_law Two) text f s.0 (never_bad s.0 typed s.2 within) h s.1
 
 -- nor is one of which a target is built
 pub built_never_bad : (program : List RawItemTree) (typed : TypedTree) (given last : List Told) (t : RawTarget) → checked Two Plain program ≡ Ok typed →

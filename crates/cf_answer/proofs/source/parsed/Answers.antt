@@ -1,4 +1,5 @@
 use Rattle.std.proofs.Common.{inl}
+use Rattle.cf_tree.specs.declared.base.Edition.TheVariants.{Two}
 use Rattle.cf_answer.proofs.SpelledLemmas.{spelled_program}
 use Rattle.cf_answer.proofs.TextLemmas.{no_source}
 use Rattle.cf_answer.proofs.source.parsed.Goals as goal
@@ -7,7 +8,7 @@ pub returns-in-Ok-clause-verdict : goal.returns-in-Ok-clause-verdict
 returns-in-Ok-clause-verdict c = let list = c.in_ok-list.list in (list.list.items, list.end, c.in_ok-list.ensures.tokens, c.in-Ok.ensures.found)
 
 pub returns-in-Ok-clause-numbers : goal.returns-in-Ok-clause-numbers
-returns-in-Ok-clause-numbers c = spelled_program _ c.in_ok-list.list.list.items c.in-Ok.ensures.found c.in_ok-list.ensures.within
+returns-in-Ok-clause-numbers c = spelled_program Two _ c.in_ok-list.list.list.items c.in-Ok.ensures.found c.in_ok-list.ensures.within
 
 pub returns-in-Err-Syntax-clause-verdict : goal.returns-in-Err-Syntax-clause-verdict
 returns-in-Err-Syntax-clause-verdict c =
