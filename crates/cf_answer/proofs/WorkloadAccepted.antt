@@ -1,11 +1,11 @@
 -- The source of each workload spells a program that breaks no rule, and each choose of which passes no limit.
-use Rattle.std.proofs.Common.{◌≡◌, ℕ, zero, suc, ◌-◌, ◌≤◌, List, [], ◌∷◌, ◌++◌, length, All, None, refl, ap, ap₂, ◌∙◌, sym, subst, arith}
+use Rattle.std.proofs.Common.{◌≡◌, ℕ, zero, suc, ◌-◌, ◌≤◌, List, [], ◌∷◌, ◌++◌, length, map, All, None, refl, ap, ap₂, ◌∙◌, sym, subst, arith}
 use Rattle.std.specs.List.{range_with_len}
 use Rattle.std.proofs.lemmas.List.{length-map}
 use Rattle.std.proofs.lemmas.List.FromFn.{length-range_with_len}
 use Rattle.std.proofs.lemmas.List.Elements.{All-nil, All-cons, All-head, All-tail, All-contains}
 use Rattle.cf_tree.specs.ChooseTree.{ChooseTree}
-use Rattle.cf_tree.specs.DefView.{DefTree}
+use Rattle.cf_tree.specs.DefView.{DefTree, item_def}
 use Rattle.cf_tree.specs.ExprTree.{ExprTree}
 use Rattle.cf_tree.specs.declared.base.Base.TheVariants.{Int}
 use Rattle.cf_linear.specs.Chooses.{limit as first_limit}
@@ -72,7 +72,7 @@ module _ (n : ℕ) (l : 1 ≤ n) (h : n ≤ 100) where
   typed_source : IsTypedSource (gen_source n) workload_is_checked.typed
   typed_source =
       let k = source_spelled n l h in (
-        k.3,
+        map item_def k.3,
         (k.0, k.1, (short_source n l h, ([], k.2, refl)), is_program (n - 1) 1 (coefficients n) k.3 k.0 k.4 k.5),
         workload_is_checked.is,
       )

@@ -9,8 +9,9 @@ use Rattle.cf_tree.specs.declared.raw.Param.{Param}
 use Rattle.cf_tree.specs.Params.{bases_of}
 use Rattle.cf_tree.specs.DefView.{RawDefTree}
 use Rattle.cf_tree.specs.ExprTree.{ExprTree, expr_var, expr_binary, expr_call, expr_let, expr_choose, no_exprs, expr_more}
-use Rattle.cf_tree.specs.RawTree.{RawTree, raw_lit, raw_name, raw_binary, raw_call, raw_let, raw_choose, no_raws, raw_more}
+use Rattle.cf_tree.specs.RawTree.{RawTree, raw_lit, raw_name, raw_binary, raw_call, raw_let, no_raws, raw_more}
 use Rattle.cf_tree.specs.RelTree.{RelTree, term_lit, term_var, term_add, term_mul, rel_compare, rel_and}
+use Rattle.cf_program.proofs.PlainForms.{raw_choose}
 
 abbrev pub Shape : Type 1
 Shape = RawTree → Type 0

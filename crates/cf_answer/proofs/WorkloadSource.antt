@@ -15,19 +15,21 @@ use Rattle.cf_lex.specs.Tokens.{Lexes, none}
 use Rattle.cf_lex.specs.Words.{is_reserved}
 use Rattle.cf_lex.specs.declared.token.Token.{Token}
 use Rattle.cf_lex.specs.declared.token.TokenKind.TheVariants.{Literal, Word, Sign}
-use Rattle.cf_reader.specs.Tokens.{Form, ◌⨟◌, Next, NextName, Several}
+use Rattle.cf_reader.specs.Tokens.{Form, ◌⨟◌, First, Next, FirstName, NextFunction, Several}
 use Rattle.cf_reader.specs.Operations.{op_kind}
 use Rattle.cf_tree.specs.declared.base.Base.TheVariants.{Int}
+use Rattle.cf_tree.specs.declared.base.Edition.TheVariants.{Two}
 use Rattle.cf_tree.specs.declared.base.Order.TheVariants.{Eq, Le, Lt}
 use Rattle.cf_tree.specs.declared.base.Place.{Place}
 use Rattle.cf_tree.specs.declared.raw.BinOp.{BinOp}
 use Rattle.cf_tree.specs.declared.raw.BinOp.TheVariants.{Add, Mul, And, Compare}
-use Rattle.cf_tree.specs.DefView.{RawDefTree}
-use Rattle.cf_tree.specs.RawTree.{RawTree, raw_lit, raw_name, raw_binary, raw_call, raw_let, raw_choose, no_raws, raw_more, raw_depth}
+use Rattle.cf_tree.specs.DefView.{RawDefTree, item_def}
+use Rattle.cf_tree.specs.RawTree.{RawTree, raw_lit, raw_name, raw_binary, raw_call, raw_let, no_raws, raw_more, raw_depth}
 use Rattle.cf_parse.specs.declared.tier.Tier.{Tier}
-use Rattle.cf_parse.specs.declared.tier.Tier.TheVariants.{Whole, Ors, Ands, Cmps, Sums, Muls, Unary}
-use Rattle.cf_parse.specs.Programs.{SpellsDef, SpellsDefs}
-use Rattle.cf_parse.specs.Spelling.{rank, under, op_tier, left_tier, Fits, SpellsParam, SpellsNames, Spells}
+use Rattle.cf_parse.specs.declared.tier.Tier.TheVariants.{Whole, Imps, Ors, Ands, Cmps, Sums, Muls, Unary}
+use Rattle.cf_parse.specs.Programs.{SpellsDef, SpellsAll}
+use Rattle.cf_parse.specs.Spelling.{rank, op_tier, left_tier, right_tier, Fits, FirstOp, SpellsParam, SpellsNames, Spells}
+use Rattle.cf_program.proofs.PlainForms.{raw_choose}
 use Rattle.cf_gen.specs.Workload.{function_text, function_line, call_text, call_more, main_line, coefficient, coefficients, gen_source}
 use Rattle.cf_emit.proofs.Numerals.{AreDigitsOf, decimal_read, digits_in_word, ends_digits}
 use Rattle.cf_emit.proofs.Spans.{Spans, Says, then, as_form, one_token, white_before, white_behind, is_plain, word, spaced, Mark, opening, closing, comma, colon, spaced_sign}
@@ -35,7 +37,11 @@ use Rattle.cf_answer.proofs.WorkloadShapes.{Shape, IsName, IsLit, IsBoth, number
 
 -- some tree of a shape
 abbrev Tree : Shape → Form
-Tree A ts rest = (t : RawTree) × A t × Spells t ts rest
+Tree A ts rest = (t : RawTree) × A t × Spells Two t ts rest
+
+-- a name of language 2 stands first
+abbrev NextName : List ℕ → Form
+NextName x ts rest = (p : Place) × FirstName Two p x ts rest
 
 -- ---- how tightly the shapes bind
 abbrev AllFit : Tier → Shape → Type 0
@@ -43,6 +49,7 @@ AllFit tier A = (t : RawTree) → A t → Fits tier t
 
 name_fits : (tier : Tier) (x : List ℕ) → AllFit tier (IsName x)
 name_fits Whole x t h = rw h.1 (omega arith)
+name_fits Imps x t h = rw h.1 (omega arith)
 name_fits Ors x t h = rw h.1 (omega arith)
 name_fits Ands x t h = rw h.1 (omega arith)
 name_fits Cmps x t h = rw h.1 (omega arith)
@@ -52,6 +59,7 @@ name_fits Unary x t h = rw h.1 (omega arith)
 
 lit_fits : (tier : Tier) (k : ℕ) → AllFit tier (IsLit k)
 lit_fits Whole k t h = rw h.1 (omega arith)
+lit_fits Imps k t h = rw h.1 (omega arith)
 lit_fits Ors k t h = rw h.1 (omega arith)
 lit_fits Ands k t h = rw h.1 (omega arith)
 lit_fits Cmps k t h = rw h.1 (omega arith)
@@ -66,7 +74,7 @@ both_fits : (tier : Tier) (op : BinOp) (A B : Shape) → rank tier ≤ rank (op_
 both_fits tier op A B l t h = rw h.5 l
 
 -- ---- words, numbers and operations
-name_says : (x : List ℕ) → is_plain x ≡ true → is_reserved x ≡ false → Says (Tree (IsName x)) x
+name_says : (x : List ℕ) → is_plain x ≡ true → is_reserved Two x ≡ false → Says (Tree (IsName x)) x
 name_says x plain free rest stops = as_form (λ ts more h. (raw_name h.0 x, (h.0, refl), (h.1, free))) (word x rest plain stops)
 
 number_says : (k : ℕ) (ds : List ℕ) → k ≤ 2 ^ 127 - 1 → AreDigitsOf k ds → Says (Tree (IsLit k)) ds
@@ -77,17 +85,21 @@ number_says k ds fits r rest stops =
     not_negative : (n : ℕ) → pos 0 ≤ℤ pos n
     not_negative n = omega (arith, ints)
 
-both_says : (op : BinOp) (A B : Shape) (a o b : List ℕ) → Says (Tree A) a → Mark (op_kind op) o → Says (Tree B) b → AllFit (left_tier (op_tier op)) A →
-    AllFit (under (op_tier op)) B →
+-- the word or sign of an operation of language 2
+abbrev IsOfTwo : BinOp → Type 0
+IsOfTwo op = (p : Place) (ts rest : List Token) → First p (op_kind op) ts rest → FirstOp op Two p ts rest
+
+both_says : (op : BinOp) → IsOfTwo op → (A B : Shape) (a o b : List ℕ) → Says (Tree A) a → Mark (op_kind op) o → Says (Tree B) b →
+    AllFit (left_tier (op_tier op)) A → AllFit (right_tier (op_tier op)) B →
     Says (Tree (IsBoth op A B)) (a ++ o ++ b)
-both_says op A B a o b left mark right fit fits rest stops =
+both_says op of_two A B a o b left mark right fit fits rest stops =
     simp append_assoc (as_form turn (then (left (o ++ (b ++ rest)) (mark.begins (b ++ rest))) (then (mark.gives (b ++ rest)) (right rest stops))))
   where
     turn : (ts more : List Token) → (Tree A ⨟ Next (op_kind op) ⨟ Tree B) ts more → Tree (IsBoth op A B) ts more
     turn ts more h = (
       raw_binary h.2.1.0 op h.1.0 h.2.2.0,
       (h.2.1.0, h.1.0, h.2.2.0, h.1.1, h.2.2.1, refl),
-      (h.0, (fit h.1.0 h.1.1, h.1.2), (h.2.0, h.2.1.1, (fits h.2.2.0 h.2.2.1, h.2.2.2))),
+      (h.0, (fit h.1.0 h.1.1, h.1.2), (h.2.0, of_two h.2.1.0 h.0 h.2.0 h.2.1.1, (fits h.2.2.0 h.2.2.1, h.2.2.2))),
     )
 
 plus : Mark (Sign (codes "+")) (codes " + ")
@@ -141,33 +153,33 @@ module _ (c : ℕ) (small : c ≤ 2 ^ 127 - 1) where
   c_says = number_says c (decimal c) small (decimal_read c (omega arith))
 
   product_says : Says (Tree (IsBoth Mul (IsLit c) (IsName (codes "q")))) (product_text c)
-  product_says = both_says Mul (IsLit c) (IsName (codes "q")) (decimal c) (codes " * ") (codes "q") c_says times q_says (lit_fits Muls c)
+  product_says = both_says Mul (λ p ts rest h. h) (IsLit c) (IsName (codes "q")) (decimal c) (codes " * ") (codes "q") c_says times q_says (lit_fits Muls c)
       (name_fits Unary (codes "q"))
 
   sum_says : Says (Tree (IsBoth Add (IsBoth Mul (IsLit c) (IsName (codes "q"))) (IsName (codes "r")))) (product_text c ++ codes " + " ++ codes "r")
   sum_says =
-      both_says Add (IsBoth Mul (IsLit c) (IsName (codes "q"))) (IsName (codes "r")) (product_text c) (codes " + ") (codes "r") product_says plus r_says
+      both_says Add (λ p ts rest h. h) (IsBoth Mul (IsLit c) (IsName (codes "q"))) (IsName (codes "r")) (product_text c) (codes " + ") (codes "r") product_says plus r_says
       (both_fits Sums Mul (IsLit c) (IsName (codes "q")) (omega arith)) (name_fits Muls (codes "r"))
 
   equation_says : Says (Tree (IsEqual c)) (equation_text c)
   equation_says =
-      both_says (Compare Eq) (IsName (codes "a")) (IsBoth Add (IsBoth Mul (IsLit c) (IsName (codes "q"))) (IsName (codes "r"))) (codes "a") (codes " == ")
+      both_says (Compare Eq) (λ p ts rest h. h) (IsName (codes "a")) (IsBoth Add (IsBoth Mul (IsLit c) (IsName (codes "q"))) (IsName (codes "r"))) (codes "a") (codes " == ")
       (product_text c ++ codes " + " ++ codes "r") a_says equals sum_says (name_fits Sums (codes "a"))
       (both_fits Sums Add (IsBoth Mul (IsLit c) (IsName (codes "q"))) (IsName (codes "r")) (omega arith))
 
   lower_says : Says (Tree (IsBoth (Compare Le) (IsLit 0) (IsName (codes "r")))) lower_text
-  lower_says = both_says (Compare Le) (IsLit 0) (IsName (codes "r")) (codes "0") (codes " <= ") (codes "r") zero_says at_most r_says (lit_fits Sums 0)
+  lower_says = both_says (Compare Le) (λ p ts rest h. h) (IsLit 0) (IsName (codes "r")) (codes "0") (codes " <= ") (codes "r") zero_says at_most r_says (lit_fits Sums 0)
       (name_fits Sums (codes "r"))
 
   upper_says : Says (Tree (IsBoth (Compare Lt) (IsName (codes "r")) (IsLit c))) (upper_text c)
-  upper_says = both_says (Compare Lt) (IsName (codes "r")) (IsLit c) (codes "r") (codes " < ") (decimal c) r_says below c_says (name_fits Sums (codes "r"))
+  upper_says = both_says (Compare Lt) (λ p ts rest h. h) (IsName (codes "r")) (IsLit c) (codes "r") (codes " < ") (decimal c) r_says below c_says (name_fits Sums (codes "r"))
       (lit_fits Sums c)
 
   relation_says : Says (Tree (IsRelation c)) (relation_text c)
   relation_says =
-      both_says And (IsBoth And (IsEqual c) (IsBoth (Compare Le) (IsLit 0) (IsName (codes "r")))) (IsBoth (Compare Lt) (IsName (codes "r")) (IsLit c))
+      both_says And (λ p ts rest h. h) (IsBoth And (IsEqual c) (IsBoth (Compare Le) (IsLit 0) (IsName (codes "r")))) (IsBoth (Compare Lt) (IsName (codes "r")) (IsLit c))
       (equation_text c ++ codes " && " ++ lower_text) (codes " && ") (upper_text c)
-      (both_says And (IsEqual c) (IsBoth (Compare Le) (IsLit 0) (IsName (codes "r"))) (equation_text c) (codes " && ") lower_text equation_says ands lower_says
+      (both_says And (λ p ts rest h. h) (IsEqual c) (IsBoth (Compare Le) (IsLit 0) (IsName (codes "r"))) (equation_text c) (codes " && ") lower_text equation_says ands lower_says
       (both_fits Ands (Compare Eq) (IsName (codes "a")) (IsBoth Add (IsBoth Mul (IsLit c) (IsName (codes "q"))) (IsName (codes "r"))) (omega arith))
       (both_fits Cmps (Compare Le) (IsLit 0) (IsName (codes "r")) (omega arith)))
       ands upper_says
@@ -176,15 +188,15 @@ module _ (c : ℕ) (small : c ≤ 2 ^ 127 - 1) where
 
 -- ---- the choose
 abbrev SomeParam : List ℕ → Form
-SomeParam x ts rest = (p : Place) × SpellsParam (number_at p x) ts rest
+SomeParam x ts rest = (p : Place) × SpellsParam Two (number_at p x) ts rest
 
-param_says : (x : List ℕ) → is_plain x ≡ true → is_reserved x ≡ false → Says (SomeParam x) (x ++ codes ": " ++ codes "int")
+param_says : (x : List ℕ) → is_plain x ≡ true → is_reserved Two x ≡ false → Says (SomeParam x) (x ++ codes ": " ++ codes "int")
 param_says x plain free rest stops =
     simp append_assoc (as_form (λ ts more h. (h.1.0, (h.0, (h.1.1, free), h.2)))
     (then (word x (codes ": int" ++ rest) plain refl) (then (colon.gives (codes "int" ++ rest)) (word (codes "int") rest refl stops))))
 
 abbrev SomeOutputs : Form
-SomeOutputs ts rest = (q : Place) × (r : Place) × Several SpellsParam (Sign (codes ",")) (Sign (codes ")"))
+SomeOutputs ts rest = (q : Place) × (r : Place) × Several (SpellsParam Two) (Sign (codes ",")) (Sign (codes ")"))
     (number_at q (codes "q") ∷ number_at r (codes "r") ∷ []) ts rest
 
 outputs_say : (rest : List ℕ) → Spans SomeOutputs (codes "q: int, r: int)" ++ rest) rest
@@ -216,9 +228,9 @@ choose_says c t relation rest stops =
 
 -- ---- a function's body
 abbrev SomeNames : Form
-SomeNames ts rest = (q : Place) × (r : Place) × SpellsNames (codes "q" ∷ codes "r" ∷ []) (q ∷ r ∷ []) ts rest
+SomeNames ts rest = (q : Place) × (r : Place) × SpellsNames Two (codes "q" ∷ codes "r" ∷ []) (q ∷ r ∷ []) ts rest
 
-next_name : (x : List ℕ) → is_plain x ≡ true → is_reserved x ≡ false → Says (NextName x) x
+next_name : (x : List ℕ) → is_plain x ≡ true → is_reserved Two x ≡ false → Says (NextName x) x
 next_name x plain free rest stops = as_form (λ ts more h. (h.0, (h.1, free))) (word x rest plain stops)
 
 names_say : (rest : List ℕ) → Spans SomeNames (codes "(q, r)" ++ rest) rest
@@ -249,7 +261,7 @@ body_says c t chooses rest stops =
     behind = codes " in q + r" ++ rest
 
     sum_of_both : Says (Tree (IsBoth Add (IsName (codes "q")) (IsName (codes "r")))) (codes "q + r")
-    sum_of_both = both_says Add (IsName (codes "q")) (IsName (codes "r")) (codes "q") (codes " + ") (codes "r") q_says plus r_says
+    sum_of_both = both_says Add (λ p ts rest h. h) (IsName (codes "q")) (IsName (codes "r")) (codes "q") (codes " + ") (codes "r") q_says plus r_says
         (name_fits Sums (codes "q")) (name_fits Muls (codes "r"))
 
     turn : (ts more : List Token) →
@@ -272,10 +284,10 @@ not_a d h = grind (arith, nat_tests)
 not_r : (d : ℕ) → is_digit d ≡ true → (d == 114) ≡ false
 not_r d h = grind (arith, nat_tests)
 
-free_by : (d : ℕ) (ds : List ℕ) → is_digit d ≡ true → is_reserved (102 ∷ d ∷ ds) ≡ false
+free_by : (d : ℕ) (ds : List ℕ) → is_digit d ≡ true → is_reserved Two (102 ∷ d ∷ ds) ≡ false
 free_by d ds h = rw (not_a d h, not_r d h) refl
 
-free_digits : (ds : List ℕ) → 0 < length ds → AllAre is_digit ds → is_reserved (102 ∷ ds) ≡ false
+free_digits : (ds : List ℕ) → 0 < length ds → AllAre is_digit ds → is_reserved Two (102 ∷ ds) ≡ false
 free_digits [] l h = absurd (omega arith)
 free_digits (d ∷ ds) l h = free_by d ds h.0
 
@@ -283,13 +295,13 @@ module _ (i : ℕ) (small : i ≤ 2 ^ 127 - 1) where
   digits : AreDigitsOf i (decimal i)
   digits = decimal_read i (omega arith)
 
-  free : is_reserved (function_name i) ≡ false
+  free : is_reserved Two (function_name i) ≡ false
   free = free_digits (decimal i) digits.some digits.digits
 
   function_word : Says (Next (Word (function_name i))) (function_name i)
   function_word rest stops = one_token (function_name i) rest (Word (function_name i)) ((refl, (digits_in_word (decimal i) digits.digits, stops)), refl)
 
-  function_name_says : Says (NextName (function_name i)) (function_name i)
+  function_name_says : Says (NextFunction Two (function_name i)) (function_name i)
   function_name_says rest stops = as_form (λ ts more h. (h.0, (h.1, free))) (function_word rest stops)
 
   -- a call
@@ -299,13 +311,13 @@ module _ (i : ℕ) (small : i ≤ 2 ^ 127 - 1) where
       (then (function_name_says (codes "(a)" ++ rest) refl) (then (opening.gives (codes "a)" ++ rest))
       (then (a_says (codes ")" ++ rest) refl) (closing.gives rest)))))
     where
-      turn : (ts more : List Token) → (NextName (function_name i) ⨟ Next (Sign (codes "(")) ⨟ Tree (IsName (codes "a")) ⨟ Next (Sign (codes ")"))) ts more →
+      turn : (ts more : List Token) → (NextFunction Two (function_name i) ⨟ Next (Sign (codes "(")) ⨟ Tree (IsName (codes "a")) ⨟ Next (Sign (codes ")"))) ts more →
           Tree (IsCall i) ts more
       turn ts more h =
           let a = h.2.2.1 in (
             raw_call h.1.0 (function_name i) (raw_more (raw_name a.1.0 (codes "a")) no_raws),
             (h.1.0, a.1.0, refl),
-            (h.0, h.1.1, (h.2.0, h.2.1, (h.2.2.0, subst (λ t. Spells t h.2.0 h.2.2.0) a.1.1 a.2, h.2.2.2))),
+            (h.0, h.1.1, (h.2.0, h.2.1, (h.2.2.0, subst (λ t. Spells Two t h.2.0 h.2.2.0) a.1.1 a.2, h.2.2.2))),
           )
 
 -- ---- the sum of the calls
@@ -335,7 +347,7 @@ calls_say : (m : ℕ) → m + 1 ≤ 2 ^ 127 - 1 → Says (Tree (AreCalls m)) (ca
 calls_say zero small = subst (λ t. Says (Tree (IsCall 1)) t) (sym (append-nil (call_text 1))) (call_says 1 (omega arith))
 calls_say (suc m) small =
     subst (λ t. Says (Tree (AreCalls (suc m))) t) (sym (calls_text_next m))
-    (both_says Add (AreCalls m) (IsCall (m + 2)) (calls_text m) (codes " + ") (call_text (m + 2)) (calls_say m (omega arith)) plus
+    (both_says Add (λ p ts rest h. h) (AreCalls m) (IsCall (m + 2)) (calls_text m) (codes " + ") (call_text (m + 2)) (calls_say m (omega arith)) plus
     (call_says (m + 2) (omega arith))
     (calls_fit m) (call_fits (m + 2)))
 
@@ -399,12 +411,12 @@ calls_shallow (suc m) =
 
 -- ---- functions
 abbrev SomeDef : List ℕ → Shape → Form
-SomeDef x A ts rest = (d : RawDefTree) × IsDef x A d × SpellsDef 200 d ts rest
+SomeDef x A ts rest = (d : RawDefTree) × IsDef x A d × SpellsDef Two 200 d ts rest
 
 abbrev def_text : List ℕ → List ℕ → List ℕ
 def_text x t = codes "def " ++ x ++ codes "(a: int): int = " ++ t ++ codes "\n"
 
-def_says : (x : List ℕ) (A : Shape) (t rest : List ℕ) → Says (NextName x) x → Says (Tree A) t → AreShallow 200 A →
+def_says : (x : List ℕ) (A : Shape) (t rest : List ℕ) → Says (NextFunction Two x) x → Says (Tree A) t → AreShallow 200 A →
     Spans (SomeDef x A) (def_text x t ++ rest) rest
 def_says x A t rest named body shallow =
     simp append_assoc (as_form turn
@@ -417,7 +429,7 @@ def_says x A t rest named body shallow =
     end = t ++ (10 ∷ rest)
 
     turn : (ts more : List Token) →
-        (Next (Word (codes "def")) ⨟ NextName x ⨟ Next (Sign (codes "(")) ⨟ SomeParam (codes "a") ⨟ Next (Sign (codes ")")) ⨟ Next (Sign (codes ":")) ⨟
+        (Next (Word (codes "def")) ⨟ NextFunction Two x ⨟ Next (Sign (codes "(")) ⨟ SomeParam (codes "a") ⨟ Next (Sign (codes ")")) ⨟ Next (Sign (codes ":")) ⨟
         Next (Word (codes "int"))
         ⨟ Next (Sign (codes "=")) ⨟ Tree A) ts more →
         SomeDef x A ts more
@@ -451,16 +463,16 @@ def_says x A t rest named body shallow =
         )
 
 -- ---- all functions
-abbrev SpellsAll : List RawDefTree → Form
-SpellsAll [] ts rest = ts ≡ rest
-SpellsAll (d ∷ ds) ts rest = (mid : List Token) × SpellsDef 200 d ts mid × SpellsAll ds mid rest
+abbrev SpellsFunctions : List RawDefTree → Form
+SpellsFunctions [] ts rest = ts ≡ rest
+SpellsFunctions (d ∷ ds) ts rest = (mid : List Token) × SpellsDef Two 200 d ts mid × SpellsFunctions ds mid rest
 
-all_spelled : (ds : List RawDefTree) (ts : List Token) → SpellsAll ds ts [] → SpellsDefs 200 ds ts
+all_spelled : (ds : List RawDefTree) (ts : List Token) → SpellsFunctions ds ts [] → SpellsAll Two 200 (map item_def ds) ts
 all_spelled [] ts h = h
 all_spelled (d ∷ ds) ts h = (h.0, h.1, all_spelled ds h.0 h.2)
 
 abbrev SomeDefs : ℕ → ℕ → List ℕ → Form
-SomeDefs m i cs ts rest = (ds : List RawDefTree) × AreDefs m i cs ds × SpellsAll ds ts rest
+SomeDefs m i cs ts rest = (ds : List RawDefTree) × AreDefs m i cs ds × SpellsFunctions ds ts rest
 
 abbrev AreSmall : List ℕ → Type 0
 AreSmall [] = Unit {0}
@@ -500,7 +512,7 @@ function_says i c small within rest =
 
 main_says : (m : ℕ) → m + 2 ≤ 200 → (rest : List ℕ) → Spans (SomeDef (codes "main") (AreCalls m)) (def_text (codes "main") (calls_text m) ++ rest) rest
 main_says m small rest =
-    def_says (codes "main") (AreCalls m) (calls_text m) rest (next_name (codes "main") refl refl) (calls_say m (omega arith))
+    def_says (codes "main") (AreCalls m) (calls_text m) rest (λ more stops. as_form (λ us vs h. (h.0, (h.1, refl))) (word (codes "main") more refl stops)) (calls_say m (omega arith))
     (deeper (m + 2) 200 (AreCalls m) small (calls_shallow m))
 
 functions_say : (m i : ℕ) (cs : List ℕ) → m + 2 ≤ 200 → i + length cs ≤ 2 ^ 127 - 1 → AreSmall cs → (rest : List ℕ) →
@@ -531,12 +543,12 @@ source_is n = ap₂ (λ s t. s ++ t) (sym (functions_are n 1 n)) (main_line_is n
 
 -- a tree that the source spells: its functions by their coefficients, and main
 pub source_spelled : (n : ℕ) → 1 ≤ n → n ≤ 100 →
-    (ts : List Token) × (end : Place) × Lexes (2 ^ 127 - 1) first_place (gen_source n) ts end [] × (ds : List RawDefTree) × AreDefs (n - 1) 1
-    (coefficients n) ds × SpellsDefs 200 ds ts
+    (ts : List Token) × (end : Place) × Lexes Two (2 ^ 127 - 1) first_place (gen_source n) ts end [] × (ds : List RawDefTree) × AreDefs (n - 1) 1
+    (coefficients n) ds × SpellsAll Two 200 (map item_def ds) ts
 source_spelled n l h =
     let many = length-map (range_with_len 1 n) (coefficient n) in
     let long = length-range_with_len 1 n in
     let s = functions_say (n - 1) 1 (coefficients n) (omega arith) (omega arith) (coefficients_small n 1 n) [] in
     let f = s.spans first_place in
     let g = f.1 [] f.0 none in
-    (g.0, f.0, subst (λ t. Lexes (2 ^ 127 - 1) first_place t g.0 f.0 []) (sym (source_is n)) g.1, g.2.0, g.2.1, all_spelled g.2.0 g.0 g.2.2)
+    (g.0, f.0, subst (λ t. Lexes Two (2 ^ 127 - 1) first_place t g.0 f.0 []) (sym (source_is n)) g.1, g.2.0, g.2.1, all_spelled g.2.0 g.0 g.2.2)

@@ -1,5 +1,5 @@
 -- A program of the shape of a workload has levels in the place of its names.
-use Rattle.std.proofs.Common.{◌≡◌, ℕ, zero, suc, ◌+◌, ◌-◌, ◌*◌, ◌^◌, ◌<◌, ◌≤◌, pos, true, false, List, [], ◌∷◌, ◌++◌, length, map, get_or, codes, Option, Some, None, refl, sym, ap, ap₂, ◌∙◌, subst, append_assoc, arith, length-append}
+use Rattle.std.proofs.Common.{◌≡◌, ℕ, zero, suc, ◌+◌, ◌-◌, ◌*◌, ◌^◌, ◌<◌, ◌≤◌, pos, true, false, List, [], ◌∷◌, ◌++◌, length, map, reverse, get_or, codes, Option, Some, None, refl, sym, ap, ap₂, ◌∙◌, subst, append_assoc, arith, length-append}
 use Rattle.std.specs.Prelude.{◌||◌, nat_le, nat_lt, slice_index, Result, Ok, decimal, if◌then◌else◌}
 use Rattle.std.specs.Str.{bytes_eq}
 use Rattle.std.proofs.lemmas.Bool.Decides.{nat_tests}
@@ -12,7 +12,8 @@ use Rattle.cf_tree.specs.declared.base.Place.{Place}
 use Rattle.cf_tree.specs.declared.raw.BinOp.{BinOp}
 use Rattle.cf_tree.specs.declared.raw.BinOp.TheVariants.{Add, Mul, And, Compare}
 use Rattle.cf_tree.specs.declared.raw.Param.{Param}
-use Rattle.cf_tree.specs.DefView.{RawDefTree, DefTree}
+use Rattle.cf_tree.specs.declared.base.Edition.TheVariants.{Two}
+use Rattle.cf_tree.specs.DefView.{RawDefTree, DefTree, RawItemTree, item_def}
 use Rattle.cf_tree.specs.ExprTree.{ExprTree, expr_lit, expr_var, expr_binary, expr_let, expr_choose}
 use Rattle.cf_tree.specs.RawTree.{RawTree, raw_binary}
 use Rattle.cf_tree.specs.RelTree.{RelTree, term_lit, term_var, term_add, term_mul, rel_compare, rel_and}
@@ -21,22 +22,23 @@ use Rattle.cf_tree.proofs.SetLemmas.{on_bool}
 use Rattle.cf_program.specs.declared.fault.TypeFault.{TypeFault}
 use Rattle.cf_program.specs.declared.fault.TypeFault.TheVariants.{Weight, Depth}
 use Rattle.cf_program.specs.declared.linearity.Linearity.TheVariants.{Plain}
-use Rattle.cf_program.specs.Checked.{TypedTree, def_form, walk_def, walk_defs, main_from, size_fault, sized, checked}
+use Rattle.cf_program.specs.Checked.{TypedTree, functions_of, def_form, walk_def, walk_items, main_from, size_fault, sized, with_main, checked}
 use Rattle.cf_program.specs.Lowered.{lowered}
 use Rattle.cf_program.specs.Names.{Callee, is_among, callee, callee_from}
 use Rattle.cf_tree.specs.Params.{bases_of}
 use Rattle.cf_program.specs.Reading.{Reading, relation, term, not_linear, binary_reading}
 use Rattle.cf_program.specs.Size.{weight_in, depth_in, measured, weights, depths}
-use Rattle.cf_program.specs.Walk.{◌>>=◌, Form, Forms, binary_form, call_form, Context, in_body, walk}
+use Rattle.cf_program.specs.Then.{◌>>=◌}
+use Rattle.cf_program.specs.Walk.{Form, Forms, binary_form, call_form, Context, behind, walk}
 use Rattle.cf_lex.specs.Digits.{digits_value}
 use Rattle.cf_emit.proofs.Numerals.{decimal_read}
 use Rattle.cf_answer.proofs.WorkloadShapes.{Shape, IsName, IsLit, IsBoth, number_at, IsEqual, IsRelation, IsChoose, IsBody, function_name, IsCall, AreCalls, IsDef, AreDefs}
 use Rattle.cf_answer.proofs.WorkloadShapes.{function_rel, IsFunction, AreFunctions, call_of, calls_of, IsWorkload}
 
 -- ---- the body of a function
-module _ (calls : List ℕ → Option Callee) where
+module _ (calls : List ℕ → Option Callee) (before : List RawDefTree) where
   abbrev context : Context
-  context = in_body Plain calls
+  context = behind Two Plain calls [] before
 
   -- a form of one number, and of one truth value
   abbrev Number : List Param → ℕ → RawTree → ExprTree → Reading → Type 0
@@ -275,14 +277,14 @@ module _ (m : ℕ) where
 
   -- a function whose name is new, and whose body is a number
   def_kept : (all before : List RawDefTree) (n : ℕ) (p a : Place) (x : List ℕ) (t : RawTree) (f : Form) → is_among (map (λ e. e.name) before) x ≡ false →
-      walk (in_body Plain (callee_from (length before) 0 all)) (number_at a (codes "a") ∷ []) n t ≡ Ok f → f.bases ≡ one Int →
-      walk_def Plain all before n (def_of p a x t) ≡ Ok (def_form (def_of p a x t) f, f.next)
+      walk (behind Two Plain (callee_from (length before) 0 all) [] (reverse before)) (number_at a (codes "a") ∷ []) n t ≡ Ok f → f.bases ≡ one Int →
+      walk_def Two Plain all [] before n (def_of p a x t) ≡ Ok (def_form (def_of p a x t) f, f.next)
   def_kept all before n p a x t f new e b = rw (new, e, b) refl
 
   def_walks : (all before : List RawDefTree) (n c : ℕ) (x : List ℕ) (d : RawDefTree) → IsDef x (IsBody c) d → is_among (map (λ e. e.name) before) x ≡ false →
-      (r : DefTree × ℕ) × (walk_def Plain all before n d ≡ Ok r) × IsFunction c r.0.body × TakesOne r.0
+      (r : DefTree × ℕ) × (walk_def Two Plain all [] before n d ≡ Ok r) × IsFunction c r.0.body × TakesOne r.0
   def_walks all before n c x d h new =
-      let w = body_walks (callee_from (length before) 0 all) h.1 c n h.2 h.3 in
+      let w = body_walks (callee_from (length before) 0 all) (reverse before) h.1 c n h.2 h.3 in
       let f : Form = record {
         bases = one Int;
         tree = expr_let 2 (expr_choose n (number_at h.1 (codes "a") ∷ []) (Int ∷ Int ∷ []) (function_rel c)) (expr_binary Add (expr_var 1) (expr_var 2));
@@ -290,18 +292,18 @@ module _ (m : ℕ) where
         next = n + 1;
       } in (
         (def_form (def_of h.0 h.1 x h.2) f, f.next),
-        ap (walk_def Plain all before n) h.4 ∙ def_kept all before n h.0 h.1 x h.2 f new w.1 refl,
+        ap (walk_def Two Plain all [] before n) h.4 ∙ def_kept all before n h.0 h.1 x h.2 f new w.1 refl,
         (n, number_at h.1 (codes "a") ∷ [], refl, refl),
         refl,
       )
 
   main_walks : (all before : List RawDefTree) (n : ℕ) (d : RawDefTree) → IsDef (codes "main") (AreCalls m) d →
-      is_among (map (λ e. e.name) before) (codes "main") ≡ false → ((i : ℕ) → i ≤ m → Finds (callee_from (length before) 0 all) i) →
-      (r : DefTree × ℕ) × (walk_def Plain all before n d ≡ Ok r) × (r.0.body ≡ calls_of m) × TakesOne r.0
+      is_among (map (λ e. e.name) before) (codes "main") ≡ false → ((i : ℕ) → i ≤ m → Finds (callee_from (length before) 0 all) (reverse before) i) →
+      (r : DefTree × ℕ) × (walk_def Two Plain all [] before n d ≡ Ok r) × (r.0.body ≡ calls_of m) × TakesOne r.0
   main_walks all before n d h new each =
-      let w = calls_walk (callee_from (length before) 0 all) h.1 m n h.2 h.3 each in (
+      let w = calls_walk (callee_from (length before) 0 all) (reverse before) h.1 m n h.2 h.3 each in (
         (def_form (def_of h.0 h.1 (codes "main") h.2) w.form, w.form.next),
-        ap (walk_def Plain all before n) h.4 ∙ def_kept all before n h.0 h.1 (codes "main") h.2 w.form new w.is w.bases,
+        ap (walk_def Two Plain all [] before n) h.4 ∙ def_kept all before n h.0 h.1 (codes "main") h.2 w.form new w.is w.bases,
         w.tree,
         refl,
       )
@@ -316,15 +318,15 @@ module _ (m : ℕ) where
 
   defs_walk : (all before : List RawDefTree) (done : List DefTree) (n k : ℕ) (cs : List ℕ) (ds : List RawDefTree) → AreDefs m k cs ds →
       k + length cs < 10 ^ 64 → m < length before + length cs → AreOther k (map (λ e. e.name) before) →
-      ((b : List RawDefTree) (i : ℕ) → i ≤ m → i < length b → Finds (callee_from (length b) 0 all) i) →
-      (gs : List DefTree) × (walk_defs Plain all before done n ds ≡ Ok (done ++ gs)) × AreTyped cs gs
+      ((b : List RawDefTree) (i : ℕ) → i ≤ m → i < length b → Finds (callee_from (length b) 0 all) (reverse b) i) →
+      (gs : List DefTree) × (walk_items Two Plain all [] before done n (map item_def ds) ≡ Ok (done ++ gs)) × AreTyped cs gs
   defs_walk all before done n k [] [] are small many new each = absurd are
   defs_walk all before done n k (c ∷ cs) [] are small many new each = absurd are
   defs_walk all before done n k [] (d ∷ ds) are small many new each =
       let w = main_walks all before n d are.0 new.main (λ i l. each before i l (omega arith)) in (
         w.0.0 ∷ [],
-        ap (λ ds'. walk_defs Plain all before done n (d ∷ ds')) are.1
-            ∙ ap (λ r. r >>= λ x. walk_defs Plain all (before ++ d ∷ []) (done ++ x.0 ∷ []) x.1 []) w.1,
+        ap (λ ds'. walk_items Two Plain all [] before done n (map item_def (d ∷ ds'))) are.1
+            ∙ ap (λ r. r >>= λ x. walk_items Two Plain all [] (before ++ d ∷ []) (done ++ x.0 ∷ []) x.1 []) w.1,
         (w.2, w.3, refl),
       )
   defs_walk all before done n k (c ∷ cs) (d ∷ ds) are small many new each =
@@ -333,7 +335,7 @@ module _ (m : ℕ) where
       let more = defs_walk all (before ++ d ∷ []) (done ++ w.0.0 ∷ []) w.0.1 (k + 1) cs ds are.1 (omega arith) (omega arith)
       (names_more k (IsBody c) before d are.0 (omega arith) new) each in (
         w.0.0 ∷ more.0,
-        ap (λ r. r >>= λ x. walk_defs Plain all (before ++ d ∷ []) (done ++ x.0 ∷ []) x.1 ds) w.1 ∙ more.1
+        ap (λ r. r >>= λ x. walk_items Two Plain all [] (before ++ d ∷ []) (done ++ x.0 ∷ []) x.1 (map item_def ds)) w.1 ∙ more.1
             ∙ ap (λ gs. Ok gs) (append_assoc done (w.0.0 ∷ []) more.0),
         (w.2, w.3, more.2),
       )
@@ -406,20 +408,24 @@ ok_is : (x y : TypedTree) → ◌≡◌ {A = Result TypedTree TypeFault} (Ok x) 
 ok_is x y e = cc
 
 both_fit : (defs : List DefTree) (main : ℕ) → size_fault 1000000 Weight (weights defs) ≡ None → size_fault 200 Depth (depths defs) ≡ None →
-    sized defs (Some main) ≡ Ok (record { defs = defs; main = main })
+    sized (record { defs = defs; main = main }) ≡ Ok (record { defs = defs; main = main })
 both_fit defs main w d = rw (w, d) refl
+
+functions_are : (ds : List RawDefTree) → functions_of (map item_def ds) ≡ ds
+functions_are [] = refl
+functions_are (d ∷ ds) = ap (λ es. d ∷ es) (functions_are ds)
 
 -- a program of this shape breaks no rule
 pub record IsChecked (cs : List ℕ) (ds : List RawDefTree) : Type 0 where
   pub typed : TypedTree
-  pub is : checked ds ≡ Ok typed
+  pub is : checked Two Plain (map item_def ds) ≡ Ok typed
   pub defs : AreTyped (length cs - 1) cs typed.defs
   pub main : typed.main ≡ length cs
 
 pub workload_checked : (cs : List ℕ) (ds : List RawDefTree) → 1 ≤ length cs → length cs ≤ 100 → AreDefs (length cs - 1) 1 cs ds → IsChecked cs ds
 workload_checked cs ds l few are =
     let m = length cs - 1 in
-    let each : (b : List RawDefTree) (i : ℕ) → i ≤ m → i < length b → Finds (callee_from (length b) 0 ds) i = λ b i k u.
+    let each : (b : List RawDefTree) (i : ℕ) → i ≤ m → i < length b → Finds (callee_from (length b) 0 ds) (reverse b) i = λ b i k u.
     let f = found_at m (length b) 0 1 cs ds are (omega arith) i (omega arith) (omega arith) in
     let s : 1 + i ≡ i + 1 = omega arith in
     let z : 0 + i ≡ i = omega arith in
@@ -439,7 +445,9 @@ workload_checked cs ds l few are =
     cs w.0 w.2 in
     record {
       typed = record { defs = w.0; main = length cs };
-      is = ap (λ r. r >>= λ defs. sized defs (main_from 0 ds)) w.1 ∙ ap (sized w.0) (main_is m 0 1 cs ds are ∙ ap (λ i. Some i) z)
+      is = ap (λ fs. walk_items Two Plain fs [] [] [] 1 (map item_def ds) >>= λ defs. with_main defs (main_from 0 fs) >>= sized) (functions_are ds)
+          ∙ ap (λ r. r >>= λ defs. with_main defs (main_from 0 ds) >>= sized) w.1
+          ∙ ap (λ o. with_main w.0 o >>= sized) (main_is m 0 1 cs ds are ∙ ap (λ i. Some i) z)
           ∙ both_fit w.0 (length cs) weights_fit depths_fit;
       defs = w.2;
       main = refl;
@@ -447,7 +455,7 @@ workload_checked cs ds l few are =
 
 -- with levels in the place of names it is functions with these coefficients, and main, which takes one number
 pub workload_typed : (cs : List ℕ) (ds : List RawDefTree) (typed : TypedTree) → 1 ≤ length cs → length cs ≤ 100 → AreDefs (length cs - 1) 1 cs ds →
-    checked ds ≡ Ok typed →
+    checked Two Plain (map item_def ds) ≡ Ok typed →
     IsWorkload cs (map (λ d. d.body) typed.defs) typed.main × (get_or (map (λ d. bases_of d.params) typed.defs) typed.main [] ≡ one Int)
 workload_typed cs ds typed l few are e =
     let w = workload_checked cs ds l few are in
