@@ -42,7 +42,8 @@ never_broken : (program : List RawItemTree) (typed : TypedTree) (f : Fault) → 
 never_broken program typed f is (broken_rule e broken) = cc
 
 pub typed_unbroken : (text : List ℕ) (typed : TypedTree) (f : Fault) → IsTypedSource text typed → IsBrokenSource text f → ⊥
-typed_unbroken text typed f s h = unrefused (IsProgram Two) (program_of Two 200) IsBroken (one_program Two) text f s.0 (λ g b. never_broken s.0 typed g s.2 b) h s.1
+typed_unbroken text typed f s h =
+    unrefused (IsProgram Two) (program_of Two 200) IsBroken (one_program Two) text f s.0 (λ g b. never_broken s.0 typed g s.2 b) h s.1
 
 broken_alike : (text : List ℕ) (program : List RawItemTree) (f g : Fault) → Spelled (IsProgram Two) text program → IsBroken program f → IsBroken program g →
     fault_status f ≡ fault_status g

@@ -43,7 +43,8 @@ use Rattle.cf_answer.proofs.SourceLemmas.{bad_alike, built_never_bad, fails_so}
 use Rattle.cf_answer.proofs.TextLemmas.{caused_too}
 
 -- a text that is misspelled is refused, whatever rules there are
-pub misspelled : (Bad : List RawItemTree → Fault → Type 0) (text : List ℕ) (f : Fault) → IsMisspelled text f → Causes (IsProgram Two) (program_of Two 200) Bad text f
+pub misspelled : (Bad : List RawItemTree → Fault → Type 0) (text : List ℕ) (f : Fault) → IsMisspelled text f →
+    Causes (IsProgram Two) (program_of Two 200) Bad text f
 misspelled Bad text f h = caused_too (IsProgram Two) (program_of Two 200) (λ x g. ⊥) Bad (λ x g b. absurd b) text f h
 
 pub misspelled_or : (Bad : List RawItemTree → Fault → Type 0) (text : List ℕ) (f : Fault) → IsMisspelled text f ⊎ (f ≡ fault.NoMemory) →
@@ -85,7 +86,8 @@ late_run_kept program typed c f (broken_late p e plain h) = let kept : checked T
 pub run_unrefused : (calls : Bool) (source : List ℕ) (given last : List Told) (ls : List (List ℕ)) (text : List ℕ) (f : Fault) →
     OwesRun calls source given last ls text → IsRefusedRun source f → ⊥
 run_unrefused calls source given last ls text f (compiled t (c, turned) replies picked) r =
-    unrefused (IsProgram Two) (program_of Two 200) IsBadRun (one_law Two) source f c.1.0 (built_run c.1.0 c.0 (applied calls given) (applied calls last) t c.1.2 c.2) r c.1.1
+    unrefused (IsProgram Two) (program_of Two 200) IsBadRun (one_law Two) source f c.1.0
+    (built_run c.1.0 c.0 (applied calls given) (applied calls last) t c.1.2 c.2) r c.1.1
 run_unrefused calls source given last ls text f (late typed s replies allowed same) r =
     unrefused (IsProgram Two) (program_of Two 200) IsBadRun (one_law Two) source f s.0 (late_run_kept s.0 typed s.2) r s.1
 
@@ -107,7 +109,8 @@ runs_allowed program typed s is =
 
 pub late_runs_on : (text : List ℕ) (program : List RawItemTree) (typed : TypedTree) (p : Place) (calls : Bool) (given : List Told) →
     Spelled (IsProgram Two) text program →
-    IsSpelledProgram Two program → checked Two Plain program ≡ Err (rule.NotLinear p) → checked Two Late program ≡ Ok typed → IsRunner calls text given given (by_late typed)
+    IsSpelledProgram Two program → checked Two Plain program ≡ Err (rule.NotLinear p) → checked Two Late program ≡ Ok typed → IsRunner calls text given given
+    (by_late typed)
 late_runs_on text program typed p calls given s numbers plain is =
     λ ls replies r. late typed (program, s, (p, plain, is)) r (runs_allowed program typed numbers is) refl
 
@@ -131,7 +134,8 @@ pub run_broken : (text : List ℕ) (program : List RawItemTree) (e : TypeFault) 
 run_broken text program e n other h s =
     bad_tree program (fault.Rule e) s (bad (fault.Rule e) (broken e (fails_so e (checked Two Plain program) n h)) (λ p same. other p cc))
 
-pub late_broken : (text : List ℕ) (program : List RawItemTree) (p : Place) (e : TypeFault) → (e ≡ rule.NoMemory → ⊥) → checked Two Plain program ≡ Err (rule.NotLinear p) →
+pub late_broken : (text : List ℕ) (program : List RawItemTree) (p : Place) (e : TypeFault) → (e ≡ rule.NoMemory → ⊥) →
+    checked Two Plain program ≡ Err (rule.NotLinear p) →
     CheckFault {Y = TypedTree} e (checked Two Late program) → Spelled (IsProgram Two) text program → IsRefusedRun text (fault.Rule e)
 late_broken text program p e n plain h s =
     bad_tree program (fault.Rule e) s (broken_late p e plain (fails_so e (checked Two Late program) n h))

@@ -50,12 +50,14 @@ fails_so (rule.Weight k) r n h = h
 fails_so (rule.Depth k) r n h = h
 
 -- the numbers of its chooses differ
-source_distinct : (text : List ℕ) (program : List RawItemTree) (typed : TypedTree) → Spelled (IsProgram Two) text program → checked Two Plain program ≡ Ok typed →
+source_distinct : (text : List ℕ) (program : List RawItemTree) (typed : TypedTree) → Spelled (IsProgram Two) text program →
+    checked Two Plain program ≡ Ok typed →
     IsDistinct nat_eq (all_numbers typed.defs)
 source_distinct text program typed s e =
     (rules_keep_types Plain program typed (spelled_program Two program s.0 s.3 (lexes-within s.2.1.1)) e).distinct
 
-pub bad_alike : (text : List ℕ) (program : List RawItemTree) (f g : Fault) → Spelled (IsProgram Two) text program → IsBadProgram program f → IsBadProgram program g →
+pub bad_alike : (text : List ℕ) (program : List RawItemTree) (f g : Fault) → Spelled (IsProgram Two) text program → IsBadProgram program f →
+    IsBadProgram program g →
     fault_status f ≡ fault_status g
 bad_alike text program f g s (broken e h) (broken d i) = let same : e ≡ d = cc in ap rule_status same
 bad_alike text program f g s (broken e h) (refused typed n r i b) = cc
@@ -81,7 +83,8 @@ never_bad program typed is within f (refused other n r h b) =
 pub typed_unrefused : (text : List ℕ) (typed : TypedTree) (f : Fault) → IsTypedSource text typed →
     ((q : ChooseTree) → Contains (all_chooses typed.defs) q → limit_of q ≡ None) →
     IsRefusedSource text f → ⊥
-typed_unrefused text typed f s within h = unrefused (IsProgram Two) (program_of Two 200) IsBadProgram (one_law Two) text f s.0 (never_bad s.0 typed s.2 within) h s.1
+typed_unrefused text typed f s within h =
+    unrefused (IsProgram Two) (program_of Two 200) IsBadProgram (one_law Two) text f s.0 (never_bad s.0 typed s.2 within) h s.1
 
 -- nor is one of which a target is built
 pub built_never_bad : (program : List RawItemTree) (typed : TypedTree) (given last : List Told) (t : RawTarget) → checked Two Plain program ≡ Ok typed →

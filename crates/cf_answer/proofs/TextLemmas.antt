@@ -38,7 +38,8 @@ pub no_target : (text : List ℕ) (ts : List Token) (end p : Place) → HasToken
     IsFaultPlaceOf (target_of 500) ts end p → IsRefusedTarget text (fault.Syntax p)
 no_target text ts end p h none dead exact = no_tree ts end p h none (record { dead = dead; exact = exact })
 
-pub rule_broken : (text : List ℕ) (program : List RawItemTree) (e : TypeFault) → (e ≡ rule.NoMemory → ⊥) → CheckFault {Y = TypedTree} e (checked Two Plain program) →
+pub rule_broken : (text : List ℕ) (program : List RawItemTree) (e : TypeFault) → (e ≡ rule.NoMemory → ⊥) →
+    CheckFault {Y = TypedTree} e (checked Two Plain program) →
     Spelled (IsProgram Two) text program →
     IsBrokenSource text (fault.Rule e)
 rule_broken text program e n h s = bad_tree program (fault.Rule e) s (broken_rule e (fails_so e (checked Two Plain program) n h))

@@ -158,28 +158,35 @@ module _ (c : ℕ) (small : c ≤ 2 ^ 127 - 1) where
 
   sum_says : Says (Tree (IsBoth Add (IsBoth Mul (IsLit c) (IsName (codes "q"))) (IsName (codes "r")))) (product_text c ++ codes " + " ++ codes "r")
   sum_says =
-      both_says Add (λ p ts rest h. h) (IsBoth Mul (IsLit c) (IsName (codes "q"))) (IsName (codes "r")) (product_text c) (codes " + ") (codes "r") product_says plus r_says
+      both_says Add (λ p ts rest h. h) (IsBoth Mul (IsLit c) (IsName (codes "q"))) (IsName (codes "r")) (product_text c) (codes " + ")
+      (codes "r") product_says plus r_says
       (both_fits Sums Mul (IsLit c) (IsName (codes "q")) (omega arith)) (name_fits Muls (codes "r"))
 
   equation_says : Says (Tree (IsEqual c)) (equation_text c)
   equation_says =
-      both_says (Compare Eq) (λ p ts rest h. h) (IsName (codes "a")) (IsBoth Add (IsBoth Mul (IsLit c) (IsName (codes "q"))) (IsName (codes "r"))) (codes "a") (codes " == ")
+      both_says (Compare Eq) (λ p ts rest h. h) (IsName (codes "a")) (IsBoth Add (IsBoth Mul (IsLit c) (IsName (codes "q"))) (IsName (codes "r"))) (codes "a")
+      (codes " == ")
       (product_text c ++ codes " + " ++ codes "r") a_says equals sum_says (name_fits Sums (codes "a"))
       (both_fits Sums Add (IsBoth Mul (IsLit c) (IsName (codes "q"))) (IsName (codes "r")) (omega arith))
 
   lower_says : Says (Tree (IsBoth (Compare Le) (IsLit 0) (IsName (codes "r")))) lower_text
-  lower_says = both_says (Compare Le) (λ p ts rest h. h) (IsLit 0) (IsName (codes "r")) (codes "0") (codes " <= ") (codes "r") zero_says at_most r_says (lit_fits Sums 0)
+  lower_says =
+      both_says (Compare Le) (λ p ts rest h. h) (IsLit 0) (IsName (codes "r")) (codes "0") (codes " <= ") (codes "r") zero_says at_most r_says (lit_fits Sums 0)
       (name_fits Sums (codes "r"))
 
   upper_says : Says (Tree (IsBoth (Compare Lt) (IsName (codes "r")) (IsLit c))) (upper_text c)
-  upper_says = both_says (Compare Lt) (λ p ts rest h. h) (IsName (codes "r")) (IsLit c) (codes "r") (codes " < ") (decimal c) r_says below c_says (name_fits Sums (codes "r"))
+  upper_says =
+      both_says (Compare Lt) (λ p ts rest h. h) (IsName (codes "r")) (IsLit c) (codes "r") (codes " < ") (decimal c) r_says below c_says
+      (name_fits Sums (codes "r"))
       (lit_fits Sums c)
 
   relation_says : Says (Tree (IsRelation c)) (relation_text c)
   relation_says =
-      both_says And (λ p ts rest h. h) (IsBoth And (IsEqual c) (IsBoth (Compare Le) (IsLit 0) (IsName (codes "r")))) (IsBoth (Compare Lt) (IsName (codes "r")) (IsLit c))
+      both_says And (λ p ts rest h. h) (IsBoth And (IsEqual c) (IsBoth (Compare Le) (IsLit 0) (IsName (codes "r"))))
+      (IsBoth (Compare Lt) (IsName (codes "r")) (IsLit c))
       (equation_text c ++ codes " && " ++ lower_text) (codes " && ") (upper_text c)
-      (both_says And (λ p ts rest h. h) (IsEqual c) (IsBoth (Compare Le) (IsLit 0) (IsName (codes "r"))) (equation_text c) (codes " && ") lower_text equation_says ands lower_says
+      (both_says And (λ p ts rest h. h) (IsEqual c) (IsBoth (Compare Le) (IsLit 0) (IsName (codes "r"))) (equation_text c)
+      (codes " && ") lower_text equation_says ands lower_says
       (both_fits Ands (Compare Eq) (IsName (codes "a")) (IsBoth Add (IsBoth Mul (IsLit c) (IsName (codes "q"))) (IsName (codes "r"))) (omega arith))
       (both_fits Cmps (Compare Le) (IsLit 0) (IsName (codes "r")) (omega arith)))
       ands upper_says
@@ -311,7 +318,8 @@ module _ (i : ℕ) (small : i ≤ 2 ^ 127 - 1) where
       (then (function_name_says (codes "(a)" ++ rest) refl) (then (opening.gives (codes "a)" ++ rest))
       (then (a_says (codes ")" ++ rest) refl) (closing.gives rest)))))
     where
-      turn : (ts more : List Token) → (NextFunction Two (function_name i) ⨟ Next (Sign (codes "(")) ⨟ Tree (IsName (codes "a")) ⨟ Next (Sign (codes ")"))) ts more →
+      turn : (ts more : List Token) →
+          (NextFunction Two (function_name i) ⨟ Next (Sign (codes "(")) ⨟ Tree (IsName (codes "a")) ⨟ Next (Sign (codes ")"))) ts more →
           Tree (IsCall i) ts more
       turn ts more h =
           let a = h.2.2.1 in (
@@ -512,7 +520,8 @@ function_says i c small within rest =
 
 main_says : (m : ℕ) → m + 2 ≤ 200 → (rest : List ℕ) → Spans (SomeDef (codes "main") (AreCalls m)) (def_text (codes "main") (calls_text m) ++ rest) rest
 main_says m small rest =
-    def_says (codes "main") (AreCalls m) (calls_text m) rest (λ more stops. as_form (λ us vs h. (h.0, (h.1, refl))) (word (codes "main") more refl stops)) (calls_say m (omega arith))
+    def_says (codes "main") (AreCalls m) (calls_text m) rest (λ more stops. as_form (λ us vs h. (h.0, (h.1, refl))) (word (codes "main") more refl stops))
+    (calls_say m (omega arith))
     (deeper (m + 2) 200 (AreCalls m) small (calls_shallow m))
 
 functions_say : (m i : ℕ) (cs : List ℕ) → m + 2 ≤ 200 → i + length cs ≤ 2 ^ 127 - 1 → AreSmall cs → (rest : List ℕ) →
