@@ -27,6 +27,7 @@ use Rattle.cf_prove.specs.Proving.{IsProved}
 use Rattle.cf_answer.specs.Limits.{text_limit}
 use Rattle.cf_answer.specs.Certificates.{asked_in, OneForEach, IsTraced, AreProofs}
 use Rattle.cf_answer.specs.Refusals.{fault_of, IsRefusedSource}
+use Rattle.cf_tree.specs.declared.base.Edition.TheVariants.{Two}
 use Rattle.cf_answer.specs.Sources.{HasTokens, IsTypedSource}
 use Rattle.cf_answer.specs.declared.fault.Fault.TheVariants as fault
 use Rattle.cf_answer.specs.Verifying.{AddsBlock, ArePut}
@@ -104,7 +105,7 @@ spelled_within (b ∷ bs) h =
 
 -- a text has at most as many tokens as bytes, so that few steps stand in it
 pub few_steps : (bs : List BlockTree) (text : List ℕ) (list : TokenList) → length (flat_map block_acts bs) ≤ length list.list.items →
-    HasTokens text list.list.items list.end at_end → HaveFewSteps bs
+    HasTokens Two text list.list.items list.end at_end → HaveFewSteps bs
 unfolding text_limit
 few_steps bs text list few h =
     let tokens : length list.list.items ≤ length text = answer-count (2 ^ 127 - 1) text (Ok list) h.1 in omega (arith, few, tokens, h.0)

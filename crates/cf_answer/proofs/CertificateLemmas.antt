@@ -2,12 +2,10 @@
 use Rattle.std.proofs.Common.{◌≡◌, inl, inr, ap, subst, refl, ℕ, List, [], ◌∷◌, None, All}
 use Rattle.std.proofs.lemmas.List.Elements.{All-nil, All-cons, All-contains}
 use Rattle.std.proofs.lemmas.List.Sorted.{Contains-permutation}
-use Rattle.std.specs.Prelude.{Ok}
+use Rattle.cf_lex.specs.Editions.{edition_of}
 use Rattle.cf_tree.specs.declared.base.Edition.TheVariants.{Two}
-use Rattle.cf_tree.specs.DefView.{RawItemTree}
 use Rattle.cf_parse.specs.Programs.{IsProgram, program_of}
-use Rattle.cf_parse.proofs.Programs.{one_law as one_program}
-use Rattle.cf_program.specs.Checked.{TypedTree, checked}
+use Rattle.cf_program.specs.Checked.{TypedTree}
 use Rattle.cf_program.specs.declared.linearity.Linearity.TheVariants.{Plain}
 use Rattle.cf_tree.specs.ChooseTree.{ChooseTree}
 use Rattle.cf_build.specs.Chooses.{all_chooses, limit_of}
@@ -24,38 +22,32 @@ use Rattle.cf_cert.specs.Laws.{AreWithinCases, IsLinearChoose}
 use Rattle.cf_cert.proofs.CertifiedArms.{certified_means}
 use Rattle.cf_cert.proofs.JudgeLaws.{one_verdict}
 use Rattle.cf_answer.specs.Certificates.{asked_in, OneForEach, IsProofOf, IsTraced, AreProofs, AreVerified}
-use Rattle.cf_answer.specs.Refusals.{Causes, IsBroken, broken_rule, IsBrokenSource, IsRefusedSource, IsUnverified, bad_source, bad_steps, bad_blocks}
-use Rattle.cf_answer.specs.Sources.{Spelled, IsTypedSource}
-use Rattle.cf_answer.specs.Statuses.{fault_status, rule_status}
+use Rattle.cf_answer.specs.Refusals.{Causes, IsBroken, IsBrokenSource, IsRefusedSource, IsUnverified, bad_source, bad_steps, bad_blocks}
+use Rattle.cf_answer.specs.Sources.{Spelled, IsTypedBy, IsTypedSource}
+use Rattle.cf_answer.specs.Statuses.{fault_status}
 use Rattle.cf_answer.specs.declared.fault.Fault.{Fault}
 use Rattle.cf_answer.proofs.CauseLemmas.{alike, trees_agree, unrefused}
-use Rattle.cf_answer.proofs.SourceLemmas.{typed_unrefused}
+use Rattle.cf_answer.proofs.RuleLemmas.{broken_alike, typed_never_broken, typed_by_once}
+use Rattle.cf_answer.proofs.SourceLemmas.{one_program, typed_unrefused}
 
 -- a source spells one typed program, and none where a rule is broken
 typed_once : (text : List ℕ) (typed other : TypedTree) → IsTypedSource text typed → IsTypedSource text other → other ≡ typed
 typed_once text typed other s t =
-    let same : t.0 ≡ s.0 = trees_agree (IsProgram Two) one_program text t.0 s.0 t.1 s.1 in
-    let first = s.2 in
-    let second = t.2 in cc
-
-never_broken : (program : List RawItemTree) (typed : TypedTree) (f : Fault) → checked Two Plain program ≡ Ok typed → IsBroken program f → ⊥
-never_broken program typed f is (broken_rule e broken) = cc
+    let same : t.0 ≡ s.0 = trees_agree (edition_of text) (IsProgram (edition_of text)) (one_program text) text t.0 s.0 t.1 s.1 in
+    typed_by_once (edition_of text) Plain s.0 other typed (subst (λ p. IsTypedBy (edition_of text) Plain p other) same t.2) s.2
 
 pub typed_unbroken : (text : List ℕ) (typed : TypedTree) (f : Fault) → IsTypedSource text typed → IsBrokenSource text f → ⊥
-typed_unbroken text typed f s h =
-    unrefused (IsProgram Two) (program_of Two 200) IsBroken (one_program Two) text f s.0 (λ g b. never_broken s.0 typed g s.2 b) h s.1
-
-broken_alike : (text : List ℕ) (program : List RawItemTree) (f g : Fault) → Spelled (IsProgram Two) text program → IsBroken program f → IsBroken program g →
-    fault_status f ≡ fault_status g
-broken_alike text program f g s (broken_rule e h) (broken_rule d i) = let same : e ≡ d = cc in ap rule_status same
+typed_unbroken text typed f s h = unrefused (edition_of text) (IsProgram (edition_of text)) (program_of (edition_of text) 200)
+    (IsBroken (edition_of text) Plain) (one_program text) text f s.0 (λ g b. typed_never_broken (edition_of text) Plain s.0 typed g s.2 b) h s.1
 
 -- a text that spells blocks is not refused
-spelled_unrefused : (text : List ℕ) (bs : List BlockTree) (f : Fault) → Spelled AreBlocks text bs → Causes AreBlocks (all_blocks 500) (λ bs g. ⊥) text f → ⊥
-spelled_unrefused text bs f s h = unrefused AreBlocks (all_blocks 500) (λ bs g. ⊥) one_blocks text f bs (λ g b. b) h s
+spelled_unrefused : (text : List ℕ) (bs : List BlockTree) (f : Fault) → Spelled Two AreBlocks text bs → Causes Two AreBlocks (all_blocks 500) (λ bs g. ⊥) text f → ⊥
+spelled_unrefused text bs f s h = unrefused Two AreBlocks (all_blocks 500) (λ bs g. ⊥) one_blocks text f bs (λ g b. b) h s
 
 pub verify_alike : (source steps : List ℕ) (f g : Fault) → IsUnverified source steps f → IsUnverified source steps g → fault_status f ≡ fault_status g
 verify_alike source steps f g (bad_source a h) (bad_source b i) =
-    alike (IsProgram Two) (program_of Two 200) IsBroken (one_program Two) source (broken_alike source) f g h i
+    alike (edition_of source) (IsProgram (edition_of source)) (program_of (edition_of source) 200) (IsBroken (edition_of source) Plain) (one_program source)
+    source (λ program a b s. broken_alike (edition_of source) Plain program a b) f g h i
 verify_alike source steps f g (bad_source a h) (bad_steps typed e s i) = absurd (typed_unbroken source typed f s h)
 verify_alike source steps f g (bad_source a h) (bad_blocks typed bs n i j w s b v) = absurd (typed_unbroken source typed f s h)
 verify_alike source steps f g (bad_steps typed e s h) (bad_source b i) = absurd (typed_unbroken source typed g s i)
@@ -78,7 +70,7 @@ verify_unrefused source steps typed f s (bs, b, proofs) (bad_source g h) = typed
 verify_unrefused source steps typed f s (bs, b, proofs) (bad_steps other e t h) = spelled_unrefused steps bs _ b h
 verify_unrefused source steps typed f s (bs, b, proofs) (bad_blocks other cs n i j w t c v) =
     let program : other ≡ typed = typed_once source typed other s t in
-    let blocks : cs ≡ bs = trees_agree AreBlocks one_blocks steps cs bs c b in
+    let blocks : cs ≡ bs = trees_agree Two AreBlocks one_blocks steps cs bs c b in
     let yes = proofs_accepted (asked_in typed) bs proofs in
     let no : IsVerdict (asked_in typed) bs (Rejected n i j w) =
     subst (λ ds. IsVerdict (asked_in typed) ds (Rejected n i j w)) blocks

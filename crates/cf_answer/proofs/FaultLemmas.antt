@@ -4,10 +4,17 @@ use Rattle.std.specs.Prelude.{Result, Err}
 use Rattle.cf_gen.specs.Workload.{gen_source}
 use Rattle.cf_lex.specs.declared.token.Token.{Token}
 use Rattle.cf_reader.specs.Readers.{Reader}
-use Rattle.cf_tree.specs.DefView.{RawItemTree}
+use Rattle.cf_lex.specs.Editions.{edition_of}
+use Rattle.cf_tree.specs.declared.base.Edition.{Edition}
+use Rattle.cf_tree.specs.DefView.{DefTree, RawItemTree}
+use Rattle.cf_program.specs.declared.linearity.Linearity.{Linearity}
+use Rattle.cf_program.specs.declared.linearity.Linearity.TheVariants.{Plain, Late}
+use Rattle.cf_form.specs.FormAnswers.{IsUnformed}
+use Rattle.cf_form.specs.declared.fault.FormFault.{FormFault}
+use Rattle.cf_form.specs.declared.fault.FormFault.TheVariants as form
 use Rattle.cf_target.specs.Spelling.{TargetTree}
 use Rattle.cf_words.specs.Commands.{Command, compile, run, pre, check, exec, prove, verify, gen}
-use Rattle.cf_answer.specs.Refusals.{Causes, too_long, odd_byte, large_number, no_tree, bad_tree, IsBadProgram, broken, refused, IsBadRun, bad, broken_late, IsBadTarget, untyped, IsRefusedSource, IsRefusedRun, IsRefusedTarget, IsBroken, broken_rule, IsUnverified, bad_source, bad_steps, bad_blocks, Refuses}
+use Rattle.cf_answer.specs.Refusals.{Causes, too_long, odd_byte, large_number, no_tree, bad_tree, IsBroken, broken, wide, form_fault, IsBadProgram, unruly, refused, IsBadRun, bad, broken_late, IsBadTarget, untyped, IsRefusedSource, IsRefusedRun, IsRefusedTarget, IsUnverified, bad_source, bad_steps, bad_blocks, Refuses}
 use Rattle.cf_answer.specs.declared.fault.Fault.{Fault}
 use Rattle.cf_answer.specs.declared.fault.Fault.TheVariants as fault
 
@@ -27,40 +34,47 @@ IsTextFault (fault.Steps e) = Unit {0}
 IsTextFault (fault.Rejected n i j w) = Unit {0}
 IsTextFault f = ⊥
 
-caused : {Tree : Type 0} (Is : Tree → List Token → Type 0) (read : Reader Tree) (Bad : Tree → Fault → Type 0) →
+caused : {Tree : Type 0} (edition : Edition) (Is : Tree → List Token → Type 0) (read : Reader Tree) (Bad : Tree → Fault → Type 0) →
     ((x : Tree) (f : Fault) → Bad x f → IsTextFault f) →
-    (text : List ℕ) (f : Fault) → Causes Is read Bad text f → IsTextFault f
-caused Is read Bad by text f (too_long h) = tt
-caused Is read Bad by text f (odd_byte ts p h) = tt
-caused Is read Bad by text f (large_number ts p h) = tt
-caused Is read Bad by text f (no_tree ts end p h none place) = tt
-caused Is read Bad by text f (bad_tree x g s b) = by x g b
+    (text : List ℕ) (f : Fault) → Causes edition Is read Bad text f → IsTextFault f
+caused edition Is read Bad by text f (too_long h) = tt
+caused edition Is read Bad by text f (odd_byte ts p h) = tt
+caused edition Is read Bad by text f (large_number ts p h) = tt
+caused edition Is read Bad by text f (no_tree ts end p h none place) = tt
+caused edition Is read Bad by text f (bad_tree x g s b) = by x g b
 
-program_fault : (program : List RawItemTree) (f : Fault) → IsBadProgram program f → IsTextFault f
-program_fault program f (broken e h) = tt
-program_fault program f (refused typed n r h b) = tt
+form_text : (defs : List DefTree) (e : FormFault) → IsUnformed defs e → IsTextFault (form_fault e)
+form_text defs (form.Cases n k) h = tt
+form_text defs (form.Weight f k) h = tt
+form_text defs (form.Depth f k) h = tt
+form_text defs form.NoMemory h = absurd h
 
-run_fault : (program : List RawItemTree) (f : Fault) → IsBadRun program f → IsTextFault f
-run_fault program f (bad g b other) = program_fault program g b
-run_fault program f (broken_late p e plain h) = tt
+broken_fault : (edition : Edition) (how : Linearity) (program : List RawItemTree) (f : Fault) → IsBroken edition how program f → IsTextFault f
+broken_fault edition how program f (broken e h) = tt
+broken_fault edition how program f (wide source e is h u) = form_text source.defs e u
+
+program_fault : (edition : Edition) (program : List RawItemTree) (f : Fault) → IsBadProgram edition program f → IsTextFault f
+program_fault edition program f (unruly g h) = broken_fault edition Plain program g h
+program_fault edition program f (refused typed n r h b) = tt
+
+run_fault : (edition : Edition) (program : List RawItemTree) (f : Fault) → IsBadRun edition program f → IsTextFault f
+run_fault edition program f (bad g b other) = program_fault edition program g b
+run_fault edition program f (broken_late p g plain h) = broken_fault edition Late program g h
 
 target_fault : (t : TargetTree) (f : Fault) → IsBadTarget t f → IsTextFault f
 target_fault t f (untyped h) = tt
 
 source_text : (text : List ℕ) (f : Fault) → IsRefusedSource text f → IsTextFault f
-source_text text f h = caused _ _ _ program_fault text f h
+source_text text f h = caused _ _ _ _ (program_fault (edition_of text)) text f h
 
 run_text : (text : List ℕ) (f : Fault) → IsRefusedRun text f → IsTextFault f
-run_text text f h = caused _ _ _ run_fault text f h
+run_text text f h = caused _ _ _ _ (run_fault (edition_of text)) text f h
 
 target_text : (text : List ℕ) (f : Fault) → IsRefusedTarget text f → IsTextFault f
-target_text text f h = caused _ _ _ target_fault text f h
-
-broken_fault : (program : List RawItemTree) (f : Fault) → IsBroken program f → IsTextFault f
-broken_fault program f (broken_rule e h) = tt
+target_text text f h = caused _ _ _ _ target_fault text f h
 
 verify_fault : (source steps : List ℕ) (f : Fault) → IsUnverified source steps f → IsTextFault f
-verify_fault source steps f (bad_source g h) = caused _ _ _ broken_fault source f h
+verify_fault source steps f (bad_source g h) = caused _ _ _ _ (broken_fault (edition_of source) Plain) source f h
 verify_fault source steps f (bad_steps typed e s h) = tt
 verify_fault source steps f (bad_blocks typed bs n i j w s b v) = tt
 

@@ -11,10 +11,10 @@ use Rattle.cf_tree.specs.declared.base.Order.TheVariants.{Eq, Le}
 use Rattle.cf_tree.specs.declared.base.Place.{Place}
 use Rattle.cf_tree.specs.declared.raw.BinOp.TheVariants.{Mul, And, Compare}
 use Rattle.cf_tree.specs.declared.raw.Param.{Param}
-use Rattle.cf_tree.specs.declared.base.Edition.TheVariants.{Two}
 use Rattle.cf_tree.specs.DefView.{RawItemTree, item_def}
+use Rattle.cf_tree.specs.declared.base.Edition.TheVariants.{Two}
 use Rattle.cf_tree.specs.ExprTree.{ExprTree, expr_choose}
-use Rattle.cf_tree.specs.RawTree.{RawTree, raw_name, raw_lit, raw_binary}
+use Rattle.cf_tree.specs.RawTree.{RawTree, raw_name, raw_lit, raw_binary, raw_choose, no_given, no_aim}
 use Rattle.cf_tree.specs.RelTree.{rel_and, rel_compare, term_add, term_mul, term_var}
 use Rattle.cf_tree.specs.Values.{Value, number}
 use Rattle.cf_linear.specs.Arm.{arm}
@@ -26,22 +26,23 @@ use Rattle.cf_eval.specs.Reading.{values_from}
 use Rattle.cf_eval.specs.Spelling.{without_return, SpellsValues}
 use Rattle.cf_eval.proofs.SpellLemmas.{Spells-takes}
 use Rattle.cf_late.specs.Texts.{late_text}
+use Rattle.cf_lex.specs.Editions.{edition_of}
 use Rattle.cf_parse.specs.Programs.{IsProgram}
-use Rattle.cf_parse.proofs.Programs.{one_law}
-use Rattle.cf_program.specs.Checked.{TypedTree, checked}
 use Rattle.cf_program.specs.declared.linearity.Linearity.TheVariants.{Plain}
-use Rattle.cf_program.proofs.PlainForms.{raw_choose}
+use Rattle.cf_program.specs.Checked.{TypedTree, checked}
 use Rattle.cf_program.specs.declared.fault.TypeFault.TheVariants as rule
 use Rattle.cf_answer.specs.LateReplies.{main_comes, IsLateReply, comes}
 use Rattle.cf_answer.specs.Owed.{by_late, AreReplies, OwesRun, compiled, late}
 use Rattle.cf_pass.specs.Passes.{Told}
 use Rattle.cf_answer.specs.Picked.{main_bases}
-use Rattle.cf_answer.specs.Refusals.{IsBadProgram, broken, IsBadRun, broken_late}
-use Rattle.cf_answer.specs.Sources.{IsTypedSource, IsCheckedLate, IsLateSource}
+use Rattle.cf_answer.specs.Refusals.{broken, IsBadProgram, unruly, IsBadRun, broken_late}
+use Rattle.cf_answer.specs.Sources.{IsTypedBy, IsTypedSource, IsCheckedLate, IsLateSource}
 use Rattle.cf_answer.specs.declared.fault.Fault.{Fault}
 use Rattle.cf_answer.specs.declared.fault.Fault.TheVariants as fault
 use Rattle.cf_answer.proofs.CauseLemmas.{trees_agree}
+use Rattle.cf_answer.proofs.RuleLemmas.{typed_is_checked}
 use Rattle.cf_answer.proofs.RunLemmas.{late_run_kept}
+use Rattle.cf_answer.proofs.SourceLemmas.{one_program}
 
 abbrev at : ℕ → Place
 at column = record { line = 1; column = column }
@@ -55,6 +56,9 @@ main params results body = item_def (record { place = at 1; name = codes "main";
 abbrev typed : List Param → List Base → ExprTree → TypedTree
 typed params results body = record { defs = record { name = codes "main"; params = params; results = results; body = body } ∷ []; main = 0 }
 
+abbrev choose : Place → List Param → RawTree → RawTree
+choose p outputs rel = raw_choose p outputs [] no_given rel no_aim
+
 abbrev times : ℕ → List ℕ → List ℕ → RawTree
 times column x y = raw_binary (at column) Mul (raw_name (at (column - 2)) x) (raw_name (at (column + 2)) y)
 
@@ -64,25 +68,25 @@ abbrev scope : List Param
 scope = int 10 (codes "a") ∷ int 18 (codes "b") ∷ []
 
 abbrev quotient : List RawItemTree
-quotient = main scope (Int ∷ []) (raw_choose (at 33) (int 41 (codes "x") ∷ [])
+quotient = main scope (Int ∷ []) (choose (at 33) (int 41 (codes "x") ∷ [])
     (raw_binary (at 61) (Compare Eq) (times 57 (codes "a") (codes "x")) (raw_name (at 64) (codes "b"))))
 
 abbrev quotient_tree : TypedTree
 quotient_tree = typed scope (Int ∷ []) (expr_choose 1 scope (Int ∷ []) (rel_compare Eq (term_mul (term_var 0) (term_var 2)) (term_var 1)))
 
-quotient_is_late : IsCheckedLate quotient quotient_tree
+quotient_is_late : IsCheckedLate Two quotient quotient_tree
 quotient_is_late = (at 57, refl, refl)
 
-run_takes_it : (f : Fault) → IsBadRun quotient f → ⊥
-run_takes_it = late_run_kept quotient quotient_tree quotient_is_late
+run_takes_it : (f : Fault) → IsBadRun Two quotient f → ⊥
+run_takes_it = late_run_kept Two quotient quotient_tree quotient_is_late
 
-others_refuse_it : IsBadProgram quotient (fault.Rule (rule.NotLinear (at 57)))
-others_refuse_it = broken (rule.NotLinear (at 57)) refl
+others_refuse_it : IsBadProgram Two quotient (fault.Rule (rule.NotLinear (at 57)))
+others_refuse_it = unruly _ (broken (rule.NotLinear (at 57)) refl)
 
 -- def main(a: int): (int, int) = choose (x: int, y: int) where x * y == a
-product_of_outputs : IsBadRun (main (int 10 (codes "a") ∷ []) (Int ∷ Int ∷ []) (raw_choose (at 32) (int 40 (codes "x") ∷ int 48 (codes "y") ∷ [])
+product_of_outputs : IsBadRun Two (main (int 10 (codes "a") ∷ []) (Int ∷ Int ∷ []) (choose (at 32) (int 40 (codes "x") ∷ int 48 (codes "y") ∷ [])
     (raw_binary (at 68) (Compare Eq) (times 64 (codes "x") (codes "y")) (raw_name (at 71) (codes "a"))))) (fault.Rule (rule.NotLinear (at 64)))
-product_of_outputs = broken_late (at 64) (rule.NotLinear (at 64)) refl refl
+product_of_outputs = broken_late (at 64) _ refl (broken (rule.NotLinear (at 64)) refl)
 
 -- def main(a: int, b: int): int = choose (x: int, y: int) where a * x == b && x * y == 3
 abbrev two_products : List RawItemTree
@@ -90,22 +94,22 @@ two_products = main scope (Int ∷ []) (raw_choose (at 33) (int 41 (codes "x") �
     (raw_binary (at 69) (Compare Eq) (times 65 (codes "a") (codes "x")) (raw_name (at 72) (codes "b")))
     (raw_binary (at 83) (Compare Eq) (times 79 (codes "x") (codes "y")) (raw_lit (at 86) (pos 3)))))
 
-second_for_run : IsBadRun two_products (fault.Rule (rule.NotLinear (at 79)))
-second_for_run = broken_late (at 65) (rule.NotLinear (at 79)) refl refl
+second_for_run : IsBadRun Two two_products (fault.Rule (rule.NotLinear (at 79)))
+second_for_run = broken_late (at 65) _ refl (broken (rule.NotLinear (at 79)) refl)
 
-first_for_others : IsBadProgram two_products (fault.Rule (rule.NotLinear (at 65)))
-first_for_others = broken (rule.NotLinear (at 65)) refl
+first_for_others : IsBadProgram Two two_products (fault.Rule (rule.NotLinear (at 65)))
+first_for_others = unruly _ (broken (rule.NotLinear (at 65)) refl)
 
 -- the same function twice
-another_rule_for_run : IsBadRun (quotient ++ quotient) (fault.Rule (rule.DuplicateName (at 1)))
-another_rule_for_run = broken_late (at 57) (rule.DuplicateName (at 1)) refl refl
+another_rule_for_run : IsBadRun Two (quotient ++ quotient) (fault.Rule (rule.DuplicateName (at 1)))
+another_rule_for_run = broken_late (at 57) _ refl (broken (rule.DuplicateName (at 1)) refl)
 
 -- ---- no pass is called
 not_compiled : {A : Type 0} (source : List ℕ) (tree other : TypedTree) → IsLateSource source tree → IsTypedSource source other → A
 not_compiled source tree other l s =
-    let same : s.0 ≡ l.0 = trees_agree (IsProgram Two) (one_law Two) source s.0 l.0 s.1 l.1 in
-    let kept : checked Two Plain l.0 ≡ Ok other = subst (λ p. checked Two Plain p ≡ Ok other) same s.2 in
-    let broken : checked Two Plain l.0 ≡ Err (rule.NotLinear l.2.0) = l.2.1 in absurd (cc)
+    let same : s.0 ≡ l.0 = trees_agree (edition_of source) (IsProgram (edition_of source)) (one_program source) source s.0 l.0 s.1 l.1 in
+    let kept = (typed_is_checked (edition_of source) Plain l.0 other (subst (λ p. IsTypedBy (edition_of source) Plain p other) same s.2)).1 in
+    let broken : checked (edition_of source) Plain l.0 ≡ Err (rule.NotLinear l.2.0) = l.2.1 in absurd (cc)
 
 abbrev told : ℕ → List Told
 told tally = record { name = codes "fold"; tally = tally; turns = 0; makes = λ n c. c; whole = true } ∷ []

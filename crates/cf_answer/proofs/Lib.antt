@@ -25,6 +25,7 @@ pub mod PieceLemmas
 mod PreExamples
 pub mod PreLemmas
 pub mod ReplyLemmas
+pub mod RuleLemmas
 pub mod RunLemmas
 pub mod SampleLemmas
 pub mod SourceLemmas

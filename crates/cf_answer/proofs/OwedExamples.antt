@@ -48,7 +48,8 @@ module _ (name other source steps : List ℕ) (given last : List Told) (ls : Lis
   of-pre : Same (Owes (pre name) (source ∷ []) given last ls text) ((typed : TypedTree) × IsTypedSource source typed × ArePres typed text)
   of-pre = (λ h. h, λ h. h)
 
-  of-check : Same (Owes (check name) (source ∷ []) given last ls text) ((typed : TypedTree) × IsTypedSource source typed × AreChecks typed text)
+  of-check : Same (Owes (check name) (source ∷ []) given last ls text)
+      ((edition_of source ≡ Two) × (typed : TypedTree) × IsTypedSource source typed × AreChecks typed text)
   of-check = (λ h. h, λ h. h)
 
   of-exec : Same (Owes (exec name) (source ∷ []) given last ls text)

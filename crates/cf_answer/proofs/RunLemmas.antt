@@ -3,16 +3,13 @@ use Rattle.std.proofs.Common.{◌≡◌, ap, subst, refl, inl, inr, ℕ, Bool, t
 use Rattle.std.specs.Prelude.{◌⊎◌, Result, Ok, Err}
 use Rattle.cf_linear.specs.declared.refusal.Refusal.{Refusal}
 use Rattle.cf_parse.specs.Programs.{IsProgram, program_of}
-use Rattle.cf_parse.proofs.Programs.{one_law}
-use Rattle.cf_program.specs.CheckAnswers.{CheckFault}
 use Rattle.cf_program.specs.Checked.{TypedTree, checked}
 use Rattle.cf_program.specs.Source.{IsSpelledProgram}
 use Rattle.cf_program.specs.TypedProgram.{IsLateProgram}
 use Rattle.cf_program.specs.declared.linearity.Linearity.TheVariants.{Plain, Late}
-use Rattle.cf_program.specs.declared.fault.TypeFault.{TypeFault}
 use Rattle.cf_program.specs.declared.fault.TypeFault.TheVariants as rule
-use Rattle.cf_program.proofs.ProgramLaws.{rules_keep_types}
-use Rattle.cf_tree.specs.declared.base.Edition.TheVariants.{Two}
+use Rattle.cf_lex.specs.Editions.{edition_of}
+use Rattle.cf_tree.specs.declared.base.Edition.{Edition}
 use Rattle.cf_tree.specs.DefView.{RawItemTree}
 use Rattle.cf_tree.specs.declared.base.Place.{Place}
 use Rattle.cf_tree.specs.declared.target.RawTarget.{RawTarget}
@@ -28,10 +25,10 @@ use Rattle.cf_answer.specs.LateReplies.{AreRunsAllowed}
 use Rattle.cf_answer.specs.Owed.{by_target, by_late, ArePicked, OwesRun, compiled, late}
 use Rattle.cf_answer.specs.Passes.{applied}
 use Rattle.cf_answer.specs.Picked.{main_bases}
-use Rattle.cf_answer.specs.Refusals.{fault_of, Causes, bad_tree, IsBadProgram, broken, refused, IsBadRun, bad, broken_late, IsRefusedRun}
-use Rattle.cf_answer.specs.Sources.{Spelled, IsTypedSource, IsCheckedLate, Compiles}
-use Rattle.cf_answer.specs.Statuses.{rule_status, fault_status}
-use Rattle.cf_answer.specs.Steps.{IsVerdict, IsMisspelled, IsRunner, answerer_of}
+use Rattle.cf_answer.specs.Refusals.{fault_of, bad_tree, IsBroken, broken, wide, IsBadProgram, unruly, refused, IsBadRun, bad, broken_late, IsRefusedRun}
+use Rattle.cf_answer.specs.Sources.{SpellsProgram, IsTypedBy, IsTypedSource, IsCheckedLate, Compiles}
+use Rattle.cf_answer.specs.Statuses.{fault_status}
+use Rattle.cf_answer.specs.Steps.{IsVerdict, IsRunner, answerer_of}
 use Rattle.cf_answer.specs.declared.answerer.Answerer.{Answerer as DeclaredAnswerer}
 use Rattle.cf_answer.specs.declared.fault.Fault.{Fault}
 use Rattle.cf_answer.specs.declared.fault.Fault.TheVariants as fault
@@ -39,80 +36,77 @@ use Rattle.cf_answer.proofs.CauseLemmas.{alike, unrefused}
 use Rattle.cf_answer.proofs.LateLemmas.{main_types}
 use Rattle.cf_answer.proofs.PassLemmas.{still_none}
 use Rattle.cf_answer.proofs.PickedLemmas.{replies_picked, values_fit}
-use Rattle.cf_answer.proofs.SourceLemmas.{bad_alike, built_never_bad, fails_so}
-use Rattle.cf_answer.proofs.TextLemmas.{caused_too}
-
--- a text that is misspelled is refused, whatever rules there are
-pub misspelled : (Bad : List RawItemTree → Fault → Type 0) (text : List ℕ) (f : Fault) → IsMisspelled text f →
-    Causes (IsProgram Two) (program_of Two 200) Bad text f
-misspelled Bad text f h = caused_too (IsProgram Two) (program_of Two 200) (λ x g. ⊥) Bad (λ x g b. absurd b) text f h
-
-pub misspelled_or : (Bad : List RawItemTree → Fault → Type 0) (text : List ℕ) (f : Fault) → IsMisspelled text f ⊎ (f ≡ fault.NoMemory) →
-    Causes (IsProgram Two) (program_of Two 200) Bad text f ⊎ (f ≡ fault.NoMemory)
-misspelled_or Bad text f (inl h) = inl (misspelled Bad text f h)
-misspelled_or Bad text f (inr e) = inr e
+use Rattle.cf_answer.proofs.RuleLemmas.{not_both, broken_alike, typed_never_broken, typed_is_checked, typed_keeps}
+use Rattle.cf_answer.proofs.SourceLemmas.{bad_alike, built_never_bad, one_program}
 
 -- ---- the refusals of `run` have one status
 
 -- a program whose first broken rule is that on linear relations is refused for no other fault but that
-only_late : {A : Type 0} (program : List RawItemTree) (p : Place) (f : Fault) → checked Two Plain program ≡ Err (rule.NotLinear p) → IsBadProgram program f →
-    ((q : Place) → f ≡ fault.Rule (rule.NotLinear q) → ⊥) → A
-only_late program p f e (broken d h) other = let same : d ≡ rule.NotLinear p = cc in absurd (other p (ap fault.Rule same))
-only_late program p f e (refused typed n r h b) other = absurd (cc)
+only_late : {A : Type 0} (edition : Edition) (program : List RawItemTree) (p : Place) (f : Fault) → checked edition Plain program ≡ Err (rule.NotLinear p) →
+    IsBadProgram edition program f → ((q : Place) → f ≡ fault.Rule (rule.NotLinear q) → ⊥) → A
+only_late edition program p f e (unruly g (broken d h)) other = let same : d ≡ rule.NotLinear p = cc in absurd (other p (ap fault.Rule same))
+only_late edition program p f e (unruly g (wide source d is h u)) other = not_both edition Plain program (rule.NotLinear p) source is e h
+only_late edition program p f e (refused typed n r h b) other = let taken = (typed_is_checked edition Plain program typed h).1 in absurd (cc)
 
-bad_run_alike : (text : List ℕ) (program : List RawItemTree) (f g : Fault) → Spelled (IsProgram Two) text program → IsBadRun program f → IsBadRun program g →
-    fault_status f ≡ fault_status g
+bad_run_alike : (text : List ℕ) (program : List RawItemTree) (f g : Fault) → SpellsProgram text program → IsBadRun (edition_of text) program f →
+    IsBadRun (edition_of text) program g → fault_status f ≡ fault_status g
 bad_run_alike text program f g s (bad h a n) (bad i b m) = bad_alike text program h i s a b
-bad_run_alike text program f g s (bad h a n) (broken_late p e plain i) = only_late program p h plain a n
-bad_run_alike text program f g s (broken_late p e plain h) (bad i b m) = only_late program p i plain b m
-bad_run_alike text program f g s (broken_late p e plain h) (broken_late q d other i) = let same : e ≡ d = cc in ap rule_status same
+bad_run_alike text program f g s (bad h a n) (broken_late p e plain i) = only_late (edition_of text) program p h plain a n
+bad_run_alike text program f g s (broken_late p e plain h) (bad i b m) = only_late (edition_of text) program p i plain b m
+bad_run_alike text program f g s (broken_late p e plain h) (broken_late q d other i) = broken_alike (edition_of text) Late program f g h i
 
 pub runs_alike : (text : List ℕ) (f g : Fault) → IsRefusedRun text f → IsRefusedRun text g → fault_status f ≡ fault_status g
-runs_alike text f g h i = alike (IsProgram Two) (program_of Two 200) IsBadRun (one_law Two) text (bad_run_alike text) f g h i
+runs_alike text f g h i = alike (edition_of text) (IsProgram (edition_of text)) (program_of (edition_of text) 200) (IsBadRun (edition_of text))
+    (one_program text) text (bad_run_alike text) f g h i
 
 -- ---- a source that `run` answers is not refused
 
 -- a program of which a target is built
-built_run : (program : List RawItemTree) (typed : TypedTree) (given last : List Told) (t : RawTarget) → checked Two Plain program ≡ Ok typed →
-    IsBuilt typed.defs typed.main given last t → (f : Fault) → IsBadRun program f → ⊥
-built_run program typed given last t is built f (bad g b n) = built_never_bad program typed given last t is built g b
-built_run program typed given last t is built f (broken_late p e plain h) = cc
+built_run : (edition : Edition) (program : List RawItemTree) (typed : TypedTree) (given last : List Told) (t : RawTarget) →
+    IsTypedBy edition Plain program typed → IsBuilt typed.defs typed.main given last t → (f : Fault) → IsBadRun edition program f → ⊥
+built_run edition program typed given last t is built f (bad g b n) = built_never_bad edition program typed given last t is built g b
+built_run edition program typed given last t is built f (broken_late p e plain h) = let taken = (typed_is_checked edition Plain program typed is).1 in cc
 
 -- a late program
-pub late_run_kept : (program : List RawItemTree) (typed : TypedTree) → IsCheckedLate program typed → (f : Fault) → IsBadRun program f → ⊥
-late_run_kept program typed c f (bad g b n) = only_late program c.0 g c.1 b n
-late_run_kept program typed c f (broken_late p e plain h) = let kept : checked Two Late program ≡ Ok typed = c.2 in cc
+pub late_run_kept : (edition : Edition) (program : List RawItemTree) (typed : TypedTree) → IsCheckedLate edition program typed → (f : Fault) →
+    IsBadRun edition program f → ⊥
+late_run_kept edition program typed c f (bad g b n) = only_late edition program c.0 g c.1 b n
+late_run_kept edition program typed c f (broken_late p e plain h) = typed_never_broken edition Late program typed f c.2 h
 
 pub run_unrefused : (calls : Bool) (source : List ℕ) (given last : List Told) (ls : List (List ℕ)) (text : List ℕ) (f : Fault) →
     OwesRun calls source given last ls text → IsRefusedRun source f → ⊥
 run_unrefused calls source given last ls text f (compiled t (c, turned) replies picked) r =
-    unrefused (IsProgram Two) (program_of Two 200) IsBadRun (one_law Two) source f c.1.0
-    (built_run c.1.0 c.0 (applied calls given) (applied calls last) t c.1.2 c.2) r c.1.1
+    unrefused (edition_of source) (IsProgram (edition_of source)) (program_of (edition_of source) 200) (IsBadRun (edition_of source)) (one_program source)
+    source f c.1.0 (built_run (edition_of source) c.1.0 c.0 (applied calls given) (applied calls last) t c.1.2 c.2) r c.1.1
 run_unrefused calls source given last ls text f (late typed s replies allowed same) r =
-    unrefused (IsProgram Two) (program_of Two 200) IsBadRun (one_law Two) source f s.0 (late_run_kept s.0 typed s.2) r s.1
+    unrefused (edition_of source) (IsProgram (edition_of source)) (program_of (edition_of source) 200) (IsBadRun (edition_of source)) (one_program source)
+    source f s.0 (late_run_kept (edition_of source) s.0 typed s.2) r s.1
 
 -- ---- what answers the lines
 
 -- a target
-pub target_runs : (text : List ℕ) (typed : TypedTree) (t : RawTarget) (given last : List Told) → HaveTurned given last → IsTypedSource text typed →
+pub target_runs : (edition : Edition) (text : List ℕ) (program : List RawItemTree) (typed : TypedTree) (t : RawTarget) (given last : List Told) →
+    HaveTurned given last → edition ≡ edition_of text → SpellsProgram text program → IsTypedBy edition Plain program typed →
     IsBuilt typed.defs typed.main given last t → IsRunner true text given last (by_target t)
-target_runs text typed t given last turned s built =
-    λ ls replies r. compiled t ((typed, s, built), turned) r (replies_picked given last text t ls replies (typed, s, built) r)
+target_runs edition text program typed t given last turned is s h built =
+    let source : IsTypedSource text typed = (program, s, subst (λ e. IsTypedBy e Plain program typed) is h) in
+    λ ls replies r. compiled t ((typed, source, built), turned) r (replies_picked given last text t ls replies (typed, source, built) r)
 
 -- a late program
-runs_allowed : (program : List RawItemTree) (typed : TypedTree) → IsSpelledProgram Two program → checked Two Late program ≡ Ok typed → AreRunsAllowed typed
-runs_allowed program typed s is =
-    let kept : IsLateProgram typed.defs typed.main = rules_keep_types Late program typed s is in
+runs_allowed : (edition : Edition) (program : List RawItemTree) (typed : TypedTree) → IsSpelledProgram edition program →
+    IsTypedBy edition Late program typed → AreRunsAllowed typed
+runs_allowed edition program typed s is =
+    let kept : IsLateProgram typed.defs typed.main = typed_keeps edition Late program typed s is in
     λ line vs spelled.
     let fit = values_fit (main_bases typed) (without_return line) vs spelled in
     late_runs_are_allowed typed.defs typed.main kept vs (main_types typed vs kept fit.0) fit.1
 
-pub late_runs_on : (text : List ℕ) (program : List RawItemTree) (typed : TypedTree) (p : Place) (calls : Bool) (given : List Told) →
-    Spelled (IsProgram Two) text program →
-    IsSpelledProgram Two program → checked Two Plain program ≡ Err (rule.NotLinear p) → checked Two Late program ≡ Ok typed → IsRunner calls text given given
-    (by_late typed)
-late_runs_on text program typed p calls given s numbers plain is =
-    λ ls replies r. late typed (program, s, (p, plain, is)) r (runs_allowed program typed numbers is) refl
+pub late_runs : (edition : Edition) (text : List ℕ) (program : List RawItemTree) (typed : TypedTree) (p : Place) (calls : Bool) (given : List Told) →
+    edition ≡ edition_of text → SpellsProgram text program → IsSpelledProgram edition program → checked edition Plain program ≡ Err (rule.NotLinear p) →
+    IsTypedBy edition Late program typed → IsRunner calls text given given (by_late typed)
+late_runs edition text program typed p calls given is s numbers plain h =
+    λ ls replies r. late typed
+    (program, s, subst (λ e. IsCheckedLate e program typed) is (p, plain, h)) r (runs_allowed edition program typed numbers h) refl
 
 -- where no pass is called, all passes tell what they told
 owes_unpassed : (source : List ℕ) (last given : List Told) (ls : List (List ℕ)) (text : List ℕ) → OwesRun true source [] last ls text →
@@ -129,22 +123,30 @@ unpassed_verdict source last given (Ok a) v = λ ls text replies. owes_unpassed 
 unpassed_verdict source last given (Err f) v = v
 
 -- ---- why it is refused
-pub run_broken : (text : List ℕ) (program : List RawItemTree) (e : TypeFault) → (e ≡ rule.NoMemory → ⊥) → ((p : Place) → e ≡ rule.NotLinear p → ⊥) →
-    CheckFault {Y = TypedTree} e (checked Two Plain program) → Spelled (IsProgram Two) text program → IsRefusedRun text (fault.Rule e)
-run_broken text program e n other h s =
-    bad_tree program (fault.Rule e) s (bad (fault.Rule e) (broken e (fails_so e (checked Two Plain program) n h)) (λ p same. other p cc))
+pub run_unruly : (edition : Edition) (text : List ℕ) (program : List RawItemTree) (f : Fault) → ((p : Place) → f ≡ fault.Rule (rule.NotLinear p) → ⊥) →
+    edition ≡ edition_of text → SpellsProgram text program → IsBroken edition Plain program f → IsRefusedRun text f
+run_unruly edition text program f other is s h =
+    bad_tree program f s (bad f (unruly f (subst (λ e. IsBroken e Plain program f) is h)) other)
 
-pub late_broken : (text : List ℕ) (program : List RawItemTree) (p : Place) (e : TypeFault) → (e ≡ rule.NoMemory → ⊥) →
-    checked Two Plain program ≡ Err (rule.NotLinear p) →
-    CheckFault {Y = TypedTree} e (checked Two Late program) → Spelled (IsProgram Two) text program → IsRefusedRun text (fault.Rule e)
-late_broken text program p e n plain h s =
-    bad_tree program (fault.Rule e) s (broken_late p e plain (fails_so e (checked Two Late program) n h))
+pub run_unruly_or : (edition : Edition) (text : List ℕ) (program : List RawItemTree) (f : Fault) → ((p : Place) → f ≡ fault.Rule (rule.NotLinear p) → ⊥) →
+    edition ≡ edition_of text → SpellsProgram text program → IsBroken edition Plain program f ⊎ (f ≡ fault.NoMemory) → IsRefusedRun text f ⊎ (f ≡ fault.NoMemory)
+run_unruly_or edition text program f other is s (inl h) = inl (run_unruly edition text program f other is s h)
+run_unruly_or edition text program f other is s (inr memory) = inr memory
+
+pub run_unruly_late : (edition : Edition) (text : List ℕ) (program : List RawItemTree) (p : Place) (f : Fault) → edition ≡ edition_of text →
+    SpellsProgram text program → checked edition Plain program ≡ Err (rule.NotLinear p) → IsBroken edition Late program f ⊎ (f ≡ fault.NoMemory) →
+    IsRefusedRun text f ⊎ (f ≡ fault.NoMemory)
+run_unruly_late edition text program p f is s plain (inl h) =
+    inl (bad_tree program f s (subst (λ e. IsBadRun e program f) is (broken_late p f plain h)))
+run_unruly_late edition text program p f is s plain (inr memory) = inr memory
 
 run_choose_refused : (text : List ℕ) (typed : TypedTree) (n : ℕ) (r : Refusal) → IsTypedSource text typed → IsFirstRefused (all_chooses typed.defs) n r →
     IsRefusedRun text (fault.Choose n r)
 run_choose_refused text typed n r s h = bad_tree s.0 (fault.Choose n r) s.1 (bad (fault.Choose n r) (refused typed n r s.2 h) (λ p e. cc))
 
-pub run_build_refused : (text : List ℕ) (typed : TypedTree) (f : BuildFault) → IsTypedSource text typed → FaultAnswer (all_chooses typed.defs) f →
+pub run_build_refused : (edition : Edition) (text : List ℕ) (program : List RawItemTree) (typed : TypedTree) (f : BuildFault) → edition ≡ edition_of text →
+    SpellsProgram text program → IsTypedBy edition Plain program typed → FaultAnswer (all_chooses typed.defs) f →
     IsRefusedRun text (fault_of f) ⊎ (fault_of f ≡ fault.NoMemory)
-run_build_refused text typed (build.Choose n r) s h = inl (run_choose_refused text typed n r s h)
-run_build_refused text typed build.NoMemory s h = inr refl
+run_build_refused edition text program typed (build.Choose n r) is s h b =
+    inl (run_choose_refused text typed n r (program, s, subst (λ e. IsTypedBy e Plain program typed) is h) b)
+run_build_refused edition text program typed build.NoMemory is s h b = inr refl

@@ -3,21 +3,18 @@ use Rattle.std.proofs.Common.{◌≡◌, ap, subst, refl, ℕ, List, [], ◌∷�
 use Rattle.std.specs.List.{IsDistinct}
 use Rattle.std.proofs.lemmas.List.Elements.{All-nil, All-cons, All-contains}
 use Rattle.std.proofs.lemmas.List.Sorted.{Contains-permutation}
-use Rattle.std.specs.Prelude.{Result, Ok, Err, Contains}
+use Rattle.std.specs.Prelude.{Contains}
 use Rattle.cf_lex.proofs.LexesLemmas.{lexes-within}
-use Rattle.cf_tree.specs.declared.base.Edition.TheVariants.{Two}
+use Rattle.cf_lex.specs.Editions.{edition_of}
+use Rattle.cf_tree.specs.declared.base.Edition.{Edition}
 use Rattle.cf_tree.specs.DefView.{RawItemTree}
 use Rattle.cf_tree.specs.declared.target.RawTarget.{RawTarget}
 use Rattle.cf_parse.specs.Programs.{IsProgram, program_of}
 use Rattle.cf_parse.proofs.Programs.{one_law}
 use Rattle.cf_pass.specs.Passes.{Told}
-use Rattle.cf_program.specs.Checked.{TypedTree, checked}
-use Rattle.cf_program.specs.declared.linearity.Linearity.TheVariants.{Plain}
-use Rattle.cf_program.specs.CheckAnswers.{CheckFault}
+use Rattle.cf_program.specs.Checked.{TypedTree}
 use Rattle.cf_program.specs.TypedProgram.{all_numbers}
-use Rattle.cf_program.specs.declared.fault.TypeFault.{TypeFault}
-use Rattle.cf_program.specs.declared.fault.TypeFault.TheVariants as rule
-use Rattle.cf_program.proofs.ProgramLaws.{rules_keep_types}
+use Rattle.cf_program.specs.declared.linearity.Linearity.TheVariants.{Plain}
 use Rattle.cf_build.specs.Built.{IsBuilt}
 use Rattle.cf_tree.specs.ChooseTree.{ChooseTree}
 use Rattle.cf_build.specs.Chooses.{all_chooses, by_number, limit_of, IsFirstRefused}
@@ -26,56 +23,44 @@ use Rattle.cf_build.proofs.NumberOrder.{ordered_same}
 use Rattle.cf_match.specs.Matches.{all_matches}
 use Rattle.cf_answer.specs.Checks.{IsCheckOf}
 use Rattle.cf_answer.specs.Owed.{AllWritten, IsPreOf, ArePres, AreChecks}
-use Rattle.cf_answer.specs.Refusals.{IsBadProgram, broken, refused, IsRefusedSource}
-use Rattle.cf_answer.specs.Sources.{Spelled, IsTypedSource, Compiles}
-use Rattle.cf_answer.specs.Statuses.{refusal_status, rule_status, fault_status}
+use Rattle.cf_answer.specs.Refusals.{IsBadProgram, unruly, refused, IsRefusedSource}
+use Rattle.cf_answer.specs.Sources.{SpellsProgram, IsTypedBy, IsTypedSource, Compiles}
+use Rattle.cf_answer.specs.Statuses.{refusal_status, fault_status}
 use Rattle.cf_answer.specs.declared.fault.Fault.{Fault}
-use Rattle.cf_answer.proofs.CauseLemmas.{alike, unrefused}
+use Rattle.cf_answer.proofs.CauseLemmas.{IsSingle, alike, unrefused}
+use Rattle.cf_answer.proofs.RuleLemmas.{broken_alike, typed_never_broken, typed_by_once, typed_keeps}
 use Rattle.cf_answer.proofs.SpelledLemmas.{spelled_program}
 
--- a fault that is no want of memory is the one that the rules give
-pub fails_so : {Y : Type 0} (e : TypeFault) (r : Result Y TypeFault) → (e ≡ rule.NoMemory → ⊥) → CheckFault e r → r ≡ Err e
-fails_so rule.NoMemory r n h = absurd (n refl)
-fails_so (rule.UnknownName p) r n h = h
-fails_so (rule.DuplicateName p) r n h = h
-fails_so (rule.WrongCount p) r n h = h
-fails_so (rule.Mismatch p) r n h = h
-fails_so (rule.NotConstant p) r n h = h
-fails_so (rule.ConstantBelow p) r n h = h
-fails_so (rule.ConstantPast p) r n h = h
-fails_so (rule.CallsLater p) r n h = h
-fails_so rule.NoMain r n h = h
-fails_so (rule.NotLinear p) r n h = h
-fails_so (rule.Weight k) r n h = h
-fails_so (rule.Depth k) r n h = h
+-- at most one program is spelled by tokens
+pub one_program : (text : List ℕ) → IsSingle (IsProgram (edition_of text))
+one_program text = one_law (edition_of text)
 
 -- the numbers of its chooses differ
-source_distinct : (text : List ℕ) (program : List RawItemTree) (typed : TypedTree) → Spelled (IsProgram Two) text program →
-    checked Two Plain program ≡ Ok typed →
-    IsDistinct nat_eq (all_numbers typed.defs)
+source_distinct : (text : List ℕ) (program : List RawItemTree) (typed : TypedTree) → SpellsProgram text program →
+    IsTypedBy (edition_of text) Plain program typed → IsDistinct nat_eq (all_numbers typed.defs)
 source_distinct text program typed s e =
-    (rules_keep_types Plain program typed (spelled_program Two program s.0 s.3 (lexes-within s.2.1.1)) e).distinct
+    (typed_keeps (edition_of text) Plain program typed (spelled_program (edition_of text) program s.0 s.3 (lexes-within s.2.1.1)) e).distinct
 
-pub bad_alike : (text : List ℕ) (program : List RawItemTree) (f g : Fault) → Spelled (IsProgram Two) text program → IsBadProgram program f →
-    IsBadProgram program g →
-    fault_status f ≡ fault_status g
-bad_alike text program f g s (broken e h) (broken d i) = let same : e ≡ d = cc in ap rule_status same
-bad_alike text program f g s (broken e h) (refused typed n r i b) = cc
-bad_alike text program f g s (refused typed n r h b) (broken e i) = cc
+pub bad_alike : (text : List ℕ) (program : List RawItemTree) (f g : Fault) → SpellsProgram text program → IsBadProgram (edition_of text) program f →
+    IsBadProgram (edition_of text) program g → fault_status f ≡ fault_status g
+bad_alike text program f g s (unruly e h) (unruly d i) = broken_alike (edition_of text) Plain program f g h i
+bad_alike text program f g s (unruly e h) (refused typed n r i b) = absurd (typed_never_broken (edition_of text) Plain program typed f i h)
+bad_alike text program f g s (refused typed n r h b) (unruly e i) = absurd (typed_never_broken (edition_of text) Plain program typed g h i)
 bad_alike text program f g s (refused typed n r h b) (refused other m q i c) =
-    let same : other ≡ typed = cc in
+    let same : other ≡ typed = typed_by_once (edition_of text) Plain program other typed i h in
     let there : IsFirstRefused (all_chooses typed.defs) m q = subst (λ v. IsFirstRefused (all_chooses v.defs) m q) same c in
     ap refusal_status (one_refusal typed.defs n m r q (source_distinct text program typed s h) b there)
 
 pub sources_alike : (text : List ℕ) (f g : Fault) → IsRefusedSource text f → IsRefusedSource text g → fault_status f ≡ fault_status g
-sources_alike text f g h i = alike (IsProgram Two) (program_of Two 200) IsBadProgram (one_law Two) text (bad_alike text) f g h i
+sources_alike text f g h i = alike (edition_of text) (IsProgram (edition_of text)) (program_of (edition_of text) 200) (IsBadProgram (edition_of text))
+    (one_program text) text (bad_alike text) f g h i
 
 -- a program whose chooses pass no limit is not refused
-never_bad : (program : List RawItemTree) (typed : TypedTree) → checked Two Plain program ≡ Ok typed →
-    ((q : ChooseTree) → Contains (all_chooses typed.defs) q → limit_of q ≡ None) → (f : Fault) → IsBadProgram program f → ⊥
-never_bad program typed is within f (broken e h) = cc
-never_bad program typed is within f (refused other n r h b) =
-    let same : other ≡ typed = cc in
+never_bad : (edition : Edition) (program : List RawItemTree) (typed : TypedTree) → IsTypedBy edition Plain program typed →
+    ((q : ChooseTree) → Contains (all_chooses typed.defs) q → limit_of q ≡ None) → (f : Fault) → IsBadProgram edition program f → ⊥
+never_bad edition program typed is within f (unruly e h) = typed_never_broken edition Plain program typed f is h
+never_bad edition program typed is within f (refused other n r h b) =
+    let same : other ≡ typed = typed_by_once edition Plain program other typed h is in
     let q = b.refused in
     let none : limit_of q.0 ≡ None = within q.0 (subst (λ v. Contains (all_chooses v.defs) q.0) same q.1) in
     let some : limit_of q.0 ≡ Some r = q.3 in cc
@@ -83,13 +68,13 @@ never_bad program typed is within f (refused other n r h b) =
 pub typed_unrefused : (text : List ℕ) (typed : TypedTree) (f : Fault) → IsTypedSource text typed →
     ((q : ChooseTree) → Contains (all_chooses typed.defs) q → limit_of q ≡ None) →
     IsRefusedSource text f → ⊥
-typed_unrefused text typed f s within h =
-    unrefused (IsProgram Two) (program_of Two 200) IsBadProgram (one_law Two) text f s.0 (never_bad s.0 typed s.2 within) h s.1
+typed_unrefused text typed f s within h = unrefused (edition_of text) (IsProgram (edition_of text)) (program_of (edition_of text) 200)
+    (IsBadProgram (edition_of text)) (one_program text) text f s.0 (never_bad (edition_of text) s.0 typed s.2 within) h s.1
 
 -- nor is one of which a target is built
-pub built_never_bad : (program : List RawItemTree) (typed : TypedTree) (given last : List Told) (t : RawTarget) → checked Two Plain program ≡ Ok typed →
-    IsBuilt typed.defs typed.main given last t → (f : Fault) → IsBadProgram program f → ⊥
-built_never_bad program typed given last t is built f b = never_bad program typed is (λ q m. (built.solved q m).within) f b
+pub built_never_bad : (edition : Edition) (program : List RawItemTree) (typed : TypedTree) (given last : List Told) (t : RawTarget) →
+    IsTypedBy edition Plain program typed → IsBuilt typed.defs typed.main given last t → (f : Fault) → IsBadProgram edition program f → ⊥
+built_never_bad edition program typed given last t is built f b = never_bad edition program typed is (λ q m. (built.solved q m).within) f b
 
 pub compiled_unrefused : (given last : List Told) (text : List ℕ) (t : RawTarget) (f : Fault) → Compiles given last text t → IsRefusedSource text f → ⊥
 compiled_unrefused given last text t f c h = typed_unrefused text c.0 f c.1 (λ q m. (c.2.solved q m).within) h

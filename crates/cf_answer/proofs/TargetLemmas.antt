@@ -6,14 +6,15 @@ use Rattle.cf_target.specs.Spelling.{TargetTree, target_tree, IsTarget}
 use Rattle.cf_target.specs.Targets.{target_of}
 use Rattle.cf_target.proofs.Only.{one_law}
 use Rattle.cf_answer.specs.Refusals.{IsBadTarget, untyped, IsRefusedTarget}
+use Rattle.cf_tree.specs.declared.base.Edition.TheVariants.{Two}
 use Rattle.cf_answer.specs.Sources.{Spelled, IsTypedTree, IsTypedTarget}
 use Rattle.cf_answer.specs.Statuses.{fault_status}
 use Rattle.cf_answer.specs.declared.fault.Fault.{Fault}
 use Rattle.cf_answer.proofs.CauseLemmas.{alike, unrefused}
 
 -- a target that is read and kept
-pub typed_verdict : (text : List ℕ) (raw t : RawTarget) → t ≡ raw → IsWellTyped t → Spelled IsTarget text (target_tree raw) → IsTypedTarget text (target_tree t)
-typed_verdict text raw t same typed h = (subst (λ v. Spelled IsTarget text (target_tree v)) (sym same) h, typed)
+pub typed_verdict : (text : List ℕ) (raw t : RawTarget) → t ≡ raw → IsWellTyped t → Spelled Two IsTarget text (target_tree raw) → IsTypedTarget text (target_tree t)
+typed_verdict text raw t same typed h = (subst (λ v. Spelled Two IsTarget text (target_tree v)) (sym same) h, typed)
 
 bad_alike : (t : TargetTree) (f g : Fault) → IsBadTarget t f → IsBadTarget t g → fault_status f ≡ fault_status g
 bad_alike t f g (untyped a) (untyped b) = refl

@@ -9,18 +9,20 @@ use Rattle.cf_tree.specs.DefView.{DefTree, item_def}
 use Rattle.cf_tree.specs.ExprTree.{ExprTree}
 use Rattle.cf_tree.specs.declared.base.Base.TheVariants.{Int}
 use Rattle.cf_linear.specs.Chooses.{limit as first_limit}
+use Rattle.cf_parse.specs.Programs.{IsProgram}
 use Rattle.cf_program.specs.Lowered.{lowered}
+use Rattle.cf_program.specs.declared.linearity.Linearity.TheVariants.{Plain}
 use Rattle.cf_build.specs.Chooses.{chooses_in, all_chooses, limit_of}
 use Rattle.cf_gen.specs.Workload.{coefficient, coefficients, gen_source}
 use Rattle.cf_gen.proofs.ShortSources.{source_is_short}
 use Rattle.cf_answer.specs.Limits.{text_limit}
-use Rattle.cf_answer.specs.Sources.{IsTypedSource}
+use Rattle.cf_answer.specs.Sources.{Spelled, IsTypedBy, IsTypedSource}
 use Rattle.cf_answer.specs.Workloads.{GenIsAccepted}
 use Rattle.cf_answer.proofs.SourceLemmas.{typed_unrefused}
 use Rattle.cf_answer.proofs.WorkloadLaw.{is_program, coefficients_are}
 use Rattle.cf_answer.proofs.WorkloadPicks.{IsCoefficient, coefficient_within}
 use Rattle.cf_answer.proofs.WorkloadShapes.{AreDefs, IsFunction, calls_of, function_rel}
-use Rattle.cf_answer.proofs.WorkloadSource.{source_spelled}
+use Rattle.cf_answer.proofs.WorkloadSource.{source_spelled, gen_edition}
 use Rattle.cf_answer.proofs.WorkloadTyped.{AreTyped, IsChecked, workload_checked}
 
 -- ---- limits
@@ -71,10 +73,13 @@ module _ (n : ℕ) (l : 1 ≤ n) (h : n ≤ 100) where
 
   typed_source : IsTypedSource (gen_source n) workload_is_checked.typed
   typed_source =
-      let k = source_spelled n l h in (
-        map item_def k.3,
-        (k.0, k.1, (short_source n l h, ([], k.2, refl)), is_program (n - 1) 1 (coefficients n) k.3 k.0 k.4 k.5),
-        workload_is_checked.is,
+      let k = source_spelled n l h in
+      let two = sym (gen_edition n l) in
+      let program = map item_def k.3 in (
+        program,
+        subst (λ e. Spelled e (IsProgram e) (gen_source n) program) two
+            (k.0, k.1, (short_source n l h, ([], k.2, refl)), is_program (n - 1) 1 (coefficients n) k.3 k.0 k.4 k.5),
+        subst (λ e. IsTypedBy e Plain program workload_is_checked.typed) two workload_is_checked.is,
       )
 
   workload_within : All IsWithin (all_chooses workload_is_checked.typed.defs)

@@ -9,9 +9,8 @@ use Rattle.cf_tree.specs.declared.raw.Param.{Param}
 use Rattle.cf_tree.specs.Params.{bases_of}
 use Rattle.cf_tree.specs.DefView.{RawDefTree}
 use Rattle.cf_tree.specs.ExprTree.{ExprTree, expr_var, expr_binary, expr_call, expr_let, expr_choose, no_exprs, expr_more}
-use Rattle.cf_tree.specs.RawTree.{RawTree, raw_lit, raw_name, raw_binary, raw_call, raw_let, no_raws, raw_more}
+use Rattle.cf_tree.specs.RawTree.{RawTree, raw_lit, raw_name, raw_binary, raw_call, raw_let, raw_choose, no_given, no_aim, no_raws, raw_more}
 use Rattle.cf_tree.specs.RelTree.{RelTree, term_lit, term_var, term_add, term_mul, rel_compare, rel_and}
-use Rattle.cf_program.proofs.PlainForms.{raw_choose}
 
 abbrev pub Shape : Type 1
 Shape = RawTree → Type 0
@@ -40,7 +39,7 @@ IsRelation c =
 abbrev pub IsChoose : ℕ → Shape
 IsChoose c t =
     (p : Place) × (q : Place) × (r : Place) × (e : RawTree) × IsRelation c e
-    × (t ≡ raw_choose p (number_at q (codes "q") ∷ number_at r (codes "r") ∷ []) e)
+    × (t ≡ raw_choose p (number_at q (codes "q") ∷ number_at r (codes "r") ∷ []) [] no_given e no_aim)
 
 -- let (q, r) = the choose in q + r
 abbrev pub IsBody : ℕ → Shape

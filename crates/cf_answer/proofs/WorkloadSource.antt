@@ -9,27 +9,27 @@ use Rattle.std.proofs.lemmas.Grind.{flat_map-append}
 use Rattle.std.proofs.lemmas.List.{length-map}
 use Rattle.std.proofs.lemmas.List.FromFn.{length-range_with_len}
 use Rattle.cf_lex.specs.Bytes.{is_digit}
+use Rattle.cf_lex.specs.Editions.{edition_of}
 use Rattle.cf_lex.specs.Places.{first_place}
 use Rattle.cf_lex.specs.Runs.{AllAre}
 use Rattle.cf_lex.specs.Tokens.{Lexes, none}
 use Rattle.cf_lex.specs.Words.{is_reserved}
 use Rattle.cf_lex.specs.declared.token.Token.{Token}
 use Rattle.cf_lex.specs.declared.token.TokenKind.TheVariants.{Literal, Word, Sign}
-use Rattle.cf_reader.specs.Tokens.{Form, ◌⨟◌, First, Next, FirstName, NextFunction, Several}
+use Rattle.cf_reader.specs.Tokens.{Form, ◌⨟◌, FirstName, Next, NextFunction, Several}
 use Rattle.cf_reader.specs.Operations.{op_kind}
 use Rattle.cf_tree.specs.declared.base.Base.TheVariants.{Int}
-use Rattle.cf_tree.specs.declared.base.Edition.TheVariants.{Two}
 use Rattle.cf_tree.specs.declared.base.Order.TheVariants.{Eq, Le, Lt}
 use Rattle.cf_tree.specs.declared.base.Place.{Place}
 use Rattle.cf_tree.specs.declared.raw.BinOp.{BinOp}
 use Rattle.cf_tree.specs.declared.raw.BinOp.TheVariants.{Add, Mul, And, Compare}
+use Rattle.cf_tree.specs.declared.base.Edition.TheVariants.{Two}
 use Rattle.cf_tree.specs.DefView.{RawDefTree, item_def}
-use Rattle.cf_tree.specs.RawTree.{RawTree, raw_lit, raw_name, raw_binary, raw_call, raw_let, no_raws, raw_more, raw_depth}
+use Rattle.cf_tree.specs.RawTree.{RawTree, raw_lit, raw_name, raw_binary, raw_call, raw_let, raw_choose, no_given, no_aim, no_raws, raw_more, raw_depth}
 use Rattle.cf_parse.specs.declared.tier.Tier.{Tier}
 use Rattle.cf_parse.specs.declared.tier.Tier.TheVariants.{Whole, Imps, Ors, Ands, Cmps, Sums, Muls, Unary}
 use Rattle.cf_parse.specs.Programs.{SpellsDef, SpellsAll}
-use Rattle.cf_parse.specs.Spelling.{rank, op_tier, left_tier, right_tier, Fits, FirstOp, SpellsParam, SpellsNames, Spells}
-use Rattle.cf_program.proofs.PlainForms.{raw_choose}
+use Rattle.cf_parse.specs.Spelling.{rank, under, op_tier, left_tier, Fits, SpellsParam, SpellsNames, Spells}
 use Rattle.cf_gen.specs.Workload.{function_text, function_line, call_text, call_more, main_line, coefficient, coefficients, gen_source}
 use Rattle.cf_emit.proofs.Numerals.{AreDigitsOf, decimal_read, digits_in_word, ends_digits}
 use Rattle.cf_emit.proofs.Spans.{Spans, Says, then, as_form, one_token, white_before, white_behind, is_plain, word, spaced, Mark, opening, closing, comma, colon, spaced_sign}
@@ -38,10 +38,6 @@ use Rattle.cf_answer.proofs.WorkloadShapes.{Shape, IsName, IsLit, IsBoth, number
 -- some tree of a shape
 abbrev Tree : Shape → Form
 Tree A ts rest = (t : RawTree) × A t × Spells Two t ts rest
-
--- a name of language 2 stands first
-abbrev NextName : List ℕ → Form
-NextName x ts rest = (p : Place) × FirstName Two p x ts rest
 
 -- ---- how tightly the shapes bind
 abbrev AllFit : Tier → Shape → Type 0
@@ -85,21 +81,17 @@ number_says k ds fits r rest stops =
     not_negative : (n : ℕ) → pos 0 ≤ℤ pos n
     not_negative n = omega (arith, ints)
 
--- the word or sign of an operation of language 2
-abbrev IsOfTwo : BinOp → Type 0
-IsOfTwo op = (p : Place) (ts rest : List Token) → First p (op_kind op) ts rest → FirstOp op Two p ts rest
-
-both_says : (op : BinOp) → IsOfTwo op → (A B : Shape) (a o b : List ℕ) → Says (Tree A) a → Mark (op_kind op) o → Says (Tree B) b →
-    AllFit (left_tier (op_tier op)) A → AllFit (right_tier (op_tier op)) B →
+both_says : (op : BinOp) (A B : Shape) (a o b : List ℕ) → Says (Tree A) a → Mark (op_kind op) o → Says (Tree B) b → AllFit (left_tier (op_tier op)) A →
+    AllFit (under (op_tier op)) B →
     Says (Tree (IsBoth op A B)) (a ++ o ++ b)
-both_says op of_two A B a o b left mark right fit fits rest stops =
+both_says op A B a o b left mark right fit fits rest stops =
     simp append_assoc (as_form turn (then (left (o ++ (b ++ rest)) (mark.begins (b ++ rest))) (then (mark.gives (b ++ rest)) (right rest stops))))
   where
     turn : (ts more : List Token) → (Tree A ⨟ Next (op_kind op) ⨟ Tree B) ts more → Tree (IsBoth op A B) ts more
     turn ts more h = (
       raw_binary h.2.1.0 op h.1.0 h.2.2.0,
       (h.2.1.0, h.1.0, h.2.2.0, h.1.1, h.2.2.1, refl),
-      (h.0, (fit h.1.0 h.1.1, h.1.2), (h.2.0, of_two h.2.1.0 h.0 h.2.0 h.2.1.1, (fits h.2.2.0 h.2.2.1, h.2.2.2))),
+      (h.0, (fit h.1.0 h.1.1, h.1.2), (h.2.0, h.2.1.1, (fits h.2.2.0 h.2.2.1, h.2.2.2))),
     )
 
 plus : Mark (Sign (codes "+")) (codes " + ")
@@ -153,40 +145,33 @@ module _ (c : ℕ) (small : c ≤ 2 ^ 127 - 1) where
   c_says = number_says c (decimal c) small (decimal_read c (omega arith))
 
   product_says : Says (Tree (IsBoth Mul (IsLit c) (IsName (codes "q")))) (product_text c)
-  product_says = both_says Mul (λ p ts rest h. h) (IsLit c) (IsName (codes "q")) (decimal c) (codes " * ") (codes "q") c_says times q_says (lit_fits Muls c)
+  product_says = both_says Mul (IsLit c) (IsName (codes "q")) (decimal c) (codes " * ") (codes "q") c_says times q_says (lit_fits Muls c)
       (name_fits Unary (codes "q"))
 
   sum_says : Says (Tree (IsBoth Add (IsBoth Mul (IsLit c) (IsName (codes "q"))) (IsName (codes "r")))) (product_text c ++ codes " + " ++ codes "r")
   sum_says =
-      both_says Add (λ p ts rest h. h) (IsBoth Mul (IsLit c) (IsName (codes "q"))) (IsName (codes "r")) (product_text c) (codes " + ")
-      (codes "r") product_says plus r_says
+      both_says Add (IsBoth Mul (IsLit c) (IsName (codes "q"))) (IsName (codes "r")) (product_text c) (codes " + ") (codes "r") product_says plus r_says
       (both_fits Sums Mul (IsLit c) (IsName (codes "q")) (omega arith)) (name_fits Muls (codes "r"))
 
   equation_says : Says (Tree (IsEqual c)) (equation_text c)
   equation_says =
-      both_says (Compare Eq) (λ p ts rest h. h) (IsName (codes "a")) (IsBoth Add (IsBoth Mul (IsLit c) (IsName (codes "q"))) (IsName (codes "r"))) (codes "a")
-      (codes " == ")
+      both_says (Compare Eq) (IsName (codes "a")) (IsBoth Add (IsBoth Mul (IsLit c) (IsName (codes "q"))) (IsName (codes "r"))) (codes "a") (codes " == ")
       (product_text c ++ codes " + " ++ codes "r") a_says equals sum_says (name_fits Sums (codes "a"))
       (both_fits Sums Add (IsBoth Mul (IsLit c) (IsName (codes "q"))) (IsName (codes "r")) (omega arith))
 
   lower_says : Says (Tree (IsBoth (Compare Le) (IsLit 0) (IsName (codes "r")))) lower_text
-  lower_says =
-      both_says (Compare Le) (λ p ts rest h. h) (IsLit 0) (IsName (codes "r")) (codes "0") (codes " <= ") (codes "r") zero_says at_most r_says (lit_fits Sums 0)
+  lower_says = both_says (Compare Le) (IsLit 0) (IsName (codes "r")) (codes "0") (codes " <= ") (codes "r") zero_says at_most r_says (lit_fits Sums 0)
       (name_fits Sums (codes "r"))
 
   upper_says : Says (Tree (IsBoth (Compare Lt) (IsName (codes "r")) (IsLit c))) (upper_text c)
-  upper_says =
-      both_says (Compare Lt) (λ p ts rest h. h) (IsName (codes "r")) (IsLit c) (codes "r") (codes " < ") (decimal c) r_says below c_says
-      (name_fits Sums (codes "r"))
+  upper_says = both_says (Compare Lt) (IsName (codes "r")) (IsLit c) (codes "r") (codes " < ") (decimal c) r_says below c_says (name_fits Sums (codes "r"))
       (lit_fits Sums c)
 
   relation_says : Says (Tree (IsRelation c)) (relation_text c)
   relation_says =
-      both_says And (λ p ts rest h. h) (IsBoth And (IsEqual c) (IsBoth (Compare Le) (IsLit 0) (IsName (codes "r"))))
-      (IsBoth (Compare Lt) (IsName (codes "r")) (IsLit c))
+      both_says And (IsBoth And (IsEqual c) (IsBoth (Compare Le) (IsLit 0) (IsName (codes "r")))) (IsBoth (Compare Lt) (IsName (codes "r")) (IsLit c))
       (equation_text c ++ codes " && " ++ lower_text) (codes " && ") (upper_text c)
-      (both_says And (λ p ts rest h. h) (IsEqual c) (IsBoth (Compare Le) (IsLit 0) (IsName (codes "r"))) (equation_text c)
-      (codes " && ") lower_text equation_says ands lower_says
+      (both_says And (IsEqual c) (IsBoth (Compare Le) (IsLit 0) (IsName (codes "r"))) (equation_text c) (codes " && ") lower_text equation_says ands lower_says
       (both_fits Ands (Compare Eq) (IsName (codes "a")) (IsBoth Add (IsBoth Mul (IsLit c) (IsName (codes "q"))) (IsName (codes "r"))) (omega arith))
       (both_fits Cmps (Compare Le) (IsLit 0) (IsName (codes "r")) (omega arith)))
       ands upper_says
@@ -224,7 +209,7 @@ choose_says c t relation rest stops =
     turn ts more h =
         let o = h.2.2.1 in
         let e = h.2.2.2.2 in (
-          raw_choose h.1.0 (number_at o.0 (codes "q") ∷ number_at o.1 (codes "r") ∷ []) e.0,
+          raw_choose h.1.0 (number_at o.0 (codes "q") ∷ number_at o.1 (codes "r") ∷ []) [] no_given e.0 no_aim,
           (h.1.0, o.0, o.1, e.0, e.1, refl),
           (h.0, h.1.1, (h.2.0, h.2.1, (h.2.2.0, o.2, (h.2.2.2.0, h.2.2.2.1, (fits e.0 e.1, e.2))))),
         )
@@ -236,6 +221,9 @@ choose_says c t relation rest stops =
 -- ---- a function's body
 abbrev SomeNames : Form
 SomeNames ts rest = (q : Place) × (r : Place) × SpellsNames Two (codes "q" ∷ codes "r" ∷ []) (q ∷ r ∷ []) ts rest
+
+abbrev NextName : List ℕ → Form
+NextName x ts rest = (p : Place) × FirstName Two p x ts rest
 
 next_name : (x : List ℕ) → is_plain x ≡ true → is_reserved Two x ≡ false → Says (NextName x) x
 next_name x plain free rest stops = as_form (λ ts more h. (h.0, (h.1, free))) (word x rest plain stops)
@@ -268,7 +256,7 @@ body_says c t chooses rest stops =
     behind = codes " in q + r" ++ rest
 
     sum_of_both : Says (Tree (IsBoth Add (IsName (codes "q")) (IsName (codes "r")))) (codes "q + r")
-    sum_of_both = both_says Add (λ p ts rest h. h) (IsName (codes "q")) (IsName (codes "r")) (codes "q") (codes " + ") (codes "r") q_says plus r_says
+    sum_of_both = both_says Add (IsName (codes "q")) (IsName (codes "r")) (codes "q") (codes " + ") (codes "r") q_says plus r_says
         (name_fits Sums (codes "q")) (name_fits Muls (codes "r"))
 
     turn : (ts more : List Token) →
@@ -318,8 +306,7 @@ module _ (i : ℕ) (small : i ≤ 2 ^ 127 - 1) where
       (then (function_name_says (codes "(a)" ++ rest) refl) (then (opening.gives (codes "a)" ++ rest))
       (then (a_says (codes ")" ++ rest) refl) (closing.gives rest)))))
     where
-      turn : (ts more : List Token) →
-          (NextFunction Two (function_name i) ⨟ Next (Sign (codes "(")) ⨟ Tree (IsName (codes "a")) ⨟ Next (Sign (codes ")"))) ts more →
+      turn : (ts more : List Token) → (NextFunction Two (function_name i) ⨟ Next (Sign (codes "(")) ⨟ Tree (IsName (codes "a")) ⨟ Next (Sign (codes ")"))) ts more →
           Tree (IsCall i) ts more
       turn ts more h =
           let a = h.2.2.1 in (
@@ -355,7 +342,7 @@ calls_say : (m : ℕ) → m + 1 ≤ 2 ^ 127 - 1 → Says (Tree (AreCalls m)) (ca
 calls_say zero small = subst (λ t. Says (Tree (IsCall 1)) t) (sym (append-nil (call_text 1))) (call_says 1 (omega arith))
 calls_say (suc m) small =
     subst (λ t. Says (Tree (AreCalls (suc m))) t) (sym (calls_text_next m))
-    (both_says Add (λ p ts rest h. h) (AreCalls m) (IsCall (m + 2)) (calls_text m) (codes " + ") (call_text (m + 2)) (calls_say m (omega arith)) plus
+    (both_says Add (AreCalls m) (IsCall (m + 2)) (calls_text m) (codes " + ") (call_text (m + 2)) (calls_say m (omega arith)) plus
     (call_says (m + 2) (omega arith))
     (calls_fit m) (call_fits (m + 2)))
 
@@ -471,16 +458,16 @@ def_says x A t rest named body shallow =
         )
 
 -- ---- all functions
-abbrev SpellsFunctions : List RawDefTree → Form
-SpellsFunctions [] ts rest = ts ≡ rest
-SpellsFunctions (d ∷ ds) ts rest = (mid : List Token) × SpellsDef Two 200 d ts mid × SpellsFunctions ds mid rest
+abbrev AreSpelled : List RawDefTree → Form
+AreSpelled [] ts rest = ts ≡ rest
+AreSpelled (d ∷ ds) ts rest = (mid : List Token) × SpellsDef Two 200 d ts mid × AreSpelled ds mid rest
 
-all_spelled : (ds : List RawDefTree) (ts : List Token) → SpellsFunctions ds ts [] → SpellsAll Two 200 (map item_def ds) ts
+all_spelled : (ds : List RawDefTree) (ts : List Token) → AreSpelled ds ts [] → SpellsAll Two 200 (map item_def ds) ts
 all_spelled [] ts h = h
 all_spelled (d ∷ ds) ts h = (h.0, h.1, all_spelled ds h.0 h.2)
 
 abbrev SomeDefs : ℕ → ℕ → List ℕ → Form
-SomeDefs m i cs ts rest = (ds : List RawDefTree) × AreDefs m i cs ds × SpellsFunctions ds ts rest
+SomeDefs m i cs ts rest = (ds : List RawDefTree) × AreDefs m i cs ds × AreSpelled ds ts rest
 
 abbrev AreSmall : List ℕ → Type 0
 AreSmall [] = Unit {0}
@@ -518,10 +505,12 @@ function_says i c small within rest =
     (body_says c (codes "choose (q: int, r: int) where " ++ relation_text c) (choose_says c (relation_text c) (relation_says c within)))
     (body_shallow c))
 
+main_name : Says (NextFunction Two (codes "main")) (codes "main")
+main_name rest stops = as_form (λ ts more h. (h.0, (h.1, refl))) (word (codes "main") rest refl stops)
+
 main_says : (m : ℕ) → m + 2 ≤ 200 → (rest : List ℕ) → Spans (SomeDef (codes "main") (AreCalls m)) (def_text (codes "main") (calls_text m) ++ rest) rest
 main_says m small rest =
-    def_says (codes "main") (AreCalls m) (calls_text m) rest (λ more stops. as_form (λ us vs h. (h.0, (h.1, refl))) (word (codes "main") more refl stops))
-    (calls_say m (omega arith))
+    def_says (codes "main") (AreCalls m) (calls_text m) rest main_name (calls_say m (omega arith))
     (deeper (m + 2) 200 (AreCalls m) small (calls_shallow m))
 
 functions_say : (m i : ℕ) (cs : List ℕ) → m + 2 ≤ 200 → i + length cs ≤ 2 ^ 127 - 1 → AreSmall cs → (rest : List ℕ) →
@@ -561,3 +550,8 @@ source_spelled n l h =
     let f = s.spans first_place in
     let g = f.1 [] f.0 none in
     (g.0, f.0, subst (λ t. Lexes Two (2 ^ 127 - 1) first_place t g.0 f.0 []) (sym (source_is n)) g.1, g.2.0, g.2.1, all_spelled g.2.0 g.0 g.2.2)
+
+-- it is a source of language 2
+pub gen_edition : (n : ℕ) → 1 ≤ n → edition_of (gen_source n) ≡ Two
+gen_edition zero l = absurd (omega (arith, l))
+gen_edition (suc n) l = refl

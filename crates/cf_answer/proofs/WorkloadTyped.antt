@@ -1,5 +1,5 @@
 -- A program of the shape of a workload has levels in the place of its names.
-use Rattle.std.proofs.Common.{◌≡◌, ℕ, zero, suc, ◌+◌, ◌-◌, ◌*◌, ◌^◌, ◌<◌, ◌≤◌, pos, true, false, List, [], ◌∷◌, ◌++◌, length, map, reverse, get_or, codes, Option, Some, None, refl, sym, ap, ap₂, ◌∙◌, subst, append_assoc, arith, length-append}
+use Rattle.std.proofs.Common.{◌≡◌, ℕ, zero, suc, ◌+◌, ◌-◌, ◌*◌, ◌^◌, ◌<◌, ◌≤◌, pos, true, false, List, [], ◌∷◌, ◌++◌, length, map, get_or, codes, Option, Some, None, reverse, refl, sym, ap, ap₂, ◌∙◌, subst, append_assoc, arith, length-append}
 use Rattle.std.specs.Prelude.{◌||◌, nat_le, nat_lt, slice_index, Result, Ok, decimal, if◌then◌else◌}
 use Rattle.std.specs.Str.{bytes_eq}
 use Rattle.std.proofs.lemmas.Bool.Decides.{nat_tests}
@@ -13,7 +13,7 @@ use Rattle.cf_tree.specs.declared.raw.BinOp.{BinOp}
 use Rattle.cf_tree.specs.declared.raw.BinOp.TheVariants.{Add, Mul, And, Compare}
 use Rattle.cf_tree.specs.declared.raw.Param.{Param}
 use Rattle.cf_tree.specs.declared.base.Edition.TheVariants.{Two}
-use Rattle.cf_tree.specs.DefView.{RawDefTree, DefTree, RawItemTree, item_def}
+use Rattle.cf_tree.specs.DefView.{RawDefTree, RawItemTree, item_def, DefTree}
 use Rattle.cf_tree.specs.ExprTree.{ExprTree, expr_lit, expr_var, expr_binary, expr_let, expr_choose}
 use Rattle.cf_tree.specs.RawTree.{RawTree, raw_binary}
 use Rattle.cf_tree.specs.RelTree.{RelTree, term_lit, term_var, term_add, term_mul, rel_compare, rel_and}
@@ -22,23 +22,23 @@ use Rattle.cf_tree.proofs.SetLemmas.{on_bool}
 use Rattle.cf_program.specs.declared.fault.TypeFault.{TypeFault}
 use Rattle.cf_program.specs.declared.fault.TypeFault.TheVariants.{Weight, Depth}
 use Rattle.cf_program.specs.declared.linearity.Linearity.TheVariants.{Plain}
-use Rattle.cf_program.specs.Checked.{TypedTree, functions_of, def_form, walk_def, walk_items, main_from, size_fault, sized, with_main, checked}
+use Rattle.cf_program.specs.Checked.{TypedTree, def_form, functions_of, walk_def, walk_items, main_from, size_fault, sized, with_main, checked}
 use Rattle.cf_program.specs.Lowered.{lowered}
 use Rattle.cf_program.specs.Names.{Callee, is_among, callee, callee_from}
 use Rattle.cf_tree.specs.Params.{bases_of}
 use Rattle.cf_program.specs.Reading.{Reading, relation, term, not_linear, binary_reading}
 use Rattle.cf_program.specs.Size.{weight_in, depth_in, measured, weights, depths}
+use Rattle.cf_program.specs.Walk.{Form, Forms, binary_form, call_form, Context, behind, by_edition, walk}
 use Rattle.cf_program.specs.Then.{◌>>=◌}
-use Rattle.cf_program.specs.Walk.{Form, Forms, binary_form, call_form, Context, behind, walk}
 use Rattle.cf_lex.specs.Digits.{digits_value}
 use Rattle.cf_emit.proofs.Numerals.{decimal_read}
 use Rattle.cf_answer.proofs.WorkloadShapes.{Shape, IsName, IsLit, IsBoth, number_at, IsEqual, IsRelation, IsChoose, IsBody, function_name, IsCall, AreCalls, IsDef, AreDefs}
 use Rattle.cf_answer.proofs.WorkloadShapes.{function_rel, IsFunction, AreFunctions, call_of, calls_of, IsWorkload}
 
 -- ---- the body of a function
-module _ (calls : List ℕ → Option Callee) (before : List RawDefTree) where
+module _ (calls : List ℕ → Option Callee) (earlier : List RawDefTree) where
   abbrev context : Context
-  context = behind Two Plain calls [] before
+  context = behind Two Plain calls [] earlier
 
   -- a form of one number, and of one truth value
   abbrev Number : List Param → ℕ → RawTree → ExprTree → Reading → Type 0
@@ -325,7 +325,7 @@ module _ (m : ℕ) where
   defs_walk all before done n k [] (d ∷ ds) are small many new each =
       let w = main_walks all before n d are.0 new.main (λ i l. each before i l (omega arith)) in (
         w.0.0 ∷ [],
-        ap (λ ds'. walk_items Two Plain all [] before done n (map item_def (d ∷ ds'))) are.1
+        ap (λ ds'. walk_items Two Plain all [] before done n (item_def d ∷ map item_def ds')) are.1
             ∙ ap (λ r. r >>= λ x. walk_items Two Plain all [] (before ++ d ∷ []) (done ++ x.0 ∷ []) x.1 []) w.1,
         (w.2, w.3, refl),
       )
@@ -415,6 +415,12 @@ functions_are : (ds : List RawDefTree) → functions_of (map item_def ds) ≡ ds
 functions_are [] = refl
 functions_are (d ∷ ds) = ap (λ es. d ∷ es) (functions_are ds)
 
+-- the rules over functions alone
+checked_defs : (ds : List RawDefTree) (defs : List DefTree) (main : ℕ) → walk_items Two Plain ds [] [] [] 1 (map item_def ds) ≡ Ok defs →
+    main_from 0 ds ≡ Some main → sized (record { defs = defs; main = main }) ≡ Ok (record { defs = defs; main = main }) →
+    checked Two Plain (map item_def ds) ≡ Ok (record { defs = defs; main = main })
+checked_defs ds defs main w m s = rw (functions_are ds, w, m) s
+
 -- a program of this shape breaks no rule
 pub record IsChecked (cs : List ℕ) (ds : List RawDefTree) : Type 0 where
   pub typed : TypedTree
@@ -445,10 +451,7 @@ workload_checked cs ds l few are =
     cs w.0 w.2 in
     record {
       typed = record { defs = w.0; main = length cs };
-      is = ap (λ fs. walk_items Two Plain fs [] [] [] 1 (map item_def ds) >>= λ defs. with_main defs (main_from 0 fs) >>= sized) (functions_are ds)
-          ∙ ap (λ r. r >>= λ defs. with_main defs (main_from 0 ds) >>= sized) w.1
-          ∙ ap (λ o. with_main w.0 o >>= sized) (main_is m 0 1 cs ds are ∙ ap (λ i. Some i) z)
-          ∙ both_fit w.0 (length cs) weights_fit depths_fit;
+      is = checked_defs ds w.0 (length cs) w.1 (main_is m 0 1 cs ds are ∙ ap (λ i. Some i) z) (both_fit w.0 (length cs) weights_fit depths_fit);
       defs = w.2;
       main = refl;
     }

@@ -11,6 +11,7 @@ use Rattle.cf_steps.specs.declared.block.Block.{Block}
 use Rattle.cf_cert.specs.Certifying.{Certifies}
 use Rattle.cf_cert.specs.Laws.{MeansSolutions}
 use Rattle.cf_prove.specs.Tracing.{traced_block}
+use Rattle.cf_tree.specs.declared.base.Edition.TheVariants.{Two}
 use Rattle.cf_answer.specs.Sources.{Spelled}
 use Rattle.cf_answer.specs.Texts.{numbered_line}
 
@@ -48,4 +49,4 @@ verified_line q = numbered_line q.number (codes "verified")
 
 -- the text spells blocks, one for each choose in order, which prove these chooses
 abbrev pub AreVerified : List ChooseTree → List ℕ → Type 0
-AreVerified qs steps = (bs : List BlockTree) × Spelled AreBlocks steps bs × OneForEach IsProofOf qs bs
+AreVerified qs steps = (bs : List BlockTree) × Spelled Two AreBlocks steps bs × OneForEach IsProofOf qs bs

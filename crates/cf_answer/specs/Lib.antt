@@ -13,7 +13,6 @@ pub mod Owed
 pub mod Passes
 pub mod Picked
 pub mod Refusals
-pub mod SourceLines
 pub mod Sources
 pub mod Statuses
 pub mod Steps

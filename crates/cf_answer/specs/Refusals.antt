@@ -2,9 +2,11 @@
 use Rattle.std.specs.Prelude.{◌≡◌, ℕ, ◌<◌, List, [], ◌∷◌, length, Ok, Err}
 use Rattle.cf_gen.specs.Workload.{gen_source}
 use Rattle.cf_lex.specs.declared.token.Token.{Token}
+use Rattle.cf_lex.specs.Editions.{edition_of}
 use Rattle.cf_lex.specs.Tokens.{bad_byte, past_limit, at_end}
-use Rattle.cf_tree.specs.declared.base.Edition.TheVariants.{Two}
 use Rattle.cf_tree.specs.declared.base.Place.{Place}
+use Rattle.cf_tree.specs.declared.base.Edition.{Edition}
+use Rattle.cf_tree.specs.declared.base.Edition.TheVariants.{Two, Three}
 use Rattle.cf_tree.specs.DefView.{RawItemTree}
 use Rattle.cf_reader.specs.Faults.{IsFaultPlace, IsFaultPlaceOf}
 use Rattle.cf_reader.specs.Readers.{Reader}
@@ -12,10 +14,16 @@ use Rattle.cf_parse.specs.Programs.{IsProgram, program_of}
 use Rattle.cf_target.specs.Spelling.{TargetTree, IsTarget}
 use Rattle.cf_target.specs.Targets.{target_of}
 use Rattle.cf_program.specs.Checked.{TypedTree, checked}
+use Rattle.cf_program.specs.declared.linearity.Linearity.{Linearity}
 use Rattle.cf_program.specs.declared.linearity.Linearity.TheVariants.{Plain, Late}
 use Rattle.cf_program.specs.declared.fault.TypeFault.{TypeFault}
-use Rattle.cf_program.specs.declared.fault.TypeFault.TheVariants.{NotLinear}
+use Rattle.cf_program.specs.declared.fault.TypeFault.TheVariants.{NotLinear, Weight, Depth}
+use Rattle.cf_form.specs.FormAnswers.{IsUnformed}
+use Rattle.cf_form.specs.declared.fault.FormFault.{FormFault}
+use Rattle.cf_form.specs.declared.fault.FormFault.TheVariants as form
 use Rattle.cf_linear.specs.declared.refusal.Refusal.{Refusal}
+use Rattle.cf_linear.specs.declared.refusal.Refusal.TheVariants.{Limit}
+use Rattle.cf_linear.specs.declared.refusal.LimitKind.TheVariants.{Cases}
 use Rattle.cf_build.specs.Chooses.{all_chooses, IsFirstRefused}
 use Rattle.cf_build.specs.declared.fault.BuildFault.{BuildFault}
 use Rattle.cf_build.specs.declared.fault.BuildFault.TheVariants as build
@@ -28,7 +36,7 @@ use Rattle.cf_cert.specs.declared.verdict.Why.{Why}
 use Rattle.cf_words.specs.Commands.{Command, compile, run, pre, check, exec, prove, verify, gen}
 use Rattle.cf_answer.specs.Certificates.{asked_in}
 use Rattle.cf_answer.specs.Limits.{text_limit}
-use Rattle.cf_answer.specs.Sources.{HasTokens, Spelled, IsTypedSource, IsTypedTree}
+use Rattle.cf_answer.specs.Sources.{HasTokens, Spelled, IsTypedBy, IsTypedSource, IsTypedTree}
 use Rattle.cf_answer.specs.declared.fault.Fault.{Fault}
 use Rattle.cf_answer.specs.declared.fault.Fault.TheVariants as fault
 use Rattle.cf_answer.specs.declared.fault.StepsFault.{StepsFault}
@@ -40,53 +48,68 @@ pub record IsSyntaxPlace {Tree : Type 0} (Is : Tree → List Token → Type 0) (
   pub dead : IsFaultPlace (λ us. (x : Tree) × Is x us) ts end p
   pub exact : IsFaultPlaceOf read ts end p
 
--- Why a text is refused, whatever its tokens are to spell: Is says which tokens spell a tree, `read` reads it, and Bad says for which faults it is refused.
-pub data Causes {Tree : Type 0} (Is : Tree → List Token → Type 0) (read : Reader Tree) (Bad : Tree → Fault → Type 0) (text : List ℕ) : Fault → Type 0 where
-  too_long : text_limit < length text → Causes Is read Bad text fault.TextTooLong
-  odd_byte : (ts : List Token) (p : Place) → HasTokens text ts p bad_byte → Causes Is read Bad text (fault.BadByte p)
-  large_number : (ts : List Token) (p : Place) → HasTokens text ts p past_limit → Causes Is read Bad text (fault.NumberPast p)
-  no_tree : (ts : List Token) (end p : Place) → HasTokens text ts end at_end → ((x : Tree) → Is x ts → ⊥) → IsSyntaxPlace Is read ts end p →
-      Causes Is read Bad text (fault.Syntax p)
-  bad_tree : (x : Tree) (f : Fault) → Spelled Is text x → Bad x f → Causes Is read Bad text f
+-- Why a text with the tokens of an edition is refused, whatever they are to spell: Is says which tokens spell a tree, `read` reads it, and Bad says for
+-- which faults it is refused.
+pub data Causes {Tree : Type 0} (edition : Edition) (Is : Tree → List Token → Type 0) (read : Reader Tree) (Bad : Tree → Fault → Type 0) (text : List ℕ) :
+    Fault → Type 0 where
+  too_long : text_limit < length text → Causes edition Is read Bad text fault.TextTooLong
+  odd_byte : (ts : List Token) (p : Place) → HasTokens edition text ts p bad_byte → Causes edition Is read Bad text (fault.BadByte p)
+  large_number : (ts : List Token) (p : Place) → HasTokens edition text ts p past_limit → Causes edition Is read Bad text (fault.NumberPast p)
+  no_tree : (ts : List Token) (end p : Place) → HasTokens edition text ts end at_end → ((x : Tree) → Is x ts → ⊥) → IsSyntaxPlace Is read ts end p →
+      Causes edition Is read Bad text (fault.Syntax p)
+  bad_tree : (x : Tree) (f : Fault) → Spelled edition Is text x → Bad x f → Causes edition Is read Bad text f
 
 -- why a program is not built
 abbrev pub fault_of : BuildFault → Fault
 fault_of (build.Choose n r) = fault.Choose n r
 fault_of build.NoMemory = fault.NoMemory
 
--- for which faults a program is refused: its first broken rule, or its first choose that is refused
-pub data IsBadProgram (program : List RawItemTree) : Fault → Type 0 where
-  broken : (e : TypeFault) → checked Two Plain program ≡ Err e → IsBadProgram program (fault.Rule e)
-  refused : (typed : TypedTree) (n : ℕ) (r : Refusal) → checked Two Plain program ≡ Ok typed → IsFirstRefused (all_chooses typed.defs) n r →
-      IsBadProgram program (fault.Choose n r)
+-- the fault for which the forms of a source are not those of language 2
+abbrev pub form_fault : FormFault → Fault
+form_fault (form.Cases n count) = fault.Choose n (Limit Cases count)
+form_fault (form.Weight f weight) = fault.Rule (Weight weight)
+form_fault (form.Depth f depth) = fault.Rule (Depth depth)
+form_fault form.NoMemory = fault.NoMemory
 
--- for which faults `run` refuses it: where the first broken rule is that on linear relations, for the first rule that is broken where the numbers in
--- scope of a choose are known
-pub data IsBadRun (program : List RawItemTree) : Fault → Type 0 where
-  bad : (f : Fault) → IsBadProgram program f → ((p : Place) → f ≡ fault.Rule (NotLinear p) → ⊥) → IsBadRun program f
-  broken_late : (p : Place) (e : TypeFault) → checked Two Plain program ≡ Err (NotLinear p) → checked Two Late program ≡ Err e → IsBadRun program (fault.Rule e)
+-- for which faults a program is refused by its rules: the first that is broken; of edition 3 also, where none is, the first limit that its forms pass
+pub data IsBroken (edition : Edition) (how : Linearity) (program : List RawItemTree) : Fault → Type 0 where
+  broken : (e : TypeFault) → checked edition how program ≡ Err e → IsBroken edition how program (fault.Rule e)
+  wide : (source : TypedTree) (e : FormFault) → edition ≡ Three → checked Three how program ≡ Ok source → IsUnformed source.defs e →
+      IsBroken edition how program (form_fault e)
+
+-- for which faults a program is refused: by its rules, or for its first choose that is refused
+pub data IsBadProgram (edition : Edition) (program : List RawItemTree) : Fault → Type 0 where
+  unruly : (f : Fault) → IsBroken edition Plain program f → IsBadProgram edition program f
+  refused : (typed : TypedTree) (n : ℕ) (r : Refusal) → IsTypedBy edition Plain program typed → IsFirstRefused (all_chooses typed.defs) n r →
+      IsBadProgram edition program (fault.Choose n r)
+
+-- for which faults `run` refuses it: where the first broken rule is that on linear relations, by the rules where the numbers in scope of a choose are known
+pub data IsBadRun (edition : Edition) (program : List RawItemTree) : Fault → Type 0 where
+  bad : (f : Fault) → IsBadProgram edition program f → ((p : Place) → f ≡ fault.Rule (NotLinear p) → ⊥) → IsBadRun edition program f
+  broken_late : (p : Place) (f : Fault) → checked edition Plain program ≡ Err (NotLinear p) → IsBroken edition Late program f → IsBadRun edition program f
 
 -- for which fault a target is refused
 pub data IsBadTarget (t : TargetTree) : Fault → Type 0 where
   untyped : (IsTypedTree t → ⊥) → IsBadTarget t fault.BadTarget
 
+-- why the text of a source is refused, where Bad says for which faults a program of an edition is
+abbrev pub CausesOf : (Edition → List RawItemTree → Fault → Type 0) → List ℕ → Fault → Type 0
+CausesOf Bad text f = Causes (edition_of text) (IsProgram (edition_of text)) (program_of (edition_of text) 200) (Bad (edition_of text)) text f
+
 -- the fault for which the text of a source is refused, also by `run`, and that of a target
 abbrev pub IsRefusedSource : List ℕ → Fault → Type 0
-IsRefusedSource text f = Causes (IsProgram Two) (program_of Two 200) IsBadProgram text f
+IsRefusedSource text f = CausesOf IsBadProgram text f
 
 abbrev pub IsRefusedRun : List ℕ → Fault → Type 0
-IsRefusedRun text f = Causes (IsProgram Two) (program_of Two 200) IsBadRun text f
+IsRefusedRun text f = CausesOf IsBadRun text f
 
 abbrev pub IsRefusedTarget : List ℕ → Fault → Type 0
-IsRefusedTarget text f = Causes IsTarget (target_of 500) IsBadTarget text f
+IsRefusedTarget text f = Causes Two IsTarget (target_of 500) IsBadTarget text f
 
 -- ---- verify
--- a program whose chooses are not solved is refused for its first broken rule alone
-pub data IsBroken (program : List RawItemTree) : Fault → Type 0 where
-  broken_rule : (e : TypeFault) → checked Two Plain program ≡ Err e → IsBroken program (fault.Rule e)
-
+-- a program whose chooses are not solved is refused by its rules alone
 abbrev pub IsBrokenSource : List ℕ → Fault → Type 0
-IsBrokenSource text f = Causes (IsProgram Two) (program_of Two 200) IsBroken text f
+IsBrokenSource text f = CausesOf (λ edition. IsBroken edition Plain) text f
 
 -- the fault of a steps file's text, as one of a text
 abbrev pub text_fault : StepsFault → Fault
@@ -96,13 +119,13 @@ text_fault (steps_fault.NumberPast p) = fault.NumberPast p
 text_fault (steps_fault.Syntax p) = fault.Syntax p
 
 abbrev pub IsRefusedSteps : List ℕ → StepsFault → Type 0
-IsRefusedSteps text e = Causes AreBlocks (all_blocks 500) (λ bs f. ⊥) text (text_fault e)
+IsRefusedSteps text e = Causes Two AreBlocks (all_blocks 500) (λ bs f. ⊥) text (text_fault e)
 
 -- Why steps are not accepted for a source: the source is refused, whatever the steps are; or their text is; or there is a first fault in their blocks.
 pub data IsUnverified (source steps : List ℕ) : Fault → Type 0 where
   bad_source : (f : Fault) → IsBrokenSource source f → IsUnverified source steps f
   bad_steps : (typed : TypedTree) (e : StepsFault) → IsTypedSource source typed → IsRefusedSteps steps e → IsUnverified source steps (fault.Steps e)
-  bad_blocks : (typed : TypedTree) (bs : List BlockTree) (n i j : ℕ) (w : Why) → IsTypedSource source typed → Spelled AreBlocks steps bs →
+  bad_blocks : (typed : TypedTree) (bs : List BlockTree) (n i j : ℕ) (w : Why) → IsTypedSource source typed → Spelled Two AreBlocks steps bs →
       IsVerdict (asked_in typed) bs (Rejected n i j w) → IsUnverified source steps (fault.Rejected n i j w)
 
 -- the fault for which a command is refused on files of these texts, or on a source of its own

@@ -9,13 +9,11 @@ use Rattle.cf_io.specs.Lines.{is_feed, lines, ended}
 use Rattle.cf_io.specs.declared.line.Line.{Line}
 use Rattle.cf_io.specs.declared.line.Line.TheVariants.{Text, TooLong}
 use Rattle.cf_num.specs.Limit.{limit}
-use Rattle.cf_tree.specs.declared.base.Edition.TheVariants.{Two}
 use Rattle.cf_tree.specs.declared.target.RawTarget.{RawTarget}
 use Rattle.cf_tree.specs.CodeTree.{CodeTree}
 use Rattle.cf_tree.specs.CodeView.{code_tree}
 use Rattle.cf_tree.specs.Values.{Value, values, no_solution}
 use Rattle.cf_pass.specs.Passes.{Told}
-use Rattle.cf_parse.specs.Programs.{IsProgram, program_of}
 use Rattle.cf_program.specs.Typed.{typed_tree}
 use Rattle.cf_eval.specs.Answers.{Answers}
 use Rattle.cf_eval.specs.Seen.{plains}
@@ -26,7 +24,7 @@ use Rattle.cf_answer.specs.Ends.{answered_lines}
 use Rattle.cf_answer.specs.Outside.{AreTold}
 use Rattle.cf_answer.specs.Owed.{Answerer, by_target, by_late, IsReplyBy, AreReplies, OwesRun}
 use Rattle.cf_answer.specs.Picked.{outcome_number}
-use Rattle.cf_answer.specs.Refusals.{Causes}
+use Rattle.cf_answer.specs.Refusals.{CausesOf}
 use Rattle.cf_answer.specs.declared.answerer.Answerer.{Answerer as DeclaredAnswerer}
 use Rattle.cf_answer.specs.declared.answerer.Answerer.TheVariants as answerer
 use Rattle.cf_answer.specs.declared.fault.Fault.{Fault}
@@ -48,7 +46,7 @@ IsRunner calls source given last a = (ls : List (List ℕ)) (text : List ℕ) �
 
 -- a source text is refused, whatever rules the program breaks that it spells
 abbrev pub IsMisspelled : List ℕ → Fault → Type 0
-IsMisspelled text f = Causes (IsProgram Two) (program_of Two 200) (λ x f. ⊥) text f
+IsMisspelled text f = CausesOf (λ edition x f. ⊥) text f
 
 -- the reply to a line as it is cut
 abbrev pub IsLineReply : Answerer → Line → List ℕ → Type 0

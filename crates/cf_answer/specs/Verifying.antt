@@ -17,6 +17,7 @@ use Rattle.cf_answer.specs.Certificates.{asked_in, OneForEach, IsTraced}
 use Rattle.cf_answer.specs.Limits.{text_limit}
 use Rattle.cf_answer.specs.Outside.{AreTold}
 use Rattle.cf_answer.specs.Refusals.{IsBrokenSource, IsRefusedSteps}
+use Rattle.cf_tree.specs.declared.base.Edition.TheVariants.{Two}
 use Rattle.cf_answer.specs.Sources.{Spelled, IsTypedSource}
 use Rattle.cf_answer.specs.declared.fault.Fault.{Fault}
 use Rattle.cf_answer.specs.declared.fault.Fault.TheVariants as fault
@@ -37,7 +38,7 @@ AreMisspelled text f = (e : StepsFault) × (f ≡ fault.Steps e) × IsRefusedSte
 
 -- the text spells these blocks, whose numbers are within the limit, and which have few enough steps to be checked
 pub record AreReadFrom (text : List ℕ) (bs : List BlockTree) : Type 0 where
-  pub spelled : Spelled AreBlocks text bs
+  pub spelled : Spelled Two AreBlocks text bs
   pub within : EachOf (λ b. AreWithinCases b.cases) bs
   pub few : HaveFewSteps bs
 

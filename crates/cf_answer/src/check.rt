@@ -2,6 +2,8 @@
 ghost use Rattle.std.specs.Prelude.{◌≡◌, ◌≤◌, ◌<◌, ◌-◌, ◌^◌, ◌∷◌, [], ◌++◌, List, ℕ, length, map, All, Contains, IfOk, OnOk};
 ghost use Rattle.std.specs.List.Sorted.{IsNonDecreasingBy};
 ghost use Rattle.cf_io.specs.Seen.{SourceSeen};
+ghost use Rattle.cf_lex.specs.Editions.{edition_of as the_edition_of};
+ghost use Rattle.cf_tree.specs.declared.base.Edition.TheVariants.{Two};
 ghost use Rattle.cf_pass.specs.Passes.{Told};
 ghost use Rattle.cf_words.specs.Commands.{check as the_check};
 ghost use Rattle.cf_answer.specs.Ends.{AnswersOn};
@@ -16,7 +18,7 @@ ghost use Rattle.cf_warn.specs.Classes.{AreClasses};
 ghost use Rattle.cf_answer.specs.Checking.{AreMatches, AddsCheck, AddsCover, AddsExistence, AddsUniqueness};
 ghost use Rattle.cf_answer.specs.Checks.{IsArm, IsCheckOf, IsMatch, IsOwn, cover_line, existence_text, names_at, uniqueness_text};
 ghost use Rattle.cf_answer.specs.Owed.{AllWritten, AreChecks};
-ghost use Rattle.cf_answer.specs.Refusals.{IsRefusedSource};
+ghost use Rattle.cf_answer.specs.Refusals.{IsBrokenSource, IsRefusedSource};
 ghost use Rattle.cf_answer.specs.Sources.{IsLoweredSource};
 ghost use Rattle.cf_answer.specs.Steps.{IsVerdict};
 ghost use Rattle.cf_answer.specs.Texts.{numbered_line};
@@ -25,12 +27,14 @@ use crate::choose_line::put_head;
 use crate::choose_origin::{Matches, Origin, arms_of, origin_of};
 use crate::fault::Fault;
 use crate::source::read_lowered;
+use crate::unbuilt::not_built;
 use crate::verdict::{put_cover, put_existence, put_uniqueness};
 use crate::write::write_text;
 use cf_build::{SolvedChoose, solve_all};
 use cf_io::Sink;
+use cf_lex::edition_of;
 use cf_match::{Lowered, MatchInfo};
-use cf_tree::NoMemory;
+use cf_tree::{Edition, NoMemory};
 use cf_warn::{
     Cover, ExistenceAnswer, UniquenessAnswer, covers, existence, parameters, uniqueness,
 };
@@ -222,6 +226,18 @@ fn checks(alloc: Global, lowered: &Lowered) -> Result<Vec<u8>, Fault>
     Ok(text)
 }
 
+// The program of which the questions are asked that are those of language 2.
+fn asked(alloc: Global, text: &[u8]) -> Result<Lowered, Fault>
+    requires short { length text.now ≤ text_limit }
+    requires place { length text.now < 2 ^ 32 - 1 }
+    ensures { IsVerdict (λ l. (the_edition_of text.now ≡ Two) × IsLoweredSource text.now l) (IsBrokenSource text.now) result }
+{
+    match edition_of(text) {
+        Edition::Two => read_lowered(alloc, text),
+        Edition::Three => Err(not_built()),
+    }
+}
+
 /// Writes for each choose of a source text whether outputs always exist and whether they are the only
 /// ones, and for each match whether its arms cover all numbers.
 pub fn write_checks<O: Sink>(alloc: Global, text: &[u8], out: &mut O) -> Result<(), Fault>
@@ -231,7 +247,7 @@ pub fn write_checks<O: Sink>(alloc: Global, text: &[u8], out: &mut O) -> Result<
         (streams input (O.seen out.old)) (streams input (O.seen out.new)) result }
     ensures unwritten { IsEarly (the_status_of result) → out.new ≡ out.old }
 {
-    let lowered = read_lowered(alloc, text)?;
+    let lowered = asked(alloc, text)?;
     let text = checks(alloc, &lowered)?;
     write_text(out, &text)
 }

@@ -17,7 +17,7 @@ use crate::input::answer_by;
 use crate::text::lexed;
 use cf_io::{Sink, Source};
 use cf_parse::{ParseFault, target};
-use cf_tree::Target;
+use cf_tree::{Edition, Target};
 use cf_type::{TargetFault, check_target};
 use std::alloc::Global;
 
@@ -27,7 +27,7 @@ fn read_target(alloc: Global, text: &[u8]) -> Result<Target, Fault>
     requires place { length text.now < 2 ^ 32 - 1 }
     ensures { IsVerdict (λ t. IsTypedTarget text.now (target_tree t)) (IsRefusedTarget text.now) result }
 {
-    let list = lexed(alloc, text)?;
+    let list = lexed(alloc, Edition::Two, text)?;
     match target(alloc, &list) {
         Ok(raw) => match check_target(alloc, raw) {
             Ok(target) => Ok(target),

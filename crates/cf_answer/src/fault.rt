@@ -1,7 +1,8 @@
 //! Why a call did not do what its words ask.
 use cf_build::BuildFault;
 use cf_cert::Why;
-use cf_linear::Refusal;
+use cf_form::FormFault;
+use cf_linear::{LimitKind, Refusal};
 use cf_program::TypeFault;
 use cf_tree::{NoMemory, Place};
 
@@ -72,6 +73,28 @@ impl From<BuildFault> for Fault {
         match fault {
             BuildFault::Choose { number, refusal } => Fault::Choose { number, refusal },
             BuildFault::NoMemory => Fault::NoMemory,
+        }
+    }
+}
+
+impl From<FormFault> for Fault {
+    ghost use Rattle.std.specs.Prelude.{◌≡◌};
+    ghost use Rattle.cf_answer.specs.Refusals.{form_fault};
+
+    ghost from_gives = { λ fault e. e ≡ form_fault fault };
+
+    fn from(fault: FormFault) -> Fault {
+        match fault {
+            FormFault::Cases { number, count } => Fault::Choose {
+                number,
+                refusal: Refusal::Limit {
+                    kind: LimitKind::Cases,
+                    number: count,
+                },
+            },
+            FormFault::Weight { function: _, weight } => Fault::Rule(TypeFault::Weight(weight)),
+            FormFault::Depth { function: _, depth } => Fault::Rule(TypeFault::Depth(depth)),
+            FormFault::NoMemory => Fault::NoMemory,
         }
     }
 }

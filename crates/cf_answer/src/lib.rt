@@ -27,6 +27,7 @@ mod sum;
 mod tallies;
 mod telling;
 mod text;
+mod unbuilt;
 mod verdict;
 mod verify;
 mod write;

@@ -1,65 +1,93 @@
 //! From the text of a source to its program and its target.
-ghost use Rattle.std.specs.Prelude.{◌≡◌, ◌≤◌, ◌<◌, ◌-◌, ◌^◌, Bool, true, List, ℕ, length, map, Err, IfOk, OnErr};
-ghost use Rattle.cf_tree.specs.declared.base.Edition.TheVariants.{Two};
-ghost use Rattle.cf_tree.specs.declared.base.Place.{Place};
+ghost use Rattle.std.specs.Prelude.{◌≡◌, ◌≤◌, ◌<◌, ◌-◌, ◌^◌, Bool, true, List, ℕ, length, map, IfOk, OnErr};
+ghost use Rattle.cf_tree.specs.declared.base.Edition.TheVariants.{Two, Three};
 ghost use Rattle.cf_tree.specs.DefView.{program_tree};
+ghost use Rattle.cf_lex.specs.Editions.{edition_of as the_edition_of};
 ghost use Rattle.cf_pass.specs.Passes.{Told};
-ghost use Rattle.cf_program.specs.Checked.{checked};
 ghost use Rattle.cf_program.specs.Source.{IsSpelledProgram};
 ghost use Rattle.cf_program.specs.Typed.{typed_tree};
-ghost use Rattle.cf_program.specs.declared.fault.TypeFault.TheVariants.{NotLinear};
-ghost use Rattle.cf_program.specs.declared.linearity.Linearity.TheVariants.{Plain};
-ghost use Rattle.cf_parse.specs.Programs.{IsProgram};
+ghost use Rattle.cf_program.specs.declared.linearity.Linearity.TheVariants.{Plain, Late as LateRule};
+ghost use Rattle.cf_answer.specs.declared.fault.Fault.TheVariants.{Rule};
 ghost use Rattle.cf_answer.specs.Limits.{text_limit};
 ghost use Rattle.cf_answer.specs.Owed.{IsCompiledBy};
-ghost use Rattle.cf_answer.specs.Refusals.{IsBrokenSource, IsRefusedSource, IsRefusedRun};
-ghost use Rattle.cf_answer.specs.Sources.{Spelled, IsTypedSource, IsLoweredSource};
+ghost use Rattle.cf_answer.specs.Refusals.{IsBroken, IsBrokenSource, IsRefusedSource, IsRefusedRun};
+ghost use Rattle.cf_answer.specs.Sources.{SpellsProgram, IsTypedBy, IsTypedSource, IsLoweredSource};
 ghost use Rattle.cf_answer.specs.Steps.{IsVerdict, IsMisspelled, IsRunner, answerer_of};
 
 use crate::answerer::Answerer;
 use crate::fault::Fault;
 use crate::text::lexed;
+use crate::unbuilt::not_built;
 use cf_build::build;
+use cf_form::form;
+use cf_lex::edition_of;
 use cf_match::{Lowered, lower};
 use cf_parse::{ParseFault, program};
 use cf_pass::Pass;
-use cf_program::{TypeFault, Typed};
+use cf_program::{Late, TypeFault, Typed};
 use cf_tree::{Edition, Program, Target};
-use cf_type::{check, check_late};
+use cf_type::{check, check_late, check_source};
 use std::alloc::Global;
 
-/// The program that a source text spells, or why the text is refused, whatever its chooses are.
+/// The program that a source text spells, with the forms of language 2, or why the text is refused,
+/// whatever its chooses are.
 pub fn read_source(alloc: Global, text: &[u8]) -> Result<Typed, Fault>
     requires short { length text.now ≤ text_limit }
     requires place { length text.now < 2 ^ 32 - 1 }
     ensures { IsVerdict (λ x. IsTypedSource text.now (typed_tree x)) (IsBrokenSource text.now) result }
 {
-    let program = parsed(alloc, text)?;
-    check_program(alloc, &program)
+    let edition = edition_of(text);
+    let program = parsed(alloc, edition, text)?;
+    typed(alloc, edition, &program)
 }
 
 // The tree that a source text spells, whatever rules it breaks.
-fn parsed(alloc: Global, text: &[u8]) -> Result<Program, Fault>
+fn parsed(alloc: Global, edition: Edition, text: &[u8]) -> Result<Program, Fault>
     requires short { length text.now ≤ text_limit }
     requires place { length text.now < 2 ^ 32 - 1 }
-    ensures verdict { IsVerdict (λ x. Spelled (IsProgram Two) text.now (program_tree x)) (IsMisspelled text.now) result }
-    ensures numbers { IfOk result (λ x. IsSpelledProgram Two (program_tree x)) }
+    requires edition { edition ≡ the_edition_of text.now }
+    ensures verdict { IsVerdict (λ x. SpellsProgram text.now (program_tree x)) (IsMisspelled text.now) result }
+    ensures numbers { IfOk result (λ x. IsSpelledProgram edition (program_tree x)) }
 {
-    let list = lexed(alloc, text)?;
-    match program(alloc, Edition::Two, &list) {
+    let list = lexed(alloc, edition, text)?;
+    match program(alloc, edition, &list) {
         Ok(program) => Ok(program),
         Err(ParseFault::Syntax(place)) => Err(Fault::Syntax(place)),
         Err(ParseFault::NoMemory) => Err(Fault::NoMemory),
     }
 }
 
-fn check_program(alloc: Global, program: &Program) -> Result<Typed, Fault>
+// A program with its types, and with the forms of language 2.
+fn typed(alloc: Global, edition: Edition, program: &Program) -> Result<Typed, Fault>
+    requires { IsSpelledProgram edition (program_tree program.now) }
+    ensures { IsVerdict (λ x. IsTypedBy edition Plain (program_tree program.now) (typed_tree x)) (IsBroken edition Plain (program_tree program.now)) result }
+{
+    match edition {
+        Edition::Two => checked(alloc, program),
+        Edition::Three => formed(alloc, program),
+    }
+}
+
+fn checked(alloc: Global, program: &Program) -> Result<Typed, Fault>
     requires { IsSpelledProgram Two (program_tree program.now) }
-    ensures { (text : List ℕ) → Spelled (IsProgram Two) text (program_tree program.now) →
-        IsVerdict (λ x. IsTypedSource text (typed_tree x)) (IsBrokenSource text) result }
+    ensures { IsVerdict (λ x. IsTypedBy Two Plain (program_tree program.now) (typed_tree x)) (IsBroken Two Plain (program_tree program.now)) result }
 {
     match check(alloc, program) {
         Ok(typed) => Ok(typed),
+        Err(TypeFault::NoMemory) => Err(Fault::NoMemory),
+        Err(fault) => Err(Fault::Rule(fault)),
+    }
+}
+
+fn formed(alloc: Global, program: &Program) -> Result<Typed, Fault>
+    requires { IsSpelledProgram Three (program_tree program.now) }
+    ensures { IsVerdict (λ x. IsTypedBy Three Plain (program_tree program.now) (typed_tree x)) (IsBroken Three Plain (program_tree program.now)) result }
+{
+    match check_source(alloc, program) {
+        Ok(source) => {
+            let formed = form(alloc, &source)?;
+            Ok(formed.into_typed())
+        }
         Err(TypeFault::NoMemory) => Err(Fault::NoMemory),
         Err(fault) => Err(Fault::Rule(fault)),
     }
@@ -110,41 +138,67 @@ pub fn runner(
         (IsRefusedRun text.now) result }
     ensures kept { OnErr result (map (λ p. told p) passes.new.items ≡ map (λ p. told p) passes.old.items) }
 {
-    let program = parsed(alloc, text)?;
-    program_runner(alloc, &program, passes)
+    let edition = edition_of(text);
+    let program = parsed(alloc, edition, text)?;
+    program_runner(alloc, edition, &program, passes)
 }
 
 fn program_runner(
     alloc: Global,
+    edition: Edition,
     program: &Program,
     passes: &mut Vec<Box<dyn Pass>>,
 ) -> Result<Answerer, Fault>
-    requires { IsSpelledProgram Two (program_tree program.now) }
-    ensures verdict { (text : List ℕ) → Spelled (IsProgram Two) text (program_tree program.now) →
+    requires { IsSpelledProgram edition (program_tree program.now) }
+    ensures verdict { (text : List ℕ) → edition ≡ the_edition_of text → SpellsProgram text (program_tree program.now) →
         IsVerdict (λ a. IsRunner true text (map (λ p. told p) passes.old.items) (map (λ p. told p) passes.new.items) (answerer_of a))
         (IsRefusedRun text) result }
     ensures kept { OnErr result (map (λ p. told p) passes.new.items ≡ map (λ p. told p) passes.old.items) }
 {
-    match check(alloc, program) {
+    match typed(alloc, edition, program) {
         Ok(typed) => {
             let target = build(alloc, &typed, passes)?;
             Ok(Answerer::Target(target))
         }
-        Err(TypeFault::NotLinear(_place)) => late_runner(alloc, program),
-        Err(TypeFault::NoMemory) => Err(Fault::NoMemory),
-        Err(fault) => Err(Fault::Rule(fault)),
+        Err(Fault::Rule(fault)) => late_runner(alloc, edition, program, fault),
+        Err(fault) => Err(fault),
     }
 }
 
-// A program that is not linear, as a late one.
-fn late_runner(alloc: Global, program: &Program) -> Result<Answerer, Fault>
-    requires { IsSpelledProgram Two (program_tree program.now) }
-    ensures { (text : List ℕ) (p : Place) → Spelled (IsProgram Two) text (program_tree program.now) →
-        checked Two Plain (program_tree program.now) ≡ Err (NotLinear p) → (calls : Bool) (given : List Told) →
+// What answers the lines of a program that breaks this rule: where it is that on linear relations, its
+// late program.
+fn late_runner(alloc: Global, edition: Edition, program: &Program, fault: TypeFault) -> Result<Answerer, Fault>
+    requires spelled { IsSpelledProgram edition (program_tree program.now) }
+    requires broken { IsBroken edition Plain (program_tree program.now) (Rule fault) }
+    ensures { (text : List ℕ) → edition ≡ the_edition_of text → SpellsProgram text (program_tree program.now) → (calls : Bool) (given : List Told) →
         IsVerdict (λ a. IsRunner calls text given given (answerer_of a)) (IsRefusedRun text) result }
 {
+    match fault {
+        TypeFault::NotLinear(_place) => {
+            let late = late(alloc, edition, program)?;
+            Ok(Answerer::Late(late))
+        }
+        other => Err(Fault::Rule(other)),
+    }
+}
+
+// A program that is not linear, as a late one with the forms of language 2.
+fn late(alloc: Global, edition: Edition, program: &Program) -> Result<Late, Fault>
+    requires { IsSpelledProgram edition (program_tree program.now) }
+    ensures { IsVerdict (λ x. IsTypedBy edition LateRule (program_tree program.now) (typed_tree x)) (IsBroken edition LateRule (program_tree program.now)) result }
+{
+    match edition {
+        Edition::Two => checked_late(alloc, program),
+        Edition::Three => Err(not_built()),
+    }
+}
+
+fn checked_late(alloc: Global, program: &Program) -> Result<Late, Fault>
+    requires { IsSpelledProgram Two (program_tree program.now) }
+    ensures { IsVerdict (λ x. IsTypedBy Two LateRule (program_tree program.now) (typed_tree x)) (IsBroken Two LateRule (program_tree program.now)) result }
+{
     match check_late(alloc, program) {
-        Ok(late) => Ok(Answerer::Late(late)),
+        Ok(late) => Ok(late),
         Err(TypeFault::NoMemory) => Err(Fault::NoMemory),
         Err(fault) => Err(Fault::Rule(fault)),
     }

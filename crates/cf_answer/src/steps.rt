@@ -1,6 +1,7 @@
 //! From the text of a steps file to its blocks.
 ghost use Rattle.std.specs.Prelude.{◌≡◌, ◌⊎◌, ◌≤◌, ◌<◌, ◌-◌, ◌^◌, length, IfOk, IfErr};
 ghost use Rattle.cf_lex.specs.Tokens.{AreWithin, at_end};
+ghost use Rattle.cf_tree.specs.declared.base.Edition.TheVariants.{Two};
 ghost use Rattle.cf_steps.specs.Blocks.{block_trees};
 ghost use Rattle.cf_answer.specs.Limits.{text_limit};
 ghost use Rattle.cf_answer.specs.Sources.{HasTokens};
@@ -18,7 +19,7 @@ use std::alloc::Global;
 fn lexed_steps(alloc: Global, text: &[u8]) -> Result<TokenList, Fault>
     requires short { length text.now ≤ text_limit }
     requires place { length text.now < 2 ^ 32 - 1 }
-    ensures tokens { IfOk result (λ list. HasTokens text.now list.list.items list.end at_end) }
+    ensures tokens { IfOk result (λ list. HasTokens Two text.now list.list.items list.end at_end) }
     ensures within { IfOk result (λ list. AreWithin (2 ^ 127 - 1) list.list.items) }
     ensures fault { IfErr result (λ f. AreMisspelled text.now f ⊎ (f ≡ Fault.NoMemory)) }
 {

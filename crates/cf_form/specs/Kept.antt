@@ -2,6 +2,7 @@
 use Rattle.std.specs.Prelude.{ℕ, ◌≤◌, ◌≡◌, nat_eq, Option, Some, None, List, [], length, map, reverse, slice_get, codes, All}
 use Rattle.std.specs.List.{IsDistinct}
 use Rattle.cf_tree.specs.DefView.{DefTree}
+use Rattle.cf_tree.specs.ExprTree.{at_any}
 use Rattle.cf_tree.specs.Params.{names_of}
 use Rattle.cf_program.specs.declared.linearity.Linearity.{Linearity}
 use Rattle.cf_program.specs.DistinctNames.{AreDistinct}
@@ -36,7 +37,7 @@ pub record IsSource (how : Linearity) (defs : List DefTree) (main : ℕ) : Type 
   pub linear : All (λ q. IsLinearBehind how (length q.scope) q.relation) (wide_chooses defs)
   pub linear_given : All (λ q. IsLinearGiven q.given) (wide_chooses defs)
   pub few : first_passed (wide_chooses defs) ≡ None
-  pub unaimed : All (λ q. q.aims ≡ []) (wide_chooses defs)
+  pub unaimed : All (λ q. q.1.aim ≡ at_any) (source_chooses defs)
 
 -- numbers are the same only of branches, and no new form stands there
 pub record IsFormedBy (how : Linearity) (defs : List DefTree) (main : ℕ) : Type 0 where

@@ -1,11 +1,11 @@
 //! Programs of edition 3 with the forms of language 2.
 #![tactic(auto)]
 
-ghost use Rattle.std.specs.Prelude.{◌≡◌, IfOk, Err, map};
+ghost use Rattle.std.specs.Prelude.{◌≡◌, Err};
+ghost use Rattle.cf_program.specs.Typed.{typed_tree};
+ghost use Rattle.cf_program.specs.declared.linearity.Linearity.TheVariants.{Plain};
 ghost use Rattle.cf_form.specs.declared.fault.FormFault.TheVariants as faults;
-ghost use Rattle.cf_tree.specs.DefView.{def_tree};
 ghost use Rattle.cf_form.specs.FormAnswers.{FormAnswer, IsFormed};
-ghost use Rattle.cf_form.specs.Laws.{AllowTheSame};
 
 use crate::fault::FormFault;
 use crate::told::ChooseInfo;
@@ -54,6 +54,14 @@ impl Formed {
         &self.parts.typed
     }
 
+    /// The same, without what is told of chooses.
+    pub fn into_typed(self) -> Typed
+        ensures { result ≡ self.typed }
+    {
+        let parts = self.parts;
+        parts.typed
+    }
+
     /// What is told of the chooses of the source, in the order of their numbers.
     pub fn chooses(&self) -> &[ChooseInfo]
         ensures value { result.now ≡ self.now.chooses.items }
@@ -69,8 +77,7 @@ impl Formed {
 /// `Cases` for the first choose with an atom of more than `MOST_ALTERNATIVES` alternatives; `Weight`
 /// and then `Depth` for the first formed function that passes these limits.
 pub fn form(alloc: Global, source: &Source) -> Result<Formed, FormFault>
-    ensures answer { FormAnswer (map def_tree source.now.defs.items) source.now.main result }
-    ensures outcomes { IfOk result (λ f. AllowTheSame (map def_tree source.now.defs.items) (map def_tree f.typed.defs.items)) }
+    ensures { FormAnswer Plain (typed_tree source.now) result }
 {
     not_built(source, alloc)
 }

@@ -5,7 +5,6 @@ use Rattle.cf_lex.specs.Front.{sign_of}
 use Rattle.cf_lex.specs.Tokens.{IsSign}
 use Rattle.cf_lex.specs.Words.{is_reserved, is_no_function}
 use Rattle.cf_tree.specs.declared.base.Edition.TheVariants.{Two}
-use Rattle.cf_lex.specs.declared.front.Piece.{Piece}
 use Rattle.cf_lex.specs.declared.front.Piece.TheVariants.{Sign, Bad}
 
 front_sign : (first second : ℕ) (rest : List ℕ) →

@@ -2,7 +2,7 @@
 use Rattle.std.proofs.Common.{◌≡◌, ℕ, true, false, List, [], ◌∷◌, ◌++◌, map, Some, None, refl, codes, inl, arith}
 use Rattle.std.specs.Prelude.{pos}
 use Rattle.std.specs.List.{list_any, list_all}
-use Rattle.cf_lex.specs.Editions.{HasHeader, edition_of}
+use Rattle.cf_lex.specs.Editions.{HasHeader, IsOfEdition, edition_of}
 use Rattle.cf_lex.specs.Steps.{Step, gives, step}
 use Rattle.cf_lex.specs.Tokens.{IsSign, piece, none}
 use Rattle.cf_lex.specs.Words.{is_reserved, is_operation, is_no_function}
@@ -10,6 +10,7 @@ use Rattle.cf_tree.specs.declared.base.Edition.{Edition}
 use Rattle.cf_tree.specs.declared.base.Edition.TheVariants.{Two, Three}
 use Rattle.cf_tree.specs.declared.base.Place.{Place}
 use Rattle.cf_lex.specs.declared.token.TokenKind.TheVariants.{Literal, Word, Sign}
+use Rattle.cf_lex.proofs.EditionLemmas.{edition_is}
 
 -- the first two tokens say it: their bytes, the white space and the comments around them, and what follows them
 abbrev texts : List (Edition × List ℕ)
@@ -124,3 +125,7 @@ header-stands = (
       (piece (codes " ") None refl (inl (refl, refl)) refl
       (piece (codes "03") (Some (Literal (pos 3))) refl ((omega arith, ((refl, (refl, tt)), refl)), omega arith, refl) refl none)),
 )
+
+-- other numbers, other words and other signs are no header
+no-header : IsOfEdition Two (codes "comfusy 4") × IsOfEdition Two (codes "Comfusy 3") × IsOfEdition Two (codes "comfusy -3")
+no-header = (edition_is (codes "comfusy 4") Two refl, edition_is (codes "Comfusy 3") Two refl, edition_is (codes "comfusy -3") Two refl)

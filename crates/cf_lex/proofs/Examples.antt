@@ -1,5 +1,5 @@
 -- Worked examples of tokens: each kind of piece, and where one ends.
-use Rattle.std.proofs.Common.{◌≡◌, ℕ, Bool, true, false, List, [], ◌∷◌, ◌++◌, map, refl, codes}
+use Rattle.std.proofs.Common.{◌≡◌, ℕ, true, false, List, [], ◌∷◌, ◌++◌, map, refl, codes}
 use Rattle.std.specs.Prelude.{pos}
 use Rattle.std.specs.List.{list_any, list_all}
 use Rattle.cf_lex.specs.Places.{first_place, place_after}

@@ -1,5 +1,5 @@
 -- Which edition a source is of: its first two tokens say it.
-use Rattle.std.specs.Prelude.{ℕ, pos, ◌^◌, ◌-◌, Bool, true, false, List, [], ◌∷◌, take, drop, codes, ◌==◌, if◌then◌else◌}
+use Rattle.std.specs.Prelude.{ℕ, pos, ◌^◌, ◌-◌, Bool, true, false, List, [], ◌∷◌, take, drop, codes, ◌==◌, ◌&&◌, if◌then◌else◌}
 use Rattle.std.specs.List.{prefix_len}
 use Rattle.std.specs.Str.{bytes_eq}
 use Rattle.cf_lex.specs.Bytes.{is_white, is_digit, is_in_word, is_in_comment}
@@ -30,9 +30,12 @@ behind_blanks within [] = []
 behind_blanks true (b ∷ text) = behind_blanks (is_in_comment b) text
 behind_blanks false (b ∷ text) = if is_white b then behind_blanks false text else (if b == 35 then behind_blanks true text else b ∷ text)
 
--- the longest run of such bytes at the front
+-- the longest run of such bytes at the front, and what is behind it
 abbrev pub front_run : (ℕ → Bool) → List ℕ → List ℕ
 front_run p text = take (prefix_len p text) text
+
+abbrev pub behind_run : (ℕ → Bool) → List ℕ → List ℕ
+behind_run p text = drop (prefix_len p text) text
 
 abbrev pub begins_with_comfusy : List ℕ → Bool
 begins_with_comfusy text = bytes_eq (front_run is_in_word text) (codes "comfusy")
@@ -40,11 +43,10 @@ begins_with_comfusy text = bytes_eq (front_run is_in_word text) (codes "comfusy"
 abbrev pub begins_with_three : List ℕ → Bool
 begins_with_three text = digits_value (front_run is_digit text) == 3
 
--- the edition, where the text begins with a token
-abbrev pub edition_by_front : List ℕ → Edition
-edition_by_front text =
-    if begins_with_comfusy text then (if begins_with_three (behind_blanks false (drop 7 text)) then Three else Two) else Two
+-- the header stands at the front, where no white space and no comment does
+abbrev pub begins_with_header : List ℕ → Bool
+begins_with_header text = begins_with_comfusy text && begins_with_three (behind_blanks false (behind_run is_in_word text))
 
 -- the edition, read from left to right
 abbrev pub edition_of : List ℕ → Edition
-edition_of text = edition_by_front (behind_blanks false text)
+edition_of text = if begins_with_header (behind_blanks false text) then Three else Two

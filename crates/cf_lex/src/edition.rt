@@ -1,8 +1,10 @@
 //! Which edition of the language a source is of.
-ghost use Rattle.std.specs.Prelude.{◌≡◌, ◌<◌, ◌≤◌, ◌^◌, ◌-◌, false, length};
-ghost use Rattle.cf_lex.specs.Editions.{IsOfEdition, behind_blanks as behind_blanks_of, begins_with_three, edition_of as edition_of_text};
+ghost use Rattle.std.specs.Prelude.{◌≡◌, ◌<◌, ◌≤◌, ◌^◌, ◌-◌, false, length, if◌then◌else◌};
+ghost use Rattle.cf_tree.specs.declared.base.Edition.TheVariants.{Two, Three};
+ghost use Rattle.cf_lex.specs.Editions.{IsOfEdition, behind_blanks as behind_blanks_of, begins_with_header, begins_with_three, edition_of as edition_of_text};
 
-use crate::digits::literal;
+use crate::bytes::word_len;
+use crate::digits::{digits_len, literal};
 use crate::front::{Piece, front};
 use cf_tree::Edition;
 
@@ -12,36 +14,32 @@ pub fn edition_of(text: &[u8]) -> Edition
     ensures means { IsOfEdition result text.now }
     ensures is { result ≡ edition_of_text text.now }
 {
-    let rest = behind_blanks(text);
-    match rest {
-        [first, more @ ..] => match front(Edition::Two, *first, more) {
-            Piece::Word(size) if &rest[..size] == b"comfusy".as_slice() => if three_stands(
-                behind_blanks(&rest[size..]),
-            ) {
-                Edition::Three
-            } else {
-                Edition::Two
-            },
-            _ => Edition::Two,
-        },
-        [] => Edition::Two,
-    }
+    edition_by(header_stands(behind_blanks(text)))
+}
+
+// Edition 3 where there is a header.
+fn edition_by(header: bool) -> Edition
+    ensures { result ≡ (if header then Three else Two) }
+{
+    if header { Edition::Three } else { Edition::Two }
+}
+
+// Whether the header stands at the front of a text.
+fn header_stands(text: &[u8]) -> bool
+    requires { length text.now < 2 ^ 32 - 1 }
+    ensures { result ≡ begins_with_header text.now }
+{
+    let size = word_len(text);
+    &text[..size] == b"comfusy".as_slice() && three_stands(behind_blanks(&text[size..]))
 }
 
 // Whether a literal of value 3 stands at the front of a text.
 fn three_stands(text: &[u8]) -> bool
-    requires { length text.now < 2 ^ 32 - 1 }
     ensures { result ≡ begins_with_three text.now }
 {
-    match text {
-        [first, more @ ..] => match front(Edition::Two, *first, more) {
-            Piece::Literal(size) => match literal(&text[..size], 3) {
-                Some(n) => n == 3,
-                None => false,
-            },
-            _ => false,
-        },
-        [] => false,
+    match literal(&text[..digits_len(text)], 3) {
+        Some(n) => n == 3,
+        None => false,
     }
 }
 

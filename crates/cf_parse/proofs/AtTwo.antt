@@ -17,7 +17,7 @@ use Rattle.cf_reader.specs.Readers.{Got, Reader, is, a_name, a_function, a_liter
 use Rattle.cf_reader.specs.Tokens.{Form, ◌⨟◌, If, First, Next, FirstName, FirstLiteral, NextLiteral, Several}
 use Rattle.cf_parse.specs.declared.tier.Tier.TheVariants.{Whole, Imps, Ors, Sums}
 use Rattle.cf_parse.specs.Spelling.{Fits, SpellsParam, SpellsItems, Spells}
-use Rattle.cf_parse.specs.Reading.{Parts, param_of, items_of, outputs_of, given_of, aim_of, choose_of, chained_of, imps_of, ors_of, behind_name, named_of, step}
+use Rattle.cf_parse.specs.Reading.{Parts, items_of, given_of, aim_of, linked_of, behind_name, named_of}
 use Rattle.cf_parse.specs.Programs.{SpellsDef, SpellsItem, SpellsSome, SpellsProgram, def_of, item_of, some_items, program_of}
 
 -- productions
@@ -77,13 +77,10 @@ no-constant limit p x e ts rest h = h.0
 
 -- how it is read
 
-read-implication : (part : Parts) (n : ℕ) (ts : List Token) → step Two part n Imps ts ≡ ors_of Two part n ts
-unfolding step imps_of
-read-implication part n ts = refl
-
-read-comparison : (part : Parts) (o : Place × BinOp) (a b : RawTree) (ts : List Token) → chained_of Two part o a b ts ≡ Ok (raw_binary o.0 o.1 a b, ts)
-unfolding chained_of pure
-read-comparison part o a b ts = refl
+read-comparison : (part : Parts) (o : Place × BinOp) (a b : RawTree) (ts : List Token) → linked_of Two part o a b ts ≡ Ok (raw_binary o.0 o.1 a b, ts)
+unfolding linked_of first at pure
+read-comparison part o a b [] = refl
+read-comparison part o a b (t ∷ ts) = refl
 
 read-name : (part : Parts) (n : ℕ) (ts : List Token) → named_of Two part n ts ≡ (must (a_name Two) >>= λ x.
     first (is (Sign (codes "("))) (λ p. items_of part (Sign (codes ")")) >>= λ es. pure (raw_call x.0 x.1 (raws_of es))) (pure (raw_name x.0 x.1))) ts
@@ -98,22 +95,16 @@ unfolding program_of
 read-program limit ts = refl
 
 read-item : (limit : ℕ) (ts : List Token) → item_of Two limit ts ≡ def_of Two limit ts
-unfolding item_of
-read-item limit ts = refl
+unfolding item_of first at
+read-item limit [] = refl
+read-item limit (t ∷ ts) = refl
 
--- what is made of what is read may be made at once
-at-once : {A B C : Type 0} (r : Reader A) (f : A → B) (g : B → Reader C) (ts : List Token) → bind (bind r (λ x. pure (f x))) g ts ≡ bind r (λ x. g (f x)) ts
-unfolding bind pure
-at-once {A = A} r f g ts = by (r ts) refl
-  where
-    by : (x : Got A) → r ts ≡ x → bind (bind r (λ x. pure (f x))) g ts ≡ bind r (λ x. g (f x)) ts
-    by (Ok a) e = rw (bind, e, pure) refl
-    by (Err k) e = rw (bind, e) refl
+read-given : (part : Parts) (ts : List Token) → given_of Two part ts ≡ Ok (no_given, ts)
+unfolding given_of first at pure
+read-given part [] = refl
+read-given part (t ∷ ts) = refl
 
-read-outputs : (part : Parts) (p : Place) (ts : List Token) →
-    bind (outputs_of Two) (λ o. given_of Two part >>= λ g. must (is (Word (codes "where"))) >>= λ q. part Ors >>= λ e. aim_of Two part >>= λ aim.
-    pure (raw_choose p o.0 o.1 g e aim)) ts ≡
-    bind (several_of snoc (param_of Two) (Sign (codes ",")) (Sign (codes ")")) []) (λ xs. given_of Two part >>= λ g. must (is (Word (codes "where"))) >>= λ q.
-    part Ors >>= λ e. aim_of Two part >>= λ aim. pure (raw_choose p xs [] g e aim)) ts
-unfolding outputs_of
-read-outputs part p ts = at-once _ (λ xs. (xs, [])) _ ts
+read-aim : (part : Parts) (ts : List Token) → aim_of Two part ts ≡ Ok (no_aim, ts)
+unfolding aim_of first at pure
+read-aim part [] = refl
+read-aim part (t ∷ ts) = refl

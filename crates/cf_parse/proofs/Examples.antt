@@ -8,12 +8,12 @@ use Rattle.cf_tree.specs.declared.base.Order.TheVariants.{Eq, Lt, Ge}
 use Rattle.cf_tree.specs.declared.raw.BinOp.TheVariants.{Add, Sub, Mul, And, Or, Union, Inter, Diff, Subset, Compare}
 use Rattle.cf_tree.specs.RawTree.{RawTree, raw_lit, raw_truth, raw_name, raw_set_of, raw_group, raw_tuple, raw_neg, raw_not, raw_abs, raw_binary, raw_divides, raw_div, raw_mod, raw_card, raw_call, raw_if, raw_let, raw_choose, raw_match, raw_arm, no_raws, raws_of, raw_arms_of, number_lit, no_given, no_aim}
 use Rattle.cf_tree.specs.DefView.{RawItemTree, item_def}
-use Rattle.cf_reader.specs.Readers.{at, pure, refuse, must, bind, first, deep, at_end, more_of, others_of, several_of, while_of, listed_of, one_or_tuple}
+use Rattle.cf_reader.specs.Readers.{at, pure, refuse, must, bind, first, deep, at_end, more_of, others_of, several_of, one_or_tuple}
 use Rattle.cf_reader.specs.Kinds.{results_of}
 use Rattle.cf_reader.specs.Operations.{op_of}
 use Rattle.cf_reader.proofs.Sample.{here, word, sign, literal}
 use Rattle.cf_parse.specs.declared.tier.Tier.TheVariants.{Whole}
-use Rattle.cf_parse.specs.Reading.{next_op, next_order, divides_by, param_of, params_of, outputs_of, names_of, named_term, term_of, terms_of, all_terms, pattern_of, chain_of, list_of, items_of, one_of, inside_of, divided_of, two_or_more_of, operation_of, behind_name, named_of, word_of, atom_of, unary_of, muls_of, sums_of, links_of, all_links, chained_of, compared_of, cmps_of, ands_of, ors_of, implied_of, imps_of, let_of, if_of, given_of, aim_of, choose_of, arm_of, match_of, whole_of, step, read}
+use Rattle.cf_parse.specs.Reading.{next_op, next_order, divides_by, number_of, param_of, params_of, hidden_of, more_outputs, outputs_of, names_of, named_term, term_of, terms_of, all_terms, pattern_of, chain_of, list_of, items_of, one_of, divided_of, two_or_more_of, operation_of, behind_name, named_of, word_of, atom_of, unary_of, muls_of, sums_of, links_of, linked_of, compared_of, cmps_of, ands_of, ors_of, implied_of, imps_of, let_of, if_of, given_of, aim_of, choose_of, arm_of, match_of, whole_of, step, read}
 use Rattle.cf_parse.specs.Programs.{IsProgram, def_from, def_of, item_of, items_from, all_items, some_items, program_of}
 use Rattle.cf_parse.proofs.Programs.{found_law}
 
@@ -128,7 +128,7 @@ spelled =
     []
 
 spelled-read : map (λ e. read Two 4 Whole e.1) spelled ≡ map (λ e. Ok (e.0, [])) spelled
-unfolding at pure refuse must bind first deep at_end more_of others_of several_of while_of listed_of one_or_tuple op_of results_of next_op next_order divides_by param_of params_of outputs_of names_of named_term term_of terms_of all_terms pattern_of chain_of list_of items_of one_of inside_of divided_of two_or_more_of operation_of behind_name named_of word_of atom_of unary_of muls_of sums_of links_of all_links chained_of compared_of cmps_of ands_of ors_of implied_of imps_of let_of if_of given_of aim_of choose_of arm_of match_of whole_of step read
+unfolding at pure refuse must bind first deep at_end more_of others_of several_of one_or_tuple op_of results_of next_op next_order divides_by number_of param_of params_of hidden_of more_outputs outputs_of names_of named_term term_of terms_of all_terms pattern_of chain_of list_of items_of one_of divided_of two_or_more_of operation_of behind_name named_of word_of atom_of unary_of muls_of sums_of links_of linked_of compared_of cmps_of ands_of ors_of implied_of imps_of let_of if_of given_of aim_of choose_of arm_of match_of whole_of step read
 spelled-read = refl
 
 -- tokens that do not spell an expression to their end, by how many are left from the fault on, or behind what was read
@@ -179,7 +179,7 @@ refused =
     []
 
 refused-read : map (λ e. read Two 4 Whole e.1) refused ≡ map (λ e. Err e.0) refused
-unfolding at pure refuse must bind first deep at_end more_of others_of several_of while_of listed_of one_or_tuple op_of results_of next_op next_order divides_by param_of params_of outputs_of names_of named_term term_of terms_of all_terms pattern_of chain_of list_of items_of one_of inside_of divided_of two_or_more_of operation_of behind_name named_of word_of atom_of unary_of muls_of sums_of links_of all_links chained_of compared_of cmps_of ands_of ors_of implied_of imps_of let_of if_of given_of aim_of choose_of arm_of match_of whole_of step read
+unfolding at pure refuse must bind first deep at_end more_of others_of several_of one_or_tuple op_of results_of next_op next_order divides_by number_of param_of params_of hidden_of more_outputs outputs_of names_of named_term term_of terms_of all_terms pattern_of chain_of list_of items_of one_of divided_of two_or_more_of operation_of behind_name named_of word_of atom_of unary_of muls_of sums_of links_of linked_of compared_of cmps_of ands_of ors_of implied_of imps_of let_of if_of given_of aim_of choose_of arm_of match_of whole_of step read
 refused-read = refl
 
 -- a program of two functions
@@ -194,30 +194,30 @@ two_spelled = word (codes "def") ∷ word (codes "f") ∷ sign (codes "(") ∷ w
     (codes "def") ∷ word (codes "main") ∷ sign (codes "(") ∷ sign (codes ")") ∷ sign (codes ":") ∷ word (codes "int") ∷ sign (codes "=") ∷ literal 1 ∷ []
 
 two-functions : IsProgram Two two two_spelled
-unfolding def_from def_of item_of items_from all_items some_items program_of at pure refuse must bind first deep at_end more_of others_of several_of while_of listed_of one_or_tuple op_of results_of next_op next_order divides_by param_of params_of outputs_of names_of named_term term_of terms_of all_terms pattern_of chain_of list_of items_of one_of inside_of divided_of two_or_more_of operation_of behind_name named_of word_of atom_of unary_of muls_of sums_of links_of all_links chained_of compared_of cmps_of ands_of ors_of implied_of imps_of let_of if_of given_of aim_of choose_of arm_of match_of whole_of step read
+unfolding def_from def_of item_of items_from all_items some_items program_of at pure refuse must bind first deep at_end more_of others_of several_of one_or_tuple op_of results_of next_op next_order divides_by number_of param_of params_of hidden_of more_outputs outputs_of names_of named_term term_of terms_of all_terms pattern_of chain_of list_of items_of one_of divided_of two_or_more_of operation_of behind_name named_of word_of atom_of unary_of muls_of sums_of links_of linked_of compared_of cmps_of ands_of ors_of implied_of imps_of let_of if_of given_of aim_of choose_of arm_of match_of whole_of step read
 two-functions = found_law Two two_spelled two [] refl
 
 -- a comparison is no chain; only a literal of at least 1 divides, and what it divides is no such form again
 no-chain : program_of Two 200 (word (codes "def") ∷ word (codes "main") ∷ sign (codes "(") ∷ sign (codes ")") ∷ sign (codes ":") ∷ word (codes "int") ∷ sign
     (codes "=") ∷ word (codes "x") ∷ sign (codes "==") ∷ word (codes "y") ∷ sign (codes "==") ∷ word (codes "z") ∷ []) ≡ Err 2
-unfolding def_from def_of item_of items_from all_items some_items program_of at pure refuse must bind first deep at_end more_of others_of several_of while_of listed_of one_or_tuple op_of results_of next_op next_order divides_by param_of params_of outputs_of names_of named_term term_of terms_of all_terms pattern_of chain_of list_of items_of one_of inside_of divided_of two_or_more_of operation_of behind_name named_of word_of atom_of unary_of muls_of sums_of links_of all_links chained_of compared_of cmps_of ands_of ors_of implied_of imps_of let_of if_of given_of aim_of choose_of arm_of match_of whole_of step read
+unfolding def_from def_of item_of items_from all_items some_items program_of at pure refuse must bind first deep at_end more_of others_of several_of one_or_tuple op_of results_of next_op next_order divides_by number_of param_of params_of hidden_of more_outputs outputs_of names_of named_term term_of terms_of all_terms pattern_of chain_of list_of items_of one_of divided_of two_or_more_of operation_of behind_name named_of word_of atom_of unary_of muls_of sums_of links_of linked_of compared_of cmps_of ands_of ors_of implied_of imps_of let_of if_of given_of aim_of choose_of arm_of match_of whole_of step read
 no-chain = refl
 
 name-divides : program_of Two 200 (word (codes "def") ∷ word (codes "main") ∷ sign (codes "(") ∷ sign (codes ")") ∷ sign (codes ":") ∷ word (codes "int") ∷ sign
     (codes "=") ∷ word (codes "x") ∷ word (codes "divides") ∷ word (codes "y") ∷ []) ≡ Err 2
-unfolding def_from def_of item_of items_from all_items some_items program_of at pure refuse must bind first deep at_end more_of others_of several_of while_of listed_of one_or_tuple op_of results_of next_op next_order divides_by param_of params_of outputs_of names_of named_term term_of terms_of all_terms pattern_of chain_of list_of items_of one_of inside_of divided_of two_or_more_of operation_of behind_name named_of word_of atom_of unary_of muls_of sums_of links_of all_links chained_of compared_of cmps_of ands_of ors_of implied_of imps_of let_of if_of given_of aim_of choose_of arm_of match_of whole_of step read
+unfolding def_from def_of item_of items_from all_items some_items program_of at pure refuse must bind first deep at_end more_of others_of several_of one_or_tuple op_of results_of next_op next_order divides_by number_of param_of params_of hidden_of more_outputs outputs_of names_of named_term term_of terms_of all_terms pattern_of chain_of list_of items_of one_of divided_of two_or_more_of operation_of behind_name named_of word_of atom_of unary_of muls_of sums_of links_of linked_of compared_of cmps_of ands_of ors_of implied_of imps_of let_of if_of given_of aim_of choose_of arm_of match_of whole_of step read
 name-divides = refl
 
 zero-divides : program_of Two 200 (word (codes "def") ∷ word (codes "main") ∷ sign (codes "(") ∷ sign (codes ")") ∷ sign (codes ":") ∷ word (codes "int") ∷ sign
     (codes "=") ∷ literal 0 ∷ word (codes "divides") ∷ word (codes "y") ∷ []) ≡ Err 2
-unfolding def_from def_of item_of items_from all_items some_items program_of at pure refuse must bind first deep at_end more_of others_of several_of while_of listed_of one_or_tuple op_of results_of next_op next_order divides_by param_of params_of outputs_of names_of named_term term_of terms_of all_terms pattern_of chain_of list_of items_of one_of inside_of divided_of two_or_more_of operation_of behind_name named_of word_of atom_of unary_of muls_of sums_of links_of all_links chained_of compared_of cmps_of ands_of ors_of implied_of imps_of let_of if_of given_of aim_of choose_of arm_of match_of whole_of step read
+unfolding def_from def_of item_of items_from all_items some_items program_of at pure refuse must bind first deep at_end more_of others_of several_of one_or_tuple op_of results_of next_op next_order divides_by number_of param_of params_of hidden_of more_outputs outputs_of names_of named_term term_of terms_of all_terms pattern_of chain_of list_of items_of one_of divided_of two_or_more_of operation_of behind_name named_of word_of atom_of unary_of muls_of sums_of links_of linked_of compared_of cmps_of ands_of ors_of implied_of imps_of let_of if_of given_of aim_of choose_of arm_of match_of whole_of step read
 zero-divides = refl
 
 divides-divides : program_of Two 200 (word (codes "def") ∷ word (codes "main") ∷ sign (codes "(") ∷ sign (codes ")") ∷ sign (codes ":") ∷ word (codes "int") ∷ sign
     (codes "=") ∷ literal 1 ∷ word (codes "divides") ∷ word (codes "y") ∷ word (codes "divides") ∷ word (codes "z") ∷ []) ≡ Err 2
-unfolding def_from def_of item_of items_from all_items some_items program_of at pure refuse must bind first deep at_end more_of others_of several_of while_of listed_of one_or_tuple op_of results_of next_op next_order divides_by param_of params_of outputs_of names_of named_term term_of terms_of all_terms pattern_of chain_of list_of items_of one_of inside_of divided_of two_or_more_of operation_of behind_name named_of word_of atom_of unary_of muls_of sums_of links_of all_links chained_of compared_of cmps_of ands_of ors_of implied_of imps_of let_of if_of given_of aim_of choose_of arm_of match_of whole_of step read
+unfolding def_from def_of item_of items_from all_items some_items program_of at pure refuse must bind first deep at_end more_of others_of several_of one_or_tuple op_of results_of next_op next_order divides_by number_of param_of params_of hidden_of more_outputs outputs_of names_of named_term term_of terms_of all_terms pattern_of chain_of list_of items_of one_of divided_of two_or_more_of operation_of behind_name named_of word_of atom_of unary_of muls_of sums_of links_of linked_of compared_of cmps_of ands_of ors_of implied_of imps_of let_of if_of given_of aim_of choose_of arm_of match_of whole_of step read
 divides-divides = refl
 
 no-functions : program_of Two 200 ([]) ≡ Err 0
-unfolding def_from def_of item_of items_from all_items some_items program_of at pure refuse must bind first deep at_end more_of others_of several_of while_of listed_of one_or_tuple op_of results_of next_op next_order divides_by param_of params_of outputs_of names_of named_term term_of terms_of all_terms pattern_of chain_of list_of items_of one_of inside_of divided_of two_or_more_of operation_of behind_name named_of word_of atom_of unary_of muls_of sums_of links_of all_links chained_of compared_of cmps_of ands_of ors_of implied_of imps_of let_of if_of given_of aim_of choose_of arm_of match_of whole_of step read
+unfolding def_from def_of item_of items_from all_items some_items program_of at pure refuse must bind first deep at_end more_of others_of several_of one_or_tuple op_of results_of next_op next_order divides_by number_of param_of params_of hidden_of more_outputs outputs_of names_of named_term term_of terms_of all_terms pattern_of chain_of list_of items_of one_of divided_of two_or_more_of operation_of behind_name named_of word_of atom_of unary_of muls_of sums_of links_of linked_of compared_of cmps_of ands_of ors_of implied_of imps_of let_of if_of given_of aim_of choose_of arm_of match_of whole_of step read
 no-functions = refl

@@ -13,11 +13,11 @@ use Rattle.cf_tree.specs.declared.base.Sense.TheVariants.{Least, Greatest}
 use Rattle.cf_tree.specs.declared.raw.BinOp.TheVariants.{Add, Sub, Mul, And, Or, Implies, Subset, Compare}
 use Rattle.cf_tree.specs.RawTree.{number_lit, number_name, RawTree, raw_lit, raw_name, raw_group, raw_tuple, raw_neg, raw_abs, raw_binary, raw_chain, raw_min, raw_max, raw_divides, raw_div, raw_mod, raw_card, raw_call, raw_if, raw_let, raw_choose, raw_match, raw_arm, no_raws, raws_of, raw_arms_of, no_given, given_that, no_aim, aim_at}
 use Rattle.cf_tree.specs.DefView.{RawItemTree, item_const, item_def}
-use Rattle.cf_reader.specs.Readers.{at, pure, refuse, must, bind, first, deep, at_end, more_of, others_of, several_of, while_of, listed_of, one_or_tuple}
+use Rattle.cf_reader.specs.Readers.{at, pure, refuse, must, bind, first, deep, at_end, more_of, others_of, several_of, one_or_tuple}
 use Rattle.cf_reader.specs.Kinds.{results_of}
 use Rattle.cf_reader.specs.Operations.{op_of}
 use Rattle.cf_reader.specs.Faults.{place_with_left}
-use Rattle.cf_parse.specs.Reading.{next_op, next_order, divides_by, param_of, params_of, outputs_of, names_of, named_term, term_of, terms_of, all_terms, pattern_of, chain_of, list_of, items_of, one_of, inside_of, divided_of, two_or_more_of, operation_of, behind_name, named_of, word_of, atom_of, unary_of, muls_of, sums_of, links_of, all_links, chained_of, compared_of, cmps_of, ands_of, ors_of, implied_of, imps_of, let_of, if_of, given_of, aim_of, choose_of, arm_of, match_of, whole_of, step, read}
+use Rattle.cf_parse.specs.Reading.{next_op, next_order, divides_by, number_of, param_of, params_of, hidden_of, more_outputs, outputs_of, names_of, named_term, term_of, terms_of, all_terms, pattern_of, chain_of, list_of, items_of, one_of, divided_of, two_or_more_of, operation_of, behind_name, named_of, word_of, atom_of, unary_of, muls_of, sums_of, links_of, linked_of, compared_of, cmps_of, ands_of, ors_of, implied_of, imps_of, let_of, if_of, given_of, aim_of, choose_of, arm_of, match_of, whole_of, step, read}
 use Rattle.cf_parse.specs.Programs.{def_from, const_from, def_of, item_of, items_from, all_items, some_items, program_of}
 
 -- the place of a column of the first line
@@ -220,7 +220,7 @@ spelled =
     []
 
 spelled-read : map (λ e. bodies_of 200 e.1) spelled ≡ map (λ e. Some e.0) spelled
-unfolding at pure refuse must bind first deep at_end more_of others_of several_of while_of listed_of one_or_tuple op_of results_of next_op next_order divides_by param_of params_of outputs_of names_of named_term term_of terms_of all_terms pattern_of chain_of list_of items_of one_of inside_of divided_of two_or_more_of operation_of behind_name named_of word_of atom_of unary_of muls_of sums_of links_of all_links chained_of compared_of cmps_of ands_of ors_of implied_of imps_of let_of if_of given_of aim_of choose_of arm_of match_of whole_of step read def_from const_from def_of item_of items_from all_items some_items program_of place_with_left
+unfolding at pure refuse must bind first deep at_end more_of others_of several_of one_or_tuple op_of results_of next_op next_order divides_by number_of param_of params_of hidden_of more_outputs outputs_of names_of named_term term_of terms_of all_terms pattern_of chain_of list_of items_of one_of divided_of two_or_more_of operation_of behind_name named_of word_of atom_of unary_of muls_of sums_of links_of linked_of compared_of cmps_of ands_of ors_of implied_of imps_of let_of if_of given_of aim_of choose_of arm_of match_of whole_of step read def_from const_from def_of item_of items_from all_items some_items program_of place_with_left
 spelled-read = refl
 
 -- texts that are refused, with the column of the refused token
@@ -299,7 +299,7 @@ refused =
     []
 
 refused-read : map (λ e. stop_of Three 200 e.1) refused ≡ map (λ e. e.0) refused
-unfolding at pure refuse must bind first deep at_end more_of others_of several_of while_of listed_of one_or_tuple op_of results_of next_op next_order divides_by param_of params_of outputs_of names_of named_term term_of terms_of all_terms pattern_of chain_of list_of items_of one_of inside_of divided_of two_or_more_of operation_of behind_name named_of word_of atom_of unary_of muls_of sums_of links_of all_links chained_of compared_of cmps_of ands_of ors_of implied_of imps_of let_of if_of given_of aim_of choose_of arm_of match_of whole_of step read def_from const_from def_of item_of items_from all_items some_items program_of place_with_left
+unfolding at pure refuse must bind first deep at_end more_of others_of several_of one_or_tuple op_of results_of next_op next_order divides_by number_of param_of params_of hidden_of more_outputs outputs_of names_of named_term term_of terms_of all_terms pattern_of chain_of list_of items_of one_of divided_of two_or_more_of operation_of behind_name named_of word_of atom_of unary_of muls_of sums_of links_of linked_of compared_of cmps_of ands_of ors_of implied_of imps_of let_of if_of given_of aim_of choose_of arm_of match_of whole_of step read def_from const_from def_of item_of items_from all_items some_items program_of place_with_left
 refused-read = refl
 
 -- the same with a depth of 3 in the place of 200
@@ -320,7 +320,7 @@ too_deep =
     []
 
 too_deep-read : map (λ e. stop_of Three 3 e.1) too_deep ≡ map (λ e. e.0) too_deep
-unfolding at pure refuse must bind first deep at_end more_of others_of several_of while_of listed_of one_or_tuple op_of results_of next_op next_order divides_by param_of params_of outputs_of names_of named_term term_of terms_of all_terms pattern_of chain_of list_of items_of one_of inside_of divided_of two_or_more_of operation_of behind_name named_of word_of atom_of unary_of muls_of sums_of links_of all_links chained_of compared_of cmps_of ands_of ors_of implied_of imps_of let_of if_of given_of aim_of choose_of arm_of match_of whole_of step read def_from const_from def_of item_of items_from all_items some_items program_of place_with_left
+unfolding at pure refuse must bind first deep at_end more_of others_of several_of one_or_tuple op_of results_of next_op next_order divides_by number_of param_of params_of hidden_of more_outputs outputs_of names_of named_term term_of terms_of all_terms pattern_of chain_of list_of items_of one_of divided_of two_or_more_of operation_of behind_name named_of word_of atom_of unary_of muls_of sums_of links_of linked_of compared_of cmps_of ands_of ors_of implied_of imps_of let_of if_of given_of aim_of choose_of arm_of match_of whole_of step read def_from const_from def_of item_of items_from all_items some_items program_of place_with_left
 too_deep-read = refl
 
 abbrev fitting : List (List ℕ)
@@ -333,12 +333,12 @@ fitting =
     []
 
 fitting-read : map (λ e. stop_of Three 3 e) fitting ≡ map (λ e. 0) fitting
-unfolding at pure refuse must bind first deep at_end more_of others_of several_of while_of listed_of one_or_tuple op_of results_of next_op next_order divides_by param_of params_of outputs_of names_of named_term term_of terms_of all_terms pattern_of chain_of list_of items_of one_of inside_of divided_of two_or_more_of operation_of behind_name named_of word_of atom_of unary_of muls_of sums_of links_of all_links chained_of compared_of cmps_of ands_of ors_of implied_of imps_of let_of if_of given_of aim_of choose_of arm_of match_of whole_of step read def_from const_from def_of item_of items_from all_items some_items program_of place_with_left
+unfolding at pure refuse must bind first deep at_end more_of others_of several_of one_or_tuple op_of results_of next_op next_order divides_by number_of param_of params_of hidden_of more_outputs outputs_of names_of named_term term_of terms_of all_terms pattern_of chain_of list_of items_of one_of divided_of two_or_more_of operation_of behind_name named_of word_of atom_of unary_of muls_of sums_of links_of linked_of compared_of cmps_of ands_of ors_of implied_of imps_of let_of if_of given_of aim_of choose_of arm_of match_of whole_of step read def_from const_from def_of item_of items_from all_items some_items program_of place_with_left
 fitting-read = refl
 
 -- the word of an operation may stand alone where its parts may not: reading stops at its parenthesis
 operation-deep : stop_of Three 3 (codes "comfusy 3 def main(a: int, b: int): int = card(card(card(a)))") ≡ 57
-unfolding at pure refuse must bind first deep at_end more_of others_of several_of while_of listed_of one_or_tuple op_of results_of next_op next_order divides_by param_of params_of outputs_of names_of named_term term_of terms_of all_terms pattern_of chain_of list_of items_of one_of inside_of divided_of two_or_more_of operation_of behind_name named_of word_of atom_of unary_of muls_of sums_of links_of all_links chained_of compared_of cmps_of ands_of ors_of implied_of imps_of let_of if_of given_of aim_of choose_of arm_of match_of whole_of step read def_from const_from def_of item_of items_from all_items some_items program_of place_with_left
+unfolding at pure refuse must bind first deep at_end more_of others_of several_of one_or_tuple op_of results_of next_op next_order divides_by number_of param_of params_of hidden_of more_outputs outputs_of names_of named_term term_of terms_of all_terms pattern_of chain_of list_of items_of one_of divided_of two_or_more_of operation_of behind_name named_of word_of atom_of unary_of muls_of sums_of links_of linked_of compared_of cmps_of ands_of ors_of implied_of imps_of let_of if_of given_of aim_of choose_of arm_of match_of whole_of step read def_from const_from def_of item_of items_from all_items some_items program_of place_with_left
 operation-deep = refl
 
 -- texts that language 2 refuses, with the column of the refused token
@@ -362,5 +362,5 @@ refused_by_two =
     []
 
 refused_by_two-read : map (λ e. stop_of Two 200 e.1) refused_by_two ≡ map (λ e. e.0) refused_by_two
-unfolding at pure refuse must bind first deep at_end more_of others_of several_of while_of listed_of one_or_tuple op_of results_of next_op next_order divides_by param_of params_of outputs_of names_of named_term term_of terms_of all_terms pattern_of chain_of list_of items_of one_of inside_of divided_of two_or_more_of operation_of behind_name named_of word_of atom_of unary_of muls_of sums_of links_of all_links chained_of compared_of cmps_of ands_of ors_of implied_of imps_of let_of if_of given_of aim_of choose_of arm_of match_of whole_of step read def_from const_from def_of item_of items_from all_items some_items program_of place_with_left
+unfolding at pure refuse must bind first deep at_end more_of others_of several_of one_or_tuple op_of results_of next_op next_order divides_by number_of param_of params_of hidden_of more_outputs outputs_of names_of named_term term_of terms_of all_terms pattern_of chain_of list_of items_of one_of divided_of two_or_more_of operation_of behind_name named_of word_of atom_of unary_of muls_of sums_of links_of linked_of compared_of cmps_of ands_of ors_of implied_of imps_of let_of if_of given_of aim_of choose_of arm_of match_of whole_of step read def_from const_from def_of item_of items_from all_items some_items program_of place_with_left
 refused_by_two-read = refl

@@ -16,7 +16,7 @@ use Rattle.cf_parse.specs.declared.tier.Tier.TheVariants.{Whole}
 use Rattle.cf_reader.specs.declared.fault.ParseFault.{ParseFault}
 use Rattle.cf_reader.specs.declared.fault.ParseFault.TheVariants.{Syntax, NoMemory}
 use Rattle.cf_parse.specs.Spelling.{SpellsParam, Spells}
-use Rattle.cf_parse.specs.Reading.{params_of, read}
+use Rattle.cf_parse.specs.Reading.{in_three, params_of, read}
 
 -- [ param { "," param } ] ")"
 abbrev pub SpellsParams : Edition → List Param → Form
@@ -73,19 +73,18 @@ def_from edition limit p = do
   pure (record { place = p; name = x.1; params = params; results = results; body = e })
 
 -- behind the word const
-unfoldable pub const_from : ℕ → Reader RawItemTree
-const_from limit = do
-  x ← must (a_name Three)
+unfoldable pub const_from : Edition → ℕ → Reader RawItemTree
+const_from edition limit = do
+  x ← must (a_name edition)
   _ ← must (is (Sign (codes "=")))
-  e ← read Three limit Whole
+  e ← read edition limit Whole
   pure (item_const x.0 x.1 e)
 
 unfoldable pub def_of : Edition → ℕ → Reader RawItemTree
 def_of edition limit = must (is (Word (codes "def"))) >>= λ p. def_from edition limit p >>= λ d. pure (item_def d)
 
 unfoldable pub item_of : Edition → ℕ → Reader RawItemTree
-item_of Two limit = def_of Two limit
-item_of Three limit = first (is (Word (codes "const"))) (λ p. const_from limit) (def_of Three limit)
+item_of edition limit = first (in_three edition (is (Word (codes "const")))) (λ p. const_from edition limit) (def_of edition limit)
 
 -- the items from here on, behind those read before
 unfoldable pub items_from : Edition → ℕ → ℕ → List RawItemTree → Reader (List RawItemTree)

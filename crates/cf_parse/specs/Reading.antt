@@ -1,7 +1,6 @@
 -- Reading expressions from left to right.
-use Rattle.std.specs.Prelude.{ℕ, zero, suc, ℤ, pos, int_le, nat_le, nat_eq, Bool, true, false, List, [], ◌∷◌, length, Option, Some, None, Err, codes, if◌then◌else◌}
+use Rattle.std.specs.Prelude.{ℕ, zero, suc, ℤ, pos, int_le, nat_le, nat_eq, Bool, true, List, [], ◌∷◌, length, Option, Some, None, Err, codes, if◌then◌else◌}
 use Rattle.std.specs.Str.{bytes_eq}
-use Rattle.cf_lex.specs.Words.{is_reserved, is_operation}
 use Rattle.cf_tree.specs.declared.base.Edition.{Edition}
 use Rattle.cf_tree.specs.declared.base.Edition.TheVariants.{Two, Three}
 use Rattle.cf_lex.specs.declared.token.TokenKind.{TokenKind}
@@ -14,14 +13,21 @@ use Rattle.cf_tree.specs.declared.raw.BinOp.{BinOp}
 use Rattle.cf_tree.specs.declared.raw.BinOp.TheVariants.{Compare}
 use Rattle.cf_tree.specs.declared.raw.Param.{Param}
 use Rattle.cf_tree.specs.RawTree.{NumberTree, number_lit, number_name, PartTree, RawTree, raw_lit, raw_truth, raw_name, raw_set_of, raw_group, raw_tuple, raw_neg, raw_not, raw_abs, raw_binary, raw_chain, raw_min, raw_max, raw_divides, raw_div, raw_mod, raw_card, raw_call, raw_if, raw_let, raw_choose, raw_match, RawArmTree, raw_arm, no_raws, raws_of, raw_arms_of, GivenTree, no_given, given_that, AimTree, no_aim, aim_at, raw_depth}
-use Rattle.cf_reader.specs.Readers.{Reader, Test, is, a_name, a_function, a_literal, pure, must, ◌>>=◌, first, deep, several_of, listed_of, snoc, one_or_tuple}
+use Rattle.cf_reader.specs.Readers.{Reader, Test, is, a_name, a_function, a_literal, pure, must, ◌>>=◌, first, deep, several_of, snoc, one_or_tuple}
 use Rattle.cf_reader.specs.Kinds.{a_base, a_truth}
 use Rattle.cf_reader.specs.Operations.{op_of}
 use Rattle.cf_parse.specs.declared.sign.TermSign.{TermSign}
 use Rattle.cf_parse.specs.declared.sign.TermSign.TheVariants.{Plus, Minus}
 use Rattle.cf_parse.specs.declared.tier.Tier.{Tier}
 use Rattle.cf_parse.specs.declared.tier.Tier.TheVariants.{Whole, Imps, Ors, Ands, Cmps, Sums, Muls, Unary}
+use Rattle.cf_parse.specs.declared.words.NamedOp.{NamedOp}
+use Rattle.cf_parse.specs.declared.words.NamedOp.TheVariants.{Card, Abs, Div, Mod, Min, Max}
 use Rattle.cf_parse.specs.Spelling.{rank, under, right_tier, op_tier, relation_tier, runs_one_way, is_minus, signed}
+
+-- what edition 3 has alone
+abbrev pub in_three : {A : Type 0} → Edition → Test A → Test A
+in_three Two f t = None
+in_three Three f t = f t
 
 -- a plus or a minus
 abbrev pub a_sign : Test (Place × TermSign)
@@ -39,17 +45,33 @@ op_at tier p (Some op) = if nat_eq (rank (op_tier op)) (rank tier) then Some (p,
 unfoldable pub next_op : Edition → Tier → ℕ → ℕ → Test (Place × BinOp)
 next_op edition tier n d t = if nat_le d n then op_at tier t.place (op_of edition t.kind) else None
 
-abbrev pub order_of : Option BinOp → Option Order
-order_of (Some (Compare order)) = Some order
+abbrev pub order_of : BinOp → Option Order
+order_of (Compare order) = Some order
 order_of op = None
 
 abbrev pub order_at : List Order → Place → Option Order → Option (Place × Order)
 order_at orders p None = None
 order_at orders p (Some order) = if runs_one_way (snoc orders order) then Some (p, order) else None
 
+abbrev pub comparing : Option BinOp → Option Order
+comparing None = None
+comparing (Some op) = order_of op
+
 -- the order with which a chain goes on behind these
 unfoldable pub next_order : List Order → Test (Place × Order)
-next_order orders t = order_at orders t.place (order_of (op_of Three t.kind))
+next_order orders t = order_at orders t.place (comparing (op_of Three t.kind))
+
+abbrev pub behind_order : Order → Option (Place × Order) → Option (Order × (Place × Order))
+behind_order order None = None
+behind_order order (Some o) = Some (order, o)
+
+abbrev pub goes_on : Option Order → Test (Order × (Place × Order))
+goes_on None t = None
+goes_on (Some order) t = behind_order order (next_order (order ∷ []) t)
+
+-- the order of an operation, and the one with which a chain goes on behind it
+abbrev pub second_order : Edition → BinOp → Test (Order × (Place × Order))
+second_order edition op = in_three edition (goes_on (order_of op))
 
 -- a literal that stands alone, in edition 3 a name too, with its place
 abbrev pub lone_number : Edition → RawTree → Option (Place × NumberTree)
@@ -71,17 +93,10 @@ divisor_of n (Some k) (Some q) = if is_divisor k.1 then (if nat_le 1 n then Some
 unfoldable pub divides_by : Edition → ℕ → RawTree → Test (Place × NumberTree)
 divides_by edition n left t = divisor_of n (lone_number edition left) (is (Word (codes "divides")) t)
 
-abbrev pub name_as_number : Edition → Place → List ℕ → Option NumberTree
-name_as_number Two p x = None
-name_as_number Three p x = Some (number_name p x)
-
 -- k = literal | name, where a literal is at least 1
-abbrev pub a_number : Edition → Test NumberTree
-a_number edition t = elim t.kind [
-  | Literal n ↦ if int_le (pos 1) n then Some (number_lit n) else None
-  | Word x ↦ if is_reserved edition x then None else name_as_number edition t.place x
-  | Sign x ↦ None
-]
+unfoldable pub number_of : Edition → Reader NumberTree
+number_of edition =
+    first (a_literal (pos 1)) (λ k. pure (number_lit k.1)) (must (in_three edition (a_name edition)) >>= λ x. pure (number_name x.0 x.1))
 
 -- param = name ":" base
 unfoldable pub param_of : Edition → Reader Param
@@ -96,12 +111,22 @@ unfoldable pub params_of : Edition → Reader (List Param)
 params_of edition =
     first (is (Sign (codes ")"))) (λ p. pure []) (several_of snoc (param_of edition) (Sign (codes ",")) (Sign (codes ")")) [])
 
+-- the hidden outputs, if there are some, up to the closing parenthesis
+unfoldable pub hidden_of : Edition → List Param → Reader (List Param × List Param)
+hidden_of edition outputs =
+    first (in_three edition (is (Sign (codes ";"))))
+    (λ p. several_of snoc (param_of edition) (Sign (codes ",")) (Sign (codes ")")) [] >>= λ hidden. pure (outputs, hidden))
+    (must (is (Sign (codes ")"))) >>= λ p. pure (outputs, []))
+
+-- further outputs behind these, and the hidden ones
+unfoldable pub more_outputs : Edition → ℕ → List Param → Reader (List Param × List Param)
+more_outputs edition zero outputs = λ ts. Err 0
+more_outputs edition (suc fuel) outputs =
+    first (is (Sign (codes ","))) (λ p. param_of edition >>= λ x. more_outputs edition fuel (snoc outputs x)) (hidden_of edition outputs)
+
 -- the outputs of a choose and the hidden ones, up to the closing parenthesis
 unfoldable pub outputs_of : Edition → Reader (List Param × List Param)
-outputs_of Two = several_of snoc (param_of Two) (Sign (codes ",")) (Sign (codes ")")) [] >>= λ xs. pure (xs, [])
-outputs_of Three = listed_of snoc (param_of Three) (Sign (codes ",")) [] >>= λ xs.
-    first (is (Sign (codes ";"))) (λ p. several_of snoc (param_of Three) (Sign (codes ",")) (Sign (codes ")")) [] >>= λ hidden. pure (xs, hidden))
-    (must (is (Sign (codes ")"))) >>= λ p. pure (xs, []))
+outputs_of edition = param_of edition >>= λ x. λ ts. more_outputs edition (length ts) (x ∷ []) ts
 
 -- names and their places
 abbrev pub Names : Type 0
@@ -118,16 +143,20 @@ pub data TermTree : Type 0 where
   a_part : PartTree → TermTree
   the_constant : ℤ → TermTree
 
--- a part whose factor or name stands at place q, behind its sign at this place, if it has one
+-- a part begins at its sign, if it has one
+abbrev pub begins : Option Place → Place → Place
+begins None q = q
+begins (Some p) q = p
+
+-- a part whose factor or name stands at place q
 abbrev pub part_from : Option Place → TermSign → Place → Option NumberTree → Place × List ℕ → PartTree
-part_from None sign q factor x = record { start = q; is_negative = is_minus sign; factor = factor; place = x.0; name = x.1 }
-part_from (Some p) sign q factor x = record { start = p; is_negative = is_minus sign; factor = factor; place = x.0; name = x.1 }
+part_from start sign q factor x = record { start = begins start q; is_negative = is_minus sign; factor = factor; place = x.0; name = x.1 }
 
 -- behind a name, which in edition 3 may be a factor
 unfoldable pub named_term : Edition → Option Place → TermSign → Place × List ℕ → Reader TermTree
-named_term Two start sign x = pure (a_part (part_from start sign x.0 None x))
-named_term Three start sign x =
-    first (is (Sign (codes "*"))) (λ p. must (a_name Three) >>= λ y. pure (a_part (part_from start sign x.0 (Some (number_name x.0 x.1)) y)))
+named_term edition start sign x =
+    first (in_three edition (is (Sign (codes "*"))))
+    (λ p. must (a_name edition) >>= λ y. pure (a_part (part_from start sign x.0 (Some (number_name x.0 x.1)) y)))
     (pure (a_part (part_from start sign x.0 None x)))
 
 -- part = [ k "*" ] name, behind a plus or a minus; or the constant
@@ -188,16 +217,12 @@ grouped p (e ∷ f ∷ es) = raw_tuple p (raws_of (e ∷ f ∷ es))
 unfoldable pub one_of : Parts → Reader RawTree
 one_of part = part Whole >>= λ e. must (is (Sign (codes ")"))) >>= λ p. pure e
 
--- "(" expr ")"
-unfoldable pub inside_of : Parts → Reader RawTree
-inside_of part = must (is (Sign (codes "("))) >>= λ p. one_of part
-
 -- expr "," k ")"
 unfoldable pub divided_of : Edition → Parts → Reader (RawTree × NumberTree)
 divided_of edition part = do
   e ← part Whole
   _ ← must (is (Sign (codes ",")))
-  k ← must (a_number edition)
+  k ← number_of edition
   _ ← must (is (Sign (codes ")")))
   pure (e, k)
 
@@ -208,34 +233,55 @@ two_or_more_of part = do
   _ ← must (is (Sign (codes ",")))
   several_of snoc (part Whole) (Sign (codes ",")) (Sign (codes ")")) (e ∷ [])
 
--- behind the word of an operation and a (
-unfoldable pub operation_of : Parts → Place × List ℕ → Reader RawTree
-operation_of part x =
-    if bytes_eq x.1 (codes "card") then (one_of part >>= λ e. pure (raw_card x.0 e)) else
-    if bytes_eq x.1 (codes "abs") then (one_of part >>= λ e. pure (raw_abs x.0 e)) else
-    if bytes_eq x.1 (codes "div") then (divided_of Three part >>= λ e. pure (raw_div x.0 e.0 e.1)) else
-    if bytes_eq x.1 (codes "mod") then (divided_of Three part >>= λ e. pure (raw_mod x.0 e.0 e.1)) else
-    if bytes_eq x.1 (codes "min") then (two_or_more_of part >>= λ es. pure (raw_min x.0 (raws_of es))) else
-    (two_or_more_of part >>= λ es. pure (raw_max x.0 (raws_of es)))
+-- the operations that are written as a word before parentheses
+abbrev pub shared_named_op : List ℕ → Option NamedOp
+shared_named_op x =
+    if bytes_eq x (codes "card") then Some Card else
+    if bytes_eq x (codes "abs") then Some Abs else
+    if bytes_eq x (codes "div") then Some Div else
+    if bytes_eq x (codes "mod") then Some Mod else None
 
--- behind a name: a call, an operation of edition 3, whose parts may have depth n, or the name alone
-unfoldable pub behind_name : Parts → ℕ → Bool → Place × List ℕ → Reader RawTree
-behind_name part n true x = deep n (is (Sign (codes "("))) (λ p. operation_of part x) (pure (raw_name x.0 x.1))
-behind_name part n false x =
+abbrev pub named_op : Edition → List ℕ → Option NamedOp
+named_op Two x = shared_named_op x
+named_op Three x = if bytes_eq x (codes "min") then Some Min else if bytes_eq x (codes "max") then Some Max else shared_named_op x
+
+abbrev pub placed : Place → Option NamedOp → Option (Place × NamedOp)
+placed p None = None
+placed p (Some op) = Some (p, op)
+
+-- the word of an operation, which in language 2 is reserved
+abbrev pub reserved_op : Edition → Test (Place × NamedOp)
+reserved_op Two t = elim t.kind [ Word x ↦ placed t.place (named_op Two x) | Literal n ↦ None | Sign x ↦ None ]
+reserved_op Three t = None
+
+-- and in edition 3 a name
+abbrev pub op_of_name : Edition → List ℕ → Option NamedOp
+op_of_name Two x = None
+op_of_name Three x = named_op Three x
+
+-- behind the word of an operation and its parenthesis
+unfoldable pub operation_of : Edition → Parts → Place → NamedOp → Reader RawTree
+operation_of edition part p Card = one_of part >>= λ e. pure (raw_card p e)
+operation_of edition part p Abs = one_of part >>= λ e. pure (raw_abs p e)
+operation_of edition part p Div = divided_of edition part >>= λ e. pure (raw_div p e.0 e.1)
+operation_of edition part p Mod = divided_of edition part >>= λ e. pure (raw_mod p e.0 e.1)
+operation_of edition part p Min = two_or_more_of part >>= λ es. pure (raw_min p (raws_of es))
+operation_of edition part p Max = two_or_more_of part >>= λ es. pure (raw_max p (raws_of es))
+
+-- behind a name: an operation, whose parts may have depth n, a call, or the name alone
+unfoldable pub behind_name : Edition → Parts → ℕ → Place × List ℕ → Option NamedOp → Reader RawTree
+behind_name edition part n x (Some op) = deep n (is (Sign (codes "("))) (λ p. operation_of edition part x.0 op) (pure (raw_name x.0 x.1))
+behind_name edition part n x None =
     first (is (Sign (codes "("))) (λ p. items_of part (Sign (codes ")")) >>= λ es. pure (raw_call x.0 x.1 (raws_of es))) (pure (raw_name x.0 x.1))
 
 unfoldable pub named_of : Edition → Parts → ℕ → Reader RawTree
-named_of edition part n = must (a_name edition) >>= λ x. behind_name part n (is_operation edition x.1) x
+named_of edition part n = must (a_name edition) >>= λ x. behind_name edition part n x (op_of_name edition x.1)
 
 unfoldable pub word_of : Edition → Parts → ℕ → Reader RawTree
-word_of Two part n =
+word_of edition part n =
     first a_truth (λ t. pure (raw_truth t.0 t.1)) (
-    deep n (is (Word (codes "card"))) (λ p. inside_of part >>= λ e. pure (raw_card p e)) (
-    deep n (is (Word (codes "abs"))) (λ p. inside_of part >>= λ e. pure (raw_abs p e)) (
-    deep n (is (Word (codes "div"))) (λ p. must (is (Sign (codes "("))) >>= λ q. divided_of Two part >>= λ e. pure (raw_div p e.0 e.1)) (
-    deep n (is (Word (codes "mod"))) (λ p. must (is (Sign (codes "("))) >>= λ q. divided_of Two part >>= λ e. pure (raw_mod p e.0 e.1)) (
-    named_of Two part n)))))
-word_of Three part n = first a_truth (λ t. pure (raw_truth t.0 t.1)) (named_of Three part n)
+    deep n (reserved_op edition) (λ o. must (is (Sign (codes "("))) >>= λ q. operation_of edition part o.0 o.1) (
+    named_of edition part n))
 
 unfoldable pub atom_of : Edition → Parts → ℕ → Reader RawTree
 atom_of edition part n =
@@ -256,41 +302,37 @@ muls_of edition part n = unary_of edition part n >>= λ e. chain_of edition part
 unfoldable pub sums_of : Edition → Parts → ℕ → Reader RawTree
 sums_of edition part n = muls_of edition part n >>= λ e. chain_of edition part Sums n n e
 
--- the orders of a comparison, with their places, and its parts
+-- the orders of a chain, with their places, and its parts
 pub record Links : Type 0 where
   pub orders : List Order
   pub places : List Place
   pub parts : List RawTree
 
+abbrev pub more_linked : Links → Place × Order → RawTree → Links
+more_linked l o e = record { orders = snoc l.orders o.1; places = snoc l.places o.0; parts = snoc l.parts e }
+
 -- further links, behind those read before
 unfoldable pub links_of : Parts → ℕ → Links → Reader Links
-links_of part zero done = pure done
-links_of part (suc fuel) done =
-    first (next_order done.orders) (λ o. part Sums >>= λ e.
-    links_of part fuel (record { orders = snoc done.orders o.1; places = snoc done.places o.0; parts = snoc done.parts e })) (pure done)
+links_of part zero done = λ ts. Err 0
+links_of part (suc fuel) done = first (next_order done.orders) (λ o. part Sums >>= λ e. links_of part fuel (more_linked done o e)) (pure done)
 
-unfoldable pub all_links : Parts → Links → Reader Links
-all_links part done ts = links_of part (length ts) done ts
+abbrev pub first_link : Place → Order → RawTree → RawTree → Links
+first_link p order left right = record { orders = order ∷ []; places = p ∷ []; parts = left ∷ right ∷ [] }
 
--- one order is a comparison of two sides, and more are a chain
-abbrev pub comparison : Place → List Order → List Place → List RawTree → RawTree
-comparison p (order ∷ []) places (a ∷ b ∷ []) = raw_binary p (Compare order) a b
-comparison p orders places parts = raw_chain p orders places (raws_of parts)
+abbrev pub chain_from : Place → Links → RawTree
+chain_from p l = raw_chain p l.orders l.places (raws_of l.parts)
 
-abbrev pub linked_of : Parts → Place → Option Order → BinOp → RawTree → RawTree → Reader RawTree
-linked_of part p None op left right = pure (raw_binary p op left right)
-linked_of part p (Some order) op left right =
-    all_links part (record { orders = order ∷ []; places = p ∷ []; parts = left ∷ right ∷ [] }) >>= λ l. pure (comparison p l.orders l.places l.parts)
-
--- behind the two sides of an operation of the tier of comparisons
-unfoldable pub chained_of : Edition → Parts → Place × BinOp → RawTree → RawTree → Reader RawTree
-chained_of Two part o left right = pure (raw_binary o.0 o.1 left right)
-chained_of Three part o left right = linked_of part o.0 (order_of (Some o.1)) o.1 left right
+-- behind the two sides of an operation of the tier of comparisons: the rest of a chain, if it goes on
+unfoldable pub linked_of : Edition → Parts → Place × BinOp → RawTree → RawTree → Reader RawTree
+linked_of edition part o left right ts =
+    first (second_order edition o.1) (λ q. part Sums >>= λ e.
+    links_of part (length ts) (more_linked (first_link o.0 q.0 left right) q.1 e) >>= λ l. pure (chain_from o.0 l))
+    (pure (raw_binary o.0 o.1 left right)) ts
 
 -- one comparison at most, in edition 3 or a chain of them; or the number read divides what follows
 unfoldable pub compared_of : Edition → Parts → ℕ → RawTree → Reader RawTree
 compared_of edition part n left =
-    first (next_op edition Cmps n (raw_depth left)) (λ o. part Sums >>= λ right. chained_of edition part o left right) (
+    first (next_op edition Cmps n (raw_depth left)) (λ o. part Sums >>= λ right. linked_of edition part o left right) (
     first (divides_by edition n left) (λ k. part Sums >>= λ e. pure (raw_divides k.0 k.1 e)) (
     pure left))
 
@@ -303,14 +345,13 @@ ands_of edition part n = cmps_of edition part n >>= λ e. chain_of edition part 
 unfoldable pub ors_of : Edition → Parts → ℕ → Reader RawTree
 ors_of edition part n = ands_of edition part n >>= λ e. chain_of edition part Ors n n e
 
--- or [ "==>" imp ], behind the first part
-unfoldable pub implied_of : Parts → ℕ → RawTree → Reader RawTree
-implied_of part n left =
-    first (next_op Three Imps n (raw_depth left)) (λ o. part (right_tier Imps) >>= λ right. pure (raw_binary o.0 o.1 left right)) (pure left)
+-- [ "==>" imp ], behind the first part
+unfoldable pub implied_of : Edition → Parts → ℕ → RawTree → Reader RawTree
+implied_of edition part n left =
+    first (next_op edition Imps n (raw_depth left)) (λ o. part (right_tier Imps) >>= λ right. pure (raw_binary o.0 o.1 left right)) (pure left)
 
 unfoldable pub imps_of : Edition → Parts → ℕ → Reader RawTree
-imps_of Two part n = ors_of Two part n
-imps_of Three part n = ors_of Three part n >>= λ e. implied_of part n e
+imps_of edition part n = ors_of edition part n >>= λ e. implied_of edition part n e
 
 -- behind the word let
 unfoldable pub let_of : Edition → Parts → Place → Reader RawTree
@@ -333,8 +374,7 @@ if_of part p = do
 
 -- [ "given" expr ]
 unfoldable pub given_of : Edition → Parts → Reader GivenTree
-given_of Two part = pure no_given
-given_of Three part = first (is (Word (codes "given"))) (λ p. part Whole >>= λ e. pure (given_that p e)) (pure no_given)
+given_of edition part = first (in_three edition (is (Word (codes "given")))) (λ p. part Whole >>= λ e. pure (given_that p e)) (pure no_given)
 
 abbrev pub a_sense : Test (Place × Sense)
 a_sense t = elim t.kind [
@@ -345,8 +385,7 @@ a_sense t = elim t.kind [
 
 -- [ ("minimise" | "maximise") expr ]: the nearest choose takes it
 unfoldable pub aim_of : Edition → Parts → Reader AimTree
-aim_of Two part = pure no_aim
-aim_of Three part = first a_sense (λ s. part Whole >>= λ e. pure (aim_at s.0 s.1 e)) (pure no_aim)
+aim_of edition part = first (in_three edition a_sense) (λ s. part Whole >>= λ e. pure (aim_at s.0 s.1 e)) (pure no_aim)
 
 unfoldable pub choose_of : Edition → Parts → Place → Reader RawTree
 choose_of edition part p = do

@@ -1,11 +1,11 @@
 //! Parameters and names.
-ghost use Rattle.std.specs.Prelude.{◌≡◌, [], codes, Ok};
+ghost use Rattle.std.specs.Prelude.{◌≡◌, [], codes, length, Ok};
 ghost use Rattle.cf_lex.specs.declared.token.TokenKind.TheVariants.{Sign};
 ghost use Rattle.cf_reader.specs.Answers.{ReadAnswer};
-ghost use Rattle.cf_reader.specs.Readers.{must, a_name, snoc, others_of, several_of, listed_of};
-ghost use Rattle.cf_tree.specs.declared.base.Edition.TheVariants.{Three};
-ghost use Rattle.cf_parse.specs.Reading.{named, param_of, params_of, outputs_of, names_of};
+ghost use Rattle.cf_reader.specs.Readers.{must, a_name, snoc, others_of, several_of};
+ghost use Rattle.cf_parse.specs.Reading.{named, param_of, params_of, hidden_of, more_outputs as outputs_from, outputs_of, names_of};
 
+use crate::words::after_sign_of_three;
 use cf_lex::Token;
 use cf_reader::{ReadStop, after_sign, expect_base, expect_name, expect_sign};
 use cf_tree::{Edition, Param, Place, Text};
@@ -73,6 +73,7 @@ fn more_params(
 }
 
 /// The outputs of a `choose` and the hidden ones, up to the closing parenthesis.
+#[tactic(auto, unfolding(cf_reader::specs::Readers::bind, crate::specs::Reading::outputs_of))]
 pub fn read_outputs(
     alloc: Global,
     edition: Edition,
@@ -80,47 +81,56 @@ pub fn read_outputs(
 ) -> Result<((Vec<Param>, Vec<Param>), &[Token]), ReadStop>
     ensures { ReadAnswer (λ x. ((x.0.0.items, x.0.1.items), x.1.now)) result (outputs_of edition tokens.now) }
 {
-    match edition {
-        Edition::Two => {
-            let (outputs, rest) = params(alloc, edition, tokens)?;
-            Ok(((outputs, Vec::new(alloc)), rest))
-        }
-        Edition::Three => {
-            let (outputs, rest) = listed_params(alloc, tokens)?;
-            match after_sign(";", rest) {
-                Some((_, rest)) => {
-                    let (hidden, rest) = params(alloc, edition, rest)?;
-                    Ok(((outputs, hidden), rest))
-                }
-                None => {
-                    let (_, rest) = expect_sign(")", rest)?;
-                    Ok(((outputs, Vec::new(alloc)), rest))
-                }
-            }
-        }
-    }
-}
-
-// One parameter or more, as long as a comma stands behind one.
-#[tactic(auto, unfolding(cf_reader::specs::Readers::bind, cf_reader::specs::Readers::listed_of))]
-fn listed_params(alloc: Global, tokens: &[Token]) -> Result<(Vec<Param>, &[Token]), ReadStop>
-    ensures { ReadAnswer (λ x. (x.0.items, x.1.now)) result (listed_of snoc (param_of Three) (Sign (codes ",")) [] tokens.now) }
-{
-    let (first, behind) = param(alloc, Edition::Three, tokens)?;
+    let (first, rest) = param(alloc, edition, tokens)?;
     let mut all = Vec::new(alloc);
     all.push(first)?;
-    let mut rest = behind;
-    for _ in 0..behind.len() {
+    more_outputs(alloc, edition, all, rest)
+}
+
+fn more_outputs(
+    alloc: Global,
+    edition: Edition,
+    first: Vec<Param>,
+    tokens: &[Token],
+) -> Result<((Vec<Param>, Vec<Param>), &[Token]), ReadStop>
+    ensures { ReadAnswer (λ x. ((x.0.0.items, x.0.1.items), x.1.now)) result (outputs_from edition (length tokens.now) first.items tokens.now) }
+{
+    let mut done = first;
+    let mut rest = tokens;
+    for _ in 0..tokens.len() {
         match after_sign(",", rest) {
             Some((_, behind)) => {
-                let (x, behind) = param(alloc, Edition::Three, behind)?;
-                all.push(x)?;
+                let (x, behind) = param(alloc, edition, behind)?;
+                done.push(x)?;
                 rest = behind;
             }
-            None => return Ok((all, rest)),
+            None => return hidden(alloc, edition, done, rest),
         }
     }
-    Ok((all, rest))
+    // for the proof: the loop ends before
+    Err(ReadStop::TokensLeft(0))
+}
+
+// Behind the outputs: the hidden ones, if there are some, up to the closing parenthesis.
+#[tactic(auto, unfolding(cf_reader::specs::Readers::first, cf_reader::specs::Readers::bind, cf_reader::specs::Readers::pure, crate::specs::Reading::hidden_of))]
+fn hidden(
+    alloc: Global,
+    edition: Edition,
+    outputs: Vec<Param>,
+    tokens: &[Token],
+) -> Result<((Vec<Param>, Vec<Param>), &[Token]), ReadStop>
+    ensures { ReadAnswer (λ x. ((x.0.0.items, x.0.1.items), x.1.now)) result (hidden_of edition outputs.items tokens.now) }
+{
+    match after_sign_of_three(edition, ";", tokens) {
+        Some((_, rest)) => {
+            let (hidden, rest) = params(alloc, edition, rest)?;
+            Ok(((outputs, hidden), rest))
+        }
+        None => {
+            let (_, rest) = expect_sign(")", tokens)?;
+            Ok(((outputs, Vec::new(alloc)), rest))
+        }
+    }
 }
 
 /// Parameters, if any, up to the closing parenthesis.

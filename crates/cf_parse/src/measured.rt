@@ -61,12 +61,10 @@ pub struct MeasuredAim {
     ghost measured: { depth ≡ aim_depth (aim_tree aim) },
 }
 
-/// The orders of a comparison with their places, its parts, and the depth of the deepest.
+/// The orders of a chain with their places, and its parts.
 #[derive(Drop)]
-pub struct MeasuredLinks {
+pub struct Links {
     pub orders: Vec<Order>,
     pub places: Vec<Place>,
-    pub trees: Vec<Raw>,
-    pub depth: u32,
-    ghost measured: { depth ≡ raws_depth (raw_trees trees.items) },
+    pub parts: MeasuredList,
 }

@@ -6,6 +6,7 @@ ghost use Rattle.cf_parse.specs.Reading.{part_from, named_term as named_term_of,
 ghost use Rattle.cf_parse.specs.TermView.{term_tree};
 
 use crate::sign::{TermSign, after_term_sign, is_minus, signed};
+use crate::words::after_sign_of_three;
 use cf_lex::Token;
 use cf_reader::{ReadStop, after_sign, expect_name, literal_at_least};
 use cf_tree::{Edition, Number, Part, Place, Text};
@@ -67,19 +68,16 @@ fn named_term(
     ensures { ReadAnswer (λ x. (term_tree x.0, x.1.now)) result (named_term_of edition start sign name tokens.now) }
 {
     let place = name.0;
-    match edition {
-        Edition::Two => Ok((Term::Part(part(start, sign, place, None, name)), tokens)),
-        Edition::Three => match after_sign("*", tokens) {
-            Some((_, rest)) => {
-                let (y, rest) = expect_name(alloc, edition, rest)?;
-                let factor = Number::Name {
-                    place,
-                    name: name.1,
-                };
-                Ok((Term::Part(part(start, sign, place, Some(factor), y)), rest))
-            }
-            None => Ok((Term::Part(part(start, sign, place, None, name)), tokens)),
-        },
+    match after_sign_of_three(edition, "*", tokens) {
+        Some((_, rest)) => {
+            let (y, rest) = expect_name(alloc, edition, rest)?;
+            let factor = Number::Name {
+                place,
+                name: name.1,
+            };
+            Ok((Term::Part(part(start, sign, place, Some(factor), y)), rest))
+        }
+        None => Ok((Term::Part(part(start, sign, place, None, name)), tokens)),
     }
 }
 

@@ -3,29 +3,28 @@ ghost use Rattle.std.specs.Prelude.{◌≤◌, ◌<◌, ◌+◌, ◌^◌, IfOk, 
 ghost use Rattle.cf_lex.specs.declared.token.TokenKind.TheVariants.{Sign};
 ghost use Rattle.cf_parse.specs.declared.tier.Tier.TheVariants.{Whole};
 ghost use Rattle.cf_tree.specs.RawView.{raw_tree, raw_arm_tree, given_tree, aim_tree, number_tree};
-ghost use Rattle.cf_tree.specs.declared.base.Edition.TheVariants.{Two, Three};
 ghost use Rattle.cf_parse.specs.LinksView.{links_tree};
 ghost use Rattle.cf_reader.specs.Answers.{ReadAnswer};
 ghost use Rattle.cf_reader.specs.Readers.{snoc, others_of, several_of};
-ghost use Rattle.cf_parse.specs.Reading.{chain_of, list_of, items_of, one_of, divided_of, two_or_more_of, operation_of, named_of, word_of, atom_of, unary_of, muls_of, sums_of, all_links, chained_of, compared_of, cmps_of, ands_of, ors_of, imps_of, given_of, aim_of, let_of, if_of, choose_of, arm_of, match_of, whole_of, read as read_at};
+ghost use Rattle.cf_parse.specs.Reading.{chain_of, list_of, items_of, one_of, divided_of, two_or_more_of, operation_of, named_of, word_of, atom_of, unary_of, muls_of, sums_of, links_of, linked_of, compared_of, cmps_of, ands_of, ors_of, imps_of, given_of, aim_of, let_of, if_of, choose_of, arm_of, match_of, whole_of, read as read_at};
 
 use crate::lists::{read_names, read_outputs};
 use crate::measured::{
-    Boxed, Measured, MeasuredAim, MeasuredArm, MeasuredArms, MeasuredGiven, MeasuredLinks,
-    MeasuredList,
+    Boxed, Links, Measured, MeasuredAim, MeasuredArm, MeasuredArms, MeasuredGiven, MeasuredList,
 };
 use crate::node;
 use crate::pattern::read_pattern;
 use crate::tier::Tier;
 use crate::words::{
-    after_sense, divides_by, expect_number, next_op, next_order, relation_tier, under,
+    NamedOp, after_order, after_sense, after_word_of_three, divides_by, expect_number, next_op, next_order,
+    op_of_name, relation_tier, reserved_op, under,
 };
 use cf_lex::Token;
 use cf_reader::{
-    ReadStop, after_sign, after_word, expect_name, expect_sign, expect_word, is_operation,
-    literal_at_least, spells, truth,
+    ReadStop, after_sign, after_word, expect_name, expect_sign, expect_word, literal_at_least,
+    truth,
 };
-use cf_tree::{BinOp, Edition, Number, Place, Text, without};
+use cf_tree::{BinOp, Edition, Number, Place, RawAim, RawGiven, RawNode, without};
 use std::alloc::Global;
 
 /// A tree of depth at most `n`, at a tier.
@@ -133,7 +132,14 @@ fn let_in(
     let (value, rest) = boxed(alloc, edition, Tier::Whole, n, rest)?;
     let (_, rest) = expect_word("in", rest)?;
     let (body, rest) = boxed(alloc, edition, Tier::Whole, n, rest)?;
-    Ok((node::let_in(place, names, value, body), rest))
+    let inner = value.depth.max(body.depth);
+    let node = RawNode::Let {
+        names: names.names,
+        places: names.places,
+        value: value.raw,
+        body: body.raw,
+    };
+    Ok((node::tree(place, node, inner), rest))
 }
 
 // Behind the word `if`.
@@ -155,7 +161,13 @@ fn if_else(
     let (yes, rest) = boxed(alloc, edition, Tier::Whole, n, rest)?;
     let (_, rest) = expect_word("else", rest)?;
     let (no, rest) = boxed(alloc, edition, Tier::Whole, n, rest)?;
-    Ok((node::if_else(place, test, yes, no), rest))
+    let inner = test.depth.max(yes.depth.max(no.depth));
+    let node = RawNode::If {
+        test: test.raw,
+        yes: yes.raw,
+        no: no.raw,
+    };
+    Ok((node::tree(place, node, inner), rest))
 }
 
 // Behind the word `choose`.
@@ -178,7 +190,15 @@ fn choose(
     let (_, rest) = expect_word("where", rest)?;
     let (rel, rest) = boxed(alloc, edition, relation_tier(edition), n, rest)?;
     let (aim, rest) = aim(alloc, edition, n, rest)?;
-    Ok((node::choose(place, outputs, hidden, given, rel, aim), rest))
+    let inner = given.depth.max(rel.depth.max(aim.depth));
+    let node = RawNode::Choose {
+        outputs,
+        hidden,
+        given: given.given,
+        rel: rel.raw,
+        aim: aim.aim,
+    };
+    Ok((node::tree(place, node, inner), rest))
 }
 
 // The word `given` and its condition, if they stand there.
@@ -194,15 +214,17 @@ fn given(
     ensures value { ReadAnswer (λ x. (given_tree x.0.given, x.1.now)) result (given_of edition (read_at edition n) tokens.now) }
     ensures deep { IfOk result (λ x. x.0.depth ≤ n) }
 {
-    match edition {
-        Edition::Two => Ok((node::no_given(), tokens)),
-        Edition::Three => match after_word("given", tokens) {
-            None => Ok((node::no_given(), tokens)),
-            Some((place, rest)) => {
-                let (e, rest) = boxed(alloc, edition, Tier::Whole, n, rest)?;
-                Ok((node::given_that(place, e), rest))
-            }
-        },
+    match after_word_of_three(edition, "given", tokens) {
+        None => {
+            let given = RawGiven::Always;
+            Ok((MeasuredGiven { given, depth: 0 }, tokens))
+        }
+        Some((place, rest)) => {
+            let (e, rest) = boxed(alloc, edition, Tier::Whole, n, rest)?;
+            let depth = e.depth;
+            let given = RawGiven::That { place, rel: e.raw };
+            Ok((MeasuredGiven { given, depth }, rest))
+        }
     }
 }
 
@@ -219,15 +241,22 @@ fn aim(
     ensures value { ReadAnswer (λ x. (aim_tree x.0.aim, x.1.now)) result (aim_of edition (read_at edition n) tokens.now) }
     ensures deep { IfOk result (λ x. x.0.depth ≤ n) }
 {
-    match edition {
-        Edition::Two => Ok((node::no_aim(), tokens)),
-        Edition::Three => match after_sense(tokens) {
-            None => Ok((node::no_aim(), tokens)),
-            Some(((place, sense), rest)) => {
-                let (e, rest) = boxed(alloc, edition, Tier::Whole, n, rest)?;
-                Ok((node::aim_at(place, sense, e), rest))
-            }
-        },
+    match after_sense(edition, tokens) {
+        None => {
+            let aim = RawAim::Any;
+            Ok((MeasuredAim { aim, depth: 0 }, tokens))
+        }
+        Some(((place, sense), rest)) => {
+            let (e, rest) = boxed(alloc, edition, Tier::Whole, n, rest)?;
+            let depth = e.depth;
+            let objective = e.raw;
+            let aim = RawAim::At {
+                place,
+                sense,
+                objective,
+            };
+            Ok((MeasuredAim { aim, depth }, rest))
+        }
     }
 }
 
@@ -252,7 +281,12 @@ fn match_with(
     let (first, rest) = arm(alloc, edition, n, rest)?;
     let first = node::pushed_arm(node::no_arms(alloc), first)?;
     let (arms, rest) = more_arms(alloc, edition, n, first, rest)?;
-    Ok((node::match_with(place, of, arms), rest))
+    let inner = of.depth.max(arms.depth);
+    let node = RawNode::Match {
+        of: of.raw,
+        arms: arms.arms,
+    };
+    Ok((node::tree(place, node, inner), rest))
 }
 
 // An arm of a `match`.
@@ -325,15 +359,12 @@ fn imps(
     ensures deep { IfOk result (λ x. x.0.depth ≤ n + 1) }
 {
     let (left, rest) = ors(alloc, edition, n, tokens)?;
-    match edition {
-        Edition::Two => Ok((left, rest)),
-        Edition::Three => match next_op(edition, Tier::Imps, n, left.depth, rest) {
-            None => Ok((left, rest)),
-            Some(((place, op), rest)) => match boxed(alloc, edition, Tier::Imps, n, rest) {
-                Ok((right, rest)) => Ok((node::binary(alloc, place, op, left, right)?, rest)),
-                Err(stop) => Err(without(left, stop)),
-            },
-        },
+    let Some(((place, op), behind)) = next_op(edition, Tier::Imps, n, left.depth, rest) else {
+        return Ok((left, rest));
+    };
+    match boxed(alloc, edition, Tier::Imps, n, behind) {
+        Ok((right, rest)) => Ok((node::binary(alloc, place, op, left, right)?, rest)),
+        Err(stop) => Err(without(left, stop)),
     }
 }
 
@@ -403,27 +434,32 @@ fn compared(
     ensures value { ReadAnswer (λ x. (raw_tree x.0.raw, x.1.now)) result (compared_of edition (read_at edition n) n (raw_tree left.raw) tokens.now) }
     ensures deep { IfOk result (λ x. x.0.depth ≤ n + 1) }
 {
-    if let Some(((place, op), rest)) = next_op(edition, Tier::Cmps, n, left.depth, tokens) {
+    if let Some((op, rest)) = next_op(edition, Tier::Cmps, n, left.depth, tokens) {
         return match tree_at(alloc, edition, Tier::Sums, n, rest) {
-            Ok((right, rest)) => chained(alloc, edition, n, (place, op), left, right, rest),
+            Ok((right, rest)) => linked(alloc, edition, n, op, left, right, rest),
             Err(stop) => Err(without(left, stop)),
         };
     }
-    match divides_by(alloc, edition, n, &left.raw, tokens) {
-        Err(stop) => Err(without(left, stop)),
-        Ok(None) => Ok((left, tokens)),
-        Ok(Some(((place, k), rest))) => {
+    let found = match divides_by(alloc, edition, n, &left.raw, tokens) {
+        Ok(found) => found,
+        Err(stop) => return Err(without(left, stop)),
+    };
+    match found {
+        None => Ok((left, tokens)),
+        Some(((place, k), rest)) => {
             drop(left);
             let (of, rest) = boxed(alloc, edition, Tier::Sums, n, rest)?;
-            Ok((node::divides(place, k, of), rest))
+            let inner = of.depth;
+            let of = of.raw;
+            Ok((node::tree(place, RawNode::Divides { k, of }, inner), rest))
         }
     }
 }
 
-// The rest of a chain, if there is any, behind the two sides of an operation of the tier of comparisons.
+// Behind the two sides of an operation of the tier of comparisons: the rest of a chain, if it goes on.
 #[cycle(reading)]
-#[tactic(auto, unfolding(cf_reader::specs::Readers::bind, cf_reader::specs::Readers::pure, crate::specs::Reading::chained_of))]
-fn chained(
+#[tactic(auto, unfolding(cf_reader::specs::Readers::first, cf_reader::specs::Readers::bind, cf_reader::specs::Readers::pure, crate::specs::Reading::linked_of))]
+fn linked(
     alloc: Global,
     edition: Edition,
     n: u32,
@@ -436,49 +472,56 @@ fn chained(
     requires left_in { left.depth ≤ n }
     requires right_in { right.depth ≤ n }
     ensures value { ReadAnswer (λ x. (raw_tree x.0.raw, x.1.now)) result
-        (chained_of edition (read_at edition n) op (raw_tree left.raw) (raw_tree right.raw) tokens.now) }
+        (linked_of edition (read_at edition n) op (raw_tree left.raw) (raw_tree right.raw) tokens.now) }
     ensures deep { IfOk result (λ x. x.0.depth ≤ n + 1) }
 {
-    match (edition, op.1) {
-        (Edition::Three, BinOp::Compare(order)) => {
-            let links = node::linked(alloc, (op.0, order), left, right)?;
-            let (links, rest) = more_links(alloc, n, links, tokens)?;
-            Ok((node::comparison(alloc, op.0, links)?, rest))
-        }
-        _ => {
-            let right = node::boxed(alloc, right)?;
-            Ok((node::binary(alloc, op.0, op.1, left, right)?, tokens))
-        }
-    }
+    let (place, op) = op;
+    let Some(((order, link), rest)) = after_order(edition, op, tokens) else {
+        let right = node::boxed(alloc, right)?;
+        return Ok((node::binary(alloc, place, op, left, right)?, tokens));
+    };
+    let links = node::linked(alloc, place, order, left, right)?;
+    let (e, rest) = tree_at(alloc, edition, Tier::Sums, n, rest)?;
+    let links = node::more_linked(links, link, e)?;
+    let (links, rest) = more_links(alloc, edition, n, tokens.len(), links, rest)?;
+    let parts = links.parts;
+    let node = RawNode::Chain {
+        orders: links.orders,
+        places: links.places,
+        parts: parts.trees,
+    };
+    Ok((node::tree(place, node, parts.depth), rest))
 }
 
-// More links of a chain, behind those read before.
+// More links of a chain, behind those read before: fewer than `most`, the number of tokens that were left before the last one.
 #[cycle(reading)]
-#[tactic(auto, unfolding(crate::specs::Reading::all_links))]
 fn more_links(
     alloc: Global,
+    edition: Edition,
     n: u32,
-    first: MeasuredLinks,
+    most: usize,
+    first: Links,
     tokens: &[Token],
-) -> Result<(MeasuredLinks, &[Token]), ReadStop>
+) -> Result<(Links, &[Token]), ReadStop>
     requires small { n < 2 ^ 30 }
-    requires first_in { first.depth ≤ n }
-    ensures value { ReadAnswer (λ x. (links_tree x.0, x.1.now)) result (all_links (read_at Three n) (links_tree first) tokens.now) }
-    ensures deep { IfOk result (λ x. x.0.depth ≤ n) }
+    requires first_in { first.parts.depth ≤ n }
+    ensures value { ReadAnswer (λ x. (links_tree x.0, x.1.now)) result (links_of (read_at edition n) most (links_tree first) tokens.now) }
+    ensures deep { IfOk result (λ x. x.0.parts.depth ≤ n) }
 {
     let mut done = first;
     let mut rest = tokens;
-    for _ in 0..tokens.len() {
+    for _ in 0..most {
         match next_order(&done.orders, rest) {
             None => return Ok((done, rest)),
             Some((link, behind)) => {
-                let (e, behind) = tree_at(alloc, Edition::Three, Tier::Sums, n, behind)?;
+                let (e, behind) = tree_at(alloc, edition, Tier::Sums, n, behind)?;
                 done = node::more_linked(done, link, e)?;
                 rest = behind;
             }
         }
     }
-    Ok((done, rest))
+    // for the proof: the loop ends before
+    Err(ReadStop::TokensLeft(0))
 }
 
 // Joined by `+`, `-`, `union` or `diff`.
@@ -568,14 +611,16 @@ fn unary(
             return Err(ReadStop::TokensLeft(tokens.len()));
         }
         let (e, rest) = boxed(alloc, edition, Tier::Unary, n, rest)?;
-        return Ok((node::neg(place, e), rest));
+        let inner = e.depth;
+        return Ok((node::tree(place, RawNode::Neg(e.raw), inner), rest));
     }
     if let Some((place, rest)) = after_sign("!", tokens) {
         if n == 0 {
             return Err(ReadStop::TokensLeft(tokens.len()));
         }
         let (e, rest) = boxed(alloc, edition, Tier::Unary, n, rest)?;
-        return Ok((node::not(place, e), rest));
+        let inner = e.depth;
+        return Ok((node::tree(place, RawNode::Not(e.raw), inner), rest));
     }
     atom(alloc, edition, n, tokens)
 }
@@ -594,7 +639,7 @@ fn atom(
     ensures deep { IfOk result (λ x. x.0.depth ≤ n + 1) }
 {
     if let Some(((place, k), rest)) = literal_at_least(0, tokens) {
-        return Ok((node::literal(place, k), rest));
+        return Ok((node::tree(place, RawNode::Lit(k), 0), rest));
     }
     if let Some((place, rest)) = after_sign("(", tokens) {
         if n == 0 {
@@ -605,14 +650,15 @@ fn atom(
     }
     if let Some((place, rest)) = after_sign("{", tokens) {
         let (es, rest) = items(alloc, edition, n, "}", rest)?;
-        return Ok((node::set_of(place, es), rest));
+        let inner = es.depth;
+        return Ok((node::tree(place, RawNode::SetOf(es.trees), inner), rest));
     }
     word(alloc, edition, n, tokens)
 }
 
 // A form that begins with a word.
 #[cycle(reading)]
-#[tactic(auto, unfolding(cf_reader::specs::Readers::first, cf_reader::specs::Readers::bind, cf_reader::specs::Readers::pure, crate::specs::Reading::word_of))]
+#[tactic(auto, unfolding(cf_reader::specs::Readers::first, cf_reader::specs::Readers::deep, cf_reader::specs::Readers::bind, cf_reader::specs::Readers::pure, crate::specs::Reading::word_of))]
 fn word(
     alloc: Global,
     edition: Edition,
@@ -623,61 +669,17 @@ fn word(
     ensures value { ReadAnswer (λ x. (raw_tree x.0.raw, x.1.now)) result (word_of edition (read_at edition n) n tokens.now) }
     ensures deep { IfOk result (λ x. x.0.depth ≤ n + 1) }
 {
-    match edition {
-        Edition::Two => word_of_two(alloc, n, tokens),
-        Edition::Three => {
-            if let Some(((place, t), rest)) = truth(tokens) {
-                return Ok((node::truth(place, t), rest));
-            }
-            name_or_call(alloc, edition, n, tokens)
-        }
-    }
-}
-
-// A form of language 2 that begins with a word: there the word of an operation is reserved.
-#[cycle(reading)]
-#[tactic(auto, unfolding(cf_reader::specs::Readers::first, cf_reader::specs::Readers::deep, cf_reader::specs::Readers::bind, cf_reader::specs::Readers::pure, crate::specs::Reading::word_of, crate::specs::Reading::inside_of))]
-fn word_of_two(alloc: Global, n: u32, tokens: &[Token]) -> Result<(Measured, &[Token]), ReadStop>
-    requires { n < 2 ^ 30 }
-    ensures value { ReadAnswer (λ x. (raw_tree x.0.raw, x.1.now)) result (word_of Two (read_at Two n) n tokens.now) }
-    ensures deep { IfOk result (λ x. x.0.depth ≤ n + 1) }
-{
     if let Some(((place, t), rest)) = truth(tokens) {
-        return Ok((node::truth(place, t), rest));
+        return Ok((node::tree(place, RawNode::Truth(t), 0), rest));
     }
-    if let Some((place, rest)) = after_word("card", tokens) {
+    if let Some(((place, op), rest)) = reserved_op(edition, tokens) {
         if n == 0 {
             return Err(ReadStop::TokensLeft(tokens.len()));
         }
         let (_, rest) = expect_sign("(", rest)?;
-        let (e, rest) = inside(alloc, Edition::Two, n, rest)?;
-        return Ok((node::card(place, e), rest));
+        return operation(alloc, edition, n, place, op, rest);
     }
-    if let Some((place, rest)) = after_word("abs", tokens) {
-        if n == 0 {
-            return Err(ReadStop::TokensLeft(tokens.len()));
-        }
-        let (_, rest) = expect_sign("(", rest)?;
-        let (e, rest) = inside(alloc, Edition::Two, n, rest)?;
-        return Ok((node::abs(place, e), rest));
-    }
-    if let Some((place, rest)) = after_word("div", tokens) {
-        if n == 0 {
-            return Err(ReadStop::TokensLeft(tokens.len()));
-        }
-        let (_, rest) = expect_sign("(", rest)?;
-        let ((e, k), rest) = divided(alloc, Edition::Two, n, rest)?;
-        return Ok((node::div(place, e, k), rest));
-    }
-    if let Some((place, rest)) = after_word("mod", tokens) {
-        if n == 0 {
-            return Err(ReadStop::TokensLeft(tokens.len()));
-        }
-        let (_, rest) = expect_sign("(", rest)?;
-        let ((e, k), rest) = divided(alloc, Edition::Two, n, rest)?;
-        return Ok((node::modulo(place, e, k), rest));
-    }
-    name_or_call(alloc, Edition::Two, n, tokens)
+    name_or_call(alloc, edition, n, tokens)
 }
 
 // A name, a call, or an operation of edition 3.
@@ -695,50 +697,68 @@ fn name_or_call(
 {
     let ((place, name), rest) = expect_name(alloc, edition, tokens)?;
     let Some((_, behind)) = after_sign("(", rest) else {
-        return Ok((node::name(place, name), rest));
+        return Ok((node::tree(place, RawNode::Name(name), 0), rest));
     };
-    if is_operation(edition, &name.bytes) {
+    if let Some(op) = op_of_name(edition, &name.bytes) {
         if n == 0 {
             return Err(ReadStop::TokensLeft(rest.len()));
         }
-        return operated(alloc, n, place, name, behind);
+        return operation(alloc, edition, n, place, op, behind);
     }
     let (es, rest) = items(alloc, edition, n, ")", behind)?;
-    Ok((node::call(place, name, es), rest))
+    let inner = es.depth;
+    let args = es.trees;
+    Ok((node::tree(place, RawNode::Call { name, args }, inner), rest))
 }
 
-// Behind the word of an operation of edition 3 and its parenthesis.
+// Behind the word of an operation and its parenthesis.
 #[cycle(reading)]
 #[tactic(auto, unfolding(cf_reader::specs::Readers::bind, cf_reader::specs::Readers::pure, crate::specs::Reading::operation_of))]
-fn operated(
+fn operation(
     alloc: Global,
+    edition: Edition,
     n: u32,
     place: Place,
-    word: Text,
+    op: NamedOp,
     tokens: &[Token],
 ) -> Result<(Measured, &[Token]), ReadStop>
     requires { n < 2 ^ 30 }
-    ensures value { ReadAnswer (λ x. (raw_tree x.0.raw, x.1.now)) result (operation_of (read_at Three n) (place, word) tokens.now) }
+    ensures value { ReadAnswer (λ x. (raw_tree x.0.raw, x.1.now)) result (operation_of edition (read_at edition n) place op tokens.now) }
     ensures deep { IfOk result (λ x. x.0.depth ≤ n + 1) }
 {
-    if spells(&word.bytes, "card") {
-        let (e, rest) = inside(alloc, Edition::Three, n, tokens)?;
-        Ok((node::card(place, e), rest))
-    } else if spells(&word.bytes, "abs") {
-        let (e, rest) = inside(alloc, Edition::Three, n, tokens)?;
-        Ok((node::abs(place, e), rest))
-    } else if spells(&word.bytes, "div") {
-        let ((e, k), rest) = divided(alloc, Edition::Three, n, tokens)?;
-        Ok((node::div(place, e, k), rest))
-    } else if spells(&word.bytes, "mod") {
-        let ((e, k), rest) = divided(alloc, Edition::Three, n, tokens)?;
-        Ok((node::modulo(place, e, k), rest))
-    } else if spells(&word.bytes, "min") {
-        let (es, rest) = two_or_more(alloc, n, tokens)?;
-        Ok((node::min(place, es), rest))
-    } else {
-        let (es, rest) = two_or_more(alloc, n, tokens)?;
-        Ok((node::max(place, es), rest))
+    match op {
+        NamedOp::Card => {
+            let (e, rest) = inside(alloc, edition, n, tokens)?;
+            let inner = e.depth;
+            Ok((node::tree(place, RawNode::Card(e.raw), inner), rest))
+        }
+        NamedOp::Abs => {
+            let (e, rest) = inside(alloc, edition, n, tokens)?;
+            let inner = e.depth;
+            Ok((node::tree(place, RawNode::Abs(e.raw), inner), rest))
+        }
+        NamedOp::Div => {
+            let ((e, k), rest) = divided(alloc, edition, n, tokens)?;
+            let inner = e.depth;
+            let of = e.raw;
+            Ok((node::tree(place, RawNode::Div { of, k }, inner), rest))
+        }
+        NamedOp::Mod => {
+            let ((e, k), rest) = divided(alloc, edition, n, tokens)?;
+            let inner = e.depth;
+            let of = e.raw;
+            Ok((node::tree(place, RawNode::Mod { of, k }, inner), rest))
+        }
+        NamedOp::Min => {
+            let (es, rest) = two_or_more(alloc, edition, n, tokens)?;
+            let inner = es.depth;
+            Ok((node::tree(place, RawNode::Min(es.trees), inner), rest))
+        }
+        NamedOp::Max => {
+            let (es, rest) = two_or_more(alloc, edition, n, tokens)?;
+            let inner = es.depth;
+            Ok((node::tree(place, RawNode::Max(es.trees), inner), rest))
+        }
     }
 }
 
@@ -747,18 +767,20 @@ fn operated(
 #[tactic(auto, unfolding(cf_reader::specs::Readers::bind, cf_reader::specs::Readers::several_of, crate::specs::Reading::two_or_more_of))]
 fn two_or_more(
     alloc: Global,
+    edition: Edition,
     n: u32,
     tokens: &[Token],
 ) -> Result<(MeasuredList, &[Token]), ReadStop>
     requires { n < 2 ^ 30 }
-    ensures value { ReadAnswer (λ x. (map raw_tree x.0.trees.items, x.1.now)) result (two_or_more_of (read_at Three n) tokens.now) }
+    ensures value { ReadAnswer (λ x. (map raw_tree x.0.trees.items, x.1.now)) result (two_or_more_of (read_at edition n) tokens.now) }
     ensures deep { IfOk result (λ x. x.0.depth ≤ n) }
 {
-    let (e, rest) = tree_at(alloc, Edition::Three, Tier::Whole, n, tokens)?;
+    let (e, rest) = tree_at(alloc, edition, Tier::Whole, n, tokens)?;
+    let first = node::pushed(node::none(alloc), e)?;
     let (_, rest) = expect_sign(",", rest)?;
-    let (f, rest) = tree_at(alloc, Edition::Three, Tier::Whole, n, rest)?;
-    let first = node::pushed(node::pushed(node::none(alloc), e)?, f)?;
-    more(alloc, Edition::Three, n, ")", first, rest)
+    let (e, rest) = tree_at(alloc, edition, Tier::Whole, n, rest)?;
+    let first = node::pushed(first, e)?;
+    more(alloc, edition, n, ")", first, rest)
 }
 
 // An expression up to the closing parenthesis.

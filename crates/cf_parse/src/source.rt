@@ -1,7 +1,6 @@
 //! Reads programs.
 ghost use Rattle.std.specs.Prelude.{◌≡◌, ◌<◌, ◌^◌, IfOk, IfErr, List, map};
 ghost use Rattle.cf_lex.specs.declared.token.Token.{Token};
-ghost use Rattle.cf_tree.specs.declared.base.Edition.TheVariants.{Three};
 ghost use Rattle.cf_tree.specs.declared.raw.RawItem.TheVariants.{Const};
 ghost use Rattle.cf_reader.specs.Answers.{ReadAnswer};
 ghost use Rattle.cf_reader.specs.Readers.{must};
@@ -12,9 +11,10 @@ ghost use Rattle.cf_parse.specs.Programs.{IsProgram, SomeProgram, ParseAnswer, d
 use crate::lists::maybe_params;
 use crate::reading::tree_at;
 use crate::tier::Tier;
+use crate::words::after_word_of_three;
 use cf_lex::{Token, TokenKind, TokenList};
 use cf_reader::{
-    ParseFault, ReadStop, after_word, expect_function, expect_name, expect_sign, expect_word,
+    ParseFault, ReadStop, expect_function, expect_name, expect_sign, expect_word,
     place_at, results,
 };
 use cf_tree::{Edition, Place, Program, RawConst, RawDef, RawItem};
@@ -54,21 +54,20 @@ fn def(
 
 // A constant behind the word `const`, with an expression of depth at most `limit`.
 #[tactic(auto, unfolding(cf_reader::specs::Readers::bind, cf_reader::specs::Readers::pure, crate::specs::Programs::const_from))]
-fn constant(alloc: Global, limit: u32, tokens: &[Token]) -> Result<(RawConst, &[Token]), ReadStop>
+fn constant(
+    alloc: Global,
+    edition: Edition,
+    limit: u32,
+    tokens: &[Token],
+) -> Result<(RawConst, &[Token]), ReadStop>
     requires { limit < 2 ^ 30 }
-    ensures { ReadAnswer (λ x. (raw_item_tree (Const x.0), x.1.now)) result (const_from limit tokens.now) }
+    ensures { ReadAnswer (λ x. (raw_item_tree (Const x.0), x.1.now)) result (const_from edition limit tokens.now) }
 {
-    let ((place, name), rest) = expect_name(alloc, Edition::Three, tokens)?;
+    let ((place, name), rest) = expect_name(alloc, edition, tokens)?;
     let (_, rest) = expect_sign("=", rest)?;
-    let (value, rest) = tree_at(alloc, Edition::Three, Tier::Whole, limit, rest)?;
-    Ok((
-        RawConst {
-            place,
-            name,
-            value: value.raw,
-        },
-        rest,
-    ))
+    let (value, rest) = tree_at(alloc, edition, Tier::Whole, limit, rest)?;
+    let value = value.raw;
+    Ok((RawConst { place, name, value }, rest))
 }
 
 // A function, or in edition 3 a constant.
@@ -82,11 +81,9 @@ fn item(
     requires { limit < 2 ^ 30 }
     ensures { ReadAnswer (λ x. (raw_item_tree x.0, x.1.now)) result (item_of edition limit tokens.now) }
 {
-    if edition == Edition::Three {
-        if let Some((_, rest)) = after_word("const", tokens) {
-            let (constant, rest) = constant(alloc, limit, rest)?;
-            return Ok((RawItem::Const(constant), rest));
-        }
+    if let Some((_, rest)) = after_word_of_three(edition, "const", tokens) {
+        let (constant, rest) = constant(alloc, edition, limit, rest)?;
+        return Ok((RawItem::Const(constant), rest));
     }
     let (place, rest) = expect_word("def", tokens)?;
     let (def, rest) = def(alloc, edition, limit, place, rest)?;

@@ -1,14 +1,16 @@
 //! Operations that stand first, and their tiers.
 ghost use Rattle.std.specs.Prelude.{◌≡◌, ◌≤◌, IfOk, IfSome, Ok, Option, None, Some};
+ghost use Rattle.std.specs.List.{list_all};
+ghost use Rattle.cf_lex.specs.declared.token.TokenKind.TheVariants.{Word, Sign};
 ghost use Rattle.cf_tree.specs.RawView.{raw_tree, number_tree};
 ghost use Rattle.cf_reader.specs.Answers.{FirstAnswer, ReadAnswer};
-ghost use Rattle.cf_reader.specs.Readers.{at, must, snoc};
+ghost use Rattle.cf_reader.specs.Readers.{at, is, snoc};
 ghost use Rattle.cf_parse.specs.Spelling.{under as under_of, op_tier as op_tier_of, rank as rank_of, relation_tier as relation_tier_of, is_upward, is_downward, runs_one_way};
-ghost use Rattle.cf_parse.specs.Reading.{next_op as next_op_of, next_order as next_order_of, lone_number as lone_number_of, is_divisor as is_divisor_of, divides_by as divides_by_of, a_number, a_sense};
+ghost use Rattle.cf_parse.specs.Reading.{in_three, next_op as next_op_of, next_order as next_order_of, second_order, lone_number as lone_number_of, is_divisor as is_divisor_of, divides_by as divides_by_of, number_of, a_sense, shared_named_op as shared_named_op_of, reserved_op as reserved_op_of, op_of_name as op_of_name_of};
 
 use crate::tier::Tier;
 use cf_lex::{Token, TokenKind};
-use cf_reader::{ReadStop, after_word, expect_name, literal_at_least, operation, spells};
+use cf_reader::{ReadStop, after_sign, after_word, expect_name, literal_at_least, operation, spells};
 use cf_tree::{BinOp, Edition, Number, Order, Place, Raw, RawNode, Sense};
 use std::alloc::Global;
 
@@ -114,20 +116,41 @@ fn downward(order: Order) -> bool
     }
 }
 
+fn all_upward(orders: &[Order]) -> bool
+    ensures { result ≡ list_all is_upward orders.now }
+{
+    let mut rest = orders;
+    while let Some((order, more)) = rest.split_first() {
+        if !upward(*order) {
+            return false;
+        }
+        rest = more;
+    }
+    true
+}
+
+fn all_downward(orders: &[Order]) -> bool
+    ensures { result ≡ list_all is_downward orders.now }
+{
+    let mut rest = orders;
+    while let Some((order, more)) = rest.split_first() {
+        if !downward(*order) {
+            return false;
+        }
+        rest = more;
+    }
+    true
+}
+
 // Whether a chain of these orders and one more runs one way.
+#[tactic(auto, using(crate::proofs::Orders::one_way_more))]
 fn may_follow(orders: &[Order], next: Order) -> bool
     ensures { result ≡ runs_one_way (snoc orders.now next) }
 {
-    let mut up = upward(next);
-    let mut down = downward(next);
-    for order in orders {
-        up = up && upward(*order);
-        down = down && downward(*order);
-    }
-    up || down
+    (all_upward(orders) && upward(next)) || (all_downward(orders) && downward(next))
 }
 
-/// The order with which a chain goes on behind these, with its place, and the tokens after it.
+/// The order with which a chain of edition 3 goes on behind these, with its place, and the tokens after it.
 #[tactic(auto, unfolding(cf_reader::specs::Readers::at, crate::specs::Reading::next_order))]
 pub fn next_order<'a>(
     orders: &[Order],
@@ -136,14 +159,29 @@ pub fn next_order<'a>(
     ensures { FirstAnswer (λ x. (x.0, x.1.now)) result (at (next_order_of orders.now) tokens.now) }
 {
     let (t, rest) = tokens.split_first()?;
-    let BinOp::Compare(order) = operation(Edition::Three, &t.kind)? else {
+    match operation(Edition::Three, &t.kind)? {
+        BinOp::Compare(order) if may_follow(orders, order) => Some(((t.place, order), rest)),
+        _ => None,
+    }
+}
+
+/// The order of an operation, and the one with which a chain of edition 3 goes on behind it, with its place, and the tokens after it.
+#[tactic(auto, unfolding(cf_reader::specs::Readers::at))]
+pub fn after_order(
+    edition: Edition,
+    op: BinOp,
+    tokens: &[Token],
+) -> Option<((Order, (Place, Order)), &[Token])>
+    ensures { FirstAnswer (λ x. (x.0, x.1.now)) result (at (second_order edition op) tokens.now) }
+{
+    let BinOp::Compare(order) = op else {
         return None;
     };
-    if may_follow(orders, order) {
-        Some(((t.place, order), rest))
-    } else {
-        None
+    if edition == Edition::Two {
+        return None;
     }
+    let (next, rest) = next_order(&[order], tokens)?;
+    Some(((order, next), rest))
 }
 
 // A literal that stands alone, in edition 3 a name too, with its place.
@@ -202,13 +240,13 @@ pub fn divides_by<'a>(
 }
 
 /// A literal of at least 1, or in edition 3 a name, which has to stand first, and the tokens after it.
-#[tactic(auto, unfolding(cf_reader::specs::Readers::must, cf_reader::specs::Readers::at))]
+#[tactic(auto, unfolding(cf_reader::specs::Readers::first, cf_reader::specs::Readers::bind, cf_reader::specs::Readers::pure, cf_reader::specs::Readers::must, cf_reader::specs::Readers::at, crate::specs::Reading::number_of))]
 pub fn expect_number(
     alloc: Global,
     edition: Edition,
     tokens: &[Token],
 ) -> Result<(Number, &[Token]), ReadStop>
-    ensures { ReadAnswer (λ x. (number_tree x.0, x.1.now)) result (must (a_number edition) tokens.now) }
+    ensures { ReadAnswer (λ x. (number_tree x.0, x.1.now)) result (number_of edition tokens.now) }
 {
     if let Some(((_, k), rest)) = literal_at_least(1, tokens) {
         return Ok((Number::Lit(k), rest));
@@ -222,20 +260,105 @@ pub fn expect_number(
     }
 }
 
-/// The word `minimise` or `maximise` that stands first, with its place, and the tokens after it.
+/// The place of the word `word` of edition 3, if it stands first, and the tokens after it.
 #[tactic(auto, unfolding(cf_reader::specs::Readers::at))]
-pub fn after_sense(tokens: &[Token]) -> Option<((Place, Sense), &[Token])>
-    ensures { FirstAnswer (λ x. (x.0, x.1.now)) result (at a_sense tokens.now) }
+pub fn after_word_of_three<'a>(
+    edition: Edition,
+    word: &str,
+    tokens: &'a [Token],
+) -> Option<(Place, &'a [Token])>
+    ensures { FirstAnswer (λ x. (x.0, x.1.now)) result (at (in_three edition (is (Word word.now))) tokens.now) }
 {
-    let (t, rest) = tokens.split_first()?;
-    let TokenKind::Word(word) = &t.kind else {
-        return None;
-    };
-    if spells(&word.bytes, "minimise") {
-        Some(((t.place, Sense::Least), rest))
-    } else if spells(&word.bytes, "maximise") {
-        Some(((t.place, Sense::Greatest), rest))
+    match edition {
+        Edition::Two => None,
+        Edition::Three => after_word(word, tokens),
+    }
+}
+
+/// The place of the sign `sign` of edition 3, if it stands first, and the tokens after it.
+#[tactic(auto, unfolding(cf_reader::specs::Readers::at))]
+pub fn after_sign_of_three<'a>(
+    edition: Edition,
+    sign: &str,
+    tokens: &'a [Token],
+) -> Option<(Place, &'a [Token])>
+    ensures { FirstAnswer (λ x. (x.0, x.1.now)) result (at (in_three edition (is (Sign sign.now))) tokens.now) }
+{
+    match edition {
+        Edition::Two => None,
+        Edition::Three => after_sign(sign, tokens),
+    }
+}
+
+/// The word `minimise` or `maximise` of edition 3 that stands first, with its place, and the tokens after it.
+#[tactic(auto, unfolding(cf_reader::specs::Readers::at))]
+pub fn after_sense(edition: Edition, tokens: &[Token]) -> Option<((Place, Sense), &[Token])>
+    ensures { FirstAnswer (λ x. (x.0, x.1.now)) result (at (in_three edition a_sense) tokens.now) }
+{
+    if let Some((place, rest)) = after_word_of_three(edition, "minimise", tokens) {
+        return Some(((place, Sense::Least), rest));
+    }
+    let (place, rest) = after_word_of_three(edition, "maximise", tokens)?;
+    Some(((place, Sense::Greatest), rest))
+}
+
+/// An operation that is written as a word before parentheses.
+#[derive(Clone, Copy)]
+pub enum NamedOp {
+    Card,
+    Abs,
+    Div,
+    Mod,
+    Min,
+    Max,
+}
+
+// The operation of a word that both editions have.
+fn shared_named_op(word: &[u8]) -> Option<NamedOp>
+    ensures { result ≡ shared_named_op_of word.now }
+{
+    if spells(word, "card") {
+        Some(NamedOp::Card)
+    } else if spells(word, "abs") {
+        Some(NamedOp::Abs)
+    } else if spells(word, "div") {
+        Some(NamedOp::Div)
+    } else if spells(word, "mod") {
+        Some(NamedOp::Mod)
     } else {
         None
+    }
+}
+
+/// The operation whose word stands first, with its place, and the tokens after it, in language 2, where these words are reserved.
+#[tactic(auto, unfolding(cf_reader::specs::Readers::at))]
+pub fn reserved_op(edition: Edition, tokens: &[Token]) -> Option<((Place, NamedOp), &[Token])>
+    ensures { FirstAnswer (λ x. (x.0, x.1.now)) result (at (reserved_op_of edition) tokens.now) }
+{
+    if edition == Edition::Three {
+        return None;
+    }
+    let (t, rest) = tokens.split_first()?;
+    match &t.kind {
+        TokenKind::Word(word) => Some(((t.place, shared_named_op(&word.bytes)?), rest)),
+        _ => None,
+    }
+}
+
+/// The operation that a name is where a parenthesis follows, in edition 3.
+pub fn op_of_name(edition: Edition, name: &[u8]) -> Option<NamedOp>
+    ensures { result ≡ op_of_name_of edition name.now }
+{
+    match edition {
+        Edition::Two => None,
+        Edition::Three => {
+            if spells(name, "min") {
+                Some(NamedOp::Min)
+            } else if spells(name, "max") {
+                Some(NamedOp::Max)
+            } else {
+                shared_named_op(name)
+            }
+        }
     }
 }

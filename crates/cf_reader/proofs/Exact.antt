@@ -1,17 +1,19 @@
 -- What readers give on given tokens: equations, put together as the readers are.
-use Rattle.std.proofs.Common.{◌≡◌, ◌⊎◌, inl, inr, ℕ, suc, zero, ◌≤◌, Bool, true, false, List, [], ◌∷◌, length, Some, None, Ok, Err, refl, ap, subst, ◌∙◌, cond, T, arith}
+use Rattle.std.proofs.Common.{◌≡◌, ◌⊎◌, inl, inr, ℕ, suc, zero, ◌≤◌, Bool, true, false, List, [], ◌∷◌, length, Some, None, Ok, Err, refl, sym, ap, ◌||◌, subst, ◌∙◌, cond, T, arith}
 use Rattle.std.specs.Prelude.{ℤ, ◌≤ℤ◌, int_le, codes}
 use Rattle.std.specs.Str.{bytes_eq}
 use Rattle.std.proofs.lemmas.Slice.Eq.{bytes_eq-Decides}
-use Rattle.cf_lex.specs.Words.{is_reserved}
+use Rattle.cf_lex.specs.Words.{is_reserved, is_operation, is_no_function}
+use Rattle.cf_tree.specs.declared.base.Edition.{Edition}
 use Rattle.cf_lex.specs.declared.token.Token.{Token}
 use Rattle.cf_lex.specs.declared.token.TokenKind.{TokenKind}
 use Rattle.cf_lex.specs.declared.token.TokenKind.TheVariants.{Word, Sign}
 use Rattle.cf_tree.specs.declared.base.Place.{Place}
-use Rattle.cf_reader.specs.Tokens.{First, Next, FirstName, FirstLiteral, Others, Several, OneOrTuple}
-use Rattle.cf_reader.specs.Readers.{Got, Reader, Test, same_kind, before, is, a_name, a_literal, at, pure, must, bind, first, deep, more_of, others_of, several_of, one_or_tuple}
+use Rattle.cf_reader.specs.Tokens.{First, Next, FirstName, FirstFunction, FirstLiteral, Others, Several, OneOrTuple}
+use Rattle.cf_reader.specs.Readers.{Got, Reader, Test, same_kind, before, is, a_name, a_function, a_literal, at, pure, must, bind, first, deep, more_of, others_of, several_of, one_or_tuple}
 use Rattle.cf_reader.proofs.Near.{Within, ok_in, err_in, must_local}
 use Rattle.cf_reader.proofs.Yields.{added}
+use Rattle.cf_reader.proofs.Reserved.{function_parts}
 
 bound_is : {A B : Type 0} (f : A → Reader B) (r : Got A) (x : A) (us : List Token) (y : Got B) → r ≡ Ok (x, us) → f x us ≡ y →
     elim r [ Ok a ↦ f a.0 a.1 | Err e ↦ Err e ] ≡ y
@@ -72,19 +74,35 @@ false_from true h = absurd (h refl)
 false_from false h = refl
 
 -- a name is no reserved word
-pub name_differs : (x w : List ℕ) → is_reserved x ≡ false → is_reserved w ≡ true → bytes_eq x w ≡ false
-name_differs x w e r = false_from (bytes_eq x w) (λ h. let s : x ≡ w = (bytes_eq-Decides x w).0 h in
-    let t : is_reserved x ≡ true = ap (λ y. is_reserved y) s ∙ r in clash (is_reserved x) e t)
+pub name_differs : (edition : Edition) (x w : List ℕ) → is_reserved edition x ≡ false → is_reserved edition w ≡ true → bytes_eq x w ≡ false
+name_differs edition x w e r = false_from (bytes_eq x w) (λ h. let s : x ≡ w = (bytes_eq-Decides x w).0 h in
+    let t : is_reserved edition x ≡ true = ap (λ y. is_reserved edition y) s ∙ r in clash (is_reserved edition x) e t)
   where
     clash : (b : Bool) → b ≡ false → b ≡ true → ⊥
     clash b f t = cc
 
-pub name_not : (w : List ℕ) (ts us : List Token) (p : Place) (x : List ℕ) → is_reserved w ≡ true → FirstName p x ts us → at (is (Word w)) ts ≡ None
-name_not w ts us p x r n = at_not (Word w) (Word x) ts us p (name_differs x w n.1 r) n.0
+pub name_not : (edition : Edition) (w : List ℕ) (ts us : List Token) (p : Place) (x : List ℕ) → is_reserved edition w ≡ true → FirstName edition p x ts us → at (is (Word w)) ts ≡ None
+name_not edition w ts us p x r n = at_not (Word w) (Word x) ts us p (name_differs edition x w n.1 r) n.0
 
-pub name_is : (ts us : List Token) (p : Place) (x : List ℕ) → FirstName p x ts us → at a_name ts ≡ Some ((p, x), us)
+pub name_is : (edition : Edition) (ts us : List Token) (p : Place) (x : List ℕ) → FirstName edition p x ts us → at (a_name edition) ts ≡ Some ((p, x), us)
 unfolding at
-name_is ts us p x n = ap (at a_name) n.0 ∙ ap (λ b. before us (cond b None (Some (p, x)))) n.1
+name_is edition ts us p x n = ap (at (a_name edition)) n.0 ∙ ap (λ b. before us (cond b None (Some (p, x)))) n.1
+
+pub function_is : (edition : Edition) (ts us : List Token) (p : Place) (x : List ℕ) → FirstFunction edition p x ts us →
+    at (a_function edition) ts ≡ Some ((p, x), us)
+unfolding at
+function_is edition ts us p x n = ap (at (a_function edition)) n.0 ∙ ap (λ b. before us (cond b None (Some (p, x)))) n.1
+
+-- the name of a function is a name, and no operation
+pub function_free : (edition : Edition) (x : List ℕ) → is_no_function edition x ≡ false → (is_reserved edition x ≡ false) × (is_operation edition x ≡ false)
+function_free edition x e = by (is_operation edition x) (is_reserved edition x) (sym (function_parts edition x) ∙ e)
+  where
+    by : (a b : Bool) → (a || b) ≡ false → (b ≡ false) × (a ≡ false)
+    by true b e = cc
+    by false b e = (e, refl)
+
+pub function_name : (edition : Edition) (p : Place) (x : List ℕ) (ts us : List Token) → FirstFunction edition p x ts us → FirstName edition p x ts us
+function_name edition p x ts us n = (n.0, (function_free edition x n.1).0)
 
 pub from_T : (b : Bool) → T b → b ≡ true
 from_T true t = refl

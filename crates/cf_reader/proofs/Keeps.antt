@@ -1,15 +1,16 @@
 -- Facts that spelled tokens have where their literals are within the limit, put together as the grammars are.
-use Rattle.std.proofs.Common.{◌≡◌, ℕ, ◌-◌, ◌^◌, ◌≤◌, List, [], ◌∷◌, length, sym, subst, arith}
+use Rattle.std.proofs.Common.{ℕ, ◌-◌, ◌^◌, ◌≤◌, List, [], ◌∷◌, length, sym, subst, arith}
 use Rattle.std.specs.Prelude.{ℤ, ◌≤ℤ◌, All}
 use Rattle.std.proofs.lemmas.List.Elements.{All-nil, All-cons}
 use Rattle.cf_num.specs.Limit.{IsWithin}
 use Rattle.cf_lex.specs.Tokens.{AreWithin}
+use Rattle.cf_tree.specs.declared.base.Edition.{Edition}
 use Rattle.cf_lex.specs.declared.token.Token.{Token}
 use Rattle.cf_lex.specs.declared.token.TokenKind.{TokenKind}
 use Rattle.cf_lex.specs.declared.token.TokenKind.TheVariants.{Word}
 use Rattle.cf_tree.specs.declared.base.Place.{Place}
 use Rattle.cf_tree.specs.declared.base.Base.{Base}
-use Rattle.cf_reader.specs.Tokens.{Form, ◌⨟◌, Nothing, If, First, Next, FirstName, NextName, FirstLiteral, NextLiteral, Others, Several, AnyNumber, OneOrTuple}
+use Rattle.cf_reader.specs.Tokens.{Form, ◌⨟◌, Nothing, If, First, Next, FirstName, FirstFunction, NextFunction, FirstLiteral, NextLiteral, Others, Several, AnyNumber, OneOrTuple}
 use Rattle.cf_reader.specs.Kinds.{SpellsBase, base_kind}
 
 -- all literals are within the limit
@@ -59,11 +60,14 @@ skip {k = k} h = past (one k) h
 pub closed : {X : Form} {P : Type 0} {k : TokenKind} → Keeps X P → Keeps (X ⨟ Next k) P
 closed {k = k} h = behind (λ x. x.0) (both h (one k))
 
-pub name_keeps : (p : Place) (x : List ℕ) → Keeps (FirstName p x) (Unit {0})
-name_keeps p x = record { keeps = λ ts us s w. (first_keeps p (Word x)).keeps ts us s w.0 }
+pub name_keeps : (edition : Edition) (p : Place) (x : List ℕ) → Keeps (FirstName edition p x) (Unit {0})
+name_keeps edition p x = record { keeps = λ ts us s w. (first_keeps p (Word x)).keeps ts us s w.0 }
 
-pub next_name_keeps : (x : List ℕ) → Keeps (NextName x) (Unit {0})
-next_name_keeps x = record { keeps = λ ts us s w. (name_keeps w.0 x).keeps ts us s w.1 }
+pub function_keeps : (edition : Edition) (p : Place) (x : List ℕ) → Keeps (FirstFunction edition p x) (Unit {0})
+function_keeps edition p x = record { keeps = λ ts us s w. (first_keeps p (Word x)).keeps ts us s w.0 }
+
+pub next_function_keeps : (edition : Edition) (x : List ℕ) → Keeps (NextFunction edition x) (Unit {0})
+next_function_keeps edition x = record { keeps = λ ts us s w. (function_keeps edition w.0 x).keeps ts us s w.1 }
 
 pub literal_keeps : (least : ℤ) (p : Place) (n : ℤ) → Keeps (FirstLiteral least p n) ((least ≤ℤ n) × IsWithin n)
 literal_keeps least p n = record {

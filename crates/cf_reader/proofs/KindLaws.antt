@@ -1,8 +1,10 @@
 -- Reading bases and truth values.
 use Rattle.std.proofs.Common.{◌≡◌, inl, inr, ℕ, Bool, true, false, List, [], Some, None, Ok, refl, sym, ap, subst, ◌∙◌, cond}
-use Rattle.std.specs.Prelude.{ℤ, pos, codes}
+use Rattle.std.specs.Prelude.{pos, codes}
 use Rattle.std.specs.Str.{bytes_eq}
 use Rattle.cf_lex.specs.Words.{is_reserved}
+use Rattle.cf_tree.specs.declared.base.Edition.{Edition}
+use Rattle.cf_tree.specs.declared.base.Edition.TheVariants.{Two, Three}
 use Rattle.cf_lex.specs.declared.token.Token.{Token}
 use Rattle.cf_lex.specs.declared.token.TokenKind.{TokenKind}
 use Rattle.cf_lex.specs.declared.token.TokenKind.TheVariants.{Literal, Word, Sign}
@@ -99,12 +101,16 @@ pub truth_literal : (b : Bool) (p : Place) (ts us : List Token) → First p (tru
 truth_literal true p ts us w = no_literal p (codes "true") ts us w
 truth_literal false p ts us w = no_literal p (codes "false") ts us w
 
-pub names_true : (x : List ℕ) → is_reserved x ≡ false → (p : Place) (ts us : List Token) → First p (Word x) ts us → at a_truth ts ≡ None
+pub names_true : (edition : Edition) (x : List ℕ) → is_reserved edition x ≡ false → (p : Place) (ts us : List Token) → First p (Word x) ts us → at a_truth ts ≡ None
 unfolding at
-names_true x r p ts us w =
+names_true Two x r p ts us w =
     ap (at a_truth) w ∙ ap (λ b. before us (cond b (Some (p, true)) (cond (bytes_eq x (codes "false")) (Some (p, false)) None)))
-    (name_differs x (codes "true") r refl)
-    ∙ ap (λ b. before us (cond b (Some (p, false)) None)) (name_differs x (codes "false") r refl)
+    (name_differs Two x (codes "true") r refl)
+    ∙ ap (λ b. before us (cond b (Some (p, false)) None)) (name_differs Two x (codes "false") r refl)
+names_true Three x r p ts us w =
+    ap (at a_truth) w ∙ ap (λ b. before us (cond b (Some (p, true)) (cond (bytes_eq x (codes "false")) (Some (p, false)) None)))
+    (name_differs Three x (codes "true") r refl)
+    ∙ ap (λ b. before us (cond b (Some (p, false)) None)) (name_differs Three x (codes "false") r refl)
 
 pub no_truth : (x : List ℕ) (p : Place) (ts a : List Token) → a_truth (record { place = p; kind = Word x }) ≡ None → First p (Word x) ts a →
     at a_truth ts ≡ None

@@ -4,13 +4,14 @@ use Rattle.std.specs.Prelude.{ℤ, ◌≤ℤ◌, int_le, codes}
 use Rattle.std.specs.Str.{bytes_eq}
 use Rattle.std.specs.Int.Signed.{le_z_yes}
 use Rattle.std.proofs.lemmas.Slice.Eq.{bytes_eq-Decides}
-use Rattle.cf_lex.specs.Words.{is_reserved}
+use Rattle.cf_lex.specs.Words.{is_reserved, is_no_function}
+use Rattle.cf_tree.specs.declared.base.Edition.{Edition}
 use Rattle.cf_lex.specs.declared.token.Token.{Token}
 use Rattle.cf_lex.specs.declared.token.TokenKind.{TokenKind}
 use Rattle.cf_lex.specs.declared.token.TokenKind.TheVariants.{Literal, Word, Sign}
 use Rattle.cf_tree.specs.declared.base.Place.{Place}
-use Rattle.cf_reader.specs.Tokens.{First, Next, FirstName, FirstLiteral, Others, Several, OneOrTuple}
-use Rattle.cf_reader.specs.Readers.{Got, Reader, Test, same_kind, before, is, a_name, a_literal, at, pure, refuse, must, bind, first, deep, more_of, others_of, several_of, one_or_tuple}
+use Rattle.cf_reader.specs.Tokens.{First, Next, FirstName, FirstFunction, FirstLiteral, Others, Several, OneOrTuple}
+use Rattle.cf_reader.specs.Readers.{Got, Reader, Test, same_kind, before, is, a_name, a_function, a_literal, at, pure, refuse, must, bind, first, deep, more_of, others_of, several_of, one_or_tuple}
 
 -- the fact holds of what is read and of the tokens after it, if anything is read
 pub data Yields {A : Type 0} (P : A → List Token → Type 0) : Got A → Type 0 where
@@ -129,15 +130,26 @@ took_is k ts us p (t, e, f) = let h = if_some (same_kind t.kind k) t.place p f i
 pub took_next : (k : TokenKind) (ts us : List Token) (p : Place) → Took (is k) ts p us → Next k ts us
 took_next k ts us p w = (p, took_is k ts us p w)
 
-name_on : (q : Place) (k : TokenKind) (x : Place × List ℕ) → a_name (record { place = q; kind = k }) ≡ Some x →
-    (q ≡ x.0) × (k ≡ Word x.1) × (is_reserved x.1 ≡ false)
-name_on q (Word y) x e = let h = if_not_some (is_reserved y) (q, y) x e in
-    (ap (λ z. z.0) h.1, ap (λ z. Word z.1) h.1, subst (λ z. is_reserved z ≡ false) (ap (λ z. z.1) h.1) h.0)
-name_on q (Sign y) x e = cc
-name_on q (Literal n) x e = cc
+name_on : (edition : Edition) (q : Place) (k : TokenKind) (x : Place × List ℕ) → a_name edition (record { place = q; kind = k }) ≡ Some x →
+    (q ≡ x.0) × (k ≡ Word x.1) × (is_reserved edition x.1 ≡ false)
+name_on edition q (Word y) x e = let h = if_not_some (is_reserved edition y) (q, y) x e in
+    (ap (λ z. z.0) h.1, ap (λ z. Word z.1) h.1, subst (λ z. is_reserved edition z ≡ false) (ap (λ z. z.1) h.1) h.0)
+name_on edition q (Sign y) x e = cc
+name_on edition q (Literal n) x e = cc
 
-pub took_name : (ts us : List Token) (x : Place × List ℕ) → Took a_name ts x us → FirstName x.0 x.1 ts us
-took_name ts us x (t, e, f) = let h = name_on t.place t.kind x f in (same_token t x.0 (Word x.1) ts us e h.0 h.1, h.2)
+pub took_name : (edition : Edition) (ts us : List Token) (x : Place × List ℕ) → Took (a_name edition) ts x us → FirstName edition x.0 x.1 ts us
+took_name edition ts us x (t, e, f) = let h = name_on edition t.place t.kind x f in (same_token t x.0 (Word x.1) ts us e h.0 h.1, h.2)
+
+function_on : (edition : Edition) (q : Place) (k : TokenKind) (x : Place × List ℕ) → a_function edition (record { place = q; kind = k }) ≡ Some x →
+    (q ≡ x.0) × (k ≡ Word x.1) × (is_no_function edition x.1 ≡ false)
+function_on edition q (Word y) x e = let h = if_not_some (is_no_function edition y) (q, y) x e in
+    (ap (λ z. z.0) h.1, ap (λ z. Word z.1) h.1, subst (λ z. is_no_function edition z ≡ false) (ap (λ z. z.1) h.1) h.0)
+function_on edition q (Sign y) x e = cc
+function_on edition q (Literal n) x e = cc
+
+pub took_function : (edition : Edition) (ts us : List Token) (x : Place × List ℕ) → Took (a_function edition) ts x us →
+    FirstFunction edition x.0 x.1 ts us
+took_function edition ts us x (t, e, f) = let h = function_on edition t.place t.kind x f in (same_token t x.0 (Word x.1) ts us e h.0 h.1, h.2)
 
 pub in_order : (a b : ℤ) → int_le a b ≡ true → a ≤ℤ b
 in_order a b e = le_z_yes (subst T (sym e) tt)

@@ -140,6 +140,14 @@ pub fn is_operation(edition: Edition, word: &[u8]) -> bool
     }
 }
 
+// Whether a word names no function: an operation or a reserved word.
+#[tactic(auto, using(crate::proofs::Reserved::function_parts))]
+fn is_no_function(edition: Edition, word: &[u8]) -> bool
+    ensures { result ≡ no_function edition word.now }
+{
+    is_operation(edition, word) || is_reserved(edition, word)
+}
+
 // Whether a word is one of the first twelve reserved words of language 2.
 fn is_reserved_early(word: &[u8]) -> bool
     ensures { result ≡ list_any (λ r. bytes_eq word.now r) (take 12 (reserved_words Two)) }
@@ -262,8 +270,10 @@ pub fn expect_function(
         return Err(ReadStop::TokensLeft(0));
     };
     match &t.kind {
-        TokenKind::Word(x) if !is_operation(edition, &x.bytes) && !is_reserved(edition, &x.bytes) =>
-            { Ok(((t.place, x.try_copy(alloc)?), rest)) }
+        TokenKind::Word(x) if !is_no_function(edition, &x.bytes) => Ok((
+            (t.place, x.try_copy(alloc)?),
+            rest,
+        )),
         _ => Err(ReadStop::TokensLeft(tokens.len())),
     }
 }

@@ -1,13 +1,13 @@
 -- Worked examples that hold down the bases of each form of target code, and where no solve may stand.
-use Rattle.std.specs.Prelude.{ℕ, ℤ, pos, ◌≤◌, ◌≡◌, Option, Some, None, List, [], ◌∷◌, length}
-use Rattle.std.proofs.Common.{refl, ap, arith, true, false}
+use Rattle.std.specs.Prelude.{ℕ, pos, ◌≤◌, ◌≡◌, None, List, [], ◌∷◌, length}
+use Rattle.std.proofs.Common.{refl, ap, arith, true}
 use Rattle.std.proofs.lemmas.Int.{ints}
 use Rattle.std.proofs.lemmas.List.Elements.{All-cons, All-nil, All-head}
 use Rattle.cf_tree.specs.declared.base.Base.{Base}
 use Rattle.cf_tree.specs.declared.base.Base.TheVariants.{Int, Bool, Set}
 use Rattle.cf_tree.specs.declared.base.Order.TheVariants.{Eq, Ne, Lt, Le, Gt, Ge}
 use Rattle.cf_tree.specs.CodeTree.{CodeTree, code_lit, code_truth, code_var, code_set_of, code_tuple, code_sum, code_sub, code_mul, code_neg, code_div, code_mod, code_min, code_max, code_compare, code_divides, code_and, code_or, code_not, code_union, code_inter, code_diff, code_subset, code_card, code_slice, code_fresh, code_if, code_let, code_solve, codes_of, no_codes, ItemTree, items_of, need_item, let_item, ArmTree, arm_of, arms_of, no_arms}
-use Rattle.cf_tree.specs.Typing.{HasBases, HasNoSolve, ItemHasNoSolve, IsTypedCode, ask, one}
+use Rattle.cf_tree.specs.Typing.{HasBases, HasNoSolve, IsTypedCode, ask, one}
 
 -- a code with a number, a set and a truth value in scope has these bases
 abbrev Typed : CodeTree → List Base → Type 0

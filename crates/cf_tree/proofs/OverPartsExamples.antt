@@ -1,5 +1,5 @@
 -- Worked examples that hold down forms over other parts.
-use Rattle.std.specs.Prelude.{ℤ, pos, ◌≡◌, [], ◌∷◌}
+use Rattle.std.specs.Prelude.{pos, ◌≡◌, [], ◌∷◌}
 use Rattle.std.proofs.Common.{refl}
 use Rattle.cf_tree.specs.declared.base.Order.TheVariants.{Ge}
 use Rattle.cf_tree.specs.CodeTree.{CodeTree, code_var, code_set_of, code_tuple, code_sum, code_sub, code_mul, code_neg, code_div, code_mod, code_min, code_max, code_compare, code_divides, code_and, code_or, code_not, code_union, code_inter, code_diff, code_subset, code_card, code_slice, code_fresh, code_if, code_let, CodeTrees, codes_of}

@@ -1,13 +1,13 @@
 -- Worked examples that hold down what relations mean, and which are linear and typed.
-use Rattle.std.specs.Prelude.{ℕ, ℤ, pos, negsuc, ◌^◌, ◌≡◌, ◌<ℤ◌, ◌≤ℤ◌, true, List, [], ◌∷◌}
+use Rattle.std.specs.Prelude.{ℤ, pos, negsuc, ◌≡◌, true, List, [], ◌∷◌}
 use Rattle.std.proofs.Common.{refl, inl, inr, arith}
 use Rattle.std.proofs.lemmas.Int.{ints}
-use Rattle.cf_tree.specs.declared.base.Base.TheVariants.{Int, Bool, Set}
+use Rattle.cf_tree.specs.declared.base.Base.TheVariants.{Int, Set}
 use Rattle.cf_tree.specs.declared.base.Order.{Order}
 use Rattle.cf_tree.specs.declared.base.Order.TheVariants.{Eq, Ne, Lt, Le, Gt, Ge}
 use Rattle.cf_tree.specs.RelTree.{SetTree, empty_set, set_var, union_of, inter_of, diff_of, TermTree, term_lit, term_var, term_card, term_neg, term_add, term_sub, term_mul, term_div, term_mod, term_abs, RelTree, rel_true, rel_false, rel_compare, rel_same_set, rel_other_set, rel_subset, rel_divides, rel_and, rel_or, rel_not}
 use Rattle.cf_tree.specs.Relation.{members, val, Holds, Sol, is_fixed, IsLinearTerm, IsLinear, IsTypedSet, IsTypedTerm, IsTyped}
-use Rattle.cf_tree.specs.Values.{Value, number, truth, elements}
+use Rattle.cf_tree.specs.Values.{Value, number, elements}
 
 abbrev sets : List Value
 sets = elements (pos 1 ∷ pos 2 ∷ []) ∷ elements (pos 2 ∷ pos 3 ∷ []) ∷ []

@@ -1,11 +1,10 @@
 -- Worked examples that hold down which targets are spelled.
-use Rattle.std.specs.Prelude.{ℕ, ℤ, pos, negsuc, neg_ℤ, ◌^◌, ◌-◌, ◌<◌, ◌≤◌, ◌≡◌, List, [], ◌∷◌, length}
-use Rattle.std.proofs.Common.{refl, ap, arith, true}
+use Rattle.std.specs.Prelude.{ℕ, pos, negsuc, neg_ℤ, ◌^◌, ◌-◌, ◌<◌, ◌≤◌, ◌≡◌, List, [], ◌∷◌, length}
+use Rattle.std.proofs.Common.{ap, arith}
 use Rattle.std.proofs.lemmas.Int.{ints}
-use Rattle.std.proofs.lemmas.List.Elements.{All-cons, All-nil, All-head}
-use Rattle.cf_num.specs.Limit.{IsWithin}
+use Rattle.std.proofs.lemmas.List.Elements.{All-head}
 use Rattle.cf_tree.specs.declared.base.Order.TheVariants.{Eq}
-use Rattle.cf_tree.specs.CodeTree.{CodeTree, code_lit, code_truth, code_var, code_set_of, code_tuple, code_sum, code_sub, code_mul, code_neg, code_div, code_mod, code_min, code_max, code_compare, code_divides, code_and, code_or, code_not, code_union, code_inter, code_diff, code_subset, code_card, code_slice, code_fresh, code_if, code_let, code_solve, code_depth, codes_of, no_codes, ItemTree, items_of, need_item, let_item, ArmTree, arm_of, arms_of, no_arms}
+use Rattle.cf_tree.specs.CodeTree.{CodeTree, code_lit, code_var, code_set_of, code_tuple, code_sum, code_sub, code_mul, code_neg, code_div, code_mod, code_min, code_max, code_compare, code_divides, code_and, code_or, code_not, code_union, code_inter, code_diff, code_subset, code_card, code_slice, code_fresh, code_if, code_let, code_solve, code_depth, codes_of, no_codes, ItemTree, items_of, need_item, let_item, ArmTree, arm_of, arms_of, no_arms}
 use Rattle.cf_tree.specs.Spelled.{IsSpelled, IsNumeral, AreGives, HasSpelling}
 use Rattle.cf_tree.specs.declared.target.RawTarget.{RawTarget}
 use Rattle.cf_tree.specs.CodeView.{code_tree}

@@ -1,15 +1,15 @@
-use Rattle.std.proofs.Common.{inl, refl, rules}
+use Rattle.std.proofs.Common.{inl, inr, refl, rules}
 use Rattle.std.proofs.lemmas.Result.{err_from_is_err_and}
 use Rattle.cf_tree.specs.DefView.{program_tree}
 use Rattle.cf_program.specs.Typed.{typed_tree}
 use Rattle.cf_answer.proofs.PassLemmas.{on_err}
-use Rattle.cf_answer.proofs.RunLemmas.{run_broken, target_runs, run_build_refused}
+use Rattle.cf_answer.proofs.RunLemmas.{target_runs, run_build_refused, run_unruly_or}
 use Rattle.cf_answer.proofs.source.program_runner.Goals as goal
 
 pub returns-in_err-target-in-Ok-clause-verdict : goal.returns-in_err-target-in-Ok-clause-verdict
 returns-in_err-target-in-Ok-clause-verdict g c =
     let p = err_from_is_err_and c.from_residual.result c.from_residual.ensures.1 in
-    λ text s. rw (p.1, p.2) (run_build_refused text (typed_tree c.in-Ok.typed) _ (program_tree c.args.program.now, s, c.in-Ok.ensures.gives)
+    λ text is s. rw (p.1, p.2) (run_build_refused c.args.edition text (program_tree c.args.program.now) (typed_tree c.in-Ok.typed) _ is s c.in-Ok.ensures
     c.in_err-target-in-Ok.ensures.answer)
 
 pub returns-in_err-target-in-Ok-clause-kept : goal.returns-in_err-target-in-Ok-clause-kept
@@ -18,15 +18,15 @@ returns-in_err-target-in-Ok-clause-kept g c = on_err c.from_residual.result c.in
 pub returns-in_ok-target-in-Ok-clause-verdict : goal.returns-in_ok-target-in-Ok-clause-verdict
 returns-in_ok-target-in-Ok-clause-verdict g c =
     let target = c.in_ok-target-in-Ok.ensures in
-    λ text s. target_runs text (typed_tree c.in-Ok.typed) _ _ _ target.turned (program_tree c.args.program.now, s, c.in-Ok.ensures.gives) target.answer
+    λ text is s. target_runs c.args.edition text (program_tree c.args.program.now) (typed_tree c.in-Ok.typed) _ _ _ target.turned is s c.in-Ok.ensures
+    target.answer
 
-pub returns-in-Err-NotLinear-clause-verdict : goal.returns-in-Err-NotLinear-clause-verdict
-returns-in-Err-NotLinear-clause-verdict g c =
-    λ text s. c.late_runner.ensures text c.in-Err-NotLinear._place s (rw c.in-Err-NotLinear.field-0-is at c.in-Err-NotLinear.ensures.gives) _ _
+pub returns-in-Err-Rule-clause-verdict : goal.returns-in-Err-Rule-clause-verdict
+returns-in-Err-Rule-clause-verdict g c = λ text is s. c.late_runner.ensures text is s _ _
 
-pub returns-in-Err-NotLinear-clause-kept : goal.returns-in-Err-NotLinear-clause-kept
-returns-in-Err-NotLinear-clause-kept g c = on_err c.late_runner.result refl
+pub returns-in-Err-Rule-clause-kept : goal.returns-in-Err-Rule-clause-kept
+returns-in-Err-Rule-clause-kept g c = on_err c.late_runner.result refl
 
 pub returns-in-Err-clause-verdict : goal.returns-in-Err-clause-verdict
 returns-in-Err-clause-verdict g c =
-    λ text s. inl (run_broken text (program_tree c.args.program.now) c.in-Err.fault (search rules) (search rules) c.in-Err.ensures.gives s)
+    λ text is s. run_unruly_or c.args.edition text (program_tree c.args.program.now) c.in-Err.fault (search rules) is s c.in-Err.ensures

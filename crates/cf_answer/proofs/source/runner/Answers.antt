@@ -2,7 +2,7 @@ use Rattle.std.proofs.Common.{refl}
 use Rattle.std.proofs.lemmas.Result.{err_from_is_err_and}
 use Rattle.cf_answer.specs.Refusals.{IsBadRun}
 use Rattle.cf_answer.proofs.PassLemmas.{on_err}
-use Rattle.cf_answer.proofs.RunLemmas.{misspelled_or}
+use Rattle.cf_answer.proofs.TextLemmas.{misspelled_or}
 use Rattle.cf_answer.proofs.source.runner.Goals as goal
 
 pub returns-in_err-program-clause-verdict : goal.returns-in_err-program-clause-verdict
@@ -14,4 +14,4 @@ pub returns-in_err-program-clause-kept : goal.returns-in_err-program-clause-kept
 returns-in_err-program-clause-kept g c = on_err c.from_residual.result refl
 
 pub returns-clause-verdict : goal.returns-clause-verdict
-returns-clause-verdict g c = c.program_runner.ensures.verdict c.args.text.now c.in_ok-program.ensures.verdict
+returns-clause-verdict g c = c.program_runner.ensures.verdict c.args.text.now c.edition.ensures.is c.in_ok-program.ensures.verdict

@@ -1,0 +1,7 @@
+use Rattle.std.proofs.Common.{inl, rules}
+use Rattle.cf_answer.specs.Refusals.{broken}
+use Rattle.cf_answer.proofs.RuleLemmas.{fails_so}
+use Rattle.cf_answer.proofs.source.checked.Goals as goal
+
+pub returns-in-Err : goal.returns-in-Err
+returns-in-Err c = inl (broken c.in-Err.fault (fails_so c.in-Err.fault _ (search rules) c.in-Err.ensures.gives))

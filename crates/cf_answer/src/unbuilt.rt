@@ -1,0 +1,11 @@
+//! What edition 3 owes and does not have yet.
+ghost use Rattle.std.specs.Prelude.{◌≡◌};
+
+use crate::fault::Fault;
+
+/// Stands for what is not built yet: late programs of edition 3, and `check` of edition 3.
+pub(crate) fn not_built() -> Fault
+    ensures { result ≡ Fault.NoMemory }
+{
+    Fault::NoMemory
+}

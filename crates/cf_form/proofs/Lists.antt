@@ -1,0 +1,19 @@
+-- What is so of each element of a list, by recursion.
+use Rattle.std.proofs.Common.{List, [], ◌∷◌, ◌++◌, map}
+use Rattle.std.specs.List.{AllByRecursion}
+
+pub rec_left : {X : Type 0} (P : X → Type 0) (xs ys : List X) → AllByRecursion P (xs ++ ys) → AllByRecursion P xs
+rec_left P [] ys h = tt
+rec_left P (x ∷ xs) ys h = (h.0, rec_left P xs ys h.1)
+
+pub rec_right : {X : Type 0} (P : X → Type 0) (xs ys : List X) → AllByRecursion P (xs ++ ys) → AllByRecursion P ys
+rec_right P [] ys h = h
+rec_right P (x ∷ xs) ys h = rec_right P xs ys h.1
+
+pub rec_append : {X : Type 0} (P : X → Type 0) (xs ys : List X) → AllByRecursion P xs → AllByRecursion P ys → AllByRecursion P (xs ++ ys)
+rec_append P [] ys h k = k
+rec_append P (x ∷ xs) ys h k = (h.0, rec_append P xs ys h.1 k)
+
+pub rec_of_map : {X Y : Type 0} (P : Y → Type 0) (f : X → Y) (xs : List X) → AllByRecursion P (map f xs) → AllByRecursion (λ x. P (f x)) xs
+rec_of_map P f [] h = tt
+rec_of_map P f (x ∷ xs) h = (h.0, rec_of_map P f xs h.1)

@@ -1,0 +1,7 @@
+use Rattle.std.proofs.Common.{◌≡◌}
+use Rattle.std.specs.List.{list_all}
+use Rattle.cf_parse.specs.Spelling.{is_downward}
+use Rattle.cf_parse.proofs.words.all_downward.Given as goal
+
+abbrev pub invariant-loop : goal.invariant-loop
+invariant-loop l = list_all is_downward l.rest ≡ list_all is_downward l.fn.orders
