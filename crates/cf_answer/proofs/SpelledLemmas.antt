@@ -164,6 +164,27 @@ arm_and edition (raw_arm parts k body) arms a b = (a.0, a.1, a.2, b)
 abbrev LinksFine : Edition → RawTrees → List Order → List Place → Type 0
 LinksFine edition es orders places = (length places ≡ length orders) × (count_of_raws es ≡ length orders) × AreSpelledRaws edition es
 
+-- what the parts of a choose keep, and what follows them
+abbrev GivenKeeps : Edition → GivenTree → Type 0
+GivenKeeps edition no_given = Unit {0}
+GivenKeeps edition (given_that p e) = Keeps (Spells edition e) (IsSpelledRaw edition e)
+
+abbrev AimKeeps : Edition → AimTree → Type 0
+AimKeeps edition no_aim = Unit {0}
+AimKeeps edition (aim_at p sense e) = Keeps (Spells edition e) (IsSpelledRaw edition e)
+
+given_keeps : (edition : Edition) (g : GivenTree) → GivenKeeps edition g → (X : Form) (P : Type 0) → Keeps X P →
+    Keeps (SpellsGiven edition g X) (IsSpelledGiven edition g × P)
+given_keeps edition no_given part X P h = behind (λ k. (tt, k)) h
+given_keeps edition (given_that p e) part X P h =
+    behind (λ k. ((three edition k.0, k.1.0), k.1.1)) (given (past (first_keeps p _) (both part h)))
+
+aim_keeps : (edition : Edition) (aim : AimTree) (rel : RawTree) → AimKeeps edition aim → (X : Form) (P : Type 0) → Keeps X P →
+    Keeps (SpellsAim edition aim rel X) (P × IsSpelledAim edition aim)
+aim_keeps edition no_aim rel part X P h = behind (λ k. (k, tt)) h
+aim_keeps edition (aim_at p sense e) rel part X P h =
+    behind (λ k. (k.1.0, (three edition k.0.0, k.1.1))) (given (both h (past (first_keeps p _) part)))
+
 mutual
   tree_keeps : (edition : Edition) (e : RawTree) → Keeps (Spells edition e) (IsSpelledRaw edition e)
   tree_keeps edition (raw_lit p k) = behind (λ h. h.1) (literal_keeps (pos 0) p k)
@@ -203,7 +224,7 @@ mutual
       (skip (tree_keeps edition f))))))
   tree_keeps edition (raw_choose p outputs hidden g e aim) =
       behind (λ h. (h.0.0, h.0.1, h.1.0, h.1.1.0, h.1.1.1)) (past (first_keeps p _) (skip (both (outputs_keep edition outputs hidden)
-      (given_keeps edition g _ _ (skip (aim_keeps edition aim e _ _ (inside (tree_keeps edition e))))))))
+      (given_keeps edition g (given_part edition g) _ _ (skip (aim_keeps edition aim e (aim_part edition aim) _ _ (inside (tree_keeps edition e))))))))
   tree_keeps edition (raw_match p e no_raw_arms) = never
   tree_keeps edition (raw_match p e (raw_arm_more arm arms)) =
       behind (λ h. (tt, h.0, arm_and edition arm arms h.1.0 h.1.1)) (past (first_keeps p _) (both (tree_keeps edition e) (skip (skip
@@ -236,16 +257,13 @@ mutual
         ((ap suc k.0.1.0, ap suc k.0.1.1, (k.0.0, k.0.1.2)), k.1);
   }
 
-  given_keeps : (edition : Edition) (g : GivenTree) (X : Form) (P : Type 0) → Keeps X P → Keeps (SpellsGiven edition g X) (IsSpelledGiven edition g × P)
-  given_keeps edition no_given X P h = behind (λ k. (tt, k)) h
-  given_keeps edition (given_that p e) X P h =
-      behind (λ k. ((three edition k.0, k.1.0), k.1.1)) (given (past (first_keeps p _) (both (tree_keeps edition e) h)))
+  given_part : (edition : Edition) (g : GivenTree) → GivenKeeps edition g
+  given_part edition no_given = tt
+  given_part edition (given_that p e) = tree_keeps edition e
 
-  aim_keeps : (edition : Edition) (aim : AimTree) (rel : RawTree) (X : Form) (P : Type 0) → Keeps X P →
-      Keeps (SpellsAim edition aim rel X) (P × IsSpelledAim edition aim)
-  aim_keeps edition no_aim rel X P h = behind (λ k. (k, tt)) h
-  aim_keeps edition (aim_at p sense e) rel X P h =
-      behind (λ k. (k.1.0, (three edition k.0.0, k.1.1))) (given (both h (past (first_keeps p _) (tree_keeps edition e))))
+  aim_part : (edition : Edition) (aim : AimTree) → AimKeeps edition aim
+  aim_part edition no_aim = tt
+  aim_part edition (aim_at p sense e) = tree_keeps edition e
 
   arm_keeps : (edition : Edition) (arm : RawArmTree) → Keeps (SpellsArm edition arm) (ArmFine edition arm)
   arm_keeps edition (raw_arm parts k body) =
