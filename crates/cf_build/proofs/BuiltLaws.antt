@@ -88,7 +88,8 @@ mutual
 
   all_numbers_are : (es : ExprTrees) → ArePlain es → numbers_all es ≡ numbers_of (chooses_in_all es)
   all_numbers_are no_exprs p = refl
-  all_numbers_are (expr_more e es) p = rw (map-append (λ q. q.number) (chooses_in e) (chooses_in_all es), numbers_are e (p.0.0, p.1.0), all_numbers_are es (p.0.1, p.1.1)) refl
+  all_numbers_are (expr_more e es) p =
+      rw (map-append (λ q. q.number) (chooses_in e) (chooses_in_all es), numbers_are e (p.0.0, p.1.0), all_numbers_are es (p.0.1, p.1.1)) refl
 
 program_numbers : (ds : List DefTree) → All HasPlainBody ds → all_numbers ds ≡ numbers_of (chooses_of ds)
 program_numbers [] p = refl
@@ -141,9 +142,11 @@ module _ (takes : ℕ → List Base → List Base → Type 0) where
     may (expr_card a) p scope bs h = may a p scope _ h.0
     may (expr_if t a b) p scope bs h =
         All-append MayBeSolved (chooses_in t ++ chooses_in a) (chooses_in b)
-        (All-append MayBeSolved (chooses_in t) (chooses_in a) (may t (p.0.0, p.1.0) scope _ h.0) (may a (p.0.1, p.1.1) scope _ h.1)) (may b (p.0.2, p.1.2) scope _ h.2)
+        (All-append MayBeSolved (chooses_in t) (chooses_in a) (may t (p.0.0, p.1.0) scope _ h.0) (may a (p.0.1, p.1.1) scope _ h.1))
+        (may b (p.0.2, p.1.2) scope _ h.2)
     may (expr_call f es) p scope bs h = parts_may es p scope h.0 h.2
-    may (expr_let n a b) p scope bs h = All-append MayBeSolved (chooses_in a) (chooses_in b) (may a (p.0.0, p.1.0) scope h.0 h.1) (may b (p.0.1, p.1.1) (scope ++ h.0) bs h.4)
+    may (expr_let n a b) p scope bs h =
+        All-append MayBeSolved (chooses_in a) (chooses_in b) (may a (p.0.0, p.1.0) scope h.0 h.1) (may b (p.0.1, p.1.1) (scope ++ h.0) bs h.4)
     may (expr_choose n params outputs rel) p scope bs h =
         All-cons MayBeSolved (record { number = n; names = names_of params; scope = bases_of params; outputs = outputs; relation = rel }) []
         (h.1, All-weaker IsTypedOutput IsOutput output_is outputs h.2, rw h.0 h.3, h.4) (All-nil MayBeSolved)
@@ -152,11 +155,13 @@ module _ (takes : ℕ → List Base → List Base → Type 0) where
 
     all_may : (es : ExprTrees) → ArePlain es → (scope : List Base) (b : Base) → AllHave takes es scope b → All MayBeSolved (chooses_in_all es)
     all_may no_exprs p scope b h = All-nil MayBeSolved
-    all_may (expr_more a es) p scope b h = All-append MayBeSolved (chooses_in a) (chooses_in_all es) (may a (p.0.0, p.1.0) scope _ h.0) (all_may es (p.0.1, p.1.1) scope b h.1)
+    all_may (expr_more a es) p scope b h =
+        All-append MayBeSolved (chooses_in a) (chooses_in_all es) (may a (p.0.0, p.1.0) scope _ h.0) (all_may es (p.0.1, p.1.1) scope b h.1)
 
     parts_may : (es : ExprTrees) → ArePlain es → (scope bs : List Base) → PartsHave takes es scope bs → All MayBeSolved (chooses_in_all es)
     parts_may no_exprs p scope bs h = All-nil MayBeSolved
-    parts_may (expr_more a es) p scope bs h = All-append MayBeSolved (chooses_in a) (chooses_in_all es) (may a (p.0.0, p.1.0) scope _ h.3) (parts_may es (p.0.1, p.1.1) scope h.1 h.4)
+    parts_may (expr_more a es) p scope bs h =
+        All-append MayBeSolved (chooses_in a) (chooses_in_all es) (may a (p.0.0, p.1.0) scope _ h.3) (parts_may es (p.0.1, p.1.1) scope h.1 h.4)
 
 abbrev HasTypes : DefTree → Type 0
 HasTypes d = (earlier : List DefTree) × ExprHasBases (Takes earlier) d.body (bases_of d.params) d.results

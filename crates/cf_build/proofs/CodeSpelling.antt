@@ -155,7 +155,8 @@ module _ (calls : ℕ → CodeTree) (solves : ChooseTree → CodeTree) (takes : 
     spelled (expr_mod a k) p s scope bs h n l = (h.0, spelled a p s scope _ h.1 n l)
     spelled (expr_card a) p s scope bs h n l = spelled a p s scope _ h.0 n l
     spelled (expr_if t a b) p s scope bs h n l = (
-      spelled t (p.0.0, p.1.0) (λ q m. s q (Contains-append_left (chooses_in t ++ chooses_in a) (chooses_in b) q (Contains-append_left (chooses_in t) (chooses_in a) q m)))
+      spelled t (p.0.0, p.1.0) (λ q m. s q
+          (Contains-append_left (chooses_in t ++ chooses_in a) (chooses_in b) q (Contains-append_left (chooses_in t) (chooses_in a) q m)))
           scope _ h.0 n l.0,
       spelled a (p.0.1, p.1.1) (λ q m. s q (Contains-append_left (chooses_in t ++ chooses_in a) (chooses_in b) q
           (Contains-append_right (chooses_in t) (chooses_in a) q m)))

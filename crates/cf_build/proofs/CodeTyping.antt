@@ -128,9 +128,11 @@ module _ (calls : ℕ → CodeTree) (solves : ChooseTree → CodeTree) (takes : 
     typed (expr_mod a k) p s scope bs h asked m n e = (h.0.0, typed a p s scope (Int ∷ []) h.1 (ask Int) refl n e, (h.2, m))
     typed (expr_card a) p s scope bs h asked m n e = (typed a p s scope (Set ∷ []) h.0 (ask Set) refl n e, (h.1, m))
     typed (expr_if t a b) p s scope bs h asked m n e = (
-      typed t (p.0.0, p.1.0) (λ q k. s q (Contains-append_left (chooses_in t ++ chooses_in a) (chooses_in b) q (Contains-append_left (chooses_in t) (chooses_in a) q k)))
+      typed t (p.0.0, p.1.0) (λ q k. s q
+          (Contains-append_left (chooses_in t ++ chooses_in a) (chooses_in b) q (Contains-append_left (chooses_in t) (chooses_in a) q k)))
           scope (Truth ∷ []) h.0 (ask Truth) refl n e,
-      typed a (p.0.1, p.1.1) (λ q k. s q (Contains-append_left (chooses_in t ++ chooses_in a) (chooses_in b) q (Contains-append_right (chooses_in t) (chooses_in a) q k)))
+      typed a (p.0.1, p.1.1) (λ q k. s q
+          (Contains-append_left (chooses_in t ++ chooses_in a) (chooses_in b) q (Contains-append_right (chooses_in t) (chooses_in a) q k)))
           scope bs h.1 asked m n e,
       typed b (p.0.2, p.1.2) (λ q k. s q (Contains-append_right (chooses_in t ++ chooses_in a) (chooses_in b) q k)) scope bs h.2 asked m n e,
     )
@@ -166,6 +168,7 @@ module _ (calls : ℕ → CodeTree) (solves : ChooseTree → CodeTree) (takes : 
       h.0,
       h.1,
       h.2,
-      typed a (p.0.0, p.1.0) (λ q k. s q (Contains-append_left (chooses_in a) (chooses_in_all es) q k)) scope (h.0 ∷ []) h.3 (share asked h.0) (share_meets asked h.0) n e,
+      typed a (p.0.0, p.1.0) (λ q k. s q (Contains-append_left (chooses_in a) (chooses_in_all es) q k)) scope (h.0 ∷ []) h.3 (share asked h.0)
+          (share_meets asked h.0) n e,
       parts_typed es (p.0.1, p.1.1) (λ q k. s q (Contains-append_right (chooses_in a) (chooses_in_all es) q k)) scope h.1 h.4 asked n e,
     )

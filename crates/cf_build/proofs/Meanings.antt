@@ -251,7 +251,8 @@ module _ (calls : ℕ → CodeTree) (solves : ChooseTree → CodeTree) (takes : 
         unary_fine (Set ∷ []) bs (path (code_of calls solves n a) env).gives (fine a p s scope (Set ∷ []) h.0 env k n e) (λ xs. keeps_number bs _ h.1)
     fine (expr_if t a b) p s scope bs h env k n e =
         then_fine (Truth ∷ []) bs (path (code_of calls solves n t) env).gives _
-        (fine t (p.0.0, p.1.0) (λ q m. s q (Contains-append_left (chooses_in t ++ chooses_in a) (chooses_in b) q (Contains-append_left (chooses_in t) (chooses_in a) q m)))
+        (fine t (p.0.0, p.1.0) (λ q m. s q
+        (Contains-append_left (chooses_in t ++ chooses_in a) (chooses_in b) q (Contains-append_left (chooses_in t) (chooses_in a) q m)))
         scope (Truth ∷ []) h.0 env k n e) (λ xs hx.
         if_fine (truth_in xs) (AllowedIn allows a env) (AllowedIn allows b env) bs (path (code_of calls solves n a) env) (path (code_of calls solves n b) env)
         (fine a (p.0.1, p.1.1) (λ q m. s q (Contains-append_left (chooses_in t ++ chooses_in a) (chooses_in b) q
@@ -264,7 +265,8 @@ module _ (calls : ℕ → CodeTree) (solves : ChooseTree → CodeTree) (takes : 
     fine (expr_let m a b) p s scope bs h env k n e =
         then_fine h.0 bs (path (code_of calls solves n a) env).gives _
         (fine a (p.0.0, p.1.0) (λ q c. s q (Contains-append_left (chooses_in a) (chooses_in b) q c)) scope h.0 h.1 env k n e) (λ xs hx.
-        fine b (p.0.1, p.1.1) (λ q c. s q (Contains-append_right (chooses_in a) (chooses_in b) q c)) (scope ++ h.0) bs h.4 (env ++ xs) (have_append scope h.0 env xs k hx)
+        fine b (p.0.1, p.1.1) (λ q c. s q (Contains-append_right (chooses_in a) (chooses_in b) q c)) (scope ++ h.0) bs h.4 (env ++ xs)
+        (have_append scope h.0 env xs k hx)
         (n + m) (omega (arith, e, h.2, length-append scope h.0)))
     fine (expr_choose m params outputs rel) p s scope bs h env k n e =
         let q : ChooseTree = record { number = m; names = names_of params; scope = bases_of params; outputs = outputs; relation = rel } in

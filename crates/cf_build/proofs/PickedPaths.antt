@@ -435,7 +435,8 @@ module _ (calls : ℕ → CodeTree) (solves : ChooseTree → CodeTree) (takes : 
         IsPickedBy (then_picked (picked_all picks es env) (λ zs. Some (values (done ++ zs)))) (all_path (codes_of_all calls solves n es) env done)
     all_by no_exprs p s scope bs h env n a done = rw append-nil (done_by done)
     all_by (expr_more e es) p s scope bs h env n a done =
-        more_by e es n env done (picked_by e (p.0.0, p.1.0) (λ q m. s q (Contains-append_left (chooses_in e) (chooses_in_all es) q m)) scope (h.0 ∷ []) h.3 env n a)
+        more_by e es n env done (picked_by e (p.0.0, p.1.0) (λ q m. s q (Contains-append_left (chooses_in e) (chooses_in_all es) q m)) scope
+        (h.0 ∷ []) h.3 env n a)
         (λ ds. all_by es (p.0.1, p.1.1) (λ q m. s q (Contains-append_right (chooses_in e) (chooses_in_all es) q m)) scope h.1 h.4 env n a ds)
 
     values_by : (es : ExprTrees) → ArePlain es → EachSolved (chooses_in_all es) → (scope bs : List Base) → PartsHave takes es scope bs →
@@ -443,7 +444,8 @@ module _ (calls : ℕ → CodeTree) (solves : ChooseTree → CodeTree) (takes : 
         IsPickedBy (picked_all picks es env) (path (joined_code (codes_of_all calls solves n es)) env)
     values_by no_exprs p s scope bs h env n a = done_by []
     values_by (expr_more e es) p s scope bs h env n a =
-        joined_by e es n env (picked_by e (p.0.0, p.1.0) (λ q m. s q (Contains-append_left (chooses_in e) (chooses_in_all es) q m)) scope (h.0 ∷ []) h.3 env n a)
+        joined_by e es n env (picked_by e (p.0.0, p.1.0) (λ q m. s q (Contains-append_left (chooses_in e) (chooses_in_all es) q m)) scope
+        (h.0 ∷ []) h.3 env n a)
         (λ ds. all_by es (p.0.1, p.1.1) (λ q m. s q (Contains-append_right (chooses_in e) (chooses_in_all es) q m)) scope h.1 h.4 env n a ds)
 
     sets_by : (es : ExprTrees) → ArePlain es → EachSolved (chooses_in_all es) → (scope : List Base) → AllHave takes es scope Int →
@@ -459,7 +461,8 @@ module _ (calls : ℕ → CodeTree) (solves : ChooseTree → CodeTree) (takes : 
         let f = part_fit e (p.0.0, p.1.0) (λ q m. s q (Contains-append_left (chooses_in e) (chooses_in_all es) q m)) scope (Int ∷ []) h.0 env n a xs g l in
         let z = number_alone xs f.bases in
         one_value (number z.0) xs (picked_all picks es env) (λ zs. set_path (codes_of_all calls solves n es) env zs) done z.1
-        (sets_by es (p.0.1, p.1.1) (λ q m. s q (Contains-append_right (chooses_in e) (chooses_in_all es) q m)) scope h.1 env n a (set_put (number_in xs) done))))
+        (sets_by es (p.0.1, p.1.1) (λ q m. s q (Contains-append_right (chooses_in e) (chooses_in_all es) q m)) scope h.1 env n a
+        (set_put (number_in xs) done))))
 
   -- the values that are picked for all parts fit their bases
   pub parts_fit : (es : ExprTrees) → ArePlain es → EachSolved (chooses_in_all es) → (scope bs : List Base) → PartsHave takes es scope bs →

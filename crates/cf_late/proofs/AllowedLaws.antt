@@ -238,7 +238,8 @@ module _ (takes : ℕ → List Base → List Base → Type 0) (calls : ℕ → L
       (λ o a. inr (fits_none factors k z t, a)) rest
 
   mutual
-    pub late_fine : (e : ExprTree) (scope bs : List Base) → HasNoForm e → ExprHasBasesBy IsLateLinear takes e scope bs → (env : List Value) → HaveBases scope env →
+    pub late_fine : (e : ExprTree) (scope bs : List Base) → HasNoForm e → ExprHasBasesBy IsLateLinear takes e scope bs → (env : List Value) →
+        HaveBases scope env →
         AreFit env →
         Fine bs (AllowedIn allows e env) (late_in calls e env)
     late_fine (expr_lit k) scope bs p h env v w = (refl, keeps_number bs k h.1, (h.0, tt))
@@ -251,7 +252,8 @@ module _ (takes : ℕ → List Base → List Base → Type 0) (calls : ℕ → L
         (refl, keeps_value bs Set (elements (set_of (map number_of xs))) h.1 (_, refl, rising_set_of (map number_of xs)), (omega arith, tt)))
     late_fine (expr_tuple es) scope bs p h env v w = all_fine es scope bs p h.1 env v w
     late_fine (expr_neg a) scope bs p h env v w =
-        one_fine (AllowedIn allows a env) (Int ∷ []) bs (late_in calls a env) (λ x. number (neg_ℤ (number_of x))) Int (late_fine a scope (Int ∷ []) p h.0 env v w)
+        one_fine (AllowedIn allows a env) (Int ∷ []) bs (late_in calls a env) (λ x. number (neg_ℤ (number_of x))) Int
+        (late_fine a scope (Int ∷ []) p h.0 env v w)
         (sym h.1) (λ x. ((_, refl), tt))
     late_fine (expr_not a) scope bs p h env v w =
         one_fine (AllowedIn allows a env) (Truth ∷ []) bs (late_in calls a env) (λ x. truth (not (truth_of x))) Truth
@@ -282,7 +284,8 @@ module _ (takes : ℕ → List Base → List Base → Type 0) (calls : ℕ → L
         (late_fine a scope (Set ∷ []) p h.0 env v w) (sym h.1) (λ x. ((_, refl), tt))
     late_fine (expr_if t a b) scope bs p h env v w =
         then_fine (AllowedIn allows t env) (λ xs o. MatchBool (truth_of (first_of xs)) (AllowedIn allows a env o) (AllowedIn allows b env o)) (Truth ∷ []) bs
-        (late_in calls t env) (λ xs. if truth_of (first_of xs) then late_in calls a env else late_in calls b env) (late_fine t scope (Truth ∷ []) p.0 h.0 env v w)
+        (late_in calls t env) (λ xs. if truth_of (first_of xs) then late_in calls a env else late_in calls b env)
+        (late_fine t scope (Truth ∷ []) p.0 h.0 env v w)
         (λ xs hx fx.
         on_truth (truth_of (first_of xs)) bs (AllowedIn allows a env) (AllowedIn allows b env) (late_in calls a env) (late_in calls b env)
         (late_fine a scope bs p.1 h.1 env v w) (late_fine b scope bs p.2 h.2 env v w))
@@ -305,7 +308,8 @@ module _ (takes : ℕ → List Base → List Base → Type 0) (calls : ℕ → L
         arms_fine n arms (scope ++ Int ∷ []) bs p.1 h.3 (env ++ number z ∷ []) have fit (length env) z (value_at-end env (number z) (length env) refl)
         (one_behind env (number z) (length env) refl) (last_level scope env v) (ends_with_int scope)))
 
-    all_fine : (es : ExprTrees) (scope bs : List Base) → HaveNoForm es → PartsHaveBy IsLateLinear takes es scope bs → (env : List Value) → HaveBases scope env → AreFit env →
+    all_fine : (es : ExprTrees) (scope bs : List Base) → HaveNoForm es → PartsHaveBy IsLateLinear takes es scope bs → (env : List Value) →
+        HaveBases scope env → AreFit env →
         Fine bs (AllowedAll allows es env) (late_all calls es env)
     all_fine no_exprs scope bs p h env v w = (refl, rw h tt, tt)
     all_fine (expr_more e es) scope bs p h env v w =
@@ -315,7 +319,8 @@ module _ (takes : ℕ → List Base → List Base → Type 0) (calls : ℕ → L
         (all_fine es scope h.1 p.1 h.4 env v w) (λ ys hy fy.
         (refl, subst (λ cs. HaveBases cs (xs ++ ys)) (sym h.2) (have_append (h.0 ∷ []) h.1 xs ys hx hy), fit_append xs ys fx fy)))
 
-    arms_fine : (n : ℕ) (arms : MatchArmTrees) (scope bs : List Base) → ArmsHaveNoForm arms → ArmsHaveBy IsLateLinear takes arms scope bs → (env : List Value) → HaveBases scope env →
+    arms_fine : (n : ℕ) (arms : MatchArmTrees) (scope bs : List Base) → ArmsHaveNoForm arms → ArmsHaveBy IsLateLinear takes arms scope bs →
+        (env : List Value) → HaveBases scope env →
         AreFit env →
         (x : ℕ) (z : ℤ) → value_at env x ≡ number z → length env ≡ suc x → x ≡ length scope - 1 → EndsWithInt scope →
         Fine bs (AllowedArm allows n arms z env) (late_arms calls n scope arms z env)
@@ -350,7 +355,8 @@ call_by d earlier f ps rs xs false e g new old =
     fine_either rs (AllowedIn (AllowedCall (bodies earlier)) d.body xs) (AllowedCall (bodies earlier) f xs) (late_in (late_call (bodies earlier)) d.body xs)
     (late_call (bodies earlier) f xs) (f == length (bodies earlier)) (f == length (bodies earlier)) false t t (old g)
 
-calls_fine : (earlier : List DefTree) → AreTypedDefsBy IsLateLinear earlier → AreFormed earlier → (f : ℕ) (ps rs : List Base) → Takes earlier f ps rs → (xs : List Value) →
+calls_fine : (earlier : List DefTree) → AreTypedDefsBy IsLateLinear earlier → AreFormed earlier → (f : ℕ) (ps rs : List Base) → Takes earlier f ps rs →
+    (xs : List Value) →
     HaveBases ps xs → AreFit xs → Fine rs (AllowedCall (bodies earlier) f xs) (late_call (bodies earlier) f xs)
 calls_fine [] t p f ps rs h xs v w = absurd h
 calls_fine (d ∷ earlier) t p f ps rs h xs v w =

@@ -146,7 +146,8 @@ module _ (takes : ℕ → List Base → List Base → Type 0) where
     expr_runnable (expr_div a k) scope bs p h = expr_runnable a scope (Int ∷ []) p h.1
     expr_runnable (expr_mod a k) scope bs p h = expr_runnable a scope (Int ∷ []) p h.1
     expr_runnable (expr_card a) scope bs p h = expr_runnable a scope (Set ∷ []) p h.0
-    expr_runnable (expr_if t a b) scope bs p h = (expr_runnable t scope (Truth ∷ []) p.0 h.0, expr_runnable a scope bs p.1 h.1, expr_runnable b scope bs p.2 h.2)
+    expr_runnable (expr_if t a b) scope bs p h =
+        (expr_runnable t scope (Truth ∷ []) p.0 h.0, expr_runnable a scope bs p.1 h.1, expr_runnable b scope bs p.2 h.2)
     expr_runnable (expr_call f es) scope bs p h = parts_runnable es scope h.0 p h.2
     expr_runnable (expr_let n a b) scope bs p h = (expr_runnable a scope h.0 p.0 h.1, expr_runnable b (scope ++ h.0) bs p.1 h.4)
     expr_runnable (expr_choose n params outputs rel) scope bs p h =
@@ -168,8 +169,11 @@ module _ (takes : ℕ → List Base → List Base → Type 0) where
     arms_runnable : (arms : MatchArmTrees) (scope bs : List Base) → EndsWithInt scope → ArmsHaveNoForm arms → ArmsHaveBy IsLateLinear takes arms scope bs →
         AreRunnableArms scope arms
     arms_runnable no_match_arms scope bs last p h = tt
-    arms_runnable (match_arm_more (match_arm m factors k body) arms) scope bs last p h =
-        ((h.1, h.2), (pattern_choose scope factors k last h.1 h.2, expr_runnable body (scope ++ ints_of factors) bs p.0 h.3), arms_runnable arms scope bs last p.1 h.4)
+    arms_runnable (match_arm_more (match_arm m factors k body) arms) scope bs last p h = (
+      (h.1, h.2),
+      (pattern_choose scope factors k last h.1 h.2, expr_runnable body (scope ++ ints_of factors) bs p.0 h.3),
+      arms_runnable arms scope bs last p.1 h.4,
+    )
 
 -- ---- functions
 abbrev AreRunnableDefs : List DefTree → Type 0
@@ -200,7 +204,8 @@ runnable_at (c ∷ ds) (suc f) d h e = runnable_at ds f d h.1 e
 
 -- the body of a function of a late program
 pub body_runnable : (ds : List Def) (main f : ℕ) (d : Def) → IsLateProgram (map def_tree ds) main → slice_get ds f ≡ Some d → IsRunnable (expr_tree d.body)
-body_runnable ds main f d t e = runnable_at ds f d (turned_runnable (map def_tree ds) (typed_runnable (reverse (map def_tree ds)) t.typed (turned_formed (map def_tree ds) t.formed))) e
+body_runnable ds main f d t e =
+    runnable_at ds f d (turned_runnable (map def_tree ds) (typed_runnable (reverse (map def_tree ds)) t.typed (turned_formed (map def_tree ds) t.formed))) e
 
 pub main_stands : (ds : List Def) (main : ℕ) → IsLateProgram (map def_tree ds) main → main < length ds
 main_stands ds main t = stands ds main t.has_main.0 t.has_main.1

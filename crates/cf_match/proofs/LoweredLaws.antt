@@ -84,7 +84,8 @@ module _ (takes : ℕ → List Base → List Base → Type 0) (calls after : ℕ
     (calls_agree : (f : ℕ) (ps rs : List Base) → takes f ps rs → (xs : List Value) → HaveBases ps xs → (o : Outcome) →
     Agree rs o (calls f xs o) (after f xs o)) where
   mutual
-    pub agrees : (e : ExprTree) (scope bs : List Base) → HasNoForm e → ExprHasBases takes e scope bs → (env : List Value) → HaveBases scope env → (o : Outcome) →
+    pub agrees : (e : ExprTree) (scope bs : List Base) → HasNoForm e → ExprHasBases takes e scope bs → (env : List Value) → HaveBases scope env →
+        (o : Outcome) →
         Agree bs o (AllowedIn calls e env o) (AllowedIn after (lowered e) env o)
     agrees (expr_lit k) scope bs q h env v o = gives bs (number k) o (keeps_number bs k h.1)
     agrees (expr_truth t) scope bs q h env v o = gives bs (truth t) o (keeps_truth bs t h)
@@ -137,7 +138,8 @@ module _ (takes : ℕ → List Base → List Base → Type 0) (calls after : ℕ
         agrees_arms n arms (scope ++ Int ∷ []) bs q.1 h.3 (env ++ number z ∷ []) (have_append scope (Int ∷ []) env (number z ∷ []) v ((z, refl), tt))
         (length params - 1) z (value_at-end env (number z) (length params - 1) level) (one_behind env (number z) (length params - 1) level) params any o)
 
-    agrees_all : (es : ExprTrees) (scope bs : List Base) → HaveNoForm es → PartsHave takes es scope bs → (env : List Value) → HaveBases scope env → (o : Outcome) →
+    agrees_all : (es : ExprTrees) (scope bs : List Base) → HaveNoForm es → PartsHave takes es scope bs → (env : List Value) → HaveBases scope env →
+        (o : Outcome) →
         Agree bs o (AllowedAll calls es env o) (AllowedAll after (all_lowered es) env o)
     agrees_all no_exprs scope bs q h env v o = alike (gives_keeps bs [] o (rw h tt))
     agrees_all (expr_more e es) scope bs q h env v o =
@@ -145,7 +147,8 @@ module _ (takes : ℕ → List Base → List Base → Type 0) (calls after : ℕ
         then_agree h.1 bs o (agrees_all es scope h.1 q.1 h.4 env v) (λ ys hy.
         alike (gives_keeps bs (xs ++ ys) o (subst (λ cs. HaveBases cs (xs ++ ys)) (sym h.2) (have_append (h.0 ∷ []) h.1 xs ys hx hy)))))
 
-    agrees_arms : (n : ℕ) (arms : MatchArmTrees) (scope bs : List Base) → ArmsHaveNoForm arms → ArmsHave takes arms scope bs → (env : List Value) → HaveBases scope env →
+    agrees_arms : (n : ℕ) (arms : MatchArmTrees) (scope bs : List Base) → ArmsHaveNoForm arms → ArmsHave takes arms scope bs → (env : List Value) →
+        HaveBases scope env →
         (x : ℕ) (z : ℤ) →
         value_at env x ≡ number z → length env ≡ suc x → (params : List Param) → fits_any arms z ≡ true → (o : Outcome) →
         Agree bs o (AllowedArm calls n arms z env o) (AllowedIn after (picked x params arms) env o)

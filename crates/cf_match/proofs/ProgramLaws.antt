@@ -89,7 +89,8 @@ AreFormed ds = All IsFormed ds
 pub turned_formed : (ds : List DefTree) → AreFormed ds → AreFormed (reverse ds)
 turned_formed ds h = All-permutation IsFormed ds (reverse ds) (IsPermutation-reverse ds) h
 
-calls_agree : (earlier : List DefTree) → AreTypedDefs earlier → AreFormed earlier → (f : ℕ) (ps rs : List Base) → Takes earlier f ps rs → (xs : List Value) → HaveBases ps xs →
+calls_agree : (earlier : List DefTree) → AreTypedDefs earlier → AreFormed earlier → (f : ℕ) (ps rs : List Base) → Takes earlier f ps rs → (xs : List Value) →
+    HaveBases ps xs →
     (o : Outcome) →
     Agree rs o (AllowedCall (bodies earlier) f xs o) (AllowedCall (lows earlier) f xs o)
 calls_agree [] t p f ps rs h xs v o = absurd h

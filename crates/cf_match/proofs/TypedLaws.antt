@@ -190,7 +190,8 @@ module _ (takes after : ℕ → List Base → List Base → Type 0) (known : (f 
     lowered_typed (expr_div a k) scope bs p h = (h.0, lowered_typed a scope (Int ∷ []) p h.1, h.2)
     lowered_typed (expr_mod a k) scope bs p h = (h.0, lowered_typed a scope (Int ∷ []) p h.1, h.2)
     lowered_typed (expr_card a) scope bs p h = (lowered_typed a scope (Set ∷ []) p h.0, h.1)
-    lowered_typed (expr_if t a b) scope bs p h = (lowered_typed t scope (Truth ∷ []) p.0 h.0, lowered_typed a scope bs p.1 h.1, lowered_typed b scope bs p.2 h.2)
+    lowered_typed (expr_if t a b) scope bs p h =
+        (lowered_typed t scope (Truth ∷ []) p.0 h.0, lowered_typed a scope bs p.1 h.1, lowered_typed b scope bs p.2 h.2)
     lowered_typed (expr_call f es) scope bs p h = (h.0, known f h.0 bs h.1, parts_typed es scope h.0 p h.2)
     lowered_typed (expr_let m a b) scope bs p h = (h.0, lowered_typed a scope h.0 p.0 h.1, h.2, h.3, lowered_typed b (scope ++ h.0) bs p.1 h.4)
     lowered_typed (expr_choose m params outputs rel) scope bs p h = h
