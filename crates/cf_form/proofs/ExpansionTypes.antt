@@ -34,7 +34,7 @@ pub levels_front : (bs more : List Base) → HaveLevels (bs ++ more) 0 bs
 levels_front [] more = tt
 levels_front (b ∷ bs) more = (refl, levels_later b (bs ++ more) 0 bs (levels_front bs more))
 
-levels_all : (bs : List Base) → HaveLevels bs 0 bs
+pub levels_all : (bs : List Base) → HaveLevels bs 0 bs
 levels_all [] = tt
 levels_all (b ∷ bs) = (refl, levels_later b bs 0 bs (levels_all bs))
 
