@@ -1,5 +1,5 @@
 -- The numbers of what an expression is formed to are those of the expression, and are the same only of branches.
-use Rattle.std.proofs.Common.{◌≡◌, ℕ, zero, suc, ◌+◌, ◌-◌, ℤ, Bool, true, false, Option, Some, None, List, [], ◌∷◌, ◌++◌, length, map, append-nil, append_assoc, refl, sym, ap, ◌∙◌, subst, arith}
+use Rattle.std.proofs.Common.{◌≡◌, ℕ, zero, suc, ◌+◌, ◌-◌, ℤ, Bool, true, false, Option, Some, None, List, [], ◌∷◌, ◌++◌, length, map, reverse, append-nil, append_assoc, refl, sym, ap, ◌∙◌, subst, arith}
 use Rattle.std.specs.Prelude.{if◌then◌else◌}
 use Rattle.std.specs.List.{AllByRecursion}
 use Rattle.cf_tree.specs.declared.base.Base.{Base}
@@ -12,8 +12,8 @@ use Rattle.cf_tree.specs.DefView.{DefTree}
 use Rattle.cf_tree.specs.ExprTree.{ExprTree, expr_lit, expr_truth, expr_var, expr_set_of, expr_tuple, expr_neg, expr_not, expr_abs, expr_binary, expr_divides, expr_div, expr_mod, expr_card, expr_if, expr_call, expr_let, expr_choose, expr_match, expr_chain, expr_min, expr_max, expr_choose_where, ExprTrees, no_exprs, expr_more, exprs_of, match_arm, MatchArmTrees, no_match_arms, match_arm_more, GivenExpr, AimExpr, at_any}
 use Rattle.cf_program.specs.TypedProgram.{numbers, numbers_all, numbers_arms, numbers_given, numbers_aim, arm_numbers, all_numbers}
 use Rattle.cf_form.specs.Branches.{WideChoose, Branch, branched, all_outputs}
-use Rattle.cf_form.specs.Expansion.{Calls}
-use Rattle.cf_form.specs.Formed.{comparisons, chain_body, pick, picked_from, best_body, how_many, branching, given_out, all_given_out, one_or_tuple, are_as_chosen, choose_form, choose_or_itself, wide_choose, binary_formed, formed, all_formed, arms_formed, formed_behind}
+use Rattle.cf_form.specs.Expansion.{Calls, call_expanded}
+use Rattle.cf_form.specs.Formed.{comparisons, chain_body, pick, picked_from, best_body, how_many, branching, given_out, all_given_out, one_or_tuple, are_as_chosen, choose_form, choose_or_itself, wide_choose, binary_formed, formed, all_formed, arms_formed, formed_def, formed_behind}
 use Rattle.cf_form.specs.Numbers.{PlacedNumber, other_number, choose_number, arm_number, within, placed, all_placed, arms_placed, placed_from}
 use Rattle.cf_form.specs.SourceChooses.{SourceChoose, WithBodies, chooses_in, chooses_in_all, chooses_in_arms, chooses_behind}
 use Rattle.cf_form.proofs.Halves.{halves_hold}
@@ -284,15 +284,32 @@ module _ (P : ℕ → Type 0) where
           (rec_right P (arm_numbers m factors ++ numbers body) (numbers_arms arms) h))
 
 -- ---- functions
-abbrev unaimed_behind : WithBodies → Type 0
-unaimed_behind q = IsUnaimed q.1
+abbrev pub IsUnaimedBehind : WithBodies → Type 0
+IsUnaimedBehind q = IsUnaimed q.1
 
-pub blocks_of_all : (f : ℕ) (before ds : List DefTree) → AllByRecursion (λ q. IsUnaimed q.1) (chooses_behind before ds) →
+abbrev own_chooses : List DefTree → DefTree → List WithBodies
+own_chooses before d = map (λ q. (reverse (map (λ f. f.body) before), q)) (chooses_in d.body)
+
+own_unaimed : (before : List DefTree) (d : DefTree) (rest : List WithBodies) → AllByRecursion IsUnaimedBehind (own_chooses before d ++ rest) →
+    AllByRecursion IsUnaimed (chooses_in d.body)
+own_unaimed before d rest g =
+    rec_of_map IsUnaimedBehind (λ q. (reverse (map (λ f. f.body) before), q)) (chooses_in d.body) (rec_left IsUnaimedBehind (own_chooses before d) rest g)
+
+pub blocks_of_all : (f : ℕ) (before ds : List DefTree) → AllByRecursion IsUnaimedBehind (chooses_behind before ds) →
     Blocks (all_numbers ds) (placed_from f (formed_behind before ds))
 blocks_of_all f before [] g = refl
-blocks_of_all f before (d ∷ ds) g = ?
+blocks_of_all f before (d ∷ ds) g =
+    let rest = chooses_behind (before ++ d ∷ []) ds in
+    blocks_append (numbers d.body) (all_numbers ds) (placed f [] (formed_def before d).body) (placed_from (suc f) (formed_behind (before ++ d ∷ []) ds))
+    (blocks f (call_expanded (reverse (map (λ f. f.body) before))) d.body (length d.params) [] (own_unaimed before d rest g))
+    (blocks_of_all (suc f) (before ++ d ∷ []) ds (rec_right IsUnaimedBehind (own_chooses before d) rest g))
 
-pub kept_by_all : (P : ℕ → Type 0) (before ds : List DefTree) → AllByRecursion (λ q. IsUnaimed q.1) (chooses_behind before ds) →
+pub kept_by_all : (P : ℕ → Type 0) (before ds : List DefTree) → AllByRecursion IsUnaimedBehind (chooses_behind before ds) →
     AllByRecursion P (all_numbers ds) → AllByRecursion P (all_numbers (formed_behind before ds))
 kept_by_all P before [] g h = tt
-kept_by_all P before (d ∷ ds) g h = ?
+kept_by_all P before (d ∷ ds) g h =
+    let rest = chooses_behind (before ++ d ∷ []) ds in
+    rec_append P (numbers (formed_def before d).body) (all_numbers (formed_behind (before ++ d ∷ []) ds))
+    (kept P (call_expanded (reverse (map (λ f. f.body) before))) d.body (length d.params) (own_unaimed before d rest g)
+    (rec_left P (numbers d.body) (all_numbers ds) h))
+    (kept_by_all P (before ++ d ∷ []) ds (rec_right IsUnaimedBehind (own_chooses before d) rest g) (rec_right P (numbers d.body) (all_numbers ds) h))

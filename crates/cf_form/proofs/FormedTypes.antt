@@ -59,7 +59,7 @@ levels_truths test scope k (Truth ∷ bs) h = by (test k) (levels_truths test sc
     by true rest = (h.0, rest)
     by false rest = rest
 
-outputs_typed : (bs : List Base) → All IsOutput (map as_number bs)
+pub outputs_typed : (bs : List Base) → All IsOutput (map as_number bs)
 outputs_typed [] = All-nil IsOutput
 outputs_typed (Int ∷ bs) = All-cons IsOutput Int (map as_number bs) tt (outputs_typed bs)
 outputs_typed (Truth ∷ bs) = All-cons IsOutput Int (map as_number bs) tt (outputs_typed bs)
