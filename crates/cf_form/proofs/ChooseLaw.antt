@@ -1,6 +1,5 @@
 -- The law of a choose of a source: its solutions are those of its relation of language 2, in the branch of the environment, where truth outputs are numbers.
-use Rattle.std.specs.Prelude.{ℕ, pos, ◌≡◌, Bool, true, false, List, [], ◌∷◌, ◌++◌, map}
-use Rattle.cf_tree.specs.declared.base.Base.{Base}
+use Rattle.std.specs.Prelude.{ℕ, pos, ◌≡◌, true, false, List, [], ◌∷◌, ◌++◌, map}
 use Rattle.cf_tree.specs.declared.base.Base.TheVariants.{Bool as Truth}
 use Rattle.cf_tree.specs.Allowed.{Choosing, CallAllowedBy, SolvesBy}
 use Rattle.cf_tree.specs.DefView.{DefTree}

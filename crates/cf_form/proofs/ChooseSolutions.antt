@@ -1,5 +1,5 @@
 -- The solutions of a choose of a source are those of its relation of language 2 in the branch of the environment.
-use Rattle.std.specs.Prelude.{ℕ, zero, suc, ◌+◌, ◌<◌, ◌≤◌, ℤ, pos, ◌≤ℤ◌, ◌≡◌, ◌⊎◌, ◌↔◌, Bool, true, false, ◌&&◌, ◌||◌, Option, Some, None, if◌then◌else◌, List, [], ◌∷◌, ◌++◌, length, map, filter, slice_get}
+use Rattle.std.specs.Prelude.{ℕ, zero, suc, ◌+◌, ◌<◌, ◌≤◌, ℤ, pos, ◌≤ℤ◌, ◌≡◌, ◌⊎◌, ◌↔◌, Bool, true, false, ◌&&◌, ◌||◌, Some, if◌then◌else◌, List, [], ◌∷◌, ◌++◌, length, map, filter, slice_get}
 use Rattle.std.specs.Ordering.{int_eq}
 use Rattle.std.proofs.Common.{refl, sym, ap, ◌∙◌, subst, arith, append_assoc, ap₂, inl, inr}
 use Rattle.std.proofs.lemmas.Int.{ints}
@@ -18,15 +18,15 @@ use Rattle.cf_tree.specs.Typing.{one}
 use Rattle.cf_tree.specs.Values.{Value, number, truth, elements, Outcome, values, number_of, truth_of, elements_of, value_at, HasBase, HaveBases}
 use Rattle.cf_tree.proofs.SetLemmas.{on_bool, eq_is, eq_differs}
 use Rattle.cf_program.specs.TypedProgram.{LinearBehind, Takes, ExprHasBasesBy, GivenIsTypedBy}
-use Rattle.cf_form.specs.Branches.{Branch, branched, truth_levels, some_aim_has, values_in, in_branch, truth_bounds, relation_at, all_outputs, is_among}
+use Rattle.cf_form.specs.Branches.{Branch, branched, truth_levels, some_aim_has, values_in, in_branch, truth_bounds, is_among}
 use Rattle.cf_form.specs.Expansion.{Part, truth_in, first_part, variables_from, Calls, expanded, call_expanded}
 use Rattle.cf_form.specs.Formed.{as_number, given_of, with_given}
 use Rattle.cf_form.specs.Laws.{bodies}
-use Rattle.cf_form.specs.Polarity.{Truths, holding}
+use Rattle.cf_form.specs.Polarity.{holding}
 use Rattle.cf_form.specs.Relations.{MayStand, CallMayStand, GivenMayStand}
 use Rattle.cf_form.specs.SourceChooses.{SourceChoose}
-use Rattle.cf_form.specs.Wide.{WideRel, wide_and, has_truth}
-use Rattle.cf_form.proofs.ChooseLaw.{as_output, branch_of, IsChooseBehind, widely, SolvesSource, SolvesBranch, HasSameSolutions, ChooseLaw}
+use Rattle.cf_form.specs.Wide.{WideRel, has_truth}
+use Rattle.cf_form.proofs.ChooseLaw.{as_output, branch_of, IsChooseBehind, widely, SolvesSource, SolvesBranch, ChooseLaw}
 use Rattle.cf_form.proofs.ExpansionLaws.{CallsExpand, one_of_parts, part_of_truth, expands, calls_expand}
 use Rattle.cf_form.proofs.FoldLaws.{folded_keeps}
 use Rattle.cf_form.proofs.HalfLaws.{HoldAll, all_joined, all_apart, all_holds}
@@ -130,7 +130,6 @@ elements_kept : (w : Value) (zs : List ℤ) → w ≡ elements zs → elements_o
 elements_kept w zs e = rw e refl
 
 module _ (scope outs : List Base) (env vs : List Value) (have : HaveBases scope env) (chosen : HaveBases outs vs) where
-
   whole_have : HaveBases (scope ++ outs) (env ++ vs)
   whole_have = have_joined scope outs env vs have chosen
 
@@ -160,14 +159,14 @@ module _ (scope outs : List Base) (env vs : List Value) (have : HaveBases scope 
       elim (below_or_behind x (length env)) as (λ _. TruthAgrees (values_in (branch_of env (filter branches_on (truth_levels 0 scope))) x)
       (truth_of (value_at (env ++ vs) x)) (value_at (env ++ map as_output vs) x)) [
         | inl l ↦ (
-          let is : slice_get scope x ≡ Some Truth = sym (base_below scope outs x (omega (arith, same))) ∙ e in
-          let there = among_kept branches_on x (truth_levels 0 scope) on (subst (λ y. is_among y (truth_levels 0 scope) ≡ true) from_zero (level_there 0 scope x is)) in
-          rw (value_there env (filter branches_on (truth_levels 0 scope)) x there) (ap truth_of (sym (value_below env vs x l))))
+            let is : slice_get scope x ≡ Some Truth = sym (base_below scope outs x (omega (arith, same))) ∙ e in
+            let there = among_kept branches_on x (truth_levels 0 scope) on (subst (λ y. is_among y (truth_levels 0 scope) ≡ true) from_zero (level_there 0 scope x is)) in
+            rw (value_there env (filter branches_on (truth_levels 0 scope)) x there) (ap truth_of (sym (value_below env vs x l))))
         | inr l ↦ (
-          let is = has_base_at (scope ++ outs) (env ++ vs) x Truth whole_have e in
-          let none = none_kept branches_on x (truth_levels 0 scope) (level_not_there 0 scope x (omega (arith, same))) in
-          rw (no_value_there env (filter branches_on (truth_levels 0 scope)) x none) (
-          ap number_of (value_behind env vs x l) ∙ truth_number (value_at (env ++ vs) x) is.0 is.1))
+            let is = has_base_at (scope ++ outs) (env ++ vs) x Truth whole_have e in
+            let none = none_kept branches_on x (truth_levels 0 scope) (level_not_there 0 scope x (omega (arith, same))) in
+            rw (no_value_there env (filter branches_on (truth_levels 0 scope)) x none) (
+            ap number_of (value_behind env vs x l) ∙ truth_number (value_at (env ++ vs) x) is.0 is.1))
       ]
 
 -- ---- relations
@@ -185,7 +184,6 @@ both_are P Q a b h k = ((λ x. rw (h.0 x.0, k.0 x.1) refl), (λ e. let p = and_p
 
 module _ (linear : LinearBehind) (chooses : Choosing) (calls : Calling) (parts : Calls) (takes : ℕ → List Base → List Base → Type 0) (good : ℕ → Type 0)
     (v : VariableFacts) (env : List Value) (known : CallsExpand calls parts takes good v env) where
-
   relation_widely : (e : ExprTree) (scope : List Base) (ps : List Part) (vs : List Value) → PartsOver v scope ps → map (part_value env) ps ≡ vs
       → ExprHasBasesBy linear takes e scope (one Truth) → MayStand good e
       → IsWidely (IsTrueBy (AllowedBy chooses calls e vs)) v env (truth_in (first_part (expanded parts ps e)))
@@ -220,7 +218,6 @@ said_true P false h = ((λ e. cc), (λ p. absurd (h p)))
 
 module _ (linear : LinearBehind) (chooses : Choosing) (earlier : List DefTree) (q : SourceChoose) (typed : IsChooseBehind linear earlier q) (env : List Value)
     (have : HaveBases (bases_of q.scope) env) where
-
   -- the branch of the environment
   abbrev here : Branch
   here = branch_of env (branched (widely earlier q))
@@ -244,19 +241,19 @@ module _ (linear : LinearBehind) (chooses : Choosing) (earlier : List DefTree) (
       let have_all : HaveBases all source = subst (λ bs. HaveBases bs source) (sym joined) (have_joined scope outs env vs have chosen) in
       let known = calls_expand linear chooses earlier typed.functions (in_scope all) source in
       let relation = relation_widely linear chooses calls parts (Takes earlier) (CallMayStand (bodies earlier)) (in_scope all) source known q.relation all
-        (variables_from 0 all) source (variables_over all 0 all (found_whole all)) (variable_values source 0 all source have_all (found_whole source))
-        typed.relation typed.relation_stands in
+      (variables_from 0 all) source (variables_over all 0 all (found_whole all)) (variable_values source 0 all source have_all (found_whole source))
+      typed.relation typed.relation_stands in
       let inner : FoundAt all 0 scope = subst (λ bs. FoundAt bs 0 scope) (sym joined) (found_first scope outs) in
       let whole = given_widely linear chooses calls parts (Takes earlier) (CallMayStand (bodies earlier)) (in_scope all) source known q.given scope
-        (variables_from 0 scope) env (variables_over all 0 scope inner) (variable_values source 0 scope env have (found_first env vs)) typed.given
-        typed.given_stands (IsTrueBy (AllowedBy chooses calls q.relation source)) (truth_in (first_part (expanded parts (variables_from 0 all) q.relation)))
-        relation in
+      (variables_from 0 scope) env (variables_over all 0 scope inner) (variable_values source 0 scope env have (found_first env vs)) typed.given
+      typed.given_stands (IsTrueBy (AllowedBy chooses calls q.relation source)) (truth_in (first_part (expanded parts (variables_from 0 all) q.relation)))
+      relation in
       let wide = (widely earlier q).relation in
       let on : ℕ → Bool = λ x. has_truth x wide || some_aim_has x (widely earlier q).aims in
       let over = rel_over (in_scope all) (agreeing (values_in here) source new)
-        (λ x e. number_agrees scope outs env vs have chosen x (subst (λ bs. slice_get bs x ≡ Some Int) joined e))
-        (λ x e. set_agrees scope outs env vs have chosen x (subst (λ bs. slice_get bs x ≡ Some Set) joined e)) wide
-        (λ x stands e. truth_agrees scope outs env vs have chosen on x (rw stands refl) (subst (λ bs. slice_get bs x ≡ Some Truth) joined e)) whole.over in
+      (λ x e. number_agrees scope outs env vs have chosen x (subst (λ bs. slice_get bs x ≡ Some Int) joined e))
+      (λ x e. set_agrees scope outs env vs have chosen x (subst (λ bs. slice_get bs x ≡ Some Set) joined e)) wide
+      (λ x stands e. truth_agrees scope outs env vs have chosen on x (rw stands refl) (subst (λ bs. slice_get bs x ≡ Some Truth) joined e)) whole.over in
       let says = said_true (Holds (holding (values_in here) wide) new) (wide_holds wide source) (holding_says (values_in here) source new wide over) in
       let kept = in_branch_keeps here wide new in
       ((λ h. kept.1 (says.0 (whole.says.0 h))), (λ h. whole.says.1 (says.1 (kept.0 h))))
@@ -272,23 +269,27 @@ module _ (linear : LinearBehind) (chooses : Choosing) (earlier : List DefTree) (
   pub forth : (xs ks : List Value) → SolvesSource chooses earlier q env xs ks → SolvesBranch (widely earlier q) here env (map as_output (xs ++ ks))
   forth xs ks s =
       let chosen = have_joined q.outputs q.hidden xs ks s.0 s.1 in
-      let new = env ++ map as_output (xs ++ ks) in
-      (have_outputs outs (xs ++ ks) chosen,
-      (all_holds (bounds ++ in_branch here (widely earlier q).relation ∷ []) new).1 (
-      all_joined bounds (in_branch here (widely earlier q).relation ∷ []) new
-      (bounds_hold new (length q.scope) outs (xs ++ ks) chosen (found_outputs (map as_output (xs ++ ks))))
-      ((same_relation (xs ++ ks) chosen).0 (s.2, s.3), tt)))
+      let new = env ++ map as_output (xs ++ ks) in (
+        have_outputs outs (xs ++ ks) chosen,
+        (all_holds (bounds ++ in_branch here (widely earlier q).relation ∷ []) new).1 (
+            all_joined bounds (in_branch here (widely earlier q).relation ∷ []) new
+            (bounds_hold new (length q.scope) outs (xs ++ ks) chosen (found_outputs (map as_output (xs ++ ks))))
+            ((same_relation (xs ++ ks) chosen).0 (s.2, s.3), tt)),
+      )
 
   pub back : (ys : List Value) → SolvesBranch (widely earlier q) here env ys
       → (xs : List Value) × (ks : List Value) × (ys ≡ map as_output (xs ++ ks)) × SolvesSource chooses earlier q env xs ks
   back ys s =
       let p = all_apart bounds (in_branch here (widely earlier q).relation ∷ []) (env ++ ys) (
-        (all_holds (bounds ++ in_branch here (widely earlier q).relation ∷ []) (env ++ ys)).0 s.1) in
+      (all_holds (bounds ++ in_branch here (widely earlier q).relation ∷ []) (env ++ ys)).0 s.1) in
       let b = outputs_back (env ++ ys) (length q.scope) outs ys s.0 (found_outputs ys) p.0 in
       let a = have_apart q.outputs q.hidden b.0 b.1 in
-      let solved = (same_relation b.0 b.1).1 (subst (λ zs. Holds (in_branch here (widely earlier q).relation) (env ++ zs)) b.2 p.1.0) in
-      (a.0, a.1, b.2 ∙ ap (map as_output) a.2,
-      (a.3, a.4, solved.0, subst (λ zs. IsTrueBy (AllowedBy chooses (CallAllowedBy chooses (bodies earlier)) q.relation (env ++ zs))) a.2 solved.1))
+      let solved = (same_relation b.0 b.1).1 (subst (λ zs. Holds (in_branch here (widely earlier q).relation) (env ++ zs)) b.2 p.1.0) in (
+        a.0,
+        a.1,
+        b.2 ∙ ap (map as_output) a.2,
+        (a.3, a.4, solved.0, subst (λ zs. IsTrueBy (AllowedBy chooses (CallAllowedBy chooses (bodies earlier)) q.relation (env ++ zs))) a.2 solved.1),
+      )
 
 pub choose_law : ChooseLaw
 choose_law linear chooses earlier q typed env have =

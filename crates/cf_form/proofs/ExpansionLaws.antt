@@ -1,26 +1,26 @@
 -- What an expression that may stand in a relation allows: one outcome, the meanings of its parts.
-use Rattle.std.specs.Prelude.{ℕ, suc, zero, ℤ, pos, ◌≡◌, Bool, true, false, not, ◌&&◌, ◌||◌, ◌==◌, Some, None, if◌then◌else◌, List, [], ◌∷◌, ◌++◌, length, map, slice_get, slice_index_or, MatchBool}
-use Rattle.std.proofs.Common.{refl, sym, ap, ◌∙◌, subst, arith}
+use Rattle.std.specs.Prelude.{ℕ, suc, zero, ℤ, pos, ◌≡◌, Bool, true, false, not, ◌&&◌, ◌||◌, ◌==◌, Some, if◌then◌else◌, List, [], ◌∷◌, ◌++◌, length, map, slice_get, slice_index_or, MatchBool}
+use Rattle.std.proofs.Common.{refl, sym, ap, subst}
 use Rattle.cf_tree.specs.declared.base.Base.{Base}
 use Rattle.cf_tree.specs.declared.base.Base.TheVariants.{Int, Bool as Truth, Set}
 use Rattle.cf_tree.specs.declared.base.Order.{Order}
 use Rattle.cf_tree.specs.declared.base.Order.TheVariants.{Eq, Ne, Lt, Le, Gt, Ge}
 use Rattle.cf_tree.specs.declared.raw.BinOp.{BinOp}
 use Rattle.cf_tree.specs.declared.raw.BinOp.TheVariants.{Add, Sub, Mul, And, Or, Implies, Union, Inter, Diff, Subset, Compare}
-use Rattle.cf_tree.specs.Allowed.{AllowedThen, AllowedRight, Gives, Choosing, Calling, AllowedBy, AllAllowedBy, CallAllowedBy, chained}
+use Rattle.cf_tree.specs.Allowed.{AllowedThen, AllowedRight, Gives, Choosing, Calling, AllowedBy, AllAllowedBy, CallAllowedBy}
 use Rattle.cf_tree.specs.DefView.{DefTree}
 use Rattle.cf_tree.specs.ExprTree.{ExprTree, expr_lit, expr_truth, expr_var, expr_set_of, expr_tuple, expr_neg, expr_not, expr_abs, expr_binary, expr_divides, expr_div, expr_mod, expr_card, expr_if, expr_call, expr_let, expr_choose, expr_match, expr_chain, expr_min, expr_max, expr_choose_where, ExprTrees, no_exprs, expr_more}
 use Rattle.cf_tree.specs.OneOutcome.{AllowsOnly}
 use Rattle.cf_tree.specs.Params.{bases_of}
 use Rattle.cf_tree.specs.Typing.{one}
-use Rattle.cf_tree.specs.Values.{Value, number, truth, elements, Outcome, values, number_of, truth_of, elements_of, value_at, first_of}
+use Rattle.cf_tree.specs.Values.{Value, number, truth, elements, Outcome, number_of, truth_of, value_at, first_of}
 use Rattle.cf_tree.proofs.OneOutcomeLemmas.{then_only}
 use Rattle.cf_program.specs.TypedProgram.{LinearBehind, AreSides, AreSeveral, ExprHasBasesBy, AllHaveBy, PartsHaveBy, Takes, AreTypedDefsBy}
 use Rattle.cf_program.specs.Walk.{side_of, result_of}
-use Rattle.cf_form.specs.Expansion.{Part, of_number, of_set, of_truth, number_in, set_in, truth_in, first_part, numbers_in, truth_part, binary_part, compared_part, if_part, if_parts, Calls, expanded, all_expanded, call_expanded}
+use Rattle.cf_form.specs.Expansion.{Part, of_number, of_set, of_truth, number_in, set_in, truth_in, first_part, numbers_in, binary_part, compared_part, if_part, if_parts, Calls, expanded, all_expanded, call_expanded}
 use Rattle.cf_form.specs.Laws.{bodies}
-use Rattle.cf_form.specs.Relations.{IsEmpty, MayStand, AllMayStand, CallMayStand}
-use Rattle.cf_form.specs.Wide.{WideTerm, wide_lit, WideTerms, no_wides, wide_more, WideSet, WideRel}
+use Rattle.cf_form.specs.Relations.{MayStand, AllMayStand, CallMayStand}
+use Rattle.cf_form.specs.Wide.{wide_lit, WideTerms, WideRel}
 use Rattle.cf_form.proofs.WideMeaning.{wide_value, wide_values, wide_members, wide_holds, part_value, VariableFacts, HasTerms, TermOver, TermsOver, SetOver, RelOver, PartOver, PartsOver}
 
 -- what is allowed is one outcome, the meanings of these parts, which have these bases
@@ -63,7 +63,6 @@ over_at v (c ∷ scope) (p ∷ ps) zero b h e = let same : c ≡ b = cc in rw (�
 over_at v (c ∷ scope) (p ∷ ps) (suc x) b h e = over_at v scope ps x b h.1 e
 
 module _ {v : VariableFacts} {env : List Value} where
-
   pub one_of_parts : {A : Outcome → Type 0} (b : Base) (ps : List Part) → Expands A v env (one b) ps → ExpandsOne A v env b (first_part ps)
   one_of_parts b [] h = absurd h.over
   one_of_parts b (p ∷ []) h = record { only = h.only; over = h.over.0 }
@@ -107,7 +106,6 @@ abbrev RightThen : BinOp → (Outcome → Type 0) → (Outcome → Type 0) → O
 RightThen op A B o = AllowedThen A (λ xs. AllowedRight op (first_of xs) B) o
 
 module _ {v : VariableFacts} {env : List Value} {A B : Outcome → Type 0} where
-
   compared_numbers : (o : Order) (p q : Part) → ExpandsOne A v env Int p → ExpandsOne B v env Int q
       → ExpandsOne (RightThen (Compare o) A B) v env Truth (compared_part o p q)
   compared_numbers o (of_number a) (of_number b) h k =
@@ -333,7 +331,6 @@ some_terms (expr_more e es) calls ps h = tt
 
 module _ (linear : LinearBehind) (chooses : Choosing) (calls : Calling) (parts : Calls) (takes : ℕ → List Base → List Base → Type 0) (good : ℕ → Type 0)
     (v : VariableFacts) (env : List Value) (known : CallsExpand calls parts takes good v env) where
-
   mutual
     pub expands : (e : ExprTree) (scope : List Base) (ps : List Part) → PartsOver v scope ps → (bs : List Base) → ExprHasBasesBy linear takes e scope bs
         → MayStand good e → Expands (AllowedBy chooses calls e (map (part_value env) ps)) v env bs (expanded parts ps e)
@@ -431,7 +428,7 @@ calls_expand linear chooses [] typed v env f params bs takes good ps over = absu
 calls_expand linear chooses (d ∷ earlier) typed v env f params bs takes good ps over =
     let known = calls_expand linear chooses earlier typed.1 v env in
     let takes_it : MatchBool (f == length (bodies earlier)) ((params ≡ bases_of d.params) × (bs ≡ d.results)) (Takes earlier f params bs) =
-      rw (same_length earlier) takes in
+    rw (same_length earlier) takes in
     either_expands (f == length (bodies earlier)) v env bs _ _
     (λ t m. subst (λ cs. Expands (AllowedBy chooses (CallAllowedBy chooses (bodies earlier)) d.body (map (part_value env) ps)) v env cs
     (expanded (call_expanded (bodies earlier)) ps d.body)) (sym t.1)

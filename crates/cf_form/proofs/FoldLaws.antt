@@ -82,9 +82,10 @@ folded_keeps (rel_and p q) env =
 folded_keeps (rel_or p q) env =
     let left = folded_keeps p env in
     let right = folded_keeps q env in
-    let whole = or_keeps (folded p) (folded q) env in
-    ((λ h. elim (whole.0 h) as (λ _. Holds (rel_or p q) env) [ inl x ↦ inl (left.0 x) | inr y ↦ inr (right.0 y) ]),
-    (λ h. elim h as (λ _. Holds (folded (rel_or p q)) env) [ inl x ↦ whole.1 (inl (left.1 x)) | inr y ↦ whole.1 (inr (right.1 y)) ]))
+    let whole = or_keeps (folded p) (folded q) env in (
+      (λ h. elim (whole.0 h) as (λ _. Holds (rel_or p q) env) [ inl x ↦ inl (left.0 x) | inr y ↦ inr (right.0 y) ]),
+      (λ h. elim h as (λ _. Holds (folded (rel_or p q)) env) [ inl x ↦ whole.1 (inl (left.1 x)) | inr y ↦ whole.1 (inr (right.1 y)) ]),
+    )
 folded_keeps (rel_not p) env =
     let inner = folded_keeps p env in
     let whole = not_keeps (folded p) env in

@@ -51,7 +51,7 @@ pub record Stands (earlier : List ExprTree) (q : SourceChoose) : Type 0 where
   pub given : GivenMayStand (CallMayStand earlier) q.given
   pub unaimed : q.aim ≡ at_any
 
-abbrev aimed : SourceChoose → AimExpr → SourceChoose
+abbrev pub aimed : SourceChoose → AimExpr → SourceChoose
 aimed q a =
     record { number = q.number; scope = q.scope; outputs = q.outputs; hidden = q.hidden; given = q.given; relation = q.relation; aim = a }
 
@@ -186,7 +186,7 @@ module _ (law : ChooseLaw) (linear : LinearBehind) where
           (old k)
 
 -- ---- the program
-stands_of : (q : WithBodies) → MayStand (CallMayStand q.0) q.1.relation × GivenMayStand (CallMayStand q.0) q.1.given → q.1.aim ≡ at_any → StandsBehind q
+pub stands_of : (q : WithBodies) → MayStand (CallMayStand q.0) q.1.relation × GivenMayStand (CallMayStand q.0) q.1.given → q.1.aim ≡ at_any → StandsBehind q
 stands_of q m a = record { relation = m.0; given = m.1; unaimed = a }
 
 -- the chooses of a source

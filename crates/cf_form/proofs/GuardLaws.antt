@@ -1,5 +1,5 @@
 -- Guarded forms that cover all that a form may be: the guards of some hold, and each whose guards hold has what is asked.
-use Rattle.std.specs.Prelude.{ℤ, ◌≡◌, ◌⊎◌, Bool, true, false, not, ◌&&◌, ◌||◌, List, [], ◌∷◌, ◌++◌, map}
+use Rattle.std.specs.Prelude.{ℤ, ◌≡◌, ◌⊎◌, Bool, true, false, not, List, [], ◌∷◌, ◌++◌, map}
 use Rattle.std.specs.Int.{int_max, int_min}
 use Rattle.std.proofs.Common.{refl, sym, ap, ◌∙◌, subst, arith, inl, inr}
 use Rattle.std.proofs.lemmas.Int.{ints, clamps}
@@ -10,7 +10,7 @@ use Rattle.cf_tree.specs.Numbers.{Compares}
 use Rattle.cf_tree.specs.Relation.{Holds, val}
 use Rattle.cf_tree.specs.RelTree.{TermTree, RelTree, rel_compare, rel_not}
 use Rattle.cf_tree.specs.Values.{Value, number, compared}
-use Rattle.cf_form.specs.Alternatives.{all_of, some_of, Guarded, alone, over_one, over_two, behind, one_of, one_of_each, best_of_two, best_behind, best_of, some_atom, links}
+use Rattle.cf_form.specs.Alternatives.{all_of, Guarded, alone, over_one, over_two, behind, one_of, one_of_each, best_of_two, best_behind, best_of, some_atom, links}
 use Rattle.cf_form.specs.Polarity.{itself}
 use Rattle.cf_form.proofs.HalfLaws.{HoldAll, HoldSome, all_joined, all_apart, all_holds, some_holds}
 use Rattle.cf_form.proofs.SaidBy.{Says, says_and, says_or, says_not, says_same, compares_says, not_and}
@@ -157,7 +157,6 @@ abbrev pub Is : List Value → ℤ → TermTree → Type 0
 Is env z t = val t env ≡ z
 
 module _ (first other : Order) (better : ℤ → ℤ → ℤ) (by : IsBetterBy first other better) (env : List Value) where
-
   some_of_two : (v w : ℤ) (x y : Guarded TermTree) → HoldAll x.guards env → HoldAll y.guards env → val x.form env ≡ v → val y.form env ≡ w
       → SomeHolds env (one_of first other x y)
   some_of_two v w x y g h e f =
@@ -169,18 +168,21 @@ module _ (first other : Order) (better : ℤ → ℤ → ℤ) (by : IsBetterBy f
 
   each_of_two : (v w : ℤ) (x y : Guarded TermTree) → (HoldAll x.guards env → val x.form env ≡ v) → (HoldAll y.guards env → val y.form env ≡ w)
       → EachHas (Is env (better v w)) env (one_of first other x y)
-  each_of_two v w x y e f =
-      ((λ g.
+  each_of_two v w x y e f = (
+    (λ g.
         let p = all_apart (x.guards ++ y.guards) (rel_compare first x.form y.form ∷ []) env g in
         let q = all_apart x.guards y.guards env p.0 in
         let a = e q.0 in let b = f q.1 in
         rw (← a, ← b) (sym (by.at_first (val x.form env) (val y.form env) p.1.0))),
-      ((λ g.
-        let p = all_apart (x.guards ++ y.guards) (rel_compare other x.form y.form ∷ []) env g in
-        let q = all_apart x.guards y.guards env p.0 in
-        let a = e q.0 in let b = f q.1 in
-        rw (← a, ← b) (sym (by.at_other (val x.form env) (val y.form env) p.1.0))),
-      tt))
+    (
+      (λ g.
+          let p = all_apart (x.guards ++ y.guards) (rel_compare other x.form y.form ∷ []) env g in
+          let q = all_apart x.guards y.guards env p.0 in
+          let a = e q.0 in let b = f q.1 in
+          rw (← a, ← b) (sym (by.at_other (val x.form env) (val y.form env) p.1.0))),
+      tt,
+    ),
+  )
 
   some_of_each : (v w : ℤ) (x : Guarded TermTree) (ys : List (Guarded TermTree)) → HoldAll x.guards env → val x.form env ≡ v → EachHas (Is env w) env ys
       → SomeHolds env ys → SomeHolds env (one_of_each first other x ys)
@@ -285,8 +287,8 @@ no_atom_holds last env b [] k e h = h
 no_atom_holds last env b (x ∷ xs) k e h =
     elim h [
       | inl p ↦ (
-        let q = all_apart x.guards (last x.form ∷ []) env ((all_holds (x.guards ++ last x.form ∷ []) env).0 p) in
-        k x.form (e.0 q.0) q.1.0)
+          let q = all_apart x.guards (last x.form ∷ []) env ((all_holds (x.guards ++ last x.form ∷ []) env).0 p) in
+          k x.form (e.0 q.0) q.1.0)
       | inr q ↦ no_atom_holds last env b xs k e.1 q
     ]
 

@@ -1,6 +1,6 @@
 -- Trees of halves: all of some relations hold, or some of them does.
-use Rattle.std.specs.Prelude.{ℕ, zero, suc, ◌+◌, ◌*◌, ◌-◌, ◌/◌, ◌%◌, ◌<◌, ◌≤◌, ◌≡◌, ◌⊎◌, ◌↔◌, List, [], ◌∷◌, ◌++◌, length, take, drop}
-use Rattle.std.proofs.Common.{refl, arith, inl, inr}
+use Rattle.std.specs.Prelude.{ℕ, zero, suc, ◌/◌, ◌<◌, ◌≤◌, ◌⊎◌, ◌↔◌, List, [], ◌∷◌, ◌++◌, length, take, drop}
+use Rattle.std.proofs.Common.{arith, inl, inr}
 use Rattle.std.proofs.Math.Nat.{div-add-mod, mod-lt}
 use Rattle.std.proofs.lemmas.List.{length-take-le, length-drop}
 use Rattle.cf_tree.specs.Relation.{Holds}
@@ -77,9 +77,10 @@ all_within (suc n) (r ∷ s ∷ rs) env l =
     let all = r ∷ s ∷ rs in
     let shorter = halves_shorter n all (omega arith) l in
     let left = all_within n (take (length all / 2) all) env shorter.0 in
-    let right = all_within n (drop (length all / 2) all) env shorter.1 in
-    ((λ h. both_halves (length all / 2) all env (left.0 h.0) (right.0 h.1)),
-    (λ h. let p = each_half (length all / 2) all env h in (left.1 p.0, right.1 p.1)))
+    let right = all_within n (drop (length all / 2) all) env shorter.1 in (
+      (λ h. both_halves (length all / 2) all env (left.0 h.0) (right.0 h.1)),
+      (λ h. let p = each_half (length all / 2) all env h in (left.1 p.0, right.1 p.1)),
+    )
 
 some_within : (n : ℕ) (rs : List RelTree) (env : List Value) → length rs ≤ n → Holds (halves_within n rel_or rel_false rs) env ↔ HoldSome rs env
 some_within zero [] env l = (λ h. h, λ h. h)
@@ -91,10 +92,11 @@ some_within (suc n) (r ∷ s ∷ rs) env l =
     let half = length all / 2 in
     let shorter = halves_shorter n all (omega arith) l in
     let left = some_within n (take half all) env shorter.0 in
-    let right = some_within n (drop half all) env shorter.1 in
-    ((λ h. elim h as (λ _. HoldSome (r ∷ s ∷ rs) env) [ inl p ↦ left_half half all env (left.0 p) | inr q ↦ right_half half all env (right.0 q) ]),
-    (λ h. elim (some_half half all env h) as (λ _. Holds (halves_within (suc n) rel_or rel_false (r ∷ s ∷ rs)) env)
-    [ inl p ↦ inl (left.1 p) | inr q ↦ inr (right.1 q) ]))
+    let right = some_within n (drop half all) env shorter.1 in (
+      (λ h. elim h as (λ _. HoldSome (r ∷ s ∷ rs) env) [ inl p ↦ left_half half all env (left.0 p) | inr q ↦ right_half half all env (right.0 q) ]),
+      (λ h. elim (some_half half all env h) as (λ _. Holds (halves_within (suc n) rel_or rel_false (r ∷ s ∷ rs)) env)
+          [ inl p ↦ inl (left.1 p) | inr q ↦ inr (right.1 q) ]),
+    )
 
 pub all_holds : (rs : List RelTree) (env : List Value) → Holds (all_of rs) env ↔ HoldAll rs env
 all_holds rs env = all_within (length rs) rs env (omega arith)

@@ -111,7 +111,7 @@ are_numbers A (k ∷ ks) (x ∷ xs) h =
     let first : x ≡ number (number_of x) = rw h.0.1 refl in
     let rest = are_numbers A ks xs h.1 in cc
 
-parts_have : (linear : LinearBehind) (takes : ℕ → List Base → List Base → Type 0) (es : ExprTrees) (scope : List Base) →
+pub parts_have : (linear : LinearBehind) (takes : ℕ → List Base → List Base → Type 0) (es : ExprTrees) (scope : List Base) →
     AllHaveBy linear takes es scope Int →
     (ts : List (Unit {0})) × (length ts ≡ how_many es) × PartsHaveBy linear takes es scope (map (λ _. Int) ts)
 parts_have linear takes no_exprs scope h = ([], refl, refl)

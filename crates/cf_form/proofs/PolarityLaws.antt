@@ -1,20 +1,18 @@
 -- The relation that stands for a wide relation holds where that does, and the one for its negation where it does not. The alternatives of a form cover it.
-use Rattle.std.specs.Prelude.{ℕ, ℤ, pos, ◌≡◌, Bool, true, false, not, ◌&&◌, ◌||◌, Option, Some, None, if◌then◌else◌, List, [], ◌∷◌, ◌++◌, length, map}
+use Rattle.std.specs.Prelude.{ℕ, ℤ, pos, ◌≡◌, Bool, true, false, not, ◌&&◌, ◌||◌, Option, Some, None, if◌then◌else◌, List, map}
 use Rattle.std.specs.Int.{int_max, int_min}
-use Rattle.std.proofs.Common.{refl, sym, ap, ◌∙◌, arith}
+use Rattle.std.proofs.Common.{refl, sym, ◌∙◌, arith}
 use Rattle.std.proofs.lemmas.Int.{ints}
 use Rattle.cf_tree.specs.declared.base.Order.TheVariants.{Lt, Le, Gt, Ge}
 use Rattle.cf_tree.specs.Allowed.{chained}
-use Rattle.cf_tree.specs.Numbers.{quotient, remainder, is_multiple, absolute}
 use Rattle.cf_tree.specs.Relation.{Holds, val, members}
-use Rattle.cf_tree.specs.RelTree.{SetTree, empty_set, set_var, union_of, inter_of, diff_of, TermTree, term_lit, term_var, term_card, term_neg, term_add, term_sub, term_mul, term_div, term_mod, term_abs, RelTree, rel_true, rel_false, rel_compare, rel_same_set, rel_other_set, rel_subset, rel_divides, rel_and, rel_or, rel_not}
-use Rattle.cf_tree.specs.Sets.{is_subset}
-use Rattle.cf_tree.specs.Values.{Value, number, number_of, truth_of, elements_of, value_at, compared, same_list, same_truth}
+use Rattle.cf_tree.specs.RelTree.{SetTree, empty_set, set_var, union_of, inter_of, diff_of, term_lit, term_var, term_card, term_neg, term_add, term_sub, term_mul, term_div, term_mod, term_abs, RelTree, rel_compare, rel_same_set, rel_other_set, rel_subset, rel_divides, rel_and, rel_or, rel_not}
+use Rattle.cf_tree.specs.Values.{Value, number, number_of, truth_of, elements_of, value_at, same_truth}
 use Rattle.cf_form.specs.Alternatives.{over_one, over_two, links}
 use Rattle.cf_form.specs.Polarity.{Truths, truth_holds, truth_fails, not_or, two_ways, itself, set_alternatives, alternatives, all_alternatives, holding, failing}
 use Rattle.cf_form.specs.Wide.{WideTerm, wide_lit, wide_var, wide_card, wide_neg, wide_add, wide_sub, wide_mul, wide_div, wide_mod, wide_abs, wide_if, wide_min, wide_max, WideTerms, no_wides, wide_more, WideSet, wide_empty, wide_set, wide_union, wide_inter, wide_diff, wide_if_set, WideRel, wide_true, wide_false, wide_truth, wide_compare, wide_same_set, wide_other_set, wide_subset, wide_divides, wide_not, wide_and, wide_or, wide_implies, wide_same, wide_other, wide_if_truth, wide_chain, is_plain}
 use Rattle.cf_form.proofs.GuardLaws.{Covers, covers_alone, covers_one, covers_two, covers_ways, least_is, greatest_is, Is, AllCover, covers_best, AtomSays, atom_says, not_atom_says, covers_compared, all_links_say, some_links_say}
-use Rattle.cf_form.proofs.HalfLaws.{HoldAll, HoldSome, all_holds, some_holds}
+use Rattle.cf_form.proofs.HalfLaws.{all_holds, some_holds}
 use Rattle.cf_form.proofs.SaidBy.{Says, says_and, says_or, says_not, says_same, says_as, not_twice, not_and, not_either, not_implies, other_ways, if_ways, not_if_ways, same_set_says, other_set_says, subset_says, divides_says}
 use Rattle.cf_form.proofs.WideMeaning.{wide_value, wide_values, wide_members, wide_holds, VariableFacts, TermOver, TermsOver, SetOver, RelOver}
 
@@ -68,7 +66,6 @@ abbrev AreMembers : List Value → List ℤ → SetTree → Type 0
 AreMembers env zs a = members a env ≡ zs
 
 module _ (truths : Truths) (source env : List Value) where
-
   mutual
     pub set_covers : (s : WideSet) → SetOver (agreeing truths source env) s → Covers (AreMembers env (wide_members s source)) env (set_alternatives truths s)
     set_covers wide_empty h = covers_alone _ env empty_set refl

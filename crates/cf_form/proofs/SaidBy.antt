@@ -1,8 +1,8 @@
 -- Facts of which a truth value says whether they are so.
-use Rattle.std.specs.Prelude.{ℤ, pos, ◌+ℤ◌, ◌-ℤ◌, ◌*ℤ◌, ◌≤ℤ◌, ◌<ℤ◌, int_lt, ◌≡◌, ◌≢◌, ◌⊎◌, ◌↔◌, Bool, true, false, not, ◌&&◌, ◌||◌, if◌then◌else◌, MatchBool, List}
+use Rattle.std.specs.Prelude.{ℤ, pos, ◌+ℤ◌, ◌-ℤ◌, ◌*ℤ◌, ◌≤ℤ◌, ◌<ℤ◌, int_lt, ◌≡◌, ◌≢◌, ◌⊎◌, Bool, true, false, not, ◌&&◌, ◌||◌, if◌then◌else◌, MatchBool, List}
 use Rattle.std.specs.Int.{int_div_euclid}
 use Rattle.std.specs.Ordering.{int_eq}
-use Rattle.std.proofs.Common.{refl, ap, sym, ◌∙◌, subst, arith, inl, inr}
+use Rattle.std.proofs.Common.{refl, ◌∙◌, subst, arith, inl, inr}
 use Rattle.std.proofs.lemmas.Int.{ints}
 use Rattle.cf_num.proofs.DivisionLemmas.{int_div_euclid_once}
 use Rattle.cf_tree.specs.declared.base.Order.{Order}
@@ -10,7 +10,7 @@ use Rattle.cf_tree.specs.declared.base.Order.TheVariants.{Eq, Ne, Lt, Le, Gt, Ge
 use Rattle.cf_tree.specs.Numbers.{Compares, quotient, remainder, is_multiple}
 use Rattle.cf_tree.specs.Sets.{has, is_subset}
 use Rattle.cf_tree.specs.Values.{number, compared, same_list, same_truth}
-use Rattle.cf_tree.proofs.SetLemmas.{on_bool, eq_is, eq_same, eq_differs, lt_is, lt_not, is_subset-iff, same_list-iff}
+use Rattle.cf_tree.proofs.SetLemmas.{eq_is, eq_same, lt_is, lt_not, is_subset-iff, same_list-iff}
 
 -- where b is true the fact is so, and else it is not
 abbrev pub Says : Type 0 → Bool → Type 0

@@ -1,13 +1,13 @@
 -- Variables as parts, and the values of truth variables in a branch.
-use Rattle.std.specs.Prelude.{ℕ, zero, suc, ◌+◌, ◌<◌, ◌≤◌, ◌==◌, ℤ, pos, ◌≡◌, ◌⊎◌, Bool, true, false, ◌&&◌, ◌||◌, Option, Some, None, if◌then◌else◌, List, [], ◌∷◌, ◌++◌, length, map, filter, slice_get}
-use Rattle.std.proofs.Common.{refl, sym, ap, ◌∙◌, subst, arith, append_assoc, append-nil, length-append, inl, inr}
+use Rattle.std.specs.Prelude.{ℕ, zero, suc, ◌+◌, ◌≤◌, ◌==◌, ◌≡◌, ◌⊎◌, Bool, true, false, ◌||◌, Some, None, if◌then◌else◌, List, [], ◌∷◌, ◌++◌, length, map, filter, slice_get}
+use Rattle.std.proofs.Common.{refl, sym, ap, ◌∙◌, subst, arith, append_assoc, append-nil, inl, inr}
 use Rattle.std.proofs.lemmas.Bool.{eq-eqb, eqb-true}
 use Rattle.cf_tree.specs.declared.base.Base.{Base}
 use Rattle.cf_tree.specs.declared.base.Base.TheVariants.{Int, Bool as Truth, Set}
-use Rattle.cf_tree.specs.Values.{Value, number, truth, elements, number_of, truth_of, elements_of, value_at, HasBase, HaveBases}
+use Rattle.cf_tree.specs.Values.{Value, truth_of, value_at, HasBase, HaveBases}
 use Rattle.cf_tree.proofs.SetLemmas.{on_bool}
-use Rattle.cf_form.specs.Branches.{Branch, is_truth, truth_levels, values_in, is_among}
-use Rattle.cf_form.specs.Expansion.{Part, variable_part, variables_from}
+use Rattle.cf_form.specs.Branches.{is_truth, truth_levels, values_in, is_among}
+use Rattle.cf_form.specs.Expansion.{variable_part, variables_from}
 use Rattle.cf_form.proofs.ChooseLaw.{branch_of}
 use Rattle.cf_form.proofs.WideMeaning.{part_value, PartOver, PartsOver, in_scope}
 
@@ -26,10 +26,11 @@ one_more (b ∷ before) a = ap suc (one_more before a)
 
 pub found_between : {A : Type 0} (before zs after : List A) → FoundAt (before ++ (zs ++ after)) (length before) zs
 found_between before [] after = tt
-found_between {A} before (a ∷ zs) after =
-    (at_seam before a (zs ++ after),
-    subst (λ x. FoundAt (before ++ a ∷ (zs ++ after)) x zs) (one_more before a)
-    (subst (λ all. FoundAt {A = A} all (length (before ++ a ∷ [])) zs) (append_assoc before (a ∷ []) (zs ++ after)) (found_between (before ++ a ∷ []) zs after)))
+found_between {A} before (a ∷ zs) after = (
+  at_seam before a (zs ++ after),
+  subst (λ x. FoundAt (before ++ a ∷ (zs ++ after)) x zs) (one_more before a)
+      (subst (λ all. FoundAt {A = A} all (length (before ++ a ∷ [])) zs) (append_assoc before (a ∷ []) (zs ++ after)) (found_between (before ++ a ∷ []) zs after)),
+)
 
 pub found_first : {A : Type 0} (zs after : List A) → FoundAt (zs ++ after) 0 zs
 found_first zs after = found_between [] zs after
