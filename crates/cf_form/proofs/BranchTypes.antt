@@ -264,4 +264,3 @@ module _ (how : Linearity) (q : WideChoose) (wide : IsWideRel (IsTruthLevel (bas
       (rec_append (IsFine behind n) (truth_bounds (length q.scope) (all_outputs q)) (in_branch branch q.relation ∷ []) bounds
       (in_branch_fine behind n branch q.relation r.0, tt)) in
       (all.0, linear_by how (length (bases_of q.scope)) (relation_at q branch) all.1)
-

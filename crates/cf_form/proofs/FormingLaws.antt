@@ -26,6 +26,7 @@ use Rattle.cf_form.specs.SourceChooses.{SourceChoose, chooses_in, WithBodies, ch
 use Rattle.cf_form.proofs.ChooseForms.{InBranch, branching_is, are_given_out, as_chosen_agrees, bound_agrees}
 use Rattle.cf_form.proofs.ChooseLaw.{ChooseLaw, IsChooseBehind, HasSameSolutions, SolvesSource, SolvesBranch, as_output, widely, branch_of}
 use Rattle.cf_form.proofs.FunctionLists.{AllChooses, bodies_turned, chooses_turned, formed_last, formed_turned, takes_at}
+use Rattle.cf_form.proofs.ChooseSolutions.{choose_law}
 use Rattle.cf_form.proofs.OrdinaryLaws.{choose_expr, agrees}
 use Rattle.cf_form.proofs.Outcomes.{Agree, through, as_bases, length_have}
 
@@ -195,9 +196,9 @@ source_stands how defs main t =
     chooses_turned StandsBehind defs
     (recursion_from_All StandsBehind (source_chooses defs) (λ k d l. stands_of (slice_index_or (source_chooses defs) k d) (t.relations k d l) (t.unaimed k d l)))
 
-pub forming_allows_the_same : ChooseLaw → FormingAllowsTheSame
-forming_allows_the_same law how defs main t f d e env v o =
-    let a = calls_agree law (IsLinearBy how) (reverse defs) t.typed.typed (source_stands how defs main t) f (bases_of d.params) d.results (takes_at defs f d e) env v
+pub forming_allows_the_same : FormingAllowsTheSame
+forming_allows_the_same how defs main t f d e env v o =
+    let a = calls_agree choose_law (IsLinearBy how) (reverse defs) t.typed.typed (source_stands how defs main t) f (bases_of d.params) d.results (takes_at defs f d e) env v
     o in
     let before : bodies (reverse defs) ≡ reverse (bodies defs) = bodies_turned defs in
     let after : bodies (formed_last (reverse defs)) ≡ reverse (bodies (formed_defs defs)) =

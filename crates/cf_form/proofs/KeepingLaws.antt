@@ -15,11 +15,12 @@ use Rattle.cf_program.specs.DistinctNames.{AreDistinct}
 use Rattle.cf_program.specs.LateLinear.{IsLinearBy}
 use Rattle.cf_program.specs.TypedProgram.{ExprHasBasesBy, GivenIsTypedBy, Takes, AreTypedDefsBy, all_numbers}
 use Rattle.cf_form.specs.Branches.{WideChoose, Branch, branched, all_outputs, relation_at}
-use Rattle.cf_form.specs.Expansion.{variables_from, expanded, call_expanded}
+use Rattle.cf_form.specs.Expansion.{truth_in, first_part, variables_from, expanded, call_expanded}
 use Rattle.cf_form.specs.Formed.{as_number, given_of, with_given, choose_form, wide_choose, formed, formed_def, formed_behind, formed_defs}
 use Rattle.cf_form.specs.Kept.{IsTypedBy, IsSource, IsFormedBy}
 use Rattle.cf_form.specs.Laws.{bodies, FormingKeepsTypes}
 use Rattle.cf_form.specs.LinearWide.{IsLinearBehind}
+use Rattle.cf_form.specs.Numbers.{placed_from}
 use Rattle.cf_form.specs.Relations.{MayStand, CallMayStand, GivenMayStand}
 use Rattle.cf_form.specs.SourceChooses.{SourceChoose, chooses_in, WithBodies, chooses_behind, source_chooses}
 use Rattle.cf_form.specs.Told.{wide_chooses}
@@ -68,7 +69,7 @@ module _ (how : Linearity) (earlier : List DefTree) (functions : AreTypedDefsBy 
         IsWideRel (IsTruthLevel scope) scope (wide_choose (call_expanded (bodies earlier)) q).relation
     own_wide h g =
         let own = bases_of q.scope ++ q.outputs ++ q.hidden in
-        given_wide q.given g stands.given _
+        given_wide q.given g stands.given (truth_in (first_part (expanded (call_expanded (bodies earlier)) (variables_from 0 own) q.relation)))
         (truth_from scope (expanded (call_expanded (bodies earlier)) (variables_from 0 own) q.relation)
         (parts_typed scope (IsLinearBy how) (Takes earlier) (CallMayStand (bodies earlier)) (call_expanded (bodies earlier))
         (calls_typed scope (IsLinearBy how) earlier functions) q.relation own (Truth ∷ []) h stands.relation (variables_from 0 own)
@@ -76,7 +77,7 @@ module _ (how : Linearity) (earlier : List DefTree) (functions : AreTypedDefsBy 
 
   module _ (after : ℕ → List Base → List Base → Type 0) (q : SourceChoose) (fine : IsFineBehind how (bodies earlier, q)) where
     abbrev wide : WideChoose
-    wide = wide_choose (call_expanded (bodies earlier)) q
+    wide = wide_choose (call_expanded (bodies earlier)) (aimed q at_any)
 
     counted : length (bases_of q.scope) ≡ length q.scope
     counted = length-map q.scope (λ p. p.base)
@@ -102,7 +103,8 @@ module _ (how : Linearity) (earlier : List DefTree) (functions : AreTypedDefsBy 
     any_has s own bs h =
         let relation = subst (λ bases. ExprHasBasesBy (IsLinearBy how) (Takes earlier) q.relation (bases ++ q.outputs ++ q.hidden) (one Truth)) (sym h.0) h.3 in
         let given = subst (λ bases. GivenIsTypedBy (IsLinearBy how) (Takes earlier) q.given bases) (sym h.0) h.2 in
-        rw (h.5, ← h.0) (wide_has h.1 relation given)
+        subst (λ cs. ExprHasBasesBy (IsLinearBy how) after (choose_form wide) own cs) (sym h.5)
+        (subst (λ bases. ExprHasBasesBy (IsLinearBy how) after (choose_form wide) bases q.outputs) h.0 (wide_has h.1 relation given))
 
     pub choose_has : (s : ℕ) (own bs : List Base) → ExprHasBasesBy (IsLinearBy how) (Takes earlier) (choose_expr q) own bs →
         ExprHasBasesBy (IsLinearBy how) after (formed (call_expanded (bodies earlier)) s (choose_expr q)) own bs
@@ -178,7 +180,7 @@ module _ (how : Linearity) (defs : List DefTree) (main : ℕ) (t : IsSource how 
   standing : AllByRecursion StandsBehind (source_chooses defs)
   standing =
       rec_two (λ q. MayStand (CallMayStand q.0) q.1.relation × GivenMayStand (CallMayStand q.0) q.1.given) IsUnaimedBehind StandsBehind
-      (λ q m a. stands_of q m a) (source_chooses defs) (recursion_from_All _ (source_chooses defs) t.relations) unaimed
+      (λ q m a. stands_of q m a) (source_chooses defs) (recursion_from_All (λ q. MayStand (CallMayStand q.0) q.1.relation × GivenMayStand (CallMayStand q.0) q.1.given) (source_chooses defs) t.relations) unaimed
 
   fine_chooses : AllByRecursion (IsFineBehind how) (source_chooses defs)
   fine_chooses =
@@ -211,17 +213,17 @@ module _ (how : Linearity) (defs : List DefTree) (main : ℕ) (t : IsSource how 
     functions = subst AreDistinct (sym (names_same [] defs)) t.typed.functions;
     params =
         All-from_recursion (λ d. AreDistinct (names_of d.params)) (formed_defs defs)
-            (params_same [] defs (recursion_from_All (λ d. AreDistinct (names_of d.params)) defs t.typed.params));
+        (params_same [] defs (recursion_from_All (λ d. AreDistinct (names_of d.params)) defs t.typed.params));
     has_main = named_main;
     positive =
         All-from_recursion (λ n. 1 ≤ n) (all_numbers (formed_defs defs))
-            (kept_by_all (λ n. 1 ≤ n) [] defs unaimed (recursion_from_All (λ n. 1 ≤ n) (all_numbers defs) t.typed.positive));
+        (kept_by_all (λ n. 1 ≤ n) [] defs unaimed (recursion_from_All (λ n. 1 ≤ n) (all_numbers defs) t.typed.positive));
   }
 
   pub formed_is : IsFormedBy how (formed_defs defs) main
   formed_is = record {
     typed = formed_typed;
-    numbers = blocks_share (all_numbers defs) _ t.distinct (blocks_of_all 0 [] defs unaimed);
+    numbers = blocks_share (all_numbers defs) (placed_from 0 (formed_defs defs)) t.distinct (blocks_of_all 0 [] defs unaimed);
     formed = All-from_recursion (λ d. IsOfLanguageTwo d.body) (formed_defs defs) all_of_two;
   }
 
