@@ -32,11 +32,11 @@ abbrev plain : Flags
 plain = record { plain = true; stats = false }
 
 module _ (name other source steps : List ℕ) (given last : List Told) (ls : List (List ℕ)) (text : List ℕ) where
-  of-compile : Same (Owes (compile flags name) (source ∷ []) given last ls text) ((t : RawTarget) × IsCompiledBy true source given last t × IsPrinted t text)
+  of-compile : Same (Owes (compile flags name) (source ∷ []) given last ls text) ((t : RawTarget) × IsCompiledBy true source given last t × IsPrinted (edition_of source) t text)
   of-compile = (λ h. h, λ h. h)
 
   of-plain_compile : Same (Owes (compile plain name) (source ∷ []) given last ls text)
-      ((t : RawTarget) × IsCompiledBy false source given last t × IsPrinted t text)
+      ((t : RawTarget) × IsCompiledBy false source given last t × IsPrinted (edition_of source) t text)
   of-plain_compile = (λ h. h, λ h. h)
 
   of-run : Same (Owes (run flags name) (source ∷ []) given last ls text) (OwesRun true source given last ls text)

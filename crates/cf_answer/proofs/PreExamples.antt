@@ -72,8 +72,8 @@ module _ (q : ChooseTree) (text : List ℕ) where
 
 -- ---- the printed target
 module _ (t : RawTarget) (text : List ℕ) where
-  parts_of_print : IsPrinted t text → (text ≡ target_text t) × ReadsBack (target_tree t) text
+  parts_of_print : IsPrinted Three t text → (text ≡ target_text Three t) × ReadsBack Three (target_tree t) text
   parts_of_print p = (p.is, p.reads_back)
 
-  print_of_parts : (text ≡ target_text t) × ReadsBack (target_tree t) text → IsPrinted t text
+  print_of_parts : (text ≡ target_text Three t) × ReadsBack Three (target_tree t) text → IsPrinted Three t text
   print_of_parts p = record { is = p.0; reads_back = p.1 }

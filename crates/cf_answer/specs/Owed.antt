@@ -6,6 +6,7 @@ use Rattle.cf_gen.specs.Workload.{gen_source, gen_lines}
 use Rattle.cf_io.specs.Limits.{line_limit}
 use Rattle.cf_io.specs.Lines.{lines}
 use Rattle.cf_lex.specs.Editions.{edition_of}
+use Rattle.cf_tree.specs.declared.base.Edition.{Edition}
 use Rattle.cf_tree.specs.declared.base.Edition.TheVariants.{Two}
 use Rattle.cf_tree.specs.declared.target.RawTarget.{RawTarget}
 use Rattle.cf_target.specs.Spelling.{target_tree}
@@ -61,10 +62,10 @@ pub data OwesRun (calls : Bool) (source : List ℕ) (given last : List Told) (ls
   late : (typed : TypedTree) → IsLateSource source typed → AreReplies (by_late typed) ls text → AreRunsAllowed typed → last ≡ given →
       OwesRun calls source given last ls text
 
--- the printed target, which reads back to this target alone
-pub record IsPrinted (t : RawTarget) (text : List ℕ) : Type 0 where
-  pub is : text ≡ target_text t
-  pub reads_back : ReadsBack (target_tree t) text
+-- the printed target with the header of its edition, which reads back to this target alone
+pub record IsPrinted (edition : Edition) (t : RawTarget) (text : List ℕ) : Type 0 where
+  pub is : text ≡ target_text edition t
+  pub reads_back : ReadsBack edition (target_tree t) text
 
 -- a choose passes no limit, and this is the printed form of the needs of its arms, which hold exactly where there are outputs
 pub record IsPreOf (q : ChooseTree) (text : List ℕ) : Type 0 where
@@ -96,13 +97,12 @@ IsSum t typed passes (line ∷ ls) sum =
 abbrev pub sum_line : ℕ → ℤ → List ℕ
 sum_line count sum = concat (codes "lines " ∷ decimal count ∷ codes " sum " ∷ signed_decimal sum ∷ codes "\n" ∷ [])
 
--- The questions of `check` are those of language 2.
---
 -- What a command is to write on files of these texts, with passes that told `given` before and tell `last`, and these lines of the input. A source's
--- replies are what it picks, or what its late program comes to. A workload has its own source and lines.
+-- replies are what it picks, or what its late program comes to. A workload has its own source and lines. The questions of
+-- `check` are those of language 2.
 abbrev pub Owes : Command → List (List ℕ) → List Told → List Told → List (List ℕ) → List ℕ → Type 0
 Owes (compile flags name) (file ∷ []) given last ls text =
-    (t : RawTarget) × IsCompiledBy (not flags.plain) file given last t × IsPrinted t text
+    (t : RawTarget) × IsCompiledBy (not flags.plain) file given last t × IsPrinted (edition_of file) t text
 Owes (run flags name) (file ∷ []) given last ls text = OwesRun (not flags.plain) file given last ls text
 Owes (pre name) (file ∷ []) given last ls text = (typed : TypedTree) × IsTypedSource file typed × ArePres typed text
 Owes (check name) (file ∷ []) given last ls text = (edition_of file ≡ Two) × (typed : TypedTree) × IsTypedSource file typed × AreChecks typed text

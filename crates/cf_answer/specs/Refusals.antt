@@ -104,7 +104,7 @@ abbrev pub IsRefusedRun : List ℕ → Fault → Type 0
 IsRefusedRun text f = CausesOf IsBadRun text f
 
 abbrev pub IsRefusedTarget : List ℕ → Fault → Type 0
-IsRefusedTarget text f = Causes Two IsTarget (target_of 500) IsBadTarget text f
+IsRefusedTarget text f = Causes Two (IsTarget (edition_of text)) (target_of (edition_of text) 500) IsBadTarget text f
 
 -- ---- verify
 -- a program whose chooses are not solved is refused by its rules alone

@@ -70,6 +70,6 @@ Compiles given last text t = (typed : TypedTree) × IsTypedSource text typed × 
 abbrev pub IsTypedTree : TargetTree → Type 0
 IsTypedTree t = IsTypedCode t.code t.params t.results
 
--- the text spells this target, and it is well typed
+-- the text spells this target, by its header one of edition 3 or of language 2, and it is well typed
 abbrev pub IsTypedTarget : List ℕ → TargetTree → Type 0
-IsTypedTarget text t = Spelled Two IsTarget text t × IsTypedTree t
+IsTypedTarget text t = Spelled Two (IsTarget (edition_of text)) text t × IsTypedTree t

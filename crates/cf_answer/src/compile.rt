@@ -21,8 +21,9 @@ use crate::tallies::put_closing;
 use crate::write::write_text;
 use cf_emit::print;
 use cf_io::Sink;
+use cf_lex::edition_of;
 use cf_pass::Pass;
-use cf_tree::{NoMemory, Target};
+use cf_tree::{Edition, NoMemory, Target};
 use cf_words::Flags;
 use std::alloc::Global;
 
@@ -45,17 +46,18 @@ fn compiled(
     target_of_text(alloc, text, passes)
 }
 
-// The printed target, and what is written behind all else.
+// The printed target of an edition, and what is written behind all else.
 fn printed(
     alloc: Global,
+    edition: Edition,
     target: &Target,
     stats: bool,
     passes: &[Box<dyn Pass>],
 ) -> Result<Vec<u8>, NoMemory>
-    ensures text { IfOk result (λ text. text.items ≡ target_text target.now ++ closing_lines stats (map (λ p. told p) passes.now)) }
-    ensures reads_back { IfOk result (λ text. HasSpelling target.now → ReadsBack (target_tree target.now) (target_text target.now)) }
+    ensures text { IfOk result (λ text. text.items ≡ target_text edition target.now ++ closing_lines stats (map (λ p. told p) passes.now)) }
+    ensures reads_back { IfOk result (λ text. HasSpelling target.now → ReadsBack edition (target_tree target.now) (target_text edition target.now)) }
 {
-    let mut text = print(alloc, target)?;
+    let mut text = print(alloc, edition, target)?;
     put_closing(stats, passes, &mut text)?;
     Ok(text)
 }
@@ -76,6 +78,6 @@ pub fn write_target<O: Sink>(
     ensures unwritten { IsEarly (the_status_of result) → out.new ≡ out.old }
 {
     let target = compiled(alloc, flags.plain, text, passes)?;
-    let text = printed(alloc, &target, flags.stats, passes)?;
+    let text = printed(alloc, edition_of(text), &target, flags.stats, passes)?;
     write_text(out, &text)
 }

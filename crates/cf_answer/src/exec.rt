@@ -16,6 +16,7 @@ use crate::fault::Fault;
 use crate::input::answer_by;
 use crate::text::lexed;
 use cf_io::{Sink, Source};
+use cf_lex::edition_of;
 use cf_parse::{ParseFault, target};
 use cf_tree::{Edition, Target};
 use cf_type::{TargetFault, check_target};
@@ -28,7 +29,7 @@ fn read_target(alloc: Global, text: &[u8]) -> Result<Target, Fault>
     ensures { IsVerdict (λ t. IsTypedTarget text.now (target_tree t)) (IsRefusedTarget text.now) result }
 {
     let list = lexed(alloc, Edition::Two, text)?;
-    match target(alloc, &list) {
+    match target(alloc, edition_of(text), &list) {
         Ok(raw) => match check_target(alloc, raw) {
             Ok(target) => Ok(target),
             Err(TargetFault::BadTarget) => Err(Fault::BadTarget),
