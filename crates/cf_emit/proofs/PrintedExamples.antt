@@ -3,6 +3,7 @@ use Rattle.std.proofs.Common.{◌≡◌, pos, true, false, [], ◌∷◌, map, r
 use Rattle.std.specs.Prelude.{negsuc}
 use Rattle.std.specs.Fmt.{digits}
 use Rattle.cf_tree.specs.declared.base.Base.TheVariants.{Int, Bool as Truth, Set}
+use Rattle.cf_tree.specs.declared.base.Edition.TheVariants.{Two, Three}
 use Rattle.cf_tree.specs.declared.base.Order.TheVariants.{Eq, Ne, Lt, Le, Gt, Ge}
 use Rattle.cf_tree.specs.declared.target.RawTarget.{RawTarget}
 use Rattle.cf_tree.specs.CodeTree.{CodeTree, code_lit, code_truth, code_var, code_set_of, code_tuple, code_sum, code_sub, code_mul, code_neg, code_div, code_mod, code_min, code_max, code_compare, code_divides, code_and, code_or, code_not, code_union, code_inter, code_diff, code_subset, code_card, code_slice, code_fresh, code_if, code_let, code_solve, CodeTrees, let_item, need_item, arm_of, no_arms, codes_of, items_of, arms_of}
@@ -106,11 +107,11 @@ two_arms = refl
 -- ---- targets and preconditions
 module _ (t : RawTarget) where
   whole : t.params.items ≡ Int ∷ Set ∷ [] → t.results.items ≡ Truth ∷ [] → code_tree t.code ≡ code_truth true →
-      target_text t ≡ codes "comfusy 2\nmain (int, set): bool = true\n"
-  whole params results code = rw (params, results, code) refl
+      (target_text Two t ≡ codes "comfusy 2\nmain (int, set): bool = true\n") × (target_text Three t ≡ codes "comfusy 3\nmain (int, set): bool = true\n")
+  whole params results code = (rw (params, results, code) refl, rw (params, results, code) refl)
 
   without_parameters : t.params.items ≡ [] → t.results.items ≡ Int ∷ Int ∷ [] → code_tree t.code ≡ code_tuple pair →
-      target_text t ≡ codes "comfusy 2\nmain (): (int, int) = (v0, v1)\n"
+      target_text Two t ≡ codes "comfusy 2\nmain (): (int, int) = (v0, v1)\n"
   unfolding digits
   without_parameters params results code = rw (params, results, code) refl
 

@@ -5,6 +5,7 @@ use Rattle.cf_lex.specs.Bytes.{is_white, is_letter, is_in_word, is_short_sign, i
 use Rattle.cf_lex.specs.Places.{place_after}
 use Rattle.cf_lex.specs.Runs.{AllAre, StopsAt}
 use Rattle.cf_lex.specs.Tokens.{IsPiece, IsWord, IsSign, Lexes, piece}
+use Rattle.cf_tree.specs.declared.base.Edition.TheVariants.{Two}
 use Rattle.cf_tree.specs.declared.base.Place.{Place}
 use Rattle.cf_lex.specs.declared.token.Token.{Token}
 use Rattle.cf_lex.specs.declared.token.TokenKind.{TokenKind}
@@ -13,8 +14,8 @@ use Rattle.cf_reader.specs.Tokens.{Form, ◌⨟◌, Next}
 
 -- From any place on, the text gives tokens that spell X and then the tokens of the rest.
 pub record Spans (X : Form) (text rest : List ℕ) : Type 0 where
-  pub spans : (p : Place) → (q : Place) × ((more : List Token) (e : Place) → Lexes (2 ^ 127 - 1) q rest more e [] →
-      (ts : List Token) × Lexes (2 ^ 127 - 1) p text ts e [] × X ts more)
+  pub spans : (p : Place) → (q : Place) × ((more : List Token) (e : Place) → Lexes Two (2 ^ 127 - 1) q rest more e [] →
+      (ts : List Token) × Lexes Two (2 ^ 127 - 1) p text ts e [] × X ts more)
 
 -- w gives tokens that spell X, before any rest that does not go on with its last word
 abbrev pub Says : Form → List ℕ → Type 0
@@ -32,7 +33,7 @@ pub as_form : {X Y : Form} {text rest : List ℕ} → ((ts more : List Token) �
 as_form turn s = record { spans = λ p. let g = s.spans p in (g.0, λ more e l. let x = g.1 more e l in (x.0, x.1, turn x.0 more x.2)) }
 
 -- a token
-pub one_token : (w rest : List ℕ) (k : TokenKind) → IsPiece (2 ^ 127 - 1) w (Some k) rest → Spans (Next k) (w ++ rest) rest
+pub one_token : (w rest : List ℕ) (k : TokenKind) → IsPiece Two (2 ^ 127 - 1) w (Some k) rest → Spans (Next k) (w ++ rest) rest
 one_token w rest k h = record { spans = λ p. (place_after p w, λ more e l. (record { place = p; kind = k } ∷ more, piece w (Some k) refl h refl l, (p, refl))) }
 
 -- a white byte before, and one behind
@@ -74,7 +75,7 @@ word w rest h stops = one_token w rest (Word w) (is_a_word w rest h stops, refl)
 pub spaced : (w rest : List ℕ) → is_plain w ≡ true → Spans (Next (Word w)) (w ++ (32 ∷ rest)) rest
 spaced w rest h = white_behind 32 refl (word w (32 ∷ rest) h refl)
 
-pub sign : (w rest : List ℕ) → IsSign w rest → Spans (Next (Sign w)) (w ++ rest) rest
+pub sign : (w rest : List ℕ) → IsSign Two w rest → Spans (Next (Sign w)) (w ++ rest) rest
 sign w rest h = one_token w rest (Sign w) (h, refl)
 
 -- a sign that begins no longer one
@@ -137,7 +138,7 @@ comma = behind (codes ",") (bare 44 (refl, refl, refl, refl) refl)
 pub colon : Mark (Sign (codes ":")) (codes ": ")
 colon = behind (codes ":") (bare 58 (refl, refl, refl, refl) refl)
 
-pub spaced_sign : (w : List ℕ) → ((rest : List ℕ) → IsSign w (32 ∷ rest)) → Mark (Sign w) (codes " " ++ w ++ codes " ")
+pub spaced_sign : (w : List ℕ) → ((rest : List ℕ) → IsSign Two w (32 ∷ rest)) → Mark (Sign w) (codes " " ++ w ++ codes " ")
 spaced_sign w h = record {
   begins = λ rest. refl;
   gives =

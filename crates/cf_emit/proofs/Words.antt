@@ -9,17 +9,19 @@ use Rattle.cf_lex.specs.Bytes.{is_in_word}
 use Rattle.cf_lex.specs.Runs.{StopsAt}
 use Rattle.cf_lex.specs.declared.token.TokenKind.{TokenKind}
 use Rattle.cf_lex.specs.declared.token.TokenKind.TheVariants.{Literal, Word, Sign}
-use Rattle.cf_reader.specs.Tokens.{Form, Next, Others, Several, OneOrTuple}
+use Rattle.cf_reader.specs.Tokens.{Form, ◌⨟◌, Next, Others, Several, OneOrTuple}
 use Rattle.cf_reader.specs.Kinds.{truth_kind, order_kind, SpellsBase}
 use Rattle.cf_target.specs.Spelling.{level_name, SpellsVariable, SpellsMoreVariables, SpellsVariables, SpellsNumber, SpellsDivisor, SpellsNumeral, SpellsBounds, SpellsBases, SpellsHeader}
 use Rattle.cf_tree.specs.declared.base.Base.{Base}
 use Rattle.cf_tree.specs.declared.base.Base.TheVariants.{Int, Bool as Truth, Set}
+use Rattle.cf_tree.specs.declared.base.Edition.{Edition}
+use Rattle.cf_tree.specs.declared.base.Edition.TheVariants.{Two, Three}
 use Rattle.cf_tree.specs.declared.base.Order.{Order}
 use Rattle.cf_tree.specs.declared.base.Order.TheVariants.{Eq, Ne, Lt, Le, Gt, Ge}
 use Rattle.cf_tree.specs.Relation.{IsDivisor}
 use Rattle.cf_tree.specs.Spelled.{IsNumeral}
 use Rattle.cf_tree.specs.Words.{truth_text}
-use Rattle.cf_emit.specs.Printed.{line_end, base_text, order_text, variable_text, more_variables, variables_text, more_texts, listed, results_text}
+use Rattle.cf_emit.specs.Printed.{line_end, base_text, header_text, order_text, variable_text, more_variables, variables_text, more_texts, listed, results_text}
 use Rattle.cf_emit.proofs.Numerals.{AreDigitsOf, decimal_read, digits_in_word, ends_digits}
 use Rattle.cf_emit.proofs.Spans.{Spans, Says, then, as_form, one_token, white_behind, word, spaced, Mark, closing, closing_square, minus, comma, spaced_sign}
 use Rattle.cf_emit.proofs.Forms.{first_part, next_part, bracketed, tuple_form}
@@ -147,8 +149,13 @@ results_say (b ∷ []) some rest stops = base_says b rest stops
 results_say (b ∷ c ∷ bs) some rest stops =
     bracketed (listed (map base_text (b ∷ c ∷ bs))) rest (several_say SpellsBase base_text b (c ∷ bs) (codes ")") rest (all_bases_say (b ∷ c ∷ bs)) closing)
 
-pub header_says : (rest : List ℕ) → Spans SpellsHeader (codes "comfusy 2" ++ (line_end ++ rest)) rest
-header_says rest =
-    let two : AreDigitsOf 2 (codes "2") = record { some = omega arith; digits = (refl, tt); value = refl } in
-    as_form (λ ts more h. inr h) (then (spaced (codes "comfusy") (codes "2" ++ (line_end ++ rest)) refl)
-    (white_behind 10 refl (digits_say 2 (codes "2") (omega arith) two (10 ∷ rest) refl)))
+header_form : (k : ℕ) (digit rest : List ℕ) → k ≤ 2 ^ 127 - 1 → AreDigitsOf k digit →
+    Spans (Next (Word (codes "comfusy")) ⨟ Next (Literal (pos k))) (codes "comfusy " ++ (digit ++ (line_end ++ rest))) rest
+header_form k digit rest small are =
+    then (spaced (codes "comfusy") (digit ++ (line_end ++ rest)) refl) (white_behind 10 refl (digits_say k digit small are (10 ∷ rest) refl))
+
+pub header_says : (edition : Edition) (rest : List ℕ) → Spans (SpellsHeader edition) (header_text edition ++ (line_end ++ rest)) rest
+header_says Two rest =
+    as_form (λ ts more h. inr h) (header_form 2 (codes "2") rest (omega arith) (record { some = omega arith; digits = (refl, tt); value = refl }))
+header_says Three rest =
+    as_form (λ ts more h. inr h) (header_form 3 (codes "3") rest (omega arith) (record { some = omega arith; digits = (refl, tt); value = refl }))

@@ -4,6 +4,8 @@ use Rattle.std.specs.Fmt.{signed_decimal}
 use Rattle.cf_tree.specs.Words.{truth_text}
 use Rattle.cf_tree.specs.declared.base.Base.{Base}
 use Rattle.cf_tree.specs.declared.base.Base.TheVariants.{Int, Bool as Truth, Set}
+use Rattle.cf_tree.specs.declared.base.Edition.{Edition}
+use Rattle.cf_tree.specs.declared.base.Edition.TheVariants.{Two, Three}
 use Rattle.cf_tree.specs.declared.base.Order.{Order}
 use Rattle.cf_tree.specs.declared.base.Order.TheVariants.{Eq, Ne, Lt, Le, Gt, Ge}
 use Rattle.cf_tree.specs.declared.target.RawTarget.{RawTarget}
@@ -123,10 +125,14 @@ abbrev mutual
   arms_text no_arms = []
   arms_text (arm_more a arms) = arm_text a ++ arms_text arms
 
+abbrev pub header_text : Edition → List ℕ
+header_text Two = codes "comfusy 2"
+header_text Three = codes "comfusy 3"
+
 -- a header line, and a line that may go on in the arms of solves
-abbrev pub target_text : RawTarget → List ℕ
-target_text t =
-    codes "comfusy 2" ++ line_end ++ codes "main (" ++ listed (map base_text t.params.items) ++ codes "): " ++ results_text t.results.items ++ codes " = "
+abbrev pub target_text : Edition → RawTarget → List ℕ
+target_text edition t =
+    header_text edition ++ line_end ++ codes "main (" ++ listed (map base_text t.params.items) ++ codes "): " ++ results_text t.results.items ++ codes " = "
     ++ code_text (code_tree t.code) ++ line_end
 
 -- ---- preconditions: an arm gives nothing

@@ -10,7 +10,7 @@ use Rattle.cf_reader.specs.Kinds.{results_of}
 use Rattle.cf_reader.proofs.Sample.{word, sign, literal}
 use Rattle.cf_target.specs.Levels.{last_level, with_digit}
 use Rattle.cf_target.specs.Reading.{step, read}
-use Rattle.cf_target.specs.Targets.{bases_of, main_of, part_of}
+use Rattle.cf_target.specs.Targets.{bases_of, main_of, headless_of, part_of}
 use Rattle.cf_elim.specs.declared.act.Act.{Act}
 use Rattle.cf_elim.specs.declared.act.Act.TheVariants.{Clean, Mix, Last, Search, Drop}
 use Rattle.cf_steps.specs.Blocks.{BlockTree}
@@ -82,7 +82,7 @@ two_tokens =
     sign (codes "}") ∷ word (codes "comfusy") ∷ literal 2 ∷ one_tokens [])
 
 two-blocks : AreBlocks two two_tokens
-unfolding at pure refuse must bind first deep at_end more_of others_of several_of one_or_tuple results_of last_level with_digit bases_of main_of part_of step read factor_of mix_of search_of act_of ended_act acts_of all_acts case_of block_of blocks_of all_blocks
+unfolding at pure refuse must bind first deep at_end more_of others_of several_of one_or_tuple results_of last_level with_digit bases_of main_of headless_of part_of step read factor_of mix_of search_of act_of ended_act acts_of all_acts case_of block_of blocks_of all_blocks
 two-blocks = found_law two_tokens two [] refl
 
 no-blocks : AreBlocks [] []
@@ -102,7 +102,7 @@ broken = (
     []
 
 broken-read : map (λ x. all_blocks 500 x.1) broken ≡ map (λ x. Err x.0) broken
-unfolding at pure refuse must bind first deep at_end more_of others_of several_of one_or_tuple results_of last_level with_digit bases_of main_of part_of step read factor_of mix_of search_of act_of ended_act acts_of all_acts case_of block_of blocks_of all_blocks
+unfolding at pure refuse must bind first deep at_end more_of others_of several_of one_or_tuple results_of last_level with_digit bases_of main_of headless_of part_of step read factor_of mix_of search_of act_of ended_act acts_of all_acts case_of block_of blocks_of all_blocks
 broken-read = refl
 
 -- ---- what has a spelling: columns of 32 bits, and factors within the limit

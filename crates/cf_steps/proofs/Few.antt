@@ -2,6 +2,7 @@
 use Rattle.std.proofs.Common.{ℕ, ◌+◌, ◌≤◌, List, [], ◌∷◌, length, length-append, arith}
 use Rattle.std.specs.Prelude.{pos, codes}
 use Rattle.std.specs.List.{flat_map}
+use Rattle.cf_tree.specs.declared.base.Edition.TheVariants.{Two}
 use Rattle.cf_lex.specs.declared.token.Token.{Token}
 use Rattle.cf_lex.specs.declared.token.TokenKind.TheVariants.{Literal, Word, Sign}
 use Rattle.cf_reader.proofs.Exact.{first_longer, left_over}
@@ -32,7 +33,7 @@ few_block limit b ts us (t1, w, (t2, n, (t3, o, (t4, c, t)))) =
     let i = first_longer (Word (codes "choose")) ts t1 w.0 w.1 in
     let j = first_longer (Literal (pos b.number)) t1 t2 n.1.0 n.1.1 in
     let k = first_longer (Sign (codes "{")) t2 t3 o.0 o.1 in
-    let m = left_over (length t4) (part_of limit t4) b.target us (part_is limit b.target t4 us t) (part_within limit t4) in
+    let m = left_over (length t4) (part_of Two limit t4) b.target us (part_is Two limit b.target t4 us t) (part_within limit t4) in
     omega (arith, i, j, k, few_cases b.cases t3 t4 c, m)
 
 few_blocks : (limit : ℕ) (bs : List BlockTree) (ts : List Token) → SpellsBlocks limit bs ts → length (flat_map block_acts bs) ≤ length ts

@@ -5,6 +5,7 @@ use Rattle.std.specs.Prelude.{ℤ, pos, negsuc, neg_ℤ, nat_le, codes}
 use Rattle.std.specs.Str.{bytes_eq}
 use Rattle.std.proofs.lemmas.Bool.{leb-true}
 use Rattle.std.proofs.lemmas.List.{append-nil}
+use Rattle.cf_tree.specs.declared.base.Edition.TheVariants.{Two}
 use Rattle.cf_lex.specs.declared.token.Token.{Token}
 use Rattle.cf_lex.specs.declared.token.TokenKind.{TokenKind}
 use Rattle.cf_lex.specs.declared.token.TokenKind.TheVariants.{Literal, Word, Sign}
@@ -132,7 +133,7 @@ unfolding block_of
 block_yields limit ts =
     bind_yields _ _ ts (must_yields _ ts) (λ p0 z w. bind_yields _ _ z (must_yields _ z) (λ n a p. bind_yields _ _ a (must_yields _ a)
     (λ q b m. bind_yields _ _ b (cases_yields b) (λ cases c s.
-    bind_yields _ _ c (part_yields limit c) (λ t us r.
+    bind_yields _ _ c (part_yields Two limit c) (λ t us r.
     pure_yields _ us (z, took_next _ ts z p0 w, (a, took_column z a n p, (b, took_next _ a b q m, (c, s, r)))))))))
 
 MoreBlocks : ℕ → List BlockTree → List Token → List BlockTree → List Token → Type 0

@@ -4,6 +4,7 @@ use Rattle.std.proofs.Common.{refl, sym, ap, ◌∙◌, arith, append_assoc}
 use Rattle.std.specs.Prelude.{ℤ, pos, nat_le, codes}
 use Rattle.std.proofs.lemmas.Bool.{le-leb}
 use Rattle.std.proofs.lemmas.List.{append-nil}
+use Rattle.cf_tree.specs.declared.base.Edition.TheVariants.{Two}
 use Rattle.cf_lex.specs.declared.token.Token.{Token}
 use Rattle.cf_lex.specs.declared.token.TokenKind.TheVariants.{Literal, Word, Sign}
 use Rattle.cf_tree.specs.declared.base.Place.{Place}
@@ -75,7 +76,7 @@ block_local : {more other : List Token} (limit : ℕ) → Local more other (bloc
 unfolding block_of
 block_local limit =
     bind_local (must_local _) (λ z. bind_local (must_local _) (λ n. bind_local (must_local _) (λ p. bind_local (others_local snoc _ _ [] case_local)
-    (λ cases. bind_local (part_local limit) (λ t. pure_local _)))))
+    (λ cases. bind_local (part_local Two limit) (λ t. pure_local _)))))
 
 blocks_local : {more other : List Token} (limit j k : ℕ) (done : List BlockTree) → Local more other (blocks_of limit j done) (blocks_of limit k done)
 unfolding blocks_of
@@ -204,10 +205,10 @@ unfolding block_of
 block_is limit b ts us (t1, w, (t2, n, (t3, o, (t4, c, t)))) =
     bind_is _ _ ts (next_is _ ts t1 refl w) (bind_is _ _ t1 (must_column b.number t1 t2 n) (bind_is _ _ t2 (next_is _ t2 t3 refl o) (bind_is _ _ t3
     (cases_are b.cases t3 t4 c)
-    (bind_is _ _ t4 (part_is limit b.target t4 us t) (pure_is _ _ us refl)))))
+    (bind_is _ _ t4 (part_is Two limit b.target t4 us t) (pure_is _ _ us refl)))))
 
-pub part_within : (limit : ℕ) (ts : List Token) → Within (length ts) (part_of limit ts)
-part_within limit ts = (part_local {more = []} {other = []} limit).within ts (length ts) (omega arith)
+pub part_within : (limit : ℕ) (ts : List Token) → Within (length ts) (part_of Two limit ts)
+part_within limit ts = (part_local {more = []} {other = []} Two limit).within ts (length ts) (omega arith)
 
 cases_within : (ts : List Token) → Within (length ts) (others_of snoc case_of (Word (codes "case")) (Sign (codes "}")) [] ts)
 cases_within ts = (others_local {more = []} {other = []} snoc (Word (codes "case")) (Sign (codes "}")) [] case_local).within ts (length ts) (omega arith)
@@ -218,7 +219,7 @@ block_shorter limit b ts us (t1, w, (t2, n, (t3, o, (t4, c, t)))) =
     let j = first_longer (Literal (pos b.number)) t1 t2 n.1.0 n.1.1 in
     let k = first_longer (Sign (codes "{")) t2 t3 o.0 o.1 in
     let l = left_over (length t3) _ b.cases t4 (cases_are b.cases t3 t4 c) (cases_within t3) in
-    let m = left_over (length t4) (part_of limit t4) b.target us (part_is limit b.target t4 us t) (part_within limit t4) in
+    let m = left_over (length t4) (part_of Two limit t4) b.target us (part_is Two limit b.target t4 us t) (part_within limit t4) in
     omega (arith, i, j, k, l, m)
 
 blocks_are : (limit : ℕ) (bs : List BlockTree) (fuel : ℕ) (done : List BlockTree) (ts : List Token) → SpellsBlocks limit bs ts → length ts ≤ fuel →

@@ -4,6 +4,7 @@ use Rattle.std.specs.Prelude.{ℤ, pos, negsuc, neg_ℤ, ◌≤ℤ◌, All, deci
 use Rattle.std.specs.Fmt.{signed_decimal}
 use Rattle.std.proofs.lemmas.Int.{ints}
 use Rattle.std.proofs.lemmas.List.Elements.{All-head, All-tail}
+use Rattle.cf_tree.specs.declared.base.Edition.TheVariants.{Two}
 use Rattle.cf_num.specs.Limit.{IsWithin}
 use Rattle.cf_lex.specs.Places.{first_place}
 use Rattle.cf_lex.specs.Tokens.{Lexes, none}
@@ -120,18 +121,18 @@ cases_say (acts ∷ cases) h rest =
 
 -- ---- blocks
 target_form : {X Y Z : Form} (p r c rest : List ℕ) → ((more : List ℕ) → Spans X (p ++ (codes ")" ++ more)) more) → Says Y r → Says Z c →
-    Spans (SpellsHeader ⨟ Next (Word (codes "main")) ⨟ Next (Sign (codes "(")) ⨟ X ⨟ Next (Sign (codes ":")) ⨟ Y ⨟ Next (Sign (codes "=")) ⨟ Z)
+    Spans (SpellsHeader Two ⨟ Next (Word (codes "main")) ⨟ Next (Sign (codes "(")) ⨟ X ⨟ Next (Sign (codes ":")) ⨟ Y ⨟ Next (Sign (codes "=")) ⨟ Z)
     (codes "comfusy 2" ++ line_end ++ codes "main (" ++ p ++ codes "): " ++ r ++ codes " = " ++ c ++ line_end ++ rest) rest
 target_form p r c rest params results code =
     let value : List ℕ = c ++ (line_end ++ rest) in
     let typed : List ℕ = r ++ (codes " = " ++ value) in
     let line : List ℕ = p ++ (codes ")" ++ (codes ": " ++ typed)) in
-    simp append_assoc (then (header_says (codes "main (" ++ line))
+    simp append_assoc (then (header_says Two (codes "main (" ++ line))
     (then (spaced (codes "main") (codes "(" ++ line) refl) (then (opening.gives line) (then (params (codes ": " ++ typed))
     (then (colon.gives typed) (then (results (codes " = " ++ value) (equals.begins value))
     (then (equals.gives value) (white_behind 10 refl (code (line_end ++ rest) refl)))))))))
 
-target_says : (t : RawTarget) → HasSpelling t → (rest : List ℕ) → Spans (SpellsPart 500 (target_tree t)) (target_text t ++ rest) rest
+target_says : (t : RawTarget) → HasSpelling t → (rest : List ℕ) → Spans (SpellsPart Two 500 (target_tree t)) (target_text Two t ++ rest) rest
 target_says t h rest =
     as_form (λ ts more w. (h.0, w)) (target_form (listed (map base_text t.params.items)) (results_text t.results.items) (code_text (code_tree t.code)) rest
     (params_say t.params.items) (results_say t.results.items h.2) (code_says (code_tree t.code) h.1))
@@ -152,7 +153,7 @@ block_with n cases t = record { number = n; cases = cases; target = target_tree 
 block_says : (n : ℕ) (cases : List (List Act)) (t : RawTarget) → IsColumn n → AreSpelledCases cases → HasSpelling t → (rest : List ℕ) →
     Spans (SpellsBlock 500 (block_with n cases t)) (block_text n cases t ++ rest) rest
 block_says n cases t hn hc ht rest =
-    block_form (decimal n) (cases_text cases) (target_text t) rest (column_says n hn) (cases_say cases hc) (target_says t ht rest)
+    block_form (decimal n) (cases_text cases) (target_text Two t) rest (column_says n hn) (cases_say cases hc) (target_says t ht rest)
 
 pub block_reads_back : (n : ℕ) (cases : List (List Act)) (t : RawTarget) (text : List ℕ) → text ≡ block_text n cases t → n < 2 ^ 32 → AreSpelledCases cases →
     HasSpelling t → ReadsBack (block_with n cases t ∷ []) text
@@ -168,7 +169,7 @@ block_reads_back n cases t text is hn hc ht =
 record Lexed (bs : List BlockTree) (p : Place) (text : List ℕ) : Type 0 where
   tokens : List Token
   end : Place
-  lexed : Lexes (2 ^ 127 - 1) p text tokens end []
+  lexed : Lexes Two (2 ^ 127 - 1) p text tokens end []
   spelled : AreBlocks bs tokens
 
 blocks_say : (bs : List Block) → All IsSpelledBlock bs → (p : Place) → Lexed (map block_tree bs) p (blocks_text bs)

@@ -2,6 +2,7 @@
 use Rattle.std.proofs.Common.{◌≡◌, inl, inr, ℕ, zero, suc, ◌-◌, ◌^◌, List, [], ◌∷◌, map, sym, subst}
 use Rattle.std.specs.Prelude.{ℤ, pos, negsuc, neg_ℤ, ◌≤ℤ◌, All}
 use Rattle.std.proofs.lemmas.List.Elements.{All-nil, All-cons}
+use Rattle.cf_tree.specs.declared.base.Edition.TheVariants.{Two}
 use Rattle.cf_num.specs.Limit.{IsWithin}
 use Rattle.cf_lex.specs.Tokens.{AreWithin}
 use Rattle.cf_lex.specs.declared.token.Token.{Token}
@@ -57,8 +58,8 @@ cases_keep : (cases : List (List Act)) → Keeps (SpellsCases cases) (AreSpelled
 cases_keep cases = others_keep SpellsCase (λ acts. All IsSpelledAct acts) _ _ case_keeps cases
 
 -- ---- blocks
-target_keeps : (t : RawTarget) → Keeps (SpellsPart 500 (target_tree t)) (HasSpelling t)
-target_keeps t = behind (λ h. (h.0, h.1.1.1, h.1.1.0)) (given (both header_keeps (main_keeps t)))
+target_keeps : (t : RawTarget) → Keeps (SpellsPart Two 500 (target_tree t)) (HasSpelling t)
+target_keeps t = behind (λ h. (h.0, h.1.1.1, h.1.1.0)) (given (both (header_keeps Two) (main_keeps t)))
 
 block_keeps : (b : Block) → Keeps (SpellsBlock 500 (block_tree b)) (IsSpelledBlock b)
 block_keeps b =

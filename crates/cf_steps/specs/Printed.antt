@@ -1,6 +1,7 @@
 -- The printed form of a block.
 use Rattle.std.specs.Prelude.{ℕ, Bool, true, false, List, [], ◌∷◌, ◌++◌, codes, decimal}
 use Rattle.std.specs.Fmt.{signed_decimal}
+use Rattle.cf_tree.specs.declared.base.Edition.TheVariants.{Two}
 use Rattle.cf_tree.specs.declared.target.RawTarget.{RawTarget}
 use Rattle.cf_emit.specs.Printed.{line_end, target_text}
 use Rattle.cf_elim.specs.declared.act.Act.{Act}
@@ -34,7 +35,7 @@ cases_text (acts ∷ cases) = codes "case {" ++ line_end ++ acts_text acts ++ co
 
 -- the steps of choose number n, and its target
 abbrev pub block_text : ℕ → List (List Act) → RawTarget → List ℕ
-block_text n cases t = codes "choose " ++ decimal n ++ codes " {" ++ line_end ++ cases_text cases ++ codes "}" ++ line_end ++ target_text t
+block_text n cases t = codes "choose " ++ decimal n ++ codes " {" ++ line_end ++ cases_text cases ++ codes "}" ++ line_end ++ target_text Two t
 
 -- the blocks one after the other
 abbrev pub blocks_text : List Block → List ℕ

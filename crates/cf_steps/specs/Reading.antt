@@ -2,6 +2,7 @@
 use Rattle.std.specs.Prelude.{ℕ, zero, suc, ℤ, pos, negsuc, neg_ℤ, nat_le, Bool, true, false, List, [], length, Option, Some, None, Err}
 use Rattle.std.specs.Prelude.{codes, if◌then◌else◌}
 use Rattle.std.specs.Str.{bytes_eq}
+use Rattle.cf_tree.specs.declared.base.Edition.TheVariants.{Two}
 use Rattle.cf_lex.specs.declared.token.TokenKind.TheVariants.{Literal, Word, Sign}
 use Rattle.cf_reader.specs.Readers.{Reader, Test, is, a_literal, pure, refuse, must, ◌>>=◌, first, at_end, others_of, snoc}
 use Rattle.cf_target.specs.Levels.{last_level}
@@ -80,7 +81,7 @@ block_of limit = do
   number ← must a_column
   _ ← must (is (Sign (codes "{")))
   cases ← others_of snoc case_of (Word (codes "case")) (Sign (codes "}")) []
-  target ← part_of limit
+  target ← part_of Two limit
   pure (record { number = number; cases = cases; target = target })
 
 -- { block } up to the end, behind the blocks that were read before

@@ -1,5 +1,6 @@
 -- Printed blocks as readers find them.
 use Rattle.std.specs.Prelude.{◌≡◌, ℕ, ◌-◌, ◌^◌, List}
+use Rattle.cf_tree.specs.declared.base.Edition.TheVariants.{Two}
 use Rattle.cf_lex.specs.Tokens.{LexesTo, at_end}
 use Rattle.cf_lex.specs.declared.token.Token.{Token}
 use Rattle.cf_tree.specs.declared.base.Place.{Place}
@@ -10,6 +11,6 @@ use Rattle.cf_steps.specs.Spelling.{AreBlocks}
 pub record ReadsBack (bs : List BlockTree) (text : List ℕ) : Type 0 where
   pub tokens : List Token
   pub end : Place
-  pub lexed : LexesTo (2 ^ 127 - 1) text tokens end at_end
+  pub lexed : LexesTo Two (2 ^ 127 - 1) text tokens end at_end
   pub spelled : AreBlocks bs tokens
   pub only : (others : List BlockTree) → AreBlocks others tokens → others ≡ bs

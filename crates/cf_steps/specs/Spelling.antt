@@ -1,5 +1,6 @@
 -- Which tokens spell the blocks of a steps file.
 use Rattle.std.specs.Prelude.{◌≡◌, ◌<◌, ◌^◌, ◌⊎◌, ℕ, ℤ, pos, neg_ℤ, Bool, true, false, List, [], ◌∷◌, codes}
+use Rattle.cf_tree.specs.declared.base.Edition.TheVariants.{Two}
 use Rattle.cf_lex.specs.declared.token.Token.{Token}
 use Rattle.cf_lex.specs.declared.token.TokenKind.{TokenKind}
 use Rattle.cf_lex.specs.declared.token.TokenKind.TheVariants.{Literal, Word, Sign}
@@ -45,7 +46,7 @@ SpellsCases cases = Others SpellsCase (Word (codes "case")) (Sign (codes "}")) c
 -- "choose" literal "{" { case } "}" target
 abbrev pub SpellsBlock : ℕ → BlockTree → Form
 SpellsBlock limit b =
-    Next (Word (codes "choose")) ⨟ SpellsColumn b.number ⨟ Next (Sign (codes "{")) ⨟ SpellsCases b.cases ⨟ SpellsPart limit b.target
+    Next (Word (codes "choose")) ⨟ SpellsColumn b.number ⨟ Next (Sign (codes "{")) ⨟ SpellsCases b.cases ⨟ SpellsPart Two limit b.target
 
 -- the blocks one after the other, up to the end
 abbrev pub SpellsBlocks : ℕ → List BlockTree → List Token → Type 0

@@ -10,7 +10,7 @@ ghost use Rattle.cf_steps.specs.Spelled.{AreSpelledCases};
 
 use cf_elim::Act;
 use cf_emit::print;
-use cf_tree::{NoMemory, Target, put_number};
+use cf_tree::{Edition, NoMemory, Target, put_number};
 use itoa::Integer;
 use std::alloc::Global;
 
@@ -121,6 +121,6 @@ pub fn print_block(
 {
     let mut out = Vec::new(alloc);
     put_steps(&mut out, number, cases)?;
-    out.extend_from_slice(&print(alloc, target)?)?;
+    out.extend_from_slice(&print(alloc, Edition::Two, target)?)?;
     Ok(out)
 }

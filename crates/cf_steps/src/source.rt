@@ -18,6 +18,7 @@ use cf_elim::Act;
 use cf_lex::{Token, TokenList};
 use cf_reader::{ParseFault, ReadStop, after_word, expect_sign, expect_word, place_at};
 use cf_target::{DEPTH_LIMIT, target_part};
+use cf_tree::Edition;
 use std::alloc::Global;
 
 // The cases with one more.
@@ -63,7 +64,7 @@ fn block(alloc: Global, limit: u32, tokens: &[Token]) -> Result<(Block, &[Token]
     let (number, rest) = expect_column(rest)?;
     let (_, rest) = expect_sign("{", rest)?;
     let (cases, rest) = cases(alloc, rest)?;
-    let (target, rest) = target_part(alloc, limit, rest)?;
+    let (target, rest) = target_part(alloc, Edition::Two, limit, rest)?;
     let block = Block {
         number,
         cases,
