@@ -80,12 +80,14 @@ signs_of_two =
 signs_of_two-step : map (λ e. step Two 999 e.1) signs_of_two ≡ map (λ e. e.0) signs_of_two
 signs_of_two-step = refl
 
-reserved : list_all (is_reserved Three) (codes "bool" ∷ codes "choose" ∷ codes "const" ∷ codes "def" ∷ codes "diff" ∷ codes "divides" ∷ codes "else" ∷ codes "false" ∷ codes "given" ∷
+reserved : list_all (is_reserved Three) (codes "bool" ∷ codes "choose" ∷ codes "const" ∷ codes "def" ∷ codes "diff" ∷ codes "divides" ∷ codes "else" ∷
+    codes "false" ∷ codes "given" ∷
     codes "if" ∷ codes "in" ∷ codes "int" ∷ codes "inter" ∷ codes "let" ∷ codes "match" ∷ codes "maximise" ∷ codes "minimise" ∷ codes "set" ∷ codes
     "subset" ∷ codes "then" ∷ codes "true" ∷ codes "union" ∷ codes "where" ∷ codes "with" ∷ []) ≡ true
 reserved = refl
 
-not-reserved : list_any (is_reserved Three) (codes "Const" ∷ codes "abs" ∷ codes "and" ∷ codes "arm" ∷ codes "card" ∷ codes "comfusy" ∷ codes "constant" ∷ codes "div" ∷ codes "fresh" ∷ codes
+not-reserved : list_any (is_reserved Three) (codes "Const" ∷ codes "abs" ∷ codes "and" ∷ codes "arm" ∷ codes "card" ∷ codes "comfusy" ∷
+    codes "constant" ∷ codes "div" ∷ codes "fresh" ∷ codes
     "give" ∷ codes "lets" ∷ codes "main" ∷ codes "max" ∷ codes "maximize" ∷ codes "min" ∷ codes "minimize" ∷ codes "mod" ∷ codes "need" ∷ codes "neg"
     ∷ codes "not" ∷ codes "or" ∷ codes "slice" ∷ codes "solve" ∷ []) ≡ false
 not-reserved = refl
@@ -94,11 +96,13 @@ operations : list_all (λ w. is_operation Three w) (codes "card" ∷ codes "div"
 operations = refl
 
 -- all other names are those of functions
-functions : list_any (is_no_function Three) (codes "Const" ∷ codes "and" ∷ codes "arm" ∷ codes "comfusy" ∷ codes "constant" ∷ codes "fresh" ∷ codes "give" ∷ codes "lets" ∷ codes "main" ∷
+functions : list_any (is_no_function Three) (codes "Const" ∷ codes "and" ∷ codes "arm" ∷ codes "comfusy" ∷ codes "constant" ∷ codes "fresh" ∷ codes "give" ∷
+    codes "lets" ∷ codes "main" ∷
     codes "maximize" ∷ codes "minimize" ∷ codes "need" ∷ codes "neg" ∷ codes "not" ∷ codes "or" ∷ codes "slice" ∷ codes "solve" ∷ []) ≡ false
 functions = refl
 
-no-functions : list_all (is_no_function Three) (codes "bool" ∷ codes "choose" ∷ codes "const" ∷ codes "def" ∷ codes "diff" ∷ codes "divides" ∷ codes "else" ∷ codes "false" ∷ codes "given" ∷
+no-functions : list_all (is_no_function Three) (codes "bool" ∷ codes "choose" ∷ codes "const" ∷ codes "def" ∷ codes "diff" ∷ codes "divides" ∷ codes "else" ∷
+    codes "false" ∷ codes "given" ∷
     codes "if" ∷ codes "in" ∷ codes "int" ∷ codes "inter" ∷ codes "let" ∷ codes "match" ∷ codes "maximise" ∷ codes "minimise" ∷ codes "set" ∷ codes
     "subset" ∷ codes "then" ∷ codes "true" ∷ codes "union" ∷ codes "where" ∷ codes "with" ∷ codes "card" ∷ codes "div" ∷ codes "mod" ∷ codes "abs" ∷
     codes "min" ∷ codes "max" ∷ []) ≡ true

@@ -189,8 +189,10 @@ header_at : (text : List ℕ) → begins_with_header text ≡ true → (p : Plac
 header_at text e p =
     let rest = behind_run is_in_word text in
     let three = begins_with_three (behind_blanks false rest) in
-    let word : front_run is_in_word text ≡ codes "comfusy" = (bytes_eq-Decides (front_run is_in_word text) (codes "comfusy")).0 (and_left (begins_with_comfusy text) three e) in
-    let t = behind three_kept rest (three_at (behind_blanks false rest) (and_right (begins_with_comfusy text) three e)) (place_after p (front_run is_in_word text)) in (
+    let word : front_run is_in_word text ≡ codes "comfusy" =
+        (bytes_eq-Decides (front_run is_in_word text) (codes "comfusy")).0 (and_left (begins_with_comfusy text) three e) in
+    let t = behind three_kept rest
+        (three_at (behind_blanks false rest) (and_right (begins_with_comfusy text) three e)) (place_after p (front_run is_in_word text)) in (
       p,
       t.0,
       t.1,

@@ -69,7 +69,8 @@ pieces-step = refl
 line-and-column : place_after first_place (97 ∷ 10 ∷ 9 ∷ 13 ∷ 98 ∷ []) ≡ record { line = 2; column = 4 }
 line-and-column = refl
 
-reserved : list_all (is_reserved Two) (codes "def" ∷ codes "let" ∷ codes "in" ∷ codes "if" ∷ codes "then" ∷ codes "else" ∷ codes "choose" ∷ codes "where" ∷ codes
+reserved : list_all (is_reserved Two) (codes "def" ∷ codes "let" ∷ codes "in" ∷ codes "if" ∷ codes "then" ∷ codes "else" ∷ codes "choose" ∷
+    codes "where" ∷ codes
     "int" ∷ codes "bool" ∷ codes "set" ∷ codes "true" ∷ codes "false" ∷ codes "union" ∷ codes "inter" ∷ codes "diff" ∷ codes "subset" ∷ codes "divides" ∷ codes
     "card" ∷ codes "div" ∷ codes "mod" ∷ codes "solve" ∷ codes "arm" ∷ codes "need" ∷ codes "give" ∷ codes "min" ∷ codes "max" ∷ codes "slice" ∷ codes "fresh" ∷
     codes "neg" ∷ codes "not" ∷ codes "abs" ∷ codes "match" ∷ codes "with" ∷ []) ≡ true

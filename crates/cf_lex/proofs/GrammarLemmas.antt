@@ -39,7 +39,8 @@ pub front_found : (edition : Edition) (b : ℕ) (rest : List ℕ) → IsFound ed
 front_found edition b rest =
     cond_both (is_white b) _ _ (IsFound edition (b ∷ rest)) (λ e. inl (e, refl)) (λ not_white.
     cond_both (eqb b 35) _ _ (IsFound edition (b ∷ rest)) (λ e. rw one-add (inr (eqb-true b 35 e, run_of is_in_comment rest))) (λ not_comment.
-    cond_both (is_digit b) _ _ (IsFound edition (b ∷ rest)) (λ e. rw one-add (omega arith, ((e, (run_of is_digit rest).0), (run_of is_digit rest).1))) (λ not_digit.
+    cond_both (is_digit b) _ _ (IsFound edition (b ∷ rest))
+        (λ e. rw one-add (omega arith, ((e, (run_of is_digit rest).0), (run_of is_digit rest).1))) (λ not_digit.
     cond_both (is_letter b) _ _ (IsFound edition (b ∷ rest)) (λ e. rw one-add (e, run_of is_in_word rest)) (λ not_letter. sign_found edition b rest))))
 
 -- the first bytes of signs begin nothing else

@@ -16,7 +16,8 @@ token_some edition limit w rest (kind.Literal z) h = h.0.0
 token_some edition limit w rest (kind.Word t) h = word_some w rest h.0
 token_some edition limit w rest (kind.Sign t) h = sign_some edition w rest h.0
 
-lexes-count : {edition : Edition} {limit : ℕ} {p q : Place} {text left : List ℕ} {ts : List Token} → Lexes edition limit p text ts q left → length ts ≤ length text
+lexes-count : {edition : Edition} {limit : ℕ} {p q : Place} {text left : List ℕ} {ts : List Token} → Lexes edition limit p text ts q left →
+    length ts ≤ length text
 lexes-count none = omega arith
 lexes-count (piece {rest = rest} {ts = ts} w None is h all_is s) = rw (is, all_is, length-append w rest) (omega (arith, lexes-count s))
 lexes-count {edition = edition} {limit = limit} (piece {rest = rest} {ts = ts} w (Some k) is h all_is s) =
@@ -27,15 +28,19 @@ kind_within edition limit w rest (kind.Literal z) h = (_, h.2, h.1)
 kind_within edition limit w rest (kind.Word t) h = tt
 kind_within edition limit w rest (kind.Sign t) h = tt
 
-pub lexes-within : {edition : Edition} {limit : ℕ} {p q : Place} {text left : List ℕ} {ts : List Token} → Lexes edition limit p text ts q left → AreWithin limit ts
+pub lexes-within : {edition : Edition} {limit : ℕ} {p q : Place} {text left : List ℕ} {ts : List Token} → Lexes edition limit p text ts q left →
+    AreWithin limit ts
 lexes-within none = tt
 lexes-within (piece w None is h all_is s) = rw all_is (lexes-within s)
-lexes-within {edition = edition} {limit = limit} (piece {rest = rest} w (Some k) is h all_is s) = rw all_is (kind_within edition limit w rest k h, lexes-within s)
+lexes-within {edition = edition} {limit = limit} (piece {rest = rest} w (Some k) is h all_is s) =
+    rw all_is (kind_within edition limit w rest k h, lexes-within s)
 
-pub answer-count : (edition : Edition) (limit : ℕ) (text : List ℕ) (r : Result TokenList LexFault) → TokensAnswer edition limit text r → IfOk r (λ l. length l.list.items ≤ length text)
+pub answer-count : (edition : Edition) (limit : ℕ) (text : List ℕ) (r : Result TokenList LexFault) → TokensAnswer edition limit text r →
+    IfOk r (λ l. length l.list.items ≤ length text)
 answer-count edition limit text (Ok l) h = lexes-count h.1
 answer-count edition limit text (Err f) h = tt
 
-pub answer-within : (edition : Edition) (limit : ℕ) (text : List ℕ) (r : Result TokenList LexFault) → TokensAnswer edition limit text r → IfOk r (λ l. AreWithin limit l.list.items)
+pub answer-within : (edition : Edition) (limit : ℕ) (text : List ℕ) (r : Result TokenList LexFault) → TokensAnswer edition limit text r →
+    IfOk r (λ l. AreWithin limit l.list.items)
 answer-within edition limit text (Ok l) h = lexes-within h.1
 answer-within edition limit text (Err f) h = tt

@@ -24,7 +24,8 @@ pub goes_stop : {edition : Edition} {limit : ℕ} {text : List ℕ} {items : Lis
 goes_stop {items = items} {p = p} e g is = rw append-nil at (g.goes [] p e (stop is))
 
 pub goes_more : {edition : Edition} {limit : ℕ} {text : List ℕ} {items : List Token} {p : Place} {rest : List ℕ} (n : ℕ) (k : Option TokenKind) →
-    Goes edition limit text items p rest → step edition limit rest ≡ step_to n k → Goes edition limit text (items ++ tokens_of p k) (place_after p (take n rest)) (drop n rest)
+    Goes edition limit text items p rest → step edition limit rest ≡ step_to n k →
+        Goes edition limit text (items ++ tokens_of p k) (place_after p (take n rest)) (drop n rest)
 goes_more n None g is = record { goes = λ ts q e s. simp append-nil (g.goes ts q e (skip is s)) }
 goes_more {p = p} n (Some k) g is = record { goes = λ ts q e s. rw append_assoc (g.goes (record { place = p; kind = k } ∷ ts) q e (token is s)) }
 

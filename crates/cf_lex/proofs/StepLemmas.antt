@@ -39,7 +39,8 @@ literal_found edition limit text n h = by (cases_lt limit (digits_value (take n 
     by (inl past) = rw (at_most-past limit (digits_value (take n text)) past) (n, h, past)
     by (inr fits) = rw (at_most-fits limit (digits_value (take n text)) fits) (h, fits, refl)
 
-piece_found : (edition : Edition) (limit b : ℕ) (rest : List ℕ) (p : Piece) → IsFound edition (b ∷ rest) p → IsStep edition limit (b ∷ rest) (step_of limit (b ∷ rest) p)
+piece_found : (edition : Edition) (limit b : ℕ) (rest : List ℕ) (p : Piece) → IsFound edition (b ∷ rest) p →
+    IsStep edition limit (b ∷ rest) (step_of limit (b ∷ rest) p)
 piece_found edition limit b rest (found.Skip n) h = h
 piece_found edition limit b rest (found.Literal n) h = literal_found edition limit (b ∷ rest) n h
 piece_found edition limit b rest (found.Word n) h = (h, refl)
@@ -51,11 +52,13 @@ step_found edition limit [] = refl
 step_found edition limit (b ∷ rest) = piece_found edition limit b rest (front_of edition b rest) (front_found edition b rest)
 
 -- and back
-front_step : (edition : Edition) (limit : ℕ) (text : List ℕ) (p : Piece) → 0 < length text → front edition text ≡ p → step edition limit text ≡ step_of limit text p
+front_step : (edition : Edition) (limit : ℕ) (text : List ℕ) (p : Piece) → 0 < length text → front edition text ≡ p →
+    step edition limit text ≡ step_of limit text p
 front_step edition limit [] p some e = absurd (omega arith)
 front_step edition limit (b ∷ rest) p some e = ap (step_of limit (b ∷ rest)) e
 
-some_of : (edition : Edition) (limit : ℕ) (w rest : List ℕ) (p : Piece) → 0 < length w → front edition (w ++ rest) ≡ p → step edition limit (w ++ rest) ≡ step_of limit (w ++ rest) p
+some_of : (edition : Edition) (limit : ℕ) (w rest : List ℕ) (p : Piece) → 0 < length w → front edition (w ++ rest) ≡ p →
+    step edition limit (w ++ rest) ≡ step_of limit (w ++ rest) p
 some_of edition limit [] rest p some e = absurd (omega arith)
 some_of edition limit (b ∷ w) rest p some e = ap (step_of limit (b ∷ (w ++ rest))) e
 
@@ -72,10 +75,12 @@ sign_some edition [] rest h = absurd h
 sign_some edition (b ∷ w) rest h = omega arith
 
 -- the step at a literal
-pub literal_is : (edition : Edition) (limit : ℕ) (w rest : List ℕ) → IsLiteral w rest → step edition limit (w ++ rest) ≡ literal_step (length w) (at_most limit (digits_value w))
+pub literal_is : (edition : Edition) (limit : ℕ) (w rest : List ℕ) → IsLiteral w rest →
+    step edition limit (w ++ rest) ≡ literal_step (length w) (at_most limit (digits_value w))
 literal_is edition limit w rest h = some_of edition limit w rest _ h.0 (literal_front edition w rest h) ∙ rw (take_at w rest (length w) refl) refl
 
-pub piece_is : (edition : Edition) (limit : ℕ) (w rest : List ℕ) (k : Option TokenKind) → IsPiece edition limit w k rest → step edition limit (w ++ rest) ≡ step_to (length w) k
+pub piece_is : (edition : Edition) (limit : ℕ) (w rest : List ℕ) (k : Option TokenKind) → IsPiece edition limit w k rest →
+    step edition limit (w ++ rest) ≡ step_to (length w) k
 piece_is edition limit w rest None h = some_of edition limit w rest _ (blank_some w rest h) (blank_front edition w rest h)
 piece_is edition limit w rest (Some (kind.Literal z)) h = literal_is edition limit w rest h.0 ∙ rw (at_most-fits limit (digits_value w) h.1, h.2) refl
 piece_is edition limit w rest (Some (kind.Word t)) h =
@@ -128,7 +133,8 @@ Lexes-from {edition = edition} {limit = limit} (token {text = text} {n = n} {k =
     (r.0, piece (take n text) (Some k) (sym (take-append-drop n text)) (subst (IsStep edition limit text) a (step_found edition limit text)) refl r.1, r.2)
 
 -- one piece more, by its bytes
-scan_piece : {edition : Edition} {limit : ℕ} {p q : Place} {rest : List ℕ} {ts : List Token} {e : Ending} (text w : List ℕ) (k : Option TokenKind) → text ≡ w ++ rest →
+scan_piece : {edition : Edition} {limit : ℕ} {p q : Place} {rest : List ℕ} {ts : List Token} {e : Ending} (text w : List ℕ) (k : Option TokenKind) →
+    text ≡ w ++ rest →
     IsPiece edition limit w k rest →
     Scans edition limit (place_after p w) rest ts q e → Scans edition limit p text (tokens_of p k ++ ts) q e
 scan_piece {edition = edition} {limit = limit} {p = p} {q = q} {rest = rest} {ts = ts} {e = e} text w None is h s =
@@ -140,17 +146,20 @@ scan_piece {edition = edition} {limit = limit} {p = p} {q = q} {rest = rest} {ts
     rw (take_at w rest (length w) refl, drop_at w rest (length w) refl) s in
     rw is (token (piece_is edition limit w rest (Some k) h) t)
 
-pub Scans-from : {edition : Edition} {limit : ℕ} {p q : Place} {text left : List ℕ} {ts : List Token} (e : Ending) → Lexes edition limit p text ts q left → Ends edition limit left e →
+pub Scans-from : {edition : Edition} {limit : ℕ} {p q : Place} {text left : List ℕ} {ts : List Token} (e : Ending) → Lexes edition limit p text ts q left →
+    Ends edition limit left e →
     Scans edition limit p text ts q e
 Scans-from {edition = edition} {limit = limit} e (none {text = text}) h = stop (ends_is edition limit text e h)
 Scans-from e (piece {text = text} w k is pc all_is s) h = rw all_is (scan_piece text w k is pc (Scans-from e s h))
 
 -- a text has one list of tokens, and one end or first fault
-pub LexesTo-once : (edition : Edition) (limit : ℕ) (text : List ℕ) (ts us : List Token) (q r : Place) (e d : Ending) → LexesTo edition limit text ts q e → LexesTo edition limit text us r d →
+pub LexesTo-once : (edition : Edition) (limit : ℕ) (text : List ℕ) (ts us : List Token) (q r : Place) (e d : Ending) → LexesTo edition limit text ts q e →
+    LexesTo edition limit text us r d →
     (ts ≡ us) × (q ≡ r) × (e ≡ d)
 LexesTo-once edition limit text ts us q r e d a b = Scans-once edition limit (Scans-from e a.1 a.2) (Scans-from d b.1 b.2)
 
-pub answer_from : (edition : Edition) (limit : ℕ) (text : List ℕ) (r : Result TokenList LexFault) → ScanAnswer edition limit text r → TokensAnswer edition limit text r
+pub answer_from : (edition : Edition) (limit : ℕ) (text : List ℕ) (r : Result TokenList LexFault) → ScanAnswer edition limit text r →
+    TokensAnswer edition limit text r
 answer_from edition limit text (Ok l) s = Lexes-from s
 answer_from edition limit text (Err (fault.BadByte q)) s = (s.0, Lexes-from s.1)
 answer_from edition limit text (Err (fault.NumberPast q)) s = (s.0, Lexes-from s.1)

@@ -81,7 +81,8 @@ name_differs edition x w e r = false_from (bytes_eq x w) (λ h. let s : x ≡ w 
     clash : (b : Bool) → b ≡ false → b ≡ true → ⊥
     clash b f t = cc
 
-pub name_not : (edition : Edition) (w : List ℕ) (ts us : List Token) (p : Place) (x : List ℕ) → is_reserved edition w ≡ true → FirstName edition p x ts us → at (is (Word w)) ts ≡ None
+pub name_not : (edition : Edition) (w : List ℕ) (ts us : List Token) (p : Place) (x : List ℕ) → is_reserved edition w ≡ true → FirstName edition p x ts us →
+    at (is (Word w)) ts ≡ None
 name_not edition w ts us p x r n = at_not (Word w) (Word x) ts us p (name_differs edition x w n.1 r) n.0
 
 pub name_is : (edition : Edition) (ts us : List Token) (p : Place) (x : List ℕ) → FirstName edition p x ts us → at (a_name edition) ts ≡ Some ((p, x), us)

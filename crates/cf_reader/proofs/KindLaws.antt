@@ -101,7 +101,8 @@ pub truth_literal : (b : Bool) (p : Place) (ts us : List Token) → First p (tru
 truth_literal true p ts us w = no_literal p (codes "true") ts us w
 truth_literal false p ts us w = no_literal p (codes "false") ts us w
 
-pub names_true : (edition : Edition) (x : List ℕ) → is_reserved edition x ≡ false → (p : Place) (ts us : List Token) → First p (Word x) ts us → at a_truth ts ≡ None
+pub names_true : (edition : Edition) (x : List ℕ) → is_reserved edition x ≡ false → (p : Place) (ts us : List Token) → First p (Word x) ts us →
+    at a_truth ts ≡ None
 unfolding at
 names_true Two x r p ts us w =
     ap (at a_truth) w ∙ ap (λ b. before us (cond b (Some (p, true)) (cond (bytes_eq x (codes "false")) (Some (p, false)) None)))

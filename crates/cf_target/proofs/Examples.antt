@@ -2,6 +2,7 @@
 use Rattle.std.proofs.Common.{◌≡◌, ℕ, true, false, List, [], ◌∷◌, map, Ok, Err, refl, codes}
 use Rattle.std.specs.Prelude.{pos, negsuc}
 use Rattle.cf_lex.specs.declared.token.Token.{Token}
+use Rattle.cf_tree.specs.declared.base.Edition.TheVariants.{Two, Three}
 use Rattle.cf_tree.specs.declared.base.Base.TheVariants.{Int, Bool as Truth, Set}
 use Rattle.cf_tree.specs.declared.base.Order.TheVariants.{Eq, Ne, Lt, Le, Gt, Ge}
 use Rattle.cf_tree.specs.CodeTree.{CodeTree, code_lit, code_truth, code_var, code_set_of, code_tuple, code_sum, code_sub, code_mul, code_neg, code_div, code_mod, code_min, code_max, code_compare, code_divides, code_and, code_or, code_not, code_union, code_inter, code_diff, code_subset, code_card, code_slice, code_fresh, code_if, code_let, code_solve, no_codes, let_item, need_item, no_items, arm_of, no_arms, codes_of, items_of, arms_of}
@@ -12,7 +13,7 @@ use Rattle.cf_reader.proofs.Sample.{word, sign, literal}
 use Rattle.cf_target.specs.Levels.{last_level, with_digit}
 use Rattle.cf_target.specs.Reading.{variables_of, all_variables, vars_of, bounds_of, list_of, elements_of, one_of, divided_of, listed_of, slice_of, fresh_of, if_of, let_of, operated_of, divides_by, behind_of, inside_of, item_of, steps_of, all_steps, gives_of, arm_from, all_arms, solve_of, forms_of, unless_zero, word_of, negative_of, step, read}
 use Rattle.cf_target.specs.Spelling.{TargetTree, IsTarget}
-use Rattle.cf_target.specs.Targets.{bases_of, main_of, part_of, target_of}
+use Rattle.cf_target.specs.Targets.{bases_of, main_of, headless_of, part_of, target_of}
 use Rattle.cf_target.proofs.Targets.{found_law}
 
 -- codes and their tokens
@@ -180,18 +181,36 @@ refused-read = refl
 abbrev last_of_two : TargetTree
 last_of_two = record { params = Int ∷ Set ∷ []; results = Truth ∷ Int ∷ []; code = code_tuple (codes_of (code_truth true ∷ code_var 0 ∷ [])) }
 
-with-header : IsTarget last_of_two (word (codes "comfusy") ∷ literal 2 ∷ word (codes "main") ∷ sign (codes "(") ∷ word (codes "int") ∷ sign (codes ",") ∷ word
+with-header : IsTarget Two last_of_two (word (codes "comfusy") ∷ literal 2 ∷ word (codes "main") ∷ sign (codes "(") ∷ word (codes "int") ∷
+    sign (codes ",") ∷ word
     (codes "set") ∷ sign (codes ")") ∷ sign (codes ":") ∷ sign (codes "(") ∷ word (codes "bool") ∷ sign (codes ",") ∷ word (codes "int") ∷ sign (codes ")") ∷
     sign (codes "=") ∷ sign (codes "(") ∷ word (codes "true") ∷ sign (codes ",") ∷ word (codes "v0") ∷ sign (codes ")") ∷ [])
-unfolding bases_of main_of part_of target_of at pure refuse must bind first deep at_end more_of others_of several_of one_or_tuple op_of results_of last_level with_digit variables_of all_variables vars_of bounds_of list_of elements_of one_of divided_of listed_of slice_of fresh_of if_of let_of operated_of divides_by behind_of inside_of item_of steps_of all_steps gives_of arm_from all_arms solve_of forms_of unless_zero word_of negative_of step read
-with-header = found_law _ last_of_two [] refl
+unfolding bases_of main_of headless_of part_of target_of at pure refuse must bind first deep at_end more_of others_of several_of one_or_tuple op_of results_of last_level with_digit variables_of all_variables vars_of bounds_of list_of elements_of one_of divided_of listed_of slice_of fresh_of if_of let_of operated_of divides_by behind_of inside_of item_of steps_of all_steps gives_of arm_from all_arms solve_of forms_of unless_zero word_of negative_of step read
+with-header = found_law Two _ last_of_two [] refl
 
-without-header : IsTarget (record { params = []; results = Int ∷ []; code = code_lit (pos 1) })
+without-header : IsTarget Two (record { params = []; results = Int ∷ []; code = code_lit (pos 1) })
     (word (codes "main") ∷ sign (codes "(") ∷ sign (codes ")") ∷ sign (codes ":") ∷ word (codes "int") ∷ sign (codes "=") ∷ literal 1 ∷ [])
-unfolding bases_of main_of part_of target_of at pure refuse must bind first deep at_end more_of others_of several_of one_or_tuple op_of results_of last_level with_digit variables_of all_variables vars_of bounds_of list_of elements_of one_of divided_of listed_of slice_of fresh_of if_of let_of operated_of divides_by behind_of inside_of item_of steps_of all_steps gives_of arm_from all_arms solve_of forms_of unless_zero word_of negative_of step read
-without-header = found_law _ _ [] refl
+unfolding bases_of main_of headless_of part_of target_of at pure refuse must bind first deep at_end more_of others_of several_of one_or_tuple op_of results_of last_level with_digit variables_of all_variables vars_of bounds_of list_of elements_of one_of divided_of listed_of slice_of fresh_of if_of let_of operated_of divides_by behind_of inside_of item_of steps_of all_steps gives_of arm_from all_arms solve_of forms_of unless_zero word_of negative_of step read
+without-header = found_law Two _ _ [] refl
 
-other-header : target_of 500 (word (codes "comfusy") ∷ literal 3 ∷ word (codes "main") ∷ sign (codes "(") ∷ sign (codes ")") ∷ sign (codes ":") ∷ word
-    (codes "int") ∷ sign (codes "=") ∷ literal 1 ∷ []) ≡ Err 8
-unfolding bases_of main_of part_of target_of at pure refuse must bind first deep at_end more_of others_of several_of one_or_tuple op_of results_of last_level with_digit variables_of all_variables vars_of bounds_of list_of elements_of one_of divided_of listed_of slice_of fresh_of if_of let_of operated_of divides_by behind_of inside_of item_of steps_of all_steps gives_of arm_from all_arms solve_of forms_of unless_zero word_of negative_of step read
-other-header = refl
+-- the tokens of main (): int = 1
+abbrev main_of_one : List Token
+main_of_one = word (codes "main") ∷ sign (codes "(") ∷ sign (codes ")") ∷ sign (codes ":") ∷ word (codes "int") ∷ sign (codes "=") ∷ literal 1 ∷ []
+
+abbrev one : TargetTree
+one = record { params = []; results = Int ∷ []; code = code_lit (pos 1) }
+
+-- each edition has its number in the header, and edition 3 needs it
+headers : map (λ ts. target_of Three 500 ts) ((word (codes "comfusy") ∷ literal 3 ∷ main_of_one) ∷ (word (codes "comfusy") ∷ literal 2 ∷ main_of_one) ∷
+    main_of_one ∷ []) ≡ Ok (one, []) ∷ Err 8 ∷ Err 7 ∷ []
+unfolding bases_of main_of headless_of part_of target_of at pure refuse must bind first deep at_end more_of others_of several_of one_or_tuple op_of results_of last_level with_digit variables_of all_variables vars_of bounds_of list_of elements_of one_of divided_of listed_of slice_of fresh_of if_of let_of operated_of divides_by behind_of inside_of item_of steps_of all_steps gives_of arm_from all_arms solve_of forms_of unless_zero word_of negative_of step read
+headers = refl
+
+header-of-three : IsTarget Three one (word (codes "comfusy") ∷ literal 3 ∷ main_of_one)
+unfolding bases_of main_of headless_of part_of target_of at pure refuse must bind first deep at_end more_of others_of several_of one_or_tuple op_of results_of last_level with_digit variables_of all_variables vars_of bounds_of list_of elements_of one_of divided_of listed_of slice_of fresh_of if_of let_of operated_of divides_by behind_of inside_of item_of steps_of all_steps gives_of arm_from all_arms solve_of forms_of unless_zero word_of negative_of step read
+header-of-three = found_law Three _ one [] refl
+
+headers-of-two : map (λ ts. target_of Two 500 ts) ((word (codes "comfusy") ∷ literal 3 ∷ main_of_one) ∷ (word (codes "comfusy") ∷ literal 2 ∷ main_of_one) ∷
+    main_of_one ∷ []) ≡ Err 8 ∷ Ok (one, []) ∷ Ok (one, []) ∷ []
+unfolding bases_of main_of headless_of part_of target_of at pure refuse must bind first deep at_end more_of others_of several_of one_or_tuple op_of results_of last_level with_digit variables_of all_variables vars_of bounds_of list_of elements_of one_of divided_of listed_of slice_of fresh_of if_of let_of operated_of divides_by behind_of inside_of item_of steps_of all_steps gives_of arm_from all_arms solve_of forms_of unless_zero word_of negative_of step read
+headers-of-two = refl

@@ -13,6 +13,8 @@ use Rattle.cf_tree.specs.Spelled.{IsNoTuple}
 use Rattle.cf_reader.specs.Tokens.{Next, FirstLiteral, Others, Several}
 use Rattle.cf_reader.specs.Readers.{Got, Reader, Test, before, is, at, pure, refuse, must, bind, first, several_of, snoc}
 use Rattle.cf_reader.specs.Operations.{op_kind}
+use Rattle.cf_reader.proofs.OperationLaws.{HasOperation}
+use Rattle.cf_tree.specs.declared.base.Edition.TheVariants.{Two as language_2}
 use Rattle.cf_reader.proofs.Yields.{Yields, faults, Took, pure_yields, refuse_yields, widen, bind_yields, must_yields, first_yields, deep_yields, added_snoc, all_added, took_next, took_literal, others_yields, several_yields}
 use Rattle.cf_reader.proofs.Exact.{at_is}
 use Rattle.cf_reader.proofs.KindLaws.{took_truth}
@@ -331,27 +333,28 @@ many_yields part n h many c ts us vs l s o =
     (λ cs ws m. pure_yields _ ws (λ start v. many_made n many c ts cs ws start v m))
 
 operated_yields : (part : Reader CodeTree) (n : ℕ) → Finds part n → (c : CodeTree) (op : BinOp) (ts us vs : List Token) → code_depth c ≤ n →
-    SpellsCode c ts us → Next (op_kind op) us vs →
+    SpellsCode c ts us → HasOperation language_2 op → Next (op_kind op) us vs →
     Yields (λ d ws. InsideFound n n ts (single d) ws) (operated_of part c (operation_of op) vs)
 unfolding operated_of
-operated_yields part n h c ops.Add ts us vs l s o = many_yields part n h manies.Sum c ts us vs l s o
-operated_yields part n h c ops.Union ts us vs l s o = many_yields part n h manies.Union c ts us vs l s o
-operated_yields part n h c ops.Inter ts us vs l s o = many_yields part n h manies.Inter c ts us vs l s o
-operated_yields part n h c ops.Sub ts us vs l s o =
+operated_yields part n h c ops.Add ts us vs l s had o = many_yields part n h manies.Sum c ts us vs l s o
+operated_yields part n h c ops.Union ts us vs l s had o = many_yields part n h manies.Union c ts us vs l s o
+operated_yields part n h c ops.Inter ts us vs l s had o = many_yields part n h manies.Inter c ts us vs l s o
+operated_yields part n h c ops.Sub ts us vs l s had o =
     two_yields part n h c twos.Sub ts us vs (op_kind ops.Sub) l s o (λ start d ws i w. (record { deep = omega (arith, l, i); spelled = w }, tt))
-operated_yields part n h c ops.Mul ts us vs l s o =
+operated_yields part n h c ops.Mul ts us vs l s had o =
     two_yields part n h c twos.Mul ts us vs (op_kind ops.Mul) l s o (λ start d ws i w. (record { deep = omega (arith, l, i); spelled = w }, tt))
-operated_yields part n h c ops.And ts us vs l s o =
+operated_yields part n h c ops.And ts us vs l s had o =
     two_yields part n h c twos.And ts us vs (op_kind ops.And) l s o (λ start d ws i w. (record { deep = omega (arith, l, i); spelled = w }, tt))
-operated_yields part n h c ops.Or ts us vs l s o =
+operated_yields part n h c ops.Or ts us vs l s had o =
     two_yields part n h c twos.Or ts us vs (op_kind ops.Or) l s o (λ start d ws i w. (record { deep = omega (arith, l, i); spelled = w }, tt))
-operated_yields part n h c ops.Diff ts us vs l s o =
+operated_yields part n h c ops.Diff ts us vs l s had o =
     two_yields part n h c twos.Diff ts us vs (op_kind ops.Diff) l s o (λ start d ws i w. (record { deep = omega (arith, l, i); spelled = w }, tt))
-operated_yields part n h c ops.Subset ts us vs l s o =
+operated_yields part n h c ops.Subset ts us vs l s had o =
     two_yields part n h c twos.Subset ts us vs (op_kind ops.Subset) l s o (λ start d ws i w. (record { deep = omega (arith, l, i); spelled = w }, tt))
-operated_yields part n h c (ops.Compare order) ts us vs l s o =
+operated_yields part n h c (ops.Compare order) ts us vs l s had o =
     two_yields part n h c (twos.Compare order) ts us vs (op_kind (ops.Compare order)) l s o
     (λ start d ws i w. (record { deep = omega (arith, l, i); spelled = w }, tt))
+operated_yields part n h c ops.Implies ts us vs l s had o = absurd had
 
 -- a number of at least 1 has no minus
 below : (k n : ℤ) → pos 1 ≤ℤ n → k ≡ neg_ℤ n → pos 1 ≤ℤ k → ⊥
@@ -403,7 +406,7 @@ behind_yields head part m n g h may c ts us l e s =
     (λ cs ws w. pure_yields (several cs) ws (several_found m n ts ws c cs w)))
     (first_yields _ _ _ us
     (λ op vs o. let t = took_operation may us vs op o in
-    bind_yields _ _ vs (operated_yields part n h c op ts us vs (e t.0) s t.1) (λ d ws w. pure_yields (single d) ws (single_found m n ts ws d w)))
+    bind_yields _ _ vs (operated_yields part n h c op ts us vs (e t.0) s t.1 t.2) (λ d ws w. pure_yields (single d) ws (single_found m n ts ws d w)))
     (first_yields _ _ _ us
     (λ k vs o. divides_yields part m n h c k ts us vs s (took_divides n c us vs k o))
     (refuse_yields us)))

@@ -14,7 +14,8 @@ use Rattle.cf_reader.specs.Tokens.{Next}
 use Rattle.cf_reader.specs.Readers.{Test, is}
 use Rattle.cf_reader.specs.Operations.{op_kind, op_of}
 use Rattle.cf_reader.proofs.Yields.{Took, if_some, if_else_some, same_token, same_text, in_order, took_next}
-use Rattle.cf_reader.proofs.OperationLaws.{op_on}
+use Rattle.cf_tree.specs.declared.base.Edition.TheVariants.{Two}
+use Rattle.cf_reader.proofs.OperationLaws.{HasOperation, op_on, op_had}
 use Rattle.cf_target.specs.declared.form.Unary.{Unary}
 use Rattle.cf_target.specs.declared.form.Unary.TheVariants.{Neg, Not, Card}
 use Rattle.cf_target.specs.declared.form.Division.{Division}
@@ -151,9 +152,11 @@ took_numeral ts us n (t, e, f) = let h = literal_kind_on t.place t.kind n f in (
 
 -- operations
 
-pub took_operation : (may : Bool) (ts us : List Token) (op : BinOp) → Took (an_operation may) ts op us → (may ≡ true) × Next (op_kind op) ts us
+pub took_operation : (may : Bool) (ts us : List Token) (op : BinOp) → Took (an_operation may) ts op us →
+    (may ≡ true) × HasOperation Two op × Next (op_kind op) ts us
 took_operation may ts us op (t, e, f) =
-    let h = guard_on may (op_of t.kind) op f in (h.0, (t.place, same_token t t.place (op_kind op) ts us e refl (op_on t.kind op h.1)))
+    let h = guard_on may (op_of Two t.kind) op f in
+    (h.0, op_had Two t.kind op h.1, (t.place, same_token t t.place (op_kind op) ts us e refl (op_on Two t.kind op h.1)))
 
 -- the word divides, behind a literal
 pub record DividesFound (n : ℕ) (left : CodeTree) (ts : List Token) (k : ℤ) (us : List Token) : Type 0 where

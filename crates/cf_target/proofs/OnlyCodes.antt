@@ -1,5 +1,5 @@
 -- What is spelled is read.
-use Rattle.std.proofs.Common.{◌≡◌, inl, inr, ℕ, zero, suc, ◌+◌, ◌-◌, ◌≤◌, ◌<◌, ◌^◌, ◌||◌, Bool, true, false, List, [], ◌∷◌, ◌++◌, length, Option, Some, None, Ok, nat_le, max, refl, sym, ap, subst, ◌∙◌, cond, T, arith}
+use Rattle.std.proofs.Common.{◌≡◌, inl, inr, ℕ, zero, suc, ◌+◌, ◌-◌, ◌≤◌, ◌<◌, ◌^◌, ◌||◌, Bool, true, false, List, [], ◌∷◌, ◌++◌, length, Option, Some, None, Ok, nat_le, refl, sym, ap, subst, ◌∙◌, cond, T, arith}
 use Rattle.std.specs.Prelude.{ℤ, pos, negsuc, ◌≤ℤ◌, nat_eq, ◌&&◌, codes}
 use Rattle.std.specs.Int.Signed.{le_z_yes}
 use Rattle.std.proofs.lemmas.Bool.{eq-eqb, le-leb}
@@ -11,14 +11,15 @@ use Rattle.cf_tree.specs.declared.base.Order.TheVariants.{Eq, Ne, Lt, Le, Gt, Ge
 use Rattle.cf_tree.specs.declared.raw.BinOp.{BinOp}
 use Rattle.cf_tree.specs.declared.raw.BinOp.TheVariants as ops
 use Rattle.cf_tree.specs.CodeTree.{CodeTree, code_lit, code_truth, code_var, code_set_of, code_tuple, code_sum, code_sub, code_mul, code_neg, code_div, code_mod, code_min, code_max, code_compare, code_divides, code_and, code_or, code_not, code_union, code_inter, code_diff, code_subset, code_card, code_slice, code_fresh, code_if, code_let, code_solve, CodeTrees, no_codes, code_more, codes_of, count, code_depth, codes_depth}
+use Rattle.cf_tree.specs.declared.base.Edition.TheVariants.{Two as language_2}
 use Rattle.cf_reader.specs.Tokens.{First, Next, Others}
-use Rattle.cf_reader.specs.Readers.{Got, Reader, same_kind, before, is, at, must, bind, first, several_of, snoc}
+use Rattle.cf_reader.specs.Readers.{Got, Reader, same_kind, before, at, must, bind, several_of, snoc}
 use Rattle.cf_reader.specs.Kinds.{truth_kind, a_truth}
 use Rattle.cf_reader.specs.Operations.{op_kind, op_of}
 use Rattle.cf_reader.proofs.Exact.{bind_is, pure_is, must_is, first_is, first_not, deep_is, deep_not, at_is, at_not, next_is, le_yes, literal_is, first_longer, Items, several_are, must_within}
 use Rattle.cf_reader.proofs.Near.{Within}
 use Rattle.cf_reader.proofs.KindLaws.{no_literal, no_truth}
-use Rattle.cf_reader.proofs.OperationLaws.{op_again}
+use Rattle.cf_reader.proofs.OperationLaws.{HasOperation, op_again}
 use Rattle.cf_reader.proofs.Yields.{added_snoc, all_added}
 use Rattle.cf_target.specs.declared.form.Unary.{Unary}
 use Rattle.cf_target.specs.declared.form.Division.{Division}
@@ -30,7 +31,7 @@ use Rattle.cf_target.specs.declared.form.Two.TheVariants as twos
 use Rattle.cf_target.specs.declared.form.Operation.TheVariants as operations
 use Rattle.cf_target.specs.Levels.{last_level, level_of}
 use Rattle.cf_target.specs.Spelling.{level_name, SpellsVariable, SpellsMoreVariables, SpellsVariables, SpellsDivisor, SpellsNumeral, SpellsBounds, SpellsCode, SpellsCodes, SpellsOthers}
-use Rattle.cf_target.specs.Reading.{a_unary, unary_tree, a_division, division_tree, an_extreme, extreme_tree, operation_of, many_kind, many_tree, two_tree, a_numeral, a_variable, if_before_last, an_early_variable, if_same, the_variable, comma_after, variables_of, all_variables, vars_of, bounds_of, list_of, elements_of, one_of, divided_of, listed_of, slice_of, fresh_of, if_of, let_of, operated_of, InsideTree, several, single, an_operation, divisor_of, divides_by, behind_of, inside_of, forms_of, unless_zero, word_of, step, read}
+use Rattle.cf_target.specs.Reading.{a_unary, unary_tree, a_division, division_tree, an_extreme, extreme_tree, operation_of, many_kind, many_tree, two_tree, a_numeral, a_variable, if_before_last, an_early_variable, if_same, the_variable, comma_after, variables_of, all_variables, vars_of, bounds_of, list_of, elements_of, one_of, divided_of, listed_of, slice_of, fresh_of, if_of, let_of, operated_of, InsideTree, several, single, an_operation, divisor_of, divides_by, behind_of, inside_of, forms_of, unless_zero, word_of, step}
 use Rattle.cf_target.proofs.LevelLaws.{name_reads}
 
 same_both : {A : Type 0} (b : Bool) (o : Option A) → cond b o o ≡ o
@@ -404,6 +405,7 @@ op_no_comma ops.Union = refl
 op_no_comma ops.Inter = refl
 op_no_comma ops.Diff = refl
 op_no_comma ops.Subset = refl
+op_no_comma ops.Implies = refl
 op_no_comma (ops.Compare Eq) = refl
 op_no_comma (ops.Compare Ne) = refl
 op_no_comma (ops.Compare Lt) = refl
@@ -415,39 +417,43 @@ or_true : (a b : Bool) → b ≡ true → (a || b) ≡ true
 or_true true b e = refl
 or_true false b e = e
 
-operation_is : (may : Bool) (op : BinOp) (ts us : List Token) → may ≡ true → Next (op_kind op) ts us → at (an_operation may) ts ≡ Some (op, us)
+operation_is : (may : Bool) (op : BinOp) (ts us : List Token) → may ≡ true → HasOperation language_2 op → Next (op_kind op) ts us →
+    at (an_operation may) ts ≡ Some (op, us)
 unfolding at
-operation_is may op ts us e (p, w) = ap (at (an_operation may)) w ∙ ap (λ b. before us (cond b (op_of (op_kind op)) None)) e ∙
-    ap (λ o. before us o) (op_again op)
+operation_is may op ts us e had (p, w) = ap (at (an_operation may)) w ∙ ap (λ b. before us (cond b (op_of language_2 (op_kind op)) None)) e ∙
+    ap (λ o. before us o) (op_again language_2 op had)
 
 -- an operation behind the first code
-operated : (head part : Reader CodeTree) (m n : ℕ) → Heads m n head part → (op : BinOp) (c d : CodeTree) (ts a b us : List Token) → code_depth c ≤ n →
+operated : (head part : Reader CodeTree) (m n : ℕ) → Heads m n head part → (op : BinOp) → HasOperation language_2 op →
+    (c d : CodeTree) (ts a b us : List Token) → code_depth c ≤ n →
     SpellsCode c ts a → Next (op_kind op) a b →
     operated_of part c (operation_of op) b ≡ Ok (d, us) → inside_of head part m n ts ≡ Ok (single d, us)
 unfolding behind_of
-operated head part m n h op c d ts a b us l w o x =
+operated head part m n h op had c d ts a b us l w o x =
     not_worded head part m n c ts a w (bind_is _ _ ts (h.heads.reads c ts a (omega (arith, l, h.deeper)) w)
     (first_not _ _ _ a (at_not (Sign (codes ",")) (op_kind op) a b o.0 (op_no_comma op) o.1)
-    (first_is _ _ _ a (operation_is _ op a b (or_true (nat_eq m n) (nat_le (code_depth c) n) (le-leb (code_depth c) n l)) o)
+    (first_is _ _ _ a (operation_is _ op a b (or_true (nat_eq m n) (nat_le (code_depth c) n) (le-leb (code_depth c) n l)) had o)
     (bind_is _ _ b x (pure_is _ _ us refl)))))
 
-two_is : (head part : Reader CodeTree) (m n : ℕ) → Heads m n head part → (op : BinOp) (two : Two) → operation_of op ≡ operations.Two two →
+two_is : (head part : Reader CodeTree) (m n : ℕ) → Heads m n head part → (op : BinOp) → HasOperation language_2 op → (two : Two) →
+    operation_of op ≡ operations.Two two →
     (c d : CodeTree) (ts a b e us : List Token) → code_depth c ≤ n → code_depth d ≤ n →
     SpellsCode c ts a → Next (op_kind op) a b → SpellsCode d b e → Next (Sign (codes ")")) e us →
     inside_of head part m n ts ≡ Ok (single (two_tree two c d), us)
 unfolding operated_of
-two_is head part m n h op two f c d ts a b e us l k w o v r =
-    operated head part m n h op c (two_tree two c d) ts a b us l w o
+two_is head part m n h op had two f c d ts a b e us l k w o v r =
+    operated head part m n h op had c (two_tree two c d) ts a b us l w o
     (ap (λ z. operated_of part c z b) f ∙ bind_is _ _ b (h.parts.reads d b e k v) (bind_is _ _ e (next_is _ e us refl r) (pure_is _ _ us refl)))
 
-many_is : (head part : Reader CodeTree) (m n : ℕ) → Heads m n head part → (op : BinOp) (many : Many) → operation_of op ≡ operations.Many many →
+many_is : (head part : Reader CodeTree) (m n : ℕ) → Heads m n head part → (op : BinOp) → HasOperation language_2 op → (many : Many) →
+    operation_of op ≡ operations.Many many →
     op_kind op ≡ many_kind many → (cs : CodeTrees) (ts us : List Token) → 2 ≤ count cs →
     codes_depth cs ≤ n → SpellsCodes cs (many_kind many) (Sign (codes ")")) ts us → inside_of head part m n ts ≡ Ok (single (many_tree many (listed cs)), us)
 unfolding operated_of
-many_is head part m n h op many f g no_codes ts us l d w = absurd w
-many_is head part m n h op many f g (code_more c no_codes) ts us l d w = absurd (omega (arith, l))
-many_is head part m n h op many f g (code_more c (code_more e cs)) ts us l d (a, w, (b, s, (i, v, o))) =
-    operated head part m n h op c (many_tree many (c ∷ e ∷ listed cs)) ts a b us (omega (arith, d)) w (subst (λ z. Next z a b) (sym g) s)
+many_is head part m n h op had many f g no_codes ts us l d w = absurd w
+many_is head part m n h op had many f g (code_more c no_codes) ts us l d w = absurd (omega (arith, l))
+many_is head part m n h op had many f g (code_more c (code_more e cs)) ts us l d (a, w, (b, s, (i, v, o))) =
+    operated head part m n h op had c (many_tree many (c ∷ e ∷ listed cs)) ts a b us (omega (arith, d)) w (subst (λ z. Next z a b) (sym g) s)
     (ap (λ z. operated_of part c z b) f
     ∙ bind_is _ _ b (codes_are n part (many_kind many) (Sign (codes ")")) h.parts (many_paren many) (c ∷ []) e cs b i us (omega (arith, d)) (omega (arith, d)) v
     o) (pure_is _ _ us refl))
@@ -509,41 +515,42 @@ bracketed head part m n h (code_sum cs) ts us i d (l, (a, o, w)) =
     record {
       behind = a;
       opened = o;
-      reads = many_is head part m n h ops.Add manies.Sum refl refl cs a us l (omega (arith, d)) w ∙
+      reads = many_is head part m n h ops.Add tt manies.Sum refl refl cs a us l (omega (arith, d)) w ∙
           ap (λ z. Ok (single (code_sum z), us)) (listed_again cs);
     }
 bracketed head part m n h (code_union cs) ts us i d (l, (a, o, w)) =
     record {
       behind = a;
       opened = o;
-      reads = many_is head part m n h ops.Union manies.Union refl refl cs a us l (omega (arith, d)) w ∙
+      reads = many_is head part m n h ops.Union tt manies.Union refl refl cs a us l (omega (arith, d)) w ∙
           ap (λ z. Ok (single (code_union z), us)) (listed_again cs);
     }
 bracketed head part m n h (code_inter cs) ts us i d (l, (a, o, w)) =
     record {
       behind = a;
       opened = o;
-      reads = many_is head part m n h ops.Inter manies.Inter refl refl cs a us l (omega (arith, d)) w ∙
+      reads = many_is head part m n h ops.Inter tt manies.Inter refl refl cs a us l (omega (arith, d)) w ∙
           ap (λ z. Ok (single (code_inter z), us)) (listed_again cs);
     }
 bracketed head part m n h (code_sub c e) ts us i d (a, o, (b, w, (f, s, (g, v, r)))) =
-    record { behind = a; opened = o; reads = two_is head part m n h ops.Sub twos.Sub refl c e a b f g us (omega (arith, d)) (omega (arith, d)) w s v r }
+    record { behind = a; opened = o; reads = two_is head part m n h ops.Sub tt twos.Sub refl c e a b f g us (omega (arith, d)) (omega (arith, d)) w s v r }
 bracketed head part m n h (code_mul c e) ts us i d (a, o, (b, w, (f, s, (g, v, r)))) =
-    record { behind = a; opened = o; reads = two_is head part m n h ops.Mul twos.Mul refl c e a b f g us (omega (arith, d)) (omega (arith, d)) w s v r }
+    record { behind = a; opened = o; reads = two_is head part m n h ops.Mul tt twos.Mul refl c e a b f g us (omega (arith, d)) (omega (arith, d)) w s v r }
 bracketed head part m n h (code_diff c e) ts us i d (a, o, (b, w, (f, s, (g, v, r)))) =
-    record { behind = a; opened = o; reads = two_is head part m n h ops.Diff twos.Diff refl c e a b f g us (omega (arith, d)) (omega (arith, d)) w s v r }
+    record { behind = a; opened = o; reads = two_is head part m n h ops.Diff tt twos.Diff refl c e a b f g us (omega (arith, d)) (omega (arith, d)) w s v r }
 bracketed head part m n h (code_subset c e) ts us i d (a, o, (b, w, (f, s, (g, v, r)))) =
-    record { behind = a; opened = o; reads = two_is head part m n h ops.Subset twos.Subset refl c e a b f g us (omega (arith, d)) (omega (arith, d)) w s v r }
+    record { behind = a; opened = o;
+        reads = two_is head part m n h ops.Subset tt twos.Subset refl c e a b f g us (omega (arith, d)) (omega (arith, d)) w s v r }
 bracketed head part m n h (code_and c e) ts us i d (a, o, (b, w, (f, s, (g, v, r)))) =
-    record { behind = a; opened = o; reads = two_is head part m n h ops.And twos.And refl c e a b f g us (omega (arith, d)) (omega (arith, d)) w s v r }
+    record { behind = a; opened = o; reads = two_is head part m n h ops.And tt twos.And refl c e a b f g us (omega (arith, d)) (omega (arith, d)) w s v r }
 bracketed head part m n h (code_or c e) ts us i d (a, o, (b, w, (f, s, (g, v, r)))) =
-    record { behind = a; opened = o; reads = two_is head part m n h ops.Or twos.Or refl c e a b f g us (omega (arith, d)) (omega (arith, d)) w s v r }
+    record { behind = a; opened = o; reads = two_is head part m n h ops.Or tt twos.Or refl c e a b f g us (omega (arith, d)) (omega (arith, d)) w s v r }
 bracketed head part m n h (code_compare order c e) ts us i d (a, o, (b, w, (f, s, (g, v, r)))) =
     record {
       behind = a;
       opened = o;
       reads =
-          two_is head part m n h (ops.Compare order) (twos.Compare order) refl c e a b f g us (omega (arith, d)) (omega (arith, d)) w s v r;
+          two_is head part m n h (ops.Compare order) tt (twos.Compare order) refl c e a b f g us (omega (arith, d)) (omega (arith, d)) w s v r;
     }
 bracketed head part m n h (code_divides k e) ts us i d (a, o, (b, w, (f, s, (g, v, r)))) =
     record { behind = a; opened = o; reads = multiple_is head part m n h k e a b f g us (omega (arith, d)) w s v r }

@@ -3,6 +3,7 @@ use Rattle.std.proofs.Common.{◌≡◌, inl, inr, ℕ, zero, suc, ◌+◌, ◌-
 use Rattle.std.specs.Prelude.{ℤ, pos, negsuc, neg_ℤ, ◌≤ℤ◌}
 use Rattle.cf_num.specs.Limit.{IsWithin}
 use Rattle.cf_lex.specs.Tokens.{AreWithin}
+use Rattle.cf_tree.specs.declared.base.Edition.{Edition}
 use Rattle.cf_lex.specs.declared.token.Token.{Token}
 use Rattle.cf_lex.specs.declared.token.TokenKind.{TokenKind}
 use Rattle.cf_tree.specs.declared.target.RawTarget.{RawTarget}
@@ -107,12 +108,12 @@ mutual
 
 -- targets
 
-header_on : (ts us : List Token) → Small ts → SpellsHeader ts us → Unit {0} × Small us
-header_on ts us s (inl e) = (tt, subst Small e s)
-header_on ts us s (inr w) = (skip (one _)).keeps ts us s w
+header_on : (edition : Edition) (ts us : List Token) → Small ts → SpellsHeader edition ts us → Unit {0} × Small us
+header_on edition ts us s (inl h) = (tt, subst Small h.1 s)
+header_on edition ts us s (inr w) = (skip (one _)).keeps ts us s w
 
-pub header_keeps : Keeps SpellsHeader (Unit {0})
-header_keeps = record { keeps = header_on }
+pub header_keeps : (edition : Edition) → Keeps (SpellsHeader edition) (Unit {0})
+header_keeps edition = record { keeps = header_on edition }
 
 pub main_keeps : (t : RawTarget) → Keeps (SpellsMain (target_tree t)) ((1 ≤ length t.results.items) × IsSpelled (code_tree t.code))
 main_keeps t =
@@ -120,8 +121,9 @@ main_keeps t =
     (skip (skip (both (any_keeps SpellsBase (λ b. Unit {0}) _ _ base_keeps t.params.items)
     (skip (both (one_or_tuple_keeps SpellsBase base_keeps t.results.items) (skip (code_keeps (code_tree t.code))))))))
 
-pub spelled_law : (t : RawTarget) (ts : List Token) → AreWithin (2 ^ 127 - 1) ts → IsTarget (target_tree t) ts → HasSpelling t
-spelled_law t ts s w = let h = (both header_keeps (main_keeps t)).keeps ts [] s w.0 in (w.1, h.0.1.1, h.0.1.0)
+pub spelled_law : (edition : Edition) (t : RawTarget) (ts : List Token) → AreWithin (2 ^ 127 - 1) ts → IsTarget edition (target_tree t) ts → HasSpelling t
+spelled_law edition t ts s w = let h = (both (header_keeps edition) (main_keeps t)).keeps ts [] s w.0 in (w.1, h.0.1.1, h.0.1.0)
 
-pub spelled_from : (t : RawTarget) (ts items : List Token) → ts ≡ items → IsTarget (target_tree t) ts → AreWithin (2 ^ 127 - 1) items → HasSpelling t
-spelled_from t ts items same w s = spelled_law t items s (subst (IsTarget (target_tree t)) same w)
+pub spelled_from : (edition : Edition) (t : RawTarget) (ts items : List Token) → ts ≡ items → IsTarget edition (target_tree t) ts →
+    AreWithin (2 ^ 127 - 1) items → HasSpelling t
+spelled_from edition t ts items same w s = spelled_law edition t items s (subst (IsTarget edition (target_tree t)) same w)

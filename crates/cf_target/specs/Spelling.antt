@@ -4,6 +4,8 @@ use Rattle.cf_lex.specs.declared.token.Token.{Token}
 use Rattle.cf_lex.specs.declared.token.TokenKind.{TokenKind}
 use Rattle.cf_lex.specs.declared.token.TokenKind.TheVariants.{Literal, Word, Sign}
 use Rattle.cf_tree.specs.declared.base.Base.{Base}
+use Rattle.cf_tree.specs.declared.base.Edition.{Edition}
+use Rattle.cf_tree.specs.declared.base.Edition.TheVariants.{Two, Three}
 use Rattle.cf_tree.specs.CodeTree.{CodeTree, code_lit, code_truth, code_var, code_set_of, code_tuple, code_sum, code_sub, code_mul, code_neg, code_div, code_mod, code_min, code_max, code_compare, code_divides, code_and, code_or, code_not, code_union, code_inter, code_diff, code_subset, code_card, code_slice, code_fresh, code_if, code_let, code_solve, CodeTrees, no_codes, code_more, ItemTree, let_item, need_item, ItemTrees, no_items, item_more, ArmTree, arm_of, ArmTrees, no_arms, arm_more, count, code_depth}
 use Rattle.cf_tree.specs.Spelled.{IsNumeral, IsNoTuple}
 pub use Rattle.cf_tree.specs.DefView.{TargetTree, target_tree}
@@ -141,9 +143,20 @@ abbrev mutual
 abbrev pub SpellsBases : List Base → Form
 SpellsBases bs = AnyNumber SpellsBase (Sign (codes ",")) (Sign (codes ")")) bs
 
--- [ "comfusy" "2" ]
-abbrev pub SpellsHeader : Form
-SpellsHeader ts rest = (ts ≡ rest) ⊎ (Next (Word (codes "comfusy")) ⨟ Next (Literal (pos 2))) ts rest
+-- the number in the header of a target
+abbrev pub header_number : Edition → ℕ
+header_number Two = 2
+header_number Three = 3
+
+-- a target of language 2 may lack its header
+abbrev pub MayLackHeader : Edition → Type 0
+MayLackHeader Two = Unit {0}
+MayLackHeader Three = ⊥
+
+-- [ "comfusy" "2" ], in edition 3 "comfusy" "3"
+abbrev pub SpellsHeader : Edition → Form
+SpellsHeader edition ts rest =
+    (MayLackHeader edition × (ts ≡ rest)) ⊎ (Next (Word (codes "comfusy")) ⨟ Next (Literal (pos (header_number edition)))) ts rest
 
 -- "main" "(" [ base { "," base } ] ")" ":" results "=" code
 abbrev pub SpellsMain : TargetTree → Form
@@ -153,13 +166,13 @@ SpellsMain t =
     ⨟ SpellsCode t.code
 
 -- a target whose code has at most this depth, up to a rest
-abbrev pub SpellsPart : ℕ → TargetTree → Form
-SpellsPart limit t = If (code_depth t.code ≤ limit) (SpellsHeader ⨟ SpellsMain t)
+abbrev pub SpellsPart : Edition → ℕ → TargetTree → Form
+SpellsPart edition limit t = If (code_depth t.code ≤ limit) (SpellsHeader edition ⨟ SpellsMain t)
 
--- target = [ "comfusy" "2" ] "main" "(" [ base { "," base } ] ")" ":" results "=" code, up to the end, with a code of at most this depth
-abbrev pub SpellsTarget : ℕ → TargetTree → List Token → Type 0
-SpellsTarget limit t ts = (SpellsHeader ⨟ SpellsMain t) ts [] × (code_depth t.code ≤ limit)
+-- target = header "main" "(" [ base { "," base } ] ")" ":" results "=" code, up to the end, with a code of at most this depth
+abbrev pub SpellsTarget : Edition → ℕ → TargetTree → List Token → Type 0
+SpellsTarget edition limit t ts = (SpellsHeader edition ⨟ SpellsMain t) ts [] × (code_depth t.code ≤ limit)
 
 -- the tokens spell the target, and the depth of its code is within the limit
-abbrev pub IsTarget : TargetTree → List Token → Type 0
-IsTarget t ts = SpellsTarget 500 t ts
+abbrev pub IsTarget : Edition → TargetTree → List Token → Type 0
+IsTarget edition t ts = SpellsTarget edition 500 t ts

@@ -5,23 +5,24 @@ use Rattle.cf_target.proofs.Targets.{found_from}
 use Rattle.cf_target.proofs.source.target.Goals as goal
 
 pub returns-in-Ok-clause-found : goal.returns-in-Ok-clause-found
-returns-in-Ok-clause-found c = found_from _ _ _ _ c.as_slice.ensures.value c.in-Ok.ensures
+returns-in-Ok-clause-found c = found_from c.args.edition _ _ _ _ c.as_slice.ensures.value c.in-Ok.ensures
 
 pub returns-in-Ok-clause-only : goal.returns-in-Ok-clause-only
-returns-in-Ok-clause-only c t w = only_from _ _ _ t _ c.as_slice.ensures.value c.in-Ok.ensures w
+returns-in-Ok-clause-only c t w = only_from c.args.edition _ _ _ t _ c.as_slice.ensures.value c.in-Ok.ensures w
 
 pub returns-in-Ok-clause-spelled : goal.returns-in-Ok-clause-spelled
-returns-in-Ok-clause-spelled c small = spelled_from c.in-Ok.target _ _ c.as_slice.ensures.value (found_from _ _ _ _ refl c.in-Ok.ensures) small
+returns-in-Ok-clause-spelled c small =
+    spelled_from c.args.edition c.in-Ok.target _ _ c.as_slice.ensures.value (found_from c.args.edition _ _ _ _ refl c.in-Ok.ensures) small
 
 pub returns-in-Ok-clause-one : goal.returns-in-Ok-clause-one
-returns-in-Ok-clause-one c t u v w = one_law _ t u v w
+returns-in-Ok-clause-one c t u v w = one_law c.args.edition _ t u v w
 
 pub returns-in-Err-NoMemory-clause-one : goal.returns-in-Err-NoMemory-clause-one
-returns-in-Err-NoMemory-clause-one c t u v w = one_law _ t u v w
+returns-in-Err-NoMemory-clause-one c t u v w = one_law c.args.edition _ t u v w
 
 pub returns-in-Err-TokensLeft-clause-only : goal.returns-in-Err-TokensLeft-clause-only
 returns-in-Err-TokensLeft-clause-only c t w =
-    none_from _ _ c.in-Err-TokensLeft.left c.as_slice.ensures.value (rw c.in-Err-TokensLeft.field-0-is at c.in-Err-TokensLeft.ensures) t w
+    none_from c.args.edition _ _ c.in-Err-TokensLeft.left c.as_slice.ensures.value (rw c.in-Err-TokensLeft.field-0-is at c.in-Err-TokensLeft.ensures) t w
 
 pub returns-in-Err-TokensLeft-clause-one : goal.returns-in-Err-TokensLeft-clause-one
-returns-in-Err-TokensLeft-clause-one c t u v w = one_law _ t u v w
+returns-in-Err-TokensLeft-clause-one c t u v w = one_law c.args.edition _ t u v w
