@@ -1,6 +1,6 @@
 -- Language 2 by itself: the productions that it shares with edition 3 as it has them, and what it does not have.
 use Rattle.std.proofs.Common.{◌≡◌, ℕ, zero, suc, ℤ, Bool, true, false, List, [], ◌∷◌, length, Option, Some, None, Result, Ok, Err, refl, codes}
-use Rattle.std.specs.Prelude.{pos}
+use Rattle.std.specs.Prelude.{pos, All}
 use Rattle.cf_lex.specs.Words.{is_reserved, is_no_function}
 use Rattle.cf_tree.specs.declared.base.Edition.TheVariants.{Two}
 use Rattle.cf_lex.specs.declared.token.Token.{Token}
@@ -18,7 +18,8 @@ use Rattle.cf_reader.specs.Tokens.{Form, ◌⨟◌, If, First, Next, FirstName, 
 use Rattle.cf_parse.specs.declared.tier.Tier.TheVariants.{Whole, Imps, Ors, Sums}
 use Rattle.cf_parse.specs.Spelling.{Fits, SpellsParam, SpellsItems, Spells}
 use Rattle.cf_parse.specs.Reading.{Parts, items_of, given_of, aim_of, linked_of, behind_name, named_of}
-use Rattle.cf_parse.specs.Programs.{SpellsDef, SpellsItem, SpellsSome, SpellsProgram, def_of, item_of, some_items, program_of}
+use Rattle.std.proofs.lemmas.List.Elements.{All-nil, All-cons}
+use Rattle.cf_parse.specs.Programs.{SpellsItem, SpellsAll, SpellsSome, SpellsProgram, IsProgram, def_of, item_of, some_items, program_of}
 
 -- productions
 
@@ -43,37 +44,51 @@ program limit items ts = refl
 
 -- what is not there
 
-no-hidden : (p : Place) (outputs hidden : List Param) (x : Param) (given : GivenTree) (e : RawTree) (aim : AimTree) (ts rest : List Token) →
+pub no-hidden : (p : Place) (outputs hidden : List Param) (x : Param) (given : GivenTree) (e : RawTree) (aim : AimTree) (ts rest : List Token) →
     Spells Two (raw_choose p outputs (x ∷ hidden) given e aim) ts rest → ⊥
 no-hidden p outputs hidden x no_given e aim ts rest h = h.2.2.1.0
 no-hidden p outputs hidden x (given_that q g) e aim ts rest h = h.2.2.1.0
 
-no-given : (p q : Place) (outputs hidden : List Param) (g e : RawTree) (aim : AimTree) (ts rest : List Token) →
+pub no-given : (p q : Place) (outputs hidden : List Param) (g e : RawTree) (aim : AimTree) (ts rest : List Token) →
     Spells Two (raw_choose p outputs hidden (given_that q g) e aim) ts rest → ⊥
 no-given p q outputs hidden g e aim ts rest h = h.2.2.2.0
 
-no-aim : (p q : Place) (sense : Sense) (outputs hidden : List Param) (e aim : RawTree) (ts rest : List Token) →
+pub no-aim : (p q : Place) (sense : Sense) (outputs hidden : List Param) (e aim : RawTree) (ts rest : List Token) →
     Spells Two (raw_choose p outputs hidden no_given e (aim_at q sense aim)) ts rest → ⊥
 no-aim p q sense outputs hidden e aim ts rest h = h.2.2.2.2.0.0
 
-no-implication : (p : Place) (a b : RawTree) (ts rest : List Token) → Spells Two (raw_binary p Implies a b) ts rest → ⊥
+pub no-implication : (p : Place) (a b : RawTree) (ts rest : List Token) → Spells Two (raw_binary p Implies a b) ts rest → ⊥
 no-implication p a b ts rest h = h.2.1.0
 
-no-chain : (p : Place) (orders : List Order) (places : List Place) (es : RawTrees) (ts rest : List Token) → Spells Two (raw_chain p orders places es) ts rest → ⊥
+pub no-chain : (p : Place) (orders : List Order) (places : List Place) (es : RawTrees) (ts rest : List Token) → Spells Two (raw_chain p orders places es) ts rest → ⊥
 no-chain p orders places no_raws ts rest h = h
 no-chain p orders places (raw_more e es) ts rest h = h.0.0
 
-no-min : (p : Place) (es : RawTrees) (ts rest : List Token) → Spells Two (raw_min p es) ts rest → ⊥
+pub no-min : (p : Place) (es : RawTrees) (ts rest : List Token) → Spells Two (raw_min p es) ts rest → ⊥
 no-min p es ts rest h = h.0
 
-no-max : (p : Place) (es : RawTrees) (ts rest : List Token) → Spells Two (raw_max p es) ts rest → ⊥
+pub no-max : (p : Place) (es : RawTrees) (ts rest : List Token) → Spells Two (raw_max p es) ts rest → ⊥
 no-max p es ts rest h = h.0
 
-no-name-divides : (p q : Place) (x : List ℕ) (e : RawTree) (ts rest : List Token) → Spells Two (raw_divides p (number_name q x) e) ts rest → ⊥
+pub no-name-divides : (p q : Place) (x : List ℕ) (e : RawTree) (ts rest : List Token) → Spells Two (raw_divides p (number_name q x) e) ts rest → ⊥
 no-name-divides p q x e ts rest h = h.1.0.0
 
-no-constant : (limit : ℕ) (p : Place) (x : List ℕ) (e : RawTree) (ts rest : List Token) → SpellsItem Two limit (item_const p x e) ts rest → ⊥
+pub no-constant : (limit : ℕ) (p : Place) (x : List ℕ) (e : RawTree) (ts rest : List Token) → SpellsItem Two limit (item_const p x e) ts rest → ⊥
 no-constant limit p x e ts rest h = h.0
+
+-- a program of language 2 has functions alone
+abbrev pub IsFunction : RawItemTree → Type 0
+IsFunction (item_def d) = Unit {0}
+IsFunction (item_const p x e) = ⊥
+
+all_functions : (limit : ℕ) (items : List RawItemTree) (ts : List Token) → SpellsAll Two limit items ts → All IsFunction items
+all_functions limit [] ts w = All-nil IsFunction
+all_functions limit (item_def d ∷ items) ts (a, w, s) = All-cons IsFunction (item_def d) items tt (all_functions limit items a s)
+all_functions limit (item_const p x e ∷ items) ts (a, w, s) = absurd w.0
+
+pub functions_alone : (items : List RawItemTree) (ts : List Token) → IsProgram Two items ts → All IsFunction items
+functions_alone [] ts w = absurd w
+functions_alone (x ∷ items) ts w = all_functions 200 (x ∷ items) ts w
 
 -- how it is read
 

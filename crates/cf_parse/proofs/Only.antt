@@ -1327,7 +1327,7 @@ chain_is part n h sh p [] (q ∷ places) e (raw_more g es) ts a rest c f d w l s
 chain_is part n h sh p (o ∷ []) (q ∷ places) e (raw_more g es) ts a rest c f d w l s = absurd (omega (arith, c.1))
 chain_is part n h sh p (o ∷ r ∷ orders) (q ∷ places) e (raw_more g no_raws) ts a rest c f d w (b, v, (i, j, l)) s = absurd l
 chain_is part n h sh p (o ∷ r ∷ orders) (q ∷ []) e (raw_more g (raw_more k es)) ts a rest c f d w (b, v, (i, j, l)) s = absurd l
-chain_is part n h sh p (o ∷ r ∷ orders) (q ∷ z ∷ places) e (raw_more g (raw_more k es)) ts a rest (same, (two, one)) f d w (b, v, (i, j, (m, x, (u, y, more)))) s =
+chain_is part n h sh p (o ∷ r ∷ orders) (q ∷ z ∷ places) e (raw_more g (raw_more k es)) ts a rest (same, two, one) f d w (b, v, (i, j, (m, x, (u, y, more)))) s =
     let k_is : part Sums m ≡ Ok (k, u) =
     inside Three part n h Sums (omega arith) k m u y.0 (omega (arith, d)) y.1 (links_stop Three es orders places u rest more s) in
     bind_is _ _ ts (sums_is Three part n h sh e ts a f (omega (arith, d)) w (stops_op Three (Compare o) Sums q a b (omega arith) v))

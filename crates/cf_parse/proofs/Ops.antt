@@ -258,14 +258,13 @@ function_no_op Three x e =
     let c = true_or (bytes_eq x (codes "mod")) _ b.1 in
     let d = true_or (bytes_eq x (codes "abs")) _ c.1 in
     let f = true_or (bytes_eq x (codes "min")) _ d.1 in
-    let g = true_or (bytes_eq x (codes "max")) _ f.1 in
-    (
+    let g = true_or (bytes_eq x (codes "max")) _ f.1 in (
       ap (λ z. cond z (Some Min) (cond (bytes_eq x (codes "max")) (Some Max) (shared_named_op x))) f.0
-      ∙ ap (λ z. cond z (Some Max) (shared_named_op x)) g.0
-      ∙ ap (λ z. cond z (Some Card) (cond (bytes_eq x (codes "abs")) (Some Abs) (cond (bytes_eq x (codes "div")) (Some Div) (cond (bytes_eq x (codes "mod"))
-      (Some Mod) None)))) a.0
-      ∙ ap (λ z. cond z (Some Abs) (cond (bytes_eq x (codes "div")) (Some Div) (cond (bytes_eq x (codes "mod")) (Some Mod) None))) d.0
-      ∙ ap (λ z. cond z (Some Div) (cond (bytes_eq x (codes "mod")) (Some Mod) None)) b.0
-      ∙ ap (λ z. cond z (Some Mod) None) c.0,
+          ∙ ap (λ z. cond z (Some Max) (shared_named_op x)) g.0
+          ∙ ap (λ z. cond z (Some Card) (cond (bytes_eq x (codes "abs")) (Some Abs) (cond (bytes_eq x (codes "div")) (Some Div) (cond (bytes_eq x (codes "mod"))
+          (Some Mod) None)))) a.0
+          ∙ ap (λ z. cond z (Some Abs) (cond (bytes_eq x (codes "div")) (Some Div) (cond (bytes_eq x (codes "mod")) (Some Mod) None))) d.0
+          ∙ ap (λ z. cond z (Some Div) (cond (bytes_eq x (codes "mod")) (Some Mod) None)) b.0
+          ∙ ap (λ z. cond z (Some Mod) None) c.0,
       g.1,
     )

@@ -16,8 +16,8 @@ use crate::node;
 use crate::pattern::read_pattern;
 use crate::tier::Tier;
 use crate::words::{
-    NamedOp, after_order, after_sense, after_word_of_three, divides_by, expect_number, next_op, next_order,
-    op_of_name, relation_tier, reserved_op, under,
+    NamedOp, after_order, after_sense, after_word_of_three, divides_by, expect_number, next_op,
+    next_order, op_of_name, relation_tier, reserved_op, under,
 };
 use cf_lex::Token;
 use cf_reader::{

@@ -14,8 +14,7 @@ use crate::tier::Tier;
 use crate::words::after_word_of_three;
 use cf_lex::{Token, TokenKind, TokenList};
 use cf_reader::{
-    ParseFault, ReadStop, expect_function, expect_name, expect_sign, expect_word,
-    place_at, results,
+    ParseFault, ReadStop, expect_function, expect_name, expect_sign, expect_word, place_at, results,
 };
 use cf_tree::{Edition, Place, Program, RawConst, RawDef, RawItem};
 use std::alloc::Global;

@@ -10,7 +10,9 @@ ghost use Rattle.cf_parse.specs.Reading.{in_three, next_op as next_op_of, next_o
 
 use crate::tier::Tier;
 use cf_lex::{Token, TokenKind};
-use cf_reader::{ReadStop, after_sign, after_word, expect_name, literal_at_least, operation, spells};
+use cf_reader::{
+    ReadStop, after_sign, after_word, expect_name, literal_at_least, operation, spells,
+};
 use cf_tree::{BinOp, Edition, Number, Order, Place, Raw, RawNode, Sense};
 use std::alloc::Global;
 
