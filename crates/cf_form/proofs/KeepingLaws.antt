@@ -120,7 +120,7 @@ module _ (how : Linearity) (earlier : List DefTree) (functions : AreTypedDefsBy 
         subst (λ cs. ExprHasBasesBy (IsLinearBy how) after (choose_form wide) own cs) (sym h.5)
         (subst (λ bases. ExprHasBasesBy (IsLinearBy how) after (choose_form wide) bases q.outputs) h.0 (wide_has h.1 relation given))
 
-    pub choose_has : (s : ℕ) (own bs : List Base) → ExprHasBasesBy (IsLinearBy how) (Takes earlier) (choose_expr q) own bs →
+    choose_has : (s : ℕ) (own bs : List Base) → ExprHasBasesBy (IsLinearBy how) (Takes earlier) (choose_expr q) own bs →
         ExprHasBasesBy (IsLinearBy how) after (formed (call_expanded (bodies earlier)) s (choose_expr q)) own bs
     choose_has s own bs h =
         subst (λ a. ExprHasBasesBy (IsLinearBy how) after (formed (call_expanded (bodies earlier)) s (choose_expr (aimed q a))) own bs) (sym fine.stands.unaimed)
