@@ -13,6 +13,7 @@ use Rattle.cf_tree.specs.Typing.{one}
 use Rattle.cf_program.specs.declared.linearity.Linearity.{Linearity}
 use Rattle.cf_program.specs.DistinctNames.{AreDistinct}
 use Rattle.cf_program.specs.LateLinear.{IsLinearBy}
+use Rattle.cf_program.specs.NoForm.{HasNoForm}
 use Rattle.cf_program.specs.TypedProgram.{ExprHasBasesBy, GivenIsTypedBy, Takes, AreTypedDefsBy, all_numbers}
 use Rattle.cf_form.specs.Branches.{WideChoose, Branch, branched, all_outputs, relation_at}
 use Rattle.cf_form.specs.Expansion.{truth_in, first_part, variables_from, expanded, call_expanded}
@@ -28,12 +29,12 @@ use Rattle.cf_form.specs.Wide.{WideRel}
 use Rattle.cf_form.specs.Widened.{IsOfLanguageTwo}
 use Rattle.cf_form.proofs.BranchTypes.{branch_is}
 use Rattle.cf_form.proofs.ExpansionTypes.{HaveLevels, levels_front, levels_all, IsTruthLevel, AreParts, truth_from, variables_typed, parts_typed, calls_typed}
-use Rattle.cf_form.proofs.FormedNumbers.{IsUnaimed, IsUnaimedBehind, blocks_of_all, kept_by_all}
+use Rattle.cf_form.proofs.FormedNumbers.{IsUnaimedBehind, blocks_of_all, kept_by_all}
 use Rattle.cf_form.proofs.FormedPlain.{plain, of_two}
 use Rattle.cf_form.proofs.FormedTypes.{outputs_typed, form_has, formed_has}
 use Rattle.cf_form.proofs.FormingLaws.{Stands, StandsBehind, stands_of, aimed}
 use Rattle.cf_form.proofs.FunctionLists.{AllChooses, chooses_turned, formed_last, formed_turned, turned_more}
-use Rattle.cf_form.proofs.Lists.{rec_of_map, rec_two, rec_weaker, rec_reverse}
+use Rattle.cf_form.proofs.Lists.{rec_of_map, rec_two, rec_reverse}
 use Rattle.cf_form.proofs.NumberBlocks.{blocks_share}
 use Rattle.cf_form.proofs.OrdinaryLaws.{choose_expr}
 use Rattle.cf_form.proofs.WideTypes.{IsWideRel}
@@ -42,6 +43,19 @@ use Rattle.cf_form.proofs.WideTypes.{IsWideRel}
 record IsFineBehind (how : Linearity) (q : WithBodies) : Type 0 where
   stands : Stands q.0 q.1
   linear : IsLinearBehind how (length q.1.scope) (wide_choose (call_expanded q.0) q.1).relation
+
+-- what a source says of its chooses
+abbrev MayStandBehind : WithBodies → Type 0
+MayStandBehind q = MayStand (CallMayStand q.0) q.1.relation × GivenMayStand (CallMayStand q.0) q.1.given
+
+abbrev IsLinearChoose : Linearity → WideChoose → Type 0
+IsLinearChoose how q = IsLinearBehind how (length q.scope) q.relation
+
+abbrev widened_choose : WithBodies → WideChoose
+widened_choose q = wide_choose (call_expanded q.0) q.1
+
+abbrev HasDistinctParams : DefTree → Type 0
+HasDistinctParams d = AreDistinct (names_of d.params)
 
 -- ---- a choose
 module _ (how : Linearity) (earlier : List DefTree) (functions : AreTypedDefsBy (IsLinearBy how) earlier) where
@@ -106,7 +120,7 @@ module _ (how : Linearity) (earlier : List DefTree) (functions : AreTypedDefsBy 
         subst (λ cs. ExprHasBasesBy (IsLinearBy how) after (choose_form wide) own cs) (sym h.5)
         (subst (λ bases. ExprHasBasesBy (IsLinearBy how) after (choose_form wide) bases q.outputs) h.0 (wide_has h.1 relation given))
 
-    pub choose_has : (s : ℕ) (own bs : List Base) → ExprHasBasesBy (IsLinearBy how) (Takes earlier) (choose_expr q) own bs →
+    choose_has : (s : ℕ) (own bs : List Base) → ExprHasBasesBy (IsLinearBy how) (Takes earlier) (choose_expr q) own bs →
         ExprHasBasesBy (IsLinearBy how) after (formed (call_expanded (bodies earlier)) s (choose_expr q)) own bs
     choose_has s own bs h =
         subst (λ a. ExprHasBasesBy (IsLinearBy how) after (formed (call_expanded (bodies earlier)) s (choose_expr (aimed q a))) own bs) (sym fine.stands.unaimed)
@@ -142,13 +156,16 @@ module _ (how : Linearity) where
     typed_last earlier t.1 g.1,
   )
 
-  two_last : (earlier : List DefTree) → AreTypedDefsBy (IsLinearBy how) (formed_last earlier) → AllChooses (IsFineBehind how) earlier →
+  plain_last : (earlier : List DefTree) → AllChooses IsUnaimedBehind earlier → AllByRecursion (λ d. HasNoForm d.body) (formed_last earlier)
+  plain_last [] g = tt
+  plain_last (d ∷ earlier) g = (plain (call_expanded (bodies earlier)) d.body (length d.params) g.0, plain_last earlier g.1)
+
+  two_last : (earlier : List DefTree) → AreTypedDefsBy (IsLinearBy how) (formed_last earlier) → AllByRecursion (λ d. HasNoForm d.body) (formed_last earlier) →
       AllByRecursion (λ d. IsOfLanguageTwo d.body) (formed_last earlier)
   two_last [] t g = tt
   two_last (d ∷ earlier) t g = (
     of_two (IsLinearBy how) (Takes (formed_last earlier)) (formed (call_expanded (bodies earlier)) (length d.params) d.body) (bases_of d.params) d.results t.0.1
-        (plain (call_expanded (bodies earlier)) d.body (length d.params)
-        (rec_weaker (λ q. IsFineBehind how (bodies earlier, q)) IsUnaimed (λ q h. h.stands.unaimed) (chooses_in d.body) g.0)),
+        g.0,
     two_last earlier t.1 g.1,
   )
 
@@ -157,20 +174,23 @@ names_same : (before ds : List DefTree) → map (λ d. d.name) (formed_behind be
 names_same before [] = refl
 names_same before (d ∷ ds) = ap (λ xs. d.name ∷ xs) (names_same (before ++ d ∷ []) ds)
 
-params_same : (before ds : List DefTree) → AllByRecursion (λ d. AreDistinct (names_of d.params)) ds →
-    AllByRecursion (λ d. AreDistinct (names_of d.params)) (formed_behind before ds)
+params_same : (before ds : List DefTree) → AllByRecursion HasDistinctParams ds →
+    AllByRecursion HasDistinctParams (formed_behind before ds)
 params_same before [] h = tt
 params_same before (d ∷ ds) h = (h.0, params_same (before ++ d ∷ []) ds h.1)
 
 get_formed : (before ds : List DefTree) (k : ℕ) (d : DefTree) → slice_get ds k ≡ Some d →
     (e : DefTree) × (slice_get (formed_behind before ds) k ≡ Some e) × (e.name ≡ d.name)
 get_formed before [] k d h = cc
-get_formed before (c ∷ ds) zero d h = let same : c ≡ d = cc in (formed_def before c, refl, ap (λ x. x.name) same)
+get_formed before (c ∷ ds) zero d h =
+    let same : c ≡ d = cc in
+    let name : DefTree → List ℕ = λ x. x.name in
+    (formed_def before c, refl, ap name same)
 get_formed before (c ∷ ds) (suc k) d h = get_formed (before ++ c ∷ []) ds k d h
 
 turned_twice : (ds : List DefTree) → reverse (reverse ds) ≡ ds
 turned_twice [] = refl
-turned_twice (d ∷ ds) = ap reverse (reverse-append (d ∷ []) ds) ∙ turned_more (reverse ds) d ∙ ap (λ xs. d ∷ xs) (turned_twice ds)
+turned_twice (d ∷ ds) = ap (λ xs. reverse xs) (reverse-append (d ∷ []) ds) ∙ turned_more (reverse ds) d ∙ ap (λ xs. d ∷ xs) (turned_twice ds)
 
 -- ---- the program
 module _ (how : Linearity) (defs : List DefTree) (main : ℕ) (t : IsSource how defs main) where
@@ -179,15 +199,17 @@ module _ (how : Linearity) (defs : List DefTree) (main : ℕ) (t : IsSource how 
 
   standing : AllByRecursion StandsBehind (source_chooses defs)
   standing =
-      rec_two (λ q. MayStand (CallMayStand q.0) q.1.relation × GivenMayStand (CallMayStand q.0) q.1.given) IsUnaimedBehind StandsBehind
-      (λ q m a. stands_of q m a) (source_chooses defs) (recursion_from_All (λ q. MayStand (CallMayStand q.0) q.1.relation × GivenMayStand (CallMayStand q.0) q.1.given) (source_chooses defs) t.relations) unaimed
+      rec_two MayStandBehind IsUnaimedBehind StandsBehind stands_of (source_chooses defs) (recursion_from_All MayStandBehind (source_chooses defs) t.relations)
+      unaimed
+
+  linear_chooses : AllByRecursion (λ q. IsLinearChoose how (widened_choose q)) (source_chooses defs)
+  linear_chooses =
+      rec_of_map (IsLinearChoose how) widened_choose (source_chooses defs) (recursion_from_All (IsLinearChoose how) (wide_chooses defs) t.linear)
 
   fine_chooses : AllByRecursion (IsFineBehind how) (source_chooses defs)
   fine_chooses =
-      rec_two StandsBehind (λ q. IsLinearBehind how (length q.1.scope) (wide_choose (call_expanded q.0) q.1).relation) (IsFineBehind how)
-      (λ q s l. record { stands = s; linear = l }) (source_chooses defs) standing
-      (rec_of_map (λ q. IsLinearBehind how (length q.scope) q.relation) (λ q. wide_choose (call_expanded q.0) q.1) (source_chooses defs)
-      (recursion_from_All (λ q. IsLinearBehind how (length q.scope) q.relation) (wide_chooses defs) t.linear))
+      rec_two StandsBehind (λ q. IsLinearChoose how (widened_choose q)) (IsFineBehind how) (λ q s l. record { stands = s; linear = l }) (source_chooses defs)
+      standing linear_chooses
 
   fine_last : AllChooses (IsFineBehind how) (reverse defs)
   fine_last = chooses_turned (IsFineBehind how) defs fine_chooses
@@ -195,11 +217,19 @@ module _ (how : Linearity) (defs : List DefTree) (main : ℕ) (t : IsSource how 
   last_typed : AreTypedDefsBy (IsLinearBy how) (formed_last (reverse defs))
   last_typed = typed_last how (reverse defs) t.typed.typed fine_last
 
-  all_of_two : AllByRecursion (λ d. IsOfLanguageTwo d.body) (formed_defs defs)
-  all_of_two =
-      subst (AllByRecursion (λ d. IsOfLanguageTwo d.body)) (turned_twice (formed_defs defs))
-      (rec_reverse (λ d. IsOfLanguageTwo d.body) (reverse (formed_defs defs))
-      (subst (AllByRecursion (λ d. IsOfLanguageTwo d.body)) (sym (formed_turned defs)) (two_last how (reverse defs) last_typed fine_last)))
+  plain_bodies : AllByRecursion (λ d. HasNoForm d.body) (formed_last (reverse defs))
+  plain_bodies = plain_last how (reverse defs) (chooses_turned IsUnaimedBehind defs unaimed)
+
+  -- what is so of each formed function, last first, is so of each in the order of the text
+  in_order : (P : DefTree → Type 0) → AllByRecursion P (formed_last (reverse defs)) → All P (formed_defs defs)
+  in_order P h =
+      All-from_recursion P (formed_defs defs)
+      (subst (AllByRecursion P) (turned_twice (formed_defs defs))
+      (rec_reverse P (reverse (formed_defs defs)) (subst (AllByRecursion P) (sym (formed_turned defs)) h)))
+
+  -- no chain, `min`, `max` or `==>` stands in a formed body, and no choose whose relation is an expression
+  pub formed_plain : All (λ d. HasNoForm d.body) (formed_defs defs)
+  formed_plain = in_order (λ d. HasNoForm d.body) plain_bodies
 
   named_main : (d : DefTree) × (slice_get (formed_defs defs) main ≡ Some d) × (d.name ≡ codes "main")
   named_main =
@@ -212,8 +242,8 @@ module _ (how : Linearity) (defs : List DefTree) (main : ℕ) (t : IsSource how 
     typed = subst (AreTypedDefsBy (IsLinearBy how)) (sym (formed_turned defs)) last_typed;
     functions = subst AreDistinct (sym (names_same [] defs)) t.typed.functions;
     params =
-        All-from_recursion (λ d. AreDistinct (names_of d.params)) (formed_defs defs)
-        (params_same [] defs (recursion_from_All (λ d. AreDistinct (names_of d.params)) defs t.typed.params));
+        All-from_recursion HasDistinctParams (formed_defs defs)
+        (params_same [] defs (recursion_from_All HasDistinctParams defs t.typed.params));
     has_main = named_main;
     positive =
         All-from_recursion (λ n. 1 ≤ n) (all_numbers (formed_defs defs))
@@ -224,7 +254,7 @@ module _ (how : Linearity) (defs : List DefTree) (main : ℕ) (t : IsSource how 
   formed_is = record {
     typed = formed_typed;
     numbers = blocks_share (all_numbers defs) (placed_from 0 (formed_defs defs)) t.distinct (blocks_of_all 0 [] defs unaimed);
-    formed = All-from_recursion (λ d. IsOfLanguageTwo d.body) (formed_defs defs) all_of_two;
+    formed = in_order (λ d. IsOfLanguageTwo d.body) (two_last how (reverse defs) last_typed plain_bodies);
   }
 
 pub forming_keeps_types : FormingKeepsTypes

@@ -23,10 +23,6 @@ pub rec_two : {X : Type 0} (P Q R : X → Type 0) → ((x : X) → P x → Q x �
 rec_two P Q R f [] h k = tt
 rec_two P Q R f (x ∷ xs) h k = (f x h.0 k.0, rec_two P Q R f xs h.1 k.1)
 
-pub rec_weaker : {X : Type 0} (P Q : X → Type 0) → ((x : X) → P x → Q x) → (xs : List X) → AllByRecursion P xs → AllByRecursion Q xs
-rec_weaker P Q f [] h = tt
-rec_weaker P Q f (x ∷ xs) h = (f x h.0, rec_weaker P Q f xs h.1)
-
 pub rec_reverse : {X : Type 0} (P : X → Type 0) (xs : List X) → AllByRecursion P xs → AllByRecursion P (reverse xs)
 rec_reverse P [] h = tt
 rec_reverse P (x ∷ xs) h = rw (reverse-append (x ∷ []) xs) (rec_append P (reverse xs) (x ∷ []) (rec_reverse P xs h.1) (h.0, tt))
