@@ -1,4 +1,5 @@
 mod AlternativeExamples
+mod Callees
 mod ChooseExamples
 mod CountExamples
 mod ExpansionExamples
@@ -10,5 +11,6 @@ mod PassedExamples
 mod PolarityExamples
 mod RelationExamples
 mod ToldExamples
+mod Unfolded
 mod WideExamples
 mod WidenedExamples
