@@ -1,5 +1,6 @@
 mod AlternativeExamples
 pub mod BranchTypes
+mod Callees
 mod ChooseExamples
 pub mod ChooseForms
 pub mod ChooseLaw
@@ -25,6 +26,7 @@ mod LinearWideExamples
 pub mod Lists
 pub mod NumberBlocks
 mod NumberExamples
+pub mod OneForm
 pub mod Ordinary
 pub mod OrdinaryLaws
 pub mod Outcomes
@@ -37,8 +39,8 @@ mod RelationExamples
 pub mod SaidBy
 pub mod ScopeLaws
 mod ToldExamples
+mod Unfolded
 mod WideExamples
 pub mod WideMeaning
 pub mod WideTypes
 mod WidenedExamples
-pub mod OneForm

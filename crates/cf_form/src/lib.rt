@@ -2,10 +2,13 @@
 //! greatest numbers and truth values, and chains and implications in ordinary code.
 #![tactic(auto)]
 
+mod copy;
+mod expansion;
 mod fault;
 mod form;
 mod limits;
 mod told;
+mod wide;
 
 ghost use Rattle.cf_form.specs.Laws.{FormingAllowsTheSame, FormingKeepsTypes, FormsToItself};
 
