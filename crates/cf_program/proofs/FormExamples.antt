@@ -90,6 +90,15 @@ numbers-of : numbers (expr_choose_where 1 [] (Int ∷ []) [] (holds_where (expr_
     (expr_choose 4 [] (Int ∷ []) rel_true))) ≡ 1 ∷ 2 ∷ 3 ∷ 4 ∷ []
 numbers-of = refl
 
+-- those of several parts stand in the order of the text
+abbrev numbered : ℕ → ExprTree
+numbered n = expr_choose n [] (Int ∷ []) rel_true
+
+numbers-of_parts : (numbers (expr_chain (Lt ∷ []) (exprs_of (numbered 1 ∷ numbered 2 ∷ []))) ≡ 1 ∷ 2 ∷ [])
+    × (numbers (expr_min (exprs_of (numbered 1 ∷ numbered 2 ∷ []))) ≡ 1 ∷ 2 ∷ []) × (numbers (expr_max (exprs_of (numbered 1 ∷ numbered 2 ∷ []))) ≡ 1 ∷ 2 ∷ [])
+    × (numbers (expr_choose_where 1 [] (Int ∷ []) [] holds_always (numbered 2) (at_greatest (numbered 3))) ≡ 1 ∷ 2 ∷ 3 ∷ [])
+numbers-of_parts = (refl, refl, refl, refl)
+
 no-form : (HasNoForm (expr_binary Or (expr_not (var 0)) (var 1))) × (HasNoForm (expr_binary Implies (var 0) (var 1)) → ⊥)
     × (HasNoForm (expr_not (expr_chain (Lt ∷ Lt ∷ []) (exprs_of []))) → ⊥) × (HasNoForm (expr_tuple (exprs_of (expr_min (exprs_of []) ∷ []))) → ⊥)
     × (HasNoForm (expr_max (exprs_of [])) → ⊥) × (HasNoForm (expr_choose_where 1 [] [] [] holds_always (var 0) at_any) → ⊥)
