@@ -92,7 +92,10 @@ impl From<FormFault> for Fault {
                     number: count,
                 },
             },
-            FormFault::Weight { function: _, weight } => Fault::Rule(TypeFault::Weight(weight)),
+            FormFault::Weight {
+                function: _,
+                weight,
+            } => Fault::Rule(TypeFault::Weight(weight)),
             FormFault::Depth { function: _, depth } => Fault::Rule(TypeFault::Depth(depth)),
             FormFault::NoMemory => Fault::NoMemory,
         }

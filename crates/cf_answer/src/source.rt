@@ -167,7 +167,12 @@ fn program_runner(
 
 // What answers the lines of a program that breaks this rule: where it is that on linear relations, its
 // late program.
-fn late_runner(alloc: Global, edition: Edition, program: &Program, fault: TypeFault) -> Result<Answerer, Fault>
+fn late_runner(
+    alloc: Global,
+    edition: Edition,
+    program: &Program,
+    fault: TypeFault,
+) -> Result<Answerer, Fault>
     requires spelled { IsSpelledProgram edition (program_tree program.now) }
     requires broken { IsBroken edition Plain (program_tree program.now) (Rule fault) }
     ensures { (text : List ℕ) → edition ≡ the_edition_of text → SpellsProgram text (program_tree program.now) → (calls : Bool) (given : List Told) →

@@ -539,8 +539,11 @@ bracketed head part m n h (code_mul c e) ts us i d (a, o, (b, w, (f, s, (g, v, r
 bracketed head part m n h (code_diff c e) ts us i d (a, o, (b, w, (f, s, (g, v, r)))) =
     record { behind = a; opened = o; reads = two_is head part m n h ops.Diff tt twos.Diff refl c e a b f g us (omega (arith, d)) (omega (arith, d)) w s v r }
 bracketed head part m n h (code_subset c e) ts us i d (a, o, (b, w, (f, s, (g, v, r)))) =
-    record { behind = a; opened = o;
-        reads = two_is head part m n h ops.Subset tt twos.Subset refl c e a b f g us (omega (arith, d)) (omega (arith, d)) w s v r }
+    record {
+      behind = a;
+      opened = o;
+      reads = two_is head part m n h ops.Subset tt twos.Subset refl c e a b f g us (omega (arith, d)) (omega (arith, d)) w s v r;
+    }
 bracketed head part m n h (code_and c e) ts us i d (a, o, (b, w, (f, s, (g, v, r)))) =
     record { behind = a; opened = o; reads = two_is head part m n h ops.And tt twos.And refl c e a b f g us (omega (arith, d)) (omega (arith, d)) w s v r }
 bracketed head part m n h (code_or c e) ts us i d (a, o, (b, w, (f, s, (g, v, r)))) =

@@ -1,4 +1,0 @@
-mod MessageTexts
-mod PlaceTexts
-mod RuleTexts
-mod SyntaxTexts
