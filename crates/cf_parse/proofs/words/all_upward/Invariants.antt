@@ -3,5 +3,5 @@ use Rattle.std.specs.List.{list_all}
 use Rattle.cf_parse.specs.Spelling.{is_upward}
 use Rattle.cf_parse.proofs.words.all_upward.Given as goal
 
-abbrev pub invariant-loop : goal.invariant-loop
-invariant-loop l = list_all is_upward l.rest ≡ list_all is_upward l.fn.orders
+abbrev pub invariant-loop-order : goal.invariant-loop-order
+invariant-loop-order l = list_all is_upward l.rest ≡ list_all is_upward l.fn.orders
