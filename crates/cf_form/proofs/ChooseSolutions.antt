@@ -160,7 +160,8 @@ module _ (scope outs : List Base) (env vs : List Value) (have : HaveBases scope 
       (truth_of (value_at (env ++ vs) x)) (value_at (env ++ map as_output vs) x)) [
         | inl l ↦ (
             let is : slice_get scope x ≡ Some Truth = sym (base_below scope outs x (omega (arith, same))) ∙ e in
-            let there = among_kept branches_on x (truth_levels 0 scope) on (subst (λ y. is_among y (truth_levels 0 scope) ≡ true) from_zero (level_there 0 scope x is)) in
+            let level = subst (λ y. is_among y (truth_levels 0 scope) ≡ true) from_zero (level_there 0 scope x is) in
+            let there = among_kept branches_on x (truth_levels 0 scope) on level in
             rw (value_there env (filter branches_on (truth_levels 0 scope)) x there) (ap truth_of (sym (value_below env vs x l))))
         | inr l ↦ (
             let is = has_base_at (scope ++ outs) (env ++ vs) x Truth whole_have e in
@@ -208,7 +209,8 @@ module _ (linear : LinearBehind) (chooses : Choosing) (calls : Calling) (parts :
         over = (k.over, h.over);
       }
 
-in_branch_keeps : (branch : Branch) (r : WideRel) (env : List Value) → Holds (in_branch branch r) env ↔ Holds (holding (values_in branch) r) env
+-- a wide relation in a branch, folded or not
+pub in_branch_keeps : (branch : Branch) (r : WideRel) (env : List Value) → Holds (in_branch branch r) env ↔ Holds (holding (values_in branch) r) env
 in_branch_keeps [] r env = (λ h. h, λ h. h)
 in_branch_keeps (x ∷ branch) r env = folded_keeps (holding (values_in (x ∷ branch)) r) env
 

@@ -71,12 +71,14 @@ module _ {v : VariableFacts} {env : List Value} where
   parts_of_one : {A : Outcome → Type 0} (b : Base) (bs : List Base) (p : Part) → bs ≡ one b → ExpandsOne A v env b p → Expands A v env bs (p ∷ [])
   parts_of_one b bs p e h = rw e (record { only = h.only; over = (h.over, tt) })
 
-  pub number_part : {A : Outcome → Type 0} (p : Part) → ExpandsOne A v env Int p → AllowsOnly A (number (wide_value (number_in p) env) ∷ []) × TermOver v (number_in p)
+  pub number_part : {A : Outcome → Type 0} (p : Part) → ExpandsOne A v env Int p →
+      AllowsOnly A (number (wide_value (number_in p) env) ∷ []) × TermOver v (number_in p)
   number_part (of_number t) h = (h.only, h.over)
   number_part (of_set s) h = absurd h.over
   number_part (of_truth r) h = absurd h.over
 
-  pub set_part : {A : Outcome → Type 0} (p : Part) → ExpandsOne A v env Set p → AllowsOnly A (elements (wide_members (set_in p) env) ∷ []) × SetOver v (set_in p)
+  pub set_part : {A : Outcome → Type 0} (p : Part) → ExpandsOne A v env Set p →
+      AllowsOnly A (elements (wide_members (set_in p) env) ∷ []) × SetOver v (set_in p)
   set_part (of_number t) h = absurd h.over
   set_part (of_set s) h = (h.only, h.over)
   set_part (of_truth r) h = absurd h.over
@@ -115,7 +117,8 @@ module _ {v : VariableFacts} {env : List Value} {A B : Outcome → Type 0} where
   compared_numbers o (of_set a) q h k = absurd h.over
   compared_numbers o (of_truth a) q h k = absurd h.over
 
-  same_parts : (b : Base) (p q : Part) → ExpandsOne A v env b p → ExpandsOne B v env b q → ExpandsOne (RightThen (Compare Eq) A B) v env Truth (compared_part Eq p q)
+  same_parts : (b : Base) (p q : Part) → ExpandsOne A v env b p → ExpandsOne B v env b q →
+      ExpandsOne (RightThen (Compare Eq) A B) v env Truth (compared_part Eq p q)
   same_parts Int p q h k = compared_numbers Eq p q h k
   same_parts Truth (of_truth a) (of_truth b) h k =
       record { only = then_only _ _ h.only (then_only _ _ k.only (refl, λ o s. s)); over = (h.over, k.over) }
@@ -130,7 +133,8 @@ module _ {v : VariableFacts} {env : List Value} {A B : Outcome → Type 0} where
   same_parts Set (of_number a) q h k = absurd h.over
   same_parts Set (of_truth a) q h k = absurd h.over
 
-  other_parts : (b : Base) (p q : Part) → ExpandsOne A v env b p → ExpandsOne B v env b q → ExpandsOne (RightThen (Compare Ne) A B) v env Truth (compared_part Ne p q)
+  other_parts : (b : Base) (p q : Part) → ExpandsOne A v env b p → ExpandsOne B v env b q →
+      ExpandsOne (RightThen (Compare Ne) A B) v env Truth (compared_part Ne p q)
   other_parts Int p q h k = compared_numbers Ne p q h k
   other_parts Truth (of_truth a) (of_truth b) h k =
       record { only = then_only _ _ h.only (then_only _ _ k.only (refl, λ o s. s)); over = (h.over, k.over) }
@@ -331,6 +335,11 @@ some_terms (expr_more e es) calls ps h = tt
 
 module _ (linear : LinearBehind) (chooses : Choosing) (calls : Calling) (parts : Calls) (takes : ℕ → List Base → List Base → Type 0) (good : ℕ → Type 0)
     (v : VariableFacts) (env : List Value) (known : CallsExpand calls parts takes good v env) where
+  -- behind the values that are bound
+  bound_only : (ps qs : List Part) (b : ExprTree) (ws : List Value) → AllowsOnly (AllowedBy chooses calls b (map (part_value env) (ps ++ qs))) ws →
+      AllowsOnly (AllowedBy chooses calls b (map (part_value env) ps ++ map (part_value env) qs)) ws
+  bound_only ps qs b ws h = subst (λ vs. AllowsOnly (AllowedBy chooses calls b vs) ws) (map_joined env ps qs) h
+
   mutual
     pub expands : (e : ExprTree) (scope : List Base) (ps : List Part) → PartsOver v scope ps → (bs : List Base) → ExprHasBasesBy linear takes e scope bs
         → MayStand good e → Expands (AllowedBy chooses calls e (map (part_value env) ps)) v env bs (expanded parts ps e)
@@ -380,7 +389,7 @@ module _ (linear : LinearBehind) (chooses : Choosing) (calls : Calling) (parts :
         let bound = expands a scope ps over h.0 h.1 m.0 in
         let inner = expands b (scope ++ h.0) (ps ++ expanded parts ps a) (over_joined v scope h.0 ps (expanded parts ps a) over bound.over) bs h.4 m.1 in
         record {
-          only = then_only _ _ bound.only (subst (λ vs. AllowsOnly (AllowedBy chooses calls b vs) (map (part_value env) (expanded parts (ps ++ expanded parts ps a) b))) (map_joined env ps (expanded parts ps a)) inner.only);
+          only = then_only _ _ bound.only (bound_only ps (expanded parts ps a) b _ inner.only);
           over = inner.over;
         }
     expands (expr_chain orders es) scope ps over bs h m =
@@ -422,7 +431,8 @@ either_expands : (t : Bool) {T U M N : Type 0} {A B : Outcome → Type 0} (v : V
 either_expands true v env bs ps qs f g h m = f h m
 either_expands false v env bs ps qs f g h m = g h m
 
-pub calls_expand : (linear : LinearBehind) (chooses : Choosing) (earlier : List DefTree) → AreTypedDefsBy linear earlier → (v : VariableFacts) (env : List Value)
+pub calls_expand : (linear : LinearBehind) (chooses : Choosing) (earlier : List DefTree) → AreTypedDefsBy linear earlier →
+    (v : VariableFacts) (env : List Value)
     → CallsExpand (CallAllowedBy chooses (bodies earlier)) (call_expanded (bodies earlier)) (Takes earlier) (CallMayStand (bodies earlier)) v env
 calls_expand linear chooses [] typed v env f params bs takes good ps over = absurd takes
 calls_expand linear chooses (d ∷ earlier) typed v env f params bs takes good ps over =
@@ -432,6 +442,7 @@ calls_expand linear chooses (d ∷ earlier) typed v env f params bs takes good p
     either_expands (f == length (bodies earlier)) v env bs _ _
     (λ t m. subst (λ cs. Expands (AllowedBy chooses (CallAllowedBy chooses (bodies earlier)) d.body (map (part_value env) ps)) v env cs
     (expanded (call_expanded (bodies earlier)) ps d.body)) (sym t.1)
-    (expands linear chooses (CallAllowedBy chooses (bodies earlier)) (call_expanded (bodies earlier)) (Takes earlier) (CallMayStand (bodies earlier)) v env known
+    (expands linear chooses (CallAllowedBy chooses (bodies earlier)) (call_expanded (bodies earlier)) (Takes earlier)
+    (CallMayStand (bodies earlier)) v env known
     d.body (bases_of d.params) ps (subst (λ cs. PartsOver v cs ps) t.0 over) d.results typed.0.1 m))
     (λ t m. known f params bs t m ps over) takes_it good

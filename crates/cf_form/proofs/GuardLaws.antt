@@ -133,9 +133,6 @@ pub record IsBetterBy (first other : Order) (better : ℤ → ℤ → ℤ) : Typ
   pub at_other : (v w : ℤ) → Compares other v w → better v w ≡ w
   pub assoc : (u v w : ℤ) → better u (better v w) ≡ better (better u v) w
 
-le_or_lt : (x y : ℤ) → Compares Le x y ⊎ Compares Gt x y
-le_or_lt x y = grind (arith, ints)
-
 pub least_is : IsBetterBy Le Gt int_min
 least_is = record {
   one = λ v w. grind (arith, ints);

@@ -61,9 +61,6 @@ pub not_implies : (a b : Bool) → (a && not b) ≡ not (not a || b)
 not_implies true b = refl
 not_implies false b = refl
 
-pub same_ways : (a b : Bool) → (a && b || not a && not b) ≡ same_truth a b
-same_ways a b = refl
-
 pub other_ways : (a b : Bool) → (a && not b || not a && b) ≡ not (same_truth a b)
 other_ways true true = refl
 other_ways true false = refl

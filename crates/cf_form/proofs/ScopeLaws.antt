@@ -29,7 +29,8 @@ found_between before [] after = tt
 found_between {A} before (a ∷ zs) after = (
   at_seam before a (zs ++ after),
   subst (λ x. FoundAt (before ++ a ∷ (zs ++ after)) x zs) (one_more before a)
-      (subst (λ all. FoundAt {A = A} all (length (before ++ a ∷ [])) zs) (append_assoc before (a ∷ []) (zs ++ after)) (found_between (before ++ a ∷ []) zs after)),
+      (subst (λ all. FoundAt {A = A} all (length (before ++ a ∷ [])) zs) (append_assoc before (a ∷ []) (zs ++ after))
+      (found_between (before ++ a ∷ []) zs after)),
 )
 
 pub found_first : {A : Type 0} (zs after : List A) → FoundAt (zs ++ after) 0 zs
@@ -151,7 +152,8 @@ none_kept f x (y ∷ ys) h =
     let p = neither (x == y) (is_among x ys) h in none_kept_with (f y) x y (filter f ys) p.0 (none_kept f x ys p.1)
 
 -- ---- the values in a branch
-pub value_there : (env : List Value) (levels : List ℕ) (x : ℕ) → is_among x levels ≡ true → values_in (branch_of env levels) x ≡ Some (truth_of (value_at env x))
+pub value_there : (env : List Value) (levels : List ℕ) (x : ℕ) → is_among x levels ≡ true →
+    values_in (branch_of env levels) x ≡ Some (truth_of (value_at env x))
 value_there env [] x h = cc
 value_there env (y ∷ levels) x h =
     on_bool (x == y) (λ e. rw (e, eqb-true x y e) refl) (λ e. rw e (value_there env levels x (rw e at h)))
