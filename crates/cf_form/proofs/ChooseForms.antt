@@ -1,15 +1,15 @@
 -- The form of a choose allows what the choose of the source does.
-use Rattle.std.proofs.Common.{◌≡◌, ◌↔◌, ℕ, zero, suc, ◌+◌, ◌≤◌, ℤ, pos, Bool, true, false, not, ◌&&◌, Option, Some, None, List, [], ◌∷◌, ◌++◌, length, map, slice_get, append-nil, append_assoc, refl, sym, ap, ◌∙◌, subst, arith}
+use Rattle.std.proofs.Common.{◌≡◌, ◌↔◌, ℕ, suc, ◌+◌, pos, Bool, true, false, Some, List, [], ◌∷◌, ◌++◌, length, map, slice_get, append-nil, append_assoc, refl, sym, ap, ◌∙◌, subst}
 use Rattle.std.specs.Bool.{MatchBool}
-use Rattle.std.proofs.lemmas.List.{length-map, map-append}
+use Rattle.std.specs.Prelude.{if◌then◌else◌}
+use Rattle.std.proofs.lemmas.List.{map-append}
 use Rattle.cf_tree.specs.declared.base.Base.{Base}
 use Rattle.cf_tree.specs.declared.base.Base.TheVariants.{Int, Bool as Truth, Set}
-use Rattle.cf_tree.specs.Allowed.{AllowedThen, goes_on, ends_at, AllowedIn, AllowedAll, Gives, Calling, Chosen, Solutions, SolvesAtAim, IsAimedBy, AllChosen}
-use Rattle.cf_tree.specs.ExprTree.{ExprTree, expr_var, expr_lit, expr_if, expr_tuple, expr_let, exprs_of, at_any}
+use Rattle.cf_tree.specs.Allowed.{AllowedThen, goes_on, ends_at, AllowedIn, AllowedAll, Gives, Calling, Chosen, Solutions, SolvesAtAim}
+use Rattle.cf_tree.specs.ExprTree.{ExprTree, expr_var, exprs_of}
 use Rattle.cf_tree.specs.OneOutcome.{AllowsOnly}
-use Rattle.cf_tree.specs.Params.{bases_of}
 use Rattle.cf_tree.specs.Relation.{Sol}
-use Rattle.cf_tree.specs.Values.{Value, number, truth, elements, truth_of, first_of, Outcome, values, no_solution, value_at, HasBase, HaveBases}
+use Rattle.cf_tree.specs.Values.{Value, number, truth, truth_of, Outcome, values, no_solution, value_at, HasBase, HaveBases}
 use Rattle.cf_tree.proofs.OneOutcomeLemmas.{then_only}
 use Rattle.cf_form.specs.Branches.{WideChoose, Branch, relation_at, all_outputs}
 use Rattle.cf_form.specs.Formed.{as_number, branching, given_out, all_given_out, one_or_tuple, has_truths}
@@ -103,6 +103,10 @@ are_given_out calls env bs xs ks h =
     rw all (several_are calls (env ++ ys) (all_given_out (length env) bs) xs (all_given calls (env ++ ys) bs (length env) xs h r))
 
 -- ---- what the choose allows
+pub truths_by : (b : Bool) → if b then false else true ≡ true → b ≡ false
+truths_by true e = cc
+truths_by false e = refl
+
 plain_outputs : (bs : List Base) (xs : List Value) → has_truths bs ≡ false → HaveBases bs xs → map as_output xs ≡ xs
 plain_outputs [] [] e h = refl
 plain_outputs [] (x ∷ xs) e h = absurd h

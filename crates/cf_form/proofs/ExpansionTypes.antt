@@ -1,5 +1,5 @@
 -- The parts of a typed expression are typed.
-use Rattle.std.proofs.Common.{◌≡◌, ℕ, zero, suc, ◌+◌, ◌==◌, ℤ, pos, Bool, true, false, Option, Some, None, List, [], ◌∷◌, ◌++◌, length, map, slice_get, MatchBool, refl, sym, ap, ◌∙◌, subst, arith}
+use Rattle.std.proofs.Common.{◌≡◌, ℕ, zero, suc, ◌+◌, ◌==◌, pos, Bool, true, false, Some, List, [], ◌∷◌, ◌++◌, length, map, slice_get, MatchBool, refl, ap, subst}
 use Rattle.std.specs.Prelude.{if◌then◌else◌}
 use Rattle.std.specs.List.{slice_index_or}
 use Rattle.std.proofs.lemmas.List.{length-map}
@@ -18,7 +18,7 @@ use Rattle.cf_form.specs.Expansion.{Part, of_number, of_set, of_truth, number_in
 use Rattle.cf_form.specs.Laws.{bodies}
 use Rattle.cf_form.specs.Relations.{MayStand, AllMayStand, CallMayStand}
 use Rattle.cf_form.specs.Wide.{WideSet, WideRel, wide_lit, wide_neg, wide_abs, wide_not, wide_divides, wide_div, wide_mod, wide_card, wide_empty, wide_chain, wide_min, wide_max}
-use Rattle.cf_form.proofs.OrdinaryLaws.{parts_have}
+use Rattle.cf_form.proofs.OrdinaryLaws.{parts_have, sides_have}
 use Rattle.cf_form.proofs.WideTypes.{IsWideTerm, AreWideTerms, IsWideSet, IsWideRel}
 
 -- the variables from level x on have these bases
@@ -150,10 +150,6 @@ module _ (scope : List Base) where
   compared_typed o Set (of_set s) q h k = sets_typed o s (set_in q) h (set_typed q k)
   compared_typed o Set (of_truth r) q h k = absurd h
 
-  one_side : (b : Option Base) (A B : Base → Type 0) → AreSides b A B → (c : Base) × A c × B c
-  one_side (Some c) A B h = (c, h.0, h.1)
-  one_side None A B h = h
-
   binary_typed : (op : BinOp) (p q : Part) (A B : Base → Type 0) → ((c : Base) → A c → PartIs c p) → ((c : Base) → B c → PartIs c q) →
       AreSides (side_of op) A B → PartIs (result_of op) (binary_part op p q)
   binary_typed Add p q A B f g h = (number_typed p (f Int h.0), number_typed q (g Int h.1))
@@ -167,7 +163,7 @@ module _ (scope : List Base) where
   binary_typed Diff p q A B f g h = (set_typed p (f Set h.0), set_typed q (g Set h.1))
   binary_typed Subset p q A B f g h = (set_typed p (f Set h.0), set_typed q (g Set h.1))
   binary_typed (Compare o) p q A B f g h =
-      let s = one_side (side_of (Compare o)) A B h in compared_typed o s.0 p q (f s.0 s.1) (g s.0 s.2)
+      let s = sides_have (side_of (Compare o)) A B h in compared_typed o s.0 p q (f s.0 s.1) (g s.0 s.2)
 
   if_typed : (c : WideRel) (b : Base) (p q : Part) → IsWideRel IsTruthLevel scope c → PartIs b p → PartIs b q → PartIs b (if_part c p q)
   if_typed c Int (of_number t) q k g h = (k, g, number_typed q h)

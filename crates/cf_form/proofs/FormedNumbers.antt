@@ -1,5 +1,5 @@
 -- The numbers of what an expression is formed to are those of the expression, and are the same only of branches.
-use Rattle.std.proofs.Common.{◌≡◌, ℕ, zero, suc, ◌+◌, ◌-◌, ℤ, Bool, true, false, Option, Some, None, List, [], ◌∷◌, ◌++◌, length, map, reverse, append-nil, append_assoc, refl, sym, ap, ◌∙◌, subst, arith}
+use Rattle.std.proofs.Common.{◌≡◌, ℕ, zero, suc, ◌+◌, ◌-◌, ℤ, Bool, true, false, List, [], ◌∷◌, ◌++◌, length, map, reverse, refl, sym, subst}
 use Rattle.std.specs.Prelude.{if◌then◌else◌}
 use Rattle.std.specs.List.{AllByRecursion}
 use Rattle.cf_tree.specs.declared.base.Base.{Base}
@@ -9,16 +9,16 @@ use Rattle.cf_tree.specs.declared.base.Order.TheVariants.{Le, Ge}
 use Rattle.cf_tree.specs.declared.raw.BinOp.{BinOp}
 use Rattle.cf_tree.specs.declared.raw.BinOp.TheVariants.{Add, Sub, Mul, And, Or, Implies, Union, Inter, Diff, Subset, Compare}
 use Rattle.cf_tree.specs.DefView.{DefTree}
-use Rattle.cf_tree.specs.ExprTree.{ExprTree, expr_lit, expr_truth, expr_var, expr_set_of, expr_tuple, expr_neg, expr_not, expr_abs, expr_binary, expr_divides, expr_div, expr_mod, expr_card, expr_if, expr_call, expr_let, expr_choose, expr_match, expr_chain, expr_min, expr_max, expr_choose_where, ExprTrees, no_exprs, expr_more, exprs_of, match_arm, MatchArmTrees, no_match_arms, match_arm_more, GivenExpr, AimExpr, at_any}
+use Rattle.cf_tree.specs.ExprTree.{ExprTree, expr_lit, expr_truth, expr_var, expr_set_of, expr_tuple, expr_neg, expr_not, expr_abs, expr_binary, expr_divides, expr_div, expr_mod, expr_card, expr_if, expr_call, expr_let, expr_choose, expr_match, expr_chain, expr_min, expr_max, expr_choose_where, ExprTrees, no_exprs, expr_more, exprs_of, match_arm, MatchArmTrees, no_match_arms, match_arm_more, at_any}
 use Rattle.cf_program.specs.TypedProgram.{numbers, numbers_all, numbers_arms, numbers_given, numbers_aim, arm_numbers, all_numbers}
 use Rattle.cf_form.specs.Branches.{WideChoose, Branch, branched, all_outputs}
 use Rattle.cf_form.specs.Expansion.{Calls, call_expanded}
-use Rattle.cf_form.specs.Formed.{comparisons, chain_body, pick, picked_from, best_body, how_many, branching, given_out, all_given_out, one_or_tuple, are_as_chosen, choose_form, choose_or_itself, wide_choose, binary_formed, formed, all_formed, arms_formed, formed_def, formed_behind}
-use Rattle.cf_form.specs.Numbers.{PlacedNumber, other_number, choose_number, arm_number, within, placed, all_placed, arms_placed, placed_from}
+use Rattle.cf_form.specs.Formed.{comparisons, chain_body, picked_from, best_body, how_many, branching, given_out, all_given_out, one_or_tuple, are_as_chosen, choose_form, choose_or_itself, wide_choose, binary_formed, formed, all_formed, arms_formed, formed_def, formed_behind}
+use Rattle.cf_form.specs.Numbers.{other_number, choose_number, arm_number, within, placed, all_placed, arms_placed, placed_from}
 use Rattle.cf_form.specs.SourceChooses.{SourceChoose, WithBodies, chooses_in, chooses_in_all, chooses_in_arms, chooses_behind}
 use Rattle.cf_form.proofs.Halves.{halves_hold}
 use Rattle.cf_form.proofs.Lists.{rec_left, rec_right, rec_append, rec_of_map}
-use Rattle.cf_form.proofs.NumberBlocks.{Blocks, blocks_append, blocks_none, blocks_more, blocks_same, choose_block}
+use Rattle.cf_form.proofs.NumberBlocks.{Blocks, blocks_append, blocks_more, blocks_same, choose_block}
 
 abbrev pub IsUnaimed : SourceChoose → Type 0
 IsUnaimed q = q.aim ≡ at_any

@@ -1,5 +1,5 @@
 -- No new form stands in what an expression is formed to.
-use Rattle.std.proofs.Common.{◌≡◌, ℕ, zero, suc, ◌+◌, ◌-◌, ℤ, Bool, true, false, Option, Some, None, List, [], ◌∷◌, ◌++◌, length, map, refl, sym, subst}
+use Rattle.std.proofs.Common.{ℕ, zero, suc, ◌+◌, ◌-◌, Bool, true, false, List, [], ◌∷◌, ◌++◌, length, map, sym, subst}
 use Rattle.std.specs.Prelude.{if◌then◌else◌}
 use Rattle.std.specs.List.{AllByRecursion}
 use Rattle.cf_tree.specs.declared.base.Base.{Base}
@@ -9,19 +9,19 @@ use Rattle.cf_tree.specs.declared.base.Order.TheVariants.{Le, Ge}
 use Rattle.cf_tree.specs.declared.raw.BinOp.{BinOp}
 use Rattle.cf_tree.specs.declared.raw.BinOp.TheVariants.{Add, Sub, Mul, And, Or, Implies, Union, Inter, Diff, Subset, Compare}
 use Rattle.cf_tree.specs.ExprTree.{ExprTree, expr_lit, expr_truth, expr_var, expr_set_of, expr_tuple, expr_neg, expr_not, expr_abs, expr_binary, expr_divides, expr_div, expr_mod, expr_card, expr_if, expr_call, expr_let, expr_choose, expr_match, expr_chain, expr_min, expr_max, expr_choose_where, ExprTrees, no_exprs, expr_more, exprs_of, match_arm, MatchArmTrees, no_match_arms, match_arm_more}
-use Rattle.cf_tree.specs.Params.{bases_of}
 use Rattle.cf_tree.specs.Relation.{IsTyped}
 use Rattle.cf_program.specs.NoForm.{IsNotImplies, HasNoForm, HaveNoForm, ArmsHaveNoForm}
-use Rattle.cf_program.specs.TypedProgram.{LinearBehind, AreSides, ExprHasBasesBy, AllHaveBy, PartsHaveBy, ArmsHaveBy}
+use Rattle.cf_program.specs.TypedProgram.{LinearBehind, ExprHasBasesBy, AllHaveBy, PartsHaveBy, ArmsHaveBy}
 use Rattle.cf_program.specs.Walk.{side_of}
 use Rattle.cf_form.specs.Branches.{WideChoose, Branch, branched, all_outputs}
 use Rattle.cf_form.specs.Expansion.{Calls}
-use Rattle.cf_form.specs.Formed.{comparisons, chain_body, pick, picked_from, best_body, how_many, branching, given_out, all_given_out, one_or_tuple, are_as_chosen, choose_form, choose_or_itself, wide_choose, binary_formed, formed, all_formed, arms_formed}
+use Rattle.cf_form.specs.Formed.{comparisons, chain_body, picked_from, how_many, branching, given_out, all_given_out, one_or_tuple, are_as_chosen, choose_form, choose_or_itself, wide_choose, binary_formed, formed, all_formed, arms_formed}
 use Rattle.cf_form.specs.SourceChooses.{SourceChoose, chooses_in, chooses_in_all, chooses_in_arms}
 use Rattle.cf_form.specs.Widened.{IsOldOperation, IsOfLanguageTwo, AreOfLanguageTwo, ArmsAreOfLanguageTwo}
 use Rattle.cf_form.proofs.FormedNumbers.{IsUnaimed}
 use Rattle.cf_form.proofs.Halves.{halves_hold}
 use Rattle.cf_form.proofs.Lists.{rec_left, rec_right}
+use Rattle.cf_form.proofs.OrdinaryLaws.{sides_have}
 
 -- ---- what is made
 plain_compared : (x : ℕ) (orders : List Order) → AllByRecursion HasNoForm (comparisons x orders)
@@ -143,10 +143,6 @@ old_operation Diff h = tt
 old_operation Subset h = tt
 old_operation (Compare o) h = tt
 
-some_side : (b : Option Base) (A B : Base → Type 0) → AreSides b A B → (c : Base) × A c × B c
-some_side (Some c) A B h = (c, h.0, h.1)
-some_side None A B h = h
-
 module _ (linear : LinearBehind) (takes : ℕ → List Base → List Base → Type 0) where
   mutual
     pub of_two : (e : ExprTree) (scope bs : List Base) → ExprHasBasesBy linear takes e scope bs → HasNoForm e → IsOfLanguageTwo e
@@ -159,7 +155,7 @@ module _ (linear : LinearBehind) (takes : ℕ → List Base → List Base → Ty
     of_two (expr_not a) scope bs h n = of_two a scope (Truth ∷ []) h.0 n
     of_two (expr_abs a) scope bs h n = of_two a scope (Int ∷ []) h.0 n
     of_two (expr_binary op a b) scope bs h n =
-        let s = some_side (side_of op) (λ c. ExprHasBasesBy linear takes a scope (c ∷ [])) (λ c. ExprHasBasesBy linear takes b scope (c ∷ [])) h.0 in
+        let s = sides_have (side_of op) (λ c. ExprHasBasesBy linear takes a scope (c ∷ [])) (λ c. ExprHasBasesBy linear takes b scope (c ∷ [])) h.0 in
         (old_operation op n.0, of_two a scope (s.0 ∷ []) s.1 n.1, of_two b scope (s.0 ∷ []) s.2 n.2)
     of_two (expr_chain orders es) scope bs h n = absurd n
     of_two (expr_min es) scope bs h n = absurd n

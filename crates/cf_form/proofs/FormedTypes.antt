@@ -1,5 +1,5 @@
 -- What a typed expression is formed to is typed.
-use Rattle.std.proofs.Common.{◌≡◌, ℕ, zero, suc, ◌+◌, ◌-◌, ◌≤◌, ℤ, pos, Bool, true, false, Option, Some, None, List, [], ◌∷◌, ◌++◌, length, map, filter, slice_get, append-nil, append_assoc, refl, sym, ap, ◌∙◌, subst, arith, length-append}
+use Rattle.std.proofs.Common.{◌≡◌, ℕ, zero, suc, ◌+◌, ◌-◌, ◌≤◌, Bool, true, false, Option, Some, None, List, [], ◌∷◌, ◌++◌, length, map, filter, slice_get, append-nil, append_assoc, refl, sym, ap, ◌∙◌, subst, arith, length-append}
 use Rattle.std.specs.Prelude.{if◌then◌else◌, cond, All}
 use Rattle.std.specs.List.{AllByRecursion}
 use Rattle.std.proofs.lemmas.Int.{ints}
@@ -11,19 +11,19 @@ use Rattle.cf_tree.specs.declared.base.Order.{Order}
 use Rattle.cf_tree.specs.declared.base.Order.TheVariants.{Eq, Ne, Lt, Le, Gt, Ge}
 use Rattle.cf_tree.specs.declared.raw.BinOp.{BinOp}
 use Rattle.cf_tree.specs.declared.raw.BinOp.TheVariants.{Add, Sub, Mul, And, Or, Implies, Union, Inter, Diff, Subset, Compare}
-use Rattle.cf_tree.specs.DefView.{DefTree}
-use Rattle.cf_tree.specs.ExprTree.{ExprTree, expr_lit, expr_truth, expr_var, expr_set_of, expr_tuple, expr_neg, expr_not, expr_abs, expr_binary, expr_divides, expr_div, expr_mod, expr_card, expr_if, expr_call, expr_let, expr_choose, expr_match, expr_chain, expr_min, expr_max, expr_choose_where, ExprTrees, no_exprs, expr_more, exprs_of, match_arm, MatchArmTrees, no_match_arms, match_arm_more, at_any}
+use Rattle.cf_tree.specs.ExprTree.{ExprTree, expr_lit, expr_truth, expr_var, expr_set_of, expr_tuple, expr_neg, expr_not, expr_abs, expr_binary, expr_divides, expr_div, expr_mod, expr_card, expr_if, expr_call, expr_let, expr_choose, expr_match, expr_chain, expr_min, expr_max, expr_choose_where, ExprTrees, no_exprs, expr_more, exprs_of, match_arm, MatchArmTrees, no_match_arms, match_arm_more}
 use Rattle.cf_tree.specs.Params.{bases_of}
 use Rattle.cf_program.specs.TypedProgram.{LinearBehind, AreSides, IsOutput, HasArms, AreSeveral, ExprHasBasesBy, AllHaveBy, PartsHaveBy, ArmsHaveBy}
 use Rattle.cf_program.specs.Walk.{side_of, result_of}
-use Rattle.cf_form.specs.Branches.{WideChoose, Branch, branched, is_truth, truth_levels, all_outputs, relation_at}
+use Rattle.cf_form.specs.Branches.{WideChoose, Branch, branched, truth_levels, all_outputs, relation_at}
 use Rattle.cf_form.specs.Expansion.{Calls}
-use Rattle.cf_form.specs.Formed.{comparisons, chain_body, pick, picked_from, best_body, how_many, as_number, branching, given_out, all_given_out, one_or_tuple, has_truths, are_as_chosen, choose_form, wide_choose, binary_formed, formed, all_formed, arms_formed}
+use Rattle.cf_form.specs.Formed.{comparisons, chain_body, pick, picked_from, best_body, how_many, as_number, branching, given_out, all_given_out, one_or_tuple, has_truths, are_as_chosen, choose_form, binary_formed, formed, all_formed, arms_formed}
 use Rattle.cf_form.specs.SourceChooses.{SourceChoose, chooses_in, chooses_in_all, chooses_in_arms}
 use Rattle.cf_form.proofs.ExpansionTypes.{HaveLevels, levels_all, levels_behind}
+use Rattle.cf_form.proofs.ChooseForms.{truths_by}
 use Rattle.cf_form.proofs.Halves.{halves_hold}
 use Rattle.cf_form.proofs.Lists.{rec_left, rec_right}
-use Rattle.cf_form.proofs.OrdinaryLaws.{choose_expr, parts_have}
+use Rattle.cf_form.proofs.OrdinaryLaws.{choose_expr, parts_have, several_have}
 
 level_early : (scope more : List Base) (x : ℕ) (b : Base) → slice_get scope x ≡ Some b → slice_get (scope ++ more) x ≡ Some b
 level_early [] more x b e = cc
@@ -70,10 +70,6 @@ no_truths_same [] e = refl
 no_truths_same (Int ∷ bs) e = ap (λ cs. Int ∷ cs) (no_truths_same bs e)
 no_truths_same (Truth ∷ bs) e = cc
 no_truths_same (Set ∷ bs) e = ap (λ cs. Set ∷ cs) (no_truths_same bs e)
-
-truths_by : (b : Bool) → if b then false else true ≡ true → b ≡ false
-truths_by true e = cc
-truths_by false e = refl
 
 as_chosen_same : (outputs hidden : List Base) → are_as_chosen outputs hidden ≡ true → map as_number (outputs ++ hidden) ≡ outputs
 as_chosen_same outputs [] e = ap (map as_number) (append-nil outputs) ∙ no_truths_same outputs (truths_by (has_truths outputs) e)
@@ -148,11 +144,11 @@ module _ (linear : LinearBehind) (after : ℕ → List Base → List Base → Ty
   all_given_have scope x [] h = refl
   all_given_have scope x (b ∷ bs) h = (b, bs, refl, given_out_has scope b x h.0, all_given_have scope (suc x) bs h.1)
 
-  several_have : (scope : List Base) (x : ℕ) (bs : List Base) → 1 ≤ length bs → HaveLevels scope x (map as_number bs) →
+  tuple_has : (scope : List Base) (x : ℕ) (bs : List Base) → 1 ≤ length bs → HaveLevels scope x (map as_number bs) →
       Has (one_or_tuple (all_given_out x bs)) scope bs
-  several_have scope x [] l h = absurd (omega (arith, l))
-  several_have scope x (b ∷ []) l h = given_out_has scope b x h.0
-  several_have scope x (b ∷ c ∷ bs) l h = (omega arith, all_given_have scope x (b ∷ c ∷ bs) h)
+  tuple_has scope x [] l h = absurd (omega (arith, l))
+  tuple_has scope x (b ∷ []) l h = given_out_has scope b x h.0
+  tuple_has scope x (b ∷ c ∷ bs) l h = (omega arith, all_given_have scope x (b ∷ c ∷ bs) h)
 
   -- ---- a choose
   module _ (q : WideChoose) (some : 1 ≤ length q.outputs)
@@ -187,7 +183,7 @@ module _ (linear : LinearBehind) (after : ℕ → List Base → List Base → Ty
       branches_have,
       sym (length-map (all_outputs q) as_number),
       omega (arith, some, length-append q.outputs q.hidden),
-      several_have (bases_of q.scope ++ map as_number (all_outputs q)) (length q.scope) q.outputs some
+      tuple_has (bases_of q.scope ++ map as_number (all_outputs q)) (length q.scope) q.outputs some
           (levels_part (bases_of q.scope ++ map as_number (all_outputs q)) (length q.scope) (map as_number q.outputs) (map as_number q.hidden)
           (subst (λ x. HaveLevels (bases_of q.scope ++ map as_number (all_outputs q)) x (map as_number q.outputs ++ map as_number q.hidden))
           (length-map q.scope (λ p. p.base))
@@ -218,11 +214,6 @@ module _ (linear : LinearBehind) (after : ℕ → List Base → List Base → Ty
   has_arms expand s no_match_arms h = h
   has_arms expand s (match_arm_more (match_arm m factors k body) arms) h = tt
 
-  two_parts : (es : ExprTrees) → AreSeveral es → 2 ≤ how_many es
-  two_parts no_exprs h = absurd h
-  two_parts (expr_more e no_exprs) h = absurd h
-  two_parts (expr_more e (expr_more f es)) h = omega arith
-
   module _ (takes : ℕ → List Base → List Base → Type 0) (known : (f : ℕ) (ps rs : List Base) → takes f ps rs → after f ps rs) (expand : Calls)
       (good : SourceChoose → Type 0)
       (choose_has : (q : SourceChoose) → good q → (s : ℕ) (scope bs : List Base) → ExprHasBasesBy linear takes (choose_expr q) scope bs →
@@ -245,7 +236,7 @@ module _ (linear : LinearBehind) (after : ℕ → List Base → List Base → Ty
         Has (expr_let (how_many es) (expr_tuple (all_formed expand s es)) (best_body o s (how_many es))) scope bs
     best_formed o es s scope bs m h one l k =
         let parts = parts_have linear takes es scope h in
-        let two = two_parts es m in
+        let two = several_have es m in
         bound es (how_many es) s scope (map (λ _. Int) parts.0) bs (best_body o s (how_many es)) (omega (arith, two, parts.1, length-map parts.0 (λ _. Int)))
         (omega (arith, parts.1, length-map parts.0 (λ _. Int))) (k (map (λ _. Int) parts.0) parts.2)
         (rw one (best_has o scope parts.0 s (how_many es) (omega (arith, two, parts.1)) (omega (arith, parts.1)) l))

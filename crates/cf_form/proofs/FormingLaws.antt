@@ -1,5 +1,5 @@
 -- The functions of a source and what they are formed to allow the same outcomes.
-use Rattle.std.proofs.Common.{◌≡◌, ◌↔◌, ℕ, zero, suc, ◌+◌, ◌≤◌, ◌<◌, ◌==◌, Bool, true, false, Option, Some, None, List, [], ◌∷◌, ◌++◌, length, map, reverse, slice_get, MatchBool, append-nil, append_assoc, refl, sym, ap, ◌∙◌, subst, arith, length-append}
+use Rattle.std.proofs.Common.{◌≡◌, ◌↔◌, ℕ, suc, ◌+◌, ◌==◌, Bool, true, false, List, [], ◌∷◌, ◌++◌, length, map, reverse, MatchBool, refl, sym, ap, ◌∙◌, subst, arith}
 use Rattle.std.specs.Prelude.{if◌then◌else◌}
 use Rattle.std.specs.List.{slice_index_or}
 use Rattle.std.proofs.lemmas.List.{length-map}
@@ -18,12 +18,12 @@ use Rattle.cf_program.specs.LateLinear.{IsLinearBy}
 use Rattle.cf_program.specs.TypedProgram.{LinearBehind, ExprHasBasesBy, GivenIsTypedBy, Takes, AreTypedDefsBy}
 use Rattle.cf_form.specs.Branches.{WideChoose, branched, all_outputs}
 use Rattle.cf_form.specs.Expansion.{call_expanded}
-use Rattle.cf_form.specs.Formed.{formed, formed_def, formed_behind, formed_defs, branching, all_given_out, one_or_tuple, has_truths, are_as_chosen, choose_form}
+use Rattle.cf_form.specs.Formed.{formed, formed_defs, branching, all_given_out, one_or_tuple, has_truths, are_as_chosen}
 use Rattle.cf_form.specs.Kept.{IsSource}
 use Rattle.cf_form.specs.Laws.{bodies, FormingAllowsTheSame}
 use Rattle.cf_form.specs.Relations.{MayStand, CallMayStand, GivenMayStand}
-use Rattle.cf_form.specs.SourceChooses.{SourceChoose, chooses_in, WithBodies, chooses_behind, source_chooses}
-use Rattle.cf_form.proofs.ChooseForms.{InBranch, branching_is, are_given_out, as_chosen_agrees, bound_agrees}
+use Rattle.cf_form.specs.SourceChooses.{SourceChoose, WithBodies, source_chooses}
+use Rattle.cf_form.proofs.ChooseForms.{truths_by, branching_is, are_given_out, as_chosen_agrees, bound_agrees}
 use Rattle.cf_form.proofs.ChooseLaw.{ChooseLaw, IsChooseBehind, HasSameSolutions, SolvesSource, SolvesBranch, as_output, widely, branch_of}
 use Rattle.cf_form.proofs.FunctionLists.{AllChooses, bodies_turned, chooses_turned, formed_last, formed_turned, takes_at}
 use Rattle.cf_form.proofs.ChooseSolutions.{choose_law}
@@ -55,10 +55,6 @@ pub record Stands (earlier : List ExprTree) (q : SourceChoose) : Type 0 where
 abbrev pub aimed : SourceChoose → AimExpr → SourceChoose
 aimed q a =
     record { number = q.number; scope = q.scope; outputs = q.outputs; hidden = q.hidden; given = q.given; relation = q.relation; aim = a }
-
-truths_by : (b : Bool) → if b then false else true ≡ true → b ≡ false
-truths_by true e = cc
-truths_by false e = refl
 
 plain_of : (outputs hidden : List Base) → are_as_chosen outputs hidden ≡ true → (hidden ≡ []) × (has_truths outputs ≡ false)
 plain_of outputs [] e = (refl, truths_by (has_truths outputs) e)

@@ -1,17 +1,16 @@
 -- Functions in the order of the text, and last first.
-use Rattle.std.proofs.Common.{◌≡◌, ℕ, zero, suc, ◌+◌, ◌<◌, ◌==◌, Bool, true, false, Option, Some, None, List, [], ◌∷◌, ◌++◌, length, map, reverse, slice_get, MatchBool, append-nil, append_assoc, refl, sym, ap, ◌∙◌, subst, arith, length-append}
+use Rattle.std.proofs.Common.{◌≡◌, ℕ, zero, suc, ◌+◌, ◌<◌, ◌==◌, Bool, true, false, Some, List, [], ◌∷◌, ◌++◌, length, map, reverse, slice_get, MatchBool, append-nil, append_assoc, refl, sym, ap, ◌∙◌, subst, arith, length-append}
 use Rattle.std.specs.List.{AllByRecursion}
 use Rattle.std.proofs.lemmas.Bool.{eqb-true, eq-eqb}
-use Rattle.std.proofs.lemmas.List.{reverse-append, map-append, length-map}
+use Rattle.std.proofs.lemmas.List.{reverse-append, map-append}
 use Rattle.cf_tree.specs.declared.base.Base.{Base}
 use Rattle.cf_tree.specs.DefView.{DefTree}
-use Rattle.cf_tree.specs.ExprTree.{ExprTree}
 use Rattle.cf_tree.specs.Params.{bases_of}
 use Rattle.cf_program.specs.TypedProgram.{Takes}
 use Rattle.cf_form.specs.Expansion.{call_expanded}
 use Rattle.cf_form.specs.Formed.{formed, formed_def, formed_behind}
 use Rattle.cf_form.specs.Laws.{bodies}
-use Rattle.cf_form.specs.SourceChooses.{SourceChoose, WithBodies, chooses_in, chooses_behind}
+use Rattle.cf_form.specs.SourceChooses.{WithBodies, chooses_in, chooses_behind}
 use Rattle.cf_form.proofs.Lists.{rec_left, rec_right, rec_of_map}
 
 -- ---- what a function takes

@@ -1,11 +1,10 @@
 -- A body without new forms is formed to itself.
-use Rattle.std.proofs.Common.{◌≡◌, ℕ, zero, suc, ◌+◌, ◌≤◌, ℤ, pos, Bool, true, false, ◌&&◌, ◌||◌, Option, Some, None, List, [], ◌∷◌, ◌++◌, length, map, filter, slice_get, append-nil, refl, sym, ap, ◌∙◌, subst, arith}
+use Rattle.std.proofs.Common.{◌≡◌, ℕ, zero, suc, ◌+◌, pos, Bool, true, false, ◌||◌, Some, None, List, [], ◌∷◌, ◌++◌, length, map, filter, slice_get, append-nil, refl, ap, ◌∙◌, arith}
 use Rattle.std.specs.List.{slice_index_or}
 use Rattle.std.specs.Prelude.{All, if◌then◌else◌}
 use Rattle.std.proofs.lemmas.List.Elements.{All-head, All-tail}
 use Rattle.cf_tree.specs.declared.base.Base.{Base}
 use Rattle.cf_tree.specs.declared.base.Base.TheVariants.{Int, Bool as Truth, Set}
-use Rattle.cf_tree.specs.declared.base.Order.TheVariants.{Eq, Ne}
 use Rattle.cf_tree.specs.declared.raw.BinOp.{BinOp}
 use Rattle.cf_tree.specs.declared.raw.BinOp.TheVariants.{Add, Sub, Mul, And, Or, Implies, Union, Inter, Diff, Subset, Compare}
 use Rattle.cf_tree.specs.declared.raw.Param.{Param}

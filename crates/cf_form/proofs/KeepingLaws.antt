@@ -1,5 +1,5 @@
 -- The functions that a source is formed to are a typed program, whose numbers are the same only of branches, and in which no new form stands.
-use Rattle.std.proofs.Common.{◌≡◌, ℕ, zero, suc, ◌+◌, ◌≤◌, ◌==◌, Bool, true, false, Option, Some, None, List, [], ◌∷◌, ◌++◌, length, map, reverse, slice_get, MatchBool, append_assoc, refl, sym, ap, ◌∙◌, subst, arith, length-append}
+use Rattle.std.proofs.Common.{◌≡◌, ℕ, zero, suc, ◌+◌, ◌≤◌, ◌==◌, Bool, true, false, Some, List, [], ◌∷◌, ◌++◌, length, map, reverse, slice_get, MatchBool, append_assoc, refl, sym, ap, ◌∙◌, subst, arith, length-append}
 use Rattle.std.specs.Prelude.{All, codes}
 use Rattle.std.specs.List.{AllByRecursion}
 use Rattle.std.proofs.lemmas.List.{length-map, reverse-append}
@@ -7,7 +7,7 @@ use Rattle.std.proofs.lemmas.List.Elements.{recursion_from_All, All-from_recursi
 use Rattle.cf_tree.specs.declared.base.Base.{Base}
 use Rattle.cf_tree.specs.declared.base.Base.TheVariants.{Bool as Truth}
 use Rattle.cf_tree.specs.DefView.{DefTree}
-use Rattle.cf_tree.specs.ExprTree.{ExprTree, expr_choose, AimExpr, at_any, GivenExpr, holds_always, holds_where}
+use Rattle.cf_tree.specs.ExprTree.{at_any, GivenExpr, holds_always, holds_where}
 use Rattle.cf_tree.specs.Params.{bases_of, names_of}
 use Rattle.cf_tree.specs.Typing.{one}
 use Rattle.cf_program.specs.declared.linearity.Linearity.{Linearity}
@@ -15,7 +15,7 @@ use Rattle.cf_program.specs.DistinctNames.{AreDistinct}
 use Rattle.cf_program.specs.LateLinear.{IsLinearBy}
 use Rattle.cf_program.specs.NoForm.{HasNoForm}
 use Rattle.cf_program.specs.TypedProgram.{ExprHasBasesBy, GivenIsTypedBy, Takes, AreTypedDefsBy, all_numbers}
-use Rattle.cf_form.specs.Branches.{WideChoose, Branch, branched, all_outputs, relation_at}
+use Rattle.cf_form.specs.Branches.{WideChoose, all_outputs}
 use Rattle.cf_form.specs.Expansion.{truth_in, first_part, variables_from, expanded, call_expanded}
 use Rattle.cf_form.specs.Formed.{as_number, given_of, with_given, choose_form, wide_choose, formed, formed_def, formed_behind, formed_defs}
 use Rattle.cf_form.specs.Kept.{IsTypedBy, IsSource, IsFormedBy}
@@ -23,12 +23,12 @@ use Rattle.cf_form.specs.Laws.{bodies, FormingKeepsTypes}
 use Rattle.cf_form.specs.LinearWide.{IsLinearBehind}
 use Rattle.cf_form.specs.Numbers.{placed_from}
 use Rattle.cf_form.specs.Relations.{MayStand, CallMayStand, GivenMayStand}
-use Rattle.cf_form.specs.SourceChooses.{SourceChoose, chooses_in, WithBodies, chooses_behind, source_chooses}
+use Rattle.cf_form.specs.SourceChooses.{SourceChoose, WithBodies, source_chooses}
 use Rattle.cf_form.specs.Told.{wide_chooses}
 use Rattle.cf_form.specs.Wide.{WideRel}
 use Rattle.cf_form.specs.Widened.{IsOfLanguageTwo}
 use Rattle.cf_form.proofs.BranchTypes.{branch_is}
-use Rattle.cf_form.proofs.ExpansionTypes.{HaveLevels, levels_front, levels_all, IsTruthLevel, AreParts, truth_from, variables_typed, parts_typed, calls_typed}
+use Rattle.cf_form.proofs.ExpansionTypes.{HaveLevels, levels_front, levels_all, IsTruthLevel, truth_from, variables_typed, parts_typed, calls_typed}
 use Rattle.cf_form.proofs.FormedNumbers.{IsUnaimedBehind, blocks_of_all, kept_by_all}
 use Rattle.cf_form.proofs.FormedPlain.{plain, of_two}
 use Rattle.cf_form.proofs.FormedTypes.{outputs_typed, form_has, formed_has}

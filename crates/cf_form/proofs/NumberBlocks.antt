@@ -1,5 +1,5 @@
 -- Numbers in blocks: each number of a source, in order, with those that are the same as it.
-use Rattle.std.proofs.Common.{◌≡◌, ℕ, zero, suc, ◌+◌, ◌<◌, ◌==◌, Bool, true, false, not, ◌||◌, Option, Some, None, List, [], ◌∷◌, ◌++◌, length, map, filter, append-nil, append_assoc, refl, sym, ap, ◌∙◌, subst, arith}
+use Rattle.std.proofs.Common.{◌≡◌, ℕ, suc, ◌+◌, ◌<◌, ◌==◌, Bool, true, false, Some, List, [], ◌∷◌, ◌++◌, length, map, filter, append-nil, append_assoc, refl, sym, ap, ◌∙◌, subst, arith}
 use Rattle.std.specs.Prelude.{if◌then◌else◌, cond, nat_eq}
 use Rattle.std.specs.List.{AllByRecursion, IsDistinct}
 use Rattle.std.proofs.lemmas.Bool.{eq-eqb}
@@ -7,11 +7,11 @@ use Rattle.std.proofs.lemmas.Bool.Decides.{nat_tests}
 use Rattle.cf_tree.specs.declared.base.Base.{Base}
 use Rattle.cf_tree.specs.declared.base.Base.TheVariants.{Int, Bool as Truth, Set}
 use Rattle.cf_tree.specs.declared.raw.Param.{Param}
-use Rattle.cf_tree.specs.ExprTree.{ExprTree, expr_let, exprs_of}
+use Rattle.cf_tree.specs.ExprTree.{expr_let, exprs_of}
 use Rattle.cf_tree.specs.Params.{bases_of}
-use Rattle.cf_form.specs.Branches.{WideChoose, Branch, branched, is_truth, truth_levels, values_in, all_outputs}
+use Rattle.cf_form.specs.Branches.{WideChoose, Branch, branched, truth_levels, values_in, all_outputs}
 use Rattle.cf_form.specs.Formed.{as_number, branching, given_out, all_given_out, one_or_tuple, are_as_chosen, choose_form}
-use Rattle.cf_form.specs.Numbers.{PlacedNumber, placed, all_placed, AreApart, AreBranches, SharesByBranch, ShareByBranch}
+use Rattle.cf_form.specs.Numbers.{PlacedNumber, placed, all_placed, AreBranches, SharesByBranch, ShareByBranch}
 use Rattle.cf_form.proofs.Lists.{rec_append}
 
 abbrev AreNumbered : ℕ → List PlacedNumber → Type 0

@@ -1,5 +1,5 @@
 -- What the bodies compute that chains, `min` and `max` are formed to.
-use Rattle.std.proofs.Common.{◌≡◌, ℕ, zero, suc, ◌+◌, ◌-◌, ◌<◌, ◌≤◌, ℤ, pos, Bool, true, false, ◌&&◌, not, Option, Some, None, List, [], ◌∷◌, ◌++◌, length, map, slice_get, refl, sym, ap, ◌∙◌, subst, arith, length-append}
+use Rattle.std.proofs.Common.{◌≡◌, ℕ, zero, suc, ◌+◌, ◌-◌, ◌≤◌, ℤ, Bool, true, false, ◌&&◌, not, Some, List, [], ◌∷◌, ◌++◌, length, map, slice_get, refl, sym, ap, ◌∙◌, subst, arith, length-append}
 use Rattle.std.specs.Prelude.{int_lt, cond}
 use Rattle.std.specs.Bool.{MatchBool}
 use Rattle.std.specs.Int.{int_max, int_min}
@@ -8,10 +8,10 @@ use Rattle.std.proofs.lemmas.List.{length-map}
 use Rattle.cf_tree.specs.declared.base.Order.{Order}
 use Rattle.cf_tree.specs.declared.base.Order.TheVariants.{Le, Ge}
 use Rattle.cf_tree.specs.declared.raw.BinOp.TheVariants.{And, Compare}
-use Rattle.cf_tree.specs.Allowed.{AllowedThen, AllowedRight, AllowedIn, Gives, chained, best_of, Calling}
-use Rattle.cf_tree.specs.ExprTree.{ExprTree, expr_truth, expr_var, expr_binary, expr_if, expr_let}
+use Rattle.cf_tree.specs.Allowed.{AllowedRight, AllowedIn, Gives, chained, best_of, Calling}
+use Rattle.cf_tree.specs.ExprTree.{ExprTree, expr_truth, expr_var, expr_binary}
 use Rattle.cf_tree.specs.OneOutcome.{AllowsOnly}
-use Rattle.cf_tree.specs.Values.{Value, number, truth, number_of, truth_of, first_of, compared, Outcome, values, value_at}
+use Rattle.cf_tree.specs.Values.{Value, number, truth, compared, values, value_at}
 use Rattle.cf_tree.proofs.OneOutcomeLemmas.{then_only}
 use Rattle.cf_tree.proofs.SetLemmas.{lt_is, lt_not}
 use Rattle.cf_form.specs.Formed.{comparisons, chain_body, pick, picked_from, best_body}

@@ -1,5 +1,5 @@
 -- An expression and what it is formed to allow the same outcomes, where its chooses do.
-use Rattle.std.proofs.Common.{◌≡◌, ◌↔◌, ℕ, zero, suc, ◌+◌, ◌≤◌, ℤ, pos, Bool, true, false, not, Option, Some, None, List, [], ◌∷◌, ◌++◌, length, map, inl, inr, refl, sym, ap, ◌∙◌, subst, arith, length-append}
+use Rattle.std.proofs.Common.{◌≡◌, ℕ, suc, ◌+◌, ◌≤◌, ℤ, Bool, true, false, not, Option, Some, None, List, [], ◌∷◌, ◌++◌, length, map, inl, inr, refl, sym, ap, ◌∙◌, subst, arith, length-append}
 use Rattle.std.specs.Bool.{MatchBool}
 use Rattle.std.specs.Int.{int_max, int_min}
 use Rattle.std.specs.List.{AllByRecursion}
@@ -10,7 +10,7 @@ use Rattle.cf_tree.specs.declared.base.Order.{Order}
 use Rattle.cf_tree.specs.declared.base.Order.TheVariants.{Le, Ge}
 use Rattle.cf_tree.specs.declared.raw.BinOp.{BinOp}
 use Rattle.cf_tree.specs.declared.raw.BinOp.TheVariants.{Add, Sub, Mul, And, Or, Union, Inter, Diff, Subset, Implies, Compare}
-use Rattle.cf_tree.specs.Allowed.{AllowedThen, goes_on, ends_at, AllowedRight, AllowedIn, AllowedAll, AllowedArm, Gives, operation, chained, best_of, Calling, Chosen, Fits}
+use Rattle.cf_tree.specs.Allowed.{AllowedThen, goes_on, ends_at, AllowedRight, AllowedIn, AllowedAll, AllowedArm, Gives, operation, chained, best_of, Calling}
 use Rattle.cf_tree.specs.ExprTree.{ExprTree, expr_lit, expr_truth, expr_var, expr_set_of, expr_tuple, expr_neg, expr_not, expr_abs, expr_binary, expr_chain, expr_min, expr_max, expr_divides, expr_div, expr_mod, expr_card, expr_if, expr_call, expr_let, expr_choose, expr_choose_where, expr_match, ExprTrees, no_exprs, expr_more, match_arm, MatchArmTrees, no_match_arms, match_arm_more}
 use Rattle.cf_tree.specs.OneOutcome.{AllowsOnly}
 use Rattle.cf_tree.specs.Sets.{set_of}
@@ -22,8 +22,8 @@ use Rattle.cf_form.specs.Expansion.{Calls}
 use Rattle.cf_form.specs.Formed.{binary_formed, formed, all_formed, arms_formed, how_many, chain_body, best_body}
 use Rattle.cf_form.specs.SourceChooses.{SourceChoose, chooses_in, chooses_in_all, chooses_in_arms}
 use Rattle.cf_form.proofs.Lists.{rec_left, rec_right}
-use Rattle.cf_form.proofs.Ordinary.{Read, read_behind, Is, chain_is, Takes, takes_least, takes_greatest, best_is}
-use Rattle.cf_form.proofs.Outcomes.{Agree, alike, as_bases, gives_keeps, none_keeps, gives, then_agree, match_agree, keeps_number, keeps_truth, keeps_value, value_has, have_append, length_have, number_alone, set_is_rising, chosen_keeps, Keeps}
+use Rattle.cf_form.proofs.Ordinary.{read_behind, Is, chain_is, Takes, takes_least, takes_greatest, best_is}
+use Rattle.cf_form.proofs.Outcomes.{Agree, alike, as_bases, gives_keeps, none_keeps, gives, then_agree, match_agree, keeps_number, keeps_truth, keeps_value, value_has, have_append, length_have, set_is_rising, chosen_keeps, Keeps}
 
 -- ---- operations with two sides
 module _ (P P' R R' : Outcome → Type 0) (o : Outcome) where
@@ -34,7 +34,7 @@ module _ (P P' R R' : Outcome → Type 0) (o : Outcome) where
   strict_agrees op bs cs d p q k =
       then_agree bs (d ∷ []) o p (λ xs hx. then_agree cs (d ∷ []) o q (λ ys hy. gives (d ∷ []) (operation op (first_of xs) (first_of ys)) o (k xs ys hx hy)))
 
-sides_have : (b : Option Base) (L K : Base → Type 0) → AreSides b L K → (c : Base) × L c × K c
+pub sides_have : (b : Option Base) (L K : Base → Type 0) → AreSides b L K → (c : Base) × L c × K c
 sides_have (Some c) L K h = (c, h.0, h.1)
 sides_have None L K h = h
 
@@ -125,10 +125,10 @@ numbers_have [] (z ∷ zs) e = absurd (omega (arith, e))
 numbers_have (f ∷ factors) [] e = absurd (omega (arith, e))
 numbers_have (f ∷ factors) (z ∷ zs) e = ((z, refl), numbers_have factors zs (omega (arith, e)))
 
-several_have : (linear : LinearBehind) (takes : ℕ → List Base → List Base → Type 0) (es : ExprTrees) → AreSeveral es → 2 ≤ how_many es
-several_have linear takes no_exprs h = absurd h
-several_have linear takes (expr_more e no_exprs) h = absurd h
-several_have linear takes (expr_more e (expr_more f es)) h = omega arith
+pub several_have : (es : ExprTrees) → AreSeveral es → 2 ≤ how_many es
+several_have no_exprs h = absurd h
+several_have (expr_more e no_exprs) h = absurd h
+several_have (expr_more e (expr_more f es)) h = omega arith
 
 -- the choose as an expression
 abbrev pub choose_expr : SourceChoose → ExprTree
@@ -222,7 +222,7 @@ module _ (linear : LinearBehind) (takes : ℕ → List Base → List Base → Ty
       (λ xs hx.
       let are = are_numbers (Unit {0}) parts.0 xs hx in
       let counted = length_have (map (λ _. Int) parts.0) xs hx in
-      let several = several_have linear takes es m in
+      let several = several_have es m in
       subst (λ ys. Is after (env ++ ys) (best_body order s (how_many es)) (number (best_of better (map number_of xs)))) (sym are)
       (best_is after order better t env (map number_of xs) s (how_many es)
       (omega (arith, counted, several, parts.1, length-map xs number_of, length-map parts.0 (λ _. Int)))

@@ -106,12 +106,6 @@ length_have [] (v ∷ vs) h = absurd h
 length_have (b ∷ bs) [] h = absurd h
 length_have (b ∷ bs) (v ∷ vs) h = ap suc (length_have bs vs h.1)
 
--- the number that is given alone
-pub number_alone : (xs : List Value) → HaveBases (Int ∷ []) xs → (z : ℤ) × (xs ≡ number z ∷ [])
-number_alone [] h = absurd h
-number_alone (v ∷ []) h = (h.0.0, ap (λ w. w ∷ []) h.0.1)
-number_alone (v ∷ w ∷ xs) h = absurd h.1
-
 pub chosen_keeps : (n : ℕ) (bs outputs : List Base) (rel : RelTree) (env : List Value) (o : Outcome) → bs ≡ outputs → Chosen n (Sol outputs rel env) o →
     Keeps bs o
 chosen_keeps n bs outputs rel env (values xs) e h = rw e h.0

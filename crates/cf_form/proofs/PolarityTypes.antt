@@ -1,16 +1,16 @@
 -- What a typed and linear wide relation is in a branch is typed and linear.
-use Rattle.std.proofs.Common.{◌≡◌, ℕ, zero, suc, ℤ, pos, Bool, true, false, ◌&&◌, ◌||◌, Option, Some, None, List, [], ◌∷◌, ◌++◌, map, slice_get, refl, sym, ap, ◌∙◌, subst, arith}
+use Rattle.std.proofs.Common.{◌≡◌, ℕ, Bool, true, false, ◌&&◌, ◌||◌, Option, Some, None, List, [], ◌∷◌, ◌++◌, map, slice_get, refl, ◌∙◌, arith}
 use Rattle.std.proofs.lemmas.Int.{ints}
 use Rattle.std.specs.List.{AllByRecursion}
-use Rattle.std.specs.Prelude.{if◌then◌else◌, IsTrue}
+use Rattle.std.specs.Prelude.{IsTrue}
 use Rattle.cf_tree.specs.declared.base.Base.{Base}
-use Rattle.cf_tree.specs.declared.base.Base.TheVariants.{Int, Bool as Truth, Set}
+use Rattle.cf_tree.specs.declared.base.Base.TheVariants.{Int}
 use Rattle.cf_tree.specs.declared.base.Order.{Order}
 use Rattle.cf_tree.specs.declared.base.Order.TheVariants.{Lt, Le, Gt, Ge}
-use Rattle.cf_tree.specs.Relation.{IsDivisor, IsTypedSet, IsTypedTerm, IsTyped}
-use Rattle.cf_tree.specs.RelTree.{SetTree, empty_set, set_var, union_of, inter_of, diff_of, TermTree, term_lit, term_var, term_card, term_neg, term_add, term_sub, term_mul, term_div, term_mod, term_abs, RelTree, rel_true, rel_false, rel_compare, rel_same_set, rel_other_set, rel_subset, rel_divides, rel_and, rel_or, rel_not}
+use Rattle.cf_tree.specs.Relation.{IsTypedSet, IsTypedTerm, IsTyped}
+use Rattle.cf_tree.specs.RelTree.{empty_set, set_var, union_of, inter_of, diff_of, TermTree, term_lit, term_var, term_card, term_neg, term_add, term_sub, term_mul, term_div, term_mod, term_abs, RelTree, rel_true, rel_false, rel_compare, rel_same_set, rel_other_set, rel_subset, rel_divides, rel_and, rel_or, rel_not}
 use Rattle.cf_program.specs.LateLinear.{is_fixed_below, IsLateLinearTerm, IsLateLinear}
-use Rattle.cf_form.specs.Alternatives.{Guarded, alone, over_one, over_two, behind, one_of, one_of_each, best_of_two, best_behind, best_of, all_of, some_of, some_atom, links}
+use Rattle.cf_form.specs.Alternatives.{Guarded, alone, over_one, over_two, behind, one_of_each, best_of_two, best_behind, best_of, all_of, some_of, some_atom, links}
 use Rattle.cf_form.specs.LinearWide.{is_held_below, are_held_below, IsLinearWideTerm, AreLinearWideTerms, IsLinearWideSet, IsLinearWide}
 use Rattle.cf_form.specs.Polarity.{Truths, truth_holds, truth_fails, not_or, two_ways, itself, set_alternatives, alternatives, all_alternatives, holding, failing}
 use Rattle.cf_form.specs.Wide.{WideTerm, wide_lit, wide_var, wide_card, wide_neg, wide_add, wide_sub, wide_mul, wide_div, wide_mod, wide_abs, wide_if, wide_min, wide_max, WideTerms, no_wides, wide_more, WideSet, wide_empty, wide_set, wide_union, wide_inter, wide_diff, wide_if_set, WideRel, wide_true, wide_false, wide_truth, wide_compare, wide_same_set, wide_other_set, wide_subset, wide_divides, wide_not, wide_and, wide_or, wide_implies, wide_same, wide_other, wide_if_truth, wide_chain, is_plain}
