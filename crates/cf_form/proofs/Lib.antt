@@ -39,6 +39,7 @@ mod RelationExamples
 pub mod SaidBy
 pub mod ScopeLaws
 mod ToldExamples
+mod TruthSteps
 mod Unfolded
 mod WideExamples
 pub mod WideMeaning
