@@ -164,5 +164,12 @@ module _ (edition : Edition) (how : Linearity) (all : List RawDefTree) (items : 
           by_def (Err f) h = cc
           by_def (Ok y) h =
               let made : w.defs ++ y.0 ∷ [] ≡ v.defs = cc in
-              omega (arith, sym (ap length made), length-append w.defs (y.0 ∷ []), same, counted,
-              ap length (front ∙ ap (λ z. before ++ functions_in (z ∷ [])) e), length-append before (d ∷ []))
+              omega (
+                arith,
+                sym (ap length made),
+                length-append w.defs (y.0 ∷ []),
+                same,
+                counted,
+                ap length (front ∙ ap (λ z. before ++ functions_in (z ∷ [])) e),
+                length-append before (d ∷ []),
+              )

@@ -25,8 +25,8 @@ use crate::scope::Scope;
 use crate::{bases, reading};
 use cf_program::{TypeFault, Variable};
 use cf_tree::{
-    Base, BinOp, Expr, MatchArm, NoMemory, Number, Order, Param, Place, Raw, RawDef, RawNode, Rel, Sense,
-    SetTerm, Term, Text, add_u32, same_bases, to_u32, without,
+    Base, BinOp, Expr, MatchArm, NoMemory, Number, Order, Param, Place, Raw, RawDef, RawNode, Rel,
+    Sense, SetTerm, Term, Text, add_u32, same_bases, to_u32, without,
 };
 use std::alloc::Global;
 
@@ -157,12 +157,7 @@ fn extreme_tree(sense: Sense, parts: Vec<Expr>) -> Expr
 }
 
 /// The least or the greatest of these parts.
-pub fn extreme(
-    alloc: Global,
-    sense: Sense,
-    place: Place,
-    parts: Forms,
-) -> Result<Form, TypeFault>
+pub fn extreme(alloc: Global, sense: Sense, place: Place, parts: Forms) -> Result<Form, TypeFault>
     ensures { CheckAnswer form_of result (extreme_form place (extreme_of sense) (forms_of parts)) }
 {
     if !bases::all_are(Base::Int, &parts.bases) {
@@ -177,13 +172,7 @@ pub fn extreme(
     } = parts;
     drop(bases);
     let reading = reading::not_linear_at(first_nonlinear, place);
-    made(
-        alloc,
-        Base::Int,
-        extreme_tree(sense, trees),
-        reading,
-        next,
-    )
+    made(alloc, Base::Int, extreme_tree(sense, trees), reading, next)
 }
 
 /// The chain of these parts, with these orders between them, each at its place.

@@ -14,6 +14,7 @@ use crate::number::{factor, signed};
 use crate::scope::Scope;
 use cf_program::TypeFault;
 use cf_tree::{NoMemory, Part, Place, without};
+use std::alloc::Global;
 
 /// The pattern of these parts and this literal.
 pub fn pattern(
@@ -96,18 +97,41 @@ fn with_parts(
     ensures { CheckAnswer pattern_of result (with_parts_of (context_of context.now) scope.now (record { summands = []; constants = []; constant = constant })
         (part_trees parts.now)) }
 {
-    let mut pattern = Pattern {
-        summands: Vec::new(context.alloc),
-        constants: Vec::new(context.alloc),
+    let mut pattern = no_parts(context.alloc, constant);
+    match add_parts(context, scope, &mut pattern, parts) {
+        Ok(()) => Ok(pattern),
+        Err(fault) => Err(without(pattern, fault)),
+    }
+}
+
+// The pattern of a literal alone.
+fn no_parts(alloc: Global, constant: i128) -> Pattern
+    ensures { pattern_of result ≡ record { summands = []; constants = []; constant = constant } }
+{
+    Pattern {
+        summands: Vec::new(alloc),
+        constants: Vec::new(alloc),
         constant,
-    };
+    }
+}
+
+// Adds parts.
+fn add_parts(
+    context: &Context,
+    scope: &Scope,
+    pattern: &mut Pattern,
+    parts: &[Part],
+) -> Result<(), TypeFault>
+    ensures { CheckAnswer (λ _. pattern_of pattern.new) result
+        (with_parts_of (context_of context.now) scope.now (pattern_of pattern.old) (part_trees parts.now)) }
+{
     for part in parts {
-        match add_part(context, scope, &mut pattern, part) {
+        match add_part(context, scope, pattern, part) {
             Ok(()) => (),
-            Err(fault) => return Err(without(pattern, fault)),
+            Err(fault) => return Err(fault),
         }
     }
-    Ok(pattern)
+    Ok(())
 }
 
 // Adds a part.

@@ -286,12 +286,11 @@ fn of_sets(
         BinOp::Diff => set(alloc, SetTerm::Diff(a, b)),
         BinOp::Subset => relation(alloc, Rel::Subset(a, b)),
         BinOp::Compare(order) => of_compared_sets(alloc, order, operation.place, a, b),
-        BinOp::Add
-        | BinOp::Sub
-        | BinOp::Mul
-        | BinOp::And
-        | BinOp::Or
-        | BinOp::Implies => Ok(bent(a, b, operation.place)),
+        BinOp::Add | BinOp::Sub | BinOp::Mul | BinOp::And | BinOp::Or | BinOp::Implies => Ok(bent(
+            a,
+            b,
+            operation.place,
+        )),
     }
 }
 
@@ -378,11 +377,9 @@ fn on_left_set(
                 BinOp::Add | BinOp::Sub | BinOp::Mul | BinOp::And | BinOp::Or => Ok(
                     Reading::NotLinear(operation.place),
                 ),
-                BinOp::Union
-                | BinOp::Inter
-                | BinOp::Diff
-                | BinOp::Subset
-                | BinOp::Implies => Ok(Reading::NotLinear(first)),
+                BinOp::Union | BinOp::Inter | BinOp::Diff | BinOp::Subset | BinOp::Implies => Ok(
+                    Reading::NotLinear(first),
+                ),
                 BinOp::Compare(_) => Ok(Reading::NotLinear(first)),
             }
         }

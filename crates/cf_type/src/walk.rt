@@ -21,8 +21,8 @@ use crate::pattern::pattern;
 use crate::scope::Scope;
 use cf_program::TypeFault;
 use cf_tree::{
-    BinOp, Edition, Param, Place, Raw, RawArm, RawNode, Text, add_u32, raw_over_list,
-    raw_over_one, without,
+    BinOp, Edition, Param, Place, Raw, RawArm, RawNode, Text, add_u32, raw_over_list, raw_over_one,
+    without,
 };
 
 // A `let`: its place, and the names that it binds, each with its place.

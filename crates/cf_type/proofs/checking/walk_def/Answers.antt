@@ -1,4 +1,4 @@
-use Rattle.std.proofs.Common.{◌≡◌, ℕ, false, map, take, reverse, length, length-take, None, Ok, rules, arith, sym, subst, ap, ◌∙◌}
+use Rattle.std.proofs.Common.{◌≡◌, ℕ, false, map, take, reverse, length, length-take, Some, None, Ok, refl, rules, arith, sym, subst, ap, ◌∙◌}
 use Rattle.std.proofs.lemmas.List.{length-map}
 use Rattle.std.proofs.lemmas.Result.{err_from_is_err_and}
 use Rattle.cf_tree.specs.DefView.{raw_def_tree, def_tree, DefTree}
@@ -58,3 +58,18 @@ returns c =
     subst (λ r. CheckAnswer {Y = DefTree × ℕ} (λ r. (def_tree r.0, r.1)) c.closed.result r)
     (sym (def_goes_on context.edition context.how all constants (map raw_def_tree front) c.args.next context.number d counted new differ f told))
     c.closed.ensures
+
+pub returns-in-Some : goal.returns-in-Some
+returns-in-Some c =
+    let context = c.args.context.now in
+    let front = take context.number context.callees.now in
+    let constants = constants_of context.constants.now in
+    let d = raw_def_tree c.args.def.now in
+    let at = behind context.edition context.how (callee_from context.number 0 (map raw_def_tree context.callees.now)) constants
+    (reverse (map raw_def_tree front)) in
+    let here : context_of context ≡ at = behind_is context c.requires.unknown in
+    let new : is_among (map (λ e. e.name) (map raw_def_tree front)) d.name ≡ false = search rules in
+    let met : repeated (taken (context_of context)) (names_of d.params) (map (λ p. p.place) d.params) ≡ Some c.in-Some.place = search rules in
+    let twice : repeated (constant_names constants) (names_of d.params) (map (λ p. p.place) d.params) ≡ Some c.in-Some.place =
+    subst (λ x. repeated (taken x) (names_of d.params) (map (λ p. p.place) d.params) ≡ Some c.in-Some.place) here met in
+    rw (new, twice) refl

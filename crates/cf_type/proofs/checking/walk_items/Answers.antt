@@ -50,7 +50,7 @@ loop-item-preserved c =
     subst (λ a. walk_item edition how a (map raw_def_tree (take k (functions_in items))) w (raw_item_tree x) ≡ Ok v) (sym (functions_are items))
     (subst (λ ds. walk_item edition how (map raw_def_tree ds) (map raw_def_tree (take k ds)) w (raw_item_tree x) ≡ Ok v) c.requires c.in-Ok.ensures) in (
       sym (length-map c.add_item.new.walked.defs.items def_tree)
-      ∙ counted_next edition how all items l.item-index x w k whole within c.item-item.is l.invariant.0 l.invariant.1 v
-      (length-map l.walked.defs.items def_tree) told,
+          ∙ counted_next edition how all items l.item-index x w k whole within c.item-item.is l.invariant.0 l.invariant.1 v
+          (length-map l.walked.defs.items def_tree) told,
       item_goes_on edition how all items l.item-index x w k whole within c.item-item.is l.invariant.0 l.invariant.1 v told,
     )
