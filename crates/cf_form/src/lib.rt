@@ -5,7 +5,7 @@
 mod copy;
 mod expansion;
 mod fault;
-mod form;
+mod formed;
 mod limits;
 mod told;
 mod truths;
@@ -14,7 +14,7 @@ mod wide;
 ghost use Rattle.cf_form.specs.Laws.{FormingAllowsTheSame, FormingKeepsTypes, FormsToItself};
 
 pub use crate::fault::FormFault;
-pub use crate::form::{Formed, FormedParts, form};
+pub use crate::formed::{Formed, FormedParts, form};
 pub use crate::limits::MOST_ALTERNATIVES;
 pub use crate::told::{Branch, ChooseInfo, TruthAt};
 
