@@ -1,5 +1,5 @@
 -- The value of a constant is within the limit.
-use Rattle.std.proofs.Common.{◌≡◌, ℕ, zero, suc, ◌≤◌, ℤ, pos, negsuc, neg_ℤ, ◌<ℤ◌, ◌+ℤ◌, ◌-ℤ◌, ◌*ℤ◌, unsigned_abs, int_lt, Bool, true, false, List, [], ◌∷◌, ◌++◌, Option, Some, None, Result, Ok, Err, All, refl, cond, arith}
+use Rattle.std.proofs.Common.{◌≡◌, suc, ◌≤◌, ℤ, pos, negsuc, neg_ℤ, ◌<ℤ◌, ◌+ℤ◌, ◌-ℤ◌, ◌*ℤ◌, unsigned_abs, int_lt, Bool, true, false, List, [], ◌∷◌, ◌++◌, Option, Some, None, Ok, Err, All, refl, cond, arith}
 use Rattle.std.proofs.Math.Nat.{div-le_self}
 use Rattle.std.proofs.lemmas.Int.{ints}
 use Rattle.std.proofs.lemmas.List.Elements.{All-nil, All-head, All-tail, All-push}
@@ -12,11 +12,9 @@ use Rattle.cf_tree.specs.declared.raw.BinOp.{BinOp}
 use Rattle.cf_tree.specs.declared.raw.BinOp.TheVariants.{Add, Sub, Mul, And, Or, Union, Inter, Diff, Subset, Implies, Compare}
 use Rattle.cf_tree.specs.Numbers.{quotient, remainder, absolute}
 use Rattle.cf_tree.specs.RawTree.{RawTree, raw_lit, raw_truth, raw_name, raw_set_of, raw_group, raw_tuple, raw_neg, raw_not, raw_abs, raw_binary, raw_chain, raw_min, raw_max, raw_divides, raw_div, raw_mod, raw_card, raw_call, raw_if, raw_let, raw_choose, raw_match, RawTrees, no_raws, raw_more, NumberTree, number_lit, number_name}
-use Rattle.cf_program.specs.declared.fault.TypeFault.{TypeFault}
 use Rattle.cf_program.specs.declared.fault.TypeFault.TheVariants.{ConstantPast}
 use Rattle.cf_program.specs.Constants.{Constant, constant_of, is_within, met, named, number_or_one, divisor, operated, least_of, greatest_of, of_several, value, values, value_given, value_aim, value_arms}
 use Rattle.cf_program.specs.Source.{IsSpelledDivisor, IsSpelledRaw, AreSpelledRaws}
-use Rattle.cf_program.specs.Then.{◌>>=◌}
 use Rattle.cf_program.proofs.Kept.{WhenOk, when_ok, when_err, when_bind, when_then}
 use Rattle.cf_program.proofs.PatternLaws.{AreWithin, constant_within, within_is}
 

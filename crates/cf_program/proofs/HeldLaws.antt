@@ -1,5 +1,5 @@
 -- What an expression is found to hold, its tree with levels holds.
-use Rattle.std.proofs.Common.{◌≡◌, ℕ, suc, ◌+◌, ◌≤◌, Bool, true, false, ◌&&◌, ◌==◌, List, [], ◌∷◌, ◌++◌, length, map, get_or, Option, Some, None, Result, Ok, Err, refl, sym, ◌∙◌, ap, subst, cond, arith}
+use Rattle.std.proofs.Common.{◌≡◌, ℕ, suc, ◌+◌, Bool, true, false, ◌&&◌, ◌==◌, List, [], ◌∷◌, ◌++◌, length, get_or, Option, Some, None, refl, sym, ◌∙◌, ap, subst, cond, arith}
 use Rattle.std.proofs.lemmas.Bool.{eqb-true}
 use Rattle.std.proofs.lemmas.List.{map-append, append_assoc, append-nil, length-append}
 use Rattle.std.specs.Str.{bytes_eq}
@@ -11,7 +11,7 @@ use Rattle.cf_tree.specs.declared.raw.BinOp.TheVariants.{Add, Sub, Mul, And, Or,
 use Rattle.cf_tree.specs.declared.raw.Param.{Param}
 use Rattle.cf_tree.specs.Bases.{same_bases}
 use Rattle.cf_tree.specs.DefView.{DefTree}
-use Rattle.cf_tree.specs.ExprTree.{ExprTree, ExprTrees, exprs_of, expr_neg, expr_not, expr_abs, expr_chain, expr_min, expr_max, expr_divides, expr_div, expr_mod, expr_card}
+use Rattle.cf_tree.specs.ExprTree.{ExprTree, exprs_of, expr_neg, expr_not, expr_abs, expr_min, expr_max, expr_divides, expr_div, expr_mod, expr_card}
 use Rattle.cf_tree.specs.Params.{names_of}
 use Rattle.cf_tree.specs.RawTree.{RawTree, raw_lit, raw_truth, raw_name, raw_set_of, raw_group, raw_tuple, raw_neg, raw_not, raw_abs, raw_binary, raw_chain, raw_min, raw_max, raw_divides, raw_div, raw_mod, raw_card, raw_call, raw_if, raw_let, raw_choose, raw_match, RawTrees, no_raws, raw_more}
 use Rattle.cf_tree.specs.RelTree.{term_neg, term_abs, term_div, term_mod, term_card, rel_not, rel_divides}
@@ -24,10 +24,8 @@ use Rattle.cf_program.specs.LinearTrees.{◌then◌ as ◌also◌, one_holds, pr
 use Rattle.cf_program.specs.Names.{Callee, or_outer, variable_from, variable_of}
 use Rattle.cf_program.specs.Reading.{Reading, relation, term, on_relation, on_term, on_set}
 use Rattle.cf_program.specs.Source.{IsSpelledRaw, AreSpelledRaws}
-use Rattle.cf_program.specs.Then.{◌>>=◌}
-use Rattle.cf_program.specs.Walk.{Context, Form, Forms, no_forms, with_form, form, is_one, all_are, all_are_single, are_asked, joined, name_form, unary_form, binary_form, extreme_form, chain_form, tuple_form, call_form, if_form, bound, let_form, taken, divisor_in, sides_fit, side_of, odd_link, walk, walk_all}
+use Rattle.cf_program.specs.Walk.{Context, Form, Forms, no_forms, with_form, is_one, all_are, all_are_single, are_asked, joined, name_form, unary_form, binary_form, extreme_form, chain_form, tuple_form, call_form, if_form, bound, let_form, divisor_in, sides_fit, side_of, odd_link, walk, walk_all}
 use Rattle.cf_tree.specs.declared.base.Order.{Order}
-use Rattle.cf_program.proofs.BaseLaws.{single_is}
 use Rattle.cf_program.proofs.Kept.{WhenOk, when_ok, when_err, when_bind, when_kept, when_no_fault, when_none_repeated, when_all, when_so, when_then}
 
 -- ---- results that are taken apart

@@ -1,7 +1,6 @@
 -- The chooses of a program in which no rule is broken are linear, and one of language 2 has no form of edition 3.
-use Rattle.std.proofs.Common.{◌≡◌, ℕ, ◌+◌, ℤ, Bool, true, false, ◌&&◌, ◌==◌, List, [], ◌∷◌, ◌++◌, length, map, Option, Some, None, Result, Ok, Err, refl, sym, ◌∙◌, ap, subst, arith}
+use Rattle.std.proofs.Common.{◌≡◌, ℕ, ◌+◌, ℤ, false, ◌&&◌, ◌==◌, List, [], ◌∷◌, ◌++◌, length, map, Option, Some, None, refl, sym, ◌∙◌, ap, arith}
 use Rattle.std.proofs.lemmas.List.{map-append, length-append, length-map}
-use Rattle.cf_tree.specs.declared.base.Base.{Base}
 use Rattle.cf_tree.specs.declared.base.Base.TheVariants.{Int, Bool as Truth, Set}
 use Rattle.cf_tree.specs.declared.base.Edition.{Edition}
 use Rattle.cf_tree.specs.declared.base.Edition.TheVariants.{Two, Three}
@@ -13,21 +12,20 @@ use Rattle.cf_tree.specs.declared.raw.BinOp.TheVariants.{Add, Sub, Mul, And, Or,
 use Rattle.cf_tree.specs.declared.raw.Param.{Param}
 use Rattle.cf_tree.specs.Bases.{same_bases}
 use Rattle.cf_tree.specs.DefView.{DefTree}
-use Rattle.cf_tree.specs.ExprTree.{ExprTree, ExprTrees, exprs_of, MatchArmTree, match_arm, match_arms_of, GivenExpr, AimExpr}
-use Rattle.cf_tree.specs.Params.{bases_of, names_of}
+use Rattle.cf_tree.specs.ExprTree.{ExprTree, exprs_of, MatchArmTree, match_arm, match_arms_of}
+use Rattle.cf_tree.specs.Params.{bases_of}
 use Rattle.cf_tree.specs.RawTree.{RawTree, raw_lit, raw_truth, raw_name, raw_set_of, raw_group, raw_tuple, raw_neg, raw_not, raw_abs, raw_binary, raw_chain, raw_min, raw_max, raw_divides, raw_div, raw_mod, raw_card, raw_call, raw_if, raw_let, raw_choose, raw_match, RawTrees, no_raws, raw_more, raw_arm, RawArmTrees, no_raw_arms, raw_arm_more, GivenTree, no_given, given_that, AimTree, no_aim, aim_at}
 use Rattle.cf_program.specs.declared.variable.Variable.{Variable}
 use Rattle.cf_program.specs.Constants.{constant_of}
-use Rattle.cf_program.specs.Linear.{Held, is_known, is_unknown, Found, linear as linear_with, Holder, holders, found_in, all_hold, in_choose}
+use Rattle.cf_program.specs.Linear.{Held, is_known, is_unknown, linear as linear_with, found_in, all_hold, in_choose}
 use Rattle.cf_program.specs.LinearTrees.{IsLinearHolding, IsLinearGiven, IsLinearAim, known_scope, unknown_outputs, AreLinear, AllAreLinear, ArmsAreLinear}
 use Rattle.cf_program.specs.Names.{Callee, variable_of, repeated}
 use Rattle.cf_program.specs.NoForm.{IsNotImplies, HasNoForm, HaveNoForm, ArmsHaveNoForm}
-use Rattle.cf_program.specs.Reading.{Reading}
 use Rattle.cf_program.specs.Source.{IsThree, IsSpelledOp, IsSpelledRaw, IsSpelledGiven, IsSpelledAim, AreSpelledRaws, AreSpelledArms}
 use Rattle.cf_program.specs.Then.{◌>>=◌}
-use Rattle.cf_program.specs.Walk.{Form, Forms, no_forms, with_form, Arms, no_arms, with_arm, arm_number, after_arm, is_one, all_are, all_are_single, all_same, are_asked, are_numbers, name_form, call_form, odd_link, sides_fit, side_of, bound, output_fault, linear, choose_form, matched, Summand, Pattern, variables_of, Context, in_relation, taken, takes_inputs, divisor_in, pattern_in, GivenForm, AimForm, aim_expr, walk, walk_given, walk_aim, walk_all, walk_arms}
+use Rattle.cf_program.specs.Walk.{Form, Forms, no_forms, with_form, Arms, no_arms, with_arm, arm_number, after_arm, is_one, all_are, all_are_single, all_same, are_asked, are_numbers, name_form, call_form, odd_link, sides_fit, side_of, bound, output_fault, linear, choose_form, matched, Pattern, variables_of, Context, in_relation, taken, takes_inputs, divisor_in, pattern_in, GivenForm, AimForm, aim_expr, walk, walk_given, walk_aim, walk_all, walk_arms}
 use Rattle.cf_program.proofs.HeldLaws.{over, over_more, CallsHold, Holds, walk_holds}
-use Rattle.cf_program.proofs.Kept.{WhenOk, when_ok, when_err, when_bind, when_both, when_edition, when_kept, when_no_fault, when_none_repeated, when_linear, when_then}
+use Rattle.cf_program.proofs.Kept.{WhenOk, when_ok, when_err, when_bind, when_edition, when_kept, when_no_fault, when_none_repeated, when_linear, when_then}
 
 pub not_two : (edition : Edition) → IsThree edition → edition ≡ Two → ⊥
 not_two Two three e = three

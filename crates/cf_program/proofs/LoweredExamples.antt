@@ -1,16 +1,16 @@
 -- Worked examples that hold down the lowered form of a match, and the weights and depths of functions.
-use Rattle.std.specs.Prelude.{ℕ, ℤ, pos, negsuc, ◌^◌, ◌+◌, ◌-◌, ◌*◌, ◌≡◌, zero, suc, true, false, List, [], ◌∷◌, codes, Option, Some, None, Result, Ok, Err, refl}
+use Rattle.std.specs.Prelude.{ℕ, pos, negsuc, ◌^◌, ◌+◌, ◌-◌, ◌≡◌, zero, suc, true, false, List, [], ◌∷◌, codes, Some, None, Ok, Err, refl}
 use Rattle.cf_num.specs.Divisors.{gcd_by}
-use Rattle.cf_tree.specs.declared.base.Base.TheVariants.{Int, Set}
-use Rattle.cf_tree.specs.declared.base.Order.TheVariants.{Eq, Le}
+use Rattle.cf_tree.specs.declared.base.Base.TheVariants.{Int}
+use Rattle.cf_tree.specs.declared.base.Order.TheVariants.{Eq}
 use Rattle.cf_tree.specs.declared.base.Place.{Place}
-use Rattle.cf_tree.specs.declared.raw.BinOp.TheVariants.{Add, Or, And, Compare}
+use Rattle.cf_tree.specs.declared.raw.BinOp.TheVariants.{Add, Or, Compare}
 use Rattle.cf_tree.specs.declared.raw.Param.{Param}
 use Rattle.cf_tree.specs.DefView.{DefTree}
 use Rattle.cf_tree.specs.ExprTree.{ExprTree, expr_lit, expr_truth, expr_var, expr_set_of, expr_tuple, expr_neg, expr_not, expr_abs, expr_binary, expr_divides, expr_div, expr_mod, expr_card, expr_if, expr_call, expr_let, expr_choose, expr_match, no_exprs, exprs_of, match_arm, no_match_arms, match_arms_of}
 use Rattle.cf_tree.specs.RelTree.{term_lit, term_var, term_add, term_mul, rel_false, rel_true, rel_compare, rel_and}
-use Rattle.cf_program.specs.declared.fault.TypeFault.TheVariants.{NoMain, Weight, Depth}
-use Rattle.cf_program.specs.Checked.{TypedTree, size_fault, sized, main_from}
+use Rattle.cf_program.specs.declared.fault.TypeFault.TheVariants.{Weight, Depth}
+use Rattle.cf_program.specs.Checked.{TypedTree, size_fault, sized}
 use Rattle.cf_program.specs.Lowered.{lowered}
 use Rattle.cf_program.specs.Size.{weight_in, depth_in, weights, depths}
 

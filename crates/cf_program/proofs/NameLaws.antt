@@ -1,8 +1,8 @@
 -- Where the rules give no fault, names that stand together differ.
-use Rattle.std.proofs.Common.{◌≡◌, ℕ, suc, Bool, true, false, not, ◌||◌, ◌==◌, ◌+◌, ℤ, pos, List, [], ◌∷◌, ◌++◌, length, map, reverse, Option, Some, None, All, refl, sym, ◌∙◌, ap, cond, subst, arith}
+use Rattle.std.proofs.Common.{◌≡◌, ℕ, Bool, true, false, not, ◌||◌, ◌==◌, ◌+◌, ℤ, pos, List, [], ◌∷◌, ◌++◌, length, map, reverse, Option, Some, None, All, refl, sym, ◌∙◌, ap, cond, subst, arith}
 use Rattle.std.proofs.lemmas.List.{length-map, map-append, append_assoc, append-nil}
 use Rattle.std.proofs.lemmas.List.Elements.{All-nil, All-cons, All-head, All-tail}
-use Rattle.std.specs.List.{IsDistinct, AllByRecursion, list_any}
+use Rattle.std.specs.List.{IsDistinct, AllByRecursion}
 use Rattle.std.specs.Str.{bytes_eq}
 use Rattle.cf_tree.specs.declared.base.Base.TheVariants.{Bool as Truth}
 use Rattle.cf_tree.specs.declared.base.Edition.{Edition}
@@ -17,12 +17,12 @@ use Rattle.cf_program.specs.Checked.{functions_of, walk_const, walk_def, walk_it
 use Rattle.cf_program.specs.DistinctNames.{AreDistinct, HasDistinctNames, HaveDistinctNames, ArmsHaveDistinctNames, GivenHasDistinctNames, AimHasDistinctNames, IsDistinctlyNamed}
 use Rattle.cf_program.specs.Names.{is_among, repeated, callee_from}
 use Rattle.cf_tree.specs.Params.{names_of}
-use Rattle.cf_program.specs.Source.{IsThree, AreSpelledHidden, IsSpelledRaw, IsSpelledGiven, IsSpelledAim, AreSpelledRaws, AreSpelledArms, IsSpelledDef, IsSpelledItem}
+use Rattle.cf_program.specs.Source.{AreSpelledHidden, IsSpelledRaw, IsSpelledGiven, IsSpelledAim, AreSpelledRaws, AreSpelledArms, IsSpelledDef, IsSpelledItem}
 use Rattle.cf_program.specs.Constants.{Constant, constant_of, constant_names}
 use Rattle.cf_program.specs.Linear.{found_in, all_hold, is_known, in_choose}
 use Rattle.cf_program.specs.Then.{◌>>=◌}
-use Rattle.cf_program.specs.Walk.{is_one, factor_in, signed, with_part, with_parts, choose_form, Forms, no_forms, with_form, Arms, no_arms, with_arm, bound, output_fault, is_output, may_be_output, matched, Summand, Pattern, with_summand, with_name, variables_of, after_arm, Context, behind, in_relation, taken, takes_inputs, divisor_in, pattern_in, walk, walk_given, walk_aim, walk_all, walk_arms}
-use Rattle.cf_program.proofs.Kept.{WhenOk, when_ok, when_err, when_bind, when_kept, when_no_fault, when_different, when_edition, when_linear, when_any, when_so, when_then, when_map}
+use Rattle.cf_program.specs.Walk.{is_one, factor_in, signed, with_part, with_parts, choose_form, Forms, no_forms, with_form, Arms, no_arms, with_arm, bound, output_fault, may_be_output, matched, Pattern, with_summand, variables_of, after_arm, Context, behind, in_relation, taken, takes_inputs, divisor_in, pattern_in, walk, walk_given, walk_aim, walk_all, walk_arms}
+use Rattle.cf_program.proofs.Kept.{WhenOk, when_ok, when_bind, when_kept, when_no_fault, when_different, when_edition, when_linear, when_any, when_so, when_then, when_map}
 use Rattle.cf_program.proofs.LinearLaws.{not_two}
 
 -- none of these names stands before

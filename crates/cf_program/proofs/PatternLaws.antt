@@ -1,10 +1,10 @@
 -- Constants, divisors and patterns in which no rule is broken hold numbers within the limit.
-use Rattle.std.proofs.Common.{◌≡◌, ℕ, zero, suc, ℤ, pos, negsuc, neg_ℤ, unsigned_abs, nat_le, ◌^◌, ◌-◌, int_le, T, Bool, true, false, List, [], ◌∷◌, ◌++◌, length, Option, Some, None, is_some, Result, Ok, Err, All, refl, sym, subst, cond, arith}
+use Rattle.std.proofs.Common.{◌≡◌, ℕ, zero, suc, ℤ, pos, negsuc, neg_ℤ, unsigned_abs, nat_le, ◌^◌, ◌-◌, int_le, T, Bool, true, false, List, [], ◌∷◌, Option, Some, None, is_some, All, refl, sym, subst, cond, arith}
 use Rattle.std.proofs.Math.Dec.{leb→le}
 use Rattle.std.specs.Int.Signed.{le_z_yes}
 use Rattle.std.proofs.lemmas.List.Elements.{All-nil, All-head, All-tail, All-push}
 use Rattle.std.specs.Str.{bytes_eq}
-use Rattle.cf_num.specs.Limit.{IsWithin, within}
+use Rattle.cf_num.specs.Limit.{IsWithin}
 use Rattle.cf_tree.specs.declared.base.Place.{Place}
 use Rattle.cf_tree.specs.declared.raw.Param.{Param}
 use Rattle.cf_tree.specs.RawTree.{PartTree, NumberTree, number_lit, number_name}
@@ -14,7 +14,7 @@ use Rattle.cf_program.specs.declared.fault.TypeFault.TheVariants.{ConstantPast}
 use Rattle.cf_program.specs.Constants.{Constant, constant_of, is_within}
 use Rattle.cf_program.specs.Names.{variable_of}
 use Rattle.cf_program.specs.Source.{IsSpelledDivisor, IsSpelledFactor, IsSpelledPart}
-use Rattle.cf_program.specs.Walk.{Context, Summand, Pattern, signed, with_summand, with_constant, with_name, first_start, sum_with, constant_fault, named_number, factor_in, divisor_in, with_part, with_parts, pattern_in}
+use Rattle.cf_program.specs.Walk.{Context, Pattern, signed, with_summand, with_name, sum_with, constant_fault, named_number, factor_in, divisor_in, with_part, with_parts, pattern_in}
 use Rattle.cf_program.proofs.Kept.{WhenOk, when_ok, when_err, when_bind, when_kept, when_no_fault, when_none_repeated}
 
 abbrev pub AreWithin : List Constant → Type 0

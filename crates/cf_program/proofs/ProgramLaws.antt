@@ -1,11 +1,10 @@
 -- A program in which no rule is broken keeps its facts.
-use Rattle.std.proofs.Common.{◌≡◌, ℕ, zero, suc, ◌+◌, ◌≤◌, ◌<◌, Bool, true, false, ◌==◌, nat_eq, nat_le, nat_lt, List, [], ◌∷◌, ◌++◌, length, map, reverse, slice_get, codes, Option, Some, None, Result, Ok, Err, All, MatchBool, ◌⊎◌, inl, inr, refl, sym, ◌∙◌, ap, subst, cond, arith, not}
+use Rattle.std.proofs.Common.{◌≡◌, ℕ, zero, suc, ◌+◌, ◌≤◌, ◌<◌, Bool, true, false, ◌==◌, nat_le, nat_lt, List, [], ◌∷◌, ◌++◌, length, map, reverse, slice_get, codes, Option, Some, None, Ok, All, MatchBool, ◌⊎◌, inl, inr, refl, sym, ◌∙◌, ap, subst, cond, arith, not}
 use Rattle.std.proofs.lemmas.Bool.{eqb-true, eq-eqb, ltb-true}
 use Rattle.std.proofs.lemmas.Bool.Decides.{nat_tests}
 use Rattle.std.proofs.lemmas.List.{append_assoc, append-nil, length-append, length-map, reverse-append, length-reverse}
 use Rattle.std.proofs.lemmas.List.Elements.{All-nil, All-cons, All-head, All-tail, All-push}
 use Rattle.std.proofs.lemmas.Slice.Eq.{bytes_eq-Decides}
-use Rattle.std.specs.List.{IsDistinct}
 use Rattle.std.specs.Str.{bytes_eq}
 use Rattle.cf_num.specs.Limit.{IsWithin}
 use Rattle.cf_tree.specs.declared.base.Base.{Base}
@@ -15,7 +14,7 @@ use Rattle.cf_tree.specs.declared.base.Edition.TheVariants.{Two, Three}
 use Rattle.cf_tree.specs.declared.base.Place.{Place}
 use Rattle.cf_tree.specs.declared.raw.Param.{Param}
 use Rattle.cf_tree.specs.DefView.{RawDefTree, DefTree, RawItemTree, item_const, item_def}
-use Rattle.cf_tree.specs.RawTree.{RawTree, place_of}
+use Rattle.cf_tree.specs.RawTree.{RawTree}
 use Rattle.cf_tree.specs.RelSize.{capped}
 use Rattle.cf_program.specs.declared.fault.TypeFault.{TypeFault}
 use Rattle.cf_program.specs.declared.fault.TypeFault.TheVariants.{Weight, Depth}
@@ -33,7 +32,6 @@ use Rattle.cf_tree.specs.Params.{bases_of, names_of}
 use Rattle.cf_tree.specs.Bases.{same_bases}
 use Rattle.cf_program.specs.Size.{weights, depths}
 use Rattle.cf_program.specs.Source.{IsSpelledDef, IsSpelledItem, IsSpelledProgram}
-use Rattle.cf_program.specs.Then.{◌>>=◌}
 use Rattle.cf_program.specs.TypedProgram.{numbers, all_numbers, Takes, AreTypedDefsBy, IsProgramBy}
 use Rattle.cf_program.specs.TypedSource.{IsSourceBy}
 use Rattle.cf_program.specs.Walk.{by_edition, Form, Context, behind, is_one, takes_inputs, walk}

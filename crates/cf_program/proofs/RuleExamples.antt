@@ -1,7 +1,7 @@
 -- Worked examples that hold down the rules: the typed program of a source, or the first rule that it breaks.
 --
 -- Above each example stands its source.
-use Rattle.std.specs.Prelude.{ℕ, ℤ, pos, negsuc, ◌≡◌, true, false, List, [], ◌∷◌, codes, Result, Ok, Err, refl}
+use Rattle.std.specs.Prelude.{ℕ, pos, negsuc, ◌≡◌, true, false, List, [], ◌∷◌, codes, Ok, Err, refl}
 use Rattle.cf_num.specs.Divisors.{gcd_by}
 use Rattle.cf_tree.specs.declared.base.Base.{Base}
 use Rattle.cf_tree.specs.declared.base.Base.TheVariants.{Int, Bool as Truth, Set}

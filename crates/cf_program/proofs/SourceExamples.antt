@@ -1,8 +1,8 @@
 -- Worked examples that hold down what a source of edition 3 keeps: one with all facts, and for each fact one that lacks it.
-use Rattle.std.proofs.Common.{◌≡◌, ℕ, ◌≤◌, pos, true, List, [], ◌∷◌, ◌++◌, codes, Some, All, refl, arith}
+use Rattle.std.proofs.Common.{ℕ, ◌≤◌, true, List, [], ◌∷◌, codes, refl, arith}
 use Rattle.std.proofs.lemmas.List.Elements.{All-nil, All-cons, All-head}
 use Rattle.std.specs.List.{IsDistinct}
-use Rattle.cf_tree.specs.declared.base.Base.TheVariants.{Int, Bool as Truth}
+use Rattle.cf_tree.specs.declared.base.Base.TheVariants.{Int}
 use Rattle.cf_tree.specs.declared.base.Order.TheVariants.{Eq}
 use Rattle.cf_tree.specs.declared.raw.BinOp.TheVariants.{Mul, Compare}
 use Rattle.cf_tree.specs.declared.raw.Param.{Param}
@@ -12,7 +12,6 @@ use Rattle.cf_tree.specs.Params.{names_of}
 use Rattle.cf_program.specs.declared.linearity.Linearity.TheVariants.{Plain, Late}
 use Rattle.cf_program.specs.DistinctNames.{AreDistinct}
 use Rattle.cf_program.specs.Linear.{is_unknown}
-use Rattle.cf_program.specs.TypedProgram.{all_numbers}
 use Rattle.cf_program.specs.TypedSource.{IsSourceBy}
 use Rattle.cf_program.proofs.RuleExamples.{at, param}
 

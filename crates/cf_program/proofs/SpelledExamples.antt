@@ -1,10 +1,9 @@
 -- Worked examples that hold down which sources the grammar of an edition spells.
 --
 -- Each form is spelled with parts that are, and not with a part that is not: a literal past the limit.
-use Rattle.std.proofs.Common.{◌≡◌, ℕ, ◌^◌, ◌≤◌, ℤ, pos, negsuc, true, false, List, [], ◌∷◌, codes, Option, Some, None, All, refl, arith}
+use Rattle.std.proofs.Common.{ℕ, ℤ, pos, negsuc, true, false, List, [], ◌∷◌, codes, Option, Some, None, refl, arith}
 use Rattle.std.proofs.lemmas.Int.{ints}
 use Rattle.std.proofs.lemmas.List.Elements.{All-nil, All-cons, All-head}
-use Rattle.cf_num.specs.Limit.{IsWithin}
 use Rattle.cf_tree.specs.declared.base.Base.TheVariants.{Int}
 use Rattle.cf_tree.specs.declared.base.Edition.{Edition}
 use Rattle.cf_tree.specs.declared.base.Edition.TheVariants.{Two, Three}
@@ -13,7 +12,7 @@ use Rattle.cf_tree.specs.declared.base.Place.{Place}
 use Rattle.cf_tree.specs.declared.base.Sense.TheVariants.{Least}
 use Rattle.cf_tree.specs.declared.raw.BinOp.TheVariants.{Add, Implies}
 use Rattle.cf_tree.specs.declared.raw.Param.{Param}
-use Rattle.cf_tree.specs.DefView.{RawDefTree, RawItemTree, item_const, item_def}
+use Rattle.cf_tree.specs.DefView.{RawDefTree, item_const, item_def}
 use Rattle.cf_tree.specs.RawTree.{RawTree, raw_lit, raw_truth, raw_name, raw_set_of, raw_group, raw_tuple, raw_neg, raw_not, raw_abs, raw_binary, raw_chain, raw_min, raw_max, raw_divides, raw_div, raw_mod, raw_card, raw_call, raw_if, raw_let, raw_choose, raw_match, RawTrees, raws_of, raw_arm, raw_arms_of, PartTree, NumberTree, number_lit, number_name, GivenTree, no_given, given_that, AimTree, no_aim, aim_at}
 use Rattle.cf_program.specs.Source.{IsSpelledRaw, IsSpelledDef, IsSpelledItem, IsSpelledProgram, IsSpelledPart}
 use Rattle.cf_program.proofs.RuleExamples.{at, param}

@@ -1,15 +1,13 @@
 -- Worked examples that hold down what is asked of every part of an expression with levels: that its chooses are linear, that it has no form of edition 3, and no
 -- match.
-use Rattle.std.specs.Prelude.{ℕ, pos, ◌≡◌, true, false, Bool, List, [], ◌∷◌, codes, refl}
-use Rattle.cf_tree.specs.declared.base.Base.{Base}
+use Rattle.std.specs.Prelude.{ℕ, pos, true, false, Bool, [], ◌∷◌, codes, refl}
 use Rattle.cf_tree.specs.declared.base.Base.TheVariants.{Int}
 use Rattle.cf_tree.specs.declared.base.Order.TheVariants.{Eq, Lt}
 use Rattle.cf_tree.specs.declared.raw.BinOp.TheVariants.{Add, Mul, Compare}
-use Rattle.cf_tree.specs.declared.raw.Param.{Param}
 use Rattle.cf_tree.specs.DefView.{DefTree}
 use Rattle.cf_tree.specs.ExprTree.{ExprTree, ExprTrees, expr_lit, expr_truth, expr_var, expr_set_of, expr_tuple, expr_neg, expr_not, expr_abs, expr_binary, expr_chain, expr_min, expr_max, expr_divides, expr_div, expr_mod, expr_card, expr_if, expr_call, expr_let, expr_choose, expr_choose_where, expr_match, exprs_of, match_arm, no_match_arms, match_arms_of, GivenExpr, holds_always, holds_where, AimExpr, at_any, at_least, at_greatest}
 use Rattle.cf_tree.specs.RelTree.{rel_true}
-use Rattle.cf_program.specs.Linear.{is_known, is_unknown, is_constant}
+use Rattle.cf_program.specs.Linear.{is_known, is_constant}
 use Rattle.cf_program.specs.LinearTrees.{AreLinear, DefsAreLinear}
 use Rattle.cf_program.specs.NoForm.{HasNoForm}
 use Rattle.cf_program.specs.NoMatch.{HasNoMatch}

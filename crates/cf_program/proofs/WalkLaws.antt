@@ -1,5 +1,5 @@
 -- What the walk makes of an expression has the bases that it tells, and its numbers rise.
-use Rattle.std.proofs.Common.{◌≡◌, ℕ, suc, ℤ, pos, ◌+◌, ◌≤◌, Bool, true, false, ◌&&◌, ◌==◌, List, [], ◌∷◌, ◌++◌, length, map, slice_get, Option, Some, None, Result, Ok, Err, All, refl, sym, ◌∙◌, ap, subst, cond, arith}
+use Rattle.std.proofs.Common.{◌≡◌, ℕ, suc, ℤ, ◌+◌, ◌≤◌, Bool, true, false, ◌&&◌, ◌==◌, List, [], ◌∷◌, ◌++◌, length, map, slice_get, Option, Some, None, All, refl, sym, ◌∙◌, ap, subst, cond, arith}
 use Rattle.std.proofs.Math.Numerals.{add-one}
 use Rattle.std.proofs.lemmas.Bool.{eqb-true}
 use Rattle.std.proofs.lemmas.List.{map-append, append_assoc, append-nil, length-append, length-map}
@@ -7,7 +7,6 @@ use Rattle.std.proofs.lemmas.List.Elements.{All-nil, All-cons, All-map}
 use Rattle.cf_num.specs.Limit.{IsWithin}
 use Rattle.cf_tree.specs.declared.base.Base.{Base}
 use Rattle.cf_tree.specs.declared.base.Base.TheVariants.{Int, Bool as Truth, Set}
-use Rattle.cf_tree.specs.declared.base.Edition.{Edition}
 use Rattle.cf_tree.specs.declared.base.Edition.TheVariants.{Two, Three}
 use Rattle.cf_tree.specs.declared.base.Order.{Order}
 use Rattle.cf_tree.specs.declared.base.Place.{Place}
@@ -15,29 +14,28 @@ use Rattle.cf_tree.specs.declared.base.Sense.{Sense}
 use Rattle.cf_tree.specs.declared.base.Sense.TheVariants.{Least, Greatest}
 use Rattle.cf_tree.specs.declared.raw.BinOp.{BinOp}
 use Rattle.cf_tree.specs.declared.raw.Param.{Param}
-use Rattle.cf_tree.specs.ExprTree.{ExprTree, ExprTrees, exprs_of, MatchArmTree, MatchArmTrees, match_arm, match_arms_of, expr_neg, expr_not, expr_abs, expr_divides, expr_div, expr_mod, expr_card, expr_chain, expr_min, expr_max, expr_choose, GivenExpr, AimExpr}
+use Rattle.cf_tree.specs.ExprTree.{ExprTree, ExprTrees, exprs_of, MatchArmTree, MatchArmTrees, match_arm, match_arms_of, expr_neg, expr_not, expr_abs, expr_divides, expr_div, expr_mod, expr_card, expr_min, expr_max, expr_choose}
 use Rattle.cf_tree.specs.RawTree.{RawTree, raw_lit, raw_truth, raw_name, raw_set_of, raw_group, raw_tuple, raw_neg, raw_not, raw_abs, raw_binary, raw_chain, raw_min, raw_max, raw_divides, raw_div, raw_mod, raw_card, raw_call, raw_if, raw_let, raw_choose, raw_match, RawTrees, no_raws, raw_more, raw_arm, RawArmTrees, no_raw_arms, raw_arm_more, GivenTree, no_given, given_that, AimTree, no_aim, aim_at}
 use Rattle.cf_program.specs.declared.fault.TypeFault.{TypeFault}
-use Rattle.cf_program.specs.declared.fault.TypeFault.TheVariants.{Mismatch}
 use Rattle.cf_program.specs.declared.variable.Variable.{Variable}
 use Rattle.cf_program.specs.Constants.{constant_of}
 use Rattle.cf_program.specs.LateLinear.{IsLinearBy, known_in}
-use Rattle.cf_program.specs.Linear.{Found, linear as linear_with, bends, found_in, all_hold, is_known, in_choose}
+use Rattle.cf_program.specs.Linear.{found_in, all_hold, is_known, in_choose}
 use Rattle.cf_program.specs.Names.{variable_of, Callee}
 use Rattle.cf_tree.specs.Params.{bases_of}
 use Rattle.cf_tree.specs.Bases.{same_base, same_bases}
-use Rattle.cf_tree.specs.Relation.{IsDivisor, IsTyped}
+use Rattle.cf_tree.specs.Relation.{IsTyped}
 use Rattle.cf_tree.specs.RelTree.{term_neg, term_abs, term_div, term_mod, term_card, rel_not, rel_divides}
 use Rattle.cf_program.specs.Reading.{Reading, relation, term, set, not_linear, first_nonlinear, on_relation, on_term, on_set}
 use Rattle.cf_program.specs.Source.{AreSeveral as AreSeveralRaws, count_of_raws, IsSpelledRaw, IsSpelledGiven, IsSpelledAim, AreSpelledRaws, AreSpelledArms}
 use Rattle.cf_program.specs.Then.{◌>>=◌}
 use Rattle.cf_program.specs.TypedProgram.{AreSides, AreSeveral, AreNumbers, IsArmNumber, HasArms, ExprHasBasesBy, AllHaveBy, PartsHaveBy, ArmsHaveBy, GivenIsTypedBy, AimIsTypedBy, arm_numbers, numbers, numbers_all, numbers_arms, numbers_given, numbers_aim}
-use Rattle.cf_program.specs.Walk.{Form, Forms, no_forms, with_form, Arms, no_arms, with_arm, is_one, all_are, all_are_single, are_asked, all_have, all_same, are_numbers, joined, first_of, side_of, sides_fit, variable_form, name_form, unary_form, binary_form, set_reading, set_form, extreme_form, odd_link, chain_form, tuple_form, call_form, if_form, bound, let_form, output_fault, linear, form, choose_form, choose_where_form, GivenForm, AimForm, aim_expr, matched, Summand, Pattern, variables_of, arm_number, after_arm, match_form, Context, in_relation, taken, takes_inputs, divisor_in, pattern_in, by_edition, walk, walk_given, walk_aim, walk_all, walk_arms}
+use Rattle.cf_program.specs.Walk.{Form, Forms, no_forms, with_form, Arms, no_arms, with_arm, is_one, all_are, all_are_single, are_asked, all_have, all_same, are_numbers, joined, first_of, side_of, sides_fit, variable_form, name_form, unary_form, binary_form, set_reading, set_form, extreme_form, odd_link, chain_form, tuple_form, call_form, if_form, bound, let_form, output_fault, linear, form, choose_form, choose_where_form, GivenForm, AimForm, aim_expr, matched, Summand, Pattern, variables_of, arm_number, after_arm, match_form, Context, in_relation, taken, takes_inputs, divisor_in, pattern_in, walk, walk_given, walk_aim, walk_all, walk_arms}
 use Rattle.cf_tree.specs.Typing.{one}
 use Rattle.cf_program.proofs.BaseLaws.{single_is, variable_found, bound_bases, variables_bases, outputs_are}
 use Rattle.cf_tree.proofs.BaseLemmas.{same_base_is, same_bases_is, both}
 use Rattle.cf_program.proofs.Kept.{WhenOk, when_ok, when_err, when_bind, when_both, when_edition, when_kept, when_no_fault, when_none_repeated, when_linear, when_so, when_then}
-use Rattle.cf_program.proofs.PatternLaws.{AreWithin, constant_within, divisor_good, IsPattern, pattern_good}
+use Rattle.cf_program.proofs.PatternLaws.{AreWithin, constant_within, divisor_good, pattern_good}
 use Rattle.cf_program.proofs.ReadsLaws.{linear_behind, IsReadingOver, bent_at_reads, on_relation_reads, on_term_reads, on_set_reads, truth_reads, variable_reads, binary_reads}
 use Rattle.cf_program.proofs.Rising.{Rising, rising_le, rising_append}
 use Rattle.cf_program.proofs.SomeLaws.{GiveSome, has_some}
