@@ -11,7 +11,7 @@ use Rattle.cf_program.specs.Typed.{typed_tree}
 use Rattle.cf_program.specs.TypedProgram.{IsProgramBy}
 use Rattle.cf_form.specs.declared.fault.FormFault.{FormFault}
 use Rattle.cf_form.specs.declared.fault.FormFault.TheVariants as faults
-use Rattle.cf_form.specs.declared.form.FormedParts.{FormedParts}
+use Rattle.cf_form.specs.declared.forming.FormedParts.{FormedParts}
 use Rattle.cf_form.specs.Formed.{formed_defs}
 use Rattle.cf_form.specs.Laws.{AllowTheSame}
 use Rattle.cf_form.specs.Told.{wide_chooses, first_passed, all_told}

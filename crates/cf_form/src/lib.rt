@@ -3,14 +3,14 @@
 #![tactic(auto)]
 
 mod fault;
-mod form;
+mod forming;
 mod limits;
 mod told;
 
 ghost use Rattle.cf_form.specs.Laws.{FormingAllowsTheSame, FormingKeepsTypes, FormsToItself};
 
 pub use crate::fault::FormFault;
-pub use crate::form::{Formed, FormedParts, form};
+pub use crate::forming::{Formed, FormedParts, form};
 pub use crate::limits::MOST_ALTERNATIVES;
 pub use crate::told::{Branch, ChooseInfo, TruthAt};
 

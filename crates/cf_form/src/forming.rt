@@ -29,7 +29,7 @@ pub struct Formed {
 }
 
 impl Model for Formed {
-    ghost use Rattle.cf_form.specs.declared.form.FormedParts.{FormedParts};
+    ghost use Rattle.cf_form.specs.declared.forming.FormedParts.{FormedParts};
 
     ghost Value = { FormedParts };
 
