@@ -1,6 +1,5 @@
 mod AlternativeExamples
 pub mod BranchTypes
-mod Callees
 mod ChooseExamples
 pub mod ChooseForms
 pub mod ChooseLaw
@@ -39,8 +38,6 @@ mod RelationExamples
 pub mod SaidBy
 pub mod ScopeLaws
 mod ToldExamples
-mod TruthSteps
-mod Unfolded
 mod WideExamples
 pub mod WideMeaning
 pub mod WideTypes

@@ -14,8 +14,5 @@ pub mod Relations
 pub mod SourceChooses
 pub mod Told
 pub mod ToldView
-pub mod Unfolding
 pub mod Wide
-pub mod WideParts
-pub mod WideView
 pub mod Widened

@@ -2,14 +2,10 @@
 //! greatest numbers and truth values, and chains and implications in ordinary code.
 #![tactic(auto)]
 
-mod copy;
-mod expansion;
 mod fault;
 mod formed;
 mod limits;
 mod told;
-mod truths;
-mod wide;
 
 ghost use Rattle.cf_form.specs.Laws.{FormingAllowsTheSame, FormingKeepsTypes, FormsToItself};
 
