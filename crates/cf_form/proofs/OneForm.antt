@@ -1,6 +1,7 @@
 -- A source has one program of the forms of language 2, or is refused one, and not both.
 use Rattle.std.proofs.Common.{◌≡◌, ◌∙◌, ap, sym, subst, refl, ℕ, suc, ◌≤◌, true, List, [], ◌∷◌, All, Some, None, arith}
 use Rattle.std.specs.Prelude.{nat_le, Option}
+use Rattle.std.proofs.lemmas.Bool.Decides.{nat_tests}
 use Rattle.std.proofs.lemmas.List.Elements.{All-head, All-tail}
 use Rattle.cf_program.specs.Checked.{TypedTree}
 use Rattle.cf_program.specs.Size.{weights, depths}
@@ -16,7 +17,7 @@ one_form how source a b f g =
     ap (λ ds. record { defs = ds; main = a.main }) defs ∙ ap (λ m. record { defs = b.defs; main = m }) main
 
 at_most : (limit n : ℕ) → n ≤ limit → nat_le n limit ≡ true
-at_most limit n h = omega (arith, h)
+at_most limit n h = grind (arith, nat_tests)
 
 -- where none is above the limit, there is no first
 none_above : (limit i : ℕ) (ns : List ℕ) → All (λ n. n ≤ limit) ns → first_above limit i ns ≡ None
