@@ -28,12 +28,12 @@ AreNarrow defs = first_passed (wide_chooses defs) ≡ None
 
 -- A program is this source with the forms of language 2: it keeps what a typed program keeps, limits of weight and depth among it, and each function allows
 -- the same outcomes.
-pub record IsFormOf (how : Linearity) (source typed : TypedTree) : Type 0 where
-  pub defs : typed.defs ≡ formed_defs source.defs
-  pub main : typed.main ≡ source.main
+pub record IsFormOf (how : Linearity) (source new : TypedTree) : Type 0 where
+  pub defs : new.defs ≡ formed_defs source.defs
+  pub main : new.main ≡ source.main
   pub narrow : AreNarrow source.defs
-  pub typed : IsProgramBy (IsLinearBy how) typed.defs typed.main
-  pub outcomes : AllowTheSame source.defs typed.defs
+  pub typed : IsProgramBy (IsLinearBy how) new.defs new.main
+  pub outcomes : AllowTheSame source.defs new.defs
 
 -- For which fault a source is not formed: the first choose with an atom of too many alternatives comes before the first function that is too heavy, and this
 -- before the first that is too deep.

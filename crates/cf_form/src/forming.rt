@@ -34,9 +34,10 @@ impl Model for Formed {
     ghost Value = { FormedParts };
 
     ghost use Rattle.cf_tree.specs.contracts.expr.Expr as coded_expr;
+    ghost use Rattle.cf_tree.specs.contracts.rel.Rel as coded_rel;
     ghost use Rattle.std.specs.Coded.{codes};
 
-    ghost coded = { Prim.hlevel (codes, coded_expr.the_row.coded) };
+    ghost coded = { Prim.hlevel (codes, coded_expr.the_row.coded, coded_rel.the_row.coded) };
 
     ghost use Rattle.cf_form.specs.FormAnswers.{IsFormed};
 
