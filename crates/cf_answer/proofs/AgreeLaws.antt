@@ -1,11 +1,13 @@
 -- The commands agree with each other.
 use Rattle.std.proofs.Common.{◌≡◌, ap, subst, refl, sym, ℕ, ◌-◌, ◌^◌, ◌≤◌, not, List, [], ◌∷◌, length, map}
 use Rattle.cf_io.specs.Limits.{line_limit}
+use Rattle.cf_lex.specs.Editions.{edition_of}
 use Rattle.cf_tree.specs.CodeTree.{CodeTree}
 use Rattle.cf_tree.specs.CodeView.{code_tree}
 use Rattle.cf_tree.specs.ChooseTree.{ChooseTree}
 use Rattle.cf_tree.specs.DefView.{TargetTree, target_tree}
 use Rattle.cf_tree.specs.declared.base.Base.{Base}
+use Rattle.cf_tree.specs.declared.base.Edition.TheVariants.{Two}
 use Rattle.cf_tree.specs.declared.target.RawTarget.{RawTarget}
 use Rattle.cf_target.proofs.Only.{one_law}
 use Rattle.cf_target.specs.Spelling.{IsTarget}
@@ -19,10 +21,12 @@ use Rattle.cf_answer.specs.Agreeing.{ProvedIsVerified, CompiledIsRun, NeedsAreCh
 use Rattle.cf_answer.specs.Certificates.{OneForEach, IsProofOf, IsTraced}
 use Rattle.cf_answer.specs.Owed.{by_target, IsReplyBy, AllReplied, AreReplies, compiled}
 use Rattle.cf_answer.specs.Passes.{applied}
-use Rattle.cf_answer.specs.Sources.{IsTypedTarget}
+use Rattle.cf_answer.specs.Sources.{Spelled, IsTypedTarget}
 use Rattle.cf_answer.proofs.CauseLemmas.{trees_agree}
 use Rattle.cf_answer.proofs.OwedLemmas.{owed_accepted}
 use Rattle.cf_answer.proofs.PickedLemmas.{replies_picked}
+use Rattle.cf_answer.proofs.TargetLemmas.{edition_read}
+use Rattle.cf_answer.proofs.TextLemmas.{target_in}
 
 -- ---- what `prove` writes
 traced_prove : (qs : List ChooseTree) (bs : List Block) → OneForEach IsTraced qs bs → OneForEach IsProofOf qs (map block_tree bs)
@@ -36,6 +40,10 @@ proved_is_verified name other source given last ls text (typed, s, (bs, traced, 
     (_, (typed, s, (map block_tree bs, (back.tokens, back.end, (short, back.lexed), back.spelled), traced_prove _ bs traced), refl))
 
 -- ---- what `compile` prints
+-- a text spells one target
+target_once : (text : List ℕ) (t u : TargetTree) → Spelled Two (IsTarget (edition_of text)) text t → Spelled Two (IsTarget (edition_of text)) text u → t ≡ u
+target_once text t u h i = trees_agree Two (IsTarget (edition_of text)) (one_law (edition_of text)) text t u h i
+
 -- a reply is told by the parameters and the code
 reply_by_tree : (t u : RawTarget) → target_tree u ≡ target_tree t → (line reply : List ℕ) → IsReply line_limit (2 ^ 127 - 1) u line reply →
     IsReply line_limit (2 ^ 127 - 1) t line reply
@@ -52,12 +60,14 @@ replies_by_tree t u same (line ∷ ls) out h = (h.0, h.1, h.2, reply_by_tree t u
 
 pub compiled_is_run : CompiledIsRun
 compiled_is_run flags name source given last ls text (t, c, p) short =
+    let same = edition_read text (edition_of source) p.reads_back.of_edition in
     let typed : IsTypedTarget text (target_tree t) =
-    ((p.reads_back.tokens, p.reads_back.end, (short, p.reads_back.lexed), p.reads_back.spelled), c.0.2.typed) in
+    (target_in (edition_of source) text (target_tree t) p.reads_back.tokens p.reads_back.end same (short, p.reads_back.lexed) p.reads_back.spelled,
+      c.0.2.typed) in
     record {
       accepted = owed_accepted (exec name) (text ∷ []) given last [] [] (t, typed, refl);
       replies = λ before behind lines out o.
-          let all = replies_by_tree t o.0 (trees_agree IsTarget one_law text (target_tree o.0) (target_tree t) o.1.0 typed.0) lines out o.2 in
+          let all = replies_by_tree t o.0 (target_once text (target_tree o.0) (target_tree t) o.1.0 typed.0) lines out o.2 in
           compiled t c all (replies_picked (applied (not flags.plain) given) (applied (not flags.plain) last) source t lines out c.0 all);
     }
 

@@ -2,6 +2,7 @@
 use Rattle.std.proofs.Common.{◌≡◌, refl, ℕ, ◌*◌, ℤ, Bool, true, not, List, [], ◌∷◌, Err}
 use Rattle.cf_gen.specs.Workload.{gen_source, gen_lines}
 use Rattle.cf_io.specs.Lines.{lines}
+use Rattle.cf_lex.specs.Editions.{edition_of}
 use Rattle.cf_pass.specs.Passes.{Told}
 use Rattle.cf_tree.specs.declared.target.RawTarget.{RawTarget}
 use Rattle.cf_tree.specs.Spelled.{HasSpelling}
@@ -23,7 +24,8 @@ use Rattle.cf_answer.proofs.RunLemmas.{run_unrefused}
 use Rattle.cf_answer.proofs.SourceLemmas.{compiled_unrefused}
 
 pub compile_owes : (flags : Flags) (name file : List ℕ) (given last : List Told) (t : RawTarget) → IsCompiledBy (not flags.plain) file given last t →
-    (HasSpelling t → ReadsBack (target_tree t) (target_text t)) → Owes (compile flags name) (file ∷ []) given last [] (target_text t)
+    (HasSpelling t → ReadsBack (edition_of file) (target_tree t) (target_text (edition_of file) t)) →
+    Owes (compile flags name) (file ∷ []) given last [] (target_text (edition_of file) t)
 compile_owes flags name file given last t h back = (t, h, record { is = refl; reads_back = back h.0.2.spelled })
 
 pub workload_owes : (n : ℕ) (given last : List Told) (t : RawTarget) (sum : ℤ) (text : List ℕ) → IsCompiledBy true (gen_source n) given last t →

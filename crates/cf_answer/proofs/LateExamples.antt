@@ -90,7 +90,7 @@ product_of_outputs = broken_late (at 64) _ refl (broken (rule.NotLinear (at 64))
 
 -- def main(a: int, b: int): int = choose (x: int, y: int) where a * x == b && x * y == 3
 abbrev two_products : List RawItemTree
-two_products = main scope (Int ∷ []) (raw_choose (at 33) (int 41 (codes "x") ∷ int 49 (codes "y") ∷ []) (raw_binary (at 74) And
+two_products = main scope (Int ∷ []) (choose (at 33) (int 41 (codes "x") ∷ int 49 (codes "y") ∷ []) (raw_binary (at 74) And
     (raw_binary (at 69) (Compare Eq) (times 65 (codes "a") (codes "x")) (raw_name (at 72) (codes "b")))
     (raw_binary (at 83) (Compare Eq) (times 79 (codes "x") (codes "y")) (raw_lit (at 86) (pos 3)))))
 

@@ -7,7 +7,9 @@ use Rattle.cf_io.specs.Limits.{line_limit}
 use Rattle.cf_io.specs.Lines.{lines}
 use Rattle.cf_tree.specs.ChooseTree.{ChooseTree}
 use Rattle.cf_tree.specs.RelTree.{rel_true}
+use Rattle.cf_tree.specs.declared.base.Edition.TheVariants.{Two, Three}
 use Rattle.cf_tree.specs.declared.target.RawTarget.{RawTarget}
+use Rattle.cf_lex.specs.Editions.{edition_of}
 use Rattle.cf_target.specs.Spelling.{target_tree}
 use Rattle.cf_program.specs.Checked.{TypedTree}
 use Rattle.cf_eval.specs.Replies.{IsReply}
@@ -130,3 +132,7 @@ no-choose = refl
 last-line : sum_line 9 (negsuc 11) ≡ codes "lines 9 sum -12\n"
 unfolding digits
 last-line = refl
+
+-- ---- the questions of `check` are those of language 2
+no-questions_of_three : (name : List ℕ) (last : List Told) (text : List ℕ) → Owes (check name) (codes "comfusy 3" ∷ []) last last [] text → ⊥
+no-questions_of_three name last text h = let is : Three ≡ Two = h.0 in cc is

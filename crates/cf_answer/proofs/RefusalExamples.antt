@@ -1,18 +1,26 @@
 -- For what a text is refused, where a syntax fault stands, and for which fault each command is refused.
 use Rattle.std.proofs.Common.{◌≡◌, inl, inr, ◌≤◌, ◌∙◌, sym, subst, refl, ap, ℕ, pos, true, List, [], ◌∷◌, length, arith, codes}
-use Rattle.std.specs.Prelude.{Result, Err}
+use Rattle.std.specs.Prelude.{Result, Ok, Err}
 use Rattle.cf_lex.specs.declared.token.Token.{Token}
 use Rattle.cf_lex.specs.declared.token.TokenKind.TheVariants.{Word}
 use Rattle.cf_lex.specs.Places.{first_place}
 use Rattle.cf_lex.specs.Tokens.{none, bad_byte, past_limit, at_end}
 use Rattle.cf_tree.specs.CodeTree.{CodeTree, code_lit, code_truth}
-use Rattle.cf_tree.specs.DefView.{TargetTree}
+use Rattle.cf_tree.specs.DefView.{RawItemTree, TargetTree}
 use Rattle.cf_tree.specs.declared.base.Base.TheVariants.{Int}
-use Rattle.cf_tree.specs.declared.base.Edition.TheVariants.{Two}
+use Rattle.cf_tree.specs.declared.base.Edition.{Edition}
+use Rattle.cf_tree.specs.declared.base.Edition.TheVariants.{Two, Three}
 use Rattle.cf_tree.specs.declared.base.Place.{Place}
 use Rattle.cf_reader.specs.Faults.{IsFaultPlace, place_with_left}
 use Rattle.cf_reader.specs.Readers.{Reader}
-use Rattle.cf_program.specs.Checked.{TypedTree}
+use Rattle.cf_program.specs.Checked.{TypedTree, checked}
+use Rattle.cf_program.specs.declared.fault.TypeFault.{TypeFault}
+use Rattle.cf_program.specs.declared.fault.TypeFault.TheVariants as rule
+use Rattle.cf_program.specs.declared.linearity.Linearity.{Linearity}
+use Rattle.cf_form.specs.FormAnswers.{IsFormOf, IsUnformed}
+use Rattle.cf_form.specs.declared.fault.FormFault.TheVariants as form
+use Rattle.cf_linear.specs.declared.refusal.Refusal.TheVariants.{Limit}
+use Rattle.cf_linear.specs.declared.refusal.LimitKind.TheVariants.{Cases}
 use Rattle.cf_build.specs.Chooses.{all_chooses, by_number}
 use Rattle.cf_steps.specs.Blocks.{BlockTree}
 use Rattle.cf_steps.specs.Reading.{all_blocks}
@@ -23,11 +31,12 @@ use Rattle.cf_cert.specs.declared.verdict.Why.{Why}
 use Rattle.cf_words.specs.Commands.{compile, run, pre, check, exec, prove, verify, gen, help, version}
 use Rattle.cf_words.specs.declared.command.Flags.{Flags}
 use Rattle.cf_answer.specs.Limits.{text_limit}
+use Rattle.cf_answer.specs.Refusals.{IsBroken, broken, wide, form_fault, CausesOf}
 use Rattle.cf_answer.specs.Refusals.{IsSyntaxPlace, Causes, too_long, odd_byte, large_number, no_tree, bad_tree}
 use Rattle.cf_answer.specs.Refusals.{IsRefusedSource, IsRefusedRun, IsRefusedTarget, IsRefusedSteps, IsBadTarget, untyped, IsBrokenSource}
 use Rattle.cf_answer.specs.Refusals.{IsUnverified, bad_source, bad_steps, bad_blocks, text_fault, Refuses, IsAccepted}
 use Rattle.cf_answer.specs.Certificates.{asked_in}
-use Rattle.cf_answer.specs.Sources.{HasTokens, Spelled, IsTypedSource}
+use Rattle.cf_answer.specs.Sources.{HasTokens, Spelled, SpellsProgram, IsTypedBy, IsTypedSource}
 use Rattle.cf_answer.specs.declared.fault.Fault.{Fault}
 use Rattle.cf_answer.specs.declared.fault.Fault.TheVariants as fault
 use Rattle.cf_answer.specs.declared.fault.StepsFault.{StepsFault}
@@ -239,3 +248,51 @@ module _ (flags : Flags) (name other text more : List ℕ) (n : ℕ) (f : Fault)
 
   other-files : (Refuses (compile flags name) [] f → ⊥) × (Refuses (verify name other) (text ∷ []) f → ⊥) × (Refuses (gen n) (text ∷ []) f → ⊥)
   other-files = ((λ h. h), (λ h. h), λ h. h)
+
+-- ---- for which faults the rules refuse a program
+abbrev broken_rule : TypeFault
+broken_rule = rule.NoMain
+
+module _ (how : Linearity) (program : List RawItemTree) (source typed : TypedTree) where
+  -- of both editions for the first rule that is broken, which `run` asks for too
+  by-a_rule : (edition : Edition) → checked edition how program ≡ Err broken_rule → IsBroken edition how program (fault.Rule broken_rule)
+  by-a_rule edition e = broken broken_rule e
+
+  -- of edition 3 also for the limits of its forms, where no rule is broken
+  by-too_many_cases : checked Three how program ≡ Ok source → IsUnformed source.defs (form.Cases 2 1025) →
+      IsBroken Three how program (fault.Choose 2 (Limit Cases 1025))
+  by-too_many_cases e u = wide source (form.Cases 2 1025) refl e u
+
+  -- and language 2 for none of these
+  told-by_rules : (f : Fault) → IsBroken Two how program f → (e : TypeFault) × (checked Two how program ≡ Err e) × (f ≡ fault.Rule e)
+  told-by_rules f (broken e h) = (e, h, refl)
+  told-by_rules f (wide other e is h u) = absurd (cc is)
+
+  -- a program of language 2 is what the rules make of it, and one of edition 3 what this is formed to
+  typed-of_two : (IsTypedBy Two how program typed → checked Two how program ≡ Ok typed) × (checked Two how program ≡ Ok typed → IsTypedBy Two how program typed)
+  typed-of_two = ((λ h. h), λ h. h)
+
+  typed-of_three : (IsTypedBy Three how program typed → (x : TypedTree) × (checked Three how program ≡ Ok x) × IsFormOf how x typed)
+      × ((x : TypedTree) × (checked Three how program ≡ Ok x) × IsFormOf how x typed → IsTypedBy Three how program typed)
+  typed-of_three = ((λ h. h), λ h. h)
+
+forms-told : (form_fault (form.Cases 2 1025) ≡ fault.Choose 2 (Limit Cases 1025)) × (form_fault (form.Weight 3 1000001) ≡ fault.Rule (rule.Weight 1000001))
+    × (form_fault (form.Depth 3 201) ≡ fault.Rule (rule.Depth 201)) × (form_fault form.NoMemory ≡ fault.NoMemory)
+forms-told = (refl, refl, refl, refl)
+
+-- ---- the edition of a source is that of its header
+abbrev with_header : List ℕ
+with_header = codes "comfusy 3"
+
+abbrev IsAt : Edition → List RawItemTree → Fault → Type 0
+IsAt edition program f = edition ≡ Three
+
+header-asked : (program : List RawItemTree) → SpellsProgram with_header program → CausesOf IsAt with_header fault.BadTarget
+header-asked program s = bad_tree program fault.BadTarget s refl
+
+no-header_asked : (f : Fault) → f ≡ fault.BadTarget → CausesOf IsAt [] f → ⊥
+no-header_asked f is (too_long l) = cc is
+no-header_asked f is (odd_byte ts p h) = cc is
+no-header_asked f is (large_number ts p h) = cc is
+no-header_asked f is (no_tree ts end p h without place) = cc is
+no-header_asked f is (bad_tree x g s b) = cc b

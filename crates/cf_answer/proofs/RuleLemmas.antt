@@ -14,8 +14,7 @@ use Rattle.cf_program.specs.declared.fault.TypeFault.{TypeFault}
 use Rattle.cf_program.specs.declared.fault.TypeFault.TheVariants as rule
 use Rattle.cf_program.specs.declared.linearity.Linearity.{Linearity}
 use Rattle.cf_program.specs.declared.linearity.Linearity.TheVariants.{Plain}
-use Rattle.cf_program.proofs.Kept.{when_is}
-use Rattle.cf_program.proofs.ProgramLaws.{checked_good}
+use Rattle.cf_program.proofs.ProgramLaws.{rules_keep_types}
 use Rattle.cf_form.specs.FormAnswers.{IsFormOf, IsUnformed}
 use Rattle.cf_form.specs.declared.fault.FormFault.{FormFault}
 use Rattle.cf_form.specs.declared.fault.FormFault.TheVariants as form
@@ -96,7 +95,7 @@ typed_is_checked Three how program typed (source, h, t) = (source, h)
 -- it keeps what a typed program keeps
 pub typed_keeps : (edition : Edition) (how : Linearity) (program : List RawItemTree) (typed : TypedTree) → IsSpelledProgram edition program →
     IsTypedBy edition how program typed → IsProgramBy (IsLinearBy how) typed.defs typed.main
-typed_keeps Two how program typed s h = when_is (checked Two how program) typed (checked_good how program s) h
+typed_keeps Two how program typed s h = rules_keep_types how program typed s h
 typed_keeps Three how program typed s (source, h, t) = t.typed
 
 -- no limit of forms is told as that on linear relations

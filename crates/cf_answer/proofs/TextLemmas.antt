@@ -50,12 +50,18 @@ misread_number edition text ts p is h =
 
 -- why a target is refused, by the tokens of an edition
 abbrev pub IsRefusedBy : Edition → List ℕ → Fault → Type 0
-IsRefusedBy edition text f = Causes edition IsTarget (target_of 500) IsBadTarget text f
+IsRefusedBy edition text f = Causes edition (IsTarget (edition_of text)) (target_of (edition_of text) 500) IsBadTarget text f
 
-pub no_target : (text : List ℕ) (ts : List Token) (end p : Place) → HasTokens Two text ts end at_end → ((x : TargetTree) → IsTarget x ts → ⊥) →
-    IsFaultPlace SomeTarget ts end p →
-    IsFaultPlaceOf (target_of 500) ts end p → IsRefusedTarget text (fault.Syntax p)
-no_target text ts end p h none dead exact = no_tree ts end p h none (record { dead = dead; exact = exact })
+pub target_in : (edition : Edition) (text : List ℕ) (t : TargetTree) (ts : List Token) (end : Place) → edition ≡ edition_of text →
+    HasTokens Two text ts end at_end → IsTarget edition t ts → Spelled Two (IsTarget (edition_of text)) text t
+target_in edition text t ts end is h s = (ts, end, h, subst (λ e. IsTarget e t ts) is s)
+
+pub no_target : (edition : Edition) (text : List ℕ) (ts : List Token) (end p : Place) → edition ≡ edition_of text → HasTokens Two text ts end at_end →
+    ((x : TargetTree) → IsTarget edition x ts → ⊥) → IsFaultPlace (SomeTarget edition) ts end p → IsFaultPlaceOf (target_of edition 500) ts end p →
+    IsRefusedTarget text (fault.Syntax p)
+no_target edition text ts end p is h none dead exact =
+    subst (λ e. Causes Two (IsTarget e) (target_of e 500) IsBadTarget text (fault.Syntax p)) is
+    (no_tree ts end p h none (record { dead = dead; exact = exact }))
 
 pub choose_refused : (text : List ℕ) (typed : TypedTree) (n : ℕ) (r : Refusal) → IsTypedSource text typed → IsFirstRefused (all_chooses typed.defs) n r →
     IsRefusedSource text (fault.Choose n r)
@@ -67,7 +73,7 @@ pub build_refused : (text : List ℕ) (typed : TypedTree) (f : BuildFault) → I
 build_refused text typed (build.Choose n r) s h = inl (choose_refused text typed n r s h)
 build_refused text typed build.NoMemory s h = inr refl
 
-pub target_untyped : (text : List ℕ) (t : TargetTree) → Spelled Two IsTarget text t → (IsTypedTree t → ⊥) → IsRefusedTarget text fault.BadTarget
+pub target_untyped : (text : List ℕ) (t : TargetTree) → Spelled Two (IsTarget (edition_of text)) text t → (IsTypedTree t → ⊥) → IsRefusedTarget text fault.BadTarget
 target_untyped text t s h = bad_tree t fault.BadTarget s (untyped h)
 
 -- a text is refused for more where more is bad

@@ -20,13 +20,13 @@ fn printed(alloc: Global, text: &[u8]) -> Result<Vec<u8>, Fail> {
     let Ok(list) = tokens(alloc, Edition::Two, text) else {
         return Err(NoMemory.into());
     };
-    let Ok(raw) = target(alloc, &list) else {
+    let Ok(raw) = target(alloc, Edition::Two, &list) else {
         return Err(NoMemory.into());
     };
     let Ok(checked) = check_target(alloc, raw.try_copy(alloc)?) else {
         return Err(NoMemory.into());
     };
-    Ok(print(alloc, &checked)?)
+    Ok(print(alloc, Edition::Two, &checked)?)
 }
 
 #[test]

@@ -18,8 +18,8 @@ returns-in_err-text-clause-answers g c =
 pub returns-clause-answers : goal.returns-clause-answers
 returns-clause-answers g c =
     λ file input. written_answers _ _ _ _ _ _ input _ _ _ refl (called_passed _ _ _ c.in_ok-target.ensures.verdict.1)
-    (compile_owes c.args.flags file _ _ _ _ c.in_ok-target.ensures.verdict c.in_ok-text.ensures.reads_back)
-    (c.deref-2.ensures.value ∙ (rw c.deref.ensures.value at c.in_ok-text.ensures.text)) c.write_text.ensures.all c.write_text.ensures.prefix
+    (compile_owes c.args.flags file _ _ _ _ c.in_ok-target.ensures.verdict (rw c.edition_of.ensures.is at c.in_ok-text.ensures.reads_back))
+    (c.deref-2.ensures.value ∙ (rw (c.deref.ensures.value, c.edition_of.ensures.is) at c.in_ok-text.ensures.text)) c.write_text.ensures.all c.write_text.ensures.prefix
     c.write_text.ensures.fault c.write_text.ensures.count
 
 pub returns-clause-unwritten : goal.returns-clause-unwritten
