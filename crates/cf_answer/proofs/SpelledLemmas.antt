@@ -23,7 +23,7 @@ use Rattle.cf_parse.specs.declared.sign.TermSign.{TermSign}
 use Rattle.cf_parse.specs.declared.sign.TermSign.TheVariants.{Plus, Minus}
 use Rattle.cf_parse.specs.Spelling.{SpellsParam, SpellsOutputs, SpellsName, SpellsNames, FirstNumber, NextNumber, FirstOp, signed, SpellsProduct, SpellsPart, SpellsSignedPart, SpellsConstant, SpellsTerms, SpellsPattern, IsChain, Spells, SpellsItems, SpellsOthers, SpellsTwoOrMore, SpellsLinks, SpellsGiven, SpellsAim, SpellsArm, SpellsArms}
 use Rattle.cf_parse.specs.Programs.{SpellsDef, SpellsItem, SpellsAll, SpellsSome, IsProgram}
-use Rattle.cf_program.specs.Source.{IsThree as IsOfThree, IsSpelledDivisor, IsSpelledFactor, IsSpelledPart, IsSpelledOp, AreSpelledHidden, AreSeveral, count_of_raws, AreLinks, IsSpelledRaw, IsSpelledGiven, IsSpelledAim, AreSpelledRaws, AreSpelledArms, IsSpelledDef, IsSpelledItem, IsSpelledProgram}
+use Rattle.cf_program.specs.Source.{IsThree as IsOfThree, IsSpelledDivisor, IsSpelledFactor, IsSpelledPart, IsSpelledOp, AreSpelledHidden, AreSeveral, count_of_raws, IsSpelledRaw, IsSpelledGiven, IsSpelledAim, AreSpelledRaws, AreSpelledArms, IsSpelledDef, IsSpelledItem, IsSpelledProgram}
 
 three : (edition : Edition) → IsThree edition → IsOfThree edition
 three Two h = h
