@@ -6,6 +6,7 @@ use Rattle.cf_target.proofs.Loops.{more_open, out_of_memory}
 use Rattle.cf_parse.specs.declared.tier.Tier.TheVariants.{Whole}
 use Rattle.cf_parse.specs.LinksView.{links_tree}
 use Rattle.cf_parse.specs.Reading.{arm_of, next_order, read}
+use Rattle.cf_parse.proofs.Above.{word_reserved}
 use Rattle.cf_parse.proofs.Steps.{links_end, links_fail, links_next}
 use Rattle.cf_parse.proofs.reading.+reading.Goals as goal
 
@@ -102,3 +103,8 @@ more_links-loop-preserved t c =
       links_next (read c.args.edition c.args.n) _ _ (links_tree c.loop.done) (links_tree c.in_ok-done-in-Some.done) _ _ _ _ _ _ next
           c.in_ok-e-in-Some.ensures.value (omega arith) (ok_same _ _ _ refl c.in_ok-done-in-Some.ensures.value) c.loop.invariant.1,
     )
+
+pub word-returns-in-Some-reserved_op-clause-value : goal.word-returns-in-Some-reserved_op-clause-value
+word-returns-in-Some-reserved_op-clause-value t c =
+    rw (word_reserved c.args.edition (read c.args.edition c.args.n) c.args.n c.args.tokens.now c.in-Some-reserved_op.rest.now c.in-Some-reserved_op.place
+    c.in-Some-reserved_op.op c.in_default.ensures c.in-Some-reserved_op.ensures (omega (arith, c.if-n-eq0.false))) c.reserved.ensures.value
