@@ -5,7 +5,7 @@ ghost use Rattle.cf_parse.specs.declared.tier.Tier.TheVariants.{Whole};
 ghost use Rattle.cf_tree.specs.RawView.{raw_tree, raw_arm_tree, given_tree, aim_tree, number_tree};
 ghost use Rattle.cf_parse.specs.LinksView.{links_tree};
 ghost use Rattle.cf_reader.specs.Answers.{ReadAnswer};
-ghost use Rattle.cf_reader.specs.Readers.{snoc, others_of, several_of};
+ghost use Rattle.cf_reader.specs.Readers.{is, must, bind, snoc, others_of, several_of};
 ghost use Rattle.cf_parse.specs.Reading.{chain_of, list_of, items_of, one_of, divided_of, two_or_more_of, operation_of, named_of, word_of, atom_of, unary_of, muls_of, sums_of, links_of, linked_of, compared_of, cmps_of, ands_of, ors_of, imps_of, given_of, aim_of, let_of, if_of, choose_of, arm_of, match_of, whole_of, read as read_at};
 
 use crate::lists::{read_names, read_outputs};
@@ -442,7 +442,7 @@ fn compared(
     }
     let found = match divides_by(alloc, edition, n, &left.raw, tokens) {
         Ok(found) => found,
-        Err(stop) => return Err(without(left, stop)),
+        Err(_) => return Err(without(left, ReadStop::NoMemory)),
     };
     match found {
         None => Ok((left, tokens)),
@@ -677,10 +677,29 @@ fn word(
         if n == 0 {
             return Err(ReadStop::TokensLeft(tokens.len()));
         }
-        let (_, rest) = expect_sign("(", rest)?;
-        return operation(alloc, edition, n, place, op, rest);
+        return reserved(alloc, edition, n, place, op, rest);
     }
     name_or_call(alloc, edition, n, tokens)
+}
+
+// Behind the word of an operation that is reserved.
+#[cycle(reading)]
+#[tactic(auto, unfolding(cf_reader::specs::Readers::bind))]
+fn reserved(
+    alloc: Global,
+    edition: Edition,
+    n: u32,
+    place: Place,
+    op: NamedOp,
+    tokens: &[Token],
+) -> Result<(Measured, &[Token]), ReadStop>
+    requires { n < 2 ^ 30 }
+    ensures value { ReadAnswer (λ x. (raw_tree x.0.raw, x.1.now)) result
+        (bind (must (is (Sign (codes "(")))) (λ p. operation_of edition (read_at edition n) place op) tokens.now) }
+    ensures deep { IfOk result (λ x. x.0.depth ≤ n + 1) }
+{
+    let (_, rest) = expect_sign("(", tokens)?;
+    operation(alloc, edition, n, place, op, rest)
 }
 
 // A name, a call, or an operation of edition 3.

@@ -44,6 +44,9 @@ decreases-atom l = 64 * l.n + 31
 abbrev pub decreases-word : goal.decreases-word
 decreases-word l = 64 * l.n + 30
 
+abbrev pub decreases-reserved : goal.decreases-reserved
+decreases-reserved l = 64 * l.n + 29
+
 abbrev pub decreases-name_or_call : goal.decreases-name_or_call
 decreases-name_or_call l = 64 * l.n + 29
 
