@@ -61,9 +61,10 @@ replies_by_tree t u same (line ∷ ls) out h = (h.0, h.1, h.2, reply_by_tree t u
 pub compiled_is_run : CompiledIsRun
 compiled_is_run flags name source given last ls text (t, c, p) short =
     let same = edition_read text (edition_of source) p.reads_back.of_edition in
-    let typed : IsTypedTarget text (target_tree t) =
-    (target_in (edition_of source) text (target_tree t) p.reads_back.tokens p.reads_back.end same (short, p.reads_back.lexed) p.reads_back.spelled,
-      c.0.2.typed) in
+    let typed : IsTypedTarget text (target_tree t) = (
+      target_in (edition_of source) text (target_tree t) p.reads_back.tokens p.reads_back.end same (short, p.reads_back.lexed) p.reads_back.spelled,
+      c.0.2.typed,
+    ) in
     record {
       accepted = owed_accepted (exec name) (text ∷ []) given last [] [] (t, typed, refl);
       replies = λ before behind lines out o.
