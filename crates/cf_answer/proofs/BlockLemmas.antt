@@ -108,4 +108,4 @@ pub few_steps : (bs : List BlockTree) (text : List ℕ) (list : TokenList) → l
     HasTokens Two text list.list.items list.end at_end → HaveFewSteps bs
 unfolding text_limit
 few_steps bs text list few h =
-    let tokens : length list.list.items ≤ length text = answer-count (2 ^ 127 - 1) text (Ok list) h.1 in omega (arith, few, tokens, h.0)
+    let tokens : length list.list.items ≤ length text = answer-count Two (2 ^ 127 - 1) text (Ok list) h.1 in omega (arith, few, tokens, h.0)

@@ -3,12 +3,13 @@ use Rattle.std.proofs.Common.{◌≡◌, inl, inr, ◌<◌, ◌≤◌, ◌+◌, 
 use Rattle.std.specs.Prelude.{Result, Err}
 use Rattle.cf_io.specs.Limits.{input_limit}
 use Rattle.cf_io.specs.Seen.{ShelfSeen, SourceSeen, SinkSeen}
+use Rattle.cf_form.specs.declared.fault.FormFault.TheVariants as form
 use Rattle.cf_pass.specs.Passes.{Told}
 use Rattle.cf_words.specs.Commands.{compile, pre}
 use Rattle.cf_answer.specs.Ends.{AnswersOn, Does}
 use Rattle.cf_answer.specs.Limits.{text_limit}
 use Rattle.cf_answer.specs.Outside.{outside, streams, AreTexts}
-use Rattle.cf_answer.specs.Refusals.{broken, refused, too_long, odd_byte, large_number, no_tree, bad_tree, Refuses}
+use Rattle.cf_answer.specs.Refusals.{broken, wide, unruly, refused, too_long, odd_byte, large_number, no_tree, bad_tree, Refuses}
 use Rattle.cf_answer.specs.declared.fault.Fault.{Fault}
 use Rattle.cf_answer.specs.declared.fault.Fault.TheVariants as fault
 
@@ -151,7 +152,11 @@ module _ (text : List ℕ) where
       short f is (odd_byte ts p s) k = cc is
       short f is (large_number ts p s) k = cc is
       short f is (no_tree ts end p s without place) k = cc is
-      short f is (bad_tree x g s (broken r b)) k = cc is
+      short f is (bad_tree x g s (unruly h (broken r b))) k = cc is
+      short f is (bad_tree x g s (unruly h (wide source (form.Cases m c) three ch u))) k = cc is
+      short f is (bad_tree x g s (unruly h (wide source (form.Weight d w) three ch u))) k = cc is
+      short f is (bad_tree x g s (unruly h (wide source (form.Depth d w) three ch u))) k = cc is
+      short f is (bad_tree x g s (unruly h (wide source form.NoMemory three ch u))) k = cc is
       short f is (bad_tree x g s (refused typed n r c b)) k = cc is
 
       no : (files : List (List ℕ)) → AreTexts (λ n. Some text) (name ∷ []) files → Refuses (pre name) files fault.TextTooLong → ⊥

@@ -112,3 +112,6 @@ pub unformed : (program : List RawItemTree) (source : TypedTree) (e : FormFault)
     IsUnformed source.defs e ⊎ (e ≡ form.NoMemory) → IsBroken Three Plain program (form_fault e) ⊎ (form_fault e ≡ fault.NoMemory)
 unformed program source e h (inl u) = inl (wide source e refl h u)
 unformed program source e h (inr memory) = inr (rw memory refl)
+
+pub rule_other : (e : TypeFault) → ((p : Place) → e ≡ rule.NotLinear p → ⊥) → (p : Place) → fault.Rule e ≡ fault.Rule (rule.NotLinear p) → ⊥
+rule_other e other p same = other p cc

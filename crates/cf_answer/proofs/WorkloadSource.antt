@@ -16,20 +16,21 @@ use Rattle.cf_lex.specs.Tokens.{Lexes, none}
 use Rattle.cf_lex.specs.Words.{is_reserved}
 use Rattle.cf_lex.specs.declared.token.Token.{Token}
 use Rattle.cf_lex.specs.declared.token.TokenKind.TheVariants.{Literal, Word, Sign}
-use Rattle.cf_reader.specs.Tokens.{Form, ◌⨟◌, FirstName, Next, NextFunction, Several}
+use Rattle.cf_reader.specs.Tokens.{Form, ◌⨟◌, First, FirstName, Next, NextFunction, Several}
 use Rattle.cf_reader.specs.Operations.{op_kind}
 use Rattle.cf_tree.specs.declared.base.Base.TheVariants.{Int}
 use Rattle.cf_tree.specs.declared.base.Order.TheVariants.{Eq, Le, Lt}
 use Rattle.cf_tree.specs.declared.base.Place.{Place}
 use Rattle.cf_tree.specs.declared.raw.BinOp.{BinOp}
-use Rattle.cf_tree.specs.declared.raw.BinOp.TheVariants.{Add, Mul, And, Compare}
+use Rattle.cf_tree.specs.declared.raw.BinOp.TheVariants.{Add, Sub, Mul, And, Or, Union, Inter, Diff, Subset, Implies, Compare}
 use Rattle.cf_tree.specs.declared.base.Edition.TheVariants.{Two}
 use Rattle.cf_tree.specs.DefView.{RawDefTree, item_def}
 use Rattle.cf_tree.specs.RawTree.{RawTree, raw_lit, raw_name, raw_binary, raw_call, raw_let, raw_choose, no_given, no_aim, no_raws, raw_more, raw_depth}
+use Rattle.cf_program.specs.NoForm.{IsNotImplies}
 use Rattle.cf_parse.specs.declared.tier.Tier.{Tier}
 use Rattle.cf_parse.specs.declared.tier.Tier.TheVariants.{Whole, Imps, Ors, Ands, Cmps, Sums, Muls, Unary}
 use Rattle.cf_parse.specs.Programs.{SpellsDef, SpellsAll}
-use Rattle.cf_parse.specs.Spelling.{rank, under, op_tier, left_tier, Fits, SpellsParam, SpellsNames, Spells}
+use Rattle.cf_parse.specs.Spelling.{rank, op_tier, left_tier, right_tier, Fits, FirstOp, SpellsParam, SpellsNames, Spells}
 use Rattle.cf_gen.specs.Workload.{function_text, function_line, call_text, call_more, main_line, coefficient, coefficients, gen_source}
 use Rattle.cf_emit.proofs.Numerals.{AreDigitsOf, decimal_read, digits_in_word, ends_digits}
 use Rattle.cf_emit.proofs.Spans.{Spans, Says, then, as_form, one_token, white_before, white_behind, is_plain, word, spaced, Mark, opening, closing, comma, colon, spaced_sign}
@@ -81,17 +82,31 @@ number_says k ds fits r rest stops =
     not_negative : (n : ℕ) → pos 0 ≤ℤ pos n
     not_negative n = omega (arith, ints)
 
-both_says : (op : BinOp) (A B : Shape) (a o b : List ℕ) → Says (Tree A) a → Mark (op_kind op) o → Says (Tree B) b → AllFit (left_tier (op_tier op)) A →
-    AllFit (under (op_tier op)) B →
+-- the sign of an operation of language 2
+first_op : (op : BinOp) (p : Place) (ts rest : List Token) → IsNotImplies op → First p (op_kind op) ts rest → FirstOp op Two p ts rest
+first_op Add p ts rest n h = h
+first_op Sub p ts rest n h = h
+first_op Mul p ts rest n h = h
+first_op And p ts rest n h = h
+first_op Or p ts rest n h = h
+first_op Union p ts rest n h = h
+first_op Inter p ts rest n h = h
+first_op Diff p ts rest n h = h
+first_op Subset p ts rest n h = h
+first_op Implies p ts rest n h = absurd n
+first_op (Compare order) p ts rest n h = h
+
+both_says : (op : BinOp) → IsNotImplies op → (A B : Shape) (a o b : List ℕ) → Says (Tree A) a → Mark (op_kind op) o → Says (Tree B) b → AllFit (left_tier (op_tier op)) A →
+    AllFit (right_tier (op_tier op)) B →
     Says (Tree (IsBoth op A B)) (a ++ o ++ b)
-both_says op A B a o b left mark right fit fits rest stops =
+both_says op once A B a o b left mark right fit fits rest stops =
     simp append_assoc (as_form turn (then (left (o ++ (b ++ rest)) (mark.begins (b ++ rest))) (then (mark.gives (b ++ rest)) (right rest stops))))
   where
     turn : (ts more : List Token) → (Tree A ⨟ Next (op_kind op) ⨟ Tree B) ts more → Tree (IsBoth op A B) ts more
     turn ts more h = (
       raw_binary h.2.1.0 op h.1.0 h.2.2.0,
       (h.2.1.0, h.1.0, h.2.2.0, h.1.1, h.2.2.1, refl),
-      (h.0, (fit h.1.0 h.1.1, h.1.2), (h.2.0, h.2.1.1, (fits h.2.2.0 h.2.2.1, h.2.2.2))),
+      (h.0, (fit h.1.0 h.1.1, h.1.2), (h.2.0, first_op op h.2.1.0 h.0 h.2.0 once h.2.1.1, (fits h.2.2.0 h.2.2.1, h.2.2.2))),
     )
 
 plus : Mark (Sign (codes "+")) (codes " + ")
@@ -145,33 +160,33 @@ module _ (c : ℕ) (small : c ≤ 2 ^ 127 - 1) where
   c_says = number_says c (decimal c) small (decimal_read c (omega arith))
 
   product_says : Says (Tree (IsBoth Mul (IsLit c) (IsName (codes "q")))) (product_text c)
-  product_says = both_says Mul (IsLit c) (IsName (codes "q")) (decimal c) (codes " * ") (codes "q") c_says times q_says (lit_fits Muls c)
+  product_says = both_says Mul tt (IsLit c) (IsName (codes "q")) (decimal c) (codes " * ") (codes "q") c_says times q_says (lit_fits Muls c)
       (name_fits Unary (codes "q"))
 
   sum_says : Says (Tree (IsBoth Add (IsBoth Mul (IsLit c) (IsName (codes "q"))) (IsName (codes "r")))) (product_text c ++ codes " + " ++ codes "r")
   sum_says =
-      both_says Add (IsBoth Mul (IsLit c) (IsName (codes "q"))) (IsName (codes "r")) (product_text c) (codes " + ") (codes "r") product_says plus r_says
+      both_says Add tt (IsBoth Mul (IsLit c) (IsName (codes "q"))) (IsName (codes "r")) (product_text c) (codes " + ") (codes "r") product_says plus r_says
       (both_fits Sums Mul (IsLit c) (IsName (codes "q")) (omega arith)) (name_fits Muls (codes "r"))
 
   equation_says : Says (Tree (IsEqual c)) (equation_text c)
   equation_says =
-      both_says (Compare Eq) (IsName (codes "a")) (IsBoth Add (IsBoth Mul (IsLit c) (IsName (codes "q"))) (IsName (codes "r"))) (codes "a") (codes " == ")
+      both_says (Compare Eq) tt (IsName (codes "a")) (IsBoth Add (IsBoth Mul (IsLit c) (IsName (codes "q"))) (IsName (codes "r"))) (codes "a") (codes " == ")
       (product_text c ++ codes " + " ++ codes "r") a_says equals sum_says (name_fits Sums (codes "a"))
       (both_fits Sums Add (IsBoth Mul (IsLit c) (IsName (codes "q"))) (IsName (codes "r")) (omega arith))
 
   lower_says : Says (Tree (IsBoth (Compare Le) (IsLit 0) (IsName (codes "r")))) lower_text
-  lower_says = both_says (Compare Le) (IsLit 0) (IsName (codes "r")) (codes "0") (codes " <= ") (codes "r") zero_says at_most r_says (lit_fits Sums 0)
+  lower_says = both_says (Compare Le) tt (IsLit 0) (IsName (codes "r")) (codes "0") (codes " <= ") (codes "r") zero_says at_most r_says (lit_fits Sums 0)
       (name_fits Sums (codes "r"))
 
   upper_says : Says (Tree (IsBoth (Compare Lt) (IsName (codes "r")) (IsLit c))) (upper_text c)
-  upper_says = both_says (Compare Lt) (IsName (codes "r")) (IsLit c) (codes "r") (codes " < ") (decimal c) r_says below c_says (name_fits Sums (codes "r"))
+  upper_says = both_says (Compare Lt) tt (IsName (codes "r")) (IsLit c) (codes "r") (codes " < ") (decimal c) r_says below c_says (name_fits Sums (codes "r"))
       (lit_fits Sums c)
 
   relation_says : Says (Tree (IsRelation c)) (relation_text c)
   relation_says =
-      both_says And (IsBoth And (IsEqual c) (IsBoth (Compare Le) (IsLit 0) (IsName (codes "r")))) (IsBoth (Compare Lt) (IsName (codes "r")) (IsLit c))
+      both_says And tt (IsBoth And (IsEqual c) (IsBoth (Compare Le) (IsLit 0) (IsName (codes "r")))) (IsBoth (Compare Lt) (IsName (codes "r")) (IsLit c))
       (equation_text c ++ codes " && " ++ lower_text) (codes " && ") (upper_text c)
-      (both_says And (IsEqual c) (IsBoth (Compare Le) (IsLit 0) (IsName (codes "r"))) (equation_text c) (codes " && ") lower_text equation_says ands lower_says
+      (both_says And tt (IsEqual c) (IsBoth (Compare Le) (IsLit 0) (IsName (codes "r"))) (equation_text c) (codes " && ") lower_text equation_says ands lower_says
       (both_fits Ands (Compare Eq) (IsName (codes "a")) (IsBoth Add (IsBoth Mul (IsLit c) (IsName (codes "q"))) (IsName (codes "r"))) (omega arith))
       (both_fits Cmps (Compare Le) (IsLit 0) (IsName (codes "r")) (omega arith)))
       ands upper_says
@@ -256,7 +271,7 @@ body_says c t chooses rest stops =
     behind = codes " in q + r" ++ rest
 
     sum_of_both : Says (Tree (IsBoth Add (IsName (codes "q")) (IsName (codes "r")))) (codes "q + r")
-    sum_of_both = both_says Add (IsName (codes "q")) (IsName (codes "r")) (codes "q") (codes " + ") (codes "r") q_says plus r_says
+    sum_of_both = both_says Add tt (IsName (codes "q")) (IsName (codes "r")) (codes "q") (codes " + ") (codes "r") q_says plus r_says
         (name_fits Sums (codes "q")) (name_fits Muls (codes "r"))
 
     turn : (ts more : List Token) →
@@ -342,7 +357,7 @@ calls_say : (m : ℕ) → m + 1 ≤ 2 ^ 127 - 1 → Says (Tree (AreCalls m)) (ca
 calls_say zero small = subst (λ t. Says (Tree (IsCall 1)) t) (sym (append-nil (call_text 1))) (call_says 1 (omega arith))
 calls_say (suc m) small =
     subst (λ t. Says (Tree (AreCalls (suc m))) t) (sym (calls_text_next m))
-    (both_says Add (AreCalls m) (IsCall (m + 2)) (calls_text m) (codes " + ") (call_text (m + 2)) (calls_say m (omega arith)) plus
+    (both_says Add tt (AreCalls m) (IsCall (m + 2)) (calls_text m) (codes " + ") (call_text (m + 2)) (calls_say m (omega arith)) plus
     (call_says (m + 2) (omega arith))
     (calls_fit m) (call_fits (m + 2)))
 

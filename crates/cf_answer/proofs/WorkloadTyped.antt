@@ -36,9 +36,9 @@ use Rattle.cf_answer.proofs.WorkloadShapes.{Shape, IsName, IsLit, IsBoth, number
 use Rattle.cf_answer.proofs.WorkloadShapes.{function_rel, IsFunction, AreFunctions, call_of, calls_of, IsWorkload}
 
 -- ---- the body of a function
-module _ (calls : List ℕ → Option Callee) (earlier : List RawDefTree) where
+module _ (calls : List ℕ → Option Callee) (known : List RawDefTree) where
   abbrev context : Context
-  context = behind Two Plain calls [] earlier
+  context = behind Two Plain calls [] known
 
   -- a form of one number, and of one truth value
   abbrev Number : List Param → ℕ → RawTree → ExprTree → Reading → Type 0

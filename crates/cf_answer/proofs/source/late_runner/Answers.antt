@@ -2,7 +2,7 @@ use Rattle.std.proofs.Common.{inl, rules, refl}
 use Rattle.std.proofs.lemmas.Result.{err_from_is_err_and}
 use Rattle.cf_tree.specs.DefView.{program_tree}
 use Rattle.cf_program.specs.Typed.{typed_tree}
-use Rattle.cf_answer.proofs.RuleLemmas.{linear_told}
+use Rattle.cf_answer.proofs.RuleLemmas.{linear_told, rule_other}
 use Rattle.cf_answer.proofs.RunLemmas.{late_runs, run_unruly, run_unruly_late}
 use Rattle.cf_answer.proofs.source.late_runner.Goals as goal
 
@@ -19,6 +19,7 @@ returns-in_ok-late-in-NotLinear c =
     λ text is s calls given. late_runs c.args.edition text (program_tree c.args.program.now) (typed_tree c.in_ok-late-in-NotLinear.late)
     c.in-NotLinear._place calls given is s c.requires.spelled plain c.in_ok-late-in-NotLinear.ensures
 
-pub returns-in-other : goal.returns-in-other
-returns-in-other c =
-    λ text is s calls given. inl (run_unruly c.args.edition text (program_tree c.args.program.now) _ (search rules) is s c.requires.broken)
+pub returns-in_default : goal.returns-in_default
+returns-in_default c =
+    λ text is s calls given. inl (run_unruly c.args.edition text (program_tree c.args.program.now) _ (rule_other c.args.fault (search rules)) is s
+    c.requires.broken)

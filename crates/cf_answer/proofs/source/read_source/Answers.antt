@@ -13,5 +13,5 @@ returns-in_err-program c =
 
 pub returns : goal.returns
 returns c =
-    read_verdict c.edition.edition c.args.text.now (program_tree c.in_ok-program.program) c.typed.result c.edition.ensures.is
+    read_verdict _ c.args.text.now (program_tree c.in_ok-program.program) c.typed.result c.edition_of-edition.ensures.is
     c.in_ok-program.ensures.verdict c.typed.ensures

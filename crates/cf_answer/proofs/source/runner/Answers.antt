@@ -14,4 +14,4 @@ pub returns-in_err-program-clause-kept : goal.returns-in_err-program-clause-kept
 returns-in_err-program-clause-kept g c = on_err c.from_residual.result refl
 
 pub returns-clause-verdict : goal.returns-clause-verdict
-returns-clause-verdict g c = c.program_runner.ensures.verdict c.args.text.now c.edition.ensures.is c.in_ok-program.ensures.verdict
+returns-clause-verdict g c = c.program_runner.ensures.verdict c.args.text.now c.edition_of-edition.ensures.is c.in_ok-program.ensures.verdict
