@@ -1,0 +1,182 @@
+//! Chains and least and greatest numbers in ordinary code, as lets and tests.
+ghost use Rattle.std.specs.Prelude.{◌≡◌, ◌++◌, ◌/◌, ◌-◌, IfOk, map, length};
+ghost use Rattle.cf_tree.specs.ExprTree.{expr_let, expr_tuple, expr_truth, expr_binary, expr_var};
+ghost use Rattle.cf_tree.specs.ExprView.{expr_tree, expr_trees};
+ghost use Rattle.cf_tree.specs.declared.raw.BinOp.TheVariants.{And, Compare};
+ghost use Rattle.cf_form.specs.Alternatives.{halves};
+ghost use Rattle.cf_form.specs.Formed.{comparisons as comparisons_of, chain_body as chain_body_of, pick as pick_of, picked_from as picked_of, best_body as best_body_of};
+ghost use Rattle.cf_form.specs.FormShapes.{order_of, best_form, chain_form};
+
+use cf_tree::{BinOp, Expr, NoMemory, Order, add_u32, to_u32, without};
+use std::alloc::Global;
+
+// The most parts of a `min` or `max` whose form is made: that of more is far deeper than a function may be.
+const MOST_PARTS: u32 = 1_000;
+
+/// A chain of formed parts, behind s variables.
+pub(crate) fn chain(
+    alloc: Global,
+    orders: &[Order],
+    s: u32,
+    parts: Vec<Expr>,
+) -> Result<Expr, NoMemory>
+    ensures { IfOk result (λ e. expr_tree e ≡ chain_form orders.now s (expr_trees parts.items)) }
+{
+    match chain_body(alloc, s, orders) {
+        Ok(body) => let_tuple(alloc, parts, body),
+        Err(fault) => Err(without(parts, fault)),
+    }
+}
+
+/// The least or greatest of formed parts, behind s variables.
+pub(crate) fn best(
+    alloc: Global,
+    expr: &Expr,
+    s: u32,
+    parts: Vec<Expr>,
+) -> Result<Expr, NoMemory>
+    ensures { IfOk result (λ e. expr_tree e ≡ best_form (order_of (expr_tree expr.now)) s (expr_trees parts.items)) }
+{
+    match best_body(alloc, order_in(expr), s, parts.len()) {
+        Ok(body) => let_tuple(alloc, parts, body),
+        Err(fault) => Err(without(parts, fault)),
+    }
+}
+
+// The order in which the picked one stands to the others.
+fn order_in(expr: &Expr) -> Order
+    ensures { result ≡ order_of (expr_tree expr.now) }
+{
+    match expr {
+        Expr::Max(_) => Order::Ge,
+        _ => Order::Le,
+    }
+}
+
+// The body, where these parts are bound.
+fn let_tuple(alloc: Global, parts: Vec<Expr>, body: Box<Expr>) -> Result<Expr, NoMemory>
+    ensures { IfOk result (λ e. expr_tree e ≡ expr_let (length parts.items) (expr_tuple (expr_trees parts.items)) (expr_tree body.value)) }
+{
+    match to_u32(parts.len()) {
+        Ok(count) => {
+            let value = Box::new(alloc, Expr::Tuple(parts))?;
+            Ok(Expr::Let { count, value, body })
+        }
+        Err(fault) => Err(without(parts, fault)),
+    }
+}
+
+// Whether neighbours among the variables from level s on compare so.
+fn chain_body(alloc: Global, s: u32, orders: &[Order]) -> Result<Box<Expr>, NoMemory>
+    ensures { IfOk result (λ e. expr_tree e.value ≡ chain_body_of s orders.now) }
+{
+    joined(alloc, comparisons(alloc, s, orders)?)
+}
+
+// The comparisons of neighbours, the first of which has level s.
+fn comparisons(alloc: Global, s: u32, orders: &[Order]) -> Result<Vec<Expr>, NoMemory>
+    ensures { IfOk result (λ es. map expr_tree es.items ≡ comparisons_of s orders.now) }
+{
+    let mut all = Vec::new(alloc);
+    let mut level = s;
+    let mut rest = orders;
+    while let Some((order, more)) = rest.split_first() {
+        let next = add_u32(level, 1)?;
+        all.push(compare(alloc, *order, level, next)?)?;
+        level = next;
+        rest = more;
+    }
+    Ok(all)
+}
+
+fn compare(alloc: Global, order: Order, x: u32, y: u32) -> Result<Expr, NoMemory>
+    ensures { IfOk result (λ e. expr_tree e ≡ expr_binary (Compare order) (expr_var x) (expr_var y)) }
+{
+    let left = Box::new(alloc, Expr::Var(x))?;
+    let right = Box::new(alloc, Expr::Var(y))?;
+    let op = BinOp::Compare(order);
+    Ok(Expr::Binary { op, left, right })
+}
+
+// The tests joined, the first half of them to the left.
+fn joined(alloc: Global, parts: Vec<Expr>) -> Result<Box<Expr>, NoMemory>
+    ensures { IfOk result (λ e. expr_tree e.value ≡ halves (expr_binary And) (expr_truth true) (map expr_tree parts.items)) }
+{
+    let mut first = parts;
+    let half = first.len() / 2;
+    if half == 0 {
+        return at_most_one(alloc, first);
+    }
+    match first.split_off(half) {
+        Ok(rest) => match joined(alloc, first) {
+            Ok(left) => and(alloc, left, joined(alloc, rest)?),
+            Err(fault) => Err(without(rest, fault)),
+        },
+        Err(_) => Err(without(first, NoMemory)),
+    }
+}
+
+fn at_most_one(alloc: Global, parts: Vec<Expr>) -> Result<Box<Expr>, NoMemory>
+    requires { length parts.items ≤ 1 }
+    ensures { IfOk result (λ e. expr_tree e.value ≡ halves (expr_binary And) (expr_truth true) (map expr_tree parts.items)) }
+{
+    let mut parts = parts;
+    match parts.pop() {
+        Some(part) => Ok(Box::new(alloc, part)?),
+        None => Ok(Box::new(alloc, Expr::Truth(true))?),
+    }
+}
+
+fn and(alloc: Global, left: Box<Expr>, right: Box<Expr>) -> Result<Box<Expr>, NoMemory>
+    ensures { IfOk result (λ e. expr_tree e.value ≡ expr_binary And (expr_tree left.value) (expr_tree right.value)) }
+{
+    let op = BinOp::And;
+    Ok(Box::new(alloc, Expr::Binary { op, left, right })?)
+}
+
+// The least or greatest of so many variables from level s on.
+fn best_body(alloc: Global, order: Order, s: u32, count: usize) -> Result<Box<Expr>, NoMemory>
+    ensures { IfOk result (λ e. expr_tree e.value ≡ best_body_of order s count) }
+{
+    let count = to_u32(count)?;
+    if count > MOST_PARTS {
+        return Err(NoMemory);
+    }
+    let second = add_u32(s, 1)?;
+    let bound = add_u32(s, count)?;
+    picked_from(alloc, order, s, second, bound, count.saturating_sub(2))
+}
+
+// The least or greatest of variable x, of the one of level y, and of `more` behind that; each but
+// the last is bound, from level z on.
+fn picked_from(
+    alloc: Global,
+    order: Order,
+    x: u32,
+    y: u32,
+    z: u32,
+    more: u32,
+) -> Result<Box<Expr>, NoMemory>
+    ensures { IfOk result (λ e. expr_tree e.value ≡ picked_of order x y z more) }
+{
+    match more.checked_sub(1) {
+        None => pick(alloc, order, x, y),
+        Some(rest) => {
+            let y_next = add_u32(y, 1)?;
+            let z_next = add_u32(z, 1)?;
+            let value = pick(alloc, order, x, y)?;
+            let body = picked_from(alloc, order, z, y_next, z_next, rest)?;
+            let count = 1;
+            Ok(Box::new(alloc, Expr::Let { count, value, body })?)
+        }
+    }
+}
+
+fn pick(alloc: Global, order: Order, x: u32, y: u32) -> Result<Box<Expr>, NoMemory>
+    ensures { IfOk result (λ e. expr_tree e.value ≡ pick_of order x y) }
+{
+    let test = Box::new(alloc, compare(alloc, order, x, y)?)?;
+    let yes = Box::new(alloc, Expr::Var(x))?;
+    let no = Box::new(alloc, Expr::Var(y))?;
+    Ok(Box::new(alloc, Expr::If { test, yes, no })?)
+}
