@@ -11,6 +11,7 @@ mod PassedExamples
 mod PolarityExamples
 mod RelationExamples
 mod ToldExamples
+mod TruthSteps
 mod Unfolded
 mod WideExamples
 mod WidenedExamples

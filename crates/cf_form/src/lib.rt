@@ -8,6 +8,7 @@ mod fault;
 mod form;
 mod limits;
 mod told;
+mod truths;
 mod wide;
 
 ghost use Rattle.cf_form.specs.Laws.{FormingAllowsTheSame, FormingKeepsTypes, FormsToItself};
