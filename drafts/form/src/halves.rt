@@ -8,21 +8,21 @@ use cf_tree::{NoMemory, Rel, without};
 use std::alloc::Global;
 
 /// Whether all of some relations hold, or some of them does.
-#[derive(Clone, Copy, Debug, PartialEq, Eq)]
+#[derive(Clone, Copy)]
 pub enum Join {
     All,
     Some,
 }
 
 /// Whether a relation stands as it is, or its negation.
-#[derive(Clone, Copy, Debug, PartialEq, Eq)]
+#[derive(Clone, Copy)]
 pub enum Sign {
     Holds,
     Fails,
 }
 
 /// Which of two relations stands for the two joined.
-#[derive(Clone, Copy, Debug, PartialEq, Eq)]
+#[derive(Clone, Copy)]
 pub enum Pick {
     First,
     Second,
