@@ -24,19 +24,21 @@ ghost use Rattle.cf_program.specs.TypedProgram.{IsProgramBy};
 ghost use Rattle.cf_program.specs.TypedSource.{IsSourceBy};
 ghost use Rattle.cf_program.specs.Walk.{where_kept};
 
+use crate::bases::is_one;
 use crate::build::bare;
 use crate::callees::Callees;
 use crate::constants::Constants;
 use crate::context::Context;
 use crate::form::Form;
-use crate::memory::{not_built, push};
+use crate::memory::push;
 use crate::names::repeated_param;
 use crate::scope::Scope;
 use crate::size;
+use crate::value::value;
 use crate::walk::walk;
 use cf_program::{Late, LateSource, Linearity, Source, TypeFault, Typed, TypedDefs};
 use cf_tree::{
-    Def, Edition, NoMemory, Program, RawDef, RawItem, Text, copy_params, same_bases, to_u32,
+    Base, Def, Edition, NoMemory, Program, RawConst, RawDef, RawItem, Text, copy_params, same_bases, to_u32,
     without,
 };
 use std::alloc::Global;
@@ -248,13 +250,12 @@ fn walk_def(context: &Context, def: &RawDef, next: u32) -> Result<(Def, u32), Ty
     closed(alloc, def, body)
 }
 
-// A function behind the declarations that were walked.
-fn add_function(setting: &Setting, walked: &mut Walked, def: &RawDef) -> Result<(), TypeFault>
-    requires { length walked.now.defs.items ≤ length setting.now.callees.now }
-    ensures { CheckAnswer (λ _. walked_of walked.new) result (walk_item_of setting.now.edition setting.now.how (map raw_def_tree setting.now.callees.now)
-        (map raw_def_tree (take (length walked.old.defs.items) setting.now.callees.now)) (walked_of walked.old) (item_def (raw_def_tree def.now))) }
+// Where the next declaration stands.
+fn context_behind<'a>(setting: &Setting<'a>, walked: &'a Walked) -> Result<Context<'a>, NoMemory>
+    ensures { IfOk result (λ c. (c.edition ≡ setting.now.edition) × (c.callees.now ≡ setting.now.callees.now) × (c.constants.now ≡ walked.now.constants)
+        × (c.number ≡ length walked.now.defs.items) × (c.how ≡ setting.now.how) × (c.known ≡ 0)) }
 {
-    let context = Context {
+    Ok(Context {
         alloc: setting.alloc,
         edition: setting.edition,
         callees: setting.callees,
@@ -262,7 +263,38 @@ fn add_function(setting: &Setting, walked: &mut Walked, def: &RawDef) -> Result<
         number: to_u32(walked.defs.len())?,
         how: setting.how,
         known: 0,
-    };
+    })
+}
+
+// The value of a constant in its context.
+fn walk_const(context: &Context, constant: &RawConst, next: u32) -> Result<i128, TypeFault>
+    requires within { context.now.number ≤ length context.now.callees.now }
+    requires unknown { context.now.known ≡ 0 }
+    ensures { CheckAnswer (λ k. constants_of context.now.constants.now ++ record { name = constant.now.name; value = k } ∷ []) result
+        (walk_const_of context.now.edition context.now.how (map raw_def_tree context.now.callees.now) (constants_of context.now.constants.now)
+        (map raw_def_tree (take context.now.number context.now.callees.now)) next constant.now.place constant.now.name (raw_tree constant.now.value)) }
+{
+    if context.constants.is_named(&constant.name) {
+        return Err(TypeFault::DuplicateName(constant.place));
+    }
+    let mut scope = Scope::new(context.alloc);
+    let form = walk(context, &mut scope, next, &constant.value)?;
+    drop(scope);
+    if !is_one(Base::Int, &form.bases) {
+        drop(form);
+        return Err(TypeFault::Mismatch(constant.value.place));
+    }
+    drop(form);
+    value(context.alloc, context.constants, &constant.value)
+}
+
+// A function behind the declarations that were walked.
+fn add_function(setting: &Setting, walked: &mut Walked, def: &RawDef) -> Result<(), TypeFault>
+    requires { length walked.now.defs.items ≤ length setting.now.callees.now }
+    ensures { CheckAnswer (λ _. walked_of walked.new) result (walk_item_of setting.now.edition setting.now.how (map raw_def_tree setting.now.callees.now)
+        (map raw_def_tree (take (length walked.old.defs.items) setting.now.callees.now)) (walked_of walked.old) (item_def (raw_def_tree def.now))) }
+{
+    let context = context_behind(setting, walked)?;
     let (tree, next) = walk_def(&context, def, walked.next)?;
     push(&mut walked.defs, tree)?;
     walked.next = next;
@@ -276,7 +308,7 @@ fn add_item(setting: &Setting, walked: &mut Walked, item: &RawItem) -> Result<()
         (map raw_def_tree (take (length walked.old.defs.items) setting.now.callees.now)) (walked_of walked.old) (raw_item_tree item.now)) }
 {
     match item {
-        RawItem::Const(_) => Err(not_built()),
+        RawItem::Const(constant) => add_constant(setting, walked, constant),
         RawItem::Def(def) => add_function(setting, walked, def),
     }
 }

@@ -49,4 +49,14 @@ impl Constants {
     {
         self.values.contains_key(name.bytes.as_slice())
     }
+
+    /// Adds a constant of a new name.
+    pub fn push(&mut self, alloc: Global, name: &Text, value: i128) -> Result<(), NoMemory>
+        requires { is_among (constant_names (constants_of self.now)) name.now ≡ false }
+        ensures { OnOk result (self.new ≡ self.old ++ (name.now, value) ∷ []) }
+    {
+        let bytes = Vec::from_slice(alloc, name.bytes.as_slice())?;
+        self.values.insert(bytes, value)?;
+        Ok(())
+    }
 }

@@ -16,6 +16,7 @@ mod pattern;
 mod reading;
 mod scope;
 mod size;
+mod value;
 mod walk;
 
 pub use crate::checking::{check, check_late, check_late_source, check_source};
