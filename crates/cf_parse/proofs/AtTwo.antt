@@ -1,7 +1,6 @@
 -- Language 2 by itself: the productions that it shares with edition 3 as it has them, and what it does not have.
-use Rattle.std.proofs.Common.{◌≡◌, ℕ, zero, suc, ℤ, Bool, true, false, List, [], ◌∷◌, length, Option, Some, None, Result, Ok, Err, refl, codes}
+use Rattle.std.proofs.Common.{◌≡◌, ℕ, ℤ, List, [], ◌∷◌, Ok, refl, codes}
 use Rattle.std.specs.Prelude.{pos, All}
-use Rattle.cf_lex.specs.Words.{is_reserved, is_no_function}
 use Rattle.cf_tree.specs.declared.base.Edition.TheVariants.{Two}
 use Rattle.cf_lex.specs.declared.token.Token.{Token}
 use Rattle.cf_lex.specs.declared.token.TokenKind.TheVariants.{Word, Sign}
@@ -11,11 +10,11 @@ use Rattle.cf_tree.specs.declared.base.Sense.{Sense}
 use Rattle.cf_tree.specs.declared.raw.BinOp.{BinOp}
 use Rattle.cf_tree.specs.declared.raw.BinOp.TheVariants.{Implies}
 use Rattle.cf_tree.specs.declared.raw.Param.{Param}
-use Rattle.cf_tree.specs.RawTree.{number_lit, number_name, PartTree, RawTree, raw_name, raw_binary, raw_chain, raw_min, raw_max, raw_divides, raw_div, raw_call, raw_choose, RawTrees, no_raws, raw_more, GivenTree, no_given, given_that, AimTree, no_aim, aim_at, raws_of}
+use Rattle.cf_tree.specs.RawTree.{number_lit, number_name, RawTree, raw_name, raw_binary, raw_chain, raw_min, raw_max, raw_divides, raw_div, raw_call, raw_choose, RawTrees, no_raws, raw_more, GivenTree, no_given, given_that, AimTree, no_aim, aim_at, raws_of}
 use Rattle.cf_tree.specs.DefView.{RawItemTree, item_const, item_def}
-use Rattle.cf_reader.specs.Readers.{Got, Reader, is, a_name, a_function, a_literal, at, pure, must, bind, ◌>>=◌, first, deep, several_of, snoc}
-use Rattle.cf_reader.specs.Tokens.{Form, ◌⨟◌, If, First, Next, FirstName, FirstLiteral, NextLiteral, Several}
-use Rattle.cf_parse.specs.declared.tier.Tier.TheVariants.{Whole, Imps, Ors, Sums}
+use Rattle.cf_reader.specs.Readers.{is, a_name, a_function, at, pure, must, ◌>>=◌, first}
+use Rattle.cf_reader.specs.Tokens.{◌⨟◌, If, First, Next, FirstName, FirstLiteral, NextLiteral, Several}
+use Rattle.cf_parse.specs.declared.tier.Tier.TheVariants.{Ors, Sums}
 use Rattle.cf_parse.specs.Spelling.{Fits, SpellsParam, SpellsItems, Spells}
 use Rattle.cf_parse.specs.Reading.{Parts, items_of, given_of, aim_of, linked_of, behind_name, named_of}
 use Rattle.std.proofs.lemmas.List.Elements.{All-nil, All-cons}

@@ -1,6 +1,6 @@
 -- What is read is spelled by the tokens that it took.
-use Rattle.std.proofs.Common.{◌≡◌, ◌⊎◌, inl, inr, ℕ, suc, zero, ◌≤◌, Bool, true, false, List, [], ◌∷◌, ◌++◌, length, map, Option, Some, None, nat_le, refl, sym, ap, subst, ◌∙◌, append_assoc, append-nil, cond, arith}
-use Rattle.std.specs.Prelude.{ℤ, pos, ◌≤ℤ◌, int_le, nat_eq, codes}
+use Rattle.std.proofs.Common.{◌≡◌, inl, inr, ℕ, suc, zero, ◌≤◌, Bool, true, false, List, [], ◌∷◌, ◌++◌, length, map, Option, Some, None, nat_le, refl, sym, ap, subst, ◌∙◌, append_assoc, append-nil, cond, arith}
+use Rattle.std.specs.Prelude.{ℤ, pos, nat_eq, codes}
 use Rattle.std.specs.Str.{bytes_eq}
 use Rattle.std.proofs.lemmas.Bool.{eqb-true, leb-true}
 use Rattle.cf_lex.specs.declared.token.Token.{Token}
@@ -17,7 +17,7 @@ use Rattle.cf_tree.specs.declared.raw.BinOp.TheVariants.{Add, Sub, Mul, And, Or,
 use Rattle.cf_tree.specs.declared.raw.Param.{Param}
 use Rattle.cf_tree.specs.RawTree.{NumberTree, number_lit, number_name, PartTree, RawTree, raw_lit, raw_truth, raw_name, raw_set_of, raw_group, raw_tuple, raw_neg, raw_not, raw_abs, raw_binary, raw_chain, raw_min, raw_max, raw_divides, raw_div, raw_mod, raw_card, raw_call, raw_if, raw_let, raw_choose, raw_match, RawArmTree, raw_arm, GivenTree, no_given, given_that, AimTree, no_aim, aim_at, raws_of, raw_arms_of, raw_depth, raws_depth, raw_arm_depth, raw_arms_depth, given_depth, aim_depth}
 use Rattle.cf_reader.specs.Readers.{Reader, before, is, a_name, at, must, bind, first, several_of, snoc}
-use Rattle.cf_reader.specs.Tokens.{Form, ◌⨟◌, IsThree, If, First, Next, FirstName, FirstFunction, FirstLiteral, Others, Several}
+use Rattle.cf_reader.specs.Tokens.{Form, ◌⨟◌, IsThree, If, First, Next, FirstName, FirstFunction, Others, Several}
 use Rattle.cf_reader.specs.Kinds.{order_kind}
 use Rattle.cf_reader.proofs.KindLaws.{took_base, took_truth}
 use Rattle.cf_reader.proofs.Yields.{Yields, faults, Took, pure_yields, widen, bind_yields, must_yields, first_yields, deep_yields, added, added_snoc, all_added, if_some, if_else_some, same_token, took_is, took_next, took_name, in_order, took_literal, several_yields, same_text, one_or_tuple_yields}
@@ -30,8 +30,8 @@ use Rattle.cf_parse.specs.declared.tier.Tier.{Tier}
 use Rattle.cf_parse.specs.declared.tier.Tier.TheVariants.{Whole, Imps, Ors, Ands, Cmps, Sums, Muls, Unary}
 use Rattle.cf_parse.specs.declared.words.NamedOp.{NamedOp}
 use Rattle.cf_parse.specs.declared.words.NamedOp.TheVariants.{Card, Abs, Div, Mod, Min, Max}
-use Rattle.cf_parse.specs.Spelling.{rank, under, op_tier, left_tier, right_tier, relation_tier, Fits, runs_one_way, takes_aim, SpellsParam, SpellsOutputs, SpellsName, SpellsNames, FirstNumber, NextNumber, FirstOp, plus_or_minus, is_minus, signed, SpellsProduct, SpellsPart, SpellsSignedPart, SpellsConstant, SpellsTerms, SpellsPattern, IsChain, sense_kind, Spells, SpellsItems, SpellsOthers, SpellsTwoOrMore, SpellsLinks, SpellsGiven, SpellsAim, SpellsArm, SpellsArms}
-use Rattle.cf_parse.specs.Reading.{in_three, a_sign, op_at, next_op, order_of, order_at, comparing, next_order, behind_order, goes_on, second_order, lone_number, is_divisor, divisor_of, divides_by, number_of, param_of, hidden_of, more_outputs, outputs_of, Names, named, names_of, TermTree, a_part, the_constant, begins, part_from, named_term, term_of, Pattern, by_term, terms_of, all_terms, pattern_of, Parts, chain_of, list_of, items_of, grouped, one_of, divided_of, two_or_more_of, op_of_name, operation_of, behind_name, named_of, word_of, atom_of, unary_of, muls_of, sums_of, Links, more_linked, links_of, first_link, chain_from, linked_of, compared_of, cmps_of, ands_of, ors_of, implied_of, imps_of, let_of, if_of, given_of, a_sense, aim_of, choose_of, arm_of, match_of, whole_of, step, read}
+use Rattle.cf_parse.specs.Spelling.{rank, under, op_tier, left_tier, right_tier, relation_tier, Fits, runs_one_way, takes_aim, SpellsParam, SpellsOutputs, SpellsName, SpellsNames, FirstNumber, NextNumber, FirstOp, plus_or_minus, is_minus, SpellsProduct, SpellsSignedPart, SpellsConstant, SpellsTerms, SpellsPattern, sense_kind, Spells, SpellsItems, SpellsOthers, SpellsTwoOrMore, SpellsLinks, SpellsGiven, SpellsAim, SpellsArm, SpellsArms}
+use Rattle.cf_parse.specs.Reading.{in_three, a_sign, op_at, next_op, order_of, order_at, comparing, next_order, behind_order, goes_on, second_order, lone_number, is_divisor, divisor_of, divides_by, number_of, param_of, hidden_of, more_outputs, outputs_of, named, names_of, TermTree, a_part, the_constant, begins, named_term, term_of, Pattern, by_term, terms_of, all_terms, pattern_of, Parts, chain_of, list_of, items_of, grouped, one_of, divided_of, two_or_more_of, op_of_name, operation_of, behind_name, named_of, word_of, atom_of, unary_of, muls_of, sums_of, Links, more_linked, links_of, first_link, chain_from, linked_of, compared_of, cmps_of, ands_of, ors_of, implied_of, imps_of, let_of, if_of, given_of, a_sense, aim_of, choose_of, arm_of, match_of, whole_of, step, read}
 use Rattle.cf_parse.proofs.Ops.{took_three, op_found, op_word, Has, name_found, took_reserved, function_name}
 
 -- the tests of the grammar's words and signs

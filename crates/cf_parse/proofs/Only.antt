@@ -19,8 +19,8 @@ use Rattle.cf_tree.specs.declared.raw.BinOp.{BinOp}
 use Rattle.cf_tree.specs.declared.raw.BinOp.TheVariants.{Add, Sub, Mul, And, Or, Union, Inter, Diff, Subset, Implies, Compare}
 use Rattle.cf_tree.specs.declared.raw.Param.{Param}
 use Rattle.cf_tree.specs.RawTree.{NumberTree, number_lit, number_name, PartTree, RawTree, raw_lit, raw_truth, raw_name, raw_set_of, raw_group, raw_tuple, raw_neg, raw_not, raw_abs, raw_binary, raw_chain, raw_min, raw_max, raw_divides, raw_div, raw_mod, raw_card, raw_call, raw_if, raw_let, raw_choose, raw_match, RawTrees, no_raws, raw_more, RawArmTree, raw_arm, RawArmTrees, no_raw_arms, raw_arm_more, GivenTree, no_given, given_that, AimTree, no_aim, aim_at, raws_of, raw_arms_of, raw_depth, raws_depth, raw_arm_depth, raw_arms_depth, given_depth, aim_depth}
-use Rattle.cf_reader.specs.Readers.{Got, Reader, same_kind, before, is, a_name, a_literal, at, pure, must, bind, first, deep, several_of, snoc}
-use Rattle.cf_reader.specs.Tokens.{Form, ◌⨟◌, IsThree, If, First, Next, FirstName, FirstFunction, FirstLiteral, Others, Several}
+use Rattle.cf_reader.specs.Readers.{Got, Reader, same_kind, before, is, a_name, a_literal, at, pure, must, bind, first, several_of, snoc}
+use Rattle.cf_reader.specs.Tokens.{Form, ◌⨟◌, IsThree, First, Next, FirstName, Others, Several}
 use Rattle.cf_reader.specs.Kinds.{truth_kind, order_kind, a_truth}
 use Rattle.cf_reader.proofs.Exact.{bind_is, pure_is, must_is, first_is, first_not, deep_is, deep_not, at_is, at_not, next_is, false_from, name_differs, name_is, le_yes, literal_is, first_longer, left_over, Ends, Items, several_are, must_within, one_or_tuple_is}
 use Rattle.cf_reader.proofs.Near.{Within}
@@ -33,8 +33,8 @@ use Rattle.cf_parse.specs.declared.tier.Tier.{Tier}
 use Rattle.cf_parse.specs.declared.tier.Tier.TheVariants.{Whole, Imps, Ors, Ands, Cmps, Sums, Muls, Unary}
 use Rattle.cf_parse.specs.declared.words.NamedOp.{NamedOp}
 use Rattle.cf_parse.specs.declared.words.NamedOp.TheVariants.{Card, Abs, Div, Mod, Min, Max}
-use Rattle.cf_parse.specs.Spelling.{rank, under, op_tier, left_tier, right_tier, relation_tier, Fits, tier_of, runs_one_way, takes_aim, SpellsParam, SpellsOutputs, SpellsName, SpellsNames, FirstNumber, NextNumber, FirstOp, plus_or_minus, is_minus, signed, SpellsProduct, SpellsPart, SpellsSignedPart, SpellsConstant, SpellsTerms, SpellsPattern, IsChain, sense_kind, Spells, SpellsItems, SpellsOthers, SpellsTwoOrMore, SpellsLinks, SpellsGiven, SpellsAim, SpellsArm, SpellsArms}
-use Rattle.cf_parse.specs.Reading.{in_three, a_sign, op_at, next_op, order_at, comparing, order_of, next_order, behind_order, goes_on, second_order, lone_number, is_divisor, divisor_of, divides_by, number_of, param_of, hidden_of, more_outputs, outputs_of, Names, named, names_of, a_part, the_constant, begins, part_from, named_term, term_of, terms_of, all_terms, pattern_of, Parts, chain_of, list_of, items_of, one_of, divided_of, two_or_more_of, op_of_name, operation_of, behind_name, named_of, word_of, atom_of, unary_of, muls_of, sums_of, Links, more_linked, links_of, first_link, chain_from, linked_of, compared_of, cmps_of, ands_of, ors_of, implied_of, imps_of, let_of, if_of, given_of, a_sense, aim_of, choose_of, arm_of, match_of, whole_of, step, read}
+use Rattle.cf_parse.specs.Spelling.{rank, under, op_tier, left_tier, right_tier, relation_tier, Fits, runs_one_way, takes_aim, SpellsParam, SpellsOutputs, SpellsName, SpellsNames, FirstNumber, NextNumber, FirstOp, plus_or_minus, is_minus, SpellsProduct, SpellsConstant, SpellsTerms, SpellsPattern, IsChain, sense_kind, Spells, SpellsItems, SpellsOthers, SpellsTwoOrMore, SpellsLinks, SpellsGiven, SpellsAim, SpellsArm, SpellsArms}
+use Rattle.cf_parse.specs.Reading.{in_three, a_sign, op_at, next_op, order_at, comparing, order_of, next_order, behind_order, goes_on, second_order, lone_number, is_divisor, divisor_of, divides_by, number_of, param_of, hidden_of, more_outputs, outputs_of, Names, named, names_of, a_part, the_constant, begins, part_from, named_term, term_of, terms_of, all_terms, pattern_of, Parts, chain_of, list_of, items_of, one_of, divided_of, two_or_more_of, op_of_name, operation_of, behind_name, named_of, word_of, atom_of, unary_of, muls_of, sums_of, Links, more_linked, links_of, first_link, linked_of, compared_of, cmps_of, ands_of, ors_of, implied_of, imps_of, let_of, if_of, given_of, a_sense, aim_of, choose_of, arm_of, match_of, whole_of, step, read}
 use Rattle.cf_parse.proofs.Above.{chain_goes, chain_stops}
 use Rattle.cf_parse.proofs.LocalReading.{LocalParts, param_local, arm_local, read_local}
 use Rattle.cf_parse.proofs.Found.{same_rank, all_names, deep_one, Unaimed, SpellsTermsFrom, SpellsTerm}

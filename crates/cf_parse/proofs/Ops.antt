@@ -16,7 +16,7 @@ use Rattle.cf_reader.specs.Operations.{op_kind, op_of, sign_op_of_two}
 use Rattle.cf_reader.specs.Readers.{at, before}
 use Rattle.cf_reader.specs.Tokens.{IsThree, First}
 use Rattle.cf_reader.proofs.Exact.{name_differs}
-use Rattle.cf_reader.proofs.Yields.{Took, if_some, if_else_some, same_token, same_text}
+use Rattle.cf_reader.proofs.Yields.{Took, if_else_some, same_token, same_text}
 use Rattle.cf_parse.specs.declared.words.NamedOp.{NamedOp}
 use Rattle.cf_parse.specs.declared.words.NamedOp.TheVariants.{Card, Abs, Div, Mod, Min, Max}
 use Rattle.cf_parse.specs.Spelling.{FirstOp}

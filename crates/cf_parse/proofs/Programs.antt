@@ -9,9 +9,9 @@ use Rattle.cf_tree.specs.declared.base.Edition.{Edition}
 use Rattle.cf_tree.specs.declared.base.Edition.TheVariants.{Two, Three}
 use Rattle.cf_tree.specs.declared.base.Place.{Place}
 use Rattle.cf_tree.specs.declared.raw.Param.{Param}
-use Rattle.cf_tree.specs.RawTree.{RawTree, raw_depth}
+use Rattle.cf_tree.specs.RawTree.{RawTree}
 use Rattle.cf_tree.specs.DefView.{RawDefTree, RawItemTree, item_const, item_def}
-use Rattle.cf_reader.specs.Readers.{at, before, at_end, snoc}
+use Rattle.cf_reader.specs.Readers.{at, at_end, snoc}
 use Rattle.cf_reader.specs.Faults.{IsFaultPlace, IsFaultPlaceOf, place_with_left}
 use Rattle.cf_reader.specs.Tokens.{IsThree, First, Next, Several}
 use Rattle.cf_reader.proofs.Exact.{bind_is, pure_is, must_is, first_is, first_not, at_is, at_not, next_is, name_is, function_is, first_longer, left_over}
@@ -20,8 +20,8 @@ use Rattle.cf_reader.proofs.Near.{Local, pure_local, end_local, any_local, bind_
 use Rattle.cf_reader.proofs.KindLaws.{results_local, results_yields, results_are}
 use Rattle.cf_reader.proofs.Yields.{Yields, yields, faults, Took, pure_yields, widen, bind_yields, must_yields, first_yields, if_some, same_token, took_is, took_next, took_name, took_function}
 use Rattle.cf_parse.specs.declared.tier.Tier.TheVariants.{Whole}
-use Rattle.cf_parse.specs.Spelling.{SpellsParam, Spells}
-use Rattle.cf_parse.specs.Reading.{params_of, read}
+use Rattle.cf_parse.specs.Spelling.{SpellsParam}
+use Rattle.cf_parse.specs.Reading.{params_of}
 use Rattle.cf_parse.specs.Programs.{SpellsParams, SpellsDef, SpellsItem, SpellsAll, SpellsSome, SpellsProgram, IsProgram, SomeProgram, a_three, def_from, const_from, def_of, item_of, items_from, all_items, some_items, program_of}
 use Rattle.cf_parse.proofs.LocalReading.{LocalParts, params_local, read_local}
 use Rattle.cf_parse.proofs.Found.{Finds, params_yields, read_found}

@@ -9,7 +9,7 @@ use Rattle.cf_tree.specs.RawTree.{PartTree}
 use Rattle.cf_tree.specs.RawView.{part_tree}
 use Rattle.cf_target.proofs.Loops.{mapped_more}
 use Rattle.cf_reader.specs.Answers.{StopAnswer}
-use Rattle.cf_reader.specs.Readers.{Got, at, bind, pure, first, snoc}
+use Rattle.cf_reader.specs.Readers.{Got, at, bind, pure, first}
 use Rattle.cf_reader.specs.declared.read_stop.ReadStop.{ReadStop}
 use Rattle.cf_reader.specs.declared.read_stop.ReadStop.TheVariants as stops
 use Rattle.cf_parse.specs.declared.sign.TermSign.{TermSign}

@@ -10,8 +10,8 @@ use Rattle.cf_tree.specs.declared.base.Base.TheVariants.{Int, Bool as BoolBase, 
 use Rattle.cf_tree.specs.declared.base.Order.TheVariants.{Eq, Ne, Lt, Le, Gt, Ge}
 use Rattle.cf_tree.specs.declared.base.Place.{Place}
 use Rattle.cf_tree.specs.declared.base.Sense.TheVariants.{Least, Greatest}
-use Rattle.cf_tree.specs.declared.raw.BinOp.TheVariants.{Add, Sub, Mul, And, Or, Implies, Subset, Compare}
-use Rattle.cf_tree.specs.RawTree.{number_lit, number_name, RawTree, raw_lit, raw_name, raw_group, raw_tuple, raw_neg, raw_abs, raw_binary, raw_chain, raw_min, raw_max, raw_divides, raw_div, raw_mod, raw_card, raw_call, raw_if, raw_let, raw_choose, raw_match, raw_arm, no_raws, raws_of, raw_arms_of, no_given, given_that, no_aim, aim_at}
+use Rattle.cf_tree.specs.declared.raw.BinOp.TheVariants.{Add, Mul, And, Or, Implies, Subset, Compare}
+use Rattle.cf_tree.specs.RawTree.{number_lit, number_name, RawTree, raw_lit, raw_name, raw_group, raw_tuple, raw_neg, raw_abs, raw_binary, raw_chain, raw_min, raw_max, raw_divides, raw_div, raw_mod, raw_card, raw_call, raw_if, raw_let, raw_choose, raw_match, raw_arm, raws_of, raw_arms_of, no_given, given_that, no_aim, aim_at}
 use Rattle.cf_tree.specs.DefView.{RawItemTree, item_const, item_def}
 use Rattle.cf_reader.specs.Readers.{at, pure, refuse, must, bind, first, deep, at_end, more_of, others_of, several_of, one_or_tuple}
 use Rattle.cf_reader.specs.Kinds.{results_of}

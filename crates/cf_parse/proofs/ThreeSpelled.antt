@@ -1,5 +1,5 @@
 -- Worked examples of the productions of edition 3 themselves: what some tokens spell, and what none do.
-use Rattle.std.proofs.Common.{◌≡◌, ℕ, true, false, List, [], ◌∷◌, Some, None, refl, codes, inl, inr, arith}
+use Rattle.std.proofs.Common.{true, List, [], ◌∷◌, Some, refl, codes, inr, arith}
 use Rattle.std.specs.Prelude.{pos}
 use Rattle.cf_tree.specs.declared.base.Edition.TheVariants.{Three}
 use Rattle.cf_lex.specs.declared.token.Token.{Token}
@@ -10,7 +10,7 @@ use Rattle.cf_tree.specs.declared.base.Sense.{Sense}
 use Rattle.cf_tree.specs.declared.base.Sense.TheVariants.{Greatest}
 use Rattle.cf_tree.specs.declared.raw.BinOp.TheVariants.{Implies}
 use Rattle.cf_tree.specs.declared.raw.Param.{Param}
-use Rattle.cf_tree.specs.RawTree.{number_lit, number_name, RawTree, raw_lit, raw_name, raw_binary, raw_chain, raw_min, raw_divides, raw_div, raw_call, raw_choose, raw_let, raw_if, raws_of, no_raws, GivenTree, no_given, given_that, AimTree, no_aim, aim_at}
+use Rattle.cf_tree.specs.RawTree.{number_name, RawTree, raw_lit, raw_name, raw_binary, raw_chain, raw_min, raw_divides, raw_div, raw_call, raw_choose, raw_let, raw_if, raws_of, no_given, given_that, no_aim, aim_at}
 use Rattle.cf_tree.specs.DefView.{item_const}
 use Rattle.cf_reader.proofs.Sample.{here, word, sign, literal}
 use Rattle.cf_parse.specs.declared.sign.TermSign.TheVariants.{Plus}

@@ -1,5 +1,5 @@
 -- Programs, and what the reader of a program answers.
-use Rattle.std.specs.Prelude.{◌≡◌, ◌≤◌, ℕ, zero, suc, pos, List, [], ◌∷◌, length, Option, Some, None, Result, Ok, Err, int_le, codes, if◌then◌else◌}
+use Rattle.std.specs.Prelude.{◌≡◌, ◌≤◌, ℕ, zero, suc, pos, List, [], ◌∷◌, length, Some, None, Result, Ok, Err, int_le, codes, if◌then◌else◌}
 use Rattle.cf_tree.specs.declared.base.Edition.{Edition}
 use Rattle.cf_tree.specs.declared.base.Edition.TheVariants.{Two, Three}
 use Rattle.cf_lex.specs.declared.token.Token.{Token}
@@ -7,7 +7,7 @@ use Rattle.cf_lex.specs.declared.token.TokenKind.TheVariants.{Literal, Word, Sig
 use Rattle.cf_tree.specs.declared.base.Place.{Place}
 use Rattle.cf_tree.specs.declared.raw.Param.{Param}
 use Rattle.cf_tree.specs.declared.raw.Program.{Program}
-use Rattle.cf_tree.specs.RawTree.{RawTree, raw_depth}
+use Rattle.cf_tree.specs.RawTree.{raw_depth}
 use Rattle.cf_tree.specs.DefView.{RawDefTree, RawItemTree, item_const, item_def, program_tree}
 use Rattle.cf_reader.specs.Readers.{Reader, Test, is, a_name, a_function, pure, must, ◌>>=◌, first, at_end, snoc}
 use Rattle.cf_reader.specs.Tokens.{Form, ◌⨟◌, IsThree, If, First, Next, FirstName, NextFunction, AnyNumber, OneOrTuple}

@@ -13,7 +13,7 @@ use Rattle.cf_tree.specs.declared.raw.BinOp.{BinOp}
 use Rattle.cf_tree.specs.declared.raw.BinOp.TheVariants.{Compare}
 use Rattle.cf_tree.specs.declared.raw.Param.{Param}
 use Rattle.cf_tree.specs.RawTree.{NumberTree, number_lit, number_name, PartTree, RawTree, raw_lit, raw_truth, raw_name, raw_set_of, raw_group, raw_tuple, raw_neg, raw_not, raw_abs, raw_binary, raw_chain, raw_min, raw_max, raw_divides, raw_div, raw_mod, raw_card, raw_call, raw_if, raw_let, raw_choose, raw_match, RawArmTree, raw_arm, no_raws, raws_of, raw_arms_of, GivenTree, no_given, given_that, AimTree, no_aim, aim_at, raw_depth}
-use Rattle.cf_reader.specs.Readers.{Reader, Test, is, a_name, a_function, a_literal, pure, must, ◌>>=◌, first, deep, several_of, snoc, one_or_tuple}
+use Rattle.cf_reader.specs.Readers.{Reader, Test, is, a_name, a_literal, pure, must, ◌>>=◌, first, deep, several_of, snoc, one_or_tuple}
 use Rattle.cf_reader.specs.Kinds.{a_base, a_truth}
 use Rattle.cf_reader.specs.Operations.{op_of}
 use Rattle.cf_parse.specs.declared.sign.TermSign.{TermSign}
