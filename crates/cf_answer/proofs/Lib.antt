@@ -49,6 +49,8 @@ pub mod SumLemmas
 pub mod TargetLemmas
 mod TextExamples
 pub mod TextLemmas
+mod ToldExamples
+pub mod ToldLemmas
 pub mod VerifyLemmas
 pub mod WorkloadAccepted
 pub mod WorkloadLaw

@@ -1,0 +1,41 @@
+use Rattle.std.proofs.Common.{map, subst, sym}
+use Rattle.std.proofs.lemmas.Result.{err_from_is_err_and}
+use Rattle.cf_tree.specs.DefView.{def_tree}
+use Rattle.cf_program.specs.Typed.{typed_tree}
+use Rattle.cf_program.specs.declared.linearity.Linearity.TheVariants.{Plain}
+use Rattle.cf_form.specs.FormAnswers.{IsFormOf}
+use Rattle.cf_form.specs.ToldView.{told_choose}
+use Rattle.cf_answer.specs.Sources.{AreToldIn, IsTypedBy, IsLoweredSource}
+use Rattle.cf_answer.proofs.MatchClassLemmas.{told_classes}
+use Rattle.cf_answer.proofs.TextLemmas.{broken_refused}
+use Rattle.cf_answer.proofs.check.checks_in_three.Goals as goal
+
+pub returns-in_err-formed : goal.returns-in_err-formed
+returns-in_err-formed c =
+    let p = err_from_is_err_and c.from_residual.result c.from_residual.ensures.1 in rw (p.1, p.2) (broken_refused _ _ c.in_err-formed.ensures)
+
+pub checks-requires : goal.checks-requires
+checks-requires c =
+    let typed = rw c.typed.ensures at c.main.ensures.typed in
+    told_classes (map def_tree c.in_ok-formed.formed.typed.defs.items) c.in_ok-formed.formed.typed.main _ typed c.in_ok-lowered.ensures.matches
+
+pub returns : goal.returns
+returns c =
+    let f = c.in_ok-formed.ensures in
+    let source = f.2.0 in
+    let typed = c.in_ok-formed.formed.typed in
+    let told = map told_choose c.in_ok-formed.formed.chooses.items in
+    let s : IsLoweredSource c.args.text.now c.in_ok-lowered.lowered = record {
+      typed = typed_tree typed;
+      is = (f.0, f.1, subst (λ e. IsTypedBy e Plain f.0 (typed_tree typed)) (sym c.requires.edition) (source, f.2.1, f.2.2.0));
+      defs = rw c.typed.ensures at c.in_ok-lowered.ensures.defs;
+      matches = rw c.typed.ensures at c.in_ok-lowered.ensures.matches;
+      classes = told_classes (map def_tree typed.defs.items) typed.main _ (rw c.typed.ensures at c.main.ensures.typed) (rw c.typed.ensures at
+          c.in_ok-lowered.ensures.matches);
+    } in (
+      told,
+      (f.0, f.1, subst (λ e. AreToldIn e f.0 told) (sym c.requires.edition) (source, f.2.1, f.2.2.1)),
+      typed_tree typed,
+      s.is,
+      rw c.chooses.ensures at c.in_ok-text.ensures c.args.text.now s,
+    )
