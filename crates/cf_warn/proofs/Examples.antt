@@ -1,11 +1,12 @@
 -- Worked questions of small chooses, their runs, and what these say.
-use Rattle.std.proofs.Common.{◌≡◌, pos, negsuc, refl, [], ◌∷◌, Some, None, arith}
+use Rattle.std.proofs.Common.{◌≡◌, ◌∙◌, ap, sym, pos, negsuc, refl, List, [], ◌∷◌, take, Some, None, arith}
 use Rattle.cf_tree.specs.declared.base.Base.TheVariants.{Int, Bool, Set}
 use Rattle.cf_tree.specs.declared.base.Order.TheVariants.{Eq, Ne, Ge}
 use Rattle.cf_tree.specs.Meaning.{means, peak}
 use Rattle.cf_tree.specs.RelTree.{empty_set, set_var, union_of, inter_of, diff_of, term_lit, term_var, term_card, term_neg, term_add, term_sub, term_mul, term_div, term_mod, term_abs}
 use Rattle.cf_tree.specs.RelTree.{RelTree, rel_true, rel_false, rel_compare, rel_same_set, rel_other_set, rel_subset, rel_divides, rel_and, rel_or, rel_not}
-use Rattle.cf_tree.specs.Values.{number, elements, values, no_solution}
+use Rattle.cf_tree.specs.Relation.{Sol}
+use Rattle.cf_tree.specs.Values.{Value, number, number_of, elements, values, no_solution}
 use Rattle.cf_num.specs.Divisors.{gcd_by, factors_by}
 use Rattle.cf_num.specs.Parts.{parts_of}
 use Rattle.cf_linear.specs.declared.refusal.LimitKind.TheVariants.{Cases}
@@ -160,8 +161,13 @@ unfolding arms arm first_systems disjuncts system_of_case write_atom run run_for
     factors_of merge merge_passes merge_factor last pick searched dropped searched_by bound bound_passes bound_factor gcd_by factors_by parts_of
 three-both = refl
 
+three-first : (xs : List Value) → Sol (Int ∷ Int ∷ []) three [] xs → take 1 xs ≡ number (pos 3) ∷ []
+three-first [] s = absurd s.0
+three-first (v ∷ xs) s = let (z, is) = s.0.0 in ap (λ w. w ∷ []) (is ∙ ap number (sym (ap number_of is) ∙ s.1))
+
 three-and-any : AreUnique [] (Int ∷ Int ∷ []) 1 three
-three-and-any env (number x ∷ xs) (number y ∷ ys) have p q = refl
+three-and-any [] xs ys have p q = three-first xs p ∙ sym (three-first ys q)
+three-and-any (v ∷ vs) xs ys have p q = absurd have
 
 -- ---- subsets of a set
 abbrev parts : RelTree
