@@ -1,8 +1,9 @@
 -- The lines of a choose, by what its number is of.
-use Rattle.std.proofs.Common.{◌≡◌, ◌∙◌, ap, sym, subst, refl, ℕ, Bool, true, false, List, [], ◌∷◌, ◌++◌, length, map, append_assoc, append-nil}
+use Rattle.std.proofs.Common.{◌≡◌, ◌<◌, ◌≤◌, ◌+◌, ◌∙◌, ap, sym, subst, refl, ℕ, Bool, true, false, List, [], ◌∷◌, ◌++◌, length, map, drop, drop_of_length-le, get_or, append_assoc, append-nil}
 use Rattle.std.specs.Prelude.{Contains, Some, None}
 use Rattle.std.specs.List.Sorted.{IsPermutation}
 use Rattle.std.proofs.lemmas.List.Sorted.{Contains-permutation, IsPermutation-sym}
+use Rattle.cf_tree.specs.declared.base.Base.{Base}
 use Rattle.cf_tree.specs.RelView.{rel_tree}
 use Rattle.cf_tree.specs.DefView.{DefTree}
 use Rattle.cf_tree.specs.Params.{names_of}
@@ -22,6 +23,7 @@ use Rattle.cf_answer.specs.Checks.{IsMatch, IsArm, IsOwn, AreLines, of_choose, o
 use Rattle.cf_answer.specs.Checking.{AddsCheck, AddsCheckBehind, AddsTold, AddsCover, AddsExistence, AddsUniqueness}
 use Rattle.cf_answer.specs.ToldChecks.{Asked, named_levels, IsToldExistence, IsToldUniqueness, told_of, is_later_branch}
 use Rattle.cf_form.specs.Told.{ToldChoose}
+use Rattle.cf_cert.proofs.WayLaws.{dropped_one}
 use Rattle.cf_answer.specs.Texts.{numbered_line}
 use Rattle.cf_answer.proofs.LoweredLemmas.{chooses_source}
 
@@ -69,17 +71,23 @@ module _ (s : SolvedChoose) (c : ToldChoose) (old mid new levels : List ℕ) (ar
     asked_same : asked ≡ asked_of q c
     asked_same = let of = h.solved in rw (of.same_scope, of.same_outputs, named_are) refl
 
-  pub told_added : (e : ExistenceAnswer) (u : UniquenessAnswer) → IsToldExistence asked c e → IsToldUniqueness asked c u →
+  -- what is asked, in the words of the code
+  pub told_added : (scope outputs shown : List Base) (ls : List ℕ) (e : ExistenceAnswer) (u : UniquenessAnswer) → scope ≡ s.solved.scope.items →
+      outputs ≡ s.solved.outputs.items → shown ≡ c.outputs → ls ≡ levels →
+      IsToldExistence (record { scope = scope; outputs = outputs; shown = shown; levels = ls }) c e →
+      IsToldUniqueness (record { scope = scope; outputs = outputs; shown = shown; levels = ls }) c u →
       mid ≡ old ++ numbered_line s.choose.number (existence_text (names_at (names_of s.choose.scope.now) levels) e) →
       new ≡ mid ++ numbered_line s.choose.number (uniqueness_text (names_at (names_of s.choose.scope.now) levels) u) → AddsTold s c old new
-  told_added e u e_is u_is first second q h = (
-    e,
-    u,
-    subst (λ a. IsToldExistence a c e) (asked_same q h) e_is,
-    subst (λ a. IsToldUniqueness a c u) (asked_same q h) u_is,
-    second ∙ ap (λ t. t ++ numbered_line s.choose.number (uniqueness_text (names_at (names_of s.choose.scope.now) levels) u)) first
-        ∙ rw (told_existence_same q h e, told_uniqueness_same q h u) (append_assoc old (told_existence_line q c e) (told_uniqueness_line q c u)),
-  )
+  told_added scope outputs shown ls e u same_scope same_outputs same_shown same_levels e_is u_is first second q h =
+      let given : Asked = record { scope = scope; outputs = outputs; shown = shown; levels = ls } in
+      let same : given ≡ asked_of q c = rw (same_scope, same_outputs, same_shown, same_levels) (asked_same q h) in (
+        e,
+        u,
+        subst (λ a. IsToldExistence a c e) same e_is,
+        subst (λ a. IsToldUniqueness a c u) same u_is,
+        second ∙ ap (λ t. t ++ numbered_line s.choose.number (uniqueness_text (names_at (names_of s.choose.scope.now) levels) u)) first
+            ∙ rw (told_existence_same q h e, told_uniqueness_same q h u) (append_assoc old (told_existence_line q c e) (told_uniqueness_line q c u)),
+      )
 
 module _ (matches : List MatchTree) (told : List ToldChoose) (s : SolvedChoose) (old : List ℕ) where
   pub choose_checked : (levels mid new : List ℕ) → levels ≡ parameters s.solved.scope.items (rel_tree s.solved.rel) → AddsExistence s levels old mid →
@@ -138,10 +146,10 @@ IsWalked matches told before qs left text =
     × ((more : List ℕ) → AreChecksBehind matches told before rs more → AreChecksBehind matches told 0 qs (text ++ more))
 
 module _ (matches : List MatchTree) (told : List ToldChoose) (qs : List ChooseTree) where
-  pub walk_start : (ss : List SolvedChoose) → AreSolved qs ss → IsWalked matches told 0 qs ss []
-  walk_start ss h = (qs, h, λ more w. w)
+  pub walk_start : (ss : List SolvedChoose) (text : List ℕ) → text ≡ [] → AreSolved qs ss → IsWalked matches told 0 qs ss text
+  walk_start ss text is h = (qs, h, λ more w. subst (λ t. AreChecksBehind matches told 0 qs (t ++ more)) (sym is) w)
 
-  pub walk_next : (before : ℕ) (s : SolvedChoose) (ss : List SolvedChoose) (text new : List ℕ) → IsWalked matches told before qs (s ∷ ss) text →
+  walk_next : (before : ℕ) (s : SolvedChoose) (ss : List SolvedChoose) (text new : List ℕ) → IsWalked matches told before qs (s ∷ ss) text →
       AddsCheckBehind matches told before s text new → IsWalked matches told s.choose.number qs ss new
   walk_next before s ss text new ([], h, behind) adds = absurd h
   walk_next before s ss text new (q ∷ rs, h, behind) adds =
@@ -152,9 +160,20 @@ module _ (matches : List MatchTree) (told : List ToldChoose) (qs : List ChooseTr
             (behind (first ++ more) (first, more, refl, check, subst (λ n. AreChecksBehind matches told n rs more) (solved_number q s h.0) w)),
       )
 
-  pub walk_done : (before : ℕ) (text : List ℕ) → IsWalked matches told before qs [] text → AreChecksBehind matches told 0 qs text
+  walk_done : (before : ℕ) (text : List ℕ) → IsWalked matches told before qs [] text → AreChecksBehind matches told 0 qs text
   walk_done before text ([], h, behind) = subst (AreChecksBehind matches told 0 qs) (append-nil text) (behind [] refl)
   walk_done before text (q ∷ rs, h, behind) = absurd h
+
+  pub walk_on : (ss : List SolvedChoose) (i before : ℕ) (s : SolvedChoose) (text new : List ℕ) → i < length ss → s ≡ get_or ss i s →
+      IsWalked matches told before qs (drop i ss) text → AddsCheckBehind matches told before s text new →
+      IsWalked matches told s.choose.number qs (drop (i + 1) ss) new
+  walk_on ss i before s text new less is h adds =
+      walk_next before s (drop (i + 1) ss) text new (subst (λ left. IsWalked matches told before qs left text) (dropped_one ss i s less is) h) adds
+
+  pub walk_end : (ss : List SolvedChoose) (i before : ℕ) (text : List ℕ) → length ss ≤ i → IsWalked matches told before qs (drop i ss) text →
+      AreChecksBehind matches told 0 qs text
+  walk_end ss i before text all h =
+      walk_done before text (subst (λ left. IsWalked matches told before qs left text) (drop_of_length-le ss {i = i} all) h)
 
 -- ---- the order of the matches does not matter
 module _ (ms ns : List MatchTree) (told : List ToldChoose) (same : IsPermutation ms ns) where

@@ -1,5 +1,5 @@
 -- Worked examples: what each command owes on the texts of its files.
-use Rattle.std.proofs.Common.{◌≡◌, ◌⊎◌, ◌-◌, ◌^◌, ℕ, ℤ, true, false, Option, Some, None, List, [], ◌∷◌, length, inl, inr, refl, codes}
+use Rattle.std.proofs.Common.{◌≡◌, ◌⊎◌, ◌-◌, ◌^◌, ℕ, ℤ, true, false, List, [], ◌∷◌, length, inl, inr, refl, codes}
 use Rattle.std.specs.Prelude.{negsuc, flat_map}
 use Rattle.std.specs.Fmt.{digits}
 use Rattle.cf_gen.specs.Workload.{gen_source, gen_lines}

@@ -1,5 +1,5 @@
 -- Worked examples of what `check` asks of a choose that is told of, and tells of it.
-use Rattle.std.proofs.Common.{◌≡◌, refl, pos, negsuc, Bool, true, false, Some, None, List, [], ◌∷◌, Vec, Global, codes}
+use Rattle.std.proofs.Common.{◌≡◌, refl, pos, negsuc, true, false, Some, None, [], ◌∷◌, Vec, Global, codes}
 use Rattle.std.specs.Fmt.{digits}
 use Rattle.cf_tree.specs.declared.base.Base.TheVariants.{Int, Bool as Truth, Set}
 use Rattle.cf_tree.specs.declared.base.Order.TheVariants.{Eq, Ge}
@@ -13,7 +13,7 @@ use Rattle.cf_warn.specs.declared.answer.Doubt.TheVariants.{Overflow}
 use Rattle.cf_warn.specs.declared.answer.ExistenceAnswer.TheVariants as existence
 use Rattle.cf_warn.specs.declared.answer.UniquenessAnswer.TheVariants as uniqueness
 use Rattle.cf_answer.specs.Checks.{AreLinesBy, told_existence_line, told_uniqueness_line}
-use Rattle.cf_answer.specs.ToldChecks.{Asked, IsBranchExistence, IsToldExistence, existence_question, named_levels, named_sample, shown_values, first_existence, first_uniqueness, NamesExistence, NamesUniqueness, told_of, is_later_branch}
+use Rattle.cf_answer.specs.ToldChecks.{Asked, IsBranchExistence, IsToldExistence, existence_question, named_levels, named_sample, shown_values, first_existence, first_uniqueness, told_of, is_later_branch}
 
 -- x == a, where p, a and b are in scope
 abbrev same : RelTree

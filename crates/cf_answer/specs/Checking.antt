@@ -8,6 +8,8 @@ use Rattle.cf_match.specs.declared.lowered.MatchInfo.{MatchInfo}
 use Rattle.cf_tree.specs.Params.{names_of}
 use Rattle.cf_tree.specs.ChooseTree.{ChooseTree}
 use Rattle.cf_tree.specs.Values.{Value}
+use Rattle.cf_choose.specs.declared.fault.ChooseFault.{ChooseFault}
+use Rattle.cf_choose.specs.declared.fault.ChooseFault.TheVariants as faults
 use Rattle.cf_choose.specs.declared.solved.SolvedParts.{SolvedParts}
 use Rattle.cf_form.specs.Told.{ToldChoose}
 use Rattle.cf_form.specs.ToldView.{told_choose, truth_at}
@@ -17,8 +19,11 @@ use Rattle.cf_build.specs.declared.solves.SolvedChoose.{SolvedChoose}
 use Rattle.cf_warn.specs.Classes.{AreClasses}
 use Rattle.cf_warn.specs.Covers.{IsCover}
 use Rattle.cf_warn.specs.Verdicts.{IsExistence, IsUniqueness}
+use Rattle.cf_warn.specs.declared.answer.Doubt.TheVariants.{Refused}
 use Rattle.cf_warn.specs.declared.answer.ExistenceAnswer.{ExistenceAnswer}
+use Rattle.cf_warn.specs.declared.answer.ExistenceAnswer.TheVariants as existence
 use Rattle.cf_warn.specs.declared.answer.UniquenessAnswer.{UniquenessAnswer}
+use Rattle.cf_warn.specs.declared.answer.UniquenessAnswer.TheVariants as uniqueness
 use Rattle.cf_warn.specs.declared.coverage.Cover.{Cover}
 use Rattle.cf_answer.specs.Checks.{IsMatch, IsArm, IsOwn, AreLines, IsCheckBehind, asked_of, cover_line, told_existence_line, told_uniqueness_line, existence_text, names_at, uniqueness_text}
 use Rattle.cf_answer.specs.Texts.{numbered_line}
@@ -87,6 +92,15 @@ IsExistenceOf s e = IsExistence s.scope.items s.outputs.items (rel_tree s.rel) e
 
 abbrev pub IsUniquenessOf : SolvedParts → ℕ → UniquenessAnswer → Type 0
 IsUniquenessOf s shown u = IsUniqueness s.scope.items s.outputs.items shown (rel_tree s.rel) u
+
+-- that a question which is refused is not decided
+abbrev pub IsRefusedExistence : ChooseFault → ExistenceAnswer → Type 0
+IsRefusedExistence (faults.Refused r) e = e ≡ existence.Undecided (Refused r)
+IsRefusedExistence faults.NoMemory e = ⊥
+
+abbrev pub IsRefusedUniqueness : ChooseFault → UniquenessAnswer → Type 0
+IsRefusedUniqueness (faults.Refused r) u = u ≡ uniqueness.Undecided (Refused r)
+IsRefusedUniqueness faults.NoMemory u = ⊥
 
 -- what a sample of it names in a branch
 abbrev pub named_by : DeclaredAsked → List TruthAt → SolvedParts → List Value → List Value

@@ -1,5 +1,5 @@
 -- What `check` asks of a choose that is told of, branch by branch, and what the answers of its branches come to.
-use Rattle.std.specs.Prelude.{ℕ, ℤ, pos, int_lt, ◌≡◌, ◌==◌, Bool, true, false, ◌&&◌, ◌||◌, Option, Some, None, if◌then◌else◌, List, [], ◌∷◌, length, map, filter}
+use Rattle.std.specs.Prelude.{ℕ, pos, int_lt, ◌≡◌, ◌==◌, Bool, false, ◌&&◌, ◌||◌, Option, Some, None, if◌then◌else◌, List, [], ◌∷◌, length, map, filter}
 use Rattle.std.specs.List.{range_with_len}
 use Rattle.cf_tree.specs.declared.base.Base.{Base}
 use Rattle.cf_tree.specs.declared.base.Base.TheVariants.{Int, Bool as Truth, Set}

@@ -257,7 +257,6 @@ fn is_later_branch(told: &[ChooseInfo], before: u32, number: u32) -> bool
 }
 
 // The lines of solved chooses in order.
-#[tactic(auto, using(crate::proofs::CheckLemmas::walk_start, crate::proofs::CheckLemmas::walk_next, crate::proofs::CheckLemmas::walk_done))]
 fn check_each(
     alloc: Global,
     matches: &Matches<'_>,
@@ -270,11 +269,9 @@ fn check_each(
 {
     let mut text = Vec::new(alloc);
     let mut before: u32 = 0;
-    let mut rest = chooses;
-    while let Some((choose, more)) = rest.split_first() {
+    for choose in chooses {
         check_next(alloc, matches, told, before, choose, &mut text)?;
         before = choose.choose.number;
-        rest = more;
     }
     Ok(text)
 }

@@ -16,12 +16,13 @@ ghost use Rattle.cf_answer.specs.ToldChecks.{first_existence as first_existence_
 ghost use Rattle.cf_answer.specs.ToldChecks.{is_told as is_told_of, named_levels as named_levels_of};
 ghost use Rattle.cf_answer.specs.ToldChecks.{shown_value as shown_value_of, shown_values as shown_values_of, some_condition_holds as some_condition_holds_of};
 ghost use Rattle.cf_answer.specs.ToldChecks.{told_of as the_told_of, truth_or};
-ghost use Rattle.cf_answer.specs.Checking.{IsExistenceOf, IsUniquenessOf, asked_view, named_by, telling_view};
+ghost use Rattle.cf_answer.specs.Checking.{IsExistenceOf, IsRefusedExistence, IsRefusedUniqueness, IsUniquenessOf, asked_view, named_by, telling_view};
 
 use cf_choose::{ChooseFault, Solved, solve};
 use cf_eval::Value;
 use cf_form::{Branch, ChooseInfo, TruthAt};
 use cf_set::Set;
+use cf_setwit::push_if;
 use cf_tree::{Base, NoMemory, Rel, to_u32, without};
 use cf_warn::{
     Doubt, ExistenceAnswer, UniquenessAnswer, existence, is_over, parameters, rel_holds, uniqueness,
@@ -86,9 +87,7 @@ pub(crate) fn named_levels(
     let end = to_u32(scope)?;
     let mut levels = Vec::new(alloc);
     for level in 0..end {
-        if is_named(told, level) {
-            levels.push(level)?;
-        }
+        push_if(&mut levels, is_named(told, level), level)?;
     }
     Ok(levels)
 }
@@ -307,7 +306,6 @@ fn solved_over(alloc: Global, asked: &Asked<'_>, rel: &Rel) -> Result<Solved, Ch
 }
 
 // Whether each input for which the condition holds has a solution in this branch.
-#[tactic(auto, using(crate::proofs::ToldLemmas::existence_solved, crate::proofs::ToldLemmas::existence_refused))]
 fn branch_existence(
     alloc: Global,
     asked: &Asked<'_>,
@@ -321,10 +319,16 @@ fn branch_existence(
     drop(rel);
     match solved {
         Ok(solved) => named_existence(alloc, asked, &branch.truths, &solved),
-        Err(ChooseFault::Refused(refusal)) => {
-            Ok(ExistenceAnswer::Undecided(Doubt::Refused(refusal)))
-        }
-        Err(ChooseFault::NoMemory) => Err(NoMemory),
+        Err(fault) => refused_existence(fault),
+    }
+}
+
+fn refused_existence(fault: ChooseFault) -> Result<ExistenceAnswer, NoMemory>
+    ensures { IfOk result (IsRefusedExistence fault) }
+{
+    match fault {
+        ChooseFault::Refused(refusal) => Ok(ExistenceAnswer::Undecided(Doubt::Refused(refusal))),
+        ChooseFault::NoMemory => Err(NoMemory),
     }
 }
 
@@ -350,7 +354,6 @@ fn named_existence(
 }
 
 // Whether two solutions of this branch never differ in what is given out.
-#[tactic(auto, using(crate::proofs::ToldLemmas::uniqueness_solved, crate::proofs::ToldLemmas::uniqueness_refused))]
 fn branch_uniqueness(
     alloc: Global,
     asked: &Asked<'_>,
@@ -361,10 +364,16 @@ fn branch_uniqueness(
 {
     match solved_over(alloc, asked, &branch.relation) {
         Ok(solved) => named_uniqueness(alloc, asked, &branch.truths, &solved),
-        Err(ChooseFault::Refused(refusal)) => {
-            Ok(UniquenessAnswer::Undecided(Doubt::Refused(refusal)))
-        }
-        Err(ChooseFault::NoMemory) => Err(NoMemory),
+        Err(fault) => refused_uniqueness(fault),
+    }
+}
+
+fn refused_uniqueness(fault: ChooseFault) -> Result<UniquenessAnswer, NoMemory>
+    ensures { IfOk result (IsRefusedUniqueness fault) }
+{
+    match fault {
+        ChooseFault::Refused(refusal) => Ok(UniquenessAnswer::Undecided(Doubt::Refused(refusal))),
+        ChooseFault::NoMemory => Err(NoMemory),
     }
 }
 

@@ -1,4 +1,4 @@
-use Rattle.std.proofs.Common.{List, map, length}
+use Rattle.std.proofs.Common.{List, map, drop}
 use Rattle.cf_form.specs.ToldView.{told_choose}
 use Rattle.cf_match.specs.Matches.{match_tree}
 use Rattle.cf_tree.specs.ChooseTree.{ChooseTree}
@@ -8,7 +8,5 @@ use Rattle.cf_answer.proofs.check.check_each.Given as goal
 
 abbrev pub invariant-loop-choose : goal.invariant-loop-choose
 invariant-loop-choose l =
-    (qs : List ChooseTree) → AreSolved qs l.chooses → IsWalked (map match_tree l.matches.infos.now) (map told_choose l.told) l.before qs l.rest l.text.items
-
-abbrev pub decreases-loop-choose : goal.decreases-loop-choose
-decreases-loop-choose l = length l.rest
+    (qs : List ChooseTree) → AreSolved qs l.chooses →
+    IsWalked (map match_tree l.matches.infos.now) (map told_choose l.told) l.before qs (drop l.choose-index l.chooses) l.text.items

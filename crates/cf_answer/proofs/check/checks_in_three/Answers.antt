@@ -3,7 +3,6 @@ use Rattle.std.proofs.lemmas.Result.{err_from_is_err_and}
 use Rattle.cf_tree.specs.DefView.{def_tree}
 use Rattle.cf_program.specs.Typed.{typed_tree}
 use Rattle.cf_program.specs.declared.linearity.Linearity.TheVariants.{Plain}
-use Rattle.cf_form.specs.FormAnswers.{IsFormOf}
 use Rattle.cf_form.specs.ToldView.{told_choose}
 use Rattle.cf_answer.specs.Sources.{AreToldIn, IsTypedBy, IsLoweredSource}
 use Rattle.cf_answer.proofs.MatchClassLemmas.{told_classes}
@@ -16,8 +15,25 @@ returns-in_err-formed c =
 
 pub checks-requires : goal.checks-requires
 checks-requires c =
-    let typed = rw c.typed.ensures at c.main.ensures.typed in
-    told_classes (map def_tree c.in_ok-formed.formed.typed.defs.items) c.in_ok-formed.formed.typed.main _ typed c.in_ok-lowered.ensures.matches
+    let typed = rw c.typed-typed.ensures at c.main.ensures.typed in
+    let matches = rw c.typed-typed.ensures at c.in_ok-lowered.ensures.matches in
+    told_classes (map def_tree c.in_ok-formed.formed.typed.defs.items) c.in_ok-formed.formed.typed.main _ typed matches
+
+pub returns-in_err-text : goal.returns-in_err-text
+returns-in_err-text c =
+    let p = err_from_is_err_and c.from_residual-in_err-text.result c.from_residual-in_err-text.ensures.1 in
+    let f = c.in_ok-formed.ensures in
+    let source = f.2.0 in
+    let typed = c.in_ok-formed.formed.typed in
+    let s : IsLoweredSource c.args.text.now c.in_ok-lowered.lowered = record {
+      typed = typed_tree typed;
+      is = (f.0, f.1, subst (λ e. IsTypedBy e Plain f.0 (typed_tree typed)) (sym c.requires.edition) (source, f.2.1, f.2.2.0));
+      defs = rw c.typed-typed.ensures at c.in_ok-lowered.ensures.defs;
+      matches = rw c.typed-typed.ensures at c.in_ok-lowered.ensures.matches;
+      classes = told_classes (map def_tree typed.defs.items) typed.main _ (rw c.typed-typed.ensures at c.main.ensures.typed) (rw c.typed-typed.ensures at
+          c.in_ok-lowered.ensures.matches);
+    } in
+    rw (p.1, p.2) (c.in_err-text.ensures c.args.text.now s)
 
 pub returns : goal.returns
 returns c =
@@ -28,9 +44,9 @@ returns c =
     let s : IsLoweredSource c.args.text.now c.in_ok-lowered.lowered = record {
       typed = typed_tree typed;
       is = (f.0, f.1, subst (λ e. IsTypedBy e Plain f.0 (typed_tree typed)) (sym c.requires.edition) (source, f.2.1, f.2.2.0));
-      defs = rw c.typed.ensures at c.in_ok-lowered.ensures.defs;
-      matches = rw c.typed.ensures at c.in_ok-lowered.ensures.matches;
-      classes = told_classes (map def_tree typed.defs.items) typed.main _ (rw c.typed.ensures at c.main.ensures.typed) (rw c.typed.ensures at
+      defs = rw c.typed-typed.ensures at c.in_ok-lowered.ensures.defs;
+      matches = rw c.typed-typed.ensures at c.in_ok-lowered.ensures.matches;
+      classes = told_classes (map def_tree typed.defs.items) typed.main _ (rw c.typed-typed.ensures at c.main.ensures.typed) (rw c.typed-typed.ensures at
           c.in_ok-lowered.ensures.matches);
     } in (
       told,

@@ -11,6 +11,11 @@ returns-in_err-lowered c =
 pub checks-requires : goal.checks-requires
 checks-requires c = c.in_ok-lowered.ensures.classes
 
+pub returns-in_err-text : goal.returns-in_err-text
+returns-in_err-text c =
+    let p = err_from_is_err_and c.from_residual-in_err-text.result c.from_residual-in_err-text.ensures.1 in
+    rw (p.1, p.2) (c.in_err-text.ensures c.args.text.now c.in_ok-lowered.ensures)
+
 pub returns : goal.returns
 returns c =
     let s = c.in_ok-lowered.ensures in (

@@ -1,4 +1,5 @@
-use Rattle.std.proofs.Common.{◌≡◌, ◌++◌, length, map}
+use Rattle.std.proofs.Common.{◌≡◌, ◌++◌, ℕ, length, map}
+use Rattle.cf_tree.specs.Values.{Value}
 use Rattle.cf_eval.specs.Seen.{plains}
 use Rattle.cf_form.specs.Branches.{values_in}
 use Rattle.cf_form.specs.ToldView.{truth_at}
@@ -11,5 +12,5 @@ decreases-loop-level l = length l.rest
 
 abbrev pub invariant-loop-level : goal.invariant-loop-level
 invariant-loop-level l =
-    let value = λ x. truth_or (values_in (map truth_at l.truths) x) (beside l.params (plains l.sample) x (at_rest (base_at l.asked.scope.now x))) in
+    let value : ℕ → Value = λ x. truth_or (values_in (map truth_at l.truths) x) (beside l.params (plains l.sample) x (at_rest (base_at l.asked.scope.now x))) in
     plains l.values.items ++ map value l.rest ≡ map value l.asked.levels.now
