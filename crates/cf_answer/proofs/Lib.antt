@@ -16,6 +16,7 @@ mod EndExamples
 mod Examples
 pub mod FaultLemmas
 pub mod FileLemmas
+pub mod FormedLemmas
 mod LateExamples
 pub mod LateLemmas
 mod LimitExamples

@@ -1,10 +1,9 @@
 use Rattle.std.proofs.Common.{map, subst, sym}
 use Rattle.std.proofs.lemmas.Result.{err_from_is_err_and}
 use Rattle.cf_tree.specs.DefView.{def_tree}
-use Rattle.cf_program.specs.Typed.{typed_tree}
-use Rattle.cf_program.specs.declared.linearity.Linearity.TheVariants.{Plain}
 use Rattle.cf_form.specs.ToldView.{told_choose}
-use Rattle.cf_answer.specs.Sources.{AreToldIn, IsTypedBy, IsLoweredSource}
+use Rattle.cf_answer.specs.Sources.{AreToldIn}
+use Rattle.cf_answer.proofs.FormedLemmas.{formed_lowered}
 use Rattle.cf_answer.proofs.MatchClassLemmas.{told_classes}
 use Rattle.cf_answer.proofs.TextLemmas.{broken_refused}
 use Rattle.cf_answer.proofs.check.checks_in_three.Goals as goal
@@ -22,36 +21,23 @@ checks-requires c =
 pub returns-in_err-text : goal.returns-in_err-text
 returns-in_err-text c =
     let p = err_from_is_err_and c.from_residual-in_err-text.result c.from_residual-in_err-text.ensures.1 in
-    let f = c.in_ok-formed.ensures in
-    let source = f.2.0 in
-    let typed = c.in_ok-formed.formed.typed in
-    let s : IsLoweredSource c.args.text.now c.in_ok-lowered.lowered = record {
-      typed = typed_tree typed;
-      is = (f.0, f.1, subst (λ e. IsTypedBy e Plain f.0 (typed_tree typed)) (sym c.requires.edition) (source, f.2.1, f.2.2.0));
-      defs = rw c.typed-typed.ensures at c.in_ok-lowered.ensures.defs;
-      matches = rw c.typed-typed.ensures at c.in_ok-lowered.ensures.matches;
-      classes = told_classes (map def_tree typed.defs.items) typed.main _ (rw c.typed-typed.ensures at c.main.ensures.typed) (rw c.typed-typed.ensures at
-          c.in_ok-lowered.ensures.matches);
-    } in
+    let typed = rw c.typed-typed.ensures at c.main.ensures.typed in
+    let defs = rw c.typed-typed.ensures at c.in_ok-lowered.ensures.defs in
+    let matches = rw c.typed-typed.ensures at c.in_ok-lowered.ensures.matches in
+    let s = formed_lowered c.args.text.now c.in_ok-formed.formed c.in_ok-lowered.lowered c.requires.edition c.in_ok-formed.ensures typed defs matches in
     rw (p.1, p.2) (c.in_err-text.ensures c.args.text.now s)
 
 pub returns : goal.returns
 returns c =
+    let typed = rw c.typed-typed.ensures at c.main.ensures.typed in
+    let defs = rw c.typed-typed.ensures at c.in_ok-lowered.ensures.defs in
+    let matches = rw c.typed-typed.ensures at c.in_ok-lowered.ensures.matches in
+    let s = formed_lowered c.args.text.now c.in_ok-formed.formed c.in_ok-lowered.lowered c.requires.edition c.in_ok-formed.ensures typed defs matches in
     let f = c.in_ok-formed.ensures in
-    let source = f.2.0 in
-    let typed = c.in_ok-formed.formed.typed in
-    let told = map told_choose c.in_ok-formed.formed.chooses.items in
-    let s : IsLoweredSource c.args.text.now c.in_ok-lowered.lowered = record {
-      typed = typed_tree typed;
-      is = (f.0, f.1, subst (λ e. IsTypedBy e Plain f.0 (typed_tree typed)) (sym c.requires.edition) (source, f.2.1, f.2.2.0));
-      defs = rw c.typed-typed.ensures at c.in_ok-lowered.ensures.defs;
-      matches = rw c.typed-typed.ensures at c.in_ok-lowered.ensures.matches;
-      classes = told_classes (map def_tree typed.defs.items) typed.main _ (rw c.typed-typed.ensures at c.main.ensures.typed) (rw c.typed-typed.ensures at
-          c.in_ok-lowered.ensures.matches);
-    } in (
+    let told = map told_choose c.in_ok-formed.formed.chooses.items in (
       told,
-      (f.0, f.1, subst (λ e. AreToldIn e f.0 told) (sym c.requires.edition) (source, f.2.1, f.2.2.1)),
-      typed_tree typed,
+      (f.0, f.1, subst (λ e. AreToldIn e f.0 told) (sym c.requires.edition) (f.2.0, f.2.1, f.2.2.1)),
+      s.typed,
       s.is,
       rw c.chooses.ensures at c.in_ok-text.ensures c.args.text.now s,
     )
