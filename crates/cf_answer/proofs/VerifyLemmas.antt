@@ -9,7 +9,7 @@ use Rattle.cf_io.specs.Seen.{ShelfSeen}
 use Rattle.cf_pass.specs.Passes.{Told}
 use Rattle.cf_words.specs.Commands.{verify}
 use Rattle.cf_answer.specs.Ends.{Job, Ends, Does, AnswersOn, AreFetched, source_alone, steps_too}
-use Rattle.cf_answer.specs.Limits.{text_limit}
+use Rattle.cf_answer.specs.Limits.{input_most, text_limit}
 use Rattle.cf_answer.specs.Outside.{Outside, AreTold, Counts, IsSparing, IsFrugal}
 use Rattle.cf_answer.specs.Owed.{Owes}
 use Rattle.cf_answer.specs.Refusals.{too_long, IsBrokenSource, IsUnverified, bad_source, bad_steps, bad_blocks}
@@ -53,9 +53,9 @@ module _ (file steps : List ℕ) (given : List Told) where
   steps_among = search rules
 
   -- one file was fetched, or both
-  one_frugal : (before after : Outside) → IsFetched file before.shelf after.shelf → IsSparing before.streams.input after.streams.input →
-      IsFrugal (file ∷ steps ∷ []) before after
-  one_frugal before after f input = record {
+  one_frugal : (most : Option ℕ) (before after : Outside) → IsFetched file before.shelf after.shelf →
+      IsSparing most before.streams.input after.streams.input → IsFrugal most (file ∷ steps ∷ []) before after
+  one_frugal most before after f input = record {
     fetches = omega (arith, f.fetched);
     given = omega (arith, f.given);
     ends = omega (arith, f.ends);
@@ -63,9 +63,9 @@ module _ (file steps : List ℕ) (given : List Told) where
     input = input;
   }
 
-  two_frugal : (before after : Outside) (mid : ShelfSeen) → IsFetched file before.shelf mid → IsFetched steps mid after.shelf →
-      IsSparing before.streams.input after.streams.input → IsFrugal (file ∷ steps ∷ []) before after
-  two_frugal before after mid f s input = record {
+  two_frugal : (most : Option ℕ) (before after : Outside) (mid : ShelfSeen) → IsFetched file before.shelf mid → IsFetched steps mid after.shelf →
+      IsSparing most before.streams.input after.streams.input → IsFrugal most (file ∷ steps ∷ []) before after
+  two_frugal most before after mid f s input = record {
     fetches = omega (arith, f.fetched, s.fetched);
     given = omega (arith, f.given, s.given);
     ends = omega (arith, f.ends, s.ends);
@@ -82,7 +82,7 @@ module _ (file steps : List ℕ) (given : List Told) where
   -- no file failed
   ended_does : (before after : Outside) (source text : List ℕ) (answer : Result (Unit {0}) Fault) →
       AreTold (before.shelf.texts file) source → AreTold (before.shelf.texts steps) text → Ends (job_on source text) before.streams after.streams answer →
-      IsFrugal (file ∷ steps ∷ []) before after →
+      IsFrugal (input_most (source ∷ text ∷ [])) (file ∷ steps ∷ []) before after →
       NoneFailed before.shelf after.shelf → (answer ≡ Err fault.File → ⊥) →
       Counts (answer ≡ Err fault.Input) before.streams.input.faults after.streams.input.faults →
       Counts (answer ≡ Err fault.Output) before.streams.out.faults after.streams.out.faults → Verifies before after answer
@@ -97,7 +97,8 @@ module _ (file steps : List ℕ) (given : List Told) where
   }
 
   -- a file failed
-  failed_does : (before after : Outside) (name : List ℕ) → Contains (file ∷ steps ∷ []) name → IsFrugal (file ∷ steps ∷ []) before after →
+  failed_does : (before after : Outside) (name : List ℕ) → Contains (file ∷ steps ∷ []) name →
+      IsFrugal (input_most (left_of (before.shelf.texts file) ∷ left_of (before.shelf.texts steps) ∷ [])) (file ∷ steps ∷ []) before after →
       Untouched before after → Rose (before.shelf.faults name) (after.shelf.faults name) →
       ((other : List ℕ) → after.shelf.faults other ≤ one_more (before.shelf.faults other)) → Verifies before after (Err fault.File)
   failed_does before after name among frugal none rose once = record {
@@ -118,7 +119,8 @@ module _ (file steps : List ℕ) (given : List Told) where
 
   -- a fault that names no object
   inner_does : (before after : Outside) (source text : List ℕ) (f : Fault) → AreTold (before.shelf.texts file) source → AreTold (before.shelf.texts steps) text →
-      Ends (job_on source text) before.streams after.streams (Err f) → IsFrugal (file ∷ steps ∷ []) before after → Untouched before after →
+      Ends (job_on source text) before.streams after.streams (Err f) →
+      IsFrugal (input_most (source ∷ text ∷ [])) (file ∷ steps ∷ []) before after → Untouched before after →
       NoneFailed before.shelf after.shelf → (failed f ≡ Err fault.File → ⊥) → (failed f ≡ Err fault.Input → ⊥) → (failed f ≡ Err fault.Output → ⊥) →
       Verifies before after (Err f)
   inner_does before after source text f s t ends frugal none same not_file not_input not_out =
@@ -126,7 +128,7 @@ module _ (file steps : List ℕ) (given : List Told) where
       (no_out_fault before after none not_out)
 
   refused_does : (before after : Outside) (source text : List ℕ) (f : Fault) → AreTold (before.shelf.texts file) source → AreTold (before.shelf.texts steps) text →
-      IsUnverified source text f → IsFrugal (file ∷ steps ∷ []) before after → Untouched before after → NoneFailed before.shelf after.shelf →
+      IsUnverified source text f → IsFrugal (input_most (source ∷ text ∷ [])) (file ∷ steps ∷ []) before after → Untouched before after → NoneFailed before.shelf after.shelf →
       Verifies before after (Err f)
   refused_does before after source text f s t h frugal none same =
       let is : IsTextFault f = refused_fault (verify file steps) (source ∷ text ∷ []) f h in
@@ -135,7 +137,8 @@ module _ (file steps : List ℕ) (given : List Told) where
       (λ e. let this : f ≡ fault.File = cc in subst IsTextFault this is) (λ e. let this : f ≡ fault.Input = cc in subst IsTextFault this is)
       (λ e. let this : f ≡ fault.Output = cc in subst IsTextFault this is)
 
-  memory_does : (before after : Outside) → IsFrugal (file ∷ steps ∷ []) before after → Untouched before after → NoneFailed before.shelf after.shelf →
+  memory_does : (before after : Outside) →
+      IsFrugal (input_most (left_of (before.shelf.texts file) ∷ left_of (before.shelf.texts steps) ∷ [])) (file ∷ steps ∷ []) before after → Untouched before after → NoneFailed before.shelf after.shelf →
       Verifies before after (Err fault.NoMemory)
   memory_does before after frugal none same =
       inner_does before after (left_of (before.shelf.texts file)) (left_of (before.shelf.texts steps)) fault.NoMemory (left_told (before.shelf.texts file))
@@ -147,20 +150,20 @@ module _ (file steps : List ℕ) (given : List Told) where
       IsSourceFault file before.shelf after.shelf f → Verifies before after (Err f)
   source_does before after f fetched none (file_failed is rose) =
       subst (λ g. Verifies before after (Err g)) (sym is)
-      (failed_does before after file file_among (one_frugal before after fetched (none_read before after none)) none rose fetched.once)
+      (failed_does before after file file_among (one_frugal _ before after fetched (none_read _ before after none)) none rose fetched.once)
   source_does before after f fetched none (broken_file (text, told, broken) same) =
       refused_does before after text (left_of (before.shelf.texts steps)) f told (left_told (before.shelf.texts steps)) (bad_source f broken)
-      (one_frugal before after fetched (none_read before after none)) none same
+      (one_frugal _ before after fetched (none_read _ before after none)) none same
   source_does before after f fetched none (no_room is same) =
       subst (λ g. Verifies before after (Err g)) (sym is)
-      (memory_does before after (one_frugal before after fetched (none_read before after none)) none same)
+      (memory_does before after (one_frugal _ before after fetched (none_read _ before after none)) none same)
 
   module _ (before after : Outside) (mid : ShelfSeen) (first : IsFetched file before.shelf mid) (sound : NoneFailed before.shelf mid)
       (second : IsFetched steps mid after.shelf) where
     -- the steps file failed
     pub steps_fail : Untouched before after → Rose (mid.faults steps) (after.shelf.faults steps) → Verifies before after (Err fault.File)
     steps_fail none rose =
-        failed_does before after steps steps_among (two_frugal before after mid first second (none_read before after none)) none
+        failed_does before after steps steps_among (two_frugal _ before after mid first second (none_read _ before after none)) none
         (subst (λ n. Rose n (after.shelf.faults steps)) (sound steps) rose)
         (λ other. subst (λ n. after.shelf.faults other ≤ one_more n) (sound other) (second.once other))
 
@@ -174,18 +177,18 @@ module _ (file steps : List ℕ) (given : List Told) where
     long_does none same source typed told is long =
         let text = long_text (before.shelf.texts steps) long in
         refused_does before after source text.0 (fault.Steps steps_fault.TooLong) told text.1 (bad_steps typed steps_fault.TooLong is (too_long text.2))
-        (two_frugal before after mid first second (none_read before after none)) none (both_sound same)
+        (two_frugal _ before after mid first second (none_read _ before after none)) none (both_sound same)
 
     pub no_memory_does : Untouched before after → NoneFailed mid after.shelf → Verifies before after (Err fault.NoMemory)
     no_memory_does none same =
-        memory_does before after (two_frugal before after mid first second (none_read before after none)) none (both_sound same)
+        memory_does before after (two_frugal _ before after mid first second (none_read _ before after none)) none (both_sound same)
 
     -- its text is checked
     pub checked_does : (source text : List ℕ) (answer : Result (Unit {0}) Fault) → AreTold (before.shelf.texts file) source → AreTold (before.shelf.texts steps) text →
         AnswersOn (verify file steps) given given (source ∷ text ∷ []) before.streams after.streams answer → NoneFailed mid after.shelf →
         Verifies before after answer
     checked_does source text answer s t h same =
-        ended_does before after source text answer s t h.ends (two_frugal before after mid first second h.sparing) (both_sound same) h.not_file h.input h.out
+        ended_does before after source text answer s t h.ends (two_frugal _ before after mid first second h.sparing) (both_sound same) h.not_file h.input h.out
 
 -- ---- which file was read
 broken_text : (source : List ℕ) (f : Fault) → IsBrokenSource source f → IsTextFault f

@@ -27,22 +27,22 @@ abbrev one_file : List (List ℕ)
 one_file = codes "1" ∷ []
 
 -- ---- the bound of an input
-short-at_the_limit : (bytes : List ℕ) → length bytes ≡ 16777216 → IsShort true (Some bytes)
+short-at_the_limit : (bytes : List ℕ) → length bytes ≡ 16777216 → IsShort (Some input_limit) true (Some bytes)
 unfolding input_limit
 short-at_the_limit bytes e = (bytes, refl, omega (arith, e))
 
 same-input : (b c : List ℕ) → Some b ≡ Some c → b ≡ c
 same-input b c e = cc e
 
-not-short_past_the_limit : (bytes : List ℕ) → length bytes ≡ 16777217 → IsShort true (Some bytes) → ⊥
+not-short_past_the_limit : (bytes : List ℕ) → length bytes ≡ 16777217 → IsShort (Some input_limit) true (Some bytes) → ⊥
 unfolding input_limit
 not-short_past_the_limit bytes e h = omega (arith, e, ap length (same-input bytes h.0 h.1), h.2)
 
-long-past_the_limit : (bytes : List ℕ) → length bytes ≡ 16777217 → IsLong true (Some bytes)
+long-past_the_limit : (bytes : List ℕ) → length bytes ≡ 16777217 → IsLong (Some input_limit) true (Some bytes)
 unfolding input_limit
 long-past_the_limit bytes e = (bytes, refl, omega (arith, e))
 
-not-long_at_the_limit : (bytes : List ℕ) → length bytes ≡ 16777216 → IsLong true (Some bytes) → ⊥
+not-long_at_the_limit : (bytes : List ℕ) → length bytes ≡ 16777216 → IsLong (Some input_limit) true (Some bytes) → ⊥
 unfolding input_limit
 not-long_at_the_limit bytes e h = omega (arith, e, ap length (same-input bytes h.0 h.1), h.2)
 
@@ -92,7 +92,7 @@ module _ (accepted : IsAccepted compiles one_file) where
 
 -- `run` on a short input is done, and on a long one that is told
 module _ (accepted : IsAccepted runs one_file) where
-  short-done : IsShort true (Some (codes "1\n")) → IsComplete runs one_file (Some (codes "1\n")) InputLong → ⊥
+  short-done : IsShort (Some input_limit) true (Some (codes "1\n")) → IsComplete runs one_file (Some (codes "1\n")) InputLong → ⊥
   short-done short c = no (c.done accepted (λ e. cc e) (λ e. cc e) short)
     where
       no : (InputLong ≡ Done) ⊎ (InputLong ≡ NoMemory) → ⊥
@@ -141,7 +141,7 @@ completes-by_its_text : Refuses compiles one_file fault.TextTooLong → Complete
 completes-by_its_text r c = one-of Done ((c one_file refl (λ e. cc e)).refused fault.TextTooLong r) (λ e. cc e) (λ e. cc e)
 
 -- the input that is left
-completes-by_its_input : IsAccepted runs one_file → IsShort true (Some (codes "1\n")) → Completes runs before InputLong → ⊥
+completes-by_its_input : IsAccepted runs one_file → IsShort (Some input_limit) true (Some (codes "1\n")) → Completes runs before InputLong → ⊥
 completes-by_its_input accepted short c = short-done accepted short (c one_file refl (λ e. cc e))
 
 -- the texts of two files in order

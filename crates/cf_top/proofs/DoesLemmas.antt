@@ -58,9 +58,9 @@ pub file_read : (name : List ℕ) (before after : ShelfSeen) (limit : ℕ) → l
     after.ends ≤ before.ends + 1 → FileRead name before after
 file_read name before after limit is asked most given ends = record { fetched = asked; most = rw is at most; given = rw is at given; ends = ends }
 
-frugal : (c : Command) (name : List ℕ) (before after : Outside) → names_of c ≡ name ∷ [] → FileRead name before.shelf after.shelf →
-    IsSparing before.streams.input after.streams.input → IsFrugal (names_of c) before after
-frugal c name before after e file input = record {
+frugal : (most : Option ℕ) (c : Command) (name : List ℕ) (before after : Outside) → names_of c ≡ name ∷ [] → FileRead name before.shelf after.shelf →
+    IsSparing most before.streams.input after.streams.input → IsFrugal most (names_of c) before after
+frugal most c name before after e file input = record {
   fetches = rw e (omega (arith, file.fetched));
   file = elim file.most [ inl same ↦ inl same | inr took ↦ inr (name, has_name c name e, took) ];
   given = rw e (omega (arith, file.given));
@@ -80,7 +80,7 @@ text_does c name given last before after text answer e told h file same = record
   spared = h.spared;
   ends = h.ends;
   blames = record { files = λ _. same; file = λ i. absurd (h.not_file i); others = λ i. absurd (h.not_file i); input = h.input; out = h.out };
-  frugal = frugal c name before after e file h.sparing;
+  frugal = frugal _ c name before after e file h.sparing;
 }
 
 -- the file failed
@@ -100,7 +100,7 @@ file_does c name given before after e file none rose once = record {
     input = no_input_fault before after none (λ i. cc);
     out = no_out_fault before after none (λ i. cc);
   };
-  frugal = frugal c name before after e file (none_read before after none);
+  frugal = frugal _ c name before after e file (none_read _ before after none);
 }
 
 -- a fault that names no object
@@ -122,7 +122,7 @@ inner_does c name given before after text f e told ends file none same not_file 
     input = no_input_fault before after none not_input;
     out = no_out_fault before after none not_out;
   };
-  frugal = frugal c name before after e file (none_read before after none);
+  frugal = frugal _ c name before after e file (none_read _ before after none);
 }
 
 -- memory ran out before a text was there
@@ -212,7 +212,7 @@ nothing_answers (Some c) given before =
         file = inl refl;
         given = omega arith;
         ends = omega arith;
-        input = nothing_read before.streams.input;
+        input = nothing_read _ before.streams.input;
       };
     }
 
