@@ -24,10 +24,11 @@ use Rattle.cf_cert.specs.Laws.{AreWithinCases}
 use Rattle.cf_cert.specs.Verifying.{HaveFewSteps}
 use Rattle.cf_cert.proofs.SpelledLaws.{spelled_within as cases_within}
 use Rattle.cf_prove.specs.Proving.{IsProved}
-use Rattle.cf_answer.specs.Limits.{text_limit}
+use Rattle.cf_answer.specs.Limits.{text_limit, written_limit, of_target, most_of}
 use Rattle.cf_answer.specs.Certificates.{asked_in, OneForEach, IsTraced, AreProofs}
 use Rattle.cf_answer.specs.Refusals.{fault_of, IsRefusedSource}
-use Rattle.cf_tree.specs.declared.base.Edition.TheVariants.{Two}
+use Rattle.cf_tree.specs.declared.base.Edition.{Edition}
+use Rattle.cf_tree.specs.declared.base.Edition.TheVariants.{Two, Three}
 use Rattle.cf_answer.specs.Sources.{HasTokens, IsTypedSource}
 use Rattle.cf_answer.specs.declared.fault.Fault.TheVariants as fault
 use Rattle.cf_answer.specs.Verifying.{AddsBlock, ArePut}
@@ -103,9 +104,15 @@ spelled_within (b ∷ bs) h =
     let first : IsSpelledBlock b = All-head IsSpelledBlock b bs h in
     (cases_within (block_tree b).cases first.cases, spelled_within bs (All-tail IsSpelledBlock b bs h))
 
+-- a steps file of either edition has no more bytes than the checker takes steps
+most_steps : (edition : Edition) (count : ℕ) → count ≤ most_of (of_target edition) → count ≤ 67108864
+unfolding text_limit written_limit
+most_steps Two count h = omega (arith, h)
+most_steps Three count h = h
+
 -- a text has at most as many tokens as bytes, so that few steps stand in it
-pub few_steps : (bs : List BlockTree) (text : List ℕ) (list : TokenList) → length (flat_map block_acts bs) ≤ length list.list.items →
-    HasTokens Two text list.list.items list.end at_end → HaveFewSteps bs
-unfolding text_limit
-few_steps bs text list few h =
-    let tokens : length list.list.items ≤ length text = answer-count Two (2 ^ 127 - 1) text (Ok list) h.1 in omega (arith, few, tokens, h.0)
+pub few_steps : (edition : Edition) (bs : List BlockTree) (text : List ℕ) (list : TokenList) → length (flat_map block_acts bs) ≤ length list.list.items →
+    HasTokens (of_target edition) text list.list.items list.end at_end → HaveFewSteps bs
+few_steps edition bs text list few h =
+    let tokens : length list.list.items ≤ length text = answer-count Two (2 ^ 127 - 1) text (Ok list) h.1 in
+    let most : length text ≤ 67108864 = most_steps edition (length text) h.0 in omega (arith, few, tokens, most)

@@ -3,7 +3,7 @@ use Rattle.std.proofs.Common.{◌≡◌, inl, inr, ap, subst, refl, ℕ, List, [
 use Rattle.std.proofs.lemmas.List.Elements.{All-nil, All-cons, All-contains}
 use Rattle.std.proofs.lemmas.List.Sorted.{Contains-permutation}
 use Rattle.cf_lex.specs.Editions.{edition_of}
-use Rattle.cf_tree.specs.declared.base.Edition.TheVariants.{Two}
+use Rattle.cf_tree.specs.declared.base.Edition.{Edition}
 use Rattle.cf_parse.specs.Programs.{IsProgram, program_of}
 use Rattle.cf_program.specs.Checked.{TypedTree}
 use Rattle.cf_program.specs.declared.linearity.Linearity.TheVariants.{Plain}
@@ -22,6 +22,7 @@ use Rattle.cf_cert.specs.Laws.{AreWithinCases, IsLinearChoose}
 use Rattle.cf_cert.proofs.CertifiedArms.{certified_means}
 use Rattle.cf_cert.proofs.JudgeLaws.{one_verdict}
 use Rattle.cf_answer.specs.Certificates.{asked_in, OneForEach, IsProofOf, IsTraced, AreProofs, AreVerified}
+use Rattle.cf_answer.specs.Limits.{of_source, of_target}
 use Rattle.cf_answer.specs.Refusals.{Causes, IsBroken, IsBrokenSource, IsRefusedSource, IsUnverified, bad_source, bad_steps, bad_blocks}
 use Rattle.cf_answer.specs.Sources.{Spelled, IsTypedBy, IsTypedSource}
 use Rattle.cf_answer.specs.Statuses.{fault_status}
@@ -33,28 +34,29 @@ use Rattle.cf_answer.proofs.SourceLemmas.{one_program, typed_unrefused}
 -- a source spells one typed program, and none where a rule is broken
 typed_once : (text : List ℕ) (typed other : TypedTree) → IsTypedSource text typed → IsTypedSource text other → other ≡ typed
 typed_once text typed other s t =
-    let same : t.0 ≡ s.0 = trees_agree (edition_of text) (IsProgram (edition_of text)) (one_program text) text t.0 s.0 t.1 s.1 in
+    let same : t.0 ≡ s.0 = trees_agree (of_source (edition_of text)) (IsProgram (edition_of text)) (one_program text) text t.0 s.0 t.1 s.1 in
     typed_by_once (edition_of text) Plain s.0 other typed (subst (λ p. IsTypedBy (edition_of text) Plain p other) same t.2) s.2
 
 pub typed_unbroken : (text : List ℕ) (typed : TypedTree) (f : Fault) → IsTypedSource text typed → IsBrokenSource text f → ⊥
-typed_unbroken text typed f s h = unrefused (edition_of text) (IsProgram (edition_of text)) (program_of (edition_of text) 200)
+typed_unbroken text typed f s h = unrefused (of_source (edition_of text)) (IsProgram (edition_of text)) (program_of (edition_of text) 200)
     (IsBroken (edition_of text) Plain) (one_program text) text f s.0 (λ g b. typed_never_broken (edition_of text) Plain s.0 typed g s.2 b) h s.1
 
 -- a text that spells blocks is not refused
-spelled_unrefused : (text : List ℕ) (bs : List BlockTree) (f : Fault) → Spelled Two AreBlocks text bs → Causes Two AreBlocks (all_blocks 500) (λ bs g. ⊥) text f → ⊥
-spelled_unrefused text bs f s h = unrefused Two AreBlocks (all_blocks 500) (λ bs g. ⊥) one_blocks text f bs (λ g b. b) h s
+spelled_unrefused : (edition : Edition) (text : List ℕ) (bs : List BlockTree) (f : Fault) → Spelled (of_target edition) AreBlocks text bs →
+    Causes (of_target edition) AreBlocks (all_blocks 500) (λ bs g. ⊥) text f → ⊥
+spelled_unrefused edition text bs f s h = unrefused (of_target edition) AreBlocks (all_blocks 500) (λ bs g. ⊥) one_blocks text f bs (λ g b. b) h s
 
 pub verify_alike : (source steps : List ℕ) (f g : Fault) → IsUnverified source steps f → IsUnverified source steps g → fault_status f ≡ fault_status g
 verify_alike source steps f g (bad_source a h) (bad_source b i) =
-    alike (edition_of source) (IsProgram (edition_of source)) (program_of (edition_of source) 200) (IsBroken (edition_of source) Plain) (one_program source)
+    alike (of_source (edition_of source)) (IsProgram (edition_of source)) (program_of (edition_of source) 200) (IsBroken (edition_of source) Plain) (one_program source)
     source (λ program a b s. broken_alike (edition_of source) Plain program a b) f g h i
 verify_alike source steps f g (bad_source a h) (bad_steps typed e s i) = absurd (typed_unbroken source typed f s h)
 verify_alike source steps f g (bad_source a h) (bad_blocks typed bs n i j w s b v) = absurd (typed_unbroken source typed f s h)
 verify_alike source steps f g (bad_steps typed e s h) (bad_source b i) = absurd (typed_unbroken source typed g s i)
 verify_alike source steps f g (bad_steps typed e s h) (bad_steps other d t i) = refl
-verify_alike source steps f g (bad_steps typed e s h) (bad_blocks other bs n i j w t b v) = absurd (spelled_unrefused steps bs _ b h)
+verify_alike source steps f g (bad_steps typed e s h) (bad_blocks other bs n i j w t b v) = absurd (spelled_unrefused (edition_of source) steps bs _ b h)
 verify_alike source steps f g (bad_blocks typed bs n i j w s b v) (bad_source c h) = absurd (typed_unbroken source typed g s h)
-verify_alike source steps f g (bad_blocks typed bs n i j w s b v) (bad_steps other e t h) = absurd (spelled_unrefused steps bs _ b h)
+verify_alike source steps f g (bad_blocks typed bs n i j w s b v) (bad_steps other e t h) = absurd (spelled_unrefused (edition_of source) steps bs _ b h)
 verify_alike source steps f g (bad_blocks typed bs n i j w s b v) (bad_blocks other cs m k l x t c u) = refl
 
 -- blocks that prove chooses are accepted
@@ -64,13 +66,13 @@ proofs_accepted [] (b ∷ bs) h = absurd h
 proofs_accepted (q ∷ qs) [] h = absurd h
 proofs_accepted (q ∷ qs) (b ∷ bs) h = inl (h.0.certifies, proofs_accepted qs bs h.1)
 
-pub verify_unrefused : (source steps : List ℕ) (typed : TypedTree) (f : Fault) → IsTypedSource source typed → AreVerified (asked_in typed) steps →
+pub verify_unrefused : (source steps : List ℕ) (typed : TypedTree) (f : Fault) → IsTypedSource source typed → AreVerified (edition_of source) (asked_in typed) steps →
     IsUnverified source steps f → ⊥
 verify_unrefused source steps typed f s (bs, b, proofs) (bad_source g h) = typed_unbroken source typed f s h
-verify_unrefused source steps typed f s (bs, b, proofs) (bad_steps other e t h) = spelled_unrefused steps bs _ b h
+verify_unrefused source steps typed f s (bs, b, proofs) (bad_steps other e t h) = spelled_unrefused (edition_of source) steps bs _ b h
 verify_unrefused source steps typed f s (bs, b, proofs) (bad_blocks other cs n i j w t c v) =
     let program : other ≡ typed = typed_once source typed other s t in
-    let blocks : cs ≡ bs = trees_agree Two AreBlocks one_blocks steps cs bs c b in
+    let blocks : cs ≡ bs = trees_agree (of_target (edition_of source)) AreBlocks one_blocks steps cs bs c b in
     let yes = proofs_accepted (asked_in typed) bs proofs in
     let no : IsVerdict (asked_in typed) bs (Rejected n i j w) =
     subst (λ ds. IsVerdict (asked_in typed) ds (Rejected n i j w)) blocks

@@ -4,7 +4,6 @@ use Rattle.std.proofs.lemmas.List.{length-replicate}
 use Rattle.std.specs.Prelude.{IfSome}
 use Rattle.std.proofs.KnownBytes.{Consumes-nil}
 use Rattle.cf_io.specs.Seen.{SourceSeen}
-use Rattle.cf_answer.specs.Limits.{text_limit}
 use Rattle.cf_io.specs.Limits.{IsWithin}
 use Rattle.cf_answer.specs.Outside.{Outside, AreTold, Counts, IsSparing, one_past}
 
@@ -50,7 +49,7 @@ pub text_told : (told : Option (List ℕ)) (text : List ℕ) → IfSome told (λ
 text_told None text h = tt
 text_told (Some t) text h = sym h
 
--- a text that is told, and too long
-pub long_text : (told : Option (List ℕ)) → IfSome told (λ text. text_limit < length text) → (text : List ℕ) × AreTold told text × (text_limit < length text)
-long_text None h = (replicate (text_limit + 1) 0, tt, rw length-replicate (omega arith))
-long_text (Some text) h = (text, refl, h)
+-- a text that is told, and longer than so many bytes
+pub long_text : (most : ℕ) (told : Option (List ℕ)) → IfSome told (λ text. most < length text) → (text : List ℕ) × AreTold told text × (most < length text)
+long_text most None h = (replicate (most + 1) 0, tt, rw length-replicate (omega arith))
+long_text most (Some text) h = (text, refl, h)

@@ -65,7 +65,7 @@ module _ (name other source steps : List ℕ) (given last : List Told) (ls : Lis
   of-prove = (λ h. h, λ h. h)
 
   of-verify : Same (Owes (verify name other) (source ∷ steps ∷ []) given last ls text)
-      ((typed : TypedTree) × IsTypedSource source typed × AreVerified (asked_in typed) steps × (text ≡ flat_map verified_line (asked_in typed)))
+      ((typed : TypedTree) × IsTypedSource source typed × AreVerified (edition_of source) (asked_in typed) steps × (text ≡ flat_map verified_line (asked_in typed)))
   of-verify = (λ h. h, λ h. h)
 
   of-gen : Same (Owes (gen 3) [] given last ls text)

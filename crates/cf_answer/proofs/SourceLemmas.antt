@@ -19,6 +19,7 @@ use Rattle.cf_build.proofs.ChooseLaws.{one_refusal, refused_has}
 use Rattle.cf_build.proofs.NumberOrder.{ordered_same}
 use Rattle.cf_match.specs.Matches.{all_matches}
 use Rattle.cf_answer.specs.Checks.{IsCheckOf}
+use Rattle.cf_answer.specs.Limits.{of_source}
 use Rattle.cf_answer.specs.Owed.{AllWritten, IsPreOf, ArePres, AreChecks}
 use Rattle.cf_answer.specs.Refusals.{IsBadProgram, unruly, refused, IsRefusedSource}
 use Rattle.cf_answer.specs.Sources.{SpellsProgram, IsTypedBy, IsTypedSource, Compiles}
@@ -42,7 +43,7 @@ bad_alike text program f g s (refused typed n r h b) (refused other m q i c) =
     ap refusal_status (one_refusal (all_chooses typed.defs) n m r q b there)
 
 pub sources_alike : (text : List ℕ) (f g : Fault) → IsRefusedSource text f → IsRefusedSource text g → fault_status f ≡ fault_status g
-sources_alike text f g h i = alike (edition_of text) (IsProgram (edition_of text)) (program_of (edition_of text) 200) (IsBadProgram (edition_of text))
+sources_alike text f g h i = alike (of_source (edition_of text)) (IsProgram (edition_of text)) (program_of (edition_of text) 200) (IsBadProgram (edition_of text))
     (one_program text) text (bad_alike text) f g h i
 
 -- a program whose chooses pass no limit is not refused
@@ -58,7 +59,7 @@ never_bad edition program typed is within f (refused other n r h b) =
 pub typed_unrefused : (text : List ℕ) (typed : TypedTree) (f : Fault) → IsTypedSource text typed →
     ((q : ChooseTree) → Contains (all_chooses typed.defs) q → limit_of q ≡ None) →
     IsRefusedSource text f → ⊥
-typed_unrefused text typed f s within h = unrefused (edition_of text) (IsProgram (edition_of text)) (program_of (edition_of text) 200)
+typed_unrefused text typed f s within h = unrefused (of_source (edition_of text)) (IsProgram (edition_of text)) (program_of (edition_of text) 200)
     (IsBadProgram (edition_of text)) (one_program text) text f s.0 (never_bad (edition_of text) s.0 typed s.2 within) h s.1
 
 -- nor is one of which a target is built

@@ -11,7 +11,8 @@ use Rattle.cf_steps.specs.declared.block.Block.{Block}
 use Rattle.cf_cert.specs.Certifying.{Certifies}
 use Rattle.cf_cert.specs.Laws.{MeansSolutions}
 use Rattle.cf_prove.specs.Tracing.{traced_block}
-use Rattle.cf_tree.specs.declared.base.Edition.TheVariants.{Two}
+use Rattle.cf_tree.specs.declared.base.Edition.{Edition}
+use Rattle.cf_answer.specs.Limits.{of_target}
 use Rattle.cf_answer.specs.Sources.{Spelled}
 use Rattle.cf_answer.specs.Texts.{numbered_line}
 
@@ -47,6 +48,6 @@ AreProofs qs text = (bs : List Block) × OneForEach IsTraced qs bs × (text ≡ 
 abbrev pub verified_line : ChooseTree → List ℕ
 verified_line q = numbered_line q.number (codes "verified")
 
--- the text spells blocks, one for each choose in order, which prove these chooses
-abbrev pub AreVerified : List ChooseTree → List ℕ → Type 0
-AreVerified qs steps = (bs : List BlockTree) × Spelled Two AreBlocks steps bs × OneForEach IsProofOf qs bs
+-- the text of a steps file of an edition spells blocks, one for each choose in order, which prove these chooses
+abbrev pub AreVerified : Edition → List ChooseTree → List ℕ → Type 0
+AreVerified edition qs steps = (bs : List BlockTree) × Spelled (of_target edition) AreBlocks steps bs × OneForEach IsProofOf qs bs

@@ -11,9 +11,9 @@ use Rattle.cf_io.specs.Seen.{ShelfSeen}
 use Rattle.cf_pass.specs.Passes.{Told}
 use Rattle.cf_program.specs.Checked.{TypedTree}
 use Rattle.cf_words.specs.Commands.{Command, verify}
-use Rattle.cf_answer.specs.Commands.{names_of, reads_input, calls_passes}
-use Rattle.cf_answer.specs.Limits.{input_most}
-use Rattle.cf_answer.specs.Outside.{Outside, Streams, AreTold, AreTexts, Counts, Blames, IsFrugal, IsSparing}
+use Rattle.cf_answer.specs.Commands.{names_of, reads_input, calls_passes, text_most, output_most}
+use Rattle.cf_answer.specs.Limits.{edition_for, input_most}
+use Rattle.cf_answer.specs.Outside.{Outside, Streams, Taken, AreTold, AreTexts, Counts, Blames, IsFrugal, IsSparing}
 use Rattle.cf_answer.specs.Owed.{Owes}
 use Rattle.cf_answer.specs.Passes.{ArePassed, closing}
 use Rattle.cf_answer.specs.Refusals.{Refuses}
@@ -52,12 +52,13 @@ pub record Job : Type 0 where
   pub given : List Told
   pub passes : List Told
 
--- so much of the input was read, and `out` took what is owed for these lines and then `end`, as far as Took says
+-- so much of the input was read, and `out` took what is owed for these lines and then `end`, which is within the limit of what is written, as far as Took says
 pub record Wrote (job : Job) (before after : Streams) (Took : Option (List ℕ) → Option (List ℕ) → List ℕ → Type 0) (front : List ℕ) (ls : List (List ℕ))
     (end : List ℕ) : Type 0 where
   pub text : List ℕ
   pub read : Reads (reads_input job.command) before.input.left after.input.left front
   pub owed : Owes job.command job.files job.given job.passes ls text
+  pub fits : IsWithin (output_most job.command (edition_for job.files)) (length (text ++ end))
   pub took : Took before.out.held after.out.held (text ++ end)
 
 -- what a command that is done writes behind all else
@@ -72,7 +73,7 @@ IsStopped job before after =
     (behind_lines (input_most job.files) (input_for job.command (front ++ rest)) (closing_of job))
 
 -- Done: all was read, and all that is owed was written. The input failed: the lines were answered whose line feed was read. The input is too long: those
--- were whose line feed stands within the limit. `out` failed, or memory ran out: a prefix was written of what is owed. The file failed: nothing was written,
+-- were whose line feed stands within the limit. What is owed is past the limit of what is written: nothing was written. `out` failed, or memory ran out: a prefix was written of what is owed. The file failed: nothing was written,
 -- and no pass was called. It is refused: nothing was written.
 abbrev pub Ends : Job → Streams → Streams → Result (Unit {0}) Fault → Type 0
 Ends job before after (Ok done) =
@@ -82,6 +83,9 @@ Ends job before after (Err fault.Input) =
     (front : List ℕ) × (reads_input job.command ≡ true) × IsWithin (input_most job.files) (length front) × Wrote job before after Appends front (ended front) []
 Ends job before after (Err fault.InputTooLong) =
     (front : List ℕ) × IsPast (input_most job.files) (length front) × Wrote job before after Appends front (ended (within (input_most job.files) front)) []
+Ends job before after (Err fault.OutputTooLong) =
+    (text : List ℕ) × Owes job.command job.files job.given job.passes [] text
+    × IsPast (output_most job.command (edition_for job.files)) (length (text ++ closing_of job)) × (after.out.held ≡ before.out.held)
 Ends job before after (Err fault.Output) = IsStopped job before after
 Ends job before after (Err fault.NoMemory) = IsStopped job before after ⊎ (after.out.held ≡ before.out.held)
 Ends job before after (Err fault.File) = (after.out.held ≡ before.out.held) × (job.passes ≡ job.given)
@@ -104,6 +108,10 @@ pub record AnswersOn (command : Command) (given last : List Told) (files : List 
     pub not_usage : answer ≡ Err fault.Usage → ⊥
     pub not_file : answer ≡ Err fault.File → ⊥
 
+-- how much a command may take with these files
+abbrev pub taken_by : Command → List (List ℕ) → Taken
+taken_by command files = record { text = text_most command (edition_for files); input = input_most files }
+
 -- The texts of the files, as far as they are told; what the passes told before and last; how it ends, which object failed, and what was taken of the files
 -- and of the input.
 pub record Does (command : Command) (given last : List Told) (before after : Outside) (answer : Result (Unit {0}) Fault) : Type 0 where
@@ -113,7 +121,7 @@ pub record Does (command : Command) (given last : List Told) (before after : Out
   pub spared : AreSpared command files given last
   pub ends : Ends (record { command = command; files = files; given = given; passes = last }) before.streams after.streams answer
   pub blames : Blames (names_of command) before after answer
-  pub frugal : IsFrugal (input_most files) (names_of command) before after
+  pub frugal : IsFrugal (taken_by command files) (names_of command) before after
 
 -- What the words ask. Where they are no command, they are refused, or memory ran out while they were read, and nothing is done.
 abbrev pub Answers : Option Command → List Told → List Told → Outside → Outside → Result (Unit {0}) Fault → Type 0

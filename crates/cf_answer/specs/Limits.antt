@@ -10,6 +10,31 @@ use Rattle.cf_answer.specs.declared.limits.TheConstants.{TEXT_LIMIT}
 unfoldable pub text_limit : ℕ
 text_limit = TEXT_LIMIT
 
+-- the most bytes of a target and of a steps file of edition 3, and of what `compile` and `prove` write there
+unfoldable pub written_limit : ℕ
+written_limit = 67108864
+
+-- the texts that are read: the source of an edition; a target or a steps file of one
+pub data TextKind : Type 0 where
+  of_source : Edition → TextKind
+  of_target : Edition → TextKind
+
+-- the edition by whose tokens it is read; targets and steps files have those of language 2
+abbrev pub tokens_of : TextKind → Edition
+tokens_of (of_source edition) = edition
+tokens_of (of_target edition) = Two
+
+-- the most bytes of such a text
+abbrev pub most_of : TextKind → ℕ
+most_of (of_source edition) = text_limit
+most_of (of_target Two) = text_limit
+most_of (of_target Three) = written_limit
+
+-- the most bytes that are written of a target or of steps of an edition; of language 2 there is no limit
+abbrev pub written_most : Edition → Option ℕ
+written_most Two = None
+written_most Three = Some written_limit
+
 -- the most bytes of an input; edition 3 has no limit
 abbrev pub input_limit_of : Edition → Option ℕ
 input_limit_of Two = Some input_limit

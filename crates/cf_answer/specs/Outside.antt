@@ -5,7 +5,6 @@ use Rattle.cf_io.specs.Bytes.{TookFront}
 use Rattle.cf_io.specs.Causes.{one_more}
 use Rattle.cf_io.specs.Limits.{IsWithin}
 use Rattle.cf_io.specs.Seen.{ShelfSeen, SinkSeen, SourceSeen}
-use Rattle.cf_answer.specs.Limits.{text_limit}
 use Rattle.cf_answer.specs.declared.fault.Fault.{Fault}
 use Rattle.cf_answer.specs.declared.fault.Fault.TheVariants as fault
 
@@ -60,12 +59,17 @@ pub record IsSparing (most : Option ℕ) (before after : SourceSeen) : Type 0 wh
   pub given : IsWithin (one_past most) (after.given - before.given)
   pub ends : after.ends ≤ before.ends + 1
 
+-- the most bytes of a text that are taken, and of the input
+pub record Taken : Type 0 where
+  pub text : ℕ
+  pub input : Option ℕ
+
 -- No more texts were fetched than there are names. Of the last one, and of the input, at most one byte more than its limit was read. Of all of them reads
 -- gave at most as much for each name, and showed at most one end for each.
-pub record IsFrugal (most : Option ℕ) (names : List (List ℕ)) (before after : Outside) : Type 0 where
+pub record IsFrugal (taken : Taken) (names : List (List ℕ)) (before after : Outside) : Type 0 where
   pub fetches : after.shelf.fetches ≤ before.shelf.fetches + length names
   pub file : (after.shelf.left ≡ before.shelf.left) ⊎
-      ((name : List ℕ) × Contains names name × TookFront (text_limit + 1) (before.shelf.texts name) after.shelf.left)
-  pub given : after.shelf.given ≤ before.shelf.given + length names * (text_limit + 1)
+      ((name : List ℕ) × Contains names name × TookFront (taken.text + 1) (before.shelf.texts name) after.shelf.left)
+  pub given : after.shelf.given ≤ before.shelf.given + length names * (taken.text + 1)
   pub ends : after.shelf.ends ≤ before.shelf.ends + length names
-  pub input : IsSparing most before.streams.input after.streams.input
+  pub input : IsSparing taken.input before.streams.input after.streams.input

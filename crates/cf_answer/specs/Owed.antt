@@ -107,7 +107,7 @@ Owes (check name) (file ∷ []) given last ls text = IsAskedSource file × (type
 Owes (exec name) (file ∷ []) given last ls text = (t : RawTarget) × IsTypedTarget file (target_tree t) × AreReplies (by_target t) ls text
 Owes (prove name) (file ∷ []) given last ls text = (typed : TypedTree) × IsTypedSource file typed × AreProofs (asked_in typed) text
 Owes (verify name steps_name) (source ∷ steps ∷ []) given last ls text =
-    (typed : TypedTree) × IsTypedSource source typed × AreVerified (asked_in typed) steps × (text ≡ flat_map verified_line (asked_in typed))
+    (typed : TypedTree) × IsTypedSource source typed × AreVerified (edition_of source) (asked_in typed) steps × (text ≡ flat_map verified_line (asked_in typed))
 Owes (gen n) [] given last ls text =
     (t : RawTarget) × IsCompiledBy true (gen_source n) given last t × (typed : TypedTree) × IsTypedSource (gen_source n) typed
     × (sum : ℤ) × IsSum t typed (length last) (lines (gen_lines n)) sum × (text ≡ sum_line (n * n) sum)

@@ -14,10 +14,10 @@ use Rattle.cf_steps.specs.declared.block.Block.{Block}
 use Rattle.cf_cert.specs.Laws.{AreWithinCases, IsLinearChoose}
 use Rattle.cf_cert.specs.Verifying.{HaveFewSteps}
 use Rattle.cf_answer.specs.Certificates.{asked_in, OneForEach, IsTraced}
-use Rattle.cf_answer.specs.Limits.{text_limit}
+use Rattle.cf_answer.specs.Limits.{of_target}
 use Rattle.cf_answer.specs.Outside.{AreTold}
 use Rattle.cf_answer.specs.Refusals.{IsBrokenSource, IsRefusedSteps}
-use Rattle.cf_tree.specs.declared.base.Edition.TheVariants.{Two}
+use Rattle.cf_tree.specs.declared.base.Edition.{Edition}
 use Rattle.cf_answer.specs.Sources.{Spelled, IsTypedSource}
 use Rattle.cf_answer.specs.declared.fault.Fault.{Fault}
 use Rattle.cf_answer.specs.declared.fault.Fault.TheVariants as fault
@@ -32,22 +32,22 @@ pub record AreAskedBy (typed : TypedTree) (qs : List ChooseTree) : Type 0 where
 abbrev pub AreAskedIn : List ℕ → List ChooseTree → Type 0
 AreAskedIn text qs = (typed : TypedTree) × IsTypedSource text typed × AreAskedBy typed qs
 
--- the fault for which a steps file is refused for its text
-abbrev pub AreMisspelled : List ℕ → Fault → Type 0
-AreMisspelled text f = (e : StepsFault) × (f ≡ fault.Steps e) × IsRefusedSteps text e
+-- the fault for which a steps file of an edition is refused for its text
+abbrev pub AreMisspelled : Edition → List ℕ → Fault → Type 0
+AreMisspelled edition text f = (e : StepsFault) × (f ≡ fault.Steps e) × IsRefusedSteps edition text e
 
--- the text spells these blocks, whose numbers are within the limit, and which have few enough steps to be checked
-pub record AreReadFrom (text : List ℕ) (bs : List BlockTree) : Type 0 where
-  pub spelled : Spelled Two AreBlocks text bs
+-- the text of a steps file of an edition spells these blocks, whose numbers are within the limit, and which have few enough steps to be checked
+pub record AreReadFrom (edition : Edition) (text : List ℕ) (bs : List BlockTree) : Type 0 where
+  pub spelled : Spelled (of_target edition) AreBlocks text bs
   pub within : EachOf (λ b. AreWithinCases b.cases) bs
   pub few : HaveFewSteps bs
 
 -- ---- reading the files
--- the file of this name was fetched, at most one byte more than the limit was read of it, and its end was seen at most once
-pub record IsFetched (name : List ℕ) (before after : ShelfSeen) : Type 0 where
+-- the file of this name was fetched, at most one byte more than so many were read of it, and its end was seen at most once
+pub record IsFetched (most : ℕ) (name : List ℕ) (before after : ShelfSeen) : Type 0 where
   pub fetched : after.fetches ≡ one_more before.fetches
-  pub most : (after.left ≡ before.left) ⊎ TookFront (text_limit + 1) (before.texts name) after.left
-  pub given : after.given ≤ before.given + (text_limit + 1)
+  pub front : (after.left ≡ before.left) ⊎ TookFront (most + 1) (before.texts name) after.left
+  pub given : after.given ≤ before.given + (most + 1)
   pub ends : after.ends ≤ before.ends + 1
   pub texts : (other : List ℕ) → after.texts other ≡ before.texts other
   pub once : (other : List ℕ) → after.faults other ≤ one_more (before.faults other)

@@ -17,10 +17,11 @@ ghost use Rattle.cf_answer.specs.Verifying.{AddsBlock};
 
 use crate::fault::Fault;
 use crate::source::read_lowered;
-use crate::write::write_text;
+use crate::write::write_printed;
 use cf_build::{BuildFault, numbered};
 use cf_choose::ChooseFault;
 use cf_io::Sink;
+use cf_lex::edition_of;
 use cf_match::Lowered;
 use cf_prove::prove;
 use cf_tree::Choose;
@@ -69,7 +70,8 @@ fn blocks(alloc: Global, lowered: &Lowered) -> Result<Vec<u8>, Fault>
     Ok(text)
 }
 
-/// Writes for each choose of a source text the steps of its elimination, and its own target.
+/// Writes for each choose of a source text the steps of its elimination, and its own target, or nothing
+/// where they are past their limit.
 pub fn write_blocks<O: Sink>(alloc: Global, text: &[u8], out: &mut O) -> Result<(), Fault>
     requires short { length text.now ≤ text_limit }
     requires place { length text.now < 2 ^ 32 - 1 }
@@ -77,7 +79,8 @@ pub fn write_blocks<O: Sink>(alloc: Global, text: &[u8], out: &mut O) -> Result<
         (streams input (O.seen out.old)) (streams input (O.seen out.new)) result }
     ensures unwritten { IsEarly (the_status_of result) → out.new ≡ out.old }
 {
+    let edition = edition_of(text);
     let lowered = read_lowered(alloc, text)?;
     let text = blocks(alloc, &lowered)?;
-    write_text(out, &text)
+    write_printed(out, edition, &text)
 }

@@ -6,7 +6,8 @@ ghost use Rattle.cf_pass.specs.Passes.{Told};
 ghost use Rattle.cf_words.specs.Commands.{verify as the_verify};
 ghost use Rattle.cf_answer.specs.Certificates.{verified_line};
 ghost use Rattle.cf_answer.specs.Ends.{Does, AnswersOn, IsInOrder};
-ghost use Rattle.cf_answer.specs.Limits.{text_limit};
+ghost use Rattle.cf_lex.specs.Editions.{edition_of as the_edition_of};
+ghost use Rattle.cf_answer.specs.Limits.{text_limit, of_target, most_of};
 ghost use Rattle.cf_answer.specs.Statuses.{status_of as the_status_of, IsEarly};
 ghost use Rattle.cf_answer.specs.Outside.{AreTold, outside, streams};
 ghost use Rattle.cf_answer.specs.Sources.{IsLoweredSource};
@@ -14,15 +15,16 @@ ghost use Rattle.cf_answer.specs.Verifying.{IsFetched, IsSourceFault};
 
 use crate::choose_line::put_line;
 use crate::fault::{Fault, StepsFault};
-use crate::limits::longest_text;
+use crate::limits::{longest_target, longest_text};
 use crate::source::read_lowered;
 use crate::steps::read_steps;
 use crate::write::write_text;
 use cf_build::numbered;
 use cf_cert::{Verdict, verify};
 use cf_io::{ReadFault, Shelf, Sink, read_text};
+use cf_lex::edition_of;
 use cf_match::Lowered;
-use cf_tree::{Choose, NoMemory};
+use cf_tree::{Choose, Edition, NoMemory};
 use std::alloc::Global;
 
 // The lines of chooses that are verified.
@@ -36,22 +38,30 @@ fn verified_lines(alloc: Global, chooses: &[Choose<'_>]) -> Result<Vec<u8>, NoMe
     Ok(text)
 }
 
-// Checks the text of a steps file against the chooses of a source, whose matches are taken apart.
+/// A source that was read: its edition, and its program with its matches taken apart.
+#[derive(Drop)]
+struct Fetched {
+    edition: Edition,
+    lowered: Lowered,
+}
+
+// Checks the text of a steps file against the chooses of a source.
 fn verify_text<O: Sink>(
     alloc: Global,
-    lowered: &Lowered,
+    source: &Fetched,
     text: &[u8],
     out: &mut O,
 ) -> Result<(), Fault>
-    requires short { length text.now ≤ text_limit }
+    requires short { length text.now ≤ most_of (of_target source.now.edition) }
     requires place { length text.now < 2 ^ 32 - 1 }
-    ensures answers { (file steps : List ℕ) (given : List Told) (input : SourceSeen) (source : List ℕ) →
-        IsLoweredSource source lowered.now → AnswersOn (the_verify file steps) given given (source ∷ text.now ∷ [])
+    ensures answers { (file steps : List ℕ) (given : List Told) (input : SourceSeen) (spelled : List ℕ) →
+        IsLoweredSource spelled source.now.lowered → source.now.edition ≡ the_edition_of spelled →
+        AnswersOn (the_verify file steps) given given (spelled ∷ text.now ∷ [])
         (streams input (O.seen out.old)) (streams input (O.seen out.new)) result }
     ensures unwritten { IsEarly (the_status_of result) → out.new ≡ out.old }
 {
-    let blocks = read_steps(alloc, text)?;
-    let chooses = numbered(alloc, lowered.typed())?;
+    let blocks = read_steps(alloc, source.edition, text)?;
+    let chooses = numbered(alloc, source.lowered.typed())?;
     let verdict = verify(alloc, &chooses, &blocks)?;
     match verdict {
         Verdict::Yes => {
@@ -72,16 +82,22 @@ fn verify_text<O: Sink>(
     }
 }
 
-// Reads a source, and answers its program with its matches taken apart, or why the file failed or its
-// text is refused.
-fn fetch_lowered<F: Shelf>(alloc: Global, shelf: &mut F, file: &str) -> Result<Lowered, Fault>
-    ensures fetched { IsFetched file.now (F.seen shelf.old) (F.seen shelf.new) }
-    ensures asked { IfOk result (λ l. (text : List ℕ) × AreTold ((F.seen shelf.old).texts file.now) text × IsLoweredSource text l) }
+// Reads a source, or answers why the file failed or its text is refused.
+fn fetch_lowered<F: Shelf>(alloc: Global, shelf: &mut F, file: &str) -> Result<Fetched, Fault>
+    ensures fetched { IsFetched text_limit file.now (F.seen shelf.old) (F.seen shelf.new) }
+    ensures asked { IfOk result (λ l. (text : List ℕ) × AreTold ((F.seen shelf.old).texts file.now) text × IsLoweredSource text l.lowered
+        × (l.edition ≡ the_edition_of text)) }
     ensures same { OnOk result ((other : List ℕ) → (F.seen shelf.new).faults other ≡ (F.seen shelf.old).faults other) }
     ensures fault { IfErr result (IsSourceFault file.now (F.seen shelf.old) (F.seen shelf.new)) }
 {
     match read_text(alloc, shelf, file, longest_text()) {
-        Ok(text) => read_lowered(alloc, &text),
+        Ok(text) => {
+            let lowered = read_lowered(alloc, &text)?;
+            Ok(Fetched {
+                edition: edition_of(&text),
+                lowered,
+            })
+        }
         Err(ReadFault::Failed) => Err(Fault::File),
         Err(ReadFault::TooLong) => Err(Fault::TextTooLong),
         Err(ReadFault::NoMemory) => Err(Fault::NoMemory),
@@ -108,9 +124,9 @@ pub fn verify_files<F: Shelf, O: Sink>(
     // The steps file is read only behind a source in which no rule is broken.
     ensures order { IsInOrder (the_verify file.now steps.now) (F.seen shelf.old) (F.seen shelf.new) (the_status_of result) }
 {
-    let lowered = fetch_lowered(alloc, shelf, file)?;
-    match read_text(alloc, shelf, steps, longest_text()) {
-        Ok(text) => verify_text(alloc, &lowered, &text, out),
+    let source = fetch_lowered(alloc, shelf, file)?;
+    match read_text(alloc, shelf, steps, longest_target(source.edition)) {
+        Ok(text) => verify_text(alloc, &source, &text, out),
         Err(ReadFault::Failed) => Err(Fault::File),
         Err(ReadFault::TooLong) => Err(Fault::Steps(StepsFault::TooLong)),
         Err(ReadFault::NoMemory) => Err(Fault::NoMemory),
