@@ -1,18 +1,19 @@
 -- From the answer on a text to how the command ends.
-use Rattle.std.proofs.Common.{◌≡◌, ◌∙◌, inl, inr, sym, ap, subst, refl, ℕ, ◌-◌, ◌≤◌, ◌+◌, true, false, List, [], ◌++◌, length, Option, append-nil, append_assoc}
+use Rattle.std.proofs.Common.{◌≡◌, ◌∙◌, inl, inr, sym, ap, subst, refl, ℕ, ◌-◌, ◌≤◌, ◌+◌, true, false, List, [], ◌++◌, length, Option, Some, None, arith, append-nil, append_assoc}
 use Rattle.std.specs.Prelude.{◌⊎◌, Result, Ok, Err, IfErr, OnOk}
 use Rattle.std.specs.Io.KnownBytes.{Appends, Consumes}
 use Rattle.std.proofs.KnownBytes.{Appends-trans}
 use Rattle.cf_io.specs.Bytes.{TookPrefix}
 use Rattle.cf_io.specs.Cut.{within}
-use Rattle.cf_io.specs.Limits.{IsWithin}
+use Rattle.cf_io.specs.Limits.{IsWithin, IsPast}
 use Rattle.cf_io.specs.Lines.{lines, ended}
 use Rattle.cf_io.specs.Seen.{SinkSeen, SourceSeen}
 use Rattle.cf_pass.specs.Passes.{Told}
-use Rattle.cf_words.specs.Commands.{Command}
-use Rattle.cf_answer.specs.Commands.{reads_input, calls_passes}
+use Rattle.cf_words.specs.Commands.{Command, compile, prove}
+use Rattle.cf_answer.specs.Commands.{reads_input, calls_passes, output_most}
 use Rattle.cf_answer.specs.Ends.{Job, input_for, answered_lines, behind_lines, Reads, IsReadUp, Wrote, IsStopped, Ends, AreSpared, AnswersOn}
-use Rattle.cf_answer.specs.Limits.{input_most}
+use Rattle.cf_answer.specs.Limits.{edition_for, input_most}
+use Rattle.cf_tree.specs.declared.base.Edition.{Edition}
 use Rattle.cf_answer.specs.Outside.{Streams, streams, AreTold, Counts, one_past}
 use Rattle.cf_answer.specs.Owed.{Answerer, AreReplies, Owes}
 use Rattle.cf_answer.specs.Passes.{ArePassed, closing}
@@ -36,6 +37,7 @@ refused_ends job before after fault.File h r e = absurd h
 refused_ends job before after fault.Input h r e = absurd h
 refused_ends job before after fault.Output h r e = absurd h
 refused_ends job before after fault.InputTooLong h r e = absurd h
+refused_ends job before after fault.OutputTooLong h r e = absurd h
 refused_ends job before after fault.NoMemory h r e = absurd h
 refused_ends job before after f h r e = (r, e)
 
@@ -119,21 +121,31 @@ all_input c input e = rw e refl
 short_behind : (most : Option ℕ) (input end : List ℕ) → IsWithin most (length input) → behind_lines most input end ≡ end
 short_behind most input end few = rw (test_within most (length input) few) refl
 
+-- what is owed and the closing behind it are within the limit of what is written
+abbrev Fits : Job → List ℕ → Type 0
+Fits job printed = IsWithin (output_most job.command (edition_for job.files)) (length (printed ++ closing job.command job.passes))
+
 -- how it ends where all or a prefix was written
 wrote_all : (job : Job) (before after : Streams) (printed : List ℕ) → reads_input job.command ≡ false → after.input.left ≡ before.input.left →
-    Owes job.command job.files job.given job.passes [] printed →
+    Owes job.command job.files job.given job.passes [] printed → Fits job printed →
     Appends before.out.held after.out.held (printed ++ closing job.command job.passes) → Ends job before after (Ok tt)
-wrote_all job before after printed e same owed took = (
+wrote_all job before after printed e same owed fits took = (
   [],
   subst (λ b. IsReadUp b after.input.left) (sym e) tt,
   none_within (input_most job.files),
-  record { text = printed; read = subst (λ b. Reads b before.input.left after.input.left []) (sym e) (same, refl); owed = owed; took = took },
+  record {
+    text = printed;
+    read = subst (λ b. Reads b before.input.left after.input.left []) (sym e) (same, refl);
+    owed = owed;
+    fits = fits;
+    took = took;
+  },
 )
 
 wrote_prefix : (job : Job) (before after : Streams) (printed : List ℕ) → reads_input job.command ≡ false → after.input.left ≡ before.input.left →
-    Owes job.command job.files job.given job.passes [] printed →
+    Owes job.command job.files job.given job.passes [] printed → Fits job printed →
     TookPrefix before.out.held after.out.held (printed ++ closing job.command job.passes) → IsStopped job before after
-wrote_prefix job before after printed e same owed took =
+wrote_prefix job before after printed e same owed fits took =
     let most = input_most job.files in
     let rest = left_of after.input.left in
     let none : input_for job.command rest ≡ [] = no_input job.command rest e in (
@@ -145,6 +157,8 @@ wrote_prefix job before after printed e same owed took =
             text = printed;
             read = subst (λ b. Reads b before.input.left after.input.left []) (sym e) (same, refl);
             owed = subst (λ ls. Owes job.command job.files job.given job.passes ls printed) (sym (short_answered most [] (none_within most))) owed;
+            fits = subst (λ v. IsWithin (output_most job.command (edition_for job.files)) (length (printed ++ v)))
+                (sym (short_behind most [] (closing job.command job.passes) (none_within most))) fits;
             took = subst (λ v. TookPrefix before.out.held after.out.held (printed ++ v)) (sym (short_behind most [] (closing job.command job.passes) (none_within most))) took;
           }),
     )
@@ -155,10 +169,12 @@ out_ends job before after f (inr memory) h = subst (λ v. Ends job before after 
 
 written_ends : (job : Job) (before after : Streams) (printed : List ℕ) (answer : Result (Unit {0}) Fault) → reads_input job.command ≡ false →
     after.input.left ≡ before.input.left →
-    Owes job.command job.files job.given job.passes [] printed → OnOk answer (Appends before.out.held after.out.held (printed ++ closing job.command job.passes)) →
+    Owes job.command job.files job.given job.passes [] printed → Fits job printed →
+    OnOk answer (Appends before.out.held after.out.held (printed ++ closing job.command job.passes)) →
     TookPrefix before.out.held after.out.held (printed ++ closing job.command job.passes) → IfErr answer IsOutFault → Ends job before after answer
-written_ends job before after printed (Ok done) e same owed all some is = wrote_all job before after printed e same owed all
-written_ends job before after printed (Err f) e same owed all some is = out_ends job before after f is (wrote_prefix job before after printed e same owed some)
+written_ends job before after printed (Ok done) e same owed fits all some is = wrote_all job before after printed e same owed fits all
+written_ends job before after printed (Err f) e same owed fits all some is =
+    out_ends job before after f is (wrote_prefix job before after printed e same owed fits some)
 
 out_other : (f : Fault) → IsOutFault f → IsOther f
 out_other f (inl out) = subst IsOther (sym out) tt
@@ -188,19 +204,22 @@ pub out_is_late : (answer : Result (Unit {0}) Fault) → IfErr answer IsOutFault
 out_is_late (Ok done) is h = h
 out_is_late (Err f) is h = late_fault f is h
 
-pub written_answers : (c : Command) (given last : List Told) (files : List (List ℕ)) (printed bytes : List ℕ) (input : SourceSeen) (old new : SinkSeen)
+fitted_answers : (c : Command) (given last : List Told) (files : List (List ℕ)) (printed bytes : List ℕ) (input : SourceSeen) (old new : SinkSeen)
     (answer : Result (Unit {0}) Fault) → reads_input c ≡ false →
     ArePassed (calls_passes c) given last → Owes c files given last [] printed → bytes ≡ printed ++ closing c last →
+    IsWithin (output_most c (edition_for files)) (length bytes) →
     OnOk answer (Appends old.held new.held bytes) → TookPrefix old.held new.held bytes → IfErr answer IsOutFault →
     Counts (answer ≡ Err fault.Output) old.faults new.faults → AnswersOn c given last files (streams input old) (streams input new) answer
-written_answers c given last files printed bytes input old new answer e p owed is all some fault count =
+fitted_answers c given last files printed bytes input old new answer e p owed is fits all some fault count =
+    let fits_is : IsWithin (output_most c (edition_for files)) (length (printed ++ closing c last)) =
+    subst (λ v. IsWithin (output_most c (edition_for files)) (length v)) is fits in
     let all_is : OnOk answer (Appends old.held new.held (printed ++ closing c last)) = subst (λ v. OnOk answer (Appends old.held new.held v)) is all in
     let some_is : TookPrefix old.held new.held (printed ++ closing c last) = subst (TookPrefix old.held new.held) is some in
     let never = written_not answer fault in record {
       passed = p;
       spared = λ f r. absurd (owed_accepted c files given last [] printed owed f r);
       ends = written_ends (record { command = c; files = files; given = given; passes = last }) (streams input old) (streams input new) printed answer e refl
-          owed all_is some_is fault;
+          owed fits_is all_is some_is fault;
       sparing = nothing_read (input_most files) input;
       input = no_fault input.faults input.faults never.not_input refl;
       out = count;
@@ -208,12 +227,60 @@ written_answers c given last files printed bytes input old new answer e p owed i
       not_file = never.not_file;
     }
 
+-- a command whose output has no limit
+pub written_answers : (c : Command) (given last : List Told) (files : List (List ℕ)) (printed bytes : List ℕ) (input : SourceSeen) (old new : SinkSeen)
+    (answer : Result (Unit {0}) Fault) → reads_input c ≡ false → ((edition : Edition) → output_most c edition ≡ None) →
+    ArePassed (calls_passes c) given last → Owes c files given last [] printed → bytes ≡ printed ++ closing c last →
+    OnOk answer (Appends old.held new.held bytes) → TookPrefix old.held new.held bytes → IfErr answer IsOutFault →
+    Counts (answer ≡ Err fault.Output) old.faults new.faults → AnswersOn c given last files (streams input old) (streams input new) answer
+written_answers c given last files printed bytes input old new answer e unlimited p owed is all some fault count =
+    fitted_answers c given last files printed bytes input old new answer e p owed is
+    (subst (λ most. IsWithin most (length bytes)) (sym (unlimited (edition_for files))) tt) all some fault count
+
+-- what is owed is past the limit of what is written: nothing is
+overfull_answers : (c : Command) (given last : List Told) (files : List (List ℕ)) (printed bytes : List ℕ) (s : Streams) →
+    ArePassed (calls_passes c) given last → Owes c files given last [] printed → bytes ≡ printed ++ closing c last →
+    IsPast (output_most c (edition_for files)) (length bytes) → AnswersOn c given last files s s (Err fault.OutputTooLong)
+overfull_answers c given last files printed bytes s p owed is past =
+    answers_still c given last files s fault.OutputTooLong p (λ f r. absurd (owed_accepted c files given last [] printed owed f r)) tt
+    (printed, owed, subst (λ v. IsPast (output_most c (edition_for files)) (length v)) is past, refl)
+
+not_both : (most : Option ℕ) (count : ℕ) → IsWithin most count → IsPast most count → ⊥
+not_both None count few many = many
+not_both (Some most) count few many = omega (arith, few, many)
+
+-- a text that is written where it is within the limit
+pub printed_answers : (c : Command) (given last : List Told) (files : List (List ℕ)) (printed bytes : List ℕ) (input : SourceSeen) (old new : SinkSeen)
+    (answer : Result (Unit {0}) Fault) → reads_input c ≡ false →
+    ArePassed (calls_passes c) given last → Owes c files given last [] printed → bytes ≡ printed ++ closing c last →
+    (answer ≡ Err fault.OutputTooLong) ⊎ IsWithin (output_most c (edition_for files)) (length bytes) →
+    (answer ≡ Err fault.OutputTooLong → IsPast (output_most c (edition_for files)) (length bytes)) → (answer ≡ Err fault.OutputTooLong → new ≡ old) →
+    OnOk answer (Appends old.held new.held bytes) → TookPrefix old.held new.held bytes →
+    IfErr answer (λ f. IsOutFault f ⊎ (f ≡ fault.OutputTooLong)) →
+    Counts (answer ≡ Err fault.Output) old.faults new.faults → AnswersOn c given last files (streams input old) (streams input new) answer
+printed_answers c given last files printed bytes input old new answer e p owed is (inl long) past same all some fault count =
+    subst (λ a. AnswersOn c given last files (streams input old) (streams input new) a) (sym long)
+    (subst (λ o. AnswersOn c given last files (streams input old) (streams input o) (Err fault.OutputTooLong)) (sym (same long))
+    (overfull_answers c given last files printed bytes (streams input old) p owed is (past long)))
+printed_answers c given last files printed bytes input old new (Ok done) e p owed is (inr few) past same all some fault count =
+    fitted_answers c given last files printed bytes input old new (Ok done) e p owed is few all some tt count
+printed_answers c given last files printed bytes input old new (Err f) e p owed is (inr few) past same all some (inl out) count =
+    fitted_answers c given last files printed bytes input old new (Err f) e p owed is few all some out count
+printed_answers c given last files printed bytes input old new (Err f) e p owed is (inr few) past same all some (inr long) count =
+    absurd (not_both (output_most c (edition_for files)) (length bytes) few (past (ap failed long)))
+
 -- ---- what answers the input
 
 -- what is known of a command that answers the input so
 record AnswersBy (job : Job) (who : Answerer) : Type 0 where
   reads : reads_input job.command ≡ true
   owes : (ls : List (List ℕ)) (replies : List ℕ) → AreReplies who ls replies → Owes job.command job.files job.given job.passes ls replies
+
+-- what such a command writes has no limit
+reads_unlimited : (c : Command) (edition : Edition) (count : ℕ) → reads_input c ≡ true → IsWithin (output_most c edition) count
+reads_unlimited (compile flags file) edition count e = cc
+reads_unlimited (prove file) edition count e = cc
+reads_unlimited c edition count e = tt
 
 wrote_by : (job : Job) (before after : Streams) (Took : Option (List ℕ) → Option (List ℕ) → List ℕ → Type 0) (front : List ℕ) (ls : List (List ℕ))
     (end text : List ℕ) (who : Answerer) →
@@ -223,6 +290,7 @@ wrote_by job before after Took front ls end text who by read replies took = reco
   text = text;
   read = subst (λ b. Reads b before.input.left after.input.left front) (sym by.reads) read;
   owed = by.owes ls text replies;
+  fits = reads_unlimited job.command (edition_for job.files) (length (text ++ end)) by.reads;
   took = took;
 }
 

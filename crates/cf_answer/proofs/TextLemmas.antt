@@ -50,10 +50,6 @@ pub misread_number : (edition : Edition) (text : List ℕ) (ts : List Token) (p 
 misread_number edition text ts p is h =
     subst (λ e. Causes (of_source e) (IsProgram e) (program_of e 200) (λ x f. ⊥) text (fault.NumberPast p)) is (large_number ts p h)
 
--- why a target is refused, as a text of a kind
-abbrev pub IsRefusedBy : TextKind → List ℕ → Fault → Type 0
-IsRefusedBy kind text f = Causes kind (IsTarget (edition_of text)) (target_of (edition_of text) 500) IsBadTarget text f
-
 pub target_in : (edition : Edition) (text : List ℕ) (t : TargetTree) (ts : List Token) (end : Place) → edition ≡ edition_of text →
     HasTokens (of_target (edition_of text)) text ts end at_end → IsTarget edition t ts → Spelled (of_target (edition_of text)) (IsTarget (edition_of text)) text t
 target_in edition text t ts end is h s = (ts, end, h, subst (λ e. IsTarget e t ts) is s)

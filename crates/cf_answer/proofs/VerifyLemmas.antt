@@ -244,6 +244,11 @@ pub steps_in_order : (file steps : List ℕ) (before mid after : ShelfSeen) (l :
 steps_in_order file steps before mid after l status first (text, told, s) same rose =
     steps_too text s.typed told s.is (λ is. subst (λ n. Rose n (after.faults steps)) (same steps) (rose is))
 
+-- what was read of a source, without its edition
+pub lowered_of : {told : Option (List ℕ)} {l : LoweredParts} {Is : List ℕ → Type 0} →
+    (text : List ℕ) × AreTold told text × IsLoweredSource text l × Is text → (text : List ℕ) × AreTold told text × IsLoweredSource text l
+lowered_of (text, told, s, is) = (text, told, s)
+
 -- ---- the text of a steps file, against the chooses of a source
 pub steps_refused : (source steps : List ℕ) (l : LoweredParts) (f : Fault) → IsLoweredSource source l → AreMisspelled (edition_of source) steps f ⊎ (f ≡ fault.NoMemory) →
     IsUnverified source steps f ⊎ (f ≡ fault.NoMemory)

@@ -38,7 +38,7 @@ fn verified_lines(alloc: Global, chooses: &[Choose<'_>]) -> Result<Vec<u8>, NoMe
     Ok(text)
 }
 
-/// A source that was read: its edition, and its program with its matches taken apart.
+// A source that was read: its edition, and its program with its matches taken apart.
 #[derive(Drop)]
 struct Fetched {
     edition: Edition,

@@ -47,10 +47,10 @@ has_name : (c : Command) (name : List ℕ) → names_of c ≡ name ∷ [] → Co
 has_name c name e = subst (λ ns. Contains ns name) (sym e) (one_contains name)
 
 -- what reading a file did
-pub record FileRead (name : List ℕ) (before after : ShelfSeen) : Type 0 where
+pub record FileRead (limit : ℕ) (name : List ℕ) (before after : ShelfSeen) : Type 0 where
   pub fetched : after.fetches ≡ one_more before.fetches
-  pub most : (after.left ≡ before.left) ⊎ TookFront (text_limit + 1) (before.texts name) after.left
-  pub given : after.given ≤ before.given + (text_limit + 1)
+  pub most : (after.left ≡ before.left) ⊎ TookFront (limit + 1) (before.texts name) after.left
+  pub given : after.given ≤ before.given + (limit + 1)
   pub ends : after.ends ≤ before.ends + 1
 
 pub file_read : (name : List ℕ) (before after : ShelfSeen) (limit : ℕ) → limit ≡ text_limit → after.fetches ≡ one_more before.fetches →

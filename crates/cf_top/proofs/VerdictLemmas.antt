@@ -5,14 +5,14 @@ use Rattle.cf_io.specs.Causes.{Rose}
 use Rattle.cf_io.specs.Limits.{IsWithin, IsPast}
 use Rattle.cf_io.specs.Seen.{SinkSeen}
 use Rattle.cf_pass.specs.Passes.{Told}
-use Rattle.cf_words.specs.Commands.{Command}
+use Rattle.cf_words.specs.Commands.{Command, compile, prove}
 use Rattle.cf_answer.specs.Commands.{names_of, reads_input}
 use Rattle.cf_answer.specs.Ends.{Job, Reads, IsReadUp, Wrote, Ends, Does, Answers}
 use Rattle.cf_answer.specs.Limits.{input_most}
 use Rattle.cf_answer.specs.Outside.{Outside, Streams, AreTold, AreTexts}
 use Rattle.cf_answer.specs.Refusals.{Refuses, IsAccepted}
 use Rattle.cf_answer.specs.Statuses.{fault_status, status_of}
-use Rattle.cf_top.specs.Top.{IsShort, IsLong, IsComplete, Completes, TopAnswer}
+use Rattle.cf_top.specs.Top.{IsShort, IsLong, IsOverfull, IsComplete, Completes, TopAnswer}
 use Rattle.cf_answer.specs.declared.fault.Fault.{Fault}
 use Rattle.cf_answer.specs.declared.fault.Fault.TheVariants as fault
 use Rattle.cf_answer.specs.declared.status.Status.{Status}
@@ -75,6 +75,7 @@ data Settled (command : Command) (files : List (List ℕ)) (input : Option (List
   out_failed : IsAccepted command files → status ≡ Output → Settled command files input status
   stopped : (f : Fault) → Refuses command files f → status ≡ fault_status f → Settled command files input status
   finished : IsAccepted command files → (IsLong (input_most files) (reads_input command) input → ⊥) → status ≡ Done → Settled command files input status
+  overfull : IsAccepted command files → IsOverfull command files status → Settled command files input status
   overlong : IsAccepted command files → (IsShort (input_most files) (reads_input command) input → ⊥) → status ≡ InputLong → Settled command files input status
 
 wrote_accepted : (job : Job) (before after : Streams) (Took : Option (List ℕ) → Option (List ℕ) → List ℕ → Type 0) (front : List ℕ) (ls : List (List ℕ))
@@ -90,6 +91,9 @@ settled_by job before after status (Ok done) h is nf =
 settled_by job before after status (Err fault.Input) h is nf = input_failed (wrote_accepted job before after _ _ _ _ h.3) is
 settled_by job before after status (Err fault.InputTooLong) h is nf =
     overlong (wrote_accepted job before after _ _ _ _ h.2) (read_past (input_most job.files) (reads_input job.command) before.input.left after.input.left h.0 h.2.read h.1) is
+settled_by job before after status (Err fault.OutputTooLong) h is nf =
+    overfull (owed_accepted job.command job.files job.given job.passes [] h.0 h.1)
+    (record { is = is; given = job.given; passes = job.passes; text = h.0; owed = h.1; past = h.2 })
 settled_by job before after status (Err fault.Output) h is nf = out_failed (wrote_accepted job before after _ _ _ _ h.3) is
 settled_by job before after status (Err fault.NoMemory) h is nf = no_memory is
 settled_by job before after status (Err fault.File) h is nf = absurd (nf is)
@@ -102,17 +106,27 @@ when_refused command files input status (input_failed a is) f h = absurd (a f h)
 when_refused command files input status (out_failed a is) f h = absurd (a f h)
 when_refused command files input status (stopped g i is) f h = inl (is ∙ refused_alike command files g f i h)
 when_refused command files input status (finished a n is) f h = absurd (a f h)
+when_refused command files input status (overfull a o) f h = absurd (a f h)
 when_refused command files input status (overlong a n is) f h = absurd (a f h)
 
 when_short : (command : Command) (files : List (List ℕ)) (input : Option (List ℕ)) (status : Status) → Settled command files input status →
     IsAccepted command files → (status ≡ Input → ⊥) → (status ≡ Output → ⊥) →
-    IsShort (input_most files) (reads_input command) input → (status ≡ Done) ⊎ (status ≡ NoMemory)
-when_short command files input status (no_memory is) a ni nout short = inr is
+    IsShort (input_most files) (reads_input command) input → (status ≡ Done) ⊎ (status ≡ NoMemory) ⊎ IsOverfull command files status
+when_short command files input status (no_memory is) a ni nout short = inr (inl is)
+when_short command files input status (overfull b o) a ni nout short = inr (inr o)
 when_short command files input status (input_failed b is) a ni nout short = absurd (ni is)
 when_short command files input status (out_failed b is) a ni nout short = absurd (nout is)
 when_short command files input status (stopped g i is) a ni nout short = absurd (a g i)
 when_short command files input status (finished b n is) a ni nout short = inl is
 when_short command files input status (overlong b n is) a ni nout short = absurd (n short)
+
+-- a command with a limit of what it writes reads no input
+reads_no_limit : (command : Command) (files : List (List ℕ)) (reading : Bool) (input : Option (List ℕ)) (status : Status) → reads_input command ≡ reading →
+    IsOverfull command files status → IsLong (input_most files) reading input → ⊥
+reads_no_limit command files false input status e o long = long
+reads_no_limit (compile flags file) files true input status e o long = cc
+reads_no_limit (prove file) files true input status e o long = cc
+reads_no_limit command files true input status e o long = o.past
 
 when_long : (command : Command) (files : List (List ℕ)) (input : Option (List ℕ)) (status : Status) → Settled command files input status →
     IsAccepted command files → (status ≡ Input → ⊥) → (status ≡ Output → ⊥) →
@@ -122,6 +136,7 @@ when_long command files input status (input_failed b is) a ni nout long = absurd
 when_long command files input status (out_failed b is) a ni nout long = absurd (nout is)
 when_long command files input status (stopped g i is) a ni nout long = absurd (a g i)
 when_long command files input status (finished b n is) a ni nout long = absurd (n long)
+when_long command files input status (overfull b o) a ni nout long = absurd (reads_no_limit command files (reads_input command) input status refl o long)
 when_long command files input status (overlong b n is) a ni nout long = inl is
 
 completed : (command : Command) (files : List (List ℕ)) (input : Option (List ℕ)) (status : Status) → Settled command files input status →

@@ -21,5 +21,5 @@ pub returns-clause-answers : goal.returns-clause-answers
 returns-clause-answers g c =
     let l = c.in_ok-lowered.ensures in
     let s = l.1 in
-    λ file given input. written_answers _ given given _ _ _ input _ _ _ refl refl (l.0, s.typed, s.is, c.in_ok-text.ensures c.args.text.now s)
+    λ file given input. written_answers _ given given _ _ _ input _ _ _ refl (λ e. refl) refl (l.0, s.typed, s.is, c.in_ok-text.ensures c.args.text.now s)
     (c.deref.ensures.value ∙ sym (append-nil _)) c.write_text.ensures.all c.write_text.ensures.prefix c.write_text.ensures.fault c.write_text.ensures.count

@@ -1,6 +1,6 @@
 use Rattle.std.proofs.Common.{◌∙◌, refl, sym, append-nil}
 use Rattle.std.proofs.lemmas.Result.{err_from_is_err_and}
-use Rattle.cf_answer.proofs.AnswerLemmas.{stopped_answers, written_answers}
+use Rattle.cf_answer.proofs.AnswerLemmas.{stopped_answers, printed_answers}
 use Rattle.cf_answer.proofs.TextLemmas.{broken_refused}
 use Rattle.cf_answer.proofs.prove.write_blocks.Goals as goal
 
@@ -17,5 +17,6 @@ returns-in_err-text-clause-answers g c =
 pub returns-clause-answers : goal.returns-clause-answers
 returns-clause-answers g c =
     let s = c.in_ok-lowered.ensures in
-    λ file given input. written_answers _ given given _ _ _ input _ _ _ refl refl (s.typed, s.is, c.in_ok-text.ensures c.args.text.now s)
-    (c.deref.ensures.value ∙ sym (append-nil _)) c.write_text.ensures.all c.write_text.ensures.prefix c.write_text.ensures.fault c.write_text.ensures.count
+    λ file given input. printed_answers _ given given _ _ _ input _ _ _ refl refl (s.typed, s.is, c.in_ok-text.ensures c.args.text.now s)
+    (c.deref.ensures.value ∙ sym (append-nil _)) c.write_printed.ensures.fits c.write_printed.ensures.past c.write_printed.ensures.unwritten c.write_printed.ensures.all
+    c.write_printed.ensures.prefix c.write_printed.ensures.fault c.write_printed.ensures.count

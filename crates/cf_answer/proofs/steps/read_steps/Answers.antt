@@ -11,7 +11,7 @@ returns-in-Ok c =
     let tokens = c.in_ok-list.ensures.tokens in record {
       spelled = (list.list.items, list.end, tokens, c.in-Ok.ensures.found);
       within = spelled_within c.in-Ok.found.list.items (c.in-Ok.ensures.spelled c.in_ok-list.ensures.within);
-      few = few_steps (block_trees c.in-Ok.found) c.args.text.now list c.in-Ok.ensures.few tokens;
+      few = few_steps c.args.edition (block_trees c.in-Ok.found) c.args.text.now list c.in-Ok.ensures.few tokens;
     }
 
 pub returns-in-Err-Syntax : goal.returns-in-Err-Syntax

@@ -1,4 +1,5 @@
 use Rattle.std.proofs.Common.{◌≡◌, refl, subst, sym, rules}
+use Rattle.cf_answer.specs.Limits.{text_limit}
 use Rattle.cf_answer.specs.Outside.{AreTold}
 use Rattle.cf_answer.specs.Refusals.{too_long}
 use Rattle.cf_answer.specs.Verifying.{broken_file}
@@ -20,5 +21,5 @@ returns-in-Ok-clause-fault g c =
 pub returns-in-Err-TooLong-clause-fault : goal.returns-in-Err-TooLong-clause-fault
 returns-in-Err-TooLong-clause-fault g c =
     let is = c.in-Err-TooLong.field-0-is in
-    let text = long_text _ (rw c.longest_text.ensures.is at (c.in-Err-TooLong.ensures.long (rw is refl))) in
+    let text = long_text text_limit _ (rw c.longest_text.ensures.is at (c.in-Err-TooLong.ensures.long (rw is refl))) in
     broken_file (text.0, text.1, too_long text.2) (c.in-Err-TooLong.ensures.same (λ e. cc))

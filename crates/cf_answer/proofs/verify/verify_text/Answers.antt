@@ -1,4 +1,4 @@
-use Rattle.std.proofs.Common.{◌∙◌, [], inl, inr, map, refl, subst, sym, append-nil}
+use Rattle.std.proofs.Common.{◌≡◌, ◌⊎◌, ◌∙◌, [], inl, inr, map, refl, subst, sym, append-nil}
 use Rattle.std.proofs.lemmas.Result.{err_from_is_err_and}
 use Rattle.cf_tree.specs.ChooseView.{choose_tree}
 use Rattle.cf_cases.specs.Holding.{EachOf}
@@ -6,6 +6,8 @@ use Rattle.cf_cert.specs.Laws.{IsLinearChoose}
 use Rattle.cf_answer.proofs.AnswerLemmas.{stopped_answers, written_answers}
 use Rattle.cf_answer.proofs.AskedLemmas.{are_linear, asked_all}
 use Rattle.cf_answer.proofs.VerifyLemmas.{steps_refused, blocks_refused, verified_owes}
+use Rattle.cf_answer.specs.Verifying.{AreMisspelled, AreReadFrom}
+use Rattle.cf_answer.specs.declared.fault.Fault.TheVariants as fault
 use Rattle.cf_answer.proofs.verify.verify_text.Goals as goal
 
 pub verify-requires-clause-chooses : goal.verify-requires-clause-chooses
@@ -16,31 +18,31 @@ verify-requires-clause-chooses g c =
 pub returns-in_err-blocks-clause-answers : goal.returns-in_err-blocks-clause-answers
 returns-in_err-blocks-clause-answers g c =
     let p = err_from_is_err_and c.from_residual.result c.from_residual.ensures.1 in
-    λ file steps given input source s. rw (p.1, p.2) (stopped_answers _ given given _ _ _ refl
-    (steps_refused source c.args.text.now _ _ s c.in_err-blocks.ensures))
+    λ file steps given input source s edition. rw (p.1, p.2) (stopped_answers _ given given _ _ _ refl
+    (steps_refused source c.args.text.now _ _ s (subst (λ e. AreMisspelled e c.args.text.now _ ⊎ (_ ≡ fault.NoMemory)) edition c.in_err-blocks.ensures)))
 
 pub returns-in_err-chooses-clause-answers : goal.returns-in_err-chooses-clause-answers
 returns-in_err-chooses-clause-answers g c =
     let p = err_from_is_err_and c.from_residual-in_err-chooses.result c.from_residual-in_err-chooses.ensures.1 in
-    λ file steps given input source s. rw (p.1, p.2) (stopped_answers _ given given _ _ _ refl (inr refl))
+    λ file steps given input source s edition. rw (p.1, p.2) (stopped_answers _ given given _ _ _ refl (inr refl))
 
 pub returns-in_err-verdict-clause-answers : goal.returns-in_err-verdict-clause-answers
 returns-in_err-verdict-clause-answers g c =
     let p = err_from_is_err_and c.from_residual-in_err-verdict.result c.from_residual-in_err-verdict.ensures.1 in
-    λ file steps given input source s. rw (p.1, p.2) (stopped_answers _ given given _ _ _ refl (inr refl))
+    λ file steps given input source s edition. rw (p.1, p.2) (stopped_answers _ given given _ _ _ refl (inr refl))
 
 pub returns-in_err-lines-in-Yes-clause-answers : goal.returns-in_err-lines-in-Yes-clause-answers
 returns-in_err-lines-in-Yes-clause-answers g c =
     let p = err_from_is_err_and c.from_residual-in_err-lines-in-Yes.result c.from_residual-in_err-lines-in-Yes.ensures.1 in
-    λ file steps given input source s. rw (p.1, p.2) (stopped_answers _ given given _ _ _ refl (inr refl))
+    λ file steps given input source s edition. rw (p.1, p.2) (stopped_answers _ given given _ _ _ refl (inr refl))
 
 pub returns-in-Yes-clause-answers : goal.returns-in-Yes-clause-answers
 returns-in-Yes-clause-answers g c =
     let cs = c.in_ok-chooses.chooses.items in
-    λ file steps given input source s.
-    let asks = asked_all source c.args.lowered.now _ cs c.typed.ensures.value c.in_ok-chooses.ensures.chooses c.in_ok-chooses.ensures.typed s in
-    written_answers _ given given _ _ _ input _ _ _ refl refl
-    (verified_owes file steps source c.args.text.now given given [] _ _ _ asks c.in_ok-blocks.ensures
+    λ file steps given input source s edition.
+    let asks = asked_all source c.args.source.now.lowered _ cs c.typed.ensures.value c.in_ok-chooses.ensures.chooses c.in_ok-chooses.ensures.typed s in
+    written_answers _ given given _ _ _ input _ _ _ refl (λ e. refl) refl
+    (verified_owes file steps source c.args.text.now given given [] _ _ _ asks (subst (λ e. AreReadFrom e c.args.text.now _) edition c.in_ok-blocks.ensures)
     (rw (c.deref.ensures.value, c.in-Yes.is) at c.in_ok-verdict.ensures.verdict) (rw c.deref-in-Yes.ensures.value at c.in_ok-lines-in-Yes.ensures))
     (c.deref-in-Yes-2.ensures.value ∙ sym (append-nil _)) c.write_text.ensures.all c.write_text.ensures.prefix c.write_text.ensures.fault
     c.write_text.ensures.count
@@ -48,8 +50,8 @@ returns-in-Yes-clause-answers g c =
 pub returns-clause-answers : goal.returns-clause-answers
 returns-clause-answers g c =
     let cs = c.in_ok-chooses.chooses.items in
-    λ file steps given input source s.
-    let asks = asked_all source c.args.lowered.now _ cs c.typed.ensures.value c.in_ok-chooses.ensures.chooses c.in_ok-chooses.ensures.typed s in
+    λ file steps given input source s edition.
+    let asks = asked_all source c.args.source.now.lowered _ cs c.typed.ensures.value c.in_ok-chooses.ensures.chooses c.in_ok-chooses.ensures.typed s in
     stopped_answers _ given given _ _ _ refl
-    (inl (blocks_refused source c.args.text.now _ _ _ _ _ _ asks c.in_ok-blocks.ensures
+    (inl (blocks_refused source c.args.text.now _ _ _ _ _ _ asks (subst (λ e. AreReadFrom e c.args.text.now _) edition c.in_ok-blocks.ensures)
     (rw (c.deref.ensures.value, c.in-Rejected.is) at c.in_ok-verdict.ensures.verdict)))
