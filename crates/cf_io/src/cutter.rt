@@ -1,5 +1,5 @@
 //! A cutter of lines.
-ghost use Rattle.std.specs.Prelude.{◌≡◌, ℕ, ◌^◌, ◌<◌, List, [], ◌++◌, take, map, Option, IfOk, OnOk, OnErr};
+ghost use Rattle.std.specs.Prelude.{◌≡◌, ℕ, ◌-◌, ◌^◌, ◌<◌, ◌≤◌, List, [], ◌++◌, length, take, map, Option, IfOk, OnOk, OnErr};
 ghost use Rattle.cf_io.specs.Cut.{line_of, Keeps, Stands, new_lines, room_behind as the_room_behind, within as the_within};
 ghost use Rattle.cf_io.specs.Limits.{line_limit};
 ghost use Rattle.cf_io.specs.Lines.{ended, rest_of, last_of};
@@ -195,7 +195,16 @@ fn next_rest(
             let mut front = Vec::new(alloc);
             extend(&mut front, &piece[at..], limit)?;
             *kept = front;
-            Ok((piece.len() - at) as u64)
+            Ok(len_behind(piece, at))
         }
     }
+}
+
+// How many bytes stand from that place on.
+fn len_behind(piece: &[u8], at: usize) -> u64
+    requires { at ≤ length piece.now }
+    ensures size { result ≡ length piece.now - at }
+    ensures small { result < 2 ^ 64 }
+{
+    (piece.len() - at) as u64
 }

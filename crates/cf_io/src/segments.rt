@@ -75,7 +75,7 @@ pub(crate) fn first_ended<'p>(
     out: &mut Vec<Line>,
 ) -> Result<&'p [u8], NoMemory>
     requires { limit < 2 ^ 31 }
-    ensures lines { IfOk result (λ rest. (w : List ℕ) → Keeps limit head.now size w →
+    ensures { IfOk result (λ rest. (w : List ℕ) → Keeps limit head.now size w →
         out.new.items ++ map (line_of limit) (ended_from [] rest.now) ≡ out.old.items ++ map (line_of limit) (ended_from w piece.now)) }
 {
     match split_line(piece) {

@@ -7,7 +7,8 @@ use Rattle.cf_io.proofs.cutter.Cutter.first_of.Goals as goal
 
 pub returns : goal.returns
 returns c = λ most bytes s.
-    let kept = rw (← c.deref.ensures.value) at s.line in
-    let found = rw c.within-front.ensures at (c.in_ok-rest.ensures.lines (rest_of bytes) kept) in
+    let stood = rw (← c.self.view_is) at s in
+    let kept = rw (← c.deref.ensures.value) at stood.line in
+    let found = rw c.within-front.ensures at (c.in_ok-rest.ensures (rest_of bytes) kept) in
     ap (λ ls. c.first_ended.new.out.items ++ map (line_of c.args.limit) ls) (ended-is c.in_ok-rest.rest.now) ∙ found
     ∙ ap (λ ls. c.args.lines.now.items ++ ls) (lines_found c.args.limit most c.args.self.now.room bytes c.args.piece.now s.room)
