@@ -6,6 +6,8 @@ ghost use Rattle.cf_answer.specs.Ends.{AnswersOn};
 ghost use Rattle.cf_answer.specs.Outside.{streams};
 ghost use Rattle.cf_answer.specs.Statuses.{status_of as the_status_of, IsEarly};
 ghost use Rattle.cf_target.specs.Spelling.{target_tree};
+ghost use Rattle.cf_lex.specs.Editions.{edition_of as the_edition_of};
+ghost use Rattle.cf_answer.specs.Limits.{of_target, most_of};
 ghost use Rattle.cf_answer.specs.Refusals.{IsRefusedTarget};
 ghost use Rattle.cf_answer.specs.Sources.{IsTypedTarget};
 ghost use Rattle.cf_answer.specs.Steps.{IsVerdict};
@@ -31,6 +33,16 @@ fn read_target(alloc: Global, text: &[u8]) -> Result<Target, Fault>
     if text.len() > longest_target(edition) {
         return Err(Fault::TextTooLong);
     }
+    spelled_target(alloc, edition, text)
+}
+
+// The same of a text that is within the limit of its edition.
+fn spelled_target(alloc: Global, edition: Edition, text: &[u8]) -> Result<Target, Fault>
+    requires edition { edition ≡ the_edition_of text.now }
+    requires short { length text.now ≤ most_of (of_target (the_edition_of text.now)) }
+    requires place { length text.now < 2 ^ 32 - 1 }
+    ensures { IsVerdict (λ t. IsTypedTarget text.now (target_tree t)) (IsRefusedTarget text.now) result }
+{
     let list = lexed(alloc, Edition::Two, text)?;
     match target(alloc, edition, &list) {
         Ok(raw) => match check_target(alloc, raw) {
