@@ -69,5 +69,12 @@ pub fn run_target<I: Source, O: Sink>(
     ensures unwritten { IsEarly (the_status_of result) → out.new ≡ out.old }
 {
     let target = read_target(alloc, text)?;
-    answer_by(alloc, edition_of(text), &Answerer::Target(target), &[], input, out)
+    answer_by(
+        alloc,
+        edition_of(text),
+        &Answerer::Target(target),
+        &[],
+        input,
+        out,
+    )
 }

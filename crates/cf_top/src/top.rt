@@ -12,9 +12,9 @@ ghost use Rattle.cf_words.specs.Commands.{command_on};
 ghost use Rattle.cf_words.specs.Words.{command_of, may_be_read};
 
 use cf_answer::{
-    Fault, Status, longest_text, longest_written, run_source, run_target, status_of, tell, verify_files,
-    write_blocks, write_checks, write_help, write_preconditions, write_target, write_version,
-    write_workload,
+    Fault, Status, longest_text, longest_written, run_source, run_target, status_of, tell,
+    verify_files, write_blocks, write_checks, write_help, write_preconditions, write_target,
+    write_version, write_workload,
 };
 use cf_io::{ReadFault, Shelf, Sink, Source, read_text};
 use cf_pass::Pass;
