@@ -11,4 +11,4 @@ returns c = λ most bytes s.
     let kept = rw (← c.deref.ensures.value) at stood.line in
     let found = rw c.within-front.ensures at (c.in_ok-rest.ensures (rest_of bytes) kept) in
     ap (λ ls. c.first_ended.new.out.items ++ map (line_of c.args.limit) ls) (ended-is c.in_ok-rest.rest.now) ∙ found
-    ∙ ap (λ ls. c.args.lines.now.items ++ ls) (lines_found c.args.limit most c.args.self.now.room bytes c.args.piece.now s.room)
+    ∙ ap (λ ls. c.args.lines.now.items ++ ls) (lines_found c.args.limit most c.self.inside.room bytes c.args.piece.now stood.room)
