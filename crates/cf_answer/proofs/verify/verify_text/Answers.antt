@@ -4,12 +4,12 @@ use Rattle.cf_tree.specs.ChooseView.{choose_tree}
 use Rattle.cf_cases.specs.Holding.{EachOf}
 use Rattle.cf_cert.specs.Laws.{IsLinearChoose}
 use Rattle.cf_answer.proofs.AnswerLemmas.{stopped_answers, written_answers}
-use Rattle.cf_answer.proofs.AskedLemmas.{are_linear, asked_all}
+use Rattle.cf_answer.proofs.AskedLemmas.{are_linear, branched_all}
 use Rattle.cf_answer.proofs.VerifyLemmas.{steps_refused, blocks_refused, verified_owes}
 use Rattle.cf_answer.proofs.verify.verify_text.Goals as goal
 
-pub verify-requires-clause-chooses : goal.verify-requires-clause-chooses
-verify-requires-clause-chooses g c =
+pub verdict-requires-clause-chooses : goal.verdict-requires-clause-chooses
+verdict-requires-clause-chooses g c =
     let linear = are_linear c.in_ok-chooses.chooses.items c.in_ok-chooses.ensures.typed in
     subst (λ cs. EachOf IsLinearChoose (map choose_tree cs)) (sym c.deref.ensures.value) linear
 
@@ -17,7 +17,7 @@ pub returns-in_err-blocks-clause-answers : goal.returns-in_err-blocks-clause-ans
 returns-in_err-blocks-clause-answers g c =
     let p = err_from_is_err_and c.from_residual.result c.from_residual.ensures.1 in
     λ file steps given input source s. rw (p.1, p.2) (stopped_answers _ given given _ _ _ refl
-    (steps_refused source c.args.text.now _ _ s c.in_err-blocks.ensures))
+    (steps_refused source c.args.text.now c.args.program.now _ s (rw c.edition.ensures at c.in_err-blocks.ensures)))
 
 pub returns-in_err-chooses-clause-answers : goal.returns-in_err-chooses-clause-answers
 returns-in_err-chooses-clause-answers g c =
@@ -38,7 +38,7 @@ pub returns-in-Yes-clause-answers : goal.returns-in-Yes-clause-answers
 returns-in-Yes-clause-answers g c =
     let cs = c.in_ok-chooses.chooses.items in
     λ file steps given input source s.
-    let asks = asked_all source c.args.lowered.now _ cs c.typed.ensures.value c.in_ok-chooses.ensures.chooses c.in_ok-chooses.ensures.typed s in
+    let branched = branched_all source c.args.program.now _ cs c.typed.ensures.value c.in_ok-chooses.ensures.chooses s in
     written_answers _ given given _ _ _ input _ _ _ refl refl
     (verified_owes file steps source c.args.text.now given given [] _ _ _ asks c.in_ok-blocks.ensures
     (rw (c.deref.ensures.value, c.in-Yes.is) at c.in_ok-verdict.ensures.verdict) (rw c.deref-in-Yes.ensures.value at c.in_ok-lines-in-Yes.ensures))
@@ -49,7 +49,7 @@ pub returns-clause-answers : goal.returns-clause-answers
 returns-clause-answers g c =
     let cs = c.in_ok-chooses.chooses.items in
     λ file steps given input source s.
-    let asks = asked_all source c.args.lowered.now _ cs c.typed.ensures.value c.in_ok-chooses.ensures.chooses c.in_ok-chooses.ensures.typed s in
+    let branched = branched_all source c.args.program.now _ cs c.typed.ensures.value c.in_ok-chooses.ensures.chooses s in
     stopped_answers _ given given _ _ _ refl
     (inl (blocks_refused source c.args.text.now _ _ _ _ _ _ asks c.in_ok-blocks.ensures
     (rw (c.deref.ensures.value, c.in-Rejected.is) at c.in_ok-verdict.ensures.verdict)))
