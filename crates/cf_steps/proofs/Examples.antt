@@ -18,6 +18,7 @@ use Rattle.cf_elim.specs.declared.act.Act.TheVariants.{Clean, Mix, Last, Search,
 use Rattle.cf_steps.specs.declared.block.NamedTruth.{NamedTruth}
 use Rattle.cf_steps.specs.Blocks.{BlockTree}
 use Rattle.cf_elim.specs.Acts.{IsSpelledAct}
+use Rattle.cf_steps.specs.Spelled.{IsSpelledTruth, IsSpelledHead}
 use Rattle.cf_steps.specs.Spelling.{AreBlocks}
 use Rattle.cf_steps.specs.Reading.{factor_of, mix_of, search_of, act_of, ended_act, acts_of, all_acts, case_of, truth_of, truths_of, no_truths, head_of, block_of, blocks_of}
 use Rattle.cf_steps.specs.Reading.{all_blocks}
@@ -145,6 +146,20 @@ no_heads-read = refl
 two-without_heads : head_of Two (sign (codes "(") ∷ word (codes "p") ∷ sign (codes "=") ∷ word (codes "true") ∷ sign (codes ")") ∷ sign (codes "{") ∷ []) ≡ Err 6
 unfolding at must bind no_truths head_of
 two-without_heads = refl
+
+-- names of edition 3 are spelled, and no word that it reserves, nor what begins with a digit
+name-spelled : IsSpelledTruth (named (codes "q_2") false)
+name-spelled = record { word = refl; free = refl }
+
+reserved-unspelled : IsSpelledTruth (named (codes "where") true) → ⊥
+reserved-unspelled h = cc h.free
+
+digit-unspelled : IsSpelledTruth (named (codes "2q") true) → ⊥
+digit-unspelled h = cc h.word
+
+-- a head has no truth variable in language 2
+two-unspelled : IsSpelledHead Two (named (codes "p") true ∷ []) → ⊥
+two-unspelled h = h.0
 
 -- ---- what has a spelling: columns of 32 bits, and factors within the limit
 greatest-spelled : IsSpelledAct (Mix 4294967295 4294967295 (pos (2 ^ 127 - 1)) (negsuc (2 ^ 127 - 2)) (pos 0) (negsuc 0))

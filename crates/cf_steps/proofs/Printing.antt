@@ -34,7 +34,7 @@ use Rattle.cf_steps.specs.Blocks.{BlockTree, block_tree}
 use Rattle.cf_steps.specs.Printed.{side_text, act_text, acts_text, cases_text, named_text, head_text, block_text, blocks_text}
 use Rattle.cf_steps.specs.ReadsBack.{ReadsBack}
 use Rattle.cf_elim.specs.Acts.{IsColumn, IsSpelledAct}
-use Rattle.cf_steps.specs.Spelled.{AreSpelledCases, IsSpelledBlock, IsSpelledTruth, IsSpelledHead}
+use Rattle.cf_steps.specs.Spelled.{AreSpelledCases, IsSpelledBlock, is_word, IsSpelledTruth, IsSpelledHead}
 use Rattle.cf_steps.specs.Spelling.{SpellsColumn, SpellsFactor, side_kind, SpellsAct, SpellsActs, SpellsCases, NextName, SpellsTruth, SpellsHead, SpellsBlock, AreBlocks}
 use Rattle.cf_steps.proofs.Only.{one_law}
 
@@ -126,8 +126,12 @@ cases_say (acts ∷ cases) h rest =
     (cases_say cases (All-tail (λ acts. All IsSpelledAct acts) acts cases h) rest)
 
 -- ---- heads
+plain_word : (w : List ℕ) → is_word w ≡ true → is_plain w ≡ true
+plain_word [] h = h
+plain_word (b ∷ w) h = h
+
 name_says : (t : NamedTruth) → IsSpelledTruth t → Says (NextName t.name) t.name
-name_says t h rest stops = as_form (λ ts more w. (w.0, (w.1, h.free))) (word t.name rest h.word stops)
+name_says t h rest stops = as_form (λ ts more w. (w.0, (w.1, h.free))) (word t.name rest (plain_word t.name h.word) stops)
 
 truth_form : {X Y : Form} (a b : List ℕ) → Says X a → Says Y b → Says (X ⨟ Next (Sign (codes "=")) ⨟ Y) (a ++ codes " = " ++ b)
 truth_form a b s t rest stops =
