@@ -37,8 +37,8 @@ traced_prove (q ∷ qs) [] h = absurd h
 traced_prove (q ∷ qs) (b ∷ bs) h = (h.0.proves, traced_prove qs bs h.1)
 
 pub proved_is_verified : ProvedIsVerified
-proved_is_verified name other source given last ls text (typed, s, (bs, traced, is, back)) short =
-    (_, (typed, s, (map block_tree bs, (back.tokens, back.end, (short, back.lexed), back.spelled), traced_prove _ bs traced), refl))
+proved_is_verified name other source given last ls text (cs, b, (bs, traced, heads, is, back)) short =
+    (_, (cs, b, (map block_tree bs, (back.tokens, back.end, (short, back.lexed), back.spelled), heads, traced_prove _ bs traced), refl))
 
 -- ---- what `compile` prints
 -- a text spells one target
@@ -76,6 +76,6 @@ compiled_is_run flags name source given last ls text (t, c, p) short =
 
 -- ---- what `pre` writes, and what `check` finds
 pub needs_are_checked : NeedsAreChecked
-needs_are_checked q text Always p e = λ env h. (p.holds env h).1 (e.1 env h)
-needs_are_checked q text (Missing sample) p e = λ env at h. let xs = (p.holds env at.bases).0 h in e.2.unsolved env at xs.0 xs.1
-needs_are_checked q text (Undecided d) p e = tt
+needs_are_checked q branch text Always p e = λ env h. (p.holds env h).1 (e.1 env h)
+needs_are_checked q branch text (Missing sample) p e = λ env at h. let xs = (p.holds env at.bases).0 h in e.2.unsolved env at xs.0 xs.1
+needs_are_checked q branch text (Undecided d) p e = tt

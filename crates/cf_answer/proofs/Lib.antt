@@ -4,6 +4,8 @@ pub mod AskedLemmas
 mod BlameExamples
 mod BlockExamples
 pub mod BlockLemmas
+mod BranchExamples
+pub mod BranchLemmas
 pub mod CauseLemmas
 mod CertificateExamples
 pub mod CertificateLemmas

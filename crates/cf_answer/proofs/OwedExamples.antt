@@ -50,7 +50,7 @@ module _ (name other source steps : List ℕ) (given last : List Told) (ls : Lis
   of-plain_run : Same (Owes (run plain name) (source ∷ []) given last ls text) (OwesRun false source given last ls text)
   of-plain_run = (λ h. h, λ h. h)
 
-  of-pre : Same (Owes (pre name) (source ∷ []) given last ls text) ((typed : TypedTree) × IsTypedSource source typed × ArePres typed text)
+  of-pre : Same (Owes (pre name) (source ∷ []) given last ls text) ((cs : List (ChooseTree × Branch)) × AreBranched source cs × ArePres cs text)
   of-pre = (λ h. h, λ h. h)
 
   of-check : Same (Owes (check name) (source ∷ []) given last ls text)
@@ -61,11 +61,11 @@ module _ (name other source steps : List ℕ) (given last : List Told) (ls : Lis
       ((t : RawTarget) × IsTypedTarget source (target_tree t) × AreReplies (by_target t) ls text)
   of-exec = (λ h. h, λ h. h)
 
-  of-prove : Same (Owes (prove name) (source ∷ []) given last ls text) ((typed : TypedTree) × IsTypedSource source typed × AreProofs (asked_in typed) text)
+  of-prove : Same (Owes (prove name) (source ∷ []) given last ls text) ((cs : List (ChooseTree × Branch)) × AreBranched source cs × AreProofs (edition_of source) cs text)
   of-prove = (λ h. h, λ h. h)
 
   of-verify : Same (Owes (verify name other) (source ∷ steps ∷ []) given last ls text)
-      ((typed : TypedTree) × IsTypedSource source typed × AreVerified (edition_of source) (asked_in typed) steps × (text ≡ flat_map verified_line (asked_in typed)))
+      ((cs : List (ChooseTree × Branch)) × AreBranched source cs × AreVerified (edition_of source) cs steps × (text ≡ flat_map (λ c. verified_line c.0) cs))
   of-verify = (λ h. h, λ h. h)
 
   of-gen : Same (Owes (gen 3) [] given last ls text)

@@ -1,5 +1,5 @@
 -- Why a source text is refused, and that this is one thing only.
-use Rattle.std.proofs.Common.{◌≡◌, ap, subst, ℕ, List, [], ◌∷◌, None, Some, All}
+use Rattle.std.proofs.Common.{◌≡◌, ◌∙◌, refl, ap, subst, ℕ, List, [], ◌∷◌, map, drop, None, Some, All}
 use Rattle.std.proofs.lemmas.List.Elements.{All-nil, All-cons, All-contains}
 use Rattle.std.proofs.lemmas.List.Sorted.{Contains-permutation}
 use Rattle.std.specs.Prelude.{Contains}
@@ -17,7 +17,10 @@ use Rattle.cf_tree.specs.ChooseTree.{ChooseTree}
 use Rattle.cf_build.specs.Chooses.{all_chooses, by_number, limit_of, IsFirstRefused}
 use Rattle.cf_build.proofs.ChooseLaws.{one_refusal, refused_has}
 use Rattle.cf_build.proofs.NumberOrder.{ordered_same}
+use Rattle.cf_form.specs.Branches.{Branch}
+use Rattle.cf_form.specs.Told.{ToldChoose}
 use Rattle.cf_match.specs.Matches.{all_matches}
+use Rattle.cf_answer.specs.Branches.{AreBranched, coming, in_branches}
 use Rattle.cf_answer.specs.Checks.{IsCheckOf}
 use Rattle.cf_answer.specs.Limits.{of_source}
 use Rattle.cf_answer.specs.Owed.{AllWritten, IsPreOf, ArePres, AreChecks}
@@ -70,27 +73,41 @@ built_never_bad edition program typed given last t is built f b = never_bad edit
 pub compiled_unrefused : (given last : List Told) (text : List ℕ) (t : RawTarget) (f : Fault) → Compiles given last text t → IsRefusedSource text f → ⊥
 compiled_unrefused given last text t f c h = typed_unrefused text c.0 f c.1 (λ q m. (c.2.solved q m).within) h
 
+-- the chooses behind their branches
+pub plain_chooses : (told : List ToldChoose) (bs : List Branch) (qs : List ChooseTree) → map (λ c. c.0) (in_branches told bs qs) ≡ qs
+plain_chooses told bs [] = refl
+plain_chooses told bs (q ∷ qs) = ap (λ ps. q ∷ ps) (plain_chooses told (drop 1 (coming told bs q.number)) qs)
+
+pub branched_chooses : (text : List ℕ) (cs : List (ChooseTree × Branch)) (b : AreBranched text cs) → map (λ c. c.0) cs ≡ by_number (all_chooses b.typed.defs)
+branched_chooses text cs b = ap (map (λ c. c.0)) b.are ∙ plain_chooses b.told [] (by_number (all_chooses b.typed.defs))
+
+map_same : (qs : List ChooseTree) → map (λ q. q) qs ≡ qs
+map_same [] = refl
+map_same (q ∷ qs) = ap (λ ps. q ∷ ps) (map_same qs)
+
 -- nor is one of whose chooses something is owed that says so
 abbrev IsWithin : ChooseTree → Type 0
 IsWithin q = limit_of q ≡ None
 
-module _ (Is : ChooseTree → List ℕ → Type 0) (within : (q : ChooseTree) (text : List ℕ) → Is q text → IsWithin q) where
-  written_within : (qs : List ChooseTree) (text : List ℕ) → AllWritten Is qs text → All IsWithin qs
+module _ {Q : Type 0} (plain : Q → ChooseTree) (Is : Q → List ℕ → Type 0) (within : (c : Q) (text : List ℕ) → Is c text → IsWithin (plain c)) where
+  written_within : (cs : List Q) (text : List ℕ) → AllWritten Is cs text → All IsWithin (map plain cs)
   written_within [] text h = All-nil IsWithin
-  written_within (q ∷ qs) text h = All-cons IsWithin q qs (within q h.0 h.3) (written_within qs h.1 h.4)
+  written_within (c ∷ cs) text h = All-cons IsWithin (plain c) (map plain cs) (within c h.0 h.3) (written_within cs h.1 h.4)
 
-  written_unrefused : (text : List ℕ) (typed : TypedTree) (written : List ℕ) (f : Fault) → IsTypedSource text typed →
-      AllWritten Is (by_number (all_chooses typed.defs)) written → IsRefusedSource text f → ⊥
-  written_unrefused text typed written f s owed h =
+  written_unrefused : (text : List ℕ) (typed : TypedTree) (cs : List Q) (written : List ℕ) (f : Fault) → IsTypedSource text typed →
+      map plain cs ≡ by_number (all_chooses typed.defs) → AllWritten Is cs written → IsRefusedSource text f → ⊥
+  written_unrefused text typed cs written f s are owed h =
       let qs = all_chooses typed.defs in
       typed_unrefused text typed f s
-      (λ q m. All-contains IsWithin (by_number qs) q (written_within (by_number qs) written owed)
+      (λ q m. All-contains IsWithin (by_number qs) q (subst (All IsWithin) are (written_within cs written owed))
       (Contains-permutation qs (by_number qs) q (ordered_same qs) m)) h
 
-pub pres_unrefused : (text : List ℕ) (typed : TypedTree) (pres : List ℕ) (f : Fault) → IsTypedSource text typed → ArePres typed pres → IsRefusedSource text f →
-    ⊥
-pres_unrefused text typed pres f s owed h = written_unrefused IsPreOf (λ q t p. p.within) text typed pres f s owed h
+pub pres_unrefused : (text : List ℕ) (cs : List (ChooseTree × Branch)) (pres : List ℕ) (f : Fault) → AreBranched text cs → ArePres cs pres →
+    IsRefusedSource text f → ⊥
+pres_unrefused text cs pres f b owed h =
+    written_unrefused (λ c. c.0) (λ c. IsPreOf c.0 c.1) (λ c t p. p.within) text b.typed cs pres f b.is (branched_chooses text cs b) owed h
 
 pub checks_unrefused : (text : List ℕ) (typed : TypedTree) (checks : List ℕ) (f : Fault) → IsTypedSource text typed → AreChecks typed checks →
     IsRefusedSource text f → ⊥
-checks_unrefused text typed checks f s owed h = written_unrefused (IsCheckOf (all_matches typed.defs)) (λ q t p. p.within) text typed checks f s owed h
+checks_unrefused text typed checks f s owed h = written_unrefused (λ q. q) (IsCheckOf (all_matches typed.defs)) (λ q t p. p.within) text typed
+    (by_number (all_chooses typed.defs)) checks f s (map_same (by_number (all_chooses typed.defs))) owed h

@@ -1,8 +1,8 @@
 -- From reading a source and a steps file to what `verify` does.
-use Rattle.std.proofs.Common.{◌≡◌, ◌∙◌, inl, inr, sym, ap, subst, refl, ℕ, ◌≤◌, ◌+◌, List, [], ◌∷◌, ◌++◌, map, flat_map, take, get_or, append-nil, arith, rules}
+use Rattle.std.proofs.Common.{◌≡◌, ◌∙◌, inl, inr, sym, ap, subst, refl, ℕ, ◌≤◌, ◌+◌, Bool, true, false, not, List, [], ◌∷◌, ◌++◌, map, flat_map, take, drop, get_or, append-nil, Some, None, arith, rules}
 use Rattle.std.proofs.lemmas.List.{take_more, take_all, map-append}
 use Rattle.std.proofs.lemmas.Grind.{flat_map-append}
-use Rattle.std.specs.Prelude.{◌⊎◌, ◌<◌, Option, Result, Err, IfSome, Contains, length}
+use Rattle.std.specs.Prelude.{◌⊎◌, ◌<◌, ◌&&◌, if◌then◌else◌, Option, Result, Err, IfSome, Contains, length}
 use Rattle.cf_io.specs.Bytes.{TookFront}
 use Rattle.cf_io.specs.Causes.{Rose, one_more}
 use Rattle.cf_io.specs.Seen.{ShelfSeen}
@@ -15,10 +15,11 @@ use Rattle.cf_tree.specs.declared.base.Edition.{Edition}
 use Rattle.cf_tree.specs.declared.base.Edition.TheVariants.{Two, Three}
 use Rattle.cf_answer.specs.Outside.{Outside, AreTold, Counts, IsSparing, IsFrugal}
 use Rattle.cf_answer.specs.Owed.{Owes}
-use Rattle.cf_answer.specs.Refusals.{too_long, IsBrokenSource, IsUnverified, bad_source, bad_steps, bad_blocks}
+use Rattle.cf_answer.specs.Refusals.{too_long, IsBrokenSource, IsRefusedSteps, IsUnverified, bad_source, bad_steps, bad_blocks}
 use Rattle.cf_answer.specs.Statuses.{status_of}
-use Rattle.cf_answer.specs.Sources.{IsTypedSource, IsLoweredSource}
-use Rattle.cf_answer.specs.Verifying.{AreAskedIn, AreMisspelled, AreReadFrom, IsFetched, NoneFailed, IsSourceFault, file_failed, broken_file, no_room}
+use Rattle.cf_answer.specs.Sources.{IsTypedSource}
+use Rattle.cf_answer.specs.declared.source.ToldProgram.{ToldProgram}
+use Rattle.cf_answer.specs.Verifying.{edition_in, IsToldProgram, AreMisspelled, AreReadFrom, IsFetched, NoneFailed, IsSourceFault, file_failed, broken_file, no_room}
 use Rattle.cf_answer.specs.declared.fault.Fault.{Fault}
 use Rattle.cf_answer.specs.declared.fault.Fault.TheVariants as fault
 use Rattle.cf_answer.specs.declared.fault.StepsFault.TheVariants as steps_fault
@@ -33,7 +34,14 @@ use Rattle.cf_cert.specs.Judging.{IsVerdict}
 use Rattle.cf_cert.specs.Laws.{IsLinearChoose}
 use Rattle.cf_cert.specs.declared.verdict.Verdict.TheVariants.{Yes, Rejected}
 use Rattle.cf_cert.specs.declared.verdict.Why.{Why}
-use Rattle.cf_answer.specs.Certificates.{asked_in, verified_line}
+use Rattle.std.specs.Str.{bytes_eq}
+use Rattle.std.proofs.lemmas.Slice.Eq.{bytes_eq-Decides}
+use Rattle.cf_cert.specs.declared.verdict.Why.TheVariants.{Blocks}
+use Rattle.cf_form.specs.Branches.{Branch}
+use Rattle.cf_form.specs.Told.{ToldChoose}
+use Rattle.cf_steps.specs.declared.block.NamedTruth.{NamedTruth}
+use Rattle.cf_answer.specs.Branches.{AreBranched, coming, in_branches, IsVerdictIn, head_of, same_head, same_truth, wrong_head}
+use Rattle.cf_answer.specs.Certificates.{AreHeaded, verified_line}
 use Rattle.cf_answer.proofs.CertificateLemmas.{yes_proves}
 use Rattle.cf_answer.proofs.CountLemmas.{one_fault}
 use Rattle.cf_answer.proofs.OutsideLemmas.{Untouched, none_read, none_written, no_input_fault, no_out_fault, long_text}
@@ -238,27 +246,22 @@ source_in_order file steps before after f fetched h =
     source_alone (omega (arith, fetched.fetched)) (λ is. source_rose file before after f h (is_file (failed f) is))
 
 -- the steps file was fetched behind a source that gave its chooses, and only it may have failed
-pub steps_in_order : (file steps : List ℕ) (before mid after : ShelfSeen) (l : LoweredParts) (status : Status) →
-    IsFetched text_limit file before mid → (text : List ℕ) × AreTold (before.texts file) text × IsLoweredSource text l → NoneFailed before mid →
+pub steps_in_order : (file steps : List ℕ) (before mid after : ShelfSeen) (l : ToldProgram) (status : Status) →
+    IsFetched text_limit file before mid → (text : List ℕ) × AreTold (before.texts file) text × IsToldProgram text l → NoneFailed before mid →
     (status ≡ File → Rose (mid.faults steps) (after.faults steps)) → AreFetched file steps before after status
 steps_in_order file steps before mid after l status first (text, told, s) same rose =
-    steps_too text s.typed told s.is (λ is. subst (λ n. Rose n (after.faults steps)) (same steps) (rose is))
-
--- what was read of a source, without its edition
-pub lowered_of : {told : Option (List ℕ)} {l : LoweredParts} {Is : List ℕ → Type 0} →
-    (text : List ℕ) × AreTold told text × IsLoweredSource text l × Is text → (text : List ℕ) × AreTold told text × IsLoweredSource text l
-lowered_of (text, told, s, is) = (text, told, s)
+    steps_too text s.lowered.typed told s.lowered.is (λ is. subst (λ n. Rose n (after.faults steps)) (same steps) (rose is))
 
 -- ---- the text of a steps file, against the chooses of a source
-pub steps_refused : (source steps : List ℕ) (l : LoweredParts) (f : Fault) → IsLoweredSource source l → AreMisspelled (edition_of source) steps f ⊎ (f ≡ fault.NoMemory) →
-    IsUnverified source steps f ⊎ (f ≡ fault.NoMemory)
-steps_refused source steps l f s (inl (e, is, h)) = inl (subst (IsUnverified source steps) (sym is) (bad_steps s.typed e s.is h))
-steps_refused source steps l f s (inr memory) = inr memory
+pub steps_refused : (source steps : List ℕ) (p : ToldProgram) (f : Fault) → IsToldProgram source p →
+    AreMisspelled (edition_in p.formed) steps f ⊎ (f ≡ fault.NoMemory) → IsUnverified source steps f ⊎ (f ≡ fault.NoMemory)
+steps_refused source steps p f s (inl (e, is, h)) =
+    inl (subst (IsUnverified source steps) (sym is) (bad_steps s.lowered.typed e s.lowered.is (subst (λ d. IsRefusedSteps d steps e) (sym s.edition) h)))
+steps_refused source steps p f s (inr memory) = inr memory
 
-pub blocks_refused : (source steps : List ℕ) (qs : List ChooseTree) (bs : List BlockTree) (n i j : ℕ) (w : Why) → AreAskedIn source qs →
-    AreReadFrom (edition_of source) steps bs → IsVerdict qs bs (Rejected n i j w) → IsUnverified source steps (fault.Rejected n i j w)
-blocks_refused source steps qs bs n i j w a r v =
-    bad_blocks a.0 bs n i j w a.1 r.spelled (subst (λ ps. IsVerdict ps bs (Rejected n i j w)) a.2.are v)
+pub blocks_refused : (source steps : List ℕ) (cs : List (ChooseTree × Branch)) (bs : List BlockTree) (n i j : ℕ) (w : Why) → AreBranched source cs →
+    AreReadFrom (edition_of source) steps bs → IsVerdictIn cs bs (Rejected n i j w) → IsUnverified source steps (fault.Rejected n i j w)
+blocks_refused source steps cs bs n i j w b r v = bad_blocks cs bs n i j w b r.spelled v
 
 -- the line of one more choose, and those of all
 pub lines_next : {Q : Type 0} (plain : Q → ChooseTree) (qs : List Q) (i : ℕ) (q : Q) (text new : List ℕ) → i < length qs → q ≡ get_or qs i q →
@@ -278,11 +281,64 @@ pub lines_all : {Q : Type 0} (plain : Q → ChooseTree) (qs : List Q) (i : ℕ) 
     text ≡ flat_map verified_line (map plain (take i qs)) → text ≡ flat_map verified_line (map plain qs)
 lines_all plain qs i text few same = same ∙ ap (λ ds. flat_map verified_line (map plain ds)) (take_all i qs few)
 
-pub verified_owes : (name other source steps : List ℕ) (given passes : List Told) (ls : List (List ℕ)) (qs : List ChooseTree) (bs : List BlockTree)
-    (text : List ℕ) → AreAskedIn source qs → AreReadFrom (edition_of source) steps bs → IsVerdict qs bs Yes → text ≡ flat_map verified_line qs →
-    Owes (verify name other) (source ∷ steps ∷ []) given passes ls text
-verified_owes name other source steps given passes ls qs bs text (typed, is, asks) r h lines =
-    let chooses = asked_in typed in
-    let linear : EachOf IsLinearChoose chooses = subst (EachOf IsLinearChoose) asks.are asks.linear in
-    let accepted : IsVerdict chooses bs Yes = subst (λ ps. IsVerdict ps bs Yes) asks.are h in
-    (typed, is, (bs, r.spelled, yes_proves chooses bs linear r.within accepted), lines ∙ ap (flat_map verified_line) asks.are)
+-- the lines of chooses in their branches are those of the chooses
+pub branched_lines : (told : List ToldChoose) (bs : List Branch) (qs : List ChooseTree) →
+    flat_map (λ c. verified_line c.0) (in_branches told bs qs) ≡ flat_map verified_line qs
+branched_lines told bs [] = refl
+branched_lines told bs (q ∷ qs) = ap (λ more. verified_line q ++ more) (branched_lines told (drop 1 (coming told bs q.number)) qs)
+
+-- a Yes on chooses in their branches is one on heads, and one on chooses
+yes_in : (cs : List (ChooseTree × Branch)) (bs : List BlockTree) → IsVerdictIn cs bs Yes → (wrong_head cs bs ≡ None) × IsVerdict (map (λ c. c.0) cs) bs Yes
+yes_in cs bs h = by (wrong_head cs bs) refl h
+  where
+    by : (o : Option ℕ) → wrong_head cs bs ≡ o → elim o [ Some n ↦ Yes ≡ Rejected n 0 0 Blocks | None ↦ IsVerdict (map (λ c. c.0) cs) bs Yes ] →
+        (wrong_head cs bs ≡ None) × IsVerdict (map (λ c. c.0) cs) bs Yes
+    by (Some n) e h = cc h
+    by None e h = (e, h)
+
+unless_wrong : (b : Bool) (n : ℕ) (o : Option ℕ) → (if b then o else Some n) ≡ None → (b ≡ true) × (o ≡ None)
+unless_wrong true n o e = (refl, e)
+unless_wrong false n o e = cc e
+
+same_bool : (b c : Bool) → (if b then c else not c) ≡ true → b ≡ c
+same_bool true true e = refl
+same_bool true false e = cc e
+same_bool false true e = cc e
+same_bool false false e = refl
+
+both_true : (b c : Bool) → (b && c) ≡ true → (b ≡ true) × (c ≡ true)
+both_true true c e = (refl, e)
+both_true false c e = cc e
+
+truth_is : (t u : NamedTruth) → same_truth t u ≡ true → u ≡ t
+truth_is t u e =
+    let parts = both_true (bytes_eq t.name u.name) _ e in
+    let name : t.name ≡ u.name = (bytes_eq-Decides t.name u.name).0 parts.0 in
+    let value : t.value ≡ u.value = same_bool t.value u.value parts.1 in
+    rw (name, value) refl
+
+head_is : (ts us : List NamedTruth) → same_head ts us ≡ true → us ≡ ts
+head_is [] [] e = refl
+head_is [] (u ∷ us) e = cc e
+head_is (t ∷ ts) [] e = cc e
+head_is (t ∷ ts) (u ∷ us) e =
+    let parts = both_true (same_truth t u) (same_head ts us) e in
+    ap (λ v. v ∷ us) (truth_is t u parts.0) ∙ ap (λ vs. t ∷ vs) (head_is ts us parts.1)
+
+-- where there are as many blocks, and no head is wrong, each names its branch
+yes_heads : (cs : List (ChooseTree × Branch)) (bs : List BlockTree) → IsVerdict (map (λ c. c.0) cs) bs Yes → wrong_head cs bs ≡ None → AreHeaded cs bs
+yes_heads [] [] h none = refl
+yes_heads [] (b ∷ bs) h none = cc h
+yes_heads (c ∷ cs) [] h none = cc h
+yes_heads (c ∷ cs) (b ∷ bs) (inl h) none =
+    let parts = unless_wrong (same_head (head_of c) b.truths) c.0.number (wrong_head cs bs) none in
+    ap (λ t. t ∷ map (λ (x : BlockTree). x.truths) bs) (head_is (head_of c) b.truths parts.0)
+    ∙ ap (λ ts. head_of c ∷ ts) (yes_heads cs bs h.1 parts.1)
+yes_heads (c ∷ cs) (b ∷ bs) (inr (f, is, rejected)) none = cc
+
+pub verified_owes : (name other source steps : List ℕ) (given passes : List Told) (ls : List (List ℕ)) (cs : List (ChooseTree × Branch)) (bs : List BlockTree)
+    (text : List ℕ) → AreBranched source cs → EachOf IsLinearChoose (map (λ c. c.0) cs) → AreReadFrom (edition_of source) steps bs → IsVerdictIn cs bs Yes →
+    text ≡ flat_map (λ c. verified_line c.0) cs → Owes (verify name other) (source ∷ steps ∷ []) given passes ls text
+verified_owes name other source steps given passes ls cs bs text b linear r h lines =
+    let y = yes_in cs bs h in
+    (cs, b, (bs, r.spelled, yes_heads cs bs y.1 y.0, yes_proves (map (λ c. c.0) cs) bs linear r.within y.1), lines)

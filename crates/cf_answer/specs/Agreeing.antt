@@ -6,6 +6,7 @@ use Rattle.cf_tree.specs.Values.{Value, HaveBases}
 use Rattle.cf_build.specs.Chooses.{choose_arms}
 use Rattle.cf_choose.specs.Precondition.{all_needs}
 use Rattle.cf_eval.specs.Seen.{plains}
+use Rattle.cf_form.specs.Branches.{Branch}
 use Rattle.cf_pass.specs.Passes.{Told}
 use Rattle.cf_warn.specs.Solutions.{IsAt}
 use Rattle.cf_warn.specs.Verdicts.{IsExistence}
@@ -44,4 +45,4 @@ NeedsAre q (Undecided d) = Unit {0}
 
 abbrev pub NeedsAreChecked : Type 0
 NeedsAreChecked =
-    (q : ChooseTree) (text : List ℕ) (answer : ExistenceAnswer) → IsPreOf q text → IsExistence q.scope q.outputs q.relation answer → NeedsAre q answer
+    (q : ChooseTree) (branch : Branch) (text : List ℕ) (answer : ExistenceAnswer) → IsPreOf q branch text → IsExistence q.scope q.outputs q.relation answer → NeedsAre q answer

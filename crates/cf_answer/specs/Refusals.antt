@@ -7,6 +7,7 @@ use Rattle.cf_lex.specs.Tokens.{bad_byte, past_limit, at_end}
 use Rattle.cf_tree.specs.declared.base.Place.{Place}
 use Rattle.cf_tree.specs.declared.base.Edition.{Edition}
 use Rattle.cf_tree.specs.declared.base.Edition.TheVariants.{Two, Three}
+use Rattle.cf_tree.specs.ChooseTree.{ChooseTree}
 use Rattle.cf_tree.specs.DefView.{RawItemTree}
 use Rattle.cf_reader.specs.Faults.{IsFaultPlace, IsFaultPlaceOf}
 use Rattle.cf_reader.specs.Readers.{Reader}
@@ -30,11 +31,11 @@ use Rattle.cf_build.specs.declared.fault.BuildFault.TheVariants as build
 use Rattle.cf_steps.specs.Blocks.{BlockTree}
 use Rattle.cf_steps.specs.Reading.{all_blocks}
 use Rattle.cf_steps.specs.Spelling.{AreBlocks}
-use Rattle.cf_cert.specs.Judging.{IsVerdict}
+use Rattle.cf_form.specs.Branches.{Branch}
 use Rattle.cf_cert.specs.declared.verdict.Verdict.TheVariants.{Rejected}
 use Rattle.cf_cert.specs.declared.verdict.Why.{Why}
 use Rattle.cf_words.specs.Commands.{Command, compile, run, pre, check, exec, prove, verify, gen}
-use Rattle.cf_answer.specs.Certificates.{asked_in}
+use Rattle.cf_answer.specs.Branches.{AreBranched, IsVerdictIn}
 use Rattle.cf_answer.specs.Limits.{TextKind, of_source, of_target, most_of}
 use Rattle.cf_answer.specs.Sources.{HasTokens, Spelled, IsTypedBy, IsTypedSource, IsTypedTree}
 use Rattle.cf_answer.specs.declared.fault.Fault.{Fault}
@@ -119,14 +120,15 @@ text_fault (steps_fault.NumberPast p) = fault.NumberPast p
 text_fault (steps_fault.Syntax p) = fault.Syntax p
 
 abbrev pub IsRefusedSteps : Edition → List ℕ → StepsFault → Type 0
-IsRefusedSteps edition text e = Causes (of_target edition) AreBlocks (all_blocks 500) (λ bs f. ⊥) text (text_fault e)
+IsRefusedSteps edition text e = Causes (of_target edition) (AreBlocks edition) (all_blocks edition 500) (λ bs f. ⊥) text (text_fault e)
 
 -- Why steps are not accepted for a source: the source is refused, whatever the steps are; or their text is; or there is a first fault in their blocks.
 pub data IsUnverified (source steps : List ℕ) : Fault → Type 0 where
   bad_source : (f : Fault) → IsBrokenSource source f → IsUnverified source steps f
   bad_steps : (typed : TypedTree) (e : StepsFault) → IsTypedSource source typed → IsRefusedSteps (edition_of source) steps e → IsUnverified source steps (fault.Steps e)
-  bad_blocks : (typed : TypedTree) (bs : List BlockTree) (n i j : ℕ) (w : Why) → IsTypedSource source typed →
-      Spelled (of_target (edition_of source)) AreBlocks steps bs → IsVerdict (asked_in typed) bs (Rejected n i j w) → IsUnverified source steps (fault.Rejected n i j w)
+  bad_blocks : (cs : List (ChooseTree × Branch)) (bs : List BlockTree) (n i j : ℕ) (w : Why) → AreBranched source cs →
+      Spelled (of_target (edition_of source)) (AreBlocks (edition_of source)) steps bs → IsVerdictIn cs bs (Rejected n i j w) →
+      IsUnverified source steps (fault.Rejected n i j w)
 
 -- the fault for which a command is refused on files of these texts, or on a source of its own
 abbrev pub Refuses : Command → List (List ℕ) → Fault → Type 0

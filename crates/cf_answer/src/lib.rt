@@ -4,6 +4,7 @@
 mod about;
 mod answerer;
 mod asked;
+mod branches;
 mod check;
 mod choose_line;
 mod choose_origin;

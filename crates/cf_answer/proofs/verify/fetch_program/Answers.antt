@@ -5,17 +5,17 @@ use Rattle.cf_answer.specs.Refusals.{too_long}
 use Rattle.cf_answer.specs.Verifying.{broken_file}
 use Rattle.cf_answer.proofs.AskedLemmas.{source_asked, source_fault}
 use Rattle.cf_answer.proofs.OutsideLemmas.{text_told, long_text}
-use Rattle.cf_answer.proofs.verify.fetch_lowered.Goals as goal
+use Rattle.cf_answer.proofs.verify.fetch_program.Goals as goal
 
 pub returns-in-Ok-clause-asked : goal.returns-in-Ok-clause-asked
 returns-in-Ok-clause-asked g c =
     let same : c.deref.result.now ≡ c.in-Ok.text.items = search rules in
-    source_asked _ c.deref.result.now c.read_lowered.result (subst (AreTold _) (sym same) (text_told _ _ c.in-Ok.ensures.whole)) c.read_lowered.ensures
+    source_asked _ c.deref.result.now c.read_told.result (subst (AreTold _) (sym same) (text_told _ _ c.in-Ok.ensures.whole)) c.read_told.ensures
 
 pub returns-in-Ok-clause-fault : goal.returns-in-Ok-clause-fault
 returns-in-Ok-clause-fault g c =
     let same : c.deref.result.now ≡ c.in-Ok.text.items = search rules in
-    source_fault _ _ _ c.deref.result.now (subst (AreTold _) (sym same) (text_told _ _ c.in-Ok.ensures.whole)) c.read_lowered.result c.read_lowered.ensures
+    source_fault _ _ _ c.deref.result.now (subst (AreTold _) (sym same) (text_told _ _ c.in-Ok.ensures.whole)) c.read_told.result c.read_told.ensures
     (c.in-Ok.ensures.same (λ e. cc))
 
 pub returns-in-Err-TooLong-clause-fault : goal.returns-in-Err-TooLong-clause-fault
