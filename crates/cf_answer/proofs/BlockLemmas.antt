@@ -1,6 +1,6 @@
 -- The printed blocks of chooses, one by one.
-use Rattle.std.proofs.Common.{◌≡◌, ◌∙◌, sym, ap, subst, refl, ℕ, ◌+◌, ◌-◌, ◌^◌, ◌<◌, ◌≤◌, List, [], ◌∷◌, ◌++◌, length, map, take, get_or, All, append_assoc, flat_map, Ok, arith}
-use Rattle.std.proofs.lemmas.List.{take_more, take_all, map-append}
+use Rattle.std.proofs.Common.{◌≡◌, ◌∙◌, sym, ap, subst, refl, ℕ, ◌+◌, ◌-◌, ◌^◌, ◌<◌, ◌≤◌, List, [], ◌∷◌, ◌++◌, length, map, take, drop, get_or, All, append_assoc, flat_map, Option, Some, None, Ok, arith}
+use Rattle.std.proofs.lemmas.List.{take_more, drop_more, drop_all, map-append}
 use Rattle.std.proofs.lemmas.List.Elements.{All-nil, All-cons, All-head, All-tail}
 use Rattle.std.specs.Prelude.{◌⊎◌}
 use Rattle.cf_lex.specs.declared.token.TokenList.{TokenList}
@@ -25,6 +25,7 @@ use Rattle.cf_cert.specs.Laws.{AreWithinCases}
 use Rattle.cf_cert.specs.Verifying.{HaveFewSteps}
 use Rattle.cf_cert.proofs.SpelledLaws.{spelled_within as cases_within}
 use Rattle.cf_form.specs.Branches.{Branch}
+use Rattle.cf_form.specs.Told.{ToldChoose}
 use Rattle.cf_prove.specs.Proving.{IsProved}
 use Rattle.cf_prove.specs.Tracing.{traced_block}
 use Rattle.cf_answer.specs.Limits.{text_limit, written_limit, of_target, most_of}
@@ -34,8 +35,12 @@ use Rattle.cf_tree.specs.declared.base.Edition.{Edition}
 use Rattle.cf_tree.specs.declared.base.Edition.TheVariants.{Two, Three}
 use Rattle.cf_answer.specs.Sources.{HasTokens, IsTypedSource}
 use Rattle.cf_answer.specs.declared.fault.Fault.TheVariants as fault
-use Rattle.cf_answer.specs.Branches.{head_of, in_branches}
-use Rattle.cf_answer.specs.Verifying.{AddsBlock, ArePut, IsSpelledIn}
+use Rattle.cf_answer.specs.Branches.{coming, first_branch, head_of, in_branches}
+use Rattle.cf_form.specs.declared.formed.FormedParts.{FormedParts}
+use Rattle.cf_lex.specs.Editions.{edition_of}
+use Rattle.cf_answer.specs.declared.source.ToldProgram.{ToldProgram}
+use Rattle.cf_answer.specs.Verifying.{AddsBlock, ArePut, IsSpelledIn, edition_in, told_in, IsToldProgram}
+use Rattle.cf_answer.proofs.BranchLemmas.{IsSplit, next, split_first, split_next, split_last}
 use Rattle.cf_answer.proofs.CertificateLemmas.{IsWithin, traced_within}
 use Rattle.cf_answer.proofs.TextLemmas.{build_refused}
 
@@ -103,6 +108,45 @@ put_more edition cs c text new (bs, traced, heads, spelled, same) (b, t, head, s
 pub put_within : (edition : Edition) (cs : List (ChooseTree × Branch)) (text : List ℕ) → ArePut edition cs text → All IsWithin (map (λ c. c.0) cs)
 put_within edition cs text (bs, traced, heads, spelled, same) = traced_within (map (λ c. c.0) cs) bs traced
 
+-- the blocks of so many first chooses are put, and these branches are left
+abbrev pub PutTo : List ToldChoose → List Choose → ℕ → List Branch → List ℕ → Type 0
+PutTo told cs i left text =
+    (done : List (ChooseTree × Branch)) × ArePut Three done text × (map (λ d. d.0) done ≡ map choose_tree (take i cs))
+    × IsSplit told (map choose_tree cs) done left (map choose_tree (drop i cs))
+
+module _ (told : List ToldChoose) (cs : List Choose) where
+  pub put_first : PutTo told cs 0 [] []
+  put_first = ([], none_put Three, refl, split_first told (map choose_tree cs))
+
+  pub put_next : (i : ℕ) (c : Choose) (left behind : List Branch) (branch : Branch) (text new : List ℕ) → i < length cs → c ≡ get_or cs i c →
+      branch ≡ first_branch (coming told left c.number) → behind ≡ drop 1 (coming told left c.number) → PutTo told cs i left text →
+      AddsBlock Three (choose_tree c, branch) text new → PutTo told cs (i + 1) behind new
+  put_next i c left behind branch text new lt is here after (done, put, front, split) adds =
+      let q = choose_tree c in
+      let one : ChooseTree × Branch = next told left q in
+      let rest : drop i cs ≡ c ∷ drop (i + 1) cs = drop_more cs i c lt ∙ ap (λ x. x ∷ drop (i + 1) cs) (sym is) in
+      let more : take (i + 1) cs ≡ take i cs ++ c ∷ [] = take_more cs i c lt ∙ ap (λ x. take i cs ++ x ∷ []) (sym is) in
+      let at : IsSplit told (map choose_tree cs) done left (q ∷ map choose_tree (drop (i + 1) cs)) =
+      subst (λ xs. IsSplit told (map choose_tree cs) done left (map choose_tree xs)) rest split in (
+        done ++ one ∷ [],
+        put_more Three done one text new put (subst (λ b. AddsBlock Three (q, b) text new) here adds),
+        map-append (λ d. d.0) done (one ∷ []) ∙ ap (λ qs. qs ++ q ∷ []) front ∙ sym (map-append choose_tree (take i cs) (c ∷ []))
+            ∙ ap (map choose_tree) (sym more),
+        split_next told (map choose_tree cs) done left behind q (map choose_tree (drop (i + 1) cs)) after at,
+      )
+
+  -- those before it pass no limit
+  pub put_before : (i : ℕ) (left : List Branch) (text : List ℕ) → PutTo told cs i left text → All IsWithin (map choose_tree (take i cs))
+  put_before i left text (done, put, front, split) = subst (All IsWithin) front (put_within Three done text put)
+
+  -- all
+  pub put_last : (i : ℕ) (left : List Branch) (text : List ℕ) → length cs ≤ i → PutTo told cs i left text →
+      ArePut Three (in_branches told [] (map choose_tree cs)) text
+  put_last i left text le (done, put, front, split) =
+      let end : IsSplit told (map choose_tree cs) done left [] =
+      subst (λ xs. IsSplit told (map choose_tree cs) done left (map choose_tree xs)) (drop_all i cs le) split in
+      subst (λ ds. ArePut Three ds text) (sym (split_last told (map choose_tree cs) done left end)) put
+
 -- in language 2 no block names a branch
 no_heads : (qs : List ChooseTree) (bs : List Block) → map (λ b. b.truths.items) bs ≡ map head_of (in_branches [] [] qs) → All (IsSpelledIn Three) bs →
     All (IsSpelledIn Two) bs
@@ -140,6 +184,20 @@ module _ (edition : Edition) where
   pub put_all : (cs : List (ChooseTree × Branch)) (text : List ℕ) → ArePut edition cs text → AreProofs edition cs text
   put_all cs text (bs, traced, heads, spelled, same) =
       (bs, traced, block_heads bs ∙ heads, same, rw same (blocks_read_back edition bs (only_blocks bs spelled) (only_heads bs spelled)))
+
+-- the blocks of the chooses of a program that is told
+pub put_told : (source : List ℕ) (p : ToldProgram) (s : IsToldProgram source p) (text : List ℕ) →
+    ArePut Three (in_branches (told_in p.formed) [] (asked_in s.lowered.typed)) text →
+    AreProofs (edition_of source) (in_branches (told_in p.formed) [] (asked_in s.lowered.typed)) text
+put_told source p s text put = subst (λ e. AreProofs e cs text) (sym s.edition) (put_all (edition_in p.formed) cs text (by p.formed put))
+  where
+    abbrev qs : List ChooseTree
+    qs = asked_in s.lowered.typed
+    abbrev cs : List (ChooseTree × Branch)
+    cs = in_branches (told_in p.formed) [] qs
+    by : (f : Option FormedParts) → ArePut Three (in_branches (told_in f) [] qs) text → ArePut (edition_in f) (in_branches (told_in f) [] qs) text
+    by None h = put_in_two qs text h
+    by (Some f) h = h
 
 -- ---- blocks that are read
 -- the numbers of blocks that have a spelling are within the limit

@@ -55,12 +55,11 @@ impl<'a> Coming<'a> {
 fn branches_of(told: &[ChooseInfo], number: u32) -> &[Branch]
     ensures { map (λ b. (told_branch b).truths) result.now ≡ the_branches_of (map told_choose told.now) number }
 {
-    let mut rest = told;
-    while let Some((choose, more)) = rest.split_first() {
+    for i in 0..told.len() {
+        let choose = &told[i];
         if choose.number == number {
             return &choose.branches;
         }
-        rest = more;
     }
     &[]
 }
@@ -143,15 +142,19 @@ fn is_truth(scope: &[Param], truth: &TruthAt, other: &NamedTruth) -> bool
 pub(crate) fn is_head(scope: &[Param], branch: &[TruthAt], truths: &[NamedTruth]) -> bool
     ensures { result ≡ same_head_of (map (named (names_of scope.now)) (map truth_at branch.now)) truths.now }
 {
-    if branch.len() != truths.len() {
-        return false;
-    }
-    for i in 0..branch.len() {
-        if !is_truth(scope, &branch[i], &truths[i]) {
+    let mut left = branch;
+    let mut rest = truths;
+    'truths: while let Some((truth, more)) = left.split_first() {
+        let Some((other, behind)) = rest.split_first() else {
+            return false;
+        };
+        if !is_truth(scope, truth, other) {
             return false;
         }
+        left = more;
+        rest = behind;
     }
-    true
+    rest.is_empty()
 }
 
 // Adds ` = ` and the value of a level in a branch, where it has one.
@@ -159,7 +162,7 @@ fn put_value(name: &mut Vec<u8>, level: u32, branch: &[TruthAt]) -> Result<(), N
     ensures { OnOk result (name.new.items ≡ name.old.items ++ value_behind level (map truth_at branch.now)) }
 {
     let mut rest = branch;
-    while let Some((truth, more)) = rest.split_first() {
+    'truths: while let Some((truth, more)) = rest.split_first() {
         if truth.level == level {
             name.extend_from_slice(b" = ")?;
             return put_truth(name, truth.value);

@@ -68,8 +68,9 @@ fn prove_each(
     let mut text = Vec::new(alloc);
     let mut coming = Coming::new(told);
     for i in 0..chooses.len() {
-        let branch = coming.next(chooses[i].number);
-        put_block(alloc, &chooses[i], branch, &mut text)?;
+        let choose = &chooses[i];
+        let branch = coming.next(choose.number);
+        put_block(alloc, choose, branch, &mut text)?;
     }
     Ok(text)
 }
