@@ -185,19 +185,19 @@ module _ (edition : Edition) where
   put_all cs text (bs, traced, heads, spelled, same) =
       (bs, traced, block_heads bs ∙ heads, same, rw same (blocks_read_back edition bs (only_blocks bs spelled) (only_heads bs spelled)))
 
--- the blocks of the chooses of a program that is told
+-- the blocks of the chooses of a program, in its edition
+in_edition : (f : Option FormedParts) (qs : List ChooseTree) (text : List ℕ) → ArePut Three (in_branches (told_in f) [] qs) text →
+    ArePut (edition_in f) (in_branches (told_in f) [] qs) text
+in_edition None qs text put = put_in_two qs text put
+in_edition (Some f) qs text put = put
+
 pub put_told : (source : List ℕ) (p : ToldProgram) (s : IsToldProgram source p) (text : List ℕ) →
     ArePut Three (in_branches (told_in p.formed) [] (asked_in s.lowered.typed)) text →
     AreProofs (edition_of source) (in_branches (told_in p.formed) [] (asked_in s.lowered.typed)) text
-put_told source p s text put = subst (λ e. AreProofs e cs text) (sym s.edition) (put_all (edition_in p.formed) cs text (by p.formed put))
-  where
-    abbrev qs : List ChooseTree
-    qs = asked_in s.lowered.typed
-    abbrev cs : List (ChooseTree × Branch)
-    cs = in_branches (told_in p.formed) [] qs
-    by : (f : Option FormedParts) → ArePut Three (in_branches (told_in f) [] qs) text → ArePut (edition_in f) (in_branches (told_in f) [] qs) text
-    by None h = put_in_two qs text h
-    by (Some f) h = h
+put_told source p s text put =
+    let cs = in_branches (told_in p.formed) [] (asked_in s.lowered.typed) in
+    subst (λ e. AreProofs e cs text) (sym s.edition)
+    (put_all (edition_in p.formed) cs text (in_edition p.formed (asked_in s.lowered.typed) text put))
 
 -- ---- blocks that are read
 -- the numbers of blocks that have a spelling are within the limit
