@@ -51,6 +51,7 @@ pub mod SumLemmas
 pub mod TargetLemmas
 mod TextExamples
 pub mod TextLemmas
+pub mod ToldLemmas
 pub mod VerifyLemmas
 pub mod WorkloadAccepted
 pub mod WorkloadLaw

@@ -38,16 +38,27 @@ impl<'a> Coming<'a> {
             drop 1 (those_coming (map told_choose self.old.told.now) (map (λ b. (told_branch b).truths) self.old.left.now) number) }
         ensures told { self.new.told.now ≡ self.old.told.now }
     {
-        if self.left.is_empty() {
-            self.left = branches_of(self.told, number);
-        }
-        match self.left.split_first() {
+        let all = coming(self.told, self.left, number);
+        match all.split_first() {
             Some((branch, more)) => {
                 self.left = more;
                 &branch.truths
             }
-            None => &[],
+            None => {
+                self.left = &[];
+                &[]
+            }
         }
+    }
+}
+
+// The branches of a choose that are still to come: all of them, where none is left of the number before.
+fn coming<'a>(told: &'a [ChooseInfo], left: &'a [Branch], number: u32) -> &'a [Branch]
+    ensures { map (λ b. (told_branch b).truths) result.now ≡ those_coming (map told_choose told.now) (map (λ b. (told_branch b).truths) left.now) number }
+{
+    match left.split_first() {
+        None => branches_of(told, number),
+        Some(_) => left,
     }
 }
 

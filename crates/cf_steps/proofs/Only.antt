@@ -104,7 +104,7 @@ blocks_local edition limit zero (suc k) done = at_end_local done (end_local _)
 blocks_local edition limit (suc j) zero done = at_end_local done (any_local (bind_local (block_local edition limit) (λ b. blocks_local edition limit j j (snoc done b))))
 blocks_local edition limit (suc j) (suc k) done = at_end_local done (bind_local (block_local edition limit) (λ b. blocks_local edition limit j k (snoc done b)))
 
-all_blocks_local : {more other : List Token} (limit : ℕ) → Local more other (all_blocks edition limit) (all_blocks edition limit)
+all_blocks_local : {more other : List Token} (edition : Edition) (limit : ℕ) → Local more other (all_blocks edition limit) (all_blocks edition limit)
 unfolding all_blocks
 all_blocks_local {more} {other} edition limit = record {
   within = λ ts m l. (blocks_local {more = more} {other = other} edition limit (length ts) (length ts) []).within ts m l;
