@@ -27,7 +27,7 @@ use Rattle.cf_elim.specs.declared.act.Act.TheVariants.{Clean, Mix, Last, Search,
 use Rattle.cf_steps.specs.declared.block.NamedTruth.{NamedTruth}
 use Rattle.cf_steps.specs.Blocks.{BlockTree}
 use Rattle.cf_steps.specs.Answers.{SomeBlocks}
-use Rattle.cf_steps.specs.Spelling.{SpellsColumn, SpellsFactor, side_kind, SpellsAct, SpellsActs, SpellsCase, SpellsCases, NextName, SpellsTruth, SpellsHead, SpellsBlock}
+use Rattle.cf_steps.specs.Spelling.{SpellsColumn, SpellsFactor, side_kind, SpellsAct, SpellsActs, SpellsCase, SpellsCases, SpellsTruth, SpellsHead, SpellsBlock}
 use Rattle.cf_steps.specs.Spelling.{SpellsBlocks, AreBlocks}
 use Rattle.cf_steps.specs.Reading.{a_column, a_side, factor_of, mix_of, search_of, act_of, ended_act, acts_of, all_acts, case_of, block_of}
 use Rattle.cf_steps.specs.Reading.{truth_of, truths_of, no_truths, head_of, blocks_of, all_blocks}

@@ -5,7 +5,7 @@ use Rattle.std.specs.Fmt.{signed_decimal}
 use Rattle.std.proofs.lemmas.Int.{ints}
 use Rattle.std.proofs.lemmas.List.Elements.{All-head, All-tail}
 use Rattle.cf_tree.specs.declared.base.Edition.{Edition}
-use Rattle.cf_tree.specs.declared.base.Edition.TheVariants.{Two, Three}
+use Rattle.cf_tree.specs.declared.base.Edition.TheVariants.{Two}
 use Rattle.cf_num.specs.Limit.{IsWithin}
 use Rattle.cf_lex.specs.Bytes.{is_in_word}
 use Rattle.cf_lex.specs.Places.{first_place}
