@@ -18,6 +18,7 @@ mod EndExamples
 mod Examples
 pub mod FaultLemmas
 pub mod FileLemmas
+pub mod HeadLemmas
 mod LateExamples
 pub mod LateLemmas
 mod LimitExamples

@@ -17,6 +17,7 @@ use cf_tree::{Edition, NoMemory, Param, Place, Text, put_truth, to_u32};
 use std::alloc::Global;
 
 /// What is told of the chooses of a source, and the branches of one that are still to come.
+#[derive(Drop)]
 pub(crate) struct Coming<'a> {
     told: &'a [ChooseInfo],
     left: &'a [Branch],
@@ -38,7 +39,7 @@ impl<'a> Coming<'a> {
             drop 1 (those_coming (map told_choose self.old.told.now) (map (λ b. (told_branch b).truths) self.old.left.now) number) }
         ensures told { self.new.told.now ≡ self.old.told.now }
     {
-        let all = coming(self.told, self.left, number);
+        let all = still_left(self.told, self.left, number);
         match all.split_first() {
             Some((branch, more)) => {
                 self.left = more;
@@ -53,7 +54,7 @@ impl<'a> Coming<'a> {
 }
 
 // The branches of a choose that are still to come: all of them, where none is left of the number before.
-fn coming<'a>(told: &'a [ChooseInfo], left: &'a [Branch], number: u32) -> &'a [Branch]
+fn still_left<'a>(told: &'a [ChooseInfo], left: &'a [Branch], number: u32) -> &'a [Branch]
     ensures { map (λ b. (told_branch b).truths) result.now ≡ those_coming (map told_choose told.now) (map (λ b. (told_branch b).truths) left.now) number }
 {
     match left.split_first() {

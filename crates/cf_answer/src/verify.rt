@@ -48,9 +48,8 @@ fn wrong_head(told: &[ChooseInfo], chooses: &[Choose<'_>], blocks: &[Block]) -> 
     ensures { result ≡ wrong_head_of (in_branches (map told_choose told.now) [] (map choose_tree chooses.now)) (map block_tree blocks.now) }
 {
     let mut coming = Coming::new(told);
-    let mut left = chooses;
     let mut rest = blocks;
-    'chooses: while let Some((choose, more)) = left.split_first() {
+    for choose in chooses {
         let branch = coming.next(choose.number);
         let Some((block, behind)) = rest.split_first() else {
             return None;
@@ -58,7 +57,6 @@ fn wrong_head(told: &[ChooseInfo], chooses: &[Choose<'_>], blocks: &[Block]) -> 
         if !is_head(choose.scope, branch, &block.truths) {
             return Some(choose.number);
         }
-        left = more;
         rest = behind;
     }
     None
