@@ -32,7 +32,7 @@ use Rattle.cf_cert.specs.Laws.{AreWithinCases, IsLinearChoose}
 use Rattle.cf_cert.proofs.CertifiedArms.{certified_means}
 use Rattle.cf_cert.proofs.JudgeLaws.{one_verdict}
 use Rattle.cf_answer.specs.Certificates.{asked_in, OneForEach, IsProofOf, IsTraced, AreHeaded, AreProofs, AreVerified}
-use Rattle.cf_answer.specs.Branches.{AreToldOf, IsToldSource, AreBranched, IsVerdictIn, head_of, same_head, same_truth, wrong_head}
+use Rattle.cf_answer.specs.Branches.{AreToldOf, IsToldSource, AreBranched, IsVerdictBeside, IsVerdictIn, head_of, same_head, same_truth, wrong_head}
 use Rattle.cf_answer.specs.Limits.{of_source, of_target}
 use Rattle.cf_answer.specs.Refusals.{Causes, IsBroken, IsBrokenSource, IsRefusedSource, IsUnverified, bad_source, bad_steps, bad_blocks}
 use Rattle.cf_answer.specs.Sources.{Spelled, IsTypedBy, IsTypedSource}
@@ -120,16 +120,12 @@ heads_right (c ∷ cs) (b ∷ bs) h =
     rw (head_same (head_of c) b.truths first) (heads_right cs bs more)
 
 -- the verdict on them is one
-one_verdict_in : (cs : List (ChooseTree × Branch)) (bs : List BlockTree) (v w : Verdict) → IsVerdictIn cs bs v → IsVerdictIn cs bs w → v ≡ w
-one_verdict_in cs bs v w h k = by (wrong_head cs bs) h k
-  where
-    by : (o : Option ℕ) → elim o [ Some n ↦ v ≡ Rejected n 0 0 Blocks | None ↦ IsVerdict (map (λ c. c.0) cs) bs v ] →
-        elim o [ Some n ↦ w ≡ Rejected n 0 0 Blocks | None ↦ IsVerdict (map (λ c. c.0) cs) bs w ] → v ≡ w
-    by (Some n) h k = h ∙ sym k
-    by None h k = one_verdict (map (λ c. c.0) cs) bs v w h k
+one_beside : (wrong : Option ℕ) (qs : List ChooseTree) (bs : List BlockTree) (v w : Verdict) → IsVerdictBeside wrong qs bs v → IsVerdictBeside wrong qs bs w → v ≡ w
+one_beside (Some n) qs bs v w h k = h ∙ sym k
+one_beside None qs bs v w h k = one_verdict qs bs v w h k
 
 verdict_in : (cs : List (ChooseTree × Branch)) (bs : List BlockTree) (v : Verdict) → AreHeaded cs bs → IsVerdict (map (λ c. c.0) cs) bs v → IsVerdictIn cs bs v
-verdict_in cs bs v heads h = rw (heads_right cs bs heads) h
+verdict_in cs bs v heads h = subst (λ wrong. IsVerdictBeside wrong (map (λ c. c.0) cs) bs v) (sym (heads_right cs bs heads)) h
 
 pub verify_unrefused : (source steps : List ℕ) (cs : List (ChooseTree × Branch)) (f : Fault) → AreBranched source cs →
     AreVerified (edition_of source) cs steps → IsUnverified source steps f → ⊥
@@ -141,7 +137,7 @@ verify_unrefused source steps cs f a (bs, b, heads, proofs) (bad_blocks ds other
     let yes = verdict_in cs bs Yes heads (proofs_accepted (map (λ c. c.0) cs) bs proofs) in
     let no : IsVerdictIn cs bs (Rejected n i j w) =
     subst (λ xs. IsVerdictIn cs xs (Rejected n i j w)) blocks (subst (λ ps. IsVerdictIn ps others (Rejected n i j w)) chooses v) in
-    let same : Yes ≡ Rejected n i j w = one_verdict_in cs bs Yes (Rejected n i j w) yes no in cc
+    let same : Yes ≡ Rejected n i j w = one_beside (wrong_head cs bs) (map (λ c. c.0) cs) bs Yes (Rejected n i j w) yes no in cc
 
 -- and the other way round: where the verdict is Yes, each block proves its choose
 pub yes_proves : (qs : List ChooseTree) (bs : List BlockTree) → EachOf IsLinearChoose qs → EachOf (λ b. AreWithinCases b.cases) bs →

@@ -49,16 +49,16 @@ module _ (told : List ToldChoose) (cs : List Choose) (bs : List Block) where
 
       -- its head is wrong
       pub right_stop : test branch ≡ false → IsRightTo i left (b ∷ more) → Some c.number ≡ first_wrong
-      right_stop no h =
+      right_stop wrong h =
           sym (at_choose (b ∷ more) h
-          ∙ where_false (test (first_branch (coming told left c.number))) after (Some c.number) (subst (λ x. test x ≡ false) here no))
+          ∙ where_false (test (first_branch (coming told left c.number))) after (Some c.number) (subst (λ x. test x ≡ false) here wrong))
 
       -- it is right
       pub right_next : (behind : List Branch) → behind ≡ drop 1 (coming told left c.number) → test branch ≡ true → IsRightTo i left (b ∷ more) →
           IsRightTo (i + 1) behind more
-      right_next behind left_is yes h =
+      right_next behind left_is right h =
           at_choose (b ∷ more) h
-          ∙ where_true (test (first_branch (coming told left c.number))) after (Some c.number) (subst (λ x. test x ≡ true) here yes)
+          ∙ where_true (test (first_branch (coming told left c.number))) after (Some c.number) (subst (λ x. test x ≡ true) here right)
           ∙ ap (λ ls. wrong_head (in_branches told ls (map choose_tree (drop (i + 1) cs))) (map block_tree more)) (sym left_is)
 
   -- all are right

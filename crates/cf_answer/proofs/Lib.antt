@@ -25,6 +25,7 @@ mod LimitExamples
 mod LineExamples
 pub mod LoweredLemmas
 pub mod MatchClassLemmas
+pub mod NameLemmas
 pub mod OriginLemmas
 mod OutsideExamples
 pub mod OutsideLemmas

@@ -40,7 +40,7 @@ use Rattle.cf_cert.specs.declared.verdict.Why.TheVariants.{Blocks}
 use Rattle.cf_form.specs.Branches.{Branch}
 use Rattle.cf_form.specs.Told.{ToldChoose}
 use Rattle.cf_steps.specs.declared.block.NamedTruth.{NamedTruth}
-use Rattle.cf_answer.specs.Branches.{AreBranched, coming, in_branches, IsVerdictIn, head_of, same_head, same_truth, wrong_head}
+use Rattle.cf_answer.specs.Branches.{AreBranched, coming, in_branches, IsVerdictBeside, IsVerdictIn, head_of, same_head, same_truth, wrong_head}
 use Rattle.cf_answer.specs.Certificates.{AreHeaded, verified_line}
 use Rattle.cf_answer.proofs.CertificateLemmas.{yes_proves}
 use Rattle.cf_answer.proofs.CountLemmas.{one_fault}
@@ -288,13 +288,9 @@ branched_lines told bs [] = refl
 branched_lines told bs (q ∷ qs) = ap (λ more. verified_line q ++ more) (branched_lines told (drop 1 (coming told bs q.number)) qs)
 
 -- a Yes on chooses in their branches is one on heads, and one on chooses
-yes_in : (cs : List (ChooseTree × Branch)) (bs : List BlockTree) → IsVerdictIn cs bs Yes → (wrong_head cs bs ≡ None) × IsVerdict (map (λ c. c.0) cs) bs Yes
-yes_in cs bs h = by (wrong_head cs bs) refl h
-  where
-    by : (o : Option ℕ) → wrong_head cs bs ≡ o → elim o [ Some n ↦ Yes ≡ Rejected n 0 0 Blocks | None ↦ IsVerdict (map (λ c. c.0) cs) bs Yes ] →
-        (wrong_head cs bs ≡ None) × IsVerdict (map (λ c. c.0) cs) bs Yes
-    by (Some n) e h = cc h
-    by None e h = (e, h)
+yes_beside : (wrong : Option ℕ) (qs : List ChooseTree) (bs : List BlockTree) → IsVerdictBeside wrong qs bs Yes → (wrong ≡ None) × IsVerdict qs bs Yes
+yes_beside (Some n) qs bs h = cc h
+yes_beside None qs bs h = (refl, h)
 
 unless_wrong : (b : Bool) (n : ℕ) (o : Option ℕ) → (if b then o else Some n) ≡ None → (b ≡ true) × (o ≡ None)
 unless_wrong true n o e = (refl, e)
@@ -340,5 +336,5 @@ pub verified_owes : (name other source steps : List ℕ) (given passes : List To
     (text : List ℕ) → AreBranched source cs → EachOf IsLinearChoose (map (λ c. c.0) cs) → AreReadFrom (edition_of source) steps bs → IsVerdictIn cs bs Yes →
     text ≡ flat_map (λ c. verified_line c.0) cs → Owes (verify name other) (source ∷ steps ∷ []) given passes ls text
 verified_owes name other source steps given passes ls cs bs text b linear r h lines =
-    let y = yes_in cs bs h in
+    let y = yes_beside (wrong_head cs bs) (map (λ c. c.0) cs) bs h in
     (cs, b, (bs, r.spelled, yes_heads cs bs y.1 y.0, yes_proves (map (λ c. c.0) cs) bs linear r.within y.1), lines)

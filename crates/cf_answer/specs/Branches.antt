@@ -89,6 +89,11 @@ wrong_head [] bs = None
 wrong_head (c ∷ cs) [] = None
 wrong_head (c ∷ cs) (b ∷ bs) = if same_head (head_of c) b.truths then wrong_head cs bs else Some c.0.number
 
--- the verdict on blocks for chooses in their branches: a block that names another branch is a wrong one, before all that is wrong in steps
+-- the verdict on blocks where this choose, if any, is the first whose block names another branch: that block is a wrong one, before all that is wrong in steps
+abbrev pub IsVerdictBeside : Option ℕ → List ChooseTree → List BlockTree → Verdict → Type 0
+IsVerdictBeside (Some n) qs bs v = v ≡ Rejected n 0 0 Blocks
+IsVerdictBeside None qs bs v = IsVerdict qs bs v
+
+-- the verdict on blocks for chooses in their branches
 abbrev pub IsVerdictIn : List (ChooseTree × Branch) → List BlockTree → Verdict → Type 0
-IsVerdictIn cs bs v = elim (wrong_head cs bs) [ Some n ↦ v ≡ Rejected n 0 0 Blocks | None ↦ IsVerdict (map (λ c. c.0) cs) bs v ]
+IsVerdictIn cs bs v = IsVerdictBeside (wrong_head cs bs) (map (λ c. c.0) cs) bs v

@@ -1,5 +1,6 @@
 //! The branches of the chooses of a source, as `pre` and steps files name them.
 ghost use Rattle.std.specs.Prelude.{◌≡◌, ◌&&◌, ◌++◌, [], All, drop, map, not, IfOk, OnOk};
+ghost use Rattle.std.specs.List.{list_all};
 ghost use Rattle.cf_lex.specs.Bytes.{is_letter, is_in_word};
 ghost use Rattle.cf_lex.specs.Words.{is_reserved};
 ghost use Rattle.cf_tree.specs.declared.base.Edition.TheVariants.{Three};
@@ -90,11 +91,19 @@ fn in_word(b: u8) -> bool
     letter(b) || b'0' <= b && b <= b'9'
 }
 
+// Whether all of these bytes go on with a word.
+fn are_in_word(bytes: &[u8]) -> bool
+    ensures { result ≡ list_all is_in_word bytes.now }
+{
+    bytes.iter().all(|b| in_word(*b))
+}
+
+// Whether these bytes are a letter, and then letters and digits.
 fn is_word(name: &[u8]) -> bool
     ensures { result ≡ is_word_of name.now }
 {
     match name.split_first() {
-        Some((first, more)) => letter(*first) && more.iter().all(|b| in_word(*b)),
+        Some((first, more)) => letter(*first) && are_in_word(more),
         None => false,
     }
 }

@@ -1,5 +1,5 @@
 -- The block of a choose.
-use Rattle.std.specs.Prelude.{map}
+use Rattle.std.specs.Prelude.{[], map}
 use Rattle.cf_tree.specs.ChooseTree.{ChooseTree}
 use Rattle.cf_tree.specs.CodeTree.{arms_of, code_solve}
 use Rattle.cf_linear.specs.Cases.{first_systems}

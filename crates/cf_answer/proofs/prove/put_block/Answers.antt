@@ -13,8 +13,8 @@ prove-requires c = record {
   numbered = c.requires.positive;
 }
 
-pub returns-in_ok-extend_from_slice-in-Ok-clause-block : goal.returns-in_ok-extend_from_slice-in-Ok-clause-block
-returns-in_ok-extend_from_slice-in-Ok-clause-block c =
+pub returns-in-Ok-clause-block : goal.returns-in-Ok-clause-block
+returns-in-Ok-clause-block c =
     proved_adds (choose_tree c.args.choose.now, map truth_at c.args.branch.now) c.in_ok-head.head.truths.items c.in-Ok.block.items c.args.text.now.items _
     c.in_ok-head.ensures.is c.in_ok-head.ensures.spelled c.in-Ok.ensures
     (rw c.deref.ensures.value at c.in_ok-extend_from_slice-in-Ok.ensures.items)
