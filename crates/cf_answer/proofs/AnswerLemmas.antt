@@ -258,11 +258,11 @@ pub printed_answers : (c : Command) (given last : List Told) (files : List (List
     OnOk answer (Appends old.held new.held bytes) → TookPrefix old.held new.held bytes →
     IfErr answer (λ f. IsOutFault f ⊎ (f ≡ fault.OutputTooLong)) →
     Counts (answer ≡ Err fault.Output) old.faults new.faults → AnswersOn c given last files (streams input old) (streams input new) answer
-printed_answers c given last files printed bytes input old new answer e p owed is (inl long) past same all some fault count =
+printed_answers c given last files printed bytes input old new answer e p owed is (inl long) past same all some only count =
     subst (λ a. AnswersOn c given last files (streams input old) (streams input new) a) (sym long)
     (subst (λ o. AnswersOn c given last files (streams input old) (streams input o) (Err fault.OutputTooLong)) (sym (same long))
     (overfull_answers c given last files printed bytes (streams input old) p owed is (past long)))
-printed_answers c given last files printed bytes input old new (Ok done) e p owed is (inr few) past same all some fault count =
+printed_answers c given last files printed bytes input old new (Ok done) e p owed is (inr few) past same all some only count =
     fitted_answers c given last files printed bytes input old new (Ok done) e p owed is few all some tt count
 printed_answers c given last files printed bytes input old new (Err f) e p owed is (inr few) past same all some (inl out) count =
     fitted_answers c given last files printed bytes input old new (Err f) e p owed is few all some out count

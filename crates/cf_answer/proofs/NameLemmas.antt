@@ -44,11 +44,11 @@ module _ (p : Place) (name : List ℕ) where
 
   read_free : is_reserved Three name ≡ false → must (a_name Three) alone ≡ Ok ((p, name), [])
   unfolding must at
-  read_free e = rw e refl
+  read_free e = rw (e, must, at) refl
 
   read_taken : is_reserved Three name ≡ true → must (a_name Three) alone ≡ Err 1
   unfolding must at
-  read_taken e = rw e refl
+  read_taken e = rw (e, must, at) refl
 
   free_of : (reserved : Bool) (x : (Place × List ℕ) × List Token) → is_reserved Three name ≡ reserved → must (a_name Three) alone ≡ Ok x →
       is_reserved Three name ≡ false

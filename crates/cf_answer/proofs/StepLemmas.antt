@@ -37,7 +37,7 @@ within_or_past : (most : Option ℕ) (count : ℕ) → IsPast most count ⊎ IsW
 within_or_past None count = inr tt
 within_or_past (Some most) count = cases_lt most count
 
-test_within : (most : Option ℕ) (count : ℕ) → IsWithin most count → is_within most count ≡ true
+pub test_within : (most : Option ℕ) (count : ℕ) → IsWithin most count → is_within most count ≡ true
 test_within None count few = refl
 test_within (Some most) count few = grind (arith, nat_tests, few)
 

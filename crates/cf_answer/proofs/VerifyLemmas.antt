@@ -32,6 +32,7 @@ use Rattle.cf_cases.specs.Holding.{EachOf}
 use Rattle.cf_steps.specs.Blocks.{BlockTree}
 use Rattle.cf_cert.specs.Judging.{IsVerdict}
 use Rattle.cf_cert.specs.Laws.{IsLinearChoose}
+use Rattle.cf_cert.specs.declared.verdict.Verdict.{Verdict}
 use Rattle.cf_cert.specs.declared.verdict.Verdict.TheVariants.{Yes, Rejected}
 use Rattle.cf_cert.specs.declared.verdict.Why.{Why}
 use Rattle.std.specs.Str.{bytes_eq}
@@ -44,6 +45,7 @@ use Rattle.cf_answer.specs.Branches.{AreBranched, coming, in_branches, IsVerdict
 use Rattle.cf_answer.specs.Certificates.{AreHeaded, verified_line}
 use Rattle.cf_answer.proofs.CertificateLemmas.{yes_proves}
 use Rattle.cf_answer.proofs.CountLemmas.{one_fault}
+use Rattle.cf_answer.proofs.SourceLemmas.{plain_chooses}
 use Rattle.cf_answer.proofs.OutsideLemmas.{Untouched, none_read, none_written, no_input_fault, no_out_fault, long_text}
 use Rattle.cf_answer.proofs.FaultLemmas.{failed, IsTextFault, refused_fault}
 use Rattle.cf_answer.proofs.StatusLemmas.{is_file}
@@ -56,8 +58,8 @@ unfolding text_limit written_limit
 source_limit Two = omega arith
 source_limit Three = omega arith
 
-took_less : {most more : ℕ} {old new : Option (List ℕ)} → most ≤ more → TookFront (most + 1) old new → TookFront (more + 1) old new
-took_less less (front, few, is) = (front, omega (arith, less, few), is)
+took_less : (most more : ℕ) (old new : Option (List ℕ)) → most ≤ more → TookFront (most + 1) old new → TookFront (more + 1) old new
+took_less most more old new less (front, few, is) = (front, omega (arith, less, few), is)
 
 module _ (file steps : List ℕ) (given : List Told) where
   abbrev Verifies : Outside → Outside → Result (Unit {0}) Fault → Type 0
@@ -80,11 +82,12 @@ module _ (file steps : List ℕ) (given : List Told) where
   one_frugal : (source : List ℕ) (before after : Outside) → IsFetched text_limit file before.shelf after.shelf → Untouched before after →
       Frugal source before after
   one_frugal source before after f none =
-      let less = source_limit (edition_of source) in record {
+      let less = source_limit (edition_of source) in
+      let most = most_of (of_target (edition_of source)) in record {
         fetches = omega (arith, f.fetched);
         given = omega (arith, f.given, less);
         ends = omega (arith, f.ends);
-        file = elim f.front [ inl same ↦ inl same | inr took ↦ inr (file, file_among, took_less less took) ];
+        file = elim f.front [ inl same ↦ inl same | inr took ↦ inr (file, file_among, took_less text_limit most (before.shelf.texts file) after.shelf.left less took) ];
         input = none_read (input_most (source ∷ [])) before after none;
       }
 
@@ -100,7 +103,8 @@ module _ (file steps : List ℕ) (given : List Told) where
         file = elim s.front [
           | inl same ↦ elim f.front [
             | inl before_too ↦ inl (same ∙ before_too)
-            | inr took ↦ inr (file, file_among, subst (TookFront (most + 1) (before.shelf.texts file)) (sym same) (took_less less took))
+            | inr took ↦ inr (file, file_among, subst (TookFront (most + 1) (before.shelf.texts file)) (sym same)
+                (took_less text_limit most (before.shelf.texts file) mid.left less took))
           ]
           | inr took ↦ inr (steps, steps_among, subst (λ t. TookFront (most + 1) t after.shelf.left) (f.texts steps) took)
         ];
@@ -291,6 +295,14 @@ branched_lines told bs (q ∷ qs) = ap (λ more. verified_line q ++ more) (branc
 yes_beside : (wrong : Option ℕ) (qs : List ChooseTree) (bs : List BlockTree) → IsVerdictBeside wrong qs bs Yes → (wrong ≡ None) × IsVerdict qs bs Yes
 yes_beside (Some n) qs bs h = cc h
 yes_beside None qs bs h = (refl, h)
+
+-- the verdict where no head is wrong
+pub right_verdict : (told : List ToldChoose) (qs : List ChooseTree) (bs : List BlockTree) (v : Verdict) → wrong_head (in_branches told [] qs) bs ≡ None →
+    IsVerdict qs bs v → IsVerdictIn (in_branches told [] qs) bs v
+right_verdict told qs bs v none h =
+    let cs = in_branches told [] qs in
+    subst (λ wrong. IsVerdictBeside wrong (map (λ c. c.0) cs) bs v) (sym none)
+    (subst (λ ps. IsVerdict ps bs v) (sym (plain_chooses told [] qs)) h)
 
 unless_wrong : (b : Bool) (n : ℕ) (o : Option ℕ) → (if b then o else Some n) ≡ None → (b ≡ true) × (o ≡ None)
 unless_wrong true n o e = (refl, e)

@@ -184,9 +184,10 @@ fn told_in_three(alloc: Global, text: &[u8]) -> Result<ToldProgram, Fault>
     ensures { IsVerdict (IsToldProgram text.now) (IsBrokenSource text.now) result }
 {
     let formed = read_formed(alloc, text)?;
+    let typed = formed.typed();
     // for the proof: the rules of a typed program are told by its methods alone.
-    let _ = formed.typed().main();
-    match lower(alloc, formed.typed()) {
+    let _ = typed.main();
+    match lower(alloc, typed) {
         Ok(lowered) => Ok(ToldProgram {
             lowered,
             formed: Some(formed),

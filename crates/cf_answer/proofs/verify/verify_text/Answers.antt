@@ -4,6 +4,7 @@ use Rattle.cf_lex.specs.Editions.{edition_of}
 use Rattle.cf_tree.specs.ChooseView.{choose_tree}
 use Rattle.cf_cases.specs.Holding.{EachOf}
 use Rattle.cf_cert.specs.Laws.{IsLinearChoose}
+use Rattle.cf_steps.specs.Blocks.{block_trees}
 use Rattle.cf_answer.specs.Branches.{in_branches}
 use Rattle.cf_answer.specs.Verifying.{told_in, AreReadFrom}
 use Rattle.cf_answer.proofs.AnswerLemmas.{stopped_answers, written_answers}
@@ -41,6 +42,7 @@ returns-in_err-lines-in-Yes-clause-answers g c =
 pub returns-in-Yes-clause-answers : goal.returns-in-Yes-clause-answers
 returns-in-Yes-clause-answers g c =
     let chooses = c.in_ok-chooses.chooses.items in
+    let blocks = block_trees c.in_ok-blocks.blocks in
     let told = told_in c.args.program.now.formed in
     let qs = map choose_tree chooses in
     λ file steps given input source s.
@@ -48,8 +50,8 @@ returns-in-Yes-clause-answers g c =
     let linear = subst (EachOf IsLinearChoose) (sym (plain_chooses told [] qs)) (are_linear chooses c.in_ok-chooses.ensures.typed) in
     let edition : c.edition.result ≡ edition_of source = c.edition.ensures ∙ sym s.edition in
     written_answers _ given given _ _ _ input _ _ _ refl (λ e. refl) refl
-    (verified_owes file steps source c.args.text.now given given [] (in_branches told [] qs) _ _ branched linear
-    (subst (λ e. AreReadFrom e c.args.text.now _) edition c.in_ok-blocks.ensures)
+    (verified_owes file steps source c.args.text.now given given [] (in_branches told [] qs) blocks _ branched linear
+    (subst (λ e. AreReadFrom e c.args.text.now blocks) edition c.in_ok-blocks.ensures)
     (rw (c.deref.ensures.value, c.chooses.ensures, c.in-Yes.is) at c.in_ok-verdict.ensures)
     (rw c.deref-in-Yes.ensures.value at c.in_ok-lines-in-Yes.ensures ∙ sym (branched_lines told [] qs)))
     (c.deref-in-Yes-2.ensures.value ∙ sym (append-nil _)) c.write_text.ensures.all c.write_text.ensures.prefix c.write_text.ensures.fault
@@ -58,11 +60,12 @@ returns-in-Yes-clause-answers g c =
 pub returns-clause-answers : goal.returns-clause-answers
 returns-clause-answers g c =
     let chooses = c.in_ok-chooses.chooses.items in
+    let blocks = block_trees c.in_ok-blocks.blocks in
     let told = told_in c.args.program.now.formed in
     λ file steps given input source s.
     let branched = branched_all source c.args.program.now _ chooses c.typed.ensures.value c.in_ok-chooses.ensures.chooses s in
     let edition : c.edition.result ≡ edition_of source = c.edition.ensures ∙ sym s.edition in
     stopped_answers _ given given _ _ _ refl
-    (inl (blocks_refused source c.args.text.now (in_branches told [] (map choose_tree chooses)) _ _ _ _ _ branched
-    (subst (λ e. AreReadFrom e c.args.text.now _) edition c.in_ok-blocks.ensures)
+    (inl (blocks_refused source c.args.text.now (in_branches told [] (map choose_tree chooses)) blocks _ _ _ _ branched
+    (subst (λ e. AreReadFrom e c.args.text.now blocks) edition c.in_ok-blocks.ensures)
     (rw (c.deref.ensures.value, c.chooses.ensures, c.in-Rejected.is) at c.in_ok-verdict.ensures)))
