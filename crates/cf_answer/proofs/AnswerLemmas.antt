@@ -204,6 +204,13 @@ pub out_is_late : (answer : Result (Unit {0}) Fault) → IfErr answer IsOutFault
 out_is_late (Ok done) is h = h
 out_is_late (Err f) is h = late_fault f is h
 
+-- a text that is past its limit is not written
+pub printed_unwritten : (Same : Type 0) (answer : Result (Unit {0}) Fault) → IfErr answer (λ f. IsOutFault f ⊎ (f ≡ fault.OutputTooLong)) →
+    (answer ≡ Err fault.OutputTooLong → Same) → IsEarly (status_of answer) → Same
+printed_unwritten Same (Ok done) is same h = absurd h
+printed_unwritten Same (Err f) (inl out) same h = absurd (late_fault f out h)
+printed_unwritten Same (Err f) (inr long) same h = same (ap failed long)
+
 fitted_answers : (c : Command) (given last : List Told) (files : List (List ℕ)) (printed bytes : List ℕ) (input : SourceSeen) (old new : SinkSeen)
     (answer : Result (Unit {0}) Fault) → reads_input c ≡ false →
     ArePassed (calls_passes c) given last → Owes c files given last [] printed → bytes ≡ printed ++ closing c last →

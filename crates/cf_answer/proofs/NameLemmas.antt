@@ -1,5 +1,5 @@
 -- The names of truth variables, as heads of blocks spell them.
-use Rattle.std.proofs.Common.{◌≡◌, ◌∙◌, sym, ap, subst, refl, ℕ, ◌+◌, ◌<◌, Bool, true, false, not, ◌&&◌, List, [], ◌∷◌, ◌++◌, Ok, Err, length, map, take, get_or, All}
+use Rattle.std.proofs.Common.{◌≡◌, ◌∙◌, sym, ap, subst, refl, ℕ, ◌+◌, ◌<◌, Bool, true, false, not, ◌&&◌, List, [], ◌∷◌, ◌++◌, Result, Ok, Err, length, map, take, get_or, All}
 use Rattle.std.proofs.lemmas.List.{take_more, map-append}
 use Rattle.std.proofs.lemmas.List.Elements.{All-nil, All-cons, All-append}
 use Rattle.cf_form.specs.ToldView.{truth_at}
@@ -38,6 +38,9 @@ and_none : (b : Bool) → false ≡ (b && not true)
 and_none true = refl
 and_none false = refl
 
+not_both : {A : Type 0} (r : Result A ℕ) (x : A) (n : ℕ) → r ≡ Ok x → r ≡ Err n → ⊥
+not_both r x n a b = let both : Ok x ≡ Err n = sym a ∙ b in cc
+
 module _ (p : Place) (name : List ℕ) where
   abbrev alone : List Token
   alone = record { place = p; kind = Word name } ∷ []
@@ -53,11 +56,11 @@ module _ (p : Place) (name : List ℕ) where
   free_of : (reserved : Bool) (x : (Place × List ℕ) × List Token) → is_reserved Three name ≡ reserved → must (a_name Three) alone ≡ Ok x →
       is_reserved Three name ≡ false
   free_of false x e read = e
-  free_of true x e read = let both : Err 1 ≡ Ok x = sym (read_taken e) ∙ read in cc
+  free_of true x e read = absurd (not_both (must (a_name Three) alone) x 1 read (read_taken e))
 
   taken_of : (reserved : Bool) (n : ℕ) → is_reserved Three name ≡ reserved → must (a_name Three) alone ≡ Err n → is_reserved Three name ≡ true
   taken_of true n e read = e
-  taken_of false n e read = let both : Ok ((p, name), []) ≡ Err n = sym (read_free e) ∙ read in cc
+  taken_of false n e read = absurd (not_both (must (a_name Three) alone) ((p, name), []) n (read_free e) read)
 
   pub name_read : (ts : List Token) (x : (Place × List ℕ) × List Token) (b : Bool) → ts ≡ record { place = p; kind = Word name } ∷ [] →
       must (a_name Three) ts ≡ Ok x → b ≡ is_word name → b ≡ (is_word name && not (is_reserved Three name))

@@ -1,7 +1,7 @@
 use Rattle.std.proofs.Common.{◌≡◌, ◌∙◌, refl, sym, append-nil}
 use Rattle.std.proofs.lemmas.Result.{err_from_is_err_and}
 use Rattle.cf_lex.specs.Editions.{edition_of}
-use Rattle.cf_answer.proofs.AnswerLemmas.{stopped_answers, printed_answers}
+use Rattle.cf_answer.proofs.AnswerLemmas.{stopped_answers, printed_answers, printed_unwritten}
 use Rattle.cf_answer.proofs.AskedLemmas.{branched_source}
 use Rattle.cf_answer.proofs.TextLemmas.{broken_refused}
 use Rattle.cf_answer.proofs.prove.write_blocks.Goals as goal
@@ -22,5 +22,8 @@ returns-clause-answers g c =
     let edition : c.edition.result ≡ edition_of c.args.text.now = c.edition.ensures ∙ sym s.edition in
     λ file given input. printed_answers _ given given _ _ _ input _ _ _ refl refl
     (_, branched_source c.args.text.now c.in_ok-program.program s, c.in_ok-text.ensures c.args.text.now s)
-    (c.deref.ensures.value ∙ sym (append-nil _)) (rw edition at c.write_printed.ensures.fits) (rw edition at c.write_printed.ensures.past) c.write_printed.ensures.unwritten c.write_printed.ensures.all
-    c.write_printed.ensures.prefix c.write_printed.ensures.fault c.write_printed.ensures.count
+    (c.deref.ensures.value ∙ sym (append-nil _)) (rw edition at c.write_printed.ensures.fits) (rw edition at c.write_printed.ensures.past)
+    (λ e. rw (c.write_printed.ensures.unwritten e) refl) c.write_printed.ensures.all c.write_printed.ensures.prefix c.write_printed.ensures.fault c.write_printed.ensures.count
+
+pub returns-clause-unwritten : goal.returns-clause-unwritten
+returns-clause-unwritten g c = λ e. printed_unwritten _ c.write_printed.result c.write_printed.ensures.fault c.write_printed.ensures.unwritten e
