@@ -10,7 +10,7 @@ use Rattle.cf_program.specs.Checked.{TypedTree}
 use Rattle.cf_words.specs.Commands.{compile, verify}
 use Rattle.cf_answer.specs.Ends.{Answers, IsInOrder, source_alone, steps_too}
 use Rattle.cf_answer.specs.Limits.{text_limit}
-use Rattle.cf_answer.specs.Outside.{Outside, outside, Blames, IsSparing, IsFrugal}
+use Rattle.cf_answer.specs.Outside.{Outside, outside, Blames, IsSparing, IsFrugal, Taken}
 use Rattle.cf_answer.specs.Refusals.{IsBrokenSource}
 use Rattle.cf_answer.specs.Sources.{IsTypedSource}
 use Rattle.cf_answer.specs.declared.fault.Fault.{Fault}
@@ -158,8 +158,11 @@ abbrev counts : Option (List ℕ) → ℕ → ℕ → ℕ → Outside
 counts left fetches given ends =
     outside (record { texts = texts; left = left; faults = never; fetches = fetches; given = given; ends = ends }) (source None 0 0) (out 0)
 
+abbrev taken : Taken
+taken = record { text = text_limit; input = limited }
+
 abbrev Takes : List (List ℕ) → Option (List ℕ) → ℕ → ℕ → ℕ → Type 0
-Takes names left fetches given ends = IsFrugal limited names (counts (Some (codes "old")) 5 7 3) (counts left fetches given ends)
+Takes names left fetches given ends = IsFrugal taken names (counts (Some (codes "old")) 5 7 3) (counts left fetches given ends)
 
 untouched-input : IsSparing limited (source None 0 0) (source None 0 0)
 untouched-input = record { front = ([], omega arith, tt); given = omega arith; ends = omega arith }
@@ -225,7 +228,7 @@ module _ (front : List ℕ) where
       outside (record { texts = λ n. Some (front ++ codes "2"); left = left; faults = never; fetches = fetches; given = 0; ends = 0 }) (source None 0 0) (out 0)
 
   abbrev IsRead : Type 0
-  IsRead = IsFrugal limited (codes "a" ∷ []) (long (Some (codes "old")) 5) (long (Some (codes "2")) 6)
+  IsRead = IsFrugal taken (codes "a" ∷ []) (long (Some (codes "old")) 5) (long (Some (codes "2")) 6)
 
   one_byte_more : length front ≡ 1048577 → IsRead
   unfolding text_limit

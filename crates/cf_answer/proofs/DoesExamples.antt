@@ -12,7 +12,7 @@ use Rattle.cf_answer.specs.Outside.{outside, streams, AreTexts, one_past}
 use Rattle.cf_answer.specs.Refusals.{broken, wide, unruly, refused, too_long, odd_byte, large_number, no_tree, bad_tree, Refuses}
 use Rattle.cf_answer.specs.declared.fault.Fault.{Fault}
 use Rattle.cf_answer.specs.declared.fault.Fault.TheVariants as fault
-use Rattle.cf_answer.proofs.OutsideLemmas.{nothing_read}
+use Rattle.cf_answer.proofs.OutsideLemmas.{none_within, nothing_read}
 
 abbrev name : List ℕ
 name = codes "a"
@@ -124,7 +124,7 @@ OnShelf text turns after read =
 module _ (text : List ℕ) where
   fetched_once : length text ≡ 1048577 → OnShelf text 3 (shelf text 6 0) (input 0 0)
   unfolding text_limit
-  fetched_once e = record {
+  fetched_once e = let none = none_within (one_past (input_most (text ∷ []))) in record {
     files = text ∷ [];
     told = (refl, tt);
     passed = refl;
@@ -142,7 +142,7 @@ module _ (text : List ℕ) where
       file = inl refl;
       given = omega arith;
       ends = omega arith;
-      input = record { front = ([], omega arith, refl); given = omega arith; ends = omega arith };
+      input = record { front = ([], none, refl); given = none; ends = omega arith };
     };
   }
 

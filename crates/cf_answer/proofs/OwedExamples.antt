@@ -14,12 +14,14 @@ use Rattle.cf_tree.specs.declared.target.RawTarget.{RawTarget}
 use Rattle.cf_lex.specs.Editions.{edition_of}
 use Rattle.cf_target.specs.Spelling.{target_tree}
 use Rattle.cf_program.specs.Checked.{TypedTree}
+use Rattle.cf_form.specs.Branches.{Branch}
 use Rattle.cf_form.specs.Told.{ToldBranch, ToldChoose}
 use Rattle.cf_eval.specs.Replies.{IsReply}
 use Rattle.cf_pass.specs.Passes.{Told, HaveTurned}
 use Rattle.cf_words.specs.declared.command.Flags.{Flags}
 use Rattle.cf_words.specs.Commands.{compile, run, pre, check, exec, prove, verify, gen, help, version}
 use Rattle.cf_answer.specs.About.{help_text}
+use Rattle.cf_answer.specs.Branches.{AreBranched}
 use Rattle.cf_answer.specs.Certificates.{asked_in, AreProofs, AreVerified, verified_line}
 use Rattle.cf_answer.specs.LateReplies.{AreRunsAllowed}
 use Rattle.cf_answer.specs.Owed.{by_target, by_late, IsReplyBy, AllReplied, AreReplies, ArePicked, IsCompiledBy, OwesRun, compiled, late, IsPrinted, AllWritten, ArePres, AreChecks, IsSum, sum_line, Owes}
@@ -129,7 +131,7 @@ two-chooses : AllWritten (λ q first. first ≡ q.number ∷ []) (numbered 49 �
 two-chooses = (codes "1", codes "2", refl, refl, (codes "2", [], refl, refl, refl))
 
 -- no line feed stands between them
-no-choose : AllWritten (λ q first. ⊥) [] []
+no-choose : AllWritten {Q = ChooseTree} (λ q first. ⊥) [] []
 no-choose = refl
 
 last-line : sum_line 9 (negsuc 11) ≡ codes "lines 9 sum -12\n"
