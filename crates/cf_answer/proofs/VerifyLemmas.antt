@@ -103,8 +103,12 @@ module _ (file steps : List ℕ) (given : List Told) where
         file = elim s.front [
           | inl same ↦ elim f.front [
             | inl before_too ↦ inl (same ∙ before_too)
-            | inr took ↦ inr (file, file_among, subst (TookFront (most + 1) (before.shelf.texts file)) (sym same)
-                (took_less text_limit most (before.shelf.texts file) mid.left less took))
+            | inr took ↦ inr (
+              file,
+              file_among,
+              subst (TookFront (most + 1) (before.shelf.texts file)) (sym same)
+                  (took_less text_limit most (before.shelf.texts file) mid.left less took),
+            )
           ]
           | inr took ↦ inr (steps, steps_among, subst (λ t. TookFront (most + 1) t after.shelf.left) (f.texts steps) took)
         ];
