@@ -45,4 +45,5 @@ NeedsAre q (Undecided d) = Unit {0}
 
 abbrev pub NeedsAreChecked : Type 0
 NeedsAreChecked =
-    (q : ChooseTree) (branch : Branch) (text : List ℕ) (answer : ExistenceAnswer) → IsPreOf q branch text → IsExistence q.scope q.outputs q.relation answer → NeedsAre q answer
+    (q : ChooseTree) (branch : Branch) (text : List ℕ) (answer : ExistenceAnswer) → IsPreOf q branch text →
+    IsExistence q.scope q.outputs q.relation answer → NeedsAre q answer

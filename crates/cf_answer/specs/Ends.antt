@@ -73,7 +73,8 @@ IsStopped job before after =
     (behind_lines (input_most job.files) (input_for job.command (front ++ rest)) (closing_of job))
 
 -- Done: all was read, and all that is owed was written. The input failed: the lines were answered whose line feed was read. The input is too long: those
--- were whose line feed stands within the limit. What is owed is past the limit of what is written: nothing was written. `out` failed, or memory ran out: a prefix was written of what is owed. The file failed: nothing was written,
+-- were whose line feed stands within the limit. What is owed is past the limit of what is written: nothing was written. `out` failed, or memory ran out:
+-- a prefix was written of what is owed. The file failed: nothing was written,
 -- and no pass was called. It is refused: nothing was written.
 abbrev pub Ends : Job → Streams → Streams → Result (Unit {0}) Fault → Type 0
 Ends job before after (Ok done) =

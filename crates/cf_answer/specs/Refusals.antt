@@ -125,7 +125,8 @@ IsRefusedSteps edition text e = Causes (of_target edition) (AreBlocks edition) (
 -- Why steps are not accepted for a source: the source is refused, whatever the steps are; or their text is; or there is a first fault in their blocks.
 pub data IsUnverified (source steps : List ℕ) : Fault → Type 0 where
   bad_source : (f : Fault) → IsBrokenSource source f → IsUnverified source steps f
-  bad_steps : (typed : TypedTree) (e : StepsFault) → IsTypedSource source typed → IsRefusedSteps (edition_of source) steps e → IsUnverified source steps (fault.Steps e)
+  bad_steps : (typed : TypedTree) (e : StepsFault) → IsTypedSource source typed → IsRefusedSteps (edition_of source) steps e →
+      IsUnverified source steps (fault.Steps e)
   bad_blocks : (cs : List (ChooseTree × Branch)) (bs : List BlockTree) (n i j : ℕ) (w : Why) → AreBranched source cs →
       Spelled (of_target (edition_of source)) (AreBlocks (edition_of source)) steps bs → IsVerdictIn cs bs (Rejected n i j w) →
       IsUnverified source steps (fault.Rejected n i j w)
