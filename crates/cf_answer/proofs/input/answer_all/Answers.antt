@@ -1,3 +1,4 @@
+use Rattle.std.proofs.Common.{◌+◌, rules}
 use Rattle.std.proofs.lemmas.Result.{err_from_is_err_and}
 use Rattle.cf_answer.specs.Steps.{answerer_of}
 use Rattle.cf_answer.proofs.StepLemmas.{runs_endless, runs_rest}
@@ -15,3 +16,11 @@ returns-then-count-eq0-clause-runs g c =
 
 pub returns-clause-runs : goal.returns-clause-runs
 returns-clause-runs g c = runs_endless (answerer_of c.args.answerer.now) _ _ _ _ _ _ c.pieces.invariant.read.1
+
+pub pieces-preserved : goal.pieces-preserved
+pieces-preserved g c = record {
+  read = (c.pieces.invariant.read.0 + c.in_ok-count.count, c.in_ok-count.ensures.more _ _ _ _ c.pieces.invariant.read.1);
+  inputs = search rules;
+  outs = search rules;
+  ends = search rules;
+}
