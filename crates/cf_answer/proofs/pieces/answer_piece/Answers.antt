@@ -23,4 +23,4 @@ returns-clause-some g c =
 pub returns-in_err-behind-clause-some : goal.returns-in_err-behind-clause-some
 returns-in_err-behind-clause-some g c =
     let p = err_from_is_err_and c.from_residual.result c.from_residual.ensures.1 in
-    rw p.1 (λ bytes first h. answered_none (answerer_of c.args.answerer.now) _ bytes c.args.piece.now first _ h)
+    rw p.1 (λ most bytes first h. answered_none (answerer_of c.args.answerer.now) most _ bytes c.args.piece.now first _ h)
