@@ -18,7 +18,7 @@ use Rattle.cf_program.specs.Checked.{TypedTree, checked}
 use Rattle.cf_program.specs.declared.linearity.Linearity.{Linearity}
 use Rattle.cf_program.specs.declared.linearity.Linearity.TheVariants.{Plain, Late}
 use Rattle.cf_program.specs.declared.fault.TypeFault.{TypeFault}
-use Rattle.cf_program.specs.declared.fault.TypeFault.TheVariants.{NotLinear, Weight, Depth}
+use Rattle.cf_program.specs.declared.fault.TypeFault.TheVariants.{NotLinear}
 use Rattle.cf_form.specs.FormAnswers.{IsUnformed}
 use Rattle.cf_form.specs.declared.fault.FormFault.{FormFault}
 use Rattle.cf_form.specs.declared.fault.FormFault.TheVariants as form
@@ -68,8 +68,8 @@ fault_of build.NoMemory = fault.NoMemory
 -- the fault for which the forms of a source are not those of language 2
 abbrev pub form_fault : FormFault → Fault
 form_fault (form.Cases n count) = fault.Choose n (Limit Cases count)
-form_fault (form.Weight f weight) = fault.Rule (Weight weight)
-form_fault (form.Depth f depth) = fault.Rule (Depth depth)
+form_fault (form.Weight f weight) = fault.Weight f weight
+form_fault (form.Depth f depth) = fault.Depth f depth
 form_fault form.NoMemory = fault.NoMemory
 
 -- for which faults a program is refused by its rules: the first that is broken; of edition 3 also, where none is, the first limit that its forms pass

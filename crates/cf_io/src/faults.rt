@@ -20,8 +20,6 @@ pub enum FetchFault {
 #[derive(Clone, Copy, Debug, PartialEq, Eq)]
 pub enum ReadFault {
     Failed,
-    /// More bytes came than the limit.
-    TooLong,
     NoMemory,
 }
 

@@ -1,5 +1,5 @@
-//! Reading a whole text.
-ghost use Rattle.std.specs.Prelude.{◌≡◌, ◌⊎◌, ◌≤◌, ◌<◌, ◌+◌, ℕ, List, length, IfOk, IfSome, IsErrOf};
+//! Reading a text as far as it may be read.
+ghost use Rattle.std.specs.Prelude.{◌≡◌, ◌⊎◌, ◌≤◌, ◌<◌, ◌+◌, ℕ, List, length, take, IfOk, IfSome, IsErrOf};
 ghost use Rattle.cf_io.specs.Bytes.{TookFront};
 ghost use Rattle.cf_io.specs.Causes.{Rose, one_more};
 
@@ -9,22 +9,21 @@ use std::alloc::Global;
 
 const PIECE: usize = 4096;
 
-/// Reads the whole text under a name, where it has at most `limit` bytes.
+/// Reads the first `most` bytes of the text under a name: all of it, where it has no more.
 ///
-/// It fetches the text once, and reads at most one byte more than the limit, and its end at most once.
-pub fn read_text<F: Shelf>(
+/// It fetches the text once, reads no byte behind these, and its end at most once.
+pub fn read_front<F: Shelf>(
     alloc: Global,
     shelf: &mut F,
     name: &str,
-    limit: usize,
+    most: usize,
 ) -> Result<Vec<u8>, ReadFault>
-    ensures whole { IfOk result (λ bytes. IfSome ((F.seen shelf.old).texts name.now) (λ text. bytes.items ≡ text)) }
-    ensures short { IfOk result (λ bytes. length bytes.items ≤ limit) }
-    ensures long { IsErrOf result ReadFault.TooLong → IfSome ((F.seen shelf.old).texts name.now) (λ text. limit < length text) }
+    ensures front { IfOk result (λ bytes. IfSome ((F.seen shelf.old).texts name.now) (λ text. bytes.items ≡ take most text)) }
+    ensures short { IfOk result (λ bytes. length bytes.items ≤ most) }
     ensures failed { IsErrOf result ReadFault.Failed → Rose ((F.seen shelf.old).faults name.now) ((F.seen shelf.new).faults name.now) }
     ensures most { ((F.seen shelf.new).left ≡ (F.seen shelf.old).left) ⊎
-        TookFront (limit + 1) ((F.seen shelf.old).texts name.now) (F.seen shelf.new).left }
-    ensures given { (F.seen shelf.new).given ≤ (F.seen shelf.old).given + (limit + 1) }
+        TookFront most ((F.seen shelf.old).texts name.now) (F.seen shelf.new).left }
+    ensures given { (F.seen shelf.new).given ≤ (F.seen shelf.old).given + most }
     ensures ends { (F.seen shelf.new).ends ≤ (F.seen shelf.old).ends + 1 }
     ensures texts { (other : List ℕ) → (F.seen shelf.new).texts other ≡ (F.seen shelf.old).texts other }
     ensures counts { (other : List ℕ) → (F.seen shelf.old).faults other ≤ (F.seen shelf.new).faults other }
@@ -35,13 +34,13 @@ pub fn read_text<F: Shelf>(
     shelf.fetch(alloc, name)?;
     let mut bytes = Vec::new(alloc);
     let mut piece = [0u8; PIECE];
-    'pieces: while bytes.len() <= limit {
-        let room = (limit - bytes.len()).saturating_add(1).min(PIECE);
+    'pieces: while bytes.len() < most {
+        let room = (most - bytes.len()).min(PIECE);
         let count = shelf.read(&mut piece[..room])?;
         if count == 0 {
             return Ok(bytes);
         }
         bytes.extend_from_slice(&piece[..count])?;
     }
-    Err(ReadFault::TooLong)
+    Ok(bytes)
 }

@@ -1,11 +1,11 @@
 use Rattle.std.proofs.Common.{◌-◌, ◌+◌, ◌≤◌, ◌≡◌, List, ℕ, vec_len}
 use Rattle.std.specs.Io.KnownBytes.{Consumes}
 use Rattle.cf_io.specs.Causes.{one_more}
-use Rattle.cf_io.proofs.read.read_text.Given as goal
+use Rattle.cf_io.proofs.read.read_front.Given as goal
 
 abbrev pub invariant-pieces : goal.invariant-pieces
 invariant-pieces g l = record {
-  within : vec_len l.bytes ≤ l.limit + 1;
+  within : vec_len l.bytes ≤ l.most;
   read : Consumes ((g.F.Shelf.seen l.fn.shelf).texts l.name) (g.F.Shelf.seen l.shelf).left l.bytes.items;
   turned : g.F.Shelf.turned l.shelf l.name;
   texts : (other : List ℕ) → (g.F.Shelf.seen l.shelf).texts other ≡ (g.F.Shelf.seen l.fn.shelf).texts other;
@@ -16,4 +16,4 @@ invariant-pieces g l = record {
 }
 
 abbrev pub decreases-pieces : goal.decreases-pieces
-decreases-pieces g l = l.limit + 1 - vec_len l.bytes
+decreases-pieces g l = l.most - vec_len l.bytes

@@ -2,7 +2,7 @@ use Rattle.std.proofs.Common.{inr, arith, rules, drop}
 use Rattle.std.proofs.lemmas.Grind.{common_steps}
 use Rattle.std.proofs.lemmas.List.{take-append-le}
 use Rattle.std.proofs.KnownBytes.{Consumes-trans}
-use Rattle.cf_io.proofs.read.read_text.Goals as goal
+use Rattle.cf_io.proofs.read.read_front.Goals as goal
 
 pub returns-in_err-extend_from_slice-clause-most : goal.returns-in_err-extend_from_slice-clause-most
 returns-in_err-extend_from_slice-clause-most g c =
