@@ -1,5 +1,5 @@
 -- What is written of how a command ended: of a source of edition 3 that is refused the message about it, and of all else its line.
-use Rattle.std.specs.Prelude.{◌≡◌, ◌⊎◌, ◌<◌, ℕ, List, [], length, codes, Option, Some, None, Result, Ok, Err}
+use Rattle.std.specs.Prelude.{◌≡◌, ◌+◌, ℕ, List, [], take, codes, Option, Some, None, Result, Ok, Err}
 use Rattle.cf_lex.specs.Editions.{edition_of}
 use Rattle.cf_lex.specs.Tokens.{at_end}
 use Rattle.cf_lex.specs.declared.token.Token.{Token}
@@ -15,7 +15,7 @@ use Rattle.cf_help.specs.Faults.{count_words}
 use Rattle.cf_help.specs.Messages.{message, bad_byte_words, choose_words, past_limit_words, rule_message, syntax_words, too_long_words}
 use Rattle.cf_help.specs.Numbers.{function_place, number_place}
 use Rattle.cf_words.specs.Commands.{Command, compile, run, pre, check, prove, verify}
-use Rattle.cf_answer.specs.Limits.{of_source}
+use Rattle.cf_answer.specs.Limits.{text_limit, of_source}
 use Rattle.cf_answer.specs.Outside.{AreTold}
 use Rattle.cf_answer.specs.Sources.{HasTokens, SpellsProgram}
 use Rattle.cf_answer.specs.Texts.{answer_line, fault_line}
@@ -42,6 +42,10 @@ linearity_of command = Plain
 abbrev pub IsAbout : List ℕ → (List RawItemTree → List ℕ) → List ℕ → Type 0
 IsAbout text words line = (items : List RawItemTree) × SpellsProgram text items × (line ≡ words items)
 
+-- that a function is too heavy or too deep
+abbrev pub IsAboutSize : List ℕ → List ℕ → List ℕ → ℕ → ℕ → List ℕ → Type 0
+IsAboutSize name text size f n line = IsAbout text (λ items. message name text (function_place (functions_of items) f) (count_words size n)) line
+
 -- what is written of a fault in edition 3, where the source has this name and this text
 abbrev pub IsSaid : Linearity → List ℕ → List ℕ → Fault → List ℕ → Type 0
 IsSaid how name text fault.TextTooLong line = line ≡ message name text None too_long_words
@@ -52,13 +56,15 @@ IsSaid how name text (fault.Syntax p) line =
 IsSaid how name text (fault.Rule e) line = IsAbout text (λ items. rule_message name text how items e) line
 IsSaid how name text (fault.Choose n r) line =
     IsAbout text (λ items. message name text (number_place items n) (choose_words n (refusal_text r))) line
-IsSaid how name text (fault.Weight f w) line =
-    IsAbout text (λ items. message name text (function_place (functions_of items) f) (count_words (codes "Weight") w)) line
-IsSaid how name text (fault.Depth f d) line =
-    IsAbout text (λ items. message name text (function_place (functions_of items) f) (count_words (codes "Depth") d)) line
+IsSaid how name text (fault.Weight f w) line = IsAboutSize name text (codes "Weight") f w line
+IsSaid how name text (fault.Depth f d) line = IsAboutSize name text (codes "Depth") f d line
 IsSaid how name text f line = line ≡ fault_line f
 
--- the same by the edition of the text
+-- as much of a source text as is read: all of it, or one byte more than it may have
+abbrev pub front_of : List ℕ → List ℕ
+front_of text = take (text_limit + 1) text
+
+-- the same by the edition
 abbrev pub IsSaidIn : Edition → Linearity → List ℕ → List ℕ → Fault → List ℕ → Type 0
 IsSaidIn Two how name text f line = line ≡ fault_line f
 IsSaidIn Three how name text f line = IsSaid how name text f line
@@ -66,7 +72,7 @@ IsSaidIn Three how name text f line = IsSaid how name text f line
 -- what is written of an answer to a command on a source of this name and this text
 abbrev pub IsWritten : Linearity → List ℕ → List ℕ → Result (Unit {0}) Fault → List ℕ → Type 0
 IsWritten how name text (Ok done) line = line ≡ []
-IsWritten how name text (Err f) line = IsSaidIn (edition_of text) how name text f line
+IsWritten how name text (Err f) line = IsSaidIn (edition_of (front_of text)) how name text f line
 
 -- what is written of an answer, where the source of the command, if it takes one, has a text of these, as far as they are told
 abbrev pub IsWrittenOf : Option (List ℕ) → Linearity → (List ℕ → Option (List ℕ)) → Result (Unit {0}) Fault → List ℕ → Type 0

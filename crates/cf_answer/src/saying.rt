@@ -1,30 +1,29 @@
 //! The message about a source of edition 3 that is refused.
-ghost use Rattle.std.specs.Prelude.{◌≡◌, ◌×◌, ◌≤◌, ◌<◌, ◌-◌, ◌^◌, Err, None, length, IfOk};
-ghost use Rattle.cf_help.specs.Faults.{Words};
+ghost use Rattle.std.specs.Prelude.{◌≡◌, ◌⊎◌, ◌≤◌, ◌+◌, Err, Some, length, [], IfOk, OnErr};
 ghost use Rattle.cf_help.specs.Messages.{message as the_message};
 ghost use Rattle.cf_help.specs.WordsView.{words_of};
 ghost use Rattle.cf_lex.specs.Editions.{edition_of};
 ghost use Rattle.cf_tree.specs.declared.base.Edition.TheVariants.{Three};
-ghost use Rattle.cf_tree.specs.DefView.{program_tree};
+ghost use Rattle.cf_answer.specs.declared.fault.Fault.TheVariants as faults;
 ghost use Rattle.cf_answer.specs.Limits.{text_limit};
-ghost use Rattle.cf_answer.specs.Sources.{SpellsProgram};
 ghost use Rattle.cf_answer.specs.Texts.{fault_line};
-ghost use Rattle.cf_answer.specs.Written.{IsOfText, IsSaid, message_or};
+ghost use Rattle.cf_answer.specs.Written.{IsAboutSize, IsOfText, IsSaid, message_or};
 
 use crate::fault::Fault;
 use crate::source::parsed;
 use crate::text::lexed;
 use cf_help::{
-    FaultWords, bad_byte_words, choose_words, count_words, function_place, message, number_place,
-    past_limit_words, rule_place, rule_words, syntax_words, too_long_words,
+    FaultWords, bad_byte_words, choose_words, function_place, message, number_place,
+    past_limit_words, rule_place, rule_words, size_words, syntax_words, too_long_words,
 };
-use cf_lex::TokenList;
+use cf_late::refusal_reason;
 use cf_linear::Refusal;
 use cf_program::{Linearity, TypeFault};
-use cf_tree::{Bytes, Edition, NoMemory, Place, Program};
+use cf_tree::{Bytes, Edition, NoMemory, Place};
+use itoa::Buffer;
 use std::alloc::Global;
 
-/// A source text, its name, and which relations are linear where its rules are told.
+/// What was read of a source text, its name, and which relations are linear where its rules are told.
 #[derive(Clone, Copy)]
 pub struct NamedSource<'a> {
     pub name: &'a [u8],
@@ -39,21 +38,25 @@ pub fn said(
     source: &NamedSource<'_>,
     fault: &Fault,
 ) -> Result<Option<Bytes>, NoMemory>
-    requires short { length source.now.text.now ≤ text_limit }
-    requires place { length source.now.text.now < 2 ^ 32 - 1 }
+    requires read { length source.now.text.now ≤ text_limit + 1 }
+    requires short { (fault.now ≡ faults.TextTooLong) ⊎ (length source.now.text.now ≤ text_limit) }
     requires edition { edition_of source.now.text.now ≡ Three }
     ensures said { IfOk result (λ m. IsSaid source.now.how source.now.name.now source.now.text.now fault.now (message_or m (fault_line fault.now))) }
     ensures of_text { OnErr result (IsOfText (Err fault.now)) }
 {
     match fault {
-        Fault::TextTooLong => told(about(alloc, source, None, too_long_words(alloc))),
-        Fault::BadByte(place) => told(about_byte(alloc, source, *place)),
-        Fault::NumberPast(place) => told(about(alloc, source, Some(*place), past_limit_words(alloc))),
-        Fault::Syntax(place) => told(about_syntax(alloc, source, *place)),
-        Fault::Rule(fault) => told(about_rule(alloc, source, *fault)),
-        Fault::Choose { number, refusal } => told(about_choose(alloc, source, *number, refusal)),
-        Fault::Weight { function, weight } => told(about_size(alloc, source, b"Weight".as_slice(), *function, *weight)),
-        Fault::Depth { function, depth } => told(about_size(alloc, source, b"Depth".as_slice(), *function, *depth)),
+        Fault::TextTooLong => about_length(alloc, source),
+        Fault::BadByte(place) => about_byte(alloc, source, *place),
+        Fault::NumberPast(place) => about_number(alloc, source, *place),
+        Fault::Syntax(place) => about_syntax(alloc, source, *place),
+        Fault::Rule(fault) => about_rule(alloc, source, *fault),
+        Fault::Choose { number, refusal } => about_choose(alloc, source, *number, refusal),
+        Fault::Weight { function, weight } => {
+            about_size(alloc, source, b"Weight".as_slice(), *function, *weight)
+        }
+        Fault::Depth { function, depth } => {
+            about_size(alloc, source, b"Depth".as_slice(), *function, *depth)
+        }
         Fault::Usage
         | Fault::File
         | Fault::BadTarget
@@ -67,33 +70,124 @@ pub fn said(
     }
 }
 
-// A message that is there.
-fn told(message: Result<Bytes, NoMemory>) -> Result<Option<Bytes>, NoMemory>
-    ensures some { IfOk result (λ m. IfOk message (λ told. m ≡ Some told)) }
-    ensures lacks { IsErr message → IsErr result }
-{
-    match message {
-        Ok(message) => Ok(Some(message)),
-        Err(fault) => Err(fault),
-    }
-}
-
 // The message with these words about a place of the text, or about the whole of it.
 fn about(
     alloc: Global,
     source: &NamedSource<'_>,
     place: Option<Place>,
-    words: Result<FaultWords, NoMemory>,
-) -> Result<Bytes, NoMemory>
-    ensures { IfOk result (λ m. IfOk words (λ w. m ≡ the_message source.now.name.now source.now.text.now place (words_of w))) }
+    words: &FaultWords,
+) -> Result<Option<Bytes>, NoMemory>
+    ensures { IfOk result (λ m. m ≡ Some (the_message source.now.name.now source.now.text.now place (words_of words.now))) }
 {
-    let words = words?;
-    message(alloc, source.name, source.text, place, &words)
+    let bytes = message(alloc, source.name, source.text, place, words)?;
+    Ok(Some(bytes))
 }
 
-fn about_byte(alloc: Global, source: &NamedSource<'_>, place: Place) -> Result<Bytes, NoMemory>
-    ensures { IfOk result (λ m. m ≡ the_message source.now.name.now source.now.text.now (Some place) (bad_byte_words_of source.now.text.now place)) }
+fn about_length(alloc: Global, source: &NamedSource<'_>) -> Result<Option<Bytes>, NoMemory>
+    ensures { IfOk result (λ m. IsSaid source.now.how source.now.name.now source.now.text.now faults.TextTooLong (message_or m (fault_line faults.TextTooLong))) }
 {
-    let words = bad_byte_words(alloc, source.text, place);
-    about(alloc, source, Some(place), words)
+    let words = too_long_words(alloc)?;
+    about(alloc, source, None, &words)
+}
+
+fn about_byte(
+    alloc: Global,
+    source: &NamedSource<'_>,
+    place: Place,
+) -> Result<Option<Bytes>, NoMemory>
+    ensures { IfOk result (λ m. IsSaid source.now.how source.now.name.now source.now.text.now (faults.BadByte place) (message_or m (fault_line (faults.BadByte place)))) }
+{
+    let words = bad_byte_words(alloc, source.text, place)?;
+    about(alloc, source, Some(place), &words)
+}
+
+fn about_number(
+    alloc: Global,
+    source: &NamedSource<'_>,
+    place: Place,
+) -> Result<Option<Bytes>, NoMemory>
+    ensures { IfOk result (λ m. IsSaid source.now.how source.now.name.now source.now.text.now (faults.NumberPast place) (message_or m (fault_line (faults.NumberPast place)))) }
+{
+    let words = past_limit_words(alloc)?;
+    about(alloc, source, Some(place), &words)
+}
+
+fn about_syntax(
+    alloc: Global,
+    source: &NamedSource<'_>,
+    place: Place,
+) -> Result<Option<Bytes>, NoMemory>
+    requires short { length source.now.text.now ≤ text_limit }
+    ensures { IfOk result (λ m. IsSaid source.now.how source.now.name.now source.now.text.now (faults.Syntax place) (message_or m (fault_line (faults.Syntax place)))) }
+{
+    match lexed(alloc, Edition::Three, source.text) {
+        Ok(list) => {
+            let words = syntax_words(alloc, source.text, &list.list, place)?;
+            about(alloc, source, Some(place), &words)
+        }
+        Err(_) => Err(NoMemory),
+    }
+}
+
+fn about_rule(
+    alloc: Global,
+    source: &NamedSource<'_>,
+    fault: TypeFault,
+) -> Result<Option<Bytes>, NoMemory>
+    requires short { length source.now.text.now ≤ text_limit }
+    requires edition { edition_of source.now.text.now ≡ Three }
+    ensures { IfOk result (λ m. IsSaid source.now.how source.now.name.now source.now.text.now (faults.Rule fault) (message_or m (fault_line (faults.Rule fault)))) }
+{
+    match parsed(alloc, Edition::Three, source.text) {
+        Ok(program) => {
+            let words = rule_words(alloc, source.how, &program, fault)?;
+            about(alloc, source, rule_place(&fault), &words)
+        }
+        Err(_) => Err(NoMemory),
+    }
+}
+
+fn about_choose(
+    alloc: Global,
+    source: &NamedSource<'_>,
+    number: u32,
+    refusal: &Refusal,
+) -> Result<Option<Bytes>, NoMemory>
+    requires short { length source.now.text.now ≤ text_limit }
+    requires edition { edition_of source.now.text.now ≡ Three }
+    ensures { IfOk result (λ m. IsSaid source.now.how source.now.name.now source.now.text.now (faults.Choose number refusal.now)
+        (message_or m (fault_line (faults.Choose number refusal.now)))) }
+{
+    match parsed(alloc, Edition::Three, source.text) {
+        Ok(program) => {
+            let place = number_place(alloc, &program, number)?;
+            let mut count = Buffer::new();
+            let reason = refusal_reason(refusal, &mut count);
+            let words = choose_words(alloc, number, &[reason.words, reason.gap, reason.count])?;
+            about(alloc, source, place, &words)
+        }
+        Err(_) => Err(NoMemory),
+    }
+}
+
+// The message about the weight or the depth of a function.
+fn about_size(
+    alloc: Global,
+    source: &NamedSource<'_>,
+    name: &'static [u8],
+    function: u32,
+    size: u64,
+) -> Result<Option<Bytes>, NoMemory>
+    requires short { length source.now.text.now ≤ text_limit }
+    requires edition { edition_of source.now.text.now ≡ Three }
+    ensures { IfOk result (λ m. IsAboutSize source.now.name.now source.now.text.now name.now function size (message_or m [])) }
+{
+    match parsed(alloc, Edition::Three, source.text) {
+        Ok(program) => {
+            let place = function_place(alloc, &program, function)?;
+            let words = size_words(alloc, name, size)?;
+            about(alloc, source, place, &words)
+        }
+        Err(_) => Err(NoMemory),
+    }
 }

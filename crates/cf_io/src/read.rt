@@ -3,7 +3,7 @@ ghost use Rattle.std.specs.Prelude.{◌≡◌, ◌⊎◌, ◌≤◌, ◌<◌, �
 ghost use Rattle.cf_io.specs.Bytes.{TookFront};
 ghost use Rattle.cf_io.specs.Causes.{Rose, one_more};
 
-use crate::faults::ReadFault;
+use crate::faults::{FetchFault, ReadFault};
 use crate::traits::Shelf;
 use std::alloc::Global;
 
@@ -17,17 +17,17 @@ pub fn read_front<F: Shelf>(
     shelf: &mut F,
     name: &str,
     most: usize,
-) -> Result<Vec<u8>, ReadFault>
+) -> Result<Vec<u8>, FetchFault>
     ensures front { IfOk result (λ bytes. IfSome ((F.seen shelf.old).texts name.now) (λ text. bytes.items ≡ take most text)) }
     ensures short { IfOk result (λ bytes. length bytes.items ≤ most) }
-    ensures failed { IsErrOf result ReadFault.Failed → Rose ((F.seen shelf.old).faults name.now) ((F.seen shelf.new).faults name.now) }
+    ensures failed { IsErrOf result FetchFault.Failed → Rose ((F.seen shelf.old).faults name.now) ((F.seen shelf.new).faults name.now) }
     ensures most { ((F.seen shelf.new).left ≡ (F.seen shelf.old).left) ⊎
         TookFront most ((F.seen shelf.old).texts name.now) (F.seen shelf.new).left }
     ensures given { (F.seen shelf.new).given ≤ (F.seen shelf.old).given + most }
     ensures ends { (F.seen shelf.new).ends ≤ (F.seen shelf.old).ends + 1 }
     ensures texts { (other : List ℕ) → (F.seen shelf.new).texts other ≡ (F.seen shelf.old).texts other }
     ensures counts { (other : List ℕ) → (F.seen shelf.old).faults other ≤ (F.seen shelf.new).faults other }
-    ensures same { ¬ IsErrOf result ReadFault.Failed → (other : List ℕ) → (F.seen shelf.new).faults other ≡ (F.seen shelf.old).faults other }
+    ensures same { ¬ IsErrOf result FetchFault.Failed → (other : List ℕ) → (F.seen shelf.new).faults other ≡ (F.seen shelf.old).faults other }
     ensures once { (other : List ℕ) → (F.seen shelf.new).faults other ≤ one_more ((F.seen shelf.old).faults other) }
     ensures asked { (F.seen shelf.new).fetches ≡ one_more (F.seen shelf.old).fetches }
 {
@@ -43,4 +43,34 @@ pub fn read_front<F: Shelf>(
         bytes.extend_from_slice(&piece[..count])?;
     }
     Ok(bytes)
+}
+
+/// Reads the whole text under a name, where it has at most `limit` bytes.
+///
+/// It fetches the text once, and reads at most one byte more than the limit, and its end at most once.
+pub fn read_text<F: Shelf>(
+    alloc: Global,
+    shelf: &mut F,
+    name: &str,
+    limit: usize,
+) -> Result<Vec<u8>, ReadFault>
+    ensures whole { IfOk result (λ bytes. IfSome ((F.seen shelf.old).texts name.now) (λ text. bytes.items ≡ text)) }
+    ensures short { IfOk result (λ bytes. length bytes.items ≤ limit) }
+    ensures long { IsErrOf result ReadFault.TooLong → IfSome ((F.seen shelf.old).texts name.now) (λ text. limit < length text) }
+    ensures failed { IsErrOf result ReadFault.Failed → Rose ((F.seen shelf.old).faults name.now) ((F.seen shelf.new).faults name.now) }
+    ensures most { ((F.seen shelf.new).left ≡ (F.seen shelf.old).left) ⊎
+        TookFront (limit + 1) ((F.seen shelf.old).texts name.now) (F.seen shelf.new).left }
+    ensures given { (F.seen shelf.new).given ≤ (F.seen shelf.old).given + (limit + 1) }
+    ensures ends { (F.seen shelf.new).ends ≤ (F.seen shelf.old).ends + 1 }
+    ensures texts { (other : List ℕ) → (F.seen shelf.new).texts other ≡ (F.seen shelf.old).texts other }
+    ensures counts { (other : List ℕ) → (F.seen shelf.old).faults other ≤ (F.seen shelf.new).faults other }
+    ensures same { ¬ IsErrOf result ReadFault.Failed → (other : List ℕ) → (F.seen shelf.new).faults other ≡ (F.seen shelf.old).faults other }
+    ensures once { (other : List ℕ) → (F.seen shelf.new).faults other ≤ one_more ((F.seen shelf.old).faults other) }
+    ensures asked { (F.seen shelf.new).fetches ≡ one_more (F.seen shelf.old).fetches }
+{
+    let front = read_front(alloc, shelf, name, limit.saturating_add(1))?;
+    if front.len() > limit {
+        return Err(ReadFault::TooLong);
+    }
+    Ok(front)
 }
