@@ -15,6 +15,7 @@ mod CommandExamples
 pub mod CountLemmas
 mod DoesExamples
 mod EndExamples
+pub mod EndedLemmas
 mod Examples
 pub mod FaultLemmas
 pub mod FileLemmas

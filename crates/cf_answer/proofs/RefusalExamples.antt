@@ -287,8 +287,8 @@ module _ (how : Linearity) (program : List RawItemTree) (source typed : TypedTre
       × ((x : TypedTree) × (checked Three how program ≡ Ok x) × IsFormOf how x typed → IsTypedBy Three how program typed)
   typed-of_three = ((λ h. h), λ h. h)
 
-forms-told : (form_fault (form.Cases 2 1025) ≡ fault.Choose 2 (Limit Cases 1025)) × (form_fault (form.Weight 3 1000001) ≡ fault.Rule (rule.Weight 1000001))
-    × (form_fault (form.Depth 3 201) ≡ fault.Rule (rule.Depth 201)) × (form_fault form.NoMemory ≡ fault.NoMemory)
+forms-told : (form_fault (form.Cases 2 1025) ≡ fault.Choose 2 (Limit Cases 1025)) × (form_fault (form.Weight 3 1000001) ≡ fault.Weight 3 1000001)
+    × (form_fault (form.Depth 3 201) ≡ fault.Depth 3 201) × (form_fault form.NoMemory ≡ fault.NoMemory)
 forms-told = (refl, refl, refl, refl)
 
 -- ---- the edition of a source is that of its header
