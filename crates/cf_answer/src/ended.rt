@@ -1,15 +1,21 @@
 //! How a command ended, and what is written of it.
-ghost use Rattle.std.specs.Prelude.{◌≡◌, ◌⊎◌, ◌≤◌, ◌+◌, ℕ, List, None, Err, length};
+ghost use Rattle.std.specs.Prelude.{◌≡◌, ◌⊎◌, ◌≤◌, ◌+◌, ℕ, List, Option, Some, None, Err, length, take};
 ghost use Rattle.cf_answer.specs.declared.fault.Fault.TheVariants as faults;
 ghost use Rattle.cf_answer.specs.Limits.{text_limit};
-ghost use Rattle.cf_answer.specs.Written.{IsOfText, IsWritten, front_of, line_of};
+ghost use Rattle.cf_answer.specs.Commands.{text_most};
+ghost use Rattle.cf_answer.specs.Outside.{AreTold};
+ghost use Rattle.cf_answer.specs.Written.{IsOfText, IsWritten, IsWrittenBy, front_of, line_of, linearity_of as the_linearity_of};
+ghost use Rattle.cf_words.specs.Commands.{command_on};
+ghost use Rattle.cf_words.specs.declared.command.Flags.{Flags};
 ghost use Rattle.cf_lex.specs.Editions.{edition_of as the_edition_of};
-ghost use Rattle.cf_tree.specs.declared.base.Edition.TheVariants.{Three};
+ghost use Rattle.cf_tree.specs.declared.base.Edition.TheVariants.{Two, Three};
 
 use crate::fault::Fault;
 use crate::saying::{NamedSource, said};
 use cf_lex::edition_of;
+use cf_program::Linearity;
 use cf_tree::{Bytes, Edition, NoMemory};
+use cf_words::{CommandKind, FileCommand};
 use std::alloc::Global;
 
 /// How a command ended, and the message about its source, where that is of edition 3 and refused.
@@ -31,9 +37,39 @@ impl Ended {
         }
     }
 
-    /// How a command ended that read so much of a source text. Where there is no memory for its message,
-    /// it ended so.
-    pub fn on_source(
+    /// How a command ended that read so much of its file. Where there is no memory for the message about a
+    /// source that it refused, it ended so.
+    pub fn on_file(
+        alloc: Global,
+        command: &FileCommand<'_>,
+        front: &[u8],
+        answer: Result<(), Fault>,
+    ) -> Ended
+        requires read { length front.now ≤ text_most (command_on command.now.kind command.now.flags command.now.file.now) Two + 1 }
+        requires short { (answer ≡ Err faults.TextTooLong) ⊎
+            (length front.now ≤ text_most (command_on command.now.kind command.now.flags command.now.file.now) Two) }
+        ensures answer { (result.answer ≡ answer) ⊎ ((result.answer ≡ Err faults.NoMemory) × IsOfText answer) }
+        ensures written { (texts : List ℕ → Option (List ℕ)) (whole : List ℕ) → AreTold (texts command.now.file.now) whole →
+            front.now ≡ take (text_most (command_on command.now.kind command.now.flags command.now.file.now) Two + 1) whole →
+            IsWrittenBy (Some (command_on command.now.kind command.now.flags command.now.file.now)) texts result.answer (line_of result) }
+    {
+        let source = NamedSource {
+            name: command.file.as_bytes(),
+            text: front,
+            how: linearity_of(command.kind),
+        };
+        match command.kind {
+            CommandKind::Exec => Ended::plain(answer),
+            CommandKind::Compile
+            | CommandKind::Run
+            | CommandKind::Pre
+            | CommandKind::Check
+            | CommandKind::Prove => Ended::on_source(alloc, &source, answer),
+        }
+    }
+
+    /// How a command ended that read so much of this source text.
+    pub(crate) fn on_source(
         alloc: Global,
         source: &NamedSource<'_>,
         answer: Result<(), Fault>,
@@ -48,6 +84,20 @@ impl Ended {
             Ok(()) => Ended::plain(Ok(())),
             Err(fault) => refused(alloc, source, fault),
         }
+    }
+}
+
+// Which relations are linear where a command refuses a source for its rules.
+fn linearity_of(kind: CommandKind) -> Linearity
+    ensures { (flags : Flags) (file : List ℕ) → result ≡ the_linearity_of (command_on kind flags file) }
+{
+    match kind {
+        CommandKind::Run => Linearity::Late,
+        CommandKind::Compile
+        | CommandKind::Pre
+        | CommandKind::Check
+        | CommandKind::Exec
+        | CommandKind::Prove => Linearity::Plain,
     }
 }
 

@@ -49,7 +49,6 @@ pub use limits::{TEXT_LIMIT, WRITTEN_LIMIT, longest_text, longest_written};
 pub use pre::write_preconditions;
 pub use prove::write_blocks;
 pub use run::run_source;
-pub use saying::NamedSource;
 pub use status::{Status, status_of};
 pub use telling::tell;
 pub use verify::verify_files;

@@ -25,15 +25,15 @@ use std::alloc::Global;
 
 /// What was read of a source text, its name, and which relations are linear where its rules are told.
 #[derive(Clone, Copy)]
-pub struct NamedSource<'a> {
-    pub name: &'a [u8],
-    pub text: &'a [u8],
-    pub how: Linearity,
+pub(crate) struct NamedSource<'a> {
+    pub(crate) name: &'a [u8],
+    pub(crate) text: &'a [u8],
+    pub(crate) how: Linearity,
 }
 
 /// The message about a fault of a source text of edition 3; none about a fault that is not one of its
 /// text.
-pub fn said(
+pub(crate) fn said(
     alloc: Global,
     source: &NamedSource<'_>,
     fault: &Fault,

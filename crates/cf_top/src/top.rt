@@ -1,13 +1,13 @@
 //! The top call.
-ghost use Rattle.std.specs.Prelude.{◌≡◌, ◌⊎◌, ◌≤◌, ◌<◌, ◌+◌, ◌^◌, ◌∷◌, ℕ, List, [], Option, Some, None, Err, false, length, take, map, string_bytes, IfSome, IsSomeAnd, IsErrOf, Contains};
+ghost use Rattle.std.specs.Prelude.{◌≡◌, ◌⊎◌, ◌≤◌, ◌<◌, ◌+◌, ◌-◌, ◌^◌, ◌∷◌, ℕ, List, [], Some, None, Err, false, length, map, string_bytes, IfSome, IsSomeAnd, IsErrOf, Contains};
 ghost use Rattle.cf_io.specs.Causes.{Rose};
 ghost use Rattle.cf_words.specs.declared.command.Flags.{Flags};
 ghost use Rattle.cf_answer.specs.Commands.{names_of, reads_input, text_most};
 ghost use Rattle.cf_answer.specs.Ends.{Answers, AnswersOn, Does, IsInOrder};
 ghost use Rattle.cf_answer.specs.Limits.{edition_for};
-ghost use Rattle.cf_answer.specs.Outside.{AreTold, outside, streams};
+ghost use Rattle.cf_answer.specs.Outside.{outside, streams};
 ghost use Rattle.cf_answer.specs.Statuses.{status_of as the_status_of, IsEarly};
-ghost use Rattle.cf_answer.specs.Written.{IsOfText, IsWrittenBy, line_of, linearity_of as the_linearity_of};
+ghost use Rattle.cf_answer.specs.Written.{IsWrittenBy, line_of};
 ghost use Rattle.cf_answer.specs.declared.fault.Fault.TheVariants as faults;
 ghost use Rattle.cf_tree.specs.declared.base.Edition.TheVariants.{Two};
 ghost use Rattle.cf_top.specs.Top.{Completes, TopAnswer};
@@ -15,13 +15,12 @@ ghost use Rattle.cf_words.specs.Commands.{command_on};
 ghost use Rattle.cf_words.specs.Words.{command_of, may_be_read};
 
 use cf_answer::{
-    Ended, Fault, NamedSource, Status, longest_text, longest_written, run_source, run_target,
+    Ended, Fault, Status, longest_text, longest_written, run_source, run_target,
     status_of, tell, verify_files, write_blocks, write_checks, write_help, write_preconditions,
     write_target, write_version, write_workload,
 };
 use cf_io::{FetchFault, Shelf, Sink, Source, read_front};
 use cf_pass::Pass;
-use cf_program::Linearity;
 use cf_words::{Command, CommandKind, FileCommand, WordsFault, parse};
 use std::alloc::Global;
 
@@ -132,54 +131,10 @@ fn answer_file<F: Shelf, I: Source, O: Sink>(
     match read_front(alloc, shelf, command.file, limit + 1) {
         Ok(front) => {
             let answer = answer_front(alloc, command, &front, input, out, passes);
-            ended(alloc, command, &front, answer)
+            Ended::on_file(alloc, command, &front, answer)
         }
         Err(FetchFault::Failed) => Ended::plain(Err(Fault::File)),
         Err(FetchFault::NoMemory) => Ended::plain(Err(Fault::NoMemory)),
-    }
-}
-
-// How a command ended that read so much of its file, with the message about a source that it refused.
-fn ended(
-    alloc: Global,
-    command: &FileCommand<'_>,
-    front: &[u8],
-    answer: Result<(), Fault>,
-) -> Ended
-    requires read { length front.now ≤ text_most (command_on command.now.kind command.now.flags command.now.file.now) Two + 1 }
-    requires short { (answer ≡ Err faults.TextTooLong) ⊎
-        (length front.now ≤ text_most (command_on command.now.kind command.now.flags command.now.file.now) Two) }
-    ensures answer { (result.answer ≡ answer) ⊎ ((result.answer ≡ Err faults.NoMemory) × IsOfText answer) }
-    ensures written { (texts : List ℕ → Option (List ℕ)) (whole : List ℕ) → AreTold (texts command.now.file.now) whole →
-        front.now ≡ take (text_most (command_on command.now.kind command.now.flags command.now.file.now) Two + 1) whole →
-        IsWrittenBy (Some (command_on command.now.kind command.now.flags command.now.file.now)) texts result.answer (line_of result) }
-{
-    let source = NamedSource {
-        name: command.file.as_bytes(),
-        text: front,
-        how: linearity_of(command.kind),
-    };
-    match command.kind {
-        CommandKind::Exec => Ended::plain(answer),
-        CommandKind::Compile
-        | CommandKind::Run
-        | CommandKind::Pre
-        | CommandKind::Check
-        | CommandKind::Prove => Ended::on_source(alloc, &source, answer),
-    }
-}
-
-// Which relations are linear where a command refuses a source for its rules.
-fn linearity_of(kind: CommandKind) -> Linearity
-    ensures { (flags : Flags) (file : List ℕ) → result ≡ the_linearity_of (command_on kind flags file) }
-{
-    match kind {
-        CommandKind::Run => Linearity::Late,
-        CommandKind::Compile
-        | CommandKind::Pre
-        | CommandKind::Check
-        | CommandKind::Exec
-        | CommandKind::Prove => Linearity::Plain,
     }
 }
 
