@@ -1,5 +1,5 @@
 -- Ends of commands with the messages about their sources.
-use Rattle.std.proofs.Common.{◌≡◌, ◌∙◌, inl, inr, sym, ap, subst, refl, ℕ, ◌≤◌, ◌+◌, List, [], length, take, Option, Some, None, arith}
+use Rattle.std.proofs.Common.{◌≡◌, ◌∙◌, inl, inr, sym, ap, subst, refl, ℕ, ◌≤◌, ◌<◌, ◌+◌, List, [], length, take, Option, Some, None, arith}
 use Rattle.std.proofs.lemmas.List.{length-take, take_all}
 use Rattle.std.specs.Prelude.{◌⊎◌, Result, Ok, Err, IfSome}
 use Rattle.cf_lex.specs.Editions.{edition_of}
@@ -75,6 +75,16 @@ pub whole_read : (most : ℕ) (whole front : List ℕ) → front ≡ take (most 
 whole_read most whole front read short =
     let count = ap length read ∙ length-take (most + 1) whole in
     read ∙ take_all (most + 1) whole (omega (arith, count, short))
+
+pub told_front : (most : ℕ) (told : Option (List ℕ)) (front : List ℕ) → IfSome told (λ text. front ≡ take (most + 1) text) → length front ≤ most →
+    AreTold told front
+told_front most None front h few = tt
+told_front most (Some text) front h few = sym (whole_read most text front h few)
+
+pub long_front : (most : ℕ) (told : Option (List ℕ)) (front : List ℕ) → IfSome told (λ text. front ≡ take (most + 1) text) → most < length front →
+    IfSome told (λ text. most < length text)
+long_front most None front h many = tt
+long_front most (Some text) front h many = let count = ap length h ∙ length-take (most + 1) text in omega (arith, count, many)
 
 -- a fault of which its line is written in both editions
 abbrev pub IsPlain : Fault → Type 0

@@ -1,5 +1,5 @@
 -- From reading a file to what the command does.
-use Rattle.std.proofs.Common.{◌≡◌, inl, inr, sym, ap, subst, refl, ℕ, ◌<◌, ◌≤◌, ◌+◌, false, List, [], ◌∷◌, length, Option, Some, None, arith, rules}
+use Rattle.std.proofs.Common.{◌≡◌, inl, inr, sym, ap, subst, refl, ℕ, ◌<◌, ◌≤◌, ◌+◌, false, List, [], ◌∷◌, length, take, Option, Some, None, arith, rules}
 use Rattle.std.specs.Prelude.{◌⊎◌, Result, Err, IfSome, Contains}
 use Rattle.cf_io.specs.Bytes.{TookFront}
 use Rattle.cf_io.specs.Causes.{Rose, one_more}
@@ -22,6 +22,7 @@ use Rattle.cf_words.specs.declared.command.CommandKind.{CommandKind}
 use Rattle.cf_words.specs.declared.command.CommandKind.TheVariants.{Compile, Run, Pre, Check, Exec, Prove}
 use Rattle.cf_words.specs.declared.command.Flags.{Flags}
 use Rattle.cf_answer.proofs.CountLemmas.{one_fault}
+use Rattle.cf_answer.proofs.EndedLemmas.{told_front, long_front}
 use Rattle.cf_answer.proofs.FaultLemmas.{failed}
 use Rattle.cf_answer.proofs.OutsideLemmas.{Untouched, nothing_read, none_read, none_written, no_fault, no_input_fault, no_out_fault, long_text}
 use Rattle.cf_answer.proofs.PassLemmas.{unpassed}
@@ -170,6 +171,19 @@ long_does kind flags name given before after file long none same =
     inner_does (command_on kind flags name) name given before after text.0 fault.TextTooLong (one_name kind flags name) text.1
     (long_refused kind flags name text.0 past, none_written before after none) file none same
     (λ i. cc) (λ i. cc) (λ i. cc)
+
+-- a file was read as far as it may be, and so much of its text was answered
+pub front_does : (kind : CommandKind) (flags : Flags) (name : List ℕ) (given last : List Told) (before after : Outside)
+    (file : FileRead (command_on kind flags name) name before.shelf after.shelf) (front : List ℕ) (answer : Result (Unit {0}) Fault) →
+    IfSome (before.shelf.texts name) (λ text. front ≡ take (file.limit + 1) text) →
+    (length front ≤ file.limit → AnswersOn (command_on kind flags name) given last (front ∷ []) before.streams after.streams answer) →
+    (length front ≤ file.limit) ⊎ ((file.limit < length front) × (answer ≡ Err fault.TextTooLong) × (last ≡ given) × Untouched before after) →
+    ((other : List ℕ) → after.shelf.faults other ≡ before.shelf.faults other) → Does (command_on kind flags name) given last before after answer
+front_does kind flags name given last before after file front answer read answers (inl few) same =
+    text_does (command_on kind flags name) name given last before after front answer (one_name kind flags name)
+    (told_front file.limit (before.shelf.texts name) front read few) (answers few) file same
+front_does kind flags name given last before after file front answer read answers (inr (many, is, kept, none)) same =
+    rw (is, kept) (long_does kind flags name given before after file (long_front file.limit (before.shelf.texts name) front read many) none same)
 
 -- a command that reads no file
 pub fileless_does : (c : Command) (given last : List Told) (before after : Outside) (answer : Result (Unit {0}) Fault) → names_of c ≡ [] →

@@ -153,7 +153,8 @@ fn answer_front<I: Source, O: Sink>(
         (map (λ p. told p) passes.old.items) (map (λ p. told p) passes.new.items) (front.now ∷ [])
         (streams (I.seen input.old) (O.seen out.old)) (streams (I.seen input.new) (O.seen out.new)) result }
     ensures long { (length front.now ≤ text_most (command_on command.now.kind command.now.flags command.now.file.now) Two) ⊎
-        ((result ≡ Err faults.TextTooLong) × (passes.new ≡ passes.old) × (input.new ≡ input.old) × (out.new ≡ out.old)) }
+        ((text_most (command_on command.now.kind command.now.flags command.now.file.now) Two < length front.now) × (result ≡ Err faults.TextTooLong) ×
+        (map (λ p. told p) passes.new.items ≡ map (λ p. told p) passes.old.items) × (input.new ≡ input.old) × (out.new ≡ out.old)) }
     ensures usage { ¬ IsErrOf result Fault.Usage }
     ensures unread { IsEarly (the_status_of result) → input.new ≡ input.old }
     ensures unasked { reads_input (command_on command.now.kind command.now.flags command.now.file.now) ≡ false → input.new ≡ input.old }
