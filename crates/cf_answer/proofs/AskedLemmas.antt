@@ -60,3 +60,8 @@ module _ (name : List ℕ) (before after : ShelfSeen) (text : List ℕ) (told : 
   source_fault (Ok l) asks same = tt
   source_fault (Err f) (inl broken) same = broken_file (text, told, broken) same
   source_fault (Err f) (inr memory) same = no_room memory same
+
+  -- the same of a fault
+  pub fault_told : (f : Fault) → IsBrokenSource text f ⊎ (f ≡ fault.NoMemory) → NoneFailed before after → IsSourceFault name before after f
+  fault_told f (inl broken) same = broken_file (text, told, broken) same
+  fault_told f (inr memory) same = no_room memory same

@@ -240,6 +240,10 @@ source_usage name before after f (broken_file (text, told, broken) same) e =
     let this : f ≡ fault.Usage = cc in subst IsTextFault this (broken_text text f broken)
 source_usage name before after f (no_room is same) e = cc
 
+pub source_unusual : (text : List ℕ) (f : Fault) → IsBrokenSource text f ⊎ (f ≡ fault.NoMemory) → failed f ≡ Err fault.Usage → ⊥
+source_unusual text f (inl broken) e = let this : f ≡ fault.Usage = cc in subst IsTextFault this (broken_text text f broken)
+source_unusual text f (inr memory) e = cc
+
 source_rose : (name : List ℕ) (before after : ShelfSeen) (f : Fault) → IsSourceFault name before after f → failed f ≡ Err fault.File →
     Rose (before.faults name) (after.faults name)
 source_rose name before after f (file_failed is rose) e = rose
@@ -259,6 +263,12 @@ pub steps_in_order : (file steps : List ℕ) (before mid after : ShelfSeen) (l :
     (status ≡ File → Rose (mid.faults steps) (after.faults steps)) → AreFetched file steps before after status
 steps_in_order file steps before mid after l status first (text, told, s) same rose =
     steps_too text s.lowered.typed told s.lowered.is (λ is. subst (λ n. Rose n (after.faults steps)) (same steps) (rose is))
+
+-- where memory ran out for the message about the source
+pub memory_in_order : (file steps : List ℕ) (before after : ShelfSeen) (status : Status) → AreFetched file steps before after status →
+    AreFetched file steps before after NoMemory
+memory_in_order file steps before after status (source_alone once rose) = source_alone once (λ e. cc)
+memory_in_order file steps before after status (steps_too source typed told is rose) = steps_too source typed told is (λ e. cc)
 
 -- ---- the text of a steps file, against the chooses of a source
 pub steps_refused : (source steps : List ℕ) (p : ToldProgram) (f : Fault) → IsToldProgram source p →

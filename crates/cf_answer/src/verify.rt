@@ -131,7 +131,7 @@ fn verify_text<O: Sink>(
 // refused.
 fn read_program(alloc: Global, front: &[u8]) -> Result<ToldProgram, Fault>
     requires { length front.now ≤ text_limit + 1 }
-    ensures { (whole : List ℕ) → front.now ≡ front_of whole → IsVerdict (IsToldProgram whole) (IsBrokenSource whole) result }
+    ensures verdict { (whole : List ℕ) → front.now ≡ front_of whole → IsVerdict (IsToldProgram whole) (IsBrokenSource whole) result }
     ensures short { (IsErrOf result Fault.TextTooLong) ⊎ (length front.now ≤ text_limit) }
 {
     if front.len() > longest_text() {
