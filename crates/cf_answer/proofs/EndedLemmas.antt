@@ -11,6 +11,7 @@ use Rattle.cf_words.specs.Commands.{Command}
 use Rattle.cf_answer.specs.Ends.{Job, Ends, Does}
 use Rattle.cf_answer.specs.Limits.{text_limit}
 use Rattle.cf_answer.specs.Outside.{Outside, Streams, AreTold, Blames}
+use Rattle.cf_answer.specs.Statuses.{IsEarly, status_of}
 use Rattle.cf_answer.specs.Texts.{fault_line}
 use Rattle.cf_answer.specs.Written.{source_of, linearity_of, front_of, message_or, line_of, IsOfText, IsSaid, IsSaidIn, IsWritten, IsWrittenOf, IsWrittenBy}
 use Rattle.cf_answer.specs.declared.ended.Ended.{Ended}
@@ -62,6 +63,16 @@ pub ended_does : (c : Command) (given last : List Told) (before after : Outside)
 ended_does c given last before after answer new (inl same) d = subst (Does c given last before after) (sym same) d
 ended_does c given last before after (Ok done) new (inr (is, t)) d = absurd t
 ended_does c given last before after (Err f) new (inr (is, t)) d = subst (Does c given last before after) (sym is) (unsaid_does c given last before after f t d)
+
+pub ended_early : {A : Type 0} (answer new : Result (Unit {0}) Fault) → (new ≡ answer) ⊎ ((new ≡ Err fault.NoMemory) × IsOfText answer) →
+    (IsEarly (status_of answer) → A) → IsEarly (status_of new) → A
+ended_early answer new (inl same) h e = h (subst (λ a. IsEarly (status_of a)) same e)
+ended_early answer new (inr (is, t)) h e = absurd (subst (λ a. IsEarly (status_of a)) is e)
+
+pub ended_usage : (answer new : Result (Unit {0}) Fault) → (new ≡ answer) ⊎ ((new ≡ Err fault.NoMemory) × IsOfText answer) →
+    (answer ≡ Err fault.Usage → ⊥) → new ≡ Err fault.Usage → ⊥
+ended_usage answer new (inl same) h e = h (sym same ∙ e)
+ended_usage answer new (inr (is, t)) h e = cc
 
 -- ---- what is written
 -- what was read of a text

@@ -24,7 +24,7 @@ use Rattle.cf_answer.specs.declared.fault.Fault.{Fault}
 use Rattle.cf_answer.specs.declared.fault.Fault.TheVariants as fault
 use Rattle.cf_answer.specs.declared.fault.StepsFault.TheVariants as steps_fault
 use Rattle.cf_answer.specs.declared.status.Status.{Status}
-use Rattle.cf_answer.specs.declared.status.Status.TheVariants.{File}
+use Rattle.cf_answer.specs.declared.status.Status.TheVariants.{File, NoMemory}
 use Rattle.cf_program.specs.Checked.{TypedTree}
 use Rattle.cf_match.specs.declared.lowered.LoweredParts.{LoweredParts}
 use Rattle.cf_tree.specs.ChooseTree.{ChooseTree}
