@@ -42,10 +42,6 @@ linearity_of command = Plain
 abbrev pub IsAbout : List ℕ → (List RawItemTree → List ℕ) → List ℕ → Type 0
 IsAbout text words line = (items : List RawItemTree) × SpellsProgram text items × (line ≡ words items)
 
--- that a function is too heavy or too deep
-abbrev pub IsAboutSize : List ℕ → List ℕ → List ℕ → ℕ → ℕ → List ℕ → Type 0
-IsAboutSize name text size f n line = IsAbout text (λ items. message name text (function_place (functions_of items) f) (count_words size n)) line
-
 -- what is written of a fault in edition 3, where the source has this name and this text
 abbrev pub IsSaid : Linearity → List ℕ → List ℕ → Fault → List ℕ → Type 0
 IsSaid how name text fault.TextTooLong line = line ≡ message name text None too_long_words
@@ -56,8 +52,10 @@ IsSaid how name text (fault.Syntax p) line =
 IsSaid how name text (fault.Rule e) line = IsAbout text (λ items. rule_message name text how items e) line
 IsSaid how name text (fault.Choose n r) line =
     IsAbout text (λ items. message name text (number_place items n) (choose_words n (refusal_text r))) line
-IsSaid how name text (fault.Weight f w) line = IsAboutSize name text (codes "Weight") f w line
-IsSaid how name text (fault.Depth f d) line = IsAboutSize name text (codes "Depth") f d line
+IsSaid how name text (fault.Weight f w) line =
+    IsAbout text (λ items. message name text (function_place (functions_of items) f) (count_words (codes "Weight") w)) line
+IsSaid how name text (fault.Depth f d) line =
+    IsAbout text (λ items. message name text (function_place (functions_of items) f) (count_words (codes "Depth") d)) line
 IsSaid how name text f line = line ≡ fault_line f
 
 -- as much of a source text as is read: all of it, or one byte more than it may have

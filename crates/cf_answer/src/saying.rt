@@ -1,25 +1,22 @@
 //! The message about a source of edition 3 that is refused.
-ghost use Rattle.std.specs.Prelude.{◌≡◌, ◌⊎◌, ◌≤◌, ◌+◌, Err, Some, length, [], IfOk, OnErr};
-ghost use Rattle.cf_help.specs.Messages.{message as the_message};
-ghost use Rattle.cf_help.specs.WordsView.{words_of};
+ghost use Rattle.std.specs.Prelude.{◌≡◌, ◌⊎◌, ◌≤◌, ◌+◌, Err, Some, length, IfOk, OnErr};
+ghost use Rattle.cf_help.specs.Told.{told_three};
+ghost use Rattle.cf_late.specs.Texts.{refusal_text};
 ghost use Rattle.cf_lex.specs.Editions.{edition_of};
 ghost use Rattle.cf_tree.specs.declared.base.Edition.TheVariants.{Three};
 ghost use Rattle.cf_answer.specs.declared.fault.Fault.TheVariants as faults;
 ghost use Rattle.cf_answer.specs.Limits.{text_limit};
 ghost use Rattle.cf_answer.specs.Texts.{fault_line};
-ghost use Rattle.cf_answer.specs.Written.{IsAboutSize, IsOfText, IsSaid, message_or};
+ghost use Rattle.cf_answer.specs.Written.{IsOfText, IsSaid, message_or};
 
 use crate::fault::Fault;
 use crate::source::parsed;
 use crate::text::lexed;
-use cf_help::{
-    FaultWords, bad_byte_words, choose_words, function_place, message, number_place,
-    past_limit_words, rule_place, rule_words, size_words, syntax_words, too_long_words,
-};
+use cf_help::{Refused, told};
 use cf_late::refusal_reason;
 use cf_linear::Refusal;
 use cf_program::{Linearity, TypeFault};
-use cf_tree::{Bytes, Edition, NoMemory, Place};
+use cf_tree::{Bytes, Edition, NoMemory, Place, Text};
 use itoa::Buffer;
 use std::alloc::Global;
 
@@ -45,18 +42,14 @@ pub(crate) fn said(
     ensures of_text { OnErr result (IsOfText (Err fault.now)) }
 {
     match fault {
-        Fault::TextTooLong => about_length(alloc, source),
-        Fault::BadByte(place) => about_byte(alloc, source, *place),
-        Fault::NumberPast(place) => about_number(alloc, source, *place),
+        Fault::TextTooLong => about(alloc, source, &Refused::TooLong),
+        Fault::BadByte(place) => about(alloc, source, &Refused::BadByte(*place)),
+        Fault::NumberPast(place) => about(alloc, source, &Refused::NumberPast(*place)),
         Fault::Syntax(place) => about_syntax(alloc, source, *place),
         Fault::Rule(fault) => about_rule(alloc, source, *fault),
         Fault::Choose { number, refusal } => about_choose(alloc, source, *number, refusal),
-        Fault::Weight { function, weight } => {
-            about_size(alloc, source, b"Weight".as_slice(), *function, *weight)
-        }
-        Fault::Depth { function, depth } => {
-            about_size(alloc, source, b"Depth".as_slice(), *function, *depth)
-        }
+        Fault::Weight { function, weight } => about_weight(alloc, source, *function, *weight),
+        Fault::Depth { function, depth } => about_depth(alloc, source, *function, *depth),
         Fault::Usage
         | Fault::File
         | Fault::BadTarget
@@ -70,46 +63,16 @@ pub(crate) fn said(
     }
 }
 
-// The message with these words about a place of the text, or about the whole of it.
+// The message about a text that is refused so.
 fn about(
     alloc: Global,
     source: &NamedSource<'_>,
-    place: Option<Place>,
-    words: &FaultWords,
+    refused: &Refused<'_>,
 ) -> Result<Option<Bytes>, NoMemory>
-    ensures { IfOk result (λ m. m ≡ Some (the_message source.now.name.now source.now.text.now place (words_of words.now))) }
+    ensures { IfOk result (λ m. m ≡ Some (told_three source.now.name.now source.now.text.now refused.now)) }
 {
-    let bytes = message(alloc, source.name, source.text, place, words)?;
-    Ok(Some(bytes))
-}
-
-fn about_length(alloc: Global, source: &NamedSource<'_>) -> Result<Option<Bytes>, NoMemory>
-    ensures { IfOk result (λ m. IsSaid source.now.how source.now.name.now source.now.text.now faults.TextTooLong (message_or m (fault_line faults.TextTooLong))) }
-{
-    let words = too_long_words(alloc)?;
-    about(alloc, source, None, &words)
-}
-
-fn about_byte(
-    alloc: Global,
-    source: &NamedSource<'_>,
-    place: Place,
-) -> Result<Option<Bytes>, NoMemory>
-    ensures { IfOk result (λ m. IsSaid source.now.how source.now.name.now source.now.text.now (faults.BadByte place) (message_or m (fault_line (faults.BadByte place)))) }
-{
-    let words = bad_byte_words(alloc, source.text, place)?;
-    about(alloc, source, Some(place), &words)
-}
-
-fn about_number(
-    alloc: Global,
-    source: &NamedSource<'_>,
-    place: Place,
-) -> Result<Option<Bytes>, NoMemory>
-    ensures { IfOk result (λ m. IsSaid source.now.how source.now.name.now source.now.text.now (faults.NumberPast place) (message_or m (fault_line (faults.NumberPast place)))) }
-{
-    let words = past_limit_words(alloc)?;
-    about(alloc, source, Some(place), &words)
+    let Text { bytes } = told(alloc, source.name, source.text, refused)?;
+    Ok(Some(Bytes { bytes }))
 }
 
 fn about_syntax(
@@ -122,8 +85,8 @@ fn about_syntax(
 {
     match lexed(alloc, Edition::Three, source.text) {
         Ok(list) => {
-            let words = syntax_words(alloc, source.text, &list.list, place)?;
-            about(alloc, source, Some(place), &words)
+            let tokens = list.list.as_slice();
+            about(alloc, source, &Refused::Syntax { tokens, place })
         }
         Err(_) => Err(NoMemory),
     }
@@ -140,8 +103,9 @@ fn about_rule(
 {
     match parsed(alloc, Edition::Three, source.text) {
         Ok(program) => {
-            let words = rule_words(alloc, source.how, &program, fault)?;
-            about(alloc, source, rule_place(&fault), &words)
+            let how = source.how;
+            let program = &program;
+            about(alloc, source, &Refused::Rule { how, program, fault })
         }
         Err(_) => Err(NoMemory),
     }
@@ -160,33 +124,61 @@ fn about_choose(
 {
     match parsed(alloc, Edition::Three, source.text) {
         Ok(program) => {
-            let place = number_place(alloc, &program, number)?;
-            let mut count = Buffer::new();
-            let reason = refusal_reason(refusal, &mut count);
-            let words = choose_words(alloc, number, &[reason.words, reason.gap, reason.count])?;
-            about(alloc, source, place, &words)
+            let reason = refusal_words(alloc, refusal)?;
+            let program = &program;
+            let reason = reason.as_slice();
+            about(alloc, source, &Refused::Choose { program, number, reason })
         }
         Err(_) => Err(NoMemory),
     }
 }
 
-// The message about the weight or the depth of a function.
-fn about_size(
+fn refusal_words(alloc: Global, refusal: &Refusal) -> Result<Vec<u8>, NoMemory>
+    ensures { IfOk result (λ words. words.items ≡ refusal_text refusal.now) }
+{
+    let mut count = Buffer::new();
+    let reason = refusal_reason(refusal, &mut count);
+    let mut words = Vec::from_slice(alloc, reason.words)?;
+    words.extend_from_slice(reason.gap)?;
+    words.extend_from_slice(reason.count)?;
+    Ok(words)
+}
+
+fn about_weight(
     alloc: Global,
     source: &NamedSource<'_>,
-    name: &'static [u8],
     function: u32,
-    size: u64,
+    weight: u64,
 ) -> Result<Option<Bytes>, NoMemory>
     requires short { length source.now.text.now ≤ text_limit }
     requires edition { edition_of source.now.text.now ≡ Three }
-    ensures { IfOk result (λ m. IsAboutSize source.now.name.now source.now.text.now name.now function size (message_or m [])) }
+    ensures { IfOk result (λ m. IsSaid source.now.how source.now.name.now source.now.text.now (faults.Weight function weight)
+        (message_or m (fault_line (faults.Weight function weight)))) }
 {
     match parsed(alloc, Edition::Three, source.text) {
         Ok(program) => {
-            let place = function_place(alloc, &program, function)?;
-            let words = size_words(alloc, name, size)?;
-            about(alloc, source, place, &words)
+            let program = &program;
+            about(alloc, source, &Refused::Weight { program, function, weight })
+        }
+        Err(_) => Err(NoMemory),
+    }
+}
+
+fn about_depth(
+    alloc: Global,
+    source: &NamedSource<'_>,
+    function: u32,
+    depth: u64,
+) -> Result<Option<Bytes>, NoMemory>
+    requires short { length source.now.text.now ≤ text_limit }
+    requires edition { edition_of source.now.text.now ≡ Three }
+    ensures { IfOk result (λ m. IsSaid source.now.how source.now.name.now source.now.text.now (faults.Depth function depth)
+        (message_or m (fault_line (faults.Depth function depth)))) }
+{
+    match parsed(alloc, Edition::Three, source.text) {
+        Ok(program) => {
+            let program = &program;
+            about(alloc, source, &Refused::Depth { program, function, depth })
         }
         Err(_) => Err(NoMemory),
     }
