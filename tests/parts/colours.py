@@ -1,8 +1,8 @@
 """The colours for editors.
 
-The words of the grammar, of the Vim file and of the pages are those of editors/words. Each example is coloured by the grammar's own patterns as an
-editor does it, line by line, the first of the leftmost matches; no token is an error, but those of a source whose refusal is `bad byte`, at its place. Where
-Vim is installed, it colours the same files with the same errors.
+The words of the grammar, of the Vim file and of the pages are those of editors/words, the pages' in one list for each edition of the language. Each example
+is coloured by the grammar's own patterns as an editor does it, line by line, the first of the leftmost matches; no token is an error, but those of a source
+whose refusal is `bad byte`, at its place. Where Vim is installed, it colours the same files with the same errors.
 """
 
 from __future__ import annotations
@@ -42,7 +42,7 @@ def read(name: str) -> str:
 
 
 def words_of() -> dict[str, list[str]]:
-    """The reserved words of each class."""
+    """The words of each class."""
     rows = [line.split() for line in read("editors/words").splitlines() if not line.startswith("#")]
     return {row[0]: row[1:] for row in rows}
 
@@ -51,6 +51,11 @@ def words_of() -> dict[str, list[str]]:
 def rules() -> list[Rule]:
     """The grammar's patterns in order, each with its scope."""
     return [(re.compile(rule["match"]), rule["name"]) for rule in json.loads(read("editors/comfusy.tmLanguage.json"))["patterns"]]
+
+
+def listed_on(page: str) -> set[str]:
+    """The words of the lists of a page that stand behind a paragraph on reserved words."""
+    return {word for block in re.findall(r"reserved(?:.+\n)+\n((?: {4}.+\n)+)", read(page)) for word in block.split()}
 
 
 def tokens(line: str) -> Iterator[tuple[int, str]]:
@@ -103,8 +108,7 @@ def try_words(_: Room) -> Iterator[Check]:
         for word in listed:
             yield equal(f"colours: the colour of {word}", ([scope for _, scope in tokens(word)], [scope]))
     for page in PAGES:
-        reserved = re.search(r"reserved(?:.+\n)+\n((?: {4}.+\n)+)", read(page))
-        yield equal(f"colours: the words of {page}", (sorted(reserved[1].split() if reserved else []), sorted(sum(words.values(), []))))
+        yield equal(f"colours: the words of {page}", (sorted(listed_on(page)), sorted(sum(words.values(), []))))
     yield equal("colours: there are examples", (len(coloured()) > 1, True))
 
 

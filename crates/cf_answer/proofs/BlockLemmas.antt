@@ -10,7 +10,7 @@ use Rattle.cf_program.specs.Checked.{TypedTree}
 use Rattle.cf_cases.specs.Holding.{EachOf}
 use Rattle.cf_tree.specs.ChooseTree.{ChooseTree}
 use Rattle.cf_build.specs.Chooses.{all_chooses}
-use Rattle.cf_build.specs.Solves.{FaultAnswer}
+use Rattle.cf_build.specs.Solves.{IsFaultAmong}
 use Rattle.cf_tree.specs.ChooseView.{choose_tree}
 use Rattle.cf_tree.specs.declared.choose.Choose.{Choose}
 use Rattle.cf_build.specs.declared.fault.BuildFault.{BuildFault}
@@ -66,9 +66,9 @@ proved_adds q proved text new h is = (
 
 -- the first choose that is refused as a fault of its source
 pub block_refused : (source : List ℕ) (typed : TypedTree) (qs : List ChooseTree) (f : BuildFault) → qs ≡ asked_in typed → IsTypedSource source typed →
-    FaultAnswer qs f → IsRefusedSource source (fault_of f) ⊎ (fault_of f ≡ fault.NoMemory)
+    IsFaultAmong qs f → IsRefusedSource source (fault_of f) ⊎ (fault_of f ≡ fault.NoMemory)
 block_refused source typed qs f are s h =
-    build_refused source typed f s (fault_in_order (all_chooses typed.defs) f (subst (λ ps. FaultAnswer ps f) are h))
+    build_refused source typed f s (fault_in_order (all_chooses typed.defs) f (subst (λ ps. IsFaultAmong ps f) are h))
 
 -- one more choose
 pub put_more : (cs : List Choose) (i : ℕ) (c : Choose) (text new : List ℕ) → i < length cs → c ≡ get_or cs i c → ArePut (map choose_tree (take i cs)) text →

@@ -1,22 +1,31 @@
 pub mod AgreeLaws
 pub mod AnswerLemmas
 pub mod AskedLemmas
+mod BlameExamples
+mod BlockExamples
 pub mod BlockLemmas
 pub mod CauseLemmas
 mod CertificateExamples
 pub mod CertificateLemmas
 mod CheckExamples
 pub mod CheckLemmas
+mod CommandExamples
 pub mod CountLemmas
+mod DoesExamples
+mod EndExamples
 mod Examples
 pub mod FaultLemmas
 pub mod FileLemmas
 mod LateExamples
 pub mod LateLemmas
+mod LimitExamples
+mod LineExamples
 pub mod LoweredLemmas
 pub mod MatchClassLemmas
 pub mod OriginLemmas
+mod OutsideExamples
 pub mod OutsideLemmas
+mod OwedExamples
 pub mod OwedLemmas
 pub mod PassLemmas
 mod PickedExamples
@@ -24,17 +33,21 @@ pub mod PickedLemmas
 pub mod PieceLemmas
 mod PreExamples
 pub mod PreLemmas
+mod RefusalExamples
+mod ReplyExamples
 pub mod ReplyLemmas
 pub mod RuleLemmas
 pub mod RunLemmas
 pub mod SampleLemmas
 pub mod SourceLemmas
 pub mod SpelledLemmas
+mod StatusExamples
 pub mod StatusLemmas
 pub mod StepLemmas
 mod SumExamples
 pub mod SumLemmas
 pub mod TargetLemmas
+mod TextExamples
 pub mod TextLemmas
 pub mod VerifyLemmas
 pub mod WorkloadAccepted
@@ -45,16 +58,3 @@ pub mod WorkloadSource
 pub mod WorkloadSum
 pub mod WorkloadTyped
 pub mod WrittenLemmas
-mod LimitExamples
-mod ReplyExamples
-mod BlockExamples
-mod StatusExamples
-mod OutsideExamples
-mod BlameExamples
-mod CommandExamples
-mod EndExamples
-mod RefusalExamples
-mod TextExamples
-mod LineExamples
-mod OwedExamples
-mod DoesExamples

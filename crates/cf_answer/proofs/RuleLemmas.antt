@@ -108,10 +108,10 @@ linear_told edition how program p f is (wide source (form.Depth n k) three h u) 
 linear_told edition how program p f is (wide source form.NoMemory three h u) = absurd (cc)
 
 -- a source that is not formed is refused for that
-pub unformed : (program : List RawItemTree) (source : TypedTree) (e : FormFault) → checked Three Plain program ≡ Ok source →
-    IsUnformed source.defs e ⊎ (e ≡ form.NoMemory) → IsBroken Three Plain program (form_fault e) ⊎ (form_fault e ≡ fault.NoMemory)
-unformed program source e h (inl u) = inl (wide source e refl h u)
-unformed program source e h (inr memory) = inr (rw memory refl)
+pub unformed : (how : Linearity) (program : List RawItemTree) (source : TypedTree) (e : FormFault) → checked Three how program ≡ Ok source →
+    IsUnformed source.defs e ⊎ (e ≡ form.NoMemory) → IsBroken Three how program (form_fault e) ⊎ (form_fault e ≡ fault.NoMemory)
+unformed how program source e h (inl u) = inl (wide source e refl h u)
+unformed how program source e h (inr memory) = inr (rw memory refl)
 
 pub rule_other : (e : TypeFault) → ((p : Place) → e ≡ rule.NotLinear p → ⊥) → (p : Place) → fault.Rule e ≡ fault.Rule (rule.NotLinear p) → ⊥
 rule_other e other p same = other p cc

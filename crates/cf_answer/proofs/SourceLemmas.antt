@@ -1,10 +1,8 @@
 -- Why a source text is refused, and that this is one thing only.
-use Rattle.std.proofs.Common.{◌≡◌, ap, subst, refl, ℕ, List, [], ◌∷◌, None, Some, nat_eq, All}
-use Rattle.std.specs.List.{IsDistinct}
+use Rattle.std.proofs.Common.{◌≡◌, ap, subst, ℕ, List, [], ◌∷◌, None, Some, All}
 use Rattle.std.proofs.lemmas.List.Elements.{All-nil, All-cons, All-contains}
 use Rattle.std.proofs.lemmas.List.Sorted.{Contains-permutation}
 use Rattle.std.specs.Prelude.{Contains}
-use Rattle.cf_lex.proofs.LexesLemmas.{lexes-within}
 use Rattle.cf_lex.specs.Editions.{edition_of}
 use Rattle.cf_tree.specs.declared.base.Edition.{Edition}
 use Rattle.cf_tree.specs.DefView.{RawItemTree}
@@ -13,12 +11,11 @@ use Rattle.cf_parse.specs.Programs.{IsProgram, program_of}
 use Rattle.cf_parse.proofs.Programs.{one_law}
 use Rattle.cf_pass.specs.Passes.{Told}
 use Rattle.cf_program.specs.Checked.{TypedTree}
-use Rattle.cf_program.specs.TypedProgram.{all_numbers}
 use Rattle.cf_program.specs.declared.linearity.Linearity.TheVariants.{Plain}
 use Rattle.cf_build.specs.Built.{IsBuilt}
 use Rattle.cf_tree.specs.ChooseTree.{ChooseTree}
 use Rattle.cf_build.specs.Chooses.{all_chooses, by_number, limit_of, IsFirstRefused}
-use Rattle.cf_build.proofs.ChooseLaws.{one_refusal}
+use Rattle.cf_build.proofs.ChooseLaws.{one_refusal, refused_has}
 use Rattle.cf_build.proofs.NumberOrder.{ordered_same}
 use Rattle.cf_match.specs.Matches.{all_matches}
 use Rattle.cf_answer.specs.Checks.{IsCheckOf}
@@ -28,18 +25,11 @@ use Rattle.cf_answer.specs.Sources.{SpellsProgram, IsTypedBy, IsTypedSource, Com
 use Rattle.cf_answer.specs.Statuses.{refusal_status, fault_status}
 use Rattle.cf_answer.specs.declared.fault.Fault.{Fault}
 use Rattle.cf_answer.proofs.CauseLemmas.{IsSingle, alike, unrefused}
-use Rattle.cf_answer.proofs.RuleLemmas.{broken_alike, typed_never_broken, typed_by_once, typed_keeps}
-use Rattle.cf_answer.proofs.SpelledLemmas.{spelled_program}
+use Rattle.cf_answer.proofs.RuleLemmas.{broken_alike, typed_never_broken, typed_by_once}
 
 -- at most one program is spelled by tokens
 pub one_program : (text : List ℕ) → IsSingle (IsProgram (edition_of text))
 one_program text = one_law (edition_of text)
-
--- the numbers of its chooses differ
-source_distinct : (text : List ℕ) (program : List RawItemTree) (typed : TypedTree) → SpellsProgram text program →
-    IsTypedBy (edition_of text) Plain program typed → IsDistinct nat_eq (all_numbers typed.defs)
-source_distinct text program typed s e =
-    (typed_keeps (edition_of text) Plain program typed (spelled_program (edition_of text) program s.0 s.3 (lexes-within s.2.1.1)) e).distinct
 
 pub bad_alike : (text : List ℕ) (program : List RawItemTree) (f g : Fault) → SpellsProgram text program → IsBadProgram (edition_of text) program f →
     IsBadProgram (edition_of text) program g → fault_status f ≡ fault_status g
@@ -49,7 +39,7 @@ bad_alike text program f g s (refused typed n r h b) (unruly e i) = absurd (type
 bad_alike text program f g s (refused typed n r h b) (refused other m q i c) =
     let same : other ≡ typed = typed_by_once (edition_of text) Plain program other typed i h in
     let there : IsFirstRefused (all_chooses typed.defs) m q = subst (λ v. IsFirstRefused (all_chooses v.defs) m q) same c in
-    ap refusal_status (one_refusal typed.defs n m r q (source_distinct text program typed s h) b there)
+    ap refusal_status (one_refusal (all_chooses typed.defs) n m r q b there)
 
 pub sources_alike : (text : List ℕ) (f g : Fault) → IsRefusedSource text f → IsRefusedSource text g → fault_status f ≡ fault_status g
 sources_alike text f g h i = alike (edition_of text) (IsProgram (edition_of text)) (program_of (edition_of text) 200) (IsBadProgram (edition_of text))
@@ -61,7 +51,7 @@ never_bad : (edition : Edition) (program : List RawItemTree) (typed : TypedTree)
 never_bad edition program typed is within f (unruly e h) = typed_never_broken edition Plain program typed f is h
 never_bad edition program typed is within f (refused other n r h b) =
     let same : other ≡ typed = typed_by_once edition Plain program other typed h is in
-    let q = b.refused in
+    let q = refused_has (all_chooses other.defs) n r b in
     let none : limit_of q.0 ≡ None = within q.0 (subst (λ v. Contains (all_chooses v.defs) q.0) same q.1) in
     let some : limit_of q.0 ≡ Some r = q.3 in cc
 

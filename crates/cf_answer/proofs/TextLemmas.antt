@@ -1,5 +1,5 @@
 -- Why a text is refused, as the code finds it.
-use Rattle.std.proofs.Common.{◌≡◌, inl, inr, refl, subst, ℕ, List}
+use Rattle.std.proofs.Common.{◌≡◌, inl, inr, refl, sym, subst, ℕ, List}
 use Rattle.std.specs.Prelude.{◌⊎◌, Result, Ok, Err}
 use Rattle.cf_lex.specs.declared.token.Token.{Token}
 use Rattle.cf_lex.specs.Tokens.{bad_byte, past_limit, at_end}
@@ -7,7 +7,7 @@ use Rattle.cf_linear.specs.declared.refusal.Refusal.{Refusal}
 use Rattle.cf_tree.specs.declared.base.Place.{Place}
 use Rattle.cf_lex.specs.Editions.{edition_of}
 use Rattle.cf_tree.specs.declared.base.Edition.{Edition}
-use Rattle.cf_tree.specs.declared.base.Edition.TheVariants.{Two}
+use Rattle.cf_tree.specs.declared.base.Edition.TheVariants.{Two, Three}
 use Rattle.cf_tree.specs.DefView.{RawItemTree}
 use Rattle.cf_reader.specs.Faults.{IsFaultPlace, IsFaultPlaceOf}
 use Rattle.cf_reader.specs.Readers.{Reader}
@@ -18,13 +18,14 @@ use Rattle.cf_program.specs.Checked.{TypedTree}
 use Rattle.cf_program.specs.Typed.{typed_tree}
 use Rattle.cf_program.specs.declared.linearity.Linearity.TheVariants.{Plain}
 use Rattle.cf_program.specs.declared.typed.Typed.{Typed}
+use Rattle.cf_form.specs.declared.formed.Formed.{Formed}
 use Rattle.cf_build.specs.Chooses.{all_chooses, IsFirstRefused}
 use Rattle.cf_build.specs.Solves.{FaultAnswer}
 use Rattle.cf_build.specs.declared.fault.BuildFault.{BuildFault}
 use Rattle.cf_build.specs.declared.fault.BuildFault.TheVariants as build
 use Rattle.cf_answer.specs.Refusals.{fault_of, Causes, too_long, odd_byte, large_number, no_tree, bad_tree, IsBroken, IsBadProgram, unruly, refused, IsBadTarget, untyped, CausesOf, IsBrokenSource, IsRefusedSource, IsRefusedTarget}
 use Rattle.cf_answer.specs.Sources.{HasTokens, Spelled, SpellsProgram, IsTypedBy, IsTypedSource, IsTypedTree}
-use Rattle.cf_answer.specs.Steps.{IsVerdict, IsMisspelled}
+use Rattle.cf_answer.specs.Steps.{IsVerdict, IsFormedProgram, IsFormedSource, IsMisspelled}
 use Rattle.cf_answer.specs.declared.fault.Fault.{Fault}
 use Rattle.cf_answer.specs.declared.fault.Fault.TheVariants as fault
 
@@ -105,3 +106,10 @@ pub read_verdict : (edition : Edition) (text : List ℕ) (program : List RawItem
 read_verdict edition text program (Ok x) is s v = (program, s, subst (λ e. IsTypedBy e Plain program (typed_tree x)) is v)
 read_verdict edition text program (Err f) is s (inl b) = inl (bad_tree program f s (subst (λ e. IsBroken e Plain program f) is b))
 read_verdict edition text program (Err f) is s (inr memory) = inr memory
+
+-- the same of edition 3, with what is told of its chooses
+pub formed_verdict : (text : List ℕ) (program : List RawItemTree) (r : Result Formed Fault) → edition_of text ≡ Three → SpellsProgram text program →
+    IsVerdict (IsFormedProgram program) (IsBroken Three Plain program) r → IsVerdict (IsFormedSource text) (IsBrokenSource text) r
+formed_verdict text program (Ok x) is s v = (program, s, v)
+formed_verdict text program (Err f) is s (inl b) = inl (bad_tree program f s (subst (λ e. IsBroken e Plain program f) (sym is) b))
+formed_verdict text program (Err f) is s (inr memory) = inr memory

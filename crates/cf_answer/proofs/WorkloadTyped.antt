@@ -1,9 +1,10 @@
 -- A program of the shape of a workload has levels in the place of its names.
-use Rattle.std.proofs.Common.{◌≡◌, ℕ, zero, suc, ◌+◌, ◌-◌, ◌*◌, ◌^◌, ◌<◌, ◌≤◌, pos, true, false, List, [], ◌∷◌, ◌++◌, length, map, get_or, codes, Option, Some, None, reverse, refl, sym, ap, ap₂, ◌∙◌, subst, append_assoc, arith, length-append}
-use Rattle.std.specs.Prelude.{◌||◌, nat_le, nat_lt, slice_index, Result, Ok, decimal, if◌then◌else◌}
+use Rattle.std.proofs.Common.{◌≡◌, ℕ, zero, suc, ◌+◌, ◌-◌, ◌*◌, ◌^◌, ◌<◌, ◌≤◌, pos, true, false, List, [], ◌∷◌, ◌++◌, length, map, get_or, codes, Option, Some, None, All, reverse, refl, sym, ap, ap₂, ◌∙◌, subst, append_assoc, arith, length-append}
+use Rattle.std.specs.Prelude.{◌||◌, nat_lt, slice_index, Result, Ok, decimal, if◌then◌else◌}
 use Rattle.std.specs.Str.{bytes_eq}
 use Rattle.std.proofs.lemmas.Bool.Decides.{nat_tests}
 use Rattle.std.proofs.lemmas.List.{map-append}
+use Rattle.std.proofs.lemmas.List.Elements.{All-nil, All-cons}
 use Rattle.std.proofs.lemmas.List.Folds.{list_any-append}
 use Rattle.std.proofs.lemmas.Slice.Eq.{bytes_eq-Decides}
 use Rattle.cf_tree.specs.declared.base.Base.TheVariants.{Int, Bool as Truth}
@@ -20,9 +21,8 @@ use Rattle.cf_tree.specs.RelTree.{RelTree, term_lit, term_var, term_add, term_mu
 use Rattle.cf_tree.specs.Typing.{one}
 use Rattle.cf_tree.proofs.SetLemmas.{on_bool}
 use Rattle.cf_program.specs.declared.fault.TypeFault.{TypeFault}
-use Rattle.cf_program.specs.declared.fault.TypeFault.TheVariants.{Weight, Depth}
 use Rattle.cf_program.specs.declared.linearity.Linearity.TheVariants.{Plain}
-use Rattle.cf_program.specs.Checked.{TypedTree, def_form, functions_of, walk_def, walk_items, main_from, size_fault, sized, with_main, checked}
+use Rattle.cf_program.specs.Checked.{TypedTree, def_form, functions_of, walk_def, walk_items, main_from, sized, with_main, checked}
 use Rattle.cf_program.specs.Lowered.{lowered}
 use Rattle.cf_program.specs.Names.{Callee, is_among, callee, callee_from}
 use Rattle.cf_tree.specs.Params.{bases_of}
@@ -30,6 +30,7 @@ use Rattle.cf_program.specs.Reading.{Reading, relation, term, not_linear, binary
 use Rattle.cf_program.specs.Size.{weight_in, depth_in, measured, weights, depths}
 use Rattle.cf_program.specs.Walk.{Form, Forms, binary_form, call_form, Context, behind, by_edition, walk}
 use Rattle.cf_program.specs.Then.{◌>>=◌}
+use Rattle.cf_program.proofs.SizeLemmas.{none_above}
 use Rattle.cf_lex.specs.Digits.{digits_value}
 use Rattle.cf_emit.proofs.Numerals.{decimal_read}
 use Rattle.cf_answer.proofs.WorkloadShapes.{Shape, IsName, IsLit, IsBoth, number_at, IsEqual, IsRelation, IsChoose, IsBody, function_name, IsCall, AreCalls, IsDef, AreDefs}
@@ -226,9 +227,6 @@ other_more k names small h = record {
   main = list_any-append (λ y. bytes_eq y (codes "main")) names (function_name k ∷ []) ∙ ap (λ x. x || false) h.main;
 }
 
-is_at_most : (n m : ℕ) → n ≤ m → nat_le n m ≡ true
-is_at_most n m h = grind (arith, nat_tests)
-
 is_below : (n m : ℕ) → n < m → nat_lt n m ≡ true
 is_below n m h = grind (arith, nat_tests)
 
@@ -383,33 +381,31 @@ index_more [] n most l h (suc f) = h f
 index_more (k ∷ known) n most l h zero = h zero
 index_more (k ∷ known) n most l h (suc f) = index_more known n most l (λ g. h (suc g)) f
 
-fits : (n most : ℕ) (fault : ℕ → TypeFault) (ns : List ℕ) → n ≤ most → size_fault most fault ns ≡ None → size_fault most fault (n ∷ ns) ≡ None
-fits n most fault ns l h = rw (is_at_most n most l) h
-
-module _ (m : ℕ) (measure : (ℕ → ℕ) → ExprTree → ℕ) (small most : ℕ) (low : small ≤ most) (fault : ℕ → TypeFault)
+module _ (m : ℕ) (measure : (ℕ → ℕ) → ExprTree → ℕ) (small most : ℕ) (low : small ≤ most)
     (function : (calls : ℕ → ℕ) (c : ℕ) (e : ExprTree) → IsFunction c e → measure calls (lowered e) ≡ small)
     (main : (calls : ℕ → ℕ) → ((f : ℕ) → calls f ≤ small) → measure calls (lowered (calls_of m)) ≤ most) where
   all_fit : (known : List ℕ) → ((f : ℕ) → slice_index known f ≤ small) → (cs : List ℕ) (gs : List DefTree) → AreTyped m cs gs →
-      size_fault most fault (measured measure known gs) ≡ None
+      All (λ n. n ≤ most) (measured measure known gs)
   all_fit known h cs [] are = absurd are
   all_fit known h [] (d ∷ ds) are =
       let calls : ℕ → ℕ = λ f. slice_index known f in
-      let l : measure calls (lowered d.body) ≤ most = subst (λ e. measure calls (lowered e) ≤ most) (sym are.0) (main calls h) in
-      fits (measure calls (lowered d.body)) most fault (measured measure (known ++ measure calls (lowered d.body) ∷ []) ds) l
-      (ap (λ gs. size_fault most fault (measured measure (known ++ measure calls (lowered d.body) ∷ []) gs)) are.2)
+      let n : ℕ = measure calls (lowered d.body) in
+      let l : n ≤ most = subst (λ e. measure calls (lowered e) ≤ most) (sym are.0) (main calls h) in
+      All-cons (λ k. k ≤ most) n (measured measure (known ++ n ∷ []) ds) l
+      (subst (λ gs. All (λ k. k ≤ most) (measured measure (known ++ n ∷ []) gs)) (sym are.2) (All-nil (λ k. k ≤ most)))
   all_fit known h (c ∷ cs) (d ∷ ds) are =
       let calls : ℕ → ℕ = λ f. slice_index known f in
       let n : ℕ = measure calls (lowered d.body) in
       let is : n ≡ small = function calls c d.body are.0 in
-      fits n most fault (measured measure (known ++ n ∷ []) ds) (omega arith)
+      All-cons (λ k. k ≤ most) n (measured measure (known ++ n ∷ []) ds) (omega arith)
       (all_fit (known ++ n ∷ []) (index_more known n small (omega arith) h) cs ds are.2)
 
 ok_is : (x y : TypedTree) → ◌≡◌ {A = Result TypedTree TypeFault} (Ok x) (Ok y) → x ≡ y
 ok_is x y e = cc
 
-both_fit : (defs : List DefTree) (main : ℕ) → size_fault 1000000 Weight (weights defs) ≡ None → size_fault 200 Depth (depths defs) ≡ None →
+both_fit : (defs : List DefTree) (main : ℕ) → All (λ n. n ≤ 1000000) (weights defs) → All (λ n. n ≤ 200) (depths defs) →
     sized (record { defs = defs; main = main }) ≡ Ok (record { defs = defs; main = main })
-both_fit defs main w d = rw (w, d) refl
+both_fit defs main w d = rw (none_above 1000000 0 (weights defs) w, none_above 200 0 (depths defs) d) refl
 
 functions_are : (ds : List RawDefTree) → functions_of (map item_def ds) ≡ ds
 functions_are [] = refl
@@ -445,9 +441,9 @@ workload_checked cs ds l few are =
     } in
     let w = defs_walk m ds [] [] 1 1 cs ds are (omega arith) (omega arith) (record { functions = λ i k u. refl; main = refl }) each in
     let z : 0 + length cs ≡ length cs = omega arith in
-    let weights_fit = all_fit m weight_in 20 1000000 (omega arith) Weight function_weight (λ calls h. let k = calls_weight calls m h in omega arith) []
+    let weights_fit = all_fit m weight_in 20 1000000 (omega arith) function_weight (λ calls h. let k = calls_weight calls m h in omega arith) []
     (λ f. omega arith) cs w.0 w.2 in
-    let depths_fit = all_fit m depth_in 8 200 (omega arith) Depth function_depth (λ calls h. let k = calls_depth calls m h in omega arith) [] (λ f. omega arith)
+    let depths_fit = all_fit m depth_in 8 200 (omega arith) function_depth (λ calls h. let k = calls_depth calls m h in omega arith) [] (λ f. omega arith)
     cs w.0 w.2 in
     record {
       typed = record { defs = w.0; main = length cs };

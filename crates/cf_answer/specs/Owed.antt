@@ -7,7 +7,6 @@ use Rattle.cf_io.specs.Limits.{line_limit}
 use Rattle.cf_io.specs.Lines.{lines}
 use Rattle.cf_lex.specs.Editions.{edition_of}
 use Rattle.cf_tree.specs.declared.base.Edition.{Edition}
-use Rattle.cf_tree.specs.declared.base.Edition.TheVariants.{Two}
 use Rattle.cf_tree.specs.declared.target.RawTarget.{RawTarget}
 use Rattle.cf_target.specs.Spelling.{target_tree}
 use Rattle.cf_program.specs.Checked.{TypedTree}
@@ -26,7 +25,7 @@ use Rattle.cf_answer.specs.Checks.{IsCheckOf}
 use Rattle.cf_answer.specs.LateReplies.{IsLateReply, AreRunsAllowed}
 use Rattle.cf_answer.specs.Passes.{AreCalled, applied}
 use Rattle.cf_answer.specs.Picked.{IsSourceReply, adds}
-use Rattle.cf_answer.specs.Sources.{Compiles, IsTypedSource, IsLateSource, IsTypedTarget}
+use Rattle.cf_answer.specs.Sources.{Compiles, IsTypedSource, IsAskedSource, IsLateSource, IsTypedTarget}
 
 -- what answers the lines of the input: a target, or a late program
 pub data Answerer : Type 0 where
@@ -98,14 +97,13 @@ abbrev pub sum_line : ℕ → ℤ → List ℕ
 sum_line count sum = concat (codes "lines " ∷ decimal count ∷ codes " sum " ∷ signed_decimal sum ∷ codes "\n" ∷ [])
 
 -- What a command is to write on files of these texts, with passes that told `given` before and tell `last`, and these lines of the input. A source's
--- replies are what it picks, or what its late program comes to. A workload has its own source and lines. The questions of
--- `check` are those of language 2.
+-- replies are what it picks, or what its late program comes to. A workload has its own source and lines.
 abbrev pub Owes : Command → List (List ℕ) → List Told → List Told → List (List ℕ) → List ℕ → Type 0
 Owes (compile flags name) (file ∷ []) given last ls text =
     (t : RawTarget) × IsCompiledBy (not flags.plain) file given last t × IsPrinted (edition_of file) t text
 Owes (run flags name) (file ∷ []) given last ls text = OwesRun (not flags.plain) file given last ls text
 Owes (pre name) (file ∷ []) given last ls text = (typed : TypedTree) × IsTypedSource file typed × ArePres typed text
-Owes (check name) (file ∷ []) given last ls text = (edition_of file ≡ Two) × (typed : TypedTree) × IsTypedSource file typed × AreChecks typed text
+Owes (check name) (file ∷ []) given last ls text = IsAskedSource file × (typed : TypedTree) × IsTypedSource file typed × AreChecks typed text
 Owes (exec name) (file ∷ []) given last ls text = (t : RawTarget) × IsTypedTarget file (target_tree t) × AreReplies (by_target t) ls text
 Owes (prove name) (file ∷ []) given last ls text = (typed : TypedTree) × IsTypedSource file typed × AreProofs (asked_in typed) text
 Owes (verify name steps_name) (source ∷ steps ∷ []) given last ls text =

@@ -9,12 +9,18 @@ use Rattle.cf_io.specs.Lines.{is_feed, lines, ended}
 use Rattle.cf_io.specs.declared.line.Line.{Line}
 use Rattle.cf_io.specs.declared.line.Line.TheVariants.{Text, TooLong}
 use Rattle.cf_num.specs.Limit.{limit}
+use Rattle.cf_tree.specs.declared.base.Edition.TheVariants.{Three}
 use Rattle.cf_tree.specs.declared.target.RawTarget.{RawTarget}
 use Rattle.cf_tree.specs.CodeTree.{CodeTree}
 use Rattle.cf_tree.specs.CodeView.{code_tree}
+use Rattle.cf_tree.specs.DefView.{RawItemTree}
 use Rattle.cf_tree.specs.Values.{Value, values, no_solution}
 use Rattle.cf_pass.specs.Passes.{Told}
+use Rattle.cf_program.specs.Checked.{TypedTree, checked}
 use Rattle.cf_program.specs.Typed.{typed_tree}
+use Rattle.cf_program.specs.declared.linearity.Linearity.TheVariants.{Plain}
+use Rattle.cf_form.specs.FormAnswers.{FormAnswer}
+use Rattle.cf_form.specs.declared.formed.FormedParts.{FormedParts}
 use Rattle.cf_eval.specs.Answers.{Answers}
 use Rattle.cf_eval.specs.Seen.{plains}
 use Rattle.cf_eval.specs.Spelling.{SpellsValues}
@@ -25,6 +31,7 @@ use Rattle.cf_answer.specs.Outside.{AreTold}
 use Rattle.cf_answer.specs.Owed.{Answerer, by_target, by_late, IsReplyBy, AreReplies, OwesRun}
 use Rattle.cf_answer.specs.Picked.{outcome_number}
 use Rattle.cf_answer.specs.Refusals.{CausesOf}
+use Rattle.cf_answer.specs.Sources.{SpellsProgram}
 use Rattle.cf_answer.specs.declared.answerer.Answerer.{Answerer as DeclaredAnswerer}
 use Rattle.cf_answer.specs.declared.answerer.Answerer.TheVariants as answerer
 use Rattle.cf_answer.specs.declared.fault.Fault.{Fault}
@@ -39,6 +46,13 @@ IsVerdict Good Refused (Err f) = Refused f ⊎ (f ≡ fault.NoMemory)
 abbrev pub answerer_of : DeclaredAnswerer → Answerer
 answerer_of (answerer.Target t) = by_target t
 answerer_of (answerer.Late l) = by_late (typed_tree l)
+
+-- a program of edition 3 in which no rule is broken, with the forms of language 2, and what is told of its chooses
+abbrev pub IsFormedProgram : List RawItemTree → FormedParts → Type 0
+IsFormedProgram program f = (source : TypedTree) × (checked Three Plain program ≡ Ok source) × FormAnswer Plain source (Ok f)
+
+abbrev pub IsFormedSource : List ℕ → FormedParts → Type 0
+IsFormedSource text f = (program : List RawItemTree) × SpellsProgram text program × IsFormedProgram program f
 
 -- its replies are what `run` owes on a source
 abbrev pub IsRunner : Bool → List ℕ → List Told → List Told → Answerer → Type 0

@@ -3,7 +3,7 @@ ghost use Rattle.std.specs.Prelude.{◌≡◌, ◌≤◌, ◌<◌, ◌-◌, ◌^
 ghost use Rattle.std.specs.List.Sorted.{IsNonDecreasingBy};
 ghost use Rattle.cf_io.specs.Seen.{SourceSeen};
 ghost use Rattle.cf_lex.specs.Editions.{edition_of as the_edition_of};
-ghost use Rattle.cf_tree.specs.declared.base.Edition.TheVariants.{Two};
+ghost use Rattle.cf_tree.specs.declared.base.Edition.TheVariants.{Three};
 ghost use Rattle.cf_pass.specs.Passes.{Told};
 ghost use Rattle.cf_words.specs.Commands.{check as the_check};
 ghost use Rattle.cf_answer.specs.Ends.{AnswersOn};
@@ -19,21 +19,22 @@ ghost use Rattle.cf_answer.specs.Checking.{AreMatches, AddsCheck, AddsCover, Add
 ghost use Rattle.cf_answer.specs.Checks.{IsArm, IsCheckOf, IsMatch, IsOwn, cover_line, existence_text, names_at, uniqueness_text};
 ghost use Rattle.cf_answer.specs.Owed.{AllWritten, AreChecks};
 ghost use Rattle.cf_answer.specs.Refusals.{IsBrokenSource, IsRefusedSource};
-ghost use Rattle.cf_answer.specs.Sources.{IsLoweredSource};
+ghost use Rattle.cf_answer.specs.Sources.{IsAskedSource, IsLoweredSource};
 ghost use Rattle.cf_answer.specs.Steps.{IsVerdict};
 ghost use Rattle.cf_answer.specs.Texts.{numbered_line};
 
+use crate::asked::are_as_before;
 use crate::choose_line::put_head;
 use crate::choose_origin::{Matches, Origin, arms_of, origin_of};
 use crate::fault::Fault;
-use crate::source::read_lowered;
+use crate::source::{read_formed, read_lowered};
 use crate::unbuilt::not_built;
 use crate::verdict::{put_cover, put_existence, put_uniqueness};
 use crate::write::write_text;
 use cf_build::{SolvedChoose, solve_all};
 use cf_io::Sink;
 use cf_lex::edition_of;
-use cf_match::{Lowered, MatchInfo};
+use cf_match::{Lowered, MatchInfo, lower};
 use cf_tree::{Edition, NoMemory};
 use cf_warn::{
     Cover, ExistenceAnswer, UniquenessAnswer, covers, existence, parameters, uniqueness,
@@ -230,12 +231,30 @@ fn checks(alloc: Global, lowered: &Lowered) -> Result<Vec<u8>, Fault>
 fn asked(alloc: Global, text: &[u8]) -> Result<Lowered, Fault>
     requires short { length text.now ≤ text_limit }
     requires place { length text.now < 2 ^ 32 - 1 }
-    ensures { IsVerdict (λ l. (the_edition_of text.now ≡ Two) × IsLoweredSource text.now l) (IsBrokenSource text.now) result }
+    ensures { IsVerdict (λ l. IsAskedSource text.now × IsLoweredSource text.now l) (IsBrokenSource text.now) result }
 {
     match edition_of(text) {
         Edition::Two => read_lowered(alloc, text),
-        Edition::Three => Err(not_built()),
+        Edition::Three => asked_in_three(alloc, text),
     }
+}
+
+// The same of edition 3, where each choose is as one of language 2.
+fn asked_in_three(alloc: Global, text: &[u8]) -> Result<Lowered, Fault>
+    requires short { length text.now ≤ text_limit }
+    requires place { length text.now < 2 ^ 32 - 1 }
+    requires edition { the_edition_of text.now ≡ Three }
+    ensures { IsVerdict (λ l. IsAskedSource text.now × IsLoweredSource text.now l) (IsBrokenSource text.now) result }
+{
+    let formed = read_formed(alloc, text)?;
+    if !are_as_before(formed.chooses()) {
+        return Err(not_built());
+    }
+    let typed = formed.into_typed();
+    // for the proof: the rules of a typed program are told by its methods alone.
+    let _ = typed.main();
+    let lowered = lower(alloc, &typed)?;
+    Ok(lowered)
 }
 
 /// Writes for each choose of a source text whether outputs always exist and whether they are the only

@@ -3,6 +3,7 @@
 
 mod about;
 mod answerer;
+mod asked;
 mod check;
 mod choose_line;
 mod choose_origin;

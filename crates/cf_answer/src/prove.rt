@@ -3,7 +3,7 @@ ghost use Rattle.std.specs.Prelude.{◌≡◌, ◌≤◌, ◌<◌, ◌-◌, ◌^
 ghost use Rattle.cf_io.specs.Seen.{SourceSeen};
 ghost use Rattle.cf_pass.specs.Passes.{Told};
 ghost use Rattle.cf_tree.specs.ChooseView.{choose_tree};
-ghost use Rattle.cf_build.specs.Solves.{IsTypedChoose, IsRising, FaultAnswer};
+ghost use Rattle.cf_build.specs.Solves.{IsTypedChoose, IsFaultAmong};
 ghost use Rattle.cf_words.specs.Commands.{prove as the_prove};
 ghost use Rattle.cf_answer.specs.Certificates.{asked_in, AreProofs};
 ghost use Rattle.cf_answer.specs.Ends.{AnswersOn};
@@ -30,7 +30,7 @@ use std::alloc::Global;
 fn put_block(alloc: Global, choose: &Choose<'_>, text: &mut Vec<u8>) -> Result<(), BuildFault>
     requires { IsTypedChoose (choose_tree choose.now) }
     ensures block { OnOk result (AddsBlock (choose_tree choose.now) text.old.items text.new.items) }
-    ensures refused { IfErr result (FaultAnswer (choose_tree choose.now ∷ [])) }
+    ensures refused { IfErr result (IsFaultAmong (choose_tree choose.now ∷ [])) }
 {
     match prove(alloc, choose) {
         Ok(block) => {
@@ -45,13 +45,11 @@ fn put_block(alloc: Global, choose: &Choose<'_>, text: &mut Vec<u8>) -> Result<(
     }
 }
 
-// The printed blocks of these chooses, whose numbers rise, in order, or the first of them that is
-// refused.
+// The printed blocks of these chooses in order, or the first of them that is refused.
 fn prove_each(alloc: Global, chooses: &[Choose<'_>]) -> Result<Vec<u8>, BuildFault>
-    requires asked { All (λ c. IsTypedChoose (choose_tree c)) chooses.now }
-    requires rising { IsRising (map choose_tree chooses.now) }
+    requires { All (λ c. IsTypedChoose (choose_tree c)) chooses.now }
     ensures proofs { IfOk result (λ text. AreProofs (map choose_tree chooses.now) text.items) }
-    ensures refused { IfErr result (FaultAnswer (map choose_tree chooses.now)) }
+    ensures refused { IfErr result (IsFaultAmong (map choose_tree chooses.now)) }
 {
     let mut text = Vec::new(alloc);
     for i in 0..chooses.len() {
@@ -60,8 +58,8 @@ fn prove_each(alloc: Global, chooses: &[Choose<'_>]) -> Result<Vec<u8>, BuildFau
     Ok(text)
 }
 
-// The printed blocks of the chooses of a program in the order of their numbers, or the choose for
-// which it is refused.
+// The printed blocks of the chooses of a program in the order of their numbers, those of one number
+// in the order of the text, or the choose for which it is refused.
 fn blocks(alloc: Global, lowered: &Lowered) -> Result<Vec<u8>, Fault>
     ensures { (source : List ℕ) (s : IsLoweredSource source lowered.now) → IsVerdict (λ text. AreProofs (asked_in s.typed) text.items) (IsRefusedSource source)
         result }

@@ -12,21 +12,20 @@ ghost use Rattle.cf_answer.specs.Limits.{text_limit};
 ghost use Rattle.cf_answer.specs.Owed.{IsCompiledBy};
 ghost use Rattle.cf_answer.specs.Refusals.{IsBroken, IsBrokenSource, IsRefusedSource, IsRefusedRun};
 ghost use Rattle.cf_answer.specs.Sources.{SpellsProgram, IsTypedBy, IsTypedSource, IsLoweredSource};
-ghost use Rattle.cf_answer.specs.Steps.{IsVerdict, IsMisspelled, IsRunner, answerer_of};
+ghost use Rattle.cf_answer.specs.Steps.{IsVerdict, IsFormedProgram, IsFormedSource, IsMisspelled, IsRunner, answerer_of};
 
 use crate::answerer::Answerer;
 use crate::fault::Fault;
 use crate::text::lexed;
-use crate::unbuilt::not_built;
 use cf_build::build;
-use cf_form::form;
+use cf_form::{Formed, form, form_late};
 use cf_lex::edition_of;
 use cf_match::{Lowered, lower};
 use cf_parse::{ParseFault, program};
 use cf_pass::Pass;
 use cf_program::{Late, TypeFault, Typed};
 use cf_tree::{Edition, Program, Target};
-use cf_type::{check, check_late, check_source};
+use cf_type::{check, check_late, check_late_source, check_source};
 use std::alloc::Global;
 
 /// The program that a source text spells, with the forms of language 2, or why the text is refused,
@@ -83,14 +82,35 @@ fn formed(alloc: Global, program: &Program) -> Result<Typed, Fault>
     requires { IsSpelledProgram Three (program_tree program.now) }
     ensures { IsVerdict (λ x. IsTypedBy Three Plain (program_tree program.now) (typed_tree x)) (IsBroken Three Plain (program_tree program.now)) result }
 {
+    let formed = formed_program(alloc, program)?;
+    Ok(formed.into_typed())
+}
+
+// A program of edition 3 with the forms of language 2, and what is told of its chooses.
+fn formed_program(alloc: Global, program: &Program) -> Result<Formed, Fault>
+    requires { IsSpelledProgram Three (program_tree program.now) }
+    ensures { IsVerdict (IsFormedProgram (program_tree program.now)) (IsBroken Three Plain (program_tree program.now)) result }
+{
     match check_source(alloc, program) {
         Ok(source) => {
             let formed = form(alloc, &source)?;
-            Ok(formed.into_typed())
+            Ok(formed)
         }
         Err(TypeFault::NoMemory) => Err(Fault::NoMemory),
         Err(fault) => Err(Fault::Rule(fault)),
     }
+}
+
+/// The program that a source text of edition 3 spells, with the forms of language 2, and what is told
+/// of its chooses; or why the text is refused, whatever its chooses are.
+pub fn read_formed(alloc: Global, text: &[u8]) -> Result<Formed, Fault>
+    requires short { length text.now ≤ text_limit }
+    requires place { length text.now < 2 ^ 32 - 1 }
+    requires edition { the_edition_of text.now ≡ Three }
+    ensures { IsVerdict (IsFormedSource text.now) (IsBrokenSource text.now) result }
+{
+    let program = parsed(alloc, Edition::Three, text)?;
+    formed_program(alloc, &program)
 }
 
 /// The program that a source text spells, with its matches taken apart, or why the text is refused,
@@ -194,7 +214,7 @@ fn late(alloc: Global, edition: Edition, program: &Program) -> Result<Late, Faul
 {
     match edition {
         Edition::Two => checked_late(alloc, program),
-        Edition::Three => Err(not_built()),
+        Edition::Three => formed_late(alloc, program),
     }
 }
 
@@ -204,6 +224,20 @@ fn checked_late(alloc: Global, program: &Program) -> Result<Late, Fault>
 {
     match check_late(alloc, program) {
         Ok(late) => Ok(late),
+        Err(TypeFault::NoMemory) => Err(Fault::NoMemory),
+        Err(fault) => Err(Fault::Rule(fault)),
+    }
+}
+
+fn formed_late(alloc: Global, program: &Program) -> Result<Late, Fault>
+    requires { IsSpelledProgram Three (program_tree program.now) }
+    ensures { IsVerdict (λ x. IsTypedBy Three LateRule (program_tree program.now) (typed_tree x)) (IsBroken Three LateRule (program_tree program.now)) result }
+{
+    match check_late_source(alloc, program) {
+        Ok(source) => {
+            let formed = form_late(alloc, &source)?;
+            Ok(formed.into_late())
+        }
         Err(TypeFault::NoMemory) => Err(Fault::NoMemory),
         Err(fault) => Err(Fault::Rule(fault)),
     }

@@ -3,7 +3,7 @@ ghost use Rattle.std.specs.Prelude.{◌≡◌};
 
 use crate::fault::Fault;
 
-/// Stands for what is not built yet: late programs of edition 3, and `check` of edition 3.
+/// Stands for what is not built yet: `check` of chooses that language 2 has not.
 pub(crate) fn not_built() -> Fault
     ensures { result ≡ Fault.NoMemory }
 {

@@ -1,9 +1,9 @@
 -- A target that was built keeps what it promises.
-use Rattle.std.proofs.Common.{◌≡◌, ℕ, zero, suc, ◌≤◌, ◌<◌, Some, List, [], ◌∷◌, ◌++◌, length, map, reverse, slice_get, slice_index, get_or, nat_eq, All, Contains, refl, sym, ap, ◌∙◌, subst, arith}
-use Rattle.std.specs.List.{IsDistinct}
-use Rattle.std.specs.List.Sorted.{IsPermutation, IsNonDecreasing, IsNonDecreasingBy}
+use Rattle.std.proofs.Common.{◌≡◌, ℕ, zero, suc, ◌≤◌, ◌<◌, Some, List, [], ◌∷◌, ◌++◌, length, map, reverse, slice_get, slice_index, get_or, All, Contains, refl, sym, ap, ◌∙◌, subst, arith}
+use Rattle.std.specs.List.Sorted.{IsPermutation, IsNonDecreasing, IsNonDecreasingBy, IsStableByKey}
+use Rattle.std.specs.Ordering.{nat_cmp}
 use Rattle.std.proofs.lemmas.List.{reverse-append, map-append, length-map, get_or-map}
-use Rattle.std.proofs.lemmas.List.Sorted.{IsPermutation-map, All-permutation}
+use Rattle.std.proofs.lemmas.List.Sorted.{All-permutation}
 use Rattle.std.proofs.lemmas.Option.{slice_get_within}
 use Rattle.std.proofs.lemmas.List.Elements.{All-nil, All-cons, All-head, All-tail, All-append, All-pop, All-weaker}
 use Rattle.cf_tree.specs.declared.base.Base.{Base}
@@ -28,28 +28,34 @@ use Rattle.cf_program.proofs.PlainTypes.{ExprHasBases, AllHave, PartsHave, AreTy
 use Rattle.cf_program.specs.Walk.{side_of}
 use Rattle.cf_tree.specs.declared.choose.Choose.{Choose}
 use Rattle.cf_program.specs.Lowered.{lowered_def}
+use Rattle.cf_build.specs.declared.choose_codes.ChooseCode.{ChooseCode}
+use Rattle.cf_build.specs.declared.solves.SolvedChoose.{SolvedChoose}
 use Rattle.cf_build.specs.Built.{IsBuilt, unfolded_code}
-use Rattle.cf_build.specs.Codes.{called, codes_behind, solved_in}
+use Rattle.cf_build.specs.Codes.{called, codes_behind}
+use Rattle.cf_build.specs.Known.{IsChooseCode, AreKnown}
+use Rattle.cf_build.specs.Marks.{choose_marks}
 use Rattle.cf_build.specs.Runs.{lowered_bodies}
 use Rattle.cf_tree.specs.ChooseTree.{ChooseTree}
 use Rattle.cf_build.specs.Chooses.{chooses_in, chooses_in_all, all_chooses, by_number, solve_of}
 use Rattle.cf_shift.specs.Shifted.{HasLevels}
 use Rattle.cf_program.specs.NoMatch.{HasNoMatch}
 use Rattle.cf_tree.specs.ChooseView.{choose_tree}
-use Rattle.cf_build.specs.Solves.{chooses_of, IsTypedChoose, IsRising, AreCodes, IsSolveOf}
+use Rattle.cf_build.specs.Solves.{chooses_of, AreSolved, IsTypedChoose, IsSolveOf}
 use Rattle.cf_build.proofs.CalledCodes.{def_at}
+use Rattle.cf_build.proofs.KnownLaws.{Keeps, bodies_known, solved_known}
 use Rattle.cf_build.proofs.Meanings.{sides_have}
-use Rattle.cf_build.proofs.NumberOrder.{numbers_of, ordered_distinct, ordered_has, sorted_ordered, sorted_rises}
+use Rattle.cf_build.proofs.NumberOrder.{sorted_by_number}
 use Rattle.cf_build.proofs.PickedPaths.{AreFit}
 use Rattle.cf_match.proofs.NoMatchLaws.{lowered_same}
 use Rattle.cf_pass.proofs.Forms.{improves_self}
 use Rattle.cf_build.proofs.Plain.{IsPlain, ArePlain, HasPlainBody, plain_bodies}
 use Rattle.cf_build.proofs.Programs.{Knows, bodies, program_known, map_reverse}
 use Rattle.cf_build.proofs.Runs.{runs_as_picked, bodies_lowered}
-use Rattle.cf_build.proofs.SameCodes.{behind_same}
-use Rattle.cf_build.proofs.SolveLists.{solved_found}
 
 -- ---- the numbers of chooses
+abbrev numbers_of : List ChooseTree → List ℕ
+numbers_of qs = map (λ q. q.number) qs
+
 both_numbers : (a b : ExprTree) → numbers a ≡ numbers_of (chooses_in a) → numbers b ≡ numbers_of (chooses_in b) →
     numbers a ++ numbers b ≡ numbers_of (chooses_in a ++ chooses_in b)
 both_numbers a b e f = rw (map-append (λ q. q.number) (chooses_in a) (chooses_in b), e, f) refl
@@ -197,10 +203,6 @@ chooses_typed (q ∷ qs) m p =
     })
     (chooses_typed qs (All-tail MayBeSolved q qs m) (All-tail (λ n. 1 ≤ n) q.number (numbers_of qs) p))
 
-numbers_of_chooses : (cs : List Choose) → numbers_of (map choose_tree cs) ≡ map (λ c. c.number) cs
-numbers_of_chooses [] = refl
-numbers_of_chooses (c ∷ cs) = ap (λ ns. c.number ∷ ns) (numbers_of_chooses cs)
-
 not_falling : {X : Type 0} (f : X → ℕ) (xs : List X) → IsNonDecreasingBy f xs → IsNonDecreasing (map f xs)
 not_falling f [] h i j d l m = absurd (omega (arith, m))
 not_falling f (x ∷ xs) h i j d l m =
@@ -229,42 +231,29 @@ module _ (ds : List Def) (main : ℕ) (t : IsTypedProgram (map def_tree ds) main
       let may_be = program_may (map def_tree ds) plain (all_turned HasTypes (map def_tree ds) (typed_each (reverse (map def_tree ds)) t.typed)) in
       each_typed cs (rw e (chooses_typed (chooses_of (map def_tree ds)) may_be (rw (program_numbers (map def_tree ds) plain) at t.positive)))
 
-  numbers_differ : IsDistinct nat_eq (numbers_of (all_chooses (map def_tree ds)))
-  numbers_differ = rw (chooses_same (map def_tree ds) plain) (rw (program_numbers (map def_tree ds) plain) at t.distinct)
-
   -- the chooses that were found, and the same in the order of their numbers
   module _ (cs sorted : List Choose) (e : map choose_tree cs ≡ chooses_of (map def_tree ds)) (m : IsPermutation cs sorted)
       (o : IsNonDecreasingBy (λ c. c.number) sorted) where
-    found : map choose_tree cs ≡ all_chooses (map def_tree ds)
-    found = e ∙ sym (chooses_same (map def_tree ds) plain)
+    pub in_order : IsStableByKey (λ c. c.number) nat_cmp cs sorted → map choose_tree sorted ≡ by_number (all_chooses (map def_tree ds))
+    in_order stable = sorted_by_number cs sorted o m stable ∙ ap by_number (e ∙ sym (chooses_same (map def_tree ds) plain))
 
-    distinct : IsDistinct nat_eq (numbers_of (map choose_tree cs))
-    distinct = rw found numbers_differ
-
-    moved : IsPermutation (map choose_tree cs) (map choose_tree sorted)
-    moved = IsPermutation-map choose_tree cs sorted m
-
-    rise : IsNonDecreasing (numbers_of (map choose_tree sorted))
-    rise = rw (numbers_of_chooses sorted) (not_falling (λ c. c.number) sorted o)
-
-    pub in_order : map choose_tree sorted ≡ by_number (all_chooses (map def_tree ds))
-    in_order = sorted_ordered (map choose_tree cs) (map choose_tree sorted) distinct moved rise ∙ ap by_number found
-
-    pub in_order_rises : IsRising (map choose_tree sorted)
-    in_order_rises = sorted_rises (map choose_tree cs) (map choose_tree sorted) distinct moved rise
+    pub in_order_rises : IsNonDecreasing (map (λ c. c.number) sorted)
+    in_order_rises = not_falling (λ c. c.number) sorted o
 
     pub in_order_typed : All (λ c. IsTypedChoose (choose_tree c)) sorted
     in_order_typed = All-permutation (λ c. IsTypedChoose (choose_tree c)) cs sorted m (all_typed cs e)
 
-  module _ (ss : List (ℕ × CodeTree)) (s : AreCodes (by_number (all_chooses (map def_tree ds))) ss) (codes : List CodeTree)
-      (same : codes ≡ codes_behind (solved_in ss) [] (map def_tree ds)) where
-    solve : (q : ChooseTree) → Contains (all_chooses (map def_tree ds)) q → IsSolveOf q (solved_in ss q)
-    solve q c =
-        let qs = all_chooses (map def_tree ds) in
-        solved_found (by_number qs) ss s (ordered_distinct qs numbers_differ) q (ordered_has qs q c)
+  pub all_known : (ss : List SolvedChoose) (codes : List ChooseCode) → AreSolved (by_number (all_chooses (map def_tree ds))) ss →
+      All IsChooseCode codes → map (λ c. c.marks.items) codes ≡ map (λ s. choose_marks (choose_tree s.choose)) ss →
+      All (λ d. AreKnown codes (expr_tree d.body)) ds
+  all_known ss codes h k e =
+      bodies_known codes ds
+      (subst (λ qs. Keeps codes qs) (chooses_same (map def_tree ds) plain) (solved_known (all_chooses (map def_tree ds)) ss codes h k e))
 
+  module _ (solve : (q : ChooseTree) → Contains (all_chooses (map def_tree ds)) q → IsSolveOf q (solve_of q)) (codes : List CodeTree)
+      (same : codes ≡ codes_behind solve_of [] (map def_tree ds)) where
     known : Knows (map def_tree ds) (reverse (map def_tree ds)) codes (depths (map def_tree ds))
-    known = rw same (program_known (solved_in ss) (map def_tree ds) t.typed plain solve)
+    known = rw same (program_known solve_of (map def_tree ds) t.typed plain solve)
 
     main_typed : (d : DefTree) → slice_get (map def_tree ds) main ≡ Some d → IsTypedCode (called codes main) (bases_of d.params) d.results
     main_typed d e = known.typed main (bases_of d.params) d.results (known.takes main d e) (Some d.results) refl
@@ -272,12 +261,9 @@ module _ (ds : List Def) (main : ℕ) (t : IsTypedProgram (map def_tree ds) main
     all_bodies : bodies (reverse (map def_tree ds)) ≡ reverse (lowered_bodies (map def_tree ds))
     all_bodies = map_reverse (map def_tree ds) ∙ ap (λ bs. reverse bs) (sym (bodies_lowered (map def_tree ds) plain))
 
-    -- the code is the definition's, which has the solve of each choose
+    -- the code is the definition's
     is_unfolded : called codes main ≡ unfolded_code (map def_tree ds) main
-    is_unfolded =
-        ap (λ cs. called cs main) (same
-        ∙ behind_same (solved_in ss) solve_of (map def_tree ds) [] (λ q m. (solve q (rw (chooses_same (map def_tree ds) plain) m)).code)
-        ∙ ap (λ xs. codes_behind solve_of [] xs) (sym (lowered_defs (map def_tree ds) plain)))
+    is_unfolded = ap (λ cs. called cs main) (same ∙ ap (λ xs. codes_behind solve_of [] xs) (sym (lowered_defs (map def_tree ds) plain)))
 
     pub main_built : (d : DefTree) → slice_get (map def_tree ds) main ≡ Some d → (raw : RawTarget) → raw.params.items ≡ bases_of d.params →
         raw.results.items ≡ d.results → code_tree raw.code ≡ called codes main → HasLevels (called codes main) →
@@ -298,7 +284,7 @@ module _ (ds : List Def) (main : ℕ) (t : IsTypedProgram (map def_tree ds) main
             known.spelled main (bases_of d.params) d.results takes l,
             known.several main (bases_of d.params) d.results takes,
           );
-          solved = λ q m. let h = solve q m in subst (λ c. IsSolveOf q c) h.code h;
+          solved = solve;
           runs = λ env h small.
               let fit : AreFit (bases_of d.params) env = record { bases = subst (λ bs. HaveBases bs env) ps h; small = small } in
               rw c (runs_as_picked (map def_tree ds) main (called codes main) env (bodies (reverse (map def_tree ds))) all_bodies
@@ -310,12 +296,12 @@ pub main_below : (ds : List Def) (main : ℕ) → IsTypedProgram (map def_tree d
 main_below ds main t = let h = t.has_main in omega (arith, slice_get_within (map def_tree ds) main h.0 h.1, length-map ds def_tree)
 
 -- the target with the code of `main`
-module _ (ds : List Def) (main : ℕ) (t : IsTypedProgram (map def_tree ds) main) (p : All (λ d. HasNoMatch (expr_tree d.body)) ds) (ss : List (ℕ × CodeTree))
-    (s : AreCodes (by_number (all_chooses (map def_tree ds))) ss) (c : Code)
-    (is : code_tree c ≡ called (codes_behind (solved_in ss) [] (map def_tree ds)) main) (l : HasLevels (code_tree c)) (d : Def)
+module _ (ds : List Def) (main : ℕ) (t : IsTypedProgram (map def_tree ds) main) (p : All (λ d. HasNoMatch (expr_tree d.body)) ds)
+    (solve : (q : ChooseTree) → Contains (all_chooses (map def_tree ds)) q → IsSolveOf q (solve_of q)) (c : Code)
+    (is : code_tree c ≡ called (codes_behind solve_of [] (map def_tree ds)) main) (l : HasLevels (code_tree c)) (d : Def)
     (there : d ≡ get_or ds main d) where
   pub target_built : (raw : RawTarget) → (raw.params.items ≡ bases_of d.params.items) × (raw.results.items ≡ d.results.items) ×
       (code_tree raw.code ≡ code_tree c) → IsBuilt (map def_tree ds) main [] [] raw
   target_built raw r =
-      main_built ds main t p ss s (codes_behind (solved_in ss) [] (map def_tree ds)) refl (def_tree d) (def_at ds main d (main_below ds main t) there) raw
+      main_built ds main t p solve (codes_behind solve_of [] (map def_tree ds)) refl (def_tree d) (def_at ds main d (main_below ds main t) there) raw
       r.0 r.1 (r.2 ∙ is) (subst (λ k. HasLevels k) is l)

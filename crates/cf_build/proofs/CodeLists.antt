@@ -8,8 +8,9 @@ use Rattle.cf_tree.specs.ExprTree.{ExprTree, ExprTrees, exprs_of, expr_binary, e
 use Rattle.cf_tree.specs.declared.code.Code.{Code}
 use Rattle.cf_tree.specs.declared.raw.BinOp.{BinOp}
 use Rattle.cf_tree.specs.declared.raw.BinOp.TheVariants.{Add, Sub, Mul, And, Or, Union, Inter, Diff, Subset, Implies, Compare}
-use Rattle.cf_build.specs.Codes.{binary_code, joined_code, call_code, code_of, codes_of_all, called, codes_behind, code_among, codes_among, solved_in}
+use Rattle.cf_build.specs.Codes.{binary_code, joined_code, call_code, code_of, codes_of_all, called, codes_behind, code_among, codes_among}
 use Rattle.cf_tree.specs.ChooseTree.{ChooseTree}
+use Rattle.cf_build.specs.Chooses.{solve_of}
 use Rattle.cf_shift.specs.Shifted.{shifted, all_shifted}
 use Rattle.cf_shift.proofs.ShiftedTwice.{shifted_twice}
 use Rattle.cf_shift.proofs.ShiftedTyping.{count_shifted}
@@ -79,20 +80,20 @@ call_shifted by n no_codes body = shifted_twice by n body
 call_shifted by n (code_more c cs) body =
     rw (joined_shifted by (code_more c cs), shifted_twice by n body, count_shifted by (code_more c cs)) refl
 
-module _ (solves : List (ℕ × CodeTree)) (before : List DefTree) (by n : ℕ) where
+module _ (before : List DefTree) (by n : ℕ) where
   -- an operation over the codes of its sides
-  pub binary_among : (op : BinOp) (a b e : ExprTree) (x y c : CodeTree) → e ≡ expr_binary op a b → x ≡ code_among solves before by n a →
-      y ≡ code_among solves before by n b → c ≡ binary_code op x y → c ≡ code_among solves before by n e
+  pub binary_among : (op : BinOp) (a b e : ExprTree) (x y c : CodeTree) → e ≡ expr_binary op a b → x ≡ code_among before by n a →
+      y ≡ code_among before by n b → c ≡ binary_code op x y → c ≡ code_among before by n e
   binary_among op a b e x y c is left right h =
-      h ∙ ap₂ (λ l r. binary_code op l r) left right ∙ sym (binary_shifted by op _ _) ∙ ap (λ d. code_among solves before by n d) (sym is)
+      h ∙ ap₂ (λ l r. binary_code op l r) left right ∙ sym (binary_shifted by op _ _) ∙ ap (λ d. code_among before by n d) (sym is)
 
   -- a call over the codes of its arguments and of the called body
   pub call_among : (f first : ℕ) (es : ExprTrees) (e : ExprTree) (args : CodeTrees) (body c : CodeTree) → e ≡ expr_call f es → first ≡ by + n →
-      args ≡ codes_among solves before by n es → body ≡ shifted (by + n) (called (codes_behind (solved_in solves) [] before) f) →
-      c ≡ call_code first args body → c ≡ code_among solves before by n e
+      args ≡ codes_among before by n es → body ≡ shifted (by + n) (called (codes_behind solve_of [] before) f) →
+      c ≡ call_code first args body → c ≡ code_among before by n e
   call_among f first es e args body c is k a b h =
       h ∙ ap (λ m. call_code m args body) k ∙ ap₂ (λ x y. call_code (by + n) x y) a b ∙ sym (call_shifted by n _ _)
-      ∙ ap (λ d. code_among solves before by n d) (sym is)
+      ∙ ap (λ d. code_among before by n d) (sym is)
 
 -- what is said of an answer in two clauses
 pub both_hold : {A E : Type 0} (r : Result A E) (P Q : A → Type 0) → IfOk r P → IfOk r Q → IfOk r (λ x. P x × Q x)

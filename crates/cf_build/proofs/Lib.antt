@@ -7,7 +7,9 @@ pub mod CodeOrder
 pub mod CodeSpelling
 pub mod CodeTyping
 pub mod EnteredChooses
+pub mod KnownLaws
 pub mod LoopSteps
+pub mod MarkLaws
 pub mod LoweredAnswers
 pub mod Meanings
 pub mod NumberOrder
@@ -15,10 +17,10 @@ pub mod OrderExamples
 pub mod PickedPaths
 pub mod Plain
 pub mod Programs
+pub mod PutLaws
 pub mod ChooseLaws
 pub mod Rewriting
 pub mod Runs
-pub mod SameCodes
 pub mod SolveLists
 pub mod Values
 pub mod PassLists

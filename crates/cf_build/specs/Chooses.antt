@@ -1,5 +1,5 @@
 -- The chooses of a program, in the order of the text and in that of their numbers, and the first that is refused.
-use Rattle.std.specs.Prelude.{ℕ, ◌<◌, ◌≡◌, nat_lt, if◌then◌else◌, List, [], ◌∷◌, ◌++◌, Option, Some, None, Contains}
+use Rattle.std.specs.Prelude.{ℕ, ◌≡◌, nat_lt, if◌then◌else◌, List, [], ◌∷◌, ◌++◌, Option, Some, None}
 use Rattle.cf_tree.specs.DefView.{DefTree}
 use Rattle.cf_tree.specs.CodeTree.{CodeTree, ArmTrees, code_solve, arms_of}
 use Rattle.cf_tree.specs.ExprTree.{ExprTree, expr_lit, expr_truth, expr_var, expr_set_of, expr_tuple, expr_neg, expr_not, expr_abs, expr_binary, expr_chain, expr_min, expr_max, expr_divides, expr_div, expr_mod, expr_card, expr_if, expr_call, expr_let, expr_choose, expr_choose_where, expr_match, ExprTrees, no_exprs, expr_more, match_arm, MatchArmTrees, no_match_arms, match_arm_more}
@@ -65,12 +65,21 @@ abbrev pub placed : ChooseTree → List ChooseTree → List ChooseTree
 placed q [] = q ∷ []
 placed q (p ∷ ps) = if nat_lt p.number q.number then p ∷ placed q ps else q ∷ p ∷ ps
 
--- chooses in the order of their numbers
+-- chooses in the order of their numbers; those of one number stay in their order
 abbrev pub by_number : List ChooseTree → List ChooseTree
 by_number [] = []
 by_number (q ∷ qs) = placed q (by_number qs)
 
--- choose number n is refused so, and none with a smaller number is refused
-pub record IsFirstRefused (qs : List ChooseTree) (n : ℕ) (r : Refusal) : Type 0 where
-  pub refused : (q : ChooseTree) × Contains qs q × (q.number ≡ n) × (limit_of q ≡ Some r)
-  pub first : (q : ChooseTree) → Contains qs q → q.number < n → limit_of q ≡ None
+-- this refusal of choose number n, or where it has none, what is told of the chooses behind it
+abbrev pub refused_or : ℕ → Option Refusal → Option (ℕ × Refusal) → Option (ℕ × Refusal)
+refused_or n (Some r) behind = Some (n, r)
+refused_or n None behind = behind
+
+-- the number of the first of these chooses that passes a limit, and the first limit that it passes
+abbrev pub first_refused : List ChooseTree → Option (ℕ × Refusal)
+first_refused [] = None
+first_refused (q ∷ qs) = refused_or q.number (limit_of q) (first_refused qs)
+
+-- choose number n is refused so, none with a smaller number is refused, and of those with its number none before it in the text
+abbrev pub IsFirstRefused : List ChooseTree → ℕ → Refusal → Type 0
+IsFirstRefused qs n r = first_refused (by_number qs) ≡ Some (n, r)

@@ -1,17 +1,13 @@
 -- The code of a source expression.
-use Rattle.std.specs.Prelude.{ℕ, ◌+◌, true, List, [], ◌∷◌, ◌++◌, length, slice_get, Option, Some, None, ◌==◌, if◌then◌else◌}
+use Rattle.std.specs.Prelude.{ℕ, ◌+◌, true, List, [], ◌∷◌, ◌++◌, length, slice_get, Option, Some, None}
 use Rattle.cf_tree.specs.declared.raw.BinOp.{BinOp}
 use Rattle.cf_tree.specs.declared.raw.BinOp.TheVariants.{Add, Sub, Mul, And, Or, Union, Inter, Diff, Subset, Implies, Compare}
-use Rattle.cf_tree.specs.CodeTree.{CodeTree, code_lit, code_truth, code_var, code_set_of, code_tuple, code_sum, code_sub, code_mul, code_neg, code_div, code_mod, code_max, code_compare, code_divides, code_and, code_or, code_not, code_union, code_inter, code_diff, code_subset, code_card, code_if, code_let, code_solve, arms_of, CodeTrees, no_codes, code_more, count}
+use Rattle.cf_tree.specs.CodeTree.{CodeTree, code_lit, code_truth, code_var, code_set_of, code_tuple, code_sum, code_sub, code_mul, code_neg, code_div, code_mod, code_max, code_compare, code_divides, code_and, code_or, code_not, code_union, code_inter, code_diff, code_subset, code_card, code_if, code_let, CodeTrees, no_codes, code_more, count}
 use Rattle.cf_tree.specs.DefView.{DefTree}
 use Rattle.cf_tree.specs.ExprTree.{ExprTree, expr_lit, expr_truth, expr_var, expr_set_of, expr_tuple, expr_neg, expr_not, expr_abs, expr_binary, expr_chain, expr_min, expr_max, expr_divides, expr_div, expr_mod, expr_card, expr_if, expr_call, expr_let, expr_choose, expr_choose_where, expr_match, ExprTrees, no_exprs, expr_more}
-use Rattle.cf_tree.specs.CodeView.{code_tree}
-use Rattle.cf_tree.specs.RelView.{rel_tree}
-use Rattle.cf_linear.specs.Chooses.{arms}
-use Rattle.cf_build.specs.declared.choose_codes.ChooseCode.{ChooseCode}
-use Rattle.cf_build.specs.declared.solves.SolvedChoose.{SolvedChoose}
 use Rattle.cf_tree.specs.Params.{bases_of, names_of}
 use Rattle.cf_tree.specs.ChooseTree.{ChooseTree}
+use Rattle.cf_build.specs.Chooses.{solve_of}
 use Rattle.cf_shift.specs.Shifted.{shifted, all_shifted}
 
 abbrev pub two : CodeTree → CodeTree → CodeTrees
@@ -101,30 +97,14 @@ or_nothing (Some c) = c
 abbrev pub called : List CodeTree → ℕ → CodeTree
 called codes f = or_nothing (slice_get codes f)
 
-abbrev pub choose_code : ChooseCode → ℕ × CodeTree
-choose_code c = (c.number, code_tree c.code)
-
--- the solve of a solved choose
-abbrev pub solve_code : SolvedChoose → ℕ × CodeTree
-solve_code s = (s.choose.number, code_solve s.choose.number (arms_of (arms s.solved.scope.items s.solved.outputs.items (rel_tree s.solved.rel))))
-
--- the code of choose number m
-abbrev pub numbered : List (ℕ × CodeTree) → ℕ → CodeTree
-numbered [] m = code_tuple no_codes
-numbered (s ∷ ss) m = if s.0 == m then s.1 else numbered ss m
-
--- the code of a choose, which is found by its number
-abbrev pub solved_in : List (ℕ × CodeTree) → ChooseTree → CodeTree
-solved_in ss q = numbered ss q.number
-
 -- the codes of functions in the order of the text, where `known` holds those of the functions before
 abbrev pub codes_behind : (ChooseTree → CodeTree) → List CodeTree → List DefTree → List CodeTree
 codes_behind solves known [] = known
 codes_behind solves known (d ∷ ds) = codes_behind solves (known ++ code_of (called known) solves (length d.params) d.body ∷ []) ds
 
 -- the code of an expression behind n variables of its function and `by` of the callers, where these functions stand before its own
-abbrev pub code_among : List (ℕ × CodeTree) → List DefTree → ℕ → ℕ → ExprTree → CodeTree
-code_among solves before by n e = shifted by (code_of (called (codes_behind (solved_in solves) [] before)) (solved_in solves) n e)
+abbrev pub code_among : List DefTree → ℕ → ℕ → ExprTree → CodeTree
+code_among before by n e = shifted by (code_of (called (codes_behind solve_of [] before)) solve_of n e)
 
-abbrev pub codes_among : List (ℕ × CodeTree) → List DefTree → ℕ → ℕ → ExprTrees → CodeTrees
-codes_among solves before by n es = all_shifted by (codes_of_all (called (codes_behind (solved_in solves) [] before)) (solved_in solves) n es)
+abbrev pub codes_among : List DefTree → ℕ → ℕ → ExprTrees → CodeTrees
+codes_among before by n es = all_shifted by (codes_of_all (called (codes_behind solve_of [] before)) solve_of n es)

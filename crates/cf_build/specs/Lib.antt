@@ -1,5 +1,7 @@
 pub mod Built
 pub mod Codes
+pub mod Known
+pub mod Marks
 pub mod Lowering
 pub mod Chooses
 pub mod Runs

@@ -1,6 +1,6 @@
 //! Building a target.
 ghost use Rattle.std.specs.Prelude.{◌≡◌, IfOk, OnOk, OnErr, map, All, []};
-ghost use Rattle.std.specs.List.Sorted.{IsStrictlyIncreasing};
+ghost use Rattle.std.specs.List.Sorted.{IsNonDecreasing};
 ghost use Rattle.cf_tree.specs.CodeView.{code_tree};
 ghost use Rattle.cf_tree.specs.DefView.{def_tree};
 ghost use Rattle.cf_tree.specs.ExprView.{expr_tree};
@@ -28,7 +28,8 @@ use std::alloc::Global;
 /// Where a pass finds no memory, its code stands, and the next one runs.
 ///
 /// # Errors
-/// The refused choose with the least number, with the first limit that it passes; or want of memory.
+/// The refused choose with the least number, of one number the first in the text, with the first
+/// limit that it passes; or want of memory.
 pub fn build(
     alloc: Global,
     typed: &Typed,
@@ -68,7 +69,7 @@ fn unfolded(
 ) -> Result<RawTarget, NoMemory>
     requires no_match { All (λ d. HasNoMatch (expr_tree d.body)) typed.now.defs.items }
     requires solved { AreSolved (by_number (all_chooses (map def_tree typed.now.defs.items))) solves.items }
-    requires rising { IsStrictlyIncreasing (map (λ s. s.choose.number) solves.items) }
+    requires rising { IsNonDecreasing (map (λ s. s.choose.number) solves.items) }
     ensures { IfOk result (IsBuilt (map def_tree typed.now.defs.items) typed.now.main [] []) }
 {
     let codes = choose_codes(alloc, solves)?;

@@ -6,8 +6,9 @@ ghost use Rattle.cf_tree.specs.ExprView.{expr_tree, expr_trees};
 ghost use Rattle.cf_program.specs.NoForm.{HasNoForm, HaveNoForm};
 ghost use Rattle.cf_program.specs.NoMatch.{HasNoMatch, HaveNoMatch};
 ghost use Rattle.cf_build.specs.Chooses.{chooses_in, chooses_in_all, all_chooses, by_number};
-ghost use Rattle.cf_build.specs.Solves.{chooses_of, IsTypedChoose, IsRising};
-ghost use Rattle.std.specs.List.Sorted.{IsNonDecreasingBy, IsPermutation};
+ghost use Rattle.cf_build.specs.Solves.{chooses_of, IsTypedChoose};
+ghost use Rattle.std.specs.List.Sorted.{IsNonDecreasing, IsNonDecreasingBy, IsPermutation, IsStableByKey};
+ghost use Rattle.std.specs.Ordering.{nat_cmp};
 
 use cf_program::Typed;
 use cf_tree::{
@@ -15,24 +16,27 @@ use cf_tree::{
 };
 use std::alloc::Global;
 
-/// The chooses of a program without matches in the order of their numbers.
+/// The chooses of a program without matches in the order of their numbers, those of one number in
+/// the order of the text.
 pub fn numbered<'a>(alloc: Global, typed: &'a Typed) -> Result<Vec<Choose<'a>>, NoMemory>
     requires { All (λ d. HasNoMatch (expr_tree d.body)) typed.now.defs.items }
     ensures chooses { IfOk result (λ chooses. map choose_tree chooses.items ≡ by_number (all_chooses (map def_tree typed.now.defs.items))) }
     ensures typed { IfOk result (λ chooses. All (λ c. IsTypedChoose (choose_tree c)) chooses.items) }
-    ensures rising { IfOk result (λ chooses. IsRising (map choose_tree chooses.items)) }
+    ensures rising { IfOk result (λ chooses. IsNonDecreasing (map (λ c. c.number) chooses.items)) }
 {
     let mut chooses = collect(alloc, typed.defs())?;
-    sort(&mut chooses);
+    sort(&mut chooses)?;
     Ok(chooses)
 }
 
-// Puts chooses in the order of their numbers.
-fn sort(chooses: &mut Vec<Choose<'_>>)
-    ensures order { IsNonDecreasingBy (λ c. c.number) chooses.new.items }
+// Puts chooses in the order of their numbers, and leaves those of one number in their order.
+fn sort(chooses: &mut Vec<Choose<'_>>) -> Result<(), NoMemory>
+    ensures order { OnOk result (IsNonDecreasingBy (λ c. c.number) chooses.new.items) }
     ensures same { IsPermutation chooses.old.items chooses.new.items }
+    ensures stable { IsStableByKey (λ c. c.number) nat_cmp chooses.old.items chooses.new.items }
 {
-    chooses.sort_unstable_by_key(|choose| choose.number);
+    chooses.sort_by_key(|choose| choose.number)?;
+    Ok(())
 }
 
 // The chooses of all functions, in the order of the text.

@@ -1,16 +1,19 @@
 //! The code of source expressions, in which calls are unfolded.
 
-ghost use Rattle.std.specs.Prelude.{◌≡◌, ◌+◌, ◌<◌, ◌^◌, ◌∷◌, [], IfOk, map, length};
+ghost use Rattle.std.specs.Prelude.{◌≡◌, ◌+◌, ◌<◌, ◌^◌, ◌∷◌, [], All, IfOk, map, length};
 ghost use Rattle.cf_tree.specs.CodeTree.{code_max, code_neg, code_var};
 ghost use Rattle.cf_tree.specs.CodeView.{code_tree, code_trees};
 ghost use Rattle.cf_tree.specs.DefView.{def_tree};
 ghost use Rattle.cf_tree.specs.ExprView.{expr_tree, expr_trees};
-ghost use Rattle.cf_build.specs.Codes.{two, over_list, over_one, binary_code, joined_code, call_code, called, choose_code, code_among, codes_among, codes_behind, numbered, solved_in};
+ghost use Rattle.cf_tree.specs.ChooseView.{choose_tree};
+ghost use Rattle.cf_build.specs.Chooses.{solve_of};
+ghost use Rattle.cf_build.specs.Codes.{two, over_list, over_one, binary_code, joined_code, call_code, called, code_among, codes_among, codes_behind};
+ghost use Rattle.cf_build.specs.Known.{IsKnown, AreKnown, AreAllKnown};
 ghost use Rattle.cf_shift.specs.Shifted.{shifted, HasLevels, HaveLevels, IsLevelled, AreLevelled};
 
 use crate::choose_codes::ChooseCodes;
 use cf_shift::{first_level, shift};
-use cf_tree::{BinOp, Code, Def, Expr, NoMemory, add_u32, to_u32};
+use cf_tree::{BinOp, Choose, Code, Def, Expr, NoMemory, add_u32, to_u32};
 use std::alloc::Global;
 
 // What the expressions of a function stand among: the functions before it, the codes of all
@@ -30,7 +33,8 @@ pub(crate) fn main_code(
     main: u32,
     solves: &ChooseCodes,
 ) -> Result<Code, NoMemory>
-    ensures code { IfOk result (λ c. code_tree c ≡ called (codes_behind (solved_in (map choose_code solves.now.codes.items)) [] (map def_tree defs.now)) main) }
+    requires { All (λ d. AreKnown solves.now.codes.items (expr_tree d.body)) defs.now }
+    ensures code { IfOk result (λ c. code_tree c ≡ called (codes_behind solve_of [] (map def_tree defs.now)) main) }
     ensures levels { IfOk result (λ c. HasLevels (code_tree c)) }
 {
     let around = Around {
@@ -45,7 +49,9 @@ pub(crate) fn main_code(
 // The code of an expression behind n variables of its function.
 #[cycle(code)]
 fn code(around: &Around, expr: &Expr, n: u32) -> Result<Code, NoMemory>
-    ensures { IfOk result (λ c. IsLevelled (code_among (map choose_code around.now.solves.now.codes.items) (map def_tree around.now.before.now)
+    requires here { AreKnown around.now.solves.now.codes.items (expr_tree expr.now) }
+    requires before { All (λ d. AreKnown around.now.solves.now.codes.items (expr_tree d.body)) around.now.before.now }
+    ensures { IfOk result (λ c. IsLevelled (code_among (map def_tree around.now.before.now)
         around.now.by n (expr_tree expr.now)) (code_tree c)) }
 {
     match expr {
@@ -97,7 +103,20 @@ fn code(around: &Around, expr: &Expr, n: u32) -> Result<Code, NoMemory>
             value: boxed(around, value, n)?,
             body: boxed(around, body, add_u32(n, *count)?)?,
         }),
-        Expr::Choose { number, .. } => solve_numbered(around, *number),
+        Expr::Choose {
+            number,
+            scope,
+            outputs,
+            rel,
+        } => solve(
+            around,
+            &Choose {
+                number: *number,
+                scope,
+                outputs,
+                rel,
+            },
+        ),
         // for the proof: none of these stands in a program that is built
         Expr::Chain { .. }
         | Expr::Min(_)
@@ -109,7 +128,9 @@ fn code(around: &Around, expr: &Expr, n: u32) -> Result<Code, NoMemory>
 
 #[cycle(code)]
 fn boxed(around: &Around, expr: &Expr, n: u32) -> Result<Box<Code>, NoMemory>
-    ensures { IfOk result (λ c. IsLevelled (code_among (map choose_code around.now.solves.now.codes.items) (map def_tree around.now.before.now)
+    requires here { AreKnown around.now.solves.now.codes.items (expr_tree expr.now) }
+    requires before { All (λ d. AreKnown around.now.solves.now.codes.items (expr_tree d.body)) around.now.before.now }
+    ensures { IfOk result (λ c. IsLevelled (code_among (map def_tree around.now.before.now)
         around.now.by n (expr_tree expr.now)) (code_tree c.value)) }
 {
     Ok(Box::new(around.alloc, code(around, expr, n)?)?)
@@ -117,7 +138,9 @@ fn boxed(around: &Around, expr: &Expr, n: u32) -> Result<Box<Code>, NoMemory>
 
 #[cycle(code)]
 fn all(around: &Around, exprs: &[Expr], n: u32) -> Result<Vec<Code>, NoMemory>
-    ensures { IfOk result (λ cs. AreLevelled (codes_among (map choose_code around.now.solves.now.codes.items) (map def_tree around.now.before.now)
+    requires here { AreAllKnown around.now.solves.now.codes.items (expr_trees exprs.now) }
+    requires before { All (λ d. AreKnown around.now.solves.now.codes.items (expr_tree d.body)) around.now.before.now }
+    ensures { IfOk result (λ cs. AreLevelled (codes_among (map def_tree around.now.before.now)
         around.now.by n (expr_trees exprs.now)) (code_trees cs.items)) }
 {
     let mut all = Vec::new(around.alloc);
@@ -130,8 +153,9 @@ fn all(around: &Around, exprs: &[Expr], n: u32) -> Result<Vec<Code>, NoMemory>
 // The body of function number `number`, called behind n variables.
 #[cycle(code)]
 fn callee(around: &Around, number: u32, n: u32) -> Result<Code, NoMemory>
+    requires { All (λ d. AreKnown around.now.solves.now.codes.items (expr_tree d.body)) around.now.before.now }
     ensures { IfOk result (λ c. IsLevelled (shifted (around.now.by + n)
-        (called (codes_behind (solved_in (map choose_code around.now.solves.now.codes.items)) [] (map def_tree around.now.before.now)) number)) (code_tree c)) }
+        (called (codes_behind solve_of [] (map def_tree around.now.before.now)) number)) (code_tree c)) }
 {
     match around.before.get(number as usize) {
         Some(def) => {
@@ -266,12 +290,11 @@ fn joined(mut codes: Vec<Code>) -> Code
     }
 }
 
-// The code of choose number `number` behind the variables of the callers.
-fn solve_numbered(around: &Around, number: u32) -> Result<Code, NoMemory>
-    ensures { IfOk result (λ c. IsLevelled (shifted around.now.by (numbered (map choose_code around.now.solves.now.codes.items) number)) (code_tree c)) }
+// The `solve` of a choose behind the variables of the callers.
+fn solve(around: &Around, choose: &Choose<'_>) -> Result<Code, NoMemory>
+    requires { IsKnown around.now.solves.now.codes.items (choose_tree choose.now) }
+    ensures { IfOk result (λ c. IsLevelled (shifted around.now.by (solve_of (choose_tree choose.now))) (code_tree c)) }
 {
-    match around.solves.find(number) {
-        Some(code) => shift(around.alloc, code, around.by),
-        None => Ok(Code::Tuple(Vec::new(around.alloc))),
-    }
+    let code = around.solves.find(around.alloc, choose)?;
+    shift(around.alloc, code, around.by)
 }

@@ -6,8 +6,8 @@ use std::alloc::{AllocError, AllocFailed};
 /// Why a program is not built.
 #[derive(Clone, Copy, Debug, PartialEq, Eq)]
 pub enum BuildFault {
-    /// The choose with this number passes a limit, and none with a smaller number does. The refusal is
-    /// the first limit that it passes.
+    /// A choose with this number passes a limit, and none with a smaller number does, nor one of
+    /// this number before it in the text. The refusal is the first limit that it passes.
     Choose { number: u32, refusal: Refusal },
     /// Memory ran out.
     NoMemory,

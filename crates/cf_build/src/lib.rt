@@ -7,6 +7,7 @@ mod chooses;
 mod codes;
 mod fault;
 mod rewrite;
+mod same;
 mod solves;
 
 ghost use Rattle.cf_build.specs.Lowering.{LoweringKeepsChooses};

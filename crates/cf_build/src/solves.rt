@@ -1,12 +1,12 @@
 //! Solving all chooses of a program.
 ghost use Rattle.std.specs.Prelude.{◌≡◌, ◌<◌, ◌^◌, [], ◌∷◌, IfOk, IfErr, map, All};
-ghost use Rattle.std.specs.List.Sorted.{IsStrictlyIncreasing};
+ghost use Rattle.std.specs.List.Sorted.{IsNonDecreasing};
 ghost use Rattle.cf_tree.specs.ChooseView.{choose_tree};
 ghost use Rattle.cf_tree.specs.DefView.{def_tree};
 ghost use Rattle.cf_tree.specs.ExprView.{expr_tree};
 ghost use Rattle.cf_program.specs.NoMatch.{HasNoMatch};
 ghost use Rattle.cf_build.specs.Chooses.{all_chooses, by_number};
-ghost use Rattle.cf_build.specs.Solves.{IsTypedChoose, IsRising, IsSolved, AreSolved, FaultAnswer};
+ghost use Rattle.cf_build.specs.Solves.{IsTypedChoose, IsSolved, AreSolved, IsFaultAmong, FaultAnswer};
 
 use crate::chooses::numbered;
 use crate::fault::BuildFault;
@@ -23,29 +23,29 @@ pub struct SolvedChoose<'a> {
 }
 
 /// The chooses of all functions of a program without matches, called or not, solved in the order of
-/// their numbers.
+/// their numbers, those of one number in the order of the text.
 ///
 /// # Errors
-/// The refused choose with the least number, with the first limit that it passes; or want of memory.
+/// The refused choose with the least number, of one number the first in the text, with the first
+/// limit that it passes; or want of memory.
 pub fn solve_all<'a>(alloc: Global, typed: &'a Typed) -> Result<Vec<SolvedChoose<'a>>, BuildFault>
     requires no_match { All (λ d. HasNoMatch (expr_tree d.body)) typed.now.defs.items }
     ensures solved { IfOk result (λ solves. AreSolved (by_number (all_chooses (map def_tree typed.now.defs.items))) solves.items) }
     ensures refused { IfErr result (FaultAnswer (all_chooses (map def_tree typed.now.defs.items))) }
-    ensures rising { IfOk result (λ solves. IsStrictlyIncreasing (map (λ s. s.choose.number) solves.items)) }
+    ensures rising { IfOk result (λ solves. IsNonDecreasing (map (λ s. s.choose.number) solves.items)) }
 {
     let chooses = numbered(alloc, typed)?;
     solve_each(alloc, &chooses)
 }
 
-// These chooses, whose numbers rise, solved in order, or the first of them that is refused.
+// These chooses solved in order, or the first of them that is refused.
 fn solve_each<'a>(
     alloc: Global,
     chooses: &[Choose<'a>],
 ) -> Result<Vec<SolvedChoose<'a>>, BuildFault>
-    requires typed { All (λ c. IsTypedChoose (choose_tree c)) chooses.now }
-    requires rising { IsRising (map choose_tree chooses.now) }
+    requires { All (λ c. IsTypedChoose (choose_tree c)) chooses.now }
     ensures solved { IfOk result (λ solves. AreSolved (map choose_tree chooses.now) solves.items) }
-    ensures refused { IfErr result (FaultAnswer (map choose_tree chooses.now)) }
+    ensures refused { IfErr result (IsFaultAmong (map choose_tree chooses.now)) }
 {
     let mut solves = Vec::new(alloc);
     for choose in chooses {
@@ -58,7 +58,7 @@ fn solve_each<'a>(
 fn solve_one<'a>(alloc: Global, choose: &Choose<'a>) -> Result<SolvedChoose<'a>, BuildFault>
     requires { IsTypedChoose (choose_tree choose.now) }
     ensures solved { IfOk result (IsSolved (choose_tree choose.now)) }
-    ensures refused { IfErr result (FaultAnswer (choose_tree choose.now ∷ [])) }
+    ensures refused { IfErr result (IsFaultAmong (choose_tree choose.now ∷ [])) }
 {
     let number = of_32_bits(choose.number);
     let scope = bases(alloc, choose.scope)?;

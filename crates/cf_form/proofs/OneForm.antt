@@ -4,9 +4,9 @@ use Rattle.std.specs.Prelude.{nat_le, Option}
 use Rattle.std.proofs.lemmas.Bool.Decides.{nat_tests}
 use Rattle.std.proofs.lemmas.List.Elements.{All-head, All-tail}
 use Rattle.cf_program.specs.Checked.{TypedTree}
-use Rattle.cf_program.specs.Size.{weights, depths}
+use Rattle.cf_program.specs.Size.{weights, depths, first_above}
 use Rattle.cf_program.specs.declared.linearity.Linearity.{Linearity}
-use Rattle.cf_form.specs.FormAnswers.{IsFormOf, IsUnformed, first_above}
+use Rattle.cf_form.specs.FormAnswers.{IsFormOf, IsUnformed}
 use Rattle.cf_form.specs.declared.fault.FormFault.{FormFault}
 use Rattle.cf_form.specs.declared.fault.FormFault.TheVariants as faults
 

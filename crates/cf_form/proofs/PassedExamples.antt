@@ -6,7 +6,14 @@ use Rattle.cf_tree.specs.ExprTree.{ExprTree, expr_abs, expr_binary, expr_card, e
 use Rattle.cf_tree.specs.declared.base.Order.TheVariants.{Eq, Le, Lt, Ne}
 use Rattle.cf_tree.specs.declared.raw.BinOp.TheVariants.{Add, And, Compare, Diff, Implies, Inter, Mul, Or, Sub, Subset, Union}
 use Rattle.cf_form.specs.Expansion.{wide_of}
-use Rattle.cf_form.specs.Passed.{passed}
+use Rattle.cf_form.specs.Passed.{above, passed}
+
+-- the limit
+limit_above : above 1024 ≡ None
+limit_above = refl
+
+limit_passed : above 1025 ≡ Some 1025
+limit_passed = refl
 
 -- parameters a, b, s, t, and outputs x, u, p, q
 abbrev bases : List Base
@@ -26,12 +33,19 @@ doubled e = expr_max (exprs_of (e ∷ e ∷ []))
 abbrev first : ExprTree → Option ℕ
 first e = passed (wide_of [] bases e)
 
--- min of eleven
+-- min of eleven: 1,024 alternatives
 abbrev within : ExprTree
 within = expr_binary (Compare Eq) (least_of 11) (expr_lit (pos 1))
 
 within_passed : first within ≡ None
 within_passed = refl
+
+-- one more than that
+abbrev past_by_one : ExprTree
+past_by_one = expr_binary (Compare Eq) (expr_if (expr_var 6) (least_of 11) (expr_lit (pos 1))) (expr_lit (pos 1))
+
+past_by_one_passed : first past_by_one ≡ Some 1025
+past_by_one_passed = refl
 
 -- min of twelve
 abbrev one_more : ExprTree

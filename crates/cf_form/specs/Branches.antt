@@ -1,5 +1,5 @@
 -- The branches of a choose: one for each choice of values of the truth variables of its scope that its wide relation holds, `true` first.
-use Rattle.std.specs.Prelude.{ℕ, suc, ◌==◌, pos, Bool, true, false, ◌&&◌, ◌||◌, Option, Some, None, if◌then◌else◌, List, [], ◌∷◌, ◌++◌, length, map, filter}
+use Rattle.std.specs.Prelude.{ℕ, suc, ◌==◌, pos, Bool, true, false, ◌||◌, Option, Some, None, if◌then◌else◌, List, [], ◌∷◌, ◌++◌, length, map, filter}
 use Rattle.std.specs.List.{range_with_len}
 use Rattle.cf_tree.specs.declared.base.Base.{Base}
 use Rattle.cf_tree.specs.declared.base.Base.TheVariants.{Int, Bool as Truth, Set}
@@ -10,7 +10,7 @@ use Rattle.cf_tree.specs.RelTree.{term_lit, term_var, RelTree, rel_true, rel_fal
 use Rattle.cf_form.specs.Alternatives.{all_of}
 use Rattle.cf_form.specs.Occurs.{rel_holds}
 use Rattle.cf_form.specs.Polarity.{Truths, holding}
-use Rattle.cf_form.specs.Wide.{WideTerm, WideRel, has_truth, some_has_truth, term_has_truth}
+use Rattle.cf_form.specs.Wide.{WideTerm, WideRel, has_truth, term_has_truth}
 
 -- a choose of a source behind expansion: its number, the variables in scope, the bases of the outputs that are given out and of the hidden ones, its condition
 -- if it has one, the whole relation with that, and the numbers that are to be least, the first before the others

@@ -1,26 +1,21 @@
 -- What forming answers, and what a formed program keeps.
-use Rattle.std.specs.Prelude.{ℕ, suc, nat_le, ◌≡◌, ◌⊎◌, if◌then◌else◌, Option, Some, None, Result, Ok, Err, List, [], ◌∷◌, map}
-use Rattle.std.specs.List.Sorted.{IsNonDecreasingBy}
+use Rattle.std.specs.Prelude.{◌≡◌, ◌⊎◌, Some, None, Result, Ok, Err, List, map}
 use Rattle.cf_tree.specs.DefView.{DefTree}
-use Rattle.cf_tree.specs.RelSize.{capped}
 use Rattle.cf_program.specs.Checked.{TypedTree}
 use Rattle.cf_program.specs.declared.linearity.Linearity.{Linearity}
+use Rattle.cf_program.specs.declared.linearity.Linearity.TheVariants.{Late}
 use Rattle.cf_program.specs.LateLinear.{IsLinearBy}
-use Rattle.cf_program.specs.Size.{weights, depths}
+use Rattle.cf_program.specs.Size.{weights, depths, first_above}
 use Rattle.cf_program.specs.Typed.{typed_tree}
 use Rattle.cf_program.specs.TypedProgram.{IsProgramBy}
 use Rattle.cf_form.specs.declared.fault.FormFault.{FormFault}
 use Rattle.cf_form.specs.declared.fault.FormFault.TheVariants as faults
 use Rattle.cf_form.specs.declared.formed.FormedParts.{FormedParts}
+use Rattle.cf_form.specs.declared.formed_late.FormedLateParts.{FormedLateParts}
 use Rattle.cf_form.specs.Formed.{formed_defs}
 use Rattle.cf_form.specs.Laws.{AllowTheSame}
 use Rattle.cf_form.specs.Told.{wide_chooses, first_passed, all_told}
 use Rattle.cf_form.specs.ToldView.{told_choose}
-
--- the first of these numbers that is above the limit, with its place in the list, where the first has place i
-abbrev pub first_above : ℕ → ℕ → List ℕ → Option (ℕ × ℕ)
-first_above limit i [] = None
-first_above limit i (n ∷ ns) = if nat_le n limit then first_above limit (suc i) ns else Some (i, capped n)
 
 -- no atom in a relation has too many alternatives
 abbrev pub AreNarrow : List DefTree → Type 0
@@ -44,11 +39,12 @@ IsUnformed defs (faults.Depth f depth) =
     AreNarrow defs × (first_above 1000000 0 (weights (formed_defs defs)) ≡ None) × (first_above 200 0 (depths (formed_defs defs)) ≡ Some (f, depth))
 IsUnformed defs faults.NoMemory = ⊥
 
--- the formed program, and what is told of the chooses of its source
+-- the formed program, and what is told of the chooses of its source, in the order of the text
 abbrev pub FormAnswer : Linearity → TypedTree → Result FormedParts FormFault → Type 0
 FormAnswer how source (Ok f) = IsFormOf how source (typed_tree f.typed) × (map told_choose f.chooses.items ≡ all_told source.defs)
 FormAnswer how source (Err e) = IsUnformed source.defs e ⊎ (e ≡ faults.NoMemory)
 
--- what is told of the chooses of its source is in the order of their numbers
-abbrev pub IsFormed : FormedParts → Type 0
-IsFormed f = IsNonDecreasingBy (λ c. c.number) f.chooses.items
+-- of a late program
+abbrev pub LateFormAnswer : TypedTree → Result FormedLateParts FormFault → Type 0
+LateFormAnswer source (Ok f) = IsFormOf Late source (typed_tree f.late) × (map told_choose f.chooses.items ≡ all_told source.defs)
+LateFormAnswer source (Err e) = IsUnformed source.defs e ⊎ (e ≡ faults.NoMemory)

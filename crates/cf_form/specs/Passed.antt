@@ -2,7 +2,6 @@
 -- the tests in it, and of an `if` in a form both branches before the test.
 use Rattle.std.specs.Prelude.{ℕ, ◌*◌, nat_le, Option, Some, None, if◌then◌else◌, List, [], ◌∷◌}
 use Rattle.cf_tree.specs.RelSize.{capped}
-use Rattle.cf_form.specs.declared.limits.TheConstants.{MOST_ALTERNATIVES}
 use Rattle.cf_form.specs.Alternatives.{set_count, term_count}
 use Rattle.cf_form.specs.Wide.{WideTerm, wide_lit, wide_var, wide_card, wide_neg, wide_add, wide_sub, wide_mul, wide_div, wide_mod, wide_abs, wide_if, wide_min, wide_max, WideTerms, no_wides, wide_more, WideSet, wide_empty, wide_set, wide_union, wide_inter, wide_diff, wide_if_set, WideRel, wide_true, wide_false, wide_truth, wide_compare, wide_same_set, wide_other_set, wide_subset, wide_divides, wide_not, wide_and, wide_or, wide_implies, wide_same, wide_other, wide_if_truth, wide_chain}
 
@@ -12,7 +11,7 @@ earlier None m = m
 
 -- the number of alternatives of an atom, where it is above the limit
 abbrev pub above : ℕ → Option ℕ
-above n = if nat_le n MOST_ALTERNATIVES then None else Some (capped n)
+above n = if nat_le n 1024 then None else Some (capped n)
 
 abbrev pub first_of : List (Option ℕ) → Option ℕ
 first_of [] = None

@@ -1,15 +1,15 @@
 //! Programs of edition 3 with the forms of language 2.
 #![tactic(auto)]
 
-ghost use Rattle.std.specs.Prelude.{◌≡◌, Err};
+ghost use Rattle.std.specs.Prelude.{◌≡◌};
 ghost use Rattle.cf_program.specs.Typed.{typed_tree};
 ghost use Rattle.cf_program.specs.declared.linearity.Linearity.TheVariants.{Plain};
-ghost use Rattle.cf_form.specs.declared.fault.FormFault.TheVariants as faults;
-ghost use Rattle.cf_form.specs.FormAnswers.{FormAnswer, IsFormed};
+ghost use Rattle.cf_form.specs.FormAnswers.{FormAnswer};
 
 use crate::fault::FormFault;
+use crate::made::make;
 use crate::told::ChooseInfo;
-use cf_program::{Source, Typed};
+use cf_program::{Source, Typed, TypedDefs};
 use std::alloc::Global;
 use std::marker::Model;
 
@@ -21,8 +21,8 @@ pub struct FormedParts {
 }
 
 /// A typed program with the forms of language 2 alone, and what is told of the chooses of the
-/// source that it was made of, in the order of their numbers. Contracts see the `FormedParts` that
-/// it was made of.
+/// source that it was made of, in the order of the text. Contracts see the `FormedParts` that it was
+/// made of.
 #[derive(Drop)]
 pub struct Formed {
     parts: FormedParts,
@@ -39,11 +39,7 @@ impl Model for Formed {
 
     ghost coded = { Prim.hlevel (codes, coded_expr.the_row.coded, coded_rel.the_row.coded) };
 
-    ghost use Rattle.cf_form.specs.FormAnswers.{IsFormed};
-
     ghost view = { λ f. f.parts };
-
-    ghost invariant = { λ f. IsFormed f.parts };
 }
 
 impl Formed {
@@ -63,10 +59,9 @@ impl Formed {
         parts.typed
     }
 
-    /// What is told of the chooses of the source, in the order of their numbers.
+    /// What is told of the chooses of the source, in the order of the text.
     pub fn chooses(&self) -> &[ChooseInfo]
-        ensures value { result.now ≡ self.now.chooses.items }
-        ensures formed { IsFormed self.now }
+        ensures { result.now ≡ self.now.chooses.items }
     {
         &self.parts.chooses
     }
@@ -76,16 +71,23 @@ impl Formed {
 ///
 /// # Errors
 /// `Cases` for the first choose with an atom of more than `MOST_ALTERNATIVES` alternatives; `Weight`
-/// and then `Depth` for the first formed function that passes these limits.
+/// and then `Depth` for the first formed function that passes these limits. A choose with an
+/// objective is read and not formed yet: for it the answer is want of memory.
 pub fn form(alloc: Global, source: &Source) -> Result<Formed, FormFault>
     ensures { FormAnswer Plain (typed_tree source.now) result }
 {
-    not_built(source, alloc)
-}
-
-// Stands for a body that is not written yet.
-fn not_built(_source: &Source, _alloc: Global) -> Result<Formed, FormFault>
-    ensures { result ≡ Err faults.NoMemory }
-{
-    Err(FormFault::NoMemory)
+    match make(alloc, source.defs()) {
+        Ok(made) => {
+            let main = source.main();
+            let typed = Typed::new(TypedDefs {
+                defs: made.defs,
+                main,
+            });
+            let chooses = made.chooses;
+            Ok(Formed {
+                parts: FormedParts { typed, chooses },
+            })
+        }
+        Err(fault) => Err(fault),
+    }
 }

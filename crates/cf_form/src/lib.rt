@@ -2,15 +2,38 @@
 //! greatest numbers and truth values, and chains and implications in ordinary code.
 #![tactic(auto)]
 
+mod alternatives;
+mod atoms;
+mod best;
+mod branch;
+mod chains;
+mod choose;
+mod chooses;
+mod copies;
+mod copy;
+mod count;
+mod expansion;
 mod fault;
 mod formed;
+mod formed_late;
+mod forming;
+mod guarded;
+mod join;
 mod limits;
+mod made;
+mod occurs;
+mod plain;
+mod polarity;
+mod telling;
 mod told;
+mod truths;
+mod wide;
 
 ghost use Rattle.cf_form.specs.Laws.{FormingAllowsTheSame, FormingKeepsTypes, FormsToItself};
 
 pub use crate::fault::FormFault;
 pub use crate::formed::{Formed, FormedParts, form};
+pub use crate::formed_late::{FormedLate, FormedLateParts, form_late};
 pub use crate::limits::MOST_ALTERNATIVES;
 pub use crate::told::{Branch, ChooseInfo, TruthAt};
 

@@ -1,9 +1,6 @@
 -- A lowered form has the numbers of its expression, each as often.
-use Rattle.std.proofs.Common.{◌≡◌, ℕ, zero, suc, ◌-◌, ◌+◌, ◌≤◌, ◌<◌, nat_eq, Bool, true, false, cond, ℤ, List, [], ◌∷◌, ◌++◌, length, All, refl, ap, sym, ◌∙◌, arith}
-use Rattle.std.proofs.lemmas.Bool.{eqb-true}
-use Rattle.std.proofs.lemmas.Bool.Decides.{nat_tests}
+use Rattle.std.proofs.Common.{◌≡◌, ℕ, zero, suc, ◌-◌, ◌+◌, ◌≤◌, ◌<◌, nat_eq, false, cond, ℤ, List, [], ◌∷◌, ◌++◌, length, All, refl, ap, sym, ◌∙◌, arith}
 use Rattle.std.proofs.lemmas.List.Elements.{All-nil, All-cons, All-head, All-tail}
-use Rattle.std.specs.List.{IsDistinct, AllByRecursion}
 use Rattle.cf_tree.specs.declared.raw.BinOp.TheVariants.{Or}
 use Rattle.cf_tree.specs.declared.raw.Param.{Param}
 use Rattle.cf_tree.specs.ExprTree.{ExprTree, expr_lit, expr_truth, expr_var, expr_set_of, expr_tuple, expr_neg, expr_not, expr_abs, expr_binary, expr_chain, expr_min, expr_max, expr_divides, expr_div, expr_mod, expr_card, expr_if, expr_call, expr_let, expr_choose, expr_choose_where, expr_match, ExprTrees, no_exprs, expr_more, match_arm, MatchArmTrees, no_match_arms, match_arm_more}
@@ -107,55 +104,9 @@ module _ (c : ℕ) where
         (picked_numbers x scope arms))
         (with_variables_numbers m x scope factors k (lowered body)) (lowered_numbers body)
 
--- ---- distinct and positive numbers, by their counts
+-- ---- positive numbers, by their counts
 apart : (j i : ℕ) → j < i → nat_eq j i ≡ false
 apart j i h = grind arith
-
-none_among : (k : ℕ) (ns : List ℕ) → times k ns ≡ 0 → AllByRecursion (λ y. nat_eq k y ≡ false) ns
-none_among k [] h = tt
-none_among k (n ∷ ns) h = by (nat_eq k n) refl h (none_among k ns)
-  where
-    by : (b : Bool) → nat_eq k n ≡ b → cond b 1 0 + times k ns ≡ 0 → (times k ns ≡ 0 → AllByRecursion (λ y. nat_eq k y ≡ false) ns) →
-        AllByRecursion (λ y. nat_eq k y ≡ false) (n ∷ ns)
-    by true e g rest = absurd (omega (arith, g))
-    by false e g rest = (e, rest (omega (arith, g)))
-
-among_none : (k : ℕ) (ns : List ℕ) → AllByRecursion (λ y. nat_eq k y ≡ false) ns → times k ns ≡ 0
-among_none k [] h = refl
-among_none k (n ∷ ns) h = rw h.0 (omega (arith, among_none k ns h.1))
-
-same_number : (k : ℕ) → nat_eq k k ≡ true
-same_number k = grind (arith, nat_tests)
-
-abbrev pub AreOnce : List ℕ → Type 0
-AreOnce ns = (k : ℕ) → times k ns ≤ 1
-
-at_most_one : (k n : ℕ) (ns : List ℕ) (b : Bool) → nat_eq k n ≡ b → times n ns ≡ 0 → times k ns ≤ 1 → cond b 1 0 + times k ns ≤ 1
-at_most_one k n ns true e none once =
-    let same : k ≡ n = eqb-true k n e in
-    let here : times k ns ≡ 0 = ap (λ m. times m ns) same ∙ none in omega (arith, here)
-at_most_one k n ns false e none once = omega (arith, once)
-
-pub distinct_once : (ns : List ℕ) → IsDistinct nat_eq ns → AreOnce ns
-unfolding IsDistinct
-distinct_once [] h k = omega arith
-distinct_once (n ∷ ns) h k = at_most_one k n ns (nat_eq k n) refl (among_none n ns h.0) (distinct_once ns h.1 k)
-
-none_later : (n : ℕ) (ns : List ℕ) → times n (n ∷ ns) ≤ 1 → times n ns ≡ 0
-none_later n ns h = by (nat_eq n n) (same_number n) h
-  where
-    by : (b : Bool) → b ≡ true → cond b 1 0 + times n ns ≤ 1 → times n ns ≡ 0
-    by true e g = omega (arith, g)
-    by false e g = cc
-
-once_rest : (k n : ℕ) (ns : List ℕ) (b : Bool) → cond b 1 0 + times k ns ≤ 1 → times k ns ≤ 1
-once_rest k n ns true h = omega (arith, h)
-once_rest k n ns false h = omega (arith, h)
-
-pub once_distinct : (ns : List ℕ) → AreOnce ns → IsDistinct nat_eq ns
-unfolding IsDistinct
-once_distinct [] h = tt
-once_distinct (n ∷ ns) h = (none_among n ns (none_later n ns (h n)), once_distinct ns (λ k. once_rest k n ns (nat_eq k n) (h k)))
 
 zero_apart : (n : ℕ) (ns : List ℕ) → times 0 (suc n ∷ ns) ≡ times 0 ns
 zero_apart n ns = rw (apart 0 (suc n) (omega arith)) (omega arith)

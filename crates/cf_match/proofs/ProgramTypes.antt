@@ -15,7 +15,7 @@ use Rattle.cf_match.specs.Laws.{LoweringKeepsTypes, LoweringLeavesNoMatch}
 use Rattle.cf_program.specs.NoMatch.{HasNoMatch}
 use Rattle.cf_match.proofs.NoFormLaws.{lowered_formed}
 use Rattle.cf_match.proofs.NoMatchLaws.{lowered_none, lowered_again}
-use Rattle.cf_match.proofs.NumberLaws.{times, pairs, lowered_numbers, distinct_once, once_distinct, positive_none, none_positive}
+use Rattle.cf_match.proofs.NumberLaws.{times, pairs, lowered_numbers, positive_none, none_positive}
 use Rattle.cf_match.proofs.ProgramLaws.{IsFormed, AreFormed, turned_formed}
 use Rattle.cf_match.proofs.TypedLaws.{lowered_typed}
 
@@ -81,7 +81,6 @@ lowering_keeps_types defs main t = record {
   functions = subst AreDistinct (sym (same_names defs)) t.functions;
   params = All-map (λ d. AreDistinct (names_of d.params)) lowered_def defs t.params;
   has_main = (lowered_def t.has_main.0, main_kept defs main t.has_main.0 t.has_main.1, t.has_main.2);
-  distinct = once_distinct (all_numbers (map lowered_def defs)) (λ k. rw (all_times k defs) (distinct_once (all_numbers defs) t.distinct k));
   positive = none_positive (all_numbers (map lowered_def defs)) (all_times 0 defs ∙ positive_none (all_numbers defs) t.positive);
   formed = defs_formed defs t.formed;
   light = subst (λ ns. All (λ n. n ≤ 1000000) ns) (sym (measured_same weight_in [] defs)) t.light;

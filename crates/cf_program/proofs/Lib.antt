@@ -1,7 +1,11 @@
 mod BaseLaws
+mod ConstantExamples
 mod ConstantLaws
+mod CountedLaws
+mod DivisorLaws
 pub mod EditionExamples
 mod FormExamples
+mod FoundExamples
 mod HeldLaws
 pub mod Kept
 pub mod LanguageTwo
@@ -18,6 +22,7 @@ pub mod ProgramLaws
 mod ReadsLaws
 mod Rising
 pub mod RuleExamples
+pub mod SizeLemmas
 mod SomeLaws
 mod SourceExamples
 mod SpelledExamples

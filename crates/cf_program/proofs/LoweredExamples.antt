@@ -12,7 +12,7 @@ use Rattle.cf_tree.specs.RelTree.{term_lit, term_var, term_add, term_mul, rel_fa
 use Rattle.cf_program.specs.declared.fault.TypeFault.TheVariants.{Weight, Depth}
 use Rattle.cf_program.specs.Checked.{TypedTree, size_fault, sized}
 use Rattle.cf_program.specs.Lowered.{lowered}
-use Rattle.cf_program.specs.Size.{weight_in, depth_in, weights, depths}
+use Rattle.cf_program.specs.Size.{weight_in, depth_in, weights, depths, first_above}
 
 abbrev at : ℕ → Place
 at column = record { line = 1; column = column }
@@ -162,7 +162,11 @@ measures-calls : (weights (def x ∷ def (call 0) ∷ def (expr_binary Add (call
     × (depths (def x ∷ def (call 0) ∷ def (expr_binary Add (call 0) (call 1)) ∷ []) ≡ 2 ∷ 3 ∷ 5 ∷ [])
 measures-calls = (refl, refl)
 
--- the first count that passes the limit is told, and stands still at 2^64 - 1
+-- the first count that passes the limit is told with its place, and stands still at 2^64 - 1
+first_is : (first_above 200 0 (200 ∷ 201 ∷ 202 ∷ []) ≡ Some (1, 201)) × (first_above 200 0 (200 ∷ []) ≡ None)
+    × (first_above 200 0 (7 ∷ 2 ^ 70 ∷ []) ≡ Some (1, 2 ^ 64 - 1))
+first_is = (refl, refl, refl)
+
 first_over : (size_fault 200 Depth (200 ∷ 201 ∷ 202 ∷ []) ≡ Some (Depth 201)) × (size_fault 200 Depth (200 ∷ []) ≡ None)
     × (size_fault 200 Weight (2 ^ 70 ∷ []) ≡ Some (Weight (2 ^ 64 - 1)))
 first_over = (refl, refl, refl)

@@ -1,7 +1,6 @@
 -- A program in which no rule is broken keeps its facts.
-use Rattle.std.proofs.Common.{◌≡◌, ℕ, zero, suc, ◌+◌, ◌≤◌, ◌<◌, Bool, true, false, ◌==◌, nat_le, nat_lt, List, [], ◌∷◌, ◌++◌, length, map, reverse, slice_get, codes, Option, Some, None, Ok, All, MatchBool, ◌⊎◌, inl, inr, refl, sym, ◌∙◌, ap, subst, cond, arith, not}
+use Rattle.std.proofs.Common.{◌≡◌, ℕ, zero, suc, ◌+◌, ◌≤◌, ◌<◌, Bool, true, false, ◌==◌, nat_lt, List, [], ◌∷◌, ◌++◌, length, map, reverse, slice_get, codes, Option, Some, None, option_map, Ok, All, MatchBool, ◌⊎◌, inl, inr, refl, sym, ◌∙◌, ap, subst, cond, arith, not}
 use Rattle.std.proofs.lemmas.Bool.{eqb-true, eq-eqb, ltb-true}
-use Rattle.std.proofs.lemmas.Bool.Decides.{nat_tests}
 use Rattle.std.proofs.lemmas.List.{append_assoc, append-nil, length-append, length-map, reverse-append, length-reverse}
 use Rattle.std.proofs.lemmas.List.Elements.{All-nil, All-cons, All-head, All-tail, All-push}
 use Rattle.std.proofs.lemmas.Slice.Eq.{bytes_eq-Decides}
@@ -15,7 +14,6 @@ use Rattle.cf_tree.specs.declared.base.Place.{Place}
 use Rattle.cf_tree.specs.declared.raw.Param.{Param}
 use Rattle.cf_tree.specs.DefView.{RawDefTree, DefTree, RawItemTree, item_const, item_def}
 use Rattle.cf_tree.specs.RawTree.{RawTree}
-use Rattle.cf_tree.specs.RelSize.{capped}
 use Rattle.cf_program.specs.declared.fault.TypeFault.{TypeFault}
 use Rattle.cf_program.specs.declared.fault.TypeFault.TheVariants.{Weight, Depth}
 use Rattle.cf_program.specs.declared.linearity.Linearity.{Linearity}
@@ -30,7 +28,7 @@ use Rattle.cf_program.specs.Names.{Callee, callee, callee_from, is_among, repeat
 use Rattle.cf_program.specs.NoForm.{HasNoForm}
 use Rattle.cf_tree.specs.Params.{bases_of, names_of}
 use Rattle.cf_tree.specs.Bases.{same_bases}
-use Rattle.cf_program.specs.Size.{weights, depths}
+use Rattle.cf_program.specs.Size.{weights, depths, first_above}
 use Rattle.cf_program.specs.Source.{IsSpelledDef, IsSpelledItem, IsSpelledProgram}
 use Rattle.cf_program.specs.TypedProgram.{numbers, all_numbers, Takes, AreTypedDefsBy, IsProgramBy}
 use Rattle.cf_program.specs.TypedSource.{IsSourceBy}
@@ -43,6 +41,7 @@ use Rattle.cf_program.proofs.LinearLaws.{Tame, walk_tame}
 use Rattle.cf_program.proofs.NameLaws.{either, not_true, DefsDiffer, items_named, program_named}
 use Rattle.cf_program.proofs.PatternLaws.{AreWithin}
 use Rattle.cf_program.proofs.Rising.{Rising, rising_le, rising_append, rising_distinct, rising_above}
+use Rattle.cf_program.proofs.SizeLemmas.{above_kept}
 use Rattle.cf_program.proofs.SomeLaws.{takes_some}
 use Rattle.cf_program.proofs.WalkLaws.{ExprHas, Knows, Sound, Good, walk_good}
 
@@ -392,13 +391,11 @@ main_found i (d ∷ ds) m e = by (bytes_eq d.name (codes "main")) refl (main_fou
     by false q rest h = let f : IsMain ds (suc i) m = rest h in (suc f.0, f.1, omega (arith, f.2), f.3, f.4)
 
 sizes_kept : (limit : ℕ) (fault : ℕ → TypeFault) (ns : List ℕ) → size_fault limit fault ns ≡ None → All (λ n. n ≤ limit) ns
-sizes_kept limit fault [] e = All-nil (λ n. n ≤ limit)
-sizes_kept limit fault (n ∷ ns) e = by (nat_le n limit) refl (sizes_kept limit fault ns) e
+sizes_kept limit fault ns e = by (first_above limit 0 ns) refl e
   where
-    by : (b : Bool) → nat_le n limit ≡ b → (size_fault limit fault ns ≡ None → All (λ m. m ≤ limit) ns) → cond b (size_fault limit fault ns) (Some (fault
-        (capped n))) ≡ None → All (λ m. m ≤ limit) (n ∷ ns)
-    by true q rest h = All-cons (λ m. m ≤ limit) n ns (grind (arith, nat_tests)) (rest h)
-    by false q rest h = cc
+    by : (o : Option (ℕ × ℕ)) → first_above limit 0 ns ≡ o → option_map (λ p. fault p.1) o ≡ None → All (λ n. n ≤ limit) ns
+    by None is h = above_kept limit 0 ns is
+    by (Some p) is h = cc
 
 -- a walked program with its number of `main`
 pub record GoodTree (edition : Edition) (how : Linearity) (t : TypedTree) : Type 0 where
@@ -436,7 +433,6 @@ sized_good how t g =
       functions = g.source.functions;
       params = g.source.params;
       has_main = g.source.has_main;
-      distinct = g.source.distinct;
       positive = g.source.positive;
       formed = g.formed refl;
       light = sizes_kept 1000000 Weight (weights t.defs) light;

@@ -1,11 +1,10 @@
 -- The rules over a whole program: the program with levels in the place of names, or the first rule that it breaks.
-use Rattle.std.specs.Prelude.{ℕ, suc, not, nat_le, List, [], ◌∷◌, ◌++◌, length, map, reverse, codes, Option, Some, None, Result, Ok, Err, if◌then◌else◌}
+use Rattle.std.specs.Prelude.{ℕ, suc, not, List, [], ◌∷◌, ◌++◌, length, map, reverse, codes, Option, Some, None, option_map, Result, Ok, Err, if◌then◌else◌}
 use Rattle.std.specs.Str.{bytes_eq}
 use Rattle.cf_tree.specs.declared.base.Base.TheVariants.{Int}
 use Rattle.cf_tree.specs.declared.base.Place.{Place}
 use Rattle.cf_tree.specs.DefView.{RawDefTree, DefTree, RawItemTree, item_const, item_def}
 use Rattle.cf_tree.specs.RawTree.{RawTree, place_of}
-use Rattle.cf_tree.specs.RelSize.{capped}
 use Rattle.cf_tree.specs.declared.base.Edition.{Edition}
 use Rattle.cf_program.specs.declared.fault.TypeFault.{TypeFault}
 use Rattle.cf_program.specs.declared.linearity.Linearity.{Linearity}
@@ -14,7 +13,7 @@ use Rattle.cf_program.specs.Constants.{Constant, constant_names, value}
 use Rattle.cf_program.specs.Names.{is_among, repeated, callee_from}
 use Rattle.cf_tree.specs.Params.{names_of}
 use Rattle.cf_tree.specs.Bases.{same_bases}
-use Rattle.cf_program.specs.Size.{weights, depths}
+use Rattle.cf_program.specs.Size.{weights, depths, first_above}
 use Rattle.cf_program.specs.Then.{◌>>=◌}
 use Rattle.cf_program.specs.Walk.{by_edition, where_kept, where_no_fault, where_none_repeated, is_one, Form, behind, walk}
 
@@ -64,10 +63,9 @@ abbrev pub main_from : ℕ → List RawDefTree → Option ℕ
 main_from i [] = None
 main_from i (d ∷ ds) = if bytes_eq d.name (codes "main") then Some i else main_from (suc i) ds
 
--- the fault of the first count that passes the limit; a count stands still at 2^64 - 1
+-- the fault of the first count that passes the limit
 abbrev pub size_fault : ℕ → (ℕ → TypeFault) → List ℕ → Option TypeFault
-size_fault limit fault [] = None
-size_fault limit fault (n ∷ ns) = if nat_le n limit then size_fault limit fault ns else Some (fault (capped n))
+size_fault limit fault ns = option_map (λ p. fault p.1) (first_above limit 0 ns)
 
 -- weights come after all functions and `main`, and depths after all weights
 abbrev pub sized : TypedTree → Result TypedTree TypeFault

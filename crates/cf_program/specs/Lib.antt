@@ -1,5 +1,6 @@
 pub mod Checked
 pub mod Constants
+pub mod Counted
 pub mod DistinctNames
 pub mod CheckAnswers
 pub mod LateLinear

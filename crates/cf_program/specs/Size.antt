@@ -1,8 +1,9 @@
 -- The weights and the unfolded depths of functions: those of their lowered forms, where a call counts the called function too.
-use Rattle.std.specs.Prelude.{ℕ, ◌+◌, max, List, [], ◌∷◌, ◌++◌, slice_index}
+use Rattle.std.specs.Prelude.{ℕ, suc, ◌+◌, max, nat_le, if◌then◌else◌, List, [], ◌∷◌, ◌++◌, slice_index, Option, Some, None}
 use Rattle.cf_tree.specs.DefView.{DefTree}
 use Rattle.cf_tree.specs.ExprTree.{ExprTree, expr_lit, expr_truth, expr_var, expr_set_of, expr_tuple, expr_neg, expr_not, expr_abs, expr_binary, expr_chain, expr_min, expr_max, expr_divides, expr_div, expr_mod, expr_card, expr_if, expr_call, expr_let, expr_choose, expr_choose_where, expr_match, ExprTrees, no_exprs, expr_more}
-use Rattle.cf_tree.specs.RelSize.{rel_size, rel_depth}
+use Rattle.cf_tree.specs.RelSize.{capped, rel_size, rel_depth}
+use Rattle.cf_program.specs.declared.size.Passed.{Passed}
 use Rattle.cf_program.specs.Lowered.{lowered}
 
 -- how many nodes an expression without matches and without the forms of `HasNoForm` has, with those of called functions
@@ -76,3 +77,11 @@ weights defs = measured weight_in [] defs
 
 abbrev pub depths : List DefTree → List ℕ
 depths defs = measured depth_in [] defs
+
+-- the first of these numbers that passes the limit, with its place in the list, where the first has place i; a number stands still at 2^64 - 1
+abbrev pub first_above : ℕ → ℕ → List ℕ → Option (ℕ × ℕ)
+first_above limit i [] = None
+first_above limit i (n ∷ ns) = if nat_le n limit then first_above limit (suc i) ns else Some (i, capped n)
+
+abbrev pub passed_at : Passed → ℕ × ℕ
+passed_at p = (p.function, p.size)

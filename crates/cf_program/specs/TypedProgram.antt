@@ -1,6 +1,5 @@
 -- What every program keeps in which no rule is broken, as a fact about its functions with levels.
-use Rattle.std.specs.Prelude.{ℕ, ℤ, ◌≤◌, ◌≡◌, ◌==◌, nat_eq, List, [], ◌∷◌, ◌++◌, length, map, reverse, slice_get, codes, Option, Some, None, All, MatchBool}
-use Rattle.std.specs.List.{IsDistinct}
+use Rattle.std.specs.Prelude.{ℕ, ℤ, ◌≤◌, ◌≡◌, ◌==◌, List, [], ◌∷◌, ◌++◌, length, map, reverse, slice_get, codes, Option, Some, None, All, MatchBool}
 use Rattle.cf_num.specs.Limit.{IsWithin}
 use Rattle.cf_tree.specs.declared.base.Base.{Base}
 use Rattle.cf_tree.specs.declared.base.Base.TheVariants.{Int, Bool as Truth, Set}
@@ -181,13 +180,12 @@ abbrev pub AreTypedDefsBy : LinearBehind → List DefTree → Type 0
 AreTypedDefsBy linear [] = Unit {0}
 AreTypedDefsBy linear (d ∷ earlier) = IsTypedDefBy linear earlier d × AreTypedDefsBy linear earlier
 
--- functions in the order of the text, with the number of `main`
+-- functions in the order of the text, with the number of `main`; several chooses may have one number, as the branches of one choose of edition 3 do
 pub record IsProgramBy (linear : LinearBehind) (defs : List DefTree) (main : ℕ) : Type 0 where
   pub typed : AreTypedDefsBy linear (reverse defs)
   pub functions : AreDistinct (map (λ d. d.name) defs)
   pub params : All (λ d. AreDistinct (names_of d.params)) defs
   pub has_main : (d : DefTree) × (slice_get defs main ≡ Some d) × (d.name ≡ codes "main")
-  pub distinct : IsDistinct nat_eq (all_numbers defs)
   pub positive : All (λ n. 1 ≤ n) (all_numbers defs)
   pub formed : All (λ d. HasNoForm d.body) defs
   pub light : All (λ n. n ≤ 1000000) (weights defs)

@@ -3,6 +3,7 @@
 
 mod fault;
 mod linearity;
+mod size;
 mod source;
 mod typed;
 mod variable;
@@ -11,6 +12,7 @@ ghost use Rattle.cf_program.specs.Laws.{RulesKeepNames, RulesKeepSources, RulesK
 
 pub use crate::fault::TypeFault;
 pub use crate::linearity::Linearity;
+pub use crate::size::{Passed, first_too_deep, first_too_heavy};
 pub use crate::source::{LateSource, Source};
 pub use crate::typed::{Late, Typed, TypedDefs};
 pub use crate::variable::Variable;

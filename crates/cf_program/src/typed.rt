@@ -13,9 +13,10 @@ pub struct TypedDefs {
 }
 
 /// A program in which no rule is broken: its bodies have the types that are declared and call only
-/// earlier functions, its relations are linear, its numbers of chooses differ, the names of its
+/// earlier functions, its relations are linear, its chooses have numbers from 1 on, the names of its
 /// functions differ and so do those of the parameters of each, and it passes no limit of weight or
-/// depth. Contracts see the `TypedDefs` that it was made of.
+/// depth. Several chooses may have one number: the branches of one choose of edition 3. Contracts
+/// see the `TypedDefs` that it was made of.
 #[derive(Drop)]
 pub struct Typed {
     program: TypedDefs,

@@ -1,5 +1,5 @@
 -- Steps of the walk through the declarations of a program, and through a choose.
-use Rattle.std.proofs.Common.{◌≡◌, ◌<◌, ◌≤◌, ℕ, false, List, [], ◌∷◌, ◌++◌, ◌+◌, map, length, take, drop, get_or, reverse, None, Result, Ok, Err, refl, sym, ap, ap₂, subst, ◌∙◌, arith}
+use Rattle.std.proofs.Common.{◌≡◌, ◌<◌, ◌≤◌, ℕ, Bool, true, false, List, [], ◌∷◌, ◌++◌, ◌+◌, map, length, take, drop, get_or, reverse, Option, Some, None, Result, Ok, Err, refl, sym, ap, ap₂, subst, ◌∙◌, arith}
 use Rattle.std.proofs.lemmas.List.{append-nil, drop_more, length-append, map-append, take_more, take-append-drop}
 use Rattle.std.proofs.Math.Seq.{take-append_seam}
 use Rattle.cf_tree.specs.declared.base.Edition.{Edition}
@@ -9,6 +9,7 @@ use Rattle.cf_tree.specs.declared.raw.RawItem.{RawItem}
 use Rattle.cf_tree.specs.declared.raw.RawItem.TheVariants.{Const, Def as Function}
 use Rattle.cf_tree.specs.declared.base.Place.{Place}
 use Rattle.cf_tree.specs.declared.raw.Param.{Param}
+use Rattle.cf_tree.specs.declared.base.Base.TheVariants.{Bool as Truth}
 use Rattle.cf_tree.specs.Bases.{same_bases}
 use Rattle.cf_tree.specs.DefView.{RawDefTree, DefTree, RawItemTree, item_const, item_def, raw_def_tree, raw_item_tree}
 use Rattle.cf_tree.specs.RawView.{raw_tree}
@@ -22,7 +23,9 @@ use Rattle.cf_program.specs.Constants.{Constant, constant_names}
 use Rattle.cf_program.specs.Names.{callee_from, is_among, repeated}
 use Rattle.cf_tree.specs.Params.{names_of}
 use Rattle.cf_program.specs.Then.{◌>>=◌}
-use Rattle.cf_program.specs.Walk.{by_edition, where_kept, where_no_fault, Context, Form, behind, taken, in_relation, output_fault, choose_form, choose_part, walk}
+use Rattle.cf_program.specs.Linear.{Found, linear, bends, found_in, in_choose}
+use Rattle.cf_program.specs.Walk.{by_edition, where_kept, where_no_fault, where_linear, is_one, Context, Form, GivenForm, behind, taken, takes_inputs, in_relation, output_fault, choose_form, choose_part, choose_where_form, walk, walk_given, walk_aim}
+use Rattle.cf_type.specs.FormParts.{related, walk_choose_where}
 use Rattle.cf_type.specs.declared.form.Form.{Form as DeclaredForm}
 use Rattle.cf_type.specs.FormView.{form_of}
 use Rattle.cf_type.specs.Walked.{functions_in, Walked, with_constants, with_function, walk_item, functions_to}
@@ -41,6 +44,59 @@ pub choose_answer : (context : Context) (scope : List Param) (n : ℕ) (p : Plac
 choose_answer context scope n p outputs hidden g r aim raw told two is h =
     subst (λ x. CheckAnswer form_of told (walk context scope n x)) (sym is)
     (subst (λ x. CheckAnswer form_of told x) (of_two context.edition _ _ two) h)
+
+of_three : {A : Type 0} (edition : Edition) (two three : A) → edition ≡ Three → three ≡ by_edition edition two three
+of_three Three two three h = refl
+of_three Two two three h = cc
+
+-- a walk that is checked, in one piece or in two
+checked_apart : {A : Type 0} (r : Result Form TypeFault) (test : Form → Bool) (fault : TypeFault) (found : Found) (go : Form → Result A TypeFault) →
+    (r >>= λ f. where_kept (test f) fault (where_linear found (go f))) ≡ (r >>= (λ f. where_kept (test f) fault (where_linear found (Ok f))) >>= go)
+checked_apart (Err e) test fault found go = refl
+checked_apart (Ok f) test fault found go = by (test f) found
+  where
+    by : (b : Bool) (found : Found) → where_kept b fault (where_linear found (go f)) ≡ (where_kept b fault (where_linear found (Ok f)) >>= go)
+    by false found = refl
+    by true (linear hs) = refl
+    by true (bends p c) = refl
+
+-- what follows in two ways that are the same
+then_same : {A B : Type 0} (r : Result A TypeFault) (f g : A → Result B TypeFault) → ((x : A) → f x ≡ g x) → (r >>= f) ≡ (r >>= g)
+then_same (Ok x) f g h = h x
+then_same (Err e) f g h = refl
+
+no_fault_apart : {A B : Type 0} (o : Option TypeFault) (x : A) (go : A → Result B TypeFault) → where_no_fault o (go x) ≡ (where_no_fault o (Ok x) >>= go)
+no_fault_apart None x go = refl
+no_fault_apart (Some e) x go = refl
+
+-- the objective of a choose and the whole, behind what is given and the relation
+abbrev walk_last : Context → List Param → ℕ → Place → List Param → List Param → List Param → AimTree → GivenForm → Form → Result Form TypeFault
+walk_last context scope n p outputs hidden all aim given f =
+    walk_aim context scope all f.next aim >>= choose_where_form p n scope outputs hidden given.tree f.tree
+
+-- its parts, over all its outputs
+abbrev walk_parts : Context → List Param → ℕ → Place → List Param → List Param → GivenTree → RawTree → AimTree → List Param → Result Form TypeFault
+walk_parts context scope n p outputs hidden g r aim all =
+    walk_given context scope (n + 1) g >>= λ given.
+    walk context (scope ++ all) given.next r >>= related context scope all p r >>= walk_last context scope n p outputs hidden all aim given
+
+-- the answer to a choose of edition 3, under the name of its tree
+pub choose_where_answer : (context : Context) (scope : List Param) (n : ℕ) (p : Place) (outputs hidden : List Param) (g : GivenTree) (r : RawTree) (aim : AimTree)
+    (raw : RawTree) (told : Result DeclaredForm TypeFault) → context.edition ≡ Three → raw ≡ raw_choose p outputs hidden g r aim →
+    CheckAnswer form_of told (walk_choose_where context scope n raw) → CheckAnswer form_of told (walk context scope n raw)
+choose_where_answer context scope n p outputs hidden g r aim raw told three is h =
+    let all = outputs ++ hidden in
+    let found = found_in (takes_inputs context.how) context.earlier (in_choose scope all) r in
+    let apart = no_fault_apart (output_fault Three (taken context) all) all (walk_parts context scope n p outputs hidden g r aim) in
+    let same = ap (where_no_fault (output_fault Three (taken context) all)) (then_same (walk_given context scope (n + 1) g)
+    (λ given. walk context (scope ++ all) given.next r >>= λ f.
+    where_kept (is_one Truth f.bases) (Mismatch p) (where_linear found (walk_last context scope n p outputs hidden all aim given f)))
+    (λ given. walk context (scope ++ all) given.next r >>= related context scope all p r >>= walk_last context scope n p outputs hidden all aim given)
+    (λ given. checked_apart (walk context (scope ++ all) given.next r) (λ f. is_one Truth f.bases) (Mismatch p) found
+    (walk_last context scope n p outputs hidden all aim given))) in
+    subst (λ x. CheckAnswer form_of told (walk context scope n x)) (sym is)
+    (subst (λ x. CheckAnswer form_of told x) (sym (same ∙ apart) ∙ of_three context.edition _ _ three)
+    (subst (λ x. CheckAnswer form_of told (walk_choose_where context scope n x)) is h))
 
 -- the body of a function whose name is new and whose parameters differ
 module _ (edition : Edition) (how : Linearity) (all : List RawDefTree) (constants : List Constant) (before : List RawDefTree) (n count : ℕ) (d : RawDefTree)

@@ -1,5 +1,5 @@
 -- Steps of the walk through the parts of a pattern.
-use Rattle.std.proofs.Common.{◌≡◌, ◌<◌, ◌≤◌, ◌+◌, ℕ, ℤ, List, [], ◌∷◌, length, map, drop, get_or, drop_of_length-le, Option, Some, None, Result, Ok, Err, refl, sym, ap, subst, ◌∙◌}
+use Rattle.std.proofs.Common.{◌≡◌, ◌<◌, ◌≤◌, ◌+◌, ℕ, ℤ, List, ◌∷◌, length, map, drop, get_or, drop_of_length-le, Option, Some, None, Result, Ok, Err, refl, sym, ap, subst, ◌∙◌}
 use Rattle.cf_tree.specs.declared.base.Place.{Place}
 use Rattle.std.proofs.lemmas.List.{drop_more}
 use Rattle.cf_tree.specs.declared.raw.Param.{Param}

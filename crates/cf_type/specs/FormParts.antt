@@ -1,19 +1,22 @@
 -- What an expression stands for over what its parts stand for.
-use Rattle.std.specs.Prelude.{ℤ, List, ◌++◌, map, Option, Result, Ok}
+use Rattle.std.specs.Prelude.{ℕ, ℤ, ◌+◌, false, List, ◌++◌, map, Option, Result, Ok, Err}
 use Rattle.cf_tree.specs.declared.base.Base.{Base}
 use Rattle.cf_tree.specs.declared.base.Base.TheVariants.{Int, Bool as Truth, Set}
 use Rattle.cf_tree.specs.declared.base.Place.{Place}
 use Rattle.cf_tree.specs.declared.base.Sense.{Sense}
 use Rattle.cf_tree.specs.declared.base.Sense.TheVariants.{Least, Greatest}
-use Rattle.cf_tree.specs.ExprTree.{ExprTree, ExprTrees, expr_neg, expr_not, expr_abs, expr_divides, expr_div, expr_mod, expr_card, expr_min, expr_max}
+use Rattle.cf_tree.specs.declared.base.Edition.TheVariants.{Three}
+use Rattle.cf_tree.specs.ExprTree.{ExprTree, ExprTrees, holds_where, expr_neg, expr_not, expr_abs, expr_divides, expr_div, expr_mod, expr_card, expr_min, expr_max}
 use Rattle.cf_tree.specs.declared.raw.Param.{Param}
-use Rattle.cf_tree.specs.RawTree.{RawTree, raw_set_of, raw_min, raw_max, raw_neg, raw_not, raw_abs, raw_divides, raw_div, raw_mod, raw_card, raw_call, RawArmTree, raw_arm}
+use Rattle.cf_tree.specs.RawTree.{RawTree, raw_set_of, raw_min, raw_max, raw_neg, raw_not, raw_abs, raw_divides, raw_div, raw_mod, raw_card, raw_call, raw_choose, RawArmTree, raw_arm}
 use Rattle.cf_tree.specs.RelTree.{term_card, term_neg, term_div, term_mod, term_abs, rel_divides, rel_not}
 use Rattle.cf_program.specs.declared.fault.TypeFault.{TypeFault}
+use Rattle.cf_program.specs.declared.fault.TypeFault.TheVariants.{Mismatch, NoMemory}
+use Rattle.cf_program.specs.Linear.{found_in, all_hold, is_known, in_choose}
 use Rattle.cf_program.specs.Reading.{Reading, relation, term, on_relation, on_term, on_set, first_nonlinear, not_linear_at}
 use Rattle.cf_program.specs.Then.{◌>>=◌}
 use Rattle.cf_program.specs.Names.{repeated}
-use Rattle.cf_program.specs.Walk.{where_none_repeated, where_no_fault, Context, Form, Forms, Arms, Pattern, unary_form, set_form, extreme_form, tuple_form, call_form, taken, constant_fault, sum_with, variables_of, after_arm, with_arm, pattern_in, walk}
+use Rattle.cf_program.specs.Walk.{where_kept, where_linear, where_none_repeated, where_no_fault, output_fault, is_one, are_numbers, takes_inputs, aim_expr, choose_where_form, Context, Form, Forms, Arms, GivenForm, AimForm, Pattern, unary_form, set_form, extreme_form, tuple_form, call_form, taken, constant_fault, sum_with, variables_of, after_arm, with_arm, pattern_in, walk, walk_given, walk_aim}
 
 -- the base that a form over one part asks of it
 abbrev pub asked : RawTree → Base
@@ -88,6 +91,37 @@ summed context start k m =
     where_none_repeated (repeated (taken context) (map (λ x. x.name) m.summands) (map (λ x. x.place) m.summands)) (
     where_no_fault (constant_fault start m.constants k) (
     Ok (summed_to m (sum_with k m.constants))))
+
+-- all outputs of a choose of edition 3 at once, where each has a new name
+abbrev pub outputs_checked : Context → List Param → Result (List Param) TypeFault
+outputs_checked context outputs = where_no_fault (output_fault Three (taken context) outputs) (Ok outputs)
+
+-- a relation at p that was walked, where it is a truth value and linear
+abbrev pub related : Context → List Param → List Param → Place → RawTree → Form → Result Form TypeFault
+related context scope outputs p r f =
+    where_kept (is_one Truth f.bases) (Mismatch p) (
+    where_linear (found_in (takes_inputs context.how) context.earlier (in_choose scope outputs) r) (Ok f))
+
+-- what is given at p, which was walked
+abbrev pub given_form : Context → List Param → Place → RawTree → Form → Result GivenForm TypeFault
+given_form context scope p a f =
+    where_kept (is_one Truth f.bases) (Mismatch p) (
+    where_linear (found_in false context.earlier (all_hold is_known scope) a) (Ok (record { tree = holds_where f.tree; next = f.next })))
+
+-- an objective at p that was walked
+abbrev pub aim_form : Context → List Param → List Param → Place → Sense → RawTree → Form → Result AimForm TypeFault
+aim_form context scope outputs p sense a f =
+    where_kept (are_numbers f.bases) (Mismatch p) (
+    where_linear (found_in (takes_inputs context.how) context.earlier (in_choose scope outputs) a) (Ok (record { tree = aim_expr sense f.tree; next = f.next })))
+
+-- choose number n of edition 3, part by part; any other form has none
+abbrev pub walk_choose_where : Context → List Param → ℕ → RawTree → Result Form TypeFault
+walk_choose_where context scope n (raw_choose p outputs hidden given r aim) =
+    outputs_checked context (outputs ++ hidden) >>= λ all.
+    walk_given context scope (n + 1) given >>= λ g.
+    walk context (scope ++ all) g.next r >>= related context scope all p r >>= λ f.
+    walk_aim context scope all f.next aim >>= choose_where_form p n scope outputs hidden g.tree f.tree
+walk_choose_where context scope n _ = Err NoMemory
 
 -- an arm behind those before
 abbrev pub walk_arm : Context → List Param → Arms → RawArmTree → Result Arms TypeFault

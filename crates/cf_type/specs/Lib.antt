@@ -1,8 +1,11 @@
-pub mod Counted
 pub mod FormParts
 pub mod FormView
+pub mod HeldView
+pub mod InsideView
+pub mod LastNamed
 pub mod Numbers
 pub mod Scoped
+pub mod Sums
 pub mod Valued
 pub mod Walked
 pub mod WalkedView

@@ -1,15 +1,27 @@
 -- The walk of a program, declaration by declaration.
-use Rattle.std.specs.Prelude.{ℕ, List, [], ◌∷◌, ◌++◌, Option, Some, None, Result, Ok}
+use Rattle.std.specs.Prelude.{ℕ, ℤ, List, [], ◌∷◌, ◌++◌, Option, Some, None, Result, Ok}
+use Rattle.cf_tree.specs.declared.base.Base.TheVariants.{Int}
 use Rattle.cf_tree.specs.declared.base.Edition.{Edition}
 use Rattle.cf_tree.specs.declared.raw.RawDef.{RawDef}
 use Rattle.cf_tree.specs.declared.raw.RawItem.{RawItem}
 use Rattle.cf_tree.specs.declared.raw.RawItem.TheVariants.{Const, Def as Function}
 use Rattle.cf_tree.specs.DefView.{RawDefTree, DefTree, RawItemTree, item_const, item_def}
+use Rattle.cf_tree.specs.RawTree.{RawTree, place_of}
 use Rattle.cf_program.specs.Checked.{walk_const, walk_def}
-use Rattle.cf_program.specs.Constants.{Constant}
+use Rattle.cf_program.specs.Constants.{Constant, value}
 use Rattle.cf_program.specs.declared.fault.TypeFault.{TypeFault}
+use Rattle.cf_program.specs.declared.fault.TypeFault.TheVariants.{Mismatch}
 use Rattle.cf_program.specs.declared.linearity.Linearity.{Linearity}
 use Rattle.cf_program.specs.Then.{◌>>=◌}
+use Rattle.cf_program.specs.Walk.{Form, where_kept, is_one}
+
+-- these constants and one more
+abbrev pub with_constant : List Constant → List ℕ → ℤ → List Constant
+with_constant cs x k = cs ++ record { name = x; value = k } ∷ []
+
+-- a constant x behind these, over the form of its expression: a number without variables
+abbrev pub const_form : List Constant → List ℕ → RawTree → Form → Result (List Constant) TypeFault
+const_form cs x e f = where_kept (is_one Int f.bases) (Mismatch (place_of e)) (value cs e >>= λ k. Ok (with_constant cs x k))
 
 -- the functions of a program
 abbrev pub functions_in : List RawItem → List RawDef

@@ -1,13 +1,15 @@
 //! Tests on the bases of expressions.
 ghost use Rattle.std.specs.Prelude.{◌≡◌, IfOk, map};
 ghost use Rattle.cf_tree.specs.Params.{bases_of};
-ghost use Rattle.cf_program.specs.Walk.{is_one as is_one_of, all_are as all_are_of, all_are_single as all_are_single_of, are_asked as are_asked_of, all_have as all_have_of, all_same as all_same_of, odd_link as odd_link_of, joined as joined_of, first_of, side_of as side_base, sides_fit as sides_fit_of, result_of as result_base, may_be_output as may_be_output_of};
+ghost use Rattle.cf_program.specs.Walk.{is_one as is_one_of, all_are as all_are_of, all_are_single as all_are_single_of, are_asked as are_asked_of, are_numbers as are_numbers_of, all_have as all_have_of, all_same as all_same_of, odd_link as odd_link_of, joined as joined_of, first_of, side_of as side_base, sides_fit as sides_fit_of, result_of as result_base, may_be_output as may_be_output_of};
 ghost use Rattle.cf_tree.specs.RawView.{raw_tree};
 ghost use Rattle.cf_tree.specs.Typing.{one as one_of};
 ghost use Rattle.cf_type.specs.FormParts.{asked as asked_of, given as given_of};
 
 use cf_program::TypeFault;
-use cf_tree::{Base, BinOp, Edition, NoMemory, Order, Param, Place, Raw, RawNode, same_bases};
+use cf_tree::{
+    Base, BinOp, Edition, NoMemory, Order, Param, Place, Raw, RawNode, same_base, same_bases,
+};
 use std::alloc::Global;
 
 /// The one base.
@@ -69,6 +71,18 @@ pub fn are_asked(lists: &[Vec<Base>], params: &[Param]) -> bool
         }
     }
     asked.is_empty()
+}
+
+/// Whether a value is one number or several.
+pub fn are_numbers(bases: &[Base]) -> bool
+    ensures { result ≡ are_numbers_of bases.now }
+{
+    for base in bases {
+        if !same_base(*base, Base::Int) {
+            return false;
+        }
+    }
+    true
 }
 
 // Whether each has these bases.

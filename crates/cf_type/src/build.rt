@@ -8,16 +8,16 @@ ghost use Rattle.cf_tree.specs.RelTree.{term_lit};
 ghost use Rattle.cf_tree.specs.declared.base.Base.TheVariants.{Int as int, Bool as truth_base};
 ghost use Rattle.cf_tree.specs.RawView.{raw_tree, number_tree};
 ghost use Rattle.cf_type.specs.FormParts.{over_one as over_one_of, over_number as over_number_of, over_row as over_row_of, tree_over as tree_over_of, tree_with as tree_with_of, extreme_of};
-ghost use Rattle.cf_type.specs.FormView.{form_of, forms_of, arms_of, pattern_of, summand_of, reading_of, callee_seen, context_of};
+ghost use Rattle.cf_type.specs.FormView.{form_of, forms_of, arms_of, given_form_of, aim_form_of, pattern_of, summand_of, reading_of, callee_seen, context_of};
 ghost use Rattle.cf_program.specs.CheckAnswers.{CheckAnswer};
 ghost use Rattle.cf_program.specs.Then.{◌>>=◌ as chained};
 ghost use Rattle.cf_tree.specs.Params.{bases_of};
 ghost use Rattle.cf_program.specs.Reading.{term as a_term, truth_reading, not_linear_at as not_linear_at_of};
-ghost use Rattle.cf_program.specs.Walk.{where_no_fault, is_one, form as form_is, no_forms as no_forms_of, with_form as with_form_of, no_arms as no_arms_of, name_form, binary_form, set_reading as set_reading_of, set_form, extreme_form, chain_form, tuple_form, call_form, if_form, let_form, choose_form, choose_part, match_form, linear as linear_of, arm_number, after_arm, with_arm, divisor_in};
+ghost use Rattle.cf_program.specs.Walk.{where_no_fault, is_one, form as form_is, no_forms as no_forms_of, with_form as with_form_of, no_arms as no_arms_of, name_form, binary_form, set_reading as set_reading_of, set_form, extreme_form, chain_form, tuple_form, call_form, if_form, let_form, choose_form, choose_part, choose_where_form, match_form, linear as linear_of, arm_number, after_arm, with_arm, divisor_in};
 ghost use Rattle.cf_tree.specs.Typing.{one as one_base};
 
 use crate::context::Context;
-use crate::form::{Arms, Form, Forms, Pattern, Reading, Summand};
+use crate::form::{AimForm, Arms, Form, Forms, GivenForm, Pattern, Reading, Summand};
 use crate::memory::{in_box, push};
 use crate::number::divisor;
 use crate::reading::Operation;
@@ -607,6 +607,77 @@ pub fn choose(
         reading: Reading::NotLinear(site.place),
         next,
     })
+}
+
+/// The parts of a `choose` of edition 3: what is given, its relation, and its objective.
+#[derive(Drop)]
+pub struct Chosen {
+    pub given: GivenForm,
+    pub rel: Form,
+    pub aim: AimForm,
+}
+
+// What a `choose` of edition 3 has besides its parts: the bases of its outputs, its scope, and once
+// more the bases of its outputs and those of its hidden ones.
+#[derive(Drop)]
+struct Frame {
+    bases: Vec<Base>,
+    scope: Vec<Param>,
+    outputs: Vec<Base>,
+    hidden: Vec<Base>,
+}
+
+fn framed(
+    alloc: Global,
+    scope: &Scope,
+    outputs: &[Param],
+    hidden: &[Param],
+) -> Result<Frame, NoMemory>
+    ensures { IfOk result (λ f. (f.bases.items ≡ bases_of outputs.now) × (f.scope.items ≡ scope.now) × (f.outputs.items ≡ bases_of outputs.now) ×
+        (f.hidden.items ≡ bases_of hidden.now)) }
+{
+    Ok(Frame {
+        bases: cf_tree::bases(alloc, outputs)?,
+        scope: scope.copied(alloc)?,
+        outputs: cf_tree::bases(alloc, outputs)?,
+        hidden: cf_tree::bases(alloc, hidden)?,
+    })
+}
+
+/// The `choose` of edition 3 with these outputs and hidden ones, made of its parts, where these
+/// variables are in scope.
+pub fn choose_where(
+    alloc: Global,
+    site: Site,
+    scope: &Scope,
+    outputs: &[Param],
+    hidden: &[Param],
+    parts: Chosen,
+) -> Result<Form, TypeFault>
+    ensures { CheckAnswer form_of result (choose_where_form site.place site.number scope.now outputs.now hidden.now (given_form_of parts.given).tree
+        (form_of parts.rel).tree (aim_form_of parts.aim)) }
+{
+    let Frame {
+        bases,
+        scope,
+        outputs,
+        hidden,
+    } = match framed(alloc, scope, outputs, hidden) {
+        Ok(frame) => frame,
+        Err(_) => return Err(without(parts, TypeFault::NoMemory)),
+    };
+    let Chosen { given, rel, aim } = parts;
+    let AimForm { tree: aim, next } = aim;
+    let tree = Expr::ChooseWhere {
+        number: site.number,
+        scope,
+        outputs,
+        hidden,
+        given: given.tree,
+        rel: bare(rel),
+        aim,
+    };
+    boxed(alloc, bases, tree, Reading::NotLinear(site.place), next)
 }
 
 /// The `choose` as a part of the relation around it, where its own relation was read as a part of

@@ -1,9 +1,10 @@
 //! The functions of a program, by name.
-ghost use Rattle.std.specs.Prelude.{◌≡◌, map, take, IfOk, OnOk};
+ghost use Rattle.std.specs.Prelude.{◌≡◌, ◌<◌, get_or, length, map, take, IfOk, IfSome, OnOk};
 ghost use Rattle.cf_tree.specs.DefView.{raw_def_tree};
 ghost use Rattle.cf_type.specs.FormView.{callee_seen};
 ghost use Rattle.cf_program.specs.CheckAnswers.{Shows};
 ghost use Rattle.cf_program.specs.Names.{callee_from, is_among};
+ghost use Rattle.cf_type.specs.LastNamed.{backwards, last_named as last_named_of, IsLastNamed};
 ghost use Rattle.cf_type.specs.Numbers.{shown, with_name, with_names, names_of_defs};
 
 use cf_tree::{NoMemory, RawDef, Text, to_u32, without};
@@ -69,6 +70,21 @@ fn add_all(
     Ok(())
 }
 
+// The number of the last of these functions that has this name.
+fn last_named(defs: &[&RawDef], name: &Text) -> Option<usize>
+    ensures { IsLastNamed (map (λ d. d.now) defs.now) name.now result }
+{
+    let mut count = defs.len();
+    while count > 0 {
+        count -= 1;
+        let def = defs[count];
+        if def.name.bytes.as_slice() == name.bytes.as_slice() {
+            return Some(count);
+        }
+    }
+    None
+}
+
 impl<'a> Callees<'a> {
     /// These functions.
     pub fn new(alloc: Global, defs: &'a [&'a RawDef]) -> Result<Callees<'a>, NoMemory>
@@ -102,6 +118,19 @@ impl<'a> Callees<'a> {
         match self.numbers.get(name.bytes.as_slice()) {
             None => false,
             Some(found) => (*found as usize) < count,
+        }
+    }
+
+    /// The last of the first functions, as many as `count`, that has this name: its number, and
+    /// itself.
+    pub fn last_before(&self, count: usize, name: &Text) -> Option<(usize, &RawDef)>
+        ensures found { Shows (λ c. (raw_def_tree c.1.now, backwards (take c.0 self.now))) result (last_named_of (backwards (take count self.now)) name.now) }
+        ensures at { IfSome result (λ c. (c.0 < length (take count self.now)) × (c.1.now ≡ get_or (take count self.now) c.0 c.1.now)) }
+    {
+        let count = count.min(self.defs.len());
+        match last_named(&self.defs[..count], name) {
+            None => None,
+            Some(number) => Some((number, self.defs[number])),
         }
     }
 }

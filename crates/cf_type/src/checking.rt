@@ -1,16 +1,16 @@
 //! The rules over a program.
 ghost use Rattle.std.specs.Prelude.{◌≡◌, ◌≤◌, ℕ, [], length, map, take, codes, Ok, IfOk, OnOk};
 ghost use Rattle.std.specs.Str.{bytes_eq};
-ghost use Rattle.cf_tree.specs.DefView.{program_tree, raw_def_tree, raw_item_tree, item_def, def_tree, DefTree};
+ghost use Rattle.cf_tree.specs.DefView.{program_tree, raw_def_tree, raw_item_tree, def_tree, DefTree};
 ghost use Rattle.cf_tree.specs.declared.base.Edition.TheVariants.{Two, Three};
 ghost use Rattle.cf_tree.specs.RawTree.{place_of};
 ghost use Rattle.cf_tree.specs.RawView.{raw_tree};
-ghost use Rattle.cf_program.specs.Checked.{checked, functions_of, walk_def as walk_def_of, walk_items as walk_items_of, main_from, with_main, size_fault as size_fault_of, def_form};
+ghost use Rattle.cf_program.specs.Checked.{checked, functions_of, walk_const as walk_const_of, walk_def as walk_def_of, walk_items as walk_items_of, main_from, with_main, size_fault as size_fault_of, def_form};
 ghost use Rattle.cf_program.specs.declared.fault.TypeFault.TheVariants.{Mismatch, Weight, Depth};
 ghost use Rattle.cf_program.specs.declared.linearity.Linearity.TheVariants.{Plain, Late as late};
 ghost use Rattle.cf_type.specs.FormView.{form_of};
 ghost use Rattle.cf_type.specs.Valued.{constants_of};
-ghost use Rattle.cf_type.specs.Walked.{functions_in, first_fault, walk_item as walk_item_of};
+ghost use Rattle.cf_type.specs.Walked.{functions_in, first_fault, with_constant, const_form, walk_item as walk_item_of};
 ghost use Rattle.cf_type.specs.WalkedView.{walked_of};
 ghost use Rattle.cf_program.specs.DistinctNames.{IsDistinctlyNamed};
 ghost use Rattle.cf_program.specs.CheckAnswers.{CheckAnswer};
@@ -24,20 +24,24 @@ ghost use Rattle.cf_program.specs.TypedProgram.{IsProgramBy};
 ghost use Rattle.cf_program.specs.TypedSource.{IsSourceBy};
 ghost use Rattle.cf_program.specs.Walk.{where_kept};
 
+use crate::bases::is_one;
 use crate::build::bare;
 use crate::callees::Callees;
 use crate::constants::Constants;
 use crate::context::Context;
 use crate::form::Form;
-use crate::memory::{not_built, push};
+use crate::memory::push;
 use crate::names::repeated_param;
 use crate::scope::Scope;
-use crate::size;
+use crate::value::value;
 use crate::walk::walk;
-use cf_program::{Late, LateSource, Linearity, Source, TypeFault, Typed, TypedDefs};
+use cf_program::{
+    Late, LateSource, Linearity, Source, TypeFault, Typed, TypedDefs, first_too_deep,
+    first_too_heavy,
+};
 use cf_tree::{
-    Def, Edition, NoMemory, Program, RawDef, RawItem, Text, copy_params, same_bases, to_u32,
-    without,
+    Base, Def, Edition, NoMemory, Program, RawConst, RawDef, RawItem, Text, copy_params,
+    same_bases, to_u32, without,
 };
 use std::alloc::Global;
 
@@ -156,9 +160,19 @@ fn size_fault(alloc: Global, defs: &[Def]) -> Result<Option<TypeFault>, NoMemory
     ensures { IfOk result (λ o. o ≡ first_fault (size_fault_of 1000000 Weight (weights (map def_tree defs.now)))
         (size_fault_of 200 Depth (depths (map def_tree defs.now)))) }
 {
-    match size::weight_fault(alloc, defs)? {
-        Some(fault) => Ok(Some(fault)),
-        None => size::depth_fault(alloc, defs),
+    match first_too_heavy(alloc, defs)? {
+        Some(passed) => Ok(Some(TypeFault::Weight(passed.size))),
+        None => depth_fault(alloc, defs),
+    }
+}
+
+// The fault of the first depth that passes the limit.
+fn depth_fault(alloc: Global, defs: &[Def]) -> Result<Option<TypeFault>, NoMemory>
+    ensures { IfOk result (λ o. o ≡ size_fault_of 200 Depth (depths (map def_tree defs.now))) }
+{
+    match first_too_deep(alloc, defs)? {
+        Some(passed) => Ok(Some(TypeFault::Depth(passed.size))),
+        None => Ok(None),
     }
 }
 
@@ -248,11 +262,41 @@ fn walk_def(context: &Context, def: &RawDef, next: u32) -> Result<(Def, u32), Ty
     closed(alloc, def, body)
 }
 
-// A function behind the declarations that were walked.
-fn add_function(setting: &Setting, walked: &mut Walked, def: &RawDef) -> Result<(), TypeFault>
+// The value of a constant over the form of its expression.
+#[tactic(auto, using(crate::proofs::ConstSteps::shown_then))]
+fn valued(context: &Context, constant: &RawConst, form: Form) -> Result<i128, TypeFault>
+    ensures { CheckAnswer (λ k. with_constant (constants_of context.now.constants.now) constant.now.name k) result
+        (const_form (constants_of context.now.constants.now) constant.now.name (raw_tree constant.now.value) (form_of form)) }
+{
+    if !is_one(Base::Int, &form.bases) {
+        return Err(without(form, TypeFault::Mismatch(constant.value.place)));
+    }
+    drop(form);
+    value(context.alloc, context.constants, &constant.value)
+}
+
+// The value of a constant in its context.
+fn walk_const(context: &Context, constant: &RawConst, next: u32) -> Result<i128, TypeFault>
+    requires within { context.now.number ≤ length context.now.callees.now }
+    requires unknown { context.now.known ≡ 0 }
+    ensures { CheckAnswer (λ k. with_constant (constants_of context.now.constants.now) constant.now.name k) result
+        (walk_const_of context.now.edition context.now.how (map raw_def_tree context.now.callees.now) (constants_of context.now.constants.now)
+        (map raw_def_tree (take context.now.number context.now.callees.now)) next constant.now.place constant.now.name (raw_tree constant.now.value)) }
+{
+    if context.constants.is_named(&constant.name) {
+        return Err(TypeFault::DuplicateName(constant.place));
+    }
+    let mut scope = Scope::new(context.alloc);
+    let form = walk(context, &mut scope, next, &constant.value)?;
+    drop(scope);
+    valued(context, constant, form)
+}
+
+// A declaration behind those that were walked.
+fn add_item(setting: &Setting, walked: &mut Walked, item: &RawItem) -> Result<(), TypeFault>
     requires { length walked.now.defs.items ≤ length setting.now.callees.now }
     ensures { CheckAnswer (λ _. walked_of walked.new) result (walk_item_of setting.now.edition setting.now.how (map raw_def_tree setting.now.callees.now)
-        (map raw_def_tree (take (length walked.old.defs.items) setting.now.callees.now)) (walked_of walked.old) (item_def (raw_def_tree def.now))) }
+        (map raw_def_tree (take (length walked.old.defs.items) setting.now.callees.now)) (walked_of walked.old) (raw_item_tree item.now)) }
 {
     let context = Context {
         alloc: setting.alloc,
@@ -263,21 +307,19 @@ fn add_function(setting: &Setting, walked: &mut Walked, def: &RawDef) -> Result<
         how: setting.how,
         known: 0,
     };
-    let (tree, next) = walk_def(&context, def, walked.next)?;
-    push(&mut walked.defs, tree)?;
-    walked.next = next;
-    Ok(())
-}
-
-// A declaration behind those that were walked.
-fn add_item(setting: &Setting, walked: &mut Walked, item: &RawItem) -> Result<(), TypeFault>
-    requires { length walked.now.defs.items ≤ length setting.now.callees.now }
-    ensures { CheckAnswer (λ _. walked_of walked.new) result (walk_item_of setting.now.edition setting.now.how (map raw_def_tree setting.now.callees.now)
-        (map raw_def_tree (take (length walked.old.defs.items) setting.now.callees.now)) (walked_of walked.old) (raw_item_tree item.now)) }
-{
     match item {
-        RawItem::Const(_) => Err(not_built()),
-        RawItem::Def(def) => add_function(setting, walked, def),
+        RawItem::Const(constant) => {
+            let value = walk_const(&context, constant, walked.next)?;
+            let constants = &mut walked.constants;
+            constants.add(setting.alloc, &constant.name, value)?;
+            Ok(())
+        }
+        RawItem::Def(def) => {
+            let (tree, next) = walk_def(&context, def, walked.next)?;
+            push(&mut walked.defs, tree)?;
+            walked.next = next;
+            Ok(())
+        }
     }
 }
 

@@ -1,8 +1,8 @@
 //! The constants before an expression.
-ghost use Rattle.std.specs.Prelude.{◌≡◌, ◌++◌, ◌∷◌, [], map, IfOk, OnOk};
+ghost use Rattle.std.specs.Prelude.{◌≡◌, ◌++◌, ◌∷◌, [], false, OnOk};
 ghost use Rattle.cf_program.specs.Constants.{constant_of, constant_names};
 ghost use Rattle.cf_program.specs.Names.{is_among};
-ghost use Rattle.cf_type.specs.Valued.{constants_of};
+ghost use Rattle.cf_type.specs.Valued.{constants_of, valued};
 
 use cf_tree::{NoMemory, Text};
 use indexmap::IndexMap;
@@ -49,4 +49,27 @@ impl Constants {
     {
         self.values.contains_key(name.bytes.as_slice())
     }
+
+    /// Adds a constant whose name is new.
+    pub fn add(&mut self, alloc: Global, name: &Text, value: i128) -> Result<(), NoMemory>
+        requires { is_among (constant_names (constants_of self.now)) name.now ≡ false }
+        ensures { OnOk result (self.new ≡ self.old ++ (name.now, value) ∷ []) }
+    {
+        insert(alloc, &mut self.values, name, value)
+    }
+}
+
+// Adds a name with its value, where the name is new.
+fn insert(
+    alloc: Global,
+    values: &mut IndexMap<Vec<u8>, i128>,
+    name: &Text,
+    value: i128,
+) -> Result<(), NoMemory>
+    requires { is_among (constant_names (constants_of (valued values.now.entries))) name.now ≡ false }
+    ensures { OnOk result (valued values.new.entries ≡ valued values.old.entries ++ (name.now, value) ∷ []) }
+{
+    let bytes = Vec::from_slice(alloc, name.bytes.as_slice())?;
+    values.insert(bytes, value)?;
+    Ok(())
 }

@@ -2,7 +2,7 @@
 ghost use Rattle.std.specs.Prelude.{◌≡◌, ◌==◌};
 ghost use Rattle.cf_type.specs.FormView.{context_of};
 ghost use Rattle.cf_program.specs.Constants.{constant_of};
-ghost use Rattle.cf_program.specs.Walk.{in_relation as in_relation_of, taken as taken_of};
+ghost use Rattle.cf_program.specs.Walk.{in_relation as in_relation_of, taken as taken_of, takes_inputs as takes_inputs_of};
 
 use crate::callees::Callees;
 use crate::constants::Constants;
@@ -56,6 +56,17 @@ impl<'a> Context<'a> {
         ensures { result ≡ ((context_of self.now).known == (context_of other.now).known) }
     {
         self.known == other.known
+    }
+
+    /// Whether a product with inputs may stand in a relation.
+    #[tactic(auto, unfolding(crate::specs::FormView::context_of))]
+    pub fn takes_inputs(&self) -> bool
+        ensures { result ≡ takes_inputs_of (context_of self.now).how }
+    {
+        match self.how {
+            Linearity::Plain => false,
+            Linearity::Late => true,
+        }
     }
 
     /// In the relation of a `choose` behind so many variables.

@@ -1,5 +1,5 @@
 //! What the walk learns of an expression.
-use cf_tree::{Base, Expr, MatchArm, Place, Rel, SetTerm, Term, Text};
+use cf_tree::{Aim, Base, Expr, Given, MatchArm, Place, Rel, SetTerm, Term, Text};
 
 /// An expression as a part of a relation, or the place of its first form that is not linear.
 #[derive(Drop)]
@@ -35,6 +35,20 @@ pub struct Arms {
     pub bases: Vec<Vec<Base>>,
     pub trees: Vec<MatchArm>,
     pub first_nonlinear: Option<Place>,
+    pub next: u32,
+}
+
+/// What a choose takes as given: its tree, and the next number of a choose.
+#[derive(Drop)]
+pub struct GivenForm {
+    pub tree: Given,
+    pub next: u32,
+}
+
+/// What a choose aims at: its tree, and the next number of a choose.
+#[derive(Drop)]
+pub struct AimForm {
+    pub tree: Aim,
     pub next: u32,
 }
 

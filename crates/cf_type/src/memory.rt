@@ -20,10 +20,3 @@ pub fn push<T: Drop>(all: &mut Vec<T>, value: T) -> Result<(), NoMemory>
     all.push(value)?;
     Ok(())
 }
-
-/// What a form of edition 3 is answered that is not walked yet.
-pub fn not_built() -> TypeFault
-    ensures { result ≡ TypeFault.NoMemory }
-{
-    TypeFault::NoMemory
-}

@@ -1,5 +1,6 @@
 //! Numbers in the place of a divisor or of a factor.
-ghost use Rattle.std.specs.Prelude.{◌≡◌, pos, int_le, Ok, IfOk};
+ghost use Rattle.std.specs.Prelude.{◌≡◌, pos, int_le, Ok, IfOk, IfSome};
+ghost use Rattle.cf_num.specs.Limit.{IsWithin, within};
 ghost use Rattle.cf_tree.specs.RawView.{number_tree};
 ghost use Rattle.cf_type.specs.FormView.{context_of};
 ghost use Rattle.cf_program.specs.CheckAnswers.{CheckAnswer};
@@ -64,6 +65,14 @@ fn at_least_one(place: Place, k: i128) -> Result<i128, TypeFault>
     } else {
         Err(TypeFault::ConstantBelow(place))
     }
+}
+
+/// The number, or none where it passes the limit.
+pub fn limited(k: i128) -> Option<i128>
+    ensures value { result ≡ within k }
+    ensures fits { IfSome result IsWithin }
+{
+    if k == i128::MIN { None } else { Some(k) }
 }
 
 /// The number with its sign.

@@ -8,10 +8,11 @@ ghost use Rattle.cf_program.specs.Walk.{where_no_fault, constant_fault, sum_with
 
 use crate::context::Context;
 use crate::form::{Pattern, Summand};
-use crate::memory::{not_built, push};
+use crate::memory::push;
 use crate::names::repeated_summand;
 use crate::number::{factor, signed};
 use crate::scope::Scope;
+use crate::sums::total;
 use cf_program::TypeFault;
 use cf_tree::{NoMemory, Part, Place, without};
 use std::alloc::Global;
@@ -65,9 +66,15 @@ fn sum(start: Option<Place>, constant: i128, constants: &[i128]) -> Result<i128,
     ensures { CheckAnswer (λ k. k) result (where_no_fault (constant_fault start constants.now constant) (Ok (sum_with constant constants.now))) }
 {
     if constants.is_empty() {
-        Ok(constant)
-    } else {
-        Err(not_built())
+        return Ok(constant);
+    }
+    match total(constant, constants) {
+        Some(k) => Ok(k),
+        None => match start {
+            Some(place) => Err(TypeFault::ConstantPast(place)),
+            // never met: where there are constants there are parts, and so a first token
+            None => Err(TypeFault::NoMemory),
+        },
     }
 }
 

@@ -1,28 +1,28 @@
 //! The walk through an expression in the order of its text: what it stands for, or the first rule
 //! that it breaks.
 ghost use Rattle.std.specs.Prelude.{◌≡◌, ◌+◌, ◌-◌, ◌++◌, ◌∷◌, ◌==◌, [], length, map, OnOk};
-ghost use Rattle.cf_tree.specs.RawView.{raw_tree, raw_trees, raw_arm_tree, raw_arm_trees};
-ghost use Rattle.cf_type.specs.FormParts.{walk_arm as walk_arm_of};
-ghost use Rattle.cf_type.specs.FormView.{form_of, forms_of, arms_of, summand_of, context_of};
+ghost use Rattle.cf_tree.specs.RawView.{raw_tree, raw_trees, raw_arm_tree, raw_arm_trees, given_tree, aim_tree};
+ghost use Rattle.cf_type.specs.FormParts.{walk_arm as walk_arm_of, walk_choose_where as walk_choose_where_of, related as related_of};
+ghost use Rattle.cf_type.specs.FormView.{form_of, forms_of, arms_of, given_form_of, aim_form_of, summand_of, context_of};
 ghost use Rattle.cf_tree.specs.declared.base.Edition.TheVariants.{Two};
 ghost use Rattle.cf_program.specs.Then.{◌>>=◌ as chained};
 ghost use Rattle.cf_program.specs.CheckAnswers.{CheckAnswer};
 ghost use Rattle.cf_program.specs.Names.{repeated as repeated_of};
 ghost use Rattle.cf_program.specs.declared.fault.TypeFault.TheVariants.{WrongCount};
-ghost use Rattle.cf_program.specs.Walk.{where_kept, where_no_fault, where_none_repeated, bound, matched, variables_of, after_arm, no_forms as no_forms_of, no_arms as no_arms_of, output_fault as output_fault_of, binary_form, if_form, let_form, choose_form, choose_part, match_form, in_relation, walk as walk_of, walk_all as walk_all_of, walk_arms as walk_arms_of, taken};
+ghost use Rattle.cf_program.specs.Walk.{where_kept, where_no_fault, where_none_repeated, bound, matched, variables_of, after_arm, no_forms as no_forms_of, no_arms as no_arms_of, output_fault as output_fault_of, binary_form, if_form, let_form, choose_form, choose_part, match_form, in_relation, walk as walk_of, walk_all as walk_all_of, walk_arms as walk_arms_of, walk_given as walk_given_of, walk_aim as walk_aim_of, taken};
 
-use crate::build::{self, Site};
+use crate::build::{self, Chosen, Site};
+use crate::choose_where::{self, outputs_checked};
 use crate::context::Context;
-use crate::form::{Arms, Form, Forms, Summand};
-use crate::memory::not_built;
+use crate::form::{AimForm, Arms, Form, Forms, GivenForm, Summand};
 use crate::names::{output_fault, repeated};
 use crate::number::divisor;
 use crate::pattern::pattern;
 use crate::scope::Scope;
 use cf_program::TypeFault;
 use cf_tree::{
-    BinOp, Edition, Param, Place, Raw, RawArm, RawNode, Text, add_u32, raw_over_list, raw_over_one,
-    without,
+    Aim, BinOp, Edition, Given, Param, Place, Raw, RawAim, RawArm, RawGiven, RawNode, Text,
+    add_u32, raw_over_list, raw_over_one, without,
 };
 
 // A `let`: its place, and the names that it binds, each with its place.
@@ -114,7 +114,7 @@ pub fn walk(context: &Context, scope: &mut Scope, next: u32, raw: &Raw) -> Resul
                 };
                 walk_choose(context, scope, site, outputs, rel)
             }
-            Edition::Three => Err(not_built()),
+            Edition::Three => walk_choose_where(context, scope, next, raw),
         },
         RawNode::Match { of, arms } => match walk_matched(context, scope, next, of) {
             Ok(of) => {
@@ -266,6 +266,128 @@ fn walk_choose(
     match walk_inside(context, scope, next, outputs, rel) {
         Ok(inner) => Ok(build::part(site.place, chosen, inner)),
         Err(fault) => Err(without(chosen, fault)),
+    }
+}
+
+// A `choose` of edition 3 of this number. No other form is passed to it.
+#[cycle(walk)]
+#[tactic(auto, using(crate::proofs::WalkSteps::fails_then))]
+fn walk_choose_where(
+    context: &Context,
+    scope: &mut Scope,
+    number: u32,
+    raw: &Raw,
+) -> Result<Form, TypeFault>
+    ensures { CheckAnswer form_of result
+        (walk_choose_where_of (context_of context.now) scope.old number (raw_tree raw.now))
+        × OnOk result (scope.new ≡ scope.old) }
+{
+    match &raw.node {
+        RawNode::Choose {
+            outputs,
+            hidden,
+            given,
+            rel,
+            aim,
+        } => match outputs_checked(context, outputs, hidden) {
+            Ok(all) => match walk_given(context, scope, number, given) {
+                Ok(given) => match walk_related(context, scope, raw.place, given.next, &all, rel) {
+                    Ok(rel) => match walk_aim(context, scope, rel.next, &all, aim) {
+                        Ok(aim) => {
+                            let site = Site {
+                                place: raw.place,
+                                number,
+                            };
+                            let parts = Chosen { given, rel, aim };
+                            build::choose_where(context.alloc, site, scope, outputs, hidden, parts)
+                        }
+                        Err(fault) => Err(without(given, without(rel, fault))),
+                    },
+                    Err(fault) => Err(without(given, fault)),
+                },
+                Err(fault) => Err(fault),
+            },
+            Err(fault) => Err(fault),
+        },
+        _ => Err(TypeFault::NoMemory),
+    }
+}
+
+// What a choose of this number takes as given.
+#[cycle(walk)]
+#[tactic(auto, using(crate::proofs::WalkSteps::fails_then))]
+fn walk_given(
+    context: &Context,
+    scope: &mut Scope,
+    number: u32,
+    given: &RawGiven,
+) -> Result<GivenForm, TypeFault>
+    ensures { CheckAnswer given_form_of result
+        (walk_given_of (context_of context.now) scope.old (number + 1) (given_tree given.now))
+        × OnOk result (scope.new ≡ scope.old) }
+{
+    let next = add_u32(number, 1)?;
+    match given {
+        RawGiven::Always => Ok(GivenForm {
+            tree: Given::Always,
+            next,
+        }),
+        RawGiven::That { place, rel } => match walk(context, scope, next, rel) {
+            Ok(form) => choose_where::given(context, scope, *place, rel, form),
+            Err(fault) => Err(fault),
+        },
+    }
+}
+
+// The relation of a choose at this place.
+#[cycle(walk)]
+#[tactic(auto, using(crate::proofs::WalkSteps::fails_then))]
+fn walk_related(
+    context: &Context,
+    scope: &mut Scope,
+    place: Place,
+    next: u32,
+    outputs: &[Param],
+    rel: &Raw,
+) -> Result<Form, TypeFault>
+    ensures { CheckAnswer form_of result
+        (chained (walk_of (context_of context.now) (scope.old ++ outputs.now) next (raw_tree rel.now))
+        (related_of (context_of context.now) scope.old outputs.now place (raw_tree rel.now)))
+        × OnOk result (scope.new ≡ scope.old) }
+{
+    match walk_inside(context, scope, next, outputs, rel) {
+        Ok(form) => choose_where::related(context, scope, outputs, place, rel, form),
+        Err(fault) => Err(fault),
+    }
+}
+
+// What a choose of these outputs aims at.
+#[cycle(walk)]
+#[tactic(auto, using(crate::proofs::WalkSteps::fails_then))]
+fn walk_aim(
+    context: &Context,
+    scope: &mut Scope,
+    next: u32,
+    outputs: &[Param],
+    aim: &RawAim,
+) -> Result<AimForm, TypeFault>
+    ensures { CheckAnswer aim_form_of result
+        (walk_aim_of (context_of context.now) scope.old outputs.now next (aim_tree aim.now))
+        × OnOk result (scope.new ≡ scope.old) }
+{
+    match aim {
+        RawAim::Any => Ok(AimForm {
+            tree: Aim::Any,
+            next,
+        }),
+        RawAim::At {
+            place,
+            sense,
+            objective,
+        } => match walk_inside(context, scope, next, outputs, objective) {
+            Ok(form) => choose_where::aim(context, scope, outputs, *place, *sense, objective, form),
+            Err(fault) => Err(fault),
+        },
     }
 }
 

@@ -3,17 +3,17 @@ if exists('b:current_syntax')
   finish
 endif
 
-syntax keyword comfusyKeyword def let in if then else choose where match with
+syntax keyword comfusyKeyword def const let in if then else choose given where minimise maximise match with
 syntax keyword comfusyBase int bool set
 syntax keyword comfusyConstant true false
 syntax keyword comfusyOperator union inter diff subset divides
-syntax keyword comfusyFunction card div mod abs
-syntax keyword comfusyTarget solve arm need give min max slice fresh neg not
+syntax keyword comfusyFunction card div mod abs min max
+syntax keyword comfusyTarget solve arm need give slice fresh neg not
 
 syntax match comfusyError /[^ \t\r]/
 syntax match comfusyName /\<[A-Za-z_][0-9A-Za-z_]*\>/
 syntax match comfusyNumber /[0-9]\+/
-syntax match comfusySign /&&\|||\|==\|!=\|<=\|>=\|[=<>!+*-]/
+syntax match comfusySign /==>\|&&\|||\|==\|!=\|<=\|>=\|[=<>!+*-]/
 syntax match comfusyPunctuation /[(){}\[\],:;]/
 syntax match comfusyComment /#.*$/ contains=@Spell
 

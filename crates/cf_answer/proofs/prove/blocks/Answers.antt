@@ -2,17 +2,14 @@ use Rattle.std.proofs.Common.{◌≡◌, ◌∙◌, sym, ap, subst, map, All}
 use Rattle.std.proofs.lemmas.Result.{err_from_is_err_and}
 use Rattle.cf_tree.specs.ChooseView.{choose_tree}
 use Rattle.cf_build.specs.Chooses.{by_number}
-use Rattle.cf_build.specs.Solves.{IsTypedChoose, IsRising}
+use Rattle.cf_build.specs.Solves.{IsTypedChoose}
 use Rattle.cf_answer.specs.Certificates.{asked_in, AreProofs}
 use Rattle.cf_answer.proofs.BlockLemmas.{block_refused}
 use Rattle.cf_answer.proofs.LoweredLemmas.{lowered_chooses}
 use Rattle.cf_answer.proofs.prove.blocks.Goals as goal
 
 pub prove_each-requires : goal.prove_each-requires
-prove_each-requires c = record {
-  asked = subst (λ xs. All (λ x. IsTypedChoose (choose_tree x)) xs) (sym c.deref.ensures.value) c.in_ok-chooses.ensures.typed;
-  rising = subst (λ xs. IsRising (map choose_tree xs)) (sym c.deref.ensures.value) c.in_ok-chooses.ensures.rising;
-}
+prove_each-requires c = subst (λ xs. All (λ x. IsTypedChoose (choose_tree x)) xs) (sym c.deref.ensures.value) c.in_ok-chooses.ensures.typed
 
 pub returns-in_err-text : goal.returns-in_err-text
 returns-in_err-text c =

@@ -13,7 +13,7 @@ loop-i-preserved c =
 pub returns-in_err-put_block-clause-refused : goal.returns-in_err-put_block-clause-refused
 returns-in_err-put_block-clause-refused c =
     let p = err_from_is_err_and c.from_residual.result c.from_residual.ensures.1 in
-    rw (p.1, p.2) (fault_behind c.args.chooses.now c.loop-i.i c.index-chooses-i.result _ c.requires.rising c.loop-i-test.true c.index-chooses-i.is
+    rw (p.1, p.2) (fault_behind c.args.chooses.now c.loop-i.i c.index-chooses-i.result _ c.loop-i-test.true c.index-chooses-i.is
     (put_within _ _ c.loop-i.invariant) c.in_err-put_block.ensures.refused)
 
 pub returns-clause-proofs : goal.returns-clause-proofs

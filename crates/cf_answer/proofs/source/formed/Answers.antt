@@ -1,23 +1,15 @@
-use Rattle.std.proofs.Common.{inl, rules, subst, sym}
+use Rattle.std.proofs.Common.{subst, sym}
 use Rattle.std.proofs.lemmas.Result.{err_from_is_err_and}
 use Rattle.cf_program.specs.Typed.{typed_tree}
 use Rattle.cf_program.specs.declared.linearity.Linearity.TheVariants.{Plain}
 use Rattle.cf_form.specs.FormAnswers.{IsFormOf}
-use Rattle.cf_answer.specs.Refusals.{broken}
-use Rattle.cf_answer.proofs.RuleLemmas.{fails_so, unformed}
 use Rattle.cf_answer.proofs.source.formed.Goals as goal
 
-pub returns-in_err-formed-in-Ok : goal.returns-in_err-formed-in-Ok
-returns-in_err-formed-in-Ok c =
-    let p = err_from_is_err_and c.from_residual.result c.from_residual.ensures.1 in
-    rw (p.1, p.2) (unformed _ (typed_tree c.in-Ok.source) _ c.in-Ok.ensures c.in_err-formed-in-Ok.ensures)
+pub returns-in_err-formed : goal.returns-in_err-formed
+returns-in_err-formed c =
+    let p = err_from_is_err_and c.from_residual.result c.from_residual.ensures.1 in rw (p.1, p.2) c.in_err-formed.ensures
 
-pub returns-in_ok-formed-in-Ok : goal.returns-in_ok-formed-in-Ok
-returns-in_ok-formed-in-Ok c = (
-  typed_tree c.in-Ok.source,
-  c.in-Ok.ensures,
-  subst (λ t. IsFormOf Plain (typed_tree c.in-Ok.source) (typed_tree t)) (sym c.into_typed.ensures) c.in_ok-formed-in-Ok.ensures.0,
-)
-
-pub returns-in-Err : goal.returns-in-Err
-returns-in-Err c = inl (broken c.in-Err.fault (fails_so c.in-Err.fault _ (search rules) c.in-Err.ensures))
+pub returns : goal.returns
+returns c =
+    let f = c.in_ok-formed.ensures in
+    (f.0, f.1, subst (λ t. IsFormOf Plain f.0 (typed_tree t)) (sym c.into_typed.ensures) f.2.0)

@@ -22,18 +22,18 @@ returns-clause-chooses c =
     let found =
     subst (λ ds. map choose_tree c.in_ok-chooses.chooses.items ≡ chooses_of (map def_tree ds)) c.defs.ensures.value c.in_ok-chooses.ensures in
     in_order c.args.typed.now.defs.items c.args.typed.now.main c.defs.ensures.typed c.requires c.in_ok-chooses.chooses.items _ found
-    c.sort.ensures.same c.sort.ensures.order
+    c.in_ok-sort.ensures.same c.in_ok-sort.ensures.order c.in_ok-sort.ensures.stable
 
 pub returns-clause-typed : goal.returns-clause-typed
 returns-clause-typed c =
     let found =
     subst (λ ds. map choose_tree c.in_ok-chooses.chooses.items ≡ chooses_of (map def_tree ds)) c.defs.ensures.value c.in_ok-chooses.ensures in
     in_order_typed c.args.typed.now.defs.items c.args.typed.now.main c.defs.ensures.typed c.requires c.in_ok-chooses.chooses.items _ found
-    c.sort.ensures.same c.sort.ensures.order
+    c.in_ok-sort.ensures.same c.in_ok-sort.ensures.order
 
 pub returns-clause-rising : goal.returns-clause-rising
 returns-clause-rising c =
     let found =
     subst (λ ds. map choose_tree c.in_ok-chooses.chooses.items ≡ chooses_of (map def_tree ds)) c.defs.ensures.value c.in_ok-chooses.ensures in
     in_order_rises c.args.typed.now.defs.items c.args.typed.now.main c.defs.ensures.typed c.requires c.in_ok-chooses.chooses.items _ found
-    c.sort.ensures.same c.sort.ensures.order
+    c.in_ok-sort.ensures.same c.in_ok-sort.ensures.order

@@ -11,5 +11,5 @@ loop-choose-preserved c =
 pub returns-in_err-solve_one-clause-refused : goal.returns-in_err-solve_one-clause-refused
 returns-in_err-solve_one-clause-refused c =
     let e : c.from_residual.result ≡ Err c.in_err-solve_one.field-0.0 = search rules in
-    rw e (fault_at c.args.chooses.now c.loop-choose.choose-index c.choose-item.result c.loop-choose.solves.items c.in_err-solve_one.field-0.0 c.requires.rising
+    rw e (fault_at c.args.chooses.now c.loop-choose.choose-index c.choose-item.result c.loop-choose.solves.items c.in_err-solve_one.field-0.0
     c.loop-choose-test.true c.choose-item.is c.loop-choose.invariant c.in_err-solve_one.ensures.refused)

@@ -1,15 +1,16 @@
-use Rattle.std.proofs.Common.{◌≡◌, ◌∙◌, get_or, rules, ap, sym}
-use Rattle.cf_tree.specs.CodeView.{code_tree}
-use Rattle.cf_build.proofs.CodeOrder.{rises, found_at, none_at}
+use Rattle.std.proofs.Common.{◌-◌, ◌∙◌, Contains, drop, length, map, refl, subst, sym, take}
+use Rattle.cf_tree.specs.ChooseView.{choose_tree}
+use Rattle.cf_build.proofs.CodeOrder.{codes_from, known_place}
 use Rattle.cf_build.proofs.choose_codes.ChooseCodes.find.Goals as goal
 
-pub returns-in-Ok : goal.returns-in-Ok
-returns-in-Ok c =
+pub with_marks-requires-clause-here : goal.with_marks-requires-clause-here
+with_marks-requires-clause-here c =
     let codes = c.args.self.now.codes.items in
-    let x = c.index.result.now in
-    let here : x ≡ get_or codes c.in-Ok.place x = search rules in
-    let found = c.in-Ok.ensures.found in
-    found_at codes c.in-Ok.place c.args.number x (rises codes c.args.self.now.rising) found.0 (found.1 x) ∙ ap (λ y. code_tree y.code) (sym here)
+    let from = c.place-from.result in
+    let rest = take (length c.deref.result.now - from) (drop from c.deref.result.now) in
+    let known = known_place codes rest from c.args.choose.now.number (choose_tree c.args.choose.now) refl c.place-from.ensures.smaller c.requires
+    (codes_from c.deref.result.now codes from c.deref.ensures.value) in
+    subst (λ ms. Contains (map (λ k. k.marks.items) rest) ms) (sym (c.deref-2.ensures.value ∙ c.in_ok-marks.ensures)) known.1
 
-pub returns-in-Err : goal.returns-in-Err
-returns-in-Err c = none_at c.args.self.now.codes.items c.args.number c.in-Err.ensures.absent
+pub returns : goal.returns
+returns c = c.with_marks.ensures (choose_tree c.args.choose.now) (sym (c.deref-2.ensures.value ∙ c.in_ok-marks.ensures))

@@ -1,0 +1,14 @@
+use Rattle.std.proofs.Common.{◌≡◌, ◌++◌, map, length}
+use Rattle.cf_tree.specs.RelView.{rel_tree}
+use Rattle.cf_tree.specs.RelTree.{rel_compare}
+use Rattle.cf_form.specs.GuardedView.{guarded_term, atom_of, pair_of}
+use Rattle.cf_form.specs.Joined.{signed_of}
+use Rattle.cf_form.proofs.atoms.compared_each.Given as goal
+
+abbrev pub decreases-loop-y : goal.decreases-loop-y
+decreases-loop-y l = length l.rest
+
+abbrev pub invariant-loop-y : goal.invariant-loop-y
+invariant-loop-y l =
+    map rel_tree l.all.items ++ map (atom_of (signed_of l.sign)) (map (pair_of (rel_compare l.order) (guarded_term l.x)) (map guarded_term l.rest))
+    ≡ map (atom_of (signed_of l.sign)) (map (pair_of (rel_compare l.order) (guarded_term l.x)) (map guarded_term l.fn.ys))
